@@ -1,0 +1,16 @@
+-- The named files, in the order given: pairs of a name and its bytes.
+use Rattle.std.specs.Prelude.{ℕ, Bool, List, map, Vec}
+use Rattle.std.specs.List.{list_any}
+use Rattle.std.specs.Str.{bytes_eq}
+use Rattle.std.specs.declared.alloc.Global.{Global}
+
+abbrev pub FileList : Type 0
+FileList = List (List ℕ × List ℕ)
+
+-- the bytes in place of the vectors that hold them
+abbrev pub contents_of : List (List ℕ × Vec ℕ Global) → FileList
+contents_of entries = map (λ file. (file.0, file.1.items)) entries
+
+-- whether a file has the name
+abbrev pub has_file : List ℕ → FileList → Bool
+has_file name files = list_any (λ file. bytes_eq name file.0) files

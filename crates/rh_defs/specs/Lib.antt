@@ -1,0 +1,15 @@
+pub mod Chain
+pub mod Pieces
+pub mod Forms
+pub mod Range
+pub mod Files
+pub mod Slot
+pub mod Desk
+pub mod Step
+pub mod Runs
+pub mod Spans
+pub mod Laws
+pub mod Listing
+pub mod Line
+pub mod Text
+pub mod Script

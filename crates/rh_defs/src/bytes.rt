@@ -1,0 +1,39 @@
+//! The bytes of a `put`.
+
+ghost use Rattle.std.specs.Prelude.{◌≡◌, ◌≤◌, length};
+
+use arrayvec::ArrayVec;
+use std::marker::Model;
+
+/// The bytes that a `put` writes: at most 512, as a script line has room for no more.
+#[derive(Debug, Drop, PartialEq, Eq)]
+pub struct Bytes {
+    bytes: ArrayVec<u8, 512>,
+}
+
+impl Model for Bytes {
+    ghost use Rattle.std.specs.Prelude.{ℕ, List};
+
+    ghost Value = { List ℕ };
+
+    ghost view = { λ b. b.bytes.items };
+
+    ghost inverse = { λ xs. record { bytes = record { items = xs } } };
+}
+
+impl Bytes {
+    /// These bytes.
+    pub fn new(bytes: ArrayVec<u8, 512>) -> Bytes
+        ensures { result ≡ bytes.items }
+    {
+        Bytes { bytes }
+    }
+
+    /// The bytes as a slice.
+    pub fn as_slice(&self) -> &[u8]
+        ensures value { result.now ≡ self.now }
+        ensures short { length self.now ≤ 512 }
+    {
+        self.bytes.as_slice()
+    }
+}

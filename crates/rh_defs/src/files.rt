@@ -1,0 +1,53 @@
+//! The named files.
+
+ghost use Rattle.std.specs.Prelude.{◌≡◌, ◌≤◌, [], ◌∷◌, ◌++◌, false, OnOk, OnErr, vec_len};
+ghost use Rattle.rh_defs.specs.Files.{has_file};
+
+use crate::name::Name;
+use indexmap::IndexMap;
+use std::alloc::{AllocError, Global};
+use std::marker::Model;
+
+/// Named files in the order given, each of at most 1,048,576 bytes. No two have one name.
+#[derive(Drop)]
+pub struct Files {
+    contents: IndexMap<Name, Vec<u8>>,
+}
+
+impl Model for Files {
+    ghost use Rattle.std.specs.Prelude.{ℕ, List};
+    ghost use Rattle.rh_defs.specs.Files.{contents_of};
+
+    ghost Value = { List (List ℕ × List ℕ) };
+
+    ghost view = { λ f. contents_of f.contents.entries };
+}
+
+impl Files {
+    /// No files.
+    pub fn new(alloc: Global) -> Files
+        ensures { result ≡ [] }
+    {
+        Files {
+            contents: IndexMap::new(alloc),
+        }
+    }
+
+    /// Adds a file behind the others.
+    pub fn insert(&mut self, name: Name, bytes: Vec<u8>) -> Result<(), AllocError>
+        requires new_name { has_file name self.old ≡ false }
+        requires small { vec_len bytes ≤ 1048576 }
+        ensures ok { OnOk result (self.new ≡ self.old ++ (name, bytes.items) ∷ []) }
+        ensures err { OnErr result (self.new ≡ self.old) }
+    {
+        self.contents.insert(name, bytes)?;
+        Ok(())
+    }
+
+    /// Whether a file has the name.
+    pub fn contains(&self, name: &Name) -> bool
+        ensures { result ≡ has_file name.now self.now }
+    {
+        self.contents.contains_key(name)
+    }
+}

@@ -1,0 +1,24 @@
+//! The desk's definitions (in specs/), its plain types, and the laws over the definitions alone.
+#![tactic(auto)]
+
+mod bytes;
+mod command;
+mod fault;
+mod files;
+mod ids;
+mod laws;
+mod listing;
+mod name;
+mod refusal;
+mod reply;
+
+pub use bytes::Bytes;
+pub use command::Command;
+pub use fault::LineFault;
+pub use files::Files;
+pub use ids::{Anchor, Handle, Ref};
+pub use laws::span_law;
+pub use listing::{AreaItem, BlockItem};
+pub use name::Name;
+pub use refusal::Refusal;
+pub use reply::Reply;
