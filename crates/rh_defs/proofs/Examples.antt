@@ -7,12 +7,12 @@ use Rattle.rh_defs.specs.declared.command.Command.TheVariants as command
 use Rattle.rh_defs.specs.declared.reply.Reply.{Reply}
 use Rattle.rh_defs.specs.declared.reply.Reply.TheVariants as reply
 use Rattle.rh_defs.specs.Runs.{start, start_with, replies}
-use Rattle.rh_defs.specs.Script.{script_text, has_bad_line}
+use Rattle.rh_defs.specs.Script.{text, has_bad_line}
 use Rattle.rh_defs.specs.Runs
 use Rattle.rh_defs.specs.Script
 
 -- a fresh desk of 8 pages: one for the module area and one for the slot
-pub fresh_desk : script_text 8 [] (codes "task a 100\nareas\n")
+pub fresh_desk : text (codes "task a 100\nareas\n") 8 []
     ≡ codes "ok 1\nok 6\n  area 0 0\n  area 1 1\n  area 2 0\n  area 3 0\n  area 4 0\n  area 5 0\n  slot a 1\n"
 unfolding Script.computing
 fresh_desk = refl
@@ -30,18 +30,18 @@ unfolding Runs.computing
 one_byte_more = refl
 
 -- a block is written and shown
-pub written_block : script_text 64 [] (codes "task a 100\nalloc a 0 5\nput a 0 0 68656c6c6f\nblocks a\nshow a 0\n")
+pub written_block : text (codes "task a 100\nalloc a 0 5\nput a 0 0 68656c6c6f\nblocks a\nshow a 0\n") 64 []
     ≡ codes "ok 1\nok &9008\nok\nok 1\n  0 &9008 5\nok 5 68656c6c6f\n"
 unfolding Script.computing hex_on_literals
 written_block = refl
 
 -- an empty block is shown as its size alone
-pub empty_block : script_text 64 [] (codes "task a 100\nalloc a 63 0\nshow a 63\n") ≡ codes "ok 1\nok &9008\nok 0\n"
+pub empty_block : text (codes "task a 100\nalloc a 63 0\nshow a 63\n") 64 [] ≡ codes "ok 1\nok &9008\nok 0\n"
 unfolding Script.computing hex_on_literals
 empty_block = refl
 
 -- with 8 pages the eighth task has no room
-pub few_pages : script_text 8 [] (codes "task t1 100\ntask t2 100\ntask t3 100\ntask t4 100\ntask t5 100\ntask t6 100\ntask t7 100\ntask t8 100\n")
+pub few_pages : text (codes "task t1 100\ntask t2 100\ntask t3 100\ntask t4 100\ntask t5 100\ntask t6 100\ntask t7 100\ntask t8 100\n") 8 []
     ≡ codes "ok 1\nok 2\nok 3\nok 4\nok 5\nok 6\nok 7\nrefused NoRoom\n"
 unfolding Script.computing
 few_pages = refl
@@ -53,13 +53,13 @@ unfolding Runs.computing
 last_handle = refl
 
 -- the refusals of these commands, each where the ones before it don't hold
-pub refused_commands : script_text 8 [] (codes "task a 5\ntask a 5\nalloc b 0 1\nalloc a 0 3\nalloc a 0 1\nput b 0 0 00\nput a 1 0 00\nput a 0 2 0000\nshow a 1\nblocks b\nalloc a 1 24569\n")
+pub refused_commands : text (codes "task a 5\ntask a 5\nalloc b 0 1\nalloc a 0 3\nalloc a 0 1\nput b 0 0 00\nput a 1 0 00\nput a 0 2 0000\nshow a 1\nblocks b\nalloc a 1 24569\n") 8 []
     ≡ codes "ok 1\nrefused NameInUse\nrefused NoName\nok &9008\nrefused AnchorInUse\nrefused NoName\nrefused NoBlock\nrefused BadRange\nrefused NoBlock\nrefused NoName\nrefused NoRoom\n"
 unfolding Script.computing hex_on_literals
 refused_commands = refl
 
 -- bad lines, and one that is cut
-pub bad_lines : script_text 64 [] (codes "tsk a\ntask a\ntask a 0\nalloc a 64 1\nput a 0 0 abc\nareas")
+pub bad_lines : text (codes "tsk a\ntask a\ntask a 0\nalloc a 64 1\nput a 0 0 abc\nareas") 64 []
     ≡ codes "bad Unknown\nbad Count\nbad Word 3\nbad Word 3\nbad Word 5\nbad Unended\n"
 unfolding Script.computing hex_on_literals
 bad_lines = refl
@@ -69,7 +69,7 @@ unfolding Script.computing
 bad_lines_are_bad = refl
 
 -- an empty script writes nothing, and has no bad line
-pub empty_script : script_text 64 [] [] ≡ []
+pub empty_script : text [] 64 [] ≡ []
 empty_script = refl
 
 pub no_bad_line : has_bad_line (codes "# a remark\n\n  areas  \n") ≡ false
@@ -77,7 +77,7 @@ unfolding Script.computing
 no_bad_line = refl
 
 -- a tab or a carriage return belongs to a word; leading zeros count as digits
-pub strange_words : script_text 64 [] (codes "areas\r\ntask\ta 1\ntask a 0000000001\ntask b 00000000001\n")
+pub strange_words : text (codes "areas\r\ntask\ta 1\ntask a 0000000001\ntask b 00000000001\n") 64 []
     ≡ codes "bad Unknown\nbad Unknown\nok 1\nbad Word 3\n"
 unfolding Script.computing
 strange_words = refl

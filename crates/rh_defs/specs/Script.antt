@@ -66,13 +66,17 @@ abbrev pub rest_text : List ℕ → List ℕ
 rest_text [] = []
 rest_text (b ∷ bs) = if nat_lt longest_line (length (b ∷ bs)) then fault_text TooLong else fault_text Unended
 
--- the replies of the complete lines of a script, over a pool of so many pages
-abbrev pub ended_text : ℕ → FileList → List ℕ → List ℕ
-ended_text pages files script = lines_text (start pages files) (ended script)
+-- the replies of the complete lines of a script, from a desk on
+abbrev pub ended_text : Desk → List ℕ → List ℕ
+ended_text d script = lines_text d (ended script)
 
--- all that a script writes
-abbrev pub script_text : ℕ → FileList → List ℕ → List ℕ
-script_text pages files script = ended_text pages files script ++ rest_text (unended script)
+-- all that a script writes, from a desk on
+abbrev pub script_text : Desk → List ℕ → List ℕ
+script_text d script = ended_text d script ++ rest_text (unended script)
+
+-- all that a script writes over a fresh desk of so many pages with these files
+abbrev pub text : List ℕ → ℕ → FileList → List ℕ
+text script pages files = script_text (start pages files) script
 
 -- whether a complete line is bad
 abbrev pub is_bad : List ℕ → Bool

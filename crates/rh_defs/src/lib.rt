@@ -22,3 +22,6 @@ pub use listing::{AreaItem, BlockItem};
 pub use name::Name;
 pub use refusal::Refusal;
 pub use reply::Reply;
+
+#[cfg(test)]
+mod tests;
