@@ -1,0 +1,9 @@
+//! Tests that cross crates: worked scripts through `run`, streams that fail, and the program's words.
+#![tactic(auto)]
+
+#[cfg(test)]
+mod scripts;
+#[cfg(test)]
+mod streams;
+#[cfg(test)]
+mod words;

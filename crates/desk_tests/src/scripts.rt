@@ -1,0 +1,136 @@
+//! Worked scripts, whole.
+
+ghost use Rattle.std.specs.Prelude.{◌≤◌};
+
+use rh_defs::Files;
+use rh_desk::{RunFault, Status, run};
+use rh_script::Flagged;
+use std::alloc::Global;
+use std::test::Fail;
+
+/// A script that runs to its end: the pages, the script, what it writes, and how it went.
+#[derive(Drop)]
+struct Worked {
+    pages: u32,
+    script: &'static [u8],
+    wanted: &'static [u8],
+    status: Status,
+    ghost least: { 8 ≤ pages },
+    ghost most: { pages ≤ 256 },
+}
+
+pub fn outcome_of(alloc: Global, script: &[u8], pages: u32) -> (Vec<u8>, Result<Status, RunFault>)
+    requires least { 8 ≤ pages }
+    requires most { pages ≤ 256 }
+{
+    let mut reader = Flagged::new(script);
+    let mut writer = Flagged::new(Vec::<u8>::new(alloc));
+    let outcome = run(alloc, Files::new(alloc), &mut reader, &mut writer, pages);
+    (writer.into_inner(), outcome)
+}
+
+#[test]
+fn worked_scripts_write_their_replies(rt: HostRuntime) {
+    let worked = [
+        Worked {
+            pages: 8,
+            script: b"task a 100\nareas\n",
+            wanted: b"ok 1\nok 6\n  area 0 0\n  area 1 1\n  area 2 0\n  area 3 0\n  area 4 0\n  area 5 0\n  slot a 1\n",
+            status: Status::Clean,
+        },
+        Worked {
+            pages: 8,
+            script: b"task a 100\nalloc a 0 24568\nareas\n",
+            wanted: b"ok 1\nok &9008\nok 0\n  area 0 0\n  area 1 1\n  area 2 0\n  area 3 0\n  area 4 0\n  area 5 0\n  slot a 7\n",
+            status: Status::Clean,
+        },
+        Worked {
+            pages: 8,
+            script: b"task a 100\nalloc a 0 24569\nareas\n",
+            wanted: b"ok 1\nrefused NoRoom\nok 6\n  area 0 0\n  area 1 1\n  area 2 0\n  area 3 0\n  area 4 0\n  area 5 0\n  slot a 1\n",
+            status: Status::Clean,
+        },
+        Worked {
+            pages: 64,
+            script: b"task a 100\nalloc a 0 5\nput a 0 0 68656c6c6f\nblocks a\nshow a 0\n",
+            wanted: b"ok 1\nok &9008\nok\nok 1\n  0 &9008 5\nok 5 68656c6c6f\n",
+            status: Status::Clean,
+        },
+        Worked {
+            pages: 8,
+            script: b"task t1 100\ntask t2 100\ntask t3 100\ntask t4 100\ntask t5 100\ntask t6 100\ntask t7 100\ntask t8 100\n",
+            wanted: b"ok 1\nok 2\nok 3\nok 4\nok 5\nok 6\nok 7\nrefused NoRoom\n",
+            status: Status::Clean,
+        },
+        Worked {
+            pages: 64,
+            script: b"tsk a\ntask a\ntask a 0\nalloc a 64 1\nput a 0 0 abc\nareas",
+            wanted: b"bad Unknown\nbad Count\nbad Word 3\nbad Word 3\nbad Word 5\nbad Unended\n",
+            status: Status::BadLines,
+        },
+        Worked {
+            pages: 64,
+            script: b"",
+            wanted: b"",
+            status: Status::Clean,
+        },
+        Worked {
+            pages: 256,
+            script: b"  \n# nothing\n\ntask  Zed9   65536  \nareas x\ntask\tb 1\ntask b 1\r\n",
+            wanted: b"ok 1\nbad Count\nbad Unknown\nbad Word 3\n",
+            status: Status::BadLines,
+        },
+    ];
+    for w in &worked {
+        let (written, outcome) = outcome_of(rt.alloc(), w.script, w.pages);
+        assert_eq!(rt; written.as_slice(), w.wanted);
+        assert!(rt; outcome == Ok(w.status));
+    }
+}
+
+/// Puts `line` and a line feed behind a script.
+fn add_line(script: &mut Vec<u8>, line: &[u8]) -> Result<(), Fail> {
+    script.extend_from_slice(line)?;
+    script.push(b'\n')?;
+    Ok(())
+}
+
+#[test]
+fn thirty_two_tasks_are_live_at_most(rt: HostRuntime) -> Result<(), Fail> {
+    let alloc = rt.alloc();
+    let mut script = Vec::new(alloc);
+    let mut wanted = Vec::new(alloc);
+    for n in 1..33u32 {
+        add_line(&mut script, format!(in alloc; "task t{n} 100")?.as_bytes())?;
+        add_line(&mut wanted, format!(in alloc; "ok {n}")?.as_bytes())?;
+    }
+    add_line(&mut script, b"task t33 100")?;
+    add_line(&mut wanted, b"refused TooManyTasks")?;
+    let (written, outcome) = outcome_of(alloc, script.as_slice(), 64);
+    assert_eq!(rt; written.as_slice(), wanted.as_slice());
+    assert!(rt; outcome == Ok(Status::Clean));
+    Ok(())
+}
+
+#[test]
+fn a_line_is_too_long_once(rt: HostRuntime) -> Result<(), Fail> {
+    let alloc = rt.alloc();
+    for (len, wanted) in [
+        (1024usize, b"bad Unknown\nbad Unended\n".as_slice()),
+        (1025, b"bad TooLong\nbad TooLong\n".as_slice()),
+        (9000, b"bad TooLong\nbad TooLong\n".as_slice()),
+    ] {
+        let mut script = Vec::new(alloc);
+        for _x in 0..len {
+            script.push(b'x')?;
+        }
+        script.push(b'\n')?;
+        for _x in 0..len {
+            script.push(b'#')?;
+        }
+        let (written, outcome) = outcome_of(alloc, script.as_slice(), 64);
+        assert_eq!(rt; written.as_slice(), wanted, "{len} bytes");
+        assert!(rt; outcome == Ok(Status::BadLines));
+    }
+    Ok(())
+}

@@ -1,0 +1,19 @@
+-- How the program ends, and its exit status.
+use Rattle.std.specs.Prelude.{ℕ, Result, Ok, Err}
+use Rattle.rh_desk.specs.declared.status.Status.{Status}
+use Rattle.rh_desk.specs.declared.status.Status.TheVariants as status
+use Rattle.rh_desk.specs.declared.status.RunFault.{RunFault}
+use Rattle.rh_desk.specs.declared.ending.Ending.{Ending}
+use Rattle.rh_desk.specs.declared.ending.Ending.TheVariants.{Clean, BadLines, WrongWords, Fault}
+
+-- how the outcome of a run ends the program
+abbrev pub ending_of : Result Status RunFault → Ending
+ending_of (Ok status.Clean) = Clean
+ending_of (Ok status.BadLines) = BadLines
+ending_of (Err fault) = Fault
+
+abbrev pub exit_status : Ending → ℕ
+exit_status Clean = 0
+exit_status BadLines = 1
+exit_status WrongWords = 2
+exit_status Fault = 3

@@ -1,0 +1,13 @@
+pub mod Bytes
+pub mod Blocks
+pub mod Seats
+pub mod Worlds
+pub mod Readers
+pub mod Edits
+pub mod Pushes
+pub mod Counts
+pub mod Chains
+pub mod Allocs
+pub mod Starts
+pub mod Puts
+pub mod Steps

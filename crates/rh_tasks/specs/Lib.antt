@@ -1,0 +1,3 @@
+pub mod View
+pub mod Scans
+pub mod Answer

@@ -1,0 +1,32 @@
+//! Runs scripts over the memory of a desktop: the program of `rh_desk`, over the words and streams of the process.
+#![tactic(auto)]
+
+use rh_desk::program;
+use rh_script::Flagged;
+use std::alloc::Global;
+use std::env;
+use std::io;
+use std::process::ExitCode;
+
+fn main(rt: HostRuntime) -> ExitCode {
+    let alloc = rt.alloc();
+    let Ok(words) = words_of(&rt, alloc) else {
+        return ExitCode::from(2);
+    };
+    let mut input = Flagged::new(rt.stdin());
+    let mut output = Flagged::new(rt.stdout());
+    let mut errors = Flagged::new(rt.stderr());
+    ExitCode::from(program(
+        &rt,
+        alloc,
+        words.as_slice(),
+        &mut input,
+        &mut output,
+        &mut errors,
+    ))
+}
+
+/// The words of the process, its own name first.
+fn words_of(rt: &HostRuntime, alloc: Global) -> io::Result<Vec<String>> {
+    Ok(env::args(rt)?.collect(alloc)?)
+}
