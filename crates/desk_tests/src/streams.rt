@@ -118,7 +118,7 @@ fn a_failing_writer_has_taken_a_front(rt: HostRuntime) {
 }
 
 /// How many complete lines the first bytes of the script have.
-fn feeds(bytes: &[u8]) -> usize {
+fn feeds_in(bytes: &[u8]) -> usize {
     bytes.iter().filter(|b| **b == b'\n').count()
 }
 
@@ -129,7 +129,7 @@ fn a_cut_script_answers_its_complete_lines(rt: HostRuntime) -> Result<(), Fail> 
         let cut = len > 0 && SCRIPT[len - 1] != b'\n';
         assert_eq!(rt; written.as_slice().ends_with(b"bad Unended\n".as_slice()), cut, "{len} bytes");
         assert_eq!(rt; outcome == Ok(Status::BadLines), cut, "{len} bytes");
-        assert!(rt; feeds(written.as_slice()) >= feeds(&SCRIPT[..len]));
+        assert!(rt; feeds_in(written.as_slice()) >= feeds_in(&SCRIPT[..len]));
     }
     Ok(())
 }

@@ -8,13 +8,13 @@ use std::test::Fail;
 
 /// What the program wrote to its output and its errors, and its exit status.
 #[derive(Drop)]
-struct Ended {
+struct Outcome {
     output: Vec<u8>,
     errors: Vec<u8>,
     status: u8,
 }
 
-fn ended(rt: &HostRuntime, words: &[&str], input: &[u8]) -> Result<Ended, AllocError> {
+fn ended(rt: &HostRuntime, words: &[&str], input: &[u8]) -> Result<Outcome, AllocError> {
     let alloc: Global = rt.alloc();
     let mut all = Vec::new(alloc);
     all.push(String::from_str(alloc, "vervainfile")?)?;
@@ -25,7 +25,7 @@ fn ended(rt: &HostRuntime, words: &[&str], input: &[u8]) -> Result<Ended, AllocE
     let mut writer = Flagged::new(Vec::<u8>::new(alloc));
     let mut errors = Flagged::new(Vec::<u8>::new(alloc));
     let status = program(rt, alloc, all.as_slice(), &mut reader, &mut writer, &mut errors);
-    Ok(Ended {
+    Ok(Outcome {
         output: writer.into_inner(),
         errors: errors.into_inner(),
         status,

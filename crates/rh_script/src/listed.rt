@@ -12,11 +12,7 @@ use rh_defs::{AreaItem, BlockItem, Name};
 use rh_tasks::World;
 
 /// Writes a line for each flex block of the task, from below.
-pub fn print_blocks<W: Sink>(
-    world: &World,
-    name: &Name,
-    writer: &mut W,
-) -> Result<(), WriteFailed>
+pub fn print_blocks<W: Sink>(world: &World, name: &Name, writer: &mut W) -> Result<(), WriteFailed>
     ensures { Puts (W.output writer.old) (W.output writer.new) result (flat_map block_text (blocks_of_named name.now world.now)) }
 {
     for i in 0..count_blocks(world, name) {

@@ -1,10 +1,11 @@
 //! What replies are written to, and whole writes.
 
-ghost use Rattle.std.specs.Prelude.{flat_map, ◌≡◌, length, ◌||◌};
+ghost use Rattle.std.specs.Prelude.{IfSome, flat_map, ◌≡◌, length, ◌||◌};
 ghost use Rattle.std.specs.Io.{WritesAtMost};
 ghost use Rattle.std.specs.Io.KnownBytes.{WriteAppends};
 ghost use Rattle.rh_script.specs.Flow.{Output, write_failed, Puts};
 
+use arrayvec::ArrayVec;
 use thiserror::Error;
 
 /// The writer failed, or took none of the bytes that it was offered.
@@ -41,10 +42,32 @@ pub fn put<W: Sink>(writer: &mut W, bytes: &[u8]) -> Result<(), WriteFailed>
     Ok(())
 }
 
-/// Writes the pieces, one after another. Fails as `put` does, and a front of all their bytes is
-/// then written.
-#[tactic(auto, using(crate::proofs::FlowLemmas::writing))]
+/// So many bytes are gathered for one call of a writer.
+const GATHERED: usize = 128;
+
+/// Writes the pieces, one after another, and where they are short in one call.
 pub fn put_pieces<W: Sink>(writer: &mut W, pieces: &[&[u8]]) -> Result<(), WriteFailed>
+    ensures { Puts (W.output writer.old) (W.output writer.new) result (flat_map (λ p. p.now) pieces.now) }
+{
+    match gathered(pieces) {
+        Some(bytes) => put(writer, bytes.as_slice()),
+        None => put_each(writer, pieces),
+    }
+}
+
+/// The pieces in one, where they are short.
+fn gathered(pieces: &[&[u8]]) -> Option<ArrayVec<u8, GATHERED>>
+    ensures { IfSome result (λ bytes. bytes.items ≡ flat_map (λ p. p.now) pieces.now) }
+{
+    let mut bytes = ArrayVec::new();
+    for piece in pieces {
+        bytes.try_extend_from_slice(piece).ok()?;
+    }
+    Some(bytes)
+}
+
+#[tactic(auto, using(crate::proofs::FlowLemmas::writing))]
+fn put_each<W: Sink>(writer: &mut W, pieces: &[&[u8]]) -> Result<(), WriteFailed>
     ensures { Puts (W.output writer.old) (W.output writer.new) result (flat_map (λ p. p.now) pieces.now) }
 {
     for piece in pieces {

@@ -11,17 +11,32 @@ fn name(bytes: &[u8]) -> Result<Name, &'static str> {
 #[test]
 fn parses_commands(rt: HostRuntime) -> Result<(), Fail> {
     let buffer = 65536;
-    let task = Command::Task { name: name(b"Writer2")?, buffer };
+    let task = Command::Task {
+        name: name(b"Writer2")?,
+        buffer,
+    };
     assert_eq!(rt; parse_line(b"task Writer2 65536"), Ok(Some(task)));
     let size = 2_147_483_647;
-    let alloc = Command::Alloc { name: name(b"a")?, anchor: Anchor(63), size };
+    let alloc = Command::Alloc {
+        name: name(b"a")?,
+        anchor: Anchor(63),
+        size,
+    };
     assert_eq!(rt; parse_line(b"  alloc   a 63 2147483647 "), Ok(Some(alloc)));
     let mut spelled = ArrayVec::new();
     let _fits = spelled.try_extend_from_slice(&[0x0a, 0xff]);
     let bytes = Bytes::new(spelled);
-    let put = Command::Put { name: name(b"a")?, anchor: Anchor(0), offset: 7, bytes };
+    let put = Command::Put {
+        name: name(b"a")?,
+        anchor: Anchor(0),
+        offset: 7,
+        bytes,
+    };
     assert_eq!(rt; parse_line(b"put a 0 0000000007 0aFf"), Ok(Some(put)));
-    let show = Command::Show { name: name(b"abcdefghijkl")?, anchor: Anchor(9) };
+    let show = Command::Show {
+        name: name(b"abcdefghijkl")?,
+        anchor: Anchor(9),
+    };
     assert_eq!(rt; parse_line(b"show abcdefghijkl 009"), Ok(Some(show)));
     let blocks = Command::Blocks { name: name(b"a")? };
     assert_eq!(rt; parse_line(b"blocks a"), Ok(Some(blocks)));
@@ -32,7 +47,14 @@ fn parses_commands(rt: HostRuntime) -> Result<(), Fail> {
 #[test]
 fn skips_lines(rt: HostRuntime) {
     let spaces = [b' '; 1024];
-    for line in [b"".as_slice(), b"   ", b"# areas", b"  #", b"#\t\xff", &spaces] {
+    for line in [
+        b"".as_slice(),
+        b"   ",
+        b"# areas",
+        b"  #",
+        b"#\t\xff",
+        &spaces,
+    ] {
         assert_eq!(rt; parse_line(line), Ok(None), "at {line:?}");
     }
 }
@@ -43,22 +65,61 @@ fn finds_the_first_fault(rt: HostRuntime) {
     assert_eq!(rt; parse_line(&long), Err(LineFault::TooLong));
     long[0] = b'#';
     assert_eq!(rt; parse_line(&long), Err(LineFault::TooLong));
-    for line in [b"Task a 1".as_slice(), b"task\ta 1", b"areas\r", b"\xc3\xa9", b"free a 0", b"areas# a"] {
+    for line in [
+        b"Task a 1".as_slice(),
+        b"task\ta 1",
+        b"areas\r",
+        b"\xc3\xa9",
+        b"free a 0",
+        b"areas# a",
+    ] {
         assert_eq!(rt; parse_line(line), Err(LineFault::Unknown), "at {line:?}");
     }
-    for line in [b"task".as_slice(), b"task 1", b"task a 1 deaf", b"alloc a 0", b"put a 0 0", b"show a", b"blocks", b"areas 1"] {
+    for line in [
+        b"task".as_slice(),
+        b"task 1",
+        b"task a 1 deaf",
+        b"alloc a 0",
+        b"put a 0 0",
+        b"show a",
+        b"blocks",
+        b"areas 1",
+    ] {
         assert_eq!(rt; parse_line(line), Err(LineFault::Count), "at {line:?}");
     }
-    for line in [b"task 1 0".as_slice(), b"task a1\xff 1", b"blocks abcdefghijklm", b"show a_ 99", b"put # x x x"] {
+    for line in [
+        b"task 1 0".as_slice(),
+        b"task a1\xff 1",
+        b"blocks abcdefghijklm",
+        b"show a_ 99",
+        b"put # x x x",
+    ] {
         assert_eq!(rt; parse_line(line), Err(LineFault::Word(2)), "at {line:?}");
     }
-    for line in [b"task a 0".as_slice(), b"task a 65537", b"task a 1\r", b"task a 00000000001", b"show a 64", b"show a -0", b"alloc a &1 x"] {
+    for line in [
+        b"task a 0".as_slice(),
+        b"task a 65537",
+        b"task a 1\r",
+        b"task a 00000000001",
+        b"show a 64",
+        b"show a -0",
+        b"alloc a &1 x",
+    ] {
         assert_eq!(rt; parse_line(line), Err(LineFault::Word(3)), "at {line:?}");
     }
-    for line in [b"alloc a 0 2147483648".as_slice(), b"alloc a 0 9999999999", b"alloc a 0 +1", b"put a 0 x f"] {
+    for line in [
+        b"alloc a 0 2147483648".as_slice(),
+        b"alloc a 0 9999999999",
+        b"alloc a 0 +1",
+        b"put a 0 x f",
+    ] {
         assert_eq!(rt; parse_line(line), Err(LineFault::Word(4)), "at {line:?}");
     }
-    for line in [b"put a 0 0 f".as_slice(), b"put a 0 0 0g", b"put a 0 0 00\t"] {
+    for line in [
+        b"put a 0 0 f".as_slice(),
+        b"put a 0 0 0g",
+        b"put a 0 0 00\t",
+    ] {
         assert_eq!(rt; parse_line(line), Err(LineFault::Word(5)), "at {line:?}");
     }
 }
@@ -119,7 +180,11 @@ struct Narrow {
 impl io::Write for Narrow {
     fn write(&mut self, bytes: &[u8]) -> io::Result<usize> {
         if self.taken.len() >= self.room {
-            return if self.fails { Err(io::Error::from(io::ErrorKind::Interrupted)) } else { Ok(0) };
+            return if self.fails {
+                Err(io::Error::from(io::ErrorKind::Interrupted))
+            } else {
+                Ok(0)
+            };
         }
         match bytes {
             [first, ..] => {
@@ -140,7 +205,11 @@ fn stops_where_the_writer_fails(rt: HostRuntime) {
     let text = b"bad Word 3\n";
     for room in 0..12 {
         for fails in [false, true] {
-            let mut writer = Flagged::new(Narrow { taken: ArrayVec::new(), room, fails });
+            let mut writer = Flagged::new(Narrow {
+                taken: ArrayVec::new(),
+                room,
+                fails,
+            });
             let wanted = if room < 11 { Err(WriteFailed) } else { Ok(()) };
             assert_eq!(rt; print_fault(&LineFault::Word(3), &mut writer), wanted);
             let narrow = writer.into_inner();

@@ -1,6 +1,6 @@
 use Rattle.std.proofs.Common.{arith, refl}
 use Rattle.rh_script.proofs.FlowLemmas.{puts_each, takes_each}
-use Rattle.rh_script.proofs.sink.put_pieces.Goals as goal
+use Rattle.rh_script.proofs.sink.put_each.Goals as goal
 
 pub returns-in_err-put : goal.returns-in_err-put
 returns-in_err-put g c =

@@ -1,7 +1,7 @@
 use Rattle.std.proofs.Common.{take}
 use Rattle.std.specs.List.{flat_map}
 use Rattle.rh_script.specs.Flow.{Takes}
-use Rattle.rh_script.proofs.sink.put_pieces.Given as goal
+use Rattle.rh_script.proofs.sink.put_each.Given as goal
 
 -- the pieces so far were taken
 abbrev pub invariant-loop-piece : goal.invariant-loop-piece
