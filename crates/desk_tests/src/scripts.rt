@@ -6,19 +6,10 @@ use rh_defs::Files;
 use rh_desk::{RunFault, Status, run};
 use rh_script::Flagged;
 use std::alloc::Global;
+use std::process::Abort;
 use std::test::Fail;
 
-/// A script that runs to its end: the pages, the script, what it writes, and how it went.
-#[derive(Drop)]
-struct Worked {
-    pages: u32,
-    script: &'static [u8],
-    wanted: &'static [u8],
-    status: Status,
-    ghost least: { 8 ≤ pages },
-    ghost most: { pages ≤ 256 },
-}
-
+/// What a script writes over so many pages, and how its run ends.
 pub fn outcome_of(alloc: Global, script: &[u8], pages: u32) -> (Vec<u8>, Result<Status, RunFault>)
     requires least { 8 ≤ pages }
     requires most { pages ≤ 256 }
@@ -29,63 +20,78 @@ pub fn outcome_of(alloc: Global, script: &[u8], pages: u32) -> (Vec<u8>, Result<
     (writer.into_inner(), outcome)
 }
 
+/// Runs a script, and asserts what it writes and how its run ends.
+fn expect<R: Abort + Alloc<A = Global>>(
+    rt: &R,
+    pages: u32,
+    script: &[u8],
+    wanted: &[u8],
+    status: Status,
+)
+    requires least { 8 ≤ pages }
+    requires most { pages ≤ 256 }
+{
+    let (written, outcome) = outcome_of(rt.alloc(), script, pages);
+    assert_eq!(rt; written.as_slice(), wanted);
+    assert!(rt; outcome == Ok(status));
+}
+
 #[test]
 fn worked_scripts_write_their_replies(rt: HostRuntime) {
-    let worked = [
-        Worked {
-            pages: 8,
-            script: b"task a 100\nareas\n",
-            wanted: b"ok 1\nok 6\n  area 0 0\n  area 1 1\n  area 2 0\n  area 3 0\n  area 4 0\n  area 5 0\n  slot a 1\n",
-            status: Status::Clean,
-        },
-        Worked {
-            pages: 8,
-            script: b"task a 100\nalloc a 0 24568\nareas\n",
-            wanted: b"ok 1\nok &9008\nok 0\n  area 0 0\n  area 1 1\n  area 2 0\n  area 3 0\n  area 4 0\n  area 5 0\n  slot a 7\n",
-            status: Status::Clean,
-        },
-        Worked {
-            pages: 8,
-            script: b"task a 100\nalloc a 0 24569\nareas\n",
-            wanted: b"ok 1\nrefused NoRoom\nok 6\n  area 0 0\n  area 1 1\n  area 2 0\n  area 3 0\n  area 4 0\n  area 5 0\n  slot a 1\n",
-            status: Status::Clean,
-        },
-        Worked {
-            pages: 64,
-            script: b"task a 100\nalloc a 0 5\nput a 0 0 68656c6c6f\nblocks a\nshow a 0\n",
-            wanted: b"ok 1\nok &9008\nok\nok 1\n  0 &9008 5\nok 5 68656c6c6f\n",
-            status: Status::Clean,
-        },
-        Worked {
-            pages: 8,
-            script: b"task t1 100\ntask t2 100\ntask t3 100\ntask t4 100\ntask t5 100\ntask t6 100\ntask t7 100\ntask t8 100\n",
-            wanted: b"ok 1\nok 2\nok 3\nok 4\nok 5\nok 6\nok 7\nrefused NoRoom\n",
-            status: Status::Clean,
-        },
-        Worked {
-            pages: 64,
-            script: b"tsk a\ntask a\ntask a 0\nalloc a 64 1\nput a 0 0 abc\nareas",
-            wanted: b"bad Unknown\nbad Count\nbad Word 3\nbad Word 3\nbad Word 5\nbad Unended\n",
-            status: Status::BadLines,
-        },
-        Worked {
-            pages: 64,
-            script: b"",
-            wanted: b"",
-            status: Status::Clean,
-        },
-        Worked {
-            pages: 256,
-            script: b"  \n# nothing\n\ntask  Zed9   65536  \nareas x\ntask\tb 1\ntask b 1\r\n",
-            wanted: b"ok 1\nbad Count\nbad Unknown\nbad Word 3\n",
-            status: Status::BadLines,
-        },
-    ];
-    for w in &worked {
-        let (written, outcome) = outcome_of(rt.alloc(), w.script, w.pages);
-        assert_eq!(rt; written.as_slice(), w.wanted);
-        assert!(rt; outcome == Ok(w.status));
-    }
+    expect(
+        &rt,
+        8,
+        b"task a 100\nareas\n",
+        b"ok 1\nok 6\n  area 0 0\n  area 1 1\n  area 2 0\n  area 3 0\n  area 4 0\n  area 5 0\n  slot a 1\n",
+        Status::Clean,
+    );
+    expect(
+        &rt,
+        8,
+        b"task a 100\nalloc a 0 24568\nareas\n",
+        b"ok 1\nok &9008\nok 0\n  area 0 0\n  area 1 1\n  area 2 0\n  area 3 0\n  area 4 0\n  area 5 0\n  slot a 7\n",
+        Status::Clean,
+    );
+    expect(
+        &rt,
+        8,
+        b"task a 100\nalloc a 0 24569\nareas\n",
+        b"ok 1\nrefused NoRoom\nok 6\n  area 0 0\n  area 1 1\n  area 2 0\n  area 3 0\n  area 4 0\n  area 5 0\n  slot a 1\n",
+        Status::Clean,
+    );
+    expect(
+        &rt,
+        64,
+        b"task a 100\nalloc a 0 5\nput a 0 0 68656c6c6f\nblocks a\nshow a 0\n",
+        b"ok 1\nok &9008\nok\nok 1\n  0 &9008 5\nok 5 68656c6c6f\n",
+        Status::Clean,
+    );
+    expect(
+        &rt,
+        8,
+        b"task t1 100\ntask t2 100\ntask t3 100\ntask t4 100\ntask t5 100\ntask t6 100\ntask t7 100\ntask t8 100\n",
+        b"ok 1\nok 2\nok 3\nok 4\nok 5\nok 6\nok 7\nrefused NoRoom\n",
+        Status::Clean,
+    );
+    expect(&rt, 64, b"", b"", Status::Clean);
+}
+
+#[test]
+fn bad_lines_are_told_and_run_on(rt: HostRuntime) {
+    expect(
+        &rt,
+        64,
+        b"tsk a\ntask a\ntask a 0\nalloc a 64 1\nput a 0 0 abc\nareas",
+        b"bad Unknown\nbad Count\nbad Word 3\nbad Word 3\nbad Word 5\nbad Unended\n",
+        Status::BadLines,
+    );
+    expect(
+        &rt,
+        256,
+        b"  \n# nothing\n\ntask  Zed9   65536  \nareas x\ntask\tb 1\ntask b 1\r\n",
+        b"ok 1\nbad Count\nbad Unknown\nbad Word 3\n",
+        Status::BadLines,
+    );
 }
 
 /// Puts `line` and a line feed behind a script.

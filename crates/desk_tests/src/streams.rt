@@ -8,9 +8,11 @@ use std::alloc::Global;
 use std::io::{self, Read, Write};
 use std::test::Fail;
 
-const SCRIPT: &[u8] = b"task a 100\nalloc a 0 5\nput a 0 0 68656c6c6f\nblocks a\nshow a 0\nalloc a 0 1\ntsk\n";
+const SCRIPT: &[u8] =
+    b"task a 100\nalloc a 0 5\nput a 0 0 68656c6c6f\nblocks a\nshow a 0\nalloc a 0 1\ntsk\n";
 
-const REPLIES: &[u8] = b"ok 1\nok &9008\nok\nok 1\n  0 &9008 5\nok 5 68656c6c6f\nrefused AnchorInUse\nbad Unknown\n";
+const REPLIES: &[u8] =
+    b"ok 1\nok &9008\nok\nok 1\n  0 &9008 5\nok 5 68656c6c6f\nrefused AnchorInUse\nbad Unknown\n";
 
 /// A reader that gives one byte a read, and fails once it has given `good` reads.
 #[derive(Drop)]
@@ -47,7 +49,11 @@ struct Narrow {
 impl Write for Narrow {
     fn write(&mut self, buf: &[u8]) -> io::Result<usize> {
         if self.room == 0 {
-            return if self.fails { Err(io::Error::from(io::ErrorKind::Other)) } else { Ok(0) };
+            return if self.fails {
+                Err(io::Error::from(io::ErrorKind::Other))
+            } else {
+                Ok(0)
+            };
         }
         match buf.first() {
             Some(byte) => {
@@ -127,7 +133,11 @@ fn a_cut_script_answers_its_complete_lines(rt: HostRuntime) -> Result<(), Fail> 
     for len in 0..SCRIPT.len() {
         let (written, outcome) = outcome_of(rt.alloc(), &SCRIPT[..len], 64);
         let cut = len > 0 && SCRIPT[len - 1] != b'\n';
-        assert_eq!(rt; written.as_slice().ends_with(b"bad Unended\n".as_slice()), cut, "{len} bytes");
+        assert_eq!(rt;
+            written.as_slice().ends_with(b"bad Unended\n".as_slice()),
+            cut,
+            "{len} bytes"
+        );
         assert_eq!(rt; outcome == Ok(Status::BadLines), cut, "{len} bytes");
         assert!(rt; feeds_in(written.as_slice()) >= feeds_in(&SCRIPT[..len]));
     }
@@ -159,7 +169,13 @@ fn a_million_reads_are_too_many(rt: HostRuntime) {
     ] {
         let mut reader = Flagged::new(Feeds { left });
         let mut writer = Flagged::new(Vec::<u8>::new(rt.alloc()));
-        let outcome = run(rt.alloc(), Files::new(rt.alloc()), &mut reader, &mut writer, 64);
+        let outcome = run(
+            rt.alloc(),
+            Files::new(rt.alloc()),
+            &mut reader,
+            &mut writer,
+            64,
+        );
         assert!(rt; outcome == wanted);
         assert!(rt; writer.into_inner().is_empty());
     }

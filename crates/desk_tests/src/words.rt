@@ -24,7 +24,14 @@ fn ended(rt: &HostRuntime, words: &[&str], input: &[u8]) -> Result<Outcome, Allo
     let mut reader = Flagged::new(input);
     let mut writer = Flagged::new(Vec::<u8>::new(alloc));
     let mut errors = Flagged::new(Vec::<u8>::new(alloc));
-    let status = program(rt, alloc, all.as_slice(), &mut reader, &mut writer, &mut errors);
+    let status = program(
+        rt,
+        alloc,
+        all.as_slice(),
+        &mut reader,
+        &mut writer,
+        &mut errors,
+    );
     Ok(Outcome {
         output: writer.into_inner(),
         errors: errors.into_inner(),
@@ -35,7 +42,10 @@ fn ended(rt: &HostRuntime, words: &[&str], input: &[u8]) -> Result<Outcome, Allo
 #[test]
 fn no_words_run_the_input(rt: HostRuntime) -> Result<(), Fail> {
     let clean = ended(&rt, &[], b"task a 100\ntask a 100\n")?;
-    assert_eq!(rt; clean.output.as_slice(), b"ok 1\nrefused NameInUse\n".as_slice());
+    assert_eq!(rt;
+        clean.output.as_slice(),
+        b"ok 1\nrefused NameInUse\n".as_slice()
+    );
     assert_eq!(rt; clean.status, 0);
     let bad = ended(&rt, &[], b"tsk\n")?;
     assert_eq!(rt; bad.output.as_slice(), b"bad Unknown\n".as_slice());
@@ -76,7 +86,10 @@ fn help_is_no_mistake(rt: HostRuntime) -> Result<(), Fail> {
 #[test]
 fn a_script_that_cannot_be_opened_is_told(rt: HostRuntime) -> Result<(), Fail> {
     let lost = ended(&rt, &["run", "no-such-script.desk"], b"")?;
-    assert_eq!(rt; lost.errors.as_slice(), b"rh_desk: file no-such-script.desk\n".as_slice());
+    assert_eq!(rt;
+        lost.errors.as_slice(),
+        b"rh_desk: file no-such-script.desk\n".as_slice()
+    );
     assert!(rt; lost.output.is_empty());
     assert_eq!(rt; lost.status, 3);
     Ok(())
@@ -98,7 +111,10 @@ fn a_script_is_run_over_the_pages_asked_for(rt: HostRuntime) -> Result<(), Fail>
 #[test]
 fn a_script_that_cannot_be_read_is_told(rt: HostRuntime) -> Result<(), Fail> {
     let folder = ended(&rt, &["run", "."], b"")?;
-    assert_eq!(rt; folder.errors.as_slice(), b"rh_desk: read failed\n".as_slice());
+    assert_eq!(rt;
+        folder.errors.as_slice(),
+        b"rh_desk: read failed\n".as_slice()
+    );
     assert_eq!(rt; folder.status, 3);
     Ok(())
 }

@@ -11,3 +11,6 @@ mod status;
 pub use command_line::program;
 pub use running::run;
 pub use status::{RunFault, Status};
+
+#[cfg(test)]
+mod tests;

@@ -1,0 +1,7 @@
+pub mod BlockLends
+pub mod Ownership
+pub mod Patched
+pub mod Region
+pub mod RegionLends
+pub mod Word
+pub mod Zeros
