@@ -1,16 +1,13 @@
 -- The anchors of a slot's blocks, and what its calls keep of them.
-use Rattle.std.proofs.Common.{◌≡◌, ◌≢◌, ℕ, ◌+◌, ◌-◌, ◌≤◌, ◌<◌, Bool, true, false, cond, refl, sym, ap, arith, List, [], ◌∷◌, ◌++◌, length}
-use Rattle.std.specs.Prelude.{Option, Some, None, IfSome, is_some, nat_lt, ◌==◌, if◌then◌else◌, Ok, Err, take, drop}
+use Rattle.std.proofs.Common.{◌≡◌, ◌≢◌, ℕ, ◌+◌, ◌≤◌, ◌<◌, Bool, true, false, cond, refl, sym, arith, List, [], ◌∷◌, ◌++◌, length}
+use Rattle.std.specs.Prelude.{Option, Some, None, is_some, ◌==◌}
 use Rattle.std.proofs.Common.{length-append, length-take, length-drop}
 use Rattle.std.specs.Option.{option_map}
-use Rattle.std.specs.List.{AllByRecursion}
 use borrow.Author.Tests.{ltb-false, eqb-false}
-use Rattle.rh_defs.specs.declared.refusal.Refusal.{Refusal}
-use Rattle.rh_defs.specs.Chain.{Granted, ◌>>=◌, ◌>>◌, refuse_if, found_or}
-use Rattle.rh_defs.specs.Pieces.{total, Split, first_at, behind, with_here, written}
-use Rattle.rh_defs.specs.Slot.{Slot, Flex, weight, slot_pages, new_slot, flex_start, block_of, is_used, with_block, with_bytes, roomed, slot_begin, slot_alloc, slot_block, slot_put}
+use Rattle.rh_defs.specs.Pieces.{Split, first_at, behind, written}
+use Rattle.rh_defs.specs.Slot.{Slot, Flex, weight, slot_pages, flex_start, block_of, with_block, with_bytes, roomed, slot_begin, slot_alloc, slot_block, slot_put}
 use Rattle.rh_defs.specs.Laws.{IsFree, HaveAnchors}
-use Rattle.rh_defs.proofs.Chains.{OnGrant, granted, refused, granted-then, granted-with, granted-past, found_or-grants}
+use Rattle.rh_defs.proofs.Chains.{OnGrant, granted, granted-with, granted-past, found_or-grants}
 use Rattle.rh_defs.proofs.Cuts.{IsCut, first_at-cuts, cut-total, total-append}
 
 -- no block has the anchor

@@ -1,10 +1,8 @@
 -- Worked scripts, by computation: what each writes, in full.
-use Rattle.std.specs.Prelude.{ℕ, ◌≡◌, ◌^◌, ◌-◌, refl, List, [], ◌∷◌, codes, true, false}
+use Rattle.std.specs.Prelude.{◌≡◌, refl, [], ◌∷◌, codes, true, false}
 use Rattle.hex.proofs.OnLiterals.{hex_on_literals}
 use Rattle.rh_defs.specs.declared.refusal.Refusal.TheVariants as refusal
-use Rattle.rh_defs.specs.declared.command.Command.{Command}
 use Rattle.rh_defs.specs.declared.command.Command.TheVariants as command
-use Rattle.rh_defs.specs.declared.reply.Reply.{Reply}
 use Rattle.rh_defs.specs.declared.reply.Reply.TheVariants as reply
 use Rattle.rh_defs.specs.Runs.{start, start_with, replies}
 use Rattle.rh_defs.specs.Script.{text, has_bad_line}

@@ -1,11 +1,10 @@
 -- The named files against the map that holds them.
-use Rattle.std.proofs.Common.{◌≡◌, ℕ, Bool, true, false, cond, ◌||◌, refl, sym, ap, ◌∙◌, List, [], ◌∷◌, ◌++◌, map, is_some, Option, Some, None}
+use Rattle.std.proofs.Common.{◌≡◌, ℕ, true, false, cond, ◌||◌, refl, sym, ap, ◌∙◌, List, [], ◌∷◌, ◌++◌, is_some, Option, Some, None}
 use Rattle.std.specs.Prelude.{Vec}
-use Rattle.std.specs.List.{list_any}
 use Rattle.std.specs.Str.{bytes_eq}
 use Rattle.std.specs.Map.{lookup}
 use Rattle.std.specs.declared.alloc.Global.{Global}
-use Rattle.rh_defs.specs.Files.{FileList, contents_of, has_file}
+use Rattle.rh_defs.specs.Files.{contents_of, has_file}
 
 -- a file has the name exactly where a look-up finds one
 pub has_file-lookup : (name : List ℕ) (entries : List (List ℕ × Vec ℕ Global)) → has_file name (contents_of entries) ≡ is_some (lookup (bytes_eq name) entries)

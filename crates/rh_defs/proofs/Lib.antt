@@ -6,3 +6,5 @@ pub mod Steps
 pub mod Spaced
 pub mod FileLemmas
 pub mod Examples
+pub mod BytesLaws
+pub mod MemoryLaws

@@ -1,9 +1,9 @@
 -- Blocks that lie one after the other are apart.
-use Rattle.std.proofs.Common.{◌≡◌, ℕ, ◌+◌, ◌-◌, ◌*◌, ◌/◌, ◌≤◌, ◌<◌, arith, List, [], ◌∷◌, length, inl, inr}
+use Rattle.std.proofs.Common.{ℕ, ◌+◌, ◌*◌, ◌≤◌, arith, List, [], ◌∷◌, inl}
 use Rattle.std.specs.List.{AllByRecursion}
 use Rattle.rh_defs.specs.Pieces.{total, page}
 use Rattle.rh_defs.specs.Slot.{Slot, Flex, weight, flex_start, slot_start, slot_pages}
-use Rattle.rh_defs.specs.Desk.{Desk, used_pages, free_pages}
+use Rattle.rh_defs.specs.Desk.{Desk}
 use Rattle.rh_defs.specs.Spans.{Span, flex_spans, slot_spans, IsApart, AreApart, IsWithin, AreLaidOut}
 use Rattle.rh_defs.specs.Laws.{IsDesk, IsBalanced, HasApartBlocks, Always}
 use Rattle.rh_defs.proofs.Steps.{after-is, start-is}

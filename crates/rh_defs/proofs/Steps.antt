@@ -1,25 +1,21 @@
 -- Each command keeps what holds of a desk.
-use Rattle.std.proofs.Common.{◌≡◌, ℕ, ◌+◌, ◌≤◌, ◌<◌, Bool, true, false, refl, sym, ap, ◌∙◌, arith, List, [], ◌∷◌, ◌++◌, length, length-append}
-use Rattle.std.specs.Prelude.{IfSome, nat_le, nat_lt, ◌&&◌, Ok, Err}
-use Rattle.std.specs.List.{AllByRecursion, list_all}
-use Rattle.std.proofs.lemmas.Bool.Decides.{nat_tests}
+use Rattle.std.proofs.Common.{◌≡◌, ℕ, ◌≤◌, ◌<◌, Bool, true, false, refl, arith, List, [], ◌∷◌, length-append}
+use Rattle.std.specs.Prelude.{nat_lt, ◌&&◌, Ok}
+use Rattle.std.specs.List.{list_all}
 use borrow.Author.Tests.{leb-false, ltb-true}
 use Rattle.rh_defs.specs.declared.command.Command.{Command}
 use Rattle.rh_defs.specs.declared.command.Command.TheVariants as command
-use Rattle.rh_defs.specs.declared.reply.Reply.{Reply}
-use Rattle.rh_defs.specs.Chain.{Granted, ◌>>=◌, ◌>>◌, refuse_if, found_or, or_else}
-use Rattle.rh_defs.specs.Pieces.{total}
-use Rattle.rh_defs.specs.Forms.{is_name, is_anchor, is_number}
+use Rattle.rh_defs.specs.Chain.{Granted}
+use Rattle.rh_defs.specs.Forms.{is_name, is_number}
 use Rattle.rh_defs.specs.Range.{in_range, all_in_range}
 use Rattle.rh_defs.specs.Files.{FileList}
-use Rattle.rh_defs.specs.Slot.{Slot, slot_pages, slot_block}
-use Rattle.rh_defs.specs.Desk.{Desk, Task, most_tasks, task_pages, used_pages, free_pages, has_name, named}
-use Rattle.rh_defs.specs.Step.{Answer, start_task, alloc, put, show, blocks, change, step, with_new_task}
+use Rattle.rh_defs.specs.Desk.{Desk, Task, task_pages, free_pages, has_name, named}
+use Rattle.rh_defs.specs.Step.{Answer, start_task, alloc, put, show, blocks, change, step}
 use Rattle.rh_defs.specs.Runs.{start_with, after}
-use Rattle.rh_defs.specs.Laws.{Ascend, HaveAnchors, IsDesk}
-use Rattle.rh_defs.proofs.Chains.{OnGrant, granted, refused, granted-then, granted-with, granted-past, or_else-keeps}
+use Rattle.rh_defs.specs.Laws.{HaveAnchors, IsDesk}
+use Rattle.rh_defs.proofs.Chains.{OnGrant, granted, granted-then, granted-with, granted-past, or_else-keeps}
 use Rattle.rh_defs.proofs.Cuts.{total-append}
-use Rattle.rh_defs.proofs.Anchors.{IsRoomed, slot_begin-grants, slot_alloc-grants, slot_put-grants}
+use Rattle.rh_defs.proofs.Anchors.{slot_begin-grants, slot_alloc-grants, slot_put-grants}
 use Rattle.rh_defs.proofs.Tasks.{append-all, find-all, ascend-append, named-found, with_slot-keeps}
 
 -- the desk of an answer is one of a run

@@ -1,14 +1,13 @@
 -- A desk's tasks: by name, by handle, and what an edit of one of them keeps.
-use Rattle.std.proofs.Common.{◌≡◌, ◌≢◌, ℕ, ◌+◌, ◌-◌, ◌≤◌, ◌<◌, Bool, true, false, cond, refl, sym, ap, ◌∙◌, arith, List, [], ◌∷◌, ◌++◌, length}
-use Rattle.std.specs.Prelude.{Option, Some, None, IfSome, ◌==◌, if◌then◌else◌, find, Ok, Err}
+use Rattle.std.proofs.Common.{◌≡◌, ℕ, ◌+◌, ◌≤◌, Bool, true, false, cond, refl, ap, arith, List, [], ◌∷◌, ◌++◌, length}
+use Rattle.std.specs.Prelude.{Option, Some, None, IfSome, ◌==◌, find, Ok}
 use Rattle.std.specs.List.{AllByRecursion}
-use borrow.Author.Tests.{eqb-false, eqb-true}
 use Rattle.rh_defs.specs.declared.refusal.Refusal.TheVariants.{NoName}
 use Rattle.rh_defs.specs.Chain.{found_or}
 use Rattle.rh_defs.specs.Pieces.{total}
 use Rattle.rh_defs.specs.Slot.{Slot, slot_pages}
-use Rattle.rh_defs.specs.Desk.{Desk, Task, most_tasks, task_pages, used_pages, free_pages, has_name, named, edit_task, with_task, with_slot}
-use Rattle.rh_defs.specs.Laws.{Ascend, IsFree, HaveAnchors, IsDesk}
+use Rattle.rh_defs.specs.Desk.{Desk, Task, task_pages, used_pages, free_pages, has_name, named, edit_task, with_task, with_slot}
+use Rattle.rh_defs.specs.Laws.{Ascend, HaveAnchors, IsDesk}
 use Rattle.rh_defs.proofs.Anchors.{IsRoomed}
 
 -- whether a task has the handle

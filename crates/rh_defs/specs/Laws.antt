@@ -2,10 +2,10 @@
 use Rattle.std.specs.Prelude.{ℕ, ◌+◌, ◌*◌, ◌≤◌, ◌<◌, ◌≡◌, ◌≢◌, true, List, [], ◌∷◌, length}
 use Rattle.std.specs.List.{AllByRecursion}
 use Rattle.rh_defs.specs.declared.command.Command.{Command}
-use Rattle.rh_defs.specs.Pieces.{page, total}
+use Rattle.rh_defs.specs.Pieces.{page}
 use Rattle.rh_defs.specs.Range.{all_in_range}
 use Rattle.rh_defs.specs.Files.{FileList}
-use Rattle.rh_defs.specs.Slot.{Slot, Flex, slot_start, slot_pages}
+use Rattle.rh_defs.specs.Slot.{Flex, slot_start, slot_pages}
 use Rattle.rh_defs.specs.Desk.{Desk, Task, most_tasks, used_pages, free_pages}
 use Rattle.rh_defs.specs.Runs.{start_with, after}
 use Rattle.rh_defs.specs.Spans.{AreLaidOut, slot_spans}

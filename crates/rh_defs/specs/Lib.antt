@@ -13,3 +13,5 @@ pub mod Listing
 pub mod Line
 pub mod Text
 pub mod Script
+pub mod Bytes
+pub mod Memory

@@ -1,5 +1,5 @@
 -- What each command does.
-use Rattle.std.specs.Prelude.{ℕ, ◌+◌, ◌^◌, Bool, nat_le, List, [], ◌∷◌, ◌++◌, length, Ok}
+use Rattle.std.specs.Prelude.{ℕ, ◌+◌, ◌^◌, nat_le, List, [], ◌∷◌, ◌++◌, length, Ok}
 use Rattle.std.specs.List.{list_any}
 use Rattle.rh_defs.specs.declared.refusal.Refusal.TheVariants.{NameInUse, TooManyTasks, NoHandles}
 use Rattle.rh_defs.specs.declared.command.Command.{Command}
@@ -9,7 +9,7 @@ use Rattle.rh_defs.specs.declared.reply.Reply.TheVariants as reply
 use Rattle.rh_defs.specs.Chain.{Granted, ◌>>=◌, ◌>>◌, refuse_if, or_else}
 use Rattle.rh_defs.specs.Pieces.{zeros}
 use Rattle.rh_defs.specs.Slot.{Slot, slot_begin, slot_alloc, slot_put, slot_block}
-use Rattle.rh_defs.specs.Desk.{Desk, Task, most_tasks, free_pages, has_name, named, with_slot}
+use Rattle.rh_defs.specs.Desk.{Desk, most_tasks, free_pages, has_name, named, with_slot}
 
 -- the desk after a command, and its reply
 abbrev pub Answer : Type 0

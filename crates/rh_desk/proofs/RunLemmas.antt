@@ -1,10 +1,10 @@
 -- A run, read by read.
-use Rattle.std.proofs.Common.{◌≡◌, ℕ, ◌+◌, ◌≤◌, ◌<◌, true, false, Bool, ◌||◌, not, ◌==◌, List, [], ◌∷◌, ◌++◌, length, take, Option, Some, None, Result, Ok, Err, IfSome, append_assoc, append-nil, ◌⊎◌, inl, inr, refl, sym, ◌∙◌, ap, subst, arith, rules}
-use Rattle.std.specs.Io.KnownBytes.{Appends, Consumes, Keeps, IsAtEnd}
+use Rattle.std.proofs.Common.{◌≡◌, ℕ, ◌+◌, ◌≤◌, ◌<◌, false, Bool, ◌||◌, not, ◌==◌, List, [], ◌∷◌, ◌++◌, length, take, Option, Some, None, IfSome, append_assoc, append-nil, ◌⊎◌, inl, inr, refl, sym, ◌∙◌, ap, subst, arith, rules}
+use Rattle.std.specs.Io.KnownBytes.{Consumes, Keeps, IsAtEnd}
 use Rattle.rh_defs.specs.Desk.{Desk}
-use Rattle.rh_script.specs.Flow.{Input, Output, Takes, Breaks, Puts}
+use Rattle.rh_script.specs.Flow.{Input, Output, Takes, Breaks}
 use Rattle.rh_script.proofs.FlowLemmas.{takes_none, takes_more, takes_breaks, breaks_before}
-use Rattle.rh_defs.specs.Script.{ended, unended, ended_text, script_text, rest_text, has_bad_line}
+use Rattle.rh_defs.specs.Script.{ended, unended, script_text, rest_text}
 use Rattle.rh_desk.specs.Session.{State, begin, state_of, text_of, kept}
 use Rattle.std.specs.List.{list_any}
 use borrow.Author.Tests.{tests}
@@ -121,7 +121,7 @@ broke_known d {old} {new} {last} {state} bytes more rest script s t w e =
     let P : List ℕ → Type 0 = λ z. Breaks old last z in
     let later = text_of (state_of (state_of (begin d) bytes) more) rest in
     let parts : text_of (begin d) script ≡ (text_of (begin d) bytes ++ text_of state more) ++ later =
-        ap (text_of (begin d)) e ∙ (text_of-append (begin d) bytes (more ++ rest) ∙ (ap (λ z. text_of (begin d) bytes ++ z) (text_of-append (state_of (begin d) bytes) more rest) ∙ (sym (append_assoc (text_of (begin d) bytes) (text_of (state_of (begin d) bytes) more) later) ∙ ap (λ z. (text_of (begin d) bytes ++ text_of z more) ++ later) (sym s)))) in
+    ap (text_of (begin d)) e ∙ (text_of-append (begin d) bytes (more ++ rest) ∙ (ap (λ z. text_of (begin d) bytes ++ z) (text_of-append (state_of (begin d) bytes) more rest) ∙ (sym (append_assoc (text_of (begin d) bytes) (text_of (state_of (begin d) bytes) more) later) ∙ ap (λ z. (text_of (begin d) bytes ++ text_of z more) ++ later) (sym s)))) in
     subst P (ap (λ z. z ++ rest_text (unended script)) (sym parts ∙ (reached d script).text)) (breaks_before (rest_text (unended script)) (breaks_before later (takes_breaks t w)))
 
 broke_left : (d : Desk) {old new last : Output} {state : State} (a b c : Option (List ℕ)) (bytes more : List ℕ) → state ≡ state_of (begin d) bytes → Takes old new (text_of (begin d) bytes) → Breaks new last (text_of state more) → Consumes a b bytes → Consumes b c more → IfSome a (λ script. Breaks old last (script_text d script))

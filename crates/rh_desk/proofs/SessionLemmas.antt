@@ -1,12 +1,11 @@
 -- A session over several bytes.
-use Rattle.std.proofs.Common.{◌≡◌, ℕ, zero, suc, ◌+◌, ◌<◌, ◌≤◌, List, [], ◌∷◌, ◌++◌, length, take, drop, get_or, append_assoc, refl, sym, ◌∙◌, ap, subst, arith, rules, Result, Err, Ok}
+use Rattle.std.proofs.Common.{◌≡◌, ℕ, zero, suc, ◌+◌, ◌<◌, ◌≤◌, List, [], ◌∷◌, ◌++◌, length, take, drop, get_or, append_assoc, refl, sym, ◌∙◌, ap, subst, arith, rules, Result, Err}
 use Rattle.std.specs.Result.{IsErr}
-use Rattle.std.proofs.lemmas.Grind.{common_steps}
 use Rattle.std.proofs.Common.{append-nil, length-append}
 use Rattle.std.proofs.lemmas.List.{take_more, take-append-drop, take_all, take-append-le, length-take}
 use Rattle.rh_script.specs.Flow.{Output, Takes, Breaks, Puts}
 use Rattle.rh_script.proofs.FlowLemmas.{takes_more, takes_breaks, breaks_before, puts_stops}
-use Rattle.std.proofs.Common.{Bool, true, false, eqb, cond, ◌||◌, nat_lt, ◌⊎◌, inl, inr}
+use Rattle.std.proofs.Common.{Bool, true, false, eqb, ◌||◌, nat_lt, ◌⊎◌, inl, inr}
 use borrow.Author.Tests.{tests}
 use Rattle.std.specs.List.{list_any}
 use Rattle.rh_defs.specs.Desk.{Desk}
@@ -146,7 +145,7 @@ unfolding state_after text_after
 reach_feed desk bad line bs h k =
     let next : state_after (at_line desk line bad) 10 ≡ at_line (line_desk desk line) [] (bad || is_bad line) = rw (kept_means line, kept_nil) refl in
     let lines : at_line (lines_desk (line_desk desk line) (ended bs)) (unended bs) ((bad || is_bad line) || list_any is_bad (ended bs)) ≡ at_line (lines_desk desk (ended (line ++ 10 ∷ bs))) (unended (line ++ 10 ∷ bs)) (bad || list_any is_bad (ended (line ++ 10 ∷ bs))) =
-        rw (ended_first line bs h, unended_first line bs h, one_bool bad (is_bad line) (list_any is_bad (ended bs))) refl in
+    rw (ended_first line bs h, unended_first line bs h, one_bool bad (is_bad line) (list_any is_bad (ended bs))) refl in
     record {
       state = ap (λ s. state_of s bs) next ∙ (k.state ∙ lines);
       text = ap (λ z. line_text desk (kept line) ++ text_of z bs) next ∙ (ap (λ m. meaning_text desk m ++ text_of (at_line (line_desk desk line) [] (bad || is_bad line)) bs) (kept_means line) ∙ (ap (λ z. line_text desk line ++ z) k.text ∙ sym (ap (lines_text desk) (ended_first line bs h))));

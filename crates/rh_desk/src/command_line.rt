@@ -72,7 +72,10 @@ fn run_matches<R: rt::Files, O: Sink, E: Sink>(
     match File::open(runtime, script) {
         Ok(file) => {
             let mut reader = Flagged::new(file);
-            ended(run(alloc, Files::new(alloc), &mut reader, output, pages), errors)
+            ended(
+                run(alloc, Files::new(alloc), &mut reader, output, pages),
+                errors,
+            )
         }
         Err(_) => {
             let _told = tell_file(script, errors);

@@ -101,7 +101,11 @@ impl Session {
             return Ok(());
         }
         self.has_bad_line = true;
-        let fault = if len > 1024 { LineFault::TooLong } else { LineFault::Unended };
+        let fault = if len > 1024 {
+            LineFault::TooLong
+        } else {
+            LineFault::Unended
+        };
         print_fault(&fault, writer)
     }
 
@@ -109,6 +113,10 @@ impl Session {
     pub fn status(&self) -> Status
         ensures { result ≡ status_of self.now.bad }
     {
-        if self.has_bad_line { Status::BadLines } else { Status::Clean }
+        if self.has_bad_line {
+            Status::BadLines
+        } else {
+            Status::Clean
+        }
     }
 }

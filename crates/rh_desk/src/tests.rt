@@ -1,5 +1,5 @@
 //! What no contract can say: that want of memory is answered only where memory was refused.
-//! `rt try --test --fail-alloc 1..` refuses each request of this crate's one test in turn; the test takes none itself.
+//! `rt try --test --fail-alloc N` refuses the Nth request of this crate's one test; the test takes none itself.
 
 ghost use Rattle.std.specs.Prelude.{◌≤◌};
 

@@ -13,7 +13,8 @@ use rh_tasks::World;
 
 /// Writes a line for each flex block of the task, from below.
 pub fn print_blocks<W: Sink>(world: &World, name: &Name, writer: &mut W) -> Result<(), WriteFailed>
-    ensures { Puts (W.output writer.old) (W.output writer.new) result (flat_map block_text (blocks_of_named name.now world.now)) }
+    ensures { Puts (W.output writer.old) (W.output writer.new) result
+        (flat_map block_text (blocks_of_named name.now world.now)) }
 {
     for i in 0..count_blocks(world, name) {
         if let Some(item) = block_at(world, name, i as usize) {
@@ -46,7 +47,8 @@ fn print_block<W: Sink>(item: &BlockItem, writer: &mut W) -> Result<(), WriteFai
 
 /// Writes a line for each area, and then for each slot in order of handle.
 pub fn print_areas<W: Sink>(world: &World, writer: &mut W) -> Result<(), WriteFailed>
-    ensures { Puts (W.output writer.old) (W.output writer.new) result (flat_map area_text (area_items world.now)) }
+    ensures { Puts (W.output writer.old) (W.output writer.new) result
+        (flat_map area_text (area_items world.now)) }
 {
     let mut i = 0;
     while let Some(item) = area_at(world, i) {

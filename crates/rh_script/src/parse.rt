@@ -1,6 +1,6 @@
 //! Lines of a script as commands.
 
-ghost use Rattle.std.specs.Prelude.{◌≡◌, ◌≤◌, length, IfOk, IfSome, IsTrue};
+ghost use Rattle.std.specs.Prelude.{◌≡◌, ◌≤◌, ◌==◌, if◌then◌else◌, length, Ok, Err, IfOk, IfSome, IsTrue};
 ghost use Rattle.rh_defs.specs.Range.{in_range};
 ghost use Rattle.rh_defs.specs.Line.{is_skipped, words_of, line_means, command_of, task_of, alloc_of, put_of, show_of, blocks_of};
 
@@ -50,48 +50,41 @@ fn command_of(line: &[u8]) -> Result<Command, LineFault>
     let first = word(line, 1);
     let count = count_words(line);
     if first == b"task".as_slice() {
-        return if count == 3 {
-            task_of(line)
-        } else {
-            Err(LineFault::Count)
-        };
+        counted(count, 3)?;
+        return task_of(line);
     }
     if first == b"alloc".as_slice() {
-        return if count == 4 {
-            alloc_of(line)
-        } else {
-            Err(LineFault::Count)
-        };
+        counted(count, 4)?;
+        return alloc_of(line);
     }
     if first == b"put".as_slice() {
-        return if count == 5 {
-            put_of(line)
-        } else {
-            Err(LineFault::Count)
-        };
+        counted(count, 5)?;
+        return put_of(line);
     }
     if first == b"show".as_slice() {
-        return if count == 3 {
-            show_of(line)
-        } else {
-            Err(LineFault::Count)
-        };
+        counted(count, 3)?;
+        return show_of(line);
     }
     if first == b"blocks".as_slice() {
-        return if count == 2 {
-            blocks_of(line)
-        } else {
-            Err(LineFault::Count)
-        };
+        counted(count, 2)?;
+        return blocks_of(line);
     }
     if first == b"areas".as_slice() {
-        return if count == 1 {
-            Ok(Command::Areas)
-        } else {
-            Err(LineFault::Count)
-        };
+        counted(count, 1)?;
+        return Ok(Command::Areas);
     }
     Err(LineFault::Unknown)
+}
+
+/// Count where the line hasn't just the words that the command wants.
+fn counted(count: usize, wanted: usize) -> Result<(), LineFault>
+    ensures { result ≡ (if count == wanted then Ok tt else Err LineFault.Count) }
+{
+    if count == wanted {
+        Ok(())
+    } else {
+        Err(LineFault::Count)
+    }
 }
 
 #[tactic(auto, unfolding(rh_defs::specs::Line::task_of, rh_defs::specs::Range::in_range))]

@@ -43,7 +43,8 @@ pub fn print_reply<W: Sink>(
     reply: &Reply,
     writer: &mut W,
 ) -> Result<(), WriteFailed>
-    ensures { Puts (W.output writer.old) (W.output writer.new) result (reply_text world.now command.now reply.now) }
+    ensures { Puts (W.output writer.old) (W.output writer.new) result
+        (reply_text world.now command.now reply.now) }
 {
     print_first_line(world, command, reply, writer)?;
     print_later_lines(world, command, reply, writer)
@@ -56,7 +57,8 @@ fn print_first_line<W: Sink>(
     reply: &Reply,
     writer: &mut W,
 ) -> Result<(), WriteFailed>
-    ensures { Puts (W.output writer.old) (W.output writer.new) result (first_line world.now command.now reply.now) }
+    ensures { Puts (W.output writer.old) (W.output writer.new) result
+        (first_line world.now command.now reply.now) }
 {
     match reply {
         Reply::Refused(refusal) => put_pieces(
@@ -83,7 +85,8 @@ fn print_first_line<W: Sink>(
 }
 
 fn print_number<W: Sink>(number: u32, writer: &mut W) -> Result<(), WriteFailed>
-    ensures { Puts (W.output writer.old) (W.output writer.new) result (joined (codes "ok " ∷ decimal number ∷ codes "\n" ∷ [])) }
+    ensures { Puts (W.output writer.old) (W.output writer.new) result
+        (joined (codes "ok " ∷ decimal number ∷ codes "\n" ∷ [])) }
 {
     let digits = Digits::decimal(number);
     put_pieces(
@@ -126,7 +129,8 @@ fn print_later_lines<W: Sink>(
     reply: &Reply,
     writer: &mut W,
 ) -> Result<(), WriteFailed>
-    ensures { Puts (W.output writer.old) (W.output writer.new) result (later_lines world.now command.now reply.now) }
+    ensures { Puts (W.output writer.old) (W.output writer.new) result
+        (later_lines world.now command.now reply.now) }
 {
     match (command, reply) {
         (Command::Blocks { name }, Reply::BlockCount(_)) => print_blocks(world, name, writer),

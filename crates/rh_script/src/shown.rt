@@ -25,14 +25,16 @@ pub fn print_shown<W: Sink>(
     size: u32,
     writer: &mut W,
 ) -> Result<(), WriteFailed>
-    ensures { Puts (W.output writer.old) (W.output writer.new) result (shown_line size (shown_bytes world.now command.now)) }
+    ensures { Puts (W.output writer.old) (W.output writer.new) result
+        (shown_line size (shown_bytes world.now command.now)) }
 {
     print_size(size, writer)?;
     print_rest_of_shown(world, command, writer)
 }
 
 fn print_size<W: Sink>(size: u32, writer: &mut W) -> Result<(), WriteFailed>
-    ensures { Puts (W.output writer.old) (W.output writer.new) result (joined (codes "ok " ∷ decimal size ∷ [])) }
+    ensures { Puts (W.output writer.old) (W.output writer.new) result
+        (joined (codes "ok " ∷ decimal size ∷ [])) }
 {
     let digits = Digits::decimal(size);
     put_pieces(writer, &[b"ok ".as_slice(), digits.as_slice()])
@@ -43,7 +45,8 @@ fn print_rest_of_shown<W: Sink>(
     command: &Command,
     writer: &mut W,
 ) -> Result<(), WriteFailed>
-    ensures { Puts (W.output writer.old) (W.output writer.new) result (spaced_hex (shown_bytes world.now command.now) ++ codes "\n") }
+    ensures { Puts (W.output writer.old) (W.output writer.new) result
+        (spaced_hex (shown_bytes world.now command.now) ++ codes "\n") }
 {
     print_shown_bytes(world, command, writer)?;
     put(writer, b"\n")
@@ -54,7 +57,8 @@ fn print_shown_bytes<W: Sink>(
     command: &Command,
     writer: &mut W,
 ) -> Result<(), WriteFailed>
-    ensures { Puts (W.output writer.old) (W.output writer.new) result (spaced_hex (shown_bytes world.now command.now)) }
+    ensures { Puts (W.output writer.old) (W.output writer.new) result
+        (spaced_hex (shown_bytes world.now command.now)) }
 {
     match command {
         Command::Show { name, anchor } => print_bytes(world, name, *anchor, writer),
@@ -68,7 +72,8 @@ fn print_bytes<W: Sink>(
     anchor: Anchor,
     writer: &mut W,
 ) -> Result<(), WriteFailed>
-    ensures { Puts (W.output writer.old) (W.output writer.new) result (spaced_hex (bytes_of_named name.now anchor world.now)) }
+    ensures { Puts (W.output writer.old) (W.output writer.new) result
+        (spaced_hex (bytes_of_named name.now anchor world.now)) }
 {
     let size = size_of_block(world, name, anchor);
     if size == 0 {
@@ -86,7 +91,8 @@ fn print_hex<W: Sink>(
     writer: &mut W,
 ) -> Result<(), WriteFailed>
     requires { size ≡ length (bytes_of_named name.now anchor world.now) }
-    ensures { Puts (W.output writer.old) (W.output writer.new) result (encode_lower (bytes_of_named name.now anchor world.now)) }
+    ensures { Puts (W.output writer.old) (W.output writer.new) result
+        (encode_lower (bytes_of_named name.now anchor world.now)) }
 {
     let mut offset = 0;
     while offset < size {

@@ -45,9 +45,11 @@ pub fn put<W: Sink>(writer: &mut W, bytes: &[u8]) -> Result<(), WriteFailed>
 /// So many bytes are gathered for one call of a writer.
 const GATHERED: usize = 128;
 
-/// Writes the pieces, one after another, and where they are short in one call.
+/// Writes the pieces, one after another, and where they are short in one call. Fails as `put`
+/// does, and a front of all their bytes is then written.
 pub fn put_pieces<W: Sink>(writer: &mut W, pieces: &[&[u8]]) -> Result<(), WriteFailed>
-    ensures { Puts (W.output writer.old) (W.output writer.new) result (flat_map (λ p. p.now) pieces.now) }
+    ensures { Puts (W.output writer.old) (W.output writer.new) result
+        (flat_map (λ p. p.now) pieces.now) }
 {
     match gathered(pieces) {
         Some(bytes) => put(writer, bytes.as_slice()),
@@ -68,7 +70,8 @@ fn gathered(pieces: &[&[u8]]) -> Option<ArrayVec<u8, GATHERED>>
 
 #[tactic(auto, using(crate::proofs::FlowLemmas::writing))]
 fn put_each<W: Sink>(writer: &mut W, pieces: &[&[u8]]) -> Result<(), WriteFailed>
-    ensures { Puts (W.output writer.old) (W.output writer.new) result (flat_map (λ p. p.now) pieces.now) }
+    ensures { Puts (W.output writer.old) (W.output writer.new) result
+        (flat_map (λ p. p.now) pieces.now) }
 {
     for piece in pieces {
         put(writer, piece)?;

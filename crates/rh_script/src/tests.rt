@@ -1,7 +1,10 @@
 use super::*;
 use arrayvec::ArrayVec;
-use rh_defs::{Anchor, Bytes, Command, LineFault, Name};
+use rh_defs::{Anchor, Bytes, Command, Files, LineFault, Name, Reply};
+use rh_tasks::World;
+use std::alloc::{AllocError, Global};
 use std::io;
+use std::process::Abort;
 use std::test::Fail;
 
 fn name(bytes: &[u8]) -> Result<Name, &'static str> {
@@ -46,115 +49,140 @@ fn parses_commands(rt: HostRuntime) -> Result<(), Fail> {
 
 #[test]
 fn skips_lines(rt: HostRuntime) {
-    let spaces = [b' '; 1024];
-    for line in [
-        b"".as_slice(),
-        b"   ",
-        b"# areas",
-        b"  #",
-        b"#\t\xff",
-        &spaces,
-    ] {
+    for line in b"\n   \n# areas\n  #\n#\t\xff".split(|b| *b == b'\n') {
         assert_eq!(rt; parse_line(line), Ok(None), "at {line:?}");
+    }
+    assert_eq!(rt; parse_line(&[b' '; 1024]), Ok(None));
+}
+
+/// Each of the lines has this fault.
+fn expect_fault(rt: &impl Abort, lines: &[u8], fault: LineFault) {
+    for line in lines.split(|b| *b == b'\n') {
+        assert_eq!(rt; parse_line(line), Err(fault), "at {line:?}");
     }
 }
 
 #[test]
 fn finds_the_first_fault(rt: HostRuntime) {
     let mut long = [b' '; 1025];
-    assert_eq!(rt; parse_line(&long), Err(LineFault::TooLong));
+    expect_fault(&rt, &long, LineFault::TooLong);
     long[0] = b'#';
-    assert_eq!(rt; parse_line(&long), Err(LineFault::TooLong));
-    for line in [
-        b"Task a 1".as_slice(),
-        b"task\ta 1",
-        b"areas\r",
-        b"\xc3\xa9",
-        b"free a 0",
-        b"areas# a",
-    ] {
-        assert_eq!(rt; parse_line(line), Err(LineFault::Unknown), "at {line:?}");
-    }
-    for line in [
-        b"task".as_slice(),
-        b"task 1",
-        b"task a 1 deaf",
-        b"alloc a 0",
-        b"put a 0 0",
-        b"show a",
-        b"blocks",
-        b"areas 1",
-    ] {
-        assert_eq!(rt; parse_line(line), Err(LineFault::Count), "at {line:?}");
-    }
-    for line in [
-        b"task 1 0".as_slice(),
-        b"task a1\xff 1",
-        b"blocks abcdefghijklm",
-        b"show a_ 99",
-        b"put # x x x",
-    ] {
-        assert_eq!(rt; parse_line(line), Err(LineFault::Word(2)), "at {line:?}");
-    }
-    for line in [
-        b"task a 0".as_slice(),
-        b"task a 65537",
-        b"task a 1\r",
-        b"task a 00000000001",
-        b"show a 64",
-        b"show a -0",
-        b"alloc a &1 x",
-    ] {
-        assert_eq!(rt; parse_line(line), Err(LineFault::Word(3)), "at {line:?}");
-    }
-    for line in [
-        b"alloc a 0 2147483648".as_slice(),
-        b"alloc a 0 9999999999",
-        b"alloc a 0 +1",
-        b"put a 0 x f",
-    ] {
-        assert_eq!(rt; parse_line(line), Err(LineFault::Word(4)), "at {line:?}");
-    }
-    for line in [
-        b"put a 0 0 f".as_slice(),
-        b"put a 0 0 0g",
-        b"put a 0 0 00\t",
-    ] {
-        assert_eq!(rt; parse_line(line), Err(LineFault::Word(5)), "at {line:?}");
-    }
+    expect_fault(&rt, &long, LineFault::TooLong);
+    let unknown = b"Task a 1\ntask\ta 1\nareas\r\n\xc3\xa9\nfree a 0\nareas# a";
+    expect_fault(&rt, unknown, LineFault::Unknown);
+    let miscounted = b"task\ntask 1\ntask a 1 deaf\nalloc a 0\nput a 0 0\nshow a\nblocks\nareas 1";
+    expect_fault(&rt, miscounted, LineFault::Count);
+    let second = b"task 1 0\ntask a1\xff 1\nblocks abcdefghijklm\nshow a_ 99\nput # x x x";
+    expect_fault(&rt, second, LineFault::Word(2));
+    let third =
+        b"task a 0\ntask a 65537\ntask a 1\r\ntask a 00000000001\nshow a 64\nshow a -0\nalloc a &1 x";
+    expect_fault(&rt, third, LineFault::Word(3));
+    let fourth = b"alloc a 0 2147483648\nalloc a 0 9999999999\nalloc a 0 +1\nput a 0 x f";
+    expect_fault(&rt, fourth, LineFault::Word(4));
+    expect_fault(
+        &rt,
+        b"put a 0 0 f\nput a 0 0 0g\nput a 0 0 00\t",
+        LineFault::Word(5),
+    );
 }
 
 #[test]
-fn prints_faults(rt: HostRuntime) -> Result<(), Fail> {
-    for (fault, wanted) in [
-        (LineFault::TooLong, b"bad TooLong\n".as_slice()),
-        (LineFault::Unended, b"bad Unended\n"),
-        (LineFault::Unknown, b"bad Unknown\n"),
-        (LineFault::Count, b"bad Count\n"),
-        (LineFault::Word(5), b"bad Word 5\n"),
-        (LineFault::Word(255), b"bad Word 255\n"),
+fn prints_faults(rt: HostRuntime) {
+    let mut writer = Flagged::new(Vec::<u8>::new(rt.alloc()));
+    for fault in [
+        LineFault::TooLong,
+        LineFault::Unended,
+        LineFault::Unknown,
+        LineFault::Count,
+        LineFault::Word(5),
+        LineFault::Word(255),
     ] {
-        let mut writer = Flagged::new(Vec::<u8>::new(rt.alloc()));
         assert_eq!(rt; print_fault(&fault, &mut writer), Ok(()));
-        let written = writer.into_inner();
-        assert_eq!(rt; written.as_slice(), wanted);
     }
+    let wanted = b"bad TooLong\nbad Unended\nbad Unknown\nbad Count\nbad Word 5\nbad Word 255\n";
+    let written = writer.into_inner();
+    assert_eq!(rt; written.as_slice(), wanted.as_slice());
+}
+
+/// What the commands of these lines answer on a fresh desk of 64 pages.
+fn replies(rt: &impl Abort, alloc: Global, lines: &[u8]) -> Result<Vec<u8>, AllocError> {
+    let mut world = World::new(alloc, 64, Files::new(alloc))?;
+    let mut writer = Flagged::new(Vec::<u8>::new(alloc));
+    for line in lines.split(|b| *b == b'\n') {
+        if let Ok(Some(command)) = parse_line(line) {
+            let reply = world.apply(&command);
+            assert_eq!(rt; print_reply(&world, &command, &reply, &mut writer), Ok(()));
+        }
+    }
+    Ok(writer.into_inner())
+}
+
+#[test]
+fn prints_replies(rt: HostRuntime) -> Result<(), Fail> {
+    let lines =
+        b"areas\ntask a 1\nalloc a 0 5\nput a 0 1 0aff\nshow a 0\nalloc a 1 0\nshow a 1\nblocks a\nshow b 0\nareas";
+    let written = replies(&rt, rt.alloc(), lines)?;
+    let areas =
+        b"  area 0 0\n  area 1 1\n  area 2 0\n  area 3 0\n  area 4 0\n  area 5 0\n".as_slice();
+    let mut wanted = Vec::new(rt.alloc());
+    wanted.extend_from_slice(b"ok 63\n")?;
+    wanted.extend_from_slice(areas)?;
+    wanted.extend_from_slice(b"ok 1\nok &9008\nok\nok 5 000aff0000\nok &9018\nok 0\n")?;
+    wanted.extend_from_slice(b"ok 2\n  0 &9008 5\n  1 &9018 0\nrefused NoName\nok 61\n")?;
+    wanted.extend_from_slice(areas)?;
+    wanted.extend_from_slice(b"  slot a 2\n")?;
+    assert_eq!(rt; written.as_slice(), wanted.as_slice());
+    Ok(())
+}
+
+#[test]
+fn prints_a_long_block(rt: HostRuntime) -> Result<(), Fail> {
+    let lines = b"task a 1\nalloc a 0 600\nput a 0 255 0102\nshow a 0";
+    let written = replies(&rt, rt.alloc(), lines)?;
+    let mut wanted = Vec::new(rt.alloc());
+    wanted.extend_from_slice(b"ok 1\nok &9008\nok\nok 600 ")?;
+    wanted.extend_from_slice(&[b'0'; 510])?;
+    wanted.extend_from_slice(b"0102")?;
+    wanted.extend_from_slice(&[b'0'; 686])?;
+    wanted.extend_from_slice(b"\n")?;
+    assert_eq!(rt; written.as_slice(), wanted.as_slice());
+    Ok(())
+}
+
+#[test]
+fn prints_a_reply_of_another_command(rt: HostRuntime) -> Result<(), Fail> {
+    let world = World::new(rt.alloc(), 8, Files::new(rt.alloc()))?;
+    let mut writer = Flagged::new(Vec::<u8>::new(rt.alloc()));
+    for reply in [Reply::Shown { size: 3 }, Reply::BlockCount(2)] {
+        assert_eq!(rt;
+            print_reply(&world, &Command::Areas, &reply, &mut writer),
+            Ok(())
+        );
+    }
+    let written = writer.into_inner();
+    assert_eq!(rt; written.as_slice(), b"ok 3\nok 2\n".as_slice());
     Ok(())
 }
 
 #[test]
 fn spells_numbers(rt: HostRuntime) {
-    for (number, decimal, address) in [
-        (0, b"0".as_slice(), b"&0".as_slice()),
-        (10, b"10", b"&A"),
-        (36872, b"36872", b"&9008"),
-        (4_294_967_295, b"4294967295", b"&FFFFFFFF"),
-    ] {
-        let digits = Digits::decimal(number);
-        assert_eq!(rt; digits.as_slice(), decimal);
-        let digits = Digits::address(number);
-        assert_eq!(rt; digits.as_slice(), address);
+    let mut writer = Flagged::new(Vec::<u8>::new(rt.alloc()));
+    for number in [0, 10, 36872, 4_294_967_295] {
+        let decimal = Digits::decimal(number);
+        let address = Digits::address(number);
+        let pieces = [
+            decimal.as_slice(),
+            b" ".as_slice(),
+            address.as_slice(),
+            b"\n".as_slice(),
+        ];
+        assert_eq!(rt; put_pieces(&mut writer, &pieces), Ok(()));
     }
+    let written = writer.into_inner();
+    assert_eq!(rt;
+        written.as_slice(),
+        b"0 &0\n10 &A\n36872 &9008\n4294967295 &FFFFFFFF\n".as_slice()
+    );
 }
 
 #[test]

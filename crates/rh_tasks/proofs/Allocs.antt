@@ -1,7 +1,7 @@
 -- A new block on a task's slot.
-use Rattle.std.proofs.Common.{◌≡◌, ◌≢◌, ℕ, ◌+◌, ◌-◌, ◌*◌, ◌/◌, ◌≤◌, ◌<◌, Bool, true, false, cond, refl, ap, sym, subst, ◌∙◌, arith, List, [], ◌∷◌, ◌++◌, length, length-append}
-use Rattle.std.proofs.lemmas.List.{length-replicate, length-set}
-use Rattle.std.specs.Prelude.{Option, Some, None, is_some, ◌==◌, Ok, Err, map}
+use Rattle.std.proofs.Common.{◌≡◌, ◌≢◌, ℕ, ◌+◌, ◌-◌, ◌≤◌, ◌<◌, true, false, refl, ap, sym, ◌∙◌, arith, List, [], ◌∷◌, ◌++◌, length, length-append}
+use Rattle.std.proofs.lemmas.List.{length-replicate}
+use Rattle.std.specs.Prelude.{Option, Some, None, is_some, Ok, Err}
 use Rattle.std.proofs.Math.ListN.{set}
 use Rattle.std.specs.List.{AllByRecursion}
 use Rattle.rh_defs.specs.declared.refusal.Refusal.TheVariants.{AnchorInUse, NoRoom}
@@ -10,10 +10,9 @@ use Rattle.rh_defs.specs.declared.command.Command.TheVariants as command
 use Rattle.rh_defs.specs.Pieces.{total, round_up, pages_for, zeros, written}
 use Rattle.rh_defs.specs.Range.{in_range}
 use Rattle.rh_defs.specs.Files.{FileList}
-use Rattle.rh_defs.specs.Slot.{Slot, Flex, weight, slot_pages, is_used, with_block}
-use Rattle.rh_defs.specs.Desk.{Desk, Task, named, with_task, with_slot, most_tasks}
-use Rattle.rh_defs.specs.Step.{Answer, alloc}
-use Rattle.rh_defs.specs.Laws.{IsDesk}
+use Rattle.rh_defs.specs.Slot.{Flex, weight, slot_pages, is_used, with_block}
+use Rattle.rh_defs.specs.Desk.{Desk, Task, named, with_task, with_slot}
+use Rattle.rh_defs.specs.Step.{alloc}
 use Rattle.rh_defs.proofs.Cuts.{total-append}
 use Rattle.rh_tasks.specs.declared.seat.Seat.{Seat}
 use Rattle.rh_tasks.specs.declared.record.Record.{Record}
@@ -22,10 +21,10 @@ use Rattle.rh_tasks.specs.View.{record_size, record_weight, blocks_in, count_in,
 use Rattle.rh_tasks.specs.Scans.{place_in}
 use Rattle.rh_tasks.proofs.Bytes.{length-written}
 use Rattle.rh_tasks.proofs.Blocks.{weight-blocks, block_at, no-block, stands}
-use Rattle.rh_tasks.proofs.Seats.{Sits, Found, sits, all-at, named-is}
+use Rattle.rh_tasks.proofs.Seats.{Found, sits, all-at, named-is}
 use Rattle.rh_tasks.proofs.Worlds.{fits, free-is, weights-in-pages, sizes-in-weights}
 use Rattle.rh_tasks.proofs.Edits.{if_same, if_apart, Rising, rising-of, below-next, weights-set, totals-set, total-set, tasks-edited}
-use Rattle.rh_tasks.proofs.Pushes.{weight-pushed, count-pushed, pushed_block, blocks-pushed}
+use Rattle.rh_tasks.proofs.Pushes.{weight-pushed, count-pushed, blocks-pushed}
 use Rattle.rh_tasks.proofs.Chains.{begins, ends, slot_alloc-used, slot_alloc-full, slot_alloc-done, granted-same, granted-keeps}
 use Rattle.rh_tasks.proofs.Counts.{count-world}
 
@@ -45,7 +44,7 @@ used-is h k place records bytes inside = go (place_in h k 0 records) refl
     go (Some p) e = rw (stands h k 0 place records bytes p inside e).found refl
 
 module _ {seats : List Seat} {records : List Record} {bytes : List ℕ} {used free pages : ℕ} {files : FileList} {next_handle next_ref : ℕ} {name : List ℕ} {at : ℕ} {s : Seat}
-  (w : IsWorld seats records bytes used free pages files next_handle next_ref) (f : Found name seats at s) (k n : ℕ) where
+    (w : IsWorld seats records bytes used free pages files next_handle next_ref) (f : Found name seats at s) (k n : ℕ) where
   abbrev desk : Desk
   desk = desk_of seats records bytes pages files next_handle next_ref
 
@@ -101,12 +100,12 @@ module _ {seats : List Seat} {records : List Record} {bytes : List ℕ} {used fr
   others : (j : ℕ) → j ≢ s.handle → blocks_in j (records ++ new_record ∷ []) (written bytes used (zeros n)) ≡ blocks_in j records bytes
   others j apart =
       rw (← w.used_is) (blocks-pushed j records new_record bytes (zeros n) (length-replicate n 0) (fits w)
-        ∙ ap (λ (more : List Flex). blocks_in j records bytes ++ more) (if_apart s.handle j _ _ (λ e. apart (sym e))) ∙ append-none (blocks_in j records bytes))
+      ∙ ap (λ (more : List Flex). blocks_in j records bytes ++ more) (if_apart s.handle j _ _ (λ e. apart (sym e))) ∙ append-none (blocks_in j records bytes))
 
   own : blocks_in s.handle (records ++ new_record ∷ []) (written bytes used (zeros n)) ≡ blocks_in s.handle records bytes ++ record { anchor = k; bytes = zeros n } ∷ []
   own =
       rw (← w.used_is) (blocks-pushed s.handle records new_record bytes (zeros n) (length-replicate n 0) (fits w)
-        ∙ ap (λ (more : List Flex). blocks_in s.handle records bytes ++ more) (if_same s.handle s.handle _ _ refl))
+      ∙ ap (λ (more : List Flex). blocks_in s.handle records bytes ++ more) (if_same s.handle s.handle _ _ refl))
 
   edited : task_of (records ++ new_record ∷ []) (written bytes used (zeros n)) new_seat ≡ record (task_of records bytes s) { slot = with_block k (zeros n) (task_of records bytes s).slot }
   unfolding task_of
@@ -116,7 +115,7 @@ module _ {seats : List Seat} {records : List Record} {bytes : List ℕ} {used fr
   unfolding with_task
   new-desk =
       ap (λ (tasks : List Task). let d : Desk = record desk { tasks = tasks } in d)
-        (tasks-edited records (records ++ new_record ∷ []) bytes (written bytes used (zeros n)) (λ t. record t { slot = with_block k (zeros n) (task_of records bytes s).slot }) s new_seat 0 seats at others edited rising (sits f))
+      (tasks-edited records (records ++ new_record ∷ []) bytes (written bytes used (zeros n)) (λ t. record t { slot = with_block k (zeros n) (task_of records bytes s).slot }) s new_seat 0 seats at others edited rising (sits f))
 
   module _ (lacks : is_some (place_in s.handle k 0 records) ≡ false) (room : growth ≤ free) where
     address : 36864 + total weight (task_of records bytes s).slot.blocks + 8 ≡ 36864 + s.weight + 8
@@ -127,7 +126,7 @@ module _ {seats : List Seat} {records : List Record} {bytes : List ℕ} {used fr
     unfolding alloc task_of
     alloc-done =
         begins _ named-here (begins _ (slot_alloc-done _ k (zeros n) _ (used-here ∙ lacks) (omega (arith, free-is w, pages-old, pages-new)))
-          (granted-same (sym new-desk) (ap reply.Block address)))
+        (granted-same (sym new-desk) (ap reply.Block address)))
 
     -- the bytes have room for it
     pub alloc-fits : used + n ≤ length bytes
@@ -150,7 +149,7 @@ module _ {seats : List Seat} {records : List Record} {bytes : List ℕ} {used fr
         omega (arith, w.counted, counts, length-append records (new_record ∷ []), count-pushed s.handle records new_record, if_same {A = ℕ} s.handle s.handle 1 0 refl)
 
     pub alloc-world : in_range (command.Alloc name k n) ≡ true
-      → IsWorld (set seats at new_seat) (records ++ new_record ∷ []) (written bytes used (zeros n)) (used + n) (free - growth) pages files next_handle next_ref
+        → IsWorld (set seats at new_seat) (records ++ new_record ∷ []) (written bytes used (zeros n)) (used + n) (free - growth) pages files next_handle next_ref
     alloc-world ranged = record {
       desk = granted-keeps desk new_desk (command.Alloc name k n) _ alloc-done ranged w.desk;
       small = w.small;

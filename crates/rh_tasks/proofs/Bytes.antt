@@ -1,5 +1,5 @@
 -- Bytes that are written over others.
-use Rattle.std.proofs.Common.{◌≡◌, ℕ, ◌+◌, ◌-◌, ◌≤◌, refl, ap, sym, ◌∙◌, arith, add_assoc, append_assoc, List, [], ◌∷◌, ◌++◌, length, take, drop, length-append, length-drop}
+use Rattle.std.proofs.Common.{◌≡◌, ℕ, ◌+◌, ◌≤◌, refl, ap, sym, ◌∙◌, arith, add_assoc, append_assoc, List, ◌++◌, length, take, drop, length-append, length-drop}
 use Rattle.std.proofs.lemmas.List.{length-take, length-take-le, take-append-drop, take-take, take_at, take-append-le, drop-drop, drop_at, drop-append-le, drop-take}
 use Rattle.rh_defs.specs.Pieces.{written}
 

@@ -1,6 +1,6 @@
 -- Steps of a command that are granted or refused.
-use Rattle.std.proofs.Common.{◌≡◌, ℕ, Bool, true, false, refl, ap, sym, subst, ◌∙◌, arith, ◌+◌, ◌-◌, ◌<◌, ◌≤◌, List, length}
-use Rattle.std.specs.Prelude.{Option, Some, None, is_some, nat_lt, nat_le, Ok, Err, Result}
+use Rattle.std.proofs.Common.{◌≡◌, ℕ, Bool, true, false, refl, ap, subst, arith, ◌+◌, ◌-◌, ◌<◌, ◌≤◌, List, length}
+use Rattle.std.specs.Prelude.{Some, None, nat_lt, nat_le, Ok, Err}
 use Rattle.std.proofs.lemmas.Bool.Decides.{nat_tests}
 use Rattle.rh_defs.specs.declared.refusal.Refusal.{Refusal}
 use Rattle.rh_defs.specs.declared.refusal.Refusal.TheVariants.{AnchorInUse, NoBlock, BadRange, NoRoom}
@@ -12,7 +12,7 @@ use Rattle.rh_defs.specs.Pieces.{Split, written}
 use Rattle.rh_defs.specs.Range.{in_range}
 use Rattle.rh_defs.specs.Slot.{Slot, Flex, slot_pages, block_of, is_used, with_block, with_bytes, flex_address, roomed, slot_alloc, slot_block, slot_put}
 use Rattle.rh_defs.specs.Desk.{Desk}
-use Rattle.rh_defs.specs.Step.{Answer, change, step}
+use Rattle.rh_defs.specs.Step.{Answer, change}
 use Rattle.rh_defs.specs.Laws.{IsDesk}
 use Rattle.rh_defs.proofs.Steps.{step-keeps}
 
@@ -58,7 +58,7 @@ unfolding slot_alloc roomed
 slot_alloc-full free k bytes s unused full = past _ _ _ unused (stops _ _ _ (lt-true _ _ full))
 
 pub slot_alloc-done : (free k : ℕ) (bytes : List ℕ) (s : Slot) → is_used k s ≡ false → slot_pages (with_block k bytes s) - slot_pages s ≤ free
-  → slot_alloc free k bytes s ≡ Ok (with_block k bytes s, flex_address s s.blocks)
+    → slot_alloc free k bytes s ≡ Ok (with_block k bytes s, flex_address s s.blocks)
 unfolding slot_alloc roomed
 slot_alloc-done free k bytes s unused room = past _ _ _ unused (past _ _ _ (lt-false _ _ room) refl)
 
@@ -79,7 +79,7 @@ unfolding slot_put
 slot_put-outside k offset bytes s b some outside = begins _ (block-some k s b some) (stops _ _ _ (lt-true _ _ outside))
 
 pub slot_put-done : (k offset : ℕ) (bytes : List ℕ) (s : Slot) (b : Split Flex) → block_of k s ≡ Some b → offset + length bytes ≤ length b.here.bytes
-  → slot_put k offset bytes s ≡ Ok (with_bytes b (written b.here.bytes offset bytes) s)
+    → slot_put k offset bytes s ≡ Ok (with_bytes b (written b.here.bytes offset bytes) s)
 unfolding slot_put
 slot_put-done k offset bytes s b some inside = begins _ (block-some k s b some) (past _ _ _ (lt-false _ _ inside) refl)
 

@@ -1,5 +1,5 @@
 -- At most 32 tasks with at most 64 blocks each.
-use Rattle.std.proofs.Common.{◌≡◌, ◌≢◌, ℕ, ◌+◌, ◌-◌, ◌*◌, ◌≤◌, ◌<◌, Bool, true, false, cond, ◌||◌, refl, ap, sym, ◌∙◌, arith, List, [], ◌∷◌, length, eqb}
+use Rattle.std.proofs.Common.{◌≡◌, ◌≢◌, ℕ, ◌*◌, ◌≤◌, ◌<◌, true, false, ◌||◌, refl, arith, List, [], ◌∷◌, length, eqb}
 use Rattle.std.proofs.lemmas.List.{length-map}
 use Rattle.std.specs.Prelude.{map}
 use Rattle.std.specs.List.{AllByRecursion, IsDistinct, list_any}
@@ -43,12 +43,12 @@ few-blocks : (blocks : List Flex) → HaveAnchors blocks → length blocks ≤ 6
 few-blocks blocks h = omega (arith, length-le_from_distinct_below (anchors blocks) 64 (distinct blocks h) (below blocks h), length-map blocks (λ (b : Flex). b.anchor))
 
 pub few-records : (records : List Record) (bytes : List ℕ) (seats : List Seat) → AllByRecursion (λ (t : Task). HaveAnchors t.slot.blocks) (map (task_of records bytes) seats)
-  → total (λ (s : Seat). count_in s.handle records) seats ≤ 64 * length seats
+    → total (λ (s : Seat). count_in s.handle records) seats ≤ 64 * length seats
 unfolding task_of
 few-records records bytes [] all = omega arith
 few-records records bytes (s ∷ seats) all =
     omega (arith, few-blocks (blocks_in s.handle records bytes) all.0, length-blocks s.handle records bytes, few-records records bytes seats all.1)
 
 pub count-world : {seats : List Seat} {records : List Record} {bytes : List ℕ} {used free pages : ℕ} {files : FileList} {next_handle next_ref : ℕ}
-  → IsWorld seats records bytes used free pages files next_handle next_ref → length records ≤ 2048
+    → IsWorld seats records bytes used free pages files next_handle next_ref → length records ≤ 2048
 count-world {seats} {records} {bytes} w = omega (arith, w.counted, w.desk.few, few-records records bytes seats w.desk.anchors, length-map seats (task_of records bytes))

@@ -1,8 +1,8 @@
 -- The tasks with one of them changed, and what the records say of the others as before.
-use Rattle.std.proofs.Common.{◌≡◌, ◌≢◌, ℕ, zero, suc, ◌+◌, ◌-◌, ◌≤◌, ◌<◌, Bool, true, false, cond, refl, ap, sym, ◌∙◌, arith, List, [], ◌∷◌, ◌++◌, length}
+use Rattle.std.proofs.Common.{◌≡◌, ◌≢◌, ℕ, zero, suc, ◌+◌, ◌≤◌, ◌<◌, refl, ap, sym, ◌∙◌, arith, List, [], ◌∷◌}
 use Rattle.std.proofs.lemmas.Bool.Decides.{nat_tests}
 use Rattle.std.specs.Prelude.{map, ◌==◌, if◌then◌else◌}
-use Rattle.std.proofs.Math.ListN.{get_or, set}
+use Rattle.std.proofs.Math.ListN.{set}
 use Rattle.std.specs.List.{AllByRecursion}
 use Rattle.rh_defs.specs.Pieces.{total}
 use Rattle.rh_defs.specs.Slot.{Flex}
@@ -88,7 +88,7 @@ module _ (f g : ℕ → ℕ) (s t : Seat) (others : (j : ℕ) → j ≢ s.handle
       (all.0 ∙ sym (others x.handle (front-apart x s seats i rising.1 (rest {x = x} at))), weights-set (x.handle + 1) seats i rising.1 (rest {x = x} at) has all.1)
 
   pub totals-set : (least : ℕ) (seats : List Seat) (i : ℕ) → Rising least seats → Sits seats i s
-    → total (by_handle g) (set seats i t) + f s.handle ≡ total (by_handle f) seats + g s.handle
+      → total (by_handle g) (set seats i t) + f s.handle ≡ total (by_handle f) seats + g s.handle
   totals-set least [] i rising at = absurd (omega (arith, at.inside))
   totals-set least (x ∷ seats) zero rising at =
       omega (arith, totals-stay f g s.handle others seats (behind-above x s seats at.is rising.1), ap (λ (y : Seat). f y.handle) at.is, ap g same)
@@ -114,8 +114,8 @@ module _ (records records' : List Record) (bytes bytes' : List ℕ) (h : ℕ) (o
 
 -- one task and its blocks change: the desk's task changes, and no other
 pub tasks-edited : (records records' : List Record) (bytes bytes' : List ℕ) (edit : Task → Task) (s t : Seat) (least : ℕ) (seats : List Seat) (i : ℕ)
-  → ((j : ℕ) → j ≢ s.handle → blocks_in j records' bytes' ≡ blocks_in j records bytes) → task_of records' bytes' t ≡ edit (task_of records bytes s)
-  → Rising least seats → Sits seats i s → map (task_of records' bytes') (set seats i t) ≡ edit_task s.handle edit (map (task_of records bytes) seats)
+    → ((j : ℕ) → j ≢ s.handle → blocks_in j records' bytes' ≡ blocks_in j records bytes) → task_of records' bytes' t ≡ edit (task_of records bytes s)
+    → Rising least seats → Sits seats i s → map (task_of records' bytes') (set seats i t) ≡ edit_task s.handle edit (map (task_of records bytes) seats)
 unfolding task_of
 tasks-edited records records' bytes bytes' edit s t least [] i others same rising at = absurd (omega (arith, at.inside))
 tasks-edited records records' bytes bytes' edit s t least (x ∷ seats) zero others same rising at =
@@ -123,5 +123,5 @@ tasks-edited records records' bytes bytes' edit s t least (x ∷ seats) zero oth
     ∙ sym (if_same x.handle s.handle _ _ (ap (λ (y : Seat). y.handle) at.is))
 tasks-edited records records' bytes bytes' edit s t least (x ∷ seats) (suc i) others same rising at =
     cons (task-stays records records' bytes bytes' s.handle others x (front-apart x s seats i rising.1 (rest {x = x} at)))
-      (tasks-edited records records' bytes bytes' edit s t (x.handle + 1) seats i others same rising.1 (rest {x = x} at))
+    (tasks-edited records records' bytes bytes' edit s t (x.handle + 1) seats i others same rising.1 (rest {x = x} at))
     ∙ sym (if_apart x.handle s.handle _ _ (front-apart x s seats i rising.1 (rest {x = x} at)))

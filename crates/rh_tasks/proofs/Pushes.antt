@@ -1,5 +1,5 @@
 -- One more record, and its bytes behind all others.
-use Rattle.std.proofs.Common.{◌≡◌, ◌≢◌, ℕ, ◌+◌, ◌-◌, ◌≤◌, ◌<◌, Bool, true, false, cond, refl, ap, sym, ◌∙◌, arith, List, [], ◌∷◌, ◌++◌, length, take, drop, length-drop}
+use Rattle.std.proofs.Common.{◌≡◌, ℕ, ◌+◌, ◌≤◌, ◌<◌, true, false, cond, refl, arith, List, [], ◌∷◌, ◌++◌, length, drop, length-drop}
 use Rattle.std.specs.Prelude.{◌==◌, if◌then◌else◌}
 use Rattle.std.specs.List.{AllByRecursion}
 use Rattle.std.proofs.lemmas.Bool.Decides.{nat_tests}
@@ -28,16 +28,16 @@ abbrev pub pushed_block : ℕ → Record → List ℕ → List Flex
 pushed_block h r new = if r.task == h then record { anchor = r.anchor; bytes = new } ∷ [] else []
 
 pub blocks-pushed : (h : ℕ) (records : List Record) (r : Record) (bytes new : List ℕ) → length new ≡ r.size → total record_size records ≤ length bytes
-  → blocks_in h (records ++ r ∷ []) (written bytes (total record_size records) new) ≡ blocks_in h records bytes ++ pushed_block h r new
+    → blocks_in h (records ++ r ∷ []) (written bytes (total record_size records) new) ≡ blocks_in h records bytes ++ pushed_block h r new
 blocks-pushed h [] r bytes new size fits = rw (← size, take-new bytes new) refl
 blocks-pushed h (x ∷ records) r bytes new size fits =
     let front = take-written x.size (x.size + total record_size records) bytes new (omega arith) (omega arith) in
     let back = drop-written x.size (total record_size records) bytes new (omega arith) in
     let more = blocks-pushed h records r (drop x.size bytes) new size (omega (arith, length-drop x.size bytes)) in
     rw (front, back, more)
-      (elim (x.task == h) as (λ b. cond b (first_block x bytes ∷ (blocks_in h records (drop x.size bytes) ++ pushed_block h r new)) (blocks_in h records (drop x.size bytes) ++ pushed_block h r new)
-          ≡ cond b (first_block x bytes ∷ blocks_in h records (drop x.size bytes)) (blocks_in h records (drop x.size bytes)) ++ pushed_block h r new)
-      [ true ↦ refl | false ↦ refl ])
+    (elim (x.task == h) as (λ b. cond b (first_block x bytes ∷ (blocks_in h records (drop x.size bytes) ++ pushed_block h r new)) (blocks_in h records (drop x.size bytes) ++ pushed_block h r new)
+    ≡ cond b (first_block x bytes ∷ blocks_in h records (drop x.size bytes)) (blocks_in h records (drop x.size bytes)) ++ pushed_block h r new)
+    [ true ↦ refl | false ↦ refl ])
 
 -- ---- a task that has no record yet
 

@@ -1,19 +1,18 @@
 -- Bytes written into a task's block, and the questions about its blocks.
-use Rattle.std.proofs.Common.{◌≡◌, ◌≢◌, ℕ, ◌+◌, ◌-◌, ◌*◌, ◌≤◌, ◌<◌, Bool, true, false, cond, refl, ap, sym, subst, ◌∙◌, arith, List, [], ◌∷◌, ◌++◌, length, take, drop, length-drop}
+use Rattle.std.proofs.Common.{◌≡◌, ◌≢◌, ℕ, ◌+◌, ◌≤◌, ◌<◌, true, refl, ap, sym, subst, ◌∙◌, arith, List, length, drop, length-drop}
 use Rattle.std.proofs.lemmas.List.{length-take-le, set-get_or}
-use Rattle.std.specs.Prelude.{Option, Some, None, Ok, Err, map}
-use Rattle.std.proofs.Math.ListN.{get_or, set}
-use Rattle.std.specs.List.{AllByRecursion, position}
+use Rattle.std.specs.Prelude.{Some, None, Ok, Err, map}
+use Rattle.std.proofs.Math.ListN.{set}
+use Rattle.std.specs.List.{position}
 use Rattle.rh_defs.specs.declared.refusal.Refusal.TheVariants.{NoName, NoBlock, BadRange}
 use Rattle.rh_defs.specs.declared.reply.Reply.TheVariants as reply
 use Rattle.rh_defs.specs.declared.command.Command.TheVariants as command
-use Rattle.rh_defs.specs.Pieces.{total, written}
+use Rattle.rh_defs.specs.Pieces.{written}
 use Rattle.rh_defs.specs.Range.{in_range}
 use Rattle.rh_defs.specs.Files.{FileList}
 use Rattle.rh_defs.specs.Slot.{Slot, Flex, block_of, with_bytes}
 use Rattle.rh_defs.specs.Desk.{Desk, Task, named, with_task, with_slot}
 use Rattle.rh_defs.specs.Step.{alloc, put, show, blocks}
-use Rattle.rh_defs.specs.Laws.{IsDesk}
 use Rattle.rh_tasks.specs.declared.seat.Seat.{Seat}
 use Rattle.rh_tasks.specs.declared.record.Record.{Record}
 use Rattle.rh_tasks.specs.declared.record.Place.{Place}
@@ -23,7 +22,7 @@ use Rattle.rh_tasks.proofs.Bytes.{length-written}
 use Rattle.rh_tasks.proofs.Blocks.{length-blocks, no-block, Stands, stands}
 use Rattle.rh_tasks.proofs.Seats.{Sits, Found, sits, named-is, nobody}
 use Rattle.rh_tasks.proofs.Worlds.{fits}
-use Rattle.rh_tasks.proofs.Edits.{Rising, rising-of, tasks-edited}
+use Rattle.rh_tasks.proofs.Edits.{rising-of, tasks-edited}
 use Rattle.rh_tasks.proofs.Chains.{begins, ends, block-none, block-some, slot_put-none, slot_put-outside, slot_put-done, granted-same, granted-keeps}
 
 set-same : (seats : List Seat) (i : ℕ) (s : Seat) → Sits seats i s → set seats i s ≡ seats
@@ -57,7 +56,7 @@ module _ (seats : List Seat) (records : List Record) (bytes : List ℕ) (pages :
 -- ---- a task has it
 
 module _ {seats : List Seat} {records : List Record} {bytes : List ℕ} {used free pages : ℕ} {files : FileList} {next_handle next_ref : ℕ} {name : List ℕ} {at : ℕ} {s : Seat}
-  (w : IsWorld seats records bytes used free pages files next_handle next_ref) (f : Found name seats at s) where
+    (w : IsWorld seats records bytes used free pages files next_handle next_ref) (f : Found name seats at s) where
   abbrev desk : Desk
   desk = desk_of seats records bytes pages files next_handle next_ref
 
@@ -123,7 +122,7 @@ module _ {seats : List Seat} {records : List Record} {bytes : List ℕ} {used fr
         unfolding task_of
         edited =
             ap (λ (more : List Flex). let t : Task = record { handle = s.handle; name = s.name; buffer = s.buffer; slot = record { heap_length = 3840; blocks = more } } in t)
-              (ap (λ m. blocks_in s.handle records (written bytes m new)) (sym start-is) ∙ the_block.put offset new within)
+            (ap (λ m. blocks_in s.handle records (written bytes m new)) (sym start-is) ∙ the_block.put offset new within)
 
         tasks-are : map (task_of records new_bytes) seats ≡ map (task_of records new_bytes) (set seats at s)
         tasks-are = ap (map (task_of records new_bytes)) (sym (set-same seats at s (sits f)))
@@ -132,7 +131,7 @@ module _ {seats : List Seat} {records : List Record} {bytes : List ℕ} {used fr
         unfolding with_task
         new-desk =
             ap (λ (tasks : List Task). let d : Desk = record desk { tasks = tasks } in d)
-              (sym (tasks-are ∙ tasks-edited records records bytes new_bytes (λ t. record t { slot = changed }) s s 0 seats at others edited (rising-of records bytes 0 next_handle seats w.desk.handles) (sits f)))
+            (sym (tasks-are ∙ tasks-edited records records bytes new_bytes (λ t. record t { slot = changed }) s s 0 seats at others edited (rising-of records bytes 0 next_handle seats w.desk.handles) (sits f)))
 
         pub put-done : put desk name k offset new ≡ Ok (new_desk, reply.Done)
         unfolding put task_of

@@ -1,18 +1,16 @@
 -- What is asked of a world's desk, by its arrays.
-use Rattle.std.proofs.Common.{◌≡◌, ◌≢◌, ℕ, zero, suc, ◌+◌, ◌-◌, ◌≤◌, ◌<◌, Bool, true, false, refl, ap, sym, ◌∙◌, arith, List, [], ◌∷◌, ◌++◌, length, take, drop}
+use Rattle.std.proofs.Common.{◌≡◌, ℕ, ◌+◌, ◌-◌, ◌≤◌, ◌<◌, true, false, refl, ap, ◌∙◌, arith, List, [], ◌∷◌, ◌++◌, length, take, drop}
 use Rattle.std.proofs.lemmas.List.{length-map, length-take-le, take-take, drop-drop, drop-take, length-drop}
-use Rattle.std.specs.Prelude.{Option, Some, None, nat_lt, Ok, Err, map, slice_get}
+use Rattle.std.specs.Prelude.{Some, None, nat_lt, Ok, Err, map, slice_get}
 use Rattle.std.specs.List.{AllByRecursion, position}
-use borrow.Author.Tests.{ltb-true, ltb-false}
 use Rattle.std.proofs.lemmas.Bool.Decides.{nat_tests}
-use Rattle.rh_defs.specs.declared.listing.AreaItem.{AreaItem}
 use Rattle.rh_defs.specs.declared.listing.AreaItem.TheVariants as item
 use Rattle.rh_defs.specs.declared.refusal.Refusal.TheVariants.{NoName, NoBlock, BadRange}
 use Rattle.rh_defs.specs.Chain.{◌>>=◌, ◌>>◌, refuse_if, found_or}
-use Rattle.rh_defs.specs.Pieces.{total, Split}
+use Rattle.rh_defs.specs.Pieces.{total}
 use Rattle.rh_defs.specs.Files.{FileList}
-use Rattle.rh_defs.specs.Slot.{block_of, slot_block}
-use Rattle.rh_defs.specs.Desk.{Desk, Task, task_pages, named}
+use Rattle.rh_defs.specs.Slot.{slot_block}
+use Rattle.rh_defs.specs.Desk.{Desk, task_pages}
 use Rattle.rh_defs.specs.Listing.{area_items, areas_at, blocks_at, shown_at}
 use Rattle.rh_tasks.specs.declared.seat.Seat.{Seat}
 use Rattle.rh_tasks.specs.declared.record.Record.{Record}
@@ -27,12 +25,12 @@ cons : {A : Type 0} {x y : A} {xs ys : List A} → x ≡ y → xs ≡ ys → x �
 cons p q = cc
 
 slot-item : (records : List Record) (bytes : List ℕ) (s : Seat) → total record_size records ≤ length bytes → s.weight ≡ weight_in s.handle records
-  → item.Slot (task_of records bytes s).name (task_pages (task_of records bytes s)) ≡ slot_item s
+    → item.Slot (task_of records bytes s).name (task_pages (task_of records bytes s)) ≡ slot_item s
 unfolding task_of
 slot-item records bytes s inside is = ap (item.Slot s.name) (pages-task records bytes s inside is)
 
 slot-items : (records : List Record) (bytes : List ℕ) (seats : List Seat) → total record_size records ≤ length bytes → AllByRecursion (λ (s : Seat). s.weight ≡ weight_in s.handle records) seats
-  → map (λ t. item.Slot t.name (task_pages t)) (map (task_of records bytes) seats) ≡ map slot_item seats
+    → map (λ t. item.Slot t.name (task_pages t)) (map (task_of records bytes) seats) ≡ map slot_item seats
 slot-items records bytes [] inside all = refl
 slot-items records bytes (s ∷ seats) inside all = cons (slot-item records bytes s inside all.0) (slot-items records bytes seats inside all.1)
 
@@ -43,7 +41,7 @@ take-inside n offset size xs h =
     ap (λ m. take n (drop offset (take m xs))) e ∙ ap (take n) (drop-take offset (size - offset) xs) ∙ take-take n (size - offset) (drop offset xs) (omega arith)
 
 module _ {seats : List Seat} {records : List Record} {bytes : List ℕ} {used free pages : ℕ} {files : FileList} {next_handle next_ref : ℕ}
-  (w : IsWorld seats records bytes used free pages files next_handle next_ref) where
+    (w : IsWorld seats records bytes used free pages files next_handle next_ref) where
   abbrev desk : Desk
   desk = desk_of seats records bytes pages files next_handle next_ref
 

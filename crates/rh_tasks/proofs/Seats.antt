@@ -1,8 +1,7 @@
 -- The tasks of a world: by name, by handle, and with one of them changed.
-use Rattle.std.proofs.Common.{◌≡◌, ◌≢◌, ℕ, zero, suc, ◌+◌, ◌-◌, ◌≤◌, ◌<◌, Bool, true, false, cond, refl, ap, sym, subst, ◌∙◌, arith, List, [], ◌∷◌, ◌++◌, length}
-use Rattle.std.proofs.lemmas.Bool.Decides.{nat_tests}
-use Rattle.std.specs.Prelude.{Option, Some, None, nat_lt, ◌==◌, if◌then◌else◌, find, map, Ok, Err}
-use Rattle.std.proofs.Math.ListN.{get_or, set}
+use Rattle.std.proofs.Common.{◌≡◌, ℕ, zero, suc, ◌<◌, Bool, true, false, cond, refl, sym, subst, ◌∙◌, arith, List, [], ◌∷◌, length}
+use Rattle.std.specs.Prelude.{Some, None, nat_lt, find, map, Ok, Err}
+use Rattle.std.proofs.Math.ListN.{get_or}
 use Rattle.std.specs.List.{AllByRecursion, position, position_or_len}
 use Rattle.std.specs.Str.{bytes_eq}
 use Rattle.std.proofs.lemmas.List.Quantifiers.{position-Some}
@@ -11,9 +10,8 @@ use Rattle.std.proofs.lemmas.Option.{slice_get_past}
 use borrow.Author.Tests.{ltb-false}
 use Rattle.rh_defs.specs.declared.refusal.Refusal.TheVariants.{NoName}
 use Rattle.rh_defs.specs.Chain.{found_or}
-use Rattle.rh_defs.specs.Pieces.{total}
 use Rattle.rh_defs.specs.Files.{FileList}
-use Rattle.rh_defs.specs.Desk.{Desk, Task, has_name, named}
+use Rattle.rh_defs.specs.Desk.{Task, has_name, named}
 use Rattle.rh_tasks.specs.declared.seat.Seat.{Seat}
 use Rattle.rh_tasks.specs.declared.record.Record.{Record}
 use Rattle.rh_tasks.specs.View.{is_named, task_of, desk_of}
@@ -31,8 +29,8 @@ all-at P (x ∷ seats) (suc i) s all at = all-at P seats i s all.1 (record { ins
 -- ---- by name
 
 find-first : (records : List Record) (bytes : List ℕ) (test : Task → Bool) (seats : List Seat) (i : ℕ) (s : Seat)
-  → i < length seats → get_or seats i s ≡ s → test (task_of records bytes s) ≡ true → ((j : ℕ) → j < i → test (task_of records bytes (get_or seats j s)) ≡ false)
-  → find test (map (task_of records bytes) seats) ≡ Some (task_of records bytes s)
+    → i < length seats → get_or seats i s ≡ s → test (task_of records bytes s) ≡ true → ((j : ℕ) → j < i → test (task_of records bytes (get_or seats j s)) ≡ false)
+    → find test (map (task_of records bytes) seats) ≡ Some (task_of records bytes s)
 find-first records bytes test [] i s inside is passes before = absurd (omega arith)
 find-first records bytes test (x ∷ seats) zero s inside is passes before =
     let P : Seat → Type 0 = λ y. cond (test (task_of records bytes y)) (Some (task_of records bytes y)) (find test (map (task_of records bytes) seats)) ≡ Some (task_of records bytes s) in
@@ -63,7 +61,7 @@ pub sits : {name : List ℕ} {seats : List Seat} {i : ℕ} {s : Seat} → Found 
 sits {name} {seats} {i} {s} f = record { inside = (position-Some (is_named name) seats i s f.at).0; is = f.is }
 
 pub find-named : {name : List ℕ} {seats : List Seat} {i : ℕ} {s : Seat} (records : List Record) (bytes : List ℕ) → Found name seats i s
-  → find (has_name name) (map (task_of records bytes) seats) ≡ Some (task_of records bytes s)
+    → find (has_name name) (map (task_of records bytes) seats) ≡ Some (task_of records bytes s)
 unfolding task_of
 find-named {name} {seats} {i} {s} records bytes f =
     let first = position-Some (is_named name) seats i s f.at in

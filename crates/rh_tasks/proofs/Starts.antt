@@ -1,19 +1,17 @@
 -- A new task.
-use Rattle.std.proofs.Common.{◌≡◌, ◌≢◌, ℕ, ◌+◌, ◌-◌, ◌*◌, ◌/◌, ◌^◌, ◌≤◌, ◌<◌, Bool, true, false, cond, ◌||◌, refl, ap, sym, subst, ◌∙◌, arith, List, [], ◌∷◌, ◌++◌, length, length-append}
+use Rattle.std.proofs.Common.{◌≡◌, ℕ, ◌+◌, ◌-◌, ◌^◌, ◌≤◌, ◌<◌, true, false, ◌||◌, refl, ap, sym, ◌∙◌, arith, List, [], ◌∷◌, ◌++◌, length}
 use Rattle.std.proofs.lemmas.List.{length-map, map-append}
-use Rattle.std.specs.Prelude.{nat_le, nat_lt, Ok, Err, map}
+use Rattle.std.specs.Prelude.{nat_le, Ok, Err, map}
 use Rattle.std.specs.List.{AllByRecursion, list_any}
 use Rattle.std.specs.Str.{bytes_eq}
 use Rattle.rh_defs.specs.declared.refusal.Refusal.TheVariants.{NameInUse, TooManyTasks, NoHandles, NoRoom}
 use Rattle.rh_defs.specs.declared.reply.Reply.TheVariants as reply
 use Rattle.rh_defs.specs.declared.command.Command.TheVariants as command
-use Rattle.rh_defs.specs.Pieces.{total}
 use Rattle.rh_defs.specs.Range.{in_range}
 use Rattle.rh_defs.specs.Files.{FileList}
 use Rattle.rh_defs.specs.Slot.{Flex, new_slot, slot_begin}
 use Rattle.rh_defs.specs.Desk.{Desk, Task, has_name}
 use Rattle.rh_defs.specs.Step.{start_task, with_new_task}
-use Rattle.rh_defs.specs.Laws.{IsDesk}
 use Rattle.rh_defs.proofs.Cuts.{total-append}
 use Rattle.rh_tasks.specs.declared.seat.Seat.{Seat}
 use Rattle.rh_tasks.specs.declared.record.Record.{Record}
@@ -36,7 +34,7 @@ all-joined P [] s all p = (p, tt)
 all-joined P (x ∷ seats) s all p = (all.0, all-joined P seats s all.1 p)
 
 module _ {seats : List Seat} {records : List Record} {bytes : List ℕ} {used free pages : ℕ} {files : FileList} {next_handle next_ref : ℕ}
-  (w : IsWorld seats records bytes used free pages files next_handle next_ref) (name : List ℕ) (buffer : ℕ) where
+    (w : IsWorld seats records bytes used free pages files next_handle next_ref) (name : List ℕ) (buffer : ℕ) where
   abbrev desk : Desk
   desk = desk_of seats records bytes pages files next_handle next_ref
 
@@ -83,13 +81,13 @@ module _ {seats : List Seat} {records : List Record} {bytes : List ℕ} {used fr
           new-desk : with_new_task name buffer new_slot desk ≡ new_desk
           new-desk =
               ap (λ (tasks : List Task). let d : Desk = record desk { tasks = tasks; next_handle = next_handle + 1 } in d)
-                (sym (map-append (task_of records bytes) seats (new_seat ∷ []) ∙ ap (λ (t : Task). map (task_of records bytes) seats ++ t ∷ []) new-task))
+              (sym (map-append (task_of records bytes) seats (new_seat ∷ []) ∙ ap (λ (t : Task). map (task_of records bytes) seats ++ t ∷ []) new-task))
 
           pub start-done : start_task desk name buffer ≡ Ok (new_desk, reply.Started next_handle)
           unfolding start_task slot_begin
           start-done =
               past _ _ _ new-name (past _ _ _ few-tasks (past _ _ _ more-handles
-                (begins _ (past _ _ _ (lt-false _ _ (omega (arith, free-is w))) refl) (granted-same new-desk refl))))
+              (begins _ (past _ _ _ (lt-false _ _ (omega (arith, free-is w))) refl) (granted-same new-desk refl))))
 
           pub start-world : in_range (command.Task name buffer) ≡ true → IsWorld (seats ++ new_seat ∷ []) records bytes used (free - 1) pages files (next_handle + 1) next_ref
           start-world ranged = record {

@@ -1,5 +1,5 @@
 -- A command's call as a step.
-use Rattle.std.proofs.Common.{◌≡◌, sym, ap, refl, subst}
+use Rattle.std.proofs.Common.{◌≡◌, ap, refl, subst}
 use Rattle.std.specs.Prelude.{Result, Ok, Err, true}
 use Rattle.rh_defs.specs.declared.command.Command.{Command}
 use Rattle.rh_defs.specs.declared.refusal.Refusal.{Refusal}
@@ -7,7 +7,7 @@ use Rattle.rh_defs.specs.declared.reply.Reply.{Reply}
 use Rattle.rh_defs.specs.declared.reply.Reply.TheVariants as reply
 use Rattle.rh_defs.specs.Chain.{Granted, or_else}
 use Rattle.rh_defs.specs.Desk.{Desk}
-use Rattle.rh_defs.specs.Step.{Answer, change, step}
+use Rattle.rh_defs.specs.Step.{Answer, step}
 use Rattle.rh_defs.specs.Laws.{HasApartBlocks, IsBalanced, IsDesk}
 use Rattle.rh_defs.specs.Range.{in_range}
 use Rattle.rh_defs.proofs.Steps.{step-keeps}
@@ -15,7 +15,7 @@ use Rattle.rh_defs.proofs.Spaced.{apart-of, balanced-of}
 use Rattle.rh_tasks.specs.Answer.{Gives, reply_of}
 
 pub stepped : (granted : Granted Answer) (old new : Desk) (result : Result Reply Refusal) (said : Reply) → Gives granted old new result → said ≡ reply_of result
-  → or_else granted (λ refusal. (old, reply.Refused refusal)) ≡ (new, said)
+    → or_else granted (λ refusal. (old, reply.Refused refusal)) ≡ (new, said)
 unfolding or_else
 stepped granted old new (Ok answer) said h s = rw (h, s) refl
 stepped granted old new (Err refusal) said h s = rw (h.0, h.1, s) refl

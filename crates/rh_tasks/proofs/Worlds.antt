@@ -1,11 +1,11 @@
 -- What the invariant of a world gives.
-use Rattle.std.proofs.Common.{◌≡◌, ◌≢◌, ℕ, zero, suc, ◌+◌, ◌-◌, ◌*◌, ◌/◌, ◌≤◌, ◌<◌, refl, ap, sym, ◌∙◌, arith, List, [], ◌∷◌, ◌++◌, length}
+use Rattle.std.proofs.Common.{◌≡◌, ℕ, zero, suc, ◌+◌, ◌*◌, ◌≤◌, ◌<◌, refl, ap, sym, ◌∙◌, arith, List, [], ◌∷◌, length}
 use Rattle.std.specs.Prelude.{map}
-use Rattle.std.proofs.Math.ListN.{get_or, set}
+use Rattle.std.proofs.Math.ListN.{get_or}
 use Rattle.std.specs.List.{AllByRecursion}
-use Rattle.rh_defs.specs.Pieces.{total, round_up, pages_for}
+use Rattle.rh_defs.specs.Pieces.{total, pages_for}
 use Rattle.rh_defs.specs.Files.{FileList}
-use Rattle.rh_defs.specs.Desk.{Desk, Task, task_pages, used_pages, free_pages}
+use Rattle.rh_defs.specs.Desk.{Desk, task_pages, used_pages, free_pages}
 use Rattle.rh_tasks.specs.declared.seat.Seat.{Seat}
 use Rattle.rh_tasks.specs.declared.record.Record.{Record}
 use Rattle.rh_tasks.specs.View.{record_size, record_weight, weight_in, seat_weight, seat_pages, task_of, desk_of, IsWorld}
@@ -32,12 +32,12 @@ unfolding task_of
 pages-task records bytes s fits is = ap (λ w. pages_for (4096 + w)) (weight-blocks s.handle records bytes fits ∙ sym is)
 
 pub pages-tasks : (records : List Record) (bytes : List ℕ) (seats : List Seat) → total record_size records ≤ length bytes → AllByRecursion (λ (s : Seat). s.weight ≡ weight_in s.handle records) seats
-  → total task_pages (map (task_of records bytes) seats) ≡ total seat_pages seats
+    → total task_pages (map (task_of records bytes) seats) ≡ total seat_pages seats
 pages-tasks records bytes [] fits all = refl
 pages-tasks records bytes (s ∷ seats) fits all = omega (arith, pages-task records bytes s fits all.0, pages-tasks records bytes seats fits all.1)
 
 module _ {seats : List Seat} {records : List Record} {bytes : List ℕ} {used free pages : ℕ} {files : FileList} {next_handle next_ref : ℕ}
-  (w : IsWorld seats records bytes used free pages files next_handle next_ref) where
+    (w : IsWorld seats records bytes used free pages files next_handle next_ref) where
   abbrev pub the_desk : Desk
   the_desk = desk_of seats records bytes pages files next_handle next_ref
 

@@ -9,3 +9,6 @@ mod store;
 mod world;
 
 pub use world::World;
+
+#[cfg(test)]
+mod tests;

@@ -5,7 +5,7 @@ ghost use Rattle.rh_defs.specs.Pieces.{total};
 ghost use Rattle.rh_tasks.specs.View.{record_size, record_weight, count_in};
 ghost use Rattle.rh_tasks.specs.Scans.{place_in, items_in};
 
-use crate::pages::weight_of;
+use crate::pages::{FLEX_START, HEADER, weight_of};
 use rh_defs::{Anchor, BlockItem, Handle, Refusal};
 
 /// A flex block's record: its task, its anchor and its size in bytes.
@@ -67,19 +67,19 @@ pub fn count_blocks(records: &Vec<Record>, task: Handle) -> u32
     count
 }
 
-/// The task's block i from below, as `blocks` lists it; a slot's first block lies above 4,096 bytes from &8000 on.
+/// The task's block i from below, as `blocks` lists it: blocks lie one after the other from &9000 on.
 pub fn block_item(records: &Vec<Record>, task: Handle, i: usize) -> Option<BlockItem>
     requires { total record_weight records.now.items ≤ 1048576 }
     ensures { result ≡ slice_get (items_in task 36864 records.now.items) i }
 {
     let mut left = i;
-    let mut address = 0x9000;
+    let mut address = FLEX_START as u32;
     for record in records {
         if record.task == task {
             if left == 0 {
                 return Some(BlockItem {
                     anchor: record.anchor,
-                    address: address + 8,
+                    address: address + HEADER as u32,
                     size: record.size,
                 });
             }

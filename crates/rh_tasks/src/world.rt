@@ -1,4 +1,4 @@
-//! The world.
+//! The world: what the commands change.
 
 ghost use Rattle.std.specs.Prelude.{◌≡◌, ◌≤◌, true, Ok, Err, IfOk, length};
 ghost use Rattle.std.specs.Result.{MatchResult};
@@ -10,9 +10,9 @@ ghost use Rattle.rh_defs.specs.Step.{step, start_task, alloc as alloc_on, put as
 ghost use Rattle.rh_tasks.specs.Answer.{Gives, reply_of};
 
 use crate::areas::area_item;
-use crate::pages::{pages_for, weight_of};
-use crate::record::{block_item, count_blocks, find_block, place_of, Record};
-use crate::seat::{find, is_name_in_use, Seat};
+use crate::pages::{BELOW_FLEX, FLEX_START, HEADER, pages_for, weight_of};
+use crate::record::{Record, block_item, count_blocks, find_block, place_of};
+use crate::seat::{Seat, find, is_name_in_use};
 use crate::store::{read_at, write_at, zero_at};
 use rh_defs::{Anchor, AreaItem, BlockItem, Command, Files, Handle, Name, Ref, Refusal, Reply};
 use std::alloc::{AllocError, Global};
@@ -24,17 +24,26 @@ const MOST_TASKS: usize = 32;
 /// Each of the 32 tasks has 64 anchors for its blocks.
 const MOST_BLOCKS: usize = 2048;
 
-/// The desk's state: its tasks, and their flex blocks in two arrays made at the start.
+/// A desk. Its tasks and their flex blocks stand in arrays that are made at the start: no call but the
+/// constructors takes memory.
 #[derive(Drop)]
 pub struct World {
+    /// The live tasks in order of handle, with room for 32.
     seats: Vec<Seat>,
+    /// The blocks of all tasks in the order in which they were allocated, with room for 2,048.
     records: Vec<Record>,
+    /// The blocks' bytes, one block after the other in that order; as long as the pool.
     bytes: Vec<u8>,
+    /// How many of the bytes belong to blocks.
     used: usize,
+    /// The pages that belong to no area and no slot.
     free: usize,
+    /// The pages of the pool.
     pages: u32,
     files: Files,
+    /// The handle that is given next; 2^32 where all were given.
     next_handle: u64,
+    /// The ref that is given next; 2^32 where all were given.
     next_ref: u64,
 }
 
@@ -51,7 +60,8 @@ impl Model for World {
 }
 
 impl World {
-    /// The first desk over a pool of 8 to 256 pages, with these files.
+    /// The first desk over a pool of 8 to 256 pages of 4,096 bytes, with these files: no task, and one page in the
+    /// module area. Handles and refs count up from 1. AllocError where memory is refused.
     pub fn new(alloc: Global, pages: u32, files: Files) -> Result<World, AllocError>
         requires least { 8 ≤ pages }
         requires most { pages ≤ 256 }
@@ -60,8 +70,14 @@ impl World {
         World::with_next(alloc, pages, files, Handle(1), Ref(1))
     }
 
-    /// The first desk whose next handle and next ref are these.
-    pub fn with_next(alloc: Global, pages: u32, files: Files, handle: Handle, r: Ref) -> Result<World, AllocError>
+    /// The first desk whose next handle and next ref are these, each from 1 on. AllocError where memory is refused.
+    pub fn with_next(
+        alloc: Global,
+        pages: u32,
+        files: Files,
+        handle: Handle,
+        r: Ref,
+    ) -> Result<World, AllocError>
         requires least { 8 ≤ pages }
         requires most { pages ≤ 256 }
         requires handle { 1 ≤ handle }
@@ -92,7 +108,7 @@ impl World {
         (self.free as u32, area_item(&self.seats, i))
     }
 
-    /// How many flex blocks the task has, and block i from below; NoName.
+    /// How many flex blocks the task has, and block i from below; NoName where no task has the name.
     pub fn blocks(&self, name: &Name, i: usize) -> Result<(u32, Option<BlockItem>), Refusal>
         ensures { result ≡ blocks_at self.now name.now i }
     {
@@ -103,9 +119,15 @@ impl World {
         Ok((count, item))
     }
 
-    /// The size of the task's block at the anchor, and its bytes from an offset on; NoName, NoBlock, or BadRange
-    /// where the bytes wanted don't lie in the block.
-    pub fn show(&self, name: &Name, anchor: Anchor, offset: u32, to: &mut [u8]) -> Result<u32, Refusal>
+    /// The size in bytes of the task's block at the anchor (flex_size), and its bytes from an offset on; NoName,
+    /// NoBlock, or BadRange where the bytes wanted don't lie in the block.
+    pub fn show(
+        &self,
+        name: &Name,
+        anchor: Anchor,
+        offset: u32,
+        to: &mut [u8],
+    ) -> Result<u32, Refusal>
         ensures { MatchResult (shown_at self.now name.now anchor offset (length to.old)) (λ p. (result ≡ Ok p.0) × (to.new ≡ p.1)) (λ e. (result ≡ Err e) × (to.new ≡ to.old)) }
     {
         let at = find(&self.seats, name)?;
@@ -118,7 +140,7 @@ impl World {
         Ok(place.size)
     }
 
-    /// Does one command, or refuses it and changes nothing.
+    /// Does one command, or answers the first of its refusals and changes nothing. Takes no memory.
     pub fn apply(&mut self, command: &Command) -> Reply
         requires { in_range command.now ≡ true }
         ensures step { step self.old command.now ≡ (self.new, result) }
@@ -129,13 +151,19 @@ impl World {
         match command {
             Command::Task { name, buffer } => answer(self.start_task(name, *buffer)),
             Command::Alloc { name, anchor, size } => answer(self.alloc(name, *anchor, *size)),
-            Command::Put { name, anchor, offset, bytes } => answer(self.put(name, *anchor, *offset, bytes.as_slice())),
+            Command::Put {
+                name,
+                anchor,
+                offset,
+                bytes,
+            } => answer(self.put(name, *anchor, *offset, bytes.as_slice())),
             Command::Show { name, anchor } => answer(self.size_of(name, *anchor)),
             Command::Blocks { name } => answer(self.block_count(name)),
             Command::Areas => Reply::FreePages(free),
         }
     }
 
+    /// Starts a task with a fresh slot: NameInUse, TooManyTasks, NoHandles, NoRoom.
     fn start_task(&mut self, name: &Name, buffer: u32) -> Result<Reply, Refusal>
         requires { in_range (Command.Task name.now buffer) ≡ true }
         ensures { Gives (start_task self.old name.now buffer) self.old self.new result }
@@ -164,6 +192,7 @@ impl World {
         Ok(Reply::Started(handle))
     }
 
+    /// Puts a block of zero bytes on top of the task's slot (flex_alloc): NoName, AnchorInUse, NoRoom.
     fn alloc(&mut self, name: &Name, anchor: Anchor, size: u32) -> Result<Reply, Refusal>
         requires { in_range (Command.Alloc name.now anchor size) ≡ true }
         ensures { Gives (alloc_on self.old name.now anchor size) self.old self.new result }
@@ -176,7 +205,7 @@ impl World {
             return Err(Refusal::AnchorInUse);
         }
         let weight = below + weight_of(size);
-        let growth = pages_for(4096 + weight) - pages_for(4096 + below);
+        let growth = pages_for(BELOW_FLEX + weight) - pages_for(BELOW_FLEX + below);
         if self.free < growth {
             return Err(Refusal::NoRoom);
         }
@@ -187,11 +216,17 @@ impl World {
         self.free -= growth;
         let seat = &mut self.seats[at];
         seat.weight = weight;
-        let address = (0x9000 + below + 8) as u32;
+        let address = (FLEX_START + below + HEADER) as u32;
         Ok(Reply::Block { address })
     }
 
-    fn put(&mut self, name: &Name, anchor: Anchor, offset: u32, bytes: &[u8]) -> Result<Reply, Refusal>
+    fn put(
+        &mut self,
+        name: &Name,
+        anchor: Anchor,
+        offset: u32,
+        bytes: &[u8],
+    ) -> Result<Reply, Refusal>
         requires { in_range (Command.Put name.now anchor offset bytes.now) ≡ true }
         ensures { Gives (put_on self.old name.now anchor offset bytes.now) self.old self.new result }
     {
@@ -205,6 +240,7 @@ impl World {
         Ok(Reply::Done)
     }
 
+    /// The size of the task's block: NoName, NoBlock.
     fn size_of(&self, name: &Name, anchor: Anchor) -> Result<Reply, Refusal>
         ensures { Gives (show_on self.now name.now anchor) self.now self.now result }
     {
@@ -214,6 +250,7 @@ impl World {
         Ok(Reply::Shown { size: place.size })
     }
 
+    /// How many blocks the task has: NoName.
     fn block_count(&self, name: &Name) -> Result<Reply, Refusal>
         ensures { Gives (blocks_on self.now name.now) self.now self.now result }
     {

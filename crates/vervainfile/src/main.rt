@@ -4,9 +4,8 @@
 use rh_desk::program;
 use rh_script::Flagged;
 use std::alloc::Global;
-use std::env;
-use std::io;
 use std::process::ExitCode;
+use std::{env, io};
 
 fn main(rt: HostRuntime) -> ExitCode {
     let alloc = rt.alloc();

@@ -1,6 +1,4 @@
-use Rattle.std.proofs.Common.{◌≡◌, ℕ, ◌<◌, List, [], take, length, arith, rules, subst, refl}
-use Rattle.std.specs.Io.KnownBytes.{Consumes, IsAtEnd}
-use Rattle.std.proofs.lemmas.Grind.{common_steps}
+use Rattle.std.proofs.Common.{arith}
 use Rattle.rh_desk.proofs.RunLemmas.{answered, answered_here, finished, broke, broke_last, going_on, none_given, counted}
 use Rattle.rh_desk.proofs.running.run.Goals as goal
 

@@ -1,4 +1,4 @@
-use Rattle.std.proofs.Common.{◌≡◌, Option, None, sym, ◌∙◌, ap, ◌++◌, ◌∷◌, [], rules, subst, false}
+use Rattle.std.proofs.Common.{◌≡◌, ◌∙◌, ap, ◌++◌, ◌∷◌, [], false}
 use Rattle.indexmap.proofs.CallerLemmas.{insert_entry-new}
 use Rattle.rh_defs.specs.Files.{has_file, contents_of}
 use Rattle.rh_defs.proofs.FileLemmas.{lookup-none, contents_of-append}

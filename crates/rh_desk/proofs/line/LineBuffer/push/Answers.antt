@@ -1,4 +1,4 @@
-use Rattle.std.proofs.Common.{arith, rules, ◌∙◌, sym, length}
+use Rattle.std.proofs.Common.{arith}
 use Rattle.rh_desk.proofs.SessionLemmas.{kept_more, kept_full}
 use Rattle.rh_desk.proofs.line.LineBuffer.push.Goals as goal
 

@@ -1,7 +1,6 @@
-use Rattle.std.proofs.Common.{◌≡◌, ◌≤◌, ◌-◌, ◌+◌, true, false, refl, ap, sym, ◌∙◌, arith, length}
+use Rattle.std.proofs.Common.{◌≡◌, false, refl, ap, sym, ◌∙◌, arith}
 use Rattle.std.specs.Prelude.{is_some}
 use Rattle.std.proofs.lemmas.Result.{err_from_is_err_and}
-use Rattle.rh_tasks.specs.View.{desk_of}
 use Rattle.rh_tasks.specs.Scans.{place_in}
 use Rattle.rh_tasks.proofs.Seats.{Found, sits, same-seat}
 use Rattle.rh_tasks.proofs.Worlds.{fits, few-bytes, weight-small}
@@ -20,7 +19,7 @@ place_of-requires c = omega (arith, fits c.self.invariant.0, few-bytes c.self.in
 pub returns-then-is_some : goal.returns-then-is_some
 returns-then-is_some c =
     rw (← c.self.view_is)
-      (alloc-used {s = c.index-seat.result.now} c.self.invariant.0 (record { at = c.in_ok-at.ensures.ok; is = sym c.index-seat.ensures }) c.args.anchor c.args.size (ap is_some (sym c.place_of.ensures) ∙ sym c.is_some.ensures ∙ c.if-is_some.true), refl)
+    (alloc-used {s = c.index-seat.result.now} c.self.invariant.0 (record { at = c.in_ok-at.ensures.ok; is = sym c.index-seat.ensures }) c.args.anchor c.args.size (ap is_some (sym c.place_of.ensures) ∙ sym c.is_some.ensures ∙ c.if-is_some.true), refl)
 
 pub overflow_add-weight : goal.overflow_add-weight
 overflow_add-weight c =
@@ -50,21 +49,23 @@ pages_for-requires-2 c =
 pub returns-then-self-growth : goal.returns-then-self-growth
 returns-then-self-growth c =
     let lacks : is_some (place_in c.index-seat.result.now.handle c.args.anchor 0 c.self.inside.records.items) ≡ false = ap is_some (sym c.place_of.ensures) ∙ sym c.is_some.ensures ∙ c.if-is_some.false in
-    rw (← c.self.view_is)
-      (alloc-full {s = c.index-seat.result.now} c.self.invariant.0 (record { at = c.in_ok-at.ensures.ok; is = sym c.index-seat.ensures }) c.args.anchor c.args.size lacks
-        (omega (arith, c.pages_for.ensures, c.pages_for-2.ensures, c.weight_of.ensures)), refl)
+    rw (← c.self.view_is) (
+      alloc-full {s = c.index-seat.result.now} c.self.invariant.0 (record { at = c.in_ok-at.ensures.ok; is = sym c.index-seat.ensures }) c.args.anchor c.args.size lacks
+          (omega (arith, c.pages_for.ensures, c.pages_for-2.ensures, c.weight_of.ensures)),
+      refl,
+    )
 
 pub zero_at-requires : goal.zero_at-requires
 zero_at-requires c =
     let lacks : is_some (place_in c.index-seat.result.now.handle c.args.anchor 0 c.self.inside.records.items) ≡ false = ap is_some (sym c.place_of.ensures) ∙ sym c.is_some.ensures ∙ c.if-is_some.false in
     alloc-fits {s = c.index-seat.result.now} c.self.invariant.0 (record { at = c.in_ok-at.ensures.ok; is = sym c.index-seat.ensures }) c.args.anchor c.args.size lacks
-      (omega (arith, c.pages_for.ensures, c.pages_for-2.ensures, c.weight_of.ensures))
+    (omega (arith, c.pages_for.ensures, c.pages_for-2.ensures, c.weight_of.ensures))
 
 pub push_reserved-requires : goal.push_reserved-requires
 push_reserved-requires c =
     let lacks : is_some (place_in c.index-seat.result.now.handle c.args.anchor 0 c.self.inside.records.items) ≡ false = ap is_some (sym c.place_of.ensures) ∙ sym c.is_some.ensures ∙ c.if-is_some.false in
     let few = alloc-few {s = c.index-seat.result.now} c.self.invariant.0 (record { at = c.in_ok-at.ensures.ok; is = sym c.index-seat.ensures }) c.args.anchor c.args.size lacks
-      (omega (arith, c.pages_for.ensures, c.pages_for-2.ensures, c.weight_of.ensures)) c.requires in
+    (omega (arith, c.pages_for.ensures, c.pages_for-2.ensures, c.weight_of.ensures)) c.requires in
     omega (arith, few, c.self.invariant.2, c.self.inside.records.ok.0)
 
 pub overflow_add-address : goal.overflow_add-address
@@ -87,9 +88,11 @@ invariant_of-self c =
     let f : Found c.args.name.now c.self.inside.seats.items c.in_ok-at.at c.index-seat.result.now = record { at = c.in_ok-at.ensures.ok; is = sym c.index-seat.ensures } in
     let lacks : is_some (place_in c.index-seat.result.now.handle c.args.anchor 0 c.self.inside.records.items) ≡ false = ap is_some (sym c.place_of.ensures) ∙ sym c.is_some.ensures ∙ c.if-is_some.false in
     let same = same-seat c.self.inside.seats.items c.in_ok-at.at c.index_mut-seat.result.now c.index-seat.result.now (sits f).inside (sym c.index_mut-seat.ensures.value) (sym c.index-seat.ensures) in
-    rw (same, c.push_reserved.ensures.items, c.zero_at.ensures.items, c.pages_for.ensures, c.pages_for-2.ensures, c.weight_of.ensures)
-      (alloc-world {s = c.index-seat.result.now} c.self.invariant.0 f c.args.anchor c.args.size lacks (omega (arith, c.pages_for.ensures, c.pages_for-2.ensures, c.weight_of.ensures)) c.requires,
-       c.self.invariant.1, c.push_reserved.ensures.capacity ∙ c.self.invariant.2)
+    rw (same, c.push_reserved.ensures.items, c.zero_at.ensures.items, c.pages_for.ensures, c.pages_for-2.ensures, c.weight_of.ensures) (
+      alloc-world {s = c.index-seat.result.now} c.self.invariant.0 f c.args.anchor c.args.size lacks (omega (arith, c.pages_for.ensures, c.pages_for-2.ensures, c.weight_of.ensures)) c.requires,
+      c.self.invariant.1,
+      c.push_reserved.ensures.capacity ∙ c.self.invariant.2,
+    )
 
 pub returns : goal.returns
 returns c =
@@ -97,4 +100,4 @@ returns c =
     let lacks : is_some (place_in c.index-seat.result.now.handle c.args.anchor 0 c.self.inside.records.items) ≡ false = ap is_some (sym c.place_of.ensures) ∙ sym c.is_some.ensures ∙ c.if-is_some.false in
     let same = same-seat c.self.inside.seats.items c.in_ok-at.at c.index_mut-seat.result.now c.index-seat.result.now (sits f).inside (sym c.index_mut-seat.ensures.value) (sym c.index-seat.ensures) in
     rw (← c.self.view_is, same, c.push_reserved.ensures.items, c.zero_at.ensures.items, c.weight_of.ensures)
-      (alloc-done {s = c.index-seat.result.now} c.self.invariant.0 f c.args.anchor c.args.size lacks (omega (arith, c.pages_for.ensures, c.pages_for-2.ensures, c.weight_of.ensures)))
+    (alloc-done {s = c.index-seat.result.now} c.self.invariant.0 f c.args.anchor c.args.size lacks (omega (arith, c.pages_for.ensures, c.pages_for-2.ensures, c.weight_of.ensures)))

@@ -1,4 +1,4 @@
-use Rattle.std.proofs.Common.{◌≡◌, ap, sym, refl, ◌∙◌, arith}
+use Rattle.std.proofs.Common.{refl}
 use Rattle.rh_tasks.proofs.Worlds.{light}
 use Rattle.rh_tasks.proofs.Readers.{areas-are, items-few}
 use Rattle.rh_tasks.proofs.world.World.areas.Goals as goal

@@ -1,4 +1,4 @@
-use Rattle.std.proofs.Common.{◌≡◌, refl, sym}
+use Rattle.std.proofs.Common.{refl, sym}
 use Rattle.std.proofs.lemmas.Result.{err_from_is_err_and}
 use Rattle.rh_tasks.proofs.Puts.{blocks-nobody, blocks-done}
 use Rattle.rh_tasks.proofs.world.World.block_count.Goals as goal

@@ -1,4 +1,4 @@
-use Rattle.std.proofs.Common.{◌≡◌, refl, ap, sym, ◌∙◌, arith}
+use Rattle.std.proofs.Common.{sym}
 use Rattle.std.proofs.lemmas.Result.{err_from_is_err_and}
 use Rattle.rh_tasks.proofs.Worlds.{heavy}
 use Rattle.rh_tasks.proofs.Readers.{blocks-nobody, blocks-are}
@@ -15,4 +15,4 @@ block_item-item-requires c = heavy c.self.invariant.0
 pub returns : goal.returns
 returns c =
     rw (← c.self.view_is, c.count_blocks-count.ensures, c.block_item-item.ensures)
-      (sym (blocks-are c.self.invariant.0 {s = c.index-seat.result.now} c.args.i (record { at = c.in_ok-at.ensures.ok; is = sym c.index-seat.ensures })))
+    (sym (blocks-are c.self.invariant.0 {s = c.index-seat.result.now} c.args.i (record { at = c.in_ok-at.ensures.ok; is = sym c.index-seat.ensures })))

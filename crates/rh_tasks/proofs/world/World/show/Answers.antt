@@ -1,4 +1,4 @@
-use Rattle.std.proofs.Common.{◌≡◌, refl, ap, sym, ◌∙◌, arith, length}
+use Rattle.std.proofs.Common.{refl, sym, arith, length}
 use Rattle.std.proofs.lemmas.Result.{err_from_is_err_and}
 use Rattle.rh_tasks.proofs.Blocks.{stands}
 use Rattle.rh_tasks.proofs.Worlds.{fits, few-bytes}
@@ -16,13 +16,20 @@ find_block-requires c = omega (arith, fits c.self.invariant.0, few-bytes c.self.
 pub returns-in_err-place : goal.returns-in_err-place
 returns-in_err-place c =
     let p = err_from_is_err_and c.from_residual-in_err-place.result c.from_residual-in_err-place.ensures.1 in
-    rw (p.1, p.2, c.in_err-place.ensures.err.0, ← c.self.view_is,
-      shown-no-block c.self.invariant.0 {s = c.index-seat.result.now} c.args.anchor c.args.offset (length c.args.to.now) (record { at = c.in_ok-at.ensures.ok; is = sym c.index-seat.ensures }) c.in_err-place.ensures.err.1) (refl, refl)
+    rw (
+      p.1,
+      p.2,
+      c.in_err-place.ensures.err.0,
+      ← c.self.view_is,
+      shown-no-block c.self.invariant.0 {s = c.index-seat.result.now} c.args.anchor c.args.offset (length c.args.to.now) (record { at = c.in_ok-at.ensures.ok; is = sym c.index-seat.ensures }) c.in_err-place.ensures.err.1,
+    ) (refl, refl)
 
 pub returns-then-offset-to : goal.returns-then-offset-to
 returns-then-offset-to c =
-    rw (← c.self.view_is,
-      shown-outside c.self.invariant.0 {s = c.index-seat.result.now} c.args.anchor c.args.offset (length c.args.to.now) (record { at = c.in_ok-at.ensures.ok; is = sym c.index-seat.ensures }) c.in_ok-place.ensures.ok (omega arith)) (refl, refl)
+    rw (
+      ← c.self.view_is,
+      shown-outside c.self.invariant.0 {s = c.index-seat.result.now} c.args.anchor c.args.offset (length c.args.to.now) (record { at = c.in_ok-at.ensures.ok; is = sym c.index-seat.ensures }) c.in_ok-place.ensures.ok (omega arith),
+    ) (refl, refl)
 
 pub overflow_add-place : goal.overflow_add-place
 overflow_add-place c =
@@ -36,5 +43,7 @@ read_at-requires c =
 
 pub returns : goal.returns
 returns c =
-    rw (← c.self.view_is,
-      shown-is c.self.invariant.0 {s = c.index-seat.result.now} c.args.anchor c.args.offset (length c.args.to.now) (record { at = c.in_ok-at.ensures.ok; is = sym c.index-seat.ensures }) c.in_ok-place.ensures.ok (omega arith)) (refl, c.read_at.ensures)
+    rw (
+      ← c.self.view_is,
+      shown-is c.self.invariant.0 {s = c.index-seat.result.now} c.args.anchor c.args.offset (length c.args.to.now) (record { at = c.in_ok-at.ensures.ok; is = sym c.index-seat.ensures }) c.in_ok-place.ensures.ok (omega arith),
+    ) (refl, c.read_at.ensures)

@@ -1,4 +1,4 @@
-use Rattle.std.proofs.Common.{◌≡◌, refl, sym, arith}
+use Rattle.std.proofs.Common.{refl, sym, arith}
 use Rattle.std.proofs.lemmas.Result.{err_from_is_err_and}
 use Rattle.rh_tasks.proofs.Worlds.{fits, few-bytes}
 use Rattle.rh_tasks.proofs.Puts.{show-nobody, show-none, show-done}
@@ -16,9 +16,9 @@ pub returns-in_err-place : goal.returns-in_err-place
 returns-in_err-place c =
     let p = err_from_is_err_and c.from_residual-in_err-place.result c.from_residual-in_err-place.ensures.1 in
     rw (p.1, p.2, c.in_err-place.ensures.err.0, ← c.self.view_is)
-      (show-none {s = c.index-seat.result.now} c.self.invariant.0 (record { at = c.in_ok-at.ensures.ok; is = sym c.index-seat.ensures }) c.args.anchor c.in_err-place.ensures.err.1, refl)
+    (show-none {s = c.index-seat.result.now} c.self.invariant.0 (record { at = c.in_ok-at.ensures.ok; is = sym c.index-seat.ensures }) c.args.anchor c.in_err-place.ensures.err.1, refl)
 
 pub returns : goal.returns
 returns c =
     rw (← c.self.view_is)
-      (show-done {s = c.index-seat.result.now} c.self.invariant.0 (record { at = c.in_ok-at.ensures.ok; is = sym c.index-seat.ensures }) c.args.anchor c.in_ok-place.ensures.ok)
+    (show-done {s = c.index-seat.result.now} c.self.invariant.0 (record { at = c.in_ok-at.ensures.ok; is = sym c.index-seat.ensures }) c.args.anchor c.in_ok-place.ensures.ok)

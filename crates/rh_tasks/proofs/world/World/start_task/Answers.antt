@@ -1,4 +1,4 @@
-use Rattle.std.proofs.Common.{◌≡◌, false, refl, sym, ◌∙◌, arith}
+use Rattle.std.proofs.Common.{refl, sym, ◌∙◌, arith}
 use Rattle.rh_tasks.proofs.Starts.{start-in-use, start-many, start-used-up, start-full, start-done, start-world}
 use Rattle.rh_tasks.proofs.world.World.start_task.Goals as goal
 
@@ -17,15 +17,17 @@ returns-then-self-from c =
 pub returns-then-self-eq0 : goal.returns-then-self-eq0
 returns-then-self-eq0 c =
     rw (← c.self.view_is)
-      (start-full c.self.invariant.0 c.args.name.now c.args.buffer (sym c.is_name_in_use.ensures ∙ c.if-is_name_in_use.false) (omega (arith, c.self.inside.seats.ok.0)) (omega arith) (omega arith), refl)
+    (start-full c.self.invariant.0 c.args.name.now c.args.buffer (sym c.is_name_in_use.ensures ∙ c.if-is_name_in_use.false) (omega (arith, c.self.inside.seats.ok.0)) (omega arith) (omega arith), refl)
 
 pub invariant_of-self : goal.invariant_of-self
 invariant_of-self c =
-    rw (c.push_reserved.ensures.items, c.copied.ensures)
-      (start-world c.self.invariant.0 c.args.name.now c.args.buffer (sym c.is_name_in_use.ensures ∙ c.if-is_name_in_use.false) (omega (arith, c.self.inside.seats.ok.0)) (omega arith) (omega arith) c.requires,
-       c.push_reserved.ensures.capacity ∙ c.self.invariant.1, c.self.invariant.2)
+    rw (c.push_reserved.ensures.items, c.copied.ensures) (
+      start-world c.self.invariant.0 c.args.name.now c.args.buffer (sym c.is_name_in_use.ensures ∙ c.if-is_name_in_use.false) (omega (arith, c.self.inside.seats.ok.0)) (omega arith) (omega arith) c.requires,
+      c.push_reserved.ensures.capacity ∙ c.self.invariant.1,
+      c.self.invariant.2,
+    )
 
 pub returns : goal.returns
 returns c =
     rw (← c.self.view_is, c.push_reserved.ensures.items, c.copied.ensures)
-      (start-done c.self.invariant.0 c.args.name.now c.args.buffer (sym c.is_name_in_use.ensures ∙ c.if-is_name_in_use.false) (omega (arith, c.self.inside.seats.ok.0)) (omega arith) (omega arith))
+    (start-done c.self.invariant.0 c.args.name.now c.args.buffer (sym c.is_name_in_use.ensures ∙ c.if-is_name_in_use.false) (omega (arith, c.self.inside.seats.ok.0)) (omega arith) (omega arith))

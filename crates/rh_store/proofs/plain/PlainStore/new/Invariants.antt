@@ -1,0 +1,12 @@
+use Rattle.std.proofs.Common.{◌≡◌, ℕ, length}
+use Rattle.std.specs.Prelude.{All, None}
+use Rattle.rh_store.specs.Areas.{IsTidy, HasRoom, contents}
+use Rattle.rh_store.proofs.plain.PlainStore.new.Given as goal
+
+abbrev pub invariant-loop-k : goal.invariant-loop-k
+invariant-loop-k l = record {
+  len : length l.areas.items ≡ l._k;
+  tidy : All IsTidy l.areas.items;
+  reserved : All (HasRoom l.pages) l.areas.items;
+  closed : (k : ℕ) → contents l.areas.items k ≡ None;
+}

@@ -1,0 +1,53 @@
+-- Why the laws of `Store` hold of areas that are kept so.
+use Rattle.std.specs.Prelude.{◌≡◌, ℕ, zero, suc, ◌+◌, ◌*◌, ◌%◌, ◌^◌, ◌<◌, ◌≤◌, Bool, true, false, List, [], ◌∷◌, length, Option, Some, None, IsSome, All, cond, unwrap_or, refl}
+use Rattle.std.proofs.Common.{inl, inr, ap, arith}
+use Rattle.std.proofs.lemmas.Bool.{cases_lt}
+use Rattle.rh_store.specs.declared.area.Area.{Area}
+use Rattle.rh_store.specs.declared.plain.TheConstants.{MAX_PAGES}
+use Rattle.rh_store.specs.Areas.{contents, memory_in, IsTidy, IsStore}
+use Rattle.rh_defs.specs.Memory.{IsOpen, bytes}
+use Rattle.rh_defs.proofs.MemoryLaws.{pages_below-one}
+
+-- past the list no area is open
+pub contents-past : (list : List Area) (i : ℕ) → length list ≤ i → contents list i ≡ None
+unfolding contents
+contents-past [] i h = refl
+contents-past (x ∷ list) zero h = absurd (omega arith)
+contents-past (x ∷ list) (suc i) h = contents-past list i (omega arith)
+
+-- an open area's number is inside the list
+pub open_index : (list : List Area) (i : ℕ) → IsSome (contents list i) → i < length list
+unfolding contents
+open_index [] i o = absurd cc
+open_index (x ∷ list) zero o = omega arith
+open_index (x ∷ list) (suc i) o = let r = open_index list i o in omega arith
+
+whole_shown : (b : Bool) (y : List ℕ) → length y % 4096 ≡ 0 → length (unwrap_or (cond b (Some y) None) []) % 4096 ≡ 0
+whole_shown true y h = h
+whole_shown false y h = refl
+
+pub whole_contents : (list : List Area) (i : ℕ) → All IsTidy list → length (unwrap_or (contents list i) []) % 4096 ≡ 0
+unfolding contents
+whole_contents [] i all = refl
+whole_contents (x ∷ list) zero all = whole_shown x.opened x.bytes.items (all 0 x (omega arith)).whole
+whole_contents (x ∷ list) (suc i) all = whole_contents list i (λ k d h. all (suc k) d (omega arith))
+
+pub whole_areas : (list : List Area) (free pages limit id : ℕ) → IsStore list free pages limit → length (bytes (memory_in list free pages) id) % 4096 ≡ 0
+unfolding bytes
+whole_areas list free pages limit id k = whole_contents list id k.tidy
+
+pub numbered_areas : (list : List Area) (free pages limit id : ℕ) → IsStore list free pages limit → IsOpen (memory_in list free pages) id → id < limit
+numbered_areas list free pages limit id k o = let h = open_index list id o in let t = k.table in omega arith
+
+pub within_pool : (list : List Area) (free pages limit id : ℕ) → IsStore list free pages limit → 4096 * free + length (bytes (memory_in list free pages) id) ≤ 4096 * pages
+unfolding bytes
+within_pool list free pages limit id k = elim (cases_lt id limit) [
+  | inl h ↦ let one = pages_below-one (contents list) id limit h in let whole = whole_contents list id k.tidy in let sum = k.ledger in omega arith
+  | inr h ↦ let past : length (unwrap_or (contents list id) []) ≡ 0 = ap (λ (o : Option (List ℕ)). length (unwrap_or o [])) (contents-past list id (let t = k.table in omega arith)) in let sum = k.ledger in omega arith
+]
+
+pub few_pages : (pages : ℕ) → pages ≤ MAX_PAGES → pages ≤ 2 ^ 10
+few_pages pages few = omega arith
+
+pub small_areas : (list : List Area) (free pages limit id : ℕ) → pages ≤ MAX_PAGES → IsStore list free pages limit → length (bytes (memory_in list free pages) id) ≤ 2 ^ 22
+small_areas list free pages limit id few k = let h = within_pool list free pages limit id k in omega arith

@@ -1,0 +1,3 @@
+pub mod Areas
+pub mod Plain
+pub mod Kept

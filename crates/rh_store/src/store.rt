@@ -1,0 +1,155 @@
+//! Areas of bytes that are made of pages.
+ghost use Rattle.std.specs.Prelude.{◌≡◌, ℕ, ◌+◌, ◌*◌, ◌%◌, ◌^◌, ◌<◌, ◌≤◌, ◌↔◌, ◌⊎◌, length, replicate, IsTrue, IsNone, IfOk, OnErr, OnOk, IsErr, IsErrOf};
+ghost use Rattle.rh_defs.specs.Bytes.{word, put, put_word, part};
+ghost use Rattle.rh_defs.specs.Memory.{Memory, IsOpen, Ledger, bytes, with_bytes, opened, closed, grown, shrunk, open_below};
+ghost use Rattle.rh_store.specs.declared.store.TheConstants.{MAX_AREAS};
+
+use thiserror::Error;
+
+/// The bytes of a page.
+pub const PAGE: usize = 4096;
+
+/// How many areas can be open at a time.
+pub const MAX_AREAS: usize = 38;
+
+/// The number of an open area, below `MAX_AREAS`.
+#[derive(Clone, Copy, Debug, PartialEq, Eq)]
+pub struct AreaId(pub u8);
+
+/// Why an area could not be opened or grown.
+#[derive(Clone, Copy, Debug, PartialEq, Eq, Error)]
+pub enum StoreFault {
+    /// `MAX_AREAS` areas are open.
+    #[error("too many areas are open")]
+    TooManyAreas,
+    /// Fewer pages are free than were asked for.
+    #[error("too few pages are free")]
+    NoPages,
+}
+
+/// Areas of bytes, each a whole number of pages of 4,096 bytes, and pages that are free.
+///
+/// Offsets and lengths are in bytes from the area's first one. No call takes memory: pages come
+/// from those that the store was given at start. A refused call changes nothing.
+pub trait Store {
+    /// What each area contains, the free pages, and the pages given at start.
+    ghost memory: { Self → Memory };
+
+    /// Opens the area with the least number that isn't open, with no pages. Refused
+    /// (`TooManyAreas`) exactly where `MAX_AREAS` areas are open.
+    fn open(&mut self) -> Result<AreaId, StoreFault>
+        ensures ok { IfOk result (λ id. IsNone ((memory self.old).area id.0) ×
+            (memory self.new ≡ opened (memory self.old) id.0)) }
+        ensures number { IfOk result (λ id. id.0 < MAX_AREAS) }
+        ensures least { IfOk result (λ id. (k : ℕ) → k < id.0 → IsOpen (memory self.old) k) }
+        ensures err { OnErr result (memory self.new ≡ memory self.old) }
+        ensures refused { IsErr result ↔ (open_below (memory self.old).area MAX_AREAS ≡ MAX_AREAS) }
+        ensures reason { IsErr result → IsErrOf result StoreFault.TooManyAreas };
+
+    /// Closes an area, whose pages are free from then on.
+    fn close(&mut self, id: AreaId)
+        requires { IsOpen (memory self.old) id.0 }
+        ensures { memory self.new ≡ closed (memory self.old) id.0 };
+
+    /// Appends this many pages of zeros to an area, whole or not at all, as OS_ChangeDynamicArea
+    /// grows one. Refused (`NoPages`) exactly where fewer are free.
+    fn grow(&mut self, id: AreaId, pages: usize) -> Result<(), StoreFault>
+        requires { IsOpen (memory self.old) id.0 }
+        ensures ok { OnOk result (memory self.new ≡ grown (memory self.old) id.0 pages) }
+        ensures room { OnOk result (pages ≤ (memory self.old).free) }
+        ensures err { OnErr result (memory self.new ≡ memory self.old) }
+        ensures refused { IsErr result ↔ ((memory self.old).free < pages) }
+        ensures reason { IsErr result → IsErrOf result StoreFault.NoPages };
+
+    /// Whether `grow` by this many pages would be done.
+    fn grow_check(&self, id: AreaId, pages: usize) -> bool
+        requires { IsOpen (memory self.now) id.0 }
+        ensures { IsTrue result ↔ (pages ≤ (memory self.now).free) };
+
+    /// Cuts this many pages off an area's end, as OS_ChangeDynamicArea shrinks one. They are free
+    /// from then on.
+    fn shrink(&mut self, id: AreaId, pages: usize)
+        requires opened { IsOpen (memory self.old) id.0 }
+        requires within { 4096 * pages ≤ length (bytes (memory self.old) id.0) }
+        ensures { memory self.new ≡ shrunk (memory self.old) id.0 pages };
+
+    /// The word of four bytes in little-endian order at an offset, at any alignment.
+    fn word(&self, id: AreaId, at: usize) -> u32
+        requires opened { IsOpen (memory self.now) id.0 }
+        requires within { at + 4 ≤ length (bytes (memory self.now) id.0) }
+        ensures { result ≡ word (bytes (memory self.now) id.0) at };
+
+    /// Writes a word of four bytes in little-endian order at an offset, at any alignment.
+    fn set_word(&mut self, id: AreaId, at: usize, w: u32)
+        requires opened { IsOpen (memory self.old) id.0 }
+        requires within { at + 4 ≤ length (bytes (memory self.old) id.0) }
+        ensures { memory self.new ≡ with_bytes (memory self.old) id.0
+            (put_word (bytes (memory self.old) id.0) at w) };
+
+    /// Moves n bytes within an area, from one offset to another. The two ranges may overlap.
+    fn slide(&mut self, id: AreaId, from: usize, to: usize, n: usize)
+        requires opened { IsOpen (memory self.old) id.0 }
+        requires source { from + n ≤ length (bytes (memory self.old) id.0) }
+        requires target { to + n ≤ length (bytes (memory self.old) id.0) }
+        ensures { memory self.new ≡ with_bytes (memory self.old) id.0
+            (put (bytes (memory self.old) id.0) to (part (bytes (memory self.old) id.0) from n)) };
+
+    /// Writes n zeros from an offset on.
+    fn zero(&mut self, id: AreaId, at: usize, n: usize)
+        requires opened { IsOpen (memory self.old) id.0 }
+        requires within { at + n ≤ length (bytes (memory self.old) id.0) }
+        ensures { memory self.new ≡ with_bytes (memory self.old) id.0
+            (put (bytes (memory self.old) id.0) at (replicate n 0)) };
+
+    /// Copies n bytes from an offset of one area to one of another, or of the same where the two
+    /// ranges don't overlap.
+    fn copy(&mut self, id: AreaId, at: usize, id2: AreaId, at2: usize, n: usize)
+        requires opened { IsOpen (memory self.old) id.0 }
+        requires opened2 { IsOpen (memory self.old) id2.0 }
+        requires source { at + n ≤ length (bytes (memory self.old) id.0) }
+        requires target { at2 + n ≤ length (bytes (memory self.old) id2.0) }
+        requires disjoint { id.0 ≡ id2.0 → (at + n ≤ at2) ⊎ (at2 + n ≤ at) }
+        ensures { memory self.new ≡ with_bytes (memory self.old) id2.0
+            (put (bytes (memory self.old) id2.0) at2 (part (bytes (memory self.old) id.0) at n)) };
+
+    /// Writes bytes that were lent, from an offset on.
+    fn copy_in(&mut self, id: AreaId, at: usize, from: &[u8])
+        requires opened { IsOpen (memory self.old) id.0 }
+        requires within { at + length from.now ≤ length (bytes (memory self.old) id.0) }
+        ensures { memory self.new ≡ with_bytes (memory self.old) id.0
+            (put (bytes (memory self.old) id.0) at from.now) };
+
+    /// Fills a buffer that was lent with the bytes from an offset on.
+    fn copy_out(&self, id: AreaId, at: usize, to: &mut [u8])
+        requires opened { IsOpen (memory self.now) id.0 }
+        requires within { at + length to.old ≤ length (bytes (memory self.now) id.0) }
+        ensures { to.new ≡ part (bytes (memory self.now) id.0) at (length to.old) };
+
+    /// An area's length in bytes.
+    fn len(&self, id: AreaId) -> usize
+        requires { IsOpen (memory self.now) id.0 }
+        ensures { result ≡ length (bytes (memory self.now) id.0) };
+
+    /// How many pages are free.
+    fn free_pages(&self) -> usize
+        ensures { result ≡ (memory self.now).free };
+
+    /// Free pages and the pages of all areas are those given at start, which no call changes.
+    ghost ledger: { (s : Self) → Ledger (memory s) MAX_AREAS };
+
+    /// Each area is a whole number of pages.
+    ghost whole: { (s : Self) (id : ℕ) → length (bytes (memory s) id) % 4096 ≡ 0 };
+
+    /// The free pages and an area's pages together are at most all pages.
+    ghost within: { (s : Self) (id : ℕ) →
+        4096 * (memory s).free + length (bytes (memory s) id) ≤ 4096 * (memory s).pages };
+
+    /// A store has at most 1,024 pages.
+    ghost few: { (s : Self) → (memory s).pages ≤ 2 ^ 10 };
+
+    /// So an area has at most 4 MiB, and sums of a few offsets and lengths can't wrap.
+    ghost small: { (s : Self) (id : ℕ) → length (bytes (memory s) id) ≤ 2 ^ 22 };
+
+    /// Open areas have numbers below `MAX_AREAS`.
+    ghost numbered: { (s : Self) (id : ℕ) → IsOpen (memory s) id → id < MAX_AREAS };
+}
