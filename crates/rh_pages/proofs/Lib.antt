@@ -1,0 +1,9 @@
+pub mod Areas
+pub mod Chunks
+pub mod Counts
+pub mod Regions
+pub mod Seats
+pub mod Spots
+pub mod Start
+pub mod Steps
+pub mod Turns

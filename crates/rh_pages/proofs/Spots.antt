@@ -1,0 +1,115 @@
+-- A part of one page of an area: where it stands, how it is read, and what a write there does.
+use Rattle.std.proofs.Common.{◌≡◌, ◌≢◌, ℕ, ◌+◌, ◌*◌, ◌/◌, ◌%◌, ◌<◌, ◌≤◌, Bool, inl, inr, List, [], length, get_or, refl, sym, ap, ◌∙◌, arith}
+use Rattle.std.specs.Prelude.{Some, IsSome, unwrap_or}
+use Rattle.std.proofs.lemmas.Bool.{cases_lt}
+use Rattle.rh_defs.specs.Bytes.{part, put}
+use Rattle.rh_defs.specs.Memory.{area_set, bytes, with_bytes}
+use Rattle.rh_defs.proofs.BytesLaws.{length-put}
+use Rattle.rh_pages.specs.Pages.{bytes_of, list_at, contents, memory_in, spot_in, times, IsStore}
+use Rattle.rh_pages.specs.Kept.{length-bytes, numbered_areas}
+use Rattle.rh_pages.proofs.Areas.{bytes_open, rewritten, ledger_set, memory_set}
+use Rattle.rh_pages.proofs.Chunks.{bytes_read, bytes_other, bytes_same, stands}
+use Rattle.rh_pages.proofs.Counts.{times_at, times_two}
+
+pub record Spot (r : List ℕ) (lists : List (List ℕ)) (flags : List Bool) (free : List ℕ) (pages limit id at n : ℕ) : Type 0 where
+  pub listed : at / 4096 < length (list_at lists id)
+  pub small : get_or (list_at lists id) (at / 4096) 0 < pages
+  pub within : spot_in lists id at + n ≤ length r
+  pub read : part r (spot_in lists id at) n ≡ part (bytes (memory_in r lists flags free pages) id) at n
+  pub kept : (ws : List ℕ) → length ws ≡ n → IsStore (put r (spot_in lists id at) ws) lists flags free pages limit
+  pub memory : (ws : List ℕ) → length ws ≡ n → memory_in (put r (spot_in lists id at) ws) lists flags free pages ≡ with_bytes (memory_in r lists flags free pages) id (put (bytes (memory_in r lists flags free pages) id) at ws)
+
+module _ (r : List ℕ) (lists : List (List ℕ)) (flags : List Bool) (free : List ℕ) (pages limit : ℕ) (ok : IsStore r lists flags free pages limit) where
+  -- a page that stands in an area is one of the region
+  pub page_below : (id i : ℕ) → i < length (list_at lists id) → get_or (list_at lists id) i 0 < pages
+  page_below id i li =
+      let k = get_or (list_at lists id) i 0 in
+      elim (cases_lt k pages) [
+        | inl h ↦ h
+        | inr h ↦ absurd (let a = ok.below k h in let b = stands k (list_at lists id) i li refl in let c = times_at k lists id in omega arith)
+      ]
+
+  module _ (id : ℕ) (o : IsSome (contents r lists flags id)) where
+    pub bytes_are : bytes (memory_in r lists flags free pages) id ≡ bytes_of r (list_at lists id)
+    unfolding bytes
+    bytes_are = bytes_open r lists flags id o
+
+    pub length_are : length (bytes (memory_in r lists flags free pages) id) ≡ 4096 * length (list_at lists id)
+    length_are = ap length bytes_are ∙ length-bytes r (list_at lists id)
+
+    module _ (at n : ℕ) (some : 0 < n) (inside : at + n ≤ length (bytes (memory_in r lists flags free pages) id)) (fits : at % 4096 + n ≤ 4096) where
+      abbrev i : ℕ
+      i = at / 4096
+
+      abbrev f : ℕ
+      f = at % 4096
+
+      abbrev ks : List ℕ
+      ks = list_at lists id
+
+      abbrev k : ℕ
+      k = get_or ks i 0
+
+      abbrev was : List ℕ
+      was = bytes (memory_in r lists flags free pages) id
+
+      listed : i < length ks
+      listed = let long = length_are in omega arith
+
+      is : 4096 * i + f ≡ at
+      is = omega arith
+
+      page_in : 4096 * k + 4096 ≤ length r
+      page_in = let a = page_below id i listed in let b = ok.size in omega arith
+
+      within : spot_in lists id at + n ≤ length r
+      within = let a = page_in in omega arith
+
+      read : part r (spot_in lists id at) n ≡ part was at n
+      read = sym (bytes_read r ks i f n listed fits) ∙ ap (λ m. part (bytes_of r ks) m n) is ∙ ap (λ l. part l at n) (sym bytes_are)
+
+      module _ (ws : List ℕ) (lw : length ws ≡ n) where
+        fit : f + length ws ≤ 4096
+        fit = omega arith
+
+        one : times k ks ≤ 1
+        one = let a = ok.once k in let b = times_at k lists id in omega arith
+
+        none : (j : ℕ) → j ≢ id → times k (list_at lists j) ≡ 0
+        none j ne = let a = ok.once k in let b = times_two k lists j id ne in let c = stands k ks i listed refl in omega arith
+
+        here : bytes_of (put r (spot_in lists id at) ws) ks ≡ put was at ws
+        here = bytes_same r k f ws fit page_in ks i listed refl one ∙ ap (λ m. put (bytes_of r ks) m ws) is ∙ ap (λ l. put l at ws) (sym bytes_are)
+
+        changed : contents (put r (spot_in lists id at) ws) lists flags ≡ area_set (contents r lists flags) id (Some (put was at ws))
+        changed = rewritten r (put r (spot_in lists id at) ws) lists lists flags id (put was at ws) o here (λ j ne. bytes_other r k f ws fit page_in (list_at lists j) (none j ne))
+
+        sum : length free + length (put was at ws) / 4096 ≡ length free + length (unwrap_or (contents r lists flags id) []) / 4096
+        unfolding bytes
+        sum = ap (λ m. length free + m / 4096) (length-put was at ws)
+
+        is_kept : IsStore (put r (spot_in lists id at) ws) lists flags free pages limit
+        is_kept = record {
+          size = length-put r (spot_in lists id at) ws ∙ ok.size;
+          table = ok.table;
+          flags = ok.flags;
+          once = ok.once;
+          below = ok.below;
+          empty = ok.empty;
+          ledger = ledger_set (contents r lists flags) (contents (put r (spot_in lists id at) ws) lists flags) id (Some (put was at ws)) (length free) (length free) pages limit changed
+              (numbered_areas r lists flags free pages limit id ok o) sum ok.ledger;
+        }
+
+        is_memory : memory_in (put r (spot_in lists id at) ws) lists flags free pages ≡ with_bytes (memory_in r lists flags free pages) id (put was at ws)
+        unfolding with_bytes
+        is_memory = memory_set (contents r lists flags) (contents (put r (spot_in lists id at) ws) lists flags) id (Some (put was at ws)) (length free) pages changed
+
+      pub spot : Spot r lists flags free pages limit id at n
+      spot = record {
+        listed = listed;
+        small = page_below id i listed;
+        within = within;
+        read = read;
+        kept = is_kept;
+        memory = is_memory;
+      }

@@ -1,0 +1,125 @@
+-- A store whose pages are all free, and areas that are opened and closed.
+use Rattle.std.proofs.Common.{◌≡◌, ℕ, zero, suc, ◌+◌, ◌*◌, ◌/◌, ◌<◌, ◌≤◌, Bool, true, false, inl, inr, List, [], ◌∷◌, ◌++◌, length, get_or, set, replicate, refl, sym, ap, ◌∙◌, arith}
+use Rattle.std.specs.Prelude.{Option, Some, None, unwrap_or}
+use Rattle.std.proofs.Math.Path.{fun_ext}
+use Rattle.std.proofs.lemmas.Bool.{cases_eq}
+use Rattle.std.proofs.lemmas.List.{length-replicate, length_push, length-set, get_or-set_other}
+use Rattle.rh_defs.specs.Memory.{area_set, opened, fresh}
+use Rattle.rh_defs.proofs.MemoryLaws.{pages_below-none}
+use Rattle.rh_pages.specs.Pages.{bytes_of, list_at, contents, memory_in, times, times_all, IsStore}
+use Rattle.rh_pages.proofs.Areas.{contents_marked, flagged, ledger_set, memory_set}
+use Rattle.rh_pages.proofs.Chunks.{head_tells}
+use Rattle.rh_pages.proofs.Counts.{times-push}
+
+-- 0, 1 and so on, n numbers
+abbrev pub first : ℕ → List ℕ
+first zero = []
+first (suc n) = first n ++ n ∷ []
+
+pub length_first : (n : ℕ) → length (first n) ≡ n
+length_first zero = refl
+length_first (suc n) = let a = length_first n in let b = length_push (first n) n in omega arith
+
+pub times_past : (j n : ℕ) → n ≤ j → times j (first n) ≡ 0
+times_past j zero le = refl
+times_past j (suc n) le = let a = times-push j n (first n) in let b = times_past j n (omega arith) in elim (head_tells n j) [ inl h ↦ let e = h.0 in absurd (omega arith) | inr h ↦ let z = h.1 in omega arith ]
+
+pub times_first : (j n : ℕ) → times j (first n) ≤ 1
+times_first j zero = omega arith
+times_first j (suc n) = let a = times-push j n (first n) in elim (head_tells n j) [
+  | inl h ↦ let e = h.0 in let o = h.1 in let b = times_past j n (omega arith) in omega arith
+  | inr h ↦ let z = h.1 in let b = times_first j n in omega arith
+]
+
+times_none : (j n : ℕ) → times_all j (replicate n []) ≡ 0
+times_none j zero = refl
+times_none j (suc n) = let a = times_none j n in omega arith
+
+list_none : (n j : ℕ) → list_at (replicate n []) j ≡ []
+list_none zero j = refl
+list_none (suc n) zero = refl
+list_none (suc n) (suc j) = list_none n j
+
+flag_none : (n j : ℕ) → get_or (replicate n false) j false ≡ false
+flag_none zero j = refl
+flag_none (suc n) zero = refl
+flag_none (suc n) (suc j) = flag_none n j
+
+module _ (r : List ℕ) (lists : List (List ℕ)) (flags : List Bool) (free : List ℕ) (pages limit : ℕ) (no_lists : lists ≡ replicate limit []) (no_flags : flags ≡ replicate limit false) (all : free ≡ first pages) where
+  all_closed : (j : ℕ) → contents r lists flags j ≡ None
+  all_closed j = contents_marked r lists flags j false (ap (λ (l : List Bool). get_or l j false) no_flags ∙ flag_none limit j)
+
+  count : length free ≡ pages
+  count = ap length all ∙ length_first pages
+
+  pub fresh_kept : length r ≡ 4096 * pages → IsStore r lists flags free pages limit
+  fresh_kept size = record {
+    size = size;
+    table = ap length no_lists ∙ length-replicate {A = List ℕ} limit [];
+    flags = ap length no_flags ∙ length-replicate {A = Bool} limit false;
+    once = λ j. let a = ap (times_all j) no_lists ∙ times_none j limit in let b = ap (times j) all in let c = times_first j pages in omega arith;
+    below = λ j h. let a = ap (times_all j) no_lists ∙ times_none j limit in let b = ap (times j) all in let c = times_past j pages h in omega arith;
+    empty = λ j off. ap (λ l. list_at l j) no_lists ∙ list_none limit j;
+    ledger = let none = pages_below-none (contents r lists flags) limit all_closed in let c = count in omega arith;
+  }
+
+  pub fresh_memory : memory_in r lists flags free pages ≡ fresh pages
+  unfolding fresh
+  fresh_memory = let areas : contents r lists flags ≡ (λ k. None) = fun_ext all_closed in λ i. record { area = areas i; free = count i; pages = pages }
+
+module _ (r : List ℕ) (lists : List (List ℕ)) (flags : List Bool) (free : List ℕ) (pages limit : ℕ) (ok : IsStore r lists flags free pages limit) (id : ℕ) (lt : id < limit) where
+  in_table : id < length flags
+  in_table = let t = ok.flags in omega arith
+
+  -- a closed area is opened
+  module _ (off : get_or flags id false ≡ false) where
+    no_pages : list_at lists id ≡ []
+    no_pages = ok.empty id off
+
+    pub was_closed : contents r lists flags id ≡ None
+    was_closed = contents_marked r lists flags id false off
+
+    area_opened : contents r lists (set flags id true) ≡ area_set (contents r lists flags) id (Some [])
+    area_opened = flagged r lists flags id true in_table ∙ ap (λ (l : List ℕ). area_set (contents r lists flags) id (Some (bytes_of r l))) no_pages
+
+    pub opened_kept : IsStore r lists (set flags id true) free pages limit
+    opened_kept = record {
+      size = ok.size;
+      table = ok.table;
+      flags = length-set flags id true ∙ ok.flags;
+      once = ok.once;
+      below = ok.below;
+      empty = λ j h. elim (cases_eq j id) [
+        | inl e ↦ ap (list_at lists) e ∙ no_pages
+        | inr ne ↦ ok.empty j (sym (get_or-set_other flags id j true false ne) ∙ h)
+      ];
+      ledger = ledger_set (contents r lists flags) (contents r lists (set flags id true)) id (Some []) (length free) (length free) pages limit area_opened lt
+          (ap (λ (o : Option (List ℕ)). length free + length (unwrap_or o []) / 4096) (sym was_closed)) ok.ledger;
+    }
+
+    pub opened_memory : memory_in r lists (set flags id true) free pages ≡ opened (memory_in r lists flags free pages) id
+    unfolding opened
+    opened_memory = memory_set (contents r lists flags) (contents r lists (set flags id true)) id (Some []) (length free) pages area_opened
+
+  -- an area without pages is closed
+  module _ (none : list_at lists id ≡ []) (no_bytes : length (unwrap_or (contents r lists flags id) []) ≡ 0) where
+    area_closed : contents r lists (set flags id false) ≡ area_set (contents r lists flags) id None
+    area_closed = flagged r lists flags id false in_table
+
+    pub closed_kept : IsStore r lists (set flags id false) free pages limit
+    closed_kept = record {
+      size = ok.size;
+      table = ok.table;
+      flags = length-set flags id false ∙ ok.flags;
+      once = ok.once;
+      below = ok.below;
+      empty = λ j h. elim (cases_eq j id) [
+        | inl e ↦ ap (list_at lists) e ∙ none
+        | inr ne ↦ ok.empty j (sym (get_or-set_other flags id j false false ne) ∙ h)
+      ];
+      ledger = ledger_set (contents r lists flags) (contents r lists (set flags id false)) id None (length free) (length free) pages limit area_closed lt
+          (ap (λ k. length free + k / 4096) (sym no_bytes)) ok.ledger;
+    }
+
+    pub closed_memory : memory_in r lists (set flags id false) free pages ≡ record { area = area_set (contents r lists flags) id None; free = length free; pages = pages }
+    closed_memory = memory_set (contents r lists flags) (contents r lists (set flags id false)) id None (length free) pages area_closed

@@ -1,0 +1,54 @@
+use Rattle.std.proofs.Common.{◌≡◌, ◌/◌, ℕ, List, [], ◌∷◌, length, refl, sym, subst, ap, ◌∙◌, arith}
+use Rattle.std.specs.Prelude.{None}
+use Rattle.rh_store.specs.declared.store.TheConstants.{MAX_AREAS}
+use Rattle.rh_defs.specs.Memory.{Memory, IsOpen, area_set, bytes, shrunk}
+use Rattle.rh_defs.proofs.MemoryLaws.{IsOpen-shrunk, length-shrunk}
+use Rattle.rh_pages.specs.declared.paged.PagedStore.{PagedStore}
+use Rattle.rh_pages.specs.Pages.{list_at, IsStore, memory_in}
+use Rattle.rh_pages.specs.Paged.{memory_of, whole_law, numbered_law}
+use Rattle.std.specs.Prelude.{false}
+use Rattle.std.proofs.Common.{set}
+use Rattle.rh_pages.proofs.Seats.{area_long}
+use Rattle.rh_pages.proofs.Start.{closed_kept, closed_memory}
+use Rattle.rh_pages.proofs.Steps.{closed_shrunk}
+use Rattle.rh_pages.proofs.paged.store.PagedStoreStore.close.Goals as goal
+
+none_in : (xs : List ℕ) → length xs ≡ 0 → xs ≡ []
+none_in [] e = refl
+none_in (x ∷ xs) e = absurd (omega arith)
+
+-- what is left to close after all pages were cut off
+record Emptied (s w : PagedStore) (id : ℕ) : Type 0 where
+  pub kept : IsStore w.region w.areas.items (set w.opened.items id false) w.free w.pages MAX_AREAS
+  pub memory : memory_in w.region w.areas.items (set w.opened.items id false) w.free w.pages ≡ record { area = area_set (memory_of w).area id None; free = (memory_of w).free; pages = (memory_of w).pages }
+
+emptied : (s w : PagedStore) (id n : ℕ) → IsOpen (memory_of s) id → memory_of w ≡ shrunk (memory_of s) id n → n ≡ length (bytes (memory_of s) id) / 4096 → Emptied s w id
+unfolding memory_of bytes
+emptied s w id n o e all =
+    let lt = numbered_law s id o in
+    let ow : IsOpen (memory_of w) id = subst (λ k. IsOpen k id) (sym e) (IsOpen-shrunk (memory_of s) id n) in
+    let whole = whole_law s id in let left = ap (λ k. length (bytes k id)) e ∙ length-shrunk (memory_of s) id n in
+    let no_bytes : length (bytes (memory_of w) id) ≡ 0 = omega arith in
+    let long = area_long w id ow in
+    let none = none_in (list_at w.areas.items id) (omega arith) in
+    record {
+      kept = closed_kept w.region w.areas.items w.opened.items w.free w.pages MAX_AREAS w.kept id lt none no_bytes;
+      memory = closed_memory w.region w.areas.items w.opened.items w.free w.pages MAX_AREAS w.kept id lt none no_bytes;
+    }
+
+pub index_mut-requires : goal.index_mut-requires
+index_mut-requires c = let lt = numbered_law c.args.self.now c.args.id.0 c.requires in let t = c.shrink.new.self.kept.flags in omega arith
+
+pub invariant_of-self : goal.invariant_of-self
+invariant_of-self c =
+    let w = c.shrink.new.self in
+    record { few = w.few; kept = (emptied c.args.self.now w c.args.id.0 (c.len-pages.result / 4096) c.requires c.shrink.ensures (ap (λ k. k / 4096) c.len-pages.ensures)).kept }
+
+pub returns : goal.returns
+unfolding memory_of
+returns c =
+    let s = c.args.self.now in let w = c.shrink.new.self in let id = c.args.id.0 in let n = c.len-pages.result / 4096 in
+    let all = ap (λ k. k / 4096) c.len-pages.ensures in
+    (emptied s w id n c.requires c.shrink.ensures all).memory
+    ∙ ap (λ (k : Memory). let m : Memory = record { area = area_set k.area id None; free = k.free; pages = k.pages } in m) c.shrink.ensures
+    ∙ closed_shrunk (memory_of s) id n all

@@ -1,0 +1,39 @@
+-- The memory of a paged store, where its pages stand, and why the laws of `Store` hold of it.
+use Rattle.std.specs.Prelude.{ℕ, ◌+◌, ◌*◌, ◌%◌, ◌^◌, ◌<◌, ◌≤◌, ◌≡◌, length, get_or}
+use Rattle.rh_store.specs.declared.store.TheConstants.{MAX_AREAS}
+use Rattle.rh_defs.specs.Memory.{Memory, IsOpen, Ledger, bytes}
+use Rattle.rh_pages.specs.declared.paged.PagedStore.{PagedStore}
+use Rattle.rh_pages.specs.Pages.{list_at, memory_in}
+use Rattle.rh_pages.specs.Kept.{whole_areas, within_pool, few_pages, small_areas, numbered_areas}
+
+-- what its areas contain, its free pages and all its pages
+unfoldable pub memory_of : PagedStore → Memory
+memory_of s = memory_in s.region s.areas.items s.opened.items s.free s.pages
+
+-- where page i of an area stands in the region
+unfoldable pub place_of : PagedStore → ℕ → ℕ → ℕ
+place_of s id i = 4096 * get_or (list_at s.areas.items id) i 0
+
+pub ledger_law : (s : PagedStore) → Ledger (memory_of s) MAX_AREAS
+unfolding memory_of
+ledger_law s = s.kept.ledger
+
+pub whole_law : (s : PagedStore) (id : ℕ) → length (bytes (memory_of s) id) % 4096 ≡ 0
+unfolding memory_of
+whole_law s id = whole_areas s.region s.areas.items s.opened.items s.free s.pages id
+
+pub within_law : (s : PagedStore) (id : ℕ) → 4096 * (memory_of s).free + length (bytes (memory_of s) id) ≤ 4096 * (memory_of s).pages
+unfolding memory_of
+within_law s id = within_pool s.region s.areas.items s.opened.items s.free s.pages MAX_AREAS id s.kept
+
+pub few_law : (s : PagedStore) → (memory_of s).pages ≤ 2 ^ 10
+unfolding memory_of
+few_law s = few_pages s.pages s.few
+
+pub small_law : (s : PagedStore) (id : ℕ) → length (bytes (memory_of s) id) ≤ 2 ^ 22
+unfolding memory_of
+small_law s id = small_areas s.region s.areas.items s.opened.items s.free s.pages MAX_AREAS id s.few s.kept
+
+pub numbered_law : (s : PagedStore) (id : ℕ) → IsOpen (memory_of s) id → id < MAX_AREAS
+unfolding memory_of
+numbered_law s id o = numbered_areas s.region s.areas.items s.opened.items s.free s.pages MAX_AREAS id s.kept o

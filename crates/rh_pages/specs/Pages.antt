@@ -1,0 +1,52 @@
+-- Areas that are made of pages of a region.
+use Rattle.std.specs.Prelude.{◌≡◌, ℕ, ◌+◌, ◌*◌, ◌/◌, ◌%◌, ◌≤◌, ◌==◌, if◌then◌else◌, Bool, false, List, [], ◌∷◌, ◌++◌, length, get_or, Option, Some, None}
+use Rattle.rh_defs.specs.Bytes.{part}
+use Rattle.rh_defs.specs.Memory.{Memory, Ledger}
+
+-- the 4096 bytes of a page of the region
+abbrev pub page : List ℕ → ℕ → List ℕ
+page region k = part region (4096 * k) 4096
+
+-- the bytes of pages, one page after another
+abbrev pub bytes_of : List ℕ → List ℕ → List ℕ
+bytes_of region [] = []
+bytes_of region (k ∷ ks) = page region k ++ bytes_of region ks
+
+-- the page list of an area
+abbrev pub list_at : List (List ℕ) → ℕ → List ℕ
+list_at lists id = get_or lists id []
+
+-- what the area of a number contains, None where it is closed
+unfoldable pub contents : List ℕ → List (List ℕ) → List Bool → ℕ → Option (List ℕ)
+contents region lists opened id = if get_or opened id false then Some (bytes_of region (list_at lists id)) else None
+
+-- the memory that these areas make up
+abbrev pub memory_in : List ℕ → List (List ℕ) → List Bool → List ℕ → ℕ → Memory
+memory_in region lists opened free pages = record { area = contents region lists opened; free = length free; pages = pages }
+
+-- where the byte at an offset of an area stands in the region
+abbrev pub spot_in : List (List ℕ) → ℕ → ℕ → ℕ
+spot_in lists id at = 4096 * get_or (list_at lists id) (at / 4096) 0 + at % 4096
+
+-- how often a page stands in a list
+abbrev pub times : ℕ → List ℕ → ℕ
+times k [] = 0
+times k (x ∷ xs) = (if x == k then 1 else 0) + times k xs
+
+-- how often it stands in all lists
+abbrev pub times_all : ℕ → List (List ℕ) → ℕ
+times_all k [] = 0
+times_all k (x ∷ xs) = times k x + times_all k xs
+
+-- page lists and a free list that share out the pages of a region
+pub record IsStore (region : List ℕ) (lists : List (List ℕ)) (opened : List Bool) (free : List ℕ) (pages limit : ℕ) : Type 0 where
+  pub size : length region ≡ 4096 * pages
+  pub table : length lists ≡ limit
+  pub flags : length opened ≡ limit
+  -- no page stands in two places
+  pub once : (k : ℕ) → times_all k lists + times k free ≤ 1
+  -- and each that stands somewhere is one of the region
+  pub below : (k : ℕ) → pages ≤ k → times_all k lists + times k free ≡ 0
+  -- a closed area has no pages
+  pub empty : (id : ℕ) → get_or opened id false ≡ false → list_at lists id ≡ []
+  pub ledger : Ledger (memory_in region lists opened free pages) limit

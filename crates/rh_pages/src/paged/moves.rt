@@ -1,0 +1,77 @@
+//! Moves of any number of bytes, in runs that are cut at the page ends of their source and target.
+#![tactic(auto, unfolding(rh_defs::specs::Memory::bytes, crate::specs::Paged::memory_of))]
+
+use super::PagedStore;
+use rh_region::PAGE;
+use rh_store::AreaId;
+
+impl PagedStore {
+    ghost use Rattle.std.specs.Prelude.{◌≡◌, ◌≢◌, ℕ, ◌+◌, ◌^◌, ◌≤◌, length};
+    ghost use Rattle.rh_defs.specs.Bytes.{part, put};
+    ghost use Rattle.rh_defs.specs.Memory.{IsOpen, bytes, with_bytes};
+    ghost use Rattle.rh_pages.specs.Paged.{memory_of};
+
+    /// Moves n bytes of an area to lower offsets, from their lower end on.
+    pub(super) fn slide_down(&mut self, id: AreaId, from: usize, to: usize, n: usize)
+        requires opened { IsOpen (memory_of self.old) id.0 }
+        requires down { to ≤ from }
+        requires source { from + n ≤ length (bytes (memory_of self.old) id.0) }
+        requires small { length (bytes (memory_of self.old) id.0) ≤ 2 ^ 22 }
+        ensures { memory_of self.new ≡ with_bytes (memory_of self.old) id.0
+            (put (bytes (memory_of self.old) id.0) to (part (bytes (memory_of self.old) id.0) from n)) }
+    {
+        let mut done = 0;
+        while done < n {
+            let source = from + done;
+            let target = to + done;
+            let run = (n - done)
+                .min(PAGE - source % PAGE)
+                .min(PAGE - target % PAGE);
+            self.copy_part(id, source, id, target, run);
+            done += run;
+        }
+    }
+
+    /// Moves n bytes of an area to higher offsets, from their upper end on.
+    pub(super) fn slide_up(&mut self, id: AreaId, from: usize, to: usize, n: usize)
+        requires opened { IsOpen (memory_of self.old) id.0 }
+        requires up { from ≤ to }
+        requires target { to + n ≤ length (bytes (memory_of self.old) id.0) }
+        requires small { length (bytes (memory_of self.old) id.0) ≤ 2 ^ 22 }
+        ensures { memory_of self.new ≡ with_bytes (memory_of self.old) id.0
+            (put (bytes (memory_of self.old) id.0) to (part (bytes (memory_of self.old) id.0) from n)) }
+    {
+        let mut left = n;
+        while left > 0 {
+            let run = left
+                .min((from + left - 1) % PAGE + 1)
+                .min((to + left - 1) % PAGE + 1);
+            left -= run;
+            self.copy_part(id, from + left, id, to + left, run);
+        }
+    }
+
+    /// Copies n bytes of an area to another one.
+    pub(super) fn copy_across(&mut self, id: AreaId, at: usize, id2: AreaId, at2: usize, n: usize)
+        requires opened { IsOpen (memory_of self.old) id.0 }
+        requires opened2 { IsOpen (memory_of self.old) id2.0 }
+        requires apart { id.0 ≢ id2.0 }
+        requires source { at + n ≤ length (bytes (memory_of self.old) id.0) }
+        requires target { at2 + n ≤ length (bytes (memory_of self.old) id2.0) }
+        requires small { length (bytes (memory_of self.old) id.0) ≤ 2 ^ 22 }
+        requires small2 { length (bytes (memory_of self.old) id2.0) ≤ 2 ^ 22 }
+        ensures { memory_of self.new ≡ with_bytes (memory_of self.old) id2.0
+            (put (bytes (memory_of self.old) id2.0) at2 (part (bytes (memory_of self.old) id.0) at n)) }
+    {
+        let mut done = 0;
+        while done < n {
+            let source = at + done;
+            let target = at2 + done;
+            let run = (n - done)
+                .min(PAGE - source % PAGE)
+                .min(PAGE - target % PAGE);
+            self.copy_part(id, source, id2, target, run);
+            done += run;
+        }
+    }
+}

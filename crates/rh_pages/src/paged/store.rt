@@ -1,0 +1,151 @@
+//! The calls of `Store`, over page lists.
+#![tactic(auto, unfolding(rh_defs::specs::Memory::bytes, crate::specs::Paged::memory_of))]
+
+ghost use Rattle.std.specs.Prelude.{◌≡◌, ℕ, ◌<◌, true, false, get_or, length, unwrap_or, IfSome};
+
+use super::PagedStore;
+use rh_region::PAGE;
+use rh_store::{AreaId, Store, StoreFault};
+
+/// The number of the first area that isn't open.
+fn first_closed(opened: &[bool]) -> Option<usize>
+    ensures closed { IfSome result (λ i. (i < length opened.now) × (get_or opened.now i false ≡ false)) }
+    ensures least { (k : ℕ) → k < unwrap_or result (length opened.now) → get_or opened.now k false ≡ true }
+{
+    for (i, is_open) in opened.iter().enumerate() {
+        if !*is_open {
+            return Some(i);
+        }
+    }
+    None
+}
+
+impl Store for PagedStore {
+    ghost use Rattle.rh_pages.specs.Paged.{memory_of, ledger_law, whole_law, within_law, few_law, small_law, numbered_law};
+
+    ghost memory = { memory_of };
+
+    fn open(&mut self) -> Result<AreaId, StoreFault> {
+        match first_closed(&self.opened) {
+            None => Err(StoreFault::TooManyAreas),
+            Some(i) => {
+                self.opened[i] = true;
+                Ok(AreaId(i as u8))
+            }
+        }
+    }
+
+    fn close(&mut self, id: AreaId) {
+        let pages = self.len(id) / PAGE;
+        self.shrink(id, pages);
+        self.opened[id.0 as usize] = false;
+    }
+
+    fn grow(&mut self, id: AreaId, pages: usize) -> Result<(), StoreFault> {
+        if self.free.len() < pages {
+            return Err(StoreFault::NoPages);
+        }
+        for _page in 0..pages {
+            self.grow_page(id);
+        }
+        Ok(())
+    }
+
+    fn grow_check(&self, id: AreaId, pages: usize) -> bool {
+        pages <= self.free.len()
+    }
+
+    fn shrink(&mut self, id: AreaId, pages: usize) {
+        for _page in 0..pages {
+            self.shrink_page(id);
+        }
+    }
+
+    fn word(&self, id: AreaId, at: usize) -> u32 {
+        if at % PAGE <= PAGE - 4 {
+            let place = self.spot(id, at);
+            self.region.word(place)
+        } else {
+            let mut bytes = [0; 4];
+            self.copy_out(id, at, &mut bytes);
+            u32::from_le_bytes(bytes)
+        }
+    }
+
+    fn set_word(&mut self, id: AreaId, at: usize, w: u32) {
+        if at % PAGE <= PAGE - 4 {
+            let place = self.spot(id, at);
+            self.region.set_word(place, w);
+        } else {
+            self.copy_in(id, at, &w.to_le_bytes());
+        }
+    }
+
+    fn slide(&mut self, id: AreaId, from: usize, to: usize, n: usize) {
+        if to <= from {
+            self.slide_down(id, from, to, n);
+        } else {
+            self.slide_up(id, from, to, n);
+        }
+    }
+
+    fn zero(&mut self, id: AreaId, at: usize, n: usize) {
+        let mut done = 0;
+        while done < n {
+            let target = at + done;
+            let run = (n - done).min(PAGE - target % PAGE);
+            self.zero_part(id, target, run);
+            done += run;
+        }
+    }
+
+    fn copy(&mut self, id: AreaId, at: usize, id2: AreaId, at2: usize, n: usize) {
+        if id.0 == id2.0 {
+            self.slide(id, at, at2, n);
+        } else {
+            self.copy_across(id, at, id2, at2, n);
+        }
+    }
+
+    fn copy_in(&mut self, id: AreaId, at: usize, from: &[u8]) {
+        let n = from.len();
+        let mut done = 0;
+        while done < n {
+            let target = at + done;
+            let run = (n - done).min(PAGE - target % PAGE);
+            self.put_part(id, target, &from[done..done + run]);
+            done += run;
+        }
+    }
+
+    fn copy_out(&self, id: AreaId, at: usize, to: &mut [u8]) {
+        let n = to.len();
+        let mut done = 0;
+        while done < n {
+            let source = at + done;
+            let run = (n - done).min(PAGE - source % PAGE);
+            self.get_part(id, source, &mut to[done..done + run]);
+            done += run;
+        }
+    }
+
+    fn len(&self, id: AreaId) -> usize {
+        PAGE * self.areas[id.0 as usize].len()
+    }
+
+    fn free_pages(&self) -> usize {
+        self.free.len()
+    }
+
+    ghost ledger = { ledger_law };
+
+    ghost whole = { whole_law };
+
+    ghost within = { within_law };
+
+    ghost few = { few_law };
+
+    ghost small = { small_law };
+
+    ghost numbered = { numbered_law };
+}
