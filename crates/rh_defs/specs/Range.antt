@@ -5,6 +5,7 @@ use Rattle.rh_defs.specs.declared.command.Command.{Command}
 use Rattle.rh_defs.specs.declared.command.Command.TheVariants as command
 use Rattle.rh_defs.specs.Forms.{is_name, is_anchor, is_number, is_buffer}
 
+-- whether a command is one that a line can spell
 unfoldable pub in_range : Command → Bool
 in_range (command.Task name buffer) = is_name name && is_buffer buffer
 in_range (command.Alloc name k n) = is_name name && is_anchor k && is_number n

@@ -31,24 +31,28 @@ start_task d name buffer = do
   s ← slot_begin (free_pages d)
   Ok (with_new_task name buffer s d, reply.Started d.next_handle)
 
+-- a block of zeros on top of the task's slot
 unfoldable pub alloc : Desk → List ℕ → ℕ → ℕ → Granted Answer
 alloc d name k n = do
   t ← named name d
   p ← slot_alloc (free_pages d) k (zeros n) t.slot
   Ok (with_slot t.handle p.0 d, reply.Block p.1)
 
+-- bytes written into a block
 unfoldable pub put : Desk → List ℕ → ℕ → ℕ → List ℕ → Granted Answer
 put d name k offset bytes = do
   t ← named name d
   s ← slot_put k offset bytes t.slot
   Ok (with_slot t.handle s d, reply.Done)
 
+-- a block's size; its bytes are printed from the desk
 unfoldable pub show : Desk → List ℕ → ℕ → Granted Answer
 show d name k = do
   t ← named name d
   b ← slot_block k t.slot
   Ok (d, reply.Shown (length b.here.bytes))
 
+-- how many blocks the task has; they are printed from the desk
 unfoldable pub blocks : Desk → List ℕ → Granted Answer
 blocks d name = do
   t ← named name d

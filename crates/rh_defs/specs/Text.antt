@@ -26,6 +26,7 @@ joined (x ∷ xs) = x ++ joined xs
 unfoldable pub address : ℕ → List ℕ
 address n = codes "&" ++ digits 16 true n
 
+-- a refusal's name as it is printed
 abbrev pub refusal_name : Refusal → List ℕ
 refusal_name NameInUse = codes "NameInUse"
 refusal_name NoName = codes "NoName"
