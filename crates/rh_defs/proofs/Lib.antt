@@ -8,3 +8,9 @@ pub mod FileLemmas
 pub mod Examples
 pub mod BytesLaws
 pub mod MemoryLaws
+pub mod HeapLists
+pub mod HeapLaws
+pub mod HeapStretch
+pub mod HeapRows
+pub mod HeapFaults
+pub mod HeapGrowth

@@ -15,3 +15,5 @@ pub mod Text
 pub mod Script
 pub mod Bytes
 pub mod Memory
+pub mod Heap
+pub mod HeapImage

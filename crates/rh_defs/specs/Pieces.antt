@@ -1,5 +1,5 @@
 -- Lists whose members lie one after the other, and numbers rounded up.
-use Rattle.std.specs.Prelude.{ℕ, ◌+◌, ◌-◌, ◌*◌, ◌/◌, Bool, if◌then◌else◌, List, [], ◌∷◌, ◌++◌, length, take, drop, replicate, Option, Some, None}
+use Rattle.std.specs.Prelude.{ℕ, ◌+◌, ◌-◌, ◌*◌, ◌/◌, ℤ, pos, negsuc, Bool, if◌then◌else◌, List, [], ◌∷◌, ◌++◌, length, take, drop, replicate, Option, Some, None}
 use Rattle.std.specs.Option.{option_map}
 
 -- the next multiple of the unit that is not below n
@@ -13,6 +13,11 @@ page = 4096
 -- how many pages hold n bytes
 abbrev pub pages_for : ℕ → ℕ
 pages_for n = (n + 4095) / 4096
+
+-- n moved by a signed amount; 0 where that would be below 0
+abbrev pub moved : ℕ → ℤ → ℕ
+moved n (pos k) = n + k
+moved n (negsuc k) = n - (k + 1)
 
 -- n zero bytes
 abbrev pub zeros : ℕ → List ℕ

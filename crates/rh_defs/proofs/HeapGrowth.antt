@@ -1,0 +1,76 @@
+-- A call with growth is the call on the longer heap.
+use Rattle.std.proofs.Common.{◌≡◌, ℕ, ◌+◌, ◌-◌, ◌<◌, ◌≤◌, ◌≢◌, Bool, true, false, cond, eqb, leb, ltb, List, [], ◌∷◌, refl, sym, ap, ◌∙◌, arith}
+use Rattle.std.proofs.lemmas.Bool.Decides.{nat_tests}
+use Rattle.std.specs.Prelude.{Option, Some, None, Ok}
+use Rattle.rh_defs.specs.Pieces.{Split}
+use Rattle.rh_defs.specs.Heap.{Segment, Used, Hole, Heap, Way, Stays, Shrinks, GrowsIntoHole, GrowsAtTop, MovesToHole, MovesToTop, size_of, place_after, hole_for, shortage_in, segment_size, need, claim, raised, claim_growing, way_beyond, way_to_grow, way_to, end_for, resize_need, resized, resized_by, fitted, block_room, bytes_of, resize_growing}
+use Rattle.rh_defs.proofs.HeapLists.{cond_true, cond_false, eqb_same, eqb_apart, leb_yes, leb_no}
+
+none_short : (t : ℕ) (h : Heap) (o : Option (Split Segment)) → shortage_in t (raised (shortage_in t h o) h) o ≡ 0
+none_short t h (Some s) = refl
+none_short t h None = omega arith
+
+-- the heap that is raised by the need has room
+pub need-raised : (n : ℕ) (h : Heap) → need n (raised (need n h) h) ≡ 0
+need-raised n h = none_short (segment_size n) h (hole_for (segment_size n) h.segments)
+
+pub claim-raised : (n : ℕ) (h : Heap) → n ≢ 0 → claim n (raised (need n h) h) ≡ Ok (claim_growing n h)
+claim-raised n h ne =
+    cond_false (eqb n 0) _ _ (eqb_apart n 0 ne)
+    ∙ cond_true (eqb (need n (raised (need n h) h)) 0) _ _ (eqb_same (need n (raised (need n h) h)) 0 (need-raised n h))
+
+le_of : (x y : ℕ) → leb x y ≡ true → x ≤ y
+le_of x y e = grind (arith, nat_tests)
+
+gt_of : (x y : ℕ) → leb x y ≡ false → y < x
+gt_of x y e = grind (arith, nat_tests)
+
+same_top : (b : Bool) (o : Option (Split Segment)) → o ≡ None → cond b GrowsAtTop (way_beyond [] o) ≡ GrowsAtTop
+same_top true o e = refl
+same_top false o e = ap (way_beyond []) e
+
+-- a longer heap, by what the way wants, leaves the way
+grow_same : (t : ℕ) (s : Split Segment) (after : List Segment) (h : Heap) (k : ℕ) → k ≡ end_for (way_to_grow t s after h) t s h - h.end → way_to_grow t s after (raised k h) ≡ way_to_grow t s after h
+grow_same t s (Used bs ∷ after) h k e = refl
+grow_same t s (Hole n ∷ after) h k e = refl
+grow_same t s [] h k e = go (leb (place_after s.before + t) h.end) refl (hole_for t h.segments) refl
+  where
+    go : (b : Bool) → leb (place_after s.before + t) h.end ≡ b → (o : Option (Split Segment)) → hole_for t h.segments ≡ o → way_to_grow t s [] (raised k h) ≡ way_to_grow t s [] h
+    go true eb o eo =
+        let l = le_of (place_after s.before + t) h.end eb in
+        cond_true (leb (place_after s.before + t) (raised k h).end) _ _ (leb_yes (place_after s.before + t) (raised k h).end (omega arith)) ∙ sym (cond_true (leb (place_after s.before + t) h.end) _ _ eb)
+    go false eb None eo = same_top (leb (place_after s.before + t) (raised k h).end) (hole_for t h.segments) eo ∙ sym (same_top (leb (place_after s.before + t) h.end) (hole_for t h.segments) eo)
+    go false eb (Some hole) eo =
+        let g = gt_of (place_after s.before + t) h.end eb in
+        let v : way_to_grow t s [] h ≡ MovesToHole hole = cond_false (leb (place_after s.before + t) h.end) _ _ eb ∙ ap (way_beyond []) eo in
+        let z : k ≡ 0 = e ∙ ap (λ (w : Way). end_for w t s h - h.end) v ∙ omega arith in
+        cond_false (leb (place_after s.before + t) (raised k h).end) _ _ (leb_no (place_after s.before + t) (raised k h).end (omega arith)) ∙ sym (cond_false (leb (place_after s.before + t) h.end) _ _ eb)
+
+pub way-raised : (t : ℕ) (s : Split Segment) (h : Heap) → way_to t s (raised (end_for (way_to t s h) t s h - h.end) h) ≡ way_to t s h
+way-raised t s h = go (eqb t (size_of s.here)) (ltb t (size_of s.here)) (end_for (way_to t s h) t s h - h.end) refl
+  where
+    go : (a b : Bool) (k : ℕ) → k ≡ end_for (cond a Stays (cond b Shrinks (way_to_grow t s s.after h))) t s h - h.end
+        → cond a Stays (cond b Shrinks (way_to_grow t s s.after (raised k h))) ≡ cond a Stays (cond b Shrinks (way_to_grow t s s.after h))
+    go true b k e = refl
+    go false true k e = refl
+    go false false k e = grow_same t s s.after h k e
+
+-- a resize with growth is the resize of the longer heap
+pub resize-raised : (n : ℕ) (s : Split Segment) (h : Heap) → resized n s (raised (resize_need n s h) h) (raised (resize_need n s h) h) ≡ resize_growing n s h
+resize-raised n s h =
+    ap (λ (w : Way). resized_by w (fitted (block_room n) (bytes_of s.here)) s (raised (resize_need n s h) h)) (way-raised (segment_size n) s h)
+
+enough : (w : Way) (t : ℕ) (s : Split Segment) (h : Heap) → end_for w t s (raised (end_for w t s h - h.end) h) ≤ (raised (end_for w t s h - h.end) h).end
+enough Stays t s h = omega arith
+enough Shrinks t s h = omega arith
+enough (GrowsIntoHole n rest) t s h = omega arith
+enough GrowsAtTop t s h = omega arith
+enough (MovesToHole hole) t s h = omega arith
+enough MovesToTop t s h = omega arith
+
+-- and that heap has room
+pub resize_need-raised : (n : ℕ) (s : Split Segment) (h : Heap) → resize_need n s (raised (resize_need n s h) h) ≡ 0
+resize_need-raised n s h =
+    let t = segment_size n in
+    let g = raised (resize_need n s h) h in
+    ap (λ (w : Way). end_for w t s g - g.end) (way-raised t s h) ∙ (let l = enough (way_to t s h) t s h in omega arith)

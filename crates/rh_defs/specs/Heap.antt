@@ -1,0 +1,296 @@
+-- Heaps as lists of used segments and holes, and the calls on them.
+use Rattle.std.specs.Prelude.{◌≡◌, ℕ, zero, suc, ◌+◌, ◌-◌, ◌<◌, ◌≤◌, ◌%◌, ℤ, Bool, true, false, nat_lt, nat_le, ◌==◌, max, if◌then◌else◌, List, [], ◌∷◌, ◌++◌, length, take, Option, Some, None, Result, Ok, Err}
+use Rattle.std.specs.Option.{option_map}
+use Rattle.rh_defs.specs.Pieces.{round_up, page, zeros, moved, total, Split, first_at, with_here}
+use Rattle.rh_defs.specs.declared.heap.HeapFault.{HeapFault}
+use Rattle.rh_defs.specs.declared.heap.HeapFault.TheVariants.{NotABlock, BadSize, NoRoom, ExcessiveShrink}
+
+-- a block with its bytes, or free bytes between blocks
+pub data Segment : Type 0 where
+  Used : (bytes : List ℕ) → Segment
+  Hole : (size : ℕ) → Segment
+
+-- segments one after the other, and the number of bytes that the heap may take
+pub record Heap : Type 0 where
+  pub segments : List Segment
+  pub end : ℕ
+
+-- a used segment has a word for its size before its bytes
+abbrev pub size_of : Segment → ℕ
+size_of (Used bytes) = 4 + length bytes
+size_of (Hole size) = size
+
+abbrev pub bytes_of : Segment → List ℕ
+bytes_of (Used bytes) = bytes
+bytes_of (Hole size) = []
+
+-- the descriptor takes the first 16 bytes
+abbrev pub first_place : ℕ
+first_place = 16
+
+-- where segments end that begin at the heap's first place
+abbrev pub place_after : List Segment → ℕ
+place_after segments = first_place + total size_of segments
+
+-- the first byte above all segments
+abbrev pub base : Heap → ℕ
+base h = place_after h.segments
+
+abbrev pub empty_heap : ℕ → Heap
+empty_heap end = record { segments = []; end = end }
+
+-- Sizes are positive multiples of 8, no two holes are neighbours and the last segment is used. The flag says whether a hole stands before the list.
+abbrev pub IsTidy : Bool → List Segment → Type 0
+IsTidy false [] = Unit {0}
+IsTidy true [] = ⊥
+IsTidy after_hole (Used bytes ∷ segments) = ((4 + length bytes) % 8 ≡ 0) × IsTidy false segments
+IsTidy false (Hole size ∷ segments) = (0 < size) × (size % 8 ≡ 0) × IsTidy true segments
+IsTidy true (Hole size ∷ segments) = ⊥
+
+pub record IsHeap (h : Heap) : Type 0 where
+  pub tidy : IsTidy false h.segments
+  pub fits : base h ≤ h.end
+  pub multiple : h.end % 8 ≡ 0
+
+-- ---- finding
+
+abbrev pub is_block_at : ℕ → ℕ → Segment → Bool
+is_block_at address place (Used bytes) = address == place + 4
+is_block_at address place (Hole size) = false
+
+abbrev pub is_hole_for : ℕ → ℕ → Segment → Bool
+is_hole_for t place (Used bytes) = false
+is_hole_for t place (Hole size) = nat_le t size
+
+-- the block with the address
+abbrev pub block_at : ℕ → Heap → Option (Split Segment)
+block_at address h = first_at size_of (is_block_at address) first_place h.segments
+
+-- the first hole of at least t bytes
+abbrev pub hole_for : ℕ → List Segment → Option (Split Segment)
+hole_for t segments = first_at size_of (is_hole_for t) first_place segments
+
+-- the segment that begins at a place
+abbrev pub segment_at : ℕ → Heap → Option (Split Segment)
+segment_at p h = first_at size_of (λ place g. p == place) first_place h.segments
+
+-- the number of a block's bytes
+abbrev pub block_size : ℕ → Heap → Option ℕ
+block_size address h = option_map (λ s. length (bytes_of s.here)) (block_at address h)
+
+-- ---- holes
+
+-- a hole before segments: none of no bytes, one with the next hole, and none at the end
+abbrev pub with_hole : ℕ → List Segment → List Segment
+with_hole zero segments = segments
+with_hole (suc n) [] = []
+with_hole (suc n) (Hole m ∷ segments) = Hole (suc n + m) ∷ segments
+with_hole (suc n) (Used bytes ∷ segments) = Hole (suc n) ∷ Used bytes ∷ segments
+
+-- neighbouring holes are one, and a hole at the end belongs to the top
+abbrev pub joined : List Segment → List Segment
+joined [] = []
+joined (Used bytes ∷ segments) = Used bytes ∷ joined segments
+joined (Hole size ∷ segments) = with_hole size (joined segments)
+
+-- ---- claims
+
+-- a heap, and the address of a block in it
+pub record Placed : Type 0 where
+  pub heap : Heap
+  pub address : ℕ
+
+-- the address that a call answers
+abbrev pub address_of : Result Placed HeapFault → Result ℕ HeapFault
+address_of (Ok p) = Ok p.address
+address_of (Err fault) = Err fault
+
+-- the heap after a call, the same where it was refused
+abbrev pub heap_after : Heap → Result Placed HeapFault → Heap
+heap_after h (Ok p) = p.heap
+heap_after h (Err fault) = h
+
+-- the size of a segment whose block has n bytes at least, and the bytes that the block then has
+abbrev pub segment_size : ℕ → ℕ
+segment_size n = round_up 8 (n + 4)
+
+abbrev pub block_room : ℕ → ℕ
+block_room n = segment_size n - 4
+
+-- the block in the hole's lower bytes, or where there is no hole above all segments
+abbrev pub placed_in : List ℕ → Heap → Option (Split Segment) → Placed
+placed_in bytes h (Some s) = record {
+  heap = record h { segments = s.before ++ Used bytes ∷ with_hole (size_of s.here - (4 + length bytes)) s.after };
+  address = place_after s.before + 4;
+}
+placed_in bytes h None = record { heap = record h { segments = h.segments ++ Used bytes ∷ [] }; address = base h + 4 }
+
+abbrev pub placed : List ℕ → Heap → Placed
+placed bytes h = placed_in bytes h (hole_for (4 + length bytes) h.segments)
+
+-- by how much the heap is too short for a new segment of t bytes
+abbrev pub shortage_in : ℕ → Heap → Option (Split Segment) → ℕ
+shortage_in t h (Some s) = 0
+shortage_in t h None = (base h + t) - h.end
+
+-- by how much the heap is too short for a block of n bytes
+abbrev pub need : ℕ → Heap → ℕ
+need n h = shortage_in (segment_size n) h (hole_for (segment_size n) h.segments)
+
+-- the heap with a block of n zeros
+abbrev pub claim : ℕ → Heap → Result Placed HeapFault
+claim n h =
+    if n == 0 then Err BadSize
+    else if need n h == 0 then Ok (placed (zeros (block_room n)) h)
+    else Err NoRoom
+
+-- the same as the answer to a call
+abbrev pub claim_need : ℕ → Heap → Result ℕ HeapFault
+claim_need n h = if n == 0 then Err BadSize else Ok (need n h)
+
+-- the heap with its end raised by whole pages
+abbrev pub raised : ℕ → Heap → Heap
+raised shortage h = record h { end = h.end + round_up page shortage }
+
+-- the same, where the heap may grow
+abbrev pub claim_growing : ℕ → Heap → Placed
+claim_growing n h = placed (zeros (block_room n)) (raised (need n h) h)
+
+-- ---- releases
+
+-- the block at the cut becomes a hole
+abbrev pub released : Split Segment → Heap → Heap
+released s h = record h { segments = joined (with_here s (Hole (size_of s.here))) }
+
+abbrev pub release_found : Option (Split Segment) → Heap → Heap
+release_found None h = h
+release_found (Some s) h = released s h
+
+-- the heap without the block at the address; the same where no block begins there
+abbrev pub release : ℕ → Heap → Heap
+release address h = release_found (block_at address h) h
+
+-- ---- resizes
+
+-- the bytes, cut or with zeros up to n
+abbrev pub fitted : ℕ → List ℕ → List ℕ
+fitted n bytes = take n bytes ++ zeros (n - length bytes)
+
+-- how a block gets another size, in the order in which the ways are tried
+pub data Way : Type 0 where
+  Stays : Way
+  Shrinks : Way
+  GrowsIntoHole : (size : ℕ) → (rest : List Segment) → Way
+  GrowsAtTop : Way
+  MovesToHole : (hole : Split Segment) → Way
+  MovesToTop : Way
+
+-- to a hole if there is one, else to the top, where the last block is already
+abbrev pub way_beyond : List Segment → Option (Split Segment) → Way
+way_beyond after (Some hole) = MovesToHole hole
+way_beyond [] None = GrowsAtTop
+way_beyond (g ∷ after) None = MovesToTop
+
+-- how a block at the cut gets a segment of t bytes, more than it has
+abbrev pub way_to_grow : ℕ → Split Segment → List Segment → Heap → Way
+way_to_grow t s [] h =
+    if nat_le (place_after s.before + t) h.end then GrowsAtTop
+    else way_beyond [] (hole_for t h.segments)
+way_to_grow t s (Used bytes ∷ after) h = way_beyond (Used bytes ∷ after) (hole_for t h.segments)
+way_to_grow t s (Hole size ∷ after) h =
+    if nat_le t (size_of s.here + size) then GrowsIntoHole size after
+    else way_beyond (Hole size ∷ after) (hole_for t h.segments)
+
+abbrev pub way_to : ℕ → Split Segment → Heap → Way
+way_to t s h =
+    if t == size_of s.here then Stays
+    else if nat_lt t (size_of s.here) then Shrinks
+    else way_to_grow t s s.after h
+
+-- the heap with these bytes in the place of the block at the cut
+abbrev pub resized_by : Way → List ℕ → Split Segment → Heap → Placed
+resized_by Stays bytes s h = record { heap = h; address = place_after s.before + 4 }
+resized_by Shrinks bytes s h = record {
+  heap = record h { segments = joined (s.before ++ Used bytes ∷ Hole (size_of s.here - (4 + length bytes)) ∷ s.after) };
+  address = place_after s.before + 4;
+}
+resized_by (GrowsIntoHole size rest) bytes s h = record {
+  heap = record h { segments = s.before ++ Used bytes ∷ with_hole ((size_of s.here + size) - (4 + length bytes)) rest };
+  address = place_after s.before + 4;
+}
+resized_by GrowsAtTop bytes s h = record {
+  heap = record h { segments = s.before ++ Used bytes ∷ [] };
+  address = place_after s.before + 4;
+}
+resized_by (MovesToHole hole) bytes s h =
+    let there = placed_in bytes h (Some hole) in
+    record { heap = release (place_after s.before + 4) there.heap; address = there.address }
+resized_by MovesToTop bytes s h =
+    let there = placed_in bytes h None in
+    record { heap = release (place_after s.before + 4) there.heap; address = there.address }
+
+-- the end that a way wants
+abbrev pub end_for : Way → ℕ → Split Segment → Heap → ℕ
+end_for GrowsAtTop t s h = place_after s.before + t
+end_for MovesToTop t s h = base h + t
+end_for _ t s h = 0
+
+-- by how much the heap is too short for the block at the cut to have n bytes
+abbrev pub resize_need : ℕ → Split Segment → Heap → ℕ
+resize_need n s h = end_for (way_to (segment_size n) s h) (segment_size n) s h - h.end
+
+-- the block at the cut with n bytes, 1 at least, in a heap that has become longer
+abbrev pub resized : ℕ → Split Segment → Heap → Heap → Placed
+resized n s h longer = resized_by (way_to (segment_size n) s h) (fitted (block_room n) (bytes_of s.here)) s longer
+
+-- the same, where the heap may grow
+abbrev pub resize_growing : ℕ → Split Segment → Heap → Placed
+resize_growing n s h = resized n s h (raised (resize_need n s h) h)
+
+-- the bytes of the block at the cut, moved by delta; none where that is below 1
+abbrev pub new_size : ℤ → Split Segment → ℕ
+new_size delta s = moved (length (bytes_of s.here)) delta
+
+abbrev pub resize_found : ℤ → Option (Split Segment) → Heap → Result Placed HeapFault
+resize_found delta None h = Err NotABlock
+resize_found delta (Some s) h =
+    if new_size delta s == 0 then Err BadSize
+    else if resize_need (new_size delta s) s h == 0 then Ok (resized (new_size delta s) s h h)
+    else Err NoRoom
+
+-- the heap whose block at the address has delta bytes more
+abbrev pub resize : ℕ → ℤ → Heap → Result Placed HeapFault
+resize address delta h = resize_found delta (block_at address h) h
+
+-- the shortage as the answer to a call
+abbrev pub need_found : ℤ → Option (Split Segment) → Heap → Result ℕ HeapFault
+need_found delta None h = Err NotABlock
+need_found delta (Some s) h = if new_size delta s == 0 then Err BadSize else Ok (resize_need (new_size delta s) s h)
+
+abbrev pub need_at : ℕ → ℤ → Heap → Result ℕ HeapFault
+need_at address delta h = need_found delta (block_at address h) h
+
+-- ---- the end, and sums
+
+-- the heap with its end moved by delta bytes
+abbrev pub extended : ℤ → Heap → Heap
+extended delta h = record h { end = moved h.end delta }
+
+-- refused where the end would be below the base
+abbrev pub extend : ℤ → Heap → Result Heap HeapFault
+extend delta h = if nat_lt (moved h.end delta) (base h) then Err ExcessiveShrink else Ok (extended delta h)
+
+abbrev pub hole_size : Segment → ℕ
+hole_size (Used bytes) = 0
+hole_size (Hole size) = size
+
+abbrev pub largest_hole : List Segment → ℕ
+largest_hole [] = 0
+largest_hole (g ∷ segments) = max (hole_size g) (largest_hole segments)
+
+-- the largest block that fits without growth
+abbrev pub largest : Heap → ℕ
+largest h = max (largest_hole h.segments) (h.end - base h) - 4
+
+abbrev pub free_bytes : Heap → ℕ
+free_bytes h = total hole_size h.segments + (h.end - base h)

@@ -1,0 +1,14 @@
+pub mod RestLaws
+pub mod CheckLaws
+pub mod CutLaws
+pub mod WalkLaws
+pub mod ReleaseLaws
+pub mod FillLaws
+pub mod BlockLaws
+pub mod ClaimLaws
+pub mod SizeLaws
+pub mod WayLaws
+pub mod ResizeLaws
+pub mod MoveLaws
+pub mod ChangeLaws
+pub mod SpanLaws

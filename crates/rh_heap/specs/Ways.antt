@@ -1,0 +1,63 @@
+-- How a block gets another size.
+use Rattle.std.specs.Prelude.{◌≡◌, ◌≢◌, ℕ, ◌+◌, ◌-◌, List, IfSome}
+use Rattle.rh_defs.specs.Memory.{Memory}
+use Rattle.rh_defs.specs.Pieces.{Split}
+use Rattle.rh_defs.specs.Heap.{Segment, Heap, Placed, bytes_of, block_at, way_to, resized_by, end_for, fitted, placed, release, shortage_in, hole_for}
+use Rattle.rh_defs.specs.Heap as heap
+use Rattle.rh_defs.specs.declared.heap.HeapFault.{HeapFault}
+use Rattle.rh_defs.specs.declared.heap.HeapFault.TheVariants.{NoRoom}
+use Rattle.rh_heap.specs.declared.span.Span.{Span}
+use Rattle.rh_heap.specs.declared.span.Spot.{Spot}
+use Rattle.rh_heap.specs.declared.span.Way.{Way}
+use Rattle.rh_heap.specs.declared.span.Way.TheVariants as way
+use Rattle.rh_heap.specs.Spans.{heap_in, SpellsIn}
+
+-- the same way
+pub data WayIs : heap.Way → Way → Type 0 where
+  stays : WayIs heap.Stays way.Stays
+  shrinks : WayIs heap.Shrinks way.Shrinks
+  into_hole : (size : ℕ) (rest : List Segment) → WayIs (heap.GrowsIntoHole size rest) (way.IntoHole size)
+  at_top : WayIs heap.GrowsAtTop way.AtTop
+  to_hole : (hole : Split Segment) → WayIs (heap.MovesToHole hole) way.Moves
+  to_top : WayIs heap.MovesToTop way.Moves
+
+-- the block's cut, in the words of its address
+abbrev pub WithBlock : Spot → Heap → (Split Segment → Type 0) → Type 0
+WithBlock spot h P = IfSome (block_at (spot.place + 4) h) P
+
+-- the way in which the block gets a segment of t bytes
+abbrev pub WayOf : ℕ → Spot → Heap → Way → Type 0
+WayOf t spot h w = WithBlock spot h (λ s. WayIs (way_to t s h) w)
+
+-- the heap after the block got a segment of t bytes
+abbrev pub resized_in : ℕ → Split Segment → Heap → Placed
+resized_in t s h = resized_by (way_to t s h) (fitted (t - 4) (bytes_of s.here)) s h
+
+-- the span's bytes spell that heap
+abbrev pub SpellsResized : Memory → Memory → Span → ℕ → Spot → Type 0
+SpellsResized m n span t spot = WithBlock spot (heap_in m span) (λ s. SpellsIn n span (resized_in t s (heap_in m span)).heap)
+
+-- by how much the heap is too short for it
+abbrev pub short_by : ℕ → Split Segment → Heap → ℕ
+short_by t s h = end_for (way_to t s h) t s h - h.end
+
+abbrev pub ShortBy : Heap → ℕ → ℕ → Split Segment → Type 0
+ShortBy h t n s = n ≡ short_by t s h
+
+-- the block has got it, and is now at this address
+pub record Changed (m n : Memory) (span : Span) (t address : ℕ) (s : Split Segment) : Type 0 where
+  pub room : short_by t s (heap_in m span) ≡ 0
+  pub address_is : address ≡ (resized_in t s (heap_in m span)).address
+  pub spells : SpellsIn n span (resized_in t s (heap_in m span)).heap
+
+-- the block has not got it, as the heap is too short
+pub record NotChanged (m n : Memory) (span : Span) (t : ℕ) (fault : HeapFault) (s : Split Segment) : Type 0 where
+  pub no_room : short_by t s (heap_in m span) ≢ 0
+  pub fault_is : fault ≡ NoRoom
+  pub same : n ≡ m
+
+-- the block has moved, and the one at an address is released
+pub record Moved (m n : Memory) (span : Span) (t address place : ℕ) (s : Split Segment) : Type 0 where
+  pub room : shortage_in t (heap_in m span) (hole_for t (heap_in m span).segments) ≡ 0
+  pub address_is : address ≡ (placed (fitted (t - 4) (bytes_of s.here)) (heap_in m span)).address
+  pub spells : SpellsIn n span (release place (placed (fitted (t - 4) (bytes_of s.here)) (heap_in m span)).heap)

@@ -1,0 +1,61 @@
+//! Where a heap ends.
+ghost use Rattle.std.specs.Prelude.{◌≡◌, ◌↔◌, ℕ, ℤ, ◌+◌, ◌%◌, ◌^◌, ◌<◌, ◌≤◌, length, OnOk, OnErr, IsErr, IsErrOf};
+ghost use Rattle.rh_defs.specs.Memory.{Memory, IsOpen, Edited, bytes};
+ghost use Rattle.rh_defs.specs.Pieces.{moved};
+ghost use Rattle.rh_defs.specs.Heap.{empty_heap, extended, base};
+ghost use Rattle.rh_heap.specs.Spans.{IsSpan, SpellsIn, OnlySpan, bytes_in, heap_in};
+
+use crate::image::{FIRST_PLACE, SPECIAL};
+use crate::span::Span;
+use crate::words::{read, write};
+use rh_defs::HeapFault;
+use rh_store::Store;
+
+/// A number moved by a signed amount, 0 where that would be below 0.
+pub fn moved(n: usize, delta: i32) -> usize
+    requires { n < 2 ^ 40 }
+    ensures value { result ≡ moved n delta }
+    ensures bound { result ≤ n + 2 ^ 31 }
+{
+    let amount = delta.unsigned_abs() as usize;
+    if delta < 0 {
+        n.saturating_sub(amount)
+    } else {
+        n + amount
+    }
+}
+
+/// Makes the first `end` bytes of a span an empty heap. `end` is a multiple of 8, and at least 16. (OS_Heap 0.)
+pub fn init<S: Store>(store: &mut S, span: Span, end: usize)
+    requires opened { IsOpen (S.memory store.old) span.area.0 }
+    requires within { span.at + end ≤ length (bytes_in (S.memory store.old) span) }
+    requires least { 16 ≤ end }
+    requires multiple { end % 8 ≡ 0 }
+    ensures spells { SpellsIn (S.memory store.new) span (empty_heap end) }
+    ensures only { Edited (S.memory store.old) (S.memory store.new) span.area.0 span.at (span.at + end) }
+{
+    write(store, span, 0, SPECIAL);
+    write(store, span, 4, 0);
+    write(store, span, 8, FIRST_PLACE);
+    write(store, span, 12, end);
+}
+
+/// Moves a heap's end by `delta` bytes, a multiple of 8. The bytes up to the new end are in the area. Refused
+/// (`ExcessiveShrink`) exactly where the end would be below the last block. (OS_Heap 5.)
+pub fn extend_heap<S: Store>(store: &mut S, span: Span, delta: i32) -> Result<(), HeapFault>
+    requires span { IsSpan (S.memory store.old) span }
+    requires multiple { moved (heap_in (S.memory store.old) span).end delta % 8 ≡ 0 }
+    requires within { span.at + moved (heap_in (S.memory store.old) span).end delta ≤ length (bytes_in (S.memory store.old) span) }
+    ensures ok { OnOk result (SpellsIn (S.memory store.new) span (extended delta (heap_in (S.memory store.old) span))) }
+    ensures only { OnlySpan (S.memory store.old) (S.memory store.new) span }
+    ensures refused { IsErr result ↔ (moved (heap_in (S.memory store.old) span).end delta < base (heap_in (S.memory store.old) span)) }
+    ensures reason { IsErr result → IsErrOf result HeapFault.ExcessiveShrink }
+    ensures err { OnErr result (S.memory store.new ≡ S.memory store.old) }
+{
+    let end = moved(read(store, span, 12), delta);
+    if end < read(store, span, 8) {
+        return Err(HeapFault::ExcessiveShrink);
+    }
+    write(store, span, 12, end);
+    Ok(())
+}

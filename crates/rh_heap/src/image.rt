@@ -1,0 +1,141 @@
+//! Whether bytes from anywhere spell a heap.
+ghost use Rattle.std.specs.Prelude.{◌≡◌, ◌↔◌, ℕ, ◌+◌, ◌*◌, ◌^◌, ◌<◌, ◌≤◌, length, true, IsOk, IfOk};
+ghost use Rattle.rh_defs.specs.Bytes.{word};
+ghost use Rattle.rh_defs.specs.HeapImage.{IsImage, heap_of, is_size, is_link, next_place, has_descriptor, fault_of};
+ghost use Rattle.rh_heap.specs.Image.{summary_of, fault_in};
+
+use rh_defs::HeapFault;
+
+/// The first bytes of a heap, `Heap`, as a word.
+pub const SPECIAL: usize = 0x7061_6548;
+
+/// Where a heap's first segment begins, behind the descriptor.
+pub const FIRST_PLACE: usize = 16;
+
+/// What a heap consists of: numbers of segments, and bytes.
+#[derive(Clone, Copy, Debug, PartialEq, Eq)]
+pub struct Summary {
+    pub used: usize,
+    pub used_bytes: usize,
+    pub holes: usize,
+    pub hole_bytes: usize,
+    pub top: usize,
+}
+
+/// The word of four bytes in little-endian order at a place.
+#[tactic(auto, unfolding(rh_defs::specs::Bytes::word))]
+pub fn word_in(image: &[u8], at: usize) -> usize
+    requires { at + 4 ≤ length image.now }
+    ensures value { result ≡ word image.now at }
+    ensures bound { result < 2 ^ 32 }
+{
+    u32::from_le_bytes([image[at], image[at + 1], image[at + 2], image[at + 3]]) as usize
+}
+
+/// Whether a segment can have this size in bytes.
+fn is_size(size: usize) -> bool
+    ensures { result ≡ is_size size }
+{
+    0 < size && size % 8 == 0
+}
+
+/// Whether the length and the words of the descriptor are those of a heap.
+fn has_descriptor(image: &[u8]) -> bool
+    ensures { result ≡ has_descriptor image.now }
+{
+    let len = image.len();
+    if len % 8 != 0 || len < FIRST_PLACE {
+        return false;
+    }
+    let base = word_in(image, 8);
+    word_in(image, 0) == SPECIAL
+        && word_in(image, 12) == len
+        && base % 8 == 0
+        && FIRST_PLACE <= base
+        && base <= len
+}
+
+/// Whether the link at `from` is 0, or leads to a place from `least` on where a hole has room below `base`.
+fn is_link(image: &[u8], base: usize, from: usize, least: usize) -> bool
+    requires within { from + 4 ≤ length image.now }
+    requires small { from < 2 ^ 40 }
+    ensures { result ≡ is_link image.now base from least }
+{
+    let link = word_in(image, from);
+    let place = from + link;
+    link == 0 || (place % 8 == 0 && least <= place && place + 8 <= base)
+}
+
+/// Where the link at `from` leads, or `base` where there is none.
+fn next_place(image: &[u8], base: usize, from: usize) -> usize
+    requires within { from + 4 ≤ length image.now }
+    requires small { from < 2 ^ 40 }
+    ensures { result ≡ next_place image.now base from }
+{
+    let link = word_in(image, from);
+    if link == 0 { base } else { from + link }
+}
+
+/// Answers what a heap consists of, where the bytes spell one, and else the first fault: of the descriptor
+/// (`BadDescriptor`), of the link to the first hole (`BadLink`), and then place by place of a segment's size
+/// (`BadSize`) or a hole's link (`BadLink`).
+pub fn check(image: &[u8]) -> Result<Summary, HeapFault>
+    ensures ok { IsOk result ↔ IsImage image.now (heap_of image.now 0) }
+    ensures sums { IfOk result (λ sums. sums ≡ summary_of (heap_of image.now 0)) }
+    ensures fault { fault_in result ≡ fault_of image.now }
+{
+    if !has_descriptor(image) {
+        return Err(HeapFault::BadDescriptor);
+    }
+    let base = word_in(image, 8);
+    if !is_link(image, base, 4, FIRST_PLACE) {
+        return Err(HeapFault::BadLink);
+    }
+    check_segments(image, base)
+}
+
+/// The same, place by place, where the descriptor and the link to the first hole are right.
+fn check_segments(image: &[u8], base: usize) -> Result<Summary, HeapFault>
+    requires descriptor { has_descriptor image.now ≡ true }
+    requires at_base { base ≡ word image.now 8 }
+    requires bound { base < 2 ^ 32 }
+    requires link { is_link image.now base 4 16 ≡ true }
+    ensures ok { IsOk result ↔ IsImage image.now (heap_of image.now 0) }
+    ensures sums { IfOk result (λ sums. sums ≡ summary_of (heap_of image.now 0)) }
+    ensures fault { fault_in result ≡ fault_of image.now }
+{
+    let mut sums = Summary {
+        used: 0,
+        used_bytes: 0,
+        holes: 0,
+        hole_bytes: 0,
+        top: image.len() - base,
+    };
+    let mut from = 4;
+    let mut place = FIRST_PLACE;
+    'walk: while place < base {
+        let next = next_place(image, base, from);
+        if place < next {
+            let size = word_in(image, place);
+            if !is_size(size) || next < place + size {
+                return Err(HeapFault::BadSize);
+            }
+            sums.used += 1;
+            sums.used_bytes += size;
+            place += size;
+        } else {
+            let size = word_in(image, place + 4);
+            if !is_size(size) || base <= place + size {
+                return Err(HeapFault::BadSize);
+            }
+            if !is_link(image, base, place, place + size + 1) {
+                return Err(HeapFault::BadLink);
+            }
+            sums.holes += 1;
+            sums.hole_bytes += size;
+            from = place;
+            place += size;
+        }
+    }
+    Ok(sums)
+}

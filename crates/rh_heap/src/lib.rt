@@ -1,0 +1,31 @@
+//! Heaps of blocks that live in the words of an area, and a checker for bytes from anywhere.
+#![tactic(auto)]
+
+mod choosing;
+mod claiming;
+mod describing;
+mod ending;
+mod finding;
+mod image;
+mod iterate;
+mod listing;
+mod releasing;
+mod resizing;
+mod settling;
+mod sizing;
+mod span;
+#[cfg(test)]
+mod tests;
+mod walking;
+mod words;
+
+pub use claiming::{claim, need};
+pub use describing::describe;
+pub use ending::{extend_heap, init};
+pub use image::{Summary, check};
+pub use iterate::segments;
+pub use listing::{Segment, SegmentIter};
+pub use releasing::release;
+pub use resizing::{resize, resize_need};
+pub use sizing::{block_size, segment};
+pub use span::Span;

@@ -1,0 +1,220 @@
+//! Resizes.
+ghost use Rattle.std.specs.Prelude.{◌≡◌, ◌≢◌, ℕ, ℤ, ◌+◌, ◌-◌, ◌%◌, ◌^◌, ◌<◌, ◌≤◌, ◌++◌, length, replicate, MatchOption, MatchResult, OnErr};
+ghost use Rattle.rh_defs.specs.Bytes.{word, part};
+ghost use Rattle.rh_defs.specs.Memory.{Memory, IsOpen, Edited, bytes};
+ghost use Rattle.rh_defs.specs.Heap.{hole_for, shortage_in, block_at, resize, need_at, address_of, heap_after};
+ghost use Rattle.rh_heap.specs.Spans.{IsSpan, SpellsIn, OnlySpan, bytes_in, heap_in};
+ghost use Rattle.rh_heap.specs.Spots.{FoundBlock};
+ghost use Rattle.rh_heap.specs.Ways.{WayOf, ShortBy, Changed, NotChanged, WithBlock, SpellsResized, Moved};
+
+use crate::choosing::way_to;
+use crate::claiming::{segment_size, shortage, take};
+use crate::ending::moved;
+use crate::releasing::release;
+use crate::settling::settle;
+use crate::span::{Cut, Span, Spot, Way};
+use crate::walking::locate;
+use crate::words::{clear, follow, move_bytes, read, write};
+use rh_defs::HeapFault;
+use rh_store::Store;
+
+/// Gives the segment at `spot` the size of `size` bytes, with zeros behind the old bytes.
+fn lengthen<S: Store>(store: &mut S, span: Span, spot: Spot, size: usize)
+    requires opened { IsOpen (S.memory store.old) span.area.0 }
+    requires within { span.at + spot.place + size ≤ length (bytes_in (S.memory store.old) span) }
+    requires least { 8 ≤ spot.size }
+    requires longer { spot.size ≤ size }
+    ensures size { word (bytes_in (S.memory store.new) span) (span.at + spot.place) ≡ size }
+    ensures block { part (bytes_in (S.memory store.new) span) (span.at + spot.place + 4) (size - 4)
+        ≡ part (bytes_in (S.memory store.old) span) (span.at + spot.place + 4) (spot.size - 4) ++ replicate (size - spot.size) 0 }
+    ensures only { Edited (S.memory store.old) (S.memory store.new) span.area.0 (span.at + spot.place) (span.at + spot.place + size) }
+{
+    write(store, span, spot.place, size);
+    clear(store, span, spot.place + spot.size, size - spot.size);
+}
+
+/// Makes the upper bytes of a block a hole.
+fn shrink<S: Store>(store: &mut S, span: Span, spot: Spot, size: usize)
+    requires span { IsSpan (S.memory store.old) span }
+    requires found { FoundBlock span.at (heap_in (S.memory store.old) span) (spot.place + 4) spot }
+    requires least { 8 ≤ size }
+    requires multiple { size % 8 ≡ 0 }
+    requires shorter { size < spot.size }
+    ensures spells { SpellsResized (S.memory store.old) (S.memory store.new) span size spot }
+    ensures only { OnlySpan (S.memory store.old) (S.memory store.new) span }
+{
+    let next = follow(store, span, spot.from);
+    write(store, span, spot.place, size);
+    settle(
+        store,
+        span,
+        Cut {
+            link: spot.from,
+            low: spot.place + size,
+            next,
+            upper: spot.place + spot.size,
+        },
+    );
+}
+
+/// Lets a block grow into the hole of `room` bytes that follows.
+fn widen<S: Store>(store: &mut S, span: Span, spot: Spot, size: usize, room: usize)
+    requires span { IsSpan (S.memory store.old) span }
+    requires found { FoundBlock span.at (heap_in (S.memory store.old) span) (spot.place + 4) spot }
+    requires multiple { size % 8 ≡ 0 }
+    requires way { WayOf size spot (heap_in (S.memory store.old) span) (Way.IntoHole room) }
+    ensures spells { SpellsResized (S.memory store.old) (S.memory store.new) span size spot }
+    ensures only { OnlySpan (S.memory store.old) (S.memory store.new) span }
+{
+    let upper = spot.place + spot.size;
+    let next = follow(store, span, upper);
+    lengthen(store, span, spot, size);
+    settle(
+        store,
+        span,
+        Cut {
+            link: spot.from,
+            low: spot.place + size,
+            next,
+            upper: upper + room,
+        },
+    );
+}
+
+/// Lets the last block grow.
+fn raise<S: Store>(store: &mut S, span: Span, spot: Spot, size: usize)
+    requires span { IsSpan (S.memory store.old) span }
+    requires found { FoundBlock span.at (heap_in (S.memory store.old) span) (spot.place + 4) spot }
+    requires multiple { size % 8 ≡ 0 }
+    requires way { WayOf size spot (heap_in (S.memory store.old) span) Way.AtTop }
+    requires room { spot.place + size ≤ (heap_in (S.memory store.old) span).end }
+    ensures spells { SpellsResized (S.memory store.old) (S.memory store.new) span size spot }
+    ensures only { OnlySpan (S.memory store.old) (S.memory store.new) span }
+{
+    lengthen(store, span, spot, size);
+    write(store, span, 8, spot.place + size);
+}
+
+/// Moves a block to a segment of `size` bytes elsewhere, with zeros behind its bytes, and releases the old one.
+fn move_block<S: Store>(store: &mut S, span: Span, spot: Spot, size: usize) -> Option<usize>
+    requires span { IsSpan (S.memory store.old) span }
+    requires found { FoundBlock span.at (heap_in (S.memory store.old) span) (spot.place + 4) spot }
+    requires multiple { size % 8 ≡ 0 }
+    requires longer { spot.size < size }
+    requires small { size < 2 ^ 40 }
+    ensures moved { MatchOption result
+        ((shortage_in size (heap_in (S.memory store.old) span) (hole_for size (heap_in (S.memory store.old) span).segments) ≢ 0)
+        × (S.memory store.new ≡ S.memory store.old))
+        (λ address. WithBlock spot (heap_in (S.memory store.old) span) (Moved (S.memory store.old) (S.memory store.new) span size address (spot.place + 4))) }
+    ensures only { OnlySpan (S.memory store.old) (S.memory store.new) span }
+{
+    match take(store, span, size) {
+        Some(address) => {
+            move_bytes(store, span, spot.place + 4, address, spot.size - 4);
+            let _ = release(store, span, spot.place + 4);
+            Some(address)
+        }
+        None => None,
+    }
+}
+
+/// Gives a block a segment of `size` bytes, and answers its address.
+fn change<S: Store>(store: &mut S, span: Span, spot: Spot, size: usize) -> Result<usize, HeapFault>
+    requires span { IsSpan (S.memory store.old) span }
+    requires found { FoundBlock span.at (heap_in (S.memory store.old) span) (spot.place + 4) spot }
+    requires least { 8 ≤ size }
+    requires multiple { size % 8 ≡ 0 }
+    requires small { size < 2 ^ 40 }
+    ensures changed { MatchResult result
+        (λ address. WithBlock spot (heap_in (S.memory store.old) span) (Changed (S.memory store.old) (S.memory store.new) span size address))
+        (λ fault. WithBlock spot (heap_in (S.memory store.old) span) (NotChanged (S.memory store.old) (S.memory store.new) span size fault)) }
+    ensures only { OnlySpan (S.memory store.old) (S.memory store.new) span }
+{
+    match way_to(store, span, spot, size) {
+        Way::Stays => Ok(spot.place + 4),
+        Way::Shrinks => {
+            shrink(store, span, spot, size);
+            Ok(spot.place + 4)
+        }
+        Way::IntoHole(room) => {
+            widen(store, span, spot, size, room);
+            Ok(spot.place + 4)
+        }
+        Way::AtTop => {
+            if read(store, span, 12) < spot.place + size {
+                return Err(HeapFault::NoRoom);
+            }
+            raise(store, span, spot, size);
+            Ok(spot.place + 4)
+        }
+        Way::Moves => match move_block(store, span, spot, size) {
+            Some(address) => Ok(address),
+            None => Err(HeapFault::NoRoom),
+        },
+    }
+}
+
+/// By how many bytes the heap is too short for a block to get a segment of `size` bytes.
+fn short_by<S: Store>(store: &S, span: Span, spot: Spot, size: usize) -> usize
+    requires span { IsSpan (S.memory store.now) span }
+    requires found { FoundBlock span.at (heap_in (S.memory store.now) span) (spot.place + 4) spot }
+    requires small { size < 2 ^ 40 }
+    ensures { WithBlock spot (heap_in (S.memory store.now) span) (ShortBy (heap_in (S.memory store.now) span) size result) }
+{
+    match way_to(store, span, spot, size) {
+        Way::Stays => 0,
+        Way::Shrinks => 0,
+        Way::IntoHole(_) => 0,
+        Way::AtTop => (spot.place + size).saturating_sub(read(store, span, 12)),
+        Way::Moves => shortage(store, span, size),
+    }
+}
+
+/// Gives the block at an address `delta` bytes more, or fewer where `delta` is negative, and answers its address. Bytes
+/// past the old ones are 0. Refused: `NotABlock`, `BadSize` where fewer than 1 byte would be left, `NoRoom` where the
+/// heap is too short. (OS_Heap 4.)
+pub fn resize<S: Store>(
+    store: &mut S,
+    span: Span,
+    address: usize,
+    delta: i32,
+) -> Result<usize, HeapFault>
+    requires { IsSpan (S.memory store.old) span }
+    ensures answer { result ≡ address_of (resize address delta (heap_in (S.memory store.old) span)) }
+    ensures spells { SpellsIn (S.memory store.new) span (heap_after (heap_in (S.memory store.old) span) (resize address delta (heap_in (S.memory store.old) span))) }
+    ensures only { OnlySpan (S.memory store.old) (S.memory store.new) span }
+    ensures err { OnErr result (S.memory store.new ≡ S.memory store.old) }
+{
+    match locate(store, span, address) {
+        Some(spot) => {
+            let n = moved(spot.size - 4, delta);
+            if n == 0 {
+                return Err(HeapFault::BadSize);
+            }
+            change(store, span, spot, segment_size(n))
+        }
+        None => Err(HeapFault::NotABlock),
+    }
+}
+
+/// By how many bytes the heap is too short for a resize, 0 where it has room. Refused: `NotABlock`, `BadSize`.
+pub fn resize_need<S: Store>(
+    store: &S,
+    span: Span,
+    address: usize,
+    delta: i32,
+) -> Result<usize, HeapFault>
+    requires { IsSpan (S.memory store.now) span }
+    ensures { result ≡ need_at address delta (heap_in (S.memory store.now) span) }
+{
+    match locate(store, span, address) {
+        Some(spot) => {
+            let n = moved(spot.size - 4, delta);
+            if n == 0 {
+                return Err(HeapFault::BadSize);
+            }
+            Ok(short_by(store, span, spot, segment_size(n)))
+        }
+        None => Err(HeapFault::NotABlock),
+    }
+}

@@ -1,0 +1,252 @@
+//! Tests.
+ghost use Rattle.std.specs.Prelude.{◌≡◌, ◌+◌, ◌%◌, ◌≤◌, length};
+ghost use Rattle.rh_defs.specs.Memory.{Memory, IsOpen, bytes};
+ghost use Rattle.rh_defs.specs.HeapImage.{IsImage, heap_of};
+ghost use Rattle.rh_heap.specs.Spans.{IsSpan, bytes_in};
+
+use super::*;
+use rh_defs::HeapFault;
+use rh_store::{PlainStore, Store};
+use std::test::Fail;
+
+/// A heap of 56 bytes with two blocks and a hole between them.
+const IMAGE: [u8; 56] = [
+    0x48, 0x65, 0x61, 0x70, 0x1c, 0, 0, 0, 0x30, 0, 0, 0, 0x38, 0, 0, 0, 0x10, 0, 0, 0, 0, 0, 0, 0,
+    0, 0, 0, 0, 0, 0, 0, 0, 0, 0, 0, 0, 0x08, 0, 0, 0, 0x08, 0, 0, 0, 0, 0, 0, 0, 0, 0, 0, 0, 0, 0,
+    0, 0,
+];
+
+const SUMS: Summary = Summary {
+    used: 2,
+    used_bytes: 24,
+    holes: 1,
+    hole_bytes: 8,
+    top: 8,
+};
+
+/// Claims, where the span keeps its heap and its area its length.
+fn claimed<S: Store>(store: &mut S, span: Span, n: u32) -> Result<usize, HeapFault>
+    requires { IsSpan (S.memory store.old) span }
+    ensures span { IsSpan (S.memory store.new) span }
+    ensures len { length (bytes_in (S.memory store.new) span) ≡ length (bytes_in (S.memory store.old) span) }
+{
+    claim(store, span, n)
+}
+
+fn released<S: Store>(store: &mut S, span: Span, address: usize) -> Result<(), HeapFault>
+    requires { IsSpan (S.memory store.old) span }
+    ensures span { IsSpan (S.memory store.new) span }
+    ensures len { length (bytes_in (S.memory store.new) span) ≡ length (bytes_in (S.memory store.old) span) }
+{
+    release(store, span, address)
+}
+
+fn resized<S: Store>(
+    store: &mut S,
+    span: Span,
+    address: usize,
+    delta: i32,
+) -> Result<usize, HeapFault>
+    requires { IsSpan (S.memory store.old) span }
+    ensures span { IsSpan (S.memory store.new) span }
+    ensures len { length (bytes_in (S.memory store.new) span) ≡ length (bytes_in (S.memory store.old) span) }
+{
+    resize(store, span, address, delta)
+}
+
+/// Takes 8 bytes off the heap's end.
+fn shortened<S: Store>(store: &mut S, span: Span) -> Result<(), HeapFault>
+    requires { IsSpan (S.memory store.old) span }
+    ensures span { IsSpan (S.memory store.new) span }
+    ensures len { length (bytes_in (S.memory store.new) span) ≡ length (bytes_in (S.memory store.old) span) }
+{
+    extend_heap(store, span, -8)
+}
+
+/// An empty heap of `end` bytes in the midst of an area.
+fn made<S: Store>(store: &mut S, span: Span, end: usize)
+    requires opened { IsOpen (S.memory store.old) span.area.0 }
+    requires within { span.at + end ≤ length (bytes_in (S.memory store.old) span) }
+    requires least { 16 ≤ end }
+    requires multiple { end % 8 ≡ 0 }
+    ensures span { IsSpan (S.memory store.new) span }
+    ensures len { length (bytes_in (S.memory store.new) span) ≡ length (bytes_in (S.memory store.old) span) }
+{
+    init(store, span, end);
+}
+
+/// What the segments of an image add up to.
+fn added(image: &[u8]) -> Summary
+    requires { IsImage image.now (heap_of image.now 0) }
+{
+    let mut sums = Summary {
+        used: 0,
+        used_bytes: 0,
+        holes: 0,
+        hole_bytes: 0,
+        top: image.len(),
+    };
+    for segment in segments(image) {
+        if segment.used {
+            sums.used = sums.used.wrapping_add(1);
+            sums.used_bytes = sums.used_bytes.wrapping_add(segment.size);
+        } else {
+            sums.holes = sums.holes.wrapping_add(1);
+            sums.hole_bytes = sums.hole_bytes.wrapping_add(segment.size);
+        }
+        sums.top = image
+            .len()
+            .wrapping_sub(segment.place)
+            .wrapping_sub(segment.size);
+    }
+    sums
+}
+
+#[test]
+#[tactic(auto, using(rh_defs::proofs::BytesLaws::word_laws, rh_defs::proofs::MemoryLaws::memory_laws, rh_defs::proofs::MemoryLaws::pool_laws))]
+fn claims_take_the_first_hole_that_fits(rt: HostRuntime) -> Result<(), Fail> {
+    let mut store = PlainStore::new(rt.alloc(), 8)?;
+    let area = store.open()?;
+    store.grow(area, 1)?;
+    let span = Span { area, at: 256 };
+    made(&mut store, span, 3840);
+    assert_eq!(rt; claimed(&mut store, span, 10), Ok(20));
+    assert_eq!(rt; claimed(&mut store, span, 10), Ok(36));
+    assert_eq!(rt; claimed(&mut store, span, 10), Ok(52));
+    assert_eq!(rt; released(&mut store, span, 36), Ok(()));
+    assert_eq!(rt; claimed(&mut store, span, 12), Ok(36));
+    assert_eq!(rt; claimed(&mut store, span, 13), Ok(68));
+    assert_eq!(rt; released(&mut store, span, 24), Err(HeapFault::NotABlock));
+    Ok(())
+}
+
+#[test]
+#[tactic(auto, using(rh_defs::proofs::BytesLaws::word_laws, rh_defs::proofs::MemoryLaws::memory_laws, rh_defs::proofs::MemoryLaws::pool_laws))]
+fn a_small_heap_fills_up(rt: HostRuntime) -> Result<(), Fail> {
+    let mut store = PlainStore::new(rt.alloc(), 8)?;
+    let area = store.open()?;
+    store.grow(area, 1)?;
+    let span = Span { area, at: 0 };
+    made(&mut store, span, 56);
+    assert_eq!(rt; claimed(&mut store, span, 12), Ok(20));
+    assert_eq!(rt; claimed(&mut store, span, 1), Ok(36));
+    assert_eq!(rt; claimed(&mut store, span, 1), Ok(44));
+    assert_eq!(rt; released(&mut store, span, 36), Ok(()));
+    let mut image = [0; 56];
+    store.copy_out(area, 0, &mut image);
+    assert_eq!(rt; check(&image), Ok(SUMS));
+    assert_eq!(rt; describe(&store, span), (4, 16));
+    assert_eq!(rt; need(&store, span, 5), Ok(8));
+    assert_eq!(rt; claimed(&mut store, span, 5), Err(HeapFault::NoRoom));
+    assert_eq!(rt; shortened(&mut store, span), Ok(()));
+    assert_eq!(rt;
+        shortened(&mut store, span),
+        Err(HeapFault::ExcessiveShrink)
+    );
+    assert_eq!(rt; claimed(&mut store, span, 4), Ok(36));
+    assert_eq!(rt; block_size(&store, span, 36), Ok(4));
+    assert_eq!(rt; block_size(&store, span, 37), Err(HeapFault::NotABlock));
+    assert_eq!(rt;
+        segment(&store, span, 32),
+        Some(Segment {
+            place: 32,
+            size: 8,
+            used: true
+        })
+    );
+    assert_eq!(rt; segment(&store, span, 33), None);
+    Ok(())
+}
+
+#[test]
+#[tactic(auto, using(rh_defs::proofs::BytesLaws::word_laws, rh_defs::proofs::MemoryLaws::memory_laws, rh_defs::proofs::MemoryLaws::pool_laws))]
+fn blocks_get_other_sizes_in_seven_ways(rt: HostRuntime) -> Result<(), Fail> {
+    let mut store = PlainStore::new(rt.alloc(), 8)?;
+    let area = store.open()?;
+    store.grow(area, 1)?;
+    let span = Span { area, at: 8 };
+    made(&mut store, span, 200);
+    assert_eq!(rt; claimed(&mut store, span, 20), Ok(20));
+    assert_eq!(rt; claimed(&mut store, span, 20), Ok(44));
+    assert_eq!(rt; claimed(&mut store, span, 20), Ok(68));
+    assert_eq!(rt; resized(&mut store, span, 20, -1), Ok(20));
+    assert_eq!(rt; resized(&mut store, span, 20, -11), Ok(20));
+    assert_eq!(rt; resized(&mut store, span, 20, -8), Ok(20));
+    assert_eq!(rt; resized(&mut store, span, 20, 8), Ok(20));
+    assert_eq!(rt; resized(&mut store, span, 20, 8), Ok(20));
+    assert_eq!(rt; resized(&mut store, span, 68, 8), Ok(68));
+    assert_eq!(rt; released(&mut store, span, 20), Ok(()));
+    assert_eq!(rt; resized(&mut store, span, 68, -20), Ok(68));
+    assert_eq!(rt; resized(&mut store, span, 44, 30), Ok(84));
+    assert_eq!(rt; resized(&mut store, span, 68, 10), Ok(20));
+    assert_eq!(rt; resized(&mut store, span, 84, 20), Ok(84));
+    assert_eq!(rt; resized(&mut store, span, 68, 1), Err(HeapFault::NotABlock));
+    assert_eq!(rt; resized(&mut store, span, 84, -76), Err(HeapFault::BadSize));
+    assert_eq!(rt; resized(&mut store, span, 84, 500), Err(HeapFault::NoRoom));
+    assert_eq!(rt; resize_need(&store, span, 84, 500), Ok(464));
+    Ok(())
+}
+
+#[test]
+fn the_checker_names_the_first_fault(rt: HostRuntime) {
+    let empty: [u8; 0] = [];
+    assert_eq!(rt; check(&empty), Err(HeapFault::BadDescriptor));
+    let short = [0x48, 0x65, 0x61, 0x70, 0, 0, 0, 0, 0x10, 0, 0, 0];
+    assert_eq!(rt; check(&short), Err(HeapFault::BadDescriptor));
+    let mut least = [
+        0x48, 0x65, 0x61, 0x70, 0, 0, 0, 0, 0x10, 0, 0, 0, 0x10, 0, 0, 0,
+    ];
+    assert_eq!(rt;
+        check(&least),
+        Ok(Summary {
+            used: 0,
+            used_bytes: 0,
+            holes: 0,
+            hole_bytes: 0,
+            top: 0
+        })
+    );
+    least[0] = 0x68;
+    assert_eq!(rt; check(&least), Err(HeapFault::BadDescriptor));
+    assert_eq!(rt; check(&IMAGE), Ok(SUMS));
+    let mut past = IMAGE;
+    past[4] = 0x3c;
+    assert_eq!(rt; check(&past), Err(HeapFault::BadLink));
+    let mut backward = IMAGE;
+    backward[32] = 0xf0;
+    backward[33] = 0xff;
+    backward[34] = 0xff;
+    backward[35] = 0xff;
+    assert_eq!(rt; check(&backward), Err(HeapFault::BadLink));
+    let mut into_block = IMAGE;
+    into_block[4] = 0x14;
+    assert_eq!(rt; check(&into_block), Err(HeapFault::BadSize));
+    let touching = [
+        0x48, 0x65, 0x61, 0x70, 0x14, 0, 0, 0, 0x30, 0, 0, 0, 0x38, 0, 0, 0, 0x08, 0, 0, 0, 0, 0,
+        0, 0, 0x08, 0, 0, 0, 0x08, 0, 0, 0, 0, 0, 0, 0, 0x08, 0, 0, 0, 0x08, 0, 0, 0, 0, 0, 0, 0,
+        0, 0, 0, 0, 0, 0, 0, 0,
+    ];
+    assert_eq!(rt; check(&touching), Err(HeapFault::BadLink));
+    let unlinked = [
+        0x48, 0x65, 0x61, 0x70, 0x0c, 0, 0, 0, 0x30, 0, 0, 0, 0x38, 0, 0, 0, 0, 0, 0, 0, 0x08, 0,
+        0, 0, 0x08, 0, 0, 0, 0, 0, 0, 0, 0, 0, 0, 0, 0x08, 0, 0, 0, 0x08, 0, 0, 0, 0, 0, 0, 0, 0,
+        0, 0, 0, 0, 0, 0, 0,
+    ];
+    assert_eq!(rt; check(&unlinked), Err(HeapFault::BadSize));
+}
+
+#[test]
+fn accepted_images_add_up(rt: HostRuntime) {
+    let mut accepted = 0u32;
+    for i in 0..56usize {
+        for value in 0..=255u8 {
+            let mut image = IMAGE;
+            image[i] = value;
+            if let Ok(sums) = check(&image) {
+                assert_eq!(rt; added(&image), sums, "byte {i} is {value}");
+                accepted = accepted.wrapping_add(1);
+            }
+        }
+    }
+    assert!(rt; accepted > 56);
+}
