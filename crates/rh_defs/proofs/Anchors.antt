@@ -6,7 +6,7 @@ use Rattle.std.specs.Option.{option_map}
 use borrow.Author.Tests.{ltb-false, eqb-false}
 use Rattle.rh_defs.specs.Pieces.{Split, first_at, behind, written}
 use Rattle.rh_defs.specs.Slot.{Slot, Flex, weight, slot_pages, flex_start, block_of, with_block, with_bytes, roomed, slot_begin, slot_alloc, slot_block, slot_put}
-use Rattle.rh_defs.specs.Laws.{IsFree, HaveAnchors}
+use Rattle.rh_defs.specs.Slot.{IsFree, HaveAnchors, IsSlot}
 use Rattle.rh_defs.proofs.Chains.{OnGrant, granted, granted-with, granted-past, found_or-grants}
 use Rattle.rh_defs.proofs.Cuts.{IsCut, first_at-cuts, cut-total, total-append}
 
@@ -50,29 +50,29 @@ anchors-append (c ∷ blocks) b h free small =
 -- what a call leaves of a slot, where so many pages are free
 pub record IsRoomed (free : ℕ) (old new : Slot) : Type 0 where
   pub room : slot_pages new ≤ free + slot_pages old
-  pub anchors : HaveAnchors new.blocks
+  pub slot : IsSlot new
 
-pub roomed-grants : {A : Type 0} (free : ℕ) (old new : Slot) (answer : A) → HaveAnchors new.blocks → OnGrant (λ (p : Slot × A). IsRoomed free old p.0) (roomed free old new answer)
+pub roomed-grants : {A : Type 0} (free : ℕ) (old new : Slot) (answer : A) → IsSlot new → OnGrant (λ (p : Slot × A). IsRoomed free old p.0) (roomed free old new answer)
 unfolding roomed
 roomed-grants free old new answer h =
-    granted-past _ _ _ λ room. granted (record { room = omega (arith, ltb-false _ _ room); anchors = h })
+    granted-past _ _ _ λ room. granted (record { room = omega (arith, ltb-false _ _ room); slot = h })
 
-pub slot_begin-grants : (free : ℕ) → OnGrant (λ s. (slot_pages s ≤ free) × HaveAnchors s.blocks) (slot_begin free)
+pub slot_begin-grants : (free : ℕ) → OnGrant (λ s. (slot_pages s ≤ free) × IsSlot s) (slot_begin free)
 unfolding slot_begin
-slot_begin-grants free = granted-past _ _ _ λ room. granted (omega (arith, ltb-false _ _ room), tt)
+slot_begin-grants free = granted-past _ _ _ λ room. granted (omega (arith, ltb-false _ _ room), record { heap = record { tidy = tt; fits = omega arith; multiple = omega arith }; anchors = tt })
 
-pub slot_alloc-grants : (free k : ℕ) (bytes : List ℕ) (s : Slot) → k < 64 → HaveAnchors s.blocks → OnGrant (λ (p : Slot × ℕ). IsRoomed free s p.0) (slot_alloc free k bytes s)
+pub slot_alloc-grants : (free k : ℕ) (bytes : List ℕ) (s : Slot) → k < 64 → IsSlot s → OnGrant (λ (p : Slot × ℕ). IsRoomed free s p.0) (slot_alloc free k bytes s)
 unfolding slot_alloc
 slot_alloc-grants free k bytes s small h =
     granted-past _ _ _ λ unused.
-    roomed-grants free s (with_block k bytes s) _ (anchors-append s.blocks _ h (is_free weight k (flex_start s) s.blocks unused) small)
+    roomed-grants free s (with_block k bytes s) _ (record { heap = h.heap; anchors = anchors-append s.blocks _ h.anchors (is_free weight k (flex_start s) s.blocks unused) small })
 
 -- bytes written over a range that is whole inside leave the length
 pub length-written : (bytes : List ℕ) (offset : ℕ) (new : List ℕ) → offset + length new ≤ length bytes → length (written bytes offset new) ≡ length bytes
 length-written bytes offset new h =
     simp (length-append, length-take, length-drop) (omega arith)
 
-pub slot_put-grants : (free k offset : ℕ) (bytes : List ℕ) (s : Slot) → HaveAnchors s.blocks → OnGrant (λ (s' : Slot). IsRoomed free s s') (slot_put k offset bytes s)
+pub slot_put-grants : (free k offset : ℕ) (bytes : List ℕ) (s : Slot) → IsSlot s → OnGrant (λ (s' : Slot). IsRoomed free s s') (slot_put k offset bytes s)
 unfolding slot_put slot_block
 slot_put-grants free k offset bytes s h =
     granted-with _ (found_or-grants (IsCut weight (λ _ b. b.anchor == k) (flex_start s) s.blocks) (block_of k s) _ (first_at-cuts weight (λ _ b. b.anchor == k) (flex_start s) s.blocks)) λ b cut.
@@ -82,5 +82,5 @@ slot_put-grants free k offset bytes s h =
     kept : (b : Split Flex) → IsCut weight (λ _ c. c.anchor == k) (flex_start s) s.blocks b → offset + length bytes ≤ length b.here.bytes → IsRoomed free s (with_bytes b (written b.here.bytes offset bytes) s)
     kept b cut inside = record {
       room = omega (arith, length-written b.here.bytes offset bytes inside, total-append weight b.before (record { anchor = b.here.anchor; bytes = written b.here.bytes offset bytes } ∷ b.after), cut-total cut);
-      anchors = anchors-here b.here _ b.after refl b.before (rw cut.whole h);
+      slot = record { heap = h.heap; anchors = anchors-here b.here _ b.after refl b.before (rw cut.whole h.anchors) };
     }

@@ -14,3 +14,4 @@ pub mod HeapStretch
 pub mod HeapRows
 pub mod HeapFaults
 pub mod HeapGrowth
+pub mod SlotRows

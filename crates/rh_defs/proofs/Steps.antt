@@ -12,7 +12,8 @@ use Rattle.rh_defs.specs.Files.{FileList}
 use Rattle.rh_defs.specs.Desk.{Desk, Task, task_pages, free_pages, has_name, named}
 use Rattle.rh_defs.specs.Step.{Answer, start_task, alloc, put, show, blocks, change, step}
 use Rattle.rh_defs.specs.Runs.{start_with, after}
-use Rattle.rh_defs.specs.Laws.{HaveAnchors, IsDesk}
+use Rattle.rh_defs.specs.Laws.{IsDesk}
+use Rattle.rh_defs.specs.Slot.{IsSlot}
 use Rattle.rh_defs.proofs.Chains.{OnGrant, granted, granted-then, granted-with, granted-past, or_else-keeps}
 use Rattle.rh_defs.proofs.Cuts.{total-append}
 use Rattle.rh_defs.proofs.Anchors.{slot_begin-grants, slot_alloc-grants, slot_put-grants}
@@ -29,10 +30,10 @@ answer-is is = record { desk = is }
 abbrev pub Keeps : Desk → Granted Answer → Type 0
 Keeps d r = IsDesk d → OnGrant IsAnswer r
 
--- the blocks of a named task have anchors of their own
-named-anchors : (name : List ℕ) (d : Desk) (t : Task) → IsDesk d → named name d ≡ Ok t → HaveAnchors t.slot.blocks
-named-anchors name d t is e =
-    rw (named-found name d t e) at (find-all (λ t. HaveAnchors t.slot.blocks) (has_name name) d.tasks is.anchors)
+-- the slot of a named task is one
+named-slot : (name : List ℕ) (d : Desk) (t : Task) → IsDesk d → named name d ≡ Ok t → IsSlot t.slot
+named-slot name d t is e =
+    rw (named-found name d t e) at (find-all (λ t. IsSlot t.slot) (has_name name) d.tasks is.slots)
 
 start_task-keeps : (d : Desk) (name : List ℕ) (buffer : ℕ) → Keeps d (start_task d name buffer)
 unfolding start_task
@@ -43,21 +44,21 @@ start_task-keeps d name buffer is =
       pages = omega (arith, is.pages, fits.0, total-append task_pages d.tasks (record { handle = d.next_handle; name = name; buffer = buffer; slot = s } ∷ []));
       handles = ascend-append 0 d.next_handle d.tasks _ is.handles refl;
       few = omega (arith, leb-false _ _ few, length-append d.tasks (record { handle = d.next_handle; name = name; buffer = buffer; slot = s } ∷ []));
-      anchors = append-all (λ t. HaveAnchors t.slot.blocks) d.tasks _ is.anchors fits.1;
+      slots = append-all (λ t. IsSlot t.slot) d.tasks _ is.slots fits.1;
     }))
 
 alloc-keeps : (d : Desk) (name : List ℕ) (k n : ℕ) → k < 64 → Keeps d (alloc d name k n)
 unfolding alloc
 alloc-keeps d name k n small is =
     granted-then _ _ λ t e.
-    granted-with _ (slot_alloc-grants (free_pages d) k _ t.slot small (named-anchors name d t is e)) λ p fits.
+    granted-with _ (slot_alloc-grants (free_pages d) k _ t.slot small (named-slot name d t is e)) λ p fits.
     granted (answer-is (with_slot-keeps name d t p.0 is e fits))
 
 put-keeps : (d : Desk) (name : List ℕ) (k offset : ℕ) (bytes : List ℕ) → Keeps d (put d name k offset bytes)
 unfolding put
 put-keeps d name k offset bytes is =
     granted-then _ _ λ t e.
-    granted-with _ (slot_put-grants (free_pages d) k offset bytes t.slot (named-anchors name d t is e)) λ s fits.
+    granted-with _ (slot_put-grants (free_pages d) k offset bytes t.slot (named-slot name d t is e)) λ s fits.
     granted (answer-is (with_slot-keeps name d t s is e fits))
 
 -- a question leaves the desk
@@ -106,4 +107,4 @@ after-is d (c ∷ commands) h is =
     first_and false b h = absurd (cc)
 
 pub start-is : (pool handle ref : ℕ) (files : FileList) → 8 ≤ pool → IsDesk (start_with pool files handle ref)
-start-is pool handle ref files h = record { pages = omega arith; handles = omega arith; few = omega arith; anchors = tt }
+start-is pool handle ref files h = record { pages = omega arith; handles = omega arith; few = omega arith; slots = tt }

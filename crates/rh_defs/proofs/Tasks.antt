@@ -7,7 +7,8 @@ use Rattle.rh_defs.specs.Chain.{found_or}
 use Rattle.rh_defs.specs.Pieces.{total}
 use Rattle.rh_defs.specs.Slot.{Slot, slot_pages}
 use Rattle.rh_defs.specs.Desk.{Desk, Task, task_pages, used_pages, free_pages, has_name, named, edit_task, with_task, with_slot}
-use Rattle.rh_defs.specs.Laws.{Ascend, HaveAnchors, IsDesk}
+use Rattle.rh_defs.specs.Laws.{Ascend, IsDesk}
+use Rattle.rh_defs.specs.Slot.{IsSlot}
 use Rattle.rh_defs.proofs.Anchors.{IsRoomed}
 
 -- whether a task has the handle
@@ -113,5 +114,5 @@ with_slot-keeps name d t s is e fits =
       pages = omega (arith, is.pages, fits.room, edit-pages t.handle (λ t. record t { slot = s }) d.tasks t found);
       handles = edit-ascends t.handle (λ t. record t { slot = s }) (λ t. refl) 0 d.next_handle d.tasks is.handles;
       few = rw (edit-length t.handle (λ t. record t { slot = s }) d.tasks) is.few;
-      anchors = edit-all t.handle (λ t. record t { slot = s }) (λ t. HaveAnchors t.slot.blocks) (λ t _. fits.anchors) d.tasks is.anchors;
+      slots = edit-all t.handle (λ t. record t { slot = s }) (λ t. IsSlot t.slot) (λ t _. fits.slot) d.tasks is.slots;
     }

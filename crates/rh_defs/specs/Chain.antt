@@ -31,6 +31,28 @@ unfoldable pub or_else : {A : Type 0} → Granted A → (Refusal → A) → A
 or_else (Ok x) instead = x
 or_else (Err refusal) instead = instead refusal
 
+-- ---- a call on one part of a desk, as its callers see it
+
+-- what a call answers that also leaves something
+abbrev pub answer_of : {A B : Type 0} → Granted (A × B) → Granted B
+answer_of (Ok p) = Ok p.1
+answer_of (Err refusal) = Err refusal
+
+-- what such a call leaves of what there was: the same where it was refused
+abbrev pub left_of : {A B : Type 0} → A → Granted (A × B) → A
+left_of old (Ok p) = p.0
+left_of old (Err refusal) = old
+
+-- done or refused
+abbrev pub outcome_of : {A : Type 0} → Granted A → Granted (Unit {0})
+outcome_of (Ok x) = Ok tt
+outcome_of (Err refusal) = Err refusal
+
+-- what a call leaves that answers nothing more
+abbrev pub result_or : {A : Type 0} → A → Granted A → A
+result_or old (Ok new) = new
+result_or old (Err refusal) = old
+
 -- opens this file's words, for a proof that computes
 unfoldable pub computing : Unit {0}
 unfolding ◌>>=◌ ◌>>◌ refuse_if found_or or_else

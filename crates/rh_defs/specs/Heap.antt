@@ -1,7 +1,7 @@
 -- Heaps as lists of used segments and holes, and the calls on them.
 use Rattle.std.specs.Prelude.{◌≡◌, ℕ, zero, suc, ◌+◌, ◌-◌, ◌<◌, ◌≤◌, ◌%◌, ℤ, Bool, true, false, nat_lt, nat_le, ◌==◌, max, if◌then◌else◌, List, [], ◌∷◌, ◌++◌, length, take, Option, Some, None, Result, Ok, Err}
 use Rattle.std.specs.Option.{option_map}
-use Rattle.rh_defs.specs.Pieces.{round_up, page, zeros, moved, total, Split, first_at, with_here}
+use Rattle.rh_defs.specs.Pieces.{round_up, page, zeros, moved, total, Split, first_at, with_here, is_inside}
 use Rattle.rh_defs.specs.declared.heap.HeapFault.{HeapFault}
 use Rattle.rh_defs.specs.declared.heap.HeapFault.TheVariants.{NotABlock, BadSize, NoRoom, ExcessiveShrink}
 
@@ -69,6 +69,14 @@ block_at address h = first_at size_of (is_block_at address) first_place h.segmen
 -- the first hole of at least t bytes
 abbrev pub hole_for : ℕ → List Segment → Option (Split Segment)
 hole_for t segments = first_at size_of (is_hole_for t) first_place segments
+
+abbrev pub is_around : ℕ → ℕ → ℕ → Segment → Bool
+is_around x n place (Used bytes) = is_inside x n (place + 4) (length bytes)
+is_around x n place (Hole size) = false
+
+-- the block that holds the n bytes at address x whole
+abbrev pub block_around : ℕ → ℕ → Heap → Option (Split Segment)
+block_around x n h = first_at size_of (is_around x n) first_place h.segments
 
 -- the segment that begins at a place
 abbrev pub segment_at : ℕ → Heap → Option (Split Segment)

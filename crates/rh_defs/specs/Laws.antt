@@ -5,7 +5,7 @@ use Rattle.rh_defs.specs.declared.command.Command.{Command}
 use Rattle.rh_defs.specs.Pieces.{page}
 use Rattle.rh_defs.specs.Range.{all_in_range}
 use Rattle.rh_defs.specs.Files.{FileList}
-use Rattle.rh_defs.specs.Slot.{Flex, slot_start, slot_pages}
+use Rattle.rh_defs.specs.Slot.{IsSlot, slot_start, slot_pages}
 use Rattle.rh_defs.specs.Desk.{Desk, Task, most_tasks, used_pages, free_pages}
 use Rattle.rh_defs.specs.Runs.{start_with, after}
 use Rattle.rh_defs.specs.Spans.{AreLaidOut, slot_spans}
@@ -15,21 +15,12 @@ abbrev pub Ascend : ℕ → ℕ → List Task → Type 0
 Ascend least next [] = least ≤ next
 Ascend least next (t ∷ tasks) = (least ≤ t.handle) × Ascend (t.handle + 1) next tasks
 
--- the anchor is none of these blocks'
-abbrev pub IsFree : ℕ → List Flex → Type 0
-IsFree k blocks = AllByRecursion (λ b. b.anchor ≢ k) blocks
-
--- each block has an anchor of its own among the 64
-abbrev pub HaveAnchors : List Flex → Type 0
-HaveAnchors [] = Unit {0}
-HaveAnchors (b ∷ blocks) = (b.anchor < 64) × IsFree b.anchor blocks × HaveAnchors blocks
-
 -- what every command keeps of a desk
 pub record IsDesk (d : Desk) : Type 0 where
   pub pages : used_pages d ≤ d.pool
   pub handles : Ascend 0 d.next_handle d.tasks
   pub few : length d.tasks ≤ most_tasks
-  pub anchors : AllByRecursion (λ t. HaveAnchors t.slot.blocks) d.tasks
+  pub slots : AllByRecursion (λ t. IsSlot t.slot) d.tasks
 
 -- the free pages and those of all areas and slots are the pool's
 abbrev pub IsBalanced : Desk → Type 0

@@ -17,3 +17,5 @@ pub mod Bytes
 pub mod Memory
 pub mod Heap
 pub mod HeapImage
+pub mod SlotImage
+pub mod Module

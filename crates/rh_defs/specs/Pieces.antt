@@ -1,5 +1,5 @@
 -- Lists whose members lie one after the other, and numbers rounded up.
-use Rattle.std.specs.Prelude.{ℕ, ◌+◌, ◌-◌, ◌*◌, ◌/◌, ℤ, pos, negsuc, Bool, if◌then◌else◌, List, [], ◌∷◌, ◌++◌, length, take, drop, replicate, Option, Some, None}
+use Rattle.std.specs.Prelude.{ℕ, ◌+◌, ◌-◌, ◌*◌, ◌/◌, ℤ, pos, negsuc, Bool, ◌&&◌, nat_le, if◌then◌else◌, List, [], ◌∷◌, ◌++◌, length, take, drop, replicate, Option, Some, None}
 use Rattle.std.specs.Option.{option_map}
 
 -- the next multiple of the unit that is not below n
@@ -48,6 +48,10 @@ first_at size test place (x ∷ xs) =
 -- the list with another member at the cut
 abbrev pub with_here : {A : Type 0} → Split A → A → List A
 with_here s x = s.before ++ x ∷ s.after
+
+-- whether the n bytes at x lie whole in the m bytes at a
+abbrev pub is_inside : ℕ → ℕ → ℕ → ℕ → Bool
+is_inside x n a m = nat_le a x && nat_le (x + n) (a + m)
 
 -- the bytes with these in place of those from an offset on
 abbrev pub written : List ℕ → ℕ → List ℕ → List ℕ

@@ -1,7 +1,8 @@
 -- The spans of live blocks: where each one lies in its slot.
-use Rattle.std.specs.Prelude.{ℕ, ◌+◌, ◌≤◌, ◌⊎◌, List, [], ◌∷◌, length}
+use Rattle.std.specs.Prelude.{ℕ, ◌+◌, ◌≤◌, ◌⊎◌, List, [], ◌∷◌, ◌++◌, length}
 use Rattle.std.specs.List.{AllByRecursion}
-use Rattle.rh_defs.specs.Slot.{Slot, Flex, weight, flex_start}
+use Rattle.rh_defs.specs.Heap.{Segment, Used, Hole, first_place}
+use Rattle.rh_defs.specs.Slot.{Slot, Flex, weight, heap_start, flex_start}
 
 -- a block's address and its size
 pub record Span : Type 0 where
@@ -13,9 +14,15 @@ abbrev pub flex_spans : ℕ → List Flex → List Span
 flex_spans place [] = []
 flex_spans place (b ∷ blocks) = record { start = place + 8; size = length b.bytes } ∷ flex_spans (place + weight b) blocks
 
--- the live blocks of a slot
+-- the spans of the blocks of a heap's segments that lie one after the other from a place on
+abbrev pub heap_spans : ℕ → List Segment → List Span
+heap_spans place [] = []
+heap_spans place (Used bytes ∷ segments) = record { start = place + 4; size = length bytes } ∷ heap_spans (place + (4 + length bytes)) segments
+heap_spans place (Hole size ∷ segments) = heap_spans (place + size) segments
+
+-- the live blocks of a slot: those of the C heap, and the flex blocks
 abbrev pub slot_spans : Slot → List Span
-slot_spans s = flex_spans (flex_start s) s.blocks
+slot_spans s = heap_spans (heap_start + first_place) s.heap.segments ++ flex_spans (flex_start s) s.blocks
 
 -- two spans share no byte
 abbrev pub IsApart : Span → Span → Type 0

@@ -10,6 +10,7 @@ use Rattle.rh_defs.specs.declared.command.Command.TheVariants as command
 use Rattle.rh_defs.specs.Pieces.{total, round_up, pages_for, zeros, written}
 use Rattle.rh_defs.specs.Range.{in_range}
 use Rattle.rh_defs.specs.Files.{FileList}
+use Rattle.rh_defs.specs.Heap.{empty_heap}
 use Rattle.rh_defs.specs.Slot.{Flex, weight, slot_pages, is_used, with_block}
 use Rattle.rh_defs.specs.Desk.{Desk, Task, named, with_task, with_slot}
 use Rattle.rh_defs.specs.Step.{alloc}
@@ -109,7 +110,7 @@ module _ {seats : List Seat} {records : List Record} {bytes : List ℕ} {used fr
 
   edited : task_of (records ++ new_record ∷ []) (written bytes used (zeros n)) new_seat ≡ record (task_of records bytes s) { slot = with_block k (zeros n) (task_of records bytes s).slot }
   unfolding task_of
-  edited = ap (λ (blocks : List Flex). let t : Task = record { handle = s.handle; name = s.name; buffer = s.buffer; slot = record { heap_length = 3840; blocks = blocks } } in t) own
+  edited = ap (λ (blocks : List Flex). let t : Task = record { handle = s.handle; name = s.name; buffer = s.buffer; slot = record { heap = empty_heap 3840; blocks = blocks; budging = true } } in t) own
 
   new-desk : new_desk ≡ with_slot s.handle (with_block k (zeros n) (task_of records bytes s).slot) desk
   unfolding with_task

@@ -8,7 +8,7 @@ use Rattle.std.proofs.lemmas.Map.Steps.{length-le_from_distinct_below}
 use Rattle.rh_defs.specs.Pieces.{total}
 use Rattle.rh_defs.specs.Slot.{Flex}
 use Rattle.rh_defs.specs.Desk.{Task}
-use Rattle.rh_defs.specs.Laws.{IsFree, HaveAnchors}
+use Rattle.rh_defs.specs.Slot.{IsFree, HaveAnchors, IsSlot}
 use Rattle.rh_tasks.specs.declared.seat.Seat.{Seat}
 use Rattle.rh_tasks.specs.declared.record.Record.{Record}
 use Rattle.rh_defs.specs.Files.{FileList}
@@ -42,13 +42,13 @@ below (b ∷ blocks) h q e =
 few-blocks : (blocks : List Flex) → HaveAnchors blocks → length blocks ≤ 64
 few-blocks blocks h = omega (arith, length-le_from_distinct_below (anchors blocks) 64 (distinct blocks h) (below blocks h), length-map blocks (λ (b : Flex). b.anchor))
 
-pub few-records : (records : List Record) (bytes : List ℕ) (seats : List Seat) → AllByRecursion (λ (t : Task). HaveAnchors t.slot.blocks) (map (task_of records bytes) seats)
+pub few-records : (records : List Record) (bytes : List ℕ) (seats : List Seat) → AllByRecursion (λ (t : Task). IsSlot t.slot) (map (task_of records bytes) seats)
     → total (λ (s : Seat). count_in s.handle records) seats ≤ 64 * length seats
 unfolding task_of
 few-records records bytes [] all = omega arith
 few-records records bytes (s ∷ seats) all =
-    omega (arith, few-blocks (blocks_in s.handle records bytes) all.0, length-blocks s.handle records bytes, few-records records bytes seats all.1)
+    omega (arith, few-blocks (blocks_in s.handle records bytes) all.0.anchors, length-blocks s.handle records bytes, few-records records bytes seats all.1)
 
 pub count-world : {seats : List Seat} {records : List Record} {bytes : List ℕ} {used free pages : ℕ} {files : FileList} {next_handle next_ref : ℕ}
     → IsWorld seats records bytes used free pages files next_handle next_ref → length records ≤ 2048
-count-world {seats} {records} {bytes} w = omega (arith, w.counted, w.desk.few, few-records records bytes seats w.desk.anchors, length-map seats (task_of records bytes))
+count-world {seats} {records} {bytes} w = omega (arith, w.counted, w.desk.few, few-records records bytes seats w.desk.slots, length-map seats (task_of records bytes))

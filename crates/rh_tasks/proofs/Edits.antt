@@ -1,10 +1,11 @@
 -- The tasks with one of them changed, and what the records say of the others as before.
-use Rattle.std.proofs.Common.{◌≡◌, ◌≢◌, ℕ, zero, suc, ◌+◌, ◌≤◌, ◌<◌, refl, ap, sym, ◌∙◌, arith, List, [], ◌∷◌}
+use Rattle.std.proofs.Common.{◌≡◌, ◌≢◌, ℕ, zero, suc, ◌+◌, ◌≤◌, ◌<◌, true, refl, ap, sym, ◌∙◌, arith, List, [], ◌∷◌}
 use Rattle.std.proofs.lemmas.Bool.Decides.{nat_tests}
 use Rattle.std.specs.Prelude.{map, ◌==◌, if◌then◌else◌}
 use Rattle.std.proofs.Math.ListN.{set}
 use Rattle.std.specs.List.{AllByRecursion}
 use Rattle.rh_defs.specs.Pieces.{total}
+use Rattle.rh_defs.specs.Heap.{empty_heap}
 use Rattle.rh_defs.specs.Slot.{Flex}
 use Rattle.rh_defs.specs.Desk.{Task, edit_task}
 use Rattle.rh_defs.specs.Laws.{Ascend}
@@ -106,7 +107,7 @@ module _ (records records' : List Record) (bytes bytes' : List ℕ) (h : ℕ) (o
   task-stays : (s : Seat) → s.handle ≢ h → task_of records' bytes' s ≡ task_of records bytes s
   unfolding task_of
   task-stays s apart =
-      ap (λ (blocks : List Flex). let t : Task = record { handle = s.handle; name = s.name; buffer = s.buffer; slot = record { heap_length = 3840; blocks = blocks } } in t) (others s.handle apart)
+      ap (λ (blocks : List Flex). let t : Task = record { handle = s.handle; name = s.name; buffer = s.buffer; slot = record { heap = empty_heap 3840; blocks = blocks; budging = true } } in t) (others s.handle apart)
 
   tasks-stay : (seats : List Seat) → AllByRecursion (IsAbove (h + 1)) seats → map (task_of records' bytes') seats ≡ map (task_of records bytes) seats
   tasks-stay [] above = refl

@@ -10,6 +10,7 @@ use Rattle.rh_defs.specs.declared.command.Command.TheVariants as command
 use Rattle.rh_defs.specs.Pieces.{written}
 use Rattle.rh_defs.specs.Range.{in_range}
 use Rattle.rh_defs.specs.Files.{FileList}
+use Rattle.rh_defs.specs.Heap.{empty_heap}
 use Rattle.rh_defs.specs.Slot.{Slot, Flex, block_of, with_bytes}
 use Rattle.rh_defs.specs.Desk.{Desk, Task, named, with_task, with_slot}
 use Rattle.rh_defs.specs.Step.{alloc, put, show, blocks}
@@ -121,7 +122,7 @@ module _ {seats : List Seat} {records : List Record} {bytes : List ℕ} {used fr
         edited : task_of records new_bytes s ≡ record (task_of records bytes s) { slot = changed }
         unfolding task_of
         edited =
-            ap (λ (more : List Flex). let t : Task = record { handle = s.handle; name = s.name; buffer = s.buffer; slot = record { heap_length = 3840; blocks = more } } in t)
+            ap (λ (more : List Flex). let t : Task = record { handle = s.handle; name = s.name; buffer = s.buffer; slot = record { heap = empty_heap 3840; blocks = more; budging = true } } in t)
             (ap (λ m. blocks_in s.handle records (written bytes m new)) (sym start-is) ∙ the_block.put offset new within)
 
         tasks-are : map (task_of records new_bytes) seats ≡ map (task_of records new_bytes) (set seats at s)

@@ -9,6 +9,7 @@ use Rattle.rh_defs.specs.declared.reply.Reply.TheVariants as reply
 use Rattle.rh_defs.specs.declared.command.Command.TheVariants as command
 use Rattle.rh_defs.specs.Range.{in_range}
 use Rattle.rh_defs.specs.Files.{FileList}
+use Rattle.rh_defs.specs.Heap.{empty_heap}
 use Rattle.rh_defs.specs.Slot.{Flex, new_slot, slot_begin}
 use Rattle.rh_defs.specs.Desk.{Desk, Task, has_name}
 use Rattle.rh_defs.specs.Step.{start_task, with_new_task}
@@ -76,7 +77,7 @@ module _ {seats : List Seat} {records : List Record} {bytes : List ℕ} {used fr
           new-task : task_of records bytes new_seat ≡ record { handle = next_handle; name = name; buffer = buffer; slot = new_slot }
           unfolding task_of
           new-task =
-              ap (λ (blocks : List Flex). let t : Task = record { handle = next_handle; name = name; buffer = buffer; slot = record { heap_length = 3840; blocks = blocks } } in t) (no-blocks next_handle records bytes w.known)
+              ap (λ (blocks : List Flex). let t : Task = record { handle = next_handle; name = name; buffer = buffer; slot = record { heap = empty_heap 3840; blocks = blocks; budging = true } } in t) (no-blocks next_handle records bytes w.known)
 
           new-desk : with_new_task name buffer new_slot desk ≡ new_desk
           new-desk =

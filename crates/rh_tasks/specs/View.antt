@@ -1,9 +1,10 @@
 -- The desk that the tasks, the records and the bytes of a world spell.
-use Rattle.std.specs.Prelude.{ℕ, ◌+◌, ◌*◌, ◌≡◌, ◌≤◌, ◌<◌, Bool, ◌==◌, if◌then◌else◌, List, [], ◌∷◌, length, take, drop, map}
+use Rattle.std.specs.Prelude.{ℕ, ◌+◌, ◌*◌, ◌≡◌, ◌≤◌, ◌<◌, Bool, true, ◌==◌, if◌then◌else◌, List, [], ◌∷◌, length, take, drop, map}
 use Rattle.std.specs.List.{AllByRecursion}
 use Rattle.std.specs.Str.{bytes_eq}
 use Rattle.rh_defs.specs.Pieces.{total, round_up, pages_for}
 use Rattle.rh_defs.specs.Files.{FileList}
+use Rattle.rh_defs.specs.Heap.{empty_heap}
 use Rattle.rh_defs.specs.Slot.{Flex}
 use Rattle.rh_defs.specs.Desk.{Desk, Task}
 use Rattle.rh_defs.specs.Laws.{IsDesk}
@@ -51,7 +52,7 @@ task_of records bytes s = record {
   handle = s.handle;
   name = s.name;
   buffer = s.buffer;
-  slot = record { heap_length = 3840; blocks = blocks_in s.handle records bytes };
+  slot = record { heap = empty_heap 3840; blocks = blocks_in s.handle records bytes; budging = true };
 }
 
 -- of the areas only the module area has a page

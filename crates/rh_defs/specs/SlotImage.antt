@@ -1,0 +1,62 @@
+-- The bytes that spell a slot: 64 anchor words, the C heap, and the flex blocks above it.
+use Rattle.std.specs.Prelude.{◌≡◌, ℕ, zero, suc, ◌+◌, ◌-◌, ◌*◌, ◌/◌, ◌%◌, ◌<◌, ◌≤◌, ◌==◌, Bool, nat_le, nat_lt, ◌&&◌, if◌then◌else◌, List, [], ◌∷◌, length}
+use Rattle.rh_defs.specs.Bytes.{word, part}
+use Rattle.rh_defs.specs.Pieces.{page}
+use Rattle.rh_defs.specs.Heap.{Heap}
+use Rattle.rh_defs.specs.HeapImage.{Spells, heap_of}
+use Rattle.rh_defs.specs.Slot.{Flex, Slot, flex_weight, weight, slot_start, heap_start, slot_length, slot_pages, IsFree, HaveAnchors}
+
+-- the C heap follows 64 anchor words
+abbrev pub heap_place : ℕ
+heap_place = 256
+
+-- the flex blocks follow the C heap
+abbrev pub flex_place : Slot → ℕ
+flex_place s = heap_place + s.heap.end
+
+-- Blocks lie one after the other from place p on: the address of the anchor word, the size, and the bytes.
+abbrev pub Lie : List ℕ → ℕ → List Flex → Type 0
+Lie b p [] = Unit {0}
+Lie b p (f ∷ blocks) =
+    (word b p ≡ slot_start + 4 * f.anchor) × (word b (p + 4) ≡ length f.bytes) × (part b (p + 8) (length f.bytes) ≡ f.bytes) × Lie b (p + weight f) blocks
+
+-- The anchor words of blocks that lie from place p on hold the blocks' addresses.
+abbrev pub Hang : List ℕ → ℕ → List Flex → Type 0
+Hang b p [] = Unit {0}
+Hang b p (f ∷ blocks) = (word b (4 * f.anchor) ≡ slot_start + p + 8) × Hang b (p + weight f) blocks
+
+-- the bytes hold the slot's anchor words, C heap and blocks
+pub record SlotWords (b : List ℕ) (s : Slot) : Type 0 where
+  pub heap : Spells b heap_place s.heap
+  pub within : slot_length s ≤ length b
+  pub lie : Lie b (flex_place s) s.blocks
+  pub hang : Hang b (flex_place s) s.blocks
+  pub none : (k : ℕ) → k < 64 → IsFree k s.blocks → word b (4 * k) ≡ 0
+  pub anchors : HaveAnchors s.blocks
+
+-- the bytes spell the slot: they hold it, and are its pages
+pub record SpellsSlot (b : List ℕ) (s : Slot) : Type 0 where
+  pub words : SlotWords b s
+  pub pages : length b ≡ page * slot_pages s
+
+-- whether a block stands at place p: its header names an anchor word that holds its address
+abbrev pub is_block : List ℕ → ℕ → Bool
+is_block b p =
+    nat_le slot_start (word b p) && nat_lt (word b p) heap_start && word b p % 4 == 0
+    && word b (word b p - slot_start) == slot_start + p + 8
+
+-- the blocks that stand from place p on; the first argument bounds how many
+unfoldable pub flex_in : ℕ → List ℕ → ℕ → List Flex
+flex_in zero b p = []
+flex_in (suc k) b p =
+    if is_block b p then record { anchor = (word b p - slot_start) / 4; bytes = part b (p + 8) (word b (p + 4)) }
+    ∷ flex_in k b (p + flex_weight (word b (p + 4)))
+    else []
+
+-- the slot that the bytes spell, if they spell one; whether budging is on does not stand in them
+unfoldable pub slot_of : Bool → List ℕ → Slot
+slot_of budging b = record {
+  heap = heap_of b heap_place;
+  blocks = flex_in (length b) b (heap_place + (heap_of b heap_place).end);
+  budging = budging;
+}
