@@ -5,22 +5,11 @@ use Rattle.rh_defs.specs.Pieces.{total}
 use Rattle.rh_defs.specs.Heap.{Segment, Used, Hole, Heap, size_of}
 use Rattle.rh_defs.specs.HeapImage.{Stand, Spells, segments_in, heap_of}
 use Rattle.rh_defs.proofs.BytesLaws.{word_same, part_same}
-use Rattle.rh_defs.proofs.HeapLists.{HasRoom, HasRoom-from_tidy, cond_true, cond_false, eqb_same, eqb_apart}
+use Rattle.rh_defs.proofs.HeapLists.{HasRoom-from_tidy, cond_true, cond_false, eqb_same, eqb_apart}
+use Rattle.rh_defs.specs.HeapParts.{HasRoom, last_link, Open}
 
 pub narrower : (b c : List ℕ) (lo hi lo' hi' : ℕ) → SameIn b c lo hi → lo ≤ lo' → hi' ≤ hi → SameIn b c lo' hi'
 narrower b c lo hi lo' hi' s l h = record { each = λ k x y. s.each k (omega arith) (omega arith) }
-
--- the place of the last link behind segments that stand at p
-abbrev pub last_link : ℕ → ℕ → List Segment → ℕ
-last_link f p [] = f
-last_link f p (Used bs ∷ ss) = last_link f (p + (4 + length bs)) ss
-last_link f p (Hole n ∷ ss) = last_link p (p + n) ss
-
--- the segments stand there, and nothing is said of the last link
-abbrev pub Open : List ℕ → ℕ → ℕ → List Segment → Type 0
-Open b f p [] = Unit {0}
-Open b f p (Used bs ∷ ss) = (word b p ≡ 4 + length bs) × (part b (p + 4) (length bs) ≡ bs) × Open b f (p + (4 + length bs)) ss
-Open b f p (Hole n ∷ ss) = (f + word b f ≡ p) × (word b (p + 4) ≡ n) × Open b p (p + n) ss
 
 pub last_link-append : (f p : ℕ) (xs ys : List Segment) → last_link f p (xs ++ ys) ≡ last_link (last_link f p xs) (p + total size_of xs) ys
 last_link-append f p [] ys = rw (let e : p + 0 ≡ p = omega arith in e) refl

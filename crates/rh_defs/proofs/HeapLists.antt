@@ -3,8 +3,9 @@ use Rattle.std.proofs.Common.{◌≡◌, ℕ, zero, suc, ◌+◌, ◌%◌, ◌<�
 use Rattle.std.proofs.lemmas.Bool.Decides.{nat_tests, eqb_tells}
 use Rattle.std.specs.Prelude.{Option, Some, None, IfSome}
 use Rattle.std.specs.Option.{option_map}
-use Rattle.rh_defs.specs.Pieces.{total, Split, behind, first_at}
+use Rattle.rh_defs.specs.Pieces.{total, Split, behind, first_at, NonePass}
 use Rattle.rh_defs.specs.Heap.{Segment, Used, Hole, size_of, IsTidy, with_hole, joined}
+use Rattle.rh_defs.specs.HeapParts.{HasRoom}
 
 -- ---- tests
 pub cond_true : {A : Type 0} (t : Bool) (x y : A) → t ≡ true → cond t x y ≡ x
@@ -26,11 +27,6 @@ pub leb_no : (x y : ℕ) → y < x → leb x y ≡ false
 leb_no x y h = grind (arith, nat_tests)
 
 -- ---- the first member that passes a test
-
--- no member passes
-abbrev pub NonePass : {A : Type 0} → (A → ℕ) → (ℕ → A → Bool) → ℕ → List A → Type 0
-NonePass size test place [] = Unit {0}
-NonePass size test place (x ∷ xs) = (test place x ≡ false) × NonePass size test (place + size x) xs
 
 module _ {A : Type 0} (size : A → ℕ) (test : ℕ → A → Bool) where
   pub first_at-none : (place : ℕ) (xs : List A) → NonePass size test place xs → first_at size test place xs ≡ None
@@ -56,12 +52,6 @@ sum-append f (x ∷ xs) ys = omega (arith, sum-append f xs ys)
 pub total-append : (xs ys : List Segment) → total size_of (xs ++ ys) ≡ total size_of xs + total size_of ys
 total-append [] ys = omega arith
 total-append (x ∷ xs) ys = omega (arith, total-append xs ys)
-
--- each hole has room for its two words
-abbrev pub HasRoom : List Segment → Type 0
-HasRoom [] = Unit {0}
-HasRoom (Used bytes ∷ ss) = HasRoom ss
-HasRoom (Hole n ∷ ss) = (8 ≤ n) × HasRoom ss
 
 pub HasRoom-from_tidy : (h : Bool) (ss : List Segment) → IsTidy h ss → HasRoom ss
 HasRoom-from_tidy false [] t = tt

@@ -5,20 +5,9 @@ use Rattle.rh_defs.specs.Pieces.{total}
 use Rattle.rh_defs.specs.Heap.{Segment, Used, Hole, Heap, size_of, IsTidy}
 use Rattle.rh_defs.specs.HeapImage.{Stand, Spells, special_word}
 use Rattle.rh_defs.proofs.BytesLaws.{word_same, part_same}
-use Rattle.rh_defs.proofs.HeapLists.{HasRoom, HasRoom-from_tidy, HasRoom-append, HasRoom-join, total-append}
-use Rattle.rh_defs.proofs.HeapLaws.{narrower, last_link, last_link_range, last_link-append, Open, Open-kept, Open-join, Stand-split, Stand-join}
-
--- The link at place f leads to the place at + x, or is 0 where x is 0.
-pub record LinksTo (b : List ℕ) (at f x : ℕ) : Type 0 where
-  pub none : x ≡ 0 → word b f ≡ 0
-  pub some : x ≢ 0 → f + word b f ≡ at + x
-  pub ahead : x ≢ 0 → f < at + x
-
--- The segments stand from place p on, and the first hole of them is where at + x is: x is 0 for none.
-abbrev pub Await : List ℕ → ℕ → ℕ → ℕ → List Segment → Type 0
-Await b at x p [] = x ≡ 0
-Await b at x p (Used bs ∷ ss) = (word b p ≡ 4 + length bs) × (part b (p + 4) (length bs) ≡ bs) × Await b at x (p + (4 + length bs)) ss
-Await b at x p (Hole n ∷ ss) = (at + x ≡ p) × (word b (p + 4) ≡ n) × Stand b p (p + n) ss
+use Rattle.rh_defs.proofs.HeapLists.{HasRoom-from_tidy, HasRoom-append, HasRoom-join, total-append}
+use Rattle.rh_defs.proofs.HeapLaws.{narrower, last_link_range, last_link-append, Open-kept, Open-join, Stand-split, Stand-join}
+use Rattle.rh_defs.specs.HeapParts.{HasRoom, last_link, Open, LinksTo, Await, Stretch}
 
 zero_or : (n : ℕ) → (n ≡ 0) ⊎ (n ≢ 0)
 zero_or zero = inl refl
@@ -62,21 +51,6 @@ pub Stand-from_await : (b : List ℕ) (at f x p : ℕ) (ss : List Segment) → a
 Stand-from_await b at f x p [] l k h = k.none h
 Stand-from_await b at f x p (Used bs ∷ ss) l k h = (h.0, h.1, Stand-from_await b at f x (p + (4 + length bs)) ss (omega arith) k h.2)
 Stand-from_await b at f x p (Hole n ∷ ss) l k h = (k.some (let e = h.0 in omega arith) ∙ h.0, h.1, h.2)
-
--- Of the heap's bytes from `at` on, all is there but what lies from low up to upper, the base, and the link at q before.
-pub record Stretch (b : List ℕ) (at end : ℕ) (xs ys : List Segment) (q low x upper : ℕ) : Type 0 where
-  pub special : word b at ≡ special_word
-  pub last : word b (at + 12) ≡ end
-  pub within : at + end ≤ length b
-  pub multiple : end % 8 ≡ 0
-  pub fits : upper + total size_of ys ≤ at + end
-  pub front : Open b (at + 4) (at + 16) xs
-  pub link : q ≡ last_link (at + 4) (at + 16) xs
-  pub place : low ≡ at + 16 + total size_of xs
-  pub order : low ≤ upper
-  pub tail : Await b at x upper ys
-  pub room_before : HasRoom xs
-  pub room_behind : HasRoom ys
 
 pub record LinkPlace (at q low : ℕ) : Type 0 where
   pub least : at + 4 ≤ q

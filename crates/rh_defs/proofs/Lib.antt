@@ -11,6 +11,7 @@ pub mod MemoryLaws
 pub mod HeapLists
 pub mod HeapLaws
 pub mod HeapStretch
+pub mod HeapRest
 pub mod HeapRows
 pub mod HeapFaults
 pub mod HeapGrowth

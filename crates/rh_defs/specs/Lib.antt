@@ -17,5 +17,6 @@ pub mod Bytes
 pub mod Memory
 pub mod Heap
 pub mod HeapImage
+pub mod HeapParts
 pub mod SlotImage
 pub mod Module

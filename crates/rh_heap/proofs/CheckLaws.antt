@@ -10,10 +10,11 @@ use Rattle.rh_defs.specs.declared.heap.HeapFault.{HeapFault}
 use Rattle.rh_defs.specs.declared.heap.HeapFault.TheVariants.{BadSize, BadLink}
 use Rattle.rh_defs.proofs.BytesLaws.{length-part}
 use Rattle.rh_defs.proofs.HeapLists.{sum-append, total-append}
-use Rattle.rh_defs.proofs.HeapLaws.{last_link, last_link-append, Open, Open-join, Stand-join, heap_of-Spells}
+use Rattle.rh_defs.proofs.HeapLaws.{last_link-append, Open-join, Stand-join, heap_of-Spells}
 use Rattle.rh_defs.proofs.HeapFaults.{LinkIs, ends, leads, link_from, size_from, at_base, at_hole, next_is, fault-end, fault-used, fault-used_size, fault-hole, fault-hole_size, fault-hole_link, fault_of-segments, fault_of-link, descriptor_from, image_clean}
 use Rattle.rh_heap.specs.Image.{used_count, used_size, hole_count, summary_of}
 use Rattle.rh_heap.specs.declared.image.Summary.{Summary}
+use Rattle.rh_defs.specs.HeapParts.{last_link, Open}
 
 -- the sums of the segments that were passed
 pub record SumsOf (ss : List Segment) (sums : Summary) : Type 0 where

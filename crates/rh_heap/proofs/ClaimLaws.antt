@@ -3,19 +3,20 @@ use Rattle.std.proofs.Common.{◌≡◌, ℕ, ◌+◌, ◌-◌, ◌%◌, ◌<◌
 use Rattle.std.proofs.lemmas.List.{append-nil}
 use Rattle.std.specs.Prelude.{None, Ok, Err}
 use Rattle.rh_defs.specs.Bytes.{word, part, SameOutside}
-use Rattle.rh_defs.specs.Pieces.{total}
+use Rattle.rh_defs.specs.Pieces.{total, NonePass}
 use Rattle.rh_defs.specs.Heap.{Segment, Used, Hole, Heap, Placed, IsTidy, size_of, base, is_hole_for, hole_for, placed, placed_in, with_hole, shortage_in, segment_size, block_room, need, claim, claim_need, address_of, heap_after}
 use Rattle.rh_defs.specs.Pieces.{zeros}
 use Rattle.rh_defs.specs.HeapImage.{Stand, Spells}
 use Rattle.rh_defs.specs.declared.heap.HeapFault.TheVariants.{BadSize, NoRoom}
-use Rattle.rh_defs.proofs.HeapLists.{HasRoom, HasRoom-from_tidy, HasRoom-append, total-append, tidy_before, tidy_behind_hole, tidy_join, tidy_after, NonePass, NonePass-append, first_at-none, first_at-found, cond_true, cond_false, eqb_same, eqb_apart, leb_yes, leb_no}
-use Rattle.rh_defs.proofs.HeapLaws.{last_link, last_link-append, last_link-none, last_link_range, Stand-split, HasNone, NextHole, next_hole}
-use Rattle.rh_defs.proofs.HeapStretch.{LinksTo, opened}
+use Rattle.rh_defs.proofs.HeapLists.{HasRoom-from_tidy, HasRoom-append, total-append, tidy_before, tidy_behind_hole, tidy_join, tidy_after, NonePass-append, first_at-none, first_at-found, cond_true, cond_false, eqb_same, eqb_apart, leb_yes, leb_no}
+use Rattle.rh_defs.proofs.HeapLaws.{last_link-append, last_link-none, last_link_range, Stand-split, HasNone, NextHole, next_hole}
+use Rattle.rh_defs.proofs.HeapStretch.{opened}
 use Rattle.rh_heap.specs.Spans.{CutBetween, IsCut, Settles}
 use Rattle.rh_heap.specs.Gaps.{FoundHole}
 use Rattle.rh_heap.specs.declared.span.Gap.{Gap}
 use Rattle.rh_heap.proofs.CutLaws.{is_cut}
 use Rattle.rh_heap.proofs.FillLaws.{filled_between, topped}
+use Rattle.rh_defs.specs.HeapParts.{HasRoom, last_link, LinksTo}
 
 -- ---- the walk over the holes
 

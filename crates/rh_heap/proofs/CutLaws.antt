@@ -5,10 +5,11 @@ use Rattle.rh_defs.specs.Pieces.{total}
 use Rattle.rh_defs.specs.Heap.{Segment, Used, Hole, size_of, IsTidy, with_hole}
 use Rattle.rh_defs.specs.HeapImage.{Spells}
 use Rattle.rh_defs.proofs.BytesLaws.{word_same}
-use Rattle.rh_defs.proofs.HeapLists.{HasRoom, with_hole-nil, with_hole-used, with_hole-hole, tidy_join, tidy_after}
-use Rattle.rh_defs.proofs.HeapStretch.{Await, LinksTo, Stretch, Stretch-kept, SameBut, LinkPlace, link_place, absorbed, reaching, holed, closed}
+use Rattle.rh_defs.proofs.HeapLists.{with_hole-nil, with_hole-used, with_hole-hole, tidy_join, tidy_after}
+use Rattle.rh_defs.proofs.HeapStretch.{Stretch-kept, SameBut, LinkPlace, link_place, absorbed, reaching, holed, closed}
 use Rattle.rh_heap.specs.Spans.{CutBetween, IsCut, Settles, PutsHole}
 use Rattle.rh_heap.specs.declared.span.Cut.{Cut}
+use Rattle.rh_defs.specs.HeapParts.{HasRoom, Await, LinksTo, Stretch}
 
 -- ---- writes that keep to the cut
 pub but_link : {b c : List ℕ} {q : ℕ} → SameOutside b c q (q + 4) → (low edge w : ℕ) → SameBut b c q low edge w

@@ -6,9 +6,10 @@ use Rattle.rh_defs.specs.Pieces.{total}
 use Rattle.rh_defs.specs.Heap.{Segment, Used, IsTidy, size_of}
 use Rattle.rh_defs.specs.HeapImage.{Spells}
 use Rattle.rh_defs.proofs.BytesLaws.{part_same}
-use Rattle.rh_defs.proofs.HeapStretch.{LinksTo, Stretch, Stretch-kept, link_place, filled, reaching, closed}
+use Rattle.rh_defs.proofs.HeapStretch.{Stretch-kept, link_place, filled, reaching, closed}
 use Rattle.rh_heap.specs.Spans.{CutBetween}
 use Rattle.rh_heap.proofs.CutLaws.{but_body, but_base, but_both, word_below, word_above, LinksTo-kept}
+use Rattle.rh_defs.specs.HeapParts.{LinksTo, Stretch}
 
 pub part_below : {b c : List ℕ} {lo hi : ℕ} → SameOutside b c lo hi → (p n : ℕ) → p + n ≤ lo → part c p n ≡ part b p n
 part_below {b} {c} s p n h = part_same b c p n (record { each = λ k u v. s.below k (omega arith) })

@@ -8,10 +8,10 @@ use Rattle.rh_defs.specs.Pieces.{zeros}
 use Rattle.rh_defs.specs.Heap as heap
 use Rattle.rh_defs.specs.HeapImage.{Stand, Spells}
 use Rattle.rh_defs.proofs.BytesLaws.{part_more, part-part, part-zeros}
-use Rattle.rh_defs.proofs.HeapLists.{HasRoom, HasRoom-from_tidy, HasRoom-append, total-append, tidy_other, tidy_behind_used, IsCut, first_at-cuts}
-use Rattle.rh_defs.proofs.HeapLaws.{last_link, Stand-split}
+use Rattle.rh_defs.proofs.HeapLists.{HasRoom-from_tidy, HasRoom-append, total-append, tidy_other, tidy_behind_used, IsCut, first_at-cuts}
+use Rattle.rh_defs.proofs.HeapLaws.{Stand-split}
 use Rattle.rh_defs.proofs.HeapFaults.{le_from}
-use Rattle.rh_defs.proofs.HeapStretch.{LinksTo, link_place, Stretch-kept, opened, filled, closed}
+use Rattle.rh_defs.proofs.HeapStretch.{link_place, Stretch-kept, opened, filled, closed}
 use Rattle.rh_heap.specs.Spots.{FoundBlock}
 use Rattle.rh_defs.specs.Memory.{Memory}
 use Rattle.rh_defs.proofs.HeapLaws.{heap_of-Spells}
@@ -25,6 +25,7 @@ use Rattle.rh_heap.proofs.FillLaws.{part_above}
 use Rattle.rh_heap.proofs.BlockLaws.{zeros_long}
 use Rattle.rh_heap.proofs.WayLaws.{cut_of, at_cut, from_cut, found_is, WayFacts, if_stays, if_shrinks, if_into, if_top, if_to_hole, if_to_top, way_facts}
 use Rattle.rh_heap.proofs.ResizeLaws.{length-fitted, fitted_long}
+use Rattle.rh_defs.specs.HeapParts.{HasRoom, last_link, LinksTo}
 
 -- ---- a block in a list, by its address and bytes
 abbrev pub BlockIn : ℕ → ℕ → List ℕ → List Segment → Type 0

@@ -5,14 +5,14 @@ use Rattle.rh_defs.specs.Pieces.{total}
 use Rattle.rh_defs.specs.Heap.{Segment, Used, Hole, Heap, IsTidy, size_of, with_hole, joined, block_at, release, release_found}
 use Rattle.rh_defs.specs.HeapImage.{Spells}
 use Rattle.rh_defs.proofs.HeapLists.{total-append, tidy_behind_used, with_hole-with_hole, joined-tidy, joined-front}
-use Rattle.rh_defs.proofs.HeapLaws.{last_link}
 use Rattle.rh_defs.proofs.HeapFaults.{multiple_of_sizes}
-use Rattle.rh_defs.proofs.HeapStretch.{LinksTo, opened}
+use Rattle.rh_defs.proofs.HeapStretch.{opened}
 use Rattle.rh_heap.specs.Spans.{CutBetween, IsCut, Settles}
 use Rattle.rh_heap.specs.Spots.{GapIs, no_gap, a_gap, FoundBlock}
 use Rattle.rh_heap.specs.declared.span.Cut.{Cut}
 use Rattle.rh_heap.specs.declared.span.Spot.{Spot}
 use Rattle.rh_heap.proofs.CutLaws.{is_cut}
+use Rattle.rh_defs.specs.HeapParts.{last_link, LinksTo}
 
 abbrev pub release_cut : Spot → ℕ → Cut
 release_cut spot next = record { link = spot.link; low = spot.low; next = next; upper = spot.place + spot.size }

@@ -8,9 +8,9 @@ use Rattle.rh_defs.specs.Pieces.{zeros}
 use Rattle.rh_defs.specs.Heap as heap
 use Rattle.rh_defs.specs.HeapImage.{Stand, Spells}
 use Rattle.rh_defs.proofs.BytesLaws.{part_more, length-part}
-use Rattle.rh_defs.proofs.HeapLists.{HasRoom, HasRoom-from_tidy, HasRoom-append, total-append, tidy_behind_used, tidy_behind_hole, tidy_front, tidy_other, tidy_after, joined-tidy, joined-front}
+use Rattle.rh_defs.proofs.HeapLists.{HasRoom-from_tidy, HasRoom-append, total-append, tidy_behind_used, tidy_behind_hole, tidy_front, tidy_other, tidy_after, joined-tidy, joined-front}
 use Rattle.rh_defs.proofs.HeapLaws.{Stand-split}
-use Rattle.rh_defs.proofs.HeapStretch.{LinksTo, opened}
+use Rattle.rh_defs.proofs.HeapStretch.{opened}
 use Rattle.rh_heap.specs.Spans.{CutBetween, IsCut, Settles}
 use Rattle.rh_heap.specs.Spots.{FoundBlock}
 use Rattle.rh_heap.specs.Ways.{WayIs, into_hole, WithBlock, resized_in}
@@ -20,6 +20,7 @@ use Rattle.rh_heap.specs.declared.span.Way.TheVariants as way
 use Rattle.rh_heap.proofs.CutLaws.{is_cut}
 use Rattle.rh_heap.proofs.FillLaws.{filled_between, topped, part_above}
 use Rattle.rh_heap.proofs.WayLaws.{cut_of, at_cut, from_cut, found_is, WayFacts, if_stays, if_shrinks, if_into, if_top, if_to_hole, if_to_top, way_facts, way_shrinks, block_stretch, block_part, block_base}
+use Rattle.rh_defs.specs.HeapParts.{HasRoom, LinksTo}
 
 -- ---- bytes
 pub length-fitted : (n : ℕ) (bs : List ℕ) → length (fitted n bs) ≡ n

@@ -4,10 +4,10 @@ use Rattle.rh_defs.specs.Bytes.{word}
 use Rattle.rh_defs.specs.Pieces.{total}
 use Rattle.rh_defs.specs.Heap.{Segment, Used, Hole, size_of}
 use Rattle.rh_defs.specs.HeapImage.{Stand, IsImage, heap_of}
-use Rattle.rh_defs.proofs.HeapLists.{HasRoom, HasRoom-from_tidy}
+use Rattle.rh_defs.proofs.HeapLists.{HasRoom-from_tidy}
 use Rattle.rh_defs.proofs.HeapLaws.{segments_in-Stand, link_ahead}
-use Rattle.rh_heap.specs.Rest.{IsRest, rest_in}
 use Rattle.rh_heap.specs.Pieces.{listed}
+use Rattle.rh_defs.specs.HeapParts.{HasRoom, IsRest, rest_in}
 
 -- segments that stand there are those that are left
 pub is_rest : (b : List ℕ) (base from place : ℕ) (ss : List Segment) → Stand b from place ss → HasRoom ss → place + total size_of ss ≡ base → base ≤ length b → from + 4 ≤ place

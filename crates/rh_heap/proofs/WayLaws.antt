@@ -7,9 +7,9 @@ use Rattle.rh_defs.specs.Pieces.{total, Split}
 use Rattle.rh_defs.specs.Heap.{Segment, Used, Hole, Heap, IsTidy, size_of, base, place_after, block_at, hole_for, way_to, way_to_grow, way_beyond}
 use Rattle.rh_defs.specs.Heap as heap
 use Rattle.rh_defs.specs.HeapImage.{Stand, Spells}
-use Rattle.rh_defs.proofs.HeapLists.{HasRoom, total-append, cond_true, cond_false, eqb_same, eqb_apart, leb_yes, leb_no}
+use Rattle.rh_defs.proofs.HeapLists.{total-append, cond_true, cond_false, eqb_same, eqb_apart, leb_yes, leb_no}
 use Rattle.rh_defs.proofs.HeapLaws.{Stand-split}
-use Rattle.rh_defs.proofs.HeapStretch.{Await, LinksTo, Stretch, opened}
+use Rattle.rh_defs.proofs.HeapStretch.{opened}
 use Rattle.rh_heap.specs.Spots.{FoundBlock}
 use Rattle.rh_heap.specs.Gaps.{FoundHole}
 use Rattle.rh_heap.specs.Ways.{WayIs, stays, shrinks, into_hole, at_top, to_hole, to_top, WithBlock}
@@ -18,6 +18,7 @@ use Rattle.rh_heap.specs.declared.span.Gap.{Gap}
 use Rattle.rh_heap.specs.declared.span.Way.{Way}
 use Rattle.rh_heap.specs.declared.span.Way.TheVariants as way
 use Rattle.rh_heap.proofs.CutLaws.{next_range}
+use Rattle.rh_defs.specs.HeapParts.{HasRoom, Await, LinksTo, Stretch}
 
 pub at_place : {at : ℕ} {h : Heap} {address : ℕ} {spot : Spot} → FoundBlock at h address spot → FoundBlock at h (spot.place + 4) spot
 at_place {at} {h} {address} {spot} f = subst (λ a. FoundBlock at h a spot) (sym f.address_is) f

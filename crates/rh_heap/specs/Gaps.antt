@@ -4,10 +4,10 @@ use Rattle.rh_defs.specs.Memory.{Memory}
 use Rattle.rh_defs.specs.Pieces.{total}
 use Rattle.rh_defs.specs.Heap.{Segment, Hole, Heap, size_of, base, hole_for, placed, shortage_in}
 use Rattle.rh_defs.specs.Pieces.{zeros}
-use Rattle.rh_defs.proofs.HeapLaws.{last_link}
 use Rattle.rh_heap.specs.declared.span.Span.{Span}
 use Rattle.rh_heap.specs.declared.span.Gap.{Gap}
 use Rattle.rh_heap.specs.Spans.{heap_in, SpellsIn}
+use Rattle.rh_defs.specs.HeapParts.{last_link}
 
 -- the first hole with room for a segment of t bytes
 pub record FoundHole (at : ℕ) (h : Heap) (t : ℕ) (gap : Gap) : Type 0 where

@@ -1,7 +1,6 @@
 pub mod Gaps
 pub mod Image
 pub mod Pieces
-pub mod Rest
 pub mod Spans
 pub mod Spots
 pub mod Ways

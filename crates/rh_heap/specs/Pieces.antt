@@ -3,9 +3,9 @@ use Rattle.std.specs.Prelude.{ℕ, ◌+◌, Bool, true, false, List, [], ◌∷�
 use Rattle.rh_defs.specs.Pieces.{Split}
 use Rattle.rh_defs.specs.Heap.{Used, Hole}
 use Rattle.rh_defs.specs.Heap as heap
-use Rattle.rh_heap.specs.Rest.{rest_in}
 use Rattle.rh_heap.specs.declared.listing.Segment.{Segment}
 use Rattle.rh_heap.specs.declared.listing.SegmentIter.{SegmentIter}
+use Rattle.rh_defs.specs.HeapParts.{rest_in}
 
 -- segments one after the other, with their places
 abbrev pub listed : ℕ → List heap.Segment → List Segment

@@ -5,9 +5,9 @@ use Rattle.rh_defs.specs.Memory.{Memory, IsOpen, Edited, bytes}
 use Rattle.rh_defs.specs.Pieces.{total}
 use Rattle.rh_defs.specs.Heap.{Segment, Hole, Heap, IsTidy, size_of, with_hole}
 use Rattle.rh_defs.specs.HeapImage.{Spells, heap_of}
-use Rattle.rh_defs.proofs.HeapStretch.{Stretch}
 use Rattle.rh_heap.specs.declared.span.Span.{Span}
 use Rattle.rh_heap.specs.declared.span.Cut.{Cut}
+use Rattle.rh_defs.specs.HeapParts.{Stretch}
 
 -- the bytes of a span's area
 abbrev pub bytes_in : Memory → Span → List ℕ

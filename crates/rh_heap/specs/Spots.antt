@@ -1,10 +1,9 @@
 -- Where a walk over a heap's segments has come to, and what it found.
 use Rattle.std.specs.Prelude.{◌≡◌, ℕ, ◌+◌, ◌≤◌, ◌%◌, ◌==◌, Bool, true, false, List, [], ◌∷◌, ◌++◌, length, Some}
-use Rattle.rh_defs.specs.Pieces.{total}
+use Rattle.rh_defs.specs.Pieces.{total, NonePass}
 use Rattle.rh_defs.specs.Heap.{Segment, Used, Hole, Heap, IsTidy, size_of, base, block_at, segment_at}
-use Rattle.rh_defs.proofs.HeapLists.{NonePass}
-use Rattle.rh_defs.proofs.HeapLaws.{last_link}
 use Rattle.rh_heap.specs.declared.span.Spot.{Spot}
+use Rattle.rh_defs.specs.HeapParts.{last_link}
 
 -- the hole just before a place, if there is one, and the links before it and behind it
 pub data GapIs (low place link from : ℕ) : List Segment → Type 0 where

@@ -1,5 +1,6 @@
 //! What an iterator over an image holds, and what it gives.
-ghost use Rattle.rh_heap.specs.Rest.{IsRest, IsRest-prop};
+ghost use Rattle.rh_defs.proofs.HeapRest.{IsRest-prop};
+ghost use Rattle.rh_defs.specs.HeapParts.{IsRest};
 
 /// A segment of a heap: its place and size in bytes from the heap's first one, and whether it is used.
 /// A used segment's block begins 4 bytes behind its place.

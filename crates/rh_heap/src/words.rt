@@ -2,8 +2,8 @@
 ghost use Rattle.std.specs.Prelude.{◌≡◌, ◌≢◌, ℕ, ◌+◌, ◌-◌, ◌^◌, ◌<◌, ◌≤◌, length, replicate};
 ghost use Rattle.rh_defs.specs.Bytes.{word, part, put_word};
 ghost use Rattle.rh_defs.specs.Memory.{Memory, IsOpen, Edited, bytes};
-ghost use Rattle.rh_defs.proofs.HeapStretch.{LinksTo};
 ghost use Rattle.rh_heap.specs.Spans.{bytes_in};
+ghost use Rattle.rh_defs.specs.HeapParts.{LinksTo};
 
 use crate::span::Span;
 use rh_store::Store;
