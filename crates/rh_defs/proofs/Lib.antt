@@ -16,3 +16,6 @@ pub mod HeapRows
 pub mod HeapFaults
 pub mod HeapGrowth
 pub mod SlotRows
+pub mod ModuleLaws
+pub mod SlotLaws
+pub mod SlotImageLaws

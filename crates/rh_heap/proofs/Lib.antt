@@ -2,6 +2,7 @@ pub mod RestLaws
 pub mod CheckLaws
 pub mod CutLaws
 pub mod WalkLaws
+pub mod HoldLaws
 pub mod ReleaseLaws
 pub mod FillLaws
 pub mod BlockLaws

@@ -42,7 +42,7 @@ leads_here : (b : List ℕ) (at from place next : ℕ) → LinksTo b at (at + fr
 leads_here b at from place zero k e i = absurd (let z = k.none refl in omega arith)
 leads_here b at from place (suc n) k e i = let m = k.some (omega arith) in omega arith
 
-next_segment_at : (b : List ℕ) (at : ℕ) (h : Heap) (link low from place next : ℕ) (r : Reached at h link low from place) → (rest : List Segment) → r.rest ≡ rest → Spells b at h → LinksTo b at (at + from) next → place < base h
+pub next_segment_at : (b : List ℕ) (at : ℕ) (h : Heap) (link low from place next : ℕ) (r : Reached at h link low from place) → (rest : List Segment) → r.rest ≡ rest → Spells b at h → LinksTo b at (at + from) next → place < base h
     → NextSegment b at h from place next (r.front ++ r.gap) rest
 next_segment_at b at h link low from place next r [] e s k lt =
     absurd (let p = r.place_is in omega (arith, ap (total size_of) r.is, ap (total size_of) e, total-append (r.front ++ r.gap) r.rest))

@@ -160,6 +160,26 @@ fn a_small_heap_fills_up(rt: HostRuntime) -> Result<(), Fail> {
 
 #[test]
 #[tactic(auto, using(rh_defs::proofs::BytesLaws::word_laws, rh_defs::proofs::MemoryLaws::memory_laws, rh_defs::proofs::MemoryLaws::pool_laws))]
+fn bytes_lie_whole_in_a_block(rt: HostRuntime) -> Result<(), Fail> {
+    let mut store = PlainStore::new(rt.alloc(), 8)?;
+    let area = store.open()?;
+    store.grow(area, 1)?;
+    let span = Span { area, at: 8 };
+    made(&mut store, span, 200);
+    assert_eq!(rt; claimed(&mut store, span, 12), Ok(20));
+    assert_eq!(rt; claimed(&mut store, span, 4), Ok(36));
+    assert_eq!(rt; released(&mut store, span, 20), Ok(()));
+    assert!(rt; !holds(&store, span, 20, 1));
+    assert!(rt; holds(&store, span, 36, 4));
+    assert!(rt; holds(&store, span, 39, 1));
+    assert!(rt; !holds(&store, span, 37, 4));
+    assert!(rt; !holds(&store, span, 35, 1));
+    assert!(rt; !holds(&store, span, 36, usize::MAX));
+    Ok(())
+}
+
+#[test]
+#[tactic(auto, using(rh_defs::proofs::BytesLaws::word_laws, rh_defs::proofs::MemoryLaws::memory_laws, rh_defs::proofs::MemoryLaws::pool_laws))]
 fn blocks_get_other_sizes_in_seven_ways(rt: HostRuntime) -> Result<(), Fail> {
     let mut store = PlainStore::new(rt.alloc(), 8)?;
     let area = store.open()?;
@@ -188,7 +208,7 @@ fn blocks_get_other_sizes_in_seven_ways(rt: HostRuntime) -> Result<(), Fail> {
 }
 
 #[test]
-fn the_checker_names_the_first_fault(rt: HostRuntime) {
+fn the_checker_names_a_bad_descriptor(rt: HostRuntime) {
     let empty: [u8; 0] = [];
     assert_eq!(rt; check(&empty), Err(HeapFault::BadDescriptor));
     let short = [0x48, 0x65, 0x61, 0x70, 0, 0, 0, 0, 0x10, 0, 0, 0];
@@ -208,6 +228,10 @@ fn the_checker_names_the_first_fault(rt: HostRuntime) {
     );
     least[0] = 0x68;
     assert_eq!(rt; check(&least), Err(HeapFault::BadDescriptor));
+}
+
+#[test]
+fn the_checker_names_the_first_bad_segment(rt: HostRuntime) {
     assert_eq!(rt; check(&IMAGE), Ok(SUMS));
     let mut past = IMAGE;
     past[4] = 0x3c;

@@ -1,0 +1,226 @@
+-- Laws of the module area's calls, in the words of the heap's, and of a heap whose bytes are kept.
+use Rattle.std.proofs.Common.{◌≡◌, ℕ, ◌+◌, ◌-◌, ◌<◌, ◌≤◌, ◌≢◌, Bool, true, false, cond, eqb, ltb, List, length, refl, sym, ap, ◌∙◌, inl, inr, arith}
+use Rattle.std.proofs.lemmas.Bool.Decides.{nat_tests, eqb_tells}
+use Rattle.std.specs.Prelude.{Option, Some, None, Result, Ok, Err, ℤ}
+use Rattle.rh_defs.specs.Bytes.{SameIn}
+use Rattle.rh_defs.specs.Chain.{Granted, ◌>>=◌, ◌>>◌, refuse_if, found_or}
+use Rattle.rh_defs.specs.Pieces.{pages_for, zeros, Split}
+use Rattle.rh_defs.specs.Heap.{Segment, Heap, Placed, Way, Stays, Shrinks, GrowsIntoHole, GrowsAtTop, MovesToHole, MovesToTop, segment_size, block_room, bytes_of, place_after, hole_for, placed_in, fitted, way_to, resized_by, base, block_at, need, claim, claim_need, claim_growing, raised, release, release_found, released, new_size, resize, resize_found, resize_need, resized, resize_growing, need_at, need_found}
+use Rattle.rh_defs.specs.HeapImage.{Spells}
+use Rattle.rh_defs.specs.Module.{grown_by, module_claim, module_free, module_resize, module_change, module_need_pages, changed_length, whole_pages}
+use Rattle.rh_defs.specs.declared.refusal.Refusal.{Refusal}
+use Rattle.rh_defs.specs.declared.refusal.Refusal.TheVariants.{NotABlock, BadSize, ExcessiveShrink, NoRoom}
+use Rattle.rh_defs.specs.declared.heap.HeapFault.{HeapFault}
+use Rattle.rh_defs.specs.declared.heap.HeapFault.TheVariants as heap_fault
+use Rattle.rh_defs.proofs.BytesLaws.{word_same}
+use Rattle.rh_defs.proofs.HeapLists.{HasRoom-from_tidy, cond_true, cond_false, eqb_same, eqb_apart}
+use Rattle.rh_defs.proofs.HeapLaws.{narrower}
+use Rattle.rh_defs.proofs.HeapStretch.{Stand-kept}
+use Rattle.rh_defs.proofs.HeapGrowth.{claim-raised, resize-raised, resize_need-raised}
+
+-- ---- a heap whose bytes are kept
+pub Spells-kept : (b c : List ℕ) (at : ℕ) (h : Heap) → Spells b at h → SameIn b c at (at + h.end) → at + h.end ≤ length c → Spells c at h
+Spells-kept b c at h s k l =
+    let fits = s.heap.fits in
+    let same : (p : ℕ) → at ≤ p → p + 4 ≤ at + h.end → SameIn b c p (p + 4) = λ p lo hi. narrower b c at (at + h.end) p (p + 4) k lo hi in
+    record {
+      heap = s.heap;
+      within = l;
+      special = word_same b c at (same at (omega arith) (omega arith)) ∙ s.special;
+      base = word_same b c (at + 8) (same (at + 8) (omega arith) (omega arith)) ∙ s.base;
+      last = word_same b c (at + 12) (same (at + 12) (omega arith) (omega arith)) ∙ s.last;
+      stand = Stand-kept b c (at + 4) (at + 16) h.segments (HasRoom-from_tidy false h.segments s.heap.tidy)
+          (word_same b c (at + 4) (same (at + 4) (omega arith) (omega arith)))
+          (record { each = λ j lo hi. k.each j (omega arith) (omega arith) }) s.stand;
+    }
+
+-- ---- steps
+refused : {A : Type 0} (test : Bool) (refusal : Refusal) (rest : Granted A) → test ≡ true → (refuse_if test refusal >> rest) ≡ Err refusal
+unfolding ◌>>=◌ ◌>>◌ refuse_if
+refused true refusal rest e = refl
+refused false refusal rest e = absurd cc
+
+passed : {A : Type 0} (test : Bool) (refusal : Refusal) (rest : Granted A) → test ≡ false → (refuse_if test refusal >> rest) ≡ rest
+unfolding ◌>>=◌ ◌>>◌ refuse_if
+passed true refusal rest e = absurd cc
+passed false refusal rest e = refl
+
+found : {A B : Type 0} (o : Option A) (x : A) (refusal : Refusal) (next : A → Granted B) → o ≡ Some x → (found_or o refusal >>= next) ≡ next x
+unfolding ◌>>=◌ found_or
+found (Some y) x refusal next e = ap next cc
+found None x refusal next e = absurd cc
+
+not_found : {A B : Type 0} (o : Option A) (refusal : Refusal) (next : A → Granted B) → o ≡ None → (found_or o refusal >>= next) ≡ Err refusal
+unfolding ◌>>=◌ found_or
+not_found (Some y) refusal next e = absurd cc
+not_found None refusal next e = refl
+
+below : (m n : ℕ) → m < n → ltb m n ≡ true
+below m n h = grind (arith, nat_tests)
+
+not_below : (m n : ℕ) → n ≤ m → ltb m n ≡ false
+not_below m n h = grind (arith, nat_tests)
+
+short_of : (free shortage : ℕ) (p : Placed) → free < pages_for shortage → grown_by free shortage p ≡ Err NoRoom
+unfolding grown_by
+short_of free shortage p l = refused (ltb free (pages_for shortage)) NoRoom _ (below free (pages_for shortage) l)
+
+room_for : (free shortage : ℕ) (p : Placed) → pages_for shortage ≤ free → grown_by free shortage p ≡ Ok (p.heap, p.address)
+unfolding grown_by
+room_for free shortage p l = passed (ltb free (pages_for shortage)) NoRoom _ (not_below free (pages_for shortage) l)
+
+-- a call on a heap of this end is granted and leaves the end, and the call on the module area is granted the same
+pub record Grows (end : ℕ) (called : Result Placed HeapFault) (granted : Granted (Heap × ℕ)) : Type 0 where
+  pub placed : Placed
+  pub called_is : called ≡ Ok placed
+  pub granted_is : granted ≡ Ok (placed.heap, placed.address)
+  pub end_is : placed.heap.end ≡ end
+
+placed_in-end : (bytes : List ℕ) (h : Heap) (o : Option (Split Segment)) → (placed_in bytes h o).heap.end ≡ h.end
+placed_in-end bytes h None = refl
+placed_in-end bytes h (Some s) = refl
+
+pub release_found-end : (o : Option (Split Segment)) (h : Heap) → (release_found o h).end ≡ h.end
+release_found-end None h = refl
+release_found-end (Some s) h = refl
+
+resized_by-end : (way : Way) (bytes : List ℕ) (s : Split Segment) (h : Heap) → (resized_by way bytes s h).heap.end ≡ h.end
+resized_by-end Stays bytes s h = refl
+resized_by-end Shrinks bytes s h = refl
+resized_by-end (GrowsIntoHole size rest) bytes s h = refl
+resized_by-end GrowsAtTop bytes s h = refl
+resized_by-end (MovesToHole hole) bytes s h = let there = (placed_in bytes h (Some hole)).heap in release_found-end (block_at (place_after s.before + 4) there) there
+resized_by-end MovesToTop bytes s h = let there = (placed_in bytes h None).heap in release_found-end (block_at (place_after s.before + 4) there) there
+
+-- ---- claims, by what the heap's need was answered to be
+could_need : (k n : ℕ) (h : Heap) → Ok k ≡ claim_need n h → (eqb n 0 ≡ false) × (n ≢ 0) × (k ≡ need n h)
+could_need k n h e = elim (eqb_tells n 0) [
+  | inl u ↦ let bad : Ok k ≡ Err heap_fault.BadSize = e ∙ cond_true (eqb n 0) _ _ u.0 in absurd cc
+  | inr v ↦ let good : ◌≡◌ {A = Result ℕ HeapFault} (Ok k) (Ok (need n h)) = e ∙ cond_false (eqb n 0) _ _ v.0 in (v.0, v.1, cc)
+]
+
+no_need : (fault : HeapFault) (n : ℕ) (h : Heap) → Err fault ≡ claim_need n h → eqb n 0 ≡ true
+no_need fault n h e = elim (eqb_tells n 0) [
+  | inl u ↦ u.0
+  | inr v ↦ let good : Err fault ≡ Ok (need n h) = e ∙ cond_false (eqb n 0) _ _ v.0 in absurd cc
+]
+
+pub module_claim-zero : (free n : ℕ) (h : Heap) (fault : HeapFault) → Err fault ≡ claim_need n h → module_claim free n h ≡ Err BadSize
+unfolding module_claim
+module_claim-zero free n h fault e = refused (eqb n 0) BadSize _ (no_need fault n h e)
+
+pub module_claim-short : (free k n : ℕ) (h : Heap) → Ok k ≡ claim_need n h → free < pages_for k → module_claim free n h ≡ Err NoRoom
+unfolding module_claim
+module_claim-short free k n h e l =
+    let w = could_need k n h e in
+    passed (eqb n 0) BadSize _ w.0 ∙ short_of free (need n h) (claim_growing n h) (rw (sym w.2) l)
+
+pub module_claim-grows : (free k n : ℕ) (h : Heap) → Ok k ≡ claim_need n h → pages_for k ≤ free → Grows (raised k h).end (claim n (raised k h)) (module_claim free n h)
+unfolding module_claim
+module_claim-grows free k n h e l =
+    let w = could_need k n h e in
+    record {
+      placed = claim_growing n h;
+      called_is = ap (λ i. claim n (raised i h)) w.2 ∙ claim-raised n h w.1;
+      granted_is = passed (eqb n 0) BadSize _ w.0 ∙ room_for free (need n h) (claim_growing n h) (rw (sym w.2) l);
+      end_is = let g = raised (need n h) h in let bytes = zeros (block_room n) in placed_in-end bytes g (hole_for (4 + length bytes) g.segments) ∙ ap (λ i. (raised i h).end) (sym w.2);
+    }
+
+pub module_need_pages-zero : (n : ℕ) (h : Heap) (fault : HeapFault) → Err fault ≡ claim_need n h → module_need_pages n h ≡ Err BadSize
+unfolding module_need_pages
+module_need_pages-zero n h fault e = refused (eqb n 0) BadSize _ (no_need fault n h e)
+
+pub module_need_pages-is : (k n : ℕ) (h : Heap) → Ok k ≡ claim_need n h → module_need_pages n h ≡ Ok (pages_for k)
+unfolding module_need_pages
+module_need_pages-is k n h e =
+    let w = could_need k n h e in
+    passed (eqb n 0) BadSize _ w.0 ∙ ap (λ i. Ok (pages_for i)) (sym w.2)
+
+-- ---- frees
+pub module_free-none : (address : ℕ) (h : Heap) → block_at address h ≡ None → module_free address h ≡ Err NotABlock
+unfolding module_free
+module_free-none address h e = not_found (block_at address h) NotABlock _ e
+
+pub module_free-some : (address : ℕ) (h : Heap) (b : Split Segment) → block_at address h ≡ Some b → module_free address h ≡ Ok (release address h)
+unfolding module_free
+module_free-some address h b e = found (block_at address h) b NotABlock _ e ∙ ap (λ o. Ok (release_found o h)) (sym e)
+
+-- ---- resizes, by what the heap's need was answered to be
+record Resizes (k address : ℕ) (delta : ℤ) (h : Heap) : Type 0 where
+  block : Split Segment
+  found : block_at address h ≡ Some block
+  left : eqb (new_size delta block) 0 ≡ false
+  need_is : k ≡ resize_need (new_size delta block) block h
+
+could_resize : (k address : ℕ) (delta : ℤ) (h : Heap) → Ok k ≡ need_at address delta h → Resizes k address delta h
+could_resize k address delta h e = go (block_at address h) refl
+  where
+    go : (o : Option (Split Segment)) → block_at address h ≡ o → Resizes k address delta h
+    go None eo = let bad : Ok k ≡ Err heap_fault.NotABlock = e ∙ ap (λ o. need_found delta o h) eo in absurd cc
+    go (Some b) eo =
+        let here : Ok k ≡ need_found delta (Some b) h = e ∙ ap (λ o. need_found delta o h) eo in
+        elim (eqb_tells (new_size delta b) 0) [
+          | inl u ↦ let bad : Ok k ≡ Err heap_fault.BadSize = here ∙ cond_true (eqb (new_size delta b) 0) _ _ u.0 in absurd cc
+          | inr v ↦ let good : ◌≡◌ {A = Result ℕ HeapFault} (Ok k) (Ok (resize_need (new_size delta b) b h)) = here ∙ cond_false (eqb (new_size delta b) 0) _ _ v.0 in
+              record { block = b; found = eo; left = v.0; need_is = cc }
+        ]
+
+pub module_resize-refused : (free address : ℕ) (delta : ℤ) (h : Heap) (fault : HeapFault) (refusal : Refusal) → (fault ≡ heap_fault.NotABlock → refusal ≡ NotABlock) → (fault ≢ heap_fault.NotABlock → refusal ≡ BadSize)
+    → Err fault ≡ need_at address delta h → module_resize free address delta h ≡ Err refusal
+unfolding module_resize
+module_resize-refused free address delta h fault refusal none small e = go (block_at address h) refl
+  where
+    go : (o : Option (Split Segment)) → block_at address h ≡ o → module_resize free address delta h ≡ Err refusal
+    go None eo =
+        let same : ◌≡◌ {A = Result ℕ HeapFault} (Err fault) (Err heap_fault.NotABlock) = e ∙ ap (λ o. need_found delta o h) eo in
+        not_found (block_at address h) NotABlock _ eo ∙ ap Err (sym (none cc))
+    go (Some b) eo =
+        let here : Err fault ≡ need_found delta (Some b) h = e ∙ ap (λ o. need_found delta o h) eo in
+        elim (eqb_tells (new_size delta b) 0) [
+          | inl u ↦ let same : ◌≡◌ {A = Result ℕ HeapFault} (Err fault) (Err heap_fault.BadSize) = here ∙ cond_true (eqb (new_size delta b) 0) _ _ u.0 in
+              let other : fault ≢ heap_fault.NotABlock = λ q. cc in
+              found (block_at address h) b NotABlock _ eo ∙ refused (eqb (new_size delta b) 0) BadSize _ u.0 ∙ ap Err (sym (small other))
+          | inr v ↦ let good : Err fault ≡ Ok (resize_need (new_size delta b) b h) = here ∙ cond_false (eqb (new_size delta b) 0) _ _ v.0 in absurd cc
+        ]
+
+pub module_resize-short : (free k address : ℕ) (delta : ℤ) (h : Heap) → Ok k ≡ need_at address delta h → free < pages_for k → module_resize free address delta h ≡ Err NoRoom
+unfolding module_resize
+module_resize-short free k address delta h e l =
+    let w = could_resize k address delta h e in
+    let n = new_size delta w.block in
+    found (block_at address h) w.block NotABlock _ w.found ∙ passed (eqb n 0) BadSize _ w.left
+    ∙ short_of free (resize_need n w.block h) (resize_growing n w.block h) (rw (sym w.need_is) l)
+
+pub module_resize-grows : (free k address : ℕ) (delta : ℤ) (h : Heap) → Ok k ≡ need_at address delta h → pages_for k ≤ free → Grows (raised k h).end (resize address delta (raised k h)) (module_resize free address delta h)
+unfolding module_resize
+module_resize-grows free k address delta h e l =
+    let w = could_resize k address delta h e in
+    let n = new_size delta w.block in
+    let g = raised (resize_need n w.block h) h in
+    record {
+      placed = resize_growing n w.block h;
+      called_is = ap (λ i. resize address delta (raised i h)) w.need_is ∙ ap (λ o. resize_found delta o g) w.found
+          ∙ cond_false (eqb n 0) _ _ w.left ∙ cond_true (eqb (resize_need n w.block g) 0) _ _ (eqb_same (resize_need n w.block g) 0 (resize_need-raised n w.block h))
+          ∙ ap Ok (resize-raised n w.block h);
+      granted_is = found (block_at address h) w.block NotABlock _ w.found ∙ passed (eqb n 0) BadSize _ w.left
+          ∙ room_for free (resize_need n w.block h) (resize_growing n w.block h) (rw (sym w.need_is) l);
+      end_is = resized_by-end (way_to (segment_size n) w.block h) (fitted (block_room n) (bytes_of w.block.here)) w.block g ∙ ap (λ i. (raised i h).end) (sym w.need_is);
+    }
+
+-- ---- changes of the length
+pub module_change-low : (free : ℕ) (delta : ℤ) (h : Heap) → changed_length h.end delta < base h → module_change free delta h ≡ Err ExcessiveShrink
+unfolding module_change
+module_change-low free delta h l = refused (ltb (changed_length h.end delta) (base h)) ExcessiveShrink _ (below (changed_length h.end delta) (base h) l)
+
+pub module_change-short : (free : ℕ) (delta : ℤ) (h : Heap) → base h ≤ changed_length h.end delta → free < pages_for (changed_length h.end delta - h.end) → module_change free delta h ≡ Err NoRoom
+unfolding module_change
+module_change-short free delta h b l =
+    passed (ltb (changed_length h.end delta) (base h)) ExcessiveShrink _ (not_below (changed_length h.end delta) (base h) b)
+    ∙ refused (ltb free (pages_for (changed_length h.end delta - h.end))) NoRoom _ (below free (pages_for (changed_length h.end delta - h.end)) l)
+
+pub module_change-done : (free : ℕ) (delta : ℤ) (h : Heap) → base h ≤ changed_length h.end delta → pages_for (changed_length h.end delta - h.end) ≤ free
+    → module_change free delta h ≡ Ok (record h { end = changed_length h.end delta }, whole_pages delta)
+unfolding module_change
+module_change-done free delta h b l =
+    passed (ltb (changed_length h.end delta) (base h)) ExcessiveShrink _ (not_below (changed_length h.end delta) (base h) b)
+    ∙ passed (ltb free (pages_for (changed_length h.end delta - h.end))) NoRoom _ (not_below free (pages_for (changed_length h.end delta - h.end)) l)

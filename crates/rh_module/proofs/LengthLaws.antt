@@ -1,0 +1,133 @@
+-- The heap while its area gets another length.
+use Rattle.std.proofs.Common.{◌≡◌, ℕ, ◌+◌, ◌-◌, ◌*◌, ◌%◌, ◌^◌, ◌<◌, ◌≤◌, length, to_z, of_z, zero, suc, pos, neg_ℤ, ◌-ℤ◌, sym, ap, subst, ◌∙◌, arith}
+use Rattle.std.specs.Prelude.{ℤ, Result, Ok, Err, IsOk, IsErr, ◌↔◌}
+use Rattle.std.specs.Int.{w32, w64}
+use Rattle.std.proofs.lemmas.Int.{to_z_pos, ints}
+use Rattle.rh_defs.specs.Memory.{Memory, IsOpen, OnlyArea, bytes, grown, shrunk}
+use Rattle.rh_defs.specs.Pieces.{moved}
+use Rattle.rh_defs.specs.Heap.{Heap, extended, base}
+use Rattle.rh_defs.specs.HeapImage.{IsImage}
+use Rattle.rh_defs.proofs.MemoryLaws.{IsOpen-grown, length-grown, length-shrunk, SameIn-grown, SameIn-shrunk, OnlyArea-grown, OnlyArea-shrunk, OnlyArea-from_Edited, OnlyArea-both}
+use Rattle.rh_defs.proofs.ModuleLaws.{Spells-kept}
+use Rattle.rh_heap.specs.Spans as spans
+use Rattle.rh_heap.specs.declared.span.Span.{Span}
+use Rattle.rh_module.specs.declared.module.Module.{Module}
+use Rattle.rh_module.specs.Area.{IsModule, SpellsIn, heap_in}
+use Rattle.rh_module.specs.Lengths.{longer, shorter}
+use Rattle.rh_module.proofs.SpanLaws.{span_of, Begins, is_span, heap_there, begins_there}
+
+-- ---- longer
+
+-- the end of the heap that the span's bytes spell may be moved to the area's end, which lies so many pages higher
+pub record MayMove (k : Memory) (rma : Module) (span : Span) (h : Heap) (pages : ℕ) (delta : ℤ) : Type 0 where
+  pub there : spans.IsSpan k span
+  pub heap_is : spans.heap_in k span ≡ h
+  pub moved_is : moved (spans.heap_in k span).end delta ≡ h.end + 4096 * pages
+  pub len : length (bytes k rma.area.0) ≡ h.end + 4096 * pages
+  pub multiple : moved (spans.heap_in k span).end delta % 8 ≡ 0
+  pub within : span.at + moved (spans.heap_in k span).end delta ≤ length (bytes k span.area.0)
+  pub high : base (spans.heap_in k span) ≤ moved (spans.heap_in k span).end delta
+
+moved_up : (e pages : ℕ) → pages ≤ 2 ^ 10 → moved e (to_z w32 (pages * 4096)) ≡ e + 4096 * pages
+moved_up e pages l = ap (moved e) (to_z_pos w32 (pages * 4096) (omega arith)) ∙ omega arith
+
+-- an area that has grown
+pub grown_may_move : (m k : Memory) (rma : Module) (span : Span) (pages : ℕ) → IsModule m rma → k ≡ grown m rma.area.0 pages → span ≡ span_of rma → pages ≤ 2 ^ 10
+    → MayMove k rma span (heap_in m rma) pages (to_z w32 (pages * 4096))
+grown_may_move m k rma span pages s e at l =
+    let id = rma.area.0 in
+    let h = heap_in m rma in
+    let long : length (bytes k id) ≡ h.end + 4096 * pages = subst (λ n. length (bytes n id) ≡ h.end + 4096 * pages) (sym e) (length-grown m id pages ∙ ap (λ n. n + 4096 * pages) s.spells.whole) in
+    let begins : Begins k rma h = subst (λ n. Begins n rma h) (sym e)
+    (Spells-kept (bytes m id) (bytes (grown m id pages) id) 0 h s.spells.spells (SameIn-grown m id pages 0 (0 + h.end) (omega (arith, s.spells.whole))) (omega (arith, length-grown m id pages, s.spells.whole))) in
+    let same = heap_there k rma span h at begins in
+    let ended : moved (spans.heap_in k span).end (to_z w32 (pages * 4096)) ≡ h.end + 4096 * pages = ap (λ (g : Heap). moved g.end (to_z w32 (pages * 4096))) same ∙ moved_up h.end pages l in
+    let mult = s.spells.spells.heap.multiple in
+    let fits = s.spells.spells.heap.fits in
+    let low : base (spans.heap_in k span) ≡ base h = ap base same in
+    record {
+      there = is_span k rma span h at (subst (λ n. IsOpen n id) (sym e) (IsOpen-grown m id pages)) begins;
+      heap_is = same;
+      moved_is = ended;
+      len = long;
+      multiple = omega arith;
+      within = let zero : span.at ≡ 0 = ap (λ (t : Span). t.at) at in let area : length (bytes k span.area.0) ≡ length (bytes k id) = ap (λ (t : Span). length (bytes k t.area.0)) at in omega arith;
+      high = omega arith;
+    }
+
+-- the end has moved
+pub lengthened : (k n : Memory) (rma : Module) (span : Span) (h : Heap) (pages : ℕ) (delta : ℤ) → MayMove k rma span h pages delta → span ≡ span_of rma → spans.OnlySpan k n span → spans.SpellsIn n span (extended delta (spans.heap_in k span))
+    → SpellsIn n rma (longer pages h)
+lengthened k n rma span h pages delta w at only s =
+    let same : extended delta (spans.heap_in k span) ≡ longer pages h =
+    ap (λ (e : ℕ). let g : Heap = record { segments = (spans.heap_in k span).segments; end = e } in g) w.moved_is ∙ ap (λ (g : Heap). longer pages (let r : Heap = record { segments = g.segments; end = h.end } in r)) w.heap_is in
+    let len : length (bytes n span.area.0) ≡ length (bytes k span.area.0) = only.outside.len in
+    let area : span.area ≡ rma.area = ap (λ (t : Span). t.area) at in
+    record {
+      whole = subst (λ a. length (bytes n a.0) ≡ length (bytes k a.0)) area len ∙ w.len;
+      spells = begins_there n rma span (longer pages h) at (subst (spans.SpellsIn n span) same s);
+    }
+
+pub only_lengthened : (m k n : Memory) (rma : Module) (span : Span) (pages : ℕ) → k ≡ grown m rma.area.0 pages → pages ≤ m.free → span ≡ span_of rma → spans.OnlySpan k n span → OnlyArea m n rma.area.0
+only_lengthened m k n rma span pages e l at only =
+    OnlyArea-both m k n rma.area.0 (subst (λ i. OnlyArea m i rma.area.0) (sym e) (OnlyArea-grown m rma.area.0 pages l))
+    (subst (λ t. OnlyArea k n t.area.0) at (OnlyArea-from_Edited k n span.area.0 _ _ only))
+
+-- a call that is refused exactly where a number is too small, and it is not
+pub is_granted : {A E : Type 0} (r : Result A E) {m n : ℕ} → (IsErr r ↔ (m < n)) → n ≤ m → IsOk r
+is_granted (Ok x) w l = cc
+is_granted (Err e) w l = let low = w.0 cc in absurd (omega arith)
+
+-- ---- shorter
+
+minus : (e n : ℕ) → moved e (neg_ℤ (pos n)) ≡ e - n
+minus e zero = omega arith
+minus e (suc n) = omega arith
+
+-- the negative amount, as the code has it
+abbrev pub down : ℕ → ℤ
+down pages = to_z w32 (of_z w32 (to_z w64 (of_z w64 (pos 0 -ℤ to_z w64 (pages * 4096)))))
+
+pub down_is : (pages : ℕ) → pages ≤ 2 ^ 19 → down pages ≡ neg_ℤ (pos (pages * 4096))
+down_is pages l = omega (arith, ints)
+
+moved_down : (e pages : ℕ) → pages ≤ 2 ^ 19 → moved e (down pages) ≡ e - 4096 * pages
+moved_down e pages l = ap (moved e) (down_is pages l) ∙ minus e (pages * 4096) ∙ omega arith
+
+-- the area's last pages, where the heap leaves them
+record Spare (m k : Memory) (rma : Module) (pages : ℕ) : Type 0 where
+  begins : Begins k rma (shorter pages (heap_in m rma))
+  len : length (bytes k rma.area.0) ≡ (heap_in m rma).end
+  inside : 4096 * pages ≤ length (bytes k rma.area.0)
+
+spare : (m k : Memory) (rma : Module) (span : Span) (pages : ℕ) → IsModule m rma → span ≡ span_of rma → pages ≤ 2 ^ 19 → spans.OnlySpan m k span → spans.SpellsIn k span (extended (down pages) (spans.heap_in m span))
+    → Spare m k rma pages
+spare m k rma span pages s at l only sp =
+    let h = heap_in m rma in
+    let same : extended (down pages) (spans.heap_in m span) ≡ shorter pages h =
+    ap (extended (down pages)) (heap_there m rma span h at s.spells.spells) ∙ ap (λ (e : ℕ). let g : Heap = record { segments = h.segments; end = e } in g) (moved_down h.end pages l) in
+    let there : Begins k rma (shorter pages h) = begins_there k rma span (shorter pages h) at (subst (spans.SpellsIn k span) same sp) in
+    let fits = there.heap.fits in
+    let long : length (bytes k rma.area.0) ≡ length (bytes m rma.area.0) = subst (λ (t : Span). length (bytes k t.area.0) ≡ length (bytes m t.area.0)) at only.outside.len in
+    record { begins = there; len = long ∙ s.spells.whole; inside = let w = s.spells.whole in omega arith }
+
+pub shortened : (m k n : Memory) (rma : Module) (span : Span) (pages : ℕ) → IsModule m rma → span ≡ span_of rma → pages ≤ 2 ^ 19 → spans.OnlySpan m k span → spans.SpellsIn k span (extended (down pages) (spans.heap_in m span))
+    → n ≡ shrunk k rma.area.0 pages → SpellsIn n rma (shorter pages (heap_in m rma))
+shortened m k n rma span pages s at l only sp e =
+    let id = rma.area.0 in
+    let g = shorter pages (heap_in m rma) in
+    let w = spare m k rma span pages s at l only sp in
+    let len = w.len in
+    let inside = w.inside in
+    let long = length-shrunk k id pages in
+    let image : IsImage (bytes (shrunk k id pages) id) g = record {
+      whole = omega arith;
+      spells = Spells-kept (bytes k id) (bytes (shrunk k id pages) id) 0 g w.begins (SameIn-shrunk k id pages 0 (0 + g.end) (omega arith)) (omega arith);
+    } in
+    subst (λ i. SpellsIn i rma g) (sym e) image
+
+pub only_shortened : (m k n : Memory) (rma : Module) (span : Span) (pages : ℕ) → IsModule m rma → span ≡ span_of rma → pages ≤ 2 ^ 19 → spans.OnlySpan m k span → spans.SpellsIn k span (extended (down pages) (spans.heap_in m span))
+    → n ≡ shrunk k rma.area.0 pages → OnlyArea m n rma.area.0
+only_shortened m k n rma span pages s at l only sp e =
+    OnlyArea-both m k n rma.area.0 (subst (λ (t : Span). OnlyArea m k t.area.0) at (OnlyArea-from_Edited m k span.area.0 _ _ only))
+    (subst (λ i. OnlyArea k i rma.area.0) (sym e) (OnlyArea-shrunk k rma.area.0 pages (spare m k rma span pages s at l only sp).inside))

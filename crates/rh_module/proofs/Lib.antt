@@ -1,0 +1,7 @@
+pub mod SpanLaws
+pub mod CallLaws
+pub mod LengthLaws
+pub mod ChangeLaws
+pub mod GrowthLaws
+pub mod FreeLaws
+pub mod NeedLaws

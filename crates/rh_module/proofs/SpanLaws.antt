@@ -1,0 +1,36 @@
+-- The module area as a span that a heap stands in.
+use Rattle.std.proofs.Common.{◌≡◌, ℕ, sym, subst}
+use Rattle.rh_defs.specs.Memory.{Memory, IsOpen, bytes}
+use Rattle.rh_defs.specs.Heap.{Heap}
+use Rattle.rh_defs.specs.HeapImage.{Spells, IsImage}
+use Rattle.rh_defs.proofs.HeapLaws.{heap_of-Spells}
+use Rattle.rh_heap.specs.Spans as spans
+use Rattle.rh_heap.specs.declared.span.Span.{Span}
+use Rattle.rh_heap.proofs.SpanLaws as span_laws
+use Rattle.rh_module.specs.declared.module.Module.{Module}
+use Rattle.rh_module.specs.Area.{IsModule, SpellsIn, heap_in}
+
+-- where the module area's heap stands
+abbrev pub span_of : Module → Span
+span_of rma = record { area = rma.area; at = 0 }
+
+-- the area's bytes spell this heap, perhaps with more bytes behind it
+abbrev pub Begins : Memory → Module → Heap → Type 0
+Begins m rma h = Spells (bytes m rma.area.0) 0 h
+
+pub is_span : (m : Memory) (rma : Module) (span : Span) (h : Heap) → span ≡ span_of rma → IsOpen m rma.area.0 → Begins m rma h → spans.IsSpan m span
+is_span m rma span h e o s = subst (spans.IsSpan m) (sym e) (span_laws.is_span m (span_of rma) h o s)
+
+pub heap_there : (m : Memory) (rma : Module) (span : Span) (h : Heap) → span ≡ span_of rma → Begins m rma h → spans.heap_in m span ≡ h
+heap_there m rma span h e s = subst (λ t. spans.heap_in m t ≡ h) (sym e) (heap_of-Spells (bytes m rma.area.0) 0 h s)
+
+pub begins_there : (m : Memory) (rma : Module) (span : Span) (h : Heap) → span ≡ span_of rma → spans.SpellsIn m span h → Begins m rma h
+begins_there m rma span h e s = subst (λ t. spans.SpellsIn m t h) e s
+
+-- before a call
+pub old_heap : {m : Memory} {rma : Module} {span : Span} → span ≡ span_of rma → IsModule m rma → spans.heap_in m span ≡ heap_in m rma
+old_heap {m = m} {rma = rma} {span = span} e s = heap_there m rma span (heap_in m rma) e s.spells.spells
+
+-- after it
+pub is_module : (m : Memory) (rma : Module) (h : Heap) → IsOpen m rma.area.0 → SpellsIn m rma h → IsModule m rma
+is_module m rma h o s = record { opened = o; spells = subst (IsImage (bytes m rma.area.0)) (sym (heap_of-Spells (bytes m rma.area.0) 0 h s.spells)) s }

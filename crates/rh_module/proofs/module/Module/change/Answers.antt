@@ -1,0 +1,63 @@
+-- The amount is negative or not, and its whole pages go or come.
+use Rattle.std.proofs.Common.{◌≡◌, Bool, true, false, pos, sym, ap}
+use Rattle.std.specs.Int.Signed.{lt_z}
+use Rattle.std.proofs.lemmas.Result.{err_from_is_err_and}
+use Rattle.rh_defs.specs.Chain.{answer_of}
+use Rattle.rh_module.specs.Area.{heap_in}
+use Rattle.rh_module.proofs.CallLaws.{kept, left}
+use Rattle.rh_module.proofs.NeedLaws.{passed}
+use Rattle.rh_module.proofs.ChangeLaws.{Amount, change_too_low, change_shortened, change_no_room, change_lengthened}
+use Rattle.rh_module.proofs.module.Module.change.Goals as goal
+use Rattle.rh_module.proofs.module.Module.change.Goals.{After-pages_for-pages, then-delta-lt0+in_ok-shorten, else-delta-lt0+in_ok-lengthen}
+use Rattle.rh_module.proofs.module.Module.change.Given as given
+
+amount : (g : given.Over) (c : After-pages_for-pages g) {negative : Bool} → lt_z (passed c.args.delta) (pos 0) ≡ negative → Amount c.args.delta c.unsigned_abs.result c.pages_for-pages.result negative
+amount g c sign = record { fits = c.ranges.delta; size_is = c.unsigned_abs.ensures.value; pages_are = c.pages_for-pages.ensures; sign = sign }
+
+pub returns-in_err-shorten-clause-answer : goal.returns-in_err-shorten-clause-answer
+returns-in_err-shorten-clause-answer g c =
+    let m = g.S.Store.memory c.args.store.now in
+    let a = amount g (goal.at.returns-in_err-shorten-clause-answer g c).After-pages_for-pages c.if-delta-lt0.true in
+    let p = err_from_is_err_and c.from_residual.result c.from_residual.ensures.1 in
+    rw (p.1, p.2, c.in_err-shorten.ensures.reason) (sym (ap answer_of (change_too_low m.free (heap_in m c.args.self) a c.in_err-shorten.ensures.refused)))
+
+pub returns-in_err-shorten-clause-spells : goal.returns-in_err-shorten-clause-spells
+returns-in_err-shorten-clause-spells g c =
+    let m = g.S.Store.memory c.args.store.now in
+    let a = amount g (goal.at.returns-in_err-shorten-clause-spells g c).After-pages_for-pages c.if-delta-lt0.true in
+    kept (change_too_low m.free (heap_in m c.args.self) a c.in_err-shorten.ensures.refused) c.in_err-shorten.ensures.err c.requires
+
+pub returns-in_err-lengthen-clause-answer : goal.returns-in_err-lengthen-clause-answer
+returns-in_err-lengthen-clause-answer g c =
+    let m = g.S.Store.memory c.args.store.now in
+    let a = amount g (goal.at.returns-in_err-lengthen-clause-answer g c).After-pages_for-pages c.if-delta-lt0.false in
+    let p = err_from_is_err_and c.from_residual-in_err-lengthen.result c.from_residual-in_err-lengthen.ensures.1 in
+    rw (p.1, p.2, c.in_err-lengthen.ensures.reason) (sym (ap answer_of (change_no_room m.free (heap_in m c.args.self) a c.requires.spells.spells.heap.fits c.in_err-lengthen.ensures.refused)))
+
+pub returns-in_err-lengthen-clause-spells : goal.returns-in_err-lengthen-clause-spells
+returns-in_err-lengthen-clause-spells g c =
+    let m = g.S.Store.memory c.args.store.now in
+    let a = amount g (goal.at.returns-in_err-lengthen-clause-spells g c).After-pages_for-pages c.if-delta-lt0.false in
+    kept (change_no_room m.free (heap_in m c.args.self) a c.requires.spells.spells.heap.fits c.in_err-lengthen.ensures.refused) c.in_err-lengthen.ensures.err c.requires
+
+pub returns-clause-answer : goal.returns-clause-answer
+returns-clause-answer g c =
+    let m = g.S.Store.memory c.args.store.now in
+    let k = (goal.at.returns-clause-answer g c).After-pages_for-pages in
+    elim c.if-delta-lt0.branch [
+      | then-delta-lt0+in_ok-shorten w ↦ sym (ap answer_of (change_shortened m.free (heap_in m c.args.self) (amount g k w.if-delta-lt0.true) w.in_ok-shorten.ensures.room))
+      | else-delta-lt0+in_ok-lengthen w ↦ sym (ap answer_of (change_lengthened m.free (heap_in m c.args.self) (amount g k w.if-delta-lt0.false) c.requires.spells.spells.heap.fits w.in_ok-lengthen.ensures.room))
+    ]
+
+pub returns-clause-spells : goal.returns-clause-spells
+returns-clause-spells g c =
+    let m = g.S.Store.memory c.args.store.now in
+    let n = g.S.Store.memory c.if-delta-lt0.store in
+    let h = heap_in m c.args.self in
+    let k = (goal.at.returns-clause-spells g c).After-pages_for-pages in
+    elim c.if-delta-lt0.branch [
+      | then-delta-lt0+in_ok-shorten w ↦
+          left n c.args.self h (change_shortened m.free h (amount g k w.if-delta-lt0.true) w.in_ok-shorten.ensures.room) (rw w.store-is w.in_ok-shorten.ensures.spells)
+      | else-delta-lt0+in_ok-lengthen w ↦
+          left n c.args.self h (change_lengthened m.free h (amount g k w.if-delta-lt0.false) c.requires.spells.spells.heap.fits w.in_ok-lengthen.ensures.room) (rw w.store-is w.in_ok-lengthen.ensures.spells)
+    ]

@@ -1,0 +1,94 @@
+//! The area's length, which its heap fills.
+ghost use Rattle.std.specs.Prelude.{◌≡◌, ℕ, ◌+◌, ◌-◌, ◌*◌, ◌^◌, ◌<◌, ◌≤◌, length, OnOk, OnErr, IfErr};
+ghost use Rattle.rh_defs.specs.Memory.{Memory, IsOpen, OnlyArea, bytes};
+ghost use Rattle.rh_defs.specs.Pieces.{pages_for};
+ghost use Rattle.rh_defs.specs.Heap.{empty_heap, base};
+ghost use Rattle.rh_defs.specs.Chain.{answer_of, left_of};
+ghost use Rattle.rh_defs.specs.Module.{module_change};
+ghost use Rattle.rh_module.specs.Area.{IsModule, SpellsIn, heap_in};
+ghost use Rattle.rh_module.specs.Lengths.{longer, shorter};
+
+use crate::module::Module;
+use rh_defs::Refusal;
+use rh_heap::{extend_heap, init};
+use rh_store::{AreaId, PAGE, Store};
+
+/// How many pages hold this many bytes.
+pub fn pages_for(bytes: usize) -> usize
+    ensures { result ≡ pages_for bytes }
+{
+    bytes.div_ceil(PAGE)
+}
+
+impl Module {
+    /// Makes an area of at least one page an empty heap as long as the area.
+    pub fn start<S: Store>(store: &mut S, area: AreaId) -> Module
+        requires opened { IsOpen (S.memory store.old) area.0 }
+        requires page { 4096 ≤ length (bytes (S.memory store.old) area.0) }
+        ensures area { result.area ≡ area }
+        ensures spells { SpellsIn (S.memory store.new) result (empty_heap (length (bytes (S.memory store.old) area.0))) }
+        ensures only { OnlyArea (S.memory store.old) (S.memory store.new) area.0 }
+    {
+        let module = Module { area };
+        let end = store.len(area);
+        init(store, module.span(), end);
+        module
+    }
+
+    /// Makes the area longer or shorter by an amount of bytes whose magnitude is rounded up to whole pages, and answers
+    /// the bytes moved. Refused, and nothing changed: `ExcessiveShrink` where the heap's base would lie above the end,
+    /// `NoRoom` where too few pages are free. (OS_ChangeDynamicArea.)
+    pub fn change<S: Store>(self, store: &mut S, delta: i32) -> Result<usize, Refusal>
+        requires { IsModule (S.memory store.old) self }
+        ensures answer { result ≡ answer_of (module_change (S.memory store.old).free delta (heap_in (S.memory store.old) self)) }
+        ensures spells { SpellsIn (S.memory store.new) self (left_of (heap_in (S.memory store.old) self) (module_change (S.memory store.old).free delta (heap_in (S.memory store.old) self))) }
+        ensures only { OnlyArea (S.memory store.old) (S.memory store.new) self.area.0 }
+        ensures err { OnErr result (S.memory store.new ≡ S.memory store.old) }
+    {
+        let pages = pages_for(delta.unsigned_abs() as usize);
+        if delta < 0 {
+            self.shorten(store, pages)?;
+        } else {
+            self.lengthen(store, pages)?;
+        }
+        Ok(pages * PAGE)
+    }
+
+    /// Makes the area and its heap longer by this many pages. Refused (`NoRoom`), and nothing changed, exactly where
+    /// fewer are free.
+    pub(crate) fn lengthen<S: Store>(self, store: &mut S, pages: usize) -> Result<(), Refusal>
+        requires { IsModule (S.memory store.old) self }
+        ensures spells { OnOk result (SpellsIn (S.memory store.new) self (longer pages (heap_in (S.memory store.old) self))) }
+        ensures room { OnOk result (pages ≤ (S.memory store.old).free) }
+        ensures refused { OnErr result ((S.memory store.old).free < pages) }
+        ensures reason { IfErr result (λ refusal. refusal ≡ Refusal.NoRoom) }
+        ensures only { OnlyArea (S.memory store.old) (S.memory store.new) self.area.0 }
+        ensures err { OnErr result (S.memory store.new ≡ S.memory store.old) }
+    {
+        let Ok(()) = store.grow(self.area, pages) else {
+            return Err(Refusal::NoRoom);
+        };
+        extend_heap(store, self.span(), (pages * PAGE) as i32).unwrap();
+        Ok(())
+    }
+
+    /// Makes the area and its heap shorter by this many pages. Refused (`ExcessiveShrink`), and nothing changed, exactly
+    /// where the heap's base would lie above the end.
+    fn shorten<S: Store>(self, store: &mut S, pages: usize) -> Result<(), Refusal>
+        requires module { IsModule (S.memory store.old) self }
+        requires small { pages ≤ 2 ^ 19 }
+        ensures spells { OnOk result (SpellsIn (S.memory store.new) self (shorter pages (heap_in (S.memory store.old) self))) }
+        ensures room { OnOk result (base (heap_in (S.memory store.old) self) ≤ (shorter pages (heap_in (S.memory store.old) self)).end) }
+        ensures refused { OnErr result ((shorter pages (heap_in (S.memory store.old) self)).end < base (heap_in (S.memory store.old) self)) }
+        ensures reason { IfErr result (λ refusal. refusal ≡ Refusal.ExcessiveShrink) }
+        ensures only { OnlyArea (S.memory store.old) (S.memory store.new) self.area.0 }
+        ensures err { OnErr result (S.memory store.new ≡ S.memory store.old) }
+    {
+        let delta = -((pages * PAGE) as i64) as i32;
+        let Ok(()) = extend_heap(store, self.span(), delta) else {
+            return Err(Refusal::ExcessiveShrink);
+        };
+        store.shrink(self.area, pages);
+        Ok(())
+    }
+}

@@ -1,0 +1,10 @@
+//! The module area (the RMA): one heap that fills its area, and takes free pages where it is too short.
+#![tactic(auto)]
+
+mod blocks;
+mod length;
+mod module;
+#[cfg(test)]
+mod tests;
+
+pub use module::Module;
