@@ -1,9 +1,9 @@
 -- A free, by whether a block begins at the address.
-use Rattle.std.proofs.Common.{◌≡◌, ℕ, length, refl, sym, ap, subst, ◌∙◌}
+use Rattle.std.proofs.Common.{◌≡◌, ℕ, length, refl, sym, subst, ◌∙◌}
 use Rattle.std.specs.Prelude.{Option, Some, None, Ok, Err, IsNone}
 use Rattle.rh_defs.specs.Memory.{Memory, bytes}
 use Rattle.rh_defs.specs.Pieces.{Split}
-use Rattle.rh_defs.specs.Heap.{Heap, Segment, block_at, release}
+use Rattle.rh_defs.specs.Heap.{Segment, block_at, release}
 use Rattle.rh_defs.specs.Module.{module_free}
 use Rattle.rh_defs.specs.declared.refusal.Refusal.TheVariants.{NotABlock}
 use Rattle.rh_defs.proofs.ModuleLaws.{release_found-end, module_free-none, module_free-some}

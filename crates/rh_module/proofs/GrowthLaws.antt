@@ -1,6 +1,6 @@
 -- Calls on the heap that has grown by what it was short of.
 use Rattle.std.proofs.Common.{◌≡◌, ℕ, length, refl, sym, ap, subst, ◌∙◌}
-use Rattle.std.specs.Prelude.{Result, Ok, Err, IsOk}
+use Rattle.std.specs.Prelude.{Result, Ok, IsOk}
 use Rattle.rh_defs.specs.Memory.{Memory, bytes}
 use Rattle.rh_defs.specs.Pieces.{pages_for}
 use Rattle.rh_defs.specs.Heap.{Heap, Placed, raised, address_of, heap_after}

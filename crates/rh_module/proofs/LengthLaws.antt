@@ -111,6 +111,7 @@ spare m k rma span pages s at l only sp =
     let long : length (bytes k rma.area.0) ≡ length (bytes m rma.area.0) = subst (λ (t : Span). length (bytes k t.area.0) ≡ length (bytes m t.area.0)) at only.outside.len in
     record { begins = there; len = long ∙ s.spells.whole; inside = let w = s.spells.whole in omega arith }
 
+-- the pages are gone
 pub shortened : (m k n : Memory) (rma : Module) (span : Span) (pages : ℕ) → IsModule m rma → span ≡ span_of rma → pages ≤ 2 ^ 19 → spans.OnlySpan m k span → spans.SpellsIn k span (extended (down pages) (spans.heap_in m span))
     → n ≡ shrunk k rma.area.0 pages → SpellsIn n rma (shorter pages (heap_in m rma))
 shortened m k n rma span pages s at l only sp e =

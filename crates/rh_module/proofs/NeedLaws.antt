@@ -5,7 +5,7 @@ use Rattle.std.specs.Int.{w32}
 use Rattle.std.proofs.lemmas.Int.{to_z-of_z}
 use Rattle.rh_defs.specs.Memory.{Memory}
 use Rattle.rh_defs.specs.Pieces.{pages_for}
-use Rattle.rh_defs.specs.Heap.{Heap, raised, claim, claim_need, resize, need_at}
+use Rattle.rh_defs.specs.Heap.{raised, claim, claim_need, resize, need_at}
 use Rattle.rh_defs.specs.Module.{module_claim, module_resize, module_need_pages}
 use Rattle.rh_defs.specs.declared.heap.HeapFault.{HeapFault}
 use Rattle.rh_defs.specs.declared.heap.HeapFault.TheVariants as heap_fault

@@ -1,5 +1,5 @@
 -- The module area as a span that a heap stands in.
-use Rattle.std.proofs.Common.{◌≡◌, ℕ, sym, subst}
+use Rattle.std.proofs.Common.{◌≡◌, sym, subst}
 use Rattle.rh_defs.specs.Memory.{Memory, IsOpen, bytes}
 use Rattle.rh_defs.specs.Heap.{Heap}
 use Rattle.rh_defs.specs.HeapImage.{Spells, IsImage}

@@ -1,5 +1,4 @@
 -- The module area's heap in its area. (RISC OS calls the module area the RMA.)
-use Rattle.std.specs.Prelude.{List}
 use Rattle.rh_defs.specs.Memory.{Memory, IsOpen, bytes}
 use Rattle.rh_defs.specs.Heap.{Heap}
 use Rattle.rh_defs.specs.HeapImage.{IsImage, heap_of}

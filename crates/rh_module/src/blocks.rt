@@ -1,6 +1,6 @@
 //! Blocks in the module area, which grows where its heap is too short.
-ghost use Rattle.std.specs.Prelude.{◌≡◌, ◌≢◌, ℕ, ◌+◌, OnErr};
-ghost use Rattle.rh_defs.specs.Memory.{Memory, OnlyArea};
+ghost use Rattle.std.specs.Prelude.{◌≡◌, ◌≢◌, OnErr};
+ghost use Rattle.rh_defs.specs.Memory.{OnlyArea};
 ghost use Rattle.rh_defs.specs.Chain.{answer_of, left_of, outcome_of, result_or};
 ghost use Rattle.rh_defs.specs.Module.{module_claim, module_free, module_resize, module_need_pages};
 ghost use Rattle.rh_module.specs.Area.{IsModule, SpellsIn, heap_in};
@@ -38,6 +38,7 @@ impl Module {
             return Err(Refusal::BadSize);
         };
         self.lengthen(store, pages_for(shortage))?;
+        // The heap has room now.
         Ok(claim(store, span, n).unwrap())
     }
 
@@ -77,6 +78,7 @@ impl Module {
             Err(fault) => return Err(resize_refusal(fault)),
         };
         self.lengthen(store, pages_for(shortage))?;
+        // The heap has room now.
         Ok(resize(store, span, address, delta).unwrap())
     }
 

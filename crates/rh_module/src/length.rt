@@ -1,6 +1,6 @@
 //! The area's length, which its heap fills.
-ghost use Rattle.std.specs.Prelude.{◌≡◌, ℕ, ◌+◌, ◌-◌, ◌*◌, ◌^◌, ◌<◌, ◌≤◌, length, OnOk, OnErr, IfErr};
-ghost use Rattle.rh_defs.specs.Memory.{Memory, IsOpen, OnlyArea, bytes};
+ghost use Rattle.std.specs.Prelude.{◌≡◌, ◌^◌, ◌<◌, ◌≤◌, length, OnOk, OnErr, IfErr};
+ghost use Rattle.rh_defs.specs.Memory.{IsOpen, OnlyArea, bytes};
 ghost use Rattle.rh_defs.specs.Pieces.{pages_for};
 ghost use Rattle.rh_defs.specs.Heap.{empty_heap, base};
 ghost use Rattle.rh_defs.specs.Chain.{answer_of, left_of};

@@ -4,7 +4,5 @@
 mod blocks;
 mod length;
 mod module;
-#[cfg(test)]
-mod tests;
 
 pub use module::Module;

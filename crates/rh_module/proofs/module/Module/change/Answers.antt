@@ -1,5 +1,5 @@
 -- The amount is negative or not, and its whole pages go or come.
-use Rattle.std.proofs.Common.{◌≡◌, Bool, true, false, pos, sym, ap}
+use Rattle.std.proofs.Common.{◌≡◌, Bool, pos, sym, ap}
 use Rattle.std.specs.Int.Signed.{lt_z}
 use Rattle.std.proofs.lemmas.Result.{err_from_is_err_and}
 use Rattle.rh_defs.specs.Chain.{answer_of}

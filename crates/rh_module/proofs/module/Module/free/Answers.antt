@@ -1,3 +1,4 @@
+-- A block begins at the address or none does.
 use Rattle.std.proofs.Common.{refl, sym, ap, subst}
 use Rattle.rh_defs.specs.Chain.{outcome_of, result_or}
 use Rattle.rh_defs.specs.Module.{module_free}

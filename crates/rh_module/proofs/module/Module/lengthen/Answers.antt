@@ -1,4 +1,5 @@
-use Rattle.std.proofs.Common.{◌*◌, ℕ, ◌≤◌, ◌^◌, to_z, subst, arith}
+-- The area has grown by zeros, and the heap's end moves up to the area's.
+use Rattle.std.proofs.Common.{◌*◌, ◌≤◌, ◌^◌, to_z, subst, arith}
 use Rattle.std.specs.Int.{w32}
 use Rattle.std.specs.Prelude.{OnOk}
 use Rattle.rh_defs.specs.Heap.{extended}

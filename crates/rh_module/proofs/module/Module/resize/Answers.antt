@@ -36,7 +36,7 @@ resize-requires g c = is_span (g.S.Store.memory c.lengthen.new.store) c.args.sel
 
 grown : (g : given.Over) (c : In_ok-lengthen g)
     → let m = g.S.Store.memory c.args.store.now in let h = heap_in m c.args.self in
-      Grown (g.S.Store.memory c.lengthen.new.store) c.args.self c.span-span.result h c.in-Ok.shortage (resize c.args.address (passed c.args.delta)) (module_resize m.free c.args.address c.args.delta h)
+    Grown (g.S.Store.memory c.lengthen.new.store) c.args.self c.span-span.result h c.in-Ok.shortage (resize c.args.address (passed c.args.delta)) (module_resize m.free c.args.address c.args.delta h)
 grown g c =
     resize_grown c.span-span.ensures c.requires c.args.address c.args.delta c.ranges.delta (g.S.Store.memory c.lengthen.new.store) c.in-Ok.ensures c.pages_for.ensures c.in_ok-lengthen.ensures.room c.in_ok-lengthen.ensures.spells
 

@@ -1,3 +1,4 @@
+-- The heap's end has moved down, and the pages above it go.
 use Rattle.rh_module.proofs.LengthLaws.{shortened, only_shortened}
 use Rattle.rh_module.proofs.module.Module.shorten.Goals as goal
 

@@ -1,6 +1,0 @@
--- What is left of the module area is one.
-use Rattle.rh_module.proofs.SpanLaws.{is_module}
-use Rattle.rh_module.proofs.tests.changed.Goals as goal
-
-pub returns : goal.returns
-returns g c = is_module (g.S.Store.memory c.change.new.store) c.args.rma _ c.change.ensures.only.opened c.change.ensures.spells

@@ -1,6 +1,0 @@
--- What is left of the module area is one.
-use Rattle.rh_module.proofs.SpanLaws.{is_module}
-use Rattle.rh_module.proofs.tests.claimed.Goals as goal
-
-pub returns : goal.returns
-returns g c = is_module (g.S.Store.memory c.claim.new.store) c.args.rma _ c.claim.ensures.only.opened c.claim.ensures.spells

@@ -1,6 +1,0 @@
--- What is left of the module area is one.
-use Rattle.rh_module.proofs.SpanLaws.{is_module}
-use Rattle.rh_module.proofs.tests.resized.Goals as goal
-
-pub returns : goal.returns
-returns g c = is_module (g.S.Store.memory c.resize.new.store) c.args.rma _ c.resize.ensures.only.opened c.resize.ensures.spells

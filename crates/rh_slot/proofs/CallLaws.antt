@@ -1,0 +1,321 @@
+-- The calls on the C heap of a slot: what each answers and leaves.
+use Rattle.std.proofs.Common.{◌≡◌, ◌≢◌, ℕ, ◌+◌, ◌-◌, ◌≤◌, inl, inr, Bool, true, false, ltb, eqb, List, [], ◌∷◌, ◌++◌, length, refl, sym, ap, subst, ◌∙◌, arith}
+use Rattle.std.proofs.lemmas.Bool.{cases_eq}
+use Rattle.std.specs.Prelude.{IfSome, cond, Option, Some, None, IsNone, Result, Ok, Err, IsErr, is_err, ◌↔◌, ℤ, pos, negsuc}
+use Rattle.std.proofs.Common.{SFits, w32}
+use Rattle.rh_defs.specs.Bytes.{SameOutside}
+use Rattle.rh_defs.specs.Memory.{Memory, bytes}
+use Rattle.rh_defs.specs.Pieces.{total, pages_for, zeros, moved, Split}
+use Rattle.rh_defs.specs.Chain.{Granted, answer_of, left_of, outcome_of, result_or, ◌>>=◌, ◌>>◌, refuse_if, found_or}
+use Rattle.rh_defs.specs.Heap.{Segment, Used, Hole, Heap, Placed, Way, Stays, Shrinks, GrowsIntoHole, GrowsAtTop, MovesToHole, MovesToTop, need, claim, claim_need, claim_growing, placed_in, hole_for, is_hole_for, way_beyond, way_to_grow, raised, block_room, size_of, bytes_of, resized, resized_by, resize, resize_found, resize_need, resize_growing, need_found, new_size, fitted, way_to, segment_size, released, release, release_found, block_at, is_block_at, address_of, heap_after, base, place_after, end_for}
+use Rattle.rh_defs.specs.HeapImage.{Spells}
+use Rattle.rh_defs.specs.Slot.{weight, slot_length, slot_pages, is_stuck, with_heap, with_block, slot_claim, slot_resize, slot_release, slot_take_pages, heap_block_at}
+use Rattle.rh_defs.specs.Slot as plain
+use Rattle.rh_defs.specs.declared.heap.HeapFault.{HeapFault}
+use Rattle.rh_defs.specs.declared.heap.HeapFault.TheVariants as fault
+use Rattle.rh_defs.specs.declared.refusal.Refusal.{Refusal}
+use Rattle.rh_defs.specs.declared.refusal.Refusal.TheVariants.{NotABlock, NoBudge}
+use Rattle.rh_defs.proofs.Cuts.{total-append}
+use Rattle.rh_defs.proofs.HeapLists.{cond_true, cond_false, eqb_same, eqb_apart, IsCut, first_at-cuts}
+use Rattle.rh_defs.proofs.HeapGrowth.{claim-raised, resize-raised, resize_need-raised}
+use Rattle.rh_heap.specs.Spans.{OnlySpan, heap_in}
+use Rattle.rh_slot.specs.declared.slot.Slot.{Slot}
+use Rattle.rh_slot.specs.Area.{SpellsIn, slot_in}
+use Rattle.rh_slot.specs.Growth.{after_growth, lengthened, refusal_of}
+use Rattle.rh_slot.proofs.SpanLaws.{span_of, heap_same, slot_now}
+use Rattle.rh_slot.proofs.GrowLaws.{Gives, growth_ok, growth_err, placed_there, with_placed-growth, slot_claim-growth, slot_claim-zero, end-claim_growing, need_ok, need_err}
+use Rattle.rh_defs.proofs.SlotImageLaws.{SpellsSlot-with_heap}
+
+-- the heap in the span once it is longer
+longer : (m : Memory) (slot : Slot) (s : plain.Slot) (k : ℕ) → SpellsIn m slot (lengthened k s) → s.budging ≡ slot.budge → heap_in m (span_of slot) ≡ raised k s.heap
+longer m slot s k w b = heap_same m slot ∙ ap (λ (x : plain.Slot). x.heap) (slot_now m slot (lengthened k s) w b)
+
+-- the heap's own call places a block, so the slot's does
+done_there : (m n : Memory) (slot : Slot) (s : plain.Slot) (free k : ℕ) (p : Placed) (call : Granted (plain.Slot × ℕ)) (own : Result Placed HeapFault) (r : Result ℕ HeapFault) (address : ℕ)
+    → SpellsIn m slot (lengthened k s) → s.budging ≡ slot.budge → call ≡ after_growth free k s (with_heap p.heap s, 33024 + p.address) → Gives (Ok (tt {0})) free k s → p.heap.end ≡ (raised k s.heap).end
+    → own ≡ Ok p → OnlySpan m n (span_of slot) → Spells (bytes n slot.area.0) 256 (heap_after (heap_in m (span_of slot)) own) → r ≡ address_of own → r ≡ Ok address
+    → (Ok (33024 + address) ≡ answer_of call) × SpellsIn n slot (left_of s call)
+done_there m n slot s free k p call own r address w b e g q o only h er ea =
+    let same : Ok address ≡ Ok p.address = sym ea ∙ er ∙ ap address_of o in
+    placed_there m n slot s k p call address w b (e ∙ growth_ok free k s (with_heap p.heap s, 33024 + p.address) g) q only
+    (subst (λ x. Spells (bytes n slot.area.0) 256 (heap_after (heap_in m (span_of slot)) x)) o h) (let f = same in cc)
+
+-- and it is not refused
+pub not_refused_there : (p : Placed) (own : Result Placed HeapFault) (r : Result ℕ HeapFault) (f : HeapFault) → own ≡ Ok p → r ≡ address_of own → r ≡ Err f → ⊥
+not_refused_there p own r f o er ef = let same : Err f ≡ Ok p.address = sym ef ∙ er ∙ ap address_of o in cc
+
+-- ---- claims
+
+pub claim_longer : (m : Memory) (slot : Slot) (s : plain.Slot) (k n : ℕ) → SpellsIn m slot (lengthened k s) → s.budging ≡ slot.budge → n ≢ 0 → k ≡ need n s.heap → claim n (heap_in m (span_of slot)) ≡ Ok (claim_growing n s.heap)
+claim_longer m slot s k n w b ne e = ap (claim n) (longer m slot s k w b) ∙ ap (λ i. claim n (raised i s.heap)) e ∙ claim-raised n s.heap ne
+
+pub claimed : (m l : Memory) (slot : Slot) (s : plain.Slot) (free k n : ℕ) (r : Result ℕ HeapFault) (address : ℕ) → SpellsIn m slot (lengthened k s) → s.budging ≡ slot.budge → n ≢ 0 → k ≡ need n s.heap → Gives (Ok (tt {0})) free k s
+    → OnlySpan m l (span_of slot) → Spells (bytes l slot.area.0) 256 (heap_after (heap_in m (span_of slot)) (claim n (heap_in m (span_of slot)))) → r ≡ address_of (claim n (heap_in m (span_of slot))) → r ≡ Ok address
+    → (Ok (33024 + address) ≡ answer_of (slot_claim free n s)) × SpellsIn l slot (left_of s (slot_claim free n s))
+claimed m l slot s free k n r address w b ne e g only h er ea =
+    done_there m l slot s free k (claim_growing n s.heap) (slot_claim free n s) (claim n (heap_in m (span_of slot))) r address w b
+    (slot_claim-growth free n s ne ∙ ap (λ i. after_growth free i s (with_heap (claim_growing n s.heap).heap s, 33024 + (claim_growing n s.heap).address)) (sym e)) g
+    (end-claim_growing n s.heap ∙ ap (λ i. (raised i s.heap).end) (sym e)) (claim_longer m slot s k n w b ne e) only h er ea
+
+pub claim_not_refused : (m : Memory) (slot : Slot) (s : plain.Slot) (k n : ℕ) (r : Result ℕ HeapFault) (f : HeapFault) → SpellsIn m slot (lengthened k s) → s.budging ≡ slot.budge → n ≢ 0 → k ≡ need n s.heap
+    → r ≡ address_of (claim n (heap_in m (span_of slot))) → r ≡ Err f → ⊥
+claim_not_refused m slot s k n r f w b ne e er ef = not_refused_there (claim_growing n s.heap) (claim n (heap_in m (span_of slot))) r f (claim_longer m slot s k n w b ne e) er ef
+
+-- ---- resizes
+
+end-release_found : (o : Option (Split Segment)) (h : Heap) → (release_found o h).end ≡ h.end
+end-release_found None h = refl
+end-release_found (Some s) h = refl
+
+end-resized_by : (w : Way) (bs : List ℕ) (s : Split Segment) (h : Heap) → (resized_by w bs s h).heap.end ≡ h.end
+end-resized_by Stays bs s h = refl
+end-resized_by Shrinks bs s h = refl
+end-resized_by (GrowsIntoHole n rest) bs s h = refl
+end-resized_by GrowsAtTop bs s h = refl
+end-resized_by (MovesToHole hole) bs s h = end-release_found _ _
+end-resized_by MovesToTop bs s h = end-release_found _ _
+
+end-resize_growing : (n : ℕ) (b : Split Segment) (h : Heap) → (resize_growing n b h).heap.end ≡ (raised (resize_need n b h) h).end
+end-resize_growing n b h = end-resized_by (way_to (segment_size n) b h) (fitted (block_room n) (bytes_of b.here)) b (raised (resize_need n b h) h)
+
+-- the block that a resize finds, and its shortage
+pub record Resizes (delta : ℤ) (o : Option (Split Segment)) (h : Heap) (k : ℕ) : Type 0 where
+  pub block : Split Segment
+  pub found : o ≡ Some block
+  pub some : new_size delta block ≢ 0
+  pub short : k ≡ resize_need (new_size delta block) block h
+
+pub need_found_ok : (delta : ℤ) (o : Option (Split Segment)) (h : Heap) (k : ℕ) → Ok k ≡ need_found delta o h → Resizes delta o h k
+need_found_ok delta None h k e = absurd cc
+need_found_ok delta (Some b) h k e = elim (cases_eq (new_size delta b) 0) [
+  | inl z ↦ absurd (let f = e ∙ cond_true (eqb (new_size delta b) 0) _ _ (eqb_same (new_size delta b) 0 z) in cc)
+  | inr ne ↦ record { block = b; found = refl; some = ne; short = (let f = e ∙ cond_false (eqb (new_size delta b) 0) _ _ (eqb_apart (new_size delta b) 0 ne) in cc) }
+]
+
+pub slot_resize-growth : (free address : ℕ) (delta : ℤ) (s : plain.Slot) (b : Split Segment) → heap_block_at address s ≡ Some b → new_size delta b ≢ 0
+    → slot_resize free address delta s ≡ after_growth free (resize_need (new_size delta b) b s.heap) s (with_heap (resize_growing (new_size delta b) b s.heap).heap s, 33024 + (resize_growing (new_size delta b) b s.heap).address)
+unfolding slot_resize ◌>>=◌ ◌>>◌ refuse_if found_or
+slot_resize-growth free address delta s b e ne =
+    rw e (rw (eqb_apart (new_size delta b) 0 ne) (with_placed-growth free (resize_need (new_size delta b) b s.heap) (resize_growing (new_size delta b) b s.heap) s (end-resize_growing (new_size delta b) b s.heap)))
+
+-- a refusal of the heap is the slot's
+pub resize_refused : (free address : ℕ) (delta : ℤ) (s : plain.Slot) (o : Option (Split Segment)) (f : HeapFault) → heap_block_at address s ≡ o → Err f ≡ need_found delta o s.heap → slot_resize free address delta s ≡ Err (refusal_of f)
+unfolding slot_resize ◌>>=◌ ◌>>◌ refuse_if found_or
+resize_refused free address delta s None f e n = rw e (let q : fault.NotABlock ≡ f = cc in ap (λ i. Err (refusal_of i)) q)
+resize_refused free address delta s (Some b) f e n = elim (cases_eq (new_size delta b) 0) [
+  | inl z ↦ rw e (rw (eqb_same (new_size delta b) 0 z) (let q : fault.BadSize ≡ f = (let i = n ∙ cond_true (eqb (new_size delta b) 0) _ _ (eqb_same (new_size delta b) 0 z) in cc) in ap (λ i. Err (refusal_of i)) q))
+  | inr ne ↦ absurd (let i = n ∙ cond_false (eqb (new_size delta b) 0) _ _ (eqb_apart (new_size delta b) 0 ne) in cc)
+]
+
+resize_found-raised : (delta : ℤ) (b : Split Segment) (h : Heap) (k : ℕ) → new_size delta b ≢ 0 → k ≡ resize_need (new_size delta b) b h → resize_found delta (Some b) (raised k h) ≡ Ok (resize_growing (new_size delta b) b h)
+resize_found-raised delta b h k ne e =
+    let n = new_size delta b in
+    cond_false (eqb n 0) _ _ (eqb_apart n 0 ne)
+    ∙ ap (λ i. cond (eqb (resize_need n b (raised i h)) 0) (Ok (resized n b (raised i h) (raised i h))) (Err fault.NoRoom)) e
+    ∙ cond_true (eqb (resize_need n b (raised (resize_need n b h) h)) 0) _ _ (eqb_same _ 0 (resize_need-raised n b h))
+    ∙ ap (λ (p : Placed). Ok p) (resize-raised n b h)
+
+pub resize_longer : (m : Memory) (slot : Slot) (s : plain.Slot) (k a : ℕ) (delta : ℤ) (t : Resizes delta (block_at a s.heap) s.heap k) → SpellsIn m slot (lengthened k s) → s.budging ≡ slot.budge
+    → resize a delta (heap_in m (span_of slot)) ≡ Ok (resize_growing (new_size delta t.block) t.block s.heap)
+resize_longer m slot s k a delta t w b =
+    ap (resize a delta) (longer m slot s k w b) ∙ ap (λ o. resize_found delta o (raised k s.heap)) t.found ∙ resize_found-raised delta t.block s.heap k t.some t.short
+
+pub resized_there : (m l : Memory) (slot : Slot) (s : plain.Slot) (free k a address : ℕ) (delta : ℤ) (r : Result ℕ HeapFault) (x : ℕ) → Resizes delta (block_at a s.heap) s.heap k → a ≡ address - 33024
+    → SpellsIn m slot (lengthened k s) → s.budging ≡ slot.budge → Gives (Ok (tt {0})) free k s
+    → OnlySpan m l (span_of slot) → Spells (bytes l slot.area.0) 256 (heap_after (heap_in m (span_of slot)) (resize a delta (heap_in m (span_of slot)))) → r ≡ address_of (resize a delta (heap_in m (span_of slot))) → r ≡ Ok x
+    → (Ok (33024 + x) ≡ answer_of (slot_resize free address delta s)) × SpellsIn l slot (left_of s (slot_resize free address delta s))
+resized_there m l slot s free k a address delta r x t e w b g only h er ea =
+    let p = resize_growing (new_size delta t.block) t.block s.heap in
+    done_there m l slot s free k p (slot_resize free address delta s) (resize a delta (heap_in m (span_of slot))) r x w b
+    (slot_resize-growth free address delta s t.block (ap (λ i. block_at i s.heap) (sym e) ∙ t.found) t.some ∙ ap (λ i. after_growth free i s (with_heap p.heap s, 33024 + p.address)) (sym t.short)) g
+    (end-resize_growing (new_size delta t.block) t.block s.heap ∙ ap (λ i. (raised i s.heap).end) (sym t.short)) (resize_longer m slot s k a delta t w b) only h er ea
+
+pub resize_not_refused : (m : Memory) (slot : Slot) (s : plain.Slot) (k a : ℕ) (delta : ℤ) (r : Result ℕ HeapFault) (f : HeapFault) → Resizes delta (block_at a s.heap) s.heap k → SpellsIn m slot (lengthened k s) → s.budging ≡ slot.budge
+    → r ≡ address_of (resize a delta (heap_in m (span_of slot))) → r ≡ Err f → ⊥
+resize_not_refused m slot s k a delta r f t w b er ef =
+    not_refused_there (resize_growing (new_size delta t.block) t.block s.heap) (resize a delta (heap_in m (span_of slot))) r f (resize_longer m slot s k a delta t w b) er ef
+
+pub resize_call-growth : (free address a k : ℕ) (delta : ℤ) (s : plain.Slot) (t : Resizes delta (block_at a s.heap) s.heap k) → a ≡ address - 33024
+    → slot_resize free address delta s ≡ after_growth free k s (with_heap (resize_growing (new_size delta t.block) t.block s.heap).heap s, 33024 + (resize_growing (new_size delta t.block) t.block s.heap).address)
+resize_call-growth free address a k delta s t e =
+    slot_resize-growth free address delta s t.block (ap (λ i. block_at i s.heap) (sym e) ∙ t.found) t.some
+    ∙ ap (λ i. after_growth free i s (with_heap (resize_growing (new_size delta t.block) t.block s.heap).heap s, 33024 + (resize_growing (new_size delta t.block) t.block s.heap).address)) (sym t.short)
+
+end_for_most : (w : Way) (t : ℕ) (s : Split Segment) (h : Heap) → place_after s.before ≤ h.end → base h ≤ h.end → end_for w t s h - h.end ≤ t
+end_for_most Stays t s h p l = omega arith
+end_for_most Shrinks t s h p l = omega arith
+end_for_most (GrowsIntoHole n rest) t s h p l = omega arith
+end_for_most GrowsAtTop t s h p l = omega arith
+end_for_most (MovesToHole hole) t s h p l = omega arith
+end_for_most MovesToTop t s h p l = omega arith
+
+cut_of : (a : ℕ) (h : Heap) (b : Split Segment) → block_at a h ≡ Some b → h.segments ≡ b.before ++ b.here ∷ b.after
+cut_of a h b e = go (block_at a h) e (first_at-cuts size_of (is_block_at a) 16 h.segments)
+  where
+    go : (o : Option (Split Segment)) → o ≡ Some b → IfSome o (IsCut size_of (is_block_at a) 16 h.segments) → h.segments ≡ b.before ++ b.here ∷ b.after
+    go None q c = absurd cc
+    go (Some x) q c = c.whole ∙ ap (λ (y : Split Segment). y.before ++ y.here ∷ y.after) (let z : x ≡ b = cc in z)
+
+-- ---- releases
+
+pub slot_release-some : (address : ℕ) (s : plain.Slot) (b : Split Segment) → heap_block_at address s ≡ Some b → slot_release address s ≡ Ok (with_heap (released b s.heap) s)
+unfolding slot_release ◌>>=◌ found_or
+slot_release-some address s b e = rw e refl
+
+pub slot_release-none : (address : ℕ) (s : plain.Slot) → heap_block_at address s ≡ None → slot_release address s ≡ Err NotABlock
+unfolding slot_release ◌>>=◌ found_or
+slot_release-none address s e = rw e refl
+
+-- a block that begins at an address, or none
+some_of : {A E B : Type 0} (o : Option A) (r : Result E B) → (IsErr r ↔ IsNone o) → (e : E) → r ≡ Ok e → (x : A) × (o ≡ Some x)
+some_of (Some x) r i e q = (x, refl)
+some_of None r i e q = absurd (let z = i.1 refl in cc)
+
+none_of : {A E B : Type 0} (o : Option A) (r : Result E B) → (IsErr r ↔ IsNone o) → (f : B) → r ≡ Err f → o ≡ None
+none_of None r i f q = refl
+none_of (Some x) r i f q = absurd (let z = i.0 (ap (λ y. is_err y) q) in cc)
+
+pub released_there : {E B : Type 0} (m n : Memory) (slot : Slot) (address a : ℕ) (r : Result E B) (e : E) → (let s = slot_in m slot in SpellsIn m slot s → a ≡ address - 33024 → (IsErr r ↔ IsNone (block_at a (heap_in m (span_of slot)))) → r ≡ Ok e
+    → OnlySpan m n (span_of slot) → Spells (bytes n slot.area.0) 256 (release a (heap_in m (span_of slot)))
+    → (◌≡◌ {A = Granted (Unit {0})} (Ok (tt {0})) (outcome_of (slot_release address s))) × SpellsIn n slot (result_or s (slot_release address s)))
+released_there m n slot address a r e w ea i q only h =
+    let s = slot_in m slot in
+    let same = heap_same m slot in
+    let b = some_of (block_at a (heap_in m (span_of slot))) r i e q in
+    let found : block_at a s.heap ≡ Some b.0 = ap (block_at a) (sym same) ∙ b.1 in
+    let call = slot_release-some address s b.0 (ap (λ k. block_at k s.heap) (sym ea) ∙ found) in
+    let heap : release a (heap_in m (span_of slot)) ≡ released b.0 s.heap = ap (release a) same ∙ ap (λ o. release_found o s.heap) found in (
+      sym (ap outcome_of call),
+      subst (SpellsIn n slot) (sym (ap (result_or s) call))
+          (SpellsSlot-with_heap (bytes m slot.area.0) (bytes n slot.area.0) s (released b.0 s.heap) w (subst (λ (x : Heap). SameOutside (bytes m slot.area.0) (bytes n slot.area.0) 256 (256 + x.end)) same only.outside) (subst (Spells (bytes n slot.area.0) 256) heap h) refl),
+    )
+
+pub release_refused : {E B : Type 0} (m n : Memory) (slot : Slot) (address a : ℕ) (r : Result E B) (f : B) → (let s = slot_in m slot in SpellsIn m slot s → a ≡ address - 33024 → (IsErr r ↔ IsNone (block_at a (heap_in m (span_of slot)))) → r ≡ Err f → n ≡ m
+    → (◌≡◌ {A = Granted (Unit {0})} (Err NotABlock) (outcome_of (slot_release address s))) × SpellsIn n slot (result_or s (slot_release address s)))
+release_refused m n slot address a r f w ea i q same =
+    let s = slot_in m slot in
+    let none = none_of (block_at a (heap_in m (span_of slot))) r i f q in
+    let call = slot_release-none address s (ap (λ k. block_at k s.heap) (sym ea) ∙ ap (block_at a) (sym (heap_same m slot)) ∙ none) in (
+      sym (ap outcome_of call),
+      subst (SpellsIn n slot) (sym (ap (result_or s) call)) (subst (λ x. SpellsIn x slot s) (sym same) w),
+    )
+
+-- ---- a call that was refused
+
+pub refused_call : (m n : Memory) (slot : Slot) (s : plain.Slot) (call : Granted (plain.Slot × ℕ)) (e : Refusal) → SpellsIn m slot s → call ≡ Err e → n ≡ m → (Err e ≡ answer_of call) × SpellsIn n slot (left_of s call)
+refused_call m n slot s call e w q same = (sym (ap answer_of q), subst (SpellsIn n slot) (sym (ap (left_of s) q)) (subst (λ x. SpellsIn x slot s) (sym same) w))
+
+-- the need of a claim in the slot's heap
+pub claim_refused : (free n : ℕ) (s : plain.Slot) (h : Heap) (f : HeapFault) → h ≡ s.heap → Err f ≡ claim_need n h → slot_claim free n s ≡ Err (refusal_of f)
+claim_refused free n s h f e q = let r = need_err n f h q in slot_claim-zero free n s r.0 ∙ ap (λ i. Err (refusal_of i)) (sym r.1)
+
+pub claim_needs : (n k : ℕ) (s : plain.Slot) (h : Heap) → h ≡ s.heap → Ok k ≡ claim_need n h → (n ≢ 0) × (k ≡ need n s.heap)
+claim_needs n k s h e q = need_ok n k s.heap (q ∙ ap (claim_need n) e)
+
+pub claim_stopped : (free n k : ℕ) (s : plain.Slot) (e : Refusal) → (n ≢ 0) × (k ≡ need n s.heap) → Gives (Err e) free k s → slot_claim free n s ≡ Err e
+claim_stopped free n k s e w g =
+    slot_claim-growth free n s w.0 ∙ growth_err free (need n s.heap) s (with_heap (claim_growing n s.heap).heap s, 33024 + (claim_growing n s.heap).address) e (subst (λ i. Gives (Err e) free i s) w.1 g)
+
+pub resize_stopped : (free address a k : ℕ) (delta : ℤ) (s : plain.Slot) (e : Refusal) (t : Resizes delta (block_at a s.heap) s.heap k) → a ≡ address - 33024 → Gives (Err e) free k s → slot_resize free address delta s ≡ Err e
+resize_stopped free address a k delta s e t q g = resize_call-growth free address a k delta s t q ∙ growth_err free k s _ e g
+
+-- ---- bounds
+
+place_low : (h : Heap) (b : Split Segment) → h.segments ≡ b.before ++ b.here ∷ b.after → place_after b.before ≤ base h
+place_low h b e = omega (arith, ap (total size_of) e, total-append size_of b.before (b.here ∷ b.after))
+
+some_low : (h : Heap) (t : ℕ) (o : Option (Split Segment)) → IfSome o (IsCut size_of (is_hole_for t) 16 h.segments) → IfSome o (λ b. place_after b.before ≤ base h)
+some_low h t None c = tt
+some_low h t (Some b) c = place_low h b c.whole
+
+hole_low : (t : ℕ) (h : Heap) → IfSome (hole_for t h.segments) (λ b. place_after b.before ≤ base h)
+hole_low t h = some_low h t (hole_for t h.segments) (first_at-cuts size_of (is_hole_for t) 16 h.segments)
+
+placed_in_low : (bs : List ℕ) (h : Heap) (o : Option (Split Segment)) → IfSome o (λ b. place_after b.before ≤ base h) → (placed_in bs h o).address ≤ base h + 4
+placed_in_low bs h None l = omega arith
+placed_in_low bs h (Some b) l = omega arith
+
+pub claim_low : (n : ℕ) (h : Heap) → (claim_growing n h).address ≤ base h + 4
+claim_low n h = placed_in_low (zeros (block_room n)) (raised (need n h) h) (hole_for (4 + length (zeros (block_room n))) h.segments) (hole_low (4 + length (zeros (block_room n))) h)
+
+-- a way that moves the block moves it below the base, or to it
+abbrev IsLow : Heap → Way → Type 0
+IsLow h (MovesToHole hole) = place_after hole.before ≤ base h
+IsLow h _ = Unit {0}
+
+beyond_low : (h : Heap) (after : List Segment) (o : Option (Split Segment)) → IfSome o (λ b. place_after b.before ≤ base h) → IsLow h (way_beyond after o)
+beyond_low h after (Some b) l = l
+beyond_low h [] None l = tt
+beyond_low h (x ∷ after) None l = tt
+
+cond_low : (h : Heap) (t : Bool) (v w : Way) → IsLow h v → IsLow h w → IsLow h (cond t v w)
+cond_low h true v w a b = a
+cond_low h false v w a b = b
+
+grow_low : (t : ℕ) (s : Split Segment) (after : List Segment) (h : Heap) → IsLow h (way_to_grow t s after h)
+grow_low t s [] h = cond_low h _ GrowsAtTop _ tt (beyond_low h [] (hole_for t h.segments) (hole_low t h))
+grow_low t s (Used bs ∷ after) h = beyond_low h (Used bs ∷ after) (hole_for t h.segments) (hole_low t h)
+grow_low t s (Hole n ∷ after) h = cond_low h _ (GrowsIntoHole n after) _ tt (beyond_low h (Hole n ∷ after) (hole_for t h.segments) (hole_low t h))
+
+way_low : (t : ℕ) (s : Split Segment) (h : Heap) → IsLow h (way_to t s h)
+way_low t s h =
+    cond_low h (eqb t (size_of s.here)) Stays (cond (ltb t (size_of s.here)) Shrinks (way_to_grow t s s.after h)) tt
+    (cond_low h (ltb t (size_of s.here)) Shrinks (way_to_grow t s s.after h) tt (grow_low t s s.after h))
+
+resized_low : (w : Way) (bs : List ℕ) (s : Split Segment) (h : Heap) → place_after s.before ≤ base h → IsLow h w → (resized_by w bs s h).address ≤ base h + 4
+resized_low Stays bs s h l i = omega arith
+resized_low Shrinks bs s h l i = omega arith
+resized_low (GrowsIntoHole n rest) bs s h l i = omega arith
+resized_low GrowsAtTop bs s h l i = omega arith
+resized_low (MovesToHole hole) bs s h l i = omega arith
+resized_low MovesToTop bs s h l i = omega arith
+
+pub resize_low : (delta : ℤ) (a k : ℕ) (h : Heap) (t : Resizes delta (block_at a h) h k) → (resize_growing (new_size delta t.block) t.block h).address ≤ base h + 4
+resize_low delta a k h t =
+    let n = new_size delta t.block in
+    resized_low (way_to (segment_size n) t.block h) (fitted (block_room n) (bytes_of t.block.here)) t.block (raised (resize_need n t.block h) h)
+    (place_low h t.block (cut_of a h t.block t.found)) (way_low (segment_size n) t.block h)
+
+pub address_low : (p : Placed) (own : Result Placed HeapFault) (r : Result ℕ HeapFault) (x : ℕ) → own ≡ Ok p → r ≡ address_of own → r ≡ Ok x → x ≡ p.address
+address_low p own r x o er ea = let same : Ok x ≡ Ok p.address = sym ea ∙ er ∙ ap address_of o in cc
+
+used_low : (h : Heap) (b : Split Segment) → h.segments ≡ b.before ++ b.here ∷ b.after → size_of b.here ≤ base h
+used_low h b e = omega (arith, ap (total size_of) e, total-append size_of b.before (b.here ∷ b.after))
+
+bytes_low : (g : Segment) → length (bytes_of g) ≤ size_of g
+bytes_low (Used bs) = omega arith
+bytes_low (Hole n) = omega arith
+
+moved_most : (n : ℕ) (delta : ℤ) → SFits w32 delta → moved n delta ≤ n + 2147483648
+moved_most n (pos k) f = let l = f.sfits in omega arith
+moved_most n (negsuc k) f = omega arith
+
+pub resize_most : (delta : ℤ) (a k : ℕ) (h : Heap) → Resizes delta (block_at a h) h k → SFits w32 delta → base h ≤ h.end → k ≤ h.end + 2147483648 + 12
+resize_most delta a k h t f l =
+    let n = new_size delta t.block in
+    let cut = cut_of a h t.block t.found in
+    let m = end_for_most (way_to (segment_size n) t.block h) (segment_size n) t.block h (let p = place_low h t.block cut in omega arith) l in
+    let b = moved_most (length (bytes_of t.block.here)) delta f in
+    let c = bytes_low t.block.here in
+    let u = used_low h t.block cut in
+    omega (arith, t.short)
+
+-- ---- the pages that a claim and a block of no bytes take
+
+pub pages_taken : (s : plain.Slot) (n : ℕ) → slot_pages (with_block 0 [] (with_heap (claim_growing n s.heap).heap s)) - slot_pages s ≡ pages_for (need n s.heap) + pages_for (slot_length s + 8) - pages_for (slot_length s)
+pages_taken s n = omega (arith, end-claim_growing n s.heap, total-append weight s.blocks (record { anchor = 0; bytes = [] } ∷ []))
+
+pub take_zero : (n : ℕ) (s : plain.Slot) (h : Heap) (f : HeapFault) → h ≡ s.heap → Err f ≡ claim_need n h → slot_take_pages n s ≡ Err (refusal_of f)
+unfolding slot_take_pages ◌>>=◌ ◌>>◌ refuse_if
+take_zero n s h f e q = let r = need_err n f h q in rw (eqb_same n 0 r.0) (ap (λ i. Err (refusal_of i)) (sym r.1))
+
+pub take_stuck : (n k : ℕ) (s : plain.Slot) → (n ≢ 0) × (k ≡ need n s.heap) → is_stuck k s ≡ true → slot_take_pages n s ≡ Err NoBudge
+unfolding slot_take_pages ◌>>=◌ ◌>>◌ refuse_if
+take_stuck n k s w e = let z = eqb_apart n 0 w.0 in let q : is_stuck (need n s.heap) s ≡ true = ap (λ i. is_stuck i s) (sym w.1) ∙ e in rw (z, q) refl
+
+pub take_done : (n k : ℕ) (s : plain.Slot) → (n ≢ 0) × (k ≡ need n s.heap) → is_stuck k s ≡ false → slot_take_pages n s ≡ Ok (pages_for k + pages_for (slot_length s + 8) - pages_for (slot_length s))
+unfolding slot_take_pages ◌>>=◌ ◌>>◌ refuse_if
+take_done n k s w e =
+    let z = eqb_apart n 0 w.0 in
+    let q : is_stuck (need n s.heap) s ≡ false = ap (λ i. is_stuck i s) (sym w.1) ∙ e in
+    rw (z, q) (ap (λ i. Ok i) (pages_taken s n ∙ ap (λ i. pages_for i + pages_for (slot_length s + 8) - pages_for (slot_length s)) (sym w.1)))

@@ -1,0 +1,312 @@
+-- What the calls that find, add and take away blocks do to the words of a slot.
+use Rattle.std.proofs.Common.{◌≡◌, ℕ, ◌+◌, ◌-◌, ◌*◌, ◌/◌, ◌<◌, ◌≤◌, ◌≢◌, ◌⊎◌, inl, inr, Bool, true, false, List, [], ◌∷◌, ◌++◌, length, replicate, ltb, refl, sym, ap, subst, ◌∙◌, arith, rules}
+use Rattle.std.proofs.lemmas.List.{append-nil, length-replicate}
+use Rattle.std.proofs.lemmas.Bool.{cases_eq, cases_lt}
+use Rattle.std.proofs.lemmas.Bool.Decides.{nat_tests}
+use Rattle.std.specs.Prelude.{is_some, Ok, Err, ◌↔◌}
+use Rattle.rh_defs.specs.declared.refusal.Refusal.{Refusal}
+use Rattle.rh_defs.specs.declared.refusal.Refusal.TheVariants.{NoBlock, AnchorInUse, NoRoom}
+use Rattle.rh_defs.specs.Bytes.{word, part, SameIn, SameOutside}
+use Rattle.rh_defs.specs.Chain.{Granted, ◌>>=◌, ◌>>◌, refuse_if, found_or, left_of, result_or}
+use Rattle.rh_defs.specs.Memory.{Memory, bytes}
+use Rattle.rh_defs.specs.Pieces.{total, pages_for, zeros, Split}
+use Rattle.rh_defs.specs.Slot.{Flex, Slot, weight, flex_weight, slot_length, slot_pages, flex_address, IsFree, HaveAnchors, without, with_block, is_used, is_too_large, roomed, slot_block, slot_size, slot_address, slot_free, slot_alloc}
+use Rattle.rh_defs.specs.SlotImage.{Lie, Hang, SlotWords, SpellsSlot, flex_place}
+use Rattle.rh_defs.proofs.Anchors.{anchors-append}
+use Rattle.rh_defs.proofs.BytesLaws.{word_same, part_same}
+use Rattle.rh_defs.proofs.HeapLists.{sum-append}
+use Rattle.rh_defs.proofs.SlotLaws.{part_of, wider, same_both, in_below, in_above, in_both, Lie-split, Lie-join, Lie-same, Hang-split, Hang-join, Hang-same, IsFree-split, IsFree-join, HaveAnchors-cut, find, block_of-none, block_of-at, Spells-same}
+use Rattle.rh_slot.specs.Places.{Row, Shifted, FoundAt, Found}
+use Rattle.rh_slot.proofs.ShiftLaws.{apart, Hang-apart}
+
+-- the slot with other blocks
+abbrev pub with_blocks : List Flex → Slot → Slot
+with_blocks blocks s = record s { blocks = blocks }
+
+-- bytes that stay up to the top keep the slot
+pub words_same : (b c : List ℕ) (s : Slot) → SameIn b c 0 (slot_length s) → slot_length s ≤ length c → SlotWords b s → SlotWords c s
+words_same b c s o l w = record {
+  heap = Spells-same b c 256 s.heap (part_of o (omega arith) (omega arith)) (omega arith) w.heap;
+  within = l;
+  lie = Lie-same b c (flex_place s) (slot_length s) s.blocks (part_of o (omega arith) (omega arith)) (omega arith) w.lie;
+  hang = Hang-same b c (flex_place s) s.blocks w.anchors (part_of o (omega arith) (omega arith)) w.hang;
+  none = λ k u v. word_same b c (4 * k) (part_of o (omega arith) (omega arith)) ∙ w.none k u v;
+  anchors = w.anchors;
+}
+
+pub words_grown : (b c : List ℕ) (s : Slot) → SpellsSlot b s → SameIn b c 0 (length b) → length b ≤ length c → SlotWords c s
+words_grown b c s x o l = let f = x.words.within in words_same b c s (part_of o (omega arith) (omega arith)) (omega arith) x.words
+
+pub paged : (d : List ℕ) (s : Slot) (t : ℕ) → SlotWords d s → slot_length s ≡ t → length d ≡ 4096 * pages_for t → SpellsSlot d s
+paged d s t w q l = record { words = w; pages = l ∙ ap (λ i. 4096 * pages_for i) (sym q) }
+
+pub settled : (d e : List ℕ) (s : Slot) (t : ℕ) → SlotWords d s → slot_length s ≡ t → SameIn d e 0 t → length e ≡ 4096 * pages_for t → SpellsSlot e s
+settled d e s t w q o l = paged e s t (words_same d e s (subst (SameIn d e 0) (sym q) o) (omega arith) w) q l
+
+-- ---- the block of an anchor
+
+-- what a word says that is not 0
+pub record Leads (b : List ℕ) (s : Slot) (k a : ℕ) : Type 0 where
+  pub least : 32776 ≤ a
+  pub within : a - 32768 - 8 + 8 ≤ length b
+  pub found : (size : ℕ) → size ≡ word b (a - 32768 - 8 + 4) → Found k s (a - 32768 - 8) size
+
+leads_at : (b : List ℕ) (s : Slot) (k a : ℕ) (xs : List Flex) (f : Flex) (ys : List Flex) → SlotWords b s → s.blocks ≡ xs ++ f ∷ ys → f.anchor ≡ k → IsFree k xs → a ≡ word b (4 * k) → Leads b s k a
+leads_at b s k a xs f ys w is e u r =
+    let l = Lie-split b (flex_place s) xs (f ∷ ys) (subst (Lie b (flex_place s)) is w.lie) in
+    let h = Hang-split b (flex_place s) xs (f ∷ ys) (subst (Hang b (flex_place s)) is w.hang) in
+    let q : a ≡ 32768 + (flex_place s + total weight xs) + 8 = r ∙ ap (λ j. word b (4 * j)) (sym e) ∙ h.1.0 in
+    let sum : total weight s.blocks ≡ total weight xs + (weight f + total weight ys) = ap (total weight) is ∙ sum-append weight xs (f ∷ ys) in
+    let fits = w.within in
+    let pl : a - 32768 - 8 ≡ flex_place s + total weight xs = omega arith in
+    record {
+      least = omega arith;
+      within = omega arith;
+      found = λ size es.
+          let long : size ≡ length f.bytes = es ∙ ap (λ j. word b (j + 4)) pl ∙ l.1.1 in
+          let wl : flex_weight size ≡ weight f = ap flex_weight long in
+          record {
+            cut = record { before = xs; here = f; after = ys };
+            at = record { is = is; anchor = e; free = u; stands = pl; long = long; low = omega arith; inside = omega arith };
+          };
+    }
+
+pub leads : (b : List ℕ) (s : Slot) (k p a : ℕ) → SlotWords b s → k < 64 → p ≡ 4 * k → a ≡ word b p → (a ≡ 0 → IsFree k s.blocks) × (a ≢ 0 → Leads b s k a)
+leads b s k p a w l ep e =
+    let r : a ≡ word b (4 * k) = e ∙ ap (word b) ep in
+    elim (find k s.blocks) [
+      | inl u ↦ ((λ z. u), (λ z. absurd (z (r ∙ w.none k l u))))
+      | inr t ↦ let x = leads_at b s k a t.before t.here t.after w t.is t.anchor t.free r in
+          ((λ z. absurd (let q = x.least in omega arith)), (λ z. x))
+    ]
+
+-- ---- blocks in the middle of the list are replaced
+Hang-kept : (b d : List ℕ) (p : ℕ) (xs mid new ys : List Flex) → HaveAnchors (xs ++ (mid ++ ys)) → HaveAnchors (xs ++ (new ++ ys))
+    → ((j : ℕ) → j < 64 → IsFree j mid → IsFree j new → IsFree j ys → word d (4 * j) ≡ word b (4 * j)) → Hang b p xs → Hang d p xs
+Hang-kept b d p [] mid new ys x y o h = tt
+Hang-kept b d p (f ∷ xs) mid new ys x y o h =
+    let u = IsFree-split f.anchor mid ys (IsFree-split f.anchor xs (mid ++ ys) x.1).1 in
+    let v = IsFree-split f.anchor new ys (IsFree-split f.anchor xs (new ++ ys) y.1).1 in
+    (o f.anchor x.0 u.0 v.0 u.1 ∙ h.0, Hang-kept b d (p + weight f) xs mid new ys x.2 y.2 o h.1)
+
+pub rebuilt : (b d : List ℕ) (s : Slot) (xs mid new ys : List Flex) (p q : ℕ)
+    → SlotWords b s → s.blocks ≡ xs ++ (mid ++ ys) → p ≡ flex_place s + total weight xs → q ≡ p + total weight new
+    → SameIn b d 256 p → q + total weight ys ≤ length d
+    → Lie d p new → Hang d p new → Lie d q ys → Hang d q ys
+    → ((j : ℕ) → j < 64 → IsFree j mid → IsFree j new → IsFree j ys → word d (4 * j) ≡ word b (4 * j))
+    → ((j : ℕ) → j < 64 → IsFree j new → IsFree j mid ⊎ (word d (4 * j) ≡ 0))
+    → HaveAnchors (xs ++ (new ++ ys))
+    → SlotWords d (with_blocks (xs ++ (new ++ ys)) s)
+rebuilt b d s xs mid new ys p q w is pp qq same fits ln hn ly hy others lost anchors =
+    let lx = (Lie-split b (flex_place s) xs (mid ++ ys) (subst (Lie b (flex_place s)) is w.lie)).0 in
+    let hx = (Hang-split b (flex_place s) xs (mid ++ ys) (subst (Hang b (flex_place s)) is w.hang)).0 in
+    let old = subst HaveAnchors is w.anchors in
+    let sum : total weight (xs ++ (new ++ ys)) ≡ total weight xs + (total weight new + total weight ys) = sum-append weight xs (new ++ ys) ∙ ap (λ n. total weight xs + n) (sum-append weight new ys) in
+    record {
+      heap = Spells-same b d 256 s.heap (part_of same (omega arith) (omega arith)) (omega arith) w.heap;
+      within = omega arith;
+      lie = Lie-join d (flex_place s) p xs (new ++ ys) pp (Lie-same b d (flex_place s) p xs (part_of same (omega arith) (omega arith)) (omega arith) lx) (Lie-join d p q new ys qq ln ly);
+      hang = Hang-join d (flex_place s) p xs (new ++ ys) pp (Hang-kept b d (flex_place s) xs mid new ys old anchors others hx) (Hang-join d p q new ys qq hn hy);
+      none = λ j u v.
+          let a = IsFree-split j xs (new ++ ys) v in
+          let r = IsFree-split j new ys a.1 in
+          elim (lost j u r.0) [
+            | inl m ↦ others j u m r.0 r.1 ∙ w.none j u (subst (IsFree j) (sym is) (IsFree-join j xs (mid ++ ys) a.0 (IsFree-join j mid ys m r.1)))
+            | inr z ↦ z
+          ];
+      anchors = anchors;
+    }
+
+-- where the blocks above a block begin, and how many bytes they take
+pub reach : (s : Slot) (k place size w t : ℕ) (cut : Split Flex) → FoundAt k s place size cut → w ≡ flex_weight size → t ≡ slot_length s → place + w + (t - (place + w)) ≡ slot_length s
+reach s k place size w t cut f ew et = let i = f.inside in omega arith
+
+-- the blocks above a block
+pub above : (b : List ℕ) (s : Slot) (k place size from n : ℕ) (cut : Split Flex) → SlotWords b s → FoundAt k s place size cut → from ≡ place + flex_weight size → from + n ≡ slot_length s
+    → Lie b from cut.after × (total weight cut.after ≡ n) × HaveAnchors cut.after
+above b s k place size from n cut w t ef en =
+    let is = t.is in
+    let sum : total weight s.blocks ≡ total weight cut.before + (weight cut.here + total weight cut.after) = ap (total weight) is ∙ sum-append weight cut.before (cut.here ∷ cut.after) in
+    let l = (Lie-split b (flex_place s) cut.before (cut.here ∷ cut.after) (subst (Lie b (flex_place s)) is w.lie)).1.3 in
+    let st = t.stands in
+    let wl : flex_weight size ≡ weight cut.here = ap flex_weight t.long in
+    let e : flex_place s + total weight cut.before + weight cut.here ≡ from = omega arith in
+    (subst (λ p. Lie b p cut.after) e l, omega arith, (HaveAnchors-cut cut.before cut.here cut.after (subst HaveAnchors is w.anchors)).above)
+
+pub row_above : (b : List ℕ) (s : Slot) (k place size from n : ℕ) → SlotWords b s → Found k s place size → from ≡ place + flex_weight size → from + n ≡ slot_length s → Row b from n
+row_above b s k place size from n w t ef en =
+    let a = above b s k place size from n t.cut w t.at ef en in
+    record { blocks = t.cut.after; lie = a.0; sum = a.1; anchors = a.2 }
+
+-- a block goes, and those above it slide down
+pub freed : (b c d : List ℕ) (s : Slot) (k p place size from n : ℕ) (cut : Split Flex) → SlotWords b s → FoundAt k s place size cut → k < 64 → p ≡ 4 * k → from ≡ place + flex_weight size → from + n ≡ slot_length s
+    → ((fs : List Flex) → Lie b from fs → total weight fs ≡ n → Shifted b c place fs) → SameIn b c 256 place → length c ≡ length b
+    → SameOutside c d p (p + 4) → word d p ≡ 0
+    → SlotWords d (without cut s) × (slot_length (without cut s) ≡ place + n)
+freed b c d s k p place size from n cut w t l ep ef en sh same len op zp =
+    let o : SameOutside c d (4 * k) (4 * k + 4) = subst (λ i. SameOutside c d i (i + 4)) ep op in
+    let z : word d (4 * k) ≡ 0 = ap (word d) (sym ep) ∙ zp in
+    let row = above b s k place size from n cut w t ef en in
+    let xs = cut.before in
+    let f = cut.here in
+    let ys = cut.after in
+    let apart_of = HaveAnchors-cut xs f ys (subst HaveAnchors t.is w.anchors) in
+    let e = t.anchor in
+    let sum : total weight ys ≡ n = row.1 in
+    let x = sh ys row.0 sum in
+    let st = t.stands in
+    let fits = w.within in
+    let low = t.low in (
+      rebuilt b d s xs (f ∷ []) [] ys place place w t.is st (omega arith)
+          (in_both same (in_above o (omega arith))) (let dl = o.len in omega arith) tt tt
+          (Lie-same c d place (place + total weight ys) ys (in_above o (omega arith)) (omega arith) x.lie)
+          (Hang-apart c d place k ys o (subst (λ j. IsFree j ys) e apart_of.after) x.hung.hang)
+          (λ j u m v y. apart c d j k o (λ q. m.0 (e ∙ sym q)) ∙ x.hung.others j u y)
+          (λ j u v. elim (cases_eq j k) [ inl q ↦ inr (ap (λ i. word d (4 * i)) q ∙ z) | inr q ↦ inl ((λ r. q (sym r ∙ e)), tt) ])
+          apart_of.rest,
+      (let both : total weight (xs ++ ys) ≡ total weight xs + total weight ys = sum-append weight xs ys in omega arith),
+    )
+
+-- the words of a new block are written one after another
+pub alloced : (b b1 b2 b3 d : List ℕ) (s : Slot) (k p n t : ℕ) → SlotWords b s → IsFree k s.blocks → k < 64 → p ≡ 4 * k → t ≡ slot_length s → t + flex_weight n ≤ length b
+    → word b1 t ≡ 32768 + p → SameOutside b b1 t (t + 4)
+    → word b2 (t + 4) ≡ n → SameOutside b1 b2 (t + 4) (t + 4 + 4)
+    → part b3 (t + 8) n ≡ replicate n 0 → SameOutside b2 b3 (t + 8) (t + 8 + n)
+    → word d p ≡ 32768 + t + 8 → SameOutside b3 d p (p + 4)
+    → SlotWords d (with_block k (zeros n) s) × (slot_length (with_block k (zeros n) s) ≡ t + flex_weight n)
+alloced b b1 b2 b3 d s k p n t w u l ep e fits h0 o0 h1 o1 h2 o2 hp op =
+    let o3 : SameOutside b3 d (4 * k) (4 * k + 4) = subst (λ i. SameOutside b3 d i (i + 4)) ep op in
+    let h3 : word d (4 * k) ≡ 32768 + t + 8 = ap (word d) (sym ep) ∙ hp in
+    let f : Flex = record { anchor = k; bytes = zeros n } in
+    let ln = length-replicate {A = ℕ} n 0 in
+    let wl : weight f ≡ flex_weight n = ap flex_weight ln in
+    let big : SameOutside b b3 t (t + 8 + n) = same_both (wider o0 (omega arith) (omega arith)) (same_both (wider o1 (omega arith) (omega arith)) (wider o2 (omega arith) (omega arith))) in
+    let a0 : word d t ≡ 32768 + 4 * k =
+    word_same b3 d t (in_above o3 (omega arith)) ∙ word_same b2 b3 t (in_below o2 (omega arith)) ∙ word_same b1 b2 t (in_below o1 (omega arith)) ∙ h0 ∙ ap (λ i. 32768 + i) ep in
+    let a1 : word d (t + 4) ≡ length (zeros n) =
+    word_same b3 d (t + 4) (in_above o3 (omega arith)) ∙ word_same b2 b3 (t + 4) (in_below o2 (omega arith)) ∙ h1 ∙ sym ln in
+    let a2 : part d (t + 8) (length (zeros n)) ≡ zeros n =
+    ap (part d (t + 8)) ln ∙ part_same b3 d (t + 8) n (in_above o3 (omega arith)) ∙ h2 in
+    let len : length d ≡ length b = o3.len ∙ big.len in (
+      rebuilt b d s s.blocks [] (f ∷ []) [] t (t + flex_weight n) w (sym (append-nil s.blocks)) e (omega arith)
+          (in_both (in_below big (omega arith)) (in_above o3 (omega arith))) (omega arith)
+          (a0, a1, a2, tt) (h3, tt) tt tt
+          (λ j v m x y. apart b3 d j k o3 (λ q. x.0 (sym q)) ∙ word_same b b3 (4 * j) (in_below big (omega arith)))
+          (λ j v x. inl tt)
+          (anchors-append s.blocks f w.anchors u l),
+      (let both = sum-append weight s.blocks (f ∷ []) in omega arith),
+    )
+
+-- ---- what the calls answer
+pub ltb_yes : (x y : ℕ) → x < y → ltb x y ≡ true
+ltb_yes x y h = grind (arith, nat_tests)
+
+pub ltb_no : (x y : ℕ) → y ≤ x → ltb x y ≡ false
+ltb_no x y h = grind (arith, nat_tests)
+
+pub refused : {B : Type 0} (t : Bool) (r : Refusal) (rest : Granted B) → t ≡ true → (refuse_if t r >> rest) ≡ Err r
+unfolding ◌>>=◌ ◌>>◌ refuse_if
+refused t r rest e = ap (λ i. refuse_if i r >> rest) e
+
+pub passed : {B : Type 0} (t : Bool) (r : Refusal) (rest : Granted B) → t ≡ false → (refuse_if t r >> rest) ≡ rest
+unfolding ◌>>=◌ ◌>>◌ refuse_if
+passed t r rest e = ap (λ i. refuse_if i r >> rest) e
+
+pub block_none : (k : ℕ) (s : Slot) → IsFree k s.blocks → slot_block k s ≡ Err NoBlock
+unfolding slot_block found_or
+block_none k s u = ap (λ o. found_or o NoBlock) (block_of-none k s u)
+
+pub block_at : (k : ℕ) (s : Slot) (place size : ℕ) (cut : Split Flex) → FoundAt k s place size cut → slot_block k s ≡ Ok cut
+unfolding slot_block found_or
+block_at k s place size cut t = ap (λ o. found_or o NoBlock) (block_of-at k s cut t.is t.free t.anchor)
+
+-- a call that begins with the anchor's block
+pub then_none : {B : Type 0} (k : ℕ) (s : Slot) (next : Split Flex → Granted B) → IsFree k s.blocks → (slot_block k s >>= next) ≡ Err NoBlock
+unfolding ◌>>=◌
+then_none k s next u = ap (λ (o : Granted (Split Flex)). o >>= next) (block_none k s u)
+
+pub then_at : {B : Type 0} (k : ℕ) (s : Slot) (place size : ℕ) (cut : Split Flex) (next : Split Flex → Granted B) → FoundAt k s place size cut → (slot_block k s >>= next) ≡ next cut
+unfolding ◌>>=◌
+then_at k s place size cut next t = ap (λ (o : Granted (Split Flex)). o >>= next) (block_at k s place size cut t)
+
+pub size_none : (k : ℕ) (s : Slot) → IsFree k s.blocks → slot_size k s ≡ Err NoBlock
+unfolding slot_size
+size_none k s u = then_none k s _ u
+
+pub size_found : (k : ℕ) (s : Slot) (place size : ℕ) → Found k s place size → slot_size k s ≡ Ok size
+unfolding slot_size
+size_found k s place size t = then_at k s place size t.cut _ t.at ∙ ap (λ (n : ℕ). Ok n) (sym t.at.long)
+
+pub address_none : (k : ℕ) (s : Slot) → IsFree k s.blocks → slot_address k s ≡ Err NoBlock
+unfolding slot_address
+address_none k s u = then_none k s _ u
+
+pub address_found : (k : ℕ) (s : Slot) (place size : ℕ) → Found k s place size → slot_address k s ≡ Ok (32768 + place + 8)
+unfolding slot_address
+address_found k s place size t = then_at k s place size t.cut _ t.at ∙ ap (λ (n : ℕ). Ok n) (let st = t.at.stands in omega arith)
+
+pub free_none : (k : ℕ) (s : Slot) → IsFree k s.blocks → slot_free k s ≡ Err NoBlock
+unfolding slot_free
+free_none k s u = then_none k s _ u
+
+pub free_at : (k : ℕ) (s : Slot) (place size : ℕ) (cut : Split Flex) → FoundAt k s place size cut → slot_free k s ≡ Ok (without cut s)
+unfolding slot_free
+free_at k s place size cut t = then_at k s place size cut _ t
+
+pub alloc_used : (free k : ℕ) (bytes : List ℕ) (s : Slot) (place size : ℕ) → Found k s place size → slot_alloc free k bytes s ≡ Err AnchorInUse
+unfolding slot_alloc
+alloc_used free k bytes s place size t = refused (is_used k s) AnchorInUse _ (ap is_some (block_of-at k s t.cut t.at.is t.at.free t.at.anchor))
+
+alloc_free : (free k : ℕ) (bytes : List ℕ) (s : Slot) → IsFree k s.blocks → slot_alloc free k bytes s ≡ roomed free s (with_block k bytes s) (flex_address s s.blocks)
+unfolding slot_alloc
+alloc_free free k bytes s u = passed (is_used k s) AnchorInUse _ (ap is_some (block_of-none k s u))
+
+pub alloc_full : (free k : ℕ) (bytes : List ℕ) (s : Slot) → IsFree k s.blocks → free < slot_pages (with_block k bytes s) - slot_pages s → slot_alloc free k bytes s ≡ Err NoRoom
+unfolding roomed
+alloc_full free k bytes s u h = alloc_free free k bytes s u ∙ refused (is_too_large free s (with_block k bytes s)) NoRoom _ (ltb_yes free (slot_pages (with_block k bytes s) - slot_pages s) h)
+
+pub alloc_done : (free k : ℕ) (bytes : List ℕ) (s : Slot) (a : ℕ) → IsFree k s.blocks → slot_pages (with_block k bytes s) - slot_pages s ≤ free → a ≡ flex_address s s.blocks
+    → slot_alloc free k bytes s ≡ Ok (with_block k bytes s, a)
+unfolding roomed
+alloc_done free k bytes s a u h e =
+    alloc_free free k bytes s u ∙ passed (is_too_large free s (with_block k bytes s)) NoRoom _ (ltb_no free (slot_pages (with_block k bytes s) - slot_pages s) h)
+    ∙ ap (λ (n : ℕ). Ok (with_block k bytes s, n)) (sym e)
+
+-- the pages that a new block needs
+pub pages_more : (b : List ℕ) (s : Slot) (k n t w : ℕ) → length b ≡ 4096 * slot_pages s → t ≡ slot_length s → w ≡ flex_weight n
+    → pages_for (t + w) - length b / 4096 ≡ slot_pages (with_block k (zeros n) s) - slot_pages s
+pages_more b s k n t w l et ew =
+    let q : length b / 4096 ≡ slot_pages s = omega arith in
+    let ln : flex_weight (length (zeros n)) ≡ flex_weight n = ap flex_weight (length-replicate {A = ℕ} n 0) in
+    let sum = sum-append weight s.blocks (record { anchor = k; bytes = zeros n } ∷ []) in
+    let top : t + w ≡ slot_length (with_block k (zeros n) s) = omega arith in
+    rw (q, top) refl
+
+-- whether pages were refused, by what the slot wants
+pub has_room : {P : Type 0} (free x y : ℕ) → (P ↔ (free < x)) → (P → ⊥) → x ≡ y → y ≤ free
+has_room free x y d n e = elim (cases_lt free x) [ inl l ↦ absurd (n (d.1 l)) | inr l ↦ omega arith ]
+
+pub has_none : {P : Type 0} (free x y : ℕ) → (P ↔ (free < x)) → P → x ≡ y → free < y
+has_none free x y d n e = let l = d.0 n in omega arith
+
+pub false-true : false ≡ true → ⊥
+false-true e = search rules
+
+-- ---- what the calls leave
+pub left_ok : (b : List ℕ) (old new : Slot) (a : ℕ) (r : Granted (Slot × ℕ)) → r ≡ Ok (new, a) → SpellsSlot b new → SpellsSlot b (left_of old r)
+left_ok b old new a r e h = subst (λ (i : Granted (Slot × ℕ)). SpellsSlot b (left_of old i)) (sym e) h
+
+pub left_err : (b : List ℕ) (old : Slot) (x : Refusal) (r : Granted (Slot × ℕ)) → r ≡ Err x → SpellsSlot b old → SpellsSlot b (left_of old r)
+left_err b old x r e h = subst (λ (i : Granted (Slot × ℕ)). SpellsSlot b (left_of old i)) (sym e) h
+
+pub result_ok : (b : List ℕ) (old new : Slot) (r : Granted Slot) → r ≡ Ok new → SpellsSlot b new → SpellsSlot b (result_or old r)
+result_ok b old new r e h = subst (λ (i : Granted Slot). SpellsSlot b (result_or old i)) (sym e) h
+
+pub result_err : (b : List ℕ) (old : Slot) (x : Refusal) (r : Granted Slot) → r ≡ Err x → SpellsSlot b old → SpellsSlot b (result_or old r)
+result_err b old x r e h = subst (λ (i : Granted Slot). SpellsSlot b (result_or old i)) (sym e) h
+
+pub result_same : (b : List ℕ) (old : Slot) (r q : Granted Slot) → r ≡ q → SpellsSlot b (result_or old q) → SpellsSlot b (result_or old r)
+result_same b old r q e h = subst (λ (i : Granted Slot). SpellsSlot b (result_or old i)) (sym e) h
+
+pub kept : (m n : Memory) (id : ℕ) (s : Slot) → n ≡ m → SpellsSlot (bytes m id) s → SpellsSlot (bytes n id) s
+kept m n id s e h = subst (λ (i : Memory). SpellsSlot (bytes i id) s) (sym e) h

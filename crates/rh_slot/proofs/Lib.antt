@@ -1,0 +1,9 @@
+pub mod PageLaws
+pub mod ShiftLaws
+pub mod FlexLaws
+pub mod EditLaws
+pub mod WalkLaws
+pub mod SpanLaws
+pub mod LifeLaws
+pub mod GrowLaws
+pub mod CallLaws

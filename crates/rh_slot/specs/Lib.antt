@@ -1,0 +1,4 @@
+pub mod Area
+pub mod Places
+pub mod Walks
+pub mod Growth

@@ -1,0 +1,67 @@
+//! Flex blocks that come and go.
+ghost use Rattle.std.specs.Prelude.{◌≡◌, ◌<◌, OnErr};
+ghost use Rattle.rh_defs.specs.Chain.{answer_of, left_of, outcome_of, result_or};
+ghost use Rattle.rh_defs.specs.Memory.{Memory, OnlyArea};
+ghost use Rattle.rh_defs.specs.Pieces.{zeros};
+ghost use Rattle.rh_defs.specs.Slot.{slot_alloc, slot_free};
+ghost use Rattle.rh_slot.specs.Area.{IsSlot, SpellsIn, slot_in};
+
+use crate::locating::{SLOT_START, locate, word_place};
+use crate::paging::{grow_to, trim};
+use crate::sizing::weight_of;
+use crate::sliding::shift;
+use crate::slot::Slot;
+use crate::walking::top_of;
+use crate::words::{clear, write};
+use rh_defs::{Anchor, Refusal};
+use rh_store::Store;
+
+impl Slot {
+    /// Puts a block of `n` zeros on top and answers its address, from &8000 on. Refused: `AnchorInUse` where the
+    /// anchor has a block, `NoRoom` where too few pages are free. (flex_alloc.)
+    pub fn alloc<S: Store>(self, store: &mut S, anchor: Anchor, n: u32) -> Result<usize, Refusal>
+        requires slot { IsSlot (S.memory store.old) self }
+        requires anchor { anchor < 64 }
+        ensures answer { result ≡ answer_of (slot_alloc (S.memory store.old).free anchor (zeros n) (slot_in (S.memory store.old) self)) }
+        ensures spells { SpellsIn (S.memory store.new) self (left_of (slot_in (S.memory store.old) self)
+            (slot_alloc (S.memory store.old).free anchor (zeros n) (slot_in (S.memory store.old) self))) }
+        ensures only { OnlyArea (S.memory store.old) (S.memory store.new) self.area.0 }
+        ensures err { OnErr result (S.memory store.new ≡ S.memory store.old) }
+    {
+        if let Some(_) = locate(store, self, anchor) {
+            return Err(Refusal::AnchorInUse);
+        }
+        let size = n as usize;
+        let top = top_of(store, self);
+        let Ok(()) = grow_to(store, self.area, top + weight_of(size)) else {
+            return Err(Refusal::NoRoom);
+        };
+        let word = word_place(anchor);
+        write(store, self.area, top, SLOT_START + word);
+        write(store, self.area, top + 4, size);
+        clear(store, self.area, top + 8, size);
+        write(store, self.area, word, SLOT_START + top + 8);
+        Ok(SLOT_START + top + 8)
+    }
+
+    /// Takes the anchor's block away; those above it come down. Refused (`NoBlock`) where it has none. (flex_free.)
+    pub fn free<S: Store>(self, store: &mut S, anchor: Anchor) -> Result<(), Refusal>
+        requires slot { IsSlot (S.memory store.old) self }
+        requires anchor { anchor < 64 }
+        ensures answer { result ≡ outcome_of (slot_free anchor (slot_in (S.memory store.old) self)) }
+        ensures spells { SpellsIn (S.memory store.new) self (result_or (slot_in (S.memory store.old) self)
+            (slot_free anchor (slot_in (S.memory store.old) self))) }
+        ensures only { OnlyArea (S.memory store.old) (S.memory store.new) self.area.0 }
+        ensures err { OnErr result (S.memory store.new ≡ S.memory store.old) }
+    {
+        let Some(spot) = locate(store, self, anchor) else {
+            return Err(Refusal::NoBlock);
+        };
+        let from = spot.place + weight_of(spot.size);
+        let above = top_of(store, self) - from;
+        shift(store, self.area, from, spot.place, above);
+        write(store, self.area, word_place(anchor), 0);
+        trim(store, self.area, spot.place + above);
+        Ok(())
+    }
+}

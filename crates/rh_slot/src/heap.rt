@@ -1,0 +1,36 @@
+//! The C heap of a slot.
+ghost use Rattle.std.specs.Prelude.{◌≡◌};
+ghost use Rattle.rh_slot.specs.Growth.{refusal_of};
+
+use crate::slot::Slot;
+use rh_defs::{HeapFault, Refusal};
+use rh_heap::Span;
+
+/// Where the C heap begins in a slot's area, behind the 64 anchor words.
+pub const HEAP_PLACE: usize = 256;
+
+/// The address of the C heap's first byte. A block's address is this and its address in the heap.
+pub const HEAP_START: usize = 0x8100;
+
+/// Where the C heap stands.
+pub fn heap_of(slot: Slot) -> Span
+    ensures { result ≡ record { area = slot.area; at = 256 } }
+{
+    Span {
+        area: slot.area,
+        at: HEAP_PLACE,
+    }
+}
+
+/// The refusal that stands for a fault of the C heap.
+pub fn refusal_of(fault: HeapFault) -> Refusal
+    ensures { result ≡ refusal_of fault }
+{
+    match fault {
+        HeapFault::NotABlock => Refusal::NotABlock,
+        HeapFault::BadSize => Refusal::BadSize,
+        HeapFault::NoRoom => Refusal::NoRoom,
+        HeapFault::ExcessiveShrink => Refusal::ExcessiveShrink,
+        HeapFault::BadDescriptor | HeapFault::BadLink => Refusal::NotABlock,
+    }
+}

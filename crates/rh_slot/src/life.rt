@@ -1,0 +1,59 @@
+//! How a slot begins and ends, and whether its blocks give way.
+ghost use Rattle.std.specs.Prelude.{◌≡◌, ℕ, ◌+◌, ◌<◌, true, IfOk, OnErr, IsNone};
+ghost use Rattle.rh_defs.specs.Memory.{Memory, IsOpen, OnlyArea, bytes, closed, open_below};
+ghost use Rattle.rh_defs.specs.Chain.{outcome_of};
+ghost use Rattle.rh_defs.specs.Slot.{new_slot, slot_begin, slot_set_budge};
+ghost use Rattle.rh_store.specs.declared.store.TheConstants.{MAX_AREAS};
+ghost use Rattle.rh_slot.specs.Area.{slot_in, SpellsIn};
+
+use crate::heap::{HEAP_PLACE, heap_of};
+use crate::slot::Slot;
+use rh_defs::Refusal;
+use rh_store::{PAGE, Store};
+
+impl Slot {
+    /// Opens an area and makes it a slot with no block, budging on. Refused (`NoRoom`), and nothing changed, where no
+    /// page is free.
+    pub fn start<S: Store>(store: &mut S) -> Result<Slot, Refusal>
+        requires { open_below (S.memory store.old).area MAX_AREAS < MAX_AREAS }
+        ensures answer { outcome_of result ≡ outcome_of (slot_begin (S.memory store.old).free) }
+        ensures spells { IfOk result (λ slot. SpellsIn (S.memory store.new) slot new_slot) }
+        ensures budge { IfOk result (λ slot. slot.budge ≡ true) }
+        ensures closed { IfOk result (λ slot. IsNone ((S.memory store.old).area slot.area.0)) }
+        ensures number { IfOk result (λ slot. slot.area.0 < MAX_AREAS) }
+        ensures least { IfOk result (λ slot. (k : ℕ) → k < slot.area.0 → IsOpen (S.memory store.old) k) }
+        ensures only { IfOk result (λ slot. OnlyArea (S.memory store.old) (S.memory store.new) slot.area.0) }
+        ensures err { OnErr result (S.memory store.new ≡ S.memory store.old) }
+    {
+        if store.free_pages() == 0 {
+            return Err(Refusal::NoRoom);
+        }
+        let Ok(area) = store.open() else {
+            return Err(Refusal::NoRoom);
+        };
+        // A page is free.
+        let _ = store.grow(area, 1);
+        let slot = Slot { area, budge: true };
+        rh_heap::init(store, heap_of(slot), PAGE - HEAP_PLACE);
+        Ok(slot)
+    }
+
+    /// Closes the slot's area; its pages are free from then on.
+    pub fn end<S: Store>(self, store: &mut S)
+        requires { IsOpen (S.memory store.old) self.area.0 }
+        ensures { S.memory store.new ≡ closed (S.memory store.old) self.area.0 }
+    {
+        store.close(self.area);
+    }
+
+    /// Turns budging on or off, and answers whether it was on. (flex_set_budge.)
+    pub fn set_budge(&mut self, on: bool) -> bool
+        ensures slot { self.new ≡ record { area = self.old.area; budge = on } }
+        ensures answer { result ≡ self.old.budge }
+        ensures spelled { (m : Memory) → (slot_in m self.new, result) ≡ slot_set_budge on (slot_in m self.old) }
+    {
+        let was = self.budge;
+        self.budge = on;
+        was
+    }
+}

@@ -1,0 +1,62 @@
+//! The words and bytes of an area. Places are in bytes from the area's first one.
+ghost use Rattle.std.specs.Prelude.{◌≡◌, ℕ, ◌+◌, ◌^◌, ◌<◌, ◌≤◌, length, replicate};
+ghost use Rattle.rh_defs.specs.Bytes.{word, part, put};
+ghost use Rattle.rh_defs.specs.Memory.{Memory, IsOpen, Edited, bytes};
+ghost use Rattle.rh_defs.proofs.SlotLaws.{Carried};
+
+use rh_store::{AreaId, Store};
+
+/// The word at a place.
+pub fn read<S: Store>(store: &S, area: AreaId, place: usize) -> usize
+    requires opened { IsOpen (S.memory store.now) area.0 }
+    requires within { place + 4 ≤ length (bytes (S.memory store.now) area.0) }
+    ensures value { result ≡ word (bytes (S.memory store.now) area.0) place }
+    ensures bound { result < 2 ^ 32 }
+{
+    store.word(area, place) as usize
+}
+
+/// Writes a word at a place.
+#[tactic(auto, using(rh_defs::proofs::BytesLaws::word_laws, rh_defs::proofs::MemoryLaws::memory_laws))]
+pub fn write<S: Store>(store: &mut S, area: AreaId, place: usize, w: usize)
+    requires opened { IsOpen (S.memory store.old) area.0 }
+    requires within { place + 4 ≤ length (bytes (S.memory store.old) area.0) }
+    requires fits { w < 2 ^ 32 }
+    ensures word { word (bytes (S.memory store.new) area.0) place ≡ w }
+    ensures only { Edited (S.memory store.old) (S.memory store.new) area.0 place (place + 4) }
+{
+    store.set_word(area, place, w as u32);
+}
+
+/// Writes `n` zeros from a place on.
+#[tactic(auto, using(rh_defs::proofs::BytesLaws::word_laws, rh_defs::proofs::MemoryLaws::memory_laws))]
+pub fn clear<S: Store>(store: &mut S, area: AreaId, place: usize, n: usize)
+    requires opened { IsOpen (S.memory store.old) area.0 }
+    requires within { place + n ≤ length (bytes (S.memory store.old) area.0) }
+    ensures block { part (bytes (S.memory store.new) area.0) place n ≡ replicate n 0 }
+    ensures only { Edited (S.memory store.old) (S.memory store.new) area.0 place (place + n) }
+{
+    store.zero(area, place, n);
+}
+
+/// Moves `n` bytes. The two ranges may overlap.
+pub fn slide<S: Store>(store: &mut S, area: AreaId, from: usize, to: usize, n: usize)
+    requires opened { IsOpen (S.memory store.old) area.0 }
+    requires source { from + n ≤ length (bytes (S.memory store.old) area.0) }
+    requires target { to + n ≤ length (bytes (S.memory store.old) area.0) }
+    ensures carried { Carried (bytes (S.memory store.old) area.0) (bytes (S.memory store.new) area.0) from to n }
+    ensures only { Edited (S.memory store.old) (S.memory store.new) area.0 to (to + n) }
+{
+    store.slide(area, from, to, n);
+}
+
+/// Writes bytes that were lent, from a place on.
+#[tactic(auto, using(rh_defs::proofs::MemoryLaws::memory_laws))]
+pub fn write_bytes<S: Store>(store: &mut S, area: AreaId, place: usize, from: &[u8])
+    requires opened { IsOpen (S.memory store.old) area.0 }
+    requires within { place + length from.now ≤ length (bytes (S.memory store.old) area.0) }
+    ensures value { bytes (S.memory store.new) area.0 ≡ put (bytes (S.memory store.old) area.0) place from.now }
+    ensures only { Edited (S.memory store.old) (S.memory store.new) area.0 place (place + length from.now) }
+{
+    store.copy_in(area, place, from);
+}
