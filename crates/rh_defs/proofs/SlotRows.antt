@@ -153,7 +153,7 @@ module_answers h (c ∷ calls) = (module_called h c).1 ∷ module_answers (modul
 
 -- blocks that make the area grow, and an area that shrinks
 pub module_blocks : module_answers (empty_heap 4096) (ModuleClaim 4076 ∷ ModuleClaim 1 ∷ Change (negsuc 4095) ∷ ModuleFree 0x1004 ∷ Change (negsuc 4095) ∷ ModuleFree 0x1004
-        ∷ ModuleResize 0x14 (pos 4096) ∷ ModuleResize 0x14 (negsuc 8171) ∷ ModuleClaim 0 ∷ ModuleClaim 2147483647 ∷ [])
+    ∷ ModuleResize 0x14 (pos 4096) ∷ ModuleResize 0x14 (negsuc 8171) ∷ ModuleClaim 0 ∷ ModuleClaim 2147483647 ∷ [])
     ≡ Ok 0x14 ∷ Ok 0x1004 ∷ Err ExcessiveShrink ∷ Ok 0 ∷ Ok 4096 ∷ Err NotABlock ∷ Ok 0x14 ∷ Err BadSize ∷ Err BadSize ∷ Err NoRoom ∷ []
 unfolding module_area.computing chain.computing
 module_blocks = refl

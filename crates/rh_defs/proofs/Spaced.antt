@@ -13,7 +13,6 @@ pub all-mono : {A : Type 0} {P Q : A → Type 0} (f : (x : A) → P x → Q x) (
 all-mono f [] all = tt
 all-mono f (x ∷ xs) all = (f x all.0, all-mono f xs all.1)
 
-
 -- within a wider range
 pub widened : (a b c d : ℕ) (spans : List Span) → c ≤ a → b ≤ d → AllByRecursion (IsWithin a b) spans → AllByRecursion (IsWithin c d) spans
 widened a b c d spans low high all = all-mono (λ span w. (omega (arith, w.0), omega (arith, w.1))) spans all
@@ -64,7 +63,7 @@ apart-join from between to (a ∷ spans) more f g p q =
 pub slot-laid_out : (s : Slot) → IsSlot s → AreLaidOut slot_start (page * slot_pages s) (slot_spans s)
 slot-laid_out s is =
     let lower = widened _ _ heap_start (flex_start s) (heap_spans (heap_start + first_place) s.heap.segments) (omega arith) (omega (arith, is.heap.fits))
-        (heap_spans-within (heap_start + first_place) s.heap.segments) in
+    (heap_spans-within (heap_start + first_place) s.heap.segments) in
     let upper = flex_spans-within (flex_start s) s.blocks in
     record {
       apart = apart-join heap_start (flex_start s) (flex_start s + total weight s.blocks) _ _ lower upper

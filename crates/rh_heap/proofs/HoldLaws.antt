@@ -50,8 +50,8 @@ hold_at b at h x n from place next w (Used bs ∷ ys) er (next_used _ _ off read
             (passes_one x n place passed (Used bs) w.none w.reached.place_is (ap (is_inside x n (place + 4)) (sym (room size es)) ∙ f));
       });
       inside = λ _ size es f.
-        ap (λ l. is_some (first_at size_of (is_around x n) 16 l)) (w.reached.is ∙ ap (λ l. passed ++ l) er)
-        ∙ ap (λ o. is_some o) (first_at-found size_of (is_around x n) 16 passed (Used bs) ys w.none
+          ap (λ l. is_some (first_at size_of (is_around x n) 16 l)) (w.reached.is ∙ ap (λ l. passed ++ l) er)
+          ∙ ap (λ o. is_some o) (first_at-found size_of (is_around x n) 16 passed (Used bs) ys w.none
           (ap (λ p. is_inside x n (p + 4) (length bs)) (sym w.reached.place_is) ∙ ap (is_inside x n (place + 4)) (sym (room size es)) ∙ f));
     }
 hold_at b at h x n from place next w (Hole m ∷ ys) er (next_hole _ _ here read fits least r e) = record {
@@ -59,12 +59,16 @@ hold_at b at h x n from place next w (Hole m ∷ ys) er (next_hole _ _ here read
   used = λ off. absurd (off here);
   past = λ off. absurd (off here);
   inside = λ off. absurd (off here);
-  hole = λ _ size es. (omega arith, omega arith, subst (λ i. Passed at h x n place (place + i)) (sym (es ∙ read)) (record {
-    link = from;
-    low = place;
-    reached = r;
-    none = subst (NonePass size_of (is_around x n) 16) (sym e) (passes_one x n place (w.reached.front ++ w.reached.gap) (Hole m) w.none w.reached.place_is refl);
-  }));
+  hole = λ _ size es. (
+    omega arith,
+    omega arith,
+    subst (λ i. Passed at h x n place (place + i)) (sym (es ∙ read)) (record {
+      link = from;
+      low = place;
+      reached = r;
+      none = subst (NonePass size_of (is_around x n) 16) (sym e) (passes_one x n place (w.reached.front ++ w.reached.gap) (Hole m) w.none w.reached.place_is refl);
+    }),
+  );
 }
 
 pub hold : (b : List ℕ) (at : ℕ) (h : Heap) (x n from place next base' : ℕ) → Spells b at h → Passed at h x n from place → base' ≡ word b (at + 8) → place < base' → LinksTo b at (at + from) next
@@ -84,4 +88,4 @@ not_held b at h x n from place base' s w eb le =
     let e = s.base in
     let none = no_segments r.rest rooms.1 (omega arith) in
     ap (λ o. is_some o) (ap (first_at size_of (is_around x n) 16) (r.is ∙ ap (λ l. passed ++ l) none)
-      ∙ first_at-none size_of (is_around x n) 16 (passed ++ []) (NonePass-append size_of (is_around x n) 16 passed [] w.none tt))
+    ∙ first_at-none size_of (is_around x n) 16 (passed ++ []) (NonePass-append size_of (is_around x n) 16 passed [] w.none tt))

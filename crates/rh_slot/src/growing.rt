@@ -69,7 +69,7 @@ impl Slot {
     /// is too short grows by whole pages, and the flex blocks slide up. Refused: `BadSize` for 0 bytes, `NoBudge`
     /// where the heap is too short and budging is off, `NoRoom` where too few pages are free. (OS_Heap 2.)
     pub fn claim<S: Store>(self, store: &mut S, n: u32) -> Result<usize, Refusal>
-        requires { IsSlot (S.memory store.old) self }
+        requires slot { IsSlot (S.memory store.old) self }
         ensures answer { result ≡ answer_of (slot_claim (S.memory store.old).free n (slot_in (S.memory store.old) self)) }
         ensures spells { SpellsIn (S.memory store.new) self (left_of (slot_in (S.memory store.old) self)
             (slot_claim (S.memory store.old).free n (slot_in (S.memory store.old) self))) }
@@ -89,7 +89,7 @@ impl Slot {
 
     /// Releases the block of the C heap at an address. Refused (`NotABlock`) where none begins there. (OS_Heap 3.)
     pub fn release<S: Store>(self, store: &mut S, address: usize) -> Result<(), Refusal>
-        requires { IsSlot (S.memory store.old) self }
+        requires slot { IsSlot (S.memory store.old) self }
         ensures answer { result ≡ outcome_of (slot_release address (slot_in (S.memory store.old) self)) }
         ensures spells { SpellsIn (S.memory store.new) self (result_or (slot_in (S.memory store.old) self)
             (slot_release address (slot_in (S.memory store.old) self))) }
@@ -111,7 +111,7 @@ impl Slot {
         address: usize,
         delta: i32,
     ) -> Result<usize, Refusal>
-        requires { IsSlot (S.memory store.old) self }
+        requires slot { IsSlot (S.memory store.old) self }
         ensures answer { result ≡ answer_of (slot_resize (S.memory store.old).free address delta (slot_in (S.memory store.old) self)) }
         ensures spells { SpellsIn (S.memory store.new) self (left_of (slot_in (S.memory store.old) self)
             (slot_resize (S.memory store.old).free address delta (slot_in (S.memory store.old) self))) }
@@ -133,7 +133,7 @@ impl Slot {
     /// By how many pages a claim of `n` bytes and then a flex block of no bytes would make the slot longer. Refused:
     /// `BadSize` for 0 bytes, `NoBudge` where the C heap is too short and budging is off.
     pub fn take_pages<S: Store>(self, store: &S, n: u32) -> Result<usize, Refusal>
-        requires { IsSlot (S.memory store.now) self }
+        requires slot { IsSlot (S.memory store.now) self }
         ensures { result ≡ slot_take_pages n (slot_in (S.memory store.now) self) }
     {
         let shortage = match rh_heap::need(store, heap_of(self), n) {

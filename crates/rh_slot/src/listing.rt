@@ -46,7 +46,7 @@ impl Slot {
     /// Whether the `n` bytes at an address lie whole in one block of the C heap or in one flex block. Any address and
     /// any `n` may be asked for.
     pub fn inside<S: Store>(self, store: &S, address: usize, n: usize) -> bool
-        requires { IsSlot (S.memory store.now) self }
+        requires slot { IsSlot (S.memory store.now) self }
         ensures { result ≡ holds address n (slot_in (S.memory store.now) self) }
     {
         if in_flex(store, self, address, n) {
@@ -57,7 +57,7 @@ impl Slot {
 
     /// Flex block `i` from below, from 0 on: its anchor, address and size in bytes.
     pub fn block<S: Store>(self, store: &S, i: usize) -> Option<BlockItem>
-        requires { IsSlot (S.memory store.now) self }
+        requires slot { IsSlot (S.memory store.now) self }
         ensures { result ≡ slice_get (block_items (slot_in (S.memory store.now) self)) i }
     {
         let mut place = flex_place(store, self);
@@ -80,7 +80,7 @@ impl Slot {
 
     /// The segment of the C heap that begins at a place, in bytes from the heap's first one.
     pub fn segment<S: Store>(self, store: &S, place: usize) -> Option<Segment>
-        requires { IsSlot (S.memory store.now) self }
+        requires slot { IsSlot (S.memory store.now) self }
         ensures { result ≡ option_map piece (segment_at place (slot_in (S.memory store.now) self).heap) }
     {
         rh_heap::segment(store, heap_of(self), place)
@@ -88,7 +88,7 @@ impl Slot {
 
     /// The C heap's end in bytes, its largest free block, and the bytes of all its holes and its top. (OS_Heap 1.)
     pub fn describe<S: Store>(self, store: &S) -> (usize, usize, usize)
-        requires { IsSlot (S.memory store.now) self }
+        requires slot { IsSlot (S.memory store.now) self }
         ensures end { result.0 ≡ (slot_in (S.memory store.now) self).heap.end }
         ensures largest { result.1 ≡ largest (slot_in (S.memory store.now) self).heap }
         ensures total { result.2 ≡ free_bytes (slot_in (S.memory store.now) self).heap }

@@ -1,5 +1,5 @@
 //! The pages of a slot's area.
-ghost use Rattle.std.specs.Prelude.{◌≡◌, ℕ, ◌+◌, ◌-◌, ◌*◌, ◌/◌, ◌%◌, ◌^◌, ◌<◌, ◌≤◌, ◌↔◌, length, IsErr, OnErr, OnOk};
+ghost use Rattle.std.specs.Prelude.{◌≡◌, ℕ, ◌+◌, ◌-◌, ◌*◌, ◌/◌, ◌%◌, ◌^◌, ◌<◌, ◌≤◌, ◌↔◌, length, IsErr, IsErrOf, OnErr, OnOk};
 ghost use Rattle.rh_defs.specs.Memory.{Memory, IsOpen, Resized, bytes};
 ghost use Rattle.rh_defs.specs.Pieces.{pages_for};
 
@@ -21,6 +21,7 @@ pub fn room_for<S: Store>(store: &mut S, area: AreaId, top: usize) -> Result<(),
         (length (bytes (S.memory store.old) area.0) / 4096 + (pages_for top - length (bytes (S.memory store.old) area.0) / 4096))) }
     ensures err { OnErr result (S.memory store.new ≡ S.memory store.old) }
     ensures refused { IsErr result ↔ ((S.memory store.old).free < pages_for top - length (bytes (S.memory store.old) area.0) / 4096) }
+    ensures reason { IsErr result → IsErrOf result StoreFault.NoPages }
 {
     let pages = store.len(area) / PAGE;
     store.grow(area, pages_for(top).saturating_sub(pages))
@@ -34,6 +35,7 @@ pub fn grow_to<S: Store>(store: &mut S, area: AreaId, top: usize) -> Result<(), 
     ensures ok { OnOk result (Resized (S.memory store.old) (S.memory store.new) area.0 (length (bytes (S.memory store.old) area.0)) (pages_for top)) }
     ensures err { OnErr result (S.memory store.new ≡ S.memory store.old) }
     ensures refused { IsErr result ↔ ((S.memory store.old).free < pages_for top - length (bytes (S.memory store.old) area.0) / 4096) }
+    ensures reason { IsErr result → IsErrOf result StoreFault.NoPages }
 {
     let pages = store.len(area) / PAGE;
     store.grow(area, pages_for(top) - pages)

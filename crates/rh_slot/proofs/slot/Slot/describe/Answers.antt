@@ -5,7 +5,7 @@ use Rattle.rh_slot.proofs.SpanLaws.{is_span_at, heap_at}
 use Rattle.rh_slot.proofs.slot.Slot.describe.Goals as goal
 
 pub describe-largest-requires : goal.describe-largest-requires
-describe-largest-requires g c = is_span_at _ c.args.self _ c.heap_of.ensures c.requires
+describe-largest-requires g c = is_span_at _ c.args.self _ c.heap_of.ensures c.requires.slot
 
 pub returns-clause-largest : goal.returns-clause-largest
 returns-clause-largest g c = c.describe-largest.ensures.largest ∙ ap largest (heap_at _ c.args.self _ c.heap_of.ensures)

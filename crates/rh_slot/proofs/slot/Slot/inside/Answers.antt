@@ -5,7 +5,7 @@ use Rattle.rh_slot.specs.Area.{slot_in}
 use Rattle.rh_slot.proofs.slot.Slot.inside.Goals as goal
 
 pub holds-requires : goal.holds-requires
-holds-requires g c = is_span_at _ c.args.self _ c.heap_of.ensures c.requires
+holds-requires g c = is_span_at _ c.args.self _ c.heap_of.ensures c.requires.slot
 
 pub returns-then-address-ge-HEAP_START : goal.returns-then-address-ge-HEAP_START
 returns-then-address-ge-HEAP_START g c =

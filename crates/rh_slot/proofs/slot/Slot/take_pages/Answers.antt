@@ -8,7 +8,7 @@ use Rattle.rh_slot.proofs.CallLaws.{claim_needs, take_zero, take_stuck, take_don
 use Rattle.rh_slot.proofs.slot.Slot.take_pages.Goals as goal
 
 pub need-requires : goal.need-requires
-need-requires g c = is_span_at _ c.args.self _ c.heap_of.ensures c.requires
+need-requires g c = is_span_at _ c.args.self _ c.heap_of.ensures c.requires.slot
 
 pub returns-in-Err : goal.returns-in-Err
 returns-in-Err g c =
@@ -25,7 +25,7 @@ pub pages_for-requires : goal.pages_for-requires
 pages_for-requires g c =
     let s = slot_in (g.S.Store.memory c.args.store.now) c.args.self in
     let w = claim_needs c.args.n c.in-Ok.shortage s _ (heap_at (g.S.Store.memory c.args.store.now) c.args.self _ c.heap_of.ensures) c.in-Ok.ensures in
-    let f = c.requires.spells.words.heap.heap.fits in
+    let f = c.requires.slot.spells.words.heap.heap.fits in
     let r = c.ranges.n.fits in
     omega (arith, need_most c.args.n s.heap f, w.1)
 
