@@ -1,0 +1,117 @@
+//! Flex blocks that come, change, slide and go.
+
+ghost use Rattle.std.specs.Prelude.{◌<◌};
+ghost use Rattle.rh_defs.specs.Memory.{Memory, IsOpen, open_below};
+ghost use Rattle.rh_slot.specs.Area.{IsSlot};
+ghost use Rattle.rh_store.specs.declared.store.TheConstants.{MAX_AREAS};
+
+use crate::slots::{allocated, changed, extended, freed, started, written};
+use crate::stores::{paged_store, plain_store};
+use rh_defs::{Anchor, Refusal};
+use rh_store::{AreaId, Store};
+use std::process::Abort;
+use std::test::Fail;
+
+/// The word at a place, if the area has it.
+fn word_at<S: Store>(store: &S, area: AreaId, place: usize) -> Option<u32>
+    requires { IsOpen (S.memory store.now) area.0 }
+{
+    let len = store.len(area);
+    if len < 4 || len - 4 < place {
+        return None;
+    }
+    Some(store.word(area, place))
+}
+
+/// The 16 bytes from a place on, if the area has them.
+fn bytes_at<S: Store>(store: &S, area: AreaId, place: usize) -> Option<[u8; 16]>
+    requires { IsOpen (S.memory store.now) area.0 }
+{
+    let len = store.len(area);
+    if len < 16 || len - 16 < place {
+        return None;
+    }
+    let mut bytes = [0; 16];
+    store.copy_out(area, place, &mut bytes);
+    Some(bytes)
+}
+
+fn blocks_slide_where_one_goes<R: Abort, S: Store>(rt: &R, store: &mut S) -> Result<(), Refusal>
+    requires { open_below (S.memory store.old).area MAX_AREAS < MAX_AREAS }
+{
+    let slot = started(store)?;
+    assert_eq!(rt; allocated(store, slot, Anchor(0), 5), Ok(0x9008));
+    assert_eq!(rt; written(store, slot, Anchor(0), 0, b"hello"), Ok(()));
+    assert_eq!(rt; word_at(store, slot.area, 0), Some(0x9008));
+    for k in 1..64 {
+        assert_eq!(rt; word_at(store, slot.area, 4 * k), Some(0));
+    }
+    assert_eq!(rt;
+        bytes_at(store, slot.area, 4096),
+        Some([
+            0, 0x80, 0, 0, 5, 0, 0, 0, 0x68, 0x65, 0x6c, 0x6c, 0x6f, 0, 0, 0
+        ])
+    );
+    assert_eq!(rt; allocated(store, slot, Anchor(1), 5), Ok(0x9018));
+    assert_eq!(rt;
+        allocated(store, slot, Anchor(1), 5),
+        Err(Refusal::AnchorInUse)
+    );
+    assert_eq!(rt; written(store, slot, Anchor(1), 0, b"world"), Ok(()));
+    assert_eq!(rt; freed(store, slot, Anchor(0)), Ok(()));
+    assert_eq!(rt; slot.address(store, Anchor(1)), Ok(0x9008));
+    assert_eq!(rt; changed(store, slot, Anchor(1), 2, -2), Ok(()));
+    assert_eq!(rt; slot.size(store, Anchor(1)), Ok(3));
+    let mut three = [0; 3];
+    assert_eq!(rt; slot.read(store, Anchor(1), 0, &mut three), Ok(()));
+    assert_eq!(rt; three, [0x72, 0x6c, 0x64]);
+    assert_eq!(rt;
+        changed(store, slot, Anchor(1), 1, -2),
+        Err(Refusal::BadRange)
+    );
+    assert_eq!(rt; changed(store, slot, Anchor(1), 3, 2), Ok(()));
+    let mut five = [1; 5];
+    assert_eq!(rt; slot.read(store, Anchor(1), 0, &mut five), Ok(()));
+    assert_eq!(rt; five, [0x72, 0x6c, 0x64, 0, 0]);
+    assert_eq!(rt;
+        changed(store, slot, Anchor(1), 6, 1),
+        Err(Refusal::BadRange)
+    );
+    Ok(())
+}
+
+fn blocks_slide_where_one_changes<R: Abort, S: Store>(rt: &R, store: &mut S) -> Result<(), Refusal>
+    requires { open_below (S.memory store.old).area MAX_AREAS < MAX_AREAS }
+{
+    let slot = started(store)?;
+    assert_eq!(rt; allocated(store, slot, Anchor(0), 5), Ok(0x9008));
+    assert_eq!(rt; allocated(store, slot, Anchor(1), 5), Ok(0x9018));
+    assert_eq!(rt; extended(store, slot, Anchor(0), 9), Ok(()));
+    assert_eq!(rt; slot.address(store, Anchor(0)), Ok(0x9008));
+    assert_eq!(rt; slot.size(store, Anchor(0)), Ok(9));
+    assert_eq!(rt; slot.address(store, Anchor(1)), Ok(0x901c));
+    assert_eq!(rt; slot.size(store, Anchor(1)), Ok(5));
+    assert_eq!(rt; extended(store, slot, Anchor(0), 2), Ok(()));
+    assert_eq!(rt; slot.address(store, Anchor(0)), Ok(0x9008));
+    assert_eq!(rt; slot.size(store, Anchor(0)), Ok(2));
+    assert_eq!(rt; slot.address(store, Anchor(1)), Ok(0x9014));
+    assert_eq!(rt; slot.size(store, Anchor(1)), Ok(5));
+    let mut two = [1; 2];
+    assert_eq!(rt; slot.read(store, Anchor(0), 0, &mut two), Ok(()));
+    assert_eq!(rt; two, [0, 0]);
+    Ok(())
+}
+
+#[test]
+fn flex_blocks_in_a_plain_store(rt: HostRuntime) -> Result<(), Fail> {
+    blocks_slide_where_one_goes(&rt, &mut plain_store(rt.alloc())?)?;
+    blocks_slide_where_one_changes(&rt, &mut plain_store(rt.alloc())?)?;
+    Ok(())
+}
+
+#[test]
+fn flex_blocks_in_scattered_pages(rt: HostRuntime) -> Result<(), Fail> {
+    blocks_slide_where_one_goes(&rt, &mut paged_store(rt.alloc())?)?;
+    blocks_slide_where_one_changes(&rt, &mut paged_store(rt.alloc())?)?;
+    Ok(())
+}

@@ -1,0 +1,13 @@
+//! Tests that cross crates: slots and the module area, over a plain store and over scattered pages.
+#![tactic(auto)]
+
+#[cfg(test)]
+mod flex_blocks;
+#[cfg(test)]
+mod heap_blocks;
+#[cfg(test)]
+mod module_blocks;
+#[cfg(test)]
+mod slots;
+#[cfg(test)]
+mod stores;
