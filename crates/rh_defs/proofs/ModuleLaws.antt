@@ -1,11 +1,11 @@
 -- Laws of the module area's calls, in the words of the heap's, and of a heap whose bytes are kept.
-use Rattle.std.proofs.Common.{◌≡◌, ℕ, ◌+◌, ◌-◌, ◌<◌, ◌≤◌, ◌≢◌, Bool, true, false, cond, eqb, ltb, List, length, refl, sym, ap, ◌∙◌, inl, inr, arith}
+use Rattle.std.proofs.Common.{◌≡◌, ℕ, ◌+◌, ◌-◌, ◌<◌, ◌≤◌, ◌≢◌, Bool, true, false, eqb, ltb, List, length, refl, sym, ap, ◌∙◌, inl, inr, arith}
 use Rattle.std.proofs.lemmas.Bool.Decides.{nat_tests, eqb_tells}
 use Rattle.std.specs.Prelude.{Option, Some, None, Result, Ok, Err, ℤ}
 use Rattle.rh_defs.specs.Bytes.{SameIn}
 use Rattle.rh_defs.specs.Chain.{Granted, ◌>>=◌, ◌>>◌, refuse_if, found_or}
 use Rattle.rh_defs.specs.Pieces.{pages_for, zeros, Split}
-use Rattle.rh_defs.specs.Heap.{Segment, Heap, Placed, Way, Stays, Shrinks, GrowsIntoHole, GrowsAtTop, MovesToHole, MovesToTop, segment_size, block_room, bytes_of, place_after, hole_for, placed_in, fitted, way_to, resized_by, base, block_at, need, claim, claim_need, claim_growing, raised, release, release_found, released, new_size, resize, resize_found, resize_need, resized, resize_growing, need_at, need_found}
+use Rattle.rh_defs.specs.Heap.{Segment, Heap, Placed, Way, Stays, Shrinks, GrowsIntoHole, GrowsAtTop, MovesToHole, MovesToTop, segment_size, block_room, bytes_of, place_after, hole_for, placed_in, fitted, way_to, resized_by, base, block_at, need, claim, claim_need, claim_growing, raised, release, release_found, new_size, resize, resize_found, resize_need, resize_growing, need_at, need_found}
 use Rattle.rh_defs.specs.HeapImage.{Spells}
 use Rattle.rh_defs.specs.Module.{grown_by, module_claim, module_free, module_resize, module_change, module_need_pages, changed_length, whole_pages}
 use Rattle.rh_defs.specs.declared.refusal.Refusal.{Refusal}
@@ -13,7 +13,7 @@ use Rattle.rh_defs.specs.declared.refusal.Refusal.TheVariants.{NotABlock, BadSiz
 use Rattle.rh_defs.specs.declared.heap.HeapFault.{HeapFault}
 use Rattle.rh_defs.specs.declared.heap.HeapFault.TheVariants as heap_fault
 use Rattle.rh_defs.proofs.BytesLaws.{word_same}
-use Rattle.rh_defs.proofs.HeapLists.{HasRoom-from_tidy, cond_true, cond_false, eqb_same, eqb_apart}
+use Rattle.rh_defs.proofs.HeapLists.{HasRoom-from_tidy, cond_true, cond_false, eqb_same}
 use Rattle.rh_defs.proofs.HeapLaws.{narrower}
 use Rattle.rh_defs.proofs.HeapStretch.{Stand-kept}
 use Rattle.rh_defs.proofs.HeapGrowth.{claim-raised, resize-raised, resize_need-raised}

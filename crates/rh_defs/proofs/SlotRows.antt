@@ -5,7 +5,7 @@ use Rattle.rh_defs.specs.declared.listing.BlockItem.{BlockItem}
 use Rattle.rh_defs.specs.Chain as chain
 use Rattle.rh_defs.specs.Chain.{Granted, answer_of, left_of, result_or}
 use Rattle.rh_defs.specs.Pieces.{page, zeros}
-use Rattle.rh_defs.specs.Heap.{Heap, empty_heap, largest, free_bytes}
+use Rattle.rh_defs.specs.Heap.{Heap, empty_heap}
 use Rattle.rh_defs.specs.Slot as slot
 use Rattle.rh_defs.specs.Slot.{Slot, new_slot, slot_pages, slot_alloc, slot_free, slot_extend, slot_mid, slot_put, slot_read, slot_claim, slot_release, slot_resize, slot_take_pages, holds}
 use Rattle.rh_defs.specs.Module as module_area

@@ -2,7 +2,7 @@
 use Rattle.std.proofs.Common.{ℕ, ◌+◌, ◌*◌, ◌≤◌, arith, List, [], ◌∷◌, ◌++◌, length, inl}
 use Rattle.std.specs.List.{AllByRecursion}
 use Rattle.rh_defs.specs.Pieces.{total, page}
-use Rattle.rh_defs.specs.Heap.{Segment, Used, Hole, size_of, base, first_place}
+use Rattle.rh_defs.specs.Heap.{Segment, Used, Hole, size_of, first_place}
 use Rattle.rh_defs.specs.Slot.{Slot, Flex, IsSlot, weight, heap_start, flex_start, slot_start, slot_pages}
 use Rattle.rh_defs.specs.Desk.{Desk}
 use Rattle.rh_defs.specs.Spans.{Span, heap_spans, flex_spans, slot_spans, IsApart, AreApart, IsWithin, AreLaidOut}

@@ -2,7 +2,6 @@
 use Rattle.std.specs.Prelude.{◌≡◌, ℕ, zero, suc, ◌+◌, ◌-◌, ◌*◌, ◌/◌, ◌%◌, ◌<◌, ◌≤◌, ◌==◌, Bool, nat_le, nat_lt, ◌&&◌, if◌then◌else◌, List, [], ◌∷◌, length}
 use Rattle.rh_defs.specs.Bytes.{word, part}
 use Rattle.rh_defs.specs.Pieces.{page}
-use Rattle.rh_defs.specs.Heap.{Heap}
 use Rattle.rh_defs.specs.HeapImage.{Spells, heap_of}
 use Rattle.rh_defs.specs.Slot.{Flex, Slot, flex_weight, weight, slot_start, heap_start, slot_length, slot_pages, IsFree, HaveAnchors}
 

@@ -19,7 +19,7 @@ pub use fault::LineFault;
 pub use files::Files;
 pub use heap::HeapFault;
 pub use ids::{Anchor, Handle, Ref};
-pub use laws::span_law;
+pub use laws::{image_law, span_law};
 pub use listing::{AreaItem, BlockItem};
 pub use name::Name;
 pub use refusal::Refusal;
