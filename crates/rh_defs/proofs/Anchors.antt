@@ -2,12 +2,13 @@
 use Rattle.std.proofs.Common.{◌≡◌, ◌≢◌, ℕ, ◌+◌, ◌≤◌, ◌<◌, Bool, true, false, cond, refl, sym, arith, List, [], ◌∷◌, ◌++◌, length}
 use Rattle.std.specs.Prelude.{Option, Some, None, is_some, ◌==◌}
 use Rattle.std.proofs.Common.{length-append, length-take, length-drop}
+use Rattle.std.proofs.lemmas.List.{length-replicate}
 use Rattle.std.specs.Option.{option_map}
 use borrow.Author.Tests.{ltb-false, eqb-false}
-use Rattle.rh_defs.specs.Pieces.{Split, first_at, behind, written}
-use Rattle.rh_defs.specs.Slot.{Slot, Flex, weight, slot_pages, flex_start, block_of, with_block, with_bytes, roomed, slot_begin, slot_alloc, slot_block, slot_put}
+use Rattle.rh_defs.specs.Pieces.{Split, first_at, behind, written, zeros}
+use Rattle.rh_defs.specs.Slot.{Slot, Flex, weight, slot_pages, flex_start, block_of, with_bytes, slot_begin, slot_alloc, slot_block, slot_put}
 use Rattle.rh_defs.specs.Slot.{IsFree, HaveAnchors, IsSlot}
-use Rattle.rh_defs.proofs.Chains.{OnGrant, granted, granted-with, granted-past, found_or-grants}
+use Rattle.rh_defs.proofs.Chains.{OnGrant, granted, granted-with, granted-unless, found_or-grants}
 use Rattle.rh_defs.proofs.Cuts.{IsCut, first_at-cuts, cut-total, total-append}
 
 -- no block has the anchor
@@ -52,20 +53,19 @@ pub record IsRoomed (free : ℕ) (old new : Slot) : Type 0 where
   pub room : slot_pages new ≤ free + slot_pages old
   pub slot : IsSlot new
 
-pub roomed-grants : {A : Type 0} (free : ℕ) (old new : Slot) (answer : A) → IsSlot new → OnGrant (λ (p : Slot × A). IsRoomed free old p.0) (roomed free old new answer)
-unfolding roomed
-roomed-grants free old new answer h =
-    granted-past _ _ _ λ room. granted (record { room = omega (arith, ltb-false _ _ room); slot = h })
-
 pub slot_begin-grants : (free : ℕ) → OnGrant (λ s. (slot_pages s ≤ free) × IsSlot s) (slot_begin free)
 unfolding slot_begin
-slot_begin-grants free = granted-past _ _ _ λ room. granted (omega (arith, ltb-false _ _ room), record { heap = record { tidy = tt; fits = omega arith; multiple = omega arith }; anchors = tt })
+slot_begin-grants free = granted-unless _ _ _ λ room. granted (omega (arith, ltb-false _ _ room), record { heap = record { tidy = tt; fits = omega arith; multiple = omega arith }; anchors = tt })
 
-pub slot_alloc-grants : (free k : ℕ) (bytes : List ℕ) (s : Slot) → k < 64 → IsSlot s → OnGrant (λ (p : Slot × ℕ). IsRoomed free s p.0) (slot_alloc free k bytes s)
+pub slot_alloc-grants : (free k n : ℕ) (s : Slot) → k < 64 → IsSlot s → OnGrant (λ (p : Slot × ℕ). IsRoomed free s p.0) (slot_alloc free k n s)
 unfolding slot_alloc
-slot_alloc-grants free k bytes s small h =
-    granted-past _ _ _ λ unused.
-    roomed-grants free s (with_block k bytes s) _ (record { heap = h.heap; anchors = anchors-append s.blocks _ h.anchors (is_free weight k (flex_start s) s.blocks unused) small })
+slot_alloc-grants free k n s small h =
+    granted-unless _ _ _ λ unused.
+    granted-unless _ _ _ λ room.
+    granted (record {
+      room = omega (arith, ltb-false _ _ room, total-append weight s.blocks (record { anchor = k; bytes = zeros n } ∷ []), length-replicate {A = ℕ} n 0);
+      slot = record { heap = h.heap; anchors = anchors-append s.blocks _ h.anchors (is_free weight k (flex_start s) s.blocks unused) small };
+    })
 
 -- bytes written over a range that is whole inside leave the length
 pub length-written : (bytes : List ℕ) (offset : ℕ) (new : List ℕ) → offset + length new ≤ length bytes → length (written bytes offset new) ≡ length bytes
@@ -76,7 +76,7 @@ pub slot_put-grants : (free k offset : ℕ) (bytes : List ℕ) (s : Slot) → Is
 unfolding slot_put slot_block
 slot_put-grants free k offset bytes s h =
     granted-with _ (found_or-grants (IsCut weight (λ _ b. b.anchor == k) (flex_start s) s.blocks) (block_of k s) _ (first_at-cuts weight (λ _ b. b.anchor == k) (flex_start s) s.blocks)) λ b cut.
-    granted-past _ _ _ λ inside.
+    granted-unless _ _ _ λ inside.
     granted (kept b cut (ltb-false _ _ inside))
   where
     kept : (b : Split Flex) → IsCut weight (λ _ c. c.anchor == k) (flex_start s) s.blocks b → offset + length bytes ≤ length b.here.bytes → IsRoomed free s (with_bytes b (written b.here.bytes offset bytes) s)

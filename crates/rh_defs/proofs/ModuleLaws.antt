@@ -3,11 +3,11 @@ use Rattle.std.proofs.Common.{◌≡◌, ℕ, ◌+◌, ◌-◌, ◌<◌, ◌≤�
 use Rattle.std.proofs.lemmas.Bool.Decides.{nat_tests, eqb_tells}
 use Rattle.std.specs.Prelude.{Option, Some, None, Result, Ok, Err, ℤ}
 use Rattle.rh_defs.specs.Bytes.{SameIn}
-use Rattle.rh_defs.specs.Chain.{Granted, ◌>>=◌, ◌>>◌, refuse_if, found_or}
-use Rattle.rh_defs.specs.Pieces.{pages_for, zeros, Split}
+use Rattle.rh_defs.specs.Chain.{Granted, ◌>>=◌, refuse_if, found_or}
+use Rattle.rh_defs.specs.Pieces.{pages_for, lacks_pages, zeros, Split}
 use Rattle.rh_defs.specs.Heap.{Segment, Heap, Placed, Way, Stays, Shrinks, GrowsIntoHole, GrowsAtTop, MovesToHole, MovesToTop, segment_size, block_room, bytes_of, place_after, hole_for, placed_in, fitted, way_to, resized_by, base, block_at, need, claim, claim_need, claim_growing, raised, release, release_found, new_size, resize, resize_found, resize_need, resize_growing, need_at, need_found}
 use Rattle.rh_defs.specs.HeapImage.{Spells}
-use Rattle.rh_defs.specs.Module.{grown_by, module_claim, module_free, module_resize, module_change, module_need_pages, changed_length, whole_pages}
+use Rattle.rh_defs.specs.Module.{module_claim, module_free, module_resize, module_change, module_need_pages, changed_length, whole_pages}
 use Rattle.rh_defs.specs.declared.refusal.Refusal.{Refusal}
 use Rattle.rh_defs.specs.declared.refusal.Refusal.TheVariants.{NotABlock, BadSize, ExcessiveShrink, NoRoom}
 use Rattle.rh_defs.specs.declared.heap.HeapFault.{HeapFault}
@@ -35,13 +35,13 @@ Spells-kept b c at h s k l =
     }
 
 -- ---- steps
-refused : {A : Type 0} (test : Bool) (refusal : Refusal) (rest : Granted A) → test ≡ true → (refuse_if test refusal >> rest) ≡ Err refusal
-unfolding ◌>>=◌ ◌>>◌ refuse_if
+refused : {A : Type 0} (test : Bool) (refusal : Refusal) (rest : Granted A) → test ≡ true → (refuse_if test refusal >>= λ _. rest) ≡ Err refusal
+unfolding ◌>>=◌ refuse_if
 refused true refusal rest e = refl
 refused false refusal rest e = absurd cc
 
-passed : {A : Type 0} (test : Bool) (refusal : Refusal) (rest : Granted A) → test ≡ false → (refuse_if test refusal >> rest) ≡ rest
-unfolding ◌>>=◌ ◌>>◌ refuse_if
+passed : {A : Type 0} (test : Bool) (refusal : Refusal) (rest : Granted A) → test ≡ false → (refuse_if test refusal >>= λ _. rest) ≡ rest
+unfolding ◌>>=◌ refuse_if
 passed true refusal rest e = absurd cc
 passed false refusal rest e = refl
 
@@ -61,13 +61,11 @@ below m n h = grind (arith, nat_tests)
 not_below : (m n : ℕ) → n ≤ m → ltb m n ≡ false
 not_below m n h = grind (arith, nat_tests)
 
-short_of : (free shortage : ℕ) (p : Placed) → free < pages_for shortage → grown_by free shortage p ≡ Err NoRoom
-unfolding grown_by
-short_of free shortage p l = refused (ltb free (pages_for shortage)) NoRoom _ (below free (pages_for shortage) l)
+lacking : (free shortage : ℕ) → free < pages_for shortage → lacks_pages free shortage ≡ true
+lacking free shortage l = below free (pages_for shortage) l
 
-room_for : (free shortage : ℕ) (p : Placed) → pages_for shortage ≤ free → grown_by free shortage p ≡ Ok (p.heap, p.address)
-unfolding grown_by
-room_for free shortage p l = passed (ltb free (pages_for shortage)) NoRoom _ (not_below free (pages_for shortage) l)
+sufficing : (free shortage : ℕ) → pages_for shortage ≤ free → lacks_pages free shortage ≡ false
+sufficing free shortage l = not_below free (pages_for shortage) l
 
 -- a call on a heap of this end is granted and leaves the end, and the call on the module area is granted the same
 pub record Grows (end : ℕ) (called : Result Placed HeapFault) (granted : Granted (Heap × ℕ)) : Type 0 where
@@ -113,7 +111,7 @@ pub module_claim-short : (free k n : ℕ) (h : Heap) → Ok k ≡ claim_need n h
 unfolding module_claim
 module_claim-short free k n h e l =
     let w = could_need k n h e in
-    passed (eqb n 0) BadSize _ w.0 ∙ short_of free (need n h) (claim_growing n h) (rw (sym w.2) l)
+    passed (eqb n 0) BadSize _ w.0 ∙ refused (lacks_pages free (need n h)) NoRoom _ (lacking free (need n h) (rw (sym w.2) l))
 
 pub module_claim-grows : (free k n : ℕ) (h : Heap) → Ok k ≡ claim_need n h → pages_for k ≤ free → Grows (raised k h).end (claim n (raised k h)) (module_claim free n h)
 unfolding module_claim
@@ -122,7 +120,7 @@ module_claim-grows free k n h e l =
     record {
       placed = claim_growing n h;
       called_is = ap (λ i. claim n (raised i h)) w.2 ∙ claim-raised n h w.1;
-      granted_is = passed (eqb n 0) BadSize _ w.0 ∙ room_for free (need n h) (claim_growing n h) (rw (sym w.2) l);
+      granted_is = passed (eqb n 0) BadSize _ w.0 ∙ passed (lacks_pages free (need n h)) NoRoom _ (sufficing free (need n h) (rw (sym w.2) l));
       end_is = let g = raised (need n h) h in let bytes = zeros (block_room n) in placed_in-end bytes g (hole_for (4 + length bytes) g.segments) ∙ ap (λ i. (raised i h).end) (sym w.2);
     }
 
@@ -189,7 +187,7 @@ module_resize-short free k address delta h e l =
     let w = could_resize k address delta h e in
     let n = new_size delta w.block in
     found (block_at address h) w.block NotABlock _ w.found ∙ passed (eqb n 0) BadSize _ w.left
-    ∙ short_of free (resize_need n w.block h) (resize_growing n w.block h) (rw (sym w.need_is) l)
+    ∙ refused (lacks_pages free (resize_need n w.block h)) NoRoom _ (lacking free (resize_need n w.block h) (rw (sym w.need_is) l))
 
 pub module_resize-grows : (free k address : ℕ) (delta : ℤ) (h : Heap) → Ok k ≡ need_at address delta h → pages_for k ≤ free → Grows (raised k h).end (resize address delta (raised k h)) (module_resize free address delta h)
 unfolding module_resize
@@ -203,7 +201,7 @@ module_resize-grows free k address delta h e l =
           ∙ cond_false (eqb n 0) _ _ w.left ∙ cond_true (eqb (resize_need n w.block g) 0) _ _ (eqb_same (resize_need n w.block g) 0 (resize_need-raised n w.block h))
           ∙ ap Ok (resize-raised n w.block h);
       granted_is = found (block_at address h) w.block NotABlock _ w.found ∙ passed (eqb n 0) BadSize _ w.left
-          ∙ room_for free (resize_need n w.block h) (resize_growing n w.block h) (rw (sym w.need_is) l);
+          ∙ passed (lacks_pages free (resize_need n w.block h)) NoRoom _ (sufficing free (resize_need n w.block h) (rw (sym w.need_is) l));
       end_is = resized_by-end (way_to (segment_size n) w.block h) (fitted (block_room n) (bytes_of w.block.here)) w.block g ∙ ap (λ i. (raised i h).end) (sym w.need_is);
     }
 

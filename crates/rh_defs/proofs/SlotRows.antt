@@ -4,7 +4,7 @@ use Rattle.rh_defs.specs.declared.refusal.Refusal.TheVariants.{AnchorInUse, NotA
 use Rattle.rh_defs.specs.declared.listing.BlockItem.{BlockItem}
 use Rattle.rh_defs.specs.Chain as chain
 use Rattle.rh_defs.specs.Chain.{Granted, answer_of, left_of, result_or}
-use Rattle.rh_defs.specs.Pieces.{page, zeros}
+use Rattle.rh_defs.specs.Pieces.{page}
 use Rattle.rh_defs.specs.Heap.{Heap, empty_heap}
 use Rattle.rh_defs.specs.Slot as slot
 use Rattle.rh_defs.specs.Slot.{Slot, new_slot, slot_pages, slot_alloc, slot_free, slot_extend, slot_mid, slot_put, slot_read, slot_claim, slot_release, slot_resize, slot_take_pages, holds}
@@ -36,7 +36,7 @@ abbrev pub free : Slot → ℕ
 free s = 63 - slot_pages s
 
 abbrev pub called : Slot → Call → Slot × Granted ℕ
-called s (Alloc k n) = answered s (slot_alloc (free s) k (zeros n) s)
+called s (Alloc k n) = answered s (slot_alloc (free s) k n s)
 called s (Free k) = done s (slot_free k s)
 called s (Extend k n) = done s (slot_extend (free s) k n s)
 called s (Mid k offset by) = done s (slot_mid (free s) k offset by s)
@@ -132,6 +132,16 @@ pub held : map (λ (r : ℕ × ℕ). holds r.0 r.1 (slot_after new_slot (Alloc 0
 unfolding slot.computing chain.computing
 held = refl
 
+-- sizes that no pool holds are refused, before a block of such a size is thought of
+pub huge : answers new_slot (Alloc 0 2147483647 ∷ Alloc 0 5 ∷ Extend 0 2147483647 ∷ Mid 0 5 (pos 2147483647) ∷ Claim 2147483647 ∷ Claim 10 ∷ Resize 0x8114 (pos 2147483647) ∷ [])
+    ≡ Err NoRoom ∷ Ok 0x9008 ∷ Err NoRoom ∷ Err NoRoom ∷ Err NoRoom ∷ Ok 0x8114 ∷ Err NoRoom ∷ []
+unfolding slot.computing chain.computing
+huge = refl
+
+pub huge_taking : slot_take_pages 2147483647 new_slot ≡ Ok 524289
+unfolding slot.computing chain.computing
+huge_taking = refl
+
 -- ---- the module area
 
 pub data ModuleCall : Type 0 where
@@ -150,6 +160,11 @@ module_called h (Change delta) = answered h (module_change (8 - h.end / page) de
 abbrev pub module_answers : Heap → List ModuleCall → List (Granted ℕ)
 module_answers h [] = []
 module_answers h (c ∷ calls) = (module_called h c).1 ∷ module_answers (module_called h c).0 calls
+
+pub huge_module_blocks : module_answers (empty_heap 4096) (ModuleClaim 2147483647 ∷ ModuleClaim 10 ∷ ModuleResize 0x14 (pos 2147483647) ∷ [])
+    ≡ Err NoRoom ∷ Ok 0x14 ∷ Err NoRoom ∷ []
+unfolding module_area.computing chain.computing
+huge_module_blocks = refl
 
 -- blocks that make the area grow, and an area that shrinks
 pub module_blocks : module_answers (empty_heap 4096) (ModuleClaim 4076 ∷ ModuleClaim 1 ∷ Change (negsuc 4095) ∷ ModuleFree 0x1004 ∷ Change (negsuc 4095) ∷ ModuleFree 0x1004

@@ -51,7 +51,7 @@ alloc-keeps : (d : Desk) (name : List ℕ) (k n : ℕ) → k < 64 → Keeps d (a
 unfolding alloc
 alloc-keeps d name k n small is =
     granted-then _ _ λ t e.
-    granted-with _ (slot_alloc-grants (free_pages d) k _ t.slot small (named-slot name d t is e)) λ p fits.
+    granted-with _ (slot_alloc-grants (free_pages d) k n t.slot small (named-slot name d t is e)) λ p fits.
     granted (answer-is (with_slot-keeps name d t p.0 is e fits))
 
 put-keeps : (d : Desk) (name : List ℕ) (k offset : ℕ) (bytes : List ℕ) → Keeps d (put d name k offset bytes)

@@ -1,8 +1,8 @@
 -- The module area: a heap that is as long as its area, and takes free pages where it is too short.
 use Rattle.std.specs.Prelude.{ℕ, ◌+◌, ◌-◌, ℤ, pos, negsuc, nat_lt, ◌==◌, Ok}
 use Rattle.rh_defs.specs.declared.refusal.Refusal.TheVariants.{NotABlock, BadSize, ExcessiveShrink, NoRoom}
-use Rattle.rh_defs.specs.Chain.{Granted, ◌>>=◌, ◌>>◌, refuse_if, found_or}
-use Rattle.rh_defs.specs.Pieces.{round_up, page, pages_for}
+use Rattle.rh_defs.specs.Chain.{Granted, ◌>>=◌, refuse_if, found_or}
+use Rattle.rh_defs.specs.Pieces.{round_up, page, pages_for, lacks_pages}
 use Rattle.rh_defs.specs.Heap.{Heap, Placed, base, block_at, need, claim_growing, released, new_size, resize_need, resize_growing}
 
 -- a signed amount without its sign
@@ -19,17 +19,16 @@ abbrev pub changed_length : ℕ → ℤ → ℕ
 changed_length n (pos by) = n + whole_pages (pos by)
 changed_length n (negsuc by) = n - whole_pages (negsuc by)
 
--- the heap after a growth by so many bytes at least, where so many pages are free, and the block's address
-unfoldable pub grown_by : ℕ → ℕ → Placed → Granted (Heap × ℕ)
-grown_by free shortage p = do
-  refuse_if (nat_lt free (pages_for shortage)) NoRoom
-  Ok (p.heap, p.address)
+-- a placed block as a call answers it: the heap, and the block's address
+abbrev pub as_granted : Placed → Heap × ℕ
+as_granted p = (p.heap, p.address)
 
 -- a block of n zeros: the heap, and the block's address
 unfoldable pub module_claim : ℕ → ℕ → Heap → Granted (Heap × ℕ)
 module_claim free n h = do
-  refuse_if (n == 0) BadSize
-  grown_by free (need n h) (claim_growing n h)
+  _ ← refuse_if (n == 0) BadSize
+  _ ← refuse_if (lacks_pages free (need n h)) NoRoom
+  Ok (as_granted (claim_growing n h))
 
 -- the block at an address away
 unfoldable pub module_free : ℕ → Heap → Granted Heap
@@ -41,23 +40,24 @@ module_free address h = do
 unfoldable pub module_resize : ℕ → ℕ → ℤ → Heap → Granted (Heap × ℕ)
 module_resize free address delta h = do
   b ← found_or (block_at address h) NotABlock
-  refuse_if (new_size delta b == 0) BadSize
-  grown_by free (resize_need (new_size delta b) b h) (resize_growing (new_size delta b) b h)
+  _ ← refuse_if (new_size delta b == 0) BadSize
+  _ ← refuse_if (lacks_pages free (resize_need (new_size delta b) b h)) NoRoom
+  Ok (as_granted (resize_growing (new_size delta b) b h))
 
 -- the area longer or shorter by whole pages: the heap, and the bytes moved
 unfoldable pub module_change : ℕ → ℤ → Heap → Granted (Heap × ℕ)
 module_change free delta h = do
-  refuse_if (nat_lt (changed_length h.end delta) (base h)) ExcessiveShrink
-  refuse_if (nat_lt free (pages_for (changed_length h.end delta - h.end))) NoRoom
+  _ ← refuse_if (nat_lt (changed_length h.end delta) (base h)) ExcessiveShrink
+  _ ← refuse_if (lacks_pages free (changed_length h.end delta - h.end)) NoRoom
   Ok (record h { end = changed_length h.end delta }, whole_pages delta)
 
 -- the pages that a claim of n bytes would take
 unfoldable pub module_need_pages : ℕ → Heap → Granted ℕ
 module_need_pages n h = do
-  refuse_if (n == 0) BadSize
+  _ ← refuse_if (n == 0) BadSize
   Ok (pages_for (need n h))
 
 -- opens this file's words, for a proof that computes
 unfoldable pub computing : Unit {0}
-unfolding grown_by module_claim module_free module_resize module_change module_need_pages
+unfolding module_claim module_free module_resize module_change module_need_pages
 computing = tt

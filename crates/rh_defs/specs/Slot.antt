@@ -2,8 +2,8 @@
 use Rattle.std.specs.Prelude.{◌≢◌, ℕ, ◌+◌, ◌-◌, ◌<◌, ℤ, pos, negsuc, Bool, true, ◌&&◌, ◌||◌, not, nat_lt, nat_le, ◌==◌, List, [], ◌∷◌, ◌++◌, length, take, drop, Option, is_some, Ok}
 use Rattle.std.specs.List.{AllByRecursion}
 use Rattle.rh_defs.specs.declared.refusal.Refusal.TheVariants.{NoBlock, AnchorInUse, NotABlock, BadRange, BadSize, NoBudge, NoRoom}
-use Rattle.rh_defs.specs.Chain.{Granted, ◌>>=◌, ◌>>◌, refuse_if, found_or}
-use Rattle.rh_defs.specs.Pieces.{round_up, pages_for, zeros, total, Split, first_at, with_here, written, is_inside}
+use Rattle.rh_defs.specs.Chain.{Granted, ◌>>=◌, refuse_if, found_or}
+use Rattle.rh_defs.specs.Pieces.{round_up, page, pages_for, lacks_pages, zeros, moved, total, Split, first_at, with_here, written, is_inside}
 use Rattle.rh_defs.specs.Heap.{Segment, Heap, IsHeap, Placed, empty_heap, block_at, block_around, need, claim_growing, released, new_size, resize_need, resize_growing, fitted}
 
 -- a flex block, by its anchor and its bytes
@@ -115,43 +115,36 @@ abbrev pub taken_out : ℤ → ℕ
 taken_out (pos by) = 0
 taken_out (negsuc by) = by + 1
 
--- the slot that a call would leave has no room, where so many pages are free
-abbrev pub is_too_large : ℕ → Slot → Slot → Bool
-is_too_large free old new = nat_lt free (slot_pages new - slot_pages old)
+-- a slot that would take so many bytes has no room, where so many pages are free
+abbrev pub lacks_room : ℕ → ℕ → Slot → Bool
+lacks_room free bytes s = nat_lt free (pages_for bytes - slot_pages s)
 
--- the slot that a call would leave, where so many free pages hold what it grows by
-unfoldable pub roomed : {A : Type 0} → ℕ → Slot → Slot → A → Granted (Slot × A)
-roomed free old new answer = do
-  refuse_if (is_too_large free old new) NoRoom
-  Ok (new, answer)
-
--- the same, with no answer
-unfoldable pub fitting : ℕ → Slot → Slot → Granted Slot
-fitting free old new = do
-  refuse_if (is_too_large free old new) NoRoom
-  Ok new
+-- the bytes that the slot would take with n bytes in the block at the cut
+abbrev pub length_with : Split Flex → ℕ → Slot → ℕ
+length_with b n s = (slot_length s + flex_weight n) - weight b.here
 
 -- the C heap is short of so many bytes, and may not grow
 abbrev pub is_stuck : ℕ → Slot → Bool
 is_stuck shortage s = nat_lt 0 shortage && not s.budging
 
 -- the slot with a C heap in which a block was placed, and the block's address
-unfoldable pub with_placed : ℕ → Placed → Slot → Granted (Slot × ℕ)
-with_placed free p s = roomed free s (with_heap p.heap s) (heap_start + p.address)
+abbrev pub with_placed : Placed → Slot → Slot × ℕ
+with_placed p s = (with_heap p.heap s, heap_start + p.address)
 
 -- ---- the calls: all refusals of each, its room, and what it leaves
 
 -- a fresh slot, where so many pages are free
 unfoldable pub slot_begin : ℕ → Granted Slot
 slot_begin free = do
-  refuse_if (nat_lt free (slot_pages new_slot)) NoRoom
+  _ ← refuse_if (nat_lt free (slot_pages new_slot)) NoRoom
   Ok new_slot
 
--- a block of these bytes on top, where so many pages are free: the slot, and the block's address
-unfoldable pub slot_alloc : ℕ → ℕ → List ℕ → Slot → Granted (Slot × ℕ)
-slot_alloc free k bytes s = do
-  refuse_if (is_used k s) AnchorInUse
-  roomed free s (with_block k bytes s) (flex_address s s.blocks)
+-- a block of n zeros on top, where so many pages are free: the slot, and the block's address
+unfoldable pub slot_alloc : ℕ → ℕ → ℕ → Slot → Granted (Slot × ℕ)
+slot_alloc free k n s = do
+  _ ← refuse_if (is_used k s) AnchorInUse
+  _ ← refuse_if (lacks_room free (slot_length s + flex_weight n) s) NoRoom
+  Ok (with_block k (zeros n) s, flex_address s s.blocks)
 
 -- the anchor's block
 unfoldable pub slot_block : ℕ → Slot → Granted (Split Flex)
@@ -178,35 +171,38 @@ slot_free k s = do
 unfoldable pub slot_extend : ℕ → ℕ → ℕ → Slot → Granted Slot
 slot_extend free k n s = do
   b ← slot_block k s
-  fitting free s (with_bytes b (fitted n b.here.bytes) s)
+  _ ← refuse_if (lacks_room free (length_with b n s) s) NoRoom
+  Ok (with_bytes b (fitted n b.here.bytes) s)
 
 -- zeros put into the block at an offset, or the bytes before it taken out
 unfoldable pub slot_mid : ℕ → ℕ → ℕ → ℤ → Slot → Granted Slot
 slot_mid free k offset by s = do
   b ← slot_block k s
-  refuse_if (nat_lt (length b.here.bytes) offset || nat_lt offset (taken_out by)) BadRange
-  fitting free s (with_bytes b (opened_at offset by b.here.bytes) s)
+  _ ← refuse_if (nat_lt (length b.here.bytes) offset || nat_lt offset (taken_out by)) BadRange
+  _ ← refuse_if (lacks_room free (length_with b (moved (length b.here.bytes) by) s) s) NoRoom
+  Ok (with_bytes b (opened_at offset by b.here.bytes) s)
 
 -- bytes written into a block, from an offset on
 unfoldable pub slot_put : ℕ → ℕ → List ℕ → Slot → Granted Slot
 slot_put k offset bytes s = do
   b ← slot_block k s
-  refuse_if (nat_lt (length b.here.bytes) (offset + length bytes)) BadRange
+  _ ← refuse_if (nat_lt (length b.here.bytes) (offset + length bytes)) BadRange
   Ok (with_bytes b (written b.here.bytes offset bytes) s)
 
 -- n bytes of a block, from an offset on
 unfoldable pub slot_read : ℕ → ℕ → ℕ → Slot → Granted (List ℕ)
 slot_read k offset n s = do
   b ← slot_block k s
-  refuse_if (nat_lt (length b.here.bytes) (offset + n)) BadRange
+  _ ← refuse_if (nat_lt (length b.here.bytes) (offset + n)) BadRange
   Ok (take n (drop offset b.here.bytes))
 
 -- a block of n zeros in the C heap, which grows where it is too short: the slot, and the block's address
 unfoldable pub slot_claim : ℕ → ℕ → Slot → Granted (Slot × ℕ)
 slot_claim free n s = do
-  refuse_if (n == 0) BadSize
-  refuse_if (is_stuck (need n s.heap) s) NoBudge
-  with_placed free (claim_growing n s.heap) s
+  _ ← refuse_if (n == 0) BadSize
+  _ ← refuse_if (is_stuck (need n s.heap) s) NoBudge
+  _ ← refuse_if (lacks_pages free (need n s.heap)) NoRoom
+  Ok (with_placed (claim_growing n s.heap) s)
 
 -- the block at an address of the C heap away
 unfoldable pub slot_release : ℕ → Slot → Granted Slot
@@ -218,16 +214,17 @@ slot_release address s = do
 unfoldable pub slot_resize : ℕ → ℕ → ℤ → Slot → Granted (Slot × ℕ)
 slot_resize free address delta s = do
   b ← found_or (heap_block_at address s) NotABlock
-  refuse_if (new_size delta b == 0) BadSize
-  refuse_if (is_stuck (resize_need (new_size delta b) b s.heap) s) NoBudge
-  with_placed free (resize_growing (new_size delta b) b s.heap) s
+  _ ← refuse_if (new_size delta b == 0) BadSize
+  _ ← refuse_if (is_stuck (resize_need (new_size delta b) b s.heap) s) NoBudge
+  _ ← refuse_if (lacks_pages free (resize_need (new_size delta b) b s.heap)) NoRoom
+  Ok (with_placed (resize_growing (new_size delta b) b s.heap) s)
 
 -- the pages that a claim of n bytes and then a block of no bytes would add
 unfoldable pub slot_take_pages : ℕ → Slot → Granted ℕ
 slot_take_pages n s = do
-  refuse_if (n == 0) BadSize
-  refuse_if (is_stuck (need n s.heap) s) NoBudge
-  Ok (slot_pages (with_block 0 [] (with_heap (claim_growing n s.heap).heap s)) - slot_pages s)
+  _ ← refuse_if (n == 0) BadSize
+  _ ← refuse_if (is_stuck (need n s.heap) s) NoBudge
+  Ok (pages_for (slot_length s + round_up page (need n s.heap) + flex_weight 0) - slot_pages s)
 
 -- budging set, and the state before
 abbrev pub slot_set_budge : Bool → Slot → Slot × Bool
@@ -235,5 +232,5 @@ slot_set_budge on s = (record s { budging = on }, s.budging)
 
 -- opens this file's words, for a proof that computes
 unfoldable pub computing : Unit {0}
-unfolding roomed fitting with_placed slot_begin slot_alloc slot_block slot_size slot_address slot_free slot_extend slot_mid slot_put slot_read slot_claim slot_release slot_resize slot_take_pages
+unfolding slot_begin slot_alloc slot_block slot_size slot_address slot_free slot_extend slot_mid slot_put slot_read slot_claim slot_release slot_resize slot_take_pages
 computing = tt

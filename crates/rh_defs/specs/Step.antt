@@ -7,7 +7,6 @@ use Rattle.rh_defs.specs.declared.command.Command.TheVariants as command
 use Rattle.rh_defs.specs.declared.reply.Reply.{Reply}
 use Rattle.rh_defs.specs.declared.reply.Reply.TheVariants as reply
 use Rattle.rh_defs.specs.Chain.{Granted, ◌>>=◌, ◌>>◌, refuse_if, or_else}
-use Rattle.rh_defs.specs.Pieces.{zeros}
 use Rattle.rh_defs.specs.Slot.{Slot, slot_begin, slot_alloc, slot_put, slot_block}
 use Rattle.rh_defs.specs.Desk.{Desk, most_tasks, free_pages, has_name, named, with_slot}
 
@@ -35,7 +34,7 @@ start_task d name buffer = do
 unfoldable pub alloc : Desk → List ℕ → ℕ → ℕ → Granted Answer
 alloc d name k n = do
   t ← named name d
-  p ← slot_alloc (free_pages d) k (zeros n) t.slot
+  p ← slot_alloc (free_pages d) k n t.slot
   Ok (with_slot t.handle p.0 d, reply.Block p.1)
 
 -- bytes written into a block
