@@ -11,7 +11,7 @@ use Rattle.rh_defs.specs.Pieces.{total, round_up, pages_for, zeros, written}
 use Rattle.rh_defs.specs.Range.{in_range}
 use Rattle.rh_defs.specs.Files.{FileList}
 use Rattle.rh_defs.specs.Heap.{empty_heap}
-use Rattle.rh_defs.specs.Slot.{Flex, weight, slot_pages, is_used, with_block}
+use Rattle.rh_defs.specs.Slot.{Flex, weight, flex_weight, slot_length, slot_pages, is_used, with_block}
 use Rattle.rh_defs.specs.Desk.{Desk, Task, named, with_task, with_slot}
 use Rattle.rh_defs.specs.Step.{alloc}
 use Rattle.rh_defs.proofs.Cuts.{total-append}
@@ -74,12 +74,9 @@ module _ {seats : List Seat} {records : List Record} {bytes : List ℕ} {used fr
   unfolding task_of
   pages-old = ap (λ m. pages_for (4096 + m)) weight-is
 
-  pages-new : slot_pages (with_block k (zeros n) (task_of records bytes s).slot) ≡ pages_for (4096 + heavier)
+  pages-new : pages_for (slot_length (task_of records bytes s).slot + flex_weight n) ≡ pages_for (4096 + heavier)
   unfolding task_of
-  pages-new =
-      let block : Flex = record { anchor = k; bytes = zeros n } in
-      let size : 8 + round_up 4 (length (zeros n)) ≡ 8 + round_up 4 n = ap (λ m. 8 + round_up 4 m) (length-replicate n 0) in
-      ap (λ m. pages_for (4096 + m)) (omega (arith, weight-is, total-append weight (blocks_in s.handle records bytes) (block ∷ [])))
+  pages-new = ap pages_for (omega (arith, weight-is))
 
   used-here : is_used k (task_of records bytes s).slot ≡ is_some (place_in s.handle k 0 records)
   unfolding task_of
@@ -90,11 +87,11 @@ module _ {seats : List Seat} {records : List Record} {bytes : List ℕ} {used fr
 
   pub alloc-used : is_some (place_in s.handle k 0 records) ≡ true → alloc desk name k n ≡ Err AnchorInUse
   unfolding alloc
-  alloc-used has = begins _ named-here (ends _ (slot_alloc-used _ k _ _ (used-here ∙ has)))
+  alloc-used has = begins _ named-here (ends _ (slot_alloc-used _ k n _ (used-here ∙ has)))
 
   pub alloc-full : is_some (place_in s.handle k 0 records) ≡ false → free < growth → alloc desk name k n ≡ Err NoRoom
   unfolding alloc
-  alloc-full lacks full = begins _ named-here (ends _ (slot_alloc-full _ k _ _ (used-here ∙ lacks) (omega (arith, free-is w, pages-old, pages-new))))
+  alloc-full lacks full = begins _ named-here (ends _ (slot_alloc-full _ k n _ (used-here ∙ lacks) (omega (arith, free-is w, pages-old, pages-new))))
 
   -- ---- where there is room
 
@@ -126,7 +123,7 @@ module _ {seats : List Seat} {records : List Record} {bytes : List ℕ} {used fr
     pub alloc-done : alloc desk name k n ≡ Ok (new_desk, reply.Block (36864 + s.weight + 8))
     unfolding alloc task_of
     alloc-done =
-        begins _ named-here (begins _ (slot_alloc-done _ k (zeros n) _ (used-here ∙ lacks) (omega (arith, free-is w, pages-old, pages-new)))
+        begins _ named-here (begins _ (slot_alloc-done _ k n _ (used-here ∙ lacks) (omega (arith, free-is w, pages-old, pages-new)))
         (granted-same (sym new-desk) (ap reply.Block address)))
 
     -- the bytes have room for it

@@ -8,9 +8,9 @@ use Rattle.rh_defs.specs.declared.reply.Reply.{Reply}
 use Rattle.rh_defs.specs.declared.reply.Reply.TheVariants as reply
 use Rattle.rh_defs.specs.declared.command.Command.{Command}
 use Rattle.rh_defs.specs.Chain.{Granted, ◌>>=◌, ◌>>◌, refuse_if, found_or, or_else}
-use Rattle.rh_defs.specs.Pieces.{Split, written}
+use Rattle.rh_defs.specs.Pieces.{Split, pages_for, written, zeros}
 use Rattle.rh_defs.specs.Range.{in_range}
-use Rattle.rh_defs.specs.Slot.{Slot, Flex, slot_pages, block_of, is_used, with_block, with_bytes, flex_address, roomed, slot_alloc, slot_block, slot_put}
+use Rattle.rh_defs.specs.Slot.{Slot, Flex, slot_pages, block_of, is_used, with_block, with_bytes, flex_address, flex_weight, slot_length, slot_alloc, slot_block, slot_put}
 use Rattle.rh_defs.specs.Desk.{Desk}
 use Rattle.rh_defs.specs.Step.{Answer, change}
 use Rattle.rh_defs.specs.Laws.{IsDesk}
@@ -32,6 +32,15 @@ pub stops : {B : Type 0} (b : Bool) (r : Refusal) (x : Granted B) → b ≡ true
 unfolding ◌>>=◌ ◌>>◌ refuse_if
 stops b r x e = rw e refl
 
+-- the same, where the next step waits for the test
+pub passes : {B : Type 0} (b : Bool) (r : Refusal) (next : Unit {0} → Granted B) {y : Granted B} → b ≡ false → next tt ≡ y → (refuse_if b r >>= next) ≡ y
+unfolding ◌>>=◌ refuse_if
+passes b r next e h = rw e h
+
+pub fails : {B : Type 0} (b : Bool) (r : Refusal) (next : Unit {0} → Granted B) → b ≡ true → (refuse_if b r >>= next) ≡ Err r
+unfolding ◌>>=◌ refuse_if
+fails b r next e = rw e refl
+
 pub granted-same : {d e : Desk} {r s : Reply} → d ≡ e → r ≡ s → (let x : Granted Answer = Ok (d, r) in x) ≡ (let y : Granted Answer = Ok (e, s) in y)
 granted-same p q = cc
 
@@ -49,18 +58,18 @@ lt-false a b h = grind (arith, nat_tests)
 
 -- ---- a slot's calls
 
-pub slot_alloc-used : (free k : ℕ) (bytes : List ℕ) (s : Slot) → is_used k s ≡ true → slot_alloc free k bytes s ≡ Err AnchorInUse
+pub slot_alloc-used : (free k n : ℕ) (s : Slot) → is_used k s ≡ true → slot_alloc free k n s ≡ Err AnchorInUse
 unfolding slot_alloc
-slot_alloc-used free k bytes s used = stops _ _ _ used
+slot_alloc-used free k n s used = fails _ _ _ used
 
-pub slot_alloc-full : (free k : ℕ) (bytes : List ℕ) (s : Slot) → is_used k s ≡ false → free < slot_pages (with_block k bytes s) - slot_pages s → slot_alloc free k bytes s ≡ Err NoRoom
-unfolding slot_alloc roomed
-slot_alloc-full free k bytes s unused full = past _ _ _ unused (stops _ _ _ (lt-true _ _ full))
+pub slot_alloc-full : (free k n : ℕ) (s : Slot) → is_used k s ≡ false → free < pages_for (slot_length s + flex_weight n) - slot_pages s → slot_alloc free k n s ≡ Err NoRoom
+unfolding slot_alloc
+slot_alloc-full free k n s unused full = passes _ _ _ unused (fails _ _ _ (lt-true _ _ full))
 
-pub slot_alloc-done : (free k : ℕ) (bytes : List ℕ) (s : Slot) → is_used k s ≡ false → slot_pages (with_block k bytes s) - slot_pages s ≤ free
-    → slot_alloc free k bytes s ≡ Ok (with_block k bytes s, flex_address s s.blocks)
-unfolding slot_alloc roomed
-slot_alloc-done free k bytes s unused room = past _ _ _ unused (past _ _ _ (lt-false _ _ room) refl)
+pub slot_alloc-done : (free k n : ℕ) (s : Slot) → is_used k s ≡ false → pages_for (slot_length s + flex_weight n) - slot_pages s ≤ free
+    → slot_alloc free k n s ≡ Ok (with_block k (zeros n) s, flex_address s s.blocks)
+unfolding slot_alloc
+slot_alloc-done free k n s unused room = passes _ _ _ unused (passes _ _ _ (lt-false _ _ room) refl)
 
 pub block-none : (k : ℕ) (s : Slot) → block_of k s ≡ None → slot_block k s ≡ Err NoBlock
 unfolding slot_block found_or
@@ -76,12 +85,12 @@ slot_put-none k offset bytes s none = ends _ (block-none k s none)
 
 pub slot_put-outside : (k offset : ℕ) (bytes : List ℕ) (s : Slot) (b : Split Flex) → block_of k s ≡ Some b → length b.here.bytes < offset + length bytes → slot_put k offset bytes s ≡ Err BadRange
 unfolding slot_put
-slot_put-outside k offset bytes s b some outside = begins _ (block-some k s b some) (stops _ _ _ (lt-true _ _ outside))
+slot_put-outside k offset bytes s b some outside = begins _ (block-some k s b some) (fails _ _ _ (lt-true _ _ outside))
 
 pub slot_put-done : (k offset : ℕ) (bytes : List ℕ) (s : Slot) (b : Split Flex) → block_of k s ≡ Some b → offset + length bytes ≤ length b.here.bytes
     → slot_put k offset bytes s ≡ Ok (with_bytes b (written b.here.bytes offset bytes) s)
 unfolding slot_put
-slot_put-done k offset bytes s b some inside = begins _ (block-some k s b some) (past _ _ _ (lt-false _ _ inside) refl)
+slot_put-done k offset bytes s b some inside = begins _ (block-some k s b some) (passes _ _ _ (lt-false _ _ inside) refl)
 
 -- ---- a command that is granted
 

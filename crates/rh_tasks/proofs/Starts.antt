@@ -19,7 +19,7 @@ use Rattle.rh_tasks.specs.declared.record.Record.{Record}
 use Rattle.rh_tasks.specs.View.{is_named, count_in, weight_in, seat_weight, seat_pages, task_of, desk_of, IsWorld}
 use Rattle.rh_tasks.proofs.Worlds.{free-is}
 use Rattle.rh_tasks.proofs.Pushes.{no-weight, no-count, no-blocks}
-use Rattle.rh_tasks.proofs.Chains.{begins, ends, past, stops, le-true, le-false, lt-true, lt-false, granted-same, granted-keeps}
+use Rattle.rh_tasks.proofs.Chains.{begins, ends, past, stops, le-true, le-false, lt-true, lt-false, granted-same, granted-keeps, fails, passes}
 
 names-are : (records : List Record) (bytes name : List ℕ) (seats : List Seat) → list_any (has_name name) (map (task_of records bytes) seats) ≡ list_any (is_named name) seats
 unfolding task_of
@@ -71,7 +71,7 @@ module _ {seats : List Seat} {records : List Record} {bytes : List ℕ} {used fr
 
         pub start-full : free ≡ 0 → start_task desk name buffer ≡ Err NoRoom
         unfolding start_task slot_begin
-        start-full full = past _ _ _ new-name (past _ _ _ few-tasks (past _ _ _ more-handles (ends _ (stops _ _ _ (lt-true _ _ (omega (arith, free-is w)))))))
+        start-full full = past _ _ _ new-name (past _ _ _ few-tasks (past _ _ _ more-handles (ends _ (fails _ _ _ (lt-true _ _ (omega (arith, free-is w)))))))
 
         module _ (room : 1 ≤ free) where
           new-task : task_of records bytes new_seat ≡ record { handle = next_handle; name = name; buffer = buffer; slot = new_slot }
@@ -88,7 +88,7 @@ module _ {seats : List Seat} {records : List Record} {bytes : List ℕ} {used fr
           unfolding start_task slot_begin
           start-done =
               past _ _ _ new-name (past _ _ _ few-tasks (past _ _ _ more-handles
-              (begins _ (past _ _ _ (lt-false _ _ (omega (arith, free-is w))) refl) (granted-same new-desk refl))))
+              (begins _ (passes _ _ _ (lt-false _ _ (omega (arith, free-is w))) refl) (granted-same new-desk refl))))
 
           pub start-world : in_range (command.Task name buffer) ≡ true → IsWorld (seats ++ new_seat ∷ []) records bytes used (free - 1) pages files (next_handle + 1) next_ref
           start-world ranged = record {
