@@ -20,3 +20,8 @@ pub mod ModuleLaws
 pub mod SlotLaws
 pub mod SlotImageLaws
 pub mod MessageRows
+pub mod BlockLaws
+pub mod ShapeLaws
+pub mod BlockCalls
+pub mod MessageLaws
+pub mod MessageImageLaws
