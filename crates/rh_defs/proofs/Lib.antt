@@ -25,3 +25,4 @@ pub mod ShapeLaws
 pub mod BlockCalls
 pub mod MessageLaws
 pub mod MessageImageLaws
+pub mod ParcelLaws
