@@ -71,6 +71,14 @@ name_short name t = let w = (both_true (leb (length name) 211) (is_plain name) t
 pub name_plain : (name : List ℕ) → is_pathname name ≡ true → is_plain name ≡ true
 name_plain name t = (both_true (leb (length name) 211) (is_plain name) t).1
 
+pub name_is : (name : List ℕ) → length name ≤ 211 → is_plain name ≡ true → is_pathname name ≡ true
+name_is name l t = go (leb (length name) 211) (is_plain name) (grind (arith, nat_tests)) t
+  where
+    go : (x y : Bool) → x ≡ true → y ≡ true → (x && y) ≡ true
+    go true true ex ey = refl
+    go true false ex ey = absurd cc
+    go false y ex ey = absurd cc
+
 pub length-name_bytes : (name : List ℕ) → length (name_bytes name) ≡ (length name + 4) / 4 * 4
 length-name_bytes name =
     let e = length-append name (zeros (4 * ((length name + 1 + 3) / 4) - length name)) in
