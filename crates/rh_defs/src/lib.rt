@@ -14,6 +14,7 @@ mod name;
 mod pathname;
 mod refusal;
 mod reply;
+pub mod sizes;
 
 pub use bytes::Bytes;
 pub use command::Command;
