@@ -19,3 +19,10 @@ pub mod SlotRows
 pub mod ModuleLaws
 pub mod SlotLaws
 pub mod SlotImageLaws
+pub mod MessageRows
+pub mod BlockLaws
+pub mod ShapeLaws
+pub mod BlockCalls
+pub mod MessageLaws
+pub mod MessageImageLaws
+pub mod ParcelLaws
