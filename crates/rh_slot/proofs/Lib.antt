@@ -3,6 +3,7 @@ pub mod ShiftLaws
 pub mod FlexLaws
 pub mod EditLaws
 pub mod WalkLaws
+pub mod StepLaws
 pub mod SpanLaws
 pub mod LifeLaws
 pub mod GrowLaws
