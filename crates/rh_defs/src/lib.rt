@@ -12,6 +12,7 @@ mod listing;
 mod name;
 mod refusal;
 mod reply;
+pub mod sizes;
 
 pub use bytes::Bytes;
 pub use command::Command;
