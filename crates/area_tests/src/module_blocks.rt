@@ -5,9 +5,10 @@ ghost use Rattle.rh_defs.specs.Memory.{Memory, IsOpen, bytes};
 ghost use Rattle.rh_module.specs.Area.{IsModule};
 
 use rh_defs::Refusal;
+use rh_defs::sizes::PAGE;
 use rh_module::Module;
 use rh_pages::PagedStore;
-use rh_store::{PAGE, Pages, PlainStore, Store, StoreFault};
+use rh_store::{Pages, PlainStore, Store, StoreFault};
 use std::process::Abort;
 use std::test::Fail;
 

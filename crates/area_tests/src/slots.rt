@@ -3,7 +3,7 @@
 ghost use Rattle.std.specs.Prelude.{◌<◌, IfOk};
 ghost use Rattle.rh_defs.specs.Memory.{Memory, open_below};
 ghost use Rattle.rh_slot.specs.Area.{IsSlot};
-ghost use Rattle.rh_store.specs.declared.store.TheConstants.{MAX_AREAS};
+ghost use Rattle.rh_defs.specs.declared.sizes.TheConstants.{MAX_AREAS};
 
 use rh_defs::{Anchor, Refusal};
 use rh_slot::Slot;

@@ -14,7 +14,8 @@ use crate::sliding::shift;
 use crate::slot::Slot;
 use crate::walking::{flex_place, top_of};
 use rh_defs::Refusal;
-use rh_store::{PAGE, Pages};
+use rh_defs::sizes::PAGE;
+use rh_store::Pages;
 
 /// Makes the C heap longer by a shortage, in whole pages. All flex blocks slide up. Refused (`NoRoom`) where too few
 /// pages are free.

@@ -3,13 +3,14 @@ ghost use Rattle.std.specs.Prelude.{◌≡◌, ℕ, ◌+◌, ◌<◌, true, IfOk
 ghost use Rattle.rh_defs.specs.Memory.{Memory, IsOpen, OnlyArea, bytes, closed, open_below};
 ghost use Rattle.rh_defs.specs.Chain.{outcome_of};
 ghost use Rattle.rh_defs.specs.Slot.{new_slot, slot_begin, slot_set_budge};
-ghost use Rattle.rh_store.specs.declared.store.TheConstants.{MAX_AREAS};
+ghost use Rattle.rh_defs.specs.declared.sizes.TheConstants.{MAX_AREAS};
 ghost use Rattle.rh_slot.specs.Area.{slot_in, SpellsIn};
 
 use crate::heap::{HEAP_PLACE, heap_of};
 use crate::slot::Slot;
 use rh_defs::Refusal;
-use rh_store::{PAGE, Store};
+use rh_defs::sizes::PAGE;
+use rh_store::Store;
 
 impl Slot {
     /// Opens an area and makes it a slot with no block, budging on. Refused (`NoRoom`), and nothing changed, where no

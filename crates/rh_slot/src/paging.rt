@@ -3,7 +3,8 @@ ghost use Rattle.std.specs.Prelude.{◌≡◌, ℕ, ◌+◌, ◌-◌, ◌*◌, �
 ghost use Rattle.rh_defs.specs.Memory.{Memory, IsOpen, Resized, bytes};
 ghost use Rattle.rh_defs.specs.Pieces.{pages_for};
 
-use rh_store::{AreaId, PAGE, Pages, StoreFault};
+use rh_defs::sizes::PAGE;
+use rh_store::{AreaId, Pages, StoreFault};
 
 /// How many pages hold `n` bytes.
 pub fn pages_for(n: usize) -> usize

@@ -3,12 +3,12 @@ ghost use Rattle.std.specs.Prelude.{◌≡◌, ◌≢◌, ℕ, ◌+◌, ◌<◌,
 ghost use Rattle.rh_defs.specs.Bytes.{word, part};
 ghost use Rattle.rh_defs.specs.Memory.{IsOpen, bytes};
 
-use crate::{AreaId, MAX_AREAS, Pages, PlainStore, Store, StoreFault, Words};
-use std::test::Fail;
+use rh_defs::sizes::MAX_AREAS;
+use rh_store::{AreaId, Pages, Store, StoreFault, Words};
 
 /// Exchanges the first two words of an area: the example of the crate's first page.
 #[tactic(auto, using(rh_defs::proofs::BytesLaws::word_laws, rh_defs::proofs::MemoryLaws::memory_laws))]
-fn swap_words<S: Words>(store: &mut S, id: AreaId)
+pub(crate) fn swap_words<S: Words>(store: &mut S, id: AreaId)
     requires opened { IsOpen (S.memory store.old) id.0 }
     requires room { 8 ≤ length (bytes (S.memory store.old) id.0) }
     ensures first { word (bytes (S.memory store.new) id.0) 0 ≡ word (bytes (S.memory store.old) id.0) 4 }
@@ -24,7 +24,7 @@ fn swap_words<S: Words>(store: &mut S, id: AreaId)
 
 /// Writes three words at the head of an area and copies two of them to another.
 #[tactic(auto, using(rh_defs::proofs::BytesLaws::word_laws, rh_defs::proofs::MemoryLaws::memory_laws))]
-fn stamp<S: Store>(store: &mut S, id: AreaId, id2: AreaId, w: u32) -> u32
+pub(crate) fn stamp<S: Store>(store: &mut S, id: AreaId, id2: AreaId, w: u32) -> u32
     requires opened { IsOpen (S.memory store.old) id.0 }
     requires opened2 { IsOpen (S.memory store.old) id2.0 }
     requires apart { id.0 ≢ id2.0 }
@@ -47,7 +47,7 @@ fn stamp<S: Store>(store: &mut S, id: AreaId, id2: AreaId, w: u32) -> u32
 
 /// Grows an area by a page and clears its second word, or changes nothing.
 #[tactic(auto, using(rh_defs::proofs::BytesLaws::word_laws, rh_defs::proofs::MemoryLaws::memory_laws, rh_defs::proofs::MemoryLaws::pool_laws))]
-fn lengthen<S: Pages>(store: &mut S, id: AreaId) -> Result<(), StoreFault>
+pub(crate) fn lengthen<S: Pages>(store: &mut S, id: AreaId) -> Result<(), StoreFault>
     requires opened { IsOpen (S.memory store.old) id.0 }
     ensures opened { IsOpen (S.memory store.new) id.0 }
     ensures ok { OnOk result (length (bytes (S.memory store.new) id.0) ≡ length (bytes (S.memory store.old) id.0) + 4096) }
@@ -64,7 +64,7 @@ fn lengthen<S: Pages>(store: &mut S, id: AreaId) -> Result<(), StoreFault>
 
 /// Opens an area and gives it a page, and closes it again where no page is free.
 #[tactic(auto, using(rh_defs::proofs::MemoryLaws::pool_laws))]
-fn make<S: Store>(store: &mut S) -> Result<AreaId, StoreFault>
+pub(crate) fn make<S: Store>(store: &mut S) -> Result<AreaId, StoreFault>
     ensures closed { IfOk result (λ id. IsNone ((S.memory store.old).area id.0)) }
     ensures opened { IfOk result (λ id. IsOpen (S.memory store.new) id.0) }
     ensures len { IfOk result (λ id. length (bytes (S.memory store.new) id.0) ≡ 4096) }
@@ -78,29 +78,4 @@ fn make<S: Store>(store: &mut S) -> Result<AreaId, StoreFault>
             Err(fault)
         }
     }
-}
-
-#[test]
-#[tactic(auto, using(rh_defs::proofs::MemoryLaws::pool_laws, rh_defs::proofs::MemoryLaws::memory_laws, rh_defs::proofs::BytesLaws::word_laws))]
-fn callers_run_on_a_plain_store(rt: HostRuntime) -> Result<(), Fail> {
-    let mut store = PlainStore::new(rt.alloc(), 8)?;
-    let id = make(&mut store)?;
-    lengthen(&mut store, id)?;
-    assert_eq!(rt; store.len(id), 8192);
-    assert_eq!(rt; store.free_pages(), 6);
-    store.set_word(id, 0, 17);
-    swap_words(&mut store, id);
-    assert_eq!(rt; store.word(id, 4), 17);
-    Ok(())
-}
-
-#[test]
-#[tactic(auto, using(rh_defs::proofs::MemoryLaws::pool_laws, rh_defs::proofs::MemoryLaws::memory_laws, rh_defs::proofs::BytesLaws::word_laws))]
-fn a_stamp_is_copied(rt: HostRuntime) -> Result<(), Fail> {
-    let mut store = PlainStore::new(rt.alloc(), 8)?;
-    let id = make(&mut store)?;
-    let id2 = store.open()?;
-    store.grow(id2, 1)?;
-    assert_eq!(rt; stamp(&mut store, id, id2, 258), 258);
-    Ok(())
 }

@@ -1,5 +1,5 @@
 //! The region's calls, at bytes that were worked out by hand.
-use super::{PAGE, Region};
+use rh_region::{PAGE, Region};
 use std::alloc::AllocError;
 use std::process::Abort;
 use std::test::Fail;
