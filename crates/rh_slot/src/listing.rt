@@ -60,22 +60,11 @@ impl Slot {
         requires slot { IsSlot (S.memory store.now) self }
         ensures { result ≡ slice_get (block_items (slot_in (S.memory store.now) self)) i }
     {
-        let mut place = flex_place(store, self);
-        let mut index = 0;
-        'walk: while let Some(size) = size_at(store, self, place) {
-            if index == i {
-                let anchor = (read(store, self.area, place) - SLOT_START) / 4;
-                let address = SLOT_START + place + 8;
-                return Some(BlockItem {
-                    anchor: Anchor(anchor as u8),
-                    address: address as u32,
-                    size: size as u32,
-                });
-            }
-            index += 1;
-            place += weight_of(size);
+        let mut walk = self.blocks(store);
+        'walk: while walk.passed < i {
+            self.next_block(store, &mut walk)?;
         }
-        None
+        self.next_block(store, &mut walk)
     }
 
     /// The segment of the C heap that begins at a place, in bytes from the heap's first one.
