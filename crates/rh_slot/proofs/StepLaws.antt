@@ -11,7 +11,7 @@ use Rattle.rh_defs.specs.Listing.{block_items}
 use Rattle.rh_defs.proofs.Cuts.{total-append}
 use Rattle.rh_slot.specs.declared.steps.FlexWalk.{FlexWalk}
 use Rattle.rh_slot.specs.Walks.{Walked, WalksIn, item_of}
-use Rattle.rh_slot.proofs.WalkLaws.{next, onward, item_here, item_none}
+use Rattle.rh_slot.proofs.WalkLaws.{next, last, onward, item_here, item_none}
 
 pub walks_start : (s : Slot) (place : ℕ) → place ≡ flex_place s → WalksIn s (record { passed = 0; place = place })
 walks_start s place e = record { most = omega arith; place_is = omega arith }
@@ -31,6 +31,11 @@ step_item b s w k h t = item_here b s w.place w.passed k (walk_at s w h) (sym (l
 
 pub no_step : (b : List ℕ) (s : Slot) (w : FlexWalk) → SlotWords b s → WalksIn s w → is_block b w.place ≡ false → slice_get (block_items s) w.passed ≡ None
 no_step b s w k h t = item_none b s w.place w.passed k (walk_at s w h) (sym (length-take-le w.passed s.blocks h.most)) t
+
+pub all_passed : (b : List ℕ) (s : Slot) (w : FlexWalk) → SlotWords b s → WalksIn s w → is_block b w.place ≡ false → w.passed ≡ length s.blocks
+all_passed b s w k h t =
+    let l = length-take-le w.passed s.blocks h.most in
+    omega (arith, ap length (take-append-drop w.passed s.blocks), length-append (take w.passed s.blocks) (drop w.passed s.blocks), ap length (last b s w.place k (walk_at s w h) t))
 
 one_more : (xs ys : List Flex) (p : ℕ) (f : Flex) (after : List Flex) → xs ≡ ys ++ f ∷ after → length ys ≡ p → take (p + 1) xs ≡ ys ++ f ∷ []
 one_more xs ys p f after e l =
