@@ -5,6 +5,7 @@ pub mod EditLaws
 pub mod WalkLaws
 pub mod StepLaws
 pub mod SpanLaws
+pub mod LeaveLaws
 pub mod LifeLaws
 pub mod GrowLaws
 pub mod CallLaws

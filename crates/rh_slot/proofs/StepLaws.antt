@@ -1,5 +1,5 @@
 -- A walk over a slot's flex blocks that is taken step by step.
-use Rattle.std.proofs.Common.{◌≡◌, ℕ, ◌+◌, ◌≤◌, true, false, List, [], ◌∷◌, ◌++◌, length, take, drop, refl, sym, ap, ◌∙◌, append_assoc, arith, length-append}
+use Rattle.std.proofs.Common.{◌≡◌, ℕ, ◌+◌, ◌≤◌, true, false, List, [], ◌∷◌, ◌++◌, length, take, drop, sym, ap, ◌∙◌, append_assoc, arith, length-append}
 use Rattle.std.proofs.lemmas.List.{take-append-drop, length-take-le}
 use Rattle.std.proofs.Math.Seq.{take-append_seam}
 use Rattle.std.specs.Prelude.{Some, None, slice_get}
@@ -11,7 +11,7 @@ use Rattle.rh_defs.specs.Listing.{block_items}
 use Rattle.rh_defs.proofs.Cuts.{total-append}
 use Rattle.rh_slot.specs.declared.steps.FlexWalk.{FlexWalk}
 use Rattle.rh_slot.specs.Walks.{Walked, WalksIn, item_of}
-use Rattle.rh_slot.proofs.WalkLaws.{Counted, next, onward, item_here, item_none}
+use Rattle.rh_slot.proofs.WalkLaws.{next, last, onward, item_here, item_none}
 
 pub walks_start : (s : Slot) (place : ℕ) → place ≡ flex_place s → WalksIn s (record { passed = 0; place = place })
 walks_start s place e = record { most = omega arith; place_is = omega arith }
@@ -25,15 +25,17 @@ walk_at s w h = record {
   place_is = h.place_is;
 }
 
-abbrev counted_at : (s : Slot) (w : FlexWalk) → WalksIn s w → Counted s w.place w.passed w.passed
-counted_at s w h = record { walked = walk_at s w h; count = sym (length-take-le w.passed s.blocks h.most); most = omega arith }
-
 -- the block at which a walk stands
 pub step_item : (b : List ℕ) (s : Slot) (w : FlexWalk) → SlotWords b s → WalksIn s w → is_block b w.place ≡ true → Some (item_of b w.place) ≡ slice_get (block_items s) w.passed
-step_item b s w k h t = item_here b s w.place w.passed w.passed k (counted_at s w h) t (word b w.place) (word b (w.place + 4)) refl refl refl
+step_item b s w k h t = item_here b s w.place w.passed k (walk_at s w h) (sym (length-take-le w.passed s.blocks h.most)) t
 
 pub no_step : (b : List ℕ) (s : Slot) (w : FlexWalk) → SlotWords b s → WalksIn s w → is_block b w.place ≡ false → slice_get (block_items s) w.passed ≡ None
-no_step b s w k h t = item_none b s w.place w.passed w.passed k (counted_at s w h) t
+no_step b s w k h t = item_none b s w.place w.passed k (walk_at s w h) (sym (length-take-le w.passed s.blocks h.most)) t
+
+pub all_passed : (b : List ℕ) (s : Slot) (w : FlexWalk) → SlotWords b s → WalksIn s w → is_block b w.place ≡ false → w.passed ≡ length s.blocks
+all_passed b s w k h t =
+    let l = length-take-le w.passed s.blocks h.most in
+    omega (arith, ap length (take-append-drop w.passed s.blocks), length-append (take w.passed s.blocks) (drop w.passed s.blocks), ap length (last b s w.place k (walk_at s w h) t))
 
 one_more : (xs ys : List Flex) (p : ℕ) (f : Flex) (after : List Flex) → xs ≡ ys ++ f ∷ after → length ys ≡ p → take (p + 1) xs ≡ ys ++ f ∷ []
 one_more xs ys p f after e l =

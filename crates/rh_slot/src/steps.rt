@@ -1,5 +1,5 @@
 //! A walk over a slot's flex blocks that its caller takes step by step.
-ghost use Rattle.std.specs.Prelude.{◌≡◌, ℕ, ◌+◌, ◌<◌, ◌≤◌, true, OnSome, IfNone, slice_get};
+ghost use Rattle.std.specs.Prelude.{◌≡◌, ℕ, ◌+◌, ◌<◌, ◌≤◌, true, length, OnSome, IfNone, slice_get};
 ghost use Rattle.rh_defs.specs.Bytes.{word};
 ghost use Rattle.rh_defs.specs.Memory.{Memory, IsOpen, bytes};
 ghost use Rattle.rh_defs.specs.Listing.{block_items};
@@ -64,6 +64,7 @@ impl Slot {
         ensures walk { WalksIn (slot_in (S.memory store.now) self) walk.new }
         ensures passed { OnSome result (walk.new.passed ≡ walk.old.passed + 1) }
         ensures stays { IfNone result (walk.new ≡ walk.old) }
+        ensures all { IfNone result (walk.new.passed ≡ length (slot_in (S.memory store.now) self).blocks) }
     {
         let place = walk.place;
         let size = size_at(store, self, place)?;

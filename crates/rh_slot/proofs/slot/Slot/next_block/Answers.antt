@@ -1,7 +1,7 @@
 -- The walk stands where the blocks that it has passed end.
 use Rattle.std.proofs.Common.{sym, ap, ◌∙◌, arith}
 use Rattle.std.specs.Prelude.{Some}
-use Rattle.rh_slot.proofs.StepLaws.{walk_at, step_item, no_step, walks_on, few_passed}
+use Rattle.rh_slot.proofs.StepLaws.{walk_at, step_item, no_step, all_passed, walks_on, few_passed}
 use Rattle.rh_slot.proofs.slot.Slot.next_block.Goals as goal
 
 pub size_at-requires-clause-walked : goal.size_at-requires-clause-walked
@@ -9,6 +9,9 @@ size_at-requires-clause-walked g c = walk_at _ _ c.requires.walk
 
 pub returns-in_err-size-clause-block : goal.returns-in_err-size-clause-block
 returns-in_err-size-clause-block g c = c.from_residual.ensures ∙ sym (no_step _ _ _ c.requires.slot.spells.words c.requires.walk c.in_err-size.ensures)
+
+pub returns-in_err-size-clause-all : goal.returns-in_err-size-clause-all
+returns-in_err-size-clause-all g c = rw c.from_residual.ensures (all_passed _ _ _ c.requires.slot.spells.words c.requires.walk c.in_err-size.ensures)
 
 pub item_at-item-requires-clause-walked : goal.item_at-item-requires-clause-walked
 item_at-item-requires-clause-walked g c = walk_at _ _ c.requires.walk
