@@ -12,3 +12,4 @@ pub mod BounceLaws
 pub mod TakeLaws
 pub mod PollLaws
 pub mod FrameLaws
+pub mod SearchLaws

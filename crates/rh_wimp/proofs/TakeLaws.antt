@@ -224,7 +224,7 @@ abbrev pub chain_to : ℕ → List Parcel → List Parcel
 chain_to x queue = filter (λ (r : Parcel). r.to == x) queue
 
 -- the first block of a task's chain spells the first message for it
-next-there : (h : Heap) (ps : List Parcel) → Chain h ps 0 → (first_block ps 0 ≡ 0) ⊎ HasBlock (first_block ps 0) 24 h
+pub next-there : (h : Heap) (ps : List Parcel) → Chain h ps 0 → (first_block ps 0 ≡ 0) ⊎ HasBlock (first_block ps 0) 24 h
 next-there h [] c = inl refl
 next-there h (p ∷ ps) c = inr (record { bytes = padded (first_block ps 0) p; found = c.0.block; room = padded-least (first_block ps 0) p })
 

@@ -10,6 +10,7 @@ mod placing;
 mod polling;
 mod queue;
 mod reading;
+mod searching;
 mod sending;
 
 pub use decoding::decode;
