@@ -1,1 +1,3 @@
-
+pub mod Chains
+pub mod Moves
+pub mod Searches
