@@ -1,5 +1,5 @@
 //! The suite over a paged store, its greatest number of pages, and where its pages stand.
-#![tactic(auto, using(rh_defs::proofs::BytesLaws::word_laws, rh_defs::proofs::MemoryLaws::memory_laws, rh_defs::proofs::MemoryLaws::pool_laws))]
+#![tactic(auto)]
 
 use crate::buffers::pattern;
 use crate::suite;
@@ -76,6 +76,7 @@ fn a_constructor_answers_want_of_memory(rt: HostRuntime) {
 }
 
 #[test]
+#[tactic(auto, using(rh_defs::proofs::BytesLaws::word_laws, rh_defs::proofs::MemoryLaws::memory_laws, rh_defs::proofs::MemoryLaws::pool_laws))]
 fn a_page_stands_at_its_place(rt: HostRuntime) -> Result<(), Fail> {
     let mut store = PagedStore::new(rt.alloc(), 8)?;
     assert_eq!(rt; store.region().len(), 32768);

@@ -1,5 +1,5 @@
 //! The suite over a plain store, its greatest number of pages, and the texts of the faults.
-#![tactic(auto, using(rh_defs::proofs::BytesLaws::word_laws, rh_defs::proofs::MemoryLaws::memory_laws, rh_defs::proofs::MemoryLaws::pool_laws))]
+#![tactic(auto)]
 
 use crate::buffers::pattern;
 use crate::suite;

@@ -1,7 +1,7 @@
 //! What every store does, as functions over any of them, which each store's own file runs.
-#![tactic(auto, using(rh_defs::proofs::BytesLaws::word_laws, rh_defs::proofs::MemoryLaws::memory_laws, rh_defs::proofs::MemoryLaws::pool_laws))]
+#![tactic(auto)]
 
-ghost use Rattle.std.specs.Prelude.{◌≡◌, ◌+◌, ◌<◌, ◌≤◌, length};
+ghost use Rattle.std.specs.Prelude.{◌≡◌, ◌≢◌, ◌+◌, ◌<◌, ◌≤◌, length, IfOk};
 ghost use Rattle.rh_defs.specs.Memory.{IsOpen, bytes};
 
 use crate::buffers::{reads_as, slide_both};
@@ -10,6 +10,7 @@ use rh_store::{AreaId, Pages, Store, StoreFault, Words};
 use std::process::Abort;
 
 /// Of 8 pages: 70 areas can be open and no more, and one of them takes all pages and no more.
+#[tactic(auto, using(rh_defs::proofs::MemoryLaws::pool_laws))]
 pub(crate) fn limits<R: Abort, S: Store>(rt: &R, store: &mut S) -> Result<(), StoreFault> {
     let first = store.open()?;
     assert_eq!(rt; first, AreaId(0));
@@ -28,6 +29,7 @@ pub(crate) fn limits<R: Abort, S: Store>(rt: &R, store: &mut S) -> Result<(), St
 }
 
 /// Of 8 pages: one that was written, cut off and taken again is zero.
+#[tactic(auto, using(rh_defs::proofs::BytesLaws::word_laws, rh_defs::proofs::MemoryLaws::memory_laws, rh_defs::proofs::MemoryLaws::pool_laws))]
 pub(crate) fn grown_pages_are_zero<R: Abort, S: Store>(
     rt: &R,
     store: &mut S,
@@ -43,6 +45,7 @@ pub(crate) fn grown_pages_are_zero<R: Abort, S: Store>(
 }
 
 /// Of 8 pages: those of a closed area come back, and its number.
+#[tactic(auto, using(rh_defs::proofs::MemoryLaws::memory_laws, rh_defs::proofs::MemoryLaws::pool_laws))]
 pub(crate) fn closed_pages_come_back<R: Abort, S: Store>(
     rt: &R,
     store: &mut S,
@@ -60,6 +63,7 @@ pub(crate) fn closed_pages_come_back<R: Abort, S: Store>(
 }
 
 /// Slides over page ends, with ranges that overlap, against a model of two pages.
+#[tactic(auto, using(rh_defs::proofs::MemoryLaws::pool_laws))]
 pub(crate) fn slides_as_copy_within_does<R: Abort, S: Store>(
     rt: &R,
     store: &mut S,
@@ -82,15 +86,29 @@ pub(crate) fn slides_as_copy_within_does<R: Abort, S: Store>(
     Ok(())
 }
 
-/// Copies from one area to another, back, and within one.
-pub(crate) fn copies_both_ways<R: Abort, S: Store>(
-    rt: &R,
-    store: &mut S,
-) -> Result<(), StoreFault> {
+/// Two areas of one page each.
+#[tactic(auto, using(rh_defs::proofs::MemoryLaws::pool_laws))]
+fn two_areas<S: Store>(store: &mut S) -> Result<(AreaId, AreaId), StoreFault>
+    ensures first { IfOk result (λ two. IsOpen (S.memory store.new) two.0.0) }
+    ensures second { IfOk result (λ two. IsOpen (S.memory store.new) two.1.0) }
+    ensures len { IfOk result (λ two. length (bytes (S.memory store.new) two.0.0) ≡ 4096) }
+    ensures len2 { IfOk result (λ two. length (bytes (S.memory store.new) two.1.0) ≡ 4096) }
+    ensures apart { IfOk result (λ two. two.0.0 ≢ two.1.0) }
+{
     let x = store.open()?;
     store.grow(x, 1)?;
     let y = store.open()?;
     store.grow(y, 1)?;
+    Ok((x, y))
+}
+
+/// Copies from one area to another, back, and within one.
+#[tactic(auto, using(rh_defs::proofs::BytesLaws::word_laws, rh_defs::proofs::MemoryLaws::memory_laws))]
+pub(crate) fn copies_both_ways<R: Abort, S: Store>(
+    rt: &R,
+    store: &mut S,
+) -> Result<(), StoreFault> {
+    let (x, y) = two_areas(store)?;
     store.copy_in(x, 3, b"abcdef");
     store.copy(x, 4, y, 8, 4);
     store.copy(y, 9, x, 100, 3);
@@ -102,6 +120,7 @@ pub(crate) fn copies_both_ways<R: Abort, S: Store>(
 }
 
 /// Words stand with the lowest byte first at any offset, also where they cross a page end.
+#[tactic(auto, using(rh_defs::proofs::MemoryLaws::pool_laws))]
 pub(crate) fn words_are_little_endian<R: Abort, S: Store>(
     rt: &R,
     store: &mut S,
@@ -114,6 +133,7 @@ pub(crate) fn words_are_little_endian<R: Abort, S: Store>(
 }
 
 /// A word in an area of zeros, seen as its bytes, from the next byte on, and with its upper half cleared.
+#[tactic(auto, using(rh_defs::proofs::BytesLaws::word_laws, rh_defs::proofs::MemoryLaws::memory_laws))]
 fn word_is_little_endian<R: Abort, S: Words>(rt: &R, store: &mut S, id: AreaId, at: usize)
     requires opened { IsOpen (S.memory store.old) id.0 }
     requires above { 0 < at }
@@ -131,6 +151,7 @@ fn word_is_little_endian<R: Abort, S: Words>(rt: &R, store: &mut S, id: AreaId, 
 }
 
 /// Of 8 pages: calls for no page and no byte change nothing.
+#[tactic(auto, using(rh_defs::proofs::BytesLaws::word_laws, rh_defs::proofs::MemoryLaws::memory_laws, rh_defs::proofs::MemoryLaws::pool_laws))]
 pub(crate) fn nothing_changes_nothing<R: Abort, S: Store>(
     rt: &R,
     store: &mut S,
@@ -149,6 +170,7 @@ pub(crate) fn nothing_changes_nothing<R: Abort, S: Store>(
 }
 
 /// Of 8 pages: the callers that are proved by the laws alone do what their clauses say.
+#[tactic(auto, using(rh_defs::proofs::BytesLaws::word_laws, rh_defs::proofs::MemoryLaws::memory_laws, rh_defs::proofs::MemoryLaws::pool_laws))]
 pub(crate) fn callers_run<R: Abort, S: Store>(rt: &R, store: &mut S) -> Result<(), StoreFault> {
     let id = make(store)?;
     lengthen(store, id)?;
