@@ -5,7 +5,7 @@ use Rattle.std.specs.Prelude.{Option, Some, None, Ok}
 use Rattle.rh_defs.specs.Chain.{Granted, ◌>>=◌, ◌>>◌, refuse_if}
 use Rattle.rh_defs.specs.Pieces.{zeros, pages_for, Split}
 use Rattle.rh_defs.specs.Heap.{Heap, Segment, Placed, need, claim_growing, block_room, raised, block_at, release}
-use Rattle.rh_defs.specs.Module.{module_claim, module_free, grown_by}
+use Rattle.rh_defs.specs.Module.{module_claim, module_free}
 use Rattle.rh_defs.specs.Blocks.{block_bytes, HasBlock}
 use Rattle.rh_defs.specs.declared.refusal.Refusal.TheVariants.{BadSize, NoRoom}
 use Rattle.rh_defs.proofs.BlockLaws.{Puts, placed-puts, block_at-bytes, bytes_here}
@@ -20,7 +20,7 @@ granted-is false false p there e = cc
 
 -- a block that is claimed is a new one of zeros, and no other changes
 pub module_claim-puts : (free n : ℕ) (h : Heap) (there : Heap × ℕ) → module_claim free n h ≡ Ok there → Puts (zeros (block_room n)) h there.0 there.1
-unfolding module_claim grown_by
+unfolding module_claim ◌>>◌
 module_claim-puts free n h there e =
     let p = claim_growing n h in
     let is = granted-is (eqb n 0) (ltb free (pages_for (need n h))) p there e in

@@ -7,7 +7,7 @@ use Rattle.rh_defs.specs.Bytes.{put}
 use Rattle.rh_defs.specs.Chain.{Granted, ◌>>=◌, ◌>>◌, refuse_if}
 use Rattle.rh_defs.specs.Pieces.{total, Split, behind, first_at, zeros, pages_for}
 use Rattle.rh_defs.specs.Heap.{Segment, Used, Hole, Heap, Placed, size_of, with_hole, joined, hole_for, is_hole_for, block_at, is_block_at, placed, placed_in, segment_size, block_room, shortage_in, need, raised, claim_growing, release, release_found}
-use Rattle.rh_defs.specs.Module.{module_claim, grown_by, module_need_pages}
+use Rattle.rh_defs.specs.Module.{module_claim, module_need_pages}
 use Rattle.rh_defs.specs.declared.refusal.Refusal.TheVariants.{BadSize, NoRoom}
 use Rattle.rh_defs.proofs.BytesLaws.{length-put}
 use Rattle.rh_defs.specs.Blocks.{blank, blanked, poked, written_at, SameShape}
@@ -176,14 +176,14 @@ claims false true p q a = refl
 claims false false p q a = (a.address, a.shape)
 
 pub module_claim-alike : (free n : ℕ) (h d : Heap) → SameShape h d → Alike (module_claim free n h) (module_claim free n d)
-unfolding module_claim grown_by
+unfolding module_claim ◌>>◌
 module_claim-alike free n h d s =
     subst (λ k. Alike (refuse_if (eqb n 0) BadSize >> (refuse_if (ltb free (pages_for (need n h))) NoRoom >> Ok ((claim_growing n h).heap, (claim_growing n h).address)))
     (refuse_if (eqb n 0) BadSize >> (refuse_if (ltb free (pages_for k)) NoRoom >> Ok ((claim_growing n d).heap, (claim_growing n d).address)))) (need-alike n h d s)
     (claims (eqb n 0) (ltb free (pages_for (need n h))) (claim_growing n h) (claim_growing n d) (growing-alike n h d s))
 
 pub module_need_pages-alike : (n : ℕ) (h d : Heap) → SameShape h d → module_need_pages n h ≡ module_need_pages n d
-unfolding module_need_pages
+unfolding module_need_pages ◌>>◌
 module_need_pages-alike n h d s = ap (λ k. refuse_if (eqb n 0) BadSize >> Ok (pages_for k)) (need-alike n h d s)
 
 -- ---- writes and releases
