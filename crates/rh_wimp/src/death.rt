@@ -32,7 +32,7 @@ impl Queue {
         };
         self.end_held(store, rma, at, handle);
         self.end_chain(store, rma, at, handle);
-        let _entry = self.entries.remove(at);
+        self.entries.remove(at);
     }
 
     /// Bounces the message that a dying task holds, if there is one.

@@ -62,9 +62,9 @@ at_last g c post p s =
     (ap length e) (ap (λ ss. (seat_at ss c.in-Some.at).handle) e) s1 d.1.spells p.0 in
     (t.within, t.handle ∙ p.1)
 
-pub remove-entry-requires : goal.remove-entry-requires
-remove-entry-requires g c =
-    let a = goal.at.remove-entry-requires g c in
+pub remove-requires : goal.remove-requires
+remove-requires g c =
+    let a = goal.at.remove-requires g c in
     let w = at_last g a.After-end_chain c.requires.post.0 (then_there g a.After-end_held c.requires.post.0 (place g a.In-Some) c.requires.post.1) c.requires.post.1 in
     let l : c.in-Some.at < length c.self-2.inside.entries.items = subst (λ (q : Chains). c.in-Some.at < length q.entries) (sym c.self-2.view_is) w.0 in
     omega (arith, c.self-2.inside.entries.ok.0)
@@ -76,5 +76,5 @@ returns-clause-spells g c = λ post s.
     let w = at_last g a.After-end_chain post (then_there g a.After-end_held post (place g a.In-Some) s) s in
     let d = c.end_chain.ensures.drains (settled c.args.handle post) (c.end_held.ensures.spells post s) in
     let done = death-done n c.args.rma c.end_chain.new.self post c.args.handle c.in-Some.at w.0 w.1 d in
-    subst (λ es. IsPost (heap_in n c.args.rma) (record { entries = es; live = c.self-2.inside.live; next_ref = c.self-2.inside.next_ref }) (post_death c.args.handle post)) (sym c.remove-entry.ensures.items)
+    subst (λ es. IsPost (heap_in n c.args.rma) (record { entries = es; live = c.self-2.inside.live; next_ref = c.self-2.inside.next_ref }) (post_death c.args.handle post)) (sym c.remove.ensures.items)
     (subst (λ (q : Chains). IsPost (heap_in n c.args.rma) (record { entries = remove q.entries c.in-Some.at; live = q.live; next_ref = q.next_ref }) (post_death c.args.handle post)) (sym c.self-2.view_is) done)
