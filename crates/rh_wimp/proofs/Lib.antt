@@ -13,3 +13,6 @@ pub mod TakeLaws
 pub mod PollLaws
 pub mod FrameLaws
 pub mod SearchLaws
+pub mod DeathLaws
+pub mod LeaveLaws
+pub mod EndLaws

@@ -1,3 +1,4 @@
 pub mod Chains
 pub mod Moves
 pub mod Searches
+pub mod Deaths

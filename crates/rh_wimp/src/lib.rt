@@ -3,6 +3,7 @@
 
 mod bytes;
 mod chain;
+mod death;
 mod decoding;
 mod encoding;
 mod layout;
