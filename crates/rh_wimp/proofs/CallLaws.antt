@@ -7,7 +7,7 @@ use Rattle.rh_defs.specs.Chain.{Granted, ◌>>=◌, ◌>>◌, refuse_if, answer_
 use Rattle.rh_defs.specs.Memory.{Memory, OnlyArea}
 use Rattle.rh_defs.specs.Pieces.{zeros, pages_for, Split}
 use Rattle.rh_defs.specs.Heap.{Heap, Segment, Placed, need, claim_growing, block_room, raised, block_at, release}
-use Rattle.rh_defs.specs.Module.{module_claim, module_free, grown_by}
+use Rattle.rh_defs.specs.Module.{module_claim, module_free}
 use Rattle.rh_defs.specs.declared.refusal.Refusal.TheVariants.{BadSize, NoRoom}
 use Rattle.rh_defs.proofs.BytesLaws.{put-parts}
 use Rattle.rh_defs.proofs.MemoryLaws.{OnlyArea-both}
