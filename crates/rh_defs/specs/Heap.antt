@@ -5,6 +5,7 @@ use Rattle.rh_defs.specs.Pieces.{round_up, page, zeros, moved, total, Split, fir
 use Rattle.rh_defs.specs.declared.heap.HeapRefusal.{HeapRefusal}
 use Rattle.rh_defs.specs.declared.heap.HeapRefusal.TheVariants.{NotABlock, BadSize, NoRoom, ExcessiveShrink}
 use Rattle.rh_defs.specs.declared.refusal.Refusal.{Refusal}
+use Rattle.rh_defs.specs.declared.sizes.TheConstants.{HEAP_FIRST}
 use Rattle.rh_defs.specs.declared.refusal.Refusal.TheVariants as refusal
 
 -- a block with its bytes, or free bytes between blocks
@@ -28,7 +29,7 @@ bytes_of (Hole size) = []
 
 -- the descriptor takes the first 16 bytes
 abbrev pub first_place : ℕ
-first_place = 16
+first_place = HEAP_FIRST
 
 -- where segments end that begin at the heap's first place
 abbrev pub place_after : List Segment → ℕ
