@@ -1,23 +1,21 @@
 -- What calls on the module area leave of its blocks.
-use Rattle.std.proofs.Common.{◌≡◌, ℕ, ◌+◌, ◌≤◌, Bool, true, false, eqb, ltb, List, [], ◌++◌, length, take, drop, refl, sym, ap, subst, ◌∙◌, arith}
-use Rattle.std.proofs.lemmas.List.{length-replicate, take_at}
-use Rattle.std.specs.Prelude.{Option, Some, None, Ok, Err}
+use Rattle.std.proofs.Common.{◌≡◌, ℕ, ◌+◌, ◌≤◌, List, [], ◌++◌, length, take, drop, refl, sym, ap, subst, ◌∙◌, arith}
+use Rattle.std.proofs.lemmas.List.{take_at}
+use Rattle.std.specs.Prelude.{Ok, Err}
 use Rattle.rh_defs.specs.Bytes.{put}
-use Rattle.rh_defs.specs.Chain.{Granted, ◌>>=◌, ◌>>◌, refuse_if, answer_of, left_of, no_answer}
-use Rattle.rh_defs.specs.Memory.{Memory, OnlyArea}
-use Rattle.rh_defs.specs.Pieces.{zeros, pages_for, Split}
-use Rattle.rh_defs.specs.Heap.{Heap, Segment, Placed, need, claim_growing, block_room, raised, block_at, release}
+use Rattle.rh_defs.specs.Chain.{Granted, answer_of, left_of, no_answer}
+use Rattle.rh_defs.specs.Memory.{Memory}
+use Rattle.rh_defs.specs.Pieces.{zeros}
+use Rattle.rh_defs.specs.Heap.{Heap, block_room, release}
 use Rattle.rh_defs.specs.Module.{module_claim, module_free}
-use Rattle.rh_defs.specs.declared.refusal.Refusal.TheVariants.{BadSize, NoRoom}
 use Rattle.rh_defs.proofs.BytesLaws.{put-parts}
 use Rattle.rh_defs.proofs.MemoryLaws.{OnlyArea-both}
-use Rattle.rh_defs.proofs.ModuleLaws.{module_free-some}
 use Rattle.rh_module.specs.Area.{heap_in}
 use Rattle.rh_module.specs.Calls.{Leaves}
 use Rattle.rh_module.specs.declared.module.Module.{Module}
 use Rattle.rh_module.specs.Writes.{Wrote}
 use Rattle.rh_wimp.specs.Moves.{Turns}
-use Rattle.rh_defs.specs.Blocks.{block_bytes, poked, HasBlock}
+use Rattle.rh_defs.specs.Blocks.{poked, HasBlock}
 use Rattle.rh_defs.specs.Bytes.{word_bytes}
 use Rattle.rh_defs.specs.Messages.{encoded, encoded_length}
 use Rattle.rh_defs.specs.declared.message.Message.{Message}

@@ -1,23 +1,14 @@
 -- A post whose dying task loses its messages one by one, and then its seat.
-use Rattle.std.proofs.Common.{◌≡◌, ℕ, zero, suc, ◌+◌, ◌<◌, ◌≤◌, ◌≢◌, inl, inr, Bool, true, false, cond, eqb, List, [], ◌∷◌, ◌++◌, length, map, get_or, refl, sym, ap, subst, ◌∙◌, arith, append-nil}
-use Rattle.std.proofs.lemmas.Bool.{cases_eq, cases_lt}
-use Rattle.std.proofs.lemmas.List.{length-map}
-use Rattle.std.proofs.lemmas.List.Edits.{length-remove, get_or-remove_below, get_or-remove_above}
+use Rattle.std.proofs.Common.{◌≡◌, ℕ, ◌≢◌, inl, inr, Bool, true, false, cond, eqb, List, [], ◌∷◌, ◌++◌, refl, sym, ap, ◌∙◌, append-nil}
+use Rattle.std.proofs.lemmas.Bool.{cases_eq}
 use Rattle.std.proofs.lemmas.List.Elements.{filter-append}
 use Rattle.std.specs.Prelude.{Option, Some, None, filter, not, ◌==◌}
-use Rattle.std.specs.List.{remove}
-use Rattle.rh_defs.specs.Heap.{Heap, release}
 use Rattle.rh_defs.specs.Blocks.{poked}
 use Rattle.rh_defs.specs.Messages.{Parcel, is_recorded, parcel_bytes}
-use Rattle.rh_defs.specs.Pieces.{total}
-use Rattle.rh_defs.specs.Post.{Seat, Post, has_seat, held_by, with_held, count_held, live_count, as_returned, bounced, bounce_all, bounce_held, without_block, post_death}
+use Rattle.rh_defs.specs.Post.{Seat, Post, has_seat, held_by, with_held, as_returned, bounced, bounce_all, bounce_held, without_block, post_death}
 use Rattle.rh_defs.proofs.HeapLists.{cond_true, cond_false, eqb_same, eqb_apart}
-use Rattle.rh_wimp.specs.Chains.{Chains, Row, IsPost, IsLinked, RowsLie, AllLive, Apart, Clear, Off, entry_at, no_entry, no_row, row_at, row_of, rows_of, row_parcels}
 use Rattle.rh_wimp.specs.Deaths.{bounced_from, ended_from, lifted, queue_to, rest_of_death, settled_from, without_seat}
-use Rattle.rh_wimp.specs.declared.chain.Entry.{Entry}
 use Rattle.rh_wimp.proofs.PollLaws.{bounced-seats}
-use Rattle.rh_wimp.proofs.PostLaws.{Named, seat_at, held-at, row-at}
-use Rattle.rh_wimp.proofs.SendLaws.{seated, named, as_many}
 use Rattle.rh_wimp.proofs.TakeLaws.{FirstFor, rest_of}
 
 abbrev pub seats_but : ℕ → List Seat → List Seat

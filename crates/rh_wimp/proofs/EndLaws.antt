@@ -4,12 +4,12 @@ use Rattle.std.specs.Prelude.{Option, Some, None, true, false, ◌==◌}
 use Rattle.rh_defs.specs.Heap.{Heap, release}
 use Rattle.rh_defs.specs.Memory.{Memory, OnlyArea}
 use Rattle.rh_defs.specs.Messages.{Parcel, is_recorded}
-use Rattle.rh_defs.specs.Post.{Seat, Post, held_by, with_held, bounced, bounce_all, without_block, post_death}
+use Rattle.rh_defs.specs.Post.{Post, held_by, bounced, bounce_all, without_block, post_death}
 use Rattle.rh_defs.proofs.HeapLists.{cond_true, cond_false, eqb_same, eqb_apart}
 use Rattle.rh_module.specs.Area.{IsModule, heap_in}
 use Rattle.rh_module.specs.declared.module.Module.{Module}
 use Rattle.rh_wimp.specs.Chains.{Chains, IsPost, Lifted, LiftsFirst, MayBounce, SpellsPost, entry_at}
-use Rattle.rh_wimp.specs.Deaths.{Drained, Drains, bounced_from, ended_from, lifted, queue_to, rest_of_death, settled_from, without_seat}
+use Rattle.rh_wimp.specs.Deaths.{Drained, Drains, bounced_from, ended_from, lifted, queue_to, settled_from, without_seat}
 use Rattle.rh_wimp.proofs.BounceLaws.{vanished}
 use Rattle.rh_wimp.proofs.DeathLaws.{death-settled, death-step, queue-ended, seats-ended, seats-from}
 use Rattle.rh_wimp.proofs.LeaveLaws.{left_chains, seat-left}

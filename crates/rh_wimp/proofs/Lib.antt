@@ -16,3 +16,4 @@ pub mod SearchLaws
 pub mod DeathLaws
 pub mod LeaveLaws
 pub mod EndLaws
+pub mod LeavesLaws

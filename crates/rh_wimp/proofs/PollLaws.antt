@@ -1,14 +1,13 @@
 -- A poll, by its calls.
-use Rattle.std.proofs.Common.{◌≡◌, ℕ, zero, suc, ◌+◌, ◌-◌, ◌<◌, ◌≤◌, ◌≢◌, ◌^◌, ◌⊎◌, inl, inr, true, false, Bool, cond, eqb, List, [], ◌∷◌, ◌++◌, length, set, refl, sym, ap, subst, ◌∙◌, arith}
+use Rattle.std.proofs.Common.{◌≡◌, ℕ, zero, suc, ◌+◌, ◌<◌, ◌≤◌, ◌≢◌, ◌^◌, ◌⊎◌, inl, inr, true, false, Bool, cond, eqb, List, [], ◌∷◌, ◌++◌, length, set, refl, sym, ap, subst, ◌∙◌, arith}
 use Rattle.std.proofs.lemmas.Bool.{cases_eq}
-use Rattle.std.proofs.lemmas.List.{set-set, get_or-set_same, length-set}
 use Rattle.std.specs.Prelude.{Option, Some, None, ◌==◌}
 use Rattle.std.specs.List.{position}
 use Rattle.rh_defs.specs.Bytes.{word}
 use Rattle.rh_defs.specs.Heap.{Heap, release}
 use Rattle.rh_defs.specs.Memory.{Memory, bytes}
 use Rattle.rh_defs.specs.Pieces.{total}
-use Rattle.rh_defs.proofs.HeapLists.{cond_true, cond_false, eqb_same, eqb_apart}
+use Rattle.rh_defs.proofs.HeapLists.{cond_true, cond_false}
 use Rattle.rh_module.specs.Area.{IsModule, heap_in}
 use Rattle.rh_module.specs.declared.module.Module.{Module}
 use Rattle.rh_wimp.specs.Moves.{relinked}
@@ -16,10 +15,10 @@ use Rattle.rh_defs.specs.Blocks.{block_bytes, poked, HasBlock}
 use Rattle.rh_defs.specs.Bytes.{word_bytes}
 use Rattle.rh_defs.specs.Messages.{Parcel, code_number, is_recorded, padded, parcel_bytes}
 use Rattle.rh_defs.specs.Post.{Seat, Post, has_seat, held_by, with_held, count_held, live_count, as_returned, bounced, bounce_held, first_for, taken, taken_from, without_block}
-use Rattle.rh_wimp.specs.Chains.{Chains, Row, IsPost, MayBounce, Lies, LiesAt, Lifted, Loose, Holds, entry_at, no_entry, row_at, rows_of, lengthened, emptied_chains, shortened, shortened_chains, holding_chains, first_block}
+use Rattle.rh_wimp.specs.Chains.{Chains, Row, IsPost, MayBounce, Lies, LiesAt, Lifted, Loose, Holds, entry_at, row_at, rows_of, lengthened, emptied_chains, shortened_chains, holding_chains, first_block}
 use Rattle.rh_wimp.specs.declared.chain.Entry.{Entry}
 use Rattle.rh_module.proofs.BlockBytes.{block_within}
-use Rattle.rh_defs.proofs.BlockLaws.{has-poked, has-less, poked-other, poked-pokes, release-poked}
+use Rattle.rh_defs.proofs.BlockLaws.{has-poked, has-less, poked-other, poked-pokes}
 use Rattle.rh_wimp.proofs.BounceLaws.{lift, returned-queued, vanished}
 use Rattle.rh_wimp.specs.Deaths.{lifted}
 use Rattle.rh_defs.proofs.ParcelLaws.{from_read, link_read, code_read, padded-least, padded-relinked}

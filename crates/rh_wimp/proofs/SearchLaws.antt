@@ -1,5 +1,5 @@
 -- Laws of searches among the live messages.
-use Rattle.std.proofs.Common.{◌≡◌, ℕ, zero, suc, ◌+◌, ◌<◌, ◌≤◌, ◌≢◌, ◌^◌, inl, inr, Bool, true, false, cond, eqb, List, [], ◌∷◌, ◌++◌, length, map, refl, sym, ap, ◌∙◌, arith}
+use Rattle.std.proofs.Common.{◌≡◌, ℕ, zero, suc, ◌+◌, ◌<◌, ◌≤◌, ◌≢◌, ◌^◌, inl, inr, Bool, true, false, cond, eqb, List, [], ◌∷◌, length, map, refl, sym, ap, ◌∙◌, arith}
 use Rattle.std.proofs.lemmas.Bool.Decides.{eqb_tells}
 use Rattle.std.proofs.lemmas.List.{length-map}
 use Rattle.std.proofs.lemmas.List.Folds.{list_any-append}
@@ -7,8 +7,7 @@ use Rattle.std.specs.Prelude.{Option, Some, None, filter, ◌==◌, ◌||◌}
 use Rattle.std.specs.List.{list_any}
 use Rattle.rh_defs.specs.Heap.{Heap}
 use Rattle.rh_defs.specs.Messages.{Parcel, padded}
-use Rattle.rh_defs.specs.Pieces.{total}
-use Rattle.rh_defs.specs.Post.{Seat, Post, has_seat, holds_such, has_message, live_count, count_held}
+use Rattle.rh_defs.specs.Post.{Seat, Post, has_seat, holds_such, has_message}
 use Rattle.rh_defs.specs.Blocks.{HasBlock, block_bytes}
 use Rattle.rh_defs.specs.Bytes.{word}
 use Rattle.rh_defs.specs.Memory.{Memory, bytes}

@@ -2,3 +2,4 @@ pub mod Chains
 pub mod Moves
 pub mod Searches
 pub mod Deaths
+pub mod Calls

@@ -1,9 +1,10 @@
 //! The end of a live handle.
-ghost use Rattle.std.specs.Prelude.{◌≡◌, ◌<◌, length};
+ghost use Rattle.std.specs.Prelude.{◌≡◌, ◌<◌, ◌==◌, filter, length, not};
 ghost use Rattle.rh_defs.specs.Memory.{OnlyArea};
 ghost use Rattle.rh_defs.specs.Messages.{Parcel};
 ghost use Rattle.rh_defs.specs.Post.{Post, held_by, post_death};
 ghost use Rattle.rh_module.specs.Area.{IsModule};
+ghost use Rattle.rh_wimp.specs.Calls.{IsQueue, Leaves, handles_of};
 ghost use Rattle.rh_wimp.specs.Chains.{HasEntry, MayBounce, SpellsPost, entry_at};
 ghost use Rattle.rh_wimp.specs.Deaths.{Drains, bounced_from, ended_from, settled_from};
 
@@ -20,12 +21,10 @@ impl Queue {
     /// Ends a live handle. The message that it holds bounces, then the recorded messages queued for it bounce in order,
     /// and the others vanish. Those from the handle itself vanish too, as it isn't live any more.
     pub fn bounce_for_death<S: Pages>(&mut self, store: &mut S, rma: Module, handle: Handle)
-        requires module { IsModule (S.memory store.old) rma }
-        requires post { (post : Post) × SpellsPost (S.memory store.old) rma self.old post }
+        requires queue { IsQueue (S.memory store.old) rma self.old }
         requires live { HasEntry handle self.old }
-        ensures spells { (post : Post) → SpellsPost (S.memory store.old) rma self.old post → SpellsPost (S.memory store.new) rma self.new (post_death handle post) }
-        ensures module { IsModule (S.memory store.new) rma }
-        ensures only { OnlyArea (S.memory store.old) (S.memory store.new) rma.area.0 }
+        ensures leaves { Leaves (S.memory store.old) (S.memory store.new) rma self.old self.new (post_death handle) }
+        ensures handles { handles_of self.new ≡ filter (λ h. not (h == handle)) (handles_of self.old) }
     {
         let Some(at) = find(&self.entries, handle) else {
             return;

@@ -2,9 +2,10 @@
 ghost use Rattle.std.specs.Prelude.{◌≡◌, ◌<◌, ◌≤◌, ◌^◌, ℕ, List, Option, length};
 ghost use Rattle.std.specs.List.{list_any};
 ghost use Rattle.rh_defs.specs.Messages.{Parcel};
-ghost use Rattle.rh_defs.specs.Post.{Post, holds_such, post_is_live, post_is_message};
+ghost use Rattle.rh_defs.specs.Post.{holds_such, post_is_live, post_is_message};
 ghost use Rattle.rh_module.specs.Area.{IsModule, heap_in};
-ghost use Rattle.rh_wimp.specs.Chains.{Chain, Holds, Lies, Row, RowLies, RowsLie, SpellsPost, first_block, row_parcels};
+ghost use Rattle.rh_wimp.specs.Calls.{Answers, IsQueue};
+ghost use Rattle.rh_wimp.specs.Chains.{Chain, Holds, Lies, Row, RowLies, RowsLie, first_block, row_parcels};
 ghost use Rattle.rh_wimp.specs.Searches.{AreShort, rows_have, wants};
 
 use crate::chain::Entry;
@@ -26,18 +27,16 @@ pub(crate) enum Wanted {
 impl Queue {
     /// Whether a message, queued or held, lies in the block at an offset of the module area.
     pub fn is_message<S: Words>(&self, store: &S, rma: Module, block: usize) -> bool
-        requires module { IsModule (S.memory store.now) rma }
-        requires post { (post : Post) × SpellsPost (S.memory store.now) rma self.now post }
-        ensures { (post : Post) → SpellsPost (S.memory store.now) rma self.now post → result ≡ post_is_message block post }
+        requires { IsQueue (S.memory store.now) rma self.now }
+        ensures { Answers (S.memory store.now) rma self.now (post_is_message block) result }
     {
         any_entry(store, rma, &self.entries, &Wanted::At(block))
     }
 
     /// Whether the message with a ref is queued or held.
     pub fn is_live<S: Words>(&self, store: &S, rma: Module, my_ref: Ref) -> bool
-        requires module { IsModule (S.memory store.now) rma }
-        requires post { (post : Post) × SpellsPost (S.memory store.now) rma self.now post }
-        ensures { (post : Post) → SpellsPost (S.memory store.now) rma self.now post → result ≡ post_is_live my_ref post }
+        requires { IsQueue (S.memory store.now) rma self.now }
+        ensures { Answers (S.memory store.now) rma self.now (post_is_live my_ref) result }
     {
         any_entry(store, rma, &self.entries, &Wanted::WithRef(my_ref))
     }

@@ -1,6 +1,5 @@
-use Rattle.std.proofs.Common.{◌≡◌, ℕ, eqb, sym, ap, ◌∙◌, arith}
-use Rattle.std.specs.Prelude.{Some}
-use Rattle.rh_defs.specs.Blocks.{HasBlock, block_bytes}
+use Rattle.std.proofs.Common.{eqb, sym, ap, ◌∙◌, arith}
+use Rattle.rh_defs.specs.Blocks.{block_bytes}
 use Rattle.rh_defs.specs.Messages.{padded}
 use Rattle.rh_defs.proofs.BlockLaws.{has-less}
 use Rattle.rh_defs.proofs.ParcelLaws.{padded-least, ref_read}

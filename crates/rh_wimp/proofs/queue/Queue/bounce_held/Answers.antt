@@ -1,4 +1,4 @@
-use Rattle.std.proofs.Common.{◌≡◌, ℕ, refl, sym, subst}
+use Rattle.std.proofs.Common.{ℕ, refl, sym, subst}
 use Rattle.rh_module.specs.Area.{heap_in}
 use Rattle.rh_wimp.specs.Chains.{Chains, IsPost, SpellsPost, MayBounce, emptied_chains, entry_at}
 use Rattle.rh_defs.specs.Post.{Post, bounce_held, held_by}

@@ -1,4 +1,4 @@
-use Rattle.std.proofs.Common.{◌≡◌, ℕ, sym, subst}
+use Rattle.std.proofs.Common.{ℕ, sym, subst}
 use Rattle.rh_module.specs.Area.{heap_in}
 use Rattle.rh_wimp.specs.Chains.{Chains, IsPost, SpellsPost, MayBounce, emptied_chains}
 use Rattle.rh_wimp.specs.Deaths.{lifted, settled_from}

@@ -1,6 +1,6 @@
-use Rattle.std.proofs.Common.{◌≡◌, ℕ, sym, ap, subst, ◌∙◌, arith}
+use Rattle.std.proofs.Common.{sym, ap, subst, ◌∙◌, arith}
 use Rattle.rh_defs.proofs.BlockLaws.{has-less}
-use Rattle.rh_defs.specs.Messages.{Parcel, is_recorded}
+use Rattle.rh_defs.specs.Messages.{is_recorded}
 use Rattle.rh_defs.specs.Post.{Post}
 use Rattle.rh_module.specs.Area.{heap_in}
 use Rattle.rh_wimp.specs.Chains.{IsPost}

@@ -1,5 +1,5 @@
-use Rattle.std.proofs.Common.{◌≡◌, sym, subst, ◌∙◌}
-use Rattle.rh_defs.specs.Post.{Post, post_is_message}
+use Rattle.std.proofs.Common.{sym, subst, ◌∙◌}
+use Rattle.rh_defs.specs.Post.{post_is_message}
 use Rattle.rh_module.specs.Area.{heap_in}
 use Rattle.rh_wimp.specs.Chains.{Chains, SpellsPost, rows_of}
 use Rattle.rh_wimp.specs.Searches.{wants}
@@ -10,9 +10,9 @@ use Rattle.rh_wimp.proofs.queue.Queue.is_message.Goals as goal
 pub any_entry-requires-clause-rows : goal.any_entry-requires-clause-rows
 any_entry-requires-clause-rows g c =
     let m = g.S.Words.memory c.args.store.now in
-    let post = c.requires.post.0 in
+    let post = c.requires.post in
     let q : Chains = record { entries = c.self.inside.entries.items; live = c.self.inside.live; next_ref = c.self.inside.next_ref } in
-    let s : SpellsPost m c.args.rma q post = subst (λ (k : Chains). SpellsPost m c.args.rma k post) (sym c.self.view_is) c.requires.post.1 in
+    let s : SpellsPost m c.args.rma q post = subst (λ (k : Chains). SpellsPost m c.args.rma k post) (sym c.self.view_is) c.requires.spells in
     (rows_of post, (s.rows, short-rows (heap_in m c.args.rma) q post s))
 
 pub returns : goal.returns
