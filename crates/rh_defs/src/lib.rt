@@ -18,7 +18,7 @@ pub use bytes::Bytes;
 pub use command::Command;
 pub use fault::LineFault;
 pub use files::Files;
-pub use heap::HeapFault;
+pub use heap::{HeapFault, HeapRefusal};
 pub use ids::{Anchor, Handle, Ref};
 pub use laws::{image_law, span_law};
 pub use listing::{AreaItem, BlockItem};

@@ -3,6 +3,7 @@
 
 mod blocks;
 mod length;
+mod listing;
 mod module;
 
 pub use module::Module;
