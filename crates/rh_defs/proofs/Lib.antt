@@ -16,3 +16,7 @@ pub mod ModuleLaws
 pub mod SlotLaws
 pub mod SlotImageLaws
 pub mod MessageRows
+pub mod Rows
+pub mod MemoryRows
+pub mod TransferRows
+pub mod Examples
