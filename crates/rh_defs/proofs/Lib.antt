@@ -14,6 +14,7 @@ pub mod HeapGrowth
 pub mod SlotRows
 pub mod ModuleLaws
 pub mod SlotLaws
+pub mod SlotRooms
 pub mod SlotImageLaws
 pub mod MessageRows
 pub mod Rows

@@ -9,7 +9,7 @@ use Rattle.rh_defs.proofs.Rows.{Any, Is, Begins, Has, meets}
 pub fresh_desk : meets (start 8 []) (
     ("task a 100", Is "ok 1\n")
     ∷ ("areas", Is "ok 6\n  area 0 0\n  area 1 1\n  area 2 0\n  area 3 0\n  area 4 0\n  area 5 0\n  slot a 1\n") ∷ []
-  ) ≡ true
+    ) ≡ true
 unfolding Script.computing hex_on_literals
 fresh_desk = refl
 
@@ -19,7 +19,7 @@ pub whole_pool : meets (start 8 []) (
     ∷ ("alloc a 0 24568", Is "ok &9008\n")
     ∷ ("areas", Begins "ok 0")
     ∷ ("areas", Has "slot a 7") ∷ []
-  ) ≡ true
+    ) ≡ true
 unfolding Script.computing hex_on_literals
 whole_pool = refl
 
@@ -28,7 +28,7 @@ pub whole_pool_one_byte_more : meets (start 8 []) (
     ("task a 100", Any)
     ∷ ("alloc a 0 24569", Is "refused NoRoom\n")
     ∷ ("areas", Is "ok 6\n  area 0 0\n  area 1 1\n  area 2 0\n  area 3 0\n  area 4 0\n  area 5 0\n  slot a 1\n") ∷ []
-  ) ≡ true
+    ) ≡ true
 unfolding Script.computing hex_on_literals
 whole_pool_one_byte_more = refl
 
@@ -40,7 +40,7 @@ pub budging : meets (start 64 []) (
     ∷ ("claim a 4000", Is "ok &8114\n")
     ∷ ("blocks a", Is "ok 1\n  0 &A008 5\n")
     ∷ ("show a 0", Is "ok 5 68656c6c6f\n") ∷ []
-  ) ≡ true
+    ) ≡ true
 unfolding Script.computing hex_on_literals
 budging = refl
 
@@ -51,7 +51,7 @@ pub budging_off : meets (start 64 []) (
     ∷ ("put a 0 0 68656c6c6f", Is "ok\n")
     ∷ ("budge a off", Is "ok on\n")
     ∷ ("claim a 4000", Is "refused NoBudge\n") ∷ []
-  ) ≡ true
+    ) ≡ true
 unfolding Script.computing hex_on_literals
 budging_off = refl
 
@@ -69,7 +69,7 @@ pub first_fit : meets (start 64 []) (
     ∷ ("release a &8114", Any)
     ∷ ("release a &8124", Any)
     ∷ ("heap a", Is "ok 3840 3748 3784\n  hole &8110 32\n  used &8134 12\n  used &8144 20\n") ∷ []
-  ) ≡ true
+    ) ≡ true
 unfolding Script.computing hex_on_literals
 first_fit = refl
 
@@ -88,7 +88,7 @@ pub slide_and_mid : meets (start 64 []) (
     ∷ ("mid a 1 3 2", Is "ok\n")
     ∷ ("show a 1", Is "ok 5 726c640000\n")
     ∷ ("mid a 1 6 1", Is "refused BadRange\n") ∷ []
-  ) ≡ true
+    ) ≡ true
 unfolding Script.computing hex_on_literals
 slide_and_mid = refl
 
@@ -102,7 +102,7 @@ pub extend_slides : meets (start 64 []) (
     ∷ ("extend a 0 2", Is "ok\n")
     ∷ ("blocks a", Is "ok 2\n  0 &9008 2\n  1 &9014 5\n")
     ∷ ("show a 0", Is "ok 2 0000\n") ∷ []
-  ) ≡ true
+    ) ≡ true
 unfolding Script.computing hex_on_literals
 extend_slides = refl
 
@@ -119,7 +119,7 @@ pub resize_lines : meets (start 64 []) (
     ∷ ("heap a", Is "ok 3840 3756 3784\n  hole &8110 16\n  used &8124 4\n  hole &8128 8\n  used &8134 28\n")
     ∷ ("resize a &8124 8", Is "ok &8124\n")
     ∷ ("claim a 0", Is "refused BadSize\n") ∷ []
-  ) ≡ true
+    ) ≡ true
 unfolding Script.computing hex_on_literals
 resize_lines = refl
 
@@ -135,7 +135,7 @@ pub refusals : meets (start 64 ((codes "f", 1 ∷ 2 ∷ 3 ∷ []) ∷ [])) (
     ∷ ("free a 9", Is "refused NoBlock\n")
     ∷ ("repeat a", Is "refused NothingSent\n")
     ∷ ("save a 0 q doc", Is "refused NoTask\n") ∷ []
-  ) ≡ true
+    ) ≡ true
 unfolding Script.computing hex_on_literals
 refusals = refl
 
@@ -149,7 +149,7 @@ pub area_changes : meets (start 8 []) (
     ∷ ("area 1 0", Is "ok 0\n")
     ∷ ("area 4 99999", Is "refused NoRoom\n")
     ∷ ("area 3 -2147483647", Is "refused ExcessiveShrink\n") ∷ []
-  ) ≡ true
+    ) ≡ true
 unfolding Script.computing hex_on_literals
 area_changes = refl
 
@@ -167,7 +167,7 @@ pub module_blocks_grow_the_area : meets (start 8 []) (
     ∷ ("rma resize &1800014 -8172", Is "refused BadSize\n")
     ∷ ("rma claim 0", Is "refused BadSize\n")
     ∷ ("rma claim 2147483647", Is "refused NoRoom\n") ∷ []
-  ) ≡ true
+    ) ≡ true
 unfolding Script.computing hex_on_literals
 module_blocks_grow_the_area = refl
 
@@ -181,7 +181,7 @@ pub limits_few_pages : meets (start 8 []) (
     ∷ ("task t6 100", Is "ok 6\n")
     ∷ ("task t7 100", Is "ok 7\n")
     ∷ ("task t8 100", Is "refused NoRoom\n") ∷ []
-  ) ≡ true
+    ) ≡ true
 unfolding Script.computing hex_on_literals
 limits_few_pages = refl
 
@@ -220,7 +220,7 @@ pub limits : meets (start 64 []) (
     ∷ ("task t31 100", Is "ok 31\n")
     ∷ ("task t32 100", Is "ok 32\n")
     ∷ ("task t33 100", Is "refused TooManyTasks\n") ∷ []
-  ) ≡ true
+    ) ≡ true
 unfolding Script.computing hex_on_literals
 limits = refl
 
@@ -228,7 +228,7 @@ limits = refl
 pub used_up_handles : meets (start_with 64 [] 4294967295 4294967295) (
     ("task a 100", Is "ok 4294967295\n")
     ∷ ("task b 100", Is "refused NoHandles\n") ∷ []
-  ) ≡ true
+    ) ≡ true
 unfolding Script.computing hex_on_literals
 used_up_handles = refl
 
@@ -248,7 +248,7 @@ pub made_areas : meets (start 8 []) (
     ∷ ("make 1025", Is "bad Word 2\n")
     ∷ ("remove 5", Is "bad Word 2\n")
     ∷ ("areas", Is "ok 6\n  area 0 0\n  area 1 1\n  area 2 0\n  area 3 0\n  area 4 0\n  area 5 0\n  area 257 0\n  slot a 1\n") ∷ []
-  ) ≡ true
+    ) ≡ true
 unfolding Script.computing hex_on_literals
 made_areas = refl
 
@@ -287,7 +287,7 @@ pub made_areas_thirty_two : meets (start 64 []) (
     ∷ ("make 1", Is "ok 286\n")
     ∷ ("make 1", Is "ok 287\n")
     ∷ ("make 1", Is "refused TooManyAreas\n") ∷ []
-  ) ≡ true
+    ) ≡ true
 unfolding Script.computing hex_on_literals
 made_areas_thirty_two = refl
 
@@ -296,7 +296,7 @@ pub thousand_pages : meets (start 1024 []) (
     ("task a 100", Is "ok 1\n")
     ∷ ("areas", Begins "ok 1022\n")
     ∷ ("alloc a 0 4186105", Is "refused NoRoom\n") ∷ []
-  ) ≡ true
+    ) ≡ true
 unfolding Script.computing hex_on_literals
 thousand_pages = refl
 
@@ -305,6 +305,6 @@ pub last_area_number : meets (record (start 8 []) { next_area = 65535 }) (
     ("make 1", Is "ok 65535\n")
     ∷ ("remove 65535", Is "ok\n")
     ∷ ("make 1", Is "refused NoNumbers\n") ∷ []
-  ) ≡ true
+    ) ≡ true
 unfolding Script.computing hex_on_literals
 last_area_number = refl
