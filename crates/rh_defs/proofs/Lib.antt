@@ -21,3 +21,9 @@ pub mod Rows
 pub mod MemoryRows
 pub mod TransferRows
 pub mod Examples
+pub mod BlockLaws
+pub mod ShapeLaws
+pub mod BlockCalls
+pub mod MessageLaws
+pub mod MessageImageLaws
+pub mod ParcelLaws
