@@ -15,6 +15,7 @@ pub mod SlotRows
 pub mod ModuleLaws
 pub mod SlotLaws
 pub mod SlotRooms
+pub mod HeapKeeps
 pub mod SlotImageLaws
 pub mod MessageRows
 pub mod Rows
