@@ -4,6 +4,7 @@ use Rattle.rh_defs.specs.Bytes.{word, part}
 use Rattle.rh_defs.specs.Heap.{Segment, Used, Hole, Heap, IsHeap, base, first_place}
 use Rattle.rh_defs.specs.declared.heap.HeapFault.{HeapFault}
 use Rattle.rh_defs.specs.declared.heap.HeapFault.TheVariants.{BadSize, BadDescriptor, BadLink}
+use Rattle.rh_defs.specs.declared.sizes.TheConstants.{HEAP_WORD}
 
 -- The segments stand in the bytes from place p on. The link at place f leads to their first hole, each hole's to the next, and the last link is 0.
 abbrev pub Stand : List ℕ → ℕ → ℕ → List Segment → Type 0
@@ -14,7 +15,7 @@ Stand b f p (Hole size ∷ segments) = (f + word b f ≡ p) × (word b (p + 4) �
 
 -- the bytes `Heap`
 abbrev pub special_word : ℕ
-special_word = 0x70616548
+special_word = HEAP_WORD
 
 -- the bytes from a place on spell the heap: its descriptor of four words, and its segments
 pub record Spells (b : List ℕ) (at : ℕ) (h : Heap) : Type 0 where

@@ -2,6 +2,7 @@
 use Rattle.std.specs.Prelude.{◌≢◌, ℕ, ◌+◌, ◌-◌, ◌<◌, ℤ, pos, negsuc, Bool, true, ◌&&◌, ◌||◌, not, nat_lt, nat_le, ◌==◌, List, [], ◌∷◌, ◌++◌, length, take, drop, Option, is_some, Ok}
 use Rattle.std.specs.List.{AllByRecursion}
 use Rattle.rh_defs.specs.declared.refusal.Refusal.TheVariants.{NoBlock, AnchorInUse, NotABlock, BadRange, BadSize, NoBudge, NoRoom}
+use Rattle.rh_defs.specs.declared.sizes.TheConstants.{SLOT_START, C_HEAP_START, C_HEAP_LENGTH}
 use Rattle.rh_defs.specs.Chain.{Granted, ◌>>=◌, refuse_if, found_or}
 use Rattle.rh_defs.specs.Pieces.{round_up, page, pages_for, lacks_pages, zeros, moved, total, Split, first_at, with_here, written, is_inside}
 use Rattle.rh_defs.specs.Heap.{Segment, Heap, IsHeap, Placed, empty_heap, block_at, block_around, need, claim_growing, released, new_size, resize_need, resize_growing, fitted}
@@ -30,10 +31,10 @@ weight b = flex_weight (length b.bytes)
 
 -- application space begins at &8000, with 64 anchor words; the C heap follows them
 abbrev pub slot_start : ℕ
-slot_start = 0x8000
+slot_start = SLOT_START
 
 abbrev pub heap_start : ℕ
-heap_start = 0x8100
+heap_start = C_HEAP_START
 
 -- the bytes that the anchors, the C heap and the blocks take
 abbrev pub slot_length : Slot → ℕ
@@ -45,7 +46,7 @@ slot_pages s = pages_for (slot_length s)
 
 -- a slot with no block
 abbrev pub new_slot : Slot
-new_slot = record { heap = empty_heap 3840; blocks = []; budging = true }
+new_slot = record { heap = empty_heap C_HEAP_LENGTH; blocks = []; budging = true }
 
 -- the first byte above the C heap
 abbrev pub flex_start : Slot → ℕ

@@ -1,13 +1,14 @@
 -- The bytes that spell a slot: 64 anchor words, the C heap, and the flex blocks above it.
 use Rattle.std.specs.Prelude.{◌≡◌, ℕ, zero, suc, ◌+◌, ◌-◌, ◌*◌, ◌/◌, ◌%◌, ◌<◌, ◌≤◌, ◌==◌, Bool, nat_le, nat_lt, ◌&&◌, if◌then◌else◌, List, [], ◌∷◌, length}
 use Rattle.rh_defs.specs.Bytes.{word, part}
+use Rattle.rh_defs.specs.declared.sizes.TheConstants.{C_HEAP_PLACE}
 use Rattle.rh_defs.specs.Pieces.{page}
 use Rattle.rh_defs.specs.HeapImage.{Spells, heap_of}
 use Rattle.rh_defs.specs.Slot.{Flex, Slot, flex_weight, weight, slot_start, heap_start, slot_length, slot_pages, IsFree, HaveAnchors}
 
 -- the C heap follows 64 anchor words
 abbrev pub heap_place : ℕ
-heap_place = 256
+heap_place = C_HEAP_PLACE
 
 -- the flex blocks follow the C heap
 abbrev pub flex_place : Slot → ℕ

@@ -4,6 +4,7 @@ pub mod FlexLaws
 pub mod EditLaws
 pub mod WalkLaws
 pub mod SpanLaws
+pub mod LeaveLaws
 pub mod LifeLaws
 pub mod GrowLaws
 pub mod CallLaws

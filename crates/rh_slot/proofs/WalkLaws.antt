@@ -101,6 +101,30 @@ turn b s place k w t size es =
 
 -- ---- the walk that counts
 
+-- the walk has passed k blocks
+pub record Passed (s : Slot) (place k : ℕ) : Type 0 where
+  pub walked : Walked s place
+  pub count : k ≡ length walked.before
+  pub most : k ≤ place
+
+pub passed_none : (s : Slot) (place : ℕ) → place ≡ flex_place s → Passed s place 0
+unfolding walked_start
+passed_none s place e = record { walked = walked_start s place e; count = refl; most = omega arith }
+
+pub passed_on : (b : List ℕ) (s : Slot) (place k : ℕ) → SlotWords b s → (w : Passed s place k) → is_block b place ≡ true → (size step : ℕ) → size ≡ word b (place + 4) → step ≡ flex_weight size
+    → Passed s (place + step) (k + 1)
+passed_on b s place k x w t size step es e =
+    let n = next b s place x w.walked t in
+    record {
+      walked = walked_on b s place w.walked n step (onward b s place w.walked n size step es e);
+      count = omega (arith, w.count, length-append w.walked.before (n.here ∷ []));
+      most = let m = w.most in omega arith;
+    }
+
+pub passed_all : (b : List ℕ) (s : Slot) (place k : ℕ) → SlotWords b s → (w : Passed s place k) → is_block b place ≡ false → k ≡ length s.blocks
+passed_all b s place k x w t =
+    omega (arith, w.count, ap length w.walked.is, length-append w.walked.before w.walked.rest, ap length (last b s place x w.walked t))
+
 -- the walk has passed k blocks, and i at most
 pub record Counted (s : Slot) (place k i : ℕ) : Type 0 where
   pub walked : Walked s place

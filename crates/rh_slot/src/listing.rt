@@ -1,5 +1,5 @@
 //! What lies in a slot.
-ghost use Rattle.std.specs.Prelude.{◌≡◌, ℕ, is_some, slice_get};
+ghost use Rattle.std.specs.Prelude.{◌≡◌, ℕ, is_some, length, slice_get};
 ghost use Rattle.std.specs.Option.{option_map};
 ghost use Rattle.rh_defs.specs.Memory.{Memory, IsOpen, bytes};
 ghost use Rattle.rh_defs.specs.Pieces.{is_inside};
@@ -53,6 +53,20 @@ impl Slot {
             return true;
         }
         HEAP_START <= address && rh_heap::holds(store, heap_of(self), address - HEAP_START, n)
+    }
+
+    /// How many flex blocks the slot has.
+    pub fn count<S: Words>(self, store: &S) -> usize
+        requires slot { IsSlot (S.memory store.now) self }
+        ensures { result ≡ length (slot_in (S.memory store.now) self).blocks }
+    {
+        let mut place = flex_place(store, self);
+        let mut count = 0;
+        'walk: while let Some(size) = size_at(store, self, place) {
+            count += 1;
+            place += weight_of(size);
+        }
+        count
     }
 
     /// Flex block `i` from below, from 0 on: its anchor, address and size in bytes.
