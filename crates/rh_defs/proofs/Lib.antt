@@ -37,3 +37,4 @@ pub mod BlockCalls
 pub mod MessageLaws
 pub mod MessageImageLaws
 pub mod ParcelLaws
+pub mod PostLaws

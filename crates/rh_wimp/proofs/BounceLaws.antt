@@ -11,6 +11,7 @@ use Rattle.rh_defs.specs.Bytes.{word_bytes}
 use Rattle.rh_defs.specs.Messages.{Parcel, parcel_bytes, padded}
 use Rattle.rh_defs.specs.Post.{Seat, Post, has_seat, held_by, with_held, count_held, live_count, most_messages, as_returned}
 use Rattle.rh_wimp.specs.Chains.{Loose, Chains, Holds, Row, RowLies, RowsLie, IsLinked, IsPost, AllLie, AllLive, Off, no_row, entry_at, row_at, row_of, rows_of, row_parcels, held_list, lengthened, emptied, emptied_chains, last_block}
+use Rattle.rh_wimp.specs.Deaths.{lifted}
 use Rattle.rh_wimp.specs.declared.chain.Entry.{Entry}
 use Rattle.rh_defs.proofs.BlockLaws.{poked-pokes, poked-other, block-above, release-frees}
 use Rattle.rh_wimp.proofs.LinkLaws.{AllLie-kept, AllLie-parts}
@@ -22,9 +23,6 @@ use Rattle.rh_wimp.proofs.SendLaws.{Links, relinked-other, relinked-last, relink
 use Rattle.rh_defs.proofs.ShapeLaws.{poked-shape, shape-both, shape-sym, release-alike}
 
 -- ---- what a task holds is lifted
-abbrev pub lifted : ℕ → Post → Post
-lifted x post = record post { seats = with_held x None post.seats }
-
 linked-lifted : (h d : Heap) (es : List Entry) (rows : List Row) (i : ℕ) (q : Parcel) → i < length rows → RowsLie h es rows → (row_at rows i).held ≡ Some q → IsLinked h d rows
     → block_bytes q.block h ≡ block_bytes q.block d → IsLinked h d (set rows i (without_held (row_at rows i)))
 linked-lifted h d es rows i q l s held linked same-bytes =

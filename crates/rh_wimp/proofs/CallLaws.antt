@@ -1,32 +1,27 @@
 -- What calls on the module area leave of its blocks.
-use Rattle.std.proofs.Common.{◌≡◌, ℕ, ◌+◌, ◌≤◌, Bool, true, false, eqb, ltb, List, [], ◌++◌, length, take, drop, refl, sym, ap, subst, ◌∙◌, arith}
-use Rattle.std.proofs.lemmas.List.{length-replicate, take_at}
-use Rattle.std.specs.Prelude.{Option, Some, None, Ok, Err}
+use Rattle.std.proofs.Common.{◌≡◌, ℕ, ◌+◌, ◌≤◌, List, [], ◌++◌, length, take, drop, refl, sym, ap, subst, ◌∙◌, arith}
+use Rattle.std.proofs.lemmas.List.{take_at}
+use Rattle.std.specs.Prelude.{Ok, Err}
 use Rattle.rh_defs.specs.Bytes.{put}
-use Rattle.rh_defs.specs.Chain.{Granted, ◌>>=◌, ◌>>◌, refuse_if, answer_of, left_of, result_or}
-use Rattle.rh_defs.specs.Memory.{Memory, OnlyArea}
-use Rattle.rh_defs.specs.Pieces.{zeros, pages_for, Split}
-use Rattle.rh_defs.specs.Heap.{Heap, Segment, Placed, need, claim_growing, block_room, raised, block_at, release}
-use Rattle.rh_defs.specs.Module.{module_claim, module_free, grown_by}
-use Rattle.rh_defs.specs.declared.refusal.Refusal.TheVariants.{BadSize, NoRoom}
+use Rattle.rh_defs.specs.Chain.{Granted, answer_of, left_of, no_answer}
+use Rattle.rh_defs.specs.Memory.{Memory}
+use Rattle.rh_defs.specs.Pieces.{zeros}
+use Rattle.rh_defs.specs.Heap.{Heap, block_room, release}
+use Rattle.rh_defs.specs.Module.{module_claim, module_free}
 use Rattle.rh_defs.proofs.BytesLaws.{put-parts}
 use Rattle.rh_defs.proofs.MemoryLaws.{OnlyArea-both}
-use Rattle.rh_defs.proofs.ModuleLaws.{module_free-some}
-use Rattle.rh_module.specs.Area.{SpellsIn, heap_in}
+use Rattle.rh_module.specs.Area.{heap_in}
+use Rattle.rh_module.specs.Calls.{Leaves}
 use Rattle.rh_module.specs.declared.module.Module.{Module}
 use Rattle.rh_module.specs.Writes.{Wrote}
 use Rattle.rh_wimp.specs.Moves.{Turns}
-use Rattle.rh_defs.specs.Blocks.{block_bytes, poked, HasBlock}
+use Rattle.rh_defs.specs.Blocks.{poked, HasBlock}
 use Rattle.rh_defs.specs.Bytes.{word_bytes}
 use Rattle.rh_defs.specs.Messages.{encoded, encoded_length}
 use Rattle.rh_defs.specs.declared.message.Message.{Message}
-use Rattle.rh_module.proofs.BlockBytes.{heap_is, is_module}
 use Rattle.rh_defs.proofs.BlockCalls.{module_claim-puts, module_claim-has, module_free-there}
 use Rattle.rh_defs.proofs.BlockLaws.{Puts, has-poked, poked-row}
 use Rattle.rh_defs.proofs.MessageLaws.{length-word_bytes, length-encoded}
-
-pub turned : (m n : Memory) (rma : Module) (h : Heap) → OnlyArea m n rma.area.0 → SpellsIn n rma h → Turns m n rma h
-turned m n rma h o s = record { still = is_module n rma h o.opened s; heap = heap_is n rma h s; only = o }
 
 -- ---- claims
 pub record Claimed (m n : Memory) (rma : Module) (size block : ℕ) : Type 0 where
@@ -36,17 +31,16 @@ pub record Claimed (m n : Memory) (rma : Module) (size block : ℕ) : Type 0 whe
   pub turns : Turns m n rma there.0
   pub puts : Puts (zeros (block_room size)) (heap_in m rma) there.0 there.1
 
-pub claimed : (m n : Memory) (rma : Module) (size block : ℕ) → Ok block ≡ answer_of (module_claim m.free size (heap_in m rma))
-    → SpellsIn n rma (left_of (heap_in m rma) (module_claim m.free size (heap_in m rma))) → OnlyArea m n rma.area.0 → Claimed m n rma size block
-claimed m n rma size block ea s o = go (module_claim m.free size (heap_in m rma)) refl ea s
+pub claimed : (m n : Memory) (rma : Module) (size block : ℕ) → Leaves m n rma (module_claim m.free size (heap_in m rma)) (Ok block) → Claimed m n rma size block
+claimed m n rma size block w = go (module_claim m.free size (heap_in m rma)) refl w.answer w.heap
   where
-    go : (g : Granted (Heap × ℕ)) → module_claim m.free size (heap_in m rma) ≡ g → Ok block ≡ answer_of g → SpellsIn n rma (left_of (heap_in m rma) g) → Claimed m n rma size block
-    go (Err e) eg a t = absurd cc
-    go (Ok there) eg a t = record {
+    go : (g : Granted (Heap × ℕ)) → module_claim m.free size (heap_in m rma) ≡ g → Ok block ≡ answer_of g → heap_in n rma ≡ left_of (heap_in m rma) g → Claimed m n rma size block
+    go (Err e) eg a h = absurd cc
+    go (Ok there) eg a h = record {
       there = there;
       granted = eg;
       block_is = cc;
-      turns = turned m n rma there.0 o t;
+      turns = record { still = w.still; heap = h; only = w.only };
       puts = module_claim-puts m.free size (heap_in m rma) there eg;
     }
 
@@ -82,7 +76,12 @@ module _ (m n n1 n2 n3 : Memory) (rma : Module) (size block code : ℕ) (xs : Li
       })
 
 -- ---- frees
-pub freed : (m n : Memory) (rma : Module) (a k : ℕ) → HasBlock a k (heap_in m rma) → OnlyArea m n rma.area.0
-    → SpellsIn n rma (result_or (heap_in m rma) (module_free a (heap_in m rma))) → Turns m n rma (release a (heap_in m rma))
-freed m n rma a k b o s =
-    turned m n rma (release a (heap_in m rma)) o (subst (λ g. SpellsIn n rma (result_or (heap_in m rma) g)) (module_free-there a (heap_in m rma) b.bytes b.found) s)
+module _ (m n : Memory) (rma : Module) (a k : ℕ) (result : Granted (Unit {0})) (b : HasBlock a k (heap_in m rma)) (w : Leaves m n rma (no_answer (module_free a (heap_in m rma))) result) where
+  granted : no_answer (module_free a (heap_in m rma)) ≡ Ok (release a (heap_in m rma), tt)
+  granted = ap no_answer (module_free-there a (heap_in m rma) b.bytes b.found)
+
+  pub free-done : result ≡ Ok tt
+  free-done = w.answer ∙ ap answer_of granted
+
+  pub freed : Turns m n rma (release a (heap_in m rma))
+  freed = record { still = w.still; heap = w.heap ∙ ap (left_of (heap_in m rma)) granted; only = w.only }

@@ -1,7 +1,7 @@
 -- Laws of decoding.
-use Rattle.std.proofs.Common.{◌≡◌, ℕ, ◌+◌, ◌<◌, ◌≤◌, true, false, ap, sym, ◌∙◌, List, arith}
-use Rattle.std.specs.Prelude.{Option, Some, None, Result, Ok, Err}
-use Rattle.rh_defs.specs.Bytes.{word, part}
+use Rattle.std.proofs.Common.{◌≡◌, ℕ, ◌+◌, ◌<◌, ◌≤◌, true, false, ap, ◌∙◌, List, arith}
+use Rattle.std.specs.Prelude.{Option, Some, Result, Ok, Err}
+use Rattle.rh_defs.specs.Bytes.{word}
 use Rattle.rh_defs.specs.Messages.{action_at}
 use Rattle.rh_defs.specs.MessageImage.{name_length, body_for, message_in, has_length, decoded}
 use Rattle.rh_defs.specs.declared.message.Action.{Action}

@@ -1,5 +1,5 @@
 -- Laws of encoding: pieces written one after the other.
-use Rattle.std.proofs.Common.{◌≡◌, ℕ, zero, suc, ◌+◌, ◌-◌, ◌*◌, ◌/◌, ◌<◌, ◌≤◌, ◌^◌, List, [], ◌∷◌, ◌++◌, length, get_or, take, refl, sym, ap, ◌∙◌, arith}
+use Rattle.std.proofs.Common.{◌≡◌, ℕ, suc, ◌+◌, ◌-◌, ◌*◌, ◌/◌, ◌<◌, ◌≤◌, ◌^◌, List, [], ◌∷◌, ◌++◌, length, get_or, refl, sym, ap, ◌∙◌, arith}
 use Rattle.std.proofs.lemmas.List.{length-append, length-replicate, append_assoc, append-nil}
 use Rattle.rh_defs.specs.Bytes.{put, word_bytes}
 use Rattle.rh_defs.specs.Pieces.{zeros}
@@ -7,7 +7,7 @@ use Rattle.rh_defs.specs.Messages.{AreWords, words, name_bytes, data_words, tail
 use Rattle.rh_defs.specs.declared.message.Body.{Body}
 use Rattle.rh_defs.specs.declared.message.Message.{Message}
 use Rattle.rh_defs.proofs.BytesLaws.{put_before}
-use Rattle.rh_defs.proofs.MessageLaws.{length-word_bytes, length-words, length-name_bytes, words-append, puts_in_row}
+use Rattle.rh_defs.proofs.MessageLaws.{length-word_bytes, length-words, words-append, puts_in_row}
 
 pub are-words : (ns : List ℕ) → ((i : ℕ) → i < length ns → get_or ns i 0 < 2 ^ 32) → AreWords ns
 are-words [] f = tt

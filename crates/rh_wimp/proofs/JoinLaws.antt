@@ -1,13 +1,11 @@
 -- A post with a handle more.
-use Rattle.std.proofs.Common.{◌≡◌, ℕ, zero, suc, ◌+◌, ◌-◌, ◌<◌, ◌≤◌, ◌≢◌, inl, inr, true, false, Bool, cond, eqb, List, [], ◌∷◌, ◌++◌, length, map, get_or, refl, sym, ap, subst, ◌∙◌, arith}
-use Rattle.std.proofs.lemmas.Bool.{cases_eq, cases_lt}
+use Rattle.std.proofs.Common.{◌≡◌, ℕ, ◌<◌, ◌≢◌, inl, inr, true, false, Bool, cond, eqb, List, [], ◌∷◌, ◌++◌, length, map, refl, sym, ap, subst, ◌∙◌, arith}
+use Rattle.std.proofs.lemmas.Bool.{cases_lt}
 use Rattle.std.proofs.lemmas.Bool.Decides.{eqb_tells}
 use Rattle.std.proofs.lemmas.List.{length-append, map-append, get_or_append_left, get_or_at}
-use Rattle.std.specs.Prelude.{Option, Some, None, filter, ◌==◌}
+use Rattle.std.specs.Prelude.{None, filter, ◌==◌}
 use Rattle.rh_defs.specs.Heap.{Heap}
-use Rattle.rh_defs.specs.Pieces.{total}
 use Rattle.rh_defs.proofs.HeapLists.{cond_true, cond_false, sum-append}
-use Rattle.rh_defs.specs.Blocks.{block_bytes}
 use Rattle.rh_defs.specs.Messages.{Parcel}
 use Rattle.rh_defs.specs.Post.{Seat, Post, has_seat, count_held, post_join}
 use Rattle.rh_wimp.specs.Chains.{Chains, Row, RowLies, RowsLie, IsLinked, IsPost, AllLie, AllLive, Apart, Clear, Off, HasEntry, no_row, no_entry, entry_at, row_at, row_of, rows_of, row_parcels, joined}

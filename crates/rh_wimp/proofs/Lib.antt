@@ -12,3 +12,8 @@ pub mod BounceLaws
 pub mod TakeLaws
 pub mod PollLaws
 pub mod FrameLaws
+pub mod SearchLaws
+pub mod DeathLaws
+pub mod LeaveLaws
+pub mod EndLaws
+pub mod LeavesLaws

@@ -1,14 +1,13 @@
 -- A poll, by its calls.
-use Rattle.std.proofs.Common.{◌≡◌, ℕ, zero, suc, ◌+◌, ◌-◌, ◌<◌, ◌≤◌, ◌≢◌, ◌^◌, ◌⊎◌, inl, inr, true, false, Bool, cond, eqb, List, [], ◌∷◌, ◌++◌, length, set, refl, sym, ap, subst, ◌∙◌, arith}
+use Rattle.std.proofs.Common.{◌≡◌, ℕ, zero, suc, ◌+◌, ◌<◌, ◌≤◌, ◌≢◌, ◌^◌, ◌⊎◌, inl, inr, true, false, Bool, cond, eqb, List, [], ◌∷◌, ◌++◌, length, set, refl, sym, ap, subst, ◌∙◌, arith}
 use Rattle.std.proofs.lemmas.Bool.{cases_eq}
-use Rattle.std.proofs.lemmas.List.{set-set, get_or-set_same, length-set}
 use Rattle.std.specs.Prelude.{Option, Some, None, ◌==◌}
 use Rattle.std.specs.List.{position}
 use Rattle.rh_defs.specs.Bytes.{word}
 use Rattle.rh_defs.specs.Heap.{Heap, release}
 use Rattle.rh_defs.specs.Memory.{Memory, bytes}
 use Rattle.rh_defs.specs.Pieces.{total}
-use Rattle.rh_defs.proofs.HeapLists.{cond_true, cond_false, eqb_same, eqb_apart}
+use Rattle.rh_defs.proofs.HeapLists.{cond_true, cond_false}
 use Rattle.rh_module.specs.Area.{IsModule, heap_in}
 use Rattle.rh_module.specs.declared.module.Module.{Module}
 use Rattle.rh_wimp.specs.Moves.{relinked}
@@ -16,11 +15,12 @@ use Rattle.rh_defs.specs.Blocks.{block_bytes, poked, HasBlock}
 use Rattle.rh_defs.specs.Bytes.{word_bytes}
 use Rattle.rh_defs.specs.Messages.{Parcel, code_number, is_recorded, padded, parcel_bytes}
 use Rattle.rh_defs.specs.Post.{Seat, Post, has_seat, held_by, with_held, count_held, live_count, as_returned, bounced, bounce_held, first_for, taken, taken_from, without_block}
-use Rattle.rh_wimp.specs.Chains.{Chains, Row, IsPost, MayBounce, Lies, LiesAt, Lifted, Loose, Holds, entry_at, no_entry, row_at, rows_of, lengthened, emptied_chains, shortened, shortened_chains, holding_chains, first_block}
+use Rattle.rh_wimp.specs.Chains.{Chains, Row, IsPost, MayBounce, Lies, LiesAt, Lifted, Loose, Holds, entry_at, row_at, rows_of, lengthened, emptied_chains, shortened_chains, holding_chains, first_block}
 use Rattle.rh_wimp.specs.declared.chain.Entry.{Entry}
 use Rattle.rh_module.proofs.BlockBytes.{block_within}
-use Rattle.rh_defs.proofs.BlockLaws.{has-poked, has-less, poked-other, poked-pokes, release-poked}
-use Rattle.rh_wimp.proofs.BounceLaws.{lift, lifted, returned-queued, vanished}
+use Rattle.rh_defs.proofs.BlockLaws.{has-poked, has-less, poked-other, poked-pokes}
+use Rattle.rh_wimp.proofs.BounceLaws.{lift, returned-queued, vanished}
+use Rattle.rh_wimp.specs.Deaths.{lifted}
 use Rattle.rh_defs.proofs.ParcelLaws.{from_read, link_read, code_read, padded-least, padded-relinked}
 use Rattle.rh_wimp.proofs.PostLaws.{found-at, not-found, seat_at, live-yes, live-no, held-at, count-seat, seat_with}
 use Rattle.rh_wimp.proofs.RowEdits.{lies-above}
@@ -115,10 +115,10 @@ may-bounce m rma q post x i s lt e w =
     record { spells = l.0; loose = l.1; block_is = w.block; few = omega arith }
 
 -- ---- seats after a bounce
-bounced-seats : (p : Parcel) (post : Post) → (bounced p post).seats ≡ post.seats
+pub bounced-seats : (p : Parcel) (post : Post) → (bounced p post).seats ≡ post.seats
 bounced-seats p post = elim (has_seat p.message.from post.seats) as (λ t. (cond t (record post { queued = post.queued ++ as_returned p ∷ []; heap = poked p.block 0 (parcel_bytes 0 (as_returned p)) post.heap }) (record post { heap = release p.block post.heap })).seats ≡ post.seats) [ true ↦ refl | false ↦ refl ]
 
-none-held : (x : ℕ) (seats : List Seat) → held_by x (with_held x None seats) ≡ None
+pub none-held : (x : ℕ) (seats : List Seat) → held_by x (with_held x None seats) ≡ None
 none-held x [] = refl
 none-held x (s ∷ seats) = go (eqb s.handle x) refl (none-held x seats)
   where
@@ -130,7 +130,7 @@ pub held-after : (x : ℕ) (o : Option Parcel) (post : Post) → held_by x post.
 held-after x None post e = e
 held-after x (Some p) post e = ap (held_by x) (bounced-seats p (record post { seats = with_held x None post.seats })) ∙ none-held x post.seats
 
-same-handle : (x : ℕ) (seats : List Seat) (i : ℕ) → (seat_at (with_held x None seats) i).handle ≡ (seat_at seats i).handle
+pub same-handle : (x : ℕ) (seats : List Seat) (i : ℕ) → (seat_at (with_held x None seats) i).handle ≡ (seat_at seats i).handle
 same-handle x [] i = refl
 same-handle x (s ∷ seats) i = elim (eqb s.handle x) as (λ t. (seat_at (cond t (record s { holds = None } ∷ seats) (s ∷ with_held x None seats)) i).handle ≡ (seat_at (s ∷ seats) i).handle) [
   | true ↦ first i
@@ -145,7 +145,7 @@ same-handle x (s ∷ seats) i = elim (eqb s.handle x) as (λ t. (seat_at (cond t
     later zero f = refl
     later (suc j) f = f j
 
-same-length : (x : ℕ) (seats : List Seat) → length (with_held x None seats) ≡ length seats
+pub same-length : (x : ℕ) (seats : List Seat) → length (with_held x None seats) ≡ length seats
 same-length x [] = refl
 same-length x (s ∷ seats) = elim (eqb s.handle x) as (λ t. length (cond t (record s { holds = None } ∷ seats) (s ∷ with_held x None seats)) ≡ length (s ∷ seats)) [
   | true ↦ refl

@@ -17,7 +17,7 @@ use Rattle.rh_wimp.specs.declared.chain.Entry.{Entry}
 use Rattle.rh_wimp.proofs.RowEdits.{with_last}
 
 -- ---- places of entries
-eq_of : (x y : ℕ) → eqb x y ≡ true → x ≡ y
+pub eq_of : (x y : ℕ) → eqb x y ≡ true → x ≡ y
 eq_of x y e = elim (eqb_tells x y) [ inl u ↦ u.1 | inr v ↦ absurd (let z = v.0 in cc) ]
 
 pub found-at : (es : List Entry) (x i : ℕ) → position (λ (e : Entry). e.handle == x) es ≡ Some i → (i < length es) × ((entry_at es i).handle ≡ x)

@@ -1,9 +1,9 @@
 -- A post after the first message for a task is taken.
-use Rattle.std.proofs.Common.{◌≡◌, ℕ, zero, suc, ◌+◌, ◌-◌, ◌<◌, ◌≢◌, ◌⊎◌, inl, inr, true, false, cond, eqb, List, [], ◌∷◌, ◌++◌, length, map, set, refl, sym, ap, subst, ◌∙◌, arith, append-nil}
+use Rattle.std.proofs.Common.{◌≡◌, ℕ, zero, suc, ◌+◌, ◌<◌, ◌≢◌, ◌⊎◌, inl, inr, true, false, cond, eqb, List, [], ◌∷◌, ◌++◌, length, map, set, refl, sym, ap, subst, ◌∙◌, arith, append-nil}
 use Rattle.std.proofs.lemmas.Bool.{cases_eq}
 use Rattle.std.proofs.lemmas.Bool.Decides.{eqb_tells}
 use Rattle.std.proofs.lemmas.List.{length-set, get_or-set_same, get_or-set_other}
-use Rattle.std.specs.Prelude.{Option, Some, None, filter, ◌==◌}
+use Rattle.std.specs.Prelude.{Option, Some, None, filter, not, ◌==◌}
 use Rattle.rh_defs.specs.Pieces.{total}
 use Rattle.rh_defs.specs.Heap.{Heap}
 use Rattle.rh_defs.proofs.HeapLists.{cond_true, cond_false, eqb_apart}
@@ -25,6 +25,7 @@ pub record FirstFor (x : ℕ) (queue : List Parcel) (p : Parcel) (rest : List Pa
   pub to : p.to ≡ x
   pub same : filter (λ (r : Parcel). r.to == x) queue ≡ p ∷ filter (λ (r : Parcel). r.to == x) rest
   pub others : (y : ℕ) → y ≢ x → filter (λ (r : Parcel). r.to == y) queue ≡ filter (λ (r : Parcel). r.to == y) rest
+  pub away : filter (λ (r : Parcel). not (r.to == x)) queue ≡ filter (λ (r : Parcel). not (r.to == x)) rest
   pub fewer : length queue ≡ length rest + 1
   pub live : (seats : List Seat) → AllLive seats queue → AllLive seats rest
 
@@ -33,6 +34,7 @@ first-now x p queue t e = record {
   to = e;
   same = cond_true (eqb p.to x) _ _ t;
   others = λ y ne. cond_false (eqb p.to y) _ _ (eqb_apart p.to y (λ z. ne (sym z ∙ e)));
+  away = cond_false (not (eqb p.to x)) _ _ (ap not t);
   fewer = omega arith;
   live = λ seats a. a.1;
 }
@@ -42,6 +44,7 @@ first-later x p q queue rest f w = record {
   to = w.to;
   same = cond_false (eqb q.to x) _ _ f ∙ w.same ∙ ap (λ l. p ∷ l) (sym (cond_false (eqb q.to x) _ _ f));
   others = λ y ne. ap (λ l. cond (eqb q.to y) (q ∷ l) l) (w.others y ne);
+  away = ap (λ l. cond (not (eqb q.to x)) (q ∷ l) l) w.away;
   fewer = let l = w.fewer in omega arith;
   live = λ seats a. (a.0, w.live seats a.1);
 }
@@ -224,7 +227,7 @@ abbrev pub chain_to : ℕ → List Parcel → List Parcel
 chain_to x queue = filter (λ (r : Parcel). r.to == x) queue
 
 -- the first block of a task's chain spells the first message for it
-next-there : (h : Heap) (ps : List Parcel) → Chain h ps 0 → (first_block ps 0 ≡ 0) ⊎ HasBlock (first_block ps 0) 24 h
+pub next-there : (h : Heap) (ps : List Parcel) → Chain h ps 0 → (first_block ps 0 ≡ 0) ⊎ HasBlock (first_block ps 0) 24 h
 next-there h [] c = inl refl
 next-there h (p ∷ ps) c = inr (record { bytes = padded (first_block ps 0) p; found = c.0.block; room = padded-least (first_block ps 0) p })
 

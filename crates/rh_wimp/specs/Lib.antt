@@ -1,2 +1,5 @@
 pub mod Chains
 pub mod Moves
+pub mod Searches
+pub mod Deaths
+pub mod Calls

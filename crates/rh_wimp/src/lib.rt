@@ -3,6 +3,7 @@
 
 mod bytes;
 mod chain;
+mod death;
 mod decoding;
 mod encoding;
 mod layout;
@@ -10,6 +11,7 @@ mod placing;
 mod polling;
 mod queue;
 mod reading;
+mod searching;
 mod sending;
 
 pub use decoding::decode;

@@ -62,7 +62,7 @@ pub fn free<S: Pages>(store: &mut S, rma: Module, block: usize)
     requires block { HasBlock block 4 (heap_in (S.memory store.old) rma) }
     ensures { Turns (S.memory store.old) (S.memory store.new) rma (release block (heap_in (S.memory store.old) rma)) }
 {
-    let _freed = rma.free(store, block);
+    rma.free(store, block).unwrap();
 }
 
 /// Frees the block that a task holds.

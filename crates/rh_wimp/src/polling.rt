@@ -6,6 +6,7 @@ ghost use Rattle.rh_defs.specs.Memory.{OnlyArea};
 ghost use Rattle.rh_defs.specs.Messages.{Parcel};
 ghost use Rattle.rh_defs.specs.Post.{Post, bounce_held, bounced, held_by, post_poll, taken};
 ghost use Rattle.rh_module.specs.Area.{IsModule, heap_in};
+ghost use Rattle.rh_wimp.specs.Calls.{Answers, IsQueue, Leaves, handles_of};
 ghost use Rattle.rh_wimp.specs.Chains.{HasEntry, IsPost, LiftsFirst, MayBounce, SpellsPost, emptied_chains, entry_at, event_of, holding_chains};
 
 use crate::chain::{Entry, append, find, shortened};
@@ -22,13 +23,11 @@ impl Queue {
     /// it goes back to its sender as event 19, or vanishes where that one isn't live. A recorded message (18) is held
     /// from then on; the block of any other is freed.
     pub fn poll<S: Pages>(&mut self, store: &mut S, rma: Module, handle: Handle) -> Option<Event>
-        requires module { IsModule (S.memory store.old) rma }
-        requires post { (post : Post) × SpellsPost (S.memory store.old) rma self.old post }
+        requires queue { IsQueue (S.memory store.old) rma self.old }
         requires live { HasEntry handle self.old }
-        ensures answer { (post : Post) → SpellsPost (S.memory store.old) rma self.old post → result ≡ option_map event_of (post_poll handle post).1 }
-        ensures spells { (post : Post) → SpellsPost (S.memory store.old) rma self.old post → SpellsPost (S.memory store.new) rma self.new (post_poll handle post).0 }
-        ensures module { IsModule (S.memory store.new) rma }
-        ensures only { OnlyArea (S.memory store.old) (S.memory store.new) rma.area.0 }
+        ensures answer { Answers (S.memory store.old) rma self.old (λ post. option_map event_of (post_poll handle post).1) result }
+        ensures leaves { Leaves (S.memory store.old) (S.memory store.new) rma self.old self.new (λ post. (post_poll handle post).0) }
+        ensures handles { handles_of self.new ≡ handles_of self.old }
     {
         let Some(at) = find(&self.entries, handle) else {
             return None;

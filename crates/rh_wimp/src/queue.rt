@@ -1,7 +1,11 @@
 //! The queue of messages: a chain of blocks for each live task.
 ghost use Rattle.std.specs.Prelude.{◌≡◌, ◌<◌, [], IfOk, length};
 ghost use Rattle.rh_defs.specs.Heap.{Heap};
+ghost use Rattle.rh_defs.specs.Memory.{Memory};
 ghost use Rattle.rh_defs.specs.Post.{Post, post_join};
+ghost use Rattle.rh_module.specs.Area.{IsModule};
+ghost use Rattle.rh_module.specs.declared.module.Module.{Module};
+ghost use Rattle.rh_wimp.specs.Calls.{IsQueue};
 ghost use Rattle.rh_wimp.specs.Chains.{HasEntry, IsPost, joined};
 
 use crate::chain::Entry;
@@ -40,14 +44,16 @@ impl Model for Queue {
 impl Queue {
     /// An empty queue whose first ref is 1, with room for 32 tasks. AllocError where memory is refused.
     pub fn new(alloc: Global) -> Result<Queue, AllocError>
-        ensures { IfOk result (λ queue. queue ≡ record { entries = []; live = 0; next_ref = 1 }) }
+        ensures value { IfOk result (λ queue. queue ≡ record { entries = []; live = 0; next_ref = 1 }) }
+        ensures starts { IfOk result (λ queue. (m : Memory) (rma : Module) → IsModule m rma → IsQueue m rma queue) }
     {
         Queue::with_next_ref(alloc, Ref(1))
     }
 
     /// An empty queue whose next ref is this one.
     pub fn with_next_ref(alloc: Global, next_ref: Ref) -> Result<Queue, AllocError>
-        ensures { IfOk result (λ queue. queue ≡ record { entries = []; live = 0; next_ref = next_ref }) }
+        ensures value { IfOk result (λ queue. queue ≡ record { entries = []; live = 0; next_ref = next_ref }) }
+        ensures starts { IfOk result (λ queue. (m : Memory) (rma : Module) → IsModule m rma → IsQueue m rma queue) }
     {
         let entries = Vec::with_capacity(alloc, MOST_TASKS)?;
         Ok(Queue {
@@ -63,6 +69,7 @@ impl Queue {
         requires new { ¬ HasEntry handle self.old }
         ensures entries { self.new ≡ joined handle self.old }
         ensures spells { (h : Heap) (post : Post) → IsPost h self.old post → IsPost h self.new (post_join handle post) }
+        ensures still { (m : Memory) (rma : Module) → IsQueue m rma self.old → IsQueue m rma self.new }
     {
         self.entries.push_reserved(Entry {
             handle,

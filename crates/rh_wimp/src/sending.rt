@@ -2,9 +2,10 @@
 ghost use Rattle.std.specs.Prelude.{◌≡◌, ◌<◌, ◌≤◌, ℕ, List, Some, None, OnErr, OnOk, IfOk, IfErr, vec_capacity, vec_len, length};
 ghost use Rattle.rh_defs.specs.Chain.{answer_of, left_of};
 ghost use Rattle.rh_defs.specs.Memory.{OnlyArea};
-ghost use Rattle.rh_defs.specs.Post.{Post, post_send, post_send_pages};
+ghost use Rattle.rh_defs.specs.Post.{post_send, post_send_pages};
 ghost use Rattle.rh_module.specs.Area.{IsModule, heap_in};
-ghost use Rattle.rh_wimp.specs.Chains.{HasEntry, Row, RowsLie, SpellsPost, entry_at, refusal_for, row_at};
+ghost use Rattle.rh_wimp.specs.Calls.{Answers, IsQueue, Leaves, handles_of};
+ghost use Rattle.rh_wimp.specs.Chains.{HasEntry, Row, RowsLie, entry_at, refusal_for, row_at};
 ghost use Rattle.rh_wimp.specs.Moves.{Settled};
 
 use crate::chain::{Entry, append, find};
@@ -24,8 +25,8 @@ impl Queue {
         rma: Module,
         letter: &Letter,
     ) -> Result<usize, Refusal>
-        requires module { IsModule (S.memory store.now) rma }
-        ensures { (post : Post) → SpellsPost (S.memory store.now) rma self.now post → result ≡ post_send_pages letter.now post }
+        requires { IsQueue (S.memory store.now) rma self.now }
+        ensures { Answers (S.memory store.now) rma self.now (post_send_pages letter.now) result }
     {
         let _to = self.admit(letter.to)?;
         let length = MESSAGE + ACTION + body_length(&letter.body);
@@ -42,14 +43,12 @@ impl Queue {
         rma: Module,
         letter: Letter,
     ) -> Result<Ref, Refusal>
-        requires module { IsModule (S.memory store.old) rma }
-        requires post { (post : Post) × SpellsPost (S.memory store.old) rma self.old post }
+        requires queue { IsQueue (S.memory store.old) rma self.old }
         requires from { HasEntry letter.from self.old }
-        ensures answer { (post : Post) → SpellsPost (S.memory store.old) rma self.old post → result ≡ answer_of (post_send (S.memory store.old).free letter post) }
-        ensures spells { (post : Post) → SpellsPost (S.memory store.old) rma self.old post
-            → SpellsPost (S.memory store.new) rma self.new (left_of post (post_send (S.memory store.old).free letter post)) }
-        ensures module { IsModule (S.memory store.new) rma }
-        ensures only { OnlyArea (S.memory store.old) (S.memory store.new) rma.area.0 }
+        ensures answer { Answers (S.memory store.old) rma self.old (λ post. answer_of (post_send (S.memory store.old).free letter post)) result }
+        ensures leaves { Leaves (S.memory store.old) (S.memory store.new) rma self.old self.new
+            (λ post. left_of post (post_send (S.memory store.old).free letter post)) }
+        ensures handles { handles_of self.new ≡ handles_of self.old }
         ensures err { OnErr result ((S.memory store.new ≡ S.memory store.old) × (self.new ≡ self.old)) }
     {
         let to = self.admit(letter.to)?;

@@ -1,9 +1,8 @@
 use Rattle.std.proofs.Common.{◌≡◌, refl, sym, ap, ◌∙◌}
 use Rattle.std.specs.Prelude.{Some, None, Result, Ok, Err}
 use Rattle.std.proofs.lemmas.Result.{err_from_is_err_and}
-use Rattle.rh_defs.specs.Bytes.{word}
 use Rattle.rh_defs.specs.Messages.{action_at}
-use Rattle.rh_defs.specs.MessageImage.{body_for, decoded, has_length, message_in}
+use Rattle.rh_defs.specs.MessageImage.{body_for, decoded}
 use Rattle.rh_defs.specs.declared.message.Message.{Message}
 use Rattle.rh_defs.specs.declared.message.MessageFault.{MessageFault}
 use Rattle.rh_defs.specs.declared.message.MessageFault.TheVariants.{BadAction}

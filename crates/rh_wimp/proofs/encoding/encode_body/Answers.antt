@@ -1,4 +1,4 @@
-use Rattle.std.proofs.Common.{◌≡◌, ℕ, ◌+◌, ◌++◌, List, length, sym, ap, ◌∙◌, arith, append-nil}
+use Rattle.std.proofs.Common.{length, sym, ap, ◌∙◌, arith, append-nil}
 use Rattle.rh_defs.specs.Bytes.{put}
 use Rattle.rh_defs.specs.Messages.{action_number, body_bytes, words, data_words}
 use Rattle.rh_defs.specs.declared.message.Body.TheVariants.{DataSave, DataSaveAck, DataLoad, DataLoadAck, RamFetch, RamTransmit}

@@ -14,7 +14,7 @@ use Rattle.rh_wimp.proofs.placing.place.Goals.{In_ok-block}
 use Rattle.rh_wimp.proofs.placing.place.Given as given
 
 took : (g : given.Over) (c : In_ok-block g) → Claimed (g.S.Words.memory c.args.store.now) (g.S.Words.memory c.claim.new.store) c.args.rma (8 + c.encode-length.result) c.in_ok-block.block
-took g c = claimed (g.S.Words.memory c.args.store.now) (g.S.Words.memory c.claim.new.store) c.args.rma (8 + c.encode-length.result) c.in_ok-block.block c.in_ok-block.ensures.answer c.in_ok-block.ensures.spells c.in_ok-block.ensures.only
+took g c = claimed (g.S.Words.memory c.args.store.now) (g.S.Words.memory c.claim.new.store) c.args.rma (8 + c.encode-length.result) c.in_ok-block.block c.in_ok-block.ensures
 
 there : (g : given.Over) (c : In_ok-block g) → HasBlock c.in_ok-block.block (8 + c.encode-length.result) (heap_in (g.S.Words.memory c.claim.new.store) c.args.rma)
 there g c = claimed-block (g.S.Words.memory c.args.store.now) (g.S.Words.memory c.claim.new.store) c.args.rma (8 + c.encode-length.result) c.in_ok-block.block (took g c)

@@ -1,4 +1,4 @@
-use Rattle.std.proofs.Common.{◌≡◌, ℕ, refl, sym, ap, subst, ◌∙◌, arith}
+use Rattle.std.proofs.Common.{◌≡◌, refl, sym, ap, subst, ◌∙◌, arith}
 use Rattle.std.specs.Prelude.{Option, Some, IsSome}
 use Rattle.rh_defs.specs.Messages.{Parcel, code_at, code_number}
 use Rattle.rh_defs.specs.declared.message.EventCode.{EventCode}

@@ -1,7 +1,8 @@
 -- The new entry is that of a task with no messages.
-use Rattle.std.proofs.Common.{◌≡◌, ◌++◌, [], ◌∷◌, sym, subst}
-use Rattle.rh_wimp.specs.Chains.{Chains, HasEntry, IsPost, joined}
+use Rattle.std.proofs.Common.{sym, subst}
+use Rattle.rh_wimp.specs.Chains.{Chains, HasEntry, IsPost}
 use Rattle.rh_defs.specs.Post.{post_join}
+use Rattle.rh_module.specs.Area.{heap_in}
 use Rattle.rh_wimp.proofs.JoinLaws.{join-spells}
 use Rattle.rh_wimp.proofs.queue.Queue.join.Goals as goal
 
@@ -11,3 +12,6 @@ returns-clause-spells c = λ h post s.
     let s' : IsPost h q post = subst (λ (k : Chains). IsPost h k post) (sym c.self.view_is) s in
     subst (λ es. IsPost h (record { entries = es; live = q.live; next_ref = q.next_ref }) (post_join c.args.handle post)) (sym c.push_reserved.ensures.items)
     (join-spells h q post c.args.handle s' (λ e. c.requires.new (subst (HasEntry c.args.handle) c.self.view_is e)))
+
+pub returns-clause-still : goal.returns-clause-still
+returns-clause-still c = λ m rma w. record { area = w.area; post = post_join c.args.handle w.post; spells = returns-clause-spells c (heap_in m rma) w.post w.spells }

@@ -6,7 +6,7 @@ use Rattle.rh_defs.specs.Messages.{Parcel}
 use Rattle.rh_defs.specs.Post.{Post}
 use Rattle.rh_defs.proofs.BlockLaws.{has-less}
 use Rattle.rh_module.specs.Area.{heap_in}
-use Rattle.rh_wimp.specs.Chains.{Chains, IsPost, Lifted, SpellsPost, entry_at, shortened}
+use Rattle.rh_wimp.specs.Chains.{Chains, Lifted, SpellsPost, entry_at, shortened}
 use Rattle.rh_wimp.specs.declared.chain.Entry.{Entry}
 use Rattle.rh_wimp.proofs.AnswerLaws.{read_entry}
 use Rattle.rh_wimp.proofs.PollLaws.{Heads, first-lifted, head-has, heads, next-of, next-small, no-head}

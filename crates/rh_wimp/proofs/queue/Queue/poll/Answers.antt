@@ -1,6 +1,9 @@
 use Rattle.std.proofs.Common.{◌≡◌, ◌<◌, length, refl, sym, ap, subst, ◌∙◌}
 use Rattle.std.specs.Prelude.{None}
 use Rattle.std.specs.Option.{option_map}
+use Rattle.rh_defs.proofs.MemoryLaws.{OnlyArea-both}
+use Rattle.rh_defs.proofs.PostLaws.{post_poll-handles}
+use Rattle.rh_wimp.proofs.LeavesLaws.{handles-stay, left}
 use Rattle.rh_module.specs.Area.{heap_in}
 use Rattle.rh_wimp.specs.Chains.{Chains, SpellsPost, HasEntry, event_of, entry_at}
 use Rattle.rh_defs.specs.Post.{Post, held_by, first_for, taken_from, bounce_held, post_poll}
@@ -16,8 +19,14 @@ returns-in_default-clause-answer g c =
     let l : HasEntry c.args.handle q = subst (HasEntry c.args.handle) (sym c.self.view_is) c.requires.live in
     absurd (not-found q.entries c.args.handle (sym c.in_default.ensures) l.0 l.1.0 l.1.1)
 
-pub returns-in_default-clause-spells : goal.returns-in_default-clause-spells
-returns-in_default-clause-spells g c =
+pub returns-in_default-clause-leaves : goal.returns-in_default-clause-leaves
+returns-in_default-clause-leaves g c =
+    let q : Chains = record { entries = c.self.inside.entries.items; live = c.self.inside.live; next_ref = c.self.inside.next_ref } in
+    let l : HasEntry c.args.handle q = subst (HasEntry c.args.handle) (sym c.self.view_is) c.requires.live in
+    absurd (not-found q.entries c.args.handle (sym c.in_default.ensures) l.0 l.1.0 l.1.1)
+
+pub returns-in_default-clause-handles : goal.returns-in_default-clause-handles
+returns-in_default-clause-handles g c =
     let q : Chains = record { entries = c.self.inside.entries.items; live = c.self.inside.live; next_ref = c.self.inside.next_ref } in
     let l : HasEntry c.args.handle q = subst (HasEntry c.args.handle) (sym c.self.view_is) c.requires.live in
     absurd (not-found q.entries c.args.handle (sym c.in_default.ensures) l.0 l.1.0 l.1.1)
@@ -45,14 +54,14 @@ there g c post s =
     (w.within, w.handle ∙ (place g c).1)
 
 pub take-requires-clause-within : goal.take-requires-clause-within
-take-requires-clause-within g c = (there g (goal.at.take-requires-clause-within g c).After-bounce_held c.requires.post.0 c.requires.post.1).0
+take-requires-clause-within g c = (there g (goal.at.take-requires-clause-within g c).After-bounce_held c.requires.queue.post c.requires.queue.spells).0
 
 pub take-requires-clause-post : goal.take-requires-clause-post
 take-requires-clause-post g c =
     let o = (goal.at.take-requires-clause-post g c).After-bounce_held in
-    let post = c.requires.post.0 in
-    let w = there g o post c.requires.post.1 in
-    (between g o post, spelled g o post c.requires.post.1, subst (λ x. held_by x (between g o post).seats ≡ None) (sym w.1) (held-after c.args.handle (held_by c.args.handle post.seats) post refl))
+    let post = c.requires.queue.post in
+    let w = there g o post c.requires.queue.spells in
+    (between g o post, spelled g o post c.requires.queue.spells, subst (λ x. held_by x (between g o post).seats ≡ None) (sym w.1) (held-after c.args.handle (held_by c.args.handle post.seats) post refl))
 
 pub returns-clause-answer : goal.returns-clause-answer
 unfolding post_poll
@@ -64,12 +73,19 @@ returns-clause-answer g c = λ post s.
     c.take.ensures.answer before (spelled g o post s) (subst (λ x. held_by x before.seats ≡ None) (sym w.1) none)
     ∙ ap (λ x. option_map event_of (taken_from x (first_for x before.queued) before).1) w.1
 
-pub returns-clause-spells : goal.returns-clause-spells
+pub returns-clause-leaves : goal.returns-clause-leaves
 unfolding post_poll
-returns-clause-spells g c = λ post s.
-    let o = (goal.at.returns-clause-spells g c).After-bounce_held in
+returns-clause-leaves g c = left c.requires.queue (λ post s.
+    let o = (goal.at.returns-clause-leaves g c).After-bounce_held in
     let w = there g o post s in
     let none = held-after c.args.handle (held_by c.args.handle post.seats) post refl in
     let before = between g o post in
     subst (λ x. SpellsPost (g.S.Words.memory c.take.new.store) c.args.rma c.take.new.self (taken_from x (first_for x before.queued) before).0) w.1
-    (c.take.ensures.spells before (spelled g o post s) (subst (λ x. held_by x before.seats ≡ None) (sym w.1) none))
+    (c.take.ensures.spells before (spelled g o post s) (subst (λ x. held_by x before.seats ≡ None) (sym w.1) none)))
+    c.take.ensures.module (OnlyArea-both (g.S.Words.memory c.args.store.now) (g.S.Words.memory c.bounce_held.new.store) (g.S.Words.memory c.take.new.store) c.args.rma.area.0 c.bounce_held.ensures.only c.take.ensures.only)
+
+pub returns-clause-handles : goal.returns-clause-handles
+returns-clause-handles g c =
+    let post = c.requires.queue.post in
+    let l = (returns-clause-leaves g c).spells post c.requires.queue.spells in
+    handles-stay (heap_in (g.S.Words.memory c.args.store.now) c.args.rma) (heap_in (g.S.Words.memory c.take.new.store) c.args.rma) c.args.self.now c.take.new.self post (post_poll c.args.handle post).0 c.requires.queue.spells l (post_poll-handles c.args.handle post)

@@ -3,7 +3,9 @@ use Rattle.std.proofs.lemmas.Result.{err_from_is_err_and}
 use Rattle.std.specs.Prelude.{Ok, None}
 use Rattle.rh_defs.specs.Chain.{answer_of, left_of}
 use Rattle.rh_defs.specs.Memory.{Memory, OnlyArea}
-use Rattle.rh_defs.proofs.MemoryLaws.{OnlyArea-both}
+use Rattle.rh_defs.proofs.MemoryLaws.{OnlyArea-both, OnlyArea-self}
+use Rattle.rh_defs.proofs.PostLaws.{post_send-handles}
+use Rattle.rh_wimp.proofs.LeavesLaws.{handles-stay, left}
 use Rattle.rh_module.specs.Area.{IsModule, heap_in}
 use Rattle.rh_wimp.specs.Moves.{Relinks, Settled}
 use Rattle.rh_defs.specs.Blocks.{HasBlock}
@@ -22,11 +24,11 @@ returns-in_err-to-clause-answer g c = λ post p.
     let refused = send-refused (heap_in m c.args.rma) c.args.self.now post m.free c.args.letter c.in_err-to.field-0.0 p c.in_err-to.ensures.refused in
     rw (e.1, e.2) (sym (ap answer_of refused))
 
-pub returns-in_err-to-clause-spells : goal.returns-in_err-to-clause-spells
-returns-in_err-to-clause-spells g c = λ post p.
+pub returns-in_err-to-clause-leaves : goal.returns-in_err-to-clause-leaves
+returns-in_err-to-clause-leaves g c = left c.requires.queue (λ post p.
     let m = g.S.Words.memory c.args.store.now in
     let refused = send-refused (heap_in m c.args.rma) c.args.self.now post m.free c.args.letter c.in_err-to.field-0.0 p c.in_err-to.ensures.refused in
-    subst (λ r. IsPost (heap_in m c.args.rma) c.args.self.now (left_of post r)) (sym refused) p
+    subst (λ r. IsPost (heap_in m c.args.rma) c.args.self.now (left_of post r)) (sym refused) p) c.requires.queue.area (OnlyArea-self (g.S.Words.memory c.args.store.now) c.args.rma.area.0 c.requires.queue.area.opened)
 
 pub returns-in_err-block-clause-answer : goal.returns-in_err-block-clause-answer
 returns-in_err-block-clause-answer g c = λ post p.
@@ -35,12 +37,16 @@ returns-in_err-block-clause-answer g c = λ post p.
     let refused = send-short (heap_in m c.args.rma) c.args.self.now post m.free c.args.letter c.in_err-block.field-0.0 p c.in_ok-to.ensures.ok c.in_err-block.ensures.answer in
     rw (e.1, e.2) (sym (ap answer_of refused))
 
-pub returns-in_err-block-clause-spells : goal.returns-in_err-block-clause-spells
-returns-in_err-block-clause-spells g c = λ post p.
+pub returns-in_err-block-clause-leaves : goal.returns-in_err-block-clause-leaves
+returns-in_err-block-clause-leaves g c =
+    let m = g.S.Words.memory c.args.store.now in
+    let same = sym c.in_err-block.ensures.err in
+    left c.requires.queue (λ post p.
     let m = g.S.Words.memory c.args.store.now in
     let refused = send-short (heap_in m c.args.rma) c.args.self.now post m.free c.args.letter c.in_err-block.field-0.0 p c.in_ok-to.ensures.ok c.in_err-block.ensures.answer in
     subst (λ (n : Memory). IsPost (heap_in n c.args.rma) c.args.self.now (left_of post (post_send m.free c.args.letter post))) (sym c.in_err-block.ensures.err)
-    (subst (λ r. IsPost (heap_in m c.args.rma) c.args.self.now (left_of post r)) (sym refused) p)
+    (subst (λ r. IsPost (heap_in m c.args.rma) c.args.self.now (left_of post r)) (sym refused) p))
+    (subst (λ (n : Memory). IsModule n c.args.rma) same c.requires.queue.area) (subst (λ (n : Memory). OnlyArea m n c.args.rma.area.0) same (OnlyArea-self m c.args.rma.area.0 c.requires.queue.area.opened))
 
 -- ---- the block
 there : (g : given.Over) (c : In_ok-block g) → IsModule (g.S.Words.memory c.place.new.store) c.args.rma × (OnlyArea (g.S.Words.memory c.args.store.now) (g.S.Words.memory c.place.new.store) c.args.rma.area.0 × HasBlock c.in_ok-block.block 0 (heap_in (g.S.Words.memory c.place.new.store) c.args.rma))
@@ -66,8 +72,8 @@ pub append-requires-clause-last : goal.append-requires-clause-last
 unfolding seen
 append-requires-clause-last g c =
     let o = (goal.at.append-requires-clause-last g c).In_ok-block in
-    let a = asks g o c.requires.post.0 c.requires.post.1 in
-    last-stays (g.S.Words.memory c.args.store.now) (g.S.Words.memory c.place.new.store) c.args.rma (seen g o) c.requires.post.0 _ c.in_ok-block.block c.in_ok-to.to _ a.0 a.2
+    let a = asks g o c.requires.queue.post c.requires.queue.spells in
+    last-stays (g.S.Words.memory c.args.store.now) (g.S.Words.memory c.place.new.store) c.args.rma (seen g o) c.requires.queue.post _ c.in_ok-block.block c.in_ok-to.to _ a.0 a.2
     c.in_ok-block.ensures.answer c.in_ok-block.ensures.placed
 
 pub append-requires-clause-small : goal.append-requires-clause-small
@@ -90,16 +96,16 @@ pub answer-freed-requires-clause-rows : goal.answer-freed-requires-clause-rows
 unfolding seen
 answer-freed-requires-clause-rows g c =
     let o = (goal.at.answer-freed-requires-clause-rows g c).In_ok-block in
-    let j = joined g o (g.S.Words.memory c.append.new.store) c.requires.post.0 c.requires.post.1 c.append.ensures.heap in (
-      rows_of (queued_in c.args.letter (j.plain, c.in_ok-block.block) c.requires.post.0),
-      subst (λ es. RowsLie (heap_in (g.S.Words.memory c.append.new.store) c.args.rma) es (rows_of (queued_in c.args.letter (j.plain, c.in_ok-block.block) c.requires.post.0))) (sym c.append.ensures.entries) j.spells.rows,
+    let j = joined g o (g.S.Words.memory c.append.new.store) c.requires.queue.post c.requires.queue.spells c.append.ensures.heap in (
+      rows_of (queued_in c.args.letter (j.plain, c.in_ok-block.block) c.requires.queue.post),
+      subst (λ es. RowsLie (heap_in (g.S.Words.memory c.append.new.store) c.args.rma) es (rows_of (queued_in c.args.letter (j.plain, c.in_ok-block.block) c.requires.queue.post))) (sym c.append.ensures.entries) j.spells.rows,
     )
 
 pub invariant_of-self : goal.invariant_of-self
 unfolding seen
 invariant_of-self g c =
     let o = (goal.at.invariant_of-self g c).In_ok-block in
-    let a = asks g o c.requires.post.0 c.requires.post.1 in
+    let a = asks g o c.requires.queue.post c.requires.queue.spells in
     let few = admitted-refs c.args.letter.to (seen g o) a.1 in
     (c.answer-freed.ensures.capacity ∙ c.append.ensures.capacity ∙ c.self.invariant.0, omega arith)
 
@@ -112,10 +118,10 @@ returns-clause-answer g c = λ post p.
     let j = joined g o (g.S.Words.memory c.append.new.store) post p c.append.ensures.heap in
     ap Ok a.0.next_ref ∙ sym (ap answer_of (send-granted (heap_in m c.args.rma) (seen g o) post m.free c.args.letter (j.plain, c.in_ok-block.block) j.admitted j.granted))
 
-pub returns-clause-spells : goal.returns-clause-spells
+pub returns-clause-leaves : goal.returns-clause-leaves
 unfolding seen
-returns-clause-spells g c = λ post p.
-    let o = (goal.at.returns-clause-spells g c).In_ok-block in
+returns-clause-leaves g c = left c.requires.queue (λ post p.
+    let o = (goal.at.returns-clause-leaves g c).In_ok-block in
     let m = g.S.Words.memory c.args.store.now in
     let n = g.S.Words.memory c.append.new.store in
     let k = g.S.Words.memory c.answer-freed.new.store in
@@ -135,10 +141,15 @@ returns-clause-spells g c = λ post p.
     (subst (λ x. Settled n k c.args.rma c.append.new.entries.items c.answer-freed.new.entries.items i l.your_ref x c.answer-freed.result) w.held settled) in
     let done = letter-settled n k c.args.rma q post l to b i c.answer-freed.result j.plain c.answer-freed.new.entries.items j.spells w.entry w.handle settled' in
     subst (λ r. IsPost (heap_in k c.args.rma) (record { entries = c.answer-freed.new.entries.items; live = q.live + 1 - c.answer-freed.result; next_ref = q.next_ref + 1 }) (left_of post r))
-    (sym (send-granted (heap_in m c.args.rma) q post m.free l (j.plain, b) j.admitted j.granted)) done
-
-pub returns-clause-only : goal.returns-clause-only
-returns-clause-only g c =
-    let w = there g (goal.at.returns-clause-only g c).In_ok-block in
+    (sym (send-granted (heap_in m c.args.rma) q post m.free l (j.plain, b) j.admitted j.granted)) done)
+    c.answer-freed.ensures.module (let w = there g (goal.at.returns-clause-leaves g c).In_ok-block in
     OnlyArea-both (g.S.Words.memory c.args.store.now) (g.S.Words.memory c.place.new.store) (g.S.Words.memory c.answer-freed.new.store) c.args.rma.area.0 w.1.0
-    (OnlyArea-both (g.S.Words.memory c.place.new.store) (g.S.Words.memory c.append.new.store) (g.S.Words.memory c.answer-freed.new.store) c.args.rma.area.0 c.append.ensures.heap.only c.answer-freed.ensures.only)
+    (OnlyArea-both (g.S.Words.memory c.place.new.store) (g.S.Words.memory c.append.new.store) (g.S.Words.memory c.answer-freed.new.store) c.args.rma.area.0 c.append.ensures.heap.only c.answer-freed.ensures.only))
+
+pub returns-clause-handles : goal.returns-clause-handles
+returns-clause-handles g c =
+    let m = g.S.Words.memory c.args.store.now in
+    let k = g.S.Words.memory c.answer-freed.new.store in
+    let post = c.requires.queue.post in
+    let l = (returns-clause-leaves g c).spells post c.requires.queue.spells in
+    handles-stay (heap_in m c.args.rma) (heap_in k c.args.rma) c.args.self.now _ post (left_of post (post_send m.free c.args.letter post)) c.requires.queue.spells l (post_send-handles m.free c.args.letter post)

@@ -1,0 +1,24 @@
+use Rattle.std.proofs.Common.{sym, subst, ◌∙◌}
+use Rattle.rh_defs.specs.Post.{post_is_live}
+use Rattle.rh_module.specs.Area.{heap_in}
+use Rattle.rh_wimp.specs.Chains.{Chains, SpellsPost, rows_of}
+use Rattle.rh_wimp.specs.Searches.{wants}
+use Rattle.rh_wimp.specs.declared.searching.Wanted.TheVariants.{WithRef}
+use Rattle.rh_wimp.proofs.SearchLaws.{rows-have, short-rows}
+use Rattle.rh_wimp.proofs.queue.Queue.is_live.Goals as goal
+
+pub any_entry-requires-clause-rows : goal.any_entry-requires-clause-rows
+any_entry-requires-clause-rows g c =
+    let m = g.S.Words.memory c.args.store.now in
+    let post = c.requires.post in
+    let q : Chains = record { entries = c.self.inside.entries.items; live = c.self.inside.live; next_ref = c.self.inside.next_ref } in
+    let s : SpellsPost m c.args.rma q post = subst (λ (k : Chains). SpellsPost m c.args.rma k post) (sym c.self.view_is) c.requires.spells in
+    (rows_of post, (s.rows, short-rows (heap_in m c.args.rma) q post s))
+
+pub returns : goal.returns
+unfolding post_is_live
+returns g c = λ post s'.
+    let m = g.S.Words.memory c.args.store.now in
+    let q : Chains = record { entries = c.self.inside.entries.items; live = c.self.inside.live; next_ref = c.self.inside.next_ref } in
+    let s : SpellsPost m c.args.rma q post = subst (λ (k : Chains). SpellsPost m c.args.rma k post) (sym c.self.view_is) s' in
+    c.any_entry.ensures (rows_of post) s.rows (short-rows (heap_in m c.args.rma) q post s) ∙ rows-have (wants (WithRef c.args.my_ref)) post s.recipients

@@ -1,0 +1,12 @@
+use Rattle.std.proofs.Common.{◌≡◌, ℕ, ◌<◌, false, List}
+use Rattle.std.specs.List.{list_any}
+use Rattle.rh_module.specs.Area.{heap_in}
+use Rattle.rh_wimp.specs.Chains.{Row, RowsLie, row_at, row_parcels}
+use Rattle.rh_wimp.specs.Searches.{AreShort, wants}
+use Rattle.rh_wimp.proofs.searching.any_entry.Given as goal
+
+-- no message of the rows before is the one
+abbrev pub invariant-loop-entry : goal.invariant-loop-entry
+invariant-loop-entry g l =
+    (rows : List Row) → RowsLie (heap_in (g.S.Words.memory l.store) l.rma) l.entries.items rows → AreShort rows
+    → (j : ℕ) → j < l.entry-index → list_any (wants l.wanted) (row_parcels (row_at rows j)) ≡ false

@@ -1,0 +1,20 @@
+-- What is looked for among the live messages.
+use Rattle.std.specs.Prelude.{ℕ, ◌<◌, ◌≤◌, ◌==◌, Bool, List, length}
+use Rattle.std.specs.List.{list_any}
+use Rattle.rh_defs.specs.Messages.{Parcel}
+use Rattle.rh_wimp.specs.Chains.{Row, row_at, row_parcels}
+use Rattle.rh_wimp.specs.declared.searching.Wanted.{Wanted}
+use Rattle.rh_wimp.specs.declared.searching.Wanted.TheVariants.{At, WithRef}
+
+-- whether a message is the one that is looked for
+abbrev pub wants : Wanted → Parcel → Bool
+wants (At block) p = p.block == block
+wants (WithRef ref) p = p.message.my_ref == ref
+
+-- whether a message of some rows passes the test
+abbrev pub rows_have : (Parcel → Bool) → List Row → Bool
+rows_have test rows = list_any (λ (r : Row). list_any test (row_parcels r)) rows
+
+-- no chain is longer than there can be messages
+abbrev pub AreShort : List Row → Type 0
+AreShort rows = (i : ℕ) → i < length rows → length (row_at rows i).chain ≤ 256

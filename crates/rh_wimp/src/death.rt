@@ -1,0 +1,101 @@
+//! The end of a live handle.
+ghost use Rattle.std.specs.Prelude.{◌≡◌, ◌<◌, ◌==◌, filter, length, not};
+ghost use Rattle.rh_defs.specs.Memory.{OnlyArea};
+ghost use Rattle.rh_defs.specs.Messages.{Parcel};
+ghost use Rattle.rh_defs.specs.Post.{Post, held_by, post_death};
+ghost use Rattle.rh_module.specs.Area.{IsModule};
+ghost use Rattle.rh_wimp.specs.Calls.{IsQueue, Leaves, handles_of};
+ghost use Rattle.rh_wimp.specs.Chains.{HasEntry, MayBounce, SpellsPost, entry_at};
+ghost use Rattle.rh_wimp.specs.Deaths.{Drains, bounced_from, ended_from, settled_from};
+
+use crate::chain::find;
+use crate::layout::{MESSAGE, SENDER};
+use crate::placing::free;
+use crate::queue::{MOST_MESSAGES, Queue};
+use crate::reading::read_code;
+use rh_defs::Handle;
+use rh_module::Module;
+use rh_store::Pages;
+
+impl Queue {
+    /// Ends a live handle. The message that it holds bounces, then the recorded messages queued for it bounce in order,
+    /// and the others vanish. Those from the handle itself vanish too, as it isn't live any more.
+    pub fn bounce_for_death<S: Pages>(&mut self, store: &mut S, rma: Module, handle: Handle)
+        requires queue { IsQueue (S.memory store.old) rma self.old }
+        requires live { HasEntry handle self.old }
+        ensures leaves { Leaves (S.memory store.old) (S.memory store.new) rma self.old self.new (post_death handle) }
+        ensures handles { handles_of self.new ≡ filter (λ h. not (h == handle)) (handles_of self.old) }
+    {
+        let Some(at) = find(&self.entries, handle) else {
+            return;
+        };
+        self.end_held(store, rma, at, handle);
+        self.end_chain(store, rma, at, handle);
+        self.entries.remove(at);
+    }
+
+    /// Bounces the message that a dying task holds, if there is one.
+    fn end_held<S: Pages>(&mut self, store: &mut S, rma: Module, at: usize, dying: Handle)
+        requires module { IsModule (S.memory store.old) rma }
+        requires within { at < length self.old.entries }
+        requires handle { (entry_at self.old.entries at).handle ≡ dying }
+        requires post { (post : Post) × SpellsPost (S.memory store.old) rma self.old post }
+        ensures spells { (post : Post) → SpellsPost (S.memory store.old) rma self.old post
+            → SpellsPost (S.memory store.new) rma self.new (settled_from dying (held_by dying post.seats) post) }
+        ensures module { IsModule (S.memory store.new) rma }
+        ensures only { OnlyArea (S.memory store.old) (S.memory store.new) rma.area.0 }
+    {
+        if let Some(block) = self.lift_held(at) {
+            self.bounce_from(store, rma, block, dying);
+        }
+    }
+
+    /// Empties the chain of a dying task: recorded messages bounce, the others vanish.
+    fn end_chain<S: Pages>(&mut self, store: &mut S, rma: Module, at: usize, dying: Handle)
+        requires module { IsModule (S.memory store.old) rma }
+        requires within { at < length self.old.entries }
+        requires handle { (entry_at self.old.entries at).handle ≡ dying }
+        requires post { (post : Post) × SpellsPost (S.memory store.old) rma self.old post }
+        ensures drains { (post : Post) → SpellsPost (S.memory store.old) rma self.old post → Drains (S.memory store.new) rma self.new post dying 256 }
+        ensures module { IsModule (S.memory store.new) rma }
+        ensures only { OnlyArea (S.memory store.old) (S.memory store.new) rma.area.0 }
+    {
+        for _turn in 0..MOST_MESSAGES {
+            let Some(block) = self.lift_first(store, rma, at) else {
+                return;
+            };
+            self.end_message(store, rma, block, dying);
+        }
+    }
+
+    /// Bounces a message that was queued for a dying task, if it is a recorded one, and else frees its block.
+    fn end_message<S: Pages>(&mut self, store: &mut S, rma: Module, block: usize, dying: Handle)
+        requires module { IsModule (S.memory store.old) rma }
+        requires loose { (post : Post) × ((p : Parcel) × MayBounce (S.memory store.old) rma self.old post p block) }
+        ensures spells { (post : Post) (p : Parcel) → MayBounce (S.memory store.old) rma self.old post p block → SpellsPost (S.memory store.new) rma self.new (ended_from dying p post) }
+        ensures module { IsModule (S.memory store.new) rma }
+        ensures only { OnlyArea (S.memory store.old) (S.memory store.new) rma.area.0 }
+    {
+        if read_code(store, rma, block).is_recorded() {
+            self.bounce_from(store, rma, block, dying);
+        } else {
+            free(store, rma, block);
+        }
+    }
+
+    /// Bounces a message that belongs to nobody, or frees its block where a dying task sent it.
+    fn bounce_from<S: Pages>(&mut self, store: &mut S, rma: Module, block: usize, dying: Handle)
+        requires module { IsModule (S.memory store.old) rma }
+        requires loose { (post : Post) × ((p : Parcel) × MayBounce (S.memory store.old) rma self.old post p block) }
+        ensures spells { (post : Post) (p : Parcel) → MayBounce (S.memory store.old) rma self.old post p block → SpellsPost (S.memory store.new) rma self.new (bounced_from dying p post) }
+        ensures module { IsModule (S.memory store.new) rma }
+        ensures only { OnlyArea (S.memory store.old) (S.memory store.new) rma.area.0 }
+    {
+        let from = Handle(rma.read_word(store, block, MESSAGE + SENDER));
+        if from == dying {
+            free(store, rma, block);
+        } else {
+            self.bounce(store, rma, block);
+        }
+    }
+}

@@ -1,0 +1,112 @@
+//! Whether a message is in the queue.
+ghost use Rattle.std.specs.Prelude.{◌≡◌, ◌<◌, ◌≤◌, ◌^◌, ℕ, List, Option, length};
+ghost use Rattle.std.specs.List.{list_any};
+ghost use Rattle.rh_defs.specs.Messages.{Parcel};
+ghost use Rattle.rh_defs.specs.Post.{holds_such, post_is_live, post_is_message};
+ghost use Rattle.rh_module.specs.Area.{IsModule, heap_in};
+ghost use Rattle.rh_wimp.specs.Calls.{Answers, IsQueue};
+ghost use Rattle.rh_wimp.specs.Chains.{Chain, Holds, Lies, Row, RowLies, RowsLie, first_block, row_parcels};
+ghost use Rattle.rh_wimp.specs.Searches.{AreShort, rows_have, wants};
+
+use crate::chain::Entry;
+use crate::layout::{LINK, MESSAGE, MY_REF};
+use crate::queue::{MOST_MESSAGES, Queue};
+use rh_defs::Ref;
+use rh_module::Module;
+use rh_store::Words;
+
+/// What is looked for among the live messages.
+#[derive(Debug, Drop)]
+pub(crate) enum Wanted {
+    /// The message that lies in this block.
+    At(usize),
+    /// The message with this ref.
+    WithRef(Ref),
+}
+
+impl Queue {
+    /// Whether a message, queued or held, lies in the block at an offset of the module area.
+    pub fn is_message<S: Words>(&self, store: &S, rma: Module, block: usize) -> bool
+        requires { IsQueue (S.memory store.now) rma self.now }
+        ensures { Answers (S.memory store.now) rma self.now (post_is_message block) result }
+    {
+        any_entry(store, rma, &self.entries, &Wanted::At(block))
+    }
+
+    /// Whether the message with a ref is queued or held.
+    pub fn is_live<S: Words>(&self, store: &S, rma: Module, my_ref: Ref) -> bool
+        requires { IsQueue (S.memory store.now) rma self.now }
+        ensures { Answers (S.memory store.now) rma self.now (post_is_live my_ref) result }
+    {
+        any_entry(store, rma, &self.entries, &Wanted::WithRef(my_ref))
+    }
+}
+
+/// Whether a message of some tasks is the one that is looked for.
+fn any_entry<S: Words>(store: &S, rma: Module, entries: &Vec<Entry>, wanted: &Wanted) -> bool
+    requires module { IsModule (S.memory store.now) rma }
+    requires rows { (rows : List Row) × (RowsLie (heap_in (S.memory store.now) rma) entries.now.items rows × AreShort rows) }
+    ensures { (rows : List Row) → RowsLie (heap_in (S.memory store.now) rma) entries.now.items rows → AreShort rows → result ≡ rows_have (wants wanted.now) rows }
+{
+    for entry in entries {
+        if entry_has(store, rma, *entry, wanted) {
+            return true;
+        }
+    }
+    false
+}
+
+/// Whether a message of a task is the one that is looked for.
+fn entry_has<S: Words>(store: &S, rma: Module, entry: Entry, wanted: &Wanted) -> bool
+    requires module { IsModule (S.memory store.now) rma }
+    requires row { (r : Row) × (RowLies (heap_in (S.memory store.now) rma) entry r × (length r.chain ≤ 256)) }
+    ensures { (r : Row) → RowLies (heap_in (S.memory store.now) rma) entry r → length r.chain ≤ 256 → result ≡ list_any (wants wanted.now) (row_parcels r) }
+{
+    if held_has(store, rma, entry.held, wanted) {
+        return true;
+    }
+    chain_has(store, rma, entry.first, wanted)
+}
+
+/// Whether the message that is held in a block, 0 for none, is the one that is looked for.
+fn held_has<S: Words>(store: &S, rma: Module, held: usize, wanted: &Wanted) -> bool
+    requires module { IsModule (S.memory store.now) rma }
+    requires held { (o : Option Parcel) × Holds (heap_in (S.memory store.now) rma) held o }
+    ensures { (o : Option Parcel) → Holds (heap_in (S.memory store.now) rma) held o → result ≡ holds_such (wants wanted.now) o }
+{
+    if held == 0 {
+        return false;
+    }
+    matches_wanted(store, rma, held, wanted)
+}
+
+/// Whether a message of a chain is the one that is looked for.
+fn chain_has<S: Words>(store: &S, rma: Module, first: usize, wanted: &Wanted) -> bool
+    requires module { IsModule (S.memory store.now) rma }
+    requires chain { (ps : List Parcel) × ((first ≡ first_block ps 0) × Chain (heap_in (S.memory store.now) rma) ps 0 × (length ps ≤ 256)) }
+    ensures { (ps : List Parcel) → first ≡ first_block ps 0 → Chain (heap_in (S.memory store.now) rma) ps 0 → length ps ≤ 256 → result ≡ list_any (wants wanted.now) ps }
+{
+    let mut block = first;
+    for _turn in 0..MOST_MESSAGES {
+        if block == 0 {
+            return false;
+        }
+        if matches_wanted(store, rma, block, wanted) {
+            return true;
+        }
+        block = rma.read_word(store, block, LINK) as usize;
+    }
+    false
+}
+
+/// Whether the message that lies in a block is the one that is looked for.
+fn matches_wanted<S: Words>(store: &S, rma: Module, block: usize, wanted: &Wanted) -> bool
+    requires module { IsModule (S.memory store.now) rma }
+    requires lies { (link : ℕ) × ((p : Parcel) × (Lies (heap_in (S.memory store.now) rma) link p × (block ≡ p.block) × (link < 2 ^ 32))) }
+    ensures { (link : ℕ) (p : Parcel) → Lies (heap_in (S.memory store.now) rma) link p → block ≡ p.block → link < 2 ^ 32 → result ≡ wants wanted.now p }
+{
+    match wanted {
+        Wanted::At(at) => block == *at,
+        Wanted::WithRef(my_ref) => rma.read_word(store, block, MESSAGE + MY_REF) == my_ref.0,
+    }
+}
