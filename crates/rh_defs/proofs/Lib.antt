@@ -25,6 +25,9 @@ pub mod Desks
 pub mod Transfers
 pub mod Steps
 pub mod Spaced
+pub mod Follows
+pub mod Orders
+pub mod OrderSteps
 pub mod SlotImageLaws
 pub mod MessageRows
 pub mod Rows

@@ -27,6 +27,7 @@ pub mod OutgoingEvents
 pub mod IncomingEvents
 pub mod Transfer
 pub mod Step
+pub mod Order
 pub mod Runs
 pub mod Spans
 pub mod Laws
