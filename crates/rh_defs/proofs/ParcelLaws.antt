@@ -1,10 +1,10 @@
 -- Laws of the bytes of live messages in their blocks.
-use Rattle.std.proofs.Common.{◌≡◌, ℕ, ◌+◌, ◌*◌, ◌<◌, ◌≤◌, ◌^◌, lit<, List, [], ◌∷◌, ◌++◌, length, refl, sym, ap, ◌∙◌, arith}
+use Rattle.std.proofs.Common.{◌≡◌, ℕ, ◌+◌, ◌<◌, ◌≤◌, ◌^◌, lit<, List, [], ◌∷◌, ◌++◌, length, refl, sym, ap, ◌∙◌, arith}
 use Rattle.std.proofs.lemmas.List.{length-append, length-replicate, append_assoc, append-nil}
 use Rattle.rh_defs.specs.Bytes.{word, part, put, word_bytes}
 use Rattle.rh_defs.specs.Pieces.{zeros}
 use Rattle.rh_defs.specs.Heap.{block_room}
-use Rattle.rh_defs.specs.Messages.{Parcel, code_number, words, encoded, encoded_length, parcel_bytes, parcel_size, padded, Fits, AreWords}
+use Rattle.rh_defs.specs.Messages.{Parcel, code_number, words, encoded, encoded_length, parcel_bytes, parcel_size, padded, Fits}
 use Rattle.rh_defs.specs.MessageImage.{SpellWords}
 use Rattle.rh_defs.specs.declared.message.EventCode.{EventCode}
 use Rattle.rh_defs.specs.declared.message.EventCode.TheVariants.{User, Recorded, Acknowledge}

@@ -1,12 +1,12 @@
 -- The live handles of a post after each call on it.
-use Rattle.std.proofs.Common.{◌≡◌, ℕ, Bool, true, false, cond, eqb, List, [], ◌∷◌, ◌++◌, map, refl, sym, ap, ◌∙◌}
+use Rattle.std.proofs.Common.{◌≡◌, ℕ, Bool, true, false, cond, eqb, List, [], ◌∷◌, ◌++◌, map, refl, ap, ◌∙◌}
 use Rattle.std.specs.Prelude.{Option, Some, None, Ok, Err, filter, not, ◌==◌}
 use Rattle.rh_defs.specs.Chain.{Granted, ◌>>=◌, ◌>>◌, left_of}
 use Rattle.rh_defs.specs.Blocks.{poked}
 use Rattle.rh_defs.specs.Heap.{Heap}
 use Rattle.rh_defs.specs.Module.{module_claim}
 use Rattle.rh_defs.specs.Messages.{Parcel, is_recorded, parcel_bytes, parcel_size}
-use Rattle.rh_defs.specs.Post.{Seat, Post, post_handles, has_seat, with_held, held_by, answers_held, put_down, queued_in, posted, sendable, message_of, post_send, as_returned, bounced, bounce_held, without_block, first_for, held_or_released, taken_from, post_poll, bounce_all, post_death, post_join}
+use Rattle.rh_defs.specs.Post.{Seat, Post, post_handles, has_seat, with_held, held_by, answers_held, put_down, queued_in, posted, sendable, message_of, post_send, as_returned, bounced, bounce_held, without_block, first_for, taken_from, post_poll, bounce_all, post_death}
 use Rattle.rh_defs.specs.declared.message.Letter.{Letter}
 
 abbrev seat_handles : List Seat → List ℕ

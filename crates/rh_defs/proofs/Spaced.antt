@@ -1,17 +1,16 @@
 -- Blocks that lie one after the other are apart.
-use Rattle.std.proofs.Common.{ℕ, ◌+◌, ◌*◌, ◌≤◌, arith, List, [], ◌∷◌, ◌++◌, length, inl}
+use Rattle.std.proofs.Common.{ℕ, ◌+◌, ◌*◌, ◌/◌, ◌≤◌, arith, List, [], ◌∷◌, ◌++◌, length, inl}
 use Rattle.std.specs.List.{AllByRecursion}
 use Rattle.rh_defs.specs.Pieces.{total, page}
-use Rattle.rh_defs.specs.Heap.{Segment, Used, Hole, size_of, first_place}
+use Rattle.rh_defs.specs.Heap.{Heap, Segment, Used, Hole, size_of, first_place}
 use Rattle.rh_defs.specs.Slot.{Slot, Flex, IsSlot, weight, heap_start, flex_start, slot_start, slot_pages}
+use Rattle.rh_defs.specs.Module.{FillsPages}
+use Rattle.rh_defs.specs.Commands.{module_start}
 use Rattle.rh_defs.specs.Desk.{Desk}
-use Rattle.rh_defs.specs.Spans.{Span, heap_spans, flex_spans, slot_spans, IsApart, AreApart, IsWithin, AreLaidOut}
+use Rattle.rh_defs.specs.Spans.{Span, heap_spans, flex_spans, slot_spans, module_spans, IsApart, AreApart, IsWithin, AreLaidOut}
 use Rattle.rh_defs.specs.Laws.{IsDesk, IsBalanced, HasApartBlocks, Always}
+use Rattle.rh_defs.proofs.Lists.{all-mono, all-join}
 use Rattle.rh_defs.proofs.Steps.{after-is, start-is}
-
-pub all-mono : {A : Type 0} {P Q : A → Type 0} (f : (x : A) → P x → Q x) (xs : List A) → AllByRecursion P xs → AllByRecursion Q xs
-all-mono f [] all = tt
-all-mono f (x ∷ xs) all = (f x all.0, all-mono f xs all.1)
 
 -- within a wider range
 pub widened : (a b c d : ℕ) (spans : List Span) → c ≤ a → b ≤ d → AllByRecursion (IsWithin a b) spans → AllByRecursion (IsWithin c d) spans
@@ -50,10 +49,6 @@ heap_spans-apart place (Hole size ∷ segments) = heap_spans-apart (place + size
 
 -- ---- two lists, of which the first ends where the second begins
 
-pub all-join : {A : Type 0} (P : A → Type 0) (xs ys : List A) → AllByRecursion P xs → AllByRecursion P ys → AllByRecursion P (xs ++ ys)
-all-join P [] ys f g = g
-all-join P (x ∷ xs) ys f g = (f.0, all-join P xs ys f.1 g)
-
 pub apart-join : (from between to : ℕ) (spans more : List Span) → AllByRecursion (IsWithin from between) spans → AllByRecursion (IsWithin between to) more
     → AreApart spans → AreApart more → AreApart (spans ++ more)
 apart-join from between to [] more f g p q = q
@@ -73,16 +68,28 @@ slot-laid_out s is =
           (widened _ _ _ _ (flex_spans (flex_start s) s.blocks) (omega arith) (omega arith) upper);
     }
 
+-- the module area's blocks lie below its heap's end, which is its length
+pub module-laid_out : (h : Heap) → FillsPages h → AreLaidOut module_start (page * (h.end / page)) (module_spans h)
+module-laid_out h is = record {
+  apart = heap_spans-apart (module_start + first_place) h.segments;
+  within =
+      widened _ _ _ _ (heap_spans (module_start + first_place) h.segments) (omega arith) (omega (arith, is.heap.fits, is.whole))
+      (heap_spans-within (module_start + first_place) h.segments);
+}
+
 -- ---- of each desk of a run
 
 pub apart-of : (d : Desk) → IsDesk d → HasApartBlocks d
-apart-of d is = record { slots = all-mono (λ t. slot-laid_out t.slot) d.tasks is.slots }
+apart-of d is = record { slots = all-mono (λ t. slot-laid_out t.slot) d.tasks is.slots; module_area = module-laid_out d.post.heap is.post.heap }
 
 pub balanced-of : (d : Desk) → IsDesk d → IsBalanced d
 balanced-of d is = omega (arith, is.pages)
 
+pub always-is : Always IsDesk
+always-is pool handle ref files commands from ranged = after-is _ commands ranged (start-is pool handle ref files from)
+
 pub always-apart : Always HasApartBlocks
-always-apart pool handle ref files commands room h = apart-of _ (after-is _ commands h (start-is pool handle ref files room))
+always-apart pool handle ref files commands from ranged = apart-of _ (always-is pool handle ref files commands from ranged)
 
 pub always-balanced : Always IsBalanced
-always-balanced pool handle ref files commands room h = balanced-of _ (after-is _ commands h (start-is pool handle ref files room))
+always-balanced pool handle ref files commands from ranged = balanced-of _ (always-is pool handle ref files commands from ranged)

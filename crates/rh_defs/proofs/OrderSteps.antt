@@ -1,0 +1,422 @@
+-- Each command on two desks that differ in the order of messages to different tasks alone.
+use Rattle.std.proofs.Common.{◌≡◌, ℕ, ◌-◌, Bool, cond, refl, ap, sym, subst, List, length}
+use Rattle.std.specs.Prelude.{Option, Some, None, ℤ, Ok, ◌==◌, nat_lt}
+use Rattle.rh_defs.specs.declared.refusal.Refusal.{Refusal}
+use Rattle.rh_defs.specs.declared.refusal.Refusal.TheVariants.{NotABlock, NotYours}
+use Rattle.rh_defs.specs.declared.command.Command.{Command}
+use Rattle.rh_defs.specs.declared.command.Command.TheVariants as command
+use Rattle.rh_defs.specs.declared.command.Manner.{Manner}
+use Rattle.rh_defs.specs.declared.message.EventCode.{EventCode}
+use Rattle.rh_defs.specs.declared.message.EventCode.TheVariants.{User, Recorded, Acknowledge}
+use Rattle.rh_defs.specs.declared.message.Letter.{Letter}
+use Rattle.rh_defs.specs.declared.message.Body.{Body}
+use Rattle.rh_defs.specs.declared.message.Body.TheVariants.{DataSave, DataSaveAck, DataLoad, DataLoadAck, RamFetch, RamTransmit}
+use Rattle.rh_defs.specs.declared.transfer.Sending.{Sending}
+use Rattle.rh_defs.specs.declared.transfer.Taking.{Taking}
+use Rattle.rh_defs.specs.declared.transfer.Asked.{Asked}
+use Rattle.rh_defs.specs.declared.transfer.Incoming.{Incoming}
+use Rattle.rh_defs.specs.declared.transfer.Incoming.TheVariants as incoming
+use Rattle.rh_defs.specs.Chain.{Granted, ◌>>=◌, ◌>>◌, refuse_if, found_or}
+use Rattle.rh_defs.specs.Pieces.{Split}
+use Rattle.rh_defs.specs.Heap.{block_at}
+use Rattle.rh_defs.specs.Slot.{Flex}
+use Rattle.rh_defs.specs.Messages.{Parcel}
+use Rattle.rh_defs.specs.Post.{Post, post_join}
+use Rattle.rh_defs.specs.Desk.{Desk, Task, Scrap, free_pages, named, with_task, with_post, kept_scrap, with_delivered, send_letter}
+use Rattle.rh_defs.specs.Commands.{Answer, start_task, kill, alloc, load, put, free, extend, mid, claim, release, resize, budge, module_area, module_start, change_module, change_pages, change_made, change_area, make, remove, own_block, rma_claim, rma_free, rma_resize, show, blocks, heap_sums, status}
+use Rattle.rh_defs.specs.OutgoingEvents.{Handled, transmit, refused, answer_fetch, fail_sending, save_scrap, answer_ack, finish_load}
+use Rattle.rh_defs.specs.IncomingEvents.{ended, accept, take_save, appended, fetch_more, took, take_bytes, ask, fetch_back, ack_back, loaded, load_file, take_file}
+use Rattle.rh_defs.specs.Transfer.{came, came_back, handled}
+use Rattle.rh_defs.specs.Step.{save, repeat, event, poll_taken, poll, cancel_in, cancel_out, change, step}
+use Rattle.rh_defs.specs.Order.{SameForEach, requeued, with_queue, IsReordered, StepsAlike, IgnoresOrder}
+use Rattle.rh_defs.proofs.Follows.{Follows, follows-same, follows-with, follows-then, follows-equal, follows-as, or_else-follows, chosen-both}
+use Rattle.rh_defs.proofs.Orders.{PostAlike, AnswerAlike, is_live-same, is_message-same, sendable-same, post_poll-alike, post_death-alike, post_send-alike}
+
+-- the second desk is the first with another such queue
+pub data DeskAlike : Desk → Desk → Type 0 where
+  alike : (d : Desk) (queue : List Parcel) → SameForEach d.post.queued queue → DeskAlike d (with_queue queue d)
+
+-- two desks, each with an answer, which is the same
+pub data Alike {B : Type 0} : Desk × B → Desk × B → Type 0 where
+  alike : (d : Desk) (queue : List Parcel) (x : B) → SameForEach d.post.queued queue → Alike (d, x) (with_queue queue d, x)
+
+-- chains that go on from two such desks
+follows-desk : {B : Type 0} {R : B → B → Type 0} {first second : Granted Desk} (next other : Desk → Granted B) → Follows DeskAlike first second → ((d : Desk) (queue : List Parcel) → SameForEach d.post.queued queue → Follows R (next d) (other (with_queue queue d)))
+    → Follows R (first >>= next) (second >>= other)
+follows-desk {R = R} next other pair h = follows-with next other pair λ x y a. go x y a
+  where
+    go : (x y : Desk) → DeskAlike x y → Follows R (next x) (other y)
+    go _ _ (DeskAlike.alike d queue same) = h d queue same
+
+send_letter-alike : (l : Letter) (d : Desk) (queue : List Parcel) → SameForEach d.post.queued queue → Follows DeskAlike (send_letter l d) (send_letter l (with_queue queue d))
+unfolding send_letter with_task
+send_letter-alike l d queue same = follows-with _ _ (post_send-alike (free_pages d) l d.post queue same) λ x y a. go x y a
+  where
+    sent : Post × ℕ → Desk
+    sent x = with_task l.from (λ t. record t { last_sent = Some (l, x.1) }) (with_post x.0 d)
+
+    go : (x y : Post × ℕ) → AnswerAlike x y → Follows DeskAlike (Ok (sent x)) (Ok (sent y))
+    go _ _ (AnswerAlike.alike post q ref s) = Follows.both (DeskAlike.alike (sent (post, ref)) q s)
+
+-- ---- the sender
+
+module _ (d : Desk) (queue : List Parcel) (same : SameForEach d.post.queued queue) where
+  transmit-alike : (t : Task) (m : Parcel) (buffer amount : ℕ) (x : Sending) (source : Split Flex) → Follows Alike (transmit d t m buffer amount x source) (transmit (with_queue queue d) t m buffer amount x source)
+  unfolding transmit with_task
+  transmit-alike t m buffer amount x source =
+      follows-same _ _ _ λ r. follows-then _ _ _ (follows-desk _ _ (send_letter-alike _ d queue same) λ sent q s. Follows.both (Alike.alike _ q _ s))
+
+  refused-alike : (t : Task) (x : Sending) (refusal : Refusal) → Alike (refused d t x refusal) (refused (with_queue queue d) t x refusal)
+  unfolding with_task
+  refused-alike t x refusal = Alike.alike _ queue _ same
+
+  answer_fetch-alike : (t : Task) (m : Parcel) (buffer amount : ℕ) (o : Option Sending) → Alike (answer_fetch d t m buffer amount o) (answer_fetch (with_queue queue d) t m buffer amount o)
+  unfolding answer_fetch
+  answer_fetch-alike t m buffer amount None = Alike.alike d queue _ same
+  answer_fetch-alike t m buffer amount (Some x) =
+      or_else-follows Alike _ _ (follows-same _ _ _ λ source. transmit-alike t m buffer amount x source) (refused-alike t x)
+
+  fail_sending-alike : (t : Task) (o : Option Sending) → Alike (fail_sending d t o) (fail_sending (with_queue queue d) t o)
+  unfolding fail_sending with_task
+  fail_sending-alike t None = Alike.alike d queue _ same
+  fail_sending-alike t (Some x) = Alike.alike _ queue _ same
+
+  save_scrap-alike : (t : Task) (m : Parcel) (x : Sending) (source : Split Flex) → Follows Alike (save_scrap d t m x source) (save_scrap (with_queue queue d) t m x source)
+  unfolding save_scrap with_task
+  save_scrap-alike t m x source =
+      follows-then _ _ _ (follows-as _ _ _ _ (sendable-same _ d.post queue same) (follows-then _ _ _
+      (follows-desk _ _ (send_letter-alike _ _ queue same) λ sent q s. Follows.both (Alike.alike _ q _ s))))
+
+  answer_ack-alike : (t : Task) (m : Parcel) (o : Option Sending) → Alike (answer_ack d t m o) (answer_ack (with_queue queue d) t m o)
+  unfolding answer_ack
+  answer_ack-alike t m None = Alike.alike d queue _ same
+  answer_ack-alike t m (Some x) =
+      or_else-follows Alike _ _ (follows-same _ _ _ λ source. save_scrap-alike t m x source) (refused-alike t x)
+
+  finish_load-alike : (t : Task) (o : Option Sending) → Alike (finish_load d t o) (finish_load (with_queue queue d) t o)
+  unfolding finish_load with_task
+  finish_load-alike t None = Alike.alike d queue _ same
+  finish_load-alike t (Some x) =
+      or_else-follows Alike _ _ (follows-same _ _ _ λ source. Follows.both (Alike.alike _ queue _ same)) (refused-alike t x)
+
+  -- ---- the receiver
+
+  accept-alike : (t : Task) (m : Parcel) → Follows Alike (accept d t m) (accept (with_queue queue d) t m)
+  unfolding accept with_task
+  accept-alike t m =
+      follows-same _ _ _ λ k. follows-same _ _ _ λ b. follows-same _ _ _ λ p.
+      follows-desk _ _ (send_letter-alike _ _ queue same) λ sent q s. Follows.both (Alike.alike _ q _ s)
+
+  take_save-alike : (t : Task) (m : Parcel) → Alike (take_save d t m) (take_save (with_queue queue d) t m)
+  unfolding take_save
+  take_save-alike t m =
+      chosen-both Alike _ _ _ _ _ (or_else-follows Alike _ _ (accept-alike t m) (λ refusal. Alike.alike d queue _ same)) (Alike.alike d queue _ same)
+
+  appended-alike : (t : Task) (k : ℕ) (bytes : List ℕ) → Follows DeskAlike (appended d t k bytes) (appended (with_queue queue d) t k bytes)
+  unfolding appended with_task
+  appended-alike t k bytes =
+      follows-same _ _ _ λ document. follows-same _ _ _ λ longer. follows-same _ _ _ λ s. Follows.both (DeskAlike.alike _ queue same)
+
+  fetch_more-alike : (t : Task) (m : Parcel) (f : Taking) (n : ℕ) → Follows Alike (fetch_more d t m f n) (fetch_more (with_queue queue d) t m f n)
+  unfolding fetch_more with_task
+  fetch_more-alike t m f n = follows-desk _ _ (send_letter-alike _ d queue same) λ sent q s. Follows.both (Alike.alike _ q _ s)
+
+  took-alike : (t : Task) (m : Parcel) (f : Taking) (n : ℕ) → Alike (took d t m f n) (took (with_queue queue d) t m f n)
+  unfolding took ended with_task
+  took-alike t m f n =
+      chosen-both Alike (nat_lt n t.buffer) _ _ _ _ (Alike.alike _ queue _ same)
+      (or_else-follows Alike _ _ (fetch_more-alike t m f n) (λ refusal. Alike.alike _ queue _ same))
+
+take_bytes-alike : (d : Desk) (queue : List Parcel) (t : Task) (m : Parcel) (n : ℕ) (o : Option Incoming) → SameForEach d.post.queued queue → Alike (take_bytes d t m n o) (take_bytes (with_queue queue d) t m n o)
+unfolding take_bytes ended with_task
+take_bytes-alike d queue t m n None same = Alike.alike d queue _ same
+take_bytes-alike d queue t m n (Some (incoming.Fetching f)) same =
+    or_else-follows Alike _ _ (follows-desk _ _ (appended-alike d queue same t f.anchor _) λ longer q s. Follows.both (took-alike longer q s t m f n))
+    (λ refusal. Alike.alike _ queue _ same)
+take_bytes-alike d queue t m n (Some (incoming.Draining f)) same = Alike.alike _ queue _ same
+take_bytes-alike d queue t m n (Some (incoming.Asking q)) same = Alike.alike d queue _ same
+take_bytes-alike d queue t m n (Some (incoming.Done id anchor count)) same = Alike.alike d queue _ same
+take_bytes-alike d queue t m n (Some (incoming.Failed id anchor count)) same = Alike.alike d queue _ same
+
+ask-alike : (d : Desk) (queue : List Parcel) (t : Task) (f : Taking) → SameForEach d.post.queued queue → Follows Alike (ask d t f) (ask (with_queue queue d) t f)
+unfolding ask ended with_task
+ask-alike d queue t f same = follows-desk _ _ (send_letter-alike _ d queue same) λ sent q s. Follows.both (Alike.alike _ q _ s)
+
+fetch_back-alike : (d : Desk) (queue : List Parcel) (t : Task) (o : Option Incoming) → SameForEach d.post.queued queue → Alike (fetch_back d t o) (fetch_back (with_queue queue d) t o)
+unfolding fetch_back ended with_task
+fetch_back-alike d queue t None same = Alike.alike d queue _ same
+fetch_back-alike d queue t (Some (incoming.Fetching f)) same =
+    chosen-both Alike (f.count == 0) _ _ _ _ (or_else-follows Alike _ _ (ask-alike d queue t f same) (λ refusal. Alike.alike _ queue _ same)) (Alike.alike _ queue _ same)
+fetch_back-alike d queue t (Some (incoming.Draining f)) same = Alike.alike _ queue _ same
+fetch_back-alike d queue t (Some (incoming.Asking q)) same = Alike.alike d queue _ same
+fetch_back-alike d queue t (Some (incoming.Done id anchor count)) same = Alike.alike d queue _ same
+fetch_back-alike d queue t (Some (incoming.Failed id anchor count)) same = Alike.alike d queue _ same
+
+ack_back-alike : (d : Desk) (queue : List Parcel) (t : Task) (o : Option Asked) → SameForEach d.post.queued queue → Alike (ack_back d t o) (ack_back (with_queue queue d) t o)
+unfolding ack_back with_task
+ack_back-alike d queue t None same = Alike.alike d queue _ same
+ack_back-alike d queue t (Some q) same = Alike.alike _ queue _ same
+
+loaded-alike : (d : Desk) (queue : List Parcel) (t : Task) (m : Parcel) (q : Asked) (n : ℕ) → SameForEach d.post.queued queue → Alike (loaded d t m q n) (loaded (with_queue queue d) t m q n)
+unfolding loaded with_task
+loaded-alike d queue t m q n same =
+    or_else-follows Alike _ _ (follows-desk _ _ (send_letter-alike _ d queue same) λ sent q' s. Follows.both (Alike.alike _ q' _ s))
+    (λ refusal. Alike.alike _ queue _ same)
+
+load_file-alike : (d : Desk) (queue : List Parcel) (t : Task) (m : Parcel) (q : Asked) (o : Option Scrap) → SameForEach d.post.queued queue → Alike (load_file d t m q o) (load_file (with_queue queue d) t m q o)
+unfolding load_file with_task
+load_file-alike d queue t m q None same = Alike.alike d queue _ same
+load_file-alike d queue t m q (Some file) same =
+    chosen-both Alike _ _ _ _ _
+    (or_else-follows Alike _ _
+    (follows-desk _ _ (appended-alike d queue same t q.anchor file.bytes) λ longer q' s.
+    Follows.both (loaded-alike (record longer { scrap = None }) q' t m q (length file.bytes) s))
+    (λ refusal. Alike.alike _ queue _ same))
+    (Alike.alike d queue _ same)
+
+take_file-alike : (d : Desk) (queue : List Parcel) (t : Task) (m : Parcel) (o : Option Asked) → SameForEach d.post.queued queue → Alike (take_file d t m o) (take_file (with_queue queue d) t m o)
+unfolding take_file
+take_file-alike d queue t m None same = Alike.alike d queue _ same
+take_file-alike d queue t m (Some q) same = load_file-alike d queue t m q d.scrap same
+
+-- ---- one message
+
+came-alike : (d : Desk) (queue : List Parcel) (t : Task) (m : Parcel) (body : Body) → SameForEach d.post.queued queue → Alike (came d t m body) (came (with_queue queue d) t m body)
+unfolding came
+came-alike d queue t m (DataSave file) same = take_save-alike d queue same t m
+came-alike d queue t m (DataSaveAck file) same = answer_ack-alike d queue same t m _
+came-alike d queue t m (DataLoad file) same = take_file-alike d queue t m _ same
+came-alike d queue t m (DataLoadAck file) same = finish_load-alike d queue same t _
+came-alike d queue t m (RamFetch buffer amount) same =
+    chosen-both Alike _ _ _ _ _ (Alike.alike d queue _ same) (answer_fetch-alike d queue same t m buffer amount _)
+came-alike d queue t m (RamTransmit buffer n) same = take_bytes-alike d queue t m n _ same
+
+came_back-alike : (d : Desk) (queue : List Parcel) (t : Task) (m : Parcel) (body : Body) → SameForEach d.post.queued queue → Alike (came_back d t m body) (came_back (with_queue queue d) t m body)
+unfolding came_back
+came_back-alike d queue t m (DataSave file) same = fail_sending-alike d queue same t _
+came_back-alike d queue t m (DataSaveAck file) same = ack_back-alike d queue t _ same
+came_back-alike d queue t m (DataLoad file) same = fail_sending-alike d queue same t _
+came_back-alike d queue t m (DataLoadAck file) same = Alike.alike d queue _ same
+came_back-alike d queue t m (RamFetch buffer amount) same = fetch_back-alike d queue t _ same
+came_back-alike d queue t m (RamTransmit buffer n) same = fail_sending-alike d queue same t _
+
+handled-alike : (d : Desk) (queue : List Parcel) (t : Task) (m : Parcel) (code : EventCode) → SameForEach d.post.queued queue → Alike (handled d t m code) (handled (with_queue queue d) t m code)
+unfolding handled
+handled-alike d queue t m User same = came-alike d queue t m m.message.body same
+handled-alike d queue t m Recorded same = came-alike d queue t m m.message.body same
+handled-alike d queue t m Acknowledge same = came_back-alike d queue t m m.message.body same
+
+-- ---- polls and deaths
+
+delivered-alike : (d : Desk) (queue : List Parcel) {a b : Post} → PostAlike a b → DeskAlike (with_delivered a d) (with_delivered b (with_queue queue d))
+unfolding with_delivered
+delivered-alike d queue (PostAlike.alike post q s) =
+    subst (λ (scrap : Option Scrap). DeskAlike (record d { post = post; scrap = kept_scrap post d.scrap }) (record d { post = requeued q post; scrap = scrap })) (sym (kept d.scrap))
+    (DeskAlike.alike (record d { post = post; scrap = kept_scrap post d.scrap }) q s)
+  where
+    kept : (o : Option Scrap) → kept_scrap (requeued q post) o ≡ kept_scrap post o
+    kept None = refl
+    kept (Some file) = ap (λ b. cond b (Some file) None) (is_live-same file.load post q s)
+
+event-alike : (m : Parcel) {x y : Handled} → Alike x y → Alike (event m x) (event m y)
+event-alike m (Alike.alike d queue x same) = Alike.alike d queue _ same
+
+poll_taken-alike : (t : Task) (o : Option Parcel) {a b : Desk} → DeskAlike a b → Alike (poll_taken a t o) (poll_taken b t o)
+unfolding poll_taken
+poll_taken-alike t None (DeskAlike.alike d queue same) = Alike.alike d queue _ same
+poll_taken-alike t (Some m) (DeskAlike.alike d queue same) = event-alike m (handled-alike d queue t m m.code same)
+
+polled-alike : (d : Desk) (queue : List Parcel) (t : Task) {x y : Post × Option Parcel} → AnswerAlike x y → Alike (poll_taken (with_delivered x.0 d) t x.1) (poll_taken (with_delivered y.0 (with_queue queue d)) t y.1)
+polled-alike d queue t (AnswerAlike.alike post q o s) = poll_taken-alike t o (delivered-alike d queue (PostAlike.alike post q s))
+
+killed-alike : {B : Type 0} (tasks : List Task) (x : B) {a b : Desk} → DeskAlike a b → Alike (record a { tasks = tasks }, x) (record b { tasks = tasks }, x)
+killed-alike tasks x (DeskAlike.alike d queue same) = Alike.alike (record d { tasks = tasks }) queue x same
+
+-- ---- one command
+
+own_block-same : (address : ℕ) (d : Desk) (queue : List Parcel) → SameForEach d.post.queued queue → own_block address (with_queue queue d) ≡ own_block address d
+unfolding own_block
+own_block-same address d queue same =
+    ap (λ t. found_or (block_at (address - module_start) d.post.heap) NotABlock >>= λ b. (refuse_if t NotYours >> Ok b))
+    (is_message-same (address - module_start) d.post queue same)
+
+module _ (d : Desk) (queue : List Parcel) (same : SameForEach d.post.queued queue) where
+  kill-alike : (name : List ℕ) → Follows Alike (kill d name) (kill (with_queue queue d) name)
+  unfolding kill named with_delivered
+  kill-alike name =
+      follows-same _ _ _ λ t. Follows.both (killed-alike _ _ (delivered-alike d queue (post_death-alike t.handle d.post queue same)))
+
+  poll-alike : (name : List ℕ) → Follows Alike (poll d name) (poll (with_queue queue d) name)
+  unfolding poll named
+  poll-alike name = follows-same _ _ _ λ t. Follows.both (polled-alike d queue t (post_poll-alike t.handle d.post queue same))
+
+  save-alike : (name : List ℕ) (k : ℕ) (to leaf : List ℕ) → Follows Alike (save d name k to leaf) (save (with_queue queue d) name k to leaf)
+  unfolding save named with_task
+  save-alike name k to leaf =
+      follows-same _ _ _ λ t. follows-same _ _ _ λ b. follows-then _ _ _ (follows-same _ _ _ λ r.
+      follows-desk _ _ (send_letter-alike _ d queue same) λ sent q s. Follows.both (Alike.alike _ q _ s))
+
+  repeat-alike : (name : List ℕ) → Follows Alike (repeat d name) (repeat (with_queue queue d) name)
+  unfolding repeat named
+  repeat-alike name =
+      follows-same _ _ _ λ t. follows-same _ _ _ λ last.
+      follows-desk _ _ (send_letter-alike _ d queue same) λ sent q s. Follows.both (Alike.alike _ q _ s)
+
+  -- ---- slots and records
+
+  start_task-alike : (name : List ℕ) (buffer : ℕ) (manner : Manner) → Follows Alike (start_task d name buffer manner) (start_task (with_queue queue d) name buffer manner)
+  unfolding start_task post_join
+  start_task-alike name buffer manner =
+      follows-then _ _ _ (follows-then _ _ _ (follows-then _ _ _ (follows-same _ _ _ λ s. Follows.both (Alike.alike _ queue _ same))))
+
+  alloc-alike : (name : List ℕ) (k n : ℕ) → Follows Alike (alloc d name k n) (alloc (with_queue queue d) name k n)
+  unfolding alloc named with_task
+  alloc-alike name k n = follows-same _ _ _ λ t. follows-same _ _ _ λ p. Follows.both (Alike.alike _ queue _ same)
+
+  load-alike : (name : List ℕ) (k : ℕ) (file : List ℕ) → Follows Alike (load d name k file) (load (with_queue queue d) name k file)
+  unfolding load named with_task
+  load-alike name k file = follows-same _ _ _ λ t. follows-same _ _ _ λ entry. follows-same _ _ _ λ p. follows-same _ _ _ λ s. Follows.both (Alike.alike _ queue _ same)
+
+  put-alike : (name : List ℕ) (k offset : ℕ) (bytes : List ℕ) → Follows Alike (put d name k offset bytes) (put (with_queue queue d) name k offset bytes)
+  unfolding put named with_task
+  put-alike name k offset bytes = follows-same _ _ _ λ t. follows-same _ _ _ λ b. follows-same _ _ _ λ s. Follows.both (Alike.alike _ queue _ same)
+
+  free-alike : (name : List ℕ) (k : ℕ) → Follows Alike (free d name k) (free (with_queue queue d) name k)
+  unfolding free named with_task
+  free-alike name k = follows-same _ _ _ λ t. follows-same _ _ _ λ b. follows-same _ _ _ λ s. Follows.both (Alike.alike _ queue _ same)
+
+  extend-alike : (name : List ℕ) (k n : ℕ) → Follows Alike (extend d name k n) (extend (with_queue queue d) name k n)
+  unfolding extend named with_task
+  extend-alike name k n = follows-same _ _ _ λ t. follows-same _ _ _ λ b. follows-same _ _ _ λ s. Follows.both (Alike.alike _ queue _ same)
+
+  mid-alike : (name : List ℕ) (k offset : ℕ) (by : ℤ) → Follows Alike (mid d name k offset by) (mid (with_queue queue d) name k offset by)
+  unfolding mid named with_task
+  mid-alike name k offset by = follows-same _ _ _ λ t. follows-same _ _ _ λ b. follows-same _ _ _ λ s. Follows.both (Alike.alike _ queue _ same)
+
+  claim-alike : (name : List ℕ) (n : ℕ) → Follows Alike (claim d name n) (claim (with_queue queue d) name n)
+  unfolding claim named with_task
+  claim-alike name n = follows-same _ _ _ λ t. follows-same _ _ _ λ p. Follows.both (Alike.alike _ queue _ same)
+
+  release-alike : (name : List ℕ) (address : ℕ) → Follows Alike (release d name address) (release (with_queue queue d) name address)
+  unfolding release named with_task
+  release-alike name address = follows-same _ _ _ λ t. follows-same _ _ _ λ b. follows-same _ _ _ λ s. Follows.both (Alike.alike _ queue _ same)
+
+  resize-alike : (name : List ℕ) (address : ℕ) (delta : ℤ) → Follows Alike (resize d name address delta) (resize (with_queue queue d) name address delta)
+  unfolding resize named with_task
+  resize-alike name address delta = follows-same _ _ _ λ t. follows-same _ _ _ λ b. follows-same _ _ _ λ p. Follows.both (Alike.alike _ queue _ same)
+
+  budge-alike : (name : List ℕ) (on : Bool) → Follows Alike (budge d name on) (budge (with_queue queue d) name on)
+  unfolding budge named with_task
+  budge-alike name on = follows-same _ _ _ λ t. Follows.both (Alike.alike _ queue _ same)
+
+  cancel_in-alike : (name : List ℕ) (id : Option ℕ) → Follows Alike (cancel_in d name id) (cancel_in (with_queue queue d) name id)
+  unfolding cancel_in named with_task
+  cancel_in-alike name id = follows-same _ _ _ λ t. follows-same _ _ _ λ records. Follows.both (Alike.alike _ queue _ same)
+
+  cancel_out-alike : (name : List ℕ) (id : Option ℕ) → Follows Alike (cancel_out d name id) (cancel_out (with_queue queue d) name id)
+  unfolding cancel_out named with_task
+  cancel_out-alike name id = follows-same _ _ _ λ t. follows-same _ _ _ λ records. Follows.both (Alike.alike _ queue _ same)
+
+  -- ---- areas
+
+  change_module-alike : (delta : ℤ) → Follows Alike (change_module d delta) (change_module (with_queue queue d) delta)
+  unfolding change_module
+  change_module-alike delta = follows-same _ _ _ λ c. Follows.both (Alike.alike _ queue _ same)
+
+  change_pages-alike : (k : ℕ) (delta : ℤ) → Follows Alike (change_pages d k delta) (change_pages (with_queue queue d) k delta)
+  unfolding change_pages
+  change_pages-alike k delta = follows-same _ _ _ λ n. Follows.both (Alike.alike _ queue _ same)
+
+  change_made-alike : (k : ℕ) (delta : ℤ) → Follows Alike (change_made d k delta) (change_made (with_queue queue d) k delta)
+  unfolding change_made
+  change_made-alike k delta = follows-same _ _ _ λ m. follows-same _ _ _ λ n. follows-then _ _ _ (Follows.both (Alike.alike _ queue _ same))
+
+  change_area-alike : (k : ℕ) (delta : ℤ) → Follows Alike (change_area d k delta) (change_area (with_queue queue d) k delta)
+  change_area-alike k delta =
+      chosen-both (Follows Alike) (k == module_area) _ _ _ _ (change_module-alike delta)
+      (chosen-both (Follows Alike) (nat_lt k (length d.areas)) _ _ _ _ (change_pages-alike k delta) (change_made-alike k delta))
+
+  make-alike : (most : ℕ) → Follows Alike (make d most) (make (with_queue queue d) most)
+  unfolding make
+  make-alike most = follows-then _ _ _ (follows-then _ _ _ (Follows.both (Alike.alike _ queue _ same)))
+
+  remove-alike : (k : ℕ) → Follows Alike (remove d k) (remove (with_queue queue d) k)
+  unfolding remove
+  remove-alike k = follows-same _ _ _ λ m. Follows.both (Alike.alike _ queue _ same)
+
+  -- ---- the module area's blocks
+
+  rma_claim-alike : (n : ℕ) → Follows Alike (rma_claim d n) (rma_claim (with_queue queue d) n)
+  unfolding rma_claim
+  rma_claim-alike n = follows-same _ _ _ λ c. Follows.both (Alike.alike _ queue _ same)
+
+  rma_free-alike : (address : ℕ) → Follows Alike (rma_free d address) (rma_free (with_queue queue d) address)
+  unfolding rma_free
+  rma_free-alike address =
+      follows-equal _ _ _ _ (own_block-same address d queue same) λ b. follows-same _ _ _ λ h. Follows.both (Alike.alike _ queue _ same)
+
+  rma_resize-alike : (address : ℕ) (delta : ℤ) → Follows Alike (rma_resize d address delta) (rma_resize (with_queue queue d) address delta)
+  unfolding rma_resize
+  rma_resize-alike address delta =
+      follows-equal _ _ _ _ (own_block-same address d queue same) λ b. follows-same _ _ _ λ c. Follows.both (Alike.alike _ queue _ same)
+
+  -- ---- questions
+
+  show-alike : (name : List ℕ) (k : ℕ) → Follows Alike (show d name k) (show (with_queue queue d) name k)
+  unfolding show named
+  show-alike name k = follows-same _ _ _ λ t. follows-same _ _ _ λ b. Follows.both (Alike.alike _ queue _ same)
+
+  blocks-alike : (name : List ℕ) → Follows Alike (blocks d name) (blocks (with_queue queue d) name)
+  unfolding blocks named
+  blocks-alike name = follows-same _ _ _ λ t. Follows.both (Alike.alike _ queue _ same)
+
+  heap_sums-alike : (name : List ℕ) → Follows Alike (heap_sums d name) (heap_sums (with_queue queue d) name)
+  unfolding heap_sums named
+  heap_sums-alike name = follows-same _ _ _ λ t. Follows.both (Alike.alike _ queue _ same)
+
+  status-alike : (name : List ℕ) → Follows Alike (status d name) (status (with_queue queue d) name)
+  unfolding status named
+  status-alike name = follows-same _ _ _ λ t. Follows.both (Alike.alike _ queue _ same)
+
+  change-alike : (c : Command) → Follows Alike (change d c) (change (with_queue queue d) c)
+  change-alike (command.Task name buffer manner) = start_task-alike name buffer manner
+  change-alike (command.Kill name) = kill-alike name
+  change-alike (command.Alloc name k n) = alloc-alike name k n
+  change-alike (command.Load name k file) = load-alike name k file
+  change-alike (command.Put name k offset bytes) = put-alike name k offset bytes
+  change-alike (command.Free name k) = free-alike name k
+  change-alike (command.Extend name k n) = extend-alike name k n
+  change-alike (command.Mid name k offset by) = mid-alike name k offset by
+  change-alike (command.Claim name n) = claim-alike name n
+  change-alike (command.Release name address) = release-alike name address
+  change-alike (command.Resize name address delta) = resize-alike name address delta
+  change-alike (command.Budge name on) = budge-alike name on
+  change-alike (command.Save name k to leaf) = save-alike name k to leaf
+  change-alike (command.Poll name) = poll-alike name
+  change-alike (command.CancelIn name id) = cancel_in-alike name id
+  change-alike (command.CancelOut name id) = cancel_out-alike name id
+  change-alike (command.Repeat name) = repeat-alike name
+  change-alike (command.Area k delta) = change_area-alike k delta
+  change-alike (command.Make most) = make-alike most
+  change-alike (command.Remove k) = remove-alike k
+  change-alike (command.RmaClaim n) = rma_claim-alike n
+  change-alike (command.RmaFree address) = rma_free-alike address
+  change-alike (command.RmaResize address delta) = rma_resize-alike address delta
+  change-alike (command.Show name k) = show-alike name k
+  change-alike (command.Blocks name) = blocks-alike name
+  change-alike (command.Heap name) = heap_sums-alike name
+  change-alike (command.Status name) = status-alike name
+  change-alike command.Areas = Follows.both (Alike.alike d queue _ same)
+
+  step-alike : (c : Command) → Alike (step d c) (step (with_queue queue d) c)
+  step-alike c = or_else-follows Alike _ _ (change-alike c) (λ refusal. Alike.alike d queue _ same)
+
+-- what is alike has the same reply, and desks that differ in that order alone
+answers-alike : {x y : Answer} → Alike x y → (y.1 ≡ x.1) × IsReordered x.0 y.0
+answers-alike (Alike.alike d queue x same) = (refl, record { same = same; rest = refl })
+
+pub order-ignored : IgnoresOrder
+order-ignored a b c is =
+    let pair = answers-alike (step-alike a b.post.queued is.same c) in
+    let one : StepsAlike a (with_queue b.post.queued a) c = record { reply = pair.0; desks = pair.1 } in
+    subst (λ (e : Desk). StepsAlike a e c) (sym is.rest) one

@@ -1,0 +1,5 @@
+use Rattle.rh_defs.proofs.OrderSteps.{order-ignored}
+use Rattle.rh_defs.proofs.laws.order_law.Goals as goal
+
+pub returns : goal.returns
+returns c = order-ignored
