@@ -3,7 +3,6 @@
 
 mod blocks;
 mod length;
-mod listing;
 mod module;
 
 pub use module::Module;
