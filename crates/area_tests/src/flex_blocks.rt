@@ -6,7 +6,7 @@ ghost use Rattle.rh_slot.specs.Area.{IsSlot};
 ghost use Rattle.rh_defs.specs.declared.sizes.TheConstants.{MAX_AREAS};
 
 use crate::stores::{paged_store, plain_store};
-use rh_defs::{Anchor, Refusal};
+use rh_defs::{Anchor, BlockItem, Refusal};
 use rh_slot::Slot;
 use rh_store::{AreaId, Store, Words};
 use std::process::Abort;
@@ -95,10 +95,37 @@ fn blocks_slide_where_one_changes<R: Abort, S: Store>(rt: &R, store: &mut S) -> 
     Ok(())
 }
 
+fn blocks_are_listed_in_one_walk<R: Abort, S: Store>(rt: &R, store: &mut S) -> Result<(), Refusal>
+    requires { open_below (S.memory store.old).area MAX_AREAS < MAX_AREAS }
+{
+    let slot = Slot::start(store)?;
+    assert_eq!(rt; slot.alloc(store, Anchor(7), 5), Ok(0x9008));
+    assert_eq!(rt; slot.alloc(store, Anchor(1), 0), Ok(0x9018));
+    let lower = BlockItem {
+        anchor: Anchor(7),
+        address: 0x9008,
+        size: 5,
+    };
+    let upper = BlockItem {
+        anchor: Anchor(1),
+        address: 0x9018,
+        size: 0,
+    };
+    let mut walk = slot.blocks(store);
+    assert_eq!(rt; slot.next_block(store, &mut walk), Some(lower));
+    assert_eq!(rt; slot.next_block(store, &mut walk), Some(upper));
+    assert_eq!(rt; slot.next_block(store, &mut walk), None);
+    assert_eq!(rt; slot.next_block(store, &mut walk), None);
+    assert_eq!(rt; slot.block(store, 1), Some(upper));
+    assert_eq!(rt; slot.block(store, 2), None);
+    Ok(())
+}
+
 #[test]
 fn flex_blocks_in_a_plain_store(rt: HostRuntime) -> Result<(), Fail> {
     blocks_slide_where_one_goes(&rt, &mut plain_store(rt.alloc())?)?;
     blocks_slide_where_one_changes(&rt, &mut plain_store(rt.alloc())?)?;
+    blocks_are_listed_in_one_walk(&rt, &mut plain_store(rt.alloc())?)?;
     Ok(())
 }
 
@@ -106,5 +133,6 @@ fn flex_blocks_in_a_plain_store(rt: HostRuntime) -> Result<(), Fail> {
 fn flex_blocks_in_scattered_pages(rt: HostRuntime) -> Result<(), Fail> {
     blocks_slide_where_one_goes(&rt, &mut paged_store(rt.alloc())?)?;
     blocks_slide_where_one_changes(&rt, &mut paged_store(rt.alloc())?)?;
+    blocks_are_listed_in_one_walk(&rt, &mut paged_store(rt.alloc())?)?;
     Ok(())
 }

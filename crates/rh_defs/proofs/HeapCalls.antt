@@ -9,7 +9,7 @@ use Rattle.rh_defs.specs.Pieces.{Split, moved}
 use Rattle.rh_defs.specs.Heap.{Segment, Heap, base, block_at, released, release, release_found, released_at, extend, extended}
 use Rattle.rh_defs.specs.declared.heap.HeapRefusal.{HeapRefusal}
 use Rattle.rh_defs.specs.declared.heap.HeapRefusal.TheVariants.{NotABlock, ExcessiveShrink}
-use Rattle.rh_defs.proofs.HeapLists.{cond_true, cond_false}
+use Rattle.rh_defs.proofs.HeapLists.{cond_true, cond_false, ltb_yes, ltb_no}
 
 pub released_at-none : (address : ℕ) (h : Heap) → block_at address h ≡ None → released_at address h ≡ Err NotABlock
 released_at-none address h e = ap (λ o. ok_or (option_map (λ s. released s h) o) NotABlock) e
@@ -32,17 +32,11 @@ released-refused address h {refusal} e = go (block_at address h) refl
     go None q = (q, let is : ◌≡◌ {A = Result (Unit {0}) HeapRefusal} (Err refusal) (Err NotABlock) = e ∙ ap (λ g. answer_of (no_answer g)) (released_at-none address h q) in cc)
     go (Some b) q = absurd (let bad = e ∙ ap (λ g. answer_of (no_answer g)) (released_at-some address h b q) in cc)
 
-below : (x y : ℕ) → x < y → ltb x y ≡ true
-below x y l = grind (arith, nat_tests)
-
-not_below : (x y : ℕ) → y ≤ x → ltb x y ≡ false
-not_below x y l = grind (arith, nat_tests)
-
 pub extend-low : (delta : ℤ) (h : Heap) → moved h.end delta < base h → extend delta h ≡ Err ExcessiveShrink
-extend-low delta h l = cond_true (ltb (moved h.end delta) (base h)) _ _ (below (moved h.end delta) (base h) l)
+extend-low delta h l = cond_true (ltb (moved h.end delta) (base h)) _ _ (ltb_yes (moved h.end delta) (base h) l)
 
 pub extend-done : (delta : ℤ) (h : Heap) → base h ≤ moved h.end delta → extend delta h ≡ Ok (extended delta h)
-extend-done delta h l = cond_false (ltb (moved h.end delta) (base h)) _ _ (not_below (moved h.end delta) (base h) l)
+extend-done delta h l = cond_false (ltb (moved h.end delta) (base h)) _ _ (ltb_no (moved h.end delta) (base h) l)
 
 -- what the answer of a change of the end says
 pub extend-fits : (delta : ℤ) (h : Heap) {x : Unit {0}} → Ok x ≡ answer_of (no_answer (extend delta h)) → base h ≤ moved h.end delta

@@ -1,5 +1,5 @@
 -- Laws of lists of segments.
-use Rattle.std.proofs.Common.{◌≡◌, ℕ, zero, suc, ◌+◌, ◌%◌, ◌<◌, ◌≤◌, ◌≢◌, inl, inr, Bool, true, false, List, [], ◌∷◌, ◌++◌, length, leb, eqb, cond, refl, sym, ap, ◌∙◌, arith}
+use Rattle.std.proofs.Common.{◌≡◌, ℕ, zero, suc, ◌+◌, ◌%◌, ◌<◌, ◌≤◌, ◌≢◌, inl, inr, Bool, true, false, List, [], ◌∷◌, ◌++◌, length, leb, eqb, cond, refl, sym, ap, ◌∙◌, arith, ltb}
 use Rattle.std.proofs.lemmas.Bool.Decides.{nat_tests, eqb_tells}
 use Rattle.std.specs.Prelude.{Option, Some, None, IfSome}
 use Rattle.std.specs.Option.{option_map}
@@ -25,6 +25,12 @@ leb_yes x y h = grind (arith, nat_tests)
 
 pub leb_no : (x y : ℕ) → y < x → leb x y ≡ false
 leb_no x y h = grind (arith, nat_tests)
+
+pub ltb_yes : (x y : ℕ) → x < y → ltb x y ≡ true
+ltb_yes x y h = grind (arith, nat_tests)
+
+pub ltb_no : (x y : ℕ) → y ≤ x → ltb x y ≡ false
+ltb_no x y h = grind (arith, nat_tests)
 
 -- ---- the first member that passes a test
 

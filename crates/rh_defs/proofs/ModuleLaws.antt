@@ -13,10 +13,11 @@ use Rattle.rh_defs.specs.declared.refusal.Refusal.TheVariants.{NotABlock, BadSiz
 use Rattle.rh_defs.specs.declared.heap.HeapRefusal.{HeapRefusal}
 use Rattle.rh_defs.specs.declared.heap.HeapRefusal.TheVariants as heap_refusal
 use Rattle.rh_defs.proofs.BytesLaws.{word_same}
-use Rattle.rh_defs.proofs.HeapLists.{HasRoom-from_tidy, cond_true, cond_false, eqb_same}
+use Rattle.rh_defs.proofs.HeapLists.{HasRoom-from_tidy, cond_true, cond_false, eqb_same, ltb_yes, ltb_no}
 use Rattle.rh_defs.proofs.HeapLaws.{narrower}
 use Rattle.rh_defs.proofs.HeapStretch.{Stand-kept}
 use Rattle.rh_defs.proofs.HeapGrowth.{claim-raised, resize-raised, resize_need-raised}
+use Rattle.rh_defs.proofs.Chains.{refuse_if-true, refuse_if-false}
 
 -- ---- a heap whose bytes are kept
 pub Spells-kept : (b c : List ℕ) (at : ℕ) (h : Heap) → Spells b at h → SameIn b c at (at + h.end) → at + h.end ≤ length c → Spells c at h
@@ -35,16 +36,6 @@ Spells-kept b c at h s k l =
     }
 
 -- ---- steps
-refused : {A : Type 0} (test : Bool) (refusal : Refusal) (rest : Granted A) → test ≡ true → (refuse_if test refusal >>= λ _. rest) ≡ Err refusal
-unfolding ◌>>=◌ refuse_if
-refused true refusal rest e = refl
-refused false refusal rest e = absurd cc
-
-passed : {A : Type 0} (test : Bool) (refusal : Refusal) (rest : Granted A) → test ≡ false → (refuse_if test refusal >>= λ _. rest) ≡ rest
-unfolding ◌>>=◌ refuse_if
-passed true refusal rest e = absurd cc
-passed false refusal rest e = refl
-
 found : {A B : Type 0} (o : Option A) (x : A) (refusal : Refusal) (next : A → Granted B) → o ≡ Some x → (found_or o refusal >>= next) ≡ next x
 unfolding ◌>>=◌ found_or
 found (Some y) x refusal next e = ap next cc
@@ -55,17 +46,11 @@ unfolding ◌>>=◌ found_or
 not_found (Some y) refusal next e = absurd cc
 not_found None refusal next e = refl
 
-below : (m n : ℕ) → m < n → ltb m n ≡ true
-below m n h = grind (arith, nat_tests)
-
-not_below : (m n : ℕ) → n ≤ m → ltb m n ≡ false
-not_below m n h = grind (arith, nat_tests)
-
 lacking : (free shortage : ℕ) → free < pages_for shortage → lacks_pages free shortage ≡ true
-lacking free shortage l = below free (pages_for shortage) l
+lacking free shortage l = ltb_yes free (pages_for shortage) l
 
 sufficing : (free shortage : ℕ) → pages_for shortage ≤ free → lacks_pages free shortage ≡ false
-sufficing free shortage l = not_below free (pages_for shortage) l
+sufficing free shortage l = ltb_no free (pages_for shortage) l
 
 -- a call on a heap of this end is granted and leaves the end, and the call on the module area is granted the same
 pub record Grows (end : ℕ) (called : Result (Heap × ℕ) HeapRefusal) (granted : Granted (Heap × ℕ)) : Type 0 where
@@ -105,13 +90,13 @@ no_need refusal n h e = elim (eqb_tells n 0) [
 
 pub module_claim-zero : (free n : ℕ) (h : Heap) (refusal : HeapRefusal) → Err refusal ≡ claim_need n h → module_claim free n h ≡ Err (refusal_of refusal)
 unfolding module_claim
-module_claim-zero free n h refusal e = let w = no_need refusal n h e in refused (eqb n 0) BadSize _ w.0 ∙ ap (λ r. Err (refusal_of r)) (sym w.1)
+module_claim-zero free n h refusal e = let w = no_need refusal n h e in refuse_if-true (eqb n 0) BadSize _ w.0 ∙ ap (λ r. Err (refusal_of r)) (sym w.1)
 
 pub module_claim-short : (free k n : ℕ) (h : Heap) → Ok k ≡ claim_need n h → free < pages_for k → module_claim free n h ≡ Err NoRoom
 unfolding module_claim
 module_claim-short free k n h e l =
     let w = could_need k n h e in
-    passed (eqb n 0) BadSize _ w.0 ∙ refused (lacks_pages free (need n h)) NoRoom _ (lacking free (need n h) (rw (sym w.2) l))
+    refuse_if-false (eqb n 0) BadSize _ w.0 ∙ refuse_if-true (lacks_pages free (need n h)) NoRoom _ (lacking free (need n h) (rw (sym w.2) l))
 
 pub module_claim-grows : (free k n : ℕ) (h : Heap) → Ok k ≡ claim_need n h → pages_for k ≤ free → Grows (raised k h).end (claim n (raised k h)) (module_claim free n h)
 unfolding module_claim
@@ -120,19 +105,19 @@ module_claim-grows free k n h e l =
     record {
       placed = claim_growing n h;
       called_is = ap (λ i. claim n (raised i h)) w.2 ∙ claim-raised n h w.1;
-      granted_is = passed (eqb n 0) BadSize _ w.0 ∙ passed (lacks_pages free (need n h)) NoRoom _ (sufficing free (need n h) (rw (sym w.2) l));
+      granted_is = refuse_if-false (eqb n 0) BadSize _ w.0 ∙ refuse_if-false (lacks_pages free (need n h)) NoRoom _ (sufficing free (need n h) (rw (sym w.2) l));
       end_is = let g = raised (need n h) h in let bytes = zeros (block_room n) in placed_in-end bytes g (hole_for (4 + length bytes) g.segments) ∙ ap (λ i. (raised i h).end) (sym w.2);
     }
 
 pub module_need_pages-zero : (n : ℕ) (h : Heap) (refusal : HeapRefusal) → Err refusal ≡ claim_need n h → module_need_pages n h ≡ Err (refusal_of refusal)
 unfolding module_need_pages
-module_need_pages-zero n h refusal e = let w = no_need refusal n h e in refused (eqb n 0) BadSize _ w.0 ∙ ap (λ r. Err (refusal_of r)) (sym w.1)
+module_need_pages-zero n h refusal e = let w = no_need refusal n h e in refuse_if-true (eqb n 0) BadSize _ w.0 ∙ ap (λ r. Err (refusal_of r)) (sym w.1)
 
 pub module_need_pages-is : (k n : ℕ) (h : Heap) → Ok k ≡ claim_need n h → module_need_pages n h ≡ Ok (pages_for k)
 unfolding module_need_pages
 module_need_pages-is k n h e =
     let w = could_need k n h e in
-    passed (eqb n 0) BadSize _ w.0 ∙ ap (λ i. Ok (pages_for i)) (sym w.2)
+    refuse_if-false (eqb n 0) BadSize _ w.0 ∙ ap (λ i. Ok (pages_for i)) (sym w.2)
 
 -- ---- frees
 pub module_free-none : (address : ℕ) (h : Heap) → block_at address h ≡ None → module_free address h ≡ Err NotABlock
@@ -177,7 +162,7 @@ module_resize-refused free address delta h refusal e = go (block_at address h) r
         elim (eqb_tells (new_size delta b) 0) [
           | inl u ↦ let same : ◌≡◌ {A = Result ℕ HeapRefusal} (Err refusal) (Err heap_refusal.BadSize) = here ∙ cond_true (eqb (new_size delta b) 0) _ _ u.0 in
               let is : heap_refusal.BadSize ≡ refusal = cc in
-              found (block_at address h) b NotABlock _ eo ∙ refused (eqb (new_size delta b) 0) BadSize _ u.0 ∙ ap (λ r. Err (refusal_of r)) is
+              found (block_at address h) b NotABlock _ eo ∙ refuse_if-true (eqb (new_size delta b) 0) BadSize _ u.0 ∙ ap (λ r. Err (refusal_of r)) is
           | inr v ↦ let good : Err refusal ≡ Ok (resize_need (new_size delta b) b h) = here ∙ cond_false (eqb (new_size delta b) 0) _ _ v.0 in absurd cc
         ]
 
@@ -186,8 +171,8 @@ unfolding module_resize
 module_resize-short free k address delta h e l =
     let w = could_resize k address delta h e in
     let n = new_size delta w.block in
-    found (block_at address h) w.block NotABlock _ w.found ∙ passed (eqb n 0) BadSize _ w.left
-    ∙ refused (lacks_pages free (resize_need n w.block h)) NoRoom _ (lacking free (resize_need n w.block h) (rw (sym w.need_is) l))
+    found (block_at address h) w.block NotABlock _ w.found ∙ refuse_if-false (eqb n 0) BadSize _ w.left
+    ∙ refuse_if-true (lacks_pages free (resize_need n w.block h)) NoRoom _ (lacking free (resize_need n w.block h) (rw (sym w.need_is) l))
 
 pub module_resize-grows : (free k address : ℕ) (delta : ℤ) (h : Heap) → Ok k ≡ need_at address delta h → pages_for k ≤ free → Grows (raised k h).end (resize address delta (raised k h)) (module_resize free address delta h)
 unfolding module_resize
@@ -200,25 +185,25 @@ module_resize-grows free k address delta h e l =
       called_is = ap (λ i. resize address delta (raised i h)) w.need_is ∙ ap (λ o. resize_found delta o g) w.found
           ∙ cond_false (eqb n 0) _ _ w.left ∙ cond_true (eqb (resize_need n w.block g) 0) _ _ (eqb_same (resize_need n w.block g) 0 (resize_need-raised n w.block h))
           ∙ ap (λ p. Ok (as_granted p)) (resize-raised n w.block h);
-      granted_is = found (block_at address h) w.block NotABlock _ w.found ∙ passed (eqb n 0) BadSize _ w.left
-          ∙ passed (lacks_pages free (resize_need n w.block h)) NoRoom _ (sufficing free (resize_need n w.block h) (rw (sym w.need_is) l));
+      granted_is = found (block_at address h) w.block NotABlock _ w.found ∙ refuse_if-false (eqb n 0) BadSize _ w.left
+          ∙ refuse_if-false (lacks_pages free (resize_need n w.block h)) NoRoom _ (sufficing free (resize_need n w.block h) (rw (sym w.need_is) l));
       end_is = resized_by-end (way_to (segment_size n) w.block h) (fitted (block_room n) (bytes_of w.block.here)) w.block g ∙ ap (λ i. (raised i h).end) (sym w.need_is);
     }
 
 -- ---- changes of the length
 pub module_change-low : (free : ℕ) (delta : ℤ) (h : Heap) → changed_length h.end delta < base h → module_change free delta h ≡ Err ExcessiveShrink
 unfolding module_change
-module_change-low free delta h l = refused (ltb (changed_length h.end delta) (base h)) ExcessiveShrink _ (below (changed_length h.end delta) (base h) l)
+module_change-low free delta h l = refuse_if-true (ltb (changed_length h.end delta) (base h)) ExcessiveShrink _ (ltb_yes (changed_length h.end delta) (base h) l)
 
 pub module_change-short : (free : ℕ) (delta : ℤ) (h : Heap) → base h ≤ changed_length h.end delta → free < pages_for (changed_length h.end delta - h.end) → module_change free delta h ≡ Err NoRoom
 unfolding module_change
 module_change-short free delta h b l =
-    passed (ltb (changed_length h.end delta) (base h)) ExcessiveShrink _ (not_below (changed_length h.end delta) (base h) b)
-    ∙ refused (ltb free (pages_for (changed_length h.end delta - h.end))) NoRoom _ (below free (pages_for (changed_length h.end delta - h.end)) l)
+    refuse_if-false (ltb (changed_length h.end delta) (base h)) ExcessiveShrink _ (ltb_no (changed_length h.end delta) (base h) b)
+    ∙ refuse_if-true (ltb free (pages_for (changed_length h.end delta - h.end))) NoRoom _ (ltb_yes free (pages_for (changed_length h.end delta - h.end)) l)
 
 pub module_change-done : (free : ℕ) (delta : ℤ) (h : Heap) → base h ≤ changed_length h.end delta → pages_for (changed_length h.end delta - h.end) ≤ free
     → module_change free delta h ≡ Ok (record h { end = changed_length h.end delta }, whole_pages delta)
 unfolding module_change
 module_change-done free delta h b l =
-    passed (ltb (changed_length h.end delta) (base h)) ExcessiveShrink _ (not_below (changed_length h.end delta) (base h) b)
-    ∙ passed (ltb free (pages_for (changed_length h.end delta - h.end))) NoRoom _ (not_below free (pages_for (changed_length h.end delta - h.end)) l)
+    refuse_if-false (ltb (changed_length h.end delta) (base h)) ExcessiveShrink _ (ltb_no (changed_length h.end delta) (base h) b)
+    ∙ refuse_if-false (ltb free (pages_for (changed_length h.end delta - h.end))) NoRoom _ (ltb_no free (pages_for (changed_length h.end delta - h.end)) l)

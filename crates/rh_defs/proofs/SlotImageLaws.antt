@@ -10,7 +10,7 @@ use Rattle.rh_defs.specs.HeapImage.{Spells, heap_of}
 use Rattle.rh_defs.specs.Slot.{Flex, Slot, flex_weight, weight, slot_start, slot_length, IsFree, HaveAnchors, with_heap}
 use Rattle.rh_defs.specs.SlotImage.{Lie, Hang, SlotWords, SpellsSlot, flex_place, is_block, flex_in, slot_of}
 use Rattle.rh_defs.proofs.BytesLaws.{word_same}
-use Rattle.rh_defs.proofs.HeapLists.{cond_true, cond_false}
+use Rattle.rh_defs.proofs.HeapLists.{cond_true, cond_false, ltb_yes}
 use Rattle.rh_defs.proofs.HeapLaws.{heap_of-Spells}
 use Rattle.rh_defs.proofs.SlotLaws.{part_of, in_below, in_above, flex_same, Lie-same, Hang-same, Spells-same}
 
@@ -25,9 +25,6 @@ pub record IsBlock (b : List ℕ) (p : ℕ) : Type 0 where
 
 leb_yes : (x y : ℕ) → x ≤ y → leb x y ≡ true
 leb_yes x y h = grind (arith, nat_tests)
-
-ltb_yes : (x y : ℕ) → x < y → ltb x y ≡ true
-ltb_yes x y h = grind (arith, nat_tests)
 
 eqb_yes : (x y : ℕ) → x ≡ y → eqb x y ≡ true
 eqb_yes x y h = grind (arith, nat_tests)

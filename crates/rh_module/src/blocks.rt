@@ -1,15 +1,18 @@
 //! Blocks in the module area, which grows where its heap is too short.
-ghost use Rattle.std.specs.Prelude.{◌≡◌};
+ghost use Rattle.std.specs.Prelude.{◌≡◌, is_some, ok_or};
+ghost use Rattle.std.specs.Option.{option_map};
 ghost use Rattle.rh_defs.specs.Chain.{no_answer};
+ghost use Rattle.rh_defs.specs.Heap.{block_around, block_size, segment_at};
 ghost use Rattle.rh_defs.specs.Module.{module_claim, module_free, module_resize, module_need_pages};
+ghost use Rattle.rh_heap.specs.Pieces.{piece};
 ghost use Rattle.rh_module.specs.Area.{IsModule, heap_in};
 ghost use Rattle.rh_module.specs.Calls.{Leaves};
 
 use crate::length::pages_for;
 use crate::module::Module;
 use rh_defs::Refusal;
-use rh_heap::{claim, need, release, resize, resize_need};
-use rh_store::Pages;
+use rh_heap::{Segment, claim, need, release, resize, resize_need};
+use rh_store::{Pages, Words};
 
 impl Module {
     /// Claims a block of `n` bytes at least, all 0, and answers its address. The area grows where the heap is too short.
@@ -64,5 +67,31 @@ impl Module {
     {
         let shortage = need(store, self.span(), n)?;
         Ok(pages_for(shortage))
+    }
+
+    /// The bytes of the block at an address. Refused (`NotABlock`) exactly where no block begins there. (OS_Heap 6.)
+    pub fn block_size<S: Words>(self, store: &S, address: usize) -> Result<usize, Refusal>
+        requires { IsModule (S.memory store.now) self }
+        ensures { result ≡ ok_or (block_size address (heap_in (S.memory store.now) self)) Refusal.NotABlock }
+    {
+        let size = rh_heap::block_size(store, self.span(), address)?;
+        Ok(size)
+    }
+
+    /// The segment that begins at a place, in bytes from the area's first one.
+    pub fn segment<S: Words>(self, store: &S, place: usize) -> Option<Segment>
+        requires { IsModule (S.memory store.now) self }
+        ensures { result ≡ option_map piece (segment_at place (heap_in (S.memory store.now) self)) }
+    {
+        rh_heap::segment(store, self.span(), place)
+    }
+
+    /// Whether the `n` bytes at an address lie whole in one block, also where `n` is 0. Any address and any `n` may be
+    /// asked for.
+    pub fn holds<S: Words>(self, store: &S, address: usize, n: usize) -> bool
+        requires { IsModule (S.memory store.now) self }
+        ensures { result ≡ is_some (block_around address n (heap_in (S.memory store.now) self)) }
+    {
+        rh_heap::holds(store, self.span(), address, n)
     }
 }

@@ -2,7 +2,7 @@
 ghost use Rattle.std.specs.Prelude.{◌≡◌, ◌^◌, ◌<◌, ◌≤◌, length, OnOk, OnErr, IfErr};
 ghost use Rattle.rh_defs.specs.Memory.{IsOpen, OnlyArea, bytes};
 ghost use Rattle.rh_defs.specs.Pieces.{pages_for};
-ghost use Rattle.rh_defs.specs.Heap.{empty_heap, base};
+ghost use Rattle.rh_defs.specs.Heap.{base, empty_heap, free_bytes, largest};
 ghost use Rattle.rh_defs.specs.Module.{module_change};
 ghost use Rattle.rh_module.specs.Area.{IsModule, SpellsIn, heap_in};
 ghost use Rattle.rh_module.specs.Calls.{Leaves};
@@ -12,7 +12,7 @@ use crate::module::Module;
 use rh_defs::Refusal;
 use rh_defs::sizes::PAGE;
 use rh_heap::{extend_heap, init};
-use rh_store::{AreaId, Pages};
+use rh_store::{AreaId, Pages, Words};
 
 /// How many pages hold this many bytes.
 pub fn pages_for(bytes: usize) -> usize
@@ -25,7 +25,7 @@ impl Module {
     /// Makes an area of at least one page an empty heap as long as the area.
     pub fn start<S: Pages>(store: &mut S, area: AreaId) -> Module
         requires opened { IsOpen (S.memory store.old) area.0 }
-        requires page { 4096 ≤ length (bytes (S.memory store.old) area.0) }
+        requires page { PAGE ≤ length (bytes (S.memory store.old) area.0) }
         ensures area { result.area ≡ area }
         ensures heap { heap_in (S.memory store.new) result ≡ empty_heap (length (bytes (S.memory store.old) area.0)) }
         ensures spells { SpellsIn (S.memory store.new) result (empty_heap (length (bytes (S.memory store.old) area.0))) }
@@ -89,5 +89,23 @@ impl Module {
         extend_heap(store, self.span(), delta)?;
         store.shrink(self.area, pages);
         Ok(())
+    }
+
+    /// The heap's end in bytes, which is the area's.
+    pub fn end<S: Words>(self, store: &S) -> usize
+        requires { IsModule (S.memory store.now) self }
+        ensures { result ≡ (heap_in (S.memory store.now) self).end }
+    {
+        store.len(self.area)
+    }
+
+    /// The bytes of the largest block that a claim would be given without growth, and the bytes of all holes and the
+    /// top. (OS_Heap 1.)
+    pub fn describe<S: Words>(self, store: &S) -> (usize, usize)
+        requires { IsModule (S.memory store.now) self }
+        ensures largest { result.0 ≡ largest (heap_in (S.memory store.now) self) }
+        ensures total { result.1 ≡ free_bytes (heap_in (S.memory store.now) self) }
+    {
+        rh_heap::describe(store, self.span())
     }
 }

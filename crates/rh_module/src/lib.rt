@@ -4,7 +4,6 @@
 mod blocks;
 mod bytes;
 mod length;
-mod listing;
 mod module;
 
 pub use module::Module;

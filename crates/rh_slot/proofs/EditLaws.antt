@@ -13,11 +13,13 @@ use Rattle.rh_defs.specs.Slot.{Flex, Slot, weight, flex_weight, slot_length, slo
 use Rattle.rh_defs.specs.SlotImage.{Lie, Hang, SlotWords, flex_place}
 use Rattle.rh_defs.proofs.Anchors.{anchors-here}
 use Rattle.rh_defs.proofs.BytesLaws.{word_same, part_same, parts_same, part_more, part-part, part-drop, part-put, part-put_below, part-put_above, length-part, put_outside, SameOutside-self}
-use Rattle.rh_defs.proofs.HeapLists.{sum-append}
+use Rattle.rh_defs.proofs.HeapLists.{sum-append, ltb_yes, ltb_no}
 use Rattle.rh_defs.proofs.SlotLaws.{part_of, wider, same_both, in_below, in_above, in_both, Carried, Lie-split, Lie-same, Lie-unique, Hang-split, Hang-same, HaveAnchors-cut}
-use Rattle.rh_slot.specs.Places.{Row, Shifted, FoundAt, Found, spliced, splice}
+use Rattle.rh_slot.specs.Row.{Row, Shifted}
+use Rattle.rh_slot.specs.Flex.{FoundAt, Found, spliced, splice}
 use Rattle.rh_defs.specs.Chain.{◌>>=◌, refuse_if}
-use Rattle.rh_slot.proofs.FlexLaws.{rebuilt, above, ltb_yes, ltb_no, refused, passed, then_none, then_at, false-true}
+use Rattle.rh_slot.proofs.FlexLaws.{rebuilt, above, then_none, then_at, false-true}
+use Rattle.rh_defs.proofs.Chains.{refuse_if-true, refuse_if-false}
 
 -- the slot's length with other bytes in a block
 pub length_with : (s : Slot) (k place size : ℕ) (cut : Split Flex) (bytes : List ℕ) → FoundAt k s place size cut
@@ -219,12 +221,12 @@ spliced_pages b s k place size out put v w t cut f l ev ew et =
 -- ---- what the calls answer
 pub splice_full : (free offset out put : ℕ) (cut : Split Flex) (s : Slot) → free < pages_for (slot.length_with cut (length cut.here.bytes - out + put) s) - slot_pages s → splice free offset out put cut s ≡ Err NoRoom
 unfolding splice
-splice_full free offset out put cut s h = refused (lacks_room free (after_splice cut out put s) s) NoRoom _ (ltb_yes free (pages_for (after_splice cut out put s) - slot_pages s) h)
+splice_full free offset out put cut s h = refuse_if-true (lacks_room free (after_splice cut out put s) s) NoRoom _ (ltb_yes free (pages_for (after_splice cut out put s) - slot_pages s) h)
 
 pub splice_done : (free offset out put : ℕ) (cut : Split Flex) (s : Slot) → pages_for (slot.length_with cut (length cut.here.bytes - out + put) s) - slot_pages s ≤ free
     → splice free offset out put cut s ≡ Ok (with_bytes cut (spliced offset out put cut.here.bytes) s)
 unfolding splice
-splice_done free offset out put cut s h = passed (lacks_room free (after_splice cut out put s) s) NoRoom _ (ltb_no free (pages_for (after_splice cut out put s) - slot_pages s) h)
+splice_done free offset out put cut s h = refuse_if-false (lacks_room free (after_splice cut out put s) s) NoRoom _ (ltb_no free (pages_for (after_splice cut out put s) - slot_pages s) h)
 
 -- a call that gives the block another size and other bytes is a splice of them
 splice_as : (free n offset out put : ℕ) (bytes : List ℕ) (cut : Split Flex) (s : Slot) → n ≡ length cut.here.bytes - out + put → bytes ≡ spliced offset out put cut.here.bytes
@@ -285,12 +287,12 @@ pub mid_above : (free k offset : ℕ) (by : ℤ) (s : Slot) (place size : ℕ) �
 unfolding slot_mid
 mid_above free k offset by s place size t h =
     let long = t.at.long in
-    then_at k s place size t.cut _ t.at ∙ refused (ltb (length t.cut.here.bytes) offset || ltb offset (taken_out by)) BadRange _ (or_left _ _ (ltb_yes (length t.cut.here.bytes) offset (omega arith)))
+    then_at k s place size t.cut _ t.at ∙ refuse_if-true (ltb (length t.cut.here.bytes) offset || ltb offset (taken_out by)) BadRange _ (or_left _ _ (ltb_yes (length t.cut.here.bytes) offset (omega arith)))
 
 pub mid_short : (free k offset out : ℕ) (by : ℤ) (s : Slot) (place size : ℕ) → Found k s place size → out ≡ taken_out by → offset < out → slot_mid free k offset by s ≡ Err BadRange
 unfolding slot_mid
 mid_short free k offset out by s place size t e h =
-    then_at k s place size t.cut _ t.at ∙ refused (ltb (length t.cut.here.bytes) offset || ltb offset (taken_out by)) BadRange _ (or_right _ _ (ltb_yes offset (taken_out by) (omega arith)))
+    then_at k s place size t.cut _ t.at ∙ refuse_if-true (ltb (length t.cut.here.bytes) offset || ltb offset (taken_out by)) BadRange _ (or_right _ _ (ltb_yes offset (taken_out by) (omega arith)))
 
 pub mid_at : (free k offset out put : ℕ) (by : ℤ) (s : Slot) (place size : ℕ) (cut : Split Flex) → FoundAt k s place size cut → out ≡ taken_out by → put ≡ moved 0 by → offset ≤ size → out ≤ offset
     → slot_mid free k offset by s ≡ splice free offset out put cut s
@@ -300,7 +302,7 @@ mid_at free k offset out put by s place size cut t eo ep h l =
     let q : opened_at offset by cut.here.bytes ≡ spliced offset out put cut.here.bytes =
     opened_spliced cut.here.bytes offset by ∙ ap (λ i. spliced offset i (moved 0 by) cut.here.bytes) (sym eo) ∙ ap (λ i. spliced offset out i cut.here.bytes) (sym ep) in
     then_at k s place size cut _ t
-    ∙ passed (ltb (length cut.here.bytes) offset || ltb offset (taken_out by)) BadRange _ (or_none _ _ (ltb_no (length cut.here.bytes) offset (omega arith)) (ltb_no offset (taken_out by) (omega arith)))
+    ∙ refuse_if-false (ltb (length cut.here.bytes) offset || ltb offset (taken_out by)) BadRange _ (or_none _ _ (ltb_no (length cut.here.bytes) offset (omega arith)) (ltb_no offset (taken_out by) (omega arith)))
     ∙ splice_as free (moved (length cut.here.bytes) by) offset out put (opened_at offset by cut.here.bytes) cut s (moved_parts (length cut.here.bytes) out put by eo ep) q
 
 pub put_none : (k offset : ℕ) (xs : List ℕ) (s : Slot) → IsFree k s.blocks → slot_put k offset xs s ≡ Err NoBlock
@@ -311,14 +313,14 @@ pub put_beyond : (k offset : ℕ) (xs : List ℕ) (s : Slot) (place size : ℕ) 
 unfolding slot_put
 put_beyond k offset xs s place size t h =
     let long = t.at.long in
-    then_at k s place size t.cut _ t.at ∙ refused (ltb (length t.cut.here.bytes) (offset + length xs)) BadRange _ (ltb_yes (length t.cut.here.bytes) (offset + length xs) (omega arith))
+    then_at k s place size t.cut _ t.at ∙ refuse_if-true (ltb (length t.cut.here.bytes) (offset + length xs)) BadRange _ (ltb_yes (length t.cut.here.bytes) (offset + length xs) (omega arith))
 
 pub put_at : (k offset : ℕ) (xs : List ℕ) (s : Slot) (place size : ℕ) (cut : Split Flex) → FoundAt k s place size cut → offset + length xs ≤ size
     → slot_put k offset xs s ≡ Ok (with_bytes cut (written cut.here.bytes offset xs) s)
 unfolding slot_put
 put_at k offset xs s place size cut t h =
     let long = t.long in
-    then_at k s place size cut _ t ∙ passed (ltb (length cut.here.bytes) (offset + length xs)) BadRange _ (ltb_no (length cut.here.bytes) (offset + length xs) (omega arith))
+    then_at k s place size cut _ t ∙ refuse_if-false (ltb (length cut.here.bytes) (offset + length xs)) BadRange _ (ltb_no (length cut.here.bytes) (offset + length xs) (omega arith))
 
 pub read_none : (k offset n : ℕ) (s : Slot) → IsFree k s.blocks → slot_read k offset n s ≡ Err NoBlock
 unfolding slot_read
@@ -328,13 +330,13 @@ pub read_beyond : (k offset n : ℕ) (s : Slot) (place size : ℕ) → Found k s
 unfolding slot_read
 read_beyond k offset n s place size t h =
     let long = t.at.long in
-    then_at k s place size t.cut _ t.at ∙ refused (ltb (length t.cut.here.bytes) (offset + n)) BadRange _ (ltb_yes (length t.cut.here.bytes) (offset + n) (omega arith))
+    then_at k s place size t.cut _ t.at ∙ refuse_if-true (ltb (length t.cut.here.bytes) (offset + n)) BadRange _ (ltb_yes (length t.cut.here.bytes) (offset + n) (omega arith))
 
 pub read_at : (k offset n : ℕ) (s : Slot) (place size : ℕ) (cut : Split Flex) → FoundAt k s place size cut → offset + n ≤ size → slot_read k offset n s ≡ Ok (take n (drop offset cut.here.bytes))
 unfolding slot_read
 read_at k offset n s place size cut t h =
     let long = t.long in
-    then_at k s place size cut _ t ∙ passed (ltb (length cut.here.bytes) (offset + n)) BadRange _ (ltb_no (length cut.here.bytes) (offset + n) (omega arith))
+    then_at k s place size cut _ t ∙ refuse_if-false (ltb (length cut.here.bytes) (offset + n)) BadRange _ (ltb_no (length cut.here.bytes) (offset + n) (omega arith))
 
 -- a test that says when a range lies in a block
 pub beyond : (t : Bool) (reach size : ℕ) → (IsTrue t ↔ (reach ≤ size)) → t ≡ false → size < reach

@@ -1,22 +1,22 @@
 -- What the calls that find, add and take away blocks do to the words of a slot.
-use Rattle.std.proofs.Common.{◌≡◌, ℕ, ◌+◌, ◌-◌, ◌*◌, ◌/◌, ◌<◌, ◌≤◌, ◌≢◌, ◌⊎◌, inl, inr, Bool, true, false, List, [], ◌∷◌, ◌++◌, length, replicate, ltb, refl, sym, ap, subst, ◌∙◌, arith, rules}
+use Rattle.std.proofs.Common.{◌≡◌, ℕ, ◌+◌, ◌-◌, ◌*◌, ◌/◌, ◌<◌, ◌≤◌, ◌≢◌, ◌⊎◌, inl, inr, true, false, List, [], ◌∷◌, ◌++◌, length, replicate, refl, sym, ap, subst, ◌∙◌, arith, rules}
 use Rattle.std.proofs.lemmas.List.{append-nil, length-replicate}
 use Rattle.std.proofs.lemmas.Bool.{cases_eq, cases_lt}
-use Rattle.std.proofs.lemmas.Bool.Decides.{nat_tests}
 use Rattle.std.specs.Prelude.{is_some, Ok, Err, ◌↔◌}
-use Rattle.rh_defs.specs.declared.refusal.Refusal.{Refusal}
 use Rattle.rh_defs.specs.declared.refusal.Refusal.TheVariants.{NoBlock, AnchorInUse, NoRoom}
 use Rattle.rh_defs.specs.Bytes.{word, part, SameIn, SameOutside}
-use Rattle.rh_defs.specs.Chain.{Granted, ◌>>=◌, refuse_if, found_or}
+use Rattle.rh_defs.specs.Chain.{Granted, ◌>>=◌, found_or}
 use Rattle.rh_defs.specs.Pieces.{total, pages_for, zeros, Split}
 use Rattle.rh_defs.specs.Slot.{Flex, Slot, weight, flex_weight, slot_length, slot_pages, flex_address, IsFree, HaveAnchors, without, with_block, is_used, lacks_room, slot_block, slot_size, slot_address, slot_free, slot_alloc}
 use Rattle.rh_defs.specs.SlotImage.{Lie, Hang, SlotWords, SpellsSlot, flex_place}
 use Rattle.rh_defs.proofs.Anchors.{anchors-append}
 use Rattle.rh_defs.proofs.BytesLaws.{word_same, part_same}
-use Rattle.rh_defs.proofs.HeapLists.{sum-append}
+use Rattle.rh_defs.proofs.HeapLists.{sum-append, ltb_yes, ltb_no}
 use Rattle.rh_defs.proofs.SlotLaws.{part_of, wider, same_both, in_below, in_above, in_both, Lie-split, Lie-join, Lie-same, Hang-split, Hang-join, Hang-same, IsFree-split, IsFree-join, HaveAnchors-cut, find, block_of-none, block_of-at, Spells-same}
-use Rattle.rh_slot.specs.Places.{Row, Shifted, FoundAt, Found}
+use Rattle.rh_slot.specs.Row.{Row, Shifted}
+use Rattle.rh_slot.specs.Flex.{FoundAt, Found}
 use Rattle.rh_slot.proofs.ShiftLaws.{apart, Hang-apart}
+use Rattle.rh_defs.proofs.Chains.{refuse_if-true, refuse_if-false}
 
 -- the slot with other blocks
 abbrev pub with_blocks : List Flex → Slot → Slot
@@ -197,20 +197,6 @@ alloced b b1 b2 b3 d s k p n t w u l ep e fits h0 o0 h1 o1 h2 o2 hp op =
     )
 
 -- ---- what the calls answer
-pub ltb_yes : (x y : ℕ) → x < y → ltb x y ≡ true
-ltb_yes x y h = grind (arith, nat_tests)
-
-pub ltb_no : (x y : ℕ) → y ≤ x → ltb x y ≡ false
-ltb_no x y h = grind (arith, nat_tests)
-
-pub refused : {B : Type 0} (t : Bool) (r : Refusal) (rest : Granted B) → t ≡ true → (refuse_if t r >>= λ _. rest) ≡ Err r
-unfolding ◌>>=◌ refuse_if
-refused t r rest e = ap (λ i. refuse_if i r >>= λ _. rest) e
-
-pub passed : {B : Type 0} (t : Bool) (r : Refusal) (rest : Granted B) → t ≡ false → (refuse_if t r >>= λ _. rest) ≡ rest
-unfolding ◌>>=◌ refuse_if
-passed t r rest e = ap (λ i. refuse_if i r >>= λ _. rest) e
-
 pub block_none : (k : ℕ) (s : Slot) → IsFree k s.blocks → slot_block k s ≡ Err NoBlock
 unfolding slot_block found_or
 block_none k s u = ap (λ o. found_or o NoBlock) (block_of-none k s u)
@@ -254,20 +240,20 @@ free_at k s place size cut t = then_at k s place size cut _ t
 
 pub alloc_used : (free k n : ℕ) (s : Slot) (place size : ℕ) → Found k s place size → slot_alloc free k n s ≡ Err AnchorInUse
 unfolding slot_alloc
-alloc_used free k n s place size t = refused (is_used k s) AnchorInUse _ (ap is_some (block_of-at k s t.cut t.at.is t.at.free t.at.anchor))
+alloc_used free k n s place size t = refuse_if-true (is_used k s) AnchorInUse _ (ap is_some (block_of-at k s t.cut t.at.is t.at.free t.at.anchor))
 
 pub alloc_full : (free k n : ℕ) (s : Slot) → IsFree k s.blocks → free < pages_for (slot_length s + flex_weight n) - slot_pages s → slot_alloc free k n s ≡ Err NoRoom
 unfolding slot_alloc
 alloc_full free k n s u h =
-    passed (is_used k s) AnchorInUse _ (ap is_some (block_of-none k s u))
-    ∙ refused (lacks_room free (slot_length s + flex_weight n) s) NoRoom _ (ltb_yes free (pages_for (slot_length s + flex_weight n) - slot_pages s) h)
+    refuse_if-false (is_used k s) AnchorInUse _ (ap is_some (block_of-none k s u))
+    ∙ refuse_if-true (lacks_room free (slot_length s + flex_weight n) s) NoRoom _ (ltb_yes free (pages_for (slot_length s + flex_weight n) - slot_pages s) h)
 
 pub alloc_done : (free k n : ℕ) (s : Slot) (a : ℕ) → IsFree k s.blocks → pages_for (slot_length s + flex_weight n) - slot_pages s ≤ free → a ≡ flex_address s s.blocks
     → slot_alloc free k n s ≡ Ok (with_block k (zeros n) s, a)
 unfolding slot_alloc
 alloc_done free k n s a u h e =
-    passed (is_used k s) AnchorInUse _ (ap is_some (block_of-none k s u))
-    ∙ passed (lacks_room free (slot_length s + flex_weight n) s) NoRoom _ (ltb_no free (pages_for (slot_length s + flex_weight n) - slot_pages s) h)
+    refuse_if-false (is_used k s) AnchorInUse _ (ap is_some (block_of-none k s u))
+    ∙ refuse_if-false (lacks_room free (slot_length s + flex_weight n) s) NoRoom _ (ltb_no free (pages_for (slot_length s + flex_weight n) - slot_pages s) h)
     ∙ ap (λ (i : ℕ). Ok (with_block k (zeros n) s, i)) (sym e)
 
 -- the pages that a new block needs

@@ -1,6 +1,5 @@
 -- The C heap of a slot gets longer, and a call on it is done.
 use Rattle.std.proofs.Common.{◌≡◌, ◌≢◌, ℕ, ◌+◌, ◌*◌, ◌/◌, ◌<◌, ◌≤◌, inl, inr, Bool, true, false, ltb, eqb, List, length, refl, sym, ap, subst, ◌∙◌, arith}
-use Rattle.std.proofs.lemmas.Bool.Decides.{nat_tests}
 use Rattle.std.proofs.lemmas.Bool.{cases_eq, cases_lt}
 use Rattle.std.specs.Prelude.{Option, Some, None, Ok, Err, IsErr, IsErrOf, ◌↔◌, ℤ}
 use Rattle.std.specs.Prelude.{pos}
@@ -18,7 +17,7 @@ use Rattle.rh_defs.specs.declared.heap.HeapRefusal.TheVariants as heap_refusal
 use Rattle.rh_defs.specs.declared.refusal.Refusal.{Refusal}
 use Rattle.rh_defs.specs.declared.refusal.Refusal.TheVariants.{BadSize, NoBudge, NoRoom}
 use Rattle.rh_defs.proofs.BytesLaws.{word_same}
-use Rattle.rh_defs.proofs.HeapLists.{cond_true, cond_false, eqb_same, eqb_apart}
+use Rattle.rh_defs.proofs.HeapLists.{cond_true, cond_false, eqb_same, eqb_apart, ltb_yes, ltb_no}
 use Rattle.rh_defs.proofs.SlotLaws.{part_of, in_below, in_above, Lie-same, Hang-same, Spells-same}
 use Rattle.rh_defs.proofs.SlotImageLaws.{SlotWords-kept, SpellsSlot-with_heap}
 use Rattle.rh_heap.specs.declared.span.Span.{Span}
@@ -26,8 +25,8 @@ use Rattle.rh_heap.specs.Spans.{IsSpan, OnlySpan, heap_in}
 use Rattle.rh_heap.proofs.SpanLaws.{is_span, heap_now}
 use Rattle.rh_slot.specs.declared.slot.Slot.{Slot}
 use Rattle.rh_slot.specs.Area.{SpellsIn, slot_in}
-use Rattle.rh_slot.specs.Places.{Row, Shifted}
-use Rattle.rh_slot.specs.Growth.{after_growth, lengthened}
+use Rattle.rh_slot.specs.Row.{Row, Shifted}
+use Rattle.rh_slot.specs.CHeap.{after_growth, lengthened}
 use Rattle.rh_slot.proofs.SpanLaws.{span_of, heap_same, slot_now}
 
 -- ---- the flex blocks slide up
@@ -85,12 +84,6 @@ slid l m n slot span from top more k r o same len ef et e =
     })
 
 -- ---- what a call gives whose heap may have to grow
-
-ltb_yes : (x y : ℕ) → x < y → ltb x y ≡ true
-ltb_yes x y h = grind (arith, nat_tests)
-
-ltb_no : (x y : ℕ) → y ≤ x → ltb x y ≡ false
-ltb_no x y h = grind (arith, nat_tests)
 
 -- the answer where the heap has to grow and nothing more is asked
 abbrev pub Gives : Granted (Unit {0}) → ℕ → ℕ → plain.Slot → Type 0

@@ -1,11 +1,10 @@
-pub mod PageLaws
+pub mod AreaLaws
 pub mod ShiftLaws
 pub mod FlexLaws
 pub mod EditLaws
 pub mod WalkLaws
-pub mod StepLaws
 pub mod SpanLaws
 pub mod LeaveLaws
-pub mod LifeLaws
+pub mod StartLaws
 pub mod GrowLaws
-pub mod CallLaws
+pub mod CHeapLaws

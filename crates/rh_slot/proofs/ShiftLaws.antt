@@ -8,7 +8,7 @@ use Rattle.rh_defs.specs.SlotImage.{Lie, Hang}
 use Rattle.rh_defs.proofs.BytesLaws.{word_same, SameOutside-self}
 use Rattle.rh_defs.proofs.HeapLists.{sum-append}
 use Rattle.rh_defs.proofs.SlotLaws.{wider, same_both, in_below, in_above, Lie-same, Lie-carried, Lie-unique, Hang-join, IsFree-split, HaveAnchors-cut, Carried, none_weigh}
-use Rattle.rh_slot.specs.Places.{Row, Hung, Shifted, Hanging}
+use Rattle.rh_slot.specs.Row.{Row, Hung, Shifted, Hanging}
 
 pub hanging_start : (b : List ℕ) (from n : ℕ) → Row b from n → Hanging b b from n from
 hanging_start b from n r = record {

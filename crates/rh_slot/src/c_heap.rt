@@ -9,7 +9,7 @@ ghost use Rattle.rh_defs.specs.Slot.{slot_claim, slot_release, slot_resize, slot
 ghost use Rattle.rh_heap.specs.Pieces.{piece};
 ghost use Rattle.rh_slot.specs.Area.{IsSlot, SpellsIn, slot_in};
 ghost use Rattle.rh_slot.specs.Calls.{Leaves};
-ghost use Rattle.rh_slot.specs.Growth.{after_growth, lengthened};
+ghost use Rattle.rh_slot.specs.CHeap.{after_growth, lengthened};
 
 use crate::area::{grow_to, pages_for};
 use crate::row::{shift, weight_of};

@@ -5,7 +5,7 @@ ghost use Rattle.rh_defs.specs.Pieces.{Split, moved};
 ghost use Rattle.rh_defs.specs.Slot.{Flex, slot_extend, slot_mid, slot_put, slot_read, taken_out, slot_alloc, slot_free, IsFree, slot_size, slot_address};
 ghost use Rattle.rh_slot.specs.Area.{IsSlot, slot_in};
 ghost use Rattle.rh_slot.specs.Calls.{Leaves};
-ghost use Rattle.rh_slot.specs.Places.{Found, FoundAt, splice};
+ghost use Rattle.rh_slot.specs.Flex.{Found, FoundAt, splice};
 
 use crate::area::{clear, grow_to, read, room_for, slide, trim, write, write_bytes};
 use crate::row::{shift, weight_of};

@@ -8,8 +8,7 @@ ghost use Rattle.rh_defs.specs.Bytes.{word, SameIn};
 ghost use Rattle.rh_defs.specs.SlotImage.{Lie, is_block, flex_place};
 ghost use Rattle.rh_defs.specs.declared.listing.BlockItem.{BlockItem};
 ghost use Rattle.rh_slot.specs.Area.{IsSlot, slot_in};
-ghost use Rattle.rh_slot.specs.Places.{Row, Hung, Shifted};
-ghost use Rattle.rh_slot.specs.Walks.{Walked, WalksIn, item_of};
+ghost use Rattle.rh_slot.specs.Row.{Row, Hung, Shifted, Walked, WalksIn, item_of};
 
 use crate::area::{read, slide, write};
 use crate::slot::Slot;

@@ -1,5 +1,5 @@
 use Rattle.std.proofs.Common.{arith}
-use Rattle.rh_slot.proofs.PageLaws.{Resized-grown, on_ok}
+use Rattle.rh_slot.proofs.AreaLaws.{Resized-grown, on_ok}
 use Rattle.rh_slot.proofs.area.room_for.Goals as goal
 
 pub returns-clause-ok : goal.returns-clause-ok

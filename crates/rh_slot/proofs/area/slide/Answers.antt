@@ -3,7 +3,7 @@ use Rattle.std.proofs.Common.{◌+◌, get_or, sym, ap, arith}
 use Rattle.rh_defs.specs.Memory.{bytes}
 use Rattle.rh_defs.proofs.BytesLaws.{length-part}
 use Rattle.rh_defs.proofs.MemoryLaws.{Edited-self}
-use Rattle.rh_slot.proofs.PageLaws.{Carried-slid, Edited-put}
+use Rattle.rh_slot.proofs.AreaLaws.{Carried-slid, Edited-put}
 use Rattle.rh_slot.proofs.area.slide.Goals as goal
 
 pub returns-then-from-to-clause-carried : goal.returns-then-from-to-clause-carried

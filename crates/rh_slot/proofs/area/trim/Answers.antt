@@ -1,5 +1,5 @@
 use Rattle.std.proofs.Common.{arith}
-use Rattle.rh_slot.proofs.PageLaws.{Resized-shrunk}
+use Rattle.rh_slot.proofs.AreaLaws.{Resized-shrunk}
 use Rattle.rh_slot.proofs.area.trim.Goals as goal
 
 pub returns : goal.returns

@@ -1,5 +1,5 @@
 use Rattle.std.proofs.Common.{arith}
-use Rattle.rh_slot.proofs.PageLaws.{Edited-put}
+use Rattle.rh_slot.proofs.AreaLaws.{Edited-put}
 use Rattle.rh_slot.proofs.area.write_bytes.Goals as goal
 
 pub returns-clause-only : goal.returns-clause-only

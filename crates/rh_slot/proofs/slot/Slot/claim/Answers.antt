@@ -3,11 +3,11 @@ use Rattle.std.proofs.Common.{◌≡◌, ◌≢◌, refl, arith}
 use Rattle.std.proofs.lemmas.Result.{err_from_is_err_and}
 use Rattle.rh_defs.specs.Heap.{claim_growing, need}
 use Rattle.rh_slot.specs.Area.{slot_in}
-use Rattle.rh_slot.specs.Growth.{lengthened}
+use Rattle.rh_slot.specs.CHeap.{lengthened}
 use Rattle.rh_slot.proofs.SpanLaws.{is_span_at, heap_at, is_slot, budging_same}
 use Rattle.rh_slot.proofs.LeaveLaws.{refuses}
 use Rattle.rh_slot.proofs.GrowLaws.{need_most}
-use Rattle.rh_slot.proofs.CallLaws.{claim_refused, claim_needs, claim_stopped, claimed, claim_is_done, claim_longer, claim_low, address_low}
+use Rattle.rh_slot.proofs.CHeapLaws.{claim_refused, claim_needs, claim_stopped, claimed, claim_is_done, claim_longer, claim_low, address_low}
 use Rattle.rh_slot.proofs.slot.Slot.claim.Goals as goal
 use Rattle.rh_slot.proofs.slot.Slot.claim.Goals.{In_ok-shortage}
 use Rattle.rh_slot.proofs.slot.Slot.claim.Given as given

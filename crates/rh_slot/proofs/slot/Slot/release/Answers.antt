@@ -1,7 +1,7 @@
 -- The heap's release.
 use Rattle.std.proofs.lemmas.Result.{err_from_is_err_and}
 use Rattle.rh_slot.proofs.SpanLaws.{is_span_at}
-use Rattle.rh_slot.proofs.CallLaws.{released_there, release_refused}
+use Rattle.rh_slot.proofs.CHeapLaws.{released_there, release_refused}
 use Rattle.rh_slot.proofs.slot.Slot.release.Goals as goal
 
 pub release-requires : goal.release-requires

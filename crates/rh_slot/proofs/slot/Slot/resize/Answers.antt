@@ -5,10 +5,10 @@ use Rattle.std.proofs.lemmas.Result.{err_from_is_err_and}
 use Rattle.std.specs.Int.{w32}
 use Rattle.rh_defs.specs.Heap.{block_at, resize_growing, new_size}
 use Rattle.rh_slot.specs.Area.{slot_in}
-use Rattle.rh_slot.specs.Growth.{lengthened}
+use Rattle.rh_slot.specs.CHeap.{lengthened}
 use Rattle.rh_slot.proofs.SpanLaws.{is_span_at, heap_at, is_slot, budging_same}
 use Rattle.rh_slot.proofs.LeaveLaws.{refuses}
-use Rattle.rh_slot.proofs.CallLaws.{Resizes, need_found_ok, resize_refused, resize_stopped, resize_most, resized_there, resize_is_done, resize_longer, resize_low, address_low}
+use Rattle.rh_slot.proofs.CHeapLaws.{Resizes, need_found_ok, resize_refused, resize_stopped, resize_most, resized_there, resize_is_done, resize_longer, resize_low, address_low}
 use Rattle.rh_slot.proofs.slot.Slot.resize.Goals as goal
 use Rattle.rh_slot.proofs.slot.Slot.resize.Goals.{In_ok-shortage}
 use Rattle.rh_slot.proofs.slot.Slot.resize.Given as given

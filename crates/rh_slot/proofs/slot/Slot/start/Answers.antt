@@ -4,7 +4,7 @@ use Rattle.rh_defs.specs.Memory.{IsOpen, OnlyArea}
 use Rattle.rh_defs.specs.Slot.{new_slot}
 use Rattle.rh_defs.proofs.MemoryLaws.{IsOpen-opened, OnlyArea-both, OnlyArea-from_Edited}
 use Rattle.rh_slot.specs.Area.{SpellsIn}
-use Rattle.rh_slot.proofs.LifeLaws.{Opened, is_granted, page_granted, begin_refused, begin_done, opened_page, spells_new}
+use Rattle.rh_slot.proofs.StartLaws.{Opened, is_granted, page_granted, begin_refused, begin_done, opened_page, spells_new}
 use Rattle.rh_slot.proofs.SpanLaws.{is_slot, slot_now}
 use Rattle.rh_slot.proofs.slot.Slot.start.Goals as goal
 use Rattle.rh_slot.proofs.slot.Slot.start.Goals.{After-grow, After-init}

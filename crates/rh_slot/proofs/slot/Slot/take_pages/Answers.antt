@@ -5,7 +5,7 @@ use Rattle.std.specs.Prelude.{Ok, not, ◌&&◌, nat_lt}
 use Rattle.rh_slot.specs.Area.{slot_in}
 use Rattle.rh_slot.proofs.SpanLaws.{is_span_at, heap_at, budging_same}
 use Rattle.rh_slot.proofs.GrowLaws.{need_most}
-use Rattle.rh_slot.proofs.CallLaws.{claim_needs, take_zero, take_stuck, take_done}
+use Rattle.rh_slot.proofs.CHeapLaws.{claim_needs, take_zero, take_stuck, take_done}
 use Rattle.rh_slot.proofs.slot.Slot.take_pages.Goals as goal
 
 pub need-requires : goal.need-requires

@@ -2,7 +2,7 @@
 use Rattle.std.proofs.Common.{◌-◌}
 use Rattle.rh_defs.specs.Slot.{slot_length}
 use Rattle.rh_slot.specs.Area.{slot_in}
-use Rattle.rh_slot.specs.Walks.{Walked}
+use Rattle.rh_slot.specs.Row.{Walked}
 use Rattle.rh_slot.proofs.slot.Slot.top.Given as goal
 
 abbrev pub invariant-walk : goal.invariant-walk

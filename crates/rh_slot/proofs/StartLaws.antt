@@ -1,6 +1,5 @@
 -- A slot with no block in a new page of zeros.
-use Rattle.std.proofs.Common.{◌≡◌, ◌≢◌, ℕ, ◌*◌, ◌<◌, ◌≤◌, false, ltb, List, ◌++◌, length, replicate, refl, sym, ap, subst, ◌∙◌, arith}
-use Rattle.std.proofs.lemmas.Bool.Decides.{nat_tests}
+use Rattle.std.proofs.Common.{◌≡◌, ◌≢◌, ℕ, ◌*◌, ◌<◌, List, ◌++◌, length, replicate, refl, sym, ap, subst, ◌∙◌, arith}
 use Rattle.std.proofs.lemmas.List.{length-replicate}
 use Rattle.std.specs.Prelude.{Option, Some, None, IsNone, Result, Ok, Err, OnOk, IsOk, IsErr, ◌↔◌}
 use Rattle.rh_defs.specs.Bytes.{word}
@@ -14,14 +13,12 @@ use Rattle.rh_defs.specs.declared.refusal.Refusal.TheVariants.{NoRoom}
 use Rattle.rh_defs.proofs.BytesLaws.{word_same, word-zeros}
 use Rattle.rh_defs.proofs.MemoryLaws.{bytes-none, bytes-opened, bytes-grown, area-opened, free-opened, pages-opened, loan-opened, IsOpen-opened, IsOpen-grown, OnlyArea-both, OnlyArea-grown}
 use Rattle.rh_defs.proofs.SlotLaws.{in_below}
+use Rattle.rh_defs.proofs.HeapLists.{ltb_no}
 
 -- what a slot's begin answers
 pub begin_refused : (free : ℕ) → free ≡ 0 → Err NoRoom ≡ outcome_of (slot_begin free)
 unfolding slot_begin ◌>>=◌ refuse_if
 begin_refused free e = rw e refl
-
-ltb_no : (x y : ℕ) → y ≤ x → ltb x y ≡ false
-ltb_no x y h = grind (arith, nat_tests)
 
 pub begin_done : (free : ℕ) → free ≢ 0 → Ok tt ≡ outcome_of (slot_begin free)
 unfolding slot_begin ◌>>=◌ refuse_if

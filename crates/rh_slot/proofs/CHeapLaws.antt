@@ -26,7 +26,7 @@ use Rattle.rh_heap.specs.declared.span.Span.{Span}
 use Rattle.rh_slot.specs.declared.slot.Slot.{Slot}
 use Rattle.rh_slot.specs.Area.{IsSlot, SpellsIn, slot_in}
 use Rattle.rh_slot.specs.Calls.{Leaves}
-use Rattle.rh_slot.specs.Growth.{after_growth, lengthened}
+use Rattle.rh_slot.specs.CHeap.{after_growth, lengthened}
 use Rattle.rh_slot.proofs.SpanLaws.{span_of, heap_same, slot_now, budging_same}
 use Rattle.rh_slot.proofs.LeaveLaws.{leaves, refuses, then_edited}
 use Rattle.rh_slot.proofs.GrowLaws.{Gives, growth_ok, growth_err, placed_there, slot_claim-growth, slot_claim-zero, end-claim_growing, need_ok, need_err}
