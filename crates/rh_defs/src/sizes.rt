@@ -76,7 +76,7 @@ pub const LONGEST_LINE: usize = 1024;
 /// The greatest number that a script can spell.
 pub const GREATEST_NUMBER: u32 = 2_147_483_647;
 
-/// The areas of a desk fit exactly, with as many made ones and slots as there can be; pages are from 8, and up to as many
+/// The areas of a desk fit exactly, with as many made ones and slots as there can be. Pages are from 8 up to as many
 /// as make 4 MiB.
 pub fn limits_law()
     ensures fixed { FIXED_AREAS ≡ 6 }
