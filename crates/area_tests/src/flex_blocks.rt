@@ -8,12 +8,12 @@ ghost use Rattle.rh_store.specs.declared.store.TheConstants.{MAX_AREAS};
 use crate::slots::{allocated, changed, extended, freed, started, written};
 use crate::stores::{paged_store, plain_store};
 use rh_defs::{Anchor, Refusal};
-use rh_store::{AreaId, Store};
+use rh_store::{AreaId, Store, Words};
 use std::process::Abort;
 use std::test::Fail;
 
 /// The word at a place, if the area has it.
-fn word_at<S: Store>(store: &S, area: AreaId, place: usize) -> Option<u32>
+fn word_at<S: Words>(store: &S, area: AreaId, place: usize) -> Option<u32>
     requires { IsOpen (S.memory store.now) area.0 }
 {
     let len = store.len(area);
@@ -24,7 +24,7 @@ fn word_at<S: Store>(store: &S, area: AreaId, place: usize) -> Option<u32>
 }
 
 /// The 16 bytes from a place on, if the area has them.
-fn bytes_at<S: Store>(store: &S, area: AreaId, place: usize) -> Option<[u8; 16]>
+fn bytes_at<S: Words>(store: &S, area: AreaId, place: usize) -> Option<[u8; 16]>
     requires { IsOpen (S.memory store.now) area.0 }
 {
     let len = store.len(area);

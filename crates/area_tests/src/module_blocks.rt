@@ -7,7 +7,7 @@ ghost use Rattle.rh_module.specs.Area.{IsModule};
 use rh_defs::Refusal;
 use rh_module::Module;
 use rh_pages::PagedStore;
-use rh_store::{PAGE, PlainStore, Store, StoreFault};
+use rh_store::{PAGE, Pages, PlainStore, Store, StoreFault};
 use std::process::Abort;
 use std::test::Fail;
 
@@ -21,21 +21,21 @@ fn started<S: Store>(store: &mut S) -> Result<Module, StoreFault>
     Ok(Module::start(store, area))
 }
 
-fn claimed<S: Store>(store: &mut S, rma: Module, n: u32) -> Result<usize, Refusal>
+fn claimed<S: Pages>(store: &mut S, rma: Module, n: u32) -> Result<usize, Refusal>
     requires { IsModule (S.memory store.old) rma }
     ensures { IsModule (S.memory store.new) rma }
 {
     rma.claim(store, n)
 }
 
-fn freed<S: Store>(store: &mut S, rma: Module, address: usize) -> Result<(), Refusal>
+fn freed<S: Pages>(store: &mut S, rma: Module, address: usize) -> Result<(), Refusal>
     requires { IsModule (S.memory store.old) rma }
     ensures { IsModule (S.memory store.new) rma }
 {
     rma.free(store, address)
 }
 
-fn resized<S: Store>(
+fn resized<S: Pages>(
     store: &mut S,
     rma: Module,
     address: usize,
@@ -47,7 +47,7 @@ fn resized<S: Store>(
     rma.resize(store, address, delta)
 }
 
-fn changed<S: Store>(store: &mut S, rma: Module, delta: i32) -> Result<usize, Refusal>
+fn changed<S: Pages>(store: &mut S, rma: Module, delta: i32) -> Result<usize, Refusal>
     requires { IsModule (S.memory store.old) rma }
     ensures { IsModule (S.memory store.new) rma }
 {

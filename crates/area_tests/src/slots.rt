@@ -7,7 +7,7 @@ ghost use Rattle.rh_store.specs.declared.store.TheConstants.{MAX_AREAS};
 
 use rh_defs::{Anchor, Refusal};
 use rh_slot::Slot;
-use rh_store::Store;
+use rh_store::{Pages, Store};
 
 /// A slot with no block.
 pub(crate) fn started<S: Store>(store: &mut S) -> Result<Slot, Refusal>
@@ -18,7 +18,7 @@ pub(crate) fn started<S: Store>(store: &mut S) -> Result<Slot, Refusal>
     Ok(slot)
 }
 
-pub(crate) fn allocated<S: Store>(
+pub(crate) fn allocated<S: Pages>(
     store: &mut S,
     slot: Slot,
     anchor: Anchor,
@@ -31,7 +31,7 @@ pub(crate) fn allocated<S: Store>(
     slot.alloc(store, anchor, n)
 }
 
-pub(crate) fn freed<S: Store>(store: &mut S, slot: Slot, anchor: Anchor) -> Result<(), Refusal>
+pub(crate) fn freed<S: Pages>(store: &mut S, slot: Slot, anchor: Anchor) -> Result<(), Refusal>
     requires slot { IsSlot (S.memory store.old) slot }
     requires anchor { anchor < 64 }
     ensures { IsSlot (S.memory store.new) slot }
@@ -39,7 +39,7 @@ pub(crate) fn freed<S: Store>(store: &mut S, slot: Slot, anchor: Anchor) -> Resu
     slot.free(store, anchor)
 }
 
-pub(crate) fn extended<S: Store>(
+pub(crate) fn extended<S: Pages>(
     store: &mut S,
     slot: Slot,
     anchor: Anchor,
@@ -52,7 +52,7 @@ pub(crate) fn extended<S: Store>(
     slot.extend(store, anchor, n)
 }
 
-pub(crate) fn changed<S: Store>(
+pub(crate) fn changed<S: Pages>(
     store: &mut S,
     slot: Slot,
     anchor: Anchor,
@@ -66,7 +66,7 @@ pub(crate) fn changed<S: Store>(
     slot.mid(store, anchor, offset, by)
 }
 
-pub(crate) fn written<S: Store>(
+pub(crate) fn written<S: Pages>(
     store: &mut S,
     slot: Slot,
     anchor: Anchor,
@@ -80,21 +80,21 @@ pub(crate) fn written<S: Store>(
     slot.put(store, anchor, offset, from)
 }
 
-pub(crate) fn claimed<S: Store>(store: &mut S, slot: Slot, n: u32) -> Result<usize, Refusal>
+pub(crate) fn claimed<S: Pages>(store: &mut S, slot: Slot, n: u32) -> Result<usize, Refusal>
     requires { IsSlot (S.memory store.old) slot }
     ensures { IsSlot (S.memory store.new) slot }
 {
     slot.claim(store, n)
 }
 
-pub(crate) fn released<S: Store>(store: &mut S, slot: Slot, address: usize) -> Result<(), Refusal>
+pub(crate) fn released<S: Pages>(store: &mut S, slot: Slot, address: usize) -> Result<(), Refusal>
     requires { IsSlot (S.memory store.old) slot }
     ensures { IsSlot (S.memory store.new) slot }
 {
     slot.release(store, address)
 }
 
-pub(crate) fn resized<S: Store>(
+pub(crate) fn resized<S: Pages>(
     store: &mut S,
     slot: Slot,
     address: usize,
@@ -107,7 +107,7 @@ pub(crate) fn resized<S: Store>(
 }
 
 /// The slot with budging on or off.
-pub(crate) fn budging<S: Store>(_store: &S, slot: Slot, on: bool) -> Slot
+pub(crate) fn budging<S: Pages>(_store: &S, slot: Slot, on: bool) -> Slot
     requires { IsSlot (S.memory _store.now) slot }
     ensures { IsSlot (S.memory _store.now) result }
 {

@@ -9,7 +9,7 @@ ghost use Rattle.rh_heap.specs.Spans.{IsSpan};
 
 use rh_defs::HeapFault;
 use rh_heap::{Span, claim, describe, init, release};
-use rh_store::{PlainStore, Store, StoreFault};
+use rh_store::{PlainStore, Store, StoreFault, Words};
 use std::alloc::Global;
 use std::env;
 
@@ -56,7 +56,7 @@ fn size_wanted(rt: &HostRuntime, alloc: Global) -> anyhow::Result<u32> {
 }
 
 /// Claims a block, and leaves a heap.
-fn claimed<S: Store>(store: &mut S, span: Span, size: u32) -> Result<usize, HeapFault>
+fn claimed<S: Words>(store: &mut S, span: Span, size: u32) -> Result<usize, HeapFault>
     requires { IsSpan (S.memory store.old) span }
     ensures { IsSpan (S.memory store.new) span }
 {
@@ -64,7 +64,7 @@ fn claimed<S: Store>(store: &mut S, span: Span, size: u32) -> Result<usize, Heap
 }
 
 /// Releases a block, and leaves a heap.
-fn released<S: Store>(store: &mut S, span: Span, address: usize) -> Result<(), HeapFault>
+fn released<S: Words>(store: &mut S, span: Span, address: usize) -> Result<(), HeapFault>
     requires { IsSpan (S.memory store.old) span }
     ensures { IsSpan (S.memory store.new) span }
 {
@@ -72,7 +72,7 @@ fn released<S: Store>(store: &mut S, span: Span, address: usize) -> Result<(), H
 }
 
 /// Claims the blocks.
-fn fill<S: Store>(store: &mut S, span: Span) -> Result<(), HeapFault>
+fn fill<S: Words>(store: &mut S, span: Span) -> Result<(), HeapFault>
     requires { IsSpan (S.memory store.old) span }
     ensures { IsSpan (S.memory store.new) span }
 {
@@ -83,7 +83,7 @@ fn fill<S: Store>(store: &mut S, span: Span) -> Result<(), HeapFault>
 }
 
 /// Releases every second block.
-fn thin<S: Store>(store: &mut S, span: Span) -> Result<(), HeapFault>
+fn thin<S: Words>(store: &mut S, span: Span) -> Result<(), HeapFault>
     requires { IsSpan (S.memory store.old) span }
     ensures { IsSpan (S.memory store.new) span }
 {
@@ -94,7 +94,7 @@ fn thin<S: Store>(store: &mut S, span: Span) -> Result<(), HeapFault>
 }
 
 /// Claims and releases blocks of this size.
-fn go_round<S: Store>(store: &mut S, span: Span, size: u32) -> Result<(), HeapFault>
+fn go_round<S: Words>(store: &mut S, span: Span, size: u32) -> Result<(), HeapFault>
     requires { IsSpan (S.memory store.old) span }
     ensures { IsSpan (S.memory store.new) span }
 {

@@ -63,12 +63,16 @@ pub pages-with_bytes : (m : Memory) (id : ℕ) (bs : List ℕ) → (with_bytes m
 unfolding with_bytes
 pages-with_bytes m id bs = refl
 
-memory_is : (f g : ℕ → Option (List ℕ)) (free pages : ℕ) → f ≡ g → (let r : Memory = record { area = f; free = free; pages = pages } in r) ≡ record { area = g; free = free; pages = pages }
-memory_is f g free pages e = ap (λ (h : ℕ → Option (List ℕ)). let r : Memory = record { area = h; free = free; pages = pages } in r) e
+pub loan-with_bytes : (m : Memory) (id : ℕ) (bs : List ℕ) → (with_bytes m id bs).loan ≡ m.loan
+unfolding with_bytes
+loan-with_bytes m id bs = refl
+
+memory_is : (f g : ℕ → Option (List ℕ)) (free pages loan : ℕ) → f ≡ g → (let r : Memory = record { area = f; free = free; pages = pages; loan = loan } in r) ≡ record { area = g; free = free; pages = pages; loan = loan }
+memory_is f g free pages loan e = ap (λ (h : ℕ → Option (List ℕ)). let r : Memory = record { area = h; free = free; pages = pages; loan = loan } in r) e
 
 pub with_bytes-with_bytes : (m : Memory) (id : ℕ) (x y : List ℕ) → with_bytes (with_bytes m id x) id y ≡ with_bytes m id y
 unfolding with_bytes
-with_bytes-with_bytes m id x y = memory_is _ _ m.free m.pages (area_set-area_set m.area id (Some x) (Some y))
+with_bytes-with_bytes m id x y = memory_is _ _ m.free m.pages m.loan (area_set-area_set m.area id (Some x) (Some y))
 
 open_is : (o : Option (List ℕ)) → IsSome o → Some (unwrap_or o []) ≡ o
 open_is (Some x) h = refl
@@ -77,7 +81,7 @@ open_is None h = absurd cc
 -- an open area rewritten with its own bytes
 pub with_bytes-self : (m : Memory) (id : ℕ) → IsOpen m id → with_bytes m id (bytes m id) ≡ m
 unfolding with_bytes bytes
-with_bytes-self m id h = memory_is _ _ m.free m.pages (ap (λ o. area_set m.area id o) (open_is (m.area id) h) ∙ area_set-self m.area id)
+with_bytes-self m id h = memory_is _ _ m.free m.pages m.loan (ap (λ o. area_set m.area id o) (open_is (m.area id) h) ∙ area_set-self m.area id)
 
 -- an area closed has no bytes
 pub bytes-none : (m : Memory) (id : ℕ) → m.area id ≡ None → bytes m id ≡ []
@@ -95,6 +99,10 @@ free-fresh pages = refl
 pub pages-fresh : (pages : ℕ) → (fresh pages).pages ≡ pages
 unfolding fresh
 pages-fresh pages = refl
+
+pub loan-fresh : (pages : ℕ) → (fresh pages).loan ≡ 0
+unfolding fresh
+loan-fresh pages = refl
 
 pub bytes-fresh : (pages id : ℕ) → bytes (fresh pages) id ≡ []
 bytes-fresh pages id = bytes-none (fresh pages) id (area-fresh pages id)
@@ -127,6 +135,10 @@ pub pages-opened : (m : Memory) (id : ℕ) → (opened m id).pages ≡ m.pages
 unfolding opened
 pages-opened m id = refl
 
+pub loan-opened : (m : Memory) (id : ℕ) → (opened m id).loan ≡ m.loan
+unfolding opened
+loan-opened m id = refl
+
 -- an area closed
 pub area-closed_same : (m : Memory) (id : ℕ) → (closed m id).area id ≡ None
 unfolding closed
@@ -150,6 +162,10 @@ free-closed m id = refl
 pub pages-closed : (m : Memory) (id : ℕ) → (closed m id).pages ≡ m.pages
 unfolding closed
 pages-closed m id = refl
+
+pub loan-closed : (m : Memory) (id : ℕ) → (closed m id).loan ≡ m.loan
+unfolding closed
+loan-closed m id = refl
 
 -- an area grown
 pub area-grown_same : (m : Memory) (id n : ℕ) → (grown m id n).area id ≡ Some (bytes m id ++ replicate (4096 * n) 0)
@@ -182,6 +198,10 @@ pub pages-grown : (m : Memory) (id n : ℕ) → (grown m id n).pages ≡ m.pages
 unfolding grown
 pages-grown m id n = refl
 
+pub loan-grown : (m : Memory) (id n : ℕ) → (grown m id n).loan ≡ m.loan
+unfolding grown
+loan-grown m id n = refl
+
 -- an area shrunk
 pub area-shrunk_same : (m : Memory) (id n : ℕ) → (shrunk m id n).area id ≡ Some (take (length (bytes m id) - 4096 * n) (bytes m id))
 unfolding shrunk
@@ -212,6 +232,10 @@ free-shrunk m id n = refl
 pub pages-shrunk : (m : Memory) (id n : ℕ) → (shrunk m id n).pages ≡ m.pages
 unfolding shrunk
 pages-shrunk m id n = refl
+
+pub loan-shrunk : (m : Memory) (id n : ℕ) → (shrunk m id n).loan ≡ m.loan
+unfolding shrunk
+loan-shrunk m id n = refl
 
 -- counts over the areas below a number
 count_set-above : (area : ℕ → Option (List ℕ)) (id : ℕ) (o : Option (List ℕ)) (n : ℕ) → n ≤ id → open_below (area_set area id o) n ≡ open_below area n
@@ -345,10 +369,10 @@ open_below-none m id (suc n) e h = elim (cases_eq id n) [
 
 -- frames
 pub Edited-self : (m : Memory) (id lo hi : ℕ) → IsOpen m id → Edited m m id lo hi
-Edited-self m id lo hi o = record { opened = o; others = λ j ne. refl; free = refl; pages = refl; outside = SameOutside-self (bytes m id) lo hi }
+Edited-self m id lo hi o = record { opened = o; others = λ j ne. refl; free = refl; pages = refl; loan = refl; outside = SameOutside-self (bytes m id) lo hi }
 
 pub Edited-wider : (m n : Memory) (id lo hi lo' hi' : ℕ) → Edited m n id lo hi → lo' ≤ lo → hi ≤ hi' → Edited m n id lo' hi'
-Edited-wider m n id lo hi lo' hi' e l h = record { opened = e.opened; others = e.others; free = e.free; pages = e.pages; outside = SameOutside-wider (bytes m id) (bytes n id) lo hi lo' hi' e.outside l h }
+Edited-wider m n id lo hi lo' hi' e l h = record { opened = e.opened; others = e.others; free = e.free; pages = e.pages; loan = e.loan; outside = SameOutside-wider (bytes m id) (bytes n id) lo hi lo' hi' e.outside l h }
 
 pub Edited-both : (m n k : Memory) (id lo hi : ℕ) → Edited m n id lo hi → Edited n k id lo hi → Edited m k id lo hi
 Edited-both m n k id lo hi d e = record {
@@ -356,6 +380,7 @@ Edited-both m n k id lo hi d e = record {
   others = λ j ne. e.others j ne ∙ d.others j ne;
   free = e.free ∙ d.free;
   pages = e.pages ∙ d.pages;
+  loan = e.loan ∙ d.loan;
   outside = SameOutside-both (bytes m id) (bytes n id) (bytes k id) lo hi d.outside e.outside;
 }
 
@@ -368,17 +393,18 @@ Edited-with_bytes m id lo hi bs s =
       others = λ j ne. area-with_bytes m id bs j ne;
       free = free-with_bytes m id bs;
       pages = pages-with_bytes m id bs;
+      loan = loan-with_bytes m id bs;
       outside = rw e s;
     }
 
 pub OnlyArea-from_Edited : (m n : Memory) (id lo hi : ℕ) → Edited m n id lo hi → OnlyArea m n id
-OnlyArea-from_Edited m n id lo hi e = record { opened = e.opened; others = e.others; ledger = let len = e.outside.len in let free = e.free in omega arith; pages = e.pages }
+OnlyArea-from_Edited m n id lo hi e = record { opened = e.opened; others = e.others; ledger = let len = e.outside.len in let free = e.free in omega arith; pages = e.pages; loan = e.loan }
 
 pub OnlyArea-self : (m : Memory) (id : ℕ) → IsOpen m id → OnlyArea m m id
-OnlyArea-self m id o = record { opened = o; others = λ j ne. refl; ledger = refl; pages = refl }
+OnlyArea-self m id o = record { opened = o; others = λ j ne. refl; ledger = refl; pages = refl; loan = refl }
 
 pub OnlyArea-both : (m n k : Memory) (id : ℕ) → OnlyArea m n id → OnlyArea n k id → OnlyArea m k id
-OnlyArea-both m n k id d e = record { opened = e.opened; others = λ j ne. e.others j ne ∙ d.others j ne; ledger = e.ledger ∙ d.ledger; pages = e.pages ∙ d.pages }
+OnlyArea-both m n k id d e = record { opened = e.opened; others = λ j ne. e.others j ne ∙ d.others j ne; ledger = e.ledger ∙ d.ledger; pages = e.pages ∙ d.pages; loan = e.loan ∙ d.loan }
 
 pub OnlyArea-with_bytes : (m : Memory) (id : ℕ) (bs : List ℕ) → length bs ≡ length (bytes m id) → OnlyArea m (with_bytes m id bs) id
 OnlyArea-with_bytes m id bs h = record {
@@ -386,6 +412,7 @@ OnlyArea-with_bytes m id bs h = record {
   others = λ j ne. area-with_bytes m id bs j ne;
   ledger = let e = ap length (bytes-with_bytes m id bs) in let f = free-with_bytes m id bs in omega arith;
   pages = pages-with_bytes m id bs;
+  loan = loan-with_bytes m id bs;
 }
 
 pub OnlyArea-grown : (m : Memory) (id n : ℕ) → n ≤ m.free → OnlyArea m (grown m id n) id
@@ -394,6 +421,7 @@ OnlyArea-grown m id n h = record {
   others = λ j ne. area-grown m id n j ne;
   ledger = omega (arith, length-grown m id n, free-grown m id n);
   pages = pages-grown m id n;
+  loan = loan-grown m id n;
 }
 
 pub OnlyArea-shrunk : (m : Memory) (id n : ℕ) → 4096 * n ≤ length (bytes m id) → OnlyArea m (shrunk m id n) id
@@ -402,6 +430,7 @@ OnlyArea-shrunk m id n h = record {
   others = λ j ne. area-shrunk m id n j ne;
   ledger = omega (arith, length-shrunk m id n, free-shrunk m id n);
   pages = pages-shrunk m id n;
+  loan = loan-shrunk m id n;
 }
 
 -- the first bytes of a grown or shrunk area
@@ -412,6 +441,6 @@ pub SameIn-shrunk : (m : Memory) (id n lo hi : ℕ) → hi + 4096 * n ≤ length
 SameIn-shrunk m id n lo hi h = rw (bytes-shrunk m id n) (SameIn-take (length (bytes m id) - 4096 * n) (bytes m id) lo hi (omega arith))
 
 -- for `grind`
-pub ruleset memory_laws = (bytes-with_bytes, with_bytes-with_bytes, IsOpen-with_bytes, area-with_bytes, bytes-with_other, free-with_bytes, pages-with_bytes)
+pub ruleset memory_laws = (bytes-with_bytes, with_bytes-with_bytes, IsOpen-with_bytes, area-with_bytes, bytes-with_other, free-with_bytes, pages-with_bytes, loan-with_bytes)
 
-pub ruleset pool_laws = (open_apart, bytes-opened_other, bytes-closed_other, bytes-grown_other, bytes-shrunk_other, area-opened, bytes-opened, IsOpen-opened, free-opened, pages-opened, area-closed_same, area-closed, bytes-closed, free-closed, pages-closed, area-grown, length-grown, IsOpen-grown, free-grown, pages-grown, area-shrunk, length-shrunk, IsOpen-shrunk, free-shrunk, pages-shrunk)
+pub ruleset pool_laws = (open_apart, bytes-opened_other, bytes-closed_other, bytes-grown_other, bytes-shrunk_other, area-opened, bytes-opened, IsOpen-opened, free-opened, pages-opened, loan-opened, area-closed_same, area-closed, bytes-closed, free-closed, pages-closed, loan-closed, area-grown, length-grown, IsOpen-grown, free-grown, pages-grown, loan-grown, area-shrunk, length-shrunk, IsOpen-shrunk, free-shrunk, pages-shrunk, loan-shrunk)

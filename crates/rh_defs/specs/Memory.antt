@@ -2,11 +2,12 @@
 use Rattle.std.specs.Prelude.{◌≡◌, ◌≢◌, ℕ, zero, suc, ◌+◌, ◌-◌, ◌*◌, ◌/◌, ◌==◌, if◌then◌else◌, List, [], ◌++◌, length, take, replicate, Option, Some, None, IsSome, unwrap_or}
 use Rattle.rh_defs.specs.Bytes.{SameIn, SameOutside}
 
--- what each area contains, None where it is closed; the free pages; the number of pages given at start
+-- What each area contains, None where it is closed; the free pages; the number of pages given at start. The last number names the loan where the bytes are a caller's, and is 0 for memory of the store's own.
 pub record Memory : Type 0 where
   pub area : ℕ → Option (List ℕ)
   pub free : ℕ
   pub pages : ℕ
+  pub loan : ℕ
 
 -- an area is open
 abbrev pub IsOpen : Memory → ℕ → Type 0
@@ -22,19 +23,19 @@ area_set area id contents k = if k == id then contents else area k
 
 -- all pages free and no area open
 unfoldable pub fresh : ℕ → Memory
-fresh pages = record { area = λ k. None; free = pages; pages = pages }
+fresh pages = record { area = λ k. None; free = pages; pages = pages; loan = 0 }
 
 -- an area's bytes rewritten
 unfoldable pub with_bytes : Memory → ℕ → List ℕ → Memory
-with_bytes m id bs = record { area = area_set m.area id (Some bs); free = m.free; pages = m.pages }
+with_bytes m id bs = record { area = area_set m.area id (Some bs); free = m.free; pages = m.pages; loan = m.loan }
 
 -- an area opened, with no bytes
 unfoldable pub opened : Memory → ℕ → Memory
-opened m id = record { area = area_set m.area id (Some []); free = m.free; pages = m.pages }
+opened m id = record { area = area_set m.area id (Some []); free = m.free; pages = m.pages; loan = m.loan }
 
 -- an area closed, its pages free
 unfoldable pub closed : Memory → ℕ → Memory
-closed m id = record { area = area_set m.area id None; free = m.free + length (bytes m id) / 4096; pages = m.pages }
+closed m id = record { area = area_set m.area id None; free = m.free + length (bytes m id) / 4096; pages = m.pages; loan = m.loan }
 
 -- an area grown by free pages, which come as zeros at its end
 unfoldable pub grown : Memory → ℕ → ℕ → Memory
@@ -42,6 +43,7 @@ grown m id n = record {
   area = area_set m.area id (Some (bytes m id ++ replicate (4096 * n) 0));
   free = m.free - n;
   pages = m.pages;
+  loan = m.loan;
 }
 
 -- an area's last pages cut off and free
@@ -50,6 +52,7 @@ shrunk m id n = record {
   area = area_set m.area id (Some (take (length (bytes m id) - 4096 * n) (bytes m id)));
   free = m.free + n;
   pages = m.pages;
+  loan = m.loan;
 }
 
 -- 1 for an open area, 0 for a closed one
@@ -81,6 +84,7 @@ pub record Edited (m n : Memory) (id lo hi : ℕ) : Type 0 where
   pub others : (j : ℕ) → j ≢ id → n.area j ≡ m.area j
   pub free : n.free ≡ m.free
   pub pages : n.pages ≡ m.pages
+  pub loan : n.loan ≡ m.loan
   pub outside : SameOutside (bytes m id) (bytes n id) lo hi
 
 -- one area changes alone: what it gains in pages is no more free
@@ -89,6 +93,7 @@ pub record OnlyArea (m n : Memory) (id : ℕ) : Type 0 where
   pub others : (j : ℕ) → j ≢ id → n.area j ≡ m.area j
   pub ledger : 4096 * n.free + length (bytes n id) ≡ 4096 * m.free + length (bytes m id)
   pub pages : n.pages ≡ m.pages
+  pub loan : n.loan ≡ m.loan
 
 -- one area gets another number of pages and keeps its first bytes
 pub record Resized (m n : Memory) (id keep count : ℕ) : Type 0 where

@@ -15,6 +15,7 @@ mod name;
 mod pathname;
 mod refusal;
 mod reply;
+pub mod sizes;
 mod transfer;
 
 pub use bytes::Bytes;

@@ -9,10 +9,10 @@ ghost use Rattle.rh_heap.specs.Ways.{WayOf};
 use crate::finding::find;
 use crate::span::{Span, Spot, Way};
 use crate::words::{follow, read};
-use rh_store::Store;
+use rh_store::Words;
 
 /// How a block gets a segment of `size` bytes: the first of the ways, in their order, that has room for it.
-pub fn way_to<S: Store>(store: &S, span: Span, spot: Spot, size: usize) -> Way
+pub fn way_to<S: Words>(store: &S, span: Span, spot: Spot, size: usize) -> Way
     requires span { IsSpan (S.memory store.now) span }
     requires found { FoundBlock span.at (heap_in (S.memory store.now) span) (spot.place + 4) spot }
     requires small { size < 2 ^ 40 }

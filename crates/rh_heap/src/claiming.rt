@@ -11,7 +11,7 @@ use crate::settling::settle;
 use crate::span::{Cut, Gap, Span};
 use crate::words::{clear, follow, read, write};
 use rh_defs::HeapFault;
-use rh_store::Store;
+use rh_store::Words;
 
 /// The size of a segment for a block of `n` bytes: with a word for its size, a multiple of 8.
 pub fn segment_size(n: usize) -> usize
@@ -24,7 +24,7 @@ pub fn segment_size(n: usize) -> usize
 }
 
 /// Writes a used segment of `size` bytes with a block of zeros.
-fn put_zeros<S: Store>(store: &mut S, span: Span, place: usize, size: usize)
+fn put_zeros<S: Words>(store: &mut S, span: Span, place: usize, size: usize)
     requires opened { IsOpen (S.memory store.old) span.area.0 }
     requires within { span.at + place + size ≤ length (bytes_in (S.memory store.old) span) }
     requires least { 8 ≤ size }
@@ -37,7 +37,7 @@ fn put_zeros<S: Store>(store: &mut S, span: Span, place: usize, size: usize)
 }
 
 /// Puts a block of zeros into the lower bytes of a hole.
-fn fill<S: Store>(store: &mut S, span: Span, gap: Gap, size: usize)
+fn fill<S: Words>(store: &mut S, span: Span, gap: Gap, size: usize)
     requires span { IsSpan (S.memory store.old) span }
     requires gap { FoundHole span.at (heap_in (S.memory store.old) span) size gap }
     requires least { 8 ≤ size }
@@ -60,7 +60,7 @@ fn fill<S: Store>(store: &mut S, span: Span, gap: Gap, size: usize)
 }
 
 /// Puts a block of zeros above all segments.
-fn append<S: Store>(store: &mut S, span: Span, top: usize, size: usize)
+fn append<S: Words>(store: &mut S, span: Span, top: usize, size: usize)
     requires span { IsSpan (S.memory store.old) span }
     requires none { hole_for size (heap_in (S.memory store.old) span).segments ≡ None }
     requires top { top ≡ base (heap_in (S.memory store.old) span) }
@@ -75,7 +75,7 @@ fn append<S: Store>(store: &mut S, span: Span, top: usize, size: usize)
 }
 
 /// Puts a block of zeros into a segment of `size` bytes, in the first hole with room or above all segments.
-pub fn take<S: Store>(store: &mut S, span: Span, size: usize) -> Option<usize>
+pub fn take<S: Words>(store: &mut S, span: Span, size: usize) -> Option<usize>
     requires span { IsSpan (S.memory store.old) span }
     requires least { 8 ≤ size }
     requires multiple { size % 8 ≡ 0 }
@@ -103,7 +103,7 @@ pub fn take<S: Store>(store: &mut S, span: Span, size: usize) -> Option<usize>
 }
 
 /// By how many bytes the heap is too short for a new segment of `size` bytes.
-pub fn shortage<S: Store>(store: &S, span: Span, size: usize) -> usize
+pub fn shortage<S: Words>(store: &S, span: Span, size: usize) -> usize
     requires span { IsSpan (S.memory store.now) span }
     requires small { size < 2 ^ 40 }
     ensures { result ≡ shortage_in size (heap_in (S.memory store.now) span) (hole_for size (heap_in (S.memory store.now) span).segments) }
@@ -116,7 +116,7 @@ pub fn shortage<S: Store>(store: &S, span: Span, size: usize) -> usize
 
 /// Claims a block of `n` bytes at least, all 0, and answers its address: in the first hole with room, or above all
 /// segments. Refused: `BadSize` for 0 bytes, `NoRoom` where the heap is too short. (OS_Heap 2.)
-pub fn claim<S: Store>(store: &mut S, span: Span, n: u32) -> Result<usize, HeapFault>
+pub fn claim<S: Words>(store: &mut S, span: Span, n: u32) -> Result<usize, HeapFault>
     requires { IsSpan (S.memory store.old) span }
     ensures answer { result ≡ address_of (claim n (heap_in (S.memory store.old) span)) }
     ensures spells { SpellsIn (S.memory store.new) span (heap_after (heap_in (S.memory store.old) span) (claim n (heap_in (S.memory store.old) span))) }
@@ -134,7 +134,7 @@ pub fn claim<S: Store>(store: &mut S, span: Span, n: u32) -> Result<usize, HeapF
 
 /// By how many bytes the heap is too short for a claim of `n` bytes, 0 where it has room. Refused (`BadSize`) for 0
 /// bytes.
-pub fn need<S: Store>(store: &S, span: Span, n: u32) -> Result<usize, HeapFault>
+pub fn need<S: Words>(store: &S, span: Span, n: u32) -> Result<usize, HeapFault>
     requires { IsSpan (S.memory store.now) span }
     ensures { result ≡ claim_need n (heap_in (S.memory store.now) span) }
 {

@@ -6,11 +6,11 @@ ghost use Rattle.rh_heap.specs.Spans.{IsSpan, heap_in};
 
 use crate::span::Span;
 use crate::words::{follow, read};
-use rh_store::Store;
+use rh_store::Words;
 
 /// The bytes of the largest block that a claim would be given, and the bytes of all holes and the top.
 /// (OS_Heap 1.)
-pub fn describe<S: Store>(store: &S, span: Span) -> (usize, usize)
+pub fn describe<S: Words>(store: &S, span: Span) -> (usize, usize)
     requires { IsSpan (S.memory store.now) span }
     ensures largest { result.0 ≡ largest (heap_in (S.memory store.now) span) }
     ensures total { result.1 ≡ free_bytes (heap_in (S.memory store.now) span) }

@@ -9,7 +9,7 @@ use crate::image::{FIRST_PLACE, SPECIAL};
 use crate::span::Span;
 use crate::words::{read, write};
 use rh_defs::HeapFault;
-use rh_store::Store;
+use rh_store::Words;
 
 /// A number moved by a signed amount, 0 where that would be below 0.
 pub fn moved(n: usize, delta: i32) -> usize
@@ -26,7 +26,7 @@ pub fn moved(n: usize, delta: i32) -> usize
 }
 
 /// Makes the first `end` bytes of a span an empty heap. `end` is a multiple of 8, and at least 16. (OS_Heap 0.)
-pub fn init<S: Store>(store: &mut S, span: Span, end: usize)
+pub fn init<S: Words>(store: &mut S, span: Span, end: usize)
     requires opened { IsOpen (S.memory store.old) span.area.0 }
     requires within { span.at + end ≤ length (bytes_in (S.memory store.old) span) }
     requires least { 16 ≤ end }
@@ -42,7 +42,7 @@ pub fn init<S: Store>(store: &mut S, span: Span, end: usize)
 
 /// Moves a heap's end by `delta` bytes, a multiple of 8. The bytes up to the new end are in the area. Refused
 /// (`ExcessiveShrink`) exactly where the end would be below the last block. (OS_Heap 5.)
-pub fn extend_heap<S: Store>(store: &mut S, span: Span, delta: i32) -> Result<(), HeapFault>
+pub fn extend_heap<S: Words>(store: &mut S, span: Span, delta: i32) -> Result<(), HeapFault>
     requires span { IsSpan (S.memory store.old) span }
     requires multiple { moved (heap_in (S.memory store.old) span).end delta % 8 ≡ 0 }
     requires within { span.at + moved (heap_in (S.memory store.old) span).end delta ≤ length (bytes_in (S.memory store.old) span) }

@@ -7,10 +7,10 @@ ghost use Rattle.rh_heap.specs.Gaps.{FoundHole};
 
 use crate::span::{Gap, Span};
 use crate::words::{follow, read};
-use rh_store::Store;
+use rh_store::Words;
 
 /// The first hole with room for a segment of `size` bytes.
-pub fn find<S: Store>(store: &S, span: Span, size: usize) -> Option<Gap>
+pub fn find<S: Words>(store: &S, span: Span, size: usize) -> Option<Gap>
     requires { IsSpan (S.memory store.now) span }
     ensures { MatchOption result (hole_for size (heap_in (S.memory store.now) span).segments ≡ None)
         (λ gap. FoundHole span.at (heap_in (S.memory store.now) span) size gap) }

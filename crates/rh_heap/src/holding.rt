@@ -7,7 +7,7 @@ ghost use Rattle.rh_heap.specs.Spans.{IsSpan, heap_in};
 
 use crate::span::Span;
 use crate::words::{follow, read};
-use rh_store::Store;
+use rh_store::Words;
 
 /// Whether the `n` bytes at `x` lie whole in the `m` bytes at `a`.
 fn is_inside(x: usize, n: usize, a: usize, m: usize) -> bool
@@ -18,7 +18,7 @@ fn is_inside(x: usize, n: usize, a: usize, m: usize) -> bool
 
 /// Whether the `n` bytes at an address lie whole in one used block, also where `n` is 0. Any address and any `n` may
 /// be asked for.
-pub fn holds<S: Store>(store: &S, span: Span, address: usize, n: usize) -> bool
+pub fn holds<S: Words>(store: &S, span: Span, address: usize, n: usize) -> bool
     requires { IsSpan (S.memory store.now) span }
     ensures { result ≡ is_some (block_around address n (heap_in (S.memory store.now) span)) }
 {

@@ -9,11 +9,11 @@ use crate::span::{Cut, Span};
 use crate::walking::locate;
 use crate::words::follow;
 use rh_defs::HeapFault;
-use rh_store::Store;
+use rh_store::Words;
 
 /// Releases the block at an address: its segment becomes a hole, which joins those beside it, and at the base a part
 /// of the top. Refused (`NotABlock`) exactly where no block begins there. (OS_Heap 3.)
-pub fn release<S: Store>(store: &mut S, span: Span, address: usize) -> Result<(), HeapFault>
+pub fn release<S: Words>(store: &mut S, span: Span, address: usize) -> Result<(), HeapFault>
     requires { IsSpan (S.memory store.old) span }
     ensures spells { SpellsIn (S.memory store.new) span (release address (heap_in (S.memory store.old) span)) }
     ensures only { OnlySpan (S.memory store.old) (S.memory store.new) span }

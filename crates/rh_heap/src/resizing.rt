@@ -16,10 +16,10 @@ use crate::span::{Cut, Span, Spot, Way};
 use crate::walking::locate;
 use crate::words::{clear, follow, move_bytes, read, write};
 use rh_defs::HeapFault;
-use rh_store::Store;
+use rh_store::Words;
 
 /// Gives the segment at `spot` the size of `size` bytes, with zeros behind the old bytes.
-fn lengthen<S: Store>(store: &mut S, span: Span, spot: Spot, size: usize)
+fn lengthen<S: Words>(store: &mut S, span: Span, spot: Spot, size: usize)
     requires opened { IsOpen (S.memory store.old) span.area.0 }
     requires within { span.at + spot.place + size ≤ length (bytes_in (S.memory store.old) span) }
     requires least { 8 ≤ spot.size }
@@ -34,7 +34,7 @@ fn lengthen<S: Store>(store: &mut S, span: Span, spot: Spot, size: usize)
 }
 
 /// Makes the upper bytes of a block a hole.
-fn shrink<S: Store>(store: &mut S, span: Span, spot: Spot, size: usize)
+fn shrink<S: Words>(store: &mut S, span: Span, spot: Spot, size: usize)
     requires span { IsSpan (S.memory store.old) span }
     requires found { FoundBlock span.at (heap_in (S.memory store.old) span) (spot.place + 4) spot }
     requires least { 8 ≤ size }
@@ -58,7 +58,7 @@ fn shrink<S: Store>(store: &mut S, span: Span, spot: Spot, size: usize)
 }
 
 /// Lets a block grow into the hole of `room` bytes that follows.
-fn widen<S: Store>(store: &mut S, span: Span, spot: Spot, size: usize, room: usize)
+fn widen<S: Words>(store: &mut S, span: Span, spot: Spot, size: usize, room: usize)
     requires span { IsSpan (S.memory store.old) span }
     requires found { FoundBlock span.at (heap_in (S.memory store.old) span) (spot.place + 4) spot }
     requires multiple { size % 8 ≡ 0 }
@@ -82,7 +82,7 @@ fn widen<S: Store>(store: &mut S, span: Span, spot: Spot, size: usize, room: usi
 }
 
 /// Lets the last block grow.
-fn raise<S: Store>(store: &mut S, span: Span, spot: Spot, size: usize)
+fn raise<S: Words>(store: &mut S, span: Span, spot: Spot, size: usize)
     requires span { IsSpan (S.memory store.old) span }
     requires found { FoundBlock span.at (heap_in (S.memory store.old) span) (spot.place + 4) spot }
     requires multiple { size % 8 ≡ 0 }
@@ -96,7 +96,7 @@ fn raise<S: Store>(store: &mut S, span: Span, spot: Spot, size: usize)
 }
 
 /// Moves a block to a segment of `size` bytes elsewhere, with zeros behind its bytes, and releases the old one.
-fn move_block<S: Store>(store: &mut S, span: Span, spot: Spot, size: usize) -> Option<usize>
+fn move_block<S: Words>(store: &mut S, span: Span, spot: Spot, size: usize) -> Option<usize>
     requires span { IsSpan (S.memory store.old) span }
     requires found { FoundBlock span.at (heap_in (S.memory store.old) span) (spot.place + 4) spot }
     requires multiple { size % 8 ≡ 0 }
@@ -119,7 +119,7 @@ fn move_block<S: Store>(store: &mut S, span: Span, spot: Spot, size: usize) -> O
 }
 
 /// Gives a block a segment of `size` bytes, and answers its address.
-fn change<S: Store>(store: &mut S, span: Span, spot: Spot, size: usize) -> Result<usize, HeapFault>
+fn change<S: Words>(store: &mut S, span: Span, spot: Spot, size: usize) -> Result<usize, HeapFault>
     requires span { IsSpan (S.memory store.old) span }
     requires found { FoundBlock span.at (heap_in (S.memory store.old) span) (spot.place + 4) spot }
     requires least { 8 ≤ size }
@@ -155,7 +155,7 @@ fn change<S: Store>(store: &mut S, span: Span, spot: Spot, size: usize) -> Resul
 }
 
 /// By how many bytes the heap is too short for a block to get a segment of `size` bytes.
-fn short_by<S: Store>(store: &S, span: Span, spot: Spot, size: usize) -> usize
+fn short_by<S: Words>(store: &S, span: Span, spot: Spot, size: usize) -> usize
     requires span { IsSpan (S.memory store.now) span }
     requires found { FoundBlock span.at (heap_in (S.memory store.now) span) (spot.place + 4) spot }
     requires small { size < 2 ^ 40 }
@@ -173,7 +173,7 @@ fn short_by<S: Store>(store: &S, span: Span, spot: Spot, size: usize) -> usize
 /// Gives the block at an address `delta` bytes more, or fewer where `delta` is negative, and answers its address. Bytes
 /// past the old ones are 0. Refused: `NotABlock`, `BadSize` where fewer than 1 byte would be left, `NoRoom` where the
 /// heap is too short. (OS_Heap 4.)
-pub fn resize<S: Store>(
+pub fn resize<S: Words>(
     store: &mut S,
     span: Span,
     address: usize,
@@ -198,7 +198,7 @@ pub fn resize<S: Store>(
 }
 
 /// By how many bytes the heap is too short for a resize, 0 where it has room. Refused: `NotABlock`, `BadSize`.
-pub fn resize_need<S: Store>(
+pub fn resize_need<S: Words>(
     store: &S,
     span: Span,
     address: usize,

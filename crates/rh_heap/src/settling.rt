@@ -5,10 +5,10 @@ ghost use Rattle.rh_heap.specs.Spans.{bytes_in, IsCut, Settles, PutsHole};
 
 use crate::span::{Cut, Span};
 use crate::words::{follow, read, write, write_link};
-use rh_store::Store;
+use rh_store::Words;
 
 /// Makes a cut a hole. The segment that follows is used.
-fn put_hole<S: Store>(store: &mut S, span: Span, cut: Cut)
+fn put_hole<S: Words>(store: &mut S, span: Span, cut: Cut)
     requires opened { IsOpen (S.memory store.old) span.area.0 }
     requires cut { IsCut (bytes_in (S.memory store.old) span) span.at cut }
     requires some { cut.low + 8 ≤ cut.upper }
@@ -21,7 +21,7 @@ fn put_hole<S: Store>(store: &mut S, span: Span, cut: Cut)
 }
 
 /// Makes a cut a hole, which joins one that follows. At the base it becomes a part of the top.
-pub fn settle<S: Store>(store: &mut S, span: Span, cut: Cut)
+pub fn settle<S: Words>(store: &mut S, span: Span, cut: Cut)
     requires opened { IsOpen (S.memory store.old) span.area.0 }
     requires cut { IsCut (bytes_in (S.memory store.old) span) span.at cut }
     ensures settles { Settles (bytes_in (S.memory store.old) span) (bytes_in (S.memory store.new) span) span.at cut }

@@ -10,10 +10,10 @@ use crate::listing::Segment;
 use crate::span::Span;
 use crate::walking::{find_segment, locate};
 use rh_defs::HeapFault;
-use rh_store::Store;
+use rh_store::Words;
 
 /// The bytes of the block at an address. Refused (`NotABlock`) exactly where no block begins there. (OS_Heap 6.)
-pub fn block_size<S: Store>(store: &S, span: Span, address: usize) -> Result<usize, HeapFault>
+pub fn block_size<S: Words>(store: &S, span: Span, address: usize) -> Result<usize, HeapFault>
     requires { IsSpan (S.memory store.now) span }
     ensures { result ≡ ok_or (block_size address (heap_in (S.memory store.now) span)) HeapFault.NotABlock }
 {
@@ -24,7 +24,7 @@ pub fn block_size<S: Store>(store: &S, span: Span, address: usize) -> Result<usi
 }
 
 /// The segment that begins at a place.
-pub fn segment<S: Store>(store: &S, span: Span, place: usize) -> Option<Segment>
+pub fn segment<S: Words>(store: &S, span: Span, place: usize) -> Option<Segment>
     requires { IsSpan (S.memory store.now) span }
     ensures { result ≡ option_map piece (segment_at place (heap_in (S.memory store.now) span)) }
 {

@@ -6,7 +6,7 @@ ghost use Rattle.rh_heap.specs.Spans.{IsSpan, bytes_in};
 
 use super::*;
 use rh_defs::HeapFault;
-use rh_store::{PlainStore, Store};
+use rh_store::{Pages, PlainStore, Store, Words};
 use std::test::Fail;
 
 /// A heap of 56 bytes with two blocks and a hole between them.
@@ -25,7 +25,7 @@ const SUMS: Summary = Summary {
 };
 
 /// Claims, where the span keeps its heap and its area its length.
-fn claimed<S: Store>(store: &mut S, span: Span, n: u32) -> Result<usize, HeapFault>
+fn claimed<S: Words>(store: &mut S, span: Span, n: u32) -> Result<usize, HeapFault>
     requires { IsSpan (S.memory store.old) span }
     ensures span { IsSpan (S.memory store.new) span }
     ensures len { length (bytes_in (S.memory store.new) span) ≡ length (bytes_in (S.memory store.old) span) }
@@ -33,7 +33,7 @@ fn claimed<S: Store>(store: &mut S, span: Span, n: u32) -> Result<usize, HeapFau
     claim(store, span, n)
 }
 
-fn released<S: Store>(store: &mut S, span: Span, address: usize) -> Result<(), HeapFault>
+fn released<S: Words>(store: &mut S, span: Span, address: usize) -> Result<(), HeapFault>
     requires { IsSpan (S.memory store.old) span }
     ensures span { IsSpan (S.memory store.new) span }
     ensures len { length (bytes_in (S.memory store.new) span) ≡ length (bytes_in (S.memory store.old) span) }
@@ -41,7 +41,7 @@ fn released<S: Store>(store: &mut S, span: Span, address: usize) -> Result<(), H
     release(store, span, address)
 }
 
-fn resized<S: Store>(
+fn resized<S: Words>(
     store: &mut S,
     span: Span,
     address: usize,
@@ -55,7 +55,7 @@ fn resized<S: Store>(
 }
 
 /// Takes 8 bytes off the heap's end.
-fn shortened<S: Store>(store: &mut S, span: Span) -> Result<(), HeapFault>
+fn shortened<S: Words>(store: &mut S, span: Span) -> Result<(), HeapFault>
     requires { IsSpan (S.memory store.old) span }
     ensures span { IsSpan (S.memory store.new) span }
     ensures len { length (bytes_in (S.memory store.new) span) ≡ length (bytes_in (S.memory store.old) span) }
@@ -64,7 +64,7 @@ fn shortened<S: Store>(store: &mut S, span: Span) -> Result<(), HeapFault>
 }
 
 /// An empty heap of `end` bytes in the midst of an area.
-fn made<S: Store>(store: &mut S, span: Span, end: usize)
+fn made<S: Words>(store: &mut S, span: Span, end: usize)
     requires opened { IsOpen (S.memory store.old) span.area.0 }
     requires within { span.at + end ≤ length (bytes_in (S.memory store.old) span) }
     requires least { 16 ≤ end }

@@ -7,10 +7,10 @@ ghost use Rattle.rh_heap.specs.Spots.{Found, FoundBlock, Walking};
 
 use crate::span::{Span, Spot};
 use crate::words::{follow, read};
-use rh_store::Store;
+use rh_store::Words;
 
 /// The segment at the place to which a walk has come.
-fn spot_at<S: Store>(
+fn spot_at<S: Words>(
     store: &S,
     span: Span,
     place: usize,
@@ -47,7 +47,7 @@ fn spot_at<S: Store>(
 }
 
 /// The segment that begins at a place.
-pub fn find_segment<S: Store>(store: &S, span: Span, target: usize) -> Option<Spot>
+pub fn find_segment<S: Words>(store: &S, span: Span, target: usize) -> Option<Spot>
     requires { IsSpan (S.memory store.now) span }
     ensures { MatchOption result (segment_at target (heap_in (S.memory store.now) span) ≡ None)
         (λ spot. Found span.at (heap_in (S.memory store.now) span) target spot) }
@@ -81,7 +81,7 @@ pub fn find_segment<S: Store>(store: &S, span: Span, target: usize) -> Option<Sp
 }
 
 /// The segment of the block at an address.
-pub fn locate<S: Store>(store: &S, span: Span, address: usize) -> Option<Spot>
+pub fn locate<S: Words>(store: &S, span: Span, address: usize) -> Option<Spot>
     requires { IsSpan (S.memory store.now) span }
     ensures { MatchOption result (block_at address (heap_in (S.memory store.now) span) ≡ None)
         (λ spot. FoundBlock span.at (heap_in (S.memory store.now) span) address spot) }

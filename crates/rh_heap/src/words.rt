@@ -6,10 +6,10 @@ ghost use Rattle.rh_heap.specs.Spans.{bytes_in};
 ghost use Rattle.rh_defs.specs.HeapParts.{LinksTo};
 
 use crate::span::Span;
-use rh_store::Store;
+use rh_store::Words;
 
 /// The word at a place.
-pub fn read<S: Store>(store: &S, span: Span, place: usize) -> usize
+pub fn read<S: Words>(store: &S, span: Span, place: usize) -> usize
     requires opened { IsOpen (S.memory store.now) span.area.0 }
     requires within { span.at + place + 4 ≤ length (bytes_in (S.memory store.now) span) }
     ensures value { result ≡ word (bytes_in (S.memory store.now) span) (span.at + place) }
@@ -20,7 +20,7 @@ pub fn read<S: Store>(store: &S, span: Span, place: usize) -> usize
 
 /// Writes a word at a place.
 #[tactic(auto, using(rh_defs::proofs::BytesLaws::word_laws, rh_defs::proofs::MemoryLaws::memory_laws))]
-pub fn write<S: Store>(store: &mut S, span: Span, place: usize, w: usize)
+pub fn write<S: Words>(store: &mut S, span: Span, place: usize, w: usize)
     requires opened { IsOpen (S.memory store.old) span.area.0 }
     requires within { span.at + place + 4 ≤ length (bytes_in (S.memory store.old) span) }
     requires fits { w < 2 ^ 32 }
@@ -32,7 +32,7 @@ pub fn write<S: Store>(store: &mut S, span: Span, place: usize, w: usize)
 
 /// Writes `n` zeros from a place on.
 #[tactic(auto, using(rh_defs::proofs::BytesLaws::word_laws, rh_defs::proofs::MemoryLaws::memory_laws))]
-pub fn clear<S: Store>(store: &mut S, span: Span, place: usize, n: usize)
+pub fn clear<S: Words>(store: &mut S, span: Span, place: usize, n: usize)
     requires opened { IsOpen (S.memory store.old) span.area.0 }
     requires within { span.at + place + n ≤ length (bytes_in (S.memory store.old) span) }
     ensures zeros { part (bytes_in (S.memory store.new) span) (span.at + place) n ≡ replicate n 0 }
@@ -42,7 +42,7 @@ pub fn clear<S: Store>(store: &mut S, span: Span, place: usize, n: usize)
 }
 
 /// The place of the hole to which the link at `from` leads, or 0 for none.
-pub fn follow<S: Store>(store: &S, span: Span, from: usize) -> usize
+pub fn follow<S: Words>(store: &S, span: Span, from: usize) -> usize
     requires opened { IsOpen (S.memory store.now) span.area.0 }
     requires within { span.at + from + 4 ≤ length (bytes_in (S.memory store.now) span) }
     ensures { LinksTo (bytes_in (S.memory store.now) span) span.at (span.at + from) result }
@@ -52,7 +52,7 @@ pub fn follow<S: Store>(store: &S, span: Span, from: usize) -> usize
 }
 
 /// Makes the link at `from` lead to a hole further on, or nowhere where `to` is 0.
-pub fn write_link<S: Store>(store: &mut S, span: Span, from: usize, to: usize)
+pub fn write_link<S: Words>(store: &mut S, span: Span, from: usize, to: usize)
     requires opened { IsOpen (S.memory store.old) span.area.0 }
     requires within { span.at + from + 4 ≤ length (bytes_in (S.memory store.old) span) }
     requires ahead { to ≢ 0 → from < to }
@@ -64,7 +64,7 @@ pub fn write_link<S: Store>(store: &mut S, span: Span, from: usize, to: usize)
 }
 
 /// Copies `n` bytes of a heap from one place to another.
-pub fn move_bytes<S: Store>(store: &mut S, span: Span, from: usize, to: usize, n: usize)
+pub fn move_bytes<S: Words>(store: &mut S, span: Span, from: usize, to: usize, n: usize)
     requires opened { IsOpen (S.memory store.old) span.area.0 }
     requires source { span.at + from + n ≤ length (bytes_in (S.memory store.old) span) }
     requires target { span.at + to + n ≤ length (bytes_in (S.memory store.old) span) }

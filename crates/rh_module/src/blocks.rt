@@ -9,7 +9,7 @@ use crate::length::pages_for;
 use crate::module::Module;
 use rh_defs::{HeapFault, Refusal};
 use rh_heap::{claim, need, release, resize, resize_need};
-use rh_store::Store;
+use rh_store::Pages;
 
 /// Why a block cannot have another size, of the heap's two reasons: none begins there (`NotABlock`), or fewer than 1
 /// byte would be left of it (`BadSize`).
@@ -26,7 +26,7 @@ fn resize_refusal(fault: HeapFault) -> Refusal
 impl Module {
     /// Claims a block of `n` bytes at least, all 0, and answers its address. The area grows where the heap is too short.
     /// Refused, and nothing changed: `BadSize` for 0 bytes, `NoRoom` where too few pages are free. (OS_Module 6.)
-    pub fn claim<S: Store>(self, store: &mut S, n: u32) -> Result<usize, Refusal>
+    pub fn claim<S: Pages>(self, store: &mut S, n: u32) -> Result<usize, Refusal>
         requires { IsModule (S.memory store.old) self }
         ensures answer { result ≡ answer_of (module_claim (S.memory store.old).free n (heap_in (S.memory store.old) self)) }
         ensures spells { SpellsIn (S.memory store.new) self (left_of (heap_in (S.memory store.old) self) (module_claim (S.memory store.old).free n (heap_in (S.memory store.old) self))) }
@@ -44,7 +44,7 @@ impl Module {
 
     /// Frees the block at an address. Refused (`NotABlock`), and nothing changed, exactly where no block begins there.
     /// (OS_Module 7.)
-    pub fn free<S: Store>(self, store: &mut S, address: usize) -> Result<(), Refusal>
+    pub fn free<S: Pages>(self, store: &mut S, address: usize) -> Result<(), Refusal>
         requires { IsModule (S.memory store.old) self }
         ensures answer { result ≡ outcome_of (module_free address (heap_in (S.memory store.old) self)) }
         ensures spells { SpellsIn (S.memory store.new) self (result_or (heap_in (S.memory store.old) self) (module_free address (heap_in (S.memory store.old) self))) }
@@ -60,7 +60,7 @@ impl Module {
     /// Gives the block at an address `delta` bytes more, or fewer where `delta` is negative, and answers its address,
     /// which may be another. Bytes past the old ones are 0, and the area grows where the heap is too short. Refused, and
     /// nothing changed: `NotABlock`, `BadSize` where fewer than 1 byte would be left, `NoRoom`. (OS_Module 13.)
-    pub fn resize<S: Store>(
+    pub fn resize<S: Pages>(
         self,
         store: &mut S,
         address: usize,
@@ -83,7 +83,7 @@ impl Module {
     }
 
     /// The pages that a claim of `n` bytes would take. Refused (`BadSize`) for 0 bytes.
-    pub fn need_pages<S: Store>(self, store: &S, n: u32) -> Result<usize, Refusal>
+    pub fn need_pages<S: Pages>(self, store: &S, n: u32) -> Result<usize, Refusal>
         requires { IsModule (S.memory store.now) self }
         ensures { result ≡ module_need_pages n (heap_in (S.memory store.now) self) }
     {

@@ -11,7 +11,7 @@ ghost use Rattle.rh_module.specs.Lengths.{longer, shorter};
 use crate::module::Module;
 use rh_defs::Refusal;
 use rh_heap::{extend_heap, init};
-use rh_store::{AreaId, PAGE, Store};
+use rh_store::{AreaId, PAGE, Pages};
 
 /// How many pages hold this many bytes.
 pub fn pages_for(bytes: usize) -> usize
@@ -22,7 +22,7 @@ pub fn pages_for(bytes: usize) -> usize
 
 impl Module {
     /// Makes an area of at least one page an empty heap as long as the area.
-    pub fn start<S: Store>(store: &mut S, area: AreaId) -> Module
+    pub fn start<S: Pages>(store: &mut S, area: AreaId) -> Module
         requires opened { IsOpen (S.memory store.old) area.0 }
         requires page { 4096 ≤ length (bytes (S.memory store.old) area.0) }
         ensures area { result.area ≡ area }
@@ -38,7 +38,7 @@ impl Module {
     /// Makes the area longer or shorter by an amount of bytes whose magnitude is rounded up to whole pages, and answers
     /// the bytes moved. Refused, and nothing changed: `ExcessiveShrink` where the heap's base would lie above the end,
     /// `NoRoom` where too few pages are free. (OS_ChangeDynamicArea.)
-    pub fn change<S: Store>(self, store: &mut S, delta: i32) -> Result<usize, Refusal>
+    pub fn change<S: Pages>(self, store: &mut S, delta: i32) -> Result<usize, Refusal>
         requires { IsModule (S.memory store.old) self }
         ensures answer { result ≡ answer_of (module_change (S.memory store.old).free delta (heap_in (S.memory store.old) self)) }
         ensures spells { SpellsIn (S.memory store.new) self (left_of (heap_in (S.memory store.old) self) (module_change (S.memory store.old).free delta (heap_in (S.memory store.old) self))) }
@@ -56,7 +56,7 @@ impl Module {
 
     /// Makes the area and its heap longer by this many pages. Refused (`NoRoom`), and nothing changed, exactly where
     /// fewer are free.
-    pub(crate) fn lengthen<S: Store>(self, store: &mut S, pages: usize) -> Result<(), Refusal>
+    pub(crate) fn lengthen<S: Pages>(self, store: &mut S, pages: usize) -> Result<(), Refusal>
         requires { IsModule (S.memory store.old) self }
         ensures spells { OnOk result (SpellsIn (S.memory store.new) self (longer pages (heap_in (S.memory store.old) self))) }
         ensures room { OnOk result (pages ≤ (S.memory store.old).free) }
@@ -74,7 +74,7 @@ impl Module {
 
     /// Makes the area and its heap shorter by this many pages. Refused (`ExcessiveShrink`), and nothing changed, exactly
     /// where the heap's base would lie above the end.
-    fn shorten<S: Store>(self, store: &mut S, pages: usize) -> Result<(), Refusal>
+    fn shorten<S: Pages>(self, store: &mut S, pages: usize) -> Result<(), Refusal>
         requires module { IsModule (S.memory store.old) self }
         requires small { pages ≤ 2 ^ 19 }
         ensures spells { OnOk result (SpellsIn (S.memory store.new) self (shorter pages (heap_in (S.memory store.old) self))) }

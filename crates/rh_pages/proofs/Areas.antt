@@ -52,10 +52,10 @@ flagged r lists flags id b lt =
 -- the ledger after an area was set
 pub ledger_set : (area area' : ℕ → Option (List ℕ)) (id : ℕ) (o : Option (List ℕ)) (free free' pages limit : ℕ) → area' ≡ area_set area id o → id < limit
     → free' + length (unwrap_or o []) / 4096 ≡ free + length (unwrap_or (area id) []) / 4096
-    → Ledger (record { area = area; free = free; pages = pages }) limit → Ledger (record { area = area'; free = free'; pages = pages }) limit
+    → Ledger (record { area = area; free = free; pages = pages; loan = 0 }) limit → Ledger (record { area = area'; free = free'; pages = pages; loan = 0 }) limit
 ledger_set area area' id o free free' pages limit e lt sum was = let set = pages_below-set area id o limit lt in rw e (omega arith)
 
 -- the memory after an area was set
 pub memory_set : (area area' : ℕ → Option (List ℕ)) (id : ℕ) (o : Option (List ℕ)) (free pages : ℕ) → area' ≡ area_set area id o
-    → ◌≡◌ {A = Memory} (record { area = area'; free = free; pages = pages }) (record { area = area_set area id o; free = free; pages = pages })
-memory_set area area' id o free pages e = ap (λ (f : ℕ → Option (List ℕ)). let m : Memory = record { area = f; free = free; pages = pages } in m) e
+    → ◌≡◌ {A = Memory} (record { area = area'; free = free; pages = pages; loan = 0 }) (record { area = area_set area id o; free = free; pages = pages; loan = 0 })
+memory_set area area' id o free pages e = ap (λ (f : ℕ → Option (List ℕ)). let m : Memory = record { area = f; free = free; pages = pages; loan = 0 } in m) e

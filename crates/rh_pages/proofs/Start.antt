@@ -65,7 +65,7 @@ module _ (r : List ℕ) (lists : List (List ℕ)) (flags : List Bool) (free : Li
 
   pub fresh_memory : memory_in r lists flags free pages ≡ fresh pages
   unfolding fresh
-  fresh_memory = let areas : contents r lists flags ≡ (λ k. None) = fun_ext all_closed in λ i. record { area = areas i; free = count i; pages = pages }
+  fresh_memory = let areas : contents r lists flags ≡ (λ k. None) = fun_ext all_closed in λ i. record { area = areas i; free = count i; pages = pages; loan = 0 }
 
 module _ (r : List ℕ) (lists : List (List ℕ)) (flags : List Bool) (free : List ℕ) (pages limit : ℕ) (ok : IsStore r lists flags free pages limit) (id : ℕ) (lt : id < limit) where
   in_table : id < length flags
@@ -121,5 +121,5 @@ module _ (r : List ℕ) (lists : List (List ℕ)) (flags : List Bool) (free : Li
           (ap (λ k. length free + k / 4096) (sym no_bytes)) ok.ledger;
     }
 
-    pub closed_memory : memory_in r lists (set flags id false) free pages ≡ record { area = area_set (contents r lists flags) id None; free = length free; pages = pages }
+    pub closed_memory : memory_in r lists (set flags id false) free pages ≡ record { area = area_set (contents r lists flags) id None; free = length free; pages = pages; loan = 0 }
     closed_memory = memory_set (contents r lists flags) (contents r lists (set flags id false)) id None (length free) pages area_closed

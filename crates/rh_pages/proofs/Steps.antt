@@ -57,8 +57,8 @@ up_more m w u id from to left n k low h e g =
     edited m w u id (put (bytes m id) (to + left + n) (part (bytes m id) (from + left + n) k)) (λ l. put l (to + left) (part l (from + left) n)) e' g
     ∙ ap (with_bytes m id) (slide_up (bytes m id) (from + left) (to + left) n k (omega arith) h)
 
-same_memory : (area area' : ℕ → Option (List ℕ)) (free free' pages : ℕ) → area ≡ area' → free ≡ free' → ◌≡◌ {A = Memory} (record { area = area; free = free; pages = pages }) (record { area = area'; free = free'; pages = pages })
-same_memory area area' free free' pages a f = λ i. record { area = a i; free = f i; pages = pages }
+same_memory : (area area' : ℕ → Option (List ℕ)) (free free' pages loan : ℕ) → area ≡ area' → free ≡ free' → ◌≡◌ {A = Memory} (record { area = area; free = free; pages = pages; loan = loan }) (record { area = area'; free = free'; pages = pages; loan = loan })
+same_memory area area' free free' pages loan a f = λ i. record { area = a i; free = f i; pages = pages; loan = loan }
 
 some_bytes : (o : Option (List ℕ)) → IsSome o → Some (unwrap_or o []) ≡ o
 some_bytes (Some x) h = refl
@@ -69,7 +69,7 @@ pub grown_none : (m : Memory) (id : ℕ) → IsOpen m id → m ≡ grown m id 0
 unfolding grown bytes
 grown_none m id o =
     let free : m.free ≡ m.free - 0 = omega arith in
-    same_memory m.area (area_set m.area id (Some (unwrap_or (m.area id) [] ++ []))) m.free (m.free - 0) m.pages
+    same_memory m.area (area_set m.area id (Some (unwrap_or (m.area id) [] ++ []))) m.free (m.free - 0) m.pages m.loan
     (sym (ap (λ (l : List ℕ). area_set m.area id (Some l)) (append-nil (unwrap_or (m.area id) [])) ∙ ap (area_set m.area id) (some_bytes (m.area id) o) ∙ area_set-self m.area id)) free
 
 -- pages grown one after another
@@ -81,7 +81,7 @@ grown_more m id d n =
     let left : m.free - d - n ≡ m.free - (d + n) = omega arith in
     let joined : x ++ replicate (4096 * n) 0 ≡ b ++ replicate (4096 * (d + n)) 0 =
     append_assoc b (replicate (4096 * d) 0) (replicate (4096 * n) 0) ∙ ap (λ l. b ++ l) (replicate-append-replicate {A = ℕ} (4096 * d) (4096 * n) 0 ∙ ap (λ k. replicate {A = ℕ} k 0) all) in
-    same_memory _ _ _ _ m.pages
+    same_memory _ _ _ _ m.pages m.loan
     (ap (λ (l : List ℕ). area_set (area_set m.area id (Some x)) id (Some (l ++ replicate (4096 * n) 0))) (bytes-grown m id d)
     ∙ area_set-area_set m.area id (Some x) (Some (x ++ replicate (4096 * n) 0)) ∙ ap (λ (l : List ℕ). area_set m.area id (Some l)) joined)
     left
@@ -91,7 +91,7 @@ pub shrunk_none : (m : Memory) (id : ℕ) → IsOpen m id → m ≡ shrunk m id 
 unfolding shrunk bytes
 shrunk_none m id o =
     let b = unwrap_or (m.area id) [] in let free : m.free ≡ m.free + 0 = omega arith in let all : length b - 4096 * 0 ≡ length b = omega arith in
-    same_memory _ _ _ _ m.pages
+    same_memory _ _ _ _ m.pages m.loan
     (sym (ap (λ k. area_set m.area id (Some (take k b))) all ∙ ap (λ (l : List ℕ). area_set m.area id (Some l)) (take-length b) ∙ ap (area_set m.area id) (some_bytes (m.area id) o) ∙ area_set-self m.area id))
     free
 
@@ -103,7 +103,7 @@ shrunk_more m id d n =
     let left : m.free + d + n ≡ m.free + (d + n) = omega arith in
     let long = length-shrunk m id d in
     let less : k - 4096 * n ≡ length b - 4096 * (d + n) = omega arith in
-    same_memory _ _ _ _ m.pages
+    same_memory _ _ _ _ m.pages m.loan
     (ap (λ (l : List ℕ). area_set (area_set m.area id (Some x)) id (Some (take (length l - 4096 * n) l))) (bytes-shrunk m id d)
     ∙ area_set-area_set m.area id (Some x) (Some (take (length x - 4096 * n) x))
     ∙ ap (λ i. area_set m.area id (Some (take (i - 4096 * n) x))) (sym (ap length (bytes-shrunk m id d)) ∙ long)
@@ -112,10 +112,10 @@ shrunk_more m id d n =
 
 -- an area is closed once its pages are cut off
 pub closed_shrunk : (m : Memory) (id n : ℕ) → n ≡ length (bytes m id) / 4096
-    → ◌≡◌ {A = Memory} (record { area = area_set (shrunk m id n).area id None; free = (shrunk m id n).free; pages = (shrunk m id n).pages }) (closed m id)
+    → ◌≡◌ {A = Memory} (record { area = area_set (shrunk m id n).area id None; free = (shrunk m id n).free; pages = (shrunk m id n).pages; loan = (shrunk m id n).loan }) (closed m id)
 unfolding shrunk closed
 closed_shrunk m id n e =
-    same_memory _ _ _ _ m.pages
+    same_memory _ _ _ _ m.pages m.loan
     (area_set-area_set m.area id (Some (take (length (bytes m id) - 4096 * n) (bytes m id))) None)
     (ap (λ k. m.free + k) e)
 

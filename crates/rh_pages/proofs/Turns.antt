@@ -108,7 +108,7 @@ module _ (r : List ℕ) (lists : List (List ℕ)) (flags : List Bool) (pool : Li
       grown_memory n one zeros =
           let a = ap length popped in let b = length_push free k in let left : length free ≡ length pool - n = omega arith in
           memory_set (contents r lists flags) (contents r' lists' flags) id (Some (was ++ ws)) (length free) pages area_grown
-          ∙ (λ i. record { area = area_set (contents r lists flags) id (Some (was ++ zeros i)); free = left i; pages = pages })
+          ∙ (λ i. record { area = area_set (contents r lists flags) id (Some (was ++ zeros i)); free = left i; pages = pages; loan = 0 })
 
   -- the last page of an area
   module _ (ks : List ℕ) (k : ℕ) (popped : list_at lists id ≡ ks ++ k ∷ []) (lists' : List (List ℕ)) (cut : lists' ≡ set lists id ks) where
@@ -152,4 +152,4 @@ module _ (r : List ℕ) (lists : List (List ℕ)) (flags : List Bool) (pool : Li
           let less : length (bytes_of r ks) ≡ length was - 4096 * n = omega arith in
           let front : bytes_of r ks ≡ take (length was - 4096 * n) was = sym (ap (take (length was - 4096 * n)) joined ∙ take_at (bytes_of r ks) (page r k) (length was - 4096 * n) less) in
           memory_set (contents r lists flags) (contents r lists' flags) id (Some (bytes_of r ks)) (length free) pages area_shrunk
-          ∙ (λ i. record { area = area_set (contents r lists flags) id (Some (front i)); free = more i; pages = pages })
+          ∙ (λ i. record { area = area_set (contents r lists flags) id (Some (front i)); free = more i; pages = pages; loan = 0 })

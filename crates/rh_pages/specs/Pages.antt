@@ -22,7 +22,7 @@ contents region lists opened id = if get_or opened id false then Some (bytes_of 
 
 -- the memory that these areas make up
 abbrev pub memory_in : List ℕ → List (List ℕ) → List Bool → List ℕ → ℕ → Memory
-memory_in region lists opened free pages = record { area = contents region lists opened; free = length free; pages = pages }
+memory_in region lists opened free pages = record { area = contents region lists opened; free = length free; pages = pages; loan = 0 }
 
 -- where the byte at an offset of an area stands in the region
 abbrev pub spot_in : List (List ℕ) → ℕ → ℕ → ℕ

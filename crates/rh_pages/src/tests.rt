@@ -5,7 +5,7 @@ mod helpers;
 mod scattered;
 
 use crate::PagedStore;
-use rh_store::{AreaId, Store, StoreFault};
+use rh_store::{AreaId, Pages, Store, StoreFault, Words};
 use std::alloc::AllocError;
 use std::test::Fail;
 

@@ -12,7 +12,7 @@ use Rattle.rh_defs.specs.Slot.{new_slot, slot_begin}
 use Rattle.rh_defs.specs.SlotImage.{SpellsSlot}
 use Rattle.rh_defs.specs.declared.refusal.Refusal.TheVariants.{NoRoom}
 use Rattle.rh_defs.proofs.BytesLaws.{word_same, word-zeros}
-use Rattle.rh_defs.proofs.MemoryLaws.{bytes-none, bytes-opened, bytes-grown, area-opened, free-opened, pages-opened, IsOpen-opened, IsOpen-grown, OnlyArea-both, OnlyArea-grown}
+use Rattle.rh_defs.proofs.MemoryLaws.{bytes-none, bytes-opened, bytes-grown, area-opened, free-opened, pages-opened, loan-opened, IsOpen-opened, IsOpen-grown, OnlyArea-both, OnlyArea-grown}
 use Rattle.rh_defs.proofs.SlotLaws.{in_below}
 
 -- what a slot's begin answers
@@ -56,6 +56,7 @@ opened_page m k n id r ne o e h =
       others = λ j q. area-opened m id j q;
       ledger = omega (arith, free-opened m id, ap length (bytes-opened m id), ap length (bytes-none m id (none_is (m.area id) o.0)));
       pages = pages-opened m id;
+      loan = loan-opened m id;
     } in
     record {
       opened = subst (λ x. IsOpen x id) (sym is) (IsOpen-grown (opened m id) id 1);

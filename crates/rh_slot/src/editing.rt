@@ -15,7 +15,7 @@ use crate::slot::Slot;
 use crate::walking::top_of;
 use crate::words::{clear, slide, write, write_bytes};
 use rh_defs::{Anchor, Refusal};
-use rh_store::Store;
+use rh_store::Pages;
 
 /// A change of a block's bytes: how many before an offset are taken out, and how many zeros are then put in.
 #[derive(Clone, Copy)]
@@ -26,7 +26,7 @@ struct Change {
 }
 
 /// Takes bytes out of a block and puts zeros in. Refused (`NoRoom`) where too few pages are free.
-fn splice<S: Store>(
+fn splice<S: Pages>(
     store: &mut S,
     slot: Slot,
     anchor: Anchor,
@@ -71,7 +71,7 @@ fn splice<S: Store>(
 impl Slot {
     /// Cuts the anchor's block to `n` bytes, or gives it zeros up to `n`; those above it slide. Refused: `NoBlock`
     /// where the anchor has none, `NoRoom` where too few pages are free. (flex_extend.)
-    pub fn extend<S: Store>(self, store: &mut S, anchor: Anchor, n: u32) -> Result<(), Refusal>
+    pub fn extend<S: Pages>(self, store: &mut S, anchor: Anchor, n: u32) -> Result<(), Refusal>
         requires slot { IsSlot (S.memory store.old) self }
         requires anchor { anchor < 64 }
         ensures answer { result ≡ outcome_of (slot_extend (S.memory store.old).free anchor n (slot_in (S.memory store.old) self)) }
@@ -95,7 +95,7 @@ impl Slot {
     /// Puts `by` zeros into the anchor's block at an offset, or where `by` is below 0 takes out as many bytes before
     /// it; blocks above slide. Refused: `NoBlock` where the anchor has none, `BadRange` where the offset is above the
     /// size or fewer bytes are before it, `NoRoom` where too few pages are free. (flex_midextend.)
-    pub fn mid<S: Store>(
+    pub fn mid<S: Pages>(
         self,
         store: &mut S,
         anchor: Anchor,
@@ -130,7 +130,7 @@ impl Slot {
 
     /// Writes bytes into the anchor's block, from an offset on. Refused: `NoBlock` where the anchor has none,
     /// `BadRange` where the bytes would go beyond the block's end.
-    pub fn put<S: Store>(
+    pub fn put<S: Pages>(
         self,
         store: &mut S,
         anchor: Anchor,
@@ -157,7 +157,7 @@ impl Slot {
 
     /// Fills a buffer that was lent with bytes of the anchor's block, from an offset on. Refused, and the buffer left
     /// as it is: `NoBlock` where the anchor has none, `BadRange` where the bytes would go beyond the block's end.
-    pub fn read<S: Store>(
+    pub fn read<S: Pages>(
         self,
         store: &S,
         anchor: Anchor,

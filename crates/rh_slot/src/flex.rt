@@ -14,12 +14,12 @@ use crate::slot::Slot;
 use crate::walking::top_of;
 use crate::words::{clear, write};
 use rh_defs::{Anchor, Refusal};
-use rh_store::Store;
+use rh_store::Pages;
 
 impl Slot {
     /// Puts a block of `n` zeros on top and answers its address, from &8000 on. Refused: `AnchorInUse` where the
     /// anchor has a block, `NoRoom` where too few pages are free. (flex_alloc.)
-    pub fn alloc<S: Store>(self, store: &mut S, anchor: Anchor, n: u32) -> Result<usize, Refusal>
+    pub fn alloc<S: Pages>(self, store: &mut S, anchor: Anchor, n: u32) -> Result<usize, Refusal>
         requires slot { IsSlot (S.memory store.old) self }
         requires anchor { anchor < 64 }
         ensures answer { result ≡ answer_of (slot_alloc (S.memory store.old).free anchor (zeros n) (slot_in (S.memory store.old) self)) }
@@ -45,7 +45,7 @@ impl Slot {
     }
 
     /// Takes the anchor's block away; those above it come down. Refused (`NoBlock`) where it has none. (flex_free.)
-    pub fn free<S: Store>(self, store: &mut S, anchor: Anchor) -> Result<(), Refusal>
+    pub fn free<S: Pages>(self, store: &mut S, anchor: Anchor) -> Result<(), Refusal>
         requires slot { IsSlot (S.memory store.old) self }
         requires anchor { anchor < 64 }
         ensures answer { result ≡ outcome_of (slot_free anchor (slot_in (S.memory store.old) self)) }

@@ -14,11 +14,11 @@ use crate::sliding::shift;
 use crate::slot::Slot;
 use crate::walking::{flex_place, top_of};
 use rh_defs::Refusal;
-use rh_store::{PAGE, Store};
+use rh_store::{PAGE, Pages};
 
 /// Makes the C heap longer by a shortage, in whole pages. All flex blocks slide up. Refused (`NoRoom`) where too few
 /// pages are free.
-fn lengthen<S: Store>(store: &mut S, slot: Slot, shortage: usize) -> Result<(), Refusal>
+fn lengthen<S: Pages>(store: &mut S, slot: Slot, shortage: usize) -> Result<(), Refusal>
     requires slot { IsSlot (S.memory store.old) slot }
     requires small { shortage < 2 ^ 34 }
     ensures spells { OnOk result (SpellsIn (S.memory store.new) slot (lengthened shortage (slot_in (S.memory store.old) slot))) }
@@ -47,7 +47,7 @@ fn is_stuck(slot: Slot, shortage: usize) -> bool
 }
 
 /// Makes room for a shortage of the C heap, 0 for none. Refused: `NoBudge` where budging is off, `NoRoom`.
-fn make_room<S: Store>(store: &mut S, slot: Slot, shortage: usize) -> Result<(), Refusal>
+fn make_room<S: Pages>(store: &mut S, slot: Slot, shortage: usize) -> Result<(), Refusal>
     requires slot { IsSlot (S.memory store.old) slot }
     requires small { shortage < 2 ^ 34 }
     ensures answer { result ≡ after_growth (S.memory store.old).free shortage (slot_in (S.memory store.old) slot) tt }
@@ -68,7 +68,7 @@ impl Slot {
     /// Claims a block of `n` bytes at least in the C heap, all 0, and answers its address, from &8100 on. A heap that
     /// is too short grows by whole pages, and the flex blocks slide up. Refused: `BadSize` for 0 bytes, `NoBudge`
     /// where the heap is too short and budging is off, `NoRoom` where too few pages are free. (OS_Heap 2.)
-    pub fn claim<S: Store>(self, store: &mut S, n: u32) -> Result<usize, Refusal>
+    pub fn claim<S: Pages>(self, store: &mut S, n: u32) -> Result<usize, Refusal>
         requires slot { IsSlot (S.memory store.old) self }
         ensures answer { result ≡ answer_of (slot_claim (S.memory store.old).free n (slot_in (S.memory store.old) self)) }
         ensures spells { SpellsIn (S.memory store.new) self (left_of (slot_in (S.memory store.old) self)
@@ -88,7 +88,7 @@ impl Slot {
     }
 
     /// Releases the block of the C heap at an address. Refused (`NotABlock`) where none begins there. (OS_Heap 3.)
-    pub fn release<S: Store>(self, store: &mut S, address: usize) -> Result<(), Refusal>
+    pub fn release<S: Pages>(self, store: &mut S, address: usize) -> Result<(), Refusal>
         requires slot { IsSlot (S.memory store.old) self }
         ensures answer { result ≡ outcome_of (slot_release address (slot_in (S.memory store.old) self)) }
         ensures spells { SpellsIn (S.memory store.new) self (result_or (slot_in (S.memory store.old) self)
@@ -105,7 +105,7 @@ impl Slot {
     /// Gives the block of the C heap at an address `delta` bytes more, or fewer where `delta` is negative, and answers
     /// its address. A heap that is too short grows. Refused: `NotABlock`, `BadSize` where fewer than 1 byte would be
     /// left, `NoBudge`, `NoRoom`. (OS_Heap 4.)
-    pub fn resize<S: Store>(
+    pub fn resize<S: Pages>(
         self,
         store: &mut S,
         address: usize,
@@ -132,7 +132,7 @@ impl Slot {
 
     /// By how many pages a claim of `n` bytes and then a flex block of no bytes would make the slot longer. Refused:
     /// `BadSize` for 0 bytes, `NoBudge` where the C heap is too short and budging is off.
-    pub fn take_pages<S: Store>(self, store: &S, n: u32) -> Result<usize, Refusal>
+    pub fn take_pages<S: Pages>(self, store: &S, n: u32) -> Result<usize, Refusal>
         requires slot { IsSlot (S.memory store.now) self }
         ensures { result ≡ slot_take_pages n (slot_in (S.memory store.now) self) }
     {

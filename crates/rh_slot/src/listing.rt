@@ -17,7 +17,7 @@ use crate::walking::{flex_place, size_at};
 use crate::words::read;
 use rh_defs::{Anchor, BlockItem};
 use rh_heap::Segment;
-use rh_store::Store;
+use rh_store::Words;
 
 /// Whether the `n` bytes at `x` lie whole in the `m` bytes at `a`.
 fn is_inside(x: usize, n: usize, a: usize, m: usize) -> bool
@@ -27,7 +27,7 @@ fn is_inside(x: usize, n: usize, a: usize, m: usize) -> bool
 }
 
 /// Whether the `n` bytes at an address lie whole in one flex block.
-fn in_flex<S: Store>(store: &S, slot: Slot, address: usize, n: usize) -> bool
+fn in_flex<S: Words>(store: &S, slot: Slot, address: usize, n: usize) -> bool
     requires { IsSlot (S.memory store.now) slot }
     ensures { result ≡ is_some (flex_around address n (slot_in (S.memory store.now) slot)) }
 {
@@ -45,7 +45,7 @@ fn in_flex<S: Store>(store: &S, slot: Slot, address: usize, n: usize) -> bool
 impl Slot {
     /// Whether the `n` bytes at an address lie whole in one block of the C heap or in one flex block. Any address and
     /// any `n` may be asked for.
-    pub fn inside<S: Store>(self, store: &S, address: usize, n: usize) -> bool
+    pub fn inside<S: Words>(self, store: &S, address: usize, n: usize) -> bool
         requires slot { IsSlot (S.memory store.now) self }
         ensures { result ≡ holds address n (slot_in (S.memory store.now) self) }
     {
@@ -56,7 +56,7 @@ impl Slot {
     }
 
     /// Flex block `i` from below, from 0 on: its anchor, address and size in bytes.
-    pub fn block<S: Store>(self, store: &S, i: usize) -> Option<BlockItem>
+    pub fn block<S: Words>(self, store: &S, i: usize) -> Option<BlockItem>
         requires slot { IsSlot (S.memory store.now) self }
         ensures { result ≡ slice_get (block_items (slot_in (S.memory store.now) self)) i }
     {
@@ -79,7 +79,7 @@ impl Slot {
     }
 
     /// The segment of the C heap that begins at a place, in bytes from the heap's first one.
-    pub fn segment<S: Store>(self, store: &S, place: usize) -> Option<Segment>
+    pub fn segment<S: Words>(self, store: &S, place: usize) -> Option<Segment>
         requires slot { IsSlot (S.memory store.now) self }
         ensures { result ≡ option_map piece (segment_at place (slot_in (S.memory store.now) self).heap) }
     {
@@ -87,7 +87,7 @@ impl Slot {
     }
 
     /// The C heap's end in bytes, its largest free block, and the bytes of all its holes and its top. (OS_Heap 1.)
-    pub fn describe<S: Store>(self, store: &S) -> (usize, usize, usize)
+    pub fn describe<S: Words>(self, store: &S) -> (usize, usize, usize)
         requires slot { IsSlot (S.memory store.now) self }
         ensures end { result.0 ≡ (slot_in (S.memory store.now) self).heap.end }
         ensures largest { result.1 ≡ largest (slot_in (S.memory store.now) self).heap }

@@ -8,7 +8,7 @@ ghost use Rattle.rh_slot.specs.Places.{Found};
 use crate::slot::Slot;
 use crate::words::read;
 use rh_defs::{Anchor, Refusal};
-use rh_store::Store;
+use rh_store::Words;
 
 /// Where application space begins, and with it a slot.
 pub const SLOT_START: usize = 0x8000;
@@ -28,7 +28,7 @@ pub fn word_place(anchor: Anchor) -> usize
 }
 
 /// The anchor's block, or `None` where it has none.
-pub fn locate<S: Store>(store: &S, slot: Slot, anchor: Anchor) -> Option<Spot>
+pub fn locate<S: Words>(store: &S, slot: Slot, anchor: Anchor) -> Option<Spot>
     requires slot { IsSlot (S.memory store.now) slot }
     requires anchor { anchor < 64 }
     ensures { MatchOption result (IsFree anchor (slot_in (S.memory store.now) slot).blocks)
@@ -45,7 +45,7 @@ pub fn locate<S: Store>(store: &S, slot: Slot, anchor: Anchor) -> Option<Spot>
 
 impl Slot {
     /// How many bytes the anchor's block has. Refused (`NoBlock`) where it has none. (flex_size.)
-    pub fn size<S: Store>(self, store: &S, anchor: Anchor) -> Result<usize, Refusal>
+    pub fn size<S: Words>(self, store: &S, anchor: Anchor) -> Result<usize, Refusal>
         requires slot { IsSlot (S.memory store.now) self }
         requires anchor { anchor < 64 }
         ensures { result ≡ slot_size anchor (slot_in (S.memory store.now) self) }
@@ -58,7 +58,7 @@ impl Slot {
 
     /// The address of the block's first byte, from &8000 on, as the anchor word holds it. Refused (`NoBlock`) where
     /// the anchor has none.
-    pub fn address<S: Store>(self, store: &S, anchor: Anchor) -> Result<usize, Refusal>
+    pub fn address<S: Words>(self, store: &S, anchor: Anchor) -> Result<usize, Refusal>
         requires slot { IsSlot (S.memory store.now) self }
         requires anchor { anchor < 64 }
         ensures { result ≡ slot_address anchor (slot_in (S.memory store.now) self) }

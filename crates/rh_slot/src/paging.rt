@@ -3,7 +3,7 @@ ghost use Rattle.std.specs.Prelude.{◌≡◌, ℕ, ◌+◌, ◌-◌, ◌*◌, �
 ghost use Rattle.rh_defs.specs.Memory.{Memory, IsOpen, Resized, bytes};
 ghost use Rattle.rh_defs.specs.Pieces.{pages_for};
 
-use rh_store::{AreaId, PAGE, Store, StoreFault};
+use rh_store::{AreaId, PAGE, Pages, StoreFault};
 
 /// How many pages hold `n` bytes.
 pub fn pages_for(n: usize) -> usize
@@ -14,7 +14,7 @@ pub fn pages_for(n: usize) -> usize
 }
 
 /// Appends pages where a top lies above the last page.
-pub fn room_for<S: Store>(store: &mut S, area: AreaId, top: usize) -> Result<(), StoreFault>
+pub fn room_for<S: Pages>(store: &mut S, area: AreaId, top: usize) -> Result<(), StoreFault>
     requires opened { IsOpen (S.memory store.old) area.0 }
     requires small { top < 2 ^ 40 }
     ensures ok { OnOk result (Resized (S.memory store.old) (S.memory store.new) area.0 (length (bytes (S.memory store.old) area.0))
@@ -28,7 +28,7 @@ pub fn room_for<S: Store>(store: &mut S, area: AreaId, top: usize) -> Result<(),
 }
 
 /// Appends pages up to a top.
-pub fn grow_to<S: Store>(store: &mut S, area: AreaId, top: usize) -> Result<(), StoreFault>
+pub fn grow_to<S: Pages>(store: &mut S, area: AreaId, top: usize) -> Result<(), StoreFault>
     requires opened { IsOpen (S.memory store.old) area.0 }
     requires more { length (bytes (S.memory store.old) area.0) ≤ 4096 * pages_for top }
     requires small { top < 2 ^ 40 }
@@ -42,7 +42,7 @@ pub fn grow_to<S: Store>(store: &mut S, area: AreaId, top: usize) -> Result<(), 
 }
 
 /// Gives back the pages above a top.
-pub fn trim<S: Store>(store: &mut S, area: AreaId, top: usize)
+pub fn trim<S: Pages>(store: &mut S, area: AreaId, top: usize)
     requires opened { IsOpen (S.memory store.old) area.0 }
     requires within { top ≤ length (bytes (S.memory store.old) area.0) }
     ensures { Resized (S.memory store.old) (S.memory store.new) area.0 top (pages_for top) }

@@ -10,10 +10,10 @@ ghost use Rattle.rh_slot.specs.Places.{Row, Hung, Shifted};
 use crate::locating::SLOT_START;
 use crate::sizing::weight_of;
 use crate::words::{read, slide, write};
-use rh_store::{AreaId, Store};
+use rh_store::{AreaId, Words};
 
 /// Writes the anchor words of the blocks that lie in `n` bytes.
-fn hang<S: Store>(store: &mut S, area: AreaId, from: usize, n: usize)
+fn hang<S: Words>(store: &mut S, area: AreaId, from: usize, n: usize)
     requires opened { IsOpen (S.memory store.old) area.0 }
     requires within { from + n ≤ length (bytes (S.memory store.old) area.0) }
     requires low { 256 ≤ from }
@@ -33,7 +33,7 @@ fn hang<S: Store>(store: &mut S, area: AreaId, from: usize, n: usize)
 }
 
 /// Moves the blocks that lie in `n` bytes, and writes their anchor words.
-pub fn shift<S: Store>(store: &mut S, area: AreaId, from: usize, to: usize, n: usize)
+pub fn shift<S: Words>(store: &mut S, area: AreaId, from: usize, to: usize, n: usize)
     requires opened { IsOpen (S.memory store.old) area.0 }
     requires source { from + n ≤ length (bytes (S.memory store.old) area.0) }
     requires target { to + n ≤ length (bytes (S.memory store.old) area.0) }

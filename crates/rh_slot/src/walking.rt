@@ -12,10 +12,10 @@ use crate::locating::SLOT_START;
 use crate::sizing::weight_of;
 use crate::slot::Slot;
 use crate::words::read;
-use rh_store::{AreaId, Store};
+use rh_store::{AreaId, Words};
 
 /// Where the first flex block stands or would stand: the C heap's end.
-pub fn flex_place<S: Store>(store: &S, slot: Slot) -> usize
+pub fn flex_place<S: Words>(store: &S, slot: Slot) -> usize
     requires { IsSlot (S.memory store.now) slot }
     ensures { result ≡ flex_place (slot_in (S.memory store.now) slot) }
 {
@@ -23,7 +23,7 @@ pub fn flex_place<S: Store>(store: &S, slot: Slot) -> usize
 }
 
 /// Whether a block begins at a place: its header names an anchor word that leads back to it.
-fn begins<S: Store>(store: &S, area: AreaId, place: usize) -> bool
+fn begins<S: Words>(store: &S, area: AreaId, place: usize) -> bool
     requires opened { IsOpen (S.memory store.now) area.0 }
     requires within { place + 8 ≤ length (bytes (S.memory store.now) area.0) }
     requires anchors { 256 ≤ length (bytes (S.memory store.now) area.0) }
@@ -37,7 +37,7 @@ fn begins<S: Store>(store: &S, area: AreaId, place: usize) -> bool
 }
 
 /// How many bytes the block has that stands where a walk has come to. `None` above the last block.
-pub fn size_at<S: Store>(store: &S, slot: Slot, place: usize) -> Option<usize>
+pub fn size_at<S: Words>(store: &S, slot: Slot, place: usize) -> Option<usize>
     requires slot { IsSlot (S.memory store.now) slot }
     requires walked { Walked (slot_in (S.memory store.now) slot) place }
     ensures { MatchOption result (is_block (bytes (S.memory store.now) slot.area.0) place ≡ false)
@@ -54,7 +54,7 @@ pub fn size_at<S: Store>(store: &S, slot: Slot, place: usize) -> Option<usize>
 }
 
 /// Where the flex blocks end: the number of bytes that the slot takes.
-pub fn top_of<S: Store>(store: &S, slot: Slot) -> usize
+pub fn top_of<S: Words>(store: &S, slot: Slot) -> usize
     requires { IsSlot (S.memory store.now) slot }
     ensures { result ≡ slot_length (slot_in (S.memory store.now) slot) }
 {

@@ -163,8 +163,8 @@ room_at-all pages [] i all h = absurd (omega arith)
 room_at-all pages (x ∷ list) i all h = let r = (all i x h).room in let e = room_at-get (x ∷ list) i x h in omega arith
 
 -- the memory after an area was set
-set_memory : (list new : List Area) (i : ℕ) (o : Option (List ℕ)) (free pages : ℕ) → ChangedAt list new i o → memory_in new free pages ≡ record { area = area_set (contents list) i o; free = free; pages = pages }
-set_memory list new i o free pages s = ap (λ (f : ℕ → Option (List ℕ)). let r : Memory = record { area = f; free = free; pages = pages } in r) s.contents_are
+set_memory : (list new : List Area) (i : ℕ) (o : Option (List ℕ)) (free pages : ℕ) → ChangedAt list new i o → memory_in new free pages ≡ record { area = area_set (contents list) i o; free = free; pages = pages; loan = 0 }
+set_memory list new i o free pages s = ap (λ (f : ℕ → Option (List ℕ)). let r : Memory = record { area = f; free = free; pages = pages; loan = 0 } in r) s.contents_are
 
 pub memory-rewritten : (list new : List Area) (i : ℕ) (bs : List ℕ) (free pages : ℕ) → ChangedAt list new i (Some bs) → memory_in new free pages ≡ with_bytes (memory_in list free pages) i bs
 unfolding with_bytes
@@ -226,4 +226,4 @@ contents-nil list e k = contents-past list k (omega (arith, ap length e))
 -- closed areas are a fresh memory
 pub memory-fresh : (list : List Area) (pages : ℕ) → ((k : ℕ) → contents list k ≡ None) → memory_in list pages pages ≡ fresh pages
 unfolding fresh
-memory-fresh list pages closed = ap (λ (f : ℕ → Option (List ℕ)). let r : Memory = record { area = f; free = pages; pages = pages } in r) (fun_ext closed)
+memory-fresh list pages closed = ap (λ (f : ℕ → Option (List ℕ)). let r : Memory = record { area = f; free = pages; pages = pages; loan = 0 } in r) (fun_ext closed)

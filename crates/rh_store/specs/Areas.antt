@@ -19,7 +19,7 @@ bytes_at list i = unwrap_or (contents list i) []
 
 -- the memory that these areas make up
 abbrev pub memory_in : List Area → ℕ → ℕ → Memory
-memory_in list free pages = record { area = contents list; free = free; pages = pages }
+memory_in list free pages = record { area = contents list; free = free; pages = pages; loan = 0 }
 
 -- for how many bytes the vector of the area of a number has room
 unfoldable pub room_at : List Area → ℕ → ℕ

@@ -1,11 +1,11 @@
-//! Memory that areas share in whole pages: the trait [`Store`], and [`PlainStore`], which keeps a
-//! vector for each area.
+//! Memory that areas share in whole pages: the traits [`Words`], [`Pages`] and
+//! [`Store`], each over the one before, and [`PlainStore`], which keeps a vector for each area.
 //!
 //! A caller over any store names the laws of bytes and memories, and then often needs no proof file:
 //!
 //! ```text
 //! #[tactic(auto, using(rh_defs::proofs::BytesLaws::word_laws, rh_defs::proofs::MemoryLaws::memory_laws))]
-//! fn swap_words<S: Store>(store: &mut S, id: AreaId)
+//! fn swap_words<S: Words>(store: &mut S, id: AreaId)
 //!     requires opened { IsOpen (S.memory store.old) id.0 }
 //!     requires room { 8 ≤ length (bytes (S.memory store.old) id.0) }
 //!     ensures first { word (bytes (S.memory store.new) id.0) 0 ≡ word (bytes (S.memory store.old) id.0) 4 }
@@ -27,4 +27,4 @@ mod store;
 mod tests;
 
 pub use plain::{MAX_PAGES, MIN_PAGES, PlainStore};
-pub use store::{AreaId, MAX_AREAS, PAGE, Store, StoreFault};
+pub use store::{AreaId, MAX_AREAS, PAGE, Pages, Store, StoreFault, Words};

@@ -12,7 +12,7 @@ use crate::area::{
     slide_at, zero_at,
 };
 use crate::bytes::{copy_from, word_in};
-use crate::store::{AreaId, MAX_AREAS, PAGE, Store, StoreFault};
+use crate::store::{AreaId, MAX_AREAS, PAGE, Pages, Store, StoreFault, Words};
 use std::alloc::{AllocError, Global};
 
 /// The least number of pages that a `PlainStore` is made of.
@@ -58,25 +58,44 @@ impl PlainStore {
     }
 }
 
-impl Store for PlainStore {
-    ghost use Rattle.rh_store.specs.Plain.{memory_of, ledger_law, whole_law, within_law, few_law, small_law, numbered_law};
+impl Words for PlainStore {
+    ghost use Rattle.rh_store.specs.Plain.{memory_of, small_law};
 
     ghost memory = { memory_of };
 
-    fn open(&mut self) -> Result<AreaId, StoreFault> {
-        match first_closed(&self.areas) {
-            None => Err(StoreFault::TooManyAreas),
-            Some(i) => {
-                open_at(&mut self.areas, i);
-                Ok(AreaId(i as u8))
-            }
-        }
+    fn word(&self, id: AreaId, at: usize) -> u32 {
+        word_in(&self.areas[id.0 as usize].bytes, at)
     }
 
-    fn close(&mut self, id: AreaId) {
-        self.free += self.len(id) / PAGE;
-        close_at(&mut self.areas, id.0 as usize);
+    fn set_word(&mut self, id: AreaId, at: usize, w: u32) {
+        set_word_at(&mut self.areas, id.0 as usize, at, w);
     }
+
+    fn slide(&mut self, id: AreaId, from: usize, to: usize, n: usize) {
+        slide_at(&mut self.areas, id.0 as usize, from, to, n);
+    }
+
+    fn zero(&mut self, id: AreaId, at: usize, n: usize) {
+        zero_at(&mut self.areas, id.0 as usize, at, n);
+    }
+
+    fn copy_in(&mut self, id: AreaId, at: usize, from: &[u8]) {
+        put_at(&mut self.areas, id.0 as usize, at, from);
+    }
+
+    fn copy_out(&self, id: AreaId, at: usize, to: &mut [u8]) {
+        copy_from(&self.areas[id.0 as usize].bytes, at, to);
+    }
+
+    fn len(&self, id: AreaId) -> usize {
+        self.areas[id.0 as usize].bytes.len()
+    }
+
+    ghost small = { small_law };
+}
+
+impl Pages for PlainStore {
+    ghost use Rattle.rh_store.specs.Plain.{ledger_law, whole_law, within_law, few_law};
 
     fn grow(&mut self, id: AreaId, pages: usize) -> Result<(), StoreFault> {
         if self.free < pages {
@@ -98,42 +117,6 @@ impl Store for PlainStore {
         shorten_at(&mut self.areas, id.0 as usize, n);
     }
 
-    fn word(&self, id: AreaId, at: usize) -> u32 {
-        word_in(&self.areas[id.0 as usize].bytes, at)
-    }
-
-    fn set_word(&mut self, id: AreaId, at: usize, w: u32) {
-        set_word_at(&mut self.areas, id.0 as usize, at, w);
-    }
-
-    fn slide(&mut self, id: AreaId, from: usize, to: usize, n: usize) {
-        slide_at(&mut self.areas, id.0 as usize, from, to, n);
-    }
-
-    fn zero(&mut self, id: AreaId, at: usize, n: usize) {
-        zero_at(&mut self.areas, id.0 as usize, at, n);
-    }
-
-    fn copy(&mut self, id: AreaId, at: usize, id2: AreaId, at2: usize, n: usize) {
-        if id.0 == id2.0 {
-            slide_at(&mut self.areas, id.0 as usize, at, at2, n);
-        } else {
-            copy_at(&mut self.areas, id.0 as usize, at, id2.0 as usize, at2, n);
-        }
-    }
-
-    fn copy_in(&mut self, id: AreaId, at: usize, from: &[u8]) {
-        put_at(&mut self.areas, id.0 as usize, at, from);
-    }
-
-    fn copy_out(&self, id: AreaId, at: usize, to: &mut [u8]) {
-        copy_from(&self.areas[id.0 as usize].bytes, at, to);
-    }
-
-    fn len(&self, id: AreaId) -> usize {
-        self.areas[id.0 as usize].bytes.len()
-    }
-
     fn free_pages(&self) -> usize {
         self.free
     }
@@ -145,8 +128,33 @@ impl Store for PlainStore {
     ghost within = { within_law };
 
     ghost few = { few_law };
+}
 
-    ghost small = { small_law };
+impl Store for PlainStore {
+    ghost use Rattle.rh_store.specs.Plain.{numbered_law};
+
+    fn open(&mut self) -> Result<AreaId, StoreFault> {
+        match first_closed(&self.areas) {
+            None => Err(StoreFault::TooManyAreas),
+            Some(i) => {
+                open_at(&mut self.areas, i);
+                Ok(AreaId(i as u8))
+            }
+        }
+    }
+
+    fn close(&mut self, id: AreaId) {
+        self.free += self.len(id) / PAGE;
+        close_at(&mut self.areas, id.0 as usize);
+    }
+
+    fn copy(&mut self, id: AreaId, at: usize, id2: AreaId, at2: usize, n: usize) {
+        if id.0 == id2.0 {
+            slide_at(&mut self.areas, id.0 as usize, at, at2, n);
+        } else {
+            copy_at(&mut self.areas, id.0 as usize, at, id2.0 as usize, at2, n);
+        }
+    }
 
     ghost numbered = { numbered_law };
 }

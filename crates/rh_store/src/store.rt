@@ -27,51 +27,13 @@ pub enum StoreFault {
     NoPages,
 }
 
-/// Areas of bytes, each a whole number of pages of 4,096 bytes, and pages that are free.
+/// Areas of bytes that are there: what a heap needs of them.
 ///
-/// Offsets and lengths are in bytes from the area's first one. No call takes memory: pages come
-/// from those that the store was given at start. A refused call changes nothing.
-pub trait Store {
+/// Offsets and lengths are in bytes from the area's first one. No call changes an area's length, opens
+/// or closes one, or takes memory.
+pub trait Words {
     /// What each area contains, the free pages, and the pages given at start.
     ghost memory: { Self → Memory };
-
-    /// Opens the area with the least number that isn't open, with no pages. Refused
-    /// (`TooManyAreas`) exactly where `MAX_AREAS` areas are open.
-    fn open(&mut self) -> Result<AreaId, StoreFault>
-        ensures ok { IfOk result (λ id. IsNone ((memory self.old).area id.0) ×
-            (memory self.new ≡ opened (memory self.old) id.0)) }
-        ensures number { IfOk result (λ id. id.0 < MAX_AREAS) }
-        ensures least { IfOk result (λ id. (k : ℕ) → k < id.0 → IsOpen (memory self.old) k) }
-        ensures err { OnErr result (memory self.new ≡ memory self.old) }
-        ensures refused { IsErr result ↔ (open_below (memory self.old).area MAX_AREAS ≡ MAX_AREAS) }
-        ensures reason { IsErr result → IsErrOf result StoreFault.TooManyAreas };
-
-    /// Closes an area, whose pages are free from then on.
-    fn close(&mut self, id: AreaId)
-        requires { IsOpen (memory self.old) id.0 }
-        ensures { memory self.new ≡ closed (memory self.old) id.0 };
-
-    /// Appends this many pages of zeros to an area, whole or not at all, as OS_ChangeDynamicArea
-    /// grows one. Refused (`NoPages`) exactly where fewer are free.
-    fn grow(&mut self, id: AreaId, pages: usize) -> Result<(), StoreFault>
-        requires { IsOpen (memory self.old) id.0 }
-        ensures ok { OnOk result (memory self.new ≡ grown (memory self.old) id.0 pages) }
-        ensures room { OnOk result (pages ≤ (memory self.old).free) }
-        ensures err { OnErr result (memory self.new ≡ memory self.old) }
-        ensures refused { IsErr result ↔ ((memory self.old).free < pages) }
-        ensures reason { IsErr result → IsErrOf result StoreFault.NoPages };
-
-    /// Whether `grow` by this many pages would be done.
-    fn grow_check(&self, id: AreaId, pages: usize) -> bool
-        requires { IsOpen (memory self.now) id.0 }
-        ensures { IsTrue result ↔ (pages ≤ (memory self.now).free) };
-
-    /// Cuts this many pages off an area's end, as OS_ChangeDynamicArea shrinks one. They are free
-    /// from then on.
-    fn shrink(&mut self, id: AreaId, pages: usize)
-        requires opened { IsOpen (memory self.old) id.0 }
-        requires within { 4096 * pages ≤ length (bytes (memory self.old) id.0) }
-        ensures { memory self.new ≡ shrunk (memory self.old) id.0 pages };
 
     /// The word of four bytes in little-endian order at an offset, at any alignment.
     fn word(&self, id: AreaId, at: usize) -> u32
@@ -101,17 +63,6 @@ pub trait Store {
         ensures { memory self.new ≡ with_bytes (memory self.old) id.0
             (put (bytes (memory self.old) id.0) at (replicate n 0)) };
 
-    /// Copies n bytes from an offset of one area to one of another, or of the same where the two
-    /// ranges don't overlap.
-    fn copy(&mut self, id: AreaId, at: usize, id2: AreaId, at2: usize, n: usize)
-        requires opened { IsOpen (memory self.old) id.0 }
-        requires opened2 { IsOpen (memory self.old) id2.0 }
-        requires source { at + n ≤ length (bytes (memory self.old) id.0) }
-        requires target { at2 + n ≤ length (bytes (memory self.old) id2.0) }
-        requires disjoint { id.0 ≡ id2.0 → (at + n ≤ at2) ⊎ (at2 + n ≤ at) }
-        ensures { memory self.new ≡ with_bytes (memory self.old) id2.0
-            (put (bytes (memory self.old) id2.0) at2 (part (bytes (memory self.old) id.0) at n)) };
-
     /// Writes bytes that were lent, from an offset on.
     fn copy_in(&mut self, id: AreaId, at: usize, from: &[u8])
         requires opened { IsOpen (memory self.old) id.0 }
@@ -130,26 +81,85 @@ pub trait Store {
         requires { IsOpen (memory self.now) id.0 }
         ensures { result ≡ length (bytes (memory self.now) id.0) };
 
+    /// An area has at most 4 MiB, so sums of a few offsets and lengths can't wrap.
+    ghost small: { (s : Self) (id : ℕ) → length (bytes (memory s) id) ≤ 2 ^ 22 };
+}
+
+/// Areas that grow and shrink by whole pages of 4,096 bytes.
+///
+/// Pages come from those that the areas share from the start. A refused call changes nothing.
+pub trait Pages: Words {
+    /// Appends this many pages of zeros to an area, whole or not at all, as OS_ChangeDynamicArea
+    /// grows one. Refused (`NoPages`) exactly where fewer are free.
+    fn grow(&mut self, id: AreaId, pages: usize) -> Result<(), StoreFault>
+        requires { IsOpen (Self.memory self.old) id.0 }
+        ensures ok { OnOk result (Self.memory self.new ≡ grown (Self.memory self.old) id.0 pages) }
+        ensures room { OnOk result (pages ≤ (Self.memory self.old).free) }
+        ensures err { OnErr result (Self.memory self.new ≡ Self.memory self.old) }
+        ensures refused { IsErr result ↔ ((Self.memory self.old).free < pages) }
+        ensures reason { IsErr result → IsErrOf result StoreFault.NoPages };
+
+    /// Whether `grow` by this many pages would be done.
+    fn grow_check(&self, id: AreaId, pages: usize) -> bool
+        requires { IsOpen (Self.memory self.now) id.0 }
+        ensures { IsTrue result ↔ (pages ≤ (Self.memory self.now).free) };
+
+    /// Cuts this many pages off an area's end, as OS_ChangeDynamicArea shrinks one. They are free
+    /// from then on.
+    fn shrink(&mut self, id: AreaId, pages: usize)
+        requires opened { IsOpen (Self.memory self.old) id.0 }
+        requires within { 4096 * pages ≤ length (bytes (Self.memory self.old) id.0) }
+        ensures { Self.memory self.new ≡ shrunk (Self.memory self.old) id.0 pages };
+
     /// How many pages are free.
     fn free_pages(&self) -> usize
-        ensures { result ≡ (memory self.now).free };
+        ensures { result ≡ (Self.memory self.now).free };
 
     /// Free pages and the pages of all areas are those given at start, which no call changes.
-    ghost ledger: { (s : Self) → Ledger (memory s) MAX_AREAS };
+    ghost ledger: { (s : Self) → Ledger (Self.memory s) MAX_AREAS };
 
     /// Each area is a whole number of pages.
-    ghost whole: { (s : Self) (id : ℕ) → length (bytes (memory s) id) % 4096 ≡ 0 };
+    ghost whole: { (s : Self) (id : ℕ) → length (bytes (Self.memory s) id) % 4096 ≡ 0 };
 
     /// The free pages and an area's pages together are at most all pages.
     ghost within: { (s : Self) (id : ℕ) →
-        4096 * (memory s).free + length (bytes (memory s) id) ≤ 4096 * (memory s).pages };
+        4096 * (Self.memory s).free + length (bytes (Self.memory s) id) ≤ 4096 * (Self.memory s).pages };
 
     /// A store has at most 1,024 pages.
-    ghost few: { (s : Self) → (memory s).pages ≤ 2 ^ 10 };
+    ghost few: { (s : Self) → (Self.memory s).pages ≤ 2 ^ 10 };
+}
 
-    /// So an area has at most 4 MiB, and sums of a few offsets and lengths can't wrap.
-    ghost small: { (s : Self) (id : ℕ) → length (bytes (memory s) id) ≤ 2 ^ 22 };
+/// Areas that are opened and closed, and bytes that go from one to another.
+///
+/// A refused call changes nothing.
+pub trait Store: Pages {
+    /// Opens the area with the least number that isn't open, with no pages. Refused
+    /// (`TooManyAreas`) exactly where `MAX_AREAS` areas are open.
+    fn open(&mut self) -> Result<AreaId, StoreFault>
+        ensures ok { IfOk result (λ id. IsNone ((Self.memory self.old).area id.0) ×
+            (Self.memory self.new ≡ opened (Self.memory self.old) id.0)) }
+        ensures number { IfOk result (λ id. id.0 < MAX_AREAS) }
+        ensures least { IfOk result (λ id. (k : ℕ) → k < id.0 → IsOpen (Self.memory self.old) k) }
+        ensures err { OnErr result (Self.memory self.new ≡ Self.memory self.old) }
+        ensures refused { IsErr result ↔ (open_below (Self.memory self.old).area MAX_AREAS ≡ MAX_AREAS) }
+        ensures reason { IsErr result → IsErrOf result StoreFault.TooManyAreas };
+
+    /// Closes an area, whose pages are free from then on.
+    fn close(&mut self, id: AreaId)
+        requires { IsOpen (Self.memory self.old) id.0 }
+        ensures { Self.memory self.new ≡ closed (Self.memory self.old) id.0 };
+
+    /// Copies n bytes from an offset of one area to one of another, or of the same where the two
+    /// ranges don't overlap.
+    fn copy(&mut self, id: AreaId, at: usize, id2: AreaId, at2: usize, n: usize)
+        requires opened { IsOpen (Self.memory self.old) id.0 }
+        requires opened2 { IsOpen (Self.memory self.old) id2.0 }
+        requires source { at + n ≤ length (bytes (Self.memory self.old) id.0) }
+        requires target { at2 + n ≤ length (bytes (Self.memory self.old) id2.0) }
+        requires disjoint { id.0 ≡ id2.0 → (at + n ≤ at2) ⊎ (at2 + n ≤ at) }
+        ensures { Self.memory self.new ≡ with_bytes (Self.memory self.old) id2.0
+            (put (bytes (Self.memory self.old) id2.0) at2 (part (bytes (Self.memory self.old) id.0) at n)) };
 
     /// Open areas have numbers below `MAX_AREAS`.
-    ghost numbered: { (s : Self) (id : ℕ) → IsOpen (memory s) id → id < MAX_AREAS };
+    ghost numbered: { (s : Self) (id : ℕ) → IsOpen (Self.memory s) id → id < MAX_AREAS };
 }

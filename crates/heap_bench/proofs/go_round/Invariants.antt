@@ -3,4 +3,4 @@ use Rattle.heap_bench.proofs.go_round.Given as goal
 
 -- the span spells a heap
 abbrev pub invariant-loop : goal.invariant-loop
-invariant-loop g l = IsSpan (g.S.Store.memory l.store) l.span
+invariant-loop g l = IsSpan (g.S.Words.memory l.store) l.span

@@ -3,4 +3,4 @@ use Rattle.heap_bench.proofs.thin.Given as goal
 
 -- the span spells a heap
 abbrev pub invariant-loop-pair : goal.invariant-loop-pair
-invariant-loop-pair g l = IsSpan (g.S.Store.memory l.store) l.span
+invariant-loop-pair g l = IsSpan (g.S.Words.memory l.store) l.span

@@ -1,11 +1,11 @@
-//! The calls of `Store`, over page lists.
+//! The calls of a store, over page lists.
 #![tactic(auto, unfolding(rh_defs::specs::Memory::bytes, crate::specs::Paged::memory_of))]
 
 ghost use Rattle.std.specs.Prelude.{◌≡◌, ℕ, ◌<◌, true, false, get_or, length, unwrap_or, IfSome};
 
 use super::PagedStore;
 use rh_region::PAGE;
-use rh_store::{AreaId, Store, StoreFault};
+use rh_store::{AreaId, Pages, Store, StoreFault, Words};
 
 /// The number of the first area that isn't open.
 fn first_closed(opened: &[bool]) -> Option<usize>
@@ -20,46 +20,10 @@ fn first_closed(opened: &[bool]) -> Option<usize>
     None
 }
 
-impl Store for PagedStore {
-    ghost use Rattle.rh_pages.specs.Paged.{memory_of, ledger_law, whole_law, within_law, few_law, small_law, numbered_law};
+impl Words for PagedStore {
+    ghost use Rattle.rh_pages.specs.Paged.{memory_of, small_law};
 
     ghost memory = { memory_of };
-
-    fn open(&mut self) -> Result<AreaId, StoreFault> {
-        match first_closed(&self.opened) {
-            None => Err(StoreFault::TooManyAreas),
-            Some(i) => {
-                self.opened[i] = true;
-                Ok(AreaId(i as u8))
-            }
-        }
-    }
-
-    fn close(&mut self, id: AreaId) {
-        let pages = self.len(id) / PAGE;
-        self.shrink(id, pages);
-        self.opened[id.0 as usize] = false;
-    }
-
-    fn grow(&mut self, id: AreaId, pages: usize) -> Result<(), StoreFault> {
-        if self.free.len() < pages {
-            return Err(StoreFault::NoPages);
-        }
-        for _page in 0..pages {
-            self.grow_page(id);
-        }
-        Ok(())
-    }
-
-    fn grow_check(&self, id: AreaId, pages: usize) -> bool {
-        pages <= self.free.len()
-    }
-
-    fn shrink(&mut self, id: AreaId, pages: usize) {
-        for _page in 0..pages {
-            self.shrink_page(id);
-        }
-    }
 
     fn word(&self, id: AreaId, at: usize) -> u32 {
         if at % PAGE <= PAGE - 4 {
@@ -99,14 +63,6 @@ impl Store for PagedStore {
         }
     }
 
-    fn copy(&mut self, id: AreaId, at: usize, id2: AreaId, at2: usize, n: usize) {
-        if id.0 == id2.0 {
-            self.slide(id, at, at2, n);
-        } else {
-            self.copy_across(id, at, id2, at2, n);
-        }
-    }
-
     fn copy_in(&mut self, id: AreaId, at: usize, from: &[u8]) {
         let n = from.len();
         let mut done = 0;
@@ -133,6 +89,32 @@ impl Store for PagedStore {
         PAGE * self.areas[id.0 as usize].len()
     }
 
+    ghost small = { small_law };
+}
+
+impl Pages for PagedStore {
+    ghost use Rattle.rh_pages.specs.Paged.{ledger_law, whole_law, within_law, few_law};
+
+    fn grow(&mut self, id: AreaId, pages: usize) -> Result<(), StoreFault> {
+        if self.free.len() < pages {
+            return Err(StoreFault::NoPages);
+        }
+        for _page in 0..pages {
+            self.grow_page(id);
+        }
+        Ok(())
+    }
+
+    fn grow_check(&self, id: AreaId, pages: usize) -> bool {
+        pages <= self.free.len()
+    }
+
+    fn shrink(&mut self, id: AreaId, pages: usize) {
+        for _page in 0..pages {
+            self.shrink_page(id);
+        }
+    }
+
     fn free_pages(&self) -> usize {
         self.free.len()
     }
@@ -144,8 +126,34 @@ impl Store for PagedStore {
     ghost within = { within_law };
 
     ghost few = { few_law };
+}
 
-    ghost small = { small_law };
+impl Store for PagedStore {
+    ghost use Rattle.rh_pages.specs.Paged.{numbered_law};
+
+    fn open(&mut self) -> Result<AreaId, StoreFault> {
+        match first_closed(&self.opened) {
+            None => Err(StoreFault::TooManyAreas),
+            Some(i) => {
+                self.opened[i] = true;
+                Ok(AreaId(i as u8))
+            }
+        }
+    }
+
+    fn close(&mut self, id: AreaId) {
+        let pages = self.len(id) / PAGE;
+        self.shrink(id, pages);
+        self.opened[id.0 as usize] = false;
+    }
+
+    fn copy(&mut self, id: AreaId, at: usize, id2: AreaId, at2: usize, n: usize) {
+        if id.0 == id2.0 {
+            self.slide(id, at, at2, n);
+        } else {
+            self.copy_across(id, at, id2, at2, n);
+        }
+    }
 
     ghost numbered = { numbered_law };
 }

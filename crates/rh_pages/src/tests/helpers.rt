@@ -2,7 +2,7 @@
 ghost use Rattle.std.specs.Prelude.{◌≡◌, ◌+◌, ◌^◌, ◌≤◌, length, vec_len, IfOk};
 ghost use Rattle.rh_defs.specs.Memory.{IsOpen};
 
-use rh_store::{AreaId, Store};
+use rh_store::{AreaId, Pages, Words};
 use std::alloc::{AllocError, Global};
 
 /// Bytes of which neighbours differ.
@@ -20,7 +20,7 @@ pub fn pattern(alloc: Global, n: usize) -> Result<Vec<u8>, AllocError>
 /// One call of nine, at a store with two areas open: both grow in turns, the first is filled and its
 /// bytes slide up and down, and then its last page goes to the second. False where it can't be done.
 #[tactic(auto, using(rh_defs::proofs::BytesLaws::word_laws, rh_defs::proofs::MemoryLaws::memory_laws, rh_defs::proofs::MemoryLaws::pool_laws))]
-pub fn play<S: Store>(store: &mut S, x: AreaId, y: AreaId, step: usize, fill: &[u8]) -> bool
+pub fn play<S: Pages>(store: &mut S, x: AreaId, y: AreaId, step: usize, fill: &[u8]) -> bool
     requires x { IsOpen (S.memory store.old) x.0 }
     requires y { IsOpen (S.memory store.old) y.0 }
     ensures x { IsOpen (S.memory store.new) x.0 }
@@ -35,7 +35,7 @@ pub fn play<S: Store>(store: &mut S, x: AreaId, y: AreaId, step: usize, fill: &[
 
 /// The calls in the middle, for which the first area has two pages.
 #[tactic(auto, using(rh_defs::proofs::BytesLaws::word_laws, rh_defs::proofs::MemoryLaws::memory_laws, rh_defs::proofs::MemoryLaws::pool_laws))]
-fn change<S: Store>(store: &mut S, x: AreaId, y: AreaId, step: usize, fill: &[u8]) -> bool
+fn change<S: Pages>(store: &mut S, x: AreaId, y: AreaId, step: usize, fill: &[u8]) -> bool
     requires x { IsOpen (S.memory store.old) x.0 }
     requires y { IsOpen (S.memory store.old) y.0 }
     ensures x { IsOpen (S.memory store.new) x.0 }
@@ -55,7 +55,7 @@ fn change<S: Store>(store: &mut S, x: AreaId, y: AreaId, step: usize, fill: &[u8
 }
 
 /// Whether an area of one store has the bytes of an area of another, which are read into two buffers.
-pub fn alike<A: Store, B: Store>(
+pub fn alike<A: Words, B: Words>(
     a: &A,
     id: AreaId,
     b: &B,
@@ -76,7 +76,7 @@ pub fn alike<A: Store, B: Store>(
 }
 
 /// Whether all bytes of an area from an offset on are zero, which are read into a buffer.
-pub fn zero_from<S: Store>(store: &S, id: AreaId, at: usize, buffer: &mut [u8]) -> bool
+pub fn zero_from<S: Words>(store: &S, id: AreaId, at: usize, buffer: &mut [u8]) -> bool
     requires { IsOpen (S.memory store.now) id.0 }
 {
     let n = store.len(id);

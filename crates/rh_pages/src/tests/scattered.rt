@@ -3,7 +3,7 @@
 
 use super::helpers::{alike, pattern, play, zero_from};
 use crate::PagedStore;
-use rh_store::{PlainStore, Store};
+use rh_store::{Pages, PlainStore, Store, Words};
 use std::test::Fail;
 
 #[test]

@@ -3,12 +3,12 @@ ghost use Rattle.std.specs.Prelude.{◌≡◌, ◌≢◌, ℕ, ◌+◌, ◌<◌,
 ghost use Rattle.rh_defs.specs.Bytes.{word, part};
 ghost use Rattle.rh_defs.specs.Memory.{IsOpen, bytes};
 
-use crate::{AreaId, MAX_AREAS, PlainStore, Store, StoreFault};
+use crate::{AreaId, MAX_AREAS, Pages, PlainStore, Store, StoreFault, Words};
 use std::test::Fail;
 
 /// Exchanges the first two words of an area: the example of the crate's first page.
 #[tactic(auto, using(rh_defs::proofs::BytesLaws::word_laws, rh_defs::proofs::MemoryLaws::memory_laws))]
-fn swap_words<S: Store>(store: &mut S, id: AreaId)
+fn swap_words<S: Words>(store: &mut S, id: AreaId)
     requires opened { IsOpen (S.memory store.old) id.0 }
     requires room { 8 ≤ length (bytes (S.memory store.old) id.0) }
     ensures first { word (bytes (S.memory store.new) id.0) 0 ≡ word (bytes (S.memory store.old) id.0) 4 }
@@ -47,7 +47,7 @@ fn stamp<S: Store>(store: &mut S, id: AreaId, id2: AreaId, w: u32) -> u32
 
 /// Grows an area by a page and clears its second word, or changes nothing.
 #[tactic(auto, using(rh_defs::proofs::BytesLaws::word_laws, rh_defs::proofs::MemoryLaws::memory_laws, rh_defs::proofs::MemoryLaws::pool_laws))]
-fn lengthen<S: Store>(store: &mut S, id: AreaId) -> Result<(), StoreFault>
+fn lengthen<S: Pages>(store: &mut S, id: AreaId) -> Result<(), StoreFault>
     requires opened { IsOpen (S.memory store.old) id.0 }
     ensures opened { IsOpen (S.memory store.new) id.0 }
     ensures ok { OnOk result (length (bytes (S.memory store.new) id.0) ≡ length (bytes (S.memory store.old) id.0) + 4096) }

@@ -2,7 +2,7 @@
 ghost use Rattle.std.specs.Prelude.{◌≡◌, ◌+◌, ◌^◌, ◌≤◌, length, vec_len, IfOk};
 ghost use Rattle.rh_defs.specs.Memory.{IsOpen, bytes};
 
-use crate::{AreaId, Store};
+use crate::{AreaId, Words};
 use std::alloc::{AllocError, Global};
 
 /// Bytes of which neighbours differ.
@@ -19,7 +19,7 @@ pub fn pattern(alloc: Global, n: usize) -> Result<Vec<u8>, AllocError>
 
 /// Slides bytes in an area that begins with the model's, and in the model.
 #[tactic(auto, using(rh_defs::proofs::BytesLaws::word_laws, rh_defs::proofs::MemoryLaws::memory_laws))]
-pub fn slide_both<S: Store>(
+pub fn slide_both<S: Words>(
     store: &mut S,
     id: AreaId,
     model: &mut [u8],
@@ -41,7 +41,7 @@ pub fn slide_both<S: Store>(
 }
 
 /// Whether an area begins with these bytes, which are read into a buffer of their number.
-pub fn reads_as<S: Store>(store: &S, id: AreaId, want: &[u8], buffer: &mut [u8]) -> bool
+pub fn reads_as<S: Words>(store: &S, id: AreaId, want: &[u8], buffer: &mut [u8]) -> bool
     requires opened { IsOpen (S.memory store.now) id.0 }
     requires within { length want.now ≤ length (bytes (S.memory store.now) id.0) }
     requires same { length buffer.old ≡ length want.now }

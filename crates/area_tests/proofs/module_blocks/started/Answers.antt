@@ -5,5 +5,5 @@ use Rattle.area_tests.proofs.module_blocks.started.Goals as goal
 
 pub returns : goal.returns
 returns g c =
-    let n = g.S.Store.memory c.start.new.store in
+    let n = g.S.Words.memory c.start.new.store in
     is_module n c.start.result _ (subst (λ a. IsOpen n a.0) (sym c.start.ensures.area) c.start.ensures.only.opened) c.start.ensures.spells

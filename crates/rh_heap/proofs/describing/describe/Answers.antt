@@ -28,12 +28,12 @@ pub overflow_add-place : goal.overflow_add-place
 overflow_add-place g c =
     let t = (walk_turn _ _ _ _ _ _ c.requires.spells c.walk.invariant.walk c.follow-place.ensures).some c.if-place-eq0.false in
     let s = c.requires.spells in
-    omega (arith, t.room, s.heap.fits, s.within, g.met.S.Store.small c.args.store.now c.args.span.area.0)
+    omega (arith, t.room, s.heap.fits, s.within, g.met.S.Words.small c.args.store.now c.args.span.area.0)
 
 pub walk-preserved : goal.walk-preserved
 walk-preserved g c =
     let t = (walk_turn _ _ _ _ _ _ c.requires.spells c.walk.invariant.walk c.follow-place.ensures).some c.if-place-eq0.false in
-    subst (λ i. Summed c.args.span.at (heap_in (g.S.Store.memory c.args.store.now) c.args.span) c.follow-place.result i (c.walk.total + c.read-size.result)) (sym c.max-largest.ensures)
+    subst (λ i. Summed c.args.span.at (heap_in (g.S.Words.memory c.args.store.now) c.args.span) c.follow-place.result i (c.walk.total + c.read-size.result)) (sym c.max-largest.ensures)
     (sum_more _ _ _ _ _ _ _ _ c.walk.invariant t c.read-size.ensures.value (size_below _ _ _ _ _ _ _ t c.read-size.ensures.value))
 
 pub walk-smaller : goal.walk-smaller
@@ -46,4 +46,4 @@ overflow_add-total g c =
     let t = (walk_turn _ _ _ _ _ _ c.requires.spells c.walk.invariant.walk c.follow-place.ensures).some c.if-place-eq0.false in
     let w = sum_more _ _ _ _ _ _ _ _ c.walk.invariant t c.read-size.ensures.value (size_below _ _ _ _ _ _ _ t c.read-size.ensures.value) in
     let s = c.requires.spells in
-    omega (arith, sum_fits _ _ _ _ _ w s.heap.fits, s.within, g.met.S.Store.small c.args.store.now c.args.span.area.0)
+    omega (arith, sum_fits _ _ _ _ _ w s.heap.fits, s.within, g.met.S.Words.small c.args.store.now c.args.span.area.0)

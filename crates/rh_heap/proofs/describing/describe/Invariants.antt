@@ -5,7 +5,7 @@ use Rattle.rh_heap.proofs.SizeLaws.{Summed}
 use Rattle.rh_heap.proofs.describing.describe.Given as goal
 
 abbrev pub invariant-walk : goal.invariant-walk
-invariant-walk g l = Summed l.span.at (heap_in (g.S.Store.memory l.store) l.span) l.from l.largest l.total
+invariant-walk g l = Summed l.span.at (heap_in (g.S.Words.memory l.store) l.span) l.from l.largest l.total
 
 abbrev pub decreases-walk : goal.decreases-walk
-decreases-walk g l = base (heap_in (g.S.Store.memory l.store) l.span) - l.from
+decreases-walk g l = base (heap_in (g.S.Words.memory l.store) l.span) - l.from

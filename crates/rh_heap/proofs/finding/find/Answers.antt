@@ -31,4 +31,4 @@ pub overflow_add-place : goal.overflow_add-place
 overflow_add-place g c =
     let t = (walk_turn _ _ _ _ _ _ c.requires.spells c.walk.invariant c.follow-place.ensures).some c.if-place-eq0.false in
     let s = c.requires.spells in
-    omega (arith, t.room, s.heap.fits, s.within, g.met.S.Store.small c.args.store.now c.args.span.area.0)
+    omega (arith, t.room, s.heap.fits, s.within, g.met.S.Words.small c.args.store.now c.args.span.area.0)

@@ -5,7 +5,7 @@ use Rattle.rh_heap.proofs.HoldLaws.{Passed}
 use Rattle.rh_heap.proofs.holding.holds.Given as goal
 
 abbrev pub invariant-walk : goal.invariant-walk
-invariant-walk g l = Passed l.span.at (heap_in (g.S.Store.memory l.store) l.span) l.address l.n l.from l.place
+invariant-walk g l = Passed l.span.at (heap_in (g.S.Words.memory l.store) l.span) l.address l.n l.from l.place
 
 abbrev pub decreases-walk : goal.decreases-walk
 decreases-walk g l = l.base - l.place

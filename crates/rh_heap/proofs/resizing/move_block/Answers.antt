@@ -29,7 +29,7 @@ returns-in-Some-clause-only g c =
     let t = c.in-Some.ensures.took in
     let l = c.requires.longer in
     let i = new_inside _ _ _ _ c.requires.span.spells c.requires.found _ c.requires.longer _ _ t.spells t.address_is in
-    let e = moved_end (g.S.Store.memory c.args.store.now) (g.S.Store.memory c.move_bytes.new.store) c.args.span c.args.spot c.args.size c.requires.span.spells c.requires.found c.requires.longer
+    let e = moved_end (g.S.Words.memory c.args.store.now) (g.S.Words.memory c.move_bytes.new.store) c.args.span c.args.spot c.args.size c.requires.span.spells c.requires.found c.requires.longer
     (moved_spells _ _ _ _ c.requires.span.spells c.requires.found _ c.requires.longer _ _ _ t.spells t.address_is c.move_bytes.ensures.bytes c.move_bytes.ensures.only.outside) in
     Edited-both _ _ _ _ _ _ c.in-Some.ensures.only
     (Edited-both _ _ _ _ _ _ (Edited-wider _ _ _ _ _ _ _ c.move_bytes.ensures.only (omega arith) (omega arith)) (Edited-wider _ _ _ _ _ _ _ c.release.ensures.only (omega arith) (omega arith)))

@@ -7,5 +7,5 @@ use Rattle.rh_heap.proofs.resizing.resize.Goals as goal
 
 pub returns-else-n-eq0-clause-spells : goal.returns-else-n-eq0-clause-spells
 returns-else-n-eq0-clause-spells g c =
-    (answered (g.S.Store.memory c.args.store.now) (g.S.Store.memory c.change.new.store) _ _ _ c.in-Some.ensures c.args.delta _
+    (answered (g.S.Words.memory c.args.store.now) (g.S.Words.memory c.change.new.store) _ _ _ c.in-Some.ensures c.args.delta _
     (c.moved-n.ensures.value ∙ ap (λ d. moved (c.in-Some.spot.size - 4) d) (to_z-of_z w32 c.args.delta c.ranges.delta)) _ c.if-n-eq0.false c.segment_size.ensures.size c.requires.spells _ c.change.ensures.changed).spells

@@ -24,13 +24,13 @@ pub overflow_add-spot : goal.overflow_add-spot
 overflow_add-spot g c =
     let b = widen_bounds _ _ _ _ c.requires.span.spells c.requires.found _ c.requires.multiple _ (into _ _ _ _ c.requires.span.spells c.requires.found _ _ c.requires.way) in
     let s = c.requires.span.spells in
-    omega (arith, b.inside, b.fits, s.heap.fits, s.within, g.met.S.Store.small c.args.store.now c.args.span.area.0)
+    omega (arith, b.inside, b.fits, s.heap.fits, s.within, g.met.S.Words.small c.args.store.now c.args.span.area.0)
 
 pub overflow_add-upper-2 : goal.overflow_add-upper-2
 overflow_add-upper-2 g c =
     let b = widen_bounds _ _ _ _ c.requires.span.spells c.requires.found _ c.requires.multiple _ (into _ _ _ _ c.requires.span.spells c.requires.found _ _ c.requires.way) in
     let s = c.requires.span.spells in
-    omega (arith, b.inside, s.heap.fits, s.within, g.met.S.Store.small c.args.store.now c.args.span.area.0)
+    omega (arith, b.inside, s.heap.fits, s.within, g.met.S.Words.small c.args.store.now c.args.span.area.0)
 
 pub returns-clause-only : goal.returns-clause-only
 returns-clause-only g c =

@@ -55,4 +55,4 @@ spot_at-requires-clause-below g c =
 
 pub spot_at-requires-clause-walking : goal.spot_at-requires-clause-walking
 spot_at-requires-clause-walking g c =
-    subst (λ p. Walking c.args.span.at (heap_in (g.S.Store.memory c.args.store.now) c.args.span) c.args.target c.walk.link c.walk.low c.walk.from p) c.if-place-target.false c.walk.invariant
+    subst (λ p. Walking c.args.span.at (heap_in (g.S.Words.memory c.args.store.now) c.args.span) c.args.target c.walk.link c.walk.low c.walk.from p) c.if-place-target.false c.walk.invariant

@@ -4,7 +4,7 @@ use Rattle.rh_heap.specs.Spots.{Walking}
 use Rattle.rh_heap.proofs.walking.find_segment.Given as goal
 
 abbrev pub invariant-walk : goal.invariant-walk
-invariant-walk g l = Walking l.span.at (heap_in (g.S.Store.memory l.store) l.span) l.target l.link l.low l.from l.place
+invariant-walk g l = Walking l.span.at (heap_in (g.S.Words.memory l.store) l.span) l.target l.link l.low l.from l.place
 
 abbrev pub decreases-walk : goal.decreases-walk
 decreases-walk g l = l.target - l.place

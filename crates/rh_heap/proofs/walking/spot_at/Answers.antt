@@ -6,18 +6,18 @@ use Rattle.rh_heap.proofs.walking.spot_at.Goals as goal
 
 pub read-size-requires-clause-within : goal.read-size-requires-clause-within
 read-size-requires-clause-within g c =
-    let t = at_target _ _ _ c.args.place c.args.link c.args.low c.args.from _ _ (base (heap_in (g.S.Store.memory c.args.store.now) c.args.span)) c.requires.span.spells c.requires.walking refl (sym c.requires.span.spells.base) c.requires.below c.follow.ensures in
+    let t = at_target _ _ _ c.args.place c.args.link c.args.low c.args.from _ _ (base (heap_in (g.S.Words.memory c.args.store.now) c.args.span)) c.requires.span.spells c.requires.walking refl (sym c.requires.span.spells.base) c.requires.below c.follow.ensures in
     let s = c.requires.span.spells in
     omega (arith, t.room, s.heap.fits, s.within)
 
 pub read-size-requires-else-follow-place-clause-within : goal.read-size-requires-else-follow-place-clause-within
 read-size-requires-else-follow-place-clause-within g c =
-    let t = at_target _ _ _ c.args.place c.args.link c.args.low c.args.from _ _ (base (heap_in (g.S.Store.memory c.args.store.now) c.args.span)) c.requires.span.spells c.requires.walking refl (sym c.requires.span.spells.base) c.requires.below c.follow.ensures in
+    let t = at_target _ _ _ c.args.place c.args.link c.args.low c.args.from _ _ (base (heap_in (g.S.Words.memory c.args.store.now) c.args.span)) c.requires.span.spells c.requires.walking refl (sym c.requires.span.spells.base) c.requires.below c.follow.ensures in
     let s = c.requires.span.spells in
     omega (arith, t.room, s.heap.fits, s.within)
 
 pub returns-then-follow-place : goal.returns-then-follow-place
-returns-then-follow-place g c = (at_target _ _ _ c.args.place c.args.link c.args.low c.args.from _ _ (base (heap_in (g.S.Store.memory c.args.store.now) c.args.span)) c.requires.span.spells c.requires.walking refl (sym c.requires.span.spells.base) c.requires.below c.follow.ensures).hole c.if-follow-place.true _ c.read-size.ensures.value
+returns-then-follow-place g c = (at_target _ _ _ c.args.place c.args.link c.args.low c.args.from _ _ (base (heap_in (g.S.Words.memory c.args.store.now) c.args.span)) c.requires.span.spells c.requires.walking refl (sym c.requires.span.spells.base) c.requires.below c.follow.ensures).hole c.if-follow-place.true _ c.read-size.ensures.value
 
 pub returns-else-follow-place : goal.returns-else-follow-place
-returns-else-follow-place g c = (at_target _ _ _ c.args.place c.args.link c.args.low c.args.from _ _ (base (heap_in (g.S.Store.memory c.args.store.now) c.args.span)) c.requires.span.spells c.requires.walking refl (sym c.requires.span.spells.base) c.requires.below c.follow.ensures).used c.if-follow-place.false _ c.read-size-else-follow-place.ensures.value
+returns-else-follow-place g c = (at_target _ _ _ c.args.place c.args.link c.args.low c.args.from _ _ (base (heap_in (g.S.Words.memory c.args.store.now) c.args.span)) c.requires.span.spells c.requires.walking refl (sym c.requires.span.spells.base) c.requires.below c.follow.ensures).used c.if-follow-place.false _ c.read-size-else-follow-place.ensures.value

@@ -19,25 +19,25 @@ shift-requires-clause-row g c =
 
 pub returns-in_default-clause-answer : goal.returns-in_default-clause-answer
 returns-in_default-clause-answer g c = λ cut t.
-    let s = slot_in (g.S.Store.memory c.args.store.now) c.args.slot in
+    let s = slot_in (g.S.Words.memory c.args.store.now) c.args.slot in
     let q = spliced_pages _ s _ _ _ _ _ _ _ _ _ cut t c.requires.slot.spells.pages c.requires.offset c.requires.out c.weight_of.ensures c.weight_of-2.ensures c.top_of.ensures in
     sym (ap outcome_of (fit_full _ s _ (has_none _ _ _ c.in_default.ensures.refused refl q)))
 
 pub returns-in_default-clause-spells : goal.returns-in_default-clause-spells
 returns-in_default-clause-spells g c = λ cut t.
-    let s = slot_in (g.S.Store.memory c.args.store.now) c.args.slot in
+    let s = slot_in (g.S.Words.memory c.args.store.now) c.args.slot in
     let q = spliced_pages _ s _ _ _ _ _ _ _ _ _ cut t c.requires.slot.spells.pages c.requires.offset c.requires.out c.weight_of.ensures c.weight_of-2.ensures c.top_of.ensures in
     result_err _ _ _ _ (fit_full _ s _ (has_none _ _ _ c.in_default.ensures.refused refl q)) (kept _ _ _ _ c.in_default.ensures.err c.requires.slot.spells)
 
 pub returns-clause-answer : goal.returns-clause-answer
 returns-clause-answer g c = λ cut t.
-    let s = slot_in (g.S.Store.memory c.args.store.now) c.args.slot in
+    let s = slot_in (g.S.Words.memory c.args.store.now) c.args.slot in
     let q = spliced_pages _ s _ _ _ _ _ _ _ _ _ cut t c.requires.slot.spells.pages c.requires.offset c.requires.out c.weight_of.ensures c.weight_of-2.ensures c.top_of.ensures in
     sym (ap outcome_of (fit_done _ s _ (has_room _ _ _ c.in-Ok.ensures.refused (λ e. false-true e) q)))
 
 pub returns-clause-spells : goal.returns-clause-spells
 returns-clause-spells g c = λ cut t.
-    let s = slot_in (g.S.Store.memory c.args.store.now) c.args.slot in
+    let s = slot_in (g.S.Words.memory c.args.store.now) c.args.slot in
     let q = spliced_pages _ s _ _ _ _ _ _ _ _ _ cut t c.requires.slot.spells.pages c.requires.offset c.requires.out c.weight_of.ensures c.weight_of-2.ensures c.top_of.ensures in
     let r = c.in-Ok.ensures.ok in
     let lr = r.len in

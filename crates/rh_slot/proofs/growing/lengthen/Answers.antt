@@ -11,7 +11,7 @@ use Rattle.rh_slot.proofs.growing.lengthen.Goals as goal
 
 pub shift-requires-clause-row : goal.shift-requires-clause-row
 shift-requires-clause-row g c =
-    let s = slot_in (g.S.Store.memory c.args.store.now) c.args.slot in
+    let s = slot_in (g.S.Words.memory c.args.store.now) c.args.slot in
     let r = c.in-Ok.ensures.ok in
     let lb = c.requires.slot.spells.pages in
     let et = c.top_of-top.ensures in
@@ -21,27 +21,27 @@ shift-requires-clause-row g c =
 
 pub extend_heap-requires-clause-span : goal.extend_heap-requires-clause-span
 extend_heap-requires-clause-span g c =
-    (slid (g.S.Store.memory c.args.store.now) _ _ c.args.slot _ _ _ _ c.requires.slot.spells c.in-Ok.ensures.ok c.shift.ensures.only.opened c.shift.ensures.below c.shift.ensures.only.outside.len
+    (slid (g.S.Words.memory c.args.store.now) _ _ c.args.slot _ _ _ _ c.requires.slot.spells c.in-Ok.ensures.ok c.shift.ensures.only.opened c.shift.ensures.below c.shift.ensures.only.outside.len
     c.flex_place-from.ensures c.top_of-top.ensures c.heap_of.ensures).is_span
 
 pub extend_heap-requires-clause-multiple : goal.extend_heap-requires-clause-multiple
 extend_heap-requires-clause-multiple g c =
-    let s = slid (g.S.Store.memory c.args.store.now) _ _ c.args.slot _ _ _ _ c.requires.slot.spells c.in-Ok.ensures.ok c.shift.ensures.only.opened c.shift.ensures.below c.shift.ensures.only.outside.len
+    let s = slid (g.S.Words.memory c.args.store.now) _ _ c.args.slot _ _ _ _ c.requires.slot.spells c.in-Ok.ensures.ok c.shift.ensures.only.opened c.shift.ensures.below c.shift.ensures.only.outside.len
     c.flex_place-from.ensures c.top_of-top.ensures c.heap_of.ensures in
-    let d : to_z w32 (c.pages_for-more.result * 4096) ≡ pos (c.pages_for-more.result * 4096) = to_z_pos w32 (c.pages_for-more.result * 4096) (let r = c.in-Ok.ensures.ok in let l = r.len in omega (arith, g.met.S.Store.small c.grow_to.new.store c.args.slot.area.0)) in
+    let d : to_z w32 (c.pages_for-more.result * 4096) ≡ pos (c.pages_for-more.result * 4096) = to_z_pos w32 (c.pages_for-more.result * 4096) (let r = c.in-Ok.ensures.ok in let l = r.len in omega (arith, g.met.S.Words.small c.grow_to.new.store c.args.slot.area.0)) in
     let m = c.requires.slot.spells.words.heap.heap.multiple in
     rw (s.heap, d) (omega arith)
 
 pub extend_heap-requires-clause-within : goal.extend_heap-requires-clause-within
 extend_heap-requires-clause-within g c =
-    let s = slid (g.S.Store.memory c.args.store.now) _ _ c.args.slot _ _ _ _ c.requires.slot.spells c.in-Ok.ensures.ok c.shift.ensures.only.opened c.shift.ensures.below c.shift.ensures.only.outside.len
+    let s = slid (g.S.Words.memory c.args.store.now) _ _ c.args.slot _ _ _ _ c.requires.slot.spells c.in-Ok.ensures.ok c.shift.ensures.only.opened c.shift.ensures.below c.shift.ensures.only.outside.len
     c.flex_place-from.ensures c.top_of-top.ensures c.heap_of.ensures in
-    let d : to_z w32 (c.pages_for-more.result * 4096) ≡ pos (c.pages_for-more.result * 4096) = to_z_pos w32 (c.pages_for-more.result * 4096) (let r = c.in-Ok.ensures.ok in let l = r.len in omega (arith, g.met.S.Store.small c.grow_to.new.store c.args.slot.area.0)) in
+    let d : to_z w32 (c.pages_for-more.result * 4096) ≡ pos (c.pages_for-more.result * 4096) = to_z_pos w32 (c.pages_for-more.result * 4096) (let r = c.in-Ok.ensures.ok in let l = r.len in omega (arith, g.met.S.Words.small c.grow_to.new.store c.args.slot.area.0)) in
     rw (s.heap, d) (let r = s.room in omega arith)
 
 pub returns-clause-spells : goal.returns-clause-spells
 returns-clause-spells g c =
-    let s = slot_in (g.S.Store.memory c.args.store.now) c.args.slot in
+    let s = slot_in (g.S.Words.memory c.args.store.now) c.args.slot in
     let from = c.flex_place-from.result in
     let more = c.pages_for-more.result * 4096 in
     let n = c.top_of-top.result - from in
@@ -51,11 +51,11 @@ returns-clause-spells g c =
     let ef = c.flex_place-from.ensures in
     let lr = r.len in
     let fits = c.requires.slot.spells.words.heap.heap.fits in
-    let sl = slid (g.S.Store.memory c.args.store.now) _ _ c.args.slot _ _ _ _ c.requires.slot.spells c.in-Ok.ensures.ok c.shift.ensures.only.opened c.shift.ensures.below c.shift.ensures.only.outside.len
+    let sl = slid (g.S.Words.memory c.args.store.now) _ _ c.args.slot _ _ _ _ c.requires.slot.spells c.in-Ok.ensures.ok c.shift.ensures.only.opened c.shift.ensures.below c.shift.ensures.only.outside.len
     c.flex_place-from.ensures c.top_of-top.ensures c.heap_of.ensures in
-    let d : to_z w32 (c.pages_for-more.result * 4096) ≡ pos (c.pages_for-more.result * 4096) = to_z_pos w32 (c.pages_for-more.result * 4096) (let r = c.in-Ok.ensures.ok in let l = r.len in omega (arith, g.met.S.Store.small c.grow_to.new.store c.args.slot.area.0)) in
+    let d : to_z w32 (c.pages_for-more.result * 4096) ≡ pos (c.pages_for-more.result * 4096) = to_z_pos w32 (c.pages_for-more.result * 4096) (let r = c.in-Ok.ensures.ok in let l = r.len in omega (arith, g.met.S.Words.small c.grow_to.new.store c.args.slot.area.0)) in
     let kept = not_refused c.extend_heap.result c.extend_heap.ensures.ok c.extend_heap.ensures.refused (λ l. let q = rw (sl.heap, d) at l in omega arith) in
-    let there = subst (λ h. SpellsIn (g.S.Store.memory c.extend_heap.new.store) c.heap_of.result h) (raised_by c.args.shortage more (to_z w32 more) s.heap _ d (ap (λ k. k * 4096) c.pages_for-more.ensures) sl.heap) kept in
+    let there = subst (λ h. SpellsIn (g.S.Words.memory c.extend_heap.new.store) c.heap_of.result h) (raised_by c.args.shortage more (to_z w32 more) s.heap _ d (ap (λ k. k * 4096) c.pages_for-more.ensures) sl.heap) kept in
     let outside = rw (sl.heap, c.heap_of.ensures) at c.extend_heap.ensures.only.outside in
     let words = budged _ _ _ s (raised c.args.shortage s.heap) more from (from + more) n _ (words_grown _ _ s c.requires.slot.spells r.same (omega arith)) ef refl (omega arith) (omega arith)
     c.shift.ensures.shifted c.shift.ensures.only.outside.len outside (omega arith) (rw c.heap_of.ensures at there) (omega (arith, c.pages_for-more.ensures)) in

@@ -11,11 +11,11 @@ returns-then-shortage-eq0-clause-answer g c = growth_none _ _ _ c.if-shortage-eq
 
 pub returns-then-is_stuck-clause-answer : goal.returns-then-is_stuck-clause-answer
 returns-then-is_stuck-clause-answer g c =
-    growth_stuck _ _ (slot_in (g.S.Store.memory c.args.store.now) c.args.slot)
-    (ap (λ b. nat_lt 0 c.args.shortage && not b) (budging_same (g.S.Store.memory c.args.store.now) c.args.slot) ∙ sym c.is_stuck.ensures ∙ c.if-is_stuck.true)
+    growth_stuck _ _ (slot_in (g.S.Words.memory c.args.store.now) c.args.slot)
+    (ap (λ b. nat_lt 0 c.args.shortage && not b) (budging_same (g.S.Words.memory c.args.store.now) c.args.slot) ∙ sym c.is_stuck.ensures ∙ c.if-is_stuck.true)
 
 pub returns-clause-answer : goal.returns-clause-answer
 returns-clause-answer g c =
-    growth_by _ _ _ (slot_in (g.S.Store.memory c.args.store.now) c.args.slot)
-    (ap (λ b. nat_lt 0 c.args.shortage && not b) (budging_same (g.S.Store.memory c.args.store.now) c.args.slot) ∙ sym c.is_stuck.ensures ∙ c.if-is_stuck.false)
+    growth_by _ _ _ (slot_in (g.S.Words.memory c.args.store.now) c.args.slot)
+    (ap (λ b. nat_lt 0 c.args.shortage && not b) (budging_same (g.S.Words.memory c.args.store.now) c.args.slot) ∙ sym c.is_stuck.ensures ∙ c.if-is_stuck.false)
     c.lengthen.ensures.refused c.lengthen.ensures.reason

@@ -9,12 +9,12 @@ walk-init g c = unheld_start _ _ _ _ c.flex_place-place.ensures
 pub overflow_add-block : goal.overflow_add-block
 overflow_add-block g c =
     let t = turn _ _ _ c.requires.spells.words c.walk.invariant.walked c.in-Some.ensures.0 _ c.in-Some.ensures.1 in
-    omega (arith, t.inside, g.met.S.Store.small c.args.store.now c.args.slot.area.0)
+    omega (arith, t.inside, g.met.S.Words.small c.args.store.now c.args.slot.area.0)
 
 pub overflow_add-block-in-Some : goal.overflow_add-block-in-Some
 overflow_add-block-in-Some g c =
     let t = turn _ _ _ c.requires.spells.words c.walk.invariant.walked c.in-Some.ensures.0 _ c.in-Some.ensures.1 in
-    omega (arith, t.inside, g.met.S.Store.small c.args.store.now c.args.slot.area.0)
+    omega (arith, t.inside, g.met.S.Words.small c.args.store.now c.args.slot.area.0)
 
 pub returns-then-is_inside : goal.returns-then-is_inside
 returns-then-is_inside g c = sym (held _ _ _ _ _ c.requires.spells.words c.walk.invariant c.in-Some.ensures.0 _ c.in-Some.ensures.1 (sym c.if-is_inside.ensures))
@@ -22,12 +22,12 @@ returns-then-is_inside g c = sym (held _ _ _ _ _ c.requires.spells.words c.walk.
 pub weight_of-place-requires : goal.weight_of-place-requires
 weight_of-place-requires g c =
     let t = turn _ _ _ c.requires.spells.words c.walk.invariant.walked c.in-Some.ensures.0 _ c.in-Some.ensures.1 in
-    omega (arith, t.inside, g.met.S.Store.small c.args.store.now c.args.slot.area.0)
+    omega (arith, t.inside, g.met.S.Words.small c.args.store.now c.args.slot.area.0)
 
 pub overflow_add-place : goal.overflow_add-place
 overflow_add-place g c =
     let t = turn _ _ _ c.requires.spells.words c.walk.invariant.walked c.in-Some.ensures.0 _ c.in-Some.ensures.1 in
-    omega (arith, t.inside, c.weight_of-place.ensures, g.met.S.Store.small c.args.store.now c.args.slot.area.0)
+    omega (arith, t.inside, c.weight_of-place.ensures, g.met.S.Words.small c.args.store.now c.args.slot.area.0)
 
 pub walk-smaller : goal.walk-smaller
 walk-smaller g c =

@@ -6,7 +6,7 @@ use Rattle.rh_slot.proofs.WalkLaws.{Unheld}
 use Rattle.rh_slot.proofs.listing.in_flex.Given as goal
 
 abbrev pub invariant-walk : goal.invariant-walk
-invariant-walk g l = Unheld (slot_in (g.S.Store.memory l.store) l.slot) l.place l.address l.n
+invariant-walk g l = Unheld (slot_in (g.S.Words.memory l.store) l.slot) l.place l.address l.n
 
 abbrev pub decreases-walk : goal.decreases-walk
-decreases-walk g l = slot_length (slot_in (g.S.Store.memory l.store) l.slot) - l.place
+decreases-walk g l = slot_length (slot_in (g.S.Words.memory l.store) l.slot) - l.place

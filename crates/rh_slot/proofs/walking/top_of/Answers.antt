@@ -6,12 +6,12 @@ use Rattle.rh_slot.proofs.walking.top_of.Goals as goal
 pub weight_of-place-requires : goal.weight_of-place-requires
 weight_of-place-requires g c =
     let t = turn _ _ _ c.requires.spells.words c.walk.invariant c.in-Some.ensures.0 _ c.in-Some.ensures.1 in
-    omega (arith, t.inside, g.met.S.Store.small c.args.store.now c.args.slot.area.0)
+    omega (arith, t.inside, g.met.S.Words.small c.args.store.now c.args.slot.area.0)
 
 pub overflow_add-place : goal.overflow_add-place
 overflow_add-place g c =
     let t = turn _ _ _ c.requires.spells.words c.walk.invariant c.in-Some.ensures.0 _ c.in-Some.ensures.1 in
-    omega (arith, t.inside, c.weight_of-place.ensures, g.met.S.Store.small c.args.store.now c.args.slot.area.0)
+    omega (arith, t.inside, c.weight_of-place.ensures, g.met.S.Words.small c.args.store.now c.args.slot.area.0)
 
 pub walk-smaller : goal.walk-smaller
 walk-smaller g c =

@@ -6,7 +6,7 @@ use Rattle.rh_slot.specs.Walks.{Walked}
 use Rattle.rh_slot.proofs.walking.top_of.Given as goal
 
 abbrev pub invariant-walk : goal.invariant-walk
-invariant-walk g l = Walked (slot_in (g.S.Store.memory l.store) l.slot) l.place
+invariant-walk g l = Walked (slot_in (g.S.Words.memory l.store) l.slot) l.place
 
 abbrev pub decreases-walk : goal.decreases-walk
-decreases-walk g l = slot_length (slot_in (g.S.Store.memory l.store) l.slot) - l.place
+decreases-walk g l = slot_length (slot_in (g.S.Words.memory l.store) l.slot) - l.place

@@ -9,4 +9,4 @@ returns-clause-carried g c = Carried-slid _ _ _ _ _ _ c.slide.ensures c.requires
 
 pub returns-clause-only : goal.returns-clause-only
 returns-clause-only g c =
-    Edited-put _ _ _ _ _ _ c.slide.ensures (omega (arith, length-part (bytes (g.S.Store.memory c.args.store.now) c.args.area.0) c.args.from c.args.n))
+    Edited-put _ _ _ _ _ _ c.slide.ensures (omega (arith, length-part (bytes (g.S.Words.memory c.args.store.now) c.args.area.0) c.args.from c.args.n))

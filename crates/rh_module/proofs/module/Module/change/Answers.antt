@@ -16,33 +16,33 @@ amount g c sign = record { fits = c.ranges.delta; size_is = c.unsigned_abs.ensur
 
 pub returns-in_err-shorten-clause-answer : goal.returns-in_err-shorten-clause-answer
 returns-in_err-shorten-clause-answer g c =
-    let m = g.S.Store.memory c.args.store.now in
+    let m = g.S.Words.memory c.args.store.now in
     let a = amount g (goal.at.returns-in_err-shorten-clause-answer g c).After-pages_for-pages c.if-delta-lt0.true in
     let p = err_from_is_err_and c.from_residual.result c.from_residual.ensures.1 in
     rw (p.1, p.2, c.in_err-shorten.ensures.reason) (sym (ap answer_of (change_too_low m.free (heap_in m c.args.self) a c.in_err-shorten.ensures.refused)))
 
 pub returns-in_err-shorten-clause-spells : goal.returns-in_err-shorten-clause-spells
 returns-in_err-shorten-clause-spells g c =
-    let m = g.S.Store.memory c.args.store.now in
+    let m = g.S.Words.memory c.args.store.now in
     let a = amount g (goal.at.returns-in_err-shorten-clause-spells g c).After-pages_for-pages c.if-delta-lt0.true in
     kept (change_too_low m.free (heap_in m c.args.self) a c.in_err-shorten.ensures.refused) c.in_err-shorten.ensures.err c.requires
 
 pub returns-in_err-lengthen-clause-answer : goal.returns-in_err-lengthen-clause-answer
 returns-in_err-lengthen-clause-answer g c =
-    let m = g.S.Store.memory c.args.store.now in
+    let m = g.S.Words.memory c.args.store.now in
     let a = amount g (goal.at.returns-in_err-lengthen-clause-answer g c).After-pages_for-pages c.if-delta-lt0.false in
     let p = err_from_is_err_and c.from_residual-in_err-lengthen.result c.from_residual-in_err-lengthen.ensures.1 in
     rw (p.1, p.2, c.in_err-lengthen.ensures.reason) (sym (ap answer_of (change_no_room m.free (heap_in m c.args.self) a c.requires.spells.spells.heap.fits c.in_err-lengthen.ensures.refused)))
 
 pub returns-in_err-lengthen-clause-spells : goal.returns-in_err-lengthen-clause-spells
 returns-in_err-lengthen-clause-spells g c =
-    let m = g.S.Store.memory c.args.store.now in
+    let m = g.S.Words.memory c.args.store.now in
     let a = amount g (goal.at.returns-in_err-lengthen-clause-spells g c).After-pages_for-pages c.if-delta-lt0.false in
     kept (change_no_room m.free (heap_in m c.args.self) a c.requires.spells.spells.heap.fits c.in_err-lengthen.ensures.refused) c.in_err-lengthen.ensures.err c.requires
 
 pub returns-clause-answer : goal.returns-clause-answer
 returns-clause-answer g c =
-    let m = g.S.Store.memory c.args.store.now in
+    let m = g.S.Words.memory c.args.store.now in
     let k = (goal.at.returns-clause-answer g c).After-pages_for-pages in
     elim c.if-delta-lt0.branch [
       | then-delta-lt0+in_ok-shorten w ↦ sym (ap answer_of (change_shortened m.free (heap_in m c.args.self) (amount g k w.if-delta-lt0.true) w.in_ok-shorten.ensures.room))
@@ -51,8 +51,8 @@ returns-clause-answer g c =
 
 pub returns-clause-spells : goal.returns-clause-spells
 returns-clause-spells g c =
-    let m = g.S.Store.memory c.args.store.now in
-    let n = g.S.Store.memory c.if-delta-lt0.store in
+    let m = g.S.Words.memory c.args.store.now in
+    let n = g.S.Words.memory c.if-delta-lt0.store in
     let h = heap_in m c.args.self in
     let k = (goal.at.returns-clause-spells g c).After-pages_for-pages in
     elim c.if-delta-lt0.branch [

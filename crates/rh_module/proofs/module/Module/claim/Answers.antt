@@ -30,11 +30,11 @@ returns-in_err-lengthen-clause-spells g c =
     kept (claim_no_room c.span-span.ensures c.requires c.args.n c.in-Ok.ensures c.pages_for.ensures c.in_err-lengthen.ensures.refused) c.in_err-lengthen.ensures.err c.requires
 
 pub claim-requires : goal.claim-requires
-claim-requires g c = is_span (g.S.Store.memory c.lengthen.new.store) c.args.self c.span-span.result _ c.span-span.ensures c.in_ok-lengthen.ensures.only.opened c.in_ok-lengthen.ensures.spells.spells
+claim-requires g c = is_span (g.S.Words.memory c.lengthen.new.store) c.args.self c.span-span.result _ c.span-span.ensures c.in_ok-lengthen.ensures.only.opened c.in_ok-lengthen.ensures.spells.spells
 
 grown : (g : given.Over) (c : In_ok-lengthen g)
-    → let m = g.S.Store.memory c.args.store.now in let h = heap_in m c.args.self in Grown (g.S.Store.memory c.lengthen.new.store) c.args.self c.span-span.result h c.in-Ok.shortage (claim c.args.n) (module_claim m.free c.args.n h)
-grown g c = claim_grown c.span-span.ensures c.requires c.args.n (g.S.Store.memory c.lengthen.new.store) c.in-Ok.ensures c.pages_for.ensures c.in_ok-lengthen.ensures.room c.in_ok-lengthen.ensures.spells
+    → let m = g.S.Words.memory c.args.store.now in let h = heap_in m c.args.self in Grown (g.S.Words.memory c.lengthen.new.store) c.args.self c.span-span.result h c.in-Ok.shortage (claim c.args.n) (module_claim m.free c.args.n h)
+grown g c = claim_grown c.span-span.ensures c.requires c.args.n (g.S.Words.memory c.lengthen.new.store) c.in-Ok.ensures c.pages_for.ensures c.in_ok-lengthen.ensures.room c.in_ok-lengthen.ensures.spells
 
 pub unwrap-requires : goal.unwrap-requires
 unwrap-requires g c = is_done (grown g (goal.at.unwrap-requires g c).In_ok-lengthen) c.claim.result c.claim.ensures.answer
@@ -44,4 +44,4 @@ returns-clause-answer g c = done_answer (grown g (goal.at.returns-clause-answer 
 
 pub returns-clause-spells : goal.returns-clause-spells
 returns-clause-spells g c =
-    done_spells (grown g (goal.at.returns-clause-spells g c).In_ok-lengthen) (g.S.Store.memory c.claim.new.store) (heap_in (g.S.Store.memory c.args.store.now) c.args.self) c.claim.ensures.only c.claim.ensures.spells
+    done_spells (grown g (goal.at.returns-clause-spells g c).In_ok-lengthen) (g.S.Words.memory c.claim.new.store) (heap_in (g.S.Words.memory c.args.store.now) c.args.self) c.claim.ensures.only c.claim.ensures.spells

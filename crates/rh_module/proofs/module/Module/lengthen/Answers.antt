@@ -10,10 +10,10 @@ use Rattle.rh_module.proofs.module.Module.lengthen.Goals as goal
 use Rattle.rh_module.proofs.module.Module.lengthen.Goals.{After-span}
 use Rattle.rh_module.proofs.module.Module.lengthen.Given as given
 
-may_move : (g : given.Over) (c : After-span g) → MayMove (g.S.Store.memory c.grow.new.self) c.args.self c.span.result (heap_in (g.S.Store.memory c.args.store.now) c.args.self) c.args.pages (to_z w32 (c.args.pages * 4096))
+may_move : (g : given.Over) (c : After-span g) → MayMove (g.S.Words.memory c.grow.new.self) c.args.self c.span.result (heap_in (g.S.Words.memory c.args.store.now) c.args.self) c.args.pages (to_z w32 (c.args.pages * 4096))
 may_move g c =
-    let few : c.args.pages ≤ 2 ^ 10 = omega (arith, c.in-Ok.ensures.room, g.met.S.Store.few c.args.store.now, g.met.S.Store.within c.args.store.now c.args.self.area.0) in
-    grown_may_move (g.S.Store.memory c.args.store.now) (g.S.Store.memory c.grow.new.self) c.args.self c.span.result c.args.pages c.requires c.in-Ok.ensures.ok c.span.ensures few
+    let few : c.args.pages ≤ 2 ^ 10 = omega (arith, c.in-Ok.ensures.room, g.met.S.Pages.few c.args.store.now, g.met.S.Pages.within c.args.store.now c.args.self.area.0) in
+    grown_may_move (g.S.Words.memory c.args.store.now) (g.S.Words.memory c.grow.new.self) c.args.self c.span.result c.args.pages c.requires c.in-Ok.ensures.ok c.span.ensures few
 
 pub extend_heap-requires-clause-span : goal.extend_heap-requires-clause-span
 extend_heap-requires-clause-span g c = (may_move g c).there
@@ -30,10 +30,10 @@ unwrap-requires g c = is_granted c.extend_heap.result c.extend_heap.ensures.refu
 pub returns-clause-spells : goal.returns-clause-spells
 returns-clause-spells g c =
     let w = may_move g (goal.at.returns-clause-spells g c).After-span in
-    lengthened (g.S.Store.memory c.grow.new.self) (g.S.Store.memory c.extend_heap.new.store) c.args.self c.span.result _ c.args.pages _ w c.span.ensures c.extend_heap.ensures.only
-    (subst (λ r. OnOk r (spans.SpellsIn (g.S.Store.memory c.extend_heap.new.store) c.span.result (extended (to_z w32 (c.args.pages * 4096)) (spans.heap_in (g.S.Store.memory c.grow.new.self) c.span.result)))) c.unwrap.ensures c.extend_heap.ensures.ok)
+    lengthened (g.S.Words.memory c.grow.new.self) (g.S.Words.memory c.extend_heap.new.store) c.args.self c.span.result _ c.args.pages _ w c.span.ensures c.extend_heap.ensures.only
+    (subst (λ r. OnOk r (spans.SpellsIn (g.S.Words.memory c.extend_heap.new.store) c.span.result (extended (to_z w32 (c.args.pages * 4096)) (spans.heap_in (g.S.Words.memory c.grow.new.self) c.span.result)))) c.unwrap.ensures c.extend_heap.ensures.ok)
 
 pub returns-clause-only : goal.returns-clause-only
 returns-clause-only g c =
-    only_lengthened (g.S.Store.memory c.args.store.now) (g.S.Store.memory c.grow.new.self) (g.S.Store.memory c.extend_heap.new.store) c.args.self c.span.result c.args.pages
+    only_lengthened (g.S.Words.memory c.args.store.now) (g.S.Words.memory c.grow.new.self) (g.S.Words.memory c.extend_heap.new.store) c.args.self c.span.result c.args.pages
     c.in-Ok.ensures.ok c.in-Ok.ensures.room c.span.ensures c.extend_heap.ensures.only

@@ -32,13 +32,13 @@ returns-in_err-lengthen-clause-spells g c =
     kept (resize_no_room c.span-span.ensures c.requires c.args.address c.args.delta c.ranges.delta c.in-Ok.ensures c.pages_for.ensures c.in_err-lengthen.ensures.refused) c.in_err-lengthen.ensures.err c.requires
 
 pub resize-requires : goal.resize-requires
-resize-requires g c = is_span (g.S.Store.memory c.lengthen.new.store) c.args.self c.span-span.result _ c.span-span.ensures c.in_ok-lengthen.ensures.only.opened c.in_ok-lengthen.ensures.spells.spells
+resize-requires g c = is_span (g.S.Words.memory c.lengthen.new.store) c.args.self c.span-span.result _ c.span-span.ensures c.in_ok-lengthen.ensures.only.opened c.in_ok-lengthen.ensures.spells.spells
 
 grown : (g : given.Over) (c : In_ok-lengthen g)
-    → let m = g.S.Store.memory c.args.store.now in let h = heap_in m c.args.self in
-    Grown (g.S.Store.memory c.lengthen.new.store) c.args.self c.span-span.result h c.in-Ok.shortage (resize c.args.address (passed c.args.delta)) (module_resize m.free c.args.address c.args.delta h)
+    → let m = g.S.Words.memory c.args.store.now in let h = heap_in m c.args.self in
+    Grown (g.S.Words.memory c.lengthen.new.store) c.args.self c.span-span.result h c.in-Ok.shortage (resize c.args.address (passed c.args.delta)) (module_resize m.free c.args.address c.args.delta h)
 grown g c =
-    resize_grown c.span-span.ensures c.requires c.args.address c.args.delta c.ranges.delta (g.S.Store.memory c.lengthen.new.store) c.in-Ok.ensures c.pages_for.ensures c.in_ok-lengthen.ensures.room c.in_ok-lengthen.ensures.spells
+    resize_grown c.span-span.ensures c.requires c.args.address c.args.delta c.ranges.delta (g.S.Words.memory c.lengthen.new.store) c.in-Ok.ensures c.pages_for.ensures c.in_ok-lengthen.ensures.room c.in_ok-lengthen.ensures.spells
 
 pub unwrap-requires : goal.unwrap-requires
 unwrap-requires g c = is_done (grown g (goal.at.unwrap-requires g c).In_ok-lengthen) c.resize.result c.resize.ensures.answer
@@ -48,4 +48,4 @@ returns-clause-answer g c = done_answer (grown g (goal.at.returns-clause-answer 
 
 pub returns-clause-spells : goal.returns-clause-spells
 returns-clause-spells g c =
-    done_spells (grown g (goal.at.returns-clause-spells g c).In_ok-lengthen) (g.S.Store.memory c.resize.new.store) (heap_in (g.S.Store.memory c.args.store.now) c.args.self) c.resize.ensures.only c.resize.ensures.spells
+    done_spells (grown g (goal.at.returns-clause-spells g c).In_ok-lengthen) (g.S.Words.memory c.resize.new.store) (heap_in (g.S.Words.memory c.args.store.now) c.args.self) c.resize.ensures.only c.resize.ensures.spells

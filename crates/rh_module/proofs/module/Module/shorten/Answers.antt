@@ -4,10 +4,10 @@ use Rattle.rh_module.proofs.module.Module.shorten.Goals as goal
 
 pub returns-clause-spells : goal.returns-clause-spells
 returns-clause-spells g c =
-    shortened (g.S.Store.memory c.args.store.now) (g.S.Store.memory c.extend_heap.new.store) (g.S.Store.memory c.shrink.new.self) c.args.self c.span.result c.args.pages
+    shortened (g.S.Words.memory c.args.store.now) (g.S.Words.memory c.extend_heap.new.store) (g.S.Words.memory c.shrink.new.self) c.args.self c.span.result c.args.pages
     c.requires.module c.span.ensures c.requires.small c.extend_heap.ensures.only c.in-Ok.ensures.ok c.shrink.ensures
 
 pub returns-clause-only : goal.returns-clause-only
 returns-clause-only g c =
-    only_shortened (g.S.Store.memory c.args.store.now) (g.S.Store.memory c.extend_heap.new.store) (g.S.Store.memory c.shrink.new.self) c.args.self c.span.result c.args.pages
+    only_shortened (g.S.Words.memory c.args.store.now) (g.S.Words.memory c.extend_heap.new.store) (g.S.Words.memory c.shrink.new.self) c.args.self c.span.result c.args.pages
     c.requires.module c.span.ensures c.requires.small c.extend_heap.ensures.only c.in-Ok.ensures.ok c.shrink.ensures

@@ -4,7 +4,7 @@ use Rattle.rh_slot.proofs.FlexLaws.{address_none, address_found}
 use Rattle.rh_slot.proofs.slot.Slot.address.Goals as goal
 
 pub returns-in_default : goal.returns-in_default
-returns-in_default g c = sym (address_none _ (slot_in (g.S.Store.memory c.args.store.now) c.args.self) c.in_default.ensures)
+returns-in_default g c = sym (address_none _ (slot_in (g.S.Words.memory c.args.store.now) c.args.self) c.in_default.ensures)
 
 pub returns : goal.returns
 returns g c = sym (address_found _ _ _ _ c.in-Some.ensures)

@@ -13,25 +13,25 @@ returns-in-Some-clause-spells g c = left_err _ _ _ _ (alloc_used _ _ _ _ _ _ c.i
 
 pub returns-in_default-grow_to-clause-answer : goal.returns-in_default-grow_to-clause-answer
 returns-in_default-grow_to-clause-answer g c =
-    let s = slot_in (g.S.Store.memory c.args.store.now) c.args.self in
+    let s = slot_in (g.S.Words.memory c.args.store.now) c.args.self in
     let q = pages_more _ s c.args.anchor _ _ _ c.requires.slot.spells.pages c.top_of-top.ensures c.weight_of.ensures in
     sym (ap answer_of (alloc_full _ _ _ s c.in_default.ensures (has_none _ _ _ c.in_default-grow_to.ensures.refused refl q)))
 
 pub returns-in_default-grow_to-clause-spells : goal.returns-in_default-grow_to-clause-spells
 returns-in_default-grow_to-clause-spells g c =
-    let s = slot_in (g.S.Store.memory c.args.store.now) c.args.self in
+    let s = slot_in (g.S.Words.memory c.args.store.now) c.args.self in
     let q = pages_more _ s c.args.anchor _ _ _ c.requires.slot.spells.pages c.top_of-top.ensures c.weight_of.ensures in
     left_err _ _ _ _ (alloc_full _ _ _ s c.in_default.ensures (has_none _ _ _ c.in_default-grow_to.ensures.refused refl q)) (kept _ _ _ _ c.in_default-grow_to.ensures.err c.requires.slot.spells)
 
 pub returns-clause-answer : goal.returns-clause-answer
 returns-clause-answer g c =
-    let s = slot_in (g.S.Store.memory c.args.store.now) c.args.self in
+    let s = slot_in (g.S.Words.memory c.args.store.now) c.args.self in
     let q = pages_more _ s c.args.anchor _ _ _ c.requires.slot.spells.pages c.top_of-top.ensures c.weight_of.ensures in
     sym (ap answer_of (alloc_done _ _ _ s _ c.in_default.ensures (has_room _ _ _ c.in-Ok.ensures.refused (λ e. false-true e) q) (omega (arith, c.top_of-top.ensures))))
 
 pub returns-clause-spells : goal.returns-clause-spells
 returns-clause-spells g c =
-    let s = slot_in (g.S.Store.memory c.args.store.now) c.args.self in
+    let s = slot_in (g.S.Words.memory c.args.store.now) c.args.self in
     let r = c.in-Ok.ensures.ok in
     let lb = c.requires.slot.spells.pages in
     let et = c.top_of-top.ensures in

@@ -6,7 +6,7 @@ use Rattle.rh_slot.proofs.WalkLaws.{Counted}
 use Rattle.rh_slot.proofs.slot.Slot.block.Given as goal
 
 abbrev pub invariant-walk : goal.invariant-walk
-invariant-walk g l = Counted (slot_in (g.S.Store.memory l.store) l.self) l.place l.index l.i
+invariant-walk g l = Counted (slot_in (g.S.Words.memory l.store) l.self) l.place l.index l.i
 
 abbrev pub decreases-walk : goal.decreases-walk
-decreases-walk g l = slot_length (slot_in (g.S.Store.memory l.store) l.self) - l.place
+decreases-walk g l = slot_length (slot_in (g.S.Words.memory l.store) l.self) - l.place

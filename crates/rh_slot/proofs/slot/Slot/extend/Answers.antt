@@ -6,11 +6,11 @@ use Rattle.rh_slot.proofs.EditLaws.{extend_none, extend_at}
 use Rattle.rh_slot.proofs.slot.Slot.extend.Goals as goal
 
 pub returns-in_default-clause-answer : goal.returns-in_default-clause-answer
-returns-in_default-clause-answer g c = sym (ap outcome_of (extend_none _ _ _ (slot_in (g.S.Store.memory c.args.store.now) c.args.self) c.in_default.ensures))
+returns-in_default-clause-answer g c = sym (ap outcome_of (extend_none _ _ _ (slot_in (g.S.Words.memory c.args.store.now) c.args.self) c.in_default.ensures))
 
 pub returns-in_default-clause-spells : goal.returns-in_default-clause-spells
 returns-in_default-clause-spells g c =
-    result_err _ _ _ _ (extend_none _ _ _ (slot_in (g.S.Store.memory c.args.store.now) c.args.self) c.in_default.ensures) c.requires.slot.spells
+    result_err _ _ _ _ (extend_none _ _ _ (slot_in (g.S.Words.memory c.args.store.now) c.args.self) c.in_default.ensures) c.requires.slot.spells
 
 pub returns-clause-answer : goal.returns-clause-answer
 returns-clause-answer g c =

@@ -11,11 +11,11 @@ shift-requires-clause-row g c =
     row_above _ _ _ _ _ _ _ c.requires.slot.spells.words t (ap (λ w. c.in-Some.spot.place + w) w) (reach _ _ _ _ _ _ _ t.at w c.top_of.ensures)
 
 pub returns-in_default-clause-answer : goal.returns-in_default-clause-answer
-returns-in_default-clause-answer g c = sym (ap outcome_of (free_none _ (slot_in (g.S.Store.memory c.args.store.now) c.args.self) c.in_default.ensures))
+returns-in_default-clause-answer g c = sym (ap outcome_of (free_none _ (slot_in (g.S.Words.memory c.args.store.now) c.args.self) c.in_default.ensures))
 
 pub returns-in_default-clause-spells : goal.returns-in_default-clause-spells
 returns-in_default-clause-spells g c =
-    result_err _ _ _ _ (free_none _ (slot_in (g.S.Store.memory c.args.store.now) c.args.self) c.in_default.ensures) c.requires.slot.spells
+    result_err _ _ _ _ (free_none _ (slot_in (g.S.Words.memory c.args.store.now) c.args.self) c.in_default.ensures) c.requires.slot.spells
 
 pub returns-clause-answer : goal.returns-clause-answer
 returns-clause-answer g c = sym (ap outcome_of (free_at _ _ _ _ _ c.in-Some.ensures.at))

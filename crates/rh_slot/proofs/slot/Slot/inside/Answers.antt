@@ -9,4 +9,4 @@ holds-requires g c = is_span_at _ c.args.self _ c.heap_of.ensures c.requires.slo
 
 pub returns-then-address-ge-HEAP_START : goal.returns-then-address-ge-HEAP_START
 returns-then-address-ge-HEAP_START g c =
-    inside_heap c.args.address c.args.n (slot_in (g.S.Store.memory c.args.store.now) c.args.self) _ c.holds.result (sym c.in_flex.ensures ∙ c.if-in_flex.false) c.if-address-ge-HEAP_START.true (heap_at _ c.args.self _ c.heap_of.ensures) c.holds.ensures
+    inside_heap c.args.address c.args.n (slot_in (g.S.Words.memory c.args.store.now) c.args.self) _ c.holds.result (sym c.in_flex.ensures ∙ c.if-in_flex.false) c.if-address-ge-HEAP_START.true (heap_at _ c.args.self _ c.heap_of.ensures) c.holds.ensures

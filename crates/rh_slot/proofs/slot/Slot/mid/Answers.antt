@@ -9,11 +9,11 @@ use Rattle.rh_slot.proofs.EditLaws.{mid_none, mid_above, mid_short, mid_at}
 use Rattle.rh_slot.proofs.slot.Slot.mid.Goals as goal
 
 pub returns-in_default-clause-answer : goal.returns-in_default-clause-answer
-returns-in_default-clause-answer g c = sym (ap outcome_of (mid_none _ _ _ _ (slot_in (g.S.Store.memory c.args.store.now) c.args.self) c.in_default.ensures))
+returns-in_default-clause-answer g c = sym (ap outcome_of (mid_none _ _ _ _ (slot_in (g.S.Words.memory c.args.store.now) c.args.self) c.in_default.ensures))
 
 pub returns-in_default-clause-spells : goal.returns-in_default-clause-spells
 returns-in_default-clause-spells g c =
-    result_err _ _ _ _ (mid_none _ _ _ _ (slot_in (g.S.Store.memory c.args.store.now) c.args.self) c.in_default.ensures) c.requires.slot.spells
+    result_err _ _ _ _ (mid_none _ _ _ _ (slot_in (g.S.Words.memory c.args.store.now) c.args.self) c.in_default.ensures) c.requires.slot.spells
 
 pub returns-then-spot-offset-clause-answer : goal.returns-then-spot-offset-clause-answer
 returns-then-spot-offset-clause-answer g c = sym (ap outcome_of (mid_above _ _ _ c.args.by _ _ _ c.in-Some.ensures c.if-spot-offset.true))

@@ -6,11 +6,11 @@ use Rattle.rh_slot.proofs.EditLaws.{put_words, put_none, put_beyond, put_at, bey
 use Rattle.rh_slot.proofs.slot.Slot.put.Goals as goal
 
 pub returns-in_default-clause-answer : goal.returns-in_default-clause-answer
-returns-in_default-clause-answer g c = sym (ap outcome_of (put_none _ _ _ (slot_in (g.S.Store.memory c.args.store.now) c.args.self) c.in_default.ensures))
+returns-in_default-clause-answer g c = sym (ap outcome_of (put_none _ _ _ (slot_in (g.S.Words.memory c.args.store.now) c.args.self) c.in_default.ensures))
 
 pub returns-in_default-clause-spells : goal.returns-in_default-clause-spells
 returns-in_default-clause-spells g c =
-    result_err _ _ _ _ (put_none _ _ _ (slot_in (g.S.Store.memory c.args.store.now) c.args.self) c.in_default.ensures) c.requires.slot.spells
+    result_err _ _ _ _ (put_none _ _ _ (slot_in (g.S.Words.memory c.args.store.now) c.args.self) c.in_default.ensures) c.requires.slot.spells
 
 pub returns-then-not-fits-clause-answer : goal.returns-then-not-fits-clause-answer
 returns-then-not-fits-clause-answer g c = sym (ap outcome_of (put_beyond _ _ _ _ _ _ c.in-Some.ensures (beyond _ _ _ c.fits.ensures c.if-not-fits.true)))

@@ -12,12 +12,12 @@ release-requires g c = is_span_at _ c.args.self _ c.heap_of.ensures c.requires.s
 
 pub returns-in-Ok-clause-answer : goal.returns-in-Ok-clause-answer
 returns-in-Ok-clause-answer g c =
-    (released_there (g.S.Store.memory c.args.store.now) (g.S.Store.memory c.release.new.store) c.args.self c.args.address _ c.release.result _ c.requires.slot.spells c.saturating_sub.ensures
+    (released_there (g.S.Words.memory c.args.store.now) (g.S.Words.memory c.release.new.store) c.args.self c.args.address _ c.release.result _ c.requires.slot.spells c.saturating_sub.ensures
     (rw c.heap_of.ensures at c.release.ensures.refused) c.in-Ok.is (rw c.heap_of.ensures at c.release.ensures.only) (rw c.heap_of.ensures at c.release.ensures.spells)).0
 
 pub returns-in-Ok-clause-spells : goal.returns-in-Ok-clause-spells
 returns-in-Ok-clause-spells g c =
-    (released_there (g.S.Store.memory c.args.store.now) (g.S.Store.memory c.release.new.store) c.args.self c.args.address _ c.release.result _ c.requires.slot.spells c.saturating_sub.ensures
+    (released_there (g.S.Words.memory c.args.store.now) (g.S.Words.memory c.release.new.store) c.args.self c.args.address _ c.release.result _ c.requires.slot.spells c.saturating_sub.ensures
     (rw c.heap_of.ensures at c.release.ensures.refused) c.in-Ok.is (rw c.heap_of.ensures at c.release.ensures.only) (rw c.heap_of.ensures at c.release.ensures.spells)).1
 
 pub returns-in-Err-clause-answer : goal.returns-in-Err-clause-answer
@@ -25,10 +25,10 @@ returns-in-Err-clause-answer g c =
     let q = c.in-Err.ensures.reason refl in
     let f : c.in-Err.fault ≡ NotABlock = cc in
     let e : c.refusal_of.result ≡ refusal.NotABlock = c.refusal_of.ensures ∙ ap refusal_of f in
-    rw e (release_refused (g.S.Store.memory c.args.store.now) (g.S.Store.memory c.release.new.store) c.args.self c.args.address _ c.release.result c.in-Err.fault c.requires.slot.spells c.saturating_sub.ensures
+    rw e (release_refused (g.S.Words.memory c.args.store.now) (g.S.Words.memory c.release.new.store) c.args.self c.args.address _ c.release.result c.in-Err.fault c.requires.slot.spells c.saturating_sub.ensures
     (rw c.heap_of.ensures at c.release.ensures.refused) c.in-Err.is c.in-Err.ensures.err).0
 
 pub returns-in-Err-clause-spells : goal.returns-in-Err-clause-spells
 returns-in-Err-clause-spells g c =
-    (release_refused (g.S.Store.memory c.args.store.now) (g.S.Store.memory c.release.new.store) c.args.self c.args.address _ c.release.result c.in-Err.fault c.requires.slot.spells c.saturating_sub.ensures
+    (release_refused (g.S.Words.memory c.args.store.now) (g.S.Words.memory c.release.new.store) c.args.self c.args.address _ c.release.result c.in-Err.fault c.requires.slot.spells c.saturating_sub.ensures
     (rw c.heap_of.ensures at c.release.ensures.refused) c.in-Err.is c.in-Err.ensures.err).1

@@ -13,12 +13,12 @@ grow-requires g c = subst (λ m. IsOpen m c.in-Ok.area.0) (sym c.in-Ok.ensures.o
 
 pub init-requires-clause-opened : goal.init-requires-clause-opened
 init-requires-clause-opened g c =
-    let o = opened_page (g.S.Store.memory c.args.store.now) _ _ _ c.grow.result (λ z. c.if-free_pages-eq0.false (c.free_pages.ensures ∙ z)) c.in-Ok.ensures.ok c.grow.ensures.ok c.grow.ensures.refused in
-    subst (λ s. IsOpen (g.S.Store.memory c.grow.new.self) s.area.0) (sym c.heap_of.ensures) o.opened
+    let o = opened_page (g.S.Words.memory c.args.store.now) _ _ _ c.grow.result (λ z. c.if-free_pages-eq0.false (c.free_pages.ensures ∙ z)) c.in-Ok.ensures.ok c.grow.ensures.ok c.grow.ensures.refused in
+    subst (λ s. IsOpen (g.S.Words.memory c.grow.new.self) s.area.0) (sym c.heap_of.ensures) o.opened
 
 pub init-requires-clause-within : goal.init-requires-clause-within
 init-requires-clause-within g c =
-    let o = opened_page (g.S.Store.memory c.args.store.now) _ _ _ c.grow.result (λ z. c.if-free_pages-eq0.false (c.free_pages.ensures ∙ z)) c.in-Ok.ensures.ok c.grow.ensures.ok c.grow.ensures.refused in
+    let o = opened_page (g.S.Words.memory c.args.store.now) _ _ _ c.grow.result (λ z. c.if-free_pages-eq0.false (c.free_pages.ensures ∙ z)) c.in-Ok.ensures.ok c.grow.ensures.ok c.grow.ensures.refused in
     rw c.heap_of.ensures (omega (arith, o.len))
 
 pub returns-clause-answer : goal.returns-clause-answer
@@ -26,10 +26,10 @@ returns-clause-answer g c = begin_done _ (λ z. c.if-free_pages-eq0.false (c.fre
 
 pub returns-clause-spells : goal.returns-clause-spells
 returns-clause-spells g c =
-    let o = opened_page (g.S.Store.memory c.args.store.now) _ _ _ c.grow.result (λ z. c.if-free_pages-eq0.false (c.free_pages.ensures ∙ z)) c.in-Ok.ensures.ok c.grow.ensures.ok c.grow.ensures.refused in
+    let o = opened_page (g.S.Words.memory c.args.store.now) _ _ _ c.grow.result (λ z. c.if-free_pages-eq0.false (c.free_pages.ensures ∙ z)) c.in-Ok.ensures.ok c.grow.ensures.ok c.grow.ensures.refused in
     spells_new _ _ _ _ o (rw c.heap_of.ensures at c.init.ensures.only) (rw c.heap_of.ensures at c.init.ensures.spells)
 
 pub returns-clause-only : goal.returns-clause-only
 returns-clause-only g c =
-    let o = opened_page (g.S.Store.memory c.args.store.now) _ _ _ c.grow.result (λ z. c.if-free_pages-eq0.false (c.free_pages.ensures ∙ z)) c.in-Ok.ensures.ok c.grow.ensures.ok c.grow.ensures.refused in
+    let o = opened_page (g.S.Words.memory c.args.store.now) _ _ _ c.grow.result (λ z. c.if-free_pages-eq0.false (c.free_pages.ensures ∙ z)) c.in-Ok.ensures.ok c.grow.ensures.ok c.grow.ensures.refused in
     OnlyArea-both _ _ _ _ o.only (OnlyArea-from_Edited _ _ _ _ _ (rw c.heap_of.ensures at c.init.ensures.only))

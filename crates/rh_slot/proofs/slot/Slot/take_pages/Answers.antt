@@ -12,26 +12,26 @@ need-requires g c = is_span_at _ c.args.self _ c.heap_of.ensures c.requires.slot
 
 pub returns-in-Err : goal.returns-in-Err
 returns-in-Err g c =
-    let s = slot_in (g.S.Store.memory c.args.store.now) c.args.self in
+    let s = slot_in (g.S.Words.memory c.args.store.now) c.args.self in
     rw c.refusal_of.ensures (sym (take_zero c.args.n s _ _ (heap_at _ c.args.self _ c.heap_of.ensures) c.in-Err.ensures))
 
 pub returns-then-is_stuck : goal.returns-then-is_stuck
 returns-then-is_stuck g c =
-    let s = slot_in (g.S.Store.memory c.args.store.now) c.args.self in
-    let w = claim_needs c.args.n c.in-Ok.shortage s _ (heap_at (g.S.Store.memory c.args.store.now) c.args.self _ c.heap_of.ensures) c.in-Ok.ensures in
-    sym (take_stuck c.args.n c.in-Ok.shortage s w (ap (λ b. nat_lt 0 c.in-Ok.shortage && not b) (budging_same (g.S.Store.memory c.args.store.now) c.args.self) ∙ sym c.is_stuck.ensures ∙ c.if-is_stuck.true))
+    let s = slot_in (g.S.Words.memory c.args.store.now) c.args.self in
+    let w = claim_needs c.args.n c.in-Ok.shortage s _ (heap_at (g.S.Words.memory c.args.store.now) c.args.self _ c.heap_of.ensures) c.in-Ok.ensures in
+    sym (take_stuck c.args.n c.in-Ok.shortage s w (ap (λ b. nat_lt 0 c.in-Ok.shortage && not b) (budging_same (g.S.Words.memory c.args.store.now) c.args.self) ∙ sym c.is_stuck.ensures ∙ c.if-is_stuck.true))
 
 pub pages_for-requires : goal.pages_for-requires
 pages_for-requires g c =
-    let s = slot_in (g.S.Store.memory c.args.store.now) c.args.self in
-    let w = claim_needs c.args.n c.in-Ok.shortage s _ (heap_at (g.S.Store.memory c.args.store.now) c.args.self _ c.heap_of.ensures) c.in-Ok.ensures in
+    let s = slot_in (g.S.Words.memory c.args.store.now) c.args.self in
+    let w = claim_needs c.args.n c.in-Ok.shortage s _ (heap_at (g.S.Words.memory c.args.store.now) c.args.self _ c.heap_of.ensures) c.in-Ok.ensures in
     let f = c.requires.slot.spells.words.heap.heap.fits in
     let r = c.ranges.n.fits in
     omega (arith, need_most c.args.n s.heap f, w.1)
 
 pub returns : goal.returns
 returns g c =
-    let s = slot_in (g.S.Store.memory c.args.store.now) c.args.self in
-    let w = claim_needs c.args.n c.in-Ok.shortage s _ (heap_at (g.S.Store.memory c.args.store.now) c.args.self _ c.heap_of.ensures) c.in-Ok.ensures in
-    sym (take_done c.args.n c.in-Ok.shortage s w (ap (λ b. nat_lt 0 c.in-Ok.shortage && not b) (budging_same (g.S.Store.memory c.args.store.now) c.args.self) ∙ sym c.is_stuck.ensures ∙ c.if-is_stuck.false)
+    let s = slot_in (g.S.Words.memory c.args.store.now) c.args.self in
+    let w = claim_needs c.args.n c.in-Ok.shortage s _ (heap_at (g.S.Words.memory c.args.store.now) c.args.self _ c.heap_of.ensures) c.in-Ok.ensures in
+    sym (take_done c.args.n c.in-Ok.shortage s w (ap (λ b. nat_lt 0 c.in-Ok.shortage && not b) (budging_same (g.S.Words.memory c.args.store.now) c.args.self) ∙ sym c.is_stuck.ensures ∙ c.if-is_stuck.false)
     ∙ ap (λ i. Ok i) (omega (arith, c.pages_for.ensures, c.pages_for-2.ensures, c.pages_for-3.ensures, c.weight_of.ensures, c.top_of-top.ensures)))

@@ -20,7 +20,7 @@ none_in (x ∷ xs) e = absurd (omega arith)
 -- what is left to close after all pages were cut off
 record Emptied (s w : PagedStore) (id : ℕ) : Type 0 where
   pub kept : IsStore w.region w.areas.items (set w.opened.items id false) w.free w.pages MAX_AREAS
-  pub memory : memory_in w.region w.areas.items (set w.opened.items id false) w.free w.pages ≡ record { area = area_set (memory_of w).area id None; free = (memory_of w).free; pages = (memory_of w).pages }
+  pub memory : memory_in w.region w.areas.items (set w.opened.items id false) w.free w.pages ≡ record { area = area_set (memory_of w).area id None; free = (memory_of w).free; pages = (memory_of w).pages; loan = (memory_of w).loan }
 
 emptied : (s w : PagedStore) (id n : ℕ) → IsOpen (memory_of s) id → memory_of w ≡ shrunk (memory_of s) id n → n ≡ length (bytes (memory_of s) id) / 4096 → Emptied s w id
 unfolding memory_of bytes
@@ -50,5 +50,5 @@ returns c =
     let s = c.args.self.now in let w = c.shrink.new.self in let id = c.args.id.0 in let n = c.len-pages.result / 4096 in
     let all = ap (λ k. k / 4096) c.len-pages.ensures in
     (emptied s w id n c.requires c.shrink.ensures all).memory
-    ∙ ap (λ (k : Memory). let m : Memory = record { area = area_set k.area id None; free = k.free; pages = k.pages } in m) c.shrink.ensures
+    ∙ ap (λ (k : Memory). let m : Memory = record { area = area_set k.area id None; free = k.free; pages = k.pages; loan = k.loan } in m) c.shrink.ensures
     ∙ closed_shrunk (memory_of s) id n all

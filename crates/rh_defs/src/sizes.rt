@@ -1,0 +1,64 @@
+//! Sizes, places and limits that several crates name. Sizes and places are in bytes.
+
+/// The bytes of a word, the unit of all layouts.
+pub const WORD: usize = 4;
+
+/// The bytes of a page, the unit in which areas grow and shrink.
+pub const PAGE: usize = 4096;
+
+/// The least number of pages that a desk is given.
+pub const MIN_PAGES: usize = 8;
+
+/// The greatest number of pages that a desk is given.
+pub const MAX_PAGES: usize = 1024;
+
+/// How many areas can be open at a time: the fixed ones, those made at run and those of slots.
+pub const MAX_AREAS: usize = 70;
+
+/// Where a heap has the word that says that it is one.
+pub const HEAP_SPECIAL: usize = 0;
+
+/// Where a heap has the link to its first hole.
+pub const HEAP_FREE: usize = 4;
+
+/// Where a heap has the place above its last segment.
+pub const HEAP_BASE: usize = 8;
+
+/// Where a heap has its length.
+pub const HEAP_END: usize = 12;
+
+/// Where a heap's first segment begins, behind the descriptor.
+pub const HEAP_FIRST: usize = 16;
+
+/// The bytes of which a heap's places and sizes are multiples.
+pub const HEAP_UNIT: usize = 8;
+
+/// The word that says that a heap stands here: the bytes `Heap`.
+pub const HEAP_WORD: usize = 0x7061_6548;
+
+/// The address of the module area's first byte.
+pub const MODULE_START: usize = 0x0180_0000;
+
+/// The address of application space, and of a slot's first byte.
+pub const SLOT_START: usize = 0x8000;
+
+/// How many anchors a task has, each a word at the head of its slot.
+pub const ANCHORS: usize = 64;
+
+/// Where a slot has its C heap, behind the anchor words.
+pub const C_HEAP_PLACE: usize = 256;
+
+/// The address of the C heap's first byte.
+pub const C_HEAP_START: usize = 0x8100;
+
+/// The length of the C heap of a slot that was just started, up to the end of its first page.
+pub const C_HEAP_LENGTH: usize = 3840;
+
+/// The bytes of a flex block's header: the address of its anchor word, and its size.
+pub const FLEX_HEADER: usize = 8;
+
+/// The most bytes of a script's line, without its line feed.
+pub const LONGEST_LINE: usize = 1024;
+
+/// The greatest number that a script can spell.
+pub const GREATEST_NUMBER: u32 = 2_147_483_647;

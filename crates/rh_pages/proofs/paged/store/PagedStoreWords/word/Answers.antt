@@ -1,0 +1,20 @@
+use Rattle.std.proofs.Common.{ap, ◌∙◌, arith, w32}
+use Rattle.std.specs.Int.{from_le_bytes}
+use Rattle.rh_defs.specs.Memory.{bytes}
+use Rattle.rh_pages.specs.Paged.{memory_of}
+use Rattle.rh_pages.proofs.Regions.{word-part_4, word_there}
+use Rattle.rh_pages.proofs.Seats.{seat}
+use Rattle.rh_pages.proofs.paged.store.PagedStoreWords.word.Goals as goal
+
+pub word-requires : goal.word-requires
+word-requires c =
+    (seat c.args.self.now c.args.id.0 c.args.at 4 c.spot-place.result c.requires.opened (omega arith) c.requires.within (let t = c.if-at.true in omega arith) c.spot-place.ensures).within
+
+pub returns-then-at : goal.returns-then-at
+returns-then-at c =
+    let s = c.args.self.now in
+    let there = seat s c.args.id.0 c.args.at 4 c.spot-place.result c.requires.opened (omega arith) c.requires.within (let t = c.if-at.true in omega arith) c.spot-place.ensures in
+    c.word.ensures ∙ word_there s.region (bytes (memory_of s) c.args.id.0) c.spot-place.result c.args.at there.within there.read
+
+pub returns-else-at : goal.returns-else-at
+returns-else-at c = c.from_le_bytes.ensures ∙ ap (from_le_bytes w32) c.copy_out.ensures ∙ word-part_4 (bytes (memory_of c.args.self.now) c.args.id.0) c.args.at
