@@ -1,3 +1,4 @@
+pub mod Shown
 pub mod View
-pub mod Scans
 pub mod Answer
+pub mod Finding
