@@ -5,11 +5,11 @@ use Rattle.std.specs.Prelude.{IfSome, cond, Option, Some, None, IsNone, Result, 
 use Rattle.std.proofs.Common.{SFits, w32}
 use Rattle.rh_defs.specs.Bytes.{SameOutside}
 use Rattle.rh_defs.specs.Memory.{Memory, bytes}
-use Rattle.rh_defs.specs.Pieces.{total, pages_for, zeros, moved, Split}
-use Rattle.rh_defs.specs.Chain.{Granted, answer_of, left_of, outcome_of, result_or, ◌>>=◌, ◌>>◌, refuse_if, found_or}
+use Rattle.rh_defs.specs.Pieces.{total, round_up, page, pages_for, zeros, moved, Split}
+use Rattle.rh_defs.specs.Chain.{Granted, answer_of, left_of, outcome_of, result_or, ◌>>=◌, refuse_if, found_or}
 use Rattle.rh_defs.specs.Heap.{Segment, Used, Hole, Heap, Placed, Way, Stays, Shrinks, GrowsIntoHole, GrowsAtTop, MovesToHole, MovesToTop, need, claim, claim_need, claim_growing, placed_in, hole_for, is_hole_for, way_beyond, way_to_grow, raised, block_room, size_of, bytes_of, resized, resized_by, resize, resize_found, resize_need, resize_growing, need_found, new_size, fitted, way_to, segment_size, released, release, release_found, block_at, is_block_at, address_of, heap_after, base, place_after, end_for}
 use Rattle.rh_defs.specs.HeapImage.{Spells}
-use Rattle.rh_defs.specs.Slot.{weight, slot_length, slot_pages, is_stuck, with_heap, with_block, slot_claim, slot_resize, slot_release, slot_take_pages, heap_block_at}
+use Rattle.rh_defs.specs.Slot.{weight, flex_weight, slot_length, slot_pages, is_stuck, with_heap, with_block, slot_claim, slot_resize, slot_release, slot_take_pages, heap_block_at}
 use Rattle.rh_defs.specs.Slot as plain
 use Rattle.rh_defs.specs.declared.heap.HeapFault.{HeapFault}
 use Rattle.rh_defs.specs.declared.heap.HeapFault.TheVariants as fault
@@ -23,7 +23,7 @@ use Rattle.rh_slot.specs.declared.slot.Slot.{Slot}
 use Rattle.rh_slot.specs.Area.{SpellsIn, slot_in}
 use Rattle.rh_slot.specs.Growth.{after_growth, lengthened, refusal_of}
 use Rattle.rh_slot.proofs.SpanLaws.{span_of, heap_same, slot_now}
-use Rattle.rh_slot.proofs.GrowLaws.{Gives, growth_ok, growth_err, placed_there, with_placed-growth, slot_claim-growth, slot_claim-zero, end-claim_growing, need_ok, need_err}
+use Rattle.rh_slot.proofs.GrowLaws.{Gives, growth_ok, growth_err, placed_there, slot_claim-growth, slot_claim-zero, end-claim_growing, need_ok, need_err}
 use Rattle.rh_defs.proofs.SlotImageLaws.{SpellsSlot-with_heap}
 
 -- the heap in the span once it is longer
@@ -94,13 +94,12 @@ need_found_ok delta (Some b) h k e = elim (cases_eq (new_size delta b) 0) [
 
 pub slot_resize-growth : (free address : ℕ) (delta : ℤ) (s : plain.Slot) (b : Split Segment) → heap_block_at address s ≡ Some b → new_size delta b ≢ 0
     → slot_resize free address delta s ≡ after_growth free (resize_need (new_size delta b) b s.heap) s (with_heap (resize_growing (new_size delta b) b s.heap).heap s, 33024 + (resize_growing (new_size delta b) b s.heap).address)
-unfolding slot_resize ◌>>=◌ ◌>>◌ refuse_if found_or
-slot_resize-growth free address delta s b e ne =
-    rw e (rw (eqb_apart (new_size delta b) 0 ne) (with_placed-growth free (resize_need (new_size delta b) b s.heap) (resize_growing (new_size delta b) b s.heap) s (end-resize_growing (new_size delta b) b s.heap)))
+unfolding slot_resize after_growth ◌>>=◌ refuse_if found_or
+slot_resize-growth free address delta s b e ne = rw e (rw (eqb_apart (new_size delta b) 0 ne) refl)
 
 -- a refusal of the heap is the slot's
 pub resize_refused : (free address : ℕ) (delta : ℤ) (s : plain.Slot) (o : Option (Split Segment)) (f : HeapFault) → heap_block_at address s ≡ o → Err f ≡ need_found delta o s.heap → slot_resize free address delta s ≡ Err (refusal_of f)
-unfolding slot_resize ◌>>=◌ ◌>>◌ refuse_if found_or
+unfolding slot_resize ◌>>=◌ refuse_if found_or
 resize_refused free address delta s None f e n = rw e (let q : fault.NotABlock ≡ f = cc in ap (λ i. Err (refusal_of i)) q)
 resize_refused free address delta s (Some b) f e n = elim (cases_eq (new_size delta b) 0) [
   | inl z ↦ rw e (rw (eqb_same (new_size delta b) 0 z) (let q : fault.BadSize ≡ f = (let i = n ∙ cond_true (eqb (new_size delta b) 0) _ _ (eqb_same (new_size delta b) 0 z) in cc) in ap (λ i. Err (refusal_of i)) q))
@@ -302,20 +301,20 @@ resize_most delta a k h t f l =
 
 -- ---- the pages that a claim and a block of no bytes take
 
-pub pages_taken : (s : plain.Slot) (n : ℕ) → slot_pages (with_block 0 [] (with_heap (claim_growing n s.heap).heap s)) - slot_pages s ≡ pages_for (need n s.heap) + pages_for (slot_length s + 8) - pages_for (slot_length s)
-pages_taken s n = omega (arith, end-claim_growing n s.heap, total-append weight s.blocks (record { anchor = 0; bytes = [] } ∷ []))
+pages_taken : (s : plain.Slot) (k : ℕ) → pages_for (slot_length s + round_up page k + flex_weight 0) - slot_pages s ≡ pages_for k + pages_for (slot_length s + 8) - pages_for (slot_length s)
+pages_taken s k = omega arith
 
 pub take_zero : (n : ℕ) (s : plain.Slot) (h : Heap) (f : HeapFault) → h ≡ s.heap → Err f ≡ claim_need n h → slot_take_pages n s ≡ Err (refusal_of f)
-unfolding slot_take_pages ◌>>=◌ ◌>>◌ refuse_if
+unfolding slot_take_pages ◌>>=◌ refuse_if
 take_zero n s h f e q = let r = need_err n f h q in rw (eqb_same n 0 r.0) (ap (λ i. Err (refusal_of i)) (sym r.1))
 
 pub take_stuck : (n k : ℕ) (s : plain.Slot) → (n ≢ 0) × (k ≡ need n s.heap) → is_stuck k s ≡ true → slot_take_pages n s ≡ Err NoBudge
-unfolding slot_take_pages ◌>>=◌ ◌>>◌ refuse_if
+unfolding slot_take_pages ◌>>=◌ refuse_if
 take_stuck n k s w e = let z = eqb_apart n 0 w.0 in let q : is_stuck (need n s.heap) s ≡ true = ap (λ i. is_stuck i s) (sym w.1) ∙ e in rw (z, q) refl
 
 pub take_done : (n k : ℕ) (s : plain.Slot) → (n ≢ 0) × (k ≡ need n s.heap) → is_stuck k s ≡ false → slot_take_pages n s ≡ Ok (pages_for k + pages_for (slot_length s + 8) - pages_for (slot_length s))
-unfolding slot_take_pages ◌>>=◌ ◌>>◌ refuse_if
+unfolding slot_take_pages ◌>>=◌ refuse_if
 take_done n k s w e =
     let z = eqb_apart n 0 w.0 in
     let q : is_stuck (need n s.heap) s ≡ false = ap (λ i. is_stuck i s) (sym w.1) ∙ e in
-    rw (z, q) (ap (λ i. Ok i) (pages_taken s n ∙ ap (λ i. pages_for i + pages_for (slot_length s + 8) - pages_for (slot_length s)) (sym w.1)))
+    rw (z, q) (ap (λ i. Ok i) (ap (λ i. pages_for (slot_length s + round_up page i + flex_weight 0) - slot_pages s) (sym w.1) ∙ pages_taken s k))

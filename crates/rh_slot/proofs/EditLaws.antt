@@ -8,13 +8,15 @@ use Rattle.rh_defs.specs.declared.refusal.Refusal.TheVariants.{NoBlock, BadRange
 use Rattle.rh_defs.specs.Bytes.{word, part, put, SameIn, SameOutside}
 use Rattle.rh_defs.specs.Pieces.{total, pages_for, zeros, moved, written, Split}
 use Rattle.rh_defs.specs.Heap.{fitted}
-use Rattle.rh_defs.specs.Slot.{Flex, Slot, weight, flex_weight, slot_length, slot_pages, IsFree, HaveAnchors, with_bytes, opened_at, taken_out, is_too_large, fitting, slot_extend, slot_mid, slot_put, slot_read}
+use Rattle.rh_defs.specs.Slot as slot
+use Rattle.rh_defs.specs.Slot.{Flex, Slot, weight, flex_weight, slot_length, slot_pages, IsFree, HaveAnchors, with_bytes, opened_at, taken_out, lacks_room, slot_extend, slot_mid, slot_put, slot_read}
 use Rattle.rh_defs.specs.SlotImage.{Lie, Hang, SlotWords, flex_place}
 use Rattle.rh_defs.proofs.Anchors.{anchors-here}
 use Rattle.rh_defs.proofs.BytesLaws.{word_same, part_same, parts_same, part_more, part-part, part-drop, part-put, part-put_below, part-put_above, length-part, put_outside, SameOutside-self}
 use Rattle.rh_defs.proofs.HeapLists.{sum-append}
 use Rattle.rh_defs.proofs.SlotLaws.{part_of, wider, same_both, in_below, in_above, in_both, Carried, Lie-split, Lie-same, Lie-unique, Hang-split, Hang-same, HaveAnchors-cut}
-use Rattle.rh_slot.specs.Places.{Row, Shifted, FoundAt, Found, spliced}
+use Rattle.rh_slot.specs.Places.{Row, Shifted, FoundAt, Found, spliced, splice}
+use Rattle.rh_defs.specs.Chain.{◌>>=◌, refuse_if}
 use Rattle.rh_slot.proofs.FlexLaws.{rebuilt, above, ltb_yes, ltb_no, refused, passed, then_none, then_at, false-true}
 
 -- the slot's length with other bytes in a block
@@ -198,29 +200,39 @@ spliced_words b b1 b2 b3 b4 d s k place size from n to offset out put tail opene
     let now : part d p (length nb) ≡ nb = ap (part d p) ln ∙ three_parts d p new a put m _ _ _ (omega arith) e1 e2 e3 in
     changed b b1 b2 d s k place size from n to cut nb w t ef en ob sh same fits (omega arith) o hd now
 
+-- the bytes that the slot takes after a splice
+abbrev after_splice : Split Flex → ℕ → ℕ → Slot → ℕ
+after_splice cut out put s = slot.length_with cut (length cut.here.bytes - out + put) s
+
 -- the pages that a splice needs, where the block had the weight v and gets the weight w
-pub spliced_pages : (b : List ℕ) (s : Slot) (k place size offset out put v w t : ℕ) (cut : Split Flex) → FoundAt k s place size cut → length b ≡ 4096 * slot_pages s
-    → offset ≤ size → out ≤ offset → v ≡ flex_weight size → w ≡ flex_weight (size - out + put) → t ≡ slot_length s
-    → pages_for (place + w + (t - (place + v))) - length b / 4096 ≡ slot_pages (with_bytes cut (spliced offset out put cut.here.bytes) s) - slot_pages s
-spliced_pages b s k place size offset out put v w t cut f l ho hl ev ew et =
-    let nb = spliced offset out put cut.here.bytes in
-    let long = f.long in
+pub spliced_pages : (b : List ℕ) (s : Slot) (k place size out put v w t : ℕ) (cut : Split Flex) → FoundAt k s place size cut → length b ≡ 4096 * slot_pages s
+    → v ≡ flex_weight size → w ≡ flex_weight (size - out + put) → t ≡ slot_length s
+    → pages_for (place + w + (t - (place + v))) - length b / 4096 ≡ pages_for (slot.length_with cut (length cut.here.bytes - out + put) s) - slot_pages s
+spliced_pages b s k place size out put v w t cut f l ev ew et =
     let inside = f.inside in
-    let ln : length nb ≡ size - out + put = length_spliced cut.here.bytes offset out put (omega arith) hl ∙ omega arith in
-    let wl : flex_weight (length nb) ≡ flex_weight (size - out + put) = ap flex_weight ln in
+    let wl : flex_weight (length cut.here.bytes - out + put) ≡ flex_weight (size - out + put) = ap (λ i. flex_weight (i - out + put)) (sym f.long) in
+    let vl : weight cut.here ≡ flex_weight size = ap flex_weight (sym f.long) in
     let q : length b / 4096 ≡ slot_pages s = omega arith in
-    let lw = length_with s k place size cut nb f in
-    let top : place + w + (t - (place + v)) ≡ slot_length (with_bytes cut nb s) = omega arith in
+    let top : place + w + (t - (place + v)) ≡ after_splice cut out put s = omega arith in
     rw (q, top) refl
 
 -- ---- what the calls answer
-pub fit_full : (free : ℕ) (old new : Slot) → free < slot_pages new - slot_pages old → fitting free old new ≡ Err NoRoom
-unfolding fitting
-fit_full free old new h = refused (is_too_large free old new) NoRoom _ (ltb_yes free (slot_pages new - slot_pages old) h)
+pub splice_full : (free offset out put : ℕ) (cut : Split Flex) (s : Slot) → free < pages_for (slot.length_with cut (length cut.here.bytes - out + put) s) - slot_pages s → splice free offset out put cut s ≡ Err NoRoom
+unfolding splice
+splice_full free offset out put cut s h = refused (lacks_room free (after_splice cut out put s) s) NoRoom _ (ltb_yes free (pages_for (after_splice cut out put s) - slot_pages s) h)
 
-pub fit_done : (free : ℕ) (old new : Slot) → slot_pages new - slot_pages old ≤ free → fitting free old new ≡ Ok new
-unfolding fitting
-fit_done free old new h = passed (is_too_large free old new) NoRoom _ (ltb_no free (slot_pages new - slot_pages old) h)
+pub splice_done : (free offset out put : ℕ) (cut : Split Flex) (s : Slot) → pages_for (slot.length_with cut (length cut.here.bytes - out + put) s) - slot_pages s ≤ free
+    → splice free offset out put cut s ≡ Ok (with_bytes cut (spliced offset out put cut.here.bytes) s)
+unfolding splice
+splice_done free offset out put cut s h = passed (lacks_room free (after_splice cut out put s) s) NoRoom _ (ltb_no free (pages_for (after_splice cut out put s) - slot_pages s) h)
+
+-- a call that gives the block another size and other bytes is a splice of them
+splice_as : (free n offset out put : ℕ) (bytes : List ℕ) (cut : Split Flex) (s : Slot) → n ≡ length cut.here.bytes - out + put → bytes ≡ spliced offset out put cut.here.bytes
+    → (refuse_if (lacks_room free (slot.length_with cut n s) s) NoRoom >>= λ _. Ok (with_bytes cut bytes s)) ≡ splice free offset out put cut s
+unfolding splice
+splice_as free n offset out put bytes cut s e q =
+    ap (λ i. refuse_if (lacks_room free (slot.length_with cut i s) s) NoRoom >>= λ _. Ok (with_bytes cut bytes s)) e
+    ∙ ap (λ l. refuse_if (lacks_room free (after_splice cut out put s) s) NoRoom >>= λ _. Ok (with_bytes cut l s)) q
 
 fitted_spliced : (bytes : List ℕ) (n size : ℕ) → size ≡ length bytes → fitted n bytes ≡ spliced size (size - n) (n - size) bytes
 fitted_spliced bytes n size e =
@@ -237,16 +249,21 @@ unfolding slot_extend
 extend_none free k n s u = then_none k s _ u
 
 pub extend_at : (free k n out put : ℕ) (s : Slot) (place size : ℕ) (cut : Split Flex) → FoundAt k s place size cut → out ≡ size - n → put ≡ n - size
-    → slot_extend free k n s ≡ fitting free s (with_bytes cut (spliced size out put cut.here.bytes) s)
+    → slot_extend free k n s ≡ splice free size out put cut s
 unfolding slot_extend
 extend_at free k n out put s place size cut t eo ep =
+    let long = t.long in
     let q : fitted n cut.here.bytes ≡ spliced size out put cut.here.bytes =
     fitted_spliced cut.here.bytes n size t.long ∙ ap (λ i. spliced size i (n - size) cut.here.bytes) (sym eo) ∙ ap (λ i. spliced size out i cut.here.bytes) (sym ep) in
-    then_at k s place size cut _ t ∙ ap (λ l. fitting free s (with_bytes cut l s)) q
+    then_at k s place size cut _ t ∙ splice_as free n size out put (fitted n cut.here.bytes) cut s (omega arith) q
 
 opened_spliced : (bytes : List ℕ) (offset : ℕ) (by : ℤ) → opened_at offset by bytes ≡ spliced offset (taken_out by) (moved 0 by) bytes
 opened_spliced bytes offset (pos n) = ap (λ i. take i bytes ++ (zeros n ++ drop offset bytes)) (omega arith) ∙ ap (λ i. take (offset - 0) bytes ++ (zeros i ++ drop offset bytes)) (omega arith)
 opened_spliced bytes offset (negsuc n) = ap (λ i. take (offset - (n + 1)) bytes ++ (zeros i ++ drop offset bytes)) (let z : 0 ≡ 0 - (n + 1) = omega arith in z)
+
+moved_parts : (n out put : ℕ) (by : ℤ) → out ≡ taken_out by → put ≡ moved 0 by → moved n by ≡ n - out + put
+moved_parts n out put (pos k) eo ep = omega arith
+moved_parts n out put (negsuc k) eo ep = omega arith
 
 pub mid_none : (free k offset : ℕ) (by : ℤ) (s : Slot) → IsFree k s.blocks → slot_mid free k offset by s ≡ Err NoBlock
 unfolding slot_mid
@@ -276,7 +293,7 @@ mid_short free k offset out by s place size t e h =
     then_at k s place size t.cut _ t.at ∙ refused (ltb (length t.cut.here.bytes) offset || ltb offset (taken_out by)) BadRange _ (or_right _ _ (ltb_yes offset (taken_out by) (omega arith)))
 
 pub mid_at : (free k offset out put : ℕ) (by : ℤ) (s : Slot) (place size : ℕ) (cut : Split Flex) → FoundAt k s place size cut → out ≡ taken_out by → put ≡ moved 0 by → offset ≤ size → out ≤ offset
-    → slot_mid free k offset by s ≡ fitting free s (with_bytes cut (spliced offset out put cut.here.bytes) s)
+    → slot_mid free k offset by s ≡ splice free offset out put cut s
 unfolding slot_mid
 mid_at free k offset out put by s place size cut t eo ep h l =
     let long = t.long in
@@ -284,7 +301,7 @@ mid_at free k offset out put by s place size cut t eo ep h l =
     opened_spliced cut.here.bytes offset by ∙ ap (λ i. spliced offset i (moved 0 by) cut.here.bytes) (sym eo) ∙ ap (λ i. spliced offset out i cut.here.bytes) (sym ep) in
     then_at k s place size cut _ t
     ∙ passed (ltb (length cut.here.bytes) offset || ltb offset (taken_out by)) BadRange _ (or_none _ _ (ltb_no (length cut.here.bytes) offset (omega arith)) (ltb_no offset (taken_out by) (omega arith)))
-    ∙ ap (λ i. fitting free s (with_bytes cut i s)) q
+    ∙ splice_as free (moved (length cut.here.bytes) by) offset out put (opened_at offset by cut.here.bytes) cut s (moved_parts (length cut.here.bytes) out put by eo ep) q
 
 pub put_none : (k offset : ℕ) (xs : List ℕ) (s : Slot) → IsFree k s.blocks → slot_put k offset xs s ≡ Err NoBlock
 unfolding slot_put

@@ -7,10 +7,10 @@ use Rattle.std.specs.Prelude.{is_some, Ok, Err, ◌↔◌}
 use Rattle.rh_defs.specs.declared.refusal.Refusal.{Refusal}
 use Rattle.rh_defs.specs.declared.refusal.Refusal.TheVariants.{NoBlock, AnchorInUse, NoRoom}
 use Rattle.rh_defs.specs.Bytes.{word, part, SameIn, SameOutside}
-use Rattle.rh_defs.specs.Chain.{Granted, ◌>>=◌, ◌>>◌, refuse_if, found_or, left_of, result_or}
+use Rattle.rh_defs.specs.Chain.{Granted, ◌>>=◌, refuse_if, found_or, left_of, result_or}
 use Rattle.rh_defs.specs.Memory.{Memory, bytes}
 use Rattle.rh_defs.specs.Pieces.{total, pages_for, zeros, Split}
-use Rattle.rh_defs.specs.Slot.{Flex, Slot, weight, flex_weight, slot_length, slot_pages, flex_address, IsFree, HaveAnchors, without, with_block, is_used, is_too_large, roomed, slot_block, slot_size, slot_address, slot_free, slot_alloc}
+use Rattle.rh_defs.specs.Slot.{Flex, Slot, weight, flex_weight, slot_length, slot_pages, flex_address, IsFree, HaveAnchors, without, with_block, is_used, lacks_room, slot_block, slot_size, slot_address, slot_free, slot_alloc}
 use Rattle.rh_defs.specs.SlotImage.{Lie, Hang, SlotWords, SpellsSlot, flex_place}
 use Rattle.rh_defs.proofs.Anchors.{anchors-append}
 use Rattle.rh_defs.proofs.BytesLaws.{word_same, part_same}
@@ -204,13 +204,13 @@ ltb_yes x y h = grind (arith, nat_tests)
 pub ltb_no : (x y : ℕ) → y ≤ x → ltb x y ≡ false
 ltb_no x y h = grind (arith, nat_tests)
 
-pub refused : {B : Type 0} (t : Bool) (r : Refusal) (rest : Granted B) → t ≡ true → (refuse_if t r >> rest) ≡ Err r
-unfolding ◌>>=◌ ◌>>◌ refuse_if
-refused t r rest e = ap (λ i. refuse_if i r >> rest) e
+pub refused : {B : Type 0} (t : Bool) (r : Refusal) (rest : Granted B) → t ≡ true → (refuse_if t r >>= λ _. rest) ≡ Err r
+unfolding ◌>>=◌ refuse_if
+refused t r rest e = ap (λ i. refuse_if i r >>= λ _. rest) e
 
-pub passed : {B : Type 0} (t : Bool) (r : Refusal) (rest : Granted B) → t ≡ false → (refuse_if t r >> rest) ≡ rest
-unfolding ◌>>=◌ ◌>>◌ refuse_if
-passed t r rest e = ap (λ i. refuse_if i r >> rest) e
+pub passed : {B : Type 0} (t : Bool) (r : Refusal) (rest : Granted B) → t ≡ false → (refuse_if t r >>= λ _. rest) ≡ rest
+unfolding ◌>>=◌ refuse_if
+passed t r rest e = ap (λ i. refuse_if i r >>= λ _. rest) e
 
 pub block_none : (k : ℕ) (s : Slot) → IsFree k s.blocks → slot_block k s ≡ Err NoBlock
 unfolding slot_block found_or
@@ -253,33 +253,30 @@ pub free_at : (k : ℕ) (s : Slot) (place size : ℕ) (cut : Split Flex) → Fou
 unfolding slot_free
 free_at k s place size cut t = then_at k s place size cut _ t
 
-pub alloc_used : (free k : ℕ) (bytes : List ℕ) (s : Slot) (place size : ℕ) → Found k s place size → slot_alloc free k bytes s ≡ Err AnchorInUse
+pub alloc_used : (free k n : ℕ) (s : Slot) (place size : ℕ) → Found k s place size → slot_alloc free k n s ≡ Err AnchorInUse
 unfolding slot_alloc
-alloc_used free k bytes s place size t = refused (is_used k s) AnchorInUse _ (ap is_some (block_of-at k s t.cut t.at.is t.at.free t.at.anchor))
+alloc_used free k n s place size t = refused (is_used k s) AnchorInUse _ (ap is_some (block_of-at k s t.cut t.at.is t.at.free t.at.anchor))
 
-alloc_free : (free k : ℕ) (bytes : List ℕ) (s : Slot) → IsFree k s.blocks → slot_alloc free k bytes s ≡ roomed free s (with_block k bytes s) (flex_address s s.blocks)
+pub alloc_full : (free k n : ℕ) (s : Slot) → IsFree k s.blocks → free < pages_for (slot_length s + flex_weight n) - slot_pages s → slot_alloc free k n s ≡ Err NoRoom
 unfolding slot_alloc
-alloc_free free k bytes s u = passed (is_used k s) AnchorInUse _ (ap is_some (block_of-none k s u))
+alloc_full free k n s u h =
+    passed (is_used k s) AnchorInUse _ (ap is_some (block_of-none k s u))
+    ∙ refused (lacks_room free (slot_length s + flex_weight n) s) NoRoom _ (ltb_yes free (pages_for (slot_length s + flex_weight n) - slot_pages s) h)
 
-pub alloc_full : (free k : ℕ) (bytes : List ℕ) (s : Slot) → IsFree k s.blocks → free < slot_pages (with_block k bytes s) - slot_pages s → slot_alloc free k bytes s ≡ Err NoRoom
-unfolding roomed
-alloc_full free k bytes s u h = alloc_free free k bytes s u ∙ refused (is_too_large free s (with_block k bytes s)) NoRoom _ (ltb_yes free (slot_pages (with_block k bytes s) - slot_pages s) h)
-
-pub alloc_done : (free k : ℕ) (bytes : List ℕ) (s : Slot) (a : ℕ) → IsFree k s.blocks → slot_pages (with_block k bytes s) - slot_pages s ≤ free → a ≡ flex_address s s.blocks
-    → slot_alloc free k bytes s ≡ Ok (with_block k bytes s, a)
-unfolding roomed
-alloc_done free k bytes s a u h e =
-    alloc_free free k bytes s u ∙ passed (is_too_large free s (with_block k bytes s)) NoRoom _ (ltb_no free (slot_pages (with_block k bytes s) - slot_pages s) h)
-    ∙ ap (λ (n : ℕ). Ok (with_block k bytes s, n)) (sym e)
+pub alloc_done : (free k n : ℕ) (s : Slot) (a : ℕ) → IsFree k s.blocks → pages_for (slot_length s + flex_weight n) - slot_pages s ≤ free → a ≡ flex_address s s.blocks
+    → slot_alloc free k n s ≡ Ok (with_block k (zeros n) s, a)
+unfolding slot_alloc
+alloc_done free k n s a u h e =
+    passed (is_used k s) AnchorInUse _ (ap is_some (block_of-none k s u))
+    ∙ passed (lacks_room free (slot_length s + flex_weight n) s) NoRoom _ (ltb_no free (pages_for (slot_length s + flex_weight n) - slot_pages s) h)
+    ∙ ap (λ (i : ℕ). Ok (with_block k (zeros n) s, i)) (sym e)
 
 -- the pages that a new block needs
-pub pages_more : (b : List ℕ) (s : Slot) (k n t w : ℕ) → length b ≡ 4096 * slot_pages s → t ≡ slot_length s → w ≡ flex_weight n
-    → pages_for (t + w) - length b / 4096 ≡ slot_pages (with_block k (zeros n) s) - slot_pages s
-pages_more b s k n t w l et ew =
+pub pages_more : (b : List ℕ) (s : Slot) (n t w : ℕ) → length b ≡ 4096 * slot_pages s → t ≡ slot_length s → w ≡ flex_weight n
+    → pages_for (t + w) - length b / 4096 ≡ pages_for (slot_length s + flex_weight n) - slot_pages s
+pages_more b s n t w l et ew =
     let q : length b / 4096 ≡ slot_pages s = omega arith in
-    let ln : flex_weight (length (zeros n)) ≡ flex_weight n = ap flex_weight (length-replicate {A = ℕ} n 0) in
-    let sum = sum-append weight s.blocks (record { anchor = k; bytes = zeros n } ∷ []) in
-    let top : t + w ≡ slot_length (with_block k (zeros n) s) = omega arith in
+    let top : t + w ≡ slot_length s + flex_weight n = omega arith in
     rw (q, top) refl
 
 -- whether pages were refused, by what the slot wants

@@ -1,5 +1,5 @@
 -- The C heap of a slot gets longer, and a call on it is done.
-use Rattle.std.proofs.Common.{◌≡◌, ◌≢◌, ℕ, ◌+◌, ◌-◌, ◌*◌, ◌/◌, ◌<◌, ◌≤◌, inl, inr, Bool, true, false, ltb, eqb, List, length, refl, sym, ap, subst, ◌∙◌, arith}
+use Rattle.std.proofs.Common.{◌≡◌, ◌≢◌, ℕ, ◌+◌, ◌*◌, ◌/◌, ◌<◌, ◌≤◌, inl, inr, Bool, true, false, ltb, eqb, List, length, refl, sym, ap, subst, ◌∙◌, arith}
 use Rattle.std.proofs.lemmas.Bool.Decides.{nat_tests}
 use Rattle.std.proofs.lemmas.Bool.{cases_eq, cases_lt}
 use Rattle.std.specs.Prelude.{Option, Some, None, Result, Ok, Err, OnOk, IsErr, IsErrOf, ◌↔◌, ℤ}
@@ -7,10 +7,10 @@ use Rattle.std.specs.Prelude.{pos}
 use Rattle.rh_defs.specs.Bytes.{SameIn, SameOutside}
 use Rattle.rh_defs.specs.Memory.{Memory, IsOpen, Resized, bytes}
 use Rattle.rh_defs.specs.Pieces.{total, pages_for, zeros, moved, Split}
-use Rattle.rh_defs.specs.Chain.{Granted, answer_of, left_of, ◌>>=◌, ◌>>◌, refuse_if}
+use Rattle.rh_defs.specs.Chain.{Granted, answer_of, left_of, ◌>>=◌, refuse_if}
 use Rattle.rh_defs.specs.Heap.{Segment, Heap, Placed, need, claim_need, claim_growing, raised, placed, placed_in, hole_for, shortage_in, block_room, segment_size, base, extended}
 use Rattle.rh_defs.specs.HeapImage.{Spells}
-use Rattle.rh_defs.specs.Slot.{Flex, weight, slot_length, slot_pages, is_stuck, with_heap, with_block, with_placed, roomed, slot_claim, slot_resize, slot_release, slot_take_pages, heap_block_at, HaveAnchors}
+use Rattle.rh_defs.specs.Slot.{Flex, weight, slot_length, slot_pages, is_stuck, with_heap, with_block, with_placed, slot_claim, slot_resize, slot_release, slot_take_pages, heap_block_at, HaveAnchors}
 use Rattle.rh_defs.specs.Slot as plain
 use Rattle.rh_defs.specs.SlotImage.{Lie, Hang, SlotWords, SpellsSlot, flex_place}
 use Rattle.rh_defs.specs.declared.heap.HeapFault.{HeapFault}
@@ -102,19 +102,19 @@ abbrev pub Gives : Granted (Unit {0}) → ℕ → ℕ → plain.Slot → Type 0
 Gives r free k s = r ≡ after_growth free k s (tt {0})
 
 pub growth_none : (free k : ℕ) (s : plain.Slot) → k ≡ 0 → Gives (Ok (tt {0})) free k s
-unfolding after_growth ◌>>=◌ ◌>>◌ refuse_if
+unfolding after_growth ◌>>=◌ refuse_if
 growth_none free k s e = rw e (rw (ltb_no free 0 (omega arith)) refl)
 
 pub growth_stuck : (free k : ℕ) (s : plain.Slot) → is_stuck k s ≡ true → Gives (Err NoBudge) free k s
-unfolding after_growth ◌>>=◌ ◌>>◌ refuse_if
+unfolding after_growth ◌>>=◌ refuse_if
 growth_stuck free k s e = rw e refl
 
 pub growth_full : (free k : ℕ) (s : plain.Slot) → is_stuck k s ≡ false → free < pages_for k → Gives (Err NoRoom) free k s
-unfolding after_growth ◌>>=◌ ◌>>◌ refuse_if
+unfolding after_growth ◌>>=◌ refuse_if
 growth_full free k s e l = rw (e, ltb_yes free (pages_for k) l) refl
 
 pub growth_done : (free k : ℕ) (s : plain.Slot) → is_stuck k s ≡ false → pages_for k ≤ free → Gives (Ok (tt {0})) free k s
-unfolding after_growth ◌>>=◌ ◌>>◌ refuse_if
+unfolding after_growth ◌>>=◌ refuse_if
 growth_done free k s e l = rw (e, ltb_no free (pages_for k) l) refl
 
 pub growth_by : (r : Granted (Unit {0})) (free k : ℕ) (s : plain.Slot) → is_stuck k s ≡ false → (IsErr r ↔ (free < pages_for k)) → (IsErr r → IsErrOf r NoRoom) → Gives r free k s
@@ -124,10 +124,10 @@ growth_by (Err x) free k s e i n = (let q = n refl in cc) ∙ growth_full free k
 -- refused or done, whatever it gives
 module _ {A : Type 0} (free k : ℕ) (s : plain.Slot) (given : A) where
   abbrev by_tests : {B : Type 0} → Bool → Bool → B → Granted B
-  by_tests t u x = refuse_if t NoBudge >> (refuse_if u NoRoom >> Ok x)
+  by_tests t u x = refuse_if t NoBudge >>= λ _. (refuse_if u NoRoom >>= λ _. Ok x)
 
   err_by : (t u : Bool) (e : Refusal) → ◌≡◌ {A = Granted (Unit {0})} (Err e) (by_tests t u (tt {0})) → by_tests t u given ≡ Err e
-  unfolding ◌>>=◌ ◌>>◌ refuse_if
+  unfolding ◌>>=◌ refuse_if
   err_by true u e h = cc
   err_by false true e h = cc
   err_by false false e h = absurd cc
@@ -137,7 +137,7 @@ module _ {A : Type 0} (free k : ℕ) (s : plain.Slot) (given : A) where
   growth_err e h = err_by (is_stuck k s) (ltb free (pages_for k)) e h
 
   ok_by : (t u : Bool) → ◌≡◌ {A = Granted (Unit {0})} (Ok (tt {0})) (by_tests t u (tt {0})) → by_tests t u given ≡ Ok given
-  unfolding ◌>>=◌ ◌>>◌ refuse_if
+  unfolding ◌>>=◌ refuse_if
   ok_by true u h = absurd cc
   ok_by false true h = absurd cc
   ok_by false false h = refl
@@ -146,16 +146,7 @@ module _ {A : Type 0} (free k : ℕ) (s : plain.Slot) (given : A) where
   unfolding after_growth
   growth_ok h = ok_by (is_stuck k s) (ltb free (pages_for k)) h
 
--- ---- the pages of a slot whose heap has grown
-
-pages_more : (s : plain.Slot) (h : Heap) (k : ℕ) → h.end ≡ (raised k s.heap).end → slot_pages (with_heap h s) - slot_pages s ≡ pages_for k
-pages_more s h k e = omega arith
-
-pub with_placed-growth : (free k : ℕ) (p : Placed) (s : plain.Slot) → p.heap.end ≡ (raised k s.heap).end
-    → (refuse_if (is_stuck k s) NoBudge >> with_placed free p s) ≡ after_growth free k s (with_heap p.heap s, 33024 + p.address)
-unfolding with_placed roomed after_growth
-with_placed-growth free k p s e =
-    ap (λ n. refuse_if (is_stuck k s) NoBudge >> (refuse_if (ltb free n) NoRoom >> Ok (with_heap p.heap s, 33024 + p.address))) (pages_more s p.heap k e)
+-- ---- claims where the heap may have to grow
 
 end-placed_in : (bs : List ℕ) (h : Heap) (o : Option (Split Segment)) → (placed_in bs h o).heap.end ≡ h.end
 end-placed_in bs h None = refl
@@ -169,11 +160,11 @@ end-claim_growing n h = end-placed (zeros (block_room n)) (raised (need n h) h)
 
 pub slot_claim-growth : (free n : ℕ) (s : plain.Slot) → n ≢ 0
     → slot_claim free n s ≡ after_growth free (need n s.heap) s (with_heap (claim_growing n s.heap).heap s, 33024 + (claim_growing n s.heap).address)
-unfolding slot_claim ◌>>=◌ ◌>>◌ refuse_if
-slot_claim-growth free n s ne = rw (eqb_apart n 0 ne) (with_placed-growth free (need n s.heap) (claim_growing n s.heap) s (end-claim_growing n s.heap))
+unfolding slot_claim after_growth ◌>>=◌ refuse_if
+slot_claim-growth free n s ne = rw (eqb_apart n 0 ne) refl
 
 pub slot_claim-zero : (free n : ℕ) (s : plain.Slot) → n ≡ 0 → slot_claim free n s ≡ Err BadSize
-unfolding slot_claim ◌>>=◌ ◌>>◌ refuse_if
+unfolding slot_claim ◌>>=◌ refuse_if
 slot_claim-zero free n s e = rw e refl
 
 -- ---- the heap's own call, in a heap that is long enough

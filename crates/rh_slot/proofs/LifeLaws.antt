@@ -5,7 +5,7 @@ use Rattle.std.proofs.lemmas.List.{length-replicate}
 use Rattle.std.specs.Prelude.{Option, Some, None, IsNone, Result, Ok, Err, OnOk, IsErr, ◌↔◌}
 use Rattle.rh_defs.specs.Bytes.{word}
 use Rattle.rh_defs.specs.Memory.{Memory, IsOpen, OnlyArea, Edited, bytes, opened, grown}
-use Rattle.rh_defs.specs.Chain.{outcome_of, ◌>>=◌, ◌>>◌, refuse_if}
+use Rattle.rh_defs.specs.Chain.{outcome_of, ◌>>=◌, refuse_if}
 use Rattle.rh_defs.specs.Heap.{empty_heap}
 use Rattle.rh_defs.specs.HeapImage.{Spells}
 use Rattle.rh_defs.specs.Slot.{new_slot, slot_begin}
@@ -17,14 +17,14 @@ use Rattle.rh_defs.proofs.SlotLaws.{in_below}
 
 -- what a slot's begin answers
 pub begin_refused : (free : ℕ) → free ≡ 0 → Err NoRoom ≡ outcome_of (slot_begin free)
-unfolding slot_begin ◌>>=◌ ◌>>◌ refuse_if
+unfolding slot_begin ◌>>=◌ refuse_if
 begin_refused free e = rw e refl
 
 ltb_no : (x y : ℕ) → y ≤ x → ltb x y ≡ false
 ltb_no x y h = grind (arith, nat_tests)
 
 pub begin_done : (free : ℕ) → free ≢ 0 → Ok tt ≡ outcome_of (slot_begin free)
-unfolding slot_begin ◌>>=◌ ◌>>◌ refuse_if
+unfolding slot_begin ◌>>=◌ refuse_if
 begin_done free ne = rw (ltb_no free 1 (omega arith)) refl
 
 -- a page was free, so the area was grown

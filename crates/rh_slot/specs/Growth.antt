@@ -1,7 +1,7 @@
 -- How the C heap of a slot gets longer.
-use Rattle.std.specs.Prelude.{ℕ, nat_lt, Ok}
-use Rattle.rh_defs.specs.Pieces.{pages_for}
-use Rattle.rh_defs.specs.Chain.{Granted, ◌>>◌, refuse_if}
+use Rattle.std.specs.Prelude.{ℕ, Ok}
+use Rattle.rh_defs.specs.Pieces.{lacks_pages}
+use Rattle.rh_defs.specs.Chain.{Granted, ◌>>=◌, refuse_if}
 use Rattle.rh_defs.specs.Heap.{raised}
 use Rattle.rh_defs.specs.Slot.{Slot, is_stuck, with_heap}
 use Rattle.rh_defs.specs.declared.heap.HeapFault.{HeapFault}
@@ -12,8 +12,8 @@ use Rattle.rh_defs.specs.declared.refusal.Refusal.TheVariants.{NotABlock, BadSiz
 -- what a call gives where the C heap is short of so many bytes and so many pages are free
 unfoldable pub after_growth : {A : Type 0} → ℕ → ℕ → Slot → A → Granted A
 after_growth free shortage s given = do
-  refuse_if (is_stuck shortage s) NoBudge
-  refuse_if (nat_lt free (pages_for shortage)) NoRoom
+  _ ← refuse_if (is_stuck shortage s) NoBudge
+  _ ← refuse_if (lacks_pages free shortage) NoRoom
   Ok given
 
 -- the slot whose C heap is longer by a shortage in whole pages

@@ -1,10 +1,12 @@
 -- Blocks that lie in the words of an area, and where an anchor's block is.
-use Rattle.std.specs.Prelude.{◌≡◌, ℕ, ◌+◌, ◌-◌, ◌*◌, ◌<◌, ◌≤◌, List, ◌∷◌, ◌++◌, length, take, drop}
+use Rattle.std.specs.Prelude.{◌≡◌, ℕ, ◌+◌, ◌-◌, ◌*◌, ◌<◌, ◌≤◌, List, ◌∷◌, ◌++◌, length, take, drop, Ok}
 use Rattle.rh_defs.specs.Bytes.{word, SameOutside}
+use Rattle.rh_defs.specs.Chain.{Granted, ◌>>=◌, refuse_if}
 use Rattle.rh_defs.specs.Memory.{Memory, Edited, bytes}
 use Rattle.rh_defs.specs.Pieces.{total, zeros, Split}
-use Rattle.rh_defs.specs.Slot.{Flex, Slot, weight, flex_weight, slot_length, IsFree, HaveAnchors}
+use Rattle.rh_defs.specs.Slot.{Flex, Slot, weight, flex_weight, slot_length, lacks_room, length_with, with_bytes, IsFree, HaveAnchors}
 use Rattle.rh_defs.specs.SlotImage.{Lie, Hang, flex_place}
+use Rattle.rh_defs.specs.declared.refusal.Refusal.TheVariants.{NoRoom}
 
 -- some blocks lie in n bytes from a place on
 pub record Row (b : List ℕ) (from n : ℕ) : Type 0 where
@@ -59,3 +61,9 @@ pub record Found (k : ℕ) (s : Slot) (place size : ℕ) : Type 0 where
 -- the bytes with some before an offset taken out, and then zeros put in
 abbrev pub spliced : ℕ → ℕ → ℕ → List ℕ → List ℕ
 spliced offset out put bytes = take (offset - out) bytes ++ (zeros put ++ drop offset bytes)
+
+-- the slot with the bytes of the block at a cut so changed, where so many pages are free
+unfoldable pub splice : ℕ → ℕ → ℕ → ℕ → Split Flex → Slot → Granted Slot
+splice free offset out put b s = do
+  _ ← refuse_if (lacks_room free (length_with b (length b.here.bytes - out + put) s) s) NoRoom
+  Ok (with_bytes b (spliced offset out put b.here.bytes) s)

@@ -3,9 +3,9 @@ ghost use Rattle.std.specs.Prelude.{◌≡◌, ◌+◌, ◌^◌, ◌<◌, ◌≤
 ghost use Rattle.rh_defs.specs.Chain.{outcome_of, result_or};
 ghost use Rattle.rh_defs.specs.Memory.{Memory, OnlyArea};
 ghost use Rattle.rh_defs.specs.Pieces.{Split};
-ghost use Rattle.rh_defs.specs.Slot.{Flex, fitting, with_bytes, slot_extend, slot_mid, slot_put, slot_read};
+ghost use Rattle.rh_defs.specs.Slot.{Flex, slot_extend, slot_mid, slot_put, slot_read};
 ghost use Rattle.rh_slot.specs.Area.{IsSlot, SpellsIn, slot_in};
-ghost use Rattle.rh_slot.specs.Places.{Found, FoundAt, spliced};
+ghost use Rattle.rh_slot.specs.Places.{Found, FoundAt, splice};
 
 use crate::locating::{Spot, locate};
 use crate::paging::{room_for, trim};
@@ -39,12 +39,10 @@ fn splice<S: Pages>(
     requires out { change.out ≤ change.offset }
     requires small { change.put < 2 ^ 32 }
     ensures answer { (cut : Split Flex) → FoundAt anchor (slot_in (S.memory store.old) slot) spot.place spot.size cut
-        → result ≡ outcome_of (fitting (S.memory store.old).free (slot_in (S.memory store.old) slot)
-        (with_bytes cut (spliced change.offset change.out change.put cut.here.bytes) (slot_in (S.memory store.old) slot))) }
+        → result ≡ outcome_of (splice (S.memory store.old).free change.offset change.out change.put cut (slot_in (S.memory store.old) slot)) }
     ensures spells { (cut : Split Flex) → FoundAt anchor (slot_in (S.memory store.old) slot) spot.place spot.size cut
         → SpellsIn (S.memory store.new) slot (result_or (slot_in (S.memory store.old) slot)
-        (fitting (S.memory store.old).free (slot_in (S.memory store.old) slot)
-        (with_bytes cut (spliced change.offset change.out change.put cut.here.bytes) (slot_in (S.memory store.old) slot)))) }
+        (splice (S.memory store.old).free change.offset change.out change.put cut (slot_in (S.memory store.old) slot))) }
     ensures only { OnlyArea (S.memory store.old) (S.memory store.new) slot.area.0 }
     ensures err { OnErr result (S.memory store.new ≡ S.memory store.old) }
 {

@@ -2,7 +2,6 @@
 ghost use Rattle.std.specs.Prelude.{◌≡◌, ◌<◌, OnErr};
 ghost use Rattle.rh_defs.specs.Chain.{answer_of, left_of, outcome_of, result_or};
 ghost use Rattle.rh_defs.specs.Memory.{Memory, OnlyArea};
-ghost use Rattle.rh_defs.specs.Pieces.{zeros};
 ghost use Rattle.rh_defs.specs.Slot.{slot_alloc, slot_free};
 ghost use Rattle.rh_slot.specs.Area.{IsSlot, SpellsIn, slot_in};
 
@@ -22,9 +21,9 @@ impl Slot {
     pub fn alloc<S: Pages>(self, store: &mut S, anchor: Anchor, n: u32) -> Result<usize, Refusal>
         requires slot { IsSlot (S.memory store.old) self }
         requires anchor { anchor < 64 }
-        ensures answer { result ≡ answer_of (slot_alloc (S.memory store.old).free anchor (zeros n) (slot_in (S.memory store.old) self)) }
+        ensures answer { result ≡ answer_of (slot_alloc (S.memory store.old).free anchor n (slot_in (S.memory store.old) self)) }
         ensures spells { SpellsIn (S.memory store.new) self (left_of (slot_in (S.memory store.old) self)
-            (slot_alloc (S.memory store.old).free anchor (zeros n) (slot_in (S.memory store.old) self))) }
+            (slot_alloc (S.memory store.old).free anchor n (slot_in (S.memory store.old) self))) }
         ensures only { OnlyArea (S.memory store.old) (S.memory store.new) self.area.0 }
         ensures err { OnErr result (S.memory store.new ≡ S.memory store.old) }
     {

@@ -3,7 +3,7 @@ use Rattle.rh_defs.specs.Chain.{outcome_of}
 use Rattle.rh_defs.proofs.SlotLaws.{wider}
 use Rattle.rh_slot.specs.Area.{slot_in}
 use Rattle.rh_slot.proofs.FlexLaws.{reach, words_grown, settled, has_room, has_none, false-true, result_ok, result_err, kept}
-use Rattle.rh_slot.proofs.EditLaws.{row_over, spliced_words, spliced_pages, fit_full, fit_done}
+use Rattle.rh_slot.proofs.EditLaws.{row_over, spliced_words, spliced_pages, splice_full, splice_done}
 use Rattle.rh_slot.proofs.editing.splice.Goals as goal
 
 pub shift-requires-clause-row : goal.shift-requires-clause-row
@@ -20,25 +20,25 @@ shift-requires-clause-row g c =
 pub returns-in_default-clause-answer : goal.returns-in_default-clause-answer
 returns-in_default-clause-answer g c = λ cut t.
     let s = slot_in (g.S.Words.memory c.args.store.now) c.args.slot in
-    let q = spliced_pages _ s _ _ _ _ _ _ _ _ _ cut t c.requires.slot.spells.pages c.requires.offset c.requires.out c.weight_of.ensures c.weight_of-2.ensures c.top_of.ensures in
-    sym (ap outcome_of (fit_full _ s _ (has_none _ _ _ c.in_default.ensures.refused refl q)))
+    let q = spliced_pages _ s _ _ _ _ _ _ _ _ cut t c.requires.slot.spells.pages c.weight_of.ensures c.weight_of-2.ensures c.top_of.ensures in
+    sym (ap outcome_of (splice_full _ _ _ _ cut s (has_none _ _ _ c.in_default.ensures.refused refl q)))
 
 pub returns-in_default-clause-spells : goal.returns-in_default-clause-spells
 returns-in_default-clause-spells g c = λ cut t.
     let s = slot_in (g.S.Words.memory c.args.store.now) c.args.slot in
-    let q = spliced_pages _ s _ _ _ _ _ _ _ _ _ cut t c.requires.slot.spells.pages c.requires.offset c.requires.out c.weight_of.ensures c.weight_of-2.ensures c.top_of.ensures in
-    result_err _ _ _ _ (fit_full _ s _ (has_none _ _ _ c.in_default.ensures.refused refl q)) (kept _ _ _ _ c.in_default.ensures.err c.requires.slot.spells)
+    let q = spliced_pages _ s _ _ _ _ _ _ _ _ cut t c.requires.slot.spells.pages c.weight_of.ensures c.weight_of-2.ensures c.top_of.ensures in
+    result_err _ _ _ _ (splice_full _ _ _ _ cut s (has_none _ _ _ c.in_default.ensures.refused refl q)) (kept _ _ _ _ c.in_default.ensures.err c.requires.slot.spells)
 
 pub returns-clause-answer : goal.returns-clause-answer
 returns-clause-answer g c = λ cut t.
     let s = slot_in (g.S.Words.memory c.args.store.now) c.args.slot in
-    let q = spliced_pages _ s _ _ _ _ _ _ _ _ _ cut t c.requires.slot.spells.pages c.requires.offset c.requires.out c.weight_of.ensures c.weight_of-2.ensures c.top_of.ensures in
-    sym (ap outcome_of (fit_done _ s _ (has_room _ _ _ c.in-Ok.ensures.refused (λ e. false-true e) q)))
+    let q = spliced_pages _ s _ _ _ _ _ _ _ _ cut t c.requires.slot.spells.pages c.weight_of.ensures c.weight_of-2.ensures c.top_of.ensures in
+    sym (ap outcome_of (splice_done _ _ _ _ cut s (has_room _ _ _ c.in-Ok.ensures.refused (λ e. false-true e) q)))
 
 pub returns-clause-spells : goal.returns-clause-spells
 returns-clause-spells g c = λ cut t.
     let s = slot_in (g.S.Words.memory c.args.store.now) c.args.slot in
-    let q = spliced_pages _ s _ _ _ _ _ _ _ _ _ cut t c.requires.slot.spells.pages c.requires.offset c.requires.out c.weight_of.ensures c.weight_of-2.ensures c.top_of.ensures in
+    let q = spliced_pages _ s _ _ _ _ _ _ _ _ cut t c.requires.slot.spells.pages c.weight_of.ensures c.weight_of-2.ensures c.top_of.ensures in
     let r = c.in-Ok.ensures.ok in
     let lr = r.len in
     let from = c.args.spot.place + c.weight_of.result in
@@ -55,4 +55,4 @@ returns-clause-spells g c = λ cut t.
     c.requires.offset c.requires.out refl ef (reach _ _ _ _ _ _ _ t c.weight_of.ensures c.top_of.ensures) et refl refl refl
     c.slide.ensures.carried c.slide.ensures.only.outside c.shift.ensures.shifted c.shift.ensures.below (omega arith)
     c.write.ensures.word c.write.ensures.only.outside c.slide-2.ensures.carried c.slide-2.ensures.only.outside c.clear.ensures.block c.clear.ensures.only.outside in
-    result_ok _ _ _ _ (fit_done _ s _ (has_room _ _ _ c.in-Ok.ensures.refused (λ e. false-true e) q)) (settled _ _ _ _ a.0 a.1 c.trim.ensures.same c.trim.ensures.len)
+    result_ok _ _ _ _ (splice_done _ _ _ _ cut s (has_room _ _ _ c.in-Ok.ensures.refused (λ e. false-true e) q)) (settled _ _ _ _ a.0 a.1 c.trim.ensures.same c.trim.ensures.len)
