@@ -14,5 +14,16 @@ pub mod HeapGrowth
 pub mod SlotRows
 pub mod ModuleLaws
 pub mod SlotLaws
+pub mod SlotRooms
 pub mod SlotImageLaws
 pub mod MessageRows
+pub mod Rows
+pub mod MemoryRows
+pub mod TransferRows
+pub mod Examples
+pub mod BlockLaws
+pub mod ShapeLaws
+pub mod BlockCalls
+pub mod MessageLaws
+pub mod MessageImageLaws
+pub mod ParcelLaws

@@ -55,6 +55,43 @@ fn commands_are_in_range(rt: HostRuntime) {
     assert!(rt; Command::Areas.in_range());
 }
 
+fn some_leaf(rt: &impl std::process::Abort, bytes: &[u8]) -> Leaf {
+    let mut letters = ArrayVec::new();
+    letters
+        .try_extend_from_slice(bytes)
+        .expect(rt, "a leafname of at most 10 bytes");
+    Leaf::new(letters)
+}
+
+#[test]
+fn leafnames_are_graphic(rt: HostRuntime) {
+    for (bytes, valid) in [
+        (b"".as_slice(), false),
+        (b"abcdefghij".as_slice(), true),
+        (b"!a/b~".as_slice(), true),
+        (b"a b".as_slice(), false),
+        (b"a\x7f".as_slice(), false),
+    ] {
+        let leaf = some_leaf(&rt, bytes);
+        assert_eq!(rt; leaf.as_slice(), bytes);
+        assert_eq!(rt; leaf.is_valid(), valid, "{bytes:?}");
+    }
+}
+
+#[test]
+fn made_areas_are_in_range(rt: HostRuntime) {
+    for (most, in_range) in [(0, false), (1, true), (1024, true), (1025, false)] {
+        assert_eq!(rt; Command::Make { most }.in_range(), in_range, "{most}");
+    }
+    for (number, in_range) in [(5, false), (256, true), (65_535, true), (65_536, false)] {
+        assert_eq!(rt; Command::Remove { number }.in_range(), in_range, "{number}");
+    }
+    for (delta, in_range) in [(i32::MIN, false), (-2_147_483_647, true), (i32::MAX, true)] {
+        let area = Command::Area { number: 6, delta };
+        assert_eq!(rt; area.in_range(), in_range, "{delta}");
+    }
+}
+
 #[test]
 fn a_put_has_bytes(rt: HostRuntime) {
     let none = Bytes::new(ArrayVec::new());

@@ -5,3 +5,4 @@ pub mod ChangeLaws
 pub mod GrowthLaws
 pub mod FreeLaws
 pub mod NeedLaws
+pub mod BlockBytes

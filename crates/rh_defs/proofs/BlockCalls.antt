@@ -1,0 +1,44 @@
+-- What the module area's calls leave of the blocks of its heap.
+use Rattle.std.proofs.Common.{◌≡◌, ℕ, ◌≤◌, Bool, true, false, eqb, ltb, List, refl, sym, subst, ◌∙◌, arith}
+use Rattle.std.proofs.lemmas.List.{length-replicate}
+use Rattle.std.specs.Prelude.{Option, Some, None, Ok}
+use Rattle.rh_defs.specs.Chain.{Granted, ◌>>=◌, ◌>>◌, refuse_if}
+use Rattle.rh_defs.specs.Pieces.{zeros, pages_for, Split}
+use Rattle.rh_defs.specs.Heap.{Heap, Segment, Placed, need, claim_growing, block_room, raised, block_at, release}
+use Rattle.rh_defs.specs.Module.{module_claim, module_free}
+use Rattle.rh_defs.specs.Blocks.{block_bytes, HasBlock}
+use Rattle.rh_defs.specs.declared.refusal.Refusal.TheVariants.{BadSize, NoRoom}
+use Rattle.rh_defs.proofs.BlockLaws.{Puts, placed-puts, block_at-bytes, bytes_here}
+use Rattle.rh_defs.proofs.ModuleLaws.{module_free-some}
+
+granted-is : (t u : Bool) (p : Placed) (there : Heap × ℕ) → ◌≡◌ {A = Granted (Heap × ℕ)} (refuse_if t BadSize >> (refuse_if u NoRoom >> Ok (p.heap, p.address))) (Ok there)
+    → ◌≡◌ {A = Heap × ℕ} there (p.heap, p.address)
+unfolding ◌>>=◌ ◌>>◌ refuse_if
+granted-is true u p there e = absurd cc
+granted-is false true p there e = absurd cc
+granted-is false false p there e = cc
+
+-- a block that is claimed is a new one of zeros, and no other changes
+pub module_claim-puts : (free n : ℕ) (h : Heap) (there : Heap × ℕ) → module_claim free n h ≡ Ok there → Puts (zeros (block_room n)) h there.0 there.1
+unfolding module_claim ◌>>◌
+module_claim-puts free n h there e =
+    let p = claim_growing n h in
+    let is = granted-is (eqb n 0) (ltb free (pages_for (need n h))) p there e in
+    let w = placed-puts (zeros (block_room n)) (raised (need n h) h) in
+    subst (λ (x : Heap × ℕ). Puts (zeros (block_room n)) h x.0 x.1) (sym is) (record { fresh = w.fresh; here = w.here; others = w.others })
+
+pub room_enough : (n : ℕ) → n ≤ block_room n
+room_enough n = omega arith
+
+-- the block that was claimed has the bytes that were asked for
+pub module_claim-has : (free n : ℕ) (h : Heap) (there : Heap × ℕ) → module_claim free n h ≡ Ok there → HasBlock there.1 n there.0
+module_claim-has free n h there e =
+    record { bytes = zeros (block_room n); found = (module_claim-puts free n h there e).here; room = omega (arith, room_enough n, length-replicate {A = ℕ} (block_room n) 0) }
+
+-- a block that is there is freed
+pub module_free-there : (a : ℕ) (h : Heap) (bs : List ℕ) → block_bytes a h ≡ Some bs → module_free a h ≡ Ok (release a h)
+module_free-there a h bs b = go (block_at a h) refl (block_at-bytes a h)
+  where
+    go : (q : Option (Split Segment)) → block_at a h ≡ q → bytes_here q ≡ block_bytes a h → module_free a h ≡ Ok (release a h)
+    go None e f = let bad : None ≡ Some bs = f ∙ b in absurd cc
+    go (Some s) e f = module_free-some a h s e

@@ -1,0 +1,95 @@
+-- Blocks of the module area, by the bytes of the area.
+use Rattle.std.proofs.Common.{◌≡◌, ℕ, ◌+◌, ◌≤◌, inl, inr, eqb, List, [], ◌∷◌, length, sym, ap, subst, ◌∙◌, arith}
+use Rattle.std.proofs.lemmas.Bool.{cases_eq}
+use Rattle.std.specs.Prelude.{Option, Some}
+use Rattle.rh_defs.specs.Bytes.{word, part, put, put_word, word_bytes}
+use Rattle.rh_defs.specs.Memory.{Memory, IsOpen, bytes, with_bytes}
+use Rattle.rh_defs.specs.Heap.{Segment, Used, Hole, Heap}
+use Rattle.rh_defs.specs.HeapImage.{Stand, IsImage}
+use Rattle.rh_defs.proofs.BytesLaws.{length-put, word-part, part-part}
+use Rattle.rh_defs.proofs.MemoryLaws.{bytes-with_bytes, IsOpen-with_bytes, OnlyArea-with_bytes, free-with_bytes}
+use Rattle.rh_defs.proofs.HeapLists.{cond_true, cond_false, eqb_same, eqb_apart}
+use Rattle.rh_defs.proofs.HeapLaws.{heap_of-Spells}
+use Rattle.rh_module.specs.Area.{IsModule, SpellsIn, heap_in}
+use Rattle.rh_module.specs.declared.module.Module.{Module}
+use Rattle.rh_defs.specs.Blocks.{bytes_at, block_bytes, poked, HasBlock}
+use Rattle.rh_module.specs.Writes.{Wrote}
+use Rattle.rh_defs.proofs.BlockLaws.{range_at, IsImage-written}
+
+standing : (b : List ℕ) (a f p : ℕ) (ss : List Segment) (bs : List ℕ) → bytes_at a p ss ≡ Some bs → Stand b f p ss → part b a (length bs) ≡ bs
+standing b a f p [] bs e s = absurd cc
+standing b a f p (Used cs ∷ ss) bs e s = elim (cases_eq a (p + 4)) [
+  | inl q ↦ let same : Some cs ≡ Some bs = sym (cond_true (eqb a (p + 4)) _ _ (eqb_same a (p + 4) q)) ∙ e in
+      let here : cs ≡ bs = cc in
+      subst (λ l. part b a (length l) ≡ l) here (ap (λ k. part b k (length cs)) q ∙ s.1)
+  | inr ne ↦ standing b a f (p + (4 + length cs)) ss bs (sym (cond_false (eqb a (p + 4)) _ _ (eqb_apart a (p + 4) ne)) ∙ e) s.2
+]
+standing b a f p (Hole n ∷ ss) bs e s = standing b a p (p + n) ss bs e s.2
+
+-- ---- what stands in a block
+pub record Stands (m : Memory) (rma : Module) (a : ℕ) (bs : List ℕ) : Type 0 where
+  pub part : part (bytes m rma.area.0) a (length bs) ≡ bs
+  pub within : a + length bs ≤ length (bytes m rma.area.0)
+  pub above : 20 ≤ a
+
+pub stands : (m : Memory) (rma : Module) (a : ℕ) (bs : List ℕ) → IsModule m rma → block_bytes a (heap_in m rma) ≡ Some bs → Stands m rma a bs
+stands m rma a bs s e =
+    let r = range_at a 16 (heap_in m rma).segments bs e in
+    let h = heap_in m rma in
+    let fits = s.spells.spells.heap.fits in
+    let whole = s.spells.whole in
+    record {
+      part = standing (bytes m rma.area.0) a 4 16 h.segments bs e s.spells.spells.stand;
+      within = omega arith;
+      above = r.0;
+    }
+
+pub block_within : (m : Memory) (rma : Module) (a n : ℕ) → IsModule m rma → HasBlock a n (heap_in m rma) → a + n ≤ length (bytes m rma.area.0)
+block_within m rma a n s b = let w = stands m rma a b.bytes s b.found in let r = b.room in let v = w.within in omega arith
+
+one_of : {x y : List ℕ} → ◌≡◌ {A = Option (List ℕ)} (Some x) (Some y) → x ≡ y
+one_of e = cc
+
+pub word_there : (m : Memory) (rma : Module) (a o : ℕ) (bs : List ℕ) → IsModule m rma → HasBlock a (o + 4) (heap_in m rma) → block_bytes a (heap_in m rma) ≡ Some bs
+    → word (bytes m rma.area.0) (a + o) ≡ word bs o
+word_there m rma a o bs s b e =
+    let w = stands m rma a bs s e in
+    let same : b.bytes ≡ bs = one_of (sym b.found ∙ e) in
+    let r : o + 4 ≤ length bs = subst (λ l. o + 4 ≤ length l) same b.room in
+    sym (word-part (bytes m rma.area.0) a (length bs) o r) ∙ ap (λ l. word l o) w.part
+
+pub part_there : (m : Memory) (rma : Module) (a o n : ℕ) (bs : List ℕ) → IsModule m rma → HasBlock a (o + n) (heap_in m rma) → block_bytes a (heap_in m rma) ≡ Some bs
+    → part (bytes m rma.area.0) (a + o) n ≡ part bs o n
+part_there m rma a o n bs s b e =
+    let w = stands m rma a bs s e in
+    let same : b.bytes ≡ bs = one_of (sym b.found ∙ e) in
+    let r : o + n ≤ length bs = subst (λ l. o + n ≤ length l) same b.room in
+    sym (part-part (bytes m rma.area.0) a (length bs) o n r) ∙ ap (λ l. part l o n) w.part
+
+-- ---- the heap after a call
+pub heap_is : (m : Memory) (rma : Module) (h : Heap) → SpellsIn m rma h → heap_in m rma ≡ h
+heap_is m rma h s = heap_of-Spells (bytes m rma.area.0) 0 h s.spells
+
+pub is_module : (m : Memory) (rma : Module) (h : Heap) → IsOpen m rma.area.0 → SpellsIn m rma h → IsModule m rma
+is_module m rma h o s = record { opened = o; spells = subst (IsImage (bytes m rma.area.0)) (sym (heap_is m rma h s)) s }
+
+-- ---- bytes written inside a block
+pub wrote : (m n : Memory) (rma : Module) (a o : ℕ) (xs : List ℕ) → IsModule m rma → HasBlock a (o + length xs) (heap_in m rma)
+    → n ≡ with_bytes m rma.area.0 (put (bytes m rma.area.0) (a + o) xs) → Wrote m n rma a o xs
+wrote m n rma a o xs s b e =
+    let c = put (bytes m rma.area.0) (a + o) xs in
+    let image = IsImage-written (bytes m rma.area.0) (heap_in m rma) a o xs b.bytes s.spells b.found b.room in
+    let k : Memory = with_bytes m rma.area.0 c in
+    let there : SpellsIn k rma (poked a o xs (heap_in m rma)) = subst (λ l. IsImage l (poked a o xs (heap_in m rma))) (sym (bytes-with_bytes m rma.area.0 c)) image in
+    let made : Wrote m k rma a o xs = record {
+      still = is_module k rma (poked a o xs (heap_in m rma)) (IsOpen-with_bytes m rma.area.0 c) there;
+      heap = heap_is k rma (poked a o xs (heap_in m rma)) there;
+      only = OnlyArea-with_bytes m rma.area.0 c (length-put (bytes m rma.area.0) (a + o) xs);
+      free = free-with_bytes m rma.area.0 c;
+    } in
+    subst (λ (z : Memory). Wrote m z rma a o xs) (sym e) made
+
+pub wrote_word : (m n : Memory) (rma : Module) (a o w : ℕ) → IsModule m rma → HasBlock a (o + 4) (heap_in m rma)
+    → n ≡ with_bytes m rma.area.0 (put_word (bytes m rma.area.0) (a + o) w) → Wrote m n rma a o (word_bytes w)
+unfolding put_word word_bytes
+wrote_word m n rma a o w s b e = wrote m n rma a o (word_bytes w) s b e

@@ -1,0 +1,47 @@
+//! The bytes of blocks in the module area.
+ghost use Rattle.std.specs.Prelude.{◌≡◌, ℕ, ◌+◌, List, Some, length};
+ghost use Rattle.rh_defs.specs.Blocks.{HasBlock, block_bytes};
+ghost use Rattle.rh_defs.specs.Bytes.{part, word, word_bytes};
+ghost use Rattle.rh_module.specs.Area.{IsModule, heap_in};
+ghost use Rattle.rh_module.specs.Writes.{Wrote};
+
+use crate::module::Module;
+use rh_store::Words;
+
+impl Module {
+    /// The word at an offset of the block at an address.
+    pub fn read_word<S: Words>(self, store: &S, address: usize, offset: usize) -> u32
+        requires module { IsModule (S.memory store.now) self }
+        requires block { HasBlock address (offset + 4) (heap_in (S.memory store.now) self) }
+        ensures { (bytes : List ℕ) → block_bytes address (heap_in (S.memory store.now) self) ≡ Some bytes → result ≡ word bytes offset }
+    {
+        store.word(self.area, address + offset)
+    }
+
+    /// Fills a slice with the bytes of the block at an address, from an offset on.
+    pub fn read_bytes<S: Words>(self, store: &S, address: usize, offset: usize, to: &mut [u8])
+        requires module { IsModule (S.memory store.now) self }
+        requires block { HasBlock address (offset + length to.old) (heap_in (S.memory store.now) self) }
+        ensures { (bytes : List ℕ) → block_bytes address (heap_in (S.memory store.now) self) ≡ Some bytes → to.new ≡ part bytes offset (length to.old) }
+    {
+        store.copy_out(self.area, address + offset, to);
+    }
+
+    /// Writes a word at an offset of the block at an address.
+    pub fn write_word<S: Words>(self, store: &mut S, address: usize, offset: usize, w: u32)
+        requires module { IsModule (S.memory store.old) self }
+        requires block { HasBlock address (offset + 4) (heap_in (S.memory store.old) self) }
+        ensures { Wrote (S.memory store.old) (S.memory store.new) self address offset (word_bytes w) }
+    {
+        store.set_word(self.area, address + offset, w);
+    }
+
+    /// Writes bytes into the block at an address, from an offset on.
+    pub fn write_bytes<S: Words>(self, store: &mut S, address: usize, offset: usize, from: &[u8])
+        requires module { IsModule (S.memory store.old) self }
+        requires block { HasBlock address (offset + length from.now) (heap_in (S.memory store.old) self) }
+        ensures { Wrote (S.memory store.old) (S.memory store.new) self address offset from.now }
+    {
+        store.copy_in(self.area, address + offset, from);
+    }
+}

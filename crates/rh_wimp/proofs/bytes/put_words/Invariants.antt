@@ -1,0 +1,7 @@
+use Rattle.std.proofs.Common.{◌≡◌, take}
+use Rattle.rh_defs.specs.Bytes.{put}
+use Rattle.rh_defs.specs.Messages.{words}
+use Rattle.rh_wimp.proofs.bytes.put_words.Given as goal
+
+abbrev pub invariant-loop-i : goal.invariant-loop-i
+invariant-loop-i l = l.out ≡ put l.initial.out l.at (words (take l.i l.ws))

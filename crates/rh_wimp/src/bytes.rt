@@ -1,0 +1,49 @@
+//! Words and bytes of a message block.
+ghost use Rattle.std.specs.Prelude.{◌≡◌, ◌+◌, ◌*◌, ◌≤◌, length, replicate};
+ghost use Rattle.rh_defs.specs.Bytes.{put, word, word_bytes};
+ghost use Rattle.rh_defs.specs.Messages.{AreWords, words};
+
+use byteorder::{ByteOrder, LittleEndian};
+
+/// Writes a word at an offset.
+pub fn put_word(out: &mut [u8], at: usize, w: u32)
+    requires { at + 4 ≤ length out.old }
+    ensures { out.new ≡ put out.old at (word_bytes w) }
+{
+    LittleEndian::write_u32(&mut out[at..at + 4], w);
+}
+
+/// Writes words from an offset on.
+pub fn put_words(out: &mut [u8], at: usize, ws: &[u32])
+    requires { at + 4 * length ws.now ≤ length out.old }
+    ensures bytes { out.new ≡ put out.old at (words ws.now) }
+    ensures numbers { AreWords ws.now }
+{
+    for (i, w) in ws.iter().enumerate() {
+        put_word(out, at + 4 * i, *w);
+    }
+}
+
+/// Writes bytes from an offset on.
+pub fn put_bytes(out: &mut [u8], at: usize, from: &[u8])
+    requires { at + length from.now ≤ length out.old }
+    ensures { out.new ≡ put out.old at from.now }
+{
+    out[at..at + from.len()].copy_from_slice(from);
+}
+
+/// Writes n zeros from an offset on.
+pub fn put_zeros(out: &mut [u8], at: usize, n: usize)
+    requires { at + n ≤ length out.old }
+    ensures { out.new ≡ put out.old at (replicate n 0) }
+{
+    out[at..at + n].fill(0);
+}
+
+/// The word at an offset.
+pub fn get_word(bytes: &[u8], at: usize) -> u32
+    requires { at + 4 ≤ length bytes.now }
+    ensures { result ≡ word bytes.now at }
+{
+    LittleEndian::read_u32(&bytes[at..at + 4])
+}

@@ -1,0 +1,131 @@
+//! Messages out of bytes.
+ghost use Rattle.std.specs.Prelude.{◌≡◌, ◌≤◌, ◌+◌, ◌==◌, length, true, Some, Ok, IfOk};
+ghost use Rattle.std.specs.List.{position};
+ghost use Rattle.rh_defs.specs.Bytes.{part};
+ghost use Rattle.rh_defs.specs.MessageImage.{SpellsMessage, body_for, decoded, file_in, has_length as has_length_of, name_length};
+ghost use Rattle.rh_defs.specs.Pathnames.{is_plain};
+ghost use Rattle.rh_defs.specs.declared.message.Message.{Message as SpecMessage};
+
+use crate::bytes::get_word;
+use crate::layout::{
+    ACTION, DATA, LEAST_FILE_LENGTH, LEAST_LENGTH, LEAST_RAM_LENGTH, MOST_LENGTH, MY_REF, NAME,
+    SENDER, YOUR_REF,
+};
+use rh_defs::{Action, Body, FileData, Handle, Message, MessageFault, Pathname, Ref};
+
+/// The place of the first zero byte.
+fn first_zero(bytes: &[u8]) -> Option<usize>
+    ensures { result ≡ position (λ x. x == 0) bytes.now }
+{
+    bytes.iter().position(|b| *b == 0)
+}
+
+/// The length of the name that begins at offset 44 and ends before a zero byte below `end`.
+fn name_length(bytes: &[u8], end: usize) -> Option<usize>
+    requires low { 44 ≤ end }
+    requires high { end ≤ length bytes.now }
+    ensures { result ≡ name_length bytes.now end }
+{
+    first_zero(&bytes[NAME..end])
+}
+
+/// The name of so many bytes that begins at offset 44.
+fn read_name(bytes: &[u8], n: usize) -> Pathname
+    requires within { 44 + n ≤ length bytes.now }
+    requires short { n ≤ 211 }
+    requires plain { is_plain (part bytes.now 44 n) ≡ true }
+    ensures { result ≡ part bytes.now 44 n }
+{
+    Pathname::new(&bytes[NAME..NAME + n]).unwrap()
+}
+
+/// What is said of a file in a message of so many bytes.
+fn decode_file(bytes: &[u8], end: usize) -> Result<FileData, MessageFault>
+    requires high { end ≤ length bytes.now }
+    requires small { end ≤ 256 }
+    ensures { result ≡ file_in bytes.now end }
+{
+    if end < LEAST_FILE_LENGTH {
+        return Err(MessageFault::BadLength);
+    }
+    let Some(n) = name_length(bytes, end) else {
+        return Err(MessageFault::BadLength);
+    };
+    Ok(FileData {
+        window: get_word(bytes, DATA),
+        icon: get_word(bytes, DATA + 4),
+        x: get_word(bytes, DATA + 8),
+        y: get_word(bytes, DATA + 12),
+        size: get_word(bytes, DATA + 16),
+        file_type: get_word(bytes, DATA + 20),
+        name: read_name(bytes, n),
+    })
+}
+
+/// Data of a message of so many bytes, whose action this is.
+fn decode_body(bytes: &[u8], end: usize, action: Action) -> Result<Body, MessageFault>
+    requires low { 20 ≤ end }
+    requires high { end ≤ length bytes.now }
+    requires small { end ≤ 256 }
+    ensures { result ≡ body_for bytes.now end (Some action) }
+{
+    match action {
+        Action::DataSave => Ok(Body::DataSave(decode_file(bytes, end)?)),
+        Action::DataSaveAck => Ok(Body::DataSaveAck(decode_file(bytes, end)?)),
+        Action::DataLoad => Ok(Body::DataLoad(decode_file(bytes, end)?)),
+        Action::DataLoadAck => Ok(Body::DataLoadAck(decode_file(bytes, end)?)),
+        Action::RamFetch => {
+            if end < LEAST_RAM_LENGTH {
+                return Err(MessageFault::BadLength);
+            }
+            Ok(Body::RamFetch {
+                buffer: get_word(bytes, DATA),
+                length: get_word(bytes, DATA + 4),
+            })
+        }
+        Action::RamTransmit => {
+            if end < LEAST_RAM_LENGTH {
+                return Err(MessageFault::BadLength);
+            }
+            Ok(Body::RamTransmit {
+                buffer: get_word(bytes, DATA),
+                written: get_word(bytes, DATA + 4),
+            })
+        }
+    }
+}
+
+/// Whether the first word is the length of a message whose bytes are there.
+fn has_length(bytes: &[u8]) -> bool
+    ensures { result ≡ has_length_of bytes.now }
+{
+    if bytes.len() < LEAST_LENGTH {
+        return false;
+    }
+    let end = get_word(bytes, 0) as usize;
+    LEAST_LENGTH <= end && end <= MOST_LENGTH && end % 4 == 0 && end <= bytes.len()
+}
+
+/// Reads a message. Bytes past its length, and past what its kind needs, are ignored. Refused with the first fault:
+/// `BadLength` where the length word isn't a multiple of 4 from 20 to 256 or bytes are missing, `BadAction`, and
+/// `BadLength` where the length is too small for the action or no zero byte ends the name.
+pub fn decode(bytes: &[u8]) -> Result<Message, MessageFault>
+    ensures answer { result ≡ decoded bytes.now }
+    ensures spelled { IfOk result (SpellsMessage bytes.now) }
+    ensures read { (m : SpecMessage) → SpellsMessage bytes.now m → result ≡ Ok m }
+{
+    if !has_length(bytes) {
+        return Err(MessageFault::BadLength);
+    }
+    let end = get_word(bytes, 0) as usize;
+    let Some(action) = Action::from_number(get_word(bytes, ACTION)) else {
+        return Err(MessageFault::BadAction);
+    };
+    let body = decode_body(bytes, end, action)?;
+    Ok(Message {
+        from: Handle(get_word(bytes, SENDER)),
+        my_ref: Ref(get_word(bytes, MY_REF)),
+        your_ref: Ref(get_word(bytes, YOUR_REF)),
+        body,
+    })
+}

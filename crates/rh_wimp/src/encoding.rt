@@ -1,0 +1,137 @@
+//! Messages into bytes.
+ghost use Rattle.std.specs.Prelude.{◌≡◌, ◌+◌, ◌^◌, ◌<◌, ◌≤◌, ◌++◌, [], ◌∷◌, true, length};
+ghost use Rattle.rh_defs.specs.Bytes.{put};
+ghost use Rattle.rh_defs.specs.Messages.{AreWords, Fits, HasName, body_bytes, data_words, encoded, encoded_length, file_words, name_bytes, words};
+ghost use Rattle.rh_defs.specs.Pathnames.{is_pathname};
+
+use crate::bytes::{put_bytes, put_word, put_words, put_zeros};
+use crate::layout::{ACTION, DATA, NAME};
+use rh_defs::{Body, FileData, Message};
+
+/// The bytes that a name takes with its zero byte, in whole words.
+fn name_room(name: &[u8]) -> usize
+    requires { length name.now < 2 ^ 32 }
+    ensures { result ≡ length (name_bytes name.now) }
+{
+    (name.len() + 1).next_multiple_of(4)
+}
+
+/// Writes a name from offset 44 on, with zeros up to whole words, and answers the bytes that it takes.
+fn encode_name(name: &[u8], out: &mut [u8]) -> usize
+    requires room { length out.old ≡ 256 }
+    requires name { is_pathname name.now ≡ true }
+    ensures bytes { out.new ≡ put out.old 44 (name_bytes name.now) }
+    ensures length { result ≡ length (name_bytes name.now) }
+    ensures short { result ≤ 212 }
+{
+    let room = name_room(name);
+    put_bytes(out, NAME, name);
+    put_zeros(out, NAME + name.len(), room - name.len());
+    room
+}
+
+/// Writes what is said of a file from offset 20 on, and answers its length.
+fn encode_file(file: &FileData, out: &mut [u8]) -> usize
+    requires { length out.old ≡ 256 }
+    ensures bytes { out.new ≡ put out.old 20 (words (file_words file.now) ++ name_bytes file.now.name) }
+    ensures length { result ≡ 24 + length (name_bytes file.now.name) }
+    ensures short { result ≤ 236 }
+    ensures numbers { AreWords (file_words file.now) }
+    ensures name { is_pathname file.now.name ≡ true }
+{
+    put_words(
+        out,
+        DATA,
+        &[
+            file.window,
+            file.icon,
+            file.x,
+            file.y,
+            file.size,
+            file.file_type,
+        ],
+    );
+    24 + encode_name(file.name.as_bytes(), out)
+}
+
+/// Writes the two words of a RAMFetch or RAMTransmit, and answers their length.
+fn encode_pair(buffer: u32, n: u32, out: &mut [u8]) -> usize
+    requires { length out.old ≡ 256 }
+    ensures bytes { out.new ≡ put out.old 20 (words (buffer ∷ n ∷ [])) }
+    ensures length { result ≡ 8 }
+{
+    put_words(out, DATA, &[buffer, n]);
+    8
+}
+
+/// Writes action and data from offset 16 on, and answers their length.
+fn encode_body(body: &Body, out: &mut [u8]) -> usize
+    requires { length out.old ≡ 256 }
+    ensures bytes { out.new ≡ put out.old 16 (body_bytes body.now) }
+    ensures length { result ≡ length (body_bytes body.now) }
+    ensures short { result ≤ 240 }
+    ensures numbers { AreWords (data_words body.now) }
+    ensures name { HasName body.now }
+{
+    put_word(out, ACTION, body.action().number());
+    4 + match body {
+        Body::DataSave(file) => encode_file(file, out),
+        Body::DataSaveAck(file) => encode_file(file, out),
+        Body::DataLoad(file) => encode_file(file, out),
+        Body::DataLoadAck(file) => encode_file(file, out),
+        Body::RamFetch { buffer, length } => encode_pair(*buffer, *length, out),
+        Body::RamTransmit { buffer, written } => encode_pair(*buffer, *written, out),
+    }
+}
+
+/// The length of what is said of a file.
+fn file_length(file: &FileData) -> usize
+    ensures length { result ≡ 24 + length (name_bytes file.now.name) }
+    ensures short { result ≤ 236 }
+{
+    24 + name_room(file.name.as_bytes())
+}
+
+/// The length of action and data.
+pub fn body_length(body: &Body) -> usize
+    ensures length { result ≡ length (body_bytes body.now) }
+    ensures short { result ≤ 240 }
+{
+    4 + match body {
+        Body::DataSave(file) => file_length(file),
+        Body::DataSaveAck(file) => file_length(file),
+        Body::DataLoad(file) => file_length(file),
+        Body::DataLoadAck(file) => file_length(file),
+        Body::RamFetch { .. } => 8,
+        Body::RamTransmit { .. } => 8,
+    }
+}
+
+/// Writes a message block, and answers its length.
+fn encode_parts(from: u32, my_ref: u32, your_ref: u32, body: &Body, out: &mut [u8]) -> usize
+    requires { length out.old ≡ 256 }
+    ensures length { result ≡ 16 + length (body_bytes body.now) }
+    ensures bytes { out.new ≡ put out.old 0 (encoded (record { from = from; my_ref = my_ref; your_ref = your_ref; body = body.now })) }
+    ensures short { result ≤ 256 }
+    ensures fits { Fits (record { from = from; my_ref = my_ref; your_ref = your_ref; body = body.now }) }
+{
+    let length = ACTION + encode_body(body, out);
+    put_words(out, 0, &[length as u32, from, my_ref, your_ref]);
+    length
+}
+
+/// Writes a message block, and answers its length; the bytes beyond it stay as they were.
+pub fn encode(message: &Message, out: &mut [u8; 256]) -> usize
+    ensures length { result ≡ encoded_length message.now }
+    ensures bytes { out.new ≡ put out.old 0 (encoded message.now) }
+    ensures short { result ≤ 256 }
+    ensures fits { Fits message.now }
+{
+    encode_parts(
+        message.from.0,
+        message.my_ref.0,
+        message.your_ref.0,
+        &message.body,
+        out,
+    )
+}
