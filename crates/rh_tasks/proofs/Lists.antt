@@ -1,9 +1,9 @@
 -- Members of lists, by their places, and lists of numbers no two of which are one.
-use Rattle.std.proofs.Common.{◌≡◌, ℕ, zero, suc, ◌+◌, ◌<◌, ◌≤◌, ◌≢◌, refl, ap, subst, arith, List, [], ◌∷◌, ◌++◌, length, ◌∙◌, sym}
+use Rattle.std.proofs.Common.{◌≡◌, ℕ, zero, suc, ◌+◌, ◌<◌, ◌≤◌, ◌≢◌, refl, ap, subst, arith, List, [], ◌∷◌, ◌++◌, length, take, drop, ◌∙◌, sym}
 use Rattle.std.specs.Prelude.{map}
 use Rattle.std.proofs.Math.ListN.{get_or, set}
 use Rattle.std.proofs.lemmas.List.{set-get_or}
-use Rattle.std.specs.List.{AllByRecursion}
+use Rattle.std.specs.List.{AllByRecursion, remove}
 use Rattle.rh_tasks.specs.View.{Avoids, AreDistinct}
 
 -- the member stands at this place
@@ -54,3 +54,40 @@ avoids-back f ids (x ∷ xs) all i id at =
 pub avoids-below : {A : Type 0} (f : A → ℕ) (bound k : ℕ) (xs : List A) → k < bound → AllByRecursion (λ x. bound ≤ f x) xs → Avoids k (map f xs)
 avoids-below f bound k [] low all = tt
 avoids-below f bound k (x ∷ xs) low all = ((λ q. absurd (omega (arith, all.0))), avoids-below f bound k xs low all.1)
+
+pub avoids-push : {A : Type 0} (f : A → ℕ) (k : ℕ) (xs : List A) (x : A) → Avoids k (map f xs) → f x ≢ k → Avoids k (map f (xs ++ x ∷ []))
+avoids-push f k [] x all ne = (ne, tt)
+avoids-push f k (y ∷ xs) x all ne = (all.0, avoids-push f k xs x all.1 ne)
+
+-- a list with one more member, whose number is none of the others'
+pub distinct-push : {A : Type 0} (f : A → ℕ) (xs : List A) (x : A) → AreDistinct (map f xs) → Avoids (f x) (map f xs) → AreDistinct (map f (xs ++ x ∷ []))
+distinct-push f [] x all off = (tt, tt)
+distinct-push f (y ∷ xs) x all off = (avoids-push f (f y) xs x all.0 (λ q. off.0 (sym q)), distinct-push f xs x all.1 off.1)
+
+-- ---- a member away
+
+pub all-removed : {A : Type 0} (P : A → Type 0) (xs : List A) (i : ℕ) → AllByRecursion P xs → AllByRecursion P (remove xs i)
+all-removed P [] zero all = tt
+all-removed P [] (suc i) all = tt
+all-removed P (x ∷ xs) zero all = all.1
+all-removed P (x ∷ xs) (suc i) all = (all.0, all-removed P xs i all.1)
+
+pub avoids-fewer : {A : Type 0} (f : A → ℕ) (k : ℕ) (xs : List A) (i : ℕ) → Avoids k (map f xs) → Avoids k (map f (remove xs i))
+avoids-fewer f k [] zero all = tt
+avoids-fewer f k [] (suc i) all = tt
+avoids-fewer f k (x ∷ xs) zero all = all.1
+avoids-fewer f k (x ∷ xs) (suc i) all = (all.0, avoids-fewer f k xs i all.1)
+
+pub distinct-removed : {A : Type 0} (f : A → ℕ) (xs : List A) (i : ℕ) → AreDistinct (map f xs) → AreDistinct (map f (remove xs i))
+distinct-removed f [] zero all = tt
+distinct-removed f [] (suc i) all = tt
+distinct-removed f (x ∷ xs) zero all = all.1
+distinct-removed f (x ∷ xs) (suc i) all = (avoids-fewer f (f x) xs i all.0, distinct-removed f xs i all.1)
+
+-- the others' numbers are not that of the member
+pub avoids-removed : {A : Type 0} (f : A → ℕ) (xs : List A) (i : ℕ) (x : A) → Sits xs i x → AreDistinct (map f xs) → Avoids (f x) (map f (remove xs i))
+avoids-removed f [] i x at all = absurd (omega (arith, at.inside))
+avoids-removed f (y ∷ xs) zero x at all = let P : ℕ → Type 0 = λ k. Avoids k (map f xs) in subst P (ap f at.is) all.0
+avoids-removed f (y ∷ xs) (suc i) x at all =
+    let rest : Sits xs i x = record { inside = omega (arith, at.inside); is = at.is } in
+    ((λ q. avoids-at f (f y) xs i x all.0 rest (sym q)), avoids-removed f xs i x rest all.1)

@@ -2,3 +2,5 @@ pub mod Shown
 pub mod View
 pub mod Answer
 pub mod Finding
+pub mod Items
+pub mod Start

@@ -1,5 +1,5 @@
 -- The desk that the seats, the made areas and the store's memory spell, and what holds of every world.
-use Rattle.std.specs.Prelude.{◌≡◌, ◌≢◌, ℕ, ◌+◌, ◌/◌, ◌≤◌, ◌<◌, List, [], ◌∷◌, length, map, None}
+use Rattle.std.specs.Prelude.{◌≡◌, ◌≢◌, ◌==◌, ℕ, ◌+◌, ◌/◌, ◌≤◌, ◌<◌, List, [], ◌∷◌, length, map, None}
 use Rattle.std.specs.List.{AllByRecursion}
 use Rattle.std.specs.Str.{bytes_eq}
 use Rattle.std.specs.Prelude.{Bool}
@@ -147,3 +147,7 @@ pub record IsWorld (m : Memory) (seats : List Seat) (made : List MadeArea) (file
   pub areas : HasAreas m seats made
   pub numbers : HasNumbers made next.area
   pub ledger : m.free + used_pages (desk_of m seats made files next) ≡ m.pages
+
+-- whether a made area has the number
+abbrev pub has_number : ℕ → MadeArea → Bool
+has_number k a = a.number == k

@@ -1,7 +1,17 @@
 //! The desk's world: a store whose areas hold the slots, the module area and the pages, and what is kept beside them.
 #![tactic(auto)]
 
+mod areas;
+mod blocks;
+mod c_heap;
+mod listing;
 mod made;
+mod module_blocks;
 mod next;
 mod seat;
 mod seats;
+mod tasks;
+mod world;
+
+pub use listing::HeapSums;
+pub use world::World;

@@ -1,0 +1,34 @@
+-- What the form of a command says of its numbers.
+use Rattle.std.proofs.Common.{◌≡◌, ℕ, ◌<◌, ◌≤◌, true, arith, List}
+use Rattle.std.specs.Prelude.{ℤ}
+use Rattle.std.proofs.lemmas.Bool.Decides.{nat_tests}
+use Rattle.rh_defs.specs.declared.command.Command.TheVariants as command
+use Rattle.rh_defs.specs.Range.{in_range}
+
+pub alloc-anchor : (name : List ℕ) (k n : ℕ) → in_range (command.Alloc name k n) ≡ true → k < 64
+unfolding in_range
+alloc-anchor name k n h = grind (arith, nat_tests)
+
+pub load-anchor : (name : List ℕ) (k : ℕ) (file : List ℕ) → in_range (command.Load name k file) ≡ true → k < 64
+unfolding in_range
+load-anchor name k file h = grind (arith, nat_tests)
+
+pub put-anchor : (name : List ℕ) (k offset : ℕ) (bytes : List ℕ) → in_range (command.Put name k offset bytes) ≡ true → k < 64
+unfolding in_range
+put-anchor name k offset bytes h = grind (arith, nat_tests)
+
+pub free-anchor : (name : List ℕ) (k : ℕ) → in_range (command.Free name k) ≡ true → k < 64
+unfolding in_range
+free-anchor name k h = grind (arith, nat_tests)
+
+pub extend-anchor : (name : List ℕ) (k n : ℕ) → in_range (command.Extend name k n) ≡ true → k < 64
+unfolding in_range
+extend-anchor name k n h = grind (arith, nat_tests)
+
+pub mid-anchor : (name : List ℕ) (k offset : ℕ) (by : ℤ) → in_range (command.Mid name k offset by) ≡ true → k < 64
+unfolding in_range
+mid-anchor name k offset by h = grind (arith, nat_tests)
+
+pub show-anchor : (name : List ℕ) (k : ℕ) → in_range (command.Show name k) ≡ true → k < 64
+unfolding in_range
+show-anchor name k h = grind (arith, nat_tests)

@@ -1,0 +1,131 @@
+//! The world: a desk over a store.
+
+ghost use Rattle.std.specs.Prelude.{◌≡◌, ◌≤◌, ℕ, ◌+◌, ◌<◌, true, Ok, Err, IfOk, IsSome};
+ghost use Rattle.rh_defs.specs.Memory.{Memory, fresh, bytes};
+ghost use Rattle.rh_defs.specs.Range.{in_range};
+ghost use Rattle.rh_defs.specs.Runs.{start, start_with};
+ghost use Rattle.rh_defs.specs.Step.{step};
+ghost use Rattle.rh_defs.specs.Laws.{IsDesk};
+ghost use Rattle.rh_tasks.specs.Shown.{IsSpelled, IsBalanced, HasApartBlocks};
+ghost use Rattle.rh_tasks.specs.Answer.{reply_of};
+ghost use Rattle.rh_tasks.specs.Start.{IsFurnished};
+
+use crate::made::MadeArea;
+use crate::next::Next;
+use crate::seat::Seat;
+use crate::areas::FIXED_AREAS;
+use crate::made::{FIRST_MADE, MOST_MADE};
+use crate::module_blocks::MODULE;
+use crate::tasks::MOST_TASKS;
+use rh_defs::{Command, Files, Handle, Ref, Refusal, Reply};
+use rh_module::Module;
+use rh_store::Store;
+use std::alloc::{AllocError, Global};
+use std::marker::Model;
+
+/// A desk over a store, whose areas hold the slots, the module area and the pages. Areas 0 to 5 are the store's areas of
+/// these numbers; each slot and each made area has an area of its own. No call but the constructors takes memory.
+#[derive(Drop)]
+pub struct World<S: Store> {
+    pub(crate) store: S,
+    /// The live tasks in order of handle, with room for 32.
+    pub(crate) seats: Vec<Seat>,
+    /// The made areas in order of number, with room for 32.
+    pub(crate) made: Vec<MadeArea>,
+    pub(crate) files: Files,
+    pub(crate) next: Next,
+}
+
+impl<S: Store> Model for World<S> {
+    ghost use Rattle.std.specs.Prelude.{◌≡◌, vec_capacity};
+    ghost use Rattle.rh_tasks.specs.Shown.{Shown};
+
+    ghost Value = { Shown };
+
+    ghost use Rattle.rh_tasks.specs.View.{shown_of, IsWorld};
+
+    ghost view = { λ w. shown_of (S.memory w.store) w.seats.items w.made.items w.files w.next };
+
+    ghost invariant = { λ w. IsWorld (S.memory w.store) w.seats.items w.made.items w.files w.next × (vec_capacity w.seats ≡ 32) × (vec_capacity w.made ≡ 32) };
+}
+
+/// Opens areas 0 to 5 of a fresh store, and makes area 1, the module area, an empty heap of one page.
+fn furnish<S: Store>(store: &mut S)
+    requires fresh { S.memory store.old ≡ fresh (S.memory store.old).pages }
+    requires least { 8 ≤ (S.memory store.old).pages }
+    ensures { IsFurnished (S.memory store.new) (S.memory store.old).pages }
+{
+    for _area in 0..FIXED_AREAS {
+        store.open().unwrap();
+    }
+    store.grow(MODULE.area, 1).unwrap();
+    Module::start(store, MODULE.area);
+}
+
+impl<S: Store + Drop> World<S> {
+    /// The first desk over a fresh store of 8 to 1,024 pages, with these files: no task, and one page in the module area.
+    /// Handles and refs count up from 1. AllocError where memory is refused; store and files are dropped then.
+    pub fn new(alloc: Global, store: S, files: Files) -> Result<World<S>, AllocError>
+        requires fresh { S.memory store ≡ fresh (S.memory store).pages }
+        requires least { 8 ≤ (S.memory store).pages }
+        requires most { (S.memory store).pages ≤ 1024 }
+        ensures { IfOk result (λ world. world.desk ≡ start (S.memory store).pages files) }
+    {
+        World::with_next(alloc, store, files, Handle(1), Ref(1))
+    }
+
+    /// The first desk whose next handle and next ref are these, each from 1 on. AllocError where memory is refused; store
+    /// and files are dropped then.
+    pub fn with_next(
+        alloc: Global,
+        mut store: S,
+        files: Files,
+        handle: Handle,
+        r: Ref,
+    ) -> Result<World<S>, AllocError>
+        requires fresh { S.memory store ≡ fresh (S.memory store).pages }
+        requires least { 8 ≤ (S.memory store).pages }
+        requires most { (S.memory store).pages ≤ 1024 }
+        requires handle { 1 ≤ handle }
+        requires message { 1 ≤ r }
+        ensures { IfOk result (λ world. world.desk ≡ start_with (S.memory store).pages files handle r) }
+    {
+        let seats = Vec::with_capacity(alloc, MOST_TASKS)?;
+        let made = Vec::with_capacity(alloc, MOST_MADE)?;
+        furnish(&mut store);
+        Ok(World {
+            store,
+            seats,
+            made,
+            files,
+            next: Next {
+                handle: u64::from(handle.0),
+                area: FIRST_MADE,
+                message: u64::from(r.0),
+            },
+        })
+    }
+}
+
+impl<S: Store> World<S> {
+    /// The bytes and lengths of the store's areas spell the desk; the live blocks lie in them, no two of one area overlap,
+    /// and all pages add up.
+    pub fn spelled(&self)
+        ensures spelled { IsSpelled self.now }
+        ensures apart { HasApartBlocks self.now }
+        ensures balanced { IsBalanced self.now }
+        ensures desk { IsDesk self.now.desk }
+    {
+        let _ = &self.store;
+    }
+}
+
+/// The reply that a command's result is.
+fn answer(given: Result<Reply, Refusal>) -> Reply
+    ensures { result ≡ reply_of given }
+{
+    match given {
+        Ok(reply) => reply,
+        Err(refusal) => Reply::Refused(refusal),
+    }
+}
