@@ -11,4 +11,4 @@ pub mod Fixed
 pub mod Mades
 pub mod Joins
 pub mod Makes
-
+pub mod Leaves

@@ -1,6 +1,6 @@
 //! Areas whose length changes by whole pages (OS_ChangeDynamicArea).
 
-ghost use Rattle.std.specs.Prelude.{◌≡◌, ◌≢◌, ◌+◌, ◌≤◌, ◌<◌, true, Ok, Err};
+ghost use Rattle.std.specs.Prelude.{◌≡◌, ◌≢◌, ◌+◌, ◌*◌, ◌≤◌, ◌<◌, true, Ok, Err};
 ghost use Rattle.rh_defs.specs.Memory.{Memory, IsOpen, OnlyArea};
 ghost use Rattle.rh_defs.specs.Module.{whole_pages};
 ghost use Rattle.rh_defs.specs.declared.command.Command.TheVariants as Command;

@@ -1,0 +1,41 @@
+use Rattle.std.proofs.Common.{rules, ◌≡◌, true, Ok, Err, ℕ, ◌+◌, ◌-◌, ◌*◌, ◌<◌, ◌≤◌, length, ◌/◌, ◌%◌, Bool, false, nat_eq, nat_lt, List, [], ◌∷◌, ◌++◌, slice_index_or, slice_set, bit_and, bit_or, Fits, w8, w32, w64, Bor, MutBor}
+use Rattle.rh_defs.specs.declared.command.Command.TheVariants as Command
+use Rattle.rh_defs.specs.Range.{in_range}
+use Rattle.rh_defs.specs.Commands.{alloc as alloc_on}
+use Rattle.rh_defs.specs.Commands.{load as load_on}
+use Rattle.rh_defs.specs.Commands.{put as put_on}
+use Rattle.rh_defs.specs.Commands.{free as free_on}
+use Rattle.rh_defs.specs.Commands.{extend as extend_on}
+use Rattle.rh_defs.specs.Commands.{mid as mid_on}
+use Rattle.rh_tasks.specs.Answer.{Gives}
+use Rattle.rh_tasks.proofs.world.World.load.Goals as goal
+
+pub returns-in_err-slot : goal.returns-in_err-slot
+returns-in_err-slot g c = ?
+
+pub returns-in_default : goal.returns-in_default
+returns-in_default g c = ?
+
+pub alloc-requires-clause-anchor : goal.alloc-requires-clause-anchor
+alloc-requires-clause-anchor g c = ?
+
+pub returns-in_err-address : goal.returns-in_err-address
+returns-in_err-address g c = ?
+
+pub put-requires-clause-slot : goal.put-requires-clause-slot
+put-requires-clause-slot g c = ?
+
+pub put-requires-clause-anchor : goal.put-requires-clause-anchor
+put-requires-clause-anchor g c = ?
+
+pub unwrap-requires : goal.unwrap-requires
+unwrap-requires g c = ?
+
+pub overflow_cast-result : goal.overflow_cast-result
+overflow_cast-result g c = ?
+
+pub invariant_of-self-2 : goal.invariant_of-self-2
+invariant_of-self-2 g c = ?
+
+pub returns : goal.returns
+returns g c = ?
