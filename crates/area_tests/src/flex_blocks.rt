@@ -5,9 +5,9 @@ ghost use Rattle.rh_defs.specs.Memory.{Memory, IsOpen, open_below};
 ghost use Rattle.rh_slot.specs.Area.{IsSlot};
 ghost use Rattle.rh_store.specs.declared.store.TheConstants.{MAX_AREAS};
 
-use crate::slots::{allocated, changed, extended, freed, started, written};
 use crate::stores::{paged_store, plain_store};
 use rh_defs::{Anchor, Refusal};
+use rh_slot::Slot;
 use rh_store::{AreaId, Store, Words};
 use std::process::Abort;
 use std::test::Fail;
@@ -39,9 +39,9 @@ fn bytes_at<S: Words>(store: &S, area: AreaId, place: usize) -> Option<[u8; 16]>
 fn blocks_slide_where_one_goes<R: Abort, S: Store>(rt: &R, store: &mut S) -> Result<(), Refusal>
     requires { open_below (S.memory store.old).area MAX_AREAS < MAX_AREAS }
 {
-    let slot = started(store)?;
-    assert_eq!(rt; allocated(store, slot, Anchor(0), 5), Ok(0x9008));
-    assert_eq!(rt; written(store, slot, Anchor(0), 0, b"hello"), Ok(()));
+    let slot = Slot::start(store)?;
+    assert_eq!(rt; slot.alloc(store, Anchor(0), 5), Ok(0x9008));
+    assert_eq!(rt; slot.put(store, Anchor(0), 0, b"hello"), Ok(()));
     assert_eq!(rt; word_at(store, slot.area, 0), Some(0x9008));
     for k in 1..64 {
         assert_eq!(rt; word_at(store, slot.area, 4 * k), Some(0));
@@ -52,46 +52,39 @@ fn blocks_slide_where_one_goes<R: Abort, S: Store>(rt: &R, store: &mut S) -> Res
             0, 0x80, 0, 0, 5, 0, 0, 0, 0x68, 0x65, 0x6c, 0x6c, 0x6f, 0, 0, 0
         ])
     );
-    assert_eq!(rt; allocated(store, slot, Anchor(1), 5), Ok(0x9018));
-    assert_eq!(rt;
-        allocated(store, slot, Anchor(1), 5),
-        Err(Refusal::AnchorInUse)
-    );
-    assert_eq!(rt; written(store, slot, Anchor(1), 0, b"world"), Ok(()));
-    assert_eq!(rt; freed(store, slot, Anchor(0)), Ok(()));
+    assert_eq!(rt; slot.alloc(store, Anchor(1), 5), Ok(0x9018));
+    assert_eq!(rt; slot.alloc(store, Anchor(1), 5), Err(Refusal::AnchorInUse));
+    assert_eq!(rt; slot.put(store, Anchor(1), 0, b"world"), Ok(()));
+    assert_eq!(rt; slot.count(store), 2);
+    assert_eq!(rt; slot.free(store, Anchor(0)), Ok(()));
+    assert_eq!(rt; slot.count(store), 1);
     assert_eq!(rt; slot.address(store, Anchor(1)), Ok(0x9008));
-    assert_eq!(rt; changed(store, slot, Anchor(1), 2, -2), Ok(()));
+    assert_eq!(rt; slot.mid(store, Anchor(1), 2, -2), Ok(()));
     assert_eq!(rt; slot.size(store, Anchor(1)), Ok(3));
     let mut three = [0; 3];
     assert_eq!(rt; slot.read(store, Anchor(1), 0, &mut three), Ok(()));
     assert_eq!(rt; three, [0x72, 0x6c, 0x64]);
-    assert_eq!(rt;
-        changed(store, slot, Anchor(1), 1, -2),
-        Err(Refusal::BadRange)
-    );
-    assert_eq!(rt; changed(store, slot, Anchor(1), 3, 2), Ok(()));
+    assert_eq!(rt; slot.mid(store, Anchor(1), 1, -2), Err(Refusal::BadRange));
+    assert_eq!(rt; slot.mid(store, Anchor(1), 3, 2), Ok(()));
     let mut five = [1; 5];
     assert_eq!(rt; slot.read(store, Anchor(1), 0, &mut five), Ok(()));
     assert_eq!(rt; five, [0x72, 0x6c, 0x64, 0, 0]);
-    assert_eq!(rt;
-        changed(store, slot, Anchor(1), 6, 1),
-        Err(Refusal::BadRange)
-    );
+    assert_eq!(rt; slot.mid(store, Anchor(1), 6, 1), Err(Refusal::BadRange));
     Ok(())
 }
 
 fn blocks_slide_where_one_changes<R: Abort, S: Store>(rt: &R, store: &mut S) -> Result<(), Refusal>
     requires { open_below (S.memory store.old).area MAX_AREAS < MAX_AREAS }
 {
-    let slot = started(store)?;
-    assert_eq!(rt; allocated(store, slot, Anchor(0), 5), Ok(0x9008));
-    assert_eq!(rt; allocated(store, slot, Anchor(1), 5), Ok(0x9018));
-    assert_eq!(rt; extended(store, slot, Anchor(0), 9), Ok(()));
+    let slot = Slot::start(store)?;
+    assert_eq!(rt; slot.alloc(store, Anchor(0), 5), Ok(0x9008));
+    assert_eq!(rt; slot.alloc(store, Anchor(1), 5), Ok(0x9018));
+    assert_eq!(rt; slot.extend(store, Anchor(0), 9), Ok(()));
     assert_eq!(rt; slot.address(store, Anchor(0)), Ok(0x9008));
     assert_eq!(rt; slot.size(store, Anchor(0)), Ok(9));
     assert_eq!(rt; slot.address(store, Anchor(1)), Ok(0x901c));
     assert_eq!(rt; slot.size(store, Anchor(1)), Ok(5));
-    assert_eq!(rt; extended(store, slot, Anchor(0), 2), Ok(()));
+    assert_eq!(rt; slot.extend(store, Anchor(0), 2), Ok(()));
     assert_eq!(rt; slot.address(store, Anchor(0)), Ok(0x9008));
     assert_eq!(rt; slot.size(store, Anchor(0)), Ok(2));
     assert_eq!(rt; slot.address(store, Anchor(1)), Ok(0x9014));

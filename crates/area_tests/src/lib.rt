@@ -8,6 +8,4 @@ mod heap_blocks;
 #[cfg(test)]
 mod module_blocks;
 #[cfg(test)]
-mod slots;
-#[cfg(test)]
 mod stores;

@@ -7,7 +7,7 @@ ghost use Rattle.std.specs.Prelude.{◌≡◌, ◌+◌, ◌*◌, ◌≤◌, leng
 ghost use Rattle.rh_defs.specs.Memory.{Memory, IsOpen, bytes};
 ghost use Rattle.rh_heap.specs.Spans.{IsSpan};
 
-use rh_defs::HeapFault;
+use rh_defs::HeapRefusal;
 use rh_heap::{Span, claim, describe, init, release};
 use rh_store::{PlainStore, Store, StoreFault, Words};
 use std::alloc::Global;
@@ -55,52 +55,36 @@ fn size_wanted(rt: &HostRuntime, alloc: Global) -> anyhow::Result<u32> {
     }
 }
 
-/// Claims a block, and leaves a heap.
-fn claimed<S: Words>(store: &mut S, span: Span, size: u32) -> Result<usize, HeapFault>
-    requires { IsSpan (S.memory store.old) span }
-    ensures { IsSpan (S.memory store.new) span }
-{
-    claim(store, span, size)
-}
-
-/// Releases a block, and leaves a heap.
-fn released<S: Words>(store: &mut S, span: Span, address: usize) -> Result<(), HeapFault>
-    requires { IsSpan (S.memory store.old) span }
-    ensures { IsSpan (S.memory store.new) span }
-{
-    release(store, span, address)
-}
-
 /// Claims the blocks.
-fn fill<S: Words>(store: &mut S, span: Span) -> Result<(), HeapFault>
+fn fill<S: Words>(store: &mut S, span: Span) -> Result<(), HeapRefusal>
     requires { IsSpan (S.memory store.old) span }
     ensures { IsSpan (S.memory store.new) span }
 {
     for _ in 0..COUNT {
-        claimed(store, span, BLOCK)?;
+        claim(store, span, BLOCK)?;
     }
     Ok(())
 }
 
 /// Releases every second block.
-fn thin<S: Words>(store: &mut S, span: Span) -> Result<(), HeapFault>
+fn thin<S: Words>(store: &mut S, span: Span) -> Result<(), HeapRefusal>
     requires { IsSpan (S.memory store.old) span }
     ensures { IsSpan (S.memory store.new) span }
 {
     for pair in 0..COUNT / 2 {
-        released(store, span, 20 + 32 * pair as usize)?;
+        release(store, span, 20 + 32 * pair as usize)?;
     }
     Ok(())
 }
 
 /// Claims and releases blocks of this size.
-fn go_round<S: Words>(store: &mut S, span: Span, size: u32) -> Result<(), HeapFault>
+fn go_round<S: Words>(store: &mut S, span: Span, size: u32) -> Result<(), HeapRefusal>
     requires { IsSpan (S.memory store.old) span }
     ensures { IsSpan (S.memory store.new) span }
 {
     for _ in 0..COUNT {
-        let address = claimed(store, span, size)?;
-        released(store, span, address)?;
+        let address = claim(store, span, size)?;
+        release(store, span, address)?;
     }
     Ok(())
 }

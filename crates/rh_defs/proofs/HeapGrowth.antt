@@ -3,7 +3,7 @@ use Rattle.std.proofs.Common.{◌≡◌, ℕ, ◌+◌, ◌-◌, ◌<◌, ◌≤�
 use Rattle.std.proofs.lemmas.Bool.Decides.{nat_tests}
 use Rattle.std.specs.Prelude.{Option, Some, None, Ok}
 use Rattle.rh_defs.specs.Pieces.{Split}
-use Rattle.rh_defs.specs.Heap.{Segment, Used, Hole, Heap, Way, Stays, Shrinks, GrowsIntoHole, GrowsAtTop, MovesToHole, MovesToTop, size_of, place_after, hole_for, shortage_in, segment_size, need, claim, raised, claim_growing, way_beyond, way_to_grow, way_to, end_for, resize_need, resized, resized_by, fitted, block_room, bytes_of, resize_growing}
+use Rattle.rh_defs.specs.Heap.{Segment, Used, Hole, Heap, Way, Stays, Shrinks, GrowsIntoHole, GrowsAtTop, MovesToHole, MovesToTop, size_of, place_after, hole_for, shortage_in, segment_size, need, claim, as_granted, raised, claim_growing, way_beyond, way_to_grow, way_to, end_for, resize_need, resized, resized_by, fitted, block_room, bytes_of, resize_growing}
 use Rattle.rh_defs.proofs.HeapLists.{cond_true, cond_false, eqb_same, eqb_apart, leb_yes, leb_no}
 
 none_short : (t : ℕ) (h : Heap) (o : Option (Split Segment)) → shortage_in t (raised (shortage_in t h o) h) o ≡ 0
@@ -14,7 +14,7 @@ none_short t h None = omega arith
 pub need-raised : (n : ℕ) (h : Heap) → need n (raised (need n h) h) ≡ 0
 need-raised n h = none_short (segment_size n) h (hole_for (segment_size n) h.segments)
 
-pub claim-raised : (n : ℕ) (h : Heap) → n ≢ 0 → claim n (raised (need n h) h) ≡ Ok (claim_growing n h)
+pub claim-raised : (n : ℕ) (h : Heap) → n ≢ 0 → claim n (raised (need n h) h) ≡ Ok (as_granted (claim_growing n h))
 claim-raised n h ne =
     cond_false (eqb n 0) _ _ (eqb_apart n 0 ne)
     ∙ cond_true (eqb (need n (raised (need n h) h)) 0) _ _ (eqb_same (need n (raised (need n h) h)) 0 (need-raised n h))

@@ -1,9 +1,10 @@
 -- Worked heaps: the definitions compute these answers.
-use Rattle.std.specs.Prelude.{◌≡◌, refl, ℕ, ℤ, pos, negsuc, List, [], ◌∷◌, Some, None, Result, Ok, Err, is_none, if◌then◌else◌}
-use Rattle.rh_defs.specs.Heap.{Used, Hole, Heap, Placed, empty_heap, claim, release, resize, extend, block_at, block_size, largest, free_bytes}
+use Rattle.std.specs.Prelude.{◌≡◌, refl, ℕ, ℤ, pos, negsuc, List, [], ◌∷◌, Some, None, Result, Ok, Err}
+use Rattle.rh_defs.specs.Chain.{answer_of, left_of}
+use Rattle.rh_defs.specs.Heap.{Used, Hole, Heap, empty_heap, claim, released_at, resize, extend, block_size, largest, free_bytes}
 use Rattle.rh_defs.specs.Pieces.{zeros}
-use Rattle.rh_defs.specs.declared.heap.HeapFault.{HeapFault}
-use Rattle.rh_defs.specs.declared.heap.HeapFault.TheVariants.{NotABlock, BadSize, NoRoom, ExcessiveShrink}
+use Rattle.rh_defs.specs.declared.heap.HeapRefusal.{HeapRefusal}
+use Rattle.rh_defs.specs.declared.heap.HeapRefusal.TheVariants.{NotABlock, BadSize, NoRoom, ExcessiveShrink}
 
 pub data Call : Type 0 where
   Claim : ℕ → Call
@@ -14,19 +15,18 @@ pub data Call : Type 0 where
 -- an answer, where a call that only changes the heap answers 0, and the heap after it
 pub record Step : Type 0 where
   pub heap : Heap
-  pub answer : Result ℕ HeapFault
+  pub answer : Result ℕ HeapRefusal
 
-abbrev pub of_placed : Heap → Result Placed HeapFault → Step
-of_placed h (Ok p) = record { heap = p.heap; answer = Ok p.address }
-of_placed h (Err e) = record { heap = h; answer = Err e }
+abbrev pub of_placed : Heap → Result (Heap × ℕ) HeapRefusal → Step
+of_placed h called = record { heap = left_of h called; answer = answer_of called }
 
-abbrev pub of_heap : Heap → Result Heap HeapFault → Step
+abbrev pub of_heap : Heap → Result Heap HeapRefusal → Step
 of_heap h (Ok g) = record { heap = g; answer = Ok 0 }
 of_heap h (Err e) = record { heap = h; answer = Err e }
 
 abbrev pub called : Heap → Call → Step
 called h (Claim n) = of_placed h (claim n h)
-called h (Release a) = record { heap = release a h; answer = if is_none (block_at a h) then Err NotABlock else Ok 0 }
+called h (Release a) = of_heap h (released_at a h)
 called h (Resize a d) = of_placed h (resize a d h)
 called h (Extend d) = of_heap h (extend d h)
 
@@ -34,7 +34,7 @@ abbrev pub heap_after : Heap → List Call → Heap
 heap_after h [] = h
 heap_after h (c ∷ cs) = heap_after (called h c).heap cs
 
-abbrev pub answers : Heap → List Call → List (Result ℕ HeapFault)
+abbrev pub answers : Heap → List Call → List (Result ℕ HeapRefusal)
 answers h [] = []
 answers h (c ∷ cs) = (called h c).answer ∷ answers (called h c).heap cs
 

@@ -10,6 +10,7 @@ pub mod HeapStretch
 pub mod HeapRest
 pub mod HeapRows
 pub mod HeapFaults
+pub mod HeapCalls
 pub mod HeapGrowth
 pub mod SlotRows
 pub mod ModuleLaws

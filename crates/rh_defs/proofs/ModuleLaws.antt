@@ -5,13 +5,13 @@ use Rattle.std.specs.Prelude.{Option, Some, None, Result, Ok, Err, ℤ}
 use Rattle.rh_defs.specs.Bytes.{SameIn}
 use Rattle.rh_defs.specs.Chain.{Granted, ◌>>=◌, refuse_if, found_or}
 use Rattle.rh_defs.specs.Pieces.{pages_for, lacks_pages, zeros, Split}
-use Rattle.rh_defs.specs.Heap.{Segment, Heap, Placed, Way, Stays, Shrinks, GrowsIntoHole, GrowsAtTop, MovesToHole, MovesToTop, segment_size, block_room, bytes_of, place_after, hole_for, placed_in, fitted, way_to, resized_by, base, block_at, need, claim, claim_need, claim_growing, raised, release, release_found, new_size, resize, resize_found, resize_need, resize_growing, need_at, need_found}
+use Rattle.rh_defs.specs.Heap.{Segment, Heap, Placed, as_granted, Way, Stays, Shrinks, GrowsIntoHole, GrowsAtTop, MovesToHole, MovesToTop, segment_size, block_room, bytes_of, place_after, hole_for, placed_in, fitted, way_to, resized_by, base, block_at, need, claim, claim_need, claim_growing, raised, release, release_found, new_size, resize, resize_found, resize_need, resize_growing, need_at, need_found, refusal_of}
 use Rattle.rh_defs.specs.HeapImage.{Spells}
 use Rattle.rh_defs.specs.Module.{module_claim, module_free, module_resize, module_change, module_need_pages, changed_length, whole_pages}
 use Rattle.rh_defs.specs.declared.refusal.Refusal.{Refusal}
 use Rattle.rh_defs.specs.declared.refusal.Refusal.TheVariants.{NotABlock, BadSize, ExcessiveShrink, NoRoom}
-use Rattle.rh_defs.specs.declared.heap.HeapFault.{HeapFault}
-use Rattle.rh_defs.specs.declared.heap.HeapFault.TheVariants as heap_fault
+use Rattle.rh_defs.specs.declared.heap.HeapRefusal.{HeapRefusal}
+use Rattle.rh_defs.specs.declared.heap.HeapRefusal.TheVariants as heap_refusal
 use Rattle.rh_defs.proofs.BytesLaws.{word_same}
 use Rattle.rh_defs.proofs.HeapLists.{HasRoom-from_tidy, cond_true, cond_false, eqb_same}
 use Rattle.rh_defs.proofs.HeapLaws.{narrower}
@@ -68,9 +68,9 @@ sufficing : (free shortage : ℕ) → pages_for shortage ≤ free → lacks_page
 sufficing free shortage l = not_below free (pages_for shortage) l
 
 -- a call on a heap of this end is granted and leaves the end, and the call on the module area is granted the same
-pub record Grows (end : ℕ) (called : Result Placed HeapFault) (granted : Granted (Heap × ℕ)) : Type 0 where
+pub record Grows (end : ℕ) (called : Result (Heap × ℕ) HeapRefusal) (granted : Granted (Heap × ℕ)) : Type 0 where
   pub placed : Placed
-  pub called_is : called ≡ Ok placed
+  pub called_is : called ≡ Ok (as_granted placed)
   pub granted_is : granted ≡ Ok (placed.heap, placed.address)
   pub end_is : placed.heap.end ≡ end
 
@@ -93,19 +93,19 @@ resized_by-end MovesToTop bytes s h = let there = (placed_in bytes h None).heap 
 -- ---- claims, by what the heap's need was answered to be
 could_need : (k n : ℕ) (h : Heap) → Ok k ≡ claim_need n h → (eqb n 0 ≡ false) × (n ≢ 0) × (k ≡ need n h)
 could_need k n h e = elim (eqb_tells n 0) [
-  | inl u ↦ let bad : Ok k ≡ Err heap_fault.BadSize = e ∙ cond_true (eqb n 0) _ _ u.0 in absurd cc
-  | inr v ↦ let good : ◌≡◌ {A = Result ℕ HeapFault} (Ok k) (Ok (need n h)) = e ∙ cond_false (eqb n 0) _ _ v.0 in (v.0, v.1, cc)
+  | inl u ↦ let bad : Ok k ≡ Err heap_refusal.BadSize = e ∙ cond_true (eqb n 0) _ _ u.0 in absurd cc
+  | inr v ↦ let good : ◌≡◌ {A = Result ℕ HeapRefusal} (Ok k) (Ok (need n h)) = e ∙ cond_false (eqb n 0) _ _ v.0 in (v.0, v.1, cc)
 ]
 
-no_need : (fault : HeapFault) (n : ℕ) (h : Heap) → Err fault ≡ claim_need n h → eqb n 0 ≡ true
-no_need fault n h e = elim (eqb_tells n 0) [
-  | inl u ↦ u.0
-  | inr v ↦ let good : Err fault ≡ Ok (need n h) = e ∙ cond_false (eqb n 0) _ _ v.0 in absurd cc
+no_need : (refusal : HeapRefusal) (n : ℕ) (h : Heap) → Err refusal ≡ claim_need n h → (eqb n 0 ≡ true) × (refusal ≡ heap_refusal.BadSize)
+no_need refusal n h e = elim (eqb_tells n 0) [
+  | inl u ↦ let bad : ◌≡◌ {A = Result ℕ HeapRefusal} (Err refusal) (Err heap_refusal.BadSize) = e ∙ cond_true (eqb n 0) _ _ u.0 in (u.0, cc)
+  | inr v ↦ let good : Err refusal ≡ Ok (need n h) = e ∙ cond_false (eqb n 0) _ _ v.0 in absurd cc
 ]
 
-pub module_claim-zero : (free n : ℕ) (h : Heap) (fault : HeapFault) → Err fault ≡ claim_need n h → module_claim free n h ≡ Err BadSize
+pub module_claim-zero : (free n : ℕ) (h : Heap) (refusal : HeapRefusal) → Err refusal ≡ claim_need n h → module_claim free n h ≡ Err (refusal_of refusal)
 unfolding module_claim
-module_claim-zero free n h fault e = refused (eqb n 0) BadSize _ (no_need fault n h e)
+module_claim-zero free n h refusal e = let w = no_need refusal n h e in refused (eqb n 0) BadSize _ w.0 ∙ ap (λ r. Err (refusal_of r)) (sym w.1)
 
 pub module_claim-short : (free k n : ℕ) (h : Heap) → Ok k ≡ claim_need n h → free < pages_for k → module_claim free n h ≡ Err NoRoom
 unfolding module_claim
@@ -124,9 +124,9 @@ module_claim-grows free k n h e l =
       end_is = let g = raised (need n h) h in let bytes = zeros (block_room n) in placed_in-end bytes g (hole_for (4 + length bytes) g.segments) ∙ ap (λ i. (raised i h).end) (sym w.2);
     }
 
-pub module_need_pages-zero : (n : ℕ) (h : Heap) (fault : HeapFault) → Err fault ≡ claim_need n h → module_need_pages n h ≡ Err BadSize
+pub module_need_pages-zero : (n : ℕ) (h : Heap) (refusal : HeapRefusal) → Err refusal ≡ claim_need n h → module_need_pages n h ≡ Err (refusal_of refusal)
 unfolding module_need_pages
-module_need_pages-zero n h fault e = refused (eqb n 0) BadSize _ (no_need fault n h e)
+module_need_pages-zero n h refusal e = let w = no_need refusal n h e in refused (eqb n 0) BadSize _ w.0 ∙ ap (λ r. Err (refusal_of r)) (sym w.1)
 
 pub module_need_pages-is : (k n : ℕ) (h : Heap) → Ok k ≡ claim_need n h → module_need_pages n h ≡ Ok (pages_for k)
 unfolding module_need_pages
@@ -154,31 +154,31 @@ could_resize : (k address : ℕ) (delta : ℤ) (h : Heap) → Ok k ≡ need_at a
 could_resize k address delta h e = go (block_at address h) refl
   where
     go : (o : Option (Split Segment)) → block_at address h ≡ o → Resizes k address delta h
-    go None eo = let bad : Ok k ≡ Err heap_fault.NotABlock = e ∙ ap (λ o. need_found delta o h) eo in absurd cc
+    go None eo = let bad : Ok k ≡ Err heap_refusal.NotABlock = e ∙ ap (λ o. need_found delta o h) eo in absurd cc
     go (Some b) eo =
         let here : Ok k ≡ need_found delta (Some b) h = e ∙ ap (λ o. need_found delta o h) eo in
         elim (eqb_tells (new_size delta b) 0) [
-          | inl u ↦ let bad : Ok k ≡ Err heap_fault.BadSize = here ∙ cond_true (eqb (new_size delta b) 0) _ _ u.0 in absurd cc
-          | inr v ↦ let good : ◌≡◌ {A = Result ℕ HeapFault} (Ok k) (Ok (resize_need (new_size delta b) b h)) = here ∙ cond_false (eqb (new_size delta b) 0) _ _ v.0 in
+          | inl u ↦ let bad : Ok k ≡ Err heap_refusal.BadSize = here ∙ cond_true (eqb (new_size delta b) 0) _ _ u.0 in absurd cc
+          | inr v ↦ let good : ◌≡◌ {A = Result ℕ HeapRefusal} (Ok k) (Ok (resize_need (new_size delta b) b h)) = here ∙ cond_false (eqb (new_size delta b) 0) _ _ v.0 in
               record { block = b; found = eo; left = v.0; need_is = cc }
         ]
 
-pub module_resize-refused : (free address : ℕ) (delta : ℤ) (h : Heap) (fault : HeapFault) (refusal : Refusal) → (fault ≡ heap_fault.NotABlock → refusal ≡ NotABlock) → (fault ≢ heap_fault.NotABlock → refusal ≡ BadSize)
-    → Err fault ≡ need_at address delta h → module_resize free address delta h ≡ Err refusal
+pub module_resize-refused : (free address : ℕ) (delta : ℤ) (h : Heap) (refusal : HeapRefusal) → Err refusal ≡ need_at address delta h → module_resize free address delta h ≡ Err (refusal_of refusal)
 unfolding module_resize
-module_resize-refused free address delta h fault refusal none small e = go (block_at address h) refl
+module_resize-refused free address delta h refusal e = go (block_at address h) refl
   where
-    go : (o : Option (Split Segment)) → block_at address h ≡ o → module_resize free address delta h ≡ Err refusal
+    go : (o : Option (Split Segment)) → block_at address h ≡ o → module_resize free address delta h ≡ Err (refusal_of refusal)
     go None eo =
-        let same : ◌≡◌ {A = Result ℕ HeapFault} (Err fault) (Err heap_fault.NotABlock) = e ∙ ap (λ o. need_found delta o h) eo in
-        not_found (block_at address h) NotABlock _ eo ∙ ap Err (sym (none cc))
+        let same : ◌≡◌ {A = Result ℕ HeapRefusal} (Err refusal) (Err heap_refusal.NotABlock) = e ∙ ap (λ o. need_found delta o h) eo in
+        let is : heap_refusal.NotABlock ≡ refusal = cc in
+        not_found (block_at address h) NotABlock _ eo ∙ ap (λ r. Err (refusal_of r)) is
     go (Some b) eo =
-        let here : Err fault ≡ need_found delta (Some b) h = e ∙ ap (λ o. need_found delta o h) eo in
+        let here : Err refusal ≡ need_found delta (Some b) h = e ∙ ap (λ o. need_found delta o h) eo in
         elim (eqb_tells (new_size delta b) 0) [
-          | inl u ↦ let same : ◌≡◌ {A = Result ℕ HeapFault} (Err fault) (Err heap_fault.BadSize) = here ∙ cond_true (eqb (new_size delta b) 0) _ _ u.0 in
-              let other : fault ≢ heap_fault.NotABlock = λ q. cc in
-              found (block_at address h) b NotABlock _ eo ∙ refused (eqb (new_size delta b) 0) BadSize _ u.0 ∙ ap Err (sym (small other))
-          | inr v ↦ let good : Err fault ≡ Ok (resize_need (new_size delta b) b h) = here ∙ cond_false (eqb (new_size delta b) 0) _ _ v.0 in absurd cc
+          | inl u ↦ let same : ◌≡◌ {A = Result ℕ HeapRefusal} (Err refusal) (Err heap_refusal.BadSize) = here ∙ cond_true (eqb (new_size delta b) 0) _ _ u.0 in
+              let is : heap_refusal.BadSize ≡ refusal = cc in
+              found (block_at address h) b NotABlock _ eo ∙ refused (eqb (new_size delta b) 0) BadSize _ u.0 ∙ ap (λ r. Err (refusal_of r)) is
+          | inr v ↦ let good : Err refusal ≡ Ok (resize_need (new_size delta b) b h) = here ∙ cond_false (eqb (new_size delta b) 0) _ _ v.0 in absurd cc
         ]
 
 pub module_resize-short : (free k address : ℕ) (delta : ℤ) (h : Heap) → Ok k ≡ need_at address delta h → free < pages_for k → module_resize free address delta h ≡ Err NoRoom
@@ -199,7 +199,7 @@ module_resize-grows free k address delta h e l =
       placed = resize_growing n w.block h;
       called_is = ap (λ i. resize address delta (raised i h)) w.need_is ∙ ap (λ o. resize_found delta o g) w.found
           ∙ cond_false (eqb n 0) _ _ w.left ∙ cond_true (eqb (resize_need n w.block g) 0) _ _ (eqb_same (resize_need n w.block g) 0 (resize_need-raised n w.block h))
-          ∙ ap Ok (resize-raised n w.block h);
+          ∙ ap (λ p. Ok (as_granted p)) (resize-raised n w.block h);
       granted_is = found (block_at address h) w.block NotABlock _ w.found ∙ passed (eqb n 0) BadSize _ w.left
           ∙ passed (lacks_pages free (resize_need n w.block h)) NoRoom _ (sufficing free (resize_need n w.block h) (rw (sym w.need_is) l));
       end_is = resized_by-end (way_to (segment_size n) w.block h) (fitted (block_room n) (bytes_of w.block.here)) w.block g ∙ ap (λ i. (raised i h).end) (sym w.need_is);

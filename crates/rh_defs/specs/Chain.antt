@@ -31,27 +31,32 @@ unfoldable pub or_else : {A : Type 0} → Granted A → (Refusal → A) → A
 or_else (Ok x) instead = x
 or_else (Err refusal) instead = instead refusal
 
--- ---- a call on one part of a desk, as its callers see it
+-- ---- a call on one part of a desk, or on a heap, as its callers see it
 
 -- what a call answers that also leaves something
-abbrev pub answer_of : {A B : Type 0} → Granted (A × B) → Granted B
+abbrev pub answer_of : {A B E : Type 0} → Result (A × B) E → Result B E
 answer_of (Ok p) = Ok p.1
 answer_of (Err refusal) = Err refusal
 
 -- what such a call leaves of what there was: the same where it was refused
-abbrev pub left_of : {A B : Type 0} → A → Granted (A × B) → A
+abbrev pub left_of : {A B E : Type 0} → A → Result (A × B) E → A
 left_of old (Ok p) = p.0
 left_of old (Err refusal) = old
 
 -- done or refused
-abbrev pub outcome_of : {A : Type 0} → Granted A → Granted (Unit {0})
+abbrev pub outcome_of : {A E : Type 0} → Result A E → Result (Unit {0}) E
 outcome_of (Ok x) = Ok tt
 outcome_of (Err refusal) = Err refusal
 
 -- what a call leaves that answers nothing more
-abbrev pub result_or : {A : Type 0} → A → Granted A → A
+abbrev pub result_or : {A E : Type 0} → A → Result A E → A
 result_or old (Ok new) = new
 result_or old (Err refusal) = old
+
+-- a call that leaves something and answers nothing more, as one with an answer
+abbrev pub no_answer : {A E : Type 0} → Result A E → Result (A × Unit {0}) E
+no_answer (Ok new) = Ok (new, tt)
+no_answer (Err refusal) = Err refusal
 
 -- opens this file's words, for a proof that computes
 unfoldable pub computing : Unit {0}

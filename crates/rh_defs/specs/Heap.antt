@@ -1,9 +1,11 @@
 -- Heaps as lists of used segments and holes, and the calls on them.
-use Rattle.std.specs.Prelude.{◌≡◌, ℕ, zero, suc, ◌+◌, ◌-◌, ◌<◌, ◌≤◌, ◌%◌, ℤ, Bool, true, false, nat_lt, nat_le, ◌==◌, max, if◌then◌else◌, List, [], ◌∷◌, ◌++◌, length, take, Option, Some, None, Result, Ok, Err}
+use Rattle.std.specs.Prelude.{◌≡◌, ℕ, zero, suc, ◌+◌, ◌-◌, ◌<◌, ◌≤◌, ◌%◌, ℤ, Bool, true, false, nat_lt, nat_le, ◌==◌, max, if◌then◌else◌, List, [], ◌∷◌, ◌++◌, length, take, Option, Some, None, Result, Ok, Err, ok_or}
 use Rattle.std.specs.Option.{option_map}
 use Rattle.rh_defs.specs.Pieces.{round_up, page, zeros, moved, total, Split, first_at, with_here, is_inside}
-use Rattle.rh_defs.specs.declared.heap.HeapFault.{HeapFault}
-use Rattle.rh_defs.specs.declared.heap.HeapFault.TheVariants.{NotABlock, BadSize, NoRoom, ExcessiveShrink}
+use Rattle.rh_defs.specs.declared.heap.HeapRefusal.{HeapRefusal}
+use Rattle.rh_defs.specs.declared.heap.HeapRefusal.TheVariants.{NotABlock, BadSize, NoRoom, ExcessiveShrink}
+use Rattle.rh_defs.specs.declared.refusal.Refusal.{Refusal}
+use Rattle.rh_defs.specs.declared.refusal.Refusal.TheVariants as refusal
 
 -- a block with its bytes, or free bytes between blocks
 pub data Segment : Type 0 where
@@ -108,15 +110,9 @@ pub record Placed : Type 0 where
   pub heap : Heap
   pub address : ℕ
 
--- the address that a call answers
-abbrev pub address_of : Result Placed HeapFault → Result ℕ HeapFault
-address_of (Ok p) = Ok p.address
-address_of (Err fault) = Err fault
-
--- the heap after a call, the same where it was refused
-abbrev pub heap_after : Heap → Result Placed HeapFault → Heap
-heap_after h (Ok p) = p.heap
-heap_after h (Err fault) = h
+-- a placed block as a call gives it
+abbrev pub as_granted : Placed → Heap × ℕ
+as_granted p = (p.heap, p.address)
 
 -- the size of a segment whose block has n bytes at least, and the bytes that the block then has
 abbrev pub segment_size : ℕ → ℕ
@@ -145,15 +141,15 @@ shortage_in t h None = (base h + t) - h.end
 abbrev pub need : ℕ → Heap → ℕ
 need n h = shortage_in (segment_size n) h (hole_for (segment_size n) h.segments)
 
--- the heap with a block of n zeros
-abbrev pub claim : ℕ → Heap → Result Placed HeapFault
+-- a block of n zeros: the heap, and the block's address
+abbrev pub claim : ℕ → Heap → Result (Heap × ℕ) HeapRefusal
 claim n h =
     if n == 0 then Err BadSize
-    else if need n h == 0 then Ok (placed (zeros (block_room n)) h)
+    else if need n h == 0 then Ok (as_granted (placed (zeros (block_room n)) h))
     else Err NoRoom
 
 -- the same as the answer to a call
-abbrev pub claim_need : ℕ → Heap → Result ℕ HeapFault
+abbrev pub claim_need : ℕ → Heap → Result ℕ HeapRefusal
 claim_need n h = if n == 0 then Err BadSize else Ok (need n h)
 
 -- the heap with its end raised by whole pages
@@ -177,6 +173,10 @@ release_found (Some s) h = released s h
 -- the heap without the block at the address; the same where no block begins there
 abbrev pub release : ℕ → Heap → Heap
 release address h = release_found (block_at address h) h
+
+-- the same, refused where no block begins there
+abbrev pub released_at : ℕ → Heap → Result Heap HeapRefusal
+released_at address h = ok_or (option_map (λ s. released s h) (block_at address h)) NotABlock
 
 -- ---- resizes
 
@@ -259,23 +259,23 @@ resize_growing n s h = resized n s h (raised (resize_need n s h) h)
 abbrev pub new_size : ℤ → Split Segment → ℕ
 new_size delta s = moved (length (bytes_of s.here)) delta
 
-abbrev pub resize_found : ℤ → Option (Split Segment) → Heap → Result Placed HeapFault
+abbrev pub resize_found : ℤ → Option (Split Segment) → Heap → Result (Heap × ℕ) HeapRefusal
 resize_found delta None h = Err NotABlock
 resize_found delta (Some s) h =
     if new_size delta s == 0 then Err BadSize
-    else if resize_need (new_size delta s) s h == 0 then Ok (resized (new_size delta s) s h h)
+    else if resize_need (new_size delta s) s h == 0 then Ok (as_granted (resized (new_size delta s) s h h))
     else Err NoRoom
 
--- the heap whose block at the address has delta bytes more
-abbrev pub resize : ℕ → ℤ → Heap → Result Placed HeapFault
+-- delta bytes more in the block at the address: the heap, and the block's address
+abbrev pub resize : ℕ → ℤ → Heap → Result (Heap × ℕ) HeapRefusal
 resize address delta h = resize_found delta (block_at address h) h
 
 -- the shortage as the answer to a call
-abbrev pub need_found : ℤ → Option (Split Segment) → Heap → Result ℕ HeapFault
+abbrev pub need_found : ℤ → Option (Split Segment) → Heap → Result ℕ HeapRefusal
 need_found delta None h = Err NotABlock
 need_found delta (Some s) h = if new_size delta s == 0 then Err BadSize else Ok (resize_need (new_size delta s) s h)
 
-abbrev pub need_at : ℕ → ℤ → Heap → Result ℕ HeapFault
+abbrev pub need_at : ℕ → ℤ → Heap → Result ℕ HeapRefusal
 need_at address delta h = need_found delta (block_at address h) h
 
 -- ---- the end, and sums
@@ -285,7 +285,7 @@ abbrev pub extended : ℤ → Heap → Heap
 extended delta h = record h { end = moved h.end delta }
 
 -- refused where the end would be below the base
-abbrev pub extend : ℤ → Heap → Result Heap HeapFault
+abbrev pub extend : ℤ → Heap → Result Heap HeapRefusal
 extend delta h = if nat_lt (moved h.end delta) (base h) then Err ExcessiveShrink else Ok (extended delta h)
 
 abbrev pub hole_size : Segment → ℕ
@@ -302,3 +302,12 @@ largest h = max (largest_hole h.segments) (h.end - base h) - 4
 
 abbrev pub free_bytes : Heap → ℕ
 free_bytes h = total hole_size h.segments + (h.end - base h)
+
+-- ---- refusals
+
+-- the refusal of a command whose call on a heap was refused
+abbrev pub refusal_of : HeapRefusal → Refusal
+refusal_of NotABlock = refusal.NotABlock
+refusal_of BadSize = refusal.BadSize
+refusal_of NoRoom = refusal.NoRoom
+refusal_of ExcessiveShrink = refusal.ExcessiveShrink

@@ -3,7 +3,7 @@ use Rattle.std.specs.Prelude.{ℕ, ◌+◌, ◌-◌, ℤ, pos, negsuc, nat_lt, �
 use Rattle.rh_defs.specs.declared.refusal.Refusal.TheVariants.{NotABlock, BadSize, ExcessiveShrink, NoRoom}
 use Rattle.rh_defs.specs.Chain.{Granted, ◌>>=◌, refuse_if, found_or}
 use Rattle.rh_defs.specs.Pieces.{round_up, page, pages_for, lacks_pages}
-use Rattle.rh_defs.specs.Heap.{Heap, Placed, base, block_at, need, claim_growing, released, new_size, resize_need, resize_growing}
+use Rattle.rh_defs.specs.Heap.{Heap, base, as_granted, block_at, need, claim_growing, released, new_size, resize_need, resize_growing}
 
 -- a signed amount without its sign
 abbrev pub magnitude : ℤ → ℕ
@@ -18,10 +18,6 @@ whole_pages delta = round_up page (magnitude delta)
 abbrev pub changed_length : ℕ → ℤ → ℕ
 changed_length n (pos by) = n + whole_pages (pos by)
 changed_length n (negsuc by) = n - whole_pages (negsuc by)
-
--- a placed block as a call answers it: the heap, and the block's address
-abbrev pub as_granted : Placed → Heap × ℕ
-as_granted p = (p.heap, p.address)
 
 -- a block of n zeros: the heap, and the block's address
 unfoldable pub module_claim : ℕ → ℕ → Heap → Granted (Heap × ℕ)

@@ -22,7 +22,7 @@ pub use bytes::Bytes;
 pub use command::{Command, Manner};
 pub use fault::LineFault;
 pub use files::Files;
-pub use heap::HeapFault;
+pub use heap::{HeapFault, HeapRefusal};
 pub use ids::{Anchor, Handle, Ref};
 pub use laws::image_law;
 pub use leaf::Leaf;

@@ -1,19 +1,21 @@
 -- What a resize answers.
 use Rattle.std.proofs.Common.{◌≡◌, ℕ, ◌+◌, ◌-◌, ◌<◌, ◌≤◌, ◌≢◌, eqb, refl, sym, ap, subst, ◌∙◌, arith}
-use Rattle.std.specs.Prelude.{Some, None, Result, Ok, Err, ℤ, MatchResult, OnErr}
+use Rattle.std.specs.Prelude.{Some, None, Result, Ok, Err, ℤ, MatchResult}
 use Rattle.rh_defs.specs.Memory.{Memory}
 use Rattle.rh_defs.specs.Pieces.{Split, moved}
-use Rattle.rh_defs.specs.Heap.{Segment, Heap, Placed, way_to, resized_by, fitted, segment_size, new_size, resize_need, resized, resize, resize_found, need_at, need_found, address_of, heap_after, shortage_in, hole_for, block_at}
+use Rattle.rh_defs.specs.Heap.{Segment, Heap, Placed, way_to, resized_by, fitted, segment_size, new_size, resize_need, resized, resize, resize_found, need_at, need_found, as_granted, shortage_in, hole_for, block_at}
 use Rattle.rh_defs.specs.Heap as heap
-use Rattle.rh_defs.specs.declared.heap.HeapFault.{HeapFault}
-use Rattle.rh_defs.specs.declared.heap.HeapFault.TheVariants.{NotABlock, BadSize, NoRoom}
+use Rattle.rh_defs.specs.declared.heap.HeapRefusal.{HeapRefusal}
+use Rattle.rh_defs.specs.declared.heap.HeapRefusal.TheVariants.{NotABlock, BadSize, NoRoom}
 use Rattle.rh_defs.proofs.HeapLists.{cond_true, cond_false, eqb_same, eqb_apart}
-use Rattle.rh_heap.specs.Spans.{SpellsIn, heap_in}
+use Rattle.rh_heap.specs.Calls.{Leaves}
+use Rattle.rh_heap.specs.Spans.{IsSpan, SpellsIn, OnlySpan, heap_in}
 use Rattle.rh_heap.specs.Spots.{FoundBlock}
 use Rattle.rh_heap.specs.Ways.{WayIs, WithBlock, WayOf, SpellsResized, resized_in, short_by, ShortBy, Changed, NotChanged, Moved}
 use Rattle.rh_heap.specs.declared.span.Span.{Span}
 use Rattle.rh_heap.specs.declared.span.Spot.{Spot}
 use Rattle.rh_heap.specs.declared.span.Way.TheVariants as way
+use Rattle.rh_heap.proofs.CallLaws.{leaves, refuses}
 use Rattle.rh_heap.proofs.WayLaws.{cut_of, at_cut, from_cut, at_place}
 use Rattle.rh_heap.proofs.MoveLaws.{short_stays, short_shrinks, short_into, short_top, short_moves, resized_moves, same_way, address_stays, address_shrinks, address_into, address_top}
 
@@ -49,11 +51,11 @@ module _ (m n : Memory) (span : Span) (spot : Spot) (t : ℕ) (f : FoundBlock sp
 
   pub not_changed_top : (end : ℕ) → end ≡ h.end → end < spot.place + t → n ≡ m → WayOf t spot h way.AtTop → WithBlock spot h (NotChanged m n span t NoRoom)
   not_changed_top end e full same w = at_cut span.at h spot f (NotChanged m n span t NoRoom)
-      (record { no_room = (let q = short_top span.at h spot f t w in omega arith); fault_is = refl; same = same })
+      (record { no_room = (let q = short_top span.at h spot f t w in omega arith); refusal_is = refl; same = same })
 
   pub not_changed_moves : WayOf t spot h way.Moves → shortage_in t h (hole_for t h.segments) ≢ 0 → n ≡ m → WithBlock spot h (NotChanged m n span t NoRoom)
   not_changed_moves w short same = at_cut span.at h spot f (NotChanged m n span t NoRoom)
-      (record { no_room = λ z. short (sym (short_moves span.at h spot f t w) ∙ z); fault_is = refl; same = same })
+      (record { no_room = λ z. short (sym (short_moves span.at h spot f t w) ∙ z); refusal_is = refl; same = same })
 
 pub changed_stays : (m : Memory) (span : Span) (spot : Spot) (t : ℕ) → (f : FoundBlock span.at (heap_in m span) (spot.place + 4) spot) → SpellsIn m span (heap_in m span) → WayOf t spot (heap_in m span) way.Stays
     → WithBlock spot (heap_in m span) (Changed m m span t (spot.place + 4))
@@ -92,10 +94,10 @@ module _ (delta : ℤ) (s : Split Segment) (h : Heap) (n : ℕ) (en : n ≡ new_
   found_zero : n ≡ 0 → resize_found delta (Some s) h ≡ Err BadSize
   found_zero z = cond_true (eqb (new_size delta s) 0) _ _ (eqb_same (new_size delta s) 0 (sym en ∙ z))
 
-  found_done : n ≢ 0 → short_by (segment_size n) s h ≡ 0 → resize_found delta (Some s) h ≡ Ok (resized_in (segment_size n) s h)
+  found_done : n ≢ 0 → short_by (segment_size n) s h ≡ 0 → resize_found delta (Some s) h ≡ Ok (as_granted (resized_in (segment_size n) s h))
   found_done nz e = cond_false (eqb (new_size delta s) 0) _ _ (eqb_apart (new_size delta s) 0 (λ z. nz (en ∙ z)))
       ∙ cond_true (eqb (resize_need (new_size delta s) s h) 0) _ _ (eqb_same (resize_need (new_size delta s) s h) 0 (ap (λ i. resize_need i s h) (sym en) ∙ e))
-      ∙ ap (λ i. Ok (resized i s h h)) (sym en)
+      ∙ ap (λ i. Ok (as_granted (resized i s h h))) (sym en)
 
   found_full : n ≢ 0 → short_by (segment_size n) s h ≢ 0 → resize_found delta (Some s) h ≡ Err NoRoom
   found_full nz e = cond_false (eqb (new_size delta s) 0) _ _ (eqb_apart (new_size delta s) 0 (λ z. nz (en ∙ z)))
@@ -134,29 +136,24 @@ module _ (at : ℕ) (h : Heap) (address : ℕ) (spot : Spot) (f : FoundBlock at 
       ap Ok (from_cut at h spot (at_place f) (ShortBy h t k) w ∙ ap (λ i. short_by i s h) et)
       ∙ sym (ap (λ o. need_found delta o h) found_s ∙ need_some delta s h n size_s nz)
 
-  pub resize_done : (t : ℕ) → n ≢ 0 → t ≡ segment_size n → short_by t s h ≡ 0 → resize address delta h ≡ Ok (resized_in t s h)
+  pub resize_done : (t : ℕ) → n ≢ 0 → t ≡ segment_size n → short_by t s h ≡ 0 → resize address delta h ≡ Ok (as_granted (resized_in t s h))
   resize_done t nz et e =
-      ap (λ o. resize_found delta o h) found_s ∙ found_done delta s h n size_s nz (ap (λ i. short_by i s h) (sym et) ∙ e) ∙ ap (λ i. Ok (resized_in i s h)) (sym et)
+      ap (λ o. resize_found delta o h) found_s ∙ found_done delta s h n size_s nz (ap (λ i. short_by i s h) (sym et) ∙ e) ∙ ap (λ i. Ok (as_granted (resized_in i s h))) (sym et)
 
   pub resize_full : (t : ℕ) → n ≢ 0 → t ≡ segment_size n → short_by t s h ≢ 0 → resize address delta h ≡ Err NoRoom
   resize_full t nz et e = ap (λ o. resize_found delta o h) found_s ∙ found_full delta s h n size_s nz (λ z. e (ap (λ i. short_by i s h) et ∙ z))
 
--- what the code's answer says of the call
-pub record Answered (m k : Memory) (span : Span) (r : Result ℕ HeapFault) (w : Result Placed HeapFault) : Type 0 where
-  pub answer : r ≡ address_of w
-  pub spells : SpellsIn k span (heap_after (heap_in m span) w)
-  pub err : OnErr r (k ≡ m)
-
-module _ (m k : Memory) (span : Span) (address : ℕ) (spot : Spot) (f : FoundBlock span.at (heap_in m span) address spot) (delta : ℤ) (n : ℕ) (en : n ≡ moved (spot.size - 4) delta) (t : ℕ) (nz : n ≢ 0) (et : t ≡ segment_size n) (s0 : SpellsIn m span (heap_in m span)) where
-  pub answered : (r : Result ℕ HeapFault) → MatchResult r (λ a. WithBlock spot (heap_in m span) (Changed m k span t a)) (λ fault. WithBlock spot (heap_in m span) (NotChanged m k span t fault))
-      → Answered m k span r (resize address delta (heap_in m span))
+module _ (m k : Memory) (span : Span) (address : ℕ) (spot : Spot) (f : FoundBlock span.at (heap_in m span) address spot) (delta : ℤ) (n : ℕ) (en : n ≡ moved (spot.size - 4) delta) (t : ℕ) (nz : n ≢ 0) (et : t ≡ segment_size n) (s0 : IsSpan m span)
+    (only : OnlySpan m k span) where
+  -- what the code's answer says of the call
+  pub answered : (r : Result ℕ HeapRefusal) → MatchResult r (λ a. WithBlock spot (heap_in m span) (Changed m k span t a)) (λ refusal. WithBlock spot (heap_in m span) (NotChanged m k span t refusal))
+      → Leaves m k span (resize address delta (heap_in m span)) r
   answered (Ok a) w =
       let h = heap_in m span in
       let v = from_cut span.at h spot (at_place f) (Changed m k span t a) w in
-      let d = resize_done span.at h address spot f delta n en t nz et v.room in
-      record { answer = ap Ok v.address_is ∙ sym (ap address_of d); spells = subst (λ r. SpellsIn k span (heap_after h r)) (sym d) v.spells; err = tt }
-  answered (Err fault) w =
+      let g = resized_in t (cut_of span.at h spot (at_place f)) h in
+      leaves m k span (resize address delta h) g.heap a (resize_done span.at h address spot f delta n en t nz et v.room ∙ ap (λ i. Ok (g.heap, i)) (sym v.address_is)) v.spells only
+  answered (Err refusal) w =
       let h = heap_in m span in
-      let v = from_cut span.at h spot (at_place f) (NotChanged m k span t fault) w in
-      let d = resize_full span.at h address spot f delta n en t nz et v.no_room in
-      record { answer = ap Err v.fault_is ∙ sym (ap address_of d); spells = subst (λ r. SpellsIn k span (heap_after h r)) (sym d) (subst (λ i. SpellsIn i span h) (sym v.same) s0); err = v.same }
+      let v = from_cut span.at h spot (at_place f) (NotChanged m k span t refusal) w in
+      refuses m k span (resize address delta h) refusal (resize_full span.at h address spot f delta n en t nz et v.no_room ∙ ap Err (sym v.refusal_is)) v.same s0

@@ -4,10 +4,10 @@ use Rattle.std.proofs.lemmas.List.{append-nil}
 use Rattle.std.specs.Prelude.{None, Ok, Err}
 use Rattle.rh_defs.specs.Bytes.{word, part, SameOutside}
 use Rattle.rh_defs.specs.Pieces.{total, NonePass}
-use Rattle.rh_defs.specs.Heap.{Segment, Used, Hole, Heap, Placed, IsTidy, size_of, base, is_hole_for, hole_for, placed, placed_in, with_hole, shortage_in, segment_size, block_room, need, claim, claim_need, address_of, heap_after}
+use Rattle.rh_defs.specs.Heap.{Segment, Used, Hole, Heap, Placed, IsTidy, size_of, base, is_hole_for, hole_for, placed, placed_in, with_hole, shortage_in, segment_size, block_room, need, claim, claim_need, as_granted}
 use Rattle.rh_defs.specs.Pieces.{zeros}
 use Rattle.rh_defs.specs.HeapImage.{Stand, Spells}
-use Rattle.rh_defs.specs.declared.heap.HeapFault.TheVariants.{BadSize, NoRoom}
+use Rattle.rh_defs.specs.declared.heap.HeapRefusal.TheVariants.{BadSize, NoRoom}
 use Rattle.rh_defs.proofs.HeapLists.{HasRoom-from_tidy, HasRoom-append, total-append, tidy_before, tidy_behind_hole, tidy_join, tidy_after, NonePass-append, first_at-none, first_at-found, cond_true, cond_false, eqb_same, eqb_apart, leb_yes, leb_no}
 use Rattle.rh_defs.proofs.HeapLaws.{last_link-append, last_link-none, last_link_range, Stand-split, HasNone, NextHole, next_hole}
 use Rattle.rh_defs.proofs.HeapStretch.{opened}
@@ -203,7 +203,7 @@ module _ (n : ℕ) (h : Heap) where
   pub claim_zero : n ≡ 0 → claim n h ≡ Err BadSize
   claim_zero e = cond_true (eqb n 0) _ _ (eqb_same n 0 e)
 
-  pub claim_done : n ≢ 0 → need n h ≡ 0 → claim n h ≡ Ok (placed (zeros (block_room n)) h)
+  pub claim_done : n ≢ 0 → need n h ≡ 0 → claim n h ≡ Ok (as_granted (placed (zeros (block_room n)) h))
   claim_done ne e = cond_false (eqb n 0) _ _ (eqb_apart n 0 ne) ∙ cond_true (eqb (need n h) 0) _ _ (eqb_same (need n h) 0 e)
 
   pub claim_full : n ≢ 0 → need n h ≢ 0 → claim n h ≡ Err NoRoom
@@ -217,14 +217,11 @@ module _ (n : ℕ) (h : Heap) where
 
 -- what a block that was put there answers
 pub claim_answered : (n : ℕ) (h : Heap) (t address : ℕ) → n ≢ 0 → t ≡ segment_size n → shortage_in t h (hole_for t h.segments) ≡ 0 → address ≡ (placed (zeros (t - 4)) h).address
-    → (Ok address ≡ address_of (claim n h)) × ((placed (zeros (t - 4)) h).heap ≡ heap_after h (claim n h))
+    → claim n h ≡ Ok ((placed (zeros (t - 4)) h).heap, address)
 claim_answered n h t address ne et e a =
     let none : need n h ≡ 0 = subst (λ i. shortage_in i h (hole_for i h.segments) ≡ 0) et e in
-    let done = claim_done n h ne none in
-    let same : placed (zeros (t - 4)) h ≡ placed (zeros (block_room n)) h = ap (λ i. placed (zeros (i - 4)) h) et in (
-      ap Ok (a ∙ ap (λ (p : Placed). p.address) same) ∙ sym (ap address_of done),
-      ap (λ (p : Placed). p.heap) same ∙ sym (ap (heap_after h) done),
-    )
+    let same : placed (zeros (block_room n)) h ≡ placed (zeros (t - 4)) h = ap (λ i. placed (zeros (i - 4)) h) (sym et) in
+    claim_done n h ne none ∙ ap (λ p. Ok (as_granted p)) same ∙ ap (λ i. Ok ((placed (zeros (t - 4)) h).heap, i)) (sym a)
 
 pub claim_refused : (n : ℕ) (h : Heap) (t : ℕ) → n ≢ 0 → t ≡ segment_size n → shortage_in t h (hole_for t h.segments) ≢ 0 → claim n h ≡ Err NoRoom
 claim_refused n h t ne et e = claim_full n h ne (λ z. e (subst (λ i. shortage_in i h (hole_for i h.segments) ≡ 0) (sym et) z))

@@ -13,3 +13,4 @@ pub mod ResizeLaws
 pub mod MoveLaws
 pub mod ChangeLaws
 pub mod SpanLaws
+pub mod CallLaws

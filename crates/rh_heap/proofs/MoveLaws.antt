@@ -1,15 +1,18 @@
 -- A block that moves.
-use Rattle.std.proofs.Common.{◌≡◌, ℕ, zero, suc, ◌+◌, ◌-◌, ◌%◌, ◌<◌, ◌≤◌, ◌⊎◌, inl, inr, false, true, List, [], ◌∷◌, ◌++◌, length, replicate, refl, sym, ap, subst, ◌∙◌, append_assoc, arith}
-use Rattle.std.specs.Prelude.{Option, Some, None, IfSome}
+use Rattle.std.proofs.Common.{◌≡◌, ℕ, zero, suc, ◌+◌, ◌-◌, ◌%◌, ◌<◌, ◌≤◌, ◌⊎◌, inl, inr, Bool, false, true, cond, eqb, List, [], ◌∷◌, ◌++◌, length, replicate, refl, sym, ap, subst, ◌∙◌, append_assoc, arith}
+use Rattle.std.specs.Prelude.{Option, Some, None, IfSome, Ok}
+use Rattle.std.specs.Option.{option_map}
 use Rattle.rh_defs.specs.Bytes.{word, part, SameOutside}
-use Rattle.rh_defs.specs.Pieces.{total, Split}
-use Rattle.rh_defs.specs.Heap.{Segment, Used, Hole, Heap, Placed, IsTidy, size_of, bytes_of, base, place_after, with_hole, fitted, is_hole_for, hole_for, placed, placed_in, release, shortage_in, block_at, way_to, end_for, resized_by, segment_size, block_room, new_size, resize_need, resized, resize, resize_found, need_at, need_found, address_of, heap_after}
+use Rattle.rh_defs.specs.Pieces.{total, Split, first_at}
+use Rattle.rh_defs.specs.Pieces as pieces
+use Rattle.rh_defs.specs.Heap.{Segment, Used, Hole, Heap, Placed, IsTidy, size_of, bytes_of, base, place_after, with_hole, fitted, is_hole_for, hole_for, placed, placed_in, release, shortage_in, block_at, is_block_at, released_at, way_to, end_for, resized_by, segment_size, block_room, new_size, resize_need, resized, resize, resize_found, need_at, need_found}
 use Rattle.rh_defs.specs.Pieces.{zeros}
 use Rattle.rh_defs.specs.Heap as heap
 use Rattle.rh_defs.specs.HeapImage.{Stand, Spells}
 use Rattle.rh_defs.proofs.BytesLaws.{part_more, part-part, part-zeros}
-use Rattle.rh_defs.proofs.HeapLists.{HasRoom-from_tidy, HasRoom-append, total-append, tidy_other, tidy_behind_used, IsCut, first_at-cuts}
+use Rattle.rh_defs.proofs.HeapLists.{HasRoom-from_tidy, HasRoom-append, total-append, tidy_other, tidy_behind_used, IsCut, first_at-cuts, cond_true, eqb_same}
 use Rattle.rh_defs.proofs.HeapLaws.{Stand-split}
+use Rattle.rh_defs.proofs.HeapCalls.{released_at-some}
 use Rattle.rh_defs.proofs.HeapFaults.{le_from}
 use Rattle.rh_defs.proofs.HeapStretch.{link_place, Stretch-kept, opened, filled, closed}
 use Rattle.rh_heap.specs.Spots.{FoundBlock}
@@ -207,6 +210,9 @@ module _ (b : List ℕ) (at : ℕ) (h : Heap) (spot : Spot) (s : Spells b at h) 
       let wide : SameOutside c d place (place + length now) = record { len = o.len; below = λ i l. o.below i (omega arith); above = λ i l. o.above i (omega arith) } in
       subst (λ (q : Placed). Spells d at q.heap) (sym (p.is now now_is)) (rewritten c d at h.end p.front p.rest (zeros (t - 4)) now w (omega arith) wide whole)
 
+  still_there : BlockIn (spot.place + 4) 16 f.bytes (placed now h).heap.segments
+  still_there = subst (λ (q : Placed). BlockIn (spot.place + 4) 16 f.bytes q.heap.segments) (sym (p.is now now_is)) (p.keeps (spot.place + 4) f.bytes now now_is old_in)
+
   pub placed_end : (placed now h).heap.end ≡ h.end
   placed_end = ap (λ (q : Placed). q.heap.end) (p.is now now_is)
 
@@ -230,6 +236,37 @@ pub moved_end : (m m2 : Memory) (span : Span) (spot : Spot) (t : ℕ) → Spells
 moved_end m m2 span spot t s f longer k =
     ap (λ (h : Heap). h.end) (heap_of-Spells (bytes_in m2 span) span.at (placed (fitted (t - 4) f.bytes) (heap_in m span)).heap k)
     ∙ placed_end (bytes_in m span) span.at (heap_in m span) spot s f t longer
+
+-- a block among the segments is found
+none_behind : (g : Segment) (o : Option (Split Segment)) → option_map (pieces.behind g) o ≡ None → o ≡ None
+none_behind g None e = refl
+none_behind g (Some s) e = absurd cc
+
+none_else : (t : Bool) (s : Split Segment) (o : Option (Split Segment)) → cond t (Some s) o ≡ None → o ≡ None
+none_else true s o e = absurd cc
+none_else false s o e = e
+
+not_missed : (a p : ℕ) (bytes : List ℕ) (ss : List Segment) → BlockIn a p bytes ss → first_at size_of (is_block_at a) p ss ≡ None → ⊥
+not_missed a p bytes [] k e = absurd k
+not_missed a p bytes (Used bs ∷ ss) (inl q) e = let found = sym e ∙ cond_true (eqb a (p + 4)) _ _ (eqb_same a (p + 4) q.0) in cc
+not_missed a p bytes (Used bs ∷ ss) (inr k) e = not_missed a (p + (4 + length bs)) bytes ss k (none_behind (Used bs) _ (none_else (eqb a (p + 4)) _ _ e))
+not_missed a p bytes (Hole n ∷ ss) k e = not_missed a (p + n) bytes ss k (none_behind (Hole n) _ e)
+
+released_there : (a : ℕ) (h : Heap) → (block_at a h ≡ None → ⊥) → released_at a h ≡ Ok (release a h)
+released_there a h f = go (block_at a h) refl
+  where
+    go : (o : Option (Split Segment)) → block_at a h ≡ o → released_at a h ≡ Ok (release a h)
+    go None e = absurd (f e)
+    go (Some s) e = released_at-some a h s e
+
+-- the old block is still there, so its release is done
+pub moved_released : (m m2 : Memory) (span : Span) (spot : Spot) (t : ℕ) → Spells (bytes_in m span) span.at (heap_in m span) → (f : FoundBlock span.at (heap_in m span) (spot.place + 4) spot) → spot.size < t
+    → SpellsIn m2 span (placed (fitted (t - 4) f.bytes) (heap_in m span)).heap → released_at (spot.place + 4) (heap_in m2 span) ≡ Ok (release (spot.place + 4) (heap_in m2 span))
+moved_released m m2 span spot t s f longer k =
+    let a = spot.place + 4 in
+    let same = heap_of-Spells (bytes_in m2 span) span.at (placed (fitted (t - 4) f.bytes) (heap_in m span)).heap k in
+    let there = still_there (bytes_in m span) span.at (heap_in m span) spot s f t longer in
+    released_there a (heap_in m2 span) (not_missed a 16 f.bytes (heap_in m2 span).segments (subst (λ (h : Heap). BlockIn a 16 f.bytes h.segments) (sym same) there))
 
 -- ---- what a change answers
 -- which way a move is

@@ -6,7 +6,7 @@ use Rattle.rh_defs.specs.Bytes.{word, SameOutside}
 use Rattle.rh_defs.specs.Pieces.{moved, total}
 use Rattle.rh_defs.specs.Heap.{Segment, Used, Hole, Heap, size_of, bytes_of, base, block_size, segment_at, hole_size, largest_hole, largest, free_bytes, empty_heap, extended}
 use Rattle.rh_defs.specs.HeapImage.{Spells}
-use Rattle.rh_defs.specs.declared.heap.HeapFault.{HeapFault}
+use Rattle.rh_defs.specs.declared.heap.HeapRefusal.{HeapRefusal}
 use Rattle.rh_defs.proofs.HeapLists.{sum-append, HasRoom-from_tidy}
 use Rattle.std.proofs.lemmas.Bool.{cases_lt}
 use Rattle.std.proofs.Common.{inl, inr}
@@ -19,7 +19,7 @@ use Rattle.rh_heap.proofs.CutLaws.{word_below}
 use Rattle.rh_heap.proofs.ClaimLaws.{Passed, HoleTurn}
 
 -- ---- sizes
-pub size_answer : (at : ℕ) (h : Heap) (address : ℕ) (spot : Spot) (e : HeapFault) → FoundBlock at h address spot → Ok (spot.size - 4) ≡ ok_or (block_size address h) e
+pub size_answer : (at : ℕ) (h : Heap) (address : ℕ) (spot : Spot) (e : HeapRefusal) → FoundBlock at h address spot → Ok (spot.size - 4) ≡ ok_or (block_size address h) e
 size_answer at h address spot e f =
     ap Ok (let s = f.size_is in let n : spot.size - 4 ≡ length f.bytes = omega arith in n)
     ∙ sym (ap (λ o. ok_or (option_map (λ s. length (bytes_of s.here)) o) e) f.found)

@@ -1,3 +1,4 @@
+pub mod Calls
 pub mod Gaps
 pub mod Image
 pub mod Pieces

@@ -4,8 +4,8 @@ use Rattle.rh_defs.specs.Memory.{Memory}
 use Rattle.rh_defs.specs.Pieces.{Split}
 use Rattle.rh_defs.specs.Heap.{Segment, Heap, Placed, bytes_of, block_at, way_to, resized_by, end_for, fitted, placed, release, shortage_in, hole_for}
 use Rattle.rh_defs.specs.Heap as heap
-use Rattle.rh_defs.specs.declared.heap.HeapFault.{HeapFault}
-use Rattle.rh_defs.specs.declared.heap.HeapFault.TheVariants.{NoRoom}
+use Rattle.rh_defs.specs.declared.heap.HeapRefusal.{HeapRefusal}
+use Rattle.rh_defs.specs.declared.heap.HeapRefusal.TheVariants.{NoRoom}
 use Rattle.rh_heap.specs.declared.span.Span.{Span}
 use Rattle.rh_heap.specs.declared.span.Spot.{Spot}
 use Rattle.rh_heap.specs.declared.span.Way.{Way}
@@ -51,9 +51,9 @@ pub record Changed (m n : Memory) (span : Span) (t address : ℕ) (s : Split Seg
   pub spells : SpellsIn n span (resized_in t s (heap_in m span)).heap
 
 -- the block has not got it, as the heap is too short
-pub record NotChanged (m n : Memory) (span : Span) (t : ℕ) (fault : HeapFault) (s : Split Segment) : Type 0 where
+pub record NotChanged (m n : Memory) (span : Span) (t : ℕ) (refusal : HeapRefusal) (s : Split Segment) : Type 0 where
   pub no_room : short_by t s (heap_in m span) ≢ 0
-  pub fault_is : fault ≡ NoRoom
+  pub refusal_is : refusal ≡ NoRoom
   pub same : n ≡ m
 
 -- the block has moved, and the one at an address is released

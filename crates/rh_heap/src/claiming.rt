@@ -1,16 +1,17 @@
 //! Claims.
-ghost use Rattle.std.specs.Prelude.{◌≡◌, ◌≢◌, ℕ, ◌+◌, ◌-◌, ◌%◌, ◌^◌, ◌<◌, ◌≤◌, length, replicate, None, MatchOption, OnErr};
+ghost use Rattle.std.specs.Prelude.{◌≡◌, ◌≢◌, ℕ, ◌+◌, ◌-◌, ◌%◌, ◌^◌, ◌<◌, ◌≤◌, length, replicate, None, MatchOption};
 ghost use Rattle.rh_defs.specs.Bytes.{word, part};
 ghost use Rattle.rh_defs.specs.Memory.{Memory, IsOpen, Edited, bytes};
-ghost use Rattle.rh_defs.specs.Heap.{Heap, hole_for, shortage_in, segment_size, base, claim, claim_need, address_of, heap_after};
-ghost use Rattle.rh_heap.specs.Spans.{IsSpan, SpellsIn, OnlySpan, bytes_in, heap_in};
+ghost use Rattle.rh_defs.specs.Heap.{Heap, hole_for, shortage_in, segment_size, base, claim, claim_need};
+ghost use Rattle.rh_heap.specs.Spans.{IsSpan, OnlySpan, bytes_in, heap_in};
+ghost use Rattle.rh_heap.specs.Calls.{Leaves};
 ghost use Rattle.rh_heap.specs.Gaps.{FoundHole, Took};
 
 use crate::finding::find;
 use crate::settling::settle;
 use crate::span::{Cut, Gap, Span};
 use crate::words::{clear, follow, read, write};
-use rh_defs::HeapFault;
+use rh_defs::HeapRefusal;
 use rh_store::Words;
 
 /// The size of a segment for a block of `n` bytes: with a word for its size, a multiple of 8.
@@ -116,30 +117,28 @@ pub fn shortage<S: Words>(store: &S, span: Span, size: usize) -> usize
 
 /// Claims a block of `n` bytes at least, all 0, and answers its address: in the first hole with room, or above all
 /// segments. Refused: `BadSize` for 0 bytes, `NoRoom` where the heap is too short. (OS_Heap 2.)
-pub fn claim<S: Words>(store: &mut S, span: Span, n: u32) -> Result<usize, HeapFault>
+pub fn claim<S: Words>(store: &mut S, span: Span, n: u32) -> Result<usize, HeapRefusal>
     requires { IsSpan (S.memory store.old) span }
-    ensures answer { result ≡ address_of (claim n (heap_in (S.memory store.old) span)) }
-    ensures spells { SpellsIn (S.memory store.new) span (heap_after (heap_in (S.memory store.old) span) (claim n (heap_in (S.memory store.old) span))) }
-    ensures only { OnlySpan (S.memory store.old) (S.memory store.new) span }
-    ensures err { OnErr result (S.memory store.new ≡ S.memory store.old) }
+    ensures { Leaves (S.memory store.old) (S.memory store.new) span
+        (claim n (heap_in (S.memory store.old) span)) result }
 {
     if n == 0 {
-        return Err(HeapFault::BadSize);
+        return Err(HeapRefusal::BadSize);
     }
     match take(store, span, segment_size(n as usize)) {
         Some(address) => Ok(address),
-        None => Err(HeapFault::NoRoom),
+        None => Err(HeapRefusal::NoRoom),
     }
 }
 
 /// By how many bytes the heap is too short for a claim of `n` bytes, 0 where it has room. Refused (`BadSize`) for 0
 /// bytes.
-pub fn need<S: Words>(store: &S, span: Span, n: u32) -> Result<usize, HeapFault>
+pub fn need<S: Words>(store: &S, span: Span, n: u32) -> Result<usize, HeapRefusal>
     requires { IsSpan (S.memory store.now) span }
     ensures { result ≡ claim_need n (heap_in (S.memory store.now) span) }
 {
     if n == 0 {
-        return Err(HeapFault::BadSize);
+        return Err(HeapRefusal::BadSize);
     }
     Ok(shortage(store, span, segment_size(n as usize)))
 }

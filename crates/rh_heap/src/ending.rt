@@ -1,14 +1,16 @@
 //! Where a heap ends.
-ghost use Rattle.std.specs.Prelude.{◌≡◌, ◌↔◌, ℕ, ℤ, ◌+◌, ◌%◌, ◌^◌, ◌<◌, ◌≤◌, length, OnOk, OnErr, IsErr, IsErrOf};
+ghost use Rattle.std.specs.Prelude.{◌≡◌, ℕ, ℤ, ◌+◌, ◌%◌, ◌^◌, ◌<◌, ◌≤◌, length};
 ghost use Rattle.rh_defs.specs.Memory.{Memory, IsOpen, Edited, bytes};
 ghost use Rattle.rh_defs.specs.Pieces.{moved};
-ghost use Rattle.rh_defs.specs.Heap.{empty_heap, extended, base};
-ghost use Rattle.rh_heap.specs.Spans.{IsSpan, SpellsIn, OnlySpan, bytes_in, heap_in};
+ghost use Rattle.rh_defs.specs.Chain.{no_answer};
+ghost use Rattle.rh_defs.specs.Heap.{empty_heap, extend};
+ghost use Rattle.rh_heap.specs.Spans.{IsSpan, SpellsIn, bytes_in, heap_in};
+ghost use Rattle.rh_heap.specs.Calls.{Leaves};
 
 use crate::image::{FIRST_PLACE, SPECIAL};
 use crate::span::Span;
 use crate::words::{read, write};
-use rh_defs::HeapFault;
+use rh_defs::HeapRefusal;
 use rh_store::Words;
 
 /// A number moved by a signed amount, 0 where that would be below 0.
@@ -31,7 +33,9 @@ pub fn init<S: Words>(store: &mut S, span: Span, end: usize)
     requires within { span.at + end ≤ length (bytes_in (S.memory store.old) span) }
     requires least { 16 ≤ end }
     requires multiple { end % 8 ≡ 0 }
+    ensures heap { heap_in (S.memory store.new) span ≡ empty_heap end }
     ensures spells { SpellsIn (S.memory store.new) span (empty_heap end) }
+    ensures still { IsSpan (S.memory store.new) span }
     ensures only { Edited (S.memory store.old) (S.memory store.new) span.area.0 span.at (span.at + end) }
 {
     write(store, span, 0, SPECIAL);
@@ -42,19 +46,16 @@ pub fn init<S: Words>(store: &mut S, span: Span, end: usize)
 
 /// Moves a heap's end by `delta` bytes, a multiple of 8. The bytes up to the new end are in the area. Refused
 /// (`ExcessiveShrink`) exactly where the end would be below the last block. (OS_Heap 5.)
-pub fn extend_heap<S: Words>(store: &mut S, span: Span, delta: i32) -> Result<(), HeapFault>
+pub fn extend_heap<S: Words>(store: &mut S, span: Span, delta: i32) -> Result<(), HeapRefusal>
     requires span { IsSpan (S.memory store.old) span }
     requires multiple { moved (heap_in (S.memory store.old) span).end delta % 8 ≡ 0 }
     requires within { span.at + moved (heap_in (S.memory store.old) span).end delta ≤ length (bytes_in (S.memory store.old) span) }
-    ensures ok { OnOk result (SpellsIn (S.memory store.new) span (extended delta (heap_in (S.memory store.old) span))) }
-    ensures only { OnlySpan (S.memory store.old) (S.memory store.new) span }
-    ensures refused { IsErr result ↔ (moved (heap_in (S.memory store.old) span).end delta < base (heap_in (S.memory store.old) span)) }
-    ensures reason { IsErr result → IsErrOf result HeapFault.ExcessiveShrink }
-    ensures err { OnErr result (S.memory store.new ≡ S.memory store.old) }
+    ensures { Leaves (S.memory store.old) (S.memory store.new) span
+        (no_answer (extend delta (heap_in (S.memory store.old) span))) result }
 {
     let end = moved(read(store, span, 12), delta);
     if end < read(store, span, 8) {
-        return Err(HeapFault::ExcessiveShrink);
+        return Err(HeapRefusal::ExcessiveShrink);
     }
     write(store, span, 12, end);
     Ok(())

@@ -1,9 +1,10 @@
 //! Resizes.
-ghost use Rattle.std.specs.Prelude.{◌≡◌, ◌≢◌, ℕ, ℤ, ◌+◌, ◌-◌, ◌%◌, ◌^◌, ◌<◌, ◌≤◌, ◌++◌, length, replicate, MatchOption, MatchResult, OnErr};
+ghost use Rattle.std.specs.Prelude.{◌≡◌, ◌≢◌, ℕ, ℤ, ◌+◌, ◌-◌, ◌%◌, ◌^◌, ◌<◌, ◌≤◌, ◌++◌, length, replicate, MatchOption, MatchResult};
 ghost use Rattle.rh_defs.specs.Bytes.{word, part};
 ghost use Rattle.rh_defs.specs.Memory.{Memory, IsOpen, Edited, bytes};
-ghost use Rattle.rh_defs.specs.Heap.{hole_for, shortage_in, block_at, resize, need_at, address_of, heap_after};
-ghost use Rattle.rh_heap.specs.Spans.{IsSpan, SpellsIn, OnlySpan, bytes_in, heap_in};
+ghost use Rattle.rh_defs.specs.Heap.{hole_for, shortage_in, block_at, resize, need_at};
+ghost use Rattle.rh_heap.specs.Spans.{IsSpan, OnlySpan, bytes_in, heap_in};
+ghost use Rattle.rh_heap.specs.Calls.{Leaves};
 ghost use Rattle.rh_heap.specs.Spots.{FoundBlock};
 ghost use Rattle.rh_heap.specs.Ways.{WayOf, ShortBy, Changed, NotChanged, WithBlock, SpellsResized, Moved};
 
@@ -15,7 +16,7 @@ use crate::settling::settle;
 use crate::span::{Cut, Span, Spot, Way};
 use crate::walking::locate;
 use crate::words::{clear, follow, move_bytes, read, write};
-use rh_defs::HeapFault;
+use rh_defs::HeapRefusal;
 use rh_store::Words;
 
 /// Gives the segment at `spot` the size of `size` bytes, with zeros behind the old bytes.
@@ -111,7 +112,7 @@ fn move_block<S: Words>(store: &mut S, span: Span, spot: Spot, size: usize) -> O
     match take(store, span, size) {
         Some(address) => {
             move_bytes(store, span, spot.place + 4, address, spot.size - 4);
-            let _ = release(store, span, spot.place + 4);
+            release(store, span, spot.place + 4).unwrap();
             Some(address)
         }
         None => None,
@@ -119,7 +120,12 @@ fn move_block<S: Words>(store: &mut S, span: Span, spot: Spot, size: usize) -> O
 }
 
 /// Gives a block a segment of `size` bytes, and answers its address.
-fn change<S: Words>(store: &mut S, span: Span, spot: Spot, size: usize) -> Result<usize, HeapFault>
+fn change<S: Words>(
+    store: &mut S,
+    span: Span,
+    spot: Spot,
+    size: usize,
+) -> Result<usize, HeapRefusal>
     requires span { IsSpan (S.memory store.old) span }
     requires found { FoundBlock span.at (heap_in (S.memory store.old) span) (spot.place + 4) spot }
     requires least { 8 ≤ size }
@@ -127,7 +133,7 @@ fn change<S: Words>(store: &mut S, span: Span, spot: Spot, size: usize) -> Resul
     requires small { size < 2 ^ 40 }
     ensures changed { MatchResult result
         (λ address. WithBlock spot (heap_in (S.memory store.old) span) (Changed (S.memory store.old) (S.memory store.new) span size address))
-        (λ fault. WithBlock spot (heap_in (S.memory store.old) span) (NotChanged (S.memory store.old) (S.memory store.new) span size fault)) }
+        (λ refusal. WithBlock spot (heap_in (S.memory store.old) span) (NotChanged (S.memory store.old) (S.memory store.new) span size refusal)) }
     ensures only { OnlySpan (S.memory store.old) (S.memory store.new) span }
 {
     match way_to(store, span, spot, size) {
@@ -142,14 +148,14 @@ fn change<S: Words>(store: &mut S, span: Span, spot: Spot, size: usize) -> Resul
         }
         Way::AtTop => {
             if read(store, span, 12) < spot.place + size {
-                return Err(HeapFault::NoRoom);
+                return Err(HeapRefusal::NoRoom);
             }
             raise(store, span, spot, size);
             Ok(spot.place + 4)
         }
         Way::Moves => match move_block(store, span, spot, size) {
             Some(address) => Ok(address),
-            None => Err(HeapFault::NoRoom),
+            None => Err(HeapRefusal::NoRoom),
         },
     }
 }
@@ -178,22 +184,20 @@ pub fn resize<S: Words>(
     span: Span,
     address: usize,
     delta: i32,
-) -> Result<usize, HeapFault>
+) -> Result<usize, HeapRefusal>
     requires { IsSpan (S.memory store.old) span }
-    ensures answer { result ≡ address_of (resize address delta (heap_in (S.memory store.old) span)) }
-    ensures spells { SpellsIn (S.memory store.new) span (heap_after (heap_in (S.memory store.old) span) (resize address delta (heap_in (S.memory store.old) span))) }
-    ensures only { OnlySpan (S.memory store.old) (S.memory store.new) span }
-    ensures err { OnErr result (S.memory store.new ≡ S.memory store.old) }
+    ensures { Leaves (S.memory store.old) (S.memory store.new) span
+        (resize address delta (heap_in (S.memory store.old) span)) result }
 {
     match locate(store, span, address) {
         Some(spot) => {
             let n = moved(spot.size - 4, delta);
             if n == 0 {
-                return Err(HeapFault::BadSize);
+                return Err(HeapRefusal::BadSize);
             }
             change(store, span, spot, segment_size(n))
         }
-        None => Err(HeapFault::NotABlock),
+        None => Err(HeapRefusal::NotABlock),
     }
 }
 
@@ -203,7 +207,7 @@ pub fn resize_need<S: Words>(
     span: Span,
     address: usize,
     delta: i32,
-) -> Result<usize, HeapFault>
+) -> Result<usize, HeapRefusal>
     requires { IsSpan (S.memory store.now) span }
     ensures { result ≡ need_at address delta (heap_in (S.memory store.now) span) }
 {
@@ -211,10 +215,10 @@ pub fn resize_need<S: Words>(
         Some(spot) => {
             let n = moved(spot.size - 4, delta);
             if n == 0 {
-                return Err(HeapFault::BadSize);
+                return Err(HeapRefusal::BadSize);
             }
             Ok(short_by(store, span, spot, segment_size(n)))
         }
-        None => Err(HeapFault::NotABlock),
+        None => Err(HeapRefusal::NotABlock),
     }
 }

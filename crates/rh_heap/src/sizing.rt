@@ -9,17 +9,17 @@ ghost use Rattle.rh_heap.specs.Pieces.{piece};
 use crate::listing::Segment;
 use crate::span::Span;
 use crate::walking::{find_segment, locate};
-use rh_defs::HeapFault;
+use rh_defs::HeapRefusal;
 use rh_store::Words;
 
 /// The bytes of the block at an address. Refused (`NotABlock`) exactly where no block begins there. (OS_Heap 6.)
-pub fn block_size<S: Words>(store: &S, span: Span, address: usize) -> Result<usize, HeapFault>
+pub fn block_size<S: Words>(store: &S, span: Span, address: usize) -> Result<usize, HeapRefusal>
     requires { IsSpan (S.memory store.now) span }
-    ensures { result ≡ ok_or (block_size address (heap_in (S.memory store.now) span)) HeapFault.NotABlock }
+    ensures { result ≡ ok_or (block_size address (heap_in (S.memory store.now) span)) HeapRefusal.NotABlock }
 {
     match locate(store, span, address) {
         Some(spot) => Ok(spot.size - 4),
-        None => Err(HeapFault::NotABlock),
+        None => Err(HeapRefusal::NotABlock),
     }
 }
 

@@ -1,11 +1,8 @@
 //! Tests.
-ghost use Rattle.std.specs.Prelude.{◌≡◌, ◌+◌, ◌%◌, ◌≤◌, length};
-ghost use Rattle.rh_defs.specs.Memory.{Memory, IsOpen, bytes};
 ghost use Rattle.rh_defs.specs.HeapImage.{IsImage, heap_of};
-ghost use Rattle.rh_heap.specs.Spans.{IsSpan, bytes_in};
 
 use super::*;
-use rh_defs::HeapFault;
+use rh_defs::{HeapFault, HeapRefusal};
 use rh_store::{Pages, PlainStore, Store, Words};
 use std::test::Fail;
 
@@ -23,57 +20,6 @@ const SUMS: Summary = Summary {
     hole_bytes: 8,
     top: 8,
 };
-
-/// Claims, where the span keeps its heap and its area its length.
-fn claimed<S: Words>(store: &mut S, span: Span, n: u32) -> Result<usize, HeapFault>
-    requires { IsSpan (S.memory store.old) span }
-    ensures span { IsSpan (S.memory store.new) span }
-    ensures len { length (bytes_in (S.memory store.new) span) ≡ length (bytes_in (S.memory store.old) span) }
-{
-    claim(store, span, n)
-}
-
-fn released<S: Words>(store: &mut S, span: Span, address: usize) -> Result<(), HeapFault>
-    requires { IsSpan (S.memory store.old) span }
-    ensures span { IsSpan (S.memory store.new) span }
-    ensures len { length (bytes_in (S.memory store.new) span) ≡ length (bytes_in (S.memory store.old) span) }
-{
-    release(store, span, address)
-}
-
-fn resized<S: Words>(
-    store: &mut S,
-    span: Span,
-    address: usize,
-    delta: i32,
-) -> Result<usize, HeapFault>
-    requires { IsSpan (S.memory store.old) span }
-    ensures span { IsSpan (S.memory store.new) span }
-    ensures len { length (bytes_in (S.memory store.new) span) ≡ length (bytes_in (S.memory store.old) span) }
-{
-    resize(store, span, address, delta)
-}
-
-/// Takes 8 bytes off the heap's end.
-fn shortened<S: Words>(store: &mut S, span: Span) -> Result<(), HeapFault>
-    requires { IsSpan (S.memory store.old) span }
-    ensures span { IsSpan (S.memory store.new) span }
-    ensures len { length (bytes_in (S.memory store.new) span) ≡ length (bytes_in (S.memory store.old) span) }
-{
-    extend_heap(store, span, -8)
-}
-
-/// An empty heap of `end` bytes in the midst of an area.
-fn made<S: Words>(store: &mut S, span: Span, end: usize)
-    requires opened { IsOpen (S.memory store.old) span.area.0 }
-    requires within { span.at + end ≤ length (bytes_in (S.memory store.old) span) }
-    requires least { 16 ≤ end }
-    requires multiple { end % 8 ≡ 0 }
-    ensures span { IsSpan (S.memory store.new) span }
-    ensures len { length (bytes_in (S.memory store.new) span) ≡ length (bytes_in (S.memory store.old) span) }
-{
-    init(store, span, end);
-}
 
 /// What the segments of an image add up to.
 fn added(image: &[u8]) -> Summary
@@ -109,14 +55,14 @@ fn claims_take_the_first_hole_that_fits(rt: HostRuntime) -> Result<(), Fail> {
     let area = store.open()?;
     store.grow(area, 1)?;
     let span = Span { area, at: 256 };
-    made(&mut store, span, 3840);
-    assert_eq!(rt; claimed(&mut store, span, 10), Ok(20));
-    assert_eq!(rt; claimed(&mut store, span, 10), Ok(36));
-    assert_eq!(rt; claimed(&mut store, span, 10), Ok(52));
-    assert_eq!(rt; released(&mut store, span, 36), Ok(()));
-    assert_eq!(rt; claimed(&mut store, span, 12), Ok(36));
-    assert_eq!(rt; claimed(&mut store, span, 13), Ok(68));
-    assert_eq!(rt; released(&mut store, span, 24), Err(HeapFault::NotABlock));
+    init(&mut store, span, 3840);
+    assert_eq!(rt; claim(&mut store, span, 10), Ok(20));
+    assert_eq!(rt; claim(&mut store, span, 10), Ok(36));
+    assert_eq!(rt; claim(&mut store, span, 10), Ok(52));
+    assert_eq!(rt; release(&mut store, span, 36), Ok(()));
+    assert_eq!(rt; claim(&mut store, span, 12), Ok(36));
+    assert_eq!(rt; claim(&mut store, span, 13), Ok(68));
+    assert_eq!(rt; release(&mut store, span, 24), Err(HeapRefusal::NotABlock));
     Ok(())
 }
 
@@ -127,25 +73,25 @@ fn a_small_heap_fills_up(rt: HostRuntime) -> Result<(), Fail> {
     let area = store.open()?;
     store.grow(area, 1)?;
     let span = Span { area, at: 0 };
-    made(&mut store, span, 56);
-    assert_eq!(rt; claimed(&mut store, span, 12), Ok(20));
-    assert_eq!(rt; claimed(&mut store, span, 1), Ok(36));
-    assert_eq!(rt; claimed(&mut store, span, 1), Ok(44));
-    assert_eq!(rt; released(&mut store, span, 36), Ok(()));
+    init(&mut store, span, 56);
+    assert_eq!(rt; claim(&mut store, span, 12), Ok(20));
+    assert_eq!(rt; claim(&mut store, span, 1), Ok(36));
+    assert_eq!(rt; claim(&mut store, span, 1), Ok(44));
+    assert_eq!(rt; release(&mut store, span, 36), Ok(()));
     let mut image = [0; 56];
     store.copy_out(area, 0, &mut image);
     assert_eq!(rt; check(&image), Ok(SUMS));
     assert_eq!(rt; describe(&store, span), (4, 16));
     assert_eq!(rt; need(&store, span, 5), Ok(8));
-    assert_eq!(rt; claimed(&mut store, span, 5), Err(HeapFault::NoRoom));
-    assert_eq!(rt; shortened(&mut store, span), Ok(()));
+    assert_eq!(rt; claim(&mut store, span, 5), Err(HeapRefusal::NoRoom));
+    assert_eq!(rt; extend_heap(&mut store, span, -8), Ok(()));
     assert_eq!(rt;
-        shortened(&mut store, span),
-        Err(HeapFault::ExcessiveShrink)
+        extend_heap(&mut store, span, -8),
+        Err(HeapRefusal::ExcessiveShrink)
     );
-    assert_eq!(rt; claimed(&mut store, span, 4), Ok(36));
+    assert_eq!(rt; claim(&mut store, span, 4), Ok(36));
     assert_eq!(rt; block_size(&store, span, 36), Ok(4));
-    assert_eq!(rt; block_size(&store, span, 37), Err(HeapFault::NotABlock));
+    assert_eq!(rt; block_size(&store, span, 37), Err(HeapRefusal::NotABlock));
     assert_eq!(rt;
         segment(&store, span, 32),
         Some(Segment {
@@ -165,10 +111,10 @@ fn bytes_lie_whole_in_a_block(rt: HostRuntime) -> Result<(), Fail> {
     let area = store.open()?;
     store.grow(area, 1)?;
     let span = Span { area, at: 8 };
-    made(&mut store, span, 200);
-    assert_eq!(rt; claimed(&mut store, span, 12), Ok(20));
-    assert_eq!(rt; claimed(&mut store, span, 4), Ok(36));
-    assert_eq!(rt; released(&mut store, span, 20), Ok(()));
+    init(&mut store, span, 200);
+    assert_eq!(rt; claim(&mut store, span, 12), Ok(20));
+    assert_eq!(rt; claim(&mut store, span, 4), Ok(36));
+    assert_eq!(rt; release(&mut store, span, 20), Ok(()));
     assert!(rt; !holds(&store, span, 20, 1));
     assert!(rt; holds(&store, span, 36, 4));
     assert!(rt; holds(&store, span, 39, 1));
@@ -185,24 +131,30 @@ fn blocks_get_other_sizes_in_seven_ways(rt: HostRuntime) -> Result<(), Fail> {
     let area = store.open()?;
     store.grow(area, 1)?;
     let span = Span { area, at: 8 };
-    made(&mut store, span, 200);
-    assert_eq!(rt; claimed(&mut store, span, 20), Ok(20));
-    assert_eq!(rt; claimed(&mut store, span, 20), Ok(44));
-    assert_eq!(rt; claimed(&mut store, span, 20), Ok(68));
-    assert_eq!(rt; resized(&mut store, span, 20, -1), Ok(20));
-    assert_eq!(rt; resized(&mut store, span, 20, -11), Ok(20));
-    assert_eq!(rt; resized(&mut store, span, 20, -8), Ok(20));
-    assert_eq!(rt; resized(&mut store, span, 20, 8), Ok(20));
-    assert_eq!(rt; resized(&mut store, span, 20, 8), Ok(20));
-    assert_eq!(rt; resized(&mut store, span, 68, 8), Ok(68));
-    assert_eq!(rt; released(&mut store, span, 20), Ok(()));
-    assert_eq!(rt; resized(&mut store, span, 68, -20), Ok(68));
-    assert_eq!(rt; resized(&mut store, span, 44, 30), Ok(84));
-    assert_eq!(rt; resized(&mut store, span, 68, 10), Ok(20));
-    assert_eq!(rt; resized(&mut store, span, 84, 20), Ok(84));
-    assert_eq!(rt; resized(&mut store, span, 68, 1), Err(HeapFault::NotABlock));
-    assert_eq!(rt; resized(&mut store, span, 84, -76), Err(HeapFault::BadSize));
-    assert_eq!(rt; resized(&mut store, span, 84, 500), Err(HeapFault::NoRoom));
+    init(&mut store, span, 200);
+    assert_eq!(rt; claim(&mut store, span, 20), Ok(20));
+    assert_eq!(rt; claim(&mut store, span, 20), Ok(44));
+    assert_eq!(rt; claim(&mut store, span, 20), Ok(68));
+    assert_eq!(rt; resize(&mut store, span, 20, -1), Ok(20));
+    assert_eq!(rt; resize(&mut store, span, 20, -11), Ok(20));
+    assert_eq!(rt; resize(&mut store, span, 20, -8), Ok(20));
+    assert_eq!(rt; resize(&mut store, span, 20, 8), Ok(20));
+    assert_eq!(rt; resize(&mut store, span, 20, 8), Ok(20));
+    assert_eq!(rt; resize(&mut store, span, 68, 8), Ok(68));
+    assert_eq!(rt; release(&mut store, span, 20), Ok(()));
+    assert_eq!(rt; resize(&mut store, span, 68, -20), Ok(68));
+    assert_eq!(rt; resize(&mut store, span, 44, 30), Ok(84));
+    assert_eq!(rt; resize(&mut store, span, 68, 10), Ok(20));
+    assert_eq!(rt; resize(&mut store, span, 84, 20), Ok(84));
+    assert_eq!(rt;
+        resize(&mut store, span, 68, 1),
+        Err(HeapRefusal::NotABlock)
+    );
+    assert_eq!(rt;
+        resize(&mut store, span, 84, -76),
+        Err(HeapRefusal::BadSize)
+    );
+    assert_eq!(rt; resize(&mut store, span, 84, 500), Err(HeapRefusal::NoRoom));
     assert_eq!(rt; resize_need(&store, span, 84, 500), Ok(464));
     Ok(())
 }

@@ -1,17 +1,39 @@
 -- What a call leaves, by what it is granted.
-use Rattle.std.proofs.Common.{◌≡◌, sym, subst}
+use Rattle.std.proofs.Common.{◌≡◌, sym, ap, subst, ◌∙◌}
 use Rattle.std.specs.Prelude.{Ok, Err}
-use Rattle.rh_defs.specs.Memory.{Memory}
+use Rattle.rh_defs.specs.Memory.{Memory, OnlyArea, bytes}
 use Rattle.rh_defs.specs.Heap.{Heap}
-use Rattle.rh_defs.specs.Chain.{Granted, left_of}
+use Rattle.rh_defs.specs.Chain.{Granted, answer_of, left_of}
 use Rattle.rh_defs.specs.declared.refusal.Refusal.{Refusal}
+use Rattle.rh_defs.proofs.HeapLaws.{heap_of-Spells}
+use Rattle.rh_defs.proofs.MemoryLaws.{OnlyArea-self}
 use Rattle.rh_module.specs.declared.module.Module.{Module}
 use Rattle.rh_module.specs.Area.{IsModule, SpellsIn, heap_in}
+use Rattle.rh_module.specs.Calls.{Leaves}
+use Rattle.rh_module.proofs.SpanLaws.{is_module}
 
--- refused: the heap stays
-pub kept : {B : Type 0} {m n : Memory} {rma : Module} {call : Granted (Heap × B)} {refusal : Refusal} → call ≡ Err refusal → n ≡ m → IsModule m rma → SpellsIn n rma (left_of (heap_in m rma) call)
-kept {m = m} {rma = rma} {call = call} e same s = subst (λ i. SpellsIn i rma (left_of (heap_in m rma) call)) (sym same) (subst (λ c. SpellsIn m rma (left_of (heap_in m rma) c)) (sym e) s.spells)
+module _ {A : Type 0} (m n : Memory) (rma : Module) (granted : Granted (Heap × A)) where
+  -- it is done
+  pub leaves : (h : Heap) (answer : A) → granted ≡ Ok (h, answer) → SpellsIn n rma h → OnlyArea m n rma.area.0 → Leaves m n rma granted (Ok answer)
+  leaves h answer e s only = record {
+    answer = sym (ap answer_of e);
+    heap = heap_of-Spells (bytes n rma.area.0) 0 h s.spells ∙ sym (ap (left_of (heap_in m rma)) e);
+    spells = subst (λ g. SpellsIn n rma (left_of (heap_in m rma) g)) (sym e) s;
+    still = is_module n rma h only.opened s;
+    only = only;
+    err = tt;
+  }
 
--- done: the heap is the one granted
-pub left : {B : Type 0} {call : Granted (Heap × B)} {h : Heap} {answer : B} (n : Memory) (rma : Module) (old : Heap) → call ≡ Ok (h, answer) → SpellsIn n rma h → SpellsIn n rma (left_of old call)
-left n rma old e s = subst (λ c. SpellsIn n rma (left_of old c)) (sym e) s
+  -- it is refused, and nothing has changed
+  pub refuses : (refusal : Refusal) → granted ≡ Err refusal → n ≡ m → IsModule m rma → Leaves m n rma granted (Err refusal)
+  refuses refusal e same s =
+      let now = subst (λ i. IsModule i rma) (sym same) s in
+      let old : heap_in n rma ≡ heap_in m rma = ap (λ i. heap_in i rma) same in
+      record {
+        answer = sym (ap answer_of e);
+        heap = old ∙ sym (ap (left_of (heap_in m rma)) e);
+        spells = subst (λ g. SpellsIn n rma (left_of (heap_in m rma) g)) (sym e) (subst (SpellsIn n rma) old now.spells);
+        still = now;
+        only = subst (λ i. OnlyArea m i rma.area.0) (sym same) (OnlyArea-self m rma.area.0 s.opened);
+        err = same;
+      }

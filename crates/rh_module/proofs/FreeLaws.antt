@@ -1,35 +1,38 @@
--- A free, by whether a block begins at the address.
-use Rattle.std.proofs.Common.{◌≡◌, ℕ, length, refl, sym, subst, ◌∙◌}
-use Rattle.std.specs.Prelude.{Option, Some, None, Ok, Err, IsNone}
-use Rattle.rh_defs.specs.Memory.{Memory, bytes}
-use Rattle.rh_defs.specs.Pieces.{Split}
-use Rattle.rh_defs.specs.Heap.{Segment, block_at, release}
+-- A free, by what the heap's release answers.
+use Rattle.std.proofs.Common.{◌≡◌, ℕ, length, sym, ap, subst, ◌∙◌}
+use Rattle.std.specs.Prelude.{Ok, Err}
+use Rattle.rh_defs.specs.Memory.{Memory, OnlyArea, bytes}
+use Rattle.rh_defs.specs.Chain.{answer_of, left_of, no_answer}
+use Rattle.rh_defs.specs.Heap.{Heap, block_at, release, released_at, refusal_of}
 use Rattle.rh_defs.specs.Module.{module_free}
-use Rattle.rh_defs.specs.declared.refusal.Refusal.TheVariants.{NotABlock}
+use Rattle.rh_defs.specs.declared.heap.HeapRefusal.{HeapRefusal}
+use Rattle.rh_defs.proofs.HeapCalls.{released_at-some, released-found, released-refused}
+use Rattle.rh_defs.proofs.MemoryLaws.{OnlyArea-from_Edited}
 use Rattle.rh_defs.proofs.ModuleLaws.{release_found-end, module_free-none, module_free-some}
+use Rattle.rh_heap.specs.Calls as heap_calls
 use Rattle.rh_heap.specs.Spans as spans
 use Rattle.rh_heap.specs.declared.span.Span.{Span}
 use Rattle.rh_module.specs.declared.module.Module.{Module}
-use Rattle.rh_module.specs.Area.{IsModule, SpellsIn, heap_in}
+use Rattle.rh_module.specs.Area.{IsModule, heap_in}
+use Rattle.rh_module.specs.Calls.{Leaves}
 use Rattle.rh_module.proofs.SpanLaws.{span_of, old_heap, begins_there}
+use Rattle.rh_module.proofs.CallLaws.{leaves, refuses}
 
-module _ (m : Memory) (rma : Module) (span : Span) (address : ℕ) (s : IsModule m rma) (at : span ≡ span_of rma) where
-  none_is : (o : Option (Split Segment)) → IsNone o → o ≡ None
-  none_is None n = refl
-  none_is (Some b) n = absurd cc
+module _ (m n : Memory) (rma : Module) (span : Span) (address : ℕ) (s : IsModule m rma) (at : span ≡ span_of rma) where
+  pub freed : {x : Unit {0}} → heap_calls.Leaves m n span (no_answer (released_at address (spans.heap_in m span))) (Ok x) → Leaves m n rma (no_answer (module_free address (heap_in m rma))) (Ok tt)
+  freed l =
+      let h = heap_in m rma in
+      let w = released-found address h (l.answer ∙ ap (λ g. answer_of (no_answer (released_at address g))) (old_heap at s)) in
+      let there = subst (λ g. spans.SpellsIn n span (left_of g (no_answer (released_at address g)))) (old_heap at s) l.spells in
+      leaves m n rma (no_answer (module_free address h)) (release address h) tt (ap no_answer (module_free-some address h w.0 w.1))
+      (record {
+        whole = subst (λ (t : Span). length (bytes n t.area.0) ≡ length (bytes m t.area.0)) at l.only.outside.len ∙ s.spells.whole ∙ sym (release_found-end (block_at address h) h);
+        spells = begins_there n rma span (release address h) at (subst (λ g. spans.SpellsIn n span (left_of h (no_answer g))) (released_at-some address h w.0 w.1) there);
+      })
+      (subst (λ (t : Span). OnlyArea m n t.area.0) at (OnlyArea-from_Edited m n span.area.0 _ _ l.only))
 
-  pub free_refused : IsNone (block_at address (spans.heap_in m span)) → module_free address (heap_in m rma) ≡ Err NotABlock
-  free_refused n = module_free-none address (heap_in m rma) (none_is (block_at address (heap_in m rma)) (subst (λ h. IsNone (block_at address h)) (old_heap at s) n))
-
-  pub freed : (IsNone (block_at address (spans.heap_in m span)) → ⊥) → module_free address (heap_in m rma) ≡ Ok (release address (heap_in m rma))
-  freed f = go (block_at address (heap_in m rma)) refl
-    where
-      go : (o : Option (Split Segment)) → block_at address (heap_in m rma) ≡ o → module_free address (heap_in m rma) ≡ Ok (release address (heap_in m rma))
-      go None e = absurd (f (subst (λ h. IsNone (block_at address h)) (sym (old_heap at s)) (subst IsNone (sym e) refl)))
-      go (Some b) e = module_free-some address (heap_in m rma) b e
-
-  pub freed_spells : (n : Memory) → spans.OnlySpan m n span → spans.SpellsIn n span (release address (spans.heap_in m span)) → SpellsIn n rma (release address (heap_in m rma))
-  freed_spells n only r = record {
-    whole = subst (λ (t : Span). length (bytes n t.area.0) ≡ length (bytes m t.area.0)) at only.outside.len ∙ s.spells.whole ∙ sym (release_found-end (block_at address (heap_in m rma)) (heap_in m rma));
-    spells = begins_there n rma span (release address (heap_in m rma)) at (subst (λ h. spans.SpellsIn n span (release address h)) (old_heap at s) r);
-  }
+  pub free_refused : {refusal : HeapRefusal} → heap_calls.Leaves m n span (no_answer (released_at address (spans.heap_in m span))) (Err refusal) → Leaves m n rma (no_answer (module_free address (heap_in m rma))) (Err (refusal_of refusal))
+  free_refused {refusal} l =
+      let h = heap_in m rma in
+      let w = released-refused address h (l.answer ∙ ap (λ g. answer_of (no_answer (released_at address g))) (old_heap at s)) in
+      refuses m n rma (no_answer (module_free address h)) (refusal_of refusal) (ap no_answer (module_free-none address h w.0) ∙ ap (λ r. Err (refusal_of r)) (sym w.1)) l.err s

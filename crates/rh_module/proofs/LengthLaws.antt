@@ -1,20 +1,24 @@
 -- The heap while its area gets another length.
 use Rattle.std.proofs.Common.{◌≡◌, ℕ, ◌+◌, ◌-◌, ◌*◌, ◌%◌, ◌^◌, ◌<◌, ◌≤◌, length, to_z, of_z, zero, suc, pos, neg_ℤ, ◌-ℤ◌, sym, ap, subst, ◌∙◌, arith}
-use Rattle.std.specs.Prelude.{ℤ, Result, Ok, Err, IsOk, IsErr, ◌↔◌}
+use Rattle.std.specs.Prelude.{ℤ, Ok, Err}
 use Rattle.std.specs.Int.{w32, w64}
 use Rattle.std.proofs.lemmas.Int.{to_z_pos, ints}
 use Rattle.rh_defs.specs.Memory.{Memory, IsOpen, OnlyArea, bytes, grown, shrunk}
 use Rattle.rh_defs.specs.Pieces.{moved}
-use Rattle.rh_defs.specs.Heap.{Heap, extended, base}
+use Rattle.rh_defs.specs.Chain.{answer_of, no_answer}
+use Rattle.rh_defs.specs.Heap.{Heap, extend, extended, base}
+use Rattle.rh_defs.specs.declared.heap.HeapRefusal.{HeapRefusal}
+use Rattle.rh_defs.specs.declared.heap.HeapRefusal.TheVariants.{ExcessiveShrink}
 use Rattle.rh_defs.specs.HeapImage.{IsImage}
 use Rattle.rh_defs.proofs.MemoryLaws.{IsOpen-grown, length-grown, length-shrunk, SameIn-grown, SameIn-shrunk, OnlyArea-grown, OnlyArea-shrunk, OnlyArea-from_Edited, OnlyArea-both}
+use Rattle.rh_defs.proofs.HeapCalls.{extend-done, extend-fits, extend-refused}
 use Rattle.rh_defs.proofs.ModuleLaws.{Spells-kept}
 use Rattle.rh_heap.specs.Spans as spans
 use Rattle.rh_heap.specs.declared.span.Span.{Span}
 use Rattle.rh_module.specs.declared.module.Module.{Module}
 use Rattle.rh_module.specs.Area.{IsModule, SpellsIn, heap_in}
 use Rattle.rh_module.specs.Lengths.{longer, shorter}
-use Rattle.rh_module.proofs.SpanLaws.{span_of, Begins, is_span, heap_there, begins_there}
+use Rattle.rh_module.proofs.SpanLaws.{span_of, Begins, is_span, heap_there, old_heap, begins_there}
 
 -- ---- longer
 
@@ -73,11 +77,6 @@ only_lengthened m k n rma span pages e l at only =
     OnlyArea-both m k n rma.area.0 (subst (λ i. OnlyArea m i rma.area.0) (sym e) (OnlyArea-grown m rma.area.0 pages l))
     (subst (λ t. OnlyArea k n t.area.0) at (OnlyArea-from_Edited k n span.area.0 _ _ only))
 
--- a call that is refused exactly where a number is too small, and it is not
-pub is_granted : {A E : Type 0} (r : Result A E) {m n : ℕ} → (IsErr r ↔ (m < n)) → n ≤ m → IsOk r
-is_granted (Ok x) w l = cc
-is_granted (Err e) w l = let low = w.0 cc in absurd (omega arith)
-
 -- ---- shorter
 
 minus : (e n : ℕ) → moved e (neg_ℤ (pos n)) ≡ e - n
@@ -93,6 +92,26 @@ down_is pages l = omega (arith, ints)
 
 moved_down : (e pages : ℕ) → pages ≤ 2 ^ 19 → moved e (down pages) ≡ e - 4096 * pages
 moved_down e pages l = ap (moved e) (down_is pages l) ∙ minus e (pages * 4096) ∙ omega arith
+
+-- the end may be moved, or lies too low
+pub may_shorten : (m : Memory) (rma : Module) (span : Span) (pages : ℕ) → IsModule m rma → span ≡ span_of rma → pages ≤ 2 ^ 19 → {x : Unit {0}} → Ok x ≡ answer_of (no_answer (extend (down pages) (spans.heap_in m span)))
+    → (base (heap_in m rma) ≤ (shorter pages (heap_in m rma)).end) × (extend (down pages) (spans.heap_in m span) ≡ Ok (extended (down pages) (spans.heap_in m span)))
+may_shorten m rma span pages s at l e =
+    let fits = extend-fits (down pages) (spans.heap_in m span) e in
+    let same = old_heap at s in
+    let low : base (spans.heap_in m span) ≡ base (heap_in m rma) = ap base same in
+    let now : moved (spans.heap_in m span).end (down pages) ≡ (heap_in m rma).end - 4096 * pages = ap (λ (g : Heap). moved g.end (down pages)) same ∙ moved_down (heap_in m rma).end pages l in
+    (omega arith, extend-done (down pages) (spans.heap_in m span) fits)
+
+pub may_not_shorten : (m : Memory) (rma : Module) (span : Span) (pages : ℕ) {refusal : HeapRefusal} → IsModule m rma → span ≡ span_of rma → pages ≤ 2 ^ 19 → Err refusal ≡ answer_of (no_answer (extend (down pages) (spans.heap_in m span)))
+    → ((shorter pages (heap_in m rma)).end < base (heap_in m rma)) × (refusal ≡ ExcessiveShrink)
+may_not_shorten m rma span pages s at l e =
+    let low = extend-refused (down pages) (spans.heap_in m span) e in
+    let under = low.0 in
+    let same = old_heap at s in
+    let based : base (spans.heap_in m span) ≡ base (heap_in m rma) = ap base same in
+    let now : moved (spans.heap_in m span).end (down pages) ≡ (heap_in m rma).end - 4096 * pages = ap (λ (g : Heap). moved g.end (down pages)) same ∙ moved_down (heap_in m rma).end pages l in
+    (omega arith, low.1)
 
 -- the area's last pages, where the heap leaves them
 record Spare (m k : Memory) (rma : Module) (pages : ℕ) : Type 0 where

@@ -1,16 +1,14 @@
 -- What a call is granted, by the need that the heap answered.
-use Rattle.std.proofs.Common.{◌≡◌, ◌≢◌, ℕ, ◌<◌, ◌≤◌, to_z, of_z, sym, ap, subst, ◌∙◌}
+use Rattle.std.proofs.Common.{◌≡◌, ℕ, ◌<◌, ◌≤◌, to_z, of_z, sym, ap, subst, ◌∙◌}
 use Rattle.std.specs.Prelude.{Result, Ok, Err, ℤ, FitsSigned}
 use Rattle.std.specs.Int.{w32}
 use Rattle.std.proofs.lemmas.Int.{to_z-of_z}
 use Rattle.rh_defs.specs.Memory.{Memory}
 use Rattle.rh_defs.specs.Pieces.{pages_for}
-use Rattle.rh_defs.specs.Heap.{raised, claim, claim_need, resize, need_at}
+use Rattle.rh_defs.specs.Heap.{refusal_of, raised, claim, claim_need, resize, need_at}
 use Rattle.rh_defs.specs.Module.{module_claim, module_resize, module_need_pages}
-use Rattle.rh_defs.specs.declared.heap.HeapFault.{HeapFault}
-use Rattle.rh_defs.specs.declared.heap.HeapFault.TheVariants as heap_fault
-use Rattle.rh_defs.specs.declared.refusal.Refusal.{Refusal}
-use Rattle.rh_defs.specs.declared.refusal.Refusal.TheVariants.{NotABlock, BadSize, NoRoom}
+use Rattle.rh_defs.specs.declared.heap.HeapRefusal.{HeapRefusal}
+use Rattle.rh_defs.specs.declared.refusal.Refusal.TheVariants.{NoRoom}
 use Rattle.rh_defs.proofs.ModuleLaws.{Grows, module_claim-zero, module_claim-short, module_claim-grows, module_need_pages-zero, module_need_pages-is, module_resize-refused, module_resize-short, module_resize-grows}
 use Rattle.rh_heap.specs.Spans as spans
 use Rattle.rh_heap.specs.declared.span.Span.{Span}
@@ -26,11 +24,11 @@ passed delta = to_z w32 (of_z w32 delta)
 
 module _ {m : Memory} {rma : Module} {span : Span} (at : span ≡ span_of rma) (s : IsModule m rma) where
   -- ---- claims
-  asked : (r : Result ℕ HeapFault) (n : ℕ) → r ≡ claim_need n (spans.heap_in m span) → r ≡ claim_need n (heap_in m rma)
+  asked : (r : Result ℕ HeapRefusal) (n : ℕ) → r ≡ claim_need n (spans.heap_in m span) → r ≡ claim_need n (heap_in m rma)
   asked r n e = e ∙ ap (claim_need n) (old_heap at s)
 
-  pub claim_bad_size : {fault : HeapFault} (n : ℕ) → Err fault ≡ claim_need n (spans.heap_in m span) → module_claim m.free n (heap_in m rma) ≡ Err BadSize
-  claim_bad_size {fault} n e = module_claim-zero m.free n (heap_in m rma) fault (asked (Err fault) n e)
+  pub claim_refused : {refusal : HeapRefusal} (n : ℕ) → Err refusal ≡ claim_need n (spans.heap_in m span) → module_claim m.free n (heap_in m rma) ≡ Err (refusal_of refusal)
+  claim_refused {refusal} n e = module_claim-zero m.free n (heap_in m rma) refusal (asked (Err refusal) n e)
 
   pub claim_no_room : {k pages : ℕ} (n : ℕ) → Ok k ≡ claim_need n (spans.heap_in m span) → pages ≡ pages_for k → m.free < pages → module_claim m.free n (heap_in m rma) ≡ Err NoRoom
   claim_no_room {k} n e p l = module_claim-short m.free k n (heap_in m rma) (asked (Ok k) n e) (rw (sym p) l)
@@ -40,20 +38,19 @@ module _ {m : Memory} {rma : Module} {span : Span} (at : span ≡ span_of rma) (
   claim_grown {k} {pages} n later e p l long =
       record { grows = module_claim-grows m.free k n (heap_in m rma) (asked (Ok k) n e) (rw (sym p) l); at = at; pages = pages; pages_are = p; long = long }
 
-  pub need_pages_bad_size : {fault : HeapFault} (n : ℕ) → Err fault ≡ claim_need n (spans.heap_in m span) → module_need_pages n (heap_in m rma) ≡ Err BadSize
-  need_pages_bad_size {fault} n e = module_need_pages-zero n (heap_in m rma) fault (asked (Err fault) n e)
+  pub need_pages_refused : {refusal : HeapRefusal} (n : ℕ) → Err refusal ≡ claim_need n (spans.heap_in m span) → module_need_pages n (heap_in m rma) ≡ Err (refusal_of refusal)
+  need_pages_refused {refusal} n e = module_need_pages-zero n (heap_in m rma) refusal (asked (Err refusal) n e)
 
   pub need_pages_is : {k : ℕ} (n : ℕ) → Ok k ≡ claim_need n (spans.heap_in m span) → module_need_pages n (heap_in m rma) ≡ Ok (pages_for k)
   need_pages_is {k} n e = module_need_pages-is k n (heap_in m rma) (asked (Ok k) n e)
 
   -- ---- resizes
   module _ (address : ℕ) (delta : ℤ) (fits : FitsSigned w32 delta) where
-    asked_at : (r : Result ℕ HeapFault) → r ≡ need_at address (passed delta) (spans.heap_in m span) → r ≡ need_at address delta (heap_in m rma)
+    asked_at : (r : Result ℕ HeapRefusal) → r ≡ need_at address (passed delta) (spans.heap_in m span) → r ≡ need_at address delta (heap_in m rma)
     asked_at r e = e ∙ ap (λ d. need_at address d (spans.heap_in m span)) (to_z-of_z w32 delta fits) ∙ ap (need_at address delta) (old_heap at s)
 
-    pub resize_refused : {fault : HeapFault} {refusal : Refusal} → Err fault ≡ need_at address (passed delta) (spans.heap_in m span) → (fault ≡ heap_fault.NotABlock → refusal ≡ NotABlock) → (fault ≢ heap_fault.NotABlock → refusal ≡ BadSize)
-        → module_resize m.free address delta (heap_in m rma) ≡ Err refusal
-    resize_refused {fault} {refusal} e none small = module_resize-refused m.free address delta (heap_in m rma) fault refusal none small (asked_at (Err fault) e)
+    pub resize_refused : {refusal : HeapRefusal} → Err refusal ≡ need_at address (passed delta) (spans.heap_in m span) → module_resize m.free address delta (heap_in m rma) ≡ Err (refusal_of refusal)
+    resize_refused {refusal} e = module_resize-refused m.free address delta (heap_in m rma) refusal (asked_at (Err refusal) e)
 
     pub resize_no_room : {k pages : ℕ} → Ok k ≡ need_at address (passed delta) (spans.heap_in m span) → pages ≡ pages_for k → m.free < pages → module_resize m.free address delta (heap_in m rma) ≡ Err NoRoom
     resize_no_room {k} e p l = module_resize-short m.free k address delta (heap_in m rma) (asked_at (Ok k) e) (rw (sym p) l)

@@ -3,9 +3,9 @@ ghost use Rattle.std.specs.Prelude.{◌≡◌, ◌^◌, ◌<◌, ◌≤◌, leng
 ghost use Rattle.rh_defs.specs.Memory.{IsOpen, OnlyArea, bytes};
 ghost use Rattle.rh_defs.specs.Pieces.{pages_for};
 ghost use Rattle.rh_defs.specs.Heap.{empty_heap, base};
-ghost use Rattle.rh_defs.specs.Chain.{answer_of, left_of};
 ghost use Rattle.rh_defs.specs.Module.{module_change};
 ghost use Rattle.rh_module.specs.Area.{IsModule, SpellsIn, heap_in};
+ghost use Rattle.rh_module.specs.Calls.{Leaves};
 ghost use Rattle.rh_module.specs.Lengths.{longer, shorter};
 
 use crate::module::Module;
@@ -26,7 +26,9 @@ impl Module {
         requires opened { IsOpen (S.memory store.old) area.0 }
         requires page { 4096 ≤ length (bytes (S.memory store.old) area.0) }
         ensures area { result.area ≡ area }
+        ensures heap { heap_in (S.memory store.new) result ≡ empty_heap (length (bytes (S.memory store.old) area.0)) }
         ensures spells { SpellsIn (S.memory store.new) result (empty_heap (length (bytes (S.memory store.old) area.0))) }
+        ensures still { IsModule (S.memory store.new) result }
         ensures only { OnlyArea (S.memory store.old) (S.memory store.new) area.0 }
     {
         let module = Module { area };
@@ -40,10 +42,8 @@ impl Module {
     /// `NoRoom` where too few pages are free. (OS_ChangeDynamicArea.)
     pub fn change<S: Pages>(self, store: &mut S, delta: i32) -> Result<usize, Refusal>
         requires { IsModule (S.memory store.old) self }
-        ensures answer { result ≡ answer_of (module_change (S.memory store.old).free delta (heap_in (S.memory store.old) self)) }
-        ensures spells { SpellsIn (S.memory store.new) self (left_of (heap_in (S.memory store.old) self) (module_change (S.memory store.old).free delta (heap_in (S.memory store.old) self))) }
-        ensures only { OnlyArea (S.memory store.old) (S.memory store.new) self.area.0 }
-        ensures err { OnErr result (S.memory store.new ≡ S.memory store.old) }
+        ensures { Leaves (S.memory store.old) (S.memory store.new) self
+            (module_change (S.memory store.old).free delta (heap_in (S.memory store.old) self)) result }
     {
         let pages = pages_for(delta.unsigned_abs() as usize);
         if delta < 0 {
@@ -85,9 +85,7 @@ impl Module {
         ensures err { OnErr result (S.memory store.new ≡ S.memory store.old) }
     {
         let delta = -((pages * PAGE) as i64) as i32;
-        let Ok(()) = extend_heap(store, self.span(), delta) else {
-            return Err(Refusal::ExcessiveShrink);
-        };
+        extend_heap(store, self.span(), delta)?;
         store.shrink(self.area, pages);
         Ok(())
     }

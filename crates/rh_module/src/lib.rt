@@ -4,6 +4,7 @@
 mod blocks;
 mod bytes;
 mod length;
+mod listing;
 mod module;
 
 pub use module::Module;

@@ -1,28 +1,34 @@
 -- The calls on the C heap of a slot: what each answers and leaves.
 use Rattle.std.proofs.Common.{◌≡◌, ◌≢◌, ℕ, ◌+◌, ◌-◌, ◌≤◌, inl, inr, Bool, true, false, ltb, eqb, List, [], ◌∷◌, ◌++◌, length, refl, sym, ap, subst, ◌∙◌, arith}
 use Rattle.std.proofs.lemmas.Bool.{cases_eq}
-use Rattle.std.specs.Prelude.{IfSome, cond, Option, Some, None, IsNone, Result, Ok, Err, IsErr, is_err, ◌↔◌, ℤ, pos, negsuc}
+use Rattle.std.specs.Prelude.{IfSome, cond, Option, Some, None, Result, Ok, Err, IsOk, ℤ, pos, negsuc}
 use Rattle.std.proofs.Common.{SFits, w32}
 use Rattle.rh_defs.specs.Bytes.{SameOutside}
-use Rattle.rh_defs.specs.Memory.{Memory, bytes}
+use Rattle.rh_defs.specs.Memory.{Memory, OnlyArea, bytes}
 use Rattle.rh_defs.specs.Pieces.{total, round_up, page, pages_for, zeros, moved, Split}
-use Rattle.rh_defs.specs.Chain.{Granted, answer_of, left_of, outcome_of, result_or, ◌>>=◌, refuse_if, found_or}
-use Rattle.rh_defs.specs.Heap.{Segment, Used, Hole, Heap, Placed, Way, Stays, Shrinks, GrowsIntoHole, GrowsAtTop, MovesToHole, MovesToTop, need, claim, claim_need, claim_growing, placed_in, hole_for, is_hole_for, way_beyond, way_to_grow, raised, block_room, size_of, bytes_of, resized, resized_by, resize, resize_found, resize_need, resize_growing, need_found, new_size, fitted, way_to, segment_size, released, release, release_found, block_at, is_block_at, address_of, heap_after, base, place_after, end_for}
+use Rattle.rh_defs.specs.Chain.{Granted, answer_of, left_of, no_answer, ◌>>=◌, refuse_if, found_or}
+use Rattle.rh_defs.specs.Heap.{Segment, Used, Hole, Heap, Placed, Way, Stays, Shrinks, GrowsIntoHole, GrowsAtTop, MovesToHole, MovesToTop, need, claim, claim_need, claim_growing, placed_in, hole_for, is_hole_for, way_beyond, way_to_grow, raised, block_room, size_of, bytes_of, resized, resized_by, resize, resize_found, resize_need, resize_growing, need_found, new_size, fitted, way_to, segment_size, released, release, release_found, block_at, is_block_at, released_at, as_granted, refusal_of, base, place_after, end_for}
 use Rattle.rh_defs.specs.HeapImage.{Spells}
 use Rattle.rh_defs.specs.Slot.{weight, flex_weight, slot_length, slot_pages, is_stuck, with_heap, with_block, slot_claim, slot_resize, slot_release, slot_take_pages, heap_block_at}
 use Rattle.rh_defs.specs.Slot as plain
-use Rattle.rh_defs.specs.declared.heap.HeapFault.{HeapFault}
-use Rattle.rh_defs.specs.declared.heap.HeapFault.TheVariants as fault
+use Rattle.rh_defs.specs.declared.heap.HeapRefusal.{HeapRefusal}
+use Rattle.rh_defs.specs.declared.heap.HeapRefusal.TheVariants as heap_refusal
 use Rattle.rh_defs.specs.declared.refusal.Refusal.{Refusal}
 use Rattle.rh_defs.specs.declared.refusal.Refusal.TheVariants.{NotABlock, NoBudge}
 use Rattle.rh_defs.proofs.Cuts.{total-append}
 use Rattle.rh_defs.proofs.HeapLists.{cond_true, cond_false, eqb_same, eqb_apart, IsCut, first_at-cuts}
+use Rattle.rh_defs.proofs.HeapCalls.{released_at-some, released-found, released-refused}
+use Rattle.rh_defs.proofs.MemoryLaws.{OnlyArea-from_Edited}
 use Rattle.rh_defs.proofs.HeapGrowth.{claim-raised, resize-raised, resize_need-raised}
-use Rattle.rh_heap.specs.Spans.{OnlySpan, heap_in}
+use Rattle.rh_heap.specs.Calls as heap_calls
+use Rattle.rh_heap.specs.Spans.{heap_in}
+use Rattle.rh_heap.specs.declared.span.Span.{Span}
 use Rattle.rh_slot.specs.declared.slot.Slot.{Slot}
-use Rattle.rh_slot.specs.Area.{SpellsIn, slot_in}
-use Rattle.rh_slot.specs.Growth.{after_growth, lengthened, refusal_of}
-use Rattle.rh_slot.proofs.SpanLaws.{span_of, heap_same, slot_now}
+use Rattle.rh_slot.specs.Area.{IsSlot, SpellsIn, slot_in}
+use Rattle.rh_slot.specs.Calls.{Leaves}
+use Rattle.rh_slot.specs.Growth.{after_growth, lengthened}
+use Rattle.rh_slot.proofs.SpanLaws.{span_of, heap_same, slot_now, budging_same}
+use Rattle.rh_slot.proofs.LeaveLaws.{leaves, refuses, then_edited}
 use Rattle.rh_slot.proofs.GrowLaws.{Gives, growth_ok, growth_err, placed_there, slot_claim-growth, slot_claim-zero, end-claim_growing, need_ok, need_err}
 use Rattle.rh_defs.proofs.SlotImageLaws.{SpellsSlot-with_heap}
 
@@ -30,36 +36,38 @@ use Rattle.rh_defs.proofs.SlotImageLaws.{SpellsSlot-with_heap}
 longer : (m : Memory) (slot : Slot) (s : plain.Slot) (k : ℕ) → SpellsIn m slot (lengthened k s) → s.budging ≡ slot.budge → heap_in m (span_of slot) ≡ raised k s.heap
 longer m slot s k w b = heap_same m slot ∙ ap (λ (x : plain.Slot). x.heap) (slot_now m slot (lengthened k s) w b)
 
--- the heap's own call places a block, so the slot's does
-done_there : (m n : Memory) (slot : Slot) (s : plain.Slot) (free k : ℕ) (p : Placed) (call : Granted (plain.Slot × ℕ)) (own : Result Placed HeapFault) (r : Result ℕ HeapFault) (address : ℕ)
-    → SpellsIn m slot (lengthened k s) → s.budging ≡ slot.budge → call ≡ after_growth free k s (with_heap p.heap s, 33024 + p.address) → Gives (Ok (tt {0})) free k s → p.heap.end ≡ (raised k s.heap).end
-    → own ≡ Ok p → OnlySpan m n (span_of slot) → Spells (bytes n slot.area.0) 256 (heap_after (heap_in m (span_of slot)) own) → r ≡ address_of own → r ≡ Ok address
-    → (Ok (33024 + address) ≡ answer_of call) × SpellsIn n slot (left_of s call)
-done_there m n slot s free k p call own r address w b e g q o only h er ea =
-    let same : Ok address ≡ Ok p.address = sym ea ∙ er ∙ ap address_of o in
-    placed_there m n slot s k p call address w b (e ∙ growth_ok free k s (with_heap p.heap s, 33024 + p.address) g) q only
-    (subst (λ x. Spells (bytes n slot.area.0) 256 (heap_after (heap_in m (span_of slot)) x)) o h) (let f = same in cc)
+-- the heap's own call places a block, so the slot's is done
+done_there : (o m n : Memory) (slot : Slot) (k : ℕ) (p : Placed) (call : Granted (plain.Slot × ℕ)) (own : Result (Heap × ℕ) HeapRefusal) (address : ℕ)
+    → (let s = slot_in o slot in SpellsIn m slot (lengthened k s) → call ≡ after_growth o.free k s (with_heap p.heap s, 33024 + p.address) → Gives (Ok (tt {0})) o.free k s → p.heap.end ≡ (raised k s.heap).end
+    → own ≡ Ok (as_granted p) → heap_calls.Leaves m n (span_of slot) own (Ok address) → OnlyArea o m slot.area.0 → Leaves o n slot call (Ok (33024 + address)))
+done_there o m n slot k p call own address w e g q is l only =
+    let s = slot_in o slot in
+    let same : ◌≡◌ {A = Result ℕ HeapRefusal} (Ok p.address) (Ok address) = sym (l.answer ∙ ap answer_of is) in
+    let there : p.address ≡ address = cc in
+    leaves o n slot call (with_heap p.heap s) (33024 + address) (e ∙ growth_ok o.free k s (with_heap p.heap s, 33024 + p.address) g ∙ ap (λ i. Ok (with_heap p.heap s, 33024 + i)) there) (budging_same o slot)
+    (placed_there m n slot s k p w (budging_same o slot) q l.only (subst (λ x. Spells (bytes n slot.area.0) 256 (left_of (heap_in m (span_of slot)) x)) is l.spells))
+    (then_edited only l.only)
 
 -- and it is not refused
-pub not_refused_there : (p : Placed) (own : Result Placed HeapFault) (r : Result ℕ HeapFault) (f : HeapFault) → own ≡ Ok p → r ≡ address_of own → r ≡ Err f → ⊥
-not_refused_there p own r f o er ef = let same : Err f ≡ Ok p.address = sym ef ∙ er ∙ ap address_of o in cc
+is_done : {m n : Memory} {span : Span} {r : Result ℕ HeapRefusal} (p : Placed) (own : Result (Heap × ℕ) HeapRefusal) → own ≡ Ok (as_granted p) → heap_calls.Leaves m n span own r → IsOk r
+is_done p own is l = rw (l.answer ∙ ap answer_of is) refl
 
 -- ---- claims
 
-pub claim_longer : (m : Memory) (slot : Slot) (s : plain.Slot) (k n : ℕ) → SpellsIn m slot (lengthened k s) → s.budging ≡ slot.budge → n ≢ 0 → k ≡ need n s.heap → claim n (heap_in m (span_of slot)) ≡ Ok (claim_growing n s.heap)
+pub claim_longer : (m : Memory) (slot : Slot) (s : plain.Slot) (k n : ℕ) → SpellsIn m slot (lengthened k s) → s.budging ≡ slot.budge → n ≢ 0 → k ≡ need n s.heap → claim n (heap_in m (span_of slot)) ≡ Ok (as_granted (claim_growing n s.heap))
 claim_longer m slot s k n w b ne e = ap (claim n) (longer m slot s k w b) ∙ ap (λ i. claim n (raised i s.heap)) e ∙ claim-raised n s.heap ne
 
-pub claimed : (m l : Memory) (slot : Slot) (s : plain.Slot) (free k n : ℕ) (r : Result ℕ HeapFault) (address : ℕ) → SpellsIn m slot (lengthened k s) → s.budging ≡ slot.budge → n ≢ 0 → k ≡ need n s.heap → Gives (Ok (tt {0})) free k s
-    → OnlySpan m l (span_of slot) → Spells (bytes l slot.area.0) 256 (heap_after (heap_in m (span_of slot)) (claim n (heap_in m (span_of slot)))) → r ≡ address_of (claim n (heap_in m (span_of slot))) → r ≡ Ok address
-    → (Ok (33024 + address) ≡ answer_of (slot_claim free n s)) × SpellsIn l slot (left_of s (slot_claim free n s))
-claimed m l slot s free k n r address w b ne e g only h er ea =
-    done_there m l slot s free k (claim_growing n s.heap) (slot_claim free n s) (claim n (heap_in m (span_of slot))) r address w b
-    (slot_claim-growth free n s ne ∙ ap (λ i. after_growth free i s (with_heap (claim_growing n s.heap).heap s, 33024 + (claim_growing n s.heap).address)) (sym e)) g
-    (end-claim_growing n s.heap ∙ ap (λ i. (raised i s.heap).end) (sym e)) (claim_longer m slot s k n w b ne e) only h er ea
+pub claimed : (o m l : Memory) (slot : Slot) (k n address : ℕ) → (let s = slot_in o slot in SpellsIn m slot (lengthened k s) → n ≢ 0 → k ≡ need n s.heap → Gives (Ok (tt {0})) o.free k s
+    → heap_calls.Leaves m l (span_of slot) (claim n (heap_in m (span_of slot))) (Ok address) → OnlyArea o m slot.area.0 → Leaves o l slot (slot_claim o.free n s) (Ok (33024 + address)))
+claimed o m l slot k n address w ne e g there only =
+    let s = slot_in o slot in
+    done_there o m l slot k (claim_growing n s.heap) (slot_claim o.free n s) (claim n (heap_in m (span_of slot))) address w
+    (slot_claim-growth o.free n s ne ∙ ap (λ i. after_growth o.free i s (with_heap (claim_growing n s.heap).heap s, 33024 + (claim_growing n s.heap).address)) (sym e)) g
+    (end-claim_growing n s.heap ∙ ap (λ i. (raised i s.heap).end) (sym e)) (claim_longer m slot s k n w (budging_same o slot) ne e) there only
 
-pub claim_not_refused : (m : Memory) (slot : Slot) (s : plain.Slot) (k n : ℕ) (r : Result ℕ HeapFault) (f : HeapFault) → SpellsIn m slot (lengthened k s) → s.budging ≡ slot.budge → n ≢ 0 → k ≡ need n s.heap
-    → r ≡ address_of (claim n (heap_in m (span_of slot))) → r ≡ Err f → ⊥
-claim_not_refused m slot s k n r f w b ne e er ef = not_refused_there (claim_growing n s.heap) (claim n (heap_in m (span_of slot))) r f (claim_longer m slot s k n w b ne e) er ef
+pub claim_is_done : (o m l : Memory) (slot : Slot) (k n : ℕ) {r : Result ℕ HeapRefusal} → (let s = slot_in o slot in SpellsIn m slot (lengthened k s) → n ≢ 0 → k ≡ need n s.heap
+    → heap_calls.Leaves m l (span_of slot) (claim n (heap_in m (span_of slot))) r → IsOk r)
+claim_is_done o m l slot k n w ne e there = let s = slot_in o slot in is_done (claim_growing n s.heap) (claim n (heap_in m (span_of slot))) (claim_longer m slot s k n w (budging_same o slot) ne e) there
 
 -- ---- resizes
 
@@ -98,41 +106,42 @@ unfolding slot_resize after_growth ◌>>=◌ refuse_if found_or
 slot_resize-growth free address delta s b e ne = rw e (rw (eqb_apart (new_size delta b) 0 ne) refl)
 
 -- a refusal of the heap is the slot's
-pub resize_refused : (free address : ℕ) (delta : ℤ) (s : plain.Slot) (o : Option (Split Segment)) (f : HeapFault) → heap_block_at address s ≡ o → Err f ≡ need_found delta o s.heap → slot_resize free address delta s ≡ Err (refusal_of f)
+pub resize_refused : (free address : ℕ) (delta : ℤ) (s : plain.Slot) (o : Option (Split Segment)) (f : HeapRefusal) → heap_block_at address s ≡ o → Err f ≡ need_found delta o s.heap → slot_resize free address delta s ≡ Err (refusal_of f)
 unfolding slot_resize ◌>>=◌ refuse_if found_or
-resize_refused free address delta s None f e n = rw e (let q : fault.NotABlock ≡ f = cc in ap (λ i. Err (refusal_of i)) q)
+resize_refused free address delta s None f e n = rw e (let q : heap_refusal.NotABlock ≡ f = cc in ap (λ i. Err (refusal_of i)) q)
 resize_refused free address delta s (Some b) f e n = elim (cases_eq (new_size delta b) 0) [
-  | inl z ↦ rw e (rw (eqb_same (new_size delta b) 0 z) (let q : fault.BadSize ≡ f = (let i = n ∙ cond_true (eqb (new_size delta b) 0) _ _ (eqb_same (new_size delta b) 0 z) in cc) in ap (λ i. Err (refusal_of i)) q))
+  | inl z ↦ rw e (rw (eqb_same (new_size delta b) 0 z) (let q : heap_refusal.BadSize ≡ f = (let i = n ∙ cond_true (eqb (new_size delta b) 0) _ _ (eqb_same (new_size delta b) 0 z) in cc) in ap (λ i. Err (refusal_of i)) q))
   | inr ne ↦ absurd (let i = n ∙ cond_false (eqb (new_size delta b) 0) _ _ (eqb_apart (new_size delta b) 0 ne) in cc)
 ]
 
-resize_found-raised : (delta : ℤ) (b : Split Segment) (h : Heap) (k : ℕ) → new_size delta b ≢ 0 → k ≡ resize_need (new_size delta b) b h → resize_found delta (Some b) (raised k h) ≡ Ok (resize_growing (new_size delta b) b h)
+resize_found-raised : (delta : ℤ) (b : Split Segment) (h : Heap) (k : ℕ) → new_size delta b ≢ 0 → k ≡ resize_need (new_size delta b) b h → resize_found delta (Some b) (raised k h) ≡ Ok (as_granted (resize_growing (new_size delta b) b h))
 resize_found-raised delta b h k ne e =
     let n = new_size delta b in
     cond_false (eqb n 0) _ _ (eqb_apart n 0 ne)
-    ∙ ap (λ i. cond (eqb (resize_need n b (raised i h)) 0) (Ok (resized n b (raised i h) (raised i h))) (Err fault.NoRoom)) e
+    ∙ ap (λ i. cond (eqb (resize_need n b (raised i h)) 0) (Ok (as_granted (resized n b (raised i h) (raised i h)))) (Err heap_refusal.NoRoom)) e
     ∙ cond_true (eqb (resize_need n b (raised (resize_need n b h) h)) 0) _ _ (eqb_same _ 0 (resize_need-raised n b h))
-    ∙ ap (λ (p : Placed). Ok p) (resize-raised n b h)
+    ∙ ap (λ (p : Placed). Ok (as_granted p)) (resize-raised n b h)
 
 pub resize_longer : (m : Memory) (slot : Slot) (s : plain.Slot) (k a : ℕ) (delta : ℤ) (t : Resizes delta (block_at a s.heap) s.heap k) → SpellsIn m slot (lengthened k s) → s.budging ≡ slot.budge
-    → resize a delta (heap_in m (span_of slot)) ≡ Ok (resize_growing (new_size delta t.block) t.block s.heap)
+    → resize a delta (heap_in m (span_of slot)) ≡ Ok (as_granted (resize_growing (new_size delta t.block) t.block s.heap))
 resize_longer m slot s k a delta t w b =
     ap (resize a delta) (longer m slot s k w b) ∙ ap (λ o. resize_found delta o (raised k s.heap)) t.found ∙ resize_found-raised delta t.block s.heap k t.some t.short
 
-pub resized_there : (m l : Memory) (slot : Slot) (s : plain.Slot) (free k a address : ℕ) (delta : ℤ) (r : Result ℕ HeapFault) (x : ℕ) → Resizes delta (block_at a s.heap) s.heap k → a ≡ address - 33024
-    → SpellsIn m slot (lengthened k s) → s.budging ≡ slot.budge → Gives (Ok (tt {0})) free k s
-    → OnlySpan m l (span_of slot) → Spells (bytes l slot.area.0) 256 (heap_after (heap_in m (span_of slot)) (resize a delta (heap_in m (span_of slot)))) → r ≡ address_of (resize a delta (heap_in m (span_of slot))) → r ≡ Ok x
-    → (Ok (33024 + x) ≡ answer_of (slot_resize free address delta s)) × SpellsIn l slot (left_of s (slot_resize free address delta s))
-resized_there m l slot s free k a address delta r x t e w b g only h er ea =
+pub resized_there : (o m l : Memory) (slot : Slot) (k a address : ℕ) (delta : ℤ) (x : ℕ) → (let s = slot_in o slot in Resizes delta (block_at a s.heap) s.heap k → a ≡ address - 33024
+    → SpellsIn m slot (lengthened k s) → Gives (Ok (tt {0})) o.free k s
+    → heap_calls.Leaves m l (span_of slot) (resize a delta (heap_in m (span_of slot))) (Ok x) → OnlyArea o m slot.area.0 → Leaves o l slot (slot_resize o.free address delta s) (Ok (33024 + x)))
+resized_there o m l slot k a address delta x t e w g there only =
+    let s = slot_in o slot in
     let p = resize_growing (new_size delta t.block) t.block s.heap in
-    done_there m l slot s free k p (slot_resize free address delta s) (resize a delta (heap_in m (span_of slot))) r x w b
-    (slot_resize-growth free address delta s t.block (ap (λ i. block_at i s.heap) (sym e) ∙ t.found) t.some ∙ ap (λ i. after_growth free i s (with_heap p.heap s, 33024 + p.address)) (sym t.short)) g
-    (end-resize_growing (new_size delta t.block) t.block s.heap ∙ ap (λ i. (raised i s.heap).end) (sym t.short)) (resize_longer m slot s k a delta t w b) only h er ea
+    done_there o m l slot k p (slot_resize o.free address delta s) (resize a delta (heap_in m (span_of slot))) x w
+    (slot_resize-growth o.free address delta s t.block (ap (λ i. block_at i s.heap) (sym e) ∙ t.found) t.some ∙ ap (λ i. after_growth o.free i s (with_heap p.heap s, 33024 + p.address)) (sym t.short)) g
+    (end-resize_growing (new_size delta t.block) t.block s.heap ∙ ap (λ i. (raised i s.heap).end) (sym t.short)) (resize_longer m slot s k a delta t w (budging_same o slot)) there only
 
-pub resize_not_refused : (m : Memory) (slot : Slot) (s : plain.Slot) (k a : ℕ) (delta : ℤ) (r : Result ℕ HeapFault) (f : HeapFault) → Resizes delta (block_at a s.heap) s.heap k → SpellsIn m slot (lengthened k s) → s.budging ≡ slot.budge
-    → r ≡ address_of (resize a delta (heap_in m (span_of slot))) → r ≡ Err f → ⊥
-resize_not_refused m slot s k a delta r f t w b er ef =
-    not_refused_there (resize_growing (new_size delta t.block) t.block s.heap) (resize a delta (heap_in m (span_of slot))) r f (resize_longer m slot s k a delta t w b) er ef
+pub resize_is_done : (o m l : Memory) (slot : Slot) (k a : ℕ) (delta : ℤ) {r : Result ℕ HeapRefusal} → (let s = slot_in o slot in Resizes delta (block_at a s.heap) s.heap k → SpellsIn m slot (lengthened k s)
+    → heap_calls.Leaves m l (span_of slot) (resize a delta (heap_in m (span_of slot))) r → IsOk r)
+resize_is_done o m l slot k a delta t w there =
+    let s = slot_in o slot in
+    is_done (resize_growing (new_size delta t.block) t.block s.heap) (resize a delta (heap_in m (span_of slot))) (resize_longer m slot s k a delta t w (budging_same o slot)) there
 
 pub resize_call-growth : (free address a k : ℕ) (delta : ℤ) (s : plain.Slot) (t : Resizes delta (block_at a s.heap) s.heap k) → a ≡ address - 33024
     → slot_resize free address delta s ≡ after_growth free k s (with_heap (resize_growing (new_size delta t.block) t.block s.heap).heap s, 33024 + (resize_growing (new_size delta t.block) t.block s.heap).address)
@@ -165,47 +174,33 @@ pub slot_release-none : (address : ℕ) (s : plain.Slot) → heap_block_at addre
 unfolding slot_release ◌>>=◌ found_or
 slot_release-none address s e = rw e refl
 
--- a block that begins at an address, or none
-some_of : {A E B : Type 0} (o : Option A) (r : Result E B) → (IsErr r ↔ IsNone o) → (e : E) → r ≡ Ok e → (x : A) × (o ≡ Some x)
-some_of (Some x) r i e q = (x, refl)
-some_of None r i e q = absurd (let z = i.1 refl in cc)
-
-none_of : {A E B : Type 0} (o : Option A) (r : Result E B) → (IsErr r ↔ IsNone o) → (f : B) → r ≡ Err f → o ≡ None
-none_of None r i f q = refl
-none_of (Some x) r i f q = absurd (let z = i.0 (ap (λ y. is_err y) q) in cc)
-
-pub released_there : {E B : Type 0} (m n : Memory) (slot : Slot) (address a : ℕ) (r : Result E B) (e : E) → (let s = slot_in m slot in SpellsIn m slot s → a ≡ address - 33024 → (IsErr r ↔ IsNone (block_at a (heap_in m (span_of slot)))) → r ≡ Ok e
-    → OnlySpan m n (span_of slot) → Spells (bytes n slot.area.0) 256 (release a (heap_in m (span_of slot)))
-    → (◌≡◌ {A = Granted (Unit {0})} (Ok (tt {0})) (outcome_of (slot_release address s))) × SpellsIn n slot (result_or s (slot_release address s)))
-released_there m n slot address a r e w ea i q only h =
+pub released_there : (m n : Memory) (slot : Slot) (address a : ℕ) {x : Unit {0}} → (let s = slot_in m slot in IsSlot m slot → a ≡ address - 33024
+    → heap_calls.Leaves m n (span_of slot) (no_answer (released_at a (heap_in m (span_of slot)))) (Ok x) → Leaves m n slot (no_answer (slot_release address s)) (Ok tt))
+released_there m n slot address a w ea l =
     let s = slot_in m slot in
     let same = heap_same m slot in
-    let b = some_of (block_at a (heap_in m (span_of slot))) r i e q in
+    let b = released-found a (heap_in m (span_of slot)) l.answer in
     let found : block_at a s.heap ≡ Some b.0 = ap (block_at a) (sym same) ∙ b.1 in
     let call = slot_release-some address s b.0 (ap (λ k. block_at k s.heap) (sym ea) ∙ found) in
-    let heap : release a (heap_in m (span_of slot)) ≡ released b.0 s.heap = ap (release a) same ∙ ap (λ o. release_found o s.heap) found in (
-      sym (ap outcome_of call),
-      subst (SpellsIn n slot) (sym (ap (result_or s) call))
-          (SpellsSlot-with_heap (bytes m slot.area.0) (bytes n slot.area.0) s (released b.0 s.heap) w (subst (λ (x : Heap). SameOutside (bytes m slot.area.0) (bytes n slot.area.0) 256 (256 + x.end)) same only.outside) (subst (Spells (bytes n slot.area.0) 256) heap h) refl),
-    )
+    let heap : release a (heap_in m (span_of slot)) ≡ released b.0 s.heap = ap (release a) same ∙ ap (λ o. release_found o s.heap) found in
+    let spelt = subst (λ r. Spells (bytes n slot.area.0) 256 (left_of (heap_in m (span_of slot)) (no_answer r))) (released_at-some a (heap_in m (span_of slot)) b.0 b.1) l.spells in
+    leaves m n slot (no_answer (slot_release address s)) (with_heap (released b.0 s.heap) s) tt (ap no_answer call) (budging_same m slot)
+    (SpellsSlot-with_heap (bytes m slot.area.0) (bytes n slot.area.0) s (released b.0 s.heap) w.spells
+    (subst (λ (x : Heap). SameOutside (bytes m slot.area.0) (bytes n slot.area.0) 256 (256 + x.end)) same l.only.outside) (subst (Spells (bytes n slot.area.0) 256) heap spelt) refl)
+    (OnlyArea-from_Edited m n slot.area.0 _ _ l.only)
 
-pub release_refused : {E B : Type 0} (m n : Memory) (slot : Slot) (address a : ℕ) (r : Result E B) (f : B) → (let s = slot_in m slot in SpellsIn m slot s → a ≡ address - 33024 → (IsErr r ↔ IsNone (block_at a (heap_in m (span_of slot)))) → r ≡ Err f → n ≡ m
-    → (◌≡◌ {A = Granted (Unit {0})} (Err NotABlock) (outcome_of (slot_release address s))) × SpellsIn n slot (result_or s (slot_release address s)))
-release_refused m n slot address a r f w ea i q same =
+pub release_refused : (m n : Memory) (slot : Slot) (address a : ℕ) {refusal : HeapRefusal} → (let s = slot_in m slot in IsSlot m slot → a ≡ address - 33024
+    → heap_calls.Leaves m n (span_of slot) (no_answer (released_at a (heap_in m (span_of slot)))) (Err refusal) → Leaves m n slot (no_answer (slot_release address s)) (Err (refusal_of refusal)))
+release_refused m n slot address a {refusal} w ea l =
     let s = slot_in m slot in
-    let none = none_of (block_at a (heap_in m (span_of slot))) r i f q in
-    let call = slot_release-none address s (ap (λ k. block_at k s.heap) (sym ea) ∙ ap (block_at a) (sym (heap_same m slot)) ∙ none) in (
-      sym (ap outcome_of call),
-      subst (SpellsIn n slot) (sym (ap (result_or s) call)) (subst (λ x. SpellsIn x slot s) (sym same) w),
-    )
+    let none = released-refused a (heap_in m (span_of slot)) l.answer in
+    let call = slot_release-none address s (ap (λ k. block_at k s.heap) (sym ea) ∙ ap (block_at a) (sym (heap_same m slot)) ∙ none.0) in
+    refuses m n slot (no_answer (slot_release address s)) (refusal_of refusal) (ap no_answer call ∙ ap (λ r. Err (refusal_of r)) (sym none.1)) l.err w
 
 -- ---- a call that was refused
 
-pub refused_call : (m n : Memory) (slot : Slot) (s : plain.Slot) (call : Granted (plain.Slot × ℕ)) (e : Refusal) → SpellsIn m slot s → call ≡ Err e → n ≡ m → (Err e ≡ answer_of call) × SpellsIn n slot (left_of s call)
-refused_call m n slot s call e w q same = (sym (ap answer_of q), subst (SpellsIn n slot) (sym (ap (left_of s) q)) (subst (λ x. SpellsIn x slot s) (sym same) w))
-
 -- the need of a claim in the slot's heap
-pub claim_refused : (free n : ℕ) (s : plain.Slot) (h : Heap) (f : HeapFault) → h ≡ s.heap → Err f ≡ claim_need n h → slot_claim free n s ≡ Err (refusal_of f)
+pub claim_refused : (free n : ℕ) (s : plain.Slot) (h : Heap) (f : HeapRefusal) → h ≡ s.heap → Err f ≡ claim_need n h → slot_claim free n s ≡ Err (refusal_of f)
 claim_refused free n s h f e q = let r = need_err n f h q in slot_claim-zero free n s r.0 ∙ ap (λ i. Err (refusal_of i)) (sym r.1)
 
 pub claim_needs : (n k : ℕ) (s : plain.Slot) (h : Heap) → h ≡ s.heap → Ok k ≡ claim_need n h → (n ≢ 0) × (k ≡ need n s.heap)
@@ -275,8 +270,8 @@ resize_low delta a k h t =
     resized_low (way_to (segment_size n) t.block h) (fitted (block_room n) (bytes_of t.block.here)) t.block (raised (resize_need n t.block h) h)
     (place_low h t.block (cut_of a h t.block t.found)) (way_low (segment_size n) t.block h)
 
-pub address_low : (p : Placed) (own : Result Placed HeapFault) (r : Result ℕ HeapFault) (x : ℕ) → own ≡ Ok p → r ≡ address_of own → r ≡ Ok x → x ≡ p.address
-address_low p own r x o er ea = let same : Ok x ≡ Ok p.address = sym ea ∙ er ∙ ap address_of o in cc
+pub address_low : (p : Placed) (own : Result (Heap × ℕ) HeapRefusal) (x : ℕ) → own ≡ Ok (as_granted p) → Ok x ≡ answer_of own → x ≡ p.address
+address_low p own x o e = let same : ◌≡◌ {A = Result ℕ HeapRefusal} (Ok x) (Ok p.address) = e ∙ ap answer_of o in cc
 
 used_low : (h : Heap) (b : Split Segment) → h.segments ≡ b.before ++ b.here ∷ b.after → size_of b.here ≤ base h
 used_low h b e = omega (arith, ap (total size_of) e, total-append size_of b.before (b.here ∷ b.after))
@@ -304,7 +299,7 @@ resize_most delta a k h t f l =
 pages_taken : (s : plain.Slot) (k : ℕ) → pages_for (slot_length s + round_up page k + flex_weight 0) - slot_pages s ≡ pages_for k + pages_for (slot_length s + 8) - pages_for (slot_length s)
 pages_taken s k = omega arith
 
-pub take_zero : (n : ℕ) (s : plain.Slot) (h : Heap) (f : HeapFault) → h ≡ s.heap → Err f ≡ claim_need n h → slot_take_pages n s ≡ Err (refusal_of f)
+pub take_zero : (n : ℕ) (s : plain.Slot) (h : Heap) (f : HeapRefusal) → h ≡ s.heap → Err f ≡ claim_need n h → slot_take_pages n s ≡ Err (refusal_of f)
 unfolding slot_take_pages ◌>>=◌ refuse_if
 take_zero n s h f e q = let r = need_err n f h q in rw (eqb_same n 0 r.0) (ap (λ i. Err (refusal_of i)) (sym r.1))
 

@@ -7,8 +7,7 @@ use Rattle.std.specs.Prelude.{is_some, Ok, Err, ◌↔◌}
 use Rattle.rh_defs.specs.declared.refusal.Refusal.{Refusal}
 use Rattle.rh_defs.specs.declared.refusal.Refusal.TheVariants.{NoBlock, AnchorInUse, NoRoom}
 use Rattle.rh_defs.specs.Bytes.{word, part, SameIn, SameOutside}
-use Rattle.rh_defs.specs.Chain.{Granted, ◌>>=◌, refuse_if, found_or, left_of, result_or}
-use Rattle.rh_defs.specs.Memory.{Memory, bytes}
+use Rattle.rh_defs.specs.Chain.{Granted, ◌>>=◌, refuse_if, found_or}
 use Rattle.rh_defs.specs.Pieces.{total, pages_for, zeros, Split}
 use Rattle.rh_defs.specs.Slot.{Flex, Slot, weight, flex_weight, slot_length, slot_pages, flex_address, IsFree, HaveAnchors, without, with_block, is_used, lacks_room, slot_block, slot_size, slot_address, slot_free, slot_alloc}
 use Rattle.rh_defs.specs.SlotImage.{Lie, Hang, SlotWords, SpellsSlot, flex_place}
@@ -288,22 +287,3 @@ has_none free x y d n e = let l = d.0 n in omega arith
 
 pub false-true : false ≡ true → ⊥
 false-true e = search rules
-
--- ---- what the calls leave
-pub left_ok : (b : List ℕ) (old new : Slot) (a : ℕ) (r : Granted (Slot × ℕ)) → r ≡ Ok (new, a) → SpellsSlot b new → SpellsSlot b (left_of old r)
-left_ok b old new a r e h = subst (λ (i : Granted (Slot × ℕ)). SpellsSlot b (left_of old i)) (sym e) h
-
-pub left_err : (b : List ℕ) (old : Slot) (x : Refusal) (r : Granted (Slot × ℕ)) → r ≡ Err x → SpellsSlot b old → SpellsSlot b (left_of old r)
-left_err b old x r e h = subst (λ (i : Granted (Slot × ℕ)). SpellsSlot b (left_of old i)) (sym e) h
-
-pub result_ok : (b : List ℕ) (old new : Slot) (r : Granted Slot) → r ≡ Ok new → SpellsSlot b new → SpellsSlot b (result_or old r)
-result_ok b old new r e h = subst (λ (i : Granted Slot). SpellsSlot b (result_or old i)) (sym e) h
-
-pub result_err : (b : List ℕ) (old : Slot) (x : Refusal) (r : Granted Slot) → r ≡ Err x → SpellsSlot b old → SpellsSlot b (result_or old r)
-result_err b old x r e h = subst (λ (i : Granted Slot). SpellsSlot b (result_or old i)) (sym e) h
-
-pub result_same : (b : List ℕ) (old : Slot) (r q : Granted Slot) → r ≡ q → SpellsSlot b (result_or old q) → SpellsSlot b (result_or old r)
-result_same b old r q e h = subst (λ (i : Granted Slot). SpellsSlot b (result_or old i)) (sym e) h
-
-pub kept : (m n : Memory) (id : ℕ) (s : Slot) → n ≡ m → SpellsSlot (bytes m id) s → SpellsSlot (bytes n id) s
-kept m n id s e h = subst (λ (i : Memory). SpellsSlot (bytes i id) s) (sym e) h

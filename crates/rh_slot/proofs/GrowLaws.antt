@@ -2,19 +2,19 @@
 use Rattle.std.proofs.Common.{◌≡◌, ◌≢◌, ℕ, ◌+◌, ◌*◌, ◌/◌, ◌<◌, ◌≤◌, inl, inr, Bool, true, false, ltb, eqb, List, length, refl, sym, ap, subst, ◌∙◌, arith}
 use Rattle.std.proofs.lemmas.Bool.Decides.{nat_tests}
 use Rattle.std.proofs.lemmas.Bool.{cases_eq, cases_lt}
-use Rattle.std.specs.Prelude.{Option, Some, None, Result, Ok, Err, OnOk, IsErr, IsErrOf, ◌↔◌, ℤ}
+use Rattle.std.specs.Prelude.{Option, Some, None, Ok, Err, IsErr, IsErrOf, ◌↔◌, ℤ}
 use Rattle.std.specs.Prelude.{pos}
 use Rattle.rh_defs.specs.Bytes.{SameIn, SameOutside}
 use Rattle.rh_defs.specs.Memory.{Memory, IsOpen, Resized, bytes}
 use Rattle.rh_defs.specs.Pieces.{total, pages_for, zeros, moved, Split}
-use Rattle.rh_defs.specs.Chain.{Granted, answer_of, left_of, ◌>>=◌, refuse_if}
+use Rattle.rh_defs.specs.Chain.{Granted, ◌>>=◌, refuse_if}
 use Rattle.rh_defs.specs.Heap.{Segment, Heap, Placed, need, claim_need, claim_growing, raised, placed, placed_in, hole_for, shortage_in, block_room, segment_size, base, extended}
 use Rattle.rh_defs.specs.HeapImage.{Spells}
 use Rattle.rh_defs.specs.Slot.{Flex, weight, slot_length, slot_pages, is_stuck, with_heap, with_block, with_placed, slot_claim, slot_resize, slot_release, slot_take_pages, heap_block_at, HaveAnchors}
 use Rattle.rh_defs.specs.Slot as plain
 use Rattle.rh_defs.specs.SlotImage.{Lie, Hang, SlotWords, SpellsSlot, flex_place}
-use Rattle.rh_defs.specs.declared.heap.HeapFault.{HeapFault}
-use Rattle.rh_defs.specs.declared.heap.HeapFault.TheVariants as fault
+use Rattle.rh_defs.specs.declared.heap.HeapRefusal.{HeapRefusal}
+use Rattle.rh_defs.specs.declared.heap.HeapRefusal.TheVariants as heap_refusal
 use Rattle.rh_defs.specs.declared.refusal.Refusal.{Refusal}
 use Rattle.rh_defs.specs.declared.refusal.Refusal.TheVariants.{BadSize, NoBudge, NoRoom}
 use Rattle.rh_defs.proofs.BytesLaws.{word_same}
@@ -83,11 +83,6 @@ slid l m n slot span from top more k r o same len ef et e =
       heap = heap_now n (span_of slot) s.heap spells;
       room = omega arith;
     })
-
--- the end goes up, which is never refused
-pub not_refused : {A E P Q : Type 0} (r : Result A E) → OnOk r P → (IsErr r ↔ Q) → (Q → ⊥) → P
-not_refused (Ok x) p i n = p
-not_refused (Err x) p i n = absurd (n (i.0 refl))
 
 -- ---- what a call gives whose heap may have to grow
 
@@ -170,16 +165,11 @@ slot_claim-zero free n s e = rw e refl
 -- ---- the heap's own call, in a heap that is long enough
 
 -- a block was placed in the longer heap
-pub placed_there : (m n : Memory) (slot : Slot) (s : plain.Slot) (k : ℕ) (p : Placed) (call : Granted (plain.Slot × ℕ)) (address : ℕ) → SpellsIn m slot (lengthened k s) → s.budging ≡ slot.budge
-    → call ≡ Ok (with_heap p.heap s, 33024 + p.address) → p.heap.end ≡ (raised k s.heap).end
-    → OnlySpan m n (span_of slot) → Spells (bytes n slot.area.0) 256 p.heap → address ≡ p.address
-    → (Ok (33024 + address) ≡ answer_of call) × SpellsIn n slot (left_of s call)
-placed_there m n slot s k p call address w b e q o h a =
-    let now : (heap_in m (span_of slot)).end ≡ (raised k s.heap).end = ap (λ (x : Heap). x.end) (heap_same m slot ∙ ap (λ (x : plain.Slot). x.heap) (slot_now m slot (lengthened k s) w b)) in (
-      ap (λ i. Ok (33024 + i)) a ∙ sym (ap answer_of e),
-      subst (SpellsIn n slot) (sym (ap (left_of s) e))
-          (SpellsSlot-with_heap (bytes m slot.area.0) (bytes n slot.area.0) (lengthened k s) p.heap w (subst (λ i. SameOutside (bytes m slot.area.0) (bytes n slot.area.0) 256 (256 + i)) now o.outside) h q),
-    )
+pub placed_there : (m n : Memory) (slot : Slot) (s : plain.Slot) (k : ℕ) (p : Placed) → SpellsIn m slot (lengthened k s) → s.budging ≡ slot.budge → p.heap.end ≡ (raised k s.heap).end
+    → OnlySpan m n (span_of slot) → Spells (bytes n slot.area.0) 256 p.heap → SpellsIn n slot (with_heap p.heap s)
+placed_there m n slot s k p w b q o h =
+    let now : (heap_in m (span_of slot)).end ≡ (raised k s.heap).end = ap (λ (x : Heap). x.end) (heap_same m slot ∙ ap (λ (x : plain.Slot). x.heap) (slot_now m slot (lengthened k s) w b)) in
+    SpellsSlot-with_heap (bytes m slot.area.0) (bytes n slot.area.0) (lengthened k s) p.heap w (subst (λ i. SameOutside (bytes m slot.area.0) (bytes n slot.area.0) 256 (256 + i)) now o.outside) h q
 
 -- what a claim's need says
 pub need_ok : (n k : ℕ) (h : Heap) → Ok k ≡ claim_need n h → (n ≢ 0) × (k ≡ need n h)
@@ -188,7 +178,7 @@ need_ok n k h e = elim (cases_eq n 0) [
   | inr ne ↦ (ne, let f = e ∙ cond_false (eqb n 0) _ _ (eqb_apart n 0 ne) in cc)
 ]
 
-pub need_err : (n : ℕ) (f : HeapFault) (h : Heap) → Err f ≡ claim_need n h → (n ≡ 0) × (f ≡ fault.BadSize)
+pub need_err : (n : ℕ) (f : HeapRefusal) (h : Heap) → Err f ≡ claim_need n h → (n ≡ 0) × (f ≡ heap_refusal.BadSize)
 need_err n f h e = elim (cases_eq n 0) [
   | inl z ↦ (z, let q = e ∙ cond_true (eqb n 0) _ _ (eqb_same n 0 z) in cc)
   | inr ne ↦ absurd (let q = e ∙ cond_false (eqb n 0) _ _ (eqb_apart n 0 ne) in cc)

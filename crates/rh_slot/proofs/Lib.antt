@@ -3,7 +3,9 @@ pub mod ShiftLaws
 pub mod FlexLaws
 pub mod EditLaws
 pub mod WalkLaws
+pub mod StepLaws
 pub mod SpanLaws
+pub mod LeaveLaws
 pub mod LifeLaws
 pub mod GrowLaws
 pub mod CallLaws

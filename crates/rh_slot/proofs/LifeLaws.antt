@@ -2,7 +2,7 @@
 use Rattle.std.proofs.Common.{◌≡◌, ◌≢◌, ℕ, ◌*◌, ◌<◌, ◌≤◌, false, ltb, List, ◌++◌, length, replicate, refl, sym, ap, subst, ◌∙◌, arith}
 use Rattle.std.proofs.lemmas.Bool.Decides.{nat_tests}
 use Rattle.std.proofs.lemmas.List.{length-replicate}
-use Rattle.std.specs.Prelude.{Option, Some, None, IsNone, Result, Ok, Err, OnOk, IsErr, ◌↔◌}
+use Rattle.std.specs.Prelude.{Option, Some, None, IsNone, Result, Ok, Err, OnOk, IsOk, IsErr, ◌↔◌}
 use Rattle.rh_defs.specs.Bytes.{word}
 use Rattle.rh_defs.specs.Memory.{Memory, IsOpen, OnlyArea, Edited, bytes, opened, grown}
 use Rattle.rh_defs.specs.Chain.{outcome_of, ◌>>=◌, refuse_if}
@@ -31,6 +31,14 @@ begin_done free ne = rw (ltb_no free 1 (omega arith)) refl
 pub page_grown : {A E : Type 0} (m n : Memory) (id : ℕ) (r : Result A E) → OnOk r (n ≡ grown m id 1) → (IsErr r ↔ (m.free < 1)) → m.free ≢ 0 → n ≡ grown m id 1
 page_grown m n id (Ok x) e h ne = e
 page_grown m n id (Err x) e h ne = absurd (let l = h.0 refl in omega arith)
+
+-- a call that isn't refused is done
+pub is_granted : {A E : Type 0} (r : Result A E) → (IsErr r → ⊥) → IsOk r
+is_granted (Ok x) n = refl
+is_granted (Err x) n = absurd (n refl)
+
+pub page_granted : {A E : Type 0} (m k : Memory) (id : ℕ) (r : Result A E) → m.free ≢ 0 → k ≡ opened m id → (IsErr r ↔ (k.free < 1)) → IsOk r
+page_granted m k id r ne e h = is_granted r (λ z. let l = h.0 z in let free : k.free ≡ m.free = ap (λ (x : Memory). x.free) e ∙ free-opened m id in ne (omega arith))
 
 none_is : (o : Option (List ℕ)) → IsNone o → o ≡ None
 none_is None h = refl

@@ -1,5 +1,5 @@
 -- One turn of the walk over a slot's flex blocks, and how it ends.
-use Rattle.std.proofs.Common.{◌≡◌, ℕ, zero, suc, ◌+◌, ◌-◌, ◌*◌, ◌/◌, ◌<◌, ◌≤◌, ◌≢◌, Bool, true, false, List, [], ◌∷◌, ◌++◌, length, refl, sym, ap, subst, ◌∙◌, append_assoc, arith, length-append}
+use Rattle.std.proofs.Common.{◌≡◌, ℕ, zero, suc, ◌+◌, ◌-◌, ◌*◌, ◌/◌, ◌<◌, ◌≤◌, Bool, true, false, List, [], ◌∷◌, ◌++◌, length, refl, sym, ap, subst, ◌∙◌, append_assoc, arith, length-append}
 use Rattle.std.specs.Prelude.{Some, None, is_some, slice_get}
 use Rattle.rh_defs.specs.Bytes.{word}
 use Rattle.rh_defs.specs.Pieces.{total, first_at, is_inside, NonePass}
@@ -11,7 +11,7 @@ use Rattle.rh_defs.proofs.Cuts.{total-append}
 use Rattle.rh_defs.proofs.HeapLists.{NonePass-append, first_at-none, first_at-found}
 use Rattle.rh_defs.proofs.SlotLaws.{Lie-split, Hang-split, HaveAnchors-cut}
 use Rattle.rh_defs.proofs.SlotImageLaws.{is_block-here, is_block-top}
-use Rattle.rh_slot.specs.Walks.{Walked}
+use Rattle.rh_slot.specs.Walks.{Walked, item_of}
 
 pub walked_start : (s : Slot) (place : ℕ) → place ≡ flex_place s → Walked s place
 walked_start s place e = record { before = []; rest = s.blocks; is = refl; place_is = omega arith }
@@ -99,27 +99,7 @@ turn b s place k w t size es =
     let i = k.within in
     record { fits = omega arith; inside = omega arith; walked = λ step u. walked_on b s place w n step (onward b s place w n size step es u) }
 
--- ---- the walk that counts
-
--- the walk has passed k blocks, and i at most
-pub record Counted (s : Slot) (place k i : ℕ) : Type 0 where
-  pub walked : Walked s place
-  pub count : k ≡ length walked.before
-  pub most : k ≤ i
-
-pub counted_start : (s : Slot) (place i : ℕ) → place ≡ flex_place s → Counted s place 0 i
-unfolding walked_start
-counted_start s place i e = record { walked = walked_start s place e; count = refl; most = omega arith }
-
-pub counted_on : (b : List ℕ) (s : Slot) (place k i : ℕ) → SlotWords b s → (w : Counted s place k i) → is_block b place ≡ true → (size step : ℕ) → size ≡ word b (place + 4) → step ≡ flex_weight size → k ≢ i
-    → Counted s (place + step) (k + 1) i
-counted_on b s place k i x w t size step es e ne =
-    let n = next b s place x w.walked t in
-    record {
-      walked = walked_on b s place w.walked n step (onward b s place w.walked n size step es e);
-      count = omega (arith, w.count, length-append w.walked.before (n.here ∷ []));
-      most = let m = w.most in omega arith;
-    }
+-- ---- the blocks as they are listed
 
 items_past : (place : ℕ) (xs ys : List Flex) → slice_get (block_items_from place (xs ++ ys)) (length xs) ≡ slice_get (block_items_from (place + total weight xs) ys) 0
 items_past place [] ys = ap (λ p. slice_get (block_items_from p ys) 0) (omega arith)
@@ -136,23 +116,22 @@ item_is k a n k' a' n' e f h =
     ∙ ap (λ (j : ℕ). let r : BlockItem = record { anchor = k'; address = j; size = n } in r) f
     ∙ ap (λ (j : ℕ). let r : BlockItem = record { anchor = k'; address = a'; size = j } in r) h
 
--- the block at the count
-pub item_here : (b : List ℕ) (s : Slot) (place k i : ℕ) → SlotWords b s → (w : Counted s place k i) → is_block b place ≡ true → (head size : ℕ) → head ≡ word b place → size ≡ word b (place + 4) → k ≡ i
-    → Some (let r : BlockItem = record { anchor = (head - slot_start) / 4; address = slot_start + place + 8; size = size } in r) ≡ slice_get (block_items s) i
-item_here b s place k i x w t head size eh es e =
-    let n = next b s place x w.walked t in
-    let is : s.blocks ≡ w.walked.before ++ n.here ∷ n.after = w.walked.is ∙ ap (λ l. w.walked.before ++ l) n.rest_is in
-    let p = w.walked.place_is in
+-- the block that follows so many
+pub item_here : (b : List ℕ) (s : Slot) (place i : ℕ) → SlotWords b s → (w : Walked s place) → i ≡ length w.before → is_block b place ≡ true → Some (item_of b place) ≡ slice_get (block_items s) i
+item_here b s place i x w e t =
+    let n = next b s place x w t in
+    let is : s.blocks ≡ w.before ++ n.here ∷ n.after = w.is ∙ ap (λ l. w.before ++ l) n.rest_is in
+    let p = w.place_is in
     let h = n.head in
     sym (ap (λ l. slice_get (block_items_from (flex_start s) l) i) is
-    ∙ ap (slice_get (block_items_from (flex_start s) (w.walked.before ++ n.here ∷ n.after))) (sym e ∙ w.count)
-    ∙ items_past (flex_start s) w.walked.before (n.here ∷ n.after)
-    ∙ ap (λ (r : BlockItem). Some r) (item_is n.here.anchor (flex_start s + total weight w.walked.before + 8) (length n.here.bytes) ((head - slot_start) / 4) (slot_start + place + 8) size
-    (omega arith) (omega arith) (sym (es ∙ n.size))))
+    ∙ ap (slice_get (block_items_from (flex_start s) (w.before ++ n.here ∷ n.after))) e
+    ∙ items_past (flex_start s) w.before (n.here ∷ n.after)
+    ∙ ap (λ (r : BlockItem). Some r) (item_is n.here.anchor (flex_start s + total weight w.before + 8) (length n.here.bytes) ((word b place - slot_start) / 4) (slot_start + place + 8) (word b (place + 4))
+    (omega arith) (omega arith) (sym n.size)))
 
-pub item_none : (b : List ℕ) (s : Slot) (place k i : ℕ) → SlotWords b s → (w : Counted s place k i) → is_block b place ≡ false → slice_get (block_items s) i ≡ None
-item_none b s place k i x w t =
-    no_item (flex_start s) s.blocks i (omega (arith, w.most, w.count, ap length w.walked.is, length-append w.walked.before w.walked.rest, ap length (last b s place x w.walked t)))
+pub item_none : (b : List ℕ) (s : Slot) (place i : ℕ) → SlotWords b s → (w : Walked s place) → i ≡ length w.before → is_block b place ≡ false → slice_get (block_items s) i ≡ None
+item_none b s place i x w e t =
+    no_item (flex_start s) s.blocks i (omega (arith, e, ap length w.is, length-append w.before w.rest, ap length (last b s place x w t)))
 
 -- ---- the walk that looks for the block in which bytes lie
 

@@ -1,4 +1,5 @@
 pub mod Area
+pub mod Calls
 pub mod Places
 pub mod Walks
 pub mod Growth

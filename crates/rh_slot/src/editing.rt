@@ -1,10 +1,10 @@
 //! Flex blocks whose sizes and bytes change.
-ghost use Rattle.std.specs.Prelude.{◌≡◌, ◌+◌, ◌^◌, ◌<◌, ◌≤◌, length, OnErr};
-ghost use Rattle.rh_defs.specs.Chain.{outcome_of, result_or};
-ghost use Rattle.rh_defs.specs.Memory.{Memory, OnlyArea};
+ghost use Rattle.std.specs.Prelude.{◌≡◌, ◌+◌, ◌^◌, ◌<◌, ◌≤◌, length};
+ghost use Rattle.rh_defs.specs.Chain.{no_answer, outcome_of, result_or};
 ghost use Rattle.rh_defs.specs.Pieces.{Split};
 ghost use Rattle.rh_defs.specs.Slot.{Flex, slot_extend, slot_mid, slot_put, slot_read};
-ghost use Rattle.rh_slot.specs.Area.{IsSlot, SpellsIn, slot_in};
+ghost use Rattle.rh_slot.specs.Area.{IsSlot, slot_in};
+ghost use Rattle.rh_slot.specs.Calls.{Leaves};
 ghost use Rattle.rh_slot.specs.Places.{Found, FoundAt, splice};
 
 use crate::locating::{Spot, locate};
@@ -38,13 +38,9 @@ fn splice<S: Pages>(
     requires offset { change.offset ≤ spot.size }
     requires out { change.out ≤ change.offset }
     requires small { change.put < 2 ^ 32 }
-    ensures answer { (cut : Split Flex) → FoundAt anchor (slot_in (S.memory store.old) slot) spot.place spot.size cut
-        → result ≡ outcome_of (splice (S.memory store.old).free change.offset change.out change.put cut (slot_in (S.memory store.old) slot)) }
-    ensures spells { (cut : Split Flex) → FoundAt anchor (slot_in (S.memory store.old) slot) spot.place spot.size cut
-        → SpellsIn (S.memory store.new) slot (result_or (slot_in (S.memory store.old) slot)
-        (splice (S.memory store.old).free change.offset change.out change.put cut (slot_in (S.memory store.old) slot))) }
-    ensures only { OnlyArea (S.memory store.old) (S.memory store.new) slot.area.0 }
-    ensures err { OnErr result (S.memory store.new ≡ S.memory store.old) }
+    ensures { (cut : Split Flex) → FoundAt anchor (slot_in (S.memory store.old) slot) spot.place spot.size cut
+        → Leaves (S.memory store.old) (S.memory store.new) slot
+        (no_answer (splice (S.memory store.old).free change.offset change.out change.put cut (slot_in (S.memory store.old) slot))) result }
 {
     let from = spot.place + weight_of(spot.size);
     let size = spot.size - change.out + change.put;
@@ -72,11 +68,8 @@ impl Slot {
     pub fn extend<S: Pages>(self, store: &mut S, anchor: Anchor, n: u32) -> Result<(), Refusal>
         requires slot { IsSlot (S.memory store.old) self }
         requires anchor { anchor < 64 }
-        ensures answer { result ≡ outcome_of (slot_extend (S.memory store.old).free anchor n (slot_in (S.memory store.old) self)) }
-        ensures spells { SpellsIn (S.memory store.new) self (result_or (slot_in (S.memory store.old) self)
-            (slot_extend (S.memory store.old).free anchor n (slot_in (S.memory store.old) self))) }
-        ensures only { OnlyArea (S.memory store.old) (S.memory store.new) self.area.0 }
-        ensures err { OnErr result (S.memory store.new ≡ S.memory store.old) }
+        ensures { Leaves (S.memory store.old) (S.memory store.new) self
+            (no_answer (slot_extend (S.memory store.old).free anchor n (slot_in (S.memory store.old) self))) result }
     {
         let Some(spot) = locate(store, self, anchor) else {
             return Err(Refusal::NoBlock);
@@ -102,11 +95,8 @@ impl Slot {
     ) -> Result<(), Refusal>
         requires slot { IsSlot (S.memory store.old) self }
         requires anchor { anchor < 64 }
-        ensures answer { result ≡ outcome_of (slot_mid (S.memory store.old).free anchor offset by (slot_in (S.memory store.old) self)) }
-        ensures spells { SpellsIn (S.memory store.new) self (result_or (slot_in (S.memory store.old) self)
-            (slot_mid (S.memory store.old).free anchor offset by (slot_in (S.memory store.old) self))) }
-        ensures only { OnlyArea (S.memory store.old) (S.memory store.new) self.area.0 }
-        ensures err { OnErr result (S.memory store.new ≡ S.memory store.old) }
+        ensures { Leaves (S.memory store.old) (S.memory store.new) self
+            (no_answer (slot_mid (S.memory store.old).free anchor offset by (slot_in (S.memory store.old) self))) result }
     {
         let Some(spot) = locate(store, self, anchor) else {
             return Err(Refusal::NoBlock);
@@ -137,11 +127,8 @@ impl Slot {
     ) -> Result<(), Refusal>
         requires slot { IsSlot (S.memory store.old) self }
         requires anchor { anchor < 64 }
-        ensures answer { result ≡ outcome_of (slot_put anchor offset from.now (slot_in (S.memory store.old) self)) }
-        ensures spells { SpellsIn (S.memory store.new) self (result_or (slot_in (S.memory store.old) self)
-            (slot_put anchor offset from.now (slot_in (S.memory store.old) self))) }
-        ensures only { OnlyArea (S.memory store.old) (S.memory store.new) self.area.0 }
-        ensures err { OnErr result (S.memory store.new ≡ S.memory store.old) }
+        ensures { Leaves (S.memory store.old) (S.memory store.new) self
+            (no_answer (slot_put anchor offset from.now (slot_in (S.memory store.old) self))) result }
     {
         let Some(spot) = locate(store, self, anchor) else {
             return Err(Refusal::NoBlock);

@@ -1,9 +1,9 @@
 //! Flex blocks that come and go.
-ghost use Rattle.std.specs.Prelude.{◌≡◌, ◌<◌, OnErr};
-ghost use Rattle.rh_defs.specs.Chain.{answer_of, left_of, outcome_of, result_or};
-ghost use Rattle.rh_defs.specs.Memory.{Memory, OnlyArea};
+ghost use Rattle.std.specs.Prelude.{◌<◌};
+ghost use Rattle.rh_defs.specs.Chain.{no_answer};
 ghost use Rattle.rh_defs.specs.Slot.{slot_alloc, slot_free};
-ghost use Rattle.rh_slot.specs.Area.{IsSlot, SpellsIn, slot_in};
+ghost use Rattle.rh_slot.specs.Area.{IsSlot, slot_in};
+ghost use Rattle.rh_slot.specs.Calls.{Leaves};
 
 use crate::locating::{SLOT_START, locate, word_place};
 use crate::paging::{grow_to, trim};
@@ -21,11 +21,8 @@ impl Slot {
     pub fn alloc<S: Pages>(self, store: &mut S, anchor: Anchor, n: u32) -> Result<usize, Refusal>
         requires slot { IsSlot (S.memory store.old) self }
         requires anchor { anchor < 64 }
-        ensures answer { result ≡ answer_of (slot_alloc (S.memory store.old).free anchor n (slot_in (S.memory store.old) self)) }
-        ensures spells { SpellsIn (S.memory store.new) self (left_of (slot_in (S.memory store.old) self)
-            (slot_alloc (S.memory store.old).free anchor n (slot_in (S.memory store.old) self))) }
-        ensures only { OnlyArea (S.memory store.old) (S.memory store.new) self.area.0 }
-        ensures err { OnErr result (S.memory store.new ≡ S.memory store.old) }
+        ensures { Leaves (S.memory store.old) (S.memory store.new) self
+            (slot_alloc (S.memory store.old).free anchor n (slot_in (S.memory store.old) self)) result }
     {
         if let Some(_) = locate(store, self, anchor) {
             return Err(Refusal::AnchorInUse);
@@ -47,11 +44,8 @@ impl Slot {
     pub fn free<S: Pages>(self, store: &mut S, anchor: Anchor) -> Result<(), Refusal>
         requires slot { IsSlot (S.memory store.old) self }
         requires anchor { anchor < 64 }
-        ensures answer { result ≡ outcome_of (slot_free anchor (slot_in (S.memory store.old) self)) }
-        ensures spells { SpellsIn (S.memory store.new) self (result_or (slot_in (S.memory store.old) self)
-            (slot_free anchor (slot_in (S.memory store.old) self))) }
-        ensures only { OnlyArea (S.memory store.old) (S.memory store.new) self.area.0 }
-        ensures err { OnErr result (S.memory store.new ≡ S.memory store.old) }
+        ensures { Leaves (S.memory store.old) (S.memory store.new) self
+            (no_answer (slot_free anchor (slot_in (S.memory store.old) self))) result }
     {
         let Some(spot) = locate(store, self, anchor) else {
             return Err(Refusal::NoBlock);

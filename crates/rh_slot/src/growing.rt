@@ -2,12 +2,13 @@
 ghost use Rattle.std.specs.Prelude.{◌≡◌, ℕ, ◌+◌, ◌^◌, ◌<◌, ◌↔◌, ◌&&◌, not, nat_lt, OnOk, OnErr, IsErr, IsErrOf};
 ghost use Rattle.rh_defs.specs.Memory.{Memory, IsOpen, OnlyArea, bytes};
 ghost use Rattle.rh_defs.specs.Pieces.{pages_for};
-ghost use Rattle.rh_defs.specs.Chain.{answer_of, left_of, outcome_of, result_or};
+ghost use Rattle.rh_defs.specs.Chain.{no_answer};
 ghost use Rattle.rh_defs.specs.Slot.{slot_claim, slot_release, slot_resize, slot_take_pages};
 ghost use Rattle.rh_slot.specs.Area.{IsSlot, slot_in, SpellsIn};
+ghost use Rattle.rh_slot.specs.Calls.{Leaves};
 ghost use Rattle.rh_slot.specs.Growth.{after_growth, lengthened};
 
-use crate::heap::{HEAP_START, heap_of, refusal_of};
+use crate::heap::{HEAP_START, heap_of};
 use crate::paging::{grow_to, pages_for};
 use crate::sizing::weight_of;
 use crate::sliding::shift;
@@ -35,7 +36,7 @@ fn lengthen<S: Pages>(store: &mut S, slot: Slot, shortage: usize) -> Result<(), 
     };
     shift(store, slot.area, from, from + more, top - from);
     // The end moves up, so it stays above the last block of the heap.
-    let _ = rh_heap::extend_heap(store, heap_of(slot), more as i32);
+    rh_heap::extend_heap(store, heap_of(slot), more as i32).unwrap();
     Ok(())
 }
 
@@ -70,36 +71,24 @@ impl Slot {
     /// where the heap is too short and budging is off, `NoRoom` where too few pages are free. (OS_Heap 2.)
     pub fn claim<S: Pages>(self, store: &mut S, n: u32) -> Result<usize, Refusal>
         requires slot { IsSlot (S.memory store.old) self }
-        ensures answer { result ≡ answer_of (slot_claim (S.memory store.old).free n (slot_in (S.memory store.old) self)) }
-        ensures spells { SpellsIn (S.memory store.new) self (left_of (slot_in (S.memory store.old) self)
-            (slot_claim (S.memory store.old).free n (slot_in (S.memory store.old) self))) }
-        ensures only { OnlyArea (S.memory store.old) (S.memory store.new) self.area.0 }
-        ensures err { OnErr result (S.memory store.new ≡ S.memory store.old) }
+        ensures { Leaves (S.memory store.old) (S.memory store.new) self
+            (slot_claim (S.memory store.old).free n (slot_in (S.memory store.old) self)) result }
     {
-        let shortage = match rh_heap::need(store, heap_of(self), n) {
-            Ok(shortage) => shortage,
-            Err(fault) => return Err(refusal_of(fault)),
-        };
+        let shortage = rh_heap::need(store, heap_of(self), n)?;
         make_room(store, self, shortage)?;
-        match rh_heap::claim(store, heap_of(self), n) {
-            Ok(address) => Ok(HEAP_START + address),
-            Err(fault) => Err(refusal_of(fault)),
-        }
+        // The heap has room now.
+        let address = rh_heap::claim(store, heap_of(self), n).unwrap();
+        Ok(HEAP_START + address)
     }
 
     /// Releases the block of the C heap at an address. Refused (`NotABlock`) where none begins there. (OS_Heap 3.)
     pub fn release<S: Pages>(self, store: &mut S, address: usize) -> Result<(), Refusal>
         requires slot { IsSlot (S.memory store.old) self }
-        ensures answer { result ≡ outcome_of (slot_release address (slot_in (S.memory store.old) self)) }
-        ensures spells { SpellsIn (S.memory store.new) self (result_or (slot_in (S.memory store.old) self)
-            (slot_release address (slot_in (S.memory store.old) self))) }
-        ensures only { OnlyArea (S.memory store.old) (S.memory store.new) self.area.0 }
-        ensures err { OnErr result (S.memory store.new ≡ S.memory store.old) }
+        ensures { Leaves (S.memory store.old) (S.memory store.new) self
+            (no_answer (slot_release address (slot_in (S.memory store.old) self))) result }
     {
-        match rh_heap::release(store, heap_of(self), address.saturating_sub(HEAP_START)) {
-            Ok(()) => Ok(()),
-            Err(fault) => Err(refusal_of(fault)),
-        }
+        rh_heap::release(store, heap_of(self), address.saturating_sub(HEAP_START))?;
+        Ok(())
     }
 
     /// Gives the block of the C heap at an address `delta` bytes more, or fewer where `delta` is negative, and answers
@@ -112,22 +101,15 @@ impl Slot {
         delta: i32,
     ) -> Result<usize, Refusal>
         requires slot { IsSlot (S.memory store.old) self }
-        ensures answer { result ≡ answer_of (slot_resize (S.memory store.old).free address delta (slot_in (S.memory store.old) self)) }
-        ensures spells { SpellsIn (S.memory store.new) self (left_of (slot_in (S.memory store.old) self)
-            (slot_resize (S.memory store.old).free address delta (slot_in (S.memory store.old) self))) }
-        ensures only { OnlyArea (S.memory store.old) (S.memory store.new) self.area.0 }
-        ensures err { OnErr result (S.memory store.new ≡ S.memory store.old) }
+        ensures { Leaves (S.memory store.old) (S.memory store.new) self
+            (slot_resize (S.memory store.old).free address delta (slot_in (S.memory store.old) self)) result }
     {
         let place = address.saturating_sub(HEAP_START);
-        let shortage = match rh_heap::resize_need(store, heap_of(self), place, delta) {
-            Ok(shortage) => shortage,
-            Err(fault) => return Err(refusal_of(fault)),
-        };
+        let shortage = rh_heap::resize_need(store, heap_of(self), place, delta)?;
         make_room(store, self, shortage)?;
-        match rh_heap::resize(store, heap_of(self), place, delta) {
-            Ok(address) => Ok(HEAP_START + address),
-            Err(fault) => Err(refusal_of(fault)),
-        }
+        // The heap has room now.
+        let address = rh_heap::resize(store, heap_of(self), place, delta).unwrap();
+        Ok(HEAP_START + address)
     }
 
     /// By how many pages a claim of `n` bytes and then a flex block of no bytes would make the slot longer. Refused:
@@ -136,10 +118,7 @@ impl Slot {
         requires slot { IsSlot (S.memory store.now) self }
         ensures { result ≡ slot_take_pages n (slot_in (S.memory store.now) self) }
     {
-        let shortage = match rh_heap::need(store, heap_of(self), n) {
-            Ok(shortage) => shortage,
-            Err(fault) => return Err(refusal_of(fault)),
-        };
+        let shortage = rh_heap::need(store, heap_of(self), n)?;
         if is_stuck(self, shortage) {
             return Err(Refusal::NoBudge);
         }

@@ -1,9 +1,7 @@
 //! The C heap of a slot.
 ghost use Rattle.std.specs.Prelude.{◌≡◌};
-ghost use Rattle.rh_slot.specs.Growth.{refusal_of};
 
 use crate::slot::Slot;
-use rh_defs::{HeapFault, Refusal};
 use rh_heap::Span;
 
 /// Where the C heap begins in a slot's area, behind the 64 anchor words.
@@ -19,18 +17,5 @@ pub fn heap_of(slot: Slot) -> Span
     Span {
         area: slot.area,
         at: HEAP_PLACE,
-    }
-}
-
-/// The refusal that stands for a fault of the C heap.
-pub fn refusal_of(fault: HeapFault) -> Refusal
-    ensures { result ≡ refusal_of fault }
-{
-    match fault {
-        HeapFault::NotABlock => Refusal::NotABlock,
-        HeapFault::BadSize => Refusal::BadSize,
-        HeapFault::NoRoom => Refusal::NoRoom,
-        HeapFault::ExcessiveShrink => Refusal::ExcessiveShrink,
-        HeapFault::BadDescriptor | HeapFault::BadLink => Refusal::NotABlock,
     }
 }

@@ -12,7 +12,9 @@ mod paging;
 mod sizing;
 mod sliding;
 mod slot;
+mod steps;
 mod walking;
 mod words;
 
 pub use slot::Slot;
+pub use steps::FlexWalk;

@@ -4,7 +4,7 @@ ghost use Rattle.rh_defs.specs.Memory.{Memory, IsOpen, OnlyArea, bytes, closed, 
 ghost use Rattle.rh_defs.specs.Chain.{outcome_of};
 ghost use Rattle.rh_defs.specs.Slot.{new_slot, slot_begin, slot_set_budge};
 ghost use Rattle.rh_store.specs.declared.store.TheConstants.{MAX_AREAS};
-ghost use Rattle.rh_slot.specs.Area.{slot_in, SpellsIn};
+ghost use Rattle.rh_slot.specs.Area.{IsSlot, SpellsIn, slot_in};
 
 use crate::heap::{HEAP_PLACE, heap_of};
 use crate::slot::Slot;
@@ -17,7 +17,9 @@ impl Slot {
     pub fn start<S: Store>(store: &mut S) -> Result<Slot, Refusal>
         requires { open_below (S.memory store.old).area MAX_AREAS < MAX_AREAS }
         ensures answer { outcome_of result ≡ outcome_of (slot_begin (S.memory store.old).free) }
+        ensures slot { IfOk result (λ slot. slot_in (S.memory store.new) slot ≡ new_slot) }
         ensures spells { IfOk result (λ slot. SpellsIn (S.memory store.new) slot new_slot) }
+        ensures still { IfOk result (IsSlot (S.memory store.new)) }
         ensures budge { IfOk result (λ slot. slot.budge ≡ true) }
         ensures closed { IfOk result (λ slot. IsNone ((S.memory store.old).area slot.area.0)) }
         ensures number { IfOk result (λ slot. slot.area.0 < MAX_AREAS) }
@@ -28,11 +30,8 @@ impl Slot {
         if store.free_pages() == 0 {
             return Err(Refusal::NoRoom);
         }
-        let Ok(area) = store.open() else {
-            return Err(Refusal::NoRoom);
-        };
-        // A page is free.
-        let _ = store.grow(area, 1);
+        let area = store.open().unwrap();
+        store.grow(area, 1).unwrap();
         let slot = Slot { area, budge: true };
         rh_heap::init(store, heap_of(slot), PAGE - HEAP_PLACE);
         Ok(slot)
@@ -50,6 +49,7 @@ impl Slot {
     pub fn set_budge(&mut self, on: bool) -> bool
         ensures slot { self.new ≡ record { area = self.old.area; budge = on } }
         ensures answer { result ≡ self.old.budge }
+        ensures still { (m : Memory) → IsSlot m self.old → IsSlot m self.new }
         ensures spelled { (m : Memory) → (slot_in m self.new, result) ≡ slot_set_budge on (slot_in m self.old) }
     {
         let was = self.budge;

@@ -1,5 +1,5 @@
 //! What lies in a slot.
-ghost use Rattle.std.specs.Prelude.{◌≡◌, ℕ, is_some, slice_get};
+ghost use Rattle.std.specs.Prelude.{◌≡◌, ℕ, is_some, length, slice_get};
 ghost use Rattle.std.specs.Option.{option_map};
 ghost use Rattle.rh_defs.specs.Memory.{Memory, IsOpen, bytes};
 ghost use Rattle.rh_defs.specs.Pieces.{is_inside};
@@ -55,27 +55,26 @@ impl Slot {
         HEAP_START <= address && rh_heap::holds(store, heap_of(self), address - HEAP_START, n)
     }
 
+    /// How many flex blocks the slot has.
+    pub fn count<S: Words>(self, store: &S) -> usize
+        requires slot { IsSlot (S.memory store.now) self }
+        ensures { result ≡ length (slot_in (S.memory store.now) self).blocks }
+    {
+        let mut walk = self.blocks(store);
+        'walk: while let Some(_) = self.next_block(store, &mut walk) {}
+        walk.passed
+    }
+
     /// Flex block `i` from below, from 0 on: its anchor, address and size in bytes.
     pub fn block<S: Words>(self, store: &S, i: usize) -> Option<BlockItem>
         requires slot { IsSlot (S.memory store.now) self }
         ensures { result ≡ slice_get (block_items (slot_in (S.memory store.now) self)) i }
     {
-        let mut place = flex_place(store, self);
-        let mut index = 0;
-        'walk: while let Some(size) = size_at(store, self, place) {
-            if index == i {
-                let anchor = (read(store, self.area, place) - SLOT_START) / 4;
-                let address = SLOT_START + place + 8;
-                return Some(BlockItem {
-                    anchor: Anchor(anchor as u8),
-                    address: address as u32,
-                    size: size as u32,
-                });
-            }
-            index += 1;
-            place += weight_of(size);
+        let mut walk = self.blocks(store);
+        'walk: while walk.passed < i {
+            self.next_block(store, &mut walk)?;
         }
-        None
+        self.next_block(store, &mut walk)
     }
 
     /// The segment of the C heap that begins at a place, in bytes from the heap's first one.

@@ -1,8 +1,10 @@
-use Rattle.std.proofs.Common.{◌+◌, ◌-◌, refl, sym, ap, arith}
-use Rattle.rh_defs.specs.Chain.{outcome_of}
+use Rattle.std.proofs.Common.{◌+◌, ◌-◌, refl, ap, arith}
+use Rattle.rh_defs.specs.Chain.{no_answer}
 use Rattle.rh_defs.proofs.SlotLaws.{wider}
 use Rattle.rh_slot.specs.Area.{slot_in}
-use Rattle.rh_slot.proofs.FlexLaws.{reach, words_grown, settled, has_room, has_none, false-true, result_ok, result_err, kept}
+use Rattle.rh_slot.proofs.SpanLaws.{budging_same}
+use Rattle.rh_slot.proofs.LeaveLaws.{leaves, refuses, then_edited, then_resized}
+use Rattle.rh_slot.proofs.FlexLaws.{reach, words_grown, settled, has_room, has_none, false-true}
 use Rattle.rh_slot.proofs.EditLaws.{row_over, spliced_words, spliced_pages, splice_full, splice_done}
 use Rattle.rh_slot.proofs.editing.splice.Goals as goal
 
@@ -17,26 +19,14 @@ shift-requires-clause-row g c =
     row_over _ _ _ _ _ _ from _ (words_grown _ _ _ c.requires.slot.spells r.same (omega (arith, r.len))) t (ap (λ w. c.args.spot.place + w) w)
     (reach _ _ _ _ _ _ _ t.at w c.top_of.ensures) (wider c.slide.ensures.only.outside (omega arith) (omega arith))
 
-pub returns-in_default-clause-answer : goal.returns-in_default-clause-answer
-returns-in_default-clause-answer g c = λ cut t.
+pub returns-in_default : goal.returns-in_default
+returns-in_default g c = λ cut t.
     let s = slot_in (g.S.Words.memory c.args.store.now) c.args.slot in
     let q = spliced_pages _ s _ _ _ _ _ _ _ _ cut t c.requires.slot.spells.pages c.weight_of.ensures c.weight_of-2.ensures c.top_of.ensures in
-    sym (ap outcome_of (splice_full _ _ _ _ cut s (has_none _ _ _ c.in_default.ensures.refused refl q)))
+    refuses _ _ _ _ _ (ap no_answer (splice_full _ _ _ _ cut s (has_none _ _ _ c.in_default.ensures.refused refl q))) c.in_default.ensures.err c.requires.slot
 
-pub returns-in_default-clause-spells : goal.returns-in_default-clause-spells
-returns-in_default-clause-spells g c = λ cut t.
-    let s = slot_in (g.S.Words.memory c.args.store.now) c.args.slot in
-    let q = spliced_pages _ s _ _ _ _ _ _ _ _ cut t c.requires.slot.spells.pages c.weight_of.ensures c.weight_of-2.ensures c.top_of.ensures in
-    result_err _ _ _ _ (splice_full _ _ _ _ cut s (has_none _ _ _ c.in_default.ensures.refused refl q)) (kept _ _ _ _ c.in_default.ensures.err c.requires.slot.spells)
-
-pub returns-clause-answer : goal.returns-clause-answer
-returns-clause-answer g c = λ cut t.
-    let s = slot_in (g.S.Words.memory c.args.store.now) c.args.slot in
-    let q = spliced_pages _ s _ _ _ _ _ _ _ _ cut t c.requires.slot.spells.pages c.weight_of.ensures c.weight_of-2.ensures c.top_of.ensures in
-    sym (ap outcome_of (splice_done _ _ _ _ cut s (has_room _ _ _ c.in-Ok.ensures.refused (λ e. false-true e) q)))
-
-pub returns-clause-spells : goal.returns-clause-spells
-returns-clause-spells g c = λ cut t.
+pub returns : goal.returns
+returns g c = λ cut t.
     let s = slot_in (g.S.Words.memory c.args.store.now) c.args.slot in
     let q = spliced_pages _ s _ _ _ _ _ _ _ _ cut t c.requires.slot.spells.pages c.weight_of.ensures c.weight_of-2.ensures c.top_of.ensures in
     let r = c.in-Ok.ensures.ok in
@@ -55,4 +45,6 @@ returns-clause-spells g c = λ cut t.
     c.requires.offset c.requires.out refl ef (reach _ _ _ _ _ _ _ t c.weight_of.ensures c.top_of.ensures) et refl refl refl
     c.slide.ensures.carried c.slide.ensures.only.outside c.shift.ensures.shifted c.shift.ensures.below (omega arith)
     c.write.ensures.word c.write.ensures.only.outside c.slide-2.ensures.carried c.slide-2.ensures.only.outside c.clear.ensures.block c.clear.ensures.only.outside in
-    result_ok _ _ _ _ (splice_done _ _ _ _ cut s (has_room _ _ _ c.in-Ok.ensures.refused (λ e. false-true e) q)) (settled _ _ _ _ a.0 a.1 c.trim.ensures.same c.trim.ensures.len)
+    leaves _ _ _ _ _ tt (ap no_answer (splice_done _ _ _ _ cut s (has_room _ _ _ c.in-Ok.ensures.refused (λ e. false-true e) q))) (budging_same (g.S.Words.memory c.args.store.now) c.args.slot)
+    (settled _ _ _ _ a.0 a.1 c.trim.ensures.same c.trim.ensures.len)
+    (then_resized (then_edited (then_edited (then_edited (then_edited (then_edited r.only c.slide.ensures.only) c.shift.ensures.only) c.write.ensures.only) c.slide-2.ensures.only) c.clear.ensures.only) c.trim.ensures)

@@ -4,9 +4,11 @@ use Rattle.std.proofs.lemmas.Int.{to_z_pos}
 use Rattle.std.specs.Int.{w32}
 use Rattle.std.specs.Prelude.{pos}
 use Rattle.rh_defs.specs.Heap.{raised}
-use Rattle.rh_heap.specs.Spans.{SpellsIn}
+use Rattle.rh_defs.specs.Chain.{left_of, no_answer}
+use Rattle.rh_defs.proofs.HeapCalls.{extend-done}
+use Rattle.rh_heap.specs.Spans.{SpellsIn, heap_in}
 use Rattle.rh_slot.specs.Area.{slot_in}
-use Rattle.rh_slot.proofs.GrowLaws.{budged, all_blocks, words_grown, raised_by, slid, not_refused}
+use Rattle.rh_slot.proofs.GrowLaws.{budged, all_blocks, words_grown, raised_by, slid}
 use Rattle.rh_slot.proofs.growing.lengthen.Goals as goal
 
 pub shift-requires-clause-row : goal.shift-requires-clause-row
@@ -39,6 +41,17 @@ extend_heap-requires-clause-within g c =
     let d : to_z w32 (c.pages_for-more.result * 4096) ≡ pos (c.pages_for-more.result * 4096) = to_z_pos w32 (c.pages_for-more.result * 4096) (let r = c.in-Ok.ensures.ok in let l = r.len in omega (arith, g.met.S.Words.small c.grow_to.new.store c.args.slot.area.0)) in
     rw (s.heap, d) (let r = s.room in omega arith)
 
+pub unwrap-requires : goal.unwrap-requires
+unwrap-requires g c =
+    let s = slot_in (g.S.Words.memory c.args.store.now) c.args.slot in
+    let more = c.pages_for-more.result * 4096 in
+    let sl = slid (g.S.Words.memory c.args.store.now) _ _ c.args.slot _ _ _ _ c.requires.slot.spells c.in-Ok.ensures.ok c.shift.ensures.only.opened c.shift.ensures.below c.shift.ensures.only.outside.len
+    c.flex_place-from.ensures c.top_of-top.ensures c.heap_of.ensures in
+    let d : to_z w32 (c.pages_for-more.result * 4096) ≡ pos (c.pages_for-more.result * 4096) = to_z_pos w32 (c.pages_for-more.result * 4096) (let r = c.in-Ok.ensures.ok in let l = r.len in omega (arith, g.met.S.Words.small c.grow_to.new.store c.args.slot.area.0)) in
+    let fits = c.requires.slot.spells.words.heap.heap.fits in
+    let done = extend-done (to_z w32 more) (heap_in (g.S.Words.memory c.shift.new.store) c.heap_of.result) (rw (sl.heap, d) (omega arith)) in
+    rw (c.extend_heap.ensures.answer, done) refl
+
 pub returns-clause-spells : goal.returns-clause-spells
 returns-clause-spells g c =
     let s = slot_in (g.S.Words.memory c.args.store.now) c.args.slot in
@@ -54,7 +67,9 @@ returns-clause-spells g c =
     let sl = slid (g.S.Words.memory c.args.store.now) _ _ c.args.slot _ _ _ _ c.requires.slot.spells c.in-Ok.ensures.ok c.shift.ensures.only.opened c.shift.ensures.below c.shift.ensures.only.outside.len
     c.flex_place-from.ensures c.top_of-top.ensures c.heap_of.ensures in
     let d : to_z w32 (c.pages_for-more.result * 4096) ≡ pos (c.pages_for-more.result * 4096) = to_z_pos w32 (c.pages_for-more.result * 4096) (let r = c.in-Ok.ensures.ok in let l = r.len in omega (arith, g.met.S.Words.small c.grow_to.new.store c.args.slot.area.0)) in
-    let kept = not_refused c.extend_heap.result c.extend_heap.ensures.ok c.extend_heap.ensures.refused (λ l. let q = rw (sl.heap, d) at l in omega arith) in
+    let h = heap_in (g.S.Words.memory c.shift.new.store) c.heap_of.result in
+    let done = extend-done (to_z w32 more) h (rw (sl.heap, d) (omega arith)) in
+    let kept = subst (λ r. SpellsIn (g.S.Words.memory c.extend_heap.new.store) c.heap_of.result (left_of h (no_answer r))) done c.extend_heap.ensures.spells in
     let there = subst (λ h. SpellsIn (g.S.Words.memory c.extend_heap.new.store) c.heap_of.result h) (raised_by c.args.shortage more (to_z w32 more) s.heap _ d (ap (λ k. k * 4096) c.pages_for-more.ensures) sl.heap) kept in
     let outside = rw (sl.heap, c.heap_of.ensures) at c.extend_heap.ensures.only.outside in
     let words = budged _ _ _ s (raised c.args.shortage s.heap) more from (from + more) n _ (words_grown _ _ s c.requires.slot.spells r.same (omega arith)) ef refl (omega arith) (omega arith)

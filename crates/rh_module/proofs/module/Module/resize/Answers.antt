@@ -1,51 +1,39 @@
 -- The heap is short of what its need says, and has room once the area has grown by that.
-use Rattle.std.proofs.Common.{refl, sym, ap}
+use Rattle.std.proofs.Common.{refl}
 use Rattle.std.proofs.lemmas.Result.{err_from_is_err_and}
 use Rattle.rh_defs.specs.Heap.{resize}
-use Rattle.rh_defs.specs.Chain.{answer_of}
 use Rattle.rh_defs.specs.Module.{module_resize}
 use Rattle.rh_module.specs.Area.{heap_in}
 use Rattle.rh_module.proofs.SpanLaws.{is_span}
-use Rattle.rh_module.proofs.CallLaws.{kept}
-use Rattle.rh_module.proofs.GrowthLaws.{Grown, is_done, done_answer, done_spells}
+use Rattle.rh_module.proofs.CallLaws.{refuses}
+use Rattle.rh_module.proofs.GrowthLaws.{Grown, is_done, done}
 use Rattle.rh_module.proofs.NeedLaws.{passed, resize_refused, resize_no_room, resize_grown}
 use Rattle.rh_module.proofs.module.Module.resize.Goals as goal
 use Rattle.rh_module.proofs.module.Module.resize.Goals.{In_ok-lengthen}
 use Rattle.rh_module.proofs.module.Module.resize.Given as given
 
-pub returns-in-Err-clause-answer : goal.returns-in-Err-clause-answer
-returns-in-Err-clause-answer g c =
-    sym (ap answer_of (resize_refused c.span-span.ensures c.requires c.args.address c.args.delta c.ranges.delta c.in-Err.ensures c.resize_refusal.ensures.none c.resize_refusal.ensures.small))
-
-pub returns-in-Err-clause-spells : goal.returns-in-Err-clause-spells
-returns-in-Err-clause-spells g c =
-    kept (resize_refused c.span-span.ensures c.requires c.args.address c.args.delta c.ranges.delta c.in-Err.ensures c.resize_refusal.ensures.none c.resize_refusal.ensures.small) refl c.requires
-
-pub returns-in_err-lengthen-clause-answer : goal.returns-in_err-lengthen-clause-answer
-returns-in_err-lengthen-clause-answer g c =
+pub returns-in_err-shortage : goal.returns-in_err-shortage
+returns-in_err-shortage g c =
     let p = err_from_is_err_and c.from_residual.result c.from_residual.ensures.1 in
-    let refused = resize_no_room c.span-span.ensures c.requires c.args.address c.args.delta c.ranges.delta c.in-Ok.ensures c.pages_for.ensures c.in_err-lengthen.ensures.refused in
-    rw (p.1, p.2, c.in_err-lengthen.ensures.reason) (sym (ap answer_of refused))
+    rw (p.1, p.2) (refuses _ _ _ _ _ (resize_refused c.span-span.ensures c.requires c.args.address c.args.delta c.ranges.delta c.in_err-shortage.ensures) refl c.requires)
 
-pub returns-in_err-lengthen-clause-spells : goal.returns-in_err-lengthen-clause-spells
-returns-in_err-lengthen-clause-spells g c =
-    kept (resize_no_room c.span-span.ensures c.requires c.args.address c.args.delta c.ranges.delta c.in-Ok.ensures c.pages_for.ensures c.in_err-lengthen.ensures.refused) c.in_err-lengthen.ensures.err c.requires
+pub returns-in_err-lengthen : goal.returns-in_err-lengthen
+returns-in_err-lengthen g c =
+    let p = err_from_is_err_and c.from_residual-in_err-lengthen.result c.from_residual-in_err-lengthen.ensures.1 in
+    let refused = resize_no_room c.span-span.ensures c.requires c.args.address c.args.delta c.ranges.delta c.in_ok-shortage.ensures c.pages_for.ensures c.in_err-lengthen.ensures.refused in
+    rw (p.1, p.2, c.in_err-lengthen.ensures.reason) (refuses _ _ _ _ _ refused c.in_err-lengthen.ensures.err c.requires)
 
 pub resize-requires : goal.resize-requires
 resize-requires g c = is_span (g.S.Words.memory c.lengthen.new.store) c.args.self c.span-span.result _ c.span-span.ensures c.in_ok-lengthen.ensures.only.opened c.in_ok-lengthen.ensures.spells.spells
 
 grown : (g : given.Over) (c : In_ok-lengthen g)
     → let m = g.S.Words.memory c.args.store.now in let h = heap_in m c.args.self in
-    Grown (g.S.Words.memory c.lengthen.new.store) c.args.self c.span-span.result h c.in-Ok.shortage (resize c.args.address (passed c.args.delta)) (module_resize m.free c.args.address c.args.delta h)
+    Grown (g.S.Words.memory c.lengthen.new.store) c.args.self c.span-span.result h c.in_ok-shortage.shortage (resize c.args.address (passed c.args.delta)) (module_resize m.free c.args.address c.args.delta h)
 grown g c =
-    resize_grown c.span-span.ensures c.requires c.args.address c.args.delta c.ranges.delta (g.S.Words.memory c.lengthen.new.store) c.in-Ok.ensures c.pages_for.ensures c.in_ok-lengthen.ensures.room c.in_ok-lengthen.ensures.spells
+    resize_grown c.span-span.ensures c.requires c.args.address c.args.delta c.ranges.delta (g.S.Words.memory c.lengthen.new.store) c.in_ok-shortage.ensures c.pages_for.ensures c.in_ok-lengthen.ensures.room c.in_ok-lengthen.ensures.spells
 
 pub unwrap-requires : goal.unwrap-requires
-unwrap-requires g c = is_done (grown g (goal.at.unwrap-requires g c).In_ok-lengthen) c.resize.result c.resize.ensures.answer
+unwrap-requires g c = is_done (grown g (goal.at.unwrap-requires g c).In_ok-lengthen) (g.S.Words.memory c.args.store.now) _ _ c.resize.ensures
 
-pub returns-clause-answer : goal.returns-clause-answer
-returns-clause-answer g c = done_answer (grown g (goal.at.returns-clause-answer g c).In_ok-lengthen) c.resize.result c.unwrap.result c.resize.ensures.answer c.unwrap.ensures
-
-pub returns-clause-spells : goal.returns-clause-spells
-returns-clause-spells g c =
-    done_spells (grown g (goal.at.returns-clause-spells g c).In_ok-lengthen) (g.S.Words.memory c.resize.new.store) (heap_in (g.S.Words.memory c.args.store.now) c.args.self) c.resize.ensures.only c.resize.ensures.spells
+pub returns : goal.returns
+returns g c = done (grown g (goal.at.returns g c).In_ok-lengthen) _ _ _ c.resize.ensures _ c.unwrap.ensures c.in_ok-lengthen.ensures.only

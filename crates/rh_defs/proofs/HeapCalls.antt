@@ -1,0 +1,58 @@
+-- What releases and changes of the end are granted.
+use Rattle.std.proofs.Common.{inl, inr, ◌≡◌, ℕ, ◌<◌, ◌≤◌, true, false, ltb, refl, sym, ap, ◌∙◌, arith}
+use Rattle.std.proofs.lemmas.Bool.Decides.{nat_tests}
+use Rattle.std.specs.Option.{option_map}
+use Rattle.std.proofs.lemmas.Bool.{cases_lt}
+use Rattle.std.specs.Prelude.{Option, Some, None, Result, Ok, Err, ℤ, ok_or}
+use Rattle.rh_defs.specs.Chain.{answer_of, no_answer}
+use Rattle.rh_defs.specs.Pieces.{Split, moved}
+use Rattle.rh_defs.specs.Heap.{Segment, Heap, base, block_at, released, release, release_found, released_at, extend, extended}
+use Rattle.rh_defs.specs.declared.heap.HeapRefusal.{HeapRefusal}
+use Rattle.rh_defs.specs.declared.heap.HeapRefusal.TheVariants.{NotABlock, ExcessiveShrink}
+use Rattle.rh_defs.proofs.HeapLists.{cond_true, cond_false}
+
+pub released_at-none : (address : ℕ) (h : Heap) → block_at address h ≡ None → released_at address h ≡ Err NotABlock
+released_at-none address h e = ap (λ o. ok_or (option_map (λ s. released s h) o) NotABlock) e
+
+pub released_at-some : (address : ℕ) (h : Heap) (b : Split Segment) → block_at address h ≡ Some b → released_at address h ≡ Ok (release address h)
+released_at-some address h b e = ap (λ o. ok_or (option_map (λ s. released s h) o) NotABlock) e ∙ ap (λ o. Ok (release_found o h)) (sym e)
+
+-- what a release's answer says
+pub released-found : (address : ℕ) (h : Heap) {x : Unit {0}} → Ok x ≡ answer_of (no_answer (released_at address h)) → (b : Split Segment) × (block_at address h ≡ Some b)
+released-found address h e = go (block_at address h) refl
+  where
+    go : (o : Option (Split Segment)) → block_at address h ≡ o → (b : Split Segment) × (block_at address h ≡ Some b)
+    go None q = absurd (let bad = e ∙ ap (λ g. answer_of (no_answer g)) (released_at-none address h q) in cc)
+    go (Some b) q = (b, q)
+
+pub released-refused : (address : ℕ) (h : Heap) {refusal : HeapRefusal} → Err refusal ≡ answer_of (no_answer (released_at address h)) → (block_at address h ≡ None) × (refusal ≡ NotABlock)
+released-refused address h {refusal} e = go (block_at address h) refl
+  where
+    go : (o : Option (Split Segment)) → block_at address h ≡ o → (block_at address h ≡ None) × (refusal ≡ NotABlock)
+    go None q = (q, let is : ◌≡◌ {A = Result (Unit {0}) HeapRefusal} (Err refusal) (Err NotABlock) = e ∙ ap (λ g. answer_of (no_answer g)) (released_at-none address h q) in cc)
+    go (Some b) q = absurd (let bad = e ∙ ap (λ g. answer_of (no_answer g)) (released_at-some address h b q) in cc)
+
+below : (x y : ℕ) → x < y → ltb x y ≡ true
+below x y l = grind (arith, nat_tests)
+
+not_below : (x y : ℕ) → y ≤ x → ltb x y ≡ false
+not_below x y l = grind (arith, nat_tests)
+
+pub extend-low : (delta : ℤ) (h : Heap) → moved h.end delta < base h → extend delta h ≡ Err ExcessiveShrink
+extend-low delta h l = cond_true (ltb (moved h.end delta) (base h)) _ _ (below (moved h.end delta) (base h) l)
+
+pub extend-done : (delta : ℤ) (h : Heap) → base h ≤ moved h.end delta → extend delta h ≡ Ok (extended delta h)
+extend-done delta h l = cond_false (ltb (moved h.end delta) (base h)) _ _ (not_below (moved h.end delta) (base h) l)
+
+-- what the answer of a change of the end says
+pub extend-fits : (delta : ℤ) (h : Heap) {x : Unit {0}} → Ok x ≡ answer_of (no_answer (extend delta h)) → base h ≤ moved h.end delta
+extend-fits delta h e = elim (cases_lt (moved h.end delta) (base h)) [
+  | inl l ↦ absurd (let bad = e ∙ ap (λ g. answer_of (no_answer g)) (extend-low delta h l) in cc)
+  | inr l ↦ l
+]
+
+pub extend-refused : (delta : ℤ) (h : Heap) {refusal : HeapRefusal} → Err refusal ≡ answer_of (no_answer (extend delta h)) → (moved h.end delta < base h) × (refusal ≡ ExcessiveShrink)
+extend-refused delta h {refusal} e = elim (cases_lt (moved h.end delta) (base h)) [
+  | inl l ↦ (l, let is : ◌≡◌ {A = Result (Unit {0}) HeapRefusal} (Err refusal) (Err ExcessiveShrink) = e ∙ ap (λ g. answer_of (no_answer g)) (extend-low delta h l) in cc)
+  | inr l ↦ absurd (let bad = e ∙ ap (λ g. answer_of (no_answer g)) (extend-done delta h l) in cc)
+]
