@@ -1,15 +1,11 @@
 -- The anchors of a slot's blocks, and what its calls keep of them.
-use Rattle.std.proofs.Common.{◌≡◌, ◌≢◌, ℕ, ◌+◌, ◌≤◌, ◌<◌, Bool, true, false, cond, refl, sym, arith, List, [], ◌∷◌, ◌++◌, length}
+use Rattle.std.proofs.Common.{◌≡◌, ◌≢◌, ℕ, ◌+◌, ◌<◌, Bool, true, false, cond, refl, sym, List, [], ◌∷◌, ◌++◌}
 use Rattle.std.specs.Prelude.{Option, Some, None, is_some, ◌==◌}
-use Rattle.std.proofs.Common.{length-append, length-take, length-drop}
-use Rattle.std.proofs.lemmas.List.{length-replicate}
 use Rattle.std.specs.Option.{option_map}
-use borrow.Author.Tests.{ltb-false, eqb-false}
-use Rattle.rh_defs.specs.Pieces.{Split, first_at, behind, written, zeros}
-use Rattle.rh_defs.specs.Slot.{Slot, Flex, weight, slot_pages, flex_start, block_of, with_bytes, slot_begin, slot_alloc, slot_block, slot_put}
-use Rattle.rh_defs.specs.Slot.{IsFree, HaveAnchors, IsSlot}
-use Rattle.rh_defs.proofs.Chains.{OnGrant, granted, granted-with, granted-unless, found_or-grants}
-use Rattle.rh_defs.proofs.Cuts.{IsCut, first_at-cuts, cut-total, total-append}
+use borrow.Author.Tests.{eqb-false}
+use Rattle.rh_defs.specs.Pieces.{Split, first_at, behind}
+use Rattle.rh_defs.specs.Slot.{Flex}
+use Rattle.rh_defs.specs.Slot.{IsFree, HaveAnchors}
 
 -- no block has the anchor
 pub is_free : (size : Flex → ℕ) (k place : ℕ) (blocks : List Flex) → is_some (first_at size (λ _ b. b.anchor == k) place blocks) ≡ false → IsFree k blocks
@@ -45,42 +41,3 @@ pub anchors-append : (blocks : List Flex) (b : Flex) → HaveAnchors blocks → 
 anchors-append [] b h free small = (small, tt, tt)
 anchors-append (c ∷ blocks) b h free small =
     (h.0, free-append c.anchor blocks b h.1 (λ e. free.0 (sym e)), anchors-append blocks b h.2 free.1 small)
-
--- ---- the calls
-
--- what a call leaves of a slot, where so many pages are free
-pub record IsRoomed (free : ℕ) (old new : Slot) : Type 0 where
-  pub room : slot_pages new ≤ free + slot_pages old
-  pub slot : IsSlot new
-
-pub slot_begin-grants : (free : ℕ) → OnGrant (λ s. (slot_pages s ≤ free) × IsSlot s) (slot_begin free)
-unfolding slot_begin
-slot_begin-grants free = granted-unless _ _ _ λ room. granted (omega (arith, ltb-false _ _ room), record { heap = record { tidy = tt; fits = omega arith; multiple = omega arith }; anchors = tt })
-
-pub slot_alloc-grants : (free k n : ℕ) (s : Slot) → k < 64 → IsSlot s → OnGrant (λ (p : Slot × ℕ). IsRoomed free s p.0) (slot_alloc free k n s)
-unfolding slot_alloc
-slot_alloc-grants free k n s small h =
-    granted-unless _ _ _ λ unused.
-    granted-unless _ _ _ λ room.
-    granted (record {
-      room = omega (arith, ltb-false _ _ room, total-append weight s.blocks (record { anchor = k; bytes = zeros n } ∷ []), length-replicate {A = ℕ} n 0);
-      slot = record { heap = h.heap; anchors = anchors-append s.blocks _ h.anchors (is_free weight k (flex_start s) s.blocks unused) small };
-    })
-
--- bytes written over a range that is whole inside leave the length
-pub length-written : (bytes : List ℕ) (offset : ℕ) (new : List ℕ) → offset + length new ≤ length bytes → length (written bytes offset new) ≡ length bytes
-length-written bytes offset new h =
-    simp (length-append, length-take, length-drop) (omega arith)
-
-pub slot_put-grants : (free k offset : ℕ) (bytes : List ℕ) (s : Slot) → IsSlot s → OnGrant (λ (s' : Slot). IsRoomed free s s') (slot_put k offset bytes s)
-unfolding slot_put slot_block
-slot_put-grants free k offset bytes s h =
-    granted-with _ (found_or-grants (IsCut weight (λ _ b. b.anchor == k) (flex_start s) s.blocks) (block_of k s) _ (first_at-cuts weight (λ _ b. b.anchor == k) (flex_start s) s.blocks)) λ b cut.
-    granted-unless _ _ _ λ inside.
-    granted (kept b cut (ltb-false _ _ inside))
-  where
-    kept : (b : Split Flex) → IsCut weight (λ _ c. c.anchor == k) (flex_start s) s.blocks b → offset + length bytes ≤ length b.here.bytes → IsRoomed free s (with_bytes b (written b.here.bytes offset bytes) s)
-    kept b cut inside = record {
-      room = omega (arith, length-written b.here.bytes offset bytes inside, total-append weight b.before (record { anchor = b.here.anchor; bytes = written b.here.bytes offset bytes } ∷ b.after), cut-total cut);
-      slot = record { heap = h.heap; anchors = anchors-here b.here _ b.after refl b.before (rw cut.whole h.anchors) };
-    }

@@ -1,6 +1,7 @@
 pub mod Chains
 pub mod Cuts
 pub mod Anchors
+pub mod SlotKeeps
 pub mod FileLemmas
 pub mod BytesLaws
 pub mod MemoryLaws
@@ -16,6 +17,8 @@ pub mod SlotRows
 pub mod ModuleLaws
 pub mod SlotLaws
 pub mod SlotRooms
+pub mod HeapKeeps
+pub mod ModuleKeeps
 pub mod SlotImageLaws
 pub mod MessageRows
 pub mod Rows

@@ -64,8 +64,7 @@ found_spelled b end n low e =
     let k = length-part b 44 n in
     let within : n < end - 44 = omega arith in
     let byte : (i : ℕ) → i < end - 44 → get_or (part b 44 (end - 44)) i 0 ≡ get_or b (44 + i) 0 = λ i h. get-part b 44 (end - 44) i h in
-    let zero_there : get_or b (44 + n) 0 ≡ 0 = sym (byte n within) ∙ is_zero (get_or (part b 44 (end - 44)) n 0) r.1 in
-    (
+    let zero_there : get_or b (44 + n) 0 ≡ 0 = sym (byte n within) ∙ is_zero (get_or (part b 44 (end - 44)) n 0) r.1 in (
       low,
       ap (part b 44) k,
       all_plain b 44 n (λ i h z.
@@ -266,8 +265,7 @@ tail-named m name e p t =
     let ll = length-encoded m in
     let la = length-append name (zeros pad) in
     let lz = length-replicate {A = ℕ} pad 0 in
-    let one : part (encoded m) 44 (length name + 1) ≡ part (name_bytes name) 0 (length name + 1) = t (length name + 1) in
-    (
+    let one : part (encoded m) 44 (length name + 1) ≡ part (name_bytes name) 0 (length name + 1) = t (length name + 1) in (
       omega arith,
       t (length name) ∙ part-append_left name (zeros pad) 0 (length name) (omega arith) ∙ part_all name,
       p,

@@ -49,8 +49,7 @@ SpellWords-behind front b at k (n ∷ ns) e s =
 pub SpellWords-words : (ns tail : List ℕ) → AreWords ns → SpellWords (words ns ++ tail) 0 ns
 SpellWords-words [] tail w = tt
 SpellWords-words (n ∷ ns) tail w =
-    let e : words (n ∷ ns) ++ tail ≡ word_bytes n ++ (words ns ++ tail) = append_assoc (word_bytes n) (words ns) tail in
-    (
+    let e : words (n ∷ ns) ++ tail ≡ word_bytes n ++ (words ns ++ tail) = append_assoc (word_bytes n) (words ns) tail in (
       ap (λ l. word l 0) e ∙ word_first n (words ns ++ tail) w.0,
       subst (λ l. SpellWords l 4 ns) (sym e) (SpellWords-behind (word_bytes n) (words ns ++ tail) 0 4 ns (omega (arith, length-word_bytes n)) (SpellWords-words ns tail w.1)),
     )

@@ -74,7 +74,7 @@ pub record Grows (end : ℕ) (called : Result (Heap × ℕ) HeapRefusal) (grante
   pub granted_is : granted ≡ Ok (placed.heap, placed.address)
   pub end_is : placed.heap.end ≡ end
 
-placed_in-end : (bytes : List ℕ) (h : Heap) (o : Option (Split Segment)) → (placed_in bytes h o).heap.end ≡ h.end
+pub placed_in-end : (bytes : List ℕ) (h : Heap) (o : Option (Split Segment)) → (placed_in bytes h o).heap.end ≡ h.end
 placed_in-end bytes h None = refl
 placed_in-end bytes h (Some s) = refl
 
@@ -82,7 +82,7 @@ pub release_found-end : (o : Option (Split Segment)) (h : Heap) → (release_fou
 release_found-end None h = refl
 release_found-end (Some s) h = refl
 
-resized_by-end : (way : Way) (bytes : List ℕ) (s : Split Segment) (h : Heap) → (resized_by way bytes s h).heap.end ≡ h.end
+pub resized_by-end : (way : Way) (bytes : List ℕ) (s : Split Segment) (h : Heap) → (resized_by way bytes s h).heap.end ≡ h.end
 resized_by-end Stays bytes s h = refl
 resized_by-end Shrinks bytes s h = refl
 resized_by-end (GrowsIntoHole size rest) bytes s h = refl

@@ -1,5 +1,5 @@
 -- What a message says, and the bytes that spell it.
-use Rattle.std.specs.Prelude.{◌≡◌, ℕ, ◌+◌, ◌-◌, ◌^◌, ◌<◌, true, ◌==◌, if◌then◌else◌, List, [], ◌∷◌, ◌++◌, length, Option, Some, None}
+use Rattle.std.specs.Prelude.{◌≡◌, ℕ, ◌+◌, ◌-◌, ◌^◌, ◌<◌, Bool, true, false, ◌==◌, if◌then◌else◌, List, [], ◌∷◌, ◌++◌, length, Option, Some, None}
 use Rattle.rh_defs.specs.Bytes.{put, word_bytes}
 use Rattle.rh_defs.specs.Pieces.{round_up, zeros}
 use Rattle.rh_defs.specs.Pathnames.{is_pathname}
@@ -21,6 +21,12 @@ code_number Acknowledge = 19
 
 abbrev pub code_at : ℕ → Option EventCode
 code_at n = if n == 17 then Some User else if n == 18 then Some Recorded else if n == 19 then Some Acknowledge else None
+
+-- whether a message under the code wants an answer
+abbrev pub is_recorded : EventCode → Bool
+is_recorded User = false
+is_recorded Recorded = true
+is_recorded Acknowledge = false
 
 -- ---- actions
 abbrev pub action_number : Action → ℕ

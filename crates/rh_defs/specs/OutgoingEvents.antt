@@ -9,6 +9,7 @@ use Rattle.rh_defs.specs.Chain.{Granted, ◌>>=◌, ◌>>◌, refuse_if, found_o
 use Rattle.rh_defs.specs.Pieces.{pages_for, Split}
 use Rattle.rh_defs.specs.Slot.{Flex, flex_address, holds, slot_block}
 use Rattle.rh_defs.specs.Messages.{Parcel}
+use Rattle.rh_defs.specs.Post.{sendable}
 use Rattle.rh_defs.specs.Letters.{transmit_letter, load_letter}
 use Rattle.rh_defs.specs.Sender as sender
 use Rattle.rh_defs.specs.Desk.{Desk, Task, Scrap, next_ref, free_pages, task_at, with_task, with_sending, send_letter}
@@ -82,8 +83,9 @@ save_scrap d t m x source =
     let more : ℕ = scrap_shortage n d in
     let file : Scrap = record { load = next_ref d; bytes = source.here.bytes } in do
       refuse_if (is_some d.scrap) Busy
-      sent ← send_letter (load_letter t.handle m n) (wider more d)
+      sendable (load_letter t.handle m n) d.post
       refuse_if (nat_lt (free_pages d) more) NoRoom
+      sent ← send_letter (load_letter t.handle m n) (wider more d)
       Ok (with_sending t.handle (sender.saved x (next_ref d)) (record sent { scrap = Some file }), outcome.Saved n (next_ref d))
 
 -- a DataSaveAck for a record

@@ -9,13 +9,14 @@ abbrev pub with_heap_bytes : Split Segment → ℕ → List ℕ → Slot → Slo
 with_heap_bytes b offset bytes s =
     with_heap (record s.heap { segments = with_here b (Used (written (bytes_of b.here) offset bytes)) }) s
 
+-- a block, where it has so many bytes
+abbrev pub roomy_in : ℕ → Option (Split Segment) → Option (Split Segment)
+roomy_in n None = None
+roomy_in n (Some b) = if nat_le n (length (bytes_of b.here)) then Some b else None
+
 -- the block of the C heap at an address, where it has so many bytes
 abbrev pub buffer_at : ℕ → ℕ → Slot → Option (Split Segment)
-buffer_at address n s = roomy (heap_block_at address s)
-  where
-    roomy : Option (Split Segment) → Option (Split Segment)
-    roomy None = None
-    roomy (Some b) = if nat_le n (length (bytes_of b.here)) then Some b else None
+buffer_at address n s = roomy_in n (heap_block_at address s)
 
 -- the slot with bytes written at an address, in the block of the C heap that holds them
 abbrev pub written_heap : ℕ → List ℕ → Option (Split Segment) → Slot → Slot

@@ -7,9 +7,8 @@ use Rattle.rh_defs.specs.Pieces.{total}
 use Rattle.rh_defs.specs.Heap.{Heap, release}
 use Rattle.rh_defs.specs.Module.{module_claim, module_need_pages}
 use Rattle.rh_defs.specs.Blocks.{poked}
-use Rattle.rh_defs.specs.Messages.{Parcel, parcel_bytes, parcel_size}
-use Rattle.rh_defs.specs.declared.message.EventCode.{EventCode}
-use Rattle.rh_defs.specs.declared.message.EventCode.TheVariants.{User, Recorded, Acknowledge}
+use Rattle.rh_defs.specs.Messages.{Parcel, is_recorded, parcel_bytes, parcel_size}
+use Rattle.rh_defs.specs.declared.message.EventCode.TheVariants.{Acknowledge}
 use Rattle.rh_defs.specs.declared.message.Message.{Message}
 use Rattle.rh_defs.specs.declared.message.Letter.{Letter}
 
@@ -152,12 +151,6 @@ bounced p post =
 abbrev pub bounce_held : ℕ → Option Parcel → Post → Post
 bounce_held h None post = post
 bounce_held h (Some p) post = bounced p (record post { seats = with_held h None post.seats })
-
--- whether a message wants an answer
-abbrev pub is_recorded : EventCode → Bool
-is_recorded User = false
-is_recorded Recorded = true
-is_recorded Acknowledge = false
 
 abbrev pub behind_first : Parcel → Option (Parcel × List Parcel) → Option (Parcel × List Parcel)
 behind_first p None = None

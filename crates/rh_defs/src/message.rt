@@ -1,7 +1,7 @@
 //! Messages: what a task sends, and what a poll hands out.
 
 ghost use Rattle.std.specs.Prelude.{◌≡◌};
-ghost use Rattle.rh_defs.specs.Messages.{action_at, action_number, action_of, code_at, code_number};
+ghost use Rattle.rh_defs.specs.Messages.{action_at, action_number, action_of, code_at, code_number, is_recorded};
 
 use crate::ids::{Handle, Ref};
 use crate::pathname::Pathname;
@@ -39,6 +39,17 @@ impl EventCode {
             18 => Some(EventCode::Recorded),
             19 => Some(EventCode::Acknowledge),
             _ => None,
+        }
+    }
+
+    /// Whether a message under this code wants an answer: it is held until it has one, or comes back.
+    pub fn is_recorded(self) -> bool
+        ensures { result ≡ is_recorded self }
+    {
+        match self {
+            EventCode::User => false,
+            EventCode::Recorded => true,
+            EventCode::Acknowledge => false,
         }
     }
 }

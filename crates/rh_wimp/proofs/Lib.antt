@@ -1,2 +1,14 @@
 pub mod EncodeLaws
 pub mod DecodeLaws
+pub mod RowLaws
+pub mod RowEdits
+pub mod LinkLaws
+pub mod PostLaws
+pub mod CallLaws
+pub mod AnswerLaws
+pub mod SendLaws
+pub mod JoinLaws
+pub mod BounceLaws
+pub mod TakeLaws
+pub mod PollLaws
+pub mod FrameLaws

@@ -2,9 +2,16 @@
 #![tactic(auto)]
 
 mod bytes;
+mod chain;
 mod decoding;
 mod encoding;
 mod layout;
+mod placing;
+mod polling;
+mod queue;
+mod reading;
+mod sending;
 
 pub use decoding::decode;
 pub use encoding::encode;
+pub use queue::Queue;

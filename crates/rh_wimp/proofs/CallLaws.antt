@@ -1,0 +1,88 @@
+-- What calls on the module area leave of its blocks.
+use Rattle.std.proofs.Common.{◌≡◌, ℕ, ◌+◌, ◌≤◌, Bool, true, false, eqb, ltb, List, [], ◌++◌, length, take, drop, refl, sym, ap, subst, ◌∙◌, arith}
+use Rattle.std.proofs.lemmas.List.{length-replicate, take_at}
+use Rattle.std.specs.Prelude.{Option, Some, None, Ok, Err}
+use Rattle.rh_defs.specs.Bytes.{put}
+use Rattle.rh_defs.specs.Chain.{Granted, ◌>>=◌, ◌>>◌, refuse_if, answer_of, left_of, result_or}
+use Rattle.rh_defs.specs.Memory.{Memory, OnlyArea}
+use Rattle.rh_defs.specs.Pieces.{zeros, pages_for, Split}
+use Rattle.rh_defs.specs.Heap.{Heap, Segment, Placed, need, claim_growing, block_room, raised, block_at, release}
+use Rattle.rh_defs.specs.Module.{module_claim, module_free, grown_by}
+use Rattle.rh_defs.specs.declared.refusal.Refusal.TheVariants.{BadSize, NoRoom}
+use Rattle.rh_defs.proofs.BytesLaws.{put-parts}
+use Rattle.rh_defs.proofs.MemoryLaws.{OnlyArea-both}
+use Rattle.rh_defs.proofs.ModuleLaws.{module_free-some}
+use Rattle.rh_module.specs.Area.{SpellsIn, heap_in}
+use Rattle.rh_module.specs.declared.module.Module.{Module}
+use Rattle.rh_module.specs.Writes.{Wrote}
+use Rattle.rh_wimp.specs.Moves.{Turns}
+use Rattle.rh_defs.specs.Blocks.{block_bytes, poked, HasBlock}
+use Rattle.rh_defs.specs.Bytes.{word_bytes}
+use Rattle.rh_defs.specs.Messages.{encoded, encoded_length}
+use Rattle.rh_defs.specs.declared.message.Message.{Message}
+use Rattle.rh_module.proofs.BlockBytes.{heap_is, is_module}
+use Rattle.rh_defs.proofs.BlockCalls.{module_claim-puts, module_claim-has, module_free-there}
+use Rattle.rh_defs.proofs.BlockLaws.{Puts, has-poked, poked-row}
+use Rattle.rh_defs.proofs.MessageLaws.{length-word_bytes, length-encoded}
+
+pub turned : (m n : Memory) (rma : Module) (h : Heap) → OnlyArea m n rma.area.0 → SpellsIn n rma h → Turns m n rma h
+turned m n rma h o s = record { still = is_module n rma h o.opened s; heap = heap_is n rma h s; only = o }
+
+-- ---- claims
+pub record Claimed (m n : Memory) (rma : Module) (size block : ℕ) : Type 0 where
+  pub there : Heap × ℕ
+  pub granted : module_claim m.free size (heap_in m rma) ≡ Ok there
+  pub block_is : block ≡ there.1
+  pub turns : Turns m n rma there.0
+  pub puts : Puts (zeros (block_room size)) (heap_in m rma) there.0 there.1
+
+pub claimed : (m n : Memory) (rma : Module) (size block : ℕ) → Ok block ≡ answer_of (module_claim m.free size (heap_in m rma))
+    → SpellsIn n rma (left_of (heap_in m rma) (module_claim m.free size (heap_in m rma))) → OnlyArea m n rma.area.0 → Claimed m n rma size block
+claimed m n rma size block ea s o = go (module_claim m.free size (heap_in m rma)) refl ea s
+  where
+    go : (g : Granted (Heap × ℕ)) → module_claim m.free size (heap_in m rma) ≡ g → Ok block ≡ answer_of g → SpellsIn n rma (left_of (heap_in m rma) g) → Claimed m n rma size block
+    go (Err e) eg a t = absurd cc
+    go (Ok there) eg a t = record {
+      there = there;
+      granted = eg;
+      block_is = cc;
+      turns = turned m n rma there.0 o t;
+      puts = module_claim-puts m.free size (heap_in m rma) there eg;
+    }
+
+pub claimed-block : (m n : Memory) (rma : Module) (size block : ℕ) → Claimed m n rma size block → HasBlock block size (heap_in n rma)
+claimed-block m n rma size block c =
+    subst (λ (h : Heap). HasBlock block size h) (sym c.turns.heap) (subst (λ a. HasBlock a size c.there.0) (sym c.block_is) (module_claim-has m.free size (heap_in m rma) c.there c.granted))
+
+-- ---- writes in a row
+pub wrote-block : (m n : Memory) (rma : Module) (a o k : ℕ) (xs : List ℕ) → Wrote m n rma a o xs → HasBlock a k (heap_in m rma) → HasBlock a k (heap_in n rma)
+wrote-block m n rma a o k xs w b = subst (HasBlock a k) (sym w.heap) (has-poked a k o xs (heap_in m rma) b)
+
+pub first_bytes : (b : List ℕ) (m : Message) (n : ℕ) (c : List ℕ) → n ≡ encoded_length m → n ≤ length b → c ≡ put b 0 (encoded m) → take n c ≡ encoded m
+first_bytes b m n c e l ec =
+    let k = length-encoded m in
+    let p : c ≡ [] ++ (encoded m ++ drop (0 + length (encoded m)) b) = ec ∙ put-parts b 0 (encoded m) (omega arith) in
+    ap (take n) p ∙ take_at (encoded m) (drop (0 + length (encoded m)) b) n (omega arith)
+
+module _ (m n n1 n2 n3 : Memory) (rma : Module) (size block code : ℕ) (xs : List ℕ) where
+  pub placed-there : Claimed m n rma size block → Wrote n n1 rma block 0 (word_bytes 0) → Wrote n1 n2 rma block 4 (word_bytes code) → Wrote n2 n3 rma block 8 xs
+      → (there : Heap × ℕ) → module_claim m.free size (heap_in m rma) ≡ Ok there → Turns m n3 rma (poked there.1 0 (word_bytes 0 ++ (word_bytes code ++ xs)) there.0)
+  placed-there c w1 w2 w3 there e =
+      let same : ◌≡◌ {A = Heap × ℕ} c.there there = let q : ◌≡◌ {A = Granted (Heap × ℕ)} (Ok c.there) (Ok there) = sym c.granted ∙ e in cc in
+      let h : Heap = c.there.0 in
+      let e1 : heap_in n1 rma ≡ poked block 0 (word_bytes 0) h = w1.heap ∙ ap (poked block 0 (word_bytes 0)) c.turns.heap in
+      let e3 : heap_in n3 rma ≡ poked block 4 (word_bytes code ++ xs) (heap_in n1 rma) =
+      w3.heap ∙ ap (poked block 8 xs) w2.heap ∙ poked-row block 4 8 (word_bytes code) xs (heap_in n1 rma) (omega (arith, length-word_bytes code)) in
+      let e4 : heap_in n3 rma ≡ poked block 0 (word_bytes 0 ++ (word_bytes code ++ xs)) h =
+      e3 ∙ ap (poked block 4 (word_bytes code ++ xs)) e1 ∙ poked-row block 0 4 (word_bytes 0) (word_bytes code ++ xs) h (omega (arith, length-word_bytes 0)) in
+      subst (λ (x : Heap × ℕ). Turns m n3 rma (poked x.1 0 (word_bytes 0 ++ (word_bytes code ++ xs)) x.0)) same (record {
+        still = w3.still;
+        heap = e4 ∙ ap (λ a. poked a 0 (word_bytes 0 ++ (word_bytes code ++ xs)) h) c.block_is;
+        only = OnlyArea-both m n n3 rma.area.0 c.turns.only (OnlyArea-both n n1 n3 rma.area.0 w1.only (OnlyArea-both n1 n2 n3 rma.area.0 w2.only w3.only));
+      })
+
+-- ---- frees
+pub freed : (m n : Memory) (rma : Module) (a k : ℕ) → HasBlock a k (heap_in m rma) → OnlyArea m n rma.area.0
+    → SpellsIn n rma (result_or (heap_in m rma) (module_free a (heap_in m rma))) → Turns m n rma (release a (heap_in m rma))
+freed m n rma a k b o s =
+    turned m n rma (release a (heap_in m rma)) o (subst (λ g. SpellsIn n rma (result_or (heap_in m rma) g)) (module_free-there a (heap_in m rma) b.bytes b.found) s)

@@ -1,0 +1,67 @@
+-- The post stays where blocks of others come and go.
+use Rattle.std.proofs.Common.{◌≡◌, ℕ, ◌<◌, ◌≢◌, inl, inr, length, sym, subst, ◌∙◌}
+use Rattle.std.proofs.lemmas.Bool.{cases_eq}
+use Rattle.std.specs.Prelude.{Ok}
+use Rattle.rh_defs.specs.Heap.{Heap, release}
+use Rattle.rh_defs.specs.Module.{module_claim}
+use Rattle.rh_defs.specs.Blocks.{block_bytes, SameShape}
+use Rattle.rh_defs.specs.Post.{Post}
+use Rattle.rh_wimp.specs.Chains.{Chains, IsPost, Off, entry_at, row_at, rows_of, row_parcels}
+use Rattle.rh_defs.proofs.BlockLaws.{release-frees}
+use Rattle.rh_defs.proofs.BlockCalls.{module_claim-puts}
+use Rattle.rh_wimp.proofs.LinkLaws.{AllLie-kept}
+use Rattle.rh_wimp.proofs.RowLaws.{agree-off, row-kept, row-fresh}
+use Rattle.rh_wimp.proofs.SendLaws.{alike-ok}
+use Rattle.rh_defs.proofs.ShapeLaws.{module_claim-alike, release-alike}
+
+-- one block that holds no message changes, in both heaps alike
+module _ (h k : Heap) (q : Chains) (post : Post) (d : Heap) (a : ℕ) where
+  pub block-changed : IsPost h q post → ((j : ℕ) → j < length (rows_of post) → Off a (row_parcels (row_at (rows_of post) j))) → SameShape k d
+      → ((b : ℕ) → b ≢ a → block_bytes b k ≡ block_bytes b h) → ((b : ℕ) → b ≢ a → block_bytes b d ≡ block_bytes b post.heap) → block_bytes a k ≡ block_bytes a d → IsPost k q (record post { heap = d })
+  block-changed s off shape keeps keeps' same = record {
+    rows = record {
+      len = s.rows.len;
+      each = λ i l. row-kept h k (entry_at q.entries i) (row_at (rows_of post) i)
+          (agree-off h k a a (row_parcels (row_at (rows_of post) i)) (record { each = λ b ne ne'. keeps b ne }) (off i l) (off i l)) (s.rows.each i l);
+      own = s.rows.own;
+      cross = s.rows.cross;
+      handles = s.rows.handles;
+    };
+    linked = record {
+      shape = shape;
+      lie = λ i l. AllLie-kept post.heap d a (row_parcels (row_at (rows_of post) i)) keeps' (off i l) (s.linked.lie i l);
+      others = λ b out. elim (cases_eq b a) [
+        | inl z ↦ subst (λ m. block_bytes m k ≡ block_bytes m d) (sym z) same
+        | inr ne ↦ keeps b ne ∙ s.linked.others b out ∙ sym (keeps' b ne)
+      ];
+    };
+    live = s.live;
+    recipients = s.recipients;
+    few = s.few;
+    next_ref = s.next_ref;
+  }
+
+-- a block that others claim: the plain heap grants the same, and the post stays
+pub record ClaimedBeside (h : Heap) (q : Chains) (post : Post) (free n : ℕ) (there : Heap × ℕ) : Type 0 where
+  pub plain : Heap
+  pub granted : module_claim free n post.heap ≡ Ok (plain, there.1)
+  pub spells : IsPost there.0 q (record post { heap = plain })
+
+pub claimed-beside : (h : Heap) (q : Chains) (post : Post) (free n : ℕ) (there : Heap × ℕ) → IsPost h q post → module_claim free n h ≡ Ok there → ClaimedBeside h q post free n there
+claimed-beside h q post free n there s e =
+    let d = alike-ok (module_claim free n h) (module_claim free n post.heap) there (module_claim-alike free n h post.heap s.linked.shape) e in
+    let w = module_claim-puts free n h there e in
+    let v = module_claim-puts free n post.heap (d.0, there.1) d.1.0 in
+    record {
+      plain = d.0;
+      granted = d.1.0;
+      spells = block-changed h there.0 q post d.0 there.1 s (λ j l. row-fresh h (entry_at q.entries j) (row_at (rows_of post) j) there.1 w.fresh (s.rows.each j l)) d.1.1 w.others v.others (w.here ∙ sym v.here);
+    }
+
+-- a block of others that is freed
+pub freed-beside : (h : Heap) (q : Chains) (post : Post) (a : ℕ) → IsPost h q post → ((j : ℕ) → j < length (rows_of post) → Off a (row_parcels (row_at (rows_of post) j)))
+    → IsPost (release a h) q (record post { heap = release a post.heap })
+freed-beside h q post a s off =
+    let w = release-frees a h in
+    let v = release-frees a post.heap in
+    block-changed h (release a h) q post (release a post.heap) a s off (release-alike a h post.heap s.linked.shape) w.others v.others (w.gone ∙ sym v.gone)

@@ -1,0 +1,13 @@
+-- The new entry is that of a task with no messages.
+use Rattle.std.proofs.Common.{◌≡◌, ◌++◌, [], ◌∷◌, sym, subst}
+use Rattle.rh_wimp.specs.Chains.{Chains, HasEntry, IsPost, joined}
+use Rattle.rh_defs.specs.Post.{post_join}
+use Rattle.rh_wimp.proofs.JoinLaws.{join-spells}
+use Rattle.rh_wimp.proofs.queue.Queue.join.Goals as goal
+
+pub returns-clause-spells : goal.returns-clause-spells
+returns-clause-spells c = λ h post s.
+    let q : Chains = record { entries = c.self.inside.entries.items; live = c.self.inside.live; next_ref = c.self.inside.next_ref } in
+    let s' : IsPost h q post = subst (λ (k : Chains). IsPost h k post) (sym c.self.view_is) s in
+    subst (λ es. IsPost h (record { entries = es; live = q.live; next_ref = q.next_ref }) (post_join c.args.handle post)) (sym c.push_reserved.ensures.items)
+    (join-spells h q post c.args.handle s' (λ e. c.requires.new (subst (HasEntry c.args.handle) c.self.view_is e)))

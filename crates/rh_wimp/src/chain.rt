@@ -1,0 +1,74 @@
+//! A live task's messages: the chain of those queued for it, and the one that it holds.
+ghost use Rattle.std.specs.Prelude.{◌≡◌, ◌≢◌, ◌<◌, ◌^◌, ◌==◌, vec_len, vec_capacity, set, Some, None};
+ghost use Rattle.std.specs.List.{position};
+ghost use Rattle.rh_defs.specs.Memory.{Memory};
+ghost use Rattle.rh_module.specs.Area.{IsModule, heap_in};
+ghost use Rattle.rh_wimp.specs.Moves.{Relinks};
+ghost use Rattle.rh_defs.specs.Blocks.{HasBlock};
+ghost use Rattle.rh_wimp.specs.Chains.{entry_at, lengthened, shortened};
+
+use crate::layout::LINK;
+use rh_defs::Handle;
+use rh_module::Module;
+use rh_store::Words;
+
+/// A live handle, with the offsets in the module area of the first and last block of its chain and of the block that it
+/// holds, 0 for none.
+#[derive(Clone, Copy, Debug)]
+pub(crate) struct Entry {
+    pub handle: Handle,
+    pub first: usize,
+    pub last: usize,
+    pub held: usize,
+}
+
+/// The place of the entry with a handle.
+pub fn find(entries: &Vec<Entry>, handle: Handle) -> Option<usize>
+    ensures { result ≡ position (λ e. e.handle == handle) entries.now.items }
+{
+    entries.iter().position(|e| e.handle == handle)
+}
+
+/// The entry without the first block of its chain, where the next one is this, 0 for none.
+pub fn shortened(entry: Entry, next: usize) -> Entry
+    ensures { result ≡ shortened next entry }
+{
+    Entry {
+        first: next,
+        last: if next == 0 { 0 } else { entry.last },
+        ..entry
+    }
+}
+
+/// Puts a block whose link is 0 at the end of a chain.
+pub fn append<S: Words>(
+    store: &mut S,
+    rma: Module,
+    entries: &mut Vec<Entry>,
+    at: usize,
+    block: usize,
+)
+    requires module { IsModule (S.memory store.old) rma }
+    requires within { at < vec_len entries.old }
+    requires last { (entry_at entries.old.items at).last ≢ 0 → HasBlock (entry_at entries.old.items at).last 4 (heap_in (S.memory store.old) rma) }
+    requires small { block < 2 ^ 32 }
+    ensures entries { entries.new.items ≡ set entries.old.items at (lengthened block (entry_at entries.old.items at)) }
+    ensures len { vec_len entries.new ≡ vec_len entries.old }
+    ensures capacity { vec_capacity entries.new ≡ vec_capacity entries.old }
+    ensures heap { Relinks (S.memory store.old) (S.memory store.new) rma (entry_at entries.old.items at).last block }
+{
+    let entry = entries[at];
+    if entry.last == 0 {
+        entries[at] = Entry {
+            first: block,
+            last: block,
+            ..entry
+        };
+        return;
+    }
+    rma.write_word(store, entry.last, LINK, block as u32);
+    entries[at] = Entry {
+        last: block,
+        ..entry
+    };
+}

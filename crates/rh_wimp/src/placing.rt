@@ -1,0 +1,81 @@
+//! Messages into blocks of the module area, and blocks that go.
+ghost use Rattle.std.specs.Prelude.{◌≡◌, ◌≢◌, ◌<◌, ◌==◌, ◌++◌, ℕ, List, Some, None, Ok, false, OnErr, IfOk, vec_len, vec_capacity, set};
+ghost use Rattle.rh_defs.specs.Bytes.{word};
+ghost use Rattle.rh_defs.specs.Chain.{answer_of};
+ghost use Rattle.rh_defs.specs.Heap.{Heap, release};
+ghost use Rattle.rh_defs.specs.Memory.{Memory, OnlyArea};
+ghost use Rattle.rh_defs.specs.Module.{module_claim};
+ghost use Rattle.rh_module.specs.Area.{IsModule, heap_in};
+ghost use Rattle.rh_wimp.specs.Moves.{Turns};
+ghost use Rattle.rh_defs.specs.Blocks.{HasBlock, block_bytes, poked};
+ghost use Rattle.rh_wimp.specs.Chains.{entry_at, emptied};
+ghost use Rattle.rh_defs.specs.Bytes.{word_bytes};
+ghost use Rattle.rh_defs.specs.Messages.{Fits, code_number, encoded, parcel_size};
+
+use crate::chain::Entry;
+use crate::encoding::encode;
+use crate::layout::{CODE, LINK, MESSAGE, MOST_LENGTH, MY_REF};
+use rh_defs::{EventCode, Message, Ref, Refusal};
+use rh_module::Module;
+use rh_store::Pages;
+
+/// Claims a block and writes a message into it, with link 0. Refused (`NoRoom`), and nothing changed, where the module
+/// area can't grow.
+pub fn place<S: Pages>(
+    store: &mut S,
+    rma: Module,
+    code: EventCode,
+    message: &Message,
+) -> Result<usize, Refusal>
+    requires { IsModule (S.memory store.old) rma }
+    ensures answer { result ≡ answer_of (module_claim (S.memory store.old).free (parcel_size message.now) (heap_in (S.memory store.old) rma)) }
+    ensures placed { (there : Heap × ℕ) → module_claim (S.memory store.old).free (parcel_size message.now) (heap_in (S.memory store.old) rma) ≡ Ok there
+        → Turns (S.memory store.old) (S.memory store.new) rma (poked there.1 0 (word_bytes 0 ++ (word_bytes (code_number code) ++ encoded message.now)) there.0) }
+    ensures fits { Fits message.now }
+    ensures err { OnErr result (S.memory store.new ≡ S.memory store.old) }
+{
+    let mut bytes = [0u8; MOST_LENGTH];
+    let length = encode(message, &mut bytes);
+    let block = rma.claim(store, (MESSAGE + length) as u32)?;
+    rma.write_word(store, block, LINK, 0);
+    rma.write_word(store, block, CODE, code.number());
+    rma.write_bytes(store, block, MESSAGE, &bytes[..length]);
+    Ok(block)
+}
+
+/// Whether a task holds a message with this ref.
+pub fn holds_ref<S: Pages>(store: &S, rma: Module, entry: Entry, my_ref: Ref) -> bool
+    requires module { IsModule (S.memory store.now) rma }
+    requires held { entry.held ≢ 0 → HasBlock entry.held 20 (heap_in (S.memory store.now) rma) }
+    ensures none { entry.held ≡ 0 → result ≡ false }
+    ensures some { entry.held ≢ 0 → (bytes : List ℕ) → block_bytes entry.held (heap_in (S.memory store.now) rma) ≡ Some bytes → result ≡ (word bytes 16 == my_ref) }
+{
+    if entry.held == 0 {
+        return false;
+    }
+    rma.read_word(store, entry.held, MESSAGE + MY_REF) == my_ref.0
+}
+
+/// Frees a block.
+pub fn free<S: Pages>(store: &mut S, rma: Module, block: usize)
+    requires module { IsModule (S.memory store.old) rma }
+    requires block { HasBlock block 4 (heap_in (S.memory store.old) rma) }
+    ensures { Turns (S.memory store.old) (S.memory store.new) rma (release block (heap_in (S.memory store.old) rma)) }
+{
+    let _freed = rma.free(store, block);
+}
+
+/// Frees the block that a task holds.
+pub fn put_down<S: Pages>(store: &mut S, rma: Module, entries: &mut Vec<Entry>, at: usize)
+    requires module { IsModule (S.memory store.old) rma }
+    requires within { at < vec_len entries.old }
+    requires held { HasBlock (entry_at entries.old.items at).held 4 (heap_in (S.memory store.old) rma) }
+    ensures entries { entries.new.items ≡ set entries.old.items at (emptied (entry_at entries.old.items at)) }
+    ensures len { vec_len entries.new ≡ vec_len entries.old }
+    ensures capacity { vec_capacity entries.new ≡ vec_capacity entries.old }
+    ensures heap { Turns (S.memory store.old) (S.memory store.new) rma (release (entry_at entries.old.items at).held (heap_in (S.memory store.old) rma)) }
+{
+    let entry = entries[at];
+    free(store, rma, entry.held);
+    entries[at] = Entry { held: 0, ..entry };
+}

@@ -1,0 +1,74 @@
+//! The queue of messages: a chain of blocks for each live task.
+ghost use Rattle.std.specs.Prelude.{◌≡◌, ◌<◌, [], IfOk, length};
+ghost use Rattle.rh_defs.specs.Heap.{Heap};
+ghost use Rattle.rh_defs.specs.Post.{Post, post_join};
+ghost use Rattle.rh_wimp.specs.Chains.{HasEntry, IsPost, joined};
+
+use crate::chain::Entry;
+use rh_defs::{Handle, Ref};
+use std::alloc::{AllocError, Global};
+use std::marker::Model;
+
+/// At most so many messages are live: queued, or held.
+pub(crate) const MOST_MESSAGES: usize = 256;
+
+/// At most so many tasks are live.
+const MOST_TASKS: usize = 32;
+
+/// For each live task a chain of messages in blocks of the module area, and the message that it holds.
+#[derive(Drop)]
+pub struct Queue {
+    /// The live handles in order, with room for 32.
+    pub(crate) entries: Vec<Entry>,
+    /// How many messages are live.
+    pub(crate) live: usize,
+    /// The ref that is given next; 2^32 where all were given.
+    pub(crate) next_ref: u64,
+}
+
+impl Model for Queue {
+    ghost use Rattle.std.specs.Prelude.{◌≡◌, ◌≤◌, ◌^◌, vec_capacity, vec_len};
+    ghost use Rattle.rh_wimp.specs.Chains.{Chains};
+
+    ghost Value = { Chains };
+
+    ghost view = { λ q. record { entries = q.entries.items; live = q.live; next_ref = q.next_ref } };
+
+    ghost invariant = { λ q. (vec_capacity q.entries ≡ 32) × (q.next_ref ≤ 2 ^ 32) };
+}
+
+impl Queue {
+    /// An empty queue whose first ref is 1, with room for 32 tasks. AllocError where memory is refused.
+    pub fn new(alloc: Global) -> Result<Queue, AllocError>
+        ensures { IfOk result (λ queue. queue ≡ record { entries = []; live = 0; next_ref = 1 }) }
+    {
+        Queue::with_next_ref(alloc, Ref(1))
+    }
+
+    /// An empty queue whose next ref is this one.
+    pub fn with_next_ref(alloc: Global, next_ref: Ref) -> Result<Queue, AllocError>
+        ensures { IfOk result (λ queue. queue ≡ record { entries = []; live = 0; next_ref = next_ref }) }
+    {
+        let entries = Vec::with_capacity(alloc, MOST_TASKS)?;
+        Ok(Queue {
+            entries,
+            live: 0,
+            next_ref: u64::from(next_ref.0),
+        })
+    }
+
+    /// Makes a handle live.
+    pub fn join(&mut self, handle: Handle)
+        requires few { length self.old.entries < 32 }
+        requires new { ¬ HasEntry handle self.old }
+        ensures entries { self.new ≡ joined handle self.old }
+        ensures spells { (h : Heap) (post : Post) → IsPost h self.old post → IsPost h self.new (post_join handle post) }
+    {
+        self.entries.push_reserved(Entry {
+            handle,
+            first: 0,
+            last: 0,
+            held: 0,
+        });
+    }
+}

@@ -1,0 +1,44 @@
+//! Messages out of blocks.
+ghost use Rattle.std.specs.Prelude.{◌≡◌, length};
+ghost use Rattle.rh_defs.specs.Memory.{Memory};
+ghost use Rattle.rh_module.specs.Area.{IsModule};
+ghost use Rattle.rh_wimp.specs.Chains.{LiesAt};
+ghost use Rattle.rh_defs.specs.Messages.{Parcel};
+
+use crate::decoding::decode;
+use crate::layout::{CODE, MESSAGE, MOST_LENGTH};
+use rh_defs::{EventCode, Message};
+use rh_module::Module;
+use rh_store::Words;
+
+/// The message that lies in a block, by a buffer with room for it.
+fn read_into<S: Words>(store: &S, rma: Module, block: usize, buffer: &mut [u8]) -> Message
+    requires module { IsModule (S.memory store.now) rma }
+    requires room { length buffer.old ≡ 256 }
+    requires lies { (p : Parcel) × LiesAt (S.memory store.now) rma block p }
+    ensures { (p : Parcel) → LiesAt (S.memory store.now) rma block p → result ≡ p.message }
+{
+    let length = rma.read_word(store, block, MESSAGE) as usize;
+    let bytes = &mut buffer[..length];
+    rma.read_bytes(store, block, MESSAGE, bytes);
+    decode(bytes).unwrap()
+}
+
+/// The message that lies in a block.
+pub fn read_message<S: Words>(store: &S, rma: Module, block: usize) -> Message
+    requires module { IsModule (S.memory store.now) rma }
+    requires lies { (p : Parcel) × LiesAt (S.memory store.now) rma block p }
+    ensures { (p : Parcel) → LiesAt (S.memory store.now) rma block p → result ≡ p.message }
+{
+    let mut buffer = [0u8; MOST_LENGTH];
+    read_into(store, rma, block, &mut buffer)
+}
+
+/// The event code of the message that lies in a block.
+pub fn read_code<S: Words>(store: &S, rma: Module, block: usize) -> EventCode
+    requires module { IsModule (S.memory store.now) rma }
+    requires lies { (p : Parcel) × LiesAt (S.memory store.now) rma block p }
+    ensures { (p : Parcel) → LiesAt (S.memory store.now) rma block p → result ≡ p.code }
+{
+    EventCode::from_number(rma.read_word(store, block, CODE)).unwrap()
+}

@@ -1,0 +1,119 @@
+//! Letters into the queue.
+ghost use Rattle.std.specs.Prelude.{◌≡◌, ◌<◌, ◌≤◌, ℕ, List, Some, None, OnErr, OnOk, IfOk, IfErr, vec_capacity, vec_len, length};
+ghost use Rattle.rh_defs.specs.Chain.{answer_of, left_of};
+ghost use Rattle.rh_defs.specs.Memory.{OnlyArea};
+ghost use Rattle.rh_defs.specs.Post.{Post, post_send, post_send_pages};
+ghost use Rattle.rh_module.specs.Area.{IsModule, heap_in};
+ghost use Rattle.rh_wimp.specs.Chains.{HasEntry, Row, RowsLie, SpellsPost, entry_at, refusal_for, row_at};
+ghost use Rattle.rh_wimp.specs.Moves.{Settled};
+
+use crate::chain::{Entry, append, find};
+use crate::encoding::body_length;
+use crate::layout::{ACTION, MESSAGE};
+use crate::placing::{holds_ref, place, put_down};
+use crate::queue::{MOST_MESSAGES, Queue};
+use rh_defs::{Handle, Letter, Message, Ref, Refusal};
+use rh_module::Module;
+use rh_store::Pages;
+
+impl Queue {
+    /// The pages that a send would take. Refused as the send is, but for `NoRoom`.
+    pub fn send_pages<S: Pages>(
+        &self,
+        store: &S,
+        rma: Module,
+        letter: &Letter,
+    ) -> Result<usize, Refusal>
+        requires module { IsModule (S.memory store.now) rma }
+        ensures { (post : Post) → SpellsPost (S.memory store.now) rma self.now post → result ≡ post_send_pages letter.now post }
+    {
+        let _to = self.admit(letter.to)?;
+        let length = MESSAGE + ACTION + body_length(&letter.body);
+        rma.need_pages(store, length as u32)
+    }
+
+    /// Sends a letter: it gets the next ref, and goes to the end of its recipient's chain. Where it answers the message
+    /// that the sender holds, that one's block is freed. Refused, and nothing changed: `NoTask` where the recipient
+    /// isn't live, `NoRefs` where all refs were given, `QueueFull` where 256 messages are live, `NoRoom` where the
+    /// module area can't grow.
+    pub fn send<S: Pages>(
+        &mut self,
+        store: &mut S,
+        rma: Module,
+        letter: Letter,
+    ) -> Result<Ref, Refusal>
+        requires module { IsModule (S.memory store.old) rma }
+        requires post { (post : Post) × SpellsPost (S.memory store.old) rma self.old post }
+        requires from { HasEntry letter.from self.old }
+        ensures answer { (post : Post) → SpellsPost (S.memory store.old) rma self.old post → result ≡ answer_of (post_send (S.memory store.old).free letter post) }
+        ensures spells { (post : Post) → SpellsPost (S.memory store.old) rma self.old post
+            → SpellsPost (S.memory store.new) rma self.new (left_of post (post_send (S.memory store.old).free letter post)) }
+        ensures module { IsModule (S.memory store.new) rma }
+        ensures only { OnlyArea (S.memory store.old) (S.memory store.new) rma.area.0 }
+        ensures err { OnErr result ((S.memory store.new ≡ S.memory store.old) × (self.new ≡ self.old)) }
+    {
+        let to = self.admit(letter.to)?;
+        let my_ref = Ref(self.next_ref as u32);
+        let from = letter.from;
+        let your_ref = letter.your_ref;
+        let code = letter.code;
+        let message = Message {
+            from,
+            my_ref,
+            your_ref,
+            body: letter.body,
+        };
+        let block = place(store, rma, code, &message)?;
+        append(store, rma, &mut self.entries, to, block);
+        let freed = answer(store, rma, &mut self.entries, from, your_ref);
+        self.live = self.live + 1 - freed;
+        self.next_ref += 1;
+        Ok(my_ref)
+    }
+
+    /// The place of a recipient, where a letter to it isn't refused before its block is claimed.
+    fn admit(&self, to: Handle) -> Result<usize, Refusal>
+        ensures found { IfOk result (λ i. (i < length self.now.entries) × ((entry_at self.now.entries i).handle ≡ to)) }
+        ensures ok { OnOk result (refusal_for to self.now ≡ None) }
+        ensures refused { IfErr result (λ refusal. refusal_for to self.now ≡ Some refusal) }
+    {
+        let Some(at) = find(&self.entries, to) else {
+            return Err(Refusal::NoTask);
+        };
+        if self.next_ref > u64::from(u32::MAX) {
+            return Err(Refusal::NoRefs);
+        }
+        if self.live >= MOST_MESSAGES {
+            return Err(Refusal::QueueFull);
+        }
+        Ok(at)
+    }
+}
+
+/// Frees the block that a task holds where its message has this ref, and answers how many messages that were.
+fn answer<S: Pages>(
+    store: &mut S,
+    rma: Module,
+    entries: &mut Vec<Entry>,
+    from: Handle,
+    your_ref: Ref,
+) -> usize
+    requires module { IsModule (S.memory store.old) rma }
+    requires rows { (rows : List Row) × RowsLie (heap_in (S.memory store.old) rma) entries.old.items rows }
+    ensures one { result ≤ 1 }
+    ensures len { vec_len entries.new ≡ vec_len entries.old }
+    ensures capacity { vec_capacity entries.new ≡ vec_capacity entries.old }
+    ensures module { IsModule (S.memory store.new) rma }
+    ensures only { OnlyArea (S.memory store.old) (S.memory store.new) rma.area.0 }
+    ensures settles { (rows : List Row) (i : ℕ) → RowsLie (heap_in (S.memory store.old) rma) entries.old.items rows → i < length rows → (row_at rows i).handle ≡ from
+        → Settled (S.memory store.old) (S.memory store.new) rma entries.old.items entries.new.items i your_ref (row_at rows i).held result }
+{
+    let Some(at) = find(entries, from) else {
+        return 0;
+    };
+    if !holds_ref(store, rma, entries[at], your_ref) {
+        return 0;
+    }
+    put_down(store, rma, entries, at);
+    1
+}
