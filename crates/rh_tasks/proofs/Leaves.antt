@@ -15,14 +15,14 @@ use Rattle.rh_module.specs.Calls as module_calls
 use Rattle.rh_tasks.proofs.Chains.{answered, answer-refused, done, done-refused}
 use Rattle.rh_tasks.proofs.Moves.{Slid}
 
+-- what was granted, where there is no answer
+first_or : {A : Type 0} → A → Granted (A × Unit {0}) → A
+first_or old (Ok p) = p.0
+first_or old (Err r) = old
+
 none-done : {A : Type 0} (a : A) (g : Granted A) → no_answer g ≡ Ok (a, tt) → g ≡ Ok a
-none-done {A} a (Ok x) e = ap-first e
-  where
-    first_or : A → Granted (A × Unit {0}) → A
-    first_or d (Ok p) = p.0
-    first_or d (Err r) = d
-    ap-first : no_answer (Ok x) ≡ Ok (a, tt) → (let r : Granted A = Ok x in r) ≡ Ok a
-    ap-first q = ap (λ g. let r : Granted A = Ok (first_or a g) in r) q
+unfolding first_or
+none-done {A} a (Ok x) e = ap (λ (h : Granted (A × Unit {0})). let r : Granted A = Ok (first_or a h) in r) e
 none-done a (Err r) e = absurd (cc)
 
 none-refused : {A : Type 0} {r : Refusal} (g : Granted A) → no_answer g ≡ Err r → g ≡ Err r

@@ -12,3 +12,5 @@ pub mod Mades
 pub mod Joins
 pub mod Makes
 pub mod Leaves
+pub mod SlotCommands
+pub mod Loads

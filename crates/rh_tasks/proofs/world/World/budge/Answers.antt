@@ -1,18 +1,18 @@
-use Rattle.std.proofs.Common.{rules, ◌≡◌, true, Ok, Err, ℕ, ◌+◌, ◌-◌, ◌*◌, ◌<◌, ◌≤◌, length, ◌/◌, ◌%◌, Bool, false, nat_eq, nat_lt, List, [], ◌∷◌, ◌++◌, slice_index_or, slice_set, bit_and, bit_or, Fits, w8, w32, w64, Bor, MutBor}
-use Rattle.rh_defs.specs.declared.command.Command.TheVariants as Command
-use Rattle.rh_defs.specs.Range.{in_range}
-use Rattle.rh_defs.specs.Commands.{claim as claim_on}
-use Rattle.rh_defs.specs.Commands.{release as release_on}
-use Rattle.rh_defs.specs.Commands.{resize as resize_on}
-use Rattle.rh_defs.specs.Commands.{budge as budge_on}
-use Rattle.rh_tasks.specs.Answer.{Gives}
+use Rattle.std.proofs.Common.{◌≡◌, refl, ap, ◌∙◌, sym}
+use Rattle.std.proofs.lemmas.Result.{err_from_is_err_and}
+use Rattle.rh_defs.specs.Commands.{budge}
+use Rattle.rh_tasks.proofs.Chains.{ends}
+use Rattle.rh_tasks.proofs.Finding.{nobody}
 use Rattle.rh_tasks.proofs.world.World.budge.Goals as goal
 
 pub returns-in_err-i : goal.returns-in_err-i
-returns-in_err-i g c = ?
+unfolding budge
+returns-in_err-i g c =
+    let p = err_from_is_err_and c.from_residual.result c.from_residual.ensures.1 in
+    rw (p.1, p.2, c.in_err-i.ensures.err.0, ← c.self.view_is) (ends _ (nobody _ _ _ _ _ _ c.in_err-i.ensures.err.1), refl)
 
 pub invariant_of-self : goal.invariant_of-self
-invariant_of-self g c = ?
+invariant_of-self g c = let h = c.index_mut-seat in let k = c.set_budge-was in ?
 
 pub returns : goal.returns
 returns g c = ?

@@ -1,26 +1,37 @@
-use Rattle.std.proofs.Common.{rules, ◌≡◌, true, Ok, Err, ℕ, ◌+◌, ◌-◌, ◌*◌, ◌<◌, ◌≤◌, length, ◌/◌, ◌%◌, Bool, false, nat_eq, nat_lt, List, [], ◌∷◌, ◌++◌, slice_index_or, slice_set, bit_and, bit_or, Fits, w8, w32, w64, Bor, MutBor}
-use Rattle.rh_defs.specs.declared.command.Command.TheVariants as Command
-use Rattle.rh_defs.specs.Range.{in_range}
-use Rattle.rh_defs.specs.Commands.{alloc as alloc_on}
-use Rattle.rh_defs.specs.Commands.{load as load_on}
-use Rattle.rh_defs.specs.Commands.{put as put_on}
-use Rattle.rh_defs.specs.Commands.{free as free_on}
-use Rattle.rh_defs.specs.Commands.{extend as extend_on}
-use Rattle.rh_defs.specs.Commands.{mid as mid_on}
-use Rattle.rh_tasks.specs.Answer.{Gives}
+use Rattle.std.proofs.Common.{◌≡◌, refl, ap, ◌∙◌, sym}
+use Rattle.std.proofs.lemmas.Result.{err_from_is_err_and}
+use Rattle.rh_defs.specs.declared.command.Command.TheVariants as command
+use Rattle.rh_defs.specs.Slot.{slot_put}
+use Rattle.rh_defs.specs.Commands.{put}
+use Rattle.rh_tasks.specs.View.{shown_of}
+use Rattle.rh_tasks.proofs.Chains.{ends}
+use Rattle.rh_tasks.proofs.Ranges.{put-anchor}
+use Rattle.rh_tasks.proofs.Finding.{nobody}
+use Rattle.rh_tasks.proofs.Calls.{looks-put}
+use Rattle.rh_tasks.proofs.SlotCommands.{block-done, block-world, block-refused}
 use Rattle.rh_tasks.proofs.world.World.put.Goals as goal
 
 pub returns-in_err-slot : goal.returns-in_err-slot
-returns-in_err-slot g c = ?
+unfolding put
+returns-in_err-slot g c =
+    let p = err_from_is_err_and c.from_residual.result c.from_residual.ensures.1 in
+    rw (p.1, p.2, c.in_err-slot.ensures.err.0, ← c.self.view_is) (ends _ (nobody _ _ _ _ _ _ c.in_err-slot.ensures.err.1), refl)
 
 pub put-requires-clause-anchor : goal.put-requires-clause-anchor
-put-requires-clause-anchor g c = ?
+put-requires-clause-anchor g c = put-anchor c.args.name.now c.args.anchor c.args.offset c.args.bytes.now c.requires
 
 pub returns-in_err-put : goal.returns-in_err-put
-returns-in_err-put g c = ?
+unfolding put
+returns-in_err-put g c =
+    let p = err_from_is_err_and c.from_residual-in_err-put.result c.from_residual-in_err-put.ensures.1 in
+    let same = ap (λ m. shown_of m c.self.inside.seats.items c.self.inside.made.items c.self.inside.files c.self.inside.next) c.in_err-put.ensures.err in
+    rw (p.1, p.2, ← c.self.view_is) (block-refused c.self.invariant.0 c.in_ok-slot.ensures.ok (λ free. slot_put c.args.anchor c.args.offset c.args.bytes.now) c.args.anchor (λ free. looks-put c.args.anchor c.args.offset c.args.bytes.now) c.in_err-put.ensures, same)
 
 pub invariant_of-self-2 : goal.invariant_of-self-2
-invariant_of-self-2 g c = ?
+unfolding put
+invariant_of-self-2 g c =
+    (block-world c.self.invariant.0 c.in_ok-slot.ensures.ok (λ free. slot_put c.args.anchor c.args.offset c.args.bytes.now) c.args.anchor (λ free. looks-put c.args.anchor c.args.offset c.args.bytes.now) c.in_ok-put.ensures (command.Put c.args.name.now c.args.anchor c.args.offset c.args.bytes.now) refl c.requires, c.self.invariant.1, c.self.invariant.2)
 
 pub returns : goal.returns
-returns g c = ?
+unfolding put
+returns g c = rw (← c.self.view_is) (block-done c.self.invariant.0 c.in_ok-slot.ensures.ok (λ free. slot_put c.args.anchor c.args.offset c.args.bytes.now) c.args.anchor (λ free. looks-put c.args.anchor c.args.offset c.args.bytes.now) c.in_ok-put.ensures)
