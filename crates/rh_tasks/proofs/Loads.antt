@@ -81,19 +81,18 @@ unfolding ◌>>=◌ refuse_if
 ok-of true r t e = absurd (cc)
 ok-of false r t e = refl
 
+put-fits : (k n : ℕ) (bytes : List ℕ) (s : Slot) → is_used k s ≡ false → length bytes ≤ n → IsOk (slot_put k 0 bytes (with_block k (zeros n) s))
+unfolding slot_put ◌>>=◌
+put-fits k n bytes s unused fits =
+    let e = new-block k n s unused in
+    rw e (ok-of _ BadRange _ (lt-false (length (zeros n)) (0 + length bytes) (omega (arith, fits, length-replicate {A = ℕ} n 0))))
+
 -- bytes that fit are written
 pub new-fits : (free k n : ℕ) (bytes : List ℕ) (s : Slot) (p : Slot × ℕ) → slot_alloc free k n s ≡ Ok p → length bytes ≤ n → IsOk (slot_put k 0 bytes p.0)
-unfolding slot_put
 new-fits free k n bytes s p e fits =
     let new = grant-of (alloc-new free k n s) e in
     let P : Slot → Type 0 = λ t. IsOk (slot_put k 0 bytes t) in
     subst P (sym new.slot) (put-fits k n bytes s new.unused fits)
-  where
-    put-fits : (k n : ℕ) (bytes : List ℕ) (s : Slot) → is_used k s ≡ false → length bytes ≤ n → IsOk (slot_put k 0 bytes (with_block k (zeros n) s))
-    unfolding slot_put ◌>>=◌
-    put-fits k n bytes s unused fits =
-        let e = new-block k n s unused in
-        rw e (ok-of _ BadRange _ (lt-false (length (zeros n)) (0 + length bytes) (omega (arith, fits, length-replicate {A = ℕ} n 0))))
 
 answered-ok : {A B : Type 0} (g : Granted A) → IsOk g → IsOk (answer_of (no_answer g))
 answered-ok (Ok x) h = refl
