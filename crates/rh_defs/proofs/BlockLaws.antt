@@ -209,7 +209,7 @@ pub record Pokes (a : ℕ) (bs : List ℕ) (h k : Heap) : Type 0 where
 pub poked-pokes : (a o : ℕ) (xs : List ℕ) (h : Heap) (bs : List ℕ) → block_bytes a h ≡ Some bs → Pokes a (put bs o xs) h (poked a o xs h)
 poked-pokes a o xs h bs e = record { here = written-here a o xs 16 h.segments bs e; others = λ b ne. written-other a b o xs 16 h.segments ne }
 
-tidy-written : (f : Bool) (a o : ℕ) (xs : List ℕ) (p : ℕ) (ss : List Segment) → IsTidy f ss → IsTidy f (written_at a o xs p ss)
+pub tidy-written : (f : Bool) (a o : ℕ) (xs : List ℕ) (p : ℕ) (ss : List Segment) → IsTidy f ss → IsTidy f (written_at a o xs p ss)
 tidy-written false a o xs p [] t = t
 tidy-written true a o xs p [] t = t
 tidy-written false a o xs p (Used bs ∷ ss) t = elim (eqb a (p + 4)) as (λ b. IsTidy false (cond b (Used (put bs o xs) ∷ ss) (Used bs ∷ written_at a o xs (p + (4 + length bs)) ss))) [

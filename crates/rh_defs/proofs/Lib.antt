@@ -1,5 +1,6 @@
 pub mod Chains
 pub mod Cuts
+pub mod Lists
 pub mod Anchors
 pub mod SlotKeeps
 pub mod FileLemmas
@@ -19,6 +20,11 @@ pub mod SlotLaws
 pub mod SlotRooms
 pub mod HeapKeeps
 pub mod ModuleKeeps
+pub mod PostKeeps
+pub mod Desks
+pub mod Transfers
+pub mod Steps
+pub mod Spaced
 pub mod SlotImageLaws
 pub mod MessageRows
 pub mod Rows

@@ -1,19 +1,16 @@
 -- The module area's heap stays one that fills whole pages, and takes no more pages than are free.
-use Rattle.std.proofs.Common.{◌≡◌, ℕ, ◌+◌, ◌/◌, ◌≤◌, ◌%◌, false, refl, arith, length}
+use Rattle.std.proofs.Common.{◌≡◌, ℕ, ◌+◌, ◌/◌, ◌≤◌, ◌%◌, false, refl, arith, List, length}
 use Rattle.std.specs.Prelude.{IfSome, ℤ, pos, negsuc}
 use borrow.Author.Tests.{ltb-false}
 use Rattle.rh_defs.specs.Pieces.{page, lacks_pages, zeros, Split}
 use Rattle.rh_defs.specs.Heap.{Heap, Segment, IsHeap, size_of, first_place, block_at, is_block_at, need, raised, claim_growing, hole_for, block_room, release, new_size, resize_need, resize_growing, way_to, segment_size, fitted, bytes_of}
-use Rattle.rh_defs.specs.Module.{module_claim, module_free, module_resize, module_change, changed_length}
+use Rattle.rh_defs.specs.Module.{FillsPages, module_claim, module_free, module_resize, module_change, changed_length}
+use Rattle.rh_defs.specs.Blocks.{poked}
+use Rattle.rh_defs.proofs.BlockLaws.{tidy-written, total-written}
 use Rattle.rh_defs.proofs.Chains.{OnGrant, granted, granted-with, granted-unless, found_or-grants}
 use Rattle.rh_defs.proofs.HeapLists.{IsCut, first_at-cuts}
 use Rattle.rh_defs.proofs.HeapKeeps.{claim_growing-heap, released-heap, release-heap, resize_growing-heap}
 use Rattle.rh_defs.proofs.ModuleLaws.{placed_in-end, resized_by-end, release_found-end}
-
--- a heap that fills whole pages
-pub record FillsPages (h : Heap) : Type 0 where
-  pub heap : IsHeap h
-  pub whole : h.end % page ≡ 0
 
 -- what a call leaves, where so many pages are free
 pub record Fills (free : ℕ) (old new : Heap) : Type 0 where
@@ -61,7 +58,7 @@ module_resize-grants free address delta h is =
     granted-unless _ _ _ λ some. granted-unless _ _ _ λ room.
     granted (grown free (resize_need (new_size delta b) b h) h _ is (resize_growing-heap address (new_size delta b) b h is.heap cut) (resize_growing-end (new_size delta b) b h) room)
 
-changed-whole : (n : ℕ) (delta : ℤ) → n % page ≡ 0 → changed_length n delta % page ≡ 0
+pub changed-whole : (n : ℕ) (delta : ℤ) → n % page ≡ 0 → changed_length n delta % page ≡ 0
 changed-whole n (pos by) e = omega (arith, e)
 changed-whole n (negsuc by) e = omega (arith, e)
 
@@ -83,3 +80,14 @@ released-fills address h is =
 
 pub release-end : (address : ℕ) (h : Heap) → (release address h).end ≡ h.end
 release-end address h = release_found-end (block_at address h) h
+
+-- bytes that are written into a block
+pub poked-fills : (a o : ℕ) (xs : List ℕ) (h : Heap) → FillsPages h → FillsPages (poked a o xs h)
+poked-fills a o xs h is = record {
+  heap = record {
+    tidy = tidy-written false a o xs first_place h.segments is.heap.tidy;
+    fits = omega (arith, is.heap.fits, total-written a o xs first_place h.segments);
+    multiple = is.heap.multiple;
+  };
+  whole = is.whole;
+}

@@ -1,9 +1,14 @@
 -- The module area: a heap that is as long as its area, and takes free pages where it is too short.
-use Rattle.std.specs.Prelude.{ℕ, ◌+◌, ◌-◌, ℤ, pos, negsuc, nat_lt, ◌==◌, Ok}
+use Rattle.std.specs.Prelude.{◌≡◌, ℕ, ◌+◌, ◌-◌, ◌%◌, ℤ, pos, negsuc, nat_lt, ◌==◌, Ok}
 use Rattle.rh_defs.specs.declared.refusal.Refusal.TheVariants.{NotABlock, BadSize, ExcessiveShrink, NoRoom}
 use Rattle.rh_defs.specs.Chain.{Granted, ◌>>=◌, refuse_if, found_or}
 use Rattle.rh_defs.specs.Pieces.{round_up, page, pages_for, lacks_pages}
-use Rattle.rh_defs.specs.Heap.{Heap, base, as_granted, block_at, need, claim_growing, released, new_size, resize_need, resize_growing}
+use Rattle.rh_defs.specs.Heap.{Heap, IsHeap, as_granted, base, block_at, need, claim_growing, released, new_size, resize_need, resize_growing}
+
+-- a heap that fills whole pages, as the module area's does
+pub record FillsPages (h : Heap) : Type 0 where
+  pub heap : IsHeap h
+  pub whole : h.end % page ≡ 0
 
 -- a signed amount without its sign
 abbrev pub magnitude : ℤ → ℕ

@@ -1,8 +1,9 @@
 -- The spans of live blocks: where each one lies in its slot.
 use Rattle.std.specs.Prelude.{ℕ, ◌+◌, ◌≤◌, ◌⊎◌, List, [], ◌∷◌, ◌++◌, length}
 use Rattle.std.specs.List.{AllByRecursion}
-use Rattle.rh_defs.specs.Heap.{Segment, Used, Hole, first_place}
+use Rattle.rh_defs.specs.Heap.{Heap, Segment, Used, Hole, first_place}
 use Rattle.rh_defs.specs.Slot.{Slot, Flex, weight, heap_start, flex_start}
+use Rattle.rh_defs.specs.Commands.{module_start}
 
 -- a block's address and its size
 pub record Span : Type 0 where
@@ -23,6 +24,10 @@ heap_spans place (Hole size ∷ segments) = heap_spans (place + size) segments
 -- the live blocks of a slot: those of the C heap, and the flex blocks
 abbrev pub slot_spans : Slot → List Span
 slot_spans s = heap_spans (heap_start + first_place) s.heap.segments ++ flex_spans (flex_start s) s.blocks
+
+-- the live blocks of the module area
+abbrev pub module_spans : Heap → List Span
+module_spans h = heap_spans (module_start + first_place) h.segments
 
 -- two spans share no byte
 abbrev pub IsApart : Span → Span → Type 0
