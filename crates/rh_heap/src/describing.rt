@@ -1,4 +1,4 @@
-//! How much room a heap has.
+//! How long a heap is, and how much room it has.
 ghost use Rattle.std.specs.Prelude.{◌≡◌, ℕ, ◌+◌, ◌<◌, ◌≤◌, length};
 ghost use Rattle.rh_defs.specs.Memory.{Memory, IsOpen, bytes};
 ghost use Rattle.rh_defs.specs.Heap.{largest, free_bytes};
@@ -7,6 +7,14 @@ ghost use Rattle.rh_heap.specs.Spans.{IsSpan, heap_in};
 use crate::span::Span;
 use crate::words::{follow, read};
 use rh_store::Words;
+
+/// The heap's end: its length in bytes.
+pub fn end<S: Words>(store: &S, span: Span) -> usize
+    requires { IsSpan (S.memory store.now) span }
+    ensures { result ≡ (heap_in (S.memory store.now) span).end }
+{
+    read(store, span, 12)
+}
 
 /// The bytes of the largest block that a claim would be given, and the bytes of all holes and the top.
 /// (OS_Heap 1.)

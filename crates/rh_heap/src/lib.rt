@@ -21,7 +21,7 @@ mod walking;
 mod words;
 
 pub use claiming::{claim, need};
-pub use describing::describe;
+pub use describing::{describe, end};
 pub use ending::{extend_heap, init};
 pub use holding::holds;
 pub use image::{Summary, check};

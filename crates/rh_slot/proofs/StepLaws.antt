@@ -9,7 +9,7 @@ use Rattle.rh_defs.specs.Slot.{Flex, Slot, weight, flex_weight}
 use Rattle.rh_defs.specs.SlotImage.{SlotWords, flex_place, is_block}
 use Rattle.rh_defs.specs.Listing.{block_items}
 use Rattle.rh_defs.proofs.Cuts.{total-append}
-use Rattle.rh_slot.specs.declared.steps.FlexWalk.{FlexWalk}
+use Rattle.rh_slot.specs.declared.row.FlexWalk.{FlexWalk}
 use Rattle.rh_slot.specs.Walks.{Walked, WalksIn, item_of}
 use Rattle.rh_slot.proofs.WalkLaws.{next, last, onward, item_here, item_none}
 

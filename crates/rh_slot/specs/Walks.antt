@@ -5,7 +5,7 @@ use Rattle.rh_defs.specs.Pieces.{total}
 use Rattle.rh_defs.specs.Slot.{Flex, Slot, weight, slot_start}
 use Rattle.rh_defs.specs.SlotImage.{flex_place}
 use Rattle.rh_defs.specs.declared.listing.BlockItem.{BlockItem}
-use Rattle.rh_slot.specs.declared.steps.FlexWalk.{FlexWalk}
+use Rattle.rh_slot.specs.declared.row.FlexWalk.{FlexWalk}
 
 -- the walk has passed some blocks and stands where they end
 pub record Walked (s : Slot) (place : ℕ) : Type 0 where

@@ -1,60 +1,291 @@
-//! Flex blocks that come and go.
-ghost use Rattle.std.specs.Prelude.{◌<◌};
-ghost use Rattle.rh_defs.specs.Chain.{no_answer};
-ghost use Rattle.rh_defs.specs.Slot.{slot_alloc, slot_free};
+//! One flex block: where it is, and how it comes, changes and goes.
+ghost use Rattle.std.specs.Prelude.{◌≡◌, ◌+◌, ◌<◌, ◌^◌, ◌≤◌, length, ◌↔◌, IsTrue, ◌*◌, MatchOption};
+ghost use Rattle.rh_defs.specs.Chain.{outcome_of, no_answer, result_or};
+ghost use Rattle.rh_defs.specs.Pieces.{Split, moved};
+ghost use Rattle.rh_defs.specs.Slot.{Flex, slot_extend, slot_mid, slot_put, slot_read, taken_out, slot_alloc, slot_free, IsFree, slot_size, slot_address};
 ghost use Rattle.rh_slot.specs.Area.{IsSlot, slot_in};
 ghost use Rattle.rh_slot.specs.Calls.{Leaves};
+ghost use Rattle.rh_slot.specs.Places.{Found, FoundAt, splice};
 
-use crate::locating::{SLOT_START, locate, word_place};
-use crate::paging::{grow_to, trim};
-use crate::sizing::weight_of;
-use crate::sliding::shift;
+use crate::area::{clear, grow_to, read, room_for, slide, trim, write, write_bytes};
+use crate::row::{shift, weight_of};
 use crate::slot::Slot;
-use crate::walking::top_of;
-use crate::words::{clear, write};
+use rh_defs::sizes::{ANCHORS, FLEX_HEADER, SLOT_START, WORD};
 use rh_defs::{Anchor, Refusal};
-use rh_store::Pages;
+use rh_store::{Pages, Words};
+
+/// Where a flex block's header stands in the slot's area, and how many bytes the block has.
+#[derive(Clone, Copy)]
+struct Spot {
+    place: usize,
+    size: usize,
+}
+
+/// A change of a block's bytes: how many before an offset are taken out, and how many zeros are then put in.
+#[derive(Clone, Copy)]
+struct Change {
+    offset: usize,
+    out: usize,
+    put: usize,
+}
+
+/// Where an anchor's word stands in the slot's area.
+fn word_place(anchor: Anchor) -> usize
+    ensures { result ≡ WORD * anchor }
+{
+    WORD * anchor.0 as usize
+}
+
+/// Whether `n` bytes from an offset on lie in a block of `size` bytes.
+fn fits(size: usize, offset: usize, n: usize) -> bool
+    ensures { IsTrue result ↔ (offset + n ≤ size) }
+{
+    offset <= size && n <= size - offset
+}
+
+/// How many bytes are taken out where a block changes by a signed amount.
+fn taken_out(by: i32) -> usize
+    ensures value { result ≡ taken_out by }
+    ensures bound { result ≤ 2 ^ 31 }
+{
+    if by < 0 {
+        by.unsigned_abs() as usize
+    } else {
+        0
+    }
+}
+
+/// How many zeros are put in where a block changes by a signed amount.
+fn put_in(by: i32) -> usize
+    ensures value { result ≡ moved 0 by }
+    ensures bound { result < 2 ^ 31 }
+{
+    if by < 0 {
+        0
+    } else {
+        by.unsigned_abs() as usize
+    }
+}
 
 impl Slot {
+    /// The anchor's block, or `None` where it has none.
+    fn locate<S: Words>(self, store: &S, anchor: Anchor) -> Option<Spot>
+        requires slot { IsSlot (S.memory store.now) self }
+        requires anchor { anchor < ANCHORS }
+        ensures { MatchOption result (IsFree anchor (slot_in (S.memory store.now) self).blocks)
+            (λ spot. Found anchor (slot_in (S.memory store.now) self) spot.place spot.size) }
+    {
+        let address = read(store, self.area, word_place(anchor));
+        if address == 0 {
+            return None;
+        }
+        let place = address - SLOT_START - FLEX_HEADER;
+        let size = read(store, self.area, place + WORD);
+        Some(Spot { place, size })
+    }
+
+    /// How many bytes the anchor's block has. Refused (`NoBlock`) where it has none. (flex_size.)
+    pub fn size<S: Words>(self, store: &S, anchor: Anchor) -> Result<usize, Refusal>
+        requires slot { IsSlot (S.memory store.now) self }
+        requires anchor { anchor < ANCHORS }
+        ensures { result ≡ slot_size anchor (slot_in (S.memory store.now) self) }
+    {
+        let Some(spot) = self.locate(store, anchor) else {
+            return Err(Refusal::NoBlock);
+        };
+        Ok(spot.size)
+    }
+
+    /// The address of the block's first byte, from &8000 on, as the anchor word holds it. Refused (`NoBlock`) where
+    /// the anchor has none.
+    pub fn address<S: Words>(self, store: &S, anchor: Anchor) -> Result<usize, Refusal>
+        requires slot { IsSlot (S.memory store.now) self }
+        requires anchor { anchor < ANCHORS }
+        ensures { result ≡ slot_address anchor (slot_in (S.memory store.now) self) }
+    {
+        let Some(spot) = self.locate(store, anchor) else {
+            return Err(Refusal::NoBlock);
+        };
+        Ok(SLOT_START + spot.place + FLEX_HEADER)
+    }
+
     /// Puts a block of `n` zeros on top and answers its address, from &8000 on. Refused: `AnchorInUse` where the
     /// anchor has a block, `NoRoom` where too few pages are free. (flex_alloc.)
     pub fn alloc<S: Pages>(self, store: &mut S, anchor: Anchor, n: u32) -> Result<usize, Refusal>
         requires slot { IsSlot (S.memory store.old) self }
-        requires anchor { anchor < 64 }
+        requires anchor { anchor < ANCHORS }
         ensures { Leaves (S.memory store.old) (S.memory store.new) self
             (slot_alloc (S.memory store.old).free anchor n (slot_in (S.memory store.old) self)) result }
     {
-        if let Some(_) = locate(store, self, anchor) {
+        if let Some(_) = self.locate(store, anchor) {
             return Err(Refusal::AnchorInUse);
         }
         let size = n as usize;
-        let top = top_of(store, self);
+        let top = self.top(store);
         let Ok(()) = grow_to(store, self.area, top + weight_of(size)) else {
             return Err(Refusal::NoRoom);
         };
         let word = word_place(anchor);
         write(store, self.area, top, SLOT_START + word);
-        write(store, self.area, top + 4, size);
-        clear(store, self.area, top + 8, size);
-        write(store, self.area, word, SLOT_START + top + 8);
-        Ok(SLOT_START + top + 8)
+        write(store, self.area, top + WORD, size);
+        clear(store, self.area, top + FLEX_HEADER, size);
+        write(store, self.area, word, SLOT_START + top + FLEX_HEADER);
+        Ok(SLOT_START + top + FLEX_HEADER)
     }
 
     /// Takes the anchor's block away; those above it come down. Refused (`NoBlock`) where it has none. (flex_free.)
     pub fn free<S: Pages>(self, store: &mut S, anchor: Anchor) -> Result<(), Refusal>
         requires slot { IsSlot (S.memory store.old) self }
-        requires anchor { anchor < 64 }
+        requires anchor { anchor < ANCHORS }
         ensures { Leaves (S.memory store.old) (S.memory store.new) self
             (no_answer (slot_free anchor (slot_in (S.memory store.old) self))) result }
     {
-        let Some(spot) = locate(store, self, anchor) else {
+        let Some(spot) = self.locate(store, anchor) else {
             return Err(Refusal::NoBlock);
         };
         let from = spot.place + weight_of(spot.size);
-        let above = top_of(store, self) - from;
+        let above = self.top(store) - from;
         shift(store, self.area, from, spot.place, above);
         write(store, self.area, word_place(anchor), 0);
         trim(store, self.area, spot.place + above);
+        Ok(())
+    }
+
+    /// Takes bytes out of a block and puts zeros in. Refused (`NoRoom`) where too few pages are free.
+    fn splice<S: Pages>(
+        self,
+        store: &mut S,
+        anchor: Anchor,
+        spot: Spot,
+        change: Change,
+    ) -> Result<(), Refusal>
+        requires slot { IsSlot (S.memory store.old) self }
+        requires found { Found anchor (slot_in (S.memory store.old) self) spot.place spot.size }
+        requires offset { change.offset ≤ spot.size }
+        requires out { change.out ≤ change.offset }
+        requires small { change.put < 2 ^ 32 }
+        ensures { (cut : Split Flex) → FoundAt anchor (slot_in (S.memory store.old) self) spot.place spot.size cut
+            → Leaves (S.memory store.old) (S.memory store.new) self
+            (no_answer (splice (S.memory store.old).free change.offset change.out change.put cut (slot_in (S.memory store.old) self))) result }
+    {
+        let from = spot.place + weight_of(spot.size);
+        let size = spot.size - change.out + change.put;
+        let to = spot.place + weight_of(size);
+        let above = self.top(store) - from;
+        let Ok(()) = room_for(store, self.area, to + above) else {
+            return Err(Refusal::NoRoom);
+        };
+        let tail = spot.place + FLEX_HEADER + change.offset;
+        let opened = tail - change.out;
+        let n = spot.size - change.offset;
+        // The bytes behind the offset come down before the blocks above move, and go up again after.
+        slide(store, self.area, tail, opened, n);
+        shift(store, self.area, from, to, above);
+        write(store, self.area, spot.place + WORD, size);
+        slide(store, self.area, opened, opened + change.put, n);
+        clear(store, self.area, opened, change.put);
+        trim(store, self.area, to + above);
+        Ok(())
+    }
+
+    /// Cuts the anchor's block to `n` bytes, or gives it zeros up to `n`; those above it slide. Refused: `NoBlock`
+    /// where the anchor has none, `NoRoom` where too few pages are free. (flex_extend.)
+    pub fn extend<S: Pages>(self, store: &mut S, anchor: Anchor, n: u32) -> Result<(), Refusal>
+        requires slot { IsSlot (S.memory store.old) self }
+        requires anchor { anchor < ANCHORS }
+        ensures { Leaves (S.memory store.old) (S.memory store.new) self
+            (no_answer (slot_extend (S.memory store.old).free anchor n (slot_in (S.memory store.old) self))) result }
+    {
+        let Some(spot) = self.locate(store, anchor) else {
+            return Err(Refusal::NoBlock);
+        };
+        let size = n as usize;
+        let change = Change {
+            offset: spot.size,
+            out: spot.size.saturating_sub(size),
+            put: size.saturating_sub(spot.size),
+        };
+        self.splice(store, anchor, spot, change)
+    }
+
+    /// Puts `by` zeros into the anchor's block at an offset, or where `by` is below 0 takes out as many bytes before
+    /// it; blocks above slide. Refused: `NoBlock` where the anchor has none, `BadRange` where the offset is above the
+    /// size or fewer bytes are before it, `NoRoom` where too few pages are free. (flex_midextend.)
+    pub fn mid<S: Pages>(
+        self,
+        store: &mut S,
+        anchor: Anchor,
+        offset: usize,
+        by: i32,
+    ) -> Result<(), Refusal>
+        requires slot { IsSlot (S.memory store.old) self }
+        requires anchor { anchor < ANCHORS }
+        ensures { Leaves (S.memory store.old) (S.memory store.new) self
+            (no_answer (slot_mid (S.memory store.old).free anchor offset by (slot_in (S.memory store.old) self))) result }
+    {
+        let Some(spot) = self.locate(store, anchor) else {
+            return Err(Refusal::NoBlock);
+        };
+        let out = taken_out(by);
+        if spot.size < offset {
+            return Err(Refusal::BadRange);
+        }
+        if offset < out {
+            return Err(Refusal::BadRange);
+        }
+        let change = Change {
+            offset,
+            out,
+            put: put_in(by),
+        };
+        self.splice(store, anchor, spot, change)
+    }
+
+    /// Writes bytes into the anchor's block, from an offset on. Refused: `NoBlock` where the anchor has none,
+    /// `BadRange` where the bytes would go beyond the block's end.
+    pub fn put<S: Words>(
+        self,
+        store: &mut S,
+        anchor: Anchor,
+        offset: usize,
+        from: &[u8],
+    ) -> Result<(), Refusal>
+        requires slot { IsSlot (S.memory store.old) self }
+        requires anchor { anchor < ANCHORS }
+        ensures { Leaves (S.memory store.old) (S.memory store.new) self
+            (no_answer (slot_put anchor offset from.now (slot_in (S.memory store.old) self))) result }
+    {
+        let Some(spot) = self.locate(store, anchor) else {
+            return Err(Refusal::NoBlock);
+        };
+        if !fits(spot.size, offset, from.len()) {
+            return Err(Refusal::BadRange);
+        }
+        write_bytes(store, self.area, spot.place + FLEX_HEADER + offset, from);
+        Ok(())
+    }
+
+    /// Fills a buffer that was lent with bytes of the anchor's block, from an offset on. Refused, and the buffer left
+    /// as it is: `NoBlock` where the anchor has none, `BadRange` where the bytes would go beyond the block's end.
+    pub fn read<S: Words>(
+        self,
+        store: &S,
+        anchor: Anchor,
+        offset: usize,
+        to: &mut [u8],
+    ) -> Result<(), Refusal>
+        requires slot { IsSlot (S.memory store.now) self }
+        requires anchor { anchor < ANCHORS }
+        ensures answer { result ≡ outcome_of (slot_read anchor offset (length to.old) (slot_in (S.memory store.now) self)) }
+        ensures bytes { to.new ≡ result_or to.old (slot_read anchor offset (length to.old) (slot_in (S.memory store.now) self)) }
+    {
+        let Some(spot) = self.locate(store, anchor) else {
+            return Err(Refusal::NoBlock);
+        };
+        if !fits(spot.size, offset, to.len()) {
+            return Err(Refusal::BadRange);
+        }
+        store.copy_out(self.area, spot.place + FLEX_HEADER + offset, to);
         Ok(())
     }
 }

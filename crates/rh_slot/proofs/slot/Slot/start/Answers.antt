@@ -29,20 +29,20 @@ page g c =
     opened_page (g.S.Words.memory c.args.store.now) (g.S.Words.memory c.open.new.self) _ _ c.grow.result (λ z. c.if-free_pages-eq0.false (c.free_pages.ensures ∙ z)) (rw c.unwrap-area.ensures at c.open.ensures.ok) c.grow.ensures.ok c.grow.ensures.refused
 
 spelt : (g : given.Over) (c : After-init g) → SpellsIn (g.S.Words.memory c.init.new.store) (record { area = c.unwrap-area.result; budge = true }) new_slot
-spelt g c = spells_new _ _ _ _ (page g (goal.at.returns-clause-spells g c).After-grow) (rw c.heap_of.ensures at c.init.ensures.only) (rw c.heap_of.ensures at c.init.ensures.spells)
+spelt g c = spells_new _ _ _ _ (page g (goal.at.returns-clause-spells g c).After-grow) (rw c.span.ensures at c.init.ensures.only) (rw c.span.ensures at c.init.ensures.spells)
 
 only : (g : given.Over) (c : After-init g) → OnlyArea (g.S.Words.memory c.args.store.now) (g.S.Words.memory c.init.new.store) c.unwrap-area.result.0
-only g c = let o = page g (goal.at.returns-clause-spells g c).After-grow in OnlyArea-both _ _ _ _ o.only (OnlyArea-from_Edited _ _ _ _ _ (rw c.heap_of.ensures at c.init.ensures.only))
+only g c = let o = page g (goal.at.returns-clause-spells g c).After-grow in OnlyArea-both _ _ _ _ o.only (OnlyArea-from_Edited _ _ _ _ _ (rw c.span.ensures at c.init.ensures.only))
 
 pub init-requires-clause-opened : goal.init-requires-clause-opened
 init-requires-clause-opened g c =
     let o = page g (goal.at.init-requires-clause-opened g c).After-grow in
-    subst (λ s. IsOpen (g.S.Words.memory c.grow.new.self) s.area.0) (sym c.heap_of.ensures) o.opened
+    subst (λ s. IsOpen (g.S.Words.memory c.grow.new.self) s.area.0) (sym c.span.ensures) o.opened
 
 pub init-requires-clause-within : goal.init-requires-clause-within
 init-requires-clause-within g c =
     let o = page g (goal.at.init-requires-clause-within g c).After-grow in
-    rw c.heap_of.ensures (omega (arith, o.len))
+    rw c.span.ensures (omega (arith, o.len))
 
 pub returns-clause-answer : goal.returns-clause-answer
 returns-clause-answer g c = begin_done _ (λ z. c.if-free_pages-eq0.false (c.free_pages.ensures ∙ z))

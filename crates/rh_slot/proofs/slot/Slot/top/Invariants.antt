@@ -1,0 +1,12 @@
+-- The walk stands where some blocks end.
+use Rattle.std.proofs.Common.{◌-◌}
+use Rattle.rh_defs.specs.Slot.{slot_length}
+use Rattle.rh_slot.specs.Area.{slot_in}
+use Rattle.rh_slot.specs.Walks.{Walked}
+use Rattle.rh_slot.proofs.slot.Slot.top.Given as goal
+
+abbrev pub invariant-walk : goal.invariant-walk
+invariant-walk g l = Walked (slot_in (g.S.Words.memory l.store) l.self) l.place
+
+abbrev pub decreases-walk : goal.decreases-walk
+decreases-walk g l = slot_length (slot_in (g.S.Words.memory l.store) l.self) - l.place

@@ -1,0 +1,218 @@
+//! The row of flex blocks that lie one after the other above the C heap: walks over it, and how it slides.
+ghost use Rattle.std.specs.Prelude.{◌≡◌, ◌+◌, ◌<◌, true, ◌^◌, ◌≤◌, length, is_some, slice_get, MatchOption, List, OnSome, IfNone, false};
+ghost use Rattle.rh_defs.specs.Memory.{IsOpen, bytes, Edited};
+ghost use Rattle.rh_defs.specs.Slot.{Flex, flex_weight, flex_around, weight, slot_length};
+ghost use Rattle.rh_defs.specs.Pieces.{is_inside, total};
+ghost use Rattle.rh_defs.specs.Listing.{block_items};
+ghost use Rattle.rh_defs.specs.Bytes.{word, SameIn};
+ghost use Rattle.rh_defs.specs.SlotImage.{Lie, is_block, flex_place};
+ghost use Rattle.rh_defs.specs.declared.listing.BlockItem.{BlockItem};
+ghost use Rattle.rh_slot.specs.Area.{IsSlot, slot_in};
+ghost use Rattle.rh_slot.specs.Places.{Row, Hung, Shifted};
+ghost use Rattle.rh_slot.specs.Walks.{Walked, WalksIn, item_of};
+
+use crate::area::{read, slide, write};
+use crate::slot::Slot;
+use rh_defs::sizes::{C_HEAP_PLACE, C_HEAP_START, FLEX_HEADER, SLOT_START, WORD};
+use rh_defs::{Anchor, BlockItem};
+use rh_store::{AreaId, Words};
+
+/// A walk over a slot's flex blocks from below: how many it has passed, and where the next one stands in the slot's
+/// area.
+#[derive(Clone, Copy, Debug, PartialEq, Eq)]
+pub struct FlexWalk {
+    pub passed: usize,
+    pub place: usize,
+}
+
+/// What a block of `n` bytes takes: two header words, and whole words.
+pub fn weight_of(n: usize) -> usize
+    requires { n < 2 ^ 40 }
+    ensures { result ≡ flex_weight n }
+{
+    FLEX_HEADER + (n + (WORD - 1)) / WORD * WORD
+}
+
+/// Whether a block begins at a place: its header names an anchor word that leads back to it.
+fn begins<S: Words>(store: &S, area: AreaId, place: usize) -> bool
+    requires opened { IsOpen (S.memory store.now) area.0 }
+    requires within { place + FLEX_HEADER ≤ length (bytes (S.memory store.now) area.0) }
+    requires anchors { C_HEAP_PLACE ≤ length (bytes (S.memory store.now) area.0) }
+    ensures { result ≡ is_block (bytes (S.memory store.now) area.0) place }
+{
+    let anchor = read(store, area, place);
+    if anchor < SLOT_START || C_HEAP_START <= anchor || anchor % WORD != 0 {
+        return false;
+    }
+    read(store, area, anchor - SLOT_START) == SLOT_START + place + FLEX_HEADER
+}
+
+/// Whether the `n` bytes at `x` lie whole in the `m` bytes at `a`.
+fn is_inside(x: usize, n: usize, a: usize, m: usize) -> bool
+    ensures { result ≡ is_inside x n a m }
+{
+    a <= x && x - a <= m && n <= m - (x - a)
+}
+
+/// Writes the anchor words of the blocks that lie in `n` bytes.
+fn hang<S: Words>(store: &mut S, area: AreaId, from: usize, n: usize)
+    requires opened { IsOpen (S.memory store.old) area.0 }
+    requires within { from + n ≤ length (bytes (S.memory store.old) area.0) }
+    requires low { C_HEAP_PLACE ≤ from }
+    requires row { Row (bytes (S.memory store.old) area.0) from n }
+    ensures hung { (fs : List Flex) → Lie (bytes (S.memory store.old) area.0) from fs → total weight fs ≡ n
+        → Hung (bytes (S.memory store.old) area.0) (bytes (S.memory store.new) area.0) from fs }
+    ensures only { Edited (S.memory store.old) (S.memory store.new) area.0 0 C_HEAP_PLACE }
+{
+    let end = from + n;
+    let mut place = from;
+    'walk: while place < end {
+        let anchor = read(store, area, place);
+        let size = read(store, area, place + WORD);
+        let word = anchor - SLOT_START;
+        write(store, area, word, SLOT_START + place + FLEX_HEADER);
+        place += weight_of(size);
+    }
+}
+
+/// Moves the blocks that lie in `n` bytes, and writes their anchor words.
+pub fn shift<S: Words>(store: &mut S, area: AreaId, from: usize, to: usize, n: usize)
+    requires opened { IsOpen (S.memory store.old) area.0 }
+    requires source { from + n ≤ length (bytes (S.memory store.old) area.0) }
+    requires target { to + n ≤ length (bytes (S.memory store.old) area.0) }
+    requires low { C_HEAP_PLACE ≤ from }
+    requires high { C_HEAP_PLACE ≤ to }
+    requires row { Row (bytes (S.memory store.old) area.0) from n }
+    ensures shifted { (fs : List Flex) → Lie (bytes (S.memory store.old) area.0) from fs → total weight fs ≡ n
+        → Shifted (bytes (S.memory store.old) area.0) (bytes (S.memory store.new) area.0) to fs }
+    ensures below { SameIn (bytes (S.memory store.old) area.0) (bytes (S.memory store.new) area.0) C_HEAP_PLACE to }
+    ensures only { Edited (S.memory store.old) (S.memory store.new) area.0 0 (to + n) }
+{
+    slide(store, area, from, to, n);
+    hang(store, area, to, n);
+}
+
+impl Slot {
+    /// Where the first flex block stands or would stand: the C heap's end.
+    pub(crate) fn flex_place<S: Words>(self, store: &S) -> usize
+        requires { IsSlot (S.memory store.now) self }
+        ensures { result ≡ flex_place (slot_in (S.memory store.now) self) }
+    {
+        C_HEAP_PLACE + rh_heap::end(store, self.span())
+    }
+
+    /// How many bytes the block has that stands where a walk has come to. `None` above the last block.
+    pub(crate) fn size_at<S: Words>(self, store: &S, place: usize) -> Option<usize>
+        requires slot { IsSlot (S.memory store.now) self }
+        requires walked { Walked (slot_in (S.memory store.now) self) place }
+        ensures { MatchOption result (is_block (bytes (S.memory store.now) self.area.0) place ≡ false)
+            (λ size. (is_block (bytes (S.memory store.now) self.area.0) place ≡ true)
+            × (size ≡ word (bytes (S.memory store.now) self.area.0) (place + WORD))) }
+    {
+        if store.len(self.area) < place + FLEX_HEADER {
+            return None;
+        }
+        if !begins(store, self.area, place) {
+            return None;
+        }
+        Some(read(store, self.area, place + WORD))
+    }
+
+    /// Where the flex blocks end: the number of bytes that the slot takes.
+    pub(crate) fn top<S: Words>(self, store: &S) -> usize
+        requires { IsSlot (S.memory store.now) self }
+        ensures { result ≡ slot_length (slot_in (S.memory store.now) self) }
+    {
+        let mut place = self.flex_place(store);
+        'walk: while let Some(size) = self.size_at(store, place) {
+            place += weight_of(size);
+        }
+        place
+    }
+
+    /// Whether the `n` bytes at an address lie whole in one flex block.
+    pub(crate) fn in_flex<S: Words>(self, store: &S, address: usize, n: usize) -> bool
+        requires { IsSlot (S.memory store.now) self }
+        ensures { result ≡ is_some (flex_around address n (slot_in (S.memory store.now) self)) }
+    {
+        let mut place = self.flex_place(store);
+        'walk: while let Some(size) = self.size_at(store, place) {
+            let block = SLOT_START + place + FLEX_HEADER;
+            if is_inside(address, n, block, size) {
+                return true;
+            }
+            place += weight_of(size);
+        }
+        false
+    }
+
+    /// The anchor, address and size of the block that stands where a walk has come to.
+    fn item_at<S: Words>(self, store: &S, place: usize, size: usize) -> BlockItem
+        requires slot { IsSlot (S.memory store.now) self }
+        requires walked { Walked (slot_in (S.memory store.now) self) place }
+        requires stands { is_block (bytes (S.memory store.now) self.area.0) place ≡ true }
+        requires size { size ≡ word (bytes (S.memory store.now) self.area.0) (place + WORD) }
+        ensures { result ≡ item_of (bytes (S.memory store.now) self.area.0) place }
+    {
+        let anchor = (read(store, self.area, place) - SLOT_START) / WORD;
+        let address = SLOT_START + place + FLEX_HEADER;
+        BlockItem {
+            anchor: Anchor(anchor as u8),
+            address: address as u32,
+            size: size as u32,
+        }
+    }
+
+    /// How many flex blocks the slot has.
+    pub fn count<S: Words>(self, store: &S) -> usize
+        requires slot { IsSlot (S.memory store.now) self }
+        ensures { result ≡ length (slot_in (S.memory store.now) self).blocks }
+    {
+        let mut walk = self.blocks(store);
+        'walk: while let Some(_) = self.next_block(store, &mut walk) {}
+        walk.passed
+    }
+
+    /// A walk that has passed none of the slot's flex blocks.
+    pub fn blocks<S: Words>(self, store: &S) -> FlexWalk
+        requires slot { IsSlot (S.memory store.now) self }
+        ensures passed { result.passed ≡ 0 }
+        ensures walk { WalksIn (slot_in (S.memory store.now) self) result }
+    {
+        FlexWalk {
+            passed: 0,
+            place: self.flex_place(store),
+        }
+    }
+
+    /// The next flex block of a walk: its anchor, address and size in bytes. `None` above the last one, where the walk
+    /// stays.
+    pub fn next_block<S: Words>(self, store: &S, walk: &mut FlexWalk) -> Option<BlockItem>
+        requires slot { IsSlot (S.memory store.now) self }
+        requires walk { WalksIn (slot_in (S.memory store.now) self) walk.old }
+        ensures block { result ≡ slice_get (block_items (slot_in (S.memory store.now) self)) walk.old.passed }
+        ensures walk { WalksIn (slot_in (S.memory store.now) self) walk.new }
+        ensures passed { OnSome result (walk.new.passed ≡ walk.old.passed + 1) }
+        ensures stays { IfNone result (walk.new ≡ walk.old) }
+        ensures all { IfNone result (walk.new.passed ≡ length (slot_in (S.memory store.now) self).blocks) }
+    {
+        let place = walk.place;
+        let size = self.size_at(store, place)?;
+        let item = self.item_at(store, place, size);
+        walk.passed += 1;
+        walk.place = place + weight_of(size);
+        Some(item)
+    }
+
+    /// Flex block `i` from below, from 0 on: its anchor, address and size in bytes.
+    pub fn block<S: Words>(self, store: &S, i: usize) -> Option<BlockItem>
+        requires slot { IsSlot (S.memory store.now) self }
+        ensures { result ≡ slice_get (block_items (slot_in (S.memory store.now) self)) i }
+    {
+        let mut walk = self.blocks(store);
+        'walk: while walk.passed < i {
+            self.next_block(store, &mut walk)?;
+        }
+        self.next_block(store, &mut walk)
+    }
+}
