@@ -108,7 +108,7 @@ module _ {m n : Memory} {seats : List Seat} {made : List MadeArea} {files : File
         total-set (fixed_pages m) k (pages_at n k) (rw length-fixed low), fixed-at m k low ne, pages-of m k whole_before, pages-of n k whole_after)
 
     pub fixed-world : IsDesk (desk_of n seats made files next) → IsWorld n seats made files next
-    fixed-world is = record { desk = is; areas = changed-areas (module-stays stay (λ q. ne (sym q)) w.areas.module_area); numbers = w.numbers; ledger = fixed-ledger }
+    fixed-world is = record { desk = is; areas = changed-areas (module-stays stay (λ q. ne (sym q)) w.areas.module_area); ledger = fixed-ledger }
 
 -- the module area
 module _ {m n : Memory} {seats : List Seat} {made : List MadeArea} {files : FileList} {next : Next}
@@ -129,4 +129,4 @@ module _ {m n : Memory} {seats : List Seat} {made : List MadeArea} {files : File
 
   pub module-world : length (bytes m 1) % 4096 ≡ 0 → length (bytes n 1) % 4096 ≡ 0 → IsDesk (desk_of n seats made files next) → IsWorld n seats made files next
   module-world whole_before whole_after d =
-      record { desk = d; areas = changed-areas w (omega arith) only is; numbers = w.numbers; ledger = module-ledger whole_before whole_after }
+      record { desk = d; areas = changed-areas w (omega arith) only is; ledger = module-ledger whole_before whole_after }

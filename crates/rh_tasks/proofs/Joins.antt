@@ -21,7 +21,7 @@ use Rattle.rh_store.specs.declared.store.TheConstants.{MAX_AREAS}
 use Rattle.rh_tasks.specs.declared.seat.Seat.{Seat}
 use Rattle.rh_tasks.specs.declared.made.MadeArea.{MadeArea}
 use Rattle.rh_tasks.specs.declared.next.Next.{Next}
-use Rattle.rh_tasks.specs.View.{the_module, pages_at, task_of, made_of, fixed_pages, post_of, post_seat, desk_of, slot_area, made_area, made_number, Avoids, AreDistinct, HasSlot, IsAbove, HasAreas, HasNumbers, IsWorld}
+use Rattle.rh_tasks.specs.View.{the_module, pages_at, task_of, made_of, fixed_pages, post_of, post_seat, desk_of, slot_area, made_area, made_number, Avoids, AreDistinct, HasSlot, IsAbove, HasAreas, IsWorld}
 use Rattle.rh_tasks.proofs.Lists.{Sits, cons, all-at, all-map, all-push, all-removed, avoids-at, avoids-push, avoids-back, avoids-fewer, avoids-removed, distinct-push, distinct-removed}
 use Rattle.rh_tasks.proofs.Frames.{Stay, if_same, tasks-stay, slots-stay, mades-stay, mades-opened, fixed-stay, fixed-opened, heap-stays, module-stays, opened-stays, pages-stay}
 use Rattle.rh_tasks.proofs.Moves.{slot-pages}
@@ -151,7 +151,7 @@ module _ {m n : Memory} {seats : List Seat} {made : List MadeArea} {files : File
         total-append task_pages (map (task_of m) seats) (task_of n s ∷ []))
 
   pub joined-world : (handle : ℕ) → (let x : Next = record next { handle = handle } in IsDesk (desk_of n (seats ++ s ∷ []) made files x) → IsWorld n (seats ++ s ∷ []) made files x)
-  joined-world handle is = record { desk = is; areas = joined-areas; numbers = w.numbers; ledger = joined-ledger handle }
+  joined-world handle is = record { desk = is; areas = joined-areas; ledger = joined-ledger handle }
 
 -- ---- a seat goes
 
@@ -233,4 +233,4 @@ module _ {m : Memory} {seats : List Seat} {made : List MadeArea} {files : FileLi
         ap (λ (h : Heap). h.end) (heap-stays around (λ q. absurd (omega (arith, high)))))
 
   pub left-world : IsDesk (desk_of n (remove seats i) made files next) → IsWorld n (remove seats i) made files next
-  left-world is = record { desk = is; areas = left-areas; numbers = w.numbers; ledger = left-ledger }
+  left-world is = record { desk = is; areas = left-areas; ledger = left-ledger }

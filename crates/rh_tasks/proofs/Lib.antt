@@ -14,3 +14,6 @@ pub mod Makes
 pub mod Leaves
 pub mod SlotCommands
 pub mod Loads
+pub mod Spelling
+pub mod Budges
+pub mod Deaths

@@ -15,7 +15,7 @@ use Rattle.rh_tasks.specs.declared.next.Next.{Next}
 use Rattle.rh_tasks.specs.View.{pages_at, made_of, desk_of, slot_area, made_area, made_number, Avoids, AreDistinct, HasSlot, IsAbove, HasAreas, IsWorld}
 use Rattle.rh_tasks.proofs.Lists.{Sits, cons, all-at, avoids-at, avoids-back}
 use Rattle.rh_tasks.proofs.Frames.{Stay, if_same, if_apart, tasks-stay, slots-stay, mades-edited, mades-opened-at, fixed-stay, fixed-opened, post-stays, module-stays, count-stays}
-use Rattle.rh_tasks.proofs.Worlds.{same-desk}
+use Rattle.rh_tasks.proofs.Worlds.{numbers, same-desk}
 use Rattle.rh_tasks.proofs.Fixed.{pages-of}
 
 abbrev pages_of_made : Made → ℕ
@@ -75,7 +75,7 @@ module _ {m n : Memory} {seats : List Seat} {made : List MadeArea} {files : File
   pub made-desk : desk_of n seats made files next ≡ (let d : Desk = record (desk_of m seats made files next) { made = map (with_pages a.number (pages_at n a.area.0)) (map (made_of m) made) } in d)
   made-desk = same-desk (desk_of m seats made files next)
       (tasks-stay seats stay off) (post-stays seats next.message stay (λ q. absurd (omega (arith, above)))) (fixed-stay stay above)
-      (mades-edited made i a at w.numbers.distinct w.areas.made_apart stay) only.pages
+      (mades-edited made i a at (numbers w) w.areas.made_apart stay) only.pages
 
   made-areas : HasAreas n seats made
   made-areas = record {
@@ -93,8 +93,8 @@ module _ {m n : Memory} {seats : List Seat} {made : List MadeArea} {files : File
 
   made-ledger : length (bytes m a.area.0) % 4096 ≡ 0 → length (bytes n a.area.0) % 4096 ≡ 0 → n.free + used_pages (desk_of n seats made files next) ≡ n.pages
   made-ledger whole_before whole_after =
-      omega (arith, w.ledger, only.ledger, only.pages, ap used_pages made-desk, total-with_pages (pages_at n a.area.0) m made i a at w.numbers.distinct,
+      omega (arith, w.ledger, only.ledger, only.pages, ap used_pages made-desk, total-with_pages (pages_at n a.area.0) m made i a at (numbers w),
         pages-of m a.area.0 whole_before, pages-of n a.area.0 whole_after)
 
   pub made-world : length (bytes m a.area.0) % 4096 ≡ 0 → length (bytes n a.area.0) % 4096 ≡ 0 → IsDesk (desk_of n seats made files next) → IsWorld n seats made files next
-  made-world whole_before whole_after is = record { desk = is; areas = made-areas; numbers = w.numbers; ledger = made-ledger whole_before whole_after }
+  made-world whole_before whole_after is = record { desk = is; areas = made-areas; ledger = made-ledger whole_before whole_after }

@@ -12,27 +12,22 @@ use Rattle.rh_defs.proofs.Cuts.{total-append}
 use Rattle.rh_defs.specs.Files.{FileList}
 use Rattle.rh_defs.specs.Heap.{Heap}
 use Rattle.rh_defs.specs.Desk.{Desk, Made, task_pages, used_pages}
-use Rattle.rh_defs.specs.Commands.{is_numbered, most_made}
+use Rattle.rh_defs.specs.Commands.{is_numbered}
 use Rattle.rh_defs.specs.Laws.{IsDesk}
 use Rattle.rh_store.specs.declared.store.TheConstants.{MAX_AREAS}
 use Rattle.rh_tasks.specs.declared.seat.Seat.{Seat}
 use Rattle.rh_tasks.specs.declared.made.MadeArea.{MadeArea}
 use Rattle.rh_tasks.specs.declared.next.Next.{Next}
-use Rattle.rh_tasks.specs.View.{the_module, pages_at, task_of, made_of, fixed_pages, post_of, desk_of, slot_area, made_area, made_number, Avoids, AreDistinct, HasSlot, IsAbove, HasAreas, HasNumbers, IsWorld}
+use Rattle.rh_tasks.specs.View.{the_module, pages_at, task_of, made_of, fixed_pages, post_of, desk_of, slot_area, made_area, made_number, Avoids, AreDistinct, HasSlot, IsAbove, HasAreas, IsWorld}
 use Rattle.rh_tasks.proofs.Lists.{Sits, cons, all-at, all-map, all-push, all-removed, avoids-back, avoids-push, avoids-fewer, avoids-removed, distinct-push, distinct-removed}
 use Rattle.rh_tasks.proofs.Frames.{Stay, tasks-stay, slots-stay, mades-stay, mades-opened, fixed-stay, fixed-opened, heap-stays, post-stays, module-stays}
-use Rattle.rh_tasks.proofs.Worlds.{same-desk}
+use Rattle.rh_tasks.proofs.Worlds.{numbers, same-desk}
 use Rattle.rh_tasks.proofs.Mades.{area-sits}
 use Rattle.rh_tasks.proofs.Fixed.{pages-of}
 use Rattle.rh_tasks.proofs.Joins.{none-is, off-open, closed-above, closed-stay, fixed-opened-else, filter-others, total-removed, total-map}
 
 abbrev pages_of_made : Made → ℕ
 pages_of_made m = m.pages
-
--- numbers below the next one are not it
-below-avoids : (next : ℕ) (made : List MadeArea) → AllByRecursion (λ (a : MadeArea). a.number < next) made → Avoids next (map made_number made)
-below-avoids next [] all = tt
-below-avoids next (a ∷ made) all = ((λ q. absurd (omega (arith, all.0))), below-avoids next made all.1)
 
 -- one more number to be avoided
 also-avoids : (seats : List Seat) (made : List MadeArea) (a : MadeArea) → AllByRecursion (λ (s : Seat). Avoids s.slot.area.0 (map made_area made)) seats → Avoids a.area.0 (map slot_area seats)
@@ -95,16 +90,8 @@ module _ {m : Memory} {seats : List Seat} {made : List MadeArea} {files : FileLi
       omega (arith, w.ledger, free-opened m a.area.0, pages-opened m a.area.0, ap used_pages (made-more number),
         total-append pages_of_made (map (made_of m) made) (record { number = a.number; most = a.most; pages = 0 } ∷ []))
 
-  more-numbers : a.number ≡ next.area → length made < most_made → HasNumbers (made ++ a ∷ []) (next.area + 1)
-  more-numbers is room = record {
-    few = omega (arith, room, length-append made (a ∷ []));
-    distinct = distinct-push made_number made a w.numbers.distinct (subst (λ k. Avoids k (map made_number made)) (sym is) (below-avoids next.area made w.numbers.below));
-    below = all-push (λ (x : MadeArea). x.number < next.area + 1) made a (all-map (λ (x : MadeArea). x.number < next.area) (λ (x : MadeArea). x.number < next.area + 1) made (λ x h. omega arith) w.numbers.below) (omega (arith, is));
-  }
-
-  pub more-world : a.number ≡ next.area → length made < most_made
-      → (let x : Next = record next { area = next.area + 1 } in IsDesk (desk_of n seats (made ++ a ∷ []) files x) → IsWorld n seats (made ++ a ∷ []) files x)
-  more-world is room d = record { desk = d; areas = more-areas; numbers = more-numbers is room; ledger = more-ledger (next.area + 1) }
+  pub more-world : (let x : Next = record next { area = next.area + 1 } in IsDesk (desk_of n seats (made ++ a ∷ []) files x) → IsWorld n seats (made ++ a ∷ []) files x)
+  more-world d = record { desk = d; areas = more-areas; ledger = more-ledger (next.area + 1) }
 
 -- ---- a made area goes
 
@@ -130,7 +117,7 @@ module _ {m : Memory} {seats : List Seat} {made : List MadeArea} {files : FileLi
   unfolding made_of
   made-less = same-desk (desk_of m seats made files next)
       (tasks-stay seats around off-seats) (post-stays seats next.message around (λ q. absurd (omega (arith, high)))) (fixed-stay around high)
-      (mades-stay (remove made i) around off-others ∙ sym (filter-others made_number (made_of m) (λ (x : Made). x.number) (λ x. refl) made i a at w.numbers.distinct)) (pages-closed m a.area.0)
+      (mades-stay (remove made i) around off-others ∙ sym (filter-others made_number (made_of m) (λ (x : Made). x.number) (λ x. refl) made i a at (numbers w))) (pages-closed m a.area.0)
 
   less-areas : HasAreas k seats (remove made i)
   less-areas = record {
@@ -155,12 +142,5 @@ module _ {m : Memory} {seats : List Seat} {made : List MadeArea} {files : FileLi
         ap (total task_pages) (tasks-stay seats around off-seats), ap (total (λ p. p)) (fixed-stay around high), ap (total pages_of_made) (mades-stay (remove made i) around off-others),
         ap (λ (h : Heap). h.end) (heap-stays around (λ q. absurd (omega (arith, high)))))
 
-  less-numbers : HasNumbers (remove made i) next.area
-  less-numbers = record {
-    few = omega (arith, w.numbers.few, length-remove made i at.inside);
-    distinct = distinct-removed made_number made i w.numbers.distinct;
-    below = all-removed (λ (x : MadeArea). x.number < next.area) made i w.numbers.below;
-  }
-
   pub less-world : IsDesk (desk_of k seats (remove made i) files next) → IsWorld k seats (remove made i) files next
-  less-world is = record { desk = is; areas = less-areas; numbers = less-numbers; ledger = less-ledger }
+  less-world is = record { desk = is; areas = less-areas; ledger = less-ledger }

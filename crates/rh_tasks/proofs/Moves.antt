@@ -113,7 +113,7 @@ module _ {m n : Memory} {seats : List Seat} {made : List MadeArea} {files : File
       omega (arith, w.ledger, moves.only.ledger, moves.only.pages, old, new, sums, ap used_pages moved-desk, ap task_pages moves.task, ap (λ (a : ℕ). length (bytes n a)) moves.area)
 
   pub moved-world : IsDesk (desk_of n (set seats i s') made files next) → IsWorld n (set seats i s') made files next
-  moved-world is = record { desk = is; areas = moved-areas; numbers = w.numbers; ledger = moved-ledger }
+  moved-world is = record { desk = is; areas = moved-areas; ledger = moved-ledger }
 
 -- ---- the slot of a seat alone
 

@@ -7,31 +7,32 @@ use Rattle.rh_defs.specs.Pieces.{total}
 use Rattle.rh_defs.specs.Files.{FileList}
 use Rattle.rh_defs.specs.declared.command.Command.{Command}
 use Rattle.rh_defs.specs.declared.reply.Reply.{Reply}
-use Rattle.rh_defs.specs.Chain.{Granted}
+use Rattle.rh_defs.specs.declared.reply.Reply.TheVariants as reply
+use Rattle.std.proofs.lemmas.List.{length-map}
+use Rattle.rh_defs.specs.Chain.{Granted, or_else}
 use Rattle.rh_defs.specs.Range.{in_range}
 use Rattle.rh_defs.specs.Post as post
-use Rattle.rh_defs.specs.Desk.{Desk, Task, Made, task_pages, used_pages, free_pages}
-use Rattle.rh_defs.specs.Commands.{Answer}
+use Rattle.rh_defs.specs.Desk.{Desk, Task, Made, most_tasks, task_pages, used_pages, free_pages}
+use Rattle.rh_defs.specs.Commands.{Answer, most_made}
 use Rattle.rh_defs.specs.Step.{change}
-use Rattle.rh_defs.specs.Laws.{IsDesk, Ascend}
+use Rattle.rh_defs.specs.Laws.{IsDesk, Rise}
+use Rattle.rh_defs.proofs.Steps.{step-keeps}
+use Rattle.rh_defs.specs.Forms.{first_made}
 use Rattle.rh_tasks.specs.declared.seat.Seat.{Seat}
 use Rattle.rh_tasks.specs.declared.made.MadeArea.{MadeArea}
 use Rattle.rh_tasks.specs.declared.next.Next.{Next}
-use Rattle.rh_tasks.specs.View.{task_of, desk_of, Avoids, AreDistinct, IsWorld}
+use Rattle.rh_tasks.specs.View.{task_of, made_of, made_number, desk_of, Avoids, AreDistinct, IsWorld}
 
-abbrev handle_of : Seat → ℕ
-handle_of s = s.handle
+above-avoids : {A B : Type 0} (number : B → ℕ) (f : A → B) (key : A → ℕ) → ((x : A) → number (f x) ≡ key x) → (least next k : ℕ) (xs : List A) → k < least → Rise number least next (map f xs) → Avoids k (map key xs)
+above-avoids number f key is least next k [] low up = tt
+above-avoids number f key is least next k (x ∷ xs) low up =
+    ((λ q. absurd (omega (arith, up.0, is x))), above-avoids number f key is (number (f x) + 1) next k xs (omega (arith, up.0)) up.1)
 
-above-avoids : (m : Memory) (least next k : ℕ) (seats : List Seat) → k < least → Ascend least next (map (task_of m) seats) → Avoids k (map handle_of seats)
-unfolding task_of
-above-avoids m least next k [] low up = tt
-above-avoids m least next k (s ∷ seats) low up = ((λ q. absurd (omega (arith, up.0))), above-avoids m (s.handle + 1) next k seats (omega (arith, up.0)) up.1)
-
--- handles that go up are distinct
-pub handles-distinct : (m : Memory) (least next : ℕ) (seats : List Seat) → Ascend least next (map (task_of m) seats) → AreDistinct (map handle_of seats)
-unfolding task_of
-handles-distinct m least next [] up = tt
-handles-distinct m least next (s ∷ seats) up = (above-avoids m (s.handle + 1) next s.handle seats (omega arith) up.1, handles-distinct m (s.handle + 1) next seats up.1)
+-- numbers that go up are distinct
+pub rise-distinct : {A B : Type 0} (number : B → ℕ) (f : A → B) (key : A → ℕ) → ((x : A) → number (f x) ≡ key x) → (least next : ℕ) (xs : List A) → Rise number least next (map f xs) → AreDistinct (map key xs)
+rise-distinct number f key is least next [] up = tt
+rise-distinct number f key is least next (x ∷ xs) up =
+    (above-avoids number f key is (number (f x) + 1) next (key x) xs (omega (arith, is x)) up.1, rise-distinct number f key is (number (f x) + 1) next xs up.1)
 
 module _ {m : Memory} {seats : List Seat} {made : List MadeArea} {files : FileList} {next : Next} (w : IsWorld m seats made files next) where
   abbrev pub the_desk : Desk
@@ -40,12 +41,25 @@ module _ {m : Memory} {seats : List Seat} {made : List MadeArea} {files : FileLi
   pub free-is : free_pages the_desk ≡ m.free
   free-is = omega (arith, w.ledger)
 
-  pub handles : AreDistinct (map handle_of seats)
-  handles = handles-distinct m 0 next.handle seats w.desk.handles
+  pub handles : AreDistinct (map (λ (s : Seat). s.handle) seats)
+  unfolding task_of
+  handles = rise-distinct (λ (t : Task). t.handle) (task_of m) (λ (s : Seat). s.handle) (λ s. refl) 0 next.handle seats w.desk.handles
+
+  pub numbers : AreDistinct (map made_number made)
+  unfolding made_of
+  numbers = rise-distinct (λ (x : Made). x.number) (made_of m) made_number (λ a. refl) first_made next.area made w.desk.made.numbers
+
+  pub few-made : length made ≤ most_made
+  few-made = omega (arith, w.desk.made.few, length-map (made_of m) made)
+
+  pub few-seats : length seats ≤ most_tasks
+  few-seats = omega (arith, w.desk.few, length-map (task_of m) seats)
 
 -- a command that is granted keeps what every command keeps
 pub granted-keeps : (d new : Desk) (c : Command) (said : Reply) → change d c ≡ Ok (new, said) → in_range c ≡ true → IsDesk d → IsDesk new
-granted-keeps d new c said e ranged is = ?
+unfolding or_else
+granted-keeps d new c said e ranged is =
+    subst IsDesk (ap (λ (r : Granted Answer). (or_else r (λ refusal. (d, reply.Refused refusal))).0) e) (step-keeps d c ranged is)
 
 pub same-desk : {tasks tasks' : List Task} {post post' : post.Post} {areas areas' : List ℕ} {made made' : List Made} {pool pool' : ℕ} (d : Desk)
     → tasks ≡ tasks' → post ≡ post' → areas ≡ areas' → made ≡ made' → pool ≡ pool'

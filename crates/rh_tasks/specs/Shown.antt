@@ -2,11 +2,10 @@
 use Rattle.std.specs.Prelude.{◌≡◌, ℕ, ◌+◌, ◌*◌, ◌==◌, if◌then◌else◌, List, [], ◌∷◌, length, map, sum, Option, Some, None}
 use Rattle.std.specs.List.{enumerate_from}
 use Rattle.rh_defs.specs.Pieces.{page, total}
-use Rattle.rh_defs.specs.Heap.{first_place}
 use Rattle.rh_defs.specs.HeapImage.{IsImage}
 use Rattle.rh_defs.specs.SlotImage.{SpellsSlot}
 use Rattle.rh_defs.specs.Slot.{slot_start}
-use Rattle.rh_defs.specs.Spans.{AreLaidOut, heap_spans, slot_spans}
+use Rattle.rh_defs.specs.Spans.{AreLaidOut, slot_spans, module_spans}
 use Rattle.rh_defs.specs.Desk.{Desk, Task, Made, Scrap, module_pages, free_pages}
 use Rattle.rh_defs.specs.Commands.{module_area, module_start}
 
@@ -58,4 +57,4 @@ LieApart _ _ = ⊥
 -- all live blocks lie in the areas of the store, and no two of one area overlap
 pub record HasApartBlocks (s : Shown) : Type 0 where
   pub slots : LieApart s.slots s.desk.tasks
-  pub module_area : AreLaidOut module_start (length s.module_bytes) (heap_spans (module_start + first_place) s.desk.post.heap.segments)
+  pub module_area : AreLaidOut module_start (length s.module_bytes) (module_spans s.desk.post.heap)

@@ -8,7 +8,6 @@ use Rattle.rh_defs.specs.Pieces.{page}
 use Rattle.rh_defs.specs.Files.{FileList}
 use Rattle.rh_defs.specs.Post as post
 use Rattle.rh_defs.specs.Desk.{Desk, Task, Made, used_pages}
-use Rattle.rh_defs.specs.Commands.{most_made}
 use Rattle.rh_defs.specs.Laws.{IsDesk}
 use Rattle.rh_store.specs.declared.store.TheConstants.{MAX_AREAS}
 use Rattle.rh_module.specs.declared.module.Module.{Module}
@@ -131,21 +130,14 @@ pub record HasAreas (m : Memory) (seats : List Seat) (made : List MadeArea) : Ty
 abbrev pub is_named : List ℕ → Seat → Bool
 is_named name s = bytes_eq s.name name
 
--- the numbers of the made areas
+-- the number of a made area
 abbrev pub made_number : MadeArea → ℕ
 made_number a = a.number
-
--- there are few made areas, each with a number of its own below the next one
-pub record HasNumbers (made : List MadeArea) (next : ℕ) : Type 0 where
-  pub few : length made ≤ most_made
-  pub distinct : AreDistinct (map made_number made)
-  pub below : AllByRecursion (λ (a : MadeArea). a.number < next) made
 
 -- what holds of every world
 pub record IsWorld (m : Memory) (seats : List Seat) (made : List MadeArea) (files : FileList) (next : Next) : Type 0 where
   pub desk : IsDesk (desk_of m seats made files next)
   pub areas : HasAreas m seats made
-  pub numbers : HasNumbers made next.area
   pub ledger : m.free + used_pages (desk_of m seats made files next) ≡ m.pages
 
 -- whether a made area has the number
