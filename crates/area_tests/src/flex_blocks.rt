@@ -3,7 +3,7 @@
 ghost use Rattle.std.specs.Prelude.{◌<◌};
 ghost use Rattle.rh_defs.specs.Memory.{Memory, IsOpen, open_below};
 ghost use Rattle.rh_slot.specs.Area.{IsSlot};
-ghost use Rattle.rh_store.specs.declared.store.TheConstants.{MAX_AREAS};
+ghost use Rattle.rh_defs.specs.declared.sizes.TheConstants.{MAX_AREAS};
 
 use crate::stores::{paged_store, plain_store};
 use rh_defs::{Anchor, Refusal};

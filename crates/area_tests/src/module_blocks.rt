@@ -5,10 +5,11 @@ ghost use Rattle.rh_defs.specs.Memory.{Memory, IsOpen, bytes};
 ghost use Rattle.rh_module.specs.Area.{IsModule};
 
 use rh_defs::Refusal;
+use rh_defs::sizes::PAGE;
 use rh_heap::Segment;
 use rh_module::Module;
 use rh_pages::PagedStore;
-use rh_store::{PAGE, PlainStore, Store, StoreFault};
+use rh_store::{PlainStore, Store, StoreFault};
 use std::process::Abort;
 use std::test::Fail;
 

@@ -4,7 +4,7 @@ ghost use Rattle.std.specs.Prelude.{◌<◌, IfOk};
 ghost use Rattle.rh_defs.specs.Memory.{open_below};
 ghost use Rattle.rh_pages.specs.Paged as pages;
 ghost use Rattle.rh_store.specs.Plain as plain;
-ghost use Rattle.rh_store.specs.declared.store.TheConstants.{MAX_AREAS};
+ghost use Rattle.rh_defs.specs.declared.sizes.TheConstants.{MAX_AREAS};
 
 use rh_pages::PagedStore;
 use rh_store::PlainStore;

@@ -1,5 +1,8 @@
 //! Sizes, places and limits that several crates name. Sizes and places are in bytes.
 
+ghost use Rattle.std.specs.Prelude.{◌≡◌, ◌+◌, ◌*◌, ◌^◌};
+ghost use Rattle.rh_defs.specs.declared.sizes.TheConstants.{FIXED_AREAS, MADE_AREAS, MAX_AREAS, MAX_PAGES, MAX_TASKS, MIN_PAGES, PAGE};
+
 /// The bytes of a word, the unit of all layouts.
 pub const WORD: usize = 4;
 
@@ -11,6 +14,16 @@ pub const MIN_PAGES: usize = 8;
 
 /// The greatest number of pages that a desk is given.
 pub const MAX_PAGES: usize = 1024;
+
+/// How many areas a desk has from its start on: the system heap, the module area, the screen, sprites, fonts and the
+/// RAM disc.
+pub const FIXED_AREAS: usize = 6;
+
+/// How many areas that were made at run can be live at a time.
+pub const MADE_AREAS: usize = 32;
+
+/// How many tasks can be live at a time, each with an area for its slot.
+pub const MAX_TASKS: usize = 32;
 
 /// How many areas can be open at a time: the fixed ones, those made at run and those of slots.
 pub const MAX_AREAS: usize = 70;
@@ -62,3 +75,15 @@ pub const LONGEST_LINE: usize = 1024;
 
 /// The greatest number that a script can spell.
 pub const GREATEST_NUMBER: u32 = 2_147_483_647;
+
+/// The areas of a desk fit exactly, with as many made ones and slots as there can be; pages are from 8, and up to as many
+/// as make 4 MiB.
+pub fn limits_law()
+    ensures fixed { FIXED_AREAS ≡ 6 }
+    ensures made { MADE_AREAS ≡ 32 }
+    ensures tasks { MAX_TASKS ≡ 32 }
+    ensures areas { MAX_AREAS ≡ FIXED_AREAS + MADE_AREAS + MAX_TASKS }
+    ensures least { MIN_PAGES ≡ 8 }
+    ensures most { PAGE * MAX_PAGES ≡ 2 ^ 22 }
+    ensures page { PAGE ≡ 4096 }
+{}

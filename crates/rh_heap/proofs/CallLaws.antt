@@ -1,7 +1,7 @@
 -- What a call leaves, by what it is granted.
 use Rattle.std.proofs.Common.{◌≡◌, sym, ap, subst, ◌∙◌}
 use Rattle.std.specs.Prelude.{Result, Ok, Err}
-use Rattle.rh_defs.specs.Memory.{Memory, bytes}
+use Rattle.rh_defs.specs.Memory.{Memory}
 use Rattle.rh_defs.specs.Chain.{answer_of, left_of}
 use Rattle.rh_defs.specs.Heap.{Heap}
 use Rattle.rh_defs.specs.declared.heap.HeapRefusal.{HeapRefusal}

@@ -1,8 +1,7 @@
 -- The cut that a release leaves.
 use Rattle.std.proofs.Common.{◌≡◌, ℕ, ◌+◌, ◌-◌, ◌<◌, false, List, [], ◌∷◌, ◌++◌, length, sym, ap, subst, ◌∙◌, append_assoc, arith}
-use Rattle.std.specs.Prelude.{None}
 use Rattle.rh_defs.specs.Pieces.{total}
-use Rattle.rh_defs.specs.Heap.{Segment, Used, Hole, Heap, IsTidy, size_of, with_hole, joined, block_at, release, release_found}
+use Rattle.rh_defs.specs.Heap.{Segment, Used, Hole, Heap, IsTidy, size_of, with_hole, joined, release, release_found}
 use Rattle.rh_defs.specs.HeapImage.{Spells}
 use Rattle.rh_defs.proofs.HeapLists.{total-append, tidy_behind_used, with_hole-with_hole, joined-tidy, joined-front}
 use Rattle.rh_defs.proofs.HeapFaults.{multiple_of_sizes}
@@ -82,7 +81,3 @@ pub release_spells : (b c : List ℕ) (at : ℕ) (h : Heap) (address : ℕ) (spo
     → Settles b c at (release_cut spot next) → Spells c at (release address h)
 release_spells b c at h address spot next s f k settles =
     subst (Spells c at) (sym (released_is at h address spot s.heap.tidy f)) (settles h.end f.reached.front f.after (release_between b at h address spot next s f k))
-
--- where no block begins the heap stays
-pub not_released : (address : ℕ) (h : Heap) → block_at address h ≡ None → release address h ≡ h
-not_released address h e = ap (λ o. release_found o h) e

@@ -4,7 +4,6 @@ use Rattle.std.proofs.lemmas.List.{append-nil, length-replicate, take_all, take-
 use Rattle.rh_defs.specs.Bytes.{word, part, SameOutside}
 use Rattle.rh_defs.specs.Pieces.{total}
 use Rattle.rh_defs.specs.Heap.{Segment, Used, Hole, Heap, Placed, IsTidy, size_of, bytes_of, base, with_hole, joined, fitted, way_to, resized_by}
-use Rattle.rh_defs.specs.Pieces.{zeros}
 use Rattle.rh_defs.specs.Heap as heap
 use Rattle.rh_defs.specs.HeapImage.{Stand, Spells}
 use Rattle.rh_defs.proofs.BytesLaws.{part_more, length-part}

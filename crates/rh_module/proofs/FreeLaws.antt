@@ -3,7 +3,7 @@ use Rattle.std.proofs.Common.{◌≡◌, ℕ, length, sym, ap, subst, ◌∙◌}
 use Rattle.std.specs.Prelude.{Ok, Err}
 use Rattle.rh_defs.specs.Memory.{Memory, OnlyArea, bytes}
 use Rattle.rh_defs.specs.Chain.{answer_of, left_of, no_answer}
-use Rattle.rh_defs.specs.Heap.{Heap, block_at, release, released_at, refusal_of}
+use Rattle.rh_defs.specs.Heap.{block_at, release, released_at, refusal_of}
 use Rattle.rh_defs.specs.Module.{module_free}
 use Rattle.rh_defs.specs.declared.heap.HeapRefusal.{HeapRefusal}
 use Rattle.rh_defs.proofs.HeapCalls.{released_at-some, released-found, released-refused}

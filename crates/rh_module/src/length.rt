@@ -10,8 +10,9 @@ ghost use Rattle.rh_module.specs.Lengths.{longer, shorter};
 
 use crate::module::Module;
 use rh_defs::Refusal;
+use rh_defs::sizes::PAGE;
 use rh_heap::{extend_heap, init};
-use rh_store::{AreaId, PAGE, Pages};
+use rh_store::{AreaId, Pages};
 
 /// How many pages hold this many bytes.
 pub fn pages_for(bytes: usize) -> usize

@@ -1,7 +1,7 @@
 -- Where the code finds a part of one page of a store, and what a write there does to the store.
-use Rattle.std.proofs.Common.{◌≡◌, ℕ, ◌+◌, ◌*◌, ◌%◌, ◌<◌, ◌≤◌, List, [], length, get_or, sym, ap, subst, ◌∙◌, arith, lit≤}
+use Rattle.std.proofs.Common.{◌≡◌, ℕ, ◌+◌, ◌-◌, ◌*◌, ◌/◌, ◌%◌, ◌<◌, ◌≤◌, List, [], length, get_or, sym, ap, subst, ◌∙◌, arith, lit≤}
 use Rattle.std.proofs.lemmas.List.{get_or_default}
-use Rattle.rh_store.specs.declared.store.TheConstants.{MAX_AREAS}
+use Rattle.rh_defs.specs.declared.sizes.TheConstants.{MAX_AREAS, MAX_PAGES}
 use Rattle.rh_defs.specs.Bytes.{part, put}
 use Rattle.rh_defs.specs.Memory.{IsOpen, bytes, with_bytes}
 use Rattle.rh_pages.specs.declared.paged.PagedStore.{PagedStore}
@@ -46,8 +46,13 @@ spot_there s id at n o some inside fits = spot s.region s.areas.items s.opened.i
 pub seat : (s : PagedStore) (id at n p : ℕ) → IsOpen (memory_of s) id → 0 < n → at + n ≤ length (bytes (memory_of s) id) → at % 4096 + n ≤ 4096 → p ≡ spot_in s.areas.items id at → Seat s id at n p
 seat s id at n p o some inside fits e = subst (Seat s id at n) (sym e) (at_spot s id at n (spot_there s id at n o some inside fits))
 
+-- the byte at an offset stands where its page does, and as far on as the offset goes past the page's start
+pub on_from_place : (s : PagedStore) (id at start : ℕ) → start ≡ place_of s id (at / 4096) → start + (at - 4096 * (at / 4096)) ≡ spot_in s.areas.items id at
+unfolding place_of
+on_from_place s id at start e = omega arith
+
 -- a page number as the code reads it
-pub page_small : (s : PagedStore) (id i : ℕ) → i < length (list_at s.areas.items id) → (k : ℕ) → k ≡ get_or (list_at s.areas.items id) i 0 → k < 256
+pub page_small : (s : PagedStore) (id i : ℕ) → i < length (list_at s.areas.items id) → (k : ℕ) → k ≡ get_or (list_at s.areas.items id) i 0 → k < MAX_PAGES
 page_small s id i lt k e = let a = page_below s.region s.areas.items s.opened.items s.free s.pages MAX_AREAS s.kept id i lt in let b = s.few in omega arith
 
 -- page i of an area has the number k

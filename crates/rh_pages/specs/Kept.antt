@@ -3,7 +3,7 @@ use Rattle.std.specs.Prelude.{◌≡◌, ℕ, ◌+◌, ◌*◌, ◌%◌, ◌^◌
 use Rattle.std.proofs.Common.{inl, inr, sym, ◌∙◌, arith, length-append}
 use Rattle.std.proofs.lemmas.Bool.{cases_lt}
 use Rattle.std.proofs.lemmas.List.{get_or_past}
-use Rattle.rh_store.specs.declared.plain.TheConstants.{MAX_PAGES}
+use Rattle.rh_defs.specs.declared.sizes.TheConstants.{MAX_PAGES}
 use Rattle.rh_defs.specs.Memory.{IsOpen, bytes}
 use Rattle.rh_defs.proofs.BytesLaws.{length-part}
 use Rattle.rh_defs.proofs.MemoryLaws.{pages_below-one}

@@ -1,6 +1,6 @@
 -- The memory of a paged store, where its pages stand, and why the laws of `Store` hold of it.
 use Rattle.std.specs.Prelude.{ℕ, ◌+◌, ◌*◌, ◌%◌, ◌^◌, ◌<◌, ◌≤◌, ◌≡◌, length, get_or}
-use Rattle.rh_store.specs.declared.store.TheConstants.{MAX_AREAS}
+use Rattle.rh_defs.specs.declared.sizes.TheConstants.{MAX_AREAS}
 use Rattle.rh_defs.specs.Memory.{Memory, IsOpen, Ledger, bytes}
 use Rattle.rh_pages.specs.declared.paged.PagedStore.{PagedStore}
 use Rattle.rh_pages.specs.Pages.{list_at, memory_in}

@@ -3,7 +3,5 @@
 
 mod list;
 mod paged;
-#[cfg(test)]
-mod tests;
 
 pub use paged::PagedStore;

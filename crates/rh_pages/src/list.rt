@@ -1,8 +1,8 @@
 //! A list of page numbers, with room for all pages from the start.
 ghost use Rattle.std.specs.Prelude.{◌≡◌, ◌+◌, ◌<◌, ◌≤◌, [], ◌∷◌, ◌++◌, length, slice_index, IfOk};
-ghost use Rattle.rh_store.specs.declared.plain.TheConstants.{MAX_PAGES};
+ghost use Rattle.rh_defs.specs.declared.sizes.TheConstants.{MAX_PAGES};
 
-use rh_store::MAX_PAGES;
+use rh_defs::sizes::MAX_PAGES;
 use std::alloc::{AllocError, Global};
 use std::marker::Model;
 
@@ -14,7 +14,7 @@ pub struct PageList {
 
 impl Model for PageList {
     ghost use Rattle.std.specs.Prelude.{ℕ, List, ◌≤◌, vec_capacity};
-    ghost use Rattle.rh_store.specs.declared.plain.TheConstants.{MAX_PAGES};
+    ghost use Rattle.rh_defs.specs.declared.sizes.TheConstants.{MAX_PAGES};
 
     ghost Value = { List ℕ };
 

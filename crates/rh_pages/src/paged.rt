@@ -2,8 +2,7 @@
 #![tactic(auto, unfolding(rh_defs::specs::Memory::bytes, crate::specs::Paged::memory_of))]
 
 ghost use Rattle.std.specs.Prelude.{◌≤◌};
-ghost use Rattle.rh_store.specs.declared.store.TheConstants.{MAX_AREAS};
-ghost use Rattle.rh_store.specs.declared.plain.TheConstants.{MAX_PAGES};
+ghost use Rattle.rh_defs.specs.declared.sizes.TheConstants.{MAX_AREAS, MAX_PAGES};
 ghost use Rattle.rh_pages.specs.Pages.{IsStore};
 
 mod moves;
@@ -11,8 +10,9 @@ mod parts;
 mod store;
 
 use crate::list::PageList;
-use rh_region::{PAGE, Region};
-use rh_store::{AreaId, MAX_AREAS, MAX_PAGES, MIN_PAGES};
+use rh_defs::sizes::{MAX_AREAS, MAX_PAGES, MIN_PAGES, PAGE};
+use rh_region::Region;
+use rh_store::AreaId;
 use std::alloc::{AllocError, Global};
 
 /// A store whose areas share one region: an area is a list of page numbers, and page k of the region
@@ -35,7 +35,7 @@ impl PagedStore {
     ghost use Rattle.rh_pages.specs.Pages.{spot_in};
     ghost use Rattle.rh_pages.specs.Paged.{memory_of, place_of};
 
-    /// A store of this many pages, 8 to 256, all of them free. All memory is taken here.
+    /// A store of this many pages, 8 to 1,024, all of them free. All memory is taken here.
     pub fn new(alloc: Global, pages: usize) -> Result<PagedStore, AllocError>
         requires least { MIN_PAGES ≤ pages }
         requires most { pages ≤ MAX_PAGES }

@@ -1,3 +1,7 @@
-pub mod Memory
+pub mod BlockFields
+pub mod Filling
+pub mod HeapCalls
 pub mod PatchedLemmas
+pub mod Runs
+pub mod Words
 pub mod Zeros

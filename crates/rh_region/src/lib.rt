@@ -10,8 +10,6 @@ ghost use Rattle.rh_region.specs.Word.{word_at};
 ghost use Rattle.rh_region.specs.Zeros.{zeros};
 
 mod raw;
-#[cfg(test)]
-mod tests;
 
 use crate::raw::Block;
 use std::alloc::{AllocError, Global};

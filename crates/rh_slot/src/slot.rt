@@ -3,7 +3,7 @@ ghost use Rattle.std.specs.Prelude.{◌≡◌, ℕ, ◌<◌, true, IfOk, OnErr, 
 ghost use Rattle.rh_defs.specs.Memory.{Memory, IsOpen, OnlyArea, closed, open_below};
 ghost use Rattle.rh_defs.specs.Chain.{outcome_of};
 ghost use Rattle.rh_defs.specs.Slot.{new_slot, slot_begin, slot_set_budge, holds};
-ghost use Rattle.rh_store.specs.declared.store.TheConstants.{MAX_AREAS};
+ghost use Rattle.rh_defs.specs.declared.sizes.TheConstants.{MAX_AREAS};
 ghost use Rattle.rh_slot.specs.Area.{IsSlot, SpellsIn, slot_in};
 
 use rh_defs::Refusal;

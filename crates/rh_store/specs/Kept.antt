@@ -3,7 +3,7 @@ use Rattle.std.specs.Prelude.{◌≡◌, ℕ, zero, suc, ◌+◌, ◌*◌, ◌%�
 use Rattle.std.proofs.Common.{inl, inr, ap, arith}
 use Rattle.std.proofs.lemmas.Bool.{cases_lt}
 use Rattle.rh_store.specs.declared.area.Area.{Area}
-use Rattle.rh_store.specs.declared.plain.TheConstants.{MAX_PAGES}
+use Rattle.rh_defs.specs.declared.sizes.TheConstants.{MAX_PAGES}
 use Rattle.rh_store.specs.Areas.{contents, memory_in, IsTidy, IsStore}
 use Rattle.rh_defs.specs.Memory.{IsOpen, bytes}
 use Rattle.rh_defs.proofs.MemoryLaws.{pages_below-one}

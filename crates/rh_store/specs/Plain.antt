@@ -1,7 +1,7 @@
 -- The memory of a plain store, and why the laws of `Store` hold of it.
 use Rattle.std.specs.Prelude.{ℕ, ◌+◌, ◌*◌, ◌%◌, ◌^◌, ◌<◌, ◌≤◌, ◌≡◌, length}
 use Rattle.rh_store.specs.declared.plain.PlainStore.{PlainStore}
-use Rattle.rh_store.specs.declared.store.TheConstants.{MAX_AREAS}
+use Rattle.rh_defs.specs.declared.sizes.TheConstants.{MAX_AREAS}
 use Rattle.rh_store.specs.Areas.{memory_in}
 use Rattle.rh_store.specs.Kept.{whole_areas, within_pool, few_pages, small_areas, numbered_areas}
 use Rattle.rh_defs.specs.Memory.{Memory, IsOpen, Ledger, bytes}

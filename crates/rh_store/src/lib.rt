@@ -20,11 +20,9 @@
 #![tactic(auto)]
 
 mod area;
-mod bytes;
+pub mod bytes;
 mod plain;
 mod store;
-#[cfg(test)]
-mod tests;
 
-pub use plain::{MAX_PAGES, MIN_PAGES, PlainStore};
-pub use store::{AreaId, MAX_AREAS, PAGE, Pages, Store, StoreFault, Words};
+pub use plain::PlainStore;
+pub use store::{AreaId, Pages, Store, StoreFault, Words};

@@ -4,22 +4,16 @@
 
 ghost use Rattle.std.specs.Prelude.{◌≤◌};
 ghost use Rattle.rh_store.specs.Areas.{IsStore};
-ghost use Rattle.rh_store.specs.declared.store.TheConstants.{MAX_AREAS};
-ghost use Rattle.rh_store.specs.declared.plain.TheConstants.{MAX_PAGES};
+ghost use Rattle.rh_defs.specs.declared.sizes.TheConstants.{MAX_AREAS, MAX_PAGES};
 
 use crate::area::{
     Area, close_at, copy_at, first_closed, lengthen_at, open_at, put_at, set_word_at, shorten_at,
     slide_at, zero_at,
 };
 use crate::bytes::{copy_from, word_in};
-use crate::store::{AreaId, MAX_AREAS, PAGE, Pages, Store, StoreFault, Words};
+use crate::store::{AreaId, Pages, Store, StoreFault, Words};
+use rh_defs::sizes::{MAX_AREAS, MIN_PAGES, PAGE};
 use std::alloc::{AllocError, Global};
-
-/// The least number of pages that a `PlainStore` is made of.
-pub const MIN_PAGES: usize = 8;
-
-/// The greatest number of pages that a `PlainStore` is made of.
-pub const MAX_PAGES: usize = 256;
 
 /// A store that keeps a vector for each area, with room for all pages from the start.
 #[derive(Drop)]
@@ -39,7 +33,7 @@ impl PlainStore {
     /// A store of this many pages, 8 to 256, all of them free. All memory is taken here.
     pub fn new(alloc: Global, pages: usize) -> Result<PlainStore, AllocError>
         requires least { MIN_PAGES ≤ pages }
-        requires most { pages ≤ MAX_PAGES }
+        requires most { pages ≤ 256 }
         ensures { IfOk result (λ s. memory_of s ≡ fresh pages) }
     {
         let mut areas = Vec::with_capacity(alloc, MAX_AREAS)?;

@@ -2,15 +2,10 @@
 ghost use Rattle.std.specs.Prelude.{◌≡◌, ℕ, ◌+◌, ◌*◌, ◌%◌, ◌^◌, ◌<◌, ◌≤◌, ◌↔◌, ◌⊎◌, length, replicate, IsTrue, IsNone, IfOk, OnErr, OnOk, IsErr, IsErrOf};
 ghost use Rattle.rh_defs.specs.Bytes.{word, put, put_word, part};
 ghost use Rattle.rh_defs.specs.Memory.{Memory, IsOpen, Ledger, bytes, with_bytes, opened, closed, grown, shrunk, open_below};
-ghost use Rattle.rh_store.specs.declared.store.TheConstants.{MAX_AREAS};
+ghost use Rattle.rh_defs.specs.declared.sizes.TheConstants.{MAX_AREAS};
 
+use rh_defs::sizes::MAX_AREAS;
 use thiserror::Error;
-
-/// The bytes of a page.
-pub const PAGE: usize = 4096;
-
-/// How many areas can be open at a time.
-pub const MAX_AREAS: usize = 38;
 
 /// The number of an open area, below `MAX_AREAS`.
 #[derive(Clone, Copy, Debug, PartialEq, Eq)]

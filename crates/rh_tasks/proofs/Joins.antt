@@ -17,7 +17,7 @@ use Rattle.rh_defs.specs.Post as post
 use Rattle.rh_defs.specs.Desk.{Desk, Task, Made, task_pages, used_pages, with_delivered}
 use Rattle.rh_defs.specs.Laws.{IsDesk}
 use Rattle.rh_slot.specs.Area.{IsSlot, slot_in}
-use Rattle.rh_store.specs.declared.store.TheConstants.{MAX_AREAS}
+use Rattle.rh_defs.specs.declared.sizes.TheConstants.{MAX_AREAS}
 use Rattle.rh_tasks.specs.declared.seat.Seat.{Seat}
 use Rattle.rh_tasks.specs.declared.made.MadeArea.{MadeArea}
 use Rattle.rh_tasks.specs.declared.next.Next.{Next}

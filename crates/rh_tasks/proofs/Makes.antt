@@ -14,7 +14,7 @@ use Rattle.rh_defs.specs.Heap.{Heap}
 use Rattle.rh_defs.specs.Desk.{Desk, Made, task_pages, used_pages}
 use Rattle.rh_defs.specs.Commands.{is_numbered}
 use Rattle.rh_defs.specs.Laws.{IsDesk}
-use Rattle.rh_store.specs.declared.store.TheConstants.{MAX_AREAS}
+use Rattle.rh_defs.specs.declared.sizes.TheConstants.{MAX_AREAS}
 use Rattle.rh_tasks.specs.declared.seat.Seat.{Seat}
 use Rattle.rh_tasks.specs.declared.made.MadeArea.{MadeArea}
 use Rattle.rh_tasks.specs.declared.next.Next.{Next}

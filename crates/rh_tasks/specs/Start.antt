@@ -4,7 +4,7 @@ use Rattle.std.specs.List.{AllByRecursion}
 use Rattle.rh_defs.specs.Memory.{Memory, IsOpen, open_below}
 use Rattle.rh_defs.specs.Heap.{empty_heap}
 use Rattle.rh_defs.specs.Pieces.{page}
-use Rattle.rh_store.specs.declared.store.TheConstants.{MAX_AREAS}
+use Rattle.rh_defs.specs.declared.sizes.TheConstants.{MAX_AREAS}
 use Rattle.rh_module.specs.Area.{IsModule, heap_in}
 use Rattle.rh_tasks.specs.View.{the_module, fixed, pages_at}
 

@@ -9,7 +9,7 @@ use Rattle.rh_defs.specs.Files.{FileList}
 use Rattle.rh_defs.specs.Post as post
 use Rattle.rh_defs.specs.Desk.{Desk, Task, Made, used_pages}
 use Rattle.rh_defs.specs.Laws.{IsDesk}
-use Rattle.rh_store.specs.declared.store.TheConstants.{MAX_AREAS}
+use Rattle.rh_defs.specs.declared.sizes.TheConstants.{MAX_AREAS}
 use Rattle.rh_module.specs.declared.module.Module.{Module}
 use Rattle.rh_module.specs.Area.{IsModule, heap_in}
 use Rattle.rh_slot.specs.Area.{IsSlot, slot_in}

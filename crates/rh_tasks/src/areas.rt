@@ -13,7 +13,8 @@ use crate::made::find_made;
 use crate::module_blocks::MODULE;
 use crate::world::World;
 use rh_defs::{Refusal, Reply};
-use rh_store::{AreaId, PAGE, Pages, Store};
+use rh_defs::sizes::PAGE;
+use rh_store::{AreaId, Pages, Store};
 
 /// The module area's number.
 const MODULE_AREA: u32 = 1;

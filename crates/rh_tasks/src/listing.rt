@@ -18,10 +18,10 @@ use crate::made::MadeArea;
 use crate::seat::Seat;
 use crate::seats::slot_of;
 use crate::world::World;
-use rh_defs::sizes::C_HEAP_START;
+use rh_defs::sizes::{C_HEAP_START, PAGE};
 use rh_defs::{Anchor, AreaItem, BlockItem, Name, Refusal, Reply, SegmentItem};
 use rh_heap::Segment;
-use rh_store::{AreaId, PAGE, Store};
+use rh_store::{AreaId, Store};
 
 /// A C heap's length, the size of the largest block that fits, and its free bytes.
 pub type HeapSums = (u32, u32, u32);

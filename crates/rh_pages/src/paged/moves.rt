@@ -2,7 +2,7 @@
 #![tactic(auto, unfolding(rh_defs::specs::Memory::bytes, crate::specs::Paged::memory_of))]
 
 use super::PagedStore;
-use rh_region::PAGE;
+use rh_defs::sizes::PAGE;
 use rh_store::AreaId;
 
 impl PagedStore {

@@ -4,7 +4,7 @@
 ghost use Rattle.std.specs.Prelude.{◌≡◌, ℕ, ◌<◌, true, false, get_or, length, unwrap_or, IfSome};
 
 use super::PagedStore;
-use rh_region::PAGE;
+use rh_defs::sizes::{PAGE, WORD};
 use rh_store::{AreaId, Pages, Store, StoreFault, Words};
 
 /// The number of the first area that isn't open.
@@ -26,20 +26,24 @@ impl Words for PagedStore {
     ghost memory = { memory_of };
 
     fn word(&self, id: AreaId, at: usize) -> u32 {
-        if at % PAGE <= PAGE - 4 {
-            let place = self.spot(id, at);
-            self.region.word(place)
+        let page = at / PAGE;
+        let offset = at - PAGE * page;
+        if offset <= PAGE - WORD {
+            let start = self.place(id, page);
+            self.region.word(start + offset)
         } else {
-            let mut bytes = [0; 4];
+            let mut bytes = [0; WORD];
             self.copy_out(id, at, &mut bytes);
             u32::from_le_bytes(bytes)
         }
     }
 
     fn set_word(&mut self, id: AreaId, at: usize, w: u32) {
-        if at % PAGE <= PAGE - 4 {
-            let place = self.spot(id, at);
-            self.region.set_word(place, w);
+        let page = at / PAGE;
+        let offset = at - PAGE * page;
+        if offset <= PAGE - WORD {
+            let start = self.place(id, page);
+            self.region.set_word(start + offset, w);
         } else {
             self.copy_in(id, at, &w.to_le_bytes());
         }

@@ -1,9 +1,8 @@
-use Rattle.std.proofs.Common.{◌≡◌, refl, sym, ap, ◌∙◌, arith}
+use Rattle.std.proofs.Common.{◌≡◌, refl, ap, ◌∙◌, arith}
 use Rattle.std.specs.Int.{w32}
 use Rattle.std.proofs.lemmas.Int.{to_z-of_z}
 use Rattle.rh_defs.specs.Chain.{no_answer}
 use Rattle.rh_defs.specs.Pieces.{moved}
-use Rattle.rh_defs.specs.Heap.{base}
 use Rattle.rh_defs.proofs.HeapCalls.{extend-low, extend-done}
 use Rattle.rh_defs.proofs.MemoryLaws.{Edited-wider}
 use Rattle.rh_heap.specs.Spans.{heap_in}

@@ -1,5 +1,5 @@
 use Rattle.std.proofs.Common.{◌≡◌, [], false, length, replicate, ap, ◌∙◌, arith}
-use Rattle.rh_store.specs.declared.store.TheConstants.{MAX_AREAS}
+use Rattle.rh_defs.specs.declared.sizes.TheConstants.{MAX_AREAS}
 use Rattle.rh_pages.specs.Paged.{memory_of}
 use Rattle.rh_pages.proofs.Start.{first, length_first, fresh_kept, fresh_memory}
 use Rattle.rh_pages.proofs.paged.PagedStore.new.Goals as goal

@@ -1,6 +1,6 @@
 use Rattle.std.proofs.Common.{length, refl, sym, ap, ◌∙◌, arith}
 use Rattle.std.proofs.lemmas.List.{length_push}
-use Rattle.rh_store.specs.declared.store.TheConstants.{MAX_AREAS}
+use Rattle.rh_defs.specs.declared.sizes.TheConstants.{MAX_AREAS}
 use Rattle.rh_pages.specs.Paged.{memory_of}
 use Rattle.rh_pages.proofs.Seats.{area_index, list_read, area_long}
 use Rattle.rh_pages.proofs.Turns.{shrunk_kept, shrunk_memory, room_left}

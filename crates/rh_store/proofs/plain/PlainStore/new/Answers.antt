@@ -2,7 +2,7 @@ use Rattle.std.proofs.Common.{◌≡◌, ◌+◌, ◌%◌, ℕ, false, List, [],
 use Rattle.std.specs.Prelude.{All, None}
 use Rattle.std.proofs.Math.ListN.{length-append}
 use Rattle.rh_store.specs.declared.area.Area.{Area}
-use Rattle.rh_store.specs.declared.store.TheConstants.{MAX_AREAS}
+use Rattle.rh_defs.specs.declared.sizes.TheConstants.{MAX_AREAS}
 use Rattle.rh_store.specs.Areas.{IsTidy, HasRoom, contents}
 use Rattle.rh_defs.proofs.MemoryLaws.{pages_below-none}
 use Rattle.rh_store.proofs.AreasLaws.{contents-nil, contents-push, tidy-push, reserved-push, memory-fresh}
@@ -38,7 +38,7 @@ loop-k-preserved c =
 pub invariant_of-result : goal.invariant_of-result
 unfolding memory_of
 invariant_of-result c = record {
-  few = c.requires.most;
+  few = let most = c.requires.most in omega arith;
   kept = record {
     table = let l = c.loop-k.invariant.len in omega arith;
     tidy = c.loop-k.invariant.tidy;

@@ -2,7 +2,7 @@ use Rattle.std.proofs.Common.{◌+◌, ◌-◌, ◌*◌, length, take, subst, ar
 use Rattle.std.specs.Prelude.{Some}
 use Rattle.std.proofs.lemmas.List.{length-take-le}
 use Rattle.rh_defs.specs.Memory.{bytes}
-use Rattle.rh_store.specs.declared.store.TheConstants.{MAX_AREAS}
+use Rattle.rh_defs.specs.declared.sizes.TheConstants.{MAX_AREAS}
 use Rattle.rh_store.specs.Areas.{ChangedAt}
 use Rattle.rh_store.specs.Kept.{whole_areas, numbered_areas}
 use Rattle.rh_store.specs.Plain.{memory_of}

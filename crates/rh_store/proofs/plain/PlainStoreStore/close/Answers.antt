@@ -1,7 +1,7 @@
 use Rattle.std.proofs.Common.{◌+◌, ◌/◌, refl, ap, ◌∙◌, arith}
 use Rattle.std.specs.Prelude.{None}
 use Rattle.rh_defs.specs.Memory.{bytes}
-use Rattle.rh_store.specs.declared.store.TheConstants.{MAX_AREAS}
+use Rattle.rh_defs.specs.declared.sizes.TheConstants.{MAX_AREAS}
 use Rattle.rh_store.specs.Areas.{memory_in}
 use Rattle.rh_store.specs.Kept.{numbered_areas}
 use Rattle.rh_store.specs.Plain.{memory_of}

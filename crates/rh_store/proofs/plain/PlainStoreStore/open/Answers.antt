@@ -1,7 +1,7 @@
 use Rattle.std.proofs.Common.{◌≡◌, ◌<◌, ◌+◌, ◌/◌, List, ℕ, length, refl, sym, ap, subst, arith}
 use Rattle.std.specs.Prelude.{Option, Some, [], IsSome, IsNone, unwrap_or}
 use Rattle.rh_store.specs.declared.area.Area.{Area}
-use Rattle.rh_store.specs.declared.store.TheConstants.{MAX_AREAS}
+use Rattle.rh_defs.specs.declared.sizes.TheConstants.{MAX_AREAS}
 use Rattle.rh_store.specs.Areas.{contents}
 use Rattle.rh_store.specs.Plain.{memory_of}
 use Rattle.rh_defs.proofs.MemoryLaws.{open_below-all, open_below-none}

@@ -1,7 +1,7 @@
 use Rattle.rh_defs.specs.Bytes.{put, part}
 use Rattle.rh_defs.specs.Memory.{bytes}
 use Rattle.rh_defs.proofs.BytesLaws.{length-put}
-use Rattle.rh_store.specs.declared.store.TheConstants.{MAX_AREAS}
+use Rattle.rh_defs.specs.declared.sizes.TheConstants.{MAX_AREAS}
 use Rattle.rh_store.specs.Plain.{memory_of}
 use Rattle.rh_store.proofs.AreasLaws.{stays, memory-rewritten}
 use Rattle.rh_store.proofs.plain.PlainStoreWords.slide.Goals as goal

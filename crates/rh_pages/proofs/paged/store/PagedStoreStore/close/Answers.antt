@@ -1,6 +1,6 @@
 use Rattle.std.proofs.Common.{◌≡◌, ◌/◌, ℕ, List, [], ◌∷◌, length, refl, sym, subst, ap, ◌∙◌, arith}
 use Rattle.std.specs.Prelude.{None}
-use Rattle.rh_store.specs.declared.store.TheConstants.{MAX_AREAS}
+use Rattle.rh_defs.specs.declared.sizes.TheConstants.{MAX_AREAS}
 use Rattle.rh_defs.specs.Memory.{Memory, IsOpen, area_set, bytes, shrunk}
 use Rattle.rh_defs.proofs.MemoryLaws.{IsOpen-shrunk, length-shrunk}
 use Rattle.rh_pages.specs.declared.paged.PagedStore.{PagedStore}

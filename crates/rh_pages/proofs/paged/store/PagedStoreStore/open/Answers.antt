@@ -1,6 +1,6 @@
 use Rattle.std.proofs.Common.{◌≡◌, ◌<◌, ℕ, Bool, true, false, List, length, get_or, refl, subst, ap, arith}
 use Rattle.std.specs.Prelude.{IsSome}
-use Rattle.rh_store.specs.declared.store.TheConstants.{MAX_AREAS}
+use Rattle.rh_defs.specs.declared.sizes.TheConstants.{MAX_AREAS}
 use Rattle.rh_defs.proofs.MemoryLaws.{open_below-all, open_below-none}
 use Rattle.rh_pages.specs.Pages.{contents}
 use Rattle.rh_pages.specs.Paged.{memory_of}

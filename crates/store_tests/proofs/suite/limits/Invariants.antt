@@ -1,0 +1,5 @@
+use Rattle.rh_defs.specs.Memory.{IsOpen}
+use Rattle.store_tests.proofs.suite.limits.Given as goal
+
+abbrev pub invariant-loop-number : goal.invariant-loop-number
+invariant-loop-number g l = IsOpen (g.S.Words.memory l.store) l.first.0
