@@ -1,10 +1,12 @@
 -- Addresses that calls answer are small.
 use Rattle.std.proofs.Common.{◌≡◌, ℕ, ◌+◌, ◌-◌, ◌*◌, ◌/◌, ◌<◌, ◌≤◌, ◌^◌, Bool, true, false, cond, refl, ap, subst, arith, List, [], ◌∷◌, ◌++◌, length}
-use Rattle.std.specs.Prelude.{ℤ, Option, Some, None, IfSome, Ok, nat_le, nat_lt, ◌==◌}
+use Rattle.std.proofs.Common.{SFits, w32}
+use Rattle.std.proofs.lemmas.Int.{ints}
+use Rattle.std.specs.Prelude.{ℤ, pos, negsuc, Option, Some, None, IfSome, Ok, nat_le, nat_lt, ◌==◌}
 use Rattle.rh_defs.specs.Chain.{Granted, ◌>>=◌, refuse_if, found_or}
 use Rattle.rh_defs.specs.Pieces.{Split, total, first_at, zeros}
 use Rattle.rh_defs.specs.Heap.{Segment, Heap, Placed, Way, Stays, Shrinks, GrowsIntoHole, GrowsAtTop, MovesToHole, MovesToTop, Used, Hole, size_of, base, first_place, place_after, block_at, hole_for, is_block_at, is_hole_for, placed, placed_in, raised, need, claim_growing, block_room, way_to, way_to_grow, way_beyond, resized_by, resize_growing, resize_need, segment_size, fitted, bytes_of, new_size}
-use Rattle.rh_defs.specs.Module.{module_claim, module_resize}
+use Rattle.rh_defs.specs.Module.{whole_pages, module_claim, module_resize, module_change}
 use Rattle.rh_defs.specs.Slot.{Slot, Flex, weight, slot_alloc, slot_claim, slot_resize, slot_length, flex_address, heap_block_at}
 use Rattle.rh_defs.proofs.Cuts.{IsCut, first_at-cuts, cut-total, total-append}
 use Rattle.rh_defs.proofs.Chains.{OnGrant, granted, refused, granted-with, granted-unless, found_or-grants, chosen}
@@ -98,3 +100,12 @@ slot_resize-low free address delta s =
 pub slot_alloc-low : (free k n : ℕ) (s : Slot) → OnGrant (λ (p : Slot × ℕ). p.1 ≤ 32776 + slot_length s) (slot_alloc free k n s)
 unfolding slot_alloc
 slot_alloc-low free k n s = granted-unless _ _ _ (λ e. granted-unless _ _ _ (λ f. granted (omega arith)))
+
+pub module_change-moves : (free : ℕ) (delta : ℤ) (h : Heap) → OnGrant (λ (p : Heap × ℕ). p.1 ≡ whole_pages delta) (module_change free delta h)
+unfolding module_change
+module_change-moves free delta h = granted-unless _ _ _ (λ e. granted-unless _ _ _ (λ f. granted refl))
+
+-- an amount in whole pages is a 32-bit number
+pub whole_pages-small : (delta : ℤ) → SFits w32 delta → whole_pages delta < 2 ^ 32
+whole_pages-small (pos n) h = omega (arith, ints, h)
+whole_pages-small (negsuc n) h = omega (arith, ints, h)

@@ -17,3 +17,7 @@ pub mod Loads
 pub mod Spelling
 pub mod Budges
 pub mod Deaths
+pub mod Starts
+pub mod MadeCommands
+pub mod AreaCommands
+pub mod ModuleCommands

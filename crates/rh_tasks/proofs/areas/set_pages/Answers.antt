@@ -1,27 +1,24 @@
-use Rattle.std.proofs.Common.{rules, ◌≡◌, ◌≢◌, ◌+◌, ◌≤◌, ◌<◌, true, Ok, Err, ℕ, ◌-◌, ◌*◌, length, ◌/◌, ◌%◌, Bool, false, nat_eq, nat_lt, List, [], ◌∷◌, ◌++◌, slice_index_or, slice_set, bit_and, bit_or, Fits, w8, w32, w64, Bor, MutBor}
-use Rattle.rh_defs.specs.Memory.{Memory, IsOpen, OnlyArea}
-use Rattle.rh_defs.specs.Module.{whole_pages}
-use Rattle.rh_defs.specs.declared.command.Command.TheVariants as Command
-use Rattle.rh_defs.specs.Range.{in_range}
-use Rattle.rh_defs.specs.Commands.{pages_after as pages_after_on}
-use Rattle.rh_defs.specs.Commands.{change_area as change_area_on}
-use Rattle.rh_defs.specs.Commands.{change_module as change_module_on}
-use Rattle.rh_defs.specs.Commands.{change_pages as change_pages_on}
-use Rattle.rh_defs.specs.Commands.{change_made as change_made_on}
-use Rattle.rh_tasks.specs.Answer.{Gives}
+use Rattle.std.proofs.Common.{◌≡◌, ◌+◌, ◌*◌, ◌/◌, ◌-◌, ◌≤◌, refl, ap, ◌∙◌, sym, subst, arith}
+use Rattle.std.specs.Prelude.{length}
+use Rattle.rh_defs.specs.Memory.{OnlyArea, bytes}
+use Rattle.rh_defs.proofs.MemoryLaws.{length-shrunk, OnlyArea-shrunk, length-grown, OnlyArea-grown}
 use Rattle.rh_tasks.specs.View.{pages_at}
 use Rattle.rh_tasks.proofs.areas.set_pages.Goals as goal
 
 pub returns-then-pages-now-clause-pages : goal.returns-then-pages-now-clause-pages
-returns-then-pages-now-clause-pages g c = ?
+unfolding pages_at
+returns-then-pages-now-clause-pages g c =
+    let m = g.S.Words.memory c.args.store.now in
+    let s = c.shrink in ?
 
 pub returns-then-pages-now-clause-only : goal.returns-then-pages-now-clause-only
-returns-then-pages-now-clause-only g c = ?
+returns-then-pages-now-clause-only g c = let h = c.if-pages-now in let k = c.len-now in ?
 
 pub unwrap-requires : goal.unwrap-requires
-unwrap-requires g c = ?
+unwrap-requires g c = let h = c.grow in ?
 
 pub returns-clause-pages : goal.returns-clause-pages
+unfolding pages_at
 returns-clause-pages g c = ?
 
 pub returns-clause-only : goal.returns-clause-only

@@ -1,25 +1,15 @@
-use Rattle.std.proofs.Common.{rules, ◌≡◌, ◌≢◌, ◌+◌, ◌≤◌, ◌<◌, true, Ok, Err, ℕ, ◌-◌, ◌*◌, length, ◌/◌, ◌%◌, Bool, false, nat_eq, nat_lt, List, [], ◌∷◌, ◌++◌, slice_index_or, slice_set, bit_and, bit_or, Fits, w8, w32, w64, Bor, MutBor, ℤ, pos, ◌+ℤ◌, ◌-ℤ◌, ◌*ℤ◌, ◌≤ℤ◌, ◌<ℤ◌, FitsSigned, to_z, of_z}
-use Rattle.rh_defs.specs.Memory.{Memory, IsOpen, OnlyArea}
-use Rattle.rh_defs.specs.Module.{whole_pages}
-use Rattle.rh_defs.specs.declared.command.Command.TheVariants as Command
-use Rattle.rh_defs.specs.Range.{in_range}
-use Rattle.rh_defs.specs.Commands.{pages_after as pages_after_on}
-use Rattle.rh_defs.specs.Commands.{change_area as change_area_on}
-use Rattle.rh_defs.specs.Commands.{change_module as change_module_on}
-use Rattle.rh_defs.specs.Commands.{change_pages as change_pages_on}
-use Rattle.rh_defs.specs.Commands.{change_made as change_made_on}
-use Rattle.rh_tasks.specs.Answer.{Gives}
-use Rattle.rh_tasks.specs.View.{pages_at}
+use Rattle.std.proofs.Common.{◌≡◌, refl, ap, ◌∙◌, sym}
+use Rattle.std.proofs.lemmas.Result.{err_from_is_err_and}
 use Rattle.rh_tasks.proofs.world.World.change_made.Goals as goal
 
 pub returns-in_err-i : goal.returns-in_err-i
 returns-in_err-i g c = ?
 
 pub returns-in_err-pages : goal.returns-in_err-pages
-returns-in_err-pages g c = ?
+returns-in_err-pages g c = let h = c.index-made in let k = c.in_err-pages in ?
 
 pub returns-then-pages-made : goal.returns-then-pages-made
-returns-then-pages-made g c = ?
+returns-then-pages-made g c = let h = c.if-pages-made in ?
 
 pub set_pages-requires-clause-room : goal.set_pages-requires-clause-room
 set_pages-requires-clause-room g c = ?

@@ -1,18 +1,12 @@
-use Rattle.std.proofs.Common.{rules, ◌≡◌, true, Ok, Err, Some, None, IfOk, IfErr, ℕ, ◌+◌, ◌-◌, ◌*◌, ◌<◌, ◌≤◌, length, ◌/◌, ◌%◌, Bool, false, nat_eq, nat_lt, List, [], ◌∷◌, ◌++◌, slice_index_or, slice_set, bit_and, bit_or, Fits, w8, w32, w64, Bor, MutBor}
-use Rattle.std.specs.List.{position}
-use Rattle.rh_defs.specs.Commands.{make as make_on}
-use Rattle.rh_defs.specs.Commands.{remove as remove_on}
-use Rattle.rh_tasks.specs.Answer.{Gives}
-use Rattle.rh_defs.specs.declared.command.Command.TheVariants as Command
-use Rattle.rh_defs.specs.Range.{in_range}
-use Rattle.rh_tasks.specs.View.{has_number}
+use Rattle.std.proofs.Common.{◌≡◌, refl, ap, ◌∙◌, sym, arith}
+use Rattle.rh_tasks.proofs.MadeCommands.{make-many, make-none, can-make, make-done, make-world}
 use Rattle.rh_tasks.proofs.world.World.make.Goals as goal
 
 pub returns-then-len-ge-MOST_MADE : goal.returns-then-len-ge-MOST_MADE
-returns-then-len-ge-MOST_MADE g c = ?
+returns-then-len-ge-MOST_MADE g c = let h = c.if-len-ge-MOST_MADE in ?
 
 pub returns-then-number-gt-LAST_MADE : goal.returns-then-number-gt-LAST_MADE
-returns-then-number-gt-LAST_MADE g c = ?
+returns-then-number-gt-LAST_MADE g c = let h = c.if-number-gt-LAST_MADE in ?
 
 pub unwrap-area-requires : goal.unwrap-area-requires
 unwrap-area-requires g c = ?

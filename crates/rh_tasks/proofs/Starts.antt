@@ -1,0 +1,91 @@
+-- A task's beginning.
+use Rattle.std.proofs.Common.{◌≡◌, ℕ, ◌+◌, ◌<◌, ◌≤◌, ◌^◌, Bool, true, false, refl, ap, sym, subst, ◌∙◌, arith, List, [], ◌∷◌, ◌++◌, length}
+use Rattle.std.specs.Prelude.{map, Ok, Err, IsNone, nat_lt}
+use Rattle.std.specs.List.{list_any}
+use Rattle.std.proofs.lemmas.List.{length-map}
+use Rattle.rh_defs.specs.Memory.{Memory, OnlyArea, open_below}
+use Rattle.rh_defs.specs.Files.{FileList}
+use Rattle.rh_defs.specs.declared.sizes.TheConstants.{MAX_AREAS}
+use Rattle.rh_defs.specs.declared.command.Manner.{Manner}
+use Rattle.rh_defs.specs.declared.command.Command.TheVariants as command
+use Rattle.rh_defs.specs.declared.refusal.Refusal.{Refusal}
+use Rattle.rh_defs.specs.declared.refusal.Refusal.TheVariants.{NameInUse, TooManyTasks, NoHandles, NoRoom}
+use Rattle.rh_defs.specs.declared.reply.Reply.TheVariants as reply
+use Rattle.rh_defs.specs.Chain.{Granted, ◌>>=◌, refuse_if, outcome_of}
+use Rattle.rh_defs.specs.Range.{in_range}
+use Rattle.rh_defs.specs.Slot as plain
+use Rattle.rh_defs.specs.Post as post
+use Rattle.rh_defs.specs.Desk.{Desk, Task}
+use Rattle.rh_defs.specs.Commands.{start_task}
+use Rattle.rh_slot.specs.declared.slot.Slot.{Slot}
+use Rattle.rh_slot.specs.Area.{IsSlot, slot_in}
+use Rattle.rh_tasks.specs.declared.seat.Seat.{Seat}
+use Rattle.rh_tasks.specs.declared.made.MadeArea.{MadeArea}
+use Rattle.rh_tasks.specs.declared.next.Next.{Next}
+use Rattle.rh_tasks.specs.View.{task_of, desk_of, is_named, IsWorld}
+use Rattle.rh_tasks.proofs.Chains.{begins, ends, past, stops, granted-same, le-true, le-false, done-refused}
+use Rattle.rh_tasks.proofs.Finding.{named-any}
+use Rattle.rh_tasks.proofs.Worlds.{free-is, few-made, granted-keeps}
+use Rattle.rh_tasks.proofs.Joins.{joined-desk, joined-world}
+
+begun-if : (b : Bool) → Ok tt ≡ outcome_of (refuse_if b NoRoom >>= λ _. Ok plain.new_slot) → (refuse_if b NoRoom >>= λ _. Ok plain.new_slot) ≡ Ok plain.new_slot
+unfolding ◌>>=◌ refuse_if
+begun-if true e = absurd (cc)
+begun-if false e = refl
+
+-- a slot that began is a new one
+pub begun : (free : ℕ) → Ok tt ≡ outcome_of (plain.slot_begin free) → plain.slot_begin free ≡ Ok plain.new_slot
+unfolding plain.slot_begin
+begun free e = begun-if (nat_lt free (plain.slot_pages plain.new_slot)) e
+
+module _ {m : Memory} {seats : List Seat} {made : List MadeArea} {files : FileList} {next : Next} (name : List ℕ) (buffer : ℕ) (manner : Manner)
+    (w : IsWorld m seats made files next) where
+  abbrev d : Desk
+  d = desk_of m seats made files next
+
+  pub name-in-use : list_any (is_named name) seats ≡ true → start_task d name buffer manner ≡ Err NameInUse
+  unfolding start_task
+  name-in-use h = stops _ _ _ (sym (named-any m name seats) ∙ h)
+
+  module _ (unused : list_any (is_named name) seats ≡ false) where
+    pub too-many : 32 ≤ length seats → start_task d name buffer manner ≡ Err TooManyTasks
+    unfolding start_task
+    too-many many = past _ _ _ (sym (named-any m name seats) ∙ unused) (stops _ _ _ (le-true 32 (length (map (task_of m) seats)) (omega (arith, many, length-map seats (task_of m)))))
+
+    module _ (few : length seats < 32) where
+      few-tasks : length (map (task_of m) seats) < 32
+      few-tasks = omega (arith, few, length-map seats (task_of m))
+
+      -- one more area can be opened
+      pub can-open : open_below m.area MAX_AREAS < MAX_AREAS
+      can-open = omega (arith, w.areas.count, few, few-made w)
+
+      pub no-handles : 2 ^ 32 ≤ next.handle → start_task d name buffer manner ≡ Err NoHandles
+      unfolding start_task
+      no-handles used = past _ _ _ (sym (named-any m name seats) ∙ unused) (past _ _ _ (le-false 32 _ few-tasks) (stops _ _ _ (le-true (2 ^ 32) next.handle used)))
+
+      module _ (some : next.handle < 2 ^ 32) where
+        pub no-room : {r : Refusal} → Err r ≡ outcome_of (plain.slot_begin m.free) → start_task d name buffer manner ≡ Err r
+        unfolding start_task
+        no-room e =
+            past _ _ _ (sym (named-any m name seats) ∙ unused) (past _ _ _ (le-false 32 _ few-tasks) (past _ _ _ (le-false (2 ^ 32) next.handle some)
+              (ends _ (ap plain.slot_begin (free-is w) ∙ done-refused (plain.slot_begin m.free) e))))
+
+        module _ {n : Memory} (slot : Slot) (is : slot_in n slot ≡ plain.new_slot) (begins_so : Ok tt ≡ outcome_of (plain.slot_begin m.free))
+            (none : IsNone (m.area slot.area.0)) (low : slot.area.0 < MAX_AREAS) (only : OnlyArea m n slot.area.0) (still : IsSlot n slot) where
+          abbrev seat : Seat
+          seat = record { handle = next.handle; name = name; buffer = buffer; manner = manner; slot = slot }
+
+          abbrev then : Next
+          then = record next { handle = next.handle + 1 }
+
+          pub start-done : start_task d name buffer manner ≡ Ok (desk_of n (seats ++ seat ∷ []) made files then, reply.Started next.handle)
+          unfolding start_task task_of
+          start-done =
+              past _ _ _ (sym (named-any m name seats) ∙ unused) (past _ _ _ (le-false 32 _ few-tasks) (past _ _ _ (le-false (2 ^ 32) next.handle some)
+                (begins _ (ap plain.slot_begin (free-is w) ∙ begun m.free begins_so)
+                  (granted-same (sym (joined-desk seat w none low only still (next.handle + 1)
+                    ∙ ap (λ (s : plain.Slot). let e : Desk = record (desk_of n (seats ++ seat ∷ []) made files then) { tasks = map (task_of m) seats ++ record (task_of n seat) { slot = s } ∷ []; post = post.post_join next.handle d.post; areas = d.areas; made = d.made; pool = d.pool } in e) is)) refl))))
+
+          pub start-world : in_range (command.Task name buffer manner) ≡ true → IsWorld n (seats ++ seat ∷ []) made files then
+          start-world ranged = joined-world seat w none low only still (next.handle + 1) (granted-keeps d _ (command.Task name buffer manner) (reply.Started next.handle) start-done ranged w.desk)
