@@ -113,53 +113,59 @@ module _ {m : Memory} {seats : List Seat} {made : List MadeArea} {files : FileLi
         ∙ ap (λ l. pages_after m.free l (slice_index (fixed_pages m) k) delta) (none-least (k == scrap_area))
         ∙ ap (λ p. pages_after m.free 0 p delta) (fixed-at m k low ne)
 
-    pub fixed-refused : {r : Refusal} → pages_after m.free 0 (pages_at m k) delta ≡ Err r → change_pages d k delta ≡ Err r
+    pages-refused : {r : Refusal} → pages_after m.free 0 (pages_at m k) delta ≡ Err r → change_pages d k delta ≡ Err r
     unfolding change_pages
-    fixed-refused e = ends _ (args-are ∙ e)
+    pages-refused e = ends _ (args-are ∙ e)
+
+    pub fixed-refused : {r : Refusal} → pages_after m.free 0 (pages_at m k) delta ≡ Err r → change_area d k delta ≡ Err r
+    fixed-refused e = fixed-way ne low ∙ pages-refused e
 
     module _ {n : Memory} {p : ℕ} (granted : pages_after m.free 0 (pages_at m k) delta ≡ Ok p) (is : pages_at n k ≡ p) (only : OnlyArea m n k)
         (whole_before : length (bytes m k) % 4096 ≡ 0) (whole_after : length (bytes n k) % 4096 ≡ 0) where
-      pub fixed-done : change_pages d k delta ≡ Ok (desk_of n seats made files next, reply.Moved (whole_pages delta))
+      pages-done : change_pages d k delta ≡ Ok (desk_of n seats made files next, reply.Moved (whole_pages delta))
       unfolding change_pages
-      fixed-done = begins _ (args-are ∙ granted) (granted-same (sym (fixed-desk w low only ne whole_before whole_after ∙ ap (λ v. let e : Desk = record d { areas = slice_set (fixed_pages m) k v } in e) is)) refl)
+      pages-done = begins _ (args-are ∙ granted) (granted-same (sym (fixed-desk w low only ne whole_before whole_after ∙ ap (λ v. let e : Desk = record d { areas = slice_set (fixed_pages m) k v } in e) is)) refl)
 
-      in-change : change_area d k delta ≡ Ok (desk_of n seats made files next, reply.Moved (whole_pages delta))
-      in-change = fixed-way ne low ∙ fixed-done
+      pub fixed-done : change_area d k delta ≡ Ok (desk_of n seats made files next, reply.Moved (whole_pages delta))
+      fixed-done = fixed-way ne low ∙ pages-done
 
       pub fixed-kept : in_range (command.Area k delta) ≡ true → IsWorld n seats made files next
-      fixed-kept ranged = fixed-world w low only ne whole_before whole_after (granted-keeps d _ (command.Area k delta) (reply.Moved (whole_pages delta)) in-change ranged w.desk)
+      fixed-kept ranged = fixed-world w low only ne whole_before whole_after (granted-keeps d _ (command.Area k delta) (reply.Moved (whole_pages delta)) fixed-done ranged w.desk)
 
   -- ---- made areas
 
-  pub no-area : position (has_number k) made ≡ None → change_made d k delta ≡ Err NoArea
+  none-made : position (has_number k) made ≡ None → change_made d k delta ≡ Err NoArea
   unfolding change_made
-  no-area h = ends _ (no-made m k made h)
+  none-made h = ends _ (no-made m k made h)
 
-  module _ {i : ℕ} (a : MadeArea) (h : HasMade k made i a) where
+  pub no-area : 6 ≤ k → position (has_number k) made ≡ None → change_area d k delta ≡ Err NoArea
+  no-area high h = made-way high ∙ none-made h
+
+  module _ {i : ℕ} (a : MadeArea) (h : HasMade k made i a) (high : 6 ≤ k) where
     made-args : pages_after (free_pages d) 0 (made_of m a).pages delta ≡ pages_after m.free 0 (pages_at m a.area.0) delta
     unfolding made_of
     made-args = ap (λ f. pages_after f 0 (pages_at m a.area.0) delta) (free-is w)
 
-    pub made-refused : {r : Refusal} → pages_after m.free 0 (pages_at m a.area.0) delta ≡ Err r → change_made d k delta ≡ Err r
+    pub made-refused : {r : Refusal} → pages_after m.free 0 (pages_at m a.area.0) delta ≡ Err r → change_area d k delta ≡ Err r
     unfolding change_made
-    made-refused e = begins _ (made-found w k a h) (ends _ (made-args ∙ e))
+    made-refused e = made-way high ∙ begins _ (made-found w k a h) (ends _ (made-args ∙ e))
 
-    pub made-too-big : {p : ℕ} → pages_after m.free 0 (pages_at m a.area.0) delta ≡ Ok p → a.most < p → change_made d k delta ≡ Err TooBig
+    pub made-too-big : {p : ℕ} → pages_after m.free 0 (pages_at m a.area.0) delta ≡ Ok p → a.most < p → change_area d k delta ≡ Err TooBig
     unfolding change_made made_of
-    made-too-big {p} e big = begins _ (made-found w k a h) (begins _ (made-args ∙ e) (stops _ _ _ (lt-true a.most p big)))
+    made-too-big {p} e big = made-way high ∙ begins _ (made-found w k a h) (begins _ (made-args ∙ e) (stops _ _ _ (lt-true a.most p big)))
 
-    module _ {n : Memory} {p : ℕ} (high : 6 ≤ k) (granted : pages_after m.free 0 (pages_at m a.area.0) delta ≡ Ok p) (fits : p ≤ a.most) (is : pages_at n a.area.0 ≡ p) (only : OnlyArea m n a.area.0)
+    module _ {n : Memory} {p : ℕ} (granted : pages_after m.free 0 (pages_at m a.area.0) delta ≡ Ok p) (fits : p ≤ a.most) (is : pages_at n a.area.0 ≡ p) (only : OnlyArea m n a.area.0)
         (whole_before : length (bytes m a.area.0) % 4096 ≡ 0) (whole_after : length (bytes n a.area.0) % 4096 ≡ 0) where
-      pub made-done : change_made d k delta ≡ Ok (desk_of n seats made files next, reply.Moved (whole_pages delta))
+      area-done : change_made d k delta ≡ Ok (desk_of n seats made files next, reply.Moved (whole_pages delta))
       unfolding change_made made_of
-      made-done =
+      area-done =
           begins _ (made-found w k a h) (begins _ (made-args ∙ granted) (past _ _ _ (lt-false a.most p fits)
             (granted-same (sym (made-desk w h.sits only
               ∙ ap (λ v. let e : Desk = record d { made = map (with_pages a.number v) (map (made_of m) made) } in e) is
               ∙ ap (λ v. let e : Desk = record d { made = map (with_pages v p) (map (made_of m) made) } in e) h.number)) refl)))
 
-      made-change : change_area d k delta ≡ Ok (desk_of n seats made files next, reply.Moved (whole_pages delta))
-      made-change = made-way high ∙ made-done
+      pub made-done : change_area d k delta ≡ Ok (desk_of n seats made files next, reply.Moved (whole_pages delta))
+      made-done = made-way high ∙ area-done
 
       pub made-kept : in_range (command.Area k delta) ≡ true → IsWorld n seats made files next
-      made-kept ranged = made-world w h.sits only whole_before whole_after (granted-keeps d _ (command.Area k delta) (reply.Moved (whole_pages delta)) made-change ranged w.desk)
+      made-kept ranged = made-world w h.sits only whole_before whole_after (granted-keeps d _ (command.Area k delta) (reply.Moved (whole_pages delta)) made-done ranged w.desk)

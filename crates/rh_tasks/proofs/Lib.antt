@@ -19,5 +19,9 @@ pub mod Budges
 pub mod Deaths
 pub mod Starts
 pub mod MadeCommands
+pub mod ItemLaws
+pub mod QuestionLaws
+pub mod Openings
+pub mod NewWorlds
 pub mod AreaCommands
 pub mod ModuleCommands

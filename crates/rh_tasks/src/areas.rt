@@ -5,7 +5,7 @@ ghost use Rattle.rh_defs.specs.Memory.{Memory, IsOpen, OnlyArea};
 ghost use Rattle.rh_defs.specs.Module.{whole_pages};
 ghost use Rattle.rh_defs.specs.declared.command.Command.TheVariants as Command;
 ghost use Rattle.rh_defs.specs.Range.{in_range};
-ghost use Rattle.rh_defs.specs.Commands.{pages_after as pages_after_on, change_area as change_area_on, change_module as change_module_on, change_pages as change_pages_on, change_made as change_made_on};
+ghost use Rattle.rh_defs.specs.Commands.{pages_after as pages_after_on, change_area as change_area_on};
 ghost use Rattle.rh_tasks.specs.Answer.{Gives};
 ghost use Rattle.rh_tasks.specs.View.{pages_at};
 
@@ -88,7 +88,7 @@ impl<S: Store> World<S> {
 
     fn change_module(&mut self, delta: i32) -> Result<Reply, Refusal>
         requires { in_range (Command.Area 1 delta) ≡ true }
-        ensures { Gives (change_module_on self.old.desk delta) self.old self.new result }
+        ensures { Gives (change_area_on self.old.desk 1 delta) self.old self.new result }
     {
         let moved = MODULE.change(&mut self.store, delta)?;
         Ok(Reply::Moved {
@@ -100,7 +100,7 @@ impl<S: Store> World<S> {
         requires ranged { in_range (Command.Area number delta) ≡ true }
         requires low { number < 6 }
         requires other { number ≢ 1 }
-        ensures { Gives (change_pages_on self.old.desk number delta) self.old self.new result }
+        ensures { Gives (change_area_on self.old.desk number delta) self.old self.new result }
     {
         let area = AreaId(number as u8);
         let pages = pages_after(&self.store, area, delta)?;
@@ -113,7 +113,7 @@ impl<S: Store> World<S> {
     fn change_made(&mut self, number: u32, delta: i32) -> Result<Reply, Refusal>
         requires ranged { in_range (Command.Area number delta) ≡ true }
         requires high { 6 ≤ number }
-        ensures { Gives (change_made_on self.old.desk number delta) self.old self.new result }
+        ensures { Gives (change_area_on self.old.desk number delta) self.old self.new result }
     {
         let i = find_made(&self.made, number)?;
         let made = self.made[i];

@@ -7,7 +7,8 @@ ghost use Rattle.rh_tasks.specs.declared.seat.Seat.{Seat};
 ghost use Rattle.rh_defs.specs.Memory.{Memory, IsOpen};
 ghost use Rattle.rh_defs.specs.declared.command.Command.TheVariants as Command;
 ghost use Rattle.rh_defs.specs.Range.{in_range};
-ghost use Rattle.rh_defs.specs.Commands.{show as show_on, blocks as blocks_on, heap_sums as heap_sums_on};
+ghost use Rattle.rh_defs.specs.Commands.{show as show_on, blocks as blocks_on, heap_sums as heap_sums_on, status as status_on};
+ghost use Rattle.rh_defs.specs.Desk.{free_pages as free_pages_on};
 ghost use Rattle.rh_defs.specs.Listing.{area_items, areas_at, blocks_at, heap_at, shown_at};
 ghost use Rattle.rh_tasks.specs.Answer.{Gives};
 ghost use Rattle.rh_tasks.specs.View.{pages_at, HasAreas};
@@ -16,7 +17,7 @@ ghost use Rattle.rh_tasks.specs.Items.{items_in, slot_items, segment_item_of};
 use crate::areas::FIXED_AREAS;
 use crate::made::MadeArea;
 use crate::seat::Seat;
-use crate::seats::slot_of;
+use crate::seats::{find, slot_of};
 use crate::world::World;
 use rh_defs::sizes::{C_HEAP_START, PAGE};
 use rh_defs::{Anchor, AreaItem, BlockItem, Name, Refusal, Reply, SegmentItem};
@@ -100,7 +101,7 @@ impl<S: Store> World<S> {
         ensures item { result ≡ areas_at self.now.desk i }
         ensures few { length (area_items self.now.desk) ≤ 70 }
     {
-        let free = self.store.free_pages() as u32;
+        let free = self.free_pages();
         (free, area_item(&self.store, &self.seats, &self.made, i))
     }
 
@@ -178,5 +179,21 @@ impl<S: Store> World<S> {
             largest: largest as u32,
             free: free as u32,
         })
+    }
+
+    /// The task's handle: NoName.
+    pub(crate) fn handle_of(&self, name: &Name) -> Result<Reply, Refusal>
+        ensures { Gives (status_on self.now.desk name.now) self.now self.now result }
+    {
+        let i = find(&self.seats, name)?;
+        let seat = &self.seats[i];
+        Ok(Reply::StatusOf(seat.handle))
+    }
+
+    /// How many pages are free.
+    pub(crate) fn free_pages(&self) -> u32
+        ensures { result ≡ free_pages_on self.now.desk }
+    {
+        self.store.free_pages() as u32
     }
 }

@@ -7,7 +7,7 @@ ghost use Rattle.rh_defs.specs.Runs.{start, start_with};
 ghost use Rattle.rh_defs.specs.Step.{step};
 ghost use Rattle.rh_defs.specs.Laws.{IsDesk};
 ghost use Rattle.rh_tasks.specs.Shown.{IsSpelled, IsBalanced, HasApartBlocks};
-ghost use Rattle.rh_tasks.specs.Answer.{reply_of};
+ghost use Rattle.rh_tasks.specs.Answer.{IsStanding, reply_of};
 ghost use Rattle.rh_tasks.specs.Start.{IsFurnished};
 
 use crate::made::MadeArea;
@@ -117,6 +117,76 @@ impl<S: Store> World<S> {
         ensures desk { IsDesk self.now.desk }
     {
         let _ = &self.store;
+    }
+
+    /// Does one command, or answers the first of its refusals and changes nothing.
+    pub fn apply(&mut self, command: &Command) -> Reply
+        requires ranged { in_range command.now ≡ true }
+        requires standing { IsStanding command.now }
+        ensures step { step self.old.desk command.now ≡ (self.new.desk, result) }
+        ensures spelled { IsSpelled self.new }
+        ensures apart { HasApartBlocks self.new }
+        ensures balanced { IsBalanced self.new }
+        ensures desk { IsDesk self.new.desk }
+    {
+        let reply = self.change(command);
+        self.spelled();
+        reply
+    }
+
+    fn change(&mut self, command: &Command) -> Reply
+        requires ranged { in_range command.now ≡ true }
+        requires standing { IsStanding command.now }
+        ensures { step self.old.desk command.now ≡ (self.new.desk, result) }
+    {
+        match command {
+            Command::Task {
+                name,
+                buffer,
+                manner,
+            } => answer(self.start_task(name, *buffer, *manner)),
+            Command::Kill { name } => answer(self.kill(name)),
+            Command::Alloc { name, anchor, size } => answer(self.alloc(name, *anchor, *size)),
+            Command::Load { name, anchor, file } => answer(self.load(name, *anchor, file)),
+            Command::Put {
+                name,
+                anchor,
+                offset,
+                bytes,
+            } => answer(self.put(name, *anchor, *offset, bytes.as_slice())),
+            Command::Free { name, anchor } => answer(self.free(name, *anchor)),
+            Command::Extend { name, anchor, size } => answer(self.extend(name, *anchor, *size)),
+            Command::Mid {
+                name,
+                anchor,
+                offset,
+                by,
+            } => answer(self.mid(name, *anchor, *offset, *by)),
+            Command::Claim { name, size } => answer(self.claim(name, *size)),
+            Command::Release { name, address } => answer(self.release(name, *address)),
+            Command::Resize {
+                name,
+                address,
+                delta,
+            } => answer(self.resize(name, *address, *delta)),
+            Command::Budge { name, on } => answer(self.budge(name, *on)),
+            Command::Area { number, delta } => answer(self.change_area(*number, *delta)),
+            Command::Make { most } => answer(self.make(*most)),
+            Command::Remove { number } => answer(self.remove(*number)),
+            Command::RmaClaim { size } => answer(self.rma_claim(*size)),
+            Command::RmaFree { address } => answer(self.rma_free(*address)),
+            Command::RmaResize { address, delta } => answer(self.rma_resize(*address, *delta)),
+            Command::Show { name, anchor } => answer(self.size_of(name, *anchor)),
+            Command::Blocks { name } => answer(self.block_count(name)),
+            Command::Heap { name } => answer(self.heap_sums(name)),
+            Command::Status { name } => answer(self.handle_of(name)),
+            Command::Areas => Reply::FreePages(self.free_pages()),
+            Command::Save { .. }
+            | Command::Poll { .. }
+            | Command::CancelIn { .. }
+            | Command::CancelOut { .. }
+            | Command::Repeat { .. } => Reply::NoEvent,
+        }
     }
 }
 
