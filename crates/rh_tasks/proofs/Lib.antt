@@ -23,5 +23,7 @@ pub mod ItemLaws
 pub mod QuestionLaws
 pub mod Openings
 pub mod NewWorlds
+pub mod PageLaws
+pub mod Steps
 pub mod AreaCommands
 pub mod ModuleCommands

@@ -1,23 +1,27 @@
-use Rattle.std.proofs.Common.{◌≡◌, ◌+◌, ◌*◌, ◌/◌, ◌-◌, ◌≤◌, refl, ap, ◌∙◌, sym, subst, arith}
-use Rattle.std.specs.Prelude.{length}
-use Rattle.rh_defs.specs.Memory.{OnlyArea, bytes, grown, shrunk}
-use Rattle.rh_defs.proofs.MemoryLaws.{length-shrunk, OnlyArea-shrunk, length-grown, OnlyArea-grown}
-use Rattle.rh_tasks.specs.View.{pages_at}
+use Rattle.rh_tasks.proofs.PageLaws.{less-pages, less-only, more-pages, more-only, room-left, not-refused}
 use Rattle.rh_tasks.proofs.areas.set_pages.Goals as goal
 
 pub returns-then-pages-now-clause-pages : goal.returns-then-pages-now-clause-pages
-unfolding pages_at
-returns-then-pages-now-clause-pages g c = let h = c.if-pages-now.true in let s = c.shrink.ensures in let l = c.len-now.ensures in ?
+returns-then-pages-now-clause-pages g c =
+    less-pages (g.S.Words.memory c.args.store.now) _ c.args.area.0 c.args.pages _ c.len-now.ensures (g.met.S.Pages.whole c.args.store.now c.args.area.0) c.shrink.ensures c.if-pages-now.true
 
 pub returns-then-pages-now-clause-only : goal.returns-then-pages-now-clause-only
-returns-then-pages-now-clause-only g c = ?
+returns-then-pages-now-clause-only g c =
+    less-only (g.S.Words.memory c.args.store.now) _ c.args.area.0 c.args.pages _ c.len-now.ensures (g.met.S.Pages.whole c.args.store.now c.args.area.0) c.shrink.ensures c.if-pages-now.true
 
 pub unwrap-requires : goal.unwrap-requires
-unwrap-requires g c = let h = c.grow.ensures in ?
+unwrap-requires g c =
+    not-refused c.grow.result _ _ c.grow.ensures.refused
+      (room-left (g.S.Words.memory c.args.store.now) (g.S.Words.memory c.args.store.now) c.args.area.0 c.args.pages _ c.len-now.ensures (g.met.S.Pages.whole c.args.store.now c.args.area.0) c.requires.room)
 
 pub returns-clause-pages : goal.returns-clause-pages
-unfolding pages_at
-returns-clause-pages g c = let h = c.unwrap.ensures in ?
+returns-clause-pages g c =
+    let e = rw c.unwrap.ensures at c.grow.ensures.ok in
+    more-pages (g.S.Words.memory c.args.store.now) _ c.args.area.0 c.args.pages _ c.len-now.ensures (g.met.S.Pages.whole c.args.store.now c.args.area.0) e c.if-pages-now.false
 
 pub returns-clause-only : goal.returns-clause-only
-returns-clause-only g c = ?
+returns-clause-only g c =
+    let m = g.S.Words.memory c.args.store.now in
+    let e = rw c.unwrap.ensures at c.grow.ensures.ok in
+    more-only m _ c.args.area.0 c.args.pages _ c.len-now.ensures (g.met.S.Pages.whole c.args.store.now c.args.area.0) e c.if-pages-now.false
+      (room-left m m c.args.area.0 c.args.pages _ c.len-now.ensures (g.met.S.Pages.whole c.args.store.now c.args.area.0) c.requires.room)
