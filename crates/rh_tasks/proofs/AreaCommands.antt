@@ -65,7 +65,7 @@ differs : (a b : ℕ) → a ≢ b → (a == b) ≡ false
 differs a b h = grind (arith, nat_tests)
 
 -- what is granted is at hand
-room-if : (free pages : ℕ) (delta : ℤ) (p : ℕ) → pages_after free 0 pages delta ≡ Ok p → p ≤ pages + free
+pub room-if : (free pages : ℕ) (delta : ℤ) (p : ℕ) → pages_after free 0 pages delta ≡ Ok p → p ≤ pages + free
 unfolding pages_after ◌>>=◌ ◌>>◌ refuse_if
 room-if free pages (pos n) p e = go (lacks_pages free (changed_length (page * pages) (pos n) - page * pages)) refl e
   where
@@ -79,12 +79,9 @@ room-if free pages (negsuc n) p e = go (shrinks_below 0 (page * pages) (negsuc n
     go false true q = absurd (cc)
     go false false q = let same : changed_length (page * pages) (negsuc n) / page ≡ p = cc in omega (arith, same)
 
-pub room-of : {free pages : ℕ} {delta : ℤ} {p : ℕ} → pages_after free 0 pages delta ≡ Ok p → p ≤ pages + free
-room-of e = room-if _ _ _ _ e
-
-none-least : (b : Bool) → cond b 0 0 ≡ 0
-none-least true = refl
-none-least false = refl
+none-least : (b : Bool) (x : ℕ) → cond b x x ≡ x
+none-least true x = refl
+none-least false x = refl
 
 module _ {m : Memory} {seats : List Seat} {made : List MadeArea} {files : FileList} {next : Next} (w : IsWorld m seats made files next) (k : ℕ) (delta : ℤ) where
   abbrev d : Desk
@@ -110,7 +107,7 @@ module _ {m : Memory} {seats : List Seat} {made : List MadeArea} {files : FileLi
     args-are : pages_after (free_pages d) (least_length k d) (slice_index (fixed_pages m) k) delta ≡ pages_after m.free 0 (pages_at m k) delta
     args-are =
         ap (λ f. pages_after f (least_length k d) (slice_index (fixed_pages m) k) delta) (free-is w)
-        ∙ ap (λ l. pages_after m.free l (slice_index (fixed_pages m) k) delta) (none-least (k == scrap_area))
+        ∙ ap (λ l. pages_after m.free l (slice_index (fixed_pages m) k) delta) (none-least (k == scrap_area) 0)
         ∙ ap (λ p. pages_after m.free 0 p delta) (fixed-at m k low ne)
 
     pages-refused : {r : Refusal} → pages_after m.free 0 (pages_at m k) delta ≡ Err r → change_pages d k delta ≡ Err r

@@ -94,12 +94,12 @@ new-fits free k n bytes s p e fits =
     let P : Slot → Type 0 = λ t. IsOk (slot_put k 0 bytes t) in
     subst P (sym new.slot) (put-fits k n bytes s new.unused fits)
 
-answered-ok : {A B : Type 0} (g : Granted A) → IsOk g → IsOk (answer_of (no_answer g))
+answered-ok : {A : Type 0} (g : Granted A) → IsOk g → IsOk (answer_of (no_answer g))
 answered-ok (Ok x) h = refl
 answered-ok (Err r) h = absurd (cc)
 
 pub put-answers : {m n : Memory} {slot : code.Slot} (g : Granted Slot) (r : Granted (Unit {0})) → Leaves m n slot (no_answer g) r → IsOk g → IsOk r
-put-answers g r l h = subst (λ x. IsOk x) (sym l.answer) (answered-ok {B = Unit {0}} g h)
+put-answers g r l h = subst (λ x. IsOk x) (sym l.answer) (answered-ok g h)
 
 -- ---- the command
 
@@ -127,11 +127,11 @@ module _ {m : Memory} {seats : List Seat} {made : List MadeArea} {files : FileLi
     unfolding load
     load-refused l = begins _ (found-named w o) (begins _ (some-file _ _ the-file.found) (ends _ (the-alloc ∙ leaves.refused l)))
 
-    module _ {n p : Memory} {a : ℕ} (l : Leaves m n slot (slot_alloc m.free k (length bytes) (slot_in m slot)) (Ok a)) where
+    module _ {n : Memory} {a : ℕ} (l : Leaves m n slot (slot_alloc m.free k (length bytes) (slot_in m slot)) (Ok a)) where
       pub load-fits : IsOk (slot_put k 0 bytes (slot_in n slot))
       load-fits = new-fits m.free k (length bytes) bytes (slot_in m slot) (slot_in n slot, a) (leaves.granted l) (omega arith)
 
-      module _ (l2 : Leaves n p slot (no_answer (slot_put k 0 bytes (slot_in n slot))) (Ok tt)) where
+      module _ {p : Memory} (l2 : Leaves n p slot (no_answer (slot_put k 0 bytes (slot_in n slot))) (Ok tt)) where
         slid : Slid m p slot
         slid = record { still = l2.still; only = OnlyArea-both m n p slot.area.0 l.only l2.only }
 

@@ -35,7 +35,7 @@ none-opened m pages is =
 some-none : (x : List ℕ) → IsNone (Some x) → ⊥
 some-none x h = cc
 
-none-some : IsSome {X = List ℕ} None → ⊥
+none-some : IsSome {A = List ℕ} None → ⊥
 none-some h = cc
 
 -- the area that is opened next is the least one that is closed
@@ -64,7 +64,7 @@ opens (Err e) count h low = absurd (let q = h.0 refl in omega arith)
 
 -- ---- the module area's page
 
-module _ {m n p : Memory} {pages : ℕ} (o : AreOpened m 6 pages) (least : 1 ≤ pages) (is : n ≡ grown m 1 1) where
+module _ {m n : Memory} {pages : ℕ} (o : AreOpened m 6 pages) (least : 1 ≤ pages) (is : n ≡ grown m 1 1) where
   taken : OnlyArea m n 1
   taken = let P : Memory → Type 0 = λ x. OnlyArea m x 1 in subst P (sym is) (OnlyArea-grown m 1 1 (omega (arith, o.free, least)))
 
@@ -82,7 +82,7 @@ module _ {m n p : Memory} {pages : ℕ} (o : AreOpened m 6 pages) (least : 1 ≤
   pub page-open : IsOpen n 1
   page-open = taken.opened
 
-  module _ (only : OnlyArea n p 1) (still : IsModule p the_module) (heap : heap_in p the_module ≡ empty_heap page) where
+  module _ {p : Memory} (only : OnlyArea n p 1) (still : IsModule p the_module) (heap : heap_in p the_module ≡ empty_heap page) where
     all : OnlyArea m p 1
     all = OnlyArea-both m n p 1 taken only
 

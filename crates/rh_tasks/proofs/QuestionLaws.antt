@@ -8,8 +8,10 @@ use Rattle.rh_defs.specs.declared.refusal.Refusal.{Refusal}
 use Rattle.rh_defs.specs.declared.refusal.Refusal.TheVariants.{NoBlock, BadRange}
 use Rattle.rh_defs.specs.declared.reply.Reply.TheVariants as reply
 use Rattle.rh_defs.specs.declared.listing.SegmentItem.{SegmentItem}
+use Rattle.rh_defs.specs.declared.listing.SegmentItem.TheVariants as segment
+use Rattle.std.proofs.lemmas.Bool.{eqb-true}
 use Rattle.rh_defs.specs.Chain.{Granted, ◌>>=◌, ◌>>◌, refuse_if, outcome_of, result_or}
-use Rattle.rh_defs.specs.Pieces.{Split, first_at}
+use Rattle.rh_defs.specs.Pieces.{Split, first_at, total}
 use Rattle.rh_defs.specs.Heap.{Heap, Segment, Used, Hole, size_of, segment_at, first_place, place_after, base}
 use Rattle.rh_defs.specs.Slot as plain
 use Rattle.rh_defs.proofs.Cuts.{IsCut, first_at-cuts, cut-total}
@@ -110,15 +112,17 @@ pub record IsPiece (place : ℕ) (h : Heap) (p : Piece) : Type 0 where
   pub is : piece cut ≡ p
   pub low : place + size_of cut.here ≤ base h
 
-cut-place : {h : Heap} {place : ℕ} (cut : Split Segment) → IsCut size_of (λ q g. place == q) first_place h.segments cut → place + size_of cut.here ≤ base h
-cut-place cut c = ?
+cut-place : (h : Heap) (place : ℕ) (cut : Split Segment) → IsCut size_of (λ q g. place == q) first_place h.segments cut → place + size_of cut.here ≤ base h
+cut-place h place cut c =
+    let same : place ≡ first_place + total size_of cut.before = eqb-true _ _ c.passes in
+    omega (arith, same, cut-total c)
 
 pub piece-at : (place : ℕ) (h : Heap) (p : Piece) → Some p ≡ option_map piece (segment_at place h) → IsPiece place h p
 piece-at place h p e = go (segment_at place h) refl (first_at-cuts size_of (λ q g. place == q) first_place h.segments) e
   where
     go : (o : Option (Split Segment)) → segment_at place h ≡ o → IfSome o (IsCut size_of (λ q g. place == q) first_place h.segments) → Some p ≡ option_map piece o → IsPiece place h p
     go None s c e = absurd (cc)
-    go (Some cut) s c e = record { cut = cut; found = s; is = cc; low = cut-place cut c }
+    go (Some cut) s c e = record { cut = cut; found = s; is = cc; low = cut-place h place cut c }
 
 pub piece-none : (place : ℕ) (h : Heap) → None ≡ option_map piece (segment_at place h) → segment_at place h ≡ None
 piece-none place h e = go (segment_at place h) e
@@ -129,5 +133,5 @@ piece-none place h e = go (segment_at place h) e
 
 -- a segment as it is listed
 pub segment-listed : (place : ℕ) (g : Segment) (before after : List Segment) → segment_item_of place (piece (record { before = before; here = g; after = after })) ≡ segment_item (plain.heap_start + place) g
-segment-listed place (Used bytes) before after = ?
+segment-listed place (Used bytes) before after = ap (λ n. segment.Used (plain.heap_start + place + 4) n) (omega arith)
 segment-listed place (Hole size) before after = refl

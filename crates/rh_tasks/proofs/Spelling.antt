@@ -1,6 +1,6 @@
 -- The store's bytes and lengths spell the desk.
 use Rattle.std.proofs.Common.{◌≡◌, ℕ, zero, suc, ◌+◌, ◌*◌, ◌/◌, ◌%◌, ◌≤◌, refl, ap, sym, subst, ◌∙◌, arith, List, [], ◌∷◌, length}
-use Rattle.std.specs.Prelude.{map, sum}
+use Rattle.std.specs.Prelude.{map}
 use Rattle.std.specs.List.{AllByRecursion, enumerate_from}
 use Rattle.rh_defs.specs.Memory.{Memory, bytes}
 use Rattle.rh_defs.specs.Pieces.{page, total}
@@ -52,7 +52,7 @@ unfolding task_of
 slot-lengths m [] all = refl
 slot-lengths m (s ∷ seats) all = omega (arith, all.0.spells.pages, slot-lengths m seats all.1)
 
-made-sum : (made : List Made) → sum (map (λ (x : Made). page * x.pages) made) ≡ 4096 * total (λ (x : Made). x.pages) made
+made-sum : (made : List Made) → total (λ n. n) (map (λ (x : Made). page * x.pages) made) ≡ 4096 * total (λ (x : Made). x.pages) made
 made-sum [] = refl
 made-sum (x ∷ made) = omega (arith, made-sum made)
 
@@ -93,4 +93,4 @@ module _ {m : Memory} {seats : List Seat} {made : List MadeArea} {files : FileLi
   pub is-balanced : IsBalanced s
   unfolding fixed_pages
   is-balanced =
-      omega (arith, w.ledger, module-length, of 0, of 2, of 3, of 4, of 5, slot-lengths m seats w.areas.slots, made-sum (map (made_of m) made), ap sum (made-lengths m whole made))
+      omega (arith, w.ledger, module-length, of 0, of 2, of 3, of 4, of 5, slot-lengths m seats w.areas.slots, made-sum (map (made_of m) made), ap (total (λ n. n)) (made-lengths m whole made))

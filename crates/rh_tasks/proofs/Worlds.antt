@@ -50,10 +50,10 @@ module _ {m : Memory} {seats : List Seat} {made : List MadeArea} {files : FileLi
   numbers = rise-distinct (λ (x : Made). x.number) (made_of m) made_number (λ a. refl) first_made next.area made w.desk.made.numbers
 
   pub few-made : length made ≤ most_made
-  few-made = omega (arith, w.desk.made.few, length-map (made_of m) made)
+  few-made = omega (arith, w.desk.made.few, length-map made (made_of m))
 
   pub few-seats : length seats ≤ most_tasks
-  few-seats = omega (arith, w.desk.few, length-map (task_of m) seats)
+  few-seats = omega (arith, w.desk.few, length-map seats (task_of m))
 
 -- a command that is granted keeps what every command keeps
 pub granted-keeps : (d new : Desk) (c : Command) (said : Reply) → change d c ≡ Ok (new, said) → in_range c ≡ true → IsDesk d → IsDesk new

@@ -1,5 +1,5 @@
 -- What callers see of a world: the desk, and beside it the bytes and the lengths of the store's areas, which spell it.
-use Rattle.std.specs.Prelude.{◌≡◌, ℕ, ◌+◌, ◌*◌, ◌==◌, if◌then◌else◌, List, [], ◌∷◌, length, map, sum, Option, Some, None}
+use Rattle.std.specs.Prelude.{◌≡◌, ℕ, ◌+◌, ◌*◌, ◌==◌, if◌then◌else◌, List, [], ◌∷◌, length, map, Option, Some, None}
 use Rattle.std.specs.List.{enumerate_from}
 use Rattle.rh_defs.specs.Pieces.{page, total}
 use Rattle.rh_defs.specs.HeapImage.{IsImage}
@@ -46,7 +46,7 @@ pub record IsSpelled (s : Shown) : Type 0 where
 
 -- the free pages and those of all areas that are open, made ones and slots included, are the pool
 abbrev pub IsBalanced : Shown → Type 0
-IsBalanced s = page * s.free + (sum s.areas + (sum s.made + total length s.slots)) ≡ page * s.desk.pool
+IsBalanced s = page * s.free + (total (λ n. n) s.areas + (total (λ n. n) s.made + total length s.slots)) ≡ page * s.desk.pool
 
 -- each task's blocks lie in its slot's bytes, and no two overlap
 abbrev pub LieApart : List (List ℕ) → List Task → Type 0

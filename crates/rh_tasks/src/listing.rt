@@ -28,6 +28,7 @@ use rh_store::{AreaId, Store};
 pub type HeapSums = (u32, u32, u32);
 
 /// How many pages an area has.
+#[tactic(auto, unfolding(crate::specs::View::pages_at))]
 fn pages_in<S: Store>(store: &S, area: AreaId) -> u32
     requires { IsOpen (S.memory store.now) area.0 }
     ensures { result ≡ pages_at (S.memory store.now) area.0 }

@@ -1,5 +1,6 @@
-use Rattle.std.proofs.Common.{◌≡◌, refl, sym, subst}
-use Rattle.rh_tasks.specs.Answer.{IsStanding}
+use Rattle.std.proofs.Common.{◌≡◌, refl, w32}
+use Rattle.std.proofs.lemmas.Int.{to_z-of_z}
+use Rattle.rh_tasks.proofs.Ranges.{mid-fits, resize-fits, area-fits, rma_resize-fits}
 use Rattle.rh_tasks.proofs.Steps.{stepped}
 use Rattle.rh_tasks.proofs.world.World.change.Goals as goal
 
@@ -25,7 +26,7 @@ pub returns-in-Extend : goal.returns-in-Extend
 returns-in-Extend g c = rw (c.in-Extend.is) (stepped _ _ _ _ _ c.extend.ensures c.answer-in-Extend.ensures)
 
 pub returns-in-Mid : goal.returns-in-Mid
-returns-in-Mid g c = rw (c.in-Mid.is) (stepped _ _ _ _ _ c.mid.ensures c.answer-in-Mid.ensures)
+returns-in-Mid g c = rw (c.in-Mid.is) (stepped _ _ _ _ _ (rw (to_z-of_z w32 c.in-Mid.by (mid-fits _ _ _ _ (rw c.in-Mid.is at c.requires.ranged))) at c.mid.ensures) c.answer-in-Mid.ensures)
 
 pub returns-in-Claim : goal.returns-in-Claim
 returns-in-Claim g c = rw (c.in-Claim.is) (stepped _ _ _ _ _ c.claim.ensures c.answer-in-Claim.ensures)
@@ -34,13 +35,13 @@ pub returns-in-Release : goal.returns-in-Release
 returns-in-Release g c = rw (c.in-Release.is) (stepped _ _ _ _ _ c.release.ensures c.answer-in-Release.ensures)
 
 pub returns-in-Resize : goal.returns-in-Resize
-returns-in-Resize g c = rw (c.in-Resize.is) (stepped _ _ _ _ _ c.resize.ensures c.answer-in-Resize.ensures)
+returns-in-Resize g c = rw (c.in-Resize.is) (stepped _ _ _ _ _ (rw (to_z-of_z w32 c.in-Resize.delta (resize-fits _ _ _ (rw c.in-Resize.is at c.requires.ranged))) at c.resize.ensures) c.answer-in-Resize.ensures)
 
 pub returns-in-Budge : goal.returns-in-Budge
 returns-in-Budge g c = rw (c.in-Budge.is) (stepped _ _ _ _ _ c.budge.ensures c.answer-in-Budge.ensures)
 
 pub returns-in-Area : goal.returns-in-Area
-returns-in-Area g c = rw (c.in-Area.is) (stepped _ _ _ _ _ c.change_area.ensures c.answer-in-Area.ensures)
+returns-in-Area g c = rw (c.in-Area.is) (stepped _ _ _ _ _ (rw (to_z-of_z w32 c.in-Area.delta (area-fits _ _ (rw c.in-Area.is at c.requires.ranged))) at c.change_area.ensures) c.answer-in-Area.ensures)
 
 pub returns-in-Make : goal.returns-in-Make
 returns-in-Make g c = rw (c.in-Make.is) (stepped _ _ _ _ _ c.make.ensures c.answer-in-Make.ensures)
@@ -55,7 +56,7 @@ pub returns-in-RmaFree : goal.returns-in-RmaFree
 returns-in-RmaFree g c = rw (c.in-RmaFree.is) (stepped _ _ _ _ _ c.rma_free.ensures c.answer-in-RmaFree.ensures)
 
 pub returns-in-RmaResize : goal.returns-in-RmaResize
-returns-in-RmaResize g c = rw (c.in-RmaResize.is) (stepped _ _ _ _ _ c.rma_resize.ensures c.answer-in-RmaResize.ensures)
+returns-in-RmaResize g c = rw (c.in-RmaResize.is) (stepped _ _ _ _ _ (rw (to_z-of_z w32 c.in-RmaResize.delta (rma_resize-fits _ _ (rw c.in-RmaResize.is at c.requires.ranged))) at c.rma_resize.ensures) c.answer-in-RmaResize.ensures)
 
 pub returns-in-Show : goal.returns-in-Show
 returns-in-Show g c = rw (c.in-Show.is) (stepped _ _ _ _ _ c.size_of.ensures c.answer-in-Show.ensures)
@@ -70,4 +71,4 @@ pub returns-in-Status : goal.returns-in-Status
 returns-in-Status g c = rw (c.in-Status.is) (stepped _ _ _ _ _ c.handle_of.ensures c.answer-in-Status.ensures)
 
 pub returns-in-Areas : goal.returns-in-Areas
-returns-in-Areas g c = ?
+returns-in-Areas g c = rw (c.in-Areas.is, c.free_pages.ensures) refl

@@ -1,7 +1,7 @@
 use Rattle.std.proofs.Common.{◌≡◌, refl, ap, ◌∙◌, sym, w32}
 use Rattle.std.proofs.lemmas.Int.{to_z-of_z}
 use Rattle.std.proofs.lemmas.Result.{err_from_is_err_and}
-use Rattle.rh_tasks.proofs.AreaCommands.{room-of, fixed-refused, fixed-done, fixed-kept}
+use Rattle.rh_tasks.proofs.AreaCommands.{room-if, fixed-refused, fixed-done, fixed-kept}
 use Rattle.rh_tasks.proofs.world.World.change_fixed.Goals as goal
 
 pub returns-in_err-pages : goal.returns-in_err-pages
@@ -11,7 +11,7 @@ returns-in_err-pages g c =
     rw (p.1, p.2, ← c.self.view_is) (fixed-refused c.self.invariant.0 c.args.number c.args.delta c.requires.low c.requires.other (sym e), refl)
 
 pub set_pages-requires-clause-room : goal.set_pages-requires-clause-room
-set_pages-requires-clause-room g c = room-of (sym c.in_ok-pages.ensures)
+set_pages-requires-clause-room g c = room-if _ _ _ _ (sym c.in_ok-pages.ensures)
 
 pub invariant_of-self : goal.invariant_of-self
 invariant_of-self g c =

@@ -3,7 +3,7 @@ use Rattle.std.proofs.lemmas.Int.{to_z-of_z}
 use Rattle.std.proofs.lemmas.Result.{err_from_is_err_and}
 use Rattle.rh_tasks.proofs.Finding.{made-sits, made-number}
 use Rattle.rh_tasks.proofs.MadeCommands.{HasMade}
-use Rattle.rh_tasks.proofs.AreaCommands.{room-of, no-area, made-refused, made-too-big, made-done, made-kept}
+use Rattle.rh_tasks.proofs.AreaCommands.{room-if, no-area, made-refused, made-too-big, made-done, made-kept}
 use Rattle.rh_tasks.proofs.world.World.change_made.Goals as goal
 
 pub returns-in_err-i : goal.returns-in_err-i
@@ -33,7 +33,7 @@ returns-then-pages-made g c =
     rw (← c.self.view_is) (made-too-big c.self.invariant.0 c.args.number c.args.delta a h c.requires.high (sym e) c.if-pages-made.true, refl)
 
 pub set_pages-requires-clause-room : goal.set_pages-requires-clause-room
-set_pages-requires-clause-room g c = room-of (sym c.in_ok-pages.ensures)
+set_pages-requires-clause-room g c = room-if _ _ _ _ (sym c.in_ok-pages.ensures)
 
 pub invariant_of-self : goal.invariant_of-self
 invariant_of-self g c =

@@ -49,7 +49,11 @@ overflow_cast-result g c =
     omega (arith, low, is.spells.words.within, is.spells.words.heap.within, is.spells.words.heap.heap.fits, g.met.S.Words.small c.self.inside.store c.in_ok-slot.slot.area.0)
 
 pub invariant_of-self-2 : goal.invariant_of-self-2
-invariant_of-self-2 g c = ?
+invariant_of-self-2 g c =
+    let l = rw c.unwrap.ensures at c.put.ensures in
+    (load-world c.self.invariant.0 c.in_ok-slot.ensures.ok c.args.anchor c.args.file.now c.in-Some.bytes.now c.in-Some.ensures.value c.in_ok-address.ensures l c.requires, c.self.invariant.1, c.self.invariant.2)
 
 pub returns : goal.returns
-returns g c = let h = c.unwrap in ?
+returns g c =
+    let l = rw c.unwrap.ensures at c.put.ensures in
+    rw (← c.self.view_is) (load-done c.self.invariant.0 c.in_ok-slot.ensures.ok c.args.anchor c.args.file.now c.in-Some.bytes.now c.in-Some.ensures.value c.in_ok-address.ensures l)
