@@ -1,7 +1,7 @@
 //! The named files.
 
-ghost use Rattle.std.specs.Prelude.{◌≡◌, ◌≤◌, [], ◌∷◌, ◌++◌, false, OnOk, OnErr, vec_len};
-ghost use Rattle.rh_defs.specs.Files.{has_file};
+ghost use Rattle.std.specs.Prelude.{◌≡◌, ◌≤◌, [], ◌∷◌, ◌++◌, false, OnOk, OnErr, Some, None, MatchOption, IfSome, length, vec_len};
+ghost use Rattle.rh_defs.specs.Files.{has_file, file_bytes};
 
 use crate::name::Name;
 use indexmap::IndexMap;
@@ -16,11 +16,13 @@ pub struct Files {
 
 impl Model for Files {
     ghost use Rattle.std.specs.Prelude.{ℕ, List};
-    ghost use Rattle.rh_defs.specs.Files.{contents_of};
+    ghost use Rattle.rh_defs.specs.Files.{contents_of, AreShort};
 
     ghost Value = { List (List ℕ × List ℕ) };
 
     ghost view = { λ f. contents_of f.contents.entries };
+
+    ghost invariant = { λ f. AreShort (contents_of f.contents.entries) };
 }
 
 impl Files {
@@ -49,5 +51,16 @@ impl Files {
         ensures { result ≡ has_file name.now self.now }
     {
         self.contents.contains_key(name)
+    }
+
+    /// The bytes of the file with the name, None where there is none.
+    pub fn get(&self, name: &Name) -> Option<&[u8]>
+        ensures value { MatchOption result (file_bytes name.now self.now ≡ None) (λ bytes. file_bytes name.now self.now ≡ Some bytes.now) }
+        ensures short { IfSome result (λ bytes. length bytes.now ≤ 1048576) }
+    {
+        let Some(bytes) = self.contents.get(name) else {
+            return None;
+        };
+        Some(bytes.as_slice())
     }
 }

@@ -1,20 +1,12 @@
 -- Steps of a command that are granted or refused.
-use Rattle.std.proofs.Common.{◌≡◌, ℕ, Bool, true, false, refl, ap, subst, arith, ◌+◌, ◌-◌, ◌<◌, ◌≤◌, List, length}
-use Rattle.std.specs.Prelude.{Some, None, nat_lt, nat_le, Ok, Err}
+use Rattle.std.proofs.Common.{◌≡◌, ℕ, Bool, true, false, refl, ap, ◌<◌, ◌≤◌, sym, ◌∙◌, arith}
+use Rattle.std.specs.Prelude.{nat_lt, nat_le, Ok, Err}
 use Rattle.std.proofs.lemmas.Bool.Decides.{nat_tests}
 use Rattle.rh_defs.specs.declared.refusal.Refusal.{Refusal}
-use Rattle.rh_defs.specs.declared.refusal.Refusal.TheVariants.{AnchorInUse, NoBlock, BadRange, NoRoom}
 use Rattle.rh_defs.specs.declared.reply.Reply.{Reply}
-use Rattle.rh_defs.specs.declared.reply.Reply.TheVariants as reply
-use Rattle.rh_defs.specs.declared.command.Command.{Command}
-use Rattle.rh_defs.specs.Chain.{Granted, ◌>>=◌, ◌>>◌, refuse_if, found_or, or_else}
-use Rattle.rh_defs.specs.Pieces.{Split, pages_for, written, zeros}
-use Rattle.rh_defs.specs.Range.{in_range}
-use Rattle.rh_defs.specs.Slot.{Slot, Flex, slot_pages, block_of, is_used, with_block, with_bytes, flex_address, flex_weight, slot_length, slot_alloc, slot_block, slot_put}
+use Rattle.rh_defs.specs.Chain.{Granted, ◌>>=◌, ◌>>◌, refuse_if, answer_of, left_of, outcome_of, result_or}
 use Rattle.rh_defs.specs.Desk.{Desk}
-use Rattle.rh_defs.specs.Step.{Answer, change}
-use Rattle.rh_defs.specs.Laws.{IsDesk}
-use Rattle.rh_defs.proofs.Steps.{step-keeps}
+use Rattle.rh_defs.specs.Commands.{Answer}
 
 pub begins : {A B : Type 0} {first : Granted A} {a : A} (next : A → Granted B) {y : Granted B} → first ≡ Ok a → next a ≡ y → (first >>= next) ≡ y
 unfolding ◌>>=◌
@@ -32,15 +24,6 @@ pub stops : {B : Type 0} (b : Bool) (r : Refusal) (x : Granted B) → b ≡ true
 unfolding ◌>>=◌ ◌>>◌ refuse_if
 stops b r x e = rw e refl
 
--- the same, where the next step waits for the test
-pub passes : {B : Type 0} (b : Bool) (r : Refusal) (next : Unit {0} → Granted B) {y : Granted B} → b ≡ false → next tt ≡ y → (refuse_if b r >>= next) ≡ y
-unfolding ◌>>=◌ refuse_if
-passes b r next e h = rw e h
-
-pub fails : {B : Type 0} (b : Bool) (r : Refusal) (next : Unit {0} → Granted B) → b ≡ true → (refuse_if b r >>= next) ≡ Err r
-unfolding ◌>>=◌ refuse_if
-fails b r next e = rw e refl
-
 pub granted-same : {d e : Desk} {r s : Reply} → d ≡ e → r ≡ s → (let x : Granted Answer = Ok (d, r) in x) ≡ (let y : Granted Answer = Ok (e, s) in y)
 granted-same p q = cc
 
@@ -56,45 +39,20 @@ lt-true a b h = grind (arith, nat_tests)
 pub lt-false : (a b : ℕ) → b ≤ a → nat_lt a b ≡ false
 lt-false a b h = grind (arith, nat_tests)
 
--- ---- a slot's calls
+-- ---- what a call's answer and what it leaves say of what was granted
 
-pub slot_alloc-used : (free k n : ℕ) (s : Slot) → is_used k s ≡ true → slot_alloc free k n s ≡ Err AnchorInUse
-unfolding slot_alloc
-slot_alloc-used free k n s used = fails _ _ _ used
+pub answered : {A B : Type 0} (a : A) (b : B) (old : A) (g : Granted (A × B)) → Ok b ≡ answer_of g → a ≡ left_of old g → g ≡ Ok (a, b)
+answered a b old (Ok p) e l = let q : b ≡ p.1 = cc in rw (l, q) refl
+answered a b old (Err r) e l = absurd (cc)
 
-pub slot_alloc-full : (free k n : ℕ) (s : Slot) → is_used k s ≡ false → free < pages_for (slot_length s + flex_weight n) - slot_pages s → slot_alloc free k n s ≡ Err NoRoom
-unfolding slot_alloc
-slot_alloc-full free k n s unused full = passes _ _ _ unused (fails _ _ _ (lt-true _ _ full))
+pub answer-refused : {A B : Type 0} {r : Refusal} (g : Granted (A × B)) → Err r ≡ answer_of g → g ≡ Err r
+answer-refused (Ok p) e = absurd (cc)
+answer-refused (Err r) e = cc
 
-pub slot_alloc-done : (free k n : ℕ) (s : Slot) → is_used k s ≡ false → pages_for (slot_length s + flex_weight n) - slot_pages s ≤ free
-    → slot_alloc free k n s ≡ Ok (with_block k (zeros n) s, flex_address s s.blocks)
-unfolding slot_alloc
-slot_alloc-done free k n s unused room = passes _ _ _ unused (passes _ _ _ (lt-false _ _ room) refl)
+pub done : {A : Type 0} {a : A} (old : A) (g : Granted A) → Ok tt ≡ outcome_of g → a ≡ result_or old g → g ≡ Ok a
+done old (Ok x) e l = cc
+done old (Err r) e l = absurd (cc)
 
-pub block-none : (k : ℕ) (s : Slot) → block_of k s ≡ None → slot_block k s ≡ Err NoBlock
-unfolding slot_block found_or
-block-none k s none = rw none refl
-
-pub block-some : (k : ℕ) (s : Slot) (b : Split Flex) → block_of k s ≡ Some b → slot_block k s ≡ Ok b
-unfolding slot_block found_or
-block-some k s b some = rw some refl
-
-pub slot_put-none : (k offset : ℕ) (bytes : List ℕ) (s : Slot) → block_of k s ≡ None → slot_put k offset bytes s ≡ Err NoBlock
-unfolding slot_put
-slot_put-none k offset bytes s none = ends _ (block-none k s none)
-
-pub slot_put-outside : (k offset : ℕ) (bytes : List ℕ) (s : Slot) (b : Split Flex) → block_of k s ≡ Some b → length b.here.bytes < offset + length bytes → slot_put k offset bytes s ≡ Err BadRange
-unfolding slot_put
-slot_put-outside k offset bytes s b some outside = begins _ (block-some k s b some) (fails _ _ _ (lt-true _ _ outside))
-
-pub slot_put-done : (k offset : ℕ) (bytes : List ℕ) (s : Slot) (b : Split Flex) → block_of k s ≡ Some b → offset + length bytes ≤ length b.here.bytes
-    → slot_put k offset bytes s ≡ Ok (with_bytes b (written b.here.bytes offset bytes) s)
-unfolding slot_put
-slot_put-done k offset bytes s b some inside = begins _ (block-some k s b some) (passes _ _ _ (lt-false _ _ inside) refl)
-
--- ---- a command that is granted
-
-pub granted-keeps : (d new : Desk) (c : Command) (said : Reply) → change d c ≡ Ok (new, said) → in_range c ≡ true → IsDesk d → IsDesk new
-unfolding or_else
-granted-keeps d new c said e ranged is =
-    subst IsDesk (ap (λ (r : Granted Answer). (or_else r (λ refusal. (d, reply.Refused refusal))).0) e) (step-keeps d c ranged is)
+pub done-refused : {A : Type 0} {r : Refusal} (g : Granted A) → Err r ≡ outcome_of g → g ≡ Err r
+done-refused (Ok x) e = absurd (cc)
+done-refused (Err r) e = cc

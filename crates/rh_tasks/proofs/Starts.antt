@@ -1,104 +1,91 @@
--- A new task.
-use Rattle.std.proofs.Common.{◌≡◌, ℕ, ◌+◌, ◌-◌, ◌^◌, ◌≤◌, ◌<◌, true, false, ◌||◌, refl, ap, sym, ◌∙◌, arith, List, [], ◌∷◌, ◌++◌, length}
-use Rattle.std.proofs.lemmas.List.{length-map, map-append}
-use Rattle.std.specs.Prelude.{nat_le, Ok, Err, map}
-use Rattle.std.specs.List.{AllByRecursion, list_any}
-use Rattle.std.specs.Str.{bytes_eq}
+-- A task's beginning.
+use Rattle.std.proofs.Common.{◌≡◌, ℕ, ◌+◌, ◌<◌, ◌≤◌, ◌^◌, Bool, true, false, refl, ap, sym, subst, ◌∙◌, arith, List, [], ◌∷◌, ◌++◌, length}
+use Rattle.std.specs.Prelude.{map, Ok, Err, IsNone, nat_lt}
+use Rattle.std.specs.List.{list_any}
+use Rattle.std.proofs.lemmas.List.{length-map}
+use Rattle.rh_defs.specs.Memory.{Memory, OnlyArea, open_below}
+use Rattle.rh_defs.specs.Files.{FileList}
+use Rattle.rh_defs.specs.declared.sizes.TheConstants.{MAX_AREAS}
+use Rattle.rh_defs.specs.declared.command.Manner.{Manner}
+use Rattle.rh_defs.specs.declared.command.Command.TheVariants as command
+use Rattle.rh_defs.specs.declared.refusal.Refusal.{Refusal}
 use Rattle.rh_defs.specs.declared.refusal.Refusal.TheVariants.{NameInUse, TooManyTasks, NoHandles, NoRoom}
 use Rattle.rh_defs.specs.declared.reply.Reply.TheVariants as reply
-use Rattle.rh_defs.specs.declared.command.Command.TheVariants as command
+use Rattle.rh_defs.specs.Chain.{Granted, ◌>>=◌, refuse_if, outcome_of}
 use Rattle.rh_defs.specs.Range.{in_range}
-use Rattle.rh_defs.specs.Files.{FileList}
-use Rattle.rh_defs.specs.Heap.{empty_heap}
-use Rattle.rh_defs.specs.Slot.{Flex, new_slot, slot_begin}
-use Rattle.rh_defs.specs.Desk.{Desk, Task, has_name}
-use Rattle.rh_defs.specs.Step.{start_task, with_new_task}
-use Rattle.rh_defs.proofs.Cuts.{total-append}
+use Rattle.rh_defs.specs.Slot as plain
+use Rattle.rh_defs.specs.Post as post
+use Rattle.rh_defs.specs.Desk.{Desk, Task}
+use Rattle.rh_defs.specs.Commands.{start_task}
+use Rattle.rh_slot.specs.declared.slot.Slot.{Slot}
+use Rattle.rh_slot.specs.Area.{IsSlot, slot_in}
 use Rattle.rh_tasks.specs.declared.seat.Seat.{Seat}
-use Rattle.rh_tasks.specs.declared.record.Record.{Record}
-use Rattle.rh_tasks.specs.View.{is_named, count_in, weight_in, seat_weight, seat_pages, task_of, desk_of, IsWorld}
-use Rattle.rh_tasks.proofs.Worlds.{free-is}
-use Rattle.rh_tasks.proofs.Pushes.{no-weight, no-count, no-blocks}
-use Rattle.rh_tasks.proofs.Chains.{begins, ends, past, stops, le-true, le-false, lt-true, lt-false, granted-same, granted-keeps, fails, passes}
+use Rattle.rh_tasks.specs.declared.made.MadeArea.{MadeArea}
+use Rattle.rh_tasks.specs.declared.next.Next.{Next}
+use Rattle.rh_tasks.specs.View.{task_of, desk_of, is_named, IsWorld}
+use Rattle.rh_tasks.proofs.Chains.{begins, ends, past, stops, granted-same, le-true, le-false, done-refused}
+use Rattle.rh_tasks.proofs.Finding.{named-any}
+use Rattle.rh_tasks.proofs.Worlds.{free-is, few-made, granted-keeps}
+use Rattle.rh_tasks.proofs.Joins.{joined-desk, joined-world}
 
-names-are : (records : List Record) (bytes name : List ℕ) (seats : List Seat) → list_any (has_name name) (map (task_of records bytes) seats) ≡ list_any (is_named name) seats
-unfolding task_of
-names-are records bytes name [] = refl
-names-are records bytes name (s ∷ seats) = ap (λ b. bytes_eq s.name name || b) (names-are records bytes name seats)
+begun-if : (b : Bool) → Ok tt ≡ outcome_of (refuse_if b NoRoom >>= λ _. Ok plain.new_slot) → (refuse_if b NoRoom >>= λ _. Ok plain.new_slot) ≡ Ok plain.new_slot
+unfolding ◌>>=◌ refuse_if
+begun-if true e = absurd (cc)
+begun-if false e = refl
 
-known-more : (next : ℕ) (records : List Record) → AllByRecursion (λ (r : Record). r.task < next) records → AllByRecursion (λ (r : Record). r.task < next + 1) records
-known-more next [] all = tt
-known-more next (r ∷ records) all = (omega (arith, all.0), known-more next records all.1)
+-- a slot that began is a new one
+pub begun : (free : ℕ) → Ok tt ≡ outcome_of (plain.slot_begin free) → plain.slot_begin free ≡ Ok plain.new_slot
+unfolding plain.slot_begin
+begun free e = begun-if (nat_lt free (plain.slot_pages plain.new_slot)) e
 
-all-joined : (P : Seat → Type 0) (seats : List Seat) (s : Seat) → AllByRecursion P seats → P s → AllByRecursion P (seats ++ s ∷ [])
-all-joined P [] s all p = (p, tt)
-all-joined P (x ∷ seats) s all p = (all.0, all-joined P seats s all.1 p)
+module _ {m : Memory} {seats : List Seat} {made : List MadeArea} {files : FileList} {next : Next} (name : List ℕ) (buffer : ℕ) (manner : Manner)
+    (w : IsWorld m seats made files next) where
+  abbrev d : Desk
+  d = desk_of m seats made files next
 
-module _ {seats : List Seat} {records : List Record} {bytes : List ℕ} {used free pages : ℕ} {files : FileList} {next_handle next_ref : ℕ}
-    (w : IsWorld seats records bytes used free pages files next_handle next_ref) (name : List ℕ) (buffer : ℕ) where
-  abbrev desk : Desk
-  desk = desk_of seats records bytes pages files next_handle next_ref
-
-  abbrev new_seat : Seat
-  new_seat = record { handle = next_handle; name = name; buffer = buffer; weight = 0 }
-
-  abbrev new_desk : Desk
-  new_desk = desk_of (seats ++ new_seat ∷ []) records bytes pages files (next_handle + 1) next_ref
-
-  pub start-in-use : list_any (is_named name) seats ≡ true → start_task desk name buffer ≡ Err NameInUse
+  pub name-in-use : list_any (is_named name) seats ≡ true → start_task d name buffer manner ≡ Err NameInUse
   unfolding start_task
-  start-in-use has = stops _ _ _ (names-are records bytes name seats ∙ has)
+  name-in-use h = stops _ _ _ (sym (named-any m name seats) ∙ h)
 
-  module _ (lacks : list_any (is_named name) seats ≡ false) where
-    new-name : list_any (has_name name) (map (task_of records bytes) seats) ≡ false
-    new-name = names-are records bytes name seats ∙ lacks
-
-    pub start-many : 32 ≤ length seats → start_task desk name buffer ≡ Err TooManyTasks
+  module _ (unused : list_any (is_named name) seats ≡ false) where
+    pub too-many : 32 ≤ length seats → start_task d name buffer manner ≡ Err TooManyTasks
     unfolding start_task
-    start-many many = past _ _ _ new-name (stops _ _ _ (le-true _ _ (omega (arith, length-map seats (task_of records bytes)))))
+    too-many many = past _ _ _ (sym (named-any m name seats) ∙ unused) (stops _ _ _ (le-true 32 (length (map (task_of m) seats)) (omega (arith, many, length-map seats (task_of m)))))
 
     module _ (few : length seats < 32) where
-      few-tasks : nat_le 32 (length (map (task_of records bytes) seats)) ≡ false
-      few-tasks = le-false _ _ (omega (arith, length-map seats (task_of records bytes)))
+      few-tasks : length (map (task_of m) seats) < 32
+      few-tasks = omega (arith, few, length-map seats (task_of m))
 
-      pub start-used-up : 4294967295 < next_handle → start_task desk name buffer ≡ Err NoHandles
+      -- one more area can be opened
+      pub can-open : open_below m.area MAX_AREAS < MAX_AREAS
+      can-open = omega (arith, w.areas.count, few, few-made w)
+
+      pub no-handles : 2 ^ 32 ≤ next.handle → start_task d name buffer manner ≡ Err NoHandles
       unfolding start_task
-      start-used-up up = past _ _ _ new-name (past _ _ _ few-tasks (stops _ _ _ (le-true _ _ (omega arith))))
+      no-handles used = past _ _ _ (sym (named-any m name seats) ∙ unused) (past _ _ _ (le-false 32 _ few-tasks) (stops _ _ _ (le-true (2 ^ 32) next.handle used)))
 
-      module _ (more : next_handle ≤ 4294967295) where
-        more-handles : nat_le (2 ^ 32) next_handle ≡ false
-        more-handles = le-false _ _ (omega arith)
+      module _ (some : next.handle < 2 ^ 32) where
+        pub no-room : {r : Refusal} → Err r ≡ outcome_of (plain.slot_begin m.free) → start_task d name buffer manner ≡ Err r
+        unfolding start_task
+        no-room e =
+            past _ _ _ (sym (named-any m name seats) ∙ unused) (past _ _ _ (le-false 32 _ few-tasks) (past _ _ _ (le-false (2 ^ 32) next.handle some)
+              (ends _ (ap plain.slot_begin (free-is w) ∙ done-refused (plain.slot_begin m.free) e))))
 
-        pub start-full : free ≡ 0 → start_task desk name buffer ≡ Err NoRoom
-        unfolding start_task slot_begin
-        start-full full = past _ _ _ new-name (past _ _ _ few-tasks (past _ _ _ more-handles (ends _ (fails _ _ _ (lt-true _ _ (omega (arith, free-is w)))))))
+        module _ {n : Memory} (slot : Slot) (is : slot_in n slot ≡ plain.new_slot) (begins_so : Ok tt ≡ outcome_of (plain.slot_begin m.free))
+            (none : IsNone (m.area slot.area.0)) (low : slot.area.0 < MAX_AREAS) (only : OnlyArea m n slot.area.0) (still : IsSlot n slot) where
+          abbrev seat : Seat
+          seat = record { handle = next.handle; name = name; buffer = buffer; manner = manner; slot = slot }
 
-        module _ (room : 1 ≤ free) where
-          new-task : task_of records bytes new_seat ≡ record { handle = next_handle; name = name; buffer = buffer; slot = new_slot }
-          unfolding task_of
-          new-task =
-              ap (λ (blocks : List Flex). let t : Task = record { handle = next_handle; name = name; buffer = buffer; slot = record { heap = empty_heap 3840; blocks = blocks; budging = true } } in t) (no-blocks next_handle records bytes w.known)
+          abbrev then : Next
+          then = record next { handle = next.handle + 1 }
 
-          new-desk : with_new_task name buffer new_slot desk ≡ new_desk
-          new-desk =
-              ap (λ (tasks : List Task). let d : Desk = record desk { tasks = tasks; next_handle = next_handle + 1 } in d)
-              (sym (map-append (task_of records bytes) seats (new_seat ∷ []) ∙ ap (λ (t : Task). map (task_of records bytes) seats ++ t ∷ []) new-task))
-
-          pub start-done : start_task desk name buffer ≡ Ok (new_desk, reply.Started next_handle)
-          unfolding start_task slot_begin
+          pub start-done : start_task d name buffer manner ≡ Ok (desk_of n (seats ++ seat ∷ []) made files then, reply.Started next.handle)
+          unfolding start_task task_of
           start-done =
-              past _ _ _ new-name (past _ _ _ few-tasks (past _ _ _ more-handles
-              (begins _ (passes _ _ _ (lt-false _ _ (omega (arith, free-is w))) refl) (granted-same new-desk refl))))
+              past _ _ _ (sym (named-any m name seats) ∙ unused) (past _ _ _ (le-false 32 _ few-tasks) (past _ _ _ (le-false (2 ^ 32) next.handle some)
+                (begins _ (ap plain.slot_begin (free-is w) ∙ begun m.free begins_so)
+                  (granted-same (sym (joined-desk seat w none low only still (next.handle + 1)
+                    ∙ ap (λ (s : plain.Slot). let e : Desk = record (desk_of n (seats ++ seat ∷ []) made files then) { tasks = map (task_of m) seats ++ record (task_of n seat) { slot = s } ∷ []; post = post.post_join next.handle d.post; areas = d.areas; made = d.made; pool = d.pool } in e) is)) refl))))
 
-          pub start-world : in_range (command.Task name buffer) ≡ true → IsWorld (seats ++ new_seat ∷ []) records bytes used (free - 1) pages files (next_handle + 1) next_ref
-          start-world ranged = record {
-            desk = granted-keeps desk new_desk (command.Task name buffer) _ start-done ranged w.desk;
-            small = w.small;
-            known = known-more next_handle records w.known;
-            weights = all-joined (λ (s : Seat). s.weight ≡ weight_in s.handle records) seats new_seat w.weights (sym (no-weight next_handle records w.known));
-            shared = omega (arith, w.shared, total-append seat_weight seats (new_seat ∷ []));
-            counted = omega (arith, w.counted, total-append (λ (s : Seat). count_in s.handle records) seats (new_seat ∷ []), no-count next_handle records w.known);
-            used_is = w.used_is;
-            long = w.long;
-            free_is = omega (arith, w.free_is, total-append seat_pages seats (new_seat ∷ []));
-          }
+          pub start-world : in_range (command.Task name buffer manner) ≡ true → IsWorld n (seats ++ seat ∷ []) made files then
+          start-world ranged = joined-world seat w none low only still (next.handle + 1) (granted-keeps d _ (command.Task name buffer manner) (reply.Started next.handle) start-done ranged w.desk)

@@ -1,63 +1,68 @@
--- What the invariant of a world gives.
-use Rattle.std.proofs.Common.{◌≡◌, ℕ, zero, suc, ◌+◌, ◌*◌, ◌≤◌, ◌<◌, refl, ap, sym, ◌∙◌, arith, List, [], ◌∷◌, length}
-use Rattle.std.specs.Prelude.{map}
-use Rattle.std.proofs.Math.ListN.{get_or}
+-- What holds of every world, and of the desk that it spells.
+use Rattle.std.proofs.Common.{◌≡◌, ℕ, zero, suc, ◌+◌, ◌*◌, ◌/◌, ◌≤◌, ◌<◌, ◌≢◌, refl, ap, sym, subst, ◌∙◌, arith, List, [], ◌∷◌, length}
+use Rattle.std.specs.Prelude.{map, Option, Some, find, Ok, Err, true}
 use Rattle.std.specs.List.{AllByRecursion}
-use Rattle.rh_defs.specs.Pieces.{total, pages_for}
+use Rattle.rh_defs.specs.Memory.{Memory, IsOpen, OnlyArea, bytes}
+use Rattle.rh_defs.specs.Pieces.{total}
 use Rattle.rh_defs.specs.Files.{FileList}
-use Rattle.rh_defs.specs.Desk.{Desk, task_pages, used_pages, free_pages}
+use Rattle.rh_defs.specs.declared.command.Command.{Command}
+use Rattle.rh_defs.specs.declared.reply.Reply.{Reply}
+use Rattle.rh_defs.specs.declared.reply.Reply.TheVariants as reply
+use Rattle.std.proofs.lemmas.List.{length-map}
+use Rattle.rh_defs.specs.Chain.{Granted, or_else}
+use Rattle.rh_defs.specs.Range.{in_range}
+use Rattle.rh_defs.specs.Post as post
+use Rattle.rh_defs.specs.Desk.{Desk, Task, Made, most_tasks, task_pages, used_pages, free_pages}
+use Rattle.rh_defs.specs.Commands.{Answer, most_made}
+use Rattle.rh_defs.specs.Step.{change}
+use Rattle.rh_defs.specs.Laws.{IsDesk, Rise}
+use Rattle.rh_defs.proofs.Steps.{step-keeps}
+use Rattle.rh_defs.specs.Forms.{first_made}
 use Rattle.rh_tasks.specs.declared.seat.Seat.{Seat}
-use Rattle.rh_tasks.specs.declared.record.Record.{Record}
-use Rattle.rh_tasks.specs.View.{record_size, record_weight, weight_in, seat_weight, seat_pages, task_of, desk_of, IsWorld}
-use Rattle.rh_tasks.proofs.Blocks.{weight-blocks}
-use Rattle.rh_tasks.proofs.Seats.{Sits}
+use Rattle.rh_tasks.specs.declared.made.MadeArea.{MadeArea}
+use Rattle.rh_tasks.specs.declared.next.Next.{Next}
+use Rattle.rh_tasks.specs.View.{task_of, made_of, made_number, desk_of, Avoids, AreDistinct, IsWorld}
 
--- a member's part of a total
-pub total-at : {A : Type 0} (size : A → ℕ) (xs : List A) (i : ℕ) (x : A) → i < length xs → get_or xs i x ≡ x → size x ≤ total size xs
-total-at size [] i x inside is = absurd (omega arith)
-total-at size (y ∷ xs) zero x inside is = omega (arith, ap size is)
-total-at size (y ∷ xs) (suc i) x inside is = omega (arith, total-at size xs i x (omega arith) is)
+above-avoids : {A B : Type 0} (number : B → ℕ) (f : A → B) (key : A → ℕ) → ((x : A) → number (f x) ≡ key x) → (least next k : ℕ) (xs : List A) → k < least → Rise number least next (map f xs) → Avoids k (map key xs)
+above-avoids number f key is least next k [] low up = tt
+above-avoids number f key is least next k (x ∷ xs) low up =
+    ((λ q. absurd (omega (arith, up.0, is x))), above-avoids number f key is (number (f x) + 1) next k xs (omega (arith, up.0)) up.1)
 
-pub weights-in-pages : (seats : List Seat) → total seat_weight seats ≤ 4096 * total seat_pages seats
-weights-in-pages [] = omega arith
-weights-in-pages (s ∷ seats) = omega (arith, weights-in-pages seats)
+-- numbers that go up are distinct
+pub rise-distinct : {A B : Type 0} (number : B → ℕ) (f : A → B) (key : A → ℕ) → ((x : A) → number (f x) ≡ key x) → (least next : ℕ) (xs : List A) → Rise number least next (map f xs) → AreDistinct (map key xs)
+rise-distinct number f key is least next [] up = tt
+rise-distinct number f key is least next (x ∷ xs) up =
+    (above-avoids number f key is (number (f x) + 1) next (key x) xs (omega (arith, is x)) up.1, rise-distinct number f key is (number (f x) + 1) next xs up.1)
 
-pub sizes-in-weights : (records : List Record) → total record_size records ≤ total record_weight records
-sizes-in-weights [] = omega arith
-sizes-in-weights (r ∷ records) = omega (arith, sizes-in-weights records)
-
--- the pages of a task's slot are told by its weight
-pub pages-task : (records : List Record) (bytes : List ℕ) (s : Seat) → total record_size records ≤ length bytes → s.weight ≡ weight_in s.handle records → task_pages (task_of records bytes s) ≡ seat_pages s
-unfolding task_of
-pages-task records bytes s fits is = ap (λ w. pages_for (4096 + w)) (weight-blocks s.handle records bytes fits ∙ sym is)
-
-pub pages-tasks : (records : List Record) (bytes : List ℕ) (seats : List Seat) → total record_size records ≤ length bytes → AllByRecursion (λ (s : Seat). s.weight ≡ weight_in s.handle records) seats
-    → total task_pages (map (task_of records bytes) seats) ≡ total seat_pages seats
-pages-tasks records bytes [] fits all = refl
-pages-tasks records bytes (s ∷ seats) fits all = omega (arith, pages-task records bytes s fits all.0, pages-tasks records bytes seats fits all.1)
-
-module _ {seats : List Seat} {records : List Record} {bytes : List ℕ} {used free pages : ℕ} {files : FileList} {next_handle next_ref : ℕ}
-    (w : IsWorld seats records bytes used free pages files next_handle next_ref) where
+module _ {m : Memory} {seats : List Seat} {made : List MadeArea} {files : FileList} {next : Next} (w : IsWorld m seats made files next) where
   abbrev pub the_desk : Desk
-  the_desk = desk_of seats records bytes pages files next_handle next_ref
+  the_desk = desk_of m seats made files next
 
-  pub light : total seat_weight seats ≤ 1048576
-  light = omega (arith, w.free_is, w.small, weights-in-pages seats)
+  pub free-is : free_pages the_desk ≡ m.free
+  free-is = omega (arith, w.ledger)
 
-  pub heavy : total record_weight records ≤ 1048576
-  heavy = omega (arith, w.shared, light)
+  pub handles : AreDistinct (map (λ (s : Seat). s.handle) seats)
+  unfolding task_of
+  handles = rise-distinct (λ (t : Task). t.handle) (task_of m) (λ (s : Seat). s.handle) (λ s. refl) 0 next.handle seats w.desk.handles
 
-  pub fits : total record_size records ≤ length bytes
-  fits = omega (arith, w.shared, w.long, w.free_is, weights-in-pages seats, sizes-in-weights records)
+  pub numbers : AreDistinct (map made_number made)
+  unfolding made_of
+  numbers = rise-distinct (λ (x : Made). x.number) (made_of m) made_number (λ a. refl) first_made next.area made w.desk.made.numbers
 
-  pub few-bytes : length bytes ≤ 1048576
-  few-bytes = omega (arith, w.long, w.small)
+  pub few-made : length made ≤ most_made
+  few-made = omega (arith, w.desk.made.few, length-map made (made_of m))
 
-  pub used-pages : used_pages the_desk ≡ 1 + total seat_pages seats
-  used-pages = omega (arith, pages-tasks records bytes seats fits w.weights)
+  pub few-seats : length seats ≤ most_tasks
+  few-seats = omega (arith, w.desk.few, length-map seats (task_of m))
 
-  pub free-is : free_pages the_desk ≡ free
-  free-is = omega (arith, used-pages, w.free_is)
+-- a command that is granted keeps what every command keeps
+pub granted-keeps : (d new : Desk) (c : Command) (said : Reply) → change d c ≡ Ok (new, said) → in_range c ≡ true → IsDesk d → IsDesk new
+unfolding or_else
+granted-keeps d new c said e ranged is =
+    subst IsDesk (ap (λ (r : Granted Answer). (or_else r (λ refusal. (d, reply.Refused refusal))).0) e) (step-keeps d c ranged is)
 
-  pub weight-small : {i : ℕ} {s : Seat} → Sits seats i s → s.weight ≤ 1048576
-  weight-small {i} {s} at = omega (arith, light, total-at seat_weight seats i s at.inside at.is)
+pub same-desk : {tasks tasks' : List Task} {post post' : post.Post} {areas areas' : List ℕ} {made made' : List Made} {pool pool' : ℕ} (d : Desk)
+    → tasks ≡ tasks' → post ≡ post' → areas ≡ areas' → made ≡ made' → pool ≡ pool'
+    → (let x : Desk = record d { tasks = tasks; post = post; areas = areas; made = made; pool = pool } in x)
+    ≡ (let y : Desk = record d { tasks = tasks'; post = post'; areas = areas'; made = made'; pool = pool' } in y)
+same-desk d p q r s t = cc

@@ -4,15 +4,26 @@ use Rattle.std.specs.Result.{MatchResult}
 use Rattle.rh_defs.specs.declared.refusal.Refusal.{Refusal}
 use Rattle.rh_defs.specs.declared.reply.Reply.{Reply}
 use Rattle.rh_defs.specs.declared.reply.Reply.TheVariants as reply
+use Rattle.rh_defs.specs.declared.command.Command.{Command}
+use Rattle.rh_defs.specs.declared.command.Command.TheVariants as command
 use Rattle.rh_defs.specs.Chain.{Granted}
-use Rattle.rh_defs.specs.Desk.{Desk}
-use Rattle.rh_defs.specs.Step.{Answer}
+use Rattle.rh_defs.specs.Commands.{Answer}
+use Rattle.rh_tasks.specs.Shown.{Shown}
 
 -- the call gave what is granted, or was refused and changed nothing
-abbrev pub Gives : Granted Answer → Desk → Desk → Result Reply Refusal → Type 0
-Gives granted old new result = MatchResult result (λ reply. granted ≡ Ok (new, reply)) (λ refusal. (granted ≡ Err refusal) × (new ≡ old))
+abbrev pub Gives : Granted Answer → Shown → Shown → Result Reply Refusal → Type 0
+Gives granted old new result = MatchResult result (λ said. granted ≡ Ok (new.desk, said)) (λ refusal. (granted ≡ Err refusal) × (new ≡ old))
 
 -- the reply that a call's result is
 abbrev pub reply_of : Result Reply Refusal → Reply
 reply_of (Ok said) = said
 reply_of (Err refusal) = reply.Refused refusal
+
+-- a command that sends no message, and asks for none
+abbrev pub IsStanding : Command → Type 0
+IsStanding (command.Save name k to leaf) = ⊥
+IsStanding (command.Poll name) = ⊥
+IsStanding (command.CancelIn name id) = ⊥
+IsStanding (command.CancelOut name id) = ⊥
+IsStanding (command.Repeat name) = ⊥
+IsStanding _ = Unit {0}

@@ -1,3 +1,6 @@
+pub mod Shown
 pub mod View
-pub mod Scans
 pub mod Answer
+pub mod Finding
+pub mod Items
+pub mod Start

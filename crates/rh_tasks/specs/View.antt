@@ -1,91 +1,145 @@
--- The desk that the tasks, the records and the bytes of a world spell.
-use Rattle.std.specs.Prelude.{ℕ, ◌+◌, ◌*◌, ◌≡◌, ◌≤◌, ◌<◌, Bool, true, ◌==◌, if◌then◌else◌, List, [], ◌∷◌, length, take, drop, map}
+-- The desk that the seats, the made areas and the store's memory spell, and what holds of every world.
+use Rattle.std.specs.Prelude.{◌≡◌, ◌≢◌, ◌==◌, ℕ, ◌+◌, ◌/◌, ◌≤◌, ◌<◌, List, [], ◌∷◌, length, map, None}
 use Rattle.std.specs.List.{AllByRecursion}
 use Rattle.std.specs.Str.{bytes_eq}
-use Rattle.rh_defs.specs.Pieces.{total, round_up, pages_for}
+use Rattle.std.specs.Prelude.{Bool}
+use Rattle.rh_defs.specs.Memory.{Memory, IsOpen, bytes, open_below}
+use Rattle.rh_defs.specs.Pieces.{page}
 use Rattle.rh_defs.specs.Files.{FileList}
-use Rattle.rh_defs.specs.Heap.{empty_heap}
-use Rattle.rh_defs.specs.Slot.{Flex}
-use Rattle.rh_defs.specs.Desk.{Desk, Task}
+use Rattle.rh_defs.specs.Post as post
+use Rattle.rh_defs.specs.Desk.{Desk, Task, Made, used_pages}
 use Rattle.rh_defs.specs.Laws.{IsDesk}
+use Rattle.rh_defs.specs.declared.sizes.TheConstants.{MAX_AREAS}
+use Rattle.rh_module.specs.declared.module.Module.{Module}
+use Rattle.rh_module.specs.Area.{IsModule, heap_in}
+use Rattle.rh_slot.specs.Area.{IsSlot, slot_in}
 use Rattle.rh_tasks.specs.declared.seat.Seat.{Seat}
-use Rattle.rh_tasks.specs.declared.record.Record.{Record}
-
--- ---- what is read from the records
-
-abbrev pub record_size : Record → ℕ
-record_size r = r.size
-
--- what the block takes of its slot
-abbrev pub record_weight : Record → ℕ
-record_weight r = 8 + round_up 4 r.size
-
--- a record's block, where its bytes come first
-abbrev pub first_block : Record → List ℕ → Flex
-first_block r bytes = record { anchor = r.anchor; bytes = take r.size bytes }
-
--- the flex blocks of a task; the bytes of all blocks lie one after the other in the order of the records
-abbrev pub blocks_in : ℕ → List Record → List ℕ → List Flex
-blocks_in h [] bytes = []
-blocks_in h (r ∷ records) bytes =
-    if r.task == h then first_block r bytes ∷ blocks_in h records (drop r.size bytes)
-    else blocks_in h records (drop r.size bytes)
-
--- their number
-abbrev pub count_in : ℕ → List Record → ℕ
-count_in h [] = 0
-count_in h (r ∷ records) = if r.task == h then 1 + count_in h records else count_in h records
-
--- their weights, added up
-abbrev pub weight_in : ℕ → List Record → ℕ
-weight_in h [] = 0
-weight_in h (r ∷ records) = if r.task == h then record_weight r + weight_in h records else weight_in h records
+use Rattle.rh_tasks.specs.declared.made.MadeArea.{MadeArea}
+use Rattle.rh_tasks.specs.declared.next.Next.{Next}
+use Rattle.rh_tasks.specs.Shown.{Shown}
 
 -- ---- the desk
 
-abbrev pub is_named : List ℕ → Seat → Bool
-is_named name s = bytes_eq s.name name
+-- areas 0 to 5 are the store's areas of these numbers, and area 1 is the module area
+abbrev pub the_module : Module
+the_module = record { area = record { 0 = 1 } }
 
--- a task with its blocks; its C heap has 3,840 bytes
-unfoldable pub task_of : List Record → List ℕ → Seat → Task
-task_of records bytes s = record {
+abbrev pub fixed : List ℕ
+fixed = 0 ∷ 1 ∷ 2 ∷ 3 ∷ 4 ∷ 5 ∷ []
+
+-- how many pages an area has
+unfoldable pub pages_at : Memory → ℕ → ℕ
+pages_at m id = length (bytes m id) / page
+
+-- a seat's task; it takes part in no transfer
+unfoldable pub task_of : Memory → Seat → Task
+task_of m s = record {
   handle = s.handle;
   name = s.name;
   buffer = s.buffer;
-  slot = record { heap = empty_heap 3840; blocks = blocks_in s.handle records bytes; budging = true };
+  manner = s.manner;
+  slot = slot_in m s.slot;
+  sending = [];
+  taking = [];
+  last_sent = None;
 }
 
--- of the areas only the module area has a page
-abbrev pub desk_of : List Seat → List Record → List ℕ → ℕ → FileList → ℕ → ℕ → Desk
-desk_of seats records bytes pages files next_handle next_ref = record {
-  tasks = map (task_of records bytes) seats;
-  areas = 0 ∷ 1 ∷ 0 ∷ 0 ∷ 0 ∷ 0 ∷ [];
-  pool = pages;
+-- a seat in the post, which holds no message
+abbrev pub post_seat : Seat → post.Seat
+post_seat s = record { handle = s.handle; holds = None }
+
+-- a made area as the desk has it
+unfoldable pub made_of : Memory → MadeArea → Made
+made_of m a = record { number = a.number; most = a.most; pages = pages_at m a.area.0 }
+
+-- the pages of areas 0 and 2 to 5; the module area's are told by its heap
+unfoldable pub fixed_pages : Memory → List ℕ
+fixed_pages m = pages_at m 0 ∷ 0 ∷ pages_at m 2 ∷ pages_at m 3 ∷ pages_at m 4 ∷ pages_at m 5 ∷ []
+
+-- the post, in which no message is live
+unfoldable pub post_of : Memory → List Seat → ℕ → post.Post
+post_of m seats next_ref = record { seats = map post_seat seats; queued = []; heap = heap_in m the_module; next_ref = next_ref }
+
+-- the desk
+abbrev pub desk_of : Memory → List Seat → List MadeArea → FileList → Next → Desk
+desk_of m seats made files next = record {
+  tasks = map (task_of m) seats;
+  post = post_of m seats next.message;
+  areas = fixed_pages m;
+  made = map (made_of m) made;
+  scrap = None;
+  pool = m.pages;
   files = files;
-  next_handle = next_handle;
-  next_ref = next_ref;
+  next_handle = next.handle;
+  next_area = next.area;
+}
+
+-- the area of a seat's slot
+abbrev pub slot_area : Seat → ℕ
+slot_area s = s.slot.area.0
+
+-- the area of a made area
+abbrev pub made_area : MadeArea → ℕ
+made_area a = a.area.0
+
+-- the desk, and the bytes and lengths of the areas
+abbrev pub shown_of : Memory → List Seat → List MadeArea → FileList → Next → Shown
+shown_of m seats made files next = record {
+  desk = desk_of m seats made files next;
+  module_bytes = bytes m 1;
+  slots = map (λ (s : Seat). bytes m s.slot.area.0) seats;
+  areas = map (λ id. length (bytes m id)) fixed;
+  made = map (λ (a : MadeArea). length (bytes m a.area.0)) made;
+  scrap = [];
+  free = m.free;
 }
 
 -- ---- what holds of every world
 
-abbrev pub seat_weight : Seat → ℕ
-seat_weight s = s.weight
+-- an area is none of these
+abbrev pub Avoids : ℕ → List ℕ → Type 0
+Avoids id ids = AllByRecursion (λ other. other ≢ id) ids
 
--- the pages of a task's slot
-abbrev pub seat_pages : Seat → ℕ
-seat_pages s = pages_for (4096 + s.weight)
+-- no two are one
+abbrev pub AreDistinct : List ℕ → Type 0
+AreDistinct [] = Unit {0}
+AreDistinct (id ∷ ids) = Avoids id ids × AreDistinct ids
 
-pub record IsWorld (seats : List Seat) (records : List Record) (bytes : List ℕ) (used free pages : ℕ) (files : FileList) (next_handle next_ref : ℕ) : Type 0 where
-  pub desk : IsDesk (desk_of seats records bytes pages files next_handle next_ref)
-  pub small : pages ≤ 256
-  -- each block belongs to a task that was started
-  pub known : AllByRecursion (λ (r : Record). r.task < next_handle) records
-  -- each task's weight, and the blocks of all tasks
-  pub weights : AllByRecursion (λ (s : Seat). s.weight ≡ weight_in s.handle records) seats
-  pub shared : total record_weight records ≡ total seat_weight seats
-  pub counted : length records ≡ total (λ (s : Seat). count_in s.handle records) seats
-  -- the bytes
-  pub used_is : total record_size records ≡ used
-  pub long : length bytes ≡ 4096 * pages
-  -- the free pages
-  pub free_is : free + (1 + total seat_pages seats) ≡ pages
+-- a seat's area holds a slot
+abbrev pub HasSlot : Memory → Seat → Type 0
+HasSlot m s = IsSlot m s.slot
+
+-- an area is none of areas 0 to 5
+abbrev pub IsAbove : ℕ → Type 0
+IsAbove id = 6 ≤ id
+
+-- the store's open areas are areas 0 to 5, those of the seats' slots, and the made ones
+pub record HasAreas (m : Memory) (seats : List Seat) (made : List MadeArea) : Type 0 where
+  pub fixed_open : AllByRecursion (IsOpen m) fixed
+  pub module_area : IsModule m the_module
+  pub slots : AllByRecursion (HasSlot m) seats
+  pub made_open : AllByRecursion (λ (a : MadeArea). IsOpen m a.area.0) made
+  pub slots_above : AllByRecursion (λ (s : Seat). IsAbove s.slot.area.0) seats
+  pub made_above : AllByRecursion (λ (a : MadeArea). IsAbove a.area.0) made
+  pub slots_apart : AreDistinct (map slot_area seats)
+  pub made_apart : AreDistinct (map made_area made)
+  pub beside : AllByRecursion (λ (s : Seat). Avoids s.slot.area.0 (map made_area made)) seats
+  pub count : open_below m.area MAX_AREAS ≡ 6 + length seats + length made
+
+-- whether a seat has the name
+abbrev pub is_named : List ℕ → Seat → Bool
+is_named name s = bytes_eq s.name name
+
+-- the number of a made area
+abbrev pub made_number : MadeArea → ℕ
+made_number a = a.number
+
+-- what holds of every world
+pub record IsWorld (m : Memory) (seats : List Seat) (made : List MadeArea) (files : FileList) (next : Next) : Type 0 where
+  pub desk : IsDesk (desk_of m seats made files next)
+  pub areas : HasAreas m seats made
+  pub ledger : m.free + used_pages (desk_of m seats made files next) ≡ m.pages
+
+-- whether a made area has the number
+abbrev pub has_number : ℕ → MadeArea → Bool
+has_number k a = a.number == k

@@ -1,41 +1,129 @@
-//! The list of the areas and the slots.
+//! Areas whose length changes by whole pages (OS_ChangeDynamicArea).
 
-ghost use Rattle.std.specs.Prelude.{◌≡◌, ◌≤◌, map, slice_get};
-ghost use Rattle.rh_defs.specs.Pieces.{total};
-ghost use Rattle.rh_tasks.specs.View.{seat_weight};
-ghost use Rattle.rh_tasks.specs.Scans.{items_of, slot_item as item_of_slot};
+ghost use Rattle.std.specs.Prelude.{◌≡◌, ◌≢◌, ◌+◌, ◌*◌, ◌≤◌, ◌<◌, true, Ok, Err};
+ghost use Rattle.rh_defs.specs.Memory.{Memory, IsOpen, OnlyArea};
+ghost use Rattle.rh_defs.specs.Module.{whole_pages};
+ghost use Rattle.rh_defs.specs.declared.command.Command.TheVariants as Command;
+ghost use Rattle.rh_defs.specs.Range.{in_range};
+ghost use Rattle.rh_defs.specs.Commands.{pages_after as pages_after_on, change_area as change_area_on};
+ghost use Rattle.rh_tasks.specs.Answer.{Gives};
+ghost use Rattle.rh_tasks.specs.View.{pages_at};
 
-use crate::pages::pages_for;
-use crate::seat::Seat;
-use rh_defs::AreaItem;
+use crate::made::find_made;
+use crate::module_blocks::MODULE;
+use crate::world::World;
+use rh_defs::{Refusal, Reply};
+use rh_defs::sizes::PAGE;
+use rh_store::{AreaId, Pages, Store};
 
-/// The pages of areas 0 to 5: only area 1, the module area, has one.
-pub const AREA_PAGES: [u32; 6] = [0, 1, 0, 0, 0, 0];
+/// The module area's number.
+const MODULE_AREA: u32 = 1;
 
-/// Item i of the areas and then the slots in order of handle, as `areas` lists them.
-pub fn area_item(seats: &Vec<Seat>, i: usize) -> Option<AreaItem>
-    requires { total seat_weight seats.now.items ≤ 1048576 }
-    ensures { result ≡ slice_get (items_of seats.now.items) i }
+/// How many areas are there from the start.
+pub const FIXED_AREAS: u32 = 6;
+
+/// How many pages hold an amount of bytes, whatever its sign.
+fn pages_of(delta: i32) -> usize
+    ensures { 4096 * result ≡ whole_pages delta }
 {
-    if i < 6 {
-        return Some(AreaItem::Area {
-            number: i as u8,
-            pages: AREA_PAGES[i],
-        });
-    }
-    slot_item(seats, i - 6)
+    (delta.unsigned_abs() as usize).div_ceil(PAGE)
 }
 
-fn slot_item(seats: &Vec<Seat>, i: usize) -> Option<AreaItem>
-    requires { total seat_weight seats.now.items ≤ 1048576 }
-    ensures { result ≡ slice_get (map item_of_slot seats.now.items) i }
+/// The bytes by which an area's length changes for an amount: whole pages.
+fn bytes_moved(delta: i32) -> u32
+    ensures { result ≡ whole_pages delta }
 {
-    if i >= seats.len() {
-        return None;
+    (pages_of(delta) * PAGE) as u32
+}
+
+/// How many pages an area of pages only would have after a change by an amount of bytes: ExcessiveShrink where it has
+/// fewer than it would lose, NoRoom where too few are free.
+fn pages_after<S: Pages>(store: &S, area: AreaId, delta: i32) -> Result<usize, Refusal>
+    requires { IsOpen (S.memory store.now) area.0 }
+    ensures { result ≡ pages_after_on (S.memory store.now).free 0 (pages_at (S.memory store.now) area.0) delta }
+{
+    let now = store.len(area) / PAGE;
+    let more = pages_of(delta);
+    if delta < 0 {
+        if now < more {
+            return Err(Refusal::ExcessiveShrink);
+        }
+        return Ok(now - more);
     }
-    let seat = &seats[i];
-    Some(AreaItem::Slot {
-        name: seat.name.copied(),
-        pages: pages_for(4096 + seat.weight) as u32,
-    })
+    if !store.grow_check(area, more) {
+        return Err(Refusal::NoRoom);
+    }
+    Ok(now + more)
+}
+
+/// Makes an area this many pages long.
+fn set_pages<S: Pages>(store: &mut S, area: AreaId, pages: usize)
+    requires opened { IsOpen (S.memory store.old) area.0 }
+    requires room { pages ≤ pages_at (S.memory store.old) area.0 + (S.memory store.old).free }
+    ensures pages { pages_at (S.memory store.new) area.0 ≡ pages }
+    ensures only { OnlyArea (S.memory store.old) (S.memory store.new) area.0 }
+{
+    let now = store.len(area) / PAGE;
+    if pages < now {
+        store.shrink(area, now - pages);
+        return;
+    }
+    store.grow(area, pages - now).unwrap();
+}
+
+impl<S: Store> World<S> {
+    /// Makes an area longer or shorter: ExcessiveShrink, NoRoom, NoArea, TooBig.
+    pub(crate) fn change_area(&mut self, number: u32, delta: i32) -> Result<Reply, Refusal>
+        requires { in_range (Command.Area number delta) ≡ true }
+        ensures { Gives (change_area_on self.old.desk number delta) self.old self.new result }
+    {
+        if number == MODULE_AREA {
+            return self.change_module(delta);
+        }
+        if number < FIXED_AREAS {
+            return self.change_fixed(number, delta);
+        }
+        self.change_made(number, delta)
+    }
+
+    fn change_module(&mut self, delta: i32) -> Result<Reply, Refusal>
+        requires { in_range (Command.Area 1 delta) ≡ true }
+        ensures { Gives (change_area_on self.old.desk 1 delta) self.old self.new result }
+    {
+        let moved = MODULE.change(&mut self.store, delta)?;
+        Ok(Reply::Moved {
+            bytes: moved as u32,
+        })
+    }
+
+    fn change_fixed(&mut self, number: u32, delta: i32) -> Result<Reply, Refusal>
+        requires ranged { in_range (Command.Area number delta) ≡ true }
+        requires low { number < 6 }
+        requires other { number ≢ 1 }
+        ensures { Gives (change_area_on self.old.desk number delta) self.old self.new result }
+    {
+        let area = AreaId(number as u8);
+        let pages = pages_after(&self.store, area, delta)?;
+        set_pages(&mut self.store, area, pages);
+        Ok(Reply::Moved {
+            bytes: bytes_moved(delta),
+        })
+    }
+
+    fn change_made(&mut self, number: u32, delta: i32) -> Result<Reply, Refusal>
+        requires ranged { in_range (Command.Area number delta) ≡ true }
+        requires high { 6 ≤ number }
+        ensures { Gives (change_area_on self.old.desk number delta) self.old self.new result }
+    {
+        let i = find_made(&self.made, number)?;
+        let made = self.made[i];
+        let pages = pages_after(&self.store, made.area, delta)?;
+        if pages > made.most as usize {
+            return Err(Refusal::TooBig);
+        }
+        set_pages(&mut self.store, made.area, pages);
+        Ok(Reply::Moved {
+            bytes: bytes_moved(delta),
+        })
+    }
 }

@@ -1,14 +1,17 @@
-//! The desk's world over plain arrays: the tasks, and their flex blocks' records and bytes.
+//! The desk's world: a store whose areas hold the slots, the module area and the pages, and what is kept beside them.
 #![tactic(auto)]
 
 mod areas;
-mod pages;
-mod record;
+mod blocks;
+mod c_heap;
+mod listing;
+mod made;
+mod module_blocks;
+mod next;
 mod seat;
-mod store;
+mod seats;
+mod tasks;
 mod world;
 
+pub use listing::HeapSums;
 pub use world::World;
-
-#[cfg(test)]
-mod tests;

@@ -1,43 +1,16 @@
-//! The live tasks.
+//! A live task, as the world keeps it.
 
-ghost use Rattle.std.specs.Prelude.{◌≡◌, IfOk, IfErr, Some, None};
-ghost use Rattle.std.specs.List.{list_any, position};
-ghost use Rattle.rh_tasks.specs.View.{is_named};
+use rh_defs::{Handle, Manner, Name};
+use rh_slot::Slot;
 
-use rh_defs::{Handle, Name, Refusal};
-
-/// A live task.
+/// What the world keeps of a live task beside its slot's words.
 #[derive(Drop)]
 pub struct Seat {
     pub handle: Handle,
     pub name: Name,
     /// The bytes of its receive buffer.
     pub buffer: u32,
-    /// The weights of its blocks, added up.
-    pub weight: usize,
-}
-
-/// Whether a task has the name.
-pub fn is_name_in_use(seats: &Vec<Seat>, name: &Name) -> bool
-    ensures { result ≡ list_any (is_named name.now) seats.now.items }
-{
-    seats.iter().any(|seat| seat.name == *name)
-}
-
-/// The place of the task with the name, where there is one.
-pub fn position_of(seats: &Vec<Seat>, name: &Name) -> Option<usize>
-    ensures { result ≡ position (is_named name.now) seats.now.items }
-{
-    seats.iter().position(|seat| seat.name == *name)
-}
-
-/// The place of the task with the name; NoName where there is none.
-pub fn find(seats: &Vec<Seat>, name: &Name) -> Result<usize, Refusal>
-    ensures ok { IfOk result (λ i. position (is_named name.now) seats.now.items ≡ Some i) }
-    ensures err { IfErr result (λ e. (e ≡ Refusal.NoName) × (position (is_named name.now) seats.now.items ≡ None)) }
-{
-    match position_of(seats, name) {
-        Some(i) => Ok(i),
-        None => Err(Refusal::NoName),
-    }
+    pub manner: Manner,
+    /// Where its slot's words are, and whether budging is on.
+    pub slot: Slot,
 }

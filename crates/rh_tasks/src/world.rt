@@ -1,262 +1,192 @@
-//! The world: what the commands change.
+//! The world: a desk over a store.
 
-ghost use Rattle.std.specs.Prelude.{◌≡◌, ◌≤◌, true, Ok, Err, IfOk, length};
-ghost use Rattle.std.specs.Result.{MatchResult};
-ghost use Rattle.rh_defs.specs.Runs.{start, start_with};
-ghost use Rattle.rh_defs.specs.Listing.{area_items, areas_at, blocks_at, shown_at};
-ghost use Rattle.rh_defs.specs.Laws.{HasApartBlocks, IsBalanced};
+ghost use Rattle.std.specs.Prelude.{◌≡◌, ◌≤◌, ℕ, ◌+◌, ◌<◌, true, Ok, Err, IfOk, IsSome};
+ghost use Rattle.rh_defs.specs.Memory.{Memory, fresh, bytes};
 ghost use Rattle.rh_defs.specs.Range.{in_range};
-ghost use Rattle.rh_defs.specs.Step.{step, start_task, alloc as alloc_on, put as put_on, show as show_on, blocks as blocks_on};
-ghost use Rattle.rh_tasks.specs.Answer.{Gives, reply_of};
+ghost use Rattle.rh_defs.specs.Runs.{start, start_with};
+ghost use Rattle.rh_defs.specs.Step.{step};
+ghost use Rattle.rh_defs.specs.Laws.{IsDesk};
+ghost use Rattle.rh_tasks.specs.Shown.{IsSpelled, IsBalanced, HasApartBlocks};
+ghost use Rattle.rh_tasks.specs.Answer.{IsStanding, reply_of};
+ghost use Rattle.rh_tasks.specs.Start.{IsFurnished};
 
-use crate::areas::area_item;
-use crate::pages::{BELOW_FLEX, FLEX_START, HEADER, pages_for, weight_of};
-use crate::record::{Record, block_item, count_blocks, find_block, place_of};
-use crate::seat::{Seat, find, is_name_in_use};
-use crate::store::{read_at, write_at, zero_at};
-use rh_defs::{Anchor, AreaItem, BlockItem, Command, Files, Handle, Name, Ref, Refusal, Reply};
+use crate::made::MadeArea;
+use crate::next::Next;
+use crate::seat::Seat;
+use crate::areas::FIXED_AREAS;
+use crate::made::{FIRST_MADE, MOST_MADE};
+use crate::module_blocks::MODULE;
+use crate::tasks::MOST_TASKS;
+use rh_defs::{Command, Files, Handle, Ref, Refusal, Reply};
+use rh_module::Module;
+use rh_store::Store;
 use std::alloc::{AllocError, Global};
 use std::marker::Model;
 
-/// At most so many tasks are live.
-const MOST_TASKS: usize = 32;
-
-/// Each of the 32 tasks has 64 anchors for its blocks.
-const MOST_BLOCKS: usize = 2048;
-
-/// A desk. Its tasks and their flex blocks stand in arrays that are made at the start: no call but the
-/// constructors takes memory.
+/// A desk over a store, whose areas hold the slots, the module area and the pages. Areas 0 to 5 are the store's areas of
+/// these numbers; each slot and each made area has an area of its own. No call but the constructors takes memory.
 #[derive(Drop)]
-pub struct World {
+pub struct World<S: Store> {
+    pub(crate) store: S,
     /// The live tasks in order of handle, with room for 32.
-    seats: Vec<Seat>,
-    /// The blocks of all tasks in the order in which they were allocated, with room for 2,048.
-    records: Vec<Record>,
-    /// The blocks' bytes, one block after the other in that order; as long as the pool.
-    bytes: Vec<u8>,
-    /// How many of the bytes belong to blocks.
-    used: usize,
-    /// The pages that belong to no area and no slot.
-    free: usize,
-    /// The pages of the pool.
-    pages: u32,
-    files: Files,
-    /// The handle that is given next; 2^32 where all were given.
-    next_handle: u64,
-    /// The ref that is given next; 2^32 where all were given.
-    next_ref: u64,
+    pub(crate) seats: Vec<Seat>,
+    /// The made areas in order of number, with room for 32.
+    pub(crate) made: Vec<MadeArea>,
+    pub(crate) files: Files,
+    pub(crate) next: Next,
 }
 
-impl Model for World {
+impl<S: Store> Model for World<S> {
     ghost use Rattle.std.specs.Prelude.{◌≡◌, vec_capacity};
-    ghost use Rattle.rh_defs.specs.Desk.{Desk};
-    ghost use Rattle.rh_tasks.specs.View.{desk_of, IsWorld};
+    ghost use Rattle.rh_tasks.specs.Shown.{Shown};
 
-    ghost Value = { Desk };
+    ghost Value = { Shown };
 
-    ghost view = { λ w. desk_of w.seats.items w.records.items w.bytes.items w.pages w.files w.next_handle w.next_ref };
+    ghost use Rattle.rh_tasks.specs.View.{shown_of, IsWorld};
 
-    ghost invariant = { λ w. IsWorld w.seats.items w.records.items w.bytes.items w.used w.free w.pages w.files w.next_handle w.next_ref × (vec_capacity w.seats ≡ 32) × (vec_capacity w.records ≡ 2048) };
+    ghost view = { λ w. shown_of (S.memory w.store) w.seats.items w.made.items w.files w.next };
+
+    ghost invariant = { λ w. IsWorld (S.memory w.store) w.seats.items w.made.items w.files w.next × (vec_capacity w.seats ≡ 32) × (vec_capacity w.made ≡ 32) };
 }
 
-impl World {
-    /// The first desk over a pool of 8 to 256 pages of 4,096 bytes, with these files: no task, and one page in the
-    /// module area. Handles and refs count up from 1. AllocError where memory is refused.
-    pub fn new(alloc: Global, pages: u32, files: Files) -> Result<World, AllocError>
-        requires least { 8 ≤ pages }
-        requires most { pages ≤ 256 }
-        ensures { IfOk result (λ world. world ≡ start pages files) }
+/// Opens areas 0 to 5 of a fresh store, and makes area 1, the module area, an empty heap of one page.
+fn furnish<S: Store>(store: &mut S)
+    requires fresh { S.memory store.old ≡ fresh (S.memory store.old).pages }
+    requires least { 8 ≤ (S.memory store.old).pages }
+    ensures { IsFurnished (S.memory store.new) (S.memory store.old).pages }
+{
+    for _area in 0..FIXED_AREAS {
+        store.open().unwrap();
+    }
+    store.grow(MODULE.area, 1).unwrap();
+    Module::start(store, MODULE.area);
+}
+
+impl<S: Store + Drop> World<S> {
+    /// The first desk over a fresh store of 8 to 1,024 pages, with these files: no task, and one page in the module area.
+    /// Handles and refs count up from 1. AllocError where memory is refused; store and files are dropped then.
+    pub fn new(alloc: Global, store: S, files: Files) -> Result<World<S>, AllocError>
+        requires fresh { S.memory store ≡ fresh (S.memory store).pages }
+        requires least { 8 ≤ (S.memory store).pages }
+        requires most { (S.memory store).pages ≤ 1024 }
+        ensures { IfOk result (λ world. world.desk ≡ start (S.memory store).pages files) }
     {
-        World::with_next(alloc, pages, files, Handle(1), Ref(1))
+        World::with_next(alloc, store, files, Handle(1), Ref(1))
     }
 
-    /// The first desk whose next handle and next ref are these, each from 1 on. AllocError where memory is refused.
+    /// The first desk whose next handle and next ref are these, each from 1 on. AllocError where memory is refused; store
+    /// and files are dropped then.
     pub fn with_next(
         alloc: Global,
-        pages: u32,
+        mut store: S,
         files: Files,
         handle: Handle,
         r: Ref,
-    ) -> Result<World, AllocError>
-        requires least { 8 ≤ pages }
-        requires most { pages ≤ 256 }
+    ) -> Result<World<S>, AllocError>
+        requires fresh { S.memory store ≡ fresh (S.memory store).pages }
+        requires least { 8 ≤ (S.memory store).pages }
+        requires most { (S.memory store).pages ≤ 1024 }
         requires handle { 1 ≤ handle }
         requires message { 1 ≤ r }
-        ensures { IfOk result (λ world. world ≡ start_with pages files handle r) }
+        ensures { IfOk result (λ world. world.desk ≡ start_with (S.memory store).pages files handle r) }
     {
         let seats = Vec::with_capacity(alloc, MOST_TASKS)?;
-        let records = Vec::with_capacity(alloc, MOST_BLOCKS)?;
-        let bytes = vec![in alloc; 0; 4096 * pages as usize]?;
+        let made = Vec::with_capacity(alloc, MOST_MADE)?;
+        furnish(&mut store);
         Ok(World {
+            store,
             seats,
-            records,
-            bytes,
-            used: 0,
-            free: pages as usize - 1,
-            pages,
+            made,
             files,
-            next_handle: u64::from(handle.0),
-            next_ref: u64::from(r.0),
+            next: Next {
+                handle: u64::from(handle.0),
+                area: FIRST_MADE,
+                message: u64::from(r.0),
+            },
         })
     }
+}
 
-    /// The free pages, and item i of the areas 0 to 5 and then the slots in order of handle.
-    pub fn areas(&self, i: usize) -> (u32, Option<AreaItem>)
-        ensures item { result ≡ areas_at self.now i }
-        ensures few { length (area_items self.now) ≤ 38 }
+impl<S: Store> World<S> {
+    /// The bytes and lengths of the store's areas spell the desk; the live blocks lie in them, no two of one area overlap,
+    /// and all pages add up.
+    pub fn spelled(&self)
+        ensures spelled { IsSpelled self.now }
+        ensures apart { HasApartBlocks self.now }
+        ensures balanced { IsBalanced self.now }
+        ensures desk { IsDesk self.now.desk }
     {
-        (self.free as u32, area_item(&self.seats, i))
+        let _ = &self.store;
     }
 
-    /// How many flex blocks the task has, and block i from below; NoName where no task has the name.
-    pub fn blocks(&self, name: &Name, i: usize) -> Result<(u32, Option<BlockItem>), Refusal>
-        ensures { result ≡ blocks_at self.now name.now i }
-    {
-        let at = find(&self.seats, name)?;
-        let seat = &self.seats[at];
-        let count = count_blocks(&self.records, seat.handle);
-        let item = block_item(&self.records, seat.handle, i);
-        Ok((count, item))
-    }
-
-    /// The size in bytes of the task's block at the anchor (flex_size), and its bytes from an offset on; NoName,
-    /// NoBlock, or BadRange where the bytes wanted don't lie in the block.
-    pub fn show(
-        &self,
-        name: &Name,
-        anchor: Anchor,
-        offset: u32,
-        to: &mut [u8],
-    ) -> Result<u32, Refusal>
-        ensures { MatchResult (shown_at self.now name.now anchor offset (length to.old)) (λ p. (result ≡ Ok p.0) × (to.new ≡ p.1)) (λ e. (result ≡ Err e) × (to.new ≡ to.old)) }
-    {
-        let at = find(&self.seats, name)?;
-        let seat = &self.seats[at];
-        let place = find_block(&self.records, seat.handle, anchor)?;
-        if offset as usize + to.len() > place.size as usize {
-            return Err(Refusal::BadRange);
-        }
-        read_at(&self.bytes, place.start + offset as usize, to);
-        Ok(place.size)
-    }
-
-    /// Does one command, or answers the first of its refusals and changes nothing. Takes no memory.
+    /// Does one command, or answers the first of its refusals and changes nothing.
     pub fn apply(&mut self, command: &Command) -> Reply
-        requires { in_range command.now ≡ true }
-        ensures step { step self.old command.now ≡ (self.new, result) }
+        requires ranged { in_range command.now ≡ true }
+        requires standing { IsStanding command.now }
+        ensures step { step self.old.desk command.now ≡ (self.new.desk, result) }
+        ensures spelled { IsSpelled self.new }
         ensures apart { HasApartBlocks self.new }
         ensures balanced { IsBalanced self.new }
+        ensures desk { IsDesk self.new.desk }
     {
-        let free = self.free as u32;
+        let reply = self.change(command);
+        self.spelled();
+        reply
+    }
+
+    fn change(&mut self, command: &Command) -> Reply
+        requires ranged { in_range command.now ≡ true }
+        requires standing { IsStanding command.now }
+        ensures { step self.old.desk command.now ≡ (self.new.desk, result) }
+    {
         match command {
-            Command::Task { name, buffer } => answer(self.start_task(name, *buffer)),
+            Command::Task {
+                name,
+                buffer,
+                manner,
+            } => answer(self.start_task(name, *buffer, *manner)),
+            Command::Kill { name } => answer(self.kill(name)),
             Command::Alloc { name, anchor, size } => answer(self.alloc(name, *anchor, *size)),
+            Command::Load { name, anchor, file } => answer(self.load(name, *anchor, file)),
             Command::Put {
                 name,
                 anchor,
                 offset,
                 bytes,
             } => answer(self.put(name, *anchor, *offset, bytes.as_slice())),
+            Command::Free { name, anchor } => answer(self.free(name, *anchor)),
+            Command::Extend { name, anchor, size } => answer(self.extend(name, *anchor, *size)),
+            Command::Mid {
+                name,
+                anchor,
+                offset,
+                by,
+            } => answer(self.mid(name, *anchor, *offset, *by)),
+            Command::Claim { name, size } => answer(self.claim(name, *size)),
+            Command::Release { name, address } => answer(self.release(name, *address)),
+            Command::Resize {
+                name,
+                address,
+                delta,
+            } => answer(self.resize(name, *address, *delta)),
+            Command::Budge { name, on } => answer(self.budge(name, *on)),
+            Command::Area { number, delta } => answer(self.change_area(*number, *delta)),
+            Command::Make { most } => answer(self.make(*most)),
+            Command::Remove { number } => answer(self.remove(*number)),
+            Command::RmaClaim { size } => answer(self.rma_claim(*size)),
+            Command::RmaFree { address } => answer(self.rma_free(*address)),
+            Command::RmaResize { address, delta } => answer(self.rma_resize(*address, *delta)),
             Command::Show { name, anchor } => answer(self.size_of(name, *anchor)),
             Command::Blocks { name } => answer(self.block_count(name)),
-            Command::Areas => Reply::FreePages(free),
+            Command::Heap { name } => answer(self.heap_sums(name)),
+            Command::Status { name } => answer(self.handle_of(name)),
+            Command::Areas => Reply::FreePages(self.free_pages()),
+            Command::Save { .. }
+            | Command::Poll { .. }
+            | Command::CancelIn { .. }
+            | Command::CancelOut { .. }
+            | Command::Repeat { .. } => Reply::NoEvent,
         }
-    }
-
-    /// Starts a task with a fresh slot: NameInUse, TooManyTasks, NoHandles, NoRoom.
-    fn start_task(&mut self, name: &Name, buffer: u32) -> Result<Reply, Refusal>
-        requires { in_range (Command.Task name.now buffer) ≡ true }
-        ensures { Gives (start_task self.old name.now buffer) self.old self.new result }
-    {
-        if is_name_in_use(&self.seats, name) {
-            return Err(Refusal::NameInUse);
-        }
-        if self.seats.len() >= MOST_TASKS {
-            return Err(Refusal::TooManyTasks);
-        }
-        if self.next_handle > u64::from(u32::MAX) {
-            return Err(Refusal::NoHandles);
-        }
-        if self.free == 0 {
-            return Err(Refusal::NoRoom);
-        }
-        let handle = Handle(self.next_handle as u32);
-        self.seats.push_reserved(Seat {
-            handle,
-            name: name.copied(),
-            buffer,
-            weight: 0,
-        });
-        self.next_handle += 1;
-        self.free -= 1;
-        Ok(Reply::Started(handle))
-    }
-
-    /// Puts a block of zero bytes on top of the task's slot (flex_alloc): NoName, AnchorInUse, NoRoom.
-    fn alloc(&mut self, name: &Name, anchor: Anchor, size: u32) -> Result<Reply, Refusal>
-        requires { in_range (Command.Alloc name.now anchor size) ≡ true }
-        ensures { Gives (alloc_on self.old name.now anchor size) self.old self.new result }
-    {
-        let at = find(&self.seats, name)?;
-        let seat = &self.seats[at];
-        let task = seat.handle;
-        let below = seat.weight;
-        if place_of(&self.records, task, anchor).is_some() {
-            return Err(Refusal::AnchorInUse);
-        }
-        let weight = below + weight_of(size);
-        let growth = pages_for(BELOW_FLEX + weight) - pages_for(BELOW_FLEX + below);
-        if self.free < growth {
-            return Err(Refusal::NoRoom);
-        }
-        let start = self.used;
-        zero_at(&mut self.bytes, start, size as usize);
-        self.records.push_reserved(Record { task, anchor, size });
-        self.used = start + size as usize;
-        self.free -= growth;
-        let seat = &mut self.seats[at];
-        seat.weight = weight;
-        let address = (FLEX_START + below + HEADER) as u32;
-        Ok(Reply::Block { address })
-    }
-
-    fn put(
-        &mut self,
-        name: &Name,
-        anchor: Anchor,
-        offset: u32,
-        bytes: &[u8],
-    ) -> Result<Reply, Refusal>
-        requires { in_range (Command.Put name.now anchor offset bytes.now) ≡ true }
-        ensures { Gives (put_on self.old name.now anchor offset bytes.now) self.old self.new result }
-    {
-        let at = find(&self.seats, name)?;
-        let seat = &self.seats[at];
-        let place = find_block(&self.records, seat.handle, anchor)?;
-        if offset as usize + bytes.len() > place.size as usize {
-            return Err(Refusal::BadRange);
-        }
-        write_at(&mut self.bytes, place.start + offset as usize, bytes);
-        Ok(Reply::Done)
-    }
-
-    /// The size of the task's block: NoName, NoBlock.
-    fn size_of(&self, name: &Name, anchor: Anchor) -> Result<Reply, Refusal>
-        ensures { Gives (show_on self.now name.now anchor) self.now self.now result }
-    {
-        let at = find(&self.seats, name)?;
-        let seat = &self.seats[at];
-        let place = find_block(&self.records, seat.handle, anchor)?;
-        Ok(Reply::Shown { size: place.size })
-    }
-
-    /// How many blocks the task has: NoName.
-    fn block_count(&self, name: &Name) -> Result<Reply, Refusal>
-        ensures { Gives (blocks_on self.now name.now) self.now self.now result }
-    {
-        let at = find(&self.seats, name)?;
-        let seat = &self.seats[at];
-        Ok(Reply::BlockCount(count_blocks(&self.records, seat.handle)))
     }
 }
 

@@ -1,103 +1,45 @@
-use Rattle.std.proofs.Common.{◌≡◌, false, refl, ap, sym, ◌∙◌, arith}
-use Rattle.std.specs.Prelude.{is_some}
+use Rattle.std.proofs.Common.{◌≡◌, refl, ap, ◌∙◌, sym, arith}
 use Rattle.std.proofs.lemmas.Result.{err_from_is_err_and}
-use Rattle.rh_tasks.specs.Scans.{place_in}
-use Rattle.rh_tasks.proofs.Seats.{Found, sits, same-seat}
-use Rattle.rh_tasks.proofs.Worlds.{fits, few-bytes, weight-small}
-use Rattle.rh_tasks.proofs.Puts.{alloc-nobody}
-use Rattle.rh_tasks.proofs.Allocs.{alloc-used, alloc-full, alloc-done, alloc-fits, alloc-world, alloc-few}
+use Rattle.rh_defs.specs.declared.command.Command.TheVariants as command
+use Rattle.rh_defs.specs.Slot.{slot_alloc}
+use Rattle.rh_defs.specs.Commands.{alloc}
+use Rattle.rh_tasks.specs.View.{shown_of}
+use Rattle.rh_tasks.proofs.Chains.{ends}
+use Rattle.rh_tasks.proofs.Ranges.{alloc-anchor}
+use Rattle.rh_tasks.proofs.Finding.{nobody}
+use Rattle.rh_tasks.proofs.Moves.{owned}
+use Rattle.rh_tasks.proofs.Addresses.{grant-of, slot_alloc-low}
+use Rattle.rh_tasks.proofs.Leaves.{granted}
+use Rattle.rh_tasks.proofs.SlotCommands.{placed-done, placed-world, placed-refused}
 use Rattle.rh_tasks.proofs.world.World.alloc.Goals as goal
 
-pub returns-in_err-at : goal.returns-in_err-at
-returns-in_err-at c =
+pub returns-in_err-slot : goal.returns-in_err-slot
+unfolding alloc
+returns-in_err-slot g c =
     let p = err_from_is_err_and c.from_residual.result c.from_residual.ensures.1 in
-    rw (p.1, p.2, c.in_err-at.ensures.err.0, ← c.self.view_is) (alloc-nobody _ _ _ _ _ _ _ _ c.in_err-at.ensures.err.1 c.args.anchor c.args.size, refl)
+    rw (p.1, p.2, c.in_err-slot.ensures.err.0, ← c.self.view_is) (ends _ (nobody _ _ _ _ _ _ c.in_err-slot.ensures.err.1), refl)
 
-pub place_of-requires : goal.place_of-requires
-place_of-requires c = omega (arith, fits c.self.invariant.0, few-bytes c.self.invariant.0)
+pub alloc-requires-clause-anchor : goal.alloc-requires-clause-anchor
+alloc-requires-clause-anchor g c = alloc-anchor c.args.name.now c.args.anchor c.args.size c.requires
 
-pub returns-then-is_some : goal.returns-then-is_some
-returns-then-is_some c =
-    rw (← c.self.view_is)
-    (alloc-used {s = c.index-seat.result.now} c.self.invariant.0 (record { at = c.in_ok-at.ensures.ok; is = sym c.index-seat.ensures }) c.args.anchor c.args.size (ap is_some (sym c.place_of.ensures) ∙ sym c.is_some.ensures ∙ c.if-is_some.true), refl)
+pub returns-in_err-address : goal.returns-in_err-address
+unfolding alloc
+returns-in_err-address g c =
+    let p = err_from_is_err_and c.from_residual-in_err-address.result c.from_residual-in_err-address.ensures.1 in
+    let same = ap (λ m. shown_of m c.self.inside.seats.items c.self.inside.made.items c.self.inside.files c.self.inside.next) c.in_err-address.ensures.err in
+    rw (p.1, p.2, ← c.self.view_is) (placed-refused c.self.invariant.0 c.in_ok-slot.ensures.ok (λ free. slot_alloc free c.args.anchor c.args.size) c.in_err-address.ensures, same)
 
-pub overflow_add-weight : goal.overflow_add-weight
-overflow_add-weight c =
-    let f : Found c.args.name.now c.self.inside.seats.items c.in_ok-at.at c.index-seat.result.now = record { at = c.in_ok-at.ensures.ok; is = sym c.index-seat.ensures } in
-    omega (arith, weight-small c.self.invariant.0 (sits f), c.weight_of.ensures)
+pub overflow_cast-result : goal.overflow_cast-result
+overflow_cast-result g c =
+    let is = owned c.self.invariant.0 c.in_ok-slot.ensures.ok in
+    let low = grant-of (slot_alloc-low _ _ _ _) (granted c.in_ok-address.ensures) in
+    omega (arith, low, is.spells.words.within, is.spells.words.heap.within, is.spells.words.heap.heap.fits, g.met.S.Words.small c.self.inside.store c.in_ok-slot.slot.area.0)
 
-pub overflow_add-weight-2 : goal.overflow_add-weight-2
-overflow_add-weight-2 c =
-    let f : Found c.args.name.now c.self.inside.seats.items c.in_ok-at.at c.index-seat.result.now = record { at = c.in_ok-at.ensures.ok; is = sym c.index-seat.ensures } in
-    omega (arith, weight-small c.self.invariant.0 (sits f), c.weight_of.ensures)
-
-pub pages_for-requires : goal.pages_for-requires
-pages_for-requires c =
-    let f : Found c.args.name.now c.self.inside.seats.items c.in_ok-at.at c.index-seat.result.now = record { at = c.in_ok-at.ensures.ok; is = sym c.index-seat.ensures } in
-    omega (arith, weight-small c.self.invariant.0 (sits f), c.weight_of.ensures)
-
-pub overflow_add-below : goal.overflow_add-below
-overflow_add-below c =
-    let f : Found c.args.name.now c.self.inside.seats.items c.in_ok-at.at c.index-seat.result.now = record { at = c.in_ok-at.ensures.ok; is = sym c.index-seat.ensures } in
-    omega (arith, weight-small c.self.invariant.0 (sits f))
-
-pub pages_for-requires-2 : goal.pages_for-requires-2
-pages_for-requires-2 c =
-    let f : Found c.args.name.now c.self.inside.seats.items c.in_ok-at.at c.index-seat.result.now = record { at = c.in_ok-at.ensures.ok; is = sym c.index-seat.ensures } in
-    omega (arith, weight-small c.self.invariant.0 (sits f))
-
-pub returns-then-self-growth : goal.returns-then-self-growth
-returns-then-self-growth c =
-    let lacks : is_some (place_in c.index-seat.result.now.handle c.args.anchor 0 c.self.inside.records.items) ≡ false = ap is_some (sym c.place_of.ensures) ∙ sym c.is_some.ensures ∙ c.if-is_some.false in
-    rw (← c.self.view_is) (
-      alloc-full {s = c.index-seat.result.now} c.self.invariant.0 (record { at = c.in_ok-at.ensures.ok; is = sym c.index-seat.ensures }) c.args.anchor c.args.size lacks
-          (omega (arith, c.pages_for.ensures, c.pages_for-2.ensures, c.weight_of.ensures)),
-      refl,
-    )
-
-pub zero_at-requires : goal.zero_at-requires
-zero_at-requires c =
-    let lacks : is_some (place_in c.index-seat.result.now.handle c.args.anchor 0 c.self.inside.records.items) ≡ false = ap is_some (sym c.place_of.ensures) ∙ sym c.is_some.ensures ∙ c.if-is_some.false in
-    alloc-fits {s = c.index-seat.result.now} c.self.invariant.0 (record { at = c.in_ok-at.ensures.ok; is = sym c.index-seat.ensures }) c.args.anchor c.args.size lacks
-    (omega (arith, c.pages_for.ensures, c.pages_for-2.ensures, c.weight_of.ensures))
-
-pub push_reserved-requires : goal.push_reserved-requires
-push_reserved-requires c =
-    let lacks : is_some (place_in c.index-seat.result.now.handle c.args.anchor 0 c.self.inside.records.items) ≡ false = ap is_some (sym c.place_of.ensures) ∙ sym c.is_some.ensures ∙ c.if-is_some.false in
-    let few = alloc-few {s = c.index-seat.result.now} c.self.invariant.0 (record { at = c.in_ok-at.ensures.ok; is = sym c.index-seat.ensures }) c.args.anchor c.args.size lacks
-    (omega (arith, c.pages_for.ensures, c.pages_for-2.ensures, c.weight_of.ensures)) c.requires in
-    omega (arith, few, c.self.invariant.2, c.self.inside.records.ok.0)
-
-pub overflow_add-address : goal.overflow_add-address
-overflow_add-address c =
-    let f : Found c.args.name.now c.self.inside.seats.items c.in_ok-at.at c.index-seat.result.now = record { at = c.in_ok-at.ensures.ok; is = sym c.index-seat.ensures } in
-    omega (arith, weight-small c.self.invariant.0 (sits f))
-
-pub overflow_add-address-2 : goal.overflow_add-address-2
-overflow_add-address-2 c =
-    let f : Found c.args.name.now c.self.inside.seats.items c.in_ok-at.at c.index-seat.result.now = record { at = c.in_ok-at.ensures.ok; is = sym c.index-seat.ensures } in
-    omega (arith, weight-small c.self.invariant.0 (sits f))
-
-pub overflow_cast-address : goal.overflow_cast-address
-overflow_cast-address c =
-    let f : Found c.args.name.now c.self.inside.seats.items c.in_ok-at.at c.index-seat.result.now = record { at = c.in_ok-at.ensures.ok; is = sym c.index-seat.ensures } in
-    omega (arith, weight-small c.self.invariant.0 (sits f))
-
-pub invariant_of-self : goal.invariant_of-self
-invariant_of-self c =
-    let f : Found c.args.name.now c.self.inside.seats.items c.in_ok-at.at c.index-seat.result.now = record { at = c.in_ok-at.ensures.ok; is = sym c.index-seat.ensures } in
-    let lacks : is_some (place_in c.index-seat.result.now.handle c.args.anchor 0 c.self.inside.records.items) ≡ false = ap is_some (sym c.place_of.ensures) ∙ sym c.is_some.ensures ∙ c.if-is_some.false in
-    let same = same-seat c.self.inside.seats.items c.in_ok-at.at c.index_mut-seat.result.now c.index-seat.result.now (sits f).inside (sym c.index_mut-seat.ensures.value) (sym c.index-seat.ensures) in
-    rw (same, c.push_reserved.ensures.items, c.zero_at.ensures.items, c.pages_for.ensures, c.pages_for-2.ensures, c.weight_of.ensures) (
-      alloc-world {s = c.index-seat.result.now} c.self.invariant.0 f c.args.anchor c.args.size lacks (omega (arith, c.pages_for.ensures, c.pages_for-2.ensures, c.weight_of.ensures)) c.requires,
-      c.self.invariant.1,
-      c.push_reserved.ensures.capacity ∙ c.self.invariant.2,
-    )
+pub invariant_of-self-2 : goal.invariant_of-self-2
+unfolding alloc
+invariant_of-self-2 g c =
+    (placed-world c.self.invariant.0 c.in_ok-slot.ensures.ok (λ free. slot_alloc free c.args.anchor c.args.size) c.in_ok-address.ensures (command.Alloc c.args.name.now c.args.anchor c.args.size) refl c.requires, c.self.invariant.1, c.self.invariant.2)
 
 pub returns : goal.returns
-returns c =
-    let f : Found c.args.name.now c.self.inside.seats.items c.in_ok-at.at c.index-seat.result.now = record { at = c.in_ok-at.ensures.ok; is = sym c.index-seat.ensures } in
-    let lacks : is_some (place_in c.index-seat.result.now.handle c.args.anchor 0 c.self.inside.records.items) ≡ false = ap is_some (sym c.place_of.ensures) ∙ sym c.is_some.ensures ∙ c.if-is_some.false in
-    let same = same-seat c.self.inside.seats.items c.in_ok-at.at c.index_mut-seat.result.now c.index-seat.result.now (sits f).inside (sym c.index_mut-seat.ensures.value) (sym c.index-seat.ensures) in
-    rw (← c.self.view_is, same, c.push_reserved.ensures.items, c.zero_at.ensures.items, c.weight_of.ensures)
-    (alloc-done {s = c.index-seat.result.now} c.self.invariant.0 f c.args.anchor c.args.size lacks (omega (arith, c.pages_for.ensures, c.pages_for-2.ensures, c.weight_of.ensures)))
+unfolding alloc
+returns g c = rw (← c.self.view_is) (placed-done c.self.invariant.0 c.in_ok-slot.ensures.ok (λ free. slot_alloc free c.args.anchor c.args.size) c.in_ok-address.ensures)

@@ -1,18 +1,31 @@
-use Rattle.std.proofs.Common.{sym}
+use Rattle.std.proofs.Common.{◌≡◌, ℕ, refl, ap, ◌∙◌, sym, arith}
+use Rattle.std.specs.Prelude.{length, slice_get, Option, Ok}
 use Rattle.std.proofs.lemmas.Result.{err_from_is_err_and}
-use Rattle.rh_tasks.proofs.Worlds.{heavy}
-use Rattle.rh_tasks.proofs.Readers.{blocks-nobody, blocks-are}
+use Rattle.rh_defs.specs.declared.listing.BlockItem.{BlockItem}
+use Rattle.rh_defs.specs.Chain.{Granted}
+use Rattle.rh_defs.specs.Listing.{block_items, blocks_at}
+use Rattle.rh_slot.specs.Area.{slot_in}
+use Rattle.rh_tasks.proofs.Chains.{ends}
+use Rattle.rh_tasks.proofs.Finding.{nobody}
+use Rattle.rh_tasks.proofs.Moves.{owned}
+use Rattle.rh_tasks.proofs.ItemLaws.{blocks-weigh}
+use Rattle.rh_tasks.proofs.QuestionLaws.{asked}
 use Rattle.rh_tasks.proofs.world.World.blocks.Goals as goal
 
-pub returns-in_err-at : goal.returns-in_err-at
-returns-in_err-at c =
+pub returns-in_err-slot : goal.returns-in_err-slot
+unfolding blocks_at
+returns-in_err-slot g c =
     let p = err_from_is_err_and c.from_residual.result c.from_residual.ensures.1 in
-    rw (p.1, p.2, c.in_err-at.ensures.err.0, ← c.self.view_is) (sym (blocks-nobody c.self.invariant.0 _ c.args.i c.in_err-at.ensures.err.1))
+    rw (p.1, p.2, c.in_err-slot.ensures.err.0, ← c.self.view_is) (sym (ends _ (nobody _ _ _ _ _ _ c.in_err-slot.ensures.err.1)))
 
-pub block_item-item-requires : goal.block_item-item-requires
-block_item-item-requires c = heavy c.self.invariant.0
+pub overflow_cast-count : goal.overflow_cast-count
+overflow_cast-count g c =
+    let is = owned c.self.invariant.0 c.in_ok-slot.ensures.ok in
+    let s = slot_in (g.S.Words.memory c.self.inside.store) c.in_ok-slot.slot in
+    omega (arith, c.count.ensures, blocks-weigh s.blocks, is.spells.words.within, g.met.S.Words.small c.self.inside.store c.in_ok-slot.slot.area.0)
 
 pub returns : goal.returns
-returns c =
-    rw (← c.self.view_is, c.count_blocks-count.ensures, c.block_item-item.ensures)
-    (sym (blocks-are c.self.invariant.0 {s = c.index-seat.result.now} c.args.i (record { at = c.in_ok-at.ensures.ok; is = sym c.index-seat.ensures })))
+unfolding blocks_at
+returns g c =
+    rw (← c.self.view_is, c.count.ensures, c.block.ensures)
+      (sym (asked c.self.invariant.0 c.in_ok-slot.ensures.ok (λ s. let r : Granted (ℕ × Option BlockItem) = Ok (length s.blocks, slice_get (block_items s) c.args.i) in r)))

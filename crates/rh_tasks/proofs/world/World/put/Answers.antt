@@ -1,52 +1,37 @@
-use Rattle.std.proofs.Common.{refl, sym, arith}
+use Rattle.std.proofs.Common.{◌≡◌, refl, ap, ◌∙◌, sym}
 use Rattle.std.proofs.lemmas.Result.{err_from_is_err_and}
-use Rattle.rh_tasks.proofs.Worlds.{fits, few-bytes}
-use Rattle.rh_tasks.proofs.Puts.{put-nobody, put-none, put-outside, put-done, put-world, place-inside}
+use Rattle.rh_defs.specs.declared.command.Command.TheVariants as command
+use Rattle.rh_defs.specs.Slot.{slot_put}
+use Rattle.rh_defs.specs.Commands.{put}
+use Rattle.rh_tasks.specs.View.{shown_of}
+use Rattle.rh_tasks.proofs.Chains.{ends}
+use Rattle.rh_tasks.proofs.Ranges.{put-anchor}
+use Rattle.rh_tasks.proofs.Finding.{nobody}
+use Rattle.rh_tasks.proofs.Calls.{looks-put}
+use Rattle.rh_tasks.proofs.SlotCommands.{block-done, block-world, block-refused}
 use Rattle.rh_tasks.proofs.world.World.put.Goals as goal
 
-pub returns-in_err-at : goal.returns-in_err-at
-returns-in_err-at c =
+pub returns-in_err-slot : goal.returns-in_err-slot
+unfolding put
+returns-in_err-slot g c =
     let p = err_from_is_err_and c.from_residual.result c.from_residual.ensures.1 in
-    rw (p.1, p.2, c.in_err-at.ensures.err.0, ← c.self.view_is) (put-nobody _ _ _ _ _ _ _ _ c.in_err-at.ensures.err.1 c.args.anchor c.args.offset c.args.bytes.now, refl)
+    rw (p.1, p.2, c.in_err-slot.ensures.err.0, ← c.self.view_is) (ends _ (nobody _ _ _ _ _ _ c.in_err-slot.ensures.err.1), refl)
 
-pub find_block-requires : goal.find_block-requires
-find_block-requires c = omega (arith, fits c.self.invariant.0, few-bytes c.self.invariant.0)
+pub put-requires-clause-anchor : goal.put-requires-clause-anchor
+put-requires-clause-anchor g c = put-anchor c.args.name.now c.args.anchor c.args.offset c.args.bytes.now c.requires
 
-pub returns-in_err-place : goal.returns-in_err-place
-returns-in_err-place c =
-    let p = err_from_is_err_and c.from_residual-in_err-place.result c.from_residual-in_err-place.ensures.1 in
-    rw (p.1, p.2, c.in_err-place.ensures.err.0, ← c.self.view_is)
-    (put-none {s = c.index-seat.result.now} c.self.invariant.0 (record { at = c.in_ok-at.ensures.ok; is = sym c.index-seat.ensures }) c.args.anchor c.args.offset c.args.bytes.now c.in_err-place.ensures.err.1, refl)
+pub returns-in_err-put : goal.returns-in_err-put
+unfolding put
+returns-in_err-put g c =
+    let p = err_from_is_err_and c.from_residual-in_err-put.result c.from_residual-in_err-put.ensures.1 in
+    let same = ap (λ m. shown_of m c.self.inside.seats.items c.self.inside.made.items c.self.inside.files c.self.inside.next) c.in_err-put.ensures.err in
+    rw (p.1, p.2, ← c.self.view_is) (block-refused c.self.invariant.0 c.in_ok-slot.ensures.ok (λ free. slot_put c.args.anchor c.args.offset c.args.bytes.now) c.args.anchor (λ free. looks-put c.args.anchor c.args.offset c.args.bytes.now) c.in_err-put.ensures, same)
 
-pub returns-then-offset-bytes : goal.returns-then-offset-bytes
-returns-then-offset-bytes c =
-    rw (← c.self.view_is)
-    (put-outside {s = c.index-seat.result.now} c.self.invariant.0 (record { at = c.in_ok-at.ensures.ok; is = sym c.index-seat.ensures }) c.args.anchor c.in_ok-place.ensures.ok c.args.offset c.args.bytes.now (omega arith), refl)
-
-pub overflow_add-place : goal.overflow_add-place
-overflow_add-place c =
-    omega (
-      arith,
-      few-bytes c.self.invariant.0,
-      place-inside {s = c.index-seat.result.now} c.self.invariant.0 (record { at = c.in_ok-at.ensures.ok; is = sym c.index-seat.ensures }) c.args.anchor c.in_ok-place.ensures.ok,
-    )
-
-pub write_at-requires : goal.write_at-requires
-write_at-requires c =
-    omega (
-      arith,
-      place-inside {s = c.index-seat.result.now} c.self.invariant.0 (record { at = c.in_ok-at.ensures.ok; is = sym c.index-seat.ensures }) c.args.anchor c.in_ok-place.ensures.ok,
-    )
-
-pub invariant_of-self : goal.invariant_of-self
-invariant_of-self c =
-    rw c.write_at.ensures.items (
-      put-world {s = c.index-seat.result.now} c.self.invariant.0 (record { at = c.in_ok-at.ensures.ok; is = sym c.index-seat.ensures }) c.args.anchor c.in_ok-place.ensures.ok c.args.offset c.args.bytes.now (omega arith) c.requires,
-      c.self.invariant.1,
-      c.self.invariant.2,
-    )
+pub invariant_of-self-2 : goal.invariant_of-self-2
+unfolding put
+invariant_of-self-2 g c =
+    (block-world c.self.invariant.0 c.in_ok-slot.ensures.ok (λ free. slot_put c.args.anchor c.args.offset c.args.bytes.now) c.args.anchor (λ free. looks-put c.args.anchor c.args.offset c.args.bytes.now) c.in_ok-put.ensures (command.Put c.args.name.now c.args.anchor c.args.offset c.args.bytes.now) refl c.requires, c.self.invariant.1, c.self.invariant.2)
 
 pub returns : goal.returns
-returns c =
-    rw (← c.self.view_is, c.write_at.ensures.items)
-    (put-done {s = c.index-seat.result.now} c.self.invariant.0 (record { at = c.in_ok-at.ensures.ok; is = sym c.index-seat.ensures }) c.args.anchor c.in_ok-place.ensures.ok c.args.offset c.args.bytes.now (omega arith))
+unfolding put
+returns g c = rw (← c.self.view_is) (block-done c.self.invariant.0 c.in_ok-slot.ensures.ok (λ free. slot_put c.args.anchor c.args.offset c.args.bytes.now) c.args.anchor (λ free. looks-put c.args.anchor c.args.offset c.args.bytes.now) c.in_ok-put.ensures)

@@ -1,0 +1,168 @@
+-- Areas that get longer or shorter by whole pages.
+use Rattle.std.proofs.Common.{◌≡◌, ◌≢◌, ℕ, zero, suc, ◌+◌, ◌-◌, ◌*◌, ◌/◌, ◌%◌, ◌<◌, ◌≤◌, Bool, true, false, cond, refl, ap, sym, subst, ◌∙◌, arith, List, length}
+use Rattle.std.specs.Prelude.{ℤ, pos, negsuc, ◌≤ℤ◌, ◌<ℤ◌, map, Ok, Err, Some, None, find, nat_lt, ◌==◌, slice_set, slice_index}
+use Rattle.std.proofs.lemmas.Bool.Decides.{nat_tests}
+use Rattle.std.proofs.lemmas.Int.{ints}
+use Rattle.std.specs.List.{position}
+use borrow.Author.Tests.{ltb-false}
+use Rattle.rh_defs.specs.Memory.{Memory, IsOpen, OnlyArea, bytes}
+use Rattle.rh_defs.specs.Files.{FileList}
+use Rattle.rh_defs.specs.declared.command.Command.TheVariants as command
+use Rattle.rh_defs.specs.declared.refusal.Refusal.{Refusal}
+use Rattle.rh_defs.specs.declared.refusal.Refusal.TheVariants.{ExcessiveShrink, NoRoom, NoArea, TooBig}
+use Rattle.rh_defs.specs.declared.reply.Reply.TheVariants as reply
+use Rattle.rh_defs.specs.Chain.{Granted, ◌>>=◌, ◌>>◌, refuse_if}
+use Rattle.rh_defs.specs.Pieces.{page, pages_for, lacks_pages}
+use Rattle.rh_defs.specs.Module.{whole_pages, changed_length}
+use Rattle.rh_defs.specs.Range.{in_range}
+use Rattle.rh_defs.specs.Desk.{Desk, Made, free_pages}
+use Rattle.rh_defs.specs.Commands.{pages_after, least_length, scrap_area, shrinks_below, change_pages, change_made, change_area, with_pages}
+use Rattle.rh_tasks.specs.declared.seat.Seat.{Seat}
+use Rattle.rh_tasks.specs.declared.made.MadeArea.{MadeArea}
+use Rattle.rh_tasks.specs.declared.next.Next.{Next}
+use Rattle.rh_tasks.specs.View.{pages_at, made_of, fixed_pages, desk_of, has_number, IsWorld}
+use Rattle.rh_tasks.proofs.Chains.{begins, ends, past, stops, granted-same, lt-true, lt-false}
+use Rattle.rh_tasks.proofs.Worlds.{free-is, granted-keeps}
+use Rattle.rh_tasks.proofs.Fixed.{fixed-at, fixed-desk, fixed-world, length-fixed}
+use Rattle.rh_tasks.proofs.Mades.{made-desk, made-world}
+use Rattle.rh_tasks.proofs.MadeCommands.{HasMade, remove-none, made-found}
+use Rattle.rh_tasks.proofs.Finding.{no-made}
+
+-- ---- how many pages an area has after the change
+
+pub after-more : (free pages more : ℕ) (delta : ℤ) → pos 0 ≤ℤ delta → 4096 * more ≡ whole_pages delta → more ≤ free → pages_after free 0 pages delta ≡ Ok (pages + more)
+unfolding pages_after ◌>>=◌ ◌>>◌ refuse_if
+after-more free pages more (pos n) up is room =
+    let enough : lacks_pages free (changed_length (page * pages) (pos n) - page * pages) ≡ false = lt-false free _ (omega (arith, is, room)) in
+    let long : changed_length (page * pages) (pos n) / page ≡ pages + more = omega (arith, is) in
+    rw (enough, long) refl
+after-more free pages more (negsuc n) up is room = absurd (omega (arith, ints, up))
+
+pub after-full : (free pages more : ℕ) (delta : ℤ) → pos 0 ≤ℤ delta → 4096 * more ≡ whole_pages delta → free < more → pages_after free 0 pages delta ≡ Err NoRoom
+unfolding pages_after ◌>>=◌ ◌>>◌ refuse_if
+after-full free pages more (pos n) up is full =
+    let lacks : lacks_pages free (changed_length (page * pages) (pos n) - page * pages) ≡ true = lt-true free _ (omega (arith, is, full)) in
+    rw lacks refl
+after-full free pages more (negsuc n) up is full = absurd (omega (arith, ints, up))
+
+pub after-less : (free pages more : ℕ) (delta : ℤ) → delta <ℤ pos 0 → 4096 * more ≡ whole_pages delta → more ≤ pages → pages_after free 0 pages delta ≡ Ok (pages - more)
+unfolding pages_after ◌>>=◌ ◌>>◌ refuse_if
+after-less free pages more (pos n) down is room = absurd (omega (arith, ints, down))
+after-less free pages more (negsuc n) down is room =
+    let fits : shrinks_below 0 (page * pages) (negsuc n) ≡ false = lt-false (page * pages) _ (omega (arith, is, room)) in
+    let enough : lacks_pages free (changed_length (page * pages) (negsuc n) - page * pages) ≡ false = lt-false free _ (omega (arith, is)) in
+    let long : changed_length (page * pages) (negsuc n) / page ≡ pages - more = omega (arith, is, room) in
+    rw (fits, enough, long) refl
+
+pub after-short : (free pages more : ℕ) (delta : ℤ) → delta <ℤ pos 0 → 4096 * more ≡ whole_pages delta → pages < more → pages_after free 0 pages delta ≡ Err ExcessiveShrink
+unfolding pages_after ◌>>=◌ ◌>>◌ refuse_if
+after-short free pages more (pos n) down is short = absurd (omega (arith, ints, down))
+after-short free pages more (negsuc n) down is short =
+    let below : shrinks_below 0 (page * pages) (negsuc n) ≡ true = lt-true (page * pages) _ (omega (arith, is, short)) in
+    rw below refl
+
+differs : (a b : ℕ) → a ≢ b → (a == b) ≡ false
+differs a b h = grind (arith, nat_tests)
+
+-- what is granted is at hand
+pub room-if : (free pages : ℕ) (delta : ℤ) (p : ℕ) → pages_after free 0 pages delta ≡ Ok p → p ≤ pages + free
+unfolding pages_after ◌>>=◌ ◌>>◌ refuse_if
+room-if free pages (pos n) p e = go (lacks_pages free (changed_length (page * pages) (pos n) - page * pages)) refl e
+  where
+    go : (b : Bool) → nat_lt free (pages_for (changed_length (page * pages) (pos n) - page * pages)) ≡ b → (refuse_if b NoRoom >>= (λ _. Ok (changed_length (page * pages) (pos n) / page))) ≡ Ok p → p ≤ pages + free
+    go true t q = absurd (cc)
+    go false t q = let same : changed_length (page * pages) (pos n) / page ≡ p = cc in omega (arith, same, ltb-false _ _ t)
+room-if free pages (negsuc n) p e = go (shrinks_below 0 (page * pages) (negsuc n)) (lacks_pages free (changed_length (page * pages) (negsuc n) - page * pages)) e
+  where
+    go : (b c : Bool) → (refuse_if b ExcessiveShrink >>= (λ _. refuse_if c NoRoom >>= (λ _. Ok (changed_length (page * pages) (negsuc n) / page)))) ≡ Ok p → p ≤ pages + free
+    go true c q = absurd (cc)
+    go false true q = absurd (cc)
+    go false false q = let same : changed_length (page * pages) (negsuc n) / page ≡ p = cc in omega (arith, same)
+
+none-least : (b : Bool) (x : ℕ) → cond b x x ≡ x
+none-least true x = refl
+none-least false x = refl
+
+module _ {m : Memory} {seats : List Seat} {made : List MadeArea} {files : FileList} {next : Next} (w : IsWorld m seats made files next) (k : ℕ) (delta : ℤ) where
+  abbrev d : Desk
+  d = desk_of m seats made files next
+
+  -- ---- which area it is
+
+  pub fixed-way : k ≢ 1 → k < 6 → change_area d k delta ≡ change_pages d k delta
+  fixed-way ne low =
+      let other : (k == 1) ≡ false = differs k 1 ne in
+      let inside : nat_lt k (length (fixed_pages m)) ≡ true = lt-true k _ (rw length-fixed low) in
+      rw (other, inside) refl
+
+  pub made-way : 6 ≤ k → change_area d k delta ≡ change_made d k delta
+  made-way high =
+      let other : (k == 1) ≡ false = differs k 1 (λ q. absurd (omega (arith, q, high))) in
+      let beyond : nat_lt k (length (fixed_pages m)) ≡ false = lt-false k _ (rw length-fixed high) in
+      rw (other, beyond) refl
+
+  -- ---- areas 0 and 2 to 5
+
+  module _ (low : k < 6) (ne : k ≢ 1) where
+    args-are : pages_after (free_pages d) (least_length k d) (slice_index (fixed_pages m) k) delta ≡ pages_after m.free 0 (pages_at m k) delta
+    args-are =
+        ap (λ f. pages_after f (least_length k d) (slice_index (fixed_pages m) k) delta) (free-is w)
+        ∙ ap (λ l. pages_after m.free l (slice_index (fixed_pages m) k) delta) (none-least (k == scrap_area) 0)
+        ∙ ap (λ p. pages_after m.free 0 p delta) (fixed-at m k low ne)
+
+    pages-refused : {r : Refusal} → pages_after m.free 0 (pages_at m k) delta ≡ Err r → change_pages d k delta ≡ Err r
+    unfolding change_pages
+    pages-refused e = ends _ (args-are ∙ e)
+
+    pub fixed-refused : {r : Refusal} → pages_after m.free 0 (pages_at m k) delta ≡ Err r → change_area d k delta ≡ Err r
+    fixed-refused e = fixed-way ne low ∙ pages-refused e
+
+    module _ {n : Memory} {p : ℕ} (granted : pages_after m.free 0 (pages_at m k) delta ≡ Ok p) (is : pages_at n k ≡ p) (only : OnlyArea m n k)
+        (whole_before : length (bytes m k) % 4096 ≡ 0) (whole_after : length (bytes n k) % 4096 ≡ 0) where
+      pages-done : change_pages d k delta ≡ Ok (desk_of n seats made files next, reply.Moved (whole_pages delta))
+      unfolding change_pages
+      pages-done = begins _ (args-are ∙ granted) (granted-same (sym (fixed-desk w low only ne whole_before whole_after ∙ ap (λ v. let e : Desk = record d { areas = slice_set (fixed_pages m) k v } in e) is)) refl)
+
+      pub fixed-done : change_area d k delta ≡ Ok (desk_of n seats made files next, reply.Moved (whole_pages delta))
+      fixed-done = fixed-way ne low ∙ pages-done
+
+      pub fixed-kept : in_range (command.Area k delta) ≡ true → IsWorld n seats made files next
+      fixed-kept ranged = fixed-world w low only ne whole_before whole_after (granted-keeps d _ (command.Area k delta) (reply.Moved (whole_pages delta)) fixed-done ranged w.desk)
+
+  -- ---- made areas
+
+  none-made : position (has_number k) made ≡ None → change_made d k delta ≡ Err NoArea
+  unfolding change_made
+  none-made h = ends _ (no-made m k made h)
+
+  pub no-area : 6 ≤ k → position (has_number k) made ≡ None → change_area d k delta ≡ Err NoArea
+  no-area high h = made-way high ∙ none-made h
+
+  module _ {i : ℕ} (a : MadeArea) (h : HasMade k made i a) (high : 6 ≤ k) where
+    made-args : pages_after (free_pages d) 0 (made_of m a).pages delta ≡ pages_after m.free 0 (pages_at m a.area.0) delta
+    unfolding made_of
+    made-args = ap (λ f. pages_after f 0 (pages_at m a.area.0) delta) (free-is w)
+
+    pub made-refused : {r : Refusal} → pages_after m.free 0 (pages_at m a.area.0) delta ≡ Err r → change_area d k delta ≡ Err r
+    unfolding change_made
+    made-refused e = made-way high ∙ begins _ (made-found w k a h) (ends _ (made-args ∙ e))
+
+    pub made-too-big : {p : ℕ} → pages_after m.free 0 (pages_at m a.area.0) delta ≡ Ok p → a.most < p → change_area d k delta ≡ Err TooBig
+    unfolding change_made made_of
+    made-too-big {p} e big = made-way high ∙ begins _ (made-found w k a h) (begins _ (made-args ∙ e) (stops _ _ _ (lt-true a.most p big)))
+
+    module _ {n : Memory} {p : ℕ} (granted : pages_after m.free 0 (pages_at m a.area.0) delta ≡ Ok p) (fits : p ≤ a.most) (is : pages_at n a.area.0 ≡ p) (only : OnlyArea m n a.area.0)
+        (whole_before : length (bytes m a.area.0) % 4096 ≡ 0) (whole_after : length (bytes n a.area.0) % 4096 ≡ 0) where
+      area-done : change_made d k delta ≡ Ok (desk_of n seats made files next, reply.Moved (whole_pages delta))
+      unfolding change_made made_of
+      area-done =
+          begins _ (made-found w k a h) (begins _ (made-args ∙ granted) (past _ _ _ (lt-false a.most p fits)
+            (granted-same (sym (made-desk w h.sits only
+              ∙ ap (λ v. let e : Desk = record d { made = map (with_pages a.number v) (map (made_of m) made) } in e) is
+              ∙ ap (λ v. let e : Desk = record d { made = map (with_pages v p) (map (made_of m) made) } in e) h.number)) refl)))
+
+      pub made-done : change_area d k delta ≡ Ok (desk_of n seats made files next, reply.Moved (whole_pages delta))
+      made-done = made-way high ∙ area-done
+
+      pub made-kept : in_range (command.Area k delta) ≡ true → IsWorld n seats made files next
+      made-kept ranged = made-world w h.sits only whole_before whole_after (granted-keeps d _ (command.Area k delta) (reply.Moved (whole_pages delta)) made-done ranged w.desk)

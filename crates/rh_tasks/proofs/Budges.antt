@@ -1,0 +1,48 @@
+-- The flag for budging of a task's slot.
+use Rattle.std.proofs.Common.{◌≡◌, ℕ, Bool, refl, ap, sym, ◌∙◌, List}
+use Rattle.std.specs.Prelude.{Ok, true}
+use Rattle.std.proofs.Math.ListN.{set}
+use Rattle.rh_defs.specs.Memory.{Memory}
+use Rattle.rh_defs.proofs.MemoryLaws.{OnlyArea-self}
+use Rattle.rh_defs.specs.Files.{FileList}
+use Rattle.rh_defs.specs.declared.reply.Reply.TheVariants as reply
+use Rattle.rh_defs.specs.declared.command.Command.TheVariants as command
+use Rattle.rh_defs.specs.Range.{in_range}
+use Rattle.rh_defs.specs.Slot as plain
+use Rattle.rh_defs.specs.Desk.{Desk, Task, with_slot}
+use Rattle.rh_defs.specs.Commands.{budge}
+use Rattle.rh_slot.specs.declared.slot.Slot.{Slot}
+use Rattle.rh_slot.specs.Area.{IsSlot, slot_in}
+use Rattle.rh_tasks.specs.declared.seat.Seat.{Seat}
+use Rattle.rh_tasks.specs.declared.made.MadeArea.{MadeArea}
+use Rattle.rh_tasks.specs.declared.next.Next.{Next}
+use Rattle.rh_tasks.specs.View.{desk_of, task_of, IsWorld, HasSlot}
+use Rattle.rh_tasks.specs.Finding.{Found}
+use Rattle.rh_tasks.proofs.Lists.{Sits, all-at}
+use Rattle.rh_tasks.proofs.Chains.{begins, granted-same}
+use Rattle.rh_tasks.proofs.Finding.{sits, named-is}
+use Rattle.rh_tasks.proofs.Worlds.{granted-keeps}
+use Rattle.rh_tasks.proofs.Moves.{Moves, moved-desk, moved-world}
+
+-- a slot with another flag
+pub record Flagged (m : Memory) (old new : Slot) (on was : Bool) : Type 0 where
+  pub area : new.area.0 ≡ old.area.0
+  pub still : IsSlot m old → IsSlot m new
+  pub spelled : (slot_in m new, was) ≡ plain.slot_set_budge on (slot_in m old)
+
+module _ {m : Memory} {seats : List Seat} {made : List MadeArea} {files : FileList} {next : Next} {name : List ℕ} {i : ℕ} {s : Seat} {slot : Slot} {on was : Bool}
+    (w : IsWorld m seats made files next) (f : Found name seats i s) (flag : Flagged m s.slot slot on was) where
+  has : IsSlot m s.slot
+  has = all-at (HasSlot m) seats i s w.areas.slots (sits f)
+
+  moves : Moves m m s (record s { slot = slot }) (λ t. record t { slot = slot_in m slot })
+  unfolding task_of
+  moves = record { handle = refl; area = flag.area; still = flag.still has; only = OnlyArea-self m s.slot.area.0 has.opened; task = refl }
+
+  pub budge-done : budge (desk_of m seats made files next) name on ≡ Ok (desk_of m (set seats i (record s { slot = slot })) made files next, reply.WasBudging was)
+  unfolding budge task_of
+  budge-done = begins _ (named-is m made files next f) (granted-same
+      (sym (moved-desk w (sits f) moves ∙ ap (λ (p : plain.Slot × Bool). with_slot s.handle p.0 (desk_of m seats made files next)) flag.spelled)) (ap (λ (p : plain.Slot × Bool). reply.WasBudging p.1) (sym flag.spelled)))
+
+  pub budge-world : in_range (command.Budge name on) ≡ true → IsWorld m (set seats i (record s { slot = slot })) made files next
+  budge-world ranged = moved-world w (sits f) moves (granted-keeps (desk_of m seats made files next) _ (command.Budge name on) (reply.WasBudging was) budge-done ranged w.desk)

@@ -1,0 +1,135 @@
+-- What is listed, from what the world keeps.
+use Rattle.std.proofs.Common.{◌≡◌, ℕ, zero, suc, ◌+◌, ◌-◌, ◌*◌, ◌/◌, ◌%◌, ◌<◌, ◌≤◌, Bool, true, false, refl, ap, sym, subst, ◌∙◌, arith, List, [], ◌∷◌, ◌++◌, length}
+use Rattle.std.specs.Prelude.{map, Option, Some, None, slice_get, max}
+use Rattle.std.specs.List.{AllByRecursion, enumerate_from}
+use Rattle.std.specs.Option.{option_map}
+use Rattle.std.proofs.Math.ListN.{get_or, length-append}
+use Rattle.std.proofs.lemmas.List.{length-map}
+use Rattle.std.proofs.lemmas.Option.{slice_get-map, slice_get-get_or, slice_get_past}
+use Rattle.rh_defs.specs.Memory.{Memory, bytes}
+use Rattle.rh_defs.specs.Pieces.{page, total}
+use Rattle.rh_defs.specs.Files.{FileList}
+use Rattle.rh_defs.specs.Heap.{Heap, Segment, Used, Hole, size_of, hole_size, largest_hole, largest, free_bytes, base}
+use Rattle.rh_defs.specs.Slot as plain
+use Rattle.rh_defs.specs.Desk.{Desk, Task, Made, task_pages, module_pages}
+use Rattle.rh_defs.specs.Listing.{area_items, area_item}
+use Rattle.rh_defs.specs.declared.listing.AreaItem.{AreaItem}
+use Rattle.rh_defs.specs.declared.listing.AreaItem.TheVariants as item
+use Rattle.rh_slot.specs.Area.{slot_in}
+use Rattle.rh_tasks.specs.declared.seat.Seat.{Seat}
+use Rattle.rh_tasks.specs.declared.made.MadeArea.{MadeArea}
+use Rattle.rh_tasks.specs.declared.next.Next.{Next}
+use Rattle.rh_tasks.specs.View.{the_module, fixed, pages_at, task_of, made_of, fixed_pages, post_of, desk_of, HasSlot, HasAreas, IsWorld}
+use Rattle.rh_tasks.specs.Items.{fixed_items, made_items, slot_items, items_in}
+use Rattle.rh_tasks.proofs.Lists.{Sits, cons}
+use Rattle.rh_tasks.proofs.Worlds.{few-made, few-seats}
+
+-- ---- members of joined lists
+
+pub get-front : {A : Type 0} (xs ys : List A) (i : ℕ) → i < length xs → slice_get (xs ++ ys) i ≡ slice_get xs i
+get-front [] ys i inside = absurd (omega arith)
+get-front (x ∷ xs) ys zero inside = refl
+get-front (x ∷ xs) ys (suc i) inside = get-front xs ys i (omega arith)
+
+pub get-behind : {A : Type 0} (xs ys : List A) (i : ℕ) → length xs ≤ i → slice_get (xs ++ ys) i ≡ slice_get ys (i - length xs)
+get-behind [] ys i past = ap (slice_get ys) (omega arith)
+get-behind (x ∷ xs) ys zero past = absurd (omega arith)
+get-behind (x ∷ xs) ys (suc i) past = get-behind xs ys i (omega arith) ∙ ap (slice_get ys) (omega arith)
+
+pub get-at : {A : Type 0} (xs : List A) (i : ℕ) (x : A) → i < length xs → get_or xs i x ≡ x → slice_get xs i ≡ Some x
+get-at xs i x inside is = slice_get-get_or xs i x inside ∙ ap (λ y. Some y) is
+
+-- ---- areas and slots
+
+made-listed : (m : Memory) (made : List MadeArea) → map (λ (x : Made). item.Area x.number x.pages) (map (made_of m) made) ≡ made_items m made
+unfolding made_of
+made-listed m [] = refl
+made-listed m (a ∷ made) = ap (λ l. item.Area a.number (pages_at m a.area.0) ∷ l) (made-listed m made)
+
+pages-slot : (m : Memory) (s : Seat) → HasSlot m s → plain.slot_pages (slot_in m s.slot) ≡ pages_at m s.slot.area.0
+unfolding pages_at
+pages-slot m s has = omega (arith, has.spells.pages)
+
+slots-listed : (m : Memory) (seats : List Seat) → AllByRecursion (HasSlot m) seats → map (λ (t : Task). item.Slot t.name (task_pages t)) (map (task_of m) seats) ≡ slot_items m seats
+unfolding task_of
+slots-listed m [] all = refl
+slots-listed m (s ∷ seats) all = cons (ap (λ n. item.Slot s.name n) (pages-slot m s all.0)) (slots-listed m seats all.1)
+
+module _ {m : Memory} {seats : List Seat} {made : List MadeArea} {files : FileList} {next : Next} (w : IsWorld m seats made files next) where
+  abbrev d : Desk
+  d = desk_of m seats made files next
+
+  module-pages : module_pages d ≡ pages_at m 1
+  unfolding post_of pages_at
+  module-pages = omega (arith, w.areas.module_area.spells.whole)
+
+  fixed-listed : map (area_item d) (enumerate_from 0 (fixed_pages m)) ≡ fixed_items m
+  unfolding fixed_pages
+  fixed-listed = ap (λ n. item.Area 0 (pages_at m 0) ∷ item.Area 1 n ∷ item.Area 2 (pages_at m 2) ∷ item.Area 3 (pages_at m 3) ∷ item.Area 4 (pages_at m 4) ∷ item.Area 5 (pages_at m 5) ∷ []) module-pages
+
+  pub items-are : area_items d ≡ items_in m seats made
+  items-are =
+      let p = fixed-listed in
+      let q = made-listed m made in
+      let r = slots-listed m seats w.areas.slots in
+      rw (p, q, r) refl
+
+  pub few-items : length (area_items d) ≤ 70
+  few-items =
+      rw items-are (omega (arith, length-append (fixed_items m ++ made_items m made) (slot_items m seats), length-append (fixed_items m) (made_items m made),
+        length-map made (λ (a : MadeArea). item.Area a.number (pages_at m a.area.0)), length-map seats (λ (s : Seat). item.Slot s.name (pages_at m s.slot.area.0)), few-made w, few-seats w))
+
+-- item i, by where it stands
+pub item-fixed : (m : Memory) (seats : List Seat) (made : List MadeArea) (i : ℕ) → i < 6 → slice_get (items_in m seats made) i ≡ Some (item.Area i (pages_at m i))
+item-fixed m seats made zero low = refl
+item-fixed m seats made (suc zero) low = refl
+item-fixed m seats made (suc (suc zero)) low = refl
+item-fixed m seats made (suc (suc (suc zero))) low = refl
+item-fixed m seats made (suc (suc (suc (suc zero)))) low = refl
+item-fixed m seats made (suc (suc (suc (suc (suc zero))))) low = refl
+item-fixed m seats made (suc (suc (suc (suc (suc (suc i)))))) low = absurd (omega arith)
+
+made-long : (m : Memory) (made : List MadeArea) → length (fixed_items m ++ made_items m made) ≡ 6 + length made
+made-long m made = omega (arith, length-append (fixed_items m) (made_items m made), length-map made (λ (a : MadeArea). item.Area a.number (pages_at m a.area.0)))
+
+pub item-made : (m : Memory) (seats : List Seat) (made : List MadeArea) (i : ℕ) (a : MadeArea) → 6 ≤ i → i - 6 < length made → get_or made (i - 6) a ≡ a → slice_get (items_in m seats made) i ≡ Some (item.Area a.number (pages_at m a.area.0))
+item-made m seats made i a high inside is =
+    get-front (fixed_items m ++ made_items m made) (slot_items m seats) i (omega (arith, made-long m made))
+    ∙ get-behind (fixed_items m) (made_items m made) i (omega arith)
+    ∙ slice_get-map (λ (x : MadeArea). item.Area x.number (pages_at m x.area.0)) made (i - 6)
+    ∙ ap (option_map (λ (x : MadeArea). item.Area x.number (pages_at m x.area.0))) (get-at made (i - 6) a inside is)
+
+pub item-slot : (m : Memory) (seats : List Seat) (made : List MadeArea) (i : ℕ) → 6 ≤ i → length made ≤ i - 6 → slice_get (items_in m seats made) i ≡ slice_get (slot_items m seats) ((i - 6) - length made)
+item-slot m seats made i high past =
+    get-behind (fixed_items m ++ made_items m made) (slot_items m seats) i (omega (arith, made-long m made))
+    ∙ ap (slice_get (slot_items m seats)) (omega (arith, made-long m made))
+
+pub slot-past : (m : Memory) (seats : List Seat) (i : ℕ) → length seats ≤ i → slice_get (slot_items m seats) i ≡ None
+slot-past m seats i past = slice_get_past (slot_items m seats) i (omega (arith, length-map seats (λ (s : Seat). item.Slot s.name (pages_at m s.slot.area.0))))
+
+pub slot-there : (m : Memory) (seats : List Seat) (i : ℕ) (s : Seat) → i < length seats → get_or seats i s ≡ s → slice_get (slot_items m seats) i ≡ Some (item.Slot s.name (pages_at m s.slot.area.0))
+slot-there m seats i s inside is =
+    slice_get-map (λ (x : Seat). item.Slot x.name (pages_at m x.slot.area.0)) seats i
+    ∙ ap (option_map (λ (x : Seat). item.Slot x.name (pages_at m x.slot.area.0))) (get-at seats i s inside is)
+
+-- ---- sums are small
+
+pub blocks-weigh : (blocks : List plain.Flex) → 8 * length blocks ≤ total plain.weight blocks
+blocks-weigh [] = omega arith
+blocks-weigh (b ∷ blocks) = omega (arith, blocks-weigh blocks)
+
+holes-fit : (segments : List Segment) → total hole_size segments ≤ total size_of segments
+holes-fit [] = omega arith
+holes-fit (Used bytes ∷ segments) = omega (arith, holes-fit segments)
+holes-fit (Hole size ∷ segments) = omega (arith, holes-fit segments)
+
+largest-fits : (segments : List Segment) → largest_hole segments ≤ total size_of segments
+largest-fits [] = omega arith
+largest-fits (Used bytes ∷ segments) = omega (arith, largest-fits segments)
+largest-fits (Hole size ∷ segments) = omega (arith, largest-fits segments)
+
+pub largest-small : (h : Heap) → base h ≤ h.end → largest h ≤ h.end
+largest-small h fits = omega (arith, largest-fits h.segments, fits)
+
+pub free-small : (h : Heap) → base h ≤ h.end → free_bytes h ≤ h.end
+free-small h fits = omega (arith, holes-fit h.segments, fits)

@@ -1,0 +1,236 @@
+-- A world with one seat or made area more, or one less.
+use Rattle.std.proofs.Common.{◌≡◌, ℕ, zero, suc, ◌+◌, ◌-◌, ◌*◌, ◌/◌, ◌%◌, ◌<◌, ◌≤◌, ◌≢◌, Bool, true, false, cond, refl, ap, subst, arith, List, [], ◌∷◌, ◌++◌, length, ◌∙◌, sym, inl, inr}
+use Rattle.std.specs.Prelude.{map, filter, not, ◌==◌, Option, Some, None, IsNone, IsSome, is_some}
+use Rattle.std.specs.List.{AllByRecursion, remove}
+use Rattle.std.proofs.Math.ListN.{get_or, length-append}
+use Rattle.std.proofs.lemmas.List.{map-append}
+use Rattle.std.proofs.lemmas.List.Edits.{length-remove}
+use Rattle.std.proofs.lemmas.Bool.{cases_eq}
+use Rattle.std.proofs.lemmas.Bool.Decides.{nat_tests}
+use Rattle.rh_defs.specs.Memory.{Memory, IsOpen, OnlyArea, OthersStay, bytes, opened, closed, open_below}
+use Rattle.rh_defs.proofs.MemoryLaws.{open_below-same, open_below-opened, open_below-closed, open_apart, area-opened, area-opened_same, area-closed, area-closed_same, bytes-none, bytes-opened, free-opened, pages-opened, free-closed, pages-closed, IsOpen-opened}
+use Rattle.rh_defs.specs.Pieces.{total}
+use Rattle.rh_defs.proofs.Cuts.{total-append}
+use Rattle.rh_defs.specs.Files.{FileList}
+use Rattle.rh_defs.specs.Heap.{Heap}
+use Rattle.rh_defs.specs.Post as post
+use Rattle.rh_defs.specs.Desk.{Desk, Task, Made, task_pages, used_pages, with_delivered}
+use Rattle.rh_defs.specs.Laws.{IsDesk}
+use Rattle.rh_slot.specs.Area.{IsSlot, slot_in}
+use Rattle.rh_defs.specs.declared.sizes.TheConstants.{MAX_AREAS}
+use Rattle.rh_tasks.specs.declared.seat.Seat.{Seat}
+use Rattle.rh_tasks.specs.declared.made.MadeArea.{MadeArea}
+use Rattle.rh_tasks.specs.declared.next.Next.{Next}
+use Rattle.rh_tasks.specs.View.{the_module, pages_at, task_of, made_of, fixed_pages, post_of, post_seat, desk_of, slot_area, made_area, made_number, Avoids, AreDistinct, HasSlot, IsAbove, HasAreas, IsWorld}
+use Rattle.rh_tasks.proofs.Lists.{Sits, cons, all-at, all-map, all-push, all-removed, avoids-at, avoids-push, avoids-back, avoids-fewer, avoids-removed, distinct-push, distinct-removed}
+use Rattle.rh_tasks.proofs.Frames.{Stay, if_same, tasks-stay, slots-stay, mades-stay, mades-opened, fixed-stay, fixed-opened, heap-stays, module-stays, opened-stays, pages-stay}
+use Rattle.rh_tasks.proofs.Moves.{slot-pages}
+use Rattle.rh_tasks.proofs.Worlds.{handles, same-desk}
+use Rattle.rh_tasks.proofs.Mades.{area-sits}
+use Rattle.rh_tasks.proofs.Fixed.{pages-of}
+
+-- ---- areas that were closed, and are none of the open ones
+
+pub none-is : (o : Option (List ℕ)) → IsNone o → o ≡ None
+none-is None h = refl
+none-is (Some x) h = absurd (cc)
+
+pub off-open : {A : Type 0} (f : A → ℕ) (m : Memory) (id : ℕ) (xs : List A) → IsNone (m.area id) → AllByRecursion (λ x. IsOpen m (f x)) xs → Avoids id (map f xs)
+off-open f m id [] none all = tt
+off-open f m id (x ∷ xs) none all = ((λ q. open_apart m (f x) id all.0 none (sym q)), off-open f m id xs none all.1)
+
+-- areas 0 to 5 are open, so a closed one is above
+pub closed-above : {m : Memory} {seats : List Seat} {made : List MadeArea} (id : ℕ) → HasAreas m seats made → IsNone (m.area id) → IsAbove id
+closed-above {m} id w none =
+    let p0 = open_apart m 0 id w.fixed_open.0 none in
+    let p1 = open_apart m 1 id w.fixed_open.1.0 none in
+    let p2 = open_apart m 2 id w.fixed_open.1.1.0 none in
+    let p3 = open_apart m 3 id w.fixed_open.1.1.1.0 none in
+    let p4 = open_apart m 4 id w.fixed_open.1.1.1.1.0 none in
+    let p5 = open_apart m 5 id w.fixed_open.1.1.1.1.1.0 none in
+    omega arith
+
+still-open : (o p : Option (List ℕ)) → IsSome o → IsSome p → is_some p ≡ is_some o
+still-open (Some x) (Some y) h k = refl
+still-open None p h k = absurd (cc)
+still-open (Some x) None h k = absurd (cc)
+
+-- one more area is open
+pub count-more : {m n : Memory} {id : ℕ} (k : ℕ) → Stay m n id → IsNone (m.area id) → IsOpen n id → id < k → open_below n.area k ≡ open_below m.area k + 1
+count-more {m} {n} {id} k stay none is low =
+    open_below-same (opened m id) n k (λ j. elim (cases_eq j id) [
+      | inl e ↦ rw e (still-open ((opened m id).area id) (n.area id) (IsOpen-opened m id) is)
+      | inr ne ↦ ap (λ (x : Option (List ℕ)). is_some x) (stay.others j ne ∙ sym (area-opened m id j ne))
+    ]) ∙ open_below-opened m id k (none-is _ none) low
+
+-- ---- a member taken out of a list by its number
+
+filter-all : {A B : Type 0} (key : A → ℕ) (f : A → B) (number : B → ℕ) → ((x : A) → number (f x) ≡ key x) → (k : ℕ) (xs : List A) → Avoids k (map key xs) → filter (λ y. not (number y == k)) (map f xs) ≡ map f xs
+filter-all key f number is k [] off = refl
+filter-all key f number is k (x ∷ xs) off =
+    let other : (number (f x) == k) ≡ false = differs (number (f x)) k (λ q. off.0 (sym (is x) ∙ q)) in
+    rw other (ap (λ l. f x ∷ l) (filter-all key f number is k xs off.1))
+  where
+    differs : (a b : ℕ) → a ≢ b → (a == b) ≡ false
+    differs a b h = grind (arith, nat_tests)
+
+pub filter-others : {A B : Type 0} (key : A → ℕ) (f : A → B) (number : B → ℕ) → ((x : A) → number (f x) ≡ key x) → (xs : List A) (i : ℕ) (x : A) → Sits xs i x → AreDistinct (map key xs)
+    → filter (λ y. not (number y == key x)) (map f xs) ≡ map f (remove xs i)
+filter-others key f number is [] i x at distinct = absurd (omega (arith, at.inside))
+filter-others key f number is (y ∷ xs) zero x at distinct =
+    let same : (number (f y) == key x) ≡ true = equals (number (f y)) (key x) (is y ∙ ap key at.is) in
+    let off : Avoids (key x) (map key xs) = (let P : ℕ → Type 0 = λ k. Avoids k (map key xs) in subst P (ap key at.is) distinct.0) in
+    rw same (filter-all key f number is (key x) xs off)
+  where
+    equals : (a b : ℕ) → a ≡ b → (a == b) ≡ true
+    equals a b h = grind (arith, nat_tests)
+filter-others key f number is (y ∷ xs) (suc i) x at distinct =
+    let rest : Sits xs i x = record { inside = omega (arith, at.inside); is = at.is } in
+    let other : (number (f y) == key x) ≡ false = differs (number (f y)) (key x) (λ q. avoids-at key (key y) xs i x distinct.0 rest (sym (sym (is y) ∙ q))) in
+    rw other (ap (λ l. f y ∷ l) (filter-others key f number is xs i x rest distinct.1))
+  where
+    differs : (a b : ℕ) → a ≢ b → (a == b) ≡ false
+    differs a b h = grind (arith, nat_tests)
+
+-- a sum without a member
+pub total-removed : {A : Type 0} (size : A → ℕ) (xs : List A) (i : ℕ) (x : A) → Sits xs i x → total size (remove xs i) + size x ≡ total size xs
+total-removed size [] i x at = absurd (omega (arith, at.inside))
+total-removed size (y ∷ xs) zero x at = omega (arith, ap size at.is)
+total-removed size (y ∷ xs) (suc i) x at = omega (arith, total-removed size xs i x (record { inside = omega (arith, at.inside); is = at.is }))
+
+pub total-map : {A B : Type 0} (size : B → ℕ) (f : A → B) (xs : List A) → total size (map f xs) ≡ total (λ x. size (f x)) xs
+total-map size f [] = refl
+total-map size f (x ∷ xs) = ap (λ k. size (f x) + k) (total-map size f xs)
+
+-- ---- a seat comes
+
+module _ {m n : Memory} {seats : List Seat} {made : List MadeArea} {files : FileList} {next : Next} (s : Seat)
+    (w : IsWorld m seats made files next) (none : IsNone (m.area s.slot.area.0)) (low : s.slot.area.0 < MAX_AREAS) (only : OnlyArea m n s.slot.area.0) (still : IsSlot n s.slot) where
+  stay : Stay m n s.slot.area.0
+  stay = record { others = only.others }
+
+  above : IsAbove s.slot.area.0
+  above = closed-above s.slot.area.0 w.areas none
+
+  off-slots : Avoids s.slot.area.0 (map slot_area seats)
+  off-slots = off-open slot_area m s.slot.area.0 seats none (all-map (HasSlot m) (λ (x : Seat). IsOpen m x.slot.area.0) seats (λ x h. h.opened) w.areas.slots)
+
+  off-made : Avoids s.slot.area.0 (map made_area made)
+  off-made = off-open made_area m s.slot.area.0 made none w.areas.made_open
+
+  posts : post_of n (seats ++ s ∷ []) next.message ≡ post.post_join s.handle (post_of m seats next.message)
+  unfolding post_of post.post_join
+  posts =
+      let there = heap-stays stay (λ q. absurd (omega (arith, above))) in
+      let here = map-append post_seat seats (s ∷ []) in
+      cc
+
+  pub joined-desk : (handle : ℕ) → (let x : Next = record next { handle = handle } in desk_of n (seats ++ s ∷ []) made files x)
+      ≡ (let d : Desk = record (desk_of m seats made files next) { tasks = map (task_of m) seats ++ task_of n s ∷ []; post = post.post_join s.handle (post_of m seats next.message); next_handle = handle } in d)
+  joined-desk handle = same-desk (let d : Desk = record (desk_of m seats made files next) { next_handle = handle } in d)
+      (map-append (task_of n) seats (s ∷ []) ∙ ap (λ l. l ++ task_of n s ∷ []) (tasks-stay seats stay off-slots)) posts (fixed-stay stay above) (mades-stay made stay off-made) only.pages
+
+  joined-areas : HasAreas n (seats ++ s ∷ []) made
+  joined-areas = record {
+    fixed_open = fixed-opened stay only.opened w.areas.fixed_open;
+    module_area = module-stays stay (λ q. absurd (omega (arith, above))) w.areas.module_area;
+    slots = all-push (HasSlot n) seats s (slots-stay seats stay off-slots w.areas.slots) still;
+    made_open = mades-opened made stay off-made w.areas.made_open;
+    slots_above = all-push (λ (x : Seat). IsAbove x.slot.area.0) seats s w.areas.slots_above above;
+    made_above = w.areas.made_above;
+    slots_apart = distinct-push slot_area seats s w.areas.slots_apart off-slots;
+    made_apart = w.areas.made_apart;
+    beside = all-push (λ (x : Seat). Avoids x.slot.area.0 (map made_area made)) seats s w.areas.beside off-made;
+    count = omega (arith, count-more MAX_AREAS stay none only.opened low, w.areas.count, length-append seats (s ∷ []));
+  }
+
+  joined-ledger : (handle : ℕ) → n.free + (let x : Next = record next { handle = handle } in used_pages (desk_of n (seats ++ s ∷ []) made files x)) ≡ n.pages
+  unfolding task_of post_of post.post_join
+  joined-ledger handle =
+      omega (arith, w.ledger, only.ledger, only.pages, ap used_pages (joined-desk handle), slot-pages still, ap length (bytes-none m s.slot.area.0 (none-is _ none)),
+        total-append task_pages (map (task_of m) seats) (task_of n s ∷ []))
+
+  pub joined-world : (handle : ℕ) → (let x : Next = record next { handle = handle } in IsDesk (desk_of n (seats ++ s ∷ []) made files x) → IsWorld n (seats ++ s ∷ []) made files x)
+  joined-world handle is = record { desk = is; areas = joined-areas; ledger = joined-ledger handle }
+
+-- ---- a seat goes
+
+held-none : (h : ℕ) (seats : List Seat) → post.held_by h (map post_seat seats) ≡ None
+held-none h [] = refl
+held-none h (s ∷ seats) = elim (s.handle == h) as (λ b. cond b None (post.held_by h (map post_seat seats)) ≡ None) [ true ↦ refl | false ↦ held-none h seats ]
+
+pub closed-stay : (m : Memory) (id : ℕ) → Stay m (closed m id) id
+closed-stay m id = record { others = λ j ne. area-closed m id j ne }
+
+all-opened-else : (m : Memory) (id : ℕ) (ids : List ℕ) → Avoids id ids → AllByRecursion (IsOpen m) ids → AllByRecursion (IsOpen (closed m id)) ids
+all-opened-else m id [] off all = tt
+all-opened-else m id (j ∷ ids) off all = (opened-stays j (closed-stay m id) off.0 all.0, all-opened-else m id ids off.1 all.1)
+
+pub fixed-opened-else : (m : Memory) (id : ℕ) → IsAbove id → AllByRecursion (IsOpen m) (0 ∷ 1 ∷ 2 ∷ 3 ∷ 4 ∷ 5 ∷ []) → AllByRecursion (IsOpen (closed m id)) (0 ∷ 1 ∷ 2 ∷ 3 ∷ 4 ∷ 5 ∷ [])
+fixed-opened-else m id up all =
+    all-opened-else m id (0 ∷ 1 ∷ 2 ∷ 3 ∷ 4 ∷ 5 ∷ [])
+      ((λ q. absurd (omega arith)), ((λ q. absurd (omega arith)), ((λ q. absurd (omega arith)), ((λ q. absurd (omega arith)), ((λ q. absurd (omega arith)), ((λ q. absurd (omega arith)), tt)))))) all
+
+module _ {m : Memory} {seats : List Seat} {made : List MadeArea} {files : FileList} {next : Next} {i : ℕ} {s : Seat}
+    (w : IsWorld m seats made files next) (at : Sits seats i s) (low : s.slot.area.0 < MAX_AREAS) where
+  abbrev n : Memory
+  n = closed m s.slot.area.0
+
+  around : Stay m n s.slot.area.0
+  around = closed-stay m s.slot.area.0
+
+  high : IsAbove s.slot.area.0
+  high = all-at (λ (x : Seat). IsAbove x.slot.area.0) seats i s w.areas.slots_above at
+
+  off-others : Avoids s.slot.area.0 (map slot_area (remove seats i))
+  off-others = avoids-removed slot_area seats i s at w.areas.slots_apart
+
+  off-mades : Avoids s.slot.area.0 (map made_area made)
+  off-mades = all-at (λ (x : Seat). Avoids x.slot.area.0 (map made_area made)) seats i s w.areas.beside at
+
+  abbrev handle_of : Seat → ℕ
+  handle_of x = x.handle
+
+  left-tasks : map (task_of n) (remove seats i) ≡ filter (λ (t : Task). not (t.handle == s.handle)) (map (task_of m) seats)
+  unfolding task_of
+  left-tasks = tasks-stay (remove seats i) around off-others
+      ∙ sym (filter-others handle_of (task_of m) (λ (t : Task). t.handle) (λ x. refl) seats i s at (handles w))
+
+  left-post : post_of n (remove seats i) next.message ≡ post.post_death s.handle (post_of m seats next.message)
+  unfolding post_of post.post_death
+  left-post =
+      let there = heap-stays around (λ q. absurd (omega (arith, high))) in
+      let here = filter-others handle_of post_seat (λ (x : post.Seat). x.handle) (λ x. refl) seats i s at (handles w) in
+      let none = held-none s.handle seats in
+      rw (none, here, there) refl
+
+  pub left-desk : desk_of n (remove seats i) made files next
+      ≡ (let d : Desk = desk_of m seats made files next in let e : Desk = record (with_delivered (post.post_death s.handle d.post) d) { tasks = filter (λ (t : Task). not (t.handle == s.handle)) d.tasks } in e)
+  unfolding with_delivered
+  left-desk = same-desk (desk_of m seats made files next) left-tasks left-post (fixed-stay around high) (mades-stay made around off-mades) (pages-closed m s.slot.area.0)
+
+  left-areas : HasAreas n (remove seats i) made
+  left-areas = record {
+    fixed_open = fixed-opened-else m s.slot.area.0 high w.areas.fixed_open;
+    module_area = module-stays around (λ q. absurd (omega (arith, high))) w.areas.module_area;
+    slots = slots-stay (remove seats i) around off-others (all-removed (HasSlot m) seats i w.areas.slots);
+    made_open = mades-opened made around off-mades w.areas.made_open;
+    slots_above = all-removed (λ (x : Seat). IsAbove x.slot.area.0) seats i w.areas.slots_above;
+    made_above = w.areas.made_above;
+    slots_apart = distinct-removed slot_area seats i w.areas.slots_apart;
+    made_apart = w.areas.made_apart;
+    beside = all-removed (λ (x : Seat). Avoids x.slot.area.0 (map made_area made)) seats i w.areas.beside;
+    count = omega (arith, open_below-closed m s.slot.area.0 MAX_AREAS (all-at (HasSlot m) seats i s w.areas.slots at).opened low, w.areas.count, length-remove seats i at.inside);
+  }
+
+  left-ledger : n.free + used_pages (desk_of n (remove seats i) made files next) ≡ n.pages
+  unfolding task_of post_of
+  left-ledger =
+      let gone : total task_pages (map (task_of m) (remove seats i)) + task_pages (task_of m s) ≡ total task_pages (map (task_of m) seats) =
+        (let r = total-removed (λ (x : Seat). task_pages (task_of m x)) seats i s at in omega (arith, r, total-map task_pages (task_of m) seats, total-map task_pages (task_of m) (remove seats i))) in
+      omega (arith, w.ledger, gone, free-closed m s.slot.area.0, pages-closed m s.slot.area.0, slot-pages (all-at (HasSlot m) seats i s w.areas.slots at),
+        ap (total task_pages) (tasks-stay (remove seats i) around off-others), ap (total (λ p. p)) (fixed-stay around high), ap (total (λ (x : Made). x.pages)) (mades-stay made around off-mades),
+        ap (λ (h : Heap). h.end) (heap-stays around (λ q. absurd (omega (arith, high)))))
+
+  pub left-world : IsDesk (desk_of n (remove seats i) made files next) → IsWorld n (remove seats i) made files next
+  left-world is = record { desk = is; areas = left-areas; ledger = left-ledger }

@@ -1,0 +1,146 @@
+-- A world with one made area more, or one less.
+use Rattle.std.proofs.Common.{◌≡◌, ℕ, zero, suc, ◌+◌, ◌-◌, ◌*◌, ◌/◌, ◌%◌, ◌<◌, ◌≤◌, ◌≢◌, Bool, true, false, refl, ap, subst, arith, List, [], ◌∷◌, ◌++◌, length, ◌∙◌, sym}
+use Rattle.std.specs.Prelude.{map, filter, not, ◌==◌, IsNone}
+use Rattle.std.specs.List.{AllByRecursion, remove}
+use Rattle.std.proofs.Math.ListN.{length-append}
+use Rattle.std.proofs.lemmas.List.{map-append}
+use Rattle.std.proofs.lemmas.List.Edits.{length-remove}
+use Rattle.rh_defs.specs.Memory.{Memory, IsOpen, bytes, opened, closed}
+use Rattle.rh_defs.proofs.MemoryLaws.{open_below-opened, open_below-closed, area-opened, bytes-opened, free-opened, pages-opened, IsOpen-opened, free-closed, pages-closed}
+use Rattle.rh_defs.specs.Pieces.{total}
+use Rattle.rh_defs.proofs.Cuts.{total-append}
+use Rattle.rh_defs.specs.Files.{FileList}
+use Rattle.rh_defs.specs.Heap.{Heap}
+use Rattle.rh_defs.specs.Desk.{Desk, Made, task_pages, used_pages}
+use Rattle.rh_defs.specs.Commands.{is_numbered}
+use Rattle.rh_defs.specs.Laws.{IsDesk}
+use Rattle.rh_defs.specs.declared.sizes.TheConstants.{MAX_AREAS}
+use Rattle.rh_tasks.specs.declared.seat.Seat.{Seat}
+use Rattle.rh_tasks.specs.declared.made.MadeArea.{MadeArea}
+use Rattle.rh_tasks.specs.declared.next.Next.{Next}
+use Rattle.rh_tasks.specs.View.{the_module, pages_at, task_of, made_of, fixed_pages, post_of, desk_of, slot_area, made_area, made_number, Avoids, AreDistinct, HasSlot, IsAbove, HasAreas, IsWorld}
+use Rattle.rh_tasks.proofs.Lists.{Sits, cons, all-at, all-map, all-push, all-removed, avoids-back, avoids-push, avoids-fewer, avoids-removed, distinct-push, distinct-removed}
+use Rattle.rh_tasks.proofs.Frames.{Stay, tasks-stay, slots-stay, mades-stay, mades-opened, fixed-stay, fixed-opened, heap-stays, post-stays, module-stays}
+use Rattle.rh_tasks.proofs.Worlds.{numbers, same-desk}
+use Rattle.rh_tasks.proofs.Mades.{area-sits}
+use Rattle.rh_tasks.proofs.Fixed.{pages-of}
+use Rattle.rh_tasks.proofs.Joins.{none-is, off-open, closed-above, closed-stay, fixed-opened-else, filter-others, total-removed, total-map}
+
+abbrev pages_of_made : Made → ℕ
+pages_of_made m = m.pages
+
+-- one more number to be avoided
+also-avoids : (seats : List Seat) (made : List MadeArea) (a : MadeArea) → AllByRecursion (λ (s : Seat). Avoids s.slot.area.0 (map made_area made)) seats → Avoids a.area.0 (map slot_area seats)
+    → AllByRecursion (λ (s : Seat). Avoids s.slot.area.0 (map made_area (made ++ a ∷ []))) seats
+also-avoids [] made a all off = tt
+also-avoids (s ∷ seats) made a all off = (avoids-push made_area s.slot.area.0 made a all.0 (λ q. off.0 (sym q)), also-avoids seats made a all.1 off.1)
+
+fewer-avoids : (seats : List Seat) (made : List MadeArea) (i : ℕ) → AllByRecursion (λ (s : Seat). Avoids s.slot.area.0 (map made_area made)) seats
+    → AllByRecursion (λ (s : Seat). Avoids s.slot.area.0 (map made_area (remove made i))) seats
+fewer-avoids [] made i all = tt
+fewer-avoids (s ∷ seats) made i all = (avoids-fewer made_area s.slot.area.0 made i all.0, fewer-avoids seats made i all.1)
+
+-- ---- a made area comes
+
+module _ {m : Memory} {seats : List Seat} {made : List MadeArea} {files : FileList} {next : Next} (a : MadeArea)
+    (w : IsWorld m seats made files next) (none : IsNone (m.area a.area.0)) (low : a.area.0 < MAX_AREAS) where
+  abbrev n : Memory
+  n = opened m a.area.0
+
+  stay : Stay m n a.area.0
+  stay = record { others = λ j ne. area-opened m a.area.0 j ne }
+
+  above : IsAbove a.area.0
+  above = closed-above a.area.0 w.areas none
+
+  off-slots : Avoids a.area.0 (map slot_area seats)
+  off-slots = off-open slot_area m a.area.0 seats none (all-map (HasSlot m) (λ (x : Seat). IsOpen m x.slot.area.0) seats (λ x h. h.opened) w.areas.slots)
+
+  off-made : Avoids a.area.0 (map made_area made)
+  off-made = off-open made_area m a.area.0 made none w.areas.made_open
+
+  no-page : pages_at n a.area.0 ≡ 0
+  unfolding pages_at
+  no-page = ap (λ (b : List ℕ). length b / 4096) (bytes-opened m a.area.0)
+
+  pub made-more : (number : ℕ) → (let x : Next = record next { area = number } in desk_of n seats (made ++ a ∷ []) files x)
+      ≡ (let d : Desk = record (desk_of m seats made files next) { made = map (made_of m) made ++ record { number = a.number; most = a.most; pages = 0 } ∷ []; next_area = number } in d)
+  unfolding made_of
+  made-more number = same-desk (let d : Desk = record (desk_of m seats made files next) { next_area = number } in d)
+      (tasks-stay seats stay off-slots) (post-stays seats next.message stay (λ q. absurd (omega (arith, above)))) (fixed-stay stay above)
+      (map-append (made_of n) made (a ∷ []) ∙ (let e = mades-stay made stay off-made in rw (e, no-page) refl)) (pages-opened m a.area.0)
+
+  more-areas : HasAreas n seats (made ++ a ∷ [])
+  more-areas = record {
+    fixed_open = fixed-opened stay (IsOpen-opened m a.area.0) w.areas.fixed_open;
+    module_area = module-stays stay (λ q. absurd (omega (arith, above))) w.areas.module_area;
+    slots = slots-stay seats stay off-slots w.areas.slots;
+    made_open = all-push (λ (x : MadeArea). IsOpen n x.area.0) made a (mades-opened made stay off-made w.areas.made_open) (IsOpen-opened m a.area.0);
+    slots_above = w.areas.slots_above;
+    made_above = all-push (λ (x : MadeArea). IsAbove x.area.0) made a w.areas.made_above above;
+    slots_apart = w.areas.slots_apart;
+    made_apart = distinct-push made_area made a w.areas.made_apart off-made;
+    beside = also-avoids seats made a w.areas.beside off-slots;
+    count = omega (arith, open_below-opened m a.area.0 MAX_AREAS (none-is _ none) low, w.areas.count, length-append made (a ∷ []));
+  }
+
+  more-ledger : (number : ℕ) → n.free + (let x : Next = record next { area = number } in used_pages (desk_of n seats (made ++ a ∷ []) files x)) ≡ n.pages
+  unfolding made_of
+  more-ledger number =
+      omega (arith, w.ledger, free-opened m a.area.0, pages-opened m a.area.0, ap used_pages (made-more number),
+        total-append pages_of_made (map (made_of m) made) (record { number = a.number; most = a.most; pages = 0 } ∷ []))
+
+  pub more-world : (let x : Next = record next { area = next.area + 1 } in IsDesk (desk_of n seats (made ++ a ∷ []) files x) → IsWorld n seats (made ++ a ∷ []) files x)
+  more-world d = record { desk = d; areas = more-areas; ledger = more-ledger (next.area + 1) }
+
+-- ---- a made area goes
+
+module _ {m : Memory} {seats : List Seat} {made : List MadeArea} {files : FileList} {next : Next} {i : ℕ} {a : MadeArea}
+    (w : IsWorld m seats made files next) (at : Sits made i a) (whole : length (bytes m a.area.0) % 4096 ≡ 0) (inside : a.area.0 < MAX_AREAS) where
+  abbrev k : Memory
+  k = closed m a.area.0
+
+  around : Stay m k a.area.0
+  around = closed-stay m a.area.0
+
+  high : IsAbove a.area.0
+  high = all-at (λ (x : MadeArea). IsAbove x.area.0) made i a w.areas.made_above at
+
+  off-seats : Avoids a.area.0 (map slot_area seats)
+  off-seats = avoids-back slot_area (map made_area made) seats w.areas.beside i a.area.0 (area-sits made i a at)
+
+  off-others : Avoids a.area.0 (map made_area (remove made i))
+  off-others = avoids-removed made_area made i a at w.areas.made_apart
+
+  pub made-less : desk_of k seats (remove made i) files next
+      ≡ (let d : Desk = record (desk_of m seats made files next) { made = filter (λ (x : Made). not (is_numbered a.number x)) (map (made_of m) made) } in d)
+  unfolding made_of
+  made-less = same-desk (desk_of m seats made files next)
+      (tasks-stay seats around off-seats) (post-stays seats next.message around (λ q. absurd (omega (arith, high)))) (fixed-stay around high)
+      (mades-stay (remove made i) around off-others ∙ sym (filter-others made_number (made_of m) (λ (x : Made). x.number) (λ x. refl) made i a at (numbers w))) (pages-closed m a.area.0)
+
+  less-areas : HasAreas k seats (remove made i)
+  less-areas = record {
+    fixed_open = fixed-opened-else m a.area.0 high w.areas.fixed_open;
+    module_area = module-stays around (λ q. absurd (omega (arith, high))) w.areas.module_area;
+    slots = slots-stay seats around off-seats w.areas.slots;
+    made_open = mades-opened (remove made i) around off-others (all-removed (λ (x : MadeArea). IsOpen m x.area.0) made i w.areas.made_open);
+    slots_above = w.areas.slots_above;
+    made_above = all-removed (λ (x : MadeArea). IsAbove x.area.0) made i w.areas.made_above;
+    slots_apart = w.areas.slots_apart;
+    made_apart = distinct-removed made_area made i w.areas.made_apart;
+    beside = fewer-avoids seats made i w.areas.beside;
+    count = omega (arith, open_below-closed m a.area.0 MAX_AREAS (all-at (λ (x : MadeArea). IsOpen m x.area.0) made i a w.areas.made_open at) inside, w.areas.count, length-remove made i at.inside);
+  }
+
+  less-ledger : k.free + used_pages (desk_of k seats (remove made i) files next) ≡ k.pages
+  unfolding made_of pages_at post_of
+  less-ledger =
+      let gone = total-removed (λ (x : MadeArea). pages_at m x.area.0) made i a at in
+      omega (arith, w.ledger, gone, total-map pages_of_made (made_of m) made, total-map pages_of_made (made_of m) (remove made i), whole,
+        free-closed m a.area.0, pages-closed m a.area.0,
+        ap (total task_pages) (tasks-stay seats around off-seats), ap (total (λ p. p)) (fixed-stay around high), ap (total pages_of_made) (mades-stay (remove made i) around off-others),
+        ap (λ (h : Heap). h.end) (heap-stays around (λ q. absurd (omega (arith, high)))))
+
+  pub less-world : IsDesk (desk_of k seats (remove made i) files next) → IsWorld k seats (remove made i) files next
+  less-world is = record { desk = is; areas = less-areas; ledger = less-ledger }

@@ -1,0 +1,137 @@
+-- What is asked of a named task's slot.
+use Rattle.std.proofs.Common.{◌≡◌, ℕ, ◌+◌, ◌-◌, ◌*◌, ◌<◌, ◌≤◌, ◌^◌, Bool, true, false, refl, ap, sym, subst, ◌∙◌, arith, List, [], ◌∷◌, ◌++◌, length}
+use Rattle.std.specs.Prelude.{Option, Some, None, Ok, Err, IfSome, slice_get, nat_lt, take, drop, ◌==◌}
+use Rattle.std.specs.Option.{option_map}
+use Rattle.rh_defs.specs.Memory.{Memory, bytes}
+use Rattle.rh_defs.specs.Files.{FileList}
+use Rattle.rh_defs.specs.declared.refusal.Refusal.{Refusal}
+use Rattle.rh_defs.specs.declared.refusal.Refusal.TheVariants.{NoBlock, BadRange}
+use Rattle.rh_defs.specs.declared.reply.Reply.TheVariants as reply
+use Rattle.rh_defs.specs.declared.listing.SegmentItem.{SegmentItem}
+use Rattle.rh_defs.specs.declared.listing.SegmentItem.TheVariants as segment
+use Rattle.std.proofs.lemmas.Bool.{eqb-true}
+use Rattle.rh_defs.specs.Chain.{Granted, ◌>>=◌, ◌>>◌, refuse_if, outcome_of, result_or}
+use Rattle.rh_defs.specs.Pieces.{Split, first_at, total}
+use Rattle.rh_defs.specs.Heap.{Heap, Segment, Used, Hole, size_of, segment_at, first_place, place_after, base}
+use Rattle.rh_defs.specs.Slot as plain
+use Rattle.rh_defs.proofs.Cuts.{IsCut, first_at-cuts, cut-total}
+use Rattle.rh_defs.specs.Desk.{Desk, Task, named}
+use Rattle.rh_defs.specs.Commands.{Answer, show, blocks, heap_sums}
+use Rattle.rh_defs.specs.Listing.{block_items, blocks_at, heap_at, shown_at, segment_item}
+use Rattle.rh_heap.specs.declared.listing.Segment.{Segment as Piece}
+use Rattle.rh_heap.specs.Pieces.{piece}
+use Rattle.rh_slot.specs.declared.slot.Slot.{Slot}
+use Rattle.rh_slot.specs.Area.{IsSlot, slot_in}
+use Rattle.rh_tasks.specs.declared.seat.Seat.{Seat}
+use Rattle.rh_tasks.specs.declared.made.MadeArea.{MadeArea}
+use Rattle.rh_tasks.specs.declared.next.Next.{Next}
+use Rattle.rh_tasks.specs.View.{desk_of, task_of, IsWorld}
+use Rattle.rh_tasks.specs.Finding.{Owns}
+use Rattle.rh_tasks.specs.Items.{segment_item_of}
+use Rattle.rh_tasks.proofs.Chains.{begins, ends, past, stops, lt-true, lt-false}
+use Rattle.rh_tasks.proofs.Moves.{found-named, owned}
+
+-- ---- a slot that was found
+
+module _ {m : Memory} {seats : List Seat} {made : List MadeArea} {files : FileList} {next : Next} {name : List ℕ} {slot : Slot}
+    (w : IsWorld m seats made files next) (o : Owns name seats slot) where
+  abbrev d : Desk
+  d = desk_of m seats made files next
+
+  its-slot : (task_of m o.seat).slot ≡ slot_in m slot
+  unfolding task_of
+  its-slot = ap (slot_in m) o.slot_is
+
+  -- what is asked of the named task's slot alone
+  pub asked : {A : Type 0} (ask : plain.Slot → Granted A) → (named name d >>= (λ t. ask t.slot)) ≡ ask (slot_in m slot)
+  asked ask = begins _ (found-named w o) (ap ask its-slot)
+
+-- ---- a block's size and bytes
+
+sized-by : (e : Desk) (g : Granted (Split plain.Flex)) (n : ℕ) → Ok n ≡ (g >>= λ b. Ok (length b.here.bytes)) → (g >>= λ b. (let r : Granted Answer = Ok (e, reply.Shown (length b.here.bytes)) in r)) ≡ Ok (e, reply.Shown n)
+unfolding ◌>>=◌
+sized-by e (Ok b) n h = let q : n ≡ length b.here.bytes = cc in rw q refl
+sized-by e (Err r) n h = absurd (cc)
+
+unsized-by : {A : Type 0} (g : Granted (Split plain.Flex)) (r : Refusal) (next : Split plain.Flex → Granted A) → Err r ≡ (g >>= λ b. Ok (length b.here.bytes)) → (g >>= next) ≡ Err r
+unfolding ◌>>=◌
+unsized-by (Ok b) r next h = absurd (cc)
+unsized-by (Err q) r next h = cc
+
+pub sized : (e : Desk) (k : ℕ) (s : plain.Slot) (n : ℕ) → Ok n ≡ plain.slot_size k s → (plain.slot_block k s >>= λ b. (let r : Granted Answer = Ok (e, reply.Shown (length b.here.bytes)) in r)) ≡ Ok (e, reply.Shown n)
+unfolding plain.slot_size
+sized e k s n h = sized-by e (plain.slot_block k s) n h
+
+pub unsized : {A : Type 0} (k : ℕ) (s : plain.Slot) (r : Refusal) (next : Split plain.Flex → Granted A) → Err r ≡ plain.slot_size k s → (plain.slot_block k s >>= next) ≡ Err r
+unfolding plain.slot_size
+unsized k s r next h = unsized-by (plain.slot_block k s) r next h
+
+-- the size and n bytes from an offset on
+abbrev pub shown_of_slot : ℕ → ℕ → ℕ → plain.Slot → Granted (ℕ × List ℕ)
+shown_of_slot k offset n s = plain.slot_block k s >>= λ b. refuse_if (nat_lt (length b.here.bytes) (offset + n)) BadRange >> Ok (length b.here.bytes, take n (drop offset b.here.bytes))
+
+read-by : (g : Granted (Split plain.Flex)) (offset n size : ℕ) (old new : List ℕ) → Ok size ≡ (g >>= λ b. Ok (length b.here.bytes))
+    → Ok tt ≡ outcome_of (g >>= λ b. refuse_if (nat_lt (length b.here.bytes) (offset + n)) BadRange >>= λ _. Ok (take n (drop offset b.here.bytes)))
+    → new ≡ result_or old (g >>= λ b. refuse_if (nat_lt (length b.here.bytes) (offset + n)) BadRange >>= λ _. Ok (take n (drop offset b.here.bytes)))
+    → (g >>= λ b. refuse_if (nat_lt (length b.here.bytes) (offset + n)) BadRange >> (let r : Granted (ℕ × List ℕ) = Ok (length b.here.bytes, take n (drop offset b.here.bytes)) in r)) ≡ Ok (size, new)
+unfolding ◌>>=◌ ◌>>◌ refuse_if
+read-by (Err r) offset n size old new h j q = absurd (cc)
+read-by (Ok b) offset n size old new h j q = go (nat_lt (length b.here.bytes) (offset + n)) j q
+  where
+    go : (t : Bool) → Ok tt ≡ outcome_of (refuse_if t BadRange >>= λ _. Ok (take n (drop offset b.here.bytes)))
+        → new ≡ result_or old (refuse_if t BadRange >>= λ _. Ok (take n (drop offset b.here.bytes)))
+        → (refuse_if t BadRange >>= λ _. (let r : Granted (ℕ × List ℕ) = Ok (length b.here.bytes, take n (drop offset b.here.bytes)) in r)) ≡ Ok (size, new)
+    go true j q = absurd (cc)
+    go false j q = let s : size ≡ length b.here.bytes = cc in rw (s, q) refl
+
+pub read-done : (k offset n size : ℕ) (s : plain.Slot) (old new : List ℕ) → Ok size ≡ plain.slot_size k s → Ok tt ≡ outcome_of (plain.slot_read k offset n s) → new ≡ result_or old (plain.slot_read k offset n s)
+    → shown_of_slot k offset n s ≡ Ok (size, new)
+unfolding plain.slot_size plain.slot_read
+read-done k offset n size s old new h j q = read-by (plain.slot_block k s) offset n size old new h j q
+
+unread-by : (g : Granted (Split plain.Flex)) (offset n : ℕ) (r : Refusal) → Err r ≡ outcome_of (g >>= λ b. refuse_if (nat_lt (length b.here.bytes) (offset + n)) BadRange >>= λ _. Ok (take n (drop offset b.here.bytes)))
+    → (g >>= λ b. refuse_if (nat_lt (length b.here.bytes) (offset + n)) BadRange >> (let x : Granted (ℕ × List ℕ) = Ok (length b.here.bytes, take n (drop offset b.here.bytes)) in x)) ≡ Err r
+unfolding ◌>>=◌ ◌>>◌ refuse_if
+unread-by (Err q) offset n r h = cc
+unread-by (Ok b) offset n r h = go (nat_lt (length b.here.bytes) (offset + n)) h
+  where
+    go : (t : Bool) → Err r ≡ outcome_of (refuse_if t BadRange >>= λ _. Ok (take n (drop offset b.here.bytes)))
+        → (refuse_if t BadRange >>= λ _. (let x : Granted (ℕ × List ℕ) = Ok (length b.here.bytes, take n (drop offset b.here.bytes)) in x)) ≡ Err r
+    go true h = cc
+    go false h = absurd (cc)
+
+pub unread : (k offset n : ℕ) (s : plain.Slot) (r : Refusal) → Err r ≡ outcome_of (plain.slot_read k offset n s) → shown_of_slot k offset n s ≡ Err r
+unfolding plain.slot_read
+unread k offset n s r h = unread-by (plain.slot_block k s) offset n r h
+
+-- ---- the segment at a place
+
+pub record IsPiece (place : ℕ) (h : Heap) (p : Piece) : Type 0 where
+  pub cut : Split Segment
+  pub found : segment_at place h ≡ Some cut
+  pub is : piece cut ≡ p
+  pub low : place + size_of cut.here ≤ base h
+
+cut-place : (h : Heap) (place : ℕ) (cut : Split Segment) → IsCut size_of (λ q g. place == q) first_place h.segments cut → place + size_of cut.here ≤ base h
+cut-place h place cut c =
+    let same : place ≡ first_place + total size_of cut.before = eqb-true _ _ c.passes in
+    omega (arith, same, cut-total c)
+
+pub piece-at : (place : ℕ) (h : Heap) (p : Piece) → Some p ≡ option_map piece (segment_at place h) → IsPiece place h p
+piece-at place h p e = go (segment_at place h) refl (first_at-cuts size_of (λ q g. place == q) first_place h.segments) e
+  where
+    go : (o : Option (Split Segment)) → segment_at place h ≡ o → IfSome o (IsCut size_of (λ q g. place == q) first_place h.segments) → Some p ≡ option_map piece o → IsPiece place h p
+    go None s c e = absurd (cc)
+    go (Some cut) s c e = record { cut = cut; found = s; is = cc; low = cut-place h place cut c }
+
+pub piece-none : (place : ℕ) (h : Heap) → None ≡ option_map piece (segment_at place h) → segment_at place h ≡ None
+piece-none place h e = go (segment_at place h) e
+  where
+    go : (o : Option (Split Segment)) → None ≡ option_map piece o → o ≡ None
+    go None e = refl
+    go (Some cut) e = absurd (cc)
+
+-- a segment as it is listed
+pub segment-listed : (place : ℕ) (g : Segment) (before after : List Segment) → segment_item_of place (piece (record { before = before; here = g; after = after })) ≡ segment_item (plain.heap_start + place) g
+segment-listed place (Used bytes) before after = ap (λ n. segment.Used (plain.heap_start + place + 4) n) (omega arith)
+segment-listed place (Hole size) before after = refl

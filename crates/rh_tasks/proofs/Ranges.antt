@@ -1,0 +1,59 @@
+-- What the form of a command says of its numbers.
+use Rattle.std.proofs.Common.{◌≡◌, ℕ, ◌<◌, ◌≤◌, true, arith, List}
+use Rattle.std.specs.Prelude.{ℤ, pos, negsuc}
+use Rattle.std.proofs.Common.{SFits, w32}
+use Rattle.std.proofs.lemmas.Int.{ints}
+use Rattle.rh_defs.specs.Forms.{is_delta}
+use Rattle.std.proofs.lemmas.Bool.Decides.{nat_tests}
+use Rattle.rh_defs.specs.declared.command.Command.TheVariants as command
+use Rattle.rh_defs.specs.Range.{in_range}
+
+pub alloc-anchor : (name : List ℕ) (k n : ℕ) → in_range (command.Alloc name k n) ≡ true → k < 64
+unfolding in_range
+alloc-anchor name k n h = grind (arith, nat_tests)
+
+pub load-anchor : (name : List ℕ) (k : ℕ) (file : List ℕ) → in_range (command.Load name k file) ≡ true → k < 64
+unfolding in_range
+load-anchor name k file h = grind (arith, nat_tests)
+
+pub put-anchor : (name : List ℕ) (k offset : ℕ) (bytes : List ℕ) → in_range (command.Put name k offset bytes) ≡ true → k < 64
+unfolding in_range
+put-anchor name k offset bytes h = grind (arith, nat_tests)
+
+pub free-anchor : (name : List ℕ) (k : ℕ) → in_range (command.Free name k) ≡ true → k < 64
+unfolding in_range
+free-anchor name k h = grind (arith, nat_tests)
+
+pub extend-anchor : (name : List ℕ) (k n : ℕ) → in_range (command.Extend name k n) ≡ true → k < 64
+unfolding in_range
+extend-anchor name k n h = grind (arith, nat_tests)
+
+pub mid-anchor : (name : List ℕ) (k offset : ℕ) (by : ℤ) → in_range (command.Mid name k offset by) ≡ true → k < 64
+unfolding in_range
+mid-anchor name k offset by h = grind (arith, nat_tests)
+
+pub show-anchor : (name : List ℕ) (k : ℕ) → in_range (command.Show name k) ≡ true → k < 64
+unfolding in_range
+show-anchor name k h = grind (arith, nat_tests)
+
+-- ---- signed amounts are 32-bit numbers
+
+amount : (delta : ℤ) → is_delta delta ≡ true → SFits w32 delta
+amount (pos n) h = grind (arith, nat_tests, ints)
+amount (negsuc n) h = grind (arith, nat_tests, ints)
+
+pub mid-fits : (name : List ℕ) (k offset : ℕ) (by : ℤ) → in_range (command.Mid name k offset by) ≡ true → SFits w32 by
+unfolding in_range
+mid-fits name k offset by h = amount by (grind (arith, nat_tests))
+
+pub resize-fits : (name : List ℕ) (address : ℕ) (delta : ℤ) → in_range (command.Resize name address delta) ≡ true → SFits w32 delta
+unfolding in_range
+resize-fits name address delta h = amount delta (grind (arith, nat_tests))
+
+pub area-fits : (k : ℕ) (delta : ℤ) → in_range (command.Area k delta) ≡ true → SFits w32 delta
+unfolding in_range
+area-fits k delta h = amount delta (grind (arith, nat_tests))
+
+pub rma_resize-fits : (address : ℕ) (delta : ℤ) → in_range (command.RmaResize address delta) ≡ true → SFits w32 delta
+unfolding in_range
+rma_resize-fits address delta h = amount delta h

@@ -1,0 +1,113 @@
+-- The commands on a task's slot, from what the slot's call leaves.
+use Rattle.std.proofs.Common.{◌≡◌, ℕ, ◌∙◌, sym, ap, refl, subst, List}
+use Rattle.std.specs.Prelude.{Ok, Err, true}
+use Rattle.rh_defs.specs.Memory.{Memory}
+use Rattle.rh_defs.specs.Files.{FileList}
+use Rattle.rh_defs.specs.declared.command.Command.{Command}
+use Rattle.rh_defs.specs.declared.refusal.Refusal.{Refusal}
+use Rattle.rh_defs.specs.declared.refusal.Refusal.TheVariants.{NotABlock}
+use Rattle.rh_defs.specs.declared.reply.Reply.{Reply}
+use Rattle.rh_defs.specs.declared.reply.Reply.TheVariants as reply
+use Rattle.rh_defs.specs.Chain.{Granted, no_answer, found_or}
+use Rattle.rh_defs.specs.Range.{in_range}
+use Rattle.rh_defs.specs.Slot as plain
+use Rattle.rh_defs.specs.Desk.{Desk, idle_block, idle_buffer}
+use Rattle.rh_defs.specs.Commands.{Answer}
+use Rattle.rh_defs.specs.Step.{change}
+use Rattle.rh_slot.specs.declared.slot.Slot.{Slot}
+use Rattle.rh_slot.specs.Area.{slot_in}
+use Rattle.rh_slot.specs.Calls.{Leaves}
+use Rattle.rh_tasks.specs.declared.seat.Seat.{Seat}
+use Rattle.rh_tasks.specs.declared.made.MadeArea.{MadeArea}
+use Rattle.rh_tasks.specs.declared.next.Next.{Next}
+use Rattle.rh_tasks.specs.View.{desk_of, IsWorld}
+use Rattle.rh_tasks.specs.Finding.{Owns}
+use Rattle.rh_tasks.proofs.Leaves.{slid, granted, refused, changed, unchanged}
+use Rattle.rh_tasks.proofs.Calls.{Looks, on_slot, on_idle, slot-refused, slot-done, slot-world, idle-is, looks-block, looks-buffer}
+
+-- the slot that a call leaves, and its block's address as the reply
+abbrev pub placed_slot : plain.Slot × ℕ → plain.Slot
+placed_slot p = p.0
+
+abbrev pub placed_reply : plain.Slot × ℕ → Reply
+placed_reply p = reply.Block p.1
+
+abbrev pub same_slot : plain.Slot → plain.Slot
+same_slot s = s
+
+abbrev pub done_reply : plain.Slot → Reply
+done_reply s = reply.Done
+
+module _ {m : Memory} {seats : List Seat} {made : List MadeArea} {files : FileList} {next : Next} {name : List ℕ} {slot : Slot}
+    (w : IsWorld m seats made files next) (o : Owns name seats slot) where
+  abbrev d : Desk
+  d = desk_of m seats made files next
+
+  -- a call that answers a block's address
+  module _ (call : ℕ → plain.Slot → Granted (plain.Slot × ℕ)) where
+    abbrev pub on_placed : Granted Answer
+    on_placed = on_slot call placed_slot placed_reply name d
+
+    module _ {n : Memory} {a : ℕ} (l : Leaves m n slot (call m.free (slot_in m slot)) (Ok a)) where
+      pub placed-done : on_placed ≡ Ok (desk_of n seats made files next, reply.Block a)
+      placed-done = slot-done call placed_slot placed_reply w o (slid l) (granted l) refl
+
+      pub placed-world : (c : Command) → change d c ≡ on_placed → in_range c ≡ true → IsWorld n seats made files next
+      placed-world c same ranged = slot-world call placed_slot placed_reply w o (slid l) (granted l) refl c same ranged
+
+    pub placed-refused : {n : Memory} {r : Refusal} → Leaves m n slot (call m.free (slot_in m slot)) (Err r) → on_placed ≡ Err r
+    placed-refused l = slot-refused call placed_slot placed_reply w o (refused l)
+
+  -- a call on the anchor's block
+  module _ (call : ℕ → plain.Slot → Granted plain.Slot) (k : ℕ) (looks : (free : ℕ) (s : plain.Slot) → Looks (plain.slot_block k s) (call free s)) where
+    abbrev pub on_block : Granted Answer
+    on_block = on_idle (idle_block k) call same_slot done_reply name d
+
+    block-is : on_block ≡ on_slot call same_slot done_reply name d
+    block-is = idle-is call same_slot done_reply w o (idle_block k) (looks-block m o (call m.free) k (looks m.free))
+
+    module _ {n : Memory} (l : Leaves m n slot (no_answer (call m.free (slot_in m slot))) (Ok tt)) where
+      pub block-done : on_block ≡ Ok (desk_of n seats made files next, reply.Done)
+      block-done = block-is ∙ slot-done call same_slot done_reply w o (slid l) (changed l) refl
+
+      pub block-world : (c : Command) → change d c ≡ on_block → in_range c ≡ true → IsWorld n seats made files next
+      block-world c same ranged = slot-world call same_slot done_reply w o (slid l) (changed l) refl c (same ∙ block-is) ranged
+
+    pub block-refused : {n : Memory} {r : Refusal} → Leaves m n slot (no_answer (call m.free (slot_in m slot))) (Err r) → on_block ≡ Err r
+    block-refused l = block-is ∙ slot-refused call same_slot done_reply w o (unchanged l)
+
+  -- a call on a block of the C heap
+  module _ (call : ℕ → plain.Slot → Granted plain.Slot) (address : ℕ) (looks : (free : ℕ) (s : plain.Slot) → Looks (found_or (plain.heap_block_at address s) NotABlock) (call free s)) where
+    abbrev pub on_buffer : Granted Answer
+    on_buffer = on_idle (idle_buffer address) call same_slot done_reply name d
+
+    buffer-is : on_buffer ≡ on_slot call same_slot done_reply name d
+    buffer-is = idle-is call same_slot done_reply w o (idle_buffer address) (looks-buffer m o (call m.free) address (looks m.free))
+
+    module _ {n : Memory} (l : Leaves m n slot (no_answer (call m.free (slot_in m slot))) (Ok tt)) where
+      pub buffer-done : on_buffer ≡ Ok (desk_of n seats made files next, reply.Done)
+      buffer-done = buffer-is ∙ slot-done call same_slot done_reply w o (slid l) (changed l) refl
+
+      pub buffer-world : (c : Command) → change d c ≡ on_buffer → in_range c ≡ true → IsWorld n seats made files next
+      buffer-world c same ranged = slot-world call same_slot done_reply w o (slid l) (changed l) refl c (same ∙ buffer-is) ranged
+
+    pub buffer-refused : {n : Memory} {r : Refusal} → Leaves m n slot (no_answer (call m.free (slot_in m slot))) (Err r) → on_buffer ≡ Err r
+    buffer-refused l = buffer-is ∙ slot-refused call same_slot done_reply w o (unchanged l)
+
+  -- a call on a block of the C heap that answers its address
+  module _ (call : ℕ → plain.Slot → Granted (plain.Slot × ℕ)) (address : ℕ) (looks : (free : ℕ) (s : plain.Slot) → Looks (found_or (plain.heap_block_at address s) NotABlock) (call free s)) where
+    abbrev pub on_moved : Granted Answer
+    on_moved = on_idle (idle_buffer address) call placed_slot placed_reply name d
+
+    moved-is : on_moved ≡ on_slot call placed_slot placed_reply name d
+    moved-is = idle-is call placed_slot placed_reply w o (idle_buffer address) (looks-buffer m o (call m.free) address (looks m.free))
+
+    module _ {n : Memory} {a : ℕ} (l : Leaves m n slot (call m.free (slot_in m slot)) (Ok a)) where
+      pub moved-done : on_moved ≡ Ok (desk_of n seats made files next, reply.Block a)
+      moved-done = moved-is ∙ slot-done call placed_slot placed_reply w o (slid l) (granted l) refl
+
+      pub moved-world : (c : Command) → change d c ≡ on_moved → in_range c ≡ true → IsWorld n seats made files next
+      moved-world c same ranged = slot-world call placed_slot placed_reply w o (slid l) (granted l) refl c (same ∙ moved-is) ranged
+
+    pub moved-refused : {n : Memory} {r : Refusal} → Leaves m n slot (call m.free (slot_in m slot)) (Err r) → on_moved ≡ Err r
+    moved-refused l = moved-is ∙ slot-refused call placed_slot placed_reply w o (refused l)

@@ -1,0 +1,96 @@
+-- The store's bytes and lengths spell the desk.
+use Rattle.std.proofs.Common.{◌≡◌, ℕ, zero, suc, ◌+◌, ◌*◌, ◌/◌, ◌%◌, ◌≤◌, refl, ap, sym, subst, ◌∙◌, arith, List, [], ◌∷◌, length}
+use Rattle.std.specs.Prelude.{map}
+use Rattle.std.specs.List.{AllByRecursion, enumerate_from}
+use Rattle.rh_defs.specs.Memory.{Memory, bytes}
+use Rattle.rh_defs.specs.Pieces.{page, total}
+use Rattle.rh_defs.specs.Files.{FileList}
+use Rattle.rh_defs.specs.Slot as plain
+use Rattle.rh_defs.specs.Spans.{AreLaidOut, slot_spans, module_spans}
+use Rattle.rh_defs.specs.Desk.{Desk, Task, Made, task_pages, module_pages}
+use Rattle.rh_defs.specs.Commands.{module_start}
+use Rattle.rh_defs.specs.Laws as laws
+use Rattle.rh_defs.proofs.Spaced.{apart-of}
+use Rattle.rh_tasks.specs.declared.seat.Seat.{Seat}
+use Rattle.rh_tasks.specs.declared.made.MadeArea.{MadeArea}
+use Rattle.rh_tasks.specs.declared.next.Next.{Next}
+use Rattle.rh_tasks.specs.Shown.{Shown, SpellSlots, IsSpelled, length_of_area, IsBalanced, LieApart, HasApartBlocks}
+use Rattle.rh_tasks.specs.View.{the_module, fixed, pages_at, task_of, made_of, fixed_pages, post_of, desk_of, shown_of, HasSlot, IsWorld}
+use Rattle.rh_tasks.proofs.Worlds.{free-is}
+use Rattle.rh_tasks.proofs.Fixed.{pages-of}
+
+-- each area is whole pages
+pub record AreWhole (m : Memory) : Type 0 where
+  pub each : (id : ℕ) → length (bytes m id) % 4096 ≡ 0
+
+spell-slots : (m : Memory) (seats : List Seat) → AllByRecursion (HasSlot m) seats → SpellSlots (map (λ (s : Seat). bytes m s.slot.area.0) seats) (map (task_of m) seats)
+unfolding task_of
+spell-slots m [] all = tt
+spell-slots m (s ∷ seats) all = (all.0.spells, spell-slots m seats all.1)
+
+apart-slots : (m : Memory) (seats : List Seat) → AllByRecursion (HasSlot m) seats
+    → AllByRecursion (λ (t : Task). AreLaidOut plain.slot_start (page * plain.slot_pages t.slot) (slot_spans t.slot)) (map (task_of m) seats)
+    → LieApart (map (λ (s : Seat). bytes m s.slot.area.0) seats) (map (task_of m) seats)
+unfolding task_of
+apart-slots m [] all apart = tt
+apart-slots m (s ∷ seats) all apart =
+    (let P : ℕ → Type 0 = λ n. AreLaidOut plain.slot_start n (slot_spans (task_of m s).slot) in subst P (sym all.0.spells.pages) apart.0, apart-slots m seats all.1 apart.1)
+
+made-lengths : (m : Memory) → AreWhole m → (made : List MadeArea) → map (λ (a : MadeArea). length (bytes m a.area.0)) made ≡ map (λ (x : Made). page * x.pages) (map (made_of m) made)
+unfolding made_of
+made-lengths m whole [] = refl
+made-lengths m whole (a ∷ made) =
+    let here : length (bytes m a.area.0) ≡ page * pages_at m a.area.0 = sym (pages-of m a.area.0 (whole.each a.area.0)) in
+    let there = made-lengths m whole made in
+    cc
+
+six : {a b c d e f a' b' c' d' e' f' : ℕ} → a ≡ a' → b ≡ b' → c ≡ c' → d ≡ d' → e ≡ e' → f ≡ f' → a ∷ b ∷ c ∷ d ∷ e ∷ f ∷ [] ≡ a' ∷ b' ∷ c' ∷ d' ∷ e' ∷ f' ∷ []
+six p q r s t u = cc
+
+slot-lengths : (m : Memory) (seats : List Seat) → AllByRecursion (HasSlot m) seats → total length (map (λ (s : Seat). bytes m s.slot.area.0) seats) ≡ 4096 * total task_pages (map (task_of m) seats)
+unfolding task_of
+slot-lengths m [] all = refl
+slot-lengths m (s ∷ seats) all = omega (arith, all.0.spells.pages, slot-lengths m seats all.1)
+
+made-sum : (made : List Made) → total (λ n. n) (map (λ (x : Made). page * x.pages) made) ≡ 4096 * total (λ (x : Made). x.pages) made
+made-sum [] = refl
+made-sum (x ∷ made) = omega (arith, made-sum made)
+
+module _ {m : Memory} {seats : List Seat} {made : List MadeArea} {files : FileList} {next : Next} (w : IsWorld m seats made files next) (whole : AreWhole m) where
+  abbrev s : Shown
+  s = shown_of m seats made files next
+
+  module-length : 4096 * module_pages s.desk ≡ length (bytes m 1)
+  unfolding post_of
+  module-length = omega (arith, w.areas.module_area.spells.whole, whole.each 1)
+
+  of : (id : ℕ) → length (bytes m id) ≡ 4096 * pages_at m id
+  of id = sym (pages-of m id (whole.each id))
+
+  areas-are : s.areas ≡ map (length_of_area s.desk) (enumerate_from 0 (fixed_pages m))
+  unfolding fixed_pages
+  areas-are = six (of 0) (sym module-length) (of 2) (of 3) (of 4) (of 5)
+
+  pub is-spelled : IsSpelled s
+  unfolding post_of
+  is-spelled = record {
+    module_area = w.areas.module_area.spells;
+    slots = spell-slots m seats w.areas.slots;
+    areas = areas-are;
+    made = made-lengths m whole made;
+    scrap = refl;
+    free = sym (free-is w);
+  }
+
+  pub is-apart : HasApartBlocks s
+  unfolding post_of
+  is-apart =
+      let apart : laws.HasApartBlocks s.desk = apart-of s.desk w.desk in record {
+    slots = apart-slots m seats w.areas.slots apart.slots;
+    module_area = (let P : ℕ → Type 0 = λ n. AreLaidOut module_start n (module_spans s.desk.post.heap) in subst P module-length apart.module_area);
+  }
+
+  pub is-balanced : IsBalanced s
+  unfolding fixed_pages
+  is-balanced =
+      omega (arith, w.ledger, module-length, of 0, of 2, of 3, of 4, of 5, slot-lengths m seats w.areas.slots, made-sum (map (made_of m) made), ap (total (λ n. n)) (made-lengths m whole made))

@@ -1,0 +1,41 @@
+use Rattle.std.proofs.Common.{◌≡◌, refl, ap, ◌∙◌, sym, arith}
+use Rattle.std.proofs.lemmas.Result.{err_from_is_err_and}
+use Rattle.rh_defs.specs.declared.command.Command.TheVariants as command
+use Rattle.rh_defs.specs.Slot.{slot_claim}
+use Rattle.rh_defs.specs.Commands.{claim}
+use Rattle.rh_tasks.specs.View.{shown_of}
+use Rattle.rh_tasks.proofs.Chains.{ends}
+use Rattle.rh_tasks.proofs.Finding.{nobody}
+use Rattle.rh_tasks.proofs.Moves.{owned}
+use Rattle.rh_tasks.proofs.Addresses.{grant-of, slot_claim-low}
+use Rattle.rh_tasks.proofs.Leaves.{granted}
+use Rattle.rh_tasks.proofs.SlotCommands.{placed-done, placed-world, placed-refused}
+use Rattle.rh_tasks.proofs.world.World.claim.Goals as goal
+
+pub returns-in_err-slot : goal.returns-in_err-slot
+unfolding claim
+returns-in_err-slot g c =
+    let p = err_from_is_err_and c.from_residual.result c.from_residual.ensures.1 in
+    rw (p.1, p.2, c.in_err-slot.ensures.err.0, ← c.self.view_is) (ends _ (nobody _ _ _ _ _ _ c.in_err-slot.ensures.err.1), refl)
+
+pub returns-in_err-address : goal.returns-in_err-address
+unfolding claim
+returns-in_err-address g c =
+    let p = err_from_is_err_and c.from_residual-in_err-address.result c.from_residual-in_err-address.ensures.1 in
+    let same = ap (λ m. shown_of m c.self.inside.seats.items c.self.inside.made.items c.self.inside.files c.self.inside.next) c.in_err-address.ensures.err in
+    rw (p.1, p.2, ← c.self.view_is) (placed-refused c.self.invariant.0 c.in_ok-slot.ensures.ok (λ free. slot_claim free c.args.size) c.in_err-address.ensures, same)
+
+pub overflow_cast-result : goal.overflow_cast-result
+overflow_cast-result g c =
+    let is = owned c.self.invariant.0 c.in_ok-slot.ensures.ok in
+    let low = grant-of (slot_claim-low _ _ _) (granted c.in_ok-address.ensures) in
+    omega (arith, low, is.spells.words.within, is.spells.words.heap.within, is.spells.words.heap.heap.fits, g.met.S.Words.small c.self.inside.store c.in_ok-slot.slot.area.0)
+
+pub invariant_of-self-2 : goal.invariant_of-self-2
+unfolding claim
+invariant_of-self-2 g c =
+    (placed-world c.self.invariant.0 c.in_ok-slot.ensures.ok (λ free. slot_claim free c.args.size) c.in_ok-address.ensures (command.Claim c.args.name.now c.args.size) refl c.requires, c.self.invariant.1, c.self.invariant.2)
+
+pub returns : goal.returns
+unfolding claim
+returns g c = rw (← c.self.view_is) (placed-done c.self.invariant.0 c.in_ok-slot.ensures.ok (λ free. slot_claim free c.args.size) c.in_ok-address.ensures)

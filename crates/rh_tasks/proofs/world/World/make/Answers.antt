@@ -1,0 +1,33 @@
+use Rattle.std.proofs.Common.{◌≡◌, refl, ap, ◌∙◌, sym, arith}
+use Rattle.rh_tasks.proofs.Openings.{opens}
+use Rattle.rh_tasks.proofs.MadeCommands.{make-many, make-none, can-make, make-done, make-world}
+use Rattle.rh_tasks.proofs.world.World.make.Goals as goal
+
+pub returns-then-len-ge-MOST_MADE : goal.returns-then-len-ge-MOST_MADE
+returns-then-len-ge-MOST_MADE g c =
+    rw (← c.self.view_is) (make-many c.self.invariant.0 c.args.most (omega (arith, c.if-len-ge-MOST_MADE.true, c.self.inside.made.ok)), refl)
+
+pub returns-then-number-gt-LAST_MADE : goal.returns-then-number-gt-LAST_MADE
+returns-then-number-gt-LAST_MADE g c =
+    rw (← c.self.view_is) (make-none c.self.invariant.0 c.args.most (omega (arith, c.if-len-ge-MOST_MADE.false, c.self.inside.made.ok)) c.if-number-gt-LAST_MADE.true, refl)
+
+pub unwrap-area-requires : goal.unwrap-area-requires
+unwrap-area-requires g c =
+    opens c.open.result _ c.open.ensures.refused (can-make c.self.invariant.0 c.args.most (omega (arith, c.if-len-ge-MOST_MADE.false, c.self.inside.made.ok)))
+
+pub invariant_of-self : goal.invariant_of-self
+invariant_of-self g c =
+    let ok = rw c.unwrap-area.ensures at c.open.ensures.ok in
+    let low = rw c.unwrap-area.ensures at c.open.ensures.number in
+    rw (ok.1, c.push_reserved.ensures.items, c.push_reserved.ensures.capacity) (
+      make-world c.self.invariant.0 c.args.most (omega (arith, c.if-len-ge-MOST_MADE.false, c.self.inside.made.ok)) c.if-number-gt-LAST_MADE.false c.unwrap-area.result.0 ok.0 low c.requires,
+      c.self.invariant.1,
+      c.self.invariant.2,
+    )
+
+pub returns : goal.returns
+returns g c =
+    let ok = rw c.unwrap-area.ensures at c.open.ensures.ok in
+    let low = rw c.unwrap-area.ensures at c.open.ensures.number in
+    rw (← c.self.view_is, ok.1, c.push_reserved.ensures.items)
+      (make-done c.self.invariant.0 c.args.most (omega (arith, c.if-len-ge-MOST_MADE.false, c.self.inside.made.ok)) c.if-number-gt-LAST_MADE.false c.unwrap-area.result.0 ok.0 low)

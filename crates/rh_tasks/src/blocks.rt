@@ -1,0 +1,110 @@
+//! Flex blocks: the commands that change them.
+
+ghost use Rattle.std.specs.Prelude.{◌≡◌, true, Ok, Err};
+ghost use Rattle.rh_defs.specs.declared.command.Command.TheVariants as Command;
+ghost use Rattle.rh_defs.specs.Range.{in_range};
+ghost use Rattle.rh_defs.specs.Commands.{alloc as alloc_on, load as load_on, put as put_on, free as free_on, extend as extend_on, mid as mid_on};
+ghost use Rattle.rh_tasks.specs.Answer.{Gives};
+
+use crate::seats::slot_of;
+use crate::world::World;
+use rh_defs::{Anchor, Name, Refusal, Reply};
+use rh_store::Store;
+
+impl<S: Store> World<S> {
+    /// Puts a block of zeros on top of the task's slot (flex_alloc): NoName, AnchorInUse, NoRoom.
+    pub(crate) fn alloc(
+        &mut self,
+        name: &Name,
+        anchor: Anchor,
+        size: u32,
+    ) -> Result<Reply, Refusal>
+        requires { in_range (Command.Alloc name.now anchor size) ≡ true }
+        ensures { Gives (alloc_on self.old.desk name.now anchor size) self.old self.new result }
+    {
+        let slot = slot_of(&self.seats, name)?;
+        let address = slot.alloc(&mut self.store, anchor, size)?;
+        Ok(Reply::Block {
+            address: address as u32,
+        })
+    }
+
+    /// Puts a block with a named file's bytes on top of the task's slot: NoName, NoFile, AnchorInUse, NoRoom.
+    pub(crate) fn load(
+        &mut self,
+        name: &Name,
+        anchor: Anchor,
+        file: &Name,
+    ) -> Result<Reply, Refusal>
+        requires { in_range (Command.Load name.now anchor file.now) ≡ true }
+        ensures { Gives (load_on self.old.desk name.now anchor file.now) self.old self.new result }
+    {
+        let slot = slot_of(&self.seats, name)?;
+        let Some(bytes) = self.files.get(file) else {
+            return Err(Refusal::NoFile);
+        };
+        let address = slot.alloc(&mut self.store, anchor, bytes.len() as u32)?;
+        slot.put(&mut self.store, anchor, 0, bytes).unwrap();
+        Ok(Reply::Block {
+            address: address as u32,
+        })
+    }
+
+    /// Writes bytes into a block, from an offset on: NoName, NoBlock, BadRange.
+    pub(crate) fn put(
+        &mut self,
+        name: &Name,
+        anchor: Anchor,
+        offset: u32,
+        bytes: &[u8],
+    ) -> Result<Reply, Refusal>
+        requires { in_range (Command.Put name.now anchor offset bytes.now) ≡ true }
+        ensures { Gives (put_on self.old.desk name.now anchor offset bytes.now) self.old self.new result }
+    {
+        let slot = slot_of(&self.seats, name)?;
+        slot.put(&mut self.store, anchor, offset as usize, bytes)?;
+        Ok(Reply::Done)
+    }
+
+    /// Takes a block away; those above it slide down (flex_free): NoName, NoBlock.
+    pub(crate) fn free(&mut self, name: &Name, anchor: Anchor) -> Result<Reply, Refusal>
+        requires { in_range (Command.Free name.now anchor) ≡ true }
+        ensures { Gives (free_on self.old.desk name.now anchor) self.old self.new result }
+    {
+        let slot = slot_of(&self.seats, name)?;
+        slot.free(&mut self.store, anchor)?;
+        Ok(Reply::Done)
+    }
+
+    /// Cuts a block to `size` bytes, or lengthens it by zeros (flex_extend): NoName, NoBlock, NoRoom.
+    pub(crate) fn extend(
+        &mut self,
+        name: &Name,
+        anchor: Anchor,
+        size: u32,
+    ) -> Result<Reply, Refusal>
+        requires { in_range (Command.Extend name.now anchor size) ≡ true }
+        ensures { Gives (extend_on self.old.desk name.now anchor size) self.old self.new result }
+    {
+        let slot = slot_of(&self.seats, name)?;
+        slot.extend(&mut self.store, anchor, size)?;
+        Ok(Reply::Done)
+    }
+
+    /// Puts `by` zeros into a block at an offset, or takes out the `-by` bytes before it (flex_midextend): NoName,
+    /// NoBlock, BadRange, NoRoom.
+    pub(crate) fn mid(
+        &mut self,
+        name: &Name,
+        anchor: Anchor,
+        offset: u32,
+        by: i32,
+    ) -> Result<Reply, Refusal>
+        requires { in_range (Command.Mid name.now anchor offset by) ≡ true }
+        ensures { Gives (mid_on self.old.desk name.now anchor offset by) self.old self.new result }
+    {
+        let slot = slot_of(&self.seats, name)?;
+        slot.mid(&mut self.store, anchor, offset as usize, by)?;
+        Ok(Reply::Done)
+    }
+}

@@ -1,0 +1,200 @@
+//! What is asked of the desk: sums, lists item by item, and bytes.
+
+ghost use Rattle.std.specs.Prelude.{◌≡◌, ◌≤◌, ◌<◌, ◌^◌, true, Ok, Err, length, slice_get};
+ghost use Rattle.std.specs.List.{AllByRecursion};
+ghost use Rattle.std.specs.Result.{MatchResult};
+ghost use Rattle.rh_tasks.specs.declared.seat.Seat.{Seat};
+ghost use Rattle.rh_defs.specs.Memory.{Memory, IsOpen};
+ghost use Rattle.rh_defs.specs.declared.command.Command.TheVariants as Command;
+ghost use Rattle.rh_defs.specs.Range.{in_range};
+ghost use Rattle.rh_defs.specs.Commands.{show as show_on, blocks as blocks_on, heap_sums as heap_sums_on, status as status_on};
+ghost use Rattle.rh_defs.specs.Desk.{free_pages as free_pages_on};
+ghost use Rattle.rh_defs.specs.Listing.{area_items, areas_at, blocks_at, heap_at, shown_at};
+ghost use Rattle.rh_tasks.specs.Answer.{Gives};
+ghost use Rattle.rh_tasks.specs.View.{pages_at, HasAreas};
+ghost use Rattle.rh_tasks.specs.Items.{items_in, slot_items, segment_item_of};
+
+use crate::areas::FIXED_AREAS;
+use crate::made::MadeArea;
+use crate::seat::Seat;
+use crate::seats::{find, slot_of};
+use crate::world::World;
+use rh_defs::sizes::{C_HEAP_START, PAGE};
+use rh_defs::{Anchor, AreaItem, BlockItem, Name, Refusal, Reply, SegmentItem};
+use rh_heap::Segment;
+use rh_store::{AreaId, Store};
+
+/// A C heap's length, the size of the largest block that fits, and its free bytes.
+pub type HeapSums = (u32, u32, u32);
+
+/// How many pages an area has.
+#[tactic(auto, unfolding(crate::specs::View::pages_at))]
+fn pages_in<S: Store>(store: &S, area: AreaId) -> u32
+    requires { IsOpen (S.memory store.now) area.0 }
+    ensures { result ≡ pages_at (S.memory store.now) area.0 }
+{
+    (store.len(area) / PAGE) as u32
+}
+
+/// Item i of areas 0 to 5, the made areas in order of number, and the slots in order of handle.
+fn area_item<S: Store>(
+    store: &S,
+    seats: &Vec<Seat>,
+    made: &Vec<MadeArea>,
+    i: usize,
+) -> Option<AreaItem>
+    requires { HasAreas (S.memory store.now) seats.now.items made.now.items }
+    ensures { result ≡ slice_get (items_in (S.memory store.now) seats.now.items made.now.items) i }
+{
+    let fixed = FIXED_AREAS as usize;
+    if i < fixed {
+        return Some(AreaItem::Area {
+            number: i as u32,
+            pages: pages_in(store, AreaId(i as u8)),
+        });
+    }
+    let behind = i - fixed;
+    if behind < made.len() {
+        let area = &made[behind];
+        return Some(AreaItem::Area {
+            number: area.number,
+            pages: pages_in(store, area.area),
+        });
+    }
+    slot_item(store, seats, behind - made.len())
+}
+
+fn slot_item<S: Store>(store: &S, seats: &Vec<Seat>, i: usize) -> Option<AreaItem>
+    requires { AllByRecursion (λ (s : Seat). IsOpen (S.memory store.now) s.slot.area.0) seats.now.items }
+    ensures { result ≡ slice_get (slot_items (S.memory store.now) seats.now.items) i }
+{
+    if i >= seats.len() {
+        return None;
+    }
+    let seat = &seats[i];
+    Some(AreaItem::Slot {
+        name: seat.name.copied(),
+        pages: pages_in(store, seat.slot.area),
+    })
+}
+
+/// A segment that begins at a place of the C heap, as it is listed.
+fn segment_item(place: u32, segment: Segment) -> SegmentItem
+    requires low { place < 2 ^ 23 }
+    requires small { segment.size < 2 ^ 23 }
+    ensures { result ≡ segment_item_of place segment }
+{
+    let address = C_HEAP_START as u32 + place;
+    let size = segment.size as u32;
+    if segment.used {
+        return SegmentItem::Used {
+            address: address + 4,
+            size: size.saturating_sub(4),
+        };
+    }
+    SegmentItem::Hole { address, size }
+}
+
+impl<S: Store> World<S> {
+    /// The free pages, and item i of areas 0 to 5, the made areas in order of number and the slots in order of handle;
+    /// None past the end.
+    pub fn areas(&self, i: usize) -> (u32, Option<AreaItem>)
+        ensures item { result ≡ areas_at self.now.desk i }
+        ensures few { length (area_items self.now.desk) ≤ 70 }
+    {
+        let free = self.free_pages();
+        (free, area_item(&self.store, &self.seats, &self.made, i))
+    }
+
+    /// How many flex blocks the task has, and block i from below, None past the end; NoName where no task has the name.
+    pub fn blocks(&self, name: &Name, i: usize) -> Result<(u32, Option<BlockItem>), Refusal>
+        ensures { result ≡ blocks_at self.now.desk name.now i }
+    {
+        let slot = slot_of(&self.seats, name)?;
+        let count = slot.count(&self.store) as u32;
+        Ok((count, slot.block(&self.store, i)))
+    }
+
+    /// The sums over the task's C heap (OS_Heap 1), and the segment that begins at a place, in bytes from the heap's
+    /// first one, None where none begins; NoName where no task has the name.
+    pub fn heap(
+        &self,
+        name: &Name,
+        place: u32,
+    ) -> Result<(HeapSums, Option<SegmentItem>), Refusal>
+        ensures { result ≡ heap_at self.now.desk name.now place }
+    {
+        let slot = slot_of(&self.seats, name)?;
+        let (length, largest, free) = slot.describe(&self.store);
+        let sums = (length as u32, largest as u32, free as u32);
+        let Some(segment) = slot.segment(&self.store, place as usize) else {
+            return Ok((sums, None));
+        };
+        Ok((sums, Some(segment_item(place, segment))))
+    }
+
+    /// The size in bytes of the task's block at the anchor (flex_size), and its bytes from an offset on; NoName,
+    /// NoBlock, or BadRange where the bytes wanted don't lie in the block.
+    pub fn show(
+        &self,
+        name: &Name,
+        anchor: Anchor,
+        offset: u32,
+        to: &mut [u8],
+    ) -> Result<u32, Refusal>
+        requires { anchor < 64 }
+        ensures { MatchResult (shown_at self.now.desk name.now anchor offset (length to.old)) (λ p. (result ≡ Ok p.0) × (to.new ≡ p.1)) (λ e. (result ≡ Err e) × (to.new ≡ to.old)) }
+    {
+        let slot = slot_of(&self.seats, name)?;
+        let size = slot.size(&self.store, anchor)?;
+        slot.read(&self.store, anchor, offset as usize, to)?;
+        Ok(size as u32)
+    }
+
+    /// The size of the task's block: NoName, NoBlock.
+    pub(crate) fn size_of(&self, name: &Name, anchor: Anchor) -> Result<Reply, Refusal>
+        requires { anchor < 64 }
+        ensures { Gives (show_on self.now.desk name.now anchor) self.now self.now result }
+    {
+        let slot = slot_of(&self.seats, name)?;
+        let size = slot.size(&self.store, anchor)? as u32;
+        Ok(Reply::Shown { size })
+    }
+
+    /// How many blocks the task has: NoName.
+    pub(crate) fn block_count(&self, name: &Name) -> Result<Reply, Refusal>
+        ensures { Gives (blocks_on self.now.desk name.now) self.now self.now result }
+    {
+        let slot = slot_of(&self.seats, name)?;
+        Ok(Reply::BlockCount(slot.count(&self.store) as u32))
+    }
+
+    /// The sums over the task's C heap: NoName.
+    pub(crate) fn heap_sums(&self, name: &Name) -> Result<Reply, Refusal>
+        ensures { Gives (heap_sums_on self.now.desk name.now) self.now self.now result }
+    {
+        let slot = slot_of(&self.seats, name)?;
+        let (length, largest, free) = slot.describe(&self.store);
+        Ok(Reply::HeapSums {
+            length: length as u32,
+            largest: largest as u32,
+            free: free as u32,
+        })
+    }
+
+    /// The task's handle: NoName.
+    pub(crate) fn handle_of(&self, name: &Name) -> Result<Reply, Refusal>
+        ensures { Gives (status_on self.now.desk name.now) self.now self.now result }
+    {
+        let i = find(&self.seats, name)?;
+        let seat = &self.seats[i];
+        Ok(Reply::StatusOf(seat.handle))
+    }
+
+    /// How many pages are free.
+    pub(crate) fn free_pages(&self) -> u32
+        ensures { result ≡ free_pages_on self.now.desk }
+    {
+        self.store.free_pages() as u32
+    }
+}

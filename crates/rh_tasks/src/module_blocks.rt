@@ -1,0 +1,51 @@
+//! Blocks of the module area that commands claim (the RMA's).
+
+ghost use Rattle.std.specs.Prelude.{◌≡◌, true, Ok, Err};
+ghost use Rattle.rh_defs.specs.declared.command.Command.TheVariants as Command;
+ghost use Rattle.rh_defs.specs.Range.{in_range};
+ghost use Rattle.rh_defs.specs.Commands.{rma_claim as rma_claim_on, rma_free as rma_free_on, rma_resize as rma_resize_on};
+ghost use Rattle.rh_tasks.specs.Answer.{Gives};
+
+use crate::world::World;
+use rh_defs::sizes::MODULE_START;
+use rh_defs::{Refusal, Reply};
+use rh_module::Module;
+use rh_store::{AreaId, Store};
+
+/// The module area.
+pub const MODULE: Module = Module { area: AreaId(1) };
+
+impl<S: Store> World<S> {
+    /// Claims a block of the module area (OS_Module 6): BadSize, NoRoom.
+    pub(crate) fn rma_claim(&mut self, size: u32) -> Result<Reply, Refusal>
+        requires { in_range (Command.RmaClaim size) ≡ true }
+        ensures { Gives (rma_claim_on self.old.desk size) self.old self.new result }
+    {
+        let address = MODULE.claim(&mut self.store, size)?;
+        Ok(Reply::Block {
+            address: (MODULE_START + address) as u32,
+        })
+    }
+
+    /// Frees a block of the module area (OS_Module 7): NotABlock.
+    pub(crate) fn rma_free(&mut self, address: u32) -> Result<Reply, Refusal>
+        requires { in_range (Command.RmaFree address) ≡ true }
+        ensures { Gives (rma_free_on self.old.desk address) self.old self.new result }
+    {
+        let place = (address as usize).saturating_sub(MODULE_START);
+        MODULE.free(&mut self.store, place)?;
+        Ok(Reply::Done)
+    }
+
+    /// Changes the size of a block of the module area (OS_Module 13): NotABlock, BadSize, NoRoom.
+    pub(crate) fn rma_resize(&mut self, address: u32, delta: i32) -> Result<Reply, Refusal>
+        requires { in_range (Command.RmaResize address delta) ≡ true }
+        ensures { Gives (rma_resize_on self.old.desk address delta) self.old self.new result }
+    {
+        let place = (address as usize).saturating_sub(MODULE_START);
+        let address = MODULE.resize(&mut self.store, place, delta)?;
+        Ok(Reply::Block {
+            address: (MODULE_START + address) as u32,
+        })
+    }
+}

@@ -1,0 +1,62 @@
+//! Tasks that begin and end.
+
+ghost use Rattle.std.specs.Prelude.{◌≡◌, true, Ok, Err};
+ghost use Rattle.rh_defs.specs.declared.command.Command.TheVariants as Command;
+ghost use Rattle.rh_defs.specs.Range.{in_range};
+ghost use Rattle.rh_defs.specs.Commands.{start_task as start_on, kill as kill_on};
+ghost use Rattle.rh_tasks.specs.Answer.{Gives};
+
+use crate::seat::Seat;
+use crate::seats::{find, is_name_in_use};
+use crate::world::World;
+use rh_defs::{Handle, Manner, Name, Refusal, Reply};
+use rh_slot::Slot;
+use rh_store::Store;
+
+/// At most so many tasks are live.
+pub const MOST_TASKS: usize = 32;
+
+impl<S: Store> World<S> {
+    /// Starts a task with a fresh slot: NameInUse, TooManyTasks, NoHandles, NoRoom.
+    pub(crate) fn start_task(
+        &mut self,
+        name: &Name,
+        buffer: u32,
+        manner: Manner,
+    ) -> Result<Reply, Refusal>
+        requires { in_range (Command.Task name.now buffer manner) ≡ true }
+        ensures { Gives (start_on self.old.desk name.now buffer manner) self.old self.new result }
+    {
+        if is_name_in_use(&self.seats, name) {
+            return Err(Refusal::NameInUse);
+        }
+        if self.seats.len() >= MOST_TASKS {
+            return Err(Refusal::TooManyTasks);
+        }
+        if self.next.handle > u64::from(u32::MAX) {
+            return Err(Refusal::NoHandles);
+        }
+        let slot = Slot::start(&mut self.store)?;
+        let handle = Handle(self.next.handle as u32);
+        self.seats.push_reserved(Seat {
+            handle,
+            name: name.copied(),
+            buffer,
+            manner,
+            slot,
+        });
+        self.next.handle += 1;
+        Ok(Reply::Started(handle))
+    }
+
+    /// Ends a task, whose slot's pages are free from then on: NoName.
+    pub(crate) fn kill(&mut self, name: &Name) -> Result<Reply, Refusal>
+        requires { in_range (Command.Kill name.now) ≡ true }
+        ensures { Gives (kill_on self.old.desk name.now) self.old self.new result }
+    {
+        let i = find(&self.seats, name)?;
+        let seat = self.seats.remove(i);
+        seat.slot.end(&mut self.store);
+        Ok(Reply::Done)
+    }
+}
