@@ -11,9 +11,9 @@ use Rattle.rh_defs.specs.declared.heap.HeapRefusal.TheVariants.{BadSize, NoRoom}
 use Rattle.rh_defs.proofs.HeapLists.{HasRoom-from_tidy, HasRoom-append, total-append, tidy_before, tidy_behind_hole, tidy_join, tidy_after, NonePass-append, first_at-none, first_at-found, cond_true, cond_false, eqb_same, eqb_apart, leb_yes, leb_no}
 use Rattle.rh_defs.proofs.HeapLaws.{last_link-append, last_link-none, last_link_range, Stand-split, HasNone, NextHole, next_hole}
 use Rattle.rh_defs.proofs.HeapStretch.{opened}
-use Rattle.rh_heap.specs.Spans.{CutBetween, IsCut, Settles}
-use Rattle.rh_heap.specs.Gaps.{FoundHole}
-use Rattle.rh_heap.specs.declared.span.Gap.{Gap}
+use Rattle.rh_heap.specs.Stretches.{CutBetween, IsCut, Settles}
+use Rattle.rh_heap.specs.Holes.{FoundHole}
+use Rattle.rh_heap.specs.declared.span.holes.Gap.{Gap}
 use Rattle.rh_heap.proofs.CutLaws.{is_cut}
 use Rattle.rh_heap.proofs.FillLaws.{filled_between, topped}
 use Rattle.rh_defs.specs.HeapParts.{HasRoom, last_link, LinksTo}

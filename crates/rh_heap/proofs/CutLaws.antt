@@ -7,8 +7,8 @@ use Rattle.rh_defs.specs.HeapImage.{Spells}
 use Rattle.rh_defs.proofs.BytesLaws.{word_same}
 use Rattle.rh_defs.proofs.HeapLists.{with_hole-nil, with_hole-used, with_hole-hole, tidy_join, tidy_after}
 use Rattle.rh_defs.proofs.HeapStretch.{Stretch-kept, SameBut, LinkPlace, link_place, absorbed, reaching, holed, closed}
-use Rattle.rh_heap.specs.Spans.{CutBetween, IsCut, Settles, PutsHole}
-use Rattle.rh_heap.specs.declared.span.Cut.{Cut}
+use Rattle.rh_heap.specs.Stretches.{CutBetween, IsCut, Settles, PutsHole}
+use Rattle.rh_heap.specs.declared.span.stretch.Cut.{Cut}
 use Rattle.rh_defs.specs.HeapParts.{HasRoom, Await, LinksTo, Stretch}
 
 -- ---- writes that keep to the cut

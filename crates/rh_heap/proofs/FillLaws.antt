@@ -7,7 +7,7 @@ use Rattle.rh_defs.specs.Heap.{Segment, Used, IsTidy, size_of}
 use Rattle.rh_defs.specs.HeapImage.{Spells}
 use Rattle.rh_defs.proofs.BytesLaws.{part_same}
 use Rattle.rh_defs.proofs.HeapStretch.{Stretch-kept, link_place, filled, reaching, closed}
-use Rattle.rh_heap.specs.Spans.{CutBetween}
+use Rattle.rh_heap.specs.Stretches.{CutBetween}
 use Rattle.rh_heap.proofs.CutLaws.{but_body, but_base, but_both, word_below, word_above, LinksTo-kept}
 use Rattle.rh_defs.specs.HeapParts.{LinksTo, Stretch}
 

@@ -15,14 +15,14 @@ use Rattle.rh_defs.proofs.HeapLaws.{Stand-split}
 use Rattle.rh_defs.proofs.HeapCalls.{released_at-some}
 use Rattle.rh_defs.proofs.HeapFaults.{le_from}
 use Rattle.rh_defs.proofs.HeapStretch.{link_place, Stretch-kept, opened, filled, closed}
-use Rattle.rh_heap.specs.Spots.{FoundBlock}
+use Rattle.rh_heap.specs.Segments.{FoundBlock}
 use Rattle.rh_defs.specs.Memory.{Memory}
 use Rattle.rh_defs.proofs.HeapLaws.{heap_of-Spells}
 use Rattle.rh_heap.specs.Spans.{SpellsIn, bytes_in, heap_in}
 use Rattle.rh_heap.specs.declared.span.Span.{Span}
 use Rattle.rh_heap.specs.Ways.{Moved, WayIs, WithBlock, resized_in, short_by, into_hole}
-use Rattle.rh_heap.specs.declared.span.Spot.{Spot}
-use Rattle.rh_heap.specs.declared.span.Way.TheVariants as way
+use Rattle.rh_heap.specs.declared.span.segments.Spot.{Spot}
+use Rattle.rh_heap.specs.declared.span.resize.Way.TheVariants as way
 use Rattle.rh_heap.proofs.CutLaws.{but_body, word_below, LinksTo-kept}
 use Rattle.rh_heap.proofs.FillLaws.{part_above}
 use Rattle.rh_heap.proofs.BlockLaws.{zeros_long}

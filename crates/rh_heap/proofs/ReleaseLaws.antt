@@ -6,10 +6,10 @@ use Rattle.rh_defs.specs.HeapImage.{Spells}
 use Rattle.rh_defs.proofs.HeapLists.{total-append, tidy_behind_used, with_hole-with_hole, joined-tidy, joined-front}
 use Rattle.rh_defs.proofs.HeapFaults.{multiple_of_sizes}
 use Rattle.rh_defs.proofs.HeapStretch.{opened}
-use Rattle.rh_heap.specs.Spans.{CutBetween, IsCut, Settles}
-use Rattle.rh_heap.specs.Spots.{GapIs, no_gap, a_gap, FoundBlock}
-use Rattle.rh_heap.specs.declared.span.Cut.{Cut}
-use Rattle.rh_heap.specs.declared.span.Spot.{Spot}
+use Rattle.rh_heap.specs.Stretches.{CutBetween, IsCut, Settles}
+use Rattle.rh_heap.specs.Segments.{GapIs, no_gap, a_gap, FoundBlock}
+use Rattle.rh_heap.specs.declared.span.stretch.Cut.{Cut}
+use Rattle.rh_heap.specs.declared.span.segments.Spot.{Spot}
 use Rattle.rh_heap.proofs.CutLaws.{is_cut}
 use Rattle.rh_defs.specs.HeapParts.{last_link, LinksTo}
 

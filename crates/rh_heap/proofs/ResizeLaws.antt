@@ -10,12 +10,12 @@ use Rattle.rh_defs.proofs.BytesLaws.{part_more, length-part}
 use Rattle.rh_defs.proofs.HeapLists.{HasRoom-from_tidy, HasRoom-append, total-append, tidy_behind_used, tidy_behind_hole, tidy_front, tidy_other, tidy_after, joined-tidy, joined-front}
 use Rattle.rh_defs.proofs.HeapLaws.{Stand-split}
 use Rattle.rh_defs.proofs.HeapStretch.{opened}
-use Rattle.rh_heap.specs.Spans.{CutBetween, IsCut, Settles}
-use Rattle.rh_heap.specs.Spots.{FoundBlock}
+use Rattle.rh_heap.specs.Stretches.{CutBetween, IsCut, Settles}
+use Rattle.rh_heap.specs.Segments.{FoundBlock}
 use Rattle.rh_heap.specs.Ways.{WayIs, into_hole, WithBlock, resized_in}
-use Rattle.rh_heap.specs.declared.span.Cut.{Cut}
-use Rattle.rh_heap.specs.declared.span.Spot.{Spot}
-use Rattle.rh_heap.specs.declared.span.Way.TheVariants as way
+use Rattle.rh_heap.specs.declared.span.stretch.Cut.{Cut}
+use Rattle.rh_heap.specs.declared.span.segments.Spot.{Spot}
+use Rattle.rh_heap.specs.declared.span.resize.Way.TheVariants as way
 use Rattle.rh_heap.proofs.CutLaws.{is_cut}
 use Rattle.rh_heap.proofs.FillLaws.{filled_between, topped, part_above}
 use Rattle.rh_heap.proofs.WayLaws.{cut_of, at_cut, from_cut, found_is, WayFacts, if_stays, if_shrinks, if_into, if_top, if_to_hole, if_to_top, way_facts, way_shrinks, block_stretch, block_part, block_base}

@@ -10,13 +10,13 @@ use Rattle.rh_defs.specs.HeapImage.{Stand, Spells}
 use Rattle.rh_defs.proofs.HeapLists.{total-append, cond_true, cond_false, eqb_same, eqb_apart, leb_yes, leb_no}
 use Rattle.rh_defs.proofs.HeapLaws.{Stand-split}
 use Rattle.rh_defs.proofs.HeapStretch.{opened}
-use Rattle.rh_heap.specs.Spots.{FoundBlock}
-use Rattle.rh_heap.specs.Gaps.{FoundHole}
+use Rattle.rh_heap.specs.Segments.{FoundBlock}
+use Rattle.rh_heap.specs.Holes.{FoundHole}
 use Rattle.rh_heap.specs.Ways.{WayIs, stays, shrinks, into_hole, at_top, to_hole, to_top, WithBlock}
-use Rattle.rh_heap.specs.declared.span.Spot.{Spot}
-use Rattle.rh_heap.specs.declared.span.Gap.{Gap}
-use Rattle.rh_heap.specs.declared.span.Way.{Way}
-use Rattle.rh_heap.specs.declared.span.Way.TheVariants as way
+use Rattle.rh_heap.specs.declared.span.segments.Spot.{Spot}
+use Rattle.rh_heap.specs.declared.span.holes.Gap.{Gap}
+use Rattle.rh_heap.specs.declared.span.resize.Way.{Way}
+use Rattle.rh_heap.specs.declared.span.resize.Way.TheVariants as way
 use Rattle.rh_heap.proofs.CutLaws.{next_range}
 use Rattle.rh_defs.specs.HeapParts.{HasRoom, Await, LinksTo, Stretch}
 

@@ -1,16 +1,15 @@
-//! Whether bytes from anywhere spell a heap.
+//! Images of heaps: whether bytes from anywhere spell a heap, and the segments of those that do.
 ghost use Rattle.std.specs.Prelude.{◌≡◌, ◌↔◌, ℕ, ◌+◌, ◌*◌, ◌^◌, ◌<◌, ◌≤◌, length, true, IsOk, IfOk};
+ghost use Rattle.std.specs.Iterator.{YieldsFirst, item_count};
 ghost use Rattle.rh_defs.specs.Bytes.{word};
 ghost use Rattle.rh_defs.specs.HeapImage.{IsImage, heap_of, is_size, is_link, next_place, has_descriptor, fault_of};
-ghost use Rattle.rh_heap.specs.Image.{summary_of, fault_in};
+ghost use Rattle.rh_heap.specs.Image.{summary_of, fault_in, listed, left};
 
+mod segment_iter;
+
+pub use crate::image::segment_iter::SegmentIter;
+use crate::layout::{FIRST_PLACE, SPECIAL, Segment};
 use rh_defs::HeapFault;
-
-/// The first bytes of a heap, `Heap`, as a word.
-pub const SPECIAL: usize = 0x7061_6548;
-
-/// Where a heap's first segment begins, behind the descriptor.
-pub const FIRST_PLACE: usize = 16;
 
 /// What a heap consists of: numbers of segments, and bytes.
 #[derive(Clone, Copy, Debug, PartialEq, Eq)]
@@ -138,4 +137,52 @@ fn check_segments(image: &[u8], base: usize) -> Result<Summary, HeapFault>
         }
     }
     Ok(sums)
+}
+
+/// The segments of an image that `check` accepts.
+pub fn segments(image: &[u8]) -> SegmentIter<'_>
+    requires { IsImage image.now (heap_of image.now 0) }
+    ensures { left result ≡ listed 16 (heap_of image.now 0).segments }
+{
+    let base = word_in(image, 8);
+    SegmentIter {
+        image,
+        base,
+        from: 4,
+        place: 16,
+    }
+}
+
+impl Iterator for SegmentIter<'_> {
+    type Item = Segment;
+
+    ghost next_gives = { YieldsFirst left };
+
+    ghost remaining = { item_count left };
+
+    fn next(&mut self) -> Option<Segment> {
+        let place = self.place;
+        if place == self.base {
+            return None;
+        }
+        let link = word_in(self.image, self.from);
+        if self.from + link == place {
+            let size = word_in(self.image, place + 4);
+            self.from = place;
+            self.place = place + size;
+            Some(Segment {
+                place,
+                size,
+                used: false,
+            })
+        } else {
+            let size = word_in(self.image, place);
+            self.place = place + size;
+            Some(Segment {
+                place,
+                size,
+                used: true,
+            })
+        }
+    }
 }

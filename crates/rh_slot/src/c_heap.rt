@@ -6,7 +6,7 @@ ghost use Rattle.rh_defs.specs.Chain.{no_answer};
 ghost use Rattle.rh_defs.specs.Heap.{largest, free_bytes, segment_at};
 ghost use Rattle.rh_defs.specs.Pieces.{pages_for};
 ghost use Rattle.rh_defs.specs.Slot.{slot_claim, slot_release, slot_resize, slot_take_pages};
-ghost use Rattle.rh_heap.specs.Pieces.{piece};
+ghost use Rattle.rh_heap.specs.Segments.{piece};
 ghost use Rattle.rh_slot.specs.Area.{IsSlot, SpellsIn, slot_in};
 ghost use Rattle.rh_slot.specs.Calls.{Leaves};
 ghost use Rattle.rh_slot.specs.CHeap.{after_growth, lengthened};
