@@ -15,7 +15,7 @@ use Rattle.rh_defs.proofs.HeapStretch.{Stand-kept}
 use Rattle.rh_heap.specs.Segments.{Found, FoundBlock, HereIs, used_here, hole_here}
 use Rattle.rh_heap.specs.Segments.{piece}
 use Rattle.rh_heap.specs.declared.span.segments.Spot.{Spot}
-use Rattle.rh_heap.proofs.CutLaws.{word_below}
+use Rattle.rh_heap.proofs.StretchLaws.{word_below}
 use Rattle.rh_heap.proofs.ClaimLaws.{Passed, HoleTurn}
 
 -- ---- sizes

@@ -4,37 +4,37 @@ use Rattle.rh_defs.specs.Bytes.{word}
 use Rattle.rh_defs.specs.Pieces.{total}
 use Rattle.rh_defs.specs.Heap.{Segment, Hole, IsTidy, size_of, with_hole}
 use Rattle.rh_defs.specs.HeapImage.{Spells}
-use Rattle.rh_defs.specs.HeapParts.{Stretch}
-use Rattle.rh_heap.specs.declared.span.stretch.Cut.{Cut}
+use Rattle.rh_defs.specs.HeapParts.{HasStretch}
+use Rattle.rh_heap.specs.declared.span.stretch.Stretch.{Stretch}
 
--- The cut stands open between segments that are right, and the base is that above the last of them.
-pub record CutBetween (b : List ℕ) (at end : ℕ) (xs ys : List Segment) (cut : Cut) : Type 0 where
-  pub stretch : Stretch b at end xs ys (at + cut.link) (at + cut.low) cut.next (at + cut.upper)
-  pub based : word b (at + 8) ≡ cut.upper + total size_of ys
-  pub multiple : (cut.upper - cut.low) % 8 ≡ 0
+-- The stretch stands open between segments that are right, and the base is that above the last of them.
+pub record StretchBetween (b : List ℕ) (at end : ℕ) (xs ys : List Segment) (stretch : Stretch) : Type 0 where
+  pub has : HasStretch b at end xs ys (at + stretch.link) (at + stretch.low) stretch.next (at + stretch.upper)
+  pub based : word b (at + 8) ≡ stretch.upper + total size_of ys
+  pub multiple : (stretch.upper - stretch.low) % 8 ≡ 0
   pub tidy_before : IsTidy false xs
   pub tidy_behind : IsTidy false ys
 
--- There are such segments. The numbers say how the cut lies in the area.
-pub record IsCut (b : List ℕ) (at : ℕ) (cut : Cut) : Type 0 where
+-- There are such segments. The numbers say how the stretch lies in the area.
+pub record IsStretch (b : List ℕ) (at : ℕ) (stretch : Stretch) : Type 0 where
   pub end : ℕ
   pub before : List Segment
   pub behind : List Segment
-  pub between : CutBetween b at end before behind cut
-  pub least : 4 ≤ cut.link
-  pub link_below : cut.link + 4 ≤ cut.low
-  pub above : 16 ≤ cut.low
-  pub order : cut.low ≤ cut.upper
-  pub inside : at + cut.upper ≤ length b
-  pub next_ahead : cut.next ≢ 0 → cut.upper ≤ cut.next
-  pub next_inside : at + cut.next ≤ length b
+  pub between : StretchBetween b at end before behind stretch
+  pub least : 4 ≤ stretch.link
+  pub link_below : stretch.link + 4 ≤ stretch.low
+  pub above : 16 ≤ stretch.low
+  pub order : stretch.low ≤ stretch.upper
+  pub inside : at + stretch.upper ≤ length b
+  pub next_ahead : stretch.next ≢ 0 → stretch.upper ≤ stretch.next
+  pub next_inside : at + stretch.next ≤ length b
 
--- a hole in the place of the cut, for all segments round it
-abbrev pub Settles : List ℕ → List ℕ → ℕ → Cut → Type 0
-Settles b c at cut = (end : ℕ) (xs ys : List Segment) → CutBetween b at end xs ys cut
-    → Spells c at (record { segments = xs ++ with_hole (cut.upper - cut.low) ys; end = end })
+-- a hole in the place of the stretch, for all segments round it
+abbrev pub Settles : List ℕ → List ℕ → ℕ → Stretch → Type 0
+Settles b c at stretch = (end : ℕ) (xs ys : List Segment) → StretchBetween b at end xs ys stretch
+    → Spells c at (record { segments = xs ++ with_hole (stretch.upper - stretch.low) ys; end = end })
 
 -- the same, where no hole follows
-abbrev pub PutsHole : List ℕ → List ℕ → ℕ → Cut → Type 0
-PutsHole b c at cut = (end : ℕ) (xs ys : List Segment) → CutBetween b at end xs ys cut → IsTidy true ys
-    → Spells c at (record { segments = xs ++ Hole (cut.upper - cut.low) ∷ ys; end = end })
+abbrev pub PutsHole : List ℕ → List ℕ → ℕ → Stretch → Type 0
+PutsHole b c at stretch = (end : ℕ) (xs ys : List Segment) → StretchBetween b at end xs ys stretch → IsTidy true ys
+    → Spells c at (record { segments = xs ++ Hole (stretch.upper - stretch.low) ∷ ys; end = end })

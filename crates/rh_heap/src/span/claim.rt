@@ -10,7 +10,7 @@ ghost use Rattle.rh_heap.specs.Holes.{FoundHole};
 
 use crate::span::Span;
 use crate::span::holes::{Gap, find};
-use crate::span::stretch::{Cut, settle};
+use crate::span::stretch::{Stretch, settle};
 use crate::span::words::{clear, follow, read, write};
 use rh_defs::HeapRefusal;
 use rh_store::Words;
@@ -52,7 +52,7 @@ fn fill<S: Words>(store: &mut S, span: Span, gap: Gap, size: usize)
     settle(
         store,
         span,
-        Cut {
+        Stretch {
             link: gap.from,
             low: gap.place + size,
             next,

@@ -8,7 +8,7 @@ ghost use Rattle.rh_heap.specs.Calls.{Leaves};
 
 use crate::span::Span;
 use crate::span::segments::locate;
-use crate::span::stretch::{Cut, settle};
+use crate::span::stretch::{Stretch, settle};
 use crate::span::words::follow;
 use rh_defs::HeapRefusal;
 use rh_store::Words;
@@ -27,7 +27,7 @@ pub fn release<S: Words>(store: &mut S, span: Span, address: usize) -> Result<()
     settle(
         store,
         span,
-        Cut {
+        Stretch {
             link: spot.link,
             low: spot.low,
             next,

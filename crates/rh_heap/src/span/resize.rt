@@ -12,7 +12,7 @@ use crate::span::claim::{segment_size, shortage, take};
 use crate::span::holes::find;
 use crate::span::release::release;
 use crate::span::segments::{Spot, locate};
-use crate::span::stretch::{Cut, settle};
+use crate::span::stretch::{Stretch, settle};
 use crate::span::words::{clear, follow, move_bytes, read, write};
 use crate::span::{Span, moved};
 use rh_defs::HeapRefusal;
@@ -92,7 +92,7 @@ fn shrink<S: Words>(store: &mut S, span: Span, spot: Spot, size: usize)
     settle(
         store,
         span,
-        Cut {
+        Stretch {
             link: spot.from,
             low: spot.place + size,
             next,
@@ -116,7 +116,7 @@ fn widen<S: Words>(store: &mut S, span: Span, spot: Spot, size: usize, room: usi
     settle(
         store,
         span,
-        Cut {
+        Stretch {
             link: spot.from,
             low: spot.place + size,
             next,

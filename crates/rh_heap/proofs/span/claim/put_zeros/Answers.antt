@@ -1,5 +1,5 @@
 use Rattle.std.proofs.Common.{◌∙◌, arith}
-use Rattle.rh_heap.proofs.CutLaws.{word_below}
+use Rattle.rh_heap.proofs.StretchLaws.{word_below}
 use Rattle.rh_heap.proofs.span.claim.put_zeros.Goals as goal
 
 pub returns-clause-size : goal.returns-clause-size

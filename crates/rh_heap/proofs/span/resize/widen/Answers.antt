@@ -1,6 +1,6 @@
 use Rattle.std.proofs.Common.{arith}
 use Rattle.rh_defs.proofs.MemoryLaws.{Edited-both, Edited-wider}
-use Rattle.rh_heap.proofs.ResizeLaws.{into, widen_bounds, widen_is_cut, widen_spells}
+use Rattle.rh_heap.proofs.ResizeLaws.{into, widen_bounds, widen_is_stretch, widen_spells}
 use Rattle.rh_heap.proofs.span.resize.widen.Goals as goal
 
 pub follow-next-requires-clause-within : goal.follow-next-requires-clause-within
@@ -41,9 +41,9 @@ returns-clause-only g c =
     let fit = s.heap.fits in
     Edited-both _ _ _ _ _ _ (Edited-wider _ _ _ _ _ _ _ c.lengthen.ensures.only (omega arith) (omega arith)) (Edited-wider _ _ _ _ _ _ _ c.settle.ensures.only (omega arith) (omega arith))
 
-pub settle-requires-clause-cut : goal.settle-requires-clause-cut
-settle-requires-clause-cut g c =
-    widen_is_cut _ _ _ _ c.requires.span.spells c.requires.found _ c.requires.multiple _ (into _ _ _ _ c.requires.span.spells c.requires.found _ _ c.requires.way) _ _
+pub settle-requires-clause-stretch : goal.settle-requires-clause-stretch
+settle-requires-clause-stretch g c =
+    widen_is_stretch _ _ _ _ c.requires.span.spells c.requires.found _ c.requires.multiple _ (into _ _ _ _ c.requires.span.spells c.requires.found _ _ c.requires.way) _ _
     c.follow-next.ensures c.lengthen.ensures.only.outside c.lengthen.ensures.size c.lengthen.ensures.block
 
 pub returns-clause-spells : goal.returns-clause-spells

@@ -1,4 +1,4 @@
-use Rattle.rh_heap.proofs.CutLaws.{puts_hole}
+use Rattle.rh_heap.proofs.StretchLaws.{puts_hole}
 use Rattle.rh_heap.proofs.span.stretch.put_hole.Goals as goal
 
 pub returns-clause-puts : goal.returns-clause-puts
