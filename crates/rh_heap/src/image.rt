@@ -8,8 +8,11 @@ ghost use Rattle.rh_heap.specs.Image.{summary_of, fault_in, listed, left};
 mod segment_iter;
 
 pub use crate::image::segment_iter::SegmentIter;
-use crate::layout::{FIRST_PLACE, SPECIAL, Segment};
+use crate::layout::{HOLE_HEADER, HOLE_SIZE, Segment};
 use rh_defs::HeapFault;
+use rh_defs::sizes::{
+    HEAP_BASE, HEAP_END, HEAP_FIRST, HEAP_FREE, HEAP_SPECIAL, HEAP_UNIT, HEAP_WORD,
+};
 
 /// What a heap consists of: numbers of segments, and bytes.
 #[derive(Clone, Copy, Debug, PartialEq, Eq)]
@@ -35,7 +38,7 @@ pub fn word_in(image: &[u8], at: usize) -> usize
 fn is_size(size: usize) -> bool
     ensures { result ≡ is_size size }
 {
-    0 < size && size % 8 == 0
+    0 < size && size % HEAP_UNIT == 0
 }
 
 /// Whether the length and the words of the descriptor are those of a heap.
@@ -43,14 +46,14 @@ fn has_descriptor(image: &[u8]) -> bool
     ensures { result ≡ has_descriptor image.now }
 {
     let len = image.len();
-    if len % 8 != 0 || len < FIRST_PLACE {
+    if len % HEAP_UNIT != 0 || len < HEAP_FIRST {
         return false;
     }
-    let base = word_in(image, 8);
-    word_in(image, 0) == SPECIAL
-        && word_in(image, 12) == len
-        && base % 8 == 0
-        && FIRST_PLACE <= base
+    let base = word_in(image, HEAP_BASE);
+    word_in(image, HEAP_SPECIAL) == HEAP_WORD
+        && word_in(image, HEAP_END) == len
+        && base % HEAP_UNIT == 0
+        && HEAP_FIRST <= base
         && base <= len
 }
 
@@ -62,7 +65,7 @@ fn is_link(image: &[u8], base: usize, from: usize, least: usize) -> bool
 {
     let link = word_in(image, from);
     let place = from + link;
-    link == 0 || (place % 8 == 0 && least <= place && place + 8 <= base)
+    link == 0 || (place % HEAP_UNIT == 0 && least <= place && place + HOLE_HEADER <= base)
 }
 
 /// Where the link at `from` leads, or `base` where there is none.
@@ -86,8 +89,8 @@ pub fn check(image: &[u8]) -> Result<Summary, HeapFault>
     if !has_descriptor(image) {
         return Err(HeapFault::BadDescriptor);
     }
-    let base = word_in(image, 8);
-    if !is_link(image, base, 4, FIRST_PLACE) {
+    let base = word_in(image, HEAP_BASE);
+    if !is_link(image, base, HEAP_FREE, HEAP_FIRST) {
         return Err(HeapFault::BadLink);
     }
     check_segments(image, base)
@@ -110,8 +113,8 @@ fn check_segments(image: &[u8], base: usize) -> Result<Summary, HeapFault>
         hole_bytes: 0,
         top: image.len() - base,
     };
-    let mut from = 4;
-    let mut place = FIRST_PLACE;
+    let mut from = HEAP_FREE;
+    let mut place = HEAP_FIRST;
     'walk: while place < base {
         let next = next_place(image, base, from);
         if place < next {
@@ -123,7 +126,7 @@ fn check_segments(image: &[u8], base: usize) -> Result<Summary, HeapFault>
             sums.used_bytes += size;
             place += size;
         } else {
-            let size = word_in(image, place + 4);
+            let size = word_in(image, place + HOLE_SIZE);
             if !is_size(size) || base <= place + size {
                 return Err(HeapFault::BadSize);
             }
@@ -144,12 +147,12 @@ pub fn segments(image: &[u8]) -> SegmentIter<'_>
     requires { IsImage image.now (heap_of image.now 0) }
     ensures { left result ≡ listed 16 (heap_of image.now 0).segments }
 {
-    let base = word_in(image, 8);
+    let base = word_in(image, HEAP_BASE);
     SegmentIter {
         image,
         base,
-        from: 4,
-        place: 16,
+        from: HEAP_FREE,
+        place: HEAP_FIRST,
     }
 }
 
@@ -167,7 +170,7 @@ impl Iterator for SegmentIter<'_> {
         }
         let link = word_in(self.image, self.from);
         if self.from + link == place {
-            let size = word_in(self.image, place + 4);
+            let size = word_in(self.image, place + HOLE_SIZE);
             self.from = place;
             self.place = place + size;
             Some(Segment {

@@ -15,9 +15,9 @@ pub mod segments;
 mod stretch;
 mod words;
 
-use crate::layout::{FIRST_PLACE, SPECIAL};
 use crate::span::words::{read, write};
 use rh_defs::HeapRefusal;
+use rh_defs::sizes::{HEAP_BASE, HEAP_END, HEAP_FIRST, HEAP_FREE, HEAP_SPECIAL, HEAP_WORD, moved};
 use rh_store::{AreaId, Words};
 
 /// Where a heap stands: in an area, from an offset in bytes on. Its length is read from its words.
@@ -25,20 +25,6 @@ use rh_store::{AreaId, Words};
 pub struct Span {
     pub area: AreaId,
     pub at: usize,
-}
-
-/// A number moved by a signed amount, 0 where that would be below 0.
-pub fn moved(n: usize, delta: i32) -> usize
-    requires { n < 2 ^ 40 }
-    ensures value { result ≡ moved n delta }
-    ensures bound { result ≤ n + 2 ^ 31 }
-{
-    let amount = delta.unsigned_abs() as usize;
-    if delta < 0 {
-        n.saturating_sub(amount)
-    } else {
-        n + amount
-    }
 }
 
 /// Makes the first `end` bytes of a span an empty heap. `end` is a multiple of 8, and at least 16. (OS_Heap 0.)
@@ -52,10 +38,10 @@ pub fn init<S: Words>(store: &mut S, span: Span, end: usize)
     ensures still { IsSpan (S.memory store.new) span }
     ensures only { Edited (S.memory store.old) (S.memory store.new) span.area.0 span.at (span.at + end) }
 {
-    write(store, span, 0, SPECIAL);
-    write(store, span, 4, 0);
-    write(store, span, 8, FIRST_PLACE);
-    write(store, span, 12, end);
+    write(store, span, HEAP_SPECIAL, HEAP_WORD);
+    write(store, span, HEAP_FREE, 0);
+    write(store, span, HEAP_BASE, HEAP_FIRST);
+    write(store, span, HEAP_END, end);
 }
 
 /// The heap's end: its length in bytes.
@@ -63,7 +49,7 @@ pub fn end<S: Words>(store: &S, span: Span) -> usize
     requires { IsSpan (S.memory store.now) span }
     ensures { result ≡ (heap_in (S.memory store.now) span).end }
 {
-    read(store, span, 12)
+    read(store, span, HEAP_END)
 }
 
 /// Moves a heap's end by `delta` bytes, a multiple of 8. The bytes up to the new end are in the area. Refused
@@ -75,10 +61,10 @@ pub fn extend_heap<S: Words>(store: &mut S, span: Span, delta: i32) -> Result<()
     ensures { Leaves (S.memory store.old) (S.memory store.new) span
         (no_answer (extend delta (heap_in (S.memory store.old) span))) result }
 {
-    let end = moved(read(store, span, 12), delta);
-    if end < read(store, span, 8) {
+    let end = moved(read(store, span, HEAP_END), delta);
+    if end < read(store, span, HEAP_BASE) {
         return Err(HeapRefusal::ExcessiveShrink);
     }
-    write(store, span, 12, end);
+    write(store, span, HEAP_END, end);
     Ok(())
 }

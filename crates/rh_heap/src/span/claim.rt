@@ -2,28 +2,20 @@
 ghost use Rattle.std.specs.Prelude.{◌≡◌, ◌≢◌, ℕ, ◌+◌, ◌-◌, ◌%◌, ◌^◌, ◌<◌, ◌≤◌, length, replicate, None, MatchOption};
 ghost use Rattle.rh_defs.specs.Bytes.{word, part};
 ghost use Rattle.rh_defs.specs.Memory.{Memory, IsOpen, Edited, bytes};
-ghost use Rattle.rh_defs.specs.Heap.{Heap, hole_for, shortage_in, segment_size, base, claim, claim_need};
+ghost use Rattle.rh_defs.specs.Heap.{Heap, hole_for, shortage_in, base, claim, claim_need};
 ghost use Rattle.rh_heap.specs.Spans.{IsSpan, OnlySpan, bytes_in, heap_in};
 ghost use Rattle.rh_heap.specs.Calls.{Leaves};
 ghost use Rattle.rh_heap.specs.Claims.{Took};
 ghost use Rattle.rh_heap.specs.Holes.{FoundHole};
 
+use crate::layout::BLOCK;
 use crate::span::Span;
 use crate::span::holes::{Gap, find};
 use crate::span::stretch::{Stretch, settle};
 use crate::span::words::{clear, follow, read, write};
 use rh_defs::HeapRefusal;
+use rh_defs::sizes::{HEAP_BASE, HEAP_END, segment_size};
 use rh_store::Words;
-
-/// The size of a segment for a block of `n` bytes: with a word for its size, a multiple of 8.
-pub fn segment_size(n: usize) -> usize
-    requires { n < 2 ^ 40 }
-    ensures size { result ≡ segment_size n }
-    ensures least { 8 ≤ result }
-    ensures bound { result ≤ n + 11 }
-{
-    (n + 11) / 8 * 8
-}
 
 /// Writes a used segment of `size` bytes with a block of zeros.
 fn put_zeros<S: Words>(store: &mut S, span: Span, place: usize, size: usize)
@@ -35,7 +27,7 @@ fn put_zeros<S: Words>(store: &mut S, span: Span, place: usize, size: usize)
     ensures only { Edited (S.memory store.old) (S.memory store.new) span.area.0 (span.at + place) (span.at + place + size) }
 {
     write(store, span, place, size);
-    clear(store, span, place + 4, size - 4);
+    clear(store, span, place + BLOCK, size - BLOCK);
 }
 
 /// Puts a block of zeros into the lower bytes of a hole.
@@ -73,7 +65,7 @@ fn append<S: Words>(store: &mut S, span: Span, top: usize, size: usize)
     ensures only { OnlySpan (S.memory store.old) (S.memory store.new) span }
 {
     put_zeros(store, span, top, size);
-    write(store, span, 8, top + size);
+    write(store, span, HEAP_BASE, top + size);
 }
 
 /// Puts a block of zeros into a segment of `size` bytes, in the first hole with room or above all segments.
@@ -91,15 +83,15 @@ pub fn take<S: Words>(store: &mut S, span: Span, size: usize) -> Option<usize>
     match find(store, span, size) {
         Some(gap) => {
             fill(store, span, gap, size);
-            Some(gap.place + 4)
+            Some(gap.place + BLOCK)
         }
         None => {
-            let top = read(store, span, 8);
-            if read(store, span, 12) < top + size {
+            let top = read(store, span, HEAP_BASE);
+            if read(store, span, HEAP_END) < top + size {
                 return None;
             }
             append(store, span, top, size);
-            Some(top + 4)
+            Some(top + BLOCK)
         }
     }
 }
@@ -112,7 +104,7 @@ pub fn shortage<S: Words>(store: &S, span: Span, size: usize) -> usize
 {
     match find(store, span, size) {
         Some(_) => 0,
-        None => (read(store, span, 8) + size).saturating_sub(read(store, span, 12)),
+        None => (read(store, span, HEAP_BASE) + size).saturating_sub(read(store, span, HEAP_END)),
     }
 }
 

@@ -5,8 +5,10 @@ ghost use Rattle.rh_defs.specs.Heap.{hole_for, largest, free_bytes};
 ghost use Rattle.rh_heap.specs.Spans.{IsSpan, bytes_in, heap_in};
 ghost use Rattle.rh_heap.specs.Holes.{FoundHole};
 
+use crate::layout::{BLOCK, HOLE_SIZE};
 use crate::span::Span;
 use crate::span::words::{follow, read};
+use rh_defs::sizes::{HEAP_BASE, HEAP_END, HEAP_FREE};
 use rh_store::Words;
 
 /// A hole of a heap, and the place of the link that leads to it.
@@ -23,13 +25,13 @@ pub fn find<S: Words>(store: &S, span: Span, size: usize) -> Option<Gap>
     ensures { MatchOption result (hole_for size (heap_in (S.memory store.now) span).segments ≡ None)
         (λ gap. FoundHole span.at (heap_in (S.memory store.now) span) size gap) }
 {
-    let mut from = 4;
+    let mut from = HEAP_FREE;
     'walk: loop {
         let place = follow(store, span, from);
         if place == 0 {
             return None;
         }
-        let room = read(store, span, place + 4);
+        let room = read(store, span, place + HOLE_SIZE);
         if size <= room {
             return Some(Gap {
                 from,
@@ -48,16 +50,16 @@ pub fn describe<S: Words>(store: &S, span: Span) -> (usize, usize)
     ensures largest { result.0 ≡ largest (heap_in (S.memory store.now) span) }
     ensures total { result.1 ≡ free_bytes (heap_in (S.memory store.now) span) }
 {
-    let top = read(store, span, 12) - read(store, span, 8);
+    let top = read(store, span, HEAP_END) - read(store, span, HEAP_BASE);
     let mut largest = top;
     let mut total = top;
-    let mut link = 4;
+    let mut link = HEAP_FREE;
     'walk: loop {
         let place = follow(store, span, link);
         if place == 0 {
-            return (largest.saturating_sub(4), total);
+            return (largest.saturating_sub(BLOCK), total);
         }
-        let size = read(store, span, place + 4);
+        let size = read(store, span, place + HOLE_SIZE);
         largest = largest.max(size);
         total += size;
         link = place;

@@ -8,14 +8,16 @@ ghost use Rattle.rh_heap.specs.Calls.{Leaves};
 ghost use Rattle.rh_heap.specs.Segments.{FoundBlock};
 ghost use Rattle.rh_heap.specs.Ways.{WayOf, ShortBy, Changed, NotChanged, WithBlock, SpellsResized, Moved};
 
-use crate::span::claim::{segment_size, shortage, take};
+use crate::layout::{BLOCK, HOLE_SIZE};
+use crate::span::Span;
+use crate::span::claim::{shortage, take};
 use crate::span::holes::find;
 use crate::span::release::release;
 use crate::span::segments::{Spot, locate};
 use crate::span::stretch::{Stretch, settle};
 use crate::span::words::{clear, follow, move_bytes, read, write};
-use crate::span::{Span, moved};
 use rh_defs::HeapRefusal;
+use rh_defs::sizes::{HEAP_BASE, HEAP_END, moved, segment_size};
 use rh_store::Words;
 
 /// How a block gets another size: it stays, its upper bytes become a hole, it grows into the hole of so many bytes
@@ -44,16 +46,16 @@ pub fn way_to<S: Words>(store: &S, span: Span, spot: Spot, size: usize) -> Way
     }
     let upper = spot.place + spot.size;
     if follow(store, span, spot.from) == upper {
-        let room = read(store, span, upper + 4);
+        let room = read(store, span, upper + HOLE_SIZE);
         if size <= spot.size + room {
             return Way::IntoHole(room);
         }
         return Way::Moves;
     }
-    if upper != read(store, span, 8) {
+    if upper != read(store, span, HEAP_BASE) {
         return Way::Moves;
     }
-    if spot.place + size <= read(store, span, 12) {
+    if spot.place + size <= read(store, span, HEAP_END) {
         return Way::AtTop;
     }
     match find(store, span, size) {
@@ -136,7 +138,7 @@ fn raise<S: Words>(store: &mut S, span: Span, spot: Spot, size: usize)
     ensures only { OnlySpan (S.memory store.old) (S.memory store.new) span }
 {
     lengthen(store, span, spot, size);
-    write(store, span, 8, spot.place + size);
+    write(store, span, HEAP_BASE, spot.place + size);
 }
 
 /// Moves a block to a segment of `size` bytes elsewhere, with zeros behind its bytes, and releases the old one.
@@ -154,8 +156,8 @@ fn move_block<S: Words>(store: &mut S, span: Span, spot: Spot, size: usize) -> O
 {
     match take(store, span, size) {
         Some(address) => {
-            move_bytes(store, span, spot.place + 4, address, spot.size - 4);
-            release(store, span, spot.place + 4).unwrap();
+            move_bytes(store, span, spot.place + BLOCK, address, spot.size - BLOCK);
+            release(store, span, spot.place + BLOCK).unwrap();
             Some(address)
         }
         None => None,
@@ -180,21 +182,21 @@ fn change<S: Words>(
     ensures only { OnlySpan (S.memory store.old) (S.memory store.new) span }
 {
     match way_to(store, span, spot, size) {
-        Way::Stays => Ok(spot.place + 4),
+        Way::Stays => Ok(spot.place + BLOCK),
         Way::Shrinks => {
             shrink(store, span, spot, size);
-            Ok(spot.place + 4)
+            Ok(spot.place + BLOCK)
         }
         Way::IntoHole(room) => {
             widen(store, span, spot, size, room);
-            Ok(spot.place + 4)
+            Ok(spot.place + BLOCK)
         }
         Way::AtTop => {
-            if read(store, span, 12) < spot.place + size {
+            if read(store, span, HEAP_END) < spot.place + size {
                 return Err(HeapRefusal::NoRoom);
             }
             raise(store, span, spot, size);
-            Ok(spot.place + 4)
+            Ok(spot.place + BLOCK)
         }
         Way::Moves => match move_block(store, span, spot, size) {
             Some(address) => Ok(address),
@@ -214,7 +216,7 @@ fn short_by<S: Words>(store: &S, span: Span, spot: Spot, size: usize) -> usize
         Way::Stays => 0,
         Way::Shrinks => 0,
         Way::IntoHole(_) => 0,
-        Way::AtTop => (spot.place + size).saturating_sub(read(store, span, 12)),
+        Way::AtTop => (spot.place + size).saturating_sub(read(store, span, HEAP_END)),
         Way::Moves => shortage(store, span, size),
     }
 }
@@ -234,7 +236,7 @@ pub fn resize<S: Words>(
 {
     match locate(store, span, address) {
         Some(spot) => {
-            let n = moved(spot.size - 4, delta);
+            let n = moved(spot.size - BLOCK, delta);
             if n == 0 {
                 return Err(HeapRefusal::BadSize);
             }
@@ -256,7 +258,7 @@ pub fn resize_need<S: Words>(
 {
     match locate(store, span, address) {
         Some(spot) => {
-            let n = moved(spot.size - 4, delta);
+            let n = moved(spot.size - BLOCK, delta);
             if n == 0 {
                 return Err(HeapRefusal::BadSize);
             }

@@ -2,15 +2,15 @@
 ghost use Rattle.std.specs.Prelude.{◌≡◌, ℕ, ◌+◌, ◌<◌, ◌≤◌, length, None, MatchOption, is_some, ok_or};
 ghost use Rattle.std.specs.Option.{option_map};
 ghost use Rattle.rh_defs.specs.Memory.{Memory, IsOpen, bytes};
-ghost use Rattle.rh_defs.specs.Pieces.{is_inside};
 ghost use Rattle.rh_defs.specs.Heap.{segment_at, block_at, block_around, block_size, base};
 ghost use Rattle.rh_heap.specs.Spans.{IsSpan, bytes_in, heap_in};
 ghost use Rattle.rh_heap.specs.Segments.{Found, FoundBlock, Walking, piece};
 
-use crate::layout::Segment;
+use crate::layout::{BLOCK, HOLE_SIZE, Segment};
 use crate::span::Span;
 use crate::span::words::{follow, read};
 use rh_defs::HeapRefusal;
+use rh_defs::sizes::{HEAP_BASE, HEAP_FIRST, HEAP_FREE, is_inside};
 use rh_store::Words;
 
 /// A segment of a heap, its size in bytes, and whether it is used. The link before it is at `from`. A hole made
@@ -40,7 +40,7 @@ fn spot_at<S: Words>(
     ensures { Found span.at (heap_in (S.memory store.now) span) place result }
 {
     if follow(store, span, from) == place {
-        let size = read(store, span, place + 4);
+        let size = read(store, span, place + HOLE_SIZE);
         Spot {
             place,
             size,
@@ -68,17 +68,17 @@ pub fn find_segment<S: Words>(store: &S, span: Span, target: usize) -> Option<Sp
     ensures { MatchOption result (segment_at target (heap_in (S.memory store.now) span) ≡ None)
         (λ spot. Found span.at (heap_in (S.memory store.now) span) target spot) }
 {
-    if read(store, span, 8) <= target {
+    if read(store, span, HEAP_BASE) <= target {
         return None;
     }
-    let mut link = 4;
-    let mut low = 16;
-    let mut from = 4;
-    let mut place = 16;
+    let mut link = HEAP_FREE;
+    let mut low = HEAP_FIRST;
+    let mut from = HEAP_FREE;
+    let mut place = HEAP_FIRST;
     'walk: while place < target {
         let next = follow(store, span, from);
         if next == place {
-            let size = read(store, span, place + 4);
+            let size = read(store, span, place + HOLE_SIZE);
             link = from;
             low = place;
             from = place;
@@ -102,10 +102,10 @@ pub fn locate<S: Words>(store: &S, span: Span, address: usize) -> Option<Spot>
     ensures { MatchOption result (block_at address (heap_in (S.memory store.now) span) ≡ None)
         (λ spot. FoundBlock span.at (heap_in (S.memory store.now) span) address spot) }
 {
-    if address < 4 {
+    if address < BLOCK {
         return None;
     }
-    match find_segment(store, span, address - 4) {
+    match find_segment(store, span, address - BLOCK) {
         Some(spot) => { if spot.used { Some(spot) } else { None } }
         None => None,
     }
@@ -117,7 +117,7 @@ pub fn block_size<S: Words>(store: &S, span: Span, address: usize) -> Result<usi
     ensures { result ≡ ok_or (block_size address (heap_in (S.memory store.now) span)) HeapRefusal.NotABlock }
 {
     match locate(store, span, address) {
-        Some(spot) => Ok(spot.size - 4),
+        Some(spot) => Ok(spot.size - BLOCK),
         None => Err(HeapRefusal::NotABlock),
     }
 }
@@ -137,29 +137,22 @@ pub fn segment<S: Words>(store: &S, span: Span, place: usize) -> Option<Segment>
     }
 }
 
-/// Whether the `n` bytes at `x` lie whole in the `m` bytes at `a`.
-fn is_inside(x: usize, n: usize, a: usize, m: usize) -> bool
-    ensures { result ≡ is_inside x n a m }
-{
-    a <= x && x - a <= m && n <= m - (x - a)
-}
-
 /// Whether the `n` bytes at an address lie whole in one used block, also where `n` is 0. Any address and any `n` may
 /// be asked for.
 pub fn holds<S: Words>(store: &S, span: Span, address: usize, n: usize) -> bool
     requires { IsSpan (S.memory store.now) span }
     ensures { result ≡ is_some (block_around address n (heap_in (S.memory store.now) span)) }
 {
-    let base = read(store, span, 8);
-    let mut from = 4;
-    let mut place = 16;
+    let base = read(store, span, HEAP_BASE);
+    let mut from = HEAP_FREE;
+    let mut place = HEAP_FIRST;
     'walk: while place < base {
         if follow(store, span, from) == place {
             from = place;
-            place += read(store, span, place + 4);
+            place += read(store, span, place + HOLE_SIZE);
         } else {
             let size = read(store, span, place);
-            if is_inside(address, n, place + 4, size - 4) {
+            if is_inside(address, n, place + BLOCK, size - BLOCK) {
                 return true;
             }
             place += size;

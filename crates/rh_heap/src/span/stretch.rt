@@ -4,8 +4,10 @@ ghost use Rattle.rh_defs.specs.Memory.{Memory, IsOpen, Edited, bytes};
 ghost use Rattle.rh_heap.specs.Spans.{bytes_in};
 ghost use Rattle.rh_heap.specs.Stretches.{IsStretch, Settles, PutsHole};
 
+use crate::layout::HOLE_SIZE;
 use crate::span::Span;
 use crate::span::words::{follow, read, write, write_link};
+use rh_defs::sizes::HEAP_BASE;
 use rh_store::Words;
 
 /// A stretch of a heap's bytes from `low` up to `upper` that belongs to no segment. The link before it is at
@@ -28,7 +30,12 @@ fn put_hole<S: Words>(store: &mut S, span: Span, stretch: Stretch)
 {
     write_link(store, span, stretch.link, stretch.low);
     write_link(store, span, stretch.low, stretch.next);
-    write(store, span, stretch.low + 4, stretch.upper - stretch.low);
+    write(
+        store,
+        span,
+        stretch.low + HOLE_SIZE,
+        stretch.upper - stretch.low,
+    );
 }
 
 /// Makes a stretch a hole, which joins one that follows. At the base it becomes a part of the top.
@@ -38,13 +45,13 @@ pub fn settle<S: Words>(store: &mut S, span: Span, stretch: Stretch)
     ensures settles { Settles (bytes_in (S.memory store.old) span) (bytes_in (S.memory store.new) span) span.at stretch }
     ensures only { Edited (S.memory store.old) (S.memory store.new) span.area.0 span.at (span.at + stretch.upper) }
 {
-    if stretch.upper == read(store, span, 8) {
+    if stretch.upper == read(store, span, HEAP_BASE) {
         write_link(store, span, stretch.link, 0);
-        write(store, span, 8, stretch.low);
+        write(store, span, HEAP_BASE, stretch.low);
     } else if stretch.low == stretch.upper {
         write_link(store, span, stretch.link, stretch.next);
     } else if stretch.next == stretch.upper {
-        let size = read(store, span, stretch.upper + 4);
+        let size = read(store, span, stretch.upper + HOLE_SIZE);
         let next = follow(store, span, stretch.upper);
         put_hole(
             store,
