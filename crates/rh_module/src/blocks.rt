@@ -8,9 +8,9 @@ ghost use Rattle.rh_heap.specs.Segments.{piece};
 ghost use Rattle.rh_module.specs.Area.{IsModule, heap_in};
 ghost use Rattle.rh_module.specs.Calls.{Leaves};
 
-use crate::length::pages_for;
 use crate::module::Module;
 use rh_defs::Refusal;
+use rh_defs::sizes::pages_for;
 use rh_heap::{Segment, claim, need, release, resize, resize_need};
 use rh_store::{Pages, Words};
 
