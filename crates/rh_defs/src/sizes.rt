@@ -4,7 +4,7 @@ ghost use Rattle.std.specs.Prelude.{◌≡◌, ℕ, ◌+◌, ◌*◌, ◌^◌, �
 ghost use Rattle.rh_defs.specs.Heap.{segment_size};
 ghost use Rattle.rh_defs.specs.Pieces.{is_inside, moved, pages_for};
 ghost use Rattle.rh_defs.specs.Slot.{flex_weight};
-ghost use Rattle.rh_defs.specs.declared.sizes.TheConstants.{FIXED_AREAS, MADE_AREAS, MAX_AREAS, MAX_PAGES, MAX_TASKS, MIN_PAGES, PAGE};
+ghost use Rattle.rh_defs.specs.declared.sizes.TheConstants.{FIXED_AREAS, HEAP_UNIT, MADE_AREAS, MAX_AREAS, MAX_PAGES, MAX_TASKS, MIN_PAGES, PAGE, WORD};
 
 /// The bytes of a word, the unit of all layouts.
 pub const WORD: usize = 4;
@@ -123,8 +123,8 @@ pub fn is_inside(x: usize, n: usize, a: usize, m: usize) -> bool
 pub fn segment_size(n: usize) -> usize
     requires { n < 2 ^ 40 }
     ensures size { result ≡ segment_size n }
-    ensures least { 8 ≤ result }
-    ensures bound { result ≤ n + 11 }
+    ensures least { HEAP_UNIT ≤ result }
+    ensures bound { result < n + WORD + HEAP_UNIT }
 {
     (n + WORD + (HEAP_UNIT - 1)) / HEAP_UNIT * HEAP_UNIT
 }

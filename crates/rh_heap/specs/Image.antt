@@ -8,13 +8,14 @@ use Rattle.rh_defs.specs.declared.heap.HeapFault.{HeapFault}
 use Rattle.rh_heap.specs.declared.image.segment_iter.SegmentIter.{SegmentIter}
 use Rattle.rh_heap.specs.declared.image.Summary.{Summary}
 use Rattle.rh_heap.specs.declared.layout.Segment.{Segment}
+use Rattle.rh_heap.specs.declared.layout.TheConstants.{BLOCK}
 
 abbrev pub used_count : heap.Segment → ℕ
 used_count (Used bytes) = 1
 used_count (Hole size) = 0
 
 abbrev pub used_size : heap.Segment → ℕ
-used_size (Used bytes) = 4 + length bytes
+used_size (Used bytes) = BLOCK + length bytes
 used_size (Hole size) = 0
 
 abbrev pub hole_count : heap.Segment → ℕ
@@ -39,7 +40,7 @@ fault_in (Err fault) = Some fault
 -- segments one after the other, with their places
 abbrev pub listed : ℕ → List heap.Segment → List Segment
 listed place [] = []
-listed place (Used bytes ∷ rest) = record { place = place; size = 4 + length bytes; used = true } ∷ listed (place + (4 + length bytes)) rest
+listed place (Used bytes ∷ rest) = record { place = place; size = BLOCK + length bytes; used = true } ∷ listed (place + (BLOCK + length bytes)) rest
 listed place (Hole size ∷ rest) = record { place = place; size = size; used = false } ∷ listed (place + size) rest
 
 -- those that are left

@@ -6,12 +6,13 @@ use Rattle.rh_defs.specs.Heap.{Segment, Hole, IsTidy, size_of, with_hole}
 use Rattle.rh_defs.specs.HeapImage.{Spells}
 use Rattle.rh_defs.specs.HeapParts.{HasStretch}
 use Rattle.rh_heap.specs.declared.span.stretch.Stretch.{Stretch}
+use Rattle.rh_defs.specs.declared.sizes.TheConstants.{HEAP_BASE, HEAP_FIRST, HEAP_FREE, HEAP_UNIT, WORD}
 
 -- The stretch stands open between segments that are right, and the base is that above the last of them.
 pub record StretchBetween (b : List ℕ) (at end : ℕ) (xs ys : List Segment) (stretch : Stretch) : Type 0 where
   pub has : HasStretch b at end xs ys (at + stretch.link) (at + stretch.low) stretch.next (at + stretch.upper)
-  pub based : word b (at + 8) ≡ stretch.upper + total size_of ys
-  pub multiple : (stretch.upper - stretch.low) % 8 ≡ 0
+  pub based : word b (at + HEAP_BASE) ≡ stretch.upper + total size_of ys
+  pub multiple : (stretch.upper - stretch.low) % HEAP_UNIT ≡ 0
   pub tidy_before : IsTidy false xs
   pub tidy_behind : IsTidy false ys
 
@@ -21,9 +22,9 @@ pub record IsStretch (b : List ℕ) (at : ℕ) (stretch : Stretch) : Type 0 wher
   pub before : List Segment
   pub behind : List Segment
   pub between : StretchBetween b at end before behind stretch
-  pub least : 4 ≤ stretch.link
-  pub link_below : stretch.link + 4 ≤ stretch.low
-  pub above : 16 ≤ stretch.low
+  pub least : HEAP_FREE ≤ stretch.link
+  pub link_below : stretch.link + WORD ≤ stretch.low
+  pub above : HEAP_FIRST ≤ stretch.low
   pub order : stretch.low ≤ stretch.upper
   pub inside : at + stretch.upper ≤ length b
   pub next_ahead : stretch.next ≢ 0 → stretch.upper ≤ stretch.next

@@ -4,6 +4,7 @@ ghost use Rattle.std.specs.Iterator.{YieldsFirst, item_count};
 ghost use Rattle.rh_defs.specs.Bytes.{word};
 ghost use Rattle.rh_defs.specs.HeapImage.{IsImage, heap_of, is_size, is_link, next_place, has_descriptor, fault_of};
 ghost use Rattle.rh_heap.specs.Image.{summary_of, fault_in, listed, left};
+ghost use Rattle.rh_defs.specs.declared.sizes.TheConstants.{HEAP_BASE, HEAP_FIRST, HEAP_FREE, WORD};
 
 mod segment_iter;
 
@@ -27,7 +28,7 @@ pub struct Summary {
 /// The word of four bytes in little-endian order at a place.
 #[tactic(auto, unfolding(rh_defs::specs::Bytes::word))]
 pub fn word_in(image: &[u8], at: usize) -> usize
-    requires { at + 4 ≤ length image.now }
+    requires { at + WORD ≤ length image.now }
     ensures value { result ≡ word image.now at }
     ensures bound { result < 2 ^ 32 }
 {
@@ -59,7 +60,7 @@ fn has_descriptor(image: &[u8]) -> bool
 
 /// Whether the link at `from` is 0, or leads to a place from `least` on where a hole has room below `base`.
 fn is_link(image: &[u8], base: usize, from: usize, least: usize) -> bool
-    requires within { from + 4 ≤ length image.now }
+    requires within { from + WORD ≤ length image.now }
     requires small { from < 2 ^ 40 }
     ensures { result ≡ is_link image.now base from least }
 {
@@ -70,7 +71,7 @@ fn is_link(image: &[u8], base: usize, from: usize, least: usize) -> bool
 
 /// Where the link at `from` leads, or `base` where there is none.
 fn next_place(image: &[u8], base: usize, from: usize) -> usize
-    requires within { from + 4 ≤ length image.now }
+    requires within { from + WORD ≤ length image.now }
     requires small { from < 2 ^ 40 }
     ensures { result ≡ next_place image.now base from }
 {
@@ -99,9 +100,9 @@ pub fn check(image: &[u8]) -> Result<Summary, HeapFault>
 /// The same, place by place, where the descriptor and the link to the first hole are right.
 fn check_segments(image: &[u8], base: usize) -> Result<Summary, HeapFault>
     requires descriptor { has_descriptor image.now ≡ true }
-    requires at_base { base ≡ word image.now 8 }
+    requires at_base { base ≡ word image.now HEAP_BASE }
     requires bound { base < 2 ^ 32 }
-    requires link { is_link image.now base 4 16 ≡ true }
+    requires link { is_link image.now base HEAP_FREE HEAP_FIRST ≡ true }
     ensures ok { IsOk result ↔ IsImage image.now (heap_of image.now 0) }
     ensures sums { IfOk result (λ sums. sums ≡ summary_of (heap_of image.now 0)) }
     ensures fault { fault_in result ≡ fault_of image.now }
@@ -145,7 +146,7 @@ fn check_segments(image: &[u8], base: usize) -> Result<Summary, HeapFault>
 /// The segments of an image that `check` accepts.
 pub fn segments(image: &[u8]) -> SegmentIter<'_>
     requires { IsImage image.now (heap_of image.now 0) }
-    ensures { left result ≡ listed 16 (heap_of image.now 0).segments }
+    ensures { left result ≡ listed HEAP_FIRST (heap_of image.now 0).segments }
 {
     let base = word_in(image, HEAP_BASE);
     SegmentIter {

@@ -6,6 +6,7 @@ ghost use Rattle.rh_defs.specs.Chain.{no_answer};
 ghost use Rattle.rh_defs.specs.Heap.{empty_heap, extend};
 ghost use Rattle.rh_heap.specs.Spans.{IsSpan, SpellsIn, bytes_in, heap_in};
 ghost use Rattle.rh_heap.specs.Calls.{Leaves};
+ghost use Rattle.rh_defs.specs.declared.sizes.TheConstants.{HEAP_FIRST, HEAP_UNIT};
 
 pub mod claim;
 pub mod holes;
@@ -31,8 +32,8 @@ pub struct Span {
 pub fn init<S: Words>(store: &mut S, span: Span, end: usize)
     requires opened { IsOpen (S.memory store.old) span.area.0 }
     requires within { span.at + end ≤ length (bytes_in (S.memory store.old) span) }
-    requires least { 16 ≤ end }
-    requires multiple { end % 8 ≡ 0 }
+    requires least { HEAP_FIRST ≤ end }
+    requires multiple { end % HEAP_UNIT ≡ 0 }
     ensures heap { heap_in (S.memory store.new) span ≡ empty_heap end }
     ensures spells { SpellsIn (S.memory store.new) span (empty_heap end) }
     ensures still { IsSpan (S.memory store.new) span }
@@ -56,7 +57,7 @@ pub fn end<S: Words>(store: &S, span: Span) -> usize
 /// (`ExcessiveShrink`) exactly where the end would be below the last block. (OS_Heap 5.)
 pub fn extend_heap<S: Words>(store: &mut S, span: Span, delta: i32) -> Result<(), HeapRefusal>
     requires span { IsSpan (S.memory store.old) span }
-    requires multiple { moved (heap_in (S.memory store.old) span).end delta % 8 ≡ 0 }
+    requires multiple { moved (heap_in (S.memory store.old) span).end delta % HEAP_UNIT ≡ 0 }
     requires within { span.at + moved (heap_in (S.memory store.old) span).end delta ≤ length (bytes_in (S.memory store.old) span) }
     ensures { Leaves (S.memory store.old) (S.memory store.new) span
         (no_answer (extend delta (heap_in (S.memory store.old) span))) result }

@@ -7,6 +7,8 @@ ghost use Rattle.rh_heap.specs.Spans.{IsSpan, OnlySpan, bytes_in, heap_in};
 ghost use Rattle.rh_heap.specs.Calls.{Leaves};
 ghost use Rattle.rh_heap.specs.Claims.{Took};
 ghost use Rattle.rh_heap.specs.Holes.{FoundHole};
+ghost use Rattle.rh_defs.specs.declared.sizes.TheConstants.{HEAP_UNIT};
+ghost use Rattle.rh_heap.specs.declared.layout.TheConstants.{BLOCK};
 
 use crate::layout::BLOCK;
 use crate::span::Span;
@@ -21,9 +23,9 @@ use rh_store::Words;
 fn put_zeros<S: Words>(store: &mut S, span: Span, place: usize, size: usize)
     requires opened { IsOpen (S.memory store.old) span.area.0 }
     requires within { span.at + place + size ≤ length (bytes_in (S.memory store.old) span) }
-    requires least { 8 ≤ size }
+    requires least { HEAP_UNIT ≤ size }
     ensures size { word (bytes_in (S.memory store.new) span) (span.at + place) ≡ size }
-    ensures zeros { part (bytes_in (S.memory store.new) span) (span.at + place + 4) (size - 4) ≡ replicate (size - 4) 0 }
+    ensures zeros { part (bytes_in (S.memory store.new) span) (span.at + place + BLOCK) (size - BLOCK) ≡ replicate (size - BLOCK) 0 }
     ensures only { Edited (S.memory store.old) (S.memory store.new) span.area.0 (span.at + place) (span.at + place + size) }
 {
     write(store, span, place, size);
@@ -34,9 +36,9 @@ fn put_zeros<S: Words>(store: &mut S, span: Span, place: usize, size: usize)
 fn fill<S: Words>(store: &mut S, span: Span, gap: Gap, size: usize)
     requires span { IsSpan (S.memory store.old) span }
     requires gap { FoundHole span.at (heap_in (S.memory store.old) span) size gap }
-    requires least { 8 ≤ size }
-    requires multiple { size % 8 ≡ 0 }
-    ensures took { Took (S.memory store.old) (S.memory store.new) span size (gap.place + 4) }
+    requires least { HEAP_UNIT ≤ size }
+    requires multiple { size % HEAP_UNIT ≡ 0 }
+    ensures took { Took (S.memory store.old) (S.memory store.new) span size (gap.place + BLOCK) }
     ensures only { OnlySpan (S.memory store.old) (S.memory store.new) span }
 {
     let next = follow(store, span, gap.place);
@@ -59,9 +61,9 @@ fn append<S: Words>(store: &mut S, span: Span, top: usize, size: usize)
     requires none { hole_for size (heap_in (S.memory store.old) span).segments ≡ None }
     requires top { top ≡ base (heap_in (S.memory store.old) span) }
     requires room { top + size ≤ (heap_in (S.memory store.old) span).end }
-    requires least { 8 ≤ size }
-    requires multiple { size % 8 ≡ 0 }
-    ensures took { Took (S.memory store.old) (S.memory store.new) span size (top + 4) }
+    requires least { HEAP_UNIT ≤ size }
+    requires multiple { size % HEAP_UNIT ≡ 0 }
+    ensures took { Took (S.memory store.old) (S.memory store.new) span size (top + BLOCK) }
     ensures only { OnlySpan (S.memory store.old) (S.memory store.new) span }
 {
     put_zeros(store, span, top, size);
@@ -71,8 +73,8 @@ fn append<S: Words>(store: &mut S, span: Span, top: usize, size: usize)
 /// Puts a block of zeros into a segment of `size` bytes, in the first hole with room or above all segments.
 pub fn take<S: Words>(store: &mut S, span: Span, size: usize) -> Option<usize>
     requires span { IsSpan (S.memory store.old) span }
-    requires least { 8 ≤ size }
-    requires multiple { size % 8 ≡ 0 }
+    requires least { HEAP_UNIT ≤ size }
+    requires multiple { size % HEAP_UNIT ≡ 0 }
     requires small { size < 2 ^ 40 }
     ensures took { MatchOption result
         ((shortage_in size (heap_in (S.memory store.old) span) (hole_for size (heap_in (S.memory store.old) span).segments) ≢ 0)

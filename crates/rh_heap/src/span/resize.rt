@@ -7,6 +7,8 @@ ghost use Rattle.rh_heap.specs.Spans.{IsSpan, OnlySpan, bytes_in, heap_in};
 ghost use Rattle.rh_heap.specs.Calls.{Leaves};
 ghost use Rattle.rh_heap.specs.Segments.{FoundBlock};
 ghost use Rattle.rh_heap.specs.Ways.{WayOf, ShortBy, Changed, NotChanged, WithBlock, SpellsResized, Moved};
+ghost use Rattle.rh_defs.specs.declared.sizes.TheConstants.{HEAP_UNIT};
+ghost use Rattle.rh_heap.specs.declared.layout.TheConstants.{BLOCK};
 
 use crate::layout::{BLOCK, HOLE_SIZE};
 use crate::span::Span;
@@ -34,7 +36,7 @@ pub enum Way {
 /// How a block gets a segment of `size` bytes: the first of the ways, in their order, that has room for it.
 pub fn way_to<S: Words>(store: &S, span: Span, spot: Spot, size: usize) -> Way
     requires span { IsSpan (S.memory store.now) span }
-    requires found { FoundBlock span.at (heap_in (S.memory store.now) span) (spot.place + 4) spot }
+    requires found { FoundBlock span.at (heap_in (S.memory store.now) span) (spot.place + BLOCK) spot }
     requires small { size < 2 ^ 40 }
     ensures { WayOf size spot (heap_in (S.memory store.now) span) result }
 {
@@ -68,11 +70,11 @@ pub fn way_to<S: Words>(store: &S, span: Span, spot: Spot, size: usize) -> Way
 fn lengthen<S: Words>(store: &mut S, span: Span, spot: Spot, size: usize)
     requires opened { IsOpen (S.memory store.old) span.area.0 }
     requires within { span.at + spot.place + size ≤ length (bytes_in (S.memory store.old) span) }
-    requires least { 8 ≤ spot.size }
+    requires least { HEAP_UNIT ≤ spot.size }
     requires longer { spot.size ≤ size }
     ensures size { word (bytes_in (S.memory store.new) span) (span.at + spot.place) ≡ size }
-    ensures block { part (bytes_in (S.memory store.new) span) (span.at + spot.place + 4) (size - 4)
-        ≡ part (bytes_in (S.memory store.old) span) (span.at + spot.place + 4) (spot.size - 4) ++ replicate (size - spot.size) 0 }
+    ensures block { part (bytes_in (S.memory store.new) span) (span.at + spot.place + BLOCK) (size - BLOCK)
+        ≡ part (bytes_in (S.memory store.old) span) (span.at + spot.place + BLOCK) (spot.size - BLOCK) ++ replicate (size - spot.size) 0 }
     ensures only { Edited (S.memory store.old) (S.memory store.new) span.area.0 (span.at + spot.place) (span.at + spot.place + size) }
 {
     write(store, span, spot.place, size);
@@ -82,9 +84,9 @@ fn lengthen<S: Words>(store: &mut S, span: Span, spot: Spot, size: usize)
 /// Makes the upper bytes of a block a hole.
 fn shrink<S: Words>(store: &mut S, span: Span, spot: Spot, size: usize)
     requires span { IsSpan (S.memory store.old) span }
-    requires found { FoundBlock span.at (heap_in (S.memory store.old) span) (spot.place + 4) spot }
-    requires least { 8 ≤ size }
-    requires multiple { size % 8 ≡ 0 }
+    requires found { FoundBlock span.at (heap_in (S.memory store.old) span) (spot.place + BLOCK) spot }
+    requires least { HEAP_UNIT ≤ size }
+    requires multiple { size % HEAP_UNIT ≡ 0 }
     requires shorter { size < spot.size }
     ensures spells { SpellsResized (S.memory store.old) (S.memory store.new) span size spot }
     ensures only { OnlySpan (S.memory store.old) (S.memory store.new) span }
@@ -106,8 +108,8 @@ fn shrink<S: Words>(store: &mut S, span: Span, spot: Spot, size: usize)
 /// Lets a block grow into the hole of `room` bytes that follows.
 fn widen<S: Words>(store: &mut S, span: Span, spot: Spot, size: usize, room: usize)
     requires span { IsSpan (S.memory store.old) span }
-    requires found { FoundBlock span.at (heap_in (S.memory store.old) span) (spot.place + 4) spot }
-    requires multiple { size % 8 ≡ 0 }
+    requires found { FoundBlock span.at (heap_in (S.memory store.old) span) (spot.place + BLOCK) spot }
+    requires multiple { size % HEAP_UNIT ≡ 0 }
     requires way { WayOf size spot (heap_in (S.memory store.old) span) (Way.IntoHole room) }
     ensures spells { SpellsResized (S.memory store.old) (S.memory store.new) span size spot }
     ensures only { OnlySpan (S.memory store.old) (S.memory store.new) span }
@@ -130,8 +132,8 @@ fn widen<S: Words>(store: &mut S, span: Span, spot: Spot, size: usize, room: usi
 /// Lets the last block grow.
 fn raise<S: Words>(store: &mut S, span: Span, spot: Spot, size: usize)
     requires span { IsSpan (S.memory store.old) span }
-    requires found { FoundBlock span.at (heap_in (S.memory store.old) span) (spot.place + 4) spot }
-    requires multiple { size % 8 ≡ 0 }
+    requires found { FoundBlock span.at (heap_in (S.memory store.old) span) (spot.place + BLOCK) spot }
+    requires multiple { size % HEAP_UNIT ≡ 0 }
     requires way { WayOf size spot (heap_in (S.memory store.old) span) Way.AtTop }
     requires room { spot.place + size ≤ (heap_in (S.memory store.old) span).end }
     ensures spells { SpellsResized (S.memory store.old) (S.memory store.new) span size spot }
@@ -144,14 +146,14 @@ fn raise<S: Words>(store: &mut S, span: Span, spot: Spot, size: usize)
 /// Moves a block to a segment of `size` bytes elsewhere, with zeros behind its bytes, and releases the old one.
 fn move_block<S: Words>(store: &mut S, span: Span, spot: Spot, size: usize) -> Option<usize>
     requires span { IsSpan (S.memory store.old) span }
-    requires found { FoundBlock span.at (heap_in (S.memory store.old) span) (spot.place + 4) spot }
-    requires multiple { size % 8 ≡ 0 }
+    requires found { FoundBlock span.at (heap_in (S.memory store.old) span) (spot.place + BLOCK) spot }
+    requires multiple { size % HEAP_UNIT ≡ 0 }
     requires longer { spot.size < size }
     requires small { size < 2 ^ 40 }
     ensures moved { MatchOption result
         ((shortage_in size (heap_in (S.memory store.old) span) (hole_for size (heap_in (S.memory store.old) span).segments) ≢ 0)
         × (S.memory store.new ≡ S.memory store.old))
-        (λ address. WithBlock spot (heap_in (S.memory store.old) span) (Moved (S.memory store.old) (S.memory store.new) span size address (spot.place + 4))) }
+        (λ address. WithBlock spot (heap_in (S.memory store.old) span) (Moved (S.memory store.old) (S.memory store.new) span size address (spot.place + BLOCK))) }
     ensures only { OnlySpan (S.memory store.old) (S.memory store.new) span }
 {
     match take(store, span, size) {
@@ -172,9 +174,9 @@ fn change<S: Words>(
     size: usize,
 ) -> Result<usize, HeapRefusal>
     requires span { IsSpan (S.memory store.old) span }
-    requires found { FoundBlock span.at (heap_in (S.memory store.old) span) (spot.place + 4) spot }
-    requires least { 8 ≤ size }
-    requires multiple { size % 8 ≡ 0 }
+    requires found { FoundBlock span.at (heap_in (S.memory store.old) span) (spot.place + BLOCK) spot }
+    requires least { HEAP_UNIT ≤ size }
+    requires multiple { size % HEAP_UNIT ≡ 0 }
     requires small { size < 2 ^ 40 }
     ensures changed { MatchResult result
         (λ address. WithBlock spot (heap_in (S.memory store.old) span) (Changed (S.memory store.old) (S.memory store.new) span size address))
@@ -208,7 +210,7 @@ fn change<S: Words>(
 /// By how many bytes the heap is too short for a block to get a segment of `size` bytes.
 fn short_by<S: Words>(store: &S, span: Span, spot: Spot, size: usize) -> usize
     requires span { IsSpan (S.memory store.now) span }
-    requires found { FoundBlock span.at (heap_in (S.memory store.now) span) (spot.place + 4) spot }
+    requires found { FoundBlock span.at (heap_in (S.memory store.now) span) (spot.place + BLOCK) spot }
     requires small { size < 2 ^ 40 }
     ensures { WithBlock spot (heap_in (S.memory store.now) span) (ShortBy (heap_in (S.memory store.now) span) size result) }
 {

@@ -3,6 +3,7 @@ ghost use Rattle.std.specs.Prelude.{◌≡◌, ℕ, ◌+◌, ◌<◌, ◌≤◌,
 ghost use Rattle.rh_defs.specs.Memory.{Memory, IsOpen, Edited, bytes};
 ghost use Rattle.rh_heap.specs.Spans.{bytes_in};
 ghost use Rattle.rh_heap.specs.Stretches.{IsStretch, Settles, PutsHole};
+ghost use Rattle.rh_heap.specs.declared.layout.TheConstants.{HOLE_HEADER};
 
 use crate::layout::HOLE_SIZE;
 use crate::span::Span;
@@ -24,9 +25,9 @@ pub struct Stretch {
 fn put_hole<S: Words>(store: &mut S, span: Span, stretch: Stretch)
     requires opened { IsOpen (S.memory store.old) span.area.0 }
     requires stretch { IsStretch (bytes_in (S.memory store.old) span) span.at stretch }
-    requires some { stretch.low + 8 ≤ stretch.upper }
+    requires some { stretch.low + HOLE_HEADER ≤ stretch.upper }
     ensures puts { PutsHole (bytes_in (S.memory store.old) span) (bytes_in (S.memory store.new) span) span.at stretch }
-    ensures only { Edited (S.memory store.old) (S.memory store.new) span.area.0 span.at (span.at + stretch.low + 8) }
+    ensures only { Edited (S.memory store.old) (S.memory store.new) span.area.0 span.at (span.at + stretch.low + HOLE_HEADER) }
 {
     write_link(store, span, stretch.link, stretch.low);
     write_link(store, span, stretch.low, stretch.next);

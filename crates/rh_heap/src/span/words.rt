@@ -4,6 +4,7 @@ ghost use Rattle.rh_defs.specs.Bytes.{word, part, put_word};
 ghost use Rattle.rh_defs.specs.Memory.{Memory, IsOpen, Edited, bytes};
 ghost use Rattle.rh_heap.specs.Spans.{bytes_in};
 ghost use Rattle.rh_defs.specs.HeapParts.{LinksTo};
+ghost use Rattle.rh_defs.specs.declared.sizes.TheConstants.{WORD};
 
 use crate::span::Span;
 use rh_store::Words;
@@ -11,7 +12,7 @@ use rh_store::Words;
 /// The word at a place.
 pub fn read<S: Words>(store: &S, span: Span, place: usize) -> usize
     requires opened { IsOpen (S.memory store.now) span.area.0 }
-    requires within { span.at + place + 4 ≤ length (bytes_in (S.memory store.now) span) }
+    requires within { span.at + place + WORD ≤ length (bytes_in (S.memory store.now) span) }
     ensures value { result ≡ word (bytes_in (S.memory store.now) span) (span.at + place) }
     ensures bound { result < 2 ^ 32 }
 {
@@ -22,10 +23,10 @@ pub fn read<S: Words>(store: &S, span: Span, place: usize) -> usize
 #[tactic(auto, using(rh_defs::proofs::BytesLaws::word_laws, rh_defs::proofs::MemoryLaws::memory_laws))]
 pub fn write<S: Words>(store: &mut S, span: Span, place: usize, w: usize)
     requires opened { IsOpen (S.memory store.old) span.area.0 }
-    requires within { span.at + place + 4 ≤ length (bytes_in (S.memory store.old) span) }
+    requires within { span.at + place + WORD ≤ length (bytes_in (S.memory store.old) span) }
     requires fits { w < 2 ^ 32 }
     ensures value { word (bytes_in (S.memory store.new) span) (span.at + place) ≡ w }
-    ensures only { Edited (S.memory store.old) (S.memory store.new) span.area.0 (span.at + place) (span.at + place + 4) }
+    ensures only { Edited (S.memory store.old) (S.memory store.new) span.area.0 (span.at + place) (span.at + place + WORD) }
 {
     store.set_word(span.area, span.at + place, w as u32);
 }
@@ -44,7 +45,7 @@ pub fn clear<S: Words>(store: &mut S, span: Span, place: usize, n: usize)
 /// The place of the hole to which the link at `from` leads, or 0 for none.
 pub fn follow<S: Words>(store: &S, span: Span, from: usize) -> usize
     requires opened { IsOpen (S.memory store.now) span.area.0 }
-    requires within { span.at + from + 4 ≤ length (bytes_in (S.memory store.now) span) }
+    requires within { span.at + from + WORD ≤ length (bytes_in (S.memory store.now) span) }
     ensures { LinksTo (bytes_in (S.memory store.now) span) span.at (span.at + from) result }
 {
     let link = read(store, span, from);
@@ -54,11 +55,11 @@ pub fn follow<S: Words>(store: &S, span: Span, from: usize) -> usize
 /// Makes the link at `from` lead to a hole further on, or nowhere where `to` is 0.
 pub fn write_link<S: Words>(store: &mut S, span: Span, from: usize, to: usize)
     requires opened { IsOpen (S.memory store.old) span.area.0 }
-    requires within { span.at + from + 4 ≤ length (bytes_in (S.memory store.old) span) }
+    requires within { span.at + from + WORD ≤ length (bytes_in (S.memory store.old) span) }
     requires ahead { to ≢ 0 → from < to }
     requires fits { to < 2 ^ 32 }
     ensures links { LinksTo (bytes_in (S.memory store.new) span) span.at (span.at + from) to }
-    ensures only { Edited (S.memory store.old) (S.memory store.new) span.area.0 (span.at + from) (span.at + from + 4) }
+    ensures only { Edited (S.memory store.old) (S.memory store.new) span.area.0 (span.at + from) (span.at + from + WORD) }
 {
     write(store, span, from, if to == 0 { 0 } else { to - from });
 }
