@@ -1,13 +1,14 @@
 //! The world: a desk over a store.
 
-ghost use Rattle.std.specs.Prelude.{◌≡◌, ◌≤◌, ℕ, ◌+◌, ◌<◌, true, Ok, Err, IfOk, IsSome};
+ghost use Rattle.std.specs.Prelude.{◌≡◌, ◌≤◌, ℕ, ◌+◌, ◌<◌, true, false, Ok, Err, IfOk, IsSome};
 ghost use Rattle.rh_defs.specs.Memory.{Memory, fresh, bytes};
 ghost use Rattle.rh_defs.specs.Range.{in_range};
+ghost use Rattle.rh_defs.specs.Known.{uses_post};
 ghost use Rattle.rh_defs.specs.Runs.{start, start_with};
 ghost use Rattle.rh_defs.specs.Step.{step};
 ghost use Rattle.rh_defs.specs.Laws.{IsDesk};
 ghost use Rattle.rh_tasks.specs.Shown.{IsSpelled, IsBalanced, HasApartBlocks};
-ghost use Rattle.rh_tasks.specs.Answer.{IsStanding, reply_of};
+ghost use Rattle.rh_tasks.specs.Answer.{reply_of};
 ghost use Rattle.rh_tasks.specs.Start.{IsFurnished};
 
 use crate::made::MadeArea;
@@ -122,7 +123,7 @@ impl<S: Store> World<S> {
     /// Does one command, or answers the first of its refusals and changes nothing.
     pub fn apply(&mut self, command: &Command) -> Reply
         requires ranged { in_range command.now ≡ true }
-        requires standing { IsStanding command.now }
+        requires known { uses_post command.now ≡ false }
         ensures step { step self.old.desk command.now ≡ (self.new.desk, result) }
         ensures spelled { IsSpelled self.new }
         ensures apart { HasApartBlocks self.new }
@@ -136,7 +137,7 @@ impl<S: Store> World<S> {
 
     fn change(&mut self, command: &Command) -> Reply
         requires ranged { in_range command.now ≡ true }
-        requires standing { IsStanding command.now }
+        requires known { uses_post command.now ≡ false }
         ensures { step self.old.desk command.now ≡ (self.new.desk, result) }
     {
         match command {
