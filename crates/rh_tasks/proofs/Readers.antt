@@ -6,7 +6,7 @@ use Rattle.std.specs.Result.{MatchResult}
 use Rattle.rh_defs.specs.Memory.{Memory, bytes}
 use Rattle.rh_defs.specs.declared.refusal.Refusal.TheVariants.{NoBlock}
 use Rattle.rh_defs.specs.declared.listing.SegmentItem.{SegmentItem}
-use Rattle.rh_defs.specs.Chain.{Granted, ◌>>=◌, found_or}
+use Rattle.rh_defs.specs.Chain.{Granted, ◌>>=◌, found_or, outcome_of, result_or}
 use Rattle.rh_defs.specs.Pieces.{Split, total}
 use Rattle.rh_defs.specs.Heap.{Heap, segment_at, largest, free_bytes, base}
 use Rattle.rh_defs.specs.Slot as plain
@@ -28,6 +28,11 @@ if-ok P Q e h = rw e h
 pub if-err : {A E : Type 0} (P : A → Type 0) (Q : E → Type 0) {r : Result A E} {x : E} → r ≡ Err x → Q x → MatchResult r P Q
 if-err P Q e h = rw e h
 
+-- what a refused call leaves is what there was
+pub kept : {A E : Type 0} {x : E} (old new : A) (g : Result A E) → Err x ≡ outcome_of g → new ≡ result_or old g → new ≡ old
+kept old new (Ok y) e is = absurd (cc)
+kept old new (Err y) e is = is
+
 -- ---- the C heap's sums, and the segment at a place
 
 abbrev pub Listed : Type 0
@@ -36,19 +41,19 @@ Listed = Granted ((ℕ × ℕ × ℕ) × Option SegmentItem)
 abbrev with_sums : Heap → Option SegmentItem → Listed
 with_sums h item = Ok ((h.end, largest h, free_bytes h), item)
 
-abbrev pub listed_heap : ℕ → plain.Slot → Listed
-listed_heap place s = with_sums s.heap (option_map (λ c. segment_item (plain.heap_start + place) c.here) (segment_at place s.heap))
+abbrev pub listed_heap : ℕ → Heap → Listed
+listed_heap place h = with_sums h (option_map (λ c. segment_item (plain.heap_start + place) c.here) (segment_at place h))
 
-pub listed-none : (place : ℕ) (s : plain.Slot) → None ≡ option_map piece (segment_at place s.heap) → listed_heap place s ≡ with_sums s.heap None
-listed-none place s e =
-    ap (λ o. with_sums s.heap (option_map (λ c. segment_item (plain.heap_start + place) c.here) o)) (piece-none place s.heap e)
+pub listed-none : (place : ℕ) (h : Heap) → None ≡ option_map piece (segment_at place h) → listed_heap place h ≡ with_sums h None
+listed-none place h e =
+    ap (λ o. with_sums h (option_map (λ c. segment_item (plain.heap_start + place) c.here) o)) (piece-none place h e)
 
-pub listed-some : (place : ℕ) (s : plain.Slot) (p : Segment) (i : SegmentItem) → Some p ≡ option_map piece (segment_at place s.heap) → i ≡ segment_item_of place p
-    → listed_heap place s ≡ with_sums s.heap (Some i)
-listed-some place s p i e is =
-    let at = piece-at place s.heap p e in
-    ap (λ o. with_sums s.heap (option_map (λ c. segment_item (plain.heap_start + place) c.here) o)) at.found
-    ∙ ap (λ x. with_sums s.heap (Some x)) (sym (is ∙ ap (segment_item_of place) (sym at.is) ∙ segment-listed place at.cut.here at.cut.before at.cut.after))
+pub listed-some : (place : ℕ) (h : Heap) (p : Segment) (i : SegmentItem) → Some p ≡ option_map piece (segment_at place h) → i ≡ segment_item_of place p
+    → listed_heap place h ≡ with_sums h (Some i)
+listed-some place h p i e is =
+    let at = piece-at place h p e in
+    ap (λ o. with_sums h (option_map (λ c. segment_item (plain.heap_start + place) c.here) o)) at.found
+    ∙ ap (λ x. with_sums h (Some x)) (sym (is ∙ ap (segment_item_of place) (sym at.is) ∙ segment-listed place at.cut.here at.cut.before at.cut.after))
 
 -- ---- all that is told of a slot fits a word
 

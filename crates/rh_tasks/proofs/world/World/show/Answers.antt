@@ -6,7 +6,7 @@ use Rattle.rh_tasks.proofs.Chains.{ends}
 use Rattle.rh_tasks.proofs.Finding.{nobody}
 use Rattle.rh_tasks.proofs.Moves.{owned}
 use Rattle.rh_tasks.proofs.QuestionLaws.{asked, shown_of_slot, unsized, unread, read-done}
-use Rattle.rh_tasks.proofs.Readers.{if-ok, if-err, small-size}
+use Rattle.rh_tasks.proofs.Readers.{if-ok, if-err, kept, small-size}
 use Rattle.rh_tasks.proofs.world.World.show.Goals as goal
 
 pub returns-in_err-slot : goal.returns-in_err-slot
@@ -29,7 +29,7 @@ returns-in_err-read g c =
     let p = err_from_is_err_and c.from_residual-in_err-read.result c.from_residual-in_err-read.ensures.1 in
     rw (p.1, p.2, ← c.self.view_is)
       (if-err _ _ (asked c.self.invariant.0 c.in_ok-slot.ensures.ok (shown_of_slot c.args.anchor c.args.offset (length c.args.to.now))
-        ∙ unread c.args.anchor c.args.offset _ _ _ c.in_err-read.ensures.answer) (refl, ?))
+        ∙ unread c.args.anchor c.args.offset _ _ _ c.in_err-read.ensures.answer) (refl, kept _ _ _ c.in_err-read.ensures.answer c.in_err-read.ensures.bytes))
 
 pub overflow_cast-result : goal.overflow_cast-result
 overflow_cast-result g c =
