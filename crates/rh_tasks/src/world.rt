@@ -15,7 +15,7 @@ use crate::made::MadeArea;
 use crate::next::Next;
 use crate::seat::Seat;
 use crate::areas::FIXED_AREAS;
-use crate::made::{FIRST_MADE, MOST_MADE};
+use crate::made::MOST_MADE;
 use crate::module_blocks::MODULE;
 use crate::tasks::MOST_TASKS;
 use rh_defs::{Command, Files, Handle, Ref, Refusal, Reply};
@@ -99,11 +99,7 @@ impl<S: Store + Drop> World<S> {
             seats,
             made,
             files,
-            next: Next {
-                handle: u64::from(handle.0),
-                area: FIRST_MADE,
-                message: u64::from(r.0),
-            },
+            next: Next::first(handle.0, r.0),
         })
     }
 }
