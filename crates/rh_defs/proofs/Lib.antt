@@ -19,3 +19,4 @@ pub mod SlotRows
 pub mod ModuleLaws
 pub mod SlotLaws
 pub mod SlotImageLaws
+pub mod MessageRows

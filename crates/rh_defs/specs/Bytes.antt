@@ -15,6 +15,10 @@ put b at (x ∷ xs) = put (slice_set b at x) (at + 1) xs
 unfoldable pub put_word : List ℕ → ℕ → ℕ → List ℕ
 put_word b at w = put b at (to_le_bytes w32 w)
 
+-- the four bytes of a word
+unfoldable pub word_bytes : ℕ → List ℕ
+word_bytes w = to_le_bytes w32 w
+
 -- n bytes from a place on
 unfoldable pub part : List ℕ → ℕ → ℕ → List ℕ
 part b at zero = []

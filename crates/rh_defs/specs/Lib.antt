@@ -20,3 +20,8 @@ pub mod HeapImage
 pub mod HeapParts
 pub mod SlotImage
 pub mod Module
+pub mod Blocks
+pub mod Pathnames
+pub mod Messages
+pub mod MessageImage
+pub mod Post

@@ -9,7 +9,9 @@ mod heap;
 mod ids;
 mod laws;
 mod listing;
+mod message;
 mod name;
+mod pathname;
 mod refusal;
 mod reply;
 
@@ -21,7 +23,9 @@ pub use heap::HeapFault;
 pub use ids::{Anchor, Handle, Ref};
 pub use laws::{image_law, span_law};
 pub use listing::{AreaItem, BlockItem};
+pub use message::{Action, Body, Event, EventCode, FileData, Letter, Message, MessageFault};
 pub use name::Name;
+pub use pathname::Pathname;
 pub use refusal::Refusal;
 pub use reply::Reply;
 

@@ -1,0 +1,220 @@
+//! Messages: what a task sends, and what a poll hands out.
+
+ghost use Rattle.std.specs.Prelude.{◌≡◌};
+ghost use Rattle.rh_defs.specs.Messages.{action_at, action_number, action_of, code_at, code_number};
+
+use crate::ids::{Handle, Ref};
+use crate::pathname::Pathname;
+use thiserror::Error;
+
+/// The event under which a message is handed out.
+#[derive(Clone, Copy, Debug, PartialEq, Eq)]
+pub enum EventCode {
+    /// A message that wants no answer (User_Message, 17).
+    User,
+    /// A message that comes back if it isn't answered (User_Message_Recorded, 18).
+    Recorded,
+    /// A recorded message that came back (User_Message_Acknowledge, 19).
+    Acknowledge,
+}
+
+impl EventCode {
+    /// The code's number.
+    pub fn number(self) -> u32
+        ensures { result ≡ code_number self }
+    {
+        match self {
+            EventCode::User => 17,
+            EventCode::Recorded => 18,
+            EventCode::Acknowledge => 19,
+        }
+    }
+
+    /// The code with a number, none for all but 17, 18 and 19.
+    pub fn from_number(number: u32) -> Option<EventCode>
+        ensures { result ≡ code_at number }
+    {
+        match number {
+            17 => Some(EventCode::User),
+            18 => Some(EventCode::Recorded),
+            19 => Some(EventCode::Acknowledge),
+            _ => None,
+        }
+    }
+}
+
+/// What a message asks for.
+#[derive(Clone, Copy, Debug, PartialEq, Eq)]
+pub enum Action {
+    DataSave,
+    DataSaveAck,
+    DataLoad,
+    DataLoadAck,
+    RamFetch,
+    RamTransmit,
+}
+
+impl Action {
+    /// The action's number in a message block.
+    pub fn number(self) -> u32
+        ensures { result ≡ action_number self }
+    {
+        match self {
+            Action::DataSave => 1,
+            Action::DataSaveAck => 2,
+            Action::DataLoad => 3,
+            Action::DataLoadAck => 4,
+            Action::RamFetch => 6,
+            Action::RamTransmit => 7,
+        }
+    }
+
+    /// The action with a number, none where it isn't one of the six.
+    pub fn from_number(number: u32) -> Option<Action>
+        ensures { result ≡ action_at number }
+    {
+        match number {
+            1 => Some(Action::DataSave),
+            2 => Some(Action::DataSaveAck),
+            3 => Some(Action::DataLoad),
+            4 => Some(Action::DataLoadAck),
+            6 => Some(Action::RamFetch),
+            7 => Some(Action::RamTransmit),
+            _ => None,
+        }
+    }
+}
+
+/// What the messages about a file say: where it is dropped, its size in bytes and its type, and its name.
+#[derive(Debug, Drop, PartialEq, Eq)]
+pub struct FileData {
+    pub window: u32,
+    pub icon: u32,
+    pub x: u32,
+    pub y: u32,
+    pub size: u32,
+    pub file_type: u32,
+    pub name: Pathname,
+}
+
+impl FileData {
+    /// The same again, which takes no memory.
+    pub fn copied(&self) -> FileData
+        ensures { result ≡ self.now }
+    {
+        FileData {
+            window: self.window,
+            icon: self.icon,
+            x: self.x,
+            y: self.y,
+            size: self.size,
+            file_type: self.file_type,
+            name: self.name.copied(),
+        }
+    }
+}
+
+/// What a message says: its action and data.
+#[derive(Debug, Drop, PartialEq, Eq)]
+pub enum Body {
+    /// A file is offered.
+    DataSave(FileData),
+    /// The offer is taken, by way of a file of this name.
+    DataSaveAck(FileData),
+    /// The file is written, and may be loaded.
+    DataLoad(FileData),
+    /// The file is loaded.
+    DataLoadAck(FileData),
+    /// Bytes are asked for, into a buffer of so many bytes at this address.
+    RamFetch { buffer: u32, length: u32 },
+    /// So many bytes were written into the buffer at this address.
+    RamTransmit { buffer: u32, written: u32 },
+}
+
+impl Body {
+    /// The action.
+    pub fn action(&self) -> Action
+        ensures { result ≡ action_of self.now }
+    {
+        match self {
+            Body::DataSave(_) => Action::DataSave,
+            Body::DataSaveAck(_) => Action::DataSaveAck,
+            Body::DataLoad(_) => Action::DataLoad,
+            Body::DataLoadAck(_) => Action::DataLoadAck,
+            Body::RamFetch { .. } => Action::RamFetch,
+            Body::RamTransmit { .. } => Action::RamTransmit,
+        }
+    }
+
+    /// The same again, which takes no memory.
+    pub fn copied(&self) -> Body
+        ensures { result ≡ self.now }
+    {
+        match self {
+            Body::DataSave(file) => Body::DataSave(file.copied()),
+            Body::DataSaveAck(file) => Body::DataSaveAck(file.copied()),
+            Body::DataLoad(file) => Body::DataLoad(file.copied()),
+            Body::DataLoadAck(file) => Body::DataLoadAck(file.copied()),
+            Body::RamFetch { buffer, length } => Body::RamFetch {
+                buffer: *buffer,
+                length: *length,
+            },
+            Body::RamTransmit { buffer, written } => Body::RamTransmit {
+                buffer: *buffer,
+                written: *written,
+            },
+        }
+    }
+}
+
+/// A message as its block spells it.
+#[derive(Debug, Drop, PartialEq, Eq)]
+pub struct Message {
+    pub from: Handle,
+    pub my_ref: Ref,
+    /// The ref of the message that this one answers, 0 for an original.
+    pub your_ref: Ref,
+    pub body: Body,
+}
+
+/// What a task sends.
+#[derive(Debug, Drop, PartialEq, Eq)]
+pub struct Letter {
+    pub code: EventCode,
+    pub from: Handle,
+    pub to: Handle,
+    /// The ref of the message that this one answers, 0 for an original.
+    pub your_ref: Ref,
+    pub body: Body,
+}
+
+impl Letter {
+    /// The same again, which takes no memory.
+    pub fn copied(&self) -> Letter
+        ensures { result ≡ self.now }
+    {
+        Letter {
+            code: self.code,
+            from: self.from,
+            to: self.to,
+            your_ref: self.your_ref,
+            body: self.body.copied(),
+        }
+    }
+}
+
+/// What a poll hands out: a message, and the event that it is.
+#[derive(Debug, Drop, PartialEq, Eq)]
+pub struct Event {
+    pub code: EventCode,
+    pub message: Message,
+}
+
+/// Why bytes spell no message.
+#[derive(Clone, Copy, Debug, PartialEq, Eq, Error)]
+pub enum MessageFault {
+    #[error("the length is not that of the message")]
+    BadLength,
+    #[error("the action is not one of a file or a RAM transfer")]
+    BadAction,
+}

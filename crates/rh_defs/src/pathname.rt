@@ -1,0 +1,67 @@
+//! The names that file messages carry.
+
+ghost use Rattle.std.specs.Prelude.{◌≡◌, ◌↔◌, ◌≤◌, true, length, IsSome, IfSome};
+ghost use Rattle.rh_defs.specs.Pathnames.{is_pathname, is_plain as is_plain_of};
+
+use arrayvec::ArrayVec;
+use std::marker::Model;
+
+/// A leafname or pathname in a message: at most 211 bytes, none of them 0.
+#[derive(Debug, Drop, PartialEq, Eq)]
+pub struct Pathname {
+    bytes: ArrayVec<u8, 211>,
+}
+
+impl Model for Pathname {
+    ghost use Rattle.std.specs.Prelude.{◌≡◌, ℕ, List, true};
+    ghost use Rattle.rh_defs.specs.Pathnames.{is_pathname};
+
+    ghost Value = { List ℕ };
+
+    ghost view = { λ p. p.bytes.items };
+
+    ghost inverse = { λ xs. record { bytes = record { items = xs } } };
+
+    ghost invariant = { λ p. is_pathname p.bytes.items ≡ true };
+}
+
+fn is_plain(bytes: &[u8]) -> bool
+    ensures { result ≡ is_plain_of bytes.now }
+{
+    bytes.iter().all(|b| 0 < *b)
+}
+
+impl Pathname {
+    /// The most bytes of a name: with its zero byte it fills a message block of 256 bytes.
+    pub const MOST_BYTES: usize = 211;
+
+    /// The name with these bytes: none where there are more than 211, or one of them is 0.
+    pub fn new(bytes: &[u8]) -> Option<Pathname>
+        ensures found { IsSome result ↔ (is_pathname bytes.now ≡ true) }
+        ensures value { IfSome result (λ name. name ≡ bytes.now) }
+    {
+        if bytes.len() > Pathname::MOST_BYTES || !is_plain(bytes) {
+            return None;
+        }
+        let mut letters = ArrayVec::new();
+        let _fits = letters.try_extend_from_slice(bytes);
+        Some(Pathname { bytes: letters })
+    }
+
+    /// The bytes of the name.
+    pub fn as_bytes(&self) -> &[u8]
+        ensures value { result.now ≡ self.now }
+        ensures valid { is_pathname self.now ≡ true }
+    {
+        self.bytes.as_slice()
+    }
+
+    /// The same name again, which takes no memory.
+    pub fn copied(&self) -> Pathname
+        ensures { result ≡ self.now }
+    {
+        let mut letters = ArrayVec::new();
+        let _fits = letters.try_extend_from_slice(self.bytes.as_slice());
+        Pathname { bytes: letters }
+    }
+}
