@@ -8,7 +8,7 @@ use Rattle.rh_defs.specs.declared.command.Command.TheVariants as command
 use Rattle.rh_defs.specs.declared.fault.LineFault.{LineFault}
 use Rattle.rh_defs.specs.declared.fault.LineFault.TheVariants.{TooLong, Unended, Unknown, Count, Word}
 use Rattle.rh_defs.specs.declared.refusal.Refusal.{Refusal}
-use Rattle.rh_defs.specs.declared.refusal.Refusal.TheVariants.{NameInUse, NoName, TooManyTasks, NoHandles, NoFile, NoBlock, AnchorInUse, NotABlock, NotYours, Busy, NotOpen, NothingSent, BadRange, BadSize, ExcessiveShrink, NoTask, NoRefs, QueueFull, NoBudge, NoRoom}
+use Rattle.rh_defs.specs.declared.refusal.Refusal.TheVariants.{NameInUse, NoName, TooManyTasks, NoHandles, NoFile, NoBlock, AnchorInUse, NotABlock, NotYours, Busy, NotOpen, NothingSent, BadRange, BadSize, ExcessiveShrink, NoTask, NoRefs, QueueFull, NoBudge, NoRoom, NoArea, TooManyAreas, NoNumbers, TooBig}
 use Rattle.rh_defs.specs.declared.reply.Reply.{Reply}
 use Rattle.rh_defs.specs.declared.reply.Reply.TheVariants as reply
 use Rattle.rh_defs.specs.Desk.{Desk}
@@ -48,6 +48,10 @@ refusal_name NoRefs = codes "NoRefs"
 refusal_name QueueFull = codes "QueueFull"
 refusal_name NoBudge = codes "NoBudge"
 refusal_name NoRoom = codes "NoRoom"
+refusal_name NoArea = codes "NoArea"
+refusal_name TooManyAreas = codes "TooManyAreas"
+refusal_name NoNumbers = codes "NoNumbers"
+refusal_name TooBig = codes "TooBig"
 
 -- the reply of a bad line
 unfoldable pub fault_text : LineFault → List ℕ

@@ -1,0 +1,85 @@
+-- Letters, and the records of the two ends of a transfer.
+use Rattle.std.specs.Prelude.{◌≡◌, ℕ, ◌+◌, Bool, true, false, ◌||◌, ◌++◌, nat_le, List, [], ◌∷◌, length, Option, Some, None, if◌then◌else◌, ◌==◌, ◌⊎◌}
+-- the records of the desk
+pub use Rattle.rh_whole.specs.declared.transfer.Sending.{Sending}
+pub use Rattle.rh_whole.specs.declared.transfer.Taking.{Taking}
+pub use Rattle.rh_whole.specs.declared.transfer.Asked.{Asked}
+pub use Rattle.rh_whole.specs.declared.transfer.Outgoing.{Outgoing as Out}
+pub use Rattle.rh_whole.specs.declared.transfer.Outgoing.TheVariants.{Open, Done as Out_done, Failed as Out_failed}
+pub use Rattle.rh_whole.specs.declared.transfer.Incoming.{Incoming as In}
+pub use Rattle.rh_whole.specs.declared.transfer.Incoming.TheVariants.{Fetching, Draining, Asking, Done as In_done, Failed as In_failed}
+pub use Rattle.rh_whole.specs.Records.{out_id, in_id, is_open, is_going, dropped as drop_first, with_id, open_of as find_open, active_of as find_active, asking_of as find_asking, is_source as source_at, is_document as document_at, is_buffer as buffer_at, is_meant, is_meant_in, cancelled}
+pub use Rattle.rh_defs.specs.declared.message.EventCode.{EventCode as Code}
+pub use Rattle.rh_defs.specs.declared.message.EventCode.TheVariants.{User as Plain, Recorded, Acknowledge as Returned}
+pub use Rattle.rh_defs.specs.declared.message.Action.{Action as Kind}
+pub use Rattle.rh_defs.specs.declared.message.Action.TheVariants.{DataSave, DataSaveAck, DataLoad, DataLoadAck, RamFetch, RamTransmit}
+pub use Rattle.std.specs.Prelude.{find as first}
+pub use Rattle.std.specs.List.{list_any as any}
+
+
+-- what stays the same when a message bounces
+pub record Letter : Type 0 where
+  pub from : ℕ
+  pub me : ℕ
+  pub answers : ℕ
+  pub kind : Kind
+  pub address : ℕ
+  pub amount : ℕ
+
+pub record Message : Type 0 where
+  pub code : Code
+  pub to : ℕ
+  pub letter : Letter
+
+abbrev pub in_anchor : In → ℕ
+in_anchor (Fetching t) = t.anchor
+in_anchor (Draining t) = t.anchor
+in_anchor (Asking q) = q.anchor
+in_anchor (In_done i a n) = a
+in_anchor (In_failed i a n) = a
+
+-- a map with one place written anew
+abbrev pub put : {A : Type 0} → (ℕ → A) → ℕ → A → ℕ → A
+put f h x k = if k == h then x else f k
+
+-- the list has the element
+abbrev pub Has : {A : Type 0} → A → List A → Type 0
+Has m [] = ⊥
+Has m (x ∷ xs) = (x ≡ m) ⊎ Has m xs
+
+-- Lists of records
+
+abbrev pub how_many : {A : Type 0} → (A → Bool) → List A → ℕ
+how_many p [] = 0
+how_many p (x ∷ xs) = if p x then how_many p xs + 1 else how_many p xs
+
+-- one more record: on a full list the first one that has ended goes; as the lists are in the order of ids, it has the least id
+abbrev pub one_more : {A : Type 0} → ℕ → (A → Bool) → List A → A → List A
+one_more most keep xs v = (if nat_le most (length xs) then drop_first keep xs else xs) ++ v ∷ []
+
+-- the document is still being made
+abbrev pub is_growing : In → Bool
+is_growing (Fetching t) = true
+is_growing (Draining t) = false
+is_growing (Asking q) = true
+is_growing (In_done i a n) = false
+is_growing (In_failed i a n) = false
+
+-- the record fetches or drains
+abbrev pub Active : List In → Taking → Type 0
+Active ws t = Has (Fetching t) ws ⊎ Has (Draining t) ws
+
+-- each element stands so to each one after it
+abbrev pub Pairwise : {A : Type 0} → (A → A → Type 0) → List A → Type 0
+Pairwise R [] = Unit {0}
+Pairwise {A} R (x ∷ xs) = ((y : A) → Has y xs → R x y) × Pairwise R xs
+
+-- The queue
+
+abbrev pub first_for : ℕ → List Message → Option Message
+first_for h [] = None
+first_for h (m ∷ ms) = if m.to == h then Some m else first_for h ms
+
+abbrev pub without_first : ℕ → List Message → List Message
+without_first h [] = []
+without_first h (m ∷ ms) = if m.to == h then ms else m ∷ without_first h ms

@@ -1,0 +1,4 @@
+pub mod Ends
+pub mod Protocol
+pub mod Schedules
+pub mod Turns

@@ -1,0 +1,267 @@
+-- The commands on memory: tasks, slots, areas, the module area's blocks, and what is asked of them.
+use Rattle.std.specs.Prelude.{ℕ, ◌+◌, ◌-◌, ◌*◌, ◌/◌, ◌^◌, ℤ, pos, negsuc, Bool, false, not, nat_lt, nat_le, ◌==◌, if◌then◌else◌, List, [], ◌∷◌, ◌++◌, length, filter, find, map, slice_index, slice_set, Option, Some, None, Ok}
+use Rattle.std.specs.List.{list_any}
+use Rattle.std.specs.Str.{bytes_eq}
+use Rattle.rh_defs.specs.declared.refusal.Refusal.TheVariants.{NameInUse, TooManyTasks, NoHandles, NoFile, NotABlock, NotYours, ExcessiveShrink, NoRoom, NoArea, TooManyAreas, NoNumbers, TooBig}
+use Rattle.rh_whole.specs.declared.command.Manner.{Manner}
+use Rattle.rh_whole.specs.declared.reply.Reply.{Reply}
+use Rattle.rh_whole.specs.declared.reply.Reply.TheVariants as reply
+use Rattle.rh_defs.specs.Chain.{Granted, ◌>>=◌, ◌>>◌, refuse_if, found_or}
+use Rattle.rh_defs.specs.Pieces.{page, pages_for, Split}
+use Rattle.rh_defs.specs.Heap.{Segment, Heap, largest, free_bytes, block_at}
+use Rattle.rh_defs.specs.Module.{whole_pages, changed_length, module_claim, module_free, module_resize, module_change}
+use Rattle.rh_defs.specs.Slot.{Slot, slot_begin, slot_alloc, slot_free, slot_extend, slot_mid, slot_put, slot_claim, slot_release, slot_resize, slot_set_budge, slot_block}
+use Rattle.rh_defs.specs.Post.{post_join, post_is_message, post_death}
+use Rattle.rh_whole.specs.Desk.{Desk, Task, Made, Scrap, most_tasks, free_pages, has_name, named, idle_block, idle_buffer, with_slot, with_less_post}
+
+-- the desk after a command, and its reply
+abbrev pub Answer : Type 0
+Answer = Desk × Reply
+
+-- ---- tasks
+
+abbrev pub with_new_task : List ℕ → ℕ → Manner → Slot → Desk → Desk
+with_new_task name buffer manner s d = record d {
+  tasks = d.tasks ++ record { handle = d.next_handle; name = name; buffer = buffer; manner = manner; slot = s; sending = []; taking = []; last_sent = None } ∷ [];
+  post = post_join d.next_handle d.post;
+  next_handle = d.next_handle + 1;
+}
+
+-- a task begins with a fresh slot; handles are 32-bit words and are never given twice
+unfoldable pub start_task : Desk → List ℕ → ℕ → Manner → Granted Answer
+start_task d name buffer manner = do
+  refuse_if (list_any (has_name name) d.tasks) NameInUse
+  refuse_if (nat_le most_tasks (length d.tasks)) TooManyTasks
+  refuse_if (nat_le (2 ^ 32) d.next_handle) NoHandles
+  s ← slot_begin (free_pages d)
+  Ok (with_new_task name buffer manner s d, reply.Started d.next_handle)
+
+-- the task's end: its messages bounce or vanish, and its pages are free
+unfoldable pub kill : Desk → List ℕ → Granted Answer
+kill d name = do
+  t ← named name d
+  Ok (
+    record (with_less_post (post_death t.handle d.post) d) { tasks = filter (λ other. not (other.handle == t.handle)) d.tasks },
+    reply.Done,
+  )
+
+-- ---- flex blocks
+
+unfoldable pub alloc : Desk → List ℕ → ℕ → ℕ → Granted Answer
+alloc d name k n = do
+  t ← named name d
+  p ← slot_alloc (free_pages d) k n t.slot
+  Ok (with_slot t.handle p.0 d, reply.Block p.1)
+
+-- a block with a file's bytes
+unfoldable pub load : Desk → List ℕ → ℕ → List ℕ → Granted Answer
+load d name k file = do
+  t ← named name d
+  entry ← found_or (find (λ entry. bytes_eq entry.0 file) d.files) NoFile
+  p ← slot_alloc (free_pages d) k (length entry.1) t.slot
+  s ← slot_put k 0 entry.1 p.0
+  Ok (with_slot t.handle s d, reply.Block p.1)
+
+-- bytes written into a block
+unfoldable pub put : Desk → List ℕ → ℕ → ℕ → List ℕ → Granted Answer
+put d name k offset bytes = do
+  t ← named name d
+  b ← idle_block k t
+  s ← slot_put k offset bytes t.slot
+  Ok (with_slot t.handle s d, reply.Done)
+
+unfoldable pub free : Desk → List ℕ → ℕ → Granted Answer
+free d name k = do
+  t ← named name d
+  b ← idle_block k t
+  s ← slot_free k t.slot
+  Ok (with_slot t.handle s d, reply.Done)
+
+unfoldable pub extend : Desk → List ℕ → ℕ → ℕ → Granted Answer
+extend d name k n = do
+  t ← named name d
+  b ← idle_block k t
+  s ← slot_extend (free_pages d) k n t.slot
+  Ok (with_slot t.handle s d, reply.Done)
+
+unfoldable pub mid : Desk → List ℕ → ℕ → ℕ → ℤ → Granted Answer
+mid d name k offset by = do
+  t ← named name d
+  b ← idle_block k t
+  s ← slot_mid (free_pages d) k offset by t.slot
+  Ok (with_slot t.handle s d, reply.Done)
+
+-- ---- the C heap
+
+unfoldable pub claim : Desk → List ℕ → ℕ → Granted Answer
+claim d name n = do
+  t ← named name d
+  p ← slot_claim (free_pages d) n t.slot
+  Ok (with_slot t.handle p.0 d, reply.Block p.1)
+
+unfoldable pub release : Desk → List ℕ → ℕ → Granted Answer
+release d name address = do
+  t ← named name d
+  b ← idle_buffer address t
+  s ← slot_release address t.slot
+  Ok (with_slot t.handle s d, reply.Done)
+
+unfoldable pub resize : Desk → List ℕ → ℕ → ℤ → Granted Answer
+resize d name address delta = do
+  t ← named name d
+  b ← idle_buffer address t
+  p ← slot_resize (free_pages d) address delta t.slot
+  Ok (with_slot t.handle p.0 d, reply.Block p.1)
+
+unfoldable pub budge : Desk → List ℕ → Bool → Granted Answer
+budge d name on = do
+  t ← named name d
+  Ok (with_slot t.handle (slot_set_budge on t.slot).0 d, reply.WasBudging (slot_set_budge on t.slot).1)
+
+-- ---- areas
+
+-- the module area is area 1, and the scrap file lies in area 5
+abbrev pub module_area : ℕ
+module_area = 1
+
+abbrev pub scrap_area : ℕ
+scrap_area = 5
+
+-- made areas get numbers from 256 up to 65535, which are never given twice; so many live at most
+abbrev pub last_number : ℕ
+last_number = 65535
+
+abbrev pub most_made : ℕ
+most_made = 32
+
+-- the bytes that an area keeps at least
+abbrev pub file_length : Option Scrap → ℕ
+file_length None = 0
+file_length (Some file) = length file.bytes
+
+abbrev pub least_length : ℕ → Desk → ℕ
+least_length k d = if k == scrap_area then file_length d.scrap else 0
+
+-- whether an area of n bytes would lose more than it can
+abbrev pub shrinks_below : ℕ → ℕ → ℤ → Bool
+shrinks_below least n (pos by) = false
+shrinks_below least n (negsuc by) = nat_lt n (least + whole_pages (negsuc by))
+
+-- the pages of an area that has so many and keeps so many bytes at least, after the change
+unfoldable pub pages_after : ℕ → ℕ → ℕ → ℤ → Granted ℕ
+pages_after free least pages delta =
+    let n : ℕ = page * pages in do
+      refuse_if (shrinks_below least n delta) ExcessiveShrink
+      refuse_if (nat_lt free (pages_for (changed_length n delta - n))) NoRoom
+      Ok (changed_length n delta / page)
+
+-- the desk with another heap in its module area
+abbrev pub with_module : Heap → Desk → Desk
+with_module h d = record d { post = record d.post { heap = h } }
+
+unfoldable pub change_module : Desk → ℤ → Granted Answer
+change_module d delta = do
+  c ← module_change (free_pages d) delta d.post.heap
+  Ok (with_module c.0 d, reply.Moved c.1)
+
+-- areas 0 and 2 to 5 are pages only
+unfoldable pub change_pages : Desk → ℕ → ℤ → Granted Answer
+change_pages d k delta = do
+  n ← pages_after (free_pages d) (least_length k d) (slice_index d.areas k) delta
+  Ok (record d { areas = slice_set d.areas k n }, reply.Moved (whole_pages delta))
+
+abbrev pub is_numbered : ℕ → Made → Bool
+is_numbered k m = m.number == k
+
+abbrev pub with_pages : ℕ → ℕ → Made → Made
+with_pages k n m = if is_numbered k m then record m { pages = n } else m
+
+unfoldable pub change_made : Desk → ℕ → ℤ → Granted Answer
+change_made d k delta = do
+  m ← found_or (find (is_numbered k) d.made) NoArea
+  n ← pages_after (free_pages d) 0 m.pages delta
+  refuse_if (nat_lt m.most n) TooBig
+  Ok (record d { made = map (with_pages k n) d.made }, reply.Moved (whole_pages delta))
+
+-- an area longer or shorter by whole pages
+abbrev pub change_area : Desk → ℕ → ℤ → Granted Answer
+change_area d k delta =
+    if k == module_area then change_module d delta
+    else if nat_lt k (length d.areas) then change_pages d k delta
+    else change_made d k delta
+
+-- an area of no page, and of at most so many
+unfoldable pub make : Desk → ℕ → Granted Answer
+make d most = do
+  refuse_if (nat_le most_made (length d.made)) TooManyAreas
+  refuse_if (nat_lt last_number d.next_area) NoNumbers
+  Ok (
+    record d { made = d.made ++ record { number = d.next_area; most = most; pages = 0 } ∷ []; next_area = d.next_area + 1 },
+    reply.Made d.next_area,
+  )
+
+-- a made area away, its pages free
+unfoldable pub remove : Desk → ℕ → Granted Answer
+remove d k = do
+  m ← found_or (find (is_numbered k) d.made) NoArea
+  Ok (record d { made = filter (λ other. not (is_numbered k other)) d.made }, reply.Done)
+
+-- ---- the module area's blocks
+
+-- the module area's first byte
+abbrev pub module_start : ℕ
+module_start = 0x1800000
+
+-- the block at the address, which holds no message; addresses below the module area are no block's
+unfoldable pub own_block : ℕ → Desk → Granted (Split Segment)
+own_block address d = do
+  b ← found_or (block_at (address - module_start) d.post.heap) NotABlock
+  refuse_if (post_is_message (address - module_start) d.post) NotYours
+  Ok b
+
+unfoldable pub rma_claim : Desk → ℕ → Granted Answer
+rma_claim d n = do
+  c ← module_claim (free_pages d) n d.post.heap
+  Ok (with_module c.0 d, reply.Block (module_start + c.1))
+
+unfoldable pub rma_free : Desk → ℕ → Granted Answer
+rma_free d address = do
+  b ← own_block address d
+  h ← module_free (address - module_start) d.post.heap
+  Ok (with_module h d, reply.Done)
+
+unfoldable pub rma_resize : Desk → ℕ → ℤ → Granted Answer
+rma_resize d address delta = do
+  b ← own_block address d
+  c ← module_resize (free_pages d) (address - module_start) delta d.post.heap
+  Ok (with_module c.0 d, reply.Block (module_start + c.1))
+
+-- ---- questions
+
+-- a block's size; its bytes are printed from the desk
+unfoldable pub show : Desk → List ℕ → ℕ → Granted Answer
+show d name k = do
+  t ← named name d
+  b ← slot_block k t.slot
+  Ok (d, reply.Shown (length b.here.bytes))
+
+-- how many blocks the task has; they are printed from the desk, as the items of the next two are
+unfoldable pub blocks : Desk → List ℕ → Granted Answer
+blocks d name = do
+  t ← named name d
+  Ok (d, reply.BlockCount (length t.slot.blocks))
+
+unfoldable pub heap_sums : Desk → List ℕ → Granted Answer
+heap_sums d name = do
+  t ← named name d
+  Ok (d, reply.HeapSums t.slot.heap.end (largest t.slot.heap) (free_bytes t.slot.heap))
+
+unfoldable pub status : Desk → List ℕ → Granted Answer
+status d name = do
+  t ← named name d
+  Ok (d, reply.StatusOf t.handle)
+
+-- opens this file's words, for a proof that computes
+unfoldable pub computing : Unit {0}
+unfolding start_task kill alloc load put free extend mid claim release resize budge pages_after change_module change_pages change_made make remove own_block rma_claim rma_free rma_resize show blocks heap_sums status
+computing = tt

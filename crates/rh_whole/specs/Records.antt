@@ -1,0 +1,120 @@
+-- The records of a task's transfers: lists in the order made, which is the order of ids.
+use Rattle.std.specs.Prelude.{ℕ, Bool, true, false, nat_le, ◌==◌, if◌then◌else◌, List, [], ◌∷◌, ◌++◌, length, filter, find, Option, Some, None}
+use Rattle.rh_whole.specs.declared.transfer.Sending.{Sending}
+use Rattle.rh_whole.specs.declared.transfer.Taking.{Taking}
+use Rattle.rh_whole.specs.declared.transfer.Asked.{Asked}
+use Rattle.rh_whole.specs.declared.transfer.Outgoing.{Outgoing}
+use Rattle.rh_whole.specs.declared.transfer.Outgoing.TheVariants as outgoing
+use Rattle.rh_whole.specs.declared.transfer.Incoming.{Incoming}
+use Rattle.rh_whole.specs.declared.transfer.Incoming.TheVariants as incoming
+
+-- a task has at most so many records each way
+abbrev pub most_records : ℕ
+most_records = 8
+
+abbrev pub out_id : Outgoing → ℕ
+out_id (outgoing.Open x) = x.id
+out_id (outgoing.Done id count) = id
+out_id (outgoing.Failed id count) = id
+
+abbrev pub in_id : Incoming → ℕ
+in_id (incoming.Fetching r) = r.id
+in_id (incoming.Draining r) = r.id
+in_id (incoming.Asking q) = q.id
+in_id (incoming.Done id anchor count) = id
+in_id (incoming.Failed id anchor count) = id
+
+abbrev pub is_open : Outgoing → Bool
+is_open (outgoing.Open x) = true
+is_open _ = false
+
+-- the transfer hasn't ended
+abbrev pub is_going : Incoming → Bool
+is_going (incoming.Fetching r) = true
+is_going (incoming.Draining r) = true
+is_going (incoming.Asking q) = true
+is_going _ = false
+
+-- ---- what is busy
+
+abbrev pub is_source : ℕ → Outgoing → Bool
+is_source k (outgoing.Open x) = x.anchor == k
+is_source k _ = false
+
+abbrev pub is_document : ℕ → Incoming → Bool
+is_document k (incoming.Fetching r) = r.anchor == k
+is_document k (incoming.Asking q) = q.anchor == k
+is_document k _ = false
+
+abbrev pub is_buffer : ℕ → Incoming → Bool
+is_buffer address (incoming.Fetching r) = r.buffer == address
+is_buffer address (incoming.Draining r) = r.buffer == address
+is_buffer address _ = false
+
+-- ---- lists of records
+
+-- so many records as a task may have pass the test
+abbrev pub is_full : {A : Type 0} → (A → Bool) → List A → Bool
+is_full test records = nat_le most_records (length (filter test records))
+
+-- without the first record that has ended
+abbrev pub dropped : {A : Type 0} → (A → Bool) → List A → List A
+dropped lasts [] = []
+dropped lasts (r ∷ records) = if lasts r then r ∷ dropped lasts records else records
+
+-- one more record: on a full list the first one that has ended goes
+abbrev pub one_more : {A : Type 0} → (A → Bool) → A → List A → List A
+one_more lasts new records = (if nat_le most_records (length records) then dropped lasts records else records) ++ new ∷ []
+
+-- the record of the id written anew
+abbrev pub with_id : {A : Type 0} → (A → ℕ) → ℕ → A → List A → List A
+with_id id_of id new [] = []
+with_id id_of id new (r ∷ records) = (if id_of r == id then new else r) ∷ with_id id_of id new records
+
+-- the first open record that passes the test
+abbrev pub open_of : (Sending → Bool) → List Outgoing → Option Sending
+open_of test [] = None
+open_of test (outgoing.Open x ∷ records) = if test x then Some x else open_of test records
+open_of test (_ ∷ records) = open_of test records
+
+-- the first record with a buffer that passes the test
+abbrev pub active_of : (Taking → Bool) → List Incoming → Option Incoming
+active_of test [] = None
+active_of test (incoming.Fetching r ∷ records) = if test r then Some (incoming.Fetching r) else active_of test records
+active_of test (incoming.Draining r ∷ records) = if test r then Some (incoming.Draining r) else active_of test records
+active_of test (_ ∷ records) = active_of test records
+
+-- the first record that waits for a file and passes the test
+abbrev pub asking_of : (Asked → Bool) → List Incoming → Option Asked
+asking_of test [] = None
+asking_of test (incoming.Asking q ∷ records) = if test q then Some q else asking_of test records
+asking_of test (_ ∷ records) = asking_of test records
+
+-- ---- cancelling
+
+-- no id stands for any: the first such record has the least one
+abbrev pub is_meant : Option ℕ → ℕ → Bool
+is_meant None id = true
+is_meant (Some wanted) id = id == wanted
+
+abbrev pub is_meant_in : Option ℕ → Incoming → Bool
+is_meant_in wanted (incoming.Fetching r) = is_meant wanted r.id
+is_meant_in wanted (incoming.Asking q) = is_meant wanted q.id
+is_meant_in wanted _ = false
+
+-- the record to cancel
+abbrev pub to_cancel_in : Option ℕ → List Incoming → Option Incoming
+to_cancel_in wanted records = find (is_meant_in wanted) records
+
+abbrev pub to_cancel_out : Option ℕ → List Outgoing → Option Sending
+to_cancel_out wanted records = open_of (λ x. is_meant wanted x.id) records
+
+-- a transfer that fetches goes on until its buffer comes back; one that waits for a file ends
+abbrev pub cancelled : Incoming → Incoming
+cancelled (incoming.Fetching r) = incoming.Draining r
+cancelled (incoming.Asking q) = incoming.Failed q.id q.anchor 0
+cancelled r = r
+
+-- opens this file's words, for a proof that computes
+unfoldable pub computing : Unit {0}
+computing = tt
