@@ -10,3 +10,6 @@ pub mod Turns
 pub mod Limits
 pub mod Rows
 
+pub mod FlexMaps
+pub mod HeapMaps
+pub mod SeenTasks

@@ -2,3 +2,7 @@ pub mod Ends
 pub mod Protocol
 pub mod Schedules
 pub mod Turns
+pub mod View
+pub mod History
+pub mod FlexMap
+pub mod HeapMap
