@@ -137,7 +137,7 @@ put_same f h x = let t : nat_eq h h ≡ true = eq-eqb _ _ refl in rw t refl
 put_other : {A : Type 0} (f : ℕ → A) (h : ℕ) (x : A) (k : ℕ) → k ≢ h → put f h x k ≡ f k
 put_other f h x k ne = elim (eqb_tells k h) [ inl w ↦ absurd (ne w.1) | inr w ↦ rw w.0 refl ]
 
-put_twice : {A : Type 0} (f : ℕ → A) (h : ℕ) (x y : A) (k : ℕ) → put (put f h x) h y k ≡ put f h y k
+pub put_twice : {A : Type 0} (f : ℕ → A) (h : ℕ) (x y : A) (k : ℕ) → put (put f h x) h y k ≡ put f h y k
 put_twice f h x y k = elim (eqb_tells k h) [ inl w ↦ rw w.0 refl | inr w ↦ rw w.0 refl ]
 
 put_swap : {A : Type 0} (f : ℕ → A) (h j : ℕ) (x y : A) (k : ℕ) → h ≢ j → put (put f j y) h x k ≡ put (put f h x) j y k

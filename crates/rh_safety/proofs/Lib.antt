@@ -13,3 +13,6 @@ pub mod Rows
 pub mod FlexMaps
 pub mod HeapMaps
 pub mod SeenTasks
+pub mod SeenFrames
+pub mod SeenBlocks
+pub mod SeenHeaps

@@ -4,9 +4,9 @@ use Rattle.std.specs.Prelude.{if◌then◌else◌, nat_eq, nat_lt, is_none, is_s
 use Rattle.std.proofs.lemmas.Bool.{eq-eqb}
 use Rattle.std.proofs.lemmas.Bool.Decides.{leb_tells}
 use Rattle.std.proofs.lemmas.List.{take-append-drop}
-use Rattle.rh_safety.specs.Ends.{source_at, document_at, buffer_at, is_meant, is_meant_in, how_many, Recorded, Kind, DataSave, RamFetch, RamTransmit, DataSaveAck, DataLoad, DataLoadAck, Letter, Message, Sending, Taking, Out, Open, In, Fetching, Draining, Asking, In_done, In_failed, is_growing, out_id, in_id, in_anchor, is_open, Has, Active, put, any, first, one_more, find_open}
+use Rattle.rh_safety.specs.Ends.{is_document_of, IsPrefixOf, source_at, document_at, buffer_at, is_meant, is_meant_in, how_many, Recorded, Kind, DataSave, RamFetch, RamTransmit, DataSaveAck, DataLoad, DataLoadAck, Letter, Message, Sending, Taking, Out, Open, In, Fetching, Draining, Asking, In_done, In_failed, is_growing, out_id, in_id, in_anchor, is_open, Has, Active, put, any, first, one_more, find_open}
 use Rattle.rh_safety.specs.Protocol.{Desk, Luck, start, Command, Start, Kill, Save, Poll, Repeat, Cancel_in, Cancel_out, Alloc, Change, Free, Claim, Release, is_busy, bytes_of, sent, can_save, saved, again, can_repeat, repeated, Lose, cancels_in, cancels_out, can_edit, with_block, with_heap, started, killed, polled, step, run, would_answer}
-use Rattle.rh_safety.specs.Schedules.{offer_again, repeat_offers, offers_after, offers_from, documents_at, edited_after, edited_from, record_of, document, Origin, after, offered, IsPrefixOf, IsSafe, HoldsBuffer}
+use Rattle.rh_safety.specs.Schedules.{offer_again, repeat_offers, offers_after, offers_from, edited_after, edited_from, record_of, document, Origin, after, offered, IsSafe, HoldsBuffer}
 use Rattle.rh_safety.proofs.Basics.{length_more, put_all, put_same, put_other, same_value, none_some, none_of, some_of, or_left, or_right, and_left, and_right, not_true, is_equal, not_equal, any_none, first_is, open_is, Ascend, more_ascends, one_of_id}
 use Rattle.rh_safety.proofs.Invariant.{Offered, queued, kept, latest, Knows, Begins, Untouched, IsGood, Inv, Good}
 use Rattle.rh_safety.proofs.Moves.{loads_grow, Grows, letters_grow, outs_grow, ins_grow, move_more}
@@ -197,35 +197,35 @@ untouched_before e e' f (In_done i a n) u = f i u
 untouched_before e e' f (In_failed i a n) u = f i u
 
 -- an edit that is not refused finds no untouched document there
-no_document : (d : Desk) (e : ℕ → ℕ → Bool) (h a : ℕ) → any (document_at a) (d.taking h) ≡ false → (w : In) → Has w (d.taking h) → Untouched (put e h (λ i. e h i || any (documents_at i a) (d.taking h)) h) w → in_anchor w ≢ a
+no_document : (d : Desk) (e : ℕ → ℕ → Bool) (h a : ℕ) → any (document_at a) (d.taking h) ≡ false → (w : In) → Has w (d.taking h) → Untouched (put e h (λ i. e h i || any (is_document_of i a) (d.taking h)) h) w → in_anchor w ≢ a
 no_document d e h a free w has u = by_cases w has u
   where
-    other : (w : In) → Has w (d.taking h) → put e h (λ i. e h i || any (documents_at i a) (d.taking h)) h (in_id w) ≡ false → in_anchor w ≢ a
+    other : (w : In) → Has w (d.taking h) → put e h (λ i. e h i || any (is_document_of i a) (d.taking h)) h (in_id w) ≡ false → in_anchor w ≢ a
     other w has u eq =
-        let u1 : (e h (in_id w) || any (documents_at (in_id w) a) (d.taking h)) ≡ false = sym (ap (λ (f : ℕ → Bool). f (in_id w)) (put_same e h (λ i. e h i || any (documents_at i a) (d.taking h)))) ∙ u in
-        let z : documents_at (in_id w) a w ≡ false = any_none (documents_at (in_id w) a) (d.taking h) w (or_right (e h (in_id w)) _ u1) has in
+        let u1 : (e h (in_id w) || any (is_document_of (in_id w) a) (d.taking h)) ≡ false = sym (ap (λ (f : ℕ → Bool). f (in_id w)) (put_same e h (λ i. e h i || any (is_document_of i a) (d.taking h)))) ∙ u in
+        let z : is_document_of (in_id w) a w ≡ false = any_none (is_document_of (in_id w) a) (d.taking h) w (or_right (e h (in_id w)) _ u1) has in
         let t1 : nat_eq (in_id w) (in_id w) ≡ true = eq-eqb _ _ refl in
         let t2 : nat_eq (in_anchor w) a ≡ true = eq-eqb _ _ eq in
-        let y : documents_at (in_id w) a w ≡ true = rw (t1, t2) refl in
+        let y : is_document_of (in_id w) a w ≡ true = rw (t1, t2) refl in
         let x : Bool.true ≡ false = sym y ∙ z in absurd (cc)
 
-    by_cases : (w : In) → Has w (d.taking h) → Untouched (put e h (λ i. e h i || any (documents_at i a) (d.taking h)) h) w → in_anchor w ≢ a
+    by_cases : (w : In) → Has w (d.taking h) → Untouched (put e h (λ i. e h i || any (is_document_of i a) (d.taking h)) h) w → in_anchor w ≢ a
     by_cases (Fetching t) has u = not_equal t.anchor a (any_none (document_at a) (d.taking h) (Fetching t) free has)
     by_cases (Draining t) has u = other (Draining t) has u
     by_cases (Asking q) has u = not_equal q.anchor a (any_none (document_at a) (d.taking h) (Asking q) free has)
     by_cases (In_done i b n) has u = other (In_done i b n) has u
     by_cases (In_failed i b n) has u = other (In_failed i b n) has u
 
-edit_good : {o : Offered} {e : ℕ → ℕ → Bool} {d : Desk} (h a : ℕ) (v : Option (List ℕ)) → Good o e d → (b : Bool) → can_edit d h a ≡ b → Good o (if b then put e h (λ i. e h i || any (documents_at i a) (d.taking h)) else e) (if b then with_block d h a v else d)
+edit_good : {o : Offered} {e : ℕ → ℕ → Bool} {d : Desk} (h a : ℕ) (v : Option (List ℕ)) → Good o e d → (b : Bool) → can_edit d h a ≡ b → Good o (if b then put e h (λ i. e h i || any (is_document_of i a) (d.taking h)) else e) (if b then with_block d h a v else d)
 edit_good h a v g false q = g
 edit_good {o} {e} {d} h a v g true q =
     let busy : is_busy d h a ≡ false = not_true _ (and_right (is_some (d.block h a)) _ (and_right (d.live h) _ q)) in
-    let e' = put e h (λ i. e h i || any (documents_at i a) (d.taking h)) in
+    let e' = put e h (λ i. e h i || any (is_document_of i a) (d.taking h)) in
     record {
       inv = block_inv e' h a v (record {
         sources = λ x r. not_equal x.anchor a (any_none (source_at a) (d.sending h) (Open x) (or_left (any (source_at a) (d.sending h)) _ busy) r);
         documents = no_document d e h a (or_right (any (source_at a) (d.sending h)) _ busy);
-        before = λ r w u. untouched_before (e r) (e' r) (λ i f. put_all (λ j (z : ℕ → Bool). z i ≡ false → e j i ≡ false) e h (λ i. e h i || any (documents_at i a) (d.taking h)) (λ y. or_left (e h i) _ y) (λ j ne y. y) r f) w u;
+        before = λ r w u. untouched_before (e r) (e' r) (λ i f. put_all (λ j (z : ℕ → Bool). z i ≡ false → e j i ≡ false) e h (λ i. e h i || any (is_document_of i a) (d.taking h)) (λ y. or_left (e h i) _ y) (λ j ne y. y) r f) w u;
       }) g.inv;
       pending = λ s x r l k. g.pending s x r l (record { known = k.known; kind = k.kind; answers = k.answers; from = k.from; live = k.live; fetches = k.fetches });
       born = g.born;

@@ -173,6 +173,19 @@ buffer_view d h k g v live eb eh =
       block = λ j. sym (unput (view d).block h (blocks_of (g t.slot)) (field_is (λ y. blocks_of y.slot) (λ a. None) h d.tasks t is ∙ (λ l a. sym (eb a) l)) j) i;
     })
 
+-- the C heap alone is another
+pub heap_view : (d : Desk) (h : ℕ) (g : Slot → Slot) (m : ℕ → Option (List ℕ)) → (view d).live h ≡ true →
+    Same (blocks_of (g (task_or d h).slot)) (blocks_of (task_or d h).slot) → Same (buffers_of (g (task_or d h).slot)) m →
+    view (with_task h (λ y. record y { slot = g y.slot }) d) ≡ record (view d) { heap = put (view d).heap h m }
+heap_view d h g m live eb eh =
+    let t = task_or d h in
+    let is = task_is d h live in
+    slot_view d h g live ∙
+    (λ i. record (view d) {
+      heap = put (view d).heap h (λ a. eh a i);
+      block = λ j. sym (unput (view d).block h (blocks_of (g t.slot)) (field_is (λ y. blocks_of y.slot) (λ a. None) h d.tasks t is ∙ (λ l a. sym (eb a) l)) j) i;
+    })
+
 -- a slot with the same blocks
 pub still_view : (d : Desk) (h : ℕ) (g : Slot → Slot) → (view d).live h ≡ true →
     Same (blocks_of (g (task_or d h).slot)) (blocks_of (task_or d h).slot) → Same (buffers_of (g (task_or d h).slot)) (buffers_of (task_or d h).slot) →

@@ -13,6 +13,7 @@ pub use Rattle.rh_defs.specs.declared.message.EventCode.{EventCode as Code}
 pub use Rattle.rh_defs.specs.declared.message.EventCode.TheVariants.{User as Plain, Recorded, Acknowledge as Returned}
 pub use Rattle.rh_defs.specs.declared.message.Action.{Action as Kind}
 pub use Rattle.rh_defs.specs.declared.message.Action.TheVariants.{DataSave, DataSaveAck, DataLoad, DataLoadAck, RamFetch, RamTransmit}
+pub use Rattle.rh_safety.specs.History.{in_anchor, is_document_of, at_place as put, Has, IsPrefixOf, Offers, Edits}
 pub use Rattle.std.specs.Prelude.{find as first}
 pub use Rattle.std.specs.List.{list_any as any}
 
@@ -30,22 +31,6 @@ pub record Message : Type 0 where
   pub code : Code
   pub to : ℕ
   pub letter : Letter
-
-abbrev pub in_anchor : In → ℕ
-in_anchor (Fetching t) = t.anchor
-in_anchor (Draining t) = t.anchor
-in_anchor (Asking q) = q.anchor
-in_anchor (In_done i a n) = a
-in_anchor (In_failed i a n) = a
-
--- a map with one place written anew
-abbrev pub put : {A : Type 0} → (ℕ → A) → ℕ → A → ℕ → A
-put f h x k = if k == h then x else f k
-
--- the list has the element
-abbrev pub Has : {A : Type 0} → A → List A → Type 0
-Has m [] = ⊥
-Has m (x ∷ xs) = (x ≡ m) ⊎ Has m xs
 
 -- Lists of records
 

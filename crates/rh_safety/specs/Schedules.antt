@@ -1,6 +1,6 @@
 -- What a list of commands offered, and what is held of it.
 use Rattle.std.specs.Prelude.{◌≡◌, ℕ, ◌≤◌, ◌<◌, Bool, true, false, not, ◌&&◌, ◌||◌, ◌==◌, if◌then◌else◌, List, [], ◌∷◌, ◌++◌, length, Option, Some, None, nat_le}
-use Rattle.rh_safety.specs.Ends.{Pairwise, out_id, Code, Plain, Recorded, Returned, Kind, DataSave, RamFetch, RamTransmit, DataSaveAck, DataLoad, DataLoadAck, Letter, Message, Sending, Taking, Out_done, In, In_done, in_id, in_anchor, Active, Has, put, any, first, find_open, first_for}
+use Rattle.rh_safety.specs.Ends.{is_document_of, IsPrefixOf, Pairwise, out_id, Code, Plain, Recorded, Returned, Kind, DataSave, RamFetch, RamTransmit, DataSaveAck, DataLoad, DataLoadAck, Letter, Message, Sending, Taking, Out_done, In, In_done, in_id, in_anchor, Active, Has, put, any, first, find_open, first_for}
 use Rattle.rh_safety.specs.Protocol.{Desk, Command, Start, Kill, Save, Poll, Repeat, Cancel_in, Cancel_out, Alloc, Change, Free, Claim, Release, Lose, step, run, start, can_save, can_repeat, can_edit, would_answer, returned}
 
 -- Offered
@@ -39,12 +39,8 @@ offers_from offers d (c ∷ cs) = offers_from (offers_after offers d c) (step d 
 
 -- Edited: an accepted edit of the document came while the record was there
 
--- the record has this id, and its document this anchor
-abbrev pub documents_at : ℕ → ℕ → In → Bool
-documents_at i a w = (in_id w == i) && (in_anchor w == a)
-
 abbrev pub edit_after : (ℕ → ℕ → Bool) → Desk → ℕ → ℕ → ℕ → ℕ → Bool
-edit_after edited d h a = if can_edit d h a then put edited h (λ i. edited h i || any (documents_at i a) (d.taking h)) else edited
+edit_after edited d h a = if can_edit d h a then put edited h (λ i. edited h i || any (is_document_of i a) (d.taking h)) else edited
 
 abbrev pub edited_after : (ℕ → ℕ → Bool) → Desk → Command → ℕ → ℕ → Bool
 edited_after edited d (Start buf deaf file) = edited
@@ -90,9 +86,6 @@ abbrev pub held : Origin → List Command → ℕ → ℕ → Option (List ℕ)
 held o cs id h =
     let d = after o cs in
     if d.live h then document d h (edited_from (λ k i. false) (start o.most o.handle o.first) cs h id) (record_of id (d.taking h)) else None
-
-abbrev pub IsPrefixOf : List ℕ → List ℕ → Type 0
-IsPrefixOf xs ys = (rest : List ℕ) × (xs ++ rest ≡ ys)
 
 -- what is held is a prefix of what was offered, all of it once the record says so, and the sender counts it whole
 pub record IsSafe (o : Origin) (cs : List Command) (id h : ℕ) : Type 0 where
