@@ -1,11 +1,7 @@
 pub mod Chains
 pub mod Cuts
 pub mod Anchors
-pub mod Tasks
-pub mod Steps
-pub mod Spaced
 pub mod FileLemmas
-pub mod Examples
 pub mod BytesLaws
 pub mod MemoryLaws
 pub mod HeapLists
@@ -20,3 +16,7 @@ pub mod ModuleLaws
 pub mod SlotLaws
 pub mod SlotImageLaws
 pub mod MessageRows
+pub mod Rows
+pub mod MemoryRows
+pub mod TransferRows
+pub mod Examples

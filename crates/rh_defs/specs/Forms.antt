@@ -1,5 +1,5 @@
 -- The forms of names and numbers.
-use Rattle.std.specs.Prelude.{ℕ, ◌+◌, ◌*◌, ◌-◌, Bool, ◌&&◌, nat_le, nat_lt, slice_index, List, length, fold}
+use Rattle.std.specs.Prelude.{ℕ, ◌+◌, ◌*◌, ◌-◌, ℤ, pos, negsuc, Bool, true, ◌&&◌, nat_le, nat_lt, slice_index, List, length, fold, Option, Some, None}
 use Rattle.std.specs.List.{list_all}
 use Rattle.std.specs.Char.{is_ascii_alphabetic, is_ascii_alphanumeric, is_ascii_digit}
 
@@ -21,9 +21,57 @@ is_anchor k = nat_lt k 64
 abbrev pub is_number : ℕ → Bool
 is_number n = nat_le n greatest
 
+-- a signed amount of a line
+abbrev pub is_delta : ℤ → Bool
+is_delta (pos n) = nat_le n greatest
+is_delta (negsuc n) = nat_lt n greatest
+
+-- the size of the longest receive buffer
+abbrev pub longest_buffer : ℕ
+longest_buffer = 65536
+
 -- the size of a receive buffer
 abbrev pub is_buffer : ℕ → Bool
-is_buffer n = nat_le 1 n && nat_le n 65536
+is_buffer n = nat_le 1 n && nat_le n longest_buffer
+
+-- a byte of a leafname
+abbrev pub is_graphic : ℕ → Bool
+is_graphic b = nat_le 0x21 b && nat_le b 0x7e
+
+-- 1 to 10 bytes from &21 to &7E
+abbrev pub is_leaf : List ℕ → Bool
+is_leaf leaf = nat_le 1 (length leaf) && nat_le (length leaf) 10 && list_all is_graphic leaf
+
+-- the last ref that a message can have
+abbrev pub last_ref : ℕ
+last_ref = 4294967295
+
+-- no id, or one from 1 on
+abbrev pub is_id : Option ℕ → Bool
+is_id None = true
+is_id (Some id) = nat_le 1 id
+
+-- the number of the first made area, and that of the last one
+abbrev pub first_made : ℕ
+first_made = 256
+
+abbrev pub last_made : ℕ
+last_made = 65535
+
+-- the number of an area, and that of a made one
+abbrev pub is_area : ℕ → Bool
+is_area k = nat_le k last_made
+
+abbrev pub is_made : ℕ → Bool
+is_made k = nat_le first_made k && nat_le k last_made
+
+-- the most pages of a pool, and of a made area
+abbrev pub most_pages : ℕ
+most_pages = 1024
+
+-- how many pages a made area may have
+abbrev pub is_most : ℕ → Bool
+is_most n = nat_le 1 n && nat_le n most_pages
 
 -- 1 to 10 decimal digits
 unfoldable pub is_decimal : List ℕ → Bool

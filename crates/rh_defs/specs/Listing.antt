@@ -1,15 +1,31 @@
--- What the commands that list and show things answer: the areas and slots of a desk, the flex blocks of a slot,
--- the bytes of a block.
-use Rattle.std.specs.Prelude.{ℕ, ◌+◌, nat_lt, List, [], ◌∷◌, ◌++◌, length, take, drop, map, slice_get, Option, Some, None, find, Ok}
+-- What the commands that list and show things answer beside the first line's numbers, whole and item by item.
+use Rattle.std.specs.Prelude.{ℕ, ◌+◌, nat_lt, ◌==◌, if◌then◌else◌, List, [], ◌∷◌, ◌++◌, length, take, drop, map, slice_get, find, Option, Some, None, Ok}
 use Rattle.std.specs.List.{enumerate_from}
+use Rattle.std.specs.Option.{option_map}
 use Rattle.rh_defs.specs.declared.listing.BlockItem.{BlockItem}
+use Rattle.rh_defs.specs.declared.listing.SegmentItem.{SegmentItem}
+use Rattle.rh_defs.specs.declared.listing.SegmentItem.TheVariants as segment
 use Rattle.rh_defs.specs.declared.listing.AreaItem.{AreaItem}
 use Rattle.rh_defs.specs.declared.listing.AreaItem.TheVariants as item
+use Rattle.rh_defs.specs.declared.listing.State.{State}
+use Rattle.rh_defs.specs.declared.listing.State.TheVariants as state
+use Rattle.rh_defs.specs.declared.listing.RecordItem.{RecordItem}
 use Rattle.rh_defs.specs.declared.refusal.Refusal.TheVariants.{BadRange}
+use Rattle.rh_defs.specs.declared.command.Command.{Command}
+use Rattle.rh_defs.specs.declared.command.Command.TheVariants as command
+use Rattle.rh_defs.specs.declared.reply.Reply.{Reply}
+use Rattle.rh_defs.specs.declared.reply.Reply.TheVariants as reply
+use Rattle.rh_defs.specs.declared.transfer.Outgoing.{Outgoing}
+use Rattle.rh_defs.specs.declared.transfer.Outgoing.TheVariants as outgoing
+use Rattle.rh_defs.specs.declared.transfer.Incoming.{Incoming}
+use Rattle.rh_defs.specs.declared.transfer.Incoming.TheVariants as incoming
 use Rattle.rh_defs.specs.Chain.{Granted, ◌>>=◌, ◌>>◌, refuse_if}
 use Rattle.rh_defs.specs.Pieces.{Split}
-use Rattle.rh_defs.specs.Slot.{Slot, Flex, weight, flex_start, block_of, slot_block}
-use Rattle.rh_defs.specs.Desk.{Desk, Task, has_name, task_pages, free_pages, named}
+use Rattle.rh_defs.specs.Heap.{Segment, Used, Hole, size_of, first_place, segment_at, largest, free_bytes}
+use Rattle.rh_defs.specs.Slot.{Slot, Flex, weight, heap_start, flex_start, block_of, slot_block}
+use Rattle.rh_defs.specs.Desk.{Desk, Task, Made, task_pages, module_pages, has_name, free_pages, named}
+use Rattle.rh_defs.specs.Commands.{module_area}
+use Rattle.rh_defs.specs.Step.{step}
 
 -- flex blocks that lie one after the other from a place on
 abbrev pub block_items_from : ℕ → List Flex → List BlockItem
@@ -21,11 +37,48 @@ block_items_from place (b ∷ blocks) =
 abbrev pub block_items : Slot → List BlockItem
 block_items s = block_items_from (flex_start s) s.blocks
 
--- areas 0 to 5, and then the slots in order of handle
+-- a segment that begins at a place
+abbrev pub segment_item : ℕ → Segment → SegmentItem
+segment_item place (Used bytes) = segment.Used (place + 4) (length bytes)
+segment_item place (Hole size) = segment.Hole place size
+
+-- segments that lie one after the other from a place on
+abbrev pub segment_items_from : ℕ → List Segment → List SegmentItem
+segment_items_from place [] = []
+segment_items_from place (g ∷ segments) = segment_item place g ∷ segment_items_from (place + size_of g) segments
+
+-- the segments of a slot's C heap from below
+abbrev pub segment_items : Slot → List SegmentItem
+segment_items s = segment_items_from (heap_start + first_place) s.heap.segments
+
+-- one of areas 0 to 5, by its number and the pages that the list has for it
+abbrev pub area_item : Desk → ℕ × ℕ → AreaItem
+area_item d area = item.Area area.0 (if area.0 == module_area then module_pages d else area.1)
+
+-- areas 0 to 5, the made ones, and then the slots in order of handle
 abbrev pub area_items : Desk → List AreaItem
 area_items d =
-    map (λ (area : ℕ × ℕ). item.Area area.0 area.1) (enumerate_from 0 d.areas)
+    map (area_item d) (enumerate_from 0 d.areas)
+    ++ map (λ (m : Made). item.Area m.number m.pages) d.made
     ++ map (λ t. item.Slot t.name (task_pages t)) d.tasks
+
+-- a record's state, id and count
+abbrev pub listed_as : State → ℕ → ℕ → RecordItem
+listed_as state id count = record { state = state; id = id; count = count }
+
+-- a record of a transfer that goes out
+abbrev pub out_item : Outgoing → RecordItem
+out_item (outgoing.Open x) = listed_as state.Open x.id x.count
+out_item (outgoing.Done id count) = listed_as state.Done id count
+out_item (outgoing.Failed id count) = listed_as state.Failed id count
+
+-- a record of a transfer that comes in
+abbrev pub in_item : Incoming → RecordItem
+in_item (incoming.Fetching f) = listed_as state.Fetching f.id f.count
+in_item (incoming.Draining f) = listed_as state.Draining f.id f.count
+in_item (incoming.Asking q) = listed_as state.Asking q.id 0
+in_item (incoming.Done id anchor count) = listed_as state.Done id count
+in_item (incoming.Failed id anchor count) = listed_as state.Failed id count
 
 -- ---- what is asked of a desk, item by item
 
@@ -39,6 +92,21 @@ blocks_at d name i = do
   t ← named name d
   Ok (length t.slot.blocks, slice_get (block_items t.slot) i)
 
+-- the C heap's length, largest block and free bytes, and the segment that begins at a place of it
+unfoldable pub heap_at : Desk → List ℕ → ℕ → Granted ((ℕ × ℕ × ℕ) × Option SegmentItem)
+heap_at d name place = do
+  t ← named name d
+  Ok (
+    (t.slot.heap.end, largest t.slot.heap, free_bytes t.slot.heap),
+    option_map (λ s. segment_item (heap_start + place) s.here) (segment_at place t.slot.heap),
+  )
+
+-- the task's handle, and its records each way
+unfoldable pub status_at : Desk → List ℕ → Granted (ℕ × List Outgoing × List Incoming)
+status_at d name = do
+  t ← named name d
+  Ok (t.handle, t.sending, t.taking)
+
 -- the size of a block, and n of its bytes from an offset on
 unfoldable pub shown_at : Desk → List ℕ → ℕ → ℕ → ℕ → Granted (ℕ × List ℕ)
 shown_at d name k offset n = do
@@ -49,19 +117,48 @@ shown_at d name k offset n = do
 
 -- ---- the whole of it
 
--- of the slot of a task, or what stands for its lack
-abbrev pub of_slot : {A : Type 0} → (Slot → A) → A → Option Task → A
-of_slot f other None = other
-of_slot f other (Some t) = f t.slot
-
--- the flex blocks of the task with the name
-abbrev pub blocks_of_named : List ℕ → Desk → List BlockItem
-blocks_of_named name d = of_slot block_items [] (find (has_name name) d.tasks)
-
+-- the bytes of the block at a cut, none where there is no block
 abbrev pub bytes_in : Option (Split Flex) → List ℕ
 bytes_in None = []
 bytes_in (Some b) = b.here.bytes
 
--- the bytes of the block that the task with the name has at the anchor
-abbrev pub bytes_of_named : List ℕ → ℕ → Desk → List ℕ
-bytes_of_named name k d = of_slot (λ s. bytes_in (block_of k s)) [] (find (has_name name) d.tasks)
+-- what a reply lists
+pub data Listed : Type 0 where
+  Nothing : Listed
+  Bytes : List ℕ → Listed
+  Blocks : List BlockItem → Listed
+  Segments : List SegmentItem → Listed
+  Records : (out in_ : List RecordItem) → Listed
+  Areas : List AreaItem → Listed
+
+-- what is listed of a task, where there is one
+abbrev pub listed_of : (Task → Listed) → Option Task → Listed
+listed_of list None = Nothing
+listed_of list (Some t) = list t
+
+-- the same of the task with the name
+abbrev pub of_named : List ℕ → Desk → (Task → Listed) → Listed
+of_named name d list = listed_of list (find (has_name name) d.tasks)
+
+-- a task's records
+abbrev pub records_of : Task → Listed
+records_of t = Records (map out_item t.sending) (map in_item t.taking)
+
+-- what the desk after a command lists with its reply
+abbrev pub listed : Desk → Command → Reply → Listed
+listed d (command.Show name k) (reply.Shown size) = of_named name d (λ t. Bytes (bytes_in (block_of k t.slot)))
+listed d (command.Blocks name) (reply.BlockCount count) = of_named name d (λ t. Blocks (block_items t.slot))
+listed d (command.Heap name) (reply.HeapSums length largest free) = of_named name d (λ t. Segments (segment_items t.slot))
+listed d (command.Status name) (reply.StatusOf handle) = of_named name d records_of
+listed d command.Areas (reply.FreePages pages) = Areas (area_items d)
+listed d _ _ = Nothing
+
+-- the replies of a run with what they list
+abbrev pub answers : Desk → List Command → List (Reply × Listed)
+answers d [] = []
+answers d (c ∷ commands) = ((step d c).1, listed (step d c).0 c (step d c).1) ∷ answers (step d c).0 commands
+
+-- opens this file's words, for a proof that computes
+unfoldable pub computing : Unit {0}
+unfolding blocks_at heap_at status_at shown_at
+computing = tt

@@ -1,24 +1,40 @@
 -- Whole runs: the desk after a list of commands, and their replies.
-use Rattle.std.specs.Prelude.{ℕ, List, [], ◌∷◌}
+use Rattle.std.specs.Prelude.{ℕ, List, [], ◌∷◌, None}
 use Rattle.rh_defs.specs.declared.command.Command.{Command}
 use Rattle.rh_defs.specs.declared.reply.Reply.{Reply}
+use Rattle.rh_defs.specs.Forms.{first_made}
+use Rattle.rh_defs.specs.Pieces.{page}
+use Rattle.rh_defs.specs.Heap.{empty_heap}
 use Rattle.rh_defs.specs.Files.{FileList}
 use Rattle.rh_defs.specs.Desk.{Desk}
 use Rattle.rh_defs.specs.Step.{step}
-use Rattle.rh_defs.specs.Chain
-use Rattle.rh_defs.specs.Slot
-use Rattle.rh_defs.specs.Desk
-use Rattle.rh_defs.specs.Step
+use Rattle.rh_defs.specs.Chain as chain
+use Rattle.rh_defs.specs.Slot as slot
+use Rattle.rh_defs.specs.Module as module_area
+use Rattle.rh_defs.specs.Bytes as bytes
+use Rattle.rh_defs.specs.Messages as messages
+use Rattle.rh_defs.specs.Post as post
+use Rattle.rh_defs.specs.Sender as sender
+use Rattle.rh_defs.specs.Receiver as receiver
+use Rattle.rh_defs.specs.Desk as desk
+use Rattle.rh_defs.specs.Commands as commands
+use Rattle.rh_defs.specs.OutgoingEvents as outgoing_events
+use Rattle.rh_defs.specs.IncomingEvents as incoming_events
+use Rattle.rh_defs.specs.Transfer as transfer
+use Rattle.rh_defs.specs.Step as steps
 
--- the first desk: no task, one page in the module area (area 1), and the next handle and ref
+-- the first desk: no task, one page in the module area, and the next handle and ref
 abbrev pub start_with : ℕ → FileList → ℕ → ℕ → Desk
 start_with pool files handle ref = record {
   tasks = [];
-  areas = 0 ∷ 1 ∷ 0 ∷ 0 ∷ 0 ∷ 0 ∷ [];
+  post = record { seats = []; queued = []; heap = empty_heap page; next_ref = ref };
+  areas = 0 ∷ 0 ∷ 0 ∷ 0 ∷ 0 ∷ 0 ∷ [];
+  made = [];
+  scrap = None;
   pool = pool;
   files = files;
   next_handle = handle;
-  next_ref = ref;
+  next_area = first_made;
 }
 
 -- handles and refs count up from 1
@@ -37,5 +53,5 @@ replies d (c ∷ commands) = (step d c).1 ∷ replies (step d c).0 commands
 
 -- opens all that a run computes with
 unfoldable pub computing : Unit {0}
-unfolding Chain.computing Slot.computing Desk.computing Step.computing
+unfolding chain.computing slot.computing module_area.computing bytes.put messages.computing post.computing sender.computing receiver.computing desk.computing commands.computing outgoing_events.computing incoming_events.computing transfer.computing steps.computing
 computing = tt

@@ -17,6 +17,10 @@ pub record Slot : Type 0 where
   pub blocks : List Flex
   pub budging : Bool
 
+-- a slot has so many anchors
+abbrev pub anchor_count : ℕ
+anchor_count = 64
+
 -- what a block of n bytes takes: two header words, and whole words
 abbrev pub flex_weight : ℕ → ℕ
 flex_weight n = 8 + round_up 4 n

@@ -1,69 +1,102 @@
 -- What each command does.
-use Rattle.std.specs.Prelude.{ℕ, ◌+◌, ◌^◌, nat_le, List, [], ◌∷◌, ◌++◌, length, Ok}
-use Rattle.std.specs.List.{list_any}
-use Rattle.rh_defs.specs.declared.refusal.Refusal.TheVariants.{NameInUse, TooManyTasks, NoHandles}
+use Rattle.std.specs.Prelude.{ℕ, List, length, find, Option, Some, None, Ok}
+use Rattle.rh_defs.specs.declared.refusal.Refusal.TheVariants.{NoTask, NothingSent, Busy}
 use Rattle.rh_defs.specs.declared.command.Command.{Command}
 use Rattle.rh_defs.specs.declared.command.Command.TheVariants as command
-use Rattle.rh_defs.specs.declared.reply.Reply.{Reply}
 use Rattle.rh_defs.specs.declared.reply.Reply.TheVariants as reply
-use Rattle.rh_defs.specs.Chain.{Granted, ◌>>=◌, ◌>>◌, refuse_if, or_else}
-use Rattle.rh_defs.specs.Slot.{Slot, slot_begin, slot_alloc, slot_put, slot_block}
-use Rattle.rh_defs.specs.Desk.{Desk, most_tasks, free_pages, has_name, named, with_slot}
+use Rattle.rh_defs.specs.Chain.{Granted, ◌>>=◌, ◌>>◌, refuse_if, found_or, or_else}
+use Rattle.rh_defs.specs.Messages.{Parcel, action_of}
+use Rattle.rh_defs.specs.Letters.{save_letter}
+use Rattle.rh_defs.specs.Records.{is_open, is_full}
+use Rattle.rh_defs.specs.Sender as sender
+use Rattle.rh_defs.specs.Receiver as receiver
+use Rattle.rh_defs.specs.Post.{post_poll}
+use Rattle.rh_defs.specs.Desk.{Desk, Task, next_ref, free_pages, has_name, named, idle_block, with_sending, with_taking, with_delivered, send_letter}
+use Rattle.rh_defs.specs.Commands.{Answer, start_task, kill, alloc, load, put, free, extend, mid, claim, release, resize, budge, change_area, make, remove, rma_claim, rma_free, rma_resize, show, blocks, heap_sums, status}
+use Rattle.rh_defs.specs.OutgoingEvents.{Handled}
+use Rattle.rh_defs.specs.Transfer.{handled}
 
--- the desk after a command, and its reply
-abbrev pub Answer : Type 0
-Answer = Desk × Reply
+-- ---- messages
 
--- the desk with one more task
-abbrev pub with_new_task : List ℕ → ℕ → Slot → Desk → Desk
-with_new_task name buffer s d = record d {
-  tasks = d.tasks ++ record { handle = d.next_handle; name = name; buffer = buffer; slot = s } ∷ [];
-  next_handle = d.next_handle + 1;
-}
-
--- a task begins with a fresh slot; handles are 32-bit words and are never given twice
-unfoldable pub start_task : Desk → List ℕ → ℕ → Granted Answer
-start_task d name buffer = do
-  refuse_if (list_any (has_name name) d.tasks) NameInUse
-  refuse_if (nat_le most_tasks (length d.tasks)) TooManyTasks
-  refuse_if (nat_le (2 ^ 32) d.next_handle) NoHandles
-  s ← slot_begin (free_pages d)
-  Ok (with_new_task name buffer s d, reply.Started d.next_handle)
-
--- a block of zeros on top of the task's slot
-unfoldable pub alloc : Desk → List ℕ → ℕ → ℕ → Granted Answer
-alloc d name k n = do
+-- a DataSave with the block's size; its record is open from then on
+unfoldable pub save : Desk → List ℕ → ℕ → List ℕ → List ℕ → Granted Answer
+save d name k to leaf = do
   t ← named name d
-  p ← slot_alloc (free_pages d) k n t.slot
-  Ok (with_slot t.handle p.0 d, reply.Block p.1)
+  b ← idle_block k t
+  refuse_if (is_full is_open t.sending) Busy
+  r ← found_or (find (has_name to) d.tasks) NoTask
+  sent ← send_letter (save_letter t.handle r.handle (length b.here.bytes) leaf) d
+  Ok (with_sending t.handle (sender.offered (next_ref d) r.handle k) sent, reply.Sent (next_ref d))
 
--- bytes written into a block
-unfoldable pub put : Desk → List ℕ → ℕ → ℕ → List ℕ → Granted Answer
-put d name k offset bytes = do
+-- the last message once more, with another ref
+unfoldable pub repeat : Desk → List ℕ → Granted Answer
+repeat d name = do
   t ← named name d
-  s ← slot_put k offset bytes t.slot
-  Ok (with_slot t.handle s d, reply.Done)
+  last ← found_or t.last_sent NothingSent
+  sent ← send_letter (record last.0 { from = t.handle }) d
+  Ok (sent, reply.Sent (next_ref d))
 
--- a block's size; its bytes are printed from the desk
-unfoldable pub show : Desk → List ℕ → ℕ → Granted Answer
-show d name k = do
-  t ← named name d
-  b ← slot_block k t.slot
-  Ok (d, reply.Shown (length b.here.bytes))
+-- the message as it was taken, and what was done
+abbrev pub event : Parcel → Handled → Answer
+event m after = (after.0, reply.Event m.code (action_of m.message.body) m.message.my_ref m.message.your_ref after.1)
 
--- how many blocks the task has; they are printed from the desk
-unfoldable pub blocks : Desk → List ℕ → Granted Answer
-blocks d name = do
+-- the message that was taken is handled
+unfoldable pub poll_taken : Desk → Task → Option Parcel → Answer
+poll_taken d t None = (d, reply.NoEvent)
+poll_taken d t (Some m) = event m (handled d t m m.code)
+
+-- the message that the task holds bounces, and the next one is taken and handled
+unfoldable pub poll : Desk → List ℕ → Granted Answer
+poll d name = do
   t ← named name d
-  Ok (d, reply.BlockCount (length t.slot.blocks))
+  let after = post_poll t.handle d.post in
+      Ok (poll_taken (with_delivered after.0 d) t after.1)
+
+-- a transfer that comes in is given up
+unfoldable pub cancel_in : Desk → List ℕ → Option ℕ → Granted Answer
+cancel_in d name id = do
+  t ← named name d
+  records ← receiver.cancel id t.taking
+  Ok (with_taking t.handle (λ _. records) d, reply.Done)
+
+-- a transfer that goes out is given up
+unfoldable pub cancel_out : Desk → List ℕ → Option ℕ → Granted Answer
+cancel_out d name id = do
+  t ← named name d
+  records ← sender.cancel id t.sending
+  Ok (with_sending t.handle (λ _. records) d, reply.Done)
+
+-- ---- one command
 
 -- what a command changes and answers, or why it is refused
 abbrev pub change : Desk → Command → Granted Answer
-change d (command.Task name buffer) = start_task d name buffer
+change d (command.Task name buffer manner) = start_task d name buffer manner
+change d (command.Kill name) = kill d name
 change d (command.Alloc name k n) = alloc d name k n
+change d (command.Load name k file) = load d name k file
 change d (command.Put name k offset bytes) = put d name k offset bytes
+change d (command.Free name k) = free d name k
+change d (command.Extend name k n) = extend d name k n
+change d (command.Mid name k offset by) = mid d name k offset by
+change d (command.Claim name n) = claim d name n
+change d (command.Release name address) = release d name address
+change d (command.Resize name address delta) = resize d name address delta
+change d (command.Budge name on) = budge d name on
+change d (command.Save name k to leaf) = save d name k to leaf
+change d (command.Poll name) = poll d name
+change d (command.CancelIn name id) = cancel_in d name id
+change d (command.CancelOut name id) = cancel_out d name id
+change d (command.Repeat name) = repeat d name
+change d (command.Area k delta) = change_area d k delta
+change d (command.Make most) = make d most
+change d (command.Remove k) = remove d k
+change d (command.RmaClaim n) = rma_claim d n
+change d (command.RmaFree address) = rma_free d address
+change d (command.RmaResize address delta) = rma_resize d address delta
 change d (command.Show name k) = show d name k
 change d (command.Blocks name) = blocks d name
+change d (command.Heap name) = heap_sums d name
+change d (command.Status name) = status d name
 change d command.Areas = Ok (d, reply.FreePages (free_pages d))
 
 -- one command: a refusal leaves the desk as it was
@@ -72,5 +105,5 @@ step d c = or_else (change d c) (λ refusal. (d, reply.Refused refusal))
 
 -- opens this file's words, for a proof that computes
 unfoldable pub computing : Unit {0}
-unfolding start_task alloc put show blocks
+unfolding save repeat poll_taken poll cancel_in cancel_out
 computing = tt

@@ -1,30 +1,55 @@
--- The text of a reply.
-use Rattle.std.specs.Prelude.{true, ℕ, List, [], ◌∷◌, ◌++◌, codes}
+-- The text of a reply: its words, one space between them, and its later lines behind two spaces.
+use Rattle.std.specs.Prelude.{true, false, Bool, ℕ, List, [], ◌∷◌, ◌++◌, codes}
 use Rattle.std.specs.List.{flat_map}
 use Rattle.std.specs.Fmt.{decimal, digits}
 use Rattle.hex.specs.Hex.{encode_lower}
 use Rattle.rh_defs.specs.declared.command.Command.{Command}
-use Rattle.rh_defs.specs.declared.command.Command.TheVariants as command
 use Rattle.rh_defs.specs.declared.fault.LineFault.{LineFault}
 use Rattle.rh_defs.specs.declared.fault.LineFault.TheVariants.{TooLong, Unended, Unknown, Count, Word}
 use Rattle.rh_defs.specs.declared.refusal.Refusal.{Refusal}
 use Rattle.rh_defs.specs.declared.refusal.Refusal.TheVariants.{NameInUse, NoName, TooManyTasks, NoHandles, NoFile, NoBlock, AnchorInUse, NotABlock, NotYours, Busy, NotOpen, NothingSent, BadRange, BadSize, ExcessiveShrink, NoTask, NoRefs, QueueFull, NoBudge, NoRoom, NoArea, TooManyAreas, NoNumbers, TooBig}
+use Rattle.rh_defs.specs.declared.message.Action.{Action}
+use Rattle.rh_defs.specs.declared.message.Action.TheVariants as action
 use Rattle.rh_defs.specs.declared.reply.Reply.{Reply}
 use Rattle.rh_defs.specs.declared.reply.Reply.TheVariants as reply
-use Rattle.rh_defs.specs.Desk.{Desk}
+use Rattle.rh_defs.specs.declared.reply.Outcome.{Outcome}
+use Rattle.rh_defs.specs.declared.reply.Outcome.TheVariants as outcome
 use Rattle.rh_defs.specs.declared.listing.BlockItem.{BlockItem}
+use Rattle.rh_defs.specs.declared.listing.SegmentItem.{SegmentItem}
+use Rattle.rh_defs.specs.declared.listing.SegmentItem.TheVariants as segment
 use Rattle.rh_defs.specs.declared.listing.AreaItem.{AreaItem}
 use Rattle.rh_defs.specs.declared.listing.AreaItem.TheVariants as item
-use Rattle.rh_defs.specs.Listing.{area_items, blocks_of_named, bytes_of_named}
+use Rattle.rh_defs.specs.declared.listing.State.{State}
+use Rattle.rh_defs.specs.declared.listing.State.TheVariants as state
+use Rattle.rh_defs.specs.declared.listing.RecordItem.{RecordItem}
+use Rattle.rh_defs.specs.Messages.{code_number}
+use Rattle.rh_defs.specs.Desk.{Desk}
+use Rattle.rh_defs.specs.Listing.{Listed, Nothing, Bytes, Blocks, Segments, Records, Areas, listed}
 
--- lists, one after another
-abbrev pub joined : List (List ℕ) → List ℕ
-joined [] = []
-joined (x ∷ xs) = x ++ joined xs
+-- ---- words and lines
+
+-- the words of a line
+abbrev pub Words : Type 0
+Words = List (List ℕ)
+
+-- words with a space before each, and a line feed
+abbrev pub rest_of_line : Words → List ℕ
+rest_of_line [] = codes "\n"
+rest_of_line (w ∷ words) = codes " " ++ (w ++ rest_of_line words)
+
+-- a line that begins with a word
+abbrev pub line : List ℕ → Words → List ℕ
+line w words = w ++ rest_of_line words
+
+-- the first line of a reply that is no refusal
+abbrev pub ok : Words → List ℕ
+ok words = line (codes "ok") words
 
 -- an address: `&` and upper-case hexadecimal digits without leading zeros
 unfoldable pub address : ℕ → List ℕ
 address n = codes "&" ++ digits 16 true n
+
+-- ---- names
 
 -- a refusal's name as it is printed
 abbrev pub refusal_name : Refusal → List ℕ
@@ -55,56 +80,136 @@ refusal_name TooBig = codes "TooBig"
 
 -- the reply of a bad line
 unfoldable pub fault_text : LineFault → List ℕ
-fault_text TooLong = codes "bad TooLong\n"
-fault_text Unended = codes "bad Unended\n"
-fault_text Unknown = codes "bad Unknown\n"
-fault_text Count = codes "bad Count\n"
-fault_text (Word n) = joined (codes "bad Word " ∷ decimal n ∷ codes "\n" ∷ [])
+fault_text TooLong = line (codes "bad") (codes "TooLong" ∷ [])
+fault_text Unended = line (codes "bad") (codes "Unended" ∷ [])
+fault_text Unknown = line (codes "bad") (codes "Unknown" ∷ [])
+fault_text Count = line (codes "bad") (codes "Count" ∷ [])
+fault_text (Word n) = line (codes "bad") (codes "Word" ∷ decimal n ∷ [])
 
--- a block's bytes behind its size: a space and two lower-case digits for each byte, nothing for an empty block
-abbrev pub spaced_hex : List ℕ → List ℕ
-spaced_hex [] = []
-spaced_hex (b ∷ bytes) = codes " " ++ encode_lower (b ∷ bytes)
+-- whether budging was on
+abbrev pub on_or_off : Bool → List ℕ
+on_or_off true = codes "on"
+on_or_off false = codes "off"
 
--- the first line, where it has the bytes of a block
-unfoldable pub shown_line : ℕ → List ℕ → List ℕ
-shown_line size bytes = joined (codes "ok " ∷ decimal size ∷ []) ++ (spaced_hex bytes ++ codes "\n")
+-- the name of what a message is about
+abbrev pub action_name : Action → List ℕ
+action_name action.DataSave = codes "DataSave"
+action_name action.DataSaveAck = codes "DataSaveAck"
+action_name action.DataLoad = codes "DataLoad"
+action_name action.DataLoadAck = codes "DataLoadAck"
+action_name action.RamFetch = codes "RAMFetch"
+action_name action.RamTransmit = codes "RAMTransmit"
 
--- the bytes that a command shows
-abbrev pub shown_bytes : Desk → Command → List ℕ
-shown_bytes d (command.Show name k) = bytes_of_named name k d
-shown_bytes d _ = []
+-- what was done with a message
+abbrev pub outcome_words : Outcome → Words
+outcome_words outcome.Ignored = codes "ignored" ∷ []
+outcome_words (outcome.Fetch ref) = codes "fetch" ∷ decimal ref ∷ []
+outcome_words (outcome.Sent count ref) = codes "sent" ∷ decimal count ∷ decimal ref ∷ []
+outcome_words (outcome.Refused refusal) = codes "failed" ∷ refusal_name refusal ∷ []
+outcome_words outcome.Failed = codes "failed" ∷ []
+outcome_words outcome.Drained = codes "drained" ∷ []
+outcome_words (outcome.TookLast count) = codes "took" ∷ decimal count ∷ codes "done" ∷ []
+outcome_words (outcome.TookFull count ref) = codes "took" ∷ decimal count ∷ codes "fetch" ∷ decimal ref ∷ []
+outcome_words (outcome.TookFailed count refusal) = codes "took" ∷ decimal count ∷ codes "failed" ∷ refusal_name refusal ∷ []
+outcome_words (outcome.Asked ref) = codes "asked" ∷ decimal ref ∷ []
+outcome_words (outcome.Saved count ref) = codes "saved" ∷ decimal count ∷ decimal ref ∷ []
+outcome_words (outcome.Loaded count) = codes "loaded" ∷ decimal count ∷ codes "done" ∷ []
+outcome_words (outcome.LoadedFailed count refusal) = codes "loaded" ∷ decimal count ∷ codes "failed" ∷ refusal_name refusal ∷ []
+outcome_words outcome.Done = codes "done" ∷ []
+
+-- ---- the first line
+
+-- the bytes that a reply shows
+abbrev pub shown_bytes : Listed → List ℕ
+shown_bytes (Bytes bytes) = bytes
+shown_bytes _ = []
+
+-- a block's bytes behind its size: one word of two lower-case digits for each byte, no word for an empty block
+abbrev pub hex_words : List ℕ → Words
+hex_words [] = []
+hex_words (b ∷ bytes) = encode_lower (b ∷ bytes) ∷ []
 
 -- the first line
-unfoldable pub first_line : Desk → Command → Reply → List ℕ
-first_line d c (reply.Refused refusal) = joined (codes "refused " ∷ refusal_name refusal ∷ codes "\n" ∷ [])
-first_line d c reply.Done = codes "ok\n"
-first_line d c (reply.Started handle) = joined (codes "ok " ∷ decimal handle ∷ codes "\n" ∷ [])
-first_line d c (reply.Block place) = joined (codes "ok " ∷ address place ∷ codes "\n" ∷ [])
-first_line d c (reply.Shown size) = shown_line size (shown_bytes d c)
-first_line d c (reply.BlockCount count) = joined (codes "ok " ∷ decimal count ∷ codes "\n" ∷ [])
-first_line d c (reply.FreePages pages) = joined (codes "ok " ∷ decimal pages ∷ codes "\n" ∷ [])
+unfoldable pub first_line : Reply → Listed → List ℕ
+first_line (reply.Refused refusal) listed = line (codes "refused") (refusal_name refusal ∷ [])
+first_line reply.Done listed = ok []
+first_line (reply.Started handle) listed = ok (decimal handle ∷ [])
+first_line (reply.Block place) listed = ok (address place ∷ [])
+first_line (reply.WasBudging on) listed = ok (on_or_off on ∷ [])
+first_line (reply.Sent ref) listed = ok (decimal ref ∷ [])
+first_line (reply.Moved bytes) listed = ok (decimal bytes ∷ [])
+first_line (reply.Made number) listed = ok (decimal number ∷ [])
+first_line (reply.Shown size) listed = ok (decimal size ∷ hex_words (shown_bytes listed))
+first_line (reply.BlockCount count) listed = ok (decimal count ∷ [])
+first_line (reply.HeapSums length largest free) listed = ok (decimal length ∷ decimal largest ∷ decimal free ∷ [])
+first_line (reply.StatusOf handle) listed = ok (decimal handle ∷ [])
+first_line (reply.FreePages pages) listed = ok (decimal pages ∷ [])
+first_line reply.NoEvent listed = ok (codes "0" ∷ [])
+first_line (reply.Event code action mine yours outcome) listed =
+    ok (decimal (code_number code) ∷ action_name action ∷ decimal mine ∷ decimal yours ∷ outcome_words outcome)
+
+-- ---- later lines
+
+-- a line behind two spaces
+abbrev pub later : List ℕ → Words → List ℕ
+later w words = codes "  " ++ line w words
 
 -- a flex block: its anchor, address and size
-unfoldable pub block_text : BlockItem → List ℕ
-block_text b = joined (codes "  " ∷ decimal b.anchor ∷ codes " " ∷ address b.address ∷ codes " " ∷ decimal b.size ∷ codes "\n" ∷ [])
+abbrev pub block_line : BlockItem → List ℕ
+block_line b = later (decimal b.anchor) (address b.address ∷ decimal b.size ∷ [])
+
+-- a segment of a heap: its kind, address and size
+abbrev pub segment_line : SegmentItem → List ℕ
+segment_line (segment.Used place size) = later (codes "used") (address place ∷ decimal size ∷ [])
+segment_line (segment.Hole place size) = later (codes "hole") (address place ∷ decimal size ∷ [])
 
 -- an area by its number, or a slot by its task's name, and its pages
-unfoldable pub area_text : AreaItem → List ℕ
-area_text (item.Area number pages) = joined (codes "  area " ∷ decimal number ∷ codes " " ∷ decimal pages ∷ codes "\n" ∷ [])
-area_text (item.Slot name pages) = joined (codes "  slot " ∷ name ∷ codes " " ∷ decimal pages ∷ codes "\n" ∷ [])
+abbrev pub area_line : AreaItem → List ℕ
+area_line (item.Area number pages) = later (codes "area") (decimal number ∷ decimal pages ∷ [])
+area_line (item.Slot name pages) = later (codes "slot") (name ∷ decimal pages ∷ [])
+
+-- the state of a transfer
+abbrev pub state_name : State → List ℕ
+state_name state.Open = codes "open"
+state_name state.Fetching = codes "fetching"
+state_name state.Draining = codes "draining"
+state_name state.Asking = codes "asking"
+state_name state.Done = codes "done"
+state_name state.Failed = codes "failed"
+
+-- a record: its state, id and count
+abbrev pub record_line : List ℕ → RecordItem → List ℕ
+record_line way r = later way (state_name r.state ∷ decimal r.id ∷ decimal r.count ∷ [])
+
+-- the records of one direction, which the word names
+abbrev pub record_lines : List ℕ → List RecordItem → List ℕ
+record_lines way [] = later way (codes "idle" ∷ [])
+record_lines way (r ∷ records) = flat_map (record_line way) (r ∷ records)
 
 -- the later lines
-unfoldable pub later_lines : Desk → Command → Reply → List ℕ
-later_lines d (command.Blocks name) (reply.BlockCount count) = flat_map block_text (blocks_of_named name d)
-later_lines d command.Areas (reply.FreePages pages) = flat_map area_text (area_items d)
-later_lines d _ _ = []
+unfoldable pub later_lines : Listed → List ℕ
+later_lines Nothing = []
+later_lines (Bytes bytes) = []
+later_lines (Blocks blocks) = flat_map block_line blocks
+later_lines (Segments segments) = flat_map segment_line segments
+later_lines (Records outgoing incoming) = record_lines (codes "out") outgoing ++ record_lines (codes "in") incoming
+later_lines (Areas areas) = flat_map area_line areas
+
+-- ---- whole replies
+
+-- a reply with what it lists
+abbrev pub answer_text : Reply × Listed → List ℕ
+answer_text answer = first_line answer.0 answer.1 ++ later_lines answer.1
+
+-- replies one after the other
+abbrev pub text_of : List (Reply × Listed) → List ℕ
+text_of answers = flat_map answer_text answers
 
 -- what prints the reply to a command, on the desk after it
 unfoldable pub reply_text : Desk → Command → Reply → List ℕ
-reply_text d c reply = first_line d c reply ++ later_lines d c reply
+reply_text d c r = answer_text (r, listed d c r)
 
 -- opens this file's words, for a proof that computes
 unfoldable pub computing : Unit {0}
-unfolding digits address fault_text shown_line first_line block_text area_text later_lines reply_text
+unfolding digits address fault_text first_line later_lines reply_text
 computing = tt

@@ -1,11 +1,24 @@
 //! The commands of a script.
 
 ghost use Rattle.std.specs.Prelude.{◌≡◌};
+ghost use Rattle.rh_defs.specs.Forms.{is_delta as is_delta_of, is_id as is_id_of};
 ghost use Rattle.rh_defs.specs.Range.{in_range as in_range_of};
 
 use crate::bytes::Bytes;
-use crate::ids::Anchor;
+use crate::ids::{Anchor, Ref};
+use crate::leaf::Leaf;
 use crate::name::Name;
+
+/// How a task takes part in transfers.
+#[derive(Clone, Copy, Debug, PartialEq, Eq)]
+pub enum Manner {
+    /// It sends and receives.
+    Plain,
+    /// It takes no DataSave.
+    Deaf,
+    /// It answers no RAMFetch, so that its receivers ask for a file.
+    File,
+}
 
 /// One command.
 #[derive(Debug, Drop, PartialEq, Eq)]
@@ -14,6 +27,11 @@ pub enum Command {
     Task {
         name: Name,
         buffer: u32,
+        manner: Manner,
+    },
+    /// Ends a task: its messages bounce or vanish, and its pages are free.
+    Kill {
+        name: Name,
     },
     /// Puts a flex block of `size` zero bytes on top of the task's slot (flex_alloc).
     Alloc {
@@ -21,12 +39,108 @@ pub enum Command {
         anchor: Anchor,
         size: u32,
     },
+    /// Puts a flex block with a named file's bytes on top of the task's slot.
+    Load {
+        name: Name,
+        anchor: Anchor,
+        file: Name,
+    },
     /// Writes bytes into a flex block, from an offset on.
     Put {
         name: Name,
         anchor: Anchor,
         offset: u32,
         bytes: Bytes,
+    },
+    /// Takes a flex block away; those above it slide down (flex_free).
+    Free {
+        name: Name,
+        anchor: Anchor,
+    },
+    /// Cuts a flex block to `size` bytes, or lengthens it by zeros (flex_extend).
+    Extend {
+        name: Name,
+        anchor: Anchor,
+        size: u32,
+    },
+    /// Puts `by` zeros into a flex block at an offset, or takes out the `-by` bytes before it (flex_midextend).
+    Mid {
+        name: Name,
+        anchor: Anchor,
+        offset: u32,
+        by: i32,
+    },
+    /// Claims a block of the task's C heap (OS_Heap 2).
+    Claim {
+        name: Name,
+        size: u32,
+    },
+    /// Releases a block of the task's C heap (OS_Heap 3).
+    Release {
+        name: Name,
+        address: u32,
+    },
+    /// Changes the size of a block of the task's C heap (OS_Heap 4).
+    Resize {
+        name: Name,
+        address: u32,
+        delta: i32,
+    },
+    /// Says whether flex blocks give way where the C heap grows.
+    Budge {
+        name: Name,
+        on: bool,
+    },
+    /// Offers a flex block to another task under a leafname (Message_DataSave).
+    Save {
+        name: Name,
+        anchor: Anchor,
+        to: Name,
+        leaf: Leaf,
+    },
+    /// Takes the task's next message, and does what it asks for (Wimp_Poll).
+    Poll {
+        name: Name,
+    },
+    /// Gives up the transfer with the id that comes in; without an id the first one that can be given up.
+    CancelIn {
+        name: Name,
+        id: Option<Ref>,
+    },
+    /// Gives up the open transfer with the id that goes out; without an id the first one.
+    CancelOut {
+        name: Name,
+        id: Option<Ref>,
+    },
+    /// Sends the task's last message once more, under another ref.
+    Repeat {
+        name: Name,
+    },
+    /// Moves an area's length by whole pages (OS_ChangeDynamicArea).
+    Area {
+        number: u32,
+        delta: i32,
+    },
+    /// Makes an area of no page, and of at most so many.
+    Make {
+        most: u32,
+    },
+    /// Takes a made area away.
+    Remove {
+        number: u32,
+    },
+    /// Claims a block of the module area (OS_Module 6).
+    RmaClaim {
+        size: u32,
+    },
+    /// Frees a block of the module area (OS_Module 7).
+    RmaFree {
+        address: u32,
+    },
+    /// Changes the size of a block of the module area (OS_Module 13).
+    RmaResize {
+        address: u32,
+        delta: i32,
     },
     /// Shows a flex block's size and bytes (flex_size).
     Show {
@@ -37,12 +151,47 @@ pub enum Command {
     Blocks {
         name: Name,
     },
+    /// Describes the task's C heap (OS_Heap 1), and lists its segments from below.
+    Heap {
+        name: Name,
+    },
+    /// Lists the records of the task's transfers.
+    Status {
+        name: Name,
+    },
     /// Lists the free pages, and those of each area and slot.
     Areas,
 }
 
 /// The greatest number of a line.
 const GREATEST: u32 = 2_147_483_647;
+
+/// The size in bytes of the longest receive buffer.
+const LONGEST_BUFFER: u32 = 65_536;
+
+/// The number of the first made area.
+const FIRST_MADE: u32 = 256;
+
+/// The greatest number of an area.
+const LAST_AREA: u32 = 65_535;
+
+/// The most pages that a made area may have.
+const MOST_PAGES: u32 = 1024;
+
+fn is_delta(n: i32) -> bool
+    ensures { result ≡ is_delta_of n }
+{
+    n != i32::MIN
+}
+
+fn is_id(id: Option<Ref>) -> bool
+    ensures { result ≡ is_id_of id }
+{
+    match id {
+        None => true,
+        Some(id) => id.0 >= 1,
+    }
+}
 
 impl Command {
     /// Whether its numbers, names and bytes are of the forms that a script line can give them.
@@ -51,9 +200,16 @@ impl Command {
         ensures { result ≡ in_range_of self.now }
     {
         match self {
-            Command::Task { name, buffer } => name.is_valid() && *buffer >= 1 && *buffer <= 65536,
-            Command::Alloc { name, anchor, size } => {
+            Command::Task {
+                name,
+                buffer,
+                manner: _,
+            } => { name.is_valid() && *buffer >= 1 && *buffer <= LONGEST_BUFFER }
+            Command::Alloc { name, anchor, size } | Command::Extend { name, anchor, size } => {
                 name.is_valid() && anchor.is_valid() && *size <= GREATEST
+            }
+            Command::Load { name, anchor, file } => {
+                name.is_valid() && anchor.is_valid() && file.is_valid()
             }
             Command::Put {
                 name,
@@ -66,9 +222,44 @@ impl Command {
                     && *offset <= GREATEST
                     && !bytes.as_slice().is_empty()
             }
-            Command::Show { name, anchor } => name.is_valid() && anchor.is_valid(),
-            Command::Blocks { name } => name.is_valid(),
-            Command::Areas => true,
+            Command::Free { name, anchor } | Command::Show { name, anchor } => {
+                name.is_valid() && anchor.is_valid()
+            }
+            Command::Mid {
+                name,
+                anchor,
+                offset,
+                by,
+            } => { name.is_valid() && anchor.is_valid() && *offset <= GREATEST && is_delta(*by) }
+            Command::Claim { name, size } => name.is_valid() && *size <= GREATEST,
+            Command::Resize {
+                name,
+                address: _,
+                delta,
+            } => name.is_valid() && is_delta(*delta),
+            Command::Save {
+                name,
+                anchor,
+                to,
+                leaf,
+            } => { name.is_valid() && anchor.is_valid() && to.is_valid() && leaf.is_valid() }
+            Command::CancelIn { name, id } | Command::CancelOut { name, id } => {
+                name.is_valid() && is_id(*id)
+            }
+            Command::Area { number, delta } => *number <= LAST_AREA && is_delta(*delta),
+            Command::Make { most } => *most >= 1 && *most <= MOST_PAGES,
+            Command::Remove { number } => *number >= FIRST_MADE && *number <= LAST_AREA,
+            Command::RmaClaim { size } => *size <= GREATEST,
+            Command::RmaResize { address: _, delta } => is_delta(*delta),
+            Command::RmaFree { address: _ } | Command::Areas => true,
+            Command::Kill { name }
+            | Command::Release { name, address: _ }
+            | Command::Budge { name, on: _ }
+            | Command::Poll { name }
+            | Command::Repeat { name }
+            | Command::Blocks { name }
+            | Command::Heap { name }
+            | Command::Status { name } => name.is_valid(),
         }
     }
 }

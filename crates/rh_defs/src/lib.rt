@@ -8,26 +8,30 @@ mod files;
 mod heap;
 mod ids;
 mod laws;
+mod leaf;
 mod listing;
 mod message;
 mod name;
 mod pathname;
 mod refusal;
 mod reply;
+mod transfer;
 
 pub use bytes::Bytes;
-pub use command::Command;
+pub use command::{Command, Manner};
 pub use fault::LineFault;
 pub use files::Files;
 pub use heap::HeapFault;
 pub use ids::{Anchor, Handle, Ref};
-pub use laws::{image_law, span_law};
-pub use listing::{AreaItem, BlockItem};
+pub use laws::image_law;
+pub use leaf::Leaf;
+pub use listing::{AreaItem, BlockItem, RecordItem, SegmentItem, State};
 pub use message::{Action, Body, Event, EventCode, FileData, Letter, Message, MessageFault};
 pub use name::Name;
 pub use pathname::Pathname;
 pub use refusal::Refusal;
-pub use reply::Reply;
+pub use reply::{Outcome, Reply};
+pub use transfer::{Asked, Incoming, Outgoing, Sending, Taking};
 
 #[cfg(test)]
 mod tests;

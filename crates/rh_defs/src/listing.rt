@@ -1,6 +1,6 @@
 //! What the commands that list things print, item by item.
 
-use crate::ids::Anchor;
+use crate::ids::{Anchor, Ref};
 use crate::name::Name;
 
 /// A flex block as `blocks` lists it.
@@ -14,11 +14,48 @@ pub struct BlockItem {
     pub size: u32,
 }
 
+/// A segment of a C heap as `heap` lists it.
+#[derive(Clone, Copy, Debug, PartialEq, Eq)]
+pub enum SegmentItem {
+    /// A block: its address, and its size in bytes.
+    Used { address: u32, size: u32 },
+    /// A hole: the address of its first byte, and its whole size in bytes.
+    Hole { address: u32, size: u32 },
+}
+
 /// An area or a slot as `areas` lists it.
 #[derive(Debug, Drop, PartialEq, Eq)]
 pub enum AreaItem {
     /// A dynamic area of OS_ChangeDynamicArea, by its number.
-    Area { number: u8, pages: u32 },
+    Area { number: u32, pages: u32 },
     /// The slot of the task with the name.
     Slot { name: Name, pages: u32 },
+}
+
+/// The state of a transfer's record.
+#[derive(Clone, Copy, Debug, PartialEq, Eq)]
+pub enum State {
+    /// It goes out, and hasn't ended.
+    Open,
+    /// It comes in through its buffer.
+    Fetching,
+    /// It was given up, and its buffer isn't back yet.
+    Draining,
+    /// It waits for a file.
+    Asking,
+    /// It ended, and all bytes were handed over.
+    Done,
+    /// It ended before.
+    Failed,
+}
+
+/// A record of a transfer as `status` lists it.
+#[derive(Clone, Copy, Debug, PartialEq, Eq)]
+pub struct RecordItem {
+    /// Where the transfer stands.
+    pub state: State,
+    /// The ref of its DataSave.
+    pub id: Ref,
+    /// The bytes that were handed over.
+    pub count: u32,
 }

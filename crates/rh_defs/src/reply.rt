@@ -1,6 +1,7 @@
 //! What a command answers.
 
-use crate::ids::Handle;
+use crate::ids::{Handle, Ref};
+use crate::message::{Action, EventCode};
 use crate::refusal::Refusal;
 
 /// The answer of a command: a refusal, or the words and numbers of its reply's first line.
@@ -13,11 +14,78 @@ pub enum Reply {
     /// A task was started, with this handle.
     Started(Handle),
     /// A block's address after the command.
-    Block { address: u32 },
+    Block {
+        address: u32,
+    },
+    /// Whether budging was on before.
+    WasBudging(bool),
+    /// The ref of the message that was sent.
+    Sent(Ref),
+    /// The bytes that an area got or lost.
+    Moved {
+        bytes: u32,
+    },
+    /// An area was made, with this number.
+    Made {
+        number: u32,
+    },
     /// The size in bytes of the block that is shown.
-    Shown { size: u32 },
+    Shown {
+        size: u32,
+    },
     /// How many flex blocks a slot has.
     BlockCount(u32),
+    /// A C heap's length, the size of the largest block that fits, and its free bytes (OS_Heap 1).
+    HeapSums {
+        length: u32,
+        largest: u32,
+        free: u32,
+    },
+    /// The handle of the task whose records are listed.
+    StatusOf(Handle),
     /// How many pages are free.
     FreePages(u32),
+    /// A poll found no message (Null_Reason_Code).
+    NoEvent,
+    /// A poll took a message, and did this with it.
+    Event {
+        code: EventCode,
+        action: Action,
+        my_ref: Ref,
+        your_ref: Ref,
+        outcome: Outcome,
+    },
+}
+
+/// What a poll did with its message.
+#[derive(Clone, Copy, Debug, PartialEq, Eq)]
+pub enum Outcome {
+    /// Nothing.
+    Ignored,
+    /// A transfer was begun by this fetch.
+    Fetch(Ref),
+    /// Bytes went into the receiver's buffer, and the transmit was sent.
+    Sent { count: u32, transmit: Ref },
+    /// The transfer failed by a refusal.
+    Refused(Refusal),
+    /// The transfer failed as its message came back.
+    Failed,
+    /// A transfer that was given up has its buffer back.
+    Drained,
+    /// The last bytes were taken.
+    TookLast { count: u32 },
+    /// Bytes were taken, and the next fetch was sent.
+    TookFull { count: u32, fetch: Ref },
+    /// Bytes were taken, and the next fetch was refused.
+    TookFailed { count: u32, refusal: Refusal },
+    /// The sender was asked for a file by this message.
+    Asked(Ref),
+    /// The source became the scrap file, and the DataLoad was sent.
+    Saved { count: u32, load: Ref },
+    /// The scrap file became the document.
+    Loaded { count: u32 },
+    /// The scrap file became the document, and the answer was refused.
+    LoadedFailed { count: u32, refusal: Refusal },
+    /// The recipient has loaded the file.
+    Done,
 }

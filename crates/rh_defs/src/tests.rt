@@ -48,6 +48,7 @@ fn commands_are_in_range(rt: HostRuntime) {
         let task = Command::Task {
             name: some_name(&rt, b"a"),
             buffer,
+            manner: Manner::Plain,
         };
         assert_eq!(rt; task.in_range(), in_range, "{task:?}");
     }
@@ -105,5 +106,5 @@ fn refusals_and_faults_print_their_names(rt: HostRuntime) -> Result<(), Fail> {
 
 #[test]
 fn laws_are_called() {
-    span_law();
+    image_law();
 }

@@ -12,18 +12,18 @@ use Rattle.rh_defs.specs.Pieces.{zeros, moved, Split, written}
 use Rattle.rh_defs.specs.Heap.{fitted}
 use Rattle.rh_defs.specs.Slot.{Slot, Flex, weight, flex_weight, flex_start, is_used, with_bytes, with_block, without, opened_at, taken_out, lacks_room, length_with, slot_length, flex_address, slot_block, slot_alloc, slot_free, slot_extend, slot_mid, slot_put}
 use Rattle.rh_defs.specs.Slot as slot
-use Rattle.rh_whole.specs.declared.command.Command.{Command}
-use Rattle.rh_whole.specs.declared.command.Command.TheVariants as command
-use Rattle.rh_whole.specs.declared.reply.Reply.{Reply}
-use Rattle.rh_whole.specs.declared.reply.Reply.TheVariants as reply
-use Rattle.rh_whole.specs.declared.transfer.Outgoing.{Outgoing}
-use Rattle.rh_whole.specs.declared.transfer.Outgoing.TheVariants as outgoing
-use Rattle.rh_whole.specs.declared.transfer.Incoming.{Incoming}
-use Rattle.rh_whole.specs.declared.transfer.Incoming.TheVariants as incoming
-use Rattle.rh_whole.specs.Records.{is_source, is_document, is_buffer, in_id}
-use Rattle.rh_whole.specs.Desk.{Desk, Task, with_task, with_slot, named, has_name, idle_block, is_busy_block, free_pages}
-use Rattle.rh_whole.specs.Memory.{Answer, alloc, load, put, free, extend, mid}
-use Rattle.rh_whole.specs.Step.{step}
+use Rattle.rh_defs.specs.declared.command.Command.{Command}
+use Rattle.rh_defs.specs.declared.command.Command.TheVariants as command
+use Rattle.rh_defs.specs.declared.reply.Reply.{Reply}
+use Rattle.rh_defs.specs.declared.reply.Reply.TheVariants as reply
+use Rattle.rh_defs.specs.declared.transfer.Outgoing.{Outgoing}
+use Rattle.rh_defs.specs.declared.transfer.Outgoing.TheVariants as outgoing
+use Rattle.rh_defs.specs.declared.transfer.Incoming.{Incoming}
+use Rattle.rh_defs.specs.declared.transfer.Incoming.TheVariants as incoming
+use Rattle.rh_defs.specs.Records.{is_source, is_document, is_buffer, in_id}
+use Rattle.rh_defs.specs.Desk.{Desk, Task, with_task, with_slot, named, has_name, idle_block, is_busy_block, free_pages}
+use Rattle.rh_defs.specs.Commands.{Answer, alloc, load, put, free, extend, mid}
+use Rattle.rh_defs.specs.Step.{step}
 use Rattle.rh_safety.specs.View.{view, blocks_of, buffers_of, flex_map, of, task_of, field}
 use Rattle.rh_safety.specs.History.{Offers, Edits, is_document_of, edited_task}
 use Rattle.rh_safety.proofs.SeenTasks.{Same, block_view, live_of, slot_is}

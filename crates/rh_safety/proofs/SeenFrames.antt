@@ -6,13 +6,13 @@ use Rattle.rh_defs.specs.declared.refusal.Refusal.TheVariants.{NoName, NotABlock
 use Rattle.rh_defs.specs.Chain.{Granted, ◌>>=◌, ◌>>◌, refuse_if, found_or, or_else}
 use Rattle.rh_defs.specs.Slot.{Slot, IsSlot, slot_block, slot_set_budge}
 use Rattle.rh_defs.specs.Post.{has_seat}
-use Rattle.rh_whole.specs.declared.command.Command.{Command}
-use Rattle.rh_whole.specs.declared.command.Command.TheVariants as command
-use Rattle.rh_whole.specs.declared.reply.Reply.{Reply}
-use Rattle.rh_whole.specs.declared.reply.Reply.TheVariants as reply
-use Rattle.rh_whole.specs.Desk.{Desk, Task, edit_task, with_task, with_slot, named, has_name}
-use Rattle.rh_whole.specs.Memory.{Answer, budge, change_area, change_module, change_pages, change_made, make, remove, rma_claim, rma_free, rma_resize, own_block, show, blocks, heap_sums, status, module_area}
-use Rattle.rh_whole.specs.Step.{change, step}
+use Rattle.rh_defs.specs.declared.command.Command.{Command}
+use Rattle.rh_defs.specs.declared.command.Command.TheVariants as command
+use Rattle.rh_defs.specs.declared.reply.Reply.{Reply}
+use Rattle.rh_defs.specs.declared.reply.Reply.TheVariants as reply
+use Rattle.rh_defs.specs.Desk.{Desk, Task, edit_task, with_task, with_slot, named, has_name}
+use Rattle.rh_defs.specs.Commands.{Answer, budge, change_area, change_module, change_pages, change_made, make, remove, rma_claim, rma_free, rma_resize, own_block, show, blocks, heap_sums, status, module_area}
+use Rattle.rh_defs.specs.Step.{change, step}
 use Rattle.rh_safety.specs.View.{view, blocks_of, buffers_of, of, task_of, field}
 use Rattle.rh_safety.specs.History.{Offers, Edits, offers_next, edits_next}
 use Rattle.rh_safety.proofs.SeenTasks.{Same, Distinct, found_task, still_view, live_of, slot_is}

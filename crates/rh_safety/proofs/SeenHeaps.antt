@@ -13,15 +13,15 @@ use Rattle.rh_defs.specs.Chain.{Granted, ◌>>=◌, ◌>>◌, refuse_if, found_o
 use Rattle.rh_defs.specs.Pieces.{zeros, lacks_pages, total, Split, behind, first_at, with_here}
 use Rattle.rh_defs.specs.Heap.{Way, Stays, Shrinks, GrowsIntoHole, GrowsAtTop, MovesToHole, MovesToTop, Segment, Used, Hole, Heap, Placed, size_of, first_place, place_after, is_block_at, is_hole_for, hole_for, block_at, block_room, placed_in, placed, raised, need, claim_growing, released, bytes_of, fitted, segment_size, way_to, way_to_grow, way_beyond, new_size, resize_need, resize_growing, resized_by}
 use Rattle.rh_defs.specs.Slot.{Slot, heap_start, heap_block_at, with_heap, with_placed, is_stuck, slot_claim, slot_release, slot_resize}
-use Rattle.rh_whole.specs.declared.command.Command.{Command}
-use Rattle.rh_whole.specs.declared.command.Command.TheVariants as command
-use Rattle.rh_whole.specs.declared.reply.Reply.TheVariants as reply
-use Rattle.rh_whole.specs.declared.transfer.Incoming.{Incoming}
-use Rattle.rh_whole.specs.declared.transfer.Incoming.TheVariants as incoming
-use Rattle.rh_whole.specs.Records.{is_buffer}
-use Rattle.rh_whole.specs.Desk.{Desk, Task, with_task, with_slot, named, has_name, idle_buffer, is_busy_buffer, free_pages}
-use Rattle.rh_whole.specs.Memory.{Answer, claim, release, resize}
-use Rattle.rh_whole.specs.Step.{step}
+use Rattle.rh_defs.specs.declared.command.Command.{Command}
+use Rattle.rh_defs.specs.declared.command.Command.TheVariants as command
+use Rattle.rh_defs.specs.declared.reply.Reply.TheVariants as reply
+use Rattle.rh_defs.specs.declared.transfer.Incoming.{Incoming}
+use Rattle.rh_defs.specs.declared.transfer.Incoming.TheVariants as incoming
+use Rattle.rh_defs.specs.Records.{is_buffer}
+use Rattle.rh_defs.specs.Desk.{Desk, Task, with_task, with_slot, named, has_name, idle_buffer, is_busy_buffer, free_pages}
+use Rattle.rh_defs.specs.Commands.{Answer, claim, release, resize}
+use Rattle.rh_defs.specs.Step.{step}
 use Rattle.rh_safety.specs.View.{view, blocks_of, buffers_of, of, task_of, field}
 use Rattle.rh_safety.specs.HeapMap.{heap_map, CanGo, IsMoved, CutOf, HoleFor, BlockOf, IsClaimed, IsReleased}
 use Rattle.rh_safety.proofs.SeenTasks.{Same, buffer_view, heap_view, field_is, live_of, slot_is}

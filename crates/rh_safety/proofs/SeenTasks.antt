@@ -5,12 +5,12 @@ use Rattle.std.specs.Option.{option_map}
 use Rattle.std.proofs.lemmas.Bool.Decides.{eqb_tells}
 use Rattle.std.proofs.lemmas.Bool.{eq-eqb}
 use Rattle.rh_defs.specs.Slot.{Slot, new_slot}
-use Rattle.rh_whole.specs.declared.command.Manner.TheVariants as manner
-use Rattle.rh_whole.specs.declared.transfer.Outgoing.{Outgoing}
-use Rattle.rh_whole.specs.declared.transfer.Incoming.{Incoming}
-use Rattle.rh_whole.specs.Desk.{Desk, Task, edit_task, with_task, with_slot}
-use Rattle.rh_whole.specs.Receiver.{is_deaf}
-use Rattle.rh_whole.specs.Transfer.{answers_none}
+use Rattle.rh_defs.specs.declared.command.Manner.TheVariants as manner
+use Rattle.rh_defs.specs.declared.transfer.Outgoing.{Outgoing}
+use Rattle.rh_defs.specs.declared.transfer.Incoming.{Incoming}
+use Rattle.rh_defs.specs.Desk.{Desk, Task, edit_task, with_task, with_slot}
+use Rattle.rh_defs.specs.IncomingEvents.{is_deaf}
+use Rattle.rh_defs.specs.Transfer.{answers_none}
 use Rattle.rh_safety.specs.View.{view, seen_last, blocks_of, buffers_of, of, task_of, field}
 use Rattle.rh_safety.specs.Ends.{put, Out, In, Message}
 use Rattle.rh_safety.specs.Protocol as protocol

@@ -7,19 +7,19 @@ use Rattle.rh_defs.specs.Slot.{Slot, Flex, block_of}
 use Rattle.rh_defs.specs.declared.message.Body.{Body}
 use Rattle.rh_defs.specs.declared.message.Body.TheVariants as body
 use Rattle.rh_defs.specs.declared.message.Letter.{Letter}
-use Rattle.rh_whole.specs.declared.command.Command.{Command}
-use Rattle.rh_whole.specs.declared.command.Command.TheVariants as command
-use Rattle.rh_whole.specs.declared.reply.Reply.{Reply}
-use Rattle.rh_whole.specs.declared.reply.Reply.TheVariants as reply
-use Rattle.rh_whole.specs.declared.transfer.Outgoing.{Outgoing}
-use Rattle.rh_whole.specs.declared.transfer.Outgoing.TheVariants as outgoing
-use Rattle.rh_whole.specs.declared.transfer.Incoming.{Incoming}
-use Rattle.rh_whole.specs.declared.transfer.Incoming.TheVariants as incoming
+use Rattle.rh_defs.specs.declared.command.Command.{Command}
+use Rattle.rh_defs.specs.declared.command.Command.TheVariants as command
+use Rattle.rh_defs.specs.declared.reply.Reply.{Reply}
+use Rattle.rh_defs.specs.declared.reply.Reply.TheVariants as reply
+use Rattle.rh_defs.specs.declared.transfer.Outgoing.{Outgoing}
+use Rattle.rh_defs.specs.declared.transfer.Outgoing.TheVariants as outgoing
+use Rattle.rh_defs.specs.declared.transfer.Incoming.{Incoming}
+use Rattle.rh_defs.specs.declared.transfer.Incoming.TheVariants as incoming
 use Rattle.rh_defs.specs.Files.{FileList}
-use Rattle.rh_whole.specs.Records.{in_id}
-use Rattle.rh_whole.specs.Desk.{Desk, Task, has_name, task_at}
-use Rattle.rh_whole.specs.Step.{step}
-use Rattle.rh_whole.specs.Runs.{start_with, after}
+use Rattle.rh_defs.specs.Records.{in_id}
+use Rattle.rh_defs.specs.Desk.{Desk, Task, has_name, task_at}
+use Rattle.rh_defs.specs.Step.{step}
+use Rattle.rh_defs.specs.Runs.{start_with, after}
 
 -- what each id offers
 abbrev pub Offers : Type 0

@@ -8,10 +8,10 @@ use Rattle.rh_defs.specs.Post.{held_by}
 use Rattle.rh_defs.specs.declared.message.Body.{Body}
 use Rattle.rh_defs.specs.declared.message.Body.TheVariants as body
 use Rattle.rh_defs.specs.declared.message.Letter.{Letter}
-use Rattle.rh_whole.specs.Records.{most_records}
-use Rattle.rh_whole.specs.Desk.{Desk, Task, Scrap}
-use Rattle.rh_whole.specs.Receiver.{is_deaf}
-use Rattle.rh_whole.specs.Transfer.{answers_none}
+use Rattle.rh_defs.specs.Records.{most_records}
+use Rattle.rh_defs.specs.Desk.{Desk, Task, Scrap}
+use Rattle.rh_defs.specs.IncomingEvents.{is_deaf}
+use Rattle.rh_defs.specs.Transfer.{answers_none}
 use Rattle.rh_safety.specs.Ends as ram
 use Rattle.rh_safety.specs.Protocol as protocol
 

@@ -3,16 +3,17 @@ use Rattle.std.specs.Prelude.{ℕ, ◌+◌, ◌-◌, ◌*◌, ◌/◌, ◌^◌, 
 use Rattle.std.specs.List.{list_any}
 use Rattle.std.specs.Str.{bytes_eq}
 use Rattle.rh_defs.specs.declared.refusal.Refusal.TheVariants.{NameInUse, TooManyTasks, NoHandles, NoFile, NotABlock, NotYours, ExcessiveShrink, NoRoom, NoArea, TooManyAreas, NoNumbers, TooBig}
-use Rattle.rh_whole.specs.declared.command.Manner.{Manner}
-use Rattle.rh_whole.specs.declared.reply.Reply.{Reply}
-use Rattle.rh_whole.specs.declared.reply.Reply.TheVariants as reply
+use Rattle.rh_defs.specs.declared.command.Manner.{Manner}
+use Rattle.rh_defs.specs.declared.reply.Reply.{Reply}
+use Rattle.rh_defs.specs.declared.reply.Reply.TheVariants as reply
 use Rattle.rh_defs.specs.Chain.{Granted, ◌>>=◌, ◌>>◌, refuse_if, found_or}
-use Rattle.rh_defs.specs.Pieces.{page, pages_for, Split}
-use Rattle.rh_defs.specs.Heap.{Segment, Heap, largest, free_bytes, block_at}
+use Rattle.rh_defs.specs.Forms.{last_made}
+use Rattle.rh_defs.specs.Pieces.{page, lacks_pages, Split}
+use Rattle.rh_defs.specs.Heap.{Segment, largest, free_bytes, block_at}
 use Rattle.rh_defs.specs.Module.{whole_pages, changed_length, module_claim, module_free, module_resize, module_change}
 use Rattle.rh_defs.specs.Slot.{Slot, slot_begin, slot_alloc, slot_free, slot_extend, slot_mid, slot_put, slot_claim, slot_release, slot_resize, slot_set_budge, slot_block}
 use Rattle.rh_defs.specs.Post.{post_join, post_is_message, post_death}
-use Rattle.rh_whole.specs.Desk.{Desk, Task, Made, Scrap, most_tasks, free_pages, has_name, named, idle_block, idle_buffer, with_slot, with_less_post}
+use Rattle.rh_defs.specs.Desk.{Desk, Made, Scrap, most_tasks, free_pages, has_name, named, idle_block, idle_buffer, with_slot, with_module, with_delivered}
 
 -- the desk after a command, and its reply
 abbrev pub Answer : Type 0
@@ -20,6 +21,7 @@ Answer = Desk × Reply
 
 -- ---- tasks
 
+-- the desk with one more task, which has no records and has sent nothing
 abbrev pub with_new_task : List ℕ → ℕ → Manner → Slot → Desk → Desk
 with_new_task name buffer manner s d = record d {
   tasks = d.tasks ++ record { handle = d.next_handle; name = name; buffer = buffer; manner = manner; slot = s; sending = []; taking = []; last_sent = None } ∷ [];
@@ -41,19 +43,20 @@ unfoldable pub kill : Desk → List ℕ → Granted Answer
 kill d name = do
   t ← named name d
   Ok (
-    record (with_less_post (post_death t.handle d.post) d) { tasks = filter (λ other. not (other.handle == t.handle)) d.tasks },
+    record (with_delivered (post_death t.handle d.post) d) { tasks = filter (λ other. not (other.handle == t.handle)) d.tasks },
     reply.Done,
   )
 
 -- ---- flex blocks
 
+-- a block of zeros on top of the task's slot
 unfoldable pub alloc : Desk → List ℕ → ℕ → ℕ → Granted Answer
 alloc d name k n = do
   t ← named name d
   p ← slot_alloc (free_pages d) k n t.slot
   Ok (with_slot t.handle p.0 d, reply.Block p.1)
 
--- a block with a file's bytes
+-- the same, with a file's bytes in it
 unfoldable pub load : Desk → List ℕ → ℕ → List ℕ → Granted Answer
 load d name k file = do
   t ← named name d
@@ -70,6 +73,7 @@ put d name k offset bytes = do
   s ← slot_put k offset bytes t.slot
   Ok (with_slot t.handle s d, reply.Done)
 
+-- a block away
 unfoldable pub free : Desk → List ℕ → ℕ → Granted Answer
 free d name k = do
   t ← named name d
@@ -77,6 +81,7 @@ free d name k = do
   s ← slot_free k t.slot
   Ok (with_slot t.handle s d, reply.Done)
 
+-- a block cut, or longer by zeros
 unfoldable pub extend : Desk → List ℕ → ℕ → ℕ → Granted Answer
 extend d name k n = do
   t ← named name d
@@ -84,6 +89,7 @@ extend d name k n = do
   s ← slot_extend (free_pages d) k n t.slot
   Ok (with_slot t.handle s d, reply.Done)
 
+-- zeros put into a block, or bytes taken out
 unfoldable pub mid : Desk → List ℕ → ℕ → ℕ → ℤ → Granted Answer
 mid d name k offset by = do
   t ← named name d
@@ -93,12 +99,14 @@ mid d name k offset by = do
 
 -- ---- the C heap
 
+-- a block claimed
 unfoldable pub claim : Desk → List ℕ → ℕ → Granted Answer
 claim d name n = do
   t ← named name d
   p ← slot_claim (free_pages d) n t.slot
   Ok (with_slot t.handle p.0 d, reply.Block p.1)
 
+-- a block released
 unfoldable pub release : Desk → List ℕ → ℕ → Granted Answer
 release d name address = do
   t ← named name d
@@ -106,6 +114,7 @@ release d name address = do
   s ← slot_release address t.slot
   Ok (with_slot t.handle s d, reply.Done)
 
+-- a block with delta bytes more
 unfoldable pub resize : Desk → List ℕ → ℕ → ℤ → Granted Answer
 resize d name address delta = do
   t ← named name d
@@ -113,6 +122,7 @@ resize d name address delta = do
   p ← slot_resize (free_pages d) address delta t.slot
   Ok (with_slot t.handle p.0 d, reply.Block p.1)
 
+-- whether flex blocks give way
 unfoldable pub budge : Desk → List ℕ → Bool → Granted Answer
 budge d name on = do
   t ← named name d
@@ -120,17 +130,15 @@ budge d name on = do
 
 -- ---- areas
 
--- the module area is area 1, and the scrap file lies in area 5
+-- the module area is area 1
 abbrev pub module_area : ℕ
 module_area = 1
 
+-- the scrap file lies in area 5
 abbrev pub scrap_area : ℕ
 scrap_area = 5
 
--- made areas get numbers from 256 up to 65535, which are never given twice; so many live at most
-abbrev pub last_number : ℕ
-last_number = 65535
-
+-- so many made areas are live at most
 abbrev pub most_made : ℕ
 most_made = 32
 
@@ -139,6 +147,7 @@ abbrev pub file_length : Option Scrap → ℕ
 file_length None = 0
 file_length (Some file) = length file.bytes
 
+-- the same of the area's number: area 5 keeps the scrap file
 abbrev pub least_length : ℕ → Desk → ℕ
 least_length k d = if k == scrap_area then file_length d.scrap else 0
 
@@ -152,13 +161,10 @@ unfoldable pub pages_after : ℕ → ℕ → ℕ → ℤ → Granted ℕ
 pages_after free least pages delta =
     let n : ℕ = page * pages in do
       refuse_if (shrinks_below least n delta) ExcessiveShrink
-      refuse_if (nat_lt free (pages_for (changed_length n delta - n))) NoRoom
+      refuse_if (lacks_pages free (changed_length n delta - n)) NoRoom
       Ok (changed_length n delta / page)
 
--- the desk with another heap in its module area
-abbrev pub with_module : Heap → Desk → Desk
-with_module h d = record d { post = record d.post { heap = h } }
-
+-- the module area longer or shorter by whole pages
 unfoldable pub change_module : Desk → ℤ → Granted Answer
 change_module d delta = do
   c ← module_change (free_pages d) delta d.post.heap
@@ -170,12 +176,15 @@ change_pages d k delta = do
   n ← pages_after (free_pages d) (least_length k d) (slice_index d.areas k) delta
   Ok (record d { areas = slice_set d.areas k n }, reply.Moved (whole_pages delta))
 
+-- whether a made area has the number
 abbrev pub is_numbered : ℕ → Made → Bool
 is_numbered k m = m.number == k
 
+-- the made area with so many pages, where it has the number
 abbrev pub with_pages : ℕ → ℕ → Made → Made
 with_pages k n m = if is_numbered k m then record m { pages = n } else m
 
+-- a made area longer or shorter by whole pages
 unfoldable pub change_made : Desk → ℕ → ℤ → Granted Answer
 change_made d k delta = do
   m ← found_or (find (is_numbered k) d.made) NoArea
@@ -194,7 +203,7 @@ change_area d k delta =
 unfoldable pub make : Desk → ℕ → Granted Answer
 make d most = do
   refuse_if (nat_le most_made (length d.made)) TooManyAreas
-  refuse_if (nat_lt last_number d.next_area) NoNumbers
+  refuse_if (nat_lt last_made d.next_area) NoNumbers
   Ok (
     record d { made = d.made ++ record { number = d.next_area; most = most; pages = 0 } ∷ []; next_area = d.next_area + 1 },
     reply.Made d.next_area,
@@ -219,17 +228,20 @@ own_block address d = do
   refuse_if (post_is_message (address - module_start) d.post) NotYours
   Ok b
 
+-- a block claimed
 unfoldable pub rma_claim : Desk → ℕ → Granted Answer
 rma_claim d n = do
   c ← module_claim (free_pages d) n d.post.heap
   Ok (with_module c.0 d, reply.Block (module_start + c.1))
 
+-- a block freed
 unfoldable pub rma_free : Desk → ℕ → Granted Answer
 rma_free d address = do
   b ← own_block address d
   h ← module_free (address - module_start) d.post.heap
   Ok (with_module h d, reply.Done)
 
+-- a block with delta bytes more
 unfoldable pub rma_resize : Desk → ℕ → ℤ → Granted Answer
 rma_resize d address delta = do
   b ← own_block address d
@@ -251,11 +263,13 @@ blocks d name = do
   t ← named name d
   Ok (d, reply.BlockCount (length t.slot.blocks))
 
+-- the sums over the C heap
 unfoldable pub heap_sums : Desk → List ℕ → Granted Answer
 heap_sums d name = do
   t ← named name d
   Ok (d, reply.HeapSums t.slot.heap.end (largest t.slot.heap) (free_bytes t.slot.heap))
 
+-- whose records are listed
 unfoldable pub status : Desk → List ℕ → Granted Answer
 status d name = do
   t ← named name d

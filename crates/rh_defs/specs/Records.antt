@@ -1,59 +1,65 @@
 -- The records of a task's transfers: lists in the order made, which is the order of ids.
-use Rattle.std.specs.Prelude.{ℕ, Bool, true, false, nat_le, ◌==◌, if◌then◌else◌, List, [], ◌∷◌, ◌++◌, length, filter, find, Option, Some, None}
-use Rattle.rh_whole.specs.declared.transfer.Sending.{Sending}
-use Rattle.rh_whole.specs.declared.transfer.Taking.{Taking}
-use Rattle.rh_whole.specs.declared.transfer.Asked.{Asked}
-use Rattle.rh_whole.specs.declared.transfer.Outgoing.{Outgoing}
-use Rattle.rh_whole.specs.declared.transfer.Outgoing.TheVariants as outgoing
-use Rattle.rh_whole.specs.declared.transfer.Incoming.{Incoming}
-use Rattle.rh_whole.specs.declared.transfer.Incoming.TheVariants as incoming
+use Rattle.std.specs.Prelude.{ℕ, Bool, true, false, nat_le, ◌==◌, if◌then◌else◌, List, [], ◌∷◌, ◌++◌, length, filter, map, Option, Some, None}
+use Rattle.rh_defs.specs.declared.transfer.Sending.{Sending}
+use Rattle.rh_defs.specs.declared.transfer.Taking.{Taking}
+use Rattle.rh_defs.specs.declared.transfer.Asked.{Asked}
+use Rattle.rh_defs.specs.declared.transfer.Outgoing.{Outgoing}
+use Rattle.rh_defs.specs.declared.transfer.Outgoing.TheVariants as outgoing
+use Rattle.rh_defs.specs.declared.transfer.Incoming.{Incoming}
+use Rattle.rh_defs.specs.declared.transfer.Incoming.TheVariants as incoming
 
 -- a task has at most so many records each way
 abbrev pub most_records : ℕ
 most_records = 8
 
+-- the id of a record of a transfer that goes out
 abbrev pub out_id : Outgoing → ℕ
 out_id (outgoing.Open x) = x.id
 out_id (outgoing.Done id count) = id
 out_id (outgoing.Failed id count) = id
 
+-- the id of a record of a transfer that comes in
 abbrev pub in_id : Incoming → ℕ
-in_id (incoming.Fetching r) = r.id
-in_id (incoming.Draining r) = r.id
+in_id (incoming.Fetching f) = f.id
+in_id (incoming.Draining f) = f.id
 in_id (incoming.Asking q) = q.id
 in_id (incoming.Done id anchor count) = id
 in_id (incoming.Failed id anchor count) = id
 
+-- whether a transfer that goes out hasn't ended
 abbrev pub is_open : Outgoing → Bool
 is_open (outgoing.Open x) = true
 is_open _ = false
 
--- the transfer hasn't ended
+-- whether a transfer that comes in hasn't ended
 abbrev pub is_going : Incoming → Bool
-is_going (incoming.Fetching r) = true
-is_going (incoming.Draining r) = true
+is_going (incoming.Fetching f) = true
+is_going (incoming.Draining f) = true
 is_going (incoming.Asking q) = true
 is_going _ = false
 
 -- ---- what is busy
 
+-- whether the anchor's block is the source of an open transfer
 abbrev pub is_source : ℕ → Outgoing → Bool
 is_source k (outgoing.Open x) = x.anchor == k
 is_source k _ = false
 
+-- whether the anchor's block is a document that grows
 abbrev pub is_document : ℕ → Incoming → Bool
-is_document k (incoming.Fetching r) = r.anchor == k
+is_document k (incoming.Fetching f) = f.anchor == k
 is_document k (incoming.Asking q) = q.anchor == k
 is_document k _ = false
 
-abbrev pub is_buffer : ℕ → Incoming → Bool
-is_buffer address (incoming.Fetching r) = r.buffer == address
-is_buffer address (incoming.Draining r) = r.buffer == address
-is_buffer address _ = false
+-- whether the block at the address is a transfer's buffer
+abbrev pub is_buffer_of : ℕ → Incoming → Bool
+is_buffer_of address (incoming.Fetching f) = f.buffer == address
+is_buffer_of address (incoming.Draining f) = f.buffer == address
+is_buffer_of address _ = false
 
 -- ---- lists of records
 
--- so many records as a task may have pass the test
+-- as many records as a task may have pass the test
 abbrev pub is_full : {A : Type 0} → (A → Bool) → List A → Bool
 is_full test records = nat_le most_records (length (filter test records))
 
@@ -68,8 +74,7 @@ one_more lasts new records = (if nat_le most_records (length records) then dropp
 
 -- the record of the id written anew
 abbrev pub with_id : {A : Type 0} → (A → ℕ) → ℕ → A → List A → List A
-with_id id_of id new [] = []
-with_id id_of id new (r ∷ records) = (if id_of r == id then new else r) ∷ with_id id_of id new records
+with_id id_of id new records = map (λ r. if id_of r == id then new else r) records
 
 -- the first open record that passes the test
 abbrev pub open_of : (Sending → Bool) → List Outgoing → Option Sending
@@ -80,8 +85,8 @@ open_of test (_ ∷ records) = open_of test records
 -- the first record with a buffer that passes the test
 abbrev pub active_of : (Taking → Bool) → List Incoming → Option Incoming
 active_of test [] = None
-active_of test (incoming.Fetching r ∷ records) = if test r then Some (incoming.Fetching r) else active_of test records
-active_of test (incoming.Draining r ∷ records) = if test r then Some (incoming.Draining r) else active_of test records
+active_of test (incoming.Fetching f ∷ records) = if test f then Some (incoming.Fetching f) else active_of test records
+active_of test (incoming.Draining f ∷ records) = if test f then Some (incoming.Draining f) else active_of test records
 active_of test (_ ∷ records) = active_of test records
 
 -- the first record that waits for a file and passes the test
@@ -90,31 +95,7 @@ asking_of test [] = None
 asking_of test (incoming.Asking q ∷ records) = if test q then Some q else asking_of test records
 asking_of test (_ ∷ records) = asking_of test records
 
--- ---- cancelling
-
--- no id stands for any: the first such record has the least one
+-- whether a cancel means the id: no id stands for any, and the first record has the least one
 abbrev pub is_meant : Option ℕ → ℕ → Bool
 is_meant None id = true
 is_meant (Some wanted) id = id == wanted
-
-abbrev pub is_meant_in : Option ℕ → Incoming → Bool
-is_meant_in wanted (incoming.Fetching r) = is_meant wanted r.id
-is_meant_in wanted (incoming.Asking q) = is_meant wanted q.id
-is_meant_in wanted _ = false
-
--- the record to cancel
-abbrev pub to_cancel_in : Option ℕ → List Incoming → Option Incoming
-to_cancel_in wanted records = find (is_meant_in wanted) records
-
-abbrev pub to_cancel_out : Option ℕ → List Outgoing → Option Sending
-to_cancel_out wanted records = open_of (λ x. is_meant wanted x.id) records
-
--- a transfer that fetches goes on until its buffer comes back; one that waits for a file ends
-abbrev pub cancelled : Incoming → Incoming
-cancelled (incoming.Fetching r) = incoming.Draining r
-cancelled (incoming.Asking q) = incoming.Failed q.id q.anchor 0
-cancelled r = r
-
--- opens this file's words, for a proof that computes
-unfoldable pub computing : Unit {0}
-computing = tt

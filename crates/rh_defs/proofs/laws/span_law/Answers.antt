@@ -1,8 +1,0 @@
-use Rattle.rh_defs.proofs.Spaced.{always-apart, always-balanced}
-use Rattle.rh_defs.proofs.laws.span_law.Goals as goal
-
-pub returns-clause-apart : goal.returns-clause-apart
-returns-clause-apart c = always-apart
-
-pub returns-clause-balanced : goal.returns-clause-balanced
-returns-clause-balanced c = always-balanced

@@ -1,0 +1,51 @@
+-- Bytes at addresses of a slot, and the anchors without a block.
+use Rattle.std.specs.Prelude.{ℕ, zero, suc, ◌+◌, ◌-◌, Bool, ◌&&◌, nat_lt, nat_le, if◌then◌else◌, List, [], length, take, Option, Some, None}
+use Rattle.rh_defs.specs.Pieces.{Split, with_here, written}
+use Rattle.rh_defs.specs.Heap.{Segment, Used, bytes_of, place_after, block_around}
+use Rattle.rh_defs.specs.Slot.{Slot, Flex, heap_start, flex_address, flex_around, heap_block_at, is_used, with_bytes, with_heap, anchor_count}
+
+-- the slot with bytes written into the block of its C heap at the cut, from an offset on
+abbrev pub with_heap_bytes : Split Segment → ℕ → List ℕ → Slot → Slot
+with_heap_bytes b offset bytes s =
+    with_heap (record s.heap { segments = with_here b (Used (written (bytes_of b.here) offset bytes)) }) s
+
+-- the block of the C heap at an address, where it has so many bytes
+abbrev pub buffer_at : ℕ → ℕ → Slot → Option (Split Segment)
+buffer_at address n s = roomy (heap_block_at address s)
+  where
+    roomy : Option (Split Segment) → Option (Split Segment)
+    roomy None = None
+    roomy (Some b) = if nat_le n (length (bytes_of b.here)) then Some b else None
+
+-- the slot with bytes written at an address, in the block of the C heap that holds them
+abbrev pub written_heap : ℕ → List ℕ → Option (Split Segment) → Slot → Slot
+written_heap x bytes None s = s
+written_heap x bytes (Some b) s = with_heap_bytes b (x - (heap_start + place_after b.before + 4)) bytes s
+
+-- the same, in the flex block that holds them, where there is one
+abbrev pub written_around : ℕ → List ℕ → Option (Split Flex) → Slot → Slot
+written_around x bytes None s = written_heap x bytes (block_around (x - heap_start) (length bytes) s.heap) s
+written_around x bytes (Some b) s = with_bytes b (written b.here.bytes (x - flex_address s b.before) bytes) s
+
+-- the slot with bytes written at an address: into the block of the C heap there, else into any block that holds them
+abbrev pub written_in : ℕ → List ℕ → Option (Split Segment) → Slot → Slot
+written_in x bytes (Some b) s = with_heap_bytes b 0 bytes s
+written_in x bytes None s = written_around x bytes (flex_around x (length bytes) s) s
+
+-- whether n bytes at x and m bytes at y share one
+abbrev pub overlap : ℕ → ℕ → ℕ → ℕ → Bool
+overlap x n y m = nat_lt 0 n && nat_lt 0 m && nat_lt x (y + m) && nat_lt y (x + n)
+
+-- the first n bytes of the block of the C heap at an address
+abbrev pub first_bytes : ℕ → Option (Split Segment) → List ℕ
+first_bytes n None = []
+first_bytes n (Some b) = take n (bytes_of b.here)
+
+-- the lowest anchor without a block, of so many from k on
+abbrev pub free_from : ℕ → ℕ → Slot → Option ℕ
+free_from k zero s = None
+free_from k (suc rest) s = if is_used k s then free_from (k + 1) rest s else Some k
+
+-- the lowest anchor without a block
+abbrev pub free_anchor : Slot → Option ℕ
+free_anchor s = free_from 0 anchor_count s

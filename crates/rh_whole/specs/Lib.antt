@@ -1,9 +1,0 @@
-pub mod Records
-pub mod Desk
-pub mod Memory
-pub mod Places
-pub mod Sender
-pub mod Receiver
-pub mod Transfer
-pub mod Step
-pub mod Runs
