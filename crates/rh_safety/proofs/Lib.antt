@@ -16,3 +16,4 @@ pub mod SeenTasks
 pub mod SeenFrames
 pub mod SeenBlocks
 pub mod SeenHeaps
+pub mod SeenSends

@@ -344,8 +344,8 @@ first_back_good {o} {e} {d} h luck t is handle quiet g true q = asks_good (luck.
     asks_good false = given_up_good h t g (inl is) quiet
 
 fetch_back_found : {o : Offered} {e : ℕ → ℕ → Bool} {d : Desk} (h : ℕ) (luck : Luck) (me : ℕ) → Good o e d → h < d.next_handle → ((t : Taking) → Active (d.taking h) t → me ≡ t.fetch → Quiet d h t.id) → (w : In) → FoundActive (is_fetch me) (d.taking h) w → Good o e (on_fetch_back d h luck (Some w))
-fetch_back_found h luck me g handle back w (fetches t is q) = first_back_good h luck t is handle (back t (inl is) (is_equal _ _ q)) g (nat_eq t.count 0) refl
-fetch_back_found h luck me g handle back w (drains t is q) = given_up_good h t g (inr is) (back t (inr is) (is_equal _ _ q))
+fetch_back_found h luck me g handle back w (fetches t is q) = first_back_good h luck t is handle (back t (inl is) (sym (is_equal _ _ q))) g (nat_eq t.count 0) refl
+fetch_back_found h luck me g handle back w (drains t is q) = given_up_good h t g (inr is) (back t (inr is) (sym (is_equal _ _ q)))
 
 fetch_back_good : {o : Offered} {e : ℕ → ℕ → Bool} {d : Desk} (h : ℕ) (luck : Luck) (me : ℕ) → Good o e d → h < d.next_handle → ((t : Taking) → Active (d.taking h) t → me ≡ t.fetch → Quiet d h t.id) → (v : Option In) → find_active (is_fetch me) (d.taking h) ≡ v → Good o e (on_fetch_back d h luck v)
 fetch_back_good h luck me g handle back None q = g

@@ -20,7 +20,7 @@ use Rattle.rh_defs.specs.declared.transfer.Outgoing.{Outgoing}
 use Rattle.rh_defs.specs.declared.transfer.Outgoing.TheVariants as outgoing
 use Rattle.rh_defs.specs.declared.transfer.Incoming.{Incoming}
 use Rattle.rh_defs.specs.declared.transfer.Incoming.TheVariants as incoming
-use Rattle.rh_defs.specs.Records.{is_source, is_document, is_buffer, in_id}
+use Rattle.rh_defs.specs.Records.{is_source, is_document, is_buffer_of, in_id}
 use Rattle.rh_defs.specs.Desk.{Desk, Task, with_task, with_slot, named, has_name, idle_block, is_busy_block, free_pages}
 use Rattle.rh_defs.specs.Commands.{Answer, alloc, load, put, free, extend, mid}
 use Rattle.rh_defs.specs.Step.{step}
@@ -75,10 +75,8 @@ changed : (d : Desk) (k : ℕ) (t : Task) (b : Split Flex) (bytes : List ℕ) �
     view (with_slot t.handle (with_bytes b bytes t.slot) d) ≡ protocol.run (protocol.Change t.handle k bytes ∷ []) (view d)
 changed d k t b bytes is w =
     rw (can_of d k t b is w)
-    (let same = slot_is d t.handle t is in
-    block_view d t.handle k (λ y. with_bytes b bytes t.slot) (Some bytes) (live_of d t.handle t is)
-    (λ a. (flex.edits weight (flex_start t.slot) k t.slot.blocks).with_bytes b bytes w.block a ∙ ap (λ (y : Slot). post.put (blocks_of y) k (Some bytes) a) (sym same))
-    (λ a. ap (λ (y : Slot). buffers_of y a) (sym same)))
+    (block_view d t.handle k (λ y. with_bytes b bytes t.slot) (Some bytes) t.slot (live_of d t.handle t is) (slot_is d t.handle t is)
+    (λ a. (flex.edits weight (flex_start t.slot) k t.slot.blocks).with_bytes b bytes w.block a) (λ a. refl))
 
 -- ---- what a call on a slot leaves
 
@@ -197,12 +195,10 @@ free_is k s n q =
 freed : (d : Desk) (k : ℕ) (t : Task) (s : Slot) → Fits d → task_of t.handle d.tasks ≡ Some t → (w : IsWithout k t.slot s) → is_busy_block k t ≡ false →
     view (with_slot t.handle s d) ≡ protocol.run (protocol.Free t.handle k ∷ []) (view d)
 freed d k t s f is w idle =
-    let same = slot_is d t.handle t is in
     rw (can_of d k t w.cut is (record { block = w.block; idle = idle }))
-    (block_view d t.handle k (λ y. s) None (live_of d t.handle t is)
-    (λ a. ap (λ (y : Slot). blocks_of y a) (sym w.same) ∙ (flex.edits weight (flex_start t.slot) k t.slot.blocks).without w.cut (f.slots t.handle t is).anchors w.block a ∙
-        ap (λ (y : Slot). post.put (blocks_of y) k None a) (sym same))
-    (λ a. ap (λ (y : Slot). buffers_of y a) (sym w.same) ∙ ap (λ (y : Slot). buffers_of y a) (sym same)))
+    (block_view d t.handle k (λ y. s) None t.slot (live_of d t.handle t is) (slot_is d t.handle t is)
+    (λ a. ap (λ (y : Slot). blocks_of y a) (sym w.same) ∙ (flex.edits weight (flex_start t.slot) k t.slot.blocks).without w.cut (f.slots t.handle t is).anchors w.block a)
+    (λ a. ap (λ (y : Slot). buffers_of y a) (sym w.same)))
 
 pub free_follows : (d : Desk) (name : List ℕ) (k : ℕ) → Fits d → Follows d (command.Free name k) (step d (command.Free name k))
 unfolding free
@@ -272,12 +268,9 @@ is_added k bytes old new w = record { unused = w.unused; blocks = added_map k by
 added : (d : Desk) (k : ℕ) (t : Task) (bytes : List ℕ) (s : Slot) → task_of t.handle d.tasks ≡ Some t → IsAdded k bytes t.slot s →
     view (with_slot t.handle s d) ≡ protocol.run (protocol.Alloc t.handle k bytes ∷ []) (view d)
 added d k t bytes s is w =
-    let same = slot_is d t.handle t is in
     let fresh : flex_map t.slot.blocks k ≡ None = (flex.edits weight (flex_start t.slot) k t.slot.blocks).unused w.unused in
     let can : ((view d).live t.handle && is_none ((view d).block t.handle k)) ≡ true = rw (is, fresh) refl in
-    rw can (block_view d t.handle k (λ y. s) (Some bytes) (live_of d t.handle t is)
-    (λ a. w.blocks a ∙ ap (λ (y : Slot). post.put (blocks_of y) k (Some bytes) a) (sym same))
-    (λ a. w.buffers a ∙ ap (λ (y : Slot). buffers_of y a) (sym same)))
+    rw can (block_view d t.handle k (λ y. s) (Some bytes) t.slot (live_of d t.handle t is) (slot_is d t.handle t is) w.blocks w.buffers)
 
 pub alloc_follows : (d : Desk) (name : List ℕ) (k n : ℕ) → Fits d → Follows d (command.Alloc name k n) (step d (command.Alloc name k n))
 unfolding alloc

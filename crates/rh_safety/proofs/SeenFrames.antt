@@ -177,5 +177,4 @@ budge_follows d name on f =
     bind (Follows d c) (named name d) _ (instead_of d) (refused d c s) (λ t q.
     let is = the_task d name t f q in
     done (Follows d c) _ (instead_of d) (stays d _ c _ s
-      (still_view d t.handle (λ y. (slot_set_budge on t.slot).0) (live_of d t.handle t is)
-      (λ a. ap (λ (y : Slot). blocks_of y a) (sym (slot_is d t.handle t is))) (λ a. ap (λ (y : Slot). buffers_of y a) (sym (slot_is d t.handle t is))))))
+      (still_view d t.handle (λ y. (slot_set_budge on t.slot).0) t.slot (live_of d t.handle t is) (slot_is d t.handle t is) (λ a. refl) (λ a. refl))))

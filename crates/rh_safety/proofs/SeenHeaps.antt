@@ -18,7 +18,7 @@ use Rattle.rh_defs.specs.declared.command.Command.TheVariants as command
 use Rattle.rh_defs.specs.declared.reply.Reply.TheVariants as reply
 use Rattle.rh_defs.specs.declared.transfer.Incoming.{Incoming}
 use Rattle.rh_defs.specs.declared.transfer.Incoming.TheVariants as incoming
-use Rattle.rh_defs.specs.Records.{is_buffer}
+use Rattle.rh_defs.specs.Records.{is_buffer_of}
 use Rattle.rh_defs.specs.Desk.{Desk, Task, with_task, with_slot, named, has_name, idle_buffer, is_busy_buffer, free_pages}
 use Rattle.rh_defs.specs.Commands.{Answer, claim, release, resize}
 use Rattle.rh_defs.specs.Step.{step}
@@ -141,15 +141,12 @@ claim_follows d name n f =
     let s : Silent c = record { offers = λ o e r. refl; edits = λ o e r. refl } in
     bind (Follows d c) (named name d) _ (instead_of d) (refused d c s) (λ t q. bind (Follows d c) _ _ (instead_of d) (refused d c s) (λ p z. done (Follows d c) _ (instead_of d) (
       let is = the_task d name t f q in
-      let same = slot_is d t.handle t is in
       let w = claim_is (free_pages d) n t.slot p z in
       let bytes : List ℕ = zeros (block_room n) in
       let can : ((view d).live t.handle && is_none ((view d).heap t.handle p.1)) ≡ true = rw (is, claimed_free w) refl in
       record {
         moves = protocol.Claim t.handle p.1 bytes ∷ [];
-        seen = rw can (buffer_view d t.handle p.1 (λ y. p.0) (Some bytes) (live_of d t.handle t is)
-            (λ a. claimed_still w a ∙ ap (λ (y : Slot). blocks_of y a) (sym same))
-            (λ a. claimed_map w a ∙ ap (λ (y : Slot). post.put (buffers_of y) p.1 (Some bytes) a) (sym same)));
+        seen = rw can (buffer_view d t.handle p.1 (λ y. p.0) (Some bytes) t.slot (live_of d t.handle t is) (slot_is d t.handle t is) (claimed_still w) (claimed_map w));
         offers = λ o. refl;
         edits = λ e. refl;
       })))
@@ -200,14 +197,11 @@ release_follows d name address f =
     bind (Follows d c) (named name d) _ (instead_of d) (refused d c s) (λ t q. bind (Follows d c) (idle_buffer address t) _ (instead_of d) (refused d c s) (λ b v.
     bind (Follows d c) _ _ (instead_of d) (refused d c s) (λ n z. done (Follows d c) _ (instead_of d) (
       let is = the_task d name t f q in
-      let same = slot_is d t.handle t is in
       let w = release_is address t.slot n z in
       let can : ((view d).live t.handle && not (post.any (post.buffer_at address) ((view d).taking t.handle))) ≡ true = rw (is, idle_is address t b v) refl in
       record {
         moves = protocol.Release t.handle address ∷ [];
-        seen = rw can (buffer_view d t.handle address (λ y. n) None (live_of d t.handle t is)
-            (λ a. gone_still w a ∙ ap (λ (y : Slot). blocks_of y a) (sym same))
-            (λ a. gone_map w a ∙ ap (λ (y : Slot). post.put (buffers_of y) address None a) (sym same)));
+        seen = rw can (buffer_view d t.handle address (λ y. n) None t.slot (live_of d t.handle t is) (slot_is d t.handle t is) (gone_still w) (gone_map w));
         offers = λ o. refl;
         edits = λ e. refl;
       }))))
@@ -362,13 +356,11 @@ resize_follows d name address delta f =
     bind (Follows d c) (named name d) _ (instead_of d) (refused d c s) (λ t q. bind (Follows d c) (idle_buffer address t) _ (instead_of d) (refused d c s) (λ b v.
     bind (Follows d c) _ _ (instead_of d) (refused d c s) (λ p z. done (Follows d c) _ (instead_of d) (
       let is = the_task d name t f q in
-      let same = slot_is d t.handle t is in
       let w = resize_is (free_pages d) address delta t.slot p z in
       let there : (view d).heap t.handle ≡ buffers_of t.slot = field_is (λ y. buffers_of y.slot) (λ a. None) t.handle d.tasks t is in
       record {
         moves = protocol.Release t.handle address ∷ protocol.Claim t.handle p.1 w.bytes ∷ [];
-        seen = heap_view d t.handle (λ y. p.0) (post.put (post.put (buffers_of t.slot) address None) p.1 (Some w.bytes)) (live_of d t.handle t is)
-            (λ a. w.still a ∙ ap (λ (y : Slot). blocks_of y a) (sym same)) w.moved ∙
+        seen = heap_view d t.handle (λ y. p.0) (post.put (post.put (buffers_of t.slot) address None) p.1 (Some w.bytes)) t.slot (live_of d t.handle t is) (slot_is d t.handle t is) w.still w.moved ∙
             ap (λ (m : ℕ → Option (List ℕ)). record (view d) { heap = post.put (view d).heap t.handle (post.put (post.put m address None) p.1 (Some w.bytes)) }) (sym there) ∙
             sym (moved_heap (view d) t.handle address p.1 w.bytes (live_of d t.handle t is) (rw is (idle_is address t b v)) (ap (λ (m : ℕ → Option (List ℕ)). post.put m address None p.1) there ∙ w.free));
         offers = λ o. refl;

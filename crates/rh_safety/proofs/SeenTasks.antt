@@ -86,8 +86,12 @@ field_is g v h ts t is = ap (of g v) is
 pub live_of : (d : Desk) (h : ℕ) (t : Task) → task_of h d.tasks ≡ Some t → (view d).live h ≡ true
 live_of d h t is = field_is (λ y. true) false h d.tasks t is
 
-pub slot_is : (d : Desk) (h : ℕ) (t : Task) → task_of h d.tasks ≡ Some t → (task_or d h).slot ≡ t.slot
-slot_is d h t is = ap (λ (y : Task). y.slot) (field_is (λ y. y) no_task h d.tasks t is)
+-- the slot of a handle
+abbrev pub slot_at : Desk → ℕ → Slot
+slot_at d h = field (λ t. t.slot) new_slot d.tasks h
+
+pub slot_is : (d : Desk) (h : ℕ) (t : Task) → task_of h d.tasks ≡ Some t → slot_at d h ≡ t.slot
+slot_is d h t is = field_is (λ y. y.slot) new_slot h d.tasks t is
 
 -- ---- edits of one field
 
@@ -99,19 +103,28 @@ pub record IsEdit (f : Task → Task) : Type 0 where
   pub file : (y : Task) → answers_none (f y).manner ≡ answers_none y.manner
 
 -- where the slot alone is another
-pub slot_view : (d : Desk) (h : ℕ) (g : Slot → Slot) → (view d).live h ≡ true →
-    view (with_task h (λ y. record y { slot = g y.slot }) d) ≡ record (view d) { block = put (view d).block h (blocks_of (g (task_or d h).slot)); heap = put (view d).heap h (buffers_of (g (task_or d h).slot)) }
+pub slot_view : (d : Desk) (h : ℕ) (g : Slot → Slot) (s : Slot) → (view d).live h ≡ true → slot_at d h ≡ s →
+    view (with_task h (λ y. record y { slot = g y.slot }) d) ≡ record (view d) { block = put (view d).block h (blocks_of (g s)); heap = put (view d).heap h (buffers_of (g s)) }
 unfolding with_task
-slot_view d h g live =
+slot_view d h g s live at_ =
     let f : Task → Task = λ y. record y { slot = g y.slot } in
     let t = task_or d h in
     let is = task_is d h live in
-    same_desk (record (view d) { block = put (view d).block h (blocks_of (g t.slot)); heap = put (view d).heap h (buffers_of (g t.slot)) }) _ _ _ _ _ _ _ _ _
+    let same : t.slot ≡ s = sym (field_is (λ y. y.slot) new_slot h d.tasks t is) ∙ at_ in
+    subst (λ (z : Slot). view (record d { tasks = edit_task h f d.tasks }) ≡ record (view d) { block = put (view d).block h (blocks_of (g z)); heap = put (view d).heap h (buffers_of (g z)) }) same
+    (same_desk (record (view d) { block = put (view d).block h (blocks_of (g t.slot)); heap = put (view d).heap h (buffers_of (g t.slot)) }) _ _ _ _ _ _ _ _ _
     (change_other (λ y. true) false h f (λ y. refl) (λ y. refl) d.tasks) (change_other (λ y. y.buffer) 1 h f (λ y. refl) (λ y. refl) d.tasks)
     (change_other (λ y. is_deaf y.manner) false h f (λ y. refl) (λ y. refl) d.tasks) (change_other (λ y. answers_none y.manner) false h f (λ y. refl) (λ y. refl) d.tasks)
     (change_here (λ y. blocks_of y.slot) (λ a. None) h f (λ y. refl) d.tasks t is) (change_here (λ y. buffers_of y.slot) (λ a. None) h f (λ y. refl) d.tasks t is)
     (change_other (λ y. y.sending) [] h f (λ y. refl) (λ y. refl) d.tasks) (change_other (λ y. y.taking) [] h f (λ y. refl) (λ y. refl) d.tasks)
-    (change_other (λ y. option_map seen_last y.last_sent) None h f (λ y. refl) (λ y. refl) d.tasks)
+    (change_other (λ y. option_map seen_last y.last_sent) None h f (λ y. refl) (λ y. refl) d.tasks))
+
+-- what is seen of a slot
+pub blocks_seen : (d : Desk) (h : ℕ) (s : Slot) → (view d).live h ≡ true → slot_at d h ≡ s → (view d).block h ≡ blocks_of s
+blocks_seen d h s live at_ = let is = task_is d h live in field_is (λ y. blocks_of y.slot) (λ a. None) h d.tasks (task_or d h) is ∙ ap blocks_of (sym (field_is (λ y. y.slot) new_slot h d.tasks (task_or d h) is) ∙ at_)
+
+pub buffers_seen : (d : Desk) (h : ℕ) (s : Slot) → (view d).live h ≡ true → slot_at d h ≡ s → (view d).heap h ≡ buffers_of s
+buffers_seen d h s live at_ = let is = task_is d h live in field_is (λ y. buffers_of y.slot) (λ a. None) h d.tasks (task_or d h) is ∙ ap buffers_of (sym (field_is (λ y. y.slot) new_slot h d.tasks (task_or d h) is) ∙ at_)
 
 -- the outgoing records alone
 pub outs_view : (d : Desk) (h : ℕ) (g : List Outgoing → List Outgoing) → (view d).live h ≡ true →
@@ -148,55 +161,58 @@ ins_view d h g live =
     (ap (λ (z : List Incoming). record (view d) { taking = put (view d).taking h (g z) }) (sym (field_is (λ y. y.taking) [] h d.tasks t is)))
 
 -- one block of the slot is another
-pub block_view : (d : Desk) (h k : ℕ) (g : Slot → Slot) (v : Option (List ℕ)) → (view d).live h ≡ true →
-    Same (blocks_of (g (task_or d h).slot)) (put (blocks_of (task_or d h).slot) k v) → Same (buffers_of (g (task_or d h).slot)) (buffers_of (task_or d h).slot) →
+pub block_view : (d : Desk) (h k : ℕ) (g : Slot → Slot) (v : Option (List ℕ)) (s : Slot) → (view d).live h ≡ true → slot_at d h ≡ s →
+    Same (blocks_of (g s)) (put (blocks_of s) k v) → Same (buffers_of (g s)) (buffers_of s) →
     view (with_task h (λ y. record y { slot = g y.slot }) d) ≡ protocol.with_block (view d) h k v
-block_view d h k g v live eb eh =
-    let t = task_or d h in
-    let is = task_is d h live in
-    slot_view d h g live ∙
+block_view d h k g v s live at_ eb eh =
+    slot_view d h g s live at_ ∙
     (λ i. record (view d) {
-      block = λ j. ap (λ (m : ℕ → Option (List ℕ)). put (view d).block h m j) ((λ l a. eb a l) ∙ ap (λ (m : ℕ → Option (List ℕ)). put m k v) (sym (field_is (λ y. blocks_of y.slot) (λ a. None) h d.tasks t is))) i;
-      heap = λ j. sym (unput (view d).heap h (buffers_of (g t.slot)) (field_is (λ y. buffers_of y.slot) (λ a. None) h d.tasks t is ∙ (λ l a. sym (eh a) l)) j) i;
+      block = λ j. ap (λ (m : ℕ → Option (List ℕ)). put (view d).block h m j) ((λ l a. eb a l) ∙ ap (λ (m : ℕ → Option (List ℕ)). put m k v) (sym (blocks_seen d h s live at_))) i;
+      heap = λ j. sym (unput (view d).heap h (buffers_of (g s)) (buffers_seen d h s live at_ ∙ (λ l a. sym (eh a) l)) j) i;
     })
 
 -- one block of the C heap is another
-pub buffer_view : (d : Desk) (h k : ℕ) (g : Slot → Slot) (v : Option (List ℕ)) → (view d).live h ≡ true →
-    Same (blocks_of (g (task_or d h).slot)) (blocks_of (task_or d h).slot) → Same (buffers_of (g (task_or d h).slot)) (put (buffers_of (task_or d h).slot) k v) →
+pub buffer_view : (d : Desk) (h k : ℕ) (g : Slot → Slot) (v : Option (List ℕ)) (s : Slot) → (view d).live h ≡ true → slot_at d h ≡ s →
+    Same (blocks_of (g s)) (blocks_of s) → Same (buffers_of (g s)) (put (buffers_of s) k v) →
     view (with_task h (λ y. record y { slot = g y.slot }) d) ≡ protocol.with_heap (view d) h k v
-buffer_view d h k g v live eb eh =
-    let t = task_or d h in
-    let is = task_is d h live in
-    slot_view d h g live ∙
+buffer_view d h k g v s live at_ eb eh =
+    slot_view d h g s live at_ ∙
     (λ i. record (view d) {
-      heap = λ j. ap (λ (m : ℕ → Option (List ℕ)). put (view d).heap h m j) ((λ l a. eh a l) ∙ ap (λ (m : ℕ → Option (List ℕ)). put m k v) (sym (field_is (λ y. buffers_of y.slot) (λ a. None) h d.tasks t is))) i;
-      block = λ j. sym (unput (view d).block h (blocks_of (g t.slot)) (field_is (λ y. blocks_of y.slot) (λ a. None) h d.tasks t is ∙ (λ l a. sym (eb a) l)) j) i;
+      heap = λ j. ap (λ (m : ℕ → Option (List ℕ)). put (view d).heap h m j) ((λ l a. eh a l) ∙ ap (λ (m : ℕ → Option (List ℕ)). put m k v) (sym (buffers_seen d h s live at_))) i;
+      block = λ j. sym (unput (view d).block h (blocks_of (g s)) (blocks_seen d h s live at_ ∙ (λ l a. sym (eb a) l)) j) i;
     })
 
 -- the C heap alone is another
-pub heap_view : (d : Desk) (h : ℕ) (g : Slot → Slot) (m : ℕ → Option (List ℕ)) → (view d).live h ≡ true →
-    Same (blocks_of (g (task_or d h).slot)) (blocks_of (task_or d h).slot) → Same (buffers_of (g (task_or d h).slot)) m →
+pub heap_view : (d : Desk) (h : ℕ) (g : Slot → Slot) (m : ℕ → Option (List ℕ)) (s : Slot) → (view d).live h ≡ true → slot_at d h ≡ s →
+    Same (blocks_of (g s)) (blocks_of s) → Same (buffers_of (g s)) m →
     view (with_task h (λ y. record y { slot = g y.slot }) d) ≡ record (view d) { heap = put (view d).heap h m }
-heap_view d h g m live eb eh =
-    let t = task_or d h in
-    let is = task_is d h live in
-    slot_view d h g live ∙
+heap_view d h g m s live at_ eb eh =
+    slot_view d h g s live at_ ∙
     (λ i. record (view d) {
       heap = put (view d).heap h (λ a. eh a i);
-      block = λ j. sym (unput (view d).block h (blocks_of (g t.slot)) (field_is (λ y. blocks_of y.slot) (λ a. None) h d.tasks t is ∙ (λ l a. sym (eb a) l)) j) i;
+      block = λ j. sym (unput (view d).block h (blocks_of (g s)) (blocks_seen d h s live at_ ∙ (λ l a. sym (eb a) l)) j) i;
+    })
+
+-- one block more, and one of the C heap
+pub both_view : (d : Desk) (h k a : ℕ) (g : Slot → Slot) (v w : Option (List ℕ)) (s : Slot) → (view d).live h ≡ true → slot_at d h ≡ s →
+    Same (blocks_of (g s)) (put (blocks_of s) k v) → Same (buffers_of (g s)) (put (buffers_of s) a w) →
+    view (with_task h (λ y. record y { slot = g y.slot }) d) ≡ record (view d) { heap = put (view d).heap h (put ((view d).heap h) a w); block = put (view d).block h (put ((view d).block h) k v) }
+both_view d h k a g v w s live at_ eb eh =
+    slot_view d h g s live at_ ∙
+    (λ i. record (view d) {
+      block = λ j. ap (λ (m : ℕ → Option (List ℕ)). put (view d).block h m j) ((λ l a. eb a l) ∙ ap (λ (m : ℕ → Option (List ℕ)). put m k v) (sym (blocks_seen d h s live at_))) i;
+      heap = λ j. ap (λ (m : ℕ → Option (List ℕ)). put (view d).heap h m j) ((λ l b. eh b l) ∙ ap (λ (m : ℕ → Option (List ℕ)). put m a w) (sym (buffers_seen d h s live at_))) i;
     })
 
 -- a slot with the same blocks
-pub still_view : (d : Desk) (h : ℕ) (g : Slot → Slot) → (view d).live h ≡ true →
-    Same (blocks_of (g (task_or d h).slot)) (blocks_of (task_or d h).slot) → Same (buffers_of (g (task_or d h).slot)) (buffers_of (task_or d h).slot) →
+pub still_view : (d : Desk) (h : ℕ) (g : Slot → Slot) (s : Slot) → (view d).live h ≡ true → slot_at d h ≡ s →
+    Same (blocks_of (g s)) (blocks_of s) → Same (buffers_of (g s)) (buffers_of s) →
     view (with_task h (λ y. record y { slot = g y.slot }) d) ≡ view d
-still_view d h g live eb eh =
-    let t = task_or d h in
-    let is = task_is d h live in
-    slot_view d h g live ∙
+still_view d h g s live at_ eb eh =
+    slot_view d h g s live at_ ∙
     (λ i. record (view d) {
-      block = λ j. sym (unput (view d).block h (blocks_of (g t.slot)) (field_is (λ y. blocks_of y.slot) (λ a. None) h d.tasks t is ∙ (λ l a. sym (eb a) l)) j) i;
-      heap = λ j. sym (unput (view d).heap h (buffers_of (g t.slot)) (field_is (λ y. buffers_of y.slot) (λ a. None) h d.tasks t is ∙ (λ l a. sym (eh a) l)) j) i;
+      block = λ j. sym (unput (view d).block h (blocks_of (g s)) (blocks_seen d h s live at_ ∙ (λ l a. sym (eb a) l)) j) i;
+      heap = λ j. sym (unput (view d).heap h (buffers_of (g s)) (buffers_seen d h s live at_ ∙ (λ l a. sym (eh a) l)) j) i;
     })
 
 -- ---- handles are distinct

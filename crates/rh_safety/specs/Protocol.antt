@@ -169,7 +169,7 @@ on_transmit d h luck l (Some (In_done i a n)) = d
 on_transmit d h luck l (Some (In_failed i a n)) = d
 
 abbrev pub is_fetch : ℕ → Taking → Bool
-is_fetch me t = me == t.fetch
+is_fetch me t = t.fetch == me
 
 -- the sender is asked for a file; the buffer goes
 abbrev pub asked : Desk → ℕ → Taking → Desk
@@ -223,7 +223,7 @@ on_load d h luck l None = d
 on_load d h luck l (Some q) = on_file d h luck l q d.scrap
 
 abbrev pub is_ack : ℕ → Asked → Bool
-is_ack me q = me == q.ack
+is_ack me q = q.ack == me
 
 abbrev pub on_ack_back : Desk → ℕ → Option Asked → Desk
 on_ack_back d h None = d
@@ -238,7 +238,7 @@ abbrev pub failed : Desk → ℕ → Sending → Desk
 failed d h x = with_out d h x (Out_failed x.id x.count)
 
 abbrev pub is_last : ℕ → Sending → Bool
-is_last me x = me == x.last
+is_last me x = x.last == me
 
 abbrev pub on_out_back : Desk → ℕ → Option Sending → Desk
 on_out_back d h None = d
