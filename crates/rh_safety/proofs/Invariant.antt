@@ -1,14 +1,14 @@
 -- The invariant of every schedule.
 use Rattle.std.proofs.Common.{◌≡◌, ◌≢◌, ℕ, ◌+◌, ◌≤◌, ◌<◌, Bool, true, false, List, length, take, drop, Option, Some, None}
 use Rattle.rh_safety.specs.Ends.{Recorded, Returned, DataSave, RamFetch, RamTransmit, DataSaveAck, DataLoad, Asked, Letter, Message, Sending, Taking, Out, Open, Out_done, In, Fetching, Draining, Asking, In_done, In_failed, is_growing, out_id, in_id, in_anchor, Has, Active, Pairwise}
-use Rattle.rh_safety.specs.Protocol.{Desk, Scrap}
+use Rattle.rh_safety.specs.Protocol.{Desk, Scrap, owned}
 use Rattle.rh_safety.proofs.Basics.{Ascend}
 
 -- a letter that is queued, held, or the last that a task sent
 pub data Known (q : List Message) (held last : ℕ → Option Message) (l : Letter) : Type 0 where
   queued : (m : Message) → Has m q → m.letter ≡ l → Known q held last l
   kept : (h : ℕ) (m : Message) → held h ≡ Some m → m.letter ≡ l → Known q held last l
-  latest : (h : ℕ) (m : Message) → last h ≡ Some m → m.letter ≡ l → Known q held last l
+  latest : (h : ℕ) (m : Message) → last h ≡ Some m → (owned h m).letter ≡ l → Known q held last l
 
 abbrev pub Knows : Desk → Letter → Type 0
 Knows d l = Known d.queue d.held d.last l

@@ -17,3 +17,4 @@ pub mod SeenFrames
 pub mod SeenBlocks
 pub mod SeenHeaps
 pub mod SeenSends
+pub mod SeenSaves

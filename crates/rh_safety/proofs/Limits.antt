@@ -2,7 +2,7 @@
 use Rattle.std.proofs.Common.{◌≡◌, ℕ, Bool, true, false, ◌&&◌, List, [], ◌∷◌, length, Option, Some, None, refl, ◌∙◌, subst, ◌≤◌}
 use Rattle.std.specs.Prelude.{nat_eq, nat_lt, nat_le, is_none}
 use Rattle.rh_safety.specs.Ends.{is_meant, is_meant_in, Code, Plain, Recorded, Returned, Kind, DataSave, RamFetch, RamTransmit, DataSaveAck, DataLoad, DataLoadAck, Asked, Asking, Letter, Message, Sending, Taking, In, Fetching, Draining, In_done, In_failed, find_open, find_active, first_for, first, find_asking}
-use Rattle.rh_safety.specs.Protocol.{Desk, Scrap, Luck, start, Command, Start, Kill, Save, Poll, Repeat, Cancel_in, Cancel_out, Alloc, Change, Free, Claim, Release, returned, picked, on_save, can_begin, goes_on, longer, appended, extends, matches, on_transmit, is_fetch, on_fetch_back, is_last, on_out_back, portion, transmits, bytes_of, has_room, in_range, recipient_lives, would_answer, on_fetch, came, came_back, handled, handed_out, polled, saved, can_save, sent, again, can_repeat, repeated, cancels_in, cancels_out, can_edit, with_block, with_heap, started, killed, step, run, asks, first_back, on_ack_back, files, on_ack, on_load_ack, loads, loaded, on_file, on_load, on_fetch_by, lost_if, Lose, asks_for, is_loaded, is_load, is_ack, copied}
+use Rattle.rh_safety.specs.Protocol.{owned, Desk, Scrap, Luck, start, Command, Start, Kill, Save, Poll, Repeat, Cancel_in, Cancel_out, Alloc, Change, Free, Claim, Release, returned, picked, on_save, can_begin, goes_on, longer, appended, extends, matches, on_transmit, is_fetch, on_fetch_back, is_last, on_out_back, portion, transmits, bytes_of, has_room, in_range, recipient_lives, would_answer, on_fetch, came, came_back, handled, handed_out, polled, saved, can_save, sent, again, can_repeat, repeated, cancels_in, cancels_out, can_edit, with_block, with_heap, started, killed, step, run, asks, first_back, on_ack_back, files, on_ack, on_load_ack, loads, loaded, on_file, on_load, on_fetch_by, lost_if, Lose, asks_for, is_loaded, is_load, is_ack, copied}
 use Rattle.rh_safety.specs.Schedules.{Origin, after, InOrder}
 use Rattle.rh_safety.proofs.Basics.{either}
 use Rattle.rh_safety.proofs.Runs.{after_good}
@@ -152,7 +152,7 @@ polled_stays d h luck =
 
 repeated_stays : (d : Desk) (h : ℕ) (room : Bool) (v : Option Message) → Stays d (repeated d h room v)
 repeated_stays d h room None = refl
-repeated_stays d h room (Some m) = either (Stays d) (can_repeat d h m room) (sent d h (again m d.next_ref)) d (λ b. refl) (λ b. refl)
+repeated_stays d h room (Some m) = either (Stays d) (can_repeat d h m room) (sent d h (again (owned h m) d.next_ref)) d (λ b. refl) (λ b. refl)
 
 cancels_in_stays : (d : Desk) (h : ℕ) (v : Option In) → Stays d (cancels_in d h v)
 cancels_in_stays d h None = refl

@@ -412,7 +412,7 @@ filed_good {o} {e} {d} h l x g rd kind is answers =
             whole = λ f s c a b.
                 let load : f.load ≡ d.next_ref = (let z : Option.Some (record { load = d.next_ref; bytes = bytes }) ≡ Some f = s in ap (λ (j : Scrap). j.load) (sym (some_is z))) in
                 let same : f.bytes ≡ bytes = (let z : Option.Some (record { load = d.next_ref; bytes = bytes }) ≡ Some f = s in ap (λ (j : Scrap). j.bytes) (sym (some_is z))) in
-                elim (sent_knows d1 h m n k) [
+                elim (sent_knows d1 h m refl n k) [
                   | inl old ↦ absurd (let z = (i.letters.below n old).me in omega arith)
                   | inr now ↦
                       let names = (rd.ok.ack r q u).names kind (ap (λ (j : Letter). j.answers) (sym now) ∙ b) in
@@ -476,7 +476,7 @@ module _ {o : Offered} {e : ℕ → ℕ → Bool} {d : Desk} (h : ℕ) (luck : L
       let g1 = lost_good (asked_over with_file h q (In_done q.id q.anchor (length bytes)) is
       (done_of with_file h q.id q.anchor (length bytes) (Asking q) is refl g.inv file_sources file_same (record { all = bytes; offered = of; there = file_there }) (beside_growing h (Asking q) g.inv is tt)) g) in
       tell_good h (record { code = Plain; to = q.sender; letter = record { from = h; me = d.next_ref; answers = l.me; kind = DataLoadAck; address = 0; amount = length bytes } })
-      (record { fresh = refl; old = me; from = handle; not_save = λ k. let z : DataLoadAck ≡ DataSave = k in (cc); not_fetch = λ k. let z : DataLoadAck ≡ RamFetch = k in (cc); not_transmit = λ k. let z : DataLoadAck ≡ RamTransmit = k in (cc) }) g1
+      (record { fresh = refl; old = me; from = handle; sender = refl; not_save = λ k. let z : DataLoadAck ≡ DataSave = k in (cc); not_fetch = λ k. let z : DataLoadAck ≡ RamFetch = k in (cc); not_transmit = λ k. let z : DataLoadAck ≡ RamTransmit = k in (cc) }) g1
   loaded_good false =
       lost_good (asked_over with_file h q (In_failed q.id q.anchor (length bytes)) is
       (end_of with_file h q.id q.anchor (length bytes) (Asking q) is refl g.inv file_sources file_same (λ u. record { all = bytes; offered = of; there = file_there ∙ ap (λ (b : List ℕ). Option.Some b) (sym (take_whole (length bytes) bytes refl)); fits = omega arith }) (λ u p y ne f. beside_growing h (Asking q) g.inv is tt u p y ne)) g)

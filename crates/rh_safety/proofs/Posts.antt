@@ -11,35 +11,35 @@ use Rattle.rh_safety.proofs.Sends.{few_put, sent_knows, order_send, queue_below,
 
 -- ---- repeats
 
-pub copy_inv : {o : Offered} {e : ℕ → ℕ → Bool} {d : Desk} (h : ℕ) (m : Message) → Knows d m.letter → Offers o (again m d.next_ref).letter → Inv o e d → Inv o e (sent d h (again m d.next_ref))
-copy_inv {o} {e} {d} h m k of i =
+pub copy_inv : {o : Offered} {e : ℕ → ℕ → Bool} {d : Desk} (h : ℕ) (m : Message) → m.letter.from ≡ h → Knows d m.letter → Offers o (again m d.next_ref).letter → Inv o e d → Inv o e (sent d h (again m d.next_ref))
+copy_inv {o} {e} {d} h m own k of i =
     let n = again m d.next_ref in
     let b = i.letters.below m.letter k in
     record {
-      letters = letters_more n.letter (sent_knows d h n) (record { me = omega arith; answers = let u = b.answers in omega arith; from = b.from }) of (letters_bump (omega arith) (omega arith) i.letters);
-      outs = outs_more n.letter (sent_knows d h n)
+      letters = letters_more n.letter (sent_knows d h n own) (record { me = omega arith; answers = let u = b.answers in omega arith; from = b.from }) of (letters_bump (omega arith) (omega arith) i.letters);
+      outs = outs_more n.letter (sent_knows d h n own)
           (λ s x q. let w = i.outs.source s x q in record { owner = λ c. absurd (let u = w.below in omega arith); same_id = λ c f. absurd (let u = w.below in omega arith) })
           (outs_bump (omega arith) i.outs);
-      ins = ins_more n.letter (sent_knows d h n)
+      ins = ins_more n.letter (sent_knows d h n own)
           (λ r t q. let w = i.ins.buffer r t q in record { owner = λ c. absurd (let u = w.below in omega arith); names = λ c f. absurd (let u = w.below in omega arith) })
           (λ r t q. record { carries = λ a c g. let z = (i.ins.carries m.letter k r t q).carries a c g in record { all = z.all; bytes = z.bytes; offered = z.offered; there = z.there; same = z.same; fits = z.fits; short = z.short } })
           (ins_bump (omega arith) i.ins);
-      boths = boths_more n.letter (sent_knows d h n)
+      boths = boths_more n.letter (sent_knows d h n own)
           (λ s x q r t u. record { older = λ a c g y. (i.boths.older m.letter k s x q r t u).older a c g y })
           (λ s x q r t u. let w = i.outs.source s x q in record { same_id = λ a c g y. absurd (let z = w.below in omega arith); ahead = λ a c g y. absurd (let z = w.below in omega arith) })
           i.boths;
-      loads = loads_other n.letter (sent_knows d h n) refl i.loads;
+      loads = loads_other n.letter (sent_knows d h n own) refl i.loads;
       few = i.few;
       order = order_send n refl (queue_below i) i.order;
       alive = i.alive;
       positive = omega arith;
     }
 
-pub copy_pending : {o : Offered} {e : ℕ → ℕ → Bool} {d : Desk} (h : ℕ) (m : Message) → Knows d m.letter → Inv o e d → Pending d → Pending (sent d h (again m d.next_ref))
-copy_pending {o} {e} {d} h m km i p s x q l k =
+pub copy_pending : {o : Offered} {e : ℕ → ℕ → Bool} {d : Desk} (h : ℕ) (m : Message) → m.letter.from ≡ h → Knows d m.letter → Inv o e d → Pending d → Pending (sent d h (again m d.next_ref))
+copy_pending {o} {e} {d} h m own km i p s x q l k =
     let n = again m d.next_ref in
     let other = λ (j : ℕ) (u : Taking) (act : Active (d.taking j) u). let z : d.next_ref ≢ u.fetch = λ eq. let w = i.ins.buffer j u act in let b = w.below in omega arith in z in
-    elim (sent_knows d h n l k.known) [
+    elim (sent_knows d h n own l k.known) [
       | inl a ↦ waits_sent d h n s l x (d.taking l.from) (d.buf l.from) (other l.from) (p s x q l (record { known = a; kind = k.kind; answers = k.answers; from = k.from; live = k.live; fetches = k.fetches }))
       | inr a ↦ subst (λ z. Waits (sent d h n).queue (sent d h n).held s z x (d.taking z.from) (d.buf z.from)) (sym a)
           (let from : l.from ≡ m.letter.from = ap (λ (z : Letter). z.from) a in

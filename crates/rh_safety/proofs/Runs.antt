@@ -5,7 +5,7 @@ use Rattle.std.proofs.lemmas.Bool.{eq-eqb}
 use Rattle.std.proofs.lemmas.Bool.Decides.{leb_tells}
 use Rattle.std.proofs.lemmas.List.{take-append-drop}
 use Rattle.rh_safety.specs.Ends.{is_document_of, IsPrefixOf, source_at, document_at, buffer_at, is_meant, is_meant_in, how_many, Recorded, Kind, DataSave, RamFetch, RamTransmit, DataSaveAck, DataLoad, DataLoadAck, Letter, Message, Sending, Taking, Out, Open, In, Fetching, Draining, Asking, In_done, In_failed, is_growing, out_id, in_id, in_anchor, is_open, Has, Active, put, any, first, one_more, find_open}
-use Rattle.rh_safety.specs.Protocol.{Desk, Luck, start, Command, Start, Kill, Save, Poll, Repeat, Cancel_in, Cancel_out, Alloc, Change, Free, Claim, Release, is_busy, bytes_of, sent, can_save, saved, again, can_repeat, repeated, Lose, cancels_in, cancels_out, can_edit, with_block, with_heap, started, killed, polled, step, run, would_answer}
+use Rattle.rh_safety.specs.Protocol.{owned, Desk, Luck, start, Command, Start, Kill, Save, Poll, Repeat, Cancel_in, Cancel_out, Alloc, Change, Free, Claim, Release, is_busy, bytes_of, sent, can_save, saved, again, can_repeat, repeated, Lose, cancels_in, cancels_out, can_edit, with_block, with_heap, started, killed, polled, step, run, would_answer}
 use Rattle.rh_safety.specs.Schedules.{offer_again, repeat_offers, offers_after, offers_from, edited_after, edited_from, record_of, document, Origin, after, offered, IsSafe, HoldsBuffer}
 use Rattle.rh_safety.proofs.Basics.{length_more, put_all, put_same, put_other, same_value, none_some, none_of, some_of, or_left, or_right, and_left, and_right, not_true, is_equal, not_equal, any_none, first_is, open_is, Ascend, more_ascends, one_of_id}
 use Rattle.rh_safety.proofs.Invariant.{Offered, queued, kept, latest, Knows, Begins, Untouched, IsGood, Inv, Good}
@@ -115,39 +115,39 @@ saved_good {o} {e} {d} h a to room g true q =
       born = born_put o n (d.block h a) g.born;
     }
 
-copied_good : {o : Offered} {e : ℕ → ℕ → Bool} {d : Desk} (h : ℕ) (m : Message) → Knows d m.letter → Good o e d → (c : Kind) → m.letter.kind ≡ c → Good (offer_again o d.next_ref m c) e (sent d h (again m d.next_ref))
-copied_good {o} {e} {d} h m k g DataSave q =
+copied_good : {o : Offered} {e : ℕ → ℕ → Bool} {d : Desk} (h : ℕ) (m : Message) → m.letter.from ≡ h → Knows d m.letter → Good o e d → (c : Kind) → m.letter.kind ≡ c → Good (offer_again o d.next_ref m c) e (sent d h (again m d.next_ref))
+copied_good {o} {e} {d} h m own k g DataSave q =
     let n = d.next_ref in
     let w = (g.inv.letters.offers m.letter k).some q in
     let i : Inv (put o n (o m.letter.me)) e d = grown_inv (grows_put o n (o m.letter.me) (g.born n (omega arith))) g.inv in
     record {
-      inv = copy_inv h m k (record { some = λ r. (w.0, put_same o n (o m.letter.me) ∙ w.1) }) i;
-      pending = copy_pending h m k g.inv g.pending;
+      inv = copy_inv h m own k (record { some = λ r. (w.0, put_same o n (o m.letter.me) ∙ w.1) }) i;
+      pending = copy_pending h m own k g.inv g.pending;
       born = born_put o n (o m.letter.me) g.born;
     }
-copied_good {o} {e} {d} h m k g RamFetch q = record {
-  inv = copy_inv h m k (record { some = λ r. absurd (let z : RamFetch ≡ DataSave = sym q ∙ r in (cc)) }) g.inv;
-  pending = copy_pending h m k g.inv g.pending;
+copied_good {o} {e} {d} h m own k g RamFetch q = record {
+  inv = copy_inv h m own k (record { some = λ r. absurd (let z : RamFetch ≡ DataSave = sym q ∙ r in (cc)) }) g.inv;
+  pending = copy_pending h m own k g.inv g.pending;
   born = λ i le. g.born i (omega arith);
 }
-copied_good {o} {e} {d} h m k g RamTransmit q = record {
-  inv = copy_inv h m k (record { some = λ r. absurd (let z : RamTransmit ≡ DataSave = sym q ∙ r in (cc)) }) g.inv;
-  pending = copy_pending h m k g.inv g.pending;
+copied_good {o} {e} {d} h m own k g RamTransmit q = record {
+  inv = copy_inv h m own k (record { some = λ r. absurd (let z : RamTransmit ≡ DataSave = sym q ∙ r in (cc)) }) g.inv;
+  pending = copy_pending h m own k g.inv g.pending;
   born = λ i le. g.born i (omega arith);
 }
-copied_good {o} {e} {d} h m k g DataSaveAck q = record {
-  inv = copy_inv h m k (record { some = λ r. absurd (let z : DataSaveAck ≡ DataSave = sym q ∙ r in (cc)) }) g.inv;
-  pending = copy_pending h m k g.inv g.pending;
+copied_good {o} {e} {d} h m own k g DataSaveAck q = record {
+  inv = copy_inv h m own k (record { some = λ r. absurd (let z : DataSaveAck ≡ DataSave = sym q ∙ r in (cc)) }) g.inv;
+  pending = copy_pending h m own k g.inv g.pending;
   born = λ i le. g.born i (omega arith);
 }
-copied_good {o} {e} {d} h m k g DataLoad q = record {
-  inv = copy_inv h m k (record { some = λ r. absurd (let z : DataLoad ≡ DataSave = sym q ∙ r in (cc)) }) g.inv;
-  pending = copy_pending h m k g.inv g.pending;
+copied_good {o} {e} {d} h m own k g DataLoad q = record {
+  inv = copy_inv h m own k (record { some = λ r. absurd (let z : DataLoad ≡ DataSave = sym q ∙ r in (cc)) }) g.inv;
+  pending = copy_pending h m own k g.inv g.pending;
   born = λ i le. g.born i (omega arith);
 }
-copied_good {o} {e} {d} h m k g DataLoadAck q = record {
-  inv = copy_inv h m k (record { some = λ r. absurd (let z : DataLoadAck ≡ DataSave = sym q ∙ r in (cc)) }) g.inv;
-  pending = copy_pending h m k g.inv g.pending;
+copied_good {o} {e} {d} h m own k g DataLoadAck q = record {
+  inv = copy_inv h m own k (record { some = λ r. absurd (let z : DataLoadAck ≡ DataSave = sym q ∙ r in (cc)) }) g.inv;
+  pending = copy_pending h m own k g.inv g.pending;
   born = λ i le. g.born i (omega arith);
 }
 
@@ -155,8 +155,8 @@ repeated_good : {o : Offered} {e : ℕ → ℕ → Bool} {d : Desk} (h : ℕ) (r
 repeated_good h room g None q = g
 repeated_good {o} {e} {d} h room g (Some m) q = repeat_if (can_repeat d h m room)
   where
-    repeat_if : (b : Bool) → Good (if b then offer_again o d.next_ref m m.letter.kind else o) e (if b then sent d h (again m d.next_ref) else d)
-    repeat_if true = copied_good h m (latest h m q refl) g m.letter.kind refl
+    repeat_if : (b : Bool) → Good (if b then offer_again o d.next_ref m m.letter.kind else o) e (if b then sent d h (again (owned h m) d.next_ref) else d)
+    repeat_if true = copied_good h (owned h m) refl (latest h m q refl) g m.letter.kind refl
     repeat_if false = g
 
 -- ---- cancels

@@ -2,7 +2,7 @@
 use Rattle.std.proofs.Common.{◌≡◌, ◌≢◌, ℕ, ◌+◌, ◌≤◌, ◌<◌, Bool, true, false, List, [], ◌∷◌, ◌++◌, length, take, Option, Some, None, refl, sym, ap, ◌∙◌, subst, ◌⊎◌, inl, inr, arith}
 use Rattle.std.proofs.lemmas.Bool.Decides.{eqb_tells}
 use Rattle.rh_safety.specs.Ends.{Recorded, DataSave, RamFetch, RamTransmit, DataSaveAck, DataLoad, Letter, Message, Sending, Taking, Asked, Out, Open, Out_done, Out_failed, In, Fetching, Draining, Asking, In_done, In_failed, is_going, is_growing, out_id, in_id, in_anchor, Has, Active, put, with_id}
-use Rattle.rh_safety.specs.Protocol.{Desk, sent, still_held, ended, asked}
+use Rattle.rh_safety.specs.Protocol.{owned, Desk, sent, still_held, ended, asked}
 use Rattle.rh_safety.proofs.Basics.{length_with, put_all, put_same, put_other, Has-append, none_some, same_value, pair_append, Ascend, one_of_id, with_keeps, with_puts, with_ascends}
 use Rattle.rh_safety.proofs.Invariant.{Offered, queued, kept, latest, Knows, Offers, LetterIn, Carries, Source, Counted, Begins, Untouched, IsGood, HasBuffer, Order, Unread, Inv, IsWaiting, Waits, Asks, PendingAt, Good}
 use Rattle.rh_safety.proofs.Moves.{letters_more, outs_more, ins_more, boths_more, letters_bump, outs_bump, ins_bump, Move, OutOk, outs_move, outs_less, HoldOk, ins_move, move_active, move_with, ins_less, BothOutOk, boths_out, BothInOk, boths_in, loads_more, loads_other, loads_lost, loads_in, loads_end}
@@ -17,16 +17,18 @@ still_some (Some m) a y is = elim (eqb_tells m.letter.me a) [ inl w ↦ absurd (
 pub still_is : (d : Desk) (h a k : ℕ) (y : Message) → put d.held h (still_held (d.held h) a) k ≡ Some y → d.held k ≡ Some y
 still_is d h a k y = put_all (λ j z. z ≡ Some y → d.held j ≡ Some y) d.held h (still_held (d.held h) a) (still_some (d.held h) a y) (λ j ne q. q) k
 
-pub sent_knows : (d : Desk) (h : ℕ) (m : Message) (l : Letter) → Knows (sent d h m) l → Knows d l ⊎ (l ≡ m.letter)
-sent_knows d h m l (queued y has eq) =
+pub sent_knows : (d : Desk) (h : ℕ) (m : Message) → m.letter.from ≡ h → (l : Letter) → Knows (sent d h m) l → Knows d l ⊎ (l ≡ m.letter)
+sent_knows d h m own l (queued y has eq) =
     elim (Has-append y d.queue (m ∷ []) has) [
       | inl a ↦ inl (queued y a eq)
       | inr b ↦ elim b [ inl c ↦ inr (sym eq ∙ ap (λ (z : Message). z.letter) (sym c)) | inr c ↦ absurd c ]
     ]
-sent_knows d h m l (kept k y is eq) = inl (kept k y (still_is d h m.letter.answers k y is) eq)
-sent_knows d h m l (latest k y is eq) =
+sent_knows d h m own l (kept k y is eq) = inl (kept k y (still_is d h m.letter.answers k y is) eq)
+sent_knows d h m own l (latest k y is eq) =
     elim (eqb_tells k h) [
-      | inl a ↦ let z : Some m ≡ Some y = sym (put_same d.last h (Some m)) ∙ subst (λ j. put d.last h (Some m) j ≡ Some y) a.1 is in inr (sym eq ∙ ap (λ (z : Message). z.letter) (let u : y ≡ m = cc in u))
+      | inl a ↦ let z : Some m ≡ Some y = sym (put_same d.last h (Some m)) ∙ subst (λ j. put d.last h (Some m) j ≡ Some y) a.1 is in
+          let u : y ≡ m = cc in
+          inr (sym eq ∙ ap (λ (x : Message). (owned k x).letter) u ∙ ap (λ (j : ℕ). (owned j m).letter) (a.1 ∙ sym own))
       | inr a ↦ inl (latest k y (sym (put_other d.last h (Some m) k a.1) ∙ is) eq)
     ]
 
@@ -198,18 +200,18 @@ out_inv {o} {e} {d} new h v m n i =
     let at = λ (y : Sending) (q : Open y ≡ v). let z : NewOpen o d h nl y = subst (λ u. OutPart o d h nl u) (sym q) n.part in z in
     let up : (s : ℕ) → Ascend out_id (new s) = λ s. elim (eqb_tells s h) [ inl a ↦ subst (λ j. Ascend out_id (new j)) (sym a.1) n.ascends | inr a ↦ subst (λ z. Ascend out_id z) (sym (n.elsewhere s a.1)) (i.order.outs s) ] in
     record {
-      letters = letters_more nl (sent_knows d2 h m) (let f = n.fresh in let b = n.old in record { me = omega arith; answers = omega arith; from = rw n.from n.handle }) n.offers (letters_bump (omega arith) (omega arith) i.letters);
-      outs = outs_more nl (sent_knows d2 h m)
+      letters = letters_more nl (sent_knows d2 h m n.from) (let f = n.fresh in let b = n.old in record { me = omega arith; answers = omega arith; from = rw n.from n.handle }) n.offers (letters_bump (omega arith) (omega arith) i.letters);
+      outs = outs_more nl (sent_knows d2 h m n.from)
           (λ s x q. elim (n.move s (Open x) q) [
             | inl a ↦ let w = i.outs.source s x a.0 in let f = n.fresh in record { owner = λ b. absurd (let u = w.below in omega arith); same_id = λ b c. absurd (let u = w.below in omega arith) }
             | inr a ↦ record { owner = λ b. n.from ∙ sym a.0; same_id = λ b c. (at x a.1).same_id c }
           ])
           (outs_move new h v n.move (out_ok {e = e} h nl v n.part i) (outs_bump (omega arith) i.outs));
-      ins = ins_more nl (sent_knows d2 h m)
+      ins = ins_more nl (sent_knows d2 h m n.from)
           (λ r t q. let w = i.ins.buffer r t q in let f = n.fresh in record { owner = λ b. absurd (let u = w.below in omega arith); names = λ b c. absurd (let u = w.below in omega arith) })
           (λ r t q. record { carries = λ a b c. n.carries r t a q b (sym n.from ∙ c) })
           (ins_bump (omega arith) i.ins);
-      boths = boths_more nl (sent_knows d2 h m)
+      boths = boths_more nl (sent_knows d2 h m n.from)
           (λ s x q r t u. elim (n.move s (Open x) q) [
             | inl a ↦ record { older = λ b c f g. let here : s ≡ h = sym c ∙ n.from in absurd (n.older x (subst (λ j. Has (Open x) (d.sending j)) here a.0) (a.1 here) r t u b f g) }
             | inr a ↦ record { older = λ b c f g. let z = (at x a.1).last in let y = n.old in omega arith }
@@ -219,7 +221,7 @@ out_inv {o} {e} {d} new h v m n i =
             | inr a ↦ record { same_id = λ b c f g. (at x a.1).id r t b u f; ahead = λ b c f g. (at x a.1).level r t b u f }
           ])
           (boths_out new h v n.move (both_ok {e = e} h nl v n.part i) i.boths);
-      loads = loads_other nl (sent_knows d2 h m) n.fresh i.loads;
+      loads = loads_other nl (sent_knows d2 h m n.from) n.fresh i.loads;
       few = record { outs = few_at d.sending new h n.elsewhere n.few i.few.outs; ins = i.few.ins };
       order = order_out new h v n.move up n.born (order_send m n.fresh (queue_below i) i.order);
       alive = i.alive;
@@ -229,7 +231,7 @@ out_inv {o} {e} {d} new h v m n i =
 pub out_pending : {o : Offered} {e : ℕ → ℕ → Bool} {d : Desk} (new : ℕ → List Out) (h : ℕ) (v : Out) (m : Message) → NewOut o d new h m.letter v → Inv o e d → ((s : ℕ) (x : Sending) → Has (Open x) (d.sending s) → (s ≡ h → x.id ≢ out_id v) → PendingAt d s x) → Pending (sent (record d { sending = new }) h m)
 out_pending {o} {e} {d} new h v m n i p s x q l k =
     let d2 : Desk = record d { sending = new } in
-    elim (sent_knows d2 h m l k.known) [
+    elim (sent_knows d2 h m n.from l k.known) [
       | inl a ↦ elim (n.move s (Open x) q) [
         | inl b ↦ waits_sent d2 h m s l x (d.taking l.from) (d.buf l.from) (λ u act eq. let w = i.ins.buffer l.from u act in let f = n.fresh in let y = w.below in absurd (omega arith))
             (p s x b.0 b.1 l (record { known = a; kind = k.kind; answers = k.answers; from = k.from; live = k.live; fetches = k.fetches }))
@@ -282,11 +284,11 @@ fetch_inv {o} {e} {d} new bl h t answers n i =
     let d2 : Desk = record d { block = bl; taking = new } in
     let up : (s : ℕ) → Ascend in_id (new s) = λ s. elim (eqb_tells s h) [ inl a ↦ subst (λ j. Ascend in_id (new j)) (sym a.1) n.ascends | inr a ↦ subst (λ z. Ascend in_id z) (sym (n.elsewhere s a.1)) (i.order.ins s) ] in
     record {
-      letters = letters_more m.letter (sent_knows d2 h m) (let f = n.fresh in let b = n.old in record { me = omega arith; answers = omega arith; from = n.handle }) (record { some = λ q. absurd (let z : RamFetch ≡ DataSave = q in (cc)) }) (letters_bump (omega arith) (omega arith) i.letters);
-      outs = outs_more m.letter (sent_knows d2 h m)
+      letters = letters_more m.letter (sent_knows d2 h m refl) (let f = n.fresh in let b = n.old in record { me = omega arith; answers = omega arith; from = n.handle }) (record { some = λ q. absurd (let z : RamFetch ≡ DataSave = q in (cc)) }) (letters_bump (omega arith) (omega arith) i.letters);
+      outs = outs_more m.letter (sent_knows d2 h m refl)
           (λ s x q. let w = i.outs.source s x q in let f = n.fresh in record { owner = λ b. absurd (let u = w.below in omega arith); same_id = λ b c. absurd (let u = w.below in omega arith) })
           (outs_less d.sending bl (λ s w q. q) n.sources (outs_bump (omega arith) i.outs));
-      ins = ins_more m.letter (sent_knows d2 h m)
+      ins = ins_more m.letter (sent_knows d2 h m refl)
           (λ r u q. fetch_letter h t answers r u n.fresh i (move_active d.taking new h (Fetching t) n.move r u q))
           (λ r u q. record { carries = λ a. absurd (let z : RamFetch ≡ RamTransmit = a in (cc)) })
           (ins_move new bl h (Fetching t) n.move n.same (record {
@@ -302,14 +304,14 @@ fetch_inv {o} {e} {d} new bl h t answers n i =
             beside = λ u q y ne w z. n.documents u q (growing_untouched (e h) u y) ne (sym z);
             documents = λ y. n.documents;
           }) (ins_bump (omega arith) i.ins));
-      boths = boths_more m.letter (sent_knows d2 h m)
+      boths = boths_more m.letter (sent_knows d2 h m refl)
           (λ s x q r u p. record { older = λ a. absurd (let z : RamFetch ≡ RamTransmit = a in (cc)) })
           (λ s x q r u p. record { same_id = λ a. absurd (let z : RamFetch ≡ RamTransmit = a in (cc)); ahead = λ a. absurd (let z : RamFetch ≡ RamTransmit = a in (cc)) })
           (boths_in new h (Fetching t) n.move (record {
             active = record { older = λ l k s x q. let b = i.letters.below l k in let f = n.fresh in record { older = λ a c g y. absurd (let u = b.answers in omega arith) } };
             ahead = λ l k s x q. let b = i.letters.below l k in let f = n.fresh in record { same_id = λ a c g y. absurd (let u = b.answers in omega arith); ahead = λ a c g y. absurd (let u = b.answers in omega arith) };
           }) (λ y. n.apart) i.boths);
-      loads = loads_other m.letter (sent_knows d2 h m) n.fresh (loads_end new h (Fetching t) n.move (λ q u. absurd (let z : Asking q ≡ Fetching t = u in (cc))) i.loads);
+      loads = loads_other m.letter (sent_knows d2 h m refl) n.fresh (loads_end new h (Fetching t) n.move (λ q u. absurd (let z : Asking q ≡ Fetching t = u in (cc))) i.loads);
       few = record { outs = i.few.outs; ins = few_at d.taking new h n.elsewhere n.few i.few.ins };
       order = order_send m n.fresh (queue_below i) (order_in new h (Fetching t) n.move up n.born n.above i.order);
       alive = i.alive;
@@ -322,7 +324,7 @@ fetch_pending {o} {e} {d} new bl h t answers n i quiet level p s x q l k =
     let m = fetch_of h t answers (d.buf h) in
     let d2 : Desk = record d { block = bl; taking = new } in
     let fresh = n.fresh in
-    elim (sent_knows d2 h m l k.known) [
+    elim (sent_knows d2 h m refl l k.known) [
       | inl a ↦
           let k0 : Asks d s x l = record { known = a; kind = k.kind; answers = k.answers; from = k.from; live = k.live; fetches = k.fetches } in
           waits_kept (d.taking l.from) (new l.from) (λ u act z. n.keeps l.from u act (λ r f. quiet s x q l k0 r (sym z ∙ f)))
@@ -471,6 +473,7 @@ pub record Tells (d : Desk) (h : ℕ) (n : Letter) : Type 0 where
   pub fresh : n.me ≡ d.next_ref
   pub old : n.answers < d.next_ref
   pub from : n.from < d.next_handle
+  pub sender : n.from ≡ h
   pub not_save : n.kind ≡ DataSave → ⊥
   pub not_fetch : n.kind ≡ RamFetch → ⊥
   pub not_transmit : n.kind ≡ RamTransmit → ⊥
@@ -482,24 +485,24 @@ tell_good {o} {e} {d} h m n g =
     let f = n.fresh in
     record {
       inv = record {
-        letters = letters_more nl (sent_knows d h m) (let b = n.old in record { me = omega arith; answers = omega arith; from = n.from }) (record { some = λ q. absurd (n.not_save q) }) (letters_bump (omega arith) (omega arith) i.letters);
-        outs = outs_more nl (sent_knows d h m)
+        letters = letters_more nl (sent_knows d h m n.sender) (let b = n.old in record { me = omega arith; answers = omega arith; from = n.from }) (record { some = λ q. absurd (n.not_save q) }) (letters_bump (omega arith) (omega arith) i.letters);
+        outs = outs_more nl (sent_knows d h m n.sender)
             (λ s x q. let w = i.outs.source s x q in record { owner = λ b. absurd (let u = w.below in omega arith); same_id = λ b c. absurd (let u = w.below in omega arith) })
             (outs_bump (omega arith) i.outs);
-        ins = ins_more nl (sent_knows d h m)
+        ins = ins_more nl (sent_knows d h m n.sender)
             (λ r t q. let w = i.ins.buffer r t q in record { owner = λ b. absurd (let u = w.below in omega arith); names = λ b c. absurd (let u = w.below in omega arith) })
             (λ r t q. record { carries = λ a. absurd (n.not_transmit a) })
             (ins_bump (omega arith) i.ins);
-        boths = boths_more nl (sent_knows d h m)
+        boths = boths_more nl (sent_knows d h m n.sender)
             (λ s x q r t u. record { older = λ a. absurd (n.not_transmit a) })
             (λ s x q r t u. record { same_id = λ a. absurd (n.not_transmit a); ahead = λ a. absurd (n.not_transmit a) }) i.boths;
-        loads = loads_other nl (sent_knows d h m) n.fresh i.loads;
+        loads = loads_other nl (sent_knows d h m n.sender) n.fresh i.loads;
         few = i.few;
         order = order_send m n.fresh (queue_below i) i.order;
         alive = i.alive;
         positive = omega arith;
       };
-      pending = λ s x q l k. elim (sent_knows d h m l k.known) [
+      pending = λ s x q l k. elim (sent_knows d h m n.sender l k.known) [
         | inl a ↦ waits_sent d h m s l x (d.taking l.from) (d.buf l.from) (λ u act eq. let w = i.ins.buffer l.from u act in let y = w.below in absurd (omega arith))
             (g.pending s x q l (record { known = a; kind = k.kind; answers = k.answers; from = k.from; live = k.live; fetches = k.fetches }))
         | inr a ↦ absurd (n.not_fetch (ap (λ (z : Letter). z.kind) (sym a) ∙ k.kind))
@@ -525,11 +528,11 @@ asked_good {o} {e} {d} h t is none handle quiet g =
     let doc : Begins o t.id t.count (d.block h t.anchor) = i.ins.good h (Fetching t) is tt in
     let id = i.order.in_below h (Fetching t) is in
     let step1 : Inv o e (sent d1 h m) = record {
-      letters = letters_more m.letter (sent_knows d1 h m) (record { me = omega arith; answers = omega arith; from = handle }) (record { some = λ y. absurd (let z : DataSaveAck ≡ DataSave = y in (cc)) }) (letters_bump (omega arith) (omega arith) i.letters);
-      outs = outs_more m.letter (sent_knows d1 h m)
+      letters = letters_more m.letter (sent_knows d1 h m refl) (record { me = omega arith; answers = omega arith; from = handle }) (record { some = λ y. absurd (let z : DataSaveAck ≡ DataSave = y in (cc)) }) (letters_bump (omega arith) (omega arith) i.letters);
+      outs = outs_more m.letter (sent_knows d1 h m refl)
           (λ s x y. let w = i.outs.source s x y in record { owner = λ b. absurd (let u = w.below in omega arith); same_id = λ b c. absurd (let u = w.below in omega arith) })
           (outs_bump (omega arith) i.outs);
-      ins = ins_more m.letter (sent_knows d1 h m)
+      ins = ins_more m.letter (sent_knows d1 h m refl)
           (λ r u y. let w = i.ins.buffer r u (still_active d.taking new h q mv r u y).0 in let z = w.below in record { owner = λ b. absurd (omega arith); names = λ b c. absurd (omega arith) })
           (λ r u y. record { carries = λ a. absurd (let z : DataSaveAck ≡ RamTransmit = a in (cc)) })
           (ins_move new d.block h v mv (λ r w p ne u. refl)
@@ -539,11 +542,11 @@ asked_good {o} {e} {d} h t is none handle quiet g =
             beside = λ u y z ne w eq. ne (sym (i.ins.documents h u (Fetching t) y z is tt eq));
             documents = λ y w p u ne eq. ne (i.ins.documents h (Fetching t) w is refl p u eq);
           }) (ins_bump (omega arith) i.ins));
-      boths = boths_more m.letter (sent_knows d1 h m)
+      boths = boths_more m.letter (sent_knows d1 h m refl)
           (λ s x p r u y. record { older = λ a. absurd (let z : DataSaveAck ≡ RamTransmit = a in (cc)) })
           (λ s x p r u y. record { same_id = λ a. absurd (let z : DataSaveAck ≡ RamTransmit = a in (cc)); ahead = λ a. absurd (let z : DataSaveAck ≡ RamTransmit = a in (cc)) })
           (boths_in new h v mv tt (λ y x p. i.boths.apart h x (Fetching t) p is refl) i.boths);
-      loads = loads_more m.letter (sent_knows d1 h m)
+      loads = loads_more m.letter (sent_knows d1 h m refl)
           (λ r u y. elim (mv r (Asking u) y) [
             | inl a ↦ let w = i.loads.ack_below r u a.0 in record { names = λ b c. absurd (omega arith) }
             | inr a ↦ let z : u ≡ q = (let w : Asking u ≡ Asking q = a.1 in cc) in record { names = λ b c. ap (λ (j : Asked). j.id) (sym z) }
@@ -557,7 +560,7 @@ asked_good {o} {e} {d} h t is none handle quiet g =
     } in
     record {
       inv = heap_inv h t.buffer None (λ u y eq. let a = still_active d.taking new h q mv h u y in a.1 refl (i.ins.buffers h u t a.0 (inl is) eq)) step1;
-      pending = λ s x p l k. elim (sent_knows d1 h m l k.known) [
+      pending = λ s x p l k. elim (sent_knows d1 h m refl l k.known) [
         | inl a ↦
             let k0 : Asks d s x l = record { known = a; kind = k.kind; answers = k.answers; from = k.from; live = k.live; fetches = k.fetches } in
             waits_kept (d.taking l.from) (new l.from) (λ u b z. keeps_with d.taking h t.id v l.from u b (λ r f. quiet s x p l k0 r (sym z ∙ f)))

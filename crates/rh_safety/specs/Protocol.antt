@@ -410,12 +410,16 @@ abbrev pub again : Message → ℕ → Message
 again m me =
     record { code = m.code; to = m.to; letter = record { from = m.letter.from; me = me; answers = m.letter.answers; kind = m.letter.kind; address = m.letter.address; amount = m.letter.amount } }
 
+-- the message with the task as its sender
+abbrev pub owned : ℕ → Message → Message
+owned h m = record { code = m.code; to = m.to; letter = record { from = h; me = m.letter.me; answers = m.letter.answers; kind = m.letter.kind; address = m.letter.address; amount = m.letter.amount } }
+
 abbrev pub can_repeat : Desk → ℕ → Message → Bool → Bool
 can_repeat d h m room = d.live h && (d.live m.to && room)
 
 abbrev pub repeated : Desk → ℕ → Bool → Option Message → Desk
 repeated d h room None = d
-repeated d h room (Some m) = if can_repeat d h m room then sent d h (again m d.next_ref) else d
+repeated d h room (Some m) = if can_repeat d h m room then sent d h (again (owned h m) d.next_ref) else d
 
 abbrev pub cancels_in : Desk → ℕ → Option In → Desk
 cancels_in d h None = d
