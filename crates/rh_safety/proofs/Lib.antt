@@ -18,3 +18,4 @@ pub mod SeenBlocks
 pub mod SeenHeaps
 pub mod SeenSends
 pub mod SeenSaves
+pub mod SeenCancels
