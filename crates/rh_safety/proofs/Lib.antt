@@ -19,3 +19,5 @@ pub mod SeenHeaps
 pub mod SeenSends
 pub mod SeenSaves
 pub mod SeenCancels
+pub mod SeenStarts
+pub mod SeenPosts
