@@ -21,3 +21,5 @@ pub mod SeenSaves
 pub mod SeenCancels
 pub mod SeenStarts
 pub mod SeenPosts
+pub mod SeenTaking
+pub mod SeenHandled

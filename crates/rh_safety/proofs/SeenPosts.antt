@@ -160,7 +160,7 @@ bounce_next : (h : ℕ) (o : Option Parcel) (q : Post) → (bounce_held h o q).n
 bounce_next h None q = refl
 bounce_next h (Some m) q = (bounced_leads m (record q { seats = with_held h None q.seats })).next
 
-live_bounced : (h : ℕ) (o : Option Parcel) (q : Post) (k : ℕ) → has_seat k (bounce_held h o q).seats ≡ has_seat k q.seats
+pub live_bounced : (h : ℕ) (o : Option Parcel) (q : Post) (k : ℕ) → has_seat k (bounce_held h o q).seats ≡ has_seat k q.seats
 live_bounced h o q k = elim (bounce_seats h o q) [ inl e ↦ ap (has_seat k) e | inr e ↦ ap (has_seat k) e ∙ seats_held h None q.seats k ]
 
 dead : (h : ℕ) (q : Post) (others : ℕ → Bool) → Same others (put (λ k. has_seat k q.seats) h false) → IsDead h others q (post_death h q)

@@ -7,6 +7,10 @@ use Rattle.rh_defs.specs.Slot.{Slot, Flex, block_of}
 use Rattle.rh_defs.specs.declared.message.Body.{Body}
 use Rattle.rh_defs.specs.declared.message.Body.TheVariants as body
 use Rattle.rh_defs.specs.declared.message.Letter.{Letter}
+use Rattle.rh_defs.specs.declared.message.Action.{Action}
+use Rattle.rh_defs.specs.declared.message.Action.TheVariants as action
+use Rattle.rh_defs.specs.declared.reply.Outcome.{Outcome}
+use Rattle.rh_defs.specs.declared.reply.Outcome.TheVariants as outcome
 use Rattle.rh_defs.specs.declared.command.Command.{Command}
 use Rattle.rh_defs.specs.declared.command.Command.TheVariants as command
 use Rattle.rh_defs.specs.declared.reply.Reply.{Reply}
@@ -107,6 +111,16 @@ edits_next edits d _ r = edits
 abbrev pub edits_from : Edits → Desk → List Command → Edits
 edits_from edits d [] = edits
 edits_from edits d (c ∷ cs) = edits_from (edits_next edits d c (step d c).1) (step d c).0 cs
+
+-- ---- refusals in a poll
+
+-- whether a poll was refused a claim, an allocation, an extension or a message; a DataSave is ignored where it was
+abbrev pub is_refusal : Action → Outcome → Bool
+is_refusal action.DataSave outcome.Ignored = true
+is_refusal a (outcome.Refused r) = true
+is_refusal a (outcome.TookFailed n r) = true
+is_refusal a (outcome.LoadedFailed n r) = true
+is_refusal a _ = false
 
 -- ---- runs
 
