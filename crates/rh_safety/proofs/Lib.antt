@@ -23,3 +23,4 @@ pub mod SeenStarts
 pub mod SeenPosts
 pub mod SeenTaking
 pub mod SeenHandled
+pub mod SeenReceiver

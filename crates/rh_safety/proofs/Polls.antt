@@ -1,5 +1,5 @@
 -- A poll keeps the invariant.
-use Rattle.std.proofs.Common.{◌≡◌, ◌≢◌, ℕ, suc, ◌+◌, ◌≤◌, ◌<◌, Bool, true, false, not, ◌&&◌, List, [], ◌++◌, length, take, drop, replicate, Option, Some, None, refl, sym, ap, ◌∙◌, subst, ◌⊎◌, inl, inr, arith, length-drop}
+use Rattle.std.proofs.Common.{nat_le, ◌≡◌, ◌≢◌, ℕ, suc, ◌+◌, ◌≤◌, ◌<◌, Bool, true, false, not, ◌&&◌, List, [], ◌++◌, length, take, drop, replicate, Option, Some, None, refl, sym, ap, ◌∙◌, subst, ◌⊎◌, inl, inr, arith, length-drop}
 use Rattle.std.proofs.lemmas.List.{length-replicate}
 use Rattle.std.proofs.lemmas.Grind.{common_steps}
 use Rattle.std.specs.Prelude.{if◌then◌else◌, nat_eq, nat_lt, is_none}
@@ -140,13 +140,13 @@ record Matched (d : Desk) (h : ℕ) (t : Taking) (l : Letter) : Type 0 where
 
 matched : (d : Desk) (h : ℕ) (t : Taking) (l : Letter) → matches d h l t ≡ true → Matched d h t l
 matched d h t l q =
-    let q1 = and_right (nat_eq l.from t.sender) _ q in
-    let q2 = and_right (nat_eq l.answers t.fetch) _ q1 in
+    let q3 = and_left _ (nat_le l.amount (d.buf h)) q in
+    let q2 = and_left _ (nat_eq l.address t.buffer) q3 in
     record {
-      from = is_equal _ _ (and_left (nat_eq l.from t.sender) _ q);
-      answers = is_equal _ _ (and_left (nat_eq l.answers t.fetch) _ q1);
-      address = is_equal _ _ (and_left (nat_eq l.address t.buffer) _ q2);
-      amount = elim (leb_tells l.amount (d.buf h)) [ inl w ↦ w.1 | inr w ↦ absurd (let a = w.0 in let b = and_right (nat_eq l.address t.buffer) _ q2 in (cc)) ];
+      from = is_equal _ _ (and_left (nat_eq l.from t.sender) _ q2);
+      answers = is_equal _ _ (and_right _ (nat_eq l.answers t.fetch) q2);
+      address = is_equal _ _ (and_right _ (nat_eq l.address t.buffer) q3);
+      amount = elim (leb_tells l.amount (d.buf h)) [ inl w ↦ w.1 | inr w ↦ absurd (let a = w.0 in let b = and_right _ (nat_le l.amount (d.buf h)) q in (cc)) ];
     }
 
 -- the document with the buffer's bytes at its end
@@ -441,8 +441,8 @@ on_ack_good {o} {e} {d} h luck l g rd kind (Some x) q = files_good (is_none d.sc
     files_good : (b : Bool) → Good o e (files d h l x b)
     files_good true =
         let w = open_is (asks_for l) (d.sending h) x q in
-        let q1 = and_right (nat_eq l.from x.recipient) _ w.1 in
-        filed_good h l x g rd kind w.0 (is_equal _ _ (and_left (nat_eq l.answers x.id) _ q1))
+        let q1 = and_left _ (nat_eq x.id x.last) w.1 in
+        filed_good h l x g rd kind w.0 (is_equal _ _ (and_right _ (nat_eq l.answers x.id) q1))
     files_good false = shut_good h x g.inv (λ s y r ne. g.pending s y r) g.born (open_is (asks_for l) (d.sending h) x q).0
 
 on_load_ack_good : {o : Offered} {e : ℕ → ℕ → Bool} {d : Desk} (h : ℕ) (p : Sending → Bool) → Good o e d → (v : Option Sending) → find_open p (d.sending h) ≡ v → Good o e (on_load_ack d h v)
@@ -667,7 +667,7 @@ pub would_true : (x : Sending) (l : Letter) → l.from ≡ x.recipient → l.ans
 would_true x l a b c =
     let w1 : nat_eq l.from x.recipient ≡ true = eq-eqb _ _ a in
     let w2 : nat_eq l.answers x.last ≡ true = eq-eqb _ _ b in
-    let w3 : nat_lt 0 l.amount ≡ true = grind (arith, nat_tests) in
+    let w3 : nat_le 1 l.amount ≡ true = grind (arith, nat_tests) in
     rw (w1, w2, w3) refl
 
 pub record Would (x : Sending) (l : Letter) : Type 0 where
@@ -676,8 +676,8 @@ pub record Would (x : Sending) (l : Letter) : Type 0 where
 
 pub would_tells : (x : Sending) (l : Letter) → would_answer l x ≡ true → Would x l
 would_tells x l q =
-    let q1 = and_right (nat_eq l.from x.recipient) _ q in
-    record { from = is_equal _ _ (and_left (nat_eq l.from x.recipient) _ q); answers = is_equal _ _ (and_left (nat_eq l.answers x.last) _ q1) }
+    let q1 = and_left _ (nat_le 1 l.amount) q in
+    record { from = is_equal _ _ (and_left (nat_eq l.from x.recipient) _ q1); answers = is_equal _ _ (and_right _ (nat_eq l.answers x.last) q1) }
 
 -- ---- polls
 

@@ -130,6 +130,7 @@ pub record IsLonger (d : Desk) (t : Task) (k : ℕ) (bytes : List ℕ) (after : 
   pub there : blocks_of t.slot k ≡ Some document
   pub seen : view after ≡ protocol.with_block (view d) t.handle k (Some (document ++ bytes))
   pub live : (view after).live t.handle ≡ true
+  pub post : after.post ≡ d.post
 
 longer_bytes : (document bytes : List ℕ) → written (fitted (length document + length bytes) document) (length document) bytes ≡ document ++ bytes
 longer_bytes document bytes =
@@ -164,7 +165,7 @@ longer_map k free document bytes old mid new there e p a =
     put_over (blocks_of mid) (blocks_of old) k (Some (fitted (length document + length bytes) x.cut.here.bytes)) (Some (document ++ bytes)) (changed_map x) a
 
 pub longer_is : (d : Desk) (t : Task) (k : ℕ) (bytes : List ℕ) (after : Desk) → task_of t.handle d.tasks ≡ Some t → appended d t k bytes ≡ Ok after → IsLonger d t k bytes after
-unfolding appended
+unfolding appended with_task
 longer_is d t k bytes after is q =
     with_step (slot_block k t.slot) _ after q (λ b e1 q1.
     with_step (slot_extend (free_pages d) k (length b.here.bytes + length bytes) t.slot) _ after q1 (λ mid e2 q2.
@@ -176,4 +177,4 @@ longer_is d t k bytes after is q =
           (longer_map k (free_pages d) b.here.bytes bytes t.slot mid new there e2 e3)
           (λ a. changed_still (put_is k (length b.here.bytes) bytes mid new e3) a ∙ changed_still (extend_is (free_pages d) k (length b.here.bytes + length bytes) t.slot mid e2) a) in
       subst (IsLonger d t k bytes) (ok_is (with_slot t.handle new d) after q3)
-      (record { document = b.here.bytes; there = there; seen = v; live = ap (λ (y : protocol.Desk). y.live t.handle) v ∙ live }))))
+      (record { document = b.here.bytes; there = there; seen = v; live = ap (λ (y : protocol.Desk). y.live t.handle) v ∙ live; post = refl }))))

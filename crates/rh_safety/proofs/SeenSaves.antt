@@ -128,7 +128,7 @@ repeat_follows d name f =
       let kept = is_found t.last_sent NothingSent last w in
       let there : (view d).last t.handle ≡ Some (seen_last last) = field_is (λ x. option_map seen_last x.last_sent) None t.handle d.tasks t is ∙ ap (option_map seen_last) kept in
       let l : Letter = record last.0 { from = t.handle } in
-      let can : protocol.can_repeat (view d) t.handle (seen_last last) true ≡ true = rw (is, sent_live d sent l f y) refl in
+      let can : protocol.can_repeat (view d) t.handle (seen_last last) true ≡ true = rw (is, sent_live d sent l (f.seats l.to) y) refl in
       record {
         moves = protocol.Repeat t.handle true ∷ [];
         seen = sent_view d sent l y (live_of d t.handle t is) ∙ sym (ap (protocol.repeated (view d) t.handle true) there ∙ rw can refl);

@@ -174,5 +174,5 @@ sent_slot d e l q h =
     subst (λ (y : Desk). slot_at y h ≡ slot_at d h) w.same (change_other (λ y. y.slot) new_slot l.from (λ y. record y { last_sent = Some (l, d.post.next_ref) }) (λ y. refl) (λ y. refl) d.tasks h)
 
 -- the recipient is live
-pub sent_live : (d e : Desk) (l : Letter) → Fits d → send_letter l d ≡ Ok e → (view d).live l.to ≡ true
-sent_live d e l f q = let w = letter_sent l d e q in sym (f.seats l.to) ∙ w.live
+pub sent_live : (d e : Desk) (l : Letter) → has_seat l.to d.post.seats ≡ (view d).live l.to → send_letter l d ≡ Ok e → (view d).live l.to ≡ true
+sent_live d e l f q = let w = letter_sent l d e q in sym f ∙ w.live

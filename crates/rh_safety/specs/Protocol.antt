@@ -1,6 +1,8 @@
 -- The desk, reduced to what a transfer rests on. Where the whole desk asks pages, heaps and the queue's room,
 -- the command brings the answer with it, so that a law over all commands holds for each such answer.
 use Rattle.std.specs.Prelude.{ℕ, ◌+◌, ◌-◌, min, Bool, true, false, not, ◌&&◌, ◌||◌, nat_lt, nat_le, ◌==◌, if◌then◌else◌, List, [], ◌∷◌, ◌++◌, length, take, drop, replicate, Option, Some, None, is_some, is_none}
+use Rattle.rh_defs.specs.Sender as sender
+use Rattle.rh_defs.specs.Receiver as receiver
 use Rattle.rh_safety.specs.Ends.{Code, Plain, Recorded, Returned, Kind, DataSave, RamFetch, RamTransmit, DataSaveAck, DataLoad, DataLoadAck, Asked, Letter, Message, Sending, Taking, Out, Open, Out_done, Out_failed, In, Fetching, Draining, Asking, In_done, In_failed, out_id, in_id, is_open, is_going, put, any, how_many, one_more, with_id, find_open, find_active, find_asking, is_growing, first, first_for, without_first, source_at, document_at, buffer_at, is_meant, is_meant_in}
 
 -- the scrap file: the ref of its DataLoad, and its bytes
@@ -155,7 +157,7 @@ extends d h luck t l false = ended d h t (In_failed t.id t.anchor t.count)
 
 -- the record is the transmit's
 abbrev pub matches : Desk → ℕ → Letter → Taking → Bool
-matches d h l t = (l.from == t.sender) && ((l.answers == t.fetch) && ((l.address == t.buffer) && nat_le l.amount (d.buf h)))
+matches d h l t = receiver.is_answer (d.buf h) l.from l.answers l.address l.amount t
 
 abbrev pub given_up : Desk → ℕ → Taking → Desk
 given_up d h t = ended d h t (In_failed t.id t.anchor t.count)
@@ -199,7 +201,7 @@ with_in d h q v = record d { taking = put d.taking h (with_id in_id q.id v (d.ta
 
 -- the DataLoad is the record's
 abbrev pub is_load : Letter → Asked → Bool
-is_load l q = (l.from == q.sender) && (l.answers == q.ack)
+is_load l q = receiver.is_load l.from l.answers q
 
 -- the file is the document
 abbrev pub copied : Desk → ℕ → Asked → List ℕ → Desk
@@ -279,7 +281,7 @@ recipient_lives d h luck l x false = failed d h x
 
 -- the fetch is the record's
 abbrev pub would_answer : Letter → Sending → Bool
-would_answer l x = (l.from == x.recipient) && ((l.answers == x.last) && nat_lt 0 l.amount)
+would_answer l x = sender.would_answer l.from l.answers l.amount x
 
 abbrev pub on_fetch : Desk → ℕ → Luck → Letter → Option Sending → Desk
 on_fetch d h luck l None = d
@@ -287,7 +289,7 @@ on_fetch d h luck l (Some x) = recipient_lives d h luck l x (d.live x.recipient)
 
 -- the DataSaveAck is the record's
 abbrev pub asks_for : Letter → Sending → Bool
-asks_for l x = (l.from == x.recipient) && ((l.answers == x.id) && (x.id == x.last))
+asks_for l x = sender.asks_for l.from l.answers x
 
 -- the source becomes the scrap file
 abbrev pub filed : Desk → ℕ → Letter → Sending → Desk
@@ -307,7 +309,7 @@ on_ack d h luck l (Some x) = files d h l x (is_none d.scrap && (d.live x.recipie
 
 -- the DataLoadAck is the record's
 abbrev pub is_loaded : Letter → Sending → Bool
-is_loaded l x = (l.from == x.recipient) && (l.answers == x.last)
+is_loaded l x = sender.is_loaded l.from l.answers x
 
 abbrev pub on_load_ack : Desk → ℕ → Option Sending → Desk
 on_load_ack d h None = d
