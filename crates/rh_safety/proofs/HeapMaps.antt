@@ -147,7 +147,7 @@ put_swap f h j x y k ne = elim (eqb_tells k h) [
 ]
 
 -- other bytes in the place of the block at the cut
-in_place : (old bytes : List ℕ) (h : Heap) (s : Split Segment) (segments tail : List Segment) → BlockOf old h s →
+pub in_place : (old bytes : List ℕ) (h : Heap) (s : Split Segment) (segments tail : List Segment) → BlockOf old h s →
     ((a : ℕ) → bytes_at first_place segments a ≡ bytes_at first_place (s.before ++ Used bytes ∷ tail) a) →
     ((a : ℕ) → bytes_at (place_after s.before + (4 + length bytes)) tail a ≡ bytes_at (place_after s.before + (4 + length old)) s.after a) →
     IsMoved h (record h { segments = segments }) (place_after s.before + 4) (place_after s.before + 4) bytes

@@ -24,3 +24,4 @@ pub mod SeenPosts
 pub mod SeenTaking
 pub mod SeenHandled
 pub mod SeenReceiver
+pub mod SeenSender
