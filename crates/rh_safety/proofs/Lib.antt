@@ -25,3 +25,4 @@ pub mod SeenTaking
 pub mod SeenHandled
 pub mod SeenReceiver
 pub mod SeenSender
+pub mod SeenPolls

@@ -28,6 +28,10 @@ module _ {o : Offered} {e : ℕ → ℕ → Bool} {d : Desk} (g : Good o e d) (h
       range_good (d.heap x.recipient m.letter.address) b.bytes m.letter.amount
       (subst (λ j. d.heap j m.letter.address ≡ Some b.bytes) from (subst (λ j. d.heap m.letter.from j ≡ Some b.bytes) v.names b.there)) (omega arith)
 
+  -- the range that a fetch names is in a buffer
+  pub reaches : (x : Sending) → find_open (would_answer m.letter) (d.sending h) ≡ Some x → m.letter.kind ≡ RamFetch → d.file h ≡ false → d.live x.recipient ≡ true → range_is_bad (d.heap x.recipient m.letter.address) m.letter.amount ≡ false
+  reaches x q k file live = if_found x q k file true live
+
   fetch_good : (v : Option Sending) → find_open (would_answer m.letter) (d.sending h) ≡ v → m.letter.kind ≡ RamFetch → d.file h ≡ false → fetch_is_bad d m.letter v ≡ false
   fetch_good None q k file = refl
   fetch_good (Some x) q k file = if_found x q k file (d.live x.recipient) refl

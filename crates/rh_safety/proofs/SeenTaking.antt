@@ -95,7 +95,7 @@ pub record IsTaken (d : Desk) (h : ℕ) (p : Post × Option Parcel) : Type 0 whe
   pub seen : view (with_delivered p.0 d) ≡ picked_by h (option_map seen_parcel p.1) (protocol.lost_if lost (protocol.returned (view d) h ((view d).held h)))
   pub seats : (k : ℕ) → has_seat k p.0.seats ≡ has_seat k d.post.seats
 
-lost_queue : (b : Bool) (d : protocol.Desk) → (protocol.lost_if b d).queue ≡ d.queue
+pub lost_queue : (b : Bool) (d : protocol.Desk) → (protocol.lost_if b d).queue ≡ d.queue
 lost_queue true d = refl
 lost_queue false d = refl
 
