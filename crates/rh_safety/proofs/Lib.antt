@@ -26,3 +26,4 @@ pub mod SeenHandled
 pub mod SeenReceiver
 pub mod SeenSender
 pub mod SeenPolls
+pub mod SeenLaws
