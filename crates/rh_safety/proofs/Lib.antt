@@ -8,7 +8,6 @@ pub mod Runs
 pub mod Ranges
 pub mod Turns
 pub mod Limits
-pub mod Rows
 
 pub mod FlexMaps
 pub mod HeapMaps

@@ -1,7 +1,6 @@
 pub mod Ends
 pub mod Protocol
 pub mod Schedules
-pub mod Turns
 pub mod View
 pub mod History
 pub mod FlexMap
