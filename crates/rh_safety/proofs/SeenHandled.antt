@@ -47,12 +47,15 @@ pub record HasRoom (luck : Luck) : Type 0 where
   pub send : luck.room_send ≡ true
   pub extend : luck.room_extend ≡ true
 
--- what was done is what the reduced desk does with some luck, a good one where nothing was refused
-pub record CameAs (lost : Bool) (a : Action) (after : Handled) (does : Luck → protocol.Desk) : Type 0 where
+-- what was done is what the reduced desk does with some luck, of which something is sure where nothing was refused
+pub record CameBy (lost : Bool) (a : Action) (after : Handled) (does : Luck → protocol.Desk) (sure : Luck → Type 0) : Type 0 where
   pub luck : Luck
   pub lost_is : luck.lost ≡ lost
   pub seen : view after.0 ≡ does luck
-  pub room : is_refusal a after.1 ≡ false → HasRoom luck
+  pub room : is_refusal a after.1 ≡ false → sure luck
+
+abbrev pub CameAs : Bool → Action → Handled → (Luck → protocol.Desk) → Type 0
+CameAs lost a after does = CameBy lost a after does HasRoom
 
 -- all is granted
 abbrev pub lucky : Bool → ℕ → ℕ → ℕ → Luck

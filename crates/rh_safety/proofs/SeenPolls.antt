@@ -30,14 +30,14 @@ use Rattle.rh_safety.specs.Ends as post
 use Rattle.rh_safety.specs.Protocol as protocol
 use Rattle.rh_safety.specs.Protocol.{Luck}
 use Rattle.rh_safety.specs.Schedules.{range_is_bad}
-use Rattle.rh_safety.proofs.Basics.{first_has}
+use Rattle.rh_safety.proofs.Basics.{first_has, none_some}
 use Rattle.rh_safety.proofs.Invariant.{Offered, Good}
 use Rattle.rh_safety.proofs.Posts.{returned_good}
 use Rattle.rh_safety.proofs.Ranges.{reaches}
 use Rattle.rh_safety.proofs.SeenTasks.{field_is, live_of}
 use Rattle.rh_safety.proofs.SeenFrames.{Fits, Follows, Silent, bind, done, instead_of, refused, the_task}
 use Rattle.rh_safety.proofs.SeenTaking.{IsTaken, lost_queue, picked_by, poll_taken_is}
-use Rattle.rh_safety.proofs.SeenHandled.{letter_of, HasRoom, CameAs, lucky, has_room}
+use Rattle.rh_safety.proofs.SeenHandled.{letter_of, HasRoom, CameBy, CameAs, lucky, has_room}
 use Rattle.rh_safety.proofs.SeenReceiver.{either_by, save_came, transmit_came, fetch_came_back, ack_came_back, load_came}
 use Rattle.rh_safety.proofs.SeenSender.{fetch_came, back_came, ack_came, load_ack_came}
 
@@ -64,7 +64,45 @@ module _ (d : Desk) (t : Task) (m : Parcel) (f : Fits d) (is : task_of t.handle 
   file_seen : (view d).file h ≡ answers_none t.manner
   file_seen = field_is (λ y. answers_none y.manner) false h d.tasks t is
 
-  came_seen : (b : Body) → Reaches d t m b → CameAs lost (action_of b) (transfer.came d t m b) (λ luck. protocol.came (view d) h luck (letter_of m b) (action_of b))
+  -- what is sure of the luck where nothing was refused
+  abbrev SureOf : Body → Luck → Type 0
+  SureOf (body.DataSave file) luck = HasRoom luck × (protocol.can_begin (view d) h luck (letter_of m (body.DataSave file)) ≡ true)
+  SureOf (body.DataSaveAck file) luck = HasRoom luck
+  SureOf (body.DataLoad file) luck = HasRoom luck
+  SureOf (body.DataLoadAck file) luck = HasRoom luck
+  SureOf (body.RamFetch buffer amount) luck = HasRoom luck
+  SureOf (body.RamTransmit buffer n) luck = HasRoom luck
+
+  abbrev SureBy : EventCode → Body → Luck → Type 0
+  SureBy User b luck = SureOf b luck
+  SureBy Recorded b luck = SureOf b luck
+  SureBy Acknowledge b luck = HasRoom luck
+
+  room_by : (b : Body) (luck : Luck) → SureOf b luck → HasRoom luck
+  room_by (body.DataSave file) luck q = q.0
+  room_by (body.DataSaveAck file) luck q = q
+  room_by (body.DataLoad file) luck q = q
+  room_by (body.DataLoadAck file) luck q = q
+  room_by (body.RamFetch buffer amount) luck q = q
+  room_by (body.RamTransmit buffer n) luck q = q
+
+  pub room_of : (c : EventCode) (b : Body) (luck : Luck) → SureBy c b luck → HasRoom luck
+  room_of User b luck q = room_by b luck q
+  room_of Recorded b luck q = room_by b luck q
+  room_of Acknowledge b luck q = q
+
+  -- a DataSave that came could be taken
+  pub begins_by : (c : EventCode) (b : Body) (luck : Luck) → SureBy c b luck → c ≡ Recorded → action_of b ≡ action.DataSave → protocol.can_begin (view d) h luck (letter_of m b) ≡ true
+  begins_by User b luck q e k = absurd (let z : User ≡ Recorded = e in (cc))
+  begins_by Acknowledge b luck q e k = absurd (let z : Acknowledge ≡ Recorded = e in (cc))
+  begins_by Recorded (body.DataSave file) luck q e k = q.1
+  begins_by Recorded (body.DataSaveAck file) luck q e k = absurd (let z : action.DataSaveAck ≡ action.DataSave = k in (cc))
+  begins_by Recorded (body.DataLoad file) luck q e k = absurd (let z : action.DataLoad ≡ action.DataSave = k in (cc))
+  begins_by Recorded (body.DataLoadAck file) luck q e k = absurd (let z : action.DataLoadAck ≡ action.DataSave = k in (cc))
+  begins_by Recorded (body.RamFetch buffer amount) luck q e k = absurd (let z : action.RamFetch ≡ action.DataSave = k in (cc))
+  begins_by Recorded (body.RamTransmit buffer n) luck q e k = absurd (let z : action.RamTransmit ≡ action.DataSave = k in (cc))
+
+  came_seen : (b : Body) → Reaches d t m b → CameBy lost (action_of b) (transfer.came d t m b) (λ luck. protocol.came (view d) h luck (letter_of m b) (action_of b)) (SureOf b)
   unfolding transfer.came
   came_seen (body.DataSave file) r = save_came d t m f is lost (body.DataSave file)
   came_seen (body.DataSaveAck file) r = ack_came d t m f is lost (body.DataSaveAck file)
@@ -88,7 +126,7 @@ module _ (d : Desk) (t : Task) (m : Parcel) (f : Fits d) (is : task_of t.handle 
   back_seen (body.RamFetch buffer amount) = fetch_came_back d t m f is lost
   back_seen (body.RamTransmit buffer n) = back_came d t m f is lost action.RamTransmit
 
-  pub handled_seen : (c : EventCode) → Reaches d t m m.message.body → CameAs lost (action_of m.message.body) (transfer.handled d t m c) (λ luck. protocol.handled (view d) h luck (seen_parcel m).letter c)
+  pub handled_seen : (c : EventCode) → Reaches d t m m.message.body → CameBy lost (action_of m.message.body) (transfer.handled d t m c) (λ luck. protocol.handled (view d) h luck (seen_parcel m).letter c) (SureBy c m.message.body)
   unfolding transfer.handled
   handled_seen User r = came_seen m.message.body r
   handled_seen Recorded r = came_seen m.message.body r
@@ -106,6 +144,8 @@ pub record IsPoll (d : Desk) (h : ℕ) (a : Answer) : Type 0 where
   pub luck : Luck
   pub seen : view a.0 ≡ protocol.polled (view d) h luck
   pub room : is_refused_poll a.1 ≡ false → HasRoom luck
+  pub begins : (m : Message) → post.first_for h (protocol.lost_if luck.lost (protocol.returned (view d) h ((view d).held h))).queue ≡ Some m → m.code ≡ Recorded → m.letter.kind ≡ action.DataSave → is_refused_poll a.1 ≡ false →
+      protocol.can_begin (protocol.picked (protocol.lost_if luck.lost (protocol.returned (view d) h ((view d).held h))) h m m.code) h luck m.letter ≡ true
 
 returned_heap : (d : protocol.Desk) (h : ℕ) (v : Option Message) → (protocol.returned d h v).heap ≡ d.heap
 returned_heap d h None = refl
@@ -161,6 +201,7 @@ module _ {o : Offered} {e : ℕ → ℕ → Bool} (d : Desk) (t : Task) (f : Fit
     seen = w.seen ∙ ap (λ (o : Option Parcel). picked_by hd (option_map seen_parcel o) (protocol.lost_if w.lost back)) e ∙
         sym (ap (protocol.handed_out (protocol.lost_if w.lost back) hd (lucky w.lost 0 0 0)) (w.first ∙ ap (option_map seen_parcel) e));
     room = λ z. has_room w.lost 0 0 0;
+    begins = λ m q. absurd (none_some _ (w.first ∙ ap (option_map seen_parcel) e) q);
   }
   by_message p w (Some m) e =
       let d2 : Desk = with_delivered p.0 d in
@@ -174,7 +215,15 @@ module _ {o : Offered} {e : ℕ → ℕ → Bool} (d : Desk) (t : Task) (f : Fit
         luck = c.luck;
         seen = c.seen ∙ ap (λ (y : protocol.Desk). protocol.handled y hd c.luck (seen_parcel m).letter m.code) seen2 ∙
             sym (ap (λ b. protocol.after_return (protocol.lost_if b back) hd c.luck) c.lost_is ∙ ap (protocol.handed_out (protocol.lost_if w.lost back) hd c.luck) first);
-        room = c.room;
+        room = λ z. room_of d2 t m (fits_after p w) is w.lost sources m.code m.message.body c.luck (c.room z);
+        begins = λ n q code kind z.
+            let lost_same : protocol.lost_if c.luck.lost back ≡ protocol.lost_if w.lost back = ap (λ b. protocol.lost_if b back) c.lost_is in
+            let one : Some n ≡ Some (seen_parcel m) = sym q ∙ ap (λ (y : protocol.Desk). post.first_for hd y.queue) lost_same ∙ first in
+            let same : n ≡ seen_parcel m = cc in
+            let can = begins_by d2 t m (fits_after p w) is w.lost sources m.code m.message.body c.luck (c.room z) (ap (λ (y : Message). y.code) (sym same) ∙ code) (ap (λ (y : Message). y.letter.kind) (sym same) ∙ kind) in
+            ap (λ (y : protocol.Desk). protocol.can_begin (protocol.picked y hd n n.code) hd c.luck n.letter) lost_same ∙
+            ap (λ (y : Message). protocol.can_begin (protocol.picked (protocol.lost_if w.lost back) hd y y.code) hd c.luck y.letter) same ∙
+            ap (λ (y : protocol.Desk). protocol.can_begin y hd c.luck (seen_parcel m).letter) (sym seen2) ∙ can;
       }
 
   pub poll_is : IsPoll d hd (poll_taken (with_delivered (post_poll hd d.post).0 d) t (post_poll hd d.post).1)

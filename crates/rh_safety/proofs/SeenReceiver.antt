@@ -39,7 +39,7 @@ use Rattle.rh_safety.proofs.SeenBlocks.{ok_is, not_some, alloc_is, added_map, ad
 use Rattle.rh_safety.proofs.SeenHeaps.{claim_is, claimed_free, claimed_map, claimed_still}
 use Rattle.rh_safety.proofs.SeenSends.{sent_view, sent_live}
 use Rattle.rh_safety.proofs.SeenSaves.{not_full}
-use Rattle.rh_safety.proofs.SeenHandled.{letter_of, HasRoom, CameAs, lucky, unlucky, has_room, by_grant, with_step, buffer_is, ended_view, IsLonger, longer_is}
+use Rattle.rh_safety.proofs.SeenHandled.{letter_of, HasRoom, CameBy, CameAs, lucky, unlucky, has_room, by_grant, with_step, buffer_is, ended_view, IsLonger, longer_is}
 
 and_no : (a b : Bool) → b ≡ false → (a && b) ≡ false
 and_no true b q = q
@@ -95,7 +95,11 @@ module _ (d : Desk) (t : Task) (m : Parcel) (f : Fits d) (is : task_of t.handle 
       and_no (not ((view d).deaf h)) _ (and_no (nat_lt (how_many is_going ((view d).taking h)) (view d).most) _
       (and_no (is_none ((view d).block h 0)) _ (and_no (is_none ((view d).heap h 0)) _ refl)))
 
-  not_taken : (b : Body) → CameAs lost action.DataSave (ignored d) (λ luck. protocol.on_save (view d) h luck (letter_of m b) (protocol.can_begin (view d) h luck (letter_of m b)))
+  -- a DataSave that was taken could be
+  abbrev pub SaveAs : Body → Handled → Type 0
+  SaveAs b x = CameBy lost action.DataSave x (λ luck. protocol.on_save (view d) h luck (letter_of m b) (protocol.can_begin (view d) h luck (letter_of m b))) (λ luck. HasRoom luck × (protocol.can_begin (view d) h luck (letter_of m b) ≡ true))
+
+  not_taken : (b : Body) → SaveAs b (ignored d)
   not_taken b = record {
     luck = unlucky lost false;
     lost_is = refl;
@@ -104,7 +108,7 @@ module _ (d : Desk) (t : Task) (m : Parcel) (f : Fits d) (is : task_of t.handle 
   }
 
   accepted : (b : Body) → receiver.on_save (is_deaf t.manner) t.taking ≡ true → (x : Handled) → accept d t m ≡ Ok x →
-      CameAs lost action.DataSave x (λ luck. protocol.on_save (view d) h luck (letter_of m b) (protocol.can_begin (view d) h luck (letter_of m b)))
+      SaveAs b x
   unfolding accept with_task
   accepted b can x q =
       with_step (found_or (free_anchor t.slot) AnchorInUse) _ x q (λ k e1 q1.
@@ -134,23 +138,23 @@ module _ (d : Desk) (t : Task) (m : Parcel) (f : Fits d) (is : task_of t.handle 
             ap (λ (z : protocol.Desk). let y = protocol.sent z h (seen_letter letter d.post.next_ref) in record y { taking = put y.taking h (edit (y.taking h)) }) v1 in
         let may : protocol.can_begin (view d) h luck l ≡ true =
             rw (is, not_full is_going t.taking (not_true (is_full is_going t.taking) (and_right (not (is_deaf t.manner)) _ can)), none, claimed_free w2, to) (rw (and_left (not (is_deaf t.manner)) _ can) refl) in
-        subst (λ (y : Handled). CameAs lost action.DataSave y (λ luck. protocol.on_save (view d) h luck l (protocol.can_begin (view d) h luck l))) (ok_is _ x q4)
+        subst (λ (y : Handled). SaveAs b y) (ok_is _ x q4)
         (record {
           luck = luck;
           lost_is = refl;
           seen = v3 ∙ ap (λ n. begun_as (view d) h k c.1 (zeros n) t.buffer l) (sizes t.buffer) ∙ ap (λ n. begun_as (view d) h k c.1 (zeros (n + (size - t.buffer))) n l) (sym buffer_size) ∙
               sym (ap (protocol.on_save (view d) h luck l) may);
-          room = λ z. has_room lost k c.1 (size - t.buffer);
+          room = λ z. (has_room lost k c.1 (size - t.buffer), may);
         })))))
     where
       sizes : (n : ℕ) → block_room n ≡ n + (block_room n - n)
       sizes n = omega arith
 
-  pub save_came : (b : Body) → CameAs lost action.DataSave (take_save d t m) (λ luck. protocol.on_save (view d) h luck (letter_of m b) (protocol.can_begin (view d) h luck (letter_of m b)))
+  pub save_came : (b : Body) → SaveAs b (take_save d t m)
   unfolding take_save
   save_came b =
-      either (λ x. CameAs lost action.DataSave x (λ luck. protocol.on_save (view d) h luck (letter_of m b) (protocol.can_begin (view d) h luck (letter_of m b)))) (receiver.on_save (is_deaf t.manner) t.taking) _ (ignored d)
-      (λ can. by_grant (λ x. CameAs lost action.DataSave x (λ luck. protocol.on_save (view d) h luck (letter_of m b) (protocol.can_begin (view d) h luck (letter_of m b)))) (accept d t m) _ (accepted b can) (λ r e. not_taken b))
+      either (λ x. SaveAs b x) (receiver.on_save (is_deaf t.manner) t.taking) _ (ignored d)
+      (λ can. by_grant (λ x. SaveAs b x) (accept d t m) _ (accepted b can) (λ r e. not_taken b))
       (λ not. not_taken b)
 
   -- ---- a transmit
