@@ -7,7 +7,6 @@ pub mod Polls
 pub mod Runs
 pub mod Ranges
 pub mod Turns
-pub mod Limits
 
 pub mod FlexMaps
 pub mod HeapMaps
@@ -26,3 +25,10 @@ pub mod SeenReceiver
 pub mod SeenSender
 pub mod SeenPolls
 pub mod SeenLaws
+pub mod SeenKeys
+pub mod SeenNames
+pub mod SeenTurns
+pub mod SeenRanges
+pub mod SeenBuffers
+pub mod SafetyRows
+pub mod WrongBodies

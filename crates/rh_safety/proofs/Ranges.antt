@@ -1,9 +1,9 @@
--- No poll answers failed BadRange.
+-- The range that a fetch names, where the fetch would be answered.
 use Rattle.std.proofs.Common.{◌≡◌, ℕ, ◌≤◌, Bool, true, false, not, ◌&&◌, List, length, Option, Some, None, refl, ap, ◌∙◌, subst, inl, inr, arith}
 use Rattle.std.proofs.lemmas.Bool.Decides.{leb_tells}
 use Rattle.rh_safety.specs.Ends.{DataSaveAck, DataLoad, DataLoadAck, Code, Plain, Recorded, Returned, Kind, DataSave, RamFetch, RamTransmit, Message, Sending, Has, find_open, first_for}
 use Rattle.rh_safety.specs.Protocol.{Desk, Command, returned, would_answer}
-use Rattle.rh_safety.specs.Schedules.{Origin, after, range_is_bad, fetch_is_bad, kind_is_bad, code_is_bad, message_is_bad, poll_is_bad}
+use Rattle.rh_safety.specs.Schedules.{Origin, after, range_is_bad}
 use Rattle.rh_safety.proofs.Basics.{first_has, open_is}
 use Rattle.rh_safety.proofs.Invariant.{Offered, queued, Good}
 use Rattle.rh_safety.proofs.Polls.{would_tells}
@@ -31,34 +31,3 @@ module _ {o : Offered} {e : ℕ → ℕ → Bool} {d : Desk} (g : Good o e d) (h
   -- the range that a fetch names is in a buffer
   pub reaches : (x : Sending) → find_open (would_answer m.letter) (d.sending h) ≡ Some x → m.letter.kind ≡ RamFetch → d.file h ≡ false → d.live x.recipient ≡ true → range_is_bad (d.heap x.recipient m.letter.address) m.letter.amount ≡ false
   reaches x q k file live = if_found x q k file true live
-
-  fetch_good : (v : Option Sending) → find_open (would_answer m.letter) (d.sending h) ≡ v → m.letter.kind ≡ RamFetch → d.file h ≡ false → fetch_is_bad d m.letter v ≡ false
-  fetch_good None q k file = refl
-  fetch_good (Some x) q k file = if_found x q k file (d.live x.recipient) refl
-
-  by_file : m.letter.kind ≡ RamFetch → (b : Bool) → d.file h ≡ b → (not b && fetch_is_bad d m.letter (find_open (would_answer m.letter) (d.sending h))) ≡ false
-  by_file k true q = refl
-  by_file k false q = fetch_good (find_open (would_answer m.letter) (d.sending h)) refl k q
-
-  kind_good : (k : Kind) → m.letter.kind ≡ k → kind_is_bad d h m.letter k ≡ false
-  kind_good DataSave q = refl
-  kind_good RamFetch q = by_file q (d.file h) refl
-  kind_good RamTransmit q = refl
-  kind_good DataSaveAck q = refl
-  kind_good DataLoad q = refl
-  kind_good DataLoadAck q = refl
-
-  code_good : (c : Code) → code_is_bad d h m.letter c ≡ false
-  code_good Plain = kind_good m.letter.kind refl
-  code_good Recorded = kind_good m.letter.kind refl
-  code_good Returned = refl
-
-message_good : {o : Offered} {e : ℕ → ℕ → Bool} {d : Desk} → Good o e d → (h : ℕ) (v : Option Message) → first_for h d.queue ≡ v → message_is_bad d h v ≡ false
-message_good g h None q = refl
-message_good {o} {e} {d} g h (Some m) q = code_good g h m (first_has h d.queue m q).0 m.code
-
-pub never_bad : (o : Origin) (cs : List Command) (h : ℕ) → (after o cs).live h ≡ true → poll_is_bad (after o cs) h ≡ false
-never_bad o cs h live =
-    let d = after o cs in
-    let g = returned_good h (d.held h) refl (after_good o cs) in
-    message_good g h (first_for h (returned d h (d.held h)).queue) refl

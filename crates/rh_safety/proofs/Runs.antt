@@ -360,10 +360,8 @@ is_safe o cs id h =
       counted = λ n q. let w = g.inv.outs.counted h id n q in (w.all, w.offered, w.whole);
     }
 
-pub holds_buffer : (o : Origin) (cs : List Command) (m : Message) (x : Sending) → Has m (after o cs).queue → m.code ≡ Recorded → m.letter.kind ≡ RamFetch → Has (Open x) ((after o cs).sending m.to) → would_answer m.letter x ≡ true → (after o cs).live m.letter.from ≡ true → (after o cs).file m.to ≡ false → HoldsBuffer (after o cs) m x
-holds_buffer o cs m x here code kind opens would live file =
-    let d = after o cs in
-    let g = after_good o cs in
+pub holds_buffer : {o : Offered} {e : ℕ → ℕ → Bool} {d : Desk} → Good o e d → (m : Message) (x : Sending) → Has m d.queue → m.code ≡ Recorded → m.letter.kind ≡ RamFetch → Has (Open x) (d.sending m.to) → would_answer m.letter x ≡ true → d.live m.letter.from ≡ true → d.file m.to ≡ false → HoldsBuffer d m x
+holds_buffer {o} {e} {d} g m x here code kind opens would live file =
     let u = would_tells x m.letter would in
     let w = g.pending m.to x opens m.letter (record { known = queued m here refl; kind = kind; answers = u.answers; from = u.from; live = live; fetches = file }) in
     let b = g.inv.ins.buffer m.letter.from w.taking w.is_active in

@@ -32,6 +32,7 @@ use Rattle.rh_safety.proofs.Basics.{none_some, put_same}
 use Rattle.rh_safety.proofs.SeenTasks.{Same, unput, live_of, slot_is, slot_at, blocks_seen, block_view, buffer_view, ins_view}
 use Rattle.rh_safety.proofs.SeenFrames.{is_found}
 use Rattle.rh_safety.proofs.SeenBlocks.{From, from_bind, ok_is, the_block, IsChanged, extend_is, put_is, changed_from, changed_map, changed_still, put_over}
+use Rattle.rh_safety.proofs.SeenSends.{with_step}
 use Rattle.rh_safety.proofs.SeenHeaps.{release_is, gone_map, gone_still}
 
 -- ---- what is shown
@@ -67,12 +68,6 @@ unlucky lost extend = record { anchor = 0; address = 0; spare = 0; room_buffer =
 
 pub has_room : (lost : Bool) (anchor address spare : ℕ) → HasRoom (lucky lost anchor address spare)
 has_room lost anchor address spare = record { buffer = refl; document = refl; send = refl; extend = refl }
-
--- granted, or refused
-pub by_grant : {A : Type 0} (P : A → Type 0) (g : Granted A) (instead : Refusal → A) → ((x : A) → g ≡ Ok x → P x) → ((r : Refusal) → g ≡ Err r → P (instead r)) → P (or_else g instead)
-unfolding or_else
-by_grant P (Ok x) instead f k = f x refl
-by_grant P (Err r) instead f k = k r refl
 
 -- ---- buffers
 
@@ -145,12 +140,6 @@ longer_bytes document bytes =
     ap (λ (z : List ℕ). written (z ++ pad) (length document) bytes) all ∙
     ap (λ (z : List ℕ). z ++ (bytes ++ drop (length document + n) (document ++ pad))) (take-append_seam document pad) ∙
     ap (λ (z : List ℕ). document ++ (bytes ++ z)) none ∙ ap (λ (z : List ℕ). document ++ z) (append-nil bytes)
-
--- a step that was granted, and the rest
-pub with_step : {A B P : Type 0} (g : Granted A) (next : A → Granted B) (y : B) → (g >>= next) ≡ Ok y → ((x : A) → g ≡ Ok x → next x ≡ Ok y → P) → P
-unfolding ◌>>=◌
-with_step (Ok x) next y q k = k x refl q
-with_step (Err r) next y q k = absurd (let z : Err r ≡ Ok y = q in (cc))
 
 -- a block made longer, and then written
 longer_map : (k free : ℕ) (document bytes : List ℕ) (old mid new : Slot) → blocks_of old k ≡ Some document → slot_extend free k (length document + length bytes) old ≡ Ok mid →

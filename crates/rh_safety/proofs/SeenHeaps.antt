@@ -216,7 +216,7 @@ pub record IsResized (old new : Slot) (from to : ℕ) : Type 0 where
   pub still : Same (blocks_of new) (blocks_of old)
 
 -- how long the new bytes are
-length_fitted : (n : ℕ) (bytes : List ℕ) → length (fitted n bytes) ≡ n
+pub length_fitted : (n : ℕ) (bytes : List ℕ) → length (fitted n bytes) ≡ n
 length_fitted n bytes = simp (length-append, length-take, length-replicate) (grind arith)
 
 -- as many bytes as there are

@@ -99,8 +99,16 @@ pub record Runs (d : Desk) (o : Offers) (e : Edits) (cs : List Command) : Type 0
   pub offers : offers_from o (view d) moves ≡ whole.offers_from o d cs
   pub edits : edited_from e (view d) moves ≡ whole.edits_from e d cs
 
+-- a slot's block, by either word
+pub block_is : (s : Slot) (k : ℕ) → blocks_of s k ≡ bytes_of_block s k
+block_is s k = go (block_of k s) refl
+  where
+    go : (o : Option (Split Flex)) → block_of k s ≡ o → blocks_of s k ≡ option_map (λ (b : Split Flex). b.here.bytes) o
+    go None e = (flex.edits weight (flex_start s) k s.blocks).unused e
+    go (Some b) e = (flex.edits weight (flex_start s) k s.blocks).found b e
+
 module _ (K : Desk → Type 0) (keeps : Keeps K) where
-  runs : (cs : List Command) → all_in_range cs ≡ true → (d : Desk) (o : Offers) (e : Edits) → Good o e (view d) → K d → Runs d o e cs
+  pub runs : (cs : List Command) → all_in_range cs ≡ true → (d : Desk) (o : Offers) (e : Edits) → Good o e (view d) → K d → Runs d o e cs
   runs [] p d o e g f = record { moves = []; seen = refl; offers = refl; edits = refl }
   runs (c ∷ cs) p d o e g f =
       let in_c : in_range c ≡ true = and_left (in_range c) _ p in
@@ -120,14 +128,6 @@ module _ (K : Desk → Type 0) (keeps : Keeps K) where
       }
 
   -- ---- what is held
-
-  -- a slot's block, by either word
-  block_is : (s : Slot) (k : ℕ) → blocks_of s k ≡ bytes_of_block s k
-  block_is s k = go (block_of k s) refl
-    where
-      go : (o : Option (Split Flex)) → block_of k s ≡ o → blocks_of s k ≡ option_map (λ (b : Split Flex). b.here.bytes) o
-      go None e = (flex.edits weight (flex_start s) k s.blocks).unused e
-      go (Some b) e = (flex.edits weight (flex_start s) k s.blocks).found b e
 
   document_is : (t : Task) (b : Bool) (d : protocol.Desk) (h : ℕ) → d.block h ≡ blocks_of t.slot → (o : Option Incoming) → history.document d h b o ≡ whole.document_of t b o
   document_is t b d h q None = refl
@@ -159,4 +159,26 @@ module _ (K : Desk → Type 0) (keeps : Keeps K) where
             (sym (ap (λ (v : Option Task). of (λ y. y.taking) [] v) is) ∙ ap (λ (y : protocol.Desk). y.taking h) r.seen) has);
         counted = λ n t is has. let w = s.counted n (subst (λ (y : List _). Has (outgoing.Done id n) y)
             (sym (ap (λ (v : Option Task). of (λ y. y.sending) [] v) is) ∙ ap (λ (y : protocol.Desk). y.sending h) r.seen) has) in (w.0, sym off ∙ w.1, w.2);
+      }
+
+  -- what holds of each desk that is reached
+  pub record IsReached (d : Desk) : Type 0 where
+    pub offers : Offers
+    pub edits : Edits
+    pub good : Good offers edits (view d)
+    pub kept : K d
+
+  kept_after : (cs : List Command) → all_in_range cs ≡ true → (d : Desk) → K d → K (after d cs)
+  kept_after [] p d k = k
+  kept_after (c ∷ cs) p d k = kept_after cs (and_right (in_range c) _ p) (step d c).0 (keeps.step d c (and_left (in_range c) _ p) k)
+
+  pub reached : (o : whole.Origin) → K (whole.first_desk o) → 0 < o.ref → (cs : List Command) → all_in_range cs ≡ true → IsReached (whole.desk_after o cs)
+  reached o k positive cs p =
+      let g = start_good 8 o.handle o.ref positive in
+      let r = runs cs p (whole.first_desk o) (λ i. None) (λ k i. false) g k in
+      record {
+        offers = offers_from (λ i. None) (view (whole.first_desk o)) r.moves;
+        edits = edited_from (λ k i. false) (view (whole.first_desk o)) r.moves;
+        good = subst (λ (y : protocol.Desk). Good (offers_from (λ i. None) (view (whole.first_desk o)) r.moves) (edited_from (λ k i. false) (view (whole.first_desk o)) r.moves) y) (sym r.seen) (run_good r.moves g);
+        kept = kept_after cs p (whole.first_desk o) k;
       }

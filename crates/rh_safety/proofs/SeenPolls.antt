@@ -24,7 +24,7 @@ use Rattle.rh_defs.specs.Transfer as transfer
 use Rattle.rh_defs.specs.Transfer.{answers_none}
 use Rattle.rh_defs.specs.Step.{poll, poll_taken, step}
 use Rattle.rh_safety.specs.View.{view, seen_parcel, task_of}
-use Rattle.rh_safety.specs.History.{is_refusal}
+use Rattle.rh_safety.specs.History.{is_refused_poll}
 use Rattle.rh_safety.specs.Ends.{Message, Has}
 use Rattle.rh_safety.specs.Ends as post
 use Rattle.rh_safety.specs.Protocol as protocol
@@ -134,11 +134,6 @@ module _ (d : Desk) (t : Task) (m : Parcel) (f : Fits d) (is : task_of t.handle 
 
 -- ---- a poll
 
--- whether a reply is that of a poll that was refused something
-abbrev pub is_refused_poll : Reply → Bool
-is_refused_poll (reply.Event code a my_ref your_ref outcome) = is_refusal a outcome
-is_refused_poll _ = false
-
 -- a poll with some luck, a good one where nothing was refused
 pub record IsPoll (d : Desk) (h : ℕ) (a : Answer) : Type 0 where
   pub luck : Luck
@@ -170,7 +165,7 @@ module _ {o : Offered} {e : ℕ → ℕ → Bool} (d : Desk) (t : Task) (f : Fit
   abbrev back : protocol.Desk
   back = protocol.returned (view d) hd ((view d).held hd)
 
-  reaches_by : (m : Parcel) → Has (seen_parcel m) back.queue → (b : Body) → m.message.body ≡ b → Reaches d t m b
+  pub reaches_by : (m : Parcel) → Has (seen_parcel m) back.queue → (b : Body) → m.message.body ≡ b → Reaches d t m b
   reaches_by m has (body.RamFetch buffer amount) eq = λ file x found to.
       let v = (view d).held hd in
       let gb = returned_good hd v refl g in

@@ -37,9 +37,9 @@ use Rattle.rh_safety.proofs.SeenTasks.{Same, field_is, live_of, slot_is, slot_at
 use Rattle.rh_safety.proofs.SeenFrames.{Fits, is_found}
 use Rattle.rh_safety.proofs.SeenBlocks.{ok_is, not_some, alloc_is, added_map, added_still}
 use Rattle.rh_safety.proofs.SeenHeaps.{claim_is, claimed_free, claimed_map, claimed_still}
-use Rattle.rh_safety.proofs.SeenSends.{sent_view, sent_live}
+use Rattle.rh_safety.proofs.SeenSends.{by_grant, with_step, sent_view, sent_live}
 use Rattle.rh_safety.proofs.SeenSaves.{not_full}
-use Rattle.rh_safety.proofs.SeenHandled.{letter_of, HasRoom, CameBy, CameAs, lucky, unlucky, has_room, by_grant, with_step, buffer_is, ended_view, IsLonger, longer_is}
+use Rattle.rh_safety.proofs.SeenHandled.{letter_of, HasRoom, CameBy, CameAs, lucky, unlucky, has_room, buffer_is, ended_view, IsLonger, longer_is}
 
 and_no : (a b : Bool) → b ≡ false → (a && b) ≡ false
 and_no true b q = q

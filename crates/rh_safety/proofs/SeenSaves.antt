@@ -13,6 +13,8 @@ use Rattle.rh_defs.specs.declared.command.Command.TheVariants as command
 use Rattle.rh_defs.specs.declared.reply.Reply.TheVariants as reply
 use Rattle.rh_defs.specs.declared.transfer.Outgoing.{Outgoing}
 use Rattle.rh_defs.specs.declared.transfer.Outgoing.TheVariants as outgoing
+use Rattle.rh_defs.specs.Chain.{found_or, refuse_if}
+use Rattle.rh_defs.specs.Commands.{Answer}
 use Rattle.rh_defs.specs.Pieces.{Split}
 use Rattle.rh_defs.specs.Slot.{Flex, weight, flex_start, block_of}
 use Rattle.rh_defs.specs.Letters.{save_letter}
@@ -28,8 +30,9 @@ use Rattle.rh_safety.specs.Schedules.{offers_from, edited_from, offer_again}
 use Rattle.rh_safety.proofs.FlexMaps as flex
 use Rattle.rh_safety.proofs.SeenTasks.{found_task, field_is, live_of, slot_is, outs_view}
 use Rattle.rh_safety.proofs.SeenFrames.{Fits, Follows, bind, test, done, is_found, instead_of, the_task}
-use Rattle.rh_safety.proofs.SeenBlocks.{IsIdle, the_idle, not_refused, found_name}
-use Rattle.rh_safety.proofs.SeenSends.{sent_view, sent_live}
+use Rattle.rh_safety.proofs.SeenBlocks.{IsIdle, the_idle, not_refused, from_test, ok_is, found_name}
+use Rattle.rh_safety.proofs.SeenSends.{from_first, by_grant, with_step, sent_view, sent_live}
+use Rattle.rh_safety.proofs.SeenKeys.{SameKeys, outs_keys, sent_keys}
 
 -- how many pass a test
 pub how_many_is : {A : Type 0} (p : A → Bool) (xs : List A) → post.how_many p xs ≡ length (filter p xs)
@@ -106,6 +109,46 @@ save_follows d name k to leaf f =
         offers = λ o. rw (can, is, there, found_name d name t q, block_is k t b idle.block) refl;
         edits = λ e. refl;
       }))))))
+
+-- the step of a save that was accepted
+pub record IsSaved (d after : Desk) (h to k id : ℕ) : Type 0 where
+  pub seen : view after ≡ protocol.step (view d) (protocol.Save h k to true)
+  pub accepted : protocol.step (view d) (protocol.Save h k to true) ≡ protocol.saved (view d) h k to
+  pub ref : d.post.next_ref ≡ id
+  pub keys : SameKeys d after
+
+save_result : (d : Desk) (name : List ℕ) (k : ℕ) (to leaf : List ℕ) (t r : Task) (x : Answer) → Fits d → find (has_name name) d.tasks ≡ Some t → find (has_name to) d.tasks ≡ Some r → save d name k to leaf ≡ Ok x →
+    (id : ℕ) → x.1 ≡ reply.Sent id → IsSaved d x.0 t.handle r.handle k id
+unfolding save
+save_result d name k to leaf t r x f found_t found_r q id sent_is =
+    with_step (named name d) _ x q (λ t1 e1 q1. with_step (idle_block k t1) _ x q1 (λ b e2 q2.
+    with_step (found_or (find (has_name to) d.tasks) NoTask) _ x (from_test _ _ x q2) (λ r1 e3 q3. with_step (send_letter (save_letter t1.handle r1.handle (length b.here.bytes) leaf) d) _ x q3 (λ sent e4 q4.
+      let full = from_first (refuse_if (is_full is_open t1.sending) Busy) _ x q2 in
+      let one : Some t1 ≡ Some t = sym (found_name d name t1 e1) ∙ found_t in
+      let same_t : t1 ≡ t = cc in
+      let two : Some r1 ≡ Some r = sym (is_found (find (has_name to) d.tasks) NoTask r1 e3) ∙ found_r in
+      let same_r : r1 ≡ r = cc in
+      let is = the_task d name t1 f e1 in
+      let to_is : task_of r1.handle d.tasks ≡ Some r1 = found_task (has_name to) d.tasks r1 f.handles (is_found (find (has_name to) d.tasks) NoTask r1 e3) in
+      let idle = the_idle k t1 b e2 in
+      let there : flex_map t1.slot.blocks k ≡ Some b.here.bytes = (flex.edits weight (flex_start t1.slot) k t1.slot.blocks).found b idle.block in
+      let can = can_save d t1 r1 k b.here.bytes b is idle there (not_refused (is_full is_open t1.sending) Busy full.0 full.1) (live_of d r1.handle r1 to_is) in
+      let accepted : protocol.step (view d) (protocol.Save t1.handle k r1.handle true) ≡ protocol.saved (view d) t1.handle k r1.handle = ap (λ c. if c then protocol.saved (view d) t1.handle k r1.handle else view d) can in
+      let same_x = ok_is _ x q4 in
+      let ref : reply.Sent (next_ref d) ≡ reply.Sent id = ap (λ (y : Answer). y.1) same_x ∙ sent_is in
+      subst (λ (y : Task). IsSaved d x.0 y.handle r.handle k id) same_t (subst (λ (y : Task). IsSaved d x.0 t1.handle y.handle k id) same_r
+      (subst (λ (y : Answer). IsSaved d y.0 t1.handle r1.handle k id) same_x (record {
+        seen = after_save d sent t1 r1 k leaf b.here.bytes is there e4 ∙ sym accepted;
+        accepted = accepted;
+        ref = let z : next_ref d ≡ id = cc in z;
+        keys = outs_keys t1.handle (sender.offered (next_ref d) r1.handle k) sent ∙ sent_keys d sent (save_letter t1.handle r1.handle (length b.here.bytes) leaf) e4;
+      })))))))
+
+pub save_step : (d : Desk) (name : List ℕ) (k : ℕ) (to leaf : List ℕ) (t r : Task) (id : ℕ) → Fits d → find (has_name name) d.tasks ≡ Some t → find (has_name to) d.tasks ≡ Some r →
+    (step d (command.Save name k to leaf)).1 ≡ reply.Sent id → IsSaved d (step d (command.Save name k to leaf)).0 t.handle r.handle k id
+save_step d name k to leaf t r id f found_t found_r =
+    by_grant (λ (y : Answer). y.1 ≡ reply.Sent id → IsSaved d y.0 t.handle r.handle k id) (save d name k to leaf) (λ refusal. (d, reply.Refused refusal))
+    (λ x q s. save_result d name k to leaf t r x f found_t found_r q id s) (λ refusal q s. absurd (let z : reply.Refused refusal ≡ reply.Sent id = s in (cc)))
 
 -- ---- repeats
 

@@ -39,8 +39,8 @@ use Rattle.rh_safety.proofs.SeenTasks.{Same, field_is, live_of, slot_is, slot_at
 use Rattle.rh_safety.proofs.SeenFrames.{Fits, is_found}
 use Rattle.rh_safety.proofs.SeenBlocks.{from_test, ok_is, not_refused}
 use Rattle.rh_safety.proofs.SeenHeaps.{cut_is, used_is, shifted}
-use Rattle.rh_safety.proofs.SeenSends.{sent_view, sent_live, sent_slot, from_first}
-use Rattle.rh_safety.proofs.SeenHandled.{letter_of, HasRoom, CameAs, lucky, unlucky, has_room, by_grant, with_step, buffer_is, block_there}
+use Rattle.rh_safety.proofs.SeenSends.{by_grant, with_step, sent_view, sent_live, sent_slot, from_first}
+use Rattle.rh_safety.proofs.SeenHandled.{letter_of, HasRoom, CameAs, lucky, unlucky, has_room, buffer_is, block_there}
 
 -- ---- bytes written into a buffer
 
@@ -68,23 +68,23 @@ written_map a s c new q le k =
 -- ---- what a fetch's range is
 
 -- a range that is in the block at its address
-record IsRange (n : ℕ) (o : Option (List ℕ)) : Type 0 where
+pub record IsRange (n : ℕ) (o : Option (List ℕ)) : Type 0 where
   pub bytes : List ℕ
   pub there : o ≡ Some bytes
   pub fits : n ≤ length bytes
 
-range_of : (n : ℕ) (o : Option (List ℕ)) → range_is_bad o n ≡ false → IsRange n o
+pub range_of : (n : ℕ) (o : Option (List ℕ)) → range_is_bad o n ≡ false → IsRange n o
 range_of n None q = absurd (let z : Bool.true ≡ false = q in (cc))
 range_of n (Some bytes) q = record { bytes = bytes; there = refl; fits = elim (leb_tells n (length bytes)) [ inl w ↦ w.1 | inr w ↦ absurd (let z : not false ≡ false = rw w.0 at q in let y : Bool.true ≡ false = z in (cc)) ] }
 
 -- the cut of that block
-record IsBuffer (a n : ℕ) (s : Slot) (old : List ℕ) : Type 0 where
+pub record IsBuffer (a n : ℕ) (s : Slot) (old : List ℕ) : Type 0 where
   pub cut : Split Segment
   pub is : heap_block_at a s ≡ Some cut
   pub bytes : bytes_of cut.here ≡ old
   pub found : buffer_at a n s ≡ Some cut
 
-buffer_found : (a n : ℕ) (s : Slot) (old : List ℕ) → buffers_of s a ≡ Some old → n ≤ length old → (o : Option (Split Segment)) → heap_block_at a s ≡ o → IsBuffer a n s old
+pub buffer_found : (a n : ℕ) (s : Slot) (old : List ℕ) → buffers_of s a ≡ Some old → n ≤ length old → (o : Option (Split Segment)) → heap_block_at a s ≡ o → IsBuffer a n s old
 buffer_found a n s old q le None e = absurd (none_some None refl (let z : option_map (λ (b : Split Segment). bytes_of b.here) None ≡ Some old = ap (option_map (λ (b : Split Segment). bytes_of b.here)) (sym e) ∙ buffer_is a s ∙ q in z))
 buffer_found a n s old q le (Some c) e =
     let z : Option.Some (bytes_of c.here) ≡ Some old = ap (option_map (λ (b : Split Segment). bytes_of b.here)) (sym e) ∙ buffer_is a s ∙ q in

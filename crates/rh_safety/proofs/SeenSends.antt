@@ -6,7 +6,7 @@ use Rattle.std.proofs.lemmas.Bool.Decides.{eqb_tells}
 use Rattle.rh_defs.specs.declared.refusal.Refusal.{Refusal}
 use Rattle.rh_defs.specs.declared.refusal.Refusal.TheVariants.{NoTask}
 use Rattle.rh_defs.specs.declared.message.Letter.{Letter}
-use Rattle.rh_defs.specs.Chain.{Granted, ◌>>=◌, ◌>>◌, refuse_if}
+use Rattle.rh_defs.specs.Chain.{Granted, ◌>>=◌, ◌>>◌, or_else, refuse_if}
 use Rattle.rh_defs.specs.Module.{module_claim}
 use Rattle.rh_defs.specs.Messages.{Parcel, parcel_size}
 use Rattle.rh_defs.specs.Post.{Seat, Post, has_seat, held_by, with_held, answers_held, message_of, parcel_of, put_down, queued_in, posted, sendable, post_send}
@@ -24,6 +24,18 @@ use Rattle.rh_safety.proofs.SeenBlocks.{from_bind, from_test, ok_is, not_refused
 pub map_append : {A B : Type 0} (f : A → B) (xs ys : List A) → map f (xs ++ ys) ≡ map f xs ++ map f ys
 map_append f [] ys = refl
 map_append f (x ∷ xs) ys = ap (λ z. f x ∷ z) (map_append f xs ys)
+
+-- granted, or refused
+pub by_grant : {A : Type 0} (P : A → Type 0) (g : Granted A) (instead : Refusal → A) → ((x : A) → g ≡ Ok x → P x) → ((r : Refusal) → g ≡ Err r → P (instead r)) → P (or_else g instead)
+unfolding or_else
+by_grant P (Ok x) instead f k = f x refl
+by_grant P (Err r) instead f k = k r refl
+
+-- a step that was granted, and the rest
+pub with_step : {A B P : Type 0} (g : Granted A) (next : A → Granted B) (y : B) → (g >>= next) ≡ Ok y → ((x : A) → g ≡ Ok x → next x ≡ Ok y → P) → P
+unfolding ◌>>=◌
+with_step (Ok x) next y q k = k x refl q
+with_step (Err r) next y q k = absurd (let z : Err r ≡ Ok y = q in (cc))
 
 -- ---- messages held
 

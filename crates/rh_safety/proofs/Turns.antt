@@ -74,7 +74,7 @@ is_lt a b h = elim (leb_tells (suc a) b) [ inl w ↦ w.0 | inr w ↦ absurd (let
 not_lt : (a b : ℕ) → b ≤ a → nat_lt a b ≡ false
 not_lt a b h = elim (leb_tells (suc a) b) [ inl w ↦ absurd (let z = w.1 in omega arith) | inr w ↦ w.0 ]
 
-first_one : (h : ℕ) (m : Message) → m.to ≡ h → first_for h (m ∷ []) ≡ Some m
+pub first_one : (h : ℕ) (m : Message) → m.to ≡ h → first_for h (m ∷ []) ≡ Some m
 first_one h m to = let t : nat_eq m.to h ≡ true = eq-eqb _ _ to in rw t refl
 
 without_one : (h : ℕ) (m : Message) → m.to ≡ h → without_first h (m ∷ []) ≡ []
@@ -248,6 +248,10 @@ waiting_lost false w = w
 pub answered_lost : {os : List Out} {ws : List In} {d : Desk} {doc address s r id anchor k n me : ℕ} {v : Out} {c : Code} {source : List ℕ} (b : Bool) → Answered os ws d doc address s r id anchor k n me v c source → Answered os ws (lost_if b d) doc address s r id anchor k n me v c source
 answered_lost true w = record { sides = w.sides; fetch = w.fetch; bytes = w.bytes; queue = w.queue; held = w.held; sends = w.sends; takes = w.takes; block = w.block; document = w.document; apart = w.apart; buffer = w.buffer; front = w.front; size = w.size; some = w.some; live_sender = w.live_sender; live_receiver = w.live_receiver; fetches = w.fetches }
 answered_lost false w = w
+
+pub lost_buf : (b : Bool) (d : Desk) (r : ℕ) → (lost_if b d).buf r ≡ d.buf r
+lost_buf true d r = refl
+lost_buf false d r = refl
 
 -- ---- the turns
 

@@ -1,9 +1,17 @@
 -- What a run of the desk offered, and what is held of it.
-use Rattle.std.specs.Prelude.{◌≡◌, ℕ, ◌<◌, ◌≤◌, Bool, true, false, ◌&&◌, ◌||◌, ◌==◌, if◌then◌else◌, List, [], ◌∷◌, ◌++◌, length, find, Option, Some, None, ◌⊎◌}
-use Rattle.std.specs.List.{list_any}
+use Rattle.std.specs.Prelude.{◌≡◌, ℕ, zero, suc, ◌+◌, ◌/◌, ◌<◌, ◌≤◌, Bool, true, false, not, ◌&&◌, ◌||◌, ◌==◌, if◌then◌else◌, List, [], ◌∷◌, ◌++◌, length, find, Option, Some, None, is_some, ◌⊎◌}
+use Rattle.std.specs.List.{list_any, list_all}
 use Rattle.std.specs.Option.{option_map}
 use Rattle.rh_defs.specs.Pieces.{Split}
-use Rattle.rh_defs.specs.Slot.{Slot, Flex, block_of}
+use Rattle.rh_defs.specs.Heap.{Segment, bytes_of}
+use Rattle.rh_defs.specs.Slot.{Slot, Flex, block_of, heap_block_at}
+use Rattle.rh_defs.specs.Messages.{Parcel}
+use Rattle.rh_defs.specs.Post.{Seat}
+use Rattle.rh_defs.specs.declared.refusal.Refusal.{Refusal}
+use Rattle.rh_defs.specs.declared.refusal.Refusal.TheVariants.{BadRange}
+use Rattle.rh_defs.specs.declared.message.EventCode.TheVariants.{Recorded}
+use Rattle.rh_defs.specs.declared.transfer.Sending.{Sending}
+use Rattle.rh_defs.specs.declared.transfer.Taking.{Taking}
 use Rattle.rh_defs.specs.declared.message.Body.{Body}
 use Rattle.rh_defs.specs.declared.message.Body.TheVariants as body
 use Rattle.rh_defs.specs.declared.message.Letter.{Letter}
@@ -20,10 +28,14 @@ use Rattle.rh_defs.specs.declared.transfer.Outgoing.TheVariants as outgoing
 use Rattle.rh_defs.specs.declared.transfer.Incoming.{Incoming}
 use Rattle.rh_defs.specs.declared.transfer.Incoming.TheVariants as incoming
 use Rattle.rh_defs.specs.Files.{FileList}
-use Rattle.rh_defs.specs.Records.{in_id}
+use Rattle.rh_defs.specs.Records.{in_id, is_open, is_going}
+use Rattle.rh_defs.specs.Sender.{would_answer}
+use Rattle.rh_defs.specs.Places.{free_anchor}
+use Rattle.rh_defs.specs.IncomingEvents.{is_deaf}
+use Rattle.rh_defs.specs.Transfer.{answers_none}
 use Rattle.rh_defs.specs.Desk.{Desk, Task, has_name, task_at}
 use Rattle.rh_defs.specs.Step.{step}
-use Rattle.rh_defs.specs.Runs.{start_with, after}
+use Rattle.rh_defs.specs.Runs.{start_with, after, replies}
 
 -- what each id offers
 abbrev pub Offers : Type 0
@@ -174,3 +186,95 @@ pub record IsSafe (o : Origin) (cs : List Command) (id h : ℕ) : Type 0 where
       Has (incoming.Done id k n) t.taking → offered o cs id ≡ Some got
   pub counted : (n : ℕ) (t : Task) → task_at h (desk_after o cs) ≡ Some t → Has (outgoing.Done id n) t.sending →
       (all : List ℕ) × (offered o cs id ≡ Some all) × (n ≡ length all)
+
+-- ---- a buffer that a fetch names
+
+-- the bytes of the block of the C heap at an address
+abbrev pub bytes_of_buffer : Slot → ℕ → Option (List ℕ)
+bytes_of_buffer s address = option_map (λ (b : Split Segment). bytes_of b.here) (heap_block_at address s)
+
+-- the task still holds the buffer at an address for a transfer, with so many bytes at least
+pub record HoldsBuffer (t : Task) (id address n : ℕ) : Type 0 where
+  pub taking : Taking
+  pub is_held : Has (incoming.Fetching taking) t.taking ⊎ Has (incoming.Draining taking) t.taking
+  pub same_id : taking.id ≡ id
+  pub names : taking.buffer ≡ address
+  pub bytes : List ℕ
+  pub there : bytes_of_buffer t.slot address ≡ Some bytes
+  pub room : n ≤ length bytes
+
+-- A queued fetch that its recipient's open record would answer, and whose sender is live, names a buffer that this sender holds.
+abbrev pub HasBuffers : Desk → Type 0
+HasBuffers d =
+    (m : Parcel) (t u : Task) (x : Sending) (address n : ℕ) → Has m d.post.queued → m.code ≡ Recorded → m.message.body ≡ body.RamFetch address n →
+    task_at m.to d ≡ Some t → answers_none t.manner ≡ false → Has (outgoing.Open x) t.sending → would_answer m.message.from m.message.your_ref n x ≡ true →
+    task_at m.message.from d ≡ Some u → HoldsBuffer u x.id address n
+
+abbrev pub is_range : Refusal → Bool
+is_range BadRange = true
+is_range _ = false
+
+-- whether a poll answers that a range was bad
+abbrev pub is_bad_range : Outcome → Bool
+is_bad_range (outcome.Refused r) = is_range r
+is_bad_range (outcome.TookFailed n r) = is_range r
+is_bad_range (outcome.LoadedFailed n r) = is_range r
+is_bad_range _ = false
+
+abbrev pub is_bad_reply : Reply → Bool
+is_bad_reply (reply.Event code a my_ref your_ref outcome) = is_bad_range outcome
+is_bad_reply _ = false
+
+-- ---- two tasks that are polled in turn
+
+-- the polls of receiver, sender, receiver and so on, 2 * n + 1 in all
+abbrev pub turns : List ℕ → List ℕ → ℕ → List Command
+turns r s zero = command.Poll r ∷ []
+turns r s (suc n) = command.Poll r ∷ command.Poll s ∷ turns r s n
+
+-- the same polls but for the last one
+abbrev pub turns_before : List ℕ → List ℕ → ℕ → List Command
+turns_before r s zero = []
+turns_before r s (suc n) = command.Poll r ∷ command.Poll s ∷ turns_before r s n
+
+-- whether a reply is that of a poll that was refused something
+abbrev pub is_refused_poll : Reply → Bool
+is_refused_poll (reply.Event code a my_ref your_ref outcome) = is_refusal a outcome
+is_refused_poll _ = false
+
+-- no poll of these commands is refused anything
+abbrev pub all_granted : Desk → List Command → Bool
+all_granted d commands = list_all (λ r. not (is_refused_poll r)) (replies d commands)
+
+-- The post is empty; the sender answers fetches, and none of its transfers is open; the receiver isn't deaf, no transfer comes in to it, and it has a free anchor.
+pub record CanAlternate (d : Desk) (s r : List ℕ) (k : ℕ) (t u : Task) (source : List ℕ) : Type 0 where
+  pub queue : d.post.queued ≡ []
+  pub held : (seat : Seat) → Has seat d.post.seats → seat.holds ≡ None
+  pub sender : find (has_name s) d.tasks ≡ Some t
+  pub receiver : find (has_name r) d.tasks ≡ Some u
+  pub closed : list_any is_open t.sending ≡ false
+  pub fetches : answers_none t.manner ≡ false
+  pub block : bytes_of_block t.slot k ≡ Some source
+  pub idle : list_any is_going u.taking ≡ false
+  pub hears : is_deaf u.manner ≡ false
+  pub anchor : is_some (free_anchor u.slot) ≡ true
+
+-- the sender's record is done, and counts the source
+pub record SenderDone (d : Desk) (s id : ℕ) (source : List ℕ) : Type 0 where
+  pub task : Task
+  pub is : task_at s d ≡ Some task
+  pub sends : Has (outgoing.Done id (length source)) task.sending
+
+-- the receiver's record is done, and its document is the source
+pub record ReceiverDone (d : Desk) (r id : ℕ) (source : List ℕ) : Type 0 where
+  pub task : Task
+  pub is : task_at r d ≡ Some task
+  pub anchor : ℕ
+  pub takes : Has (incoming.Done id anchor (length source)) task.taking
+  pub document : bytes_of_block task.slot anchor ≡ Some source
+
+-- A block that was saved, and two tasks polled in turn with nothing refused: both are done after twice the full buffers and three polls, the sender one poll before.
+pub record Alternates (d : Desk) (s r : List ℕ) (k : ℕ) (leaf : List ℕ) (t u : Task) (id : ℕ) (source : List ℕ) : Type 0 where
+  pub before : SenderDone (after d (command.Save s k r leaf ∷ turns_before r s (length source / u.buffer + 1))) t.handle id source
+  pub sends : SenderDone (after d (command.Save s k r leaf ∷ turns r s (length source / u.buffer + 1))) t.handle id source
+  pub takes : ReceiverDone (after d (command.Save s k r leaf ∷ turns r s (length source / u.buffer + 1))) u.handle id source

@@ -93,13 +93,6 @@ pub record IsSafe (o : Origin) (cs : List Command) (id h : ℕ) : Type 0 where
   pub whole : (got : List ℕ) (a n : ℕ) → held o cs id h ≡ Some got → Has (In_done id a n) ((after o cs).taking h) → offered o cs id ≡ Some got
   pub counted : (n : ℕ) → Has (Out_done id n) ((after o cs).sending h) → (all : List ℕ) × (offered o cs id ≡ Some all) × (n ≡ length all)
 
--- the lists of a task are in the order of ids, and no longer than the limit
-pub record InOrder (o : Origin) (d : Desk) (h : ℕ) : Type 0 where
-  pub outs : Pairwise (λ v w. out_id v < out_id w) (d.sending h)
-  pub ins : Pairwise (λ v w. in_id v < in_id w) (d.taking h)
-  pub few_outs : length (d.sending h) ≤ o.most
-  pub few_ins : length (d.taking h) ≤ o.most
-
 -- a queued fetch that would be answered names a buffer that its sender still holds for that transfer
 pub record HoldsBuffer (d : Desk) (m : Message) (x : Sending) : Type 0 where
   pub taking : Taking
@@ -110,32 +103,8 @@ pub record HoldsBuffer (d : Desk) (m : Message) (x : Sending) : Type 0 where
   pub there : d.heap m.letter.from m.letter.address ≡ Some bytes
   pub fits : m.letter.amount ≤ length bytes
 
--- A poll that answers failed BadRange: the recipient is live, and the range that its fetch names is in no block of it
+-- whether the block at a fetch's address has too few bytes, or isn't there
 
 abbrev pub range_is_bad : Option (List ℕ) → ℕ → Bool
 range_is_bad None n = true
 range_is_bad (Some old) n = not (nat_le n (length old))
-
-abbrev pub fetch_is_bad : Desk → Letter → Option Sending → Bool
-fetch_is_bad d l None = false
-fetch_is_bad d l (Some x) = d.live x.recipient && range_is_bad (d.heap x.recipient l.address) l.amount
-
-abbrev pub kind_is_bad : Desk → ℕ → Letter → Kind → Bool
-kind_is_bad d h l DataSave = false
-kind_is_bad d h l RamFetch = not (d.file h) && fetch_is_bad d l (find_open (would_answer l) (d.sending h))
-kind_is_bad d h l RamTransmit = false
-kind_is_bad d h l DataSaveAck = false
-kind_is_bad d h l DataLoad = false
-kind_is_bad d h l DataLoadAck = false
-
-abbrev pub code_is_bad : Desk → ℕ → Letter → Code → Bool
-code_is_bad d h l Plain = kind_is_bad d h l l.kind
-code_is_bad d h l Recorded = kind_is_bad d h l l.kind
-code_is_bad d h l Returned = false
-
-abbrev pub message_is_bad : Desk → ℕ → Option Message → Bool
-message_is_bad d h None = false
-message_is_bad d h (Some m) = code_is_bad d h m.letter m.code
-
-abbrev pub poll_is_bad : Desk → ℕ → Bool
-poll_is_bad d h = let d1 = returned d h (d.held h) in message_is_bad d1 h (first_for h d1.queue)
