@@ -25,7 +25,7 @@ use Rattle.rh_defs.specs.Heap.{Heap, Segment, need, fitted}
 use Rattle.rh_defs.specs.Module.{module_claim}
 use Rattle.rh_defs.specs.Messages.{Parcel}
 use Rattle.rh_defs.specs.Post.{Post, has_seat, most_messages, live_count, sendable, post_send, post_poll}
-use Rattle.rh_defs.specs.Slot.{Slot, Flex, weight, flex_start, heap_block_at, slot_block, slot_extend, slot_put, lacks_room, length_with, holds, slot_claim, slot_alloc}
+use Rattle.rh_defs.specs.Slot.{Slot, Flex, weight, flex_start, flex_address, heap_block_at, slot_block, slot_extend, slot_put, lacks_room, length_with, holds, slot_claim, slot_alloc}
 use Rattle.rh_defs.specs.Letters.{fetch_letter, ack_letter, load_ack_letter, transmit_letter, load_letter}
 use Rattle.rh_defs.specs.Sender as sender
 use Rattle.rh_defs.specs.Receiver as receiver
@@ -234,8 +234,10 @@ module _ (d : Desk) (t : Task) (m : Parcel) where
           let to : task_of x.recipient d.tasks ≡ Some r = is_found (task_at x.recipient d) NoTask r e2 in
           let range = range_of amount ((view d).heap x.recipient buffer) (reach x refl (field_is (λ k. true) false x.recipient d.tasks r to)) in
           let w = buffer_found buffer amount r.slot range.bytes (ap (λ (g : ℕ → Option (List ℕ)). g buffer) (sym (field_is (λ y. buffers_of y.slot) (λ a. None) x.recipient d.tasks r to)) ∙ range.there) range.fits (heap_block_at buffer r.slot) refl in
-          then_ok (refuse_if (is_out_of_reach t r buffer amount _ (portion x amount b)) BadRange) _
-            (unless_ok _ BadRange (ap (λ (o : Option (Split Segment)). not (is_some o) && (not (holds buffer amount r.slot) || (t.handle == r.handle && overlap buffer amount _ (portion x amount b)))) w.found))
+          let place : ℕ = flex_address t.slot b.before + x.count in
+          then_ok (refuse_if (is_out_of_reach t r buffer amount place (portion x amount b)) BadRange) _
+            (unless_ok (is_out_of_reach t r buffer amount place (portion x amount b)) BadRange
+              (ap (λ (o : Option (Split Segment)). not (is_some o) && (not (holds buffer amount r.slot) || (t.handle == r.handle && overlap buffer amount place (portion x amount b)))) w.found))
             (λ u e3. bind_ok (send_letter (transmit_letter t.handle m (nat_lt (portion x amount b) amount) buffer (portion x amount b)) d) _ (send_ok _ d) (λ sent e4. done_ok _)))) s q))
 
   fail_fine : (v : Option Sending) → Fine (fail_sending d t v)
