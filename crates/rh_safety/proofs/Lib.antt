@@ -7,7 +7,6 @@ pub mod Polls
 pub mod Runs
 pub mod Ranges
 pub mod Turns
-
 pub mod FlexMaps
 pub mod HeapMaps
 pub mod SeenTasks

@@ -1,14 +1,12 @@
 -- The range that a fetch names, where the fetch would be answered.
-use Rattle.std.proofs.Common.{◌≡◌, ℕ, ◌≤◌, Bool, true, false, not, ◌&&◌, List, length, Option, Some, None, refl, ap, ◌∙◌, subst, inl, inr, arith}
+use Rattle.std.proofs.Common.{◌≡◌, ℕ, ◌≤◌, Bool, true, false, not, ◌&&◌, List, length, Option, Some, refl, ap, ◌∙◌, subst, inl, inr, arith}
 use Rattle.std.proofs.lemmas.Bool.Decides.{leb_tells}
-use Rattle.rh_safety.specs.Ends.{DataSaveAck, DataLoad, DataLoadAck, Code, Plain, Recorded, Returned, Kind, DataSave, RamFetch, RamTransmit, Message, Sending, Has, find_open, first_for}
-use Rattle.rh_safety.specs.Protocol.{Desk, Command, returned, would_answer}
-use Rattle.rh_safety.specs.Schedules.{Origin, after, range_is_bad}
-use Rattle.rh_safety.proofs.Basics.{first_has, open_is}
+use Rattle.rh_safety.specs.Ends.{RamFetch, Message, Sending, Has, find_open}
+use Rattle.rh_safety.specs.Protocol.{Desk, would_answer}
+use Rattle.rh_safety.specs.Schedules.{range_is_bad}
+use Rattle.rh_safety.proofs.Basics.{open_is}
 use Rattle.rh_safety.proofs.Invariant.{Offered, queued, Good}
 use Rattle.rh_safety.proofs.Polls.{would_tells}
-use Rattle.rh_safety.proofs.Posts.{returned_good}
-use Rattle.rh_safety.proofs.Runs.{after_good}
 
 range_good : (o : Option (List ℕ)) (bytes : List ℕ) (n : ℕ) → o ≡ Some bytes → n ≤ length bytes → range_is_bad o n ≡ false
 range_good o bytes n q le = ap (λ (v : Option (List ℕ)). range_is_bad v n) q ∙ elim (leb_tells n (length bytes)) [ inl w ↦ ap not w.0 | inr w ↦ absurd (let z = w.1 in omega arith) ]

@@ -1,5 +1,5 @@
 -- Worked runs: what is offered and what is held after each command.
-use Rattle.std.specs.Prelude.{◌≡◌, refl, ℕ, List, [], ◌∷◌, ◌++◌, length, map, codes, true, Option, Some, None}
+use Rattle.std.specs.Prelude.{◌≡◌, refl, ℕ, List, [], ◌∷◌, length, map, codes, true, Option, Some, None}
 use Rattle.hex.proofs.OnLiterals.{hex_on_literals}
 use Prim.Native.String.{String}
 use Rattle.rh_defs.specs.declared.command.Command.{Command}
@@ -39,7 +39,7 @@ pub two_buffers : shown (
     ∷ "poll b"
     ∷ "free a 0"
     ∷ "put b 0 5 07" ∷ []
-  ) ≡
+    ) ≡
     (None, None)
     ∷ (None, None)
     ∷ (None, None)

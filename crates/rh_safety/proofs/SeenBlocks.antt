@@ -1,33 +1,24 @@
 -- Commands on flex blocks.
 use Rattle.std.proofs.lemmas.List.{drop_all, length-replicate, append-nil}
-use Rattle.std.proofs.Common.{drop, ◌≡◌, ◌≢◌, ℕ, ◌+◌, ◌-◌, Bool, true, false, not, ◌&&◌, ◌||◌, List, [], ◌∷◌, ◌++◌, length, Option, Some, None, refl, sym, ap, ◌∙◌, subst, inl, inr, arith}
-use Rattle.std.specs.Prelude.{ℤ, if◌then◌else◌, nat_eq, nat_lt, ◌==◌, find, map, Result, Ok, Err, is_some, is_none}
+use Rattle.std.proofs.Common.{drop, ◌≡◌, ℕ, ◌+◌, Bool, true, false, ◌&&◌, ◌||◌, List, [], ◌∷◌, ◌++◌, length, Option, Some, None, refl, sym, ap, ◌∙◌, subst, inl, inr, arith}
+use Rattle.std.specs.Prelude.{ℤ, if◌then◌else◌, nat_lt, find, Ok, Err, is_some, is_none}
 use Rattle.std.specs.List.{list_any}
 use Rattle.std.proofs.lemmas.Bool.Decides.{eqb_tells}
-use Rattle.std.specs.Str.{bytes_eq}
 use Rattle.rh_defs.specs.declared.refusal.Refusal.{Refusal}
-use Rattle.rh_defs.specs.declared.refusal.Refusal.TheVariants.{NoName, NoBlock, AnchorInUse, Busy, NoFile, BadRange, NoRoom}
-use Rattle.rh_defs.specs.Chain.{Granted, ◌>>=◌, ◌>>◌, refuse_if, found_or, or_else}
+use Rattle.rh_defs.specs.declared.refusal.Refusal.TheVariants.{NoName, NoBlock, AnchorInUse, Busy, BadRange, NoRoom}
+use Rattle.rh_defs.specs.Chain.{Granted, ◌>>=◌, ◌>>◌, refuse_if}
 use Rattle.rh_defs.specs.Pieces.{zeros, moved, Split, written}
 use Rattle.rh_defs.specs.Heap.{fitted}
 use Rattle.rh_defs.specs.Slot.{Slot, Flex, weight, flex_weight, flex_start, is_used, with_bytes, with_block, without, opened_at, taken_out, lacks_room, length_with, slot_length, flex_address, slot_block, slot_alloc, slot_free, slot_extend, slot_mid, slot_put}
 use Rattle.rh_defs.specs.Slot as slot
-use Rattle.rh_defs.specs.declared.command.Command.{Command}
 use Rattle.rh_defs.specs.declared.command.Command.TheVariants as command
-use Rattle.rh_defs.specs.declared.reply.Reply.{Reply}
-use Rattle.rh_defs.specs.declared.reply.Reply.TheVariants as reply
-use Rattle.rh_defs.specs.declared.transfer.Outgoing.{Outgoing}
-use Rattle.rh_defs.specs.declared.transfer.Outgoing.TheVariants as outgoing
-use Rattle.rh_defs.specs.declared.transfer.Incoming.{Incoming}
-use Rattle.rh_defs.specs.declared.transfer.Incoming.TheVariants as incoming
-use Rattle.rh_defs.specs.Records.{is_source, is_document, is_buffer_of, in_id}
-use Rattle.rh_defs.specs.Desk.{Desk, Task, with_task, with_slot, named, has_name, idle_block, is_busy_block, free_pages}
-use Rattle.rh_defs.specs.Commands.{Answer, alloc, load, put, free, extend, mid}
+use Rattle.rh_defs.specs.Desk.{Desk, Task, with_slot, named, has_name, idle_block, is_busy_block, free_pages}
+use Rattle.rh_defs.specs.Commands.{alloc, load, put, free, extend, mid}
 use Rattle.rh_defs.specs.Step.{step}
-use Rattle.rh_safety.specs.View.{view, blocks_of, buffers_of, flex_map, of, task_of, field}
+use Rattle.rh_safety.specs.View.{view, blocks_of, buffers_of, flex_map, task_of}
 use Rattle.rh_safety.specs.History.{Offers, Edits, is_document_of, edited_task}
 use Rattle.rh_safety.proofs.SeenTasks.{Same, block_view, live_of, slot_is}
-use Rattle.rh_safety.proofs.SeenFrames.{Fits, Follows, Silent, bind, test, done, is_found, instead_of, refused, the_task}
+use Rattle.rh_safety.proofs.SeenFrames.{Fits, Follows, Silent, bind, done, is_found, instead_of, refused, the_task}
 use Rattle.rh_safety.proofs.FlexMaps as flex
 use Rattle.rh_safety.proofs.Basics.{put_same}
 use Rattle.rh_safety.specs.Ends as post
@@ -157,8 +148,8 @@ put_follows d name k offset bytes f =
     let no : (r : Refusal) → Follows d c (instead_of d r) = λ r. record { moves = []; seen = refl; offers = λ o. refl; edits = λ e. refl } in
     bind (Follows d c) (named name d) _ (instead_of d) no (λ t q. bind (Follows d c) (idle_block k t) _ (instead_of d) no (λ b w.
     bind (Follows d c) _ _ (instead_of d) no (λ s z. done (Follows d c) _ (instead_of d) (
-      let y = edited d name k t b s f q w (put_is k offset bytes t.slot s z) in
-      record { moves = y.moves; seen = y.seen; offers = y.offers; edits = y.edits }))))
+    let y = edited d name k t b s f q w (put_is k offset bytes t.slot s z) in
+    record { moves = y.moves; seen = y.seen; offers = y.offers; edits = y.edits }))))
 
 pub extend_follows : (d : Desk) (name : List ℕ) (k n : ℕ) → Fits d → Follows d (command.Extend name k n) (step d (command.Extend name k n))
 unfolding extend
@@ -167,8 +158,8 @@ extend_follows d name k n f =
     let no : (r : Refusal) → Follows d c (instead_of d r) = λ r. record { moves = []; seen = refl; offers = λ o. refl; edits = λ e. refl } in
     bind (Follows d c) (named name d) _ (instead_of d) no (λ t q. bind (Follows d c) (idle_block k t) _ (instead_of d) no (λ b w.
     bind (Follows d c) _ _ (instead_of d) no (λ s z. done (Follows d c) _ (instead_of d) (
-      let y = edited d name k t b s f q w (extend_is (free_pages d) k n t.slot s z) in
-      record { moves = y.moves; seen = y.seen; offers = y.offers; edits = y.edits }))))
+    let y = edited d name k t b s f q w (extend_is (free_pages d) k n t.slot s z) in
+    record { moves = y.moves; seen = y.seen; offers = y.offers; edits = y.edits }))))
 
 pub mid_follows : (d : Desk) (name : List ℕ) (k offset : ℕ) (by : ℤ) → Fits d → Follows d (command.Mid name k offset by) (step d (command.Mid name k offset by))
 unfolding mid
@@ -177,8 +168,8 @@ mid_follows d name k offset by f =
     let no : (r : Refusal) → Follows d c (instead_of d r) = λ r. record { moves = []; seen = refl; offers = λ o. refl; edits = λ e. refl } in
     bind (Follows d c) (named name d) _ (instead_of d) no (λ t q. bind (Follows d c) (idle_block k t) _ (instead_of d) no (λ b w.
     bind (Follows d c) _ _ (instead_of d) no (λ s z. done (Follows d c) _ (instead_of d) (
-      let y = edited d name k t b s f q w (mid_is (free_pages d) k offset by t.slot s z) in
-      record { moves = y.moves; seen = y.seen; offers = y.offers; edits = y.edits }))))
+    let y = edited d name k t b s f q w (mid_is (free_pages d) k offset by t.slot s z) in
+    record { moves = y.moves; seen = y.seen; offers = y.offers; edits = y.edits }))))
 
 -- a block away
 pub record IsWithout (k : ℕ) (old new : Slot) : Type 0 where
@@ -207,15 +198,15 @@ free_follows d name k f =
     let no : (r : Refusal) → Follows d c (instead_of d r) = λ r. record { moves = []; seen = refl; offers = λ o. refl; edits = λ e. refl } in
     bind (Follows d c) (named name d) _ (instead_of d) no (λ t q. bind (Follows d c) (idle_block k t) _ (instead_of d) no (λ b w.
     bind (Follows d c) _ _ (instead_of d) no (λ s z. done (Follows d c) _ (instead_of d) (
-      let is = the_task d name t f q in
-      let y = free_is k t.slot s z in
-      let idle = (the_idle k t b w).idle in
-      record {
-        moves = protocol.Free t.handle k ∷ [];
-        seen = freed d k t s f is y idle;
-        offers = λ o. refl;
-        edits = λ e. edits_to d name k t [] (found_name d name t q) is (can_of d k t y.cut is (record { block = y.block; idle = idle })) e;
-      }))))
+    let is = the_task d name t f q in
+    let y = free_is k t.slot s z in
+    let idle = (the_idle k t b w).idle in
+    record {
+      moves = protocol.Free t.handle k ∷ [];
+      seen = freed d k t s f is y idle;
+      offers = λ o. refl;
+      edits = λ e. edits_to d name k t [] (found_name d name t q) is (can_of d k t y.cut is (record { block = y.block; idle = idle })) e;
+    }))))
 
 -- ---- new blocks
 

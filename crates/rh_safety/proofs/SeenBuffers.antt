@@ -1,8 +1,6 @@
 -- Queued fetches name buffers that are held.
-use Rattle.std.proofs.Common.{◌≡◌, ℕ, ◌≤◌, Bool, true, false, List, [], ◌∷◌, length, Option, Some, None, refl, sym, ap, ◌∙◌, subst, inl, inr}
+use Rattle.std.proofs.Common.{◌≡◌, ℕ, ◌≤◌, Bool, true, false, List, [], ◌∷◌, length, Option, None, sym, ap, ◌∙◌, subst, inl, inr}
 use Rattle.std.specs.Prelude.{map}
-use Rattle.rh_defs.specs.declared.message.Body.{Body}
-use Rattle.rh_defs.specs.declared.message.Body.TheVariants as body
 use Rattle.rh_defs.specs.declared.transfer.Incoming.{Incoming}
 use Rattle.rh_defs.specs.declared.transfer.Incoming.TheVariants as incoming
 use Rattle.rh_defs.specs.declared.transfer.Outgoing.{Outgoing}
@@ -14,7 +12,6 @@ use Rattle.rh_defs.specs.Desk.{Desk}
 use Rattle.rh_safety.specs.View.{view, seen_parcel, address_in, amount_in, buffers_of}
 use Rattle.rh_safety.specs.History.{HasBuffers}
 use Rattle.rh_safety.specs.Ends.{Has}
-use Rattle.rh_safety.specs.Protocol.{would_answer}
 use Rattle.rh_safety.proofs.Invariant.{Offered, Good}
 use Rattle.rh_safety.proofs.Runs.{holds_buffer}
 use Rattle.rh_safety.proofs.SeenTasks.{field_is}
@@ -30,10 +27,10 @@ has_buffers d g m t u x address n queued code is_fetch is_t file opens would is_
     let at_ : l.address ≡ address = ap address_in is_fetch in
     let size : l.amount ≡ n = ap amount_in is_fetch in
     let h = holds_buffer g (seen_parcel m) x (has_map seen_parcel m d.post.queued queued) code (ap action_of is_fetch)
-        (subst (λ (xs : List Outgoing). Has (outgoing.Open x) xs) (sym (field_is (λ y. y.sending) [] m.to d.tasks t is_t)) opens)
-        (subst (λ k. sender.would_answer m.message.from m.message.your_ref k x ≡ true) (sym size) would)
-        (field_is (λ y. true) false m.message.from d.tasks u is_u)
-        (field_is (λ y. answers_none y.manner) false m.to d.tasks t is_t ∙ file) in
+    (subst (λ (xs : List Outgoing). Has (outgoing.Open x) xs) (sym (field_is (λ y. y.sending) [] m.to d.tasks t is_t)) opens)
+    (subst (λ k. sender.would_answer m.message.from m.message.your_ref k x ≡ true) (sym size) would)
+    (field_is (λ y. true) false m.message.from d.tasks u is_u)
+    (field_is (λ y. answers_none y.manner) false m.to d.tasks t is_t ∙ file) in
     let takes : (view d).taking m.message.from ≡ u.taking = field_is (λ y. y.taking) [] m.message.from d.tasks u is_u in
     record {
       taking = h.taking;

@@ -1,9 +1,8 @@
 -- The commands that cancel.
-use Rattle.std.proofs.Common.{◌≡◌, ℕ, ◌+◌, Bool, true, false, List, [], ◌∷◌, Option, Some, None, refl, sym, ap, ◌∙◌, subst}
-use Rattle.std.specs.Prelude.{if◌then◌else◌, ◌==◌, find, Ok}
+use Rattle.std.proofs.Common.{◌≡◌, ℕ, Bool, true, List, [], ◌∷◌, Option, Some, refl, sym, ap, ◌∙◌}
+use Rattle.std.specs.Prelude.{find, Ok}
 use Rattle.rh_defs.specs.declared.refusal.Refusal.TheVariants.{NotOpen}
 use Rattle.rh_defs.specs.declared.command.Command.TheVariants as command
-use Rattle.rh_defs.specs.declared.transfer.Sending.{Sending}
 use Rattle.rh_defs.specs.declared.transfer.Outgoing.{Outgoing}
 use Rattle.rh_defs.specs.declared.transfer.Incoming.{Incoming}
 use Rattle.rh_defs.specs.declared.transfer.Incoming.TheVariants as incoming
@@ -12,12 +11,12 @@ use Rattle.rh_defs.specs.Records.{in_id, with_id, open_of, is_meant}
 use Rattle.rh_defs.specs.Sender as sender
 use Rattle.rh_defs.specs.Receiver as receiver
 use Rattle.rh_defs.specs.Receiver.{is_wanted, cancelled}
-use Rattle.rh_defs.specs.Desk.{Desk, Task, named}
+use Rattle.rh_defs.specs.Desk.{Desk, named}
 use Rattle.rh_defs.specs.Step.{cancel_in, cancel_out, step}
-use Rattle.rh_safety.specs.View.{view, task_of}
+use Rattle.rh_safety.specs.View.{view}
 use Rattle.rh_safety.specs.Ends as post
 use Rattle.rh_safety.specs.Protocol as protocol
-use Rattle.rh_safety.proofs.Basics.{none_some, first_is}
+use Rattle.rh_safety.proofs.Basics.{first_is}
 use Rattle.rh_safety.proofs.SeenTasks.{field_is, live_of, outs_view, ins_view}
 use Rattle.rh_safety.proofs.SeenFrames.{Fits, Follows, Silent, bind, done, is_found, instead_of, refused, the_task}
 use Rattle.rh_safety.proofs.SeenBlocks.{from_bind, ok_is}
@@ -47,17 +46,17 @@ cancel_out_follows d name id f =
     let s : Silent c = record { offers = λ o e r. refl; edits = λ o e r. refl } in
     bind (Follows d c) (named name d) _ (instead_of d) (refused d c s) (λ t q. bind (Follows d c) _ _ (instead_of d) (refused d c s) (λ records w.
     done (Follows d c) _ (instead_of d) (
-      let is = the_task d name t f q in
-      let z = out_cancelled id t.sending records w in
-      let outs : (view d).sending t.handle ≡ t.sending = field_is (λ y. y.sending) [] t.handle d.tasks t is in
-      record {
-        moves = protocol.Cancel_out t.handle id ∷ [];
-        seen = outs_view d t.handle (λ _. records) (live_of d t.handle t is) ∙
-            ap (λ (y : List Outgoing). record (view d) { sending = post.put (view d).sending t.handle y }) (sym z.same ∙ ap (sender.failed z.here) (sym outs)) ∙
-            sym (ap (protocol.cancels_out (view d) t.handle) (ap (open_of (λ x. is_meant id x.id)) outs ∙ z.is));
-        offers = λ o. refl;
-        edits = λ e. refl;
-      })))
+    let is = the_task d name t f q in
+    let z = out_cancelled id t.sending records w in
+    let outs : (view d).sending t.handle ≡ t.sending = field_is (λ y. y.sending) [] t.handle d.tasks t is in
+    record {
+      moves = protocol.Cancel_out t.handle id ∷ [];
+      seen = outs_view d t.handle (λ _. records) (live_of d t.handle t is) ∙
+          ap (λ (y : List Outgoing). record (view d) { sending = post.put (view d).sending t.handle y }) (sym z.same ∙ ap (sender.failed z.here) (sym outs)) ∙
+          sym (ap (protocol.cancels_out (view d) t.handle) (ap (open_of (λ x. is_meant id x.id)) outs ∙ z.is));
+      offers = λ o. refl;
+      edits = λ e. refl;
+    })))
 
 cancelled_is : (d : protocol.Desk) (h : ℕ) (id : Option ℕ) (w : Incoming) → is_wanted id w ≡ true →
     record d { taking = post.put d.taking h (with_id in_id (in_id w) (cancelled w) (d.taking h)) } ≡ protocol.cancels_in d h (Some w)
@@ -74,15 +73,15 @@ cancel_in_follows d name id f =
     let s : Silent c = record { offers = λ o e r. refl; edits = λ o e r. refl } in
     bind (Follows d c) (named name d) _ (instead_of d) (refused d c s) (λ t q. bind (Follows d c) _ _ (instead_of d) (refused d c s) (λ records w.
     done (Follows d c) _ (instead_of d) (
-      let is = the_task d name t f q in
-      let z = in_cancelled id t.taking records w in
-      let ins : (view d).taking t.handle ≡ t.taking = field_is (λ y. y.taking) [] t.handle d.tasks t is in
-      record {
-        moves = protocol.Cancel_in t.handle id ∷ [];
-        seen = ins_view d t.handle (λ _. records) (live_of d t.handle t is) ∙
-            ap (λ (y : List Incoming). record (view d) { taking = post.put (view d).taking t.handle y }) (sym z.same ∙ ap (with_id in_id (in_id z.here) (cancelled z.here)) (sym ins)) ∙
-            cancelled_is (view d) t.handle id z.here (first_is (is_wanted id) t.taking z.here z.is).1 ∙
-            sym (ap (protocol.cancels_in (view d) t.handle) (ap (find (is_wanted id)) ins ∙ z.is));
-        offers = λ o. refl;
-        edits = λ e. refl;
-      })))
+    let is = the_task d name t f q in
+    let z = in_cancelled id t.taking records w in
+    let ins : (view d).taking t.handle ≡ t.taking = field_is (λ y. y.taking) [] t.handle d.tasks t is in
+    record {
+      moves = protocol.Cancel_in t.handle id ∷ [];
+      seen = ins_view d t.handle (λ _. records) (live_of d t.handle t is) ∙
+          ap (λ (y : List Incoming). record (view d) { taking = post.put (view d).taking t.handle y }) (sym z.same ∙ ap (with_id in_id (in_id z.here) (cancelled z.here)) (sym ins)) ∙
+          cancelled_is (view d) t.handle id z.here (first_is (is_wanted id) t.taking z.here z.is).1 ∙
+          sym (ap (protocol.cancels_in (view d) t.handle) (ap (find (is_wanted id)) ins ∙ z.is));
+      offers = λ o. refl;
+      edits = λ e. refl;
+    })))

@@ -1,25 +1,23 @@
 -- Commands that nothing of what is seen goes by.
-use Rattle.std.proofs.Common.{◌≡◌, ◌≢◌, ℕ, ◌+◌, ◌-◌, Bool, true, false, List, [], ◌∷◌, ◌++◌, length, Option, Some, None, refl, sym, ap, ◌∙◌, inl, inr, arith}
-use Rattle.std.specs.Prelude.{ℤ, if◌then◌else◌, nat_eq, nat_lt, ◌==◌, find, map, Result, Ok, Err}
+use Rattle.std.proofs.Common.{◌≡◌, ℕ, Bool, true, false, List, [], length, Option, Some, None, refl, sym}
+use Rattle.std.specs.Prelude.{ℤ, if◌then◌else◌, nat_lt, ◌==◌, find, Ok, Err}
 use Rattle.rh_defs.specs.declared.refusal.Refusal.{Refusal}
-use Rattle.rh_defs.specs.declared.refusal.Refusal.TheVariants.{NoName, NotABlock, NoArea, TooManyAreas, NoNumbers, TooBig, NotYours}
-use Rattle.rh_defs.specs.Chain.{Granted, ◌>>=◌, ◌>>◌, refuse_if, found_or, or_else}
-use Rattle.rh_defs.specs.Slot.{Slot, IsSlot, slot_block, slot_set_budge}
+use Rattle.rh_defs.specs.declared.refusal.Refusal.TheVariants.{NoName}
+use Rattle.rh_defs.specs.Chain.{Granted, ◌>>=◌, ◌>>◌, found_or, or_else}
+use Rattle.rh_defs.specs.Slot.{IsSlot, slot_block, slot_set_budge}
 use Rattle.rh_defs.specs.Post.{has_seat}
 use Rattle.rh_defs.specs.declared.command.Command.{Command}
 use Rattle.rh_defs.specs.declared.command.Command.TheVariants as command
 use Rattle.rh_defs.specs.declared.reply.Reply.{Reply}
 use Rattle.rh_defs.specs.declared.reply.Reply.TheVariants as reply
-use Rattle.rh_defs.specs.Desk.{Desk, Task, edit_task, with_task, with_slot, named, has_name}
-use Rattle.rh_defs.specs.Commands.{Answer, budge, change_area, change_module, change_pages, change_made, make, remove, rma_claim, rma_free, rma_resize, own_block, show, blocks, heap_sums, status, module_area}
-use Rattle.rh_defs.specs.Step.{change, step}
-use Rattle.rh_safety.specs.View.{view, blocks_of, buffers_of, of, task_of, field}
+use Rattle.rh_defs.specs.Desk.{Desk, Task, named, has_name}
+use Rattle.rh_defs.specs.Commands.{Answer, budge, change_module, change_pages, change_made, make, remove, rma_claim, rma_free, rma_resize, show, blocks, heap_sums, status, module_area}
+use Rattle.rh_defs.specs.Step.{step}
+use Rattle.rh_safety.specs.View.{view, task_of, field}
 use Rattle.rh_safety.specs.History.{Offers, Edits, offers_next, edits_next}
-use Rattle.rh_safety.proofs.SeenTasks.{Same, Distinct, found_task, still_view, live_of, slot_is}
-use Rattle.rh_safety.specs.Ends.{put}
+use Rattle.rh_safety.proofs.SeenTasks.{Distinct, found_task, still_view, live_of, slot_is}
 use Rattle.rh_safety.specs.Protocol as ram
 use Rattle.rh_safety.specs.Schedules.{offers_from, edited_from}
-use Rattle.rh_safety.proofs.Basics.{none_some}
 
 -- what of the desk alone is asked
 pub record Fits (d : Desk) : Type 0 where
@@ -177,4 +175,4 @@ budge_follows d name on f =
     bind (Follows d c) (named name d) _ (instead_of d) (refused d c s) (λ t q.
     let is = the_task d name t f q in
     done (Follows d c) _ (instead_of d) (stays d _ c _ s
-      (still_view d t.handle (λ y. (slot_set_budge on t.slot).0) t.slot (live_of d t.handle t is) (slot_is d t.handle t is) (λ a. refl) (λ a. refl))))
+    (still_view d t.handle (λ y. (slot_set_budge on t.slot).0) t.slot (live_of d t.handle t is) (slot_is d t.handle t is) (λ a. refl) (λ a. refl))))

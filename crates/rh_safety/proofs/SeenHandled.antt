@@ -1,25 +1,21 @@
 -- What a message does, as a step of the reduced desk: what each handler of a poll is shown to be.
-use Rattle.std.proofs.Common.{length-append, drop, ◌≡◌, ℕ, ◌+◌, ◌-◌, ◌≤◌, ◌<◌, Bool, true, false, not, ◌&&◌, List, [], ◌∷◌, ◌++◌, length, take, Option, Some, None, refl, sym, ap, ◌∙◌, subst, inl, inr, arith}
-use Rattle.std.specs.Prelude.{if◌then◌else◌, nat_eq, nat_lt, nat_le, ◌==◌, Ok, Err, is_some}
+use Rattle.std.proofs.Common.{length-append, drop, ◌≡◌, ℕ, ◌+◌, ◌-◌, Bool, true, false, List, [], ◌∷◌, ◌++◌, length, take, Option, Some, None, refl, sym, ap, ◌∙◌, subst, inl, inr, arith}
+use Rattle.std.specs.Prelude.{Ok, Err}
 use Rattle.std.specs.Option.{option_map}
 use Rattle.std.proofs.lemmas.Bool.Decides.{eqb_tells}
 use Rattle.std.proofs.lemmas.List.{take_all, drop_all, length-replicate, append-nil}
 use Rattle.std.proofs.Math.Seq.{take-append_seam}
-use Rattle.rh_defs.specs.declared.refusal.Refusal.{Refusal}
-use Rattle.rh_defs.specs.declared.refusal.Refusal.TheVariants.{NotABlock, NoRoom, BadRange}
 use Rattle.rh_defs.specs.declared.message.Action.{Action}
 use Rattle.rh_defs.specs.declared.message.Body.{Body}
-use Rattle.rh_defs.specs.declared.reply.Outcome.{Outcome}
 use Rattle.rh_defs.specs.declared.transfer.Taking.{Taking}
 use Rattle.rh_defs.specs.declared.transfer.Incoming.{Incoming}
-use Rattle.rh_defs.specs.Chain.{Granted, ◌>>=◌, found_or, or_else, result_or}
+use Rattle.rh_defs.specs.Chain.{Granted, ◌>>=◌, found_or, result_or}
 use Rattle.rh_defs.specs.Pieces.{Split, zeros, written, behind, first_at}
 use Rattle.rh_defs.specs.Heap.{Segment, Used, Hole, bytes_of, size_of, first_place, is_block_at, released, fitted}
 use Rattle.rh_defs.specs.Blocks.{bytes_at}
 use Rattle.rh_defs.specs.Slot.{Slot, Flex, weight, flex_start, heap_start, heap_block_at, with_heap, slot_block, slot_release, slot_extend, slot_put}
 use Rattle.rh_defs.specs.Messages.{Parcel, action_of}
-use Rattle.rh_defs.specs.Places.{first_bytes}
-use Rattle.rh_defs.specs.Desk.{Desk, Task, free_pages, with_task, with_slot, with_taking}
+use Rattle.rh_defs.specs.Desk.{Desk, Task, free_pages, with_task, with_slot}
 use Rattle.rh_defs.specs.OutgoingEvents.{Handled}
 use Rattle.rh_defs.specs.IncomingEvents.{without_buffer, ended, appended}
 use Rattle.rh_safety.specs.View.{view, address_in, amount_in, blocks_of, buffers_of, task_of}
@@ -28,10 +24,9 @@ use Rattle.rh_safety.specs.Ends.{Letter, put}
 use Rattle.rh_safety.specs.Protocol as protocol
 use Rattle.rh_safety.specs.Protocol.{Luck}
 use Rattle.rh_safety.proofs.FlexMaps as flex
-use Rattle.rh_safety.proofs.Basics.{none_some, put_same}
-use Rattle.rh_safety.proofs.SeenTasks.{Same, unput, live_of, slot_is, slot_at, blocks_seen, block_view, buffer_view, ins_view}
-use Rattle.rh_safety.proofs.SeenFrames.{is_found}
-use Rattle.rh_safety.proofs.SeenBlocks.{From, from_bind, ok_is, the_block, IsChanged, extend_is, put_is, changed_from, changed_map, changed_still, put_over}
+use Rattle.rh_safety.proofs.Basics.{put_same}
+use Rattle.rh_safety.proofs.SeenTasks.{Same, unput, live_of, slot_is, slot_at, block_view, buffer_view, ins_view}
+use Rattle.rh_safety.proofs.SeenBlocks.{ok_is, the_block, extend_is, put_is, changed_from, changed_map, changed_still, put_over}
 use Rattle.rh_safety.proofs.SeenSends.{with_step}
 use Rattle.rh_safety.proofs.SeenHeaps.{release_is, gone_map, gone_still}
 
@@ -152,7 +147,7 @@ longer_map k free document bytes old mid new there e p a =
     let two : Option.Some y.cut.here.bytes ≡ Some (fitted (length document + length bytes) x.cut.here.bytes) = sym (changed_from y) ∙ changed_map x k ∙ put_same (blocks_of old) k (Some (fitted (length document + length bytes) x.cut.here.bytes)) in
     let then_ : y.cut.here.bytes ≡ fitted (length document + length bytes) x.cut.here.bytes = cc in
     let now : written y.cut.here.bytes (length document) bytes ≡ document ++ bytes =
-        ap (λ (z : List ℕ). written z (length document) bytes) (then_ ∙ ap (fitted (length document + length bytes)) was) ∙ longer_bytes document bytes in
+    ap (λ (z : List ℕ). written z (length document) bytes) (then_ ∙ ap (fitted (length document + length bytes)) was) ∙ longer_bytes document bytes in
     changed_map y a ∙ ap (λ (z : List ℕ). put (blocks_of mid) k (Some z) a) now ∙
     put_over (blocks_of mid) (blocks_of old) k (Some (fitted (length document + length bytes) x.cut.here.bytes)) (Some (document ++ bytes)) (changed_map x) a
 
@@ -162,11 +157,11 @@ longer_is d t k bytes after is q =
     with_step (slot_block k t.slot) _ after q (λ b e1 q1.
     with_step (slot_extend (free_pages d) k (length b.here.bytes + length bytes) t.slot) _ after q1 (λ mid e2 q2.
     with_step (slot_put k (length b.here.bytes) bytes mid) _ after q2 (λ new e3 q3.
-      let there : blocks_of t.slot k ≡ Some b.here.bytes = block_there k t.slot b e1 in
-      let live = live_of d t.handle t is in
-      let v : view (with_slot t.handle new d) ≡ protocol.with_block (view d) t.handle k (Some (b.here.bytes ++ bytes)) =
-          block_view d t.handle k (λ y. new) (Some (b.here.bytes ++ bytes)) t.slot live (slot_is d t.handle t is)
-          (longer_map k (free_pages d) b.here.bytes bytes t.slot mid new there e2 e3)
-          (λ a. changed_still (put_is k (length b.here.bytes) bytes mid new e3) a ∙ changed_still (extend_is (free_pages d) k (length b.here.bytes + length bytes) t.slot mid e2) a) in
-      subst (IsLonger d t k bytes) (ok_is (with_slot t.handle new d) after q3)
-      (record { document = b.here.bytes; there = there; seen = v; live = ap (λ (y : protocol.Desk). y.live t.handle) v ∙ live; post = refl }))))
+    let there : blocks_of t.slot k ≡ Some b.here.bytes = block_there k t.slot b e1 in
+    let live = live_of d t.handle t is in
+    let v : view (with_slot t.handle new d) ≡ protocol.with_block (view d) t.handle k (Some (b.here.bytes ++ bytes)) =
+    block_view d t.handle k (λ y. new) (Some (b.here.bytes ++ bytes)) t.slot live (slot_is d t.handle t is)
+    (longer_map k (free_pages d) b.here.bytes bytes t.slot mid new there e2 e3)
+    (λ a. changed_still (put_is k (length b.here.bytes) bytes mid new e3) a ∙ changed_still (extend_is (free_pages d) k (length b.here.bytes + length bytes) t.slot mid e2) a) in
+    subst (IsLonger d t k bytes) (ok_is (with_slot t.handle new d) after q3)
+    (record { document = b.here.bytes; there = there; seen = v; live = ap (λ (y : protocol.Desk). y.live t.handle) v ∙ live; post = refl }))))

@@ -1,32 +1,27 @@
 -- Commands on the C heap.
-use Rattle.std.proofs.Common.{suc, length-append, length-take, ◌≡◌, ◌≢◌, ℕ, ◌+◌, ◌-◌, ◌<◌, ◌≤◌, Bool, true, false, not, ◌&&◌, ◌||◌, List, [], ◌∷◌, ◌++◌, length, Option, Some, None, refl, sym, ap, ◌∙◌, subst, inl, inr, arith}
-use Rattle.std.specs.Prelude.{ℤ, if◌then◌else◌, nat_eq, nat_lt, nat_le, ◌==◌, find, map, Result, Ok, Err, is_some, is_none}
+use Rattle.std.proofs.Common.{suc, length-append, length-take, ◌≡◌, ℕ, ◌+◌, ◌-◌, ◌<◌, ◌≤◌, Bool, true, false, not, ◌&&◌, List, [], ◌∷◌, length, Option, Some, None, refl, sym, ap, ◌∙◌, subst, inl, inr, arith}
+use Rattle.std.specs.Prelude.{ℤ, if◌then◌else◌, nat_eq, nat_lt, nat_le, ◌==◌, Ok, Err, is_none}
 use Rattle.std.specs.Option.{option_map}
 use Rattle.std.proofs.lemmas.List.{length-replicate, take_all, append-nil}
 use Rattle.std.proofs.lemmas.Grind.{common_steps}
 use Rattle.std.specs.List.{list_any}
 use Rattle.std.proofs.lemmas.Bool.Decides.{eqb_tells, leb_tells}
 use Rattle.std.proofs.lemmas.Bool.{eq-eqb}
-use Rattle.rh_defs.specs.declared.refusal.Refusal.{Refusal}
 use Rattle.rh_defs.specs.declared.refusal.Refusal.TheVariants.{NotABlock, BadSize, NoBudge, NoRoom, Busy}
-use Rattle.rh_defs.specs.Chain.{Granted, ◌>>=◌, ◌>>◌, refuse_if, found_or, or_else}
+use Rattle.rh_defs.specs.Chain.{Granted, ◌>>=◌, ◌>>◌, refuse_if, found_or}
 use Rattle.rh_defs.specs.Pieces.{zeros, lacks_pages, total, Split, behind, first_at, with_here}
-use Rattle.rh_defs.specs.Heap.{Way, Stays, Shrinks, GrowsIntoHole, GrowsAtTop, MovesToHole, MovesToTop, Segment, Used, Hole, Heap, Placed, size_of, first_place, place_after, is_block_at, is_hole_for, hole_for, block_at, block_room, placed_in, placed, raised, need, claim_growing, released, bytes_of, fitted, segment_size, way_to, way_to_grow, way_beyond, new_size, resize_need, resize_growing, resized_by}
+use Rattle.rh_defs.specs.Heap.{Way, Stays, Shrinks, GrowsIntoHole, GrowsAtTop, MovesToHole, MovesToTop, Segment, Used, Hole, Heap, Placed, size_of, first_place, place_after, is_block_at, is_hole_for, hole_for, block_room, placed_in, raised, need, claim_growing, released, bytes_of, fitted, segment_size, way_to, way_to_grow, way_beyond, new_size, resize_need, resize_growing, resized_by}
 use Rattle.rh_defs.specs.Slot.{Slot, heap_start, heap_block_at, with_heap, with_placed, is_stuck, slot_claim, slot_release, slot_resize}
-use Rattle.rh_defs.specs.declared.command.Command.{Command}
 use Rattle.rh_defs.specs.declared.command.Command.TheVariants as command
-use Rattle.rh_defs.specs.declared.reply.Reply.TheVariants as reply
-use Rattle.rh_defs.specs.declared.transfer.Incoming.{Incoming}
-use Rattle.rh_defs.specs.declared.transfer.Incoming.TheVariants as incoming
 use Rattle.rh_defs.specs.Records.{is_buffer_of}
-use Rattle.rh_defs.specs.Desk.{Desk, Task, with_task, with_slot, named, has_name, idle_buffer, is_busy_buffer, free_pages}
-use Rattle.rh_defs.specs.Commands.{Answer, claim, release, resize}
+use Rattle.rh_defs.specs.Desk.{Desk, Task, named, idle_buffer, is_busy_buffer, free_pages}
+use Rattle.rh_defs.specs.Commands.{claim, release, resize}
 use Rattle.rh_defs.specs.Step.{step}
-use Rattle.rh_safety.specs.View.{view, blocks_of, buffers_of, of, task_of, field}
-use Rattle.rh_safety.specs.HeapMap.{heap_map, CanGo, IsMoved, CutOf, HoleFor, BlockOf, IsClaimed, IsReleased}
+use Rattle.rh_safety.specs.View.{view, blocks_of, buffers_of}
+use Rattle.rh_safety.specs.HeapMap.{heap_map, CanGo, IsMoved, HoleFor, IsClaimed, IsReleased}
 use Rattle.rh_safety.proofs.SeenTasks.{Same, buffer_view, heap_view, field_is, live_of, slot_is}
 use Rattle.rh_safety.proofs.SeenFrames.{Fits, Follows, Silent, bind, done, is_found, instead_of, refused, the_task}
-use Rattle.rh_safety.proofs.SeenBlocks.{From, from_bind, from_test, ok_is}
+use Rattle.rh_safety.proofs.SeenBlocks.{from_bind, ok_is}
 use Rattle.rh_safety.proofs.HeapMaps as heaps
 use Rattle.rh_safety.specs.Ends as post
 use Rattle.rh_safety.specs.Protocol as protocol
@@ -140,16 +135,16 @@ claim_follows d name n f =
     let c = command.Claim name n in
     let s : Silent c = record { offers = λ o e r. refl; edits = λ o e r. refl } in
     bind (Follows d c) (named name d) _ (instead_of d) (refused d c s) (λ t q. bind (Follows d c) _ _ (instead_of d) (refused d c s) (λ p z. done (Follows d c) _ (instead_of d) (
-      let is = the_task d name t f q in
-      let w = claim_is (free_pages d) n t.slot p z in
-      let bytes : List ℕ = zeros (block_room n) in
-      let can : ((view d).live t.handle && is_none ((view d).heap t.handle p.1)) ≡ true = rw (is, claimed_free w) refl in
-      record {
-        moves = protocol.Claim t.handle p.1 bytes ∷ [];
-        seen = rw can (buffer_view d t.handle p.1 (λ y. p.0) (Some bytes) t.slot (live_of d t.handle t is) (slot_is d t.handle t is) (claimed_still w) (claimed_map w));
-        offers = λ o. refl;
-        edits = λ e. refl;
-      })))
+    let is = the_task d name t f q in
+    let w = claim_is (free_pages d) n t.slot p z in
+    let bytes : List ℕ = zeros (block_room n) in
+    let can : ((view d).live t.handle && is_none ((view d).heap t.handle p.1)) ≡ true = rw (is, claimed_free w) refl in
+    record {
+      moves = protocol.Claim t.handle p.1 bytes ∷ [];
+      seen = rw can (buffer_view d t.handle p.1 (λ y. p.0) (Some bytes) t.slot (live_of d t.handle t is) (slot_is d t.handle t is) (claimed_still w) (claimed_map w));
+      offers = λ o. refl;
+      edits = λ e. refl;
+    })))
 
 -- ---- a release
 
@@ -196,15 +191,15 @@ release_follows d name address f =
     let s : Silent c = record { offers = λ o e r. refl; edits = λ o e r. refl } in
     bind (Follows d c) (named name d) _ (instead_of d) (refused d c s) (λ t q. bind (Follows d c) (idle_buffer address t) _ (instead_of d) (refused d c s) (λ b v.
     bind (Follows d c) _ _ (instead_of d) (refused d c s) (λ n z. done (Follows d c) _ (instead_of d) (
-      let is = the_task d name t f q in
-      let w = release_is address t.slot n z in
-      let can : ((view d).live t.handle && not (post.any (post.buffer_at address) ((view d).taking t.handle))) ≡ true = rw (is, idle_is address t b v) refl in
-      record {
-        moves = protocol.Release t.handle address ∷ [];
-        seen = rw can (buffer_view d t.handle address (λ y. n) None t.slot (live_of d t.handle t is) (slot_is d t.handle t is) (gone_still w) (gone_map w));
-        offers = λ o. refl;
-        edits = λ e. refl;
-      }))))
+    let is = the_task d name t f q in
+    let w = release_is address t.slot n z in
+    let can : ((view d).live t.handle && not (post.any (post.buffer_at address) ((view d).taking t.handle))) ≡ true = rw (is, idle_is address t b v) refl in
+    record {
+      moves = protocol.Release t.handle address ∷ [];
+      seen = rw can (buffer_view d t.handle address (λ y. n) None t.slot (live_of d t.handle t is) (slot_is d t.handle t is) (gone_still w) (gone_map w));
+      offers = λ o. refl;
+      edits = λ e. refl;
+    }))))
 
 -- ---- a resize
 
@@ -260,8 +255,8 @@ can_go bytes old h k s stay here =
     either (λ w. CanGo w old bytes (raised k h) s) (nat_eq (4 + length bytes) (size_of s.here)) Stays _
     (λ b. stay (let z : 4 + length bytes ≡ size_of s.here = is_equal _ _ b in omega arith))
     (λ b. either (λ w. CanGo w old bytes (raised k h) s) (nat_lt (4 + length bytes) (size_of s.here)) Shrinks _
-      (λ c. let z : 4 + length bytes < size_of s.here = grind (arith, leb_tells (suc (4 + length bytes)) (size_of s.here)) in omega arith)
-      (λ c. grow_goes bytes old h k s s.after refl here))
+    (λ c. let z : 4 + length bytes < size_of s.here = grind (arith, leb_tells (suc (4 + length bytes)) (size_of s.here)) in omega arith)
+    (λ c. grow_goes bytes old h k s s.after refl here))
 
 -- two places of the maps of a slot
 shifted_twice : (m : ℕ → Option (List ℕ)) (x y : ℕ) (v w : Option (List ℕ)) (a : ℕ) → 0 < x → 0 < y →
@@ -289,7 +284,7 @@ module _ (n k : ℕ) (s : Slot) (b : Split Segment) (old : List ℕ) (whole : wi
       let fit : 4 + length new_bytes ≡ segment_size n = ap (λ z. 4 + z) len ∙ room_fits n in
       subst (λ z. CanGo (way_to z b s.heap) old new_bytes longer b) fit (can_go new_bytes old s.heap k b
       (λ e. let z : block_room n ≡ length (bytes_of b.here) = sym len ∙ e ∙ ap (λ (y : List ℕ). length y) (sym has_bytes) in
-          ap (λ m. fitted m (bytes_of b.here)) z ∙ fitted_same (bytes_of b.here) ∙ has_bytes) here)
+      ap (λ m. fitted m (bytes_of b.here)) z ∙ fitted_same (bytes_of b.here) ∙ has_bytes) here)
 
   moved_so : IsMoved longer there.heap (place_after b.before + 4) there.address new_bytes
   moved_so = heaps.resizes (way_to (segment_size n) b s.heap) old new_bytes longer b (record { cut = record { whole = whole }; here = here }) goes
@@ -345,8 +340,10 @@ moved_heap d h from to bytes live idle free =
     let here : post.put d.heap h gone h ≡ gone = put_same d.heap h gone in
     let can : (d.live h && not (post.any (post.buffer_at from) (d.taking h))) ≡ true = rw (live, idle) refl in
     let may : (d.live h && is_none (post.put d.heap h gone h to)) ≡ true = rw live (ap (λ (m : ℕ → Option (List ℕ)). is_none (m to)) here ∙ ap is_none free) in
-    rw (can, may) (λ i. record d { heap = λ j. (ap (λ (m : ℕ → Option (List ℕ)). post.put (post.put d.heap h gone) h (post.put m to (Some bytes)) j) here ∙
-        heaps.put_twice d.heap h gone (post.put gone to (Some bytes)) j) i })
+    rw (can, may) (λ i. record d {
+      heap = λ j. (ap (λ (m : ℕ → Option (List ℕ)). post.put (post.put d.heap h gone) h (post.put m to (Some bytes)) j) here ∙
+          heaps.put_twice d.heap h gone (post.put gone to (Some bytes)) j) i;
+    })
 
 pub resize_follows : (d : Desk) (name : List ℕ) (address : ℕ) (delta : ℤ) → Fits d → Follows d (command.Resize name address delta) (step d (command.Resize name address delta))
 unfolding resize
@@ -355,14 +352,14 @@ resize_follows d name address delta f =
     let s : Silent c = record { offers = λ o e r. refl; edits = λ o e r. refl } in
     bind (Follows d c) (named name d) _ (instead_of d) (refused d c s) (λ t q. bind (Follows d c) (idle_buffer address t) _ (instead_of d) (refused d c s) (λ b v.
     bind (Follows d c) _ _ (instead_of d) (refused d c s) (λ p z. done (Follows d c) _ (instead_of d) (
-      let is = the_task d name t f q in
-      let w = resize_is (free_pages d) address delta t.slot p z in
-      let there : (view d).heap t.handle ≡ buffers_of t.slot = field_is (λ y. buffers_of y.slot) (λ a. None) t.handle d.tasks t is in
-      record {
-        moves = protocol.Release t.handle address ∷ protocol.Claim t.handle p.1 w.bytes ∷ [];
-        seen = heap_view d t.handle (λ y. p.0) (post.put (post.put (buffers_of t.slot) address None) p.1 (Some w.bytes)) t.slot (live_of d t.handle t is) (slot_is d t.handle t is) w.still w.moved ∙
-            ap (λ (m : ℕ → Option (List ℕ)). record (view d) { heap = post.put (view d).heap t.handle (post.put (post.put m address None) p.1 (Some w.bytes)) }) (sym there) ∙
-            sym (moved_heap (view d) t.handle address p.1 w.bytes (live_of d t.handle t is) (rw is (idle_is address t b v)) (ap (λ (m : ℕ → Option (List ℕ)). post.put m address None p.1) there ∙ w.free));
-        offers = λ o. refl;
-        edits = λ e. refl;
-      }))))
+    let is = the_task d name t f q in
+    let w = resize_is (free_pages d) address delta t.slot p z in
+    let there : (view d).heap t.handle ≡ buffers_of t.slot = field_is (λ y. buffers_of y.slot) (λ a. None) t.handle d.tasks t is in
+    record {
+      moves = protocol.Release t.handle address ∷ protocol.Claim t.handle p.1 w.bytes ∷ [];
+      seen = heap_view d t.handle (λ y. p.0) (post.put (post.put (buffers_of t.slot) address None) p.1 (Some w.bytes)) t.slot (live_of d t.handle t is) (slot_is d t.handle t is) w.still w.moved ∙
+          ap (λ (m : ℕ → Option (List ℕ)). record (view d) { heap = post.put (view d).heap t.handle (post.put (post.put m address None) p.1 (Some w.bytes)) }) (sym there) ∙
+          sym (moved_heap (view d) t.handle address p.1 w.bytes (live_of d t.handle t is) (rw is (idle_is address t b v)) (ap (λ (m : ℕ → Option (List ℕ)). post.put m address None p.1) there ∙ w.free));
+      offers = λ o. refl;
+      edits = λ e. refl;
+    }))))

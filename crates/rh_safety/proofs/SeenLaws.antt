@@ -1,9 +1,7 @@
 -- *Safe* of every run of the desk.
-use Rattle.std.proofs.Common.{◌≡◌, ◌≢◌, ℕ, ◌+◌, ◌<◌, ◌≤◌, Bool, true, false, ◌&&◌, List, [], ◌∷◌, ◌++◌, length, Option, Some, None, refl, sym, ap, ◌∙◌, subst, inl, inr, arith}
-use Rattle.std.specs.Prelude.{if◌then◌else◌, nat_lt, nat_le, ◌==◌, find, map}
+use Rattle.std.proofs.Common.{◌≡◌, ℕ, ◌<◌, Bool, true, false, ◌&&◌, List, [], ◌∷◌, ◌++◌, Option, Some, None, refl, sym, ap, ◌∙◌, subst}
+use Rattle.std.specs.Prelude.{if◌then◌else◌, nat_lt, nat_le, ◌==◌, find}
 use Rattle.std.specs.Option.{option_map}
-use Rattle.std.specs.List.{list_all}
-use Rattle.std.proofs.lemmas.Bool.Decides.{leb_tells}
 use Rattle.rh_defs.specs.declared.command.Command.{Command}
 use Rattle.rh_defs.specs.declared.command.Command.TheVariants as command
 use Rattle.rh_defs.specs.declared.transfer.Outgoing.TheVariants as outgoing
@@ -17,7 +15,7 @@ use Rattle.rh_defs.specs.Records.{in_id}
 use Rattle.rh_defs.specs.Desk.{Desk, Task, task_at}
 use Rattle.rh_defs.specs.Step.{step}
 use Rattle.rh_defs.specs.Runs.{after}
-use Rattle.rh_safety.specs.View.{view, blocks_of, flex_map, of, task_of, field}
+use Rattle.rh_safety.specs.View.{view, blocks_of, of, task_of}
 use Rattle.rh_safety.specs.History as whole
 use Rattle.rh_safety.specs.History.{IsSafe, in_anchor, bytes_of_block}
 use Rattle.rh_safety.specs.Ends.{Offers, Edits, Has}
@@ -118,7 +116,7 @@ module _ (K : Desk → Type 0) (keeps : Keeps K) where
       let e1 : Edits = whole.edits_next e d c (step d c).1 in
       let g0 : Good (offers_from o (view d) s.moves) (edited_from e (view d) s.moves) (protocol.run s.moves (view d)) = run_good s.moves g in
       let g1 : Good o1 e1 (view d1) =
-          subst (λ (y : protocol.Desk). Good o1 e1 y) (sym s.seen) (subst (λ (y : Edits). Good o1 y (protocol.run s.moves (view d))) (s.edits e) (subst (λ (y : Offers). Good y (edited_from e (view d) s.moves) (protocol.run s.moves (view d))) (s.offers o) g0)) in
+      subst (λ (y : protocol.Desk). Good o1 e1 y) (sym s.seen) (subst (λ (y : Edits). Good o1 y (protocol.run s.moves (view d))) (s.edits e) (subst (λ (y : Offers). Good y (edited_from e (view d) s.moves) (protocol.run s.moves (view d))) (s.offers o) g0)) in
       let r = runs cs (and_right (in_range c) _ p) d1 o1 e1 g1 (keeps.step d c in_c f) in
       record {
         moves = s.moves ++ r.moves;
@@ -150,9 +148,9 @@ module _ (K : Desk → Type 0) (keeps : Keeps K) where
       let d : Desk = whole.desk_after o cs in
       let off : history.offered origin r.moves id ≡ whole.offered o cs id = ap (λ (y : Offers). y id) r.offers in
       let got_is : history.held origin r.moves id h ≡ whole.held o cs id h =
-          ap (λ (y : protocol.Desk). if y.live h then history.document y h (edited_from (λ k i. false) (view (whole.first_desk o)) r.moves h id) (history.record_of id (y.taking h)) else None) (sym r.seen) ∙
-          ap (λ (y : Edits). if (view d).live h then history.document (view d) h (y h id) (history.record_of id ((view d).taking h)) else None) r.edits ∙
-          held_is d h id (whole.is_edited o cs h id) in
+      ap (λ (y : protocol.Desk). if y.live h then history.document y h (edited_from (λ k i. false) (view (whole.first_desk o)) r.moves h id) (history.record_of id (y.taking h)) else None) (sym r.seen) ∙
+      ap (λ (y : Edits). if (view d).live h then history.document (view d) h (y h id) (history.record_of id ((view d).taking h)) else None) r.edits ∙
+      held_is d h id (whole.is_edited o cs h id) in
       record {
         prefix = λ got q. let w = s.prefix got (got_is ∙ q) in (w.0, sym off ∙ w.1, w.2);
         whole = λ got k n t q is has. sym off ∙ s.whole got k n (got_is ∙ q) (subst (λ (y : List Incoming). Has (incoming.Done id k n) y)

@@ -1,32 +1,25 @@
 -- A poll leaves the tasks their names and handles.
-use Rattle.std.proofs.Common.{◌≡◌, ℕ, Bool, true, false, List, [], ◌∷◌, Option, Some, None, refl, sym, ap, ◌∙◌, subst}
-use Rattle.std.specs.Prelude.{if◌then◌else◌, nat_lt, ◌==◌, find, map, Ok, is_some}
-use Rattle.std.specs.Option.{option_map}
-use Rattle.std.specs.Str.{bytes_eq}
-use Rattle.rh_defs.specs.declared.refusal.Refusal.{Refusal}
-use Rattle.rh_defs.specs.declared.refusal.Refusal.TheVariants.{AnchorInUse, NoTask, Busy}
+use Rattle.std.proofs.Common.{◌≡◌, ℕ, List, Option, Some, None, refl, ◌∙◌, subst}
+use Rattle.std.specs.Prelude.{nat_lt, ◌==◌, Ok}
+use Rattle.rh_defs.specs.declared.refusal.Refusal.TheVariants.{AnchorInUse, NoTask}
 use Rattle.rh_defs.specs.declared.message.Body.{Body}
 use Rattle.rh_defs.specs.declared.message.Body.TheVariants as body
 use Rattle.rh_defs.specs.declared.message.EventCode.{EventCode}
 use Rattle.rh_defs.specs.declared.message.EventCode.TheVariants.{User, Recorded, Acknowledge}
-use Rattle.rh_defs.specs.declared.message.Letter.{Letter}
 use Rattle.rh_defs.specs.declared.transfer.Sending.{Sending}
 use Rattle.rh_defs.specs.declared.transfer.Taking.{Taking}
 use Rattle.rh_defs.specs.declared.transfer.Asked.{Asked}
-use Rattle.rh_defs.specs.declared.transfer.Outgoing.{Outgoing}
 use Rattle.rh_defs.specs.declared.transfer.Incoming.{Incoming}
 use Rattle.rh_defs.specs.declared.transfer.Incoming.TheVariants as incoming
-use Rattle.rh_defs.specs.Chain.{Granted, ◌>>=◌, found_or, or_else}
+use Rattle.rh_defs.specs.Chain.{found_or}
 use Rattle.rh_defs.specs.Messages.{Parcel}
-use Rattle.rh_defs.specs.Post.{Post}
-use Rattle.rh_defs.specs.Slot.{Slot, heap_block_at, slot_block, slot_claim, slot_alloc, slot_extend, slot_put}
+use Rattle.rh_defs.specs.Slot.{heap_block_at, slot_block, slot_claim, slot_alloc, slot_extend, slot_put}
 use Rattle.rh_defs.specs.Letters.{fetch_letter, ack_letter, load_ack_letter, transmit_letter, load_letter}
-use Rattle.rh_defs.specs.Sender as sender
 use Rattle.rh_defs.specs.Receiver as receiver
 use Rattle.rh_defs.specs.Places.{first_bytes, free_anchor}
-use Rattle.rh_defs.specs.Desk.{Desk, Task, Scrap, edit_task, free_pages, next_ref, has_name, task_at, with_task, with_slot, with_sending, with_taking, with_post, with_delivered, send_letter}
-use Rattle.rh_defs.specs.OutgoingEvents.{Handled, ignored, portion, refused, transmit, answer_fetch, fail_sending, scrap_shortage, wider, save_scrap, answer_ack, finish_load}
-use Rattle.rh_defs.specs.IncomingEvents.{is_deaf, ended, end_failed, accept, take_save, appended, fetch_more, took, take_bytes, ask, fetch_back, ack_back, loaded, load_file, take_file}
+use Rattle.rh_defs.specs.Desk.{Desk, Task, Scrap, free_pages, task_at, with_slot, send_letter}
+use Rattle.rh_defs.specs.OutgoingEvents.{Handled, ignored, portion, transmit, answer_fetch, fail_sending, scrap_shortage, wider, save_scrap, answer_ack, finish_load}
+use Rattle.rh_defs.specs.IncomingEvents.{is_deaf, accept, take_save, appended, fetch_more, took, take_bytes, ask, fetch_back, ack_back, loaded, load_file, take_file}
 use Rattle.rh_defs.specs.Transfer as transfer
 use Rattle.rh_defs.specs.Transfer.{answers_none}
 use Rattle.rh_safety.proofs.Basics.{either}
@@ -45,10 +38,10 @@ module _ (d : Desk) (t : Task) (m : Parcel) where
   save_keys =
       either Stays (receiver.on_save (is_deaf t.manner) t.taking) _ (ignored d)
       (λ e. by_grant Stays _ _ (λ x q.
-        with_step (found_or (free_anchor t.slot) AnchorInUse) _ x q (λ k e1 q1. with_step (slot_claim (free_pages d) t.buffer t.slot) _ x q1 (λ c e2 q2.
-        with_step (slot_alloc (free_pages (with_slot t.handle c.0 d)) k 0 c.0) _ x q2 (λ p e3 q3. with_step (send_letter (fetch_letter t.handle m.message.from m.message.my_ref c.1 t.buffer) (with_slot t.handle p.0 d)) _ x q3 (λ sent e4 q4.
-        subst Stays (ok_is _ x q4) (ins_keys t.handle _ sent ∙ sent_keys (with_slot t.handle p.0 d) sent _ e4 ∙ slot_keys t.handle (λ _. p.0) d))))))
-        (λ r e. refl))
+      with_step (found_or (free_anchor t.slot) AnchorInUse) _ x q (λ k e1 q1. with_step (slot_claim (free_pages d) t.buffer t.slot) _ x q1 (λ c e2 q2.
+      with_step (slot_alloc (free_pages (with_slot t.handle c.0 d)) k 0 c.0) _ x q2 (λ p e3 q3. with_step (send_letter (fetch_letter t.handle m.message.from m.message.my_ref c.1 t.buffer) (with_slot t.handle p.0 d)) _ x q3 (λ sent e4 q4.
+      subst Stays (ok_is _ x q4) (ins_keys t.handle _ sent ∙ sent_keys (with_slot t.handle p.0 d) sent _ e4 ∙ slot_keys t.handle (λ _. p.0) d))))))
+      (λ r e. refl))
       (λ e. refl)
 
   longer_keys : (k : ℕ) (bytes : List ℕ) (after : Desk) → appended d t k bytes ≡ Ok after → SameKeys d after
@@ -63,8 +56,8 @@ module _ (d : Desk) (t : Task) (m : Parcel) where
       either Stays (nat_lt n t.buffer) _ _
       (λ e. ended_keys t.handle f _ after ∙ same)
       (λ e. by_grant Stays _ _
-        (λ x q. with_step (send_letter (fetch_letter t.handle f.sender m.message.my_ref f.buffer t.buffer) after) _ x q (λ sent e1 q1. subst Stays (ok_is _ x q1) (ins_keys t.handle _ sent ∙ sent_keys after sent _ e1 ∙ same)))
-        (λ r q. ended_keys t.handle f _ after ∙ same))
+      (λ x q. with_step (send_letter (fetch_letter t.handle f.sender m.message.my_ref f.buffer t.buffer) after) _ x q (λ sent e1 q1. subst Stays (ok_is _ x q1) (ins_keys t.handle _ sent ∙ sent_keys after sent _ e1 ∙ same)))
+      (λ r q. ended_keys t.handle f _ after ∙ same))
 
   bytes_keys : (n : ℕ) (v : Option Incoming) → Stays (take_bytes d t m n v)
   unfolding take_bytes
@@ -84,8 +77,8 @@ module _ (d : Desk) (t : Task) (m : Parcel) where
   back_keys (Some (incoming.Fetching f)) =
       either Stays (f.count == 0) _ _
       (λ e. by_grant Stays _ _
-        (λ x q. with_step (send_letter (ack_letter t.handle f.sender f.id) d) _ x q (λ sent e1 q1. subst Stays (ok_is _ x q1) (ended_keys t.handle f _ sent ∙ sent_keys d sent _ e1)))
-        (λ r q. ended_keys t.handle f _ d))
+      (λ x q. with_step (send_letter (ack_letter t.handle f.sender f.id) d) _ x q (λ sent e1 q1. subst Stays (ok_is _ x q1) (ended_keys t.handle f _ sent ∙ sent_keys d sent _ e1)))
+      (λ r q. ended_keys t.handle f _ d))
       (λ e. ended_keys t.handle f _ d)
   back_keys (Some (incoming.Draining f)) = ended_keys t.handle f _ d
   back_keys (Some (incoming.Asking q)) = refl
@@ -110,8 +103,8 @@ module _ (d : Desk) (t : Task) (m : Parcel) where
   file_keys q (Some file) =
       either Stays (file.load == m.message.my_ref) _ _
       (λ e. by_grant Stays _ _
-        (λ x z. with_step (appended d t q.anchor file.bytes) _ x z (λ after e1 z1. subst Stays (ok_is _ x z1) (loaded_keys q _ (record after { scrap = None }) (longer_keys q.anchor file.bytes after e1))))
-        (λ r z. ins_keys t.handle _ d))
+      (λ x z. with_step (appended d t q.anchor file.bytes) _ x z (λ after e1 z1. subst Stays (ok_is _ x z1) (loaded_keys q _ (record after { scrap = None }) (longer_keys q.anchor file.bytes after e1))))
+      (λ r z. ins_keys t.handle _ d))
       (λ e. refl)
 
   load_keys : (v : Option Asked) → Stays (take_file d t m v)
@@ -125,8 +118,8 @@ module _ (d : Desk) (t : Task) (m : Parcel) where
   fetch_keys buffer amount (Some x) =
       by_grant Stays _ _
       (λ y q. with_step (slot_block x.anchor t.slot) _ y q (λ b e1 q1. with_step (found_or (task_at x.recipient d) NoTask) _ y q1 (λ r e2 q2.
-        with_step (send_letter (transmit_letter t.handle m (nat_lt (portion x amount b) amount) buffer (portion x amount b)) d) _ y (from_test _ _ y q2) (λ sent e4 q4.
-        subst Stays (ok_is _ y q4) (outs_keys t.handle _ _ ∙ slot_keys r.handle _ sent ∙ sent_keys d sent _ e4)))))
+      with_step (send_letter (transmit_letter t.handle m (nat_lt (portion x amount b) amount) buffer (portion x amount b)) d) _ y (from_test _ _ y q2) (λ sent e4 q4.
+      subst Stays (ok_is _ y q4) (outs_keys t.handle _ _ ∙ slot_keys r.handle _ sent ∙ sent_keys d sent _ e4)))))
       (λ r q. outs_keys t.handle _ d)
 
   fail_keys : (v : Option Sending) → Stays (fail_sending d t v)
@@ -140,8 +133,8 @@ module _ (d : Desk) (t : Task) (m : Parcel) where
   ack_keys (Some x) =
       by_grant Stays _ _
       (λ y q. with_step (slot_block x.anchor t.slot) _ y q (λ s e1 q1.
-        with_step (send_letter (load_letter t.handle m _) (wider (scrap_shortage _ d) d)) _ y (from_test _ _ y q1) (λ sent e2 q2.
-        subst Stays (ok_is _ y (from_test _ _ y q2)) (outs_keys t.handle _ _ ∙ sent_keys (wider (scrap_shortage _ d) d) sent _ e2))))
+      with_step (send_letter (load_letter t.handle m _) (wider (scrap_shortage _ d) d)) _ y (from_test _ _ y q1) (λ sent e2 q2.
+      subst Stays (ok_is _ y (from_test _ _ y q2)) (outs_keys t.handle _ _ ∙ sent_keys (wider (scrap_shortage _ d) d) sent _ e2))))
       (λ r q. outs_keys t.handle _ d)
 
   finish_keys : (v : Option Sending) → Stays (finish_load d t v)

@@ -1,21 +1,17 @@
 -- A poll, as a step of the reduced desk.
-use Rattle.std.proofs.Common.{◌≡◌, ℕ, ◌+◌, Bool, true, false, not, ◌&&◌, List, [], ◌∷◌, ◌++◌, length, Option, Some, None, refl, sym, ap, ◌∙◌, subst, inl, inr}
-use Rattle.std.specs.Prelude.{if◌then◌else◌, nat_eq, ◌==◌, Ok}
+use Rattle.std.proofs.Common.{◌≡◌, ℕ, Bool, true, false, List, [], ◌∷◌, Option, Some, None, refl, sym, ap, ◌∙◌}
+use Rattle.std.specs.Prelude.{if◌then◌else◌}
 use Rattle.std.specs.Option.{option_map}
-use Rattle.rh_defs.specs.declared.message.Action.{Action}
 use Rattle.rh_defs.specs.declared.message.Action.TheVariants as action
 use Rattle.rh_defs.specs.declared.message.Body.{Body}
 use Rattle.rh_defs.specs.declared.message.Body.TheVariants as body
 use Rattle.rh_defs.specs.declared.message.EventCode.{EventCode}
 use Rattle.rh_defs.specs.declared.message.EventCode.TheVariants.{User, Recorded, Acknowledge}
 use Rattle.rh_defs.specs.declared.command.Command.TheVariants as command
-use Rattle.rh_defs.specs.declared.reply.Outcome.{Outcome}
-use Rattle.rh_defs.specs.declared.reply.Reply.{Reply}
-use Rattle.rh_defs.specs.declared.reply.Reply.TheVariants as reply
 use Rattle.rh_defs.specs.declared.transfer.Sending.{Sending}
 use Rattle.rh_defs.specs.declared.transfer.Outgoing.TheVariants as outgoing
 use Rattle.rh_defs.specs.Messages.{Parcel, action_of}
-use Rattle.rh_defs.specs.Post.{Post, post_poll, has_seat}
+use Rattle.rh_defs.specs.Post.{Post, post_poll}
 use Rattle.rh_defs.specs.Sender as sender
 use Rattle.rh_defs.specs.Desk.{Desk, Task, named, with_delivered}
 use Rattle.rh_defs.specs.Commands.{Answer}
@@ -111,9 +107,9 @@ module _ (d : Desk) (t : Task) (m : Parcel) (f : Fits d) (is : task_of t.handle 
   came_seen (body.RamFetch buffer amount) r =
       let b = body.RamFetch buffer amount in
       let w : CameAs lost action.RamFetch (if answers_none t.manner then ignored d else answer_fetch d t m buffer amount (sender.on_fetch m.message.from m.message.your_ref amount t.sending)) (λ luck. protocol.on_fetch_by (view d) h luck (letter_of m b) (answers_none t.manner)) =
-          either_by (λ (x : Handled) (y : Luck → protocol.Desk). CameAs lost action.RamFetch x y) (λ c luck. protocol.on_fetch_by (view d) h luck (letter_of m b) c) (answers_none t.manner) (ignored d) _
-          (λ e. record { luck = lucky lost 0 0 0; lost_is = refl; seen = refl; room = λ z. has_room lost 0 0 0 })
-          (λ e. fetch_came d t m f is lost buffer amount (r e)) in
+      either_by (λ (x : Handled) (y : Luck → protocol.Desk). CameAs lost action.RamFetch x y) (λ c luck. protocol.on_fetch_by (view d) h luck (letter_of m b) c) (answers_none t.manner) (ignored d) _
+      (λ e. record { luck = lucky lost 0 0 0; lost_is = refl; seen = refl; room = λ z. has_room lost 0 0 0 })
+      (λ e. fetch_came d t m f is lost buffer amount (r e)) in
       record { luck = w.luck; lost_is = w.lost_is; seen = w.seen ∙ sym (ap (protocol.on_fetch_by (view d) h w.luck (letter_of m b)) file_seen); room = w.room }
   came_seen (body.RamTransmit buffer n) r = transmit_came d t m f is lost buffer n
 
@@ -173,10 +169,10 @@ module _ {o : Offered} {e : ℕ → ℕ → Bool} (d : Desk) (t : Task) (f : Fit
       let n : (seen_parcel m).letter.amount ≡ amount = ap (λ (b : Body). (letter_of m b).amount) eq in
       let a : (seen_parcel m).letter.address ≡ buffer = ap (λ (b : Body). (letter_of m b).address) eq in
       let there : post.find_open (protocol.would_answer (seen_parcel m).letter) (back.sending hd) ≡ Some x =
-          ap (post.find_open (protocol.would_answer (seen_parcel m).letter)) sends ∙ ap (λ k. sender.on_fetch m.message.from m.message.your_ref k t.sending) n ∙ found in
+      ap (post.find_open (protocol.would_answer (seen_parcel m).letter)) sends ∙ ap (λ k. sender.on_fetch m.message.from m.message.your_ref k t.sending) n ∙ found in
       let r = reaches gb hd (seen_parcel m) has x there (ap action_of eq)
-          (ap (λ (z : ℕ → Bool). z hd) (returned_file (view d) hd v) ∙ field_is (λ y. answers_none y.manner) false hd d.tasks t is ∙ file)
-          (ap (λ (z : ℕ → Bool). z x.recipient) (returned_live (view d) hd v) ∙ to) in
+      (ap (λ (z : ℕ → Bool). z hd) (returned_file (view d) hd v) ∙ field_is (λ y. answers_none y.manner) false hd d.tasks t is ∙ file)
+      (ap (λ (z : ℕ → Bool). z x.recipient) (returned_live (view d) hd v) ∙ to) in
       sym (ap (λ k. range_is_bad ((view d).heap x.recipient k) (seen_parcel m).letter.amount) a ∙ ap (range_is_bad ((view d).heap x.recipient buffer)) n) ∙
       sym (ap (λ (z : ℕ → ℕ → Option (List ℕ)). range_is_bad (z x.recipient (seen_parcel m).letter.address) (seen_parcel m).letter.amount) (returned_heap (view d) hd v)) ∙ r
   reaches_by m has (body.DataSave file) eq = tt
@@ -205,7 +201,7 @@ module _ {o : Offered} {e : ℕ → ℕ → Bool} (d : Desk) (t : Task) (f : Fit
       let sources : HasSources d2 hd = λ x q. let z = g.inv.outs.source hd x q in (z.all, z.there) in
       let c = handled_seen d2 t m (fits_after p w) is w.lost sources m.code (reaches_by m has m.message.body refl) in
       let seen2 : view d2 ≡ protocol.picked (protocol.lost_if w.lost back) hd (seen_parcel m) m.code =
-          w.seen ∙ ap (λ (o : Option Parcel). picked_by hd (option_map seen_parcel o) (protocol.lost_if w.lost back)) e in
+      w.seen ∙ ap (λ (o : Option Parcel). picked_by hd (option_map seen_parcel o) (protocol.lost_if w.lost back)) e in
       record {
         luck = c.luck;
         seen = c.seen ∙ ap (λ (y : protocol.Desk). protocol.handled y hd c.luck (seen_parcel m).letter m.code) seen2 ∙
@@ -232,11 +228,11 @@ poll_follows d name f g =
     let c = command.Poll name in
     let s : Silent c = record { offers = λ o e r. refl; edits = λ o e r. refl } in
     bind (Follows d c) (named name d) _ (instead_of d) (refused d c s) (λ t q. done (Follows d c) _ (instead_of d) (
-      let is = the_task d name t f q in
-      let w = poll_is d t f is g in
-      record {
-        moves = protocol.Poll t.handle w.luck ∷ [];
-        seen = w.seen ∙ sym (rw (live_of d t.handle t is) refl);
-        offers = λ o. refl;
-        edits = λ e. refl;
-      }))
+    let is = the_task d name t f q in
+    let w = poll_is d t f is g in
+    record {
+      moves = protocol.Poll t.handle w.luck ∷ [];
+      seen = w.seen ∙ sym (rw (live_of d t.handle t is) refl);
+      offers = λ o. refl;
+      edits = λ e. refl;
+    }))

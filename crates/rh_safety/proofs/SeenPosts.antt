@@ -1,9 +1,8 @@
 -- Bounces, as what is seen of the post; and the death of a task.
-use Rattle.std.proofs.Common.{◌≡◌, ◌≢◌, ℕ, ◌+◌, ◌<◌, Bool, true, false, not, List, [], ◌∷◌, ◌++◌, Option, Some, None, refl, sym, ap, ◌∙◌, subst, ◌⊎◌, inl, inr, arith}
-use Rattle.std.specs.Prelude.{if◌then◌else◌, nat_eq, ◌==◌, find, filter, map, Ok}
+use Rattle.std.proofs.Common.{◌≡◌, ℕ, Bool, true, false, not, List, [], ◌∷◌, ◌++◌, Option, Some, None, refl, sym, ap, ◌∙◌, subst, ◌⊎◌, inl, inr, arith}
+use Rattle.std.specs.Prelude.{if◌then◌else◌, nat_eq, ◌==◌, filter, map}
 use Rattle.std.specs.Option.{option_map}
 use Rattle.std.proofs.lemmas.Bool.Decides.{eqb_tells}
-use Rattle.std.proofs.lemmas.Bool.{eq-eqb}
 use Rattle.std.proofs.lemmas.List.{append-nil}
 use Rattle.std.proofs.Common.{append_assoc}
 use Rattle.rh_defs.specs.declared.message.EventCode.{EventCode}
@@ -17,10 +16,9 @@ use Rattle.rh_defs.specs.Commands.{kill}
 use Rattle.rh_defs.specs.Step.{step}
 use Rattle.rh_defs.specs.IncomingEvents.{is_deaf}
 use Rattle.rh_defs.specs.Transfer.{answers_none}
-use Rattle.rh_safety.specs.View.{view, seen_parcel, seen_last, seen_scrap, blocks_of, buffers_of, of, task_of, field}
+use Rattle.rh_safety.specs.View.{view, seen_parcel, seen_last, seen_scrap, blocks_of, buffers_of, field}
 use Rattle.rh_safety.specs.Ends.{Message, put}
 use Rattle.rh_safety.specs.Protocol as protocol
-use Rattle.rh_safety.proofs.Basics.{put_same, put_other}
 use Rattle.rh_safety.proofs.SeenTasks.{Same, same_desk, live_of}
 use Rattle.rh_safety.proofs.SeenFrames.{Fits, Follows, Silent, bind, done, instead_of, refused, the_task}
 use Rattle.rh_safety.proofs.SeenSends.{map_append, held_put, seats_held, held_seen}
@@ -231,17 +229,17 @@ kill_moves d name h f live =
     let step1 : protocol.run (protocol.Kill h ∷ []) (view d) ≡ protocol.killed (view d) h = rw live refl in
     elim (kept_is (post_death h d.post) d.scrap) as (λ _. Follows d (command.Kill name) (after_kill d h, reply.Done)) [
       | inl kept ↦ record {
-          moves = protocol.Kill h ∷ [];
-          seen = killed_view d h f ∙ ap (λ v. with_scrap (option_map seen_scrap v) (protocol.killed (view d) h)) kept ∙ sym step1;
-          offers = λ o. refl;
-          edits = λ e. refl;
-        }
+        moves = protocol.Kill h ∷ [];
+        seen = killed_view d h f ∙ ap (λ v. with_scrap (option_map seen_scrap v) (protocol.killed (view d) h)) kept ∙ sym step1;
+        offers = λ o. refl;
+        edits = λ e. refl;
+      }
       | inr gone ↦ record {
-          moves = protocol.Kill h ∷ protocol.Lose ∷ [];
-          seen = killed_view d h f ∙ ap (λ v. with_scrap (option_map seen_scrap v) (protocol.killed (view d) h)) gone ∙ ap (with_scrap None) (sym step1);
-          offers = λ o. refl;
-          edits = λ e. refl;
-        }
+        moves = protocol.Kill h ∷ protocol.Lose ∷ [];
+        seen = killed_view d h f ∙ ap (λ v. with_scrap (option_map seen_scrap v) (protocol.killed (view d) h)) gone ∙ ap (with_scrap None) (sym step1);
+        offers = λ o. refl;
+        edits = λ e. refl;
+      }
     ]
 
 pub kill_follows : (d : Desk) (name : List ℕ) → Fits d → Follows d (command.Kill name) (step d (command.Kill name))
@@ -250,4 +248,4 @@ kill_follows d name f =
     let c = command.Kill name in
     let s : Silent c = record { offers = λ o e r. refl; edits = λ o e r. refl } in
     bind (Follows d c) (named name d) _ (instead_of d) (refused d c s) (λ t q. done (Follows d c) _ (instead_of d) (
-      kill_moves d name t.handle f (live_of d t.handle t (the_task d name t f q))))
+    kill_moves d name t.handle f (live_of d t.handle t (the_task d name t f q))))

@@ -1,36 +1,32 @@
 -- No poll answers that a range was bad.
-use Rattle.std.proofs.Common.{◌≡◌, ◌≢◌, ℕ, ◌+◌, ◌≤◌, ◌<◌, Bool, true, false, not, ◌&&◌, ◌||◌, List, [], ◌∷◌, length, Option, Some, None, refl, sym, ap, ◌∙◌, subst, inl, inr, arith, length-append}
-use Rattle.std.specs.Prelude.{if◌then◌else◌, nat_lt, nat_le, ◌==◌, ◌^◌, find, Ok, Err, is_some}
+use Rattle.std.proofs.Common.{◌≡◌, ◌≢◌, ℕ, ◌+◌, ◌≤◌, Bool, true, false, not, ◌&&◌, ◌||◌, List, length, Option, Some, None, refl, sym, ap, ◌∙◌, subst, arith}
+use Rattle.std.specs.Prelude.{nat_lt, nat_le, ◌==◌, ◌^◌, Ok, Err, is_some}
 use Rattle.std.specs.Option.{option_map}
 use Rattle.std.proofs.lemmas.Bool.Decides.{leb_tells}
 use Rattle.rh_defs.specs.declared.refusal.Refusal.{Refusal}
-use Rattle.rh_defs.specs.declared.refusal.Refusal.TheVariants.{NoName, NoBlock, AnchorInUse, BadSize, NoBudge, BadRange, NoTask, NoRefs, QueueFull, NoRoom, Busy}
+use Rattle.rh_defs.specs.declared.refusal.Refusal.TheVariants.{NoBlock, AnchorInUse, BadSize, BadRange, NoTask, NoRefs, QueueFull, NoRoom, Busy}
 use Rattle.rh_defs.specs.declared.message.Body.{Body}
 use Rattle.rh_defs.specs.declared.message.Body.TheVariants as body
 use Rattle.rh_defs.specs.declared.message.EventCode.{EventCode}
 use Rattle.rh_defs.specs.declared.message.EventCode.TheVariants.{User, Recorded, Acknowledge}
 use Rattle.rh_defs.specs.declared.message.Letter.{Letter}
 use Rattle.rh_defs.specs.declared.command.Command.TheVariants as command
-use Rattle.rh_defs.specs.declared.reply.Outcome.{Outcome}
-use Rattle.rh_defs.specs.declared.reply.Outcome.TheVariants as outcome
-use Rattle.rh_defs.specs.declared.reply.Reply.TheVariants as reply
 use Rattle.rh_defs.specs.declared.transfer.Sending.{Sending}
 use Rattle.rh_defs.specs.declared.transfer.Taking.{Taking}
 use Rattle.rh_defs.specs.declared.transfer.Asked.{Asked}
 use Rattle.rh_defs.specs.declared.transfer.Incoming.{Incoming}
 use Rattle.rh_defs.specs.declared.transfer.Incoming.TheVariants as incoming
-use Rattle.rh_defs.specs.Chain.{Granted, ◌>>=◌, ◌>>◌, refuse_if, found_or, or_else}
-use Rattle.rh_defs.specs.Pieces.{Split, zeros, lacks_pages}
+use Rattle.rh_defs.specs.Chain.{Granted, ◌>>=◌, ◌>>◌, refuse_if, found_or}
+use Rattle.rh_defs.specs.Pieces.{Split, lacks_pages}
 use Rattle.rh_defs.specs.Heap.{Heap, Segment, need, fitted}
 use Rattle.rh_defs.specs.Module.{module_claim}
 use Rattle.rh_defs.specs.Messages.{Parcel}
 use Rattle.rh_defs.specs.Post.{Post, has_seat, most_messages, live_count, sendable, post_send, post_poll}
-use Rattle.rh_defs.specs.Slot.{Slot, Flex, weight, flex_start, flex_address, heap_block_at, slot_block, slot_extend, slot_put, lacks_room, length_with, holds, slot_claim, slot_alloc}
+use Rattle.rh_defs.specs.Slot.{Slot, flex_address, heap_block_at, slot_block, slot_extend, slot_put, lacks_room, length_with, holds, slot_claim, slot_alloc}
 use Rattle.rh_defs.specs.Letters.{fetch_letter, ack_letter, load_ack_letter, transmit_letter, load_letter}
-use Rattle.rh_defs.specs.Sender as sender
 use Rattle.rh_defs.specs.Receiver as receiver
-use Rattle.rh_defs.specs.Places.{first_bytes, free_anchor, buffer_at, overlap}
-use Rattle.rh_defs.specs.Desk.{Desk, Task, Scrap, free_pages, has_name, named, task_at, with_slot, with_delivered, send_letter}
+use Rattle.rh_defs.specs.Places.{first_bytes, free_anchor, overlap}
+use Rattle.rh_defs.specs.Desk.{Desk, Task, Scrap, free_pages, named, task_at, with_slot, with_delivered, send_letter}
 use Rattle.rh_defs.specs.OutgoingEvents.{Handled, ignored, portion, is_out_of_reach, transmit, answer_fetch, fail_sending, scrap_shortage, wider, save_scrap, answer_ack, finish_load}
 use Rattle.rh_defs.specs.IncomingEvents.{is_deaf, accept, take_save, appended, fetch_more, took, take_bytes, ask, fetch_back, ack_back, loaded, load_file, take_file}
 use Rattle.rh_defs.specs.Transfer as transfer
@@ -43,7 +39,7 @@ use Rattle.rh_safety.specs.Ends.{Has}
 use Rattle.rh_safety.specs.Ends as post
 use Rattle.rh_safety.specs.Protocol as protocol
 use Rattle.rh_safety.specs.Schedules.{range_is_bad}
-use Rattle.rh_safety.proofs.Basics.{none_some, either, and_left, is_equal, open_is, first_has, put_same}
+use Rattle.rh_safety.proofs.Basics.{either, first_has, put_same}
 use Rattle.rh_safety.proofs.Invariant.{Offered, Good}
 use Rattle.rh_safety.proofs.SeenTasks.{field_is, live_of}
 use Rattle.rh_safety.proofs.SeenFrames.{Fits, bind, done, is_found, instead_of, the_task}
@@ -125,10 +121,10 @@ put_ok : (k offset : ℕ) (bytes document : List ℕ) (s : Slot) → blocks_of s
 unfolding slot_put
 put_ok k offset bytes document s there fits =
     bind_ok (slot_block k s) _ (block_ok k s) (λ b e.
-      let one : Some document ≡ Some b.here.bytes = sym there ∙ block_there k s b e in
-      let same : document ≡ b.here.bytes = cc in
-      let less : nat_lt (length b.here.bytes) (offset + length bytes) ≡ false = grind (arith, leb_tells, ap (λ (v : List ℕ). length v) same) in
-      bind_ok (refuse_if (nat_lt (length b.here.bytes) (offset + length bytes)) BadRange) _ (unless_ok _ BadRange less) (λ u e. done_ok _))
+    let one : Some document ≡ Some b.here.bytes = sym there ∙ block_there k s b e in
+    let same : document ≡ b.here.bytes = cc in
+    let less : nat_lt (length b.here.bytes) (offset + length bytes) ≡ false = grind (arith, leb_tells, ap (λ (v : List ℕ). length v) same) in
+    bind_ok (refuse_if (nat_lt (length b.here.bytes) (offset + length bytes)) BadRange) _ (unless_ok _ BadRange less) (λ u e. done_ok _))
 
 appended_ok : (d : Desk) (t : Task) (k : ℕ) (bytes : List ℕ) → NoBad (appended d t k bytes)
 unfolding appended
@@ -136,11 +132,11 @@ appended_ok d t k bytes =
     bind_ok (slot_block k t.slot) _ (block_ok k t.slot) (λ b e.
     bind_ok (slot_extend (free_pages d) k (length b.here.bytes + length bytes) t.slot) _ (extend_ok (free_pages d) k _ t.slot) (λ longer e1.
     bind_ok (slot_put k (length b.here.bytes) bytes longer) _
-      (let w = extend_is (free_pages d) k (length b.here.bytes + length bytes) t.slot longer e1 in
-        let new : List ℕ = fitted (length b.here.bytes + length bytes) w.cut.here.bytes in
-        put_ok k (length b.here.bytes) bytes new longer (changed_map w k ∙ put_same (blocks_of t.slot) k (Some new))
-        (let z = length_fitted (length b.here.bytes + length bytes) w.cut.here.bytes in omega arith))
-      (λ s e2. done_ok _)))
+    (let w = extend_is (free_pages d) k (length b.here.bytes + length bytes) t.slot longer e1 in
+    let new : List ℕ = fitted (length b.here.bytes + length bytes) w.cut.here.bytes in
+    put_ok k (length b.here.bytes) bytes new longer (changed_map w k ∙ put_same (blocks_of t.slot) k (Some new))
+    (let z = length_fitted (length b.here.bytes + length bytes) w.cut.here.bytes in omega arith))
+    (λ s e2. done_ok _)))
 
 -- ---- handlers
 
@@ -154,9 +150,9 @@ module _ (d : Desk) (t : Task) (m : Parcel) where
   save_fine =
       either Fine (receiver.on_save (is_deaf t.manner) t.taking) _ (ignored d)
       (λ e. by_grant Fine _ _ (λ x q.
-        with_step (found_or (free_anchor t.slot) AnchorInUse) _ x q (λ k e1 q1. with_step (slot_claim (free_pages d) t.buffer t.slot) _ x q1 (λ c e2 q2.
-        with_step (slot_alloc (free_pages (with_slot t.handle c.0 d)) k 0 c.0) _ x q2 (λ p e3 q3. with_step (send_letter (fetch_letter t.handle m.message.from m.message.my_ref c.1 t.buffer) (with_slot t.handle p.0 d)) _ x q3 (λ sent e4 q4.
-        subst Fine (ok_is _ x q4) refl))))) (λ r e. refl))
+      with_step (found_or (free_anchor t.slot) AnchorInUse) _ x q (λ k e1 q1. with_step (slot_claim (free_pages d) t.buffer t.slot) _ x q1 (λ c e2 q2.
+      with_step (slot_alloc (free_pages (with_slot t.handle c.0 d)) k 0 c.0) _ x q2 (λ p e3 q3. with_step (send_letter (fetch_letter t.handle m.message.from m.message.my_ref c.1 t.buffer) (with_slot t.handle p.0 d)) _ x q3 (λ sent e4 q4.
+      subst Fine (ok_is _ x q4) refl))))) (λ r e. refl))
       (λ e. refl)
 
   took_fine : (f : Taking) (n : ℕ) (after : Desk) → Fine (took after t m f n)
@@ -165,8 +161,8 @@ module _ (d : Desk) (t : Task) (m : Parcel) where
       either Fine (nat_lt n t.buffer) _ _
       (λ e. refl)
       (λ e. by_grant Fine _ _
-        (λ x q. with_step (send_letter (fetch_letter t.handle f.sender m.message.my_ref f.buffer t.buffer) after) _ x q (λ sent e1 q1. subst Fine (ok_is _ x q1) refl))
-        (λ r q. not_range r (bind_ok (send_letter (fetch_letter t.handle f.sender m.message.my_ref f.buffer t.buffer) after) _ (send_ok _ after) (λ sent e1. done_ok _) r q)))
+      (λ x q. with_step (send_letter (fetch_letter t.handle f.sender m.message.my_ref f.buffer t.buffer) after) _ x q (λ sent e1 q1. subst Fine (ok_is _ x q1) refl))
+      (λ r q. not_range r (bind_ok (send_letter (fetch_letter t.handle f.sender m.message.my_ref f.buffer t.buffer) after) _ (send_ok _ after) (λ sent e1. done_ok _) r q)))
 
   bytes_fine : (n : ℕ) (v : Option Incoming) → Fine (take_bytes d t m n v)
   unfolding take_bytes
@@ -186,8 +182,8 @@ module _ (d : Desk) (t : Task) (m : Parcel) where
   back_fine (Some (incoming.Fetching f)) =
       either Fine (f.count == 0) _ _
       (λ e. by_grant Fine _ _
-        (λ x q. with_step (send_letter (ack_letter t.handle f.sender f.id) d) _ x q (λ sent e1 q1. subst Fine (ok_is _ x q1) refl))
-        (λ r q. not_range r (bind_ok (send_letter (ack_letter t.handle f.sender f.id) d) _ (send_ok _ d) (λ sent e1. done_ok _) r q)))
+      (λ x q. with_step (send_letter (ack_letter t.handle f.sender f.id) d) _ x q (λ sent e1 q1. subst Fine (ok_is _ x q1) refl))
+      (λ r q. not_range r (bind_ok (send_letter (ack_letter t.handle f.sender f.id) d) _ (send_ok _ d) (λ sent e1. done_ok _) r q)))
       (λ e. refl)
   back_fine (Some (incoming.Draining f)) = refl
   back_fine (Some (incoming.Asking q)) = refl
@@ -212,8 +208,8 @@ module _ (d : Desk) (t : Task) (m : Parcel) where
   file_fine q (Some file) =
       either Fine (file.load == m.message.my_ref) _ _
       (λ e. by_grant Fine _ _
-        (λ x z. with_step (appended d t q.anchor file.bytes) _ x z (λ after e1 z1. subst Fine (ok_is _ x z1) (loaded_fine q _ (record after { scrap = None }))))
-        (λ r z. not_range r (bind_ok (appended d t q.anchor file.bytes) _ (appended_ok d t q.anchor file.bytes) (λ after e. done_ok _) r z)))
+      (λ x z. with_step (appended d t q.anchor file.bytes) _ x z (λ after e1 z1. subst Fine (ok_is _ x z1) (loaded_fine q _ (record after { scrap = None }))))
+      (λ r z. not_range r (bind_ok (appended d t q.anchor file.bytes) _ (appended_ok d t q.anchor file.bytes) (λ after e. done_ok _) r z)))
       (λ e. refl)
 
   load_fine : (v : Option Asked) → Fine (take_file d t m v)
@@ -228,17 +224,17 @@ module _ (d : Desk) (t : Task) (m : Parcel) where
   fetch_fine buffer amount (Some x) reach =
       by_grant Fine _ _
       (λ y q. with_step (slot_block x.anchor t.slot) _ y q (λ b e1 q1. with_step (found_or (task_at x.recipient d) NoTask) _ y q1 (λ r e2 q2.
-        with_step (send_letter (transmit_letter t.handle m (nat_lt (portion x amount b) amount) buffer (portion x amount b)) d) _ y (from_test _ _ y q2) (λ sent e4 q4. subst Fine (ok_is _ y q4) refl))))
+      with_step (send_letter (transmit_letter t.handle m (nat_lt (portion x amount b) amount) buffer (portion x amount b)) d) _ y (from_test _ _ y q2) (λ sent e4 q4. subst Fine (ok_is _ y q4) refl))))
       (λ s q. not_range s (bind_ok (slot_block x.anchor t.slot) _ (block_ok x.anchor t.slot) (λ b e1.
-        bind_ok (found_or (task_at x.recipient d) NoTask) _ (found_ok _ NoTask (λ z. cc)) (λ r e2.
-          let to : task_of x.recipient d.tasks ≡ Some r = is_found (task_at x.recipient d) NoTask r e2 in
-          let range = range_of amount ((view d).heap x.recipient buffer) (reach x refl (field_is (λ k. true) false x.recipient d.tasks r to)) in
-          let w = buffer_found buffer amount r.slot range.bytes (ap (λ (g : ℕ → Option (List ℕ)). g buffer) (sym (field_is (λ y. buffers_of y.slot) (λ a. None) x.recipient d.tasks r to)) ∙ range.there) range.fits (heap_block_at buffer r.slot) refl in
-          let place : ℕ = flex_address t.slot b.before + x.count in
-          then_ok (refuse_if (is_out_of_reach t r buffer amount place (portion x amount b)) BadRange) _
-            (unless_ok (is_out_of_reach t r buffer amount place (portion x amount b)) BadRange
-              (ap (λ (o : Option (Split Segment)). not (is_some o) && (not (holds buffer amount r.slot) || (t.handle == r.handle && overlap buffer amount place (portion x amount b)))) w.found))
-            (λ u e3. bind_ok (send_letter (transmit_letter t.handle m (nat_lt (portion x amount b) amount) buffer (portion x amount b)) d) _ (send_ok _ d) (λ sent e4. done_ok _)))) s q))
+      bind_ok (found_or (task_at x.recipient d) NoTask) _ (found_ok _ NoTask (λ z. cc)) (λ r e2.
+      let to : task_of x.recipient d.tasks ≡ Some r = is_found (task_at x.recipient d) NoTask r e2 in
+      let range = range_of amount ((view d).heap x.recipient buffer) (reach x refl (field_is (λ k. true) false x.recipient d.tasks r to)) in
+      let w = buffer_found buffer amount r.slot range.bytes (ap (λ (g : ℕ → Option (List ℕ)). g buffer) (sym (field_is (λ y. buffers_of y.slot) (λ a. None) x.recipient d.tasks r to)) ∙ range.there) range.fits (heap_block_at buffer r.slot) refl in
+      let place : ℕ = flex_address t.slot b.before + x.count in
+      then_ok (refuse_if (is_out_of_reach t r buffer amount place (portion x amount b)) BadRange) _
+      (unless_ok (is_out_of_reach t r buffer amount place (portion x amount b)) BadRange
+      (ap (λ (o : Option (Split Segment)). not (is_some o) && (not (holds buffer amount r.slot) || (t.handle == r.handle && overlap buffer amount place (portion x amount b)))) w.found))
+      (λ u e3. bind_ok (send_letter (transmit_letter t.handle m (nat_lt (portion x amount b) amount) buffer (portion x amount b)) d) _ (send_ok _ d) (λ sent e4. done_ok _)))) s q))
 
   fail_fine : (v : Option Sending) → Fine (fail_sending d t v)
   unfolding fail_sending
@@ -251,11 +247,11 @@ module _ (d : Desk) (t : Task) (m : Parcel) where
   ack_fine (Some x) =
       by_grant Fine _ _
       (λ y q. with_step (slot_block x.anchor t.slot) _ y q (λ s e1 q1.
-        with_step (send_letter (load_letter t.handle m _) (wider (scrap_shortage _ d) d)) _ y (from_test _ _ y q1) (λ sent e2 q2. subst Fine (ok_is _ y (from_test _ _ y q2)) refl)))
+      with_step (send_letter (load_letter t.handle m _) (wider (scrap_shortage _ d) d)) _ y (from_test _ _ y q1) (λ sent e2 q2. subst Fine (ok_is _ y (from_test _ _ y q2)) refl)))
       (λ r q. not_range r (bind_ok (slot_block x.anchor t.slot) _ (block_ok x.anchor t.slot) (λ s e1.
-        then_ok (refuse_if (is_some d.scrap) Busy) _ (refuse_ok _ Busy (λ z. cc)) (λ u e.
-        bind_ok (send_letter (load_letter t.handle m _) (wider (scrap_shortage _ d) d)) _ (send_ok _ _) (λ sent e2.
-        then_ok (refuse_if (nat_lt (free_pages d) (scrap_shortage (length s.here.bytes) d)) NoRoom) _ (refuse_ok _ NoRoom (λ z. cc)) (λ u e. done_ok _)))) r q))
+      then_ok (refuse_if (is_some d.scrap) Busy) _ (refuse_ok _ Busy (λ z. cc)) (λ u e.
+      bind_ok (send_letter (load_letter t.handle m _) (wider (scrap_shortage _ d) d)) _ (send_ok _ _) (λ sent e2.
+      then_ok (refuse_if (nat_lt (free_pages d) (scrap_shortage (length s.here.bytes) d)) NoRoom) _ (refuse_ok _ NoRoom (λ z. cc)) (λ u e. done_ok _)))) r q))
 
   finish_fine : (v : Option Sending) → Fine (finish_load d t v)
   unfolding finish_load
@@ -307,4 +303,4 @@ pub never_bad : {o : Offered} {e : ℕ → ℕ → Bool} (d : Desk) (name : List
 unfolding poll
 never_bad d name f g =
     bind (λ (a : Answer). is_bad_reply a.1 ≡ false) (named name d) _ (instead_of d) (λ r. refl) (λ t q. done (λ (a : Answer). is_bad_reply a.1 ≡ false) _ (instead_of d) (
-      poll_fine d t f (the_task d name t f q) g))
+    poll_fine d t f (the_task d name t f q) g))

@@ -1,11 +1,10 @@
 -- What a message does to a transfer that goes out, as a step of the reduced desk.
-use Rattle.std.proofs.Common.{◌≡◌, ℕ, ◌+◌, ◌-◌, ◌≤◌, ◌<◌, min, Bool, true, false, not, ◌&&◌, List, [], ◌∷◌, ◌++◌, length, take, drop, Option, Some, None, refl, sym, ap, ◌∙◌, subst, inl, inr, arith, length-append, length-drop, length-take}
-use Rattle.std.specs.Prelude.{if◌then◌else◌, nat_eq, nat_lt, nat_le, ◌==◌, Ok, Err, is_none, is_some}
+use Rattle.std.proofs.Common.{◌≡◌, ℕ, ◌+◌, ◌-◌, ◌≤◌, min, Bool, true, false, not, ◌&&◌, List, [], ◌++◌, length, take, drop, Option, Some, None, refl, sym, ap, ◌∙◌, subst, inl, inr, arith, length-append, length-drop, length-take}
+use Rattle.std.specs.Prelude.{if◌then◌else◌, nat_eq, nat_lt, nat_le, Ok, Err, is_none, is_some}
 use Rattle.std.specs.Option.{option_map}
-use Rattle.std.proofs.lemmas.Bool.Decides.{eqb_tells, leb_tells}
+use Rattle.std.proofs.lemmas.Bool.Decides.{leb_tells}
 use Rattle.rh_defs.specs.declared.refusal.Refusal.{Refusal}
-use Rattle.rh_defs.specs.declared.refusal.Refusal.TheVariants.{NoBlock, NoTask, BadRange, Busy, NoRoom}
-use Rattle.rh_defs.specs.declared.message.EventCode.{EventCode}
+use Rattle.rh_defs.specs.declared.refusal.Refusal.TheVariants.{NoBlock, NoTask, Busy}
 use Rattle.rh_defs.specs.declared.message.EventCode.TheVariants.{User, Recorded}
 use Rattle.rh_defs.specs.declared.message.Action.{Action}
 use Rattle.rh_defs.specs.declared.message.Action.TheVariants as action
@@ -15,24 +14,24 @@ use Rattle.rh_defs.specs.declared.reply.Outcome.TheVariants as outcome
 use Rattle.rh_defs.specs.declared.transfer.Sending.{Sending}
 use Rattle.rh_defs.specs.declared.transfer.Outgoing.{Outgoing}
 use Rattle.rh_defs.specs.declared.transfer.Outgoing.TheVariants as outgoing
-use Rattle.rh_defs.specs.Chain.{Granted, ◌>>=◌, ◌>>◌, refuse_if, found_or, or_else}
+use Rattle.rh_defs.specs.Chain.{Granted, ◌>>=◌, refuse_if, found_or}
 use Rattle.rh_defs.specs.Pieces.{Split, total, written, with_here}
-use Rattle.rh_defs.specs.Heap.{Segment, Used, Heap, bytes_of, size_of, first_place, place_after, is_block_at}
+use Rattle.rh_defs.specs.Heap.{Segment, Used, bytes_of, size_of, first_place, place_after, is_block_at}
 use Rattle.rh_defs.specs.Slot.{Slot, Flex, weight, flex_start, block_of, heap_start, heap_block_at, slot_block}
 use Rattle.rh_defs.specs.Messages.{Parcel}
 use Rattle.rh_defs.specs.Letters.{transmit_letter, load_letter}
 use Rattle.rh_defs.specs.Records.{out_id, with_id, open_of}
 use Rattle.rh_defs.specs.Sender as sender
 use Rattle.rh_defs.specs.Places.{buffer_at, with_heap_bytes, written_in}
-use Rattle.rh_defs.specs.Desk.{Desk, Task, Scrap, next_ref, free_pages, task_at, with_task, with_sending, send_letter}
-use Rattle.rh_defs.specs.OutgoingEvents.{Handled, ignored, portion, is_out_of_reach, transmit, refused, answer_fetch, fail_sending, scrap_shortage, wider, save_scrap, answer_ack, finish_load}
+use Rattle.rh_defs.specs.Desk.{Desk, Task, Scrap, next_ref, task_at, with_task, with_sending, send_letter}
+use Rattle.rh_defs.specs.OutgoingEvents.{Handled, portion, transmit, refused, answer_fetch, fail_sending, scrap_shortage, wider, save_scrap, answer_ack, finish_load}
 use Rattle.rh_safety.specs.View.{view, seen_letter, seen_scrap, blocks_of, buffers_of, task_of}
 use Rattle.rh_safety.specs.HeapMap.{bytes_at, heap_map, IsMoved}
 use Rattle.rh_safety.specs.Ends.{Letter, Has, put}
 use Rattle.rh_safety.specs.Protocol as protocol
 use Rattle.rh_safety.specs.Protocol.{Luck}
 use Rattle.rh_safety.specs.Schedules.{range_is_bad}
-use Rattle.rh_safety.proofs.Basics.{none_some, either, and_left, and_right, is_equal, open_is, first_is}
+use Rattle.rh_safety.proofs.Basics.{none_some, either, and_left, is_equal, open_is, first_is}
 use Rattle.rh_safety.proofs.FlexMaps as flex
 use Rattle.rh_safety.proofs.HeapMaps as heaps
 use Rattle.rh_safety.proofs.SeenTasks.{Same, field_is, live_of, slot_is, slot_at, outs_view, buffer_view}
@@ -40,7 +39,7 @@ use Rattle.rh_safety.proofs.SeenFrames.{Fits, is_found}
 use Rattle.rh_safety.proofs.SeenBlocks.{from_test, ok_is, not_refused}
 use Rattle.rh_safety.proofs.SeenHeaps.{cut_is, used_is, shifted}
 use Rattle.rh_safety.proofs.SeenSends.{by_grant, with_step, sent_view, sent_live, sent_slot, from_first}
-use Rattle.rh_safety.proofs.SeenHandled.{letter_of, HasRoom, CameAs, lucky, unlucky, has_room, buffer_is, block_there}
+use Rattle.rh_safety.proofs.SeenHandled.{letter_of, CameAs, lucky, unlucky, has_room, buffer_is, block_there}
 
 -- ---- bytes written into a buffer
 
@@ -60,8 +59,8 @@ written_map a s c new q le k =
     let bytes = written (bytes_of c.here) 0 new in
     let len : length bytes ≡ length u.bytes = written_length new (bytes_of c.here) le ∙ ap (λ (g : Segment). length (bytes_of g)) u.here in
     let m : IsMoved s.heap (record s.heap { segments = with_here c (Used bytes) }) (place_after c.before + 4) (place_after c.before + 4) bytes =
-        heaps.in_place u.bytes bytes s.heap c (with_here c (Used bytes)) c.after (record { cut = record { whole = cut.whole }; here = u.here }) (λ b. refl)
-        (λ b. ap (λ n. bytes_at (place_after c.before + (4 + n)) c.after b) len) in
+    heaps.in_place u.bytes bytes s.heap c (with_here c (Used bytes)) c.after (record { cut = record { whole = cut.whole }; here = u.here }) (λ b. refl)
+    (λ b. ap (λ n. bytes_at (place_after c.before + (4 + n)) c.after b) len) in
     m.moved (k - heap_start) ∙ heaps.put_twice (heap_map s.heap) (place_after c.before + 4) None (Some bytes) (k - heap_start) ∙
     shifted (heap_map s.heap) (place_after c.before + 4) (Some bytes) k (omega arith) ∙ ap (λ n. put (buffers_of s) n (Some bytes) k) (let y = u.at_ in omega arith)
 
@@ -95,15 +94,15 @@ buffer_found a n s old q le (Some c) e =
 -- the answer to a fetch, by whether it is the last
 transmits_is : (D : protocol.Desk) (h to buffer n amount : ℕ) (l : Letter) (x : Sending) (S old : List ℕ) (c : Bool) → to ≡ x.recipient →
     record (protocol.with_heap (protocol.sent D h (record { code = if c then User else Recorded; to = to; letter = record { from = h; me = D.next_ref; answers = l.me; kind = action.RamTransmit; address = l.address; amount = n } }))
-      x.recipient l.address (Some (take n (drop x.count S) ++ drop n old))) {
+    x.recipient l.address (Some (take n (drop x.count S) ++ drop n old))) {
       sending = put D.sending h (with_id out_id x.id (if c then outgoing.Done x.id (x.count + n) else outgoing.Open (record x { count = x.count + n; last = D.next_ref })) (D.sending h));
     } ≡ protocol.transmits D h l x S old n c
 transmits_is D h to buffer n amount l x S old true e =
     ap (λ k. record (protocol.with_heap (protocol.sent D h (record { code = User; to = k; letter = record { from = h; me = D.next_ref; answers = l.me; kind = action.RamTransmit; address = l.address; amount = n } }))
-      x.recipient l.address (Some (take n (drop x.count S) ++ drop n old))) { sending = put D.sending h (with_id out_id x.id (outgoing.Done x.id (x.count + n)) (D.sending h)) }) e
+    x.recipient l.address (Some (take n (drop x.count S) ++ drop n old))) { sending = put D.sending h (with_id out_id x.id (outgoing.Done x.id (x.count + n)) (D.sending h)) }) e
 transmits_is D h to buffer n amount l x S old false e =
     ap (λ k. record (protocol.with_heap (protocol.sent D h (record { code = Recorded; to = k; letter = record { from = h; me = D.next_ref; answers = l.me; kind = action.RamTransmit; address = l.address; amount = n } }))
-      x.recipient l.address (Some (take n (drop x.count S) ++ drop n old))) { sending = put D.sending h (with_id out_id x.id (outgoing.Open (record x { count = x.count + n; last = D.next_ref })) (D.sending h)) }) e
+    x.recipient l.address (Some (take n (drop x.count S) ++ drop n old))) { sending = put D.sending h (with_id out_id x.id (outgoing.Open (record x { count = x.count + n; last = D.next_ref })) (D.sending h)) }) e
 
 -- a block that is there is granted
 block_grants : (k : ℕ) (s : Slot) (S : List ℕ) → blocks_of s k ≡ Some S → (c : Split Flex) × (slot_block k s ≡ Ok c)
@@ -234,12 +233,12 @@ module _ (d : Desk) (t : Task) (m : Parcel) (f : Fits d) (is : task_of t.handle 
       let from : m.message.from ≡ x.recipient = is_equal _ _ (and_left (nat_eq m.message.from x.recipient) _ (and_left _ (nat_le 1 amount) found.1)) in
       by_grant (λ (y : Handled). CameAs lost action.RamFetch y (λ luck. protocol.on_fetch (view d) h luck (letter_of m b0) (Some x))) _ _
       (λ y q. with_step (slot_block x.anchor t.slot) _ y q (λ b e1 q1.
-        with_step (found_or (task_at x.recipient d) NoTask) _ y q1 (λ r e2 q2.
-        with_step (send_letter (transmit_letter h m (nat_lt (portion x amount b) amount) buffer (portion x amount b)) d) _ y (from_test _ _ y q2) (λ sent e4 q4.
-          let to : task_of x.recipient d.tasks ≡ Some r = is_found (task_at x.recipient d) NoTask r e2 in
-          let same : r.handle ≡ x.recipient = is_equal _ _ (first_is (λ (k : Task). nat_eq k.handle x.recipient) d.tasks r to).1 in
-          subst (λ (z : Handled). CameAs lost action.RamFetch z (λ luck. protocol.on_fetch (view d) h luck (letter_of m b0) (Some x))) (ok_is _ y q4)
-          (transmitted buffer amount x b.here.bytes r sent (portion x amount b) refl (source_seen x b e1) from to same (reach x refl (field_is (λ k. true) false x.recipient d.tasks r to)) e4)))))
+      with_step (found_or (task_at x.recipient d) NoTask) _ y q1 (λ r e2 q2.
+      with_step (send_letter (transmit_letter h m (nat_lt (portion x amount b) amount) buffer (portion x amount b)) d) _ y (from_test _ _ y q2) (λ sent e4 q4.
+      let to : task_of x.recipient d.tasks ≡ Some r = is_found (task_at x.recipient d) NoTask r e2 in
+      let same : r.handle ≡ x.recipient = is_equal _ _ (first_is (λ (k : Task). nat_eq k.handle x.recipient) d.tasks r to).1 in
+      subst (λ (z : Handled). CameAs lost action.RamFetch z (λ luck. protocol.on_fetch (view d) h luck (letter_of m b0) (Some x))) (ok_is _ y q4)
+      (transmitted buffer amount x b.here.bytes r sent (portion x amount b) refl (source_seen x b e1) from to same (reach x refl (field_is (λ k. true) false x.recipient d.tasks r to)) e4)))))
       (λ refusal q. fetch_refused b0 x refusal)
 
   pub fetch_came : (buffer amount : ℕ) →
@@ -309,10 +308,10 @@ module _ (d : Desk) (t : Task) (m : Parcel) (f : Fits d) (is : task_of t.handle 
       let from : m.message.from ≡ x.recipient = is_equal _ _ (and_left (nat_eq m.message.from x.recipient) _ (and_left _ (nat_eq x.id x.last) found.1)) in
       by_grant (λ (y : Handled). CameAs lost action.DataSaveAck y (λ luck. protocol.on_ack (view d) h luck (letter_of m b) (Some x))) _ _
       (λ y q. with_step (slot_block x.anchor t.slot) _ y q (λ s e1 q1.
-        let none = from_first (refuse_if (is_some d.scrap) Busy) _ y q1 in
-        with_step (send_letter (load_letter h m (length s.here.bytes)) (wider (scrap_shortage (length s.here.bytes) d) d)) _ y (from_test _ _ y q1) (λ sent e2 q2.
-          subst (λ (z : Handled). CameAs lost action.DataSaveAck z (λ luck. protocol.on_ack (view d) h luck (letter_of m b) (Some x))) (ok_is _ y (from_test _ _ y q2))
-          (filed_as b x s.here.bytes sent (scrap_shortage (length s.here.bytes) d) (source_seen x s e1) from (not_refused (is_some d.scrap) Busy none.0 none.1) e2))))
+      let none = from_first (refuse_if (is_some d.scrap) Busy) _ y q1 in
+      with_step (send_letter (load_letter h m (length s.here.bytes)) (wider (scrap_shortage (length s.here.bytes) d) d)) _ y (from_test _ _ y q1) (λ sent e2 q2.
+      subst (λ (z : Handled). CameAs lost action.DataSaveAck z (λ luck. protocol.on_ack (view d) h luck (letter_of m b) (Some x))) (ok_is _ y (from_test _ _ y q2))
+      (filed_as b x s.here.bytes sent (scrap_shortage (length s.here.bytes) d) (source_seen x s e1) from (not_refused (is_some d.scrap) Busy none.0 none.1) e2))))
       (λ refusal q. ack_refused b x refusal)
 
   pub ack_came : (b : Body) → CameAs lost action.DataSaveAck (answer_ack d t m (sender.on_ack m.message.from m.message.your_ref t.sending))
@@ -328,14 +327,14 @@ module _ (d : Desk) (t : Task) (m : Parcel) (f : Fits d) (is : task_of t.handle 
   load_ack_by (Some x) there =
       by_grant (λ (y : Handled). CameAs lost action.DataLoadAck y (λ luck. protocol.on_load_ack (view d) h (Some x))) _ _
       (λ y q. with_step (slot_block x.anchor t.slot) _ y q (λ s e1 q1.
-        subst (λ (z : Handled). CameAs lost action.DataLoadAck z (λ luck. protocol.on_load_ack (view d) h (Some x))) (ok_is _ y q1)
-        (record {
-          luck = lucky lost 0 0 0;
-          lost_is = refl;
-          seen = outs_view d h (sender.loaded x (length s.here.bytes)) live ∙
-              ap (λ (v : List ℕ). protocol.with_out (view d) h x (outgoing.Done x.id (length v))) (sym (source_seen x s e1));
-          room = λ z. has_room lost 0 0 0;
-        })))
+      subst (λ (z : Handled). CameAs lost action.DataLoadAck z (λ luck. protocol.on_load_ack (view d) h (Some x))) (ok_is _ y q1)
+      (record {
+        luck = lucky lost 0 0 0;
+        lost_is = refl;
+        seen = outs_view d h (sender.loaded x (length s.here.bytes)) live ∙
+            ap (λ (v : List ℕ). protocol.with_out (view d) h x (outgoing.Done x.id (length v))) (sym (source_seen x s e1));
+        room = λ z. has_room lost 0 0 0;
+      })))
       (λ refusal q. let c = block_grants x.anchor t.slot (there x refl).0 (there x refl).1 in absurd (no_refusal (slot_block x.anchor t.slot) c.0 _ refusal c.1 q))
 
   pub load_ack_came : (b : Body) → ((x : Sending) → Has (outgoing.Open x) ((view d).sending h) → (S : List ℕ) × ((view d).block h x.anchor ≡ Some S)) →
@@ -343,6 +342,6 @@ module _ (d : Desk) (t : Task) (m : Parcel) (f : Fits d) (is : task_of t.handle 
       (λ luck. protocol.on_load_ack (view d) h (open_of (protocol.is_loaded (letter_of m b)) ((view d).sending h)))
   load_ack_came b there =
       let w = load_ack_by (sender.on_load_ack m.message.from m.message.your_ref t.sending) (λ x e.
-        let s = there x (subst (λ (xs : List Outgoing). Has (outgoing.Open x) xs) (sym records) (open_is (sender.is_loaded m.message.from m.message.your_ref) t.sending x e).0) in
-        (s.0, ap (λ (g : ℕ → Option (List ℕ)). g x.anchor) (sym block_seen) ∙ s.1)) in
+      let s = there x (subst (λ (xs : List Outgoing). Has (outgoing.Open x) xs) (sym records) (open_is (sender.is_loaded m.message.from m.message.your_ref) t.sending x e).0) in
+      (s.0, ap (λ (g : ℕ → Option (List ℕ)). g x.anchor) (sym block_seen) ∙ s.1)) in
       record { luck = w.luck; lost_is = w.lost_is; seen = w.seen ∙ sym (ap (λ (xs : List Outgoing). protocol.on_load_ack (view d) h (open_of (protocol.is_loaded (letter_of m b)) xs)) records); room = w.room }

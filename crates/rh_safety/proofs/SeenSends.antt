@@ -1,6 +1,6 @@
 -- A letter sent, as what is seen of the desk.
-use Rattle.std.proofs.Common.{◌≡◌, ◌≢◌, ℕ, suc, ◌+◌, ◌-◌, ◌<◌, ◌≤◌, Bool, true, false, not, ◌&&◌, ◌||◌, List, [], ◌∷◌, ◌++◌, length, Option, Some, None, refl, sym, ap, ◌∙◌, subst, inl, inr, arith}
-use Rattle.std.specs.Prelude.{if◌then◌else◌, nat_eq, nat_le, ◌==◌, map, Ok, Err}
+use Rattle.std.proofs.Common.{◌≡◌, ℕ, ◌+◌, Bool, true, false, not, List, [], ◌∷◌, ◌++◌, Option, Some, None, refl, sym, ap, ◌∙◌, subst, inl, inr, arith}
+use Rattle.std.specs.Prelude.{if◌then◌else◌, nat_eq, map, Ok, Err}
 use Rattle.std.specs.Option.{option_map}
 use Rattle.std.proofs.lemmas.Bool.Decides.{eqb_tells}
 use Rattle.rh_defs.specs.declared.refusal.Refusal.{Refusal}
@@ -11,14 +11,13 @@ use Rattle.rh_defs.specs.Module.{module_claim}
 use Rattle.rh_defs.specs.Messages.{Parcel, parcel_size}
 use Rattle.rh_defs.specs.Post.{Seat, Post, has_seat, held_by, with_held, answers_held, message_of, parcel_of, put_down, queued_in, posted, sendable, post_send}
 use Rattle.rh_defs.specs.Slot.{new_slot}
-use Rattle.rh_defs.specs.Desk.{Desk, Task, edit_task, with_task, with_post, free_pages, send_letter}
+use Rattle.rh_defs.specs.Desk.{Desk, Task, with_task, with_post, free_pages, send_letter}
 use Rattle.rh_defs.specs.IncomingEvents.{is_deaf}
 use Rattle.rh_defs.specs.Transfer.{answers_none}
-use Rattle.rh_safety.specs.View.{view, seen_parcel, seen_letter, seen_last, blocks_of, buffers_of, task_of, field}
+use Rattle.rh_safety.specs.View.{view, seen_parcel, seen_letter, seen_last, blocks_of, buffers_of}
 use Rattle.rh_safety.specs.Ends.{Message, put}
 use Rattle.rh_safety.specs.Protocol as protocol
 use Rattle.rh_safety.proofs.SeenTasks.{Same, same_desk, change_other, change_here, unput, task_or, task_is, slot_at}
-use Rattle.rh_safety.proofs.SeenFrames.{Fits}
 use Rattle.rh_safety.proofs.SeenBlocks.{from_bind, from_test, ok_is, not_refused}
 
 pub map_append : {A B : Type 0} (f : A → B) (xs ys : List A) → map f (xs ++ ys) ≡ map f xs ++ map f ys

@@ -1,6 +1,6 @@
 -- A new task.
-use Rattle.std.proofs.Common.{◌≡◌, ◌≢◌, ℕ, ◌+◌, ◌<◌, Bool, true, false, List, [], ◌∷◌, ◌++◌, Option, Some, None, refl, sym, ap, ◌∙◌, subst, inl, inr, arith}
-use Rattle.std.specs.Prelude.{if◌then◌else◌, nat_eq, nat_lt, ◌==◌, find, map, Ok}
+use Rattle.std.proofs.Common.{◌≡◌, ℕ, Bool, true, false, List, [], ◌∷◌, ◌++◌, Option, Some, None, refl, sym, ap, ◌∙◌, inl, inr, arith}
+use Rattle.std.specs.Prelude.{nat_eq, nat_lt, Ok}
 use Rattle.std.specs.Option.{option_map}
 use Rattle.std.proofs.lemmas.Bool.Decides.{eqb_tells}
 use Rattle.std.proofs.lemmas.Bool.{eq-eqb}
@@ -79,10 +79,10 @@ task_follows d name buffer manner some g =
     let s : Silent c = record { offers = λ o e r. refl; edits = λ o e r. refl } in
     test (Follows d c) _ _ (instead_of d) (refused d c s) (λ u1 v1. test (Follows d c) _ _ (instead_of d) (refused d c s) (λ u2 v2. test (Follows d c) _ _ (instead_of d) (refused d c s) (λ u3 v3.
     bind (Follows d c) _ _ (instead_of d) (refused d c s) (λ n z. done (Follows d c) _ (instead_of d) (
-      let none : task_of d.next_handle d.tasks ≡ None = no_task_of d d.next_handle (λ l. let w = g.inv.alive d.next_handle l in omega arith) in
-      record {
-        moves = protocol.Start buffer (is_deaf manner) (answers_none manner) ∷ [];
-        seen = ap (λ y. view (with_new_task name buffer manner y d)) (sym (begin_is (free_pages d) n z)) ∙ started_view d name buffer manner none ∙ rw some refl;
-        offers = λ o. refl;
-        edits = λ e. refl;
-      })))))
+    let none : task_of d.next_handle d.tasks ≡ None = no_task_of d d.next_handle (λ l. let w = g.inv.alive d.next_handle l in omega arith) in
+    record {
+      moves = protocol.Start buffer (is_deaf manner) (answers_none manner) ∷ [];
+      seen = ap (λ y. view (with_new_task name buffer manner y d)) (sym (begin_is (free_pages d) n z)) ∙ started_view d name buffer manner none ∙ rw some refl;
+      offers = λ o. refl;
+      edits = λ e. refl;
+    })))))

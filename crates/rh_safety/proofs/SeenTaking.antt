@@ -1,19 +1,18 @@
 -- What a poll does to the post, as what is seen of it.
-use Rattle.std.proofs.Common.{◌≡◌, ◌≢◌, ℕ, ◌+◌, Bool, true, false, List, [], ◌∷◌, ◌++◌, Option, Some, None, refl, sym, ap, ◌∙◌, subst, inl, inr}
-use Rattle.std.specs.Prelude.{if◌then◌else◌, nat_eq, ◌==◌, map}
+use Rattle.std.proofs.Common.{◌≡◌, ℕ, Bool, true, false, List, [], ◌∷◌, ◌++◌, Option, Some, None, refl, sym, ap, ◌∙◌, subst, inl, inr}
+use Rattle.std.specs.Prelude.{if◌then◌else◌, map}
 use Rattle.std.specs.Option.{option_map}
 use Rattle.std.proofs.lemmas.Bool.Decides.{eqb_tells}
 use Rattle.rh_defs.specs.declared.message.EventCode.{EventCode}
 use Rattle.rh_defs.specs.declared.message.EventCode.TheVariants.{User, Recorded, Acknowledge}
 use Rattle.rh_defs.specs.Messages.{Parcel}
-use Rattle.rh_defs.specs.Post.{Seat, Post, has_seat, held_by, with_held, without_block, bounced, bounce_held, is_recorded, behind_first, first_for, held_or_released, taken_from, taken, post_poll}
-use Rattle.rh_defs.specs.Desk.{Desk, Task, Scrap, kept_scrap, with_post, with_delivered}
+use Rattle.rh_defs.specs.Post.{Seat, Post, has_seat, held_by, with_held, without_block, bounce_held, is_recorded, behind_first, first_for, taken_from, taken, post_poll}
+use Rattle.rh_defs.specs.Desk.{Desk, with_post, with_delivered}
 use Rattle.rh_safety.specs.View.{view, seen_parcel, seen_scrap}
 use Rattle.rh_safety.specs.Ends.{Message, put}
 use Rattle.rh_safety.specs.Ends as post
 use Rattle.rh_safety.specs.Protocol as protocol
 use Rattle.rh_safety.proofs.Basics.{none_some}
-use Rattle.rh_safety.proofs.SeenTasks.{Same}
 use Rattle.rh_safety.proofs.SeenFrames.{Fits}
 use Rattle.rh_safety.proofs.SeenSends.{held_put, held_got, seats_held, held_seen}
 use Rattle.rh_safety.proofs.SeenPosts.{bounced_leads, live_bounced, kept_is}
@@ -149,15 +148,15 @@ module _ (d : Desk) (h : ℕ) (f : Fits d) (live : (view d).live h ≡ true) whe
       let seen : view (with_post p.0 d) ≡ picked_by h (option_map seen_parcel p.1) r = w.seen ∙ ap (picked_by h (option_map seen_parcel p.1)) seen_before in
       elim (kept_is p.0 d.scrap) as (λ _. IsTaken d h p) [
         | inl kept ↦ record {
-            lost = false;
-            first = first;
-            seen = ap (λ v. with_scrap (option_map seen_scrap v) (view (with_post p.0 d))) kept ∙ seen;
-            seats = w.seats;
-          }
+          lost = false;
+          first = first;
+          seen = ap (λ v. with_scrap (option_map seen_scrap v) (view (with_post p.0 d))) kept ∙ seen;
+          seats = w.seats;
+        }
         | inr gone ↦ record {
-            lost = true;
-            first = first;
-            seen = ap (λ v. with_scrap (option_map seen_scrap v) (view (with_post p.0 d))) gone ∙ ap (with_scrap None) seen ∙ lost_before h (option_map seen_parcel p.1) r;
-            seats = w.seats;
-          }
+          lost = true;
+          first = first;
+          seen = ap (λ v. with_scrap (option_map seen_scrap v) (view (with_post p.0 d))) gone ∙ ap (with_scrap None) seen ∙ lost_before h (option_map seen_parcel p.1) r;
+          seats = w.seats;
+        }
       ]

@@ -1,22 +1,15 @@
 -- Two tasks polled in turn, on the desk itself.
-use Rattle.std.proofs.Common.{◌≡◌, ◌≢◌, ℕ, zero, suc, ◌+◌, ◌-◌, ◌*◌, ◌/◌, ◌%◌, ◌<◌, ◌≤◌, Bool, true, false, not, ◌&&◌, List, [], ◌∷◌, ◌++◌, length, Option, Some, None, refl, sym, ap, ◌∙◌, subst, inl, inr, arith}
-use Rattle.std.specs.Prelude.{if◌then◌else◌, nat_lt, nat_le, ◌==◌, find, map, Ok, Err, is_some}
+use Rattle.std.proofs.Common.{◌≡◌, ℕ, zero, suc, ◌+◌, ◌-◌, ◌*◌, ◌/◌, ◌<◌, ◌≤◌, Bool, true, false, not, List, [], ◌∷◌, length, Option, Some, None, refl, sym, ap, ◌∙◌, subst, inl, inr, arith}
+use Rattle.std.specs.Prelude.{if◌then◌else◌, ◌==◌, find, map, Ok}
 use Rattle.std.specs.Option.{option_map}
-use Rattle.std.specs.List.{list_any, list_all}
-use Rattle.std.proofs.lemmas.Bool.Decides.{eqb_tells}
-use Rattle.rh_defs.specs.declared.refusal.Refusal.{Refusal}
+use Rattle.std.specs.List.{list_any}
 use Rattle.rh_defs.specs.declared.refusal.Refusal.TheVariants.{NoName}
 use Rattle.rh_defs.specs.declared.command.Command.{Command}
 use Rattle.rh_defs.specs.declared.command.Command.TheVariants as command
-use Rattle.rh_defs.specs.declared.message.Action.TheVariants as action
 use Rattle.rh_defs.specs.declared.message.EventCode.TheVariants.{Recorded}
-use Rattle.rh_defs.specs.declared.reply.Reply.{Reply}
 use Rattle.rh_defs.specs.declared.reply.Reply.TheVariants as reply
-use Rattle.rh_defs.specs.declared.transfer.Outgoing.{Outgoing}
-use Rattle.rh_defs.specs.declared.transfer.Outgoing.TheVariants as outgoing
 use Rattle.rh_defs.specs.declared.transfer.Incoming.{Incoming}
-use Rattle.rh_defs.specs.declared.transfer.Incoming.TheVariants as incoming
-use Rattle.rh_defs.specs.Forms.{is_name, is_anchor, is_leaf}
+use Rattle.rh_defs.specs.Forms.{is_name}
 use Rattle.rh_defs.specs.Range.{in_range}
 use Rattle.rh_defs.specs.Messages.{Parcel}
 use Rattle.rh_defs.specs.Post.{Seat, held_by, post_poll}
@@ -24,13 +17,13 @@ use Rattle.rh_defs.specs.Chain.{◌>>=◌, found_or, or_else}
 use Rattle.rh_defs.specs.Desk.{Desk, Task, has_name, task_at, named, with_delivered}
 use Rattle.rh_defs.specs.Commands.{Answer}
 use Rattle.rh_defs.specs.Step.{poll, poll_taken, step}
-use Rattle.rh_defs.specs.Runs.{after, replies}
+use Rattle.rh_defs.specs.Runs.{after}
 use Rattle.rh_safety.specs.View.{view, seen_parcel, blocks_of, of, task_of}
 use Rattle.rh_safety.specs.Ends as post
 use Rattle.rh_safety.specs.Schedules.{offers_from}
 use Rattle.rh_defs.specs.Records.{is_open, is_going}
 use Rattle.rh_defs.specs.Transfer.{answers_none}
-use Rattle.rh_safety.specs.History.{is_refused_poll, all_granted, turns, turns_before, CanAlternate, SenderDone, ReceiverDone, Alternates, bytes_of_block}
+use Rattle.rh_safety.specs.History.{is_refused_poll, all_granted, turns, turns_before, CanAlternate, SenderDone, ReceiverDone, Alternates}
 use Rattle.rh_safety.specs.Ends.{Has, Out, Open, Out_done, In_done, Message, Plain}
 use Rattle.rh_safety.specs.Protocol as protocol
 use Rattle.rh_safety.specs.Protocol.{Luck}
@@ -38,14 +31,13 @@ use Rattle.rh_safety.proofs.Basics.{either, and_left, and_right, none_some, not_
 use Rattle.rh_safety.proofs.Invariant.{Offered, Good}
 use Rattle.rh_safety.proofs.Runs.{run_good}
 use Rattle.rh_safety.proofs.Turns.{Waiting, Answered, waiting_lost, answered_lost, lost_buf, polled_is, sender_last, sender_full, sender_record, receiver_last, receiver_full, GoesOn, AllCame, Ready, ready_lost, saved_lost, first_one, offer, offer_queued, none_held, receiver_first, out_rest, in_rest}
-use Rattle.rh_safety.proofs.SeenTasks.{found_task, field_is, live_of, task_or, task_is}
+use Rattle.rh_safety.proofs.SeenTasks.{found_task, field_is, live_of}
 use Rattle.rh_safety.proofs.SeenFrames.{Fits}
-use Rattle.rh_safety.proofs.SeenHandled.{HasRoom}
 use Rattle.rh_safety.proofs.SeenKeys.{keys_of, named_in, handle_named, SameKeys}
 use Rattle.rh_safety.proofs.SeenNames.{handled_keys}
 use Rattle.rh_safety.proofs.SeenPolls.{IsPoll, poll_is}
 use Rattle.rh_safety.proofs.SeenSaves.{IsSaved, save_step}
-use Rattle.rh_safety.proofs.SeenLaws.{Keeps, follows, block_is}
+use Rattle.rh_safety.proofs.SeenLaws.{Keeps, block_is}
 
 -- ---- one poll, by name
 
@@ -157,7 +149,7 @@ module _ (K : Desk → Type 0) (keeps : Keeps K) (o : Offered) (e : ℕ → ℕ 
           let eq = turn_is d hs (step d (command.Poll s)) p.poll (w.waits.held hs) in
           let v : Out = Out_done id (length source) in
           let waits : Answered os ws (view d1) doc address hs hr id anchor k (length source - k) sent.me v Plain source =
-              subst (λ (y : protocol.Desk). Answered os ws y doc address hs hr id anchor k (length source - k) sent.me v Plain source) (sym eq) sent.waits in
+          subst (λ (y : protocol.Desk). Answered os ws y doc address hs hr id anchor k (length source - k) sent.me v Plain source) (sym eq) sent.waits in
           let size1 : (view d1).buf hr ≡ buf = ap (λ (y : protocol.Desk). y.buf hr) eq ∙ sent.size ∙ lost_buf b (view d) hr ∙ w.size in
           let tasks1 = next_tasks d hs (step d (command.Poll s)) w.tasks p in
           let q1 = rest_granted d (command.Poll s) (turns r s zero) q in
@@ -166,7 +158,7 @@ module _ (K : Desk → Type 0) (keeps : Keeps K) (o : Offered) (e : ℕ → ℕ 
           let b2 = p2.poll.luck.lost in
           let eq2 = turn_is d1 hr (step d1 (command.Poll r)) p2.poll (waits.held hr) in
           let came = receiver_last os ws (protocol.lost_if b2 (view d1)) doc address hs hr id anchor k (length source - k) sent.me source (answered_lost b2 waits) (omega arith)
-              (let z = lost_buf b2 (view d1) hr in omega arith) p2.poll.luck room2.extend in
+          (let z = lost_buf b2 (view d1) hr in omega arith) p2.poll.luck room2.extend in
           record {
             sent = sender_record waits;
             came = subst (λ (y : protocol.Desk). AllCame y doc hs hr id source) (sym eq2) came;
@@ -189,8 +181,8 @@ module _ (K : Desk → Type 0) (keeps : Keeps K) (o : Offered) (e : ℕ → ℕ 
           let eq = turn_is d hs (step d (command.Poll s)) p.poll (w.waits.held hs) in
           let v : ℕ → Out = λ m. Open (record { id = id; recipient = hr; anchor = anchor; count = k + m; last = sent.me }) in
           let waits : Answered os ws (view d1) doc address hs hr id anchor k buf sent.me (v buf) Recorded source =
-              subst (λ (y : protocol.Desk). Answered os ws y doc address hs hr id anchor k buf sent.me (v buf) Recorded source) (sym eq)
-              (subst (λ (m : ℕ). Answered os ws (protocol.after_return L hs p.poll.luck) doc address hs hr id anchor k m sent.me (v m) Recorded source) n sent.waits) in
+          subst (λ (y : protocol.Desk). Answered os ws y doc address hs hr id anchor k buf sent.me (v buf) Recorded source) (sym eq)
+          (subst (λ (m : ℕ). Answered os ws (protocol.after_return L hs p.poll.luck) doc address hs hr id anchor k m sent.me (v m) Recorded source) n sent.waits) in
           let size1 : (view d1).buf hr ≡ buf = ap (λ (y : protocol.Desk). y.buf hr) eq ∙ sent.size ∙ n in
           let tasks1 = next_tasks d hs (step d (command.Poll s)) w.tasks p in
           let q1 = rest_granted d (command.Poll s) (turns r s (suc j)) q in
@@ -200,8 +192,8 @@ module _ (K : Desk → Type 0) (keeps : Keeps K) (o : Offered) (e : ℕ → ℕ 
           let d2 : Desk = (step d1 (command.Poll r)).0 in
           let eq2 = turn_is d1 hr (step d1 (command.Poll r)) p2.poll (waits.held hr) in
           let on : GoesOn os ws (protocol.lost_if b2 (view d1)) (protocol.after_return (protocol.lost_if b2 (view d1)) hr p2.poll.luck) doc address hs hr id anchor (k + buf) source =
-              receiver_full os ws (protocol.lost_if b2 (view d1)) doc address hs hr id anchor k buf sent.me source (answered_lost b2 waits) (omega arith)
-              (sym size1 ∙ sym (lost_buf b2 (view d1) hr)) p2.poll.luck room2.extend room2.send in
+          receiver_full os ws (protocol.lost_if b2 (view d1)) doc address hs hr id anchor k buf sent.me source (answered_lost b2 waits) (omega arith)
+          (sym size1 ∙ sym (lost_buf b2 (view d1) hr)) p2.poll.luck room2.extend room2.send in
           more_turns j d2 (k + buf) (record {
             tasks = next_tasks d1 hr (step d1 (command.Poll r)) tasks1 p2;
             waits = subst (λ (y : protocol.Desk). Waiting os ws y doc address hs hr id anchor (k + buf) source) (sym eq2) on.waits;
@@ -339,7 +331,7 @@ module _ (K : Desk → Type 0) (keeps : Keeps K) (o : Offered) (e : ℕ → ℕ 
   begins =
       let m = offer D hs hr k in
       let found : post.first_for hr (protocol.lost_if luck.lost (protocol.returned (view d0) hr ((view d0).held hr))).queue ≡ Some m =
-          ap (λ (y : protocol.Desk). post.first_for hr y.queue) same ∙ ap (post.first_for hr) (offer_queued D hs hr k source ready1) ∙ first_one hr m refl in
+      ap (λ (y : protocol.Desk). post.first_for hr y.queue) same ∙ ap (post.first_for hr) (offer_queued D hs hr k source ready1) ∙ first_one hr m refl in
       ap (λ (y : protocol.Desk). protocol.can_begin (protocol.picked y hr m Recorded) hr luck m.letter) (sym same) ∙ first.poll.begins m found refl refl not_refused_first
 
   abbrev d1 : Desk
@@ -379,10 +371,11 @@ module _ (K : Desk → Type 0) (keeps : Keeps K) (o : Offered) (e : ℕ → ℕ 
   alternates_suc : (n : ℕ) → suc j ≡ n →
       SenderDone (after d (command.Save s k r leaf ∷ turns_before r s n)) hs id source × SenderDone (after d (command.Save s k r leaf ∷ turns r s n)) hs id source × ReceiverDone (after d (command.Save s k r leaf ∷ turns r s n)) hr id source
   alternates_suc n q =
-      subst (λ i. SenderDone (after d (command.Save s k r leaf ∷ turns_before r s i)) hs id source × SenderDone (after d (command.Save s k r leaf ∷ turns r s i)) hs id source × ReceiverDone (after d (command.Save s k r leaf ∷ turns r s i)) hr id source) q
-      (sender_done K keeps o0 e s r hs hr valid_s valid_r _ id source (subst (λ i. Has (Out_done i (length source)) ((view (after d1 (command.Poll s ∷ turns_before r s j))).sending hs)) id_is ends.sent),
+      subst (λ i. SenderDone (after d (command.Save s k r leaf ∷ turns_before r s i)) hs id source × SenderDone (after d (command.Save s k r leaf ∷ turns r s i)) hs id source × ReceiverDone (after d (command.Save s k r leaf ∷ turns r s i)) hr id source) q (
+        sender_done K keeps o0 e s r hs hr valid_s valid_r _ id source (subst (λ i. Has (Out_done i (length source)) ((view (after d1 (command.Poll s ∷ turns_before r s j))).sending hs)) id_is ends.sent),
         sender_done K keeps o0 e s r hs hr valid_s valid_r _ id source came.sends,
-        receiver_done K keeps o0 e s r hs hr valid_s valid_r _ luck.anchor id source came)
+        receiver_done K keeps o0 e s r hs hr valid_s valid_r _ luck.anchor id source came,
+      )
 
   pub alternates : Alternates d s r k leaf t u id source
   alternates = let w = alternates_suc (j + 1) (omega arith) in record { before = w.0; sends = w.1; takes = w.2 }

@@ -1,16 +1,14 @@
 -- Polled in turn, a transfer comes to its end.
-use Rattle.std.proofs.Common.{◌≡◌, ◌≢◌, ℕ, zero, suc, ◌+◌, ◌-◌, ◌*◌, ◌≤◌, ◌<◌, Bool, true, false, not, ◌&&◌, List, [], ◌∷◌, ◌++◌, length, take, drop, replicate, Option, Some, None, refl, sym, ap, ◌∙◌, subst, inl, inr, arith, length-drop}
-use Rattle.std.specs.Prelude.{if◌then◌else◌, nat_eq, nat_lt, nat_le, is_none, is_some}
+use Rattle.std.proofs.Common.{◌≡◌, ◌≢◌, ℕ, suc, ◌+◌, ◌-◌, ◌≤◌, ◌<◌, Bool, true, false, not, ◌&&◌, List, [], ◌∷◌, ◌++◌, length, take, drop, replicate, Option, Some, None, refl, sym, ap, ◌∙◌, subst, inl, inr, arith, length-drop}
+use Rattle.std.specs.Prelude.{if◌then◌else◌, nat_eq, nat_lt, nat_le, is_none}
 use Rattle.std.proofs.lemmas.List.{length-replicate}
 use Rattle.std.proofs.lemmas.Bool.{eq-eqb}
 use Rattle.std.proofs.lemmas.Bool.Decides.{eqb_tells, leb_tells}
 use Rattle.rh_safety.specs.Ends.{Asking, Code, Plain, Recorded, DataSave, RamFetch, RamTransmit, Letter, Message, Sending, Taking, Out, Open, Out_done, Out_failed, In, Fetching, Draining, In_done, In_failed, out_id, in_id, is_open, is_going, Has, put, any, how_many, drop_first, with_id, find_open, find_active, first_for, without_first}
-use Rattle.rh_safety.specs.Protocol.{on_fetch_by, lost_if, Desk, Luck, Command, Save, Poll, can_save, saved, still_held, returned, picked, begun, can_begin, on_save, ended, bytes_of, longer, fetched, goes_on, appended, extends, matches, on_transmit, portion, moved, transmits, has_room, in_range, recipient_lives, failed, would_answer, on_fetch, handled, handed_out, after_return, polled, step, run}
-use Rattle.rh_safety.specs.Schedules.{Origin, after}
+use Rattle.rh_safety.specs.Protocol.{on_fetch_by, lost_if, Desk, Luck, saved, still_held, returned, picked, begun, can_begin, on_save, ended, bytes_of, longer, fetched, goes_on, appended, extends, matches, on_transmit, portion, moved, transmits, has_room, in_range, recipient_lives, failed, would_answer, on_fetch, handled, handed_out, after_return, polled}
 use Rattle.rh_safety.proofs.Basics.{and_left, and_right, none_of, put_all, put_same, put_other, take_more, length_take, front_written, length_written, none_some, or_left, or_right, either, drop_old, Has-right}
 use Rattle.rh_safety.proofs.Invariant.{Order}
 use Rattle.rh_safety.proofs.Polls.{would_true, take_whole}
-use Rattle.rh_safety.proofs.Runs.{after_good}
 
 -- ---- lists whose last record is the only one that goes on
 
@@ -270,10 +268,10 @@ module _ (os : List Out) (ws : List In) (d : Desk) (doc address s r id anchor k 
       let all : k + n ≡ length source = omega arith in
       let rest : n ≡ length source - k = omega arith in
       let eq : after_return d s luck ≡ moved (at_sender os ws d doc address s r id anchor k source w within) s (asked_letter os ws d doc address s r id anchor k source w within) (open_record os ws d doc address s r id anchor k source w within) source w.bytes n (Out_done id (k + n)) Plain =
-          poll_one d s luck (asked os ws d doc address s r id anchor k source w within) w.queue refl ∙ poll_sender os ws d doc address s r id anchor k source w within luck room ∙
-          ap (λ (b : Bool). transmits (at_sender os ws d doc address s r id anchor k source w within) s (asked_letter os ws d doc address s r id anchor k source w within) (open_record os ws d doc address s r id anchor k source w within) source w.bytes n b) (is_lt n (d.buf r) less) in
+      poll_one d s luck (asked os ws d doc address s r id anchor k source w within) w.queue refl ∙ poll_sender os ws d doc address s r id anchor k source w within luck room ∙
+      ap (λ (b : Bool). transmits (at_sender os ws d doc address s r id anchor k source w within) s (asked_letter os ws d doc address s r id anchor k source w within) (open_record os ws d doc address s r id anchor k source w within) source w.bytes n b) (is_lt n (d.buf r) less) in
       let a : Answered os ws (after_return d s luck) doc address s r id anchor k n d.next_ref (Out_done id (k + n)) Plain source =
-          subst (λ (z : Desk). Answered os ws z doc address s r id anchor k n d.next_ref (Out_done id (k + n)) Plain source) (sym eq) (moved_answered os ws d doc address s r id anchor k source w within (Out_done id (k + n)) Plain) in
+      subst (λ (z : Desk). Answered os ws z doc address s r id anchor k n d.next_ref (Out_done id (k + n)) Plain source) (sym eq) (moved_answered os ws d doc address s r id anchor k source w within (Out_done id (k + n)) Plain) in
       record {
         me = d.next_ref;
         waits = subst (λ z. Answered os ws (after_return d s luck) doc address s r id anchor k z d.next_ref (Out_done id (length source)) Plain source) rest
@@ -289,10 +287,10 @@ module _ (os : List Out) (ws : List In) (d : Desk) (doc address s r id anchor k 
       let full : n ≡ d.buf r = omega arith in
       let v : ℕ → Out = λ m. Open (record { id = id; recipient = r; anchor = anchor; count = k + m; last = d.next_ref }) in
       let eq : after_return d s luck ≡ moved (at_sender os ws d doc address s r id anchor k source w within) s (asked_letter os ws d doc address s r id anchor k source w within) (open_record os ws d doc address s r id anchor k source w within) source w.bytes n (v n) Recorded =
-          poll_one d s luck (asked os ws d doc address s r id anchor k source w within) w.queue refl ∙ poll_sender os ws d doc address s r id anchor k source w within luck room ∙
-          ap (λ (b : Bool). transmits (at_sender os ws d doc address s r id anchor k source w within) s (asked_letter os ws d doc address s r id anchor k source w within) (open_record os ws d doc address s r id anchor k source w within) source w.bytes n b) (not_lt n (d.buf r) (omega arith)) in
+      poll_one d s luck (asked os ws d doc address s r id anchor k source w within) w.queue refl ∙ poll_sender os ws d doc address s r id anchor k source w within luck room ∙
+      ap (λ (b : Bool). transmits (at_sender os ws d doc address s r id anchor k source w within) s (asked_letter os ws d doc address s r id anchor k source w within) (open_record os ws d doc address s r id anchor k source w within) source w.bytes n b) (not_lt n (d.buf r) (omega arith)) in
       let a : Answered os ws (after_return d s luck) doc address s r id anchor k n d.next_ref (v n) Recorded source =
-          subst (λ (z : Desk). Answered os ws z doc address s r id anchor k n d.next_ref (v n) Recorded source) (sym eq) (moved_answered os ws d doc address s r id anchor k source w within (v n) Recorded) in
+      subst (λ (z : Desk). Answered os ws z doc address s r id anchor k n d.next_ref (v n) Recorded source) (sym eq) (moved_answered os ws d doc address s r id anchor k source w within (v n) Recorded) in
       record {
         me = d.next_ref;
         waits = subst (λ z. Answered os ws (after_return d s luck) doc address s r id anchor k z d.next_ref (v z) Recorded source) full a;
@@ -316,8 +314,8 @@ receiver_last os ws d doc address s r id anchor k n me source w all short luck r
     let t : Taking = taking_record os ws d doc address s r id anchor k n me v c source w le small in
     let new = new_bytes os ws d doc address s r id anchor k n me v c source w le small in
     let eq : after_return d r luck ≡ ended (longer d1 r t n) r t (In_done id doc (k + n)) =
-        poll_one d r luck m w.queue refl ∙ poll_receiver os ws d doc address s r id anchor k n me v c source w le small luck room refl ∙
-        ap (λ (b : Bool). appended (longer d1 r t n) r luck t m.letter b) (is_lt n (d.buf r) short) in
+    poll_one d r luck m w.queue refl ∙ poll_receiver os ws d doc address s r id anchor k n me v c source w le small luck room refl ∙
+    ap (λ (b : Bool). appended (longer d1 r t n) r luck t m.letter b) (is_lt n (d.buf r) short) in
     subst (λ (z : Desk). AllCame z doc s r id source) (sym eq) (record {
       sends = sender_record w;
       takes = subst (λ z. Has (In_done id doc z) (put d.taking r (with_id in_id id (In_done id doc (k + n)) (d.taking r)) r)) all
@@ -344,9 +342,9 @@ receiver_full os ws d doc address s r id anchor k n me source w le full luck ext
     let room : (luck.room_send && d.live s) ≡ true = let e2 = w.live_sender in rw (sends_it, e2) refl in
     let full_desk : Desk = fetched (longer d1 r t n) r t n m.letter.me in
     let eq : after_return d r luck ≡ full_desk =
-        poll_one d r luck m w.queue refl ∙ poll_receiver os ws d doc address s r id anchor k n me v c source w le small luck extends_it refl ∙
-        ap (λ (b : Bool). appended (longer d1 r t n) r luck t m.letter b) (not_lt n (d.buf r) (omega arith)) ∙
-        ap (λ (b : Bool). goes_on (longer d1 r t n) r t m.letter b) room in
+    poll_one d r luck m w.queue refl ∙ poll_receiver os ws d doc address s r id anchor k n me v c source w le small luck extends_it refl ∙
+    ap (λ (b : Bool). appended (longer d1 r t n) r luck t m.letter b) (not_lt n (d.buf r) (omega arith)) ∙
+    ap (λ (b : Bool). goes_on (longer d1 r t n) r t m.letter b) room in
     subst (λ (z : Desk). GoesOn os ws d z doc address s r id anchor (k + n) source) (sym eq) (record {
       size = refl;
       waits = record {

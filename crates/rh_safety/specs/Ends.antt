@@ -1,5 +1,5 @@
 -- Letters, and the records of the two ends of a transfer.
-use Rattle.std.specs.Prelude.{◌≡◌, ℕ, ◌+◌, Bool, true, false, ◌||◌, ◌++◌, nat_le, List, [], ◌∷◌, length, Option, Some, None, if◌then◌else◌, ◌==◌, ◌⊎◌}
+use Rattle.std.specs.Prelude.{ℕ, ◌+◌, Bool, true, false, ◌++◌, nat_le, List, [], ◌∷◌, length, Option, Some, None, if◌then◌else◌, ◌==◌, ◌⊎◌}
 -- the records of the desk
 pub use Rattle.rh_defs.specs.declared.transfer.Sending.{Sending}
 pub use Rattle.rh_defs.specs.declared.transfer.Taking.{Taking}
@@ -18,7 +18,6 @@ pub use Rattle.rh_safety.specs.History.{in_anchor, is_document_of, at_place as p
 pub use Rattle.std.specs.Prelude.{find as first}
 pub use Rattle.std.specs.List.{list_any as any}
 
-
 -- what stays the same when a message bounces
 pub record Letter : Type 0 where
   pub from : ℕ
@@ -28,6 +27,7 @@ pub record Letter : Type 0 where
   pub address : ℕ
   pub amount : ℕ
 
+-- a letter on its way, under an event code
 pub record Message : Type 0 where
   pub code : Code
   pub to : ℕ
@@ -35,6 +35,7 @@ pub record Message : Type 0 where
 
 -- Lists of records
 
+-- how many members of a list pass a test
 abbrev pub how_many : {A : Type 0} → (A → Bool) → List A → ℕ
 how_many p [] = 0
 how_many p (x ∷ xs) = if p x then how_many p xs + 1 else how_many p xs
@@ -62,10 +63,12 @@ Pairwise {A} R (x ∷ xs) = ((y : A) → Has y xs → R x y) × Pairwise R xs
 
 -- The queue
 
+-- the first message for a handle
 abbrev pub first_for : ℕ → List Message → Option Message
 first_for h [] = None
 first_for h (m ∷ ms) = if m.to == h then Some m else first_for h ms
 
+-- the queue without that message
 abbrev pub without_first : ℕ → List Message → List Message
 without_first h [] = []
 without_first h (m ∷ ms) = if m.to == h then ms else m ∷ without_first h ms

@@ -1,6 +1,5 @@
 -- The flex blocks of a slot as the map from anchors to bytes that a transfer rests on.
-use Rattle.std.specs.Prelude.{◌≡◌, ◌≢◌, ℕ, ◌==◌, if◌then◌else◌, List, [], ◌∷◌, ◌++◌, Option, Some, None}
-use Rattle.std.specs.List.{AllByRecursion}
+use Rattle.std.specs.Prelude.{◌≡◌, ℕ, ◌==◌, List, [], ◌∷◌, ◌++◌, Option, Some, None}
 use Rattle.rh_defs.specs.Pieces.{Split, first_at, with_here}
 use Rattle.rh_defs.specs.Slot.{Flex, HaveAnchors}
 use Rattle.rh_safety.specs.View.{flex_map}

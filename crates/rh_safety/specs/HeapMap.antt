@@ -1,13 +1,15 @@
 -- A heap as the map from addresses to bytes that a transfer rests on.
-use Rattle.std.specs.Prelude.{◌≡◌, ℕ, ◌+◌, ◌≤◌, ◌==◌, if◌then◌else◌, List, [], ◌∷◌, length, Option, Some, None}
+use Rattle.std.specs.Prelude.{◌≡◌, ℕ, ◌+◌, ◌≤◌, List, [], ◌∷◌, length, Option, Some, None}
 use Rattle.rh_defs.specs.Pieces.{Split, with_here}
 use Rattle.rh_defs.specs.Blocks as blocks
 use Rattle.rh_safety.specs.Ends.{put}
-use Rattle.rh_defs.specs.Heap.{Segment, Used, Hole, Heap, first_place, Placed, Way, Stays, Shrinks, GrowsIntoHole, GrowsAtTop, MovesToHole, MovesToTop}
+use Rattle.rh_defs.specs.Heap.{Segment, Used, Hole, Heap, Placed, Way, Stays, Shrinks, GrowsIntoHole, GrowsAtTop, MovesToHole, MovesToTop}
 
+-- the bytes of the block at an address, of segments that begin at a place
 abbrev pub bytes_at : ℕ → List Segment → ℕ → Option (List ℕ)
 bytes_at place segments a = blocks.bytes_at a place segments
 
+-- a heap as a map from addresses to the bytes of blocks
 abbrev pub heap_map : Heap → ℕ → Option (List ℕ)
 heap_map h a = blocks.block_bytes a h
 
@@ -22,6 +24,7 @@ pub record HoleFor (n : ℕ) (h : Heap) (s : Split Segment) : Type 0 where
   pub here : s.here ≡ Hole size
   pub room : 4 + n ≤ size
 
+-- a block with these bytes at the cut
 pub record BlockOf (bytes : List ℕ) (h : Heap) (s : Split Segment) : Type 0 where
   pub cut : CutOf h s
   pub here : s.here ≡ Used bytes

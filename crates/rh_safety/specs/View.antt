@@ -1,5 +1,5 @@
 -- The desk seen as the reduced one: tasks as maps by handle, slots as maps by anchor and by address.
-use Rattle.std.specs.Prelude.{ℕ, ◌-◌, Bool, true, false, ◌==◌, if◌then◌else◌, List, [], ◌∷◌, map, find, Option, Some, None}
+use Rattle.std.specs.Prelude.{ℕ, ◌-◌, true, false, ◌==◌, if◌then◌else◌, List, [], ◌∷◌, map, find, Option, Some, None}
 use Rattle.std.specs.Option.{option_map}
 use Rattle.rh_defs.specs.Blocks.{block_bytes}
 use Rattle.rh_defs.specs.Slot.{Flex, Slot, heap_start}
@@ -48,9 +48,11 @@ seen_letter l ref = record {
   letter = record { from = l.from; me = ref; answers = l.your_ref; kind = action_of l.body; address = address_in l.body; amount = amount_in l.body };
 }
 
+-- the letter that a task sent last
 abbrev pub seen_last : Letter × ℕ → ram.Message
 seen_last p = seen_letter p.0 p.1
 
+-- the scrap file
 abbrev pub seen_scrap : Scrap → protocol.Scrap
 seen_scrap file = record { load = file.load; bytes = file.bytes }
 
@@ -61,6 +63,7 @@ abbrev pub flex_map : List Flex → ℕ → Option (List ℕ)
 flex_map [] k = None
 flex_map (b ∷ blocks) k = if b.anchor == k then Some b.bytes else flex_map blocks k
 
+-- the blocks of a slot by anchor
 abbrev pub blocks_of : Slot → ℕ → Option (List ℕ)
 blocks_of s = flex_map s.blocks
 
@@ -70,6 +73,7 @@ buffers_of s address = block_bytes (address - heap_start) s.heap
 
 -- ---- the desk
 
+-- a field of a task, with what stands where there is none
 abbrev pub of : {A : Type 0} → (Task → A) → A → Option Task → A
 of f d None = d
 of f d (Some t) = f t
@@ -82,6 +86,7 @@ task_of h tasks = find (λ t. t.handle == h) tasks
 abbrev pub field : {A : Type 0} → (Task → A) → A → List Task → ℕ → A
 field f d tasks h = of f d (task_of h tasks)
 
+-- the desk as the reduced one
 abbrev pub view : Desk → protocol.Desk
 view d = record {
   most = most_records;
