@@ -3,6 +3,7 @@ pub mod Invariant
 pub mod Moves
 pub mod Sends
 pub mod Posts
+pub mod Arrivals
 pub mod Polls
 pub mod Runs
 pub mod Ranges
