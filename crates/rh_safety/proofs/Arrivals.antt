@@ -221,7 +221,7 @@ done_of bl h i a n was has was_id inv sources same good beside = record {
 beside_growing : {o : Offered} {e : ℕ → ℕ → Bool} {d : Desk} (h : ℕ) (w : In) → Inv o e d → Has w (d.taking h) → Untouched (e h) w → (u : In) → Has u (d.taking h) → is_growing u ≡ true → in_id u ≢ in_id w → in_anchor w ≢ in_anchor u
 beside_growing h w i is un u q y ne eq = ne (sym (i.ins.documents h u w q y is un eq))
 
-pub module _ {o : Offered} {e : ℕ → ℕ → Bool} {d : Desk} (h : ℕ) (luck : Luck) (t : Taking) (l : Letter) (g : Good o e d) (rd : Read o d h l) (kind : l.kind ≡ RamTransmit) (is : Has (Fetching t) (d.taking h)) (m : Matched d h t l) where
+module _ {o : Offered} {e : ℕ → ℕ → Bool} {d : Desk} (h : ℕ) (luck : Luck) (t : Taking) (l : Letter) (g : Good o e d) (rd : Read o d h l) (kind : l.kind ≡ RamTransmit) (is : Has (Fetching t) (d.taking h)) (m : Matched d h t l) where
   carries_here : Carries o l t (d.heap h) (d.buf h)
   carries_here = (rd.ok.carries h t is).carries kind m.answers m.from
 
@@ -329,7 +329,7 @@ over_good {o} {e} {d} h x v same_id ok both never i others born is =
     }
 
 pub shut_good : {o : Offered} {e : ℕ → ℕ → Bool} {d : Desk} (h : ℕ) (x : Sending) → Inv o e d → ((s : ℕ) (y : Sending) → Has (Open y) (d.sending s) → (s ≡ h → y.id ≢ x.id) → PendingAt d s y) → ((i : ℕ) → d.next_ref ≤ i → o i ≡ None) → Has (Open x) (d.sending h) → Good o e (failed d h x)
-pub shut_good h x i others born is = over_good h x (Out_failed x.id x.count) refl tt tt (λ y q. let z : Open y ≡ Out_failed x.id x.count = q in (cc)) i others born is
+shut_good h x i others born is = over_good h x (Out_failed x.id x.count) refl tt tt (λ y q. let z : Open y ≡ Out_failed x.id x.count = q in (cc)) i others born is
 
 pub on_out_back_good : {o : Offered} {e : ℕ → ℕ → Bool} {d : Desk} (h : ℕ) (p : Sending → Bool) → Good o e d → (v : Option Sending) → find_open p (d.sending h) ≡ v → Good o e (on_out_back d h v)
 on_out_back_good h p g None q = g
@@ -454,7 +454,7 @@ on_load_ack_good {o} {e} {d} h p g (Some x) q =
     over_good h x v refl (record { all = w.all; offered = w.offered; whole = ap (λ b. length (bytes_of b)) w.there }) tt (λ y r. let z : Open y ≡ Out_done x.id (length (bytes_of (d.block h x.anchor))) = r in (cc)) g.inv (λ s y r ne. g.pending s y r) g.born is
 
 -- the file is the document
-pub module _ {o : Offered} {e : ℕ → ℕ → Bool} {d : Desk} (h : ℕ) (luck : Luck) (l : Letter) (q : Asked) (g : Good o e d) (rd : Read o d h l) (is : Has (Asking q) (d.taking h)) (bytes : List ℕ) (of : o q.id ≡ Some bytes) where
+module _ {o : Offered} {e : ℕ → ℕ → Bool} {d : Desk} (h : ℕ) (luck : Luck) (l : Letter) (q : Asked) (g : Good o e d) (rd : Read o d h l) (is : Has (Asking q) (d.taking h)) (bytes : List ℕ) (of : o q.id ≡ Some bytes) where
   abbrev with_file : ℕ → ℕ → Option (List ℕ)
   with_file = put d.block h (put (d.block h) q.anchor (Some (bytes_of (d.block h q.anchor) ++ bytes)))
 

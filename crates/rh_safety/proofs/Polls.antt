@@ -12,7 +12,7 @@ use Rattle.rh_safety.proofs.Invariant.{LetterAck, LetterFile, Offered, queued, K
 use Rattle.rh_safety.proofs.Moves.{Move, OutOk, BothOutOk, move_with, move_more, outs_move, boths_out}
 use Rattle.rh_safety.proofs.Sends.{few_put, few_here, few_with, sent_knows, asked_over, tell_good, asked_good, lost_good, put_ascends, order_out, one_active, KeepsActive, Quiet, OutPart, NewOut, out_inv, out_pending, NewFetch, fetch_inv, fetch_pending, put2_other, put2_same, keeps_with, Ends, ended_good, active_id, write_inv, heap_inv}
 use Rattle.rh_safety.proofs.Posts.{returned_good, OneMore, picked_known, picked_inv, picked_pending, first_below}
-use Rattle.rh_safety.proofs.Arrivals.{LetterOk, Read, on_save_good, module, on_transmit_good, shut_good, on_ack_good, on_load_ack_good, on_load_good, came_back_good}
+use Rattle.rh_safety.proofs.Arrivals.{LetterOk, Read, on_save_good, on_transmit_good, shut_good, on_ack_good, on_load_ack_good, on_load_good, came_back_good}
 
 -- ---- RAMFetch
 

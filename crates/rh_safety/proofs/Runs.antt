@@ -12,7 +12,8 @@ use Rattle.rh_safety.proofs.Invariant.{Offered, queued, kept, latest, Knows, Beg
 use Rattle.rh_safety.proofs.Moves.{loads_grow, Grows, letters_grow, outs_grow, ins_grow, move_more}
 use Rattle.rh_safety.proofs.Sends.{few_here, lost_good, NewOut, out_inv, out_pending, drained_good, heap_inv, block_inv}
 use Rattle.rh_safety.proofs.Posts.{copy_inv, copy_pending, killed_inv, killed_pending, started_inv, started_pending}
-use Rattle.rh_safety.proofs.Polls.{unasked_good, has_block, shut_good, polled_good, would_tells}
+use Rattle.rh_safety.proofs.Arrivals.{unasked_good, has_block, shut_good}
+use Rattle.rh_safety.proofs.Polls.{polled_good, would_tells}
 
 -- ---- the start
 

@@ -133,8 +133,8 @@ module _ (d : Desk) (t : Task) (m : Parcel) where
   ack_keys (Some x) =
       by_grant Stays _ _
       (λ y q. with_step (slot_block x.anchor t.slot) _ y q (λ s e1 q1.
-      with_step (send_letter (load_letter t.handle m _) (wider (scrap_shortage _ d) d)) _ y (from_test _ _ y q1) (λ sent e2 q2.
-      subst Stays (ok_is _ y (from_test _ _ y q2)) (outs_keys t.handle _ _ ∙ sent_keys (wider (scrap_shortage _ d) d) sent _ e2))))
+      with_step (send_letter (load_letter t.handle m _) (wider (scrap_shortage _ d) d)) _ y (from_test _ _ y (from_test _ _ y (from_test _ _ y q1))) (λ sent e2 q2.
+      subst Stays (ok_is _ y q2) (outs_keys t.handle _ _ ∙ sent_keys (wider (scrap_shortage _ d) d) sent _ e2))))
       (λ r q. outs_keys t.handle _ d)
 
   finish_keys : (v : Option Sending) → Stays (finish_load d t v)

@@ -9,8 +9,8 @@ use Rattle.rh_defs.specs.declared.message.EventCode.{EventCode}
 use Rattle.rh_defs.specs.declared.message.EventCode.TheVariants.{User, Recorded, Acknowledge}
 use Rattle.rh_defs.specs.declared.command.Command.TheVariants as command
 use Rattle.rh_defs.specs.declared.reply.Reply.TheVariants as reply
-use Rattle.rh_defs.specs.Messages.{Parcel}
-use Rattle.rh_defs.specs.Post.{Seat, Post, has_seat, held_by, with_held, as_returned, without_block, bounced, bounce_held, is_recorded, bounce_all, post_is_live, post_death}
+use Rattle.rh_defs.specs.Messages.{Parcel, is_recorded}
+use Rattle.rh_defs.specs.Post.{Seat, Post, has_seat, held_by, with_held, as_returned, without_block, bounced, bounce_held, bounce_all, post_is_live, post_death}
 use Rattle.rh_defs.specs.Desk.{Desk, Task, Scrap, kept_scrap, named, with_delivered}
 use Rattle.rh_defs.specs.Commands.{kill}
 use Rattle.rh_defs.specs.Step.{step}

@@ -247,11 +247,12 @@ module _ (d : Desk) (t : Task) (m : Parcel) where
   ack_fine (Some x) =
       by_grant Fine _ _
       (λ y q. with_step (slot_block x.anchor t.slot) _ y q (λ s e1 q1.
-      with_step (send_letter (load_letter t.handle m _) (wider (scrap_shortage _ d) d)) _ y (from_test _ _ y q1) (λ sent e2 q2. subst Fine (ok_is _ y (from_test _ _ y q2)) refl)))
+      with_step (send_letter (load_letter t.handle m _) (wider (scrap_shortage _ d) d)) _ y (from_test _ _ y (from_test _ _ y (from_test _ _ y q1))) (λ sent e2 q2. subst Fine (ok_is _ y q2) refl)))
       (λ r q. not_range r (bind_ok (slot_block x.anchor t.slot) _ (block_ok x.anchor t.slot) (λ s e1.
       then_ok (refuse_if (is_some d.scrap) Busy) _ (refuse_ok _ Busy (λ z. cc)) (λ u e.
-      bind_ok (send_letter (load_letter t.handle m _) (wider (scrap_shortage _ d) d)) _ (send_ok _ _) (λ sent e2.
-      then_ok (refuse_if (nat_lt (free_pages d) (scrap_shortage (length s.here.bytes) d)) NoRoom) _ (refuse_ok _ NoRoom (λ z. cc)) (λ u e. done_ok _)))) r q))
+      then_ok (sendable (load_letter t.handle m _) d.post) _ (sendable_ok _ d.post) (λ u e.
+      then_ok (refuse_if (nat_lt (free_pages d) (scrap_shortage (length s.here.bytes) d)) NoRoom) _ (refuse_ok _ NoRoom (λ z. cc)) (λ u e.
+      bind_ok (send_letter (load_letter t.handle m _) (wider (scrap_shortage _ d) d)) _ (send_ok _ _) (λ sent e2. done_ok _))))) r q))
 
   finish_fine : (v : Option Sending) → Fine (finish_load d t v)
   unfolding finish_load

@@ -309,8 +309,8 @@ module _ (d : Desk) (t : Task) (m : Parcel) (f : Fits d) (is : task_of t.handle 
       by_grant (λ (y : Handled). CameAs lost action.DataSaveAck y (λ luck. protocol.on_ack (view d) h luck (letter_of m b) (Some x))) _ _
       (λ y q. with_step (slot_block x.anchor t.slot) _ y q (λ s e1 q1.
       let none = from_first (refuse_if (is_some d.scrap) Busy) _ y q1 in
-      with_step (send_letter (load_letter h m (length s.here.bytes)) (wider (scrap_shortage (length s.here.bytes) d) d)) _ y (from_test _ _ y q1) (λ sent e2 q2.
-      subst (λ (z : Handled). CameAs lost action.DataSaveAck z (λ luck. protocol.on_ack (view d) h luck (letter_of m b) (Some x))) (ok_is _ y (from_test _ _ y q2))
+      with_step (send_letter (load_letter h m (length s.here.bytes)) (wider (scrap_shortage (length s.here.bytes) d) d)) _ y (from_test _ _ y (from_test _ _ y (from_test _ _ y q1))) (λ sent e2 q2.
+      subst (λ (z : Handled). CameAs lost action.DataSaveAck z (λ luck. protocol.on_ack (view d) h luck (letter_of m b) (Some x))) (ok_is _ y q2)
       (filed_as b x s.here.bytes sent (scrap_shortage (length s.here.bytes) d) (source_seen x s e1) from (not_refused (is_some d.scrap) Busy none.0 none.1) e2))))
       (λ refusal q. ack_refused b x refusal)
 

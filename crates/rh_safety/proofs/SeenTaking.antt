@@ -5,8 +5,8 @@ use Rattle.std.specs.Option.{option_map}
 use Rattle.std.proofs.lemmas.Bool.Decides.{eqb_tells}
 use Rattle.rh_defs.specs.declared.message.EventCode.{EventCode}
 use Rattle.rh_defs.specs.declared.message.EventCode.TheVariants.{User, Recorded, Acknowledge}
-use Rattle.rh_defs.specs.Messages.{Parcel}
-use Rattle.rh_defs.specs.Post.{Seat, Post, has_seat, held_by, with_held, without_block, bounce_held, is_recorded, behind_first, first_for, taken_from, taken, post_poll}
+use Rattle.rh_defs.specs.Messages.{Parcel, is_recorded}
+use Rattle.rh_defs.specs.Post.{Seat, Post, has_seat, held_by, with_held, without_block, bounce_held, behind_first, first_for, taken_from, taken, post_poll}
 use Rattle.rh_defs.specs.Desk.{Desk, with_post, with_delivered}
 use Rattle.rh_safety.specs.View.{view, seen_parcel, seen_scrap}
 use Rattle.rh_safety.specs.Ends.{Message, put}

@@ -8,7 +8,8 @@ use Rattle.rh_safety.specs.Ends.{Asking, Code, Plain, Recorded, DataSave, RamFet
 use Rattle.rh_safety.specs.Protocol.{on_fetch_by, lost_if, Desk, Luck, saved, still_held, returned, picked, begun, can_begin, on_save, ended, bytes_of, longer, fetched, goes_on, appended, extends, matches, on_transmit, portion, moved, transmits, has_room, in_range, recipient_lives, failed, would_answer, on_fetch, handled, handed_out, after_return, polled}
 use Rattle.rh_safety.proofs.Basics.{and_left, and_right, none_of, put_all, put_same, put_other, take_more, length_take, front_written, length_written, none_some, or_left, or_right, either, drop_old, Has-right}
 use Rattle.rh_safety.proofs.Invariant.{Order}
-use Rattle.rh_safety.proofs.Polls.{would_true, take_whole}
+use Rattle.rh_safety.proofs.Arrivals.{take_whole}
+use Rattle.rh_safety.proofs.Polls.{would_true}
 
 -- ---- lists whose last record is the only one that goes on
 
