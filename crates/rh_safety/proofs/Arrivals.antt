@@ -5,8 +5,8 @@ use Rattle.std.proofs.lemmas.Grind.{common_steps}
 use Rattle.std.specs.Prelude.{if◌then◌else◌, nat_eq, nat_lt, is_none}
 use Rattle.std.proofs.lemmas.Bool.Decides.{eqb_tells, leb_tells, nat_tests}
 use Rattle.std.proofs.lemmas.Bool.{eq-eqb}
-use Rattle.rh_safety.specs.Ends.{Code, Plain, Recorded, Returned, Kind, DataSave, RamFetch, RamTransmit, DataSaveAck, DataLoad, DataLoadAck, Letter, Message, Sending, Taking, Asked, Out, Open, Out_done, Out_failed, In, Fetching, Draining, Asking, In_done, In_failed, out_id, in_id, in_anchor, is_going, is_growing, Has, Active, put, how_many, one_more, with_id, find_open, find_active, find_asking, first_for, without_first}
-use Rattle.rh_safety.specs.Protocol.{Desk, Scrap, Luck, returned, picked, begun, can_begin, on_save, bytes_of, longer, goes_on, appended, extends, matches, given_up, on_transmit, is_fetch, asks, first_back, on_fetch_back, with_in, is_load, copied, loaded, loads, on_file, on_load, is_ack, on_ack_back, with_out, failed, is_last, on_out_back, portion, moved, transmits, has_room, in_range, recipient_lives, would_answer, on_fetch, asks_for, filed, files, on_ack, is_loaded, on_load_ack, on_fetch_by, came, came_back, handled, handed_out, lost_if, polled}
+use Rattle.rh_safety.proofs.Ends.{Code, Plain, Recorded, Returned, Kind, DataSave, RamFetch, RamTransmit, DataSaveAck, DataLoad, DataLoadAck, Letter, Message, Sending, Taking, Asked, Out, Open, Out_done, Out_failed, In, Fetching, Draining, Asking, In_done, In_failed, out_id, in_id, in_anchor, is_going, is_growing, Has, Active, put, how_many, one_more, with_id, find_open, find_active, find_asking, first_for, without_first}
+use Rattle.rh_safety.proofs.Protocol.{Desk, Scrap, Luck, returned, picked, begun, can_begin, on_save, bytes_of, longer, goes_on, appended, extends, matches, given_up, on_transmit, is_fetch, asks, first_back, on_fetch_back, with_in, is_load, copied, loaded, loads, on_file, on_load, is_ack, on_ack_back, with_out, failed, is_last, on_out_back, portion, moved, transmits, has_room, in_range, recipient_lives, would_answer, on_fetch, asks_for, filed, files, on_ack, is_loaded, on_load_ack, on_fetch_by, came, came_back, handled, handed_out, lost_if, polled}
 use Rattle.rh_safety.proofs.Basics.{length_more, asking_is, put_all, put_same, put_other, same_value, none_some, none_of, and_left, and_right, is_equal, first_has, take_more, length_take, front_written, length_written, Ascend, with_puts, with_ascends, more_keeps, more_puts, more_ascends, open_is, open_none, FoundActive, fetches, drains, active_is}
 use Rattle.rh_safety.proofs.Invariant.{LetterAck, LetterFile, Offered, queued, Knows, Below, Offers, LetterOut, LetterIn, LetterCarries, LetterOlder, LetterAhead, Carries, Begins, Whole, Untouched, IsGood, Unread, Inv, IsWaiting, PendingAt, Good}
 use Rattle.rh_safety.proofs.Moves.{Move, OutOk, BothOutOk, move_with, move_more, outs_move, boths_out}

@@ -1,10 +1,12 @@
 -- Maps with a place written anew, tests, and lists.
-use Rattle.std.proofs.Common.{◌≡◌, ◌≢◌, ℕ, suc, ◌+◌, ◌≤◌, ◌<◌, Bool, true, false, not, ◌&&◌, ◌||◌, List, [], ◌∷◌, ◌++◌, length, take, drop, Option, Some, None, refl, sym, ap, ◌∙◌, subst, ◌⊎◌, inl, inr, arith, length-append, length-take, length-drop}
-use Rattle.std.specs.Prelude.{if◌then◌else◌, nat_eq, nat_le, is_none, is_some, ◌||◌}
+use Rattle.std.proofs.Common.{◌≡◌, ◌≢◌, ℕ, zero, suc, ◌+◌, ◌≤◌, ◌<◌, Bool, true, false, not, ◌&&◌, ◌||◌, List, [], ◌∷◌, ◌++◌, length, take, drop, Option, Some, None, refl, sym, ap, ◌∙◌, subst, ◌⊎◌, inl, inr, arith, length-append, length-take, length-drop}
+use Rattle.std.specs.Prelude.{if◌then◌else◌, nat_eq, nat_le, is_none, is_some, ◌||◌, slice_index_or}
 use Rattle.std.proofs.lemmas.Bool.Decides.{eqb_tells, leb_tells}
 use Rattle.std.proofs.lemmas.List.{take-append-drop, drop-take, take-take}
 use Rattle.std.proofs.Math.Seq.{take-append_seam}
-use Rattle.rh_safety.specs.Ends.{how_many, Message, Sending, Taking, Asked, Out, Open, Out_done, Out_failed, In, Fetching, Draining, Asking, In_done, In_failed, Has, Pairwise, put, any, first, drop_first, one_more, with_id, find_open, find_active, find_asking, first_for, without_first}
+use Rattle.std.specs.List.{Contains}
+use Rattle.std.specs.Io.{StartsWith}
+use Rattle.rh_safety.proofs.Ends.{IsPrefixOf, how_many, Message, Sending, Taking, Asked, Out, Open, Out_done, Out_failed, In, Fetching, Draining, Asking, In_done, In_failed, Has, Pairwise, put, any, first, drop_first, one_more, with_id, find_open, find_active, find_asking, first_for, without_first}
 
 -- what holds of the new value and of the old ones elsewhere holds everywhere
 pub put_all : {A : Type 0} (P : ℕ → A → Type 0) (f : ℕ → A) (h : ℕ) (x : A) → P h x → ((k : ℕ) → k ≢ h → P k (f k)) → (k : ℕ) → P k (put f h x k)
@@ -296,3 +298,23 @@ length_written n new old e h = simp (length-append, length-drop) (omega arith)
 -- by cases on one place
 pub everywhere : (P : ℕ → Type 0) (h : ℕ) → P h → ((k : ℕ) → k ≢ h → P k) → (k : ℕ) → P k
 everywhere P h here there k = elim (eqb_tells k h) [ inl w ↦ subst P (sym w.1) here | inr w ↦ there k w.1 ]
+
+-- ---- members and fronts, in the library's words
+
+pub has_of : {A : Type 0} (xs : List A) (x : A) → Contains xs x → Has x xs
+has_of [] x c = absurd (let l = c.1 in omega arith)
+has_of (y ∷ ys) x c = go c.0 c.1 c.2 (has_of ys x)
+  where
+    go : (k : ℕ) → k < length (y ∷ ys) → slice_index_or (y ∷ ys) k x ≡ x → (Contains ys x → Has x ys) → (y ≡ x) ⊎ Has x ys
+    go zero l e rest = inl e
+    go (suc k) l e rest = inr (rest (k, omega arith, e))
+
+pub contains_of : {A : Type 0} (xs : List A) (x : A) → Has x xs → Contains xs x
+contains_of [] x q = absurd q
+contains_of (y ∷ ys) x q = elim q as (λ _. Contains (y ∷ ys) x) [
+  | inl e ↦ (zero, omega arith, e)
+  | inr r ↦ let c = contains_of ys x r in (suc c.0, (let l = c.1 in omega arith), c.2)
+]
+
+pub front_of : (xs ys : List ℕ) → IsPrefixOf xs ys → StartsWith ys xs
+front_of xs ys p = subst (λ zs. take (length xs) zs ≡ xs) p.1 (take-append_seam xs p.0)

@@ -6,9 +6,9 @@ use Rattle.std.proofs.lemmas.Bool.Decides.{eqb_tells}
 use Rattle.std.proofs.lemmas.Bool.{eq-eqb}
 use Rattle.rh_defs.specs.Pieces.{Split, behind, with_here}
 use Rattle.rh_defs.specs.Slot.{Flex, IsFree, HaveAnchors}
-use Rattle.rh_safety.specs.View.{flex_map}
-use Rattle.rh_safety.specs.Ends.{put}
-use Rattle.rh_safety.specs.FlexMap.{block_of, FlexEdits}
+use Rattle.rh_safety.proofs.View.{flex_map}
+use Rattle.rh_safety.proofs.Ends.{put}
+use Rattle.rh_safety.proofs.FlexMap.{block_of, FlexEdits}
 
 none_some : {A : Type 0} {x : A} (o : Option A) → o ≡ None → o ≡ Some x → ⊥
 none_some o p q = cc

@@ -6,9 +6,9 @@ use Rattle.std.proofs.lemmas.Bool.Decides.{eqb_tells}
 use Rattle.std.proofs.lemmas.Bool.{eq-eqb}
 use Rattle.rh_defs.specs.Pieces.{total, Split, behind, first_at, with_here}
 use Rattle.rh_defs.specs.Heap.{Segment, Used, Hole, Heap, size_of, first_place, place_after, base, with_hole, joined, is_block_at, Placed, placed_in, released, release, release_found, Way, Stays, Shrinks, GrowsIntoHole, GrowsAtTop, MovesToHole, MovesToTop, resized_by}
-use Rattle.rh_safety.specs.HeapMap.{bytes_at, heap_map}
-use Rattle.rh_safety.specs.Ends.{put}
-use Rattle.rh_safety.specs.HeapMap.{CutOf, HoleFor, BlockOf, IsClaimed, IsReleased, IsMoved, CanGo}
+use Rattle.rh_safety.proofs.HeapMap.{bytes_at, heap_map}
+use Rattle.rh_safety.proofs.Ends.{put}
+use Rattle.rh_safety.proofs.HeapMap.{CutOf, HoleFor, BlockOf, IsClaimed, IsReleased, IsMoved, CanGo}
 
 none_some : {A : Type 0} {x : A} (o : Option A) → o ≡ None → o ≡ Some x → ⊥
 none_some o p q = cc

@@ -1,7 +1,7 @@
 -- The invariant of every schedule.
 use Rattle.std.proofs.Common.{◌≡◌, ◌≢◌, ℕ, ◌+◌, ◌≤◌, ◌<◌, Bool, true, false, List, length, take, drop, Option, Some, None}
-use Rattle.rh_safety.specs.Ends.{Recorded, Returned, DataSave, RamFetch, RamTransmit, DataSaveAck, DataLoad, Asked, Letter, Message, Sending, Taking, Out, Open, Out_done, In, Fetching, Draining, Asking, In_done, In_failed, is_growing, out_id, in_id, in_anchor, Has, Active, Pairwise}
-use Rattle.rh_safety.specs.Protocol.{Desk, Scrap, owned}
+use Rattle.rh_safety.proofs.Ends.{Recorded, Returned, DataSave, RamFetch, RamTransmit, DataSaveAck, DataLoad, Asked, Letter, Message, Sending, Taking, Out, Open, Out_done, In, Fetching, Draining, Asking, In_done, In_failed, is_growing, out_id, in_id, in_anchor, Has, Active, Pairwise}
+use Rattle.rh_safety.proofs.Protocol.{Desk, Scrap, owned}
 use Rattle.rh_safety.proofs.Basics.{Ascend}
 
 -- a letter that is queued, held, or the last that a task sent

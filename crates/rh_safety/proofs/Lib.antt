@@ -1,3 +1,9 @@
+pub mod FlexMap
+pub mod HeapMap
+pub mod Ends
+pub mod Protocol
+pub mod Schedules
+pub mod View
 pub mod Basics
 pub mod Invariant
 pub mod Moves
@@ -24,6 +30,7 @@ pub mod SeenHandled
 pub mod SeenReceiver
 pub mod SeenSender
 pub mod SeenPolls
+pub mod SeenDesks
 pub mod SeenLaws
 pub mod SeenKeys
 pub mod SeenNames

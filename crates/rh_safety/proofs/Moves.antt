@@ -1,8 +1,8 @@
 -- The small moves, part by part: what is known, the next ref, what is offered, and one record written anew.
 use Rattle.std.proofs.Common.{◌≡◌, ◌≢◌, ℕ, ◌+◌, ◌≤◌, ◌<◌, Bool, true, List, [], Option, Some, None, refl, sym, ap, ◌∙◌, subst, ◌⊎◌, inl, inr, arith}
 use Rattle.std.proofs.lemmas.Bool.Decides.{eqb_tells}
-use Rattle.rh_safety.specs.Ends.{Letter, Sending, Taking, Asked, Out, Open, Out_done, Out_failed, In, Fetching, Draining, Asking, In_done, In_failed, is_growing, out_id, in_id, in_anchor, Has, Active, put, with_id, one_more}
-use Rattle.rh_safety.specs.Protocol.{Scrap}
+use Rattle.rh_safety.proofs.Ends.{Letter, Sending, Taking, Asked, Out, Open, Out_done, Out_failed, In, Fetching, Draining, Asking, In_done, In_failed, is_growing, out_id, in_id, in_anchor, Has, Active, put, with_id, one_more}
+use Rattle.rh_safety.proofs.Protocol.{Scrap}
 use Rattle.rh_safety.proofs.Basics.{none_some, with_old, more_old}
 use Rattle.rh_safety.proofs.Invariant.{LetterAck, LetterFile, Loads, Offered, Below, Offers, LetterOut, LetterIn, LetterCarries, LetterOlder, LetterAhead, Source, Counted, Begins, Untouched, IsGood, HasBuffer, Letters, Outs, Ins, Boths}
 

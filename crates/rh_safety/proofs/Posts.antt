@@ -2,8 +2,8 @@
 use Rattle.std.proofs.Common.{◌≡◌, ◌≢◌, ℕ, ◌+◌, ◌<◌, Bool, true, false, List, [], ◌∷◌, ◌++◌, Option, Some, None, refl, sym, ap, ◌∙◌, subst, ◌⊎◌, inl, inr, arith}
 use Rattle.std.specs.Prelude.{if◌then◌else◌}
 use Rattle.std.proofs.lemmas.Bool.Decides.{eqb_tells}
-use Rattle.rh_safety.specs.Ends.{Code, Plain, Recorded, Returned, Letter, Message, Sending, Taking, Out, Open, In, Fetching, Draining, out_id, in_id, in_anchor, Has, Active, put, without_first, first_for}
-use Rattle.rh_safety.specs.Protocol.{Desk, sent, again, back, returned, for_others, back_if_recorded, bounced_for, back_held, killed, started}
+use Rattle.rh_safety.proofs.Ends.{Code, Plain, Recorded, Returned, Letter, Message, Sending, Taking, Out, Open, In, Fetching, Draining, out_id, in_id, in_anchor, Has, Active, put, without_first, first_for}
+use Rattle.rh_safety.proofs.Protocol.{Desk, sent, again, back, returned, for_others, back_if_recorded, bounced_for, back_held, killed, started}
 use Rattle.rh_safety.proofs.Basics.{put_all, put_same, put_other, Has-append, none_some, without_has, pair_append}
 use Rattle.rh_safety.proofs.Invariant.{Offered, Known, queued, kept, latest, Knows, Offers, Unread, Rises, Order, Inv, IsWaiting, Waits, PendingAt, Good, LetterCarries, HasBuffer}
 use Rattle.rh_safety.proofs.Moves.{loads_other, loads_fewer, loads_less, letters_more, outs_more, ins_more, boths_more, letters_fewer, outs_fewer, ins_fewer, boths_fewer, letters_bump, outs_bump, ins_bump, at_put, none_left, outs_less, ins_less, boths_less}

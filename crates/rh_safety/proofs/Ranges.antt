@@ -1,9 +1,9 @@
 -- The range that a fetch names, where the fetch would be answered.
 use Rattle.std.proofs.Common.{◌≡◌, ℕ, ◌≤◌, Bool, true, false, not, ◌&&◌, List, length, Option, Some, refl, ap, ◌∙◌, subst, inl, inr, arith}
 use Rattle.std.proofs.lemmas.Bool.Decides.{leb_tells}
-use Rattle.rh_safety.specs.Ends.{RamFetch, Message, Sending, Has, find_open}
-use Rattle.rh_safety.specs.Protocol.{Desk, would_answer}
-use Rattle.rh_safety.specs.Schedules.{range_is_bad}
+use Rattle.rh_safety.proofs.Ends.{RamFetch, Message, Sending, Has, find_open}
+use Rattle.rh_safety.proofs.Protocol.{Desk, would_answer}
+use Rattle.rh_safety.proofs.Schedules.{range_is_bad}
 use Rattle.rh_safety.proofs.Basics.{open_is}
 use Rattle.rh_safety.proofs.Invariant.{Offered, queued, Good}
 use Rattle.rh_safety.proofs.Polls.{would_tells}

@@ -4,9 +4,9 @@ use Rattle.std.specs.Prelude.{if◌then◌else◌, nat_eq, nat_lt, is_none, is_s
 use Rattle.std.proofs.lemmas.Bool.{eq-eqb}
 use Rattle.std.proofs.lemmas.Bool.Decides.{leb_tells}
 use Rattle.std.proofs.lemmas.List.{take-append-drop}
-use Rattle.rh_safety.specs.Ends.{is_document_of, IsPrefixOf, source_at, document_at, buffer_at, is_meant, is_meant_in, how_many, Recorded, Kind, DataSave, RamFetch, RamTransmit, DataSaveAck, DataLoad, DataLoadAck, Letter, Message, Sending, Taking, Out, Open, In, Fetching, Draining, Asking, In_done, In_failed, is_growing, out_id, in_id, in_anchor, is_open, Has, Active, put, any, first, one_more, find_open}
-use Rattle.rh_safety.specs.Protocol.{owned, Desk, Luck, start, Command, Start, Kill, Save, Poll, Repeat, Cancel_in, Cancel_out, Alloc, Change, Free, Claim, Release, is_busy, bytes_of, sent, can_save, saved, again, can_repeat, repeated, Lose, cancels_in, cancels_out, can_edit, with_block, with_heap, started, killed, polled, step, run, would_answer}
-use Rattle.rh_safety.specs.Schedules.{offer_again, repeat_offers, offers_after, offers_from, edited_after, edited_from, record_of, document, Origin, after, offered, IsSafe, HoldsBuffer}
+use Rattle.rh_safety.proofs.Ends.{is_document_of, IsPrefixOf, source_at, document_at, buffer_at, is_meant, is_meant_in, how_many, Recorded, Kind, DataSave, RamFetch, RamTransmit, DataSaveAck, DataLoad, DataLoadAck, Letter, Message, Sending, Taking, Out, Open, In, Fetching, Draining, Asking, In_done, In_failed, is_growing, out_id, in_id, in_anchor, is_open, Has, Active, put, any, first, one_more, find_open}
+use Rattle.rh_safety.proofs.Protocol.{owned, Desk, Luck, start, Command, Start, Kill, Save, Poll, Repeat, Cancel_in, Cancel_out, Alloc, Change, Free, Claim, Release, is_busy, bytes_of, sent, can_save, saved, again, can_repeat, repeated, Lose, cancels_in, cancels_out, can_edit, with_block, with_heap, started, killed, polled, step, run, would_answer}
+use Rattle.rh_safety.proofs.Schedules.{offer_again, repeat_offers, offers_after, offers_from, edited_after, edited_from, record_of, document, Origin, after, offered, IsSafe, HoldsBuffer}
 use Rattle.rh_safety.proofs.Basics.{length_more, put_all, put_same, put_other, same_value, none_some, none_of, some_of, or_left, or_right, and_left, and_right, not_true, is_equal, not_equal, any_none, first_is, open_is, Ascend, more_ascends, one_of_id}
 use Rattle.rh_safety.proofs.Invariant.{Offered, queued, kept, latest, Knows, Begins, Untouched, IsGood, Inv, Good}
 use Rattle.rh_safety.proofs.Moves.{loads_grow, Grows, letters_grow, outs_grow, ins_grow, move_more}

@@ -5,11 +5,15 @@ use Prim.Native.String.{String}
 use Rattle.rh_defs.specs.declared.command.Command.{Command}
 use Rattle.rh_defs.specs.Script
 use Rattle.rh_defs.specs.Script.{commands_in}
-use Rattle.rh_safety.specs.History.{Origin, held, offered, desk_after, turns, all_granted}
+use Rattle.rh_defs.specs.Desk.{Desk}
+use Rattle.rh_defs.specs.Runs.{start, after}
+use Rattle.rh_safety.specs.Offered.{offered}
+use Rattle.rh_safety.specs.Held.{held}
+use Rattle.rh_safety.specs.Alternation.{turns, all_granted}
 
 -- a run over 64 pages with no files, handles and refs from 1
-abbrev pub fresh : Origin
-fresh = record { pool = 64; files = []; handle = 1; ref = 1 }
+abbrev pub fresh : Desk
+fresh = start 64 []
 
 -- the commands that lines spell
 abbrev pub script : List String → List Command
@@ -79,7 +83,7 @@ unfolding Script.computing hex_on_literals
 by_scrap_file = refl
 
 -- six bytes by a buffer of four: after the save, five polls in turn are refused nothing
-pub granted_turns : all_granted (desk_after fresh (script ("task a 4" ∷ "task b 4" ∷ "alloc a 0 6" ∷ "save a 0 b doc" ∷ []))) (turns (codes "b") (codes "a") 2) ≡ true
+pub granted_turns : all_granted (after fresh (script ("task a 4" ∷ "task b 4" ∷ "alloc a 0 6" ∷ "save a 0 b doc" ∷ []))) (turns (codes "b") (codes "a") 2) ≡ true
 unfolding Script.computing hex_on_literals
 granted_turns = refl
 

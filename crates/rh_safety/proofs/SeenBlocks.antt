@@ -15,16 +15,17 @@ use Rattle.rh_defs.specs.declared.command.Command.TheVariants as command
 use Rattle.rh_defs.specs.Desk.{Desk, Task, with_slot, named, has_name, idle_block, is_busy_block, free_pages}
 use Rattle.rh_defs.specs.Commands.{alloc, load, put, free, extend, mid}
 use Rattle.rh_defs.specs.Step.{step}
-use Rattle.rh_safety.specs.View.{view, blocks_of, buffers_of, flex_map, task_of}
-use Rattle.rh_safety.specs.History.{Offers, Edits, is_document_of, edited_task}
+use Rattle.rh_safety.proofs.View.{view, blocks_of, buffers_of, flex_map, task_of}
+use Rattle.rh_safety.specs.Offered.{Offers}
+use Rattle.rh_safety.specs.Held.{Edits, is_document_of, edited_task}
 use Rattle.rh_safety.proofs.SeenTasks.{Same, block_view, live_of, slot_is}
 use Rattle.rh_safety.proofs.SeenFrames.{Fits, Follows, Silent, bind, done, is_found, instead_of, refused, the_task}
 use Rattle.rh_safety.proofs.FlexMaps as flex
 use Rattle.rh_safety.proofs.Basics.{put_same}
-use Rattle.rh_safety.specs.Ends as post
-use Rattle.rh_safety.specs.Protocol as protocol
-use Rattle.rh_safety.specs.Protocol.{can_edit}
-use Rattle.rh_safety.specs.Schedules.{offers_from, edited_from}
+use Rattle.rh_safety.proofs.Ends as post
+use Rattle.rh_safety.proofs.Protocol as protocol
+use Rattle.rh_safety.proofs.Protocol.{can_edit}
+use Rattle.rh_safety.proofs.Schedules.{offers_from, edited_from}
 
 pub not_refused : (b : Bool) (r : Refusal) (u : Unit {0}) → refuse_if b r ≡ Ok u → b ≡ false
 unfolding refuse_if

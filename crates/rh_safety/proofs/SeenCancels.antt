@@ -13,9 +13,9 @@ use Rattle.rh_defs.specs.Receiver as receiver
 use Rattle.rh_defs.specs.Receiver.{is_wanted, cancelled}
 use Rattle.rh_defs.specs.Desk.{Desk, named}
 use Rattle.rh_defs.specs.Step.{cancel_in, cancel_out, step}
-use Rattle.rh_safety.specs.View.{view}
-use Rattle.rh_safety.specs.Ends as post
-use Rattle.rh_safety.specs.Protocol as protocol
+use Rattle.rh_safety.proofs.View.{view}
+use Rattle.rh_safety.proofs.Ends as post
+use Rattle.rh_safety.proofs.Protocol as protocol
 use Rattle.rh_safety.proofs.Basics.{first_is}
 use Rattle.rh_safety.proofs.SeenTasks.{field_is, live_of, outs_view, ins_view}
 use Rattle.rh_safety.proofs.SeenFrames.{Fits, Follows, Silent, bind, done, is_found, instead_of, refused, the_task}

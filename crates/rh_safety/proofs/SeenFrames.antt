@@ -13,11 +13,12 @@ use Rattle.rh_defs.specs.declared.reply.Reply.TheVariants as reply
 use Rattle.rh_defs.specs.Desk.{Desk, Task, named, has_name}
 use Rattle.rh_defs.specs.Commands.{Answer, budge, change_module, change_pages, change_made, make, remove, rma_claim, rma_free, rma_resize, show, blocks, heap_sums, status, module_area}
 use Rattle.rh_defs.specs.Step.{step}
-use Rattle.rh_safety.specs.View.{view, task_of, field}
-use Rattle.rh_safety.specs.History.{Offers, Edits, offers_next, edits_next}
+use Rattle.rh_safety.proofs.View.{view, task_of, field}
+use Rattle.rh_safety.specs.Offered.{Offers, offers_next}
+use Rattle.rh_safety.specs.Held.{Edits, edits_next}
 use Rattle.rh_safety.proofs.SeenTasks.{Distinct, found_task, still_view, live_of, slot_is}
-use Rattle.rh_safety.specs.Protocol as ram
-use Rattle.rh_safety.specs.Schedules.{offers_from, edited_from}
+use Rattle.rh_safety.proofs.Protocol as ram
+use Rattle.rh_safety.proofs.Schedules.{offers_from, edited_from}
 
 -- what of the desk alone is asked
 pub record Fits (d : Desk) : Type 0 where

@@ -18,11 +18,11 @@ use Rattle.rh_defs.specs.Messages.{Parcel, action_of}
 use Rattle.rh_defs.specs.Desk.{Desk, Task, free_pages, with_task, with_slot}
 use Rattle.rh_defs.specs.OutgoingEvents.{Handled}
 use Rattle.rh_defs.specs.IncomingEvents.{without_buffer, ended, appended}
-use Rattle.rh_safety.specs.View.{view, address_in, amount_in, blocks_of, buffers_of, task_of}
-use Rattle.rh_safety.specs.History.{is_refusal}
-use Rattle.rh_safety.specs.Ends.{Letter, put}
-use Rattle.rh_safety.specs.Protocol as protocol
-use Rattle.rh_safety.specs.Protocol.{Luck}
+use Rattle.rh_safety.proofs.View.{view, address_in, amount_in, blocks_of, buffers_of, task_of}
+use Rattle.rh_safety.specs.Alternation.{is_refusal}
+use Rattle.rh_safety.proofs.Ends.{Letter, put}
+use Rattle.rh_safety.proofs.Protocol as protocol
+use Rattle.rh_safety.proofs.Protocol.{Luck}
 use Rattle.rh_safety.proofs.FlexMaps as flex
 use Rattle.rh_safety.proofs.Basics.{put_same}
 use Rattle.rh_safety.proofs.SeenTasks.{Same, unput, live_of, slot_is, slot_at, block_view, buffer_view, ins_view}

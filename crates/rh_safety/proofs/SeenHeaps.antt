@@ -17,14 +17,14 @@ use Rattle.rh_defs.specs.Records.{is_buffer_of}
 use Rattle.rh_defs.specs.Desk.{Desk, Task, named, idle_buffer, is_busy_buffer, free_pages}
 use Rattle.rh_defs.specs.Commands.{claim, release, resize}
 use Rattle.rh_defs.specs.Step.{step}
-use Rattle.rh_safety.specs.View.{view, blocks_of, buffers_of}
-use Rattle.rh_safety.specs.HeapMap.{heap_map, CanGo, IsMoved, HoleFor, IsClaimed, IsReleased}
+use Rattle.rh_safety.proofs.View.{view, blocks_of, buffers_of}
+use Rattle.rh_safety.proofs.HeapMap.{heap_map, CanGo, IsMoved, HoleFor, IsClaimed, IsReleased}
 use Rattle.rh_safety.proofs.SeenTasks.{Same, buffer_view, heap_view, field_is, live_of, slot_is}
 use Rattle.rh_safety.proofs.SeenFrames.{Fits, Follows, Silent, bind, done, is_found, instead_of, refused, the_task}
 use Rattle.rh_safety.proofs.SeenBlocks.{from_bind, ok_is}
 use Rattle.rh_safety.proofs.HeapMaps as heaps
-use Rattle.rh_safety.specs.Ends as post
-use Rattle.rh_safety.specs.Protocol as protocol
+use Rattle.rh_safety.proofs.Ends as post
+use Rattle.rh_safety.proofs.Protocol as protocol
 use Rattle.rh_safety.proofs.Basics.{none_some, either, is_equal, put_same}
 
 -- ---- cuts

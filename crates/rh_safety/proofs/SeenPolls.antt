@@ -19,13 +19,13 @@ use Rattle.rh_defs.specs.OutgoingEvents.{Handled, ignored, answer_fetch}
 use Rattle.rh_defs.specs.Transfer as transfer
 use Rattle.rh_defs.specs.Transfer.{answers_none}
 use Rattle.rh_defs.specs.Step.{poll, poll_taken, step}
-use Rattle.rh_safety.specs.View.{view, seen_parcel, task_of}
-use Rattle.rh_safety.specs.History.{is_refused_poll}
-use Rattle.rh_safety.specs.Ends.{Message, Has}
-use Rattle.rh_safety.specs.Ends as post
-use Rattle.rh_safety.specs.Protocol as protocol
-use Rattle.rh_safety.specs.Protocol.{Luck}
-use Rattle.rh_safety.specs.Schedules.{range_is_bad}
+use Rattle.rh_safety.proofs.View.{view, seen_parcel, task_of}
+use Rattle.rh_safety.specs.Alternation.{is_refused_poll}
+use Rattle.rh_safety.proofs.Ends.{Message, Has}
+use Rattle.rh_safety.proofs.Ends as post
+use Rattle.rh_safety.proofs.Protocol as protocol
+use Rattle.rh_safety.proofs.Protocol.{Luck}
+use Rattle.rh_safety.proofs.Schedules.{range_is_bad}
 use Rattle.rh_safety.proofs.Basics.{first_has, none_some}
 use Rattle.rh_safety.proofs.Invariant.{Offered, Good}
 use Rattle.rh_safety.proofs.Posts.{returned_good}

@@ -16,9 +16,9 @@ use Rattle.rh_defs.specs.Commands.{kill}
 use Rattle.rh_defs.specs.Step.{step}
 use Rattle.rh_defs.specs.IncomingEvents.{is_deaf}
 use Rattle.rh_defs.specs.Transfer.{answers_none}
-use Rattle.rh_safety.specs.View.{view, seen_parcel, seen_last, seen_scrap, blocks_of, buffers_of, field}
-use Rattle.rh_safety.specs.Ends.{Message, put}
-use Rattle.rh_safety.specs.Protocol as protocol
+use Rattle.rh_safety.proofs.View.{view, seen_parcel, seen_last, seen_scrap, blocks_of, buffers_of, field}
+use Rattle.rh_safety.proofs.Ends.{Message, put}
+use Rattle.rh_safety.proofs.Protocol as protocol
 use Rattle.rh_safety.proofs.SeenTasks.{Same, same_desk, live_of}
 use Rattle.rh_safety.proofs.SeenFrames.{Fits, Follows, Silent, bind, done, instead_of, refused, the_task}
 use Rattle.rh_safety.proofs.SeenSends.{map_append, held_put, seats_held, held_seen}

@@ -11,6 +11,8 @@ use Rattle.rh_defs.specs.declared.message.EventCode.{EventCode}
 use Rattle.rh_defs.specs.declared.message.EventCode.TheVariants.{User, Recorded, Acknowledge}
 use Rattle.rh_defs.specs.declared.message.Letter.{Letter}
 use Rattle.rh_defs.specs.declared.command.Command.TheVariants as command
+use Rattle.rh_defs.specs.declared.reply.Outcome.{Outcome}
+use Rattle.rh_defs.specs.declared.reply.Reply.{Reply}
 use Rattle.rh_defs.specs.declared.transfer.Sending.{Sending}
 use Rattle.rh_defs.specs.declared.transfer.Taking.{Taking}
 use Rattle.rh_defs.specs.declared.transfer.Asked.{Asked}
@@ -33,12 +35,12 @@ use Rattle.rh_defs.specs.Transfer as transfer
 use Rattle.rh_defs.specs.Transfer.{answers_none}
 use Rattle.rh_defs.specs.Commands.{Answer}
 use Rattle.rh_defs.specs.Step.{poll, poll_taken, step}
-use Rattle.rh_safety.specs.View.{view, seen_parcel, blocks_of, buffers_of, task_of}
-use Rattle.rh_safety.specs.History.{is_range, is_bad_range, is_bad_reply}
-use Rattle.rh_safety.specs.Ends.{Has}
-use Rattle.rh_safety.specs.Ends as post
-use Rattle.rh_safety.specs.Protocol as protocol
-use Rattle.rh_safety.specs.Schedules.{range_is_bad}
+use Rattle.rh_safety.proofs.View.{view, seen_parcel, blocks_of, buffers_of, task_of}
+use Rattle.rh_safety.specs.Buffers.{refusal_of, failed_by, HasGoodRanges}
+use Rattle.rh_safety.proofs.Ends.{Has}
+use Rattle.rh_safety.proofs.Ends as post
+use Rattle.rh_safety.proofs.Protocol as protocol
+use Rattle.rh_safety.proofs.Schedules.{range_is_bad}
 use Rattle.rh_safety.proofs.Basics.{either, first_has, put_same}
 use Rattle.rh_safety.proofs.Invariant.{Offered, Good}
 use Rattle.rh_safety.proofs.SeenTasks.{field_is, live_of}
@@ -50,6 +52,22 @@ use Rattle.rh_safety.proofs.SeenHandled.{block_there}
 use Rattle.rh_safety.proofs.SeenTaking.{IsTaken, lost_queue, poll_taken_is}
 use Rattle.rh_safety.proofs.SeenSender.{range_of, buffer_found}
 use Rattle.rh_safety.proofs.SeenPolls.{Reaches, reaches_by}
+
+-- ---- answers that name a bad range
+
+abbrev is_range : Refusal → Bool
+is_range BadRange = true
+is_range _ = false
+
+abbrev names_range : Option Refusal → Bool
+names_range None = false
+names_range (Some r) = is_range r
+
+abbrev is_bad_range : Outcome → Bool
+is_bad_range v = names_range (refusal_of v)
+
+abbrev is_bad_reply : Reply → Bool
+is_bad_reply r = names_range (failed_by r)
 
 -- ---- calls that don't answer so
 
@@ -300,8 +318,15 @@ module _ {o : Offered} {e : ℕ → ℕ → Bool} (d : Desk) (t : Task) (f : Fit
   poll_fine : is_bad_reply (poll_taken (with_delivered (post_poll t.handle d.post).0 d) t (post_poll t.handle d.post).1).1 ≡ false
   poll_fine = let p = post_poll t.handle d.post in taken_fine p (poll_taken_is d t.handle f (live_of d t.handle t is)) p.1 refl
 
-pub never_bad : {o : Offered} {e : ℕ → ℕ → Bool} (d : Desk) (name : List ℕ) → Fits d → Good o e (view d) → is_bad_reply (step d (command.Poll name)).1 ≡ false
+never_bad : {o : Offered} {e : ℕ → ℕ → Bool} (d : Desk) (name : List ℕ) → Fits d → Good o e (view d) → is_bad_reply (step d (command.Poll name)).1 ≡ false
 unfolding poll
 never_bad d name f g =
     bind (λ (a : Answer). is_bad_reply a.1 ≡ false) (named name d) _ (instead_of d) (λ r. refl) (λ t q. done (λ (a : Answer). is_bad_reply a.1 ≡ false) _ (instead_of d) (
     poll_fine d t f (the_task d name t f q) g))
+
+not_bad : (v : Option Refusal) → names_range v ≡ false → v ≢ Some BadRange
+not_bad None q e = cc
+not_bad (Some r) q e = let z : r ≡ BadRange = cc in let y : is_range BadRange ≡ false = subst (λ x. is_range x ≡ false) z q in cc
+
+pub good_ranges : {o : Offered} {e : ℕ → ℕ → Bool} (d : Desk) → Fits d → Good o e (view d) → HasGoodRanges d
+good_ranges d f g name = not_bad _ (never_bad d name f g)

@@ -26,10 +26,10 @@ use Rattle.rh_defs.specs.Places.{first_bytes, free_from, free_anchor}
 use Rattle.rh_defs.specs.Desk.{Desk, Task, Scrap, next_ref, free_pages, with_task, with_slot, with_taking, send_letter}
 use Rattle.rh_defs.specs.OutgoingEvents.{Handled, ignored}
 use Rattle.rh_defs.specs.IncomingEvents.{is_deaf, end_failed, accept, take_save, appended, fetch_more, took, take_bytes, ask, fetch_back, ack_back, loaded, load_file, take_file}
-use Rattle.rh_safety.specs.View.{view, seen_letter, seen_scrap, blocks_of, buffers_of, task_of}
-use Rattle.rh_safety.specs.Ends.{Letter, put, Fetching, Recorded, RamFetch, how_many, one_more}
-use Rattle.rh_safety.specs.Protocol as protocol
-use Rattle.rh_safety.specs.Protocol.{Luck}
+use Rattle.rh_safety.proofs.View.{view, seen_letter, seen_scrap, blocks_of, buffers_of, task_of}
+use Rattle.rh_safety.proofs.Ends.{Letter, put, Fetching, Recorded, RamFetch, how_many, one_more}
+use Rattle.rh_safety.proofs.Protocol as protocol
+use Rattle.rh_safety.proofs.Protocol.{Luck}
 use Rattle.rh_safety.proofs.Basics.{none_some, either, and_left, and_right, not_true, is_equal, asking_is}
 use Rattle.rh_safety.proofs.FlexMaps as flex
 use Rattle.rh_safety.proofs.SeenTasks.{Same, field_is, live_of, slot_is, ins_view, both_view}

@@ -19,11 +19,11 @@ use Rattle.rh_defs.specs.Records.{is_open, is_full}
 use Rattle.rh_defs.specs.Sender as sender
 use Rattle.rh_defs.specs.Desk.{Desk, Task, with_sending, named, has_name, idle_block, next_ref, send_letter}
 use Rattle.rh_defs.specs.Step.{save, repeat, step}
-use Rattle.rh_safety.specs.View.{view, seen_last, flex_map, blocks_of, task_of}
-use Rattle.rh_safety.specs.History.{bytes_of_block, offered_again}
-use Rattle.rh_safety.specs.Ends as post
-use Rattle.rh_safety.specs.Protocol as protocol
-use Rattle.rh_safety.specs.Schedules.{offer_again}
+use Rattle.rh_safety.proofs.View.{view, seen_last, flex_map, blocks_of, task_of}
+use Rattle.rh_safety.specs.Offered.{bytes_of_block, offered_again}
+use Rattle.rh_safety.proofs.Ends as post
+use Rattle.rh_safety.proofs.Protocol as protocol
+use Rattle.rh_safety.proofs.Schedules.{offer_again}
 use Rattle.rh_safety.proofs.FlexMaps as flex
 use Rattle.rh_safety.proofs.SeenTasks.{found_task, field_is, live_of, outs_view}
 use Rattle.rh_safety.proofs.SeenFrames.{Fits, Follows, bind, test, done, is_found, instead_of, the_task}

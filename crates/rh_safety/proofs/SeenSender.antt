@@ -25,12 +25,12 @@ use Rattle.rh_defs.specs.Sender as sender
 use Rattle.rh_defs.specs.Places.{buffer_at, with_heap_bytes, written_in}
 use Rattle.rh_defs.specs.Desk.{Desk, Task, Scrap, next_ref, task_at, with_task, with_sending, send_letter}
 use Rattle.rh_defs.specs.OutgoingEvents.{Handled, portion, transmit, refused, answer_fetch, fail_sending, scrap_shortage, wider, save_scrap, answer_ack, finish_load}
-use Rattle.rh_safety.specs.View.{view, seen_letter, seen_scrap, blocks_of, buffers_of, task_of}
-use Rattle.rh_safety.specs.HeapMap.{bytes_at, heap_map, IsMoved}
-use Rattle.rh_safety.specs.Ends.{Letter, Has, put}
-use Rattle.rh_safety.specs.Protocol as protocol
-use Rattle.rh_safety.specs.Protocol.{Luck}
-use Rattle.rh_safety.specs.Schedules.{range_is_bad}
+use Rattle.rh_safety.proofs.View.{view, seen_letter, seen_scrap, blocks_of, buffers_of, task_of}
+use Rattle.rh_safety.proofs.HeapMap.{bytes_at, heap_map, IsMoved}
+use Rattle.rh_safety.proofs.Ends.{Letter, Has, put}
+use Rattle.rh_safety.proofs.Protocol as protocol
+use Rattle.rh_safety.proofs.Protocol.{Luck}
+use Rattle.rh_safety.proofs.Schedules.{range_is_bad}
 use Rattle.rh_safety.proofs.Basics.{none_some, either, and_left, is_equal, open_is, first_is}
 use Rattle.rh_safety.proofs.FlexMaps as flex
 use Rattle.rh_safety.proofs.HeapMaps as heaps

@@ -14,9 +14,9 @@ use Rattle.rh_defs.specs.Slot.{new_slot}
 use Rattle.rh_defs.specs.Desk.{Desk, Task, with_task, with_post, free_pages, send_letter}
 use Rattle.rh_defs.specs.IncomingEvents.{is_deaf}
 use Rattle.rh_defs.specs.Transfer.{answers_none}
-use Rattle.rh_safety.specs.View.{view, seen_parcel, seen_letter, seen_last, blocks_of, buffers_of}
-use Rattle.rh_safety.specs.Ends.{Message, put}
-use Rattle.rh_safety.specs.Protocol as protocol
+use Rattle.rh_safety.proofs.View.{view, seen_parcel, seen_letter, seen_last, blocks_of, buffers_of}
+use Rattle.rh_safety.proofs.Ends.{Message, put}
+use Rattle.rh_safety.proofs.Protocol as protocol
 use Rattle.rh_safety.proofs.SeenTasks.{Same, same_desk, change_other, change_here, unput, task_or, task_is, slot_at}
 use Rattle.rh_safety.proofs.SeenBlocks.{from_bind, from_test, ok_is, not_refused}
 

@@ -15,9 +15,9 @@ use Rattle.rh_defs.specs.Commands.{start_task, with_new_task}
 use Rattle.rh_defs.specs.Step.{step}
 use Rattle.rh_defs.specs.IncomingEvents.{is_deaf}
 use Rattle.rh_defs.specs.Transfer.{answers_none}
-use Rattle.rh_safety.specs.View.{view, seen_parcel, seen_last, blocks_of, buffers_of, of, task_of, field}
-use Rattle.rh_safety.specs.Ends as post
-use Rattle.rh_safety.specs.Protocol as protocol
+use Rattle.rh_safety.proofs.View.{view, seen_parcel, seen_last, blocks_of, buffers_of, of, task_of, field}
+use Rattle.rh_safety.proofs.Ends as post
+use Rattle.rh_safety.proofs.Protocol as protocol
 use Rattle.rh_safety.proofs.Basics.{none_some}
 use Rattle.rh_safety.proofs.Invariant.{Offered, Good}
 use Rattle.rh_safety.proofs.SeenTasks.{same_desk}

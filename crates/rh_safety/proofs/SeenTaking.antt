@@ -8,10 +8,10 @@ use Rattle.rh_defs.specs.declared.message.EventCode.TheVariants.{User, Recorded,
 use Rattle.rh_defs.specs.Messages.{Parcel, is_recorded}
 use Rattle.rh_defs.specs.Post.{Seat, Post, has_seat, held_by, with_held, without_block, bounce_held, behind_first, first_for, taken_from, taken, post_poll}
 use Rattle.rh_defs.specs.Desk.{Desk, with_post, with_delivered}
-use Rattle.rh_safety.specs.View.{view, seen_parcel, seen_scrap}
-use Rattle.rh_safety.specs.Ends.{Message, put}
-use Rattle.rh_safety.specs.Ends as post
-use Rattle.rh_safety.specs.Protocol as protocol
+use Rattle.rh_safety.proofs.View.{view, seen_parcel, seen_scrap}
+use Rattle.rh_safety.proofs.Ends.{Message, put}
+use Rattle.rh_safety.proofs.Ends as post
+use Rattle.rh_safety.proofs.Protocol as protocol
 use Rattle.rh_safety.proofs.Basics.{none_some}
 use Rattle.rh_safety.proofs.SeenFrames.{Fits}
 use Rattle.rh_safety.proofs.SeenSends.{held_put, held_got, seats_held, held_seen}

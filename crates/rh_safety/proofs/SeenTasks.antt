@@ -11,9 +11,9 @@ use Rattle.rh_defs.specs.declared.transfer.Incoming.{Incoming}
 use Rattle.rh_defs.specs.Desk.{Desk, Task, edit_task, with_task}
 use Rattle.rh_defs.specs.IncomingEvents.{is_deaf}
 use Rattle.rh_defs.specs.Transfer.{answers_none}
-use Rattle.rh_safety.specs.View.{view, seen_last, blocks_of, buffers_of, of, task_of, field}
-use Rattle.rh_safety.specs.Ends.{put, Out, In, Message}
-use Rattle.rh_safety.specs.Protocol as protocol
+use Rattle.rh_safety.proofs.View.{view, seen_last, blocks_of, buffers_of, of, task_of, field}
+use Rattle.rh_safety.proofs.Ends.{put, Out, In, Message}
+use Rattle.rh_safety.proofs.Protocol as protocol
 use Rattle.rh_safety.proofs.Basics.{put_all, none_some}
 
 -- two maps with the same values

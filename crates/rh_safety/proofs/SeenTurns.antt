@@ -1,15 +1,17 @@
 -- Two tasks polled in turn, on the desk itself.
 use Rattle.std.proofs.Common.{◌≡◌, ℕ, zero, suc, ◌+◌, ◌-◌, ◌*◌, ◌/◌, ◌<◌, ◌≤◌, Bool, true, false, not, List, [], ◌∷◌, length, Option, Some, None, refl, sym, ap, ◌∙◌, subst, inl, inr, arith}
-use Rattle.std.specs.Prelude.{if◌then◌else◌, ◌==◌, find, map, Ok}
+use Rattle.std.specs.Prelude.{◌&&◌, if◌then◌else◌, ◌==◌, find, map, Ok}
 use Rattle.std.specs.Option.{option_map}
-use Rattle.std.specs.List.{list_any}
+use Rattle.std.specs.List.{list_any, AllByRecursion}
 use Rattle.rh_defs.specs.declared.refusal.Refusal.TheVariants.{NoName}
 use Rattle.rh_defs.specs.declared.command.Command.{Command}
 use Rattle.rh_defs.specs.declared.command.Command.TheVariants as command
 use Rattle.rh_defs.specs.declared.message.EventCode.TheVariants.{Recorded}
 use Rattle.rh_defs.specs.declared.reply.Reply.TheVariants as reply
 use Rattle.rh_defs.specs.declared.transfer.Incoming.{Incoming}
-use Rattle.rh_defs.specs.Forms.{is_name}
+use Rattle.rh_defs.specs.Forms.{is_name, is_anchor, is_leaf}
+use Rattle.rh_defs.specs.Laws.{IsDesk}
+use Rattle.rh_defs.proofs.Steps.{step-keeps}
 use Rattle.rh_defs.specs.Range.{in_range}
 use Rattle.rh_defs.specs.Messages.{Parcel}
 use Rattle.rh_defs.specs.Post.{Seat, held_by, post_poll}
@@ -18,16 +20,16 @@ use Rattle.rh_defs.specs.Desk.{Desk, Task, has_name, task_at, named, with_delive
 use Rattle.rh_defs.specs.Commands.{Answer}
 use Rattle.rh_defs.specs.Step.{poll, poll_taken, step}
 use Rattle.rh_defs.specs.Runs.{after}
-use Rattle.rh_safety.specs.View.{view, seen_parcel, blocks_of, of, task_of}
-use Rattle.rh_safety.specs.Ends as post
-use Rattle.rh_safety.specs.Schedules.{offers_from}
+use Rattle.rh_safety.proofs.View.{view, seen_parcel, blocks_of, of, task_of}
+use Rattle.rh_safety.proofs.Ends as post
+use Rattle.rh_safety.proofs.Schedules.{offers_from}
 use Rattle.rh_defs.specs.Records.{is_open, is_going}
 use Rattle.rh_defs.specs.Transfer.{answers_none}
-use Rattle.rh_safety.specs.History.{is_refused_poll, all_granted, turns, turns_before, CanAlternate, SenderDone, ReceiverDone, Alternates}
-use Rattle.rh_safety.specs.Ends.{Has, Out, Open, Out_done, In_done, Message, Plain}
-use Rattle.rh_safety.specs.Protocol as protocol
-use Rattle.rh_safety.specs.Protocol.{Luck}
-use Rattle.rh_safety.proofs.Basics.{either, and_left, and_right, none_some, not_true}
+use Rattle.rh_safety.specs.Alternation.{is_refused_poll, all_granted, turns, turns_before, CanAlternate, SenderDone, ReceiverDone, EndsDone, Alternates}
+use Rattle.rh_safety.proofs.Ends.{Has, Out, Open, Out_done, In_done, Message, Plain}
+use Rattle.rh_safety.proofs.Protocol as protocol
+use Rattle.rh_safety.proofs.Protocol.{Luck}
+use Rattle.rh_safety.proofs.Basics.{contains_of, either, and_left, and_right, none_some, not_true}
 use Rattle.rh_safety.proofs.Invariant.{Offered, Good}
 use Rattle.rh_safety.proofs.Runs.{run_good}
 use Rattle.rh_safety.proofs.Turns.{Waiting, Answered, waiting_lost, answered_lost, lost_buf, polled_is, sender_last, sender_full, sender_record, receiver_last, receiver_full, GoesOn, AllCame, Ready, ready_lost, saved_lost, first_one, offer, offer_queued, none_held, receiver_first, out_rest, in_rest}
@@ -37,7 +39,8 @@ use Rattle.rh_safety.proofs.SeenKeys.{keys_of, named_in, handle_named, SameKeys}
 use Rattle.rh_safety.proofs.SeenNames.{handled_keys}
 use Rattle.rh_safety.proofs.SeenPolls.{IsPoll, poll_is}
 use Rattle.rh_safety.proofs.SeenSaves.{IsSaved, save_step}
-use Rattle.rh_safety.proofs.SeenLaws.{Keeps, block_is}
+use Rattle.rh_safety.proofs.SeenDesks.{fits}
+use Rattle.rh_safety.proofs.SeenLaws.{IsReached, block_is}
 
 -- ---- one poll, by name
 
@@ -46,10 +49,10 @@ abbrev IsNamed : List ℕ → Desk → ℕ → Type 0
 IsNamed name d h = named_in name (keys_of d.tasks) ≡ Some h
 
 -- the desk after a poll
-record IsPolled (K : Desk → Type 0) (o : Offered) (e : ℕ → ℕ → Bool) (d : Desk) (h : ℕ) (a : Answer) : Type 0 where
+record IsPolled (o : Offered) (e : ℕ → ℕ → Bool) (d : Desk) (h : ℕ) (a : Answer) : Type 0 where
   pub poll : IsPoll d h a
   pub keys : SameKeys d a.0
-  pub kept : K a.0
+  pub kept : IsDesk a.0
   pub good : Good o e (view a.0)
 
 taken_keys : (d : Desk) (t : Task) (v : Option Parcel) → SameKeys d (poll_taken d t v).0
@@ -77,27 +80,27 @@ poll_in_range name q = q
 polled_good : {o : Offered} {e : ℕ → ℕ → Bool} (d : protocol.Desk) (h : ℕ) (luck : Luck) → d.live h ≡ true → Good o e d → Good o e (protocol.polled d h luck)
 polled_good {o} {e} d h luck live g = subst (λ (y : protocol.Desk). Good o e y) (ap (λ b. if b then protocol.polled d h luck else d) live) (run_good (protocol.Poll h luck ∷ []) g)
 
-module _ (K : Desk → Type 0) (keeps : Keeps K) (o : Offered) (e : ℕ → ℕ → Bool) where
+module _ (o : Offered) (e : ℕ → ℕ → Bool) where
   -- what goes on from poll to poll
   record At (d : Desk) : Type 0 where
-    pub kept : K d
+    pub kept : IsDesk d
     pub good : Good o e (view d)
 
-  is_polled : (d : Desk) (name : List ℕ) (h : ℕ) → At d → is_name name ≡ true → IsNamed name d h → IsPolled K o e d h (step d (command.Poll name))
+  is_polled : (d : Desk) (name : List ℕ) (h : ℕ) → At d → is_name name ≡ true → IsNamed name d h → IsPolled o e d h (step d (command.Poll name))
   is_polled d name h a valid is_named =
-      let f = keeps.fits d a.kept in
+      let f = fits d a.kept in
       let w = found_of h (find (has_name name) d.tasks) (handle_named name d.tasks ∙ is_named) in
       let t = w.0 in
       let is : task_of t.handle d.tasks ≡ Some t = found_task (has_name name) d.tasks t f.handles w.1 in
       let x = poll_taken (with_delivered (post_poll t.handle d.post).0 d) t (post_poll t.handle d.post).1 in
       let p : IsPoll d t.handle x = poll_is d t f is a.good in
       let same : step d (command.Poll name) ≡ x = poll_step d name t w.1 in
-      let kept : K (step d (command.Poll name)).0 = keeps.step d (command.Poll name) (poll_in_range name valid) a.kept in
-      subst (λ (k : ℕ). IsPolled K o e d k (step d (command.Poll name))) w.2
-      (subst (λ (y : Answer). IsPolled K o e d t.handle y) (sym same) (record {
+      let kept : IsDesk (step d (command.Poll name)).0 = step-keeps d (command.Poll name) (poll_in_range name valid) a.kept in
+      subst (λ (k : ℕ). IsPolled o e d k (step d (command.Poll name))) w.2
+      (subst (λ (y : Answer). IsPolled o e d t.handle y) (sym same) (record {
         poll = p;
         keys = taken_keys (with_delivered (post_poll t.handle d.post).0 d) t (post_poll t.handle d.post).1 ∙ delivered_keys (post_poll t.handle d.post).0 d;
-        kept = subst (λ (y : Answer). K y.0) same kept;
+        kept = subst (λ (y : Answer). IsDesk y.0) same kept;
         good = subst (λ (y : protocol.Desk). Good o e y) (sym p.seen) (polled_good (view d) t.handle p.luck (live_of d t.handle t is) a.good);
       }))
 
@@ -108,7 +111,7 @@ module _ (K : Desk → Type 0) (keeps : Keeps K) (o : Offered) (e : ℕ → ℕ 
       pub sender : IsNamed s d hs
       pub receiver : IsNamed r d hr
 
-    next_tasks : (d : Desk) (h : ℕ) (a : Answer) → Tasks d → IsPolled K o e d h a → Tasks a.0
+    next_tasks : (d : Desk) (h : ℕ) (a : Answer) → Tasks d → IsPolled o e d h a → Tasks a.0
     next_tasks d h a t p = record {
       at_ = record { kept = p.kept; good = p.good };
       sender = ap (named_in s) p.keys ∙ t.sender;
@@ -221,7 +224,7 @@ module _ (K : Desk → Type 0) (keeps : Keeps K) (o : Offered) (e : ℕ → ℕ 
         go (Some t) e q = (t, e, q)
 
     sender_done : (d : Desk) (id : ℕ) (source : List ℕ) → Has (Out_done id (length source)) ((view d).sending hs) → SenderDone d hs id source
-    sender_done d id source q = let w = has_task d hs (Out_done id (length source)) q in record { task = w.0; is = w.1; sends = w.2 }
+    sender_done d id source q = let w = has_task d hs (Out_done id (length source)) q in record { task = w.0; is = w.1; sends = contains_of w.0.sending (Out_done id (length source)) w.2 }
 
     receiver_done : (d : Desk) (doc id : ℕ) (source : List ℕ) → AllCame (view d) doc hs hr id source → ReceiverDone d hr id source
     receiver_done d doc id source a =
@@ -230,20 +233,20 @@ module _ (K : Desk → Type 0) (keeps : Keeps K) (o : Offered) (e : ℕ → ℕ 
           task = w.0;
           is = w.1;
           anchor = doc;
-          takes = w.2;
+          takes = contains_of w.0.taking (In_done id doc (length source)) w.2;
           document = sym (block_is w.0.slot doc) ∙ sym (ap (λ (g : ℕ → Option (List ℕ)). g doc) (field_is (λ (y : Task). blocks_of y.slot) (λ a. None) hr d.tasks w.0 w.1)) ∙ a.document;
         }
 
 -- nobody holds a message
-none_seated : (h : ℕ) (seats : List Seat) → ((seat : Seat) → Has seat seats → seat.holds ≡ None) → held_by h seats ≡ None
-none_seated h [] f = refl
-none_seated h (seat ∷ seats) f = either (λ (o : Option Parcel). o ≡ None) (seat.handle == h) seat.holds (held_by h seats) (λ e. f seat (inl refl)) (λ e. none_seated h seats (λ x q. f x (inr q)))
+none_seated : (h : ℕ) (seats : List Seat) → AllByRecursion (λ (seat : Seat). seat.holds ≡ None) seats → held_by h seats ≡ None
+none_seated h [] all = refl
+none_seated h (seat ∷ seats) all = either (λ (o : Option Parcel). o ≡ None) (seat.handle == h) seat.holds (held_by h seats) (λ e. all.0) (λ e. none_seated h seats all.1)
 
 -- both tasks are ready
 can_be_ready : {o : Offered} {e : ℕ → ℕ → Bool} (d : Desk) (s r : List ℕ) (k : ℕ) (t u : Task) (source : List ℕ) → Fits d → Good o e (view d) → CanAlternate d s r k t u source → Ready (view d) t.handle u.handle k source
 can_be_ready d s r k t u source f g c =
-    let is_t : task_of t.handle d.tasks ≡ Some t = found_task (has_name s) d.tasks t f.handles c.sender in
-    let is_u : task_of u.handle d.tasks ≡ Some u = found_task (has_name r) d.tasks u f.handles c.receiver in
+    let is_t : task_of t.handle d.tasks ≡ Some t = found_task (has_name s) d.tasks t f.handles c.sender_is in
+    let is_u : task_of u.handle d.tasks ≡ Some u = found_task (has_name r) d.tasks u f.handles c.receiver_is in
     record {
       queue = ap (map seen_parcel) c.queue;
       held = λ h. ap (option_map seen_parcel) (none_seated h d.post.seats c.held);
@@ -252,7 +255,7 @@ can_be_ready d s r k t u source f g c =
       block = ap (λ (m : ℕ → Option (List ℕ)). m k) (field_is (λ (y : Task). blocks_of y.slot) (λ a. None) t.handle d.tasks t is_t) ∙ block_is t.slot k ∙ c.block;
       live_sender = live_of d t.handle t is_t;
       live_receiver = live_of d u.handle u is_u;
-      fetches = field_is (λ (y : Task). answers_none y.manner) false t.handle d.tasks t is_t ∙ c.fetches;
+      fetches = field_is (λ (y : Task). answers_none y.manner) false t.handle d.tasks t is_t ∙ c.answers;
       some = g.inv.ins.room u.handle;
       order = g.inv.order;
     }
@@ -266,7 +269,7 @@ lost_next : (b : Bool) (d : protocol.Desk) → (protocol.lost_if b d).next_ref �
 lost_next true d = refl
 lost_next false d = refl
 
-module _ (K : Desk → Type 0) (keeps : Keeps K) (o : Offered) (e : ℕ → ℕ → Bool) (d : Desk) (kept : K d) (g : Good o e (view d)) (s r : List ℕ) (k : ℕ) (leaf : List ℕ) (t u : Task) (id : ℕ) (source : List ℕ)
+module _ (o : Offered) (e : ℕ → ℕ → Bool) (d : Desk) (kept : IsDesk d) (g : Good o e (view d)) (s r : List ℕ) (k : ℕ) (leaf : List ℕ) (t u : Task) (id : ℕ) (source : List ℕ)
     (valid : in_range (command.Save s k r leaf) ≡ true) (valid_s : is_name s ≡ true) (valid_r : is_name r ≡ true) (c : CanAlternate d s r k t u source) (accepted : (step d (command.Save s k r leaf)).1 ≡ reply.Sent id)
     (all : all_granted (step d (command.Save s k r leaf)).0 (turns r s (suc (length source / u.buffer))) ≡ true) where
   abbrev hs : ℕ
@@ -284,36 +287,36 @@ module _ (K : Desk → Type 0) (keeps : Keeps K) (o : Offered) (e : ℕ → ℕ 
   abbrev o0 : Offered
   o0 = offers_from o (view d) (protocol.Save hs k hr true ∷ [])
 
-  fits : Fits d
-  fits = keeps.fits d kept
+  fitting : Fits d
+  fitting = fits d kept
 
   ready : Ready (view d) hs hr k source
-  ready = can_be_ready d s r k t u source fits g c
+  ready = can_be_ready d s r k t u source fitting g c
 
   saved_is : IsSaved d d0 hs hr k id
-  saved_is = save_step d s k r leaf t u id fits c.sender c.receiver accepted
+  saved_is = save_step d s k r leaf t u id fitting c.sender_is c.receiver_is accepted
 
   view0 : view d0 ≡ protocol.saved (view d) hs k hr
   view0 = saved_is.seen ∙ saved_is.accepted
 
-  at0 : At K keeps o0 e d0
-  at0 = record { kept = keeps.step d (command.Save s k r leaf) valid kept; good = subst (λ (y : protocol.Desk). Good o0 e y) (sym saved_is.seen) (run_good (protocol.Save hs k hr true ∷ []) g) }
+  at0 : At o0 e d0
+  at0 = record { kept = step-keeps d (command.Save s k r leaf) valid kept; good = subst (λ (y : protocol.Desk). Good o0 e y) (sym saved_is.seen) (run_good (protocol.Save hs k hr true ∷ []) g) }
 
-  tasks0 : Tasks K keeps o0 e s r hs hr valid_s valid_r d0
+  tasks0 : Tasks o0 e s r hs hr valid_s valid_r d0
   tasks0 = record {
     at_ = at0;
-    sender = ap (named_in s) saved_is.keys ∙ sym (handle_named s d.tasks) ∙ ap (option_map (λ (y : Task). y.handle)) c.sender;
-    receiver = ap (named_in r) saved_is.keys ∙ sym (handle_named r d.tasks) ∙ ap (option_map (λ (y : Task). y.handle)) c.receiver;
+    sender = ap (named_in s) saved_is.keys ∙ sym (handle_named s d.tasks) ∙ ap (option_map (λ (y : Task). y.handle)) c.sender_is;
+    receiver = ap (named_in r) saved_is.keys ∙ sym (handle_named r d.tasks) ∙ ap (option_map (λ (y : Task). y.handle)) c.receiver_is;
   }
 
   none0 : (view d0).held hr ≡ None
   none0 = ap (λ (y : protocol.Desk). y.held hr) view0 ∙ none_held (view d) hs hr k source ready hr
 
-  first : IsPolled K o0 e d0 hr (step d0 (command.Poll r))
-  first = is_polled K keeps o0 e d0 r hr at0 valid_r tasks0.receiver
+  first : IsPolled o0 e d0 hr (step d0 (command.Poll r))
+  first = is_polled o0 e d0 r hr at0 valid_r tasks0.receiver
 
   not_refused_first : is_refused_poll (step d0 (command.Poll r)).1 ≡ false
-  not_refused_first = granted K keeps o0 e s r hs hr valid_s valid_r d0 (command.Poll r) (command.Poll s ∷ turns r s j) all
+  not_refused_first = granted o0 e s r hs hr valid_s valid_r d0 (command.Poll r) (command.Poll s ∷ turns r s j) all
 
   abbrev luck : Luck
   luck = first.poll.luck
@@ -344,23 +347,23 @@ module _ (K : Desk → Type 0) (keeps : Keeps K) (o : Offered) (e : ℕ → ℕ 
   goes = receiver_first D hs hr k source ready1 luck begins
 
   size1 : (view d1).buf hr ≡ u.buffer
-  size1 = ap (λ (y : protocol.Desk). y.buf hr) view1 ∙ goes.size ∙ lost_buf luck.lost (view d) hr ∙ field_is (λ (y : Task). y.buffer) 1 hr d.tasks u (found_task (has_name r) d.tasks u fits.handles c.receiver)
+  size1 = ap (λ (y : protocol.Desk). y.buf hr) view1 ∙ goes.size ∙ lost_buf luck.lost (view d) hr ∙ field_is (λ (y : Task). y.buffer) 1 hr d.tasks u (found_task (has_name r) d.tasks u fitting.handles c.receiver_is)
 
-  at1 : AtFetch K keeps o0 e s r hs hr valid_s valid_r (out_rest D hs) (in_rest D hr) luck.anchor luck.address D.next_ref k u.buffer source d1 0
+  at1 : AtFetch o0 e s r hs hr valid_s valid_r (out_rest D hs) (in_rest D hr) luck.anchor luck.address D.next_ref k u.buffer source d1 0
   at1 = record {
-    tasks = next_tasks K keeps o0 e s r hs hr valid_s valid_r d0 hr (step d0 (command.Poll r)) tasks0 first;
+    tasks = next_tasks o0 e s r hs hr valid_s valid_r d0 hr (step d0 (command.Poll r)) tasks0 first;
     waits = subst (λ (y : protocol.Desk). Waiting (out_rest D hs) (in_rest D hr) y luck.anchor luck.address hs hr D.next_ref k 0 source) (sym view1) goes.waits;
     size = size1;
   }
 
   some : 0 < u.buffer
-  some = subst (λ n. 0 < n) (field_is (λ (y : Task). y.buffer) 1 hr d.tasks u (found_task (has_name r) d.tasks u fits.handles c.receiver)) ready.some
+  some = subst (λ n. 0 < n) (field_is (λ (y : Task). y.buffer) 1 hr d.tasks u (found_task (has_name r) d.tasks u fitting.handles c.receiver_is)) ready.some
 
-  ends : Ends K keeps o0 e s r hs hr valid_s valid_r (out_rest D hs) (in_rest D hr) luck.anchor luck.address D.next_ref k u.buffer source
+  ends : Ends o0 e s r hs hr valid_s valid_r (out_rest D hs) (in_rest D hr) luck.anchor luck.address D.next_ref k u.buffer source
       (after d1 (command.Poll s ∷ turns_before r s j)) (after d1 (command.Poll s ∷ turns r s j))
-  ends = more_turns K keeps o0 e s r hs hr valid_s valid_r (out_rest D hs) (in_rest D hr) luck.anchor luck.address D.next_ref k u.buffer source j d1 0 at1
+  ends = more_turns o0 e s r hs hr valid_s valid_r (out_rest D hs) (in_rest D hr) luck.anchor luck.address D.next_ref k u.buffer source j d1 0 at1
       (let z = some in omega arith) (let z = some in omega arith)
-      (rest_granted K keeps o0 e s r hs hr valid_s valid_r d0 (command.Poll r) (command.Poll s ∷ turns r s j) all)
+      (rest_granted o0 e s r hs hr valid_s valid_r d0 (command.Poll r) (command.Poll s ∷ turns r s j) all)
 
   id_is : D.next_ref ≡ id
   id_is = lost_next luck.lost (view d) ∙ saved_is.ref
@@ -368,14 +371,29 @@ module _ (K : Desk → Type 0) (keeps : Keeps K) (o : Offered) (e : ℕ → ℕ 
   came : AllCame (view (after d1 (command.Poll s ∷ turns r s j))) luck.anchor hs hr id source
   came = subst (λ n. AllCame (view (after d1 (command.Poll s ∷ turns r s j))) luck.anchor hs hr n source) id_is ends.came
 
-  alternates_suc : (n : ℕ) → suc j ≡ n →
-      SenderDone (after d (command.Save s k r leaf ∷ turns_before r s n)) hs id source × SenderDone (after d (command.Save s k r leaf ∷ turns r s n)) hs id source × ReceiverDone (after d (command.Save s k r leaf ∷ turns r s n)) hr id source
-  alternates_suc n q =
-      subst (λ i. SenderDone (after d (command.Save s k r leaf ∷ turns_before r s i)) hs id source × SenderDone (after d (command.Save s k r leaf ∷ turns r s i)) hs id source × ReceiverDone (after d (command.Save s k r leaf ∷ turns r s i)) hr id source) q (
-        sender_done K keeps o0 e s r hs hr valid_s valid_r _ id source (subst (λ i. Has (Out_done i (length source)) ((view (after d1 (command.Poll s ∷ turns_before r s j))).sending hs)) id_is ends.sent),
-        sender_done K keeps o0 e s r hs hr valid_s valid_r _ id source came.sends,
-        receiver_done K keeps o0 e s r hs hr valid_s valid_r _ luck.anchor id source came,
-      )
+  ends_suc : (n : ℕ) → suc j ≡ n → EndsDone d0 s r n hs hr id source
+  ends_suc n q =
+      subst (λ i. EndsDone d0 s r i hs hr id source) q (record {
+        before = sender_done o0 e s r hs hr valid_s valid_r _ id source (subst (λ i. Has (Out_done i (length source)) ((view (after d1 (command.Poll s ∷ turns_before r s j))).sending hs)) id_is ends.sent);
+        sends = sender_done o0 e s r hs hr valid_s valid_r _ id source came.sends;
+        takes = receiver_done o0 e s r hs hr valid_s valid_r _ luck.anchor id source came;
+      })
 
-  pub alternates : Alternates d s r k leaf t u id source
-  alternates = let w = alternates_suc (j + 1) (omega arith) in record { before = w.0; sends = w.1; takes = w.2 }
+save_names : (s : List ℕ) (k : ℕ) (r leaf : List ℕ) → in_range (command.Save s k r leaf) ≡ true → (is_name s ≡ true) × (is_name r ≡ true)
+unfolding in_range
+save_names s k r leaf q = both (is_name s) (is_anchor k) (is_name r) (is_leaf leaf) q
+  where
+    both : (a b c e : Bool) → (a && b && c && e) ≡ true → (a ≡ true) × (c ≡ true)
+    both true true true e q = (refl, refl)
+    both true true false e q = absurd cc
+    both true false c e q = absurd cc
+    both false b c e q = absurd cc
+
+pub alternates : (d : Desk) → IsReached d → Alternates d
+alternates d w s r k leaf t u source id valid c accepted all =
+    let names = save_names s k r leaf valid in
+    let j : ℕ = length source / u.buffer in
+    let d0 : Desk = (step d (command.Save s k r leaf)).0 in
+    let one : suc j ≡ j + 1 = omega arith in
+    ends_suc w.offers w.edits d w.kept w.good s r k leaf t u id source valid names.0 names.1 c accepted
+    (subst (λ (n : ℕ). all_granted d0 (turns r s n) ≡ true) (sym one) all) (j + 1) one

@@ -1,8 +1,8 @@
 -- Sends, ends of records, writes and edits keep the invariant.
 use Rattle.std.proofs.Common.{◌≡◌, ◌≢◌, ℕ, ◌+◌, ◌≤◌, ◌<◌, Bool, true, false, List, [], ◌∷◌, ◌++◌, length, take, Option, Some, None, refl, sym, ap, ◌∙◌, subst, ◌⊎◌, inl, inr, arith}
 use Rattle.std.proofs.lemmas.Bool.Decides.{eqb_tells}
-use Rattle.rh_safety.specs.Ends.{Recorded, DataSave, RamFetch, RamTransmit, DataSaveAck, DataLoad, Letter, Message, Sending, Taking, Asked, Out, Open, Out_done, Out_failed, In, Fetching, Draining, Asking, In_done, In_failed, is_going, is_growing, out_id, in_id, in_anchor, Has, Active, put, with_id}
-use Rattle.rh_safety.specs.Protocol.{owned, Desk, sent, still_held, ended, asked}
+use Rattle.rh_safety.proofs.Ends.{Recorded, DataSave, RamFetch, RamTransmit, DataSaveAck, DataLoad, Letter, Message, Sending, Taking, Asked, Out, Open, Out_done, Out_failed, In, Fetching, Draining, Asking, In_done, In_failed, is_going, is_growing, out_id, in_id, in_anchor, Has, Active, put, with_id}
+use Rattle.rh_safety.proofs.Protocol.{owned, Desk, sent, still_held, ended, asked}
 use Rattle.rh_safety.proofs.Basics.{length_with, put_all, put_same, put_other, Has-append, none_some, same_value, pair_append, Ascend, one_of_id, with_keeps, with_puts, with_ascends}
 use Rattle.rh_safety.proofs.Invariant.{Offered, queued, kept, latest, Knows, Offers, LetterIn, Carries, Source, Counted, Begins, Untouched, IsGood, HasBuffer, Order, Unread, Inv, IsWaiting, Waits, Asks, PendingAt, Good}
 use Rattle.rh_safety.proofs.Moves.{letters_more, outs_more, ins_more, boths_more, letters_bump, outs_bump, ins_bump, Move, OutOk, outs_move, outs_less, HoldOk, ins_move, move_active, move_with, ins_less, BothOutOk, boths_out, BothInOk, boths_in, loads_more, loads_other, loads_lost, loads_in, loads_end}

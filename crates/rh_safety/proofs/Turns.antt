@@ -4,8 +4,8 @@ use Rattle.std.specs.Prelude.{if◌then◌else◌, nat_eq, nat_lt, nat_le, is_no
 use Rattle.std.proofs.lemmas.List.{length-replicate}
 use Rattle.std.proofs.lemmas.Bool.{eq-eqb}
 use Rattle.std.proofs.lemmas.Bool.Decides.{eqb_tells, leb_tells}
-use Rattle.rh_safety.specs.Ends.{Asking, Code, Plain, Recorded, DataSave, RamFetch, RamTransmit, Letter, Message, Sending, Taking, Out, Open, Out_done, Out_failed, In, Fetching, Draining, In_done, In_failed, out_id, in_id, is_open, is_going, Has, put, any, how_many, drop_first, with_id, find_open, find_active, first_for, without_first}
-use Rattle.rh_safety.specs.Protocol.{on_fetch_by, lost_if, Desk, Luck, saved, still_held, returned, picked, begun, can_begin, on_save, ended, bytes_of, longer, fetched, goes_on, appended, extends, matches, on_transmit, portion, moved, transmits, has_room, in_range, recipient_lives, failed, would_answer, on_fetch, handled, handed_out, after_return, polled}
+use Rattle.rh_safety.proofs.Ends.{Asking, Code, Plain, Recorded, DataSave, RamFetch, RamTransmit, Letter, Message, Sending, Taking, Out, Open, Out_done, Out_failed, In, Fetching, Draining, In_done, In_failed, out_id, in_id, is_open, is_going, Has, put, any, how_many, drop_first, with_id, find_open, find_active, first_for, without_first}
+use Rattle.rh_safety.proofs.Protocol.{on_fetch_by, lost_if, Desk, Luck, saved, still_held, returned, picked, begun, can_begin, on_save, ended, bytes_of, longer, fetched, goes_on, appended, extends, matches, on_transmit, portion, moved, transmits, has_room, in_range, recipient_lives, failed, would_answer, on_fetch, handled, handed_out, after_return, polled}
 use Rattle.rh_safety.proofs.Basics.{and_left, and_right, none_of, put_all, put_same, put_other, take_more, length_take, front_written, length_written, none_some, or_left, or_right, either, drop_old, Has-right}
 use Rattle.rh_safety.proofs.Invariant.{Order}
 use Rattle.rh_safety.proofs.Arrivals.{take_whole}

@@ -35,7 +35,9 @@ use Rattle.rh_defs.specs.IncomingEvents.{is_deaf, end_failed, take_save, appende
 use Rattle.rh_defs.specs.Transfer.{answers_none, came, came_back}
 use Rattle.rh_defs.specs.Step.{event, save, cancel_in, step}
 use Rattle.rh_defs.specs.Script
-use Rattle.rh_safety.specs.History.{Offers, Edits, offers_next, edits_next, held_of, first_desk, bytes_of_buffer}
+use Rattle.rh_safety.specs.Offered.{Offers, offers_next}
+use Rattle.rh_safety.specs.Held.{Edits, edits_next, held_of}
+use Rattle.rh_safety.specs.Buffers.{bytes_of_buffer}
 use Rattle.rh_safety.proofs.SafetyRows.{fresh, script}
 
 -- the definitions that may be changed
@@ -101,7 +103,7 @@ run_by rules r [] = r
 run_by rules r (c ∷ commands) = run_by rules (next_by rules r c) commands
 
 abbrev run_of : Rules → List String → Run
-run_of rules lines = run_by rules (record { desk = first_desk fresh; offers = λ id. None; edits = λ h id. false }) (script lines)
+run_of rules lines = run_by rules (record { desk = fresh; offers = λ id. None; edits = λ h id. false }) (script lines)
 
 -- what the task holds of a transfer, and what that offered
 abbrev held_offered : Rules → List String → ℕ → ℕ → Option (List ℕ) × Option (List ℕ)

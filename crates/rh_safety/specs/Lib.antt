@@ -1,7 +1,5 @@
-pub mod Ends
-pub mod Protocol
-pub mod Schedules
-pub mod View
-pub mod History
-pub mod FlexMap
-pub mod HeapMap
+pub mod Offered
+pub mod Held
+pub mod Safe
+pub mod Buffers
+pub mod Alternation

@@ -2,7 +2,7 @@
 use Rattle.std.specs.Prelude.{◌≡◌, ℕ, ◌+◌, ◌≤◌, List, [], ◌∷◌, length, Option, Some, None}
 use Rattle.rh_defs.specs.Pieces.{Split, with_here}
 use Rattle.rh_defs.specs.Blocks as blocks
-use Rattle.rh_safety.specs.Ends.{put}
+use Rattle.rh_safety.proofs.Ends.{put}
 use Rattle.rh_defs.specs.Heap.{Segment, Used, Hole, Heap, Placed, Way, Stays, Shrinks, GrowsIntoHole, GrowsAtTop, MovesToHole, MovesToTop}
 
 -- the bytes of the block at an address, of segments that begin at a place

@@ -1,5 +1,5 @@
 -- Letters, and the records of the two ends of a transfer.
-use Rattle.std.specs.Prelude.{ℕ, ◌+◌, Bool, true, false, ◌++◌, nat_le, List, [], ◌∷◌, length, Option, Some, None, if◌then◌else◌, ◌==◌, ◌⊎◌}
+use Rattle.std.specs.Prelude.{◌≡◌, ℕ, ◌+◌, Bool, true, false, ◌++◌, nat_le, List, [], ◌∷◌, length, Option, Some, None, if◌then◌else◌, ◌==◌, ◌⊎◌}
 -- the records of the desk
 pub use Rattle.rh_defs.specs.declared.transfer.Sending.{Sending}
 pub use Rattle.rh_defs.specs.declared.transfer.Taking.{Taking}
@@ -14,9 +14,19 @@ pub use Rattle.rh_defs.specs.declared.message.EventCode.{EventCode as Code}
 pub use Rattle.rh_defs.specs.declared.message.EventCode.TheVariants.{User as Plain, Recorded, Acknowledge as Returned}
 pub use Rattle.rh_defs.specs.declared.message.Action.{Action as Kind}
 pub use Rattle.rh_defs.specs.declared.message.Action.TheVariants.{DataSave, DataSaveAck, DataLoad, DataLoadAck, RamFetch, RamTransmit}
-pub use Rattle.rh_safety.specs.History.{in_anchor, is_document_of, at_place as put, Has, IsPrefixOf, Offers, Edits}
+pub use Rattle.rh_safety.specs.Offered.{at_place as put, Offers}
+pub use Rattle.rh_safety.specs.Held.{in_anchor, is_document_of, Edits}
 pub use Rattle.std.specs.Prelude.{find as first}
 pub use Rattle.std.specs.List.{list_any as any}
+
+-- a member of a list
+abbrev pub Has : {A : Type 0} → A → List A → Type 0
+Has x [] = ⊥
+Has x (y ∷ ys) = (y ≡ x) ⊎ Has x ys
+
+-- the list begins with another one
+abbrev pub IsPrefixOf : List ℕ → List ℕ → Type 0
+IsPrefixOf xs ys = (rest : List ℕ) × (xs ++ rest ≡ ys)
 
 -- what stays the same when a message bounces
 pub record Letter : Type 0 where

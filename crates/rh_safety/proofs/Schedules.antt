@@ -1,7 +1,7 @@
 -- What a list of commands offered, and what is held of it.
 use Rattle.std.specs.Prelude.{◌≡◌, ℕ, ◌≤◌, ◌<◌, Bool, true, false, not, ◌||◌, ◌==◌, if◌then◌else◌, List, [], ◌∷◌, length, Option, Some, None, nat_le}
-use Rattle.rh_safety.specs.Ends.{is_document_of, IsPrefixOf, Kind, DataSave, RamFetch, RamTransmit, DataSaveAck, DataLoad, DataLoadAck, Message, Sending, Taking, Out_done, In, In_done, in_id, in_anchor, Active, Has, put, any, first}
-use Rattle.rh_safety.specs.Protocol.{Desk, Command, Start, Kill, Save, Poll, Repeat, Cancel_in, Cancel_out, Alloc, Change, Free, Claim, Release, Lose, step, run, start, can_save, can_repeat, can_edit}
+use Rattle.rh_safety.proofs.Ends.{is_document_of, IsPrefixOf, Kind, DataSave, RamFetch, RamTransmit, DataSaveAck, DataLoad, DataLoadAck, Message, Sending, Taking, Out_done, In, In_done, in_id, in_anchor, Active, Has, put, any, first}
+use Rattle.rh_safety.proofs.Protocol.{Desk, Command, Start, Kill, Save, Poll, Repeat, Cancel_in, Cancel_out, Alloc, Change, Free, Claim, Release, Lose, step, run, start, can_save, can_repeat, can_edit}
 
 -- Offered
 

@@ -12,8 +12,8 @@ use Rattle.rh_defs.specs.Records.{most_records}
 use Rattle.rh_defs.specs.Desk.{Desk, Task, Scrap}
 use Rattle.rh_defs.specs.IncomingEvents.{is_deaf}
 use Rattle.rh_defs.specs.Transfer.{answers_none}
-use Rattle.rh_safety.specs.Ends as ram
-use Rattle.rh_safety.specs.Protocol as protocol
+use Rattle.rh_safety.proofs.Ends as ram
+use Rattle.rh_safety.proofs.Protocol as protocol
 
 -- ---- messages
 

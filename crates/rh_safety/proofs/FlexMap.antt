@@ -2,8 +2,8 @@
 use Rattle.std.specs.Prelude.{◌≡◌, ℕ, ◌==◌, List, [], ◌∷◌, ◌++◌, Option, Some, None}
 use Rattle.rh_defs.specs.Pieces.{Split, first_at, with_here}
 use Rattle.rh_defs.specs.Slot.{Flex, HaveAnchors}
-use Rattle.rh_safety.specs.View.{flex_map}
-use Rattle.rh_safety.specs.Ends.{put}
+use Rattle.rh_safety.proofs.View.{flex_map}
+use Rattle.rh_safety.proofs.Ends.{put}
 
 -- the cut that a find by anchor gives, for any sizes
 abbrev pub block_of : (Flex → ℕ) → ℕ → ℕ → List Flex → Option (Split Flex)

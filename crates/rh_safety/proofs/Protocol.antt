@@ -3,7 +3,7 @@
 use Rattle.std.specs.Prelude.{ℕ, ◌+◌, ◌-◌, min, Bool, true, false, not, ◌&&◌, ◌||◌, nat_lt, nat_le, ◌==◌, if◌then◌else◌, List, [], ◌∷◌, ◌++◌, length, take, drop, replicate, Option, Some, None, is_some, is_none}
 use Rattle.rh_defs.specs.Sender as sender
 use Rattle.rh_defs.specs.Receiver as receiver
-use Rattle.rh_safety.specs.Ends.{Code, Plain, Recorded, Returned, Kind, DataSave, RamFetch, RamTransmit, DataSaveAck, DataLoad, DataLoadAck, Asked, Letter, Message, Sending, Taking, Out, Open, Out_done, Out_failed, In, Fetching, Draining, Asking, In_done, In_failed, out_id, in_id, is_open, is_going, put, any, how_many, one_more, with_id, find_open, find_active, find_asking, first, first_for, without_first, source_at, document_at, buffer_at, is_meant, is_meant_in}
+use Rattle.rh_safety.proofs.Ends.{Code, Plain, Recorded, Returned, Kind, DataSave, RamFetch, RamTransmit, DataSaveAck, DataLoad, DataLoadAck, Asked, Letter, Message, Sending, Taking, Out, Open, Out_done, Out_failed, In, Fetching, Draining, Asking, In_done, In_failed, out_id, in_id, is_open, is_going, put, any, how_many, one_more, with_id, find_open, find_active, find_asking, first, first_for, without_first, source_at, document_at, buffer_at, is_meant, is_meant_in}
 
 -- the scrap file: the ref of its DataLoad, and its bytes
 pub record Scrap : Type 0 where
