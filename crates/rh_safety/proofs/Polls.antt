@@ -1,16 +1,14 @@
 -- A poll keeps the invariant.
-use Rattle.std.proofs.Common.{nat_le, ◌≡◌, ◌≢◌, ℕ, suc, ◌+◌, ◌≤◌, ◌<◌, Bool, true, false, not, ◌&&◌, List, [], ◌++◌, length, take, drop, replicate, Option, Some, None, refl, sym, ap, ◌∙◌, subst, ◌⊎◌, inl, inr, arith, length-drop}
-use Rattle.std.proofs.lemmas.List.{length-replicate}
-use Rattle.std.proofs.lemmas.Grind.{common_steps}
-use Rattle.std.specs.Prelude.{if◌then◌else◌, nat_eq, nat_lt, is_none}
-use Rattle.std.proofs.lemmas.Bool.Decides.{eqb_tells, leb_tells, nat_tests}
+use Rattle.std.proofs.Common.{nat_le, ◌≡◌, ◌≢◌, ℕ, suc, ◌+◌, ◌≤◌, ◌<◌, Bool, true, false, List, ◌++◌, length, take, drop, Option, Some, None, refl, sym, ap, ◌∙◌, subst, ◌⊎◌, inl, inr, arith, length-drop}
+use Rattle.std.specs.Prelude.{nat_eq, nat_lt}
+use Rattle.std.proofs.lemmas.Bool.Decides.{leb_tells, nat_tests}
 use Rattle.std.proofs.lemmas.Bool.{eq-eqb}
-use Rattle.rh_safety.proofs.Ends.{Code, Plain, Recorded, Returned, Kind, DataSave, RamFetch, RamTransmit, DataSaveAck, DataLoad, DataLoadAck, Letter, Message, Sending, Taking, Asked, Out, Open, Out_done, Out_failed, In, Fetching, Draining, Asking, In_done, In_failed, out_id, in_id, in_anchor, is_going, is_growing, Has, Active, put, how_many, one_more, with_id, find_open, find_active, find_asking, first_for, without_first}
-use Rattle.rh_safety.proofs.Protocol.{Desk, Scrap, Luck, returned, picked, begun, can_begin, on_save, bytes_of, longer, goes_on, appended, extends, matches, given_up, on_transmit, is_fetch, asks, first_back, on_fetch_back, with_in, is_load, copied, loaded, loads, on_file, on_load, is_ack, on_ack_back, with_out, failed, is_last, on_out_back, portion, moved, transmits, has_room, in_range, recipient_lives, would_answer, on_fetch, asks_for, filed, files, on_ack, is_loaded, on_load_ack, on_fetch_by, came, came_back, handled, handed_out, lost_if, polled}
-use Rattle.rh_safety.proofs.Basics.{length_more, asking_is, put_all, put_same, put_other, same_value, none_some, none_of, and_left, and_right, is_equal, first_has, take_more, length_take, front_written, length_written, Ascend, with_puts, with_ascends, more_keeps, more_puts, more_ascends, open_is, open_none, FoundActive, fetches, drains, active_is}
-use Rattle.rh_safety.proofs.Invariant.{LetterAck, LetterFile, Offered, queued, Knows, Below, Offers, LetterOut, LetterIn, LetterCarries, LetterOlder, LetterAhead, Carries, Begins, Whole, Untouched, IsGood, Unread, Inv, IsWaiting, PendingAt, Good}
-use Rattle.rh_safety.proofs.Moves.{Move, OutOk, BothOutOk, move_with, move_more, outs_move, boths_out}
-use Rattle.rh_safety.proofs.Sends.{few_put, few_here, few_with, sent_knows, asked_over, tell_good, asked_good, lost_good, put_ascends, order_out, one_active, KeepsActive, Quiet, OutPart, NewOut, out_inv, out_pending, NewFetch, fetch_inv, fetch_pending, put2_other, put2_same, keeps_with, Ends, ended_good, active_id, write_inv, heap_inv}
+use Rattle.rh_safety.proofs.Ends.{Code, Plain, Recorded, Returned, Kind, DataSave, RamFetch, RamTransmit, DataSaveAck, DataLoad, DataLoadAck, Letter, Message, Sending, Taking, Out, Open, Out_done, out_id, Has, Active, put, with_id, find_open, find_active, find_asking, first_for, without_first}
+use Rattle.rh_safety.proofs.Protocol.{Desk, Luck, returned, picked, can_begin, bytes_of, matches, is_load, failed, portion, moved, transmits, has_room, in_range, recipient_lives, would_answer, on_fetch, asks_for, is_loaded, on_fetch_by, came, handled, handed_out, lost_if, polled}
+use Rattle.rh_safety.proofs.Basics.{put_all, put_same, put_other, and_left, and_right, is_equal, first_has, length_take, front_written, length_written, Ascend, with_ascends, open_is, open_none}
+use Rattle.rh_safety.proofs.Invariant.{Offered, queued, Knows, Unread, Inv, PendingAt, Good}
+use Rattle.rh_safety.proofs.Moves.{Move, move_with}
+use Rattle.rh_safety.proofs.Sends.{few_here, few_with, lost_good, one_active, Quiet, OutPart, NewOut, out_inv, out_pending, put2_same, write_inv}
 use Rattle.rh_safety.proofs.Posts.{returned_good, OneMore, picked_known, picked_inv, picked_pending, first_below}
 use Rattle.rh_safety.proofs.Arrivals.{LetterOk, Read, on_save_good, on_transmit_good, shut_good, on_ack_good, on_load_ack_good, on_load_good, came_back_good}
 

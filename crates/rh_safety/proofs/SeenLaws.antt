@@ -25,7 +25,7 @@ use Rattle.rh_safety.specs.Offered as whole
 use Rattle.rh_safety.specs.Offered.{bytes_of_block, offered}
 use Rattle.rh_safety.specs.Held as kept
 use Rattle.rh_safety.specs.Held.{in_anchor, is_edited, held}
-use Rattle.rh_safety.specs.Safe.{IsSafe, AreSafe, AlwaysSafe}
+use Rattle.rh_safety.specs.Safe.{AreSafe, AlwaysSafe}
 use Rattle.rh_safety.proofs.Ends.{Offers, Edits, Has}
 use Rattle.rh_safety.proofs.Protocol as protocol
 use Rattle.rh_safety.proofs.Schedules as history

@@ -1,5 +1,6 @@
 -- Two tasks that are polled in turn bring a transfer to its end.
-use Rattle.std.specs.Prelude.{◌≡◌, ℕ, zero, suc, ◌+◌, ◌/◌, Bool, true, false, not, List, [], ◌∷◌, length, find, Option, Some, None, is_some}
+use Rattle.std.specs.Prelude.{◌≡◌, ℕ, zero, suc, ◌+◌, ◌/◌, Bool, true, false, not}
+use Rattle.std.specs.Prelude.{List, [], ◌∷◌, length, find, Some, None, is_some}
 use Rattle.std.specs.List.{Contains, AllByRecursion, list_any, list_all}
 use Rattle.rh_defs.specs.Post.{Seat}
 use Rattle.rh_defs.specs.declared.message.Action.{Action}
@@ -50,8 +51,8 @@ all_granted d commands = list_all (λ r. not (is_refused_poll r)) (replies d com
 
 -- ---- before, and at the end
 
--- Nothing is queued or held; the sender answers fetches, has the source at the anchor, and none of its transfers is open;
--- the receiver isn't deaf, has a free anchor, and no transfer comes in to it. The two may be one task.
+-- Nothing is queued or held. The sender answers fetches, has the source at the anchor, and none of its transfers is
+-- open; the receiver isn't deaf, has a free anchor, and no transfer comes in to it. The two may be one task.
 pub record CanAlternate (d : Desk) (s r : List ℕ) (k : ℕ) (sender receiver : Task) (source : List ℕ) : Type 0 where
   pub queue : d.post.queued ≡ []
   pub held : AllByRecursion (λ (seat : Seat). seat.holds ≡ None) d.post.seats
@@ -78,18 +79,19 @@ pub record ReceiverDone (d : Desk) (r id : ℕ) (source : List ℕ) : Type 0 whe
   pub takes : Contains task.taking (incoming.Done id anchor (length source))
   pub document : bytes_of_block task.slot anchor ≡ Some source
 
--- Both records are Done after so many turns, the sender's one poll before the last.
-pub record EndsDone (d : Desk) (s r : List ℕ) (turn : ℕ) (hs hr id : ℕ) (source : List ℕ) : Type 0 where
-  pub before : SenderDone (after d (turns_before r s turn)) hs id source
-  pub sends : SenderDone (after d (turns r s turn)) hs id source
-  pub takes : ReceiverDone (after d (turns r s turn)) hr id source
+-- both records are Done after the turns, the sender's one poll before the last
+pub record EndsDone (d : Desk) (s r : List ℕ) (n hs hr id : ℕ) (source : List ℕ) : Type 0 where
+  pub before : SenderDone (after d (turns_before r s n)) hs id source
+  pub sends : SenderDone (after d (turns r s n)) hs id source
+  pub takes : ReceiverDone (after d (turns r s n)) hr id source
 
--- A save that is accepted, and then 2 * (n / L) + 3 polls, for n bytes and a buffer of L, none of which is refused anything
+-- a save of n bytes to a buffer of L is accepted, and then 2 * (n / L) + 3 polls are refused nothing
 abbrev pub Alternates : Desk → Type 0
 Alternates d =
     (s r : List ℕ) (k : ℕ) (leaf : List ℕ) (sender receiver : Task) (source : List ℕ) (id : ℕ) →
     in_range (command.Save s k r leaf) ≡ true → CanAlternate d s r k sender receiver source →
     (step d (command.Save s k r leaf)).1 ≡ reply.Sent id →
     let saved : Desk = (step d (command.Save s k r leaf)).0 in
-    let turn : ℕ = length source / receiver.buffer + 1 in
-    all_granted saved (turns r s turn) ≡ true → EndsDone saved s r turn sender.handle receiver.handle id source
+    let rounds : ℕ = length source / receiver.buffer + 1 in
+    all_granted saved (turns r s rounds) ≡ true →
+    EndsDone saved s r rounds sender.handle receiver.handle id source

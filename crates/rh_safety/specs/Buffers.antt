@@ -39,7 +39,7 @@ pub record IsAnswerable (d : Desk) (m : Parcel) (recipient sender : Task) (x : S
   pub answered : would_answer m.message.from m.message.your_ref n x ≡ true
   pub sender_is : task_at m.message.from d ≡ Some sender
 
--- the task holds the buffer at the address for the transfer with the id, Fetching or Draining, and it has n bytes at least
+-- the task holds the buffer at the address for the transfer with the id, Fetching or Draining; it has n bytes at least
 pub record HoldsBuffer (t : Task) (id address n : ℕ) : Type 0 where
   pub taking : Taking
   pub is_held : Contains t.taking (incoming.Fetching taking) ⊎ Contains t.taking (incoming.Draining taking)

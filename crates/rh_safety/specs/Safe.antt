@@ -1,5 +1,5 @@
 -- No run loses a byte, or gives a wrong one.
-use Rattle.std.specs.Prelude.{◌≡◌, ℕ, true, List, length, Option, Some}
+use Rattle.std.specs.Prelude.{◌≡◌, ℕ, true, List, length, Some}
 use Rattle.std.specs.List.{Contains}
 use Rattle.std.specs.Option.{option_map}
 use Rattle.std.specs.Io.{StartsWith}
