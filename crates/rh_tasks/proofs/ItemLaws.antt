@@ -11,8 +11,8 @@ use Rattle.rh_defs.specs.Pieces.{page, total}
 use Rattle.rh_defs.specs.Files.{FileList}
 use Rattle.rh_defs.specs.Heap.{Heap, Segment, Used, Hole, size_of, hole_size, largest_hole, largest, free_bytes, base}
 use Rattle.rh_defs.specs.Slot as plain
-use Rattle.rh_defs.specs.Desk.{Desk, Task, Made, task_pages, module_pages}
-use Rattle.rh_defs.specs.Listing.{area_items, area_item}
+use Rattle.rh_defs.specs.Desk.{Desk, Task, Made, task_pages, module_pages, free_pages}
+use Rattle.rh_defs.specs.Listing.{area_items, area_item, areas_at}
 use Rattle.rh_defs.specs.declared.listing.AreaItem.{AreaItem}
 use Rattle.rh_defs.specs.declared.listing.AreaItem.TheVariants as item
 use Rattle.rh_slot.specs.Area.{slot_in}
@@ -78,6 +78,10 @@ module _ {m : Memory} {seats : List Seat} {made : List MadeArea} {files : FileLi
   few-items =
       rw items-are (omega (arith, length-append (fixed_items m ++ made_items m made) (slot_items m seats), length-append (fixed_items m) (made_items m made),
         length-map made (λ (a : MadeArea). item.Area a.number (pages_at m a.area.0)), length-map seats (λ (s : Seat). item.Slot s.name (pages_at m s.slot.area.0)), few-made w, few-seats w))
+
+  -- what is told of an item
+  pub told : (i : ℕ) {free : ℕ} {x : Option AreaItem} → free ≡ free_pages d → x ≡ slice_get (items_in m seats made) i → (free, x) ≡ areas_at d i
+  told i {free} {x} p q = let e : x ≡ slice_get (area_items d) i = q ∙ ap (λ l. slice_get l i) (sym items-are) in cc
 
 -- item i, by where it stands
 pub item-fixed : (m : Memory) (seats : List Seat) (made : List MadeArea) (i : ℕ) → i < 6 → slice_get (items_in m seats made) i ≡ Some (item.Area i (pages_at m i))

@@ -17,6 +17,12 @@ use Rattle.rh_tasks.specs.declared.next.Next.{Next}
 use Rattle.rh_tasks.specs.View.{the_module, fixed_pages, post_of, desk_of, HasAreas, IsWorld}
 use Rattle.rh_tasks.specs.Start.{IsFurnished}
 
+same-next : {a a' b b' k k' : ℕ} → a ≡ a' → b ≡ b' → k ≡ k' → (let x : Next = record { handle = a; area = b; message = k } in x) ≡ (let y : Next = record { handle = a'; area = b'; message = k' } in y)
+same-next p q r = cc
+
+pub first-next : (n : Next) (handle ref : ℕ) → n.handle ≡ handle → n.area ≡ 256 → n.message ≡ ref → n ≡ record { handle = handle; area = 256; message = ref }
+first-next n handle ref p q r = same-next p q r
+
 module _ {m : Memory} {pages : ℕ} (f : IsFurnished m pages) (files : FileList) (handle ref : ℕ) where
   abbrev next : Next
   next = record { handle = handle; area = 256; message = ref }

@@ -22,10 +22,10 @@ pub overflow_cast-count : goal.overflow_cast-count
 overflow_cast-count g c =
     let is = owned c.self.invariant.0 c.in_ok-slot.ensures.ok in
     let s = slot_in (g.S.Words.memory c.self.inside.store) c.in_ok-slot.slot in
-    omega (arith, c.count.ensures, blocks-weigh s.blocks, is.spells.words.within, g.met.S.Words.small c.self.inside.store c.in_ok-slot.slot.area.0)
+    omega (arith, c.count-count.ensures, blocks-weigh s.blocks, is.spells.words.within, g.met.S.Words.small c.self.inside.store c.in_ok-slot.slot.area.0)
 
 pub returns : goal.returns
 unfolding blocks_at
 returns g c =
-    rw (← c.self.view_is, c.count.ensures, c.block.ensures)
+    rw (← c.self.view_is, c.count-count.ensures, c.block.ensures)
       (sym (asked c.self.invariant.0 c.in_ok-slot.ensures.ok (λ s. let r : Granted (ℕ × Option BlockItem) = Ok (length s.blocks, slice_get (block_items s) c.args.i) in r)))

@@ -1,5 +1,6 @@
 use Rattle.std.proofs.Common.{◌≡◌, refl, w32}
 use Rattle.std.proofs.lemmas.Int.{to_z-of_z}
+use Rattle.rh_defs.specs.Chain.{or_else}
 use Rattle.rh_tasks.proofs.Ranges.{mid-fits, resize-fits, area-fits, rma_resize-fits}
 use Rattle.rh_tasks.proofs.Steps.{stepped}
 use Rattle.rh_tasks.proofs.world.World.change.Goals as goal
@@ -71,4 +72,5 @@ pub returns-in-Status : goal.returns-in-Status
 returns-in-Status g c = rw (c.in-Status.is) (stepped _ _ _ _ _ c.handle_of.ensures c.answer-in-Status.ensures)
 
 pub returns-in-Areas : goal.returns-in-Areas
+unfolding or_else
 returns-in-Areas g c = rw (c.in-Areas.is, c.free_pages.ensures) refl
