@@ -31,6 +31,7 @@ pub mod SeenReceiver
 pub mod SeenSender
 pub mod SeenPolls
 pub mod SeenDesks
+pub mod Lines
 pub mod SeenLaws
 pub mod SeenKeys
 pub mod SeenNames

@@ -25,7 +25,7 @@ use Rattle.rh_safety.specs.Offered as whole
 use Rattle.rh_safety.specs.Offered.{bytes_of_block, offered}
 use Rattle.rh_safety.specs.Held as kept
 use Rattle.rh_safety.specs.Held.{in_anchor, is_edited, held}
-use Rattle.rh_safety.specs.Safe.{AreSafe, AlwaysSafe}
+use Rattle.rh_safety.specs.Safe.{AreSafe, AlwaysSafe, ScriptsAreSafe}
 use Rattle.rh_safety.proofs.Ends.{Offers, Edits, Has}
 use Rattle.rh_safety.proofs.Protocol as protocol
 use Rattle.rh_safety.proofs.Schedules as history
@@ -34,6 +34,8 @@ use Rattle.rh_safety.proofs.Basics.{and_left, and_right, has_of, front_of}
 use Rattle.rh_safety.proofs.FlexMaps as flex
 use Rattle.rh_safety.proofs.Invariant.{Good}
 use Rattle.rh_safety.proofs.Runs.{start_good, run_good, is_safe}
+use Rattle.rh_defs.specs.Script.{commands_in, ended}
+use Rattle.rh_safety.proofs.Lines.{commands_in_range}
 use Rattle.rh_safety.proofs.SeenDesks.{fits}
 use Rattle.rh_safety.proofs.SeenFrames.{Fits, Follows, show_follows, blocks_follows, heap_follows, status_follows, areas_follows, area_follows, make_follows, remove_follows, rma_claim_follows, rma_free_follows, rma_resize_follows, budge_follows}
 use Rattle.rh_safety.proofs.SeenBlocks.{put_follows, extend_follows, mid_follows, free_follows, alloc_follows, load_follows}
@@ -211,6 +213,11 @@ module _ (pool handle ref : ℕ) (files : FileList) (cs : List Command) (from : 
 
 pub always_safe : AlwaysSafe
 always_safe pool handle ref files cs from ranged = safe pool handle ref files cs from ranged
+
+pub scripts_are_safe : ScriptsAreSafe
+scripts_are_safe pages files script least most =
+    let from : IsStart pages 1 1 = record { least = least; most = most; first_handle = omega arith; last_handle = omega arith; first_ref = omega arith; last_ref = omega arith } in
+    always_safe pages 1 1 files (commands_in (ended script)) from (commands_in_range (ended script))
 
 -- what follows from the invariant holds always
 pub always : (P : Desk → Type 0) → ((d : Desk) → IsReached d → P d) → Always P

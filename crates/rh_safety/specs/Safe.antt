@@ -1,16 +1,18 @@
 -- No run loses a byte, or gives a wrong one.
-use Rattle.std.specs.Prelude.{◌≡◌, ℕ, true, List, length, Some}
+use Rattle.std.specs.Prelude.{◌≡◌, ◌≤◌, ℕ, true, List, length, Some}
 use Rattle.std.specs.List.{Contains}
 use Rattle.std.specs.Option.{option_map}
 use Rattle.std.specs.Io.{StartsWith}
 use Rattle.rh_defs.specs.declared.command.Command.{Command}
 use Rattle.rh_defs.specs.declared.transfer.Outgoing.TheVariants as outgoing
 use Rattle.rh_defs.specs.declared.transfer.Incoming.TheVariants as incoming
+use Rattle.rh_defs.specs.Forms.{most_pages}
 use Rattle.rh_defs.specs.Range.{all_in_range}
 use Rattle.rh_defs.specs.Files.{FileList}
 use Rattle.rh_defs.specs.Desk.{Desk, Task, task_at}
-use Rattle.rh_defs.specs.Runs.{start_with, after}
+use Rattle.rh_defs.specs.Runs.{start, start_with, after}
 use Rattle.rh_defs.specs.Laws.{IsStart}
+use Rattle.rh_defs.specs.Script.{commands_in, ended}
 use Rattle.rh_safety.specs.Offered.{offered}
 use Rattle.rh_safety.specs.Held.{held}
 
@@ -36,3 +38,9 @@ abbrev pub AlwaysSafe : Type 0
 AlwaysSafe =
     (pool handle ref : ℕ) (files : FileList) (commands : List Command) → IsStart pool handle ref →
     all_in_range commands ≡ true → AreSafe (start_with pool files handle ref) commands
+
+-- the same of the commands that a script's complete lines spell, over a fresh desk
+abbrev pub ScriptsAreSafe : Type 0
+ScriptsAreSafe =
+    (pages : ℕ) (files : FileList) (script : List ℕ) → 8 ≤ pages → pages ≤ most_pages →
+    AreSafe (start pages files) (commands_in (ended script))

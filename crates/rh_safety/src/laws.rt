@@ -3,13 +3,14 @@
 ghost use Rattle.rh_defs.specs.Laws.{Always};
 ghost use Rattle.rh_safety.specs.Alternation.{Alternates};
 ghost use Rattle.rh_safety.specs.Buffers.{HasBuffers, HasGoodRanges};
-ghost use Rattle.rh_safety.specs.Safe.{AlwaysSafe};
+ghost use Rattle.rh_safety.specs.Safe.{AlwaysSafe, ScriptsAreSafe};
 
 /// After any commands: what a task holds of a transfer was offered, and the file begins with it; it
 /// is the whole file where the task's record says Done, and where a sender's record says so, it counts
 /// the whole file.
 pub fn safe_law()
-    ensures { AlwaysSafe }
+    ensures commands { AlwaysSafe }
+    ensures scripts { ScriptsAreSafe }
 {}
 
 /// After any commands: a queued fetch that would be answered, and whose sender is live, names a buffer
