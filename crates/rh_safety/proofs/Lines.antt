@@ -15,6 +15,7 @@ use Rattle.rh_defs.specs.declared.fault.LineFault.{LineFault}
 use Rattle.rh_defs.specs.declared.fault.LineFault.TheVariants.{TooLong, Unknown, Count, Word}
 use Rattle.rh_defs.specs.Forms.{is_name, is_anchor, is_number, is_delta, is_decimal, is_leaf, is_buffer, is_id, number_of, greatest, longest_buffer, last_ref, first_made, last_made, most_pages}
 use Rattle.rh_defs.specs.Range.{in_range, all_in_range}
+use Rattle.rh_defs.specs.Known.{uses_post, known, line_known}
 use Rattle.rh_defs.specs.Script.{commands_in}
 use Rattle.rh_defs.specs.Line
 use Rattle.rh_defs.specs.Line.{Meaning, ◌>>=◌, longest_line, words_of, word, name_at, number_at, delta_at, signed, is_negative, unsigned, address_at, is_address, hex_number, leaf_at, choice_at, bytes_at, anchor_at, size_at, manner_of, id_of, task_of, kill_of, alloc_of, load_of, put_of, free_of, extend_of, mid_of, claim_of, release_of, resize_of, budge_of, save_of, poll_of, cancel_of, repeat_of, area_of, make_of, remove_of, rma_claim_of, rma_free_of, rma_resize_of, show_of, blocks_of, heap_of, status_of, counted, counted_from, rma_of, command_of, is_skipped, line_means}
@@ -319,6 +320,11 @@ line_in line =
     (one_of IsSpelled (is_skipped (words_of line)) (Ok None) _ tt
     (then_means (Passes in_range) IsSpelled (command_of (words_of line)) _ (command_in (words_of line)) (λ c q. q)))
 
+known_in : (m : Meaning (Option Command)) → Means IsSpelled m → Means IsSpelled (known m)
+known_in (Ok None) p = p
+known_in (Ok (Some c)) p = one_of IsSpelled (uses_post c) (Err Unknown) (Ok (Some c)) tt p
+known_in (Err fault) p = p
+
 -- what a test passes of each item given is passed by all
 all_given : {A B : Type 0} (give : A → Option B) (test : B → Bool) (xs : List A) → ((x : A) → IfSome (give x) (Passes test)) → list_all test (filter_map give xs) ≡ true
 all_given give test [] f = refl
@@ -333,4 +339,4 @@ by_meaning (Ok c) f g = f c refl
 by_meaning (Err fault) f g = g fault refl
 
 pub commands_in_range : (lines : List (List ℕ)) → all_in_range (commands_in lines) ≡ true
-commands_in_range lines = all_given _ in_range lines (λ line. by_meaning (line_means line) (λ c e. rw e (subst (λ m. Means IsSpelled m) e (line_in line))) (λ fault e. rw e tt))
+commands_in_range lines = all_given _ in_range lines (λ line. by_meaning (line_known line) (λ c e. rw e (subst (λ m. Means IsSpelled m) e (known_in (line_means line) (line_in line)))) (λ fault e. rw e tt))

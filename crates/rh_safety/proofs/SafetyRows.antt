@@ -1,10 +1,11 @@
 -- Worked runs: what is offered and what is held after each command.
-use Rattle.std.specs.Prelude.{◌≡◌, refl, ℕ, List, [], ◌∷◌, length, map, codes, true, Option, Some, None}
+use Rattle.std.specs.Prelude.{◌≡◌, refl, ℕ, List, [], ◌∷◌, length, map, codes, true, Option, Some, None, Ok, Err}
+use Rattle.std.specs.List.{filter_map}
 use Rattle.hex.proofs.OnLiterals.{hex_on_literals}
 use Prim.Native.String.{String}
 use Rattle.rh_defs.specs.declared.command.Command.{Command}
 use Rattle.rh_defs.specs.Script
-use Rattle.rh_defs.specs.Script.{commands_in}
+use Rattle.rh_defs.specs.Line.{Meaning, line_means}
 use Rattle.rh_defs.specs.Desk.{Desk}
 use Rattle.rh_defs.specs.Runs.{start, after}
 use Rattle.rh_safety.specs.Offered.{offered}
@@ -17,7 +18,11 @@ fresh = start 64 []
 
 -- the commands that lines spell
 abbrev pub script : List String → List Command
-script lines = commands_in (map codes lines)
+script lines = filter_map (λ line. spelled (line_means (codes line))) lines
+  where
+    spelled : Meaning (Option Command) → Option Command
+    spelled (Ok c) = c
+    spelled (Err fault) = None
 
 -- the lists that begin a list, the whole one last
 abbrev pub prefixes : {A : Type 0} → List A → List (List A)
