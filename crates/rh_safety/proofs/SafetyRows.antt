@@ -67,7 +67,8 @@ unfolding Script.computing hex_on_literals
 two_buffers = refl
 
 -- a block that is saved again by the same message offers the same bytes under the new ref
-pub repeated_offer : offered fresh (script ("task a 100" ∷ "task b 100" ∷ "alloc a 0 2" ∷ "put a 0 0 0102" ∷ "save a 0 b x" ∷ "repeat a" ∷ [])) 2 ≡ Some (1 ∷ 2 ∷ [])
+pub repeated_offer : offered fresh (script ("task a 100" ∷ "task b 100" ∷ "alloc a 0 2" ∷ "put a 0 0 0102"
+    ∷ "save a 0 b x" ∷ "repeat a" ∷ [])) 2 ≡ Some (1 ∷ 2 ∷ [])
 unfolding Script.computing hex_on_literals
 repeated_offer = refl
 
@@ -88,7 +89,8 @@ unfolding Script.computing hex_on_literals
 by_scrap_file = refl
 
 -- six bytes by a buffer of four: after the save, five polls in turn are refused nothing
-pub granted_turns : all_granted (after fresh (script ("task a 4" ∷ "task b 4" ∷ "alloc a 0 6" ∷ "save a 0 b doc" ∷ []))) (turns (codes "b") (codes "a") 2) ≡ true
+pub granted_turns : all_granted (after fresh (script ("task a 4" ∷ "task b 4" ∷ "alloc a 0 6" ∷ "save a 0 b doc"
+    ∷ []))) (turns (codes "b") (codes "a") 2) ≡ true
 unfolding Script.computing hex_on_literals
 granted_turns = refl
 
