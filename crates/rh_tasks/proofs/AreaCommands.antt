@@ -1,22 +1,22 @@
 -- Areas that get longer or shorter by whole pages.
-use Rattle.std.proofs.Common.{◌≡◌, ◌≢◌, ℕ, zero, suc, ◌+◌, ◌-◌, ◌*◌, ◌/◌, ◌%◌, ◌<◌, ◌≤◌, Bool, true, false, cond, refl, ap, sym, subst, ◌∙◌, arith, List, length}
-use Rattle.std.specs.Prelude.{ℤ, pos, negsuc, map, Ok, Err, Some, None, find, nat_lt, ◌==◌, slice_set, slice_index}
+use Rattle.std.proofs.Common.{◌≡◌, ◌≢◌, ℕ, ◌+◌, ◌-◌, ◌*◌, ◌/◌, ◌%◌, ◌<◌, ◌≤◌, Bool, true, false, cond, refl, ap, sym, ◌∙◌, arith, List, length}
+use Rattle.std.specs.Prelude.{ℤ, pos, negsuc, map, Ok, Err, None, nat_lt, ◌==◌, slice_set, slice_index}
 use Rattle.std.proofs.lemmas.Bool.Decides.{nat_tests}
 use Rattle.std.specs.Int.Signed.{lt_z}
 use Rattle.std.proofs.lemmas.Int.{ints}
 use Rattle.std.specs.List.{position}
 use borrow.Author.Tests.{ltb-false}
-use Rattle.rh_defs.specs.Memory.{Memory, IsOpen, OnlyArea, bytes}
+use Rattle.rh_defs.specs.Memory.{Memory, OnlyArea, bytes}
 use Rattle.rh_defs.specs.Files.{FileList}
 use Rattle.rh_defs.specs.declared.command.Command.TheVariants as command
 use Rattle.rh_defs.specs.declared.refusal.Refusal.{Refusal}
 use Rattle.rh_defs.specs.declared.refusal.Refusal.TheVariants.{ExcessiveShrink, NoRoom, NoArea, TooBig}
 use Rattle.rh_defs.specs.declared.reply.Reply.TheVariants as reply
-use Rattle.rh_defs.specs.Chain.{Granted, ◌>>=◌, ◌>>◌, refuse_if}
+use Rattle.rh_defs.specs.Chain.{◌>>=◌, ◌>>◌, refuse_if}
 use Rattle.rh_defs.specs.Pieces.{page, pages_for, lacks_pages}
 use Rattle.rh_defs.specs.Module.{whole_pages, changed_length}
 use Rattle.rh_defs.specs.Range.{in_range}
-use Rattle.rh_defs.specs.Desk.{Desk, Made, free_pages}
+use Rattle.rh_defs.specs.Desk.{Desk, free_pages}
 use Rattle.rh_defs.specs.Commands.{pages_after, least_length, scrap_area, shrinks_below, change_pages, change_made, change_area, with_pages}
 use Rattle.rh_tasks.specs.declared.seat.Seat.{Seat}
 use Rattle.rh_tasks.specs.declared.made.MadeArea.{MadeArea}
@@ -26,7 +26,7 @@ use Rattle.rh_tasks.proofs.Chains.{begins, ends, past, stops, granted-same, lt-t
 use Rattle.rh_tasks.proofs.Worlds.{free-is, granted-keeps}
 use Rattle.rh_tasks.proofs.Fixed.{fixed-at, fixed-desk, fixed-world, length-fixed}
 use Rattle.rh_tasks.proofs.Mades.{made-desk, made-world}
-use Rattle.rh_tasks.proofs.MadeCommands.{HasMade, remove-none, made-found}
+use Rattle.rh_tasks.proofs.MadeCommands.{HasMade, made-found}
 use Rattle.rh_tasks.proofs.Finding.{no-made}
 
 -- ---- how many pages an area has after the change
@@ -158,9 +158,9 @@ module _ {m : Memory} {seats : List Seat} {made : List MadeArea} {files : FileLi
       unfolding change_made made_of
       area-done =
           begins _ (made-found w k a h) (begins _ (made-args ∙ granted) (past _ _ _ (lt-false a.most p fits)
-            (granted-same (sym (made-desk w h.sits only
-              ∙ ap (λ v. let e : Desk = record d { made = map (with_pages a.number v) (map (made_of m) made) } in e) is
-              ∙ ap (λ v. let e : Desk = record d { made = map (with_pages v p) (map (made_of m) made) } in e) h.number)) refl)))
+          (granted-same (sym (made-desk w h.sits only
+          ∙ ap (λ v. let e : Desk = record d { made = map (with_pages a.number v) (map (made_of m) made) } in e) is
+          ∙ ap (λ v. let e : Desk = record d { made = map (with_pages v p) (map (made_of m) made) } in e) h.number)) refl)))
 
       pub made-done : change_area d k delta ≡ Ok (desk_of n seats made files next, reply.Moved (whole_pages delta))
       made-done = made-way high ∙ area-done

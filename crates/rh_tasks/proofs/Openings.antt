@@ -1,17 +1,16 @@
 -- A fresh store whose first areas are opened one after the other.
-use Rattle.std.proofs.Common.{◌≡◌, ◌≢◌, ℕ, zero, suc, ◌+◌, ◌-◌, ◌*◌, ◌/◌, ◌<◌, ◌≤◌, refl, ap, sym, subst, ◌∙◌, arith, List, [], ◌∷◌, length, inl, inr}
-use Rattle.std.specs.Prelude.{Option, Some, None, IsNone, IsSome, IsOk, IsErr, Ok, Err, Result, ◌↔◌, IfOk, OnOk, unwrap_or}
+use Rattle.std.proofs.Common.{◌≡◌, ◌≢◌, ℕ, ◌+◌, ◌/◌, ◌<◌, ◌≤◌, refl, ap, sym, subst, ◌∙◌, arith, List, [], length, inl, inr}
+use Rattle.std.specs.Prelude.{Option, Some, None, IsNone, IsSome, IsOk, IsErr, Ok, Err, Result, ◌↔◌, unwrap_or}
 use Rattle.std.proofs.lemmas.Bool.{cases_eq}
 use Rattle.rh_defs.specs.Memory.{Memory, IsOpen, OnlyArea, bytes, fresh, opened, grown, open_below}
 use Rattle.rh_defs.specs.Heap.{Heap, empty_heap}
 use Rattle.rh_defs.specs.Pieces.{page}
-use Rattle.rh_defs.proofs.MemoryLaws.{area-fresh, free-fresh, pages-fresh, open_below-fresh, open_below-opened, area-opened, area-opened_same, free-opened, pages-opened, bytes-opened, OnlyArea-grown, length-grown, bytes-none, OnlyArea-both}
+use Rattle.rh_defs.proofs.MemoryLaws.{area-fresh, free-fresh, pages-fresh, open_below-fresh, open_below-opened, area-opened, area-opened_same, free-opened, pages-opened, OnlyArea-grown, length-grown, OnlyArea-both}
 use Rattle.rh_defs.specs.declared.sizes.TheConstants.{MAX_AREAS}
 use Rattle.rh_module.specs.Area.{IsModule, heap_in}
-use Rattle.rh_tasks.specs.View.{the_module, fixed, pages_at}
+use Rattle.rh_tasks.specs.View.{the_module, pages_at}
 use Rattle.rh_tasks.specs.Start.{IsFurnished}
 use Rattle.rh_tasks.proofs.Frames.{Stay, pages-stay, count-stays, opened-stays}
-use Rattle.rh_tasks.proofs.Joins.{none-is}
 
 -- the areas below a number are open, with no page, and no other
 pub record AreOpened (m : Memory) (k pages : ℕ) : Type 0 where
@@ -100,8 +99,16 @@ module _ {m n : Memory} {pages : ℕ} (o : AreOpened m 6 pages) (least : 1 ≤ p
 
     pub furnished : IsFurnished p pages
     furnished = record {
-      opened = (opened-stays 0 stay (λ q. absurd (omega arith)) (open-at o 0 (omega arith)), (all.opened, (opened-stays 2 stay (λ q. absurd (omega arith)) (open-at o 2 (omega arith)),
-        (opened-stays 3 stay (λ q. absurd (omega arith)) (open-at o 3 (omega arith)), (opened-stays 4 stay (λ q. absurd (omega arith)) (open-at o 4 (omega arith)), (opened-stays 5 stay (λ q. absurd (omega arith)) (open-at o 5 (omega arith)), tt))))));
+      opened = (
+        opened-stays 0 stay (λ q. absurd (omega arith)) (open-at o 0 (omega arith)),
+        (
+          all.opened,
+          (
+            opened-stays 2 stay (λ q. absurd (omega arith)) (open-at o 2 (omega arith)),
+            (opened-stays 3 stay (λ q. absurd (omega arith)) (open-at o 3 (omega arith)), (opened-stays 4 stay (λ q. absurd (omega arith)) (open-at o 4 (omega arith)), (opened-stays 5 stay (λ q. absurd (omega arith)) (open-at o 5 (omega arith)), tt))),
+          ),
+        ),
+      );
       count = count-stays MAX_AREAS stay (open-at o 1 (omega arith)) all.opened ∙ o.count;
       module_area = still;
       heap = heap;

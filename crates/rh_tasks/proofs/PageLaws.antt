@@ -1,5 +1,5 @@
 -- An area's pages after it grew or shrank.
-use Rattle.std.proofs.Common.{◌≡◌, ℕ, ◌+◌, ◌-◌, ◌*◌, ◌/◌, ◌%◌, ◌<◌, ◌≤◌, refl, ap, sym, subst, ◌∙◌, arith, length}
+use Rattle.std.proofs.Common.{◌≡◌, ℕ, ◌+◌, ◌-◌, ◌/◌, ◌%◌, ◌<◌, ◌≤◌, refl, ap, sym, subst, ◌∙◌, arith, length}
 use Rattle.std.specs.Prelude.{Bool, true, false, Result, Ok, Err, IsOk, IsErr, IsTrue, ◌↔◌}
 use Rattle.rh_defs.specs.Memory.{Memory, OnlyArea, bytes, grown, shrunk}
 use Rattle.rh_defs.proofs.MemoryLaws.{length-shrunk, OnlyArea-shrunk, length-grown, OnlyArea-grown}

@@ -1,5 +1,5 @@
 -- What the readers give of a slot, and that it is small.
-use Rattle.std.proofs.Common.{◌≡◌, ℕ, ◌+◌, ◌<◌, ◌≤◌, ◌^◌, refl, ap, sym, ◌∙◌, arith, List, length}
+use Rattle.std.proofs.Common.{◌≡◌, ℕ, ◌+◌, ◌<◌, ◌≤◌, ◌^◌, ap, sym, ◌∙◌, arith, List, length}
 use Rattle.std.specs.Prelude.{Option, Some, None, Ok, Err, IfSome, Result, Bool, ◌==◌}
 use Rattle.std.specs.Option.{option_map}
 use Rattle.std.specs.Result.{MatchResult}
@@ -8,7 +8,7 @@ use Rattle.rh_defs.specs.declared.refusal.Refusal.TheVariants.{NoBlock}
 use Rattle.rh_defs.specs.declared.listing.SegmentItem.{SegmentItem}
 use Rattle.rh_defs.specs.Chain.{Granted, ◌>>=◌, found_or, outcome_of, result_or}
 use Rattle.rh_defs.specs.Pieces.{Split, total}
-use Rattle.rh_defs.specs.Heap.{Heap, segment_at, largest, free_bytes, base}
+use Rattle.rh_defs.specs.Heap.{Heap, segment_at, largest, free_bytes}
 use Rattle.rh_defs.specs.Slot as plain
 use Rattle.rh_defs.specs.Listing.{segment_item}
 use Rattle.rh_defs.proofs.Cuts.{IsCut, first_at-cuts, cut-total}

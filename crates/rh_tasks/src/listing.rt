@@ -119,11 +119,7 @@ impl<S: Store> World<S> {
 
     /// The sums over the task's C heap (OS_Heap 1), and the segment that begins at a place, in bytes from the heap's
     /// first one, None where none begins; NoName where no task has the name.
-    pub fn heap(
-        &self,
-        name: &Name,
-        place: u32,
-    ) -> Result<(HeapSums, Option<SegmentItem>), Refusal>
+    pub fn heap(&self, name: &Name, place: u32) -> Result<(HeapSums, Option<SegmentItem>), Refusal>
         ensures { result ≡ heap_at self.now.desk name.now place }
     {
         let slot = slot_of(&self.seats, name)?;

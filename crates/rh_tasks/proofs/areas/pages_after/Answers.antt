@@ -1,5 +1,5 @@
-use Rattle.std.proofs.Common.{◌≡◌, ◌/◌, refl, sym, ap, arith, w32}
-use Rattle.std.proofs.lemmas.Int.{ints, to_z-of_z}
+use Rattle.std.proofs.Common.{refl, sym, w32}
+use Rattle.std.proofs.lemmas.Int.{to_z-of_z}
 use Rattle.rh_tasks.specs.View.{pages_at}
 use Rattle.rh_tasks.proofs.PageLaws.{lacking}
 use Rattle.rh_tasks.proofs.AreaCommands.{after-more, after-full, after-less, after-short}

@@ -1,4 +1,4 @@
-use Rattle.std.proofs.Common.{◌≡◌, ap, sym, ◌∙◌, arith, length}
+use Rattle.std.proofs.Common.{ap, sym, ◌∙◌, arith}
 use Rattle.std.specs.Prelude.{slice_get}
 use Rattle.rh_defs.specs.Memory.{IsOpen}
 use Rattle.rh_tasks.specs.declared.seat.Seat.{Seat}
@@ -11,8 +11,8 @@ use Rattle.rh_tasks.proofs.listing.area_item.Goals as goal
 pub returns-then-behind-len : goal.returns-then-behind-len
 returns-then-behind-len g c =
     rw c.pages_in-then-behind-len.ensures
-      (sym (item-made (g.S.Words.memory c.args.store.now) c.args.seats.now.items c.args.made.now.items c.args.i c.index-area.result.now c.if-i-fixed.false
-        (omega (arith, c.if-behind-len.true, c.len.ensures, c.args.made.now.ok)) (sym c.index-area.ensures)))
+    (sym (item-made (g.S.Words.memory c.args.store.now) c.args.seats.now.items c.args.made.now.items c.args.i c.index-area.result.now c.if-i-fixed.false
+    (omega (arith, c.if-behind-len.true, c.len.ensures, c.args.made.now.ok)) (sym c.index-area.ensures)))
 
 pub slot_item-requires : goal.slot_item-requires
 slot_item-requires g c =

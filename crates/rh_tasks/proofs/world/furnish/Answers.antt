@@ -1,12 +1,10 @@
-use Rattle.std.proofs.Common.{◌≡◌, ◌≤◌, ap, sym, subst, ◌∙◌, arith, length}
-use Rattle.rh_defs.specs.Memory.{Memory, bytes, grown}
-use Rattle.rh_defs.specs.Heap.{Heap, empty_heap}
+use Rattle.std.proofs.Common.{◌≡◌, ap, sym, subst, ◌∙◌, arith}
+use Rattle.rh_defs.specs.Heap.{empty_heap}
 use Rattle.rh_module.specs.Area.{IsModule, heap_in}
 use Rattle.rh_module.specs.declared.module.Module.{Module}
 use Rattle.rh_tasks.specs.View.{the_module}
-use Rattle.rh_tasks.proofs.Openings.{AreOpened, none-opened, next-opened, opens, six-opened, open-at, page-long, page-open, furnished}
+use Rattle.rh_tasks.proofs.Openings.{none-opened, next-opened, opens, six-opened, open-at, page-long, page-open, furnished}
 use Rattle.rh_tasks.proofs.PageLaws.{not-refused}
-use Rattle.rh_tasks.proofs.world.furnish.Given as given
 use Rattle.rh_tasks.proofs.world.furnish.Goals as goal
 
 pub loop-area-init : goal.loop-area-init
@@ -44,4 +42,4 @@ returns g c =
     let n = g.S.Words.memory c.start.new.store in
     let StillIs : Module → Type 0 = λ k. IsModule n k in
     furnished six (omega (arith, c.requires.least)) is c.start.ensures.only (subst StillIs one c.start.ensures.still)
-      (ap (heap_in n) (sym one) ∙ c.start.ensures.heap ∙ ap empty_heap (page-long six (omega (arith, c.requires.least)) is))
+    (ap (heap_in n) (sym one) ∙ c.start.ensures.heap ∙ ap empty_heap (page-long six (omega (arith, c.requires.least)) is))

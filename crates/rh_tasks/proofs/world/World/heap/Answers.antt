@@ -1,4 +1,4 @@
-use Rattle.std.proofs.Common.{◌≡◌, refl, ap, ◌∙◌, sym, arith}
+use Rattle.std.proofs.Common.{◌∙◌, sym, arith}
 use Rattle.std.proofs.lemmas.Result.{err_from_is_err_and}
 use Rattle.rh_defs.specs.Listing.{heap_at}
 use Rattle.rh_tasks.proofs.Chains.{ends}
@@ -26,7 +26,7 @@ pub returns-in_default : goal.returns-in_default
 unfolding heap_at
 returns-in_default g c =
     rw (← c.self.view_is, c.describe-length.ensures.end, c.describe-length.ensures.largest, c.describe-length.ensures.total)
-      (sym (asked c.self.invariant.0 c.in_ok-slot.ensures.ok (λ s. listed_heap c.args.place s.heap) ∙ listed-none c.args.place _ c.in_default.ensures))
+    (sym (asked c.self.invariant.0 c.in_ok-slot.ensures.ok (λ s. listed_heap c.args.place s.heap) ∙ listed-none c.args.place _ c.in_default.ensures))
 
 pub segment_item-requires-clause-low : goal.segment_item-requires-clause-low
 segment_item-requires-clause-low g c =
@@ -40,5 +40,5 @@ pub returns : goal.returns
 unfolding heap_at
 returns g c =
     rw (← c.self.view_is, c.describe-length.ensures.end, c.describe-length.ensures.largest, c.describe-length.ensures.total)
-      (sym (asked c.self.invariant.0 c.in_ok-slot.ensures.ok (λ s. listed_heap c.args.place s.heap)
-        ∙ listed-some c.args.place _ c.in-Some.segment c.segment_item.result c.in-Some.ensures c.segment_item.ensures))
+    (sym (asked c.self.invariant.0 c.in_ok-slot.ensures.ok (λ s. listed_heap c.args.place s.heap)
+    ∙ listed-some c.args.place _ c.in-Some.segment c.segment_item.result c.in-Some.ensures c.segment_item.ensures))

@@ -1,4 +1,4 @@
-use Rattle.std.proofs.Common.{◌≡◌, refl, ap, ◌∙◌, sym, arith}
+use Rattle.std.proofs.Common.{refl, arith}
 use Rattle.std.specs.Prelude.{Ok}
 use Rattle.std.proofs.lemmas.Result.{err_from_is_err_and}
 use Rattle.rh_defs.specs.declared.reply.Reply.TheVariants as reply
@@ -30,4 +30,4 @@ pub returns : goal.returns
 unfolding heap_sums
 returns g c =
     rw (← c.self.view_is, c.describe-length.ensures.end, c.describe-length.ensures.largest, c.describe-length.ensures.total)
-      (asked c.self.invariant.0 c.in_ok-slot.ensures.ok (λ s. let r : Granted Answer = Ok (_, reply.HeapSums s.heap.end (largest s.heap) (free_bytes s.heap)) in r))
+    (asked c.self.invariant.0 c.in_ok-slot.ensures.ok (λ s. let r : Granted Answer = Ok (_, reply.HeapSums s.heap.end (largest s.heap) (free_bytes s.heap)) in r))

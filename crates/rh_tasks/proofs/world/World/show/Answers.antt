@@ -1,4 +1,4 @@
-use Rattle.std.proofs.Common.{◌≡◌, refl, ap, ◌∙◌, sym, arith}
+use Rattle.std.proofs.Common.{refl, ◌∙◌, arith}
 use Rattle.std.specs.Prelude.{length}
 use Rattle.std.proofs.lemmas.Result.{err_from_is_err_and}
 use Rattle.rh_defs.specs.Listing.{shown_at}
@@ -20,16 +20,16 @@ unfolding shown_at
 returns-in_err-size g c =
     let p = err_from_is_err_and c.from_residual-in_err-size.result c.from_residual-in_err-size.ensures.1 in
     rw (p.1, p.2, ← c.self.view_is)
-      (if-err _ _ (asked c.self.invariant.0 c.in_ok-slot.ensures.ok (shown_of_slot c.args.anchor c.args.offset (length c.args.to.now))
-        ∙ unsized c.args.anchor _ _ _ c.in_err-size.ensures) (refl, refl))
+    (if-err _ _ (asked c.self.invariant.0 c.in_ok-slot.ensures.ok (shown_of_slot c.args.anchor c.args.offset (length c.args.to.now))
+    ∙ unsized c.args.anchor _ _ _ c.in_err-size.ensures) (refl, refl))
 
 pub returns-in_err-read : goal.returns-in_err-read
 unfolding shown_at
 returns-in_err-read g c =
     let p = err_from_is_err_and c.from_residual-in_err-read.result c.from_residual-in_err-read.ensures.1 in
     rw (p.1, p.2, ← c.self.view_is)
-      (if-err _ _ (asked c.self.invariant.0 c.in_ok-slot.ensures.ok (shown_of_slot c.args.anchor c.args.offset (length c.args.to.now))
-        ∙ unread c.args.anchor c.args.offset _ _ _ c.in_err-read.ensures.answer) (refl, kept _ _ _ c.in_err-read.ensures.answer c.in_err-read.ensures.bytes))
+    (if-err _ _ (asked c.self.invariant.0 c.in_ok-slot.ensures.ok (shown_of_slot c.args.anchor c.args.offset (length c.args.to.now))
+    ∙ unread c.args.anchor c.args.offset _ _ _ c.in_err-read.ensures.answer) (refl, kept _ _ _ c.in_err-read.ensures.answer c.in_err-read.ensures.bytes))
 
 pub overflow_cast-result : goal.overflow_cast-result
 overflow_cast-result g c =
@@ -39,5 +39,5 @@ pub returns : goal.returns
 unfolding shown_at
 returns g c =
     rw (← c.self.view_is)
-      (if-ok _ _ (asked c.self.invariant.0 c.in_ok-slot.ensures.ok (shown_of_slot c.args.anchor c.args.offset (length c.args.to.now))
-        ∙ read-done c.args.anchor c.args.offset _ c.in_ok-size.size _ c.args.to.now c.read.new.to c.in_ok-size.ensures c.in_ok-read.ensures.answer c.in_ok-read.ensures.bytes) (refl, refl))
+    (if-ok _ _ (asked c.self.invariant.0 c.in_ok-slot.ensures.ok (shown_of_slot c.args.anchor c.args.offset (length c.args.to.now))
+    ∙ read-done c.args.anchor c.args.offset _ c.in_ok-size.size _ c.args.to.now c.read.new.to c.in_ok-size.ensures c.in_ok-read.ensures.answer c.in_ok-read.ensures.bytes) (refl, refl))

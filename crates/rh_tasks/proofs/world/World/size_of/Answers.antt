@@ -1,4 +1,4 @@
-use Rattle.std.proofs.Common.{◌≡◌, refl, ap, ◌∙◌, sym, arith}
+use Rattle.std.proofs.Common.{refl, ◌∙◌, arith}
 use Rattle.std.specs.Prelude.{length, Ok}
 use Rattle.std.proofs.lemmas.Result.{err_from_is_err_and}
 use Rattle.rh_defs.specs.declared.reply.Reply.TheVariants as reply
@@ -22,9 +22,11 @@ pub returns-in_err-size : goal.returns-in_err-size
 unfolding show
 returns-in_err-size g c =
     let p = err_from_is_err_and c.from_residual-in_err-size.result c.from_residual-in_err-size.ensures.1 in
-    rw (p.1, p.2, ← c.self.view_is)
-      (asked c.self.invariant.0 c.in_ok-slot.ensures.ok (λ s. slot_block c.args.anchor s >>= λ b. (let r : Granted Answer = Ok (_, reply.Shown (length b.here.bytes)) in r))
-        ∙ unsized c.args.anchor _ _ _ c.in_err-size.ensures, refl)
+    rw (p.1, p.2, ← c.self.view_is) (
+      asked c.self.invariant.0 c.in_ok-slot.ensures.ok (λ s. slot_block c.args.anchor s >>= λ b. (let r : Granted Answer = Ok (_, reply.Shown (length b.here.bytes)) in r))
+          ∙ unsized c.args.anchor _ _ _ c.in_err-size.ensures,
+      refl,
+    )
 
 pub overflow_cast-size : goal.overflow_cast-size
 overflow_cast-size g c =
@@ -34,5 +36,5 @@ pub returns : goal.returns
 unfolding show
 returns g c =
     rw (← c.self.view_is)
-      (asked c.self.invariant.0 c.in_ok-slot.ensures.ok (λ s. slot_block c.args.anchor s >>= λ b. (let r : Granted Answer = Ok (_, reply.Shown (length b.here.bytes)) in r))
-        ∙ sized _ c.args.anchor _ _ c.in_ok-size.ensures)
+    (asked c.self.invariant.0 c.in_ok-slot.ensures.ok (λ s. slot_block c.args.anchor s >>= λ b. (let r : Granted Answer = Ok (_, reply.Shown (length b.here.bytes)) in r))
+    ∙ sized _ c.args.anchor _ _ c.in_ok-size.ensures)
