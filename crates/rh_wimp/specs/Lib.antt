@@ -3,3 +3,4 @@ pub mod Moves
 pub mod Searches
 pub mod Deaths
 pub mod Calls
+pub mod PostIn
