@@ -4,38 +4,38 @@ use Rattle.std.proofs.lemmas.Bool.{cases_eq, cases_lt}
 use Rattle.std.proofs.lemmas.Bool.Decides.{eqb_tells}
 use Rattle.std.specs.Prelude.{Option, Some, None, Ok, Err, ◌==◌, ◌||◌, ℤ}
 use Rattle.std.specs.List.{list_any}
+use Rattle.std.specs.Option.{option_map}
 use Rattle.rh_defs.specs.Blocks.{block_bytes, SameShape}
-use Rattle.rh_defs.specs.Chain.{Granted, answer_of, left_of, no_answer}
-use Rattle.rh_defs.specs.Heap.{Heap, Segment, base, block_at, release, size_of}
-use Rattle.rh_defs.specs.Pieces.{Split, pages_for, total}
+use Rattle.rh_defs.specs.Chain.{Granted, ◌>>=◌, refuse_if, found_or, answer_of, left_of, no_answer}
+use Rattle.rh_defs.specs.Heap.{Heap, Segment, Placed, as_granted, base, block_at, block_room, bytes_of, fitted, new_size, release, resize_growing, resize_need, size_of}
+use Rattle.rh_defs.specs.Pieces.{Split, lacks_pages, moved, pages_for, total}
 use Rattle.rh_defs.specs.declared.refusal.Refusal.{Refusal}
-use Rattle.rh_defs.specs.declared.refusal.Refusal.TheVariants.{NotABlock, ExcessiveShrink, NoRoom}
+use Rattle.rh_defs.specs.declared.refusal.Refusal.TheVariants.{BadSize, NotABlock, ExcessiveShrink, NoRoom}
 use Rattle.rh_defs.specs.Memory.{Memory}
 use Rattle.rh_defs.specs.Messages.{Parcel}
-use Rattle.rh_defs.specs.Module.{changed_length, module_change, module_claim, module_free}
+use Rattle.rh_defs.specs.Module.{changed_length, module_change, module_claim, module_free, module_resize}
 use Rattle.rh_defs.specs.Post.{Post, post_is_message}
 use Rattle.rh_defs.proofs.BlockCalls.{module_free-there}
 use Rattle.rh_defs.proofs.BlockLaws.{bytes_here, block_at-bytes}
 use Rattle.rh_defs.proofs.ModuleLaws.{module_change-low, module_change-short, module_change-done, module_free-none}
-use Rattle.rh_defs.proofs.ShapeLaws.{Alike, module_claim-alike, total-blank}
+use Rattle.rh_defs.proofs.ResizeLaws.{CutAlike, Moves, resize_growing-alike, resize_growing-moves, resize_need-alike}
+use Rattle.rh_defs.proofs.ShapeLaws.{Alike, blank_cut, block-blank, module_claim-alike, same_heap, total-blank}
 use Rattle.rh_module.specs.Area.{heap_in}
 use Rattle.rh_module.specs.Calls as module_calls
 use Rattle.rh_module.specs.declared.module.Module.{Module}
 use Rattle.rh_wimp.specs.Calls.{IsQueue}
-use Rattle.rh_wimp.specs.Chains.{Chains, Row, IsPost, SpellsPost, AllLie, Off, row_at, rows_of, row_parcels}
+use Rattle.rh_wimp.specs.Chains.{Chains, Row, IsPost, SpellsPost, AllLie, Off, entry_at, row_at, rows_of, row_parcels}
+use Rattle.rh_wimp.specs.Laws.{GoesBeside, IsSmall, with_heap}
 use Rattle.rh_wimp.specs.PostIn.{in_order, post_in}
 use Rattle.rh_wimp.specs.Searches.{rows_have}
-use Rattle.rh_wimp.proofs.FrameLaws.{block-changed, claimed-beside, freed-beside}
+use Rattle.rh_wimp.proofs.FrameLaws.{IsOff, block-changed, blocks-changed, claimed-beside, freed-beside}
 use Rattle.rh_wimp.proofs.LinkLaws.{zero-off, none-low}
-use Rattle.rh_wimp.proofs.PostCalls.{IsSmall, post_in-in_order, post_in-is, post_in-spelled}
+use Rattle.rh_wimp.proofs.PostCalls.{post_in-in_order, post_in-is, post_in-spelled}
+use Rattle.rh_wimp.proofs.RowLaws.{row-fresh}
 use Rattle.rh_wimp.proofs.SearchLaws.{one-has, rows-have}
 use Rattle.rh_wimp.proofs.SendLaws.{alike-ok}
 
 -- ---- blocks of others
--- no message lies in the block
-abbrev pub IsOff : ℕ → Post → Type 0
-IsOff a post = (j : ℕ) → j < length (rows_of post) → Off a (row_parcels (row_at (rows_of post) j))
-
 off-list : (a : ℕ) (ps : List Parcel) → list_any (λ (p : Parcel). p.block == a) ps ≡ false → Off a ps
 off-list a [] e = tt
 off-list a (p ∷ ps) e = elim (eqb_tells p.block a) [
@@ -56,10 +56,6 @@ off-message h q post a s e j l = off-list a (row_parcels (row_at (rows_of post) 
     go false f = refl
 
 -- ---- a call beside the queue
--- the post with another heap
-abbrev pub with_heap : Heap → Post → Post
-with_heap h post = record post { heap = h }
-
 -- The area's heap and the post's heap grant the same, and the post is spelled with the heap that its own one becomes.
 pub record Beside {A : Type 0} (h : Heap) (q : Chains) (post : Post) (granted plain : Granted (Heap × A)) : Type 0 where
   pub answer : answer_of granted ≡ answer_of plain
@@ -103,6 +99,85 @@ free-beside h q post a s off = go (block_bytes a h) refl
     go (Some bs) e =
         both-granted h q post _ _ (release a h) (release a post.heap) tt (freed-beside h q post a s off)
         (ap (λ g. no_answer g) (module_free-there a h bs e)) (ap (λ g. no_answer g) (module_free-there a post.heap bs (sym (s.linked.others a off) ∙ e)))
+
+-- ---- a resize
+cut_of : (s c : Split Segment) → ◌≡◌ {A = Option (Split Segment)} (Some s) (Some c) → s ≡ c
+cut_of s c e = cc
+
+bytes_of_cut : (bs cs : List ℕ) → ◌≡◌ {A = Option (List ℕ)} (Some bs) (Some cs) → bs ≡ cs
+bytes_of_cut bs cs e = cc
+
+-- a block of others is at the same cut in both heaps
+cuts-alike : (h d : Heap) (a : ℕ) (s c : Split Segment) → SameShape h d → block_bytes a h ≡ block_bytes a d → block_at a h ≡ Some s → block_at a d ≡ Some c → CutAlike h d s c
+cuts-alike h d a s c shape same e f = record {
+  shape = shape;
+  cut = cut_of (blank_cut s) (blank_cut c)
+      (ap (option_map blank_cut) (sym e) ∙ sym (block-blank a 16 h.segments) ∙ ap (λ (k : Heap). block_at a k) (same_heap h d shape) ∙ block-blank a 16 d.segments ∙ ap (option_map blank_cut) f);
+  bytes = bytes_of_cut (bytes_of s.here) (bytes_of c.here) (ap bytes_here (sym e) ∙ block_at-bytes a h ∙ same ∙ sym (block_at-bytes a d) ∙ ap bytes_here f);
+}
+
+-- a block of others is resized in both heaps
+resized-beside : (h : Heap) (q : Chains) (post : Post) (a n : ℕ) (s c : Split Segment) → IsPost h q post → IsOff a post → block_at a h ≡ Some s → block_at a post.heap ≡ Some c → CutAlike h post.heap s c
+    → IsPost (resize_growing n s h).heap q (with_heap (resize_growing n c post.heap).heap post)
+resized-beside h q post a n s c w off e f alike =
+    let d = post.heap in
+    let k = resize_growing n s h in
+    let l = resize_growing n c d in
+    let p = resize_growing-alike n h d s c alike in
+    let x = resize_growing-moves a n s h e in
+    let y = subst (Moves a (fitted (block_room n) (bytes_of c.here)) d l.heap) (sym p.address) (resize_growing-moves a n c d f) in
+    let bytes : fitted (block_room n) (bytes_of s.here) ≡ fitted (block_room n) (bytes_of c.here) = ap (fitted (block_room n)) alike.bytes in
+    let here : block_bytes k.address k.heap ≡ block_bytes k.address l.heap = x.here ∙ ap Some bytes ∙ sym y.here in
+    let off_there : IsOff k.address post = λ j b. elim (cases_eq a k.address) [
+      | inl z ↦ subst (λ m. Off m (row_parcels (row_at (rows_of post) j))) z (off j b)
+      | inr ne ↦ row-fresh h (entry_at q.entries j) (row_at (rows_of post) j) k.address (x.fresh ne) (w.rows.each j b)
+    ] in
+    let there : block_bytes a k.heap ≡ block_bytes a l.heap = elim (cases_eq a k.address) [
+      | inl z ↦ subst (λ m. block_bytes m k.heap ≡ block_bytes m l.heap) (sym z) here
+      | inr ne ↦ x.gone ne ∙ sym (y.gone ne)
+    ] in
+    blocks-changed h k.heap q post l.heap a k.address w off off_there p.shape x.others y.others there here
+
+-- a resize of a block of others
+pub resize-beside : (h : Heap) (q : Chains) (post : Post) (free a : ℕ) (delta : ℤ) → IsPost h q post → IsOff a post → Beside h q post (module_resize free a delta h) (module_resize free a delta post.heap)
+unfolding module_resize ◌>>=◌ refuse_if found_or
+resize-beside h q post free a delta w off = go (block_at a h) refl (block_at a d) refl
+  where
+    d : Heap
+    d = post.heap
+
+    same : block_bytes a h ≡ block_bytes a d
+    same = w.linked.others a off
+
+    granted : Heap → Split Segment → Granted (Heap × ℕ)
+    granted g s = refuse_if (new_size delta s == 0) BadSize >>= (λ x. refuse_if (lacks_pages free (resize_need (new_size delta s) s g)) NoRoom >>= (λ y. Ok (as_granted (resize_growing (new_size delta s) s g))))
+
+    found : (g : Heap) (s : Split Segment) → block_at a g ≡ Some s → module_resize free a delta g ≡ granted g s
+    found g s e = ap (λ o. found_or o NotABlock >>= granted g) e
+
+    missing : (g : Heap) → block_at a g ≡ None → module_resize free a delta g ≡ Err NotABlock
+    missing g e = ap (λ o. found_or o NotABlock >>= granted g) e
+
+    chosen : (t u : Bool) (k l : Placed) → k.address ≡ l.address → IsPost k.heap q (with_heap l.heap post)
+        → Beside h q post (refuse_if t BadSize >>= (λ x. refuse_if u NoRoom >>= (λ y. Ok (as_granted k)))) (refuse_if t BadSize >>= (λ x. refuse_if u NoRoom >>= (λ y. Ok (as_granted l))))
+    chosen true u k l e v = record { answer = refl; spells = w }
+    chosen false true k l e v = record { answer = refl; spells = w }
+    chosen false false k l e v = record { answer = ap (λ x. Ok x) e; spells = v }
+
+    both : (s c : Split Segment) → block_at a h ≡ Some s → block_at a d ≡ Some c → Beside h q post (granted h s) (granted d c)
+    both s c e f =
+        let alike = cuts-alike h d a s c w.linked.shape same e f in
+        let size : new_size delta s ≡ new_size delta c = ap (λ l. moved (length l) delta) alike.bytes in
+        let n = new_size delta s in
+        subst (λ m. Beside h q post (granted h s) (refuse_if (m == 0) BadSize >>= (λ x. refuse_if (lacks_pages free (resize_need m c d)) NoRoom >>= (λ y. Ok (as_granted (resize_growing m c d)))))) size
+        (subst (λ m. Beside h q post (granted h s) (refuse_if (n == 0) BadSize >>= (λ x. refuse_if (lacks_pages free m) NoRoom >>= (λ y. Ok (as_granted (resize_growing n c d)))))) (resize_need-alike n h d s c alike)
+        (chosen (n == 0) (lacks_pages free (resize_need n s h)) (resize_growing n s h) (resize_growing n c d) (resize_growing-alike n h d s c alike).address (resized-beside h q post a n s c w off e f alike)))
+
+    go : (o : Option (Split Segment)) → block_at a h ≡ o → (p : Option (Split Segment)) → block_at a d ≡ p → Beside h q post (module_resize free a delta h) (module_resize free a delta d)
+    go None e None f = both-refused h q post _ _ NotABlock w (missing h e) (missing d f)
+    go (Some s) e (Some c) f = subst (λ g. Beside h q post g (module_resize free a delta d)) (sym (found h s e)) (subst (Beside h q post (granted h s)) (sym (found d c f)) (both s c e f))
+    go None e (Some c) f = absurd (let bad : None ≡ Some (bytes_of c.here) = ap bytes_here (sym e) ∙ block_at-bytes a h ∙ same ∙ sym (block_at-bytes a d) ∙ ap bytes_here f in cc)
+    go (Some s) e None f = absurd (let bad : Some (bytes_of s.here) ≡ None = ap bytes_here (sym e) ∙ block_at-bytes a h ∙ same ∙ sym (block_at-bytes a d) ∙ ap bytes_here f in cc)
 
 -- ---- the area's end
 abbrev pub ended : ℕ → Heap → Heap
@@ -154,3 +229,22 @@ module _ {A : Type 0} (m n : Memory) (rma : Module) (q : Chains) (granted : Gran
       let post = post_in m rma q in
       post_in-is n rma q (with_heap (left_of post.heap plain) post) smaller l.still (spells-beside post plain b)
       ∙ sym (ap (with_heap (left_of post.heap plain)) (post_in-in_order m rma q small s))
+
+-- a call that the post's heap grants as the area's does
+goes-beside : {A : Type 0} (allowed : Post → Type 0) (call : ℕ → Heap → Granted (Heap × A)) → ((h : Heap) (q : Chains) (post : Post) (free : ℕ) → allowed post → IsPost h q post → Beside h q post (call free h) (call free post.heap))
+    → GoesBeside allowed call
+goes-beside allowed call f m n rma q post result a s l =
+    let b = f (heap_in m rma) q post m.free a s in
+    (answers-beside m n rma q (call m.free (heap_in m rma)) result l post (call m.free post.heap) b, spells-beside m n rma q (call m.free (heap_in m rma)) result l post (call m.free post.heap) b)
+
+pub claims-beside : (n : ℕ) → GoesBeside (λ post. Unit {0}) (λ free h. module_claim free n h)
+claims-beside n = goes-beside (λ post. Unit {0}) (λ free h. module_claim free n h) (λ h q post free a s. claim-beside h q post free n s)
+
+pub frees-beside : (a : ℕ) → GoesBeside (λ post. post_is_message a post ≡ false) (λ free h. no_answer (module_free a h))
+frees-beside a = goes-beside (λ post. post_is_message a post ≡ false) (λ free h. no_answer (module_free a h)) (λ h q post free e s. free-beside h q post a s (off-message h q post a s e))
+
+pub resizes-beside : (a : ℕ) (delta : ℤ) → GoesBeside (λ post. post_is_message a post ≡ false) (λ free h. module_resize free a delta h)
+resizes-beside a delta = goes-beside (λ post. post_is_message a post ≡ false) (λ free h. module_resize free a delta h) (λ h q post free e s. resize-beside h q post free a delta s (off-message h q post a s e))
+
+pub changes-beside : (delta : ℤ) → GoesBeside (λ post. Unit {0}) (λ free h. module_change free delta h)
+changes-beside delta = goes-beside (λ post. Unit {0}) (λ free h. module_change free delta h) (λ h q post free a s. change-beside h q post free delta s)

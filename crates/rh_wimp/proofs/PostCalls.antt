@@ -12,16 +12,13 @@ use Rattle.rh_module.specs.Area.{IsModule, heap_in}
 use Rattle.rh_module.specs.declared.module.Module.{Module}
 use Rattle.rh_wimp.specs.Calls.{Answers, IsQueue, Leaves}
 use Rattle.rh_wimp.specs.Chains.{Chains, HasEntry, IsPost, SpellsPost, joined}
+use Rattle.rh_wimp.specs.Laws.{HaveOnePost, IsSmall}
 use Rattle.rh_wimp.specs.PostIn.{by_seats, in_order, post_in, post_of}
 use Rattle.rh_wimp.proofs.JoinLaws.{join-spells}
 use Rattle.rh_wimp.proofs.OrderLaws.{HoldsOwn, by_seats-each, own-seats}
 use Rattle.rh_wimp.proofs.PostInLaws.{module-low, post_of-is, post_of-spells}
 use Rattle.rh_wimp.proofs.PostLaws.{seat_at}
 use Rattle.rh_wimp.proofs.SendLaws.{named}
-
--- the area is so small that its blocks have addresses that are words; a store's law `small` says it of each area
-abbrev pub IsSmall : Memory → Module → Type 0
-IsSmall m rma = length (bytes m rma.area.0) ≤ 2 ^ 22
 
 -- ---- which post it is
 -- the post that is read is spelled
@@ -31,6 +28,9 @@ post_in-spelled m rma q small s = post_of-spells (heap_in m rma) q s.post (modul
 -- each post that is spelled, in order of seats, is the one that is read
 pub post_in-is : (m : Memory) (rma : Module) (q : Chains) (post : Post) → IsSmall m rma → IsModule m rma → SpellsPost m rma q post → post_in m rma q ≡ in_order post
 post_in-is m rma q post small s w = post_of-is (heap_in m rma) q post (module-low m rma s small) w
+
+pub one-post : HaveOnePost
+one-post m rma q post small s w = (post_in-spelled m rma q small (record { area = s; post = post; spells = w }), post_in-is m rma q post small s w)
 
 -- it is in order of seats
 pub post_in-in_order : (m : Memory) (rma : Module) (q : Chains) → IsSmall m rma → IsQueue m rma q → post_in m rma q ≡ in_order (post_in m rma q)

@@ -4,3 +4,4 @@ pub mod Searches
 pub mod Deaths
 pub mod Calls
 pub mod PostIn
+pub mod Laws
