@@ -18,7 +18,7 @@ use std::test::Fail;
 
 /// A store with a module area of one page, a queue with tasks 1, 2 and 3, and the lists beside it.
 #[derive(Drop)]
-pub struct Bench<S: Store> {
+pub(crate) struct Bench<S: Store> {
     pub store: S,
     pub rma: Module,
     pub queue: Queue,
@@ -26,7 +26,7 @@ pub struct Bench<S: Store> {
 }
 
 /// A DataSave.
-pub fn letter(rt: &impl Abort, sent: Sent) -> Letter
+pub(crate) fn letter(rt: &impl Abort, sent: Sent) -> Letter
     ensures { result.from ≡ sent.from }
 {
     let file = FileData {
@@ -48,7 +48,7 @@ pub fn letter(rt: &impl Abort, sent: Sent) -> Letter
 }
 
 /// A recorded message.
-pub fn recorded(from: u32, to: u32) -> Sent
+pub(crate) fn recorded(from: u32, to: u32) -> Sent
     ensures { result.from ≡ from }
 {
     Sent {
@@ -61,7 +61,7 @@ pub fn recorded(from: u32, to: u32) -> Sent
 }
 
 /// Joins tasks 1, 2 and 3 to an empty queue.
-pub fn three(queue: &mut Queue)
+pub(crate) fn three(queue: &mut Queue)
     requires { handles_of queue.old ≡ [] }
     ensures handles { handles_of queue.new ≡ 1 ∷ 2 ∷ 3 ∷ [] }
     ensures still { (m : Memory) (rma : SpecModule) → IsQueue m rma queue.old → IsQueue m rma queue.new }
@@ -83,7 +83,7 @@ fn started<S: Store>(store: &mut S) -> Result<Module, StoreFault>
 
 impl<S: Store + Drop> Bench<S> {
     /// Tasks 1, 2 and 3 over a store, with no message.
-    pub fn new(alloc: Global, store: S, next_ref: u32) -> Result<Bench<S>, Fail>
+    pub(crate) fn new(alloc: Global, store: S, next_ref: u32) -> Result<Bench<S>, Fail>
         ensures { IfOk result (λ bench. Runs (S.memory bench.store) bench.rma bench.queue bench.lists.live.items) }
     {
         let mut store = store;
@@ -99,17 +99,19 @@ impl<S: Store + Drop> Bench<S> {
     }
 
     /// Sends a message of a live task, and answers what the queue does.
-    pub fn try_send(&mut self, rt: &impl Abort, sent: Sent) -> Result<Ref, Refusal>
+    pub(crate) fn try_send(&mut self, rt: &impl Abort, sent: Sent) -> Result<Ref, Refusal>
         requires { Runs (S.memory self.old.store) self.old.rma self.old.queue self.old.lists.live.items }
         ensures { Runs (S.memory self.new.store) self.new.rma self.new.queue self.new.lists.live.items }
     {
-        assert!(rt; self.lists.is_live(sent.from));
+        if !self.lists.is_live(sent.from) {
+            panic!(rt; "{} is live", sent.from);
+        }
         let letter = letter(rt, sent);
         self.queue.send(&mut self.store, self.rma, letter)
     }
 
     /// Sends a message, if its sender is live.
-    pub fn send(&mut self, rt: &impl Abort, sent: Sent) -> Result<(), AllocError>
+    pub(crate) fn send(&mut self, rt: &impl Abort, sent: Sent) -> Result<(), AllocError>
         requires { Runs (S.memory self.old.store) self.old.rma self.old.queue self.old.lists.live.items }
         ensures { Runs (S.memory self.new.store) self.new.rma self.new.queue self.new.lists.live.items }
     {
@@ -123,7 +125,7 @@ impl<S: Store + Drop> Bench<S> {
     }
 
     /// Polls a task, if it is live.
-    pub fn poll(&mut self, rt: &impl Abort, task: u32) -> Result<(), AllocError>
+    pub(crate) fn poll(&mut self, rt: &impl Abort, task: u32) -> Result<(), AllocError>
         requires { Runs (S.memory self.old.store) self.old.rma self.old.queue self.old.lists.live.items }
         ensures { Runs (S.memory self.new.store) self.new.rma self.new.queue self.new.lists.live.items }
     {
@@ -148,7 +150,7 @@ impl<S: Store + Drop> Bench<S> {
     }
 
     /// Ends a task, if it is live.
-    pub fn end(&mut self, task: u32) -> Result<(), AllocError>
+    pub(crate) fn end(&mut self, task: u32) -> Result<(), AllocError>
         requires { Runs (S.memory self.old.store) self.old.rma self.old.queue self.old.lists.live.items }
         ensures { Runs (S.memory self.new.store) self.new.rma self.new.queue self.new.lists.live.items }
     {
@@ -160,14 +162,14 @@ impl<S: Store + Drop> Bench<S> {
     }
 
     /// Whether a message lies in a block.
-    pub fn is_message(&self, block: usize) -> bool
+    pub(crate) fn is_message(&self, block: usize) -> bool
         requires { Runs (S.memory self.now.store) self.now.rma self.now.queue self.now.lists.live.items }
     {
         self.queue.is_message(&self.store, self.rma, block)
     }
 
     /// Compares what is live, for refs from 1 on.
-    pub fn compare(&self, rt: &impl Abort, refs: u32)
+    pub(crate) fn compare(&self, rt: &impl Abort, refs: u32)
         requires { Runs (S.memory self.now.store) self.now.rma self.now.queue self.now.lists.live.items }
     {
         for my_ref in 1..refs {

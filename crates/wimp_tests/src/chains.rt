@@ -1,6 +1,6 @@
 //! Chains of messages in blocks of the module area.
 
-ghost use Rattle.std.specs.Prelude.{◌≡◌};
+ghost use Rattle.std.specs.Prelude.{◌≡◌, ◌<◌};
 ghost use Rattle.wimp_tests.specs.Runs.{Runs};
 
 use crate::bench::{Bench, recorded};
@@ -64,6 +64,7 @@ fn next(number: u32) -> u32 {
 /// One of the numbers below a limit.
 fn choice(number: u32, limit: u32) -> u32
     requires { 0 < limit }
+    ensures { result < limit }
 {
     (number >> 16) % limit
 }
@@ -82,11 +83,11 @@ fn some_message(number: u32, refs: u32) -> Sent {
 }
 
 /// Sends and polls in turn, each compared with what lists do.
-fn steps<S: Store + Drop>(rt: &impl Abort, bench: &mut Bench<S>, seed: u32) -> Result<(), AllocError>
+fn steps<S: Store + Drop>(rt: &impl Abort, bench: &mut Bench<S>, first: u32) -> Result<(), AllocError>
     requires { Runs (S.memory bench.old.store) bench.old.rma bench.old.queue bench.old.lists.live.items }
     ensures { Runs (S.memory bench.new.store) bench.new.rma bench.new.queue bench.new.lists.live.items }
 {
-    let mut number = seed;
+    let mut number = first;
     for turn in 0..100u32 {
         number = next(number);
         if choice(number, 5) < 2 {

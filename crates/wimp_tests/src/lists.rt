@@ -8,7 +8,7 @@ use std::alloc::{AllocError, Global};
 
 /// A message, by what the lists need of it.
 #[derive(Clone, Copy, Debug, PartialEq, Eq)]
-pub struct Sent {
+pub(crate) struct Sent {
     pub code: EventCode,
     pub from: u32,
     pub to: u32,
@@ -18,7 +18,7 @@ pub struct Sent {
 
 /// The messages queued in order, those that are held, and the live handles.
 #[derive(Drop)]
-pub struct Lists {
+pub(crate) struct Lists {
     pub queued: Vec<Sent>,
     pub held: Vec<Sent>,
     pub live: Vec<u32>,
@@ -26,7 +26,7 @@ pub struct Lists {
 }
 
 impl Lists {
-    pub fn new(alloc: Global, handles: &[u32], next_ref: u32) -> Result<Lists, AllocError>
+    pub(crate) fn new(alloc: Global, handles: &[u32], next_ref: u32) -> Result<Lists, AllocError>
         ensures { IfOk result (λ lists. lists.live.items ≡ handles.now) }
     {
         Ok(Lists {
@@ -37,19 +37,19 @@ impl Lists {
         })
     }
 
-    pub fn is_live(&self, handle: u32) -> bool
+    pub(crate) fn is_live(&self, handle: u32) -> bool
         ensures { result ≡ list_any (λ h. h == handle) self.now.live.items }
     {
         self.live.iter().any(|h| *h == handle)
     }
 
     /// Whether a message with the ref is queued or held.
-    pub fn has_ref(&self, my_ref: u32) -> bool {
+    pub(crate) fn has_ref(&self, my_ref: u32) -> bool {
         self.queued.iter().any(|s| s.my_ref == my_ref) || self.held.iter().any(|s| s.my_ref == my_ref)
     }
 
     /// The ref that the message is sent under, none where its recipient isn't live.
-    pub fn send(&mut self, sent: Sent) -> Result<Option<u32>, AllocError>
+    pub(crate) fn send(&mut self, sent: Sent) -> Result<Option<u32>, AllocError>
         ensures { self.new.live.items ≡ self.old.live.items }
     {
         if !self.is_live(sent.to) {
@@ -89,7 +89,7 @@ impl Lists {
     }
 
     /// The message that a poll takes.
-    pub fn poll(&mut self, task: u32) -> Result<Option<Sent>, AllocError>
+    pub(crate) fn poll(&mut self, task: u32) -> Result<Option<Sent>, AllocError>
         ensures { self.new.live.items ≡ self.old.live.items }
     {
         self.bounce_held(task)?;
@@ -104,10 +104,24 @@ impl Lists {
     }
 
     /// The end of a handle.
-    pub fn end(&mut self, task: u32) -> Result<(), AllocError>
+    pub(crate) fn end(&mut self, task: u32) -> Result<(), AllocError>
+        ensures { self.new.live.items ≡ filter (λ h. not (h == task)) self.old.live.items }
+    {
+        self.leave(task);
+        self.end_messages(task)
+    }
+
+    /// The handle is live no more.
+    fn leave(&mut self, task: u32)
         ensures { self.new.live.items ≡ filter (λ h. not (h == task)) self.old.live.items }
     {
         self.live.retain(|h| *h != task);
+    }
+
+    /// The end of a handle that isn't live any more: what it holds bounces, and then what is queued for it.
+    fn end_messages(&mut self, task: u32) -> Result<(), AllocError>
+        ensures { self.new.live.items ≡ self.old.live.items }
+    {
         self.bounce_held(task)?;
         for _turn in 0..256 {
             let Some(at) = self.queued.iter().position(|s| s.to == task) else {
