@@ -1,0 +1,10 @@
+//! The two sides of a task's transfers, as its records alone see them: without memory, messages or other tasks.
+#![tactic(auto)]
+
+mod finding;
+mod receiver;
+mod records;
+mod sender;
+
+pub use receiver::Receiver;
+pub use sender::Sender;
