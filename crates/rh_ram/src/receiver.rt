@@ -4,7 +4,7 @@ ghost use Rattle.std.specs.Prelude.{◌≡◌, [], ◌+◌, ◌^◌, ◌<◌, �
 ghost use Rattle.std.specs.List.{list_any};
 ghost use Rattle.std.specs.Option.{option_copied};
 ghost use Rattle.rh_defs.specs.Chain.{outcome_of, result_or};
-ghost use Rattle.rh_defs.specs.Records.{is_going, is_full as is_full_of, is_document as is_document_of, is_buffer_of as is_buffer};
+ghost use Rattle.rh_defs.specs.Records.{in_id, is_going, with_id, is_full as is_full_of, is_document as is_document_of, is_buffer_of as is_buffer};
 ghost use Rattle.rh_defs.specs.Receiver as receiver;
 
 use crate::finding::{first_active, first_asking};
@@ -152,20 +152,23 @@ impl Receiver {
         ensures answer { result ≡ outcome_of (receiver.cancel wanted self.old) }
         ensures records { self.new ≡ result_or self.old (receiver.cancel wanted self.old) }
     {
-        let Some(found) = self.wanted(wanted) else {
+        let Some(entry) = self.wanted(wanted) else {
             return Err(Refusal::NotOpen);
         };
-        rewrite(&mut self.records, found.id(), cancelled(found));
+        self.give_up(entry);
         Ok(())
     }
 
     fn wanted(&self, wanted: Option<Ref>) -> Option<Incoming>
         ensures { result ≡ find (receiver.is_wanted wanted) self.now }
     {
-        self.records
-            .iter()
-            .find(|entry| is_wanted(wanted, entry))
-            .copied()
+        first_wanted(&self.records, wanted).copied()
+    }
+
+    fn give_up(&mut self, entry: Incoming)
+        ensures { self.new ≡ with_id in_id (in_id entry) (receiver.cancelled entry) self.old }
+    {
+        rewrite(&mut self.records, entry.id(), cancelled(entry));
     }
 
     /// The sender of the transfer is asked for a file by the message with the ref.
@@ -218,6 +221,12 @@ impl Receiver {
         };
         rewrite(&mut self.records, q.id, new);
     }
+}
+
+fn first_wanted(records: &[Incoming], wanted: Option<Ref>) -> Option<&Incoming>
+    ensures { option_copied result ≡ find (receiver.is_wanted wanted) records.now }
+{
+    records.iter().find(|entry| is_wanted(wanted, entry))
 }
 
 fn is_wanted(wanted: Option<Ref>, entry: &Incoming) -> bool

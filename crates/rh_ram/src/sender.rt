@@ -3,7 +3,7 @@
 ghost use Rattle.std.specs.Prelude.{◌≡◌, [], ◌+◌, ◌^◌, ◌<◌, ◌≤◌, false, length};
 ghost use Rattle.std.specs.List.{list_any};
 ghost use Rattle.rh_defs.specs.Chain.{outcome_of, result_or};
-ghost use Rattle.rh_defs.specs.Records.{is_open, is_full as is_full_of, is_source as is_source_of};
+ghost use Rattle.rh_defs.specs.Records.{open_of, is_meant as is_meant_by, is_open, is_full as is_full_of, is_source as is_source_of};
 ghost use Rattle.rh_defs.specs.Sender as sender;
 
 use crate::finding::first_open;
@@ -136,11 +136,17 @@ impl Sender {
         ensures answer { result ≡ outcome_of (sender.cancel wanted self.old) }
         ensures records { self.new ≡ result_or self.old (sender.cancel wanted self.old) }
     {
-        let Some(x) = first_open(&self.records, |x| is_meant(wanted, x.id)) else {
+        let Some(x) = self.meant(wanted) else {
             return Err(Refusal::NotOpen);
         };
         self.failed(&x);
         Ok(())
+    }
+
+    fn meant(&self, wanted: Option<Ref>) -> Option<Sending>
+        ensures { result ≡ open_of (λ x. is_meant_by wanted x.id) self.now }
+    {
+        first_open(&self.records, |x| is_meant(wanted, x.id))
     }
 
     /// The transfer that a DataSaveAck is for: from its recipient, in answer to its DataSave, which was its last message.
