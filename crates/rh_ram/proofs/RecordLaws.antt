@@ -49,7 +49,7 @@ module _ {A : Type 0} (lasts : A → Bool) where
       go true e q = absurd (cc)
       go false e q =
           let all : prefix_len (λ x. not (not (lasts x))) xs ≡ length xs =
-              omega (arith, ltb-false _ _ e, prefix_len-le-length (λ x. not (not (lasts x))) xs) in
+          omega (arith, ltb-false _ _ e, prefix_len-le-length (λ x. not (not (lasts x))) xs) in
           omega (arith, leb-false most_records (length (filter lasts xs)) few, all-last xs all)
 
 -- ---- one written anew, by a walk

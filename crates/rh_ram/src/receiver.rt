@@ -8,7 +8,7 @@ ghost use Rattle.rh_defs.specs.Records.{in_id, is_going, with_id, is_full as is_
 ghost use Rattle.rh_defs.specs.Receiver as receiver;
 
 use crate::finding::{first_active, first_asking};
-use crate::records::{is_full, is_meant, make_room, rewrite, Record};
+use crate::records::{Record, is_full, is_meant, make_room, rewrite};
 use arrayvec::ArrayVec;
 use rh_defs::{Anchor, Asked, Handle, Incoming, Ref, Refusal, Taking};
 use std::marker::Model;

@@ -58,9 +58,7 @@ impl Sender {
     pub fn is_source(&self, anchor: Anchor) -> bool
         ensures { result ≡ list_any (is_source_of anchor) self.now }
     {
-        self.records
-            .iter()
-            .any(|entry| matches!(entry, Outgoing::Open(x) if x.anchor == anchor))
+        self.records.iter().any(|entry| matches!(entry, Outgoing::Open(x) if x.anchor == anchor))
     }
 
     /// Opens a record for a DataSave: Busy where eight are open. Among eight the first one that has ended goes.

@@ -12,9 +12,10 @@ returns-then-test g c wanted agrees =
 pub loop-entry-preserved : goal.loop-entry-preserved
 loop-entry-preserved g c wanted agrees =
     elim c.match-entry.branch [
-    in-Fetching+else-test w ↦
-    walked-past (active_of wanted) c.args.records.now c.loop-entry.entry-index c.entry-item.result c.loop-entry-test.true c.entry-item.is
-    (active-past wanted _ _ w.in-Fetching.is (agrees _ _ (says_at g.F.Fn w.test.ensures w.if-test.false))) (c.loop-entry.invariant wanted agrees)
-    | in_default w ↦
-    walked-past (active_of wanted) c.args.records.now c.loop-entry.entry-index c.entry-item.result c.loop-entry-test.true c.entry-item.is
-    (bufferless-past wanted _ w.in_default.not-Fetching w.in_default.not-Draining) (c.loop-entry.invariant wanted agrees) ]
+      | in-Fetching+else-test w ↦
+          walked-past (active_of wanted) c.args.records.now c.loop-entry.entry-index c.entry-item.result c.loop-entry-test.true c.entry-item.is
+          (active-past wanted _ _ w.in-Fetching.is (agrees _ _ (says_at g.F.Fn w.test.ensures w.if-test.false))) (c.loop-entry.invariant wanted agrees)
+      | in_default w ↦
+          walked-past (active_of wanted) c.args.records.now c.loop-entry.entry-index c.entry-item.result c.loop-entry-test.true c.entry-item.is
+          (bufferless-past wanted _ w.in_default.not-Fetching w.in_default.not-Draining) (c.loop-entry.invariant wanted agrees)
+    ]

@@ -12,9 +12,10 @@ returns-then-test g c wanted agrees =
 pub loop-entry-preserved : goal.loop-entry-preserved
 loop-entry-preserved g c wanted agrees =
     elim c.match-entry.branch [
-    in-Asking+else-test w ↦
-    walked-past (asking_of wanted) c.args.records.now c.loop-entry.entry-index c.entry-item.result c.loop-entry-test.true c.entry-item.is
-    (asking-past wanted _ _ w.in-Asking.is (agrees _ _ (says_at g.F.Fn w.test.ensures w.if-test.false))) (c.loop-entry.invariant wanted agrees)
-    | in_default w ↦
-    walked-past (asking_of wanted) c.args.records.now c.loop-entry.entry-index c.entry-item.result c.loop-entry-test.true c.entry-item.is
-    (unasked-past wanted _ w.in_default.not-Asking) (c.loop-entry.invariant wanted agrees) ]
+      | in-Asking+else-test w ↦
+          walked-past (asking_of wanted) c.args.records.now c.loop-entry.entry-index c.entry-item.result c.loop-entry-test.true c.entry-item.is
+          (asking-past wanted _ _ w.in-Asking.is (agrees _ _ (says_at g.F.Fn w.test.ensures w.if-test.false))) (c.loop-entry.invariant wanted agrees)
+      | in_default w ↦
+          walked-past (asking_of wanted) c.args.records.now c.loop-entry.entry-index c.entry-item.result c.loop-entry-test.true c.entry-item.is
+          (unasked-past wanted _ w.in_default.not-Asking) (c.loop-entry.invariant wanted agrees)
+    ]

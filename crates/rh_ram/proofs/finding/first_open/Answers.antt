@@ -13,9 +13,10 @@ returns-then-test g c wanted agrees =
 pub loop-entry-preserved : goal.loop-entry-preserved
 loop-entry-preserved g c wanted agrees =
     elim c.match-entry.branch [
-    in-Open+else-test w ↦
-    walked-past (open_of wanted) c.args.records.now c.loop-entry.entry-index c.entry-item.result c.loop-entry-test.true c.entry-item.is
-    (open-past wanted _ _ w.in-Open.is (agrees _ _ (says_at g.F.Fn w.test.ensures w.if-test.false))) (c.loop-entry.invariant wanted agrees)
-    | in_default w ↦
-    walked-past (open_of wanted) c.args.records.now c.loop-entry.entry-index c.entry-item.result c.loop-entry-test.true c.entry-item.is
-    (ended-past wanted _ w.in_default.not-Open) (c.loop-entry.invariant wanted agrees) ]
+      | in-Open+else-test w ↦
+          walked-past (open_of wanted) c.args.records.now c.loop-entry.entry-index c.entry-item.result c.loop-entry-test.true c.entry-item.is
+          (open-past wanted _ _ w.in-Open.is (agrees _ _ (says_at g.F.Fn w.test.ensures w.if-test.false))) (c.loop-entry.invariant wanted agrees)
+      | in_default w ↦
+          walked-past (open_of wanted) c.args.records.now c.loop-entry.entry-index c.entry-item.result c.loop-entry-test.true c.entry-item.is
+          (ended-past wanted _ w.in_default.not-Open) (c.loop-entry.invariant wanted agrees)
+    ]
