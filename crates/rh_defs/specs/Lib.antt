@@ -33,5 +33,6 @@ pub mod Spans
 pub mod Laws
 pub mod Listing
 pub mod Line
+pub mod Known
 pub mod Text
 pub mod Script

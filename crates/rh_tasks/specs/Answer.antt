@@ -4,8 +4,6 @@ use Rattle.std.specs.Result.{MatchResult}
 use Rattle.rh_defs.specs.declared.refusal.Refusal.{Refusal}
 use Rattle.rh_defs.specs.declared.reply.Reply.{Reply}
 use Rattle.rh_defs.specs.declared.reply.Reply.TheVariants as reply
-use Rattle.rh_defs.specs.declared.command.Command.{Command}
-use Rattle.rh_defs.specs.declared.command.Command.TheVariants as command
 use Rattle.rh_defs.specs.Chain.{Granted}
 use Rattle.rh_defs.specs.Commands.{Answer}
 use Rattle.rh_tasks.specs.Shown.{Shown}
@@ -18,12 +16,3 @@ Gives granted old new result = MatchResult result (λ said. granted ≡ Ok (new.
 abbrev pub reply_of : Result Reply Refusal → Reply
 reply_of (Ok said) = said
 reply_of (Err refusal) = reply.Refused refusal
-
--- a command that sends no message, and asks for none
-abbrev pub IsStanding : Command → Type 0
-IsStanding (command.Save name k to leaf) = ⊥
-IsStanding (command.Poll name) = ⊥
-IsStanding (command.CancelIn name id) = ⊥
-IsStanding (command.CancelOut name id) = ⊥
-IsStanding (command.Repeat name) = ⊥
-IsStanding _ = Unit {0}

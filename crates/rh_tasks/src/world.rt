@@ -1,21 +1,21 @@
 //! The world: a desk over a store.
 
-ghost use Rattle.std.specs.Prelude.{◌≡◌, ◌≤◌, ℕ, ◌+◌, ◌<◌, true, Ok, Err, IfOk, IsSome};
+ghost use Rattle.std.specs.Prelude.{◌≡◌, ◌≤◌, ℕ, ◌+◌, ◌<◌, true, false, Ok, Err, IfOk, IsSome};
 ghost use Rattle.rh_defs.specs.Memory.{Memory, fresh, bytes};
 ghost use Rattle.rh_defs.specs.Range.{in_range};
+ghost use Rattle.rh_defs.specs.Known.{uses_post};
 ghost use Rattle.rh_defs.specs.Runs.{start, start_with};
 ghost use Rattle.rh_defs.specs.Step.{step};
 ghost use Rattle.rh_defs.specs.Laws.{IsDesk};
 ghost use Rattle.rh_tasks.specs.Shown.{IsSpelled, IsBalanced, HasApartBlocks};
-ghost use Rattle.rh_tasks.specs.Answer.{IsStanding, reply_of};
+ghost use Rattle.rh_tasks.specs.Answer.{reply_of};
 ghost use Rattle.rh_tasks.specs.Start.{IsFurnished};
 
-use crate::made::MadeArea;
+use crate::areas::FIXED_AREAS;
+use crate::made::{MOST_MADE, MadeArea};
+use crate::module_blocks::MODULE;
 use crate::next::Next;
 use crate::seat::Seat;
-use crate::areas::FIXED_AREAS;
-use crate::made::{FIRST_MADE, MOST_MADE};
-use crate::module_blocks::MODULE;
 use crate::tasks::MOST_TASKS;
 use rh_defs::{Command, Files, Handle, Ref, Refusal, Reply};
 use rh_module::Module;
@@ -98,11 +98,7 @@ impl<S: Store + Drop> World<S> {
             seats,
             made,
             files,
-            next: Next {
-                handle: u64::from(handle.0),
-                area: FIRST_MADE,
-                message: u64::from(r.0),
-            },
+            next: Next::first(handle.0, r.0),
         })
     }
 }
@@ -122,7 +118,7 @@ impl<S: Store> World<S> {
     /// Does one command, or answers the first of its refusals and changes nothing.
     pub fn apply(&mut self, command: &Command) -> Reply
         requires ranged { in_range command.now ≡ true }
-        requires standing { IsStanding command.now }
+        requires known { uses_post command.now ≡ false }
         ensures step { step self.old.desk command.now ≡ (self.new.desk, result) }
         ensures spelled { IsSpelled self.new }
         ensures apart { HasApartBlocks self.new }
@@ -136,7 +132,7 @@ impl<S: Store> World<S> {
 
     fn change(&mut self, command: &Command) -> Reply
         requires ranged { in_range command.now ≡ true }
-        requires standing { IsStanding command.now }
+        requires known { uses_post command.now ≡ false }
         ensures { step self.old.desk command.now ≡ (self.new.desk, result) }
     {
         match command {
