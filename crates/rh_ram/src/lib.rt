@@ -1,4 +1,5 @@
-//! The two sides of a task's transfers, as its records alone see them: without memory, messages or other tasks.
+//! The two sides of a task's transfers, as its records alone see them: without memory, messages or
+//! other tasks. No call takes memory.
 #![tactic(auto)]
 
 mod finding;

@@ -76,7 +76,7 @@ impl Receiver {
         !is_deaf && !is_full(&self.records)
     }
 
-    /// Begins to fetch, for a DataSave that was taken. Among eight records the first one that has ended goes.
+    /// Begins to fetch, for a DataSave that was taken. Of eight records the first one that has ended goes.
     pub fn fetching(&mut self, f: Taking)
         requires { is_full_of is_going self.old ≡ false }
         ensures { self.new ≡ receiver.fetching f self.old }
@@ -85,7 +85,8 @@ impl Receiver {
         self.records.push(Incoming::Fetching(f));
     }
 
-    /// The record that a transmit is for: from its sender, in answer to its fetch, into its buffer, which has room for n.
+    /// The record that a RAMTransmit of n bytes is for: from its sender, in answer to its fetch, into its
+    /// buffer, which has this much room.
     pub fn on_transmit(
         &self,
         room: u32,
@@ -101,7 +102,7 @@ impl Receiver {
         })
     }
 
-    /// Of the transfer n more bytes were taken, and the fetch with the ref asks for the next ones.
+    /// Of the transfer n more bytes were taken, and the RAMFetch with the ref asks for the next ones.
     pub fn fetched(&mut self, f: &Taking, n: u32, fetch: Ref)
         requires { f.now.count + n < 2 ^ 32 }
         ensures { self.new ≡ receiver.fetched f.now n fetch self.old }
@@ -139,15 +140,15 @@ impl Receiver {
         rewrite(&mut self.records, f.id, new);
     }
 
-    /// The record whose fetch came back.
+    /// The record whose RAMFetch came back.
     pub fn on_bounce(&self, fetch: Ref) -> Option<Incoming>
         ensures { result ≡ receiver.on_bounce fetch self.now }
     {
         first_active(&self.records, |f| f.fetch == fetch)
     }
 
-    /// Gives a transfer up that fetches or waits for a file: the one with the id, without one the first. NotOpen where there
-    /// is none. One that fetches keeps its buffer until its fetch is answered or comes back.
+    /// Gives a transfer up that fetches or waits for a file: the one with the id, without one the first.
+    /// NotOpen where there is none. One that fetches keeps its buffer until its fetch is answered or comes back.
     pub fn cancel(&mut self, wanted: Option<Ref>) -> Result<(), Refusal>
         ensures answer { result ≡ outcome_of (receiver.cancel wanted self.old) }
         ensures records { self.new ≡ result_or self.old (receiver.cancel wanted self.old) }

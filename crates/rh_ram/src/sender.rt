@@ -61,7 +61,7 @@ impl Sender {
         self.records.iter().any(|entry| matches!(entry, Outgoing::Open(x) if x.anchor == anchor))
     }
 
-    /// Opens a record for a DataSave: Busy where eight are open. Among eight the first one that has ended goes.
+    /// Opens a record for a DataSave: Busy where eight are open. Of eight the first one that has ended goes.
     pub fn offer(&mut self, id: Ref, recipient: Handle, anchor: Anchor) -> Result<(), Refusal>
         ensures answer { result ≡ outcome_of (sender.offer id recipient anchor self.old) }
         ensures records { self.new ≡ result_or self.old (sender.offer id recipient anchor self.old) }
@@ -88,7 +88,8 @@ impl Sender {
         }));
     }
 
-    /// The transfer that a fetch is for: from its recipient, in answer to its last message, for one byte at least.
+    /// The transfer that a RAMFetch is for: from its recipient, in answer to its last message, for one byte
+    /// at least.
     pub fn on_fetch(&self, from: Handle, your_ref: Ref, amount: u32) -> Option<Sending>
         ensures { result ≡ sender.on_fetch from your_ref amount self.now }
     {
@@ -97,7 +98,8 @@ impl Sender {
         })
     }
 
-    /// Of the bytes that were asked for n went out by the message with the ref; fewer than those are the last.
+    /// Of the amount of bytes that was asked for n went out by the RAMTransmit with the ref; fewer than the
+    /// amount are the last.
     pub fn sent(&mut self, x: &Sending, n: u32, amount: u32, last: Ref)
         requires { x.now.count + n < 2 ^ 32 }
         ensures { self.new ≡ sender.sent x.now n amount last self.old }
@@ -147,7 +149,8 @@ impl Sender {
         first_open(&self.records, |x| is_meant(wanted, x.id))
     }
 
-    /// The transfer that a DataSaveAck is for: from its recipient, in answer to its DataSave, which was its last message.
+    /// The transfer that a DataSaveAck is for: from its recipient, in answer to its DataSave, which was its
+    /// last message.
     pub fn on_ack(&self, from: Handle, your_ref: Ref) -> Option<Sending>
         ensures { result ≡ sender.on_ack from your_ref self.now }
     {
