@@ -1,7 +1,7 @@
 -- The calls on the C heap of a slot: what each answers and leaves.
 use Rattle.std.proofs.Common.{◌≡◌, ◌≢◌, ℕ, ◌+◌, ◌-◌, ◌≤◌, inl, inr, Bool, true, false, ltb, eqb, List, [], ◌∷◌, ◌++◌, length, refl, sym, ap, subst, ◌∙◌, arith}
 use Rattle.std.proofs.lemmas.Bool.{cases_eq}
-use Rattle.std.specs.Prelude.{IfSome, cond, Option, Some, None, Result, Ok, Err, IsOk, ℤ, pos, negsuc}
+use Rattle.std.specs.Prelude.{IfSome, cond, Option, Some, None, Result, Ok, Err, IsOk, ok_or, ℤ, pos, negsuc}
 use Rattle.std.proofs.Common.{SFits, w32}
 use Rattle.rh_defs.specs.Bytes.{SameOutside}
 use Rattle.rh_defs.specs.Memory.{Memory, OnlyArea, bytes}
@@ -196,6 +196,16 @@ release_refused m n slot address a {refusal} w ea l =
     let none = released-refused a (heap_in m (span_of slot)) l.answer in
     let call = slot_release-none address s (ap (λ k. block_at k s.heap) (sym ea) ∙ ap (block_at a) (sym (heap_same m slot)) ∙ none.0) in
     refuses m n slot (no_answer (slot_release address s)) (refusal_of refusal) (ap no_answer call ∙ ap (λ r. Err (refusal_of r)) (sym none.1)) l.err w
+
+-- ---- the size of a block
+
+pub size_refused : (o : Option ℕ) (f : HeapRefusal) → Err f ≡ ok_or o heap_refusal.NotABlock → Err (refusal_of f) ≡ ok_or o NotABlock
+size_refused None f e = let q : f ≡ heap_refusal.NotABlock = cc in rw q refl
+size_refused (Some n) f e = absurd cc
+
+pub size_granted : (o : Option ℕ) (n : ℕ) → Ok n ≡ ok_or o heap_refusal.NotABlock → Ok n ≡ ok_or o NotABlock
+size_granted None n e = absurd cc
+size_granted (Some k) n e = let q : n ≡ k = cc in rw q refl
 
 -- ---- a call that was refused
 

@@ -1,11 +1,11 @@
 //! The C heap of a slot. Where it is too short it gets longer, and the flex blocks slide up.
-ghost use Rattle.std.specs.Prelude.{◌≡◌, ◌+◌, ◌<◌, OnErr, ◌^◌, ◌↔◌, ◌&&◌, not, nat_lt, OnOk, IsErr, IsErrOf};
+ghost use Rattle.std.specs.Prelude.{◌≡◌, ◌+◌, ◌-◌, ◌<◌, ok_or, OnErr, ◌^◌, ◌↔◌, ◌&&◌, not, nat_lt, OnOk, IsErr, IsErrOf};
 ghost use Rattle.std.specs.Option.{option_map};
 ghost use Rattle.rh_defs.specs.Memory.{OnlyArea};
 ghost use Rattle.rh_defs.specs.Chain.{no_answer};
-ghost use Rattle.rh_defs.specs.Heap.{largest, free_bytes, segment_at};
+ghost use Rattle.rh_defs.specs.Heap.{block_size, largest, free_bytes, segment_at};
 ghost use Rattle.rh_defs.specs.Pieces.{pages_for};
-ghost use Rattle.rh_defs.specs.Slot.{slot_claim, slot_release, slot_resize, slot_take_pages};
+ghost use Rattle.rh_defs.specs.Slot.{heap_start, slot_claim, slot_release, slot_resize, slot_take_pages};
 ghost use Rattle.rh_heap.specs.Segments.{piece};
 ghost use Rattle.rh_slot.specs.Area.{IsSlot, SpellsIn, slot_in};
 ghost use Rattle.rh_slot.specs.Calls.{Leaves};
@@ -136,6 +136,15 @@ impl Slot {
         }
         let top = self.top(store);
         Ok(pages_for(shortage) + pages_for(top + flex_weight(0)) - pages_for(top))
+    }
+
+    /// The bytes of the C heap's block at an address. Refused (`NotABlock`) where none begins there. (OS_Heap 6.)
+    pub fn block_size<S: Words>(self, store: &S, address: usize) -> Result<usize, Refusal>
+        requires slot { IsSlot (S.memory store.now) self }
+        ensures { result ≡ ok_or (block_size (address - heap_start) (slot_in (S.memory store.now) self).heap) Refusal.NotABlock }
+    {
+        let size = rh_heap::block_size(store, self.span(), address.saturating_sub(C_HEAP_START))?;
+        Ok(size)
     }
 
     /// The segment of the C heap that begins at a place, in bytes from the heap's first one.
