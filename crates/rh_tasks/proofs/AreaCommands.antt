@@ -1,6 +1,8 @@
 -- Areas that get longer or shorter by whole pages.
-use Rattle.std.proofs.Common.{◌≡◌, ◌≢◌, ℕ, ◌+◌, ◌-◌, ◌*◌, ◌/◌, ◌%◌, ◌<◌, ◌≤◌, Bool, true, false, cond, refl, ap, sym, ◌∙◌, arith, List, length}
-use Rattle.std.specs.Prelude.{ℤ, pos, negsuc, map, Ok, Err, None, nat_lt, ◌==◌, slice_set, slice_index}
+use Rattle.std.proofs.Common.{◌≡◌, ◌≢◌, ℕ, ◌+◌, ◌-◌, ◌*◌, ◌/◌, ◌%◌, ◌<◌, ◌≤◌, Bool, true, false, cond, inl, inr, refl, ap, subst, sym, ◌∙◌, arith, List, length}
+use Rattle.std.specs.Prelude.{ℤ, pos, negsuc, map, Ok, Err, Option, Some, None, nat_lt, ◌==◌, slice_set, slice_index}
+use Rattle.std.proofs.lemmas.Bool.{cases_eq}
+use Rattle.std.proofs.lemmas.List.{length-take}
 use Rattle.std.proofs.lemmas.Bool.Decides.{nat_tests}
 use Rattle.std.specs.Int.Signed.{lt_z}
 use Rattle.std.proofs.lemmas.Int.{ints}
@@ -17,76 +19,111 @@ use Rattle.rh_defs.specs.Pieces.{page, pages_for, lacks_pages}
 use Rattle.rh_defs.specs.Module.{whole_pages, changed_length}
 use Rattle.rh_defs.specs.Range.{in_range}
 use Rattle.rh_defs.specs.Desk.{Desk, free_pages}
-use Rattle.rh_defs.specs.Commands.{pages_after, least_length, scrap_area, shrinks_below, change_pages, change_made, change_area, with_pages}
+use Rattle.rh_defs.specs.Commands.{pages_after, least_length, file_length, shrinks_below, change_pages, change_made, change_area, with_pages}
 use Rattle.rh_tasks.specs.declared.seat.Seat.{Seat}
 use Rattle.rh_tasks.specs.declared.made.MadeArea.{MadeArea}
-use Rattle.rh_tasks.specs.declared.next.Next.{Next}
-use Rattle.rh_tasks.specs.View.{pages_at, made_of, fixed_pages, desk_of, has_number, IsWorld}
+use Rattle.rh_tasks.specs.declared.scrap.ScrapFile.{ScrapFile}
+use Rattle.rh_tasks.specs.View.{Kept, pages_at, made_of, fixed_pages, scrap_size, scrap_of, desk_of, has_number, IsWorld}
 use Rattle.rh_tasks.proofs.Chains.{begins, ends, past, stops, granted-same, lt-true, lt-false}
 use Rattle.rh_tasks.proofs.Worlds.{free-is, granted-keeps}
-use Rattle.rh_tasks.proofs.Fixed.{fixed-at, fixed-desk, fixed-world, length-fixed}
+use Rattle.rh_tasks.proofs.Frames.{if_apart, if_same, scrap-fits}
+use Rattle.rh_tasks.proofs.Fixed.{KeepsFirst, fixed-at, fixed-desk, fixed-world, length-fixed, pages-of}
 use Rattle.rh_tasks.proofs.Mades.{made-desk, made-world}
 use Rattle.rh_tasks.proofs.MadeCommands.{HasMade, made-found}
 use Rattle.rh_tasks.proofs.Finding.{no-made}
 
 -- ---- how many pages an area has after the change
 
-pub after-more : (free pages more : ℕ) (delta : ℤ) → lt_z delta (pos 0) ≡ false → 4096 * more ≡ whole_pages delta → more ≤ free → pages_after free 0 pages delta ≡ Ok (pages + more)
+pub after-more : (free least pages more : ℕ) (delta : ℤ) → lt_z delta (pos 0) ≡ false → 4096 * more ≡ whole_pages delta → more ≤ free → pages_after free least pages delta ≡ Ok (pages + more)
 unfolding pages_after ◌>>=◌ ◌>>◌ refuse_if
-after-more free pages more (pos n) up is room =
+after-more free least pages more (pos n) up is room =
     let enough : lacks_pages free (changed_length (page * pages) (pos n) - page * pages) ≡ false = lt-false free _ (omega (arith, is, room)) in
     let long : changed_length (page * pages) (pos n) / page ≡ pages + more = omega (arith, is) in
     rw (enough, long) refl
-after-more free pages more (negsuc n) up is room = absurd (cc)
+after-more free least pages more (negsuc n) up is room = absurd (cc)
 
-pub after-full : (free pages more : ℕ) (delta : ℤ) → lt_z delta (pos 0) ≡ false → 4096 * more ≡ whole_pages delta → free < more → pages_after free 0 pages delta ≡ Err NoRoom
+pub after-full : (free least pages more : ℕ) (delta : ℤ) → lt_z delta (pos 0) ≡ false → 4096 * more ≡ whole_pages delta → free < more → pages_after free least pages delta ≡ Err NoRoom
 unfolding pages_after ◌>>=◌ ◌>>◌ refuse_if
-after-full free pages more (pos n) up is full =
+after-full free least pages more (pos n) up is full =
     let lacks : lacks_pages free (changed_length (page * pages) (pos n) - page * pages) ≡ true = lt-true free _ (omega (arith, is, full)) in
     rw lacks refl
-after-full free pages more (negsuc n) up is full = absurd (cc)
+after-full free least pages more (negsuc n) up is full = absurd (cc)
 
-pub after-less : (free pages more : ℕ) (delta : ℤ) → lt_z delta (pos 0) ≡ true → 4096 * more ≡ whole_pages delta → more ≤ pages → pages_after free 0 pages delta ≡ Ok (pages - more)
+pub after-less : (free least pages more : ℕ) (delta : ℤ) → lt_z delta (pos 0) ≡ true → 4096 * more ≡ whole_pages delta → least + 4096 * more ≤ 4096 * pages → pages_after free least pages delta ≡ Ok (pages - more)
 unfolding pages_after ◌>>=◌ ◌>>◌ refuse_if
-after-less free pages more (pos n) down is room = absurd (omega (arith, ints))
-after-less free pages more (negsuc n) down is room =
-    let fits : shrinks_below 0 (page * pages) (negsuc n) ≡ false = lt-false (page * pages) _ (omega (arith, is, room)) in
+after-less free least pages more (pos n) down is room = absurd (omega (arith, ints))
+after-less free least pages more (negsuc n) down is room =
+    let fits : shrinks_below least (page * pages) (negsuc n) ≡ false = lt-false (page * pages) _ (omega (arith, is, room)) in
     let enough : lacks_pages free (changed_length (page * pages) (negsuc n) - page * pages) ≡ false = lt-false free _ (omega (arith, is)) in
     let long : changed_length (page * pages) (negsuc n) / page ≡ pages - more = omega (arith, is, room) in
     rw (fits, enough, long) refl
 
-pub after-short : (free pages more : ℕ) (delta : ℤ) → lt_z delta (pos 0) ≡ true → 4096 * more ≡ whole_pages delta → pages < more → pages_after free 0 pages delta ≡ Err ExcessiveShrink
+pub after-short : (free least pages more : ℕ) (delta : ℤ) → lt_z delta (pos 0) ≡ true → 4096 * more ≡ whole_pages delta → 4096 * pages < least + 4096 * more → pages_after free least pages delta ≡ Err ExcessiveShrink
 unfolding pages_after ◌>>=◌ ◌>>◌ refuse_if
-after-short free pages more (pos n) down is short = absurd (omega (arith, ints))
-after-short free pages more (negsuc n) down is short =
-    let below : shrinks_below 0 (page * pages) (negsuc n) ≡ true = lt-true (page * pages) _ (omega (arith, is, short)) in
+after-short free least pages more (pos n) down is short = absurd (omega (arith, ints))
+after-short free least pages more (negsuc n) down is short =
+    let below : shrinks_below least (page * pages) (negsuc n) ≡ true = lt-true (page * pages) _ (omega (arith, is, short)) in
     rw below refl
 
 differs : (a b : ℕ) → a ≢ b → (a == b) ≡ false
 differs a b h = grind (arith, nat_tests)
 
 -- what is granted is at hand
-pub room-if : (free pages : ℕ) (delta : ℤ) (p : ℕ) → pages_after free 0 pages delta ≡ Ok p → p ≤ pages + free
+pub room-if : (free least pages : ℕ) (delta : ℤ) (p : ℕ) → pages_after free least pages delta ≡ Ok p → p ≤ pages + free
 unfolding pages_after ◌>>=◌ ◌>>◌ refuse_if
-room-if free pages (pos n) p e = go (lacks_pages free (changed_length (page * pages) (pos n) - page * pages)) refl e
+room-if free least pages (pos n) p e = go (lacks_pages free (changed_length (page * pages) (pos n) - page * pages)) refl e
   where
     go : (b : Bool) → nat_lt free (pages_for (changed_length (page * pages) (pos n) - page * pages)) ≡ b → (refuse_if b NoRoom >>= (λ _. Ok (changed_length (page * pages) (pos n) / page))) ≡ Ok p → p ≤ pages + free
     go true t q = absurd (cc)
     go false t q = let same : changed_length (page * pages) (pos n) / page ≡ p = cc in omega (arith, same, ltb-false _ _ t)
-room-if free pages (negsuc n) p e = go (shrinks_below 0 (page * pages) (negsuc n)) (lacks_pages free (changed_length (page * pages) (negsuc n) - page * pages)) e
+room-if free least pages (negsuc n) p e = go (shrinks_below least (page * pages) (negsuc n)) (lacks_pages free (changed_length (page * pages) (negsuc n) - page * pages)) e
   where
     go : (b c : Bool) → (refuse_if b ExcessiveShrink >>= (λ _. refuse_if c NoRoom >>= (λ _. Ok (changed_length (page * pages) (negsuc n) / page)))) ≡ Ok p → p ≤ pages + free
     go true c q = absurd (cc)
     go false true q = absurd (cc)
     go false false q = let same : changed_length (page * pages) (negsuc n) / page ≡ p = cc in omega (arith, same)
 
-none-least : (b : Bool) (x : ℕ) → cond b x x ≡ x
-none-least true x = refl
-none-least false x = refl
+-- what an area keeps at least is left
+pub least-left : (free least pages : ℕ) (delta : ℤ) (p : ℕ) → pages_after free least pages delta ≡ Ok p → least ≤ 4096 * pages → least ≤ 4096 * p
+unfolding pages_after ◌>>=◌ ◌>>◌ refuse_if
+least-left free least pages (pos n) p e had = go (lacks_pages free (changed_length (page * pages) (pos n) - page * pages)) e
+  where
+    go : (b : Bool) → (refuse_if b NoRoom >>= (λ _. Ok (changed_length (page * pages) (pos n) / page))) ≡ Ok p → least ≤ 4096 * p
+    go true q = absurd (cc)
+    go false q = let same : changed_length (page * pages) (pos n) / page ≡ p = cc in omega (arith, same, had)
+least-left free least pages (negsuc n) p e had =
+    go (shrinks_below least (page * pages) (negsuc n)) refl (lacks_pages free (changed_length (page * pages) (negsuc n) - page * pages)) e
+  where
+    go : (b : Bool) → nat_lt (page * pages) (least + whole_pages (negsuc n)) ≡ b → (c : Bool)
+        → (refuse_if b ExcessiveShrink >>= (λ _. refuse_if c NoRoom >>= (λ _. Ok (changed_length (page * pages) (negsuc n) / page)))) ≡ Ok p → least ≤ 4096 * p
+    go true t c q = absurd (cc)
+    go false t true q = absurd (cc)
+    go false t false q = let same : changed_length (page * pages) (negsuc n) / page ≡ p = cc in omega (arith, same, ltb-false _ _ t)
 
-module _ {m : Memory} {seats : List Seat} {made : List MadeArea} {files : FileList} {next : Next} (w : IsWorld m seats made files next) (k : ℕ) (delta : ℤ) where
+-- the bytes of the scrap file that the desk has
+pub file-length : (m : Memory) (scrap : Option ScrapFile) → scrap_size scrap ≤ length (bytes m 5) → file_length (scrap_of m scrap) ≡ scrap_size scrap
+unfolding scrap_of
+file-length m None fits = refl
+file-length m (Some file) fits = length-take file.size (bytes m 5) ∙ omega (arith, fits)
+
+-- what an area keeps at least, as the desk's definition has it
+module _ (d : Desk) where
+  pub least-none : (k : ℕ) → d.scrap ≡ None → least_length k d ≡ 0
+  least-none k e = rw e (both (k == 5) 0)
+    where
+      both : (b : Bool) (n : ℕ) → cond b n n ≡ n
+      both true n = refl
+      both false n = refl
+
+  pub least-other : (k : ℕ) → k ≢ 5 → least_length k d ≡ 0
+  least-other k ne = if_apart k 5 _ _ ne
+
+  pub least-here : (k : ℕ) → k ≡ 5 → least_length k d ≡ file_length d.scrap
+  least-here k e = if_same k 5 _ _ e
+
+module _ {m : Memory} {seats : List Seat} {made : List MadeArea} {files : FileList} {kept : Kept} (w : IsWorld m seats made files kept) (k : ℕ) (delta : ℤ) where
   abbrev d : Desk
-  d = desk_of m seats made files next
+  d = desk_of m seats made files kept
 
   -- ---- which area it is
 
@@ -105,30 +142,43 @@ module _ {m : Memory} {seats : List Seat} {made : List MadeArea} {files : FileLi
   -- ---- areas 0 and 2 to 5
 
   module _ (low : k < 6) (ne : k ≢ 1) where
-    args-are : pages_after (free_pages d) (least_length k d) (slice_index (fixed_pages m) k) delta ≡ pages_after m.free 0 (pages_at m k) delta
+    args-are : pages_after (free_pages d) (least_length k d) (slice_index (fixed_pages m) k) delta ≡ pages_after m.free (least_length k d) (pages_at m k) delta
     args-are =
         ap (λ f. pages_after f (least_length k d) (slice_index (fixed_pages m) k) delta) (free-is w)
-        ∙ ap (λ l. pages_after m.free l (slice_index (fixed_pages m) k) delta) (none-least (k == scrap_area) 0)
-        ∙ ap (λ p. pages_after m.free 0 p delta) (fixed-at m k low ne)
+        ∙ ap (λ p. pages_after m.free (least_length k d) p delta) (fixed-at m k low ne)
 
-    pages-refused : {r : Refusal} → pages_after m.free 0 (pages_at m k) delta ≡ Err r → change_pages d k delta ≡ Err r
+    pages-refused : {r : Refusal} → pages_after m.free (least_length k d) (pages_at m k) delta ≡ Err r → change_pages d k delta ≡ Err r
     unfolding change_pages
     pages-refused e = ends _ (args-are ∙ e)
 
-    pub fixed-refused : {r : Refusal} → pages_after m.free 0 (pages_at m k) delta ≡ Err r → change_area d k delta ≡ Err r
+    pub fixed-refused : {r : Refusal} → pages_after m.free (least_length k d) (pages_at m k) delta ≡ Err r → change_area d k delta ≡ Err r
     fixed-refused e = fixed-way ne low ∙ pages-refused e
 
-    module _ {n : Memory} {p : ℕ} (granted : pages_after m.free 0 (pages_at m k) delta ≡ Ok p) (is : pages_at n k ≡ p) (only : OnlyArea m n k)
+    module _ {n : Memory} {p : ℕ} (granted : pages_after m.free (least_length k d) (pages_at m k) delta ≡ Ok p) (is : pages_at n k ≡ p) (only : OnlyArea m n k) (keeps : KeepsFirst m n k)
         (whole_before : length (bytes m k) % 4096 ≡ 0) (whole_after : length (bytes n k) % 4096 ≡ 0) where
-      pages-done : change_pages d k delta ≡ Ok (desk_of n seats made files next, reply.Moved (whole_pages delta))
-      unfolding change_pages
-      pages-done = begins _ (args-are ∙ granted) (granted-same (sym (fixed-desk w low only ne whole_before whole_after ∙ ap (λ v. let e : Desk = record d { areas = slice_set (fixed_pages m) k v } in e) is)) refl)
+      -- the scrap file still fits in its area
+      fits : scrap_size kept.scrap ≤ length (bytes n 5)
+      fits = elim (cases_eq k 5) [
+        | inl e ↦
+            let P : ℕ → Type 0 = λ j. length (bytes n j) ≡ 4096 * pages_at n j in
+            let Q : ℕ → Type 0 = λ j. length (bytes m j) ≡ 4096 * pages_at m j in
+            let now = subst P e (sym (pages-of n k whole_after)) in
+            let had = subst Q e (sym (pages-of m k whole_before)) in
+            let least : least_length k d ≡ scrap_size kept.scrap = if_same k 5 _ _ e ∙ file-length m kept.scrap w.scrap in
+            let left = least-left m.free (least_length k d) (pages_at m k) delta p granted (omega (arith, least, w.scrap, had, ap (pages_at m) e)) in
+            omega (arith, left, least, now, is, ap (pages_at n) e)
+        | inr other ↦ scrap-fits kept.scrap (record { others = only.others }) (λ q. other (sym q)) w.scrap
+      ]
 
-      pub fixed-done : change_area d k delta ≡ Ok (desk_of n seats made files next, reply.Moved (whole_pages delta))
+      pages-done : change_pages d k delta ≡ Ok (desk_of n seats made files kept, reply.Moved (whole_pages delta))
+      unfolding change_pages
+      pages-done = begins _ (args-are ∙ granted) (granted-same (sym (fixed-desk w low only ne keeps fits whole_before whole_after ∙ ap (λ v. let e : Desk = record d { areas = slice_set (fixed_pages m) k v } in e) is)) refl)
+
+      pub fixed-done : change_area d k delta ≡ Ok (desk_of n seats made files kept, reply.Moved (whole_pages delta))
       fixed-done = fixed-way ne low ∙ pages-done
 
-      pub fixed-kept : in_range (command.Area k delta) ≡ true → IsWorld n seats made files next
-      fixed-kept ranged = fixed-world w low only ne whole_before whole_after (granted-keeps d _ (command.Area k delta) (reply.Moved (whole_pages delta)) fixed-done ranged w.desk)
+      pub fixed-kept : in_range (command.Area k delta) ≡ true → IsWorld n seats made files kept
+      fixed-kept ranged = fixed-world w low only ne keeps fits whole_before whole_after (granted-keeps d _ (command.Area k delta) (reply.Moved (whole_pages delta)) fixed-done ranged w.desk)
 
   -- ---- made areas
 
@@ -154,7 +204,7 @@ module _ {m : Memory} {seats : List Seat} {made : List MadeArea} {files : FileLi
 
     module _ {n : Memory} {p : ℕ} (granted : pages_after m.free 0 (pages_at m a.area.0) delta ≡ Ok p) (fits : p ≤ a.most) (is : pages_at n a.area.0 ≡ p) (only : OnlyArea m n a.area.0)
         (whole_before : length (bytes m a.area.0) % 4096 ≡ 0) (whole_after : length (bytes n a.area.0) % 4096 ≡ 0) where
-      area-done : change_made d k delta ≡ Ok (desk_of n seats made files next, reply.Moved (whole_pages delta))
+      area-done : change_made d k delta ≡ Ok (desk_of n seats made files kept, reply.Moved (whole_pages delta))
       unfolding change_made made_of
       area-done =
           begins _ (made-found w k a h) (begins _ (made-args ∙ granted) (past _ _ _ (lt-false a.most p fits)
@@ -162,8 +212,8 @@ module _ {m : Memory} {seats : List Seat} {made : List MadeArea} {files : FileLi
           ∙ ap (λ v. let e : Desk = record d { made = map (with_pages a.number v) (map (made_of m) made) } in e) is
           ∙ ap (λ v. let e : Desk = record d { made = map (with_pages v p) (map (made_of m) made) } in e) h.number)) refl)))
 
-      pub made-done : change_area d k delta ≡ Ok (desk_of n seats made files next, reply.Moved (whole_pages delta))
+      pub made-done : change_area d k delta ≡ Ok (desk_of n seats made files kept, reply.Moved (whole_pages delta))
       made-done = made-way high ∙ area-done
 
-      pub made-kept : in_range (command.Area k delta) ≡ true → IsWorld n seats made files next
+      pub made-kept : in_range (command.Area k delta) ≡ true → IsWorld n seats made files kept
       made-kept ranged = made-world w h.sits only whole_before whole_after (granted-keeps d _ (command.Area k delta) (reply.Moved (whole_pages delta)) made-done ranged w.desk)

@@ -1,6 +1,6 @@
 -- Steps of a command that are granted or refused.
 use Rattle.std.proofs.Common.{◌≡◌, ℕ, Bool, true, false, refl, ◌<◌, ◌≤◌, arith}
-use Rattle.std.specs.Prelude.{nat_lt, nat_le, Ok, Err}
+use Rattle.std.specs.Prelude.{nat_lt, nat_le, Ok, Err, IsOk}
 use Rattle.std.proofs.lemmas.Bool.Decides.{nat_tests}
 use Rattle.rh_defs.specs.declared.refusal.Refusal.{Refusal}
 use Rattle.rh_defs.specs.declared.reply.Reply.{Reply}
@@ -23,6 +23,18 @@ past b r x e h = rw e h
 pub stops : {B : Type 0} (b : Bool) (r : Refusal) (x : Granted B) → b ≡ true → (refuse_if b r >> x) ≡ Err r
 unfolding ◌>>=◌ ◌>>◌ refuse_if
 stops b r x e = rw e refl
+
+-- a granted step that is not looked at
+pub skipped : {A B : Type 0} (first : Granted A) (x : Granted B) → IsOk first → (first >>= (λ a. x)) ≡ x
+unfolding ◌>>=◌
+skipped (Ok a) x h = refl
+skipped (Err r) x h = absurd (cc)
+
+-- a chain that is refused is refused with more steps behind it
+pub stopped : {A B C : Type 0} (first : Granted A) (look : A → Granted B) (next : A → B → Granted C) {r : Refusal} → (first >>= look) ≡ Err r → (first >>= (λ a. look a >>= next a)) ≡ Err r
+unfolding ◌>>=◌
+stopped (Ok a) look next e = rw e refl
+stopped (Err q) look next e = let same : q ≡ _ = cc in rw same refl
 
 pub granted-same : {d e : Desk} {r s : Reply} → d ≡ e → r ≡ s → (let x : Granted Answer = Ok (d, r) in x) ≡ (let y : Granted Answer = Ok (e, s) in y)
 granted-same p q = cc

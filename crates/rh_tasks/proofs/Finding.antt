@@ -17,8 +17,7 @@ use Rattle.rh_defs.specs.Desk.{has_name, named}
 use Rattle.rh_defs.specs.Commands.{is_numbered}
 use Rattle.rh_tasks.specs.declared.seat.Seat.{Seat}
 use Rattle.rh_tasks.specs.declared.made.MadeArea.{MadeArea}
-use Rattle.rh_tasks.specs.declared.next.Next.{Next}
-use Rattle.rh_tasks.specs.View.{is_named, has_number, task_of, made_of, desk_of}
+use Rattle.rh_tasks.specs.View.{Kept, is_named, has_number, task_of, made_of, desk_of}
 use Rattle.rh_tasks.specs.Finding.{Found}
 use Rattle.rh_tasks.proofs.Lists.{Sits}
 
@@ -65,12 +64,20 @@ find-named {name} {seats} {i} {s} m f =
     let first = position-Some (is_named name) seats i s f.at in
     find-first (task_of m) (has_name name) seats i s first.0 f.is (let P : Seat → Type 0 = λ y. bytes_eq y.name name ≡ true in subst P f.is first.1) (λ j h. first.2 j h)
 
-module _ (m : Memory) (made : List MadeArea) (files : FileList) (next : Next) where
-  pub named-is : {name : List ℕ} {seats : List Seat} {i : ℕ} {s : Seat} → Found name seats i s → named name (desk_of m seats made files next) ≡ Ok (task_of m s)
+pub nobody-named : (m : Memory) (name : List ℕ) (seats : List Seat) → position (is_named name) seats ≡ None → found_or (find (has_name name) (map (task_of m) seats)) NoName ≡ Err NoName
+unfolding found_or task_of
+nobody-named m name seats h = rw (find-map (task_of m) (has_name name) seats (find-none (is_named name) seats h)) refl
+
+pub somebody-named : {name : List ℕ} {seats : List Seat} {i : ℕ} {s : Seat} (m : Memory) → Found name seats i s → found_or (find (has_name name) (map (task_of m) seats)) NoName ≡ Ok (task_of m s)
+unfolding found_or
+somebody-named m f = rw (find-named m f) refl
+
+module _ (m : Memory) (made : List MadeArea) (files : FileList) (kept : Kept) where
+  pub named-is : {name : List ℕ} {seats : List Seat} {i : ℕ} {s : Seat} → Found name seats i s → named name (desk_of m seats made files kept) ≡ Ok (task_of m s)
   unfolding named found_or
   named-is f = rw (find-named m f) refl
 
-  pub nobody : (name : List ℕ) (seats : List Seat) → position (is_named name) seats ≡ None → named name (desk_of m seats made files next) ≡ Err NoName
+  pub nobody : (name : List ℕ) (seats : List Seat) → position (is_named name) seats ≡ None → named name (desk_of m seats made files kept) ≡ Err NoName
   unfolding named found_or task_of
   nobody name seats h = rw (find-map (task_of m) (has_name name) seats (find-none (is_named name) seats h)) refl
 

@@ -1,19 +1,25 @@
 -- A world in which one of areas 0 to 5 has changed.
-use Rattle.std.proofs.Common.{◌≡◌, ℕ, zero, suc, ◌+◌, ◌*◌, ◌%◌, ◌<◌, ◌≢◌, refl, ap, arith, List, [], ◌∷◌, length, ◌∙◌, sym}
-use Rattle.std.specs.Prelude.{map, slice_index, slice_set}
+use Rattle.std.proofs.Common.{◌≡◌, ℕ, zero, suc, ◌+◌, ◌*◌, ◌%◌, ◌<◌, ◌≤◌, ◌≢◌, inl, inr, refl, ap, subst, arith, List, [], ◌∷◌, length, ◌∙◌, sym}
+use Rattle.std.specs.Prelude.{map, take, slice_index, slice_set}
+use Rattle.std.proofs.lemmas.Bool.{cases_eq}
 use Rattle.rh_defs.specs.Memory.{Memory, IsOpen, OnlyArea, bytes}
 use Rattle.rh_defs.specs.Pieces.{total}
 use Rattle.rh_defs.specs.Files.{FileList}
+use Rattle.rh_defs.specs.Heap.{Heap}
+use Rattle.rh_defs.specs.Post.{Post}
 use Rattle.rh_defs.specs.Desk.{Desk, used_pages, with_module}
 use Rattle.rh_defs.specs.Laws.{IsDesk}
-use Rattle.rh_module.specs.Area.{IsModule, heap_in}
+use Rattle.rh_module.specs.Area.{IsModule}
+use Rattle.rh_wimp.specs.Calls.{IsQueue}
+use Rattle.rh_wimp.specs.Laws.{with_heap}
+use Rattle.rh_wimp.specs.PostIn.{post_in}
 use Rattle.rh_tasks.specs.declared.seat.Seat.{Seat}
 use Rattle.rh_tasks.specs.declared.made.MadeArea.{MadeArea}
-use Rattle.rh_tasks.specs.declared.next.Next.{Next}
-use Rattle.rh_tasks.specs.View.{the_module, pages_at, fixed_pages, post_of, desk_of, slot_area, made_area, Avoids, HasAreas, IsWorld}
+use Rattle.rh_tasks.specs.View.{Kept, the_module, pages_at, fixed_pages, scrap_size, scrap_of, desk_of, slot_area, made_area, Avoids, HasAreas, IsWorld}
 use Rattle.rh_tasks.proofs.Lists.{avoids-below}
-use Rattle.rh_tasks.proofs.Frames.{Stay, pages-stay, tasks-stay, slots-stay, mades-stay, mades-opened, fixed-opened, post-stays, module-stays, count-stays}
+use Rattle.rh_tasks.proofs.Frames.{Stay, pages-stay, tasks-stay, slots-stay, mades-stay, mades-opened, fixed-opened, post-stays, queue-stays, scrap-same, scrap-stays, scrap-fits, module-stays, count-stays}
 use Rattle.rh_tasks.proofs.Worlds.{same-desk}
+use Rattle.rh_tasks.proofs.Posts.{end-is, module-length}
 
 -- a number of the list set
 pub total-set : (ns : List ℕ) (k v : ℕ) → k < length ns → total (λ n. n) (slice_set ns k v) + slice_index ns k ≡ total (λ n. n) ns + v
@@ -50,7 +56,7 @@ fixed-set (suc (suc (suc (suc (suc zero))))) stay low ne = listed (pages-stay 0 
 fixed-set (suc (suc (suc (suc (suc (suc k)))))) stay low ne = absurd (omega arith)
 
 -- all but the module area's change
-fixed-rest : {m n : Memory} → Stay m n 1 → fixed_pages n ≡ fixed_pages m
+pub fixed-rest : {m n : Memory} → Stay m n 1 → fixed_pages n ≡ fixed_pages m
 unfolding fixed_pages
 fixed-rest stay = listed (pages-stay 0 stay (λ q. absurd (omega arith))) (pages-stay 2 stay (λ q. absurd (omega arith))) (pages-stay 3 stay (λ q. absurd (omega arith))) (pages-stay 4 stay (λ q. absurd (omega arith))) (pages-stay 5 stay (λ q. absurd (omega arith)))
 
@@ -69,70 +75,88 @@ pub pages-of : (m : Memory) (id : ℕ) → length (bytes m id) % 4096 ≡ 0 → 
 unfolding pages_at
 pages-of m id whole = omega arith
 
-module _ {m n : Memory} {seats : List Seat} {made : List MadeArea} {files : FileList} {next : Next} {k : ℕ}
-    (w : IsWorld m seats made files next) (low : k < 6) (only : OnlyArea m n k) where
+-- of areas 0 to 5 one has changed, and the module area is one still
+pub changed-areas : {m n : Memory} {seats : List Seat} {made : List MadeArea} {k : ℕ} → HasAreas m seats made → k < 6 → OnlyArea m n k → IsModule n the_module → HasAreas n seats made
+changed-areas {m} {n} {seats} {made} {k} areas low only is =
+    let stay : Stay m n k = record { others = only.others } in record {
+      fixed_open = fixed-opened stay only.opened areas.fixed_open;
+      module_area = is;
+      slots = slots-stay seats stay (avoids-below slot_area 6 k seats low areas.slots_above) areas.slots;
+      made_open = mades-opened made stay (avoids-below made_area 6 k made low areas.made_above) areas.made_open;
+      slots_above = areas.slots_above;
+      made_above = areas.made_above;
+      slots_apart = areas.slots_apart;
+      made_apart = areas.made_apart;
+      beside = areas.beside;
+      count = count-stays _ stay (fixed-open k areas low) only.opened ∙ areas.count;
+    }
+
+-- the first bytes that an area keeps, where it has so many before and after
+pub record KeepsFirst (m n : Memory) (id : ℕ) : Type 0 where
+  pub first : (k : ℕ) → k ≤ length (bytes m id) → k ≤ length (bytes n id) → take k (bytes n id) ≡ take k (bytes m id)
+
+module _ {m n : Memory} {seats : List Seat} {made : List MadeArea} {files : FileList} {kept : Kept} {k : ℕ}
+    (w : IsWorld m seats made files kept) (low : k < 6) (only : OnlyArea m n k) (ne : k ≢ 1)
+    (keeps : KeepsFirst m n k) (fits : scrap_size kept.scrap ≤ length (bytes n 5))
+    (whole_before : length (bytes m k) % 4096 ≡ 0) (whole_after : length (bytes n k) % 4096 ≡ 0) where
   stay : Stay m n k
   stay = record { others = only.others }
 
-  off-slots : Avoids k (map slot_area seats)
-  off-slots = avoids-below slot_area 6 k seats low w.areas.slots_above
+  scrap-is : scrap_of n kept.scrap ≡ scrap_of m kept.scrap
+  scrap-is = elim (cases_eq 5 k) [
+    | inl e ↦ scrap-same m n kept.scrap (let P : ℕ → Type 0 = λ j. KeepsFirst m n j in (subst P (sym e) keeps).first (scrap_size kept.scrap) w.scrap fits)
+    | inr other ↦ scrap-stays kept.scrap stay other
+  ]
 
-  off-made : Avoids k (map made_area made)
-  off-made = avoids-below made_area 6 k made low w.areas.made_above
+  pub fixed-desk : desk_of n seats made files kept ≡ (let d : Desk = record (desk_of m seats made files kept) { areas = slice_set (fixed_pages m) k (pages_at n k) } in d)
+  fixed-desk = same-desk (desk_of m seats made files kept)
+      (tasks-stay seats stay (avoids-below slot_area 6 k seats low w.areas.slots_above)) (post-stays kept.queue stay (λ q. ne (sym q))) (fixed-set k stay low ne)
+      (mades-stay made stay (avoids-below made_area 6 k made low w.areas.made_above)) only.pages scrap-is
 
-  changed-areas : IsModule n the_module → HasAreas n seats made
-  changed-areas is = record {
-    fixed_open = fixed-opened stay only.opened w.areas.fixed_open;
-    module_area = is;
-    slots = slots-stay seats stay off-slots w.areas.slots;
-    made_open = mades-opened made stay off-made w.areas.made_open;
-    slots_above = w.areas.slots_above;
-    made_above = w.areas.made_above;
-    slots_apart = w.areas.slots_apart;
-    made_apart = w.areas.made_apart;
-    beside = w.areas.beside;
-    count = count-stays _ stay (fixed-open k w.areas low) only.opened ∙ w.areas.count;
+  fixed-ledger : n.free + used_pages (desk_of n seats made files kept) ≡ n.pages
+  fixed-ledger = omega (
+    arith,
+    w.ledger,
+    only.ledger,
+    only.pages,
+    ap used_pages fixed-desk,
+    total-set (fixed_pages m) k (pages_at n k) (rw length-fixed low),
+    fixed-at m k low ne,
+    pages-of m k whole_before,
+    pages-of n k whole_after,
+  )
+
+  pub fixed-world : IsDesk (desk_of n seats made files kept) → IsWorld n seats made files kept
+  fixed-world is = record {
+    desk = is;
+    areas = changed-areas w.areas low only (module-stays stay (λ q. ne (sym q)) w.areas.module_area);
+    queue = queue-stays stay (λ q. ne (sym q)) w.queue;
+    scrap = fits;
+    ledger = fixed-ledger;
   }
 
-  -- areas 0 and 2 to 5
-  module _ (ne : k ≢ 1) (whole_before : length (bytes m k) % 4096 ≡ 0) (whole_after : length (bytes n k) % 4096 ≡ 0) where
-    pub fixed-desk : desk_of n seats made files next ≡ (let d : Desk = record (desk_of m seats made files next) { areas = slice_set (fixed_pages m) k (pages_at n k) } in d)
-    fixed-desk = same-desk (desk_of m seats made files next)
-        (tasks-stay seats stay off-slots) (post-stays seats next.message stay (λ q. ne (sym q))) (fixed-set k stay low ne) (mades-stay made stay off-made) only.pages
-
-    fixed-ledger : n.free + used_pages (desk_of n seats made files next) ≡ n.pages
-    fixed-ledger = omega (
-      arith,
-      w.ledger,
-      only.ledger,
-      only.pages,
-      ap used_pages fixed-desk,
-      total-set (fixed_pages m) k (pages_at n k) (rw length-fixed low),
-      fixed-at m k low ne,
-      pages-of m k whole_before,
-      pages-of n k whole_after,
-    )
-
-    pub fixed-world : IsDesk (desk_of n seats made files next) → IsWorld n seats made files next
-    fixed-world is = record { desk = is; areas = changed-areas (module-stays stay (λ q. ne (sym q)) w.areas.module_area); ledger = fixed-ledger }
-
--- the module area
-module _ {m n : Memory} {seats : List Seat} {made : List MadeArea} {files : FileList} {next : Next}
-    (w : IsWorld m seats made files next) (only : OnlyArea m n 1) (is : IsModule n the_module) where
+-- the module area, beside whose messages a heap has changed
+module _ {m n : Memory} {seats : List Seat} {made : List MadeArea} {files : FileList} {kept : Kept} {h : Heap}
+    (w : IsWorld m seats made files kept) (only : OnlyArea m n 1) (is : IsQueue n the_module kept.queue)
+    (same : post_in n the_module kept.queue ≡ with_heap h (post_in m the_module kept.queue)) where
   around : Stay m n 1
   around = record { others = only.others }
 
-  pub module-desk : desk_of n seats made files next ≡ with_module (heap_in n the_module) (desk_of m seats made files next)
-  unfolding post_of
-  module-desk = same-desk (desk_of m seats made files next)
-      (tasks-stay seats around (avoids-below slot_area 6 1 seats (omega arith) w.areas.slots_above)) refl (fixed-rest around)
-      (mades-stay made around (avoids-below made_area 6 1 made (omega arith) w.areas.made_above)) only.pages
+  pub module-desk : desk_of n seats made files kept ≡ with_module h (desk_of m seats made files kept)
+  module-desk = same-desk (desk_of m seats made files kept)
+      (tasks-stay seats around (avoids-below slot_area 6 1 seats (omega arith) w.areas.slots_above)) same (fixed-rest around)
+      (mades-stay made around (avoids-below made_area 6 1 made (omega arith) w.areas.made_above)) only.pages (scrap-stays kept.scrap around (λ q. absurd (omega arith)))
 
-  module-ledger : length (bytes m 1) % 4096 ≡ 0 → length (bytes n 1) % 4096 ≡ 0 → n.free + used_pages (desk_of n seats made files next) ≡ n.pages
-  unfolding post_of
-  module-ledger whole_before whole_after =
-      omega (arith, w.ledger, only.ledger, only.pages, ap used_pages module-desk, w.areas.module_area.spells.whole, is.spells.whole, whole_before, whole_after)
+  module-ledger : length (bytes n 1) % 4096 ≡ 0 → n.free + used_pages (desk_of n seats made files kept) ≡ n.pages
+  module-ledger whole_after =
+      let ends : h.end ≡ length (bytes n 1) = sym (ap (λ (p : Post). p.heap.end) same) ∙ end-is n kept.queue ∙ sym is.area.spells.whole in
+      omega (arith, w.ledger, only.ledger, only.pages, ap used_pages module-desk, module-length w, ends, whole_after)
 
-  pub module-world : length (bytes m 1) % 4096 ≡ 0 → length (bytes n 1) % 4096 ≡ 0 → IsDesk (desk_of n seats made files next) → IsWorld n seats made files next
-  module-world whole_before whole_after d =
-      record { desk = d; areas = changed-areas w (omega arith) only is; ledger = module-ledger whole_before whole_after }
+  pub module-world : length (bytes n 1) % 4096 ≡ 0 → IsDesk (desk_of n seats made files kept) → IsWorld n seats made files kept
+  module-world whole_after d = record {
+    desk = d;
+    areas = changed-areas w.areas (omega arith) only is.area;
+    queue = is;
+    scrap = scrap-fits kept.scrap around (λ q. absurd (omega arith)) w.scrap;
+    ledger = module-ledger whole_after;
+  }

@@ -1,6 +1,6 @@
 -- What stays of a desk where one area of the store has changed.
-use Rattle.std.proofs.Common.{◌≡◌, ℕ, zero, suc, ◌/◌, ◌≢◌, refl, ap, subst, arith, List, [], ◌∷◌, length, ◌∙◌, sym}
-use Rattle.std.specs.Prelude.{Option, Some, None, IsSome, is_some, unwrap_or, map, ◌==◌, if◌then◌else◌}
+use Rattle.std.proofs.Common.{◌≡◌, ℕ, zero, suc, ◌/◌, ◌≤◌, ◌≢◌, refl, ap, subst, arith, List, [], ◌∷◌, length, ◌∙◌, sym}
+use Rattle.std.specs.Prelude.{Option, Some, None, IsSome, is_some, unwrap_or, map, take, ◌==◌, if◌then◌else◌}
 use Rattle.std.proofs.Common.{inl, inr}
 use Rattle.std.proofs.lemmas.Bool.{cases_eq}
 use Rattle.std.proofs.lemmas.Bool.Decides.{nat_tests}
@@ -9,16 +9,19 @@ use Rattle.std.specs.List.{AllByRecursion}
 use Rattle.rh_defs.specs.Memory.{Memory, IsOpen, OthersStay, bytes, open_below}
 use Rattle.rh_defs.proofs.MemoryLaws.{open_below-same}
 use Rattle.rh_defs.specs.Slot as plain
-use Rattle.rh_defs.specs.Heap.{Heap}
-use Rattle.rh_defs.specs.Post as post
-use Rattle.rh_defs.specs.Desk.{Task, Made, edit_task}
+use Rattle.rh_defs.specs.Desk.{Task, Made, Scrap, edit_task}
 use Rattle.rh_defs.specs.Commands.{with_pages}
 use Rattle.rh_module.specs.Area.{IsModule, heap_in}
 use Rattle.rh_slot.specs.declared.slot.Slot.{Slot}
 use Rattle.rh_slot.specs.Area.{IsSlot, slot_in}
+use Rattle.rh_wimp.specs.Calls.{IsQueue}
+use Rattle.rh_wimp.specs.Chains.{Chains}
+use Rattle.rh_wimp.specs.PostIn.{post_in}
+use Rattle.rh_wimp.proofs.PostCalls.{post_in-stays, spells-stays}
 use Rattle.rh_tasks.specs.declared.seat.Seat.{Seat}
 use Rattle.rh_tasks.specs.declared.made.MadeArea.{MadeArea}
-use Rattle.rh_tasks.specs.View.{the_module, fixed, pages_at, task_of, made_of, fixed_pages, post_of, slot_area, made_area, made_number, Avoids, AreDistinct, HasSlot, IsAbove}
+use Rattle.rh_tasks.specs.declared.scrap.ScrapFile.{ScrapFile}
+use Rattle.rh_tasks.specs.View.{the_module, fixed, pages_at, task_of, made_of, fixed_pages, scrap_from, scrap_size, scrap_of, slot_area, made_area, made_number, Avoids, AreDistinct, HasSlot, IsAbove}
 use Rattle.rh_tasks.proofs.Lists.{Sits, cons, avoids-at}
 
 pub if_apart : {A : Type 0} (a b : ℕ) (x y : A) → a ≢ b → (if a == b then x else y) ≡ y
@@ -167,9 +170,26 @@ all-opened {m} {n} {id} (j ∷ ids) stay o all = (elim (cases_eq j id) [ inl e �
 pub fixed-opened : {m n : Memory} {id : ℕ} → Stay m n id → IsOpen n id → AllByRecursion (IsOpen m) fixed → AllByRecursion (IsOpen n) fixed
 fixed-opened stay o all = all-opened fixed stay o all
 
-pub post-stays : {m n : Memory} {id : ℕ} (seats : List Seat) (ref : ℕ) → Stay m n id → 1 ≢ id → post_of n seats ref ≡ post_of m seats ref
-unfolding post_of
-post-stays {m} {n} seats ref stay h = ap (λ (x : Heap). let p : post.Post = record (post_of m seats ref) { heap = x } in p) (heap-stays stay h)
+pub post-stays : {m n : Memory} {id : ℕ} (q : Chains) → Stay m n id → 1 ≢ id → post_in n the_module q ≡ post_in m the_module q
+post-stays {m} {n} q stay h = post_in-stays m n the_module q (stay.others 1 h)
+
+pub queue-stays : {m n : Memory} {id : ℕ} {q : Chains} → Stay m n id → 1 ≢ id → IsQueue m the_module q → IsQueue n the_module q
+queue-stays {m} {n} {id} {q} stay h is =
+    record { area = module-stays stay h is.area; post = is.post; spells = spells-stays m n the_module q is.post (stay.others 1 h) is.spells }
+
+-- ---- the scrap file
+
+-- its bytes stay, so it does
+pub scrap-same : (m n : Memory) (scrap : Option ScrapFile) → take (scrap_size scrap) (bytes n 5) ≡ take (scrap_size scrap) (bytes m 5) → scrap_of n scrap ≡ scrap_of m scrap
+unfolding scrap_of
+scrap-same m n None e = refl
+scrap-same m n (Some file) e = ap (λ (b : List ℕ). let x : Option Scrap = Some (record { load = file.load; bytes = b }) in x) e
+
+pub scrap-stays : {m n : Memory} {id : ℕ} (scrap : Option ScrapFile) → Stay m n id → 5 ≢ id → scrap_of n scrap ≡ scrap_of m scrap
+scrap-stays {m} {n} scrap stay h = scrap-same m n scrap (ap (take (scrap_size scrap)) (bytes-stay 5 stay h))
+
+pub scrap-fits : {m n : Memory} {id : ℕ} (scrap : Option ScrapFile) → Stay m n id → 5 ≢ id → scrap_size scrap ≤ length (bytes m 5) → scrap_size scrap ≤ length (bytes n 5)
+scrap-fits scrap stay h fits = let P : List ℕ → Type 0 = λ b. scrap_size scrap ≤ length b in subst P (sym (bytes-stay 5 stay h)) fits
 
 -- ---- how many areas are open
 

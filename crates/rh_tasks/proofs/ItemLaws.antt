@@ -18,10 +18,10 @@ use Rattle.rh_defs.specs.declared.listing.AreaItem.TheVariants as item
 use Rattle.rh_slot.specs.Area.{slot_in}
 use Rattle.rh_tasks.specs.declared.seat.Seat.{Seat}
 use Rattle.rh_tasks.specs.declared.made.MadeArea.{MadeArea}
-use Rattle.rh_tasks.specs.declared.next.Next.{Next}
-use Rattle.rh_tasks.specs.View.{pages_at, task_of, made_of, fixed_pages, post_of, desk_of, HasSlot, IsWorld}
+use Rattle.rh_tasks.specs.View.{Kept, pages_at, task_of, made_of, fixed_pages, desk_of, HasSlot, IsWorld}
 use Rattle.rh_tasks.specs.Items.{fixed_items, made_items, slot_items, items_in}
 use Rattle.rh_tasks.proofs.Lists.{cons}
+use Rattle.rh_tasks.proofs.Posts.{module-length}
 use Rattle.rh_tasks.proofs.Worlds.{few-made, few-seats}
 
 -- ---- members of joined lists
@@ -55,13 +55,13 @@ unfolding task_of
 slots-listed m [] all = refl
 slots-listed m (s ∷ seats) all = cons (ap (λ n. item.Slot s.name n) (pages-slot m s all.0)) (slots-listed m seats all.1)
 
-module _ {m : Memory} {seats : List Seat} {made : List MadeArea} {files : FileList} {next : Next} (w : IsWorld m seats made files next) where
+module _ {m : Memory} {seats : List Seat} {made : List MadeArea} {files : FileList} {kept : Kept} (w : IsWorld m seats made files kept) where
   abbrev d : Desk
-  d = desk_of m seats made files next
+  d = desk_of m seats made files kept
 
   module-pages : module_pages d ≡ pages_at m 1
-  unfolding post_of pages_at
-  module-pages = omega (arith, w.areas.module_area.spells.whole)
+  unfolding pages_at
+  module-pages = omega (arith, module-length w)
 
   fixed-listed : map (area_item d) (enumerate_from 0 (fixed_pages m)) ≡ fixed_items m
   unfolding fixed_pages

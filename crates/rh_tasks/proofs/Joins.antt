@@ -1,5 +1,5 @@
 -- A world with one seat or made area more, or one less.
-use Rattle.std.proofs.Common.{◌≡◌, ℕ, zero, suc, ◌+◌, ◌<◌, ◌≢◌, true, false, cond, refl, ap, subst, arith, List, [], ◌∷◌, ◌++◌, length, ◌∙◌, sym, inl, inr}
+use Rattle.std.proofs.Common.{◌≡◌, ℕ, zero, suc, ◌+◌, ◌/◌, ◌<◌, ◌≢◌, true, false, cond, refl, ap, subst, arith, List, [], ◌∷◌, ◌++◌, length, ◌∙◌, sym, inl, inr}
 use Rattle.std.specs.Prelude.{map, filter, not, ◌==◌, Option, Some, None, IsNone, IsSome, is_some}
 use Rattle.std.specs.List.{AllByRecursion, remove}
 use Rattle.std.proofs.Math.ListN.{length-append}
@@ -7,25 +7,27 @@ use Rattle.std.proofs.lemmas.List.{map-append}
 use Rattle.std.proofs.lemmas.List.Edits.{length-remove}
 use Rattle.std.proofs.lemmas.Bool.{cases_eq}
 use Rattle.std.proofs.lemmas.Bool.Decides.{nat_tests}
-use Rattle.rh_defs.specs.Memory.{Memory, IsOpen, OnlyArea, opened, closed, open_below}
+use Rattle.rh_defs.specs.Memory.{Memory, IsOpen, OnlyArea, bytes, opened, closed, open_below}
 use Rattle.rh_defs.proofs.MemoryLaws.{open_below-same, open_below-opened, open_below-closed, open_apart, area-opened, area-closed, bytes-none, free-closed, pages-closed, IsOpen-opened}
 use Rattle.rh_defs.specs.Pieces.{total}
 use Rattle.rh_defs.proofs.Cuts.{total-append}
 use Rattle.rh_defs.specs.Files.{FileList}
-use Rattle.rh_defs.specs.Heap.{Heap}
-use Rattle.rh_defs.specs.Post as post
-use Rattle.rh_defs.specs.Desk.{Desk, Task, Made, task_pages, used_pages, with_delivered}
+use Rattle.rh_defs.specs.Post.{post_join}
+use Rattle.rh_defs.specs.Desk.{Desk, Task, task_pages, used_pages}
 use Rattle.rh_defs.specs.Laws.{IsDesk}
 use Rattle.rh_slot.specs.Area.{IsSlot}
 use Rattle.rh_defs.specs.declared.sizes.TheConstants.{MAX_AREAS}
+use Rattle.rh_wimp.specs.Calls.{IsQueue}
+use Rattle.rh_wimp.specs.Chains.{joined}
+use Rattle.rh_wimp.specs.PostIn.{post_in}
 use Rattle.rh_tasks.specs.declared.seat.Seat.{Seat}
 use Rattle.rh_tasks.specs.declared.made.MadeArea.{MadeArea}
-use Rattle.rh_tasks.specs.declared.next.Next.{Next}
-use Rattle.rh_tasks.specs.View.{task_of, post_of, post_seat, desk_of, slot_area, made_area, Avoids, AreDistinct, HasSlot, IsAbove, HasAreas, IsWorld}
+use Rattle.rh_tasks.specs.View.{Kept, the_module, task_of, desk_of, slot_area, made_area, Avoids, AreDistinct, HasSlot, IsAbove, HasAreas, IsWorld}
 use Rattle.rh_tasks.proofs.Lists.{Sits, all-at, all-map, all-push, all-removed, avoids-at, avoids-removed, distinct-push, distinct-removed}
-use Rattle.rh_tasks.proofs.Frames.{Stay, tasks-stay, slots-stay, mades-stay, mades-opened, fixed-stay, fixed-opened, heap-stays, module-stays, opened-stays}
+use Rattle.rh_tasks.proofs.Frames.{Stay, tasks-stay, slots-stay, mades-stay, mades-opened, fixed-stay, fixed-opened, post-stays, queue-stays, scrap-stays, scrap-fits, module-stays, opened-stays}
 use Rattle.rh_tasks.proofs.Moves.{slot-pages}
-use Rattle.rh_tasks.proofs.Worlds.{handles, same-desk}
+use Rattle.rh_tasks.proofs.Worlds.{same-desk}
+use Rattle.rh_tasks.proofs.Posts.{post-joins}
 
 -- ---- areas that were closed, and are none of the open ones
 
@@ -102,8 +104,8 @@ total-map size f (x ∷ xs) = ap (λ k. size (f x) + k) (total-map size f xs)
 
 -- ---- a seat comes
 
-module _ {m n : Memory} {seats : List Seat} {made : List MadeArea} {files : FileList} {next : Next} (s : Seat)
-    (w : IsWorld m seats made files next) (none : IsNone (m.area s.slot.area.0)) (low : s.slot.area.0 < MAX_AREAS) (only : OnlyArea m n s.slot.area.0) (still : IsSlot n s.slot) where
+module _ {m n : Memory} {seats : List Seat} {made : List MadeArea} {files : FileList} {kept : Kept} (s : Seat)
+    (w : IsWorld m seats made files kept) (none : IsNone (m.area s.slot.area.0)) (low : s.slot.area.0 < MAX_AREAS) (only : OnlyArea m n s.slot.area.0) (still : IsSlot n s.slot) where
   stay : Stay m n s.slot.area.0
   stay = record { others = only.others }
 
@@ -116,22 +118,28 @@ module _ {m n : Memory} {seats : List Seat} {made : List MadeArea} {files : File
   off-made : Avoids s.slot.area.0 (map made_area made)
   off-made = off-open made_area m s.slot.area.0 made none w.areas.made_open
 
-  posts : post_of n (seats ++ s ∷ []) next.message ≡ post.post_join s.handle (post_of m seats next.message)
-  unfolding post_of post.post_join
-  posts =
-      let there = heap-stays stay (λ q. absurd (omega (arith, above))) in
-      let here = map-append post_seat seats (s ∷ []) in
-      cc
+  not-module : 1 ≢ s.slot.area.0
+  not-module q = absurd (omega (arith, above))
 
-  pub joined-desk : (handle : ℕ) → (let x : Next = record next { handle = handle } in desk_of n (seats ++ s ∷ []) made files x)
-      ≡ (let d : Desk = record (desk_of m seats made files next) { tasks = map (task_of m) seats ++ task_of n s ∷ []; post = post.post_join s.handle (post_of m seats next.message); next_handle = handle } in d)
-  joined-desk handle = same-desk (let d : Desk = record (desk_of m seats made files next) { next_handle = handle } in d)
-      (map-append (task_of n) seats (s ∷ []) ∙ ap (λ l. l ++ task_of n s ∷ []) (tasks-stay seats stay off-slots)) posts (fixed-stay stay above) (mades-stay made stay off-made) only.pages
+  not-scrap : 5 ≢ s.slot.area.0
+  not-scrap q = absurd (omega (arith, above))
+
+  -- the next handle is given, and the queue has it
+  abbrev pub joined_kept : ℕ → Kept
+  joined_kept handle = record kept { next = record kept.next { handle = handle }; queue = joined s.handle kept.queue }
+
+  posts : post_in n the_module (joined s.handle kept.queue) ≡ post_join s.handle (post_in m the_module kept.queue)
+  posts = post-joins n kept.queue s.handle ∙ ap (post_join s.handle) (post-stays kept.queue stay not-module)
+
+  pub joined-desk : (handle : ℕ) → desk_of n (seats ++ s ∷ []) made files (joined_kept handle)
+      ≡ (let d : Desk = record (desk_of m seats made files kept) { tasks = map (task_of m) seats ++ task_of n s ∷ []; post = post_join s.handle (post_in m the_module kept.queue); next_handle = handle } in d)
+  joined-desk handle = same-desk (let d : Desk = record (desk_of m seats made files kept) { next_handle = handle } in d)
+      (map-append (task_of n) seats (s ∷ []) ∙ ap (λ l. l ++ task_of n s ∷ []) (tasks-stay seats stay off-slots)) posts (fixed-stay stay above) (mades-stay made stay off-made) only.pages (scrap-stays kept.scrap stay not-scrap)
 
   joined-areas : HasAreas n (seats ++ s ∷ []) made
   joined-areas = record {
     fixed_open = fixed-opened stay only.opened w.areas.fixed_open;
-    module_area = module-stays stay (λ q. absurd (omega (arith, above))) w.areas.module_area;
+    module_area = module-stays stay not-module w.areas.module_area;
     slots = all-push (HasSlot n) seats s (slots-stay seats stay off-slots w.areas.slots) still;
     made_open = mades-opened made stay off-made w.areas.made_open;
     slots_above = all-push (λ (x : Seat). IsAbove x.slot.area.0) seats s w.areas.slots_above above;
@@ -142,8 +150,8 @@ module _ {m n : Memory} {seats : List Seat} {made : List MadeArea} {files : File
     count = omega (arith, count-more MAX_AREAS stay none only.opened low, w.areas.count, length-append seats (s ∷ []));
   }
 
-  joined-ledger : (handle : ℕ) → n.free + (let x : Next = record next { handle = handle } in used_pages (desk_of n (seats ++ s ∷ []) made files x)) ≡ n.pages
-  unfolding task_of post_of post.post_join
+  joined-ledger : (handle : ℕ) → n.free + used_pages (desk_of n (seats ++ s ∷ []) made files (joined_kept handle)) ≡ n.pages
+  unfolding task_of post_join
   joined-ledger handle =
       omega (
         arith,
@@ -156,14 +164,17 @@ module _ {m n : Memory} {seats : List Seat} {made : List MadeArea} {files : File
         total-append task_pages (map (task_of m) seats) (task_of n s ∷ []),
       )
 
-  pub joined-world : (handle : ℕ) → (let x : Next = record next { handle = handle } in IsDesk (desk_of n (seats ++ s ∷ []) made files x) → IsWorld n (seats ++ s ∷ []) made files x)
-  joined-world handle is = record { desk = is; areas = joined-areas; ledger = joined-ledger handle }
+  pub joined-world : (handle : ℕ) → (IsQueue n the_module kept.queue → IsQueue n the_module (joined s.handle kept.queue)) → IsDesk (desk_of n (seats ++ s ∷ []) made files (joined_kept handle))
+      → IsWorld n (seats ++ s ∷ []) made files (joined_kept handle)
+  joined-world handle joins is = record {
+    desk = is;
+    areas = joined-areas;
+    queue = joins (queue-stays stay not-module w.queue);
+    scrap = scrap-fits kept.scrap stay not-scrap w.scrap;
+    ledger = joined-ledger handle;
+  }
 
 -- ---- a seat goes
-
-held-none : (h : ℕ) (seats : List Seat) → post.held_by h (map post_seat seats) ≡ None
-held-none h [] = refl
-held-none h (s ∷ seats) = elim (s.handle == h) as (λ b. cond b None (post.held_by h (map post_seat seats)) ≡ None) [ true ↦ refl | false ↦ held-none h seats ]
 
 pub closed-stay : (m : Memory) (id : ℕ) → Stay m (closed m id) id
 closed-stay m id = record { others = λ j ne. area-closed m id j ne }
@@ -177,75 +188,54 @@ fixed-opened-else m id up all =
     all-opened-else m id (0 ∷ 1 ∷ 2 ∷ 3 ∷ 4 ∷ 5 ∷ [])
     ((λ q. absurd (omega arith)), ((λ q. absurd (omega arith)), ((λ q. absurd (omega arith)), ((λ q. absurd (omega arith)), ((λ q. absurd (omega arith)), ((λ q. absurd (omega arith)), tt)))))) all
 
-module _ {m : Memory} {seats : List Seat} {made : List MadeArea} {files : FileList} {next : Next} {i : ℕ} {s : Seat}
-    (w : IsWorld m seats made files next) (at : Sits seats i s) (low : s.slot.area.0 < MAX_AREAS) where
+module _ {m : Memory} {seats : List Seat} {made : List MadeArea} {i : ℕ} {s : Seat}
+    (areas : HasAreas m seats made) (at : Sits seats i s) (low : s.slot.area.0 < MAX_AREAS) where
   abbrev n : Memory
   n = closed m s.slot.area.0
 
-  around : Stay m n s.slot.area.0
+  pub around : Stay m n s.slot.area.0
   around = closed-stay m s.slot.area.0
 
-  high : IsAbove s.slot.area.0
-  high = all-at (λ (x : Seat). IsAbove x.slot.area.0) seats i s w.areas.slots_above at
+  pub high : IsAbove s.slot.area.0
+  high = all-at (λ (x : Seat). IsAbove x.slot.area.0) seats i s areas.slots_above at
 
   off-others : Avoids s.slot.area.0 (map slot_area (remove seats i))
-  off-others = avoids-removed slot_area seats i s at w.areas.slots_apart
+  off-others = avoids-removed slot_area seats i s at areas.slots_apart
 
-  off-mades : Avoids s.slot.area.0 (map made_area made)
-  off-mades = all-at (λ (x : Seat). Avoids x.slot.area.0 (map made_area made)) seats i s w.areas.beside at
+  pub off-mades : Avoids s.slot.area.0 (map made_area made)
+  off-mades = all-at (λ (x : Seat). Avoids x.slot.area.0 (map made_area made)) seats i s areas.beside at
 
   abbrev handle_of : Seat → ℕ
   handle_of x = x.handle
 
-  left-tasks : map (task_of n) (remove seats i) ≡ filter (λ (t : Task). not (t.handle == s.handle)) (map (task_of m) seats)
+  pub left-tasks : AreDistinct (map handle_of seats) → map (task_of n) (remove seats i) ≡ filter (λ (t : Task). not (t.handle == s.handle)) (map (task_of m) seats)
   unfolding task_of
-  left-tasks = tasks-stay (remove seats i) around off-others
-      ∙ sym (filter-others handle_of (task_of m) (λ (t : Task). t.handle) (λ x. refl) seats i s at (handles w))
+  left-tasks distinct = tasks-stay (remove seats i) around off-others
+      ∙ sym (filter-others handle_of (task_of m) (λ (t : Task). t.handle) (λ x. refl) seats i s at distinct)
 
-  left-post : post_of n (remove seats i) next.message ≡ post.post_death s.handle (post_of m seats next.message)
-  unfolding post_of post.post_death
-  left-post =
-      let there = heap-stays around (λ q. absurd (omega (arith, high))) in
-      let here = filter-others handle_of post_seat (λ (x : post.Seat). x.handle) (λ x. refl) seats i s at (handles w) in
-      let none = held-none s.handle seats in
-      rw (none, here, there) refl
-
-  pub left-desk : desk_of n (remove seats i) made files next
-      ≡ (let d : Desk = desk_of m seats made files next in let e : Desk = record (with_delivered (post.post_death s.handle d.post) d) { tasks = filter (λ (t : Task). not (t.handle == s.handle)) d.tasks } in e)
-  unfolding with_delivered
-  left-desk = same-desk (desk_of m seats made files next) left-tasks left-post (fixed-stay around high) (mades-stay made around off-mades) (pages-closed m s.slot.area.0)
-
-  left-areas : HasAreas n (remove seats i) made
+  pub left-areas : HasAreas n (remove seats i) made
   left-areas = record {
-    fixed_open = fixed-opened-else m s.slot.area.0 high w.areas.fixed_open;
-    module_area = module-stays around (λ q. absurd (omega (arith, high))) w.areas.module_area;
-    slots = slots-stay (remove seats i) around off-others (all-removed (HasSlot m) seats i w.areas.slots);
-    made_open = mades-opened made around off-mades w.areas.made_open;
-    slots_above = all-removed (λ (x : Seat). IsAbove x.slot.area.0) seats i w.areas.slots_above;
-    made_above = w.areas.made_above;
-    slots_apart = distinct-removed slot_area seats i w.areas.slots_apart;
-    made_apart = w.areas.made_apart;
-    beside = all-removed (λ (x : Seat). Avoids x.slot.area.0 (map made_area made)) seats i w.areas.beside;
-    count = omega (arith, open_below-closed m s.slot.area.0 MAX_AREAS (all-at (HasSlot m) seats i s w.areas.slots at).opened low, w.areas.count, length-remove seats i at.inside);
+    fixed_open = fixed-opened-else m s.slot.area.0 high areas.fixed_open;
+    module_area = module-stays around (λ q. absurd (omega (arith, high))) areas.module_area;
+    slots = slots-stay (remove seats i) around off-others (all-removed (HasSlot m) seats i areas.slots);
+    made_open = mades-opened made around off-mades areas.made_open;
+    slots_above = all-removed (λ (x : Seat). IsAbove x.slot.area.0) seats i areas.slots_above;
+    made_above = areas.made_above;
+    slots_apart = distinct-removed slot_area seats i areas.slots_apart;
+    made_apart = areas.made_apart;
+    beside = all-removed (λ (x : Seat). Avoids x.slot.area.0 (map made_area made)) seats i areas.beside;
+    count = omega (arith, open_below-closed m s.slot.area.0 MAX_AREAS (all-at (HasSlot m) seats i s areas.slots at).opened low, areas.count, length-remove seats i at.inside);
   }
 
-  left-ledger : n.free + used_pages (desk_of n (remove seats i) made files next) ≡ n.pages
-  unfolding task_of post_of
-  left-ledger =
+  -- the pages of the other tasks, and those of the task that goes
+  pub left-pages : total task_pages (map (task_of n) (remove seats i)) + length (bytes m s.slot.area.0) / 4096 ≡ total task_pages (map (task_of m) seats)
+  unfolding task_of
+  left-pages =
       let gone : total task_pages (map (task_of m) (remove seats i)) + task_pages (task_of m s) ≡ total task_pages (map (task_of m) seats) =
       (let r = total-removed (λ (x : Seat). task_pages (task_of m x)) seats i s at in omega (arith, r, total-map task_pages (task_of m) seats, total-map task_pages (task_of m) (remove seats i))) in
       omega (
         arith,
-        w.ledger,
         gone,
-        free-closed m s.slot.area.0,
-        pages-closed m s.slot.area.0,
-        slot-pages (all-at (HasSlot m) seats i s w.areas.slots at),
+        slot-pages (all-at (HasSlot m) seats i s areas.slots at),
         ap (total task_pages) (tasks-stay (remove seats i) around off-others),
-        ap (total (λ p. p)) (fixed-stay around high),
-        ap (total (λ (x : Made). x.pages)) (mades-stay made around off-mades),
-        ap (λ (h : Heap). h.end) (heap-stays around (λ q. absurd (omega (arith, high)))),
       )
-
-  pub left-world : IsDesk (desk_of n (remove seats i) made files next) → IsWorld n (remove seats i) made files next
-  left-world is = record { desk = is; areas = left-areas; ledger = left-ledger }

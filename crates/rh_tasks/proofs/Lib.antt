@@ -5,7 +5,9 @@ pub mod Addresses
 pub mod Frames
 pub mod Finding
 pub mod Worlds
+pub mod Posts
 pub mod Moves
+pub mod Looks
 pub mod Calls
 pub mod Fixed
 pub mod Mades
@@ -16,7 +18,10 @@ pub mod SlotCommands
 pub mod Loads
 pub mod Spelling
 pub mod Budges
+pub mod Reorders
 pub mod Deaths
+pub mod Cancels
+pub mod Sends
 pub mod Starts
 pub mod MadeCommands
 pub mod ItemLaws

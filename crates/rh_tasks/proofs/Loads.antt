@@ -25,8 +25,7 @@ use Rattle.rh_slot.specs.Area.{slot_in}
 use Rattle.rh_slot.specs.Calls.{Leaves}
 use Rattle.rh_tasks.specs.declared.seat.Seat.{Seat}
 use Rattle.rh_tasks.specs.declared.made.MadeArea.{MadeArea}
-use Rattle.rh_tasks.specs.declared.next.Next.{Next}
-use Rattle.rh_tasks.specs.View.{desk_of, task_of, IsWorld}
+use Rattle.rh_tasks.specs.View.{Kept, desk_of, task_of, IsWorld}
 use Rattle.rh_tasks.specs.Finding.{Owns}
 use Rattle.rh_tasks.proofs.Chains.{begins, ends, granted-same, lt-false}
 use Rattle.rh_tasks.proofs.Addresses.{grant-of}
@@ -103,10 +102,10 @@ put-answers g r l h = subst (λ x. IsOk x) (sym l.answer) (answered-ok g h)
 
 -- ---- the command
 
-module _ {m : Memory} {seats : List Seat} {made : List MadeArea} {files : FileList} {next : Next} {name : List ℕ} {slot : code.Slot}
-    (w : IsWorld m seats made files next) (o : Owns name seats slot) (k : ℕ) (file : List ℕ) where
+module _ {m : Memory} {seats : List Seat} {made : List MadeArea} {files : FileList} {kept : Kept} {name : List ℕ} {slot : code.Slot}
+    (w : IsWorld m seats made files kept) (o : Owns name seats slot) (k : ℕ) (file : List ℕ) where
   abbrev d : Desk
-  d = desk_of m seats made files next
+  d = desk_of m seats made files kept
 
   pub load-missing : file_bytes file files ≡ None → load d name k file ≡ Err NoFile
   unfolding load
@@ -138,9 +137,9 @@ module _ {m : Memory} {seats : List Seat} {made : List MadeArea} {files : FileLi
         the-put : slot_put k 0 the-file.file.1 (slot_in n slot) ≡ Ok (slot_in p slot)
         the-put = ap (λ b. slot_put k 0 b (slot_in n slot)) the-file.bytes_are ∙ leaves.changed l2
 
-        pub load-done : load d name k file ≡ Ok (desk_of p seats made files next, reply.Block a)
+        pub load-done : load d name k file ≡ Ok (desk_of p seats made files kept, reply.Block a)
         unfolding load task_of
         load-done = begins _ (found-named w o) (begins _ (some-file _ _ the-file.found) (begins _ (the-alloc ∙ leaves.granted l) (begins _ the-put (granted-same (sym (slid-desk w o slid)) refl))))
 
-        pub load-world : in_range (command.Load name k file) ≡ true → IsWorld p seats made files next
+        pub load-world : in_range (command.Load name k file) ≡ true → IsWorld p seats made files kept
         load-world ranged = slid-world w o slid (granted-keeps d _ (command.Load name k file) (reply.Block a) load-done ranged w.desk)

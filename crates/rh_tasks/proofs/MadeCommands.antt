@@ -15,8 +15,7 @@ use Rattle.rh_defs.specs.Desk.{Desk, Made}
 use Rattle.rh_defs.specs.Commands as commands
 use Rattle.rh_tasks.specs.declared.seat.Seat.{Seat}
 use Rattle.rh_tasks.specs.declared.made.MadeArea.{MadeArea}
-use Rattle.rh_tasks.specs.declared.next.Next.{Next}
-use Rattle.rh_tasks.specs.View.{made_of, desk_of, has_number, IsWorld}
+use Rattle.rh_tasks.specs.View.{Kept, made_of, desk_of, has_number, IsWorld}
 use Rattle.rh_tasks.proofs.Lists.{Sits}
 use Rattle.rh_tasks.proofs.Chains.{begins, ends, past, stops, granted-same, le-true, le-false, lt-true, lt-false}
 use Rattle.rh_tasks.proofs.Finding.{no-made}
@@ -29,9 +28,9 @@ pub record HasMade (k : ℕ) (made : List MadeArea) (i : ℕ) (a : MadeArea) : T
   pub sits : Sits made i a
   pub number : a.number ≡ k
 
-module _ {m : Memory} {seats : List Seat} {made : List MadeArea} {files : FileList} {next : Next} (w : IsWorld m seats made files next) where
+module _ {m : Memory} {seats : List Seat} {made : List MadeArea} {files : FileList} {kept : Kept} (w : IsWorld m seats made files kept) where
   abbrev d : Desk
-  d = desk_of m seats made files next
+  d = desk_of m seats made files kept
 
   module _ (most : ℕ) where
     pub make-many : 32 ≤ length made → commands.make d most ≡ Err TooManyAreas
@@ -46,23 +45,23 @@ module _ {m : Memory} {seats : List Seat} {made : List MadeArea} {files : FileLi
       pub can-make : open_below m.area MAX_AREAS < MAX_AREAS
       can-make = omega (arith, w.areas.count, few, few-seats w)
 
-      pub make-none : 65535 < next.area → commands.make d most ≡ Err NoNumbers
+      pub make-none : 65535 < kept.next.area → commands.make d most ≡ Err NoNumbers
       unfolding commands.make
-      make-none used = past _ _ _ (le-false 32 _ few-desk) (stops _ _ _ (lt-true 65535 next.area used))
+      make-none used = past _ _ _ (le-false 32 _ few-desk) (stops _ _ _ (lt-true 65535 kept.next.area used))
 
-      module _ (some : next.area ≤ 65535) (id : ℕ) (none : IsNone (m.area id)) (low : id < MAX_AREAS) where
+      module _ (some : kept.next.area ≤ 65535) (id : ℕ) (none : IsNone (m.area id)) (low : id < MAX_AREAS) where
         abbrev pub new_made : MadeArea
-        new_made = record { number = next.area; most = most; area = record { 0 = id } }
+        new_made = record { number = kept.next.area; most = most; area = record { 0 = id } }
 
-        abbrev pub then : Next
-        then = record next { area = next.area + 1 }
+        abbrev pub then : Kept
+        then = record kept { next = record kept.next { area = kept.next.area + 1 } }
 
-        pub make-done : commands.make d most ≡ Ok (desk_of (opened m id) seats (made ++ new_made ∷ []) files then, reply.Made next.area)
+        pub make-done : commands.make d most ≡ Ok (desk_of (opened m id) seats (made ++ new_made ∷ []) files then, reply.Made kept.next.area)
         unfolding commands.make
-        make-done = past _ _ _ (le-false 32 _ few-desk) (past _ _ _ (lt-false 65535 next.area some) (granted-same (sym (made-more new_made w none low (next.area + 1))) refl))
+        make-done = past _ _ _ (le-false 32 _ few-desk) (past _ _ _ (lt-false 65535 kept.next.area some) (granted-same (sym (made-more new_made w none low (kept.next.area + 1))) refl))
 
         pub make-world : in_range (command.Make most) ≡ true → IsWorld (opened m id) seats (made ++ new_made ∷ []) files then
-        make-world ranged = more-world new_made w none low (granted-keeps d _ (command.Make most) (reply.Made next.area) make-done ranged w.desk)
+        make-world ranged = more-world new_made w none low (granted-keeps d _ (command.Make most) (reply.Made kept.next.area) make-done ranged w.desk)
 
   module _ (k : ℕ) where
     pub remove-none : position (has_number k) made ≡ None → commands.remove d k ≡ Err NoArea
@@ -77,10 +76,10 @@ module _ {m : Memory} {seats : List Seat} {made : List MadeArea} {files : FileLi
         subst P h.number (rw e refl)
 
     module _ {i : ℕ} (a : MadeArea) (h : HasMade k made i a) (whole : length (bytes m a.area.0) % 4096 ≡ 0) (inside : a.area.0 < MAX_AREAS) where
-      pub remove-done : commands.remove d k ≡ Ok (desk_of (closed m a.area.0) seats (remove made i) files next, reply.Done)
+      pub remove-done : commands.remove d k ≡ Ok (desk_of (closed m a.area.0) seats (remove made i) files kept, reply.Done)
       unfolding commands.remove
       remove-done =
           begins _ (made-found a h) (granted-same (sym (made-less w h.sits whole inside ∙ ap (λ n. let e : Desk = record d { made = filter (λ (x : Made). not (commands.is_numbered n x)) (map (made_of m) made) } in e) h.number)) refl)
 
-      pub remove-world : in_range (command.Remove k) ≡ true → IsWorld (closed m a.area.0) seats (remove made i) files next
+      pub remove-world : in_range (command.Remove k) ≡ true → IsWorld (closed m a.area.0) seats (remove made i) files kept
       remove-world ranged = less-world w h.sits whole inside (granted-keeps d _ (command.Remove k) reply.Done remove-done ranged w.desk)

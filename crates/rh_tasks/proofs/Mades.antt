@@ -1,5 +1,5 @@
 -- A world in which a made area has changed.
-use Rattle.std.proofs.Common.{◌≡◌, ℕ, zero, suc, ◌+◌, ◌%◌, refl, ap, subst, arith, List, [], ◌∷◌, length, ◌∙◌, sym}
+use Rattle.std.proofs.Common.{◌≡◌, ◌≢◌, ℕ, zero, suc, ◌+◌, ◌%◌, refl, ap, subst, arith, List, [], ◌∷◌, length, ◌∙◌, sym}
 use Rattle.std.specs.Prelude.{map, find, Some}
 use Rattle.rh_defs.specs.Memory.{Memory, IsOpen, OnlyArea, bytes}
 use Rattle.rh_defs.specs.Pieces.{total}
@@ -9,10 +9,9 @@ use Rattle.rh_defs.specs.Commands.{with_pages, is_numbered}
 use Rattle.rh_defs.specs.Laws.{IsDesk}
 use Rattle.rh_tasks.specs.declared.seat.Seat.{Seat}
 use Rattle.rh_tasks.specs.declared.made.MadeArea.{MadeArea}
-use Rattle.rh_tasks.specs.declared.next.Next.{Next}
-use Rattle.rh_tasks.specs.View.{pages_at, made_of, desk_of, slot_area, made_area, made_number, Avoids, AreDistinct, IsAbove, HasAreas, IsWorld}
+use Rattle.rh_tasks.specs.View.{Kept, pages_at, made_of, desk_of, slot_area, made_area, made_number, Avoids, AreDistinct, IsAbove, HasAreas, IsWorld}
 use Rattle.rh_tasks.proofs.Lists.{Sits, all-at, avoids-at, avoids-back}
-use Rattle.rh_tasks.proofs.Frames.{Stay, if_same, if_apart, tasks-stay, slots-stay, mades-edited, mades-opened-at, fixed-stay, fixed-opened, post-stays, module-stays, count-stays}
+use Rattle.rh_tasks.proofs.Frames.{Stay, if_same, if_apart, tasks-stay, slots-stay, mades-edited, mades-opened-at, fixed-stay, fixed-opened, post-stays, queue-stays, scrap-stays, scrap-fits, module-stays, count-stays}
 use Rattle.rh_tasks.proofs.Worlds.{numbers, same-desk}
 use Rattle.rh_tasks.proofs.Fixed.{pages-of}
 
@@ -59,26 +58,32 @@ area-sits (x ∷ made) (suc i) a at =
     let rest = area-sits made i a (record { inside = omega (arith, at.inside); is = at.is }) in
     record { inside = omega (arith, rest.inside); is = rest.is }
 
-module _ {m n : Memory} {seats : List Seat} {made : List MadeArea} {files : FileList} {next : Next} {i : ℕ} {a : MadeArea}
-    (w : IsWorld m seats made files next) (at : Sits made i a) (only : OnlyArea m n a.area.0) where
+module _ {m n : Memory} {seats : List Seat} {made : List MadeArea} {files : FileList} {kept : Kept} {i : ℕ} {a : MadeArea}
+    (w : IsWorld m seats made files kept) (at : Sits made i a) (only : OnlyArea m n a.area.0) where
   stay : Stay m n a.area.0
   stay = record { others = only.others }
 
   above : IsAbove a.area.0
   above = all-at (λ (x : MadeArea). IsAbove x.area.0) made i a w.areas.made_above at
 
+  not-module : 1 ≢ a.area.0
+  not-module q = absurd (omega (arith, above))
+
+  not-scrap : 5 ≢ a.area.0
+  not-scrap q = absurd (omega (arith, above))
+
   off : Avoids a.area.0 (map slot_area seats)
   off = avoids-back slot_area (map made_area made) seats w.areas.beside i a.area.0 (area-sits made i a at)
 
-  pub made-desk : desk_of n seats made files next ≡ (let d : Desk = record (desk_of m seats made files next) { made = map (with_pages a.number (pages_at n a.area.0)) (map (made_of m) made) } in d)
-  made-desk = same-desk (desk_of m seats made files next)
-      (tasks-stay seats stay off) (post-stays seats next.message stay (λ q. absurd (omega (arith, above)))) (fixed-stay stay above)
-      (mades-edited made i a at (numbers w) w.areas.made_apart stay) only.pages
+  pub made-desk : desk_of n seats made files kept ≡ (let d : Desk = record (desk_of m seats made files kept) { made = map (with_pages a.number (pages_at n a.area.0)) (map (made_of m) made) } in d)
+  made-desk = same-desk (desk_of m seats made files kept)
+      (tasks-stay seats stay off) (post-stays kept.queue stay not-module) (fixed-stay stay above)
+      (mades-edited made i a at (numbers w) w.areas.made_apart stay) only.pages (scrap-stays kept.scrap stay not-scrap)
 
   made-areas : HasAreas n seats made
   made-areas = record {
     fixed_open = fixed-opened stay only.opened w.areas.fixed_open;
-    module_area = module-stays stay (λ q. absurd (omega (arith, above))) w.areas.module_area;
+    module_area = module-stays stay not-module w.areas.module_area;
     slots = slots-stay seats stay off w.areas.slots;
     made_open = mades-opened-at made i a at w.areas.made_apart stay only.opened w.areas.made_open;
     slots_above = w.areas.slots_above;
@@ -89,7 +94,7 @@ module _ {m n : Memory} {seats : List Seat} {made : List MadeArea} {files : File
     count = count-stays _ stay (all-at (λ (x : MadeArea). IsOpen m x.area.0) made i a w.areas.made_open at) only.opened ∙ w.areas.count;
   }
 
-  made-ledger : length (bytes m a.area.0) % 4096 ≡ 0 → length (bytes n a.area.0) % 4096 ≡ 0 → n.free + used_pages (desk_of n seats made files next) ≡ n.pages
+  made-ledger : length (bytes m a.area.0) % 4096 ≡ 0 → length (bytes n a.area.0) % 4096 ≡ 0 → n.free + used_pages (desk_of n seats made files kept) ≡ n.pages
   made-ledger whole_before whole_after =
       omega (
         arith,
@@ -102,5 +107,11 @@ module _ {m n : Memory} {seats : List Seat} {made : List MadeArea} {files : File
         pages-of n a.area.0 whole_after,
       )
 
-  pub made-world : length (bytes m a.area.0) % 4096 ≡ 0 → length (bytes n a.area.0) % 4096 ≡ 0 → IsDesk (desk_of n seats made files next) → IsWorld n seats made files next
-  made-world whole_before whole_after is = record { desk = is; areas = made-areas; ledger = made-ledger whole_before whole_after }
+  pub made-world : length (bytes m a.area.0) % 4096 ≡ 0 → length (bytes n a.area.0) % 4096 ≡ 0 → IsDesk (desk_of n seats made files kept) → IsWorld n seats made files kept
+  made-world whole_before whole_after is = record {
+    desk = is;
+    areas = made-areas;
+    queue = queue-stays stay not-module w.queue;
+    scrap = scrap-fits kept.scrap stay not-scrap w.scrap;
+    ledger = made-ledger whole_before whole_after;
+  }

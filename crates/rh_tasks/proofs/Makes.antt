@@ -1,5 +1,5 @@
 -- A world with one made area more, or one less.
-use Rattle.std.proofs.Common.{◌≡◌, ℕ, ◌+◌, ◌/◌, ◌%◌, ◌<◌, refl, ap, arith, List, [], ◌∷◌, ◌++◌, length, ◌∙◌, sym}
+use Rattle.std.proofs.Common.{◌≡◌, ◌≢◌, ℕ, ◌+◌, ◌/◌, ◌%◌, ◌<◌, refl, ap, arith, List, [], ◌∷◌, ◌++◌, length, ◌∙◌, sym}
 use Rattle.std.specs.Prelude.{map, filter, not, IsNone}
 use Rattle.std.specs.List.{AllByRecursion, remove}
 use Rattle.std.proofs.Math.ListN.{length-append}
@@ -10,17 +10,16 @@ use Rattle.rh_defs.proofs.MemoryLaws.{open_below-opened, open_below-closed, area
 use Rattle.rh_defs.specs.Pieces.{total}
 use Rattle.rh_defs.proofs.Cuts.{total-append}
 use Rattle.rh_defs.specs.Files.{FileList}
-use Rattle.rh_defs.specs.Heap.{Heap}
+use Rattle.rh_defs.specs.Post.{Post}
 use Rattle.rh_defs.specs.Desk.{Desk, Made, task_pages, used_pages}
 use Rattle.rh_defs.specs.Commands.{is_numbered}
 use Rattle.rh_defs.specs.Laws.{IsDesk}
 use Rattle.rh_defs.specs.declared.sizes.TheConstants.{MAX_AREAS}
 use Rattle.rh_tasks.specs.declared.seat.Seat.{Seat}
 use Rattle.rh_tasks.specs.declared.made.MadeArea.{MadeArea}
-use Rattle.rh_tasks.specs.declared.next.Next.{Next}
-use Rattle.rh_tasks.specs.View.{pages_at, made_of, post_of, desk_of, slot_area, made_area, made_number, Avoids, HasSlot, IsAbove, HasAreas, IsWorld}
+use Rattle.rh_tasks.specs.View.{Kept, pages_at, made_of, desk_of, slot_area, made_area, made_number, Avoids, HasSlot, IsAbove, HasAreas, IsWorld}
 use Rattle.rh_tasks.proofs.Lists.{Sits, all-at, all-map, all-push, all-removed, avoids-back, avoids-push, avoids-fewer, avoids-removed, distinct-push, distinct-removed}
-use Rattle.rh_tasks.proofs.Frames.{Stay, tasks-stay, slots-stay, mades-stay, mades-opened, fixed-stay, fixed-opened, heap-stays, post-stays, module-stays}
+use Rattle.rh_tasks.proofs.Frames.{Stay, tasks-stay, slots-stay, mades-stay, mades-opened, fixed-stay, fixed-opened, post-stays, queue-stays, scrap-stays, scrap-fits, module-stays}
 use Rattle.rh_tasks.proofs.Worlds.{numbers, same-desk}
 use Rattle.rh_tasks.proofs.Mades.{area-sits}
 use Rattle.rh_tasks.proofs.Joins.{none-is, off-open, closed-above, closed-stay, fixed-opened-else, filter-others, total-removed, total-map}
@@ -41,8 +40,8 @@ fewer-avoids (s ∷ seats) made i all = (avoids-fewer made_area s.slot.area.0 ma
 
 -- ---- a made area comes
 
-module _ {m : Memory} {seats : List Seat} {made : List MadeArea} {files : FileList} {next : Next} (a : MadeArea)
-    (w : IsWorld m seats made files next) (none : IsNone (m.area a.area.0)) (low : a.area.0 < MAX_AREAS) where
+module _ {m : Memory} {seats : List Seat} {made : List MadeArea} {files : FileList} {kept : Kept} (a : MadeArea)
+    (w : IsWorld m seats made files kept) (none : IsNone (m.area a.area.0)) (low : a.area.0 < MAX_AREAS) where
   abbrev n : Memory
   n = opened m a.area.0
 
@@ -51,6 +50,12 @@ module _ {m : Memory} {seats : List Seat} {made : List MadeArea} {files : FileLi
 
   above : IsAbove a.area.0
   above = closed-above a.area.0 w.areas none
+
+  not-module : 1 ≢ a.area.0
+  not-module q = absurd (omega (arith, above))
+
+  not-scrap : 5 ≢ a.area.0
+  not-scrap q = absurd (omega (arith, above))
 
   off-slots : Avoids a.area.0 (map slot_area seats)
   off-slots = off-open slot_area m a.area.0 seats none (all-map (HasSlot m) (λ (x : Seat). IsOpen m x.slot.area.0) seats (λ x h. h.opened) w.areas.slots)
@@ -62,17 +67,17 @@ module _ {m : Memory} {seats : List Seat} {made : List MadeArea} {files : FileLi
   unfolding pages_at
   no-page = ap (λ (b : List ℕ). length b / 4096) (bytes-opened m a.area.0)
 
-  pub made-more : (number : ℕ) → (let x : Next = record next { area = number } in desk_of n seats (made ++ a ∷ []) files x)
-      ≡ (let d : Desk = record (desk_of m seats made files next) { made = map (made_of m) made ++ record { number = a.number; most = a.most; pages = 0 } ∷ []; next_area = number } in d)
+  pub made-more : (number : ℕ) → (let x : Kept = record kept { next = record kept.next { area = number } } in desk_of n seats (made ++ a ∷ []) files x)
+      ≡ (let d : Desk = record (desk_of m seats made files kept) { made = map (made_of m) made ++ record { number = a.number; most = a.most; pages = 0 } ∷ []; next_area = number } in d)
   unfolding made_of
-  made-more number = same-desk (let d : Desk = record (desk_of m seats made files next) { next_area = number } in d)
-      (tasks-stay seats stay off-slots) (post-stays seats next.message stay (λ q. absurd (omega (arith, above)))) (fixed-stay stay above)
-      (map-append (made_of n) made (a ∷ []) ∙ (let e = mades-stay made stay off-made in rw (e, no-page) refl)) (pages-opened m a.area.0)
+  made-more number = same-desk (let d : Desk = record (desk_of m seats made files kept) { next_area = number } in d)
+      (tasks-stay seats stay off-slots) (post-stays kept.queue stay not-module) (fixed-stay stay above)
+      (map-append (made_of n) made (a ∷ []) ∙ (let e = mades-stay made stay off-made in rw (e, no-page) refl)) (pages-opened m a.area.0) (scrap-stays kept.scrap stay not-scrap)
 
   more-areas : HasAreas n seats (made ++ a ∷ [])
   more-areas = record {
     fixed_open = fixed-opened stay (IsOpen-opened m a.area.0) w.areas.fixed_open;
-    module_area = module-stays stay (λ q. absurd (omega (arith, above))) w.areas.module_area;
+    module_area = module-stays stay not-module w.areas.module_area;
     slots = slots-stay seats stay off-slots w.areas.slots;
     made_open = all-push (λ (x : MadeArea). IsOpen n x.area.0) made a (mades-opened made stay off-made w.areas.made_open) (IsOpen-opened m a.area.0);
     slots_above = w.areas.slots_above;
@@ -83,7 +88,7 @@ module _ {m : Memory} {seats : List Seat} {made : List MadeArea} {files : FileLi
     count = omega (arith, open_below-opened m a.area.0 MAX_AREAS (none-is _ none) low, w.areas.count, length-append made (a ∷ []));
   }
 
-  more-ledger : (number : ℕ) → n.free + (let x : Next = record next { area = number } in used_pages (desk_of n seats (made ++ a ∷ []) files x)) ≡ n.pages
+  more-ledger : (number : ℕ) → n.free + (let x : Kept = record kept { next = record kept.next { area = number } } in used_pages (desk_of n seats (made ++ a ∷ []) files x)) ≡ n.pages
   unfolding made_of
   more-ledger number =
       omega (
@@ -95,13 +100,19 @@ module _ {m : Memory} {seats : List Seat} {made : List MadeArea} {files : FileLi
         total-append pages_of_made (map (made_of m) made) (record { number = a.number; most = a.most; pages = 0 } ∷ []),
       )
 
-  pub more-world : (let x : Next = record next { area = next.area + 1 } in IsDesk (desk_of n seats (made ++ a ∷ []) files x) → IsWorld n seats (made ++ a ∷ []) files x)
-  more-world d = record { desk = d; areas = more-areas; ledger = more-ledger (next.area + 1) }
+  pub more-world : (let x : Kept = record kept { next = record kept.next { area = kept.next.area + 1 } } in IsDesk (desk_of n seats (made ++ a ∷ []) files x) → IsWorld n seats (made ++ a ∷ []) files x)
+  more-world d = record {
+    desk = d;
+    areas = more-areas;
+    queue = queue-stays stay not-module w.queue;
+    scrap = scrap-fits kept.scrap stay not-scrap w.scrap;
+    ledger = more-ledger (kept.next.area + 1);
+  }
 
 -- ---- a made area goes
 
-module _ {m : Memory} {seats : List Seat} {made : List MadeArea} {files : FileList} {next : Next} {i : ℕ} {a : MadeArea}
-    (w : IsWorld m seats made files next) (at : Sits made i a) (whole : length (bytes m a.area.0) % 4096 ≡ 0) (inside : a.area.0 < MAX_AREAS) where
+module _ {m : Memory} {seats : List Seat} {made : List MadeArea} {files : FileList} {kept : Kept} {i : ℕ} {a : MadeArea}
+    (w : IsWorld m seats made files kept) (at : Sits made i a) (whole : length (bytes m a.area.0) % 4096 ≡ 0) (inside : a.area.0 < MAX_AREAS) where
   abbrev k : Memory
   k = closed m a.area.0
 
@@ -111,23 +122,29 @@ module _ {m : Memory} {seats : List Seat} {made : List MadeArea} {files : FileLi
   high : IsAbove a.area.0
   high = all-at (λ (x : MadeArea). IsAbove x.area.0) made i a w.areas.made_above at
 
+  off-module : 1 ≢ a.area.0
+  off-module q = absurd (omega (arith, high))
+
+  off-scrap : 5 ≢ a.area.0
+  off-scrap q = absurd (omega (arith, high))
+
   off-seats : Avoids a.area.0 (map slot_area seats)
   off-seats = avoids-back slot_area (map made_area made) seats w.areas.beside i a.area.0 (area-sits made i a at)
 
   off-others : Avoids a.area.0 (map made_area (remove made i))
   off-others = avoids-removed made_area made i a at w.areas.made_apart
 
-  pub made-less : desk_of k seats (remove made i) files next
-      ≡ (let d : Desk = record (desk_of m seats made files next) { made = filter (λ (x : Made). not (is_numbered a.number x)) (map (made_of m) made) } in d)
+  pub made-less : desk_of k seats (remove made i) files kept
+      ≡ (let d : Desk = record (desk_of m seats made files kept) { made = filter (λ (x : Made). not (is_numbered a.number x)) (map (made_of m) made) } in d)
   unfolding made_of
-  made-less = same-desk (desk_of m seats made files next)
-      (tasks-stay seats around off-seats) (post-stays seats next.message around (λ q. absurd (omega (arith, high)))) (fixed-stay around high)
-      (mades-stay (remove made i) around off-others ∙ sym (filter-others made_number (made_of m) (λ (x : Made). x.number) (λ x. refl) made i a at (numbers w))) (pages-closed m a.area.0)
+  made-less = same-desk (desk_of m seats made files kept)
+      (tasks-stay seats around off-seats) (post-stays kept.queue around off-module) (fixed-stay around high)
+      (mades-stay (remove made i) around off-others ∙ sym (filter-others made_number (made_of m) (λ (x : Made). x.number) (λ x. refl) made i a at (numbers w))) (pages-closed m a.area.0) (scrap-stays kept.scrap around off-scrap)
 
   less-areas : HasAreas k seats (remove made i)
   less-areas = record {
     fixed_open = fixed-opened-else m a.area.0 high w.areas.fixed_open;
-    module_area = module-stays around (λ q. absurd (omega (arith, high))) w.areas.module_area;
+    module_area = module-stays around off-module w.areas.module_area;
     slots = slots-stay seats around off-seats w.areas.slots;
     made_open = mades-opened (remove made i) around off-others (all-removed (λ (x : MadeArea). IsOpen m x.area.0) made i w.areas.made_open);
     slots_above = w.areas.slots_above;
@@ -138,8 +155,8 @@ module _ {m : Memory} {seats : List Seat} {made : List MadeArea} {files : FileLi
     count = omega (arith, open_below-closed m a.area.0 MAX_AREAS (all-at (λ (x : MadeArea). IsOpen m x.area.0) made i a w.areas.made_open at) inside, w.areas.count, length-remove made i at.inside);
   }
 
-  less-ledger : k.free + used_pages (desk_of k seats (remove made i) files next) ≡ k.pages
-  unfolding made_of pages_at post_of
+  less-ledger : k.free + used_pages (desk_of k seats (remove made i) files kept) ≡ k.pages
+  unfolding made_of pages_at
   less-ledger =
       let gone = total-removed (λ (x : MadeArea). pages_at m x.area.0) made i a at in
       omega (
@@ -154,8 +171,14 @@ module _ {m : Memory} {seats : List Seat} {made : List MadeArea} {files : FileLi
         ap (total task_pages) (tasks-stay seats around off-seats),
         ap (total (λ p. p)) (fixed-stay around high),
         ap (total pages_of_made) (mades-stay (remove made i) around off-others),
-        ap (λ (h : Heap). h.end) (heap-stays around (λ q. absurd (omega (arith, high)))),
+        ap (λ (p : Post). p.heap.end) (post-stays kept.queue around off-module),
       )
 
-  pub less-world : IsDesk (desk_of k seats (remove made i) files next) → IsWorld k seats (remove made i) files next
-  less-world is = record { desk = is; areas = less-areas; ledger = less-ledger }
+  pub less-world : IsDesk (desk_of k seats (remove made i) files kept) → IsWorld k seats (remove made i) files kept
+  less-world is = record {
+    desk = is;
+    areas = less-areas;
+    queue = queue-stays around off-module w.queue;
+    scrap = scrap-fits kept.scrap around off-scrap w.scrap;
+    ledger = less-ledger;
+  }

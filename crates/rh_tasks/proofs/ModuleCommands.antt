@@ -1,89 +1,183 @@
 -- The commands on the module area, from what its call leaves.
-use Rattle.std.proofs.Common.{◌≡◌, ℕ, ◌-◌, ◌%◌, Bool, true, false, refl, ap, sym, ◌∙◌, List, [], ◌∷◌, length}
-use Rattle.std.specs.Prelude.{ℤ, map, Ok, Err, ◌==◌}
-use Rattle.std.specs.List.{list_any}
-use Rattle.rh_defs.specs.Memory.{Memory, OnlyArea, bytes}
+use Rattle.std.proofs.Common.{◌≡◌, ℕ, ◌-◌, ◌%◌, Bool, true, false, refl, ap, sym, ◌∙◌, List, length}
+use Rattle.std.specs.Prelude.{ℤ, Option, Some, None, Ok, Err, IsOk, is_some, ok_or}
+use Rattle.std.specs.Option.{option_map}
+use Rattle.rh_defs.specs.Memory.{Memory, bytes}
 use Rattle.rh_defs.specs.Files.{FileList}
 use Rattle.rh_defs.specs.declared.command.Command.{Command}
 use Rattle.rh_defs.specs.declared.refusal.Refusal.{Refusal}
 use Rattle.rh_defs.specs.declared.refusal.Refusal.TheVariants.{NotABlock, NotYours}
 use Rattle.rh_defs.specs.declared.reply.Reply.{Reply}
-use Rattle.rh_defs.specs.Chain.{Granted, ◌>>=◌, ◌>>◌, refuse_if, found_or}
-use Rattle.rh_defs.specs.Heap.{Heap, block_at}
-use Rattle.rh_defs.specs.Module as module_area
+use Rattle.rh_defs.specs.Blocks.{SameShape}
+use Rattle.rh_defs.specs.Chain.{Granted, ◌>>=◌, ◌>>◌, refuse_if, found_or, answer_of, left_of, no_answer}
+use Rattle.rh_defs.specs.Pieces.{Split}
+use Rattle.rh_defs.specs.Heap.{Heap, Segment, block_at, block_size, first_at, is_block_at, size_of}
+use Rattle.rh_defs.proofs.ShapeLaws.{blank_cut, block-blank}
+use Rattle.rh_defs.specs.Module.{module_claim, module_free, module_resize, module_change}
 use Rattle.rh_defs.specs.Range.{in_range}
-use Rattle.rh_defs.specs.Post as post
+use Rattle.rh_defs.specs.Post.{Post, post_is_message}
 use Rattle.rh_defs.specs.Desk.{Desk, free_pages, with_module}
 use Rattle.rh_defs.specs.Commands.{Answer, module_start, own_block}
 use Rattle.rh_defs.specs.Step.{change}
-use Rattle.rh_module.specs.Area.{IsModule, heap_in}
+use Rattle.rh_module.specs.Area.{heap_in}
+use Rattle.rh_module.specs.Calls as module_calls
+use Rattle.rh_wimp.specs.Calls.{IsQueue}
+use Rattle.rh_wimp.specs.Laws.{with_heap}
+use Rattle.rh_wimp.specs.PostIn.{post_in}
+use Rattle.rh_wimp.proofs.FrameLaws.{IsOff}
+use Rattle.rh_wimp.proofs.BesideLaws.{Beside, off-message, claim-beside, free-beside, resize-beside, change-beside, answers-beside, queue-beside, post_in-calls}
 use Rattle.rh_tasks.specs.declared.seat.Seat.{Seat}
 use Rattle.rh_tasks.specs.declared.made.MadeArea.{MadeArea}
-use Rattle.rh_tasks.specs.declared.next.Next.{Next}
-use Rattle.rh_tasks.specs.View.{the_module, post_seat, post_of, desk_of, IsWorld}
-use Rattle.rh_tasks.proofs.Chains.{begins, ends, granted-same}
+use Rattle.rh_tasks.specs.View.{Kept, the_module, desk_of, IsWorld}
+use Rattle.rh_tasks.proofs.Chains.{begins, ends, skipped, granted-same, answered, answer-refused}
 use Rattle.rh_tasks.proofs.Worlds.{free-is, granted-keeps}
+use Rattle.rh_tasks.proofs.Posts.{small, smaller, is-post}
 use Rattle.rh_tasks.proofs.Fixed.{module-desk, module-world}
-use Rattle.rh_tasks.proofs.Calls.{Looks}
 
 -- what a call on the heap gives becomes the module area's heap and the reply
-abbrev pub on_module : {A : Type 0} → (ℕ → Heap → Granted A) → (A → Heap) → (A → Reply) → Desk → Granted Answer
-on_module call out said d = call (free_pages d) d.post.heap >>= (λ a. Ok (with_module (out a) d, said a))
+abbrev pub on_module : {A : Type 0} → (ℕ → Heap → Granted (Heap × A)) → (A → Reply) → Desk → Granted Answer
+on_module call said d = call (free_pages d) d.post.heap >>= (λ c. Ok (with_module c.0 d, said c.1))
 
 -- the same behind the look for a block that holds no message
-abbrev pub on_own : {A : Type 0} → ℕ → (ℕ → Heap → Granted A) → (A → Heap) → (A → Reply) → Desk → Granted Answer
-on_own address call out said d = own_block address d >>= (λ b. on_module call out said d)
+abbrev pub on_own : {A : Type 0} → ℕ → (ℕ → Heap → Granted (Heap × A)) → (A → Reply) → Desk → Granted Answer
+on_own address call said d = own_block address d >>= (λ b. on_module call said d)
 
-no-messages : (block : ℕ) (seats : List Seat) → list_any (λ (s : post.Seat). post.holds_such (λ p. p.block == block) s.holds) (map post_seat seats) ≡ false
-no-messages block [] = refl
-no-messages block (s ∷ seats) = no-messages block seats
+-- ---- a block that holds no message
 
-none-yours : (block : ℕ) (m : Memory) (seats : List Seat) (ref : ℕ) → post.post_is_message block (post_of m seats ref) ≡ false
-unfolding post_of post.post_is_message
-none-yours block m seats ref = no-messages block seats
+some-mapped : {A B : Type 0} (f : A → B) (o : Option A) → is_some (option_map f o) ≡ is_some o
+some-mapped f None = refl
+some-mapped f (Some x) = refl
 
-owned : {A B C : Type 0} (found : Granted B) (b : Bool) (call : Granted A) (next : A → Granted C) → b ≡ false → Looks found call
-    → ((found >>= (λ x. refuse_if b NotYours >> Ok x)) >>= (λ x. call >>= next)) ≡ (call >>= next)
+-- heaps of one shape have the same blocks
+pub shape-found : (a : ℕ) (h d : Heap) → SameShape h d → is_some (block_at a h) ≡ is_some (block_at a d)
+shape-found a h d s =
+    sym (some-mapped blank_cut (block_at a h)) ∙ ap is_some (sym (block-blank a 16 h.segments))
+    ∙ ap (λ ss. is_some (first_at size_of (is_block_at a) 16 ss)) s.blank
+    ∙ ap is_some (block-blank a 16 d.segments) ∙ some-mapped blank_cut (block_at a d)
+
+-- a block's size is answered where a block was found
+missing : (o p : Option (Split Segment)) (f : Split Segment → ℕ) (r : Refusal) → is_some o ≡ is_some p → Err r ≡ ok_or (option_map f o) NotABlock → found_or p NotABlock ≡ Err r
+unfolding found_or
+missing None None f r e h = let q : r ≡ NotABlock = cc in rw q refl
+missing None (Some s) f r e h = absurd cc
+missing (Some t) p f r e h = absurd cc
+
+found : (o p : Option (Split Segment)) (f : Split Segment → ℕ) (n : ℕ) → is_some o ≡ is_some p → Ok n ≡ ok_or (option_map f o) NotABlock → IsOk (found_or p NotABlock)
+unfolding found_or
+found None p f n e h = absurd cc
+found (Some t) None f n e h = absurd cc
+found (Some t) (Some s) f n e h = refl
+
+own-if : (g : Granted (Split Segment)) (b : Bool) → IsOk g → b ≡ false → IsOk (g >>= (λ x. refuse_if b NotYours >> Ok x))
 unfolding ◌>>=◌ ◌>>◌ refuse_if
-owned (Ok x) b call next e h = rw e refl
-owned (Err r) b call next e h = rw (h r refl) refl
+own-if (Ok x) b h e = rw e refl
+own-if (Err r) b h e = absurd cc
 
-module _ {m : Memory} {seats : List Seat} {made : List MadeArea} {files : FileList} {next : Next} (w : IsWorld m seats made files next) where
+yours-if : (g : Granted (Split Segment)) (b : Bool) → IsOk g → b ≡ true → (g >>= (λ x. refuse_if b NotYours >> (let r : Granted (Split Segment) = Ok x in r))) ≡ Err NotYours
+unfolding ◌>>=◌ ◌>>◌ refuse_if
+yours-if (Ok x) b h e = rw e refl
+yours-if (Err r) b h e = absurd cc
+
+none-if : (g : Granted (Split Segment)) (b : Bool) → IsOk (g >>= (λ x. refuse_if b NotYours >> Ok x)) → b ≡ false
+unfolding ◌>>=◌ ◌>>◌ refuse_if
+none-if (Ok x) true h = absurd cc
+none-if (Ok x) false h = refl
+none-if (Err r) b h = absurd cc
+
+-- no message lies in a block of one's own
+pub own-none : (address : ℕ) (d : Desk) → IsOk (own_block address d) → post_is_message (address - module_start) d.post ≡ false
+unfolding own_block
+own-none address d h = none-if (found_or (block_at (address - module_start) d.post.heap) NotABlock) (post_is_message (address - module_start) d.post) h
+
+-- a call that answers nothing
+unanswered : {B : Type 0} (g : Granted Heap) (next : Heap → Granted B) → (g >>= next) ≡ (no_answer g >>= (λ c. next c.0))
+unfolding ◌>>=◌
+unanswered (Ok h) next = refl
+unanswered (Err r) next = refl
+
+-- the command that frees a block is a call that answers nothing
+pub own-unanswered : (address : ℕ) (call : Heap → Granted Heap) (said : Reply) (d : Desk)
+    → (own_block address d >>= (λ b. call d.post.heap >>= (λ h. Ok (with_module h d, said)))) ≡ on_own address (λ free h. no_answer (call h)) (λ a. said) d
+own-unanswered address call said d = ap (λ (x : Granted Answer). own_block address d >>= (λ b. x)) (unanswered (call d.post.heap) (λ h. Ok (with_module h d, said)))
+
+module _ {m : Memory} {seats : List Seat} {made : List MadeArea} {files : FileList} {kept : Kept} (w : IsWorld m seats made files kept) where
   abbrev d : Desk
-  d = desk_of m seats made files next
+  d = desk_of m seats made files kept
+
+  abbrev pub the_post : Post
+  the_post = post_in m the_module kept.queue
 
   abbrev h : Heap
   h = heap_in m the_module
 
-  module _ {A : Type 0} (call : ℕ → Heap → Granted A) (out : A → Heap) (said : A → Reply) where
-    the_call : call (free_pages d) d.post.heap ≡ call m.free h
-    unfolding post_of
-    the_call = ap (λ f. call f h) (free-is w)
+  -- ---- the look for a block
 
-    pub area-refused : {r : Refusal} → call m.free h ≡ Err r → on_module call out said d ≡ Err r
-    area-refused e = ends _ (the_call ∙ e)
+  module _ (address : ℕ) where
+    abbrev place : ℕ
+    place = address - module_start
 
-    module _ {n : Memory} {a : A} (granted : call m.free h ≡ Ok a) (is : heap_in n the_module ≡ out a) (only : OnlyArea m n 1) (still : IsModule n the_module) where
-      pub area-done : on_module call out said d ≡ Ok (desk_of n seats made files next, said a)
-      area-done = begins _ (the_call ∙ granted) (granted-same (sym (module-desk w only still ∙ ap (λ x. with_module x d) is)) refl)
+    same-block : is_some (block_at place h) ≡ is_some (block_at place the_post.heap)
+    same-block = shape-found place h the_post.heap (is-post w).linked.shape
 
-      pub area-world : (c : Command) → change d c ≡ on_module call out said d → in_range c ≡ true → length (bytes m 1) % 4096 ≡ 0 → length (bytes n 1) % 4096 ≡ 0 → IsWorld n seats made files next
-      area-world c same ranged whole_before whole_after =
-          module-world w only still whole_before whole_after (granted-keeps d _ c (said a) (same ∙ area-done) ranged w.desk)
+    pub own-missing : {r : Refusal} → Err r ≡ ok_or (block_size place h) NotABlock → own_block address d ≡ Err r
+    unfolding own_block
+    own-missing {r} e = ends _ (missing (block_at place h) (block_at place the_post.heap) _ r same-block e)
+
+    pub own-yours : {n : ℕ} → Ok n ≡ ok_or (block_size place h) NotABlock → post_is_message place the_post ≡ true → own_block address d ≡ Err NotYours
+    unfolding own_block
+    own-yours {n} e is = yours-if _ _ (found (block_at place h) (block_at place the_post.heap) _ n same-block e) is
+
+    pub own-found : {n : ℕ} → Ok n ≡ ok_or (block_size place h) NotABlock → post_is_message place the_post ≡ false → IsOk (own_block address d)
+    unfolding own_block
+    own-found {n} e is = own-if _ _ (found (block_at place h) (block_at place the_post.heap) _ n same-block e) is
+
+  -- ---- calls beside the messages
+
+  pub claims : (n : ℕ) → Beside h kept.queue the_post (module_claim m.free n h) (module_claim m.free n the_post.heap)
+  claims n = claim-beside h kept.queue the_post m.free n (is-post w)
+
+  pub changes : (delta : ℤ) → Beside h kept.queue the_post (module_change m.free delta h) (module_change m.free delta the_post.heap)
+  changes delta = change-beside h kept.queue the_post m.free delta (is-post w)
+
+  module _ (address : ℕ) (own : IsOk (own_block address d)) where
+    off : IsOff (address - module_start) the_post
+    off = off-message h kept.queue the_post (address - module_start) (is-post w) (own-none address d own)
+
+    pub frees : Beside h kept.queue the_post (no_answer (module_free (address - module_start) h)) (no_answer (module_free (address - module_start) the_post.heap))
+    frees = free-beside h kept.queue the_post (address - module_start) (is-post w) off
+
+    pub resizes : (delta : ℤ)
+        → Beside h kept.queue the_post (module_resize m.free (address - module_start) delta h) (module_resize m.free (address - module_start) delta the_post.heap)
+    resizes delta = resize-beside h kept.queue the_post m.free (address - module_start) delta (is-post w) off
+
+  -- ---- a call
+
+  module _ {A : Type 0} (call : ℕ → Heap → Granted (Heap × A)) (said : A → Reply) (beside : Beside h kept.queue the_post (call m.free h) (call m.free the_post.heap)) where
+    the_call : call (free_pages d) d.post.heap ≡ call m.free the_post.heap
+    the_call = ap (λ f. call f the_post.heap) (free-is w)
+
+    pub area-refused : {n : Memory} {r : Refusal} → module_calls.Leaves m n the_module (call m.free h) (Err r) → on_module call said d ≡ Err r
+    area-refused {n} {r} l = ends _ (the_call ∙ answer-refused (call m.free the_post.heap) (answers-beside m n the_module kept.queue (call m.free h) (Err r) l the_post _ beside))
+
+    module _ {n : Memory} {a : A} (l : module_calls.Leaves m n the_module (call m.free h) (Ok a)) where
+      abbrev heap : Heap
+      heap = left_of the_post.heap (call m.free the_post.heap)
+
+      plain-is : call m.free the_post.heap ≡ Ok (heap, a)
+      plain-is = answered heap a the_post.heap (call m.free the_post.heap) (answers-beside m n the_module kept.queue (call m.free h) (Ok a) l the_post _ beside) refl
+
+      post-is : post_in n the_module kept.queue ≡ with_heap heap the_post
+      post-is = post_in-calls m n the_module kept.queue (call m.free h) (Ok a) l (call m.free the_post.heap) (small w) (smaller w l.only) w.queue beside
+
+      still : IsQueue n the_module kept.queue
+      still = queue-beside m n the_module kept.queue (call m.free h) (Ok a) l the_post (call m.free the_post.heap) beside
+
+      pub area-done : on_module call said d ≡ Ok (desk_of n seats made files kept, said a)
+      area-done = begins _ (the_call ∙ plain-is) (granted-same (sym (module-desk w l.only still post-is)) refl)
+
+      pub area-world : (c : Command) → change d c ≡ on_module call said d → in_range c ≡ true → length (bytes n 1) % 4096 ≡ 0 → IsWorld n seats made files kept
+      area-world c same ranged whole = module-world w l.only still post-is whole (granted-keeps d _ c (said a) (same ∙ area-done) ranged w.desk)
 
     -- behind the look for a block
-    pub own-is : (address : ℕ) → ((heap : Heap) → Looks (found_or (block_at (address - module_start) heap) NotABlock) (call m.free heap)) → on_own address call out said d ≡ on_module call out said d
-    unfolding own_block
-    own-is address looks =
-        owned (found_or (block_at (address - module_start) d.post.heap) NotABlock) (post.post_is_message (address - module_start) d.post) (call (free_pages d) d.post.heap) _
-        (none-yours (address - module_start) m seats next.message)
-        (λ r e. ap (λ f. call f d.post.heap) (free-is w) ∙ looks d.post.heap r e)
-
--- each call looks first
-pub looks-free : (place : ℕ) (h : Heap) → Looks (found_or (block_at place h) NotABlock) (module_area.module_free place h)
-unfolding module_area.module_free
-looks-free place h r e = ends _ e
-
-pub looks-resize : (free place : ℕ) (delta : ℤ) (h : Heap) → Looks (found_or (block_at place h) NotABlock) (module_area.module_resize free place delta h)
-unfolding module_area.module_resize
-looks-resize free place delta h r e = ends _ e
+    pub own-is : (address : ℕ) → IsOk (own_block address d) → on_own address call said d ≡ on_module call said d
+    own-is address is = skipped (own_block address d) (on_module call said d) is

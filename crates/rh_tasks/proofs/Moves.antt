@@ -1,5 +1,5 @@
 -- A world in which one seat has changed, and the store in its area alone.
-use Rattle.std.proofs.Common.{◌≡◌, ℕ, zero, suc, ◌+◌, ◌*◌, true, false, cond, refl, ap, subst, arith, List, [], ◌∷◌, length, ◌∙◌, sym}
+use Rattle.std.proofs.Common.{◌≡◌, ◌≢◌, ℕ, zero, suc, ◌+◌, ◌*◌, true, false, cond, refl, ap, subst, arith, List, [], ◌∷◌, length, ◌∙◌, sym}
 use Rattle.std.specs.Prelude.{map, find, Some, None, Ok, ◌==◌}
 use Rattle.std.proofs.Math.ListN.{set}
 use Rattle.std.proofs.Math.Seq.{map-set_same}
@@ -8,18 +8,16 @@ use Rattle.rh_defs.specs.Memory.{Memory, OnlyArea, bytes}
 use Rattle.rh_defs.specs.Pieces.{total}
 use Rattle.rh_defs.specs.Files.{FileList}
 use Rattle.rh_defs.specs.Slot as plain
-use Rattle.rh_defs.specs.Post as post
 use Rattle.rh_defs.specs.Desk.{Desk, Task, task_pages, used_pages, named, edit_task, with_task, with_slot}
 use Rattle.rh_defs.specs.Laws.{IsDesk}
 use Rattle.rh_slot.specs.declared.slot.Slot.{Slot}
 use Rattle.rh_slot.specs.Area.{IsSlot, slot_in}
 use Rattle.rh_tasks.specs.declared.seat.Seat.{Seat}
 use Rattle.rh_tasks.specs.declared.made.MadeArea.{MadeArea}
-use Rattle.rh_tasks.specs.declared.next.Next.{Next}
-use Rattle.rh_tasks.specs.View.{task_of, post_of, post_seat, desk_of, slot_area, made_area, Avoids, AreDistinct, HasSlot, IsAbove, HasAreas, IsWorld}
+use Rattle.rh_tasks.specs.View.{Kept, the_module, task_of, desk_of, slot_area, made_area, Avoids, AreDistinct, HasSlot, IsAbove, HasAreas, IsWorld}
 use Rattle.rh_tasks.specs.Finding.{Owns}
 use Rattle.rh_tasks.proofs.Lists.{Sits, set_same, all-at, all-set, avoids-at}
-use Rattle.rh_tasks.proofs.Frames.{Stay, if_apart, if_same, tasks-edited, slots-edited, mades-stay, mades-opened, fixed-stay, fixed-opened, heap-stays, module-stays, count-stays}
+use Rattle.rh_tasks.proofs.Frames.{Stay, if_apart, if_same, tasks-edited, slots-edited, mades-stay, mades-opened, fixed-stay, fixed-opened, post-stays, queue-stays, scrap-stays, scrap-fits, module-stays, count-stays}
 use Rattle.rh_tasks.proofs.Worlds.{handles, same-desk}
 use Rattle.rh_tasks.proofs.Finding.{sits, named-is}
 
@@ -55,10 +53,10 @@ total-edited h edit (x ∷ tasks) t is =
       | false ↦ λ (q : find (λ (x : Task). x.handle == h) tasks ≡ Some t). omega (arith, total-edited h edit tasks t q)
     ] is
 
-module _ {m n : Memory} {seats : List Seat} {made : List MadeArea} {files : FileList} {next : Next} {i : ℕ} {s s' : Seat} {edit : Task → Task}
-    (w : IsWorld m seats made files next) (at : Sits seats i s) (moves : Moves m n s s' edit) where
+module _ {m n : Memory} {seats : List Seat} {made : List MadeArea} {files : FileList} {kept : Kept} {i : ℕ} {s s' : Seat} {edit : Task → Task}
+    (w : IsWorld m seats made files kept) (at : Sits seats i s) (moves : Moves m n s s' edit) where
   abbrev before : Desk
-  before = desk_of m seats made files next
+  before = desk_of m seats made files kept
 
   stay : Stay m n s.slot.area.0
   stay = record { others = moves.only.others }
@@ -72,22 +70,21 @@ module _ {m n : Memory} {seats : List Seat} {made : List MadeArea} {files : File
   same-at : {A : Type 0} (f : Seat → A) → f s' ≡ f s → map f (set seats i s') ≡ map f seats
   same-at f h = map-set_same f seats i s' s (h ∙ ap f (sym at.is))
 
-  posts : post_of n (set seats i s') next.message ≡ post_of m seats next.message
-  unfolding post_of
-  posts =
-      let here = same-at post_seat (ap (λ (h : ℕ). let x : post.Seat = record { handle = h; holds = None } in x) moves.handle) in
-      let there = heap-stays stay (λ q. absurd (omega (arith, above))) in
-      cc
+  not-module : 1 ≢ s.slot.area.0
+  not-module q = absurd (omega (arith, above))
 
-  pub moved-desk : desk_of n (set seats i s') made files next ≡ with_task s.handle edit before
+  not-scrap : 5 ≢ s.slot.area.0
+  not-scrap q = absurd (omega (arith, above))
+
+  pub moved-desk : desk_of n (set seats i s') made files kept ≡ with_task s.handle edit before
   unfolding with_task
   moved-desk = same-desk before
-      (tasks-edited seats i s s' edit at (handles w) w.areas.slots_apart stay moves.task) posts (fixed-stay stay above) (mades-stay made stay off) moves.only.pages
+      (tasks-edited seats i s s' edit at (handles w) w.areas.slots_apart stay moves.task) (post-stays kept.queue stay not-module) (fixed-stay stay above) (mades-stay made stay off) moves.only.pages (scrap-stays kept.scrap stay not-scrap)
 
   pub moved-areas : HasAreas n (set seats i s') made
   moved-areas = record {
     fixed_open = fixed-opened stay moves.only.opened w.areas.fixed_open;
-    module_area = module-stays stay (λ q. absurd (omega (arith, above))) w.areas.module_area;
+    module_area = module-stays stay not-module w.areas.module_area;
     slots = slots-edited seats i s s' at w.areas.slots_apart w.areas.slots stay moves.still;
     made_open = mades-opened made stay off w.areas.made_open;
     slots_above = all-set (λ (x : Seat). IsAbove x.slot.area.0) seats i s' w.areas.slots_above (subst IsAbove (sym moves.area) above);
@@ -98,7 +95,7 @@ module _ {m n : Memory} {seats : List Seat} {made : List MadeArea} {files : File
     count = count-stays _ stay (all-at (HasSlot m) seats i s w.areas.slots at).opened moves.only.opened ∙ w.areas.count ∙ ap (λ k. 6 + k + length made) (sym (length-set seats i s'));
   }
 
-  pub moved-ledger : n.free + used_pages (desk_of n (set seats i s') made files next) ≡ n.pages
+  pub moved-ledger : n.free + used_pages (desk_of n (set seats i s') made files kept) ≡ n.pages
   unfolding task_of with_task
   moved-ledger =
       let t : Task = task_of m s in
@@ -107,8 +104,14 @@ module _ {m n : Memory} {seats : List Seat} {made : List MadeArea} {files : File
       let sums = total-edited s.handle edit (map (task_of m) seats) t (handle-first m seats i s at (handles w)) in
       omega (arith, w.ledger, moves.only.ledger, moves.only.pages, old, new, sums, ap used_pages moved-desk, ap task_pages moves.task, ap (λ (a : ℕ). length (bytes n a)) moves.area)
 
-  pub moved-world : IsDesk (desk_of n (set seats i s') made files next) → IsWorld n (set seats i s') made files next
-  moved-world is = record { desk = is; areas = moved-areas; ledger = moved-ledger }
+  pub moved-world : IsDesk (desk_of n (set seats i s') made files kept) → IsWorld n (set seats i s') made files kept
+  moved-world is = record {
+    desk = is;
+    areas = moved-areas;
+    queue = queue-stays stay not-module w.queue;
+    scrap = scrap-fits kept.scrap stay not-scrap w.scrap;
+    ledger = moved-ledger;
+  }
 
 -- ---- the slot of a seat alone
 
@@ -117,16 +120,16 @@ pub record Slid (m n : Memory) (slot : Slot) : Type 0 where
   pub still : IsSlot n slot
   pub only : OnlyArea m n slot.area.0
 
-module _ {m : Memory} {seats : List Seat} {made : List MadeArea} {files : FileList} {next : Next} {name : List ℕ} {slot : Slot}
-    (w : IsWorld m seats made files next) (o : Owns name seats slot) where
+module _ {m : Memory} {seats : List Seat} {made : List MadeArea} {files : FileList} {kept : Kept} {name : List ℕ} {slot : Slot}
+    (w : IsWorld m seats made files kept) (o : Owns name seats slot) where
   abbrev pub owner : Seat
   owner = o.seat
 
   at : Sits seats o.place o.seat
   at = sits o.found
 
-  pub found-named : named name (desk_of m seats made files next) ≡ Ok (task_of m o.seat)
-  found-named = named-is m made files next o.found
+  pub found-named : named name (desk_of m seats made files kept) ≡ Ok (task_of m o.seat)
+  found-named = named-is m made files kept o.found
 
   pub owned : IsSlot m slot
   owned = subst (IsSlot m) o.slot_is (all-at (HasSlot m) seats o.place o.seat w.areas.slots at)
@@ -145,10 +148,10 @@ module _ {m : Memory} {seats : List Seat} {made : List MadeArea} {files : FileLi
     same : set seats o.place o.seat ≡ seats
     same = set_same seats o.place o.seat at
 
-    pub slid-desk : desk_of n seats made files next ≡ with_slot o.seat.handle (slot_in n slot) (desk_of m seats made files next)
-    slid-desk = ap (λ (l : List Seat). desk_of n l made files next) (sym same) ∙ moved-desk w at moves
+    pub slid-desk : desk_of n seats made files kept ≡ with_slot o.seat.handle (slot_in n slot) (desk_of m seats made files kept)
+    slid-desk = ap (λ (l : List Seat). desk_of n l made files kept) (sym same) ∙ moved-desk w at moves
 
-    pub slid-world : IsDesk (desk_of n seats made files next) → IsWorld n seats made files next
+    pub slid-world : IsDesk (desk_of n seats made files kept) → IsWorld n seats made files kept
     slid-world is =
-        let P : List Seat → Type 0 = λ l. IsDesk (desk_of n l made files next) → IsWorld n l made files next in
+        let P : List Seat → Type 0 = λ l. IsDesk (desk_of n l made files kept) → IsWorld n l made files kept in
         subst P same (λ k. moved-world w at moves k) is

@@ -1,5 +1,6 @@
 -- The first world over a store whose areas were furnished.
-use Rattle.std.proofs.Common.{◌≡◌, ℕ, ◌+◌, refl, ap, sym, subst, arith, [], ◌∷◌}
+use Rattle.std.proofs.Common.{◌≡◌, ℕ, ◌+◌, refl, ap, sym, subst, ◌∙◌, arith, [], ◌∷◌}
+use Rattle.std.specs.Prelude.{None}
 use Rattle.rh_defs.specs.Memory.{Memory}
 use Rattle.rh_defs.specs.Files.{FileList}
 use Rattle.rh_defs.specs.Heap.{Heap, empty_heap}
@@ -10,18 +11,25 @@ use Rattle.rh_defs.specs.Runs.{start_with}
 use Rattle.rh_defs.specs.Laws.{IsDesk, IsStart}
 use Rattle.rh_defs.proofs.Steps.{start-is}
 use Rattle.rh_tasks.specs.declared.next.Next.{Next}
-use Rattle.rh_tasks.specs.View.{fixed_pages, post_of, desk_of, IsWorld}
+use Rattle.rh_wimp.specs.Calls.{IsQueue}
+use Rattle.rh_wimp.specs.Chains.{Chains}
+use Rattle.rh_wimp.specs.PostIn.{post_in}
+use Rattle.rh_wimp.proofs.PostCalls.{post_in-starts}
+use Rattle.rh_tasks.specs.View.{Kept, the_module, fixed_pages, scrap_of, desk_of, IsWorld}
 use Rattle.rh_tasks.specs.Start.{IsFurnished}
 
-same-next : {a a' b b' k k' : ℕ} → a ≡ a' → b ≡ b' → k ≡ k' → (let x : Next = record { handle = a; area = b; message = k } in x) ≡ (let y : Next = record { handle = a'; area = b'; message = k' } in y)
-same-next p q r = cc
+same-next : {a a' b b' : ℕ} → a ≡ a' → b ≡ b' → (let x : Next = record { handle = a; area = b } in x) ≡ (let y : Next = record { handle = a'; area = b' } in y)
+same-next p q = cc
 
-pub first-next : (n : Next) (handle ref : ℕ) → n.handle ≡ handle → n.area ≡ 256 → n.message ≡ ref → n ≡ record { handle = handle; area = 256; message = ref }
-first-next n handle ref p q r = same-next p q r
+pub first-next : (n : Next) (handle : ℕ) → n.handle ≡ handle → n.area ≡ 256 → n ≡ record { handle = handle; area = 256 }
+first-next n handle p q = same-next p q
 
 module _ {m : Memory} {pages : ℕ} (f : IsFurnished m pages) (files : FileList) (handle ref : ℕ) where
-  abbrev next : Next
-  next = record { handle = handle; area = 256; message = ref }
+  abbrev queue : Chains
+  queue = record { entries = []; live = 0; next_ref = ref }
+
+  abbrev kept : Kept
+  kept = record { next = record { handle = handle; area = 256 }; queue = queue; scrap = None }
 
   six : {a b c d e : ℕ} → a ≡ 0 → b ≡ 0 → c ≡ 0 → d ≡ 0 → e ≡ 0 → a ∷ 0 ∷ b ∷ c ∷ d ∷ e ∷ [] ≡ 0 ∷ 0 ∷ 0 ∷ 0 ∷ 0 ∷ 0 ∷ []
   six p q r s t = cc
@@ -30,22 +38,24 @@ module _ {m : Memory} {pages : ℕ} (f : IsFurnished m pages) (files : FileList)
   unfolding fixed_pages
   areas = six f.zero f.two f.three f.four f.five
 
-  first_post : post_of m [] ref ≡ record { seats = []; queued = []; heap = empty_heap page; next_ref = ref }
-  unfolding post_of
-  first_post = ap (λ (h : Heap). let p : post.Post = record { seats = []; queued = []; heap = h; next_ref = ref } in p) f.heap
+  first_post : post_in m the_module queue ≡ record { seats = []; queued = []; heap = empty_heap page; next_ref = ref }
+  first_post = post_in-starts m the_module ref ∙ ap (λ (h : Heap). let p : post.Post = record { seats = []; queued = []; heap = h; next_ref = ref } in p) f.heap
 
-  pub first-desk : desk_of m [] [] files next ≡ start_with pages files handle ref
+  pub first-desk : desk_of m [] [] files kept ≡ start_with pages files handle ref
+  unfolding scrap_of
   first-desk =
       let p = areas in
       let q = first_post in
       rw (p, q, f.pages_are) refl
 
-  first-ledger : m.free + used_pages (desk_of m [] [] files next) ≡ m.pages
+  first-ledger : m.free + used_pages (desk_of m [] [] files kept) ≡ m.pages
   first-ledger = omega (arith, ap used_pages first-desk, f.free, f.pages_are)
 
-  pub first-world : IsStart pages handle ref → IsWorld m [] [] files next
-  first-world is = record {
+  pub first-world : IsStart pages handle ref → IsQueue m the_module queue → IsWorld m [] [] files kept
+  first-world is starts = record {
     desk = subst IsDesk (sym first-desk) (start-is pages handle ref files is);
     areas = record { fixed_open = f.opened; module_area = f.module_area; slots = tt; made_open = tt; slots_above = tt; made_above = tt; slots_apart = tt; made_apart = tt; beside = tt; count = f.count };
+    queue = starts;
+    scrap = omega arith;
     ledger = first-ledger;
   }

@@ -23,8 +23,7 @@ use Rattle.rh_slot.specs.declared.slot.Slot.{Slot}
 use Rattle.rh_slot.specs.Area.{slot_in}
 use Rattle.rh_tasks.specs.declared.seat.Seat.{Seat}
 use Rattle.rh_tasks.specs.declared.made.MadeArea.{MadeArea}
-use Rattle.rh_tasks.specs.declared.next.Next.{Next}
-use Rattle.rh_tasks.specs.View.{desk_of, task_of, IsWorld}
+use Rattle.rh_tasks.specs.View.{Kept, desk_of, task_of, IsWorld}
 use Rattle.rh_tasks.specs.Finding.{Owns}
 use Rattle.rh_tasks.specs.Items.{segment_item_of}
 use Rattle.rh_tasks.proofs.Chains.{begins}
@@ -32,10 +31,10 @@ use Rattle.rh_tasks.proofs.Moves.{found-named}
 
 -- ---- a slot that was found
 
-module _ {m : Memory} {seats : List Seat} {made : List MadeArea} {files : FileList} {next : Next} {name : List ℕ} {slot : Slot}
-    (w : IsWorld m seats made files next) (o : Owns name seats slot) where
+module _ {m : Memory} {seats : List Seat} {made : List MadeArea} {files : FileList} {kept : Kept} {name : List ℕ} {slot : Slot}
+    (w : IsWorld m seats made files kept) (o : Owns name seats slot) where
   abbrev d : Desk
-  d = desk_of m seats made files next
+  d = desk_of m seats made files kept
 
   its-slot : (task_of m o.seat).slot ≡ slot_in m slot
   unfolding task_of

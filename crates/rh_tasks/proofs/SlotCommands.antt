@@ -1,14 +1,13 @@
 -- The commands on a task's slot, from what the slot's call leaves.
 use Rattle.std.proofs.Common.{◌≡◌, ℕ, ◌∙◌, refl, List}
-use Rattle.std.specs.Prelude.{Ok, Err, true}
+use Rattle.std.specs.Prelude.{Ok, Err, IsOk, true}
 use Rattle.rh_defs.specs.Memory.{Memory}
 use Rattle.rh_defs.specs.Files.{FileList}
 use Rattle.rh_defs.specs.declared.command.Command.{Command}
 use Rattle.rh_defs.specs.declared.refusal.Refusal.{Refusal}
-use Rattle.rh_defs.specs.declared.refusal.Refusal.TheVariants.{NotABlock}
 use Rattle.rh_defs.specs.declared.reply.Reply.{Reply}
 use Rattle.rh_defs.specs.declared.reply.Reply.TheVariants as reply
-use Rattle.rh_defs.specs.Chain.{Granted, no_answer, found_or}
+use Rattle.rh_defs.specs.Chain.{Granted, no_answer}
 use Rattle.rh_defs.specs.Range.{in_range}
 use Rattle.rh_defs.specs.Slot as plain
 use Rattle.rh_defs.specs.Desk.{Desk, idle_block, idle_buffer}
@@ -19,11 +18,10 @@ use Rattle.rh_slot.specs.Area.{slot_in}
 use Rattle.rh_slot.specs.Calls.{Leaves}
 use Rattle.rh_tasks.specs.declared.seat.Seat.{Seat}
 use Rattle.rh_tasks.specs.declared.made.MadeArea.{MadeArea}
-use Rattle.rh_tasks.specs.declared.next.Next.{Next}
-use Rattle.rh_tasks.specs.View.{desk_of, IsWorld}
+use Rattle.rh_tasks.specs.View.{Kept, task_of, desk_of, IsWorld}
 use Rattle.rh_tasks.specs.Finding.{Owns}
 use Rattle.rh_tasks.proofs.Leaves.{slid, granted, refused, changed, unchanged}
-use Rattle.rh_tasks.proofs.Calls.{Looks, on_slot, on_idle, slot-refused, slot-done, slot-world, idle-is, looks-block, looks-buffer}
+use Rattle.rh_tasks.proofs.Calls.{on_slot, on_idle, slot-refused, slot-done, slot-world, idle-is}
 
 -- the slot that a call leaves, and its block's address as the reply
 abbrev pub placed_slot : plain.Slot × ℕ → plain.Slot
@@ -38,10 +36,10 @@ same_slot s = s
 abbrev pub done_reply : plain.Slot → Reply
 done_reply s = reply.Done
 
-module _ {m : Memory} {seats : List Seat} {made : List MadeArea} {files : FileList} {next : Next} {name : List ℕ} {slot : Slot}
-    (w : IsWorld m seats made files next) (o : Owns name seats slot) where
+module _ {m : Memory} {seats : List Seat} {made : List MadeArea} {files : FileList} {kept : Kept} {name : List ℕ} {slot : Slot}
+    (w : IsWorld m seats made files kept) (o : Owns name seats slot) where
   abbrev d : Desk
-  d = desk_of m seats made files next
+  d = desk_of m seats made files kept
 
   -- a call that answers a block's address
   module _ (call : ℕ → plain.Slot → Granted (plain.Slot × ℕ)) where
@@ -49,64 +47,64 @@ module _ {m : Memory} {seats : List Seat} {made : List MadeArea} {files : FileLi
     on_placed = on_slot call placed_slot placed_reply name d
 
     module _ {n : Memory} {a : ℕ} (l : Leaves m n slot (call m.free (slot_in m slot)) (Ok a)) where
-      pub placed-done : on_placed ≡ Ok (desk_of n seats made files next, reply.Block a)
+      pub placed-done : on_placed ≡ Ok (desk_of n seats made files kept, reply.Block a)
       placed-done = slot-done call placed_slot placed_reply w o (slid l) (granted l) refl
 
-      pub placed-world : (c : Command) → change d c ≡ on_placed → in_range c ≡ true → IsWorld n seats made files next
+      pub placed-world : (c : Command) → change d c ≡ on_placed → in_range c ≡ true → IsWorld n seats made files kept
       placed-world c same ranged = slot-world call placed_slot placed_reply w o (slid l) (granted l) refl c same ranged
 
     pub placed-refused : {n : Memory} {r : Refusal} → Leaves m n slot (call m.free (slot_in m slot)) (Err r) → on_placed ≡ Err r
     placed-refused l = slot-refused call placed_slot placed_reply w o (refused l)
 
   -- a call on the anchor's block
-  module _ (call : ℕ → plain.Slot → Granted plain.Slot) (k : ℕ) (looks : (free : ℕ) (s : plain.Slot) → Looks (plain.slot_block k s) (call free s)) where
+  module _ (call : ℕ → plain.Slot → Granted plain.Slot) (k : ℕ) (idle : IsOk (idle_block k (task_of m o.seat))) where
     abbrev pub on_block : Granted Answer
     on_block = on_idle (idle_block k) call same_slot done_reply name d
 
     block-is : on_block ≡ on_slot call same_slot done_reply name d
-    block-is = idle-is call same_slot done_reply w o (idle_block k) (looks-block m o (call m.free) k (looks m.free))
+    block-is = idle-is call same_slot done_reply w o (idle_block k) idle
 
     module _ {n : Memory} (l : Leaves m n slot (no_answer (call m.free (slot_in m slot))) (Ok tt)) where
-      pub block-done : on_block ≡ Ok (desk_of n seats made files next, reply.Done)
+      pub block-done : on_block ≡ Ok (desk_of n seats made files kept, reply.Done)
       block-done = block-is ∙ slot-done call same_slot done_reply w o (slid l) (changed l) refl
 
-      pub block-world : (c : Command) → change d c ≡ on_block → in_range c ≡ true → IsWorld n seats made files next
+      pub block-world : (c : Command) → change d c ≡ on_block → in_range c ≡ true → IsWorld n seats made files kept
       block-world c same ranged = slot-world call same_slot done_reply w o (slid l) (changed l) refl c (same ∙ block-is) ranged
 
     pub block-refused : {n : Memory} {r : Refusal} → Leaves m n slot (no_answer (call m.free (slot_in m slot))) (Err r) → on_block ≡ Err r
     block-refused l = block-is ∙ slot-refused call same_slot done_reply w o (unchanged l)
 
   -- a call on a block of the C heap
-  module _ (call : ℕ → plain.Slot → Granted plain.Slot) (address : ℕ) (looks : (free : ℕ) (s : plain.Slot) → Looks (found_or (plain.heap_block_at address s) NotABlock) (call free s)) where
+  module _ (call : ℕ → plain.Slot → Granted plain.Slot) (address : ℕ) (idle : IsOk (idle_buffer address (task_of m o.seat))) where
     abbrev pub on_buffer : Granted Answer
     on_buffer = on_idle (idle_buffer address) call same_slot done_reply name d
 
     buffer-is : on_buffer ≡ on_slot call same_slot done_reply name d
-    buffer-is = idle-is call same_slot done_reply w o (idle_buffer address) (looks-buffer m o (call m.free) address (looks m.free))
+    buffer-is = idle-is call same_slot done_reply w o (idle_buffer address) idle
 
     module _ {n : Memory} (l : Leaves m n slot (no_answer (call m.free (slot_in m slot))) (Ok tt)) where
-      pub buffer-done : on_buffer ≡ Ok (desk_of n seats made files next, reply.Done)
+      pub buffer-done : on_buffer ≡ Ok (desk_of n seats made files kept, reply.Done)
       buffer-done = buffer-is ∙ slot-done call same_slot done_reply w o (slid l) (changed l) refl
 
-      pub buffer-world : (c : Command) → change d c ≡ on_buffer → in_range c ≡ true → IsWorld n seats made files next
+      pub buffer-world : (c : Command) → change d c ≡ on_buffer → in_range c ≡ true → IsWorld n seats made files kept
       buffer-world c same ranged = slot-world call same_slot done_reply w o (slid l) (changed l) refl c (same ∙ buffer-is) ranged
 
     pub buffer-refused : {n : Memory} {r : Refusal} → Leaves m n slot (no_answer (call m.free (slot_in m slot))) (Err r) → on_buffer ≡ Err r
     buffer-refused l = buffer-is ∙ slot-refused call same_slot done_reply w o (unchanged l)
 
   -- a call on a block of the C heap that answers its address
-  module _ (call : ℕ → plain.Slot → Granted (plain.Slot × ℕ)) (address : ℕ) (looks : (free : ℕ) (s : plain.Slot) → Looks (found_or (plain.heap_block_at address s) NotABlock) (call free s)) where
+  module _ (call : ℕ → plain.Slot → Granted (plain.Slot × ℕ)) (address : ℕ) (idle : IsOk (idle_buffer address (task_of m o.seat))) where
     abbrev pub on_moved : Granted Answer
     on_moved = on_idle (idle_buffer address) call placed_slot placed_reply name d
 
     moved-is : on_moved ≡ on_slot call placed_slot placed_reply name d
-    moved-is = idle-is call placed_slot placed_reply w o (idle_buffer address) (looks-buffer m o (call m.free) address (looks m.free))
+    moved-is = idle-is call placed_slot placed_reply w o (idle_buffer address) idle
 
     module _ {n : Memory} {a : ℕ} (l : Leaves m n slot (call m.free (slot_in m slot)) (Ok a)) where
-      pub moved-done : on_moved ≡ Ok (desk_of n seats made files next, reply.Block a)
+      pub moved-done : on_moved ≡ Ok (desk_of n seats made files kept, reply.Block a)
       moved-done = moved-is ∙ slot-done call placed_slot placed_reply w o (slid l) (granted l) refl
 
-      pub moved-world : (c : Command) → change d c ≡ on_moved → in_range c ≡ true → IsWorld n seats made files next
+      pub moved-world : (c : Command) → change d c ≡ on_moved → in_range c ≡ true → IsWorld n seats made files kept
       moved-world c same ranged = slot-world call placed_slot placed_reply w o (slid l) (granted l) refl c (same ∙ moved-is) ranged
 
     pub moved-refused : {n : Memory} {r : Refusal} → Leaves m n slot (call m.free (slot_in m slot)) (Err r) → on_moved ≡ Err r

@@ -1,6 +1,6 @@
 -- The store's bytes and lengths spell the desk.
-use Rattle.std.proofs.Common.{◌≡◌, ℕ, ◌*◌, ◌%◌, refl, ap, sym, subst, arith, List, [], ◌∷◌, length}
-use Rattle.std.specs.Prelude.{map}
+use Rattle.std.proofs.Common.{◌≡◌, ℕ, suc, ◌*◌, ◌%◌, ◌<◌, refl, ap, sym, subst, arith, List, [], ◌∷◌, length}
+use Rattle.std.specs.Prelude.{map, take, Option, Some, None}
 use Rattle.std.specs.List.{AllByRecursion, enumerate_from}
 use Rattle.rh_defs.specs.Memory.{Memory, bytes}
 use Rattle.rh_defs.specs.Pieces.{page, total}
@@ -11,12 +11,19 @@ use Rattle.rh_defs.specs.Desk.{Task, Made, task_pages, module_pages}
 use Rattle.rh_defs.specs.Commands.{module_start}
 use Rattle.rh_defs.specs.Laws as laws
 use Rattle.rh_defs.proofs.Spaced.{apart-of}
+use Rattle.rh_defs.specs.Heap.{Heap}
+use Rattle.rh_module.specs.Area.{heap_in}
+use Rattle.rh_wimp.specs.Chains.{Row, AllLie, row_at, row_parcels, rows_of}
+use Rattle.rh_wimp.specs.PostIn.{parcels_of}
+use Rattle.rh_wimp.proofs.LinkLaws.{AllLie-append}
+use Rattle.rh_wimp.proofs.PostInLaws.{rows-unlinked}
+use Rattle.rh_tasks.specs.declared.scrap.ScrapFile.{ScrapFile}
 use Rattle.rh_tasks.specs.declared.seat.Seat.{Seat}
 use Rattle.rh_tasks.specs.declared.made.MadeArea.{MadeArea}
-use Rattle.rh_tasks.specs.declared.next.Next.{Next}
-use Rattle.rh_tasks.specs.Shown.{Shown, SpellSlots, IsSpelled, length_of_area, IsBalanced, LieApart, HasApartBlocks}
-use Rattle.rh_tasks.specs.View.{pages_at, task_of, made_of, fixed_pages, post_of, shown_of, HasSlot, IsWorld}
+use Rattle.rh_tasks.specs.Shown.{Shown, scrap_bytes, SpellsPost, SpellSlots, IsSpelled, length_of_area, IsBalanced, LieApart, HasApartBlocks}
+use Rattle.rh_tasks.specs.View.{Kept, the_module, scrap_size, scrap_of, pages_at, task_of, made_of, fixed_pages, shown_of, HasSlot, IsWorld}
 use Rattle.rh_tasks.proofs.Worlds.{free-is}
+use Rattle.rh_tasks.proofs.Posts.{is-post, module-length}
 use Rattle.rh_tasks.proofs.Fixed.{pages-of}
 
 -- each area is whole pages
@@ -52,45 +59,58 @@ unfolding task_of
 slot-lengths m [] all = refl
 slot-lengths m (s ∷ seats) all = omega (arith, all.0.spells.pages, slot-lengths m seats all.1)
 
+-- the messages' blocks, row by row
+all-lie : (h : Heap) (rows : List Row) → ((i : ℕ) → i < length rows → AllLie h (row_parcels (row_at rows i))) → AllLie h (parcels_of rows)
+all-lie h [] each = tt
+all-lie h (r ∷ rows) each = AllLie-append h (row_parcels r) (parcels_of rows) (each 0 (omega arith)) (all-lie h rows (λ i inside. each (suc i) (omega arith)))
+
+scrap-spelled : (m : Memory) (scrap : Option ScrapFile) → take (scrap_size scrap) (bytes m 5) ≡ scrap_bytes (scrap_of m scrap)
+unfolding scrap_of
+scrap-spelled m None = refl
+scrap-spelled m (Some file) = refl
+
 made-sum : (made : List Made) → total (λ n. n) (map (λ (x : Made). page * x.pages) made) ≡ 4096 * total (λ (x : Made). x.pages) made
 made-sum [] = refl
 made-sum (x ∷ made) = omega (arith, made-sum made)
 
-module _ {m : Memory} {seats : List Seat} {made : List MadeArea} {files : FileList} {next : Next} (w : IsWorld m seats made files next) (whole : AreWhole m) where
+module _ {m : Memory} {seats : List Seat} {made : List MadeArea} {files : FileList} {kept : Kept} (w : IsWorld m seats made files kept) (whole : AreWhole m) where
   abbrev s : Shown
-  s = shown_of m seats made files next
-
-  module-length : 4096 * module_pages s.desk ≡ length (bytes m 1)
-  unfolding post_of
-  module-length = omega (arith, w.areas.module_area.spells.whole, whole.each 1)
+  s = shown_of m seats made files kept
 
   of : (id : ℕ) → length (bytes m id) ≡ 4096 * pages_at m id
   of id = sym (pages-of m id (whole.each id))
 
   areas-are : s.areas ≡ map (length_of_area s.desk) (enumerate_from 0 (fixed_pages m))
   unfolding fixed_pages
-  areas-are = six (of 0) (sym module-length) (of 2) (of 3) (of 4) (of 5)
+  areas-are = six (of 0) (sym (module-length w)) (of 2) (of 3) (of 4) (of 5)
+
+  module-spelled : SpellsPost (bytes m 1) s.desk.post
+  module-spelled =
+      let is = is-post w in record {
+        heap = heap_in m the_module;
+        spelled = w.areas.module_area.spells;
+        but_links = rows-unlinked (heap_in m the_module) s.desk.post.heap kept.queue.entries (rows_of s.desk.post) is.rows is.linked;
+        messages = all-lie s.desk.post.heap (rows_of s.desk.post) is.linked.lie;
+      }
 
   pub is-spelled : IsSpelled s
-  unfolding post_of
   is-spelled = record {
-    module_area = w.areas.module_area.spells;
+    module_area = module-spelled;
     slots = spell-slots m seats w.areas.slots;
     areas = areas-are;
     made = made-lengths m whole made;
-    scrap = refl;
+    scrap = scrap-spelled m kept.scrap;
     free = sym (free-is w);
   }
 
   pub is-apart : HasApartBlocks s
-  unfolding post_of
   is-apart =
       let apart : laws.HasApartBlocks s.desk = apart-of s.desk w.desk in record {
         slots = apart-slots m seats w.areas.slots apart.slots;
-        module_area = (let P : ℕ → Type 0 = λ n. AreLaidOut module_start n (module_spans s.desk.post.heap) in subst P module-length apart.module_area);
+        module_area = (let P : ℕ → Type 0 = λ n. AreLaidOut module_start n (module_spans s.desk.post.heap) in subst P (module-length w) apart.module_area);
       }
 
   pub is-balanced : IsBalanced s
   unfolding fixed_pages
   is-balanced =
-      omega (arith, w.ledger, module-length, of 0, of 2, of 3, of 4, of 5, slot-lengths m seats w.areas.slots, made-sum (map (made_of m) made), ap (total (λ n. n)) (made-lengths m whole made))
+      omega (arith, w.ledger, module-length w, of 0, of 2, of 3, of 4, of 5, slot-lengths m seats w.areas.slots, made-sum (map (made_of m) made), ap (total (λ n. n)) (made-lengths m whole made))

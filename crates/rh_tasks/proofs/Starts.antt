@@ -1,6 +1,6 @@
 -- A task's beginning.
 use Rattle.std.proofs.Common.{◌≡◌, ℕ, ◌+◌, ◌<◌, ◌≤◌, ◌^◌, Bool, true, false, refl, ap, sym, ◌∙◌, arith, List, [], ◌∷◌, ◌++◌, length}
-use Rattle.std.specs.Prelude.{map, Ok, Err, IsNone, nat_lt}
+use Rattle.std.specs.Prelude.{map, None, Ok, Err, IsNone, nat_lt}
 use Rattle.std.specs.List.{list_any}
 use Rattle.std.proofs.lemmas.List.{length-map}
 use Rattle.rh_defs.specs.Memory.{Memory, OnlyArea, open_below}
@@ -19,10 +19,11 @@ use Rattle.rh_defs.specs.Desk.{Desk}
 use Rattle.rh_defs.specs.Commands.{start_task}
 use Rattle.rh_slot.specs.declared.slot.Slot.{Slot}
 use Rattle.rh_slot.specs.Area.{IsSlot, slot_in}
+use Rattle.rh_wimp.specs.Calls.{IsQueue}
+use Rattle.rh_wimp.specs.Chains.{joined}
 use Rattle.rh_tasks.specs.declared.seat.Seat.{Seat}
 use Rattle.rh_tasks.specs.declared.made.MadeArea.{MadeArea}
-use Rattle.rh_tasks.specs.declared.next.Next.{Next}
-use Rattle.rh_tasks.specs.View.{task_of, desk_of, is_named, IsWorld}
+use Rattle.rh_tasks.specs.View.{Kept, the_module, task_of, desk_of, is_named, IsWorld}
 use Rattle.rh_tasks.proofs.Chains.{begins, ends, past, stops, granted-same, le-true, le-false, done-refused}
 use Rattle.rh_tasks.proofs.Finding.{named-any}
 use Rattle.rh_tasks.proofs.Worlds.{free-is, few-made, granted-keeps}
@@ -38,10 +39,10 @@ pub begun : (free : ℕ) → Ok tt ≡ outcome_of (plain.slot_begin free) → pl
 unfolding plain.slot_begin
 begun free e = begun-if (nat_lt free (plain.slot_pages plain.new_slot)) e
 
-module _ {m : Memory} {seats : List Seat} {made : List MadeArea} {files : FileList} {next : Next} (name : List ℕ) (buffer : ℕ) (manner : Manner)
-    (w : IsWorld m seats made files next) where
+module _ {m : Memory} {seats : List Seat} {made : List MadeArea} {files : FileList} {kept : Kept} (name : List ℕ) (buffer : ℕ) (manner : Manner)
+    (w : IsWorld m seats made files kept) where
   abbrev d : Desk
-  d = desk_of m seats made files next
+  d = desk_of m seats made files kept
 
   pub name-in-use : list_any (is_named name) seats ≡ true → start_task d name buffer manner ≡ Err NameInUse
   unfolding start_task
@@ -60,32 +61,33 @@ module _ {m : Memory} {seats : List Seat} {made : List MadeArea} {files : FileLi
       pub can-open : open_below m.area MAX_AREAS < MAX_AREAS
       can-open = omega (arith, w.areas.count, few, few-made w)
 
-      pub no-handles : 2 ^ 32 ≤ next.handle → start_task d name buffer manner ≡ Err NoHandles
+      pub no-handles : 2 ^ 32 ≤ kept.next.handle → start_task d name buffer manner ≡ Err NoHandles
       unfolding start_task
-      no-handles used = past _ _ _ (sym (named-any m name seats) ∙ unused) (past _ _ _ (le-false 32 _ few-tasks) (stops _ _ _ (le-true (2 ^ 32) next.handle used)))
+      no-handles used = past _ _ _ (sym (named-any m name seats) ∙ unused) (past _ _ _ (le-false 32 _ few-tasks) (stops _ _ _ (le-true (2 ^ 32) kept.next.handle used)))
 
-      module _ (some : next.handle < 2 ^ 32) where
+      module _ (some : kept.next.handle < 2 ^ 32) where
         pub no-room : {r : Refusal} → Err r ≡ outcome_of (plain.slot_begin m.free) → start_task d name buffer manner ≡ Err r
         unfolding start_task
         no-room e =
-            past _ _ _ (sym (named-any m name seats) ∙ unused) (past _ _ _ (le-false 32 _ few-tasks) (past _ _ _ (le-false (2 ^ 32) next.handle some)
+            past _ _ _ (sym (named-any m name seats) ∙ unused) (past _ _ _ (le-false 32 _ few-tasks) (past _ _ _ (le-false (2 ^ 32) kept.next.handle some)
             (ends _ (ap plain.slot_begin (free-is w) ∙ done-refused (plain.slot_begin m.free) e))))
 
         module _ {n : Memory} (slot : Slot) (is : slot_in n slot ≡ plain.new_slot) (begins_so : Ok tt ≡ outcome_of (plain.slot_begin m.free))
             (none : IsNone (m.area slot.area.0)) (low : slot.area.0 < MAX_AREAS) (only : OnlyArea m n slot.area.0) (still : IsSlot n slot) where
           abbrev seat : Seat
-          seat = record { handle = next.handle; name = name; buffer = buffer; manner = manner; slot = slot }
+          seat = record { handle = kept.next.handle; name = name; buffer = buffer; manner = manner; slot = slot; sending = []; taking = []; last_sent = None }
 
-          abbrev then : Next
-          then = record next { handle = next.handle + 1 }
+          abbrev then : Kept
+          then = record kept { next = record kept.next { handle = kept.next.handle + 1 }; queue = joined kept.next.handle kept.queue }
 
-          pub start-done : start_task d name buffer manner ≡ Ok (desk_of n (seats ++ seat ∷ []) made files then, reply.Started next.handle)
+          pub start-done : start_task d name buffer manner ≡ Ok (desk_of n (seats ++ seat ∷ []) made files then, reply.Started kept.next.handle)
           unfolding start_task task_of
           start-done =
-              past _ _ _ (sym (named-any m name seats) ∙ unused) (past _ _ _ (le-false 32 _ few-tasks) (past _ _ _ (le-false (2 ^ 32) next.handle some)
+              past _ _ _ (sym (named-any m name seats) ∙ unused) (past _ _ _ (le-false 32 _ few-tasks) (past _ _ _ (le-false (2 ^ 32) kept.next.handle some)
               (begins _ (ap plain.slot_begin (free-is w) ∙ begun m.free begins_so)
-              (granted-same (sym (joined-desk seat w none low only still (next.handle + 1)
-              ∙ ap (λ (s : plain.Slot). let e : Desk = record (desk_of n (seats ++ seat ∷ []) made files then) { tasks = map (task_of m) seats ++ record (task_of n seat) { slot = s } ∷ []; post = post.post_join next.handle d.post; areas = d.areas; made = d.made; pool = d.pool } in e) is)) refl))))
+              (granted-same (sym (joined-desk seat w none low only still (kept.next.handle + 1)
+              ∙ ap (λ (s : plain.Slot). let e : Desk = record (desk_of n (seats ++ seat ∷ []) made files then) { tasks = map (task_of m) seats ++ record (task_of n seat) { slot = s } ∷ []; post = post.post_join kept.next.handle d.post; areas = d.areas; made = d.made; pool = d.pool; scrap = d.scrap } in e) is)) refl))))
 
-          pub start-world : in_range (command.Task name buffer manner) ≡ true → IsWorld n (seats ++ seat ∷ []) made files then
-          start-world ranged = joined-world seat w none low only still (next.handle + 1) (granted-keeps d _ (command.Task name buffer manner) (reply.Started next.handle) start-done ranged w.desk)
+          pub start-world : (IsQueue n the_module kept.queue → IsQueue n the_module (joined kept.next.handle kept.queue)) → in_range (command.Task name buffer manner) ≡ true
+              → IsWorld n (seats ++ seat ∷ []) made files then
+          start-world joins ranged = joined-world seat w none low only still (kept.next.handle + 1) joins (granted-keeps d _ (command.Task name buffer manner) (reply.Started kept.next.handle) start-done ranged w.desk)

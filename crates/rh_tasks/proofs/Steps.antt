@@ -1,16 +1,46 @@
 -- A command's call as a step.
-use Rattle.std.proofs.Common.{◌≡◌, refl}
+use Rattle.std.proofs.Common.{◌≡◌, refl, ap, sym, ◌∙◌, subst}
 use Rattle.std.specs.Prelude.{Result, Ok, Err}
+use Rattle.rh_defs.specs.declared.command.Command.{Command}
 use Rattle.rh_defs.specs.declared.refusal.Refusal.{Refusal}
 use Rattle.rh_defs.specs.declared.reply.Reply.{Reply}
 use Rattle.rh_defs.specs.declared.reply.Reply.TheVariants as reply
 use Rattle.rh_defs.specs.Chain.{Granted, or_else}
 use Rattle.rh_defs.specs.Commands.{Answer}
+use Rattle.rh_defs.specs.Desk.{Desk}
+use Rattle.rh_defs.specs.Order.{IsReordered}
+use Rattle.rh_defs.specs.Step.{change, step}
+use Rattle.rh_defs.proofs.OrderSteps.{order-ignored}
 use Rattle.rh_tasks.specs.Shown.{Shown}
-use Rattle.rh_tasks.specs.Answer.{Gives, reply_of}
+use Rattle.rh_tasks.specs.Answer.{Gives, GivesAlike, StepsTo, reply_of}
+use Rattle.rh_tasks.proofs.Reorders.{reordered-refl, reordered-trans}
 
-pub stepped : (granted : Granted Answer) (old new : Shown) (result : Result Reply Refusal) (said : Reply) → Gives granted old new result → said ≡ reply_of result
+-- where the old desk itself goes, each like it goes
+pub steps-from : (c : Command) (old new : Desk) (said : Reply) → (step old c).1 ≡ said → IsReordered (step old c).0 new → StepsTo c old new said
+steps-from c old new said e r d alike =
+    let both = order-ignored d old c alike in
+    (sym both.reply ∙ e, reordered-trans both.desks r)
+
+equal-steps : (granted : Granted Answer) (old new : Shown) (result : Result Reply Refusal) (said : Reply) → Gives granted old new result → said ≡ reply_of result
     → or_else granted (λ refusal. (old.desk, reply.Refused refusal)) ≡ (new.desk, said)
 unfolding or_else
-stepped granted old new (Ok answer) said h s = rw (h, s) refl
-stepped granted old new (Err refusal) said h s = rw (h.0, h.1, s) refl
+equal-steps granted old new (Ok answer) said h s = rw (h, s) refl
+equal-steps granted old new (Err refusal) said h s = rw (h.0, h.1, s) refl
+
+pub stepped : (c : Command) (old new : Shown) (result : Result Reply Refusal) (said : Reply) → Gives (change old.desk c) old new result → said ≡ reply_of result
+    → StepsTo c old.desk new.desk said
+stepped c old new result said h s =
+    let e = equal-steps (change old.desk c) old new result said h s in
+    steps-from c old.desk new.desk said (ap (λ (p : Answer). p.1) e) (subst (IsReordered (step old.desk c).0) (ap (λ (p : Answer). p.0) e) (reordered-refl (step old.desk c).0))
+
+pub stepped-alike : (c : Command) (old new : Shown) (result : Result Reply Refusal) (said : Reply) → GivesAlike (change old.desk c) old new result → said ≡ reply_of result
+    → StepsTo c old.desk new.desk said
+unfolding or_else
+stepped-alike c old new (Ok answer) said h s =
+    let e = ap (λ (g : Granted Answer). or_else g (λ refusal. (old.desk, reply.Refused refusal))) h.1.0 in
+    steps-from c old.desk new.desk said (ap (λ (p : Answer). p.1) e ∙ sym s) (subst (λ d. IsReordered d new.desk) (sym (ap (λ (p : Answer). p.0) e)) h.1.1)
+stepped-alike c old new (Err refusal) said h s =
+    let e = ap (λ (g : Granted Answer). or_else g (λ r. (old.desk, reply.Refused r))) h.0 in
+    let same : new.desk ≡ old.desk = ap (λ (x : Shown). x.desk) h.1 in
+    steps-from c old.desk new.desk said (ap (λ (p : Answer). p.1) e ∙ sym s)
+    (subst (IsReordered (step old.desk c).0) (ap (λ (p : Answer). p.0) e ∙ sym same) (reordered-refl (step old.desk c).0))

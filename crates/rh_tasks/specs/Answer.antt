@@ -5,12 +5,25 @@ use Rattle.rh_defs.specs.declared.refusal.Refusal.{Refusal}
 use Rattle.rh_defs.specs.declared.reply.Reply.{Reply}
 use Rattle.rh_defs.specs.declared.reply.Reply.TheVariants as reply
 use Rattle.rh_defs.specs.Chain.{Granted}
+use Rattle.rh_defs.specs.declared.command.Command.{Command}
+use Rattle.rh_defs.specs.Desk.{Desk}
 use Rattle.rh_defs.specs.Commands.{Answer}
+use Rattle.rh_defs.specs.Order.{IsReordered}
+use Rattle.rh_defs.specs.Step.{step}
 use Rattle.rh_tasks.specs.Shown.{Shown}
 
 -- the call gave what is granted, or was refused and changed nothing
 abbrev pub Gives : Granted Answer → Shown → Shown → Result Reply Refusal → Type 0
 Gives granted old new result = MatchResult result (λ said. granted ≡ Ok (new.desk, said)) (λ refusal. (granted ≡ Err refusal) × (new ≡ old))
+
+-- the same, but for the order of messages to different tasks
+abbrev pub GivesAlike : Granted Answer → Shown → Shown → Result Reply Refusal → Type 0
+GivesAlike granted old new result =
+    MatchResult result (λ said. (d : Desk) × ((granted ≡ Ok (d, said)) × IsReordered d new.desk)) (λ refusal. (granted ≡ Err refusal) × (new ≡ old))
+
+-- Of each desk that differs from the old one in that order alone, the command gives the reply, and again such a desk.
+abbrev pub StepsTo : Command → Desk → Desk → Reply → Type 0
+StepsTo c old new said = (d : Desk) → IsReordered d old → ((step d c).1 ≡ said) × IsReordered (step d c).0 new
 
 -- the reply that a call's result is
 abbrev pub reply_of : Result Reply Refusal → Reply

@@ -6,8 +6,13 @@ use Rattle.rh_defs.specs.HeapImage.{IsImage}
 use Rattle.rh_defs.specs.SlotImage.{SpellsSlot}
 use Rattle.rh_defs.specs.Slot.{slot_start}
 use Rattle.rh_defs.specs.Spans.{AreLaidOut, slot_spans, module_spans}
+use Rattle.rh_defs.specs.Heap.{Heap}
+use Rattle.rh_defs.specs.Messages.{Parcel}
+use Rattle.rh_defs.specs.Post.{Post}
 use Rattle.rh_defs.specs.Desk.{Desk, Task, Made, Scrap, module_pages, free_pages}
 use Rattle.rh_defs.specs.Commands.{module_area, module_start}
+use Rattle.rh_wimp.specs.Chains.{AllLie, rows_of}
+use Rattle.rh_wimp.specs.PostIn.{parcels_of, unlinked}
 
 -- The desk; the bytes of the module area, and of each slot in order of handle; the lengths of areas 0 to 5 and of the
 -- made areas in order of number; the scrap file's bytes, which are the first of area 5; and the free pages.
@@ -19,6 +24,10 @@ pub record Shown : Type 0 where
   pub made : List ℕ
   pub scrap : List ℕ
   pub free : ℕ
+
+-- all messages: for each seat those queued for it, and the one that it holds
+abbrev pub messages_of : Post → List Parcel
+messages_of post = parcels_of (rows_of post)
 
 -- each list of bytes spells its task's slot
 abbrev pub SpellSlots : List (List ℕ) → List Task → Type 0
@@ -35,9 +44,17 @@ abbrev pub scrap_bytes : Option Scrap → List ℕ
 scrap_bytes None = []
 scrap_bytes (Some file) = file.bytes
 
+-- The bytes spell the post's heap, but for the link words of messages, which are 0 in the post's heap; there each message's
+-- block has the message.
+pub record SpellsPost (b : List ℕ) (post : Post) : Type 0 where
+  pub heap : Heap
+  pub spelled : IsImage b heap
+  pub but_links : unlinked (messages_of post) heap ≡ post.heap
+  pub messages : AllLie post.heap (messages_of post)
+
 -- the bytes and lengths spell the desk
 pub record IsSpelled (s : Shown) : Type 0 where
-  pub module_area : IsImage s.module_bytes s.desk.post.heap
+  pub module_area : SpellsPost s.module_bytes s.desk.post
   pub slots : SpellSlots s.slots s.desk.tasks
   pub areas : s.areas ≡ map (length_of_area s.desk) (enumerate_from 0 s.desk.areas)
   pub made : s.made ≡ map (λ (m : Made). page * m.pages) s.desk.made

@@ -1,21 +1,28 @@
 -- The desk that the seats, the made areas and the store's memory spell, and what holds of every world.
-use Rattle.std.specs.Prelude.{◌≡◌, ◌≢◌, ◌==◌, ℕ, ◌+◌, ◌/◌, ◌≤◌, List, [], ◌∷◌, length, map, None}
+use Rattle.std.specs.Prelude.{◌≡◌, ◌≢◌, ◌==◌, ℕ, ◌+◌, ◌/◌, ◌≤◌, List, [], ◌∷◌, length, map, take, if◌then◌else◌, Option, Some, None}
 use Rattle.std.specs.List.{AllByRecursion}
+use Rattle.std.specs.Option.{option_map}
 use Rattle.std.specs.Str.{bytes_eq}
 use Rattle.std.specs.Prelude.{Bool}
 use Rattle.rh_defs.specs.Memory.{Memory, IsOpen, bytes, open_below}
 use Rattle.rh_defs.specs.Pieces.{page}
 use Rattle.rh_defs.specs.Files.{FileList}
-use Rattle.rh_defs.specs.Post as post
-use Rattle.rh_defs.specs.Desk.{Desk, Task, Made, used_pages}
+use Rattle.rh_defs.specs.Post.{Post, post_is_live}
+use Rattle.rh_defs.specs.Desk.{Desk, Task, Made, Scrap, used_pages}
 use Rattle.rh_defs.specs.Laws.{IsDesk}
+use Rattle.rh_defs.specs.declared.message.Letter.{Letter}
 use Rattle.rh_defs.specs.declared.sizes.TheConstants.{MAX_AREAS}
 use Rattle.rh_module.specs.declared.module.Module.{Module}
-use Rattle.rh_module.specs.Area.{IsModule, heap_in}
+use Rattle.rh_module.specs.Area.{IsModule}
 use Rattle.rh_slot.specs.Area.{IsSlot, slot_in}
+use Rattle.rh_wimp.specs.Calls.{IsQueue}
+use Rattle.rh_wimp.specs.Chains.{Chains}
+use Rattle.rh_wimp.specs.PostIn.{post_in}
 use Rattle.rh_tasks.specs.declared.seat.Seat.{Seat}
+use Rattle.rh_tasks.specs.declared.seat.SentLetter.{SentLetter}
 use Rattle.rh_tasks.specs.declared.made.MadeArea.{MadeArea}
 use Rattle.rh_tasks.specs.declared.next.Next.{Next}
+use Rattle.rh_tasks.specs.declared.scrap.ScrapFile.{ScrapFile}
 use Rattle.rh_tasks.specs.Shown.{Shown}
 
 -- ---- the desk
@@ -31,7 +38,11 @@ fixed = 0 ∷ 1 ∷ 2 ∷ 3 ∷ 4 ∷ 5 ∷ []
 unfoldable pub pages_at : Memory → ℕ → ℕ
 pages_at m id = length (bytes m id) / page
 
--- a seat's task; it takes part in no transfer
+-- what a seat has of the last letter that its task sent
+abbrev pub last_of : SentLetter → Letter × ℕ
+last_of sent = (sent.letter, sent.my_ref)
+
+-- a seat's task
 unfoldable pub task_of : Memory → Seat → Task
 task_of m s = record {
   handle = s.handle;
@@ -39,14 +50,10 @@ task_of m s = record {
   buffer = s.buffer;
   manner = s.manner;
   slot = slot_in m s.slot;
-  sending = [];
-  taking = [];
-  last_sent = None;
+  sending = s.sending;
+  taking = s.taking;
+  last_sent = option_map last_of s.last_sent;
 }
-
--- a seat in the post, which holds no message
-abbrev pub post_seat : Seat → post.Seat
-post_seat s = record { handle = s.handle; holds = None }
 
 -- a made area as the desk has it
 unfoldable pub made_of : Memory → MadeArea → Made
@@ -56,22 +63,48 @@ made_of m a = record { number = a.number; most = a.most; pages = pages_at m a.ar
 unfoldable pub fixed_pages : Memory → List ℕ
 fixed_pages m = pages_at m 0 ∷ 0 ∷ pages_at m 2 ∷ pages_at m 3 ∷ pages_at m 4 ∷ pages_at m 5 ∷ []
 
--- the post, in which no message is live
-unfoldable pub post_of : Memory → List Seat → ℕ → post.Post
-post_of m seats next_ref = record { seats = map post_seat seats; queued = []; heap = heap_in m the_module; next_ref = next_ref }
+-- what is kept beside seats, made areas and files: the numbers given next, the queue's entries, and the scrap file
+pub record Kept : Type 0 where
+  pub next : Next
+  pub queue : Chains
+  pub scrap : Option ScrapFile
+
+abbrev pub kept_of : Next → Chains → Option ScrapFile → Kept
+kept_of next queue scrap = record { next = next; queue = queue; scrap = scrap }
+
+-- the scrap file lies in area 5
+abbrev pub scrap_area : ℕ
+scrap_area = 5
+
+-- the bytes of the scrap file, none where there is none
+abbrev pub scrap_size : Option ScrapFile → ℕ
+scrap_size None = 0
+scrap_size (Some file) = file.size
+
+-- the scrap file, while its DataLoad is queued or held
+abbrev pub kept_file : Post → Option ScrapFile → Option ScrapFile
+kept_file post None = None
+kept_file post (Some file) = if post_is_live file.load post then Some file else None
+
+-- the scrap file as the desk has it, from the bytes of its area
+abbrev pub scrap_from : List ℕ → ScrapFile → Scrap
+scrap_from b file = record { load = file.load; bytes = take file.size b }
+
+unfoldable pub scrap_of : Memory → Option ScrapFile → Option Scrap
+scrap_of m scrap = option_map (scrap_from (bytes m scrap_area)) scrap
 
 -- the desk
-abbrev pub desk_of : Memory → List Seat → List MadeArea → FileList → Next → Desk
-desk_of m seats made files next = record {
+abbrev pub desk_of : Memory → List Seat → List MadeArea → FileList → Kept → Desk
+desk_of m seats made files kept = record {
   tasks = map (task_of m) seats;
-  post = post_of m seats next.message;
+  post = post_in m the_module kept.queue;
   areas = fixed_pages m;
   made = map (made_of m) made;
-  scrap = None;
+  scrap = scrap_of m kept.scrap;
   pool = m.pages;
   files = files;
-  next_handle = next.handle;
-  next_area = next.area;
+  next_handle = kept.next.handle;
+  next_area = kept.next.area;
 }
 
 -- the area of a seat's slot
@@ -83,14 +116,14 @@ abbrev pub made_area : MadeArea → ℕ
 made_area a = a.area.0
 
 -- the desk, and the bytes and lengths of the areas
-abbrev pub shown_of : Memory → List Seat → List MadeArea → FileList → Next → Shown
-shown_of m seats made files next = record {
-  desk = desk_of m seats made files next;
+abbrev pub shown_of : Memory → List Seat → List MadeArea → FileList → Kept → Shown
+shown_of m seats made files kept = record {
+  desk = desk_of m seats made files kept;
   module_bytes = bytes m 1;
   slots = map (λ (s : Seat). bytes m s.slot.area.0) seats;
   areas = map (λ id. length (bytes m id)) fixed;
   made = map (λ (a : MadeArea). length (bytes m a.area.0)) made;
-  scrap = [];
+  scrap = take (scrap_size kept.scrap) (bytes m scrap_area);
   free = m.free;
 }
 
@@ -135,10 +168,12 @@ abbrev pub made_number : MadeArea → ℕ
 made_number a = a.number
 
 -- what holds of every world
-pub record IsWorld (m : Memory) (seats : List Seat) (made : List MadeArea) (files : FileList) (next : Next) : Type 0 where
-  pub desk : IsDesk (desk_of m seats made files next)
+pub record IsWorld (m : Memory) (seats : List Seat) (made : List MadeArea) (files : FileList) (kept : Kept) : Type 0 where
+  pub desk : IsDesk (desk_of m seats made files kept)
   pub areas : HasAreas m seats made
-  pub ledger : m.free + used_pages (desk_of m seats made files next) ≡ m.pages
+  pub queue : IsQueue m the_module kept.queue
+  pub scrap : scrap_size kept.scrap ≤ length (bytes m scrap_area)
+  pub ledger : m.free + used_pages (desk_of m seats made files kept) ≡ m.pages
 
 -- whether a made area has the number
 abbrev pub has_number : ℕ → MadeArea → Bool

@@ -1,11 +1,11 @@
 //! Areas whose length changes by whole pages (OS_ChangeDynamicArea).
 
-ghost use Rattle.std.specs.Prelude.{◌≡◌, ◌≢◌, ◌+◌, ◌*◌, ◌≤◌, ◌<◌, true, Ok, Err};
-ghost use Rattle.rh_defs.specs.Memory.{Memory, IsOpen, OnlyArea};
+ghost use Rattle.std.specs.Prelude.{◌≡◌, ◌≢◌, ℕ, ◌+◌, ◌*◌, ◌≤◌, ◌<◌, length, take, true, Ok, Err};
+ghost use Rattle.rh_defs.specs.Memory.{Memory, IsOpen, OnlyArea, bytes};
 ghost use Rattle.rh_defs.specs.Module.{whole_pages};
 ghost use Rattle.rh_defs.specs.declared.command.Command.TheVariants as Command;
 ghost use Rattle.rh_defs.specs.Range.{in_range};
-ghost use Rattle.rh_defs.specs.Commands.{pages_after as pages_after_on, change_area as change_area_on};
+ghost use Rattle.rh_defs.specs.Commands.{least_length as least_length_on, pages_after as pages_after_on, change_area as change_area_on};
 ghost use Rattle.rh_tasks.specs.Answer.{Gives};
 ghost use Rattle.rh_tasks.specs.View.{pages_at};
 
@@ -18,6 +18,9 @@ use rh_store::{AreaId, Pages, Store};
 
 /// The module area's number.
 const MODULE_AREA: u32 = 1;
+
+/// The number of the area in which the scrap file lies.
+const SCRAP_AREA: u32 = 5;
 
 /// How many areas are there from the start.
 pub const FIXED_AREAS: u32 = 6;
@@ -36,16 +39,21 @@ fn bytes_moved(delta: i32) -> u32
     (pages_of(delta) * PAGE) as u32
 }
 
-/// How many pages an area of pages only would have after a change by an amount of bytes: ExcessiveShrink where it has
-/// fewer than it would lose, NoRoom where too few are free.
-fn pages_after<S: Pages>(store: &S, area: AreaId, delta: i32) -> Result<usize, Refusal>
+/// How many pages an area of pages only would have after a change by an amount of bytes: ExcessiveShrink where fewer than
+/// `least` bytes would be left, NoRoom where too few pages are free.
+fn pages_after<S: Pages>(
+    store: &S,
+    area: AreaId,
+    least: u32,
+    delta: i32,
+) -> Result<usize, Refusal>
     requires { IsOpen (S.memory store.now) area.0 }
-    ensures { result ≡ pages_after_on (S.memory store.now).free 0 (pages_at (S.memory store.now) area.0) delta }
+    ensures { result ≡ pages_after_on (S.memory store.now).free least (pages_at (S.memory store.now) area.0) delta }
 {
     let now = store.len(area) / PAGE;
     let more = pages_of(delta);
     if delta < 0 {
-        if now < more {
+        if now * PAGE < least as usize + more * PAGE {
             return Err(Refusal::ExcessiveShrink);
         }
         return Ok(now - more);
@@ -62,6 +70,8 @@ fn set_pages<S: Pages>(store: &mut S, area: AreaId, pages: usize)
     requires room { pages ≤ pages_at (S.memory store.old) area.0 + (S.memory store.old).free }
     ensures pages { pages_at (S.memory store.new) area.0 ≡ pages }
     ensures only { OnlyArea (S.memory store.old) (S.memory store.new) area.0 }
+    ensures first { (k : ℕ) → k ≤ length (bytes (S.memory store.old) area.0) → k ≤ 4096 * pages
+        → take k (bytes (S.memory store.new) area.0) ≡ take k (bytes (S.memory store.old) area.0) }
 {
     let now = store.len(area) / PAGE;
     if pages < now {
@@ -86,6 +96,19 @@ impl<S: Store> World<S> {
         self.change_made(number, delta)
     }
 
+    /// How many bytes area 0 or one of 2 to 5 keeps at least: the scrap file's, in area 5.
+    fn least_length(&self, number: u32) -> u32
+        ensures { result ≡ least_length_on number self.now.desk }
+    {
+        let Some(file) = self.scrap else {
+            return 0;
+        };
+        if number != SCRAP_AREA {
+            return 0;
+        }
+        file.size
+    }
+
     fn change_module(&mut self, delta: i32) -> Result<Reply, Refusal>
         requires { in_range (Command.Area 1 delta) ≡ true }
         ensures { Gives (change_area_on self.old.desk 1 delta) self.old self.new result }
@@ -103,7 +126,7 @@ impl<S: Store> World<S> {
         ensures { Gives (change_area_on self.old.desk number delta) self.old self.new result }
     {
         let area = AreaId(number as u8);
-        let pages = pages_after(&self.store, area, delta)?;
+        let pages = pages_after(&self.store, area, self.least_length(number), delta)?;
         set_pages(&mut self.store, area, pages);
         Ok(Reply::Moved {
             bytes: bytes_moved(delta),
@@ -117,7 +140,7 @@ impl<S: Store> World<S> {
     {
         let i = find_made(&self.made, number)?;
         let made = self.made[i];
-        let pages = pages_after(&self.store, made.area, delta)?;
+        let pages = pages_after(&self.store, made.area, 0, delta)?;
         if pages > made.most as usize {
             return Err(Refusal::TooBig);
         }

@@ -6,7 +6,7 @@ ghost use Rattle.rh_defs.specs.Range.{in_range};
 ghost use Rattle.rh_defs.specs.Commands.{alloc as alloc_on, load as load_on, put as put_on, free as free_on, extend as extend_on, mid as mid_on};
 ghost use Rattle.rh_tasks.specs.Answer.{Gives};
 
-use crate::seats::slot_of;
+use crate::seats::{idle_slot, slot_of};
 use crate::world::World;
 use rh_defs::{Anchor, Name, Refusal, Reply};
 use rh_store::Store;
@@ -45,7 +45,7 @@ impl<S: Store> World<S> {
         })
     }
 
-    /// Writes bytes into a block, from an offset on: NoName, NoBlock, BadRange.
+    /// Writes bytes into a block, from an offset on: NoName, NoBlock, Busy, BadRange.
     pub(crate) fn put(
         &mut self,
         name: &Name,
@@ -56,22 +56,22 @@ impl<S: Store> World<S> {
         requires { in_range (Command.Put name.now anchor offset bytes.now) ≡ true }
         ensures { Gives (put_on self.old.desk name.now anchor offset bytes.now) self.old self.new result }
     {
-        let slot = slot_of(&self.seats, name)?;
+        let slot = idle_slot(&self.store, &self.seats, name, anchor)?;
         slot.put(&mut self.store, anchor, offset as usize, bytes)?;
         Ok(Reply::Done)
     }
 
-    /// Takes a block away; those above it slide down (flex_free): NoName, NoBlock.
+    /// Takes a block away; those above it slide down (flex_free): NoName, NoBlock, Busy.
     pub(crate) fn free(&mut self, name: &Name, anchor: Anchor) -> Result<Reply, Refusal>
         requires { in_range (Command.Free name.now anchor) ≡ true }
         ensures { Gives (free_on self.old.desk name.now anchor) self.old self.new result }
     {
-        let slot = slot_of(&self.seats, name)?;
+        let slot = idle_slot(&self.store, &self.seats, name, anchor)?;
         slot.free(&mut self.store, anchor)?;
         Ok(Reply::Done)
     }
 
-    /// Cuts a block to `size` bytes, or lengthens it by zeros (flex_extend): NoName, NoBlock, NoRoom.
+    /// Cuts a block to `size` bytes, or lengthens it by zeros (flex_extend): NoName, NoBlock, Busy, NoRoom.
     pub(crate) fn extend(
         &mut self,
         name: &Name,
@@ -81,13 +81,13 @@ impl<S: Store> World<S> {
         requires { in_range (Command.Extend name.now anchor size) ≡ true }
         ensures { Gives (extend_on self.old.desk name.now anchor size) self.old self.new result }
     {
-        let slot = slot_of(&self.seats, name)?;
+        let slot = idle_slot(&self.store, &self.seats, name, anchor)?;
         slot.extend(&mut self.store, anchor, size)?;
         Ok(Reply::Done)
     }
 
     /// Puts `by` zeros into a block at an offset, or takes out the `-by` bytes before it (flex_midextend): NoName,
-    /// NoBlock, BadRange, NoRoom.
+    /// NoBlock, Busy, BadRange, NoRoom.
     pub(crate) fn mid(
         &mut self,
         name: &Name,
@@ -98,7 +98,7 @@ impl<S: Store> World<S> {
         requires { in_range (Command.Mid name.now anchor offset by) ≡ true }
         ensures { Gives (mid_on self.old.desk name.now anchor offset by) self.old self.new result }
     {
-        let slot = slot_of(&self.seats, name)?;
+        let slot = idle_slot(&self.store, &self.seats, name, anchor)?;
         slot.mid(&mut self.store, anchor, offset as usize, by)?;
         Ok(Reply::Done)
     }

@@ -6,7 +6,7 @@ ghost use Rattle.rh_defs.specs.Range.{in_range};
 ghost use Rattle.rh_defs.specs.Commands.{claim as claim_on, release as release_on, resize as resize_on, budge as budge_on};
 ghost use Rattle.rh_tasks.specs.Answer.{Gives};
 
-use crate::seats::{find, slot_of};
+use crate::seats::{find, idle_heap, slot_of};
 use crate::world::World;
 use rh_defs::{Name, Refusal, Reply};
 use rh_store::Store;
@@ -24,22 +24,22 @@ impl<S: Store> World<S> {
         })
     }
 
-    /// Releases a block of the task's C heap (OS_Heap 3): NoName, NotABlock.
+    /// Releases a block of the task's C heap (OS_Heap 3): NoName, NotABlock, Busy.
     pub(crate) fn release(&mut self, name: &Name, address: u32) -> Result<Reply, Refusal>
         requires { in_range (Command.Release name.now address) ≡ true }
         ensures { Gives (release_on self.old.desk name.now address) self.old self.new result }
     {
-        let slot = slot_of(&self.seats, name)?;
+        let slot = idle_heap(&self.store, &self.seats, name, address)?;
         slot.release(&mut self.store, address as usize)?;
         Ok(Reply::Done)
     }
 
-    /// Changes the size of a block of the task's C heap (OS_Heap 4): NoName, NotABlock, BadSize, NoBudge, NoRoom.
+    /// Changes the size of a block of the task's C heap (OS_Heap 4): NoName, NotABlock, Busy, BadSize, NoBudge, NoRoom.
     pub(crate) fn resize(&mut self, name: &Name, address: u32, delta: i32) -> Result<Reply, Refusal>
         requires { in_range (Command.Resize name.now address delta) ≡ true }
         ensures { Gives (resize_on self.old.desk name.now address delta) self.old self.new result }
     {
-        let slot = slot_of(&self.seats, name)?;
+        let slot = idle_heap(&self.store, &self.seats, name, address)?;
         let address = slot.resize(&mut self.store, address as usize, delta)?;
         Ok(Reply::Block {
             address: address as u32,

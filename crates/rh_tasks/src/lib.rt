@@ -8,9 +8,11 @@ mod listing;
 mod made;
 mod module_blocks;
 mod next;
+mod scrap;
 mod seat;
 mod seats;
 mod tasks;
+mod transfers;
 mod world;
 
 pub use listing::HeapSums;

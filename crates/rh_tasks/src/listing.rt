@@ -157,7 +157,7 @@ impl<S: Store> World<S> {
     {
         let i = find(&self.seats, name)?;
         let seat = &self.seats[i];
-        Ok((seat.handle, &[], &[]))
+        Ok((seat.handle, seat.sending.records(), seat.taking.records()))
     }
 
     /// The size of the task's block: NoName, NoBlock.

@@ -1,9 +1,9 @@
 //! Blocks of the module area that commands claim (the RMA's).
 
-ghost use Rattle.std.specs.Prelude.{◌≡◌, true, Ok, Err};
+ghost use Rattle.std.specs.Prelude.{◌≡◌, ◌-◌, true, Ok, Err, IfOk, IfErr, IsOk};
 ghost use Rattle.rh_defs.specs.declared.command.Command.TheVariants as Command;
 ghost use Rattle.rh_defs.specs.Range.{in_range};
-ghost use Rattle.rh_defs.specs.Commands.{rma_claim as rma_claim_on, rma_free as rma_free_on, rma_resize as rma_resize_on};
+ghost use Rattle.rh_defs.specs.Commands.{module_start, own_block as own_block_on, rma_claim as rma_claim_on, rma_free as rma_free_on, rma_resize as rma_resize_on};
 ghost use Rattle.rh_tasks.specs.Answer.{Gives};
 
 use crate::world::World;
@@ -27,22 +27,35 @@ impl<S: Store> World<S> {
         })
     }
 
-    /// Frees a block of the module area (OS_Module 7): NotABlock.
+    /// The place of the block at the address in the module area: NotABlock, NotYours where it holds a message.
+    fn own_block(&self, address: u32) -> Result<usize, Refusal>
+        ensures ok { IfOk result (λ place. (place ≡ address - module_start) × IsOk (own_block_on address self.now.desk)) }
+        ensures err { IfErr result (λ e. own_block_on address self.now.desk ≡ Err e) }
+    {
+        let place = (address as usize).saturating_sub(MODULE_START);
+        MODULE.block_size(&self.store, place)?;
+        if self.queue.is_message(&self.store, MODULE, place) {
+            return Err(Refusal::NotYours);
+        }
+        Ok(place)
+    }
+
+    /// Frees a block of the module area (OS_Module 7): NotABlock, NotYours.
     pub(crate) fn rma_free(&mut self, address: u32) -> Result<Reply, Refusal>
         requires { in_range (Command.RmaFree address) ≡ true }
         ensures { Gives (rma_free_on self.old.desk address) self.old self.new result }
     {
-        let place = (address as usize).saturating_sub(MODULE_START);
+        let place = self.own_block(address)?;
         MODULE.free(&mut self.store, place)?;
         Ok(Reply::Done)
     }
 
-    /// Changes the size of a block of the module area (OS_Module 13): NotABlock, BadSize, NoRoom.
+    /// Changes the size of a block of the module area (OS_Module 13): NotABlock, NotYours, BadSize, NoRoom.
     pub(crate) fn rma_resize(&mut self, address: u32, delta: i32) -> Result<Reply, Refusal>
         requires { in_range (Command.RmaResize address delta) ≡ true }
         ensures { Gives (rma_resize_on self.old.desk address delta) self.old self.new result }
     {
-        let place = (address as usize).saturating_sub(MODULE_START);
+        let place = self.own_block(address)?;
         let address = MODULE.resize(&mut self.store, place, delta)?;
         Ok(Reply::Block {
             address: (MODULE_START + address) as u32,

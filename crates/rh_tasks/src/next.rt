@@ -11,22 +11,18 @@ pub struct Next {
     pub handle: u64,
     /// The next made area's number.
     pub area: u32,
-    /// The next message's ref; 2^32 where all were given.
-    pub message: u64,
 }
 
 impl Next {
-    /// The numbers that a desk gives first, with this next handle and this next ref.
-    pub(crate) fn first(handle: u32, message: u32) -> Next
+    /// The numbers that a desk gives first, with this next handle.
+    pub(crate) fn first(handle: u32) -> Next
         ensures handle { result.handle ≡ handle }
         ensures area { result.area ≡ FIRST_MADE }
-        ensures message { result.message ≡ message }
-        ensures words { (handle < 2 ^ 32) × (message < 2 ^ 32) }
+        ensures word { handle < 2 ^ 32 }
     {
         Next {
             handle: u64::from(handle),
             area: FIRST_MADE,
-            message: u64::from(message),
         }
     }
 }

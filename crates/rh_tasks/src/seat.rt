@@ -1,6 +1,11 @@
 //! A live task, as the world keeps it.
 
-use rh_defs::{Handle, Manner, Name};
+ghost use Rattle.std.specs.Prelude.{◌≡◌, ◌||◌};
+ghost use Rattle.std.specs.List.{list_any};
+ghost use Rattle.rh_defs.specs.Records.{is_source, is_document, is_buffer_of};
+
+use rh_defs::{Anchor, Handle, Letter, Manner, Name, Ref};
+use rh_ram::{Receiver, Sender};
 use rh_slot::Slot;
 
 /// What the world keeps of a live task beside its slot's words.
@@ -13,4 +18,33 @@ pub struct Seat {
     pub manner: Manner,
     /// Where its slot's words are, and whether budging is on.
     pub slot: Slot,
+    /// The records of its transfers that go out.
+    pub sending: Sender,
+    /// The records of its transfers that come in.
+    pub taking: Receiver,
+    /// The last letter that it sent.
+    pub last_sent: Option<SentLetter>,
+}
+
+/// A letter that was sent, and the ref that it got.
+#[derive(Drop)]
+pub struct SentLetter {
+    pub letter: Letter,
+    pub my_ref: Ref,
+}
+
+impl Seat {
+    /// Whether the anchor's block is the source of an open transfer, or a document that grows.
+    pub fn is_busy_block(&self, anchor: Anchor) -> bool
+        ensures { result ≡ (list_any (is_source anchor) self.now.sending || list_any (is_document anchor) self.now.taking) }
+    {
+        self.sending.is_source(anchor) || self.taking.is_document(anchor)
+    }
+
+    /// Whether the block of the C heap at the address is a transfer's buffer.
+    pub fn is_busy_buffer(&self, address: u32) -> bool
+        ensures { result ≡ list_any (is_buffer_of address) self.now.taking }
+    {
+        self.taking.is_buffer_of(address)
+    }
 }

@@ -1,13 +1,16 @@
 //! The live tasks, by name.
 
-ghost use Rattle.std.specs.Prelude.{◌≡◌, IfOk, IfErr, Some, None};
-ghost use Rattle.std.specs.List.{list_any, position};
-ghost use Rattle.rh_tasks.specs.View.{is_named};
-ghost use Rattle.rh_tasks.specs.Finding.{Owns};
+ghost use Rattle.std.specs.Prelude.{◌≡◌, ◌<◌, IfOk, IfErr, Some, None, Err};
+ghost use Rattle.std.specs.List.{AllByRecursion, list_any, position};
+ghost use Rattle.rh_defs.specs.Memory.{Memory};
+ghost use Rattle.rh_defs.specs.Desk.{idle_block, idle_buffer};
+ghost use Rattle.rh_tasks.specs.View.{is_named, HasSlot};
+ghost use Rattle.rh_tasks.specs.Finding.{Owns, OwnsWith, looked};
 
 use crate::seat::Seat;
-use rh_defs::{Name, Refusal};
+use rh_defs::{Anchor, Name, Refusal};
 use rh_slot::Slot;
+use rh_store::Words;
 
 /// Whether a task has the name.
 pub fn is_name_in_use(seats: &Vec<Seat>, name: &Name) -> bool
@@ -40,5 +43,46 @@ pub fn slot_of(seats: &Vec<Seat>, name: &Name) -> Result<Slot, Refusal>
 {
     let i = find(seats, name)?;
     let seat = &seats[i];
+    Ok(seat.slot)
+}
+
+/// The slot of the task with the name, whose block at the anchor isn't busy: NoName, NoBlock, Busy.
+pub fn idle_slot<S: Words>(
+    store: &S,
+    seats: &Vec<Seat>,
+    name: &Name,
+    anchor: Anchor,
+) -> Result<Slot, Refusal>
+    requires anchor { anchor < 64 }
+    requires slots { AllByRecursion (HasSlot (S.memory store.now)) seats.now.items }
+    ensures ok { IfOk result (OwnsWith (idle_block anchor) (S.memory store.now) name.now seats.now.items) }
+    ensures err { IfErr result (λ e. looked (idle_block anchor) (S.memory store.now) name.now seats.now.items ≡ Err e) }
+{
+    let i = find(seats, name)?;
+    let seat = &seats[i];
+    seat.slot.size(store, anchor)?;
+    if seat.is_busy_block(anchor) {
+        return Err(Refusal::Busy);
+    }
+    Ok(seat.slot)
+}
+
+/// The slot of the task with the name, whose block of the C heap at the address isn't busy: NoName, NotABlock, Busy.
+pub fn idle_heap<S: Words>(
+    store: &S,
+    seats: &Vec<Seat>,
+    name: &Name,
+    address: u32,
+) -> Result<Slot, Refusal>
+    requires { AllByRecursion (HasSlot (S.memory store.now)) seats.now.items }
+    ensures ok { IfOk result (OwnsWith (idle_buffer address) (S.memory store.now) name.now seats.now.items) }
+    ensures err { IfErr result (λ e. looked (idle_buffer address) (S.memory store.now) name.now seats.now.items ≡ Err e) }
+{
+    let i = find(seats, name)?;
+    let seat = &seats[i];
+    seat.slot.block_size(store, address as usize)?;
+    if seat.is_busy_buffer(address) {
+        return Err(Refusal::Busy);
+    }
     Ok(seat.slot)
 }

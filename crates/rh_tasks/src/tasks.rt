@@ -4,12 +4,15 @@ ghost use Rattle.std.specs.Prelude.{◌≡◌, true, Ok, Err};
 ghost use Rattle.rh_defs.specs.declared.command.Command.TheVariants as Command;
 ghost use Rattle.rh_defs.specs.Range.{in_range};
 ghost use Rattle.rh_defs.specs.Commands.{start_task as start_on, kill as kill_on};
-ghost use Rattle.rh_tasks.specs.Answer.{Gives};
+ghost use Rattle.rh_tasks.specs.Answer.{Gives, GivesAlike};
 
+use crate::module_blocks::MODULE;
+use crate::scrap::kept_scrap;
 use crate::seat::Seat;
 use crate::seats::{find, is_name_in_use};
 use crate::world::World;
 use rh_defs::{Handle, Manner, Name, Refusal, Reply};
+use rh_ram::{Receiver, Sender};
 use rh_slot::Slot;
 use rh_store::Store;
 
@@ -44,19 +47,25 @@ impl<S: Store> World<S> {
             buffer,
             manner,
             slot,
+            sending: Sender::new(),
+            taking: Receiver::new(),
+            last_sent: None,
         });
+        self.queue.join(handle);
         self.next.handle += 1;
         Ok(Reply::Started(handle))
     }
 
-    /// Ends a task, whose slot's pages are free from then on: NoName.
+    /// Ends a task: its messages bounce or vanish, and its slot's pages are free from then on: NoName.
     pub(crate) fn kill(&mut self, name: &Name) -> Result<Reply, Refusal>
         requires { in_range (Command.Kill name.now) ≡ true }
-        ensures { Gives (kill_on self.old.desk name.now) self.old self.new result }
+        ensures { GivesAlike (kill_on self.old.desk name.now) self.old self.new result }
     {
         let i = find(&self.seats, name)?;
         let seat = self.seats.remove(i);
+        self.queue.bounce_for_death(&mut self.store, MODULE, seat.handle);
         seat.slot.end(&mut self.store);
+        self.scrap = kept_scrap(&self.store, &self.queue, self.scrap);
         Ok(Reply::Done)
     }
 }

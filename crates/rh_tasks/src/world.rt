@@ -5,21 +5,22 @@ ghost use Rattle.rh_defs.specs.Memory.{Memory, fresh, bytes};
 ghost use Rattle.rh_defs.specs.Range.{in_range};
 ghost use Rattle.rh_defs.specs.Known.{uses_post};
 ghost use Rattle.rh_defs.specs.Runs.{start, start_with};
-ghost use Rattle.rh_defs.specs.Step.{step};
 ghost use Rattle.rh_defs.specs.Laws.{IsDesk};
 ghost use Rattle.rh_tasks.specs.Shown.{IsSpelled, IsBalanced, HasApartBlocks};
-ghost use Rattle.rh_tasks.specs.Answer.{reply_of};
+ghost use Rattle.rh_tasks.specs.Answer.{StepsTo, reply_of};
 ghost use Rattle.rh_tasks.specs.Start.{IsFurnished};
 
 use crate::areas::FIXED_AREAS;
 use crate::made::{MOST_MADE, MadeArea};
 use crate::module_blocks::MODULE;
 use crate::next::Next;
+use crate::scrap::ScrapFile;
 use crate::seat::Seat;
 use crate::tasks::MOST_TASKS;
 use rh_defs::{Command, Files, Handle, Ref, Refusal, Reply};
 use rh_module::Module;
 use rh_store::Store;
+use rh_wimp::Queue;
 use std::alloc::{AllocError, Global};
 use std::marker::Model;
 
@@ -34,6 +35,9 @@ pub struct World<S: Store> {
     pub(crate) made: Vec<MadeArea>,
     pub(crate) files: Files,
     pub(crate) next: Next,
+    /// The messages, whose blocks are the module area's.
+    pub(crate) queue: Queue,
+    pub(crate) scrap: Option<ScrapFile>,
 }
 
 impl<S: Store> Model for World<S> {
@@ -42,11 +46,11 @@ impl<S: Store> Model for World<S> {
 
     ghost Value = { Shown };
 
-    ghost use Rattle.rh_tasks.specs.View.{shown_of, IsWorld};
+    ghost use Rattle.rh_tasks.specs.View.{kept_of, shown_of, IsWorld};
 
-    ghost view = { λ w. shown_of (S.memory w.store) w.seats.items w.made.items w.files w.next };
+    ghost view = { λ w. shown_of (S.memory w.store) w.seats.items w.made.items w.files (kept_of w.next w.queue w.scrap) };
 
-    ghost invariant = { λ w. IsWorld (S.memory w.store) w.seats.items w.made.items w.files w.next × (vec_capacity w.seats ≡ 32) × (vec_capacity w.made ≡ 32) };
+    ghost invariant = { λ w. IsWorld (S.memory w.store) w.seats.items w.made.items w.files (kept_of w.next w.queue w.scrap) × (vec_capacity w.seats ≡ 32) × (vec_capacity w.made ≡ 32) };
 }
 
 /// Opens areas 0 to 5 of a fresh store, and makes area 1, the module area, an empty heap of one page.
@@ -92,13 +96,16 @@ impl<S: Store + Drop> World<S> {
     {
         let seats = Vec::with_capacity(alloc, MOST_TASKS)?;
         let made = Vec::with_capacity(alloc, MOST_MADE)?;
+        let queue = Queue::with_next_ref(alloc, r)?;
         furnish(&mut store);
         Ok(World {
             store,
             seats,
             made,
             files,
-            next: Next::first(handle.0, r.0),
+            next: Next::first(handle.0),
+            queue,
+            scrap: None,
         })
     }
 }
@@ -115,11 +122,12 @@ impl<S: Store> World<S> {
         let _ = &self.store;
     }
 
-    /// Does one command, or answers the first of its refusals and changes nothing.
+    /// Does one command, or answers the first of its refusals and changes nothing. The order of messages to different
+    /// tasks isn't kept, so what is said of the desk is said of each that differs in that order alone.
     pub fn apply(&mut self, command: &Command) -> Reply
         requires ranged { in_range command.now ≡ true }
         requires known { uses_post command.now ≡ false }
-        ensures step { step self.old.desk command.now ≡ (self.new.desk, result) }
+        ensures steps { StepsTo command.now self.old.desk self.new.desk result }
         ensures spelled { IsSpelled self.new }
         ensures apart { HasApartBlocks self.new }
         ensures balanced { IsBalanced self.new }
@@ -133,7 +141,7 @@ impl<S: Store> World<S> {
     fn change(&mut self, command: &Command) -> Reply
         requires ranged { in_range command.now ≡ true }
         requires known { uses_post command.now ≡ false }
-        ensures { step self.old.desk command.now ≡ (self.new.desk, result) }
+        ensures { StepsTo command.now self.old.desk self.new.desk result }
     {
         match command {
             Command::Task {

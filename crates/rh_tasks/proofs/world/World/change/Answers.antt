@@ -1,15 +1,17 @@
 use Rattle.std.proofs.Common.{refl, w32}
 use Rattle.std.proofs.lemmas.Int.{to_z-of_z}
+use Rattle.rh_defs.specs.declared.command.Command.TheVariants as command
 use Rattle.rh_defs.specs.Chain.{or_else}
+use Rattle.rh_tasks.proofs.Reorders.{reordered-refl}
 use Rattle.rh_tasks.proofs.Ranges.{show-anchor, mid-fits, resize-fits, area-fits, rma_resize-fits}
-use Rattle.rh_tasks.proofs.Steps.{stepped}
+use Rattle.rh_tasks.proofs.Steps.{steps-from, stepped, stepped-alike}
 use Rattle.rh_tasks.proofs.world.World.change.Goals as goal
 
 pub returns-in-Task : goal.returns-in-Task
 returns-in-Task g c = rw (c.in-Task.is) (stepped _ _ _ _ _ c.start_task.ensures c.answer.ensures)
 
 pub returns-in-Kill : goal.returns-in-Kill
-returns-in-Kill g c = rw (c.in-Kill.is) (stepped _ _ _ _ _ c.kill.ensures c.answer-in-Kill.ensures)
+returns-in-Kill g c = rw (c.in-Kill.is) (stepped-alike _ _ _ _ _ c.kill.ensures c.answer-in-Kill.ensures)
 
 pub returns-in-Alloc : goal.returns-in-Alloc
 returns-in-Alloc g c = rw (c.in-Alloc.is) (stepped _ _ _ _ _ c.alloc.ensures c.answer-in-Alloc.ensures)
@@ -76,4 +78,4 @@ returns-in-Status g c = rw (c.in-Status.is) (stepped _ _ _ _ _ c.handle_of.ensur
 
 pub returns-in-Areas : goal.returns-in-Areas
 unfolding or_else
-returns-in-Areas g c = rw (c.in-Areas.is, c.free_pages.ensures) refl
+returns-in-Areas g c = rw (c.in-Areas.is, c.free_pages.ensures) (steps-from command.Areas _ _ _ refl (reordered-refl _))

@@ -33,7 +33,7 @@ returns-then-pages-made g c =
     rw (← c.self.view_is) (made-too-big c.self.invariant.0 c.args.number c.args.delta a h c.requires.high (sym e) c.if-pages-made.true, refl)
 
 pub set_pages-requires-clause-room : goal.set_pages-requires-clause-room
-set_pages-requires-clause-room g c = room-if _ _ _ _ (sym c.in_ok-pages.ensures)
+set_pages-requires-clause-room g c = room-if _ _ _ _ _ (sym c.in_ok-pages.ensures)
 
 pub invariant_of-self : goal.invariant_of-self
 invariant_of-self g c =

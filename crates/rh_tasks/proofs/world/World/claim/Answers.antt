@@ -3,7 +3,7 @@ use Rattle.std.proofs.lemmas.Result.{err_from_is_err_and}
 use Rattle.rh_defs.specs.declared.command.Command.TheVariants as command
 use Rattle.rh_defs.specs.Slot.{slot_claim}
 use Rattle.rh_defs.specs.Commands.{claim}
-use Rattle.rh_tasks.specs.View.{shown_of}
+use Rattle.rh_tasks.specs.View.{kept_of, shown_of}
 use Rattle.rh_tasks.proofs.Chains.{ends}
 use Rattle.rh_tasks.proofs.Finding.{nobody}
 use Rattle.rh_tasks.proofs.Moves.{owned}
@@ -22,7 +22,7 @@ pub returns-in_err-address : goal.returns-in_err-address
 unfolding claim
 returns-in_err-address g c =
     let p = err_from_is_err_and c.from_residual-in_err-address.result c.from_residual-in_err-address.ensures.1 in
-    let same = ap (λ m. shown_of m c.self.inside.seats.items c.self.inside.made.items c.self.inside.files c.self.inside.next) c.in_err-address.ensures.err in
+    let same = ap (λ m. shown_of m c.self.inside.seats.items c.self.inside.made.items c.self.inside.files (kept_of c.self.inside.next c.self.inside.queue c.self.inside.scrap)) c.in_err-address.ensures.err in
     rw (p.1, p.2, ← c.self.view_is) (placed-refused c.self.invariant.0 c.in_ok-slot.ensures.ok (λ free. slot_claim free c.args.size) c.in_err-address.ensures, same)
 
 pub overflow_cast-result : goal.overflow_cast-result

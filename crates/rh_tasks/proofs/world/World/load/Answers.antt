@@ -3,7 +3,7 @@ use Rattle.std.proofs.lemmas.Result.{err_from_is_err_and}
 use Rattle.rh_defs.specs.Slot.{slot_put}
 use Rattle.rh_defs.specs.Commands.{load}
 use Rattle.rh_slot.specs.Area.{slot_in}
-use Rattle.rh_tasks.specs.View.{shown_of}
+use Rattle.rh_tasks.specs.View.{kept_of, shown_of}
 use Rattle.rh_tasks.proofs.Chains.{ends}
 use Rattle.rh_tasks.proofs.Ranges.{load-anchor}
 use Rattle.rh_tasks.proofs.Finding.{nobody}
@@ -28,7 +28,7 @@ alloc-requires-clause-anchor g c = load-anchor c.args.name.now c.args.anchor c.a
 pub returns-in_err-address : goal.returns-in_err-address
 returns-in_err-address g c =
     let p = err_from_is_err_and c.from_residual-in_err-address.result c.from_residual-in_err-address.ensures.1 in
-    let same = ap (λ m. shown_of m c.self.inside.seats.items c.self.inside.made.items c.self.inside.files c.self.inside.next) c.in_err-address.ensures.err in
+    let same = ap (λ m. shown_of m c.self.inside.seats.items c.self.inside.made.items c.self.inside.files (kept_of c.self.inside.next c.self.inside.queue c.self.inside.scrap)) c.in_err-address.ensures.err in
     rw (p.1, p.2, ← c.self.view_is) (load-refused c.self.invariant.0 c.in_ok-slot.ensures.ok _ _ c.in-Some.bytes.now c.in-Some.ensures.value c.in_err-address.ensures, same)
 
 pub put-requires-clause-slot : goal.put-requires-clause-slot

@@ -3,20 +3,22 @@ use Rattle.std.proofs.lemmas.Int.{to_z-of_z}
 use Rattle.std.proofs.lemmas.Result.{err_from_is_err_and}
 use Rattle.rh_defs.specs.declared.command.Command.TheVariants as command
 use Rattle.rh_defs.specs.Slot.{slot_mid}
+use Rattle.rh_defs.specs.Desk.{idle_block}
 use Rattle.rh_defs.specs.Commands.{mid}
-use Rattle.rh_tasks.specs.View.{shown_of}
-use Rattle.rh_tasks.proofs.Chains.{ends}
+use Rattle.rh_tasks.specs.View.{kept_of, shown_of}
 use Rattle.rh_tasks.proofs.Ranges.{mid-anchor}
-use Rattle.rh_tasks.proofs.Finding.{nobody}
-use Rattle.rh_tasks.proofs.Calls.{looks-mid}
-use Rattle.rh_tasks.proofs.SlotCommands.{block-done, block-world, block-refused}
+use Rattle.rh_tasks.proofs.Calls.{not-idle}
+use Rattle.rh_tasks.proofs.SlotCommands.{same_slot, done_reply, block-done, block-world, block-refused}
 use Rattle.rh_tasks.proofs.world.World.mid.Goals as goal
 
 pub returns-in_err-slot : goal.returns-in_err-slot
 unfolding mid
 returns-in_err-slot g c =
     let p = err_from_is_err_and c.from_residual.result c.from_residual.ensures.1 in
-    rw (p.1, p.2, c.in_err-slot.ensures.err.0, ← c.self.view_is) (ends _ (nobody _ _ _ _ _ _ c.in_err-slot.ensures.err.1), refl)
+    rw (p.1, p.2, ← c.self.view_is) (not-idle _ _ _ _ _ _ (idle_block c.args.anchor) (λ free. slot_mid free c.args.anchor c.args.offset c.args.by) same_slot done_reply c.in_err-slot.ensures.err, refl)
+
+pub idle_slot-requires-clause-anchor : goal.idle_slot-requires-clause-anchor
+idle_slot-requires-clause-anchor g c = mid-anchor c.args.name.now c.args.anchor c.args.offset c.args.by c.requires
 
 pub mid-requires-clause-anchor : goal.mid-requires-clause-anchor
 mid-requires-clause-anchor g c = mid-anchor c.args.name.now c.args.anchor c.args.offset c.args.by c.requires
@@ -25,14 +27,14 @@ pub returns-in_err-mid : goal.returns-in_err-mid
 unfolding mid
 returns-in_err-mid g c =
     let p = err_from_is_err_and c.from_residual-in_err-mid.result c.from_residual-in_err-mid.ensures.1 in
-    let same = ap (λ m. shown_of m c.self.inside.seats.items c.self.inside.made.items c.self.inside.files c.self.inside.next) c.in_err-mid.ensures.err in
-    rw (p.1, p.2, ← c.self.view_is) (block-refused c.self.invariant.0 c.in_ok-slot.ensures.ok (λ free. slot_mid free c.args.anchor c.args.offset c.args.by) c.args.anchor (λ free. looks-mid free c.args.anchor c.args.offset c.args.by) (rw (to_z-of_z w32 c.args.by c.ranges.by) at c.in_err-mid.ensures), same)
+    let same = ap (λ m. shown_of m c.self.inside.seats.items c.self.inside.made.items c.self.inside.files (kept_of c.self.inside.next c.self.inside.queue c.self.inside.scrap)) c.in_err-mid.ensures.err in
+    rw (p.1, p.2, ← c.self.view_is) (block-refused c.self.invariant.0 c.in_ok-slot.ensures.ok.owns (λ free. slot_mid free c.args.anchor c.args.offset c.args.by) c.args.anchor c.in_ok-slot.ensures.ok.granted (rw (to_z-of_z w32 c.args.by c.ranges.by) at c.in_err-mid.ensures), same)
 
 pub invariant_of-self-2 : goal.invariant_of-self-2
 unfolding mid
 invariant_of-self-2 g c =
-    (block-world c.self.invariant.0 c.in_ok-slot.ensures.ok (λ free. slot_mid free c.args.anchor c.args.offset c.args.by) c.args.anchor (λ free. looks-mid free c.args.anchor c.args.offset c.args.by) (rw (to_z-of_z w32 c.args.by c.ranges.by) at c.in_ok-mid.ensures) (command.Mid c.args.name.now c.args.anchor c.args.offset c.args.by) refl c.requires, c.self.invariant.1, c.self.invariant.2)
+    (block-world c.self.invariant.0 c.in_ok-slot.ensures.ok.owns (λ free. slot_mid free c.args.anchor c.args.offset c.args.by) c.args.anchor c.in_ok-slot.ensures.ok.granted (rw (to_z-of_z w32 c.args.by c.ranges.by) at c.in_ok-mid.ensures) (command.Mid c.args.name.now c.args.anchor c.args.offset c.args.by) refl c.requires, c.self.invariant.1, c.self.invariant.2)
 
 pub returns : goal.returns
 unfolding mid
-returns g c = rw (← c.self.view_is) (block-done c.self.invariant.0 c.in_ok-slot.ensures.ok (λ free. slot_mid free c.args.anchor c.args.offset c.args.by) c.args.anchor (λ free. looks-mid free c.args.anchor c.args.offset c.args.by) (rw (to_z-of_z w32 c.args.by c.ranges.by) at c.in_ok-mid.ensures))
+returns g c = rw (← c.self.view_is) (block-done c.self.invariant.0 c.in_ok-slot.ensures.ok.owns (λ free. slot_mid free c.args.anchor c.args.offset c.args.by) c.args.anchor c.in_ok-slot.ensures.ok.granted (rw (to_z-of_z w32 c.args.by c.ranges.by) at c.in_ok-mid.ensures))

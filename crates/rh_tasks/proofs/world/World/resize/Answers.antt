@@ -3,41 +3,40 @@ use Rattle.std.proofs.lemmas.Int.{to_z-of_z}
 use Rattle.std.proofs.lemmas.Result.{err_from_is_err_and}
 use Rattle.rh_defs.specs.declared.command.Command.TheVariants as command
 use Rattle.rh_defs.specs.Slot.{slot_resize}
+use Rattle.rh_defs.specs.Desk.{idle_buffer}
 use Rattle.rh_defs.specs.Commands.{resize}
-use Rattle.rh_tasks.specs.View.{shown_of}
-use Rattle.rh_tasks.proofs.Chains.{ends}
-use Rattle.rh_tasks.proofs.Finding.{nobody}
+use Rattle.rh_tasks.specs.View.{kept_of, shown_of}
 use Rattle.rh_tasks.proofs.Moves.{owned}
 use Rattle.rh_tasks.proofs.Addresses.{grant-of, slot_resize-low}
 use Rattle.rh_tasks.proofs.Leaves.{granted}
-use Rattle.rh_tasks.proofs.Calls.{looks-resize}
-use Rattle.rh_tasks.proofs.SlotCommands.{moved-done, moved-world, moved-refused}
+use Rattle.rh_tasks.proofs.Calls.{not-idle}
+use Rattle.rh_tasks.proofs.SlotCommands.{placed_slot, placed_reply, moved-done, moved-world, moved-refused}
 use Rattle.rh_tasks.proofs.world.World.resize.Goals as goal
 
 pub returns-in_err-slot : goal.returns-in_err-slot
 unfolding resize
 returns-in_err-slot g c =
     let p = err_from_is_err_and c.from_residual.result c.from_residual.ensures.1 in
-    rw (p.1, p.2, c.in_err-slot.ensures.err.0, ← c.self.view_is) (ends _ (nobody _ _ _ _ _ _ c.in_err-slot.ensures.err.1), refl)
+    rw (p.1, p.2, ← c.self.view_is) (not-idle _ _ _ _ _ _ (idle_buffer c.args.address) (λ free. slot_resize free c.args.address c.args.delta) placed_slot placed_reply c.in_err-slot.ensures.err, refl)
 
 pub returns-in_err-address : goal.returns-in_err-address
 unfolding resize
 returns-in_err-address g c =
     let p = err_from_is_err_and c.from_residual-in_err-address.result c.from_residual-in_err-address.ensures.1 in
-    let same = ap (λ m. shown_of m c.self.inside.seats.items c.self.inside.made.items c.self.inside.files c.self.inside.next) c.in_err-address.ensures.err in
-    rw (p.1, p.2, ← c.self.view_is) (moved-refused c.self.invariant.0 c.in_ok-slot.ensures.ok (λ free. slot_resize free c.args.address c.args.delta) c.args.address (λ free. looks-resize free c.args.address c.args.delta) (rw (to_z-of_z w32 c.args.delta c.ranges.delta) at c.in_err-address.ensures), same)
+    let same = ap (λ m. shown_of m c.self.inside.seats.items c.self.inside.made.items c.self.inside.files (kept_of c.self.inside.next c.self.inside.queue c.self.inside.scrap)) c.in_err-address.ensures.err in
+    rw (p.1, p.2, ← c.self.view_is) (moved-refused c.self.invariant.0 c.in_ok-slot.ensures.ok.owns (λ free. slot_resize free c.args.address c.args.delta) c.args.address c.in_ok-slot.ensures.ok.granted (rw (to_z-of_z w32 c.args.delta c.ranges.delta) at c.in_err-address.ensures), same)
 
 pub overflow_cast-result : goal.overflow_cast-result
 overflow_cast-result g c =
-    let is = owned c.self.invariant.0 c.in_ok-slot.ensures.ok in
+    let is = owned c.self.invariant.0 c.in_ok-slot.ensures.ok.owns in
     let low = grant-of (slot_resize-low _ _ _ _) (granted (rw (to_z-of_z w32 c.args.delta c.ranges.delta) at c.in_ok-address.ensures)) in
     omega (arith, low, is.spells.words.within, is.spells.words.heap.within, is.spells.words.heap.heap.fits, g.met.S.Words.small c.self.inside.store c.in_ok-slot.slot.area.0)
 
 pub invariant_of-self-2 : goal.invariant_of-self-2
 unfolding resize
 invariant_of-self-2 g c =
-    (moved-world c.self.invariant.0 c.in_ok-slot.ensures.ok (λ free. slot_resize free c.args.address c.args.delta) c.args.address (λ free. looks-resize free c.args.address c.args.delta) (rw (to_z-of_z w32 c.args.delta c.ranges.delta) at c.in_ok-address.ensures) (command.Resize c.args.name.now c.args.address c.args.delta) refl c.requires, c.self.invariant.1, c.self.invariant.2)
+    (moved-world c.self.invariant.0 c.in_ok-slot.ensures.ok.owns (λ free. slot_resize free c.args.address c.args.delta) c.args.address c.in_ok-slot.ensures.ok.granted (rw (to_z-of_z w32 c.args.delta c.ranges.delta) at c.in_ok-address.ensures) (command.Resize c.args.name.now c.args.address c.args.delta) refl c.requires, c.self.invariant.1, c.self.invariant.2)
 
 pub returns : goal.returns
 unfolding resize
-returns g c = rw (← c.self.view_is) (moved-done c.self.invariant.0 c.in_ok-slot.ensures.ok (λ free. slot_resize free c.args.address c.args.delta) c.args.address (λ free. looks-resize free c.args.address c.args.delta) (rw (to_z-of_z w32 c.args.delta c.ranges.delta) at c.in_ok-address.ensures))
+returns g c = rw (← c.self.view_is) (moved-done c.self.invariant.0 c.in_ok-slot.ensures.ok.owns (λ free. slot_resize free c.args.address c.args.delta) c.args.address c.in_ok-slot.ensures.ok.granted (rw (to_z-of_z w32 c.args.delta c.ranges.delta) at c.in_ok-address.ensures))

@@ -1,6 +1,7 @@
 use Rattle.std.proofs.Common.{refl, ap, ◌∙◌, sym, arith}
 use Rattle.std.proofs.lemmas.Result.{err_from_is_err_and}
-use Rattle.rh_tasks.specs.View.{shown_of}
+use Rattle.rh_tasks.specs.View.{the_module, kept_of, shown_of}
+use Rattle.rh_tasks.proofs.Posts.{few-entries, new-handle}
 use Rattle.rh_tasks.proofs.Starts.{name-in-use, too-many, no-handles, can-open, no-room, start-done, start-world}
 use Rattle.rh_tasks.proofs.world.World.start_task.Goals as goal
 
@@ -30,20 +31,26 @@ start-requires g c =
 pub returns-in_err-slot : goal.returns-in_err-slot
 returns-in_err-slot g c =
     let p = err_from_is_err_and c.from_residual.result c.from_residual.ensures.1 in
-    let same = ap (λ m. shown_of m c.self.inside.seats.items c.self.inside.made.items c.self.inside.files c.self.inside.next) c.in_err-slot.ensures.err in
+    let same = ap (λ m. shown_of m c.self.inside.seats.items c.self.inside.made.items c.self.inside.files (kept_of c.self.inside.next c.self.inside.queue c.self.inside.scrap)) c.in_err-slot.ensures.err in
     rw (p.1, p.2, ← c.self.view_is) (
       no-room c.args.name.now c.args.buffer c.args.manner c.self.invariant.0 (sym c.is_name_in_use.ensures ∙ c.if-is_name_in_use.false)
           (omega (arith, c.if-len-ge-MOST_TASKS.false, c.self.inside.seats.ok)) (omega (arith, c.if-self-from.false, c.from.ensures)) c.in_err-slot.ensures.answer,
       same,
     )
 
+pub join-requires-clause-few : goal.join-requires-clause-few
+join-requires-clause-few g c = omega (arith, few-entries c.self.invariant.0, c.if-len-ge-MOST_TASKS.false, c.self.inside.seats.ok)
+
+pub join-requires-clause-new : goal.join-requires-clause-new
+join-requires-clause-new g c = new-handle c.self.invariant.0
+
 pub invariant_of-self-2 : goal.invariant_of-self-2
 invariant_of-self-2 g c =
     let e = c.in_ok-slot.ensures in
-    rw (c.push_reserved.ensures.items, c.push_reserved.ensures.capacity, c.copied.ensures) (
+    rw (c.push_reserved.ensures.items, c.push_reserved.ensures.capacity, c.copied.ensures, c.join.ensures.entries) (
       start-world c.args.name.now c.args.buffer c.args.manner c.self.invariant.0 (sym c.is_name_in_use.ensures ∙ c.if-is_name_in_use.false)
           (omega (arith, c.if-len-ge-MOST_TASKS.false, c.self.inside.seats.ok)) (omega (arith, c.if-self-from.false, c.from.ensures))
-          c.in_ok-slot.slot e.slot e.answer e.closed e.number e.only e.still c.requires,
+          c.in_ok-slot.slot e.slot e.answer e.closed e.number e.only e.still (c.join.ensures.still _ the_module) c.requires,
       c.self.invariant.1,
       c.self.invariant.2,
     )
@@ -51,7 +58,7 @@ invariant_of-self-2 g c =
 pub returns : goal.returns
 returns g c =
     let e = c.in_ok-slot.ensures in
-    rw (← c.self.view_is, c.push_reserved.ensures.items, c.copied.ensures) (
+    rw (← c.self.view_is, c.push_reserved.ensures.items, c.copied.ensures, c.join.ensures.entries) (
     start-done c.args.name.now c.args.buffer c.args.manner c.self.invariant.0 (sym c.is_name_in_use.ensures ∙ c.if-is_name_in_use.false)
     (omega (arith, c.if-len-ge-MOST_TASKS.false, c.self.inside.seats.ok)) (omega (arith, c.if-self-from.false, c.from.ensures))
     c.in_ok-slot.slot e.slot e.answer e.closed e.number e.only e.still

@@ -1,0 +1,100 @@
+-- Transfers that are given up.
+use Rattle.std.proofs.Common.{◌≡◌, ℕ, refl, ap, sym, subst, ◌∙◌, List}
+use Rattle.std.specs.Prelude.{Option, Ok, Err, true}
+use Rattle.std.proofs.Math.ListN.{set}
+use Rattle.rh_defs.specs.Memory.{Memory}
+use Rattle.rh_defs.proofs.MemoryLaws.{OnlyArea-self}
+use Rattle.rh_defs.specs.Files.{FileList}
+use Rattle.rh_defs.specs.declared.command.Command.TheVariants as command
+use Rattle.rh_defs.specs.declared.refusal.Refusal.{Refusal}
+use Rattle.rh_defs.specs.declared.reply.Reply.TheVariants as reply
+use Rattle.rh_defs.specs.declared.transfer.Outgoing.{Outgoing}
+use Rattle.rh_defs.specs.declared.transfer.Incoming.{Incoming}
+use Rattle.rh_defs.specs.Chain.{result_or}
+use Rattle.rh_defs.specs.Range.{in_range}
+use Rattle.rh_defs.specs.Sender as sender
+use Rattle.rh_defs.specs.Receiver as receiver
+use Rattle.rh_defs.specs.Desk.{Desk}
+use Rattle.rh_defs.specs.Step.{cancel_in, cancel_out}
+use Rattle.rh_slot.specs.Area.{IsSlot}
+use Rattle.rh_tasks.specs.declared.seat.Seat.{Seat}
+use Rattle.rh_tasks.specs.declared.made.MadeArea.{MadeArea}
+use Rattle.rh_tasks.specs.View.{Kept, HasSlot, task_of, desk_of, IsWorld}
+use Rattle.rh_tasks.specs.Finding.{Found}
+use Rattle.rh_tasks.proofs.Lists.{all-at, set_same}
+use Rattle.rh_tasks.proofs.Chains.{begins, ends, granted-same}
+use Rattle.rh_tasks.proofs.Finding.{sits, named-is}
+use Rattle.rh_tasks.proofs.Worlds.{granted-keeps}
+use Rattle.rh_tasks.proofs.Moves.{Moves, moved-desk, moved-world}
+
+module _ {m : Memory} {seats : List Seat} {made : List MadeArea} {files : FileList} {kept : Kept} {name : List ℕ} {i : ℕ} {s : Seat}
+    (w : IsWorld m seats made files kept) (f : Found name seats i s) where
+  abbrev d : Desk
+  d = desk_of m seats made files kept
+
+  has : IsSlot m s.slot
+  has = all-at (HasSlot m) seats i s w.areas.slots (sits f)
+
+  -- a seat that is written anew as it was
+  same-seat : (t : Seat) → t ≡ s → set seats i t ≡ seats
+  same-seat t e = ap (set seats i) e ∙ set_same seats i s (sits f)
+
+  -- ---- a transfer that comes in
+
+  module _ (records : List Incoming) where
+    abbrev pub taking_seat : Seat
+    taking_seat = record s { taking = records }
+
+    taking-moves : Moves m m s taking_seat (λ t. record t { taking = records })
+    unfolding task_of
+    taking-moves = record { handle = refl; area = refl; still = has; only = OnlyArea-self m s.slot.area.0 has.opened; task = refl }
+
+    module _ {id : Option ℕ} (given : receiver.cancel id s.taking ≡ Ok records) where
+      pub cancel_in-done : cancel_in d name id ≡ Ok (desk_of m (set seats i taking_seat) made files kept, reply.Done)
+      unfolding cancel_in task_of
+      cancel_in-done = begins _ (named-is m made files kept f) (begins _ given (granted-same (sym (moved-desk w (sits f) taking-moves)) refl))
+
+      pub cancel_in-world : in_range (command.CancelIn name id) ≡ true → IsWorld m (set seats i taking_seat) made files kept
+      cancel_in-world ranged = moved-world w (sits f) taking-moves (granted-keeps d _ (command.CancelIn name id) reply.Done cancel_in-done ranged w.desk)
+
+  -- where it is refused the records stay
+  module _ {id : Option ℕ} {r : Refusal} {records : List Incoming} (given : receiver.cancel id s.taking ≡ Err r) (is : records ≡ result_or s.taking (receiver.cancel id s.taking)) where
+    pub taking-stay : set seats i (taking_seat records) ≡ seats
+    taking-stay = same-seat (taking_seat records) (ap taking_seat (is ∙ ap (result_or s.taking) given))
+
+    pub taking-world : IsWorld m (set seats i (taking_seat records)) made files kept
+    taking-world = subst (λ (l : List Seat). IsWorld m l made files kept) (sym taking-stay) w
+
+  pub cancel_in-refused : {id : Option ℕ} {r : Refusal} → receiver.cancel id s.taking ≡ Err r → cancel_in d name id ≡ Err r
+  unfolding cancel_in task_of
+  cancel_in-refused e = begins _ (named-is m made files kept f) (ends _ e)
+
+  -- ---- a transfer that goes out
+
+  module _ (records : List Outgoing) where
+    abbrev pub sending_seat : Seat
+    sending_seat = record s { sending = records }
+
+    sending-moves : Moves m m s sending_seat (λ t. record t { sending = records })
+    unfolding task_of
+    sending-moves = record { handle = refl; area = refl; still = has; only = OnlyArea-self m s.slot.area.0 has.opened; task = refl }
+
+    module _ {id : Option ℕ} (given : sender.cancel id s.sending ≡ Ok records) where
+      pub cancel_out-done : cancel_out d name id ≡ Ok (desk_of m (set seats i sending_seat) made files kept, reply.Done)
+      unfolding cancel_out task_of
+      cancel_out-done = begins _ (named-is m made files kept f) (begins _ given (granted-same (sym (moved-desk w (sits f) sending-moves)) refl))
+
+      pub cancel_out-world : in_range (command.CancelOut name id) ≡ true → IsWorld m (set seats i sending_seat) made files kept
+      cancel_out-world ranged = moved-world w (sits f) sending-moves (granted-keeps d _ (command.CancelOut name id) reply.Done cancel_out-done ranged w.desk)
+
+  -- where it is refused the records stay
+  module _ {id : Option ℕ} {r : Refusal} {records : List Outgoing} (given : sender.cancel id s.sending ≡ Err r) (is : records ≡ result_or s.sending (sender.cancel id s.sending)) where
+    pub sending-stay : set seats i (sending_seat records) ≡ seats
+    sending-stay = same-seat (sending_seat records) (ap sending_seat (is ∙ ap (result_or s.sending) given))
+
+    pub sending-world : IsWorld m (set seats i (sending_seat records)) made files kept
+    sending-world = subst (λ (l : List Seat). IsWorld m l made files kept) (sym sending-stay) w
+
+  pub cancel_out-refused : {id : Option ℕ} {r : Refusal} → sender.cancel id s.sending ≡ Err r → cancel_out d name id ≡ Err r
+  unfolding cancel_out task_of
+  cancel_out-refused e = begins _ (named-is m made files kept f) (ends _ e)

@@ -1,0 +1,113 @@
+-- A world whose queue has changed, and beside it what is kept of one task.
+use Rattle.std.proofs.Common.{◌≡◌, ◌≢◌, ℕ, ◌+◌, ◌*◌, ◌/◌, ◌≤◌, refl, ap, sym, subst, ◌∙◌, arith, List, length}
+use Rattle.std.specs.Prelude.{map, Option}
+use Rattle.std.specs.List.{AllByRecursion}
+use Rattle.std.proofs.Math.ListN.{set}
+use Rattle.rh_defs.specs.Memory.{Memory, OnlyArea, bytes}
+use Rattle.rh_defs.specs.Pieces.{total}
+use Rattle.rh_defs.specs.Files.{FileList}
+use Rattle.rh_defs.specs.Post.{Post}
+use Rattle.rh_defs.specs.Desk.{Desk, Task, Made, Scrap, task_pages, used_pages, with_task}
+use Rattle.rh_defs.specs.Laws.{IsDesk}
+use Rattle.rh_defs.specs.Order.{IsReordered, with_queue}
+use Rattle.rh_wimp.specs.Calls.{Leaves}
+use Rattle.rh_wimp.specs.Chains.{Chains}
+use Rattle.rh_wimp.specs.PostIn.{post_in}
+use Rattle.rh_wimp.proofs.PostCalls.{IsRequeued, post_in-requeued}
+use Rattle.rh_tasks.specs.declared.seat.Seat.{Seat}
+use Rattle.rh_tasks.specs.declared.made.MadeArea.{MadeArea}
+use Rattle.rh_tasks.specs.declared.scrap.ScrapFile.{ScrapFile}
+use Rattle.rh_tasks.specs.View.{Kept, the_module, scrap_size, scrap_of, slot_area, made_area, Avoids, HasAreas, desk_of, task_of, made_of, fixed_pages, IsWorld}
+use Rattle.rh_tasks.proofs.Lists.{Sits, avoids-below}
+use Rattle.rh_tasks.proofs.Frames.{Stay, tasks-stay, mades-stay, scrap-stays, scrap-fits}
+use Rattle.rh_tasks.proofs.Worlds.{same-desk}
+use Rattle.rh_tasks.proofs.Posts.{smaller, is-post, module-length, end-is}
+use Rattle.rh_tasks.proofs.Fixed.{changed-areas, fixed-rest}
+use Rattle.rh_tasks.proofs.Moves.{Moves, moved-desk, moved-areas, moved-ledger}
+use Rattle.rh_tasks.proofs.Reorders.{desk-reordered}
+
+module _ {m n : Memory} {seats : List Seat} {made : List MadeArea} {files : FileList} {kept : Kept} {i : ℕ} {s t : Seat} {edit : Task → Task} {k : Chains} {next : Post → Post}
+    (w : IsWorld m seats made files kept) (at : Sits seats i s) (moves : Moves m m s t edit) (l : Leaves m n the_module kept.queue k next)
+    (scrap : Option ScrapFile) (fits : scrap_size scrap ≤ length (bytes m 5)) where
+  abbrev d : Desk
+  d = desk_of m seats made files kept
+
+  -- the seats, and what is kept
+  abbrev pub seats_then : List Seat
+  seats_then = set seats i t
+
+  abbrev pub then : Kept
+  then = record kept { queue = k; scrap = scrap }
+
+  abbrev pub post_then : Post
+  post_then = next (post_in m the_module kept.queue)
+
+  -- the desk but for the order of its messages
+  abbrev pub desk_then : Desk
+  desk_then = record (with_task s.handle edit d) { post = post_then; scrap = scrap_of m scrap }
+
+  abbrev now : Desk
+  now = desk_of n seats_then made files then
+
+  module-only : OnlyArea m n 1
+  module-only = l.only
+
+  beside : Stay m n 1
+  beside = record { others = module-only.others }
+
+  edited-areas : HasAreas m seats_then made
+  edited-areas = moved-areas w at moves
+
+  areas-then : HasAreas n seats_then made
+  areas-then = changed-areas edited-areas (omega arith) module-only l.still.area
+
+  tasks-are : map (task_of n) seats_then ≡ map (task_of m) seats_then
+  tasks-are = tasks-stay seats_then beside (avoids-below slot_area 6 1 seats_then (omega arith) edited-areas.slots_above)
+
+  made-are : map (made_of n) made ≡ map (made_of m) made
+  made-are = mades-stay made beside (avoids-below made_area 6 1 made (omega arith) w.areas.made_above)
+
+  not-scrap : 5 ≢ 1
+  not-scrap q = absurd (omega arith)
+
+  module _ (is : IsDesk desk_then) where
+    post-is : IsRequeued post_then (post_in n the_module k)
+    post-is = post_in-requeued n the_module k post_then (smaller w module-only) l.still.area (l.spells (post_in m the_module kept.queue) (is-post w)) is.post.held
+
+    edited : map (task_of m) seats_then ≡ (with_task s.handle edit d).tasks
+    edited = ap (λ (x : Desk). x.tasks) (moved-desk w at moves)
+
+    now-is : now ≡ with_queue (post_in n the_module k).queued desk_then
+    unfolding with_task
+    now-is = same-desk d (tasks-are ∙ edited) post-is.rest (fixed-rest beside) made-are module-only.pages (scrap-stays scrap beside not-scrap)
+
+    pub sent-alike : IsReordered desk_then now
+    sent-alike = record { same = post-is.same; rest = now-is }
+
+    is-desk : IsDesk now
+    is-desk = desk-reordered desk_then now sent-alike is
+
+    now-ledger : n.free + used_pages now ≡ n.pages
+    now-ledger =
+        omega (
+          arith,
+          moved-ledger w at moves,
+          module-only.ledger,
+          module-only.pages,
+          module-length w,
+          end-is n k,
+          l.still.area.spells.whole,
+          is-desk.post.heap.whole,
+          ap (total task_pages) tasks-are,
+          ap (total (λ x. x)) (fixed-rest beside),
+          ap (total (λ (x : Made). x.pages)) made-are,
+        )
+
+    pub sent-world : IsWorld n seats_then made files then
+    sent-world = record {
+      desk = is-desk;
+      areas = areas-then;
+      queue = l.still;
+      scrap = scrap-fits scrap beside not-scrap fits;
+      ledger = now-ledger;
+    }

@@ -1,0 +1,38 @@
+//! The scrap file.
+
+ghost use Rattle.std.specs.Prelude.{◌≡◌};
+ghost use Rattle.rh_defs.specs.Memory.{Memory};
+ghost use Rattle.rh_defs.specs.Post.{Post};
+ghost use Rattle.rh_wimp.specs.Calls.{IsQueue};
+ghost use Rattle.rh_wimp.specs.Chains.{SpellsPost};
+ghost use Rattle.rh_tasks.specs.View.{the_module, kept_file};
+
+use crate::module_blocks::MODULE;
+use rh_defs::Ref;
+use rh_store::Words;
+use rh_wimp::Queue;
+
+/// The scrap file, whose bytes are the first of area 5.
+#[derive(Clone, Copy, Debug, PartialEq, Eq)]
+pub struct ScrapFile {
+    /// The ref of its DataLoad.
+    pub load: Ref,
+    /// Its length in bytes.
+    pub size: u32,
+}
+
+/// The scrap file, while its DataLoad is queued or held.
+pub fn kept_scrap<S: Words>(
+    store: &S,
+    queue: &Queue,
+    scrap: Option<ScrapFile>,
+) -> Option<ScrapFile>
+    requires { IsQueue (S.memory store.now) the_module queue.now }
+    ensures { (post : Post) → SpellsPost (S.memory store.now) the_module queue.now post → result ≡ kept_file post scrap }
+{
+    let file = scrap?;
+    if !queue.is_live(store, MODULE, file.load) {
+        return None;
+    }
+    Some(file)
+}

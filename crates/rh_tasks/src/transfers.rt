@@ -1,0 +1,36 @@
+//! Transfers that are given up.
+
+ghost use Rattle.std.specs.Prelude.{◌≡◌, true, Ok, Err};
+ghost use Rattle.rh_defs.specs.declared.command.Command.TheVariants as Command;
+ghost use Rattle.rh_defs.specs.Range.{in_range};
+ghost use Rattle.rh_defs.specs.Step.{cancel_in as cancel_in_on, cancel_out as cancel_out_on};
+ghost use Rattle.rh_tasks.specs.Answer.{Gives};
+
+use crate::seats::find;
+use crate::world::World;
+use rh_defs::{Name, Ref, Refusal, Reply};
+use rh_store::Store;
+
+impl<S: Store> World<S> {
+    /// Gives up a transfer that comes in: the one with the id, without one the first. NoName, NotOpen.
+    pub(crate) fn cancel_in(&mut self, name: &Name, id: Option<Ref>) -> Result<Reply, Refusal>
+        requires { in_range (Command.CancelIn name.now id) ≡ true }
+        ensures { Gives (cancel_in_on self.old.desk name.now id) self.old self.new result }
+    {
+        let i = find(&self.seats, name)?;
+        let seat = &mut self.seats[i];
+        seat.taking.cancel(id)?;
+        Ok(Reply::Done)
+    }
+
+    /// Gives up a transfer that goes out: the one with the id, without one the first. NoName, NotOpen.
+    pub(crate) fn cancel_out(&mut self, name: &Name, id: Option<Ref>) -> Result<Reply, Refusal>
+        requires { in_range (Command.CancelOut name.now id) ≡ true }
+        ensures { Gives (cancel_out_on self.old.desk name.now id) self.old self.new result }
+    {
+        let i = find(&self.seats, name)?;
+        let seat = &mut self.seats[i];
+        seat.sending.cancel(id)?;
+        Ok(Reply::Done)
+    }
+}
