@@ -1,5 +1,5 @@
 -- Areas that get longer or shorter by whole pages.
-use Rattle.std.proofs.Common.{◌≡◌, ◌≢◌, ℕ, ◌+◌, ◌-◌, ◌*◌, ◌/◌, ◌%◌, ◌<◌, ◌≤◌, Bool, true, false, cond, inl, inr, refl, ap, subst, sym, ◌∙◌, arith, List, length}
+use Rattle.std.proofs.Common.{◌≡◌, ◌≢◌, ℕ, ◌+◌, ◌-◌, ◌*◌, ◌/◌, ◌%◌, ◌<◌, ◌≤◌, Bool, true, false, inl, inr, refl, ap, subst, sym, ◌∙◌, arith, List, length}
 use Rattle.std.specs.Prelude.{ℤ, pos, negsuc, map, Ok, Err, Option, Some, None, nat_lt, ◌==◌, slice_set, slice_index}
 use Rattle.std.proofs.lemmas.Bool.{cases_eq}
 use Rattle.std.proofs.lemmas.List.{length-take}
@@ -108,13 +108,6 @@ file-length m (Some file) fits = length-take file.size (bytes m 5) ∙ omega (ar
 
 -- what an area keeps at least, as the desk's definition has it
 module _ (d : Desk) where
-  pub least-none : (k : ℕ) → d.scrap ≡ None → least_length k d ≡ 0
-  least-none k e = rw e (both (k == 5) 0)
-    where
-      both : (b : Bool) (n : ℕ) → cond b n n ≡ n
-      both true n = refl
-      both false n = refl
-
   pub least-other : (k : ℕ) → k ≢ 5 → least_length k d ≡ 0
   least-other k ne = if_apart k 5 _ _ ne
 

@@ -49,7 +49,7 @@ module _ {m : Memory} {seats : List Seat} {made : List MadeArea} {files : FileLi
     unfolding task_of
     taking-moves = record { handle = refl; area = refl; still = has; only = OnlyArea-self m s.slot.area.0 has.opened; task = refl }
 
-    module _ {id : Option ℕ} (given : receiver.cancel id s.taking ≡ Ok records) where
+    module _ (id : Option ℕ) (given : receiver.cancel id s.taking ≡ Ok records) where
       pub cancel_in-done : cancel_in d name id ≡ Ok (desk_of m (set seats i taking_seat) made files kept, reply.Done)
       unfolding cancel_in task_of
       cancel_in-done = begins _ (named-is m made files kept f) (begins _ given (granted-same (sym (moved-desk w (sits f) taking-moves)) refl))
@@ -58,16 +58,16 @@ module _ {m : Memory} {seats : List Seat} {made : List MadeArea} {files : FileLi
       cancel_in-world ranged = moved-world w (sits f) taking-moves (granted-keeps d _ (command.CancelIn name id) reply.Done cancel_in-done ranged w.desk)
 
   -- where it is refused the records stay
-  module _ {id : Option ℕ} {r : Refusal} {records : List Incoming} (given : receiver.cancel id s.taking ≡ Err r) (is : records ≡ result_or s.taking (receiver.cancel id s.taking)) where
+  module _ (id : Option ℕ) {r : Refusal} {records : List Incoming} (given : receiver.cancel id s.taking ≡ Err r) (is : records ≡ result_or s.taking (receiver.cancel id s.taking)) where
     pub taking-stay : set seats i (taking_seat records) ≡ seats
     taking-stay = same-seat (taking_seat records) (ap taking_seat (is ∙ ap (result_or s.taking) given))
 
     pub taking-world : IsWorld m (set seats i (taking_seat records)) made files kept
     taking-world = subst (λ (l : List Seat). IsWorld m l made files kept) (sym taking-stay) w
 
-  pub cancel_in-refused : {id : Option ℕ} {r : Refusal} → receiver.cancel id s.taking ≡ Err r → cancel_in d name id ≡ Err r
+  pub cancel_in-refused : (id : Option ℕ) {r : Refusal} → receiver.cancel id s.taking ≡ Err r → cancel_in d name id ≡ Err r
   unfolding cancel_in task_of
-  cancel_in-refused e = begins _ (named-is m made files kept f) (ends _ e)
+  cancel_in-refused id e = begins _ (named-is m made files kept f) (ends _ e)
 
   -- ---- a transfer that goes out
 
@@ -79,7 +79,7 @@ module _ {m : Memory} {seats : List Seat} {made : List MadeArea} {files : FileLi
     unfolding task_of
     sending-moves = record { handle = refl; area = refl; still = has; only = OnlyArea-self m s.slot.area.0 has.opened; task = refl }
 
-    module _ {id : Option ℕ} (given : sender.cancel id s.sending ≡ Ok records) where
+    module _ (id : Option ℕ) (given : sender.cancel id s.sending ≡ Ok records) where
       pub cancel_out-done : cancel_out d name id ≡ Ok (desk_of m (set seats i sending_seat) made files kept, reply.Done)
       unfolding cancel_out task_of
       cancel_out-done = begins _ (named-is m made files kept f) (begins _ given (granted-same (sym (moved-desk w (sits f) sending-moves)) refl))
@@ -88,13 +88,13 @@ module _ {m : Memory} {seats : List Seat} {made : List MadeArea} {files : FileLi
       cancel_out-world ranged = moved-world w (sits f) sending-moves (granted-keeps d _ (command.CancelOut name id) reply.Done cancel_out-done ranged w.desk)
 
   -- where it is refused the records stay
-  module _ {id : Option ℕ} {r : Refusal} {records : List Outgoing} (given : sender.cancel id s.sending ≡ Err r) (is : records ≡ result_or s.sending (sender.cancel id s.sending)) where
+  module _ (id : Option ℕ) {r : Refusal} {records : List Outgoing} (given : sender.cancel id s.sending ≡ Err r) (is : records ≡ result_or s.sending (sender.cancel id s.sending)) where
     pub sending-stay : set seats i (sending_seat records) ≡ seats
     sending-stay = same-seat (sending_seat records) (ap sending_seat (is ∙ ap (result_or s.sending) given))
 
     pub sending-world : IsWorld m (set seats i (sending_seat records)) made files kept
     sending-world = subst (λ (l : List Seat). IsWorld m l made files kept) (sym sending-stay) w
 
-  pub cancel_out-refused : {id : Option ℕ} {r : Refusal} → sender.cancel id s.sending ≡ Err r → cancel_out d name id ≡ Err r
+  pub cancel_out-refused : (id : Option ℕ) {r : Refusal} → sender.cancel id s.sending ≡ Err r → cancel_out d name id ≡ Err r
   unfolding cancel_out task_of
-  cancel_out-refused e = begins _ (named-is m made files kept f) (ends _ e)
+  cancel_out-refused id e = begins _ (named-is m made files kept f) (ends _ e)

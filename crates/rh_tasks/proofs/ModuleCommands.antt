@@ -10,8 +10,8 @@ use Rattle.rh_defs.specs.declared.refusal.Refusal.TheVariants.{NotABlock, NotYou
 use Rattle.rh_defs.specs.declared.reply.Reply.{Reply}
 use Rattle.rh_defs.specs.Blocks.{SameShape}
 use Rattle.rh_defs.specs.Chain.{Granted, ◌>>=◌, ◌>>◌, refuse_if, found_or, answer_of, left_of, no_answer}
-use Rattle.rh_defs.specs.Pieces.{Split}
-use Rattle.rh_defs.specs.Heap.{Heap, Segment, block_at, block_size, first_at, is_block_at, size_of}
+use Rattle.rh_defs.specs.Pieces.{Split, first_at}
+use Rattle.rh_defs.specs.Heap.{Heap, Segment, block_at, block_size, is_block_at, size_of}
 use Rattle.rh_defs.proofs.ShapeLaws.{blank_cut, block-blank}
 use Rattle.rh_defs.specs.Module.{module_claim, module_free, module_resize, module_change}
 use Rattle.rh_defs.specs.Range.{in_range}

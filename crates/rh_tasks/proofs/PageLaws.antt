@@ -1,5 +1,5 @@
 -- An area's pages after it grew or shrank.
-use Rattle.std.proofs.Common.{◌≡◌, ℕ, ◌+◌, ◌-◌, ◌/◌, ◌%◌, ◌<◌, ◌≤◌, refl, ap, sym, subst, ◌∙◌, arith, List, length}
+use Rattle.std.proofs.Common.{◌≡◌, ℕ, ◌+◌, ◌-◌, ◌*◌, ◌/◌, ◌%◌, ◌<◌, ◌≤◌, refl, ap, sym, subst, ◌∙◌, arith, List, length}
 use Rattle.std.proofs.lemmas.List.{length-take, take-append-drop, take-append-le}
 use Rattle.std.specs.Prelude.{take, drop, replicate, Bool, true, false, Result, Ok, Err, IsOk, IsErr, IsTrue, ◌↔◌}
 use Rattle.rh_defs.specs.Memory.{Memory, OnlyArea, bytes, grown, shrunk}

@@ -67,9 +67,6 @@ module _ {m n : Memory} {seats : List Seat} {made : List MadeArea} {files : File
   made-are : map (made_of n) made ≡ map (made_of m) made
   made-are = mades-stay made beside (avoids-below made_area 6 1 made (omega arith) w.areas.made_above)
 
-  not-scrap : 5 ≢ 1
-  not-scrap q = absurd (omega arith)
-
   module _ (is : IsDesk desk_then) where
     post-is : IsRequeued post_then (post_in n the_module k)
     post-is = post_in-requeued n the_module k post_then (smaller w module-only) l.still.area (l.spells (post_in m the_module kept.queue) (is-post w)) is.post.held
@@ -79,7 +76,7 @@ module _ {m n : Memory} {seats : List Seat} {made : List MadeArea} {files : File
 
     now-is : now ≡ with_queue (post_in n the_module k).queued desk_then
     unfolding with_task
-    now-is = same-desk d (tasks-are ∙ edited) post-is.rest (fixed-rest beside) made-are module-only.pages (scrap-stays scrap beside not-scrap)
+    now-is = same-desk d (tasks-are ∙ edited) post-is.rest (fixed-rest beside) made-are module-only.pages (scrap-stays scrap beside (λ q. absurd (omega arith)))
 
     pub sent-alike : IsReordered desk_then now
     sent-alike = record { same = post-is.same; rest = now-is }
@@ -108,6 +105,6 @@ module _ {m n : Memory} {seats : List Seat} {made : List MadeArea} {files : File
       desk = is-desk;
       areas = areas-then;
       queue = l.still;
-      scrap = scrap-fits scrap beside not-scrap fits;
+      scrap = scrap-fits scrap beside (λ q. absurd (omega arith)) fits;
       ledger = now-ledger;
     }

@@ -27,20 +27,20 @@ unfolding or_else
 equal-steps granted old new (Ok answer) said h s = rw (h, s) refl
 equal-steps granted old new (Err refusal) said h s = rw (h.0, h.1, s) refl
 
-pub stepped : (c : Command) (old new : Shown) (result : Result Reply Refusal) (said : Reply) → Gives (change old.desk c) old new result → said ≡ reply_of result
-    → StepsTo c old.desk new.desk said
-stepped c old new result said h s =
-    let e = equal-steps (change old.desk c) old new result said h s in
+pub stepped : (c : Command) (granted : Granted Answer) (old new : Shown) (result : Result Reply Refusal) (said : Reply) → change old.desk c ≡ granted
+    → Gives granted old new result → said ≡ reply_of result → StepsTo c old.desk new.desk said
+stepped c granted old new result said same h s =
+    let e = ap (λ (g : Granted Answer). or_else g (λ refusal. (old.desk, reply.Refused refusal))) same ∙ equal-steps granted old new result said h s in
     steps-from c old.desk new.desk said (ap (λ (p : Answer). p.1) e) (subst (IsReordered (step old.desk c).0) (ap (λ (p : Answer). p.0) e) (reordered-refl (step old.desk c).0))
 
-pub stepped-alike : (c : Command) (old new : Shown) (result : Result Reply Refusal) (said : Reply) → GivesAlike (change old.desk c) old new result → said ≡ reply_of result
-    → StepsTo c old.desk new.desk said
+pub stepped-alike : (c : Command) (granted : Granted Answer) (old new : Shown) (result : Result Reply Refusal) (said : Reply) → change old.desk c ≡ granted
+    → GivesAlike granted old new result → said ≡ reply_of result → StepsTo c old.desk new.desk said
 unfolding or_else
-stepped-alike c old new (Ok answer) said h s =
-    let e = ap (λ (g : Granted Answer). or_else g (λ refusal. (old.desk, reply.Refused refusal))) h.1.0 in
+stepped-alike c granted old new (Ok answer) said given h s =
+    let e = ap (λ (g : Granted Answer). or_else g (λ refusal. (old.desk, reply.Refused refusal))) (given ∙ h.1.0) in
     steps-from c old.desk new.desk said (ap (λ (p : Answer). p.1) e ∙ sym s) (subst (λ d. IsReordered d new.desk) (sym (ap (λ (p : Answer). p.0) e)) h.1.1)
-stepped-alike c old new (Err refusal) said h s =
-    let e = ap (λ (g : Granted Answer). or_else g (λ r. (old.desk, reply.Refused r))) h.0 in
+stepped-alike c granted old new (Err refusal) said given h s =
+    let e = ap (λ (g : Granted Answer). or_else g (λ r. (old.desk, reply.Refused r))) (given ∙ h.0) in
     let same : new.desk ≡ old.desk = ap (λ (x : Shown). x.desk) h.1 in
     steps-from c old.desk new.desk said (ap (λ (p : Answer). p.1) e ∙ sym s)
     (subst (IsReordered (step old.desk c).0) (ap (λ (p : Answer). p.0) e ∙ sym same) (reordered-refl (step old.desk c).0))

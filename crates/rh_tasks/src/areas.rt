@@ -11,6 +11,7 @@ ghost use Rattle.rh_tasks.specs.View.{pages_at};
 
 use crate::made::find_made;
 use crate::module_blocks::MODULE;
+use crate::scrap::scrap_size;
 use crate::world::World;
 use rh_defs::sizes::PAGE;
 use rh_defs::{Refusal, Reply};
@@ -100,13 +101,10 @@ impl<S: Store> World<S> {
     fn least_length(&self, number: u32) -> u32
         ensures { result ≡ least_length_on number self.now.desk }
     {
-        let Some(file) = self.scrap else {
-            return 0;
-        };
         if number != SCRAP_AREA {
             return 0;
         }
-        file.size
+        scrap_size(self.scrap)
     }
 
     fn change_module(&mut self, delta: i32) -> Result<Reply, Refusal>

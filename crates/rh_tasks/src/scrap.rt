@@ -5,7 +5,7 @@ ghost use Rattle.rh_defs.specs.Memory.{Memory};
 ghost use Rattle.rh_defs.specs.Post.{Post};
 ghost use Rattle.rh_wimp.specs.Calls.{IsQueue};
 ghost use Rattle.rh_wimp.specs.Chains.{SpellsPost};
-ghost use Rattle.rh_tasks.specs.View.{the_module, kept_file};
+ghost use Rattle.rh_tasks.specs.View.{the_module, kept_file, scrap_size as scrap_size_of};
 
 use crate::module_blocks::MODULE;
 use rh_defs::Ref;
@@ -19,6 +19,16 @@ pub struct ScrapFile {
     pub load: Ref,
     /// Its length in bytes.
     pub size: u32,
+}
+
+/// The length of the scrap file in bytes, 0 where there is none.
+pub fn scrap_size(scrap: Option<ScrapFile>) -> u32
+    ensures { result ≡ scrap_size_of scrap }
+{
+    match scrap {
+        Some(file) => file.size,
+        None => 0,
+    }
 }
 
 /// The scrap file, while its DataLoad is queued or held.

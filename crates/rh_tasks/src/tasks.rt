@@ -41,14 +41,16 @@ impl<S: Store> World<S> {
         }
         let slot = Slot::start(&mut self.store)?;
         let handle = Handle(self.next.handle as u32);
+        let sending = Sender::new();
+        let taking = Receiver::new();
         self.seats.push_reserved(Seat {
             handle,
             name: name.copied(),
             buffer,
             manner,
             slot,
-            sending: Sender::new(),
-            taking: Receiver::new(),
+            sending,
+            taking,
             last_sent: None,
         });
         self.queue.join(handle);

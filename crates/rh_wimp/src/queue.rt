@@ -1,5 +1,5 @@
 //! The queue of messages: a chain of blocks for each live task.
-ghost use Rattle.std.specs.Prelude.{◌≡◌, ◌<◌, [], ◌∷◌, ◌++◌, IfOk, length};
+ghost use Rattle.std.specs.Prelude.{◌≡◌, ◌<◌, ◌^◌, [], ◌∷◌, ◌++◌, IfOk, length};
 ghost use Rattle.rh_defs.specs.Heap.{Heap};
 ghost use Rattle.rh_defs.specs.Memory.{Memory};
 ghost use Rattle.rh_defs.specs.Post.{Post, post_join};
@@ -52,6 +52,7 @@ impl Queue {
 
     /// An empty queue whose next ref is this one.
     pub fn with_next_ref(alloc: Global, next_ref: Ref) -> Result<Queue, AllocError>
+        ensures word { next_ref < 2 ^ 32 }
         ensures value { IfOk result (λ queue. queue ≡ record { entries = []; live = 0; next_ref = next_ref }) }
         ensures starts { IfOk result (λ queue. (m : Memory) (rma : Module) → IsModule m rma → IsQueue m rma queue) }
     {

@@ -1,17 +1,17 @@
-use Rattle.std.proofs.Common.{refl, sym, w32}
+use Rattle.std.proofs.Common.{refl, sym, arith, w32}
 use Rattle.std.proofs.lemmas.Int.{to_z-of_z}
 use Rattle.rh_tasks.specs.View.{pages_at}
 use Rattle.rh_tasks.proofs.PageLaws.{lacking}
 use Rattle.rh_tasks.proofs.AreaCommands.{after-more, after-full, after-less, after-short}
 use Rattle.rh_tasks.proofs.areas.pages_after.Goals as goal
 
-pub returns-then-now-PAGE : goal.returns-then-now-PAGE
+pub returns-then-now-least : goal.returns-then-now-least
 unfolding pages_at
-returns-then-now-PAGE g c =
+returns-then-now-least g c =
     let z = to_z-of_z w32 c.args.delta c.ranges.delta in
     let down = rw z at c.if-delta-lt0.true in
     let more = rw z at c.pages_of-more.ensures in
-    sym (after-short _ _ _ c.pages_of-more.result c.args.delta down more (rw c.len-now.ensures at c.if-now-more.true))
+    sym (after-short _ _ _ c.pages_of-more.result c.args.delta down more (omega (arith, c.if-now-least.true, c.len-now.ensures)))
 
 pub returns-then-delta-lt0 : goal.returns-then-delta-lt0
 unfolding pages_at
@@ -19,7 +19,7 @@ returns-then-delta-lt0 g c =
     let z = to_z-of_z w32 c.args.delta c.ranges.delta in
     let down = rw z at c.if-delta-lt0.true in
     let more = rw z at c.pages_of-more.ensures in
-    rw c.len-now.ensures (sym (after-less _ _ _ c.pages_of-more.result c.args.delta down more (rw c.len-now.ensures at c.if-now-more.false)))
+    rw c.len-now.ensures (sym (after-less _ _ _ c.pages_of-more.result c.args.delta down more (omega (arith, c.if-now-least.false, c.len-now.ensures))))
 
 pub returns-then-not-grow_check : goal.returns-then-not-grow_check
 unfolding pages_at

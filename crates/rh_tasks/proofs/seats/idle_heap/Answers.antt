@@ -13,30 +13,30 @@ returns-in_err-i-clause-err g c =
     let p = err_from_is_err_and c.from_residual.result c.from_residual.ensures.1 in
     rw (p.1, p.2, c.in_err-i.ensures.err.0) (looked-none (idle_buffer c.args.address) _ _ _ c.in_err-i.ensures.err.1)
 
-pub block_size-requires-clause-slot : goal.block_size-requires-clause-slot
-block_size-requires-clause-slot g c =
-    let m = g.S.memory c.args.store.now in
+pub block_size-requires : goal.block_size-requires
+block_size-requires g c =
+    let m = g.S.Words.memory c.args.store.now in
     let f : Found c.args.name.now c.args.seats.now.items c.in_ok-i.i c.index-seat.result.now = record { at = c.in_ok-i.ensures.ok; is = sym c.index-seat.ensures } in
-    all-at (HasSlot m) c.args.seats.now.items c.in_ok-i.i c.index-seat.result.now c.requires (sits f)
+    record { slot = all-at (HasSlot m) c.args.seats.now.items c.in_ok-i.i c.index-seat.result.now c.requires (sits f) }
 
 pub returns-in_err-block_size-clause-err : goal.returns-in_err-block_size-clause-err
 returns-in_err-block_size-clause-err g c =
     let p = err_from_is_err_and c.from_residual-in_err-block_size.result c.from_residual-in_err-block_size.ensures.1 in
-    let m = g.S.memory c.args.store.now in
+    let m = g.S.Words.memory c.args.store.now in
     let s = c.index-seat.result.now in
     let f : Found c.args.name.now c.args.seats.now.items c.in_ok-i.i s = record { at = c.in_ok-i.ensures.ok; is = sym c.index-seat.ensures } in
     rw (p.1, p.2) (looked-at (idle_buffer c.args.address) m f (buffer-missing m s c.args.address c.in_err-block_size.ensures))
 
 pub returns-then-is_busy_buffer-clause-err : goal.returns-then-is_busy_buffer-clause-err
 returns-then-is_busy_buffer-clause-err g c =
-    let m = g.S.memory c.args.store.now in
+    let m = g.S.Words.memory c.args.store.now in
     let s = c.index-seat.result.now in
     let f : Found c.args.name.now c.args.seats.now.items c.in_ok-i.i s = record { at = c.in_ok-i.ensures.ok; is = sym c.index-seat.ensures } in
     looked-at (idle_buffer c.args.address) m f (buffer-busy m s c.args.address c.in_ok-block_size.ensures (sym c.is_busy_buffer.ensures ∙ c.if-is_busy_buffer.true))
 
 pub returns-clause-ok : goal.returns-clause-ok
 returns-clause-ok g c =
-    let m = g.S.memory c.args.store.now in
+    let m = g.S.Words.memory c.args.store.now in
     let s = c.index-seat.result.now in record {
       owns = record { place = c.in_ok-i.i; seat = s; found = record { at = c.in_ok-i.ensures.ok; is = sym c.index-seat.ensures }; slot_is = refl };
       granted = buffer-idle m s c.args.address c.in_ok-block_size.ensures (sym c.is_busy_buffer.ensures ∙ c.if-is_busy_buffer.false);

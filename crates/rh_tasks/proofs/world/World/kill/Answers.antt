@@ -32,8 +32,8 @@ end-requires g c =
     let low = g.met.S.Store.numbered c.self.inside.store c.remove-seat.result.slot.area.0 has.opened in
     slot-open c.self.invariant.0 f low c.bounce_for_death.ensures.leaves
 
-pub kept_scrap-requires : goal.kept_scrap-requires
-kept_scrap-requires g c =
+pub kept_scrap-self-inside-requires : goal.kept_scrap-self-inside-requires
+kept_scrap-self-inside-requires g c =
     let m = g.S.Words.memory c.self.inside.store in
     let f : Found c.args.name.now c.self.inside.seats.items c.in_ok-i.i c.remove-seat.result = record { at = c.in_ok-i.ensures.ok; is = sym c.remove-seat.ensures.value } in
     let has = all-at (HasSlot m) c.self.inside.seats.items c.in_ok-i.i c.remove-seat.result c.self.invariant.0.areas.slots (sits f) in
@@ -47,7 +47,7 @@ invariant_of-self g c =
     let has = all-at (HasSlot m) c.self.inside.seats.items c.in_ok-i.i c.remove-seat.result c.self.invariant.0.areas.slots (sits f) in
     let low = g.met.S.Store.numbered c.self.inside.store c.remove-seat.result.slot.area.0 has.opened in
     let l = c.bounce_for_death.ensures.leaves in
-    let scrap = (rw c.end.ensures at c.kept_scrap.ensures) _ (spells-death c.self.invariant.0 f low l) in
+    let scrap = (rw c.end.ensures at c.kept_scrap-self-inside.ensures) _ (spells-death c.self.invariant.0 f low l) in
     rw (scrap, c.end.ensures, c.remove-seat.ensures.items, c.remove-seat.ensures.capacity) (kill-world c.self.invariant.0 f low l c.requires, c.self.invariant.1, c.self.invariant.2)
 
 pub returns : goal.returns
@@ -57,5 +57,5 @@ returns g c =
     let has = all-at (HasSlot m) c.self.inside.seats.items c.in_ok-i.i c.remove-seat.result c.self.invariant.0.areas.slots (sits f) in
     let low = g.met.S.Store.numbered c.self.inside.store c.remove-seat.result.slot.area.0 has.opened in
     let l = c.bounce_for_death.ensures.leaves in
-    let scrap = (rw c.end.ensures at c.kept_scrap.ensures) _ (spells-death c.self.invariant.0 f low l) in
+    let scrap = (rw c.end.ensures at c.kept_scrap-self-inside.ensures) _ (spells-death c.self.invariant.0 f low l) in
     rw (← c.self.view_is, scrap, c.end.ensures, c.remove-seat.ensures.items) (kill-done c.self.invariant.0 f low l c.requires)

@@ -1,14 +1,14 @@
-use Rattle.std.proofs.Common.{refl, sym, ap, ◌∙◌}
-use Rattle.rh_tasks.specs.View.{scrap_of}
-use Rattle.rh_tasks.proofs.AreaCommands.{file-length, least-none, least-other, least-here}
+use Rattle.std.proofs.Common.{sym, ◌∙◌}
+use Rattle.rh_defs.specs.Desk.{Desk}
+use Rattle.rh_tasks.specs.View.{kept_of, desk_of}
+use Rattle.rh_tasks.proofs.AreaCommands.{file-length, least-other, least-here}
 use Rattle.rh_tasks.proofs.world.World.least_length.Goals as goal
 
-pub returns-in_default : goal.returns-in_default
-unfolding scrap_of
-returns-in_default g c = rw (← c.self.view_is) (sym (least-none _ c.args.number (rw c.in_default.ensures refl)))
-
-pub returns-then-number-SCRAP_AREA : goal.returns-then-number-SCRAP_AREA
-returns-then-number-SCRAP_AREA g c = rw (← c.self.view_is) (sym (least-other _ c.args.number c.if-number-SCRAP_AREA.true))
+pub returns-then-number-ne-SCRAP_AREA : goal.returns-then-number-ne-SCRAP_AREA
+returns-then-number-ne-SCRAP_AREA g c = sym (least-other c.args.self.now.desk c.args.number c.if-number-ne-SCRAP_AREA.true)
 
 pub returns : goal.returns
-returns g c = rw (← c.self.view_is) (sym (least-here _ c.args.number c.if-number-SCRAP_AREA.false ∙ file-length _ _ c.self.invariant.0.scrap))
+returns g c =
+    let m = g.S.Words.memory c.self.inside.store in
+    let d : Desk = desk_of m c.self.inside.seats.items c.self.inside.made.items c.self.inside.files (kept_of c.self.inside.next c.self.inside.queue c.self.inside.scrap) in
+    rw (← c.self.view_is) (c.scrap_size.ensures ∙ sym (least-here d c.args.number c.if-number-ne-SCRAP_AREA.false ∙ file-length m c.self.inside.scrap c.self.invariant.0.scrap))

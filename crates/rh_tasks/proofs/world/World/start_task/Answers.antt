@@ -47,10 +47,10 @@ join-requires-clause-new g c = new-handle c.self.invariant.0
 pub invariant_of-self-2 : goal.invariant_of-self-2
 invariant_of-self-2 g c =
     let e = c.in_ok-slot.ensures in
-    rw (c.push_reserved.ensures.items, c.push_reserved.ensures.capacity, c.copied.ensures, c.join.ensures.entries) (
+    rw (c.push_reserved.ensures.items, c.push_reserved.ensures.capacity, c.copied.ensures, c.new-sending.ensures, c.new-taking.ensures, c.join.ensures.entries) (
       start-world c.args.name.now c.args.buffer c.args.manner c.self.invariant.0 (sym c.is_name_in_use.ensures ∙ c.if-is_name_in_use.false)
           (omega (arith, c.if-len-ge-MOST_TASKS.false, c.self.inside.seats.ok)) (omega (arith, c.if-self-from.false, c.from.ensures))
-          c.in_ok-slot.slot e.slot e.answer e.closed e.number e.only e.still (c.join.ensures.still _ the_module) c.requires,
+          c.in_ok-slot.slot e.slot e.answer e.closed e.number e.only e.still (rw (c.join.ensures.entries) at c.join.ensures.still _ the_module) c.requires,
       c.self.invariant.1,
       c.self.invariant.2,
     )
@@ -58,7 +58,7 @@ invariant_of-self-2 g c =
 pub returns : goal.returns
 returns g c =
     let e = c.in_ok-slot.ensures in
-    rw (← c.self.view_is, c.push_reserved.ensures.items, c.copied.ensures, c.join.ensures.entries) (
+    rw (← c.self.view_is, c.push_reserved.ensures.items, c.copied.ensures, c.new-sending.ensures, c.new-taking.ensures, c.join.ensures.entries) (
     start-done c.args.name.now c.args.buffer c.args.manner c.self.invariant.0 (sym c.is_name_in_use.ensures ∙ c.if-is_name_in_use.false)
     (omega (arith, c.if-len-ge-MOST_TASKS.false, c.self.inside.seats.ok)) (omega (arith, c.if-self-from.false, c.from.ensures))
     c.in_ok-slot.slot e.slot e.answer e.closed e.number e.only e.still

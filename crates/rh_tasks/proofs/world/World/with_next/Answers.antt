@@ -16,7 +16,7 @@ invariant_of-result g c =
       first_handle = c.requires.handle;
       last_handle = omega (arith, n.word, c.handle.view_is);
       first_ref = c.requires.message;
-      last_ref = c.ranges.r;
+      last_ref = c.in_ok-queue.ensures.word;
     } in
     let starts = rw q.value at q.starts _ the_module f.module_area in
     rw (is, q.value, c.in_ok-seats.ensures.items, c.in_ok-made.ensures.items)
