@@ -22,6 +22,7 @@ pub mod Reorders
 pub mod Deaths
 pub mod Cancels
 pub mod Sends
+pub mod Repeats
 pub mod Starts
 pub mod MadeCommands
 pub mod ItemLaws

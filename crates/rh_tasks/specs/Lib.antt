@@ -4,3 +4,4 @@ pub mod Answer
 pub mod Finding
 pub mod Items
 pub mod Start
+pub mod Letters

@@ -4,6 +4,7 @@
 mod areas;
 mod blocks;
 mod c_heap;
+mod letters;
 mod listing;
 mod made;
 mod module_blocks;

@@ -185,11 +185,10 @@ impl<S: Store> World<S> {
             Command::Heap { name } => answer(self.heap_sums(name)),
             Command::Status { name } => answer(self.handle_of(name)),
             Command::Areas => Reply::FreePages(self.free_pages()),
-            Command::Save { .. }
-            | Command::Poll { .. }
-            | Command::CancelIn { .. }
-            | Command::CancelOut { .. }
-            | Command::Repeat { .. } => Reply::NoEvent,
+            Command::CancelIn { name, id } => answer(self.cancel_in(name, *id)),
+            Command::CancelOut { name, id } => answer(self.cancel_out(name, *id)),
+            Command::Repeat { name } => answer(self.repeat(name)),
+            Command::Save { .. } | Command::Poll { .. } => Reply::NoEvent,
         }
     }
 }

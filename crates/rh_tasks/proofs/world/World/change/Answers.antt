@@ -79,3 +79,12 @@ returns-in-Status g c = rw (c.in-Status.is) (stepped (command.Status c.in-Status
 pub returns-in-Areas : goal.returns-in-Areas
 unfolding or_else
 returns-in-Areas g c = rw (c.in-Areas.is, c.free_pages.ensures) (steps-from command.Areas _ _ _ refl (reordered-refl _))
+
+pub returns-in-CancelIn : goal.returns-in-CancelIn
+returns-in-CancelIn g c = rw (c.in-CancelIn.is) (stepped (command.CancelIn c.in-CancelIn.name c.in-CancelIn.id) _ _ _ _ _ refl c.cancel_in.ensures c.answer-in-CancelIn.ensures)
+
+pub returns-in-CancelOut : goal.returns-in-CancelOut
+returns-in-CancelOut g c = rw (c.in-CancelOut.is) (stepped (command.CancelOut c.in-CancelOut.name c.in-CancelOut.id) _ _ _ _ _ refl c.cancel_out.ensures c.answer-in-CancelOut.ensures)
+
+pub returns-in-Repeat : goal.returns-in-Repeat
+returns-in-Repeat g c = rw (c.in-Repeat.is) (stepped-alike (command.Repeat c.in-Repeat.name) _ _ _ _ _ refl c.repeat.ensures c.answer-in-Repeat.ensures)

@@ -1,0 +1,178 @@
+-- Letters that a task sends.
+use Rattle.std.proofs.Common.{◌≡◌, ℕ, refl, ap, sym, subst, ◌∙◌, List}
+use Rattle.std.specs.Prelude.{Option, Some, None, Ok, Err, true}
+use Rattle.std.specs.Option.{option_map}
+use Rattle.std.proofs.Math.ListN.{set}
+use Rattle.rh_defs.specs.Memory.{Memory}
+use Rattle.rh_defs.proofs.MemoryLaws.{OnlyArea-self}
+use Rattle.rh_defs.specs.Files.{FileList}
+use Rattle.rh_defs.specs.declared.command.Command.TheVariants as command
+use Rattle.rh_defs.specs.declared.message.Letter.{Letter}
+use Rattle.rh_defs.specs.declared.refusal.Refusal.{Refusal}
+use Rattle.rh_defs.specs.declared.refusal.Refusal.TheVariants.{NothingSent}
+use Rattle.rh_defs.specs.declared.reply.Reply.TheVariants as reply
+use Rattle.rh_defs.specs.Chain.{Granted, ◌>>=◌, ◌>>◌, found_or, answer_of, left_of}
+use Rattle.rh_defs.specs.Range.{in_range}
+use Rattle.rh_defs.specs.Post.{Post, post_send}
+use Rattle.rh_defs.specs.Desk.{Desk, Task, next_ref, free_pages, with_task, with_post, send_letter}
+use Rattle.rh_defs.specs.Commands.{Answer}
+use Rattle.rh_defs.specs.Laws.{IsDesk}
+use Rattle.rh_defs.specs.Order.{IsReordered}
+use Rattle.rh_defs.specs.Step.{repeat}
+use Rattle.rh_slot.specs.Area.{IsSlot}
+use Rattle.rh_wimp.specs.Calls.{Answers, Leaves}
+use Rattle.rh_wimp.specs.Chains.{Chains, HasEntry}
+use Rattle.rh_wimp.specs.PostIn.{post_in}
+use Rattle.rh_tasks.specs.declared.seat.Seat.{Seat}
+use Rattle.rh_tasks.specs.declared.seat.SentLetter.{SentLetter}
+use Rattle.rh_tasks.specs.declared.made.MadeArea.{MadeArea}
+use Rattle.rh_tasks.specs.View.{Kept, kept_of, the_module, HasSlot, last_of, task_of, desk_of, shown_of, IsWorld}
+use Rattle.rh_tasks.specs.declared.next.Next.{Next}
+use Rattle.rh_tasks.specs.declared.scrap.ScrapFile.{ScrapFile}
+use Rattle.rh_tasks.specs.Finding.{Found}
+use Rattle.rh_tasks.specs.Letters.{from_last, again, with_last}
+use Rattle.rh_tasks.proofs.Lists.{all-at, set_same}
+use Rattle.rh_tasks.proofs.Chains.{begins, ends, answered, answer-refused}
+use Rattle.rh_tasks.proofs.Finding.{sits, named-is}
+use Rattle.rh_tasks.proofs.Worlds.{free-is, granted-keeps}
+use Rattle.rh_tasks.proofs.Posts.{is-post, has-entry}
+use Rattle.rh_tasks.proofs.Moves.{Moves}
+use Rattle.rh_tasks.proofs.Sends.{desk_then, sent-alike, sent-world}
+
+-- a letter that is sent gets the next ref
+sent-ref : {A B C : Type 0} (first : Granted A) (there : Granted B) (out : B → C) (n : ℕ) (p : C × ℕ) → (first >> (there >>= (λ b. let r : Granted (C × ℕ) = Ok (out b, n) in r))) ≡ Ok p → p.1 ≡ n
+unfolding ◌>>◌ ◌>>=◌
+sent-ref (Ok a) (Ok b) out n p e = let same : ◌≡◌ {A = _ × ℕ} (out b, n) p = cc in sym (ap (λ (x : _ × ℕ). x.1) same)
+sent-ref (Ok a) (Err r) out n p e = absurd cc
+sent-ref (Err r) there out n p e = absurd cc
+
+pub post_send-ref : (free : ℕ) (l : Letter) (post : Post) (p : Post × ℕ) → post_send free l post ≡ Ok p → p.1 ≡ post.next_ref
+unfolding post_send
+post_send-ref free l post p e = sent-ref _ _ _ post.next_ref p e
+
+-- what is shown of a world that stays
+pub same-shown : {m n : Memory} {seats seats' : List Seat} {queue queue' : Chains} (made : List MadeArea) (files : FileList) (next : Next) (scrap : Option ScrapFile) → n ≡ m → seats' ≡ seats → queue' ≡ queue
+    → shown_of n seats' made files (kept_of next queue' scrap) ≡ shown_of m seats made files (kept_of next queue scrap)
+same-shown made files next scrap p q r = rw (p, q, r) refl
+
+-- ---- the last letter once more
+
+module _ {B : Type 0} (h : ℕ) (next : Letter → Granted B) where
+  abbrev once_more : Option SentLetter → Granted B
+  once_more last = found_or (option_map last_of last) NothingSent >>= (λ sent. next (record sent.0 { from = h }))
+
+  pub again-sent : (last : Option SentLetter) (letter : Letter) → from_last h last ≡ Ok letter → once_more last ≡ next letter
+  unfolding ◌>>=◌ found_or
+  again-sent None letter e = absurd cc
+  again-sent (Some sent) letter e =
+      let l : Letter = record sent.letter { from = h } in
+      let same : l ≡ letter = cc in
+      ap next same
+
+  pub again-refused : (last : Option SentLetter) (r : Refusal) → from_last h last ≡ Err r → once_more last ≡ Err r
+  unfolding ◌>>=◌ found_or
+  again-refused None r e = let same : NothingSent ≡ r = cc in ap (λ x. Err x) same
+  again-refused (Some sent) r e = absurd cc
+
+again-from : (h : ℕ) (last : Option SentLetter) (letter : Letter) → from_last h last ≡ Ok letter → letter.from ≡ h
+again-from h None letter e = absurd cc
+again-from h (Some sent) letter e =
+    let l : Letter = record sent.letter { from = h } in
+    let same : l ≡ letter = cc in
+    sym (ap (λ (x : Letter). x.from) same)
+
+-- ---- a letter from a task
+
+module _ {m : Memory} {seats : List Seat} {made : List MadeArea} {files : FileList} {kept : Kept} {name : List ℕ} {i : ℕ} {s : Seat}
+    (w : IsWorld m seats made files kept) (f : Found name seats i s) (letter : Letter) (own : letter.from ≡ s.handle) where
+  abbrev d : Desk
+  d = desk_of m seats made files kept
+
+  abbrev post : Post
+  post = post_in m the_module kept.queue
+
+  abbrev given : Granted (Post × ℕ)
+  given = post_send m.free letter post
+
+  pub from-live : HasEntry letter.from kept.queue
+  from-live = subst (λ h. HasEntry h kept.queue) (sym own) (has-entry w (sits f))
+
+  -- it can't be sent
+  pub letter-refused : {r : Refusal} → Answers m the_module kept.queue (λ p. answer_of (post_send m.free letter p)) (Err r) → send_letter letter d ≡ Err r
+  unfolding send_letter
+  letter-refused a = ends _ (ap (λ free. post_send free letter post) (free-is w) ∙ answer-refused given (a post (is-post w)))
+
+  module _ {n : Memory} {k : Chains} (ref : ℕ) (a : Answers m the_module kept.queue (λ p. answer_of (post_send m.free letter p)) (Ok ref))
+      (l : Leaves m n the_module kept.queue k (λ p. left_of p (post_send m.free letter p))) where
+    abbrev edit : Task → Task
+    edit t = record t { last_sent = Some (letter, ref) }
+
+    has : IsSlot m s.slot
+    has = all-at (HasSlot m) seats i s w.areas.slots (sits f)
+
+    pub last-moves : Moves m m s (with_last letter ref s) edit
+    unfolding task_of
+    last-moves = record { handle = refl; area = refl; still = has; only = OnlyArea-self m s.slot.area.0 has.opened; task = refl }
+
+    given-is : given ≡ Ok (left_of post given, ref)
+    given-is = answered (left_of post given) ref post given (a post (is-post w)) refl
+
+    pub ref-is : ref ≡ next_ref d
+    ref-is = post_send-ref m.free letter post (left_of post given, ref) given-is
+
+    abbrev pub letter_then : Desk
+    letter_then = desk_then w (sits f) last-moves l kept.scrap w.scrap
+
+    pub letter-sent : send_letter letter d ≡ Ok letter_then
+    unfolding send_letter with_task
+    letter-sent =
+        begins _ (ap (λ free. post_send free letter post) (free-is w) ∙ given-is)
+        (ap (λ h. let r : Granted Desk = Ok (with_task h edit (with_post (left_of post given) d)) in r) own)
+
+-- ---- the command that sends it once more
+
+module _ {m : Memory} {seats : List Seat} {made : List MadeArea} {files : FileList} {kept : Kept} {name : List ℕ} {i : ℕ} {s : Seat}
+    (w : IsWorld m seats made files kept) (f : Found name seats i s) where
+  abbrev e : Desk
+  e = desk_of m seats made files kept
+
+  -- what is done with the letter
+  abbrev then_sent : Letter → Granted Answer
+  then_sent letter = send_letter letter e >>= (λ sent. Ok (sent, reply.Sent (next_ref e)))
+
+  -- a seat that is written as it was
+  pub seat-kept : set seats i s ≡ seats
+  seat-kept = set_same seats i s (sits f)
+
+  pub repeat-nothing : {r : Refusal} → again s ≡ Err r → repeat e name ≡ Err r
+  unfolding repeat task_of
+  repeat-nothing {r} h = begins _ (named-is m made files kept f) (again-refused s.handle then_sent s.last_sent r h)
+
+  module _ (letter : Letter) (last : again s ≡ Ok letter) where
+    pub again-own : letter.from ≡ s.handle
+    again-own = again-from s.handle s.last_sent letter last
+
+    repeat-is : repeat e name ≡ then_sent letter
+    unfolding repeat task_of
+    repeat-is = begins _ (named-is m made files kept f) (again-sent s.handle then_sent s.last_sent letter last)
+
+    pub repeat-refused : {r : Refusal} → Answers m the_module kept.queue (λ p. answer_of (post_send m.free letter p)) (Err r) → repeat e name ≡ Err r
+    repeat-refused a = repeat-is ∙ ends _ (letter-refused w f letter again-own a)
+
+    module _ {n : Memory} {k : Chains} (ref : ℕ) (a : Answers m the_module kept.queue (λ p. answer_of (post_send m.free letter p)) (Ok ref))
+        (l : Leaves m n the_module kept.queue k (λ p. left_of p (post_send m.free letter p))) (ranged : in_range (command.Repeat name) ≡ true) where
+      abbrev then : Desk
+      then = letter_then w f letter again-own ref a l
+
+      repeated : repeat e name ≡ Ok (then, reply.Sent ref)
+      repeated =
+          repeat-is ∙ begins _ (letter-sent w f letter again-own ref a l) (ap (λ x. let r : Granted (Desk × _) = Ok (then, reply.Sent x) in r) (sym (ref-is w f letter again-own ref a l)))
+
+      is-desk : IsDesk then
+      is-desk = granted-keeps e then (command.Repeat name) (reply.Sent ref) repeated ranged w.desk
+
+      pub repeat-world : IsWorld n (set seats i (with_last letter ref s)) made files (record kept { queue = k })
+      repeat-world = sent-world w (sits f) (last-moves w f letter again-own ref a l) l kept.scrap w.scrap is-desk
+
+      pub repeat-done : (x : Desk) × ((repeat e name ≡ Ok (x, reply.Sent ref)) × IsReordered x (desk_of n (set seats i (with_last letter ref s)) made files (record kept { queue = k })))
+      repeat-done = (then, (repeated, sent-alike w (sits f) (last-moves w f letter again-own ref a l) l kept.scrap w.scrap is-desk))

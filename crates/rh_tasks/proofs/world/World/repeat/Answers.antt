@@ -1,0 +1,56 @@
+use Rattle.std.proofs.Common.{refl, ap, sym, ◌∙◌}
+use Rattle.std.proofs.lemmas.Result.{err_from_is_err_and}
+use Rattle.rh_defs.specs.Step.{repeat}
+use Rattle.std.proofs.Math.ListN.{set}
+use Rattle.rh_tasks.specs.Finding.{Found}
+use Rattle.rh_tasks.proofs.Chains.{ends}
+use Rattle.rh_tasks.proofs.Finding.{nobody}
+use Rattle.rh_tasks.proofs.Repeats.{same-shown, seat-kept, from-live, again-own, repeat-nothing, repeat-refused, repeat-world, repeat-done}
+use Rattle.rh_tasks.proofs.world.World.repeat.Goals as goal
+
+pub returns-in_err-i : goal.returns-in_err-i
+unfolding repeat
+returns-in_err-i g c =
+    let p = err_from_is_err_and c.from_residual.result c.from_residual.ensures.1 in
+    rw (p.1, p.2, c.in_err-i.ensures.err.0, ← c.self.view_is) (ends _ (nobody _ _ _ _ _ _ c.in_err-i.ensures.err.1), refl)
+
+pub returns-in_err-letter : goal.returns-in_err-letter
+returns-in_err-letter g c =
+    let s = c.index_mut-seat.result.now in
+    let f : Found c.args.name.now c.self.inside.seats.items c.in_ok-i.i s = record { at = c.in_ok-i.ensures.ok; is = sym c.index_mut-seat.ensures.value } in
+    let p = err_from_is_err_and c.from_residual-in_err-letter.result c.from_residual-in_err-letter.ensures.1 in
+    rw (p.1, p.2, ← c.self.view_is) (
+      repeat-nothing c.self.invariant.0 f (sym c.in_err-letter.ensures),
+      same-shown c.self.inside.made.items c.self.inside.files c.self.inside.next c.self.inside.scrap refl (seat-kept c.self.invariant.0 f) refl,
+    )
+
+pub send-requires-clause-from : goal.send-requires-clause-from
+send-requires-clause-from g c =
+    let s = c.index_mut-seat.result.now in
+    let f : Found c.args.name.now c.self.inside.seats.items c.in_ok-i.i s = record { at = c.in_ok-i.ensures.ok; is = sym c.index_mut-seat.ensures.value } in
+    from-live c.self.invariant.0 f c.in_ok-letter.letter (again-own c.self.invariant.0 f c.in_ok-letter.letter (sym c.in_ok-letter.ensures))
+
+pub returns-in_err-my_ref : goal.returns-in_err-my_ref
+returns-in_err-my_ref g c =
+    let s = c.index_mut-seat.result.now in
+    let f : Found c.args.name.now c.self.inside.seats.items c.in_ok-i.i s = record { at = c.in_ok-i.ensures.ok; is = sym c.index_mut-seat.ensures.value } in
+    let p = err_from_is_err_and c.from_residual-in_err-my_ref.result c.from_residual-in_err-my_ref.ensures.1 in
+    let e = c.in_err-my_ref.ensures in
+    rw (p.1, p.2, ← c.self.view_is) (
+      repeat-refused c.self.invariant.0 f c.in_ok-letter.letter (sym c.in_ok-letter.ensures) e.answer,
+      same-shown c.self.inside.made.items c.self.inside.files c.self.inside.next c.self.inside.scrap e.err.0 (ap (set c.self.inside.seats.items c.in_ok-i.i) e.err.1.1 ∙ seat-kept c.self.invariant.0 f) e.err.1.0,
+    )
+
+pub invariant_of-self-2 : goal.invariant_of-self-2
+invariant_of-self-2 g c =
+    let s = c.index_mut-seat.result.now in
+    let f : Found c.args.name.now c.self.inside.seats.items c.in_ok-i.i s = record { at = c.in_ok-i.ensures.ok; is = sym c.index_mut-seat.ensures.value } in
+    let e = c.in_ok-my_ref.ensures in
+    rw (e.ok) (repeat-world c.self.invariant.0 f c.in_ok-letter.letter (sym c.in_ok-letter.ensures) c.in_ok-my_ref.my_ref e.answer e.leaves c.requires, c.self.invariant.1, c.self.invariant.2)
+
+pub returns : goal.returns
+returns g c =
+    let s = c.index_mut-seat.result.now in
+    let f : Found c.args.name.now c.self.inside.seats.items c.in_ok-i.i s = record { at = c.in_ok-i.ensures.ok; is = sym c.index_mut-seat.ensures.value } in
+    let e = c.in_ok-my_ref.ensures in
+    rw (← c.self.view_is, e.ok) (repeat-done c.self.invariant.0 f c.in_ok-letter.letter (sym c.in_ok-letter.ensures) c.in_ok-my_ref.my_ref e.answer e.leaves c.requires)
