@@ -42,12 +42,7 @@ fn bytes_moved(delta: i32) -> u32
 
 /// How many pages an area of pages only would have after a change by an amount of bytes: ExcessiveShrink where fewer than
 /// `least` bytes would be left, NoRoom where too few pages are free.
-fn pages_after<S: Pages>(
-    store: &S,
-    area: AreaId,
-    least: u32,
-    delta: i32,
-) -> Result<usize, Refusal>
+fn pages_after<S: Pages>(store: &S, area: AreaId, least: u32, delta: i32) -> Result<usize, Refusal>
     requires { IsOpen (S.memory store.now) area.0 }
     ensures { result ≡ pages_after_on (S.memory store.now).free least (pages_at (S.memory store.now) area.0) delta }
 {

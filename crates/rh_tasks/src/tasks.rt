@@ -65,7 +65,8 @@ impl<S: Store> World<S> {
     {
         let i = find(&self.seats, name)?;
         let seat = self.seats.remove(i);
-        self.queue.bounce_for_death(&mut self.store, MODULE, seat.handle);
+        self.queue
+            .bounce_for_death(&mut self.store, MODULE, seat.handle);
         seat.slot.end(&mut self.store);
         self.scrap = kept_scrap(&self.store, &self.queue, self.scrap);
         Ok(Reply::Done)

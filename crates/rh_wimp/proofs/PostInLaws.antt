@@ -75,11 +75,13 @@ pub record Beside (h d : Heap) (ps : List Parcel) : Type 0 where
 
 relinked : (h k d : Heap) (p : Parcel) (ps : List Parcel) → block_bytes p.block k ≡ block_bytes p.block d → ((a : ℕ) → a ≢ p.block → block_bytes a k ≡ block_bytes a h) → AllLie d ps → AllLinked h ps → AllLinked k ps
 relinked h k d p [] here others a l = tt
-relinked h k d p (q ∷ ps) here others a l =
-    (elim (cases_eq q.block p.block) [
-      | inl e ↦ (0, ap (λ x. block_bytes x k) e ∙ here ∙ ap (λ x. block_bytes x d) (sym e) ∙ a.0)
-      | inr ne ↦ (l.0.0, others q.block ne ∙ l.0.1)
-    ], relinked h k d p ps here others a.1 l.1)
+relinked h k d p (q ∷ ps) here others a l = (
+  elim (cases_eq q.block p.block) [
+    | inl e ↦ (0, ap (λ x. block_bytes x k) e ∙ here ∙ ap (λ x. block_bytes x d) (sym e) ∙ a.0)
+    | inr ne ↦ (l.0.0, others q.block ne ∙ l.0.1)
+  ],
+  relinked h k d p ps here others a.1 l.1,
+)
 
 pub unlinked-is : (h d : Heap) (ps : List Parcel) → Beside h d ps → unlinked ps h ≡ d
 unlinked-is h d [] b = same-heaps h d b.shape (λ a. b.others a tt)
