@@ -23,6 +23,7 @@ pub mod Deaths
 pub mod Cancels
 pub mod Sends
 pub mod Repeats
+pub mod Saves
 pub mod Starts
 pub mod MadeCommands
 pub mod ItemLaws

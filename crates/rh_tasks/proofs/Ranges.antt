@@ -3,7 +3,7 @@ use Rattle.std.proofs.Common.{◌≡◌, ℕ, ◌<◌, true, arith, List}
 use Rattle.std.specs.Prelude.{ℤ, pos, negsuc}
 use Rattle.std.proofs.Common.{SFits, w32}
 use Rattle.std.proofs.lemmas.Int.{ints}
-use Rattle.rh_defs.specs.Forms.{is_delta}
+use Rattle.rh_defs.specs.Forms.{is_delta, is_leaf}
 use Rattle.std.proofs.lemmas.Bool.Decides.{nat_tests}
 use Rattle.rh_defs.specs.declared.command.Command.TheVariants as command
 use Rattle.rh_defs.specs.Range.{in_range}
@@ -35,6 +35,14 @@ mid-anchor name k offset by h = grind (arith, nat_tests)
 pub show-anchor : (name : List ℕ) (k : ℕ) → in_range (command.Show name k) ≡ true → k < 64
 unfolding in_range
 show-anchor name k h = grind (arith, nat_tests)
+
+pub save-anchor : (name : List ℕ) (k : ℕ) (to leaf : List ℕ) → in_range (command.Save name k to leaf) ≡ true → k < 64
+unfolding in_range
+save-anchor name k to leaf h = grind (arith, nat_tests)
+
+pub save-leaf : (name : List ℕ) (k : ℕ) (to leaf : List ℕ) → in_range (command.Save name k to leaf) ≡ true → is_leaf leaf ≡ true
+unfolding in_range
+save-leaf name k to leaf h = grind (arith, nat_tests)
 
 -- ---- signed amounts are 32-bit numbers
 

@@ -5,3 +5,4 @@ pub mod Finding
 pub mod Items
 pub mod Start
 pub mod Letters
+pub mod Saves

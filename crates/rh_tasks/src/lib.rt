@@ -9,6 +9,7 @@ mod listing;
 mod made;
 mod module_blocks;
 mod next;
+mod saving;
 mod scrap;
 mod seat;
 mod seats;

@@ -1,0 +1,235 @@
+-- Blocks that are offered to other tasks.
+use Rattle.std.proofs.Common.{◌≡◌, ℕ, zero, suc, ◌<◌, ◌≤◌, Bool, true, false, cond, refl, ap, sym, subst, ◌∙◌, arith, List, [], ◌∷◌, length}
+use Rattle.std.specs.Prelude.{Some, None, Ok, Err, find, map, nat_lt, ◌==◌, ◌||◌, ◌&&◌}
+use Rattle.std.specs.List.{list_all, list_any, position}
+use Rattle.std.proofs.Math.ListN.{get_or, set}
+use Rattle.std.proofs.lemmas.Bool.Decides.{nat_tests}
+use Rattle.rh_defs.specs.Memory.{Memory}
+use Rattle.rh_defs.proofs.MemoryLaws.{OnlyArea-self}
+use Rattle.rh_defs.proofs.MessageLaws.{name_is}
+use Rattle.rh_defs.specs.Files.{FileList}
+use Rattle.rh_defs.specs.Forms.{is_graphic, is_leaf}
+use Rattle.rh_defs.specs.Pathnames.{is_plain, is_pathname}
+use Rattle.rh_defs.specs.declared.command.Command.TheVariants as command
+use Rattle.rh_defs.specs.declared.message.Letter.{Letter}
+use Rattle.rh_defs.specs.declared.refusal.Refusal.{Refusal}
+use Rattle.rh_defs.specs.declared.refusal.Refusal.TheVariants.{NoName, NoTask, Busy}
+use Rattle.rh_defs.specs.declared.reply.Reply.TheVariants as reply
+use Rattle.rh_defs.specs.Chain.{Granted, ◌>>=◌, ◌>>◌, refuse_if, found_or, answer_of, left_of}
+use Rattle.rh_defs.specs.Pieces.{Split}
+use Rattle.rh_defs.specs.Range.{in_range}
+use Rattle.rh_defs.specs.Letters.{save_letter}
+use Rattle.rh_defs.specs.Post.{post_send}
+use Rattle.rh_defs.specs.Records.{is_open, is_full, is_source, is_document}
+use Rattle.rh_defs.specs.Sender as sender
+use Rattle.rh_defs.specs.Slot as plain
+use Rattle.rh_defs.specs.Desk.{Desk, Task, has_name, next_ref, edit_task, idle_block, named, with_task, with_sending, send_letter}
+use Rattle.rh_defs.specs.Commands.{Answer}
+use Rattle.rh_defs.specs.Laws.{IsDesk}
+use Rattle.rh_defs.specs.Order.{IsReordered}
+use Rattle.rh_defs.specs.Step.{save}
+use Rattle.rh_slot.specs.Area.{IsSlot, slot_in}
+use Rattle.rh_wimp.specs.Calls.{Answers, Leaves}
+use Rattle.rh_wimp.specs.Chains.{Chains}
+use Rattle.rh_tasks.specs.declared.seat.Seat.{Seat}
+use Rattle.rh_tasks.specs.declared.made.MadeArea.{MadeArea}
+use Rattle.rh_tasks.specs.View.{Kept, the_module, HasSlot, is_named, task_of, desk_of, IsWorld}
+use Rattle.rh_tasks.specs.Finding.{Found, looked}
+use Rattle.rh_tasks.specs.Letters.{with_last}
+use Rattle.rh_tasks.specs.Saves.{source_block}
+use Rattle.rh_tasks.proofs.Lists.{all-at}
+use Rattle.rh_tasks.proofs.Chains.{begins, ends}
+use Rattle.rh_tasks.proofs.Finding.{sits, named-is, find-named, nobody-named}
+use Rattle.rh_tasks.proofs.Worlds.{granted-keeps}
+use Rattle.rh_tasks.proofs.Moves.{Moves}
+use Rattle.rh_tasks.proofs.Sends.{desk_then, sent-alike, sent-world}
+use Rattle.rh_tasks.proofs.Repeats.{letter-refused, letter_then, letter-sent, ref-is}
+
+-- ---- a leafname can stand in a message
+
+both : (a b : Bool) → (a && b) ≡ true → (a ≡ true) × (b ≡ true)
+both true true e = (refl, refl)
+both true false e = absurd cc
+both false b e = absurd cc
+
+plain-graphic : (leaf : List ℕ) → list_all is_graphic leaf ≡ true → is_plain leaf ≡ true
+plain-graphic [] e = refl
+plain-graphic (b ∷ leaf) e =
+    let p = both (is_graphic b) (list_all is_graphic leaf) e in
+    let here : nat_lt 0 b ≡ true = grind (arith, nat_tests) in
+    let there = plain-graphic leaf p.1 in
+    rw (here, there) refl
+
+pub leaf-pathname : (leaf : List ℕ) → is_leaf leaf ≡ true → is_pathname leaf ≡ true
+leaf-pathname leaf e =
+    let p = both _ (list_all is_graphic leaf) e in
+    let q = both _ _ p.0 in
+    name_is leaf (grind (arith, nat_tests)) (plain-graphic leaf p.1)
+
+-- ---- what a task may offer
+
+busy-or-full : {A : Type 0} (g : Granted A) (size : A → ℕ) (busy full : Bool) (n : ℕ) → Ok n ≡ (g >>= (λ a. Ok (size a)))
+    → ((g >>= (λ a. refuse_if busy Busy >> Ok a)) >>= (λ a. refuse_if full Busy >> Ok (size a))) ≡ cond busy (Err Busy) (cond full (Err Busy) (Ok n))
+unfolding ◌>>=◌ ◌>>◌ refuse_if
+busy-or-full (Err r) size busy full n e = absurd cc
+busy-or-full (Ok a) size true full n e = refl
+busy-or-full (Ok a) size false true n e = refl
+busy-or-full (Ok a) size false false n e = let same : n ≡ size a = cc in ap (λ x. Ok x) (sym same)
+
+pub source-is : (m : Memory) (s : Seat) (k n : ℕ) → Ok n ≡ plain.slot_size k (slot_in m s.slot)
+    → source_block k (task_of m s) ≡ cond (list_any (is_source k) s.sending || list_any (is_document k) s.taking) (Err Busy) (cond (is_full is_open s.sending) (Err Busy) (Ok n))
+unfolding plain.slot_size idle_block task_of
+source-is m s k n e = busy-or-full (plain.slot_block k (slot_in m s.slot)) _ _ _ n e
+
+pub source-missing : (m : Memory) (s : Seat) (k : ℕ) {r : Refusal} → idle_block k (task_of m s) ≡ Err r → source_block k (task_of m s) ≡ Err r
+source-missing m s k e = ends _ e
+
+not-full : {A : Type 0} (g : Granted A) (size : A → ℕ) (full : Bool) (n : ℕ) → (g >>= (λ a. refuse_if full Busy >> Ok (size a))) ≡ Ok n → full ≡ false
+unfolding ◌>>=◌ ◌>>◌ refuse_if
+not-full (Ok a) size true n e = absurd cc
+not-full (Ok a) size false n e = refl
+not-full (Err r) size full n e = absurd cc
+
+get_or-any : {A : Type 0} (xs : List A) (i : ℕ) (a b : A) → i < length xs → get_or xs i a ≡ get_or xs i b
+get_or-any [] i a b inside = absurd (omega arith)
+get_or-any (x ∷ xs) zero a b inside = refl
+get_or-any (x ∷ xs) (suc i) a b inside = get_or-any xs i a b (omega arith)
+
+-- a seat that was found, read once more
+pub again-found : {name : List ℕ} {seats : List Seat} {i : ℕ} {s t : Seat} → Found name seats i s → get_or seats i t ≡ t → Found name seats i t
+again-found f is = record { at = f.at; is = is }
+
+pub again-same : {name : List ℕ} {seats : List Seat} {i : ℕ} {s t : Seat} → Found name seats i s → Found name seats i t → s ≡ t
+again-same {name} {seats} {i} {s} {t} f g = sym f.is ∙ get_or-any seats i s t (sits f).inside ∙ g.is
+
+pub again-given : {B : Type 0} (look : Task → Granted B) (m : Memory) {name : List ℕ} {seats : List Seat} {i : ℕ} {s t : Seat} {b : Granted B} → Found name seats i s → Found name seats i t
+    → look (task_of m s) ≡ b → look (task_of m t) ≡ b
+again-given look m f g e = ap (λ x. look (task_of m x)) (sym (again-same f g)) ∙ e
+
+-- ---- behind the look at the source
+
+module _ {B : Type 0} where
+  behind-given : {A : Type 0} (g : Granted A) (size : A → ℕ) (full : Bool) (next : ℕ → Granted B) (n : ℕ) → (g >>= (λ a. refuse_if full Busy >> Ok (size a))) ≡ Ok n
+      → (g >>= (λ a. refuse_if full Busy >> next (size a))) ≡ next n
+  unfolding ◌>>=◌ ◌>>◌ refuse_if
+  behind-given (Ok a) size true next n e = absurd cc
+  behind-given (Ok a) size false next n e = let same : size a ≡ n = cc in ap next same
+  behind-given (Err r) size full next n e = absurd cc
+
+  behind-refused : {A : Type 0} (g : Granted A) (size : A → ℕ) (full : Bool) (next : ℕ → Granted B) {r : Refusal} → (let x : Granted ℕ = (g >>= (λ a. refuse_if full Busy >> Ok (size a))) in x ≡ Err r)
+      → (g >>= (λ a. refuse_if full Busy >> next (size a))) ≡ Err r
+  unfolding ◌>>=◌ ◌>>◌ refuse_if
+  behind-refused (Ok a) size true next e = let same : Busy ≡ _ = cc in ap (λ x. Err x) same
+  behind-refused (Ok a) size false next e = absurd cc
+  behind-refused (Err q) size full next e = let same : q ≡ _ = cc in ap (λ x. Err x) same
+
+  look-refused : (first : Granted Task) (k : ℕ) (next : Task → ℕ → Granted B) {r : Refusal} → (first >>= source_block k) ≡ Err r
+      → (first >>= (λ t. idle_block k t >>= (λ b. refuse_if (is_full is_open t.sending) Busy >> next t (length b.here.bytes)))) ≡ Err r
+  unfolding ◌>>=◌
+  look-refused (Ok t) k next e = behind-refused (idle_block k t) (λ b. length b.here.bytes) (is_full is_open t.sending) (next t) e
+  look-refused (Err q) k next e = let same : q ≡ _ = cc in ap (λ x. Err x) same
+
+-- ---- one task edited twice
+
+edit-twice : (h : ℕ) (first second : Task → Task) → ((t : Task) → (first t).handle ≡ t.handle) → (tasks : List Task) → edit_task h second (edit_task h first tasks) ≡ edit_task h (λ t. second (first t)) tasks
+edit-twice h first second same [] = refl
+edit-twice h first second same (t ∷ tasks) = go (t.handle == h) refl (edit-twice h first second same tasks)
+  where
+    go : (b : Bool) → (t.handle == h) ≡ b → edit_task h second (edit_task h first tasks) ≡ edit_task h (λ x. second (first x)) tasks
+        → edit_task h second (cond b (first t ∷ tasks) (t ∷ edit_task h first tasks)) ≡ cond b (second (first t) ∷ tasks) (t ∷ edit_task h (λ x. second (first x)) tasks)
+    go true e r = let q : ((first t).handle == h) ≡ true = ap (λ x. x == h) (same t) ∙ e in rw q refl
+    go false e r = rw e (ap (λ l. t ∷ l) r)
+
+-- ---- the command
+
+module _ {m : Memory} {seats : List Seat} {made : List MadeArea} {files : FileList} {kept : Kept} {name : List ℕ} {i : ℕ} {s : Seat}
+    (w : IsWorld m seats made files kept) (k : ℕ) (to leaf : List ℕ) where
+  abbrev d : Desk
+  d = desk_of m seats made files kept
+
+  -- what is done with a task and a size
+  abbrev then_to : Task → ℕ → Task → Granted Answer
+  then_to t n r = send_letter (save_letter t.handle r.handle n leaf) d >>= (λ sent. Ok (with_sending t.handle (sender.offered (next_ref d) r.handle k) sent, reply.Sent (next_ref d)))
+
+  abbrev then_sized : Task → ℕ → Granted Answer
+  then_sized t n = found_or (find (has_name to) d.tasks) NoTask >>= then_to t n
+
+  pub save-stopped : {r : Refusal} → looked (source_block k) m name seats ≡ Err r → save d name k to leaf ≡ Err r
+  unfolding save named
+  save-stopped e = look-refused (found_or (find (has_name name) d.tasks) NoName) k then_sized e
+
+  module _ (f : Found name seats i s) (n : ℕ) (given : source_block k (task_of m s) ≡ Ok n) where
+    save-sized : save d name k to leaf ≡ then_sized (task_of m s) n
+    unfolding save
+    save-sized = begins _ (named-is m made files kept f) (behind-given (idle_block k (task_of m s)) (λ b. length b.here.bytes) (is_full is_open (task_of m s).sending) (then_sized (task_of m s)) n given)
+
+    pub may-open : is_full is_open s.sending ≡ false
+    unfolding task_of
+    may-open = not-full (idle_block k (task_of m s)) _ _ n given
+
+    pub save-nobody : position (is_named to) seats ≡ None → save d name k to leaf ≡ Err NoTask
+    unfolding found_or
+    save-nobody none = save-sized ∙ ends _ (no-task (find (has_name to) (map (task_of m) seats)) (nobody-named m to seats none))
+      where
+        no-task : (o : _) → found_or o NoName ≡ Err NoName → found_or o NoTask ≡ Err NoTask
+        no-task None e = refl
+        no-task (Some t) e = absurd cc
+
+    module _ {j h : ℕ} {x : Seat} (there : Found to seats j x) (is : x.handle ≡ h) where
+      abbrev pub letter : Letter
+      letter = save_letter s.handle h n leaf
+
+      task-found : found_or (find (has_name to) (map (task_of m) seats)) NoTask ≡ Ok (task_of m x)
+      unfolding found_or
+      task-found = let e = find-named m there in rw e refl
+
+      abbrev then_from : ℕ → Granted Answer
+      then_from r = send_letter (save_letter s.handle r n leaf) d >>= (λ sent. Ok (with_sending s.handle (sender.offered (next_ref d) r k) sent, reply.Sent (next_ref d)))
+
+      save-is : save d name k to leaf ≡ then_from h
+      unfolding task_of
+      save-is = save-sized ∙ begins _ task-found (ap then_from is)
+
+      pub save-refused : {r : Refusal} → Answers m the_module kept.queue (λ p. answer_of (post_send m.free letter p)) (Err r) → save d name k to leaf ≡ Err r
+      save-refused a = save-is ∙ ends _ (letter-refused w f letter refl a)
+
+      module _ {p : Memory} {q : Chains} (ref : ℕ) (a : Answers m the_module kept.queue (λ p. answer_of (post_send m.free letter p)) (Ok ref))
+          (l : Leaves m p the_module kept.queue q (λ p. left_of p (post_send m.free letter p))) (ranged : in_range (command.Save name k to leaf) ≡ true) where
+        abbrev pub saved_seat : Seat
+        saved_seat = record (with_last letter ref s) { sending = sender.offered ref h k s.sending }
+
+        abbrev edit : Task → Task
+        edit t = record t { last_sent = Some (letter, ref); sending = sender.offered ref h k t.sending }
+
+        has : IsSlot m s.slot
+        has = all-at (HasSlot m) seats i s w.areas.slots (sits f)
+
+        moves : Moves m m s saved_seat edit
+        unfolding task_of
+        moves = record { handle = refl; area = refl; still = has; only = OnlyArea-self m s.slot.area.0 has.opened; task = refl }
+
+        abbrev sent : Desk
+        sent = letter_then w f letter refl ref a l
+
+        abbrev then : Desk
+        then = desk_then w (sits f) moves l kept.scrap w.scrap
+
+        opened : with_sending s.handle (sender.offered ref h k) sent ≡ then
+        unfolding with_task
+        opened = ap (λ (tasks : List Task). let y : Desk = record sent { tasks = tasks } in y)
+            (edit-twice s.handle (λ t. record t { last_sent = Some (letter, ref) }) (λ t. record t { sending = sender.offered ref h k t.sending }) (λ t. refl) (map (task_of m) seats))
+
+        saved : save d name k to leaf ≡ Ok (then, reply.Sent ref)
+        saved =
+            save-is ∙ begins _ (letter-sent w f letter refl ref a l)
+            (ap (λ r. let y : Granted Answer = Ok (with_sending s.handle (sender.offered r h k) sent, reply.Sent r) in y) (sym (ref-is w f letter refl ref a l))
+            ∙ ap (λ (y : Desk). let z : Granted Answer = Ok (y, reply.Sent ref) in z) opened)
+
+        is-desk : IsDesk then
+        is-desk = granted-keeps d then (command.Save name k to leaf) (reply.Sent ref) saved ranged w.desk
+
+        pub save-world : IsWorld p (set seats i saved_seat) made files (record kept { queue = q })
+        save-world = sent-world w (sits f) moves l kept.scrap w.scrap is-desk
+
+        pub save-done : (y : Desk) × ((save d name k to leaf ≡ Ok (y, reply.Sent ref)) × IsReordered y (desk_of p (set seats i saved_seat) made files (record kept { queue = q })))
+        save-done = (then, (saved, sent-alike w (sits f) moves l kept.scrap w.scrap is-desk))

@@ -1,0 +1,114 @@
+//! Blocks that are offered to other tasks.
+
+ghost use Rattle.std.specs.Prelude.{◌≡◌, ◌<◌, true, None, Err, IfOk, IfErr};
+ghost use Rattle.std.specs.List.{AllByRecursion, position};
+ghost use Rattle.rh_defs.specs.declared.command.Command.TheVariants as Command;
+ghost use Rattle.rh_defs.specs.Forms.{is_leaf};
+ghost use Rattle.rh_defs.specs.Letters.{save_letter as save_letter_of};
+ghost use Rattle.rh_defs.specs.Memory.{Memory};
+ghost use Rattle.rh_defs.specs.Range.{in_range};
+ghost use Rattle.rh_defs.specs.Step.{save as save_on};
+ghost use Rattle.rh_tasks.specs.Answer.{GivesAlike};
+ghost use Rattle.rh_tasks.specs.Finding.{looked};
+ghost use Rattle.rh_tasks.specs.Saves.{CanOffer, HasHandle, source_block};
+ghost use Rattle.rh_tasks.specs.View.{is_named, HasSlot};
+
+use crate::letters::send;
+use crate::seat::Seat;
+use crate::seats::find;
+use crate::world::World;
+use rh_defs::{
+    Anchor, Body, EventCode, FileData, Handle, Leaf, Letter, Name, Pathname, Ref, Refusal, Reply,
+};
+use rh_store::{Store, Words};
+
+/// The type of the files that tasks offer (data).
+const DATA: u32 = 0xffd;
+
+/// A block that may be offered: its task's place, and its bytes.
+#[derive(Clone, Copy, Debug, PartialEq, Eq)]
+struct Source {
+    place: usize,
+    size: u32,
+}
+
+/// The block at the anchor, which isn't busy, of the task with the name, which may offer one more: NoName, NoBlock, Busy.
+fn idle_source<S: Words>(
+    store: &S,
+    seats: &Vec<Seat>,
+    name: &Name,
+    anchor: Anchor,
+) -> Result<Source, Refusal>
+    requires anchor { anchor < 64 }
+    requires slots { AllByRecursion (HasSlot (S.memory store.now)) seats.now.items }
+    ensures ok { IfOk result (CanOffer anchor (S.memory store.now) name.now seats.now.items) }
+    ensures err { IfErr result (λ e. looked (source_block anchor) (S.memory store.now) name.now seats.now.items ≡ Err e) }
+{
+    let i = find(seats, name)?;
+    let seat = &seats[i];
+    let size = seat.slot.size(store, anchor)? as u32;
+    if seat.is_busy_block(anchor) {
+        return Err(Refusal::Busy);
+    }
+    if seat.sending.is_full() {
+        return Err(Refusal::Busy);
+    }
+    Ok(Source { place: i, size })
+}
+
+/// The handle of the task with the name; NoTask where there is none.
+fn recipient_of(seats: &Vec<Seat>, name: &Name) -> Result<Handle, Refusal>
+    ensures ok { IfOk result (HasHandle name.now seats.now.items) }
+    ensures err { IfErr result (λ e. (e ≡ Refusal.NoTask) × (position (is_named name.now) seats.now.items ≡ None)) }
+{
+    let Ok(i) = find(seats, name) else {
+        return Err(Refusal::NoTask);
+    };
+    let seat = &seats[i];
+    Ok(seat.handle)
+}
+
+/// The DataSave that offers so many bytes under a leafname.
+fn save_letter(from: Handle, to: Handle, size: u32, leaf: &Leaf) -> Letter
+    requires { is_leaf leaf.now ≡ true }
+    ensures { result ≡ save_letter_of from to size leaf.now }
+{
+    let name = Pathname::new(leaf.as_slice()).unwrap();
+    Letter {
+        code: EventCode::Recorded,
+        from,
+        to,
+        your_ref: Ref(0),
+        body: Body::DataSave(FileData {
+            window: 0,
+            icon: 0,
+            x: 0,
+            y: 0,
+            size,
+            file_type: DATA,
+            name,
+        }),
+    }
+}
+
+impl<S: Store> World<S> {
+    /// Offers a block to another task: NoName, NoBlock, Busy, NoTask, NoRefs, QueueFull, NoRoom.
+    pub(crate) fn save(
+        &mut self,
+        name: &Name,
+        anchor: Anchor,
+        to: &Name,
+        leaf: &Leaf,
+    ) -> Result<Reply, Refusal>
+        requires { in_range (Command.Save name.now anchor to.now leaf.now) ≡ true }
+        ensures { GivesAlike (save_on self.old.desk name.now anchor to.now leaf.now) self.old self.new result }
+    {
+        let source = idle_source(&self.store, &self.seats, name, anchor)?;
+        let recipient = recipient_of(&self.seats, to)?;
+        let seat = &mut self.seats[source.place];
+        let letter = save_letter(seat.handle, recipient, source.size, leaf);
+        let my_ref = send(&mut self.store, &mut self.queue, seat, letter)?;
+        seat.sending.offered(my_ref, recipient, anchor);
+        Ok(Reply::Sent(my_ref))
+    }
+}
