@@ -1,11 +1,10 @@
 //! What replies are written to, and whole writes.
 
-ghost use Rattle.std.specs.Prelude.{IfSome, flat_map, ◌≡◌, length, ◌||◌};
+ghost use Rattle.std.specs.Prelude.{◌≡◌, length, ◌||◌};
 ghost use Rattle.std.specs.Io.{WritesAtMost};
 ghost use Rattle.std.specs.Io.KnownBytes.{WriteAppends};
 ghost use Rattle.rh_lines.specs.Flow.{Output, write_failed, Puts};
 
-use arrayvec::ArrayVec;
 use thiserror::Error;
 
 /// The writer failed, or took none of the bytes that it was offered.
@@ -38,43 +37,6 @@ pub fn put<W: Sink>(writer: &mut W, bytes: &[u8]) -> Result<(), WriteFailed>
             return Err(WriteFailed);
         }
         rest = &rest[taken..];
-    }
-    Ok(())
-}
-
-/// So many bytes are gathered for one call of a writer.
-const GATHERED: usize = 128;
-
-/// Writes the pieces, one after another, and where they are short in one call. Fails as `put`
-/// does, and a front of all their bytes is then written.
-pub fn put_pieces<W: Sink>(writer: &mut W, pieces: &[&[u8]]) -> Result<(), WriteFailed>
-    ensures { Puts (W.output writer.old) (W.output writer.new) result
-        (flat_map (λ p. p.now) pieces.now) }
-{
-    match gathered(pieces) {
-        Some(bytes) => put(writer, bytes.as_slice()),
-        None => put_each(writer, pieces),
-    }
-}
-
-/// The pieces in one, where they are short.
-fn gathered(pieces: &[&[u8]]) -> Option<ArrayVec<u8, GATHERED>>
-    ensures { IfSome result (λ bytes. bytes.items ≡ flat_map (λ p. p.now) pieces.now) }
-{
-    let mut bytes = ArrayVec::new();
-    for piece in pieces {
-        bytes.try_extend_from_slice(piece).ok()?;
-    }
-    Some(bytes)
-}
-
-#[tactic(auto, using(crate::proofs::FlowLemmas::writing))]
-fn put_each<W: Sink>(writer: &mut W, pieces: &[&[u8]]) -> Result<(), WriteFailed>
-    ensures { Puts (W.output writer.old) (W.output writer.new) result
-        (flat_map (λ p. p.now) pieces.now) }
-{
-    for piece in pieces {
-        put(writer, piece)?;
     }
     Ok(())
 }
