@@ -1,10 +1,7 @@
 -- A session over several bytes.
-use Rattle.std.proofs.Common.{◌≡◌, ℕ, zero, suc, ◌+◌, ◌<◌, ◌≤◌, List, [], ◌∷◌, ◌++◌, length, take, drop, get_or, append_assoc, refl, sym, ◌∙◌, ap, subst, arith, rules, Result, Err}
-use Rattle.std.specs.Result.{IsErr}
-use Rattle.std.proofs.Common.{append-nil, length-append}
-use Rattle.std.proofs.lemmas.List.{take_more, take-append-drop, take_all, take-append-le, length-take}
-use Rattle.rh_lines.specs.Flow.{Output, Takes, Breaks, Puts}
-use Rattle.rh_lines.proofs.FlowLemmas.{takes_more, takes_breaks, breaks_before, puts_stops}
+use Rattle.std.proofs.Common.{◌≡◌, ℕ, zero, suc, ◌<◌, ◌≤◌, List, [], ◌∷◌, ◌++◌, length, take, append_assoc, refl, sym, ◌∙◌, ap, subst, arith, rules}
+use Rattle.std.proofs.Common.{append-nil}
+use Rattle.std.proofs.lemmas.List.{take_all, length-take}
 use Rattle.std.proofs.Common.{Bool, true, false, eqb, ◌||◌, nat_lt, ◌⊎◌, inl, inr}
 use borrow.Author.Tests.{tests}
 use Rattle.std.specs.List.{list_any}

@@ -1,5 +1,5 @@
 -- A session over several lines.
-use Rattle.std.proofs.Common.{◌≡◌, ℕ, zero, suc, ◌+◌, ◌-◌, ◌<◌, ◌≤◌, Bool, true, false, eqb, List, [], ◌∷◌, ◌++◌, length, take, drop, get_or, Result, Ok, Err, append_assoc, append-nil, length-append, refl, sym, ◌∙◌, ap, subst, arith, rules, ◌||◌}
+use Rattle.std.proofs.Common.{◌≡◌, ℕ, zero, suc, ◌-◌, ◌<◌, ◌≤◌, Bool, true, false, eqb, List, [], ◌∷◌, ◌++◌, length, take, drop, Result, Ok, Err, append_assoc, append-nil, refl, sym, ◌∙◌, ap, subst, arith, rules, ◌||◌}
 use Rattle.std.specs.Prelude.{slice_index}
 use Rattle.std.specs.Result.{IsErr, is_err}
 use Rattle.std.proofs.lemmas.List.{take_all, take_rest, length-take}

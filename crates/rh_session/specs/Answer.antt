@@ -1,5 +1,5 @@
 -- What is written for a line.
-use Rattle.std.specs.Prelude.{◌≡◌, ℕ, Bool, List, [], Option, Some, None, Ok, Err, if◌then◌else◌, is_err, ◌||◌, ◌++◌}
+use Rattle.std.specs.Prelude.{ℕ, List, [], Option, is_err, ◌||◌, ◌++◌}
 use Rattle.rh_defs.specs.declared.command.Command.{Command}
 use Rattle.rh_defs.specs.Desk.{Desk}
 use Rattle.rh_defs.specs.Line.{Meaning}
