@@ -4,8 +4,8 @@
 mod command_line;
 mod ending;
 mod files;
-mod program;
 mod telling;
+mod words;
 
-pub use program::{program, words_unread};
+pub use words::{program, words_unread};
 pub use rh_run::{RunFault, Status, check_image, run};

@@ -1,9 +1,7 @@
 //! A world as what a script is run over.
 
 ghost use Rattle.std.specs.Prelude.{◌≡◌, ◌≤◌, IfOk};
-ghost use Rattle.rh_defs.specs.Desk.{Desk};
 ghost use Rattle.rh_defs.specs.Runs.{start};
-ghost use Rattle.rh_defs.specs.Range.{in_range};
 
 use rh_defs::{Command, Files, Reply};
 use rh_lines::{Sink, WriteFailed};
@@ -20,13 +18,11 @@ pub struct PagedWorld {
 }
 
 impl PagedWorld {
-    ghost use Rattle.rh_run.specs.Seen.{desk_of};
-
     /// The first desk of 8 to 1,024 pages with these files. No later call takes memory.
     pub fn new(alloc: Global, files: Files, pages: u32) -> Result<Self, AllocError>
         requires least { 8 ≤ pages }
         requires most { pages ≤ 1024 }
-        ensures { IfOk result (λ world. desk_of world ≡ start pages files) }
+        ensures { IfOk result (λ found. found.world.desk ≡ start pages files) }
     {
         let store = PagedStore::new(alloc, pages as usize)?;
         let world = World::new(alloc, store, files)?;

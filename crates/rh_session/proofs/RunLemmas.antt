@@ -19,7 +19,7 @@ use Rattle.std.proofs.Common.{◌≢◌}
 use Rattle.rh_lines.specs.Flow.{reads_after}
 use Rattle.std.proofs.lemmas.Bool.Decides.{nat_tests}
 use Rattle.rh_session.specs.Outcome.{Answered, Finished, BrokeOff, status_of}
-use Rattle.rh_session.proofs.SessionLemmas.{still_long, or_false, is_above, split_at, reached, state_of-append, text_of-append}
+use Rattle.rh_session.proofs.SessionLemmas.{still_long, is_above, split_at, reached, state_of-append, text_of-append}
 
 Consumes-more : (a b c : Option (List ℕ)) (x y : List ℕ) → Consumes a b x → Consumes b c y → Consumes a c (x ++ y)
 Consumes-more None b c x y p q = tt

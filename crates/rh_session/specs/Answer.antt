@@ -1,8 +1,8 @@
 -- What is written for a line.
-use Rattle.std.specs.Prelude.{◌≡◌, ℕ, Bool, List, [], Option, Some, None, Ok, Err, if◌then◌else◌, is_err, ◌||◌, ◌++◌}
+use Rattle.std.specs.Prelude.{ℕ, List, [], Option, is_err, ◌||◌, ◌++◌}
 use Rattle.rh_defs.specs.declared.command.Command.{Command}
 use Rattle.rh_defs.specs.Desk.{Desk}
-use Rattle.rh_defs.specs.Line.{Meaning, line_means}
+use Rattle.rh_defs.specs.Line.{Meaning}
 use Rattle.rh_defs.specs.Script.{meaning_desk, line_desk, is_bad}
 use Rattle.rh_defs.specs.Text.{reply_text, fault_text}
 use Rattle.rh_session.specs.declared.answer.Answer.{Answer}

@@ -3,6 +3,7 @@
 
 mod answer;
 mod desktop;
+mod known;
 mod line;
 mod running;
 mod session;

@@ -1,7 +1,8 @@
 //! A script in the middle of its run.
 
-ghost use Rattle.std.specs.Prelude.{◌≡◌, ◌++◌, [], not, ◌==◌, ◌||◌, length, IfOk, IfSome, IsTrue, OnOk};
+ghost use Rattle.std.specs.Prelude.{◌≡◌, ◌++◌, [], false, not, ◌==◌, ◌||◌, length, IfOk, IfSome, IsTrue, OnOk};
 ghost use Rattle.rh_defs.specs.Desk.{Desk};
+ghost use Rattle.rh_defs.specs.Known.{uses_post};
 ghost use Rattle.rh_defs.specs.Range.{in_range};
 ghost use Rattle.rh_defs.specs.Script.{line_text, meaning_text, rest_text};
 ghost use Rattle.rh_lines.specs.Flow.{Puts};
@@ -101,7 +102,8 @@ impl<D: Desktop> Session<D> {
         held: &mut Held,
         writer: &mut W,
     ) -> Result<(), WriteFailed>
-        requires { IfOk meaning (λ found. IfSome found (λ command. IsTrue (in_range command))) }
+        requires in_range { IfOk meaning (λ found. IfSome found (λ command. IsTrue (in_range command))) }
+        requires known { IfOk meaning (λ found. IfSome found (λ command. uses_post command ≡ false)) }
         ensures text { (s : State) → IsState D.spells self.old s → Gathers (W.output writer.old) (W.output writer.new) result held.old.bytes held.new.bytes (meaning_text s.desk meaning) }
         ensures state { (s : State) → IsState D.spells self.old s → IsState D.spells self.new (state_after_meaning s meaning) }
     {

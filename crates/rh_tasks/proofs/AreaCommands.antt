@@ -1,21 +1,22 @@
 -- Areas that get longer or shorter by whole pages.
-use Rattle.std.proofs.Common.{◌≡◌, ◌≢◌, ℕ, zero, suc, ◌+◌, ◌-◌, ◌*◌, ◌/◌, ◌%◌, ◌<◌, ◌≤◌, Bool, true, false, cond, refl, ap, sym, subst, ◌∙◌, arith, List, length}
-use Rattle.std.specs.Prelude.{ℤ, pos, negsuc, ◌≤ℤ◌, ◌<ℤ◌, map, Ok, Err, Some, None, find, nat_lt, ◌==◌, slice_set, slice_index}
+use Rattle.std.proofs.Common.{◌≡◌, ◌≢◌, ℕ, ◌+◌, ◌-◌, ◌*◌, ◌/◌, ◌%◌, ◌<◌, ◌≤◌, Bool, true, false, cond, refl, ap, sym, ◌∙◌, arith, List, length}
+use Rattle.std.specs.Prelude.{ℤ, pos, negsuc, map, Ok, Err, None, nat_lt, ◌==◌, slice_set, slice_index}
 use Rattle.std.proofs.lemmas.Bool.Decides.{nat_tests}
+use Rattle.std.specs.Int.Signed.{lt_z}
 use Rattle.std.proofs.lemmas.Int.{ints}
 use Rattle.std.specs.List.{position}
 use borrow.Author.Tests.{ltb-false}
-use Rattle.rh_defs.specs.Memory.{Memory, IsOpen, OnlyArea, bytes}
+use Rattle.rh_defs.specs.Memory.{Memory, OnlyArea, bytes}
 use Rattle.rh_defs.specs.Files.{FileList}
 use Rattle.rh_defs.specs.declared.command.Command.TheVariants as command
 use Rattle.rh_defs.specs.declared.refusal.Refusal.{Refusal}
 use Rattle.rh_defs.specs.declared.refusal.Refusal.TheVariants.{ExcessiveShrink, NoRoom, NoArea, TooBig}
 use Rattle.rh_defs.specs.declared.reply.Reply.TheVariants as reply
-use Rattle.rh_defs.specs.Chain.{Granted, ◌>>=◌, ◌>>◌, refuse_if}
+use Rattle.rh_defs.specs.Chain.{◌>>=◌, ◌>>◌, refuse_if}
 use Rattle.rh_defs.specs.Pieces.{page, pages_for, lacks_pages}
 use Rattle.rh_defs.specs.Module.{whole_pages, changed_length}
 use Rattle.rh_defs.specs.Range.{in_range}
-use Rattle.rh_defs.specs.Desk.{Desk, Made, free_pages}
+use Rattle.rh_defs.specs.Desk.{Desk, free_pages}
 use Rattle.rh_defs.specs.Commands.{pages_after, least_length, scrap_area, shrinks_below, change_pages, change_made, change_area, with_pages}
 use Rattle.rh_tasks.specs.declared.seat.Seat.{Seat}
 use Rattle.rh_tasks.specs.declared.made.MadeArea.{MadeArea}
@@ -25,38 +26,38 @@ use Rattle.rh_tasks.proofs.Chains.{begins, ends, past, stops, granted-same, lt-t
 use Rattle.rh_tasks.proofs.Worlds.{free-is, granted-keeps}
 use Rattle.rh_tasks.proofs.Fixed.{fixed-at, fixed-desk, fixed-world, length-fixed}
 use Rattle.rh_tasks.proofs.Mades.{made-desk, made-world}
-use Rattle.rh_tasks.proofs.MadeCommands.{HasMade, remove-none, made-found}
+use Rattle.rh_tasks.proofs.MadeCommands.{HasMade, made-found}
 use Rattle.rh_tasks.proofs.Finding.{no-made}
 
 -- ---- how many pages an area has after the change
 
-pub after-more : (free pages more : ℕ) (delta : ℤ) → pos 0 ≤ℤ delta → 4096 * more ≡ whole_pages delta → more ≤ free → pages_after free 0 pages delta ≡ Ok (pages + more)
+pub after-more : (free pages more : ℕ) (delta : ℤ) → lt_z delta (pos 0) ≡ false → 4096 * more ≡ whole_pages delta → more ≤ free → pages_after free 0 pages delta ≡ Ok (pages + more)
 unfolding pages_after ◌>>=◌ ◌>>◌ refuse_if
 after-more free pages more (pos n) up is room =
     let enough : lacks_pages free (changed_length (page * pages) (pos n) - page * pages) ≡ false = lt-false free _ (omega (arith, is, room)) in
     let long : changed_length (page * pages) (pos n) / page ≡ pages + more = omega (arith, is) in
     rw (enough, long) refl
-after-more free pages more (negsuc n) up is room = absurd (omega (arith, ints, up))
+after-more free pages more (negsuc n) up is room = absurd (cc)
 
-pub after-full : (free pages more : ℕ) (delta : ℤ) → pos 0 ≤ℤ delta → 4096 * more ≡ whole_pages delta → free < more → pages_after free 0 pages delta ≡ Err NoRoom
+pub after-full : (free pages more : ℕ) (delta : ℤ) → lt_z delta (pos 0) ≡ false → 4096 * more ≡ whole_pages delta → free < more → pages_after free 0 pages delta ≡ Err NoRoom
 unfolding pages_after ◌>>=◌ ◌>>◌ refuse_if
 after-full free pages more (pos n) up is full =
     let lacks : lacks_pages free (changed_length (page * pages) (pos n) - page * pages) ≡ true = lt-true free _ (omega (arith, is, full)) in
     rw lacks refl
-after-full free pages more (negsuc n) up is full = absurd (omega (arith, ints, up))
+after-full free pages more (negsuc n) up is full = absurd (cc)
 
-pub after-less : (free pages more : ℕ) (delta : ℤ) → delta <ℤ pos 0 → 4096 * more ≡ whole_pages delta → more ≤ pages → pages_after free 0 pages delta ≡ Ok (pages - more)
+pub after-less : (free pages more : ℕ) (delta : ℤ) → lt_z delta (pos 0) ≡ true → 4096 * more ≡ whole_pages delta → more ≤ pages → pages_after free 0 pages delta ≡ Ok (pages - more)
 unfolding pages_after ◌>>=◌ ◌>>◌ refuse_if
-after-less free pages more (pos n) down is room = absurd (omega (arith, ints, down))
+after-less free pages more (pos n) down is room = absurd (omega (arith, ints))
 after-less free pages more (negsuc n) down is room =
     let fits : shrinks_below 0 (page * pages) (negsuc n) ≡ false = lt-false (page * pages) _ (omega (arith, is, room)) in
     let enough : lacks_pages free (changed_length (page * pages) (negsuc n) - page * pages) ≡ false = lt-false free _ (omega (arith, is)) in
     let long : changed_length (page * pages) (negsuc n) / page ≡ pages - more = omega (arith, is, room) in
     rw (fits, enough, long) refl
 
-pub after-short : (free pages more : ℕ) (delta : ℤ) → delta <ℤ pos 0 → 4096 * more ≡ whole_pages delta → pages < more → pages_after free 0 pages delta ≡ Err ExcessiveShrink
+pub after-short : (free pages more : ℕ) (delta : ℤ) → lt_z delta (pos 0) ≡ true → 4096 * more ≡ whole_pages delta → pages < more → pages_after free 0 pages delta ≡ Err ExcessiveShrink
 unfolding pages_after ◌>>=◌ ◌>>◌ refuse_if
-after-short free pages more (pos n) down is short = absurd (omega (arith, ints, down))
+after-short free pages more (pos n) down is short = absurd (omega (arith, ints))
 after-short free pages more (negsuc n) down is short =
     let below : shrinks_below 0 (page * pages) (negsuc n) ≡ true = lt-true (page * pages) _ (omega (arith, is, short)) in
     rw below refl
@@ -157,9 +158,9 @@ module _ {m : Memory} {seats : List Seat} {made : List MadeArea} {files : FileLi
       unfolding change_made made_of
       area-done =
           begins _ (made-found w k a h) (begins _ (made-args ∙ granted) (past _ _ _ (lt-false a.most p fits)
-            (granted-same (sym (made-desk w h.sits only
-              ∙ ap (λ v. let e : Desk = record d { made = map (with_pages a.number v) (map (made_of m) made) } in e) is
-              ∙ ap (λ v. let e : Desk = record d { made = map (with_pages v p) (map (made_of m) made) } in e) h.number)) refl)))
+          (granted-same (sym (made-desk w h.sits only
+          ∙ ap (λ v. let e : Desk = record d { made = map (with_pages a.number v) (map (made_of m) made) } in e) is
+          ∙ ap (λ v. let e : Desk = record d { made = map (with_pages v p) (map (made_of m) made) } in e) h.number)) refl)))
 
       pub made-done : change_area d k delta ≡ Ok (desk_of n seats made files next, reply.Moved (whole_pages delta))
       made-done = made-way high ∙ area-done

@@ -9,7 +9,7 @@ use Rattle.rh_defs.specs.declared.reply.Reply.TheVariants as reply
 use Rattle.rh_defs.specs.declared.command.Command.TheVariants as command
 use Rattle.rh_defs.specs.Range.{in_range}
 use Rattle.rh_defs.specs.Slot as plain
-use Rattle.rh_defs.specs.Desk.{Desk, Task, with_slot}
+use Rattle.rh_defs.specs.Desk.{with_slot}
 use Rattle.rh_defs.specs.Commands.{budge}
 use Rattle.rh_slot.specs.declared.slot.Slot.{Slot}
 use Rattle.rh_slot.specs.Area.{IsSlot, slot_in}
@@ -18,7 +18,7 @@ use Rattle.rh_tasks.specs.declared.made.MadeArea.{MadeArea}
 use Rattle.rh_tasks.specs.declared.next.Next.{Next}
 use Rattle.rh_tasks.specs.View.{desk_of, task_of, IsWorld, HasSlot}
 use Rattle.rh_tasks.specs.Finding.{Found}
-use Rattle.rh_tasks.proofs.Lists.{Sits, all-at}
+use Rattle.rh_tasks.proofs.Lists.{all-at}
 use Rattle.rh_tasks.proofs.Chains.{begins, granted-same}
 use Rattle.rh_tasks.proofs.Finding.{sits, named-is}
 use Rattle.rh_tasks.proofs.Worlds.{granted-keeps}

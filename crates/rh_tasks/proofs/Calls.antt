@@ -1,23 +1,20 @@
 -- Commands that are a call on the slot of a named task.
-use Rattle.std.proofs.Common.{◌≡◌, ℕ, ◌∙◌, sym, ap, refl, subst, List}
-use Rattle.std.specs.Prelude.{Ok, Err, true, false, Result, ℤ}
-use Rattle.rh_defs.specs.Memory.{Memory, OnlyArea}
+use Rattle.std.proofs.Common.{◌≡◌, ℕ, ◌∙◌, sym, ap, refl, List}
+use Rattle.std.specs.Prelude.{Ok, Err, true, false, ℤ}
+use Rattle.rh_defs.specs.Memory.{Memory}
 use Rattle.rh_defs.specs.Files.{FileList}
 use Rattle.rh_defs.specs.declared.command.Command.{Command}
 use Rattle.rh_defs.specs.declared.refusal.Refusal.{Refusal}
-use Rattle.rh_defs.specs.declared.refusal.Refusal.TheVariants.{NoName, Busy, NotABlock}
+use Rattle.rh_defs.specs.declared.refusal.Refusal.TheVariants.{Busy, NotABlock}
 use Rattle.rh_defs.specs.declared.reply.Reply.{Reply}
-use Rattle.rh_defs.specs.declared.reply.Reply.TheVariants as reply
 use Rattle.rh_defs.specs.Chain.{Granted, ◌>>=◌, ◌>>◌, refuse_if, found_or}
-use Rattle.rh_defs.specs.Pieces.{Split}
-use Rattle.rh_defs.specs.Heap.{Segment}
 use Rattle.rh_defs.specs.Range.{in_range}
 use Rattle.rh_defs.specs.Slot as plain
 use Rattle.rh_defs.specs.Desk.{Desk, Task, named, free_pages, with_slot, idle_block, idle_buffer}
 use Rattle.rh_defs.specs.Commands.{Answer}
 use Rattle.rh_defs.specs.Step.{change}
 use Rattle.rh_slot.specs.declared.slot.Slot.{Slot}
-use Rattle.rh_slot.specs.Area.{IsSlot, slot_in}
+use Rattle.rh_slot.specs.Area.{slot_in}
 use Rattle.rh_tasks.specs.declared.seat.Seat.{Seat}
 use Rattle.rh_tasks.specs.declared.made.MadeArea.{MadeArea}
 use Rattle.rh_tasks.specs.declared.next.Next.{Next}

@@ -1,5 +1,5 @@
 -- A task's end.
-use Rattle.std.proofs.Common.{◌≡◌, ℕ, ◌<◌, refl, ap, sym, ◌∙◌, List}
+use Rattle.std.proofs.Common.{◌≡◌, ℕ, ◌<◌, refl, sym, List}
 use Rattle.std.specs.Prelude.{Ok, true}
 use Rattle.std.specs.List.{remove}
 use Rattle.rh_defs.specs.Memory.{Memory, closed}

@@ -13,9 +13,8 @@ use Rattle.rh_defs.specs.declared.refusal.Refusal.TheVariants.{NoName, NoArea}
 use Rattle.rh_defs.specs.Chain.{found_or}
 use Rattle.rh_defs.specs.Files.{FileList}
 use Rattle.rh_defs.specs.Memory.{Memory}
-use Rattle.rh_defs.specs.Desk.{Task, Made, has_name, named}
+use Rattle.rh_defs.specs.Desk.{has_name, named}
 use Rattle.rh_defs.specs.Commands.{is_numbered}
-use Rattle.rh_defs.specs.Memory.{bytes}
 use Rattle.rh_tasks.specs.declared.seat.Seat.{Seat}
 use Rattle.rh_tasks.specs.declared.made.MadeArea.{MadeArea}
 use Rattle.rh_tasks.specs.declared.next.Next.{Next}

@@ -1,20 +1,17 @@
 -- A world in which one of areas 0 to 5 has changed.
-use Rattle.std.proofs.Common.{◌≡◌, ℕ, zero, suc, ◌+◌, ◌-◌, ◌*◌, ◌/◌, ◌%◌, ◌<◌, ◌≤◌, ◌≢◌, refl, ap, subst, arith, List, [], ◌∷◌, length, ◌∙◌, sym}
+use Rattle.std.proofs.Common.{◌≡◌, ℕ, zero, suc, ◌+◌, ◌*◌, ◌%◌, ◌<◌, ◌≢◌, refl, ap, arith, List, [], ◌∷◌, length, ◌∙◌, sym}
 use Rattle.std.specs.Prelude.{map, slice_index, slice_set}
-use Rattle.std.specs.List.{AllByRecursion}
 use Rattle.rh_defs.specs.Memory.{Memory, IsOpen, OnlyArea, bytes}
 use Rattle.rh_defs.specs.Pieces.{total}
 use Rattle.rh_defs.specs.Files.{FileList}
-use Rattle.rh_defs.specs.Heap.{Heap}
-use Rattle.rh_defs.specs.Post as post
-use Rattle.rh_defs.specs.Desk.{Desk, Made, task_pages, used_pages, with_module}
+use Rattle.rh_defs.specs.Desk.{Desk, used_pages, with_module}
 use Rattle.rh_defs.specs.Laws.{IsDesk}
 use Rattle.rh_module.specs.Area.{IsModule, heap_in}
 use Rattle.rh_tasks.specs.declared.seat.Seat.{Seat}
 use Rattle.rh_tasks.specs.declared.made.MadeArea.{MadeArea}
 use Rattle.rh_tasks.specs.declared.next.Next.{Next}
-use Rattle.rh_tasks.specs.View.{the_module, fixed, pages_at, task_of, made_of, fixed_pages, post_of, desk_of, slot_area, made_area, Avoids, HasSlot, IsAbove, HasAreas, IsWorld}
-use Rattle.rh_tasks.proofs.Lists.{Sits, cons, all-at, avoids-below}
+use Rattle.rh_tasks.specs.View.{the_module, pages_at, fixed_pages, post_of, desk_of, slot_area, made_area, Avoids, HasAreas, IsWorld}
+use Rattle.rh_tasks.proofs.Lists.{avoids-below}
 use Rattle.rh_tasks.proofs.Frames.{Stay, pages-stay, tasks-stay, slots-stay, mades-stay, mades-opened, fixed-opened, post-stays, module-stays, count-stays}
 use Rattle.rh_tasks.proofs.Worlds.{same-desk}
 
@@ -104,8 +101,17 @@ module _ {m n : Memory} {seats : List Seat} {made : List MadeArea} {files : File
         (tasks-stay seats stay off-slots) (post-stays seats next.message stay (λ q. ne (sym q))) (fixed-set k stay low ne) (mades-stay made stay off-made) only.pages
 
     fixed-ledger : n.free + used_pages (desk_of n seats made files next) ≡ n.pages
-    fixed-ledger = omega (arith, w.ledger, only.ledger, only.pages, ap used_pages fixed-desk,
-        total-set (fixed_pages m) k (pages_at n k) (rw length-fixed low), fixed-at m k low ne, pages-of m k whole_before, pages-of n k whole_after)
+    fixed-ledger = omega (
+      arith,
+      w.ledger,
+      only.ledger,
+      only.pages,
+      ap used_pages fixed-desk,
+      total-set (fixed_pages m) k (pages_at n k) (rw length-fixed low),
+      fixed-at m k low ne,
+      pages-of m k whole_before,
+      pages-of n k whole_after,
+    )
 
     pub fixed-world : IsDesk (desk_of n seats made files next) → IsWorld n seats made files next
     fixed-world is = record { desk = is; areas = changed-areas (module-stays stay (λ q. ne (sym q)) w.areas.module_area); ledger = fixed-ledger }

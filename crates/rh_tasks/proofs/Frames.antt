@@ -1,16 +1,14 @@
 -- What stays of a desk where one area of the store has changed.
-use Rattle.std.proofs.Common.{◌≡◌, ℕ, zero, suc, ◌+◌, ◌/◌, ◌≤◌, ◌<◌, ◌≢◌, cond, refl, ap, subst, arith, List, [], ◌∷◌, length, ◌∙◌, sym}
-use Rattle.std.specs.Prelude.{Option, Some, None, IsSome, is_some, unwrap_or, map, ◌==◌, if◌then◌else◌, find}
+use Rattle.std.proofs.Common.{◌≡◌, ℕ, zero, suc, ◌/◌, ◌≢◌, refl, ap, subst, arith, List, [], ◌∷◌, length, ◌∙◌, sym}
+use Rattle.std.specs.Prelude.{Option, Some, None, IsSome, is_some, unwrap_or, map, ◌==◌, if◌then◌else◌}
 use Rattle.std.proofs.Common.{inl, inr}
 use Rattle.std.proofs.lemmas.Bool.{cases_eq}
 use Rattle.std.proofs.lemmas.Bool.Decides.{nat_tests}
-use Rattle.std.proofs.Math.ListN.{get_or, set}
+use Rattle.std.proofs.Math.ListN.{set}
 use Rattle.std.specs.List.{AllByRecursion}
-use Rattle.rh_defs.specs.Memory.{Memory, IsOpen, OnlyArea, OthersStay, bytes, open_below}
+use Rattle.rh_defs.specs.Memory.{Memory, IsOpen, OthersStay, bytes, open_below}
 use Rattle.rh_defs.proofs.MemoryLaws.{open_below-same}
 use Rattle.rh_defs.specs.Slot as plain
-use Rattle.rh_defs.specs.SlotImage.{SpellsSlot}
-use Rattle.rh_defs.specs.HeapImage.{IsImage, heap_of}
 use Rattle.rh_defs.specs.Heap.{Heap}
 use Rattle.rh_defs.specs.Post as post
 use Rattle.rh_defs.specs.Desk.{Task, Made, edit_task}
@@ -20,8 +18,8 @@ use Rattle.rh_slot.specs.declared.slot.Slot.{Slot}
 use Rattle.rh_slot.specs.Area.{IsSlot, slot_in}
 use Rattle.rh_tasks.specs.declared.seat.Seat.{Seat}
 use Rattle.rh_tasks.specs.declared.made.MadeArea.{MadeArea}
-use Rattle.rh_tasks.specs.View.{the_module, fixed, pages_at, task_of, made_of, fixed_pages, post_of, slot_area, made_area, made_number, post_seat, Avoids, AreDistinct, HasSlot, IsAbove}
-use Rattle.rh_tasks.proofs.Lists.{Sits, cons, all-at, all-set, avoids-at}
+use Rattle.rh_tasks.specs.View.{the_module, fixed, pages_at, task_of, made_of, fixed_pages, post_of, slot_area, made_area, made_number, Avoids, AreDistinct, HasSlot, IsAbove}
+use Rattle.rh_tasks.proofs.Lists.{Sits, cons, avoids-at}
 
 pub if_apart : {A : Type 0} (a b : ℕ) (x y : A) → a ≢ b → (if a == b then x else y) ≡ y
 if_apart a b x y h = grind (arith, nat_tests)
@@ -92,7 +90,7 @@ tasks-edited {m} {n} (x ∷ seats) zero s s' edit at handles areas stay same =
     ∙ sym (if_same x.handle s.handle _ _ (ap (λ (y : Seat). y.handle) at.is))
 tasks-edited {m} {n} (x ∷ seats) (suc i) s s' edit at handles areas stay same =
     cons (task-stays x stay (λ q. avoids-at slot_area x.slot.area.0 seats i s areas.0 (step at) (sym q)))
-      (tasks-edited seats i s s' edit (step at) handles.1 areas.1 stay same)
+    (tasks-edited seats i s s' edit (step at) handles.1 areas.1 stay same)
     ∙ sym (if_apart x.handle s.handle _ _ (λ q. avoids-at (λ (y : Seat). y.handle) x.handle seats i s handles.0 (step at) (sym q)))
 
 pub slots-edited : {m n : Memory} (seats : List Seat) (i : ℕ) (s s' : Seat)
@@ -102,9 +100,10 @@ slots-edited [] i s s' at areas all stay has = absurd (omega (arith, at.inside))
 slots-edited (x ∷ seats) zero s s' at areas all stay has =
     let off : Avoids s.slot.area.0 (map slot_area seats) = (let P : ℕ → Type 0 = λ a. Avoids a (map slot_area seats) in subst P (ap slot_area at.is) areas.0) in
     (has, slots-stay seats stay off all.1)
-slots-edited (x ∷ seats) (suc i) s s' at areas all stay has =
-    (has-slot-stays x.slot stay (λ q. avoids-at slot_area x.slot.area.0 seats i s areas.0 (step at) (sym q)) all.0,
-     slots-edited seats i s s' (step at) areas.1 all.1 stay has)
+slots-edited (x ∷ seats) (suc i) s s' at areas all stay has = (
+  has-slot-stays x.slot stay (λ q. avoids-at slot_area x.slot.area.0 seats i s areas.0 (step at) (sym q)) all.0,
+  slots-edited seats i s s' (step at) areas.1 all.1 stay has,
+)
 
 -- ---- all made areas
 
@@ -139,8 +138,8 @@ mades-edited {m} {n} (x ∷ made) zero a at numbers areas stay =
     subst P at.is (cons (sym (if_same x.number x.number _ _ refl)) (mades-stay made stay' off ∙ sym (none-numbered x.number (pages_at n x.area.0) m made numbers.0)))
 mades-edited {m} {n} (x ∷ made) (suc i) a at numbers areas stay =
     cons (made-stays x stay (λ q. avoids-at made_area x.area.0 made i a areas.0 (step at) (sym q))
-      ∙ sym (if_apart x.number a.number _ _ (λ q. avoids-at made_number x.number made i a numbers.0 (step at) (sym q))))
-      (mades-edited made i a (step at) numbers.1 areas.1 stay)
+    ∙ sym (if_apart x.number a.number _ _ (λ q. avoids-at made_number x.number made i a numbers.0 (step at) (sym q))))
+    (mades-edited made i a (step at) numbers.1 areas.1 stay)
 
 pub mades-opened-at : {m n : Memory} (made : List MadeArea) (i : ℕ) (a : MadeArea)
     → Sits made i a → AreDistinct (map made_area made) → Stay m n a.area.0 → IsOpen n a.area.0
@@ -159,7 +158,7 @@ pub fixed-stay : {m n : Memory} {id : ℕ} → Stay m n id → IsAbove id → fi
 unfolding fixed_pages
 fixed-stay {m} {n} {id} stay above =
     cons (pages-stay 0 stay (λ q. absurd (omega arith))) (cons refl (cons (pages-stay 2 stay (λ q. absurd (omega arith)))
-      (cons (pages-stay 3 stay (λ q. absurd (omega arith))) (cons (pages-stay 4 stay (λ q. absurd (omega arith))) (cons (pages-stay 5 stay (λ q. absurd (omega arith))) refl)))))
+    (cons (pages-stay 3 stay (λ q. absurd (omega arith))) (cons (pages-stay 4 stay (λ q. absurd (omega arith))) (cons (pages-stay 5 stay (λ q. absurd (omega arith))) refl)))))
 
 all-opened : {m n : Memory} {id : ℕ} (ids : List ℕ) → Stay m n id → IsOpen n id → AllByRecursion (IsOpen m) ids → AllByRecursion (IsOpen n) ids
 all-opened [] stay o all = tt

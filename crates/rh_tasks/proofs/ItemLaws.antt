@@ -1,27 +1,27 @@
 -- What is listed, from what the world keeps.
-use Rattle.std.proofs.Common.{◌≡◌, ℕ, zero, suc, ◌+◌, ◌-◌, ◌*◌, ◌/◌, ◌%◌, ◌<◌, ◌≤◌, Bool, true, false, refl, ap, sym, subst, ◌∙◌, arith, List, [], ◌∷◌, ◌++◌, length}
-use Rattle.std.specs.Prelude.{map, Option, Some, None, slice_get, max}
+use Rattle.std.proofs.Common.{◌≡◌, ℕ, zero, suc, ◌+◌, ◌-◌, ◌*◌, ◌<◌, ◌≤◌, refl, ap, sym, ◌∙◌, arith, List, [], ◌∷◌, ◌++◌, length}
+use Rattle.std.specs.Prelude.{map, Option, Some, None, slice_get}
 use Rattle.std.specs.List.{AllByRecursion, enumerate_from}
 use Rattle.std.specs.Option.{option_map}
 use Rattle.std.proofs.Math.ListN.{get_or, length-append}
 use Rattle.std.proofs.lemmas.List.{length-map}
 use Rattle.std.proofs.lemmas.Option.{slice_get-map, slice_get-get_or, slice_get_past}
 use Rattle.rh_defs.specs.Memory.{Memory, bytes}
-use Rattle.rh_defs.specs.Pieces.{page, total}
+use Rattle.rh_defs.specs.Pieces.{total}
 use Rattle.rh_defs.specs.Files.{FileList}
 use Rattle.rh_defs.specs.Heap.{Heap, Segment, Used, Hole, size_of, hole_size, largest_hole, largest, free_bytes, base}
 use Rattle.rh_defs.specs.Slot as plain
-use Rattle.rh_defs.specs.Desk.{Desk, Task, Made, task_pages, module_pages}
-use Rattle.rh_defs.specs.Listing.{area_items, area_item}
+use Rattle.rh_defs.specs.Desk.{Desk, Task, Made, task_pages, module_pages, free_pages}
+use Rattle.rh_defs.specs.Listing.{area_items, area_item, areas_at}
 use Rattle.rh_defs.specs.declared.listing.AreaItem.{AreaItem}
 use Rattle.rh_defs.specs.declared.listing.AreaItem.TheVariants as item
 use Rattle.rh_slot.specs.Area.{slot_in}
 use Rattle.rh_tasks.specs.declared.seat.Seat.{Seat}
 use Rattle.rh_tasks.specs.declared.made.MadeArea.{MadeArea}
 use Rattle.rh_tasks.specs.declared.next.Next.{Next}
-use Rattle.rh_tasks.specs.View.{the_module, fixed, pages_at, task_of, made_of, fixed_pages, post_of, desk_of, HasSlot, HasAreas, IsWorld}
+use Rattle.rh_tasks.specs.View.{pages_at, task_of, made_of, fixed_pages, post_of, desk_of, HasSlot, IsWorld}
 use Rattle.rh_tasks.specs.Items.{fixed_items, made_items, slot_items, items_in}
-use Rattle.rh_tasks.proofs.Lists.{Sits, cons}
+use Rattle.rh_tasks.proofs.Lists.{cons}
 use Rattle.rh_tasks.proofs.Worlds.{few-made, few-seats}
 
 -- ---- members of joined lists
@@ -76,8 +76,19 @@ module _ {m : Memory} {seats : List Seat} {made : List MadeArea} {files : FileLi
 
   pub few-items : length (area_items d) ≤ 70
   few-items =
-      rw items-are (omega (arith, length-append (fixed_items m ++ made_items m made) (slot_items m seats), length-append (fixed_items m) (made_items m made),
-        length-map made (λ (a : MadeArea). item.Area a.number (pages_at m a.area.0)), length-map seats (λ (s : Seat). item.Slot s.name (pages_at m s.slot.area.0)), few-made w, few-seats w))
+      rw items-are (omega (
+        arith,
+        length-append (fixed_items m ++ made_items m made) (slot_items m seats),
+        length-append (fixed_items m) (made_items m made),
+        length-map made (λ (a : MadeArea). item.Area a.number (pages_at m a.area.0)),
+        length-map seats (λ (s : Seat). item.Slot s.name (pages_at m s.slot.area.0)),
+        few-made w,
+        few-seats w,
+      ))
+
+  -- what is told of an item
+  pub told : (i : ℕ) {free : ℕ} {x : Option AreaItem} → free ≡ free_pages d → x ≡ slice_get (items_in m seats made) i → (free, x) ≡ areas_at d i
+  told i {free} {x} p q = let e : x ≡ slice_get (area_items d) i = q ∙ ap (λ l. slice_get l i) (sym items-are) in cc
 
 -- item i, by where it stands
 pub item-fixed : (m : Memory) (seats : List Seat) (made : List MadeArea) (i : ℕ) → i < 6 → slice_get (items_in m seats made) i ≡ Some (item.Area i (pages_at m i))

@@ -1,14 +1,14 @@
 -- A world with one seat or made area more, or one less.
-use Rattle.std.proofs.Common.{◌≡◌, ℕ, zero, suc, ◌+◌, ◌-◌, ◌*◌, ◌/◌, ◌%◌, ◌<◌, ◌≤◌, ◌≢◌, Bool, true, false, cond, refl, ap, subst, arith, List, [], ◌∷◌, ◌++◌, length, ◌∙◌, sym, inl, inr}
+use Rattle.std.proofs.Common.{◌≡◌, ℕ, zero, suc, ◌+◌, ◌<◌, ◌≢◌, true, false, cond, refl, ap, subst, arith, List, [], ◌∷◌, ◌++◌, length, ◌∙◌, sym, inl, inr}
 use Rattle.std.specs.Prelude.{map, filter, not, ◌==◌, Option, Some, None, IsNone, IsSome, is_some}
 use Rattle.std.specs.List.{AllByRecursion, remove}
-use Rattle.std.proofs.Math.ListN.{get_or, length-append}
+use Rattle.std.proofs.Math.ListN.{length-append}
 use Rattle.std.proofs.lemmas.List.{map-append}
 use Rattle.std.proofs.lemmas.List.Edits.{length-remove}
 use Rattle.std.proofs.lemmas.Bool.{cases_eq}
 use Rattle.std.proofs.lemmas.Bool.Decides.{nat_tests}
-use Rattle.rh_defs.specs.Memory.{Memory, IsOpen, OnlyArea, OthersStay, bytes, opened, closed, open_below}
-use Rattle.rh_defs.proofs.MemoryLaws.{open_below-same, open_below-opened, open_below-closed, open_apart, area-opened, area-opened_same, area-closed, area-closed_same, bytes-none, bytes-opened, free-opened, pages-opened, free-closed, pages-closed, IsOpen-opened}
+use Rattle.rh_defs.specs.Memory.{Memory, IsOpen, OnlyArea, opened, closed, open_below}
+use Rattle.rh_defs.proofs.MemoryLaws.{open_below-same, open_below-opened, open_below-closed, open_apart, area-opened, area-closed, bytes-none, free-closed, pages-closed, IsOpen-opened}
 use Rattle.rh_defs.specs.Pieces.{total}
 use Rattle.rh_defs.proofs.Cuts.{total-append}
 use Rattle.rh_defs.specs.Files.{FileList}
@@ -16,18 +16,16 @@ use Rattle.rh_defs.specs.Heap.{Heap}
 use Rattle.rh_defs.specs.Post as post
 use Rattle.rh_defs.specs.Desk.{Desk, Task, Made, task_pages, used_pages, with_delivered}
 use Rattle.rh_defs.specs.Laws.{IsDesk}
-use Rattle.rh_slot.specs.Area.{IsSlot, slot_in}
+use Rattle.rh_slot.specs.Area.{IsSlot}
 use Rattle.rh_defs.specs.declared.sizes.TheConstants.{MAX_AREAS}
 use Rattle.rh_tasks.specs.declared.seat.Seat.{Seat}
 use Rattle.rh_tasks.specs.declared.made.MadeArea.{MadeArea}
 use Rattle.rh_tasks.specs.declared.next.Next.{Next}
-use Rattle.rh_tasks.specs.View.{the_module, pages_at, task_of, made_of, fixed_pages, post_of, post_seat, desk_of, slot_area, made_area, made_number, Avoids, AreDistinct, HasSlot, IsAbove, HasAreas, IsWorld}
-use Rattle.rh_tasks.proofs.Lists.{Sits, cons, all-at, all-map, all-push, all-removed, avoids-at, avoids-push, avoids-back, avoids-fewer, avoids-removed, distinct-push, distinct-removed}
-use Rattle.rh_tasks.proofs.Frames.{Stay, if_same, tasks-stay, slots-stay, mades-stay, mades-opened, fixed-stay, fixed-opened, heap-stays, module-stays, opened-stays, pages-stay}
+use Rattle.rh_tasks.specs.View.{task_of, post_of, post_seat, desk_of, slot_area, made_area, Avoids, AreDistinct, HasSlot, IsAbove, HasAreas, IsWorld}
+use Rattle.rh_tasks.proofs.Lists.{Sits, all-at, all-map, all-push, all-removed, avoids-at, avoids-removed, distinct-push, distinct-removed}
+use Rattle.rh_tasks.proofs.Frames.{Stay, tasks-stay, slots-stay, mades-stay, mades-opened, fixed-stay, fixed-opened, heap-stays, module-stays, opened-stays}
 use Rattle.rh_tasks.proofs.Moves.{slot-pages}
 use Rattle.rh_tasks.proofs.Worlds.{handles, same-desk}
-use Rattle.rh_tasks.proofs.Mades.{area-sits}
-use Rattle.rh_tasks.proofs.Fixed.{pages-of}
 
 -- ---- areas that were closed, and are none of the open ones
 
@@ -147,8 +145,16 @@ module _ {m n : Memory} {seats : List Seat} {made : List MadeArea} {files : File
   joined-ledger : (handle : ℕ) → n.free + (let x : Next = record next { handle = handle } in used_pages (desk_of n (seats ++ s ∷ []) made files x)) ≡ n.pages
   unfolding task_of post_of post.post_join
   joined-ledger handle =
-      omega (arith, w.ledger, only.ledger, only.pages, ap used_pages (joined-desk handle), slot-pages still, ap length (bytes-none m s.slot.area.0 (none-is _ none)),
-        total-append task_pages (map (task_of m) seats) (task_of n s ∷ []))
+      omega (
+        arith,
+        w.ledger,
+        only.ledger,
+        only.pages,
+        ap used_pages (joined-desk handle),
+        slot-pages still,
+        ap length (bytes-none m s.slot.area.0 (none-is _ none)),
+        total-append task_pages (map (task_of m) seats) (task_of n s ∷ []),
+      )
 
   pub joined-world : (handle : ℕ) → (let x : Next = record next { handle = handle } in IsDesk (desk_of n (seats ++ s ∷ []) made files x) → IsWorld n (seats ++ s ∷ []) made files x)
   joined-world handle is = record { desk = is; areas = joined-areas; ledger = joined-ledger handle }
@@ -169,7 +175,7 @@ all-opened-else m id (j ∷ ids) off all = (opened-stays j (closed-stay m id) of
 pub fixed-opened-else : (m : Memory) (id : ℕ) → IsAbove id → AllByRecursion (IsOpen m) (0 ∷ 1 ∷ 2 ∷ 3 ∷ 4 ∷ 5 ∷ []) → AllByRecursion (IsOpen (closed m id)) (0 ∷ 1 ∷ 2 ∷ 3 ∷ 4 ∷ 5 ∷ [])
 fixed-opened-else m id up all =
     all-opened-else m id (0 ∷ 1 ∷ 2 ∷ 3 ∷ 4 ∷ 5 ∷ [])
-      ((λ q. absurd (omega arith)), ((λ q. absurd (omega arith)), ((λ q. absurd (omega arith)), ((λ q. absurd (omega arith)), ((λ q. absurd (omega arith)), ((λ q. absurd (omega arith)), tt)))))) all
+    ((λ q. absurd (omega arith)), ((λ q. absurd (omega arith)), ((λ q. absurd (omega arith)), ((λ q. absurd (omega arith)), ((λ q. absurd (omega arith)), ((λ q. absurd (omega arith)), tt)))))) all
 
 module _ {m : Memory} {seats : List Seat} {made : List MadeArea} {files : FileList} {next : Next} {i : ℕ} {s : Seat}
     (w : IsWorld m seats made files next) (at : Sits seats i s) (low : s.slot.area.0 < MAX_AREAS) where
@@ -227,10 +233,19 @@ module _ {m : Memory} {seats : List Seat} {made : List MadeArea} {files : FileLi
   unfolding task_of post_of
   left-ledger =
       let gone : total task_pages (map (task_of m) (remove seats i)) + task_pages (task_of m s) ≡ total task_pages (map (task_of m) seats) =
-        (let r = total-removed (λ (x : Seat). task_pages (task_of m x)) seats i s at in omega (arith, r, total-map task_pages (task_of m) seats, total-map task_pages (task_of m) (remove seats i))) in
-      omega (arith, w.ledger, gone, free-closed m s.slot.area.0, pages-closed m s.slot.area.0, slot-pages (all-at (HasSlot m) seats i s w.areas.slots at),
-        ap (total task_pages) (tasks-stay (remove seats i) around off-others), ap (total (λ p. p)) (fixed-stay around high), ap (total (λ (x : Made). x.pages)) (mades-stay made around off-mades),
-        ap (λ (h : Heap). h.end) (heap-stays around (λ q. absurd (omega (arith, high)))))
+      (let r = total-removed (λ (x : Seat). task_pages (task_of m x)) seats i s at in omega (arith, r, total-map task_pages (task_of m) seats, total-map task_pages (task_of m) (remove seats i))) in
+      omega (
+        arith,
+        w.ledger,
+        gone,
+        free-closed m s.slot.area.0,
+        pages-closed m s.slot.area.0,
+        slot-pages (all-at (HasSlot m) seats i s w.areas.slots at),
+        ap (total task_pages) (tasks-stay (remove seats i) around off-others),
+        ap (total (λ p. p)) (fixed-stay around high),
+        ap (total (λ (x : Made). x.pages)) (mades-stay made around off-mades),
+        ap (λ (h : Heap). h.end) (heap-stays around (λ q. absurd (omega (arith, high)))),
+      )
 
   pub left-world : IsDesk (desk_of n (remove seats i) made files next) → IsWorld n (remove seats i) made files next
   left-world is = record { desk = is; areas = left-areas; ledger = left-ledger }

@@ -1,5 +1,5 @@
 -- What a call on a slot or on the module area leaves, as the world's proofs want it.
-use Rattle.std.proofs.Common.{◌≡◌, ℕ, refl, ap}
+use Rattle.std.proofs.Common.{◌≡◌, ap}
 use Rattle.std.specs.Prelude.{Ok, Err}
 use Rattle.rh_defs.specs.Memory.{Memory}
 use Rattle.rh_defs.specs.Chain.{Granted, no_answer}
@@ -12,7 +12,7 @@ use Rattle.rh_slot.specs.Calls as slot_calls
 use Rattle.rh_module.specs.declared.module.Module.{Module}
 use Rattle.rh_module.specs.Area.{heap_in}
 use Rattle.rh_module.specs.Calls as module_calls
-use Rattle.rh_tasks.proofs.Chains.{answered, answer-refused, done, done-refused}
+use Rattle.rh_tasks.proofs.Chains.{answered, answer-refused}
 use Rattle.rh_tasks.proofs.Moves.{Slid}
 
 -- what was granted, where there is no answer

@@ -27,3 +27,4 @@ pub mod PageLaws
 pub mod Steps
 pub mod AreaCommands
 pub mod ModuleCommands
+pub mod Readers

@@ -1,5 +1,5 @@
 -- Members of lists, by their places, and lists of numbers no two of which are one.
-use Rattle.std.proofs.Common.{◌≡◌, ℕ, zero, suc, ◌+◌, ◌<◌, ◌≤◌, ◌≢◌, refl, ap, subst, arith, List, [], ◌∷◌, ◌++◌, length, take, drop, ◌∙◌, sym}
+use Rattle.std.proofs.Common.{◌≡◌, ℕ, zero, suc, ◌<◌, ◌≤◌, ◌≢◌, ap, subst, arith, List, [], ◌∷◌, ◌++◌, length, sym}
 use Rattle.std.specs.Prelude.{map}
 use Rattle.std.proofs.Math.ListN.{get_or, set}
 use Rattle.std.proofs.lemmas.List.{set-get_or}

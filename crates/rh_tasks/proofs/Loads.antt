@@ -1,6 +1,6 @@
 -- A file loaded into a new block.
-use Rattle.std.proofs.Common.{◌≡◌, ℕ, ◌+◌, ◌<◌, ◌≤◌, Bool, true, false, refl, ap, sym, subst, ◌∙◌, arith, List, [], ◌∷◌, ◌++◌, length}
-use Rattle.std.specs.Prelude.{Option, Some, None, find, Ok, Err, IsOk, is_some, nat_lt}
+use Rattle.std.proofs.Common.{◌≡◌, ℕ, ◌+◌, ◌≤◌, Bool, true, false, refl, ap, sym, subst, ◌∙◌, arith, List, [], length}
+use Rattle.std.specs.Prelude.{Option, Some, None, find, Ok, Err, IsOk}
 use Rattle.std.specs.Option.{option_map}
 use Rattle.std.specs.Str.{bytes_eq}
 use Rattle.std.proofs.lemmas.List.{length-replicate}
@@ -8,17 +8,17 @@ use Rattle.rh_defs.specs.Memory.{Memory}
 use Rattle.rh_defs.proofs.MemoryLaws.{OnlyArea-both}
 use Rattle.rh_defs.specs.Files.{FileList, file_bytes}
 use Rattle.rh_defs.specs.declared.refusal.Refusal.{Refusal}
-use Rattle.rh_defs.specs.declared.refusal.Refusal.TheVariants.{NoFile, NoBlock, BadRange}
+use Rattle.rh_defs.specs.declared.refusal.Refusal.TheVariants.{NoFile, BadRange}
 use Rattle.rh_defs.specs.declared.reply.Reply.TheVariants as reply
 use Rattle.rh_defs.specs.declared.command.Command.TheVariants as command
 use Rattle.rh_defs.specs.Chain.{Granted, ◌>>=◌, refuse_if, found_or, no_answer, answer_of}
 use Rattle.rh_defs.specs.Range.{in_range}
 use Rattle.rh_defs.specs.Pieces.{zeros}
-use Rattle.rh_defs.specs.Slot.{Slot, Flex, weight, flex_start, is_used, with_block, block_of, slot_alloc, slot_put, slot_block, IsFree}
+use Rattle.rh_defs.specs.Slot.{Slot, weight, flex_start, is_used, with_block, slot_alloc, slot_put, slot_block}
 use Rattle.rh_defs.proofs.Chains.{OnGrant, granted, granted-unless}
 use Rattle.rh_defs.proofs.Anchors.{is_free}
 use Rattle.rh_defs.proofs.SlotLaws.{block_of-at}
-use Rattle.rh_defs.specs.Desk.{Desk, with_slot, free_pages}
+use Rattle.rh_defs.specs.Desk.{Desk, free_pages}
 use Rattle.rh_defs.specs.Commands.{load}
 use Rattle.rh_slot.specs.declared.slot.Slot as code
 use Rattle.rh_slot.specs.Area.{slot_in}

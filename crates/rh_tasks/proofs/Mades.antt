@@ -1,8 +1,6 @@
 -- A world in which a made area has changed.
-use Rattle.std.proofs.Common.{◌≡◌, ℕ, zero, suc, ◌+◌, ◌-◌, ◌*◌, ◌/◌, ◌%◌, ◌<◌, ◌≤◌, ◌≢◌, cond, true, false, refl, ap, subst, arith, List, [], ◌∷◌, length, ◌∙◌, sym}
-use Rattle.std.specs.Prelude.{map, find, Some, ◌==◌}
-use Rattle.std.proofs.Math.ListN.{get_or}
-use Rattle.std.specs.List.{AllByRecursion}
+use Rattle.std.proofs.Common.{◌≡◌, ℕ, zero, suc, ◌+◌, ◌%◌, refl, ap, subst, arith, List, [], ◌∷◌, length, ◌∙◌, sym}
+use Rattle.std.specs.Prelude.{map, find, Some}
 use Rattle.rh_defs.specs.Memory.{Memory, IsOpen, OnlyArea, bytes}
 use Rattle.rh_defs.specs.Pieces.{total}
 use Rattle.rh_defs.specs.Files.{FileList}
@@ -12,8 +10,8 @@ use Rattle.rh_defs.specs.Laws.{IsDesk}
 use Rattle.rh_tasks.specs.declared.seat.Seat.{Seat}
 use Rattle.rh_tasks.specs.declared.made.MadeArea.{MadeArea}
 use Rattle.rh_tasks.specs.declared.next.Next.{Next}
-use Rattle.rh_tasks.specs.View.{pages_at, made_of, desk_of, slot_area, made_area, made_number, Avoids, AreDistinct, HasSlot, IsAbove, HasAreas, IsWorld}
-use Rattle.rh_tasks.proofs.Lists.{Sits, cons, all-at, avoids-at, avoids-back}
+use Rattle.rh_tasks.specs.View.{pages_at, made_of, desk_of, slot_area, made_area, made_number, Avoids, AreDistinct, IsAbove, HasAreas, IsWorld}
+use Rattle.rh_tasks.proofs.Lists.{Sits, all-at, avoids-at, avoids-back}
 use Rattle.rh_tasks.proofs.Frames.{Stay, if_same, if_apart, tasks-stay, slots-stay, mades-edited, mades-opened-at, fixed-stay, fixed-opened, post-stays, module-stays, count-stays}
 use Rattle.rh_tasks.proofs.Worlds.{numbers, same-desk}
 use Rattle.rh_tasks.proofs.Fixed.{pages-of}
@@ -93,8 +91,16 @@ module _ {m n : Memory} {seats : List Seat} {made : List MadeArea} {files : File
 
   made-ledger : length (bytes m a.area.0) % 4096 ≡ 0 → length (bytes n a.area.0) % 4096 ≡ 0 → n.free + used_pages (desk_of n seats made files next) ≡ n.pages
   made-ledger whole_before whole_after =
-      omega (arith, w.ledger, only.ledger, only.pages, ap used_pages made-desk, total-with_pages (pages_at n a.area.0) m made i a at (numbers w),
-        pages-of m a.area.0 whole_before, pages-of n a.area.0 whole_after)
+      omega (
+        arith,
+        w.ledger,
+        only.ledger,
+        only.pages,
+        ap used_pages made-desk,
+        total-with_pages (pages_at n a.area.0) m made i a at (numbers w),
+        pages-of m a.area.0 whole_before,
+        pages-of n a.area.0 whole_after,
+      )
 
   pub made-world : length (bytes m a.area.0) % 4096 ≡ 0 → length (bytes n a.area.0) % 4096 ≡ 0 → IsDesk (desk_of n seats made files next) → IsWorld n seats made files next
   made-world whole_before whole_after is = record { desk = is; areas = made-areas; ledger = made-ledger whole_before whole_after }

@@ -1,6 +1,6 @@
 -- A world with one made area more, or one less.
-use Rattle.std.proofs.Common.{◌≡◌, ℕ, zero, suc, ◌+◌, ◌-◌, ◌*◌, ◌/◌, ◌%◌, ◌<◌, ◌≤◌, ◌≢◌, Bool, true, false, refl, ap, subst, arith, List, [], ◌∷◌, ◌++◌, length, ◌∙◌, sym}
-use Rattle.std.specs.Prelude.{map, filter, not, ◌==◌, IsNone}
+use Rattle.std.proofs.Common.{◌≡◌, ℕ, ◌+◌, ◌/◌, ◌%◌, ◌<◌, refl, ap, arith, List, [], ◌∷◌, ◌++◌, length, ◌∙◌, sym}
+use Rattle.std.specs.Prelude.{map, filter, not, IsNone}
 use Rattle.std.specs.List.{AllByRecursion, remove}
 use Rattle.std.proofs.Math.ListN.{length-append}
 use Rattle.std.proofs.lemmas.List.{map-append}
@@ -18,12 +18,11 @@ use Rattle.rh_defs.specs.declared.sizes.TheConstants.{MAX_AREAS}
 use Rattle.rh_tasks.specs.declared.seat.Seat.{Seat}
 use Rattle.rh_tasks.specs.declared.made.MadeArea.{MadeArea}
 use Rattle.rh_tasks.specs.declared.next.Next.{Next}
-use Rattle.rh_tasks.specs.View.{the_module, pages_at, task_of, made_of, fixed_pages, post_of, desk_of, slot_area, made_area, made_number, Avoids, AreDistinct, HasSlot, IsAbove, HasAreas, IsWorld}
-use Rattle.rh_tasks.proofs.Lists.{Sits, cons, all-at, all-map, all-push, all-removed, avoids-back, avoids-push, avoids-fewer, avoids-removed, distinct-push, distinct-removed}
+use Rattle.rh_tasks.specs.View.{pages_at, made_of, post_of, desk_of, slot_area, made_area, made_number, Avoids, HasSlot, IsAbove, HasAreas, IsWorld}
+use Rattle.rh_tasks.proofs.Lists.{Sits, all-at, all-map, all-push, all-removed, avoids-back, avoids-push, avoids-fewer, avoids-removed, distinct-push, distinct-removed}
 use Rattle.rh_tasks.proofs.Frames.{Stay, tasks-stay, slots-stay, mades-stay, mades-opened, fixed-stay, fixed-opened, heap-stays, post-stays, module-stays}
 use Rattle.rh_tasks.proofs.Worlds.{numbers, same-desk}
 use Rattle.rh_tasks.proofs.Mades.{area-sits}
-use Rattle.rh_tasks.proofs.Fixed.{pages-of}
 use Rattle.rh_tasks.proofs.Joins.{none-is, off-open, closed-above, closed-stay, fixed-opened-else, filter-others, total-removed, total-map}
 
 abbrev pages_of_made : Made → ℕ
@@ -87,8 +86,14 @@ module _ {m : Memory} {seats : List Seat} {made : List MadeArea} {files : FileLi
   more-ledger : (number : ℕ) → n.free + (let x : Next = record next { area = number } in used_pages (desk_of n seats (made ++ a ∷ []) files x)) ≡ n.pages
   unfolding made_of
   more-ledger number =
-      omega (arith, w.ledger, free-opened m a.area.0, pages-opened m a.area.0, ap used_pages (made-more number),
-        total-append pages_of_made (map (made_of m) made) (record { number = a.number; most = a.most; pages = 0 } ∷ []))
+      omega (
+        arith,
+        w.ledger,
+        free-opened m a.area.0,
+        pages-opened m a.area.0,
+        ap used_pages (made-more number),
+        total-append pages_of_made (map (made_of m) made) (record { number = a.number; most = a.most; pages = 0 } ∷ []),
+      )
 
   pub more-world : (let x : Next = record next { area = next.area + 1 } in IsDesk (desk_of n seats (made ++ a ∷ []) files x) → IsWorld n seats (made ++ a ∷ []) files x)
   more-world d = record { desk = d; areas = more-areas; ledger = more-ledger (next.area + 1) }
@@ -137,10 +142,20 @@ module _ {m : Memory} {seats : List Seat} {made : List MadeArea} {files : FileLi
   unfolding made_of pages_at post_of
   less-ledger =
       let gone = total-removed (λ (x : MadeArea). pages_at m x.area.0) made i a at in
-      omega (arith, w.ledger, gone, total-map pages_of_made (made_of m) made, total-map pages_of_made (made_of m) (remove made i), whole,
-        free-closed m a.area.0, pages-closed m a.area.0,
-        ap (total task_pages) (tasks-stay seats around off-seats), ap (total (λ p. p)) (fixed-stay around high), ap (total pages_of_made) (mades-stay (remove made i) around off-others),
-        ap (λ (h : Heap). h.end) (heap-stays around (λ q. absurd (omega (arith, high)))))
+      omega (
+        arith,
+        w.ledger,
+        gone,
+        total-map pages_of_made (made_of m) made,
+        total-map pages_of_made (made_of m) (remove made i),
+        whole,
+        free-closed m a.area.0,
+        pages-closed m a.area.0,
+        ap (total task_pages) (tasks-stay seats around off-seats),
+        ap (total (λ p. p)) (fixed-stay around high),
+        ap (total pages_of_made) (mades-stay (remove made i) around off-others),
+        ap (λ (h : Heap). h.end) (heap-stays around (λ q. absurd (omega (arith, high)))),
+      )
 
   pub less-world : IsDesk (desk_of k seats (remove made i) files next) → IsWorld k seats (remove made i) files next
   less-world is = record { desk = is; areas = less-areas; ledger = less-ledger }

@@ -1,5 +1,5 @@
 -- The commands on the module area, from what its call leaves.
-use Rattle.std.proofs.Common.{◌≡◌, ℕ, ◌+◌, ◌-◌, ◌%◌, ◌≤◌, Bool, true, false, cond, refl, ap, sym, subst, ◌∙◌, arith, List, [], ◌∷◌, length}
+use Rattle.std.proofs.Common.{◌≡◌, ℕ, ◌-◌, ◌%◌, Bool, true, false, refl, ap, sym, ◌∙◌, List, [], ◌∷◌, length}
 use Rattle.std.specs.Prelude.{ℤ, map, Ok, Err, ◌==◌}
 use Rattle.std.specs.List.{list_any}
 use Rattle.rh_defs.specs.Memory.{Memory, OnlyArea, bytes}
@@ -8,10 +8,8 @@ use Rattle.rh_defs.specs.declared.command.Command.{Command}
 use Rattle.rh_defs.specs.declared.refusal.Refusal.{Refusal}
 use Rattle.rh_defs.specs.declared.refusal.Refusal.TheVariants.{NotABlock, NotYours}
 use Rattle.rh_defs.specs.declared.reply.Reply.{Reply}
-use Rattle.rh_defs.specs.declared.reply.Reply.TheVariants as reply
-use Rattle.rh_defs.specs.Chain.{Granted, ◌>>=◌, ◌>>◌, refuse_if, found_or, no_answer}
-use Rattle.rh_defs.specs.Pieces.{Split}
-use Rattle.rh_defs.specs.Heap.{Heap, Segment, block_at}
+use Rattle.rh_defs.specs.Chain.{Granted, ◌>>=◌, ◌>>◌, refuse_if, found_or}
+use Rattle.rh_defs.specs.Heap.{Heap, block_at}
 use Rattle.rh_defs.specs.Module as module_area
 use Rattle.rh_defs.specs.Range.{in_range}
 use Rattle.rh_defs.specs.Post as post
@@ -19,13 +17,11 @@ use Rattle.rh_defs.specs.Desk.{Desk, free_pages, with_module}
 use Rattle.rh_defs.specs.Commands.{Answer, module_start, own_block}
 use Rattle.rh_defs.specs.Step.{change}
 use Rattle.rh_module.specs.Area.{IsModule, heap_in}
-use Rattle.rh_module.specs.Calls.{Leaves}
 use Rattle.rh_tasks.specs.declared.seat.Seat.{Seat}
 use Rattle.rh_tasks.specs.declared.made.MadeArea.{MadeArea}
 use Rattle.rh_tasks.specs.declared.next.Next.{Next}
 use Rattle.rh_tasks.specs.View.{the_module, post_seat, post_of, desk_of, IsWorld}
 use Rattle.rh_tasks.proofs.Chains.{begins, ends, granted-same}
-use Rattle.rh_tasks.proofs.Leaves.{module-granted, module-refused, module-changed, module-unchanged}
 use Rattle.rh_tasks.proofs.Worlds.{free-is, granted-keeps}
 use Rattle.rh_tasks.proofs.Fixed.{module-desk, module-world}
 use Rattle.rh_tasks.proofs.Calls.{Looks}
@@ -80,8 +76,8 @@ module _ {m : Memory} {seats : List Seat} {made : List MadeArea} {files : FileLi
     unfolding own_block
     own-is address looks =
         owned (found_or (block_at (address - module_start) d.post.heap) NotABlock) (post.post_is_message (address - module_start) d.post) (call (free_pages d) d.post.heap) _
-          (none-yours (address - module_start) m seats next.message)
-          (λ r e. ap (λ f. call f d.post.heap) (free-is w) ∙ looks d.post.heap r e)
+        (none-yours (address - module_start) m seats next.message)
+        (λ r e. ap (λ f. call f d.post.heap) (free-is w) ∙ looks d.post.heap r e)
 
 -- each call looks first
 pub looks-free : (place : ℕ) (h : Heap) → Looks (found_or (block_at place h) NotABlock) (module_area.module_free place h)

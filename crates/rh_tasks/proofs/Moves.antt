@@ -1,32 +1,26 @@
 -- A world in which one seat has changed, and the store in its area alone.
-use Rattle.std.proofs.Common.{◌≡◌, ℕ, zero, suc, ◌+◌, ◌-◌, ◌*◌, ◌/◌, ◌<◌, ◌≤◌, ◌≢◌, Bool, true, false, cond, refl, ap, subst, arith, List, [], ◌∷◌, length, ◌∙◌, sym}
-use Rattle.std.specs.Prelude.{map, find, Some, None, Ok, Err, Option, ◌==◌}
-use Rattle.std.proofs.Math.ListN.{get_or, set}
+use Rattle.std.proofs.Common.{◌≡◌, ℕ, zero, suc, ◌+◌, ◌*◌, true, false, cond, refl, ap, subst, arith, List, [], ◌∷◌, length, ◌∙◌, sym}
+use Rattle.std.specs.Prelude.{map, find, Some, None, Ok, ◌==◌}
+use Rattle.std.proofs.Math.ListN.{set}
 use Rattle.std.proofs.Math.Seq.{map-set_same}
 use Rattle.std.proofs.lemmas.List.{length-set}
-use Rattle.std.specs.List.{AllByRecursion}
-use Rattle.rh_defs.specs.Memory.{Memory, IsOpen, OnlyArea, bytes}
+use Rattle.rh_defs.specs.Memory.{Memory, OnlyArea, bytes}
 use Rattle.rh_defs.specs.Pieces.{total}
 use Rattle.rh_defs.specs.Files.{FileList}
-use Rattle.rh_defs.specs.declared.reply.Reply.{Reply}
-use Rattle.rh_defs.specs.declared.refusal.Refusal.{Refusal}
-use Rattle.rh_defs.specs.Chain.{Granted, ◌>>=◌}
 use Rattle.rh_defs.specs.Slot as plain
 use Rattle.rh_defs.specs.Post as post
-use Rattle.rh_defs.specs.Desk.{Desk, Task, task_pages, used_pages, free_pages, named, edit_task, with_task, with_slot}
-use Rattle.rh_defs.specs.Commands.{Answer}
+use Rattle.rh_defs.specs.Desk.{Desk, Task, task_pages, used_pages, named, edit_task, with_task, with_slot}
 use Rattle.rh_defs.specs.Laws.{IsDesk}
 use Rattle.rh_slot.specs.declared.slot.Slot.{Slot}
 use Rattle.rh_slot.specs.Area.{IsSlot, slot_in}
 use Rattle.rh_tasks.specs.declared.seat.Seat.{Seat}
 use Rattle.rh_tasks.specs.declared.made.MadeArea.{MadeArea}
 use Rattle.rh_tasks.specs.declared.next.Next.{Next}
-use Rattle.rh_tasks.specs.View.{the_module, pages_at, task_of, made_of, fixed_pages, post_of, post_seat, desk_of, slot_area, made_area, Avoids, AreDistinct, HasSlot, IsAbove, HasAreas, IsWorld}
-use Rattle.rh_tasks.specs.Finding.{Found, Owns}
+use Rattle.rh_tasks.specs.View.{task_of, post_of, post_seat, desk_of, slot_area, made_area, Avoids, AreDistinct, HasSlot, IsAbove, HasAreas, IsWorld}
+use Rattle.rh_tasks.specs.Finding.{Owns}
 use Rattle.rh_tasks.proofs.Lists.{Sits, set_same, all-at, all-set, avoids-at}
-use Rattle.rh_tasks.proofs.Chains.{begins, ends}
 use Rattle.rh_tasks.proofs.Frames.{Stay, if_apart, if_same, tasks-edited, slots-edited, mades-stay, mades-opened, fixed-stay, fixed-opened, heap-stays, module-stays, count-stays}
-use Rattle.rh_tasks.proofs.Worlds.{free-is, handles, same-desk}
+use Rattle.rh_tasks.proofs.Worlds.{handles, same-desk}
 use Rattle.rh_tasks.proofs.Finding.{sits, named-is}
 
 handle-first : (m : Memory) (seats : List Seat) (i : ℕ) (s : Seat) → Sits seats i s → AreDistinct (map (λ (x : Seat). x.handle) seats)
@@ -56,9 +50,10 @@ total-edited : (h : ℕ) (edit : Task → Task) (tasks : List Task) (t : Task) �
     → total task_pages (edit_task h edit tasks) + task_pages t ≡ total task_pages tasks + task_pages (edit t)
 total-edited h edit [] t is = absurd (cc)
 total-edited h edit (x ∷ tasks) t is =
-    elim (x.handle == h) as (λ b. cond b (Some x) (find (λ (x : Task). x.handle == h) tasks) ≡ Some t → total task_pages (cond b (edit x ∷ tasks) (x ∷ edit_task h edit tasks)) + task_pages t ≡ (task_pages x + total task_pages tasks) + task_pages (edit t))
-    [ true ↦ λ (q : Some x ≡ Some t). (let e : x ≡ t = cc in omega (arith, ap task_pages e, ap (λ y. task_pages (edit y)) e))
-    | false ↦ λ (q : find (λ (x : Task). x.handle == h) tasks ≡ Some t). omega (arith, total-edited h edit tasks t q) ] is
+    elim (x.handle == h) as (λ b. cond b (Some x) (find (λ (x : Task). x.handle == h) tasks) ≡ Some t → total task_pages (cond b (edit x ∷ tasks) (x ∷ edit_task h edit tasks)) + task_pages t ≡ (task_pages x + total task_pages tasks) + task_pages (edit t)) [
+      | true ↦ λ (q : Some x ≡ Some t). (let e : x ≡ t = cc in omega (arith, ap task_pages e, ap (λ y. task_pages (edit y)) e))
+      | false ↦ λ (q : find (λ (x : Task). x.handle == h) tasks ≡ Some t). omega (arith, total-edited h edit tasks t q)
+    ] is
 
 module _ {m n : Memory} {seats : List Seat} {made : List MadeArea} {files : FileList} {next : Next} {i : ℕ} {s s' : Seat} {edit : Task → Task}
     (w : IsWorld m seats made files next) (at : Sits seats i s) (moves : Moves m n s s' edit) where

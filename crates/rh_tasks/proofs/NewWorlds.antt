@@ -1,21 +1,23 @@
 -- The first world over a store whose areas were furnished.
-use Rattle.std.proofs.Common.{◌≡◌, ℕ, ◌+◌, ◌<◌, ◌≤◌, ◌^◌, refl, ap, sym, subst, ◌∙◌, arith, List, [], ◌∷◌, length}
-use Rattle.std.specs.Prelude.{map, None}
+use Rattle.std.proofs.Common.{◌≡◌, ℕ, ◌+◌, refl, ap, sym, subst, arith, [], ◌∷◌}
 use Rattle.rh_defs.specs.Memory.{Memory}
 use Rattle.rh_defs.specs.Files.{FileList}
-use Rattle.rh_defs.specs.Forms.{first_made}
 use Rattle.rh_defs.specs.Heap.{Heap, empty_heap}
 use Rattle.rh_defs.specs.Pieces.{page}
 use Rattle.rh_defs.specs.Post as post
-use Rattle.rh_defs.specs.Desk.{Desk, used_pages}
+use Rattle.rh_defs.specs.Desk.{used_pages}
 use Rattle.rh_defs.specs.Runs.{start_with}
 use Rattle.rh_defs.specs.Laws.{IsDesk, IsStart}
 use Rattle.rh_defs.proofs.Steps.{start-is}
-use Rattle.rh_tasks.specs.declared.seat.Seat.{Seat}
-use Rattle.rh_tasks.specs.declared.made.MadeArea.{MadeArea}
 use Rattle.rh_tasks.specs.declared.next.Next.{Next}
-use Rattle.rh_tasks.specs.View.{the_module, fixed_pages, post_of, desk_of, HasAreas, IsWorld}
+use Rattle.rh_tasks.specs.View.{fixed_pages, post_of, desk_of, IsWorld}
 use Rattle.rh_tasks.specs.Start.{IsFurnished}
+
+same-next : {a a' b b' k k' : ℕ} → a ≡ a' → b ≡ b' → k ≡ k' → (let x : Next = record { handle = a; area = b; message = k } in x) ≡ (let y : Next = record { handle = a'; area = b'; message = k' } in y)
+same-next p q r = cc
+
+pub first-next : (n : Next) (handle ref : ℕ) → n.handle ≡ handle → n.area ≡ 256 → n.message ≡ ref → n ≡ record { handle = handle; area = 256; message = ref }
+first-next n handle ref p q r = same-next p q r
 
 module _ {m : Memory} {pages : ℕ} (f : IsFurnished m pages) (files : FileList) (handle ref : ℕ) where
   abbrev next : Next

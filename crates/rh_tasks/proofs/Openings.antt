@@ -1,17 +1,16 @@
 -- A fresh store whose first areas are opened one after the other.
-use Rattle.std.proofs.Common.{◌≡◌, ◌≢◌, ℕ, zero, suc, ◌+◌, ◌-◌, ◌*◌, ◌/◌, ◌<◌, ◌≤◌, refl, ap, sym, subst, ◌∙◌, arith, List, [], ◌∷◌, length, inl, inr}
-use Rattle.std.specs.Prelude.{Option, Some, None, IsNone, IsSome, IsOk, IsErr, Ok, Err, Result, ◌↔◌, IfOk, OnOk, unwrap_or}
+use Rattle.std.proofs.Common.{◌≡◌, ◌≢◌, ℕ, ◌+◌, ◌/◌, ◌<◌, ◌≤◌, refl, ap, sym, subst, ◌∙◌, arith, List, [], length, inl, inr}
+use Rattle.std.specs.Prelude.{Option, Some, None, IsNone, IsSome, IsOk, IsErr, Ok, Err, Result, ◌↔◌, unwrap_or}
 use Rattle.std.proofs.lemmas.Bool.{cases_eq}
 use Rattle.rh_defs.specs.Memory.{Memory, IsOpen, OnlyArea, bytes, fresh, opened, grown, open_below}
 use Rattle.rh_defs.specs.Heap.{Heap, empty_heap}
 use Rattle.rh_defs.specs.Pieces.{page}
-use Rattle.rh_defs.proofs.MemoryLaws.{area-fresh, free-fresh, pages-fresh, open_below-fresh, open_below-opened, area-opened, area-opened_same, free-opened, pages-opened, bytes-opened, OnlyArea-grown, length-grown, bytes-none, OnlyArea-both}
+use Rattle.rh_defs.proofs.MemoryLaws.{area-fresh, free-fresh, pages-fresh, open_below-fresh, open_below-opened, area-opened, area-opened_same, free-opened, pages-opened, OnlyArea-grown, length-grown, OnlyArea-both}
 use Rattle.rh_defs.specs.declared.sizes.TheConstants.{MAX_AREAS}
 use Rattle.rh_module.specs.Area.{IsModule, heap_in}
-use Rattle.rh_tasks.specs.View.{the_module, fixed, pages_at}
+use Rattle.rh_tasks.specs.View.{the_module, pages_at}
 use Rattle.rh_tasks.specs.Start.{IsFurnished}
 use Rattle.rh_tasks.proofs.Frames.{Stay, pages-stay, count-stays, opened-stays}
-use Rattle.rh_tasks.proofs.Joins.{none-is}
 
 -- the areas below a number are open, with no page, and no other
 pub record AreOpened (m : Memory) (k pages : ℕ) : Type 0 where
@@ -35,14 +34,15 @@ none-opened m pages is =
 some-none : (x : List ℕ) → IsNone (Some x) → ⊥
 some-none x h = cc
 
-none-some : IsSome {A = List ℕ} None → ⊥
-none-some h = cc
+none-some : (x : Option (List ℕ)) → x ≡ None → IsSome x → ⊥
+none-some None e h = cc
+none-some (Some x) e h = cc
 
 -- the area that is opened next is the least one that is closed
 next-is : (m : Memory) (k pages id : ℕ) → AreOpened m k pages → IsNone (m.area id) → ((j : ℕ) → j < id → IsOpen m j) → id ≡ k
 next-is m k pages id o none least =
     let under : id < k → ⊥ = λ h. some-none [] (let P : Option (List ℕ) → Type 0 = λ x. IsNone x in subst P (o.below id h) none) in
-    let over : k < id → ⊥ = λ h. none-some (let P : Option (List ℕ) → Type 0 = λ x. IsSome x in subst P (o.above k (omega arith)) (least k h)) in
+    let over : k < id → ⊥ = λ h. none-some (m.area k) (o.above k (omega arith)) (least k h) in
     omega (arith, under, over)
 
 pub next-opened : (m n : Memory) (k pages id : ℕ) → AreOpened m k pages → k < MAX_AREAS → IsNone (m.area id) → n ≡ opened m id → ((j : ℕ) → j < id → IsOpen m j) → AreOpened n (k + 1) pages
@@ -64,20 +64,24 @@ opens (Err e) count h low = absurd (let q = h.0 refl in omega arith)
 
 -- ---- the module area's page
 
-module _ {m n : Memory} {pages : ℕ} (o : AreOpened m 6 pages) (least : 1 ≤ pages) (is : n ≡ grown m 1 1) where
-  taken : OnlyArea m n 1
-  taken = let P : Memory → Type 0 = λ x. OnlyArea m x 1 in subst P (sym is) (OnlyArea-grown m 1 1 (omega (arith, o.free, least)))
+pub six-opened : (m : Memory) (k pages : ℕ) → AreOpened m k pages → k ≤ 6 → 6 ≤ k → AreOpened m 6 pages
+six-opened m k pages o low high = let P : ℕ → Type 0 = λ x. AreOpened m x pages in subst P (omega (arith, low, high)) o
 
-  open-at : (k : ℕ) → k < 6 → IsOpen m k
+module _ {m : Memory} {pages : ℕ} (o : AreOpened m 6 pages) where
+  pub open-at : (k : ℕ) → k < 6 → IsOpen m k
   open-at k low = let P : Option (List ℕ) → Type 0 = λ x. IsSome x in subst P (sym (o.below k low)) refl
 
   empty-at : (k : ℕ) → k < 6 → bytes m k ≡ []
   unfolding bytes
   empty-at k low = ap (λ (x : Option (List ℕ)). unwrap_or x []) (o.below k low)
 
+module _ {m n : Memory} {pages : ℕ} (o : AreOpened m 6 pages) (least : 1 ≤ pages) (is : n ≡ grown m 1 1) where
+  taken : OnlyArea m n 1
+  taken = let P : Memory → Type 0 = λ x. OnlyArea m x 1 in subst P (sym is) (OnlyArea-grown m 1 1 (omega (arith, o.free, least)))
+
   -- one page of zeros
   pub page-long : length (bytes n 1) ≡ 4096
-  page-long = ap (λ x. length (bytes x 1)) is ∙ length-grown m 1 1 ∙ omega (arith, ap length (empty-at 1 (omega arith)))
+  page-long = ap (λ x. length (bytes x 1)) is ∙ length-grown m 1 1 ∙ omega (arith, ap length (empty-at o 1 (omega arith)))
 
   pub page-open : IsOpen n 1
   page-open = taken.opened
@@ -91,13 +95,21 @@ module _ {m n : Memory} {pages : ℕ} (o : AreOpened m 6 pages) (least : 1 ≤ p
 
     none-at : (k : ℕ) → k < 6 → k ≢ 1 → pages_at p k ≡ 0
     unfolding pages_at
-    none-at k low ne = pages-stay k stay ne ∙ ap (λ (b : List ℕ). length b / 4096) (empty-at k low)
+    none-at k low ne = pages-stay k stay ne ∙ ap (λ (b : List ℕ). length b / 4096) (empty-at o k low)
 
     pub furnished : IsFurnished p pages
     furnished = record {
-      opened = (opened-stays 0 stay (λ q. absurd (omega arith)) (open-at 0 (omega arith)), (all.opened, (opened-stays 2 stay (λ q. absurd (omega arith)) (open-at 2 (omega arith)),
-        (opened-stays 3 stay (λ q. absurd (omega arith)) (open-at 3 (omega arith)), (opened-stays 4 stay (λ q. absurd (omega arith)) (open-at 4 (omega arith)), (opened-stays 5 stay (λ q. absurd (omega arith)) (open-at 5 (omega arith)), tt))))));
-      count = count-stays MAX_AREAS stay (open-at 1 (omega arith)) all.opened ∙ o.count;
+      opened = (
+        opened-stays 0 stay (λ q. absurd (omega arith)) (open-at o 0 (omega arith)),
+        (
+          all.opened,
+          (
+            opened-stays 2 stay (λ q. absurd (omega arith)) (open-at o 2 (omega arith)),
+            (opened-stays 3 stay (λ q. absurd (omega arith)) (open-at o 3 (omega arith)), (opened-stays 4 stay (λ q. absurd (omega arith)) (open-at o 4 (omega arith)), (opened-stays 5 stay (λ q. absurd (omega arith)) (open-at o 5 (omega arith)), tt))),
+          ),
+        ),
+      );
+      count = count-stays MAX_AREAS stay (open-at o 1 (omega arith)) all.opened ∙ o.count;
       module_area = still;
       heap = heap;
       zero = none-at 0 (omega arith) (λ q. absurd (omega arith));
@@ -105,6 +117,6 @@ module _ {m n : Memory} {pages : ℕ} (o : AreOpened m 6 pages) (least : 1 ≤ p
       three = none-at 3 (omega arith) (λ q. absurd (omega arith));
       four = none-at 4 (omega arith) (λ q. absurd (omega arith));
       five = none-at 5 (omega arith) (λ q. absurd (omega arith));
-      free = omega (arith, all.ledger, still.spells.whole, ap (λ (h : Heap). h.end) heap, o.free, ap length (empty-at 1 (omega arith)));
+      free = omega (arith, all.ledger, still.spells.whole, ap (λ (h : Heap). h.end) heap, o.free, ap length (empty-at o 1 (omega arith)));
       pages_are = all.pages ∙ o.pages_are;
     }

@@ -1,6 +1,6 @@
 -- An area's pages after it grew or shrank.
-use Rattle.std.proofs.Common.{◌≡◌, ℕ, ◌+◌, ◌-◌, ◌*◌, ◌/◌, ◌%◌, ◌<◌, ◌≤◌, refl, ap, sym, subst, ◌∙◌, arith, length}
-use Rattle.std.specs.Prelude.{Result, Ok, Err, IsOk, IsErr, ◌↔◌}
+use Rattle.std.proofs.Common.{◌≡◌, ℕ, ◌+◌, ◌-◌, ◌/◌, ◌%◌, ◌<◌, ◌≤◌, refl, ap, sym, subst, ◌∙◌, arith, length}
+use Rattle.std.specs.Prelude.{Bool, true, false, Result, Ok, Err, IsOk, IsErr, IsTrue, ◌↔◌}
 use Rattle.rh_defs.specs.Memory.{Memory, OnlyArea, bytes, grown, shrunk}
 use Rattle.rh_defs.proofs.MemoryLaws.{length-shrunk, OnlyArea-shrunk, length-grown, OnlyArea-grown}
 use Rattle.rh_tasks.specs.View.{pages_at}
@@ -30,3 +30,8 @@ module _ (m n : Memory) (id pages now : ℕ) (is : now ≡ length (bytes m id)) 
 pub not-refused : {A E : Type 0} (r : Result A E) (free more : ℕ) → (IsErr r ↔ (free < more)) → more ≤ free → IsOk r
 not-refused (Ok x) free more h room = refl
 not-refused (Err e) free more h room = absurd (let q = h.0 refl in omega arith)
+
+-- a test of room that failed
+pub lacking : (enough : Bool) (more free : ℕ) → (IsTrue enough ↔ (more ≤ free)) → enough ≡ false → free < more
+lacking true more free h is = absurd (cc)
+lacking false more free h is = let none : more ≤ free → ⊥ = λ q. (let r = h.1 q in cc) in omega (arith, none)

@@ -1,5 +1,5 @@
 -- What the form of a command says of its numbers.
-use Rattle.std.proofs.Common.{◌≡◌, ℕ, ◌<◌, ◌≤◌, true, arith, List}
+use Rattle.std.proofs.Common.{◌≡◌, ℕ, ◌<◌, true, arith, List}
 use Rattle.std.specs.Prelude.{ℤ, pos, negsuc}
 use Rattle.std.proofs.Common.{SFits, w32}
 use Rattle.std.proofs.lemmas.Int.{ints}

@@ -1,5 +1,5 @@
 -- The commands on a task's slot, from what the slot's call leaves.
-use Rattle.std.proofs.Common.{◌≡◌, ℕ, ◌∙◌, sym, ap, refl, subst, List}
+use Rattle.std.proofs.Common.{◌≡◌, ℕ, ◌∙◌, refl, List}
 use Rattle.std.specs.Prelude.{Ok, Err, true}
 use Rattle.rh_defs.specs.Memory.{Memory}
 use Rattle.rh_defs.specs.Files.{FileList}

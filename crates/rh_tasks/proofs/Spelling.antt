@@ -1,5 +1,5 @@
 -- The store's bytes and lengths spell the desk.
-use Rattle.std.proofs.Common.{◌≡◌, ℕ, zero, suc, ◌+◌, ◌*◌, ◌/◌, ◌%◌, ◌≤◌, refl, ap, sym, subst, ◌∙◌, arith, List, [], ◌∷◌, length}
+use Rattle.std.proofs.Common.{◌≡◌, ℕ, ◌*◌, ◌%◌, refl, ap, sym, subst, arith, List, [], ◌∷◌, length}
 use Rattle.std.specs.Prelude.{map}
 use Rattle.std.specs.List.{AllByRecursion, enumerate_from}
 use Rattle.rh_defs.specs.Memory.{Memory, bytes}
@@ -7,7 +7,7 @@ use Rattle.rh_defs.specs.Pieces.{page, total}
 use Rattle.rh_defs.specs.Files.{FileList}
 use Rattle.rh_defs.specs.Slot as plain
 use Rattle.rh_defs.specs.Spans.{AreLaidOut, slot_spans, module_spans}
-use Rattle.rh_defs.specs.Desk.{Desk, Task, Made, task_pages, module_pages}
+use Rattle.rh_defs.specs.Desk.{Task, Made, task_pages, module_pages}
 use Rattle.rh_defs.specs.Commands.{module_start}
 use Rattle.rh_defs.specs.Laws as laws
 use Rattle.rh_defs.proofs.Spaced.{apart-of}
@@ -15,7 +15,7 @@ use Rattle.rh_tasks.specs.declared.seat.Seat.{Seat}
 use Rattle.rh_tasks.specs.declared.made.MadeArea.{MadeArea}
 use Rattle.rh_tasks.specs.declared.next.Next.{Next}
 use Rattle.rh_tasks.specs.Shown.{Shown, SpellSlots, IsSpelled, length_of_area, IsBalanced, LieApart, HasApartBlocks}
-use Rattle.rh_tasks.specs.View.{the_module, fixed, pages_at, task_of, made_of, fixed_pages, post_of, desk_of, shown_of, HasSlot, IsWorld}
+use Rattle.rh_tasks.specs.View.{pages_at, task_of, made_of, fixed_pages, post_of, shown_of, HasSlot, IsWorld}
 use Rattle.rh_tasks.proofs.Worlds.{free-is}
 use Rattle.rh_tasks.proofs.Fixed.{pages-of}
 
@@ -86,9 +86,9 @@ module _ {m : Memory} {seats : List Seat} {made : List MadeArea} {files : FileLi
   unfolding post_of
   is-apart =
       let apart : laws.HasApartBlocks s.desk = apart-of s.desk w.desk in record {
-    slots = apart-slots m seats w.areas.slots apart.slots;
-    module_area = (let P : ℕ → Type 0 = λ n. AreLaidOut module_start n (module_spans s.desk.post.heap) in subst P module-length apart.module_area);
-  }
+        slots = apart-slots m seats w.areas.slots apart.slots;
+        module_area = (let P : ℕ → Type 0 = λ n. AreLaidOut module_start n (module_spans s.desk.post.heap) in subst P module-length apart.module_area);
+      }
 
   pub is-balanced : IsBalanced s
   unfolding fixed_pages

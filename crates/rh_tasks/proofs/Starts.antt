@@ -1,5 +1,5 @@
 -- A task's beginning.
-use Rattle.std.proofs.Common.{◌≡◌, ℕ, ◌+◌, ◌<◌, ◌≤◌, ◌^◌, Bool, true, false, refl, ap, sym, subst, ◌∙◌, arith, List, [], ◌∷◌, ◌++◌, length}
+use Rattle.std.proofs.Common.{◌≡◌, ℕ, ◌+◌, ◌<◌, ◌≤◌, ◌^◌, Bool, true, false, refl, ap, sym, ◌∙◌, arith, List, [], ◌∷◌, ◌++◌, length}
 use Rattle.std.specs.Prelude.{map, Ok, Err, IsNone, nat_lt}
 use Rattle.std.specs.List.{list_any}
 use Rattle.std.proofs.lemmas.List.{length-map}
@@ -11,11 +11,11 @@ use Rattle.rh_defs.specs.declared.command.Command.TheVariants as command
 use Rattle.rh_defs.specs.declared.refusal.Refusal.{Refusal}
 use Rattle.rh_defs.specs.declared.refusal.Refusal.TheVariants.{NameInUse, TooManyTasks, NoHandles, NoRoom}
 use Rattle.rh_defs.specs.declared.reply.Reply.TheVariants as reply
-use Rattle.rh_defs.specs.Chain.{Granted, ◌>>=◌, refuse_if, outcome_of}
+use Rattle.rh_defs.specs.Chain.{◌>>=◌, refuse_if, outcome_of}
 use Rattle.rh_defs.specs.Range.{in_range}
 use Rattle.rh_defs.specs.Slot as plain
 use Rattle.rh_defs.specs.Post as post
-use Rattle.rh_defs.specs.Desk.{Desk, Task}
+use Rattle.rh_defs.specs.Desk.{Desk}
 use Rattle.rh_defs.specs.Commands.{start_task}
 use Rattle.rh_slot.specs.declared.slot.Slot.{Slot}
 use Rattle.rh_slot.specs.Area.{IsSlot, slot_in}
@@ -69,7 +69,7 @@ module _ {m : Memory} {seats : List Seat} {made : List MadeArea} {files : FileLi
         unfolding start_task
         no-room e =
             past _ _ _ (sym (named-any m name seats) ∙ unused) (past _ _ _ (le-false 32 _ few-tasks) (past _ _ _ (le-false (2 ^ 32) next.handle some)
-              (ends _ (ap plain.slot_begin (free-is w) ∙ done-refused (plain.slot_begin m.free) e))))
+            (ends _ (ap plain.slot_begin (free-is w) ∙ done-refused (plain.slot_begin m.free) e))))
 
         module _ {n : Memory} (slot : Slot) (is : slot_in n slot ≡ plain.new_slot) (begins_so : Ok tt ≡ outcome_of (plain.slot_begin m.free))
             (none : IsNone (m.area slot.area.0)) (low : slot.area.0 < MAX_AREAS) (only : OnlyArea m n slot.area.0) (still : IsSlot n slot) where
@@ -83,9 +83,9 @@ module _ {m : Memory} {seats : List Seat} {made : List MadeArea} {files : FileLi
           unfolding start_task task_of
           start-done =
               past _ _ _ (sym (named-any m name seats) ∙ unused) (past _ _ _ (le-false 32 _ few-tasks) (past _ _ _ (le-false (2 ^ 32) next.handle some)
-                (begins _ (ap plain.slot_begin (free-is w) ∙ begun m.free begins_so)
-                  (granted-same (sym (joined-desk seat w none low only still (next.handle + 1)
-                    ∙ ap (λ (s : plain.Slot). let e : Desk = record (desk_of n (seats ++ seat ∷ []) made files then) { tasks = map (task_of m) seats ++ record (task_of n seat) { slot = s } ∷ []; post = post.post_join next.handle d.post; areas = d.areas; made = d.made; pool = d.pool } in e) is)) refl))))
+              (begins _ (ap plain.slot_begin (free-is w) ∙ begun m.free begins_so)
+              (granted-same (sym (joined-desk seat w none low only still (next.handle + 1)
+              ∙ ap (λ (s : plain.Slot). let e : Desk = record (desk_of n (seats ++ seat ∷ []) made files then) { tasks = map (task_of m) seats ++ record (task_of n seat) { slot = s } ∷ []; post = post.post_join next.handle d.post; areas = d.areas; made = d.made; pool = d.pool } in e) is)) refl))))
 
           pub start-world : in_range (command.Task name buffer manner) ≡ true → IsWorld n (seats ++ seat ∷ []) made files then
           start-world ranged = joined-world seat w none low only still (next.handle + 1) (granted-keeps d _ (command.Task name buffer manner) (reply.Started next.handle) start-done ranged w.desk)

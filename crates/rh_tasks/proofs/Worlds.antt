@@ -1,9 +1,7 @@
 -- What holds of every world, and of the desk that it spells.
-use Rattle.std.proofs.Common.{◌≡◌, ℕ, zero, suc, ◌+◌, ◌*◌, ◌/◌, ◌≤◌, ◌<◌, ◌≢◌, refl, ap, sym, subst, ◌∙◌, arith, List, [], ◌∷◌, length}
-use Rattle.std.specs.Prelude.{map, Option, Some, find, Ok, Err, true}
-use Rattle.std.specs.List.{AllByRecursion}
-use Rattle.rh_defs.specs.Memory.{Memory, IsOpen, OnlyArea, bytes}
-use Rattle.rh_defs.specs.Pieces.{total}
+use Rattle.std.proofs.Common.{◌≡◌, ℕ, ◌+◌, ◌≤◌, ◌<◌, refl, ap, subst, arith, List, [], ◌∷◌, length}
+use Rattle.std.specs.Prelude.{map, Ok, true}
+use Rattle.rh_defs.specs.Memory.{Memory}
 use Rattle.rh_defs.specs.Files.{FileList}
 use Rattle.rh_defs.specs.declared.command.Command.{Command}
 use Rattle.rh_defs.specs.declared.reply.Reply.{Reply}
@@ -12,7 +10,7 @@ use Rattle.std.proofs.lemmas.List.{length-map}
 use Rattle.rh_defs.specs.Chain.{Granted, or_else}
 use Rattle.rh_defs.specs.Range.{in_range}
 use Rattle.rh_defs.specs.Post as post
-use Rattle.rh_defs.specs.Desk.{Desk, Task, Made, most_tasks, task_pages, used_pages, free_pages}
+use Rattle.rh_defs.specs.Desk.{Desk, Task, Made, most_tasks, free_pages}
 use Rattle.rh_defs.specs.Commands.{Answer, most_made}
 use Rattle.rh_defs.specs.Step.{change}
 use Rattle.rh_defs.specs.Laws.{IsDesk, Rise}

@@ -12,8 +12,8 @@ ghost use Rattle.rh_tasks.specs.View.{pages_at};
 use crate::made::find_made;
 use crate::module_blocks::MODULE;
 use crate::world::World;
-use rh_defs::{Refusal, Reply};
 use rh_defs::sizes::PAGE;
+use rh_defs::{Refusal, Reply};
 use rh_store::{AreaId, Pages, Store};
 
 /// The module area's number.

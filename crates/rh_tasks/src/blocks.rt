@@ -13,12 +13,7 @@ use rh_store::Store;
 
 impl<S: Store> World<S> {
     /// Puts a block of zeros on top of the task's slot (flex_alloc): NoName, AnchorInUse, NoRoom.
-    pub(crate) fn alloc(
-        &mut self,
-        name: &Name,
-        anchor: Anchor,
-        size: u32,
-    ) -> Result<Reply, Refusal>
+    pub(crate) fn alloc(&mut self, name: &Name, anchor: Anchor, size: u32) -> Result<Reply, Refusal>
         requires { in_range (Command.Alloc name.now anchor size) ≡ true }
         ensures { Gives (alloc_on self.old.desk name.now anchor size) self.old self.new result }
     {

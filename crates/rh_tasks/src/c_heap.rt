@@ -35,12 +35,7 @@ impl<S: Store> World<S> {
     }
 
     /// Changes the size of a block of the task's C heap (OS_Heap 4): NoName, NotABlock, BadSize, NoBudge, NoRoom.
-    pub(crate) fn resize(
-        &mut self,
-        name: &Name,
-        address: u32,
-        delta: i32,
-    ) -> Result<Reply, Refusal>
+    pub(crate) fn resize(&mut self, name: &Name, address: u32, delta: i32) -> Result<Reply, Refusal>
         requires { in_range (Command.Resize name.now address delta) ≡ true }
         ensures { Gives (resize_on self.old.desk name.now address delta) self.old self.new result }
     {

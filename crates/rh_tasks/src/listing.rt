@@ -1,6 +1,6 @@
 //! What is asked of the desk: sums, lists item by item, and bytes.
 
-ghost use Rattle.std.specs.Prelude.{◌≡◌, ◌≤◌, ◌<◌, ◌^◌, true, Ok, Err, length, slice_get};
+ghost use Rattle.std.specs.Prelude.{◌≡◌, ◌≤◌, ◌<◌, ◌^◌, true, Ok, Err, IfErr, IfOk, length, slice_get};
 ghost use Rattle.std.specs.List.{AllByRecursion};
 ghost use Rattle.std.specs.Result.{MatchResult};
 ghost use Rattle.rh_tasks.specs.declared.seat.Seat.{Seat};
@@ -9,7 +9,7 @@ ghost use Rattle.rh_defs.specs.declared.command.Command.TheVariants as Command;
 ghost use Rattle.rh_defs.specs.Range.{in_range};
 ghost use Rattle.rh_defs.specs.Commands.{show as show_on, blocks as blocks_on, heap_sums as heap_sums_on, status as status_on};
 ghost use Rattle.rh_defs.specs.Desk.{free_pages as free_pages_on};
-ghost use Rattle.rh_defs.specs.Listing.{area_items, areas_at, blocks_at, heap_at, shown_at};
+ghost use Rattle.rh_defs.specs.Listing.{area_items, areas_at, blocks_at, heap_at, shown_at, status_at};
 ghost use Rattle.rh_tasks.specs.Answer.{Gives};
 ghost use Rattle.rh_tasks.specs.View.{pages_at, HasAreas};
 ghost use Rattle.rh_tasks.specs.Items.{items_in, slot_items, segment_item_of};
@@ -20,7 +20,9 @@ use crate::seat::Seat;
 use crate::seats::{find, slot_of};
 use crate::world::World;
 use rh_defs::sizes::{C_HEAP_START, PAGE};
-use rh_defs::{Anchor, AreaItem, BlockItem, Name, Refusal, Reply, SegmentItem};
+use rh_defs::{
+    Anchor, AreaItem, BlockItem, Handle, Incoming, Name, Outgoing, Refusal, Reply, SegmentItem,
+};
 use rh_heap::Segment;
 use rh_store::{AreaId, Store};
 
@@ -117,11 +119,7 @@ impl<S: Store> World<S> {
 
     /// The sums over the task's C heap (OS_Heap 1), and the segment that begins at a place, in bytes from the heap's
     /// first one, None where none begins; NoName where no task has the name.
-    pub fn heap(
-        &self,
-        name: &Name,
-        place: u32,
-    ) -> Result<(HeapSums, Option<SegmentItem>), Refusal>
+    pub fn heap(&self, name: &Name, place: u32) -> Result<(HeapSums, Option<SegmentItem>), Refusal>
         ensures { result ≡ heap_at self.now.desk name.now place }
     {
         let slot = slot_of(&self.seats, name)?;
@@ -149,6 +147,17 @@ impl<S: Store> World<S> {
         let size = slot.size(&self.store, anchor)?;
         slot.read(&self.store, anchor, offset as usize, to)?;
         Ok(size as u32)
+    }
+
+    /// The task's handle, and its records of the transfers that go out and of those that come in, each in the order
+    /// made; NoName where no task has the name.
+    pub fn status(&self, name: &Name) -> Result<(Handle, &[Outgoing], &[Incoming]), Refusal>
+        ensures ok { IfOk result (λ s. status_at self.now.desk name.now ≡ Ok (s.0, s.1.now, s.2.now)) }
+        ensures err { IfErr result (λ e. status_at self.now.desk name.now ≡ Err e) }
+    {
+        let i = find(&self.seats, name)?;
+        let seat = &self.seats[i];
+        Ok((seat.handle, &[], &[]))
     }
 
     /// The size of the task's block: NoName, NoBlock.

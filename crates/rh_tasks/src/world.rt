@@ -11,12 +11,11 @@ ghost use Rattle.rh_tasks.specs.Shown.{IsSpelled, IsBalanced, HasApartBlocks};
 ghost use Rattle.rh_tasks.specs.Answer.{reply_of};
 ghost use Rattle.rh_tasks.specs.Start.{IsFurnished};
 
-use crate::made::MadeArea;
+use crate::areas::FIXED_AREAS;
+use crate::made::{MOST_MADE, MadeArea};
+use crate::module_blocks::MODULE;
 use crate::next::Next;
 use crate::seat::Seat;
-use crate::areas::FIXED_AREAS;
-use crate::made::{FIRST_MADE, MOST_MADE};
-use crate::module_blocks::MODULE;
 use crate::tasks::MOST_TASKS;
 use rh_defs::{Command, Files, Handle, Ref, Refusal, Reply};
 use rh_module::Module;
@@ -99,11 +98,7 @@ impl<S: Store + Drop> World<S> {
             seats,
             made,
             files,
-            next: Next {
-                handle: u64::from(handle.0),
-                area: FIRST_MADE,
-                message: u64::from(r.0),
-            },
+            next: Next::first(handle.0, r.0),
         })
     }
 }

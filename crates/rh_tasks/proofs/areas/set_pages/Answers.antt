@@ -12,7 +12,7 @@ returns-then-pages-now-clause-only g c =
 pub unwrap-requires : goal.unwrap-requires
 unwrap-requires g c =
     not-refused c.grow.result _ _ c.grow.ensures.refused
-      (room-left (g.S.Words.memory c.args.store.now) (g.S.Words.memory c.args.store.now) c.args.area.0 c.args.pages _ c.len-now.ensures (g.met.S.Pages.whole c.args.store.now c.args.area.0) c.requires.room)
+    (room-left (g.S.Words.memory c.args.store.now) (g.S.Words.memory c.args.store.now) c.args.area.0 c.args.pages _ c.len-now.ensures (g.met.S.Pages.whole c.args.store.now c.args.area.0) c.requires.room)
 
 pub returns-clause-pages : goal.returns-clause-pages
 returns-clause-pages g c =
@@ -24,4 +24,4 @@ returns-clause-only g c =
     let m = g.S.Words.memory c.args.store.now in
     let e = rw c.unwrap.ensures at c.grow.ensures.ok in
     more-only m _ c.args.area.0 c.args.pages _ c.len-now.ensures (g.met.S.Pages.whole c.args.store.now c.args.area.0) e c.if-pages-now.false
-      (room-left m m c.args.area.0 c.args.pages _ c.len-now.ensures (g.met.S.Pages.whole c.args.store.now c.args.area.0) c.requires.room)
+    (room-left m m c.args.area.0 c.args.pages _ c.len-now.ensures (g.met.S.Pages.whole c.args.store.now c.args.area.0) c.requires.room)

@@ -1,15 +1,14 @@
-use Rattle.std.proofs.Common.{◌≡◌, refl, ap, ◌∙◌, sym, arith}
+use Rattle.std.proofs.Common.{refl, arith}
 use Rattle.std.specs.Prelude.{length, Ok}
 use Rattle.std.proofs.lemmas.Result.{err_from_is_err_and}
 use Rattle.rh_defs.specs.declared.reply.Reply.TheVariants as reply
 use Rattle.rh_defs.specs.Chain.{Granted}
 use Rattle.rh_defs.specs.Commands.{Answer, blocks}
-use Rattle.rh_slot.specs.Area.{slot_in}
 use Rattle.rh_tasks.proofs.Chains.{ends}
 use Rattle.rh_tasks.proofs.Finding.{nobody}
 use Rattle.rh_tasks.proofs.Moves.{owned}
-use Rattle.rh_tasks.proofs.ItemLaws.{blocks-weigh}
 use Rattle.rh_tasks.proofs.QuestionLaws.{asked}
+use Rattle.rh_tasks.proofs.Readers.{few-blocks}
 use Rattle.rh_tasks.proofs.world.World.block_count.Goals as goal
 
 pub returns-in_err-slot : goal.returns-in_err-slot
@@ -20,9 +19,7 @@ returns-in_err-slot g c =
 
 pub overflow_cast-result : goal.overflow_cast-result
 overflow_cast-result g c =
-    let is = owned c.self.invariant.0 c.in_ok-slot.ensures.ok in
-    let s = slot_in (g.S.Words.memory c.self.inside.store) c.in_ok-slot.slot in
-    omega (arith, c.count.ensures, blocks-weigh s.blocks, is.spells.words.within, g.met.S.Words.small c.self.inside.store c.in_ok-slot.slot.area.0)
+    omega (arith, c.count.ensures, few-blocks (owned c.self.invariant.0 c.in_ok-slot.ensures.ok) (g.met.S.Words.small c.self.inside.store c.in_ok-slot.slot.area.0))
 
 pub returns : goal.returns
 unfolding blocks

@@ -1,15 +1,14 @@
-use Rattle.std.proofs.Common.{◌≡◌, ℕ, refl, ap, ◌∙◌, sym, arith}
+use Rattle.std.proofs.Common.{ℕ, sym, arith}
 use Rattle.std.specs.Prelude.{length, slice_get, Option, Ok}
 use Rattle.std.proofs.lemmas.Result.{err_from_is_err_and}
 use Rattle.rh_defs.specs.declared.listing.BlockItem.{BlockItem}
 use Rattle.rh_defs.specs.Chain.{Granted}
 use Rattle.rh_defs.specs.Listing.{block_items, blocks_at}
-use Rattle.rh_slot.specs.Area.{slot_in}
 use Rattle.rh_tasks.proofs.Chains.{ends}
 use Rattle.rh_tasks.proofs.Finding.{nobody}
 use Rattle.rh_tasks.proofs.Moves.{owned}
-use Rattle.rh_tasks.proofs.ItemLaws.{blocks-weigh}
 use Rattle.rh_tasks.proofs.QuestionLaws.{asked}
+use Rattle.rh_tasks.proofs.Readers.{few-blocks}
 use Rattle.rh_tasks.proofs.world.World.blocks.Goals as goal
 
 pub returns-in_err-slot : goal.returns-in_err-slot
@@ -20,12 +19,10 @@ returns-in_err-slot g c =
 
 pub overflow_cast-count : goal.overflow_cast-count
 overflow_cast-count g c =
-    let is = owned c.self.invariant.0 c.in_ok-slot.ensures.ok in
-    let s = slot_in (g.S.Words.memory c.self.inside.store) c.in_ok-slot.slot in
-    omega (arith, c.count.ensures, blocks-weigh s.blocks, is.spells.words.within, g.met.S.Words.small c.self.inside.store c.in_ok-slot.slot.area.0)
+    omega (arith, c.count-count.ensures, few-blocks (owned c.self.invariant.0 c.in_ok-slot.ensures.ok) (g.met.S.Words.small c.self.inside.store c.in_ok-slot.slot.area.0))
 
 pub returns : goal.returns
 unfolding blocks_at
 returns g c =
-    rw (← c.self.view_is, c.count.ensures, c.block.ensures)
-      (sym (asked c.self.invariant.0 c.in_ok-slot.ensures.ok (λ s. let r : Granted (ℕ × Option BlockItem) = Ok (length s.blocks, slice_get (block_items s) c.args.i) in r)))
+    rw (← c.self.view_is, c.count-count.ensures, c.block.ensures)
+    (sym (asked c.self.invariant.0 c.in_ok-slot.ensures.ok (λ s. let r : Granted (ℕ × Option BlockItem) = Ok (length s.blocks, slice_get (block_items s) c.args.i) in r)))

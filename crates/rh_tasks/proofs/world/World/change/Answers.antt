@@ -1,6 +1,7 @@
-use Rattle.std.proofs.Common.{◌≡◌, refl, w32}
+use Rattle.std.proofs.Common.{refl, w32}
 use Rattle.std.proofs.lemmas.Int.{to_z-of_z}
-use Rattle.rh_tasks.proofs.Ranges.{mid-fits, resize-fits, area-fits, rma_resize-fits}
+use Rattle.rh_defs.specs.Chain.{or_else}
+use Rattle.rh_tasks.proofs.Ranges.{show-anchor, mid-fits, resize-fits, area-fits, rma_resize-fits}
 use Rattle.rh_tasks.proofs.Steps.{stepped}
 use Rattle.rh_tasks.proofs.world.World.change.Goals as goal
 
@@ -58,6 +59,9 @@ returns-in-RmaFree g c = rw (c.in-RmaFree.is) (stepped _ _ _ _ _ c.rma_free.ensu
 pub returns-in-RmaResize : goal.returns-in-RmaResize
 returns-in-RmaResize g c = rw (c.in-RmaResize.is) (stepped _ _ _ _ _ (rw (to_z-of_z w32 c.in-RmaResize.delta (rma_resize-fits _ _ (rw c.in-RmaResize.is at c.requires.ranged))) at c.rma_resize.ensures) c.answer-in-RmaResize.ensures)
 
+pub size_of-requires : goal.size_of-requires
+size_of-requires g c = show-anchor _ _ (rw c.in-Show.is at c.requires.ranged)
+
 pub returns-in-Show : goal.returns-in-Show
 returns-in-Show g c = rw (c.in-Show.is) (stepped _ _ _ _ _ c.size_of.ensures c.answer-in-Show.ensures)
 
@@ -71,4 +75,5 @@ pub returns-in-Status : goal.returns-in-Status
 returns-in-Status g c = rw (c.in-Status.is) (stepped _ _ _ _ _ c.handle_of.ensures c.answer-in-Status.ensures)
 
 pub returns-in-Areas : goal.returns-in-Areas
+unfolding or_else
 returns-in-Areas g c = rw (c.in-Areas.is, c.free_pages.ensures) refl

@@ -1,4 +1,4 @@
-use Rattle.std.proofs.Common.{◌≡◌, refl, ap, ◌∙◌, sym, w32}
+use Rattle.std.proofs.Common.{refl, sym, w32}
 use Rattle.std.proofs.lemmas.Int.{to_z-of_z}
 use Rattle.std.proofs.lemmas.Result.{err_from_is_err_and}
 use Rattle.rh_tasks.proofs.AreaCommands.{room-if, fixed-refused, fixed-done, fixed-kept}
@@ -15,13 +15,16 @@ set_pages-requires-clause-room g c = room-if _ _ _ _ (sym c.in_ok-pages.ensures)
 
 pub invariant_of-self : goal.invariant_of-self
 invariant_of-self g c =
-    let e = rw (to_z-of_z w32 c.args.delta c.ranges.delta) at c.in_ok-pages.ensures in
-    (fixed-kept c.self.invariant.0 c.args.number c.args.delta c.requires.low c.requires.other (sym e) c.set_pages.ensures.pages c.set_pages.ensures.only
-      (g.met.S.Pages.whole c.self.inside.store c.args.number) (g.met.S.Pages.whole c.set_pages.new.store c.args.number) c.requires.ranged, c.self.invariant.1, c.self.invariant.2)
+    let e = rw (to_z-of_z w32 c.args.delta c.ranges.delta) at c.in_ok-pages.ensures in (
+      fixed-kept c.self.invariant.0 c.args.number c.args.delta c.requires.low c.requires.other (sym e) c.set_pages.ensures.pages c.set_pages.ensures.only
+          (g.met.S.Pages.whole c.self.inside.store c.args.number) (g.met.S.Pages.whole c.set_pages.new.store c.args.number) c.requires.ranged,
+      c.self.invariant.1,
+      c.self.invariant.2,
+    )
 
 pub returns : goal.returns
 returns g c =
     let e = rw (to_z-of_z w32 c.args.delta c.ranges.delta) at c.in_ok-pages.ensures in
     let moved = rw (to_z-of_z w32 c.args.delta c.ranges.delta) at c.bytes_moved.ensures in
     rw (← c.self.view_is, moved) (fixed-done c.self.invariant.0 c.args.number c.args.delta c.requires.low c.requires.other (sym e) c.set_pages.ensures.pages c.set_pages.ensures.only
-      (g.met.S.Pages.whole c.self.inside.store c.args.number) (g.met.S.Pages.whole c.set_pages.new.store c.args.number))
+    (g.met.S.Pages.whole c.self.inside.store c.args.number) (g.met.S.Pages.whole c.set_pages.new.store c.args.number))

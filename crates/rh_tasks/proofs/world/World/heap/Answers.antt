@@ -1,8 +1,11 @@
-use Rattle.std.proofs.Common.{◌≡◌, refl, ap, ◌∙◌, sym, arith}
+use Rattle.std.proofs.Common.{◌∙◌, sym, arith}
 use Rattle.std.proofs.lemmas.Result.{err_from_is_err_and}
 use Rattle.rh_defs.specs.Listing.{heap_at}
 use Rattle.rh_tasks.proofs.Chains.{ends}
 use Rattle.rh_tasks.proofs.Finding.{nobody}
+use Rattle.rh_tasks.proofs.Moves.{owned}
+use Rattle.rh_tasks.proofs.QuestionLaws.{asked}
+use Rattle.rh_tasks.proofs.Readers.{listed_heap, listed-none, listed-some, small-largest, small-free, small-place, small-piece}
 use Rattle.rh_tasks.proofs.world.World.heap.Goals as goal
 
 pub returns-in_err-slot : goal.returns-in_err-slot
@@ -12,19 +15,30 @@ returns-in_err-slot g c =
     rw (p.1, p.2, c.in_err-slot.ensures.err.0, ← c.self.view_is) (sym (ends _ (nobody _ _ _ _ _ _ c.in_err-slot.ensures.err.1)))
 
 pub overflow_cast-sums-2 : goal.overflow_cast-sums-2
-overflow_cast-sums-2 g c = let d = c.describe in ?
+overflow_cast-sums-2 g c =
+    omega (arith, c.describe-length.ensures.largest, small-largest (owned c.self.invariant.0 c.in_ok-slot.ensures.ok) (g.met.S.Words.small c.self.inside.store c.in_ok-slot.slot.area.0))
 
 pub overflow_cast-sums-3 : goal.overflow_cast-sums-3
-overflow_cast-sums-3 g c = ?
+overflow_cast-sums-3 g c =
+    omega (arith, c.describe-length.ensures.total, small-free (owned c.self.invariant.0 c.in_ok-slot.ensures.ok) (g.met.S.Words.small c.self.inside.store c.in_ok-slot.slot.area.0))
 
 pub returns-in_default : goal.returns-in_default
-returns-in_default g c = let h = c.segment in ?
+unfolding heap_at
+returns-in_default g c =
+    rw (← c.self.view_is, c.describe-length.ensures.end, c.describe-length.ensures.largest, c.describe-length.ensures.total)
+    (sym (asked c.self.invariant.0 c.in_ok-slot.ensures.ok (λ s. listed_heap c.args.place s.heap) ∙ listed-none c.args.place _ c.in_default.ensures))
 
 pub segment_item-requires-clause-low : goal.segment_item-requires-clause-low
-segment_item-requires-clause-low g c = let h = c.in-Some in ?
+segment_item-requires-clause-low g c =
+    small-place (owned c.self.invariant.0 c.in_ok-slot.ensures.ok) (g.met.S.Words.small c.self.inside.store c.in_ok-slot.slot.area.0) c.args.place c.in-Some.segment c.in-Some.ensures
 
 pub segment_item-requires-clause-small : goal.segment_item-requires-clause-small
-segment_item-requires-clause-small g c = ?
+segment_item-requires-clause-small g c =
+    small-piece (owned c.self.invariant.0 c.in_ok-slot.ensures.ok) (g.met.S.Words.small c.self.inside.store c.in_ok-slot.slot.area.0) c.args.place c.in-Some.segment c.in-Some.ensures
 
 pub returns : goal.returns
-returns g c = ?
+unfolding heap_at
+returns g c =
+    rw (← c.self.view_is, c.describe-length.ensures.end, c.describe-length.ensures.largest, c.describe-length.ensures.total)
+    (sym (asked c.self.invariant.0 c.in_ok-slot.ensures.ok (λ s. listed_heap c.args.place s.heap)
+    ∙ listed-some c.args.place _ c.in-Some.segment c.segment_item.result c.in-Some.ensures c.segment_item.ensures))

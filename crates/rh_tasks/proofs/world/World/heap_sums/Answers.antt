@@ -1,16 +1,15 @@
-use Rattle.std.proofs.Common.{◌≡◌, refl, ap, ◌∙◌, sym, arith}
+use Rattle.std.proofs.Common.{refl, arith}
 use Rattle.std.specs.Prelude.{Ok}
 use Rattle.std.proofs.lemmas.Result.{err_from_is_err_and}
 use Rattle.rh_defs.specs.declared.reply.Reply.TheVariants as reply
 use Rattle.rh_defs.specs.Chain.{Granted}
 use Rattle.rh_defs.specs.Heap.{largest, free_bytes}
 use Rattle.rh_defs.specs.Commands.{Answer, heap_sums}
-use Rattle.rh_slot.specs.Area.{slot_in}
 use Rattle.rh_tasks.proofs.Chains.{ends}
 use Rattle.rh_tasks.proofs.Finding.{nobody}
 use Rattle.rh_tasks.proofs.Moves.{owned}
-use Rattle.rh_tasks.proofs.ItemLaws.{largest-small, free-small}
 use Rattle.rh_tasks.proofs.QuestionLaws.{asked}
+use Rattle.rh_tasks.proofs.Readers.{small-largest, small-free}
 use Rattle.rh_tasks.proofs.world.World.heap_sums.Goals as goal
 
 pub returns-in_err-slot : goal.returns-in_err-slot
@@ -21,12 +20,14 @@ returns-in_err-slot g c =
 
 pub overflow_cast-result-2 : goal.overflow_cast-result-2
 overflow_cast-result-2 g c =
-    let is = owned c.self.invariant.0 c.in_ok-slot.ensures.ok in
-    let h = is.spells.words.heap in let d = c.describe in ?
+    omega (arith, c.describe-length.ensures.largest, small-largest (owned c.self.invariant.0 c.in_ok-slot.ensures.ok) (g.met.S.Words.small c.self.inside.store c.in_ok-slot.slot.area.0))
 
 pub overflow_cast-result-3 : goal.overflow_cast-result-3
-overflow_cast-result-3 g c = ?
+overflow_cast-result-3 g c =
+    omega (arith, c.describe-length.ensures.total, small-free (owned c.self.invariant.0 c.in_ok-slot.ensures.ok) (g.met.S.Words.small c.self.inside.store c.in_ok-slot.slot.area.0))
 
 pub returns : goal.returns
 unfolding heap_sums
-returns g c = ?
+returns g c =
+    rw (← c.self.view_is, c.describe-length.ensures.end, c.describe-length.ensures.largest, c.describe-length.ensures.total)
+    (asked c.self.invariant.0 c.in_ok-slot.ensures.ok (λ s. let r : Granted Answer = Ok (_, reply.HeapSums s.heap.end (largest s.heap) (free_bytes s.heap)) in r))

@@ -1,7 +1,7 @@
-use Rattle.std.proofs.Common.{◌≡◌, refl, ap, ◌∙◌, sym, subst}
+use Rattle.std.proofs.Common.{refl, sym}
 use Rattle.std.proofs.lemmas.Result.{err_from_is_err_and}
 use Rattle.rh_defs.specs.Commands.{kill}
-use Rattle.rh_tasks.specs.View.{HasSlot, IsWorld, desk_of}
+use Rattle.rh_tasks.specs.View.{HasSlot}
 use Rattle.rh_tasks.specs.Finding.{Found}
 use Rattle.rh_tasks.proofs.Chains.{ends}
 use Rattle.rh_tasks.proofs.Lists.{all-at}

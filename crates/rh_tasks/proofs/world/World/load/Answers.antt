@@ -1,4 +1,4 @@
-use Rattle.std.proofs.Common.{◌≡◌, refl, ap, ◌∙◌, sym, arith}
+use Rattle.std.proofs.Common.{refl, ap, arith}
 use Rattle.std.proofs.lemmas.Result.{err_from_is_err_and}
 use Rattle.rh_defs.specs.Slot.{slot_put}
 use Rattle.rh_defs.specs.Commands.{load}
@@ -40,7 +40,7 @@ put-requires-clause-anchor g c = load-anchor c.args.name.now c.args.anchor c.arg
 pub unwrap-requires : goal.unwrap-requires
 unwrap-requires g c =
     put-answers (slot_put c.args.anchor 0 c.in-Some.bytes.now (slot_in (g.S.Words.memory c.alloc.new.store) c.in_ok-slot.slot)) _ c.put.ensures
-      (load-fits c.self.invariant.0 c.in_ok-slot.ensures.ok c.args.anchor c.args.file.now c.in-Some.bytes.now c.in-Some.ensures.value c.in_ok-address.ensures)
+    (load-fits c.self.invariant.0 c.in_ok-slot.ensures.ok c.args.anchor c.args.file.now c.in-Some.bytes.now c.in-Some.ensures.value c.in_ok-address.ensures)
 
 pub overflow_cast-result : goal.overflow_cast-result
 overflow_cast-result g c =

@@ -1,4 +1,4 @@
-use Rattle.std.proofs.Common.{◌≡◌, refl, ap, ◌∙◌, sym, arith}
+use Rattle.std.proofs.Common.{refl, arith}
 use Rattle.rh_tasks.proofs.Openings.{opens}
 use Rattle.rh_tasks.proofs.MadeCommands.{make-many, make-none, can-make, make-done, make-world}
 use Rattle.rh_tasks.proofs.world.World.make.Goals as goal
@@ -30,4 +30,4 @@ returns g c =
     let ok = rw c.unwrap-area.ensures at c.open.ensures.ok in
     let low = rw c.unwrap-area.ensures at c.open.ensures.number in
     rw (← c.self.view_is, ok.1, c.push_reserved.ensures.items)
-      (make-done c.self.invariant.0 c.args.most (omega (arith, c.if-len-ge-MOST_MADE.false, c.self.inside.made.ok)) c.if-number-gt-LAST_MADE.false c.unwrap-area.result.0 ok.0 low)
+    (make-done c.self.invariant.0 c.args.most (omega (arith, c.if-len-ge-MOST_MADE.false, c.self.inside.made.ok)) c.if-number-gt-LAST_MADE.false c.unwrap-area.result.0 ok.0 low)

@@ -1,4 +1,4 @@
-use Rattle.std.proofs.Common.{◌≡◌, refl, ap, ◌∙◌, sym, arith}
+use Rattle.std.proofs.Common.{refl, ap, ◌∙◌, sym, arith}
 use Rattle.std.proofs.lemmas.Result.{err_from_is_err_and}
 use Rattle.rh_tasks.specs.View.{shown_of}
 use Rattle.rh_tasks.proofs.Starts.{name-in-use, too-many, no-handles, can-open, no-room, start-done, start-world}
@@ -19,7 +19,7 @@ pub returns-then-self-from : goal.returns-then-self-from
 returns-then-self-from g c =
     rw (← c.self.view_is) (
       no-handles c.args.name.now c.args.buffer c.args.manner c.self.invariant.0 (sym c.is_name_in_use.ensures ∙ c.if-is_name_in_use.false)
-        (omega (arith, c.if-len-ge-MOST_TASKS.false, c.self.inside.seats.ok)) (omega (arith, c.if-self-from.true, c.from.ensures)),
+          (omega (arith, c.if-len-ge-MOST_TASKS.false, c.self.inside.seats.ok)) (omega (arith, c.if-self-from.true, c.from.ensures)),
       refl,
     )
 
@@ -33,7 +33,7 @@ returns-in_err-slot g c =
     let same = ap (λ m. shown_of m c.self.inside.seats.items c.self.inside.made.items c.self.inside.files c.self.inside.next) c.in_err-slot.ensures.err in
     rw (p.1, p.2, ← c.self.view_is) (
       no-room c.args.name.now c.args.buffer c.args.manner c.self.invariant.0 (sym c.is_name_in_use.ensures ∙ c.if-is_name_in_use.false)
-        (omega (arith, c.if-len-ge-MOST_TASKS.false, c.self.inside.seats.ok)) (omega (arith, c.if-self-from.false, c.from.ensures)) c.in_err-slot.ensures.answer,
+          (omega (arith, c.if-len-ge-MOST_TASKS.false, c.self.inside.seats.ok)) (omega (arith, c.if-self-from.false, c.from.ensures)) c.in_err-slot.ensures.answer,
       same,
     )
 
@@ -42,8 +42,8 @@ invariant_of-self-2 g c =
     let e = c.in_ok-slot.ensures in
     rw (c.push_reserved.ensures.items, c.push_reserved.ensures.capacity, c.copied.ensures) (
       start-world c.args.name.now c.args.buffer c.args.manner c.self.invariant.0 (sym c.is_name_in_use.ensures ∙ c.if-is_name_in_use.false)
-        (omega (arith, c.if-len-ge-MOST_TASKS.false, c.self.inside.seats.ok)) (omega (arith, c.if-self-from.false, c.from.ensures))
-        c.in_ok-slot.slot e.slot e.answer e.closed e.number e.only e.still c.requires,
+          (omega (arith, c.if-len-ge-MOST_TASKS.false, c.self.inside.seats.ok)) (omega (arith, c.if-self-from.false, c.from.ensures))
+          c.in_ok-slot.slot e.slot e.answer e.closed e.number e.only e.still c.requires,
       c.self.invariant.1,
       c.self.invariant.2,
     )
@@ -52,7 +52,7 @@ pub returns : goal.returns
 returns g c =
     let e = c.in_ok-slot.ensures in
     rw (← c.self.view_is, c.push_reserved.ensures.items, c.copied.ensures) (
-      start-done c.args.name.now c.args.buffer c.args.manner c.self.invariant.0 (sym c.is_name_in_use.ensures ∙ c.if-is_name_in_use.false)
-        (omega (arith, c.if-len-ge-MOST_TASKS.false, c.self.inside.seats.ok)) (omega (arith, c.if-self-from.false, c.from.ensures))
-        c.in_ok-slot.slot e.slot e.answer e.closed e.number e.only e.still
+    start-done c.args.name.now c.args.buffer c.args.manner c.self.invariant.0 (sym c.is_name_in_use.ensures ∙ c.if-is_name_in_use.false)
+    (omega (arith, c.if-len-ge-MOST_TASKS.false, c.self.inside.seats.ok)) (omega (arith, c.if-self-from.false, c.from.ensures))
+    c.in_ok-slot.slot e.slot e.answer e.closed e.number e.only e.still
     )

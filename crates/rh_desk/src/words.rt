@@ -47,7 +47,8 @@ pub fn program<R: rt::Files, I: Source, O: Sink, E: Sink>(
 /// Tells why the program's words could not be had, and answers its exit status: 3 where memory was refused, and 2 where
 /// one of them, its own name among them, is not text.
 pub fn words_unread<E: Sink>(error: &io::Error, errors: &mut E) -> u8
-    ensures { result ≤ 3 }
+    ensures fault { 2 ≤ result }
+    ensures small { result ≤ 3 }
 {
     let ending = if error.kind() == io::ErrorKind::OutOfMemory {
         ended(Err(RunFault::NoMemory), errors)

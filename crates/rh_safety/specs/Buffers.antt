@@ -1,0 +1,74 @@
+-- A fetch that would be answered names a buffer that is still held for it.
+use Rattle.std.specs.Prelude.{◌≡◌, ◌≢◌, ℕ, ◌≤◌, true, false, List, length, Option, Some, None, ◌⊎◌}
+use Rattle.std.specs.List.{Contains}
+use Rattle.std.specs.Option.{option_map}
+use Rattle.rh_defs.specs.Pieces.{Split}
+use Rattle.rh_defs.specs.Heap.{Segment, bytes_of}
+use Rattle.rh_defs.specs.Slot.{Slot, heap_block_at}
+use Rattle.rh_defs.specs.Messages.{Parcel}
+use Rattle.rh_defs.specs.declared.refusal.Refusal.{Refusal}
+use Rattle.rh_defs.specs.declared.refusal.Refusal.TheVariants.{BadRange}
+use Rattle.rh_defs.specs.declared.message.EventCode.TheVariants.{Recorded}
+use Rattle.rh_defs.specs.declared.message.Body.TheVariants as body
+use Rattle.rh_defs.specs.declared.reply.Outcome.{Outcome}
+use Rattle.rh_defs.specs.declared.reply.Outcome.TheVariants as outcome
+use Rattle.rh_defs.specs.declared.command.Command.TheVariants as command
+use Rattle.rh_defs.specs.declared.reply.Reply.{Reply}
+use Rattle.rh_defs.specs.declared.reply.Reply.TheVariants as reply
+use Rattle.rh_defs.specs.declared.transfer.Sending.{Sending}
+use Rattle.rh_defs.specs.declared.transfer.Taking.{Taking}
+use Rattle.rh_defs.specs.declared.transfer.Outgoing.TheVariants as outgoing
+use Rattle.rh_defs.specs.declared.transfer.Incoming.TheVariants as incoming
+use Rattle.rh_defs.specs.Sender.{would_answer}
+use Rattle.rh_defs.specs.Transfer.{answers_none}
+use Rattle.rh_defs.specs.Desk.{Desk, Task, task_at}
+use Rattle.rh_defs.specs.Step.{step}
+
+-- the bytes of the block of the C heap at an address
+abbrev pub bytes_of_buffer : Slot → ℕ → Option (List ℕ)
+bytes_of_buffer s address = option_map (λ (b : Split Segment). bytes_of b.here) (heap_block_at address s)
+
+-- a queued fetch of n bytes to the address, which the recipient's open record would answer, from a live task
+pub record IsAnswerable (d : Desk) (m : Parcel) (recipient sender : Task) (x : Sending) (address n : ℕ) : Type 0 where
+  pub queued : Contains d.post.queued m
+  pub recorded : m.code ≡ Recorded
+  pub fetch : m.message.body ≡ body.RamFetch address n
+  pub recipient_is : task_at m.to d ≡ Some recipient
+  pub answers : answers_none recipient.manner ≡ false
+  pub open_ : Contains recipient.sending (outgoing.Open x)
+  pub answered : would_answer m.message.from m.message.your_ref n x ≡ true
+  pub sender_is : task_at m.message.from d ≡ Some sender
+
+-- the task holds the buffer at the address for the transfer with the id, Fetching or Draining; it has n bytes at least
+pub record HoldsBuffer (t : Task) (id address n : ℕ) : Type 0 where
+  pub taking : Taking
+  pub is_held : Contains t.taking (incoming.Fetching taking) ⊎ Contains t.taking (incoming.Draining taking)
+  pub same_id : taking.id ≡ id
+  pub names : taking.buffer ≡ address
+  pub bytes : List ℕ
+  pub there : bytes_of_buffer t.slot address ≡ Some bytes
+  pub room : n ≤ length bytes
+
+-- each such fetch names a buffer that its sender holds for the transfer of that record
+abbrev pub HasBuffers : Desk → Type 0
+HasBuffers d =
+    (m : Parcel) (recipient sender : Task) (x : Sending) (address n : ℕ) →
+    IsAnswerable d m recipient sender x address n → HoldsBuffer sender x.id address n
+
+-- ---- refusals in polls
+
+-- the refusal that an outcome names
+abbrev pub refusal_of : Outcome → Option Refusal
+refusal_of (outcome.Refused r) = Some r
+refusal_of (outcome.TookFailed n r) = Some r
+refusal_of (outcome.LoadedFailed n r) = Some r
+refusal_of _ = None
+
+-- the refusal with which a poll says that something failed
+abbrev pub failed_by : Reply → Option Refusal
+failed_by (reply.Event code action my_ref your_ref outcome) = refusal_of outcome
+failed_by _ = None
+
+-- no poll answers that a range was bad
+abbrev pub HasGoodRanges : Desk → Type 0
+HasGoodRanges d = (name : List ℕ) → failed_by (step d (command.Poll name)).1 ≢ Some BadRange

@@ -1,0 +1,5 @@
+pub mod Offered
+pub mod Held
+pub mod Safe
+pub mod Buffers
+pub mod Alternation

@@ -1,0 +1,46 @@
+-- No run loses a byte, or gives a wrong one.
+use Rattle.std.specs.Prelude.{◌≡◌, ◌≤◌, ℕ, true, List, length, Some}
+use Rattle.std.specs.List.{Contains}
+use Rattle.std.specs.Option.{option_map}
+use Rattle.std.specs.Io.{StartsWith}
+use Rattle.rh_defs.specs.declared.command.Command.{Command}
+use Rattle.rh_defs.specs.declared.transfer.Outgoing.TheVariants as outgoing
+use Rattle.rh_defs.specs.declared.transfer.Incoming.TheVariants as incoming
+use Rattle.rh_defs.specs.Forms.{most_pages}
+use Rattle.rh_defs.specs.Range.{all_in_range}
+use Rattle.rh_defs.specs.Files.{FileList}
+use Rattle.rh_defs.specs.Desk.{Desk, Task, task_at}
+use Rattle.rh_defs.specs.Runs.{start, start_with, after}
+use Rattle.rh_defs.specs.Laws.{IsStart}
+use Rattle.rh_defs.specs.Script.{commands_in, ended}
+use Rattle.rh_safety.specs.Offered.{offered}
+use Rattle.rh_safety.specs.Held.{held}
+
+-- After the commands: what a task holds of a transfer was offered, and the file begins with it; where the task's record
+-- says Done, it is the whole file; where a sender's record says Done, its count is the file's length.
+pub record IsSafe (d : Desk) (commands : List Command) (id h : ℕ) : Type 0 where
+  pub prefix :
+      (got : List ℕ) → held d commands id h ≡ Some got →
+      (file : List ℕ) × (offered d commands id ≡ Some file) × StartsWith file got
+  pub whole :
+      (got : List ℕ) (k n : ℕ) (t : Task) → held d commands id h ≡ Some got → task_at h (after d commands) ≡ Some t →
+      Contains t.taking (incoming.Done id k n) → offered d commands id ≡ Some got
+  pub counted :
+      (n : ℕ) (t : Task) → task_at h (after d commands) ≡ Some t → Contains t.sending (outgoing.Done id n) →
+      option_map length (offered d commands id) ≡ Some n
+
+-- the same of each transfer and each task
+abbrev pub AreSafe : Desk → List Command → Type 0
+AreSafe d commands = (id h : ℕ) → IsSafe d commands id h
+
+-- the same after each list of commands in range, from each start
+abbrev pub AlwaysSafe : Type 0
+AlwaysSafe =
+    (pool handle ref : ℕ) (files : FileList) (commands : List Command) → IsStart pool handle ref →
+    all_in_range commands ≡ true → AreSafe (start_with pool files handle ref) commands
+
+-- the same of the commands that a script's complete lines spell, over a fresh desk
+abbrev pub ScriptsAreSafe : Type 0
+ScriptsAreSafe =
+    (pages : ℕ) (files : FileList) (script : List ℕ) → 8 ≤ pages → pages ≤ most_pages →
+    AreSafe (start pages files) (commands_in (ended script))

@@ -1,0 +1,27 @@
+//! Laws over the desk's definitions alone, each the contract of a function with nothing to do.
+
+ghost use Rattle.rh_defs.specs.Laws.{Always};
+ghost use Rattle.rh_safety.specs.Alternation.{Alternates};
+ghost use Rattle.rh_safety.specs.Buffers.{HasBuffers, HasGoodRanges};
+ghost use Rattle.rh_safety.specs.Safe.{AlwaysSafe, ScriptsAreSafe};
+
+/// After any commands: what a task holds of a transfer was offered, and the file begins with it; it
+/// is the whole file where the task's record says Done, and where a sender's record says so, it counts
+/// the whole file.
+pub fn safe_law()
+    ensures commands { AlwaysSafe }
+    ensures scripts { ScriptsAreSafe }
+{}
+
+/// After any commands: a queued fetch that would be answered, and whose sender is live, names a buffer
+/// that this sender still holds for that transfer, and that is long enough; no poll answers BadRange.
+pub fn buffer_law()
+    ensures buffers { Always HasBuffers }
+    ensures ranges { Always HasGoodRanges }
+{}
+
+/// After any commands: a save on a quiet desk, and polls in turn that are refused nothing, leave both
+/// records Done and the document equal to the source.
+pub fn alternation_law()
+    ensures { Always Alternates }
+{}

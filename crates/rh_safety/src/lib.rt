@@ -1,0 +1,6 @@
+//! The laws of the transfers: what holds of the desk after every list of commands.
+#![tactic(auto)]
+
+mod laws;
+
+pub use laws::{alternation_law, buffer_law, safe_law};

@@ -1,0 +1,27 @@
+use Rattle.std.proofs.Common.{ap, sym, ◌∙◌, arith}
+use Rattle.std.specs.Prelude.{slice_get}
+use Rattle.rh_defs.specs.Memory.{IsOpen}
+use Rattle.rh_tasks.specs.declared.seat.Seat.{Seat}
+use Rattle.rh_tasks.specs.View.{HasSlot}
+use Rattle.rh_tasks.specs.Items.{slot_items}
+use Rattle.rh_tasks.proofs.Lists.{all-map}
+use Rattle.rh_tasks.proofs.ItemLaws.{item-made, item-slot}
+use Rattle.rh_tasks.proofs.listing.area_item.Goals as goal
+
+pub returns-then-behind-len : goal.returns-then-behind-len
+returns-then-behind-len g c =
+    rw c.pages_in-then-behind-len.ensures
+    (sym (item-made (g.S.Words.memory c.args.store.now) c.args.seats.now.items c.args.made.now.items c.args.i c.index-area.result.now c.if-i-fixed.false
+    (omega (arith, c.if-behind-len.true, c.len.ensures, c.args.made.now.ok)) (sym c.index-area.ensures)))
+
+pub slot_item-requires : goal.slot_item-requires
+slot_item-requires g c =
+    let m = g.S.Words.memory c.args.store.now in
+    all-map (HasSlot m) (λ (s : Seat). IsOpen m s.slot.area.0) c.args.seats.now.items (λ s has. has.opened) c.requires.slots
+
+pub returns : goal.returns
+returns g c =
+    let m = g.S.Words.memory c.args.store.now in
+    c.slot_item.ensures
+    ∙ ap (slice_get (slot_items m c.args.seats.now.items)) (omega (arith, c.len-2.ensures, c.args.made.now.ok))
+    ∙ sym (item-slot m c.args.seats.now.items c.args.made.now.items c.args.i c.if-i-fixed.false (omega (arith, c.if-behind-len.false, c.len.ensures, c.args.made.now.ok)))

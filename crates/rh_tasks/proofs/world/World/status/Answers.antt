@@ -1,0 +1,20 @@
+use Rattle.std.proofs.Common.{refl, sym}
+use Rattle.std.proofs.lemmas.Result.{err_from_is_err_and}
+use Rattle.rh_defs.specs.Listing.{status_at}
+use Rattle.rh_tasks.specs.View.{task_of}
+use Rattle.rh_tasks.specs.Finding.{Found}
+use Rattle.rh_tasks.proofs.Chains.{begins, ends}
+use Rattle.rh_tasks.proofs.Finding.{nobody, named-is}
+use Rattle.rh_tasks.proofs.world.World.status.Goals as goal
+
+pub returns-in_err-i-clause-err : goal.returns-in_err-i-clause-err
+unfolding status_at
+returns-in_err-i-clause-err g c =
+    let p = err_from_is_err_and c.from_residual.result c.from_residual.ensures.1 in
+    rw (p.1, p.2, c.in_err-i.ensures.err.0, ← c.self.view_is) (ends _ (nobody _ _ _ _ _ _ c.in_err-i.ensures.err.1))
+
+pub returns-clause-ok : goal.returns-clause-ok
+unfolding status_at task_of
+returns-clause-ok g c =
+    let f : Found c.args.name.now c.self.inside.seats.items c.in_ok-i.i c.index-seat.result.now = record { at = c.in_ok-i.ensures.ok; is = sym c.index-seat.ensures } in
+    rw (← c.self.view_is) (begins _ (named-is _ _ _ _ f) refl)
