@@ -37,7 +37,7 @@ pub fn program<R: rt::Files, I: Source, O: Sink, E: Sink>(
     ensures ran { length words.now ≤ 1 → (status : Status) → result ≡ exit_status (ending_of (Ok status)) → Finished (start 64 []) (I.input input.old) (I.input input.new) (O.output output.old) (O.output output.new) status }
 {
     let ending = if words.len() <= 1 {
-        ended(run(alloc, Files::new(alloc), input, output, PAGES), errors)
+        run_told(alloc, Files::new(alloc), PAGES, input, output, errors)
     } else {
         run_words(runtime, alloc, words, input, output, errors)
     };
@@ -57,6 +57,25 @@ pub fn words_unread<E: Sink>(error: &io::Error, errors: &mut E) -> u8
         Ending::WrongWords
     };
     ending.exit_status()
+}
+
+/// Runs a script over so many pages with these files, and tells the fault that stopped it, if one did.
+fn run_told<I: Source, O: Sink, E: Sink>(
+    alloc: Global,
+    files: Files,
+    pages: u32,
+    script: &mut I,
+    output: &mut O,
+    errors: &mut E,
+) -> Ending
+    requires least { 8 ≤ pages }
+    requires most { pages ≤ 1024 }
+    requires fresh { (I.input script.old).reads ≡ 0 }
+
+    // A run that came to its end.
+    ensures { (status : Status) → result ≡ ending_of (Ok status) → Finished (start pages files) (I.input script.old) (I.input script.new) (O.output output.old) (O.output output.new) status }
+{
+    ended(run(alloc, files, script, output, pages), errors)
 }
 
 fn run_words<R: rt::Files, I: Source, O: Sink, E: Sink>(
@@ -101,13 +120,17 @@ fn run_request<R: rt::Files, I: Source, O: Sink, E: Sink>(
         Err(ending) => return ending,
     };
     if request.script == INPUT {
-        return ended(run(alloc, files, input, output, request.pages), errors);
+        return run_told(alloc, files, request.pages, input, output, errors);
     }
     match File::open(runtime, request.script) {
         Ok(file) => {
             let mut reader = Flagged::new(file);
-            ended(
-                run(alloc, files, &mut reader, output, request.pages),
+            run_told(
+                alloc,
+                files,
+                request.pages,
+                &mut reader,
+                output,
                 errors,
             )
         }
