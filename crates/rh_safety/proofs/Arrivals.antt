@@ -1,15 +1,34 @@
 -- What a DataSave, a transmit, a bounce and the scrap file do keeps the invariant.
-use Rattle.std.proofs.Common.{nat_le, ◌≡◌, ◌≢◌, ℕ, suc, ◌+◌, ◌≤◌, ◌<◌, Bool, true, false, not, ◌&&◌, List, [], ◌++◌, length, take, drop, replicate, Option, Some, None, refl, sym, ap, ◌∙◌, subst, inl, inr, arith}
+use Rattle.std.proofs.Common.{nat_le, ◌≡◌, ◌≢◌, ℕ, suc, ◌+◌, ◌≤◌, ◌<◌, Bool, true, false, not, ◌&&◌, List, [], ◌++◌}
+use Rattle.std.proofs.Common.{length, take, drop, replicate, Option, Some, None, refl, sym, ap, ◌∙◌, subst, inl, inr}
+use Rattle.std.proofs.Common.{arith}
 use Rattle.std.proofs.lemmas.List.{length-replicate}
 use Rattle.std.proofs.lemmas.Grind.{common_steps}
 use Rattle.std.specs.Prelude.{if◌then◌else◌, nat_eq, nat_lt, is_none}
 use Rattle.std.proofs.lemmas.Bool.Decides.{eqb_tells, leb_tells}
-use Rattle.rh_safety.proofs.Ends.{Plain, Recorded, Kind, DataSave, RamFetch, RamTransmit, DataSaveAck, DataLoad, DataLoadAck, Letter, Message, Sending, Taking, Asked, Out, Open, Out_done, Out_failed, In, Fetching, Draining, Asking, In_done, In_failed, out_id, in_id, in_anchor, is_going, is_growing, Has, Active, put, how_many, one_more, with_id, find_open, find_active, find_asking}
-use Rattle.rh_safety.proofs.Protocol.{Desk, Scrap, Luck, begun, can_begin, on_save, bytes_of, longer, goes_on, appended, extends, matches, given_up, on_transmit, is_fetch, asks, first_back, on_fetch_back, with_in, is_load, copied, loaded, loads, on_file, on_load, is_ack, on_ack_back, with_out, failed, is_last, on_out_back, asks_for, filed, files, on_ack, on_load_ack, came_back}
-use Rattle.rh_safety.proofs.Basics.{length_more, asking_is, put_same, put_other, same_value, none_some, none_of, and_left, and_right, is_equal, take_more, Ascend, with_puts, with_ascends, more_keeps, more_puts, more_ascends, open_is, FoundActive, fetches, drains, active_is}
-use Rattle.rh_safety.proofs.Invariant.{LetterAck, LetterFile, Offered, Knows, Below, Offers, LetterOut, LetterIn, LetterCarries, LetterOlder, LetterAhead, Carries, Begins, Whole, Untouched, IsGood, Unread, Inv, IsWaiting, PendingAt, Good}
+use Rattle.rh_safety.proofs.Ends.{Plain, Recorded, Kind, DataSave, RamFetch, RamTransmit, DataSaveAck, DataLoad}
+use Rattle.rh_safety.proofs.Ends.{DataLoadAck, Letter, Message, Sending, Taking, Asked, Out, Open, Out_done}
+use Rattle.rh_safety.proofs.Ends.{Out_failed, In, Fetching, Draining, Asking, In_done, In_failed, out_id, in_id}
+use Rattle.rh_safety.proofs.Ends.{in_anchor, is_going, is_growing, Has, Active, put, how_many, one_more, with_id}
+use Rattle.rh_safety.proofs.Ends.{find_open, find_active, find_asking}
+use Rattle.rh_safety.proofs.Protocol.{Desk, Scrap, Luck, begun, can_begin, on_save, bytes_of, longer, goes_on}
+use Rattle.rh_safety.proofs.Protocol.{appended, extends, matches, given_up, on_transmit, is_fetch, asks, first_back}
+use Rattle.rh_safety.proofs.Protocol.{on_fetch_back, with_in, is_load, copied, loaded, loads, on_file, on_load}
+use Rattle.rh_safety.proofs.Protocol.{is_ack, on_ack_back, with_out, failed, is_last, on_out_back, asks_for, filed}
+use Rattle.rh_safety.proofs.Protocol.{files, on_ack, on_load_ack, came_back}
+use Rattle.rh_safety.proofs.Basics.{length_more, asking_is, put_same, put_other, same_value, none_some, none_of}
+use Rattle.rh_safety.proofs.Basics.{and_left, and_right, is_equal, take_more, Ascend, with_puts, with_ascends}
+use Rattle.rh_safety.proofs.Basics.{more_keeps, more_puts, more_ascends, open_is, FoundActive, fetches, drains}
+use Rattle.rh_safety.proofs.Basics.{active_is}
+use Rattle.rh_safety.proofs.Invariant.{LetterAck, LetterFile, Offered, Knows, Below, Offers, LetterOut, LetterIn}
+use Rattle.rh_safety.proofs.Invariant.{LetterCarries, LetterOlder, LetterAhead, Carries, Begins, Whole, Untouched}
+use Rattle.rh_safety.proofs.Invariant.{IsGood, Unread, Inv, IsWaiting, PendingAt, Good}
 use Rattle.rh_safety.proofs.Moves.{Move, OutOk, BothOutOk, move_with, move_more, outs_move, boths_out}
-use Rattle.rh_safety.proofs.Sends.{few_put, few_here, few_with, sent_knows, asked_over, tell_good, asked_good, lost_good, put_ascends, order_out, one_active, KeepsActive, Quiet, NewOut, out_inv, out_pending, NewFetch, fetch_inv, fetch_pending, put2_other, put2_same, keeps_with, Ends, ended_good, active_id, heap_inv}
+use Rattle.rh_safety.proofs.Sends.{few_put, few_here, few_with, sent_knows, put_ascends, order_out, one_active}
+use Rattle.rh_safety.proofs.Sends.{KeepsActive, Quiet, NewOut, out_inv, out_pending, NewFetch, fetch_inv}
+use Rattle.rh_safety.proofs.Sends.{fetch_pending}
+use Rattle.rh_safety.proofs.Endings.{asked_over, tell_good, asked_good, lost_good, put2_other, put2_same, keeps_with}
+use Rattle.rh_safety.proofs.Endings.{Ends, ended_good, active_id, heap_inv}
 
 -- a letter that was known when it was taken
 pub record LetterOk (o : Offered) (d : Desk) (l : Letter) : Type 0 where
@@ -18,8 +37,10 @@ pub record LetterOk (o : Offered) (d : Desk) (l : Letter) : Type 0 where
   pub out : (s : ℕ) (x : Sending) → Has (Open x) (d.sending s) → LetterOut l s x
   pub inn : (r : ℕ) (t : Taking) → Active (d.taking r) t → LetterIn l r t
   pub carries : (r : ℕ) (t : Taking) → Has (Fetching t) (d.taking r) → LetterCarries o l t (d.heap r) (d.buf r)
-  pub older : (s : ℕ) (x : Sending) → Has (Open x) (d.sending s) → (r : ℕ) (t : Taking) → Active (d.taking r) t → LetterOlder l s x t
-  pub ahead : (s : ℕ) (x : Sending) → Has (Open x) (d.sending s) → (r : ℕ) (t : Taking) → Has (Fetching t) (d.taking r) → LetterAhead l s x t
+  pub older : (s : ℕ) (x : Sending) → Has (Open x) (d.sending s) → (r : ℕ) (t : Taking) → Active (d.taking r) t →
+      LetterOlder l s x t
+  pub ahead : (s : ℕ) (x : Sending) → Has (Open x) (d.sending s) → (r : ℕ) (t : Taking) →
+      Has (Fetching t) (d.taking r) → LetterAhead l s x t
   pub ack : (r : ℕ) (q : Asked) → Has (Asking q) (d.taking r) → LetterAck l q
   pub file : (r : ℕ) (q : Asked) → Has (Asking q) (d.taking r) → LetterFile o d.scrap l q
 
@@ -33,21 +54,25 @@ pub record Read (o : Offered) (d : Desk) (h : ℕ) (l : Letter) : Type 0 where
 -- ---- quiet records
 
 -- a record of the id would hold a buffer
-waiting_active : {o : Offered} {e : ℕ → ℕ → Bool} {d : Desk} (h i : ℕ) → Good o e d → ((w : Taking) → Active (d.taking h) w → w.id ≡ i → (s : ℕ) (x : Sending) → Has (Open x) (d.sending s) → x.id ≡ i → w.sender ≡ s → x.last < w.fetch →
-    (l : Letter) → ((m : Message) → Has m d.queue → m.letter.me ≡ w.fetch → IsWaiting m s l) → ((k : ℕ) (m : Message) → d.held k ≡ Some m → m.letter.me ≢ w.fetch) → ⊥) → Quiet d h i
+waiting_active : {o : Offered} {e : ℕ → ℕ → Bool} {d : Desk} (h i : ℕ) → Good o e d →
+    ((w : Taking) → Active (d.taking h) w → w.id ≡ i → (s : ℕ) (x : Sending) → Has (Open x) (d.sending s) → x.id ≡ i →
+    w.sender ≡ s → x.last < w.fetch →
+    (l : Letter) → ((m : Message) → Has m d.queue → m.letter.me ≡ w.fetch → IsWaiting m s l) →
+    ((k : ℕ) (m : Message) → d.held k ≡ Some m → m.letter.me ≢ w.fetch) → ⊥) → Quiet d h i
 waiting_active {o} {e} {d} h i g never s x q l k from same =
     let w = g.pending s x q l k in
-    never w.taking (subst (λ j. Active (d.taking j) w.taking) from w.is_active) (w.same_id ∙ same) s x q same w.sender w.newer l w.unread w.free
+    never w.taking (subst (λ j. Active (d.taking j) w.taking) from w.is_active) (w.same_id ∙ same) s x q same w.sender
+    w.newer l w.unread w.free
 
 -- a reader of the transmit that answers its fetch waits for nothing
-read_quiet : {o : Offered} {e : ℕ → ℕ → Bool} {d : Desk} (h : ℕ) (t : Taking) (n : Letter) → Active (d.taking h) t → n.kind ≡ RamTransmit → n.from ≡ t.sender → n.answers ≡ t.fetch → LetterOk o d n → Good o e d → Quiet d h t.id
+read_quiet : {o : Offered} {e : ℕ → ℕ → Bool} {d : Desk} (h : ℕ) (t : Taking) (n : Letter) → Active (d.taking h) t →
+    n.kind ≡ RamTransmit → n.from ≡ t.sender → n.answers ≡ t.fetch → LetterOk o d n → Good o e d → Quiet d h t.id
 read_quiet {o} {e} {d} h t n act kind from answers ok g =
     waiting_active h t.id g (λ w a same s x q i sender newer l unread free.
     let z : w ≡ t = one_active (d.taking h) w t (g.inv.order.ins h) a act same in
     let to : t.sender ≡ s = subst (λ (y : Taking). y.sender ≡ s) z sender in
     let lt : x.last < t.fetch = subst (λ (y : Taking). x.last < y.fetch) z newer in
-    let older = (ok.older s x q h t act).older kind (from ∙ to) answers i in
-    omega arith)
+    let older = (ok.older s x q h t act).older kind (from ∙ to) answers i in omega arith)
 
 -- ---- DataSave
 
@@ -58,54 +83,99 @@ has_block o (Asking q) b z = (_, z.there)
 has_block o (In_done i a n) b z = (_, z.there)
 has_block o (In_failed i a n) b z = (_, z.there)
 
-keeps_more : (old : ℕ → List In) (h most i : ℕ) (v : In) → KeepsActive old (put old h (one_more most is_going (old h) v)) h i
+keeps_more : (old : ℕ → List In) (h most i : ℕ) (v : In) →
+    KeepsActive old (put old h (one_more most is_going (old h) v)) h i
 keeps_more old h most i v r t act ne =
     elim (eqb_tells r h) [
       | inl w ↦ rw w.0 (elim act [
-        | inl a ↦ inl (more_keeps most is_going (old h) v (Fetching t) (subst (λ j. Has (Fetching t) (old j)) w.1 a) refl)
-        | inr a ↦ inr (more_keeps most is_going (old h) v (Draining t) (subst (λ j. Has (Draining t) (old j)) w.1 a) refl)
+        | inl a ↦ inl (more_keeps most is_going (old h) v (Fetching t) (subst (λ j. Has (Fetching t) (old j)) w.1 a)
+            refl)
+        | inr a ↦ inr (more_keeps most is_going (old h) v (Draining t) (subst (λ j. Has (Draining t) (old j)) w.1 a)
+            refl)
       ])
       | inr w ↦ rw w.0 act
     ]
 
-begun_good : {o : Offered} {e : ℕ → ℕ → Bool} {d : Desk} (h : ℕ) (luck : Luck) (l : Letter) → Good o e d → Read o d h l → l.kind ≡ DataSave → d.block h luck.anchor ≡ None → d.heap h luck.address ≡ None → how_many is_going (d.taking h) < d.most → Good o e (begun d h luck l)
+begun_good : {o : Offered} {e : ℕ → ℕ → Bool} {d : Desk} (h : ℕ) (luck : Luck) (l : Letter) → Good o e d →
+    Read o d h l → l.kind ≡ DataSave → d.block h luck.anchor ≡ None → d.heap h luck.address ≡ None →
+    how_many is_going (d.taking h) < d.most → Good o e (begun d h luck l)
 begun_good {o} {e} {d} h luck l g rd kind free_anchor free_address count =
     let i = g.inv in
     let ok = rd.ok in
     let bytes : List ℕ = replicate (d.buf h + luck.spare) 0 in
     let bl : ℕ → ℕ → Option (List ℕ) = put d.block h (put (d.block h) luck.anchor (Some [])) in
     let hp : ℕ → ℕ → Option (List ℕ) = put d.heap h (put (d.heap h) luck.address (Some bytes)) in
-    let t : Taking = record { id = l.me; sender = l.from; anchor = luck.anchor; buffer = luck.address; count = 0; fetch = d.next_ref } in
+    let t : Taking = record {
+      id = l.me;
+      sender = l.from;
+      anchor = luck.anchor;
+      buffer = luck.address;
+      count = 0;
+      fetch = d.next_ref;
+    } in
     let new : ℕ → List In = put d.taking h (one_more d.most is_going (d.taking h) (Fetching t)) in
     let of = ok.offers.some kind in
-    let no_buffer : (u : Taking) → Active (d.taking h) u → u.buffer ≢ luck.address = λ u a eq. let w = i.ins.buffer h u a in none_some (d.heap h luck.address) free_address (subst (λ j. d.heap h j ≡ Some w.bytes) eq w.there) in
-    let no_document : (w : In) → Has w (d.taking h) → Untouched (e h) w → in_anchor w ≢ luck.anchor = λ w q u eq. let z = has_block o w (d.block h (in_anchor w)) (i.ins.good h w q u) in none_some (d.block h luck.anchor) free_anchor (subst (λ j. d.block h j ≡ Some z.0) eq z.1) in
-    let no_source : (x : Sending) → Has (Open x) (d.sending h) → x.anchor ≢ luck.anchor = λ x q eq. let w = i.outs.source h x q in none_some (d.block h luck.anchor) free_anchor (subst (λ j. d.block h j ≡ Some w.all) eq w.there) in
+    let no_buffer : (u : Taking) → Active (d.taking h) u → u.buffer ≢ luck.address = λ u a eq. let w = i.ins.buffer h
+    u a in none_some (d.heap h luck.address) free_address (subst (λ j. d.heap h j ≡ Some w.bytes) eq w.there) in
+    let no_document : (w : In) → Has w (d.taking h) → Untouched (e h) w → in_anchor w ≢ luck.anchor = λ w q u eq.
+    let z = has_block o w (d.block h (in_anchor w)) (i.ins.good h w q u) in none_some (d.block h luck.anchor)
+    free_anchor (subst (λ j. d.block h j ≡ Some z.0) eq z.1) in
+    let no_source : (x : Sending) → Has (Open x) (d.sending h) → x.anchor ≢ luck.anchor = λ x q eq. let w =
+    i.outs.source h x q in none_some (d.block h luck.anchor) free_anchor (subst (λ j. d.block h j ≡ Some w.all) eq
+    w.there) in
     let d1 : Desk = record d { heap = hp } in
     let step1 : Inv o e d1 = heap_inv h luck.address (Some bytes) no_buffer i in
     let quiet : Quiet d1 h l.me = λ s x q n k from eq.
-    let w = g.pending s x q n (record { known = k.known; kind = k.kind; answers = k.answers; from = k.from; live = k.live; fetches = k.fetches }) in
+    let w = g.pending s x q n (record {
+      known = k.known;
+      kind = k.kind;
+      answers = k.answers;
+      from = k.from;
+      live = k.live;
+      fetches = k.fetches;
+    }) in
     let a : Active (d.taking h) w.taking = subst (λ j. Active (d.taking j) w.taking) from w.is_active in
-    let less : w.taking.id < l.me = elim a as (λ _. w.taking.id < l.me) [ inl b ↦ rd.past (Fetching w.taking) b | inr b ↦ rd.past (Draining w.taking) b ] in
+    let less : w.taking.id < l.me = elim a as (λ _. w.taking.id < l.me) [
+      | inl b ↦ rd.past (Fetching w.taking) b
+      | inr
+          b ↦ rd.past (Draining w.taking) b
+    ] in
     let same = w.same_id in
     omega arith in
     let me : l.me < d.next_ref = ok.below.me in
     let nf : NewFetch o e d1 new bl h t l.me = record {
       move = move_more in_id d.taking h d.most is_going (Fetching t) (λ w q eq. let z = rd.past w q in omega arith);
       keeps = keeps_more d.taking h d.most l.me (Fetching t);
-      puts = subst (λ z. Active z t) (sym (put_same d.taking h (one_more d.most is_going (d.taking h) (Fetching t)))) (inl (more_puts d.most is_going (d.taking h) (Fetching t)));
-      ascends = subst (λ z. Ascend in_id z) (sym (put_same d.taking h (one_more d.most is_going (d.taking h) (Fetching t)))) (more_ascends in_id d.most is_going (d.taking h) (Fetching t) (i.order.ins h) rd.past);
-      few = few_here d.taking h (one_more d.most is_going (d.taking h) (Fetching t)) (length_more d.most is_going (d.taking h) (Fetching t) count (i.few.ins h));
+      puts = subst (λ z. Active z t) (sym (put_same d.taking h (one_more d.most is_going (d.taking h) (Fetching t))))
+          (inl (more_puts d.most is_going (d.taking h) (Fetching t)));
+      ascends = subst (λ z. Ascend in_id z) (sym (put_same d.taking h (one_more d.most is_going (d.taking h)
+          (Fetching t)))) (more_ascends in_id d.most is_going (d.taking h) (Fetching t) (i.order.ins h) rd.past);
+      few = few_here d.taking h (one_more d.most is_going (d.taking h) (Fetching t)) (length_more d.most is_going
+          (d.taking h) (Fetching t) count (i.few.ins h));
       elsewhere = put_other d.taking h (one_more d.most is_going (d.taking h) (Fetching t));
       born = me;
       above = rd.next_up;
       fresh = refl;
       old = me;
       handle = rd.handle;
-      sources = λ s x q. put2_other d.block h luck.anchor (Some []) s x.anchor (λ here. no_source x (subst (λ j. Has (Open x) (d.sending j)) here q));
-      same = λ r w q ne u. put2_other d.block h luck.anchor (Some []) r (in_anchor w) (λ here. no_document w (subst (λ j. Has w (d.taking j)) here q) (subst (λ j. Untouched (e j) w) here u));
-      begins = record { all = of.0; offered = of.1; there = put2_same d.block h luck.anchor (Some []); fits = omega arith };
-      buffer = record { bytes = bytes; there = put2_same d.heap h luck.address (Some bytes); size = let z : length (replicate {A = ℕ} (d.buf h + luck.spare) 0) ≡ d.buf h + luck.spare = length-replicate (d.buf h + luck.spare) 0 in omega arith; below = omega arith };
+      sources = λ s x q. put2_other d.block h luck.anchor (Some []) s x.anchor (λ here. no_source x
+          (subst (λ j. Has (Open x) (d.sending j)) here q));
+      same = λ r w q ne u. put2_other d.block h luck.anchor (Some []) r (in_anchor w) (λ here. no_document w
+          (subst (λ j. Has w (d.taking j)) here q) (subst (λ j. Untouched (e j) w) here u));
+      begins = record {
+        all = of.0;
+        offered = of.1;
+        there = put2_same d.block h luck.anchor (Some []);
+        fits = omega arith;
+      };
+      buffer = record {
+        bytes = bytes;
+        there = put2_same d.heap h luck.address (Some bytes);
+        size = let z : length
+            (replicate {A = ℕ} (d.buf h + luck.spare) 0) ≡ d.buf h + luck.spare = length-replicate
+            (d.buf h + luck.spare) 0 in omega arith;
+        below = omega arith;
+      };
       buffers = λ u a ne. no_buffer u a;
       documents = λ w q u ne. no_document w q u;
       apart = no_source;
@@ -115,18 +185,31 @@ begun_good {o} {e} {d} h luck l g rd kind free_anchor free_address count =
       pending = fetch_pending new bl h t l.me nf step1 quiet
           (λ s x q c f. let w = ok.out s x q in let same = w.same_id c kind in
           (c ∙ sym same, w.owner c, (i.outs.source s x q).unread (sym same)))
-          (λ s x q n k. g.pending s x q n (record { known = k.known; kind = k.kind; answers = k.answers; from = k.from; live = k.live; fetches = k.fetches }));
+          (λ s x q n k. g.pending s x q n (record {
+            known = k.known;
+            kind = k.kind;
+            answers = k.answers;
+            from = k.from;
+            live = k.live;
+            fetches = k.fetches;
+          }));
       born = λ j le. g.born j (omega arith);
     }
 
-pub on_save_good : {o : Offered} {e : ℕ → ℕ → Bool} {d : Desk} (h : ℕ) (luck : Luck) (l : Letter) → Good o e d → Read o d h l → l.kind ≡ DataSave → (b : Bool) → can_begin d h luck l ≡ b → Good o e (on_save d h luck l b)
+pub on_save_good : {o : Offered} {e : ℕ → ℕ → Bool} {d : Desk} (h : ℕ) (luck : Luck) (l : Letter) → Good o e d →
+    Read o d h l → l.kind ≡ DataSave → (b : Bool) → can_begin d h luck l ≡ b → Good o e (on_save d h luck l b)
 on_save_good h luck l g rd kind false q = g
 on_save_good {o} {e} {d} h luck l g rd kind true q =
     let q1 = and_right (not (d.deaf h)) _ q in
     let q2 = and_right (nat_lt (how_many is_going (d.taking h)) d.most) _ q1 in
     let q3 = and_right (is_none (d.block h luck.anchor)) _ q2 in
-    begun_good h luck l g rd kind (none_of _ (and_left (is_none (d.block h luck.anchor)) _ q2)) (none_of _ (and_left (is_none (d.heap h luck.address)) _ q3))
-    (elim (leb_tells (suc (how_many is_going (d.taking h))) d.most) [ inl w ↦ w.1 | inr w ↦ absurd (let a = w.0 in let b = and_left (nat_lt (how_many is_going (d.taking h)) d.most) _ q1 in (cc)) ])
+    begun_good h luck l g rd kind (none_of _ (and_left (is_none (d.block h luck.anchor)) _ q2))
+    (none_of _ (and_left (is_none (d.heap h luck.address)) _ q3))
+    (elim (leb_tells (suc (how_many is_going (d.taking h))) d.most) [
+      | inl w ↦ w.1
+      | inr w ↦ absurd (let a = w.0 in
+          let b = and_left (nat_lt (how_many is_going (d.taking h)) d.most) _ q1 in (cc))
+    ])
 
 -- ---- RAMTransmit
 
@@ -144,46 +227,71 @@ matched d h t l q =
       from = is_equal _ _ (and_left (nat_eq l.from t.sender) _ q2);
       answers = is_equal _ _ (and_right _ (nat_eq l.answers t.fetch) q2);
       address = is_equal _ _ (and_right _ (nat_eq l.address t.buffer) q3);
-      amount = elim (leb_tells l.amount (d.buf h)) [ inl w ↦ w.1 | inr w ↦ absurd (let a = w.0 in let b = and_right _ (nat_le l.amount (d.buf h)) q in (cc)) ];
+      amount = elim (leb_tells l.amount (d.buf h)) [
+        | inl w ↦ w.1
+        | inr w ↦ absurd (let a = w.0 in let b = and_right _
+            (nat_le l.amount (d.buf h)) q in (cc))
+      ];
     }
 
 -- the document with the buffer's bytes at its end
 abbrev pub grown_block : Desk → ℕ → Taking → ℕ → ℕ → ℕ → Option (List ℕ)
-grown_block d h t n = put d.block h (put (d.block h) t.anchor (Some (bytes_of (d.block h t.anchor) ++ take n (bytes_of (d.heap h t.buffer)))))
+grown_block d h t n = put d.block h (put (d.block h) t.anchor (Some (bytes_of (d.block h t.anchor) ++ take n
+    (bytes_of (d.heap h t.buffer)))))
 
 record Grown (o : Offered) (e : ℕ → ℕ → Bool) (d : Desk) (h : ℕ) (t : Taking) (n : ℕ) : Type 0 where
   begins : Begins o t.id (t.count + n) (grown_block d h t n h t.anchor)
   short : n < d.buf h → Whole o t.id (grown_block d h t n h t.anchor)
   sources : (s : ℕ) (x : Sending) → Has (Open x) (d.sending s) → grown_block d h t n s x.anchor ≡ d.block s x.anchor
-  same : (r : ℕ) (w : In) → Has w (d.taking r) → (r ≡ h → in_id w ≢ t.id) → Untouched (e r) w → grown_block d h t n r (in_anchor w) ≡ d.block r (in_anchor w)
+  same : (r : ℕ) (w : In) → Has w (d.taking r) → (r ≡ h → in_id w ≢ t.id) → Untouched (e r) w →
+      grown_block d h t n r (in_anchor w) ≡ d.block r (in_anchor w)
 
 pub take_whole : (n : ℕ) (xs : List ℕ) → n ≡ length xs → take n xs ≡ xs
 take_whole n xs e = grind (arith, common_steps)
 
-grown : {o : Offered} {e : ℕ → ℕ → Bool} {d : Desk} (h : ℕ) (t : Taking) (l : Letter) → Inv o e d → Has (Fetching t) (d.taking h) → Carries o l t (d.heap h) (d.buf h) → Grown o e d h t l.amount
+grown : {o : Offered} {e : ℕ → ℕ → Bool} {d : Desk} (h : ℕ) (t : Taking) (l : Letter) → Inv o e d →
+    Has (Fetching t) (d.taking h) → Carries o l t (d.heap h) (d.buf h) → Grown o e d h t l.amount
 grown {o} {e} {d} h t l i is c =
     let n = l.amount in
     let doc : Begins o t.id t.count (d.block h t.anchor) = i.ins.good h (Fetching t) is tt in
     let all = doc.all in
     let same : c.all ≡ all = same_value (o t.id) c.offered doc.offered in
     let old : bytes_of (d.block h t.anchor) ≡ take t.count all = ap bytes_of doc.there in
-    let part : take n (bytes_of (d.heap h t.buffer)) ≡ take n (drop t.count all) = ap (λ b. take n (bytes_of b)) c.there ∙ c.same ∙ ap (λ (x : List ℕ). take n (drop t.count x)) same in
+    let part : take n (bytes_of (d.heap h t.buffer)) ≡ take n (drop t.count all) = ap (λ b. take n (bytes_of b))
+    c.there ∙ c.same ∙ ap (λ (x : List ℕ). take n (drop t.count x)) same in
     let new = bytes_of (d.block h t.anchor) ++ take n (bytes_of (d.heap h t.buffer)) in
-    let eq : new ≡ take (t.count + n) all = ap (λ (x : List ℕ). x ++ take n (bytes_of (d.heap h t.buffer))) old ∙ ap (λ (x : List ℕ). take t.count all ++ x) part ∙ sym (take_more t.count n all) in
+    let eq : new ≡ take (t.count + n) all = ap (λ (x : List ℕ). x ++ take n (bytes_of (d.heap h t.buffer))) old ∙
+    ap (λ (x : List ℕ). take t.count all ++ x) part ∙ sym (take_more t.count n all) in
     let there : grown_block d h t n h t.anchor ≡ Some new = put2_same d.block h t.anchor (Some new) in
     let fits : t.count + n ≤ length all = subst (λ (x : List ℕ). t.count + n ≤ length x) same c.fits in
     record {
-      begins = record { all = all; offered = doc.offered; there = there ∙ ap (λ (x : List ℕ). Option.Some x) eq; fits = fits };
-      short = λ less. record { all = all; offered = doc.offered; there = there ∙ ap (λ (x : List ℕ). Option.Some x) (eq ∙ take_whole (t.count + n) all (c.short less ∙ ap length same)) };
-      sources = λ s x q. put2_other d.block h t.anchor (Some new) s x.anchor (λ here. i.boths.apart h x (Fetching t) (subst (λ j. Has (Open x) (d.sending j)) here q) is refl);
-      same = λ r w q ne u. put2_other d.block h t.anchor (Some new) r (in_anchor w) (λ here eq. ne here (i.ins.documents h (Fetching t) w is refl (subst (λ j. Has w (d.taking j)) here q) (subst (λ j. Untouched (e j) w) here u) eq));
+      begins = record {
+        all = all;
+        offered = doc.offered;
+        there = there ∙ ap (λ (x : List ℕ). Option.Some x) eq;
+        fits = fits;
+      };
+      short = λ less. record {
+        all = all;
+        offered = doc.offered;
+        there = there ∙ ap (λ (x : List ℕ). Option.Some x)
+            (eq ∙ take_whole (t.count + n) all (c.short less ∙ ap length same));
+      };
+      sources = λ s x q. put2_other d.block h t.anchor (Some new) s x.anchor (λ here. i.boths.apart h x (Fetching t)
+          (subst (λ j. Has (Open x) (d.sending j)) here q) is refl);
+      same = λ r w q ne u. put2_other d.block h t.anchor (Some new) r (in_anchor w) (λ here eq.
+          ne here (i.ins.documents h (Fetching t) w is refl (subst (λ j. Has w (d.taking j)) here q)
+          (subst (λ j. Untouched (e j) w) here u) eq));
     }
 
 -- a record that ends, and what its document is
-end_of : {o : Offered} {e : ℕ → ℕ → Bool} {d : Desk} (bl : ℕ → ℕ → Option (List ℕ)) (h i a n : ℕ) (was : In) → Has was (d.taking h) → in_id was ≡ i → Inv o e d →
+end_of : {o : Offered} {e : ℕ → ℕ → Bool} {d : Desk} (bl : ℕ → ℕ → Option (List ℕ)) (h i a n : ℕ) (was : In) →
+    Has was (d.taking h) → in_id was ≡ i → Inv o e d →
     ((s : ℕ) (x : Sending) → Has (Open x) (d.sending s) → bl s x.anchor ≡ d.block s x.anchor) →
-    ((r : ℕ) (w : In) → Has w (d.taking r) → (r ≡ h → in_id w ≢ i) → Untouched (e r) w → bl r (in_anchor w) ≡ d.block r (in_anchor w)) →
-    (e h i ≡ false → Begins o i n (bl h a)) → ((u : In) → Has u (d.taking h) → is_growing u ≡ true → in_id u ≢ i → e h i ≡ false → a ≢ in_anchor u) → Ends o e d bl h i (In_failed i a n)
+    ((r : ℕ) (w : In) → Has w (d.taking r) → (r ≡ h → in_id w ≢ i) → Untouched (e r) w → bl r (in_anchor w) ≡ d.block
+    r (in_anchor w)) →
+    (e h i ≡ false → Begins o i n (bl h a)) → ((u : In) → Has u (d.taking h) → is_growing u ≡ true → in_id u ≢ i →
+    e h i ≡ false → a ≢ in_anchor u) → Ends o e d bl h i (In_failed i a n)
 end_of bl h i a n was has was_id inv sources same good beside = record {
   same_id = refl;
   over = refl;
@@ -198,10 +306,13 @@ end_of bl h i a n was has was_id inv sources same good beside = record {
   beside = beside;
 }
 
-done_of : {o : Offered} {e : ℕ → ℕ → Bool} {d : Desk} (bl : ℕ → ℕ → Option (List ℕ)) (h i a n : ℕ) (was : In) → Has was (d.taking h) → in_id was ≡ i → Inv o e d →
+done_of : {o : Offered} {e : ℕ → ℕ → Bool} {d : Desk} (bl : ℕ → ℕ → Option (List ℕ)) (h i a n : ℕ) (was : In) →
+    Has was (d.taking h) → in_id was ≡ i → Inv o e d →
     ((s : ℕ) (x : Sending) → Has (Open x) (d.sending s) → bl s x.anchor ≡ d.block s x.anchor) →
-    ((r : ℕ) (w : In) → Has w (d.taking r) → (r ≡ h → in_id w ≢ i) → Untouched (e r) w → bl r (in_anchor w) ≡ d.block r (in_anchor w)) →
-    Whole o i (bl h a) → ((u : In) → Has u (d.taking h) → is_growing u ≡ true → in_id u ≢ i → a ≢ in_anchor u) → Ends o e d bl h i (In_done i a n)
+    ((r : ℕ) (w : In) → Has w (d.taking r) → (r ≡ h → in_id w ≢ i) → Untouched (e r) w → bl r (in_anchor w) ≡ d.block
+    r (in_anchor w)) →
+    Whole o i (bl h a) → ((u : In) → Has u (d.taking h) → is_growing u ≡ true → in_id u ≢ i → a ≢ in_anchor u) →
+    Ends o e d bl h i (In_done i a n)
 done_of bl h i a n was has was_id inv sources same good beside = record {
   same_id = refl;
   over = refl;
@@ -216,10 +327,13 @@ done_of bl h i a n was has was_id inv sources same good beside = record {
   beside = λ u q y ne f. beside u q y ne;
 }
 
-beside_growing : {o : Offered} {e : ℕ → ℕ → Bool} {d : Desk} (h : ℕ) (w : In) → Inv o e d → Has w (d.taking h) → Untouched (e h) w → (u : In) → Has u (d.taking h) → is_growing u ≡ true → in_id u ≢ in_id w → in_anchor w ≢ in_anchor u
+beside_growing : {o : Offered} {e : ℕ → ℕ → Bool} {d : Desk} (h : ℕ) (w : In) → Inv o e d → Has w (d.taking h) →
+    Untouched (e h) w → (u : In) → Has u (d.taking h) → is_growing u ≡ true → in_id u ≢ in_id w →
+    in_anchor w ≢ in_anchor u
 beside_growing h w i is un u q y ne eq = ne (sym (i.ins.documents h u w q y is un eq))
 
-module _ {o : Offered} {e : ℕ → ℕ → Bool} {d : Desk} (h : ℕ) (luck : Luck) (t : Taking) (l : Letter) (g : Good o e d) (rd : Read o d h l) (kind : l.kind ≡ RamTransmit) (is : Has (Fetching t) (d.taking h)) (m : Matched d h t l) where
+module _ {o : Offered} {e : ℕ → ℕ → Bool} {d : Desk} (h : ℕ) (luck : Luck) (t : Taking) (l : Letter) (g : Good o e d)
+    (rd : Read o d h l) (kind : l.kind ≡ RamTransmit) (is : Has (Fetching t) (d.taking h)) (m : Matched d h t l) where
   carries_here : Carries o l t (d.heap h) (d.buf h)
   carries_here = (rd.ok.carries h t is).carries kind m.answers m.from
 
@@ -230,20 +344,31 @@ module _ {o : Offered} {e : ℕ → ℕ → Bool} {d : Desk} (h : ℕ) (luck : L
   goes_on_good false =
       let w = grown {e = e} h t l g.inv is carries_here in
       ended_good (grown_block d h t l.amount) h t (In_failed t.id t.anchor (t.count + l.amount)) (inl is) here_quiet
-      (end_of (grown_block d h t l.amount) h t.id t.anchor (t.count + l.amount) (Fetching t) is refl g.inv w.sources w.same (λ u. w.begins) (λ u q y ne f. beside_growing h (Fetching t) g.inv is tt u q y ne)) g
+      (end_of (grown_block d h t l.amount) h t.id t.anchor (t.count + l.amount) (Fetching t) is refl g.inv w.sources
+      w.same (λ u. w.begins) (λ u q y ne f. beside_growing h (Fetching t) g.inv is tt u q y ne)) g
   goes_on_good true =
       let i = g.inv in
       let w = grown {e = e} h t l i is carries_here in
-      let u : Taking = record { id = t.id; sender = t.sender; anchor = t.anchor; buffer = t.buffer; count = t.count + l.amount; fetch = d.next_ref } in
+      let u : Taking = record {
+        id = t.id;
+        sender = t.sender;
+        anchor = t.anchor;
+        buffer = t.buffer;
+        count = t.count + l.amount;
+        fetch = d.next_ref;
+      } in
       let new : ℕ → List In = put d.taking h (with_id in_id t.id (Fetching u) (d.taking h)) in
       let b = i.ins.buffer h t (inl is) in
       let id = active_id h t (inl is) i in
       let nf : NewFetch o e d new (grown_block d h t l.amount) h u l.me = record {
         move = move_with in_id d.taking h t.id (Fetching u) refl;
         keeps = keeps_with d.taking h t.id (Fetching u);
-        puts = subst (λ z. Active z u) (sym (put_same d.taking h (with_id in_id t.id (Fetching u) (d.taking h)))) (inl (with_puts in_id t.id (Fetching u) (d.taking h) (Fetching t) is refl));
-        ascends = subst (λ z. Ascend in_id z) (sym (put_same d.taking h (with_id in_id t.id (Fetching u) (d.taking h)))) (with_ascends in_id t.id (Fetching u) (d.taking h) refl (i.order.ins h));
-        few = few_here d.taking h (with_id in_id t.id (Fetching u) (d.taking h)) (few_with in_id (d.taking h) t.id (Fetching u) (i.few.ins h));
+        puts = subst (λ z. Active z u) (sym (put_same d.taking h (with_id in_id t.id (Fetching u) (d.taking h))))
+            (inl (with_puts in_id t.id (Fetching u) (d.taking h) (Fetching t) is refl));
+        ascends = subst (λ z. Ascend in_id z) (sym (put_same d.taking h (with_id in_id t.id (Fetching u)
+            (d.taking h)))) (with_ascends in_id t.id (Fetching u) (d.taking h) refl (i.order.ins h));
+        few = few_here d.taking h (with_id in_id t.id (Fetching u) (d.taking h)) (few_with in_id (d.taking h) t.id
+            (Fetching u) (i.few.ins h));
         elsewhere = put_other d.taking h (with_id in_id t.id (Fetching u) (d.taking h));
         born = id.0;
         above = id.1;
@@ -272,38 +397,58 @@ module _ {o : Offered} {e : ℕ → ℕ → Bool} {d : Desk} (h : ℕ) (luck : L
   appended_good : (b : Bool) → nat_lt l.amount (d.buf h) ≡ b → Good o e (appended (longer d h t l.amount) h luck t l b)
   appended_good true q =
       let w = grown {e = e} h t l g.inv is carries_here in
-      let less : l.amount < d.buf h = elim (leb_tells (suc l.amount) (d.buf h)) [ inl a ↦ a.1 | inr a ↦ absurd (let u = a.0 in (cc)) ] in
+      let less : l.amount < d.buf h = elim (leb_tells (suc l.amount) (d.buf h)) [
+        | inl a ↦ a.1
+        | inr a ↦ absurd
+            (let u = a.0 in (cc))
+      ] in
       ended_good (grown_block d h t l.amount) h t (In_done t.id t.anchor (t.count + l.amount)) (inl is) here_quiet
-      (done_of (grown_block d h t l.amount) h t.id t.anchor (t.count + l.amount) (Fetching t) is refl g.inv w.sources w.same (w.short less) (beside_growing h (Fetching t) g.inv is tt)) g
+      (done_of (grown_block d h t l.amount) h t.id t.anchor (t.count + l.amount) (Fetching t) is refl g.inv w.sources
+      w.same (w.short less) (beside_growing h (Fetching t) g.inv is tt)) g
   appended_good false q = goes_on_good (luck.room_send && d.live t.sender)
 
   extends_good : (b : Bool) → Good o e (extends d h luck t l b)
   extends_good true = appended_good (nat_lt l.amount (d.buf h)) refl
   extends_good false =
       ended_good d.block h t (In_failed t.id t.anchor t.count) (inl is) here_quiet
-      (end_of d.block h t.id t.anchor t.count (Fetching t) is refl g.inv (λ s x q. refl) (λ r w q ne u. refl) (λ u. g.inv.ins.good h (Fetching t) is tt) (λ u q y ne f. beside_growing h (Fetching t) g.inv is tt u q y ne)) g
+      (end_of d.block h t.id t.anchor t.count (Fetching t) is refl g.inv (λ s x q. refl) (λ r w q ne u. refl) (λ u.
+      g.inv.ins.good h (Fetching t) is tt) (λ u q y ne f. beside_growing h (Fetching t) g.inv is tt u q y ne)) g
 
 -- a Draining record, or one whose fetch is back, fails with the bytes that it has
-given_up_good : {o : Offered} {e : ℕ → ℕ → Bool} {d : Desk} (h : ℕ) (t : Taking) → Good o e d → Active (d.taking h) t → Quiet d h t.id → Good o e (given_up d h t)
+given_up_good : {o : Offered} {e : ℕ → ℕ → Bool} {d : Desk} (h : ℕ) (t : Taking) → Good o e d →
+    Active (d.taking h) t → Quiet d h t.id → Good o e (given_up d h t)
 given_up_good {o} {e} {d} h t g (inl is) quiet =
     ended_good d.block h t (In_failed t.id t.anchor t.count) (inl is) quiet
-    (end_of d.block h t.id t.anchor t.count (Fetching t) is refl g.inv (λ s x q. refl) (λ r w q ne u. refl) (λ u. g.inv.ins.good h (Fetching t) is tt) (λ u q y ne f. beside_growing h (Fetching t) g.inv is tt u q y ne)) g
+    (end_of d.block h t.id t.anchor t.count (Fetching t) is refl g.inv (λ s x q. refl) (λ r w q ne u. refl) (λ u.
+    g.inv.ins.good h (Fetching t) is tt) (λ u q y ne f. beside_growing h (Fetching t) g.inv is tt u q y ne)) g
 given_up_good {o} {e} {d} h t g (inr is) quiet =
     ended_good d.block h t (In_failed t.id t.anchor t.count) (inr is) quiet
-    (end_of d.block h t.id t.anchor t.count (Draining t) is refl g.inv (λ s x q. refl) (λ r w q ne u. refl) (λ u. g.inv.ins.good h (Draining t) is u) (λ u q y ne f. beside_growing h (Draining t) g.inv is f u q y ne)) g
+    (end_of d.block h t.id t.anchor t.count (Draining t) is refl g.inv (λ s x q. refl) (λ r w q ne u. refl) (λ u.
+    g.inv.ins.good h (Draining t) is u) (λ u q y ne f. beside_growing h (Draining t) g.inv is f u q y ne)) g
 
-transmit_found : {o : Offered} {e : ℕ → ℕ → Bool} {d : Desk} (h : ℕ) (luck : Luck) (l : Letter) → Good o e d → Read o d h l → l.kind ≡ RamTransmit → (w : In) → FoundActive (matches d h l) (d.taking h) w → Good o e (on_transmit d h luck l (Some w))
-transmit_found {o} {e} {d} h luck l g rd kind w (fetches t is q) = extends_good h luck t l g rd kind is (matched d h t l q) luck.room_extend
-transmit_found {o} {e} {d} h luck l g rd kind w (drains t is q) = let m = matched d h t l q in given_up_good h t g (inr is) (read_quiet h t l (inr is) kind m.from m.answers rd.ok g)
+transmit_found : {o : Offered} {e : ℕ → ℕ → Bool} {d : Desk} (h : ℕ) (luck : Luck) (l : Letter) → Good o e d →
+    Read o d h l → l.kind ≡ RamTransmit → (w : In) → FoundActive (matches d h l) (d.taking h) w →
+    Good o e (on_transmit d h luck l (Some w))
+transmit_found {o} {e} {d} h luck l g rd kind w (fetches t is q) = extends_good h luck t l g rd kind is (matched d h t
+    l q) luck.room_extend
+transmit_found {o} {e} {d} h luck l g rd kind w (drains t is q) = let m = matched d h t l q in given_up_good h t g
+    (inr is) (read_quiet h t l (inr is) kind m.from m.answers rd.ok g)
 
-pub on_transmit_good : {o : Offered} {e : ℕ → ℕ → Bool} {d : Desk} (h : ℕ) (luck : Luck) (l : Letter) → Good o e d → Read o d h l → l.kind ≡ RamTransmit → (v : Option In) → find_active (matches d h l) (d.taking h) ≡ v → Good o e (on_transmit d h luck l v)
+pub on_transmit_good : {o : Offered} {e : ℕ → ℕ → Bool} {d : Desk} (h : ℕ) (luck : Luck) (l : Letter) → Good o e d →
+    Read o d h l → l.kind ≡ RamTransmit → (v : Option In) → find_active (matches d h l) (d.taking h) ≡ v →
+    Good o e (on_transmit d h luck l v)
 on_transmit_good h luck l g rd kind None q = g
-on_transmit_good {o} {e} {d} h luck l g rd kind (Some w) q = transmit_found h luck l g rd kind w (active_is (matches d h l) (d.taking h) w q)
+on_transmit_good {o} {e} {d} h luck l g rd kind (Some w) q = transmit_found h luck l g rd kind w
+    (active_is (matches d h l) (d.taking h) w q)
 
 -- ---- messages that came back
 
 -- a record that sends no more
-pub over_good : {o : Offered} {e : ℕ → ℕ → Bool} {d : Desk} (h : ℕ) (x : Sending) (v : Out) → out_id v ≡ x.id → OutOk (Knows d) o d.sending d.block d.next_ref h v → BothOutOk (Knows d) d.taking h v → ((y : Sending) → Open y ≡ v → ⊥) → Inv o e d → ((s : ℕ) (y : Sending) → Has (Open y) (d.sending s) → (s ≡ h → y.id ≢ x.id) → PendingAt d s y) → ((i : ℕ) → d.next_ref ≤ i → o i ≡ None) → Has (Open x) (d.sending h) → Good o e (with_out d h x v)
+pub over_good : {o : Offered} {e : ℕ → ℕ → Bool} {d : Desk} (h : ℕ) (x : Sending) (v : Out) → out_id v ≡ x.id →
+    OutOk (Knows d) o d.sending d.block d.next_ref h v → BothOutOk (Knows d) d.taking h v →
+    ((y : Sending) → Open y ≡ v → ⊥) → Inv o e d →
+    ((s : ℕ) (y : Sending) → Has (Open y) (d.sending s) → (s ≡ h → y.id ≢ x.id) → PendingAt d s y) →
+    ((i : ℕ) → d.next_ref ≤ i → o i ≡ None) → Has (Open x) (d.sending h) → Good o e (with_out d h x v)
 over_good {o} {e} {d} h x v same_id ok both never i others born is =
     let new : ℕ → List Out = put d.sending h (with_id out_id x.id v (d.sending h)) in
     let mv : Move out_id d.sending new h v = move_with out_id d.sending h x.id v same_id in
@@ -314,26 +459,46 @@ over_good {o} {e} {d} h x v same_id ok both never i others born is =
         ins = i.ins;
         boths = boths_out new h v mv both i.boths;
         loads = i.loads;
-        few = record { outs = few_put d.sending h (with_id out_id x.id v (d.sending h)) (few_with out_id (d.sending h) x.id v (i.few.outs h)) i.few.outs; ins = i.few.ins };
-        order = order_out new h v mv (put_ascends out_id d.sending h (with_id out_id x.id v (d.sending h)) i.order.outs (with_ascends out_id x.id v (d.sending h) same_id (i.order.outs h))) (let z = i.order.out_below h (Open x) is in omega arith) i.order;
+        few = record {
+          outs = few_put d.sending h (with_id out_id x.id v (d.sending h)) (few_with out_id (d.sending h)
+              x.id v (i.few.outs h)) i.few.outs;
+          ins = i.few.ins;
+        };
+        order = order_out new h v mv (put_ascends out_id d.sending h (with_id out_id x.id v (d.sending h))
+            i.order.outs (with_ascends out_id x.id v (d.sending h) same_id (i.order.outs h))) (let z =
+            i.order.out_below h (Open x) is in omega arith) i.order;
         alive = i.alive;
         positive = i.positive;
       };
       pending = λ s y q l k. elim (mv s (Open y) q) [
-        | inl a ↦ others s y a.0 (λ here eq. a.1 here (eq ∙ sym same_id)) l (record { known = k.known; kind = k.kind; answers = k.answers; from = k.from; live = k.live; fetches = k.fetches })
+        | inl a ↦ others s y a.0 (λ here eq. a.1 here (eq ∙ sym same_id)) l (record {
+          known = k.known;
+          kind = k.kind;
+          answers = k.answers;
+          from = k.from;
+          live = k.live;
+          fetches = k.fetches;
+        })
         | inr a ↦ absurd (never y a.1)
       ];
       born = born;
     }
 
-pub shut_good : {o : Offered} {e : ℕ → ℕ → Bool} {d : Desk} (h : ℕ) (x : Sending) → Inv o e d → ((s : ℕ) (y : Sending) → Has (Open y) (d.sending s) → (s ≡ h → y.id ≢ x.id) → PendingAt d s y) → ((i : ℕ) → d.next_ref ≤ i → o i ≡ None) → Has (Open x) (d.sending h) → Good o e (failed d h x)
-shut_good h x i others born is = over_good h x (Out_failed x.id x.count) refl tt tt (λ y q. let z : Open y ≡ Out_failed x.id x.count = q in (cc)) i others born is
+pub shut_good : {o : Offered} {e : ℕ → ℕ → Bool} {d : Desk} (h : ℕ) (x : Sending) → Inv o e d →
+    ((s : ℕ) (y : Sending) → Has (Open y) (d.sending s) → (s ≡ h → y.id ≢ x.id) → PendingAt d s y) →
+    ((i : ℕ) → d.next_ref ≤ i → o i ≡ None) → Has (Open x) (d.sending h) → Good o e (failed d h x)
+shut_good h x i others born is = over_good h x (Out_failed x.id x.count) refl tt tt (λ y q. let z : Open y ≡
+    Out_failed x.id x.count = q in (cc)) i others born is
 
-pub on_out_back_good : {o : Offered} {e : ℕ → ℕ → Bool} {d : Desk} (h : ℕ) (p : Sending → Bool) → Good o e d → (v : Option Sending) → find_open p (d.sending h) ≡ v → Good o e (on_out_back d h v)
+pub on_out_back_good : {o : Offered} {e : ℕ → ℕ → Bool} {d : Desk} (h : ℕ) (p : Sending → Bool) → Good o e d →
+    (v : Option Sending) → find_open p (d.sending h) ≡ v → Good o e (on_out_back d h v)
 on_out_back_good h p g None q = g
-on_out_back_good {o} {e} {d} h p g (Some x) q = shut_good h x g.inv (λ s y r ne. g.pending s y r) g.born (open_is p (d.sending h) x q).0
+on_out_back_good {o} {e} {d} h p g (Some x) q = shut_good h x g.inv (λ s y r ne. g.pending s y r) g.born
+    (open_is p (d.sending h) x q).0
 
-first_back_good : {o : Offered} {e : ℕ → ℕ → Bool} {d : Desk} (h : ℕ) (luck : Luck) (t : Taking) → Has (Fetching t) (d.taking h) → h < d.next_handle → Quiet d h t.id → Good o e d → (b : Bool) → nat_eq t.count 0 ≡ b → Good o e (first_back d h luck t b)
+first_back_good : {o : Offered} {e : ℕ → ℕ → Bool} {d : Desk} (h : ℕ) (luck : Luck) (t : Taking) →
+    Has (Fetching t) (d.taking h) → h < d.next_handle → Quiet d h t.id → Good o e d → (b : Bool) →
+    nat_eq t.count 0 ≡ b → Good o e (first_back d h luck t b)
 first_back_good h luck t is handle quiet g false q = given_up_good h t g (inl is) quiet
 first_back_good {o} {e} {d} h luck t is handle quiet g true q = asks_good (luck.room_send && d.live t.sender)
   where
@@ -341,41 +506,70 @@ first_back_good {o} {e} {d} h luck t is handle quiet g true q = asks_good (luck.
     asks_good true = asked_good h t is (is_equal _ _ q) handle quiet g
     asks_good false = given_up_good h t g (inl is) quiet
 
-fetch_back_found : {o : Offered} {e : ℕ → ℕ → Bool} {d : Desk} (h : ℕ) (luck : Luck) (me : ℕ) → Good o e d → h < d.next_handle → ((t : Taking) → Active (d.taking h) t → me ≡ t.fetch → Quiet d h t.id) → (w : In) → FoundActive (is_fetch me) (d.taking h) w → Good o e (on_fetch_back d h luck (Some w))
-fetch_back_found h luck me g handle back w (fetches t is q) = first_back_good h luck t is handle (back t (inl is) (sym (is_equal _ _ q))) g (nat_eq t.count 0) refl
-fetch_back_found h luck me g handle back w (drains t is q) = given_up_good h t g (inr is) (back t (inr is) (sym (is_equal _ _ q)))
+fetch_back_found : {o : Offered} {e : ℕ → ℕ → Bool} {d : Desk} (h : ℕ) (luck : Luck) (me : ℕ) → Good o e d →
+    h < d.next_handle → ((t : Taking) → Active (d.taking h) t → me ≡ t.fetch → Quiet d h t.id) → (w : In) →
+    FoundActive (is_fetch me) (d.taking h) w → Good o e (on_fetch_back d h luck (Some w))
+fetch_back_found h luck me g handle back w (fetches t is q) = first_back_good h luck t is handle (back t (inl is)
+    (sym (is_equal _ _ q))) g (nat_eq t.count 0) refl
+fetch_back_found h luck me g handle back w (drains t is q) = given_up_good h t g (inr is) (back t (inr is)
+    (sym (is_equal _ _ q)))
 
-fetch_back_good : {o : Offered} {e : ℕ → ℕ → Bool} {d : Desk} (h : ℕ) (luck : Luck) (me : ℕ) → Good o e d → h < d.next_handle → ((t : Taking) → Active (d.taking h) t → me ≡ t.fetch → Quiet d h t.id) → (v : Option In) → find_active (is_fetch me) (d.taking h) ≡ v → Good o e (on_fetch_back d h luck v)
+fetch_back_good : {o : Offered} {e : ℕ → ℕ → Bool} {d : Desk} (h : ℕ) (luck : Luck) (me : ℕ) → Good o e d →
+    h < d.next_handle → ((t : Taking) → Active (d.taking h) t → me ≡ t.fetch → Quiet d h t.id) → (v : Option In) →
+    find_active (is_fetch me) (d.taking h) ≡ v → Good o e (on_fetch_back d h luck v)
 fetch_back_good h luck me g handle back None q = g
-fetch_back_good {o} {e} {d} h luck me g handle back (Some w) q = fetch_back_found h luck me g handle back w (active_is (is_fetch me) (d.taking h) w q)
+fetch_back_good {o} {e} {d} h luck me g handle back (Some w) q = fetch_back_found h luck me g handle back w
+    (active_is (is_fetch me) (d.taking h) w q)
 
 -- ---- the scrap file
 
 -- a record that waits for a file fails with no bytes
-pub unasked_good : {o : Offered} {e : ℕ → ℕ → Bool} {d : Desk} (h : ℕ) (q : Asked) → Has (Asking q) (d.taking h) → Good o e d → Good o e (with_in d h q (In_failed q.id q.anchor 0))
+pub unasked_good : {o : Offered} {e : ℕ → ℕ → Bool} {d : Desk} (h : ℕ) (q : Asked) → Has (Asking q) (d.taking h) →
+    Good o e d → Good o e (with_in d h q (In_failed q.id q.anchor 0))
 unasked_good {o} {e} {d} h q is g =
     asked_over d.block h q (In_failed q.id q.anchor 0) is
-    (end_of d.block h q.id q.anchor 0 (Asking q) is refl g.inv (λ s x p. refl) (λ r w p ne u. refl) (λ u. g.inv.ins.good h (Asking q) is tt) (λ u p y ne f. beside_growing h (Asking q) g.inv is tt u p y ne)) g
+    (end_of d.block h q.id q.anchor 0 (Asking q) is refl g.inv (λ s x p. refl) (λ r w p ne u. refl) (λ u.
+    g.inv.ins.good h (Asking q) is tt) (λ u p y ne f. beside_growing h (Asking q) g.inv is tt u p y ne)) g
 
-on_ack_back_good : {o : Offered} {e : ℕ → ℕ → Bool} {d : Desk} (h : ℕ) (p : Asked → Bool) → Good o e d → (v : Option Asked) → find_asking p (d.taking h) ≡ v → Good o e (on_ack_back d h v)
+on_ack_back_good : {o : Offered} {e : ℕ → ℕ → Bool} {d : Desk} (h : ℕ) (p : Asked → Bool) → Good o e d →
+    (v : Option Asked) → find_asking p (d.taking h) ≡ v → Good o e (on_ack_back d h v)
 on_ack_back_good h p g None q = g
 on_ack_back_good {o} {e} {d} h p g (Some x) q = unasked_good h x (asking_is p (d.taking h) x q).0 g
 
 -- the source becomes the scrap file
-filed_good : {o : Offered} {e : ℕ → ℕ → Bool} {d : Desk} (h : ℕ) (l : Letter) (x : Sending) → Good o e d → Read o d h l → l.kind ≡ DataSaveAck → Has (Open x) (d.sending h) → l.answers ≡ x.id → Good o e (filed d h l x)
+filed_good : {o : Offered} {e : ℕ → ℕ → Bool} {d : Desk} (h : ℕ) (l : Letter) (x : Sending) → Good o e d →
+    Read o d h l → l.kind ≡ DataSaveAck → Has (Open x) (d.sending h) → l.answers ≡ x.id → Good o e (filed d h l x)
 filed_good {o} {e} {d} h l x g rd kind is answers =
     let i = g.inv in
     let w = i.outs.source h x is in
     let bytes = bytes_of (d.block h x.anchor) in
     let eq : bytes ≡ w.all = ap bytes_of w.there in
-    let y : Sending = record { id = x.id; recipient = x.recipient; anchor = x.anchor; count = x.count; last = d.next_ref } in
+    let y : Sending = record {
+      id = x.id;
+      recipient = x.recipient;
+      anchor = x.anchor;
+      count = x.count;
+      last = d.next_ref;
+    } in
     let vs = with_id out_id x.id (Open y) (d.sending h) in
     let new : ℕ → List Out = put d.sending h vs in
-    let m : Message = record { code = Recorded; to = x.recipient; letter = record { from = h; me = d.next_ref; answers = l.me; kind = DataLoad; address = 0; amount = length bytes } } in
+    let m : Message = record {
+      code = Recorded;
+      to = x.recipient;
+      letter = record {
+        from = h;
+        me = d.next_ref;
+        answers = l.me;
+        kind = DataLoad;
+        address = 0;
+        amount = length bytes;
+      };
+    } in
     let id = i.order.out_below h (Open x) is in
     let sent_out : NewOut o d new h m.letter (Open y) = record {
       move = move_with out_id d.sending h x.id (Open y) refl;
-      ascends = subst (λ z. Ascend out_id z) (sym (put_same d.sending h vs)) (with_ascends out_id x.id (Open y) (d.sending h) refl (i.order.outs h));
+      ascends = subst (λ z. Ascend out_id z) (sym (put_same d.sending h vs)) (with_ascends out_id x.id (Open y)
+          (d.sending h) refl (i.order.outs h));
       few = few_here d.sending h vs (few_with out_id (d.sending h) x.id (Open y) (i.few.outs h));
       elsewhere = put_other d.sending h vs;
       born = omega arith;
@@ -392,7 +586,15 @@ filed_good {o} {e} {d} h l x g rd kind is answers =
         same_id = λ k. absurd (let z : DataLoad ≡ DataSave = k in (cc));
         id = λ b u k. absurd (let z : DataLoad ≡ RamTransmit = k in (cc));
         level = λ b u k. absurd (let z : DataLoad ≡ RamTransmit = k in (cc));
-        source = record { all = w.all; offered = w.offered; there = w.there; fits = w.fits; unread = λ r. absurd (omega arith); below = omega arith };
+        source = record {
+          all = w.all;
+          offered = w.offered;
+          there = w.there;
+          fits = w.fits;
+          unread = λ r.
+              absurd (omega arith);
+          below = omega arith;
+        };
         apart = λ u r z. i.boths.apart h x u is r z;
       };
     } in
@@ -408,8 +610,10 @@ filed_good {o} {e} {d} h l x g rd kind is answers =
           ack = step1.loads.ack;
           file = λ n k r q u. record {
             whole = λ f s c a b.
-                let load : f.load ≡ d.next_ref = (let z : Option.Some (record { load = d.next_ref; bytes = bytes }) ≡ Some f = s in ap (λ (j : Scrap). j.load) (sym (some_is z))) in
-                let same : f.bytes ≡ bytes = (let z : Option.Some (record { load = d.next_ref; bytes = bytes }) ≡ Some f = s in ap (λ (j : Scrap). j.bytes) (sym (some_is z))) in
+                let load : f.load ≡ d.next_ref = (let z : Option.Some (record { load = d.next_ref; bytes = bytes }) ≡
+                Some f = s in ap (λ (j : Scrap). j.load) (sym (some_is z))) in
+                let same : f.bytes ≡ bytes = (let z : Option.Some (record { load = d.next_ref; bytes = bytes }) ≡ Some
+                f = s in ap (λ (j : Scrap). j.bytes) (sym (some_is z))) in
                 elim (sent_knows d1 h m refl n k) [
                   | inl old ↦ absurd (let z = (i.letters.below n old).me in omega arith)
                   | inr now ↦
@@ -418,89 +622,155 @@ filed_good {o} {e} {d} h l x g rd kind is answers =
                 ];
           };
           ack_below = step1.loads.ack_below;
-          load_below = λ f s. let load : f.load ≡ d.next_ref = (let z : Option.Some (record { load = d.next_ref; bytes = bytes }) ≡ Some f = s in ap (λ (j : Scrap). j.load) (sym (some_is z))) in omega arith;
+          load_below = λ f s. let load : f.load ≡ d.next_ref =
+              (let z : Option.Some (record { load = d.next_ref; bytes = bytes }) ≡ Some f = s in ap (λ (j : Scrap).
+              j.load) (sym (some_is z))) in omega arith;
         };
         few = step1.few;
         order = step1.order;
         alive = step1.alive;
         positive = step1.positive;
       };
-      pending = λ s z q n k. out_pending new h (Open y) m sent_out i (λ b u r ne. g.pending b u r) s z q n (record { known = k.known; kind = k.kind; answers = k.answers; from = k.from; live = k.live; fetches = k.fetches });
+      pending = λ s z q n k. out_pending new h (Open y) m sent_out i (λ b u r ne. g.pending b u r) s z q n
+          (record {
+            known = k.known;
+            kind = k.kind;
+            answers = k.answers;
+            from = k.from;
+            live = k.live;
+            fetches = k.fetches;
+          });
       born = λ j le. g.born j (omega arith);
     }
   where
     some_is : {a b : Scrap} → Option.Some a ≡ Some b → a ≡ b
     some_is q = cc
 
-pub on_ack_good : {o : Offered} {e : ℕ → ℕ → Bool} {d : Desk} (h : ℕ) (luck : Luck) (l : Letter) → Good o e d → Read o d h l → l.kind ≡ DataSaveAck → (v : Option Sending) → find_open (asks_for l) (d.sending h) ≡ v → Good o e (on_ack d h luck l v)
+pub on_ack_good : {o : Offered} {e : ℕ → ℕ → Bool} {d : Desk} (h : ℕ) (luck : Luck) (l : Letter) → Good o e d →
+    Read o d h l → l.kind ≡ DataSaveAck → (v : Option Sending) → find_open (asks_for l) (d.sending h) ≡ v →
+    Good o e (on_ack d h luck l v)
 on_ack_good h luck l g rd kind None q = g
-on_ack_good {o} {e} {d} h luck l g rd kind (Some x) q = files_good (is_none d.scrap && (d.live x.recipient && luck.room_send))
+on_ack_good {o} {e} {d} h luck l g rd kind (Some x) q = files_good (is_none d.scrap && (d.live x.recipient &&
+    luck.room_send))
   where
     files_good : (b : Bool) → Good o e (files d h l x b)
     files_good true =
         let w = open_is (asks_for l) (d.sending h) x q in
         let q1 = and_left _ (nat_eq x.id x.last) w.1 in
         filed_good h l x g rd kind w.0 (is_equal _ _ (and_right _ (nat_eq l.answers x.id) q1))
-    files_good false = shut_good h x g.inv (λ s y r ne. g.pending s y r) g.born (open_is (asks_for l) (d.sending h) x q).0
+    files_good false = shut_good h x g.inv (λ s y r ne. g.pending s y r) g.born (open_is (asks_for l) (d.sending h) x
+        q).0
 
-pub on_load_ack_good : {o : Offered} {e : ℕ → ℕ → Bool} {d : Desk} (h : ℕ) (p : Sending → Bool) → Good o e d → (v : Option Sending) → find_open p (d.sending h) ≡ v → Good o e (on_load_ack d h v)
+pub on_load_ack_good : {o : Offered} {e : ℕ → ℕ → Bool} {d : Desk} (h : ℕ) (p : Sending → Bool) → Good o e d →
+    (v : Option Sending) → find_open p (d.sending h) ≡ v → Good o e (on_load_ack d h v)
 on_load_ack_good h p g None q = g
 on_load_ack_good {o} {e} {d} h p g (Some x) q =
     let is = (open_is p (d.sending h) x q).0 in
     let w = g.inv.outs.source h x is in
     let v = Out_done x.id (length (bytes_of (d.block h x.anchor))) in
-    over_good h x v refl (record { all = w.all; offered = w.offered; whole = ap (λ b. length (bytes_of b)) w.there }) tt (λ y r. let z : Open y ≡ Out_done x.id (length (bytes_of (d.block h x.anchor))) = r in (cc)) g.inv (λ s y r ne. g.pending s y r) g.born is
+    over_good h x v refl (record { all = w.all; offered = w.offered; whole = ap (λ b. length (bytes_of b)) w.there })
+    tt (λ y r. let z : Open y ≡ Out_done x.id (length (bytes_of (d.block h x.anchor))) = r in (cc)) g.inv
+    (λ s y r ne. g.pending s y r) g.born is
 
 -- the file is the document
-module _ {o : Offered} {e : ℕ → ℕ → Bool} {d : Desk} (h : ℕ) (luck : Luck) (l : Letter) (q : Asked) (g : Good o e d) (rd : Read o d h l) (is : Has (Asking q) (d.taking h)) (bytes : List ℕ) (of : o q.id ≡ Some bytes) where
+module _ {o : Offered} {e : ℕ → ℕ → Bool} {d : Desk} (h : ℕ) (luck : Luck) (l : Letter) (q : Asked) (g : Good o e d)
+    (rd : Read o d h l) (is : Has (Asking q) (d.taking h)) (bytes : List ℕ) (of : o q.id ≡ Some bytes) where
   abbrev with_file : ℕ → ℕ → Option (List ℕ)
   with_file = put d.block h (put (d.block h) q.anchor (Some (bytes_of (d.block h q.anchor) ++ bytes)))
 
   file_there : with_file h q.anchor ≡ Some bytes
   file_there =
       let w : Begins o q.id 0 (d.block h q.anchor) = g.inv.ins.good h (Asking q) is tt in
-      put2_same d.block h q.anchor (Some (bytes_of (d.block h q.anchor) ++ bytes)) ∙ ap (λ b. Option.Some (bytes_of b ++ bytes)) w.there
+      put2_same d.block h q.anchor (Some (bytes_of (d.block h q.anchor) ++ bytes)) ∙
+      ap (λ b. Option.Some (bytes_of b ++ bytes)) w.there
 
   file_sources : (s : ℕ) (x : Sending) → Has (Open x) (d.sending s) → with_file s x.anchor ≡ d.block s x.anchor
-  file_sources s x p = put2_other d.block h q.anchor (Some (bytes_of (d.block h q.anchor) ++ bytes)) s x.anchor (λ here. g.inv.boths.apart h x (Asking q) (subst (λ j. Has (Open x) (d.sending j)) here p) is refl)
+  file_sources s x p = put2_other d.block h q.anchor (Some (bytes_of (d.block h q.anchor) ++ bytes)) s x.anchor
+      (λ here. g.inv.boths.apart h x (Asking q) (subst (λ j. Has (Open x) (d.sending j)) here p) is refl)
 
-  file_same : (r : ℕ) (w : In) → Has w (d.taking r) → (r ≡ h → in_id w ≢ q.id) → Untouched (e r) w → with_file r (in_anchor w) ≡ d.block r (in_anchor w)
-  file_same r w p ne u = put2_other d.block h q.anchor (Some (bytes_of (d.block h q.anchor) ++ bytes)) r (in_anchor w) (λ here eq. ne here (g.inv.ins.documents h (Asking q) w is refl (subst (λ j. Has w (d.taking j)) here p) (subst (λ j. Untouched (e j) w) here u) eq))
+  file_same : (r : ℕ) (w : In) → Has w (d.taking r) → (r ≡ h → in_id w ≢ q.id) → Untouched (e r) w →
+      with_file r (in_anchor w) ≡ d.block r (in_anchor w)
+  file_same r w p ne u = put2_other d.block h q.anchor (Some (bytes_of (d.block h q.anchor) ++ bytes)) r (in_anchor w)
+      (λ here eq. ne here (g.inv.ins.documents h (Asking q) w is refl (subst (λ j. Has w (d.taking j)) here p)
+      (subst (λ j. Untouched (e j) w) here u) eq))
 
   loaded_good : (b : Bool) → Good o e (loaded (copied d h q bytes) h l q (length bytes) b)
   loaded_good true =
       let me = rd.ok.below.me in
       let handle = rd.handle in
       let g1 = lost_good (asked_over with_file h q (In_done q.id q.anchor (length bytes)) is
-      (done_of with_file h q.id q.anchor (length bytes) (Asking q) is refl g.inv file_sources file_same (record { all = bytes; offered = of; there = file_there }) (beside_growing h (Asking q) g.inv is tt)) g) in
-      tell_good h (record { code = Plain; to = q.sender; letter = record { from = h; me = d.next_ref; answers = l.me; kind = DataLoadAck; address = 0; amount = length bytes } })
-      (record { fresh = refl; old = me; from = handle; sender = refl; not_save = λ k. let z : DataLoadAck ≡ DataSave = k in (cc); not_fetch = λ k. let z : DataLoadAck ≡ RamFetch = k in (cc); not_transmit = λ k. let z : DataLoadAck ≡ RamTransmit = k in (cc) }) g1
+      (done_of with_file h q.id q.anchor (length bytes) (Asking q) is refl g.inv file_sources file_same
+      (record { all = bytes; offered = of; there = file_there }) (beside_growing h (Asking q) g.inv is tt)) g) in
+      tell_good h (record {
+        code = Plain;
+        to = q.sender;
+        letter = record {
+          from = h;
+          me = d.next_ref;
+          answers = l.me;
+          kind = DataLoadAck;
+          address = 0;
+          amount = length bytes;
+        };
+      })
+      (record {
+        fresh = refl;
+        old = me;
+        from = handle;
+        sender = refl;
+        not_save = λ k. let z : DataLoadAck ≡ DataSave =
+            k in (cc);
+        not_fetch = λ k. let z : DataLoadAck ≡ RamFetch = k in (cc);
+        not_transmit = λ k.
+            let z : DataLoadAck ≡ RamTransmit = k in (cc);
+      }) g1
   loaded_good false =
       lost_good (asked_over with_file h q (In_failed q.id q.anchor (length bytes)) is
-      (end_of with_file h q.id q.anchor (length bytes) (Asking q) is refl g.inv file_sources file_same (λ u. record { all = bytes; offered = of; there = file_there ∙ ap (λ (b : List ℕ). Option.Some b) (sym (take_whole (length bytes) bytes refl)); fits = omega arith }) (λ u p y ne f. beside_growing h (Asking q) g.inv is tt u p y ne)) g)
+      (end_of with_file h q.id q.anchor (length bytes) (Asking q) is refl g.inv file_sources file_same (λ u.
+      record {
+        all = bytes;
+        offered = of;
+        there = file_there ∙ ap (λ (b : List ℕ). Option.Some b)
+            (sym (take_whole (length bytes) bytes refl));
+        fits = omega arith;
+      }) (λ u p y ne f. beside_growing h (Asking q)
+      g.inv is tt u p y ne)) g)
 
   loads_good : (b : Bool) → Good o e (loads d h luck l q bytes b)
   loads_good true = loaded_good (luck.room_send && d.live q.sender)
   loads_good false = unasked_good h q is g
 
-on_file_good : {o : Offered} {e : ℕ → ℕ → Bool} {d : Desk} (h : ℕ) (luck : Luck) (l : Letter) (q : Asked) → Good o e d → Read o d h l → l.kind ≡ DataLoad → Has (Asking q) (d.taking h) → l.answers ≡ q.ack → (v : Option Scrap) → d.scrap ≡ v → Good o e (on_file d h luck l q v)
+on_file_good : {o : Offered} {e : ℕ → ℕ → Bool} {d : Desk} (h : ℕ) (luck : Luck) (l : Letter) (q : Asked) →
+    Good o e d → Read o d h l → l.kind ≡ DataLoad → Has (Asking q) (d.taking h) → l.answers ≡ q.ack →
+    (v : Option Scrap) → d.scrap ≡ v → Good o e (on_file d h luck l q v)
 on_file_good h luck l q g rd kind is answers None s = g
 on_file_good {o} {e} {d} h luck l q g rd kind is answers (Some f) s = its_file (nat_eq f.load l.me) refl
   where
-    its_file : (b : Bool) → nat_eq f.load l.me ≡ b → Good o e (if b then loads d h luck l q f.bytes luck.room_extend else d)
-    its_file true r = loads_good h luck l q g rd is f.bytes ((rd.ok.file h q is).whole f s kind (sym (is_equal _ _ r)) answers) luck.room_extend
+    its_file : (b : Bool) → nat_eq f.load l.me ≡ b →
+        Good o e (if b then loads d h luck l q f.bytes luck.room_extend else d)
+    its_file true r = loads_good h luck l q g rd is f.bytes ((rd.ok.file h q is).whole f s kind (sym (is_equal _ _ r))
+        answers) luck.room_extend
     its_file false r = g
 
-pub on_load_good : {o : Offered} {e : ℕ → ℕ → Bool} {d : Desk} (h : ℕ) (luck : Luck) (l : Letter) → Good o e d → Read o d h l → l.kind ≡ DataLoad → (v : Option Asked) → find_asking (is_load l) (d.taking h) ≡ v → Good o e (on_load d h luck l v)
+pub on_load_good : {o : Offered} {e : ℕ → ℕ → Bool} {d : Desk} (h : ℕ) (luck : Luck) (l : Letter) → Good o e d →
+    Read o d h l → l.kind ≡ DataLoad → (v : Option Asked) → find_asking (is_load l) (d.taking h) ≡ v →
+    Good o e (on_load d h luck l v)
 on_load_good h luck l g rd kind None q = g
 on_load_good {o} {e} {d} h luck l g rd kind (Some x) q =
     let w = asking_is (is_load l) (d.taking h) x q in
     on_file_good h luck l x g rd kind w.0 (is_equal _ _ (and_right (nat_eq l.from x.sender) _ w.1)) d.scrap refl
 
-pub came_back_good : {o : Offered} {e : ℕ → ℕ → Bool} {d : Desk} (h : ℕ) (luck : Luck) (l : Letter) → Good o e d → h < d.next_handle → ((t : Taking) → Active (d.taking h) t → l.me ≡ t.fetch → Quiet d h t.id) → (c : Kind) → Good o e (came_back d h luck l c)
-came_back_good {o} {e} {d} h luck l g handle back DataSave = on_out_back_good h (is_last l.me) g (find_open (is_last l.me) (d.sending h)) refl
-came_back_good {o} {e} {d} h luck l g handle back RamFetch = fetch_back_good h luck l.me g handle back (find_active (is_fetch l.me) (d.taking h)) refl
-came_back_good {o} {e} {d} h luck l g handle back RamTransmit = on_out_back_good h (is_last l.me) g (find_open (is_last l.me) (d.sending h)) refl
-came_back_good {o} {e} {d} h luck l g handle back DataSaveAck = on_ack_back_good h (is_ack l.me) g (find_asking (is_ack l.me) (d.taking h)) refl
-came_back_good {o} {e} {d} h luck l g handle back DataLoad = on_out_back_good h (is_last l.me) g (find_open (is_last l.me) (d.sending h)) refl
+pub came_back_good : {o : Offered} {e : ℕ → ℕ → Bool} {d : Desk} (h : ℕ) (luck : Luck) (l : Letter) → Good o e d →
+    h < d.next_handle → ((t : Taking) → Active (d.taking h) t → l.me ≡ t.fetch → Quiet d h t.id) → (c : Kind) →
+    Good o e (came_back d h luck l c)
+came_back_good {o} {e} {d} h luck l g handle back DataSave = on_out_back_good h (is_last l.me) g
+    (find_open (is_last l.me) (d.sending h)) refl
+came_back_good {o} {e} {d} h luck l g handle back RamFetch = fetch_back_good h luck l.me g handle back
+    (find_active (is_fetch l.me) (d.taking h)) refl
+came_back_good {o} {e} {d} h luck l g handle back RamTransmit = on_out_back_good h (is_last l.me) g
+    (find_open (is_last l.me) (d.sending h)) refl
+came_back_good {o} {e} {d} h luck l g handle back DataSaveAck = on_ack_back_good h (is_ack l.me) g
+    (find_asking (is_ack l.me) (d.taking h)) refl
+came_back_good {o} {e} {d} h luck l g handle back DataLoad = on_out_back_good h (is_last l.me) g
+    (find_open (is_last l.me) (d.sending h)) refl
 came_back_good {o} {e} {d} h luck l g handle back DataLoadAck = g

@@ -1,15 +1,21 @@
 -- Maps with a place written anew, tests, and lists.
-use Rattle.std.proofs.Common.{◌≡◌, ◌≢◌, ℕ, zero, suc, ◌+◌, ◌≤◌, ◌<◌, Bool, true, false, not, ◌&&◌, ◌||◌, List, [], ◌∷◌, ◌++◌, length, take, drop, Option, Some, None, refl, sym, ap, ◌∙◌, subst, ◌⊎◌, inl, inr, arith, length-append, length-take, length-drop}
+use Rattle.std.proofs.Common.{◌≡◌, ◌≢◌, ℕ, zero, suc, ◌+◌, ◌≤◌, ◌<◌, Bool, true, false, not, ◌&&◌, ◌||◌, List, []}
+use Rattle.std.proofs.Common.{◌∷◌, ◌++◌, length, take, drop, Option, Some, None, refl, sym, ap, ◌∙◌, subst, ◌⊎◌, inl}
+use Rattle.std.proofs.Common.{inr, arith, length-append, length-take, length-drop}
 use Rattle.std.specs.Prelude.{if◌then◌else◌, nat_eq, nat_le, is_none, is_some, ◌||◌, slice_index_or}
 use Rattle.std.proofs.lemmas.Bool.Decides.{eqb_tells, leb_tells}
 use Rattle.std.proofs.lemmas.List.{take-append-drop, drop-take, take-take}
 use Rattle.std.proofs.Math.Seq.{take-append_seam}
 use Rattle.std.specs.List.{Contains}
 use Rattle.std.specs.Io.{StartsWith}
-use Rattle.rh_safety.proofs.Ends.{IsPrefixOf, how_many, Message, Sending, Taking, Asked, Out, Open, Out_done, Out_failed, In, Fetching, Draining, Asking, In_done, In_failed, Has, Pairwise, put, any, first, drop_first, one_more, with_id, find_open, find_active, find_asking, first_for, without_first}
+use Rattle.rh_safety.proofs.Ends.{IsPrefixOf, how_many, Message, Sending, Taking, Asked, Out, Open, Out_done}
+use Rattle.rh_safety.proofs.Ends.{Out_failed, In, Fetching, Draining, Asking, In_done, In_failed, Has, Pairwise, put}
+use Rattle.rh_safety.proofs.Ends.{any, first, drop_first, one_more, with_id, find_open, find_active, find_asking}
+use Rattle.rh_safety.proofs.Ends.{first_for, without_first}
 
 -- what holds of the new value and of the old ones elsewhere holds everywhere
-pub put_all : {A : Type 0} (P : ℕ → A → Type 0) (f : ℕ → A) (h : ℕ) (x : A) → P h x → ((k : ℕ) → k ≢ h → P k (f k)) → (k : ℕ) → P k (put f h x k)
+pub put_all : {A : Type 0} (P : ℕ → A → Type 0) (f : ℕ → A) (h : ℕ) (x : A) → P h x → ((k : ℕ) → k ≢ h → P k (f k)) →
+    (k : ℕ) → P k (put f h x k)
 put_all P f h x here there k =
     elim (eqb_tells k h) [ inl w ↦ rw w.0 (subst (λ j. P j x) (sym w.1) here) | inr w ↦ rw w.0 (there k w.1) ]
 
@@ -85,7 +91,8 @@ is_either true = inl refl
 is_either false = inr refl
 
 -- what holds of one of two choices holds of the choice
-pub either : {A : Type 0} (P : A → Type 0) (b : Bool) (x y : A) → (b ≡ true → P x) → (b ≡ false → P y) → P (if b then x else y)
+pub either : {A : Type 0} (P : A → Type 0) (b : Bool) (x y : A) → (b ≡ true → P x) → (b ≡ false → P y) →
+    P (if b then x else y)
 either P true x y f g = f refl
 either P false x y f g = g refl
 
@@ -95,7 +102,8 @@ any_none p (y ∷ xs) x q (inl e) = ap p (sym e) ∙ or_left (p y) _ q
 any_none p (y ∷ xs) x q (inr h) = any_none p xs x (or_right (p y) _ q) h
 
 -- with one record written anew
-pub with_old : {A : Type 0} (f : A → ℕ) (i : ℕ) (v : A) (xs : List A) (y : A) → Has y (with_id f i v xs) → (Has y xs × (f y ≢ i)) ⊎ (y ≡ v)
+pub with_old : {A : Type 0} (f : A → ℕ) (i : ℕ) (v : A) (xs : List A) (y : A) → Has y (with_id f i v xs) →
+    (Has y xs × (f y ≢ i)) ⊎ (y ≡ v)
 with_old f i v [] y h = absurd h
 with_old f i v (x ∷ xs) y (inl e) = elim (eqb_tells (f x) i) [
   | inl w ↦ inr (let z : v ≡ y = rw w.0 at e in sym z)
@@ -103,36 +111,54 @@ with_old f i v (x ∷ xs) y (inl e) = elim (eqb_tells (f x) i) [
 ]
 with_old f i v (x ∷ xs) y (inr h) = elim (with_old f i v xs y h) [ inl a ↦ inl (inr a.0, a.1) | inr b ↦ inr b ]
 
-pub with_keeps : {A : Type 0} (f : A → ℕ) (i : ℕ) (v : A) (xs : List A) (y : A) → Has y xs → f y ≢ i → Has y (with_id f i v xs)
+pub with_keeps : {A : Type 0} (f : A → ℕ) (i : ℕ) (v : A) (xs : List A) (y : A) → Has y xs → f y ≢ i →
+    Has y (with_id f i v xs)
 with_keeps f i v [] y h ne = absurd h
-with_keeps f i v (x ∷ xs) y (inl e) ne = elim (eqb_tells (f x) i) [ inl w ↦ absurd (ne (ap f (sym e) ∙ w.1)) | inr w ↦ inl (rw w.0 e) ]
+with_keeps f i v (x ∷ xs) y (inl e) ne = elim (eqb_tells (f x) i) [
+  | inl w ↦ absurd (ne (ap f (sym e) ∙ w.1))
+  | inr w ↦ inl (rw w.0 e)
+]
 with_keeps f i v (x ∷ xs) y (inr h) ne = inr (with_keeps f i v xs y h ne)
 
-pub with_puts : {A : Type 0} (f : A → ℕ) (i : ℕ) (v : A) (xs : List A) (y : A) → Has y xs → f y ≡ i → Has v (with_id f i v xs)
+pub with_puts : {A : Type 0} (f : A → ℕ) (i : ℕ) (v : A) (xs : List A) (y : A) → Has y xs → f y ≡ i →
+    Has v (with_id f i v xs)
 with_puts f i v [] y h q = absurd h
-with_puts f i v (x ∷ xs) y (inl e) q = elim (eqb_tells (f x) i) [ inl w ↦ inl (rw w.0 refl) | inr w ↦ absurd (w.1 (ap f e ∙ q)) ]
+with_puts f i v (x ∷ xs) y (inl e) q = elim (eqb_tells (f x) i) [
+  | inl w ↦ inl (rw w.0 refl)
+  | inr w ↦ absurd
+      (w.1 (ap f e ∙ q))
+]
 with_puts f i v (x ∷ xs) y (inr h) q = inr (with_puts f i v xs y h q)
 
 -- with one record gone
 pub drop_old : {A : Type 0} (keep : A → Bool) (xs : List A) (y : A) → Has y (drop_first keep xs) → Has y xs
 drop_old keep [] y h = h
 drop_old keep (x ∷ xs) y h =
-    either (λ z. Has y z → Has y (x ∷ xs)) (keep x) (x ∷ drop_first keep xs) xs (λ b k. elim k [ inl e ↦ inl e | inr j ↦ inr (drop_old keep xs y j) ]) (λ b k. inr k) h
+    either (λ z. Has y z → Has y (x ∷ xs)) (keep x) (x ∷ drop_first keep xs) xs (λ b k. elim k [
+      | inl e ↦ inl e
+      | inr
+          j ↦ inr (drop_old keep xs y j)
+    ]) (λ b k. inr k) h
 
-pub drop_keeps : {A : Type 0} (keep : A → Bool) (xs : List A) (y : A) → Has y xs → keep y ≡ true → Has y (drop_first keep xs)
+pub drop_keeps : {A : Type 0} (keep : A → Bool) (xs : List A) (y : A) → Has y xs → keep y ≡ true →
+    Has y (drop_first keep xs)
 drop_keeps keep [] y h q = h
 drop_keeps keep (x ∷ xs) y (inl e) q = let z : keep x ≡ true = ap keep e ∙ q in rw z (inl e)
-drop_keeps keep (x ∷ xs) y (inr h) q = either (λ z. Has y z) (keep x) (x ∷ drop_first keep xs) xs (λ b. inr (drop_keeps keep xs y h q)) (λ b. h)
+drop_keeps keep (x ∷ xs) y (inr h) q = either (λ z. Has y z) (keep x) (x ∷ drop_first keep xs) xs (λ b.
+    inr (drop_keeps keep xs y h q)) (λ b. h)
 
 -- with one more record
-pub more_old : {A : Type 0} (most : ℕ) (keep : A → Bool) (xs : List A) (v y : A) → Has y (one_more most keep xs v) → Has y xs ⊎ (y ≡ v)
+pub more_old : {A : Type 0} (most : ℕ) (keep : A → Bool) (xs : List A) (v y : A) → Has y (one_more most keep xs v) →
+    Has y xs ⊎ (y ≡ v)
 more_old most keep xs v y h =
     elim (Has-append y (if nat_le most (length xs) then drop_first keep xs else xs) (v ∷ []) h) [
-      | inl a ↦ inl (either (λ z. Has y z → Has y xs) (nat_le most (length xs)) (drop_first keep xs) xs (λ b k. drop_old keep xs y k) (λ b k. k) a)
+      | inl a ↦ inl (either (λ z. Has y z → Has y xs) (nat_le most (length xs)) (drop_first keep xs) xs (λ b k.
+          drop_old keep xs y k) (λ b k. k) a)
       | inr a ↦ elim a [ inl e ↦ inr (sym e) | inr e ↦ absurd e ]
     ]
 
-pub more_keeps : {A : Type 0} (most : ℕ) (keep : A → Bool) (xs : List A) (v y : A) → Has y xs → keep y ≡ true → Has y (one_more most keep xs v)
+pub more_keeps : {A : Type 0} (most : ℕ) (keep : A → Bool) (xs : List A) (v y : A) → Has y xs → keep y ≡ true →
+    Has y (one_more most keep xs v)
 more_keeps most keep xs v y h q =
     Has-left y (if nat_le most (length xs) then drop_first keep xs else xs) (v ∷ [])
     (either (λ z. Has y z) (nat_le most (length xs)) (drop_first keep xs) xs (λ b. drop_keeps keep xs y h q) (λ b. h))
@@ -147,15 +173,18 @@ first_is p (y ∷ xs) x q =
     either (λ z. z ≡ Some x → Has x (y ∷ xs) × (p x ≡ true)) (p y) (Some y) (first p xs)
     (λ r s. let z : y ≡ x = cc in (inl z, ap p (sym z) ∙ r)) (λ r s. let w = first_is p xs x s in (inr w.0, w.1)) q
 
-pub open_is : (p : Sending → Bool) (vs : List Out) (x : Sending) → find_open p vs ≡ Some x → Has (Open x) vs × (p x ≡ true)
+pub open_is : (p : Sending → Bool) (vs : List Out) (x : Sending) → find_open p vs ≡ Some x →
+    Has (Open x) vs × (p x ≡ true)
 open_is p [] x q = absurd (none_some None refl q)
 open_is p (Open y ∷ vs) x q =
     either (λ z. z ≡ Some x → Has (Open x) (Open y ∷ vs) × (p x ≡ true)) (p y) (Some y) (find_open p vs)
-    (λ r s. let z : y ≡ x = cc in (inl (ap Open z), ap p (sym z) ∙ r)) (λ r s. let w = open_is p vs x s in (inr w.0, w.1)) q
+    (λ r s. let z : y ≡ x = cc in (inl (ap Open z), ap p (sym z) ∙ r)) (λ r s. let w = open_is p vs x s in
+    (inr w.0, w.1)) q
 open_is p (Out_done i n ∷ vs) x q = let w = open_is p vs x q in (inr w.0, w.1)
 open_is p (Out_failed i n ∷ vs) x q = let w = open_is p vs x q in (inr w.0, w.1)
 
-pub open_none : (p : Sending → Bool) (vs : List Out) (x : Sending) → find_open p vs ≡ None → Has (Open x) vs → p x ≡ false
+pub open_none : (p : Sending → Bool) (vs : List Out) (x : Sending) → find_open p vs ≡ None → Has (Open x) vs →
+    p x ≡ false
 open_none p [] x q h = absurd h
 open_none p (Open y ∷ vs) x q h =
     either (λ z. z ≡ None → p x ≡ false) (p y) (Some y) (find_open p vs)
@@ -189,20 +218,30 @@ active_is p (Asking y ∷ ws) w q = later_active p (Asking y) ws w (active_is p 
 active_is p (In_done i a n ∷ ws) w q = later_active p (In_done i a n) ws w (active_is p ws w q)
 active_is p (In_failed i a n ∷ ws) w q = later_active p (In_failed i a n) ws w (active_is p ws w q)
 
-pub asking_is : (p : Asked → Bool) (ws : List In) (x : Asked) → find_asking p ws ≡ Some x → Has (Asking x) ws × (p x ≡ true)
+pub asking_is : (p : Asked → Bool) (ws : List In) (x : Asked) → find_asking p ws ≡ Some x →
+    Has (Asking x) ws × (p x ≡ true)
 asking_is p [] x q = absurd (none_some None refl q)
 asking_is p (Fetching y ∷ ws) x q = let w = asking_is p ws x q in (inr w.0, w.1)
 asking_is p (Draining y ∷ ws) x q = let w = asking_is p ws x q in (inr w.0, w.1)
 asking_is p (Asking y ∷ ws) x q =
     either (λ z. z ≡ Some x → Has (Asking x) (Asking y ∷ ws) × (p x ≡ true)) (p y) (Some y) (find_asking p ws)
-    (λ r s. let z : y ≡ x = cc in (inl (ap Asking z), ap p (sym z) ∙ r)) (λ r s. let w = asking_is p ws x s in (inr w.0, w.1)) q
+    (λ r s. let z : y ≡ x = cc in (inl (ap Asking z), ap p (sym z) ∙ r)) (λ r s. let w = asking_is p ws x s in
+    (inr w.0, w.1)) q
 asking_is p (In_done i a n ∷ ws) x q = let w = asking_is p ws x q in (inr w.0, w.1)
 asking_is p (In_failed i a n ∷ ws) x q = let w = asking_is p ws x q in (inr w.0, w.1)
 
 -- pairs of a list
-pub pair_append : {A : Type 0} (R : A → A → Type 0) (xs ys : List A) → Pairwise R xs → Pairwise R ys → ((x y : A) → Has x xs → Has y ys → R x y) → Pairwise R (xs ++ ys)
+pub pair_append : {A : Type 0} (R : A → A → Type 0) (xs ys : List A) → Pairwise R xs → Pairwise R ys →
+    ((x y : A) → Has x xs → Has y ys → R x y) → Pairwise R (xs ++ ys)
 pair_append R [] ys p q f = q
-pair_append R (x ∷ xs) ys p q f = (λ y h. elim (Has-append y xs ys h) [ inl a ↦ p.0 y a | inr b ↦ f x y (inl refl) b ], pair_append R xs ys p.1 q (λ a b h k. f a b (inr h) k))
+pair_append R (x ∷ xs) ys p q f = (
+  λ y h. elim (Has-append y xs ys h) [
+    | inl a ↦ p.0 y a
+    | inr b ↦ f x y (inl refl)
+        b
+  ],
+  pair_append R xs ys p.1 q (λ a b h k. f a b (inr h) k),
+)
 
 -- how long a list is
 
@@ -210,15 +249,18 @@ pub length_with : {A : Type 0} (f : A → ℕ) (i : ℕ) (v : A) (xs : List A) �
 length_with f i v [] = refl
 length_with f i v (x ∷ xs) = ap suc (length_with f i v xs)
 
-drop_shorter : {A : Type 0} (keep : A → Bool) (xs : List A) → how_many keep xs < length xs → length (drop_first keep xs) + 1 ≡ length xs
+drop_shorter : {A : Type 0} (keep : A → Bool) (xs : List A) → how_many keep xs < length xs →
+    length (drop_first keep xs) + 1 ≡ length xs
 drop_shorter keep [] lt = absurd (omega arith)
 drop_shorter keep (x ∷ xs) lt =
     elim (is_either (keep x)) [
-      | inl w ↦ let r = drop_shorter keep xs (let z : how_many keep xs + 1 < suc (length xs) = rw w at lt in omega arith) in rw w (omega arith)
+      | inl w ↦ let r = drop_shorter keep xs (let z : how_many keep xs + 1 < suc (length xs) = rw w at lt in
+          omega arith) in rw w (omega arith)
       | inr w ↦ rw w (omega arith)
     ]
 
-pub length_more : {A : Type 0} (most : ℕ) (keep : A → Bool) (xs : List A) (v : A) → how_many keep xs < most → length xs ≤ most → length (one_more most keep xs v) ≤ most
+pub length_more : {A : Type 0} (most : ℕ) (keep : A → Bool) (xs : List A) (v : A) → how_many keep xs < most →
+    length xs ≤ most → length (one_more most keep xs v) ≤ most
 length_more most keep xs v lt le =
     elim (leb_tells most (length xs)) [
       | inl w ↦ let r = drop_shorter keep xs (let z = w.1 in omega arith) in rw w.0 (simp length-append (omega arith))
@@ -236,31 +278,41 @@ one_of_id f (z ∷ xs) x y p (inl a) (inr k) e = let u = p.0 y k in let v : f z 
 one_of_id f (z ∷ xs) x y p (inr h) (inl b) e = let u = p.0 x h in let v : f z ≡ f y = ap f b in absurd (omega arith)
 one_of_id f (z ∷ xs) x y p (inr h) (inr k) e = one_of_id f xs x y p.1 h k e
 
-with_after : {A : Type 0} (f : A → ℕ) (n i : ℕ) (v : A) (xs : List A) → f v ≡ i → ((y : A) → Has y xs → n < f y) → (y : A) → Has y (with_id f i v xs) → n < f y
+with_after : {A : Type 0} (f : A → ℕ) (n i : ℕ) (v : A) (xs : List A) → f v ≡ i → ((y : A) → Has y xs → n < f y) →
+    (y : A) → Has y (with_id f i v xs) → n < f y
 with_after f n i v [] e g y h = absurd h
 with_after f n i v (x ∷ xs) e g y (inl q) = elim (eqb_tells (f x) i) [
-  | inl w ↦ let z : v ≡ y = rw w.0 at q in let u = g x (inl refl) in let a = w.1 in let b : f v ≡ f y = ap f z in omega arith
+  | inl w ↦ let z : v ≡ y = rw w.0 at q in let u = g x (inl refl) in let a = w.1 in let b : f v ≡ f y = ap f z in
+      omega arith
   | inr w ↦ let z : x ≡ y = rw w.0 at q in g y (inl z)
 ]
 with_after f n i v (x ∷ xs) e g y (inr h) = with_after f n i v xs e (λ z k. g z (inr k)) y h
 
-pub with_ascends : {A : Type 0} (f : A → ℕ) (i : ℕ) (v : A) (xs : List A) → f v ≡ i → Ascend f xs → Ascend f (with_id f i v xs)
+pub with_ascends : {A : Type 0} (f : A → ℕ) (i : ℕ) (v : A) (xs : List A) → f v ≡ i → Ascend f xs →
+    Ascend f (with_id f i v xs)
 with_ascends f i v [] e p = p
 with_ascends f i v (x ∷ xs) e p =
-    let same : f (if nat_eq (f x) i then v else x) ≡ f x = elim (eqb_tells (f x) i) [ inl w ↦ rw w.0 (e ∙ sym w.1) | inr w ↦ rw w.0 refl ] in
+    let same : f (if nat_eq (f x) i then v else x) ≡ f x = elim (eqb_tells (f x) i) [
+      | inl w ↦ rw w.0 (e ∙ sym w.1)
+      | inr w ↦ rw w.0 refl
+    ] in
     (λ y h. let u = with_after f (f x) i v xs e p.0 y h in omega arith, with_ascends f i v xs e p.1)
 
 drop_ascends : {A : Type 0} (f : A → ℕ) (keep : A → Bool) (xs : List A) → Ascend f xs → Ascend f (drop_first keep xs)
 drop_ascends f keep [] p = p
-drop_ascends f keep (x ∷ xs) p = either (λ z. Ascend f z) (keep x) (x ∷ drop_first keep xs) xs (λ b. (λ y h. p.0 y (drop_old keep xs y h), drop_ascends f keep xs p.1)) (λ b. p.1)
+drop_ascends f keep (x ∷ xs) p = either (λ z. Ascend f z) (keep x) (x ∷ drop_first keep xs) xs (λ b.
+    (λ y h. p.0 y (drop_old keep xs y h), drop_ascends f keep xs p.1)) (λ b. p.1)
 
-pub more_ascends : {A : Type 0} (f : A → ℕ) (most : ℕ) (keep : A → Bool) (xs : List A) (v : A) → Ascend f xs → ((x : A) → Has x xs → f x < f v) → Ascend f (one_more most keep xs v)
+pub more_ascends : {A : Type 0} (f : A → ℕ) (most : ℕ) (keep : A → Bool) (xs : List A) (v : A) → Ascend f xs →
+    ((x : A) → Has x xs → f x < f v) → Ascend f (one_more most keep xs v)
 more_ascends f most keep xs v p g =
     pair_append (λ x y. f x < f y) (if nat_le most (length xs) then drop_first keep xs else xs) (v ∷ [])
-    (either (λ z. Ascend f z) (nat_le most (length xs)) (drop_first keep xs) xs (λ b. drop_ascends f keep xs p) (λ b. p))
+    (either (λ z. Ascend f z) (nat_le most (length xs)) (drop_first keep xs) xs (λ b. drop_ascends f keep xs p) (λ b.
+    p))
     (λ y h. absurd h, tt)
     (λ x y h k. elim k [
-      | inl e ↦ let u = g x (either (λ z. Has x z → Has x xs) (nat_le most (length xs)) (drop_first keep xs) xs (λ b j. drop_old keep xs x j) (λ b j. j) h) in let z : f v ≡ f y = ap f e in omega arith
+      | inl e ↦ let u = g x (either (λ z. Has x z → Has x xs) (nat_le most (length xs)) (drop_first keep xs) xs
+          (λ b j. drop_old keep xs x j) (λ b j. j) h) in let z : f v ≡ f y = ap f e in omega arith
       | inr e ↦ absurd e
     ])
 
@@ -278,7 +330,11 @@ without_has h [] m e = e
 without_has h (x ∷ q) m e =
     elim (eqb_tells x.to h) [
       | inl w ↦ inr (rw w.0 at e)
-      | inr w ↦ elim (let z : Has m (x ∷ without_first h q) = rw w.0 at e in z) [ inl s ↦ inl s | inr r ↦ inr (without_has h q m r) ]
+      | inr w ↦ elim (let z : Has m (x ∷ without_first h q) = rw w.0 at e in z) [
+        | inl s ↦ inl s
+        | inr r ↦ inr
+            (without_has h q m r)
+      ]
     ]
 
 -- bytes
@@ -292,7 +348,8 @@ length_take n xs h = simp length-take (omega arith)
 pub front_written : (n : ℕ) (new old : List ℕ) → length new ≡ n → take n (new ++ drop n old) ≡ new
 front_written n new old e = subst (λ k. take k (new ++ drop n old) ≡ new) e (take-append_seam new (drop n old))
 
-pub length_written : (n : ℕ) (new old : List ℕ) → length new ≡ n → n ≤ length old → length (new ++ drop n old) ≡ length old
+pub length_written : (n : ℕ) (new old : List ℕ) → length new ≡ n → n ≤ length old →
+    length (new ++ drop n old) ≡ length old
 length_written n new old e h = simp (length-append, length-drop) (omega arith)
 
 -- by cases on one place
@@ -305,7 +362,8 @@ pub has_of : {A : Type 0} (xs : List A) (x : A) → Contains xs x → Has x xs
 has_of [] x c = absurd (let l = c.1 in omega arith)
 has_of (y ∷ ys) x c = go c.0 c.1 c.2 (has_of ys x)
   where
-    go : (k : ℕ) → k < length (y ∷ ys) → slice_index_or (y ∷ ys) k x ≡ x → (Contains ys x → Has x ys) → (y ≡ x) ⊎ Has x ys
+    go : (k : ℕ) → k < length (y ∷ ys) → slice_index_or (y ∷ ys) k x ≡ x → (Contains ys x → Has x ys) →
+        (y ≡ x) ⊎ Has x ys
     go zero l e rest = inl e
     go (suc k) l e rest = inr (rest (k, omega arith, e))
 

@@ -1,5 +1,6 @@
 -- Letters, and the records of the two ends of a transfer.
-use Rattle.std.specs.Prelude.{◌≡◌, ℕ, ◌+◌, Bool, true, false, ◌++◌, nat_le, List, [], ◌∷◌, length, Option, Some, None, if◌then◌else◌, ◌==◌, ◌⊎◌}
+use Rattle.std.specs.Prelude.{◌≡◌, ℕ, ◌+◌, Bool, true, false, ◌++◌, nat_le, List, [], ◌∷◌, length, Option, Some, None}
+use Rattle.std.specs.Prelude.{if◌then◌else◌, ◌==◌, ◌⊎◌}
 -- the records of the desk
 pub use Rattle.rh_defs.specs.declared.transfer.Sending.{Sending}
 pub use Rattle.rh_defs.specs.declared.transfer.Taking.{Taking}
@@ -7,13 +8,18 @@ pub use Rattle.rh_defs.specs.declared.transfer.Asked.{Asked}
 pub use Rattle.rh_defs.specs.declared.transfer.Outgoing.{Outgoing as Out}
 pub use Rattle.rh_defs.specs.declared.transfer.Outgoing.TheVariants.{Open, Done as Out_done, Failed as Out_failed}
 pub use Rattle.rh_defs.specs.declared.transfer.Incoming.{Incoming as In}
-pub use Rattle.rh_defs.specs.declared.transfer.Incoming.TheVariants.{Fetching, Draining, Asking, Done as In_done, Failed as In_failed}
-pub use Rattle.rh_defs.specs.Records.{out_id, in_id, is_open, is_going, dropped as drop_first, with_id, open_of as find_open, active_of as find_active, asking_of as find_asking, is_source as source_at, is_document as document_at, is_buffer_of as buffer_at, is_meant}
+pub use Rattle.rh_defs.specs.declared.transfer.Incoming.TheVariants.{Fetching, Draining, Asking, Done as In_done}
+pub use Rattle.rh_defs.specs.declared.transfer.Incoming.TheVariants.{Failed as In_failed}
+pub use Rattle.rh_defs.specs.Records.{out_id, in_id, is_open, is_going, dropped as drop_first, with_id}
+pub use Rattle.rh_defs.specs.Records.{open_of as find_open, active_of as find_active, asking_of as find_asking}
+pub use Rattle.rh_defs.specs.Records.{is_source as source_at, is_document as document_at, is_buffer_of as buffer_at}
+pub use Rattle.rh_defs.specs.Records.{is_meant}
 pub use Rattle.rh_defs.specs.Receiver.{is_wanted as is_meant_in, cancelled}
 pub use Rattle.rh_defs.specs.declared.message.EventCode.{EventCode as Code}
 pub use Rattle.rh_defs.specs.declared.message.EventCode.TheVariants.{User as Plain, Recorded, Acknowledge as Returned}
 pub use Rattle.rh_defs.specs.declared.message.Action.{Action as Kind}
-pub use Rattle.rh_defs.specs.declared.message.Action.TheVariants.{DataSave, DataSaveAck, DataLoad, DataLoadAck, RamFetch, RamTransmit}
+pub use Rattle.rh_defs.specs.declared.message.Action.TheVariants.{DataSave, DataSaveAck, DataLoad, DataLoadAck}
+pub use Rattle.rh_defs.specs.declared.message.Action.TheVariants.{RamFetch, RamTransmit}
 pub use Rattle.rh_safety.specs.Offered.{at_place as put, Offers}
 pub use Rattle.rh_safety.specs.Held.{in_anchor, is_document_of, Edits}
 pub use Rattle.std.specs.Prelude.{find as first}

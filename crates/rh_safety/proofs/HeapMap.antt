@@ -3,7 +3,8 @@ use Rattle.std.specs.Prelude.{◌≡◌, ℕ, ◌+◌, ◌≤◌, List, [], ◌�
 use Rattle.rh_defs.specs.Pieces.{Split, with_here}
 use Rattle.rh_defs.specs.Blocks as blocks
 use Rattle.rh_safety.proofs.Ends.{put}
-use Rattle.rh_defs.specs.Heap.{Segment, Used, Hole, Heap, Placed, Way, Stays, Shrinks, GrowsIntoHole, GrowsAtTop, MovesToHole, MovesToTop}
+use Rattle.rh_defs.specs.Heap.{Segment, Used, Hole, Heap, Placed, Way, Stays, Shrinks, GrowsIntoHole, GrowsAtTop}
+use Rattle.rh_defs.specs.Heap.{MovesToHole, MovesToTop}
 
 -- the bytes of the block at an address, of segments that begin at a place
 abbrev pub bytes_at : ℕ → List Segment → ℕ → Option (List ℕ)

@@ -1,6 +1,10 @@
 -- The invariant of every schedule.
-use Rattle.std.proofs.Common.{◌≡◌, ◌≢◌, ℕ, ◌+◌, ◌≤◌, ◌<◌, Bool, true, false, List, length, take, drop, Option, Some, None}
-use Rattle.rh_safety.proofs.Ends.{Recorded, Returned, DataSave, RamFetch, RamTransmit, DataSaveAck, DataLoad, Asked, Letter, Message, Sending, Taking, Out, Open, Out_done, In, Fetching, Draining, Asking, In_done, In_failed, is_growing, out_id, in_id, in_anchor, Has, Active, Pairwise}
+use Rattle.std.proofs.Common.{◌≡◌, ◌≢◌, ℕ, ◌+◌, ◌≤◌, ◌<◌, Bool, true, false, List, length, take, drop, Option, Some}
+use Rattle.std.proofs.Common.{None}
+use Rattle.rh_safety.proofs.Ends.{Recorded, Returned, DataSave, RamFetch, RamTransmit, DataSaveAck, DataLoad, Asked}
+use Rattle.rh_safety.proofs.Ends.{Letter, Message, Sending, Taking, Out, Open, Out_done, In, Fetching, Draining}
+use Rattle.rh_safety.proofs.Ends.{Asking, In_done, In_failed, is_growing, out_id, in_id, in_anchor, Has, Active}
+use Rattle.rh_safety.proofs.Ends.{Pairwise}
 use Rattle.rh_safety.proofs.Protocol.{Desk, Scrap, owned}
 use Rattle.rh_safety.proofs.Basics.{Ascend}
 
@@ -118,25 +122,33 @@ pub record Letters (K : Letter → Type 0) (o : Offered) (next handle : ℕ) : T
   pub below : (l : Letter) → K l → Below next handle l
   pub offers : (l : Letter) → K l → Offers o l
 
-pub record Outs (K : Letter → Type 0) (o : Offered) (sending : ℕ → List Out) (block : ℕ → ℕ → Option (List ℕ)) (next : ℕ) : Type 0 where
+pub record Outs (K : Letter → Type 0) (o : Offered) (sending : ℕ → List Out) (block : ℕ → ℕ → Option (List ℕ))
+    (next : ℕ) : Type 0 where
   pub letter : (l : Letter) → K l → (s : ℕ) (x : Sending) → Has (Open x) (sending s) → LetterOut l s x
   pub source : (s : ℕ) (x : Sending) → Has (Open x) (sending s) → Source o x (block s) next
   pub counted : (s i n : ℕ) → Has (Out_done i n) (sending s) → Counted o i n
-  pub lasts : (s : ℕ) (x y : Sending) → Has (Open x) (sending s) → Has (Open y) (sending s) → x.last ≡ y.last → x.id ≡ y.id
+  pub lasts : (s : ℕ) (x y : Sending) → Has (Open x) (sending s) → Has (Open y) (sending s) → x.last ≡ y.last →
+      x.id ≡ y.id
 
-pub record Ins (K : Letter → Type 0) (o : Offered) (e : ℕ → ℕ → Bool) (taking : ℕ → List In) (block heap : ℕ → ℕ → Option (List ℕ)) (buf : ℕ → ℕ) (next : ℕ) : Type 0 where
+pub record Ins (K : Letter → Type 0) (o : Offered) (e : ℕ → ℕ → Bool) (taking : ℕ → List In) (block heap : ℕ → ℕ →
+    Option (List ℕ)) (buf : ℕ → ℕ) (next : ℕ) : Type 0 where
   pub letter : (l : Letter) → K l → (r : ℕ) (t : Taking) → Active (taking r) t → LetterIn l r t
-  pub carries : (l : Letter) → K l → (r : ℕ) (t : Taking) → Has (Fetching t) (taking r) → LetterCarries o l t (heap r) (buf r)
+  pub carries : (l : Letter) → K l → (r : ℕ) (t : Taking) → Has (Fetching t) (taking r) →
+      LetterCarries o l t (heap r) (buf r)
   pub good : (r : ℕ) (w : In) → Has w (taking r) → Untouched (e r) w → IsGood o w (block r (in_anchor w))
   pub buffer : (r : ℕ) (t : Taking) → Active (taking r) t → HasBuffer t (heap r) (buf r) next
   pub buffers : (r : ℕ) (t u : Taking) → Active (taking r) t → Active (taking r) u → t.buffer ≡ u.buffer → t.id ≡ u.id
-  pub documents : (r : ℕ) (v w : In) → Has v (taking r) → is_growing v ≡ true → Has w (taking r) → Untouched (e r) w → in_anchor w ≡ in_anchor v → in_id w ≡ in_id v
+  pub documents : (r : ℕ) (v w : In) → Has v (taking r) → is_growing v ≡ true → Has w (taking r) → Untouched (e r) w →
+      in_anchor w ≡ in_anchor v → in_id w ≡ in_id v
   pub room : (r : ℕ) → 0 < buf r
 
 pub record Boths (K : Letter → Type 0) (sending : ℕ → List Out) (taking : ℕ → List In) : Type 0 where
-  pub older : (l : Letter) → K l → (s : ℕ) (x : Sending) → Has (Open x) (sending s) → (r : ℕ) (t : Taking) → Active (taking r) t → LetterOlder l s x t
-  pub ahead : (l : Letter) → K l → (s : ℕ) (x : Sending) → Has (Open x) (sending s) → (r : ℕ) (t : Taking) → Has (Fetching t) (taking r) → LetterAhead l s x t
-  pub apart : (h : ℕ) (x : Sending) (v : In) → Has (Open x) (sending h) → Has v (taking h) → is_growing v ≡ true → x.anchor ≢ in_anchor v
+  pub older : (l : Letter) → K l → (s : ℕ) (x : Sending) → Has (Open x) (sending s) → (r : ℕ) (t : Taking) →
+      Active (taking r) t → LetterOlder l s x t
+  pub ahead : (l : Letter) → K l → (s : ℕ) (x : Sending) → Has (Open x) (sending s) → (r : ℕ) (t : Taking) →
+      Has (Fetching t) (taking r) → LetterAhead l s x t
+  pub apart : (h : ℕ) (x : Sending) (v : In) → Has (Open x) (sending h) → Has v (taking h) → is_growing v ≡ true →
+      x.anchor ≢ in_anchor v
 
 -- a letter beside a record that waits for a file
 pub record LetterAck (l : Letter) (q : Asked) : Type 0 where
@@ -144,13 +156,15 @@ pub record LetterAck (l : Letter) (q : Asked) : Type 0 where
 
 -- the scrap file of its DataLoad is what was offered
 pub record LetterFile (o : Offered) (scrap : Option Scrap) (l : Letter) (q : Asked) : Type 0 where
-  pub whole : (f : Scrap) → scrap ≡ Some f → l.kind ≡ DataLoad → l.me ≡ f.load → l.answers ≡ q.ack → o q.id ≡ Some f.bytes
+  pub whole : (f : Scrap) → scrap ≡ Some f → l.kind ≡ DataLoad → l.me ≡ f.load → l.answers ≡ q.ack →
+      o q.id ≡ Some f.bytes
 
-pub record Loads (K : Letter → Type 0) (o : Offered) (taking : ℕ → List In) (scrap : Option Scrap) (next : ℕ) : Type 0 where
-  pub ack : (l : Letter) → K l → (r : ℕ) (q : Asked) → Has (Asking q) (taking r) → LetterAck l q
-  pub file : (l : Letter) → K l → (r : ℕ) (q : Asked) → Has (Asking q) (taking r) → LetterFile o scrap l q
-  pub ack_below : (r : ℕ) (q : Asked) → Has (Asking q) (taking r) → q.ack < next
-  pub load_below : (f : Scrap) → scrap ≡ Some f → f.load < next
+pub record Loads (K : Letter → Type 0) (o : Offered) (taking : ℕ → List In) (scrap : Option Scrap) (next : ℕ) : Type 0
+  where
+    pub ack : (l : Letter) → K l → (r : ℕ) (q : Asked) → Has (Asking q) (taking r) → LetterAck l q
+    pub file : (l : Letter) → K l → (r : ℕ) (q : Asked) → Has (Asking q) (taking r) → LetterFile o scrap l q
+    pub ack_below : (r : ℕ) (q : Asked) → Has (Asking q) (taking r) → q.ack < next
+    pub load_below : (f : Scrap) → scrap ≡ Some f → f.load < next
 
 -- ---- the order of refs and ids
 
@@ -195,7 +209,8 @@ pub record IsWaiting (m : Message) (s : ℕ) (l : Letter) : Type 0 where
   pub answers : m.letter.answers ≡ l.answers
 
 -- the fetch l, which record x of task s would answer, is that of a record that still holds its buffer, and is unread
-pub record Waits (q : List Message) (held : ℕ → Option Message) (s : ℕ) (l : Letter) (x : Sending) (ws : List In) (buf : ℕ) : Type 0 where
+pub record Waits (q : List Message) (held : ℕ → Option Message) (s : ℕ) (l : Letter) (x : Sending) (ws : List In)
+    (buf : ℕ) : Type 0 where
   pub taking : Taking
   pub is_active : Active ws taking
   pub same_id : taking.id ≡ x.id

@@ -8,6 +8,7 @@ pub mod Basics
 pub mod Invariant
 pub mod Moves
 pub mod Sends
+pub mod Endings
 pub mod Posts
 pub mod Arrivals
 pub mod Polls

@@ -1,9 +1,16 @@
 -- The desk, reduced to what a transfer rests on. Where the whole desk asks pages, heaps and the queue's room,
 -- the command brings the answer with it, so that a law over all commands holds for each such answer.
-use Rattle.std.specs.Prelude.{ℕ, ◌+◌, ◌-◌, min, Bool, true, false, not, ◌&&◌, ◌||◌, nat_lt, nat_le, ◌==◌, if◌then◌else◌, List, [], ◌∷◌, ◌++◌, length, take, drop, replicate, Option, Some, None, is_some, is_none}
+use Rattle.std.specs.Prelude.{ℕ, ◌+◌, ◌-◌, min, Bool, true, false, not, ◌&&◌, ◌||◌, nat_lt, nat_le, ◌==◌}
+use Rattle.std.specs.Prelude.{if◌then◌else◌, List, [], ◌∷◌, ◌++◌, length, take, drop, replicate, Option, Some, None}
+use Rattle.std.specs.Prelude.{is_some, is_none}
 use Rattle.rh_defs.specs.Sender as sender
 use Rattle.rh_defs.specs.Receiver as receiver
-use Rattle.rh_safety.proofs.Ends.{Code, Plain, Recorded, Returned, Kind, DataSave, RamFetch, RamTransmit, DataSaveAck, DataLoad, DataLoadAck, Asked, Letter, Message, Sending, Taking, Out, Open, Out_done, Out_failed, In, Fetching, Draining, Asking, In_done, In_failed, out_id, in_id, is_open, is_going, put, any, how_many, one_more, with_id, find_open, find_active, find_asking, first, first_for, without_first, source_at, document_at, buffer_at, is_meant, is_meant_in}
+use Rattle.rh_safety.proofs.Ends.{Code, Plain, Recorded, Returned, Kind, DataSave, RamFetch, RamTransmit, DataSaveAck}
+use Rattle.rh_safety.proofs.Ends.{DataLoad, DataLoadAck, Asked, Letter, Message, Sending, Taking, Out, Open, Out_done}
+use Rattle.rh_safety.proofs.Ends.{Out_failed, In, Fetching, Draining, Asking, In_done, In_failed, out_id, in_id}
+use Rattle.rh_safety.proofs.Ends.{is_open, is_going, put, any, how_many, one_more, with_id, find_open, find_active}
+use Rattle.rh_safety.proofs.Ends.{find_asking, first, first_for, without_first, source_at, document_at, buffer_at}
+use Rattle.rh_safety.proofs.Ends.{is_meant, is_meant_in}
 
 -- the scrap file: the ref of its DataLoad, and its bytes
 pub record Scrap : Type 0 where
@@ -122,13 +129,32 @@ begun d h luck l =
     sent (record d {
       heap = put d.heap h (put (d.heap h) luck.address (Some (replicate (d.buf h + luck.spare) 0)));
       block = put d.block h (put (d.block h) luck.anchor (Some []));
-      taking = put d.taking h (one_more d.most is_going (d.taking h) (Fetching (record { id = l.me; sender = l.from; anchor = luck.anchor; buffer = luck.address; count = 0; fetch = d.next_ref })));
-    }) h (record { code = Recorded; to = l.from; letter = record { from = h; me = d.next_ref; answers = l.me; kind = RamFetch; address = luck.address; amount = d.buf h } })
+      taking = put d.taking h (one_more d.most is_going (d.taking h) (Fetching (record {
+        id = l.me;
+        sender = l.from;
+        anchor = luck.anchor;
+        buffer = luck.address;
+        count = 0;
+        fetch = d.next_ref;
+      })));
+    }) h (record {
+      code = Recorded;
+      to = l.from;
+      letter = record {
+        from = h;
+        me = d.next_ref;
+        answers = l.me;
+        kind = RamFetch;
+        address = luck.address;
+        amount = d.buf h;
+      };
+    })
 
 -- whether a DataSave is taken
 abbrev pub can_begin : Desk → ℕ → Luck → Letter → Bool
 can_begin d h luck l =
-    not (d.deaf h) && (nat_lt (how_many is_going (d.taking h)) d.most && (is_none (d.block h luck.anchor) && (is_none (d.heap h luck.address) &&
+    not (d.deaf h) && (nat_lt (how_many is_going (d.taking h)) d.most && (is_none (d.block h luck.anchor) &&
+    (is_none (d.heap h luck.address) &&
     (luck.room_buffer && (luck.room_document && (luck.room_send && d.live l.from))))))
 
 -- a DataSave, taken or not
@@ -138,7 +164,11 @@ on_save d h luck l false = d
 
 -- the record ends, and its buffer is released
 abbrev pub ended : Desk → ℕ → Taking → In → Desk
-ended d h t v = record d { heap = put d.heap h (put (d.heap h) t.buffer None); taking = put d.taking h (with_id in_id t.id v (d.taking h)) }
+ended d h t v = record d {
+  heap = put d.heap h (put (d.heap h) t.buffer None);
+  taking = put d.taking h (with_id in_id
+      t.id v (d.taking h));
+}
 
 -- the bytes of a block, none where there is no block
 abbrev pub bytes_of : Option (List ℕ) → List ℕ
@@ -147,13 +177,36 @@ bytes_of (Some bytes) = bytes
 
 -- the document with the buffer's first n bytes at its end
 abbrev pub longer : Desk → ℕ → Taking → ℕ → Desk
-longer d h t n = record d { block = put d.block h (put (d.block h) t.anchor (Some (bytes_of (d.block h t.anchor) ++ take n (bytes_of (d.heap h t.buffer))))) }
+longer d h t n = record d {
+  block = put d.block h (put (d.block h) t.anchor (Some (bytes_of (d.block h t.anchor) ++
+      take n (bytes_of (d.heap h t.buffer)))));
+}
 
 -- the desk with the next fetch, after n bytes
 abbrev pub fetched : Desk → ℕ → Taking → ℕ → ℕ → Desk
 fetched d h t n answers =
-    sent (record d { taking = put d.taking h (with_id in_id t.id (Fetching (record { id = t.id; sender = t.sender; anchor = t.anchor; buffer = t.buffer; count = t.count + n; fetch = d.next_ref })) (d.taking h)) })
-    h (record { code = Recorded; to = t.sender; letter = record { from = h; me = d.next_ref; answers = answers; kind = RamFetch; address = t.buffer; amount = d.buf h } })
+    sent (record d {
+      taking = put d.taking h (with_id in_id t.id (Fetching (record {
+        id = t.id;
+        sender = t.sender;
+        anchor = t.anchor;
+        buffer = t.buffer;
+        count = t.count + n;
+        fetch = d.next_ref;
+      })) (d.taking h));
+    })
+    h (record {
+      code = Recorded;
+      to = t.sender;
+      letter = record {
+        from = h;
+        me = d.next_ref;
+        answers = answers;
+        kind = RamFetch;
+        address = t.buffer;
+        amount = d.buf h;
+      };
+    })
 
 -- the next fetch, or the end where it was refused
 abbrev pub goes_on : Desk → ℕ → Taking → Letter → Bool → Desk
@@ -195,7 +248,18 @@ is_fetch me t = t.fetch == me
 abbrev pub asked : Desk → ℕ → Taking → Desk
 asked d h t =
     sent (ended d h t (Asking (record { id = t.id; sender = t.sender; anchor = t.anchor; ack = d.next_ref })))
-    h (record { code = Recorded; to = t.sender; letter = record { from = h; me = d.next_ref; answers = t.id; kind = DataSaveAck; address = 0; amount = 0 } })
+    h (record {
+      code = Recorded;
+      to = t.sender;
+      letter = record {
+        from = h;
+        me = d.next_ref;
+        answers = t.id;
+        kind = DataSaveAck;
+        address = 0;
+        amount = 0;
+      };
+    })
 
 -- the sender is asked for a file, or the transfer fails where that was refused
 abbrev pub asks : Desk → ℕ → Taking → Bool → Desk
@@ -226,12 +290,27 @@ is_load l q = receiver.is_load l.from l.answers q
 
 -- the file is the document
 abbrev pub copied : Desk → ℕ → Asked → List ℕ → Desk
-copied d h q bytes = record d { block = put d.block h (put (d.block h) q.anchor (Some (bytes_of (d.block h q.anchor) ++ bytes))); scrap = None }
+copied d h q bytes = record d {
+  block = put d.block h (put (d.block h) q.anchor (Some (bytes_of (d.block h q.anchor)
+      ++ bytes)));
+  scrap = None;
+}
 
 -- the sender is told, or the transfer fails with its bytes kept
 abbrev pub loaded : Desk → ℕ → Letter → Asked → ℕ → Bool → Desk
 loaded d h l q n true =
-    sent (with_in d h q (In_done q.id q.anchor n)) h (record { code = Plain; to = q.sender; letter = record { from = h; me = d.next_ref; answers = l.me; kind = DataLoadAck; address = 0; amount = n } })
+    sent (with_in d h q (In_done q.id q.anchor n)) h (record {
+      code = Plain;
+      to = q.sender;
+      letter = record {
+        from = h;
+        me = d.next_ref;
+        answers = l.me;
+        kind = DataLoadAck;
+        address = 0;
+        amount = n;
+      };
+    })
 loaded d h l q n false = with_in d h q (In_failed q.id q.anchor n)
 
 -- the file becomes the document, where there is room
@@ -285,15 +364,33 @@ portion source x l = min l.amount (length source - x.count)
 abbrev pub moved : Desk → ℕ → Letter → Sending → List ℕ → List ℕ → ℕ → Out → Code → Desk
 moved d h l x source old n v code =
     sent (record d {
-      heap = put d.heap x.recipient (put (d.heap x.recipient) l.address (Some (take n (drop x.count source) ++ drop n old)));
+      heap = put d.heap x.recipient (put (d.heap x.recipient) l.address (Some (take n (drop x.count source) ++ drop n
+          old)));
       sending = put d.sending h (with_id out_id x.id v (d.sending h));
-    }) h (record { code = code; to = x.recipient; letter = record { from = h; me = d.next_ref; answers = l.me; kind = RamTransmit; address = l.address; amount = n } })
+    }) h (record {
+      code = code;
+      to = x.recipient;
+      letter = record {
+        from = h;
+        me = d.next_ref;
+        answers = l.me;
+        kind = RamTransmit;
+        address = l.address;
+        amount = n;
+      };
+    })
 
 -- the bytes go out: short ones end the transfer
 abbrev pub transmits : Desk → ℕ → Letter → Sending → List ℕ → List ℕ → ℕ → Bool → Desk
 transmits d h l x source old n true = moved d h l x source old n (Out_done x.id (x.count + n)) Plain
 transmits d h l x source old n false =
-    moved d h l x source old n (Open (record { id = x.id; recipient = x.recipient; anchor = x.anchor; count = x.count + n; last = d.next_ref })) Recorded
+    moved d h l x source old n (Open (record {
+      id = x.id;
+      recipient = x.recipient;
+      anchor = x.anchor;
+      count = x.count + n;
+      last = d.next_ref;
+    })) Recorded
 
 -- the answer to a fetch, where the message has room
 abbrev pub has_room : Desk → ℕ → Luck → Letter → Sending → List ℕ → Bool → Desk
@@ -306,7 +403,8 @@ has_room d h luck l x old false = failed d h x
 -- the range that the fetch names, in one block of the recipient
 abbrev pub in_range : Desk → ℕ → Luck → Letter → Sending → Option (List ℕ) → Desk
 in_range d h luck l x None = failed d h x
-in_range d h luck l x (Some old) = if nat_le l.amount (length old) then has_room d h luck l x old luck.room_send else failed d h x
+in_range d h luck l x (Some old) = if nat_le l.amount (length old) then has_room d h luck l x old luck.room_send else
+    failed d h x
 
 -- the answer to a fetch, where its sender is live
 abbrev pub recipient_lives : Desk → ℕ → Luck → Letter → Sending → Bool → Desk
@@ -330,7 +428,24 @@ asks_for l x = sender.asks_for l.from l.answers x
 abbrev pub filed : Desk → ℕ → Letter → Sending → Desk
 filed d h l x =
     let bytes = bytes_of (d.block h x.anchor) in
-    record (sent (with_out d h x (Open (record { id = x.id; recipient = x.recipient; anchor = x.anchor; count = x.count; last = d.next_ref }))) h (record { code = Recorded; to = x.recipient; letter = record { from = h; me = d.next_ref; answers = l.me; kind = DataLoad; address = 0; amount = length bytes } })) {
+    record (sent (with_out d h x (Open (record {
+      id = x.id;
+      recipient = x.recipient;
+      anchor = x.anchor;
+      count = x.count;
+      last = d.next_ref;
+    }))) h (record {
+      code = Recorded;
+      to = x.recipient;
+      letter = record {
+        from = h;
+        me = d.next_ref;
+        answers = l.me;
+        kind = DataLoad;
+        address = 0;
+        amount = length bytes;
+      };
+    })) {
       scrap = Some (record { load = d.next_ref; bytes = bytes });
     }
 
@@ -422,7 +537,8 @@ back_if_recorded live m Returned = []
 -- what goes back of the messages for a handle that ends
 abbrev pub bounced_for : (ℕ → Bool) → ℕ → List Message → List Message
 bounced_for live h [] = []
-bounced_for live h (m ∷ ms) = if m.to == h then back_if_recorded live m m.code ++ bounced_for live h ms else bounced_for live h ms
+bounced_for live h (m ∷ ms) = if m.to == h then back_if_recorded live m m.code ++ bounced_for live h ms else
+    bounced_for live h ms
 
 -- what goes back of the message that it holds
 abbrev pub back_held : (ℕ → Bool) → Option Message → List Message
@@ -452,22 +568,59 @@ killed d h =
 -- whether a save is accepted
 abbrev pub can_save : Desk → ℕ → ℕ → ℕ → Bool → Bool
 can_save d h a to room =
-    d.live h && (is_some (d.block h a) && (not (is_busy d h a) && (nat_lt (how_many is_open (d.sending h)) d.most && (d.live to && room))))
+    d.live h && (is_some (d.block h a) && (not (is_busy d h a) && (nat_lt (how_many is_open (d.sending h)) d.most &&
+    (d.live to && room))))
 
 -- the desk after a save
 abbrev pub saved : Desk → ℕ → ℕ → ℕ → Desk
 saved d h a to =
-    sent (record d { sending = put d.sending h (one_more d.most is_open (d.sending h) (Open (record { id = d.next_ref; recipient = to; anchor = a; count = 0; last = d.next_ref }))) })
-    h (record { code = Recorded; to = to; letter = record { from = h; me = d.next_ref; answers = 0; kind = DataSave; address = 0; amount = length (bytes_of (d.block h a)) } })
+    sent (record d {
+      sending = put d.sending h (one_more d.most is_open (d.sending h)
+          (Open (record { id = d.next_ref; recipient = to; anchor = a; count = 0; last = d.next_ref })));
+    })
+    h (record {
+      code = Recorded;
+      to = to;
+      letter = record {
+        from = h;
+        me = d.next_ref;
+        answers = 0;
+        kind = DataSave;
+        address = 0;
+        amount = length (bytes_of (d.block h a));
+      };
+    })
 
 -- the message with another ref
 abbrev pub again : Message → ℕ → Message
 again m me =
-    record { code = m.code; to = m.to; letter = record { from = m.letter.from; me = me; answers = m.letter.answers; kind = m.letter.kind; address = m.letter.address; amount = m.letter.amount } }
+    record {
+      code = m.code;
+      to = m.to;
+      letter = record {
+        from = m.letter.from;
+        me = me;
+        answers = m.letter.answers;
+        kind = m.letter.kind;
+        address = m.letter.address;
+        amount = m.letter.amount;
+      };
+    }
 
 -- the message with the task as its sender
 abbrev pub owned : ℕ → Message → Message
-owned h m = record { code = m.code; to = m.to; letter = record { from = h; me = m.letter.me; answers = m.letter.answers; kind = m.letter.kind; address = m.letter.address; amount = m.letter.amount } }
+owned h m = record {
+  code = m.code;
+  to = m.to;
+  letter = record {
+    from = h;
+    me = m.letter.me;
+    answers = m.letter.answers;
+    kind = m.letter.kind;
+    address = m.letter.address;
+    amount = m.letter.amount;
+  };
+}
 
 -- whether a message can be sent again
 abbrev pub can_repeat : Desk → ℕ → Message → Bool → Bool

@@ -1,10 +1,11 @@
 -- Worked runs: what is offered and what is held after each command.
-use Rattle.std.specs.Prelude.{◌≡◌, refl, ℕ, List, [], ◌∷◌, length, map, codes, true, Option, Some, None}
+use Rattle.std.specs.Prelude.{◌≡◌, refl, ℕ, List, [], ◌∷◌, length, map, codes, true, Option, Some, None, Ok, Err}
+use Rattle.std.specs.List.{filter_map}
 use Rattle.hex.proofs.OnLiterals.{hex_on_literals}
 use Prim.Native.String.{String}
 use Rattle.rh_defs.specs.declared.command.Command.{Command}
 use Rattle.rh_defs.specs.Script
-use Rattle.rh_defs.specs.Script.{commands_in}
+use Rattle.rh_defs.specs.Line.{Meaning, line_means}
 use Rattle.rh_defs.specs.Desk.{Desk}
 use Rattle.rh_defs.specs.Runs.{start, after}
 use Rattle.rh_safety.specs.Offered.{offered}
@@ -17,7 +18,11 @@ fresh = start 64 []
 
 -- the commands that lines spell
 abbrev pub script : List String → List Command
-script lines = commands_in (map codes lines)
+script lines = filter_map (λ line. spelled (line_means (codes line))) lines
+  where
+    spelled : Meaning (Option Command) → Option Command
+    spelled (Ok c) = c
+    spelled (Err fault) = None
 
 -- the lists that begin a list, the whole one last
 abbrev pub prefixes : {A : Type 0} → List A → List (List A)
@@ -62,7 +67,8 @@ unfolding Script.computing hex_on_literals
 two_buffers = refl
 
 -- a block that is saved again by the same message offers the same bytes under the new ref
-pub repeated_offer : offered fresh (script ("task a 100" ∷ "task b 100" ∷ "alloc a 0 2" ∷ "put a 0 0 0102" ∷ "save a 0 b x" ∷ "repeat a" ∷ [])) 2 ≡ Some (1 ∷ 2 ∷ [])
+pub repeated_offer : offered fresh (script ("task a 100" ∷ "task b 100" ∷ "alloc a 0 2" ∷ "put a 0 0 0102"
+    ∷ "save a 0 b x" ∷ "repeat a" ∷ [])) 2 ≡ Some (1 ∷ 2 ∷ [])
 unfolding Script.computing hex_on_literals
 repeated_offer = refl
 
@@ -83,7 +89,8 @@ unfolding Script.computing hex_on_literals
 by_scrap_file = refl
 
 -- six bytes by a buffer of four: after the save, five polls in turn are refused nothing
-pub granted_turns : all_granted (after fresh (script ("task a 4" ∷ "task b 4" ∷ "alloc a 0 6" ∷ "save a 0 b doc" ∷ []))) (turns (codes "b") (codes "a") 2) ≡ true
+pub granted_turns : all_granted (after fresh (script ("task a 4" ∷ "task b 4" ∷ "alloc a 0 6" ∷ "save a 0 b doc"
+    ∷ []))) (turns (codes "b") (codes "a") 2) ≡ true
 unfolding Script.computing hex_on_literals
 granted_turns = refl
 

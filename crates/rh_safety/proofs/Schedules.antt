@@ -1,7 +1,12 @@
 -- What a list of commands offered, and what is held of it.
-use Rattle.std.specs.Prelude.{◌≡◌, ℕ, ◌≤◌, ◌<◌, Bool, true, false, not, ◌||◌, ◌==◌, if◌then◌else◌, List, [], ◌∷◌, length, Option, Some, None, nat_le}
-use Rattle.rh_safety.proofs.Ends.{is_document_of, IsPrefixOf, Kind, DataSave, RamFetch, RamTransmit, DataSaveAck, DataLoad, DataLoadAck, Message, Sending, Taking, Out_done, In, In_done, in_id, in_anchor, Active, Has, put, any, first}
-use Rattle.rh_safety.proofs.Protocol.{Desk, Command, Start, Kill, Save, Poll, Repeat, Cancel_in, Cancel_out, Alloc, Change, Free, Claim, Release, Lose, step, run, start, can_save, can_repeat, can_edit}
+use Rattle.std.specs.Prelude.{◌≡◌, ℕ, ◌≤◌, ◌<◌, Bool, true, false, not, ◌||◌, ◌==◌, if◌then◌else◌, List, [], ◌∷◌}
+use Rattle.std.specs.Prelude.{length, Option, Some, None, nat_le}
+use Rattle.rh_safety.proofs.Ends.{is_document_of, IsPrefixOf, Kind, DataSave, RamFetch, RamTransmit, DataSaveAck}
+use Rattle.rh_safety.proofs.Ends.{DataLoad, DataLoadAck, Message, Sending, Taking, Out_done, In, In_done, in_id}
+use Rattle.rh_safety.proofs.Ends.{in_anchor, Active, Has, put, any, first}
+use Rattle.rh_safety.proofs.Protocol.{Desk, Command, Start, Kill, Save, Poll, Repeat, Cancel_in, Cancel_out, Alloc}
+use Rattle.rh_safety.proofs.Protocol.{Change, Free, Claim, Release, Lose, step, run, start, can_save, can_repeat}
+use Rattle.rh_safety.proofs.Protocol.{can_edit}
 
 -- Offered
 
@@ -17,13 +22,15 @@ offer_again offers me m DataLoadAck = offers
 -- what each id offers after a repeat
 abbrev pub repeat_offers : (ℕ → Option (List ℕ)) → Desk → ℕ → Bool → Option Message → ℕ → Option (List ℕ)
 repeat_offers offers d h room None = offers
-repeat_offers offers d h room (Some m) = if can_repeat d h m room then offer_again offers d.next_ref m m.letter.kind else offers
+repeat_offers offers d h room (Some m) = if can_repeat d h m room then offer_again offers d.next_ref m m.letter.kind
+    else offers
 
 -- the bytes that each id offers, after one more command
 abbrev pub offers_after : (ℕ → Option (List ℕ)) → Desk → Command → ℕ → Option (List ℕ)
 offers_after offers d (Start buf deaf file) = offers
 offers_after offers d (Kill h) = offers
-offers_after offers d (Save h a to room) = if can_save d h a to room then put offers d.next_ref (d.block h a) else offers
+offers_after offers d (Save h a to room) = if can_save d h a to room then put offers d.next_ref (d.block h a) else
+    offers
 offers_after offers d (Poll h luck) = offers
 offers_after offers d (Repeat h room) = repeat_offers offers d h room (d.last h)
 offers_after offers d (Cancel_in h id) = offers
@@ -44,7 +51,8 @@ offers_from offers d (c ∷ cs) = offers_from (offers_after offers d c) (step d 
 
 -- the edits after an accepted one of a block
 abbrev pub edit_after : (ℕ → ℕ → Bool) → Desk → ℕ → ℕ → ℕ → ℕ → Bool
-edit_after edited d h a = if can_edit d h a then put edited h (λ i. edited h i || any (is_document_of i a) (d.taking h)) else edited
+edit_after edited d h a = if can_edit d h a then put edited h (λ i. edited h i || any (is_document_of i a)
+    (d.taking h)) else edited
 
 -- the edits after a step
 abbrev pub edited_after : (ℕ → ℕ → Bool) → Desk → Command → ℕ → ℕ → Bool
@@ -95,13 +103,17 @@ offered o cs = offers_from (λ id. None) (start o.most o.handle o.first) cs
 abbrev pub held : Origin → List Command → ℕ → ℕ → Option (List ℕ)
 held o cs id h =
     let d = after o cs in
-    if d.live h then document d h (edited_from (λ k i. false) (start o.most o.handle o.first) cs h id) (record_of id (d.taking h)) else None
+    if d.live h then document d h (edited_from (λ k i. false) (start o.most o.handle o.first) cs h id) (record_of id
+    (d.taking h)) else None
 
 -- what is held is a prefix of what was offered, all of it once the record says so, and the sender counts it whole
 pub record IsSafe (o : Origin) (cs : List Command) (id h : ℕ) : Type 0 where
-  pub prefix : (got : List ℕ) → held o cs id h ≡ Some got → (all : List ℕ) × (offered o cs id ≡ Some all) × IsPrefixOf got all
-  pub whole : (got : List ℕ) (a n : ℕ) → held o cs id h ≡ Some got → Has (In_done id a n) ((after o cs).taking h) → offered o cs id ≡ Some got
-  pub counted : (n : ℕ) → Has (Out_done id n) ((after o cs).sending h) → (all : List ℕ) × (offered o cs id ≡ Some all) × (n ≡ length all)
+  pub prefix : (got : List ℕ) → held o cs id h ≡ Some got →
+      (all : List ℕ) × (offered o cs id ≡ Some all) × IsPrefixOf got all
+  pub whole : (got : List ℕ) (a n : ℕ) → held o cs id h ≡ Some got → Has (In_done id a n) ((after o cs).taking h) →
+      offered o cs id ≡ Some got
+  pub counted : (n : ℕ) → Has (Out_done id n) ((after o cs).sending h) →
+      (all : List ℕ) × (offered o cs id ≡ Some all) × (n ≡ length all)
 
 -- a queued fetch that would be answered names a buffer that its sender still holds for that transfer
 pub record HoldsBuffer (d : Desk) (m : Message) (x : Sending) : Type 0 where

@@ -1,5 +1,6 @@
 -- Queued fetches name buffers that are held.
-use Rattle.std.proofs.Common.{◌≡◌, ℕ, ◌≤◌, Bool, true, false, List, [], ◌∷◌, length, Option, None, sym, ap, ◌∙◌, subst, inl, inr}
+use Rattle.std.proofs.Common.{◌≡◌, ℕ, ◌≤◌, Bool, true, false, List, [], ◌∷◌, length, Option, None, sym, ap, ◌∙◌}
+use Rattle.std.proofs.Common.{subst, inl, inr}
 use Rattle.std.specs.Prelude.{map}
 use Rattle.rh_defs.specs.declared.transfer.Incoming.{Incoming}
 use Rattle.rh_defs.specs.declared.transfer.Incoming.TheVariants as incoming
@@ -20,28 +21,39 @@ use Rattle.rh_safety.proofs.SeenHandled.{buffer_is}
 
 has_map : {A B : Type 0} (f : A → B) (x : A) (xs : List A) → Has x xs → Has (f x) (map f xs)
 has_map f x [] q = absurd q
-has_map f x (y ∷ xs) q = elim q as (λ _. Has (f x) (map f (y ∷ xs))) [ inl e ↦ inl (ap f e) | inr r ↦ inr (has_map f x xs r) ]
+has_map f x (y ∷ xs) q = elim q as (λ _. Has (f x) (map f (y ∷ xs))) [
+  | inl e ↦ inl (ap f e)
+  | inr r ↦ inr
+      (has_map f x xs r)
+]
 
 pub has_buffers : {o : Offered} {e : ℕ → ℕ → Bool} (d : Desk) → Good o e (view d) → HasBuffers d
 has_buffers d g m t u x address n a =
     let l = (seen_parcel m).letter in
     let at_ : l.address ≡ address = ap address_in a.fetch in
     let size : l.amount ≡ n = ap amount_in a.fetch in
-    let h = holds_buffer g (seen_parcel m) x (has_map seen_parcel m d.post.queued (has_of d.post.queued m a.queued)) a.recorded (ap action_of a.fetch)
-    (subst (λ (xs : List Outgoing). Has (outgoing.Open x) xs) (sym (field_is (λ y. y.sending) [] m.to d.tasks t a.recipient_is)) (has_of t.sending (outgoing.Open x) a.open_))
+    let h = holds_buffer g (seen_parcel m) x (has_map seen_parcel m d.post.queued (has_of d.post.queued m a.queued))
+    a.recorded (ap action_of a.fetch)
+    (subst (λ (xs : List Outgoing). Has (outgoing.Open x) xs) (sym (field_is (λ y. y.sending) [] m.to d.tasks t
+    a.recipient_is)) (has_of t.sending (outgoing.Open x) a.open_))
     (subst (λ k. sender.would_answer m.message.from m.message.your_ref k x ≡ true) (sym size) a.answered)
     (field_is (λ y. true) false m.message.from d.tasks u a.sender_is)
     (field_is (λ y. answers_none y.manner) false m.to d.tasks t a.recipient_is ∙ a.answers) in
-    let takes : (view d).taking m.message.from ≡ u.taking = field_is (λ y. y.taking) [] m.message.from d.tasks u a.sender_is in
+    let takes : (view d).taking m.message.from ≡ u.taking = field_is (λ y. y.taking) [] m.message.from d.tasks u
+    a.sender_is in
     record {
       taking = h.taking;
       is_held = elim h.is_active [
-        | inl q ↦ inl (contains_of u.taking (incoming.Fetching h.taking) (subst (λ (ws : List Incoming). Has (incoming.Fetching h.taking) ws) takes q))
-        | inr q ↦ inr (contains_of u.taking (incoming.Draining h.taking) (subst (λ (ws : List Incoming). Has (incoming.Draining h.taking) ws) takes q))
+        | inl q ↦ inl (contains_of u.taking (incoming.Fetching h.taking) (subst (λ (ws : List Incoming).
+            Has (incoming.Fetching h.taking) ws) takes q))
+        | inr q ↦ inr (contains_of u.taking (incoming.Draining h.taking) (subst (λ (ws : List Incoming).
+            Has (incoming.Draining h.taking) ws) takes q))
       ];
       same_id = h.same_id;
       names = h.names ∙ at_;
       bytes = h.bytes;
-      there = buffer_is address u.slot ∙ ap (buffers_of u.slot) (sym at_) ∙ ap (λ (f : ℕ → Option (List ℕ)). f l.address) (sym (field_is (λ y. buffers_of y.slot) (λ a. None) m.message.from d.tasks u a.sender_is)) ∙ h.there;
+      there = buffer_is address u.slot ∙ ap (buffers_of u.slot) (sym at_) ∙ ap (λ (f : ℕ → Option (List ℕ)).
+          f l.address) (sym (field_is (λ y. buffers_of y.slot) (λ a. None) m.message.from d.tasks u a.sender_is)) ∙
+          h.there;
       room = subst (λ k. k ≤ length h.bytes) size h.fits;
     }

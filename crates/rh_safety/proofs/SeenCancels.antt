@@ -27,24 +27,33 @@ record IsCancelled {A B : Type 0} (found : Option A) (after : A → List B) (rec
   pub is : found ≡ Some here
   pub same : after here ≡ records
 
-out_cancelled : (id : Option ℕ) (xs ys : List Outgoing) → sender.cancel id xs ≡ Ok ys → IsCancelled (open_of (λ x. is_meant id x.id) xs) (λ x. sender.failed x xs) ys
+out_cancelled : (id : Option ℕ) (xs ys : List Outgoing) → sender.cancel id xs ≡ Ok ys →
+    IsCancelled (open_of (λ x. is_meant id x.id) xs) (λ x. sender.failed x xs) ys
 unfolding sender.cancel
 out_cancelled id xs ys q =
     let w = from_bind (found_or (open_of (λ x. is_meant id x.id) xs) NotOpen) (λ x. Ok (sender.failed x xs)) ys q in
-    record { here = w.value; is = is_found (open_of (λ x. is_meant id x.id) xs) NotOpen w.value w.first; same = ok_is _ ys w.rest }
+    record {
+      here = w.value;
+      is = is_found (open_of (λ x. is_meant id x.id) xs) NotOpen w.value w.first;
+      same = ok_is _ ys w.rest;
+    }
 
-in_cancelled : (id : Option ℕ) (xs ys : List Incoming) → receiver.cancel id xs ≡ Ok ys → IsCancelled (find (is_wanted id) xs) (λ r. with_id in_id (in_id r) (cancelled r) xs) ys
+in_cancelled : (id : Option ℕ) (xs ys : List Incoming) → receiver.cancel id xs ≡ Ok ys →
+    IsCancelled (find (is_wanted id) xs) (λ r. with_id in_id (in_id r) (cancelled r) xs) ys
 unfolding receiver.cancel
 in_cancelled id xs ys q =
-    let w = from_bind (found_or (find (is_wanted id) xs) NotOpen) (λ r. Ok (with_id in_id (in_id r) (cancelled r) xs)) ys q in
+    let w = from_bind (found_or (find (is_wanted id) xs) NotOpen) (λ r. Ok (with_id in_id (in_id r) (cancelled r) xs))
+    ys q in
     record { here = w.value; is = is_found (find (is_wanted id) xs) NotOpen w.value w.first; same = ok_is _ ys w.rest }
 
-pub cancel_out_follows : (d : Desk) (name : List ℕ) (id : Option ℕ) → Fits d → Follows d (command.CancelOut name id) (step d (command.CancelOut name id))
+pub cancel_out_follows : (d : Desk) (name : List ℕ) (id : Option ℕ) → Fits d →
+    Follows d (command.CancelOut name id) (step d (command.CancelOut name id))
 unfolding cancel_out
 cancel_out_follows d name id f =
     let c = command.CancelOut name id in
     let s : Silent c = record { offers = λ o e r. refl; edits = λ o e r. refl } in
-    bind (Follows d c) (named name d) _ (instead_of d) (refused d c s) (λ t q. bind (Follows d c) _ _ (instead_of d) (refused d c s) (λ records w.
+    bind (Follows d c) (named name d) _ (instead_of d) (refused d c s) (λ t q. bind (Follows d c) _ _ (instead_of d)
+    (refused d c s) (λ records w.
     done (Follows d c) _ (instead_of d) (
     let is = the_task d name t f q in
     let z = out_cancelled id t.sending records w in
@@ -52,26 +61,30 @@ cancel_out_follows d name id f =
     record {
       moves = protocol.Cancel_out t.handle id ∷ [];
       seen = outs_view d t.handle (λ _. records) (live_of d t.handle t is) ∙
-          ap (λ (y : List Outgoing). record (view d) { sending = post.put (view d).sending t.handle y }) (sym z.same ∙ ap (sender.failed z.here) (sym outs)) ∙
+          ap (λ (y : List Outgoing). record (view d) { sending = post.put (view d).sending t.handle y }) (sym z.same ∙
+          ap (sender.failed z.here) (sym outs)) ∙
           sym (ap (protocol.cancels_out (view d) t.handle) (ap (open_of (λ x. is_meant id x.id)) outs ∙ z.is));
       offers = λ o. refl;
       edits = λ e. refl;
     })))
 
 cancelled_is : (d : protocol.Desk) (h : ℕ) (id : Option ℕ) (w : Incoming) → is_wanted id w ≡ true →
-    record d { taking = post.put d.taking h (with_id in_id (in_id w) (cancelled w) (d.taking h)) } ≡ protocol.cancels_in d h (Some w)
+    record d { taking = post.put d.taking h (with_id in_id (in_id w) (cancelled w) (d.taking h)) } ≡
+    protocol.cancels_in d h (Some w)
 cancelled_is d h id (incoming.Fetching r) m = refl
 cancelled_is d h id (incoming.Draining r) m = absurd (let z : Bool.false ≡ true = m in (cc))
 cancelled_is d h id (incoming.Asking q) m = refl
 cancelled_is d h id (incoming.Done i a n) m = absurd (let z : Bool.false ≡ true = m in (cc))
 cancelled_is d h id (incoming.Failed i a n) m = absurd (let z : Bool.false ≡ true = m in (cc))
 
-pub cancel_in_follows : (d : Desk) (name : List ℕ) (id : Option ℕ) → Fits d → Follows d (command.CancelIn name id) (step d (command.CancelIn name id))
+pub cancel_in_follows : (d : Desk) (name : List ℕ) (id : Option ℕ) → Fits d →
+    Follows d (command.CancelIn name id) (step d (command.CancelIn name id))
 unfolding cancel_in
 cancel_in_follows d name id f =
     let c = command.CancelIn name id in
     let s : Silent c = record { offers = λ o e r. refl; edits = λ o e r. refl } in
-    bind (Follows d c) (named name d) _ (instead_of d) (refused d c s) (λ t q. bind (Follows d c) _ _ (instead_of d) (refused d c s) (λ records w.
+    bind (Follows d c) (named name d) _ (instead_of d) (refused d c s) (λ t q. bind (Follows d c) _ _ (instead_of d)
+    (refused d c s) (λ records w.
     done (Follows d c) _ (instead_of d) (
     let is = the_task d name t f q in
     let z = in_cancelled id t.taking records w in
@@ -79,7 +92,8 @@ cancel_in_follows d name id f =
     record {
       moves = protocol.Cancel_in t.handle id ∷ [];
       seen = ins_view d t.handle (λ _. records) (live_of d t.handle t is) ∙
-          ap (λ (y : List Incoming). record (view d) { taking = post.put (view d).taking t.handle y }) (sym z.same ∙ ap (with_id in_id (in_id z.here) (cancelled z.here)) (sym ins)) ∙
+          ap (λ (y : List Incoming). record (view d) { taking = post.put (view d).taking t.handle y }) (sym z.same ∙
+          ap (with_id in_id (in_id z.here) (cancelled z.here)) (sym ins)) ∙
           cancelled_is (view d) t.handle id z.here (first_is (is_wanted id) t.taking z.here z.is).1 ∙
           sym (ap (protocol.cancels_in (view d) t.handle) (ap (find (is_wanted id)) ins ∙ z.is));
       offers = λ o. refl;

@@ -1,5 +1,6 @@
 -- What is asked of a desk holds of each desk of a run.
-use Rattle.std.proofs.Common.{◌≡◌, ℕ, ◌+◌, ◌<◌, Bool, true, false, List, [], ◌∷◌, Option, Some, refl, sym, ap, ◌∙◌, subst, arith}
+use Rattle.std.proofs.Common.{◌≡◌, ℕ, ◌+◌, ◌<◌, Bool, true, false, List, [], ◌∷◌, Option, Some, refl, sym, ap, ◌∙◌}
+use Rattle.std.proofs.Common.{subst, arith}
 use Rattle.std.specs.Prelude.{if◌then◌else◌, ◌==◌, IfSome}
 use Rattle.rh_defs.specs.Slot.{IsSlot}
 use Rattle.rh_defs.specs.Post.{Seat, has_seat}
@@ -14,11 +15,19 @@ use Rattle.rh_safety.proofs.SeenFrames.{Fits}
 
 below_all : (h least next : ℕ) (ts : List Task) → h < least → Ascend least next ts → NotIn h ts
 below_all h least next [] low up = tt
-below_all h least next (t ∷ ts) low up = ((λ e. omega (arith, low, up.0, e)), below_all h (t.handle + 1) next ts (omega (arith, low, up.0)) up.1)
+below_all h least next (t ∷ ts) low up = (
+  (λ e. omega (arith, low, up.0, e)),
+  below_all h (t.handle + 1) next ts
+      (omega (arith, low, up.0)) up.1,
+)
 
 distinct_of : (least next : ℕ) (ts : List Task) → Ascend least next ts → Distinct ts
 distinct_of least next [] up = tt
-distinct_of least next (t ∷ ts) up = (below_all t.handle (t.handle + 1) next ts (omega arith) up.1, distinct_of (t.handle + 1) next ts up.1)
+distinct_of least next (t ∷ ts) up = (
+  below_all t.handle (t.handle + 1) next ts (omega arith) up.1,
+  distinct_of
+      (t.handle + 1) next ts up.1,
+)
 
 -- ---- seats are the tasks'
 
@@ -35,7 +44,8 @@ task_among : (h : ℕ) (ts : List Task) → field (λ t. true) false ts h ≡ is
 task_among h [] = refl
 task_among h (t ∷ ts) = go (t.handle == h) (task_among h ts)
   where
-    go : (b : Bool) → of (λ t. true) false (task_of h ts) ≡ is_among h (task_handles ts) → of (λ t. true) false (if b then Some t else task_of h ts) ≡ (if b then true else is_among h (task_handles ts))
+    go : (b : Bool) → of (λ t. true) false (task_of h ts) ≡ is_among h (task_handles ts) →
+        of (λ t. true) false (if b then Some t else task_of h ts) ≡ (if b then true else is_among h (task_handles ts))
     go true q = refl
     go false q = q
 
@@ -44,6 +54,7 @@ task_among h (t ∷ ts) = go (t.handle == h) (task_among h ts)
 pub fits : (d : Desk) → IsDesk d → Fits d
 fits d is = record {
   handles = distinct_of 0 d.next_handle d.tasks is.handles;
-  slots = λ h t found. subst (λ (o : Option Task). IfSome o (λ t. IsSlot t.slot)) found (find-all (λ (t : Task). IsSlot t.slot) (λ t. t.handle == h) d.tasks is.slots);
+  slots = λ h t found. subst (λ (o : Option Task). IfSome o (λ t. IsSlot t.slot)) found (find-all (λ (t : Task).
+      IsSlot t.slot) (λ t. t.handle == h) d.tasks is.slots);
   seats = λ h. seat_among h d.post.seats ∙ ap (is_among h) is.seats ∙ sym (task_among h d.tasks);
 }

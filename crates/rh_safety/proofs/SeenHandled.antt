@@ -1,5 +1,6 @@
 -- What a message does, as a step of the reduced desk: what each handler of a poll is shown to be.
-use Rattle.std.proofs.Common.{length-append, drop, ◌≡◌, ℕ, ◌+◌, ◌-◌, Bool, true, false, List, [], ◌∷◌, ◌++◌, length, take, Option, Some, None, refl, sym, ap, ◌∙◌, subst, inl, inr, arith}
+use Rattle.std.proofs.Common.{length-append, drop, ◌≡◌, ℕ, ◌+◌, ◌-◌, Bool, true, false, List, [], ◌∷◌, ◌++◌, length}
+use Rattle.std.proofs.Common.{take, Option, Some, None, refl, sym, ap, ◌∙◌, subst, inl, inr, arith}
 use Rattle.std.specs.Prelude.{Ok, Err}
 use Rattle.std.specs.Option.{option_map}
 use Rattle.std.proofs.lemmas.Bool.Decides.{eqb_tells}
@@ -13,7 +14,8 @@ use Rattle.rh_defs.specs.Chain.{Granted, ◌>>=◌, found_or, result_or}
 use Rattle.rh_defs.specs.Pieces.{Split, zeros, written, behind, first_at}
 use Rattle.rh_defs.specs.Heap.{Segment, Used, Hole, bytes_of, size_of, first_place, is_block_at, released, fitted}
 use Rattle.rh_defs.specs.Blocks.{bytes_at}
-use Rattle.rh_defs.specs.Slot.{Slot, Flex, weight, flex_start, heap_start, heap_block_at, with_heap, slot_block, slot_release, slot_extend, slot_put}
+use Rattle.rh_defs.specs.Slot.{Slot, Flex, weight, flex_start, heap_start, heap_block_at, with_heap, slot_block}
+use Rattle.rh_defs.specs.Slot.{slot_release, slot_extend, slot_put}
 use Rattle.rh_defs.specs.Messages.{Parcel, action_of}
 use Rattle.rh_defs.specs.Desk.{Desk, Task, free_pages, with_task, with_slot}
 use Rattle.rh_defs.specs.OutgoingEvents.{Handled}
@@ -26,7 +28,8 @@ use Rattle.rh_safety.proofs.Protocol.{Luck}
 use Rattle.rh_safety.proofs.FlexMaps as flex
 use Rattle.rh_safety.proofs.Basics.{put_same}
 use Rattle.rh_safety.proofs.SeenTasks.{Same, unput, live_of, slot_is, slot_at, block_view, buffer_view, ins_view}
-use Rattle.rh_safety.proofs.SeenBlocks.{ok_is, the_block, extend_is, put_is, changed_from, changed_map, changed_still, put_over}
+use Rattle.rh_safety.proofs.SeenBlocks.{ok_is, the_block, extend_is, put_is, changed_from, changed_map, changed_still}
+use Rattle.rh_safety.proofs.SeenBlocks.{put_over}
 use Rattle.rh_safety.proofs.SeenSends.{with_step}
 use Rattle.rh_safety.proofs.SeenHeaps.{release_is, gone_map, gone_still}
 
@@ -34,7 +37,14 @@ use Rattle.rh_safety.proofs.SeenHeaps.{release_is, gone_map, gone_still}
 
 -- the letter of a message with this body
 abbrev pub letter_of : Parcel → Body → Letter
-letter_of m b = record { from = m.message.from; me = m.message.my_ref; answers = m.message.your_ref; kind = action_of b; address = address_in b; amount = amount_in b }
+letter_of m b = record {
+  from = m.message.from;
+  me = m.message.my_ref;
+  answers = m.message.your_ref;
+  kind = action_of b;
+  address = address_in b;
+  amount = amount_in b;
+}
 
 -- everything was granted
 pub record HasRoom (luck : Luck) : Type 0 where
@@ -44,7 +54,8 @@ pub record HasRoom (luck : Luck) : Type 0 where
   pub extend : luck.room_extend ≡ true
 
 -- what was done is what the reduced desk does with some luck, of which something is sure where nothing was refused
-pub record CameBy (lost : Bool) (a : Action) (after : Handled) (does : Luck → protocol.Desk) (sure : Luck → Type 0) : Type 0 where
+pub record CameBy (lost : Bool) (a : Action) (after : Handled) (does : Luck → protocol.Desk) (sure : Luck → Type 0) :
+    Type 0 where
   pub luck : Luck
   pub lost_is : luck.lost ≡ lost
   pub seen : view after.0 ≡ does luck
@@ -55,31 +66,55 @@ CameAs lost a after does = CameBy lost a after does HasRoom
 
 -- all is granted
 abbrev pub lucky : Bool → ℕ → ℕ → ℕ → Luck
-lucky lost anchor address spare = record { anchor = anchor; address = address; spare = spare; room_buffer = true; room_document = true; room_send = true; room_extend = true; lost = lost }
+lucky lost anchor address spare = record {
+  anchor = anchor;
+  address = address;
+  spare = spare;
+  room_buffer = true;
+  room_document = true;
+  room_send = true;
+  room_extend = true;
+  lost = lost;
+}
 
 -- nothing is granted, or nothing but the document's bytes
 abbrev pub unlucky : Bool → Bool → Luck
-unlucky lost extend = record { anchor = 0; address = 0; spare = 0; room_buffer = false; room_document = false; room_send = false; room_extend = extend; lost = lost }
+unlucky lost extend = record {
+  anchor = 0;
+  address = 0;
+  spare = 0;
+  room_buffer = false;
+  room_document = false;
+  room_send = false;
+  room_extend = extend;
+  lost = lost;
+}
 
 pub has_room : (lost : Bool) (anchor address spare : ℕ) → HasRoom (lucky lost anchor address spare)
 has_room lost anchor address spare = record { buffer = refl; document = refl; send = refl; extend = refl }
 
 -- ---- buffers
 
-behind_is : (x : Segment) (o : Option (Split Segment)) → option_map (λ (b : Split Segment). bytes_of b.here) (option_map (behind x) o) ≡ option_map (λ (b : Split Segment). bytes_of b.here) o
+behind_is : (x : Segment) (o : Option (Split Segment)) →
+    option_map (λ (b : Split Segment). bytes_of b.here) (option_map (behind x) o) ≡ option_map (λ (b : Split Segment).
+    bytes_of b.here) o
 behind_is x None = refl
 behind_is x (Some b) = refl
 
 -- the block at an address, by either word
-pub block_is : (a place : ℕ) (ss : List Segment) → option_map (λ (b : Split Segment). bytes_of b.here) (first_at size_of (is_block_at a) place ss) ≡ bytes_at a place ss
+pub block_is : (a place : ℕ) (ss : List Segment) →
+    option_map (λ (b : Split Segment). bytes_of b.here) (first_at size_of (is_block_at a) place ss) ≡ bytes_at a place ss
 block_is a place [] = refl
 block_is a place (Used bs ∷ ss) = elim (eqb_tells a (place + 4)) [
   | inl w ↦ rw w.0 refl
-  | inr w ↦ rw w.0 (behind_is (Used bs) (first_at size_of (is_block_at a) (place + (4 + length bs)) ss) ∙ block_is a (place + (4 + length bs)) ss)
+  | inr w ↦ rw w.0 (behind_is (Used bs) (first_at size_of (is_block_at a) (place + (4 + length bs)) ss) ∙
+      block_is a (place + (4 + length bs)) ss)
 ]
-block_is a place (Hole n ∷ ss) = behind_is (Hole n) (first_at size_of (is_block_at a) (place + n) ss) ∙ block_is a (place + n) ss
+block_is a place (Hole n ∷ ss) = behind_is (Hole n) (first_at size_of (is_block_at a) (place + n) ss) ∙
+    block_is a (place + n) ss
 
-pub buffer_is : (a : ℕ) (s : Slot) → option_map (λ (b : Split Segment). bytes_of b.here) (heap_block_at a s) ≡ buffers_of s a
+pub buffer_is : (a : ℕ) (s : Slot) →
+    option_map (λ (b : Split Segment). bytes_of b.here) (heap_block_at a s) ≡ buffers_of s a
 buffer_is a s = block_is (a - heap_start) first_place s.heap.segments
 
 -- a slot without a buffer, which may be gone already
@@ -87,11 +122,13 @@ record IsRid (a : ℕ) (s n : Slot) : Type 0 where
   pub buffers : Same (buffers_of n) (put (buffers_of s) a None)
   pub blocks : Same (blocks_of n) (blocks_of s)
 
-rid_by : (a : ℕ) (s : Slot) (g : Granted Slot) → slot_release a s ≡ g → (o : Option (Split Segment)) → heap_block_at a s ≡ o → IsRid a s (result_or s g)
+rid_by : (a : ℕ) (s : Slot) (g : Granted Slot) → slot_release a s ≡ g → (o : Option (Split Segment)) →
+    heap_block_at a s ≡ o → IsRid a s (result_or s g)
 unfolding slot_release found_or ◌>>=◌
 rid_by a s (Ok n) e o q = let w = release_is a s n e in record { buffers = gone_map w; blocks = gone_still w }
 rid_by a s (Err r) e None q = record {
-  buffers = λ k. unput (buffers_of s) a None (sym (buffer_is a s) ∙ ap (option_map (λ (b : Split Segment). bytes_of b.here)) q) k;
+  buffers = λ k. unput (buffers_of s) a None (sym (buffer_is a s) ∙ ap (option_map (λ (b : Split Segment).
+      bytes_of b.here)) q) k;
   blocks = λ k. refl;
 }
 rid_by a s (Err r) e (Some b) q = absurd (let z : Ok (with_heap (released b s.heap) s) ≡ Err r = rw q at e in (cc))
@@ -101,13 +138,17 @@ rid_of a s = rid_by a s (slot_release a s) refl (heap_block_at a s) refl
 
 -- a record that ends
 pub ended_view : (d : Desk) (h : ℕ) (f : Taking) (edit : List Incoming → List Incoming) → (view d).live h ≡ true →
-    view (ended h f edit d) ≡ record (view d) { heap = put (view d).heap h (put ((view d).heap h) f.buffer None); taking = put (view d).taking h (edit ((view d).taking h)) }
+    view (ended h f edit d) ≡ record (view d) {
+      heap = put (view d).heap h (put ((view d).heap h) f.buffer None);
+      taking = put (view d).taking h (edit ((view d).taking h));
+    }
 unfolding ended
 ended_view d h f edit live =
     let s = slot_at d h in
     let w = rid_of f.buffer s in
     let e : Desk = with_task h (λ t. record t { slot = without_buffer f.buffer t.slot }) d in
-    let v : view e ≡ protocol.with_heap (view d) h f.buffer None = buffer_view d h f.buffer (without_buffer f.buffer) None s live refl w.blocks w.buffers in
+    let v : view e ≡ protocol.with_heap (view d) h f.buffer None = buffer_view d h f.buffer (without_buffer f.buffer)
+    None s live refl w.blocks w.buffers in
     ins_view e h edit (ap (λ (y : protocol.Desk). y.live h) v ∙ live) ∙
     ap (λ (y : protocol.Desk). record y { taking = put y.taking h (edit (y.taking h)) }) v
 
@@ -125,33 +166,42 @@ pub record IsLonger (d : Desk) (t : Task) (k : ℕ) (bytes : List ℕ) (after : 
   pub live : (view after).live t.handle ≡ true
   pub post : after.post ≡ d.post
 
-longer_bytes : (document bytes : List ℕ) → written (fitted (length document + length bytes) document) (length document) bytes ≡ document ++ bytes
+longer_bytes : (document bytes : List ℕ) →
+    written (fitted (length document + length bytes) document) (length document) bytes ≡ document ++ bytes
 longer_bytes document bytes =
     let n = length bytes in
     let pad : List ℕ = zeros ((length document + n) - length document) in
     let all : take (length document + n) document ≡ document = take_all (length document + n) document (omega arith) in
     let len : length pad ≡ n = length-replicate ((length document + n) - length document) 0 ∙ (omega arith) in
-    let none : drop (length document + n) (document ++ pad) ≡ [] = drop_all (length document + n) (document ++ pad) (let e = length-append document pad in omega arith) in
+    let none : drop (length document + n) (document ++ pad) ≡ [] = drop_all (length document + n) (document ++ pad)
+    (let e = length-append document pad in omega arith) in
     ap (λ (z : List ℕ). written (z ++ pad) (length document) bytes) all ∙
     ap (λ (z : List ℕ). z ++ (bytes ++ drop (length document + n) (document ++ pad))) (take-append_seam document pad) ∙
     ap (λ (z : List ℕ). document ++ (bytes ++ z)) none ∙ ap (λ (z : List ℕ). document ++ z) (append-nil bytes)
 
 -- a block made longer, and then written
-longer_map : (k free : ℕ) (document bytes : List ℕ) (old mid new : Slot) → blocks_of old k ≡ Some document → slot_extend free k (length document + length bytes) old ≡ Ok mid →
-    slot_put k (length document) bytes mid ≡ Ok new → Same (blocks_of new) (put (blocks_of old) k (Some (document ++ bytes)))
+longer_map : (k free : ℕ) (document bytes : List ℕ) (old mid new : Slot) → blocks_of old k ≡ Some document →
+    slot_extend free k (length document + length bytes) old ≡ Ok mid →
+    slot_put k (length document) bytes mid ≡ Ok new → Same (blocks_of new) (put (blocks_of old) k
+    (Some (document ++ bytes)))
 longer_map k free document bytes old mid new there e p a =
     let x = extend_is free k (length document + length bytes) old mid e in
     let y = put_is k (length document) bytes mid new p in
     let one : Option.Some x.cut.here.bytes ≡ Some document = sym (changed_from x) ∙ there in
     let was : x.cut.here.bytes ≡ document = cc in
-    let two : Option.Some y.cut.here.bytes ≡ Some (fitted (length document + length bytes) x.cut.here.bytes) = sym (changed_from y) ∙ changed_map x k ∙ put_same (blocks_of old) k (Some (fitted (length document + length bytes) x.cut.here.bytes)) in
+    let two : Option.Some y.cut.here.bytes ≡ Some (fitted (length document + length bytes) x.cut.here.bytes) =
+    sym (changed_from y) ∙ changed_map x k ∙ put_same (blocks_of old) k (Some (fitted (length document + length bytes)
+    x.cut.here.bytes)) in
     let then_ : y.cut.here.bytes ≡ fitted (length document + length bytes) x.cut.here.bytes = cc in
     let now : written y.cut.here.bytes (length document) bytes ≡ document ++ bytes =
-    ap (λ (z : List ℕ). written z (length document) bytes) (then_ ∙ ap (fitted (length document + length bytes)) was) ∙ longer_bytes document bytes in
+    ap (λ (z : List ℕ). written z (length document) bytes) (then_ ∙ ap (fitted (length document + length bytes))
+    was) ∙ longer_bytes document bytes in
     changed_map y a ∙ ap (λ (z : List ℕ). put (blocks_of mid) k (Some z) a) now ∙
-    put_over (blocks_of mid) (blocks_of old) k (Some (fitted (length document + length bytes) x.cut.here.bytes)) (Some (document ++ bytes)) (changed_map x) a
+    put_over (blocks_of mid) (blocks_of old) k (Some (fitted (length document + length bytes) x.cut.here.bytes))
+    (Some (document ++ bytes)) (changed_map x) a
 
-pub longer_is : (d : Desk) (t : Task) (k : ℕ) (bytes : List ℕ) (after : Desk) → task_of t.handle d.tasks ≡ Some t → appended d t k bytes ≡ Ok after → IsLonger d t k bytes after
+pub longer_is : (d : Desk) (t : Task) (k : ℕ) (bytes : List ℕ) (after : Desk) → task_of t.handle d.tasks ≡ Some t →
+    appended d t k bytes ≡ Ok after → IsLonger d t k bytes after
 unfolding appended with_task
 longer_is d t k bytes after is q =
     with_step (slot_block k t.slot) _ after q (λ b e1 q1.
@@ -162,6 +212,13 @@ longer_is d t k bytes after is q =
     let v : view (with_slot t.handle new d) ≡ protocol.with_block (view d) t.handle k (Some (b.here.bytes ++ bytes)) =
     block_view d t.handle k (λ y. new) (Some (b.here.bytes ++ bytes)) t.slot live (slot_is d t.handle t is)
     (longer_map k (free_pages d) b.here.bytes bytes t.slot mid new there e2 e3)
-    (λ a. changed_still (put_is k (length b.here.bytes) bytes mid new e3) a ∙ changed_still (extend_is (free_pages d) k (length b.here.bytes + length bytes) t.slot mid e2) a) in
+    (λ a. changed_still (put_is k (length b.here.bytes) bytes mid new e3) a ∙ changed_still (extend_is (free_pages d)
+    k (length b.here.bytes + length bytes) t.slot mid e2) a) in
     subst (IsLonger d t k bytes) (ok_is (with_slot t.handle new d) after q3)
-    (record { document = b.here.bytes; there = there; seen = v; live = ap (λ (y : protocol.Desk). y.live t.handle) v ∙ live; post = refl }))))
+    (record {
+      document = b.here.bytes;
+      there = there;
+      seen = v;
+      live = ap (λ (y : protocol.Desk). y.live t.handle) v ∙ live;
+      post = refl;
+    }))))

@@ -8,7 +8,8 @@ use Rattle.rh_defs.specs.declared.transfer.Taking.{Taking}
 use Rattle.rh_defs.specs.declared.transfer.Outgoing.{Outgoing}
 use Rattle.rh_defs.specs.declared.transfer.Incoming.{Incoming}
 use Rattle.rh_defs.specs.Slot.{Slot}
-use Rattle.rh_defs.specs.Desk.{Desk, Task, edit_task, has_name, with_task, with_sending, with_taking, with_post, send_letter}
+use Rattle.rh_defs.specs.Desk.{Desk, Task, edit_task, has_name, with_task, with_sending, with_taking, with_post}
+use Rattle.rh_defs.specs.Desk.{send_letter}
 use Rattle.rh_defs.specs.IncomingEvents.{ended}
 use Rattle.rh_safety.proofs.Basics.{either}
 use Rattle.rh_safety.proofs.SeenSends.{letter_sent}
@@ -22,33 +23,40 @@ abbrev pub named_in : List ℕ → List (ℕ × List ℕ) → Option ℕ
 named_in name [] = None
 named_in name (k ∷ keys) = if bytes_eq k.1 name then Some k.0 else named_in name keys
 
-pub handle_named : (name : List ℕ) (tasks : List Task) → option_map (λ (t : Task). t.handle) (find (has_name name) tasks) ≡ named_in name (keys_of tasks)
+pub handle_named : (name : List ℕ) (tasks : List Task) →
+    option_map (λ (t : Task). t.handle) (find (has_name name) tasks) ≡ named_in name (keys_of tasks)
 handle_named name [] = refl
 handle_named name (t ∷ tasks) = go (bytes_eq t.name name) (handle_named name tasks)
   where
     go : (b : Bool) → option_map (λ (y : Task). y.handle) (find (has_name name) tasks) ≡ named_in name (keys_of tasks) →
-        option_map (λ (y : Task). y.handle) (if b then Some t else find (has_name name) tasks) ≡ (if b then Some t.handle else named_in name (keys_of tasks))
+        option_map (λ (y : Task). y.handle) (if b then Some t else find (has_name name) tasks) ≡ (if b then Some
+        t.handle else named_in name (keys_of tasks))
     go true q = refl
     go false q = q
 
-pub keys_edit : (h : ℕ) (f : Task → Task) → ((y : Task) → (f y).handle ≡ y.handle) → ((y : Task) → (f y).name ≡ y.name) → (ts : List Task) → keys_of (edit_task h f ts) ≡ keys_of ts
+pub keys_edit : (h : ℕ) (f : Task → Task) → ((y : Task) → (f y).handle ≡ y.handle) →
+    ((y : Task) → (f y).name ≡ y.name) → (ts : List Task) → keys_of (edit_task h f ts) ≡ keys_of ts
 keys_edit h f kh kn [] = refl
 keys_edit h f kh kn (t ∷ ts) =
     either (λ (z : List Task). keys_of z ≡ keys_of (t ∷ ts)) (t.handle == h) (f t ∷ ts) (t ∷ edit_task h f ts)
-    (λ e i. (kh t i, kn t i) ∷ keys_of ts) (λ e. ap (λ (z : List (ℕ × List ℕ)). (t.handle, t.name) ∷ z) (keys_edit h f kh kn ts))
+    (λ e i. (kh t i, kn t i) ∷ keys_of ts) (λ e. ap (λ (z : List (ℕ × List ℕ)). (t.handle, t.name) ∷ z) (keys_edit h f
+    kh kn ts))
 
 -- the same keys
 abbrev pub SameKeys : Desk → Desk → Type 0
 SameKeys d e = keys_of e.tasks ≡ keys_of d.tasks
 
-pub task_keys : (h : ℕ) (f : Task → Task) (d : Desk) → ((y : Task) → (f y).handle ≡ y.handle) → ((y : Task) → (f y).name ≡ y.name) → SameKeys d (with_task h f d)
+pub task_keys : (h : ℕ) (f : Task → Task) (d : Desk) → ((y : Task) → (f y).handle ≡ y.handle) →
+    ((y : Task) → (f y).name ≡ y.name) → SameKeys d (with_task h f d)
 unfolding with_task
 task_keys h f d kh kn = keys_edit h f kh kn d.tasks
 
 pub sent_keys : (d e : Desk) (l : Letter) → send_letter l d ≡ Ok e → SameKeys d e
 sent_keys d e l q =
     let w = letter_sent l d e q in
-    subst (λ (y : Desk). SameKeys d y) w.same (task_keys l.from (λ t. record t { last_sent = Some (l, d.post.next_ref) }) (with_post w.after d) (λ y. refl) (λ y. refl))
+    subst (λ (y : Desk). SameKeys d y) w.same (task_keys l.from (λ t. record t {
+      last_sent = Some (l, d.post.next_ref);
+    }) (with_post w.after d) (λ y. refl) (λ y. refl))
 
 pub slot_keys : (h : ℕ) (g : Slot → Slot) (d : Desk) → SameKeys d (with_task h (λ t. record t { slot = g t.slot }) d)
 slot_keys h g d = task_keys h (λ t. record t { slot = g t.slot }) d (λ y. refl) (λ y. refl)

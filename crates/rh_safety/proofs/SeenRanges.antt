@@ -1,10 +1,12 @@
 -- No poll answers that a range was bad.
-use Rattle.std.proofs.Common.{◌≡◌, ◌≢◌, ℕ, ◌+◌, ◌≤◌, Bool, true, false, not, ◌&&◌, ◌||◌, List, length, Option, Some, None, refl, sym, ap, ◌∙◌, subst, arith}
+use Rattle.std.proofs.Common.{◌≡◌, ◌≢◌, ℕ, ◌+◌, ◌≤◌, Bool, true, false, not, ◌&&◌, ◌||◌, List, length, Option, Some}
+use Rattle.std.proofs.Common.{None, refl, sym, ap, ◌∙◌, subst, arith}
 use Rattle.std.specs.Prelude.{nat_lt, nat_le, ◌==◌, ◌^◌, Ok, Err, is_some}
 use Rattle.std.specs.Option.{option_map}
 use Rattle.std.proofs.lemmas.Bool.Decides.{leb_tells}
 use Rattle.rh_defs.specs.declared.refusal.Refusal.{Refusal}
-use Rattle.rh_defs.specs.declared.refusal.Refusal.TheVariants.{NoBlock, AnchorInUse, BadSize, BadRange, NoTask, NoRefs, QueueFull, NoRoom, Busy}
+use Rattle.rh_defs.specs.declared.refusal.Refusal.TheVariants.{NoBlock, AnchorInUse, BadSize, BadRange, NoTask}
+use Rattle.rh_defs.specs.declared.refusal.Refusal.TheVariants.{NoRefs, QueueFull, NoRoom, Busy}
 use Rattle.rh_defs.specs.declared.message.Body.{Body}
 use Rattle.rh_defs.specs.declared.message.Body.TheVariants as body
 use Rattle.rh_defs.specs.declared.message.EventCode.{EventCode}
@@ -24,13 +26,16 @@ use Rattle.rh_defs.specs.Heap.{Heap, Segment, need, fitted}
 use Rattle.rh_defs.specs.Module.{module_claim}
 use Rattle.rh_defs.specs.Messages.{Parcel}
 use Rattle.rh_defs.specs.Post.{Post, has_seat, most_messages, live_count, sendable, post_send, post_poll}
-use Rattle.rh_defs.specs.Slot.{Slot, flex_address, heap_block_at, slot_block, slot_extend, slot_put, lacks_room, length_with, holds, slot_claim, slot_alloc}
+use Rattle.rh_defs.specs.Slot.{Slot, flex_address, heap_block_at, slot_block, slot_extend, slot_put, lacks_room}
+use Rattle.rh_defs.specs.Slot.{length_with, holds, slot_claim, slot_alloc}
 use Rattle.rh_defs.specs.Letters.{fetch_letter, ack_letter, load_ack_letter, transmit_letter, load_letter}
 use Rattle.rh_defs.specs.Receiver as receiver
 use Rattle.rh_defs.specs.Places.{first_bytes, free_anchor, overlap}
 use Rattle.rh_defs.specs.Desk.{Desk, Task, Scrap, free_pages, named, task_at, with_slot, with_delivered, send_letter}
-use Rattle.rh_defs.specs.OutgoingEvents.{Handled, ignored, portion, is_out_of_reach, transmit, answer_fetch, fail_sending, scrap_shortage, wider, save_scrap, answer_ack, finish_load}
-use Rattle.rh_defs.specs.IncomingEvents.{is_deaf, accept, take_save, appended, fetch_more, took, take_bytes, ask, fetch_back, ack_back, loaded, load_file, take_file}
+use Rattle.rh_defs.specs.OutgoingEvents.{Handled, ignored, portion, is_out_of_reach, transmit, answer_fetch}
+use Rattle.rh_defs.specs.OutgoingEvents.{fail_sending, scrap_shortage, wider, save_scrap, answer_ack, finish_load}
+use Rattle.rh_defs.specs.IncomingEvents.{is_deaf, accept, take_save, appended, fetch_more, took, take_bytes, ask}
+use Rattle.rh_defs.specs.IncomingEvents.{fetch_back, ack_back, loaded, load_file, take_file}
 use Rattle.rh_defs.specs.Transfer as transfer
 use Rattle.rh_defs.specs.Transfer.{answers_none}
 use Rattle.rh_defs.specs.Commands.{Answer}
@@ -74,12 +79,14 @@ is_bad_reply r = names_range (failed_by r)
 abbrev NoBad : {A : Type 0} → Granted A → Type 0
 NoBad g = (r : Refusal) → g ≡ Err r → r ≢ BadRange
 
-bind_ok : {A B : Type 0} (g : Granted A) (next : A → Granted B) → NoBad g → ((x : A) → g ≡ Ok x → NoBad (next x)) → NoBad (g >>= next)
+bind_ok : {A B : Type 0} (g : Granted A) (next : A → Granted B) → NoBad g → ((x : A) → g ≡ Ok x → NoBad (next x)) →
+    NoBad (g >>= next)
 unfolding ◌>>=◌
 bind_ok (Ok x) next a b r q e = b x refl r q e
 bind_ok (Err s) next a b r q e = let z : Err s ≡ Err r = q in a s refl (let y : s ≡ r = cc in y ∙ e)
 
-then_ok : {A B : Type 0} (g : Granted A) (next : Granted B) → NoBad g → ((x : A) → g ≡ Ok x → NoBad next) → NoBad (g >> next)
+then_ok : {A B : Type 0} (g : Granted A) (next : Granted B) → NoBad g → ((x : A) → g ≡ Ok x → NoBad next) →
+    NoBad (g >> next)
 unfolding ◌>>=◌ ◌>>◌
 then_ok (Ok x) next a b r q e = b x refl r q e
 then_ok (Err s) next a b r q e = let z : Err s ≡ Err r = q in a s refl (let y : s ≡ r = cc in y ∙ e)
@@ -110,17 +117,20 @@ claim_ok : (free n : ℕ) (h : Heap) → NoBad (module_claim free n h)
 unfolding module_claim
 claim_ok free n h =
     bind_ok (refuse_if (n == 0) BadSize) _ (refuse_ok (n == 0) BadSize (λ z. cc)) (λ u e.
-    bind_ok (refuse_if (lacks_pages free (need n h)) NoRoom) _ (refuse_ok (lacks_pages free (need n h)) NoRoom (λ z. cc)) (λ u e. done_ok _))
+    bind_ok (refuse_if (lacks_pages free (need n h)) NoRoom) _ (refuse_ok (lacks_pages free (need n h)) NoRoom (λ z.
+    cc)) (λ u e. done_ok _))
 
 sendable_ok : (l : Letter) (p : Post) → NoBad (sendable l p)
 unfolding sendable
 sendable_ok l p =
     then_ok (refuse_if (not (has_seat l.to p.seats)) NoTask) _ (refuse_ok _ NoTask (λ z. cc)) (λ u e.
-    then_ok (refuse_if (nat_le (2 ^ 32) p.next_ref) NoRefs) _ (refuse_ok _ NoRefs (λ z. cc)) (λ u e. refuse_ok (nat_le most_messages (live_count p)) QueueFull (λ z. cc)))
+    then_ok (refuse_if (nat_le (2 ^ 32) p.next_ref) NoRefs) _ (refuse_ok _ NoRefs (λ z. cc)) (λ u e.
+    refuse_ok (nat_le most_messages (live_count p)) QueueFull (λ z. cc)))
 
 post_ok : (free : ℕ) (l : Letter) (p : Post) → NoBad (post_send free l p)
 unfolding post_send
-post_ok free l p = then_ok (sendable l p) _ (sendable_ok l p) (λ u e. bind_ok (module_claim free _ p.heap) _ (claim_ok free _ p.heap) (λ x e. done_ok _))
+post_ok free l p = then_ok (sendable l p) _ (sendable_ok l p) (λ u e. bind_ok (module_claim free _ p.heap) _
+    (claim_ok free _ p.heap) (λ x e. done_ok _))
 
 send_ok : (l : Letter) (d : Desk) → NoBad (send_letter l d)
 unfolding send_letter
@@ -132,23 +142,32 @@ block_ok k s = found_ok _ NoBlock (λ z. cc)
 
 extend_ok : (free k n : ℕ) (s : Slot) → NoBad (slot_extend free k n s)
 unfolding slot_extend
-extend_ok free k n s = bind_ok (slot_block k s) _ (block_ok k s) (λ b e. bind_ok (refuse_if (lacks_room free (length_with b n s) s) NoRoom) _ (refuse_ok _ NoRoom (λ z. cc)) (λ u e. done_ok _))
+extend_ok free k n s = bind_ok (slot_block k s) _ (block_ok k s) (λ b e.
+    bind_ok (refuse_if (lacks_room free (length_with b n s) s) NoRoom) _ (refuse_ok _ NoRoom (λ z. cc)) (λ u e.
+    done_ok _))
 
 -- bytes that fit are put
-put_ok : (k offset : ℕ) (bytes document : List ℕ) (s : Slot) → blocks_of s k ≡ Some document → offset + length bytes ≤ length document → NoBad (slot_put k offset bytes s)
+put_ok : (k offset : ℕ) (bytes document : List ℕ) (s : Slot) → blocks_of s k ≡ Some document →
+    offset + length bytes ≤ length document → NoBad (slot_put k offset bytes s)
 unfolding slot_put
 put_ok k offset bytes document s there fits =
     bind_ok (slot_block k s) _ (block_ok k s) (λ b e.
     let one : Some document ≡ Some b.here.bytes = sym there ∙ block_there k s b e in
     let same : document ≡ b.here.bytes = cc in
-    let less : nat_lt (length b.here.bytes) (offset + length bytes) ≡ false = grind (arith, leb_tells, ap (λ (v : List ℕ). length v) same) in
-    bind_ok (refuse_if (nat_lt (length b.here.bytes) (offset + length bytes)) BadRange) _ (unless_ok _ BadRange less) (λ u e. done_ok _))
+    let less : nat_lt (length b.here.bytes) (offset + length bytes) ≡ false = grind (
+      arith,
+      leb_tells,
+      ap (λ (v : List ℕ). length v) same,
+    ) in
+    bind_ok (refuse_if (nat_lt (length b.here.bytes) (offset + length bytes)) BadRange) _ (unless_ok _ BadRange less)
+    (λ u e. done_ok _))
 
 appended_ok : (d : Desk) (t : Task) (k : ℕ) (bytes : List ℕ) → NoBad (appended d t k bytes)
 unfolding appended
 appended_ok d t k bytes =
     bind_ok (slot_block k t.slot) _ (block_ok k t.slot) (λ b e.
-    bind_ok (slot_extend (free_pages d) k (length b.here.bytes + length bytes) t.slot) _ (extend_ok (free_pages d) k _ t.slot) (λ longer e1.
+    bind_ok (slot_extend (free_pages d) k (length b.here.bytes + length bytes) t.slot) _ (extend_ok (free_pages d) k _
+    t.slot) (λ longer e1.
     bind_ok (slot_put k (length b.here.bytes) bytes longer) _
     (let w = extend_is (free_pages d) k (length b.here.bytes + length bytes) t.slot longer e1 in
     let new : List ℕ = fitted (length b.here.bytes + length bytes) w.cut.here.bytes in
@@ -168,27 +187,32 @@ module _ (d : Desk) (t : Task) (m : Parcel) where
   save_fine =
       either Fine (receiver.on_save (is_deaf t.manner) t.taking) _ (ignored d)
       (λ e. by_grant Fine _ _ (λ x q.
-      with_step (found_or (free_anchor t.slot) AnchorInUse) _ x q (λ k e1 q1. with_step (slot_claim (free_pages d) t.buffer t.slot) _ x q1 (λ c e2 q2.
-      with_step (slot_alloc (free_pages (with_slot t.handle c.0 d)) k 0 c.0) _ x q2 (λ p e3 q3. with_step (send_letter (fetch_letter t.handle m.message.from m.message.my_ref c.1 t.buffer) (with_slot t.handle p.0 d)) _ x q3 (λ sent e4 q4.
-      subst Fine (ok_is _ x q4) refl))))) (λ r e. refl))
-      (λ e. refl)
+      with_step (found_or (free_anchor t.slot) AnchorInUse) _ x q (λ k e1 q1. with_step (slot_claim (free_pages d)
+      t.buffer t.slot) _ x q1 (λ c e2 q2.
+      with_step (slot_alloc (free_pages (with_slot t.handle c.0 d)) k 0 c.0) _ x q2 (λ p e3 q3.
+      with_step (send_letter (fetch_letter t.handle m.message.from m.message.my_ref c.1 t.buffer)
+      (with_slot t.handle p.0 d)) _ x q3 (λ sent e4 q4.
+      subst Fine (ok_is _ x q4) refl))))) (λ r e. refl)) (λ e. refl)
 
   took_fine : (f : Taking) (n : ℕ) (after : Desk) → Fine (took after t m f n)
   unfolding took fetch_more
   took_fine f n after =
-      either Fine (nat_lt n t.buffer) _ _
-      (λ e. refl)
+      either Fine (nat_lt n t.buffer) _ _ (λ e. refl)
       (λ e. by_grant Fine _ _
-      (λ x q. with_step (send_letter (fetch_letter t.handle f.sender m.message.my_ref f.buffer t.buffer) after) _ x q (λ sent e1 q1. subst Fine (ok_is _ x q1) refl))
-      (λ r q. not_range r (bind_ok (send_letter (fetch_letter t.handle f.sender m.message.my_ref f.buffer t.buffer) after) _ (send_ok _ after) (λ sent e1. done_ok _) r q)))
+      (λ x q. with_step (send_letter (fetch_letter t.handle f.sender m.message.my_ref f.buffer t.buffer) after) _ x q
+      (λ sent e1 q1. subst Fine (ok_is _ x q1) refl))
+      (λ r q. not_range r (bind_ok (send_letter (fetch_letter t.handle f.sender m.message.my_ref f.buffer t.buffer)
+      after) _ (send_ok _ after) (λ sent e1. done_ok _) r q)))
 
   bytes_fine : (n : ℕ) (v : Option Incoming) → Fine (take_bytes d t m n v)
   unfolding take_bytes
   bytes_fine n None = refl
   bytes_fine n (Some (incoming.Fetching f)) =
       by_grant Fine _ _
-      (λ x q. with_step (appended d t f.anchor (first_bytes n (heap_block_at f.buffer t.slot))) _ x q (λ after e q1. subst Fine (ok_is _ x q1) (took_fine f n after)))
-      (λ r q. not_range r (bind_ok (appended d t f.anchor (first_bytes n (heap_block_at f.buffer t.slot))) _ (appended_ok d t f.anchor _) (λ after e. done_ok _) r q))
+      (λ x q. with_step (appended d t f.anchor (first_bytes n (heap_block_at f.buffer t.slot))) _ x q (λ after e q1.
+      subst Fine (ok_is _ x q1) (took_fine f n after)))
+      (λ r q. not_range r (bind_ok (appended d t f.anchor (first_bytes n (heap_block_at f.buffer t.slot))) _
+      (appended_ok d t f.anchor _) (λ after e. done_ok _) r q))
   bytes_fine n (Some (incoming.Draining f)) = refl
   bytes_fine n (Some (incoming.Asking q)) = refl
   bytes_fine n (Some (incoming.Done i a k)) = refl
@@ -200,9 +224,10 @@ module _ (d : Desk) (t : Task) (m : Parcel) where
   back_fine (Some (incoming.Fetching f)) =
       either Fine (f.count == 0) _ _
       (λ e. by_grant Fine _ _
-      (λ x q. with_step (send_letter (ack_letter t.handle f.sender f.id) d) _ x q (λ sent e1 q1. subst Fine (ok_is _ x q1) refl))
-      (λ r q. not_range r (bind_ok (send_letter (ack_letter t.handle f.sender f.id) d) _ (send_ok _ d) (λ sent e1. done_ok _) r q)))
-      (λ e. refl)
+      (λ x q. with_step (send_letter (ack_letter t.handle f.sender f.id) d) _ x q (λ sent e1 q1.
+      subst Fine (ok_is _ x q1) refl))
+      (λ r q. not_range r (bind_ok (send_letter (ack_letter t.handle f.sender f.id) d) _ (send_ok _ d) (λ sent e1.
+      done_ok _) r q))) (λ e. refl)
   back_fine (Some (incoming.Draining f)) = refl
   back_fine (Some (incoming.Asking q)) = refl
   back_fine (Some (incoming.Done i a k)) = refl
@@ -217,8 +242,10 @@ module _ (d : Desk) (t : Task) (m : Parcel) where
   unfolding loaded
   loaded_fine q n after =
       by_grant Fine _ _
-      (λ x z. with_step (send_letter (load_ack_letter t.handle m n) after) _ x z (λ sent e z1. subst Fine (ok_is _ x z1) refl))
-      (λ r z. not_range r (bind_ok (send_letter (load_ack_letter t.handle m n) after) _ (send_ok _ after) (λ sent e. done_ok _) r z))
+      (λ x z. with_step (send_letter (load_ack_letter t.handle m n) after) _ x z (λ sent e z1.
+      subst Fine (ok_is _ x z1) refl))
+      (λ r z. not_range r (bind_ok (send_letter (load_ack_letter t.handle m n) after) _ (send_ok _ after) (λ sent e.
+      done_ok _) r z))
 
   file_fine : (q : Asked) (o : Option Scrap) → Fine (load_file d t m q o)
   unfolding load_file
@@ -226,9 +253,10 @@ module _ (d : Desk) (t : Task) (m : Parcel) where
   file_fine q (Some file) =
       either Fine (file.load == m.message.my_ref) _ _
       (λ e. by_grant Fine _ _
-      (λ x z. with_step (appended d t q.anchor file.bytes) _ x z (λ after e1 z1. subst Fine (ok_is _ x z1) (loaded_fine q _ (record after { scrap = None }))))
-      (λ r z. not_range r (bind_ok (appended d t q.anchor file.bytes) _ (appended_ok d t q.anchor file.bytes) (λ after e. done_ok _) r z)))
-      (λ e. refl)
+      (λ x z. with_step (appended d t q.anchor file.bytes) _ x z (λ after e1 z1. subst Fine (ok_is _ x z1)
+      (loaded_fine q _ (record after { scrap = None }))))
+      (λ r z. not_range r (bind_ok (appended d t q.anchor file.bytes) _ (appended_ok d t q.anchor file.bytes)
+      (λ after e. done_ok _) r z))) (λ e. refl)
 
   load_fine : (v : Option Asked) → Fine (take_file d t m v)
   unfolding take_file
@@ -236,23 +264,31 @@ module _ (d : Desk) (t : Task) (m : Parcel) where
   load_fine (Some q) = file_fine q d.scrap
 
   fetch_fine : (buffer amount : ℕ) (v : Option Sending) →
-      ((x : Sending) → v ≡ Some x → (view d).live x.recipient ≡ true → range_is_bad ((view d).heap x.recipient buffer) amount ≡ false) → Fine (answer_fetch d t m buffer amount v)
+      ((x : Sending) → v ≡ Some x → (view d).live x.recipient ≡ true → range_is_bad ((view d).heap x.recipient buffer)
+      amount ≡ false) → Fine (answer_fetch d t m buffer amount v)
   unfolding answer_fetch transmit
   fetch_fine buffer amount None reach = refl
   fetch_fine buffer amount (Some x) reach =
       by_grant Fine _ _
-      (λ y q. with_step (slot_block x.anchor t.slot) _ y q (λ b e1 q1. with_step (found_or (task_at x.recipient d) NoTask) _ y q1 (λ r e2 q2.
-      with_step (send_letter (transmit_letter t.handle m (nat_lt (portion x amount b) amount) buffer (portion x amount b)) d) _ y (from_test _ _ y q2) (λ sent e4 q4. subst Fine (ok_is _ y q4) refl))))
+      (λ y q. with_step (slot_block x.anchor t.slot) _ y q (λ b e1 q1. with_step (found_or (task_at x.recipient d)
+      NoTask) _ y q1 (λ r e2 q2.
+      with_step (send_letter (transmit_letter t.handle m (nat_lt (portion x amount b) amount) buffer (portion x amount
+      b)) d) _ y (from_test _ _ y q2) (λ sent e4 q4. subst Fine (ok_is _ y q4) refl))))
       (λ s q. not_range s (bind_ok (slot_block x.anchor t.slot) _ (block_ok x.anchor t.slot) (λ b e1.
       bind_ok (found_or (task_at x.recipient d) NoTask) _ (found_ok _ NoTask (λ z. cc)) (λ r e2.
       let to : task_of x.recipient d.tasks ≡ Some r = is_found (task_at x.recipient d) NoTask r e2 in
-      let range = range_of amount ((view d).heap x.recipient buffer) (reach x refl (field_is (λ k. true) false x.recipient d.tasks r to)) in
-      let w = buffer_found buffer amount r.slot range.bytes (ap (λ (g : ℕ → Option (List ℕ)). g buffer) (sym (field_is (λ y. buffers_of y.slot) (λ a. None) x.recipient d.tasks r to)) ∙ range.there) range.fits (heap_block_at buffer r.slot) refl in
+      let range = range_of amount ((view d).heap x.recipient buffer) (reach x refl (field_is (λ k. true) false
+      x.recipient d.tasks r to)) in
+      let w = buffer_found buffer amount r.slot range.bytes (ap (λ (g : ℕ → Option (List ℕ)). g buffer)
+      (sym (field_is (λ y. buffers_of y.slot) (λ a. None) x.recipient d.tasks r to)) ∙ range.there) range.fits
+      (heap_block_at buffer r.slot) refl in
       let place : ℕ = flex_address t.slot b.before + x.count in
       then_ok (refuse_if (is_out_of_reach t r buffer amount place (portion x amount b)) BadRange) _
       (unless_ok (is_out_of_reach t r buffer amount place (portion x amount b)) BadRange
-      (ap (λ (o : Option (Split Segment)). not (is_some o) && (not (holds buffer amount r.slot) || (t.handle == r.handle && overlap buffer amount place (portion x amount b)))) w.found))
-      (λ u e3. bind_ok (send_letter (transmit_letter t.handle m (nat_lt (portion x amount b) amount) buffer (portion x amount b)) d) _ (send_ok _ d) (λ sent e4. done_ok _)))) s q))
+      (ap (λ (o : Option (Split Segment)). not (is_some o) && (not (holds buffer amount r.slot) || (t.handle ==
+      r.handle && overlap buffer amount place (portion x amount b)))) w.found))
+      (λ u e3. bind_ok (send_letter (transmit_letter t.handle m (nat_lt (portion x amount b) amount) buffer
+      (portion x amount b)) d) _ (send_ok _ d) (λ sent e4. done_ok _)))) s q))
 
   fail_fine : (v : Option Sending) → Fine (fail_sending d t v)
   unfolding fail_sending
@@ -265,18 +301,22 @@ module _ (d : Desk) (t : Task) (m : Parcel) where
   ack_fine (Some x) =
       by_grant Fine _ _
       (λ y q. with_step (slot_block x.anchor t.slot) _ y q (λ s e1 q1.
-      with_step (send_letter (load_letter t.handle m _) (wider (scrap_shortage _ d) d)) _ y (from_test _ _ y (from_test _ _ y (from_test _ _ y q1))) (λ sent e2 q2. subst Fine (ok_is _ y q2) refl)))
+      with_step (send_letter (load_letter t.handle m _) (wider (scrap_shortage _ d) d)) _ y (from_test _ _ y
+      (from_test _ _ y (from_test _ _ y q1))) (λ sent e2 q2. subst Fine (ok_is _ y q2) refl)))
       (λ r q. not_range r (bind_ok (slot_block x.anchor t.slot) _ (block_ok x.anchor t.slot) (λ s e1.
       then_ok (refuse_if (is_some d.scrap) Busy) _ (refuse_ok _ Busy (λ z. cc)) (λ u e.
       then_ok (sendable (load_letter t.handle m _) d.post) _ (sendable_ok _ d.post) (λ u e.
-      then_ok (refuse_if (nat_lt (free_pages d) (scrap_shortage (length s.here.bytes) d)) NoRoom) _ (refuse_ok _ NoRoom (λ z. cc)) (λ u e.
-      bind_ok (send_letter (load_letter t.handle m _) (wider (scrap_shortage _ d) d)) _ (send_ok _ _) (λ sent e2. done_ok _))))) r q))
+      then_ok (refuse_if (nat_lt (free_pages d) (scrap_shortage (length s.here.bytes) d)) NoRoom) _
+      (refuse_ok _ NoRoom (λ z. cc)) (λ u e.
+      bind_ok (send_letter (load_letter t.handle m _) (wider (scrap_shortage _ d) d)) _ (send_ok _ _) (λ sent e2.
+      done_ok _))))) r q))
 
   finish_fine : (v : Option Sending) → Fine (finish_load d t v)
   unfolding finish_load
   finish_fine None = refl
   finish_fine (Some x) =
-      by_grant Fine _ _ (λ y q. with_step (slot_block x.anchor t.slot) _ y q (λ s e1 q1. subst Fine (ok_is _ y q1) refl))
+      by_grant Fine _ _ (λ y q. with_step (slot_block x.anchor t.slot) _ y q (λ s e1 q1. subst Fine (ok_is _ y q1)
+      refl))
       (λ r q. not_range r (bind_ok (slot_block x.anchor t.slot) _ (block_ok x.anchor t.slot) (λ s e. done_ok _) r q))
 
   came_fine : (b : Body) → Reaches d t m b → Fine (transfer.came d t m b)
@@ -285,7 +325,8 @@ module _ (d : Desk) (t : Task) (m : Parcel) where
   came_fine (body.DataSaveAck file) r = ack_fine _
   came_fine (body.DataLoad file) r = load_fine _
   came_fine (body.DataLoadAck file) r = finish_fine _
-  came_fine (body.RamFetch buffer amount) r = either Fine (answers_none t.manner) (ignored d) _ (λ e. refl) (λ e. fetch_fine buffer amount _ (r e))
+  came_fine (body.RamFetch buffer amount) r = either Fine (answers_none t.manner) (ignored d) _ (λ e. refl) (λ e.
+      fetch_fine buffer amount _ (r e))
   came_fine (body.RamTransmit buffer n) r = bytes_fine n _
 
   came_back_fine : (b : Body) → Fine (transfer.came_back d t m b)
@@ -305,28 +346,37 @@ module _ (d : Desk) (t : Task) (m : Parcel) where
 
 -- ---- a poll
 
-module _ {o : Offered} {e : ℕ → ℕ → Bool} (d : Desk) (t : Task) (f : Fits d) (is : task_of t.handle d.tasks ≡ Some t) (g : Good o e (view d)) where
-  taken_fine : (p : Post × Option Parcel) → IsTaken d t.handle p → (v : Option Parcel) → p.1 ≡ v → is_bad_reply (poll_taken (with_delivered p.0 d) t v).1 ≡ false
+module _ {o : Offered} {e : ℕ → ℕ → Bool} (d : Desk) (t : Task) (f : Fits d) (is : task_of t.handle d.tasks ≡ Some t)
+    (g : Good o e (view d)) where
+  taken_fine : (p : Post × Option Parcel) → IsTaken d t.handle p → (v : Option Parcel) → p.1 ≡ v →
+      is_bad_reply (poll_taken (with_delivered p.0 d) t v).1 ≡ false
   unfolding poll_taken with_delivered
   taken_fine p w None q = refl
   taken_fine p w (Some m) q =
       let back = protocol.returned (view d) t.handle ((view d).held t.handle) in
-      let first : post.first_for t.handle (protocol.lost_if w.lost back).queue ≡ Some (seen_parcel m) = w.first ∙ ap (option_map seen_parcel) q in
-      let has : Has (seen_parcel m) back.queue = (first_has t.handle back.queue (seen_parcel m) (ap (post.first_for t.handle) (sym (lost_queue w.lost back)) ∙ first)).0 in
+      let first : post.first_for t.handle (protocol.lost_if w.lost back).queue ≡ Some (seen_parcel m) = w.first ∙
+      ap (option_map seen_parcel) q in
+      let has : Has (seen_parcel m) back.queue = (first_has t.handle back.queue (seen_parcel m)
+      (ap (post.first_for t.handle) (sym (lost_queue w.lost back)) ∙ first)).0 in
       handled_fine (with_delivered p.0 d) t m m.code (reaches_by d t f is g m has m.message.body refl)
 
-  poll_fine : is_bad_reply (poll_taken (with_delivered (post_poll t.handle d.post).0 d) t (post_poll t.handle d.post).1).1 ≡ false
-  poll_fine = let p = post_poll t.handle d.post in taken_fine p (poll_taken_is d t.handle f (live_of d t.handle t is)) p.1 refl
+  poll_fine : is_bad_reply (poll_taken (with_delivered (post_poll t.handle d.post).0 d) t (post_poll t.handle
+      d.post).1).1 ≡ false
+  poll_fine = let p = post_poll t.handle d.post in taken_fine p (poll_taken_is d t.handle f (live_of d t.handle t is))
+      p.1 refl
 
-never_bad : {o : Offered} {e : ℕ → ℕ → Bool} (d : Desk) (name : List ℕ) → Fits d → Good o e (view d) → is_bad_reply (step d (command.Poll name)).1 ≡ false
+never_bad : {o : Offered} {e : ℕ → ℕ → Bool} (d : Desk) (name : List ℕ) → Fits d → Good o e (view d) →
+    is_bad_reply (step d (command.Poll name)).1 ≡ false
 unfolding poll
 never_bad d name f g =
-    bind (λ (a : Answer). is_bad_reply a.1 ≡ false) (named name d) _ (instead_of d) (λ r. refl) (λ t q. done (λ (a : Answer). is_bad_reply a.1 ≡ false) _ (instead_of d) (
+    bind (λ (a : Answer). is_bad_reply a.1 ≡ false) (named name d) _ (instead_of d) (λ r. refl) (λ t q.
+    done (λ (a : Answer). is_bad_reply a.1 ≡ false) _ (instead_of d) (
     poll_fine d t f (the_task d name t f q) g))
 
 not_bad : (v : Option Refusal) → names_range v ≡ false → v ≢ Some BadRange
 not_bad None q e = cc
-not_bad (Some r) q e = let z : r ≡ BadRange = cc in let y : is_range BadRange ≡ false = subst (λ x. is_range x ≡ false) z q in cc
+not_bad (Some r) q e = let z : r ≡ BadRange = cc in let y : is_range BadRange ≡ false =
+    subst (λ x. is_range x ≡ false) z q in cc
 
 pub good_ranges : {o : Offered} {e : ℕ → ℕ → Bool} (d : Desk) → Fits d → Good o e (view d) → HasGoodRanges d
 good_ranges d f g name = not_bad _ (never_bad d name f g)

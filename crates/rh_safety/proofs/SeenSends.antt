@@ -1,5 +1,6 @@
 -- A letter sent, as what is seen of the desk.
-use Rattle.std.proofs.Common.{◌≡◌, ℕ, ◌+◌, Bool, true, false, not, List, [], ◌∷◌, ◌++◌, Option, Some, None, refl, sym, ap, ◌∙◌, subst, inl, inr, arith}
+use Rattle.std.proofs.Common.{◌≡◌, ℕ, ◌+◌, Bool, true, false, not, List, [], ◌∷◌, ◌++◌, Option, Some, None, refl, sym}
+use Rattle.std.proofs.Common.{ap, ◌∙◌, subst, inl, inr, arith}
 use Rattle.std.specs.Prelude.{if◌then◌else◌, nat_eq, map, Ok, Err}
 use Rattle.std.specs.Option.{option_map}
 use Rattle.std.proofs.lemmas.Bool.Decides.{eqb_tells}
@@ -9,7 +10,8 @@ use Rattle.rh_defs.specs.declared.message.Letter.{Letter}
 use Rattle.rh_defs.specs.Chain.{Granted, ◌>>=◌, ◌>>◌, or_else, refuse_if}
 use Rattle.rh_defs.specs.Module.{module_claim}
 use Rattle.rh_defs.specs.Messages.{Parcel, parcel_size}
-use Rattle.rh_defs.specs.Post.{Seat, Post, has_seat, held_by, with_held, answers_held, message_of, parcel_of, put_down, queued_in, posted, sendable, post_send}
+use Rattle.rh_defs.specs.Post.{Seat, Post, has_seat, held_by, with_held, answers_held, message_of, parcel_of}
+use Rattle.rh_defs.specs.Post.{put_down, queued_in, posted, sendable, post_send}
 use Rattle.rh_defs.specs.Slot.{new_slot}
 use Rattle.rh_defs.specs.Desk.{Desk, Task, with_task, with_post, free_pages, send_letter}
 use Rattle.rh_defs.specs.IncomingEvents.{is_deaf}
@@ -25,13 +27,15 @@ map_append f [] ys = refl
 map_append f (x ∷ xs) ys = ap (λ z. f x ∷ z) (map_append f xs ys)
 
 -- granted, or refused
-pub by_grant : {A : Type 0} (P : A → Type 0) (g : Granted A) (instead : Refusal → A) → ((x : A) → g ≡ Ok x → P x) → ((r : Refusal) → g ≡ Err r → P (instead r)) → P (or_else g instead)
+pub by_grant : {A : Type 0} (P : A → Type 0) (g : Granted A) (instead : Refusal → A) → ((x : A) → g ≡ Ok x → P x) →
+    ((r : Refusal) → g ≡ Err r → P (instead r)) → P (or_else g instead)
 unfolding or_else
 by_grant P (Ok x) instead f k = f x refl
 by_grant P (Err r) instead f k = k r refl
 
 -- a step that was granted, and the rest
-pub with_step : {A B P : Type 0} (g : Granted A) (next : A → Granted B) (y : B) → (g >>= next) ≡ Ok y → ((x : A) → g ≡ Ok x → next x ≡ Ok y → P) → P
+pub with_step : {A B P : Type 0} (g : Granted A) (next : A → Granted B) (y : B) → (g >>= next) ≡ Ok y →
+    ((x : A) → g ≡ Ok x → next x ≡ Ok y → P) → P
 unfolding ◌>>=◌
 with_step (Ok x) next y q k = k x refl q
 with_step (Err r) next y q k = absurd (let z : Err r ≡ Ok y = q in (cc))
@@ -39,7 +43,8 @@ with_step (Err r) next y q k = absurd (let z : Err r ≡ Ok y = q in (cc))
 -- ---- messages held
 
 -- a task lets go of what it holds
-pub held_put : (h : ℕ) (seats : List Seat) (k : ℕ) → held_by k (with_held h None seats) ≡ put (λ j. held_by j seats) h None k
+pub held_put : (h : ℕ) (seats : List Seat) (k : ℕ) →
+    held_by k (with_held h None seats) ≡ put (λ j. held_by j seats) h None k
 held_put h [] k = elim (eqb_tells k h) [ inl b ↦ rw b.0 refl | inr b ↦ rw b.0 refl ]
 held_put h (s ∷ seats) k =
     elim (eqb_tells s.handle h) [
@@ -54,7 +59,8 @@ held_put h (s ∷ seats) k =
     ]
 
 -- a live task holds a message
-pub held_got : (h : ℕ) (v : Option Parcel) (seats : List Seat) → has_seat h seats ≡ true → (k : ℕ) → held_by k (with_held h v seats) ≡ put (λ j. held_by j seats) h v k
+pub held_got : (h : ℕ) (v : Option Parcel) (seats : List Seat) → has_seat h seats ≡ true → (k : ℕ) →
+    held_by k (with_held h v seats) ≡ put (λ j. held_by j seats) h v k
 held_got h v [] q k = absurd (let z : Bool.false ≡ true = q in (cc))
 held_got h v (s ∷ seats) q k =
     elim (eqb_tells s.handle h) [
@@ -69,12 +75,16 @@ held_got h v (s ∷ seats) q k =
     ]
 
 -- the same handles are live
-pub seats_held : (h : ℕ) (v : Option Parcel) (seats : List Seat) (k : ℕ) → has_seat k (with_held h v seats) ≡ has_seat k seats
+pub seats_held : (h : ℕ) (v : Option Parcel) (seats : List Seat) (k : ℕ) →
+    has_seat k (with_held h v seats) ≡ has_seat k seats
 seats_held h v [] k = refl
 seats_held h v (s ∷ seats) k =
     elim (eqb_tells s.handle h) [
       | inl a ↦ rw a.0 refl
-      | inr a ↦ elim (eqb_tells s.handle k) [ inl b ↦ rw (a.0, b.0) refl | inr b ↦ rw (a.0, b.0) (seats_held h v seats k) ]
+      | inr a ↦ elim (eqb_tells s.handle k) [
+        | inl b ↦ rw (a.0, b.0) refl
+        | inr b ↦ rw (a.0, b.0) (seats_held h v seats k)
+      ]
     ]
 
 abbrev pub held_seen : List Seat → ℕ → Option Message
@@ -84,27 +94,40 @@ held_seen seats k = option_map seen_parcel (held_by k seats)
 
 pub record IsSent (l : Letter) (q p : Post) : Type 0 where
   pub queued : map seen_parcel p.queued ≡ map seen_parcel q.queued ++ seen_letter l q.next_ref ∷ []
-  pub held : Same (held_seen p.seats) (put (held_seen q.seats) l.from (protocol.still_held (held_seen q.seats l.from) l.your_ref))
+  pub held : Same (held_seen p.seats) (put (held_seen q.seats) l.from (protocol.still_held (held_seen q.seats l.from)
+      l.your_ref))
   pub next : p.next_ref ≡ q.next_ref + 1
 
-posted_is : (l : Letter) (there : _) (q : Post) (o : Option Parcel) → held_by l.from q.seats ≡ o → IsSent l q (if answers_held l.your_ref o then put_down l.from (queued_in l there q) else queued_in l there q)
+posted_is : (l : Letter) (there : _) (q : Post) (o : Option Parcel) → held_by l.from q.seats ≡ o →
+    IsSent l q (if answers_held l.your_ref o then put_down l.from (queued_in l there q) else queued_in l there q)
 posted_is l there q None e = record {
   queued = map_append seen_parcel q.queued (parcel_of l q.next_ref there.1 ∷ []);
-  held = λ k. unput (held_seen q.seats) l.from (protocol.still_held (held_seen q.seats l.from) l.your_ref) (rw e refl) k;
+  held = λ k. unput (held_seen q.seats) l.from (protocol.still_held (held_seen q.seats l.from) l.your_ref) (rw e refl)
+      k;
   next = refl;
 }
-posted_is l there q (Some p) e = elim (eqb_tells p.message.my_ref l.your_ref) as (λ _. IsSent l q (if nat_eq p.message.my_ref l.your_ref then put_down l.from (queued_in l there q) else queued_in l there q)) [
-  | inl w ↦ rw w.0 (record {
-    queued = map_append seen_parcel q.queued (parcel_of l q.next_ref there.1 ∷ []);
-    held = λ k. ap (option_map seen_parcel) (held_put l.from q.seats k) ∙ elim (eqb_tells k l.from) [ inl b ↦ rw (b.0, e, w.0) refl | inr b ↦ rw b.0 refl ];
-    next = refl;
-  })
-  | inr w ↦ rw w.0 (record {
-    queued = map_append seen_parcel q.queued (parcel_of l q.next_ref there.1 ∷ []);
-    held = λ k. unput (held_seen q.seats) l.from (protocol.still_held (held_seen q.seats l.from) l.your_ref) (rw (e, w.0) refl) k;
-    next = refl;
-  })
-]
+posted_is l there q (Some p) e = elim (eqb_tells p.message.my_ref l.your_ref) as (λ _.
+    IsSent l q (if nat_eq p.message.my_ref l.your_ref then put_down l.from (queued_in l there q) else queued_in
+    l there q)) [
+      | inl w ↦ rw w.0 (record {
+        queued = map_append seen_parcel q.queued (parcel_of l q.next_ref there.1 ∷ []);
+        held = λ k. ap (option_map seen_parcel) (held_put l.from q.seats k) ∙ elim (eqb_tells k l.from) [
+          | inl b ↦ rw (
+            b.0,
+            e,
+            w.0,
+          ) refl
+          | inr b ↦ rw b.0 refl
+        ];
+        next = refl;
+      })
+      | inr w ↦ rw w.0 (record {
+        queued = map_append seen_parcel q.queued (parcel_of l q.next_ref there.1 ∷ []);
+        held = λ k. unput (held_seen q.seats) l.from (protocol.still_held (held_seen q.seats l.from) l.your_ref)
+            (rw (e, w.0) refl) k;
+        next = refl;
+      })
+    ]
 
 pub record IsPosted (l : Letter) (q : Post) (p : Post × ℕ) : Type 0 where
   pub sent : IsSent l q p.0
@@ -123,13 +146,18 @@ not_false false q = absurd (let z : Bool.true ≡ false = q in (cc))
 
 pub to_live : (l : Letter) (q : Post) (u : Unit {0}) → sendable l q ≡ Ok u → has_seat l.to q.seats ≡ true
 unfolding sendable
-to_live l q u e = let w = from_first (refuse_if (not (has_seat l.to q.seats)) NoTask) _ u e in not_false _ (not_refused (not (has_seat l.to q.seats)) NoTask w.0 w.1)
+to_live l q u e = let w = from_first (refuse_if (not (has_seat l.to q.seats)) NoTask) _ u e in not_false _
+    (not_refused (not (has_seat l.to q.seats)) NoTask w.0 w.1)
 
 pub post_sent : (free : ℕ) (l : Letter) (q : Post) (p : Post × ℕ) → post_send free l q ≡ Ok p → IsPosted l q p
 unfolding post_send
 post_sent free l q p e =
-    let u = from_first (sendable l q) (module_claim free (parcel_size (message_of l 0)) q.heap >>= (λ there. Ok (posted l there q, q.next_ref))) p e in
-    let w = from_bind (module_claim free (parcel_size (message_of l 0)) q.heap) (λ there. Ok (posted l there q, q.next_ref)) p (from_test (sendable l q) _ p e) in
+    let u = from_first (sendable l q) (module_claim free (parcel_size (message_of l 0)) q.heap >>=
+    (λ there. Ok (posted l there q, q.next_ref))) p e in
+    let w = from_bind (module_claim free (parcel_size (message_of l 0)) q.heap) (λ there. Ok (
+      posted l there q,
+      q.next_ref,
+    )) p (from_test (sendable l q) _ p e) in
     subst (IsPosted l q) (ok_is (posted l w.value q, q.next_ref) p w.rest)
     (record { sent = posted_is l w.value q (held_by l.from q.seats) refl; ref = refl; live = to_live l q u.0 u.1 })
 
@@ -148,12 +176,14 @@ letter_sent l d e q =
     record {
       after = w.value.0;
       sent = s.sent;
-      same = ap (λ n. with_task l.from (λ t. record t { last_sent = Some (l, n) }) (with_post w.value.0 d)) (sym s.ref) ∙ ok_is _ e w.rest;
+      same = ap (λ n. with_task l.from (λ t. record t { last_sent = Some (l, n) }) (with_post w.value.0 d))
+          (sym s.ref) ∙ ok_is _ e w.rest;
       live = s.live;
     }
 
 sent_seen : (d : Desk) (l : Letter) (p : Post) → (view d).live l.from ≡ true → IsSent l d.post p →
-    view (with_task l.from (λ y. record y { last_sent = Some (l, d.post.next_ref) }) (with_post p d)) ≡ protocol.sent (view d) l.from (seen_letter l d.post.next_ref)
+    view (with_task l.from (λ y. record y { last_sent = Some (l, d.post.next_ref) }) (with_post p d)) ≡ protocol.sent
+    (view d) l.from (seen_letter l d.post.next_ref)
 unfolding with_task
 sent_seen d l p live w =
     let f : Task → Task = λ y. record y { last_sent = Some (l, d.post.next_ref) } in
@@ -161,29 +191,41 @@ sent_seen d l p live w =
     let t = task_or d h in
     let is = task_is d h live in
     let d1 : protocol.Desk = protocol.sent (view d) l.from (seen_letter l d.post.next_ref) in
-    let d0 : protocol.Desk = record d1 { queue = map seen_parcel p.queued; held = held_seen p.seats; next_ref = p.next_ref } in
+    let d0 : protocol.Desk = record d1 {
+      queue = map seen_parcel p.queued;
+      held = held_seen p.seats;
+      next_ref = p.next_ref;
+    } in
     ◌∙◌ {c = d1}
     (same_desk d0 _ _ _ _ _ _ _ _ _
-    (change_other (λ y. true) false h f (λ y. refl) (λ y. refl) d.tasks) (change_other (λ y. y.buffer) 1 h f (λ y. refl) (λ y. refl) d.tasks)
-    (change_other (λ y. is_deaf y.manner) false h f (λ y. refl) (λ y. refl) d.tasks) (change_other (λ y. answers_none y.manner) false h f (λ y. refl) (λ y. refl) d.tasks)
-    (change_other (λ y. blocks_of y.slot) (λ a. None) h f (λ y. refl) (λ y. refl) d.tasks) (change_other (λ y. buffers_of y.slot) (λ a. None) h f (λ y. refl) (λ y. refl) d.tasks)
-    (change_other (λ y. y.sending) [] h f (λ y. refl) (λ y. refl) d.tasks) (change_other (λ y. y.taking) [] h f (λ y. refl) (λ y. refl) d.tasks)
+    (change_other (λ y. true) false h f (λ y. refl) (λ y. refl) d.tasks) (change_other (λ y. y.buffer) 1 h f (λ y.
+    refl) (λ y. refl) d.tasks)
+    (change_other (λ y. is_deaf y.manner) false h f (λ y. refl) (λ y. refl) d.tasks) (change_other (λ y. answers_none
+    y.manner) false h f (λ y. refl) (λ y. refl) d.tasks)
+    (change_other (λ y. blocks_of y.slot) (λ a. None) h f (λ y. refl) (λ y. refl) d.tasks) (change_other (λ y.
+    buffers_of y.slot) (λ a. None) h f (λ y. refl) (λ y. refl) d.tasks)
+    (change_other (λ y. y.sending) [] h f (λ y. refl) (λ y. refl) d.tasks) (change_other (λ y. y.taking) [] h f (λ y.
+    refl) (λ y. refl) d.tasks)
     (change_here (λ y. option_map seen_last y.last_sent) None h f (λ y. refl) d.tasks t is))
     (λ i. record d1 { queue = w.queued i; held = λ k. w.held k i; next_ref = w.next i })
 
 -- what is seen after a letter was sent
-pub sent_view : (d e : Desk) (l : Letter) → send_letter l d ≡ Ok e → (view d).live l.from ≡ true → view e ≡ protocol.sent (view d) l.from (seen_letter l d.post.next_ref)
+pub sent_view : (d e : Desk) (l : Letter) → send_letter l d ≡ Ok e → (view d).live l.from ≡ true →
+    view e ≡ protocol.sent (view d) l.from (seen_letter l d.post.next_ref)
 sent_view d e l q live =
     let w = letter_sent l d e q in
-    subst (λ (y : Desk). view y ≡ protocol.sent (view d) l.from (seen_letter l d.post.next_ref)) w.same (sent_seen d l w.after live w.sent)
+    subst (λ (y : Desk). view y ≡ protocol.sent (view d) l.from (seen_letter l d.post.next_ref)) w.same (sent_seen d l
+    w.after live w.sent)
 
 -- slots stay
 pub sent_slot : (d e : Desk) (l : Letter) → send_letter l d ≡ Ok e → (h : ℕ) → slot_at e h ≡ slot_at d h
 unfolding with_task
 sent_slot d e l q h =
     let w = letter_sent l d e q in
-    subst (λ (y : Desk). slot_at y h ≡ slot_at d h) w.same (change_other (λ y. y.slot) new_slot l.from (λ y. record y { last_sent = Some (l, d.post.next_ref) }) (λ y. refl) (λ y. refl) d.tasks h)
+    subst (λ (y : Desk). slot_at y h ≡ slot_at d h) w.same (change_other (λ y. y.slot) new_slot l.from (λ y.
+    record y { last_sent = Some (l, d.post.next_ref) }) (λ y. refl) (λ y. refl) d.tasks h)
 
 -- the recipient is live
-pub sent_live : (d e : Desk) (l : Letter) → has_seat l.to d.post.seats ≡ (view d).live l.to → send_letter l d ≡ Ok e → (view d).live l.to ≡ true
+pub sent_live : (d e : Desk) (l : Letter) → has_seat l.to d.post.seats ≡ (view d).live l.to → send_letter l d ≡ Ok e →
+    (view d).live l.to ≡ true
 sent_live d e l f q = let w = letter_sent l d e q in sym f ∙ w.live

@@ -1,23 +1,39 @@
--- Sends, ends of records, writes and edits keep the invariant.
-use Rattle.std.proofs.Common.{◌≡◌, ◌≢◌, ℕ, ◌+◌, ◌≤◌, ◌<◌, Bool, true, false, List, [], ◌∷◌, ◌++◌, length, take, Option, Some, None, refl, sym, ap, ◌∙◌, subst, ◌⊎◌, inl, inr, arith}
+-- Sends keep the invariant.
+use Rattle.std.proofs.Common.{◌≡◌, ◌≢◌, ℕ, ◌+◌, ◌≤◌, ◌<◌, Bool, true, List, [], ◌∷◌, ◌++◌, length}
+use Rattle.std.proofs.Common.{Option, Some, None, refl, sym, ap, ◌∙◌, subst, ◌⊎◌, inl, inr, arith}
 use Rattle.std.proofs.lemmas.Bool.Decides.{eqb_tells}
-use Rattle.rh_safety.proofs.Ends.{Recorded, DataSave, RamFetch, RamTransmit, DataSaveAck, DataLoad, Letter, Message, Sending, Taking, Asked, Out, Open, Out_done, Out_failed, In, Fetching, Draining, Asking, In_done, In_failed, is_going, is_growing, out_id, in_id, in_anchor, Has, Active, put, with_id}
-use Rattle.rh_safety.proofs.Protocol.{owned, Desk, sent, still_held, ended, asked}
-use Rattle.rh_safety.proofs.Basics.{length_with, put_all, put_same, put_other, Has-append, none_some, same_value, pair_append, Ascend, one_of_id, with_keeps, with_puts, with_ascends}
-use Rattle.rh_safety.proofs.Invariant.{Offered, queued, kept, latest, Knows, Offers, LetterIn, Carries, Source, Counted, Begins, Untouched, IsGood, HasBuffer, Order, Unread, Inv, IsWaiting, Waits, Asks, PendingAt, Good}
-use Rattle.rh_safety.proofs.Moves.{letters_more, outs_more, ins_more, boths_more, letters_bump, outs_bump, ins_bump, Move, OutOk, outs_move, outs_less, HoldOk, ins_move, move_active, move_with, ins_less, BothOutOk, boths_out, BothInOk, boths_in, loads_more, loads_other, loads_lost, loads_in, loads_end}
+use Rattle.rh_safety.proofs.Ends.{Recorded, DataSave, RamFetch, RamTransmit, Letter, Message}
+use Rattle.rh_safety.proofs.Ends.{Sending, Taking, Out, Open, Out_done, Out_failed, In, Fetching, Draining}
+use Rattle.rh_safety.proofs.Ends.{Asking, In_done, In_failed, is_growing, out_id, in_id, in_anchor, Has}
+use Rattle.rh_safety.proofs.Ends.{Active, put, with_id}
+use Rattle.rh_safety.proofs.Protocol.{owned, Desk, sent, still_held}
+use Rattle.rh_safety.proofs.Basics.{length_with, put_all, put_same, put_other, Has-append, none_some}
+use Rattle.rh_safety.proofs.Basics.{pair_append, Ascend, one_of_id}
+use Rattle.rh_safety.proofs.Invariant.{Offered, queued, kept, latest, Knows, Offers, LetterIn, Carries, Source}
+use Rattle.rh_safety.proofs.Invariant.{Counted, Begins, Untouched, HasBuffer, Order, Unread, Inv, IsWaiting}
+use Rattle.rh_safety.proofs.Invariant.{Waits, Asks, PendingAt}
+use Rattle.rh_safety.proofs.Moves.{letters_more, outs_more, ins_more, boths_more, letters_bump, outs_bump, ins_bump}
+use Rattle.rh_safety.proofs.Moves.{Move, OutOk, outs_move, outs_less, ins_move, move_active}
+use Rattle.rh_safety.proofs.Moves.{BothOutOk, boths_out, boths_in, loads_other}
+use Rattle.rh_safety.proofs.Moves.{loads_end}
 
 -- ---- what is known after a send
 
 pub still_some : (o : Option Message) (a : ℕ) (y : Message) → still_held o a ≡ Some y → o ≡ Some y
 still_some None a y is = is
-still_some (Some m) a y is = elim (eqb_tells m.letter.me a) [ inl w ↦ absurd (none_some None refl (rw w.0 at is)) | inr w ↦ rw w.0 at is ]
+still_some (Some m) a y is = elim (eqb_tells m.letter.me a) [
+  | inl w ↦ absurd (none_some None refl (rw w.0 at is))
+  | inr w ↦ rw w.0 at is
+]
 
 -- what is held after a send was held before it
-pub still_is : (d : Desk) (h a k : ℕ) (y : Message) → put d.held h (still_held (d.held h) a) k ≡ Some y → d.held k ≡ Some y
-still_is d h a k y = put_all (λ j z. z ≡ Some y → d.held j ≡ Some y) d.held h (still_held (d.held h) a) (still_some (d.held h) a y) (λ j ne q. q) k
+pub still_is : (d : Desk) (h a k : ℕ) (y : Message) → put d.held h (still_held (d.held h) a) k ≡ Some y →
+    d.held k ≡ Some y
+still_is d h a k y = put_all (λ j z. z ≡ Some y → d.held j ≡ Some y) d.held h (still_held (d.held h) a)
+    (still_some (d.held h) a y) (λ j ne q. q) k
 
-pub sent_knows : (d : Desk) (h : ℕ) (m : Message) → m.letter.from ≡ h → (l : Letter) → Knows (sent d h m) l → Knows d l ⊎ (l ≡ m.letter)
+pub sent_knows : (d : Desk) (h : ℕ) (m : Message) → m.letter.from ≡ h → (l : Letter) → Knows (sent d h m) l →
+    Knows d l ⊎ (l ≡ m.letter)
 sent_knows d h m own l (queued y has eq) =
     elim (Has-append y d.queue (m ∷ []) has) [
       | inl a ↦ inl (queued y a eq)
@@ -26,7 +42,8 @@ sent_knows d h m own l (queued y has eq) =
 sent_knows d h m own l (kept k y is eq) = inl (kept k y (still_is d h m.letter.answers k y is) eq)
 sent_knows d h m own l (latest k y is eq) =
     elim (eqb_tells k h) [
-      | inl a ↦ let z : Some m ≡ Some y = sym (put_same d.last h (Some m)) ∙ subst (λ j. put d.last h (Some m) j ≡ Some y) a.1 is in
+      | inl a ↦ let z : Some m ≡ Some y = sym (put_same d.last h (Some m)) ∙ subst (λ j. put d.last h (Some m) j ≡
+          Some y) a.1 is in
           let u : y ≡ m = cc in
           inr (sym eq ∙ ap (λ (x : Message). (owned k x).letter) u ∙ ap (λ (j : ℕ). (owned j m).letter) (a.1 ∙ sym own))
       | inr a ↦ inl (latest k y (sym (put_other d.last h (Some m) k a.1) ∙ is) eq)
@@ -34,10 +51,14 @@ sent_knows d h m own l (latest k y is eq) =
 
 -- ---- the order of refs and ids
 
-pub put_ascends : {A : Type 0} (f : A → ℕ) (old : ℕ → List A) (h : ℕ) (xs : List A) → ((s : ℕ) → Ascend f (old s)) → Ascend f xs → (s : ℕ) → Ascend f (put old h xs s)
+pub put_ascends : {A : Type 0} (f : A → ℕ) (old : ℕ → List A) (h : ℕ) (xs : List A) → ((s : ℕ) → Ascend f (old s)) →
+    Ascend f xs → (s : ℕ) → Ascend f (put old h xs s)
 put_ascends f old h xs p here s = put_all (λ j z. Ascend f z) old h xs here (λ j ne. p j) s
 
-pub order_out : {q : List Message} {sending : ℕ → List Out} {taking : ℕ → List In} {next : ℕ} (new : ℕ → List Out) (h : ℕ) (v : Out) → Move out_id sending new h v → ((s : ℕ) → Ascend out_id (new s)) → out_id v < next → Order q sending taking next → Order q new taking next
+pub order_out : {q : List Message} {sending : ℕ → List Out} {taking : ℕ → List In} {next : ℕ} (new : ℕ → List Out)
+    (h : ℕ) (v : Out) →
+    Move out_id sending new h v → ((s : ℕ) → Ascend out_id (new s)) → out_id v < next → Order q sending taking next →
+    Order q new taking next
 order_out new h v m up lt i = record {
   rises = i.rises;
   above = i.above;
@@ -47,24 +68,39 @@ order_out new h v m up lt i = record {
   in_below = i.in_below;
 }
 
-pub order_in : {q : List Message} {sending : ℕ → List Out} {taking : ℕ → List In} {next : ℕ} (new : ℕ → List In) (h : ℕ) (v : In) → Move in_id taking new h v → ((s : ℕ) → Ascend in_id (new s)) → in_id v < next →
-    ((m : Message) → Has m q → Unread m → m.to ≡ h → in_id v < m.letter.me) → Order q sending taking next → Order q sending new next
+pub order_in : {q : List Message} {sending : ℕ → List Out} {taking : ℕ → List In} {next : ℕ} (new : ℕ → List In)
+    (h : ℕ) (v : In) →
+    Move in_id taking new h v → ((s : ℕ) → Ascend in_id (new s)) → in_id v < next →
+    ((m : Message) → Has m q → Unread m → m.to ≡ h → in_id v < m.letter.me) → Order q sending taking next →
+    Order q sending new next
 order_in new h v m up lt above i = record {
   rises = i.rises;
-  above = λ r w y p has un to. elim (m r w p) [ inl a ↦ i.above r w y a.0 has un to | inr a ↦ let z = ap in_id a.1 in let u = above y has un (to ∙ a.0) in omega arith ];
+  above = λ r w y p has un to. elim (m r w p) [
+    | inl a ↦ i.above r w y a.0 has un to
+    | inr a ↦ let z = ap in_id a.1 in
+        let u = above y has un (to ∙ a.0) in omega arith
+  ];
   outs = i.outs;
   ins = up;
   out_below = i.out_below;
   in_below = λ r w q. elim (m r w q) [ inl a ↦ i.in_below r w a.0 | inr a ↦ let z = ap in_id a.1 in omega arith ];
 }
 
-pub order_send : {q : List Message} {sending : ℕ → List Out} {taking : ℕ → List In} {next : ℕ} (m : Message) → m.letter.me ≡ next → ((y : Message) → Has y q → y.letter.me < next) → Order q sending taking next → Order (q ++ m ∷ []) sending taking (next + 1)
+pub order_send : {q : List Message} {sending : ℕ → List Out} {taking : ℕ → List In} {next : ℕ} (m : Message) →
+    m.letter.me ≡ next → ((y : Message) → Has y q → y.letter.me < next) → Order q sending taking next →
+    Order (q ++ m ∷ []) sending taking (next + 1)
 order_send {q} m fresh old i = record {
   rises = pair_append (λ a b. Unread a → Unread b → a.letter.me < b.letter.me) q (m ∷ []) i.rises (λ y h. absurd h, tt)
-      (λ x y h k u v. elim k [ inl e ↦ let z = old x h in let w = ap (λ (j : Message). j.letter.me) e in omega arith | inr e ↦ absurd e ]);
+      (λ x y h k u v. elim k [
+        | inl e ↦ let z = old x h in let w = ap (λ (j : Message). j.letter.me) e in omega arith
+        | inr e ↦ absurd e
+      ]);
   above = λ r w y p has un to. elim (Has-append y q (m ∷ []) has) [
     | inl a ↦ i.above r w y p a un to
-    | inr a ↦ elim a [ inl e ↦ let z = i.in_below r w p in let w = ap (λ (j : Message). j.letter.me) e in omega arith | inr e ↦ absurd e ]
+    | inr a ↦ elim a [
+      | inl e ↦ let z = i.in_below r w p in let w = ap (λ (j : Message). j.letter.me) e in omega arith
+      | inr e ↦ absurd e
+    ]
   ];
   outs = i.outs;
   ins = i.ins;
@@ -74,32 +110,42 @@ order_send {q} m fresh old i = record {
 
 -- one record of an id
 pub one_active : (ws : List In) (t u : Taking) → Ascend in_id ws → Active ws t → Active ws u → t.id ≡ u.id → t ≡ u
-one_active ws t u up (inl a) (inl b) e = let z : Fetching t ≡ Fetching u = one_of_id in_id ws (Fetching t) (Fetching u) up a b e in cc
-one_active ws t u up (inl a) (inr b) e = let z : Fetching t ≡ Draining u = one_of_id in_id ws (Fetching t) (Draining u) up a b e in cc
-one_active ws t u up (inr a) (inl b) e = let z : Draining t ≡ Fetching u = one_of_id in_id ws (Draining t) (Fetching u) up a b e in cc
-one_active ws t u up (inr a) (inr b) e = let z : Draining t ≡ Draining u = one_of_id in_id ws (Draining t) (Draining u) up a b e in cc
+one_active ws t u up (inl a) (inl b) e = let z : Fetching t ≡ Fetching u = one_of_id in_id ws (Fetching t)
+    (Fetching u) up a b e in cc
+one_active ws t u up (inl a) (inr b) e = let z : Fetching t ≡ Draining u = one_of_id in_id ws (Fetching t)
+    (Draining u) up a b e in cc
+one_active ws t u up (inr a) (inl b) e = let z : Draining t ≡ Fetching u = one_of_id in_id ws (Draining t)
+    (Fetching u) up a b e in cc
+one_active ws t u up (inr a) (inr b) e = let z : Draining t ≡ Draining u = one_of_id in_id ws (Draining t)
+    (Draining u) up a b e in cc
 
 -- ---- how long the lists are
 
-few_at : {A : Type 0} {most : ℕ} (old new : ℕ → List A) (h : ℕ) → ((s : ℕ) → s ≢ h → new s ≡ old s) → length (new h) ≤ most → ((s : ℕ) → length (old s) ≤ most) → (s : ℕ) → length (new s) ≤ most
+few_at : {A : Type 0} {most : ℕ} (old new : ℕ → List A) (h : ℕ) → ((s : ℕ) → s ≢ h → new s ≡ old s) →
+    length (new h) ≤ most → ((s : ℕ) → length (old s) ≤ most) → (s : ℕ) → length (new s) ≤ most
 few_at {A} {most} old new h same here i s = elim (eqb_tells s h) [
   | inl a ↦ subst (λ j. length (new j) ≤ most) (sym a.1) here
   | inr a ↦ subst (λ z. length z ≤ most) (sym (same s a.1)) (i s)
 ]
 
-pub few_here : {A : Type 0} {most : ℕ} (old : ℕ → List A) (h : ℕ) (xs : List A) → length xs ≤ most → length (put old h xs h) ≤ most
+pub few_here : {A : Type 0} {most : ℕ} (old : ℕ → List A) (h : ℕ) (xs : List A) → length xs ≤ most →
+    length (put old h xs h) ≤ most
 few_here {A} {most} old h xs le = subst (λ z. length z ≤ most) (sym (put_same old h xs)) le
 
-pub few_put : {A : Type 0} {most : ℕ} (old : ℕ → List A) (h : ℕ) (xs : List A) → length xs ≤ most → ((s : ℕ) → length (old s) ≤ most) → (s : ℕ) → length (put old h xs s) ≤ most
+pub few_put : {A : Type 0} {most : ℕ} (old : ℕ → List A) (h : ℕ) (xs : List A) → length xs ≤ most →
+    ((s : ℕ) → length (old s) ≤ most) → (s : ℕ) → length (put old h xs s) ≤ most
 few_put old h xs le i = few_at old (put old h xs) h (put_other old h xs) (few_here old h xs le) i
 
-pub few_with : {A : Type 0} {most : ℕ} (f : A → ℕ) (xs : List A) (i : ℕ) (v : A) → length xs ≤ most → length (with_id f i v xs) ≤ most
+pub few_with : {A : Type 0} {most : ℕ} (f : A → ℕ) (xs : List A) (i : ℕ) (v : A) → length xs ≤ most →
+    length (with_id f i v xs) ≤ most
 few_with f xs i v le = let z = length_with f i v xs in omega arith
 
 -- ---- what is waited for
 
 -- a message with another ref leaves what is waited for
-pub waits_sent : (d : Desk) (h : ℕ) (m : Message) (s : ℕ) (l : Letter) (x : Sending) (ws : List In) (buf : ℕ) → ((t : Taking) → Active ws t → m.letter.me ≢ t.fetch) → Waits d.queue d.held s l x ws buf → Waits (sent d h m).queue (sent d h m).held s l x ws buf
+pub waits_sent : (d : Desk) (h : ℕ) (m : Message) (s : ℕ) (l : Letter) (x : Sending) (ws : List In) (buf : ℕ) →
+    ((t : Taking) → Active ws t → m.letter.me ≢ t.fetch) → Waits d.queue d.held s l x ws buf →
+    Waits (sent d h m).queue (sent d h m).held s l x ws buf
 waits_sent d h m s l x ws buf other a = record {
   taking = a.taking;
   is_active = a.is_active;
@@ -111,7 +157,10 @@ waits_sent d h m s l x ws buf other a = record {
   level = a.level;
   unread = λ y has q. elim (Has-append y d.queue (m ∷ []) has) [
     | inl b ↦ a.unread y b q
-    | inr b ↦ elim b [ inl c ↦ absurd (other a.taking a.is_active (ap (λ (z : Message). z.letter.me) c ∙ q)) | inr c ↦ absurd c ]
+    | inr b ↦ elim b [
+      | inl c ↦ absurd (other a.taking a.is_active (ap (λ (z : Message). z.letter.me) c ∙ q))
+      | inr c ↦ absurd c
+    ]
   ];
   free = λ k y is. a.free k y (still_is d h m.letter.answers k y is);
 }
@@ -120,7 +169,9 @@ waits_sent d h m s l x ws buf other a = record {
 abbrev pub KeepsActive : (ℕ → List In) → (ℕ → List In) → ℕ → ℕ → Type 0
 KeepsActive old new h i = (r : ℕ) (t : Taking) → Active (old r) t → (r ≡ h → t.id ≢ i) → Active (new r) t
 
-pub waits_kept : {q : List Message} {held : ℕ → Option Message} {s : ℕ} {l : Letter} {x : Sending} {buf : ℕ} (ws vs : List In) → ((t : Taking) → Active ws t → t.id ≡ x.id → Active vs t) → Waits q held s l x ws buf → Waits q held s l x vs buf
+pub waits_kept : {q : List Message} {held : ℕ → Option Message} {s : ℕ} {l : Letter} {x : Sending} {buf : ℕ}
+    (ws vs : List In) →
+    ((t : Taking) → Active ws t → t.id ≡ x.id → Active vs t) → Waits q held s l x ws buf → Waits q held s l x vs buf
 waits_kept ws vs f a = record {
   taking = a.taking;
   is_active = f a.taking a.is_active a.same_id;
@@ -146,8 +197,10 @@ Pending d = (s : ℕ) (x : Sending) → Has (Open x) (d.sending s) → PendingAt
 pub record NewOpen (o : Offered) (d : Desk) (h : ℕ) (n : Letter) (y : Sending) : Type 0 where
   pub last : y.last ≡ d.next_ref
   pub same_id : n.kind ≡ DataSave → y.id ≡ y.last
-  pub id : (r : ℕ) (t : Taking) → n.kind ≡ RamTransmit → Has (Fetching t) (d.taking r) → n.answers ≡ t.fetch → y.id ≡ t.id
-  pub level : (r : ℕ) (t : Taking) → n.kind ≡ RamTransmit → Has (Fetching t) (d.taking r) → n.answers ≡ t.fetch → y.count ≡ t.count + n.amount
+  pub id : (r : ℕ) (t : Taking) → n.kind ≡ RamTransmit → Has (Fetching t) (d.taking r) → n.answers ≡ t.fetch →
+      y.id ≡ t.id
+  pub level : (r : ℕ) (t : Taking) → n.kind ≡ RamTransmit → Has (Fetching t) (d.taking r) → n.answers ≡ t.fetch →
+      y.count ≡ t.count + n.amount
   pub source : Source o y (d.block h) (d.next_ref + 1)
   pub apart : (v : In) → Has v (d.taking h) → is_growing v ≡ true → y.anchor ≢ in_anchor v
 
@@ -168,57 +221,100 @@ pub record NewOut (o : Offered) (d : Desk) (new : ℕ → List Out) (h : ℕ) (n
   pub old : n.answers < d.next_ref
   pub handle : h < d.next_handle
   pub offers : Offers o n
-  pub carries : (r : ℕ) (t : Taking) → n.kind ≡ RamTransmit → Has (Fetching t) (d.taking r) → n.answers ≡ t.fetch → h ≡ t.sender → Carries o n t (d.heap r) (d.buf r)
-  pub older : (x : Sending) → Has (Open x) (d.sending h) → x.id ≢ out_id v → (r : ℕ) (t : Taking) → Active (d.taking r) t → n.kind ≡ RamTransmit → n.answers ≡ t.fetch → x.id ≢ t.id
+  pub carries : (r : ℕ) (t : Taking) → n.kind ≡ RamTransmit → Has (Fetching t) (d.taking r) → n.answers ≡ t.fetch →
+      h ≡ t.sender → Carries o n t (d.heap r) (d.buf r)
+  pub older : (x : Sending) → Has (Open x) (d.sending h) → x.id ≢ out_id v → (r : ℕ) (t : Taking) →
+      Active (d.taking r) t → n.kind ≡ RamTransmit → n.answers ≡ t.fetch → x.id ≢ t.id
   pub part : OutPart o d h n v
 
-out_ok : {o : Offered} {e : ℕ → ℕ → Bool} {d : Desk} (h : ℕ) (n : Letter) (v : Out) → OutPart o d h n v → Inv o e d → OutOk (Knows d) o d.sending d.block (d.next_ref + 1) h v
+out_ok : {o : Offered} {e : ℕ → ℕ → Bool} {d : Desk} (h : ℕ) (n : Letter) (v : Out) → OutPart o d h n v → Inv o e d →
+    OutOk (Knows d) o d.sending d.block (d.next_ref + 1) h v
 out_ok h n (Open y) p i = record {
-  letter = λ l k. let b = i.letters.below l k in let z = p.last in record { owner = λ q. absurd (let u = b.me in omega arith); same_id = λ q r. absurd (let u = b.me in omega arith) };
+  letter = λ l k. let b = i.letters.below l k in let z = p.last in record {
+    owner = λ q. absurd (let u = b.me in omega arith);
+    same_id = λ q r. absurd (let u = b.me in omega arith);
+  };
   source = p.source;
   lasts = λ x q ne e. let w = i.outs.source h x q in let z = p.last in let u = w.below in omega arith;
 }
 out_ok h n (Out_done j k) p i = p
 out_ok h n (Out_failed j k) p i = tt
 
-both_ok : {o : Offered} {e : ℕ → ℕ → Bool} {d : Desk} (h : ℕ) (n : Letter) (v : Out) → OutPart o d h n v → Inv o e d → BothOutOk (Knows d) d.taking h v
+both_ok : {o : Offered} {e : ℕ → ℕ → Bool} {d : Desk} (h : ℕ) (n : Letter) (v : Out) → OutPart o d h n v → Inv o e d →
+    BothOutOk (Knows d) d.taking h v
 both_ok h n (Open y) p i = record {
-  older = λ l k r t q. let b = i.letters.below l k in let z = p.last in record { older = λ a c f g. let u = b.answers in omega arith };
-  ahead = λ l k r t q. let b = i.letters.below l k in let z = p.last in record { same_id = λ a c f g. absurd (let u = b.me in omega arith); ahead = λ a c f g. absurd (let u = b.me in omega arith) };
+  older = λ l k r t q. let b = i.letters.below l k in let z = p.last in record {
+    older = λ a c f g. let u =
+        b.answers in omega arith;
+  };
+  ahead = λ l k r t q. let b = i.letters.below l k in let z = p.last in record {
+    same_id = λ a c f g. absurd (let u =
+        b.me in omega arith);
+    ahead = λ a c f g. absurd (let u = b.me in omega arith);
+  };
   apart = p.apart;
 }
 both_ok h n (Out_done j k) p i = tt
 both_ok h n (Out_failed j k) p i = tt
 
-pub queue_below : {o : Offered} {e : ℕ → ℕ → Bool} {d : Desk} → Inv o e d → (y : Message) → Has y d.queue → y.letter.me < d.next_ref
+pub queue_below : {o : Offered} {e : ℕ → ℕ → Bool} {d : Desk} → Inv o e d → (y : Message) → Has y d.queue →
+    y.letter.me < d.next_ref
 queue_below i y h = (i.letters.below y.letter (queued y h refl)).me
 
-pub out_inv : {o : Offered} {e : ℕ → ℕ → Bool} {d : Desk} (new : ℕ → List Out) (h : ℕ) (v : Out) (m : Message) → NewOut o d new h m.letter v → Inv o e d → Inv o e (sent (record d { sending = new }) h m)
+pub out_inv : {o : Offered} {e : ℕ → ℕ → Bool} {d : Desk} (new : ℕ → List Out) (h : ℕ) (v : Out) (m : Message) →
+    NewOut o d new h m.letter v → Inv o e d → Inv o e (sent (record d { sending = new }) h m)
 out_inv {o} {e} {d} new h v m n i =
     let d2 : Desk = record d { sending = new } in
     let nl = m.letter in
-    let at = λ (y : Sending) (q : Open y ≡ v). let z : NewOpen o d h nl y = subst (λ u. OutPart o d h nl u) (sym q) n.part in z in
-    let up : (s : ℕ) → Ascend out_id (new s) = λ s. elim (eqb_tells s h) [ inl a ↦ subst (λ j. Ascend out_id (new j)) (sym a.1) n.ascends | inr a ↦ subst (λ z. Ascend out_id z) (sym (n.elsewhere s a.1)) (i.order.outs s) ] in
+    let at = λ (y : Sending) (q : Open y ≡ v). let z : NewOpen o d h nl y = subst (λ u. OutPart o d h nl u) (sym q)
+    n.part in z in
+    let up : (s : ℕ) → Ascend out_id (new s) = λ s. elim (eqb_tells s h) [
+      | inl a ↦ subst (λ j. Ascend out_id (new j))
+          (sym a.1) n.ascends
+      | inr a ↦ subst (λ z. Ascend out_id z) (sym (n.elsewhere s a.1)) (i.order.outs s)
+    ] in
     record {
-      letters = letters_more nl (sent_knows d2 h m n.from) (let f = n.fresh in let b = n.old in record { me = omega arith; answers = omega arith; from = rw n.from n.handle }) n.offers (letters_bump (omega arith) (omega arith) i.letters);
+      letters = letters_more nl (sent_knows d2 h m n.from) (let f = n.fresh in let b = n.old in record {
+        me = omega arith;
+        answers = omega arith;
+        from = rw n.from n.handle;
+      }) n.offers (letters_bump (omega arith)
+          (omega arith) i.letters);
       outs = outs_more nl (sent_knows d2 h m n.from)
           (λ s x q. elim (n.move s (Open x) q) [
-            | inl a ↦ let w = i.outs.source s x a.0 in let f = n.fresh in record { owner = λ b. absurd (let u = w.below in omega arith); same_id = λ b c. absurd (let u = w.below in omega arith) }
+            | inl a ↦ let w = i.outs.source s x a.0 in let f = n.fresh in record {
+              owner = λ b. absurd (let u =
+                  w.below in omega arith);
+              same_id = λ b c. absurd (let u = w.below in omega arith);
+            }
             | inr a ↦ record { owner = λ b. n.from ∙ sym a.0; same_id = λ b c. (at x a.1).same_id c }
           ])
           (outs_move new h v n.move (out_ok {e = e} h nl v n.part i) (outs_bump (omega arith) i.outs));
       ins = ins_more nl (sent_knows d2 h m n.from)
-          (λ r t q. let w = i.ins.buffer r t q in let f = n.fresh in record { owner = λ b. absurd (let u = w.below in omega arith); names = λ b c. absurd (let u = w.below in omega arith) })
+          (λ r t q. let w = i.ins.buffer r t q in let f = n.fresh in record {
+            owner = λ b. absurd (let u = w.below in omega arith);
+            names = λ b c. absurd (let u = w.below in omega arith);
+          })
           (λ r t q. record { carries = λ a b c. n.carries r t a q b (sym n.from ∙ c) })
           (ins_bump (omega arith) i.ins);
       boths = boths_more nl (sent_knows d2 h m n.from)
           (λ s x q r t u. elim (n.move s (Open x) q) [
-            | inl a ↦ record { older = λ b c f g. let here : s ≡ h = sym c ∙ n.from in absurd (n.older x (subst (λ j. Has (Open x) (d.sending j)) here a.0) (a.1 here) r t u b f g) }
+            | inl a ↦ record {
+              older = λ b c f g. let here : s ≡ h = sym c ∙ n.from in
+                  absurd (n.older x (subst (λ j. Has (Open x) (d.sending j)) here a.0) (a.1 here) r t u b f g);
+            }
             | inr a ↦ record { older = λ b c f g. let z = (at x a.1).last in let y = n.old in omega arith }
           ])
           (λ s x q r t u. elim (n.move s (Open x) q) [
-            | inl a ↦ let w = i.outs.source s x a.0 in let f = n.fresh in record { same_id = λ b c f g. absurd (let u = w.below in omega arith); ahead = λ b c f g. absurd (let u = w.below in omega arith) }
-            | inr a ↦ record { same_id = λ b c f g. (at x a.1).id r t b u f; ahead = λ b c f g. (at x a.1).level r t b u f }
+            | inl a ↦ let w = i.outs.source s x a.0 in let f = n.fresh in record {
+              same_id = λ b c f g.
+                  absurd (let u = w.below in omega arith);
+              ahead = λ b c f g. absurd (let u = w.below in omega arith);
+            }
+            | inr a ↦ record {
+              same_id = λ b c f g. (at x a.1).id r t b u f;
+              ahead = λ b c f g. (at x a.1).level r t b u f;
+            }
           ])
           (boths_out new h v n.move (both_ok {e = e} h nl v n.part i) i.boths);
       loads = loads_other nl (sent_knows d2 h m n.from) n.fresh i.loads;
@@ -228,14 +324,25 @@ out_inv {o} {e} {d} new h v m n i =
       positive = omega arith;
     }
 
-pub out_pending : {o : Offered} {e : ℕ → ℕ → Bool} {d : Desk} (new : ℕ → List Out) (h : ℕ) (v : Out) (m : Message) → NewOut o d new h m.letter v → Inv o e d → ((s : ℕ) (x : Sending) → Has (Open x) (d.sending s) → (s ≡ h → x.id ≢ out_id v) → PendingAt d s x) → Pending (sent (record d { sending = new }) h m)
+pub out_pending : {o : Offered} {e : ℕ → ℕ → Bool} {d : Desk} (new : ℕ → List Out) (h : ℕ) (v : Out) (m : Message) →
+    NewOut o d new h m.letter v → Inv o e d → ((s : ℕ) (x : Sending) → Has (Open x) (d.sending s) →
+    (s ≡ h → x.id ≢ out_id v) → PendingAt d s x) → Pending (sent (record d { sending = new }) h m)
 out_pending {o} {e} {d} new h v m n i p s x q l k =
     let d2 : Desk = record d { sending = new } in
     elim (sent_knows d2 h m n.from l k.known) [
       | inl a ↦ elim (n.move s (Open x) q) [
-        | inl b ↦ waits_sent d2 h m s l x (d.taking l.from) (d.buf l.from) (λ u act eq. let w = i.ins.buffer l.from u act in let f = n.fresh in let y = w.below in absurd (omega arith))
-            (p s x b.0 b.1 l (record { known = a; kind = k.kind; answers = k.answers; from = k.from; live = k.live; fetches = k.fetches }))
-        | inr b ↦ let y : NewOpen o d h m.letter x = subst (λ u. OutPart o d h m.letter u) (sym b.1) n.part in let z = y.last in let c = i.letters.below l a in absurd (let u = c.answers in let g = k.answers in omega arith)
+        | inl b ↦ waits_sent d2 h m s l x (d.taking l.from) (d.buf l.from) (λ u act eq. let w = i.ins.buffer l.from u
+            act in let f = n.fresh in let y = w.below in absurd (omega arith))
+            (p s x b.0 b.1 l (record {
+              known = a;
+              kind = k.kind;
+              answers = k.answers;
+              from = k.from;
+              live = k.live;
+              fetches = k.fetches;
+            }))
+        | inr b ↦ let y : NewOpen o d h m.letter x = subst (λ u. OutPart o d h m.letter u) (sym b.1) n.part in let z =
+            y.last in let c = i.letters.below l a in absurd (let u = c.answers in let g = k.answers in omega arith)
       ]
       | inr a ↦ absurd (n.not_fetch (ap (λ (z : Letter). z.kind) (sym a) ∙ k.kind))
     ]
@@ -243,9 +350,21 @@ out_pending {o} {e} {d} new h v m n i p s x q l k =
 -- ---- a new fetch
 
 abbrev pub fetch_of : ℕ → Taking → ℕ → ℕ → Message
-fetch_of h t answers buf = record { code = Recorded; to = t.sender; letter = record { from = h; me = t.fetch; answers = answers; kind = RamFetch; address = t.buffer; amount = buf } }
+fetch_of h t answers buf = record {
+  code = Recorded;
+  to = t.sender;
+  letter = record {
+    from = h;
+    me = t.fetch;
+    answers = answers;
+    kind = RamFetch;
+    address = t.buffer;
+    amount = buf;
+  };
+}
 
-pub record NewFetch (o : Offered) (e : ℕ → ℕ → Bool) (d : Desk) (new : ℕ → List In) (bl : ℕ → ℕ → Option (List ℕ)) (h : ℕ) (t : Taking) (answers : ℕ) : Type 0 where
+pub record NewFetch (o : Offered) (e : ℕ → ℕ → Bool) (d : Desk) (new : ℕ → List In) (bl : ℕ → ℕ → Option (List ℕ))
+    (h : ℕ) (t : Taking) (answers : ℕ) : Type 0 where
   pub move : Move in_id d.taking new h (Fetching t)
   pub keeps : KeepsActive d.taking new h t.id
   pub puts : Active (new h) t
@@ -258,7 +377,8 @@ pub record NewFetch (o : Offered) (e : ℕ → ℕ → Bool) (d : Desk) (new : �
   pub old : answers < d.next_ref
   pub handle : h < d.next_handle
   pub sources : (s : ℕ) (x : Sending) → Has (Open x) (d.sending s) → bl s x.anchor ≡ d.block s x.anchor
-  pub same : (r : ℕ) (w : In) → Has w (d.taking r) → (r ≡ h → in_id w ≢ t.id) → Untouched (e r) w → bl r (in_anchor w) ≡ d.block r (in_anchor w)
+  pub same : (r : ℕ) (w : In) → Has w (d.taking r) → (r ≡ h → in_id w ≢ t.id) → Untouched (e r) w →
+      bl r (in_anchor w) ≡ d.block r (in_anchor w)
   pub begins : Begins o t.id t.count (bl h t.anchor)
   pub buffer : HasBuffer t (d.heap h) (d.buf h) (d.next_ref + 1)
   pub buffers : (u : Taking) → Active (d.taking h) u → u.id ≢ t.id → u.buffer ≢ t.buffer
@@ -272,21 +392,47 @@ growing_untouched e (Asking a) q = tt
 growing_untouched e (In_done i a n) q = absurd (let z : Bool.false ≡ true = q in (cc))
 growing_untouched e (In_failed i a n) q = absurd (let z : Bool.false ≡ true = q in (cc))
 
-fetch_letter : {o : Offered} {e : ℕ → ℕ → Bool} {d : Desk} (h : ℕ) (t : Taking) (answers r : ℕ) (u : Taking) → t.fetch ≡ d.next_ref → Inv o e d → (Active (d.taking r) u × (r ≡ h → u.id ≢ t.id)) ⊎ ((r ≡ h) × ((Fetching u ≡ Fetching t) ⊎ (Draining u ≡ Fetching t))) → LetterIn (fetch_of h t answers (d.buf h)).letter r u
-fetch_letter h t answers r u fresh i (inl a) = let w = i.ins.buffer r u a.0 in let z = w.below in record { owner = λ b. absurd (omega arith); names = λ b c. absurd (omega arith) }
+fetch_letter : {o : Offered} {e : ℕ → ℕ → Bool} {d : Desk} (h : ℕ) (t : Taking) (answers r : ℕ) (u : Taking) →
+    t.fetch ≡ d.next_ref → Inv o e d →
+    (Active (d.taking r) u × (r ≡ h → u.id ≢ t.id)) ⊎ ((r ≡ h) × ((Fetching u ≡ Fetching t) ⊎ (Draining u ≡ Fetching t))) →
+    LetterIn (fetch_of h t answers (d.buf h)).letter r u
+fetch_letter h t answers r u fresh i (inl a) = let w = i.ins.buffer r u a.0 in let z = w.below in record {
+  owner = λ b. absurd (omega arith);
+  names = λ b c. absurd (omega arith);
+}
 fetch_letter h t answers r u fresh i (inr a) =
-    let same : u ≡ t = elim a.1 as (λ _. u ≡ t) [ inl b ↦ let z : Fetching u ≡ Fetching t = b in cc | inr b ↦ let z : Draining u ≡ Fetching t = b in cc ] in
+    let same : u ≡ t = elim a.1 as (λ _. u ≡ t) [
+      | inl b ↦ let z : Fetching u ≡ Fetching t = b in cc
+      | inr b ↦ let z :
+          Draining u ≡ Fetching t = b in cc
+    ] in
     record { owner = λ b. sym a.0; names = λ b c. ap (λ (z : Taking). z.buffer) (sym same) }
 
-pub fetch_inv : {o : Offered} {e : ℕ → ℕ → Bool} {d : Desk} (new : ℕ → List In) (bl : ℕ → ℕ → Option (List ℕ)) (h : ℕ) (t : Taking) (answers : ℕ) → NewFetch o e d new bl h t answers → Inv o e d → Inv o e (sent (record d { block = bl; taking = new }) h (fetch_of h t answers (d.buf h)))
+pub fetch_inv : {o : Offered} {e : ℕ → ℕ → Bool} {d : Desk} (new : ℕ → List In) (bl : ℕ → ℕ → Option (List ℕ)) (h : ℕ)
+    (t : Taking) (answers : ℕ) → NewFetch o e d new bl h t answers → Inv o e d →
+    Inv o e (sent (record d { block = bl; taking = new }) h (fetch_of h t answers (d.buf h)))
 fetch_inv {o} {e} {d} new bl h t answers n i =
     let m = fetch_of h t answers (d.buf h) in
     let d2 : Desk = record d { block = bl; taking = new } in
-    let up : (s : ℕ) → Ascend in_id (new s) = λ s. elim (eqb_tells s h) [ inl a ↦ subst (λ j. Ascend in_id (new j)) (sym a.1) n.ascends | inr a ↦ subst (λ z. Ascend in_id z) (sym (n.elsewhere s a.1)) (i.order.ins s) ] in
+    let up : (s : ℕ) → Ascend in_id (new s) = λ s. elim (eqb_tells s h) [
+      | inl a ↦ subst (λ j. Ascend in_id (new j))
+          (sym a.1) n.ascends
+      | inr a ↦ subst (λ z. Ascend in_id z) (sym (n.elsewhere s a.1)) (i.order.ins s)
+    ] in
     record {
-      letters = letters_more m.letter (sent_knows d2 h m refl) (let f = n.fresh in let b = n.old in record { me = omega arith; answers = omega arith; from = n.handle }) (record { some = λ q. absurd (let z : RamFetch ≡ DataSave = q in (cc)) }) (letters_bump (omega arith) (omega arith) i.letters);
+      letters = letters_more m.letter (sent_knows d2 h m refl) (let f = n.fresh in let b = n.old in record {
+        me = omega arith;
+        answers = omega arith;
+        from = n.handle;
+      }) (record {
+        some = λ q. absurd (let z : RamFetch ≡
+            DataSave = q in (cc));
+      }) (letters_bump (omega arith) (omega arith) i.letters);
       outs = outs_more m.letter (sent_knows d2 h m refl)
-          (λ s x q. let w = i.outs.source s x q in let f = n.fresh in record { owner = λ b. absurd (let u = w.below in omega arith); same_id = λ b c. absurd (let u = w.below in omega arith) })
+          (λ s x q. let w = i.outs.source s x q in let f = n.fresh in record {
+            owner = λ b. absurd (let u = w.below in omega arith);
+            same_id = λ b c. absurd (let u = w.below in omega arith);
+          })
           (outs_less d.sending bl (λ s w q. q) n.sources (outs_bump (omega arith) i.outs));
       ins = ins_more m.letter (sent_knows d2 h m refl)
           (λ r u q. fetch_letter h t answers r u n.fresh i (move_active d.taking new h (Fetching t) n.move r u q))
@@ -294,11 +440,18 @@ fetch_inv {o} {e} {d} new bl h t answers n i =
           (ins_move new bl h (Fetching t) n.move n.same (record {
             holds = record {
               active = record {
-                letter = λ l k. let b = i.letters.below l k in let f = n.fresh in record { owner = λ q. absurd (let u = b.me in omega arith); names = λ q r. absurd (let u = b.me in omega arith) };
+                letter = λ l k. let b = i.letters.below l k in let f = n.fresh in record {
+                  owner = λ q.
+                      absurd (let u = b.me in omega arith);
+                  names = λ q r. absurd (let u = b.me in omega arith);
+                };
                 buffer = n.buffer;
                 buffers = n.buffers;
               };
-              carries = λ l k. let b = i.letters.below l k in let f = n.fresh in record { carries = λ a c g. absurd (let u = b.answers in omega arith) };
+              carries = λ l k. let b = i.letters.below l k in let f = n.fresh in record {
+                carries = λ a c g.
+                    absurd (let u = b.answers in omega arith);
+              };
             };
             good = λ u. n.begins;
             beside = λ u q y ne w z. n.documents u q (growing_untouched (e h) u y) ne (sym z);
@@ -306,31 +459,58 @@ fetch_inv {o} {e} {d} new bl h t answers n i =
           }) (ins_bump (omega arith) i.ins));
       boths = boths_more m.letter (sent_knows d2 h m refl)
           (λ s x q r u p. record { older = λ a. absurd (let z : RamFetch ≡ RamTransmit = a in (cc)) })
-          (λ s x q r u p. record { same_id = λ a. absurd (let z : RamFetch ≡ RamTransmit = a in (cc)); ahead = λ a. absurd (let z : RamFetch ≡ RamTransmit = a in (cc)) })
+          (λ s x q r u p. record {
+            same_id = λ a. absurd (let z : RamFetch ≡ RamTransmit = a in (cc));
+            ahead = λ a.
+                absurd (let z : RamFetch ≡ RamTransmit = a in (cc));
+          })
           (boths_in new h (Fetching t) n.move (record {
-            active = record { older = λ l k s x q. let b = i.letters.below l k in let f = n.fresh in record { older = λ a c g y. absurd (let u = b.answers in omega arith) } };
-            ahead = λ l k s x q. let b = i.letters.below l k in let f = n.fresh in record { same_id = λ a c g y. absurd (let u = b.answers in omega arith); ahead = λ a c g y. absurd (let u = b.answers in omega arith) };
+            active = record {
+              older = λ l k s x q. let b = i.letters.below l k in let f = n.fresh in record {
+                older = λ a c g y. absurd (let u = b.answers in omega arith);
+              };
+            };
+            ahead = λ l k s x q. let b = i.letters.below l k in let f = n.fresh in record {
+              same_id = λ a c g y.
+                  absurd (let u = b.answers in omega arith);
+              ahead = λ a c g y. absurd (let u = b.answers in omega arith);
+            };
           }) (λ y. n.apart) i.boths);
-      loads = loads_other m.letter (sent_knows d2 h m refl) n.fresh (loads_end new h (Fetching t) n.move (λ q u. absurd (let z : Asking q ≡ Fetching t = u in (cc))) i.loads);
+      loads = loads_other m.letter (sent_knows d2 h m refl) n.fresh (loads_end new h (Fetching t) n.move (λ q u.
+          absurd (let z : Asking q ≡ Fetching t = u in (cc))) i.loads);
       few = record { outs = i.few.outs; ins = few_at d.taking new h n.elsewhere n.few i.few.ins };
       order = order_send m n.fresh (queue_below i) (order_in new h (Fetching t) n.move up n.born n.above i.order);
       alive = i.alive;
       positive = omega arith;
     }
 
-pub fetch_pending : {o : Offered} {e : ℕ → ℕ → Bool} {d : Desk} (new : ℕ → List In) (bl : ℕ → ℕ → Option (List ℕ)) (h : ℕ) (t : Taking) (answers : ℕ) → NewFetch o e d new bl h t answers → Inv o e d → Quiet d h t.id →
-    ((s : ℕ) (x : Sending) → Has (Open x) (d.sending s) → answers ≡ x.last → h ≡ x.recipient → (t.id ≡ x.id) × (t.sender ≡ s) × (x.count ≡ t.count)) → Pending d → Pending (sent (record d { block = bl; taking = new }) h (fetch_of h t answers (d.buf h)))
+pub fetch_pending : {o : Offered} {e : ℕ → ℕ → Bool} {d : Desk} (new : ℕ → List In) (bl : ℕ → ℕ → Option (List ℕ))
+    (h : ℕ) (t : Taking) (answers : ℕ) →
+    NewFetch o e d new bl h t answers → Inv o e d → Quiet d h t.id →
+    ((s : ℕ) (x : Sending) → Has (Open x) (d.sending s) → answers ≡ x.last → h ≡ x.recipient → (t.id ≡ x.id) ×
+    (t.sender ≡ s) × (x.count ≡ t.count)) → Pending d → Pending (sent (record d { block = bl; taking = new }) h
+    (fetch_of h t answers (d.buf h)))
 fetch_pending {o} {e} {d} new bl h t answers n i quiet level p s x q l k =
     let m = fetch_of h t answers (d.buf h) in
     let d2 : Desk = record d { block = bl; taking = new } in
     let fresh = n.fresh in
     elim (sent_knows d2 h m refl l k.known) [
       | inl a ↦
-          let k0 : Asks d s x l = record { known = a; kind = k.kind; answers = k.answers; from = k.from; live = k.live; fetches = k.fetches } in
-          waits_kept (d.taking l.from) (new l.from) (λ u act z. n.keeps l.from u act (λ r f. quiet s x q l k0 r (sym z ∙ f)))
-          (waits_sent d2 h m s l x (d.taking l.from) (d.buf l.from) (λ u act eq. let w = i.ins.buffer l.from u act in let b = w.below in absurd (omega arith)) (p s x q l k0))
+          let k0 : Asks d s x l = record {
+            known = a;
+            kind = k.kind;
+            answers = k.answers;
+            from = k.from;
+            live = k.live;
+            fetches = k.fetches;
+          } in
+          waits_kept (d.taking l.from) (new l.from) (λ u act z. n.keeps l.from u act (λ r f. quiet s x q l k0 r
+          (sym z ∙ f)))
+          (waits_sent d2 h m s l x (d.taking l.from) (d.buf l.from) (λ u act eq. let w = i.ins.buffer l.from u act in
+          let b = w.below in absurd (omega arith)) (p s x q l k0))
       | inr a ↦ subst (λ z. Waits (sent d2 h m).queue (sent d2 h m).held s z x (new z.from) (d.buf z.from)) (sym a)
-          (let v = level s x q (ap (λ (z : Letter). z.answers) (sym a) ∙ k.answers) (ap (λ (z : Letter). z.from) (sym a) ∙ k.from) in
+          (let v = level s x q (ap (λ (z : Letter). z.answers) (sym a) ∙ k.answers) (ap (λ (z : Letter). z.from)
+          (sym a) ∙ k.from) in
           let w = i.outs.source s x q in
           record {
             taking = t;
@@ -343,358 +523,18 @@ fetch_pending {o} {e} {d} new bl h t answers n i quiet level p s x q l k =
             level = v.2;
             unread = λ y has r. elim (Has-append y d.queue (m ∷ []) has) [
               | inl b ↦ let u = queue_below i y b in absurd (omega arith)
-              | inr b ↦ elim b [ inl c ↦ subst (λ (z : Message). IsWaiting z s m.letter) c (record { code = refl; to = v.1; from = refl; kind = refl; answers = refl }) | inr c ↦ absurd c ]
+              | inr b ↦ elim b [
+                | inl c ↦ subst (λ (z : Message). IsWaiting z s m.letter) c (record {
+                  code = refl;
+                  to = v.1;
+                  from = refl;
+                  kind = refl;
+                  answers = refl;
+                })
+                | inr c ↦ absurd c
+              ]
             ];
-            free = λ b y is r. let u = i.letters.below y.letter (kept b y (still_is d2 h answers b y is) refl) in let c = u.me in omega arith;
+            free = λ b y is r. let u = i.letters.below y.letter (kept b y (still_is d2 h answers b y is) refl) in
+                let c = u.me in omega arith;
           })
     ]
-
--- ---- a record ends
-
-pub put2_other : {A : Type 0} (f : ℕ → ℕ → A) (h a : ℕ) (v : A) (r b : ℕ) → (r ≡ h → b ≢ a) → put f h (put (f h) a v) r b ≡ f r b
-put2_other f h a v r b ne =
-    elim (eqb_tells r h) [
-      | inl w ↦ rw w.0 (put_other (f h) a v b (ne w.1) ∙ ap (λ j. f j b) (sym w.1))
-      | inr w ↦ rw w.0 refl
-    ]
-
-pub put2_same : {A : Type 0} (f : ℕ → ℕ → A) (h a : ℕ) (v : A) → put f h (put (f h) a v) h a ≡ v
-put2_same {A = A} f h a v = ap (λ (g : ℕ → A). g a) (put_same f h (put (f h) a v)) ∙ put_same (f h) a v
-
-pub keeps_with : (old : ℕ → List In) (h i : ℕ) (v : In) → KeepsActive old (put old h (with_id in_id i v (old h))) h i
-keeps_with old h i v r t act ne =
-    elim (eqb_tells r h) [
-      | inl w ↦ rw w.0 (elim act [
-        | inl a ↦ inl (with_keeps in_id i v (old h) (Fetching t) (subst (λ j. Has (Fetching t) (old j)) w.1 a) (ne w.1))
-        | inr a ↦ inr (with_keeps in_id i v (old h) (Draining t) (subst (λ j. Has (Draining t) (old j)) w.1 a) (ne w.1))
-      ])
-      | inr w ↦ rw w.0 act
-    ]
-
--- a block of the heap that is no buffer
-pub heap_inv : {o : Offered} {e : ℕ → ℕ → Bool} {d : Desk} (h a : ℕ) (v : Option (List ℕ)) → ((t : Taking) → Active (d.taking h) t → t.buffer ≢ a) → Inv o e d → Inv o e (record d { heap = put d.heap h (put (d.heap h) a v) })
-heap_inv {o} {e} {d} h a v free i = record {
-  letters = i.letters;
-  outs = i.outs;
-  ins = ins_less e d.taking d.block (put d.heap h (put (d.heap h) a v)) (λ s w q. q)
-      (record { before = λ r w q u. u; blocks = λ r w q u. refl; heaps = λ r u q. put2_other d.heap h a v r u.buffer (λ here. free u (subst (λ j. Active (d.taking j) u) here q)) }) i.ins;
-  boths = i.boths;
-  loads = i.loads;
-  few = i.few;
-  order = i.order;
-  alive = i.alive;
-  positive = i.positive;
-}
-
--- a record that is over, in the place of one of its id
-pub record Ends (o : Offered) (e : ℕ → ℕ → Bool) (d : Desk) (bl : ℕ → ℕ → Option (List ℕ)) (h i : ℕ) (v : In) : Type 0 where
-  pub same_id : in_id v ≡ i
-  pub over : is_going v ≡ false
-  pub was : In
-  pub has : Has was (d.taking h)
-  pub was_id : in_id was ≡ i
-  pub holds : HoldOk (Knows d) o d.taking d.heap d.buf d.next_ref h v
-  pub both : BothInOk (Knows d) d.sending h v
-  pub sources : (s : ℕ) (x : Sending) → Has (Open x) (d.sending s) → bl s x.anchor ≡ d.block s x.anchor
-  pub same : (r : ℕ) (w : In) → Has w (d.taking r) → (r ≡ h → in_id w ≢ in_id v) → Untouched (e r) w → bl r (in_anchor w) ≡ d.block r (in_anchor w)
-  pub good : Untouched (e h) v → IsGood o v (bl h (in_anchor v))
-  pub beside : (u : In) → Has u (d.taking h) → is_growing u ≡ true → in_id u ≢ in_id v → Untouched (e h) v → in_anchor v ≢ in_anchor u
-
--- what goes on is not over
-going_on : (v w : In) → is_going v ≡ false → w ≡ v → is_going w ≡ true → ⊥
-going_on v w over same going = let z : Bool.true ≡ false = sym going ∙ ap is_going same ∙ over in (cc)
-
-growing_goes : (w : In) → is_growing w ≡ true → is_going w ≡ true
-growing_goes (Fetching t) q = refl
-growing_goes (Draining t) q = refl
-growing_goes (Asking a) q = refl
-growing_goes (In_done i a n) q = q
-growing_goes (In_failed i a n) q = q
-
-pub end_inv : {o : Offered} {e : ℕ → ℕ → Bool} {d : Desk} (bl : ℕ → ℕ → Option (List ℕ)) (h j : ℕ) (v : In) → Ends o e d bl h j v → Inv o e d → Inv o e (record d { block = bl; taking = put d.taking h (with_id in_id j v (d.taking h)) })
-end_inv {o} {e} {d} bl h j v n i =
-    let new = put d.taking h (with_id in_id j v (d.taking h)) in
-    let mv : Move in_id d.taking new h v = move_with in_id d.taking h j v n.same_id in
-    let same_id = n.same_id in
-    let was_id = n.was_id in
-    record {
-      letters = i.letters;
-      outs = outs_less d.sending bl (λ s w q. q) n.sources i.outs;
-      ins = ins_move new bl h v mv n.same (record { holds = n.holds; good = n.good; beside = n.beside; documents = λ y. absurd (going_on v v n.over refl (growing_goes v y)) }) i.ins;
-      boths = boths_in new h v mv n.both (λ y. absurd (going_on v v n.over refl (growing_goes v y))) i.boths;
-      loads = loads_end new h v mv (λ q u. going_on v (Asking q) n.over u refl) i.loads;
-      few = record { outs = i.few.outs; ins = few_put d.taking h (with_id in_id j v (d.taking h)) (few_with in_id (d.taking h) j v (i.few.ins h)) i.few.ins };
-      order = order_in new h v mv (put_ascends in_id d.taking h (with_id in_id j v (d.taking h)) i.order.ins (with_ascends in_id j v (d.taking h) n.same_id (i.order.ins h))) (let z = i.order.in_below h n.was n.has in omega arith) (λ m has un to. let z = i.order.above h n.was m n.has has un to in omega arith) i.order;
-      alive = i.alive;
-      positive = i.positive;
-    }
-
-pub ended_good : {o : Offered} {e : ℕ → ℕ → Bool} {d : Desk} (bl : ℕ → ℕ → Option (List ℕ)) (h : ℕ) (t : Taking) (v : In) → Active (d.taking h) t → Quiet d h t.id → Ends o e d bl h t.id v → Good o e d → Good o e (ended (record d { block = bl }) h t v)
-ended_good {o} {e} {d} bl h t v act quiet n g =
-    let i = g.inv in
-    let new = put d.taking h (with_id in_id t.id v (d.taking h)) in
-    let mv : Move in_id d.taking new h v = move_with in_id d.taking h t.id v n.same_id in
-    record {
-      inv = heap_inv h t.buffer None (λ u q. elim (move_active d.taking new h v mv h u q) [
-        | inl a ↦ λ eq. a.1 refl (i.ins.buffers h u t a.0 act eq ∙ sym n.same_id)
-        | inr a ↦ elim a.1 [ inl b ↦ absurd (going_on v (Fetching u) n.over b refl) | inr b ↦ absurd (going_on v (Draining u) n.over b refl) ]
-      ]) (end_inv bl h t.id v n i);
-      pending = λ s x q l k.
-          let k0 : Asks d s x l = record { known = k.known; kind = k.kind; answers = k.answers; from = k.from; live = k.live; fetches = k.fetches } in
-          waits_kept (d.taking l.from) (new l.from) (λ u a z. keeps_with d.taking h t.id v l.from u a (λ r f. quiet s x q l k0 r (sym z ∙ f))) (g.pending s x q l k0);
-      born = g.born;
-    }
-
-pub active_id : {o : Offered} {e : ℕ → ℕ → Bool} {d : Desk} (h : ℕ) (t : Taking) → Active (d.taking h) t → Inv o e d → (t.id < d.next_ref) × ((m : Message) → Has m d.queue → Unread m → m.to ≡ h → t.id < m.letter.me)
-active_id h t (inl a) i = (i.order.in_below h (Fetching t) a, λ m has un to. i.order.above h (Fetching t) m a has un to)
-active_id h t (inr a) i = (i.order.in_below h (Draining t) a, λ m has un to. i.order.above h (Draining t) m a has un to)
-
--- a record that holds a buffer has an id of its own
-pub not_active : {o : Offered} {e : ℕ → ℕ → Bool} {d : Desk} (h : ℕ) (w : In) → Inv o e d → Has w (d.taking h) → ((t : Taking) → w ≡ Fetching t → ⊥) → ((t : Taking) → w ≡ Draining t → ⊥) → (u : Taking) → Active (d.taking h) u → u.id ≢ in_id w
-not_active {o} {e} {d} h w i has f g u (inl a) eq = f u (one_of_id in_id (d.taking h) w (Fetching u) (i.order.ins h) has a (sym eq))
-not_active {o} {e} {d} h w i has f g u (inr a) eq = g u (one_of_id in_id (d.taking h) w (Draining u) (i.order.ins h) has a (sym eq))
-
--- a record that waited for a file is over
-pub asked_over : {o : Offered} {e : ℕ → ℕ → Bool} {d : Desk} (bl : ℕ → ℕ → Option (List ℕ)) (h : ℕ) (q : Asked) (v : In) → Has (Asking q) (d.taking h) → Ends o e d bl h q.id v → Good o e d → Good o e (record d { block = bl; taking = put d.taking h (with_id in_id q.id v (d.taking h)) })
-asked_over {o} {e} {d} bl h q v has n g =
-    let new = put d.taking h (with_id in_id q.id v (d.taking h)) in
-    record {
-      inv = end_inv bl h q.id v n g.inv;
-      pending = λ s x p l k.
-          let k0 : Asks d s x l = record { known = k.known; kind = k.kind; answers = k.answers; from = k.from; live = k.live; fetches = k.fetches } in
-          waits_kept (d.taking l.from) (new l.from)
-          (λ u a z. keeps_with d.taking h q.id v l.from u a (λ r. not_active h (Asking q) g.inv has (λ t y. let b : Asking q ≡ Fetching t = y in (cc)) (λ t y. let b : Asking q ≡ Draining t = y in (cc)) u (subst (λ j. Active (d.taking j) u) r a)))
-          (g.pending s x p l k0);
-      born = g.born;
-    }
-
--- a letter that says nothing of bytes
-pub record Tells (d : Desk) (h : ℕ) (n : Letter) : Type 0 where
-  pub fresh : n.me ≡ d.next_ref
-  pub old : n.answers < d.next_ref
-  pub from : n.from < d.next_handle
-  pub sender : n.from ≡ h
-  pub not_save : n.kind ≡ DataSave → ⊥
-  pub not_fetch : n.kind ≡ RamFetch → ⊥
-  pub not_transmit : n.kind ≡ RamTransmit → ⊥
-
-pub tell_good : {o : Offered} {e : ℕ → ℕ → Bool} {d : Desk} (h : ℕ) (m : Message) → Tells d h m.letter → Good o e d → Good o e (sent d h m)
-tell_good {o} {e} {d} h m n g =
-    let i = g.inv in
-    let nl = m.letter in
-    let f = n.fresh in
-    record {
-      inv = record {
-        letters = letters_more nl (sent_knows d h m n.sender) (let b = n.old in record { me = omega arith; answers = omega arith; from = n.from }) (record { some = λ q. absurd (n.not_save q) }) (letters_bump (omega arith) (omega arith) i.letters);
-        outs = outs_more nl (sent_knows d h m n.sender)
-            (λ s x q. let w = i.outs.source s x q in record { owner = λ b. absurd (let u = w.below in omega arith); same_id = λ b c. absurd (let u = w.below in omega arith) })
-            (outs_bump (omega arith) i.outs);
-        ins = ins_more nl (sent_knows d h m n.sender)
-            (λ r t q. let w = i.ins.buffer r t q in record { owner = λ b. absurd (let u = w.below in omega arith); names = λ b c. absurd (let u = w.below in omega arith) })
-            (λ r t q. record { carries = λ a. absurd (n.not_transmit a) })
-            (ins_bump (omega arith) i.ins);
-        boths = boths_more nl (sent_knows d h m n.sender)
-            (λ s x q r t u. record { older = λ a. absurd (n.not_transmit a) })
-            (λ s x q r t u. record { same_id = λ a. absurd (n.not_transmit a); ahead = λ a. absurd (n.not_transmit a) }) i.boths;
-        loads = loads_other nl (sent_knows d h m n.sender) n.fresh i.loads;
-        few = i.few;
-        order = order_send m n.fresh (queue_below i) i.order;
-        alive = i.alive;
-        positive = omega arith;
-      };
-      pending = λ s x q l k. elim (sent_knows d h m n.sender l k.known) [
-        | inl a ↦ waits_sent d h m s l x (d.taking l.from) (d.buf l.from) (λ u act eq. let w = i.ins.buffer l.from u act in let y = w.below in absurd (omega arith))
-            (g.pending s x q l (record { known = a; kind = k.kind; answers = k.answers; from = k.from; live = k.live; fetches = k.fetches }))
-        | inr a ↦ absurd (n.not_fetch (ap (λ (z : Letter). z.kind) (sym a) ∙ k.kind))
-      ];
-      born = λ j le. g.born j (omega arith);
-    }
-
--- a record that waits for a file holds no buffer
-still_active : (taking new : ℕ → List In) (h : ℕ) (q : Asked) → Move in_id taking new h (Asking q) → (r : ℕ) (u : Taking) → Active (new r) u → Active (taking r) u × (r ≡ h → u.id ≢ q.id)
-still_active taking new h q m r u (inl y) = elim (m r (Fetching u) y) [ inl a ↦ (inl a.0, a.1) | inr a ↦ absurd (let z : Fetching u ≡ Asking q = a.1 in (cc)) ]
-still_active taking new h q m r u (inr y) = elim (m r (Draining u) y) [ inl a ↦ (inr a.0, a.1) | inr a ↦ absurd (let z : Draining u ≡ Asking q = a.1 in (cc)) ]
-
--- the first fetch is back: the buffer goes, and the sender is asked for a file
-pub asked_good : {o : Offered} {e : ℕ → ℕ → Bool} {d : Desk} (h : ℕ) (t : Taking) → Has (Fetching t) (d.taking h) → t.count ≡ 0 → h < d.next_handle → Quiet d h t.id → Good o e d → Good o e (asked d h t)
-asked_good {o} {e} {d} h t is none handle quiet g =
-    let i = g.inv in
-    let q : Asked = record { id = t.id; sender = t.sender; anchor = t.anchor; ack = d.next_ref } in
-    let v = Asking q in
-    let new = put d.taking h (with_id in_id t.id v (d.taking h)) in
-    let mv : Move in_id d.taking new h v = move_with in_id d.taking h t.id v refl in
-    let m : Message = record { code = Recorded; to = t.sender; letter = record { from = h; me = d.next_ref; answers = t.id; kind = DataSaveAck; address = 0; amount = 0 } } in
-    let d1 : Desk = record d { taking = new } in
-    let doc : Begins o t.id t.count (d.block h t.anchor) = i.ins.good h (Fetching t) is tt in
-    let id = i.order.in_below h (Fetching t) is in
-    let step1 : Inv o e (sent d1 h m) = record {
-      letters = letters_more m.letter (sent_knows d1 h m refl) (record { me = omega arith; answers = omega arith; from = handle }) (record { some = λ y. absurd (let z : DataSaveAck ≡ DataSave = y in (cc)) }) (letters_bump (omega arith) (omega arith) i.letters);
-      outs = outs_more m.letter (sent_knows d1 h m refl)
-          (λ s x y. let w = i.outs.source s x y in record { owner = λ b. absurd (let u = w.below in omega arith); same_id = λ b c. absurd (let u = w.below in omega arith) })
-          (outs_bump (omega arith) i.outs);
-      ins = ins_more m.letter (sent_knows d1 h m refl)
-          (λ r u y. let w = i.ins.buffer r u (still_active d.taking new h q mv r u y).0 in let z = w.below in record { owner = λ b. absurd (omega arith); names = λ b c. absurd (omega arith) })
-          (λ r u y. record { carries = λ a. absurd (let z : DataSaveAck ≡ RamTransmit = a in (cc)) })
-          (ins_move new d.block h v mv (λ r w p ne u. refl)
-          (record {
-            holds = tt;
-            good = λ u. record { all = doc.all; offered = doc.offered; there = doc.there ∙ ap (λ k. Option.Some (take k doc.all)) none; fits = omega arith };
-            beside = λ u y z ne w eq. ne (sym (i.ins.documents h u (Fetching t) y z is tt eq));
-            documents = λ y w p u ne eq. ne (i.ins.documents h (Fetching t) w is refl p u eq);
-          }) (ins_bump (omega arith) i.ins));
-      boths = boths_more m.letter (sent_knows d1 h m refl)
-          (λ s x p r u y. record { older = λ a. absurd (let z : DataSaveAck ≡ RamTransmit = a in (cc)) })
-          (λ s x p r u y. record { same_id = λ a. absurd (let z : DataSaveAck ≡ RamTransmit = a in (cc)); ahead = λ a. absurd (let z : DataSaveAck ≡ RamTransmit = a in (cc)) })
-          (boths_in new h v mv tt (λ y x p. i.boths.apart h x (Fetching t) p is refl) i.boths);
-      loads = loads_more m.letter (sent_knows d1 h m refl)
-          (λ r u y. elim (mv r (Asking u) y) [
-            | inl a ↦ let w = i.loads.ack_below r u a.0 in record { names = λ b c. absurd (omega arith) }
-            | inr a ↦ let z : u ≡ q = (let w : Asking u ≡ Asking q = a.1 in cc) in record { names = λ b c. ap (λ (j : Asked). j.id) (sym z) }
-          ])
-          (λ r u y. record { whole = λ f s a. absurd (let z : DataSaveAck ≡ DataLoad = a in (cc)) })
-          (loads_in new h v mv (record { fresh = refl; me = λ l k. (i.letters.below l k).me; answers = λ l k. (i.letters.below l k).answers }) i.loads);
-      few = record { outs = i.few.outs; ins = few_put d.taking h (with_id in_id t.id v (d.taking h)) (few_with in_id (d.taking h) t.id v (i.few.ins h)) i.few.ins };
-      order = order_send m refl (queue_below i) (order_in new h v mv (put_ascends in_id d.taking h (with_id in_id t.id v (d.taking h)) i.order.ins (with_ascends in_id t.id v (d.taking h) refl (i.order.ins h))) id (λ y has un to. i.order.above h (Fetching t) y is has un to) i.order);
-      alive = i.alive;
-      positive = omega arith;
-    } in
-    record {
-      inv = heap_inv h t.buffer None (λ u y eq. let a = still_active d.taking new h q mv h u y in a.1 refl (i.ins.buffers h u t a.0 (inl is) eq)) step1;
-      pending = λ s x p l k. elim (sent_knows d1 h m refl l k.known) [
-        | inl a ↦
-            let k0 : Asks d s x l = record { known = a; kind = k.kind; answers = k.answers; from = k.from; live = k.live; fetches = k.fetches } in
-            waits_kept (d.taking l.from) (new l.from) (λ u b z. keeps_with d.taking h t.id v l.from u b (λ r f. quiet s x p l k0 r (sym z ∙ f)))
-            (waits_sent d1 h m s l x (d.taking l.from) (d.buf l.from) (λ u act eq. let w = i.ins.buffer l.from u act in let y = w.below in absurd (omega arith)) (g.pending s x p l k0))
-        | inr a ↦ absurd (let z : DataSaveAck ≡ RamFetch = ap (λ (z : Letter). z.kind) (sym a) ∙ k.kind in (cc))
-      ];
-      born = λ j le. g.born j (omega arith);
-    }
-
--- a record that keeps its buffer, and takes no more
-pub drained_good : {o : Offered} {e : ℕ → ℕ → Bool} {d : Desk} (h : ℕ) (t : Taking) → Has (Fetching t) (d.taking h) → Good o e d → Good o e (record d { taking = put d.taking h (with_id in_id t.id (Draining t) (d.taking h)) })
-drained_good {o} {e} {d} h t here g =
-    let i = g.inv in
-    let v = Draining t in
-    let new = put d.taking h (with_id in_id t.id v (d.taking h)) in
-    let mv : Move in_id d.taking new h v = move_with in_id d.taking h t.id v refl in
-    let act : Active (d.taking h) t = inl here in
-    record {
-      inv = record {
-        letters = i.letters;
-        outs = i.outs;
-        ins = ins_move new d.block h v mv (λ r w q ne u. refl)
-            (record {
-              holds = record { letter = λ l k. i.ins.letter l k h t act; buffer = i.ins.buffer h t act; buffers = λ u a ne eq. ne (i.ins.buffers h u t a act eq) };
-              good = λ u. i.ins.good h (Fetching t) here tt;
-              beside = λ u q y ne w eq. ne (sym (i.ins.documents h u (Fetching t) q y here tt eq));
-              documents = λ y. absurd (let z : Bool.false ≡ true = y in (cc));
-            }) i.ins;
-        boths = boths_in new h v mv (record { older = λ l k s x q. i.boths.older l k s x q h t act }) (λ y. absurd (let z : Bool.false ≡ true = y in (cc))) i.boths;
-        loads = loads_end new h v mv (λ q u. absurd (let z : Asking q ≡ Draining t = u in (cc))) i.loads;
-        few = record { outs = i.few.outs; ins = few_put d.taking h (with_id in_id t.id v (d.taking h)) (few_with in_id (d.taking h) t.id v (i.few.ins h)) i.few.ins };
-        order = order_in new h v mv (put_ascends in_id d.taking h (with_id in_id t.id v (d.taking h)) i.order.ins (with_ascends in_id t.id v (d.taking h) refl (i.order.ins h))) (i.order.in_below h (Fetching t) here) (λ m has un to. i.order.above h (Fetching t) m here has un to) i.order;
-        alive = i.alive;
-        positive = i.positive;
-      };
-      pending = λ s x q l k.
-          let k0 : Asks d s x l = record { known = k.known; kind = k.kind; answers = k.answers; from = k.from; live = k.live; fetches = k.fetches } in
-          waits_kept (d.taking l.from) (new l.from)
-          (λ u a z. elim (eqb_tells u.id t.id) [
-            | inl b ↦ elim (eqb_tells l.from h) [
-              | inl c ↦
-                  let z : u ≡ t = one_active (d.taking h) u t (i.order.ins h) (subst (λ j. Active (d.taking j) u) c.1 a) act b.1 in
-                  rw c.0 (inr (subst (λ j. Has (Draining j) (with_id in_id t.id v (d.taking h))) (sym z) (with_puts in_id t.id v (d.taking h) (Fetching t) here refl)))
-              | inr c ↦ keeps_with d.taking h t.id v l.from u a (λ r. absurd (c.1 r))
-            ]
-            | inr b ↦ keeps_with d.taking h t.id v l.from u a (λ r. b.1)
-          ])
-          (g.pending s x q l k0);
-      born = g.born;
-    }
-
--- ---- the heap and the blocks of one task
-
--- bytes of the same length go into the buffer, while no transmit for it is unread
-pub write_inv : {o : Offered} {e : ℕ → ℕ → Bool} {d : Desk} (r : ℕ) (t : Taking) (old bytes : List ℕ) → Active (d.taking r) t → d.heap r t.buffer ≡ Some old → length bytes ≡ length old →
-    ((l : Letter) (u : Taking) → Knows d l → l.kind ≡ RamTransmit → Has (Fetching u) (d.taking r) → l.answers ≡ u.fetch → l.from ≡ u.sender → u.id ≢ t.id) →
-    Inv o e d → Inv o e (record d { heap = put d.heap r (put (d.heap r) t.buffer (Some bytes)) })
-write_inv {o} {e} {d} r t old bytes act is same none i =
-    let hp = put d.heap r (put (d.heap r) t.buffer (Some bytes)) in
-    let n = i.ins in
-    record {
-      letters = i.letters;
-      outs = i.outs;
-      ins = record {
-        letter = n.letter;
-        carries = λ l k j u q. record {
-          carries = λ a b c.
-              let z = (n.carries l k j u q).carries a b c in
-              record {
-                all = z.all;
-                bytes = z.bytes;
-                offered = z.offered;
-                there = put2_other d.heap r t.buffer (Some bytes) j u.buffer (λ here eq. none l u k a (subst (λ y. Has (Fetching u) (d.taking y)) here q) b c (n.buffers r u t (subst (λ y. Active (d.taking y) u) here (inl q)) act eq)) ∙ z.there;
-                same = z.same;
-                fits = z.fits;
-                short = z.short;
-              };
-        };
-        good = n.good;
-        buffer = λ j u q.
-            let w = n.buffer j u q in
-            elim (eqb_tells j r) [
-              | inl a ↦ elim (eqb_tells u.buffer t.buffer) [
-                | inl b ↦ record {
-                  bytes = bytes;
-                  there = ap (λ y. put d.heap r (put (d.heap r) t.buffer (Some bytes)) y u.buffer) a.1 ∙ ap (λ y. put d.heap r (put (d.heap r) t.buffer (Some bytes)) r y) b.1 ∙ put2_same d.heap r t.buffer (Some bytes);
-                  size = let e = same ∙ ap length (same_value (d.heap r t.buffer) is (subst (λ y. d.heap r y ≡ Some w.bytes) b.1 (subst (λ y. d.heap y u.buffer ≡ Some w.bytes) a.1 w.there))) in let z = w.size in omega arith;
-                  below = w.below;
-                }
-                | inr b ↦ record { bytes = w.bytes; there = put2_other d.heap r t.buffer (Some bytes) j u.buffer (λ here. b.1) ∙ w.there; size = w.size; below = w.below }
-              ]
-              | inr a ↦ record { bytes = w.bytes; there = put2_other d.heap r t.buffer (Some bytes) j u.buffer (λ here. absurd (a.1 here)) ∙ w.there; size = w.size; below = w.below }
-            ];
-        buffers = n.buffers;
-        documents = n.documents;
-        room = n.room;
-      };
-      boths = i.boths;
-      loads = i.loads;
-      few = i.few;
-      order = i.order;
-      alive = i.alive;
-      positive = i.positive;
-    }
-
--- a block that no record rests on
-pub record NotUsed (d : Desk) (e e' : ℕ → ℕ → Bool) (h a : ℕ) : Type 0 where
-  pub sources : (x : Sending) → Has (Open x) (d.sending h) → x.anchor ≢ a
-  pub documents : (w : In) → Has w (d.taking h) → Untouched (e' h) w → in_anchor w ≢ a
-  pub before : (r : ℕ) (w : In) → Untouched (e' r) w → Untouched (e r) w
-
-pub block_inv : {o : Offered} {e : ℕ → ℕ → Bool} {d : Desk} (e' : ℕ → ℕ → Bool) (h a : ℕ) (v : Option (List ℕ)) → NotUsed d e e' h a → Inv o e d → Inv o e' (record d { block = put d.block h (put (d.block h) a v) })
-block_inv {o} {e} {d} e' h a v n i = record {
-  letters = i.letters;
-  outs = outs_less d.sending (put d.block h (put (d.block h) a v)) (λ s w q. q) (λ s x q. put2_other d.block h a v s x.anchor (λ here. n.sources x (subst (λ j. Has (Open x) (d.sending j)) here q))) i.outs;
-  ins = ins_less e' d.taking (put d.block h (put (d.block h) a v)) d.heap (λ s w q. q)
-      (record {
-        before = λ r w q u. n.before r w u;
-        blocks = λ r w q u. put2_other d.block h a v r (in_anchor w) (λ here. n.documents w (subst (λ j. Has w (d.taking j)) here q) (subst (λ j. Untouched (e' j) w) here u));
-        heaps = λ r u q. refl;
-      }) i.ins;
-  boths = i.boths;
-  loads = i.loads;
-  few = i.few;
-  order = i.order;
-  alive = i.alive;
-  positive = i.positive;
-}
-
--- ---- the scrap file
-
-pub lost_good : {o : Offered} {e : ℕ → ℕ → Bool} {d : Desk} → Good o e d → Good o e (record d { scrap = None })
-lost_good g = record {
-  inv = record { letters = g.inv.letters; outs = g.inv.outs; ins = g.inv.ins; boths = g.inv.boths; loads = loads_lost g.inv.loads; few = g.inv.few; order = g.inv.order; alive = g.inv.alive; positive = g.inv.positive };
-  pending = λ s x q l k. g.pending s x q l (record { known = k.known; kind = k.kind; answers = k.answers; from = k.from; live = k.live; fetches = k.fetches });
-  born = g.born;
-}

@@ -37,7 +37,14 @@ abbrev pub seen_parcel : Parcel → ram.Message
 seen_parcel p = record {
   code = p.code;
   to = p.to;
-  letter = record { from = p.message.from; me = p.message.my_ref; answers = p.message.your_ref; kind = action_of p.message.body; address = address_in p.message.body; amount = amount_in p.message.body };
+  letter = record {
+    from = p.message.from;
+    me = p.message.my_ref;
+    answers = p.message.your_ref;
+    kind = action_of p.message.body;
+    address = address_in p.message.body;
+    amount = amount_in p.message.body;
+  };
 }
 
 -- a letter with its ref
@@ -45,7 +52,14 @@ abbrev pub seen_letter : Letter → ℕ → ram.Message
 seen_letter l ref = record {
   code = l.code;
   to = l.to;
-  letter = record { from = l.from; me = ref; answers = l.your_ref; kind = action_of l.body; address = address_in l.body; amount = amount_in l.body };
+  letter = record {
+    from = l.from;
+    me = ref;
+    answers = l.your_ref;
+    kind = action_of l.body;
+    address = address_in l.body;
+    amount = amount_in l.body;
+  };
 }
 
 -- the letter that a task sent last

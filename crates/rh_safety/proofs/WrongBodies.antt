@@ -1,5 +1,6 @@
 -- Runs with one definition changed, on which a law fails: so the laws say something of each of these definitions.
-use Rattle.std.specs.Prelude.{◌≡◌, refl, ℕ, ◌+◌, Bool, true, false, not, ◌&&◌, nat_le, nat_lt, ◌==◌, if◌then◌else◌, List, [], ◌∷◌, length, take, drop, find, Option, Some, None, Ok}
+use Rattle.std.specs.Prelude.{◌≡◌, refl, ℕ, ◌+◌, Bool, true, false, not, ◌&&◌, nat_le, nat_lt, ◌==◌, if◌then◌else◌}
+use Rattle.std.specs.Prelude.{List, [], ◌∷◌, length, take, drop, find, Option, Some, None, Ok}
 use Rattle.std.specs.List.{list_any, list_all, filter_map}
 use Rattle.hex.proofs.OnLiterals.{hex_on_literals}
 use Prim.Native.String.{String}
@@ -28,9 +29,11 @@ use Rattle.rh_defs.specs.Records.{out_id, in_id, is_open, is_source, is_full, on
 use Rattle.rh_defs.specs.Sender as sender
 use Rattle.rh_defs.specs.Receiver as receiver
 use Rattle.rh_defs.specs.Places.{buffer_at, free_anchor, written_in}
-use Rattle.rh_defs.specs.Desk.{Desk, Task, Scrap, next_ref, free_pages, has_name, named, task_at, with_task, with_slot, with_sending, with_taking, with_delivered, send_letter}
+use Rattle.rh_defs.specs.Desk.{Desk, Task, Scrap, next_ref, free_pages, has_name, named, task_at, with_task}
+use Rattle.rh_defs.specs.Desk.{with_slot, with_sending, with_taking, with_delivered, send_letter}
 use Rattle.rh_defs.specs.Commands.{Answer}
-use Rattle.rh_defs.specs.OutgoingEvents.{Handled, ignored, portion, is_out_of_reach, refused, answer_fetch, scrap_shortage, wider, answer_ack}
+use Rattle.rh_defs.specs.OutgoingEvents.{Handled, ignored, portion, is_out_of_reach, refused, answer_fetch}
+use Rattle.rh_defs.specs.OutgoingEvents.{scrap_shortage, wider, answer_ack}
 use Rattle.rh_defs.specs.IncomingEvents.{is_deaf, end_failed, take_save, appended, loaded, take_file}
 use Rattle.rh_defs.specs.Transfer.{answers_none, came, came_back}
 use Rattle.rh_defs.specs.Step.{event, save, cancel_in, step}
@@ -51,7 +54,8 @@ record Rules : Type 0 where
 
 abbrev landed : Rules
 landed = record {
-  answers_fetch = λ d t m buffer amount. answer_fetch d t m buffer amount (sender.on_fetch m.message.from m.message.your_ref amount t.sending);
+  answers_fetch = λ d t m buffer amount. answer_fetch d t m buffer amount (sender.on_fetch m.message.from
+      m.message.your_ref amount t.sending);
   takes_save = take_save;
   answers_ack = λ d t m. answer_ack d t m (sender.on_ack m.message.from m.message.your_ref t.sending);
   takes_file = λ d t m. take_file d t m (receiver.on_load m.message.from m.message.your_ref t.taking);
@@ -66,7 +70,8 @@ came_by rules d t m (body.DataSave file) = rules.takes_save d t m
 came_by rules d t m (body.DataSaveAck file) = rules.answers_ack d t m
 came_by rules d t m (body.DataLoad file) = rules.takes_file d t m
 came_by rules d t m (body.DataLoadAck file) = came d t m (body.DataLoadAck file)
-came_by rules d t m (body.RamFetch buffer amount) = if answers_none t.manner then ignored d else rules.answers_fetch d t m buffer amount
+came_by rules d t m (body.RamFetch buffer amount) = if answers_none t.manner then ignored d else rules.answers_fetch d
+    t m buffer amount
 came_by rules d t m (body.RamTransmit buffer n) = came d t m (body.RamTransmit buffer n)
 
 abbrev handled_by : Rules → Desk → Task → Parcel → EventCode → Handled
@@ -79,10 +84,12 @@ taken_by rules d t None = (d, reply.NoEvent)
 taken_by rules d t (Some m) = event m (handled_by rules d t m m.code)
 
 abbrev polled_by : Rules → Desk → List ℕ → Granted Answer
-polled_by rules d name = named name d >>= λ t. Ok (taken_by rules (with_delivered (post_poll t.handle d.post).0 d) t (post_poll t.handle d.post).1)
+polled_by rules d name = named name d >>= λ t. Ok (taken_by rules (with_delivered (post_poll t.handle d.post).0 d) t
+    (post_poll t.handle d.post).1)
 
 abbrev step_by : Rules → Desk → Command → Answer
-step_by rules d (command.Save name k to leaf) = or_else (rules.saves d name k to leaf) (λ refusal. (d, reply.Refused refusal))
+step_by rules d (command.Save name k to leaf) = or_else (rules.saves d name k to leaf) (λ refusal.
+    (d, reply.Refused refusal))
 step_by rules d (command.Poll name) = or_else (polled_by rules d name) (λ refusal. (d, reply.Refused refusal))
 step_by rules d (command.CancelIn name id) = or_else (rules.cancels d name id) (λ refusal. (d, reply.Refused refusal))
 step_by rules d c = step d c
@@ -107,7 +114,10 @@ run_of rules lines = run_by rules (record { desk = fresh; offers = λ id. None; 
 
 -- what the task holds of a transfer, and what that offered
 abbrev held_offered : Rules → List String → ℕ → ℕ → Option (List ℕ) × Option (List ℕ)
-held_offered rules lines id h = let r = run_of rules lines in (held_of (task_at h r.desk) id (r.edits h id), r.offers id)
+held_offered rules lines id h = let r = run_of rules lines in (
+  held_of (task_at h r.desk) id (r.edits h id),
+  r.offers id,
+)
 
 -- the outgoing records of a task, and what a transfer offered
 abbrev sent_offered : Rules → List String → ℕ → ℕ → List Outgoing × Option (List ℕ)
@@ -121,25 +131,31 @@ sent_offered rules lines id h = let r = run_of rules lines in (sending_of (task_
 
 abbrev any_fetch : Rules
 any_fetch = record landed {
-  answers_fetch = λ d t m buffer amount. answer_fetch d t m buffer amount (open_of (λ x. m.message.from == x.recipient && nat_le 1 amount) t.sending);
+  answers_fetch = λ d t m buffer amount. answer_fetch d t m buffer amount (open_of (λ x. m.message.from == x.recipient
+      && nat_le 1 amount) t.sending);
 }
 
 -- a fetch, and its copy
 abbrev twice_fetched : List String
-twice_fetched = "task a 4" ∷ "task b 4" ∷ "alloc a 0 6" ∷ "put a 0 0 010203040506" ∷ "save a 0 b doc" ∷ "poll b" ∷ "repeat b" ∷ "poll a" ∷ "poll a" ∷ "poll b" ∷ []
+twice_fetched = "task a 4" ∷ "task b 4" ∷ "alloc a 0 6" ∷ "put a 0 0 010203040506" ∷ "save a 0 b doc" ∷ "poll b"
+    ∷ "repeat b" ∷ "poll a" ∷ "poll a" ∷ "poll b" ∷ []
 
 right_fetch : held_offered landed twice_fetched 1 2 ≡ (Some (1 ∷ 2 ∷ 3 ∷ 4 ∷ []), Some (1 ∷ 2 ∷ 3 ∷ 4 ∷ 5 ∷ 6 ∷ []))
 unfolding Script.computing hex_on_literals
 right_fetch = refl
 
-wrong_fetch : held_offered any_fetch twice_fetched 1 2 ≡ (Some (5 ∷ 6 ∷ 3 ∷ 4 ∷ []), Some (1 ∷ 2 ∷ 3 ∷ 4 ∷ 5 ∷ 6 ∷ []))
+wrong_fetch : held_offered any_fetch twice_fetched 1 2 ≡ (
+  Some (5 ∷ 6 ∷ 3 ∷ 4 ∷ []),
+  Some (1 ∷ 2 ∷ 3 ∷ 4 ∷ 5 ∷ 6 ∷ []),
+)
 unfolding Script.computing hex_on_literals
 wrong_fetch = refl
 
 -- ---- a sender that counts itself done when it sends
 
 -- the transmit, with another record after it
-abbrev transmits_to : (Sending → ℕ → ℕ → ℕ → Outgoing) → Desk → Task → Parcel → ℕ → ℕ → Sending → Split Flex → Granted Handled
+abbrev transmits_to : (Sending → ℕ → ℕ → ℕ → Outgoing) → Desk → Task → Parcel → ℕ → ℕ → Sending → Split Flex →
+    Granted Handled
 transmits_to record_after d t m buffer amount x source =
     let n : ℕ = portion x amount source in
     let place : ℕ = flex_address t.slot source.before + x.count in do
@@ -149,29 +165,45 @@ transmits_to record_after d t m buffer amount x source =
       Ok (
         with_sending t.handle (with_id out_id x.id (record_after x n amount (next_ref d)))
             (with_task r.handle (λ r. record r {
-              slot = written_in buffer (take n (drop x.count source.here.bytes)) (buffer_at buffer amount r.slot) r.slot;
+              slot = written_in buffer (take n (drop x.count source.here.bytes)) (buffer_at buffer amount r.slot)
+                  r.slot;
             }) sent),
         outcome.Sent n (next_ref d),
       )
 
 abbrev answers_to : (Sending → ℕ → ℕ → ℕ → Outgoing) → Desk → Task → Parcel → ℕ → ℕ → Option Sending → Handled
 answers_to record_after d t m buffer amount None = ignored d
-answers_to record_after d t m buffer amount (Some x) = or_else (slot_block x.anchor t.slot >>= transmits_to record_after d t m buffer amount x) (refused d t x)
+answers_to record_after d t m buffer amount (Some x) = or_else (slot_block x.anchor t.slot >>= transmits_to
+    record_after d t m buffer amount x) (refused d t x)
 
 abbrev done_when_sent : Rules
 done_when_sent = record landed {
   answers_fetch = λ d t m buffer amount.
-      answers_to (λ x n wanted ref. outgoing.Done x.id (x.count + n)) d t m buffer amount (sender.on_fetch m.message.from m.message.your_ref amount t.sending);
+      answers_to (λ x n wanted ref. outgoing.Done x.id (x.count + n)) d t m buffer amount (sender.on_fetch
+      m.message.from m.message.your_ref amount t.sending);
 }
 
 abbrev first_buffer : List String
-first_buffer = "task a 4" ∷ "task b 4" ∷ "alloc a 0 6" ∷ "put a 0 0 010203040506" ∷ "save a 0 b doc" ∷ "poll b" ∷ "poll a" ∷ []
+first_buffer = "task a 4" ∷ "task b 4" ∷ "alloc a 0 6" ∷ "put a 0 0 010203040506" ∷ "save a 0 b doc" ∷ "poll b"
+    ∷ "poll a" ∷ []
 
-right_count : sent_offered landed first_buffer 1 1 ≡ (outgoing.Open (record { id = 1; recipient = 2; anchor = 0; count = 4; last = 3 }) ∷ [], Some (1 ∷ 2 ∷ 3 ∷ 4 ∷ 5 ∷ 6 ∷ []))
+right_count : sent_offered landed first_buffer 1 1 ≡ (
+  outgoing.Open (record {
+    id = 1;
+    recipient = 2;
+    anchor = 0;
+    count = 4;
+    last = 3;
+  }) ∷ [],
+  Some (1 ∷ 2 ∷ 3 ∷ 4 ∷ 5 ∷ 6 ∷ []),
+)
 unfolding Script.computing hex_on_literals
 right_count = refl
 
-wrong_count : sent_offered done_when_sent first_buffer 1 1 ≡ (outgoing.Done 1 4 ∷ [], Some (1 ∷ 2 ∷ 3 ∷ 4 ∷ 5 ∷ 6 ∷ []))
+wrong_count : sent_offered done_when_sent first_buffer 1 1 ≡ (
+  outgoing.Done 1 4 ∷ [],
+  Some (1 ∷ 2 ∷ 3 ∷ 4 ∷ 5 ∷ 6 ∷ []),
+)
 unfolding Script.computing hex_on_literals
 wrong_count = refl
 
@@ -193,9 +225,14 @@ save_of_a_document = record landed { saves = saves_document }
 -- b saves on to c what it fetches from a
 abbrev saved_while_fetched : List String
 saved_while_fetched =
-    "task a 4" ∷ "task b 4" ∷ "task c 10" ∷ "alloc a 0 6" ∷ "put a 0 0 010203040506" ∷ "save a 0 b doc" ∷ "poll b" ∷ "poll a" ∷ "poll b" ∷ "save b 0 c doc" ∷ "poll a" ∷ "poll b" ∷ "poll c" ∷ "poll b" ∷ "poll c" ∷ []
+    "task a 4" ∷ "task b 4" ∷ "task c 10" ∷ "alloc a 0 6" ∷ "put a 0 0 010203040506" ∷ "save a 0 b doc"
+    ∷ "poll b" ∷ "poll a" ∷ "poll b" ∷ "save b 0 c doc" ∷ "poll a" ∷ "poll b" ∷ "poll c" ∷ "poll b" ∷ "poll c"
+    ∷ []
 
-wrong_save : held_offered save_of_a_document saved_while_fetched 5 3 ≡ (Some (1 ∷ 2 ∷ 3 ∷ 4 ∷ 5 ∷ 6 ∷ []), Some (1 ∷ 2 ∷ 3 ∷ 4 ∷ []))
+wrong_save : held_offered save_of_a_document saved_while_fetched 5 3 ≡ (
+  Some (1 ∷ 2 ∷ 3 ∷ 4 ∷ 5 ∷ 6 ∷ []),
+  Some (1 ∷ 2 ∷ 3 ∷ 4 ∷ []),
+)
 unfolding Script.computing hex_on_literals
 wrong_save = refl
 
@@ -206,7 +243,9 @@ right_save = refl
 -- b saves on to c what it asks a for
 abbrev saved_while_asked : List String
 saved_while_asked =
-    "task a 100 file" ∷ "task b 100" ∷ "task c 100" ∷ "alloc a 0 3" ∷ "put a 0 0 010203" ∷ "save a 0 b doc" ∷ "poll b" ∷ "poll a" ∷ "poll a" ∷ "poll b" ∷ "save b 0 c doc" ∷ "poll a" ∷ "poll b" ∷ "poll c" ∷ "poll b" ∷ "poll c" ∷ []
+    "task a 100 file" ∷ "task b 100" ∷ "task c 100" ∷ "alloc a 0 3" ∷ "put a 0 0 010203" ∷ "save a 0 b doc"
+    ∷ "poll b" ∷ "poll a" ∷ "poll a" ∷ "poll b" ∷ "save b 0 c doc" ∷ "poll a" ∷ "poll b" ∷ "poll c" ∷ "poll b"
+    ∷ "poll c" ∷ []
 
 wrong_asked : held_offered save_of_a_document saved_while_asked 4 3 ≡ (Some (1 ∷ 2 ∷ 3 ∷ []), Some [])
 unfolding Script.computing hex_on_literals
@@ -225,7 +264,11 @@ saves_over d t m x source =
     let file : Scrap = record { load = next_ref d; bytes = source.here.bytes } in do
       sent ← send_letter (load_letter t.handle m n) (wider more d)
       refuse_if (nat_lt (free_pages d) more) NoRoom
-      Ok (with_sending t.handle (sender.saved x (next_ref d)) (record sent { scrap = Some file }), outcome.Saved n (next_ref d))
+      Ok (
+        with_sending t.handle (sender.saved x (next_ref d)) (record sent { scrap = Some file }),
+        outcome.Saved n
+            (next_ref d),
+      )
 
 abbrev answers_over : Desk → Task → Parcel → Option Sending → Handled
 answers_over d t m None = ignored d
@@ -235,7 +278,8 @@ abbrev loads_any : Desk → Task → Parcel → Option Asked → Option Scrap �
 loads_any d t m None file = ignored d
 loads_any d t m (Some q) None = ignored d
 loads_any d t m (Some q) (Some file) =
-    or_else (appended d t q.anchor file.bytes >>= λ longer. Ok (loaded (record longer { scrap = None }) t m q (length file.bytes)))
+    or_else (appended d t q.anchor file.bytes >>= λ longer. Ok (loaded (record longer { scrap = None }) t m q
+    (length file.bytes)))
     (λ refusal. (with_taking t.handle (receiver.abandoned q 0) d, outcome.Refused refusal))
 
 abbrev any_scrap_file : Rules
@@ -247,7 +291,8 @@ any_scrap_file = record landed {
 -- two files for one task, by the scrap file
 abbrev two_files : List String
 two_files =
-    "task a 100 file" ∷ "task b 100" ∷ "task c 100 file" ∷ "alloc a 0 1" ∷ "put a 0 0 07" ∷ "alloc c 0 1" ∷ "put c 0 0 08" ∷ "save a 0 b x" ∷ "save c 0 b y" ∷ "poll b" ∷ "poll b"
+    "task a 100 file" ∷ "task b 100" ∷ "task c 100 file" ∷ "alloc a 0 1" ∷ "put a 0 0 07" ∷ "alloc c 0 1"
+    ∷ "put c 0 0 08" ∷ "save a 0 b x" ∷ "save c 0 b y" ∷ "poll b" ∷ "poll b"
     ∷ "poll a" ∷ "poll a" ∷ "poll c" ∷ "poll c" ∷ "poll b" ∷ "poll b" ∷ "poll a" ∷ "poll c" ∷ "poll b" ∷ []
 
 wrong_file : held_offered any_scrap_file two_files 1 2 ≡ (Some (8 ∷ []), Some (7 ∷ []))
@@ -272,7 +317,8 @@ has_bytes n (Some bytes) = nat_le n (length bytes)
 -- whether the task holds the buffer for the transfer
 abbrev holds_for : ℕ → ℕ → Option Task → ℕ → Bool
 holds_for address n None id = true
-holds_for address n (Some u) id = list_any (is_held_for id address) u.taking && has_bytes n (bytes_of_buffer u.slot address)
+holds_for address n (Some u) id = list_any (is_held_for id address) u.taking && has_bytes n (bytes_of_buffer u.slot
+    address)
 
 -- the ids of the open records that would answer a fetch
 abbrev ids_of : Parcel → ℕ → Option Task → List ℕ
@@ -284,7 +330,8 @@ ids_of m n (Some t) = if answers_none t.manner then [] else filter_map answering
     answering _ = None
 
 abbrev names_held : Desk → Parcel → EventCode → Body → Bool
-names_held d m Recorded (body.RamFetch address n) = list_all (holds_for address n (task_at m.message.from d)) (ids_of m n (task_at m.to d))
+names_held d m Recorded (body.RamFetch address n) = list_all (holds_for address n (task_at m.message.from d))
+    (ids_of m n (task_at m.to d))
 names_held d m _ _ = true
 
 -- whether each queued fetch that would be answered names a buffer that its sender holds
@@ -330,13 +377,15 @@ accepts d t m = do
   sent ← send_letter (fetch_letter t.handle m.message.from m.message.my_ref b.1 t.buffer) (with_slot t.handle p.0 d)
   Ok (
     with_taking t.handle
-        (one_more is_busy_record (incoming.Fetching (receiver.begun m.message.my_ref m.message.from k b.1 (next_ref d)))) sent,
+        (one_more is_busy_record (incoming.Fetching (receiver.begun m.message.my_ref m.message.from k b.1
+        (next_ref d)))) sent,
     outcome.Fetch (next_ref d),
   )
 
 abbrev takes_while_draining : Desk → Task → Parcel → Handled
 takes_while_draining d t m =
-    if not (is_deaf t.manner) && not (is_full is_busy_record t.taking) then or_else (accepts d t m) (λ refusal. ignored d)
+    if not (is_deaf t.manner) && not (is_full is_busy_record t.taking) then or_else (accepts d t m) (λ refusal.
+    ignored d)
     else ignored d
 
 abbrev draining_takes : Rules
@@ -345,10 +394,13 @@ draining_takes = record landed { takes_save = takes_while_draining }
 -- eight transfers that drain, and a ninth
 abbrev nine_transfers : List String
 nine_transfers =
-    "task a 10" ∷ "task b 10" ∷ "task c 10" ∷ "alloc a 0 1" ∷ "alloc a 1 1" ∷ "alloc a 2 1" ∷ "alloc a 3 1" ∷ "alloc a 4 1" ∷ "alloc a 5 1" ∷ "alloc a 6 1" ∷ "alloc a 7 1" ∷ "alloc c 0 1"
-    ∷ "save a 0 b x" ∷ "save a 1 b x" ∷ "save a 2 b x" ∷ "save a 3 b x" ∷ "save a 4 b x" ∷ "save a 5 b x" ∷ "save a 6 b x" ∷ "save a 7 b x"
+    "task a 10" ∷ "task b 10" ∷ "task c 10" ∷ "alloc a 0 1" ∷ "alloc a 1 1" ∷ "alloc a 2 1" ∷ "alloc a 3 1"
+    ∷ "alloc a 4 1" ∷ "alloc a 5 1" ∷ "alloc a 6 1" ∷ "alloc a 7 1" ∷ "alloc c 0 1"
+    ∷ "save a 0 b x" ∷ "save a 1 b x" ∷ "save a 2 b x" ∷ "save a 3 b x" ∷ "save a 4 b x" ∷ "save a 5 b x"
+    ∷ "save a 6 b x" ∷ "save a 7 b x"
     ∷ "poll b" ∷ "poll b" ∷ "poll b" ∷ "poll b" ∷ "poll b" ∷ "poll b" ∷ "poll b" ∷ "poll b"
-    ∷ "cancel b in" ∷ "cancel b in" ∷ "cancel b in" ∷ "cancel b in" ∷ "cancel b in" ∷ "cancel b in" ∷ "cancel b in" ∷ "cancel b in"
+    ∷ "cancel b in" ∷ "cancel b in" ∷ "cancel b in" ∷ "cancel b in" ∷ "cancel b in" ∷ "cancel b in"
+    ∷ "cancel b in" ∷ "cancel b in"
     ∷ "save c 0 b y" ∷ "poll b" ∷ []
 
 wrong_draining : has_buffers (run_of draining_takes nine_transfers).desk ≡ false
