@@ -8,6 +8,7 @@ ghost use Rattle.rh_defs.specs.Memory.{Memory, IsOpen, bytes};
 ghost use Rattle.rh_heap.specs.Spans.{IsSpan};
 
 use rh_defs::HeapRefusal;
+use rh_defs::sizes::PAGE;
 use rh_heap::{Span, claim, describe, init, release};
 use rh_store::{PlainStore, Store, StoreFault, Words};
 use std::alloc::Global;
@@ -42,7 +43,7 @@ fn prepare<S: Store>(store: &mut S) -> Result<Span, StoreFault>
     let area = store.open()?;
     store.grow(area, PAGES)?;
     let span = Span { area, at: 0 };
-    init(store, span, 4096 * PAGES);
+    init(store, span, PAGE * PAGES);
     Ok(span)
 }
 

@@ -130,7 +130,8 @@ first-bytes a p (Hole n ∷ ss) = passed_on (Hole n) (first_at size_of (is_block
 pub block_at-bytes : (a : ℕ) (h : Heap) → bytes_here (block_at a h) ≡ block_bytes a h
 block_at-bytes a h = first-bytes a 16 h.segments
 
-block_cut : (x q : ℕ) (g : Segment) → is_block_at x q g ≡ true → (bs : List ℕ) × (g ≡ Used bs) × (x ≡ q + 4)
+-- the cut at a block with an address
+pub block_cut : (x q : ℕ) (g : Segment) → is_block_at x q g ≡ true → (bs : List ℕ) × (g ≡ Used bs) × (x ≡ q + 4)
 block_cut x q (Used bs) t = (bs, refl, elim (cases_eq x (q + 4)) [ inl e ↦ e | inr ne ↦ let f = eqb_apart x (q + 4) ne in absurd cc ])
 block_cut x q (Hole n) t = absurd cc
 

@@ -7,7 +7,7 @@ use Rattle.rh_defs.specs.HeapImage.{Stand, Spells}
 use Rattle.rh_defs.proofs.BytesLaws.{word_same, part_same}
 use Rattle.rh_defs.proofs.HeapLists.{HasRoom-from_tidy, HasRoom-append, HasRoom-join, total-append}
 use Rattle.rh_defs.proofs.HeapLaws.{narrower, last_link_range, last_link-append, Open-kept, Open-join, Stand-split, Stand-join}
-use Rattle.rh_defs.specs.HeapParts.{HasRoom, last_link, Open, LinksTo, Await, Stretch}
+use Rattle.rh_defs.specs.HeapParts.{HasRoom, last_link, Open, LinksTo, Await, HasStretch}
 
 zero_or : (n : ℕ) → (n ≡ 0) ⊎ (n ≢ 0)
 zero_or zero = inl refl
@@ -66,7 +66,7 @@ link_place at xs q low r e p = elim (last_link_range (at + 4) (at + 16) xs r (om
 -- some of a heap's segments give way to a stretch
 pub opened : (b : List ℕ) (at : ℕ) (h : Heap) (xs mid ys : List Segment) (q low x upper : ℕ) → Spells b at h → h.segments ≡ xs ++ (mid ++ ys)
     → q ≡ last_link (at + 4) (at + 16) xs → low ≡ at + 16 + total size_of xs → upper ≡ low + total size_of mid
-    → LinksTo b at (last_link q low mid) x → Stretch b at h.end xs ys q low x upper
+    → LinksTo b at (last_link q low mid) x → HasStretch b at h.end xs ys q low x upper
 opened b at h xs mid ys q low x upper s is eq el eu k =
     let room = HasRoom-append xs (mid ++ ys) (subst HasRoom is (HasRoom-from_tidy false h.segments s.heap.tidy)) in
     let rooms = HasRoom-append mid ys room.1 in
@@ -104,8 +104,8 @@ pub record SameBut (b c : List ℕ) (q low edge w : ℕ) : Type 0 where
   pub same : (k : ℕ) → (k < q) ⊎ (q + 4 ≤ k) → (k < low) ⊎ (edge ≤ k) → (k < w) ⊎ (w + 4 ≤ k) → get_or c k 0 ≡ get_or b k 0
 
 -- a stretch stays open while writes keep to it, to the link before and to the base
-pub Stretch-kept : (b c : List ℕ) (at end : ℕ) (xs ys : List Segment) (q low x upper : ℕ) → Stretch b at end xs ys q low x upper → SameBut b c q low upper (at + 8) → Stretch c at end xs ys q low x upper
-Stretch-kept b c at end xs ys q low x upper s k =
+pub HasStretch-kept : (b c : List ℕ) (at end : ℕ) (xs ys : List Segment) (q low x upper : ℕ) → HasStretch b at end xs ys q low x upper → SameBut b c q low upper (at + 8) → HasStretch c at end xs ys q low x upper
+HasStretch-kept b c at end xs ys q low x upper s k =
     let l = link_place at xs q low s.room_before s.link s.place in
     let least = l.least in
     let most = l.most in
@@ -136,9 +136,9 @@ Stretch-kept b c at end xs ys q low x upper s k =
     }
 
 -- a used segment at the stretch's low end belongs to what stands before it
-pub filled : (b : List ℕ) (at end : ℕ) (xs ys : List Segment) (q low x upper : ℕ) (bs : List ℕ) → Stretch b at end xs ys q low x upper
+pub filled : (b : List ℕ) (at end : ℕ) (xs ys : List Segment) (q low x upper : ℕ) (bs : List ℕ) → HasStretch b at end xs ys q low x upper
     → word b low ≡ 4 + length bs → part b (low + 4) (length bs) ≡ bs → low + (4 + length bs) ≤ upper
-    → Stretch b at end (xs ++ Used bs ∷ []) ys q (low + (4 + length bs)) x upper
+    → HasStretch b at end (xs ++ Used bs ∷ []) ys q (low + (4 + length bs)) x upper
 filled b at end xs ys q low x upper bs s size block fit = record {
   special = s.special;
   last = s.last;
@@ -156,9 +156,9 @@ filled b at end xs ys q low x upper bs s size block fit = record {
 }
 
 -- and so does a hole to which the link before leads
-pub holed : (b : List ℕ) (at end : ℕ) (xs ys : List Segment) (q low x upper n : ℕ) → Stretch b at end xs ys q low x upper
+pub holed : (b : List ℕ) (at end : ℕ) (xs ys : List Segment) (q low x upper n : ℕ) → HasStretch b at end xs ys q low x upper
     → q + word b q ≡ low → word b (low + 4) ≡ n → 8 ≤ n → low + n ≤ upper
-    → Stretch b at end (xs ++ Hole n ∷ []) ys low (low + n) x upper
+    → HasStretch b at end (xs ++ Hole n ∷ []) ys low (low + n) x upper
 holed b at end xs ys q low x upper n s link size big fit = record {
   special = s.special;
   last = s.last;
@@ -176,8 +176,8 @@ holed b at end xs ys q low x upper n s link size big fit = record {
 }
 
 -- a hole that follows the stretch becomes a part of it
-pub absorbed : (b : List ℕ) (at end : ℕ) (xs ys : List Segment) (q low x y upper m : ℕ) → Stretch b at end xs (Hole m ∷ ys) q low x upper
-    → LinksTo b at upper y → Stretch b at end xs ys q low y (upper + m)
+pub absorbed : (b : List ℕ) (at end : ℕ) (xs ys : List Segment) (q low x y upper m : ℕ) → HasStretch b at end xs (Hole m ∷ ys) q low x upper
+    → LinksTo b at upper y → HasStretch b at end xs ys q low y (upper + m)
 absorbed b at end xs ys q low x y upper m s k =
     let o = s.order in
     let e = s.place in
@@ -199,7 +199,7 @@ absorbed b at end xs ys q low x y upper m s k =
     }
 
 -- where nothing stands behind, the stretch may reach up to the heap's end
-pub reaching : (b : List ℕ) (at end : ℕ) (xs : List Segment) (q low x upper top : ℕ) → Stretch b at end xs [] q low x upper → low ≤ top → top ≤ at + end → Stretch b at end xs [] q low x top
+pub reaching : (b : List ℕ) (at end : ℕ) (xs : List Segment) (q low x upper top : ℕ) → HasStretch b at end xs [] q low x upper → low ≤ top → top ≤ at + end → HasStretch b at end xs [] q low x top
 reaching b at end xs q low x upper top s l h = record {
   special = s.special;
   last = s.last;
@@ -216,7 +216,7 @@ reaching b at end xs q low x upper top s l h = record {
 }
 
 -- a stretch of no bytes, with the link over it and the base
-pub closed : (b : List ℕ) (at end : ℕ) (xs ys : List Segment) (q low x upper : ℕ) → Stretch b at end xs ys q low x upper → low ≡ upper → LinksTo b at q x
+pub closed : (b : List ℕ) (at end : ℕ) (xs ys : List Segment) (q low x upper : ℕ) → HasStretch b at end xs ys q low x upper → low ≡ upper → LinksTo b at q x
     → at + word b (at + 8) ≡ upper + total size_of ys → IsTidy false (xs ++ ys) → Spells b at (record { segments = xs ++ ys; end = end })
 closed b at end xs ys q low x upper s e k base tidy =
     let sums = total-append xs ys in

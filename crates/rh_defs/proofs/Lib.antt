@@ -37,6 +37,7 @@ pub mod Examples
 pub mod BlockLaws
 pub mod ShapeLaws
 pub mod BlockCalls
+pub mod ResizeLaws
 pub mod MessageLaws
 pub mod MessageImageLaws
 pub mod ParcelLaws

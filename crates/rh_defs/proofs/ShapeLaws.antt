@@ -12,7 +12,7 @@ use Rattle.rh_defs.specs.declared.refusal.Refusal.TheVariants.{BadSize, NoRoom}
 use Rattle.rh_defs.proofs.BytesLaws.{length-put}
 use Rattle.rh_defs.specs.Blocks.{blank, blanked, poked, written_at, SameShape}
 
-len0 : (n : ℕ) → length (zeros n) ≡ n
+pub len0 : (n : ℕ) → length (zeros n) ≡ n
 len0 n = length-replicate {A = ℕ} n 0
 
 -- ---- lists of segments
@@ -46,15 +46,15 @@ blank-written a o xs p (Used bs ∷ ss) = elim (eqb a (p + 4)) as (λ t. blank (
 blank-written a o xs p (Hole n ∷ ss) = ap (λ l. Hole n ∷ l) (blank-written a o xs (p + n) ss)
 
 -- ---- one segment, and a cut
-abbrev blank_one : Segment → Segment
+abbrev pub blank_one : Segment → Segment
 blank_one (Used bs) = Used (zeros (length bs))
 blank_one (Hole n) = Hole n
 
-size-blank_one : (g : Segment) → size_of (blank_one g) ≡ size_of g
+pub size-blank_one : (g : Segment) → size_of (blank_one g) ≡ size_of g
 size-blank_one (Used bs) = omega (arith, len0 (length bs))
 size-blank_one (Hole n) = refl
 
-abbrev blank_cut : Split Segment → Split Segment
+abbrev pub blank_cut : Split Segment → Split Segment
 blank_cut s = record { before = blank s.before; here = blank_one s.here; after = blank s.after }
 
 passed_on : (g : Segment) (o : Option (Split Segment)) → option_map (behind (blank_one g)) (option_map blank_cut o) ≡ option_map blank_cut (option_map (behind g) o)
@@ -63,7 +63,7 @@ passed_on (Used bs) (Some s) = refl
 passed_on (Hole n) None = refl
 passed_on (Hole n) (Some s) = refl
 
-hole-blank : (t p : ℕ) (ss : List Segment) → first_at size_of (is_hole_for t) p (blank ss) ≡ option_map blank_cut (first_at size_of (is_hole_for t) p ss)
+pub hole-blank : (t p : ℕ) (ss : List Segment) → first_at size_of (is_hole_for t) p (blank ss) ≡ option_map blank_cut (first_at size_of (is_hole_for t) p ss)
 hole-blank t p [] = refl
 hole-blank t p (Used bs ∷ ss) =
     ap (λ n. option_map (behind (Used (zeros (length bs)))) (first_at size_of (is_hole_for t) (p + (4 + n)) (blank ss))) (len0 (length bs))
@@ -77,7 +77,7 @@ hole-blank t p (Hole n ∷ ss) = go (leb t n) (hole-blank t (p + n) ss)
     go true e = refl
     go false e = ap (option_map (behind (Hole n))) e ∙ passed_on (Hole n) (first_at size_of (is_hole_for t) (p + n) ss)
 
-block-blank : (a p : ℕ) (ss : List Segment) → first_at size_of (is_block_at a) p (blank ss) ≡ option_map blank_cut (first_at size_of (is_block_at a) p ss)
+pub block-blank : (a p : ℕ) (ss : List Segment) → first_at size_of (is_block_at a) p (blank ss) ≡ option_map blank_cut (first_at size_of (is_block_at a) p ss)
 block-blank a p [] = refl
 block-blank a p (Hole n ∷ ss) = ap (option_map (behind (Hole n))) (block-blank a (p + n) ss) ∙ passed_on (Hole n) (first_at size_of (is_block_at a) (p + n) ss)
 block-blank a p (Used bs ∷ ss) =
@@ -90,7 +90,7 @@ block-blank a p (Used bs ∷ ss) =
     go false e = ap (option_map (behind (Used (zeros (length bs))))) e ∙ passed_on (Used bs) (first_at size_of (is_block_at a) (p + (4 + length bs)) ss)
 
 -- ---- calls on a heap and on its blank
-abbrev heap_with : List Segment → ℕ → Heap
+abbrev pub heap_with : List Segment → ℕ → Heap
 heap_with ss end = record { segments = ss; end = end }
 
 shortage-blank : (t : ℕ) (h : Heap) (o : Option (Split Segment)) → shortage_in t (blanked h) (option_map blank_cut o) ≡ shortage_in t h o
@@ -105,7 +105,7 @@ pub record PutAlike (p q : Placed) : Type 0 where
   pub address : p.address ≡ q.address
   pub shape : SameShape p.heap q.heap
 
-blanked-blank : (ss : List Segment) → blank (blank ss) ≡ blank ss
+pub blanked-blank : (ss : List Segment) → blank (blank ss) ≡ blank ss
 blanked-blank [] = refl
 blanked-blank (Used bs ∷ ss) = ap (λ n. Used (zeros n) ∷ blank (blank ss)) (len0 (length bs)) ∙ ap (λ l. Used (zeros (length bs)) ∷ l) (blanked-blank ss)
 blanked-blank (Hole n ∷ ss) = ap (λ l. Hole n ∷ l) (blanked-blank ss)
@@ -138,7 +138,7 @@ placed-blank m h =
     let t : ℕ = 4 + length (zeros m) in
     subst (λ o. PutAlike (placed_in (zeros m) (blanked h) o) (placed (zeros m) h)) (sym (hole-blank t 16 h.segments)) (in-blank m h (hole_for t h.segments))
 
-same_heap : (h d : Heap) → SameShape h d → blanked h ≡ blanked d
+pub same_heap : (h d : Heap) → SameShape h d → blanked h ≡ blanked d
 same_heap h d s = ap (λ l. heap_with l h.end) s.blank ∙ ap (heap_with (blank d.segments)) s.end
 
 pub shape-sym : {h d : Heap} → SameShape h d → SameShape d h

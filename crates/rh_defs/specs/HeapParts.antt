@@ -36,7 +36,7 @@ Await b at x p (Used bs ∷ ss) = (word b p ≡ 4 + length bs) × (part b (p + 4
 Await b at x p (Hole n ∷ ss) = (at + x ≡ p) × (word b (p + 4) ≡ n) × Stand b p (p + n) ss
 
 -- Of the heap's bytes from `at` on, all is there but what lies from low up to upper, the base, and the link at q before.
-pub record Stretch (b : List ℕ) (at end : ℕ) (xs ys : List Segment) (q low x upper : ℕ) : Type 0 where
+pub record HasStretch (b : List ℕ) (at end : ℕ) (xs ys : List Segment) (q low x upper : ℕ) : Type 0 where
   pub special : word b at ≡ special_word
   pub last : word b (at + 12) ≡ end
   pub within : at + end ≤ length b

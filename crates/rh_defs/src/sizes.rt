@@ -1,7 +1,10 @@
-//! Sizes, places and limits that several crates name. Sizes and places are in bytes.
+//! Sizes, places and limits that several crates name, and what is reckoned from them. Sizes and places are in bytes.
 
-ghost use Rattle.std.specs.Prelude.{◌≡◌, ◌+◌, ◌*◌, ◌^◌};
-ghost use Rattle.rh_defs.specs.declared.sizes.TheConstants.{FIXED_AREAS, MADE_AREAS, MAX_AREAS, MAX_PAGES, MAX_TASKS, MIN_PAGES, PAGE};
+ghost use Rattle.std.specs.Prelude.{◌≡◌, ℕ, ◌+◌, ◌*◌, ◌^◌, ◌<◌, ◌≤◌};
+ghost use Rattle.rh_defs.specs.Heap.{segment_size};
+ghost use Rattle.rh_defs.specs.Pieces.{is_inside, moved, pages_for};
+ghost use Rattle.rh_defs.specs.Slot.{flex_weight};
+ghost use Rattle.rh_defs.specs.declared.sizes.TheConstants.{FIXED_AREAS, HEAP_UNIT, MADE_AREAS, MAX_AREAS, MAX_PAGES, MAX_TASKS, MIN_PAGES, PAGE, WORD};
 
 /// The bytes of a word, the unit of all layouts.
 pub const WORD: usize = 4;
@@ -87,3 +90,49 @@ pub fn limits_law()
     ensures most { PAGE * MAX_PAGES ≡ 2 ^ 22 }
     ensures page { PAGE ≡ 4096 }
 {}
+
+/// How many pages hold `n` bytes.
+pub fn pages_for(n: usize) -> usize
+    ensures { result ≡ pages_for n }
+{
+    n.div_ceil(PAGE)
+}
+
+/// A length moved by a signed amount, 0 where that would be below 0.
+pub fn moved(n: usize, delta: i32) -> usize
+    requires { n < 2 ^ 40 }
+    ensures value { result ≡ moved n delta }
+    ensures bound { result < n + 2 ^ 31 }
+{
+    let amount = delta.unsigned_abs() as usize;
+    if delta < 0 {
+        n.saturating_sub(amount)
+    } else {
+        n + amount
+    }
+}
+
+/// Whether the `n` bytes at `x` lie whole in the `m` bytes at `a`, also where `n` is 0. Any numbers may be asked for.
+pub fn is_inside(x: usize, n: usize, a: usize, m: usize) -> bool
+    ensures { result ≡ is_inside x n a m }
+{
+    a <= x && x - a <= m && n <= m - (x - a)
+}
+
+/// The size of a heap's segment for a block of `n` bytes: with a word for its size, in whole units.
+pub fn segment_size(n: usize) -> usize
+    requires { n < 2 ^ 40 }
+    ensures size { result ≡ segment_size n }
+    ensures least { HEAP_UNIT ≤ result }
+    ensures bound { result < n + WORD + HEAP_UNIT }
+{
+    (n + WORD + (HEAP_UNIT - 1)) / HEAP_UNIT * HEAP_UNIT
+}
+
+/// What a flex block of `n` bytes takes of its slot: its header, and its bytes in whole words.
+pub fn flex_weight(n: usize) -> usize
+    requires { n < 2 ^ 40 }
+    ensures { result ≡ flex_weight n }
+{
+    FLEX_HEADER + (n + (WORD - 1)) / WORD * WORD
+}

@@ -10,11 +10,11 @@ use Rattle.rh_defs.specs.declared.heap.HeapRefusal.TheVariants.{NotABlock, BadSi
 use Rattle.rh_defs.proofs.HeapLists.{cond_true, cond_false, eqb_same, eqb_apart}
 use Rattle.rh_heap.specs.Calls.{Leaves}
 use Rattle.rh_heap.specs.Spans.{IsSpan, SpellsIn, OnlySpan, heap_in}
-use Rattle.rh_heap.specs.Spots.{FoundBlock}
+use Rattle.rh_heap.specs.Segments.{FoundBlock}
 use Rattle.rh_heap.specs.Ways.{WayIs, WithBlock, WayOf, SpellsResized, resized_in, short_by, ShortBy, Changed, NotChanged, Moved}
 use Rattle.rh_heap.specs.declared.span.Span.{Span}
-use Rattle.rh_heap.specs.declared.span.Spot.{Spot}
-use Rattle.rh_heap.specs.declared.span.Way.TheVariants as way
+use Rattle.rh_heap.specs.declared.span.segments.Spot.{Spot}
+use Rattle.rh_heap.specs.declared.span.resize.Way.TheVariants as way
 use Rattle.rh_heap.proofs.CallLaws.{leaves, refuses}
 use Rattle.rh_heap.proofs.WayLaws.{cut_of, at_cut, from_cut, at_place}
 use Rattle.rh_heap.proofs.MoveLaws.{short_stays, short_shrinks, short_into, short_top, short_moves, resized_moves, same_way, address_stays, address_shrinks, address_into, address_top}

@@ -11,10 +11,10 @@ use Rattle.rh_defs.specs.declared.heap.HeapRefusal.TheVariants.{BadSize, NoRoom}
 use Rattle.rh_defs.proofs.HeapLists.{HasRoom-from_tidy, HasRoom-append, total-append, tidy_before, tidy_behind_hole, tidy_join, tidy_after, NonePass-append, first_at-none, first_at-found, cond_true, cond_false, eqb_same, eqb_apart, leb_yes, leb_no}
 use Rattle.rh_defs.proofs.HeapLaws.{last_link-append, last_link-none, last_link_range, Stand-split, HasNone, NextHole, next_hole}
 use Rattle.rh_defs.proofs.HeapStretch.{opened}
-use Rattle.rh_heap.specs.Spans.{CutBetween, IsCut, Settles}
-use Rattle.rh_heap.specs.Gaps.{FoundHole}
-use Rattle.rh_heap.specs.declared.span.Gap.{Gap}
-use Rattle.rh_heap.proofs.CutLaws.{is_cut}
+use Rattle.rh_heap.specs.Stretches.{StretchBetween, IsStretch, Settles}
+use Rattle.rh_heap.specs.Holes.{FoundHole}
+use Rattle.rh_heap.specs.declared.span.holes.Gap.{Gap}
+use Rattle.rh_heap.proofs.StretchLaws.{is_stretch}
 use Rattle.rh_heap.proofs.FillLaws.{filled_between, topped}
 use Rattle.rh_defs.specs.HeapParts.{HasRoom, last_link, LinksTo}
 
@@ -141,7 +141,7 @@ module _ (at : ℕ) (h : Heap) (t : ℕ) (gap : Gap) (f : FoundHole at h t gap) 
 
   pub fill_between : (b c : List ℕ) (next : ℕ) → Spells b at h → LinksTo b at (at + gap.place) next → SameOutside b c (at + gap.place) (at + gap.place + t)
       → word c (at + gap.place) ≡ t → part c (at + gap.place + 4) (length bs) ≡ bs → t % 8 ≡ 0
-      → CutBetween c at h.end (f.before ++ Used bs ∷ []) f.after (record { link = gap.from; low = gap.place + t; next = next; upper = gap.place + gap.size })
+      → StretchBetween c at h.end (f.before ++ Used bs ∷ []) f.after (record { link = gap.from; low = gap.place + t; next = next; upper = gap.place + gap.size })
   fill_between b c next s k o sized block mult =
       let tidy = subst (IsTidy false) f.is s.heap.tidy in
       let behind = tidy_behind_hole false f.before gap.size f.after tidy in
@@ -150,14 +150,14 @@ module _ (at : ℕ) (h : Heap) (t : ℕ) (gap : Gap) (f : FoundHole at h t gap) 
       let m = f.multiple in
       let all = ap (total size_of) f.is ∙ total-append f.before (Hole gap.size ∷ f.after) in
       let b0 = s.base in
-      let stretch = opened b at h f.before (Hole gap.size ∷ []) f.after (at + gap.from) (at + gap.place) next (at + (gap.place + gap.size)) s f.is f.link (omega arith) (omega arith) k in
-      filled_between b c at h.end f.before f.after gap.from gap.place next (gap.place + gap.size) t bs stretch (omega arith) o et sized block (omega arith) (omega arith)
+      let has = opened b at h f.before (Hole gap.size ∷ []) f.after (at + gap.from) (at + gap.place) next (at + (gap.place + gap.size)) s f.is f.link (omega arith) (omega arith) k in
+      filled_between b c at h.end f.before f.after gap.from gap.place next (gap.place + gap.size) t bs has (omega arith) o et sized block (omega arith) (omega arith)
       (tidy_join false f.before (Used bs ∷ []) (tidy_before false f.before gap.size f.after tidy) ((let e : 4 + length bs ≡ t = sym et in rw e mult), tt)) (tidy_after f.after behind.1)
 
-  pub fill_is_cut : (b c : List ℕ) (next : ℕ) → Spells b at h → LinksTo b at (at + gap.place) next → SameOutside b c (at + gap.place) (at + gap.place + t)
-      → word c (at + gap.place) ≡ t → part c (at + gap.place + 4) (length bs) ≡ bs → t % 8 ≡ 0 → IsCut c at (record { link = gap.from; low = gap.place + t; next = next; upper = gap.place + gap.size })
-  fill_is_cut b c next s k o sized block mult =
-      is_cut c at h.end (f.before ++ Used bs ∷ []) f.after (record { link = gap.from; low = gap.place + t; next = next; upper = gap.place + gap.size }) (fill_between b c next s k o sized block mult)
+  pub fill_is_stretch : (b c : List ℕ) (next : ℕ) → Spells b at h → LinksTo b at (at + gap.place) next → SameOutside b c (at + gap.place) (at + gap.place + t)
+      → word c (at + gap.place) ≡ t → part c (at + gap.place + 4) (length bs) ≡ bs → t % 8 ≡ 0 → IsStretch c at (record { link = gap.from; low = gap.place + t; next = next; upper = gap.place + gap.size })
+  fill_is_stretch b c next s k o sized block mult =
+      is_stretch c at h.end (f.before ++ Used bs ∷ []) f.after (record { link = gap.from; low = gap.place + t; next = next; upper = gap.place + gap.size }) (fill_between b c next s k o sized block mult)
 
   pub fill_spells : (b c d : List ℕ) (next : ℕ) → Spells b at h → LinksTo b at (at + gap.place) next → SameOutside b c (at + gap.place) (at + gap.place + t)
       → word c (at + gap.place) ≡ t → part c (at + gap.place + 4) (length bs) ≡ bs → t % 8 ≡ 0
@@ -184,9 +184,9 @@ module _ (at : ℕ) (h : Heap) (t : ℕ) (none : hole_for t h.segments ≡ None)
       let is : h.segments ≡ h.segments ++ ([] ++ []) = sym (append-nil h.segments) in
       let parts = Stand-split b (at + 4) (at + 16) h.segments [] (subst (Stand b (at + 4) (at + 16)) (sym (append-nil h.segments)) s.stand) in
       let ends : LinksTo b at q 0 = record { none = λ z. parts.1; some = λ nz. absurd (nz refl); ahead = λ nz. absurd (nz refl) } in
-      let stretch = opened b at h h.segments [] [] q (at + place) 0 (at + place) s is refl (omega arith) (omega arith) ends in
+      let has = opened b at h h.segments [] [] q (at + place) 0 (at + place) s is refl (omega arith) (omega arith) ends in
       subst (λ (p : Placed). Spells d at p.heap) (sym placed_none)
-      (topped b c d at h.end h.segments q place 0 (at + place) t (place + t) bs stretch ends o1 et sized block o2 based refl fit
+      (topped b c d at h.end h.segments q place 0 (at + place) t (place + t) bs has ends o1 et sized block o2 based refl fit
       (tidy_join false h.segments (Used bs ∷ []) s.heap.tidy ((let z : 4 + length bs ≡ t = sym et in rw z mult), tt)))
 
 -- ---- the answers

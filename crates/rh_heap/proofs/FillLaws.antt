@@ -1,4 +1,4 @@
--- A used segment at the low end of a cut, and at the top.
+-- A used segment at the low end of a stretch, and at the top.
 use Rattle.std.proofs.Common.{◌≡◌, ℕ, ◌+◌, ◌-◌, ◌%◌, ◌≤◌, inl, inr, false, List, [], ◌∷◌, ◌++◌, length, sym, subst, ◌∙◌, arith}
 use Rattle.std.proofs.lemmas.List.{append-nil}
 use Rattle.rh_defs.specs.Bytes.{word, part, SameOutside}
@@ -6,10 +6,10 @@ use Rattle.rh_defs.specs.Pieces.{total}
 use Rattle.rh_defs.specs.Heap.{Segment, Used, IsTidy, size_of}
 use Rattle.rh_defs.specs.HeapImage.{Spells}
 use Rattle.rh_defs.proofs.BytesLaws.{part_same}
-use Rattle.rh_defs.proofs.HeapStretch.{Stretch-kept, link_place, filled, reaching, closed}
-use Rattle.rh_heap.specs.Spans.{CutBetween}
-use Rattle.rh_heap.proofs.CutLaws.{but_body, but_base, but_both, word_below, word_above, LinksTo-kept}
-use Rattle.rh_defs.specs.HeapParts.{LinksTo, Stretch}
+use Rattle.rh_defs.proofs.HeapStretch.{HasStretch-kept, link_place, filled, reaching, closed}
+use Rattle.rh_heap.specs.Stretches.{StretchBetween}
+use Rattle.rh_heap.proofs.StretchLaws.{but_body, but_base, but_both, word_below, word_above, LinksTo-kept}
+use Rattle.rh_defs.specs.HeapParts.{LinksTo, HasStretch}
 
 pub part_below : {b c : List ℕ} {lo hi : ℕ} → SameOutside b c lo hi → (p n : ℕ) → p + n ≤ lo → part c p n ≡ part b p n
 part_below {b} {c} s p n h = part_same b c p n (record { each = λ k u v. s.below k (omega arith) })
@@ -17,18 +17,18 @@ part_below {b} {c} s p n h = part_same b c p n (record { each = λ k u v. s.belo
 pub part_above : {b c : List ℕ} {lo hi : ℕ} → SameOutside b c lo hi → (p n : ℕ) → hi ≤ p → part c p n ≡ part b p n
 part_above {b} {c} s p n h = part_same b c p n (record { each = λ k u v. s.above k (omega arith) })
 
--- a used segment is written at the low end of a stretch, and what is left is a cut
-pub filled_between : (b c : List ℕ) (at end : ℕ) (xs ys : List Segment) (link low next upper size : ℕ) (bs : List ℕ) → Stretch b at end xs ys (at + link) (at + low) next (at + upper)
+-- a used segment is written at the low end of a stretch, and the rest of it stays open
+pub filled_between : (b c : List ℕ) (at end : ℕ) (xs ys : List Segment) (link low next upper size : ℕ) (bs : List ℕ) → HasStretch b at end xs ys (at + link) (at + low) next (at + upper)
     → word b (at + 8) ≡ upper + total size_of ys → SameOutside b c (at + low) (at + low + size) → size ≡ 4 + length bs
     → word c (at + low) ≡ size → part c (at + low + 4) (length bs) ≡ bs → low + size ≤ upper → (upper - (low + size)) % 8 ≡ 0
     → IsTidy false (xs ++ Used bs ∷ []) → IsTidy false ys
-    → CutBetween c at end (xs ++ Used bs ∷ []) ys (record { link = link; low = low + size; next = next; upper = upper })
+    → StretchBetween c at end (xs ++ Used bs ∷ []) ys (record { link = link; low = low + size; next = next; upper = upper })
 filled_between b c at end xs ys link low next upper size bs s based o es sized block fit mult tidy behind =
     let place = s.place in
-    let kept = Stretch-kept b c at end xs ys (at + link) (at + low) next (at + upper) s (but_body o (at + link) (at + low) (at + upper) (at + 8) (omega arith) (omega arith)) in
+    let kept = HasStretch-kept b c at end xs ys (at + link) (at + low) next (at + upper) s (but_body o (at + link) (at + low) (at + upper) (at + 8) (omega arith) (omega arith)) in
     let full = filled c at end xs ys (at + link) (at + low) next (at + upper) bs kept (sized ∙ es) block (omega arith) in
     record {
-      stretch = subst (λ l. Stretch c at end (xs ++ Used bs ∷ []) ys (at + link) l next (at + upper)) (omega arith) full;
+      has = subst (λ l. HasStretch c at end (xs ++ Used bs ∷ []) ys (at + link) l next (at + upper)) (omega arith) full;
       based = word_below o (at + 8) (omega arith) ∙ based;
       multiple = mult;
       tidy_before = tidy;
@@ -36,7 +36,7 @@ filled_between b c at end xs ys link low next upper size bs s based o es sized b
     }
 
 -- a used segment is written at the top, and then the base
-pub topped : (b b1 c : List ℕ) (at end : ℕ) (xs : List Segment) (q low x upper size base : ℕ) (bs : List ℕ) → Stretch b at end xs [] q (at + low) x upper → LinksTo b at q x
+pub topped : (b b1 c : List ℕ) (at end : ℕ) (xs : List Segment) (q low x upper size base : ℕ) (bs : List ℕ) → HasStretch b at end xs [] q (at + low) x upper → LinksTo b at q x
     → SameOutside b b1 (at + low) (at + low + size) → size ≡ 4 + length bs → word b1 (at + low) ≡ size → part b1 (at + low + 4) (length bs) ≡ bs
     → SameOutside b1 c (at + 8) (at + 8 + 4) → word c (at + 8) ≡ base → base ≡ low + size → low + size ≤ end → IsTidy false (xs ++ Used bs ∷ [])
     → Spells c at (record { segments = xs ++ Used bs ∷ []; end = end })
@@ -45,7 +45,7 @@ topped b b1 c at end xs q low x upper size base bs s k o1 es sized block o2 base
     let l = link_place at xs q (at + low) s.room_before s.link s.place in
     let most = l.most in
     let high = reaching b at end xs q (at + low) x upper (at + low + size) s (omega arith) (omega arith) in
-    let kept = Stretch-kept b c at end xs [] q (at + low) x (at + low + size) high
+    let kept = HasStretch-kept b c at end xs [] q (at + low) x (at + low + size) high
     (but_both (but_body o1 q (at + low) (at + low + size) (at + 8) (omega arith) (omega arith)) (but_base o2 q (at + low) (at + low + size))) in
     let full = filled c at end xs [] q (at + low) x (at + low + size) bs kept
     (word_above o2 (at + low) (omega arith) ∙ sized ∙ es) (part_above o2 (at + low + 4) (length bs) (omega arith) ∙ block) (omega arith) in

@@ -6,7 +6,7 @@ use Rattle.rh_defs.specs.Pieces.{total, first_at, is_inside, NonePass}
 use Rattle.rh_defs.specs.Heap.{Segment, Used, Hole, Heap, size_of, base, is_around, block_around}
 use Rattle.rh_defs.specs.HeapImage.{Spells}
 use Rattle.rh_defs.proofs.HeapLists.{HasRoom-from_tidy, HasRoom-append, no_segments, total-append, NonePass-append, first_at-none, first_at-found}
-use Rattle.rh_heap.specs.Spots.{Reached}
+use Rattle.rh_heap.specs.Segments.{Reached}
 use Rattle.rh_heap.proofs.WalkLaws.{NextSegment, next_used, next_hole, next_segment_at, reached_start}
 use Rattle.rh_defs.specs.HeapParts.{HasRoom, LinksTo}
 

@@ -1,6 +1,6 @@
 pub mod RestLaws
 pub mod CheckLaws
-pub mod CutLaws
+pub mod StretchLaws
 pub mod WalkLaws
 pub mod HoldLaws
 pub mod ReleaseLaws

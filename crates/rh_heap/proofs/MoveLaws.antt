@@ -14,16 +14,16 @@ use Rattle.rh_defs.proofs.HeapLists.{HasRoom-from_tidy, HasRoom-append, total-ap
 use Rattle.rh_defs.proofs.HeapLaws.{Stand-split}
 use Rattle.rh_defs.proofs.HeapCalls.{released_at-some}
 use Rattle.rh_defs.proofs.HeapFaults.{le_from}
-use Rattle.rh_defs.proofs.HeapStretch.{link_place, Stretch-kept, opened, filled, closed}
-use Rattle.rh_heap.specs.Spots.{FoundBlock}
+use Rattle.rh_defs.proofs.HeapStretch.{link_place, HasStretch-kept, opened, filled, closed}
+use Rattle.rh_heap.specs.Segments.{FoundBlock}
 use Rattle.rh_defs.specs.Memory.{Memory}
 use Rattle.rh_defs.proofs.HeapLaws.{heap_of-Spells}
 use Rattle.rh_heap.specs.Spans.{SpellsIn, bytes_in, heap_in}
 use Rattle.rh_heap.specs.declared.span.Span.{Span}
 use Rattle.rh_heap.specs.Ways.{Moved, WayIs, WithBlock, resized_in, short_by, into_hole}
-use Rattle.rh_heap.specs.declared.span.Spot.{Spot}
-use Rattle.rh_heap.specs.declared.span.Way.TheVariants as way
-use Rattle.rh_heap.proofs.CutLaws.{but_body, word_below, LinksTo-kept}
+use Rattle.rh_heap.specs.declared.span.segments.Spot.{Spot}
+use Rattle.rh_heap.specs.declared.span.resize.Way.TheVariants as way
+use Rattle.rh_heap.proofs.StretchLaws.{but_body, word_below, LinksTo-kept}
 use Rattle.rh_heap.proofs.FillLaws.{part_above}
 use Rattle.rh_heap.proofs.BlockLaws.{zeros_long}
 use Rattle.rh_heap.proofs.WayLaws.{cut_of, at_cut, from_cut, found_is, WayFacts, if_stays, if_shrinks, if_into, if_top, if_to_hole, if_to_top, way_facts}
@@ -125,7 +125,7 @@ rewritten b c at end xs ys old new s len o block =
     let most = l.most in
     let k = a_link b at q (omega arith) (word b q) refl in
     let st = opened b at h xs (Used old ∷ []) ys q low k.0 upper s refl refl refl (omega arith) k.1 in
-    let kept = Stretch-kept b c at end xs ys q low k.0 upper st (but_body o q low upper (at + 8) (omega arith) (omega arith)) in
+    let kept = HasStretch-kept b c at end xs ys q low k.0 upper st (but_body o q low upper (at + 8) (omega arith) (omega arith)) in
     let size : word c low ≡ 4 + length new = word_below o low (omega arith) ∙ parts.1.0 ∙ omega arith in
     let full = filled c at end xs ys q low k.0 upper new kept size (ap (λ i. part c i (length new)) (omega arith) ∙ block) (omega arith) in
     let eb = s.base in

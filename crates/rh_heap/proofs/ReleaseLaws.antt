@@ -1,4 +1,4 @@
--- The cut that a release leaves.
+-- The stretch that a release leaves.
 use Rattle.std.proofs.Common.{◌≡◌, ℕ, ◌+◌, ◌-◌, ◌<◌, false, List, [], ◌∷◌, ◌++◌, length, sym, ap, subst, ◌∙◌, append_assoc, arith}
 use Rattle.rh_defs.specs.Pieces.{total}
 use Rattle.rh_defs.specs.Heap.{Segment, Used, Hole, Heap, IsTidy, size_of, with_hole, joined, release, release_found}
@@ -6,15 +6,15 @@ use Rattle.rh_defs.specs.HeapImage.{Spells}
 use Rattle.rh_defs.proofs.HeapLists.{total-append, tidy_behind_used, with_hole-with_hole, joined-tidy, joined-front}
 use Rattle.rh_defs.proofs.HeapFaults.{multiple_of_sizes}
 use Rattle.rh_defs.proofs.HeapStretch.{opened}
-use Rattle.rh_heap.specs.Spans.{CutBetween, IsCut, Settles}
-use Rattle.rh_heap.specs.Spots.{GapIs, no_gap, a_gap, FoundBlock}
-use Rattle.rh_heap.specs.declared.span.Cut.{Cut}
-use Rattle.rh_heap.specs.declared.span.Spot.{Spot}
-use Rattle.rh_heap.proofs.CutLaws.{is_cut}
+use Rattle.rh_heap.specs.Stretches.{StretchBetween, IsStretch, Settles}
+use Rattle.rh_heap.specs.Segments.{GapIs, no_gap, a_gap, FoundBlock}
+use Rattle.rh_heap.specs.declared.span.stretch.Stretch.{Stretch}
+use Rattle.rh_heap.specs.declared.span.segments.Spot.{Spot}
+use Rattle.rh_heap.proofs.StretchLaws.{is_stretch}
 use Rattle.rh_defs.specs.HeapParts.{last_link, LinksTo}
 
-abbrev pub release_cut : Spot → ℕ → Cut
-release_cut spot next = record { link = spot.link; low = spot.low; next = next; upper = spot.place + spot.size }
+abbrev pub release_stretch : Spot → ℕ → Stretch
+release_stretch spot next = record { link = spot.link; low = spot.low; next = next; upper = spot.place + spot.size }
 
 gap_last : (at low place link from : ℕ) (gap : List Segment) (bs : List ℕ) → GapIs low place link from gap → last_link (at + link) (at + low) (gap ++ Used bs ∷ []) ≡ at + from
 gap_last at low place link from [] bs (no_gap e f) = omega arith
@@ -23,7 +23,7 @@ gap_last at low place link from (Used cs ∷ ss) bs k = elim k [ ]
 gap_last at low place link from (Hole n ∷ x ∷ ss) bs k = elim k [ ]
 
 pub release_between : (b : List ℕ) (at : ℕ) (h : Heap) (address : ℕ) (spot : Spot) (next : ℕ) → Spells b at h → (f : FoundBlock at h address spot) → LinksTo b at (at + spot.from) next
-    → CutBetween b at h.end f.reached.front f.after (release_cut spot next)
+    → StretchBetween b at h.end f.reached.front f.after (release_stretch spot next)
 release_between b at h address spot next s f k =
     let r = f.reached in
     let bs = f.bytes in
@@ -44,7 +44,7 @@ release_between b at h address spot next s f k =
     let m2 = multiple_of_sizes false f.after behind.1 in
     let base = s.base in
     record {
-      stretch = opened b at h r.front mid f.after (at + spot.link) (at + spot.low) next (at + (spot.place + spot.size)) s is' r.link_is (omega arith) (omega arith)
+      has = opened b at h r.front mid f.after (at + spot.link) (at + spot.low) next (at + (spot.place + spot.size)) s is' r.link_is (omega arith) (omega arith)
           (subst (λ q. LinksTo b at q next) (sym (gap_last at spot.low spot.place spot.link spot.from r.gap bs r.gap_is)) k);
       based = omega arith;
       multiple = omega arith;
@@ -52,8 +52,8 @@ release_between b at h address spot next s f k =
       tidy_behind = behind.1;
     }
 
-pub release_is_cut : (b : List ℕ) (at : ℕ) (h : Heap) (address : ℕ) (spot : Spot) (next : ℕ) → Spells b at h → FoundBlock at h address spot → LinksTo b at (at + spot.from) next → IsCut b at (release_cut spot next)
-release_is_cut b at h address spot next s f k = is_cut b at h.end f.reached.front f.after (release_cut spot next) (release_between b at h address spot next s f k)
+pub release_is_stretch : (b : List ℕ) (at : ℕ) (h : Heap) (address : ℕ) (spot : Spot) (next : ℕ) → Spells b at h → FoundBlock at h address spot → LinksTo b at (at + spot.from) next → IsStretch b at (release_stretch spot next)
+release_is_stretch b at h address spot next s f k = is_stretch b at h.end f.reached.front f.after (release_stretch spot next) (release_between b at h address spot next s f k)
 
 joined_gap : (low place link from size : ℕ) (gap after : List Segment) → GapIs low place link from gap → IsTidy false after → 0 < size → joined (gap ++ Hole size ∷ after) ≡ with_hole (place + size - low) after
 joined_gap low place link from size [] after (no_gap e f) t h = ap (with_hole size) (joined-tidy false after t) ∙ ap (λ n. with_hole n after) (omega arith)
@@ -78,6 +78,6 @@ released_is at h address spot t f =
     ∙ ap (λ n. with_hole (spot.place + n - spot.low) f.after) (sym f.size_is)))
 
 pub release_spells : (b c : List ℕ) (at : ℕ) (h : Heap) (address : ℕ) (spot : Spot) (next : ℕ) → Spells b at h → FoundBlock at h address spot → LinksTo b at (at + spot.from) next
-    → Settles b c at (release_cut spot next) → Spells c at (release address h)
+    → Settles b c at (release_stretch spot next) → Spells c at (release address h)
 release_spells b c at h address spot next s f k settles =
     subst (Spells c at) (sym (released_is at h address spot s.heap.tidy f)) (settles h.end f.reached.front f.after (release_between b at h address spot next s f k))

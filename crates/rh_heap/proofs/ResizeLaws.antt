@@ -10,13 +10,13 @@ use Rattle.rh_defs.proofs.BytesLaws.{part_more, length-part}
 use Rattle.rh_defs.proofs.HeapLists.{HasRoom-from_tidy, HasRoom-append, total-append, tidy_behind_used, tidy_behind_hole, tidy_front, tidy_other, tidy_after, joined-tidy, joined-front}
 use Rattle.rh_defs.proofs.HeapLaws.{Stand-split}
 use Rattle.rh_defs.proofs.HeapStretch.{opened}
-use Rattle.rh_heap.specs.Spans.{CutBetween, IsCut, Settles}
-use Rattle.rh_heap.specs.Spots.{FoundBlock}
+use Rattle.rh_heap.specs.Stretches.{StretchBetween, IsStretch, Settles}
+use Rattle.rh_heap.specs.Segments.{FoundBlock}
 use Rattle.rh_heap.specs.Ways.{WayIs, into_hole, WithBlock, resized_in}
-use Rattle.rh_heap.specs.declared.span.Cut.{Cut}
-use Rattle.rh_heap.specs.declared.span.Spot.{Spot}
-use Rattle.rh_heap.specs.declared.span.Way.TheVariants as way
-use Rattle.rh_heap.proofs.CutLaws.{is_cut}
+use Rattle.rh_heap.specs.declared.span.stretch.Stretch.{Stretch}
+use Rattle.rh_heap.specs.declared.span.segments.Spot.{Spot}
+use Rattle.rh_heap.specs.declared.span.resize.Way.TheVariants as way
+use Rattle.rh_heap.proofs.StretchLaws.{is_stretch}
 use Rattle.rh_heap.proofs.FillLaws.{filled_between, topped, part_above}
 use Rattle.rh_heap.proofs.WayLaws.{cut_of, at_cut, from_cut, found_is, WayFacts, if_stays, if_shrinks, if_into, if_top, if_to_hole, if_to_top, way_facts, way_shrinks, block_stretch, block_part, block_base}
 use Rattle.rh_defs.specs.HeapParts.{HasRoom, LinksTo}
@@ -84,7 +84,7 @@ module _ (b : List ℕ) (at : ℕ) (h : Heap) (spot : Spot) (s : Spells b at h) 
         ∙ sym (fitted_short (t - 4) f.bytes (omega arith))
 
     pub shrink_between : (c : List ℕ) (next : ℕ) → LinksTo b at (at + spot.from) next → SameOutside b c (at + spot.place) (at + spot.place + 4) → word c (at + spot.place) ≡ t
-        → CutBetween c at h.end (passed ++ Used now ∷ []) f.after (record { link = spot.from; low = spot.place + t; next = next; upper = spot.place + spot.size })
+        → StretchBetween c at h.end (passed ++ Used now ∷ []) f.after (record { link = spot.from; low = spot.place + t; next = next; upper = spot.place + spot.size })
     shrink_between c next k o sized =
         let z = f.size_is in
         let m = f.multiple in
@@ -92,9 +92,9 @@ module _ (b : List ℕ) (at : ℕ) (h : Heap) (spot : Spot) (s : Spells b at h) 
         filled_between b c at h.end passed f.after spot.from spot.place next (spot.place + spot.size) t now (block_stretch b at h spot s f next k) (block_base b at h spot s f) wide (now_long least)
         sized (kept_part c o) (omega arith) (omega arith) (tidy_now least mult) (tidy_behind_used false passed f.bytes f.after tidy_block).1
 
-    pub shrink_is_cut : (c : List ℕ) (next : ℕ) → LinksTo b at (at + spot.from) next → SameOutside b c (at + spot.place) (at + spot.place + 4) → word c (at + spot.place) ≡ t
-        → IsCut c at (record { link = spot.from; low = spot.place + t; next = next; upper = spot.place + spot.size })
-    shrink_is_cut c next k o sized = is_cut c at h.end (passed ++ Used now ∷ []) f.after (record { link = spot.from; low = spot.place + t; next = next; upper = spot.place + spot.size }) (shrink_between c next k o sized)
+    pub shrink_is_stretch : (c : List ℕ) (next : ℕ) → LinksTo b at (at + spot.from) next → SameOutside b c (at + spot.place) (at + spot.place + 4) → word c (at + spot.place) ≡ t
+        → IsStretch c at (record { link = spot.from; low = spot.place + t; next = next; upper = spot.place + spot.size })
+    shrink_is_stretch c next k o sized = is_stretch c at h.end (passed ++ Used now ∷ []) f.after (record { link = spot.from; low = spot.place + t; next = next; upper = spot.place + spot.size }) (shrink_between c next k o sized)
 
     shrunk_is : (resized_in t (cut_of at h spot f) h).heap ≡ record { segments = (passed ++ Used now ∷ []) ++ with_hole (spot.place + spot.size - (spot.place + t)) f.after; end = h.end }
     shrunk_is =
@@ -139,7 +139,7 @@ module _ (b : List ℕ) (at : ℕ) (h : Heap) (spot : Spot) (s : Spells b at h) 
       ∙ sym (fitted_long (t - 4) f.bytes (omega arith))
 
   module _ (mult : t % 8 ≡ 0) (room : ℕ) (i : IntoOf at h spot f t room (way_to t (cut_of at h spot f) h)) where
-    abbrev grown_up : ℕ → Cut
+    abbrev grown_up : ℕ → Stretch
     grown_up next = record { link = spot.from; low = spot.place + t; next = next; upper = spot.place + spot.size + room }
 
     whole : h.segments ≡ passed ++ ((Used f.bytes ∷ Hole room ∷ []) ++ i.rest)
@@ -163,7 +163,7 @@ module _ (b : List ℕ) (at : ℕ) (h : Heap) (spot : Spot) (s : Spells b at h) 
         record { inside = hole_inside; least = big; fits = omega arith; longer = omega arith }
 
     widen_between : (c : List ℕ) (next : ℕ) → LinksTo b at (at + (spot.place + spot.size)) next → SameOutside b c (at + spot.place) (at + spot.place + t) → word c (at + spot.place) ≡ t
-        → part c (at + spot.place + 4) (t - 4) ≡ part b (at + spot.place + 4) (spot.size - 4) ++ replicate (t - spot.size) 0 → CutBetween c at h.end (passed ++ Used now ∷ []) i.rest (grown_up next)
+        → part c (at + spot.place + 4) (t - 4) ≡ part b (at + spot.place + 4) (spot.size - 4) ++ replicate (t - spot.size) 0 → StretchBetween c at h.end (passed ++ Used now ∷ []) i.rest (grown_up next)
     widen_between c next k o sized block =
         let p = f.reached.place_is in
         let z = f.size_is in
@@ -174,15 +174,15 @@ module _ (b : List ℕ) (at : ℕ) (h : Heap) (spot : Spot) (s : Spells b at h) 
         let fm = f.multiple in
         let e = s.base in
         let here : at + (spot.place + spot.size) ≡ at + spot.place + (4 + length f.bytes) = omega arith in
-        let stretch = opened b at h passed (Used f.bytes ∷ Hole room ∷ []) i.rest (at + spot.from) (at + spot.place) next (at + (spot.place + spot.size + room)) s whole f.reached.from_is (omega arith) (omega arith)
+        let has = opened b at h passed (Used f.bytes ∷ Hole room ∷ []) i.rest (at + spot.from) (at + spot.place) next (at + (spot.place + spot.size + room)) s whole f.reached.from_is (omega arith) (omega arith)
         (subst (λ q. LinksTo b at q next) here k) in
-        filled_between b c at h.end passed i.rest spot.from spot.place next (spot.place + spot.size + room) t now stretch
+        filled_between b c at h.end passed i.rest spot.from spot.place next (spot.place + spot.size + room) t now has
         (omega (arith, ap (total size_of) whole, total-append passed (Used f.bytes ∷ Hole room ∷ i.rest))) o (now_long (omega arith)) sized (long_part c (omega arith) block) (omega arith) (omega arith)
         (tidy_now (omega arith) mult) (tidy_after i.rest tidy_rest.1)
 
-    pub widen_is_cut : (c : List ℕ) (next : ℕ) → LinksTo b at (at + (spot.place + spot.size)) next → SameOutside b c (at + spot.place) (at + spot.place + t) → word c (at + spot.place) ≡ t
-        → part c (at + spot.place + 4) (t - 4) ≡ part b (at + spot.place + 4) (spot.size - 4) ++ replicate (t - spot.size) 0 → IsCut c at (grown_up next)
-    widen_is_cut c next k o sized block = is_cut c at h.end (passed ++ Used now ∷ []) i.rest (grown_up next) (widen_between c next k o sized block)
+    pub widen_is_stretch : (c : List ℕ) (next : ℕ) → LinksTo b at (at + (spot.place + spot.size)) next → SameOutside b c (at + spot.place) (at + spot.place + t) → word c (at + spot.place) ≡ t
+        → part c (at + spot.place + 4) (t - 4) ≡ part b (at + spot.place + 4) (spot.size - 4) ++ replicate (t - spot.size) 0 → IsStretch c at (grown_up next)
+    widen_is_stretch c next k o sized block = is_stretch c at h.end (passed ++ Used now ∷ []) i.rest (grown_up next) (widen_between c next k o sized block)
 
     widened_is : (resized_in t (cut_of at h spot f) h).heap ≡ record { segments = (passed ++ Used now ∷ []) ++ with_hole (spot.place + spot.size + room - (spot.place + t)) i.rest; end = h.end }
     widened_is =
@@ -223,7 +223,7 @@ module _ (b : List ℕ) (at : ℕ) (h : Heap) (spot : Spot) (s : Spells b at h) 
       let last : h.segments ≡ passed ++ Used f.bytes ∷ [] = found_is at h spot f ∙ ap (λ l. passed ++ Used f.bytes ∷ l) i.after_is in
       let parts = Stand-split b (at + 4) (at + 16) passed (Used f.bytes ∷ []) (subst (Stand b (at + 4) (at + 16)) last s.stand) in
       let ends : LinksTo b at (at + spot.from) 0 = record { none = λ _. ap (word b) f.reached.from_is ∙ parts.1.2; some = λ nz. absurd (nz refl); ahead = λ nz. absurd (nz refl) } in
-      let stretch = opened b at h passed (Used f.bytes ∷ []) [] (at + spot.from) (at + spot.place) 0 (at + (spot.place + spot.size)) s last f.reached.from_is (omega arith) (omega arith) ends in
+      let has = opened b at h passed (Used f.bytes ∷ []) [] (at + spot.from) (at + spot.place) 0 (at + (spot.place + spot.size)) s last f.reached.from_is (omega arith) (omega arith) ends in
       at_cut at h spot f (λ q. Spells d at (resized_in t q h).heap)
       (subst (λ (w : heap.Way). Spells d at (resized_by w now (cut_of at h spot f) h).heap) (sym i.way_is)
-      (topped b c d at h.end passed (at + spot.from) spot.place 0 (at + (spot.place + spot.size)) t (spot.place + t) now stretch ends o (now_long (omega arith)) sized (long_part c (omega arith) block) o2 based refl fit (tidy_now (omega arith) mult)))
+      (topped b c d at h.end passed (at + spot.from) spot.place 0 (at + (spot.place + spot.size)) t (spot.place + t) now has ends o (now_long (omega arith)) sized (long_part c (omega arith) block) o2 based refl fit (tidy_now (omega arith) mult)))

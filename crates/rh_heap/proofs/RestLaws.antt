@@ -6,7 +6,7 @@ use Rattle.rh_defs.specs.Heap.{Segment, Used, Hole, size_of}
 use Rattle.rh_defs.specs.HeapImage.{Stand, IsImage, heap_of}
 use Rattle.rh_defs.proofs.HeapLists.{HasRoom-from_tidy}
 use Rattle.rh_defs.proofs.HeapLaws.{segments_in-Stand, link_ahead}
-use Rattle.rh_heap.specs.Pieces.{listed}
+use Rattle.rh_heap.specs.Image.{listed}
 use Rattle.rh_defs.specs.HeapParts.{HasRoom, IsRest, rest_in}
 
 -- segments that stand there are those that are left

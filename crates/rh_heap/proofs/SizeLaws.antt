@@ -12,10 +12,10 @@ use Rattle.std.proofs.lemmas.Bool.{cases_lt}
 use Rattle.std.proofs.Common.{inl, inr}
 use Rattle.rh_defs.proofs.HeapLaws.{HasNone}
 use Rattle.rh_defs.proofs.HeapStretch.{Stand-kept}
-use Rattle.rh_heap.specs.Spots.{Found, FoundBlock, HereIs, used_here, hole_here}
-use Rattle.rh_heap.specs.Pieces.{piece}
-use Rattle.rh_heap.specs.declared.span.Spot.{Spot}
-use Rattle.rh_heap.proofs.CutLaws.{word_below}
+use Rattle.rh_heap.specs.Segments.{Found, FoundBlock, HereIs, used_here, hole_here}
+use Rattle.rh_heap.specs.Segments.{piece}
+use Rattle.rh_heap.specs.declared.span.segments.Spot.{Spot}
+use Rattle.rh_heap.proofs.StretchLaws.{word_below}
 use Rattle.rh_heap.proofs.ClaimLaws.{Passed, HoleTurn}
 
 -- ---- sizes

@@ -10,8 +10,8 @@ use Rattle.rh_defs.specs.Heap.{Segment, Used, Hole, Heap, IsTidy, size_of, base,
 use Rattle.rh_defs.specs.HeapImage.{Stand, Spells}
 use Rattle.rh_defs.proofs.HeapLists.{HasRoom-from_tidy, HasRoom-append, total-append, tidy_before, tidy_front, tidy_behind_used, NonePass-append, first_at-none, first_at-found, eqb_same, eqb_apart}
 use Rattle.rh_defs.proofs.HeapLaws.{last_link-append, Stand-split, link_ahead}
-use Rattle.rh_heap.specs.Spots.{Walking, no_gap, a_gap, Reached, HereIs, used_here, hole_here, Found, FoundBlock}
-use Rattle.rh_heap.specs.declared.span.Spot.{Spot}
+use Rattle.rh_heap.specs.Segments.{Walking, no_gap, a_gap, Reached, HereIs, used_here, hole_here, Found, FoundBlock}
+use Rattle.rh_heap.specs.declared.span.segments.Spot.{Spot}
 use Rattle.rh_defs.specs.HeapParts.{HasRoom, last_link, LinksTo}
 
 abbrev pub reached_start : (at : ℕ) (h : Heap) → Reached at h 4 16 4 16

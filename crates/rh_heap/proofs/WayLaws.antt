@@ -10,15 +10,15 @@ use Rattle.rh_defs.specs.HeapImage.{Stand, Spells}
 use Rattle.rh_defs.proofs.HeapLists.{total-append, cond_true, cond_false, eqb_same, eqb_apart, leb_yes, leb_no}
 use Rattle.rh_defs.proofs.HeapLaws.{Stand-split}
 use Rattle.rh_defs.proofs.HeapStretch.{opened}
-use Rattle.rh_heap.specs.Spots.{FoundBlock}
-use Rattle.rh_heap.specs.Gaps.{FoundHole}
+use Rattle.rh_heap.specs.Segments.{FoundBlock}
+use Rattle.rh_heap.specs.Holes.{FoundHole}
 use Rattle.rh_heap.specs.Ways.{WayIs, stays, shrinks, into_hole, at_top, to_hole, to_top, WithBlock}
-use Rattle.rh_heap.specs.declared.span.Spot.{Spot}
-use Rattle.rh_heap.specs.declared.span.Gap.{Gap}
-use Rattle.rh_heap.specs.declared.span.Way.{Way}
-use Rattle.rh_heap.specs.declared.span.Way.TheVariants as way
-use Rattle.rh_heap.proofs.CutLaws.{next_range}
-use Rattle.rh_defs.specs.HeapParts.{HasRoom, Await, LinksTo, Stretch}
+use Rattle.rh_heap.specs.declared.span.segments.Spot.{Spot}
+use Rattle.rh_heap.specs.declared.span.holes.Gap.{Gap}
+use Rattle.rh_heap.specs.declared.span.resize.Way.{Way}
+use Rattle.rh_heap.specs.declared.span.resize.Way.TheVariants as way
+use Rattle.rh_heap.proofs.StretchLaws.{next_range}
+use Rattle.rh_defs.specs.HeapParts.{HasRoom, Await, LinksTo, HasStretch}
 
 pub at_place : {at : ℕ} {h : Heap} {address : ℕ} {spot : Spot} → FoundBlock at h address spot → FoundBlock at h (spot.place + 4) spot
 at_place {at} {h} {address} {spot} f = subst (λ a. FoundBlock at h a spot) (sym f.address_is) f
@@ -116,7 +116,7 @@ pub data Behind (b : List ℕ) (at : ℕ) (h : Heap) (next upper : ℕ) : List S
 
 module _ (b : List ℕ) (at : ℕ) (h : Heap) (spot : Spot) (s : Spells b at h) (f : FoundBlock at h (spot.place + 4) spot) where
   pub block_stretch : (next : ℕ) → LinksTo b at (at + spot.from) next
-      → Stretch b at h.end (f.reached.front ++ f.reached.gap) f.after (at + spot.from) (at + spot.place) next (at + (spot.place + spot.size))
+      → HasStretch b at h.end (f.reached.front ++ f.reached.gap) f.after (at + spot.from) (at + spot.place) next (at + (spot.place + spot.size))
   block_stretch next k =
       let p = f.reached.place_is in
       let z = f.size_is in

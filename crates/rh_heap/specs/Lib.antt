@@ -1,7 +1,8 @@
 pub mod Calls
-pub mod Gaps
+pub mod Claims
+pub mod Holes
 pub mod Image
-pub mod Pieces
+pub mod Segments
 pub mod Spans
-pub mod Spots
+pub mod Stretches
 pub mod Ways

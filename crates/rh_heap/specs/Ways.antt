@@ -7,10 +7,11 @@ use Rattle.rh_defs.specs.Heap as heap
 use Rattle.rh_defs.specs.declared.heap.HeapRefusal.{HeapRefusal}
 use Rattle.rh_defs.specs.declared.heap.HeapRefusal.TheVariants.{NoRoom}
 use Rattle.rh_heap.specs.declared.span.Span.{Span}
-use Rattle.rh_heap.specs.declared.span.Spot.{Spot}
-use Rattle.rh_heap.specs.declared.span.Way.{Way}
-use Rattle.rh_heap.specs.declared.span.Way.TheVariants as way
+use Rattle.rh_heap.specs.declared.span.segments.Spot.{Spot}
+use Rattle.rh_heap.specs.declared.span.resize.Way.{Way}
+use Rattle.rh_heap.specs.declared.span.resize.Way.TheVariants as way
 use Rattle.rh_heap.specs.Spans.{heap_in, SpellsIn}
+use Rattle.rh_heap.specs.declared.layout.TheConstants.{BLOCK}
 
 -- the same way
 pub data WayIs : heap.Way → Way → Type 0 where
@@ -23,7 +24,7 @@ pub data WayIs : heap.Way → Way → Type 0 where
 
 -- the block's cut, in the words of its address
 abbrev pub WithBlock : Spot → Heap → (Split Segment → Type 0) → Type 0
-WithBlock spot h P = IfSome (block_at (spot.place + 4) h) P
+WithBlock spot h P = IfSome (block_at (spot.place + BLOCK) h) P
 
 -- the way in which the block gets a segment of t bytes
 abbrev pub WayOf : ℕ → Spot → Heap → Way → Type 0
@@ -31,7 +32,7 @@ WayOf t spot h w = WithBlock spot h (λ s. WayIs (way_to t s h) w)
 
 -- the heap after the block got a segment of t bytes
 abbrev pub resized_in : ℕ → Split Segment → Heap → Placed
-resized_in t s h = resized_by (way_to t s h) (fitted (t - 4) (bytes_of s.here)) s h
+resized_in t s h = resized_by (way_to t s h) (fitted (t - BLOCK) (bytes_of s.here)) s h
 
 -- the span's bytes spell that heap
 abbrev pub SpellsResized : Memory → Memory → Span → ℕ → Spot → Type 0
@@ -59,5 +60,5 @@ pub record NotChanged (m n : Memory) (span : Span) (t : ℕ) (refusal : HeapRefu
 -- the block has moved, and the one at an address is released
 pub record Moved (m n : Memory) (span : Span) (t address place : ℕ) (s : Split Segment) : Type 0 where
   pub room : shortage_in t (heap_in m span) (hole_for t (heap_in m span).segments) ≡ 0
-  pub address_is : address ≡ (placed (fitted (t - 4) (bytes_of s.here)) (heap_in m span)).address
-  pub spells : SpellsIn n span (release place (placed (fitted (t - 4) (bytes_of s.here)) (heap_in m span)).heap)
+  pub address_is : address ≡ (placed (fitted (t - BLOCK) (bytes_of s.here)) (heap_in m span)).address
+  pub spells : SpellsIn n span (release place (placed (fitted (t - BLOCK) (bytes_of s.here)) (heap_in m span)).heap)

@@ -1,16 +1,19 @@
-//! Whether bytes from anywhere spell a heap.
+//! Images of heaps: whether bytes from anywhere spell a heap, and the segments of those that do.
 ghost use Rattle.std.specs.Prelude.{◌≡◌, ◌↔◌, ℕ, ◌+◌, ◌*◌, ◌^◌, ◌<◌, ◌≤◌, length, true, IsOk, IfOk};
+ghost use Rattle.std.specs.Iterator.{YieldsFirst, item_count};
 ghost use Rattle.rh_defs.specs.Bytes.{word};
 ghost use Rattle.rh_defs.specs.HeapImage.{IsImage, heap_of, is_size, is_link, next_place, has_descriptor, fault_of};
-ghost use Rattle.rh_heap.specs.Image.{summary_of, fault_in};
+ghost use Rattle.rh_heap.specs.Image.{summary_of, fault_in, listed, left};
+ghost use Rattle.rh_defs.specs.declared.sizes.TheConstants.{HEAP_BASE, HEAP_FIRST, HEAP_FREE, WORD};
 
+mod segment_iter;
+
+pub use crate::image::segment_iter::SegmentIter;
+use crate::layout::{HOLE_HEADER, HOLE_SIZE, Segment};
 use rh_defs::HeapFault;
-
-/// The first bytes of a heap, `Heap`, as a word.
-pub const SPECIAL: usize = 0x7061_6548;
-
-/// Where a heap's first segment begins, behind the descriptor.
-pub const FIRST_PLACE: usize = 16;
+use rh_defs::sizes::{
+    HEAP_BASE, HEAP_END, HEAP_FIRST, HEAP_FREE, HEAP_SPECIAL, HEAP_UNIT, HEAP_WORD,
+};
 
 /// What a heap consists of: numbers of segments, and bytes.
 #[derive(Clone, Copy, Debug, PartialEq, Eq)]
@@ -25,7 +28,7 @@ pub struct Summary {
 /// The word of four bytes in little-endian order at a place.
 #[tactic(auto, unfolding(rh_defs::specs::Bytes::word))]
 pub fn word_in(image: &[u8], at: usize) -> usize
-    requires { at + 4 ≤ length image.now }
+    requires { at + WORD ≤ length image.now }
     ensures value { result ≡ word image.now at }
     ensures bound { result < 2 ^ 32 }
 {
@@ -36,7 +39,7 @@ pub fn word_in(image: &[u8], at: usize) -> usize
 fn is_size(size: usize) -> bool
     ensures { result ≡ is_size size }
 {
-    0 < size && size % 8 == 0
+    0 < size && size % HEAP_UNIT == 0
 }
 
 /// Whether the length and the words of the descriptor are those of a heap.
@@ -44,31 +47,31 @@ fn has_descriptor(image: &[u8]) -> bool
     ensures { result ≡ has_descriptor image.now }
 {
     let len = image.len();
-    if len % 8 != 0 || len < FIRST_PLACE {
+    if len % HEAP_UNIT != 0 || len < HEAP_FIRST {
         return false;
     }
-    let base = word_in(image, 8);
-    word_in(image, 0) == SPECIAL
-        && word_in(image, 12) == len
-        && base % 8 == 0
-        && FIRST_PLACE <= base
+    let base = word_in(image, HEAP_BASE);
+    word_in(image, HEAP_SPECIAL) == HEAP_WORD
+        && word_in(image, HEAP_END) == len
+        && base % HEAP_UNIT == 0
+        && HEAP_FIRST <= base
         && base <= len
 }
 
 /// Whether the link at `from` is 0, or leads to a place from `least` on where a hole has room below `base`.
 fn is_link(image: &[u8], base: usize, from: usize, least: usize) -> bool
-    requires within { from + 4 ≤ length image.now }
+    requires within { from + WORD ≤ length image.now }
     requires small { from < 2 ^ 40 }
     ensures { result ≡ is_link image.now base from least }
 {
     let link = word_in(image, from);
     let place = from + link;
-    link == 0 || (place % 8 == 0 && least <= place && place + 8 <= base)
+    link == 0 || (place % HEAP_UNIT == 0 && least <= place && place + HOLE_HEADER <= base)
 }
 
 /// Where the link at `from` leads, or `base` where there is none.
 fn next_place(image: &[u8], base: usize, from: usize) -> usize
-    requires within { from + 4 ≤ length image.now }
+    requires within { from + WORD ≤ length image.now }
     requires small { from < 2 ^ 40 }
     ensures { result ≡ next_place image.now base from }
 {
@@ -87,8 +90,8 @@ pub fn check(image: &[u8]) -> Result<Summary, HeapFault>
     if !has_descriptor(image) {
         return Err(HeapFault::BadDescriptor);
     }
-    let base = word_in(image, 8);
-    if !is_link(image, base, 4, FIRST_PLACE) {
+    let base = word_in(image, HEAP_BASE);
+    if !is_link(image, base, HEAP_FREE, HEAP_FIRST) {
         return Err(HeapFault::BadLink);
     }
     check_segments(image, base)
@@ -97,9 +100,9 @@ pub fn check(image: &[u8]) -> Result<Summary, HeapFault>
 /// The same, place by place, where the descriptor and the link to the first hole are right.
 fn check_segments(image: &[u8], base: usize) -> Result<Summary, HeapFault>
     requires descriptor { has_descriptor image.now ≡ true }
-    requires at_base { base ≡ word image.now 8 }
+    requires at_base { base ≡ word image.now HEAP_BASE }
     requires bound { base < 2 ^ 32 }
-    requires link { is_link image.now base 4 16 ≡ true }
+    requires link { is_link image.now base HEAP_FREE HEAP_FIRST ≡ true }
     ensures ok { IsOk result ↔ IsImage image.now (heap_of image.now 0) }
     ensures sums { IfOk result (λ sums. sums ≡ summary_of (heap_of image.now 0)) }
     ensures fault { fault_in result ≡ fault_of image.now }
@@ -111,8 +114,8 @@ fn check_segments(image: &[u8], base: usize) -> Result<Summary, HeapFault>
         hole_bytes: 0,
         top: image.len() - base,
     };
-    let mut from = 4;
-    let mut place = FIRST_PLACE;
+    let mut from = HEAP_FREE;
+    let mut place = HEAP_FIRST;
     'walk: while place < base {
         let next = next_place(image, base, from);
         if place < next {
@@ -124,7 +127,7 @@ fn check_segments(image: &[u8], base: usize) -> Result<Summary, HeapFault>
             sums.used_bytes += size;
             place += size;
         } else {
-            let size = word_in(image, place + 4);
+            let size = word_in(image, place + HOLE_SIZE);
             if !is_size(size) || base <= place + size {
                 return Err(HeapFault::BadSize);
             }
@@ -138,4 +141,52 @@ fn check_segments(image: &[u8], base: usize) -> Result<Summary, HeapFault>
         }
     }
     Ok(sums)
+}
+
+/// The segments of an image that `check` accepts.
+pub fn segments(image: &[u8]) -> SegmentIter<'_>
+    requires { IsImage image.now (heap_of image.now 0) }
+    ensures { left result ≡ listed HEAP_FIRST (heap_of image.now 0).segments }
+{
+    let base = word_in(image, HEAP_BASE);
+    SegmentIter {
+        image,
+        base,
+        from: HEAP_FREE,
+        place: HEAP_FIRST,
+    }
+}
+
+impl Iterator for SegmentIter<'_> {
+    type Item = Segment;
+
+    ghost next_gives = { YieldsFirst left };
+
+    ghost remaining = { item_count left };
+
+    fn next(&mut self) -> Option<Segment> {
+        let place = self.place;
+        if place == self.base {
+            return None;
+        }
+        let link = word_in(self.image, self.from);
+        if self.from + link == place {
+            let size = word_in(self.image, place + HOLE_SIZE);
+            self.from = place;
+            self.place = place + size;
+            Some(Segment {
+                place,
+                size,
+                used: false,
+            })
+        } else {
+            let size = word_in(self.image, place);
+            self.place = place + size;
+            Some(Segment {
+                place,
+                size,
+                used: true,
+            })
+        }
+    }
 }

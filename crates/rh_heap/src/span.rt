@@ -1,5 +1,25 @@
-//! Where a heap stands.
-use rh_store::AreaId;
+//! Where a heap stands in an area, and where it ends.
+ghost use Rattle.std.specs.Prelude.{◌≡◌, ℕ, ℤ, ◌+◌, ◌%◌, ◌^◌, ◌<◌, ◌≤◌, length};
+ghost use Rattle.rh_defs.specs.Memory.{Memory, IsOpen, Edited, bytes};
+ghost use Rattle.rh_defs.specs.Pieces.{moved};
+ghost use Rattle.rh_defs.specs.Chain.{no_answer};
+ghost use Rattle.rh_defs.specs.Heap.{empty_heap, extend};
+ghost use Rattle.rh_heap.specs.Spans.{IsSpan, SpellsIn, bytes_in, heap_in};
+ghost use Rattle.rh_heap.specs.Calls.{Leaves};
+ghost use Rattle.rh_defs.specs.declared.sizes.TheConstants.{HEAP_FIRST, HEAP_UNIT};
+
+pub mod claim;
+pub mod holes;
+pub mod release;
+pub mod resize;
+pub mod segments;
+mod stretch;
+mod words;
+
+use crate::span::words::{read, write};
+use rh_defs::HeapRefusal;
+use rh_defs::sizes::{HEAP_BASE, HEAP_END, HEAP_FIRST, HEAP_FREE, HEAP_SPECIAL, HEAP_WORD, moved};
+use rh_store::{AreaId, Words};
 
 /// Where a heap stands: in an area, from an offset in bytes on. Its length is read from its words.
 #[derive(Clone, Copy, Debug, PartialEq, Eq)]
@@ -8,43 +28,44 @@ pub struct Span {
     pub at: usize,
 }
 
-/// A stretch of a heap's bytes from `low` up to `upper` that belongs to no segment. The link before it is at
-/// `link`, and the next hole behind it is at `next`, or there is none and `next` is 0.
-#[derive(Clone, Copy, Debug, PartialEq, Eq)]
-pub struct Cut {
-    pub link: usize,
-    pub low: usize,
-    pub next: usize,
-    pub upper: usize,
+/// Makes the first `end` bytes of a span an empty heap. `end` is a multiple of 8, and at least 16. (OS_Heap 0.)
+pub fn init<S: Words>(store: &mut S, span: Span, end: usize)
+    requires opened { IsOpen (S.memory store.old) span.area.0 }
+    requires within { span.at + end ≤ length (bytes_in (S.memory store.old) span) }
+    requires least { HEAP_FIRST ≤ end }
+    requires multiple { end % HEAP_UNIT ≡ 0 }
+    ensures heap { heap_in (S.memory store.new) span ≡ empty_heap end }
+    ensures spells { SpellsIn (S.memory store.new) span (empty_heap end) }
+    ensures still { IsSpan (S.memory store.new) span }
+    ensures only { Edited (S.memory store.old) (S.memory store.new) span.area.0 span.at (span.at + end) }
+{
+    write(store, span, HEAP_SPECIAL, HEAP_WORD);
+    write(store, span, HEAP_FREE, 0);
+    write(store, span, HEAP_BASE, HEAP_FIRST);
+    write(store, span, HEAP_END, end);
 }
 
-/// A segment of a heap, its size in bytes, and whether it is used. The link before it is at `from`. A hole made
-/// of it would begin at `low`, where the hole before it does if there is one, and the link before that is at `link`.
-#[derive(Clone, Copy, Debug, PartialEq, Eq)]
-pub struct Spot {
-    pub place: usize,
-    pub size: usize,
-    pub used: bool,
-    pub from: usize,
-    pub low: usize,
-    pub link: usize,
+/// The heap's end: its length in bytes.
+pub fn end<S: Words>(store: &S, span: Span) -> usize
+    requires { IsSpan (S.memory store.now) span }
+    ensures { result ≡ (heap_in (S.memory store.now) span).end }
+{
+    read(store, span, HEAP_END)
 }
 
-/// A hole of a heap, and the place of the link that leads to it.
-#[derive(Clone, Copy, Debug, PartialEq, Eq)]
-pub struct Gap {
-    pub from: usize,
-    pub place: usize,
-    pub size: usize,
-}
-
-/// How a block gets another size: it stays, its upper bytes become a hole, it grows into the hole of so many bytes
-/// that follows, or at the top, or it moves.
-#[derive(Clone, Copy, Debug, PartialEq, Eq)]
-pub enum Way {
-    Stays,
-    Shrinks,
-    IntoHole(usize),
-    AtTop,
-    Moves,
+/// Moves a heap's end by `delta` bytes, a multiple of 8. The bytes up to the new end are in the area. Refused
+/// (`ExcessiveShrink`) exactly where the end would be below the last block. (OS_Heap 5.)
+pub fn extend_heap<S: Words>(store: &mut S, span: Span, delta: i32) -> Result<(), HeapRefusal>
+    requires span { IsSpan (S.memory store.old) span }
+    requires multiple { moved (heap_in (S.memory store.old) span).end delta % HEAP_UNIT ≡ 0 }
+    requires within { span.at + moved (heap_in (S.memory store.old) span).end delta ≤ length (bytes_in (S.memory store.old) span) }
+    ensures { Leaves (S.memory store.old) (S.memory store.new) span
+        (no_answer (extend delta (heap_in (S.memory store.old) span))) result }
+{
+    let end = moved(read(store, span, HEAP_END), delta);
+    if end < read(store, span, HEAP_BASE) {
+        return Err(HeapRefusal::ExcessiveShrink);
+    }
+    write(store, span, HEAP_END, end);
+    Ok(())
 }

@@ -4,13 +4,13 @@ ghost use Rattle.std.specs.Option.{option_map};
 ghost use Rattle.rh_defs.specs.Chain.{no_answer};
 ghost use Rattle.rh_defs.specs.Heap.{block_around, block_size, segment_at};
 ghost use Rattle.rh_defs.specs.Module.{module_claim, module_free, module_resize, module_need_pages};
-ghost use Rattle.rh_heap.specs.Pieces.{piece};
+ghost use Rattle.rh_heap.specs.Segments.{piece};
 ghost use Rattle.rh_module.specs.Area.{IsModule, heap_in};
 ghost use Rattle.rh_module.specs.Calls.{Leaves};
 
-use crate::length::pages_for;
 use crate::module::Module;
 use rh_defs::Refusal;
+use rh_defs::sizes::pages_for;
 use rh_heap::{Segment, claim, need, release, resize, resize_need};
 use rh_store::{Pages, Words};
 

@@ -1,7 +1,6 @@
 //! The area's length, which its heap fills.
 ghost use Rattle.std.specs.Prelude.{◌≡◌, ◌^◌, ◌<◌, ◌≤◌, length, OnOk, OnErr, IfErr};
 ghost use Rattle.rh_defs.specs.Memory.{IsOpen, OnlyArea, bytes};
-ghost use Rattle.rh_defs.specs.Pieces.{pages_for};
 ghost use Rattle.rh_defs.specs.Heap.{base, empty_heap, free_bytes, largest};
 ghost use Rattle.rh_defs.specs.Module.{module_change};
 ghost use Rattle.rh_module.specs.Area.{IsModule, SpellsIn, heap_in};
@@ -10,16 +9,9 @@ ghost use Rattle.rh_module.specs.Lengths.{longer, shorter};
 
 use crate::module::Module;
 use rh_defs::Refusal;
-use rh_defs::sizes::PAGE;
+use rh_defs::sizes::{PAGE, pages_for};
 use rh_heap::{extend_heap, init};
 use rh_store::{AreaId, Pages, Words};
-
-/// How many pages hold this many bytes.
-pub fn pages_for(bytes: usize) -> usize
-    ensures { result ≡ pages_for bytes }
-{
-    bytes.div_ceil(PAGE)
-}
 
 impl Module {
     /// Makes an area of at least one page an empty heap as long as the area.

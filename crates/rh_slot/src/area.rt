@@ -5,7 +5,7 @@ ghost use Rattle.rh_defs.specs.Pieces.{page, pages_for};
 ghost use Rattle.rh_defs.specs.Bytes.{word, part, put};
 ghost use Rattle.rh_defs.proofs.SlotLaws.{Carried};
 
-use rh_defs::sizes::{PAGE, WORD};
+use rh_defs::sizes::{PAGE, WORD, pages_for};
 use rh_store::{AreaId, Pages, StoreFault, Words};
 
 /// The word at a place.
@@ -63,13 +63,6 @@ pub fn write_bytes<S: Words>(store: &mut S, area: AreaId, place: usize, from: &[
     ensures only { Edited (S.memory store.old) (S.memory store.new) area.0 place (place + length from.now) }
 {
     store.copy_in(area, place, from);
-}
-
-/// How many pages hold `n` bytes.
-pub fn pages_for(n: usize) -> usize
-    ensures { result ≡ pages_for n }
-{
-    n.div_ceil(PAGE)
 }
 
 /// Appends pages where a top lies above the last page.

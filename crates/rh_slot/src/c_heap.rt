@@ -6,16 +6,16 @@ ghost use Rattle.rh_defs.specs.Chain.{no_answer};
 ghost use Rattle.rh_defs.specs.Heap.{largest, free_bytes, segment_at};
 ghost use Rattle.rh_defs.specs.Pieces.{pages_for};
 ghost use Rattle.rh_defs.specs.Slot.{slot_claim, slot_release, slot_resize, slot_take_pages};
-ghost use Rattle.rh_heap.specs.Pieces.{piece};
+ghost use Rattle.rh_heap.specs.Segments.{piece};
 ghost use Rattle.rh_slot.specs.Area.{IsSlot, SpellsIn, slot_in};
 ghost use Rattle.rh_slot.specs.Calls.{Leaves};
 ghost use Rattle.rh_slot.specs.CHeap.{after_growth, lengthened};
 
-use crate::area::{grow_to, pages_for};
-use crate::row::{shift, weight_of};
+use crate::area::grow_to;
+use crate::row::shift;
 use crate::slot::Slot;
 use rh_defs::Refusal;
-use rh_defs::sizes::{C_HEAP_PLACE, C_HEAP_START, PAGE};
+use rh_defs::sizes::{C_HEAP_PLACE, C_HEAP_START, PAGE, flex_weight, pages_for};
 use rh_heap::{Segment, Span};
 use rh_store::{Pages, Words};
 
@@ -135,7 +135,7 @@ impl Slot {
             return Err(Refusal::NoBudge);
         }
         let top = self.top(store);
-        Ok(pages_for(shortage) + pages_for(top + weight_of(0)) - pages_for(top))
+        Ok(pages_for(shortage) + pages_for(top + flex_weight(0)) - pages_for(top))
     }
 
     /// The segment of the C heap that begins at a place, in bytes from the heap's first one.

@@ -8,9 +8,9 @@ ghost use Rattle.rh_slot.specs.Calls.{Leaves};
 ghost use Rattle.rh_slot.specs.Flex.{Found, FoundAt, splice};
 
 use crate::area::{clear, grow_to, read, room_for, slide, trim, write, write_bytes};
-use crate::row::{shift, weight_of};
+use crate::row::shift;
 use crate::slot::Slot;
-use rh_defs::sizes::{ANCHORS, FLEX_HEADER, SLOT_START, WORD};
+use rh_defs::sizes::{ANCHORS, FLEX_HEADER, SLOT_START, WORD, flex_weight, moved};
 use rh_defs::{Anchor, Refusal};
 use rh_store::{Pages, Words};
 
@@ -60,11 +60,7 @@ fn put_in(by: i32) -> usize
     ensures value { result ≡ moved 0 by }
     ensures bound { result < 2 ^ 31 }
 {
-    if by < 0 {
-        0
-    } else {
-        by.unsigned_abs() as usize
-    }
+    moved(0, by)
 }
 
 impl Slot {
@@ -122,7 +118,7 @@ impl Slot {
         }
         let size = n as usize;
         let top = self.top(store);
-        let Ok(()) = grow_to(store, self.area, top + weight_of(size)) else {
+        let Ok(()) = grow_to(store, self.area, top + flex_weight(size)) else {
             return Err(Refusal::NoRoom);
         };
         let word = word_place(anchor);
@@ -143,7 +139,7 @@ impl Slot {
         let Some(spot) = self.locate(store, anchor) else {
             return Err(Refusal::NoBlock);
         };
-        let from = spot.place + weight_of(spot.size);
+        let from = spot.place + flex_weight(spot.size);
         let above = self.top(store) - from;
         shift(store, self.area, from, spot.place, above);
         write(store, self.area, word_place(anchor), 0);
@@ -168,9 +164,9 @@ impl Slot {
             → Leaves (S.memory store.old) (S.memory store.new) self
             (no_answer (splice (S.memory store.old).free change.offset change.out change.put cut (slot_in (S.memory store.old) self))) result }
     {
-        let from = spot.place + weight_of(spot.size);
+        let from = spot.place + flex_weight(spot.size);
         let size = spot.size - change.out + change.put;
-        let to = spot.place + weight_of(size);
+        let to = spot.place + flex_weight(size);
         let above = self.top(store) - from;
         let Ok(()) = room_for(store, self.area, to + above) else {
             return Err(Refusal::NoRoom);

@@ -1,8 +1,8 @@
 //! The row of flex blocks that lie one after the other above the C heap: walks over it, and how it slides.
 ghost use Rattle.std.specs.Prelude.{◌≡◌, ◌+◌, ◌<◌, true, ◌^◌, ◌≤◌, length, is_some, slice_get, MatchOption, List, OnSome, IfNone, false};
 ghost use Rattle.rh_defs.specs.Memory.{IsOpen, bytes, Edited};
-ghost use Rattle.rh_defs.specs.Slot.{Flex, flex_weight, flex_around, weight, slot_length};
-ghost use Rattle.rh_defs.specs.Pieces.{is_inside, total};
+ghost use Rattle.rh_defs.specs.Slot.{Flex, flex_around, weight, slot_length};
+ghost use Rattle.rh_defs.specs.Pieces.{total};
 ghost use Rattle.rh_defs.specs.Listing.{block_items};
 ghost use Rattle.rh_defs.specs.Bytes.{word, SameIn};
 ghost use Rattle.rh_defs.specs.SlotImage.{Lie, is_block, flex_place};
@@ -12,7 +12,9 @@ ghost use Rattle.rh_slot.specs.Row.{Row, Hung, Shifted, Walked, WalksIn, item_of
 
 use crate::area::{read, slide, write};
 use crate::slot::Slot;
-use rh_defs::sizes::{C_HEAP_PLACE, C_HEAP_START, FLEX_HEADER, SLOT_START, WORD};
+use rh_defs::sizes::{
+    C_HEAP_PLACE, C_HEAP_START, FLEX_HEADER, SLOT_START, WORD, flex_weight, is_inside,
+};
 use rh_defs::{Anchor, BlockItem};
 use rh_store::{AreaId, Words};
 
@@ -22,14 +24,6 @@ use rh_store::{AreaId, Words};
 pub struct FlexWalk {
     pub passed: usize,
     pub place: usize,
-}
-
-/// What a block of `n` bytes takes: two header words, and whole words.
-pub fn weight_of(n: usize) -> usize
-    requires { n < 2 ^ 40 }
-    ensures { result ≡ flex_weight n }
-{
-    FLEX_HEADER + (n + (WORD - 1)) / WORD * WORD
 }
 
 /// Whether a block begins at a place: its header names an anchor word that leads back to it.
@@ -44,13 +38,6 @@ fn begins<S: Words>(store: &S, area: AreaId, place: usize) -> bool
         return false;
     }
     read(store, area, anchor - SLOT_START) == SLOT_START + place + FLEX_HEADER
-}
-
-/// Whether the `n` bytes at `x` lie whole in the `m` bytes at `a`.
-fn is_inside(x: usize, n: usize, a: usize, m: usize) -> bool
-    ensures { result ≡ is_inside x n a m }
-{
-    a <= x && x - a <= m && n <= m - (x - a)
 }
 
 /// Writes the anchor words of the blocks that lie in `n` bytes.
@@ -70,7 +57,7 @@ fn hang<S: Words>(store: &mut S, area: AreaId, from: usize, n: usize)
         let size = read(store, area, place + WORD);
         let word = anchor - SLOT_START;
         write(store, area, word, SLOT_START + place + FLEX_HEADER);
-        place += weight_of(size);
+        place += flex_weight(size);
     }
 }
 
@@ -124,7 +111,7 @@ impl Slot {
     {
         let mut place = self.flex_place(store);
         'walk: while let Some(size) = self.size_at(store, place) {
-            place += weight_of(size);
+            place += flex_weight(size);
         }
         place
     }
@@ -140,7 +127,7 @@ impl Slot {
             if is_inside(address, n, block, size) {
                 return true;
             }
-            place += weight_of(size);
+            place += flex_weight(size);
         }
         false
     }
@@ -199,7 +186,7 @@ impl Slot {
         let size = self.size_at(store, place)?;
         let item = self.item_at(store, place, size);
         walk.passed += 1;
-        walk.place = place + weight_of(size);
+        walk.place = place + flex_weight(size);
         Some(item)
     }
 

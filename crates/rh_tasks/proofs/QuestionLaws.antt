@@ -17,8 +17,8 @@ use Rattle.rh_defs.proofs.Cuts.{IsCut, first_at-cuts, cut-total}
 use Rattle.rh_defs.specs.Desk.{Desk, named}
 use Rattle.rh_defs.specs.Commands.{Answer}
 use Rattle.rh_defs.specs.Listing.{segment_item}
-use Rattle.rh_heap.specs.declared.listing.Segment.{Segment as Piece}
-use Rattle.rh_heap.specs.Pieces.{piece}
+use Rattle.rh_heap.specs.declared.layout.Segment.{Segment as Piece}
+use Rattle.rh_heap.specs.Segments.{piece}
 use Rattle.rh_slot.specs.declared.slot.Slot.{Slot}
 use Rattle.rh_slot.specs.Area.{slot_in}
 use Rattle.rh_tasks.specs.declared.seat.Seat.{Seat}

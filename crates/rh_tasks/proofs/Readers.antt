@@ -12,8 +12,8 @@ use Rattle.rh_defs.specs.Heap.{Heap, segment_at, largest, free_bytes}
 use Rattle.rh_defs.specs.Slot as plain
 use Rattle.rh_defs.specs.Listing.{segment_item}
 use Rattle.rh_defs.proofs.Cuts.{IsCut, first_at-cuts, cut-total}
-use Rattle.rh_heap.specs.declared.listing.Segment.{Segment}
-use Rattle.rh_heap.specs.Pieces.{piece}
+use Rattle.rh_heap.specs.declared.layout.Segment.{Segment}
+use Rattle.rh_heap.specs.Segments.{piece}
 use Rattle.rh_slot.specs.declared.slot.Slot.{Slot}
 use Rattle.rh_slot.specs.Area.{IsSlot, slot_in}
 use Rattle.rh_tasks.specs.Items.{segment_item_of}

@@ -6,7 +6,7 @@ use Rattle.rh_defs.specs.declared.listing.AreaItem.{AreaItem}
 use Rattle.rh_defs.specs.declared.listing.AreaItem.TheVariants as item
 use Rattle.rh_defs.specs.declared.listing.SegmentItem.{SegmentItem}
 use Rattle.rh_defs.specs.declared.listing.SegmentItem.TheVariants as segment
-use Rattle.rh_heap.specs.declared.listing.Segment.{Segment}
+use Rattle.rh_heap.specs.declared.layout.Segment.{Segment}
 use Rattle.rh_tasks.specs.declared.seat.Seat.{Seat}
 use Rattle.rh_tasks.specs.declared.made.MadeArea.{MadeArea}
 use Rattle.rh_tasks.specs.View.{fixed, pages_at}

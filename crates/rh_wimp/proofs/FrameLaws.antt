@@ -1,38 +1,51 @@
 -- The post stays where blocks of others come and go.
 use Rattle.std.proofs.Common.{◌≡◌, ℕ, ◌<◌, ◌≢◌, inl, inr, length, sym, subst, ◌∙◌}
 use Rattle.std.proofs.lemmas.Bool.{cases_eq}
-use Rattle.std.specs.Prelude.{Ok}
+use Rattle.std.specs.Prelude.{List, [], ◌∷◌, Ok}
+use Rattle.rh_defs.specs.Messages.{Parcel}
 use Rattle.rh_defs.specs.Heap.{Heap, release}
 use Rattle.rh_defs.specs.Module.{module_claim}
 use Rattle.rh_defs.specs.Blocks.{block_bytes, SameShape}
 use Rattle.rh_defs.specs.Post.{Post}
-use Rattle.rh_wimp.specs.Chains.{Chains, IsPost, Off, entry_at, row_at, rows_of, row_parcels}
+use Rattle.rh_wimp.specs.Chains.{AllLie, Chains, IsPost, Off, entry_at, row_at, rows_of, row_parcels}
 use Rattle.rh_defs.proofs.BlockLaws.{release-frees}
 use Rattle.rh_defs.proofs.BlockCalls.{module_claim-puts}
-use Rattle.rh_wimp.proofs.LinkLaws.{AllLie-kept}
 use Rattle.rh_wimp.proofs.RowLaws.{agree-off, row-kept, row-fresh}
 use Rattle.rh_wimp.proofs.SendLaws.{alike-ok}
 use Rattle.rh_defs.proofs.ShapeLaws.{module_claim-alike, release-alike}
 
--- one block that holds no message changes, in both heaps alike
-module _ (h k : Heap) (q : Chains) (post : Post) (d : Heap) (a : ℕ) where
-  pub block-changed : IsPost h q post → ((j : ℕ) → j < length (rows_of post) → Off a (row_parcels (row_at (rows_of post) j))) → SameShape k d
-      → ((b : ℕ) → b ≢ a → block_bytes b k ≡ block_bytes b h) → ((b : ℕ) → b ≢ a → block_bytes b d ≡ block_bytes b post.heap) → block_bytes a k ≡ block_bytes a d → IsPost k q (record post { heap = d })
-  block-changed s off shape keeps keeps' same = record {
+-- the messages' blocks stay where but two others change
+AllLie-but : (d k : Heap) (x y : ℕ) (ps : List Parcel) → ((b : ℕ) → b ≢ x → b ≢ y → block_bytes b k ≡ block_bytes b d) → Off x ps → Off y ps → AllLie d ps → AllLie k ps
+AllLie-but d k x y [] s o r a = tt
+AllLie-but d k x y (p ∷ ps) s o r a = (s p.block o.0 r.0 ∙ a.0, AllLie-but d k x y ps s o.1 r.1 a.1)
+
+-- no message lies in the block
+abbrev pub IsOff : ℕ → Post → Type 0
+IsOff a post = (j : ℕ) → j < length (rows_of post) → Off a (row_parcels (row_at (rows_of post) j))
+
+-- two blocks that hold no message change, in both heaps alike
+module _ (h k : Heap) (q : Chains) (post : Post) (d : Heap) (x y : ℕ) where
+  pub blocks-changed : IsPost h q post → IsOff x post → IsOff y post → SameShape k d
+      → ((b : ℕ) → b ≢ x → b ≢ y → block_bytes b k ≡ block_bytes b h) → ((b : ℕ) → b ≢ x → b ≢ y → block_bytes b d ≡ block_bytes b post.heap)
+      → block_bytes x k ≡ block_bytes x d → block_bytes y k ≡ block_bytes y d → IsPost k q (record post { heap = d })
+  blocks-changed s off off' shape keeps keeps' same same' = record {
     rows = record {
       len = s.rows.len;
       each = λ i l. row-kept h k (entry_at q.entries i) (row_at (rows_of post) i)
-          (agree-off h k a a (row_parcels (row_at (rows_of post) i)) (record { each = λ b ne ne'. keeps b ne }) (off i l) (off i l)) (s.rows.each i l);
+          (agree-off h k x y (row_parcels (row_at (rows_of post) i)) (record { each = keeps }) (off i l) (off' i l)) (s.rows.each i l);
       own = s.rows.own;
       cross = s.rows.cross;
       handles = s.rows.handles;
     };
     linked = record {
       shape = shape;
-      lie = λ i l. AllLie-kept post.heap d a (row_parcels (row_at (rows_of post) i)) keeps' (off i l) (s.linked.lie i l);
-      others = λ b out. elim (cases_eq b a) [
+      lie = λ i l. AllLie-but post.heap d x y (row_parcels (row_at (rows_of post) i)) keeps' (off i l) (off' i l) (s.linked.lie i l);
+      others = λ b out. elim (cases_eq b x) [
         | inl z ↦ subst (λ m. block_bytes m k ≡ block_bytes m d) (sym z) same
-        | inr ne ↦ keeps b ne ∙ s.linked.others b out ∙ sym (keeps' b ne)
+        | inr ne ↦ elim (cases_eq b y) [
+          | inl z ↦ subst (λ m. block_bytes m k ≡ block_bytes m d) (sym z) same'
+          | inr nor ↦ keeps b ne nor ∙ s.linked.others b out ∙ sym (keeps' b ne nor)
+        ]
       ];
     };
     live = s.live;
@@ -40,6 +53,12 @@ module _ (h k : Heap) (q : Chains) (post : Post) (d : Heap) (a : ℕ) where
     few = s.few;
     next_ref = s.next_ref;
   }
+
+-- one block that holds no message changes, in both heaps alike
+module _ (h k : Heap) (q : Chains) (post : Post) (d : Heap) (a : ℕ) where
+  pub block-changed : IsPost h q post → IsOff a post → SameShape k d
+      → ((b : ℕ) → b ≢ a → block_bytes b k ≡ block_bytes b h) → ((b : ℕ) → b ≢ a → block_bytes b d ≡ block_bytes b post.heap) → block_bytes a k ≡ block_bytes a d → IsPost k q (record post { heap = d })
+  block-changed s off shape keeps keeps' same = blocks-changed h k q post d a a s off off shape (λ b ne ne'. keeps b ne) (λ b ne ne'. keeps' b ne) same same
 
 -- a block that others claim: the plain heap grants the same, and the post stays
 pub record ClaimedBeside (h : Heap) (q : Chains) (post : Post) (free n : ℕ) (there : Heap × ℕ) : Type 0 where
@@ -59,7 +78,7 @@ claimed-beside h q post free n there s e =
     }
 
 -- a block of others that is freed
-pub freed-beside : (h : Heap) (q : Chains) (post : Post) (a : ℕ) → IsPost h q post → ((j : ℕ) → j < length (rows_of post) → Off a (row_parcels (row_at (rows_of post) j)))
+pub freed-beside : (h : Heap) (q : Chains) (post : Post) (a : ℕ) → IsPost h q post → IsOff a post
     → IsPost (release a h) q (record post { heap = release a post.heap })
 freed-beside h q post a s off =
     let w = release-frees a h in

@@ -17,3 +17,7 @@ pub mod DeathLaws
 pub mod LeaveLaws
 pub mod EndLaws
 pub mod LeavesLaws
+pub mod OrderLaws
+pub mod PostInLaws
+pub mod PostCalls
+pub mod BesideLaws

@@ -25,8 +25,12 @@ AllLie-kept d k x [] s o a = tt
 AllLie-kept d k x (p ∷ ps) s o a = (s p.block o.0 ∙ a.0, AllLie-kept d k x ps s o.1 a.1)
 
 -- no block lies so low
-none-low : (h k : Heap) (b : ℕ) → b < 20 → block_bytes b h ≡ block_bytes b k
+pub none-low : (h k : Heap) (b : ℕ) → b < 20 → block_bytes b h ≡ block_bytes b k
 none-low h k b l = below b 16 h.segments l ∙ sym (below b 16 k.segments l)
+
+pub zero-off : (c : Heap) (ps : List Parcel) → AllLie c ps → Off 0 ps
+zero-off c [] a = tt
+zero-off c (p ∷ ps) a = ((λ z. let bad : Some (padded 0 p) ≡ None = sym a.0 ∙ ap (λ m. block_bytes m c) z ∙ below 0 16 c.segments (omega arith) in cc), zero-off c ps a.1)
 
 module _ (h k d e : Heap) (rows : List Row) (i : ℕ) (q : Parcel) where
   -- a message that lies in both heaps, at the end of a chain
@@ -66,10 +70,6 @@ module _ (h k d e : Heap) (rows : List Row) (i : ℕ) (q : Parcel) where
             ];
       }
     where
-      zero-off : (c : Heap) (ps : List Parcel) → AllLie c ps → Off 0 ps
-      zero-off c [] a = tt
-      zero-off c (p ∷ ps) a = ((λ z. let bad : Some (padded 0 p) ≡ None = sym a.0 ∙ ap (λ m. block_bytes m c) z ∙ below 0 16 c.segments (omega arith) in cc), zero-off c ps a.1)
-
       at_last : (b : ℕ) (ps : List Parcel) → b ≡ last_block ps → Off b ps → block_bytes b k ≡ block_bytes b e
       at_last b [] z o = none-low k e b (omega arith)
       at_last b (p ∷ ps) z o = absurd (Off-last b p ps o (sym z))

@@ -3,3 +3,5 @@ pub mod Moves
 pub mod Searches
 pub mod Deaths
 pub mod Calls
+pub mod PostIn
+pub mod Laws

@@ -6,6 +6,7 @@ mod chain;
 mod death;
 mod decoding;
 mod encoding;
+mod laws;
 mod layout;
 mod placing;
 mod polling;
@@ -16,4 +17,5 @@ mod sending;
 
 pub use decoding::decode;
 pub use encoding::encode;
+pub use laws::{beside_law, post_law};
 pub use queue::Queue;

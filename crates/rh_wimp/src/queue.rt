@@ -1,11 +1,11 @@
 //! The queue of messages: a chain of blocks for each live task.
-ghost use Rattle.std.specs.Prelude.{◌≡◌, ◌<◌, [], IfOk, length};
+ghost use Rattle.std.specs.Prelude.{◌≡◌, ◌<◌, [], ◌∷◌, ◌++◌, IfOk, length};
 ghost use Rattle.rh_defs.specs.Heap.{Heap};
 ghost use Rattle.rh_defs.specs.Memory.{Memory};
 ghost use Rattle.rh_defs.specs.Post.{Post, post_join};
 ghost use Rattle.rh_module.specs.Area.{IsModule};
 ghost use Rattle.rh_module.specs.declared.module.Module.{Module};
-ghost use Rattle.rh_wimp.specs.Calls.{IsQueue};
+ghost use Rattle.rh_wimp.specs.Calls.{IsQueue, handles_of};
 ghost use Rattle.rh_wimp.specs.Chains.{HasEntry, IsPost, joined};
 
 use crate::chain::Entry;
@@ -68,6 +68,7 @@ impl Queue {
         requires few { length self.old.entries < 32 }
         requires new { ¬ HasEntry handle self.old }
         ensures entries { self.new ≡ joined handle self.old }
+        ensures handles { handles_of self.new ≡ handles_of self.old ++ handle ∷ [] }
         ensures spells { (h : Heap) (post : Post) → IsPost h self.old post → IsPost h self.new (post_join handle post) }
         ensures still { (m : Memory) (rma : Module) → IsQueue m rma self.old → IsQueue m rma self.new }
     {

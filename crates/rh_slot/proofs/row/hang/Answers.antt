@@ -41,7 +41,7 @@ walk-preserved g c =
     let o = t.least in
     record {
       only = Edited-both _ _ _ _ _ _ c.walk.invariant.only (Edited-wider _ _ _ _ _ _ _ c.write.ensures.only (omega arith) (omega arith));
-      walk = t.next _ _ c.weight_of-place.ensures c.write.ensures.only.outside c.write.ensures.word;
+      walk = t.next _ _ c.flex_weight-place.ensures c.write.ensures.only.outside c.write.ensures.word;
     }
 
 pub returns-clause-hung : goal.returns-clause-hung

@@ -12,7 +12,7 @@ returns-in-Some g c = refuses _ _ _ _ _ (alloc_used _ _ _ _ _ _ c.in-Some.ensure
 pub returns-in_default-grow_to : goal.returns-in_default-grow_to
 returns-in_default-grow_to g c =
     let s = slot_in (g.S.Words.memory c.args.store.now) c.args.self in
-    let q = pages_more _ s _ _ _ c.requires.slot.spells.pages c.top-top.ensures c.weight_of.ensures in
+    let q = pages_more _ s _ _ _ c.requires.slot.spells.pages c.top-top.ensures c.flex_weight.ensures in
     refuses _ _ _ _ _ (alloc_full _ _ _ s c.in_default.ensures (has_none _ _ _ c.in_default-grow_to.ensures.refused refl q)) c.in_default-grow_to.ensures.err c.requires.slot
 
 pub returns : goal.returns
@@ -21,7 +21,7 @@ returns g c =
     let r = c.in-Ok.ensures.ok in
     let lb = c.requires.slot.spells.pages in
     let et = c.top-top.ensures in
-    let ew = c.weight_of.ensures in
+    let ew = c.flex_weight.ensures in
     let l0 = c.write.ensures.only.outside.len in
     let l1 = c.write-2.ensures.only.outside.len in
     let l2 = c.clear.ensures.only.outside.len in

@@ -19,24 +19,24 @@ overflow_add-block-in-Some g c =
 pub returns-then-is_inside : goal.returns-then-is_inside
 returns-then-is_inside g c = sym (held _ _ _ _ _ c.requires.spells.words c.walk.invariant c.in-Some.ensures.0 _ c.in-Some.ensures.1 (sym c.if-is_inside.ensures))
 
-pub weight_of-place-requires : goal.weight_of-place-requires
-weight_of-place-requires g c =
+pub flex_weight-place-requires : goal.flex_weight-place-requires
+flex_weight-place-requires g c =
     let t = turn _ _ _ c.requires.spells.words c.walk.invariant.walked c.in-Some.ensures.0 _ c.in-Some.ensures.1 in
     omega (arith, t.inside, g.met.S.Words.small c.args.store.now c.args.self.area.0)
 
 pub overflow_add-place : goal.overflow_add-place
 overflow_add-place g c =
     let t = turn _ _ _ c.requires.spells.words c.walk.invariant.walked c.in-Some.ensures.0 _ c.in-Some.ensures.1 in
-    omega (arith, t.inside, c.weight_of-place.ensures, g.met.S.Words.small c.args.store.now c.args.self.area.0)
+    omega (arith, t.inside, c.flex_weight-place.ensures, g.met.S.Words.small c.args.store.now c.args.self.area.0)
 
 pub walk-smaller : goal.walk-smaller
 walk-smaller g c =
     let t = turn _ _ _ c.requires.spells.words c.walk.invariant.walked c.in-Some.ensures.0 _ c.in-Some.ensures.1 in
-    omega (arith, t.fits, c.weight_of-place.ensures)
+    omega (arith, t.fits, c.flex_weight-place.ensures)
 
 pub walk-preserved : goal.walk-preserved
 walk-preserved g c =
-    unheld_on _ _ _ _ _ c.requires.spells.words c.walk.invariant c.in-Some.ensures.0 _ _ c.in-Some.ensures.1 c.weight_of-place.ensures (sym c.if-is_inside.ensures)
+    unheld_on _ _ _ _ _ c.requires.spells.words c.walk.invariant c.in-Some.ensures.0 _ _ c.in-Some.ensures.1 c.flex_weight-place.ensures (sym c.if-is_inside.ensures)
 
 pub returns : goal.returns
 returns g c = sym (not_held _ _ _ _ _ c.requires.spells.words c.walk.invariant c.in_default.ensures)

@@ -23,4 +23,4 @@ pub returns-clause-block : goal.returns-clause-block
 returns-clause-block g c = ap Some c.item_at-item.ensures ∙ step_item _ _ _ c.requires.slot.spells.words c.requires.walk c.in_ok-size.ensures.0
 
 pub returns-clause-walk : goal.returns-clause-walk
-returns-clause-walk g c = walks_on _ _ _ c.requires.slot.spells.words c.requires.walk c.in_ok-size.ensures.0 _ _ c.in_ok-size.ensures.1 c.weight_of.ensures
+returns-clause-walk g c = walks_on _ _ _ c.requires.slot.spells.words c.requires.walk c.in_ok-size.ensures.0 _ _ c.in_ok-size.ensures.1 c.flex_weight.ensures

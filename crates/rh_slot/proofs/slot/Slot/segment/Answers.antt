@@ -2,7 +2,7 @@
 use Rattle.std.proofs.Common.{ap, ◌∙◌}
 use Rattle.std.specs.Option.{option_map}
 use Rattle.rh_defs.specs.Heap.{segment_at}
-use Rattle.rh_heap.specs.Pieces.{piece}
+use Rattle.rh_heap.specs.Segments.{piece}
 use Rattle.rh_slot.proofs.SpanLaws.{is_span_at, heap_at}
 use Rattle.rh_slot.proofs.slot.Slot.segment.Goals as goal
 

@@ -36,4 +36,4 @@ returns g c =
     let s = slot_in (g.S.Words.memory c.args.store.now) c.args.self in
     let w = claim_needs c.args.n c.in_ok-shortage.shortage s _ (heap_at (g.S.Words.memory c.args.store.now) c.args.self _ c.span.ensures) c.in_ok-shortage.ensures in
     sym (take_done c.args.n c.in_ok-shortage.shortage s w (ap (λ b. nat_lt 0 c.in_ok-shortage.shortage && not b) (budging_same (g.S.Words.memory c.args.store.now) c.args.self) ∙ sym c.is_stuck.ensures ∙ c.if-is_stuck.false)
-    ∙ ap (λ i. Ok i) (omega (arith, c.pages_for.ensures, c.pages_for-2.ensures, c.pages_for-3.ensures, c.weight_of.ensures, c.top-top.ensures)))
+    ∙ ap (λ i. Ok i) (omega (arith, c.pages_for.ensures, c.pages_for-2.ensures, c.pages_for-3.ensures, c.flex_weight.ensures, c.top-top.ensures)))

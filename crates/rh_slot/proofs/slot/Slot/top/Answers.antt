@@ -3,24 +3,24 @@ use Rattle.std.proofs.Common.{arith}
 use Rattle.rh_slot.proofs.WalkLaws.{turn, last, at_end}
 use Rattle.rh_slot.proofs.slot.Slot.top.Goals as goal
 
-pub weight_of-place-requires : goal.weight_of-place-requires
-weight_of-place-requires g c =
+pub flex_weight-place-requires : goal.flex_weight-place-requires
+flex_weight-place-requires g c =
     let t = turn _ _ _ c.requires.spells.words c.walk.invariant c.in-Some.ensures.0 _ c.in-Some.ensures.1 in
     omega (arith, t.inside, g.met.S.Words.small c.args.store.now c.args.self.area.0)
 
 pub overflow_add-place : goal.overflow_add-place
 overflow_add-place g c =
     let t = turn _ _ _ c.requires.spells.words c.walk.invariant c.in-Some.ensures.0 _ c.in-Some.ensures.1 in
-    omega (arith, t.inside, c.weight_of-place.ensures, g.met.S.Words.small c.args.store.now c.args.self.area.0)
+    omega (arith, t.inside, c.flex_weight-place.ensures, g.met.S.Words.small c.args.store.now c.args.self.area.0)
 
 pub walk-smaller : goal.walk-smaller
 walk-smaller g c =
     let t = turn _ _ _ c.requires.spells.words c.walk.invariant c.in-Some.ensures.0 _ c.in-Some.ensures.1 in
-    omega (arith, t.fits, c.weight_of-place.ensures)
+    omega (arith, t.fits, c.flex_weight-place.ensures)
 
 pub walk-preserved : goal.walk-preserved
 walk-preserved g c =
-    (turn _ _ _ c.requires.spells.words c.walk.invariant c.in-Some.ensures.0 _ c.in-Some.ensures.1).walked _ c.weight_of-place.ensures
+    (turn _ _ _ c.requires.spells.words c.walk.invariant c.in-Some.ensures.0 _ c.in-Some.ensures.1).walked _ c.flex_weight-place.ensures
 
 pub returns : goal.returns
 returns g c = at_end _ _ c.walk.invariant (last _ _ _ c.requires.spells.words c.walk.invariant c.in_default.ensures)

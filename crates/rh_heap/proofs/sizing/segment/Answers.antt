@@ -1,5 +1,0 @@
-use Rattle.rh_heap.proofs.SizeLaws.{segment_answer}
-use Rattle.rh_heap.proofs.sizing.segment.Goals as goal
-
-pub returns-in-Some : goal.returns-in-Some
-returns-in-Some g c = segment_answer _ _ _ _ c.in-Some.ensures

@@ -1,0 +1,73 @@
+-- Where a walk over a heap's segments has come to, and the segment that it found.
+use Rattle.std.specs.Prelude.{◌≡◌, ℕ, ◌+◌, ◌≤◌, ◌%◌, ◌==◌, Bool, true, false, List, [], ◌∷◌, ◌++◌, length, Some}
+use Rattle.rh_defs.specs.Pieces.{Split, total, NonePass}
+use Rattle.rh_defs.specs.Heap.{Segment, Used, Hole, Heap, IsTidy, size_of, base, place_after, block_at, segment_at}
+use Rattle.rh_heap.specs.declared.layout.Segment as layout
+use Rattle.rh_heap.specs.declared.span.segments.Spot.{Spot}
+use Rattle.rh_defs.specs.HeapParts.{last_link}
+use Rattle.rh_defs.specs.declared.sizes.TheConstants.{HEAP_FIRST, HEAP_FREE, HEAP_UNIT, WORD}
+use Rattle.rh_heap.specs.declared.layout.TheConstants.{BLOCK}
+
+-- the hole just before a place, if there is one, and the links before it and behind it
+pub data GapIs (low place link from : ℕ) : List Segment → Type 0 where
+  no_gap : low ≡ place → from ≡ link → GapIs low place link from []
+  a_gap : (size : ℕ) → place ≡ low + size → from ≡ low → GapIs low place link from (Hole size ∷ [])
+
+-- The walk has passed some segments, of which the last may be a hole.
+pub record Reached (at : ℕ) (h : Heap) (link low from place : ℕ) : Type 0 where
+  pub front : List Segment
+  pub gap : List Segment
+  pub rest : List Segment
+  pub is : h.segments ≡ (front ++ gap) ++ rest
+  pub gap_is : GapIs low place link from gap
+  pub low_is : low ≡ HEAP_FIRST + total size_of front
+  pub link_is : at + link ≡ last_link (at + HEAP_FREE) (at + HEAP_FIRST) front
+  pub place_is : place ≡ HEAP_FIRST + total size_of (front ++ gap)
+  pub from_is : at + from ≡ last_link (at + HEAP_FREE) (at + HEAP_FIRST) (front ++ gap)
+  pub tidy : IsTidy false front
+  pub link_below : link + WORD ≤ low
+  pub behind : from + WORD ≤ place
+  pub inside : place ≤ base h
+
+-- and none of them begins at the target
+pub record Walking (at : ℕ) (h : Heap) (target link low from place : ℕ) : Type 0 where
+  pub reached : Reached at h link low from place
+  pub none : NonePass size_of (λ p g. target == p) HEAP_FIRST (reached.front ++ reached.gap)
+
+-- a segment and its size
+pub data HereIs (size : ℕ) : Bool → Segment → Type 0 where
+  used_here : (bytes : List ℕ) → size ≡ BLOCK + length bytes → HereIs size true (Used bytes)
+  hole_here : (n : ℕ) → size ≡ n → HereIs size false (Hole n)
+
+-- the segment at a place
+pub record Found (at : ℕ) (h : Heap) (target : ℕ) (spot : Spot) : Type 0 where
+  pub reached : Reached at h spot.link spot.low spot.from spot.place
+  pub here : Segment
+  pub after : List Segment
+  pub rest_is : reached.rest ≡ here ∷ after
+  pub here_is : HereIs spot.size spot.used here
+  pub place_is : spot.place ≡ target
+  pub found : segment_at target h ≡ Some (record { before = reached.front ++ reached.gap; here = here; after = after })
+  pub size_fits : spot.place + spot.size ≤ base h
+  pub least : HEAP_UNIT ≤ spot.size
+
+-- the segment of the block at an address
+pub record FoundBlock (at : ℕ) (h : Heap) (address : ℕ) (spot : Spot) : Type 0 where
+  pub reached : Reached at h spot.link spot.low spot.from spot.place
+  pub bytes : List ℕ
+  pub after : List Segment
+  pub rest_is : reached.rest ≡ Used bytes ∷ after
+  pub size_is : spot.size ≡ BLOCK + length bytes
+  pub address_is : spot.place + BLOCK ≡ address
+  pub found : block_at address h ≡ Some (record { before = reached.front ++ reached.gap; here = Used bytes; after = after })
+  pub size_fits : spot.place + spot.size ≤ base h
+  pub least : HEAP_UNIT ≤ spot.size
+  pub multiple : spot.size % HEAP_UNIT ≡ 0
+
+abbrev pub is_used : Segment → Bool
+is_used (Used bytes) = true
+is_used (Hole size) = false
+
+-- the segment at a cut
+abbrev pub piece : Split Segment → layout.Segment
+piece s = record { place = place_after s.before; size = size_of s.here; used = is_used s.here }

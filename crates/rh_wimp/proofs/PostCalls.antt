@@ -1,0 +1,113 @@
+-- The post as a value: what the queue's calls, and edits of other areas, do to it.
+use Rattle.std.proofs.Common.{◌≡◌, ◌≢◌, ℕ, zero, suc, ◌<◌, ◌≤◌, ◌^◌, List, [], ◌∷◌, length, refl, sym, ap, subst, ◌∙◌, arith}
+use Rattle.std.specs.Prelude.{Option, Some, None, unwrap_or}
+use Rattle.std.specs.List.{AllByRecursion}
+use Rattle.rh_defs.specs.HeapImage.{heap_of}
+use Rattle.rh_defs.specs.Laws as laws
+use Rattle.rh_defs.specs.Memory.{Memory, OnlyArea, bytes}
+use Rattle.rh_defs.specs.Messages.{Parcel}
+use Rattle.rh_defs.specs.Order.{SameForEach, requeued}
+use Rattle.rh_defs.specs.Post.{Seat, Post, post_join}
+use Rattle.rh_module.specs.Area.{IsModule, heap_in}
+use Rattle.rh_module.specs.declared.module.Module.{Module}
+use Rattle.rh_wimp.specs.Calls.{Answers, IsQueue, Leaves}
+use Rattle.rh_wimp.specs.Chains.{Chains, HasEntry, IsPost, SpellsPost, joined}
+use Rattle.rh_wimp.specs.Laws.{HaveOnePost, IsSmall}
+use Rattle.rh_wimp.specs.PostIn.{by_seats, in_order, post_in, post_of}
+use Rattle.rh_wimp.proofs.JoinLaws.{join-spells}
+use Rattle.rh_wimp.proofs.OrderLaws.{HoldsOwn, by_seats-each, own-seats}
+use Rattle.rh_wimp.proofs.PostInLaws.{module-low, post_of-is, post_of-spells}
+use Rattle.rh_wimp.proofs.PostLaws.{seat_at}
+use Rattle.rh_wimp.proofs.SendLaws.{named}
+
+-- ---- which post it is
+-- the post that is read is spelled
+pub post_in-spelled : (m : Memory) (rma : Module) (q : Chains) → IsSmall m rma → IsQueue m rma q → SpellsPost m rma q (post_in m rma q)
+post_in-spelled m rma q small s = post_of-spells (heap_in m rma) q s.post (module-low m rma s.area small) s.spells
+
+-- each post that is spelled, in order of seats, is the one that is read
+pub post_in-is : (m : Memory) (rma : Module) (q : Chains) (post : Post) → IsSmall m rma → IsModule m rma → SpellsPost m rma q post → post_in m rma q ≡ in_order post
+post_in-is m rma q post small s w = post_of-is (heap_in m rma) q post (module-low m rma s small) w
+
+pub one-post : HaveOnePost
+one-post m rma q post small s w = (post_in-spelled m rma q small (record { area = s; post = post; spells = w }), post_in-is m rma q post small s w)
+
+-- it is in order of seats
+pub post_in-in_order : (m : Memory) (rma : Module) (q : Chains) → IsSmall m rma → IsQueue m rma q → post_in m rma q ≡ in_order (post_in m rma q)
+post_in-in_order m rma q small s = post_in-is m rma q (post_in m rma q) small s.area (post_in-spelled m rma q small s)
+
+-- two posts that are spelled differ in the order of messages to different tasks alone
+pub posts-alike : (m : Memory) (rma : Module) (q : Chains) (post other : Post) → IsSmall m rma → IsModule m rma → SpellsPost m rma q post → SpellsPost m rma q other
+    → in_order post ≡ in_order other
+posts-alike m rma q post other small s v w = sym (post_in-is m rma q post small s v) ∙ post_in-is m rma q other small s w
+
+-- ---- what is held is for the handle that holds it
+-- a post and the same post with its queue in another order
+pub record IsRequeued (a b : Post) : Type 0 where
+  pub same : SameForEach a.queued b.queued
+  pub rest : b ≡ requeued b.queued a
+
+own-one : (next h : ℕ) (o : Option Parcel) → laws.HoldsOwn next (record { handle = h; holds = o }) → (p : Parcel) → o ≡ Some p → p.to ≡ h
+own-one next h None w p e = absurd cc
+own-one next h (Some x) w p e = let same : x ≡ p = cc in ap (λ (y : Parcel). y.to) (sym same) ∙ w.own
+
+own-each : (next : ℕ) (seats : List Seat) → AllByRecursion (laws.HoldsOwn next) seats → (i : ℕ) → i < length seats → HoldsOwn (seat_at seats i)
+own-each next [] w i b = absurd (omega arith)
+own-each next (s ∷ seats) w zero b = own-one next s.handle s.holds w.0
+own-each next (s ∷ seats) w (suc i) b = own-each next seats w.1 i (omega arith)
+
+pub in_order-own : (post : Post) → AllByRecursion (laws.HoldsOwn post.next_ref) post.seats → in_order post ≡ requeued (by_seats post.seats post.queued) post
+in_order-own post w =
+    ap (λ (l : List Seat). let x : Post = record { seats = l; queued = by_seats post.seats post.queued; heap = post.heap; next_ref = post.next_ref } in x)
+    (own-seats post.seats (own-each post.next_ref post.seats w))
+
+-- the post that is read is the one that is spelled, but for that order
+pub post_in-requeued : (m : Memory) (rma : Module) (q : Chains) (post : Post) → IsSmall m rma → IsModule m rma → SpellsPost m rma q post
+    → AllByRecursion (laws.HoldsOwn post.next_ref) post.seats → IsRequeued post (post_in m rma q)
+post_in-requeued m rma q post small s w own =
+    let same = named (heap_in m rma) q post w in
+    subst (IsRequeued post) (sym (post_in-is m rma q post small s w ∙ in_order-own post own)) (record {
+      same = record { each = λ h. sym (by_seats-each post.seats post.queued h same w.recipients) };
+      rest = refl;
+    })
+
+-- ---- edits of other areas
+bytes-stay : (m n : Memory) (id : ℕ) → n.area id ≡ m.area id → bytes n id ≡ bytes m id
+unfolding bytes
+bytes-stay m n id e = ap (λ o. unwrap_or o []) e
+
+pub heap-stays : (m n : Memory) (rma : Module) → n.area rma.area.0 ≡ m.area rma.area.0 → heap_in n rma ≡ heap_in m rma
+heap-stays m n rma e = ap (λ b. heap_of b 0) (bytes-stay m n rma.area.0 e)
+
+-- where the module area stays, so does the post
+pub post_in-stays : (m n : Memory) (rma : Module) (q : Chains) → n.area rma.area.0 ≡ m.area rma.area.0 → post_in n rma q ≡ post_in m rma q
+post_in-stays m n rma q e = ap (λ h. post_of h q) (heap-stays m n rma e)
+
+pub post_in-beside : (m n : Memory) (id : ℕ) (rma : Module) (q : Chains) → OnlyArea m n id → rma.area.0 ≢ id → post_in n rma q ≡ post_in m rma q
+post_in-beside m n id rma q only ne = post_in-stays m n rma q (only.others rma.area.0 ne)
+
+pub spells-stays : (m n : Memory) (rma : Module) (q : Chains) (post : Post) → n.area rma.area.0 ≡ m.area rma.area.0 → SpellsPost m rma q post → SpellsPost n rma q post
+spells-stays m n rma q post e w = subst (λ h. IsPost h q post) (sym (heap-stays m n rma e)) w
+
+-- ---- calls of the queue
+-- what a call answers
+pub answered : {A : Type 0} (m : Memory) (rma : Module) (q : Chains) (answer : Post → A) (result : A) → IsSmall m rma → IsQueue m rma q → Answers m rma q answer result
+    → result ≡ answer (post_in m rma q)
+answered m rma q answer result small s a = a (post_in m rma q) (post_in-spelled m rma q small s)
+
+-- the post that a call leaves
+pub post_in-leaves : (m n : Memory) (rma : Module) (q k : Chains) (next : Post → Post) → IsSmall m rma → IsSmall n rma → IsQueue m rma q → Leaves m n rma q k next
+    → post_in n rma k ≡ in_order (next (post_in m rma q))
+post_in-leaves m n rma q k next small smaller s l =
+    post_in-is n rma k (next (post_in m rma q)) smaller l.still.area (l.spells (post_in m rma q) (post_in-spelled m rma q small s))
+
+-- a new queue has an empty post
+pub post_in-starts : (m : Memory) (rma : Module) (ref : ℕ)
+    → post_in m rma (record { entries = []; live = 0; next_ref = ref }) ≡ record { seats = []; queued = []; heap = heap_in m rma; next_ref = ref }
+unfolding post_of
+post_in-starts m rma ref = refl
+
+-- a handle that joins
+pub post_in-joins : (m : Memory) (rma : Module) (q : Chains) (h : ℕ) → IsSmall m rma → IsQueue m rma q → (HasEntry h q → ⊥) → post_in m rma (joined h q) ≡ in_order (post_join h (post_in m rma q))
+post_in-joins m rma q h small s new =
+    post_in-is m rma (joined h q) (post_join h (post_in m rma q)) small s.area (join-spells (heap_in m rma) q (post_in m rma q) h (post_in-spelled m rma q small s) new)

@@ -1,0 +1,32 @@
+-- What holds of every queue over every module area.
+use Rattle.std.specs.Prelude.{◌≡◌, ℕ, ◌≤◌, ◌^◌, length}
+use Rattle.rh_defs.specs.Chain.{Granted, answer_of, left_of}
+use Rattle.rh_defs.specs.Heap.{Heap}
+use Rattle.rh_defs.specs.Memory.{Memory, bytes}
+use Rattle.rh_defs.specs.Post.{Post}
+use Rattle.rh_module.specs.Area.{IsModule, heap_in}
+use Rattle.rh_module.specs.Calls as module_calls
+use Rattle.rh_module.specs.declared.module.Module.{Module}
+use Rattle.rh_wimp.specs.Chains.{Chains, SpellsPost}
+use Rattle.rh_wimp.specs.PostIn.{in_order, post_in}
+
+-- the area is so small that its blocks have addresses that are words, as every store's areas are
+abbrev pub IsSmall : Memory → Module → Type 0
+IsSmall m rma = length (bytes m rma.area.0) ≤ 2 ^ 22
+
+-- the post that is read off the area's bytes and the queue's entries is spelled, and it is each one that is, in order of seats
+abbrev pub HaveOnePost : Type 0
+HaveOnePost =
+    (m : Memory) (rma : Module) (q : Chains) (post : Post) → IsSmall m rma → IsModule m rma → SpellsPost m rma q post
+    → SpellsPost m rma q (post_in m rma q) × (post_in m rma q ≡ in_order post)
+
+-- the post with another heap
+abbrev pub with_heap : Heap → Post → Post
+with_heap h post = record post { heap = h }
+
+-- Where the queue spells a post on which a call of the module area is allowed, the call answers as it does on the post's heap, and the post has the heap that it leaves.
+abbrev pub GoesBeside : {A : Type 0} → (Post → Type 0) → (ℕ → Heap → Granted (Heap × A)) → Type 0
+GoesBeside {A} allowed call =
+    (m n : Memory) (rma : Module) (q : Chains) (post : Post) (result : Granted A) → allowed post → SpellsPost m rma q post
+    → module_calls.Leaves m n rma (call m.free (heap_in m rma)) result
+    → (result ≡ answer_of (call m.free post.heap)) × SpellsPost n rma q (with_heap (left_of post.heap (call m.free post.heap)) post)

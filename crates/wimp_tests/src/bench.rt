@@ -1,0 +1,180 @@
+//! A queue that is compared with plain lists at each call.
+
+ghost use Rattle.std.specs.Prelude.{◌≡◌, [], ◌∷◌, IfOk};
+ghost use Rattle.rh_wimp.specs.Calls.{handles_of, IsQueue};
+ghost use Rattle.rh_defs.specs.Memory.{Memory};
+ghost use Rattle.rh_module.specs.Area.{IsModule};
+ghost use Rattle.rh_module.specs.declared.module.Module.{Module as SpecModule};
+ghost use Rattle.wimp_tests.specs.Runs.{Runs};
+
+use crate::lists::{Lists, Sent};
+use rh_defs::{Body, EventCode, FileData, Handle, Letter, Pathname, Ref, Refusal};
+use rh_module::Module;
+use rh_store::{Store, StoreFault};
+use rh_wimp::Queue;
+use std::alloc::{AllocError, Global};
+use std::process::Abort;
+use std::test::Fail;
+
+/// A store with a module area of one page, a queue with tasks 1, 2 and 3, and the lists beside it.
+#[derive(Drop)]
+pub(crate) struct Bench<S: Store> {
+    pub store: S,
+    pub rma: Module,
+    pub queue: Queue,
+    pub lists: Lists,
+}
+
+/// A DataSave.
+pub(crate) fn letter(rt: &impl Abort, sent: Sent) -> Letter
+    ensures { result.from ≡ sent.from }
+{
+    let file = FileData {
+        window: 0,
+        icon: 0,
+        x: 0,
+        y: 0,
+        size: 5,
+        file_type: 0xffd,
+        name: Pathname::new(b"doc").expect(rt, "a name of 3 bytes"),
+    };
+    Letter {
+        code: sent.code,
+        from: Handle(sent.from),
+        to: Handle(sent.to),
+        your_ref: Ref(sent.your_ref),
+        body: Body::DataSave(file),
+    }
+}
+
+/// A recorded message.
+pub(crate) fn recorded(from: u32, to: u32) -> Sent
+    ensures { result.from ≡ from }
+{
+    Sent {
+        code: EventCode::Recorded,
+        from,
+        to,
+        my_ref: 0,
+        your_ref: 0,
+    }
+}
+
+/// Joins tasks 1, 2 and 3 to an empty queue.
+pub(crate) fn three(queue: &mut Queue)
+    requires { handles_of queue.old ≡ [] }
+    ensures handles { handles_of queue.new ≡ 1 ∷ 2 ∷ 3 ∷ [] }
+    ensures still { (m : Memory) (rma : SpecModule) → IsQueue m rma queue.old → IsQueue m rma queue.new }
+{
+    queue.join(Handle(1));
+    queue.join(Handle(2));
+    queue.join(Handle(3));
+}
+
+/// The module area in an area of one page.
+#[tactic(auto, using(rh_defs::proofs::BytesLaws::word_laws, rh_defs::proofs::MemoryLaws::memory_laws, rh_defs::proofs::MemoryLaws::pool_laws))]
+fn started<S: Store>(store: &mut S) -> Result<Module, StoreFault>
+    ensures { IfOk result (IsModule (S.memory store.new)) }
+{
+    let area = store.open()?;
+    store.grow(area, 1)?;
+    Ok(Module::start(store, area))
+}
+
+impl<S: Store + Drop> Bench<S> {
+    /// Tasks 1, 2 and 3 over a store, with no message.
+    pub(crate) fn new(alloc: Global, store: S, next_ref: u32) -> Result<Bench<S>, Fail>
+        ensures { IfOk result (λ bench. Runs (S.memory bench.store) bench.rma bench.queue bench.lists.live.items) }
+    {
+        let mut store = store;
+        let rma = started(&mut store)?;
+        let mut queue = Queue::with_next_ref(alloc, Ref(next_ref))?;
+        three(&mut queue);
+        Ok(Bench {
+            store,
+            rma,
+            queue,
+            lists: Lists::new(alloc, &[1, 2, 3], next_ref)?,
+        })
+    }
+
+    /// Sends a message of a live task, and answers what the queue does.
+    pub(crate) fn try_send(&mut self, rt: &impl Abort, sent: Sent) -> Result<Ref, Refusal>
+        requires { Runs (S.memory self.old.store) self.old.rma self.old.queue self.old.lists.live.items }
+        ensures { Runs (S.memory self.new.store) self.new.rma self.new.queue self.new.lists.live.items }
+    {
+        if !self.lists.is_live(sent.from) {
+            panic!(rt; "{} is live", sent.from);
+        }
+        let letter = letter(rt, sent);
+        self.queue.send(&mut self.store, self.rma, letter)
+    }
+
+    /// Sends a message, if its sender is live.
+    pub(crate) fn send(&mut self, rt: &impl Abort, sent: Sent) -> Result<(), AllocError>
+        requires { Runs (S.memory self.old.store) self.old.rma self.old.queue self.old.lists.live.items }
+        ensures { Runs (S.memory self.new.store) self.new.rma self.new.queue self.new.lists.live.items }
+    {
+        if !self.lists.is_live(sent.from) {
+            return Ok(());
+        }
+        let expected = self.lists.send(sent)?;
+        let result = self.try_send(rt, sent);
+        assert_eq!(rt; result.ok(), expected.map(|r| Ref(r)));
+        Ok(())
+    }
+
+    /// Polls a task, if it is live.
+    pub(crate) fn poll(&mut self, rt: &impl Abort, task: u32) -> Result<(), AllocError>
+        requires { Runs (S.memory self.old.store) self.old.rma self.old.queue self.old.lists.live.items }
+        ensures { Runs (S.memory self.new.store) self.new.rma self.new.queue self.new.lists.live.items }
+    {
+        if !self.lists.is_live(task) {
+            return Ok(());
+        }
+        let expected = self.lists.poll(task)?;
+        match self.queue.poll(&mut self.store, self.rma, Handle(task)) {
+            None => assert_eq!(rt; expected, None),
+            Some(event) => {
+                let taken = Sent {
+                    code: event.code,
+                    from: event.message.from.0,
+                    to: task,
+                    my_ref: event.message.my_ref.0,
+                    your_ref: event.message.your_ref.0,
+                };
+                assert_eq!(rt; expected, Some(taken));
+            }
+        }
+        Ok(())
+    }
+
+    /// Ends a task, if it is live.
+    pub(crate) fn end(&mut self, task: u32) -> Result<(), AllocError>
+        requires { Runs (S.memory self.old.store) self.old.rma self.old.queue self.old.lists.live.items }
+        ensures { Runs (S.memory self.new.store) self.new.rma self.new.queue self.new.lists.live.items }
+    {
+        if !self.lists.is_live(task) {
+            return Ok(());
+        }
+        self.queue.bounce_for_death(&mut self.store, self.rma, Handle(task));
+        self.lists.end(task)
+    }
+
+    /// Whether a message lies in a block.
+    pub(crate) fn is_message(&self, block: usize) -> bool
+        requires { Runs (S.memory self.now.store) self.now.rma self.now.queue self.now.lists.live.items }
+    {
+        self.queue.is_message(&self.store, self.rma, block)
+    }
+
+    /// Compares what is live, for refs from 1 on.
+    pub(crate) fn compare(&self, rt: &impl Abort, refs: u32)
+        requires { Runs (S.memory self.now.store) self.now.rma self.now.queue self.now.lists.live.items }
+    {
+        for my_ref in 1..refs {
+            let live = self.queue.is_live(&self.store, self.rma, Ref(my_ref));
+            assert_eq!(rt; live, self.lists.has_ref(my_ref), "{my_ref}");
+        }
+    }
+}

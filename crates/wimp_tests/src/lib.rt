@@ -1,0 +1,11 @@
+//! Tests of messages and of their queue, over a plain store and over scattered pages.
+#![tactic(auto)]
+
+#[cfg(test)]
+mod bench;
+#[cfg(test)]
+mod chains;
+#[cfg(test)]
+mod images;
+#[cfg(test)]
+mod lists;
