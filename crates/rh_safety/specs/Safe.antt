@@ -39,8 +39,8 @@ AlwaysSafe =
     (pool handle ref : ℕ) (files : FileList) (commands : List Command) → IsStart pool handle ref →
     all_in_range commands ≡ true → AreSafe (start_with pool files handle ref) commands
 
--- A script's complete lines, from the desk on: the desk after them is that after the commands that they spell, and what is
--- held after these is safe.
+-- The complete lines of a script, from the desk on: the desk after them is that after the commands that they spell, and
+-- that is safe.
 pub record IsSafeScript (d : Desk) (script : List ℕ) : Type 0 where
   pub desk : lines_desk d (ended script) ≡ after d (commands_in (ended script))
   pub safe : AreSafe d (commands_in (ended script))
