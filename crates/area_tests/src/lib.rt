@@ -1,4 +1,5 @@
-//! Tests that cross crates: slots and the module area, over a plain store and over scattered pages.
+//! Tests that cross crates: slots and the module area, over a plain store and over scattered pages, and
+//! the records of transfers.
 #![tactic(auto)]
 
 #[cfg(test)]
@@ -9,3 +10,5 @@ mod heap_blocks;
 mod module_blocks;
 #[cfg(test)]
 mod stores;
+#[cfg(test)]
+mod transfers;
