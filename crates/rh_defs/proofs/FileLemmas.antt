@@ -42,9 +42,10 @@ file_bytes-lookup name (e ∷ entries) =
 pub found-short : (name : List ℕ) (files : FileList) (bytes : List ℕ) → AreShort files → file_bytes name files ≡ Some bytes → length bytes ≤ 1048576
 found-short name [] bytes all e = absurd (cc)
 found-short name (file ∷ files) bytes all e =
-    elim (bytes_eq file.0 name) as (λ b. option_map (λ (f : List ℕ × List ℕ). f.1) (cond b (Some file) (find (λ (f : List ℕ × List ℕ). bytes_eq f.0 name) files)) ≡ Some bytes → length bytes ≤ 1048576)
-    [ true ↦ λ (q : Some file.1 ≡ Some bytes). (let r : file.1 ≡ bytes = cc in let P : List ℕ → Type 0 = λ l. length l ≤ 1048576 in subst P r all.0)
-    | false ↦ λ (q : file_bytes name files ≡ Some bytes). found-short name files bytes all.1 q ] e
+    elim (bytes_eq file.0 name) as (λ b. option_map (λ (f : List ℕ × List ℕ). f.1) (cond b (Some file) (find (λ (f : List ℕ × List ℕ). bytes_eq f.0 name) files)) ≡ Some bytes → length bytes ≤ 1048576) [
+      | true ↦ λ (q : Some file.1 ≡ Some bytes). (let r : file.1 ≡ bytes = cc in let P : List ℕ → Type 0 = λ l. length l ≤ 1048576 in subst P r all.0)
+      | false ↦ λ (q : file_bytes name files ≡ Some bytes). found-short name files bytes all.1 q
+    ] e
 
 pub AreShort-append : (files : FileList) (file : List ℕ × List ℕ) → AreShort files → length file.1 ≤ 1048576 → AreShort (files ++ file ∷ [])
 AreShort-append [] file all h = (h, tt)

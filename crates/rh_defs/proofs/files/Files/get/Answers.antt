@@ -15,4 +15,4 @@ returns-clause-value c =
 pub returns-clause-short : goal.returns-clause-short
 returns-clause-short c =
     found-short c.args.name.now (contents_of c.self.inside.contents.entries) c.as_slice.result.now c.self.invariant
-      (rw c.as_slice.ensures.value (file_bytes-lookup c.args.name.now c.self.inside.contents.entries ∙ ap (option_map (λ v. v.items)) (sym c.get.ensures.value ∙ ap option_copied c.in-Some.is)))
+    (rw c.as_slice.ensures.value (file_bytes-lookup c.args.name.now c.self.inside.contents.entries ∙ ap (option_map (λ v. v.items)) (sym c.get.ensures.value ∙ ap option_copied c.in-Some.is)))
