@@ -51,12 +51,19 @@ pub(crate) fn letter(rt: &impl Abort, sent: Sent) -> Letter
 pub(crate) fn recorded(from: u32, to: u32) -> Sent
     ensures { result.from ≡ from }
 {
+    answering(0, from, to)
+}
+
+/// A recorded message that answers the one with a ref, 0 for none.
+pub(crate) fn answering(your_ref: u32, from: u32, to: u32) -> Sent
+    ensures { result.from ≡ from }
+{
     Sent {
         code: EventCode::Recorded,
         from,
         to,
         my_ref: 0,
-        your_ref: 0,
+        your_ref,
     }
 }
 
@@ -157,7 +164,8 @@ impl<S: Store + Drop> Bench<S> {
         if !self.lists.is_live(task) {
             return Ok(());
         }
-        self.queue.bounce_for_death(&mut self.store, self.rma, Handle(task));
+        self.queue
+            .bounce_for_death(&mut self.store, self.rma, Handle(task));
         self.lists.end(task)
     }
 
