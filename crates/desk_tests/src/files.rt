@@ -12,9 +12,17 @@ const MOST_BYTES: usize = 1_048_576;
 fn bad_file_words_are_told_before_any_file(rt: HostRuntime) -> Result<(), Fail> {
     for (first, second, wanted) in [
         ("logo", "b=lost.bin", "rh_desk: bad file word logo\n"),
-        ("a=lost.bin", "=lost.bin", "rh_desk: bad file word =lost.bin\n"),
+        (
+            "a=lost.bin",
+            "=lost.bin",
+            "rh_desk: bad file word =lost.bin\n",
+        ),
         ("a=lost.bin", "b=", "rh_desk: bad file word b=\n"),
-        ("a=lost.bin", "a=other.bin", "rh_desk: bad file word a=other.bin\n"),
+        (
+            "a=lost.bin",
+            "a=other.bin",
+            "rh_desk: bad file word a=other.bin\n",
+        ),
         ("1a=lost.bin", "b=", "rh_desk: bad file word 1a=lost.bin\n"),
         (
             "thirteenbytes=x",
@@ -36,9 +44,15 @@ fn files_are_read_before_the_script(rt: HostRuntime) -> Result<(), Fail> {
     let second = ended(&rt, &["run", "lost.desk", "a=here.bin", "b=lost.bin"], b"")?;
     let script = ended(&rt, &["run", "lost.desk", "a=here.bin"], b"")?;
     fs::remove_file(&rt, "here.bin")?;
-    assert_eq!(rt; second.errors.as_slice(), b"rh_desk: file lost.bin\n".as_slice());
+    assert_eq!(rt;
+        second.errors.as_slice(),
+        b"rh_desk: file lost.bin\n".as_slice()
+    );
     assert_eq!(rt; second.status, 3);
-    assert_eq!(rt; script.errors.as_slice(), b"rh_desk: file lost.desk\n".as_slice());
+    assert_eq!(rt;
+        script.errors.as_slice(),
+        b"rh_desk: file lost.desk\n".as_slice()
+    );
     assert_eq!(rt; script.status, 3);
     Ok(())
 }
@@ -83,9 +97,15 @@ fn a_file_has_a_limit(rt: HostRuntime) -> Result<(), Fail> {
         b"ok 1\nok &9008\nok 1\n  0 &9008 1048576\n".as_slice()
     );
     assert_eq!(rt; most.status, 0);
-    assert_eq!(rt; more.errors.as_slice(), b"rh_desk: file more.bin\n".as_slice());
+    assert_eq!(rt;
+        more.errors.as_slice(),
+        b"rh_desk: file more.bin\n".as_slice()
+    );
     assert_eq!(rt; more.status, 3);
-    assert_eq!(rt; image.errors.as_slice(), b"rh_desk: file more.bin\n".as_slice());
+    assert_eq!(rt;
+        image.errors.as_slice(),
+        b"rh_desk: file more.bin\n".as_slice()
+    );
     assert_eq!(rt; image.status, 3);
     Ok(())
 }
@@ -123,7 +143,10 @@ fn heaps_are_checked(rt: HostRuntime) -> Result<(), Fail> {
         assert_eq!(rt; checked.status, status, "{wanted}");
     }
     let lost = ended(&rt, &["check", "lost.bin"], b"")?;
-    assert_eq!(rt; lost.errors.as_slice(), b"rh_desk: file lost.bin\n".as_slice());
+    assert_eq!(rt;
+        lost.errors.as_slice(),
+        b"rh_desk: file lost.bin\n".as_slice()
+    );
     assert!(rt; lost.output.is_empty());
     assert_eq!(rt; lost.status, 3);
     Ok(())

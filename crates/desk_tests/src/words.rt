@@ -82,7 +82,11 @@ fn holds(all: &[u8], text: &[u8]) -> bool {
 
 #[test]
 fn help_is_no_mistake(rt: HostRuntime) -> Result<(), Fail> {
-    for words in [["--help"].as_slice(), ["run", "--help"].as_slice(), ["check", "--help"].as_slice()] {
+    for words in [
+        ["--help"].as_slice(),
+        ["run", "--help"].as_slice(),
+        ["check", "--help"].as_slice(),
+    ] {
         let help = ended(&rt, words, b"")?;
         assert_eq!(rt; help.status, 0, "{words:?}");
         assert!(rt; help.errors.is_empty());
@@ -91,7 +95,10 @@ fn help_is_no_mistake(rt: HostRuntime) -> Result<(), Fail> {
             "vervainfile run --pages 8 hello.desk",
             "Exit status:",
         ] {
-            assert!(rt; holds(help.output.as_slice(), text.as_bytes()), "{words:?} {text}");
+            assert!(rt;
+                holds(help.output.as_slice(), text.as_bytes()),
+                "{words:?} {text}"
+            );
         }
     }
     Ok(())
@@ -100,7 +107,10 @@ fn help_is_no_mistake(rt: HostRuntime) -> Result<(), Fail> {
 #[test]
 fn the_version_is_told(rt: HostRuntime) -> Result<(), Fail> {
     let version = ended(&rt, &["--version"], b"")?;
-    assert_eq!(rt; version.output.as_slice(), b"vervainfile 1.0.0\n".as_slice());
+    assert_eq!(rt;
+        version.output.as_slice(),
+        b"vervainfile 1.0.0\n".as_slice()
+    );
     assert!(rt; version.errors.is_empty());
     assert_eq!(rt; version.status, 0);
     Ok(())
@@ -177,7 +187,12 @@ fn an_empty_path_is_shown(rt: HostRuntime) -> Result<(), Fail> {
 fn the_input_is_run_for_a_hyphen(rt: HostRuntime) -> Result<(), Fail> {
     let plain = ended(&rt, &["run", "-"], b"areas\ntsk\n")?;
     assert!(rt; plain.output.as_slice().starts_with(b"ok 63\n".as_slice()));
-    assert!(rt; plain.output.as_slice().ends_with(b"bad Unknown\n".as_slice()));
+    assert!(rt;
+        plain
+            .output
+            .as_slice()
+            .ends_with(b"bad Unknown\n".as_slice())
+    );
     assert_eq!(rt; plain.status, 1);
     let paged = ended(&rt, &["run", "--pages", "9", "-"], b"areas\n")?;
     assert!(rt; paged.output.as_slice().starts_with(b"ok 8\n".as_slice()));
@@ -196,7 +211,10 @@ fn each_number_of_pages_is_had(rt: HostRuntime) -> Result<(), Fail> {
         ("1024", "ok 1023\n"),
     ] {
         let all = ended(&rt, &["run", "--pages", pages, "-"], b"areas\n")?;
-        assert!(rt; all.output.as_slice().starts_with(wanted.as_bytes()), "{pages} pages");
+        assert!(rt;
+            all.output.as_slice().starts_with(wanted.as_bytes()),
+            "{pages} pages"
+        );
         assert_eq!(rt; all.status, 0, "{pages} pages");
     }
     let none = ended(&rt, &[], b"areas\n")?;
@@ -333,7 +351,10 @@ fn help_that_cannot_be_written_is_a_fault(rt: HostRuntime) -> Result<(), Fail> {
         &mut errors,
     );
     assert_eq!(rt; status, 3);
-    assert_eq!(rt; errors.into_inner().as_slice(), b"rh_desk: write failed\n".as_slice());
+    assert_eq!(rt;
+        errors.into_inner().as_slice(),
+        b"rh_desk: write failed\n".as_slice()
+    );
     Ok(())
 }
 

@@ -10,6 +10,7 @@ pub const PAGES: u32 = 64;
 
 /// The fewest and the most pages of a desk.
 const FEWEST_PAGES: u32 = 8;
+
 const MOST_PAGES: u32 = 1024;
 
 /// What stands under the help and the usage.
@@ -44,8 +45,7 @@ pub enum Request<'m, 'a> {
 }
 
 /// What was asked for. `clap` let through nothing else, which its types don't say.
-pub fn request_of<'m, 'a>(matches: &'m ArgMatches<'a>) -> Option<Request<'m, 'a>>
-{
+pub fn request_of<'m, 'a>(matches: &'m ArgMatches<'a>) -> Option<Request<'m, 'a>> {
     let (name, found) = matches.subcommand()?;
     if name == "check" {
         let file = found.get_str("file")?;

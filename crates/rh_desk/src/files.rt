@@ -17,11 +17,7 @@ const MOST_BYTES: usize = 1_048_576;
 
 /// Looks over all the NAME=PATH words before any file is read. The first bad one is told: one that isn't a name, `=` and
 /// a path of at least one byte, or whose name was given before.
-pub fn check_words<E: Sink>(
-    alloc: Global,
-    words: &[&str],
-    errors: &mut E,
-) -> Result<(), Ending> {
+pub fn check_words<E: Sink>(alloc: Global, words: &[&str], errors: &mut E) -> Result<(), Ending> {
     let mut seen = Files::new(alloc);
     for word in words {
         let Some((name, _)) = file_word(word) else {

@@ -7,5 +7,5 @@ mod files;
 mod telling;
 mod words;
 
-pub use words::{program, words_unread};
 pub use rh_run::{RunFault, Status, check_image, run};
+pub use words::{program, words_unread};

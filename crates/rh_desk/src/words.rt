@@ -125,14 +125,7 @@ fn run_request<R: rt::Files, I: Source, O: Sink, E: Sink>(
     match File::open(runtime, request.script) {
         Ok(file) => {
             let mut reader = Flagged::new(file);
-            run_told(
-                alloc,
-                files,
-                request.pages,
-                &mut reader,
-                output,
-                errors,
-            )
+            run_told(alloc, files, request.pages, &mut reader, output, errors)
         }
         Err(_) => tell_file(request.script, errors),
     }
