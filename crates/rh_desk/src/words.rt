@@ -134,6 +134,9 @@ fn run_request<R: rt::Files, I: Source, O: Sink, E: Sink>(
                 errors,
             )
         }
+        Err(error) if error.kind() == io::ErrorKind::OutOfMemory => {
+            ended(Err(RunFault::NoMemory), errors)
+        }
         Err(_) => tell_file(request.script, errors),
     }
 }
