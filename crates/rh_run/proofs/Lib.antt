@@ -1,1 +1,2 @@
 mod SumLaws
+mod FreshLaws
