@@ -28,6 +28,10 @@ fn parses_lines_about_tasks(rt: HostRuntime) {
         };
         expect(&rt, line, task);
     }
+}
+
+#[test]
+fn parses_lines_about_one_task(rt: HostRuntime) {
     expect(
         &rt,
         b"kill a",
@@ -56,6 +60,10 @@ fn parses_lines_about_tasks(rt: HostRuntime) {
             name: name(&rt, b"a"),
         },
     );
+}
+
+#[test]
+fn parses_saves(rt: HostRuntime) {
     let mut letters = ArrayVec::new();
     let _fits = letters.try_extend_from_slice(b"!~=x;0123#");
     let save = Command::Save {
@@ -65,6 +73,10 @@ fn parses_lines_about_tasks(rt: HostRuntime) {
         leaf: Leaf::new(letters),
     };
     expect(&rt, b"save a 63 abcdefghijkl !~=x;0123#", save);
+}
+
+#[test]
+fn parses_cancels(rt: HostRuntime) {
     for (line, id) in [
         (b"cancel a in".as_slice(), None),
         (
@@ -128,6 +140,11 @@ fn parses_lines_about_flex_blocks(rt: HostRuntime) {
             file,
         },
     );
+}
+
+#[test]
+fn parses_lines_about_a_blocks_bytes(rt: HostRuntime) {
+    let anchor = Anchor(9);
     let mut spelled = ArrayVec::new();
     let _fits = spelled.try_extend_from_slice(&[0x0a, 0xff, 0x99]);
     let put = Command::Put {
@@ -145,6 +162,11 @@ fn parses_lines_about_flex_blocks(rt: HostRuntime) {
             anchor,
         },
     );
+}
+
+#[test]
+fn parses_amounts_with_a_sign(rt: HostRuntime) {
+    let anchor = Anchor(9);
     for (line, by) in [
         (b"mid a 9 1 -2147483647".as_slice(), -2_147_483_647),
         (b"mid a 9 1 2147483647".as_slice(), 2_147_483_647),
@@ -161,6 +183,11 @@ fn parses_lines_about_flex_blocks(rt: HostRuntime) {
             },
         );
     }
+}
+
+#[test]
+fn parses_lines_that_list_blocks(rt: HostRuntime) {
+    let anchor = Anchor(9);
     expect(
         &rt,
         b"show a 9",
@@ -179,7 +206,7 @@ fn parses_lines_about_flex_blocks(rt: HostRuntime) {
 }
 
 #[test]
-fn parses_lines_about_heaps(rt: HostRuntime) {
+fn parses_lines_about_heap_blocks(rt: HostRuntime) {
     expect(
         &rt,
         b"claim a 0",
@@ -207,6 +234,10 @@ fn parses_lines_about_heaps(rt: HostRuntime) {
             delta,
         },
     );
+}
+
+#[test]
+fn parses_lines_about_budging(rt: HostRuntime) {
     expect(
         &rt,
         b"budge a on",
@@ -223,6 +254,10 @@ fn parses_lines_about_heaps(rt: HostRuntime) {
             on: false,
         },
     );
+}
+
+#[test]
+fn parses_lines_about_heaps_and_the_module_area(rt: HostRuntime) {
     expect(
         &rt,
         b"heap a",

@@ -75,89 +75,74 @@ fn event(code: EventCode, action: Action, mine: u32, yours: u32, outcome: Outcom
 }
 
 #[test]
-fn prints_events(rt: HostRuntime) {
+fn prints_events_of_transfers_by_ram(rt: HostRuntime) {
     let recorded = EventCode::Recorded;
+    let sent = Outcome::Sent {
+        count: 100,
+        transmit: Ref(3),
+    };
+    let refused = Outcome::Refused(Refusal::NoTask);
+    let full = Outcome::TookFull {
+        count: 100,
+        fetch: Ref(4),
+    };
+    let failed = Outcome::TookFailed {
+        count: 5,
+        refusal: Refusal::QueueFull,
+    };
     expect(
         &rt,
         &[
             event(recorded, Action::DataSave, 1, 0, Outcome::Fetch(Ref(2))),
-            event(
-                recorded,
-                Action::RamFetch,
-                2,
-                1,
-                Outcome::Sent {
-                    count: 100,
-                    transmit: Ref(3),
-                },
-            ),
-            event(
-                recorded,
-                Action::RamFetch,
-                2,
-                1,
-                Outcome::Refused(Refusal::NoTask),
-            ),
-            event(
-                recorded,
-                Action::RamTransmit,
-                3,
-                2,
-                Outcome::TookFull {
-                    count: 100,
-                    fetch: Ref(4),
-                },
-            ),
-            event(
-                EventCode::User,
-                Action::RamTransmit,
-                3,
-                2,
-                Outcome::TookLast { count: 0 },
-            ),
-            event(
-                recorded,
-                Action::RamTransmit,
-                3,
-                2,
-                Outcome::TookFailed {
-                    count: 5,
-                    refusal: Refusal::QueueFull,
-                },
-            ),
+            event(recorded, Action::RamFetch, 2, 1, sent),
+            event(recorded, Action::RamFetch, 2, 1, refused),
+            event(recorded, Action::RamTransmit, 3, 2, full),
+            event(recorded, Action::RamTransmit, 3, 2, failed),
             event(recorded, Action::RamTransmit, 3, 2, Outcome::Drained),
-            event(
-                EventCode::Acknowledge,
-                Action::DataSave,
-                1,
-                0,
-                Outcome::Failed,
-            ),
-            event(recorded, Action::DataSave, 1, 0, Outcome::Ignored),
         ],
-        b"ok 18 DataSave 1 0 fetch 2\nok 18 RAMFetch 2 1 sent 100 3\nok 18 RAMFetch 2 1 failed NoTask\nok 18 RAMTransmit 3 2 took 100 fetch 4\nok 17 RAMTransmit 3 2 took 0 done\nok 18 RAMTransmit 3 2 took 5 failed QueueFull\nok 18 RAMTransmit 3 2 drained\nok 19 DataSave 1 0 failed\nok 18 DataSave 1 0 ignored\n",
+        b"ok 18 DataSave 1 0 fetch 2\nok 18 RAMFetch 2 1 sent 100 3\nok 18 RAMFetch 2 1 failed NoTask\nok 18 RAMTransmit 3 2 took 100 fetch 4\nok 18 RAMTransmit 3 2 took 5 failed QueueFull\nok 18 RAMTransmit 3 2 drained\n",
     );
-    let most = 4_294_967_295;
+}
+
+#[test]
+fn prints_events_that_end_transfers(rt: HostRuntime) {
+    let bounced = EventCode::Acknowledge;
+    let last = Outcome::TookLast { count: 0 };
     expect(
         &rt,
         &[
+            event(EventCode::User, Action::RamTransmit, 3, 2, last),
+            event(bounced, Action::DataSave, 1, 0, Outcome::Failed),
             event(
-                EventCode::Acknowledge,
-                Action::RamFetch,
-                2,
+                EventCode::Recorded,
+                Action::DataSave,
                 1,
-                Outcome::Asked(Ref(3)),
+                0,
+                Outcome::Ignored,
             ),
-            event(
-                recorded,
-                Action::DataSaveAck,
-                3,
-                1,
-                Outcome::Saved {
-                    count: 5,
-                    load: Ref(4),
-                },
-            ),
+        ],
+        b"ok 17 RAMTransmit 3 2 took 0 done\nok 19 DataSave 1 0 failed\nok 18 DataSave 1 0 ignored\n",
+    );
+}
+
+#[test]
+fn prints_events_of_transfers_by_file(rt: HostRuntime) {
+    let most = 4_294_967_295;
+    let recorded = EventCode::Recorded;
+    let asked = Outcome::Asked(Ref(3));
+    let saved = Outcome::Saved {
+        count: 5,
+        load: Ref(4),
+    };
+    let failed = Outcome::LoadedFailed {
+        count: most,
+        refusal: Refusal::ExcessiveShrink,
+    };
+    expect(
+        &rt,
+        &[
+            event(EventCode::Acknowledge, Action::RamFetch, 2, 1, asked),
+            event(recorded, Action::DataSaveAck, 3, 1, saved),
             event(
                 recorded,
                 Action::DataLoad,
@@ -166,16 +151,7 @@ fn prints_events(rt: HostRuntime) {
                 Outcome::Loaded { count: 5 },
             ),
             event(EventCode::User, Action::DataLoadAck, 5, 4, Outcome::Done),
-            event(
-                recorded,
-                Action::DataSaveAck,
-                most,
-                most,
-                Outcome::LoadedFailed {
-                    count: most,
-                    refusal: Refusal::ExcessiveShrink,
-                },
-            ),
+            event(recorded, Action::DataSaveAck, most, most, failed),
         ],
         b"ok 19 RAMFetch 2 1 asked 3\nok 18 DataSaveAck 3 1 saved 5 4\nok 18 DataLoad 4 3 loaded 5 done\nok 17 DataLoadAck 5 4 done\nok 18 DataSaveAck 4294967295 4294967295 loaded 4294967295 failed ExcessiveShrink\n",
     );

@@ -13,7 +13,13 @@ const FEWEST_PAGES: u32 = 8;
 
 const MOST_PAGES: u32 = 1024;
 
-/// What stands under the help and the usage.
+/// How the program is called.
+const USAGE: &str = "\
+vervainfile run [--pages N] SCRIPT [NAME=PATH ...]
+       vervainfile check FILE
+       vervainfile                 (with no words: the script on standard input, over 64 pages)";
+
+/// What stands under the help.
 const MORE: &str = "\
 With no words at all the script on standard input is run, over 64 pages and without files.
 
@@ -69,6 +75,7 @@ pub fn parsed<'a>(alloc: Global, words: &'a [String]) -> Result<ArgMatches<'a>, 
     Command::new(alloc, "vervainfile")
         .version("1.0.0")
         .about("The memory of a desktop, shared by its tasks")
+        .override_usage(USAGE)
         .after_help(MORE)
         .subcommand_required(true)
         .subcommand(running(alloc)?)?

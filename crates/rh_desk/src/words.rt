@@ -127,6 +127,9 @@ fn run_request<R: rt::Files, I: Source, O: Sink, E: Sink>(
             let mut reader = Flagged::new(file);
             run_told(alloc, files, request.pages, &mut reader, output, errors)
         }
+        Err(error) if error.kind() == io::ErrorKind::OutOfMemory => {
+            ended(Err(RunFault::NoMemory), errors)
+        }
         Err(_) => tell_file(request.script, errors),
     }
 }
