@@ -51,19 +51,12 @@ pub(crate) fn letter(rt: &impl Abort, sent: Sent) -> Letter
 pub(crate) fn recorded(from: u32, to: u32) -> Sent
     ensures { result.from ≡ from }
 {
-    answering(0, from, to)
-}
-
-/// A recorded message that answers the one with a ref, 0 for none.
-pub(crate) fn answering(your_ref: u32, from: u32, to: u32) -> Sent
-    ensures { result.from ≡ from }
-{
     Sent {
         code: EventCode::Recorded,
         from,
         to,
         my_ref: 0,
-        your_ref,
+        your_ref: 0,
     }
 }
 

@@ -3,7 +3,7 @@
 ghost use Rattle.std.specs.Prelude.{◌≡◌, ◌<◌};
 ghost use Rattle.wimp_tests.specs.Runs.{Runs};
 
-use crate::bench::{Bench, answering, recorded};
+use crate::bench::{Bench, recorded};
 use crate::lists::Sent;
 use rh_defs::{EventCode, Ref, Refusal};
 use rh_pages::PagedStore;
@@ -49,13 +49,25 @@ fn at_most_256_messages_are_live<S: Store + Drop>(
     assert_eq!(rt; bench.try_send(rt, recorded(1, 4)), Err(Refusal::NoTask));
     bench.poll(rt, 2)?;
     assert_eq!(rt;
-        bench.try_send(rt, answering(1, 2, 1)),
+        bench.try_send(
+            rt,
+            Sent {
+                your_ref: 1,
+                ..recorded(2, 1)
+            }
+        ),
         Err(Refusal::QueueFull)
     );
     bench.poll(rt, 2)?;
     assert_eq!(rt; bench.try_send(rt, recorded(1, 2)), Err(Refusal::QueueFull));
     bench.poll(rt, 1)?;
-    bench.send(rt, answering(2, 2, 1))?;
+    bench.send(
+        rt,
+        Sent {
+            your_ref: 2,
+            ..recorded(2, 1)
+        },
+    )?;
     Ok(())
 }
 
