@@ -133,7 +133,8 @@ fn heaps_are_checked(rt: HostRuntime) -> Result<(), Fail> {
         ),
     ] {
         let mut bytes = [0; 64];
-        let part = &mut bytes[..image.len() / 2];
+        let len = bytes.len().min(image.len() / 2);
+        let part = &mut bytes[..len];
         assert!(rt; hex::decode_to_slice(image.as_bytes(), part) == Ok(()));
         fs::write(&rt, "heap.bin", &*part)?;
         let checked = ended(&rt, &["check", "heap.bin"], b"")?;
