@@ -112,30 +112,41 @@ fn a_file_has_a_limit(rt: HostRuntime) -> Result<(), Fail> {
 
 #[test]
 fn heaps_are_checked(rt: HostRuntime) -> Result<(), Fail> {
-    for (image, wanted, status) in [
-        ("", "bad BadDescriptor\n", 1),
-        ("48656170000000001000000010000000", "ok 0 0 0 0 0\n", 0),
-        ("68656170000000001000000010000000", "bad BadDescriptor\n", 1),
+    // the bytes in front of some zeros, the length of all, and what is said of them
+    for (front, length, wanted, status) in [
+        ("", 0usize, "bad BadDescriptor\n", 1),
+        ("48656170000000001000000010000000", 16, "ok 0 0 0 0 0\n", 0),
         (
-            "486561701c000000300000003800000010000000000000000000000000000000000000000800000008000000000000000000000000000000",
+            "68656170000000001000000010000000",
+            16,
+            "bad BadDescriptor\n",
+            1,
+        ),
+        (
+            "486561701c000000300000003800000010000000000000000000000000000000000000000800000008000000",
+            56,
             "ok 2 24 1 8 8\n",
             0,
         ),
         (
-            "486561703c000000300000003800000010000000000000000000000000000000000000000800000008000000000000000000000000000000",
+            "486561703c000000300000003800000010000000000000000000000000000000000000000800000008000000",
+            56,
             "bad BadLink\n",
             1,
         ),
         (
-            "4865617014000000300000003800000010000000000000000000000000000000000000000800000008000000000000000000000000000000",
+            "4865617014000000300000003800000010000000000000000000000000000000000000000800000008000000",
+            56,
             "bad BadSize\n",
             1,
         ),
     ] {
-        let mut bytes = [0; 64];
-        let part = &mut bytes[..image.len() / 2];
-        assert!(rt; hex::decode_to_slice(image.as_bytes(), part) == Ok(()));
-        fs::write(&rt, "heap.bin", &*part)?;
+        let mut bytes = [0; 56];
+        let digits = bytes.len().min(front.len() / 2);
+        let decoded = hex::decode_to_slice(front.as_bytes(), &mut bytes[..digits]);
+        assert!(rt; decoded == Ok(()));
+        let all = bytes.len().min(length);
+        fs::write(&rt, "heap.bin", &bytes[..all])?;
         let checked = ended(&rt, &["check", "heap.bin"], b"")?;
         fs::remove_file(&rt, "heap.bin")?;
         assert_eq!(rt; checked.output.as_slice(), wanted.as_bytes());
