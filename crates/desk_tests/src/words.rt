@@ -110,7 +110,10 @@ fn usage_shows_that_no_words_run_the_input(rt: HostRuntime) -> Result<(), Fail> 
     for words in [["walk", "x"].as_slice(), ["--pages", "8"].as_slice()] {
         let wrong = ended(&rt, words, b"")?;
         for text in ["vervainfile run [--pages N] SCRIPT", "with no words"] {
-            assert!(rt; holds(wrong.errors.as_slice(), text.as_bytes()), "{words:?} {text}");
+            assert!(rt;
+                holds(wrong.errors.as_slice(), text.as_bytes()),
+                "{words:?} {text}"
+            );
         }
         assert_eq!(rt; wrong.status, 2, "{words:?}");
     }
