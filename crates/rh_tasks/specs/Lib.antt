@@ -6,3 +6,4 @@ pub mod Items
 pub mod Start
 pub mod Letters
 pub mod Saves
+pub mod Polls

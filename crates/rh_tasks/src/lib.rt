@@ -1,18 +1,25 @@
 //! The desk's world: a store whose areas hold the slots, the module area and the pages, and what is kept beside them.
 #![tactic(auto)]
 
+mod accepting;
 mod areas;
 mod blocks;
 mod c_heap;
+mod documents;
 mod letters;
 mod listing;
 mod made;
 mod module_blocks;
 mod next;
+mod outgoing;
+mod polling;
+mod records;
 mod saving;
 mod scrap;
+mod scrap_transfers;
 mod seat;
 mod seats;
+mod slot_bytes;
 mod tasks;
 mod transfers;
 mod world;

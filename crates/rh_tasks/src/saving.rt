@@ -13,7 +13,7 @@ ghost use Rattle.rh_tasks.specs.Finding.{looked};
 ghost use Rattle.rh_tasks.specs.Saves.{CanOffer, HasHandle, source_block};
 ghost use Rattle.rh_tasks.specs.View.{is_named, HasSlot};
 
-use crate::letters::send;
+use crate::letters::{DATA, send};
 use crate::seat::Seat;
 use crate::seats::find;
 use crate::world::World;
@@ -21,9 +21,6 @@ use rh_defs::{
     Anchor, Body, EventCode, FileData, Handle, Leaf, Letter, Name, Pathname, Ref, Refusal, Reply,
 };
 use rh_store::{Store, Words};
-
-/// The type of the files that tasks offer (data).
-const DATA: u32 = 0xffd;
 
 /// A block that may be offered: its task's place, and its bytes.
 #[derive(Clone, Copy, Debug, PartialEq, Eq)]

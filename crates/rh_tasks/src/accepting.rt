@@ -1,0 +1,109 @@
+//! DataSaves that are taken: a buffer, an empty document and a fetch, whole or not at all.
+
+ghost use Rattle.std.specs.Prelude.{◌≡◌, ◌<◌, false, length, Ok, IsErr};
+ghost use Rattle.std.specs.Option.{MatchOption};
+ghost use Rattle.rh_defs.specs.Desk.{Desk, Task, free_pages};
+ghost use Rattle.rh_defs.specs.declared.reply.Outcome.TheVariants as outcome;
+ghost use Rattle.rh_defs.specs.IncomingEvents.{accept as accept_on, take_save as take_save_on};
+ghost use Rattle.rh_defs.specs.Messages.{Parcel};
+ghost use Rattle.rh_defs.specs.Order.{IsReordered};
+ghost use Rattle.rh_defs.specs.Records.{is_going, is_full as is_full_of};
+ghost use Rattle.rh_defs.specs.Slot.{slot_claim};
+ghost use Rattle.rh_tasks.specs.Polls.{IsAt, IsFor, Becomes, Claims, Handles, with_document};
+
+use crate::letters::fetch_letter;
+use crate::module_blocks::MODULE;
+use crate::slot_bytes::free_anchor;
+use crate::world::World;
+use rh_defs::{Anchor, Manner, Message, Outcome, Ref, Refusal, Taking};
+use rh_store::Store;
+
+impl<S: Store> World<S> {
+    /// Claims a buffer in the task's C heap: BadSize, NoBudge, NoRoom.
+    fn claim_buffer(&mut self, i: usize, n: u32) -> Result<u32, Refusal>
+        requires { i < length self.old.desk.tasks }
+        ensures { (t : Task) → IsAt i t self.old.desk → Claims t.handle (slot_claim (free_pages self.old.desk) n t.slot) self.old self.new result }
+    {
+        let seat = &self.seats[i];
+        let slot = seat.slot;
+        let address = slot.claim(&mut self.store, n)?;
+        Ok(address as u32)
+    }
+
+    /// Puts an empty document on top of the task's slot: AnchorInUse, NoRoom.
+    fn alloc_document(&mut self, i: usize, anchor: Anchor) -> Result<(), Refusal>
+        requires place { i < length self.old.desk.tasks }
+        requires anchor { anchor < 64 }
+        ensures { (t : Task) → IsAt i t self.old.desk
+            → Becomes (with_document self.old.desk t anchor) self.old self.new result }
+    {
+        let seat = &self.seats[i];
+        let slot = seat.slot;
+        slot.alloc(&mut self.store, anchor, 0)?;
+        Ok(())
+    }
+
+    /// Whether a buffer, an empty document and the fetch all have room.
+    fn has_room(&self, i: usize, message: &Message) -> bool
+        requires { i < length self.now.desk.tasks }
+    {
+        let seat = &self.seats[i];
+        let letter = fetch_letter(seat.handle, message.from, message.my_ref, 0, seat.buffer);
+        let Ok(pages) = seat.slot.take_pages(&self.store, seat.buffer) else {
+            return false;
+        };
+        let Ok(more) = self.queue.send_pages(&self.store, MODULE, &letter) else {
+            return false;
+        };
+        pages + more <= self.store.free_pages()
+    }
+
+    /// A buffer, an empty document and a fetch for a DataSave. None, and nothing changed, where one of them isn't granted.
+    fn accept(&mut self, i: usize, message: &Message) -> Option<Ref>
+        requires place { i < length self.old.desk.tasks }
+        requires room { (t : Task) → IsAt i t self.old.desk → is_full_of is_going t.taking ≡ false }
+        ensures { (t : Task) (m : Parcel) → IsFor i t self.old.desk m message.now
+            → MatchOption result
+                (IsErr (accept_on self.old.desk t m) × (self.new ≡ self.old))
+                (λ fetch. (d : Desk) × ((accept_on self.old.desk t m ≡ Ok (d, outcome.Fetch fetch)) × IsReordered d self.new.desk)) }
+    {
+        let seat = &self.seats[i];
+        let anchor = free_anchor(&self.store, seat.slot)?;
+        if !self.has_room(i, message) {
+            return None;
+        }
+        let seat = &self.seats[i];
+        let (handle, room) = (seat.handle, seat.buffer);
+        let buffer = self.claim_buffer(i, room).unwrap();
+        self.alloc_document(i, anchor).unwrap();
+        let letter = fetch_letter(handle, message.from, message.my_ref, buffer, room);
+        let fetch = self.send_from(i, letter).unwrap();
+        let taking = Taking {
+            id: message.my_ref,
+            sender: message.from,
+            anchor,
+            buffer,
+            count: 0,
+            fetch,
+        };
+        self.record_fetching(i, taking);
+        Some(fetch)
+    }
+
+    /// What a DataSave does.
+    pub(crate) fn take_save(&mut self, i: usize, message: &Message) -> Outcome
+        requires { i < length self.old.desk.tasks }
+        ensures { (t : Task) (m : Parcel) → IsFor i t self.old.desk m message.now
+            → Handles (take_save_on self.old.desk t m) self.new result }
+    {
+        let seat = &self.seats[i];
+        let is_deaf = seat.manner == Manner::Deaf;
+        if !seat.taking.on_save(is_deaf) {
+            return Outcome::Ignored;
+        }
+        match self.accept(i, message) {
+            Some(fetch) => Outcome::Fetch(fetch),
+            None => Outcome::Ignored,
+        }
+    }
+}

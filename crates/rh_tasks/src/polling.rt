@@ -1,0 +1,128 @@
+//! Polls: the next message for a task, and what is done with it.
+
+ghost use Rattle.std.specs.Prelude.{◌≡◌, ◌<◌, true, length, Ok, Err};
+ghost use Rattle.std.specs.Option.{option_map};
+ghost use Rattle.rh_defs.specs.declared.command.Command.TheVariants as Command;
+ghost use Rattle.rh_defs.specs.Desk.{Task, with_delivered};
+ghost use Rattle.rh_defs.specs.Messages.{Parcel};
+ghost use Rattle.rh_defs.specs.Order.{IsReordered};
+ghost use Rattle.rh_defs.specs.Post.{post_poll};
+ghost use Rattle.rh_defs.specs.Range.{in_range};
+ghost use Rattle.rh_defs.specs.Step.{poll as poll_on};
+ghost use Rattle.rh_defs.specs.Transfer.{came as came_on, came_back as came_back_on, handled};
+ghost use Rattle.rh_wimp.specs.Chains.{event_of};
+ghost use Rattle.rh_tasks.specs.Answer.{GivesAlike};
+ghost use Rattle.rh_tasks.specs.Polls.{IsAt, IsFor, Handles};
+
+use crate::module_blocks::MODULE;
+use crate::scrap::kept_scrap;
+use crate::seats::find;
+use crate::world::World;
+use rh_defs::{Body, Event, EventCode, Manner, Message, Name, Outcome, Refusal, Reply};
+use rh_store::Store;
+
+impl<S: Store> World<S> {
+    /// Bounces the message that the task holds, and takes and handles the next one for it (Wimp_Poll): NoName.
+    pub(crate) fn poll(&mut self, name: &Name) -> Result<Reply, Refusal>
+        requires { in_range (Command.Poll name.now) ≡ true }
+        ensures { GivesAlike (poll_on self.old.desk name.now) self.old self.new result }
+    {
+        let i = find(&self.seats, name)?;
+        let Some(event) = self.take_event(i) else {
+            return Ok(Reply::NoEvent);
+        };
+        let outcome = self.handle(i, event.code, &event.message);
+        Ok(Reply::Event {
+            code: event.code,
+            action: event.message.body.action(),
+            my_ref: event.message.my_ref,
+            your_ref: event.message.your_ref,
+            outcome,
+        })
+    }
+
+    /// Bounces the message that the task holds, and takes the next one for it. A scrap file whose DataLoad is gone is given up.
+    fn take_event(&mut self, i: usize) -> Option<Event>
+        requires { i < length self.old.desk.tasks }
+        ensures event { (t : Task) → IsAt i t self.old.desk → result ≡ option_map event_of (post_poll t.handle self.old.desk.post).1 }
+        ensures desk { (t : Task) → IsAt i t self.old.desk
+            → IsReordered (with_delivered (post_poll t.handle self.old.desk.post).0 self.old.desk) self.new.desk }
+    {
+        let seat = &self.seats[i];
+        let event = self.queue.poll(&mut self.store, MODULE, seat.handle);
+        self.scrap = kept_scrap(&self.store, &self.queue, self.scrap);
+        event
+    }
+
+    /// What is done with a message, by its code.
+    fn handle(&mut self, i: usize, code: EventCode, message: &Message) -> Outcome
+        requires { i < length self.old.desk.tasks }
+        ensures { (t : Task) (m : Parcel) → IsFor i t self.old.desk m message.now → Handles (handled self.old.desk t m code) self.new result }
+    {
+        match code {
+            EventCode::User | EventCode::Recorded => self.came(i, message),
+            EventCode::Acknowledge => self.came_back(i, message),
+        }
+    }
+
+    /// What is done with a message that came.
+    fn came(&mut self, i: usize, message: &Message) -> Outcome
+        requires { i < length self.old.desk.tasks }
+        ensures { (t : Task) (m : Parcel) → IsFor i t self.old.desk m message.now
+            → Handles (came_on self.old.desk t m m.message.body) self.new result }
+    {
+        let seat = &self.seats[i];
+        let (from, your_ref) = (message.from, message.your_ref);
+        match &message.body {
+            Body::DataSave(_) => self.take_save(i, message),
+            Body::DataSaveAck(_) => {
+                let x = seat.sending.on_ack(from, your_ref);
+                self.answer_ack(i, message, x)
+            }
+            Body::DataLoad(_) => {
+                let q = seat.taking.on_load(from, your_ref);
+                self.take_file(i, message, q)
+            }
+            Body::DataLoadAck(_) => {
+                let x = seat.sending.on_load_ack(from, your_ref);
+                self.finish_load(i, x)
+            }
+            Body::RamFetch { buffer, length } => {
+                if seat.manner == Manner::File {
+                    return Outcome::Ignored;
+                }
+                let x = seat.sending.on_fetch(from, your_ref, *length);
+                self.answer_fetch(i, message, *buffer, *length, x)
+            }
+            Body::RamTransmit { buffer, written } => {
+                let entry = seat.taking.on_transmit(seat.buffer, from, your_ref, *buffer, *written);
+                self.take_bytes(i, message, *written, entry)
+            }
+        }
+    }
+
+    /// What is done with a message that came back.
+    fn came_back(&mut self, i: usize, message: &Message) -> Outcome
+        requires { i < length self.old.desk.tasks }
+        ensures { (t : Task) (m : Parcel) → IsFor i t self.old.desk m message.now
+            → Handles (came_back_on self.old.desk t m m.message.body) self.new result }
+    {
+        let seat = &self.seats[i];
+        let my_ref = message.my_ref;
+        match &message.body {
+            Body::DataSave(_) | Body::DataLoad(_) | Body::RamTransmit { .. } => {
+                let x = seat.sending.on_bounce(my_ref);
+                self.fail_sending(i, x)
+            }
+            Body::DataSaveAck(_) => {
+                let q = seat.taking.on_ack_bounce(my_ref);
+                self.ack_back(i, q)
+            }
+            Body::DataLoadAck(_) => Outcome::Ignored,
+            Body::RamFetch { .. } => {
+                let entry = seat.taking.on_bounce(my_ref);
+                self.fetch_back(i, entry)
+            }
+        }
+    }
+}

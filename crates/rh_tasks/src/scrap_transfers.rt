@@ -1,0 +1,154 @@
+//! Transfers by way of the scrap file.
+
+ghost use Rattle.std.specs.Prelude.{◌≡◌, ◌<◌, ◌≤◌, ◌*◌, length, slice_index, Ok, Some, None};
+ghost use Rattle.rh_defs.specs.Desk.{Task, Scrap, free_pages};
+ghost use Rattle.rh_defs.specs.Commands.{scrap_area};
+ghost use Rattle.rh_defs.specs.Pieces.{Split, page};
+ghost use Rattle.rh_defs.specs.IncomingEvents.{appended, loaded as loaded_on, take_file as take_file_on};
+ghost use Rattle.rh_defs.specs.Messages.{Parcel};
+ghost use Rattle.rh_defs.specs.OutgoingEvents.{wider, answer_ack as answer_ack_on};
+ghost use Rattle.rh_defs.specs.Slot.{Flex, slot_block, slot_size};
+ghost use Rattle.rh_tasks.specs.Polls.{IsAt, IsFor, Attempts, Becomes, Handles, scrapped};
+
+use crate::documents::{append, document_size};
+use crate::letters::{load_ack_letter, load_letter};
+use crate::module_blocks::MODULE;
+use crate::scrap::{ScrapFile, scrap_size};
+use crate::world::World;
+use rh_defs::sizes::{PAGE, SLOT_START, pages_for};
+use rh_defs::{Anchor, Asked, Message, Outcome, Ref, Refusal, Sending};
+use rh_store::{AreaId, Store};
+
+/// The area in which the scrap file lies.
+const SCRAP: AreaId = AreaId(5);
+
+impl<S: Store> World<S> {
+    /// The source becomes the scrap file, and the DataLoad is sent, whole or not at all: NoBlock, Busy, NoTask, NoRefs,
+    /// QueueFull, NoRoom.
+    fn save_scrap(&mut self, i: usize, message: &Message, x: &Sending) -> Result<Outcome, Refusal>
+        requires { i < length self.old.desk.tasks }
+        ensures { (t : Task) (m : Parcel) → IsFor i t self.old.desk m message.now
+            → Attempts (scrapped self.old.desk t m x.now) self.old self.new result }
+    {
+        let seat = &self.seats[i];
+        let size = document_size(&self.store, seat.slot, x.anchor)?;
+        if self.scrap.is_some() {
+            return Err(Refusal::Busy);
+        }
+        let letter = load_letter(seat.handle, message, size);
+        let more = self.queue.send_pages(&self.store, MODULE, &letter)?;
+        let wider = pages_for(size as usize).saturating_sub(self.store.len(SCRAP) / PAGE);
+        if self.store.free_pages() < wider + more {
+            return Err(Refusal::NoRoom);
+        }
+        self.widen_scrap(wider);
+        let load = self.send_from(i, letter).unwrap();
+        self.fill_scrap(i, x.anchor, size, load);
+        self.record_saved(i, x, load);
+        Ok(Outcome::Saved { count: size, load })
+    }
+
+    /// What a DataSaveAck does to the transfer that it is for.
+    pub(crate) fn answer_ack(&mut self, i: usize, message: &Message, x: Option<Sending>) -> Outcome
+        requires { i < length self.old.desk.tasks }
+        ensures { (t : Task) (m : Parcel) → IsFor i t self.old.desk m message.now
+            → Handles (answer_ack_on self.old.desk t m x) self.new result }
+    {
+        let Some(x) = x else {
+            return Outcome::Ignored;
+        };
+        match self.save_scrap(i, message, &x) {
+            Ok(outcome) => outcome,
+            Err(refusal) => self.refused_out(i, &x, refusal),
+        }
+    }
+
+    /// Puts the scrap file's bytes at the end of a document: NoBlock, NoRoom.
+    fn append_scrap(&mut self, i: usize, anchor: Anchor) -> Result<(), Refusal>
+        requires { i < length self.old.desk.tasks }
+        ensures { (t : Task) (file : Scrap) → IsAt i t self.old.desk → self.old.desk.scrap ≡ Some file
+            → Becomes (appended self.old.desk t anchor file.bytes) self.old self.new result }
+    {
+        let seat = &self.seats[i];
+        let slot = seat.slot;
+        let size = scrap_size(self.scrap);
+        append(&mut self.store, slot, anchor, SCRAP, 0, size as usize)
+    }
+
+    /// The document has all n bytes of the file, and the sender is told.
+    fn loaded(&mut self, i: usize, message: &Message, q: &Asked, n: u32) -> Outcome
+        requires { i < length self.old.desk.tasks }
+        ensures { (t : Task) (m : Parcel) → IsFor i t self.old.desk m message.now
+            → Handles (loaded_on self.old.desk t m q.now n) self.new result }
+    {
+        let seat = &self.seats[i];
+        let letter = load_ack_letter(seat.handle, message, n);
+        match self.send_from(i, letter) {
+            Ok(_) => {
+                self.record_loaded_in(i, q, n);
+                Outcome::Loaded { count: n }
+            }
+            Err(refusal) => {
+                self.record_abandoned(i, q, n);
+                Outcome::LoadedFailed { count: n, refusal }
+            }
+        }
+    }
+
+    /// What a DataLoad does to the transfer that it is for: its file becomes the document, and is given up.
+    pub(crate) fn take_file(&mut self, i: usize, message: &Message, q: Option<Asked>) -> Outcome
+        requires { i < length self.old.desk.tasks }
+        ensures { (t : Task) (m : Parcel) → IsFor i t self.old.desk m message.now
+            → Handles (take_file_on self.old.desk t m q) self.new result }
+    {
+        let Some(q) = q else {
+            return Outcome::Ignored;
+        };
+        let Some(file) = self.scrap else {
+            return Outcome::Ignored;
+        };
+        if file.load != message.my_ref {
+            return Outcome::Ignored;
+        }
+        match self.append_scrap(i, q.anchor) {
+            Ok(()) => {
+                self.drop_scrap();
+                self.loaded(i, message, &q, file.size)
+            }
+            Err(refusal) => {
+                self.record_abandoned(i, &q, 0);
+                Outcome::Refused(refusal)
+            }
+        }
+    }
+
+    /// Gives the scrap file up.
+    fn drop_scrap(&mut self)
+        ensures { self.new.desk ≡ record self.old.desk { scrap = None } }
+    {
+        self.scrap = None;
+    }
+
+    /// Makes area 5 so many pages longer.
+    fn widen_scrap(&mut self, more: usize)
+        requires { more ≤ free_pages self.old.desk }
+        ensures { self.new.desk ≡ wider more self.old.desk }
+    {
+        self.store.grow(SCRAP, more).unwrap();
+    }
+
+    /// The block at the anchor becomes the scrap file, for which area 5 has room and which the DataLoad with the ref tells.
+    fn fill_scrap(&mut self, i: usize, anchor: Anchor, size: u32, load: Ref)
+        requires place { i < length self.old.desk.tasks }
+        requires room { size ≤ page * slice_index self.old.desk.areas scrap_area }
+        requires block { (t : Task) → IsAt i t self.old.desk → slot_size anchor t.slot ≡ Ok size }
+        ensures { (t : Task) (source : Split Flex) → IsAt i t self.old.desk → slot_block anchor t.slot ≡ Ok source
+            → self.new.desk ≡ record self.old.desk { scrap = Some (record { load = load; bytes = source.here.bytes }) } }
+    {
+        let seat = &self.seats[i];
+        let slot = seat.slot;
+        let address = slot.address(&self.store, anchor).unwrap();
+        self.store.copy(slot.area, address - SLOT_START, SCRAP, 0, size as usize);
+        self.scrap = Some(ScrapFile { load, size });
+    }
+}
