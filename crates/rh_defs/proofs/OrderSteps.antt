@@ -202,7 +202,7 @@ came_back-alike d queue t m (DataLoadAck file) same = Alike.alike d queue _ same
 came_back-alike d queue t m (RamFetch buffer amount) same = fetch_back-alike d queue t _ same
 came_back-alike d queue t m (RamTransmit buffer n) same = fail_sending-alike d queue same t _
 
-handled-alike : (d : Desk) (queue : List Parcel) (t : Task) (m : Parcel) (code : EventCode) → SameForEach d.post.queued queue → Alike (handled d t m code) (handled (with_queue queue d) t m code)
+pub handled-alike : (d : Desk) (queue : List Parcel) (t : Task) (m : Parcel) (code : EventCode) → SameForEach d.post.queued queue → Alike (handled d t m code) (handled (with_queue queue d) t m code)
 unfolding handled
 handled-alike d queue t m User same = came-alike d queue t m m.message.body same
 handled-alike d queue t m Recorded same = came-alike d queue t m m.message.body same

@@ -26,6 +26,9 @@ pub mod Sends
 pub mod Repeats
 pub mod SentLetters
 pub mod Saves
+pub mod Takes
+pub mod Polls
+pub mod Tables
 pub mod Starts
 pub mod MadeCommands
 pub mod ItemLaws

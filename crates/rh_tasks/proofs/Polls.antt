@@ -1,0 +1,85 @@
+-- A poll: a message is taken, and then handled.
+use Rattle.std.proofs.Common.{◌≡◌, ℕ, ◌<◌, refl, ap, sym, subst, ◌∙◌, arith, List, length}
+use Rattle.std.specs.Prelude.{Option, None, Some, Ok, map}
+use Rattle.std.specs.Option.{option_map}
+use Rattle.std.proofs.Math.ListN.{get_or}
+use Rattle.std.proofs.lemmas.List.{length-map}
+use Rattle.rh_defs.specs.Memory.{Memory}
+use Rattle.rh_defs.specs.Files.{FileList}
+use Rattle.rh_defs.specs.declared.message.Event.{Event}
+use Rattle.rh_defs.specs.declared.message.EventCode.{EventCode}
+use Rattle.rh_defs.specs.declared.message.Message.{Message}
+use Rattle.rh_defs.specs.declared.reply.Outcome.{Outcome}
+use Rattle.rh_defs.specs.declared.reply.Reply.{Reply}
+use Rattle.rh_defs.specs.declared.reply.Reply.TheVariants as reply
+use Rattle.rh_defs.specs.Messages.{Parcel, action_of}
+use Rattle.rh_defs.specs.Post.{Post, post_poll}
+use Rattle.rh_defs.specs.Desk.{Desk, Task, with_delivered}
+use Rattle.rh_defs.specs.Order.{IsReordered, with_queue}
+use Rattle.rh_defs.specs.OutgoingEvents.{Handled}
+use Rattle.rh_defs.specs.Step.{event, poll, poll_taken}
+use Rattle.rh_defs.specs.Transfer.{handled}
+use Rattle.rh_defs.proofs.OrderSteps.{Alike, handled-alike}
+use Rattle.rh_wimp.specs.Chains.{event_of}
+use Rattle.rh_tasks.specs.declared.seat.Seat.{Seat}
+use Rattle.rh_tasks.specs.declared.made.MadeArea.{MadeArea}
+use Rattle.rh_tasks.specs.View.{Kept, task_of, desk_of}
+use Rattle.rh_tasks.specs.Finding.{Found}
+use Rattle.rh_tasks.specs.Polls.{IsAt, IsFor}
+use Rattle.rh_tasks.proofs.Lists.{Sits}
+use Rattle.rh_tasks.proofs.Chains.{begins}
+use Rattle.rh_tasks.proofs.Finding.{sits, named-is}
+use Rattle.rh_tasks.proofs.Places.{mapped-at, reordered-at}
+use Rattle.rh_tasks.proofs.Reorders.{reordered-trans}
+
+-- ---- an event is a parcel without its recipient and block
+
+pub none-taken : (o : Option Parcel) → (let x : Option Event = None in x) ≡ option_map event_of o → o ≡ None
+none-taken None e = refl
+none-taken (Some p) e = absurd cc
+
+pub record IsTaken (o : Option Parcel) (code : EventCode) (message : Message) : Type 0 where
+  pub parcel : Parcel
+  pub is : o ≡ Some parcel
+  pub code_is : parcel.code ≡ code
+  pub message_is : parcel.message ≡ message
+
+pub some-taken : (o : Option Parcel) (x : Event) → Some x ≡ option_map event_of o → IsTaken o x.code x.message
+some-taken None x e = absurd cc
+some-taken (Some p) x e =
+    let same : x ≡ event_of p = cc in
+    record { parcel = p; is = refl; code_is = sym (ap (λ (y : Event). y.code) same); message_is = sym (ap (λ (y : Event). y.message) same) }
+
+-- ---- two desks that differ in the order of messages to different tasks alone
+
+alike-handled : (a b : Handled) → Alike a b → (last : Desk) → IsReordered b.0 last → (b.1 ≡ a.1) × IsReordered a.0 last
+alike-handled _ _ (Alike.alike d queue x same) last r =
+    (refl, reordered-trans (let q : IsReordered d (with_queue queue d) = record { same = same; rest = refl } in q) r)
+
+-- handled on the other desk, a message has the same outcome, and leaves again such a desk
+pub handled-too : (d e : Desk) (t : Task) (p : Parcel) (code : EventCode) → IsReordered d e → (last : Desk) (outcome : Outcome) → outcome ≡ (handled e t p code).1 → IsReordered (handled e t p code).0 last
+    → (outcome ≡ (handled d t p code).1) × IsReordered (handled d t p code).0 last
+handled-too d e t p code r last outcome q h =
+    let other : Desk = with_queue e.post.queued d in
+    let there = subst (λ (x : Desk). IsReordered (handled x t p code).0 last) r.rest h in
+    let both = alike-handled (handled d t p code) (handled other t p code) (handled-alike d e.post.queued t p code r.same) last there in
+    (q ∙ ap (λ (x : Desk). (handled x t p code).1) r.rest ∙ both.0, both.1)
+
+-- ---- the command
+
+module _ {m : Memory} {seats : List Seat} {made : List MadeArea} {files : FileList} {kept : Kept} {name : List ℕ} {i : ℕ} {s : Seat} (f : Found name seats i s) where
+  abbrev d : Desk
+  d = desk_of m seats made files kept
+
+  pub place-in : i < length (map (task_of m) seats)
+  place-in = omega (arith, (sits f).inside, length-map seats (task_of m))
+
+  pub task-there : IsAt i (task_of m s) (desk_of m seats made files kept)
+  task-there = mapped-at (task_of m) seats i s (sits f)
+
+  abbrev after : Post × Option Parcel
+  after = post_poll s.handle (desk_of m seats made files kept).post
+
+  poll-is : poll (desk_of m seats made files kept) name ≡ Ok (poll_taken (with_delivered (post_poll s.handle (desk_of m seats made files kept).post).0 (desk_of m seats made files kept)) (task_of m s) (post_poll s.handle (desk_of m seats made files kept).post).1)
+  unfolding poll task_of
+  poll-is = begins _ (named-is m made files kept f) refl
