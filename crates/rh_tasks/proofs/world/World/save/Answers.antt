@@ -15,7 +15,7 @@ idle_source-requires-clause-anchor g c = save-anchor c.args.name.now c.args.anch
 pub returns-in_err-source : goal.returns-in_err-source
 returns-in_err-source g c =
     let p = err_from_is_err_and c.from_residual.result c.from_residual.ensures.1 in
-    rw (p.1, p.2, ← c.self.view_is) (save-stopped c.self.invariant.0 c.args.anchor c.args.to.now c.args.leaf.now c.in_err-source.ensures.err, refl)
+    rw (p.1, p.2, ← c.self.view_is) (save-stopped c.self.invariant.0 c.args.anchor c.args.to.now c.args.leaf.now c.args.name.now c.in_err-source.ensures.err, refl)
 
 pub returns-in_err-recipient : goal.returns-in_err-recipient
 returns-in_err-recipient g c =
