@@ -30,7 +30,7 @@ use Rattle.rh_defs.specs.Order.{IsReordered}
 use Rattle.rh_defs.specs.Step.{save}
 use Rattle.rh_slot.specs.Area.{IsSlot, slot_in}
 use Rattle.rh_wimp.specs.Calls.{Answers, Leaves}
-use Rattle.rh_wimp.specs.Chains.{Chains}
+use Rattle.rh_wimp.specs.Chains.{Chains, HasEntry}
 use Rattle.rh_tasks.specs.declared.seat.Seat.{Seat}
 use Rattle.rh_tasks.specs.declared.made.MadeArea.{MadeArea}
 use Rattle.rh_tasks.specs.View.{Kept, the_module, HasSlot, is_named, task_of, desk_of, IsWorld}
@@ -43,7 +43,7 @@ use Rattle.rh_tasks.proofs.Finding.{sits, named-is, find-named, nobody-named}
 use Rattle.rh_tasks.proofs.Worlds.{granted-keeps}
 use Rattle.rh_tasks.proofs.Moves.{Moves}
 use Rattle.rh_tasks.proofs.Sends.{desk_then, sent-alike, sent-world}
-use Rattle.rh_tasks.proofs.Repeats.{letter-refused, letter_then, letter-sent, ref-is}
+use Rattle.rh_tasks.proofs.Repeats.{from-live, letter-refused, letter_then, letter-sent, ref-is}
 
 -- ---- a leafname can stand in a message
 
@@ -178,6 +178,9 @@ module _ {m : Memory} {seats : List Seat} {made : List MadeArea} {files : FileLi
     module _ {j h : ℕ} {x : Seat} (there : Found to seats j x) (is : x.handle ≡ h) where
       abbrev pub letter : Letter
       letter = save_letter s.handle h n leaf
+
+      pub save-live : HasEntry letter.from kept.queue
+      save-live = from-live w (sits f) letter refl
 
       task-found : found_or (find (has_name to) (map (task_of m) seats)) NoTask ≡ Ok (task_of m x)
       unfolding found_or
