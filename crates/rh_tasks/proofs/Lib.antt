@@ -35,3 +35,4 @@ pub mod Steps
 pub mod AreaCommands
 pub mod ModuleCommands
 pub mod Readers
+pub mod SendRooms
