@@ -37,6 +37,5 @@ pub mod Steps
 pub mod AreaCommands
 pub mod ModuleCommands
 pub mod Readers
-pub mod Places
 pub mod Slides
 pub mod SendRooms
