@@ -39,3 +39,6 @@ pub mod ModuleCommands
 pub mod Readers
 pub mod Slides
 pub mod SendRooms
+pub mod Rooms
+pub mod Accepts
+pub mod AcceptRooms
