@@ -41,3 +41,8 @@ pub mod Steps
 pub mod AreaCommands
 pub mod ModuleCommands
 pub mod Readers
+pub mod Slides
+pub mod SendRooms
+pub mod Rooms
+pub mod Accepts
+pub mod AcceptRooms

@@ -7,6 +7,7 @@ use Rattle.rh_defs.specs.declared.refusal.Refusal.{Refusal}
 use Rattle.rh_defs.specs.declared.reply.Outcome.{Outcome}
 use Rattle.rh_defs.specs.Chain.{Granted, ◌>>=◌}
 use Rattle.rh_defs.specs.Slot.{Slot, Flex, flex_address, slot_block, slot_alloc, slot_extend, slot_put}
+use Rattle.rh_defs.specs.Places.{free_anchor}
 use Rattle.rh_defs.specs.Messages.{Parcel}
 use Rattle.rh_defs.specs.Desk.{Desk, Task, next_ref, free_pages, send_letter, with_slot}
 use Rattle.rh_defs.specs.Pieces.{Split}
@@ -23,6 +24,10 @@ IsAt i t d = slice_get d.tasks i ≡ Some t
 pub record IsFor (i : ℕ) (t : Task) (d : Desk) (m : Parcel) (message : Message) : Type 0 where
   pub at : IsAt i t d
   pub message_is : m.message ≡ message
+
+-- the slot's lowest anchor without a block
+pub record IsFreeAnchor (k : ℕ) (s : Slot) : Type 0 where
+  pub is : free_anchor s ≡ Some k
 
 -- the letter was sent and got the ref, or was refused and nothing changed
 abbrev pub Sends : Letter → Shown → Shown → Result ℕ Refusal → Type 0

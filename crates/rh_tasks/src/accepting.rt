@@ -1,6 +1,6 @@
 //! DataSaves that are taken: a buffer, an empty document and a fetch, whole or not at all.
 
-ghost use Rattle.std.specs.Prelude.{◌≡◌, ◌<◌, false, length, Ok, IsErr};
+ghost use Rattle.std.specs.Prelude.{◌≡◌, ◌<◌, ℕ, false, length, Ok, IsErr, is_ok};
 ghost use Rattle.std.specs.Option.{MatchOption};
 ghost use Rattle.rh_defs.specs.Desk.{Desk, Task, free_pages};
 ghost use Rattle.rh_defs.specs.declared.reply.Outcome.TheVariants as outcome;
@@ -9,7 +9,7 @@ ghost use Rattle.rh_defs.specs.Messages.{Parcel};
 ghost use Rattle.rh_defs.specs.Order.{IsReordered};
 ghost use Rattle.rh_defs.specs.Records.{is_going, is_full as is_full_of};
 ghost use Rattle.rh_defs.specs.Slot.{slot_claim};
-ghost use Rattle.rh_tasks.specs.Polls.{IsAt, IsFor, Becomes, Claims, Handles, with_document};
+ghost use Rattle.rh_tasks.specs.Polls.{IsAt, IsFor, IsFreeAnchor, Becomes, Claims, Handles, with_document};
 
 use crate::letters::fetch_letter;
 use crate::module_blocks::MODULE;
@@ -43,9 +43,11 @@ impl<S: Store> World<S> {
         Ok(())
     }
 
-    /// Whether a buffer, an empty document and the fetch all have room.
+    /// Whether a buffer, an empty document and the fetch are all granted, where an anchor is free.
     fn has_room(&self, i: usize, message: &Message) -> bool
         requires { i < length self.now.desk.tasks }
+        ensures { (t : Task) (m : Parcel) (k : ℕ) → IsFor i t self.now.desk m message.now → IsFreeAnchor k t.slot
+            → result ≡ is_ok (accept_on self.now.desk t m) }
     {
         let seat = &self.seats[i];
         let letter = fetch_letter(seat.handle, message.from, message.my_ref, 0, seat.buffer);
@@ -55,7 +57,8 @@ impl<S: Store> World<S> {
         let Ok(more) = self.queue.send_pages(&self.store, MODULE, &letter) else {
             return false;
         };
-        pages + more <= self.store.free_pages()
+        let free = self.store.free_pages();
+        pages <= free && more <= free - pages
     }
 
     /// A buffer, an empty document and a fetch for a DataSave. None, and nothing changed, where one of them isn't granted.

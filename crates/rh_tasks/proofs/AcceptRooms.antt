@@ -1,0 +1,71 @@
+-- Whether a DataSave is taken, by what the task's slot and the queue answer.
+use Rattle.std.proofs.Common.{◌≡◌, ℕ, ◌-◌, ◌≤◌, ◌<◌, false, ap, sym, ◌∙◌, arith, List, inl, inr}
+use Rattle.std.specs.Prelude.{Ok, Err, is_ok, nat_le}
+use Rattle.std.proofs.lemmas.Bool.{cases_lt}
+use Rattle.rh_defs.specs.Memory.{Memory}
+use Rattle.rh_defs.specs.Files.{FileList}
+use Rattle.rh_defs.specs.declared.message.Letter.{Letter}
+use Rattle.rh_defs.specs.declared.message.Message.{Message}
+use Rattle.rh_defs.specs.declared.refusal.Refusal.{Refusal}
+use Rattle.rh_defs.specs.Chain.{Granted}
+use Rattle.rh_defs.specs.Slot.{slot_take_pages}
+use Rattle.rh_defs.specs.Messages.{Parcel}
+use Rattle.rh_defs.specs.Letters.{fetch_letter}
+use Rattle.rh_defs.specs.Post.{post_send_pages}
+use Rattle.rh_defs.specs.Desk.{Desk, Task}
+use Rattle.rh_defs.specs.IncomingEvents.{accept}
+use Rattle.rh_slot.specs.Area.{slot_in}
+use Rattle.rh_wimp.specs.Calls.{Answers}
+use Rattle.rh_tasks.specs.declared.seat.Seat.{Seat}
+use Rattle.rh_tasks.specs.declared.made.MadeArea.{MadeArea}
+use Rattle.rh_tasks.specs.View.{Kept, the_module, task_of, desk_of, IsWorld}
+use Rattle.rh_tasks.specs.Polls.{IsFor, IsFreeAnchor}
+use Rattle.rh_tasks.proofs.Lists.{Sits}
+use Rattle.rh_tasks.proofs.Chains.{le-true, le-false}
+use Rattle.rh_tasks.proofs.Worlds.{free-is}
+use Rattle.rh_tasks.proofs.Posts.{is-post}
+use Rattle.rh_tasks.proofs.Slides.{seat-is}
+use Rattle.rh_tasks.proofs.Accepts.{the_fetch, accept-no_buffer, accept-no_fetch, accept-fits, accept-lacks}
+
+module _ {o : Memory} {seats : List Seat} {made : List MadeArea} {files : FileList} {kept : Kept} {i : ℕ} {s : Seat}
+    (w : IsWorld o seats made files kept) (at : Sits seats i s) (message : Message) where
+  abbrev d : Desk
+  d = desk_of o seats made files kept
+
+  -- the fetch, as it would be sent with a buffer anywhere
+  abbrev own_fetch : Letter
+  own_fetch = fetch_letter s.handle message.from message.my_ref 0 s.buffer
+
+  module _ (t : Task) (m : Parcel) (k : ℕ) (here : IsFor i t d m message) (free : IsFreeAnchor k t.slot) where
+    take-here : {g : Granted ℕ} → g ≡ slot_take_pages s.buffer (slot_in o s.slot) → slot_take_pages t.buffer t.slot ≡ g
+    unfolding task_of
+    take-here e = ap (λ (x : Task). slot_take_pages x.buffer x.slot) (sym (seat-is w at t here.at)) ∙ sym e
+
+    fetch-here : own_fetch ≡ the_fetch d t m 0
+    unfolding task_of
+    fetch-here =
+        ap (λ (x : Task). fetch_letter x.handle message.from message.my_ref 0 x.buffer) (seat-is w at t here.at)
+        ∙ ap (λ (x : Message). fetch_letter t.handle x.from x.my_ref 0 t.buffer) (sym here.message_is)
+
+    send-here : {g : Granted ℕ} {letter : Letter} → letter ≡ own_fetch → Answers o the_module kept.queue (post_send_pages letter) g → post_send_pages (the_fetch d t m 0) d.post ≡ g
+    send-here e a = ap (λ l. post_send_pages l d.post) (sym (e ∙ fetch-here)) ∙ sym (a d.post (is-post w))
+
+    pub room-no_buffer : {r : Refusal} → Err r ≡ slot_take_pages s.buffer (slot_in o s.slot) → false ≡ is_ok (accept d t m)
+    room-no_buffer e = sym (accept-no_buffer d i t m k w.desk here.at free (take-here e))
+
+    pub room-no_fetch : {r : Refusal} {letter : Letter} → letter ≡ own_fetch → Answers o the_module kept.queue (post_send_pages letter) (Err r) → false ≡ is_ok (accept d t m)
+    room-no_fetch e a = sym (accept-no_fetch d i t m k w.desk here.at free (send-here e a))
+
+    module _ {pages more n : ℕ} {letter : Letter} (take : Ok pages ≡ slot_take_pages s.buffer (slot_in o s.slot)) (same : letter ≡ own_fetch)
+        (send : Answers o the_module kept.queue (post_send_pages letter) (Ok more)) (free-are : n ≡ o.free) where
+      pub room-rest : pages ≤ n → nat_le more (n - pages) ≡ is_ok (accept d t m)
+      room-rest a = elim (cases_lt (n - pages) more) [
+        | inl short ↦ le-false more (n - pages) short
+          ∙ sym (accept-lacks d i t m k w.desk here.at free (take-here take) (send-here same send) (omega (arith, a, short, free-are, free-is w)))
+        | inr room ↦ le-true more (n - pages) room
+          ∙ sym (accept-fits d i t m k w.desk here.at free (take-here take) (send-here same send) (omega (arith, a, room, free-are, free-is w)))
+      ]
+
+      pub room-short : n < pages → nat_le pages n ≡ is_ok (accept d t m)
+      room-short a =
+          le-false pages n a ∙ sym (accept-lacks d i t m k w.desk here.at free (take-here take) (send-here same send) (omega (arith, a, free-are, free-is w)))
