@@ -17,13 +17,15 @@ use Rattle.rh_defs.specs.Post.{Post, post_poll}
 use Rattle.rh_defs.specs.Desk.{Desk, Task, with_delivered}
 use Rattle.rh_defs.specs.Order.{IsReordered, with_queue}
 use Rattle.rh_defs.specs.OutgoingEvents.{Handled}
+use Rattle.rh_defs.specs.Chain.{Granted}
+use Rattle.rh_defs.specs.Commands.{Answer}
 use Rattle.rh_defs.specs.Step.{event, poll, poll_taken}
 use Rattle.rh_defs.specs.Transfer.{handled}
 use Rattle.rh_defs.proofs.OrderSteps.{Alike, handled-alike}
 use Rattle.rh_wimp.specs.Chains.{event_of}
 use Rattle.rh_tasks.specs.declared.seat.Seat.{Seat}
 use Rattle.rh_tasks.specs.declared.made.MadeArea.{MadeArea}
-use Rattle.rh_tasks.specs.View.{Kept, task_of, desk_of}
+use Rattle.rh_tasks.specs.View.{Kept, task_of, desk_of, IsWorld}
 use Rattle.rh_tasks.specs.Finding.{Found}
 use Rattle.rh_tasks.specs.Polls.{IsAt, IsFor}
 use Rattle.rh_tasks.proofs.Lists.{Sits}
@@ -67,7 +69,8 @@ handled-too d e t p code r last outcome q h =
 
 -- ---- the command
 
-module _ {m : Memory} {seats : List Seat} {made : List MadeArea} {files : FileList} {kept : Kept} {name : List ℕ} {i : ℕ} {s : Seat} (f : Found name seats i s) where
+module _ {m : Memory} {seats : List Seat} {made : List MadeArea} {files : FileList} {kept : Kept} {name : List ℕ} {i : ℕ} {s : Seat}
+    (w : IsWorld m seats made files kept) (f : Found name seats i s) where
   abbrev d : Desk
   d = desk_of m seats made files kept
 
@@ -77,9 +80,42 @@ module _ {m : Memory} {seats : List Seat} {made : List MadeArea} {files : FileLi
   pub task-there : IsAt i (task_of m s) (desk_of m seats made files kept)
   task-there = mapped-at (task_of m) seats i s (sits f)
 
-  abbrev after : Post × Option Parcel
-  after = post_poll s.handle (desk_of m seats made files kept).post
-
   poll-is : poll (desk_of m seats made files kept) name ≡ Ok (poll_taken (with_delivered (post_poll s.handle (desk_of m seats made files kept).post).0 (desk_of m seats made files kept)) (task_of m s) (post_poll s.handle (desk_of m seats made files kept).post).1)
   unfolding poll task_of
   poll-is = begins _ (named-is m made files kept f) refl
+
+  abbrev taken : Desk
+  taken = with_delivered (post_poll s.handle (desk_of m seats made files kept).post).0 (desk_of m seats made files kept)
+
+  -- there was no message
+  pub poll-none : (post_poll s.handle (desk_of m seats made files kept).post).1 ≡ None → (last : Desk) → IsReordered taken last
+      → (x : Desk) × ((poll (desk_of m seats made files kept) name ≡ Ok (x, reply.NoEvent)) × IsReordered x last)
+  unfolding poll_taken
+  poll-none e last r = (taken, (poll-is ∙ ap (λ o. let a : Granted Answer = Ok (poll_taken taken (task_of m s) o) in a) e, r))
+
+  module _ {code : EventCode} {message : Message} (e : IsTaken (post_poll s.handle (desk_of m seats made files kept).post).1 code message) where
+    abbrev x : Handled
+    x = handled taken (task_of m s) e.parcel code
+
+    abbrev reply_with : EventCode → Message → Outcome → Reply
+    reply_with k y o = reply.Event k (action_of y.body) y.my_ref y.your_ref o
+
+    there : (mid : Desk) → IsReordered taken mid → IsAt i (task_of m s) mid
+    unfolding with_delivered
+    there mid r = reordered-at taken mid i (task_of m s) r task-there
+
+    -- a message was handled, on a desk that differs in that order alone
+    pub poll-some : (mid last : Desk) (outcome : Outcome) → IsReordered taken mid
+        → ((t : Task) (p : Parcel) → IsFor i t mid p message → (outcome ≡ (handled mid t p code).1) × IsReordered (handled mid t p code).0 last)
+        → (y : Desk) × ((poll (desk_of m seats made files kept) name ≡ Ok (y, reply.Event code (action_of message.body) message.my_ref message.your_ref outcome)) × IsReordered y last)
+    unfolding poll_taken
+    poll-some mid last outcome r done =
+        let own : IsFor i (task_of m s) mid e.parcel message = record { at = there mid r; message_is = e.message_is } in
+        let q = done (task_of m s) e.parcel own in
+        let h = handled-too taken mid (task_of m s) e.parcel code r last outcome q.0 q.1 in
+        let answer : EventCode → Answer = λ k. ((handled taken (task_of m s) e.parcel k).0, reply_with k e.parcel.message (handled taken (task_of m s) e.parcel k).1) in
+        let by_code : answer e.parcel.code ≡ answer code = ap answer e.code_is in
+        let by_message : answer code ≡ (x.0, reply_with code message x.1) = ap (λ y. let a : Answer = (x.0, reply_with code y x.1) in a) e.message_is in
+        let by_outcome : (let a : Answer = (x.0, reply_with code message x.1) in a) ≡ (x.0, reply_with code message outcome) = ap (λ o. let a : Answer = (x.0, reply_with code message o) in a) (sym h.0) in
+        let whole = by_code ∙ by_message ∙ by_outcome in
+        (x.0, (poll-is ∙ ap (λ o. let a : Granted Answer = Ok (poll_taken taken (task_of m s) o) in a) e.is ∙ ap (λ a. let b : Granted Answer = Ok a in b) whole, h.1))

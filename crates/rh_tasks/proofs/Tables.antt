@@ -7,6 +7,8 @@ use Rattle.rh_defs.specs.Files.{FileList}
 use Rattle.rh_defs.specs.declared.command.Manner.{Manner}
 use Rattle.rh_defs.specs.declared.message.Body.{Body}
 use Rattle.rh_defs.specs.declared.message.Body.TheVariants.{DataSave, DataSaveAck, DataLoad, DataLoadAck, RamFetch, RamTransmit}
+use Rattle.rh_defs.specs.declared.message.EventCode.{EventCode}
+use Rattle.rh_defs.specs.declared.message.EventCode.TheVariants.{User, Recorded, Acknowledge}
 use Rattle.rh_defs.specs.declared.message.FileData.{FileData}
 use Rattle.rh_defs.specs.declared.message.Message.{Message}
 use Rattle.rh_defs.specs.declared.reply.Outcome.{Outcome}
@@ -20,7 +22,7 @@ use Rattle.rh_defs.specs.Desk.{Desk, Task}
 use Rattle.rh_defs.specs.Order.{IsReordered}
 use Rattle.rh_defs.specs.OutgoingEvents.{Handled, ignored, answer_fetch, fail_sending, answer_ack, finish_load}
 use Rattle.rh_defs.specs.IncomingEvents.{take_save, take_bytes, fetch_back, ack_back, take_file}
-use Rattle.rh_defs.specs.Transfer.{answers_none, came, came_back}
+use Rattle.rh_defs.specs.Transfer.{answers_none, came, came_back, handled}
 use Rattle.rh_tasks.specs.declared.seat.Seat.{Seat}
 use Rattle.rh_tasks.specs.declared.made.MadeArea.{MadeArea}
 use Rattle.rh_tasks.specs.View.{Kept, task_of, desk_of, IsWorld}
@@ -31,6 +33,21 @@ use Rattle.rh_tasks.proofs.Places.{mapped-inside, mapped-is}
 -- what was done gives the desk, but for the order of messages to different tasks, and the outcome
 abbrev As : Handled → Desk → Outcome → Type 0
 As after last outcome = (outcome ≡ after.1) × IsReordered after.0 last
+
+-- ---- by code
+
+pub user-or-recorded : (d : Desk) (t : Task) (p : Parcel) (code : EventCode) → (code ≡ User) ⊎ (code ≡ Recorded) → (last : Desk) {outcome : Outcome}
+    → As (came d t p p.message.body) last outcome → As (handled d t p code) last outcome
+unfolding handled
+user-or-recorded d t p code (inl e) last h = rw e h
+user-or-recorded d t p code (inr e) last h = rw e h
+
+pub acknowledged : (d : Desk) (t : Task) (p : Parcel) (code : EventCode) → code ≡ Acknowledge → (last : Desk) {outcome : Outcome}
+    → As (came_back d t p p.message.body) last outcome → As (handled d t p code) last outcome
+unfolding handled
+acknowledged d t p code e last h = rw e h
+
+-- ---- by action
 
 module _ {m : Memory} {seats : List Seat} {made : List MadeArea} {files : FileList} {kept : Kept} {i : ℕ} {s : Seat} {t : Task} {p : Parcel} {message : Message}
     (w : IsWorld m seats made files kept) (is : get_or seats i s ≡ s) (for : IsFor i t (desk_of m seats made files kept) p message) where
@@ -103,12 +120,12 @@ module _ {m : Memory} {seats : List Seat} {made : List MadeArea} {files : FileLi
 
   -- a message of the sender's came back
   pub sender-back : {last : Desk} {outcome : Outcome} {x : Option Sending}
-      → ((file : FileData) × (message.body ≡ DataSave file)) ⊎ (((file : FileData) × (message.body ≡ DataLoad file)) ⊎ ((buffer : ℕ) × ((n : ℕ) × (message.body ≡ RamTransmit buffer n))))
+      → ((file : FileData) × (message.body ≡ DataSave file)) ⊎ (((file : FileData) × (message.body ≡ DataLoad file)) ⊎ ((buffer : ℕ) × (n : ℕ) × (message.body ≡ RamTransmit buffer n)))
       → x ≡ sender.on_bounce message.my_ref s.sending → As (fail_sending d t x) last outcome → As (came_back d t p p.message.body) last outcome
   unfolding came_back
   sender-back (inl k) q h = back-as k.1 (bounced q h)
   sender-back (inr (inl k)) q h = back-as k.1 (bounced q h)
-  sender-back (inr (inr k)) q h = back-as k.1.1 (bounced q h)
+  sender-back (inr (inr (buffer, n, e))) q h = back-as e (bounced q h)
 
   pub ack-back : {last : Desk} {outcome : Outcome} {file : FileData} {q : Option Asked} → message.body ≡ DataSaveAck file → q ≡ receiver.on_ack_bounce message.my_ref s.taking → As (ack_back d t q) last outcome
       → As (came_back d t p p.message.body) last outcome

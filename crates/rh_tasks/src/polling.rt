@@ -18,7 +18,7 @@ use crate::module_blocks::MODULE;
 use crate::scrap::kept_scrap;
 use crate::seats::find;
 use crate::world::World;
-use rh_defs::{Body, Event, EventCode, Manner, Message, Name, Outcome, Refusal, Reply};
+use rh_defs::{Body, Event, EventCode, Message, Name, Outcome, Refusal, Reply};
 use rh_store::Store;
 
 impl<S: Store> World<S> {
@@ -88,7 +88,7 @@ impl<S: Store> World<S> {
                 self.finish_load(i, x)
             }
             Body::RamFetch { buffer, length } => {
-                if seat.manner == Manner::File {
+                if seat.answers_none() {
                     return Outcome::Ignored;
                 }
                 let x = seat.sending.on_fetch(from, your_ref, *length);

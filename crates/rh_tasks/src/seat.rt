@@ -2,6 +2,7 @@
 
 ghost use Rattle.std.specs.Prelude.{◌≡◌, ◌||◌};
 ghost use Rattle.std.specs.List.{list_any};
+ghost use Rattle.rh_defs.specs.Transfer.{answers_none as answers_none_on};
 ghost use Rattle.rh_defs.specs.Records.{is_source, is_document, is_buffer_of};
 
 use rh_defs::{Anchor, Handle, Letter, Manner, Name, Ref};
@@ -34,6 +35,13 @@ pub struct SentLetter {
 }
 
 impl Seat {
+    /// Whether the task answers no fetch: it was started with `file`.
+    pub fn answers_none(&self) -> bool
+        ensures { result ≡ answers_none_on self.now.manner }
+    {
+        matches!(self.manner, Manner::File)
+    }
+
     /// Whether the anchor's block is the source of an open transfer, or a document that grows.
     pub fn is_busy_block(&self, anchor: Anchor) -> bool
         ensures { result ≡ (list_any (is_source anchor) self.now.sending || list_any (is_document anchor) self.now.taking) }
