@@ -2,7 +2,7 @@
 use Rattle.std.proofs.Common.{◌≡◌, ℕ, suc, ◌+◌, ◌-◌, ◌<◌, ◌≤◌, true, refl, sym, ap, ◌∙◌, arith}
 use Rattle.std.specs.Prelude.{Some, None, is_some}
 use Rattle.rh_defs.specs.Places.{free_anchor, free_from}
-use Rattle.rh_defs.specs.Slot.{Slot, Flex, is_used, IsFree}
+use Rattle.rh_defs.specs.Slot.{Slot, is_used, IsFree}
 use Rattle.rh_defs.proofs.HeapLists.{cond_true, cond_false}
 use Rattle.rh_defs.proofs.SlotLaws.{block_of-none, block_of-at}
 use Rattle.rh_slot.specs.Flex.{Found}

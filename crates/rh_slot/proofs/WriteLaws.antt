@@ -1,7 +1,7 @@
 -- Bytes of the store are copied into a slot's block.
-use Rattle.std.proofs.Common.{◌≡◌, ℕ, ◌+◌, ◌-◌, ◌<◌, ◌≤◌, List, [], ◌∷◌, ◌++◌, length, refl, sym, ap, subst, ◌∙◌, arith}
+use Rattle.std.proofs.Common.{◌≡◌, ℕ, ◌+◌, ◌≤◌, List, length, refl, sym, ap, subst, ◌∙◌, arith}
 use Rattle.std.specs.Prelude.{Ok}
-use Rattle.rh_defs.specs.Bytes.{part, put}
+use Rattle.rh_defs.specs.Bytes.{put}
 use Rattle.rh_defs.specs.Chain.{Granted, no_answer}
 use Rattle.rh_defs.specs.Memory.{Memory, bytes, with_bytes}
 use Rattle.rh_defs.specs.Pieces.{Split}

@@ -78,7 +78,7 @@ pub fn write_from<S: Store>(
     requires apart { from.0 ≡ slot.area.0 → (place + n ≤ address - slot_start) ⊎ (address - slot_start + n ≤ place) }
     ensures { Leaves (S.memory store.old) (S.memory store.new) slot
         (no_answer (Ok (written_in address (part (bytes (S.memory store.old) from.0) place n)
-            (buffer_at address room (slot_in (S.memory store.old) slot)) (slot_in (S.memory store.old) slot)))) (Ok tt) }
+        (buffer_at address room (slot_in (S.memory store.old) slot)) (slot_in (S.memory store.old) slot)))) (Ok tt) }
 {
     store.copy(from, place, slot.area, address - SLOT_START, n);
 }

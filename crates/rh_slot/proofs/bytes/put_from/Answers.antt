@@ -1,5 +1,4 @@
 use Rattle.std.proofs.Common.{refl, ap, arith}
-use Rattle.rh_defs.specs.Bytes.{part}
 use Rattle.rh_defs.specs.Chain.{no_answer}
 use Rattle.rh_defs.specs.Memory.{bytes}
 use Rattle.rh_defs.proofs.BytesLaws.{length-part}
