@@ -170,7 +170,10 @@ impl<S: Store> World<S> {
                 self.end_failed(i, &f, f.count);
                 Outcome::Drained
             }
-            _ => Outcome::Ignored,
+            Some(Incoming::Asking(_)) => Outcome::Ignored,
+            Some(Incoming::Done { .. }) => Outcome::Ignored,
+            Some(Incoming::Failed { .. }) => Outcome::Ignored,
+            None => Outcome::Ignored,
         }
     }
 
@@ -217,7 +220,10 @@ impl<S: Store> World<S> {
                 self.end_failed(i, &f, f.count);
                 Outcome::Drained
             }
-            _ => Outcome::Ignored,
+            Some(Incoming::Asking(_)) => Outcome::Ignored,
+            Some(Incoming::Done { .. }) => Outcome::Ignored,
+            Some(Incoming::Failed { .. }) => Outcome::Ignored,
+            None => Outcome::Ignored,
         }
     }
 
