@@ -46,3 +46,6 @@ pub mod SendRooms
 pub mod Rooms
 pub mod Accepts
 pub mod AcceptRooms
+pub mod Appends
+pub mod Buffers
+pub mod Takings
