@@ -35,3 +35,6 @@ pub mod Steps
 pub mod AreaCommands
 pub mod ModuleCommands
 pub mod Readers
+pub mod Places
+pub mod Scraps
+pub mod ScrapTransfers

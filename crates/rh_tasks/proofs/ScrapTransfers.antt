@@ -1,0 +1,1 @@
+-- Transfers by way of the scrap file.
