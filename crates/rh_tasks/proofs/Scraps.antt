@@ -24,6 +24,7 @@ use Rattle.rh_defs.specs.OutgoingEvents.{wider}
 use Rattle.rh_defs.proofs.Transfers.{wider-keeps, scrap-keeps}
 use Rattle.rh_slot.specs.declared.slot.Slot.{Slot}
 use Rattle.rh_slot.specs.Area.{IsSlot, slot_in}
+use Rattle.rh_slot.proofs.Ranges.{Standing, flex-part}
 use Rattle.rh_tasks.specs.declared.seat.Seat.{Seat}
 use Rattle.rh_tasks.specs.declared.made.MadeArea.{MadeArea}
 use Rattle.rh_tasks.specs.declared.scrap.ScrapFile.{ScrapFile}
@@ -37,22 +38,12 @@ use Rattle.rh_tasks.proofs.Worlds.{free-is, same-desk}
 use Rattle.rh_tasks.proofs.Fixed.{KeepsFirst, fixed-at, fixed-desk, fixed-world, changed-areas, pages-of}
 use Rattle.rh_tasks.proofs.AreaCommands.{file-length}
 
-pub record Standing (b xs : List ℕ) (place n floor ceiling : ℕ) : Type 0 where
-  pub is : xs ≡ part b place n
-  pub low : floor ≤ place
-  pub high : place + n ≤ ceiling
-
-pub flex-part : (m : Memory) (self : Slot) (k offset n : ℕ) (b : Split Flex) → IsSlot m self → slot_block k (slot_in m self) ≡ Ok b → offset + n ≤ length b.here.bytes
-    → Standing (bytes m self.area.0) (take n (drop offset b.here.bytes)) (flex_address (slot_in m self) b.before + offset - slot_start) n
-    (flex_place (slot_in m self)) (length (bytes m self.area.0))
-flex-part = ?
-
 -- ---- the seat at a place
 
-pub seat-sits : {m : Memory} {seats : List Seat} {i : ℕ} {s : Seat} → i < length (map (task_of m) seats) → get_or seats i s ≡ s → Sits seats i s
-seat-sits {m} {seats} inside is = record { inside = omega (arith, inside, length-map seats (task_of m)); is = is }
+pub seat-sits : (m : Memory) {seats : List Seat} {i : ℕ} {s : Seat} → i < length (map (task_of m) seats) → get_or seats i s ≡ s → Sits seats i s
+seat-sits m {seats} inside is = record { inside = omega (arith, inside, length-map seats (task_of m)); is = is }
 
-module _ {m : Memory} {seats : List Seat} {i : ℕ} {s : Seat} (made : List MadeArea) (files : FileList) (kept : Kept) (at : Sits seats i s) where
+module _ (m : Memory) {seats : List Seat} {i : ℕ} {s : Seat} (made : List MadeArea) (files : FileList) (kept : Kept) (at : Sits seats i s) where
   pub seat-at : IsAt i (task_of m s) (desk_of m seats made files kept)
   seat-at = mapped-at (task_of m) seats i s at
 
