@@ -1,7 +1,7 @@
 -- Worlds in which area 5 or the scrap file changes.
 use Rattle.std.proofs.Common.{◌≡◌, ℕ, ◌+◌, ◌-◌, ◌*◌, ◌%◌, ◌<◌, ◌≤◌, refl, ap, sym, subst, ◌∙◌, arith, List, [], ◌∷◌, length, take, drop}
-use Rattle.std.specs.Prelude.{map, Option, Some, None, IfSome, Ok, Err, IsOk, ◌==◌, replicate, slice_index, slice_set}
-use Rattle.std.proofs.Math.ListN.{get_or}
+use Rattle.std.specs.Prelude.{map, Option, Result, Some, None, IfSome, Ok, Err, IsOk, ◌==◌, replicate, slice_index, slice_set}
+use Rattle.std.proofs.Math.ListN.{get_or, set}
 use Rattle.std.proofs.lemmas.List.{length-map, take-append-le, take_all}
 use borrow.Author.Tests.{eqb-true}
 use Rattle.rh_defs.specs.Bytes.{part, put}
@@ -11,28 +11,35 @@ use Rattle.rh_defs.proofs.MemoryLaws.{bytes-with_bytes, bytes-grown, length-grow
 use Rattle.rh_defs.specs.Files.{FileList}
 use Rattle.rh_defs.specs.declared.refusal.Refusal.{Refusal}
 use Rattle.rh_defs.specs.declared.refusal.Refusal.TheVariants.{NoBlock}
-use Rattle.rh_defs.specs.Chain.{Granted, ◌>>=◌, found_or}
+use Rattle.rh_defs.specs.Chain.{Granted, ◌>>=◌, found_or, no_answer}
 use Rattle.rh_defs.specs.Pieces.{Split}
 use Rattle.rh_defs.specs.Slot as plain
 use Rattle.rh_defs.specs.Slot.{Flex, HaveAnchors, weight, flex_start, flex_address, slot_start, block_of, slot_block, slot_size, slot_address}
 use Rattle.rh_defs.specs.SlotImage.{flex_place}
 use Rattle.rh_defs.proofs.Cuts.{IsCut, first_at-cuts}
 use Rattle.rh_defs.proofs.SlotLaws.{HaveAnchors-cut}
-use Rattle.rh_defs.specs.Desk.{Desk, Task, Scrap, used_pages}
+use Rattle.rh_defs.specs.Desk.{Desk, Task, Scrap, used_pages, free_pages, with_slot}
 use Rattle.rh_defs.specs.Laws.{IsDesk}
 use Rattle.rh_defs.specs.OutgoingEvents.{wider}
-use Rattle.rh_defs.proofs.Transfers.{wider-keeps, scrap-keeps}
+use Rattle.rh_defs.specs.IncomingEvents.{appended}
+use Rattle.rh_defs.proofs.Chains.{grant-holds}
+use Rattle.rh_defs.proofs.Lists.{find-all}
+use Rattle.rh_defs.proofs.Desks.{IsTask, HasSlot as HasPlainSlot}
+use Rattle.rh_defs.proofs.Transfers.{wider-keeps, scrap-keeps, appended-keeps}
 use Rattle.rh_slot.specs.declared.slot.Slot.{Slot}
 use Rattle.rh_slot.specs.Area.{IsSlot, slot_in}
+use Rattle.rh_slot.specs.Calls.{Leaves}
 use Rattle.rh_slot.proofs.Ranges.{Standing, flex-part}
 use Rattle.rh_tasks.specs.declared.seat.Seat.{Seat}
 use Rattle.rh_tasks.specs.declared.made.MadeArea.{MadeArea}
 use Rattle.rh_tasks.specs.declared.scrap.ScrapFile.{ScrapFile}
-use Rattle.rh_tasks.specs.View.{Kept, the_module, HasSlot, pages_at, fixed_pages, scrap_size, scrap_of, slot_area, made_area, task_of, desk_of, IsWorld}
-use Rattle.rh_tasks.specs.Polls.{IsAt}
-use Rattle.rh_tasks.proofs.Lists.{Sits, cons, all-at, avoids-below}
-use Rattle.rh_tasks.proofs.Places.{mapped-at, mapped-is}
-use Rattle.rh_tasks.proofs.Chains.{begins}
+use Rattle.rh_tasks.specs.View.{Kept, the_module, HasSlot, pages_at, fixed_pages, scrap_from, scrap_size, scrap_of, slot_area, made_area, task_of, desk_of, shown_of, IsWorld}
+use Rattle.rh_tasks.specs.Polls.{IsAt, Becomes, slot_append}
+use Rattle.rh_tasks.proofs.Lists.{Sits, set_same, cons, all-at, avoids-below}
+use Rattle.rh_tasks.proofs.Places.{mapped-at, mapped-is, task-found}
+use Rattle.rh_tasks.proofs.Chains.{begins, ends}
+use Rattle.rh_tasks.proofs.Leaves.{slid, changed, unchanged}
+use Rattle.rh_tasks.proofs.Moves.{Moves, Slid, moved-desk, moved-world}
 use Rattle.rh_tasks.proofs.Frames.{Stay, pages-stay, tasks-stay, mades-stay, module-stays, post-stays, queue-stays}
 use Rattle.rh_tasks.proofs.Worlds.{free-is, same-desk}
 use Rattle.rh_tasks.proofs.Fixed.{KeepsFirst, fixed-at, fixed-desk, fixed-world, changed-areas, pages-of}
@@ -245,3 +252,86 @@ module _ {m : Memory} {seats : List Seat} {made : List MadeArea} {files : FileLi
           let same : source.cut ≡ b = (let q = sym source.is ∙ is in cc) in
           rewritten-desk w only (ap (λ b. length b) bytes-then ∙ length-same) file
           ∙ ap (λ (b : List ℕ). let e : Desk = record (desk_of m seats made files kept) { scrap = Some (record { load = load; bytes = b }) } in e) (first-are ∙ ap (λ (b : Split Flex). b.here.bytes) same)
+
+-- ---- bytes at the end of a document
+
+-- two steps and a third one
+bind-twice : {B C D : Type 0} (b : Granted B) (c : B → Granted C) (f : C → Granted D) → ((b >>= c) >>= f) ≡ (b >>= (λ y. c y >>= f))
+unfolding ◌>>=◌
+bind-twice (Ok y) c f = refl
+bind-twice (Err r) c f = refl
+
+bind-thrice : {A B C D : Type 0} (a : Granted A) (b : A → Granted B) (c : A → B → Granted C) (f : C → Granted D)
+    → ((a >>= (λ x. b x >>= c x)) >>= f) ≡ (a >>= (λ x. b x >>= (λ y. c x y >>= f)))
+unfolding ◌>>=◌
+bind-thrice (Ok x) b c f = bind-twice (b x) (c x) f
+bind-thrice (Err r) b c f = refl
+
+appended-is : (d : Desk) (t : Task) (k : ℕ) (xs : List ℕ) → appended d t k xs ≡ (slot_append (free_pages d) k xs t.slot >>= (λ s. Ok (with_slot t.handle s d)))
+unfolding appended slot_append
+appended-is d t k xs = sym (bind-thrice (slot_block k t.slot) _ _ _)
+
+-- the desk's task of its handle
+pub task-is : {d : Desk} (i : ℕ) {t : Task} → IsDesk d → IsAt i t d → IsTask d t
+task-is {d} i {t} is at = record {
+  found = task-found d i t is at;
+  slot = subst (λ o. IfSome o HasPlainSlot) (task-found d i t is at) (find-all HasPlainSlot (λ u. u.handle == t.handle) d.tasks is.slots);
+}
+
+module _ {m : Memory} {seats : List Seat} {made : List MadeArea} {files : FileList} {kept : Kept} {i : ℕ} {s : Seat}
+    (w : IsWorld m seats made files kept) (at : Sits seats i s) (k : ℕ) (xs : List ℕ) where
+  abbrev old : Desk
+  old = desk_of m seats made files kept
+
+  abbrev pub append_given : Granted plain.Slot
+  append_given = slot_append m.free k xs (slot_in m s.slot)
+
+  append-is : appended old (task_of m s) k xs ≡ (append_given >>= (λ z. Ok (with_slot s.handle z old)))
+  unfolding task_of
+  append-is =
+      appended-is old (task_of m s) k xs
+      ∙ ap (λ free. slot_append free k xs (slot_in m s.slot) >>= (λ z. Ok (with_slot s.handle z old))) (free-is w)
+
+  same : set seats i s ≡ seats
+  same = set_same seats i s at
+
+  module _ {n : Memory} where
+    moves : Slid m n s.slot → Moves m n s s (λ t. record t { slot = slot_in n s.slot })
+    unfolding task_of
+    moves l = record { handle = refl; area = refl; still = l.still; only = l.only; task = refl }
+
+    slid-desk : Slid m n s.slot → desk_of n seats made files kept ≡ with_slot s.handle (slot_in n s.slot) old
+    slid-desk l = ap (λ (x : List Seat). desk_of n x made files kept) (sym same) ∙ moved-desk w at (moves l)
+
+    append-done : Leaves m n s.slot (no_answer append_given) (Ok tt) → appended old (task_of m s) k xs ≡ Ok (desk_of n seats made files kept)
+    append-done l = append-is ∙ begins _ (changed l) (ap (λ (d : Desk). let r : Granted Desk = Ok d in r) (sym (slid-desk (slid l))))
+
+    append-refused : {r : Refusal} → Leaves m n s.slot (no_answer append_given) (Err r) → appended old (task_of m s) k xs ≡ Err r
+    append-refused l = append-is ∙ ends _ (unchanged l)
+
+    pub append-world : (r : Result (Unit {0}) Refusal) → Leaves m n s.slot (no_answer append_given) r → IsWorld n seats made files kept
+    append-world (Ok u) l =
+        let is : IsDesk (desk_of n seats made files kept) =
+        grant-holds (appended-keeps old (task_of m s) k xs (task-is i w.desk (seat-at m made files kept at)) w.desk) (append-done l) in
+        let P : List Seat → Type 0 = λ x. IsDesk (desk_of n x made files kept) → IsWorld n x made files kept in
+        subst P same (λ e. moved-world w at (moves (slid l)) e) is
+    append-world (Err r) l = subst (λ (x : Memory). IsWorld x seats made files kept) (sym l.err) w
+
+    becomes : (r : Result (Unit {0}) Refusal) → Leaves m n s.slot (no_answer append_given) r
+        → Becomes (appended old (task_of m s) k xs) (shown_of m seats made files kept) (shown_of n seats made files kept) r
+    becomes (Ok u) l = append-done l
+    becomes (Err r) l = (append-refused l, ap (λ (x : Memory). shown_of x seats made files kept) l.err)
+
+    pub append-becomes : {t : Task} → IsAt i t old → (r : Result (Unit {0}) Refusal) → Leaves m n s.slot (no_answer append_given) r
+        → Becomes (appended old t k xs) (shown_of m seats made files kept) (shown_of n seats made files kept) r
+    append-becomes {t} there r l =
+        subst (λ (x : Task). Becomes (appended old x k xs) (shown_of m seats made files kept) (shown_of n seats made files kept) r)
+        (mapped-is (task_of m) seats i s t at there) (becomes r l)
+
+-- the scrap file's bytes are the first of area 5
+pub scrap-part : (m : Memory) (scrap : Option ScrapFile) (file : Scrap) → scrap_size scrap ≤ length (bytes m 5) → scrap_of m scrap ≡ Some file → part (bytes m 5) 0 (scrap_size scrap) ≡ file.bytes
+unfolding scrap_of
+scrap-part m None file fits e = absurd cc
+scrap-part m (Some f) file fits e =
+    let same : scrap_from (bytes m 5) f ≡ file = cc in
+    part-drop (bytes m 5) 0 f.size (omega (arith, fits)) ∙ ap (λ (x : Scrap). x.bytes) same
