@@ -26,6 +26,7 @@ pub mod SeatRecords
 pub mod Sends
 pub mod Repeats
 pub mod SentLetters
+pub mod SendRooms
 pub mod Saves
 pub mod Starts
 pub mod MadeCommands
@@ -38,6 +39,5 @@ pub mod Steps
 pub mod AreaCommands
 pub mod ModuleCommands
 pub mod Readers
-pub mod Places
 pub mod Scraps
 pub mod ScrapTransfers

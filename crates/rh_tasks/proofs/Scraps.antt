@@ -1,8 +1,8 @@
 -- Worlds in which area 5 or the scrap file changes.
-use Rattle.std.proofs.Common.{◌≡◌, ℕ, ◌+◌, ◌-◌, ◌*◌, ◌%◌, ◌<◌, ◌≤◌, refl, ap, sym, subst, ◌∙◌, arith, List, [], ◌∷◌, length, take, drop}
-use Rattle.std.specs.Prelude.{map, Option, Result, Some, None, IfSome, Ok, Err, IsOk, ◌==◌, replicate, slice_index, slice_set}
+use Rattle.std.proofs.Common.{◌≡◌, ℕ, ◌+◌, ◌-◌, ◌*◌, ◌/◌, ◌%◌, ◌<◌, ◌≤◌, refl, ap, sym, subst, ◌∙◌, arith, List, [], ◌∷◌, length, take, drop}
+use Rattle.std.specs.Prelude.{map, Option, Result, Some, None, IfSome, Ok, Err, IsOk, is_some, ◌==◌, replicate, slice_index, slice_set}
 use Rattle.std.proofs.Math.ListN.{get_or, set}
-use Rattle.std.proofs.lemmas.List.{length-map, take-append-le, take_all}
+use Rattle.std.proofs.lemmas.List.{length-map, length-take, take-append-le, take_all}
 use borrow.Author.Tests.{eqb-true}
 use Rattle.rh_defs.specs.Bytes.{part, put}
 use Rattle.rh_defs.proofs.BytesLaws.{length-put, length-part, part-put, part-drop}
@@ -12,7 +12,9 @@ use Rattle.rh_defs.specs.Files.{FileList}
 use Rattle.rh_defs.specs.declared.refusal.Refusal.{Refusal}
 use Rattle.rh_defs.specs.declared.refusal.Refusal.TheVariants.{NoBlock}
 use Rattle.rh_defs.specs.Chain.{Granted, ◌>>=◌, found_or, no_answer}
-use Rattle.rh_defs.specs.Pieces.{Split}
+use Rattle.rh_defs.specs.Pieces.{Split, pages_for}
+use Rattle.rh_defs.specs.declared.message.Letter.{Letter}
+use Rattle.rh_defs.specs.Post.{post_send_pages}
 use Rattle.rh_defs.specs.Slot as plain
 use Rattle.rh_defs.specs.Slot.{Flex, HaveAnchors, weight, flex_start, flex_address, slot_start, block_of, slot_block, slot_size, slot_address}
 use Rattle.rh_defs.specs.SlotImage.{flex_place}
@@ -20,7 +22,7 @@ use Rattle.rh_defs.proofs.Cuts.{IsCut, first_at-cuts}
 use Rattle.rh_defs.proofs.SlotLaws.{HaveAnchors-cut}
 use Rattle.rh_defs.specs.Desk.{Desk, Task, Scrap, used_pages, free_pages, with_slot}
 use Rattle.rh_defs.specs.Laws.{IsDesk}
-use Rattle.rh_defs.specs.OutgoingEvents.{wider}
+use Rattle.rh_defs.specs.OutgoingEvents.{wider, scrap_shortage}
 use Rattle.rh_defs.specs.IncomingEvents.{appended}
 use Rattle.rh_defs.proofs.Chains.{grant-holds}
 use Rattle.rh_defs.proofs.Lists.{find-all}
@@ -29,19 +31,22 @@ use Rattle.rh_defs.proofs.Transfers.{wider-keeps, scrap-keeps, appended-keeps}
 use Rattle.rh_slot.specs.declared.slot.Slot.{Slot}
 use Rattle.rh_slot.specs.Area.{IsSlot, slot_in}
 use Rattle.rh_slot.specs.Calls.{Leaves}
+use Rattle.rh_wimp.specs.Calls.{Answers}
 use Rattle.rh_slot.proofs.Ranges.{Standing, flex-part}
 use Rattle.rh_tasks.specs.declared.seat.Seat.{Seat}
 use Rattle.rh_tasks.specs.declared.made.MadeArea.{MadeArea}
 use Rattle.rh_tasks.specs.declared.scrap.ScrapFile.{ScrapFile}
 use Rattle.rh_tasks.specs.View.{Kept, the_module, HasSlot, pages_at, fixed_pages, scrap_from, scrap_size, scrap_of, slot_area, made_area, task_of, desk_of, shown_of, IsWorld}
+use Rattle.rh_tasks.specs.Shown.{Shown}
 use Rattle.rh_tasks.specs.Polls.{IsAt, Becomes, slot_append}
 use Rattle.rh_tasks.proofs.Lists.{Sits, set_same, cons, all-at, avoids-below}
-use Rattle.rh_tasks.proofs.Places.{mapped-at, mapped-is, task-found}
+use Rattle.rh_tasks.proofs.Places.{mapped-at, mapped-is, task-found, one-at}
 use Rattle.rh_tasks.proofs.Chains.{begins, ends}
 use Rattle.rh_tasks.proofs.Leaves.{slid, changed, unchanged}
 use Rattle.rh_tasks.proofs.Moves.{Moves, Slid, moved-desk, moved-world}
 use Rattle.rh_tasks.proofs.Frames.{Stay, pages-stay, tasks-stay, mades-stay, module-stays, post-stays, queue-stays}
 use Rattle.rh_tasks.proofs.Worlds.{free-is, same-desk}
+use Rattle.rh_tasks.proofs.Posts.{is-post}
 use Rattle.rh_tasks.proofs.Fixed.{KeepsFirst, fixed-at, fixed-desk, fixed-world, changed-areas, pages-of}
 use Rattle.rh_tasks.proofs.AreaCommands.{file-length}
 
@@ -335,3 +340,58 @@ scrap-part m None file fits e = absurd cc
 scrap-part m (Some f) file fits e =
     let same : scrap_from (bytes m 5) f ≡ file = cc in
     part-drop (bytes m 5) 0 f.size (omega (arith, fits)) ∙ ap (λ (x : Scrap). x.bytes) same
+
+-- ---- what is seen of the seat at a place
+
+module _ {m : Memory} {seats : List Seat} {made : List MadeArea} {files : FileList} {kept : Kept} {old : Shown}
+    (w : IsWorld m seats made files kept) (view : shown_of m seats made files kept ≡ old) where
+  pub seen-desk : IsDesk old.desk
+  seen-desk = subst (λ (x : Shown). IsDesk x.desk) view w.desk
+
+  module _ {i : ℕ} {s : Seat} (inside : i < length old.desk.tasks) (is : get_or seats i s ≡ s) where
+    pub seen-sits : Sits seats i s
+    seen-sits = seat-sits m (subst (λ (x : Shown). i < length x.desk.tasks) (sym view) inside) is
+
+    pub seen-at : IsAt i (task_of m s) old.desk
+    seen-at = subst (λ (x : Shown). IsAt i (task_of m s) x.desk) view (seat-at m made files kept seen-sits)
+
+    pub seen-handle : {t : Task} → IsAt i t old.desk → s.handle ≡ t.handle
+    unfolding task_of
+    seen-handle {t} there = ap (λ (x : Task). x.handle) (one-at old.desk i (task_of m s) t seen-at there)
+
+    pub seen-slot : {t : Task} → IsAt i t old.desk → slot_in m s.slot ≡ t.slot
+    unfolding task_of
+    seen-slot {t} there = ap (λ (x : Task). x.slot) (one-at old.desk i (task_of m s) t seen-at there)
+
+  -- the scrap file as the desk has it
+  pub seen-nothing : kept.scrap ≡ None → old.desk.scrap ≡ None
+  unfolding scrap_of
+  seen-nothing e = sym (ap (λ (x : Shown). x.desk.scrap) view) ∙ ap (scrap_of m) e
+
+  pub seen-file : (f : ScrapFile) → kept.scrap ≡ Some f → old.desk.scrap ≡ Some (scrap_from (bytes m 5) f)
+  unfolding scrap_of
+  seen-file f e = sym (ap (λ (x : Shown). x.desk.scrap) view) ∙ ap (scrap_of m) e
+
+  pub seen-size : (f : ScrapFile) → kept.scrap ≡ Some f → f.size ≡ length (scrap_from (bytes m 5) f).bytes
+  seen-size f e = omega (arith, length-take f.size (bytes m 5), subst (λ o. scrap_size o ≤ length (bytes m 5)) e w.scrap)
+
+  pub seen-busy : is_some old.desk.scrap ≡ is_some kept.scrap
+  unfolding scrap_of
+  seen-busy = sym (ap (λ (x : Shown). is_some x.desk.scrap) view) ∙ go kept.scrap
+    where
+      go : (o : Option ScrapFile) → is_some (scrap_of m o) ≡ is_some o
+      go None = refl
+      go (Some f) = refl
+
+  pub seen-free : free_pages old.desk ≡ m.free
+  seen-free = sym (ap (λ (x : Shown). free_pages x.desk) view) ∙ free-is w
+
+  -- the pages that area 5 has too few
+  pub seen-shortage : (n : ℕ) → scrap_shortage n old.desk ≡ pages_for n - length (bytes m 5) / 4096
+  unfolding pages_at
+  seen-shortage n =
+      sym (ap (λ (x : Shown). scrap_shortage n x.desk) view) ∙ ap (λ k. pages_for n - k) (fixed-at m 5 (omega arith) (λ q. absurd (omega (arith, q))))
+
+  -- the pages that a letter takes
+  pub seen-pages : (l : Letter) {r : Granted ℕ} → Answers m the_module kept.queue (post_send_pages l) r → post_send_pages l old.desk.post ≡ r
+  seen-pages l a = ap (post_send_pages l) (sym (ap (λ (x : Shown). x.desk.post) view)) ∙ sym (a _ (is-post w))
