@@ -66,19 +66,19 @@ fail_sending-keeps d t (Some x) is = after-is (with_sending-keeps t.handle _ d i
 -- ---- the sender's side of the scrap file
 
 -- area 5 with more pages
-wider-keeps : (more : ℕ) (d : Desk) → more ≤ free_pages d → IsDesk d → IsDesk (wider more d)
+pub wider-keeps : (more : ℕ) (d : Desk) → more ≤ free_pages d → IsDesk d → IsDesk (wider more d)
 wider-keeps more d room is =
     areas-keep scrap_area (slice_index d.areas scrap_area + more) d (omega (arith, is.areas.six)) (λ e. absurd (omega arith)) (omega (arith, room))
     (omega (arith, is.scrap)) is
 
 -- area 5 has room for the bytes that it was made wider for
-wider-room : (n : ℕ) (d : Desk) → IsDesk d → n ≤ page * slice_index (wider (scrap_shortage n d) d).areas scrap_area
+pub wider-room : (n : ℕ) (d : Desk) → IsDesk d → n ≤ page * slice_index (wider (scrap_shortage n d) d).areas scrap_area
 wider-room n d is =
     let five : scrap_area < length d.areas = omega (arith, is.areas.six) in
     omega (arith, get_or-set_same d.areas scrap_area (slice_index d.areas scrap_area + scrap_shortage n d) 0 five)
 
 -- a scrap file that area 5 has room for
-scrap-keeps : (o : Option Scrap) (d : Desk) → file_length o ≤ page * slice_index d.areas scrap_area → IsDesk d → IsDesk (record d { scrap = o })
+pub scrap-keeps : (o : Option Scrap) (d : Desk) → file_length o ≤ page * slice_index d.areas scrap_area → IsDesk d → IsDesk (record d { scrap = o })
 scrap-keeps o d room is = record {
   pool = is.pool;
   pages = is.pages;
@@ -149,7 +149,7 @@ unfolding take_save
 take_save-keeps d t m task is =
     chosen IsAfter _ _ _ (or_else-keeps IsAfter _ (accept-keeps d t m task is) (λ refusal. after-is is)) (after-is is)
 
-appended-keeps : (d : Desk) (t : Task) (k : ℕ) (bytes : List ℕ) → IsTask d t → IsDesk d → OnGrant IsDesk (appended d t k bytes)
+pub appended-keeps : (d : Desk) (t : Task) (k : ℕ) (bytes : List ℕ) → IsTask d t → IsDesk d → OnGrant IsDesk (appended d t k bytes)
 unfolding appended
 appended-keeps d t k bytes task is =
     granted-then _ _ λ document found.

@@ -26,6 +26,7 @@ pub mod SeatRecords
 pub mod Sends
 pub mod Repeats
 pub mod SentLetters
+pub mod SendRooms
 pub mod Saves
 pub mod Takes
 pub mod Polls
@@ -42,10 +43,11 @@ pub mod AreaCommands
 pub mod ModuleCommands
 pub mod Readers
 pub mod Slides
-pub mod SendRooms
 pub mod Rooms
 pub mod Accepts
 pub mod AcceptRooms
 pub mod Appends
 pub mod Buffers
 pub mod Takings
+pub mod Scraps
+pub mod ScrapTransfers

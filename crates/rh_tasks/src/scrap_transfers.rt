@@ -38,7 +38,11 @@ impl<S: Store> World<S> {
         let letter = load_letter(seat.handle, message, size);
         let more = self.queue.send_pages(&self.store, MODULE, &letter)?;
         let wider = pages_for(size as usize).saturating_sub(self.store.len(SCRAP) / PAGE);
-        if self.store.free_pages() < wider + more {
+        let free = self.store.free_pages();
+        if free < wider {
+            return Err(Refusal::NoRoom);
+        }
+        if free - wider < more {
             return Err(Refusal::NoRoom);
         }
         self.widen_scrap(wider);

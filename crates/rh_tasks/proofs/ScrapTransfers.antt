@@ -1,0 +1,303 @@
+-- Transfers by way of the scrap file, on desks.
+use Rattle.std.proofs.Common.{◌≡◌, ℕ, zero, suc, ◌+◌, ◌-◌, ◌<◌, ◌≤◌, Bool, true, false, refl, ap, sym, subst, ◌∙◌, arith, List, [], ◌∷◌, length}
+use Rattle.std.specs.Prelude.{Option, Some, None, Result, Ok, Err, IsOk, is_some, not, nat_lt, ◌==◌, slice_get, slice_index}
+use Rattle.std.proofs.lemmas.Bool.Decides.{nat_tests}
+use Rattle.std.proofs.lemmas.Option.{slice_get_within}
+use Rattle.rh_defs.specs.declared.message.Letter.{Letter}
+use Rattle.rh_defs.specs.declared.refusal.Refusal.{Refusal}
+use Rattle.rh_defs.specs.declared.refusal.Refusal.TheVariants.{Busy, NoRoom, BadSize}
+use Rattle.rh_defs.specs.declared.reply.Outcome.{Outcome}
+use Rattle.rh_defs.specs.declared.reply.Outcome.TheVariants as outcome
+use Rattle.rh_defs.specs.declared.transfer.Sending.{Sending}
+use Rattle.rh_defs.specs.declared.transfer.Asked.{Asked}
+use Rattle.rh_defs.specs.Chain.{Granted, ◌>>=◌, ◌>>◌, refuse_if, or_else}
+use Rattle.rh_defs.specs.Pieces.{Split, page}
+use Rattle.rh_defs.specs.Slot.{Slot, Flex, slot_block, slot_size, slot_put}
+use Rattle.rh_defs.specs.Module.{module_need_pages}
+use Rattle.rh_defs.specs.Messages.{Parcel, parcel_size}
+use Rattle.rh_defs.specs.Letters.{load_letter, load_ack_letter}
+use Rattle.rh_defs.specs.Post.{Post, message_of, sendable, post_send, post_send_pages}
+use Rattle.rh_defs.specs.Sender as sender
+use Rattle.rh_defs.specs.Receiver as receiver
+use Rattle.rh_defs.specs.Desk.{Desk, Task, Scrap, next_ref, free_pages, with_task, with_slot, with_sending, with_taking, with_post, send_letter}
+use Rattle.rh_defs.specs.Commands.{scrap_area}
+use Rattle.rh_defs.specs.Laws.{IsDesk}
+use Rattle.rh_defs.specs.Order.{IsReordered}
+use Rattle.rh_defs.specs.OutgoingEvents.{Handled, ignored, refused, scrap_shortage, wider, save_scrap, answer_ack}
+use Rattle.rh_defs.specs.IncomingEvents.{appended, loaded, load_file, take_file}
+use Rattle.rh_defs.proofs.Transfers.{wider-keeps, wider-room}
+use Rattle.rh_tasks.specs.Polls.{IsAt, scrapped}
+use Rattle.rh_tasks.proofs.Chains.{begins, ends, past, stops, lt-true, lt-false}
+use Rattle.rh_tasks.proofs.Fixed.{total-set}
+use Rattle.rh_tasks.proofs.Places.{edited-at, edited-is, reordered-at, same-at}
+use Rattle.rh_tasks.proofs.Reorders.{reordered-refl}
+use Rattle.rh_tasks.proofs.SendRooms.{send-fits, send-lacks}
+use Rattle.rh_tasks.proofs.Scraps.{HasSource, source-of}
+
+-- ---- desks that differ in the order of messages alone
+
+pub task-alike : {a b : Desk} (h : ℕ) (edit : Task → Task) → IsReordered a b → IsReordered (with_task h edit a) (with_task h edit b)
+unfolding with_task
+task-alike h edit r = record { same = r.same; rest = ap (with_task h edit) r.rest }
+
+pub scrap-alike : {a b : Desk} (o : Option Scrap) → IsReordered a b → IsReordered (record a { scrap = o }) (record b { scrap = o })
+scrap-alike o r = record { same = r.same; rest = ap (λ (x : Desk). let y : Desk = record x { scrap = o } in y) r.rest }
+
+-- what was done is done
+pub as-after : {after other : Handled} {o : Outcome} {new : Desk} → after ≡ other → ((o ≡ other.1) × IsReordered other.0 new) → ((o ≡ after.1) × IsReordered after.0 new)
+as-after {o = o} {new = new} e h = let P : Handled → Type 0 = λ a. (o ≡ a.1) × IsReordered a.0 new in subst P (sym e) h
+
+pub not-true : (b : Bool) → not b ≡ true → b ≡ false
+not-true true e = absurd cc
+not-true false e = refl
+
+pub not-false : (b : Bool) → not b ≡ false → b ≡ true
+not-false true e = refl
+not-false false e = absurd cc
+
+-- ---- the task after a step
+
+pub at-inside : (d : Desk) (i : ℕ) (t : Task) → IsAt i t d → i < length d.tasks
+at-inside d i t at = slice_get_within d.tasks i t at
+
+pub task-there : (tasks : List Task) (i : ℕ) → i < length tasks → (t : Task) × (slice_get tasks i ≡ Some t)
+task-there [] i inside = absurd (omega (arith, inside))
+task-there (t ∷ tasks) zero inside = (t, refl)
+task-there (t ∷ tasks) (suc i) inside = task-there tasks i (omega (arith, inside))
+
+-- the desk has the task there, with another last letter
+pub record HasSent (i : ℕ) (t : Task) (e : Desk) : Type 0 where
+  pub last : Option (Letter × ℕ)
+  pub at : IsAt i (let u : Task = record t { last_sent = last } in u) e
+
+pub sent-at : (d e : Desk) (i : ℕ) (t : Task) (l : Letter) → IsDesk d → IsAt i t d → l.from ≡ t.handle → send_letter l d ≡ Ok e → HasSent i t e
+unfolding send_letter with_task ◌>>=◌
+sent-at d e i t l is at own given = go (post_send (free_pages d) l d.post) given
+  where
+    edit : ℕ → Task → Task
+    edit ref u = record u { last_sent = Some (l, ref) }
+
+    go : (p : Granted (Post × ℕ)) → (p >>= (λ sent. let r : Granted Desk = Ok (with_task l.from (edit sent.1) (with_post sent.0 d)) in r)) ≡ Ok e → HasSent i t e
+    go (Ok p) h =
+        let same : with_task l.from (edit p.1) (with_post p.0 d) ≡ e = cc in
+        record {
+          last = Some (l, p.1);
+          at = ap (λ (x : Desk). slice_get x.tasks i) (sym same) ∙ edited-at l.from (edit p.1) 0 d.next_handle d.tasks i t is.handles at (sym own);
+        }
+    go (Err r) h = absurd cc
+
+pub sent-inside : (d : Desk) (i : ℕ) (t : Task) (l : Letter) {mid : Desk} → IsDesk d → IsAt i t d → l.from ≡ t.handle → ((e : Desk) × ((send_letter l d ≡ Ok e) × IsReordered e mid)) → i < length mid.tasks
+sent-inside d i t l {mid} is at own sent =
+    let s = sent-at d sent.0 i t l is at own sent.1.0 in
+    let u : Task = record t { last_sent = s.last } in
+    at-inside mid i u (reordered-at sent.0 mid i u sent.1.1 s.at)
+
+-- the desk has the task there, with another slot
+pub record HasSlid (i : ℕ) (t : Task) (e : Desk) : Type 0 where
+  pub slot : Slot
+  pub at : IsAt i (let u : Task = record t { slot = slot } in u) e
+
+pub appended-at : (d e : Desk) (i : ℕ) (t : Task) (k : ℕ) (xs : List ℕ) → IsDesk d → IsAt i t d → appended d t k xs ≡ Ok e → HasSlid i t e
+unfolding appended ◌>>=◌
+appended-at d e i t k xs is at given = go (slot_block k t.slot) _ given
+  where
+    last : (s : Granted Slot) → (s >>= (λ z. let r : Granted Desk = Ok (with_slot t.handle z d) in r)) ≡ Ok e → HasSlid i t e
+    last (Ok z) h =
+        let same : with_slot t.handle z d ≡ e = cc in
+        record { slot = z; at = ap (λ (x : Desk). slice_get x.tasks i) (sym same) ∙ edited-is d i t (λ u. record u { slot = z }) is at }
+    last (Err r) h = absurd cc
+
+    next : (g : Granted Slot) (f : Slot → Granted Slot) → (g >>= (λ longer. f longer >>= (λ z. let r : Granted Desk = Ok (with_slot t.handle z d) in r))) ≡ Ok e → HasSlid i t e
+    next (Ok longer) f h = last (f longer) h
+    next (Err r) f h = absurd cc
+
+    go : (b : Granted (Split Flex)) (g : Split Flex → Granted Slot)
+        → (b >>= (λ c. g c >>= (λ longer. slot_put k (length c.here.bytes) xs longer >>= (λ z. let r : Granted Desk = Ok (with_slot t.handle z d) in r)))) ≡ Ok e → HasSlid i t e
+    go (Ok c) g h = next (g c) (slot_put k (length c.here.bytes) xs) h
+    go (Err r) g h = absurd cc
+
+-- ---- the document is there
+
+module _ (d : Desk) (i : ℕ) (t : Task) (is : IsDesk d) (at : IsAt i t d) (m : Parcel) (q : Asked) (n : ℕ) (letter : Letter) (same : letter ≡ load_ack_letter t.handle m n) where
+  told : {e : Desk} → send_letter letter d ≡ Ok e → loaded d t m q n ≡ (with_taking t.handle (receiver.loaded q n) e, outcome.Loaded n)
+  unfolding loaded ◌>>=◌ or_else
+  told h = let g = ap (λ l. send_letter l d) (sym same) ∙ h in rw g refl
+
+  untold : {r : Refusal} → send_letter letter d ≡ Err r → loaded d t m q n ≡ (with_taking t.handle (receiver.abandoned q n) d, outcome.LoadedFailed n r)
+  unfolding loaded ◌>>=◌ or_else
+  untold h = let g = ap (λ l. send_letter l d) (sym same) ∙ h in rw g refl
+
+  pub loaded-sent : {mid new : Desk} → ((e : Desk) × ((send_letter letter d ≡ Ok e) × IsReordered e mid))
+      → ((u : Task) → IsAt i u mid → new ≡ with_taking u.handle (receiver.loaded q n) mid)
+      → (outcome.Loaded n ≡ (loaded d t m q n).1) × IsReordered (loaded d t m q n).0 new
+  loaded-sent {mid} {new} sent edited =
+      let e : Desk = sent.0 in
+      let s = sent-at d e i t letter is at (ap (λ (l : Letter). l.from) same) sent.1.0 in
+      let u : Task = record t { last_sent = s.last } in
+      let now : new ≡ with_taking t.handle (receiver.loaded q n) mid = edited u (reordered-at e mid i u sent.1.1 s.at) in
+      as-after (told sent.1.0) (refl, subst (IsReordered (with_taking t.handle (receiver.loaded q n) e)) (sym now) (task-alike t.handle _ sent.1.1))
+
+  pub loaded-failed : {r : Refusal} {mid new : Desk} → send_letter letter d ≡ Err r → mid ≡ d
+      → ((u : Task) → IsAt i u mid → new ≡ with_taking u.handle (receiver.abandoned q n) mid)
+      → (outcome.LoadedFailed n r ≡ (loaded d t m q n).1) × IsReordered (loaded d t m q n).0 new
+  loaded-failed {r} {mid} {new} h stays edited =
+      let now : new ≡ with_taking t.handle (receiver.abandoned q n) mid = edited t (same-at d mid i t (ap (λ (x : Desk). x.tasks) stays) at) in
+      as-after (untold h) (refl, subst (IsReordered (with_taking t.handle (receiver.abandoned q n) d)) (ap (with_taking t.handle (receiver.abandoned q n)) (sym stays) ∙ sym now) (reordered-refl _))
+
+-- ---- the file becomes the document
+
+pub take-none : (d : Desk) (t : Task) (m : Parcel) → take_file d t m None ≡ ignored d
+unfolding take_file
+take-none d t m = refl
+
+-- what is told of a document doesn't look at its task's slot
+loaded-slid : (d : Desk) (t : Task) (slot : Slot) (m : Parcel) (q : Asked) (n : ℕ) → loaded d (record t { slot = slot }) m q n ≡ loaded d t m q n
+unfolding loaded
+loaded-slid d t slot m q n = refl
+
+module _ (d : Desk) (t : Task) (m : Parcel) (q : Asked) where
+  pub take-nothing : d.scrap ≡ None → take_file d t m (Some q) ≡ ignored d
+  unfolding take_file load_file
+  take-nothing none = rw none refl
+
+  module _ (file : Scrap) (has : d.scrap ≡ Some file) where
+    taken-is : take_file d t m (Some q) ≡ load_file d t m q (Some file)
+    unfolding take_file
+    taken-is = ap (load_file d t m q) has
+
+    pub take-other : (file.load == m.message.my_ref) ≡ false → take_file d t m (Some q) ≡ ignored d
+    unfolding load_file
+    take-other other = taken-is ∙ (rw other refl)
+
+    module _ (own : (file.load == m.message.my_ref) ≡ true) where
+      pub take-refused : {r : Refusal} → appended d t q.anchor file.bytes ≡ Err r → take_file d t m (Some q) ≡ (with_taking t.handle (receiver.abandoned q 0) d, outcome.Refused r)
+      unfolding load_file ◌>>=◌ or_else
+      take-refused h = taken-is ∙ (rw (own, h) refl)
+
+      pub take-done : {e : Desk} → appended d t q.anchor file.bytes ≡ Ok e → take_file d t m (Some q) ≡ loaded (record e { scrap = None }) t m q (length file.bytes)
+      unfolding load_file ◌>>=◌ or_else
+      take-done h = taken-is ∙ (rw (own, h) refl)
+
+      pub take-loaded : {e mid new : Desk} {o : Outcome} (i size : ℕ) → IsDesk d → IsAt i t d → appended d t q.anchor file.bytes ≡ Ok e → mid ≡ (let x : Desk = record e { scrap = None } in x) → size ≡ length file.bytes
+          → ((u : Task) → IsAt i u mid → (o ≡ (loaded mid u m q size).1) × IsReordered (loaded mid u m q size).0 new)
+          → (o ≡ (take_file d t m (Some q)).1) × IsReordered (take_file d t m (Some q)).0 new
+      take-loaded {e} {mid} {new} {o} i size is at h dropped long told =
+          let s = appended-at d e i t q.anchor file.bytes is at h in
+          let u : Task = record t { slot = s.slot } in
+          let last : Desk = record e { scrap = None } in
+          as-after (take-done h ∙ ap (loaded last t m q) (sym long) ∙ sym (loaded-slid last t s.slot m q size) ∙ ap (λ x. loaded x u m q size) (sym dropped))
+          (told u (same-at e mid i u (ap (λ (x : Desk). x.tasks) dropped) s.at))
+
+      pub take-failed : {r : Refusal} {mid new : Desk} (i : ℕ) → IsAt i t d → appended d t q.anchor file.bytes ≡ Err r → mid ≡ d
+          → ((u : Task) → IsAt i u mid → new ≡ with_taking u.handle (receiver.abandoned q 0) mid)
+          → (outcome.Refused r ≡ (take_file d t m (Some q)).1) × IsReordered (take_file d t m (Some q)).0 new
+      take-failed {r} {mid} {new} i at h stays edited =
+          let now : new ≡ with_taking t.handle (receiver.abandoned q 0) mid = edited t (same-at d mid i t (ap (λ (x : Desk). x.tasks) stays) at) in
+          as-after (take-refused h) (refl, subst (IsReordered (with_taking t.handle (receiver.abandoned q 0) d)) (ap (with_taking t.handle (receiver.abandoned q 0)) (sym stays) ∙ sym now) (reordered-refl _))
+
+-- ---- a block becomes the scrap file
+
+nonzero : (n : ℕ) → ((8 + (16 + n)) == 0) ≡ false
+nonzero n = grind (arith, nat_tests)
+
+module _ (l : Letter) (post : Post) where
+  pub unsendable : {r : Refusal} → post_send_pages l post ≡ Err r → sendable l post ≡ Err r
+  unfolding post_send_pages module_need_pages ◌>>=◌ ◌>>◌ refuse_if
+  unsendable {r} h = go (sendable l post) (parcel_size (message_of l 0) == 0) _ (nonzero _) h
+    where
+      go : (s : Granted (Unit {0})) (none : Bool) (n : ℕ) → none ≡ false → (s >> (refuse_if none BadSize >>= (λ _. let x : Granted ℕ = Ok n in x))) ≡ Err r → s ≡ Err r
+      go (Err q) none n z e = let same : q ≡ r = cc in ap (λ x. Err x) same
+      go (Ok u) true n z e = absurd cc
+      go (Ok u) false n z e = absurd cc
+
+  pub can-send : {p : ℕ} → post_send_pages l post ≡ Ok p → sendable l post ≡ Ok tt
+  unfolding post_send_pages ◌>>=◌ ◌>>◌
+  can-send {p} h = go (sendable l post) (module_need_pages (parcel_size (message_of l 0)) post.heap) h
+    where
+      go : (s : Granted (Unit {0})) (x : Granted ℕ) → (s >> x) ≡ Ok p → s ≡ Ok tt
+      go (Ok u) x e = refl
+      go (Err r) x e = absurd cc
+
+then-past : {B : Type 0} {first : Granted (Unit {0})} (rest : Granted B) {y : Granted B} → first ≡ Ok tt → rest ≡ y → (first >> rest) ≡ y
+unfolding ◌>>=◌ ◌>>◌
+then-past rest e h = rw e h
+
+then-ends : {B : Type 0} {first : Granted (Unit {0})} {r : Refusal} (rest : Granted B) → first ≡ Err r → (first >> rest) ≡ Err r
+unfolding ◌>>=◌ ◌>>◌
+then-ends rest e = rw e refl
+
+-- fewer pages are free of the longer area's desk
+pub free-wider : (more : ℕ) (d : Desk) → IsDesk d → free_pages (wider more d) ≡ free_pages d - more
+free-wider more d is =
+    omega (arith, is.pages, total-set d.areas scrap_area (slice_index d.areas scrap_area + more) (omega (arith, is.areas.six)))
+
+pub size-missing : (k : ℕ) (s : Slot) {r : Refusal} → slot_size k s ≡ Err r → slot_block k s ≡ Err r
+unfolding slot_size ◌>>=◌
+size-missing k s {r} e = go (slot_block k s) e
+  where
+    go : (b : Granted (Split Flex)) → (b >>= (λ c. let x : Granted ℕ = Ok (length c.here.bytes) in x)) ≡ Err r → b ≡ Err r
+    go (Ok c) h = absurd cc
+    go (Err q) h = let same : q ≡ r = cc in ap (λ x. Err x) same
+
+module _ (d : Desk) (t : Task) (m : Parcel) (x : Sending) where
+  pub save-missing : {r : Refusal} → slot_size x.anchor t.slot ≡ Err r → scrapped d t m x ≡ Err r
+  save-missing e = ends _ (size-missing x.anchor t.slot e)
+
+  module _ (n : ℕ) (given : slot_size x.anchor t.slot ≡ Ok n) where
+    pub source : HasSource x.anchor n t.slot
+    source = source-of x.anchor n t.slot given
+
+    abbrev pub letter : Letter
+    letter = load_letter t.handle m n
+
+    abbrev pub more : ℕ
+    more = scrap_shortage n d
+
+    abbrev pub the_file : Scrap
+    the_file = record { load = next_ref d; bytes = source.cut.here.bytes }
+
+    -- the desk once the letter was sent
+    abbrev pub saved_desk : Desk → Desk
+    saved_desk e = with_sending t.handle (sender.saved x (next_ref d)) (record e { scrap = Some the_file })
+
+    -- the definition's steps, by the size
+    abbrev steps : ℕ → Granted Handled
+    steps k =
+        refuse_if (is_some d.scrap) Busy >> (sendable (load_letter t.handle m k) d.post >> (refuse_if (nat_lt (free_pages d) (scrap_shortage k d)) NoRoom
+        >> (send_letter (load_letter t.handle m k) (wider (scrap_shortage k d) d) >>= (λ sent. Ok (saved_desk sent, outcome.Saved k (next_ref d))))))
+
+    steps-are : scrapped d t m x ≡ steps n
+    unfolding save_scrap
+    steps-are = begins _ source.is (ap steps source.long)
+
+    pub save-busy : is_some d.scrap ≡ true → scrapped d t m x ≡ Err Busy
+    save-busy busy = steps-are ∙ stops _ _ _ busy
+
+    module _ (idle : is_some d.scrap ≡ false) where
+      pub save-unsendable : {r : Refusal} → post_send_pages letter d.post ≡ Err r → scrapped d t m x ≡ Err r
+      save-unsendable e = steps-are ∙ past _ _ _ idle (then-ends _ (unsendable letter d.post e))
+
+      module _ (p : ℕ) (needs : post_send_pages letter d.post ≡ Ok p) where
+        pub save-full : free_pages d < more → scrapped d t m x ≡ Err NoRoom
+        save-full short = steps-are ∙ past _ _ _ idle (then-past _ (can-send letter d.post needs) (stops _ _ _ (lt-true _ _ short)))
+
+        module _ (is : IsDesk d) (room : more ≤ free_pages d) where
+          sends-from : {r : Granted (Post × ℕ)} → post_send (free_pages d - more) letter d.post ≡ r → post_send (free_pages (wider more d)) letter d.post ≡ r
+          sends-from e = ap (λ free. post_send free letter d.post) (free-wider more d is) ∙ e
+
+          pub save-short : free_pages d - more < p → scrapped d t m x ≡ Err NoRoom
+          unfolding send_letter
+          save-short short =
+              steps-are ∙ past _ _ _ idle (then-past _ (can-send letter d.post needs) (past _ _ _ (lt-false _ _ room)
+              (ends _ (ends _ (sends-from (send-lacks (free_pages d - more) letter d.post needs short))))))
+
+          pub save-sends : p ≤ free_pages d - more → IsOk (send_letter letter (wider more d))
+          unfolding send_letter
+          save-sends fits =
+              let e = sends-from (send-fits (free_pages d - more) letter d.post needs fits) in
+              let P : Granted Desk → Type 0 = λ r. IsOk r in
+              subst P (sym (begins _ e refl)) refl
+
+          pub save-done : {e : Desk} → send_letter letter (wider more d) ≡ Ok e → scrapped d t m x ≡ Ok (saved_desk e, outcome.Saved n (next_ref d))
+          save-done e =
+              steps-are ∙ past _ _ _ idle (then-past _ (can-send letter d.post needs) (past _ _ _ (lt-false _ _ room) (begins _ e refl)))

@@ -1,0 +1,397 @@
+-- Worlds in which area 5 or the scrap file changes.
+use Rattle.std.proofs.Common.{◌≡◌, ℕ, ◌+◌, ◌-◌, ◌*◌, ◌/◌, ◌%◌, ◌<◌, ◌≤◌, refl, ap, sym, subst, ◌∙◌, arith, List, [], ◌∷◌, length, take, drop}
+use Rattle.std.specs.Prelude.{map, Option, Result, Some, None, IfSome, Ok, Err, IsOk, is_some, ◌==◌, replicate, slice_index, slice_set}
+use Rattle.std.proofs.Math.ListN.{get_or, set}
+use Rattle.std.proofs.lemmas.List.{length-map, length-take, take-append-le, take_all}
+use borrow.Author.Tests.{eqb-true}
+use Rattle.rh_defs.specs.Bytes.{part, put}
+use Rattle.rh_defs.proofs.BytesLaws.{length-put, length-part, part-put, part-drop}
+use Rattle.rh_defs.specs.Memory.{Memory, OnlyArea, bytes, with_bytes, grown}
+use Rattle.rh_defs.proofs.MemoryLaws.{bytes-with_bytes, bytes-grown, length-grown, OnlyArea-self, OnlyArea-with_bytes, OnlyArea-grown}
+use Rattle.rh_defs.specs.Files.{FileList}
+use Rattle.rh_defs.specs.declared.refusal.Refusal.{Refusal}
+use Rattle.rh_defs.specs.declared.refusal.Refusal.TheVariants.{NoBlock}
+use Rattle.rh_defs.specs.Chain.{Granted, ◌>>=◌, found_or, no_answer}
+use Rattle.rh_defs.specs.Pieces.{Split, pages_for}
+use Rattle.rh_defs.specs.declared.message.Letter.{Letter}
+use Rattle.rh_defs.specs.Post.{post_send_pages}
+use Rattle.rh_defs.specs.Slot as plain
+use Rattle.rh_defs.specs.Slot.{Flex, HaveAnchors, weight, flex_start, flex_address, slot_start, block_of, slot_block, slot_size, slot_address}
+use Rattle.rh_defs.specs.SlotImage.{flex_place}
+use Rattle.rh_defs.proofs.Cuts.{IsCut, first_at-cuts}
+use Rattle.rh_defs.proofs.SlotLaws.{HaveAnchors-cut}
+use Rattle.rh_defs.specs.Desk.{Desk, Task, Scrap, used_pages, free_pages, with_slot}
+use Rattle.rh_defs.specs.Laws.{IsDesk}
+use Rattle.rh_defs.specs.OutgoingEvents.{wider, scrap_shortage}
+use Rattle.rh_defs.specs.IncomingEvents.{appended}
+use Rattle.rh_defs.proofs.Chains.{grant-holds}
+use Rattle.rh_defs.proofs.Lists.{find-all}
+use Rattle.rh_defs.proofs.Desks.{IsTask, HasSlot as HasPlainSlot}
+use Rattle.rh_defs.proofs.Transfers.{wider-keeps, scrap-keeps, appended-keeps}
+use Rattle.rh_slot.specs.declared.slot.Slot.{Slot}
+use Rattle.rh_slot.specs.Area.{IsSlot, slot_in}
+use Rattle.rh_slot.specs.Calls.{Leaves}
+use Rattle.rh_wimp.specs.Calls.{Answers}
+use Rattle.rh_slot.proofs.Ranges.{Standing, flex-part}
+use Rattle.rh_tasks.specs.declared.seat.Seat.{Seat}
+use Rattle.rh_tasks.specs.declared.made.MadeArea.{MadeArea}
+use Rattle.rh_tasks.specs.declared.scrap.ScrapFile.{ScrapFile}
+use Rattle.rh_tasks.specs.View.{Kept, the_module, HasSlot, pages_at, fixed_pages, scrap_from, scrap_size, scrap_of, slot_area, made_area, task_of, desk_of, shown_of, IsWorld}
+use Rattle.rh_tasks.specs.Shown.{Shown}
+use Rattle.rh_tasks.specs.Polls.{IsAt, Becomes, slot_append}
+use Rattle.rh_tasks.proofs.Lists.{Sits, set_same, cons, all-at, avoids-below}
+use Rattle.rh_tasks.proofs.Places.{mapped-at, mapped-is, task-found, one-at}
+use Rattle.rh_tasks.proofs.Chains.{begins, ends}
+use Rattle.rh_tasks.proofs.Leaves.{slid, changed, unchanged}
+use Rattle.rh_tasks.proofs.Moves.{Moves, Slid, moved-desk, moved-world}
+use Rattle.rh_tasks.proofs.Frames.{Stay, pages-stay, tasks-stay, mades-stay, module-stays, post-stays, queue-stays}
+use Rattle.rh_tasks.proofs.Worlds.{free-is, same-desk}
+use Rattle.rh_tasks.proofs.Posts.{is-post}
+use Rattle.rh_tasks.proofs.Fixed.{KeepsFirst, fixed-at, fixed-desk, fixed-world, changed-areas, pages-of}
+use Rattle.rh_tasks.proofs.AreaCommands.{file-length}
+
+-- ---- the seat at a place
+
+pub seat-sits : (m : Memory) {seats : List Seat} {i : ℕ} {s : Seat} → i < length (map (task_of m) seats) → get_or seats i s ≡ s → Sits seats i s
+seat-sits m {seats} inside is = record { inside = omega (arith, inside, length-map seats (task_of m)); is = is }
+
+module _ (m : Memory) {seats : List Seat} {i : ℕ} {s : Seat} (made : List MadeArea) (files : FileList) (kept : Kept) (at : Sits seats i s) where
+  pub seat-at : IsAt i (task_of m s) (desk_of m seats made files kept)
+  seat-at = mapped-at (task_of m) seats i s at
+
+  -- what holds of the slot of each task there holds of the seat's
+  pub slot-there : (P : plain.Slot → Type 0) → ((t : Task) → IsAt i t (desk_of m seats made files kept) → P t.slot) → P (slot_in m s.slot)
+  unfolding task_of
+  slot-there P h = h (task_of m s) seat-at
+
+  pub slot-at : {t : Task} → IsAt i t (desk_of m seats made files kept) → t.slot ≡ slot_in m s.slot
+  unfolding task_of
+  slot-at {t} there = ap (λ (x : Task). x.slot) (sym (mapped-is (task_of m) seats i s t at there))
+
+-- ---- area 5 gets longer
+
+module _ {m : Memory} {seats : List Seat} {made : List MadeArea} {files : FileList} {kept : Kept}
+    (w : IsWorld m seats made files kept) (more : ℕ) (room : more ≤ m.free) (whole : length (bytes m 5) % 4096 ≡ 0) where
+  abbrev longer : Memory
+  longer = grown m 5 more
+
+  first-kept : KeepsFirst m longer 5
+  first-kept = record {
+    first = λ k inside _. ap (take k) (bytes-grown m 5 more) ∙ take-append-le k (bytes m 5) (replicate (4096 * more) 0) inside;
+  }
+
+  still-fits : scrap_size kept.scrap ≤ length (bytes longer 5)
+  still-fits = omega (arith, w.scrap, length-grown m 5 more)
+
+  still-whole : length (bytes longer 5) % 4096 ≡ 0
+  still-whole = omega (arith, whole, length-grown m 5 more)
+
+  pages-more : pages_at longer 5 ≡ pages_at m 5 + more
+  unfolding pages_at
+  pages-more = omega (arith, whole, length-grown m 5 more)
+
+  pub wider-desk : desk_of longer seats made files kept ≡ wider more (desk_of m seats made files kept)
+  wider-desk =
+      fixed-desk w (omega arith) (OnlyArea-grown m 5 more room) (λ q. absurd (omega (arith, q))) first-kept still-fits whole still-whole
+      ∙ ap (λ v. let e : Desk = record (desk_of m seats made files kept) { areas = slice_set (fixed_pages m) 5 v } in e)
+      (pages-more ∙ ap (λ p. p + more) (sym (fixed-at m 5 (omega arith) (λ q. absurd (omega (arith, q))))))
+
+  pub wider-world : IsWorld longer seats made files kept
+  wider-world =
+      fixed-world w (omega arith) (OnlyArea-grown m 5 more room) (λ q. absurd (omega (arith, q))) first-kept still-fits whole still-whole
+      (subst IsDesk (sym wider-desk) (wider-keeps more (desk_of m seats made files kept) (omega (arith, room, free-is w)) w.desk))
+
+-- ---- another scrap file, and other bytes in area 5
+
+module _ {m n : Memory} {seats : List Seat} {made : List MadeArea} {files : FileList} {kept : Kept}
+    (w : IsWorld m seats made files kept) (only : OnlyArea m n 5) (long : length (bytes n 5) ≡ length (bytes m 5))
+    (scrap : Option ScrapFile) where
+  abbrev d : Desk
+  d = desk_of m seats made files kept
+
+  abbrev pub rewritten : Kept
+  rewritten = record kept { scrap = scrap }
+
+  stay : Stay m n 5
+  stay = record { others = only.others }
+
+  pages-same : fixed_pages n ≡ fixed_pages m
+  unfolding fixed_pages pages_at
+  pages-same =
+      cons (pages-stay 0 stay (λ q. absurd (omega arith))) (cons refl (cons (pages-stay 2 stay (λ q. absurd (omega arith)))
+      (cons (pages-stay 3 stay (λ q. absurd (omega arith))) (cons (pages-stay 4 stay (λ q. absurd (omega arith))) (cons (omega (arith, long)) refl)))))
+
+  pub rewritten-desk : desk_of n seats made files rewritten ≡ (let e : Desk = record d { scrap = scrap_of n scrap } in e)
+  rewritten-desk = same-desk d
+      (tasks-stay seats stay (avoids-below slot_area 6 5 seats (omega arith) w.areas.slots_above)) (post-stays kept.queue stay (λ q. absurd (omega arith))) pages-same
+      (mades-stay made stay (avoids-below made_area 6 5 made (omega arith) w.areas.made_above)) only.pages refl
+
+  module _ (fits : scrap_size scrap ≤ length (bytes m 5)) (whole : length (bytes m 5) % 4096 ≡ 0) where
+    fits-there : scrap_size scrap ≤ length (bytes n 5)
+    fits-there = omega (arith, fits, long)
+
+    is-desk : IsDesk (desk_of n seats made files rewritten)
+    is-desk = subst IsDesk (sym rewritten-desk) (scrap-keeps (scrap_of n scrap) d
+        (omega (arith, file-length n scrap fits-there, fits, fixed-at m 5 (omega arith) (λ q. absurd (omega (arith, q))), pages-of m 5 whole)) w.desk)
+
+    pub rewritten-world : IsWorld n seats made files rewritten
+    rewritten-world = record {
+      desk = is-desk;
+      areas = changed-areas w.areas (omega arith) only (module-stays stay (λ q. absurd (omega arith)) w.areas.module_area);
+      queue = queue-stays stay (λ q. absurd (omega arith)) w.queue;
+      scrap = fits-there;
+      ledger = omega (arith, w.ledger, only.ledger, only.pages, ap used_pages rewritten-desk, long);
+    }
+
+-- the scrap file is given up
+module _ {m : Memory} {seats : List Seat} {made : List MadeArea} {files : FileList} {kept : Kept} (w : IsWorld m seats made files kept) where
+  same-area : OnlyArea m m 5
+  same-area = OnlyArea-self m 5 w.areas.fixed_open.1.1.1.1.1.0
+
+  pub dropped-desk : desk_of m seats made files (record kept { scrap = None }) ≡ (let e : Desk = record (desk_of m seats made files kept) { scrap = None } in e)
+  unfolding scrap_of
+  dropped-desk = rewritten-desk w same-area refl None
+
+  pub dropped-world : length (bytes m 5) % 4096 ≡ 0 → IsWorld m seats made files (record kept { scrap = None })
+  dropped-world whole = rewritten-world w same-area refl None (omega arith) whole
+
+-- ---- a block becomes the scrap file
+
+-- the anchor's block has so many bytes
+pub record HasSource (k size : ℕ) (s : plain.Slot) : Type 0 where
+  pub cut : Split Flex
+  pub is : slot_block k s ≡ Ok cut
+  pub long : length cut.here.bytes ≡ size
+
+pub source-of : (k size : ℕ) (s : plain.Slot) → slot_size k s ≡ Ok size → HasSource k size s
+unfolding slot_size ◌>>=◌
+source-of k size s e = go (slot_block k s) refl e
+  where
+    go : (b : Granted (Split Flex)) → slot_block k s ≡ b → (b >>= (λ c. Ok (length c.here.bytes))) ≡ Ok size → HasSource k size s
+    go (Ok c) q h = record { cut = c; is = q; long = cc }
+    go (Err r) q h = absurd cc
+
+-- an anchor that has a block is one of the 64
+pub anchor-small : (k : ℕ) (s : plain.Slot) (b : Split Flex) → slot_block k s ≡ Ok b → HaveAnchors s.blocks → k < 64
+unfolding slot_block found_or
+anchor-small k s b e all = go (block_of k s) e (first_at-cuts weight (λ _ c. c.anchor == k) (flex_start s) s.blocks)
+  where
+    go : (o : Option (Split Flex)) → found_or o NoBlock ≡ Ok b → IfSome o (IsCut weight (λ _ c. c.anchor == k) (flex_start s) s.blocks) → k < 64
+    go None q cut = absurd cc
+    go (Some x) q cut =
+        let small = (HaveAnchors-cut x.before x.here x.after (subst HaveAnchors (sym cut.whole) all)).small in
+        omega (arith, small, eqb-true x.here.anchor k cut.passes)
+
+module _ {m : Memory} {seats : List Seat} {made : List MadeArea} {files : FileList} {kept : Kept} {i : ℕ} {s : Seat}
+    (w : IsWorld m seats made files kept) (at : Sits seats i s) (k size load : ℕ) (given : slot_size k (slot_in m s.slot) ≡ Ok size) where
+  abbrev pub z : plain.Slot
+  z = slot_in m s.slot
+
+  has : IsSlot m s.slot
+  has = all-at (HasSlot m) seats i s w.areas.slots at
+
+  pub source : HasSource k size z
+  source = source-of k size z given
+
+  pub source-anchor : k < 64
+  source-anchor = anchor-small k z source.cut source.is has.spells.words.anchors
+
+  pub source-address : slot_address k z ≡ Ok (flex_address z source.cut.before)
+  unfolding slot_address
+  source-address = begins _ source.is refl
+
+  pub source-given : {r : Granted ℕ} → r ≡ slot_address k z → IsOk r
+  source-given e = let q = e ∙ source-address in rw q refl
+
+  module _ {address : ℕ} (there : Ok address ≡ slot_address k z) where
+    place-is : address ≡ flex_address z source.cut.before
+    place-is = let e = there ∙ source-address in cc
+
+    pub source-high : 32768 ≤ address
+    source-high = omega (arith, place-is)
+
+    stands : Standing (bytes m s.slot.area.0) (take size (drop 0 source.cut.here.bytes)) (flex_address z source.cut.before + 0 - slot_start) size (flex_place z) (length (bytes m s.slot.area.0))
+    stands = flex-part m s.slot k 0 size source.cut has source.is (omega (arith, source.long))
+
+    pub source-inside : address - 32768 + size ≤ length (bytes m s.slot.area.0)
+    source-inside = omega (arith, stands.high, place-is)
+
+    abbrev pub source_bytes : List ℕ
+    source_bytes = part (bytes m s.slot.area.0) (address - 32768) size
+
+    bytes-are : source_bytes ≡ source.cut.here.bytes
+    bytes-are =
+        ap (λ p. part (bytes m s.slot.area.0) p size) (omega (arith, place-is)) ∙ sym stands.is
+        ∙ take_all size source.cut.here.bytes (omega (arith, source.long))
+
+    module _ (room : size ≤ length (bytes m 5)) (whole : length (bytes m 5) % 4096 ≡ 0) where
+      abbrev pub filled : Memory
+      filled = with_bytes m 5 (put (bytes m 5) 0 source_bytes)
+
+      abbrev pub file : Option ScrapFile
+      file = Some (record { load = load; size = size })
+
+      bytes-then : bytes filled 5 ≡ put (bytes m 5) 0 source_bytes
+      bytes-then = bytes-with_bytes m 5 (put (bytes m 5) 0 source_bytes)
+
+      length-same : length (put (bytes m 5) 0 source_bytes) ≡ length (bytes m 5)
+      length-same = length-put (bytes m 5) 0 source_bytes
+
+      only : OnlyArea m filled 5
+      only = OnlyArea-with_bytes m 5 (put (bytes m 5) 0 source_bytes) length-same
+
+      first-are : take size (bytes filled 5) ≡ source.cut.here.bytes
+      first-are =
+          ap (take size) bytes-then
+          ∙ sym (part-drop (put (bytes m 5) 0 source_bytes) 0 size (omega (arith, room, length-same)))
+          ∙ part-put (bytes m 5) 0 source_bytes size (sym (length-part (bytes m s.slot.area.0) (address - 32768) size)) (omega (arith, room))
+          ∙ bytes-are
+
+      pub filled-world : IsWorld filled seats made files (record kept { scrap = file })
+      filled-world = rewritten-world w only (ap (λ b. length b) bytes-then ∙ length-same) file room whole
+
+      pub filled-desk : (b : Split Flex) → slot_block k z ≡ Ok b
+          → desk_of filled seats made files (record kept { scrap = file }) ≡ (let e : Desk = record (desk_of m seats made files kept) { scrap = Some (record { load = load; bytes = b.here.bytes }) } in e)
+      unfolding scrap_of
+      filled-desk b is =
+          let same : source.cut ≡ b = (let q = sym source.is ∙ is in cc) in
+          rewritten-desk w only (ap (λ b. length b) bytes-then ∙ length-same) file
+          ∙ ap (λ (b : List ℕ). let e : Desk = record (desk_of m seats made files kept) { scrap = Some (record { load = load; bytes = b }) } in e) (first-are ∙ ap (λ (b : Split Flex). b.here.bytes) same)
+
+-- ---- bytes at the end of a document
+
+-- two steps and a third one
+bind-twice : {B C D : Type 0} (b : Granted B) (c : B → Granted C) (f : C → Granted D) → ((b >>= c) >>= f) ≡ (b >>= (λ y. c y >>= f))
+unfolding ◌>>=◌
+bind-twice (Ok y) c f = refl
+bind-twice (Err r) c f = refl
+
+bind-thrice : {A B C D : Type 0} (a : Granted A) (b : A → Granted B) (c : A → B → Granted C) (f : C → Granted D)
+    → ((a >>= (λ x. b x >>= c x)) >>= f) ≡ (a >>= (λ x. b x >>= (λ y. c x y >>= f)))
+unfolding ◌>>=◌
+bind-thrice (Ok x) b c f = bind-twice (b x) (c x) f
+bind-thrice (Err r) b c f = refl
+
+appended-is : (d : Desk) (t : Task) (k : ℕ) (xs : List ℕ) → appended d t k xs ≡ (slot_append (free_pages d) k xs t.slot >>= (λ s. Ok (with_slot t.handle s d)))
+unfolding appended slot_append
+appended-is d t k xs = sym (bind-thrice (slot_block k t.slot) _ _ _)
+
+-- the desk's task of its handle
+pub task-is : {d : Desk} (i : ℕ) {t : Task} → IsDesk d → IsAt i t d → IsTask d t
+task-is {d} i {t} is at = record {
+  found = task-found d i t is at;
+  slot = subst (λ o. IfSome o HasPlainSlot) (task-found d i t is at) (find-all HasPlainSlot (λ u. u.handle == t.handle) d.tasks is.slots);
+}
+
+module _ {m : Memory} {seats : List Seat} {made : List MadeArea} {files : FileList} {kept : Kept} {i : ℕ} {s : Seat}
+    (w : IsWorld m seats made files kept) (at : Sits seats i s) (k : ℕ) (xs : List ℕ) where
+  abbrev old : Desk
+  old = desk_of m seats made files kept
+
+  abbrev pub append_given : Granted plain.Slot
+  append_given = slot_append m.free k xs (slot_in m s.slot)
+
+  append-is : appended old (task_of m s) k xs ≡ (append_given >>= (λ z. Ok (with_slot s.handle z old)))
+  unfolding task_of
+  append-is =
+      appended-is old (task_of m s) k xs
+      ∙ ap (λ free. slot_append free k xs (slot_in m s.slot) >>= (λ z. Ok (with_slot s.handle z old))) (free-is w)
+
+  same : set seats i s ≡ seats
+  same = set_same seats i s at
+
+  module _ {n : Memory} where
+    moves : Slid m n s.slot → Moves m n s s (λ t. record t { slot = slot_in n s.slot })
+    unfolding task_of
+    moves l = record { handle = refl; area = refl; still = l.still; only = l.only; task = refl }
+
+    slid-desk : Slid m n s.slot → desk_of n seats made files kept ≡ with_slot s.handle (slot_in n s.slot) old
+    slid-desk l = ap (λ (x : List Seat). desk_of n x made files kept) (sym same) ∙ moved-desk w at (moves l)
+
+    append-done : Leaves m n s.slot (no_answer append_given) (Ok tt) → appended old (task_of m s) k xs ≡ Ok (desk_of n seats made files kept)
+    append-done l = append-is ∙ begins _ (changed l) (ap (λ (d : Desk). let r : Granted Desk = Ok d in r) (sym (slid-desk (slid l))))
+
+    append-refused : {r : Refusal} → Leaves m n s.slot (no_answer append_given) (Err r) → appended old (task_of m s) k xs ≡ Err r
+    append-refused l = append-is ∙ ends _ (unchanged l)
+
+    pub append-world : (r : Result (Unit {0}) Refusal) → Leaves m n s.slot (no_answer append_given) r → IsWorld n seats made files kept
+    append-world (Ok u) l =
+        let is : IsDesk (desk_of n seats made files kept) =
+        grant-holds (appended-keeps old (task_of m s) k xs (task-is i w.desk (seat-at m made files kept at)) w.desk) (append-done l) in
+        let P : List Seat → Type 0 = λ x. IsDesk (desk_of n x made files kept) → IsWorld n x made files kept in
+        subst P same (λ e. moved-world w at (moves (slid l)) e) is
+    append-world (Err r) l = subst (λ (x : Memory). IsWorld x seats made files kept) (sym l.err) w
+
+    becomes : (r : Result (Unit {0}) Refusal) → Leaves m n s.slot (no_answer append_given) r
+        → Becomes (appended old (task_of m s) k xs) (shown_of m seats made files kept) (shown_of n seats made files kept) r
+    becomes (Ok u) l = append-done l
+    becomes (Err r) l = (append-refused l, ap (λ (x : Memory). shown_of x seats made files kept) l.err)
+
+    pub append-becomes : {t : Task} → IsAt i t old → (r : Result (Unit {0}) Refusal) → Leaves m n s.slot (no_answer append_given) r
+        → Becomes (appended old t k xs) (shown_of m seats made files kept) (shown_of n seats made files kept) r
+    append-becomes {t} there r l =
+        subst (λ (x : Task). Becomes (appended old x k xs) (shown_of m seats made files kept) (shown_of n seats made files kept) r)
+        (mapped-is (task_of m) seats i s t at there) (becomes r l)
+
+-- the scrap file's bytes are the first of area 5
+pub scrap-part : (m : Memory) (scrap : Option ScrapFile) (file : Scrap) → scrap_size scrap ≤ length (bytes m 5) → scrap_of m scrap ≡ Some file → part (bytes m 5) 0 (scrap_size scrap) ≡ file.bytes
+unfolding scrap_of
+scrap-part m None file fits e = absurd cc
+scrap-part m (Some f) file fits e =
+    let same : scrap_from (bytes m 5) f ≡ file = cc in
+    part-drop (bytes m 5) 0 f.size (omega (arith, fits)) ∙ ap (λ (x : Scrap). x.bytes) same
+
+-- ---- what is seen of the seat at a place
+
+module _ {m : Memory} {seats : List Seat} {made : List MadeArea} {files : FileList} {kept : Kept} {old : Shown}
+    (w : IsWorld m seats made files kept) (view : shown_of m seats made files kept ≡ old) where
+  pub seen-desk : IsDesk old.desk
+  seen-desk = subst (λ (x : Shown). IsDesk x.desk) view w.desk
+
+  module _ {i : ℕ} {s : Seat} (inside : i < length old.desk.tasks) (is : get_or seats i s ≡ s) where
+    pub seen-sits : Sits seats i s
+    seen-sits = seat-sits m (subst (λ (x : Shown). i < length x.desk.tasks) (sym view) inside) is
+
+    pub seen-at : IsAt i (task_of m s) old.desk
+    seen-at = subst (λ (x : Shown). IsAt i (task_of m s) x.desk) view (seat-at m made files kept seen-sits)
+
+    pub seen-handle : {t : Task} → IsAt i t old.desk → s.handle ≡ t.handle
+    unfolding task_of
+    seen-handle {t} there = ap (λ (x : Task). x.handle) (one-at old.desk i (task_of m s) t seen-at there)
+
+    pub seen-slot : {t : Task} → IsAt i t old.desk → slot_in m s.slot ≡ t.slot
+    unfolding task_of
+    seen-slot {t} there = ap (λ (x : Task). x.slot) (one-at old.desk i (task_of m s) t seen-at there)
+
+  -- the scrap file as the desk has it
+  pub seen-nothing : kept.scrap ≡ None → old.desk.scrap ≡ None
+  unfolding scrap_of
+  seen-nothing e = sym (ap (λ (x : Shown). x.desk.scrap) view) ∙ ap (scrap_of m) e
+
+  pub seen-file : (f : ScrapFile) → kept.scrap ≡ Some f → old.desk.scrap ≡ Some (scrap_from (bytes m 5) f)
+  unfolding scrap_of
+  seen-file f e = sym (ap (λ (x : Shown). x.desk.scrap) view) ∙ ap (scrap_of m) e
+
+  pub seen-size : (f : ScrapFile) → kept.scrap ≡ Some f → f.size ≡ length (scrap_from (bytes m 5) f).bytes
+  seen-size f e = omega (arith, length-take f.size (bytes m 5), subst (λ o. scrap_size o ≤ length (bytes m 5)) e w.scrap)
+
+  pub seen-busy : is_some old.desk.scrap ≡ is_some kept.scrap
+  unfolding scrap_of
+  seen-busy = sym (ap (λ (x : Shown). is_some x.desk.scrap) view) ∙ go kept.scrap
+    where
+      go : (o : Option ScrapFile) → is_some (scrap_of m o) ≡ is_some o
+      go None = refl
+      go (Some f) = refl
+
+  pub seen-free : free_pages old.desk ≡ m.free
+  seen-free = sym (ap (λ (x : Shown). free_pages x.desk) view) ∙ free-is w
+
+  -- the pages that area 5 has too few
+  pub seen-shortage : (n : ℕ) → scrap_shortage n old.desk ≡ pages_for n - length (bytes m 5) / 4096
+  unfolding pages_at
+  seen-shortage n =
+      sym (ap (λ (x : Shown). scrap_shortage n x.desk) view) ∙ ap (λ k. pages_for n - k) (fixed-at m 5 (omega arith) (λ q. absurd (omega (arith, q))))
+
+  -- the pages that a letter takes
+  pub seen-pages : (l : Letter) {r : Granted ℕ} → Answers m the_module kept.queue (post_send_pages l) r → post_send_pages l old.desk.post ≡ r
+  seen-pages l a = ap (post_send_pages l) (sym (ap (λ (x : Shown). x.desk.post) view)) ∙ sym (a _ (is-post w))

@@ -1,0 +1,22 @@
+use Rattle.std.proofs.Common.{arith}
+use Rattle.rh_tasks.proofs.Worlds.{free-is}
+use Rattle.rh_tasks.proofs.Scraps.{wider-desk, wider-world}
+use Rattle.rh_tasks.proofs.world.World.widen_scrap.Goals as goal
+
+pub invariant_of-self : goal.invariant_of-self
+invariant_of-self g c =
+    let room = rw (← c.self.view_is) at c.requires in
+    let e = rw c.unwrap.ensures at c.grow.ensures.ok in
+    rw e (
+      wider-world c.self.invariant.0 c.args.more (omega (arith, room, free-is c.self.invariant.0)) (g.met.S.Pages.whole c.self.inside.store 5),
+      c.self.invariant.1,
+      c.self.invariant.2,
+    )
+
+pub returns : goal.returns
+returns g c =
+    let room = rw (← c.self.view_is) at c.requires in
+    let e = rw c.unwrap.ensures at c.grow.ensures.ok in
+    rw (e, ← c.self.view_is) (
+      wider-desk c.self.invariant.0 c.args.more (omega (arith, room, free-is c.self.invariant.0)) (g.met.S.Pages.whole c.self.inside.store 5)
+    )
