@@ -19,10 +19,12 @@ pub mod Loads
 pub mod Spelling
 pub mod Budges
 pub mod Reorders
+pub mod Places
 pub mod Deaths
 pub mod Cancels
 pub mod Sends
 pub mod Repeats
+pub mod SentLetters
 pub mod Saves
 pub mod Starts
 pub mod MadeCommands
@@ -35,3 +37,5 @@ pub mod Steps
 pub mod AreaCommands
 pub mod ModuleCommands
 pub mod Readers
+pub mod Slides
+pub mod SendRooms
