@@ -39,3 +39,4 @@ pub mod ModuleCommands
 pub mod Readers
 pub mod Slides
 pub mod SendRooms
+pub mod TransferBlocks
