@@ -94,6 +94,18 @@ or-right : (t u : Bool) → u ≡ true → (t || u) ≡ true
 or-right true u e = refl
 or-right false u e = e
 
+pub first-false : (t u : Bool) → t ≡ false → (t && u) ≡ false
+first-false true u e = absurd (false-true (sym e))
+first-false false u e = refl
+
+pub second-false : (t u : Bool) → u ≡ false → (t && u) ≡ false
+second-false true u e = e
+second-false false u e = refl
+
+pub both-true : (t u : Bool) → t ≡ true → u ≡ true → (t && u) ≡ true
+both-true true u e f = f
+both-true false u e f = e
+
 -- ---- seats of handles
 
 -- the seat at a place is that of the task with the handle
@@ -141,9 +153,13 @@ module _ {m : Memory} {seats : List Seat} {made : List MadeArea} {files : FileLi
   unfolding transferred found_or
   no-source from x to y n e = ends _ (ap (λ o. found_or o NoTask) (no-task from e))
 
-  pub no-target : (from x to y n : ℕ) {i : ℕ} {s : Seat} → SeatOf seats from i s → position (λ (s : Seat). s.handle == to) seats ≡ None → transferred d from x to y n ≡ Err NoTask
+  pub no-target : (from x to y n : ℕ) → position (λ (s : Seat). s.handle == to) seats ≡ None → transferred d from x to y n ≡ Err NoTask
   unfolding transferred found_or
-  no-target from x to y n a e = begins _ (ap (λ o. found_or o NoTask) (a-task a)) (ends _ (ap (λ o. found_or o NoTask) (no-task to e)))
+  no-target from x to y n e = go (task_at from d) refl
+    where
+      go : (o : Option Task) → task_at from d ≡ o → transferred d from x to y n ≡ Err NoTask
+      go None f = ends _ (ap (λ o. found_or o NoTask) f)
+      go (Some t) f = begins _ (ap (λ o. found_or o NoTask) f) (ends _ (ap (λ o. found_or o NoTask) (no-task to e)))
 
   module _ {from to i j : ℕ} {s r : Seat} (x y n : ℕ) (a : SeatOf seats from i s) (b : SeatOf seats to j r) where
     pub outside : (not (holds x n (slot_in m s.slot)) || not (holds y n (slot_in m r.slot))) ≡ true → transferred d from x to y n ≡ Err BadRange
