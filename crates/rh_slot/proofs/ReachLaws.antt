@@ -110,6 +110,69 @@ heap_below x n p (Hole m ∷ ss) h = (refl, heap_below x n (p + m) ss (omega ari
 
 -- ---- the block in which bytes at an address lie
 
+-- the n bytes at an address lie in one block
+pub data Holder (s : Slot) (x n : ℕ) : Type 0 where
+  flex_holder : (cut : Split Flex) (offset : ℕ) → flex_around x n s ≡ Some cut → s.blocks ≡ cut.before ++ cut.here ∷ cut.after → x ≡ flex_address s cut.before + offset
+      → offset + n ≤ length cut.here.bytes → Holder s x n
+  heap_holder : (cut : Split Segment) (offset : ℕ) → flex_around x n s ≡ None → block_around (x - 33024) n s.heap ≡ Some cut → HeapCut s.heap (16 + total size_of cut.before + 4) cut
+      → x ≡ 33024 + (16 + total size_of cut.before + 4) + offset → offset + n ≤ length (bytes_of cut.here) → Holder s x n
+
+around_used : (x n place : ℕ) (g : Segment) → is_around x n place g ≡ true → (g ≡ Used (bytes_of g)) × ((place + 4 ≤ x) × (x + n ≤ place + 4 + length (bytes_of g)))
+around_used x n place (Used bs) e = (refl, is_inside_from x n (place + 4) (length bs) e)
+around_used x n place (Hole m) e = absurd cc
+
+module _ (s : Slot) (x n : ℕ) where
+  in_some_flex : (cut : Split Flex) → flex_around x n s ≡ Some cut → Holder s x n
+  in_some_flex cut f =
+      let c : IsCut weight (is_at x n) (flex_start s) s.blocks cut = subst (λ o. IfSome o (IsCut weight (is_at x n) (flex_start s) s.blocks)) f (first_at-cuts weight (is_at x n) (flex_start s) s.blocks) in
+      let r = is_inside_from x n (flex_start s + total weight cut.before + 8) (length cut.here.bytes) c.passes in
+      let low = r.0 in
+      let high = r.1 in
+      flex_holder cut (x - flex_address s cut.before) f c.whole (omega arith) (omega arith)
+
+  in_some_segment : (cut : Split Segment) → flex_around x n s ≡ None → 33024 ≤ x → block_around (x - 33024) n s.heap ≡ Some cut → Holder s x n
+  in_some_segment cut e l f =
+      let y = x - 33024 in
+      let c : IsCut size_of (is_around y n) 16 s.heap.segments cut = subst (λ o. IfSome o (IsCut size_of (is_around y n) 16 s.heap.segments)) f (first_at-cuts size_of (is_around y n) 16 s.heap.segments) in
+      let r = around_used y n (16 + total size_of cut.before) cut.here c.passes in
+      let low = r.1.0 in
+      let high = r.1.1 in
+      let is : s.heap.segments ≡ cut.before ++ Used (bytes_of cut.here) ∷ cut.after = c.whole ∙ ap (λ g. cut.before ++ g ∷ cut.after) r.0 in
+      let sum : total size_of s.heap.segments ≡ total size_of cut.before + (4 + length (bytes_of cut.here) + total size_of cut.after) =
+      ap (total size_of) is ∙ total-append cut.before (Used (bytes_of cut.here) ∷ cut.after) in
+      heap_holder cut (x - (33024 + (16 + total size_of cut.before) + 4)) e f (record { is = is; here = r.0; stands = refl; inside = omega arith }) (omega arith) (omega arith)
+
+  in_segment : (t : Bool) (o : Option (Split Segment)) → flex_around x n s ≡ None → nat_le 33024 x ≡ t → block_around (x - 33024) n s.heap ≡ o → (t && is_some o) ≡ true → Holder s x n
+  in_segment true (Some cut) e l f q = in_some_segment cut e (le_from 33024 x l) f
+  in_segment true None e l f q = absurd cc
+  in_segment false o e l f q = absurd cc
+
+  in_block : (o : Option (Split Flex)) → flex_around x n s ≡ o → (is_some o || (nat_le 33024 x && is_some (block_around (x - 33024) n s.heap))) ≡ true → Holder s x n
+  in_block (Some cut) f q = in_some_flex cut f
+  in_block None f q = in_segment (nat_le 33024 x) (block_around (x - 33024) n s.heap) f refl refl q
+
+  pub holder : holds x n s ≡ true → Holder s x n
+  holder q = in_block (flex_around x n s) refl q
+
+-- the block that holds bytes at an address holds the first ones of them
+pub holder_of_fewer : (s : Slot) (x n k : ℕ) → k ≤ n → base s.heap ≤ s.heap.end → Holder s x n → Holder s x k
+holder_of_fewer s x n k few fits (flex_holder cut offset f is e h) =
+    let found : flex_around x k s ≡ Some cut =
+    ap (first_at weight (is_at x k) (flex_start s)) is
+    ∙ first_at-found weight (is_at x k) (flex_start s) cut.before cut.here cut.after (flex_below x k (flex_start s) cut.before (omega arith))
+    (is_inside_yes x k (flex_start s + total weight cut.before + 8) (length cut.here.bytes) (omega arith) (omega arith)) in
+    flex_holder cut offset found is e (omega arith)
+holder_of_fewer s x n k few fits (heap_holder cut offset e f c q h) =
+    let y = x - 33024 in
+    let inside = c.inside in
+    let none : flex_around x k s ≡ None = first_at-none weight (is_at x k) (flex_start s) s.blocks (flex_above x k (flex_start s) s.blocks (omega arith)) in
+    let passes : is_around y k (16 + total size_of cut.before) cut.here ≡ true =
+    ap (is_around y k (16 + total size_of cut.before)) c.here ∙ is_inside_yes y k (16 + total size_of cut.before + 4) (length (bytes_of cut.here)) (omega arith) (omega arith) in
+    let found : block_around y k s.heap ≡ Some cut =
+    ap (first_at size_of (is_around y k) 16) (c.is ∙ ap (λ g. cut.before ++ g ∷ cut.after) (sym c.here))
+    ∙ first_at-found size_of (is_around y k) 16 cut.before cut.here cut.after (heap_below y k 16 cut.before (omega arith)) passes in
+    heap_holder cut offset none found c q (omega arith)
+
 -- the bytes that are written at an address go into one block
 pub data Reached (s : Slot) (x room : ℕ) (xs : List ℕ) : Type 0 where
   in_heap : (cut : Split Segment) (y offset : ℕ) → HeapCut s.heap y cut → x ≡ 33024 + y + offset → offset + length xs ≤ length (bytes_of cut.here)
@@ -125,10 +188,6 @@ roomy n (Some b) cut e = go (nat_le n (length (bytes_of b.here))) refl e
     go true q f = let same : b ≡ cut = cc in (f, subst (λ (c : Split Segment). n ≤ length (bytes_of c.here)) same (le_from n (length (bytes_of b.here)) q))
     go false q f = absurd cc
 
-around_used : (x n place : ℕ) (g : Segment) → is_around x n place g ≡ true → (g ≡ Used (bytes_of g)) × ((place + 4 ≤ x) × (x + n ≤ place + 4 + length (bytes_of g)))
-around_used x n place (Used bs) e = (refl, is_inside_from x n (place + 4) (length bs) e)
-around_used x n place (Hole m) e = absurd cc
-
 module _ (s : Slot) (x room : ℕ) (xs : List ℕ) (few : length xs ≤ room) (fits : base s.heap ≤ s.heap.end) where
   in_buffer : (cut : Split Segment) → buffer_at x room s ≡ Some cut → Reached s x room xs
   in_buffer cut e =
@@ -137,51 +196,18 @@ module _ (s : Slot) (x room : ℕ) (xs : List ℕ) (few : length xs ≤ room) (f
       let stands = c.stands in
       in_heap cut (x - 33024) 0 c (omega arith) (let most = r.1 in omega arith) (ap (λ o. written_in x xs o s) e)
 
-  in_some_flex : (cut : Split Flex) → buffer_at x room s ≡ None → flex_around x room s ≡ Some cut → Reached s x room xs
-  in_some_flex cut e f =
-      let c : IsCut weight (is_at x room) (flex_start s) s.blocks cut = subst (λ o. IfSome o (IsCut weight (is_at x room) (flex_start s) s.blocks)) f (first_at-cuts weight (is_at x room) (flex_start s) s.blocks) in
-      let r = is_inside_from x room (flex_start s + total weight cut.before + 8) (length cut.here.bytes) c.passes in
-      let low = r.0 in
-      let high = r.1 in
-      let found : flex_around x (length xs) s ≡ Some cut =
-      ap (first_at weight (is_at x (length xs)) (flex_start s)) c.whole
-      ∙ first_at-found weight (is_at x (length xs)) (flex_start s) cut.before cut.here cut.after (flex_below x (length xs) (flex_start s) cut.before (omega arith))
-      (is_inside_yes x (length xs) (flex_start s + total weight cut.before + 8) (length cut.here.bytes) low (omega arith)) in
-      in_flex cut (x - flex_address s cut.before) c.whole (omega arith) (omega arith) (ap (λ o. written_in x xs o s) e ∙ ap (λ o. written_around x xs o s) found)
-
-  in_some_segment : (cut : Split Segment) → buffer_at x room s ≡ None → 33024 ≤ x → block_around (x - 33024) room s.heap ≡ Some cut → Reached s x room xs
-  in_some_segment cut e l f =
-      let y = x - 33024 in
-      let c : IsCut size_of (is_around y room) 16 s.heap.segments cut =
-      subst (λ o. IfSome o (IsCut size_of (is_around y room) 16 s.heap.segments)) f (first_at-cuts size_of (is_around y room) 16 s.heap.segments) in
-      let r = around_used y room (16 + total size_of cut.before) cut.here c.passes in
-      let low = r.1.0 in
-      let high = r.1.1 in
-      let is : s.heap.segments ≡ cut.before ++ Used (bytes_of cut.here) ∷ cut.after = c.whole ∙ ap (λ g. cut.before ++ g ∷ cut.after) r.0 in
-      let sum : total size_of s.heap.segments ≡ total size_of cut.before + (4 + length (bytes_of cut.here) + total size_of cut.after) =
-      ap (total size_of) is ∙ total-append cut.before (Used (bytes_of cut.here) ∷ cut.after) in
-      let none : flex_around x (length xs) s ≡ None = first_at-none weight (is_at x (length xs)) (flex_start s) s.blocks (flex_above x (length xs) (flex_start s) s.blocks (omega arith)) in
-      let passes : is_around y (length xs) (16 + total size_of cut.before) cut.here ≡ true =
-      ap (is_around y (length xs) (16 + total size_of cut.before)) r.0 ∙ is_inside_yes y (length xs) (16 + total size_of cut.before + 4) (length (bytes_of cut.here)) low (omega arith) in
-      let found : block_around y (length xs) s.heap ≡ Some cut =
-      ap (first_at size_of (is_around y (length xs)) 16) c.whole
-      ∙ first_at-found size_of (is_around y (length xs)) 16 cut.before cut.here cut.after (heap_below y (length xs) 16 cut.before (omega arith)) passes in
-      in_heap cut (16 + total size_of cut.before + 4) (x - (33024 + (16 + total size_of cut.before) + 4))
-      (record { is = is; here = r.0; stands = refl; inside = omega arith }) (omega arith) (omega arith)
-      (ap (λ o. written_in x xs o s) e ∙ ap (λ o. written_around x xs o s) none ∙ ap (λ o. written_heap x xs o s) found)
-
-  in_segment : (t : Bool) (o : Option (Split Segment)) → buffer_at x room s ≡ None → nat_le 33024 x ≡ t → block_around (x - 33024) room s.heap ≡ o → (t && is_some o) ≡ true → Reached s x room xs
-  in_segment true (Some cut) e l f q = in_some_segment cut e (le_from 33024 x l) f
-  in_segment true None e l f q = absurd cc
-  in_segment false o e l f q = absurd cc
-
-  in_block : (o : Option (Split Flex)) → buffer_at x room s ≡ None → flex_around x room s ≡ o → (is_some o || (nat_le 33024 x && is_some (block_around (x - 33024) room s.heap))) ≡ true → Reached s x room xs
-  in_block (Some cut) e f q = in_some_flex cut e f
-  in_block None e f q = in_segment (nat_le 33024 x) (block_around (x - 33024) room s.heap) e refl refl q
+  in_holder : buffer_at x room s ≡ None → Holder s x (length xs) → Reached s x room xs
+  in_holder e (flex_holder cut offset f is q h) =
+      let same : x - flex_address s cut.before ≡ offset = omega arith in
+      in_flex cut offset is q h (ap (λ o. written_in x xs o s) e ∙ ap (λ o. written_around x xs o s) f ∙ ap (λ k. with_bytes cut (written cut.here.bytes k xs) s) same)
+  in_holder e (heap_holder cut offset f g c q h) =
+      let same : x - (33024 + (16 + total size_of cut.before) + 4) ≡ offset = omega arith in
+      in_heap cut (16 + total size_of cut.before + 4) offset c q h
+      (ap (λ o. written_in x xs o s) e ∙ ap (λ o. written_around x xs o s) f ∙ ap (λ o. written_heap x xs o s) g ∙ ap (λ k. with_heap_bytes cut k xs s) same)
 
   in_any : (o : Option (Split Segment)) → buffer_at x room s ≡ o → (is_some o || holds x room s) ≡ true → Reached s x room xs
   in_any (Some cut) e q = in_buffer cut e
-  in_any None e q = in_block (flex_around x room s) e refl q
+  in_any None e q = in_holder e (holder_of_fewer s x room (length xs) few fits (holder s x room q))
 
   pub reached : (is_some (buffer_at x room s) || holds x room s) ≡ true → Reached s x room xs
   reached q = in_any (buffer_at x room s) refl q

@@ -34,14 +34,14 @@ find-first f test (y ∷ xs) (suc i) x inside is passes before =
     let first : test (f y) ≡ false = before 0 (omega arith) in
     rw first (find-first f test xs i x (omega arith) is passes (λ j h. before (suc j) (omega arith)))
 
-find-none : {A : Type 0} (p : A → Bool) (xs : List A) → position p xs ≡ None → find p xs ≡ None
+pub find-none : {A : Type 0} (p : A → Bool) (xs : List A) → position p xs ≡ None → find p xs ≡ None
 find-none p xs h = go (nat_lt (position_or_len p xs) (length xs)) refl h
   where
     go : (b : Bool) → nat_lt (position_or_len p xs) (length xs) ≡ b → cond b (Some (position_or_len p xs)) None ≡ None → find p xs ≡ None
     go true e q = absurd (cc)
     go false e q = find_at p xs ∙ slice_get_past xs (position_or_len p xs) (ltb-false _ _ e)
 
-find-map : {A B : Type 0} (f : A → B) (test : B → Bool) (xs : List A) → find (λ x. test (f x)) xs ≡ None → find test (map f xs) ≡ None
+pub find-map : {A B : Type 0} (f : A → B) (test : B → Bool) (xs : List A) → find (λ x. test (f x)) xs ≡ None → find test (map f xs) ≡ None
 find-map f test [] h = refl
 find-map f test (x ∷ xs) h =
     elim (test (f x)) as (λ b. cond b (Some x) (find (λ x. test (f x)) xs) ≡ None → cond b (Some (f x)) (find test (map f xs)) ≡ None)
@@ -99,3 +99,18 @@ made-number k made i a at is =
 pub no-made : (m : Memory) (k : ℕ) (made : List MadeArea) → position (has_number k) made ≡ None → found_or (find (is_numbered k) (map (made_of m) made)) NoArea ≡ Err NoArea
 unfolding found_or made_of
 no-made m k made h = rw (find-map (made_of m) (is_numbered k) made (find-none (has_number k) made h)) refl
+
+-- the seat at a place
+pub seat-there : (seats : List Seat) (i : ℕ) → i < length seats → (s : Seat) × (get_or seats i s ≡ s)
+seat-there [] i inside = absurd (omega (arith, inside))
+seat-there (s ∷ seats) zero inside = (s, refl)
+seat-there (s ∷ seats) (suc i) inside = let p = seat-there seats i (omega (arith, inside)) in (p.0, p.1)
+
+-- the seat at the place that a name has
+pub found-in : {name : List ℕ} {seats : List Seat} {i : ℕ} → position (is_named name) seats ≡ Some i → (s : Seat) × Found name seats i s
+found-in {name} {seats} {i} at =
+    let some : (s : Seat) × (get_or seats i s ≡ s) = seat-there seats i (position-inside at) in
+    (some.0, record { at = at; is = some.1 })
+  where
+    position-inside : position (is_named name) seats ≡ Some i → i < length seats
+    position-inside e = position-within (is_named name) seats i e

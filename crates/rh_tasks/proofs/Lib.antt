@@ -51,3 +51,4 @@ pub mod Buffers
 pub mod Takings
 pub mod Scraps
 pub mod ScrapTransfers
+pub mod TransferBlocks

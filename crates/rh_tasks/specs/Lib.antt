@@ -7,3 +7,4 @@ pub mod Start
 pub mod Letters
 pub mod Saves
 pub mod Polls
+pub mod TransferBlock

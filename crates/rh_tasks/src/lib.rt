@@ -20,6 +20,7 @@ mod scrap_transfers;
 mod seat;
 mod seats;
 mod tasks;
+mod transfer_block;
 mod transfers;
 mod world;
 

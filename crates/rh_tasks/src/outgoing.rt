@@ -35,14 +35,14 @@ struct Target {
 }
 
 /// The place of the live task with the handle.
-fn with_handle(seats: &Vec<Seat>, handle: Handle) -> Option<usize>
+pub fn with_handle(seats: &Vec<Seat>, handle: Handle) -> Option<usize>
     ensures { result ≡ position (λ (s : Seat). s.handle == handle) seats.now.items }
 {
     seats.iter().position(|seat| seat.handle == handle)
 }
 
 /// Whether n bytes at x and m bytes at y share one.
-fn do_overlap(x: usize, n: usize, y: usize, m: usize) -> bool
+pub fn do_overlap(x: usize, n: usize, y: usize, m: usize) -> bool
     requires first { x + n < 2 ^ 40 }
     requires second { y + m < 2 ^ 40 }
     ensures { result ≡ overlap x n y m }
