@@ -8,7 +8,7 @@ use Rattle.std.specs.Str.{bytes_eq}
 use Rattle.std.proofs.lemmas.List.Quantifiers.{position-Some}
 use Rattle.std.proofs.lemmas.List.Folds.{find_at}
 use Rattle.std.proofs.lemmas.Option.{slice_get_past}
-use borrow.Author.Tests.{ltb-false}
+use borrow.Author.Tests.{ltb-false, ltb-true}
 use Rattle.rh_defs.specs.declared.refusal.Refusal.TheVariants.{NoName, NoArea}
 use Rattle.rh_defs.specs.Chain.{found_or}
 use Rattle.rh_defs.specs.Files.{FileList}
@@ -106,11 +106,15 @@ seat-there [] i inside = absurd (omega (arith, inside))
 seat-there (s ∷ seats) zero inside = (s, refl)
 seat-there (s ∷ seats) (suc i) inside = let p = seat-there seats i (omega (arith, inside)) in (p.0, p.1)
 
+position-within : (p : Seat → Bool) (xs : List Seat) (i : ℕ) → position p xs ≡ Some i → i < length xs
+position-within p xs i h = go (nat_lt (position_or_len p xs) (length xs)) refl h
+  where
+    go : (b : Bool) → nat_lt (position_or_len p xs) (length xs) ≡ b → cond b (Some (position_or_len p xs)) None ≡ Some i → i < length xs
+    go true e q = let same : position_or_len p xs ≡ i = cc in omega (arith, ltb-true _ _ e, same)
+    go false e q = absurd cc
+
 -- the seat at the place that a name has
 pub found-in : {name : List ℕ} {seats : List Seat} {i : ℕ} → position (is_named name) seats ≡ Some i → (s : Seat) × Found name seats i s
 found-in {name} {seats} {i} at =
-    let some : (s : Seat) × (get_or seats i s ≡ s) = seat-there seats i (position-inside at) in
+    let some = seat-there seats i (position-within (is_named name) seats i at) in
     (some.0, record { at = at; is = some.1 })
-  where
-    position-inside : position (is_named name) seats ≡ Some i → i < length seats
-    position-inside e = position-within (is_named name) seats i e

@@ -87,6 +87,11 @@ module _ {m : Memory} {seats : List Seat} {made : List MadeArea} {files : FileLi
   abbrev taken : Desk
   taken = with_delivered (post_poll s.handle (desk_of m seats made files kept).post).0 (desk_of m seats made files kept)
 
+  -- the place is there still
+  pub place-then : (last : Desk) → IsReordered taken last → i < length last.tasks
+  unfolding with_delivered
+  place-then last r = subst (λ (l : List Task). i < length l) (sym (ap (λ (x : Desk). x.tasks) r.rest)) place-in
+
   -- there was no message
   pub poll-none : (post_poll s.handle (desk_of m seats made files kept).post).1 ≡ None → (last : Desk) → IsReordered taken last
       → (x : Desk) × ((poll (desk_of m seats made files kept) name ≡ Ok (x, reply.NoEvent)) × IsReordered x last)

@@ -2,10 +2,8 @@ use Rattle.std.proofs.Common.{refl, sym}
 use Rattle.std.proofs.lemmas.Result.{err_from_is_err_and}
 use Rattle.rh_defs.specs.Step.{poll}
 use Rattle.rh_tasks.proofs.Chains.{ends}
-use Rattle.rh_tasks.proofs.Finding.{nobody}
-use Rattle.rh_tasks.proofs.Polls.{none-taken, some-taken, place-in, task-there, poll-none, poll-some}
-use Rattle.rh_tasks.specs.Finding.{Found}
-use Rattle.rh_tasks.proofs.Finding.{seat_at, found-there}
+use Rattle.rh_tasks.proofs.Finding.{nobody, found-in}
+use Rattle.rh_tasks.proofs.Polls.{none-taken, some-taken, place-then, task-there, poll-none, poll-some}
 use Rattle.rh_tasks.proofs.world.World.poll.Goals as goal
 
 pub returns-in_err-i : goal.returns-in_err-i
@@ -16,13 +14,20 @@ returns-in_err-i g c =
 
 pub returns-in_default : goal.returns-in_default
 returns-in_default g c =
-    let m = g.S.Words.memory c.self.inside.store in
-    let f : Found c.args.name.now c.self.inside.seats.items c.in_ok-i.i (seat_at c.self.inside.seats.items c.in_ok-i.i c.in_ok-i.ensures.ok) = found-there c.in_ok-i.ensures.ok in
+    let f = found-in c.in_ok-i.ensures.ok in
     let e = rw (← c.self.view_is) at c.take_event.ensures in
-    ?
+    let at = task-there c.self.invariant.0 f.1 in
+    rw (← c.self.view_is) (poll-none c.self.invariant.0 f.1 (none-taken _ (e.event _ at)) _ (e.desk _ at))
 
 pub handle-outcome-requires : goal.handle-outcome-requires
-handle-outcome-requires g c = ?
+handle-outcome-requires g c =
+    let f = found-in c.in_ok-i.ensures.ok in
+    let e = rw (← c.self.view_is) at c.take_event.ensures in
+    place-then c.self.invariant.0 f.1 _ (e.desk _ (task-there c.self.invariant.0 f.1))
 
 pub returns : goal.returns
-returns g c = ?
+returns g c =
+    let f = found-in c.in_ok-i.ensures.ok in
+    let e = rw (← c.self.view_is) at c.take_event.ensures in
+    let at = task-there c.self.invariant.0 f.1 in
+    rw (← c.self.view_is) (poll-some c.self.invariant.0 f.1 (some-taken _ _ (e.event _ at)) _ _ _ (e.desk _ at) c.handle-outcome.ensures)
