@@ -1,5 +1,5 @@
 -- Blocks that are offered to other tasks.
-use Rattle.std.proofs.Common.{◌≡◌, ℕ, zero, suc, ◌<◌, ◌≤◌, Bool, true, false, cond, refl, ap, sym, subst, ◌∙◌, arith, List, [], ◌∷◌, length}
+use Rattle.std.proofs.Common.{◌≡◌, ℕ, zero, suc, ◌<◌, Bool, true, false, cond, refl, ap, sym, ◌∙◌, arith, List, [], ◌∷◌, length}
 use Rattle.std.specs.Prelude.{Some, None, Ok, Err, find, map, nat_lt, nat_le, ◌==◌, ◌||◌, ◌&&◌, Option}
 use Rattle.std.specs.List.{list_all, list_any, position}
 use Rattle.std.proofs.Math.ListN.{get_or, set}
@@ -16,7 +16,6 @@ use Rattle.rh_defs.specs.declared.refusal.Refusal.{Refusal}
 use Rattle.rh_defs.specs.declared.refusal.Refusal.TheVariants.{NoName, NoTask, Busy}
 use Rattle.rh_defs.specs.declared.reply.Reply.TheVariants as reply
 use Rattle.rh_defs.specs.Chain.{Granted, ◌>>=◌, ◌>>◌, refuse_if, found_or, answer_of, left_of}
-use Rattle.rh_defs.specs.Pieces.{Split}
 use Rattle.rh_defs.specs.Range.{in_range}
 use Rattle.rh_defs.specs.Letters.{save_letter}
 use Rattle.rh_defs.specs.Post.{post_send}
