@@ -35,3 +35,5 @@ pub mod Steps
 pub mod AreaCommands
 pub mod ModuleCommands
 pub mod Readers
+pub mod Portions
+pub mod Fetches
