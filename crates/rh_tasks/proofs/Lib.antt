@@ -19,10 +19,13 @@ pub mod Loads
 pub mod Spelling
 pub mod Budges
 pub mod Reorders
+pub mod Places
 pub mod Deaths
 pub mod Cancels
+pub mod SeatRecords
 pub mod Sends
 pub mod Repeats
+pub mod SentLetters
 pub mod Saves
 pub mod Starts
 pub mod MadeCommands

@@ -31,7 +31,7 @@ use Rattle.rh_tasks.specs.declared.next.Next.{Next}
 use Rattle.rh_tasks.specs.declared.scrap.ScrapFile.{ScrapFile}
 use Rattle.rh_tasks.specs.Finding.{Found}
 use Rattle.rh_tasks.specs.Letters.{from_last, again, with_last}
-use Rattle.rh_tasks.proofs.Lists.{all-at, set_same}
+use Rattle.rh_tasks.proofs.Lists.{Sits, all-at, set_same}
 use Rattle.rh_tasks.proofs.Chains.{begins, ends, answered, answer-refused}
 use Rattle.rh_tasks.proofs.Finding.{sits, named-is}
 use Rattle.rh_tasks.proofs.Worlds.{free-is, granted-keeps}
@@ -83,8 +83,8 @@ again-from h (Some sent) letter e =
 
 -- ---- a letter from a task
 
-module _ {m : Memory} {seats : List Seat} {made : List MadeArea} {files : FileList} {kept : Kept} {name : List ℕ} {i : ℕ} {s : Seat}
-    (w : IsWorld m seats made files kept) (f : Found name seats i s) (letter : Letter) (own : letter.from ≡ s.handle) where
+module _ {m : Memory} {seats : List Seat} {made : List MadeArea} {files : FileList} {kept : Kept} {i : ℕ} {s : Seat}
+    (w : IsWorld m seats made files kept) (at : Sits seats i s) (letter : Letter) (own : letter.from ≡ s.handle) where
   abbrev d : Desk
   d = desk_of m seats made files kept
 
@@ -95,7 +95,7 @@ module _ {m : Memory} {seats : List Seat} {made : List MadeArea} {files : FileLi
   given = post_send m.free letter post
 
   pub from-live : HasEntry letter.from kept.queue
-  from-live = subst (λ h. HasEntry h kept.queue) (sym own) (has-entry w (sits f))
+  from-live = subst (λ h. HasEntry h kept.queue) (sym own) (has-entry w at)
 
   -- it can't be sent
   pub letter-refused : {r : Refusal} → Answers m the_module kept.queue (λ p. answer_of (post_send m.free letter p)) (Err r) → send_letter letter d ≡ Err r
@@ -108,7 +108,7 @@ module _ {m : Memory} {seats : List Seat} {made : List MadeArea} {files : FileLi
     edit t = record t { last_sent = Some (letter, ref) }
 
     has : IsSlot m s.slot
-    has = all-at (HasSlot m) seats i s w.areas.slots (sits f)
+    has = all-at (HasSlot m) seats i s w.areas.slots at
 
     pub last-moves : Moves m m s (with_last letter ref s) edit
     unfolding task_of
@@ -121,7 +121,7 @@ module _ {m : Memory} {seats : List Seat} {made : List MadeArea} {files : FileLi
     ref-is = post_send-ref m.free letter post (left_of post given, ref) given-is
 
     abbrev pub letter_then : Desk
-    letter_then = desk_then w (sits f) last-moves l kept.scrap w.scrap
+    letter_then = desk_then w at last-moves l kept.scrap w.scrap
 
     pub letter-sent : send_letter letter d ≡ Ok letter_then
     unfolding send_letter with_task
@@ -157,22 +157,22 @@ module _ {m : Memory} {seats : List Seat} {made : List MadeArea} {files : FileLi
     repeat-is = begins _ (named-is m made files kept f) (again-sent s.handle then_sent s.last_sent letter last)
 
     pub repeat-refused : {r : Refusal} → Answers m the_module kept.queue (λ p. answer_of (post_send m.free letter p)) (Err r) → repeat e name ≡ Err r
-    repeat-refused a = repeat-is ∙ ends _ (letter-refused w f letter again-own a)
+    repeat-refused a = repeat-is ∙ ends _ (letter-refused w (sits f) letter again-own a)
 
     module _ {n : Memory} {k : Chains} (ref : ℕ) (a : Answers m the_module kept.queue (λ p. answer_of (post_send m.free letter p)) (Ok ref))
         (l : Leaves m n the_module kept.queue k (λ p. left_of p (post_send m.free letter p))) (ranged : in_range (command.Repeat name) ≡ true) where
       abbrev then : Desk
-      then = letter_then w f letter again-own ref a l
+      then = letter_then w (sits f) letter again-own ref a l
 
       repeated : repeat e name ≡ Ok (then, reply.Sent ref)
       repeated =
-          repeat-is ∙ begins _ (letter-sent w f letter again-own ref a l) (ap (λ x. let r : Granted (Desk × _) = Ok (then, reply.Sent x) in r) (sym (ref-is w f letter again-own ref a l)))
+          repeat-is ∙ begins _ (letter-sent w (sits f) letter again-own ref a l) (ap (λ x. let r : Granted (Desk × _) = Ok (then, reply.Sent x) in r) (sym (ref-is w (sits f) letter again-own ref a l)))
 
       is-desk : IsDesk then
       is-desk = granted-keeps e then (command.Repeat name) (reply.Sent ref) repeated ranged w.desk
 
       pub repeat-world : IsWorld n (set seats i (with_last letter ref s)) made files (record kept { queue = k })
-      repeat-world = sent-world w (sits f) (last-moves w f letter again-own ref a l) l kept.scrap w.scrap is-desk
+      repeat-world = sent-world w (sits f) (last-moves w (sits f) letter again-own ref a l) l kept.scrap w.scrap is-desk
 
       pub repeat-done : (x : Desk) × ((repeat e name ≡ Ok (x, reply.Sent ref)) × IsReordered x (desk_of n (set seats i (with_last letter ref s)) made files (record kept { queue = k })))
-      repeat-done = (then, (repeated, sent-alike w (sits f) (last-moves w f letter again-own ref a l) l kept.scrap w.scrap is-desk))
+      repeat-done = (then, (repeated, sent-alike w (sits f) (last-moves w (sits f) letter again-own ref a l) l kept.scrap w.scrap is-desk))

@@ -191,7 +191,7 @@ module _ {m : Memory} {seats : List Seat} {made : List MadeArea} {files : FileLi
       save-is = save-sized ∙ begins _ task-found (ap then_from is)
 
       pub save-refused : {r : Refusal} → Answers m the_module kept.queue (λ p. answer_of (post_send m.free letter p)) (Err r) → save d name k to leaf ≡ Err r
-      save-refused a = save-is ∙ ends _ (letter-refused w f letter refl a)
+      save-refused a = save-is ∙ ends _ (letter-refused w (sits f) letter refl a)
 
       module _ {p : Memory} {q : Chains} (ref : ℕ) (a : Answers m the_module kept.queue (λ p. answer_of (post_send m.free letter p)) (Ok ref))
           (l : Leaves m p the_module kept.queue q (λ p. left_of p (post_send m.free letter p))) (ranged : in_range (command.Save name k to leaf) ≡ true) where
@@ -209,7 +209,7 @@ module _ {m : Memory} {seats : List Seat} {made : List MadeArea} {files : FileLi
         moves = record { handle = refl; area = refl; still = has; only = OnlyArea-self m s.slot.area.0 has.opened; task = refl }
 
         abbrev sent : Desk
-        sent = letter_then w f letter refl ref a l
+        sent = letter_then w (sits f) letter refl ref a l
 
         abbrev then : Desk
         then = desk_then w (sits f) moves l kept.scrap w.scrap
@@ -221,8 +221,8 @@ module _ {m : Memory} {seats : List Seat} {made : List MadeArea} {files : FileLi
 
         saved : save d name k to leaf ≡ Ok (then, reply.Sent ref)
         saved =
-            save-is ∙ begins _ (letter-sent w f letter refl ref a l)
-            (ap (λ r. let y : Granted Answer = Ok (with_sending s.handle (sender.offered r h k) sent, reply.Sent r) in y) (sym (ref-is w f letter refl ref a l))
+            save-is ∙ begins _ (letter-sent w (sits f) letter refl ref a l)
+            (ap (λ r. let y : Granted Answer = Ok (with_sending s.handle (sender.offered r h k) sent, reply.Sent r) in y) (sym (ref-is w (sits f) letter refl ref a l))
             ∙ ap (λ (y : Desk). let z : Granted Answer = Ok (y, reply.Sent ref) in z) opened)
 
         is-desk : IsDesk then

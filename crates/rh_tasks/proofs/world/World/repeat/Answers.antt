@@ -4,7 +4,7 @@ use Rattle.rh_defs.specs.Step.{repeat}
 use Rattle.std.proofs.Math.ListN.{set}
 use Rattle.rh_tasks.specs.Finding.{Found}
 use Rattle.rh_tasks.proofs.Chains.{ends}
-use Rattle.rh_tasks.proofs.Finding.{nobody}
+use Rattle.rh_tasks.proofs.Finding.{sits, nobody}
 use Rattle.rh_tasks.proofs.Repeats.{same-shown, seat-kept, from-live, again-own, repeat-nothing, repeat-refused, repeat-world, repeat-done}
 use Rattle.rh_tasks.proofs.world.World.repeat.Goals as goal
 
@@ -28,7 +28,7 @@ pub send-requires-clause-from : goal.send-requires-clause-from
 send-requires-clause-from g c =
     let s = c.index_mut-seat.result.now in
     let f : Found c.args.name.now c.self.inside.seats.items c.in_ok-i.i s = record { at = c.in_ok-i.ensures.ok; is = sym c.index_mut-seat.ensures.value } in
-    from-live c.self.invariant.0 f c.in_ok-letter.letter (again-own c.self.invariant.0 f c.in_ok-letter.letter (sym c.in_ok-letter.ensures))
+    from-live c.self.invariant.0 (sits f) c.in_ok-letter.letter (again-own c.self.invariant.0 f c.in_ok-letter.letter (sym c.in_ok-letter.ensures))
 
 pub returns-in_err-my_ref : goal.returns-in_err-my_ref
 returns-in_err-my_ref g c =

@@ -3,6 +3,7 @@ use Rattle.std.proofs.Math.ListN.{set}
 use Rattle.std.proofs.lemmas.Result.{err_from_is_err_and}
 use Rattle.rh_tasks.specs.Finding.{Found}
 use Rattle.rh_tasks.specs.Saves.{source_block}
+use Rattle.rh_tasks.proofs.Finding.{sits}
 use Rattle.rh_tasks.proofs.Ranges.{save-anchor, save-leaf}
 use Rattle.rh_tasks.proofs.Repeats.{same-shown, seat-kept, from-live}
 use Rattle.rh_tasks.proofs.Saves.{again-found, again-given, save-stopped, save-nobody, may-open, save-refused, save-world, save-done, letter}
@@ -35,7 +36,7 @@ send-requires-clause-from g c =
     let f : Found c.args.name.now c.self.inside.seats.items c.in_ok-source.source.place s = again-found e.found (sym c.index_mut-seat.ensures.value) in
     let given = again-given (source_block c.args.anchor) (g.S.Words.memory c.self.inside.store) e.found f e.given in
     let r = c.in_ok-recipient.ensures.ok in
-    rw (c.save_letter-letter.ensures) (from-live c.self.invariant.0 f (letter c.self.invariant.0 c.args.anchor c.args.to.now c.args.leaf.now f c.in_ok-source.source.size given r.found r.is) refl)
+    rw (c.save_letter-letter.ensures) (from-live c.self.invariant.0 (sits f) (letter c.self.invariant.0 c.args.anchor c.args.to.now c.args.leaf.now f c.in_ok-source.source.size given r.found r.is) refl)
 
 pub returns-in_err-my_ref : goal.returns-in_err-my_ref
 returns-in_err-my_ref g c =
