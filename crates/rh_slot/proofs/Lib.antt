@@ -4,6 +4,7 @@ pub mod FlexLaws
 pub mod EditLaws
 pub mod WalkLaws
 pub mod SpanLaws
+pub mod Ranges
 pub mod LeaveLaws
 pub mod StartLaws
 pub mod GrowLaws
