@@ -39,7 +39,7 @@ seated m seats i t e = go (slice_get seats i) refl (sym (slice_get-map (task_of 
       is = cc;
     }
 
-one-member : {A : Type 0} (xs : List A) (i : ℕ) (x y : A) → Sits xs i x → get_or xs i y ≡ y → x ≡ y
+pub one-member : {A : Type 0} (xs : List A) (i : ℕ) (x y : A) → Sits xs i x → get_or xs i y ≡ y → x ≡ y
 one-member xs i x y at is =
     let p = slice_get-get_or xs i x at.inside in
     let q = slice_get-get_or xs i y at.inside in
@@ -65,7 +65,7 @@ apart-at f (z ∷ xs) (suc i) (suc j) x y all at bt ne q =
 test-apart : (a b : ℕ) → a ≢ b → (a == b) ≡ false
 test-apart a b h = grind (arith, nat_tests)
 
-test-same : (a b : ℕ) → a ≡ b → (a == b) ≡ true
+pub test-same : (a b : ℕ) → a ≡ b → (a == b) ≡ true
 test-same a b h = grind (arith, nat_tests)
 
 -- ---- what is out of reach

@@ -34,14 +34,14 @@ find-first f test (y ∷ xs) (suc i) x inside is passes before =
     let first : test (f y) ≡ false = before 0 (omega arith) in
     rw first (find-first f test xs i x (omega arith) is passes (λ j h. before (suc j) (omega arith)))
 
-find-none : {A : Type 0} (p : A → Bool) (xs : List A) → position p xs ≡ None → find p xs ≡ None
+pub find-none : {A : Type 0} (p : A → Bool) (xs : List A) → position p xs ≡ None → find p xs ≡ None
 find-none p xs h = go (nat_lt (position_or_len p xs) (length xs)) refl h
   where
     go : (b : Bool) → nat_lt (position_or_len p xs) (length xs) ≡ b → cond b (Some (position_or_len p xs)) None ≡ None → find p xs ≡ None
     go true e q = absurd (cc)
     go false e q = find_at p xs ∙ slice_get_past xs (position_or_len p xs) (ltb-false _ _ e)
 
-find-map : {A B : Type 0} (f : A → B) (test : B → Bool) (xs : List A) → find (λ x. test (f x)) xs ≡ None → find test (map f xs) ≡ None
+pub find-map : {A B : Type 0} (f : A → B) (test : B → Bool) (xs : List A) → find (λ x. test (f x)) xs ≡ None → find test (map f xs) ≡ None
 find-map f test [] h = refl
 find-map f test (x ∷ xs) h =
     elim (test (f x)) as (λ b. cond b (Some x) (find (λ x. test (f x)) xs) ≡ None → cond b (Some (f x)) (find test (map f xs)) ≡ None)

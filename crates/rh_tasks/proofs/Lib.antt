@@ -40,3 +40,6 @@ pub mod ModuleCommands
 pub mod Readers
 pub mod Portions
 pub mod Fetches
+pub mod Sources
+pub mod Writes
+pub mod Transmits

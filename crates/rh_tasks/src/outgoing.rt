@@ -84,6 +84,7 @@ impl<S: Store> World<S> {
         requires { i < length self.now.desk.tasks }
         ensures ok { IfOk result (λ p. (t : Task) → IsAt i t self.now.desk → IsPortion t x.now amount p.address p.length) }
         ensures err { IfErr result (λ e. (t : Task) → IsAt i t self.now.desk → slot_block x.now.anchor t.slot ≡ Err e) }
+        ensures most { IfOk result (λ p. p.length ≤ amount) }
         ensures low { IfOk result (λ p. p.address < 2 ^ 33) }
         ensures word { IfOk result (λ p. x.now.count + p.length < 2 ^ 32) }
     {
