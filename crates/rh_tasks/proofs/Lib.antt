@@ -43,3 +43,6 @@ pub mod Fetches
 pub mod Sources
 pub mod Writes
 pub mod Transmits
+pub mod Appends
+pub mod Buffers
+pub mod Takings
