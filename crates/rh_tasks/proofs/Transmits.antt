@@ -206,11 +206,13 @@ module _ (d : Desk) (t : Task) (m : Parcel) (buffer amount : ℕ) (x : Sending) 
             let after = after_sent n ref sent in
             let edits = edited-reordered t.handle (λ u. record u { sending = sender.sent x n amount ref u.sending })
             (edited-reordered r.handle (with_written buffer amount (take n (drop x.count p.source.here.bytes))) alike) in
-            let same = recorded ∙ ap (λ y. with_sending t.handle (sender.sent x n amount ref) y) wrote in
-            (after.0, (
-              transmit-done q ∙ ap (λ k. let g : Granted Handled = Ok (after_sent n k sent) in g) (sym is),
-              subst (IsReordered after.0) (sym same) edits,
-            ))
+            let same = recorded ∙ ap (λ y. with_sending t.handle (sender.sent x n amount ref) y) wrote in (
+              after.0,
+              (
+                transmit-done q ∙ ap (λ k. let g : Granted Handled = Ok (after_sent n k sent) in g) (sym is),
+                subst (IsReordered after.0) (sym same) edits,
+              ),
+            )
 
 -- ---- the handlers
 

@@ -24,16 +24,16 @@ refused_out-requires g c =
 pub returns-in-Ok : goal.returns-in-Ok
 returns-in-Ok g c =
     rw c.in-Some.is (λ t m is.
-      let h = c.in-Ok.ensures t m is in
-      handles-alike (fetch-done c.args.self.now.desk t c.in-Some.x m c.args.buffer c.args.amount h.1.0) h.1.1)
+    let h = c.in-Ok.ensures t m is in
+    handles-alike (fetch-done c.args.self.now.desk t c.in-Some.x m c.args.buffer c.args.amount h.1.0) h.1.1)
 
 pub returns-in-Err : goal.returns-in-Err
 returns-in-Err g c =
     let x = c.in-Some.x in
     let d = c.args.self.now.desk in
     rw c.in-Some.is (λ t m is.
-      let h = c.in-Err.ensures t m is in
-      let P : Shown → Type 0 = λ s. (t : Task) → IsAt c.args.i t s.desk
-          → (c.refused_out.result ≡ (refused s.desk t x c.in-Err.refusal).1) × IsReordered (refused s.desk t x c.in-Err.refusal).0 c.refused_out.new.self.desk in
-      let Q : Handled → Type 0 = λ a. (c.refused_out.result ≡ a.1) × IsReordered a.0 c.refused_out.new.self.desk in
-      subst Q (sym (fetch-refused d t x m c.args.buffer c.args.amount h.0)) (subst P h.1 c.refused_out.ensures t is.at))
+    let h = c.in-Err.ensures t m is in
+    let P : Shown → Type 0 = λ s. (t : Task) → IsAt c.args.i t s.desk
+    → (c.refused_out.result ≡ (refused s.desk t x c.in-Err.refusal).1) × IsReordered (refused s.desk t x c.in-Err.refusal).0 c.refused_out.new.self.desk in
+    let Q : Handled → Type 0 = λ a. (c.refused_out.result ≡ a.1) × IsReordered a.0 c.refused_out.new.self.desk in
+    subst Q (sym (fetch-refused d t x m c.args.buffer c.args.amount h.0)) (subst P h.1 c.refused_out.ensures t is.at))

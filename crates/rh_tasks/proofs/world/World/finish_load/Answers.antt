@@ -27,10 +27,10 @@ returns-in-Ok g c =
     let d = c.args.self.now.desk in
     let z = sized c.in-Ok.ensures in
     rw c.in-Some.is (λ t ti.
-      let there = rw (← c.self.view_is) at ti in
-      let is : t ≡ task_of m s = seat-is (seated m c.self.inside.seats.items c.args.i t there) s (sym c.index-seat.ensures) in
-      let block : slot_block x.anchor t.slot ≡ Ok z.cut = rw is z.block in
-      handles-alike (load-done d t x block) (reordered-same (sym (c.record_loaded_out.ensures t ti ∙ ap (λ k. with_sending t.handle (sender.loaded x k) d) z.long))))
+    let there = rw (← c.self.view_is) at ti in
+    let is : t ≡ task_of m s = seat-is (seated m c.self.inside.seats.items c.args.i t there) s (sym c.index-seat.ensures) in
+    let block : slot_block x.anchor t.slot ≡ Ok z.cut = rw is z.block in
+    handles-alike (load-done d t x block) (reordered-same (sym (c.record_loaded_out.ensures t ti ∙ ap (λ k. with_sending t.handle (sender.loaded x k) d) z.long))))
 
 pub returns-in-Err : goal.returns-in-Err
 unfolding task_of
@@ -40,8 +40,8 @@ returns-in-Err g c =
     let x = c.in-Some.x in
     let d = c.args.self.now.desk in
     rw c.in-Some.is (λ t ti.
-      let there = rw (← c.self.view_is) at ti in
-      let is : t ≡ task_of m s = seat-is (seated m c.self.inside.seats.items c.args.i t there) s (sym c.index-seat.ensures) in
-      let block : slot_block x.anchor t.slot ≡ Err c.in-Err.refusal = rw is (unsized x.anchor (slot_in m s.slot) c.in-Err.ensures) in
-      let P : Handled → Type 0 = λ a. (c.refused_out.result ≡ a.1) × IsReordered a.0 c.refused_out.new.self.desk in
-      subst P (sym (load-refused d t x block)) (c.refused_out.ensures t ti))
+    let there = rw (← c.self.view_is) at ti in
+    let is : t ≡ task_of m s = seat-is (seated m c.self.inside.seats.items c.args.i t there) s (sym c.index-seat.ensures) in
+    let block : slot_block x.anchor t.slot ≡ Err c.in-Err.refusal = rw is (unsized x.anchor (slot_in m s.slot) c.in-Err.ensures) in
+    let P : Handled → Type 0 = λ a. (c.refused_out.result ≡ a.1) × IsReordered a.0 c.refused_out.new.self.desk in
+    subst P (sym (load-refused d t x block)) (c.refused_out.ensures t ti))

@@ -13,8 +13,8 @@ returns-then-size-room g c =
     let m = g.S.Words.memory c.self.inside.store in
     let seats = c.self.inside.seats.items in
     rw (← c.self.view_is) (λ t r ti rj.
-      in-buffer (seated m seats c.args.i t ti) (seated m seats c.args.target.seat r rj) c.index-seat.result.now (sym c.index-seat.ensures)
-      c.args.target.address c.args.target.room c.args.portion.address c.args.portion.length c.in-Ok.ensures (omega (arith, c.if-size-room.true)))
+    in-buffer (seated m seats c.args.i t ti) (seated m seats c.args.target.seat r rj) c.index-seat.result.now (sym c.index-seat.ensures)
+    c.args.target.address c.args.target.room c.args.portion.address c.args.portion.length c.in-Ok.ensures (omega (arith, c.if-size-room.true)))
 
 pub returns-then-not-inside : goal.returns-then-not-inside
 returns-then-not-inside g c =
@@ -25,8 +25,8 @@ returns-then-not-inside g c =
       | in_default w ↦ buffer-none c.args.target.address c.args.target.room (slot_in m c.index-seat.result.now.slot) w.in_default.ensures
     ] in
     rw (← c.self.view_is) (λ t r ti rj.
-      in-none (seated m seats c.args.i t ti) (seated m seats c.args.target.seat r rj) c.index-seat.result.now (sym c.index-seat.ensures)
-      c.args.target.address c.args.target.room c.args.portion.address c.args.portion.length narrow (sym c.if-not-inside.ensures))
+    in-none (seated m seats c.args.i t ti) (seated m seats c.args.target.seat r rj) c.index-seat.result.now (sym c.index-seat.ensures)
+    c.args.target.address c.args.target.room c.args.portion.address c.args.portion.length narrow (sym c.if-not-inside.ensures))
 
 pub returns-then-i-target : goal.returns-then-i-target
 returns-then-i-target g c =
@@ -37,8 +37,8 @@ returns-then-i-target g c =
       | in_default w ↦ buffer-none c.args.target.address c.args.target.room (slot_in m c.index-seat.result.now.slot) w.in_default.ensures
     ] in
     rw (← c.self.view_is) (λ t r ti rj.
-      c.do_overlap.ensures ∙ in-own (seated m seats c.args.i t ti) (seated m seats c.args.target.seat r rj) c.index-seat.result.now (sym c.index-seat.ensures)
-      c.args.target.address c.args.target.room c.args.portion.address c.args.portion.length narrow (sym c.if-not-inside.ensures) c.if-i-target.true)
+    c.do_overlap.ensures ∙ in-own (seated m seats c.args.i t ti) (seated m seats c.args.target.seat r rj) c.index-seat.result.now (sym c.index-seat.ensures)
+    c.args.target.address c.args.target.room c.args.portion.address c.args.portion.length narrow (sym c.if-not-inside.ensures) c.if-i-target.true)
 
 pub returns-else-i-target : goal.returns-else-i-target
 returns-else-i-target g c =
@@ -49,5 +49,5 @@ returns-else-i-target g c =
       | in_default w ↦ buffer-none c.args.target.address c.args.target.room (slot_in m c.index-seat.result.now.slot) w.in_default.ensures
     ] in
     rw (← c.self.view_is) (λ t r ti rj.
-      in-other (seated m seats c.args.i t ti) (seated m seats c.args.target.seat r rj) c.index-seat.result.now (sym c.index-seat.ensures)
-      c.args.target.address c.args.target.room c.args.portion.address c.args.portion.length narrow (sym c.if-not-inside.ensures) (handles c.self.invariant.0) c.if-i-target.false)
+    in-other (seated m seats c.args.i t ti) (seated m seats c.args.target.seat r rj) c.index-seat.result.now (sym c.index-seat.ensures)
+    c.args.target.address c.args.target.room c.args.portion.address c.args.portion.length narrow (sym c.if-not-inside.ensures) (handles c.self.invariant.0) c.if-i-target.false)

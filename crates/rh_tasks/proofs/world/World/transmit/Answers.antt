@@ -62,13 +62,13 @@ returns-in_err-transmit g c =
     let n = c.in_ok-portion.portion.length in
     let r : Meant d c.in-Some.seat c.args.x.now.recipient = rw (← c.self.view_is) (somebody-with c.self.invariant.0 c.args.x.now.recipient c.in-Some.seat (sym c.in-Some.ensures)) in
     rw (p.1, p.2) (λ t m is.
-      let there = rw (← c.self.view_is) at is.at in
-      let own : s.handle ≡ t.handle = sym (ap (λ (u : Task). u.handle) (seat-is (seated m0 c.self.inside.seats.items c.args.i t there) s (sym c.index-sender.ensures))) in
-      let letter = c.transmit_letter-letter.ensures m is.message_is ∙ ap (λ h. transmit_letter h m (nat_lt n c.args.amount) c.args.buffer n) own in
-      let near = sym (c.if-is_out_of_reach.ensures t r.task is.at r.at) in (
-        transmit-refused d t m c.args.buffer c.args.amount c.args.x.now (c.in_ok-portion.ensures.ok t is.at) r.task r.found near (ap (λ l. send_letter l d) (sym letter) ∙ c.in_err-transmit.ensures.0),
-        c.in_err-transmit.ensures.1,
-      ))
+    let there = rw (← c.self.view_is) at is.at in
+    let own : s.handle ≡ t.handle = sym (ap (λ (u : Task). u.handle) (seat-is (seated m0 c.self.inside.seats.items c.args.i t there) s (sym c.index-sender.ensures))) in
+    let letter = c.transmit_letter-letter.ensures m is.message_is ∙ ap (λ h. transmit_letter h m (nat_lt n c.args.amount) c.args.buffer n) own in
+    let near = sym (c.if-is_out_of_reach.ensures t r.task is.at r.at) in (
+      transmit-refused d t m c.args.buffer c.args.amount c.args.x.now (c.in_ok-portion.ensures.ok t is.at) r.task r.found near (ap (λ l. send_letter l d) (sym letter) ∙ c.in_err-transmit.ensures.0),
+      c.in_err-transmit.ensures.1,
+    ))
 
 pub write_portion-requires-clause-source : goal.write_portion-requires-clause-source
 write_portion-requires-clause-source g c =
@@ -100,9 +100,9 @@ write_portion-requires-clause-reach g c =
     let t = member-at d.tasks c.args.i c.requires in
     let r : Meant d c.in-Some.seat c.args.x.now.recipient = rw (← c.self.view_is) (somebody-with c.self.invariant.0 c.args.x.now.recipient c.in-Some.seat (sym c.in-Some.ensures)) in
     λ u v at bt.
-      reach-seen t.0 u r.task v c.args.buffer c.args.amount c.in_ok-portion.portion.address c.in_ok-portion.portion.length
-      (alike-at pair_of k c.args.i t.0 u t.1 at) (alike-at pair_of k c.in-Some.seat r.task v r.at bt)
-      ∙ sym (c.if-is_out_of_reach.ensures t.0 r.task t.1 r.at)
+    reach-seen t.0 u r.task v c.args.buffer c.args.amount c.in_ok-portion.portion.address c.in_ok-portion.portion.length
+    (alike-at pair_of k c.args.i t.0 u t.1 at) (alike-at pair_of k c.in-Some.seat r.task v r.at bt)
+    ∙ sym (c.if-is_out_of_reach.ensures t.0 r.task t.1 r.at)
 
 pub write_portion-requires-clause-room : goal.write_portion-requires-clause-room
 write_portion-requires-clause-room g c = c.in_ok-portion.ensures.most
@@ -130,13 +130,13 @@ returns g c =
     let k = sent-pairs c.transmit_letter-letter.result d e.1.0 c.send_from.new.self.desk e.1.1.0 e.1.1.1 in
     let r : Meant d c.in-Some.seat c.args.x.now.recipient = rw (← c.self.view_is) (somebody-with c.self.invariant.0 c.args.x.now.recipient c.in-Some.seat (sym c.in-Some.ensures)) in
     λ t m is.
-      let there = rw (← c.self.view_is) at is.at in
-      let own : s.handle ≡ t.handle = sym (ap (λ (u : Task). u.handle) (seat-is (seated m0 c.self.inside.seats.items c.args.i t there) s (sym c.index-sender.ensures))) in
-      let letter = c.transmit_letter-letter.ensures m is.message_is ∙ ap (λ h. transmit_letter h m (nat_lt n c.args.amount) c.args.buffer n) own in
-      let near = sym (c.if-is_out_of_reach.ensures t r.task is.at r.at) in
-      let p = c.in_ok-portion.ensures.ok t is.at in
-      let after = seen handle_of (wrote-handles k c.args.i c.in-Some.seat is.at r.at p c.args.buffer c.args.amount c.write_portion.ensures) c.args.i t is.at in
-      let last = c.in_ok-transmit.transmit in
-      let recorded = c.record_sent.ensures after.task after.at ∙ ap (λ h. with_sending h (sender.sent c.args.x.now n c.args.amount last) c.write_portion.new.self.desk) after.alike in
-      transmit-whole d t m c.args.buffer c.args.amount c.args.x.now p r.task r.found near e.0 (ap (λ l. send_letter l d) (sym letter) ∙ e.1.1.0) e.1.1.1
-      (wrote-is k c.args.i c.in-Some.seat is.at r.at p c.args.buffer c.args.amount c.write_portion.ensures) recorded
+    let there = rw (← c.self.view_is) at is.at in
+    let own : s.handle ≡ t.handle = sym (ap (λ (u : Task). u.handle) (seat-is (seated m0 c.self.inside.seats.items c.args.i t there) s (sym c.index-sender.ensures))) in
+    let letter = c.transmit_letter-letter.ensures m is.message_is ∙ ap (λ h. transmit_letter h m (nat_lt n c.args.amount) c.args.buffer n) own in
+    let near = sym (c.if-is_out_of_reach.ensures t r.task is.at r.at) in
+    let p = c.in_ok-portion.ensures.ok t is.at in
+    let after = seen handle_of (wrote-handles k c.args.i c.in-Some.seat is.at r.at p c.args.buffer c.args.amount c.write_portion.ensures) c.args.i t is.at in
+    let last = c.in_ok-transmit.transmit in
+    let recorded = c.record_sent.ensures after.task after.at ∙ ap (λ h. with_sending h (sender.sent c.args.x.now n c.args.amount last) c.write_portion.new.self.desk) after.alike in
+    transmit-whole d t m c.args.buffer c.args.amount c.args.x.now p r.task r.found near e.0 (ap (λ l. send_letter l d) (sym letter) ∙ e.1.1.0) e.1.1.1
+    (wrote-is k c.args.i c.in-Some.seat is.at r.at p c.args.buffer c.args.amount c.write_portion.ensures) recorded

@@ -27,10 +27,12 @@ write_from-requires-clause-apart g c =
 pub invariant_of-self : goal.invariant_of-self
 invariant_of-self g c =
     let w = c.self.invariant.0 in
-    let q = rw (← c.self.view_is) at c.requires in
-    (wrote-world w (sits-in w q.source (sym c.index-source.ensures)) (sits-in w q.target (sym c.index-seat.ensures)) c.args.x.now c.args.amount c.args.portion.address c.args.portion.length
-    c.args.target.address c.args.target.room c.place_of-place.result q.portion q.reach q.room c.place_of-place.ensures.none c.place_of-place.ensures.some c.write_from.ensures,
-    c.self.invariant.1, c.self.invariant.2)
+    let q = rw (← c.self.view_is) at c.requires in (
+      wrote-world w (sits-in w q.source (sym c.index-source.ensures)) (sits-in w q.target (sym c.index-seat.ensures)) c.args.x.now c.args.amount c.args.portion.address c.args.portion.length
+          c.args.target.address c.args.target.room c.place_of-place.result q.portion q.reach q.room c.place_of-place.ensures.none c.place_of-place.ensures.some c.write_from.ensures,
+      c.self.invariant.1,
+      c.self.invariant.2,
+    )
 
 pub returns : goal.returns
 returns g c =
