@@ -66,10 +66,10 @@ unfolding slot_block found_or
 block-has k s b e = elim (find k s.blocks) [
   | inl u ↦ absurd (let q : ◌≡◌ {A = Granted (Split Flex)} (Err NoBlock) (Ok b) = sym (ap (λ o. found_or o NoBlock) (block_of-none k s u)) ∙ e in cc)
   | inr t ↦ (let c : Split Flex = record { before = t.before; here = t.here; after = t.after } in
-      let has : Has k s c = at-cut {s = s} t in
-      let q : ◌≡◌ {A = Granted (Split Flex)} (Ok c) (Ok b) = sym (has-block c has) ∙ e in
-      let same : c ≡ b = cc in
-      subst (Has k s) same has)
+    let has : Has k s c = at-cut {s = s} t in
+    let q : ◌≡◌ {A = Granted (Split Flex)} (Ok c) (Ok b) = sym (has-block c has) ∙ e in
+    let same : c ≡ b = cc in
+    subst (Has k s) same has)
 ]
 
 pub sized-block : (k : ℕ) (s : Slot) (n : ℕ) → Ok n ≡ slot_size k s → (b : Split Flex) × ((slot_block k s ≡ Ok b) × (n ≡ length b.here.bytes))

@@ -1,14 +1,13 @@
 -- The bytes of a block that go out, and the range that they go into.
-use Rattle.std.proofs.Common.{◌≡◌, ◌≢◌, ◌⊎◌, inl, inr, ℕ, zero, suc, ◌+◌, ◌-◌, ◌*◌, ◌<◌, ◌≤◌, ◌^◌, Bool, true, false, refl, ap, sym, subst, ◌∙◌, arith, List, [], ◌∷◌, length}
-use Rattle.std.specs.Prelude.{Option, Some, None, Ok, Err, IsOk, IfSome, is_some, ok_or, not, ◌&&◌, ◌||◌, ◌==◌, nat_le, if◌then◌else◌, map, take, drop, min}
+use Rattle.std.proofs.Common.{◌≡◌, ℕ, ◌+◌, ◌-◌, ◌<◌, ◌≤◌, Bool, true, false, refl, sym, subst, ◌∙◌, arith, length}
+use Rattle.std.specs.Prelude.{Option, Some, None, Ok, Err, IfSome, is_some, ok_or, ◌&&◌, ◌==◌, nat_le, if◌then◌else◌}
 use Rattle.std.specs.Option.{option_map}
 use Rattle.std.proofs.lemmas.Bool.{eqb-true}
 use Rattle.rh_defs.specs.declared.refusal.Refusal.{Refusal}
 use Rattle.rh_defs.specs.declared.refusal.Refusal.TheVariants.{NoBlock, NotABlock}
 use Rattle.rh_defs.specs.Chain.{Granted, ◌>>=◌, found_or}
-use Rattle.rh_defs.specs.Pieces.{total, Split, with_here}
-use Rattle.rh_defs.specs.Memory.{Memory, bytes}
-use Rattle.rh_defs.specs.Heap.{Segment, bytes_of, block_size, block_at}
+use Rattle.rh_defs.specs.Pieces.{Split}
+use Rattle.rh_defs.specs.Heap.{Segment, bytes_of, block_size}
 use Rattle.rh_defs.specs.Slot as plain
 use Rattle.rh_defs.specs.Slot.{Flex, weight, block_of, slot_block, slot_size, slot_address, slot_start, slot_length, heap_start, heap_block_at, flex_address, flex_start, holds, HaveAnchors}
 use Rattle.rh_defs.specs.Places.{buffer_at, roomy_in, overlap}

@@ -1,6 +1,6 @@
 -- Where the bytes of a portion stand, and the range of a buffer that they are written into.
-use Rattle.std.proofs.Common.{◌≡◌, ◌⊎◌, inl, inr, ℕ, zero, suc, ◌+◌, ◌-◌, ◌<◌, ◌≤◌, Bool, true, false, refl, ap, sym, subst, ◌∙◌, arith, List, length}
-use Rattle.std.specs.Prelude.{Option, Some, None, Ok, Err, IfSome, is_some, not, ◌&&◌, ◌||◌, ◌==◌, nat_le, nat_lt, if◌then◌else◌, take, drop}
+use Rattle.std.proofs.Common.{◌≡◌, ◌⊎◌, inl, inr, ℕ, zero, suc, ◌+◌, ◌-◌, ◌<◌, ◌≤◌, Bool, true, false, refl, ap, sym, subst, ◌∙◌, arith, length}
+use Rattle.std.specs.Prelude.{Option, Some, None, Ok, IfSome, is_some, not, ◌&&◌, ◌||◌, nat_le, nat_lt, if◌then◌else◌, take, drop}
 use Rattle.std.proofs.lemmas.Bool.{leb-true}
 use borrow.Author.Tests.{ltb-false}
 use Rattle.rh_defs.specs.Bytes.{part}

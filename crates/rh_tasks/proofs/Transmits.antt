@@ -34,7 +34,7 @@ use Rattle.rh_tasks.proofs.Finding.{find-none, find-map}
 use Rattle.rh_tasks.proofs.Lists.{Sits}
 use Rattle.rh_tasks.proofs.Places.{mapped-at, task-found}
 use Rattle.rh_tasks.proofs.Reorders.{reordered-refl}
-use Rattle.rh_tasks.proofs.Writes.{with_written, KeyAlike, alike-edited, alike-reordered, alike-both, alike-sent, Seen, seen}
+use Rattle.rh_tasks.proofs.Writes.{with_written, KeyAlike, alike-edited, alike-reordered, alike-both, alike-sent, seen}
 
 -- ---- the task with a handle
 

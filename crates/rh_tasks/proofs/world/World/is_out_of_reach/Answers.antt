@@ -1,4 +1,4 @@
-use Rattle.std.proofs.Common.{◌≡◌, refl, sym, ◌∙◌, arith, false, true}
+use Rattle.std.proofs.Common.{◌≡◌, sym, ◌∙◌, arith, false}
 use Rattle.std.specs.Prelude.{is_some}
 use Rattle.rh_defs.specs.Places.{buffer_at}
 use Rattle.rh_slot.specs.Area.{slot_in}

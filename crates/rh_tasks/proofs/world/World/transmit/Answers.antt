@@ -1,5 +1,5 @@
-use Rattle.std.proofs.Common.{◌≡◌, refl, sym, ap, subst, ◌∙◌, arith, length, true, false}
-use Rattle.std.specs.Prelude.{Ok, Err, Some, None, nat_lt}
+use Rattle.std.proofs.Common.{◌≡◌, refl, sym, ap, ◌∙◌, arith}
+use Rattle.std.specs.Prelude.{None, nat_lt}
 use Rattle.std.proofs.lemmas.Result.{err_from_is_err_and}
 use Rattle.std.proofs.lemmas.Option.{slice_get_within}
 use Rattle.rh_defs.specs.declared.message.EventCode.TheVariants.{User}
@@ -8,13 +8,11 @@ use Rattle.rh_defs.specs.Letters.{transmit_letter}
 use Rattle.rh_defs.specs.Messages.{Parcel}
 use Rattle.rh_defs.specs.Desk.{Task, task_at, with_sending, send_letter}
 use Rattle.rh_defs.specs.Sender as sender
-use Rattle.rh_defs.specs.OutgoingEvents.{is_out_of_reach}
 use Rattle.rh_tasks.specs.View.{task_of}
-use Rattle.rh_tasks.specs.Polls.{IsAt, IsFor}
 use Rattle.rh_tasks.proofs.SeatRecords.{sits-in}
 use Rattle.rh_tasks.proofs.Places.{mapped-at}
 use Rattle.rh_tasks.proofs.Fetches.{seated, seat-is}
-use Rattle.rh_tasks.proofs.Writes.{KeyAlike, alike-length, alike-at, seen}
+use Rattle.rh_tasks.proofs.Writes.{alike-length, alike-at, seen}
 use Rattle.rh_tasks.proofs.Transmits.{Meant, nobody-with, somebody-with, member-at, pair_of, handle_of, sent-pairs, portion-seen, reach-seen, wrote-is, wrote-handles, transmit-missing, transmit-nobody, transmit-far, transmit-refused, transmit-whole}
 use Rattle.rh_tasks.proofs.world.World.transmit.Goals as goal
 
