@@ -46,6 +46,11 @@ pub mod Slides
 pub mod Rooms
 pub mod Accepts
 pub mod AcceptRooms
+pub mod Portions
+pub mod Fetches
+pub mod Sources
+pub mod Writes
+pub mod Transmits
 pub mod Appends
 pub mod Buffers
 pub mod Takings

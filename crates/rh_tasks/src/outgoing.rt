@@ -1,6 +1,6 @@
 //! What a message does to a transfer that goes out.
 
-ghost use Rattle.std.specs.Prelude.{◌≡◌, ◌<◌, ◌≤◌, ◌+◌, ◌^◌, ◌==◌, false, length, take, drop, Ok, Err, IfOk, IfErr};
+ghost use Rattle.std.specs.Prelude.{◌≡◌, ◌<◌, ◌≤◌, ◌+◌, ◌^◌, ◌==◌, ◌-◌, min, false, length, take, drop, Ok, Err, IfOk, IfErr};
 ghost use Rattle.std.specs.List.{position};
 ghost use Rattle.rh_defs.specs.Desk.{Task, with_task};
 ghost use Rattle.rh_defs.specs.Messages.{Parcel};
@@ -50,20 +50,50 @@ pub fn do_overlap(x: usize, n: usize, y: usize, m: usize) -> bool
     0 < n && 0 < m && x < y + m && y < x + n
 }
 
+/// How many of an amount of bytes a source of a size still has, of which some went out.
+fn bytes_left(size: u32, count: u32, amount: u32) -> u32
+    ensures least { result ≡ min amount (size - count) }
+    ensures word { count + result < 2 ^ 32 }
+{
+    amount.min(size.saturating_sub(count))
+}
+
+/// The address of a source's next byte.
+fn next_address(start: usize, count: u32) -> usize
+    requires { start < 2 ^ 32 }
+    ensures next { result ≡ start + count }
+    ensures low { result < 2 ^ 33 }
+{
+    start + count as usize
+}
+
+/// Where the bytes of a portion stand in their slot's area; 0 where there are none.
+fn place_of(portion: Portion) -> usize
+    ensures none { portion.length ≡ 0 → result ≡ 0 }
+    ensures some { 0 < portion.length → result ≡ portion.address - SLOT_START }
+{
+    if portion.length == 0 {
+        return 0;
+    }
+    portion.address.saturating_sub(SLOT_START)
+}
+
 impl<S: Store> World<S> {
     /// The bytes for a fetch of an amount: NoBlock.
     fn portion(&self, i: usize, x: &Sending, amount: u32) -> Result<Portion, Refusal>
         requires { i < length self.now.desk.tasks }
         ensures ok { IfOk result (λ p. (t : Task) → IsAt i t self.now.desk → IsPortion t x.now amount p.address p.length) }
         ensures err { IfErr result (λ e. (t : Task) → IsAt i t self.now.desk → slot_block x.now.anchor t.slot ≡ Err e) }
+        ensures most { IfOk result (λ p. p.length ≤ amount) }
+        ensures low { IfOk result (λ p. p.address < 2 ^ 33) }
+        ensures word { IfOk result (λ p. x.now.count + p.length < 2 ^ 32) }
     {
         let seat = &self.seats[i];
         let size = document_size(&self.store, seat.slot, x.anchor)?;
         let start = seat.slot.address(&self.store, x.anchor).unwrap();
-        Ok(Portion {
-            address: start + x.count as usize,
-            length: amount.min(size.saturating_sub(x.count)),
-        })
+        let address = next_address(start, x.count);
+        let length = bytes_left(size, x.count, amount);
+        Ok(Portion { address, length })
     }
 
     /// Whether the fetch's range isn't one of the recipient's to write the bytes of a portion into.
@@ -89,7 +119,14 @@ impl<S: Store> World<S> {
     }
 
     /// Writes the bytes of a portion into a fetch's buffer that is in reach.
-    fn write_portion(&mut self, i: usize, x: &Sending, amount: u32, target: Target, portion: Portion)
+    fn write_portion(
+        &mut self,
+        i: usize,
+        x: &Sending,
+        amount: u32,
+        target: Target,
+        portion: Portion,
+    )
         requires source { i < length self.old.desk.tasks }
         requires target { target.seat < length self.old.desk.tasks }
         requires portion { (t : Task) → IsAt i t self.old.desk → IsPortion t x.now amount portion.address portion.length }
@@ -98,24 +135,35 @@ impl<S: Store> World<S> {
         requires room { portion.length ≤ target.room }
         ensures { (t r : Task) (source : Split Flex) → IsAt i t self.old.desk → IsAt target.seat r self.old.desk → slot_block x.now.anchor t.slot ≡ Ok source
             → self.new.desk ≡ with_task r.handle (λ r. record r {
-                slot = written_in target.address (take portion.length (drop x.now.count source.here.bytes)) (buffer_at target.address target.room r.slot) r.slot;
-              }) self.old.desk }
+              slot = written_in target.address (take portion.length (drop x.now.count source.here.bytes)) (buffer_at target.address target.room r.slot) r.slot;
+            }) self.old.desk }
     {
         let source = &self.seats[i];
         let seat = &self.seats[target.seat];
         let n = portion.length as usize;
-        let place = if n == 0 {
-            0
-        } else {
-            portion.address.saturating_sub(SLOT_START)
-        };
+        let place = place_of(portion);
         let from = source.slot.area;
         let slot = seat.slot;
-        write_from(&mut self.store, slot, target.address as usize, target.room as usize, from, place, n);
+        write_from(
+            &mut self.store,
+            slot,
+            target.address as usize,
+            target.room as usize,
+            from,
+            place,
+            n,
+        );
     }
 
     /// Sends the bytes for a fetch: NoBlock, NoTask, BadRange, NoRefs, QueueFull, NoRoom.
-    fn transmit(&mut self, i: usize, message: &Message, buffer: u32, amount: u32, x: &Sending) -> Result<Outcome, Refusal>
+    fn transmit(
+        &mut self,
+        i: usize,
+        message: &Message,
+        buffer: u32,
+        amount: u32,
+        x: &Sending,
+    ) -> Result<Outcome, Refusal>
         requires { i < length self.old.desk.tasks }
         ensures { (t : Task) (m : Parcel) → IsFor i t self.old.desk m message.now
             → Attempts (transmitted self.old.desk t m buffer amount x.now) self.old self.new result }
@@ -124,7 +172,11 @@ impl<S: Store> World<S> {
         let Some(seat) = with_handle(&self.seats, x.recipient) else {
             return Err(Refusal::NoTask);
         };
-        let target = Target { seat, address: buffer, room: amount };
+        let target = Target {
+            seat,
+            address: buffer,
+            room: amount,
+        };
         if self.is_out_of_reach(i, target, portion) {
             return Err(Refusal::BadRange);
         }
@@ -147,7 +199,14 @@ impl<S: Store> World<S> {
     }
 
     /// What a RAMFetch does to the transfer that it is for.
-    pub(crate) fn answer_fetch(&mut self, i: usize, message: &Message, buffer: u32, amount: u32, x: Option<Sending>) -> Outcome
+    pub(crate) fn answer_fetch(
+        &mut self,
+        i: usize,
+        message: &Message,
+        buffer: u32,
+        amount: u32,
+        x: Option<Sending>,
+    ) -> Outcome
         requires { i < length self.old.desk.tasks }
         ensures { (t : Task) (m : Parcel) → IsFor i t self.old.desk m message.now
             → Handles (answer_fetch_on self.old.desk t m buffer amount x) self.new result }
