@@ -8,9 +8,13 @@ use Rattle.rh_tasks.proofs.world.World.ask.Goals as goal
 pub send_from-requires : goal.send_from-requires
 unfolding task_of
 send_from-requires g c =
-    let at : Sits c.self.inside.seats.items c.args.i c.index-seat.result.now = sits-there c.self.invariant.0 c.self.view_is c.requires c.index-seat.ensures in
-    (task_of (g.S.Words.memory c.self.inside.store) c.index-seat.result.now, (seat-there c.self.invariant.0 c.self.view_is at,
-    ack-from c.ack_letter-letter.result c.index-seat.result.now.handle c.args.f.now.sender c.args.f.now.id c.ack_letter-letter.ensures))
+    let at : Sits c.self.inside.seats.items c.args.i c.index-seat.result.now = sits-there c.self.invariant.0 c.self.view_is c.requires c.index-seat.ensures in (
+      task_of (g.S.Words.memory c.self.inside.store) c.index-seat.result.now,
+      (
+        seat-there c.self.invariant.0 c.self.view_is at,
+        ack-from c.ack_letter-letter.result c.index-seat.result.now.handle c.args.f.now.sender c.args.f.now.id c.ack_letter-letter.ensures,
+      ),
+    )
 
 pub returns-in_err-ack : goal.returns-in_err-ack
 returns-in_err-ack g c t there =
