@@ -1,6 +1,6 @@
 -- A block of a slot that gets bytes from elsewhere in the store at its end.
-use Rattle.std.proofs.Common.{◌≡◌, ◌≢◌, ℕ, ◌+◌, ◌-◌, ◌<◌, ◌≤◌, Bool, true, false, refl, ap, sym, subst, ◌∙◌, arith, inl, inr, List, [], ◌∷◌, ◌++◌, length, take}
-use Rattle.std.specs.Prelude.{◌⊎◌, Option, Some, None, Ok, Err, IsOk, min, nat_lt}
+use Rattle.std.proofs.Common.{◌≡◌, ℕ, ◌+◌, ◌-◌, ◌<◌, ◌≤◌, Bool, true, false, refl, ap, sym, subst, ◌∙◌, arith, inl, inr, List, [], ◌∷◌, ◌++◌, length, take}
+use Rattle.std.specs.Prelude.{◌⊎◌, Option, Some, None, Ok, Err, IsOk, min}
 use Rattle.std.specs.Option.{option_map, ok_or}
 use Rattle.std.proofs.lemmas.Bool.{cases_eq, cases_lt}
 use Rattle.std.proofs.lemmas.List.{length-take, take_all}
@@ -9,9 +9,9 @@ use Rattle.rh_defs.specs.Memory.{Memory, bytes}
 use Rattle.rh_defs.specs.declared.refusal.Refusal.{Refusal}
 use Rattle.rh_defs.specs.declared.refusal.Refusal.TheVariants.{NoBlock, NotABlock, NoRoom, BadRange}
 use Rattle.rh_defs.specs.Chain.{Granted, ◌>>=◌, refuse_if, found_or, no_answer}
-use Rattle.rh_defs.specs.Pieces.{Split, written}
+use Rattle.rh_defs.specs.Pieces.{Split}
 use Rattle.rh_defs.specs.Heap.{Segment, bytes_of, block_at, block_size, fitted}
-use Rattle.rh_defs.specs.Slot.{Slot, Flex, IsFree, HaveAnchors, slot_start, heap_start, block_of, heap_block_at, length_with, lacks_room, with_bytes, slot_block, slot_size, slot_extend, slot_put}
+use Rattle.rh_defs.specs.Slot.{Slot, Flex, IsFree, HaveAnchors, slot_start, heap_start, heap_block_at, length_with, lacks_room, with_bytes, slot_block, slot_size, slot_extend, slot_put}
 use Rattle.rh_defs.specs.SlotImage.{flex_place}
 use Rattle.rh_defs.specs.Places.{first_bytes}
 use Rattle.rh_defs.proofs.BytesLaws.{length-part}
@@ -66,10 +66,10 @@ unfolding slot_block found_or
 block-has k s b e = elim (find k s.blocks) [
   | inl u ↦ absurd (let q : ◌≡◌ {A = Granted (Split Flex)} (Err NoBlock) (Ok b) = sym (ap (λ o. found_or o NoBlock) (block_of-none k s u)) ∙ e in cc)
   | inr t ↦ (let c : Split Flex = record { before = t.before; here = t.here; after = t.after } in
-    let has : Has k s c = at-cut {s = s} t in
-    let q : ◌≡◌ {A = Granted (Split Flex)} (Ok c) (Ok b) = sym (has-block c has) ∙ e in
-    let same : c ≡ b = cc in
-    subst (Has k s) same has)
+      let has : Has k s c = at-cut {s = s} t in
+      let q : ◌≡◌ {A = Granted (Split Flex)} (Ok c) (Ok b) = sym (has-block c has) ∙ e in
+      let same : c ≡ b = cc in
+      subst (Has k s) same has)
 ]
 
 pub sized-block : (k : ℕ) (s : Slot) (n : ℕ) → Ok n ≡ slot_size k s → (b : Split Flex) × ((slot_block k s ≡ Ok b) × (n ≡ length b.here.bytes))

@@ -1,6 +1,6 @@
 -- A world in which the slot of the task at a place has changed.
-use Rattle.std.proofs.Common.{◌≡◌, ℕ, zero, suc, ◌<◌, refl, ap, sym, subst, ◌∙◌, arith, List, [], ◌∷◌, length}
-use Rattle.std.specs.Prelude.{Some, Ok, Err, map, slice_get}
+use Rattle.std.proofs.Common.{◌≡◌, ℕ, ◌<◌, refl, ap, sym, subst, ◌∙◌, arith, List, length}
+use Rattle.std.specs.Prelude.{Ok, Err, slice_get}
 use Rattle.std.proofs.Math.ListN.{get_or, set}
 use Rattle.std.proofs.lemmas.List.{length-map}
 use Rattle.rh_defs.specs.Memory.{Memory, OnlyArea}
@@ -16,7 +16,6 @@ use Rattle.rh_defs.specs.IncomingEvents.{without_buffer, appended}
 use Rattle.rh_defs.proofs.Chains.{OnGrant, granted-then, granted-with}
 use Rattle.rh_defs.proofs.SlotKeeps.{IsRoomed, slot_extend-grants, slot_put-grants, without_buffer-kept}
 use Rattle.rh_defs.proofs.Desks.{IsTask, with_task-keeps, with_slot-keeps, roomed-after}
-use Rattle.rh_slot.specs.declared.slot.Slot.{Slot}
 use Rattle.rh_slot.specs.Area.{IsSlot, slot_in}
 use Rattle.rh_slot.specs.Calls.{Leaves}
 use Rattle.rh_tasks.specs.declared.seat.Seat.{Seat}
@@ -26,16 +25,12 @@ use Rattle.rh_tasks.specs.View.{Kept, HasSlot, task_of, desk_of, shown_of, IsWor
 use Rattle.rh_tasks.specs.Polls.{IsAt, Becomes, slot_append}
 use Rattle.rh_tasks.proofs.Lists.{Sits, set_same, all-at}
 use Rattle.rh_tasks.proofs.Addresses.{grant-of}
+use Rattle.rh_tasks.proofs.Places.{mapped-at, mapped-is, task-found}
 use Rattle.rh_tasks.proofs.Leaves.{changed, unchanged}
-use Rattle.rh_tasks.proofs.Worlds.{handles, free-is}
-use Rattle.rh_tasks.proofs.Moves.{Moves, handle-first, moved-desk, moved-world}
+use Rattle.rh_tasks.proofs.Worlds.{free-is}
+use Rattle.rh_tasks.proofs.Moves.{Moves, moved-desk, moved-world}
 
 -- ---- the task at a place
-
-mapped : {A B : Type 0} (f : A → B) (xs : List A) (i : ℕ) (x : A) → Sits xs i x → slice_get (map f xs) i ≡ Some (f x)
-mapped f [] i x at = absurd (omega (arith, at.inside))
-mapped f (y ∷ xs) zero x at = ap (λ z. Some (f z)) at.is
-mapped f (y ∷ xs) (suc i) x at = mapped f xs i x (record { inside = omega (arith, at.inside); is = at.is })
 
 module _ {m : Memory} {seats : List Seat} {made : List MadeArea} {files : FileList} {kept : Kept} (w : IsWorld m seats made files kept) {old : Shown}
     (view : shown_of m seats made files kept ≡ old) {i : ℕ} {s : Seat} where
@@ -46,9 +41,7 @@ module _ {m : Memory} {seats : List Seat} {made : List MadeArea} {files : FileLi
   module _ (at : Sits seats i s) {t : Task} (there : IsAt i t old.desk) where
     -- is the task's
     pub seat-task : task_of m s ≡ t
-    seat-task =
-        let q : ◌≡◌ {A = _} (Some (task_of m s)) (Some t) = sym (mapped (task_of m) seats i s at) ∙ ap (λ (x : Shown). slice_get x.desk.tasks i) view ∙ there in
-        cc
+    seat-task = mapped-is (task_of m) seats i s t at (ap (λ (x : Shown). slice_get x.desk.tasks i) view ∙ there)
 
     pub seat-handle : s.handle ≡ t.handle
     unfolding task_of
@@ -59,7 +52,7 @@ module _ {m : Memory} {seats : List Seat} {made : List MadeArea} {files : FileLi
     seat-buffer = ap (λ (x : Task). x.buffer) seat-task
 
   pub seat-there : Sits seats i s → IsAt i (task_of m s) old.desk
-  seat-there at = sym (ap (λ (x : Shown). slice_get x.desk.tasks i) view) ∙ mapped (task_of m) seats i s at
+  seat-there at = sym (ap (λ (x : Shown). slice_get x.desk.tasks i) view) ∙ mapped-at (task_of m) seats i s at
 
 -- ---- calls on slots
 
@@ -103,7 +96,7 @@ module _ {m : Memory} {seats : List Seat} {made : List MadeArea} {files : FileLi
   the-task : IsTask (desk_of m seats made files kept) (task_of m s)
   unfolding task_of
   the-task = record {
-    found = handle-first m seats i s at (handles w);
+    found = task-found (desk_of m seats made files kept) i (task_of m s) w.desk (mapped-at (task_of m) seats i s at);
     slot = record { heap = has.spells.words.heap.heap; anchors = has.spells.words.anchors };
   }
 

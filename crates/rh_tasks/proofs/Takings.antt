@@ -1,5 +1,5 @@
 -- What comes in: the desk after each step of a transfer.
-use Rattle.std.proofs.Common.{◌≡◌, ◌≢◌, ℕ, zero, suc, ◌+◌, ◌^◌, ◌<◌, ◌≤◌, Bool, true, false, cond, refl, ap, sym, subst, ◌∙◌, arith, List, [], ◌∷◌, length}
+use Rattle.std.proofs.Common.{◌≡◌, ◌≢◌, ℕ, zero, suc, ◌+◌, ◌^◌, ◌<◌, ◌≤◌, true, false, cond, refl, ap, sym, subst, ◌∙◌, arith, List, [], ◌∷◌, length}
 use Rattle.std.specs.Prelude.{Option, Some, None, Ok, Err, SomeIff, nat_lt, ◌==◌, slice_get}
 use Rattle.std.proofs.lemmas.Option.{slice_get_within}
 use Rattle.std.proofs.lemmas.Bool.Decides.{nat_tests}
@@ -23,11 +23,12 @@ use Rattle.rh_defs.specs.Slot.{Slot, heap_block_at}
 use Rattle.rh_defs.specs.Desk.{Desk, Task, next_ref, free_pages, edit_task, with_task, with_slot, with_taking, with_post, send_letter}
 use Rattle.rh_defs.specs.OutgoingEvents.{Handled}
 use Rattle.rh_defs.specs.IncomingEvents.{without_buffer, ended, end_failed, appended, fetch_more, took, is_uncountable, take_bytes, ask, fetch_back}
-use Rattle.rh_defs.specs.Order.{IsReordered, with_queue}
+use Rattle.rh_defs.specs.Order.{IsReordered}
 use Rattle.rh_defs.proofs.Chains.{OnGrant, granted, granted-then}
 use Rattle.rh_tasks.specs.Shown.{Shown}
-use Rattle.rh_tasks.specs.Polls.{IsAt, IsFor, Becomes, Handles, Attempts}
+use Rattle.rh_tasks.specs.Polls.{IsAt, IsFor, Becomes, Handles}
 use Rattle.rh_tasks.proofs.Addresses.{grant-of}
+use Rattle.rh_tasks.proofs.Places.{some-same}
 use Rattle.rh_tasks.proofs.Chains.{begins, ends, le-false}
 use Rattle.rh_tasks.proofs.Reorders.{reordered-refl}
 
@@ -38,15 +39,12 @@ member-at [] i h = absurd (omega (arith, h))
 member-at (x ∷ xs) zero h = (x, refl)
 member-at (x ∷ xs) (suc i) h = member-at xs i (omega (arith, h))
 
-same-member : {A : Type 0} {x y : A} → ◌≡◌ {A = Option A} (Some x) (Some y) → x ≡ y
-same-member e = cc
-
 module _ (P : Task → Type 0) (h : ℕ) (edit : Task → Task) where
   -- what holds of a task and of the edited one
   after-edit : (tasks : List Task) (i : ℕ) (t : Task) → slice_get tasks i ≡ Some t → P t → P (edit t) → (u : Task) × ((slice_get (edit_task h edit tasks) i ≡ Some u) × P u)
   after-edit [] i t at p q = absurd (cc)
   after-edit (x ∷ tasks) zero t at p q =
-      let same : x ≡ t = same-member at in
+      let same : x ≡ t = some-same at in
       elim (x.handle == h) as (λ b. (u : Task) × ((slice_get (cond b (edit x ∷ tasks) (x ∷ edit_task h edit tasks)) 0 ≡ Some u) × P u)) [
         | true ↦ (edit x, (refl, subst (λ y. P (edit y)) (sym same) q))
         | false ↦ (x, (refl, subst P (sym same) p))
@@ -179,8 +177,7 @@ module _ (f : Taking) (n : ℕ) {old : Desk} {i : ℕ} {t : Task} {m : Parcel} {
       let s = stands-sent letter old d i t q r for.at in
       let then : ℕ → Granted Handled = λ k. Ok (with_taking t.handle (receiver.fetched f n k) d, outcome.TookFull n k) in
       let is : new ≡ with_taking t.handle (receiver.fetched f n fetch) mid =
-      recorded s.task s.at ∙ ap (λ k. with_taking k (receiver.fetched f n fetch) mid) s.like.handle in
-      (
+      recorded s.task s.at ∙ ap (λ k. with_taking k (receiver.fetched f n fetch) mid) s.like.handle in (
         with_taking t.handle (receiver.fetched f n fetch) d,
         (begins _ (sym the-fetch ∙ q) (ap then (sym ref)), subst (IsReordered _) (sym is) (edit-alike t.handle (λ t. record t { taking = receiver.fetched f n fetch t.taking }) r)),
       )
@@ -192,13 +189,13 @@ module _ (d : Desk) (t : Task) (m : Parcel) (f : Taking) (n : ℕ) where
   unfolding took
   took-last e =
       ap (λ b. cond b (ended t.handle f (receiver.finished f n) d, outcome.TookLast n)
-          (or_else (fetch_more d t m f n) (λ refusal. (end_failed t.handle f (f.count + n) d, outcome.TookFailed n refusal)))) e
+      (or_else (fetch_more d t m f n) (λ refusal. (end_failed t.handle f (f.count + n) d, outcome.TookFailed n refusal)))) e
 
   took-full : nat_lt n t.buffer ≡ false → took d t m f n ≡ or_else (fetch_more d t m f n) (λ refusal. (end_failed t.handle f (f.count + n) d, outcome.TookFailed n refusal))
   unfolding took
   took-full e =
       ap (λ b. cond b (ended t.handle f (receiver.finished f n) d, outcome.TookLast n)
-          (or_else (fetch_more d t m f n) (λ refusal. (end_failed t.handle f (f.count + n) d, outcome.TookFailed n refusal)))) e
+      (or_else (fetch_more d t m f n) (λ refusal. (end_failed t.handle f (f.count + n) d, outcome.TookFailed n refusal)))) e
 
   pub took-more : (x : Handled) → nat_lt n t.buffer ≡ false → fetch_more d t m f n ≡ Ok x → took d t m f n ≡ x
   unfolding or_else
@@ -254,10 +251,12 @@ module _ (d : Desk) (t : Task) (m : Parcel) (f : Taking) (n : ℕ) where
   unfolding ◌>>=◌ or_else
   taken-more longer e q = taken-counted e ∙ ap (λ g. or_else (g >>= λ longer. Ok (took longer t m f n)) failed) q
 
-pub taken-on : {o : Outcome} {message : Message} (old : Desk) (mid new : Shown) (i : ℕ) (t : Task) (m : Parcel) (f : Taking) (n : ℕ) → IsFor i t old m message → f.count + n < 2 ^ 32
-    → appended old t f.anchor (first_bytes n (heap_block_at f.buffer t.slot)) ≡ Ok mid.desk
+pub taken-on : {o : Outcome} {message : Message} (old : Desk) (longer mid new : Shown) (i : ℕ) (t : Task) (m : Parcel) (f : Taking) (n : ℕ) → IsFor i t old m message → f.count + n < 2 ^ 32
+    → appended old t f.anchor (first_bytes n (heap_block_at f.buffer t.slot)) ≡ Ok longer.desk → mid ≡ longer
     → ((u : Task) (p : Parcel) → IsFor i u mid.desk p message → Handles (took mid.desk u p f n) new o) → Handles (take_bytes old t m n (Some (incoming.Fetching f))) new o
-taken-on {o} old mid new i t m f n for small q h =
+taken-on {o} old longer mid new i t m f n for small done same h =
+    let q : appended old t f.anchor (first_bytes n (heap_block_at f.buffer t.slot)) ≡ Ok mid.desk =
+    subst (λ (x : Shown). appended old t f.anchor (first_bytes n (heap_block_at f.buffer t.slot)) ≡ Ok x.desk) (sym same) done in
     let s = stands-appended old mid.desk i t f.anchor (first_bytes n (heap_block_at f.buffer t.slot)) q for.at in
     let P : Handled → Type 0 = λ a. Handles a new o in
     let more = taken-more old t m f n mid.desk (le-false (2 ^ 32) (f.count + n) small) q in
@@ -289,14 +288,13 @@ module _ (f : Taking) (old : Desk) (i : ℕ) {t : Task} {letter : Letter} {h : �
       let s = stands-sent letter old d i t q r at in
       let then : ℕ → Granted Handled = λ k. Ok (ended t.handle f (receiver.asking f k) d, outcome.Asked k) in
       let end : new ≡ ended t.handle f (receiver.asking f ref) mid =
-      ended-is mid next new i f (receiver.asking f ref) s.task s.at (drop s.task s.at) recorded ∙ ap (λ k. ended k f (receiver.asking f ref) mid) s.like.handle in
-      (
+      ended-is mid next new i f (receiver.asking f ref) s.task s.at (drop s.task s.at) recorded ∙ ap (λ k. ended k f (receiver.asking f ref) mid) s.like.handle in (
         ended t.handle f (receiver.asking f ref) d,
         (
           begins _ (sym the-ack ∙ q) (ap then (sym is)),
           subst (IsReordered _) (sym end)
-          (edit-alike t.handle (λ t. record t { taking = receiver.asking f ref t.taking })
-          (edit-alike t.handle (λ t. record t { slot = without_buffer f.buffer t.slot }) r)),
+              (edit-alike t.handle (λ t. record t { taking = receiver.asking f ref t.taking })
+              (edit-alike t.handle (λ t. record t { slot = without_buffer f.buffer t.slot }) r)),
         ),
       )
 

@@ -67,12 +67,21 @@ fn held_in<S: Words>(store: &S, slot: Slot, buffer: u32, n: u32) -> (usize, usiz
     let Ok(size) = slot.block_size(store, buffer as usize) else {
         return (0, 0);
     };
-    ((buffer as usize).saturating_sub(SLOT_START), size.min(n as usize))
+    (
+        (buffer as usize).saturating_sub(SLOT_START),
+        size.min(n as usize),
+    )
 }
 
 impl<S: Store> World<S> {
     /// Puts the first n bytes of a buffer at the end of a document: NoBlock, NoRoom.
-    fn append_buffer(&mut self, i: usize, anchor: Anchor, buffer: u32, n: u32) -> Result<(), Refusal>
+    fn append_buffer(
+        &mut self,
+        i: usize,
+        anchor: Anchor,
+        buffer: u32,
+        n: u32,
+    ) -> Result<(), Refusal>
         requires { i < length self.old.desk.tasks }
         ensures { (t : Task) → IsAt i t self.old.desk
             → Becomes (appended self.old.desk t anchor (first_bytes n (heap_block_at buffer t.slot))) self.old self.new result }
@@ -104,7 +113,13 @@ impl<S: Store> World<S> {
     }
 
     /// Asks for the next bytes of a transfer: NoTask, NoRefs, QueueFull, NoRoom.
-    fn fetch_more(&mut self, i: usize, message: &Message, f: &Taking, n: u32) -> Result<Outcome, Refusal>
+    fn fetch_more(
+        &mut self,
+        i: usize,
+        message: &Message,
+        f: &Taking,
+        n: u32,
+    ) -> Result<Outcome, Refusal>
         requires place { i < length self.old.desk.tasks }
         requires word { f.now.count + n < 2 ^ 32 }
         ensures { (t : Task) (m : Parcel) → IsFor i t self.old.desk m message.now
@@ -159,7 +174,13 @@ impl<S: Store> World<S> {
     }
 
     /// What a RAMTransmit of n bytes does to the record that it is for.
-    pub(crate) fn take_bytes(&mut self, i: usize, message: &Message, n: u32, entry: Option<Incoming>) -> Outcome
+    pub(crate) fn take_bytes(
+        &mut self,
+        i: usize,
+        message: &Message,
+        n: u32,
+        entry: Option<Incoming>,
+    ) -> Outcome
         requires { i < length self.old.desk.tasks }
         ensures { (t : Task) (m : Parcel) → IsFor i t self.old.desk m message.now
             → Handles (take_bytes_on self.old.desk t m n entry) self.new result }

@@ -8,10 +8,14 @@ use Rattle.rh_tasks.proofs.world.World.fetch_more.Goals as goal
 pub send_from-requires : goal.send_from-requires
 unfolding task_of
 send_from-requires g c =
-    let at : Sits c.self.inside.seats.items c.args.i c.index-seat.result.now = sits-there c.self.invariant.0 c.self.view_is c.requires.place c.index-seat.ensures in
-    (task_of (g.S.Words.memory c.self.inside.store) c.index-seat.result.now, (seat-there c.self.invariant.0 c.self.view_is at,
-    fetch-from c.fetch_letter-letter.result c.index-seat.result.now.handle c.args.f.now.sender c.args.message.now.my_ref c.args.f.now.buffer c.index-seat.result.now.buffer
-    c.fetch_letter-letter.ensures))
+    let at : Sits c.self.inside.seats.items c.args.i c.index-seat.result.now = sits-there c.self.invariant.0 c.self.view_is c.requires.place c.index-seat.ensures in (
+      task_of (g.S.Words.memory c.self.inside.store) c.index-seat.result.now,
+      (
+        seat-there c.self.invariant.0 c.self.view_is at,
+        fetch-from c.fetch_letter-letter.result c.index-seat.result.now.handle c.args.f.now.sender c.args.message.now.my_ref c.args.f.now.buffer c.index-seat.result.now.buffer
+            c.fetch_letter-letter.ensures,
+      ),
+    )
 
 pub returns-in_err-fetch : goal.returns-in_err-fetch
 returns-in_err-fetch g c t m for =
