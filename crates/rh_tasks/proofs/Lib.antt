@@ -42,3 +42,4 @@ pub mod SendRooms
 pub mod Rooms
 pub mod Accepts
 pub mod AcceptRooms
+pub mod AcceptSteps
