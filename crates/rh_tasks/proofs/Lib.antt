@@ -57,3 +57,4 @@ pub mod Takings
 pub mod Scraps
 pub mod ScrapTransfers
 pub mod TransferBlocks
+pub mod AcceptSteps

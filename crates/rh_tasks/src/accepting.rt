@@ -71,12 +71,11 @@ impl<S: Store> World<S> {
             (λ fetch. (d : Desk) × ((accept_on self.old.desk t m ≡ Ok (d, outcome.Fetch fetch)) × IsReordered d self.new.desk)) }
     {
         let seat = &self.seats[i];
+        let (handle, room) = (seat.handle, seat.buffer);
         let anchor = free_anchor(&self.store, seat.slot)?;
         if !self.has_room(i, message) {
             return None;
         }
-        let seat = &self.seats[i];
-        let (handle, room) = (seat.handle, seat.buffer);
         let buffer = self.claim_buffer(i, room).unwrap();
         self.alloc_document(i, anchor).unwrap();
         let letter = fetch_letter(handle, message.from, message.my_ref, buffer, room);
