@@ -377,11 +377,13 @@ module _ (d : Desk) (i : ℕ) (t : Task) (is : IsDesk d) (at : IsAt i t d) (m : 
             ap (λ l. send_letter l (wider (scrap_shortage n d) d)) (sym same) ∙ ap (send_letter l) (sym widened) ∙ sent.1.0 in
             let done = save-done d t m x n given idle p e is room g in
             let last : ℕ → Desk = λ k. with_sending t.handle (sender.saved x k) (record second { scrap = Some (record { load = k; bytes = there.cut.here.bytes }) }) in
-            let now : new ≡ last (next_ref d) = edited u third-at ∙ ap (with_sending t.handle (sender.saved x load)) third-is ∙ ap last r in
-            (saved_desk d t m x n given sent.0, (
-              done ∙ ap (λ k. let y : Granted Handled = Ok (saved_desk d t m x n given sent.0, outcome.Saved n k) in y) (sym r),
-              subst (IsReordered (saved_desk d t m x n given sent.0)) (sym now) (task-alike t.handle _ (scrap-alike _ sent.1.1)),
-            ))
+            let now : new ≡ last (next_ref d) = edited u third-at ∙ ap (with_sending t.handle (sender.saved x load)) third-is ∙ ap last r in (
+              saved_desk d t m x n given sent.0,
+              (
+                done ∙ ap (λ k. let y : Granted Handled = Ok (saved_desk d t m x n given sent.0, outcome.Saved n k) in y) (sym r),
+                subst (IsReordered (saved_desk d t m x n given sent.0)) (sym now) (task-alike t.handle _ (scrap-alike _ sent.1.1)),
+              ),
+            )
 
 -- ---- a DataSaveAck
 

@@ -214,4 +214,3 @@ returns g c =
     let widened = c.widen_scrap.ensures ∙ ap (λ k. wider k d) short in
     let sent = rw c.unwrap-load.ensures at c.send_from.ensures in
     save-all d c.args.i t (seen-desk w c.self.view_is) at m c.args.x.now c.in_ok-size.size given letter same widened room sent.1 c.unwrap-load.result c.fill_scrap.ensures sent.0 idle c.in_ok-more.more needs c.record_saved.ensures
-
