@@ -5,6 +5,9 @@ pub mod EditLaws
 pub mod WalkLaws
 pub mod SpanLaws
 pub mod Ranges
+pub mod FreeLaws
+pub mod ReachLaws
+pub mod WriteLaws
 pub mod LeaveLaws
 pub mod StartLaws
 pub mod GrowLaws

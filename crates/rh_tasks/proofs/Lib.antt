@@ -41,3 +41,6 @@ pub mod ModuleCommands
 pub mod Readers
 pub mod Scraps
 pub mod ScrapTransfers
+pub mod Appends
+pub mod Buffers
+pub mod Takings

@@ -21,7 +21,7 @@ use Rattle.rh_tasks.proofs.Frames.{Stay, if_apart, if_same, tasks-edited, slots-
 use Rattle.rh_tasks.proofs.Worlds.{handles, same-desk}
 use Rattle.rh_tasks.proofs.Finding.{sits, named-is}
 
-handle-first : (m : Memory) (seats : List Seat) (i : ℕ) (s : Seat) → Sits seats i s → AreDistinct (map (λ (x : Seat). x.handle) seats)
+pub handle-first : (m : Memory) (seats : List Seat) (i : ℕ) (s : Seat) → Sits seats i s → AreDistinct (map (λ (x : Seat). x.handle) seats)
     → find (λ (x : Task). x.handle == s.handle) (map (task_of m) seats) ≡ Some (task_of m s)
 unfolding task_of
 handle-first m [] i s at handles = absurd (omega (arith, at.inside))

@@ -1,15 +1,17 @@
 -- What the steps of a poll do to the desk.
-use Rattle.std.specs.Prelude.{◌≡◌, ℕ, ◌+◌, List, length, slice_get, Some, Result, Ok, Err}
+use Rattle.std.specs.Prelude.{◌≡◌, ℕ, ◌+◌, ◌-◌, ◌≤◌, List, length, slice_get, Some, Result, Ok, Err}
 use Rattle.std.specs.Result.{MatchResult}
 use Rattle.rh_defs.specs.declared.message.Letter.{Letter}
 use Rattle.rh_defs.specs.declared.message.Message.{Message}
 use Rattle.rh_defs.specs.declared.refusal.Refusal.{Refusal}
 use Rattle.rh_defs.specs.declared.reply.Outcome.{Outcome}
 use Rattle.rh_defs.specs.Chain.{Granted, ◌>>=◌}
-use Rattle.rh_defs.specs.Slot.{Slot, Flex, flex_address, slot_block, slot_alloc, slot_extend, slot_put}
+use Rattle.rh_defs.specs.Slot.{Slot, Flex, slot_start, flex_address, heap_block_at, slot_block, slot_alloc, slot_extend, slot_put}
 use Rattle.rh_defs.specs.Messages.{Parcel}
 use Rattle.rh_defs.specs.Desk.{Desk, Task, next_ref, free_pages, send_letter, with_slot}
 use Rattle.rh_defs.specs.Pieces.{Split}
+use Rattle.rh_defs.specs.SlotImage.{flex_place}
+use Rattle.rh_defs.specs.Places.{first_bytes}
 use Rattle.rh_defs.specs.declared.transfer.Sending.{Sending}
 use Rattle.rh_defs.specs.Order.{IsReordered}
 use Rattle.rh_defs.specs.OutgoingEvents.{Handled, portion, transmit, save_scrap}
@@ -59,6 +61,14 @@ slot_append free k bytes s = do
   b ← slot_block k s
   longer ← slot_extend free k (length b.here.bytes + length bytes) s
   slot_put k (length b.here.bytes) bytes longer
+
+-- n bytes at a place of a slot's area are the first ones of a block of its C heap, or there are none
+pub record AreFirst (place n : ℕ) (s : Slot) : Type 0 where
+  pub address : ℕ
+  pub most : ℕ
+  pub place_is : place ≡ address - slot_start
+  pub n_is : n ≡ length (first_bytes most (heap_block_at address s))
+  pub below : place + n ≤ flex_place s
 
 -- so many bytes at the address are the next ones of a transfer's source, up to an amount
 pub record IsPortion (t : Task) (x : Sending) (amount address n : ℕ) : Type 0 where

@@ -11,17 +11,15 @@ ghost use Rattle.rh_defs.specs.Messages.{Parcel};
 ghost use Rattle.rh_defs.specs.Places.{first_bytes};
 ghost use Rattle.rh_defs.specs.Receiver as receiver;
 ghost use Rattle.rh_defs.specs.Slot.{slot_size, heap_block_at};
-ghost use Rattle.rh_defs.specs.SlotImage.{flex_place};
 ghost use Rattle.rh_slot.specs.Area.{IsSlot, slot_in};
 ghost use Rattle.rh_slot.specs.Calls.{Leaves};
-ghost use Rattle.rh_tasks.specs.Polls.{IsAt, IsFor, Attempts, Becomes, Handles, slot_append};
+ghost use Rattle.rh_tasks.specs.Polls.{IsAt, IsFor, Attempts, Becomes, Handles, AreFirst, slot_append};
 
 use crate::letters::{ack_letter, fetch_letter};
-use crate::slot_bytes::put_from;
 use crate::world::World;
 use rh_defs::sizes::{ANCHORS, SLOT_START};
 use rh_defs::{Anchor, Asked, Incoming, Message, Outcome, Refusal, Taking};
-use rh_slot::Slot;
+use rh_slot::{Slot, put_from};
 use rh_store::{AreaId, Store, Words};
 
 /// How many bytes the anchor's block has: NoBlock where it has none, also for an anchor that no slot has.
@@ -36,7 +34,8 @@ pub fn document_size<S: Words>(store: &S, slot: Slot, anchor: Anchor) -> Result<
     Ok(size as u32)
 }
 
-/// Puts n bytes of an area, none of them among the slot's flex blocks, at the end of the anchor's block: NoBlock, NoRoom.
+/// Puts n bytes of an area at the end of the anchor's block: NoBlock, NoRoom. In the slot's own area they are the first ones
+/// of a block of its C heap, since the words before it change where blocks slide.
 pub fn append<S: Store>(
     store: &mut S,
     slot: Slot,
@@ -48,7 +47,7 @@ pub fn append<S: Store>(
     requires slot { IsSlot (S.memory store.old) slot }
     requires opened { IsOpen (S.memory store.old) from.0 }
     requires source { place + n ≤ length (bytes (S.memory store.old) from.0) }
-    requires below { from.0 ≡ slot.area.0 → place + n ≤ flex_place (slot_in (S.memory store.old) slot) }
+    requires below { from.0 ≡ slot.area.0 → AreFirst place n (slot_in (S.memory store.old) slot) }
     ensures { Leaves (S.memory store.old) (S.memory store.new) slot
         (no_answer (slot_append (S.memory store.old).free anchor (part (bytes (S.memory store.old) from.0) place n) (slot_in (S.memory store.old) slot))) result }
 {
@@ -63,7 +62,7 @@ pub fn append<S: Store>(
 fn held_in<S: Words>(store: &S, slot: Slot, buffer: u32, n: u32) -> (usize, usize)
     requires { IsSlot (S.memory store.now) slot }
     ensures bytes { part (bytes (S.memory store.now) slot.area.0) result.0 result.1 ≡ first_bytes n (heap_block_at buffer (slot_in (S.memory store.now) slot)) }
-    ensures below { result.0 + result.1 ≤ flex_place (slot_in (S.memory store.now) slot) }
+    ensures first { AreFirst result.0 result.1 (slot_in (S.memory store.now) slot) }
 {
     let Ok(size) = slot.block_size(store, buffer as usize) else {
         return (0, 0);
