@@ -1,5 +1,5 @@
 -- Transfers by way of the scrap file, on desks.
-use Rattle.std.proofs.Common.{◌≡◌, ℕ, zero, suc, ◌+◌, ◌-◌, ◌<◌, ◌≤◌, Bool, true, false, refl, ap, sym, subst, ◌∙◌, arith, List, [], ◌∷◌, length}
+use Rattle.std.proofs.Common.{◌≡◌, ℕ, zero, suc, ◌+◌, ◌-◌, ◌*◌, ◌<◌, ◌≤◌, Bool, true, false, refl, ap, sym, subst, ◌∙◌, arith, List, [], ◌∷◌, length}
 use Rattle.std.specs.Prelude.{Option, Some, None, Result, Ok, Err, IsOk, is_some, not, nat_lt, ◌==◌, slice_get, slice_index}
 use Rattle.std.proofs.lemmas.Bool.Decides.{nat_tests}
 use Rattle.std.proofs.lemmas.Option.{slice_get_within}
@@ -25,11 +25,14 @@ use Rattle.rh_defs.specs.Laws.{IsDesk}
 use Rattle.rh_defs.specs.Order.{IsReordered}
 use Rattle.rh_defs.specs.OutgoingEvents.{Handled, ignored, refused, scrap_shortage, wider, save_scrap, answer_ack}
 use Rattle.rh_defs.specs.IncomingEvents.{appended, loaded, load_file, take_file}
+use Rattle.rh_defs.proofs.Chains.{grant-holds}
+use Rattle.rh_defs.proofs.Desks.{send_letter-keeps}
 use Rattle.rh_defs.proofs.Transfers.{wider-keeps, wider-room}
-use Rattle.rh_tasks.specs.Polls.{IsAt, scrapped}
+use Rattle.rh_tasks.specs.Shown.{Shown}
+use Rattle.rh_tasks.specs.Polls.{IsAt, Sends, scrapped}
 use Rattle.rh_tasks.proofs.Chains.{begins, ends, past, stops, lt-true, lt-false}
 use Rattle.rh_tasks.proofs.Fixed.{total-set}
-use Rattle.rh_tasks.proofs.Places.{edited-at, edited-is, reordered-at, same-at}
+use Rattle.rh_tasks.proofs.Places.{edited-at, edited-is, reordered-at, same-at, one-at}
 use Rattle.rh_tasks.proofs.Reorders.{reordered-refl}
 use Rattle.rh_tasks.proofs.SendRooms.{send-fits, send-lacks}
 use Rattle.rh_tasks.proofs.Scraps.{HasSource, source-of}
@@ -301,3 +304,97 @@ module _ (d : Desk) (t : Task) (m : Parcel) (x : Sending) where
           pub save-done : {e : Desk} → send_letter letter (wider more d) ≡ Ok e → scrapped d t m x ≡ Ok (saved_desk e, outcome.Saved n (next_ref d))
           save-done e =
               steps-are ∙ past _ _ _ idle (then-past _ (can-send letter d.post needs) (past _ _ _ (lt-false _ _ room) (begins _ e refl)))
+
+-- ---- the steps of a save
+
+pub sends-ok : (l : Letter) (old new : Shown) (r : Result ℕ Refusal) → Sends l old new r → IsOk (send_letter l old.desk) → IsOk r
+sends-ok l old new (Ok ref) s is = refl
+sends-ok l old new (Err e) s is = absurd (let h : IsOk (let x : Granted Desk = Err e in x) = subst (λ (x : Granted Desk). IsOk x) s.0 is in cc)
+
+module _ (d : Desk) (i : ℕ) (t : Task) (is : IsDesk d) (at : IsAt i t d) (m : Parcel) (x : Sending) (n : ℕ) (given : slot_size x.anchor t.slot ≡ Ok n)
+    (l : Letter) (same : l ≡ load_letter t.handle m n) where
+  abbrev there : HasSource x.anchor n t.slot
+  there = source d t m x n given
+
+  own : l.from ≡ t.handle
+  own = ap (λ (l : Letter). l.from) same
+
+  module _ {first : Desk} (widened : first ≡ wider (scrap_shortage n d) d) (room : scrap_shortage n d ≤ free_pages d) where
+    pub first-at : IsAt i t first
+    first-at = same-at d first i t (ap (λ (x : Desk). x.tasks) widened) at
+
+    first-desk : IsDesk first
+    first-desk = subst IsDesk (sym widened) (wider-keeps (scrap_shortage n d) d room is)
+
+    pub first-sends : is_some d.scrap ≡ false → (p : ℕ) → post_send_pages l d.post ≡ Ok p → p ≤ free_pages d - scrap_shortage n d → IsOk (send_letter l first)
+    first-sends idle p needs fits =
+        let e = ap (λ l. post_send_pages l d.post) (sym same) ∙ needs in
+        subst (λ (z : Desk). IsOk (send_letter l z)) (sym widened)
+        (subst (λ (y : Letter). IsOk (send_letter y (wider (scrap_shortage n d) d))) (sym same) (save-sends d t m x n given idle p e is room fits))
+
+    module _ {second : Desk} (sent : (e : Desk) × ((send_letter l first ≡ Ok e) × IsReordered e second)) where
+      has : HasSent i t sent.0
+      has = sent-at first sent.0 i t l first-desk first-at own sent.1.0
+
+      abbrev u : Task
+      u = record t { last_sent = has.last }
+
+      second-at : IsAt i u second
+      second-at = reordered-at sent.0 second i u sent.1.1 has.at
+
+      pub second-inside : i < length second.tasks
+      second-inside = at-inside second i u second-at
+
+      sent-areas : sent.0.areas ≡ first.areas
+      sent-areas = (grant-holds (send_letter-keeps l first first-desk) sent.1.0).areas
+
+      pub second-room : n ≤ page * slice_index second.areas scrap_area
+      second-room =
+          let areas : second.areas ≡ (wider (scrap_shortage n d) d).areas = ap (λ (x : Desk). x.areas) sent.1.1.rest ∙ sent-areas ∙ ap (λ (x : Desk). x.areas) widened in
+          subst (λ (a : List ℕ). n ≤ page * slice_index a scrap_area) (sym areas) (wider-room n d is)
+
+      pub second-block : (v : Task) → IsAt i v second → slot_size x.anchor v.slot ≡ Ok n
+      second-block v h = ap (λ (y : Task). slot_size x.anchor y.slot) (one-at second i v u h second-at) ∙ given
+
+      module _ {third : Desk} (load : ℕ) (filled : (v : Task) (b : Split Flex) → IsAt i v second → slot_block x.anchor v.slot ≡ Ok b
+          → third ≡ (let y : Desk = record second { scrap = Some (record { load = load; bytes = b.here.bytes }) } in y)) where
+        third-is : third ≡ (let y : Desk = record second { scrap = Some (record { load = load; bytes = there.cut.here.bytes }) } in y)
+        third-is = filled u there.cut second-at there.is
+
+        third-at : IsAt i u third
+        third-at = same-at second third i u (ap (λ (x : Desk). x.tasks) third-is) second-at
+
+        pub third-inside : i < length third.tasks
+        third-inside = at-inside third i u third-at
+
+        pub save-all : {new : Desk} → load ≡ next_ref first → is_some d.scrap ≡ false → (p : ℕ) → post_send_pages l d.post ≡ Ok p
+            → ((v : Task) → IsAt i v third → new ≡ with_sending v.handle (sender.saved x load) third)
+            → (e : Desk) × ((scrapped d t m x ≡ Ok (e, outcome.Saved n load)) × IsReordered e new)
+        save-all {new} ref idle p needs edited =
+            let r : load ≡ next_ref d = ref ∙ ap next_ref widened in
+            let e = ap (λ l. post_send_pages l d.post) (sym same) ∙ needs in
+            let g : send_letter (load_letter t.handle m n) (wider (scrap_shortage n d) d) ≡ Ok sent.0 =
+            ap (λ l. send_letter l (wider (scrap_shortage n d) d)) (sym same) ∙ ap (send_letter l) (sym widened) ∙ sent.1.0 in
+            let done = save-done d t m x n given idle p e is room g in
+            let last : ℕ → Desk = λ k. with_sending t.handle (sender.saved x k) (record second { scrap = Some (record { load = k; bytes = there.cut.here.bytes }) }) in
+            let now : new ≡ last (next_ref d) = edited u third-at ∙ ap (with_sending t.handle (sender.saved x load)) third-is ∙ ap last r in (
+              saved_desk d t m x n given sent.0,
+              (
+                done ∙ ap (λ k. let y : Granted Handled = Ok (saved_desk d t m x n given sent.0, outcome.Saved n k) in y) (sym r),
+                subst (IsReordered (saved_desk d t m x n given sent.0)) (sym now) (task-alike t.handle _ (scrap-alike _ sent.1.1)),
+              ),
+            )
+
+-- ---- a DataSaveAck
+
+pub ack-none : (d : Desk) (t : Task) (m : Parcel) → answer_ack d t m None ≡ ignored d
+unfolding answer_ack
+ack-none d t m = refl
+
+pub ack-done : (d : Desk) (t : Task) (m : Parcel) (x : Sending) {h : Handled} → scrapped d t m x ≡ Ok h → answer_ack d t m (Some x) ≡ h
+unfolding answer_ack or_else
+ack-done d t m x e = rw e refl
+
+pub ack-refused : (d : Desk) (t : Task) (m : Parcel) (x : Sending) {r : Refusal} → scrapped d t m x ≡ Err r → answer_ack d t m (Some x) ≡ refused d t x r
+unfolding answer_ack or_else
+ack-refused d t m x e = rw e refl

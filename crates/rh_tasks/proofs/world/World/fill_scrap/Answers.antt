@@ -84,4 +84,3 @@ returns g c =
     let room : c.args.size ≤ length (bytes m 5) = omega (arith, fits, fixed-at m 5 (omega arith) (λ q. absurd (omega (arith, q))), pages-of m 5 whole) in
     rw (c.copy.ensures, ← c.self.view_is) (λ t b there_at is.
     filled-desk c.self.invariant.0 at c.args.anchor c.args.size c.args.load given there room whole b (ap (slot_block c.args.anchor) (sym (slot-at m c.self.inside.made.items c.self.inside.files (kept_of c.self.inside.next c.self.inside.queue c.self.inside.scrap) at there_at)) ∙ is))
-
