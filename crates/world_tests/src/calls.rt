@@ -11,19 +11,19 @@ use rh_tasks::World;
 use std::process::Abort;
 use std::test::Fail;
 
-fn name(letters: &[u8]) -> Result<Name, &'static str> {
+pub(crate) fn name(letters: &[u8]) -> Result<Name, &'static str> {
     Name::new(letters).ok_or("not 1 to 12 bytes")
 }
 
 /// What a command answers that is in range and sends no message.
-fn said<R: Abort, S: Store>(rt: &R, world: &mut World<S>, command: &Command) -> Reply {
+pub(crate) fn said<R: Abort, S: Store>(rt: &R, world: &mut World<S>, command: &Command) -> Reply {
     assert!(rt; command.in_range());
     assert!(rt; !command.uses_post());
     world.apply(command)
 }
 
 /// A command that starts a task with a buffer of 100 bytes.
-fn task(name: &Name) -> Command {
+pub(crate) fn task(name: &Name) -> Command {
     Command::Task {
         name: name.copied(),
         buffer: 100,
@@ -32,7 +32,7 @@ fn task(name: &Name) -> Command {
 }
 
 /// Gives the task a block of the bytes 0, &0A, &FF, 0 and 0 at anchor 0.
-fn fill<R: Abort, S: Store>(rt: &R, world: &mut World<S>, name: &Name) {
+pub(crate) fn fill<R: Abort, S: Store>(rt: &R, world: &mut World<S>, name: &Name) {
     let alloc = Command::Alloc {
         name: name.copied(),
         anchor: Anchor(0),

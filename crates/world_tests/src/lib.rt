@@ -5,3 +5,5 @@
 mod calls;
 #[cfg(test)]
 mod stores;
+#[cfg(test)]
+mod transfers;
