@@ -112,11 +112,15 @@ fn blocks_are_listed_in_one_walk<R: Abort, S: Store>(rt: &R, store: &mut S) -> R
         size: 0,
     };
     let mut walk = slot.blocks(store);
-    assert_eq!(rt; slot.next_block(store, &mut walk), Some(lower));
-    assert_eq!(rt; slot.next_block(store, &mut walk), Some(upper));
-    assert_eq!(rt; slot.next_block(store, &mut walk), None);
-    assert_eq!(rt; slot.next_block(store, &mut walk), None);
-    assert_eq!(rt; slot.block(store, 1), Some(upper));
+    let first = slot.next_block(store, &mut walk);
+    let second = slot.next_block(store, &mut walk);
+    let third = slot.next_block(store, &mut walk);
+    let fourth = slot.next_block(store, &mut walk);
+    assert_eq!(rt; first, Some(lower));
+    assert_eq!(rt; second, slot.block(store, 1));
+    assert_eq!(rt; second, Some(upper));
+    assert_eq!(rt; third, None);
+    assert_eq!(rt; fourth, None);
     assert_eq!(rt; slot.block(store, 2), None);
     Ok(())
 }

@@ -6,7 +6,9 @@ use rh_defs::{Anchor, Asked, Handle, Incoming, Outgoing, Ref, Refusal, Sending, 
 use rh_ram::{Receiver, Sender};
 
 const SENDER: Handle = Handle(1);
+
 const RECEIVER: Handle = Handle(2);
+
 const BUFFER: u32 = 0x8114;
 
 /// The transfer with ref 1 as its sender keeps it.
@@ -50,9 +52,15 @@ fn a_multiple_of_the_buffer_ends_by_an_empty_transmit(rt: HostRuntime) {
     assert!(rt; sender.is_source(Anchor(0)) && !sender.is_source(Anchor(1)));
     assert_eq!(rt; sender.on_fetch(RECEIVER, Ref(1), 100), Some(sending(0, 1)));
     sender.sent(&sending(0, 1), 100, 100, Ref(3));
-    assert_eq!(rt; sender.on_fetch(RECEIVER, Ref(3), 100), Some(sending(100, 3)));
+    assert_eq!(rt;
+        sender.on_fetch(RECEIVER, Ref(3), 100),
+        Some(sending(100, 3))
+    );
     sender.sent(&sending(100, 3), 100, 100, Ref(5));
-    assert_eq!(rt; sender.on_fetch(RECEIVER, Ref(5), 100), Some(sending(200, 5)));
+    assert_eq!(rt;
+        sender.on_fetch(RECEIVER, Ref(5), 100),
+        Some(sending(200, 5))
+    );
     sender.sent(&sending(200, 5), 0, 100, Ref(7));
     let done = Outgoing::Done {
         id: Ref(1),
@@ -68,7 +76,10 @@ fn full_transmits_are_taken_until_a_short_one(rt: HostRuntime) {
     let found = receiver.on_transmit(100, SENDER, Ref(2), BUFFER, 100);
     assert_eq!(rt; found, Some(Incoming::Fetching(taking(0, 2))));
     receiver.fetched(&taking(0, 2), 100, Ref(4));
-    assert_eq!(rt; receiver.on_transmit(100, SENDER, Ref(4), BUFFER, 101), None);
+    assert_eq!(rt;
+        receiver.on_transmit(100, SENDER, Ref(4), BUFFER, 101),
+        None
+    );
     let found = receiver.on_transmit(100, SENDER, Ref(4), BUFFER, 50);
     assert_eq!(rt; found, Some(Incoming::Fetching(taking(100, 4))));
     receiver.finished(&taking(100, 4), 50);
@@ -108,7 +119,10 @@ fn a_cancelled_transfer_drains(rt: HostRuntime) {
     assert_eq!(rt; receiver.cancel(Some(Ref(1))), Err(Refusal::NotOpen));
     let draining = Some(Incoming::Draining(taking(0, 2)));
     assert_eq!(rt; receiver.on_bounce(Ref(2)), draining);
-    assert_eq!(rt; receiver.on_transmit(100, SENDER, Ref(2), BUFFER, 5), draining);
+    assert_eq!(rt;
+        receiver.on_transmit(100, SENDER, Ref(2), BUFFER, 5),
+        draining
+    );
     receiver.failed(&taking(0, 2), 0);
     let failed = Incoming::Failed {
         id: Ref(1),
@@ -123,10 +137,16 @@ fn a_cancelled_transfer_drains(rt: HostRuntime) {
 fn eight_transfers_go_out_at_once(rt: HostRuntime) {
     let mut sender = Sender::new();
     for i in 1..9u8 {
-        assert_eq!(rt; sender.offer(Ref(u32::from(i)), RECEIVER, Anchor(i)), Ok(()));
+        assert_eq!(rt;
+            sender.offer(Ref(u32::from(i)), RECEIVER, Anchor(i)),
+            Ok(())
+        );
     }
     assert!(rt; sender.is_full());
-    assert_eq!(rt; sender.offer(Ref(9), RECEIVER, Anchor(9)), Err(Refusal::Busy));
+    assert_eq!(rt;
+        sender.offer(Ref(9), RECEIVER, Anchor(9)),
+        Err(Refusal::Busy)
+    );
     assert_eq!(rt; sender.cancel(None), Ok(()));
     assert_eq!(rt; sender.offer(Ref(9), RECEIVER, Anchor(9)), Ok(()));
     assert_eq!(rt; sender.records().len(), 8);

@@ -4,7 +4,7 @@ ghost use Rattle.std.specs.Prelude.{◌≤◌};
 
 use rh_defs::Files;
 use rh_desk::{RunFault, Status, run};
-use rh_script::Flagged;
+use rh_lines::Flagged;
 use std::alloc::Global;
 use std::process::Abort;
 use std::test::Fail;
@@ -12,7 +12,7 @@ use std::test::Fail;
 /// What a script writes over so many pages, and how its run ends.
 pub fn outcome_of(alloc: Global, script: &[u8], pages: u32) -> (Vec<u8>, Result<Status, RunFault>)
     requires least { 8 ≤ pages }
-    requires most { pages ≤ 256 }
+    requires most { pages ≤ 1024 }
 {
     let mut reader = Flagged::new(script);
     let mut writer = Flagged::new(Vec::<u8>::new(alloc));
@@ -29,7 +29,7 @@ fn expect<R: Abort + Alloc<A = Global>>(
     status: Status,
 )
     requires least { 8 ≤ pages }
-    requires most { pages ≤ 256 }
+    requires most { pages ≤ 1024 }
 {
     let (written, outcome) = outcome_of(rt.alloc(), script, pages);
     assert_eq!(rt; written.as_slice(), wanted);

@@ -3,7 +3,7 @@
 use crate::scripts::outcome_of;
 use rh_defs::Files;
 use rh_desk::{RunFault, Status, run};
-use rh_script::Flagged;
+use rh_lines::Flagged;
 use std::alloc::Global;
 use std::io::{self, Read, Write};
 use std::test::Fail;

@@ -1,14 +1,14 @@
 -- What a resize does to a heap's shape and to its blocks.
-use Rattle.std.proofs.Common.{◌≡◌, ◌≢◌, ℕ, zero, suc, ◌+◌, ◌-◌, ◌<◌, ◌≤◌, inl, inr, Bool, true, false, cond, eqb, leb, ltb, List, [], ◌∷◌, ◌++◌, length, take, append-nil, refl, sym, ap, subst, ◌∙◌, arith}
-use Rattle.std.proofs.lemmas.Bool.{cases_eq, cases_lt}
+use Rattle.std.proofs.Common.{◌≡◌, ◌≢◌, ℕ, ◌+◌, ◌-◌, ◌<◌, ◌≤◌, inl, inr, Bool, true, false, cond, eqb, leb, ltb, List, [], ◌∷◌, ◌++◌, length, append-nil, refl, sym, ap, subst, ◌∙◌, arith}
+use Rattle.std.proofs.lemmas.Bool.{cases_lt}
 use Rattle.std.proofs.lemmas.Bool.Decides.{nat_tests, eqb_tells}
 use Rattle.std.proofs.lemmas.List.{take_all}
 use Rattle.std.specs.Prelude.{Option, Some, None, IfSome}
 use Rattle.std.specs.Option.{option_map}
 use Rattle.rh_defs.specs.Blocks.{blank, blanked, block_bytes, bytes_at, SameShape}
 use Rattle.rh_defs.specs.Pieces.{Split, total, zeros}
-use Rattle.rh_defs.specs.Heap.{Segment, Used, Hole, Heap, Placed, Way, Stays, Shrinks, GrowsIntoHole, GrowsAtTop, MovesToHole, MovesToTop, size_of, bytes_of, base, place_after, with_hole, joined, placed, placed_in, hole_for, is_block_at, block_at, segment_size, block_room, raised, release, release_found, fitted, way_to, way_to_grow, way_beyond, end_for, resize_need, resized_by, resize_growing}
-use Rattle.rh_defs.proofs.BlockLaws.{Puts, Frees, bytes_here, below, in_front, behind, with_hole-blocks, joined-blocks, placed-puts, release-frees, block_at-bytes, block_cut}
+use Rattle.rh_defs.specs.Heap.{Segment, Used, Hole, Heap, Placed, Way, Stays, Shrinks, GrowsIntoHole, GrowsAtTop, MovesToHole, MovesToTop, size_of, bytes_of, place_after, with_hole, joined, placed, placed_in, hole_for, is_block_at, block_at, segment_size, block_room, raised, release, release_found, fitted, way_to, way_to_grow, way_beyond, end_for, resize_need, resized_by, resize_growing}
+use Rattle.rh_defs.proofs.BlockLaws.{Puts, in_front, behind, with_hole-blocks, joined-blocks, placed-puts, release-frees, block_cut}
 use Rattle.rh_defs.proofs.HeapLists.{IsCut, first_at-cuts, cond_true, cond_false, eqb_same, eqb_apart}
 use Rattle.rh_defs.proofs.ShapeLaws.{PutAlike, blank_cut, blank_one, blank-append, blank-joined, blank-with_hole, block-blank, heap_with, hole-blank, len0, same_heap, size-blank_one, total-blank}
 use Rattle.rh_defs.proofs.SlotRooms.{length-fitted}
@@ -82,11 +82,13 @@ placed-blank bytes h None = (ap (λ l. heap_with l h.end) (sym (blank-append h.s
 placed-blank bytes h (Some s) =
     let z = zeros (length bytes) in
     let r : ℕ = size_of s.here - (4 + length bytes) in
-    let rest : size_of (blank_one s.here) - (4 + length z) ≡ r = omega (arith, size-blank_one s.here, len0 (length bytes)) in
-    (ap (λ l. heap_with l h.end)
-    (ap (λ m. blank s.before ++ Used z ∷ with_hole m (blank s.after)) rest
-    ∙ ap (λ l. blank s.before ++ Used z ∷ l) (sym (blank-with_hole r s.after))
-    ∙ sym (blank-append s.before (Used bytes ∷ with_hole r s.after))), omega (arith, total-blank s.before))
+    let rest : size_of (blank_one s.here) - (4 + length z) ≡ r = omega (arith, size-blank_one s.here, len0 (length bytes)) in (
+      ap (λ l. heap_with l h.end)
+          (ap (λ m. blank s.before ++ Used z ∷ with_hole m (blank s.after)) rest
+          ∙ ap (λ l. blank s.before ++ Used z ∷ l) (sym (blank-with_hole r s.after))
+          ∙ sym (blank-append s.before (Used bytes ∷ with_hole r s.after))),
+      omega (arith, total-blank s.before),
+    )
 
 found-blanked : (h : Heap) (o : Option (Split Segment)) → release_found (option_map blank_cut o) (blanked h) ≡ blanked (release_found o h)
 found-blanked h None = refl
@@ -116,19 +118,23 @@ by-blank bytes s h Stays = (refl, omega (arith, total-blank s.before))
 by-blank bytes s h Shrinks =
     let z = zeros (length bytes) in
     let r : ℕ = size_of s.here - (4 + length bytes) in
-    let rest : size_of (blank_one s.here) - (4 + length z) ≡ r = omega (arith, size-blank_one s.here, len0 (length bytes)) in
-    (ap (λ l. heap_with l h.end)
-    (ap (λ m. joined (blank s.before ++ Used z ∷ Hole m ∷ blank s.after)) rest
-    ∙ ap joined (sym (blank-append s.before (Used bytes ∷ Hole r ∷ s.after)))
-    ∙ sym (blank-joined (s.before ++ Used bytes ∷ Hole r ∷ s.after))), omega (arith, total-blank s.before))
+    let rest : size_of (blank_one s.here) - (4 + length z) ≡ r = omega (arith, size-blank_one s.here, len0 (length bytes)) in (
+      ap (λ l. heap_with l h.end)
+          (ap (λ m. joined (blank s.before ++ Used z ∷ Hole m ∷ blank s.after)) rest
+          ∙ ap joined (sym (blank-append s.before (Used bytes ∷ Hole r ∷ s.after)))
+          ∙ sym (blank-joined (s.before ++ Used bytes ∷ Hole r ∷ s.after))),
+      omega (arith, total-blank s.before),
+    )
 by-blank bytes s h (GrowsIntoHole n after) =
     let z = zeros (length bytes) in
     let r : ℕ = (size_of s.here + n) - (4 + length bytes) in
-    let rest : (size_of (blank_one s.here) + n) - (4 + length z) ≡ r = omega (arith, size-blank_one s.here, len0 (length bytes)) in
-    (ap (λ l. heap_with l h.end)
-    (ap (λ m. blank s.before ++ Used z ∷ with_hole m (blank after)) rest
-    ∙ ap (λ l. blank s.before ++ Used z ∷ l) (sym (blank-with_hole r after))
-    ∙ sym (blank-append s.before (Used bytes ∷ with_hole r after))), omega (arith, total-blank s.before))
+    let rest : (size_of (blank_one s.here) + n) - (4 + length z) ≡ r = omega (arith, size-blank_one s.here, len0 (length bytes)) in (
+      ap (λ l. heap_with l h.end)
+          (ap (λ m. blank s.before ++ Used z ∷ with_hole m (blank after)) rest
+          ∙ ap (λ l. blank s.before ++ Used z ∷ l) (sym (blank-with_hole r after))
+          ∙ sym (blank-append s.before (Used bytes ∷ with_hole r after))),
+      omega (arith, total-blank s.before),
+    )
 by-blank bytes s h GrowsAtTop = (ap (λ l. heap_with l h.end) (sym (blank-append s.before (Used bytes ∷ []))), omega (arith, total-blank s.before))
 by-blank bytes s h (MovesToHole hole) = (moved-blank bytes s.before h (Some hole), (placed-blank bytes h (Some hole)).1)
 by-blank bytes s h MovesToTop = (moved-blank bytes s.before h None, (placed-blank bytes h None).1)
@@ -309,8 +315,8 @@ resize_growing-moves a n s h e =
     let whole : h.segments ≡ s.before ++ Used old ∷ s.after = c.whole ∙ ap (λ g. s.before ++ g ∷ s.after) b.1 in
     let is : WayIs (4 + length bytes) s h (way_to (segment_size n) s h) = subst (λ t. WayIs t s h (way_to (segment_size n) s h)) (sym size) (way-is (segment_size n) s h) in
     let stays : way_to (segment_size n) s h ≡ Stays → bytes ≡ old = λ w.
-        let same : 4 + length bytes ≡ size_of s.here = subst (WayIs (4 + length bytes) s h) w is in
-        let here : bytes_of s.here ≡ old = ap bytes_of b.1 in
-        fitted-same (block_room n) (bytes_of s.here) (omega (arith, length-fitted (block_room n) (bytes_of s.here), ap size_of b.1, ap (λ l. length l) here)) ∙ here in
+    let same : 4 + length bytes ≡ size_of s.here = subst (WayIs (4 + length bytes) s h) w is in
+    let here : bytes_of s.here ≡ old = ap bytes_of b.1 in
+    fitted-same (block_room n) (bytes_of s.here) (omega (arith, length-fitted (block_room n) (bytes_of s.here), ap size_of b.1, ap (λ l. length l) here)) ∙ here in
     let m = by-moves s h (raised (resize_need n s h) h) old bytes b.1 whole refl (way_to (segment_size n) s h) is stays in
     subst (λ x. Moves x bytes h (resize_growing n s h).heap (resize_growing n s h).address) (sym b.2) m

@@ -6,7 +6,7 @@ use Rattle.std.specs.Option.{option_map}
 use Rattle.rh_defs.specs.Bytes.{put}
 use Rattle.rh_defs.specs.Chain.{Granted, ◌>>=◌, ◌>>◌, refuse_if}
 use Rattle.rh_defs.specs.Pieces.{total, Split, behind, first_at, zeros, pages_for}
-use Rattle.rh_defs.specs.Heap.{Segment, Used, Hole, Heap, Placed, size_of, with_hole, joined, hole_for, is_hole_for, block_at, is_block_at, placed, placed_in, segment_size, block_room, shortage_in, need, raised, claim_growing, release, release_found}
+use Rattle.rh_defs.specs.Heap.{Segment, Used, Hole, Heap, Placed, size_of, bytes_of, block_size, with_hole, joined, hole_for, is_hole_for, block_at, is_block_at, placed, placed_in, segment_size, block_room, shortage_in, need, raised, claim_growing, release, release_found}
 use Rattle.rh_defs.specs.Module.{module_claim, module_need_pages}
 use Rattle.rh_defs.specs.declared.refusal.Refusal.TheVariants.{BadSize, NoRoom}
 use Rattle.rh_defs.proofs.BytesLaws.{length-put}
@@ -207,3 +207,21 @@ release-blank a h = subst (λ o. SameShape (release_found o (blanked h)) (releas
 pub release-alike : (a : ℕ) (h d : Heap) → SameShape h d → SameShape (release a h) (release a d)
 release-alike a h d s =
     shape-both (shape-sym (release-blank a h)) (subst (λ (k : Heap). SameShape (release a k) (release a d)) (sym (same_heap h d s)) (release-blank a d))
+
+-- ---- sizes of blocks
+abbrev bytes_at_cut : Option (Split Segment) → Option ℕ
+bytes_at_cut o = option_map (λ (s : Split Segment). length (bytes_of s.here)) o
+
+cut-size : (o : Option (Split Segment)) → bytes_at_cut (option_map blank_cut o) ≡ bytes_at_cut o
+cut-size None = refl
+cut-size (Some s) = ap Some (go s.here)
+  where
+    go : (g : Segment) → length (bytes_of (blank_one g)) ≡ length (bytes_of g)
+    go (Used bs) = len0 (length bs)
+    go (Hole n) = refl
+
+size-blank : (a : ℕ) (h : Heap) → block_size a (blanked h) ≡ block_size a h
+size-blank a h = ap bytes_at_cut (block-blank a 16 h.segments) ∙ cut-size (block_at a h)
+
+pub block_size-alike : (a : ℕ) (h d : Heap) → SameShape h d → block_size a h ≡ block_size a d
+block_size-alike a h d s = sym (size-blank a h) ∙ ap (block_size a) (same_heap h d s) ∙ size-blank a d

@@ -5,7 +5,6 @@ use Rattle.rh_defs.specs.declared.command.Command.TheVariants as command
 use Rattle.rh_defs.specs.declared.fault.LineFault.TheVariants.{Unknown}
 use Rattle.rh_defs.specs.Line.{Meaning, line_means}
 
-
 -- whether a command sends messages, takes them, or acts on transfers
 abbrev pub uses_post : Command → Bool
 uses_post (command.Save name k to leaf) = true

@@ -1,8 +1,8 @@
 -- How the program ends, and its exit status.
 use Rattle.std.specs.Prelude.{ℕ, Result, Ok, Err}
-use Rattle.rh_desk.specs.declared.status.Status.{Status}
-use Rattle.rh_desk.specs.declared.status.Status.TheVariants as status
-use Rattle.rh_desk.specs.declared.status.RunFault.{RunFault}
+use Rattle.rh_session.specs.declared.status.Status.{Status}
+use Rattle.rh_session.specs.declared.status.Status.TheVariants as status
+use Rattle.rh_session.specs.declared.status.RunFault.{RunFault}
 use Rattle.rh_desk.specs.declared.ending.Ending.{Ending}
 use Rattle.rh_desk.specs.declared.ending.Ending.TheVariants.{Clean, BadLines, WrongWords, Fault}
 

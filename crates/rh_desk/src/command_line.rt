@@ -1,156 +1,120 @@
-//! The program over words and streams that are handed in.
+//! The program's words.
 
-ghost use Rattle.std.specs.Prelude.{◌≡◌, ◌≤◌, ◌<◌, [], length, IfSome};
-ghost use Rattle.rh_defs.specs.Runs.{start};
-ghost use Rattle.rh_desk.specs.Outcome.{Finished};
-ghost use Rattle.rh_desk.specs.Ending.{ending_of, exit_status};
+ghost use Rattle.std.specs.Prelude.{◌≤◌};
 
-use crate::ending::Ending;
-use crate::running::run;
-use crate::status::{RunFault, Status};
-use clap::error::ErrorKind;
 use clap::{Arg, ArgAction, ArgMatches, Command, Error, value_parser};
-use rh_defs::Files;
-use rh_script::{Flagged, Sink, Source, WriteFailed, put};
 use std::alloc::{AllocError, Global};
-use std::fs::File;
-use std::rt;
 
 /// The pages of a desk where nothing is said.
-const PAGES: u32 = 64;
+pub const PAGES: u32 = 64;
 
-/// Runs the program on its words, of which the first is its own name, and answers its exit status:
-/// 0 for a clean run or help, 1 for a bad line, 2 for wrong words, 3 for a file, read, write, length or memory fault.
-pub fn program<R: rt::Files, I: Source, O: Sink, E: Sink>(
-    runtime: &R,
-    alloc: Global,
-    words: &[String],
-    input: &mut I,
-    output: &mut O,
-    errors: &mut E,
-) -> u8
-    requires { (I.input input.old).reads ≡ 0 }
-    ensures small { result ≤ 3 }
+/// The fewest and the most pages of a desk.
+const FEWEST_PAGES: u32 = 8;
 
-    // With no words but its name, a run of the input over 64 pages that came to its end.
-    ensures ran { length words.now ≤ 1 → (status : Status) → result ≡ exit_status (ending_of (Ok status)) → Finished (start 64 []) (I.input input.old) (I.input input.new) (O.output output.old) (O.output output.new) status }
-{
-    let ending = if words.len() <= 1 {
-        ended(run(alloc, Files::new(alloc), input, output, PAGES), errors)
-    } else {
-        run_words(runtime, alloc, words, output, errors)
-    };
-    ending.exit_status()
+const MOST_PAGES: u32 = 1024;
+
+/// How the program is called.
+const USAGE: &str = "\
+vervainfile run [--pages N] SCRIPT [NAME=PATH ...]
+       vervainfile check FILE
+       vervainfile                 (with no words: the script on standard input, over 64 pages)";
+
+/// What stands under the help.
+const MORE: &str = "\
+With no words at all the script on standard input is run, over 64 pages and without files.
+
+Example:
+  vervainfile run --pages 8 hello.desk picture=logo.spr
+
+Exit status:
+  0  each line was good, or the bytes are a heap
+  1  a line was bad, or the bytes are no heap
+  2  the words are wrong
+  3  a file, read, write, length or memory fault";
+
+/// A run that is asked for: of a script over so many pages, with files.
+#[derive(Clone, Copy)]
+pub struct RunRequest<'m, 'a> {
+    pub pages: u32,
+    pub script: &'a str,
+    pub files: &'m [&'a str],
+    ghost fewest: { 8 ≤ pages },
+    ghost most: { pages ≤ 1024 },
 }
 
-fn run_words<R: rt::Files, O: Sink, E: Sink>(
-    runtime: &R,
-    alloc: Global,
-    words: &[String],
-    output: &mut O,
-    errors: &mut E,
-) -> Ending {
-    match parsed(alloc, words) {
-        Ok(matches) => run_matches(runtime, alloc, &matches, output, errors),
-        Err(error) => told(alloc, &error, output, errors),
+/// What the words ask for.
+pub enum Request<'m, 'a> {
+    /// To run a script.
+    Run(RunRequest<'m, 'a>),
+    /// To say whether the bytes of a file are a heap.
+    Check { file: &'a str },
+}
+
+/// What was asked for. `clap` let through nothing else, which its types don't say.
+pub fn request_of<'m, 'a>(matches: &'m ArgMatches<'a>) -> Option<Request<'m, 'a>> {
+    let (name, found) = matches.subcommand()?;
+    if name == "check" {
+        let file = found.get_str("file")?;
+        return Some(Request::Check { file });
     }
-}
-
-fn run_matches<R: rt::Files, O: Sink, E: Sink>(
-    runtime: &R,
-    alloc: Global,
-    matches: &ArgMatches<'_>,
-    output: &mut O,
-    errors: &mut E,
-) -> Ending {
-    let Some((_, found)) = matches.subcommand() else {
-        return Ending::WrongWords;
-    };
-    let (Some(script), Some(pages)) = (found.get_str("script"), pages_of(found)) else {
-        return Ending::WrongWords;
-    };
-    match File::open(runtime, script) {
-        Ok(file) => {
-            let mut reader = Flagged::new(file);
-            ended(
-                run(alloc, Files::new(alloc), &mut reader, output, pages),
-                errors,
-            )
-        }
-        Err(_) => {
-            let _told = tell_file(script, errors);
-            Ending::Fault
-        }
-    }
-}
-
-/// The number of pages that was asked for. `clap` let through none but 8 to 256, which its type doesn't say.
-fn pages_of(found: &ArgMatches<'_>) -> Option<u32>
-    ensures { IfSome result (λ pages. (8 ≤ pages) × (pages ≤ 256)) }
-{
     let pages = found.get_one::<u32>("pages").unwrap_or(PAGES);
-    if pages < 8 || pages > 256 {
+    let script = found.get_str("script")?;
+    if pages < FEWEST_PAGES || pages > MOST_PAGES {
         return None;
     }
-    Some(pages)
+    let files = found.get_strs("files").unwrap_or(&[]);
+    Some(Request::Run(RunRequest {
+        pages,
+        script,
+        files,
+    }))
 }
 
-fn parsed<'a>(alloc: Global, words: &'a [String]) -> Result<ArgMatches<'a>, Error> {
-    let pages = Arg::new(alloc, "pages")
-        .long("pages")
-        .value_name("N")
-        .help("Pages of the desk, 8 to 256 [default: 64]")
-        .value_parser(value_parser!(u32).range(8..257));
-    let script = Arg::new(alloc, "script")
-        .value_name("SCRIPT")
-        .help("The script, a command a line")
-        .required(true)
-        .action(ArgAction::Set);
-    let running = Command::new(alloc, "run")
-        .about("Run a script and print its replies")
-        .arg(pages)?
-        .arg(script)?;
+/// The words, as far as `clap` knows them.
+pub fn parsed<'a>(alloc: Global, words: &'a [String]) -> Result<ArgMatches<'a>, Error> {
     Command::new(alloc, "vervainfile")
-        .about("The memory of a desktop: runs a script; with no words, the one on standard input")
+        .version("1.0.0")
+        .about("The memory of a desktop, shared by its tasks")
+        .override_usage(USAGE)
+        .after_help(MORE)
         .subcommand_required(true)
-        .subcommand(running)?
+        .subcommand(running(alloc)?)?
+        .subcommand(checking(alloc)?)?
         .try_get_matches_from(words)
 }
 
-/// Prints what `clap` says of the words: help to the output, anything else to the errors.
-fn told<O: Sink, E: Sink>(alloc: Global, error: &Error, output: &mut O, errors: &mut E) -> Ending {
-    let text = match error.to_string(alloc) {
-        Ok(text) if error.kind() != ErrorKind::OutOfMemory => text,
-        _ => return ended(Err(RunFault::NoMemory), errors),
-    };
-    if error.use_stderr() {
-        let _told = put(errors, text.as_bytes());
-        return Ending::WrongWords;
-    }
-    match put(output, text.as_bytes()) {
-        Ok(()) => Ending::Clean,
-        Err(_) => ended(Err(RunFault::WriteFailed), errors),
-    }
+fn running<'a>(alloc: Global) -> Result<Command<'a>, AllocError> {
+    let pages = Arg::new(alloc, "pages")
+        .long("pages")
+        .value_name("N")
+        .help("Pages of the desk, 8 to 1024 [default: 64]")
+        .value_parser(value_parser!(u32).range(8..1025));
+    let script = Arg::new(alloc, "script")
+        .value_name("SCRIPT")
+        .help("The script, a command a line; - for standard input")
+        .required(true)
+        .action(ArgAction::Set);
+    let files = Arg::new(alloc, "files")
+        .value_name("NAME=PATH")
+        .help("Files that the script may load, each by a name of its own")
+        .num_args(0..)
+        .action(ArgAction::Append);
+    Command::new(alloc, "run")
+        .about("Run a script and print its replies")
+        .after_help(MORE)
+        .arg(pages)?
+        .arg(script)?
+        .arg(files)
 }
 
-/// How a run's outcome ends the program; a fault is told.
-fn ended<E: Sink>(outcome: Result<Status, RunFault>, errors: &mut E) -> Ending
-    ensures { result ≡ ending_of outcome }
-{
-    let text = match outcome {
-        Ok(Status::Clean) => return Ending::Clean,
-        Ok(Status::BadLines) => return Ending::BadLines,
-        Err(RunFault::NoMemory) => b"rh_desk: no memory\n".as_slice(),
-        Err(RunFault::ReadFailed) => b"rh_desk: read failed\n".as_slice(),
-        Err(RunFault::WriteFailed) => b"rh_desk: write failed\n".as_slice(),
-        Err(RunFault::TooLong) => b"rh_desk: script too long\n".as_slice(),
-    };
-    let _told = put(errors, text);
-    Ending::Fault
-}
-
-fn tell_file<E: Sink>(path: &str, errors: &mut E) -> Result<(), WriteFailed> {
-    put(errors, b"rh_desk: file ")?;
-    put(errors, path.as_bytes())?;
-    put(errors, b"\n")
+fn checking<'a>(alloc: Global) -> Result<Command<'a>, AllocError> {
+    let file = Arg::new(alloc, "file")
+        .value_name("FILE")
+        .help("The bytes of a heap, 1048576 at most")
+        .required(true)
+        .action(ArgAction::Set);
+    Command::new(alloc, "check")
+        .about("Say whether the bytes of a file are a heap, and what it consists of")
+        .after_help(MORE)
+        .arg(file)
 }

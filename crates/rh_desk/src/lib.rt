@@ -1,16 +1,11 @@
-//! Runs a script over a desk, and the program over words and streams that are handed in.
+//! The program over words and streams that are handed in.
 #![tactic(auto)]
 
 mod command_line;
 mod ending;
-mod line;
-mod running;
-mod session;
-mod status;
+mod files;
+mod telling;
+mod words;
 
-pub use command_line::program;
-pub use running::run;
-pub use status::{RunFault, Status};
-
-#[cfg(test)]
-mod tests;
+pub use rh_run::{RunFault, Status, check_image, run};
+pub use words::{program, words_unread};

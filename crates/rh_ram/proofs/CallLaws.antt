@@ -1,5 +1,5 @@
 -- Calls that may be refused.
-use Rattle.std.proofs.Common.{◌≡◌, ℕ, Bool, true, false, refl, List}
+use Rattle.std.proofs.Common.{◌≡◌, ℕ, true, false, refl, List}
 use Rattle.std.specs.Prelude.{Option, Some, None, Ok, Err, find}
 use Rattle.rh_defs.specs.declared.refusal.Refusal.TheVariants.{NotOpen, Busy}
 use Rattle.rh_defs.specs.declared.transfer.Sending.{Sending}

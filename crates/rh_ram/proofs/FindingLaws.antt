@@ -1,6 +1,6 @@
 -- The first record that passes a test, by a walk.
-use Rattle.std.proofs.Common.{◌≡◌, ℕ, suc, ◌+◌, ◌<◌, Bool, true, false, cond, refl, ap, sym, subst, ◌∙◌, arith, List, [], ◌∷◌, length, get_or, drop, ◌⊎◌, inl, inr, add-one, drop-cons}
-use Rattle.std.specs.Prelude.{Option, Some, None}
+use Rattle.std.proofs.Common.{◌≡◌, ℕ, suc, ◌+◌, ◌<◌, Bool, true, false, refl, ap, sym, ◌∙◌, List, ◌∷◌, length, get_or, drop, ◌⊎◌, inl, inr, add-one, drop-cons}
+use Rattle.std.specs.Prelude.{Option, Some}
 use Rattle.rh_defs.specs.declared.transfer.Sending.{Sending}
 use Rattle.rh_defs.specs.declared.transfer.Taking.{Taking}
 use Rattle.rh_defs.specs.declared.transfer.Asked.{Asked}

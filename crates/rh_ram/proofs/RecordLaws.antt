@@ -1,14 +1,13 @@
 -- Lists of records, with room for one more and with one written anew.
-use Rattle.std.proofs.Common.{◌≡◌, ℕ, zero, suc, ◌+◌, ◌<◌, ◌≤◌, Bool, true, false, cond, refl, ap, sym, ◌∙◌, arith, List, [], ◌∷◌, ◌++◌, length, get_or, take, drop}
-use Rattle.std.specs.Prelude.{Some, None, not, nat_le, nat_lt, filter, map, remove, ◌==◌}
+use Rattle.std.proofs.Common.{◌≡◌, ℕ, zero, suc, ◌+◌, ◌<◌, Bool, true, false, cond, refl, ap, sym, ◌∙◌, arith, List, [], ◌∷◌, ◌++◌, length, get_or, take, drop}
+use Rattle.std.specs.Prelude.{Some, None, not, nat_le, nat_lt, filter, remove, ◌==◌}
 use Rattle.std.proofs.Common.{subst}
-use Rattle.std.proofs.lemmas.List.{set-get_or}
 use Rattle.std.proofs.Math.ListN.{set}
 use Rattle.std.proofs.lemmas.List.Edits.{map_over_more}
 use Rattle.std.specs.List.{position, position_or_len, prefix_len}
 use Rattle.std.proofs.lemmas.List.Sums.{prefix_len-le-length}
 use Rattle.std.proofs.lemmas.List.Quantifiers.{position-Some}
-use borrow.Author.Tests.{ltb-true, ltb-false, leb-false, le-leb, lt-leb}
+use borrow.Author.Tests.{ltb-false, leb-false, le-leb, lt-leb}
 use Rattle.rh_defs.specs.Records.{most_records, is_full, dropped, with_id}
 use Rattle.rh_ram.specs.Rooms.{roomy}
 

@@ -8,4 +8,5 @@ mod records;
 mod sender;
 
 pub use receiver::Receiver;
+pub use records::MOST_RECORDS;
 pub use sender::Sender;

@@ -8,7 +8,7 @@ ghost use Rattle.rh_defs.specs.Records.{in_id, is_going, with_id, is_full as is_
 ghost use Rattle.rh_defs.specs.Receiver as receiver;
 
 use crate::finding::{first_active, first_asking};
-use crate::records::{Record, is_full, is_meant, make_room, rewrite};
+use crate::records::{MOST_RECORDS, Record, is_full, is_meant, make_room, rewrite};
 use arrayvec::ArrayVec;
 use rh_defs::{Anchor, Asked, Handle, Incoming, Ref, Refusal, Taking};
 use std::marker::Model;
@@ -16,7 +16,7 @@ use std::marker::Model;
 /// The records of a task's transfers that come in, in the order made: at most eight.
 #[derive(Drop)]
 pub struct Receiver {
-    records: ArrayVec<Incoming, 8>,
+    records: ArrayVec<Incoming, MOST_RECORDS>,
 }
 
 impl Model for Receiver {
@@ -43,7 +43,7 @@ impl Receiver {
     /// The records in the order made, which is that of their ids.
     pub fn records(&self) -> &[Incoming]
         ensures value { result.now ≡ self.now }
-        ensures few { length self.now ≤ 8 }
+        ensures few { length self.now ≤ MOST_RECORDS }
     {
         self.records.as_slice()
     }

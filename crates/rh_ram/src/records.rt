@@ -10,7 +10,7 @@ use arrayvec::ArrayVec;
 use rh_defs::{Incoming, Outgoing, Ref};
 
 /// A task has at most so many records each way.
-pub(crate) const MOST_RECORDS: usize = 8;
+pub const MOST_RECORDS: usize = 8;
 
 /// A record of a transfer, whichever way it goes.
 pub(crate) trait Record: Copy + Default {
@@ -82,9 +82,9 @@ fn count_lasting<R: Record>(records: &[R]) -> usize
 }
 
 /// Makes room for one more record: on a full list the first one that has ended goes.
-pub(crate) fn make_room<R: Record>(records: &mut ArrayVec<R, 8>)
+pub(crate) fn make_room<R: Record>(records: &mut ArrayVec<R, MOST_RECORDS>)
     requires { is_full_of R.lasts_of records.old.items ≡ false }
-    ensures room { array_vec_len records.new < 8 }
+    ensures room { array_vec_len records.new < MOST_RECORDS }
     ensures rest { records.new.items ≡ roomy R.lasts_of records.old.items }
 {
     if records.is_full() {

@@ -7,7 +7,7 @@ ghost use Rattle.rh_defs.specs.Records.{open_of, is_meant as is_meant_by, is_ope
 ghost use Rattle.rh_defs.specs.Sender as sender;
 
 use crate::finding::first_open;
-use crate::records::{is_full, is_meant, make_room, rewrite};
+use crate::records::{MOST_RECORDS, is_full, is_meant, make_room, rewrite};
 use arrayvec::ArrayVec;
 use rh_defs::{Anchor, Handle, Outgoing, Ref, Refusal, Sending};
 use std::marker::Model;
@@ -15,7 +15,7 @@ use std::marker::Model;
 /// The records of a task's transfers that go out, in the order made: at most eight.
 #[derive(Drop)]
 pub struct Sender {
-    records: ArrayVec<Outgoing, 8>,
+    records: ArrayVec<Outgoing, MOST_RECORDS>,
 }
 
 impl Model for Sender {
@@ -42,7 +42,7 @@ impl Sender {
     /// The records in the order made, which is that of their ids.
     pub fn records(&self) -> &[Outgoing]
         ensures value { result.now ≡ self.now }
-        ensures few { length self.now ≤ 8 }
+        ensures few { length self.now ≤ MOST_RECORDS }
     {
         self.records.as_slice()
     }

@@ -66,10 +66,6 @@ pub or_right : (a b : Bool) → (a || b) ≡ false → b ≡ false
 or_right true b q = absurd (cc)
 or_right false b q = q
 
-pub or_true : (a b : Bool) → (a || b) ≡ true → (a ≡ true) ⊎ (b ≡ true)
-or_true true b q = inl refl
-or_true false b q = inr q
-
 -- lists
 
 pub Has-append : {A : Type 0} (m : A) (xs ys : List A) → Has m (xs ++ ys) → Has m xs ⊎ Has m ys

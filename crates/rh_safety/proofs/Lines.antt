@@ -1,4 +1,4 @@
--- Lines spell commands in range.
+-- Lines spell commands in range, and the desk after lines is that after their commands.
 use Rattle.std.proofs.Common.{◌≡◌, ℕ, zero, suc, ◌*◌, Bool, true, false, ◌&&◌, ◌||◌, List}
 use Rattle.std.proofs.Common.{[], ◌∷◌, length, Option, Some, None, refl, subst, arith}
 use Rattle.std.specs.Prelude.{ℤ, Result, Ok, Err, IfSome, nat_le, nat_lt, ◌==◌, if◌then◌else◌, codes}
@@ -17,7 +17,10 @@ use Rattle.rh_defs.specs.Forms.{is_name, is_anchor, is_number, is_delta, is_deci
 use Rattle.rh_defs.specs.Forms.{number_of, greatest, longest_buffer, last_ref, first_made, last_made, most_pages}
 use Rattle.rh_defs.specs.Range.{in_range, all_in_range}
 use Rattle.rh_defs.specs.Known.{uses_post, known, line_known}
-use Rattle.rh_defs.specs.Script.{commands_in}
+use Rattle.rh_defs.specs.Script.{commands_in, lines_desk, meaning_desk}
+use Rattle.rh_defs.specs.Desk.{Desk}
+use Rattle.rh_defs.specs.Step.{step}
+use Rattle.rh_defs.specs.Runs.{after}
 use Rattle.rh_defs.specs.Line.{Meaning, ◌>>=◌, longest_line, words_of, word, name_at, number_at, delta_at, signed}
 use Rattle.rh_defs.specs.Line.{is_negative, unsigned, address_at, leaf_at, choice_at}
 use Rattle.rh_defs.specs.Line.{bytes_at, anchor_at, size_at, manner_of, id_of, task_of, kill_of, alloc_of, load_of}
@@ -382,3 +385,26 @@ by_meaning (Err fault) f g = g fault refl
 pub commands_in_range : (lines : List (List ℕ)) → all_in_range (commands_in lines) ≡ true
 commands_in_range lines = all_given _ in_range lines (λ line. by_meaning (line_known line) (λ c e.
     rw e (subst (λ m. Means IsSpelled m) e (known_in (line_means line) (line_in line)))) (λ fault e. rw e tt))
+
+-- ---- the desk after lines
+
+module _ (give : List ℕ → Option Command) (ls : List (List ℕ)) where
+  -- after one line more
+  one_more : (c : Option Command) (d : Desk) → ((e : Desk) → lines_desk e ls ≡ after e (filter_map give ls)) →
+      lines_desk (meaning_desk d (Ok c)) ls ≡ after d (cons_option c (filter_map give ls))
+  one_more None d rest = rest d
+  one_more (Some c) d rest = rest (step d c).0
+
+after_given : (give : List ℕ → Option Command) →
+    ((l : List ℕ) (c : Option Command) → line_known l ≡ Ok c → give l ≡ c) →
+    ((l : List ℕ) (fault : LineFault) → line_known l ≡ Err fault → give l ≡ None) → (ls : List (List ℕ)) (d : Desk) →
+    lines_desk d ls ≡ after d (filter_map give ls)
+after_given give is none [] d = refl
+after_given give is none (l ∷ ls) d =
+    let rest : (e : Desk) → lines_desk e ls ≡ after e (filter_map give ls) = after_given give is none ls in
+    by_meaning (line_known l) (λ c e. rw (e, is l c e) (one_more give ls c d rest))
+    (λ fault e. rw (e, none l fault e) (rest d))
+
+-- the desk after lines is that after the commands that they spell
+pub after_lines : (d : Desk) (lines : List (List ℕ)) → lines_desk d lines ≡ after d (commands_in lines)
+after_lines d lines = after_given _ (λ l c e. rw e refl) (λ l fault e. rw e refl) lines d

@@ -126,8 +126,6 @@ pub record HoldsBuffer (d : Desk) (m : Message) (x : Sending) : Type 0 where
   pub fits : m.letter.amount ≤ length bytes
 
 -- whether the block at a fetch's address has too few bytes, or isn't there
-
--- whether the block of a fetch has too few bytes, or is not there
 abbrev pub range_is_bad : Option (List ℕ) → ℕ → Bool
 range_is_bad None n = true
 range_is_bad (Some old) n = not (nat_le n (length old))

@@ -17,7 +17,7 @@ use Rattle.rh_defs.specs.Range.{in_range, all_in_range}
 use Rattle.rh_defs.specs.Records.{most_records, in_id}
 use Rattle.rh_defs.specs.Desk.{Desk, Task, task_at}
 use Rattle.rh_defs.specs.Step.{step}
-use Rattle.rh_defs.specs.Runs.{start_with, after}
+use Rattle.rh_defs.specs.Runs.{start, start_with, after}
 use Rattle.rh_safety.proofs.View.{view, blocks_of, of, task_of}
 use Rattle.rh_defs.specs.Files.{FileList}
 use Rattle.rh_defs.specs.Laws.{IsStart, IsDesk, Always}
@@ -36,7 +36,7 @@ use Rattle.rh_safety.proofs.FlexMaps as flex
 use Rattle.rh_safety.proofs.Invariant.{Good}
 use Rattle.rh_safety.proofs.Runs.{start_good, run_good, is_safe}
 use Rattle.rh_defs.specs.Script.{commands_in, ended}
-use Rattle.rh_safety.proofs.Lines.{commands_in_range}
+use Rattle.rh_safety.proofs.Lines.{commands_in_range, after_lines}
 use Rattle.rh_safety.proofs.SeenDesks.{fits}
 use Rattle.rh_safety.proofs.SeenFrames.{Fits, Follows, show_follows, blocks_follows, heap_follows, status_follows}
 use Rattle.rh_safety.proofs.SeenFrames.{areas_follows, area_follows, make_follows, remove_follows, rma_claim_follows}
@@ -262,7 +262,10 @@ scripts_are_safe pages files script least most =
       first_ref = omega arith;
       last_ref = omega arith;
     } in
-    always_safe pages 1 1 files (commands_in (ended script)) from (commands_in_range (ended script))
+    record {
+      desk = after_lines (start pages files) (ended script);
+      safe = always_safe pages 1 1 files (commands_in (ended script)) from (commands_in_range (ended script));
+    }
 
 -- what follows from the invariant holds always
 pub always : (P : Desk → Type 0) → ((d : Desk) → IsReached d → P d) → Always P

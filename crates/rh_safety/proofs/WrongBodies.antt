@@ -153,7 +153,7 @@ wrong_fetch = refl
 
 -- ---- a sender that counts itself done when it sends
 
--- the transmit, with another record after it
+-- the transmit, with another record after it, by what goes out, the file's length and the transmit's ref
 abbrev transmits_to : (Sending → ℕ → ℕ → ℕ → Outgoing) → Desk → Task → Parcel → ℕ → ℕ → Sending → Split Flex →
     Granted Handled
 transmits_to record_after d t m buffer amount x source =
@@ -163,7 +163,7 @@ transmits_to record_after d t m buffer amount x source =
       refuse_if (is_out_of_reach t r buffer amount place n) BadRange
       sent ← send_letter (transmit_letter t.handle m (nat_lt n amount) buffer n) d
       Ok (
-        with_sending t.handle (with_id out_id x.id (record_after x n amount (next_ref d)))
+        with_sending t.handle (with_id out_id x.id (record_after x n (length source.here.bytes) (next_ref d)))
             (with_task r.handle (λ r. record r {
               slot = written_in buffer (take n (drop x.count source.here.bytes)) (buffer_at buffer amount r.slot)
                   r.slot;
@@ -179,7 +179,7 @@ answers_to record_after d t m buffer amount (Some x) = or_else (slot_block x.anc
 abbrev done_when_sent : Rules
 done_when_sent = record landed {
   answers_fetch = λ d t m buffer amount.
-      answers_to (λ x n wanted ref. outgoing.Done x.id (x.count + n)) d t m buffer amount (sender.on_fetch
+      answers_to (λ x n size ref. outgoing.Done x.id (x.count + n)) d t m buffer amount (sender.on_fetch
       m.message.from m.message.your_ref amount t.sending);
 }
 
@@ -206,6 +206,54 @@ wrong_count : sent_offered done_when_sent first_buffer 1 1 ≡ (
 )
 unfolding Script.computing hex_on_literals
 wrong_count = refl
+
+-- ---- a sender for which a full last buffer ends the transfer
+
+abbrev record_ended : Sending → ℕ → ℕ → ℕ → Outgoing
+record_ended x n size ref =
+    if x.count + n == size then outgoing.Done x.id (x.count + n)
+    else outgoing.Open (record x { count = x.count + n; last = ref })
+
+abbrev full_ends : Rules
+full_ends = record landed {
+  answers_fetch = λ d t m buffer amount.
+      answers_to record_ended d t m buffer amount (sender.on_fetch m.message.from m.message.your_ref amount t.sending);
+}
+
+-- the records of sender and receiver
+abbrev ends_of : Rules → List String → List Outgoing × List Incoming
+ends_of rules lines = let r = run_of rules lines in (sending_of (task_at 1 r.desk), taking_of (task_at 2 r.desk))
+  where
+    sending_of : Option Task → List Outgoing
+    sending_of None = []
+    sending_of (Some t) = t.sending
+
+    taking_of : Option Task → List Incoming
+    taking_of None = []
+    taking_of (Some t) = t.taking
+
+-- four bytes by a buffer of four: after the save 2 * 1 + 3 polls in turn, none of which is refused anything
+abbrev one_buffer : List String
+one_buffer = "task a 4" ∷ "task b 4" ∷ "alloc a 0 4" ∷ "save a 0 b doc" ∷ "poll b" ∷ "poll a" ∷ "poll b" ∷ "poll a"
+    ∷ "poll b" ∷ []
+
+right_end : ends_of landed one_buffer ≡ (outgoing.Done 1 4 ∷ [], incoming.Done 1 0 4 ∷ [])
+unfolding Script.computing hex_on_literals
+right_end = refl
+
+wrong_end : ends_of full_ends one_buffer ≡ (
+  outgoing.Done 1 4 ∷ [],
+  incoming.Fetching (record {
+    id = 1;
+    sender = 1;
+    anchor = 0;
+    buffer = 0x8114;
+    count = 4;
+    fetch = 4;
+  }) ∷ [],
+)
+unfolding Script.computing hex_on_literals
+wrong_end = refl
 
 -- ---- a save of a document that grows
 

@@ -12,7 +12,7 @@ use Rattle.rh_defs.specs.Files.{FileList}
 use Rattle.rh_defs.specs.Desk.{Desk, Task, task_at}
 use Rattle.rh_defs.specs.Runs.{start, start_with, after}
 use Rattle.rh_defs.specs.Laws.{IsStart}
-use Rattle.rh_defs.specs.Script.{commands_in, ended}
+use Rattle.rh_defs.specs.Script.{commands_in, ended, lines_desk}
 use Rattle.rh_safety.specs.Offered.{offered}
 use Rattle.rh_safety.specs.Held.{held}
 
@@ -39,8 +39,14 @@ AlwaysSafe =
     (pool handle ref : ℕ) (files : FileList) (commands : List Command) → IsStart pool handle ref →
     all_in_range commands ≡ true → AreSafe (start_with pool files handle ref) commands
 
--- the same of the commands that a script's complete lines spell, over a fresh desk
+-- The complete lines of a script, from the desk on: the desk after them is that after the commands that they spell, and
+-- that is safe.
+pub record IsSafeScript (d : Desk) (script : List ℕ) : Type 0 where
+  pub desk : lines_desk d (ended script) ≡ after d (commands_in (ended script))
+  pub safe : AreSafe d (commands_in (ended script))
+
+-- so it is of each script over a fresh desk
 abbrev pub ScriptsAreSafe : Type 0
 ScriptsAreSafe =
     (pages : ℕ) (files : FileList) (script : List ℕ) → 8 ≤ pages → pages ≤ most_pages →
-    AreSafe (start pages files) (commands_in (ended script))
+    IsSafeScript (start pages files) script

@@ -1,5 +1,3 @@
-pub mod FlowLemmas
-pub mod WordLemmas
-pub mod DigitLemmas
 pub mod ReadLemmas
+pub mod SegmentLemmas
 pub mod PrintLemmas

@@ -1,15 +1,31 @@
 -- Lists that are written item by item, and bytes that are written part by part.
-use Rattle.std.proofs.Common.{◌≡◌, ◌≢◌, ℕ, zero, suc, ◌+◌, List, [], ◌∷◌, ◌++◌, length, take, drop, Some, None, Result, Ok, Err, refl, sym, ◌∙◌, ap, subst, add-one}
+use Rattle.std.proofs.Common.{◌≡◌, ◌≢◌, ℕ, zero, suc, ◌+◌, List, [], ◌∷◌, ◌++◌, length, take, drop, Some, None, Result, Ok, Err, get_or, ◌<◌, ◌≤◌, refl, sym, ◌∙◌, ap, subst, arith, Option, find}
+use Rattle.std.specs.Prelude.{map}
+use Rattle.rh_defs.specs.declared.listing.RecordItem.{RecordItem}
+use Rattle.rh_defs.specs.declared.transfer.Outgoing.{Outgoing}
+use Rattle.rh_defs.specs.declared.transfer.Incoming.{Incoming}
+use Rattle.rh_defs.specs.declared.refusal.Refusal.{Refusal}
+use Rattle.rh_defs.specs.declared.refusal.Refusal.TheVariants.{NoName}
+use Rattle.rh_defs.specs.declared.command.Command.{Command}
+use Rattle.rh_defs.specs.declared.command.Command.TheVariants as command
+use Rattle.rh_defs.specs.declared.reply.Reply.{Reply}
+use Rattle.rh_defs.specs.declared.reply.Reply.TheVariants as reply
+use Rattle.rh_defs.specs.Slot.{block_of}
+use Rattle.rh_script.specs.Named.{slot_in, bytes_of_named}
+use Rattle.std.specs.Fmt.{decimal}
+use Rattle.rh_defs.specs.Chain.{Granted, ◌>>=◌, found_or}
+use Rattle.rh_defs.specs.Desk.{Desk, Task, has_name, named}
+use Rattle.rh_defs.specs.Listing.{Listed, Nothing, Bytes, bytes_in, listed, out_item, in_item, listed_of, of_named, records_of, status_at}
 use Rattle.std.specs.Prelude.{slice_get}
 use Rattle.std.specs.List.{flat_map}
 use Rattle.std.specs.Result.{IsErr}
 use Rattle.std.proofs.Math.Seq.{take-add}
-use Rattle.std.proofs.lemmas.List.{take-append-drop}
+use Rattle.std.proofs.lemmas.List.{take-append-drop, take_all}
 use Rattle.std.proofs.lemmas.Option.{get_or_from_slice_get, slice_get_within}
 use Rattle.hex.specs.Hex.{encode_with, encode_lower, lower_digits}
-use Rattle.rh_defs.specs.Text.{spaced_hex}
-use Rattle.rh_script.specs.Flow.{Output, Takes, Breaks, Puts}
-use Rattle.rh_script.proofs.FlowLemmas.{takes_none, puts_more, takes_each, puts_each, takes_more, takes_breaks, breaks_before, puts_stops}
+use Rattle.rh_defs.specs.Text.{ok, shown_bytes, first_line, hex_words, rest_of_line, later_lines, record_line, record_lines}
+use Rattle.rh_lines.specs.Flow.{Output, Takes, Breaks, Puts}
+use Rattle.rh_lines.proofs.FlowLemmas.{takes_none, takes_each, puts_each, takes_more, takes_breaks, breaks_before, puts_stops}
 
 -- ---- a list, item by item
 
@@ -28,18 +44,6 @@ take_past [] zero e = refl
 take_past [] (suc i) e = refl
 take_past (x ∷ xs) zero e = absurd (cc)
 take_past (x ∷ xs) (suc i) e = ap (λ z. x ∷ z) (take_past xs i e)
-
-take_stays : {X : Type 0} (xs : List X) (i : ℕ) → None ≡ slice_get xs i → take (suc i) xs ≡ take i xs
-take_stays [] zero e = refl
-take_stays [] (suc i) e = refl
-take_stays (x ∷ xs) zero e = absurd (cc)
-take_stays (x ∷ xs) (suc i) e = ap (λ z. x ∷ z) (take_stays xs i e)
-
--- nothing to write where there is no further item
-pub takes_gone : {X : Type 0} (f : X → List ℕ) {s t : Output} (xs : List X) (i : ℕ) → None ≡ slice_get xs i → Takes s t (flat_map f (take i xs)) → Takes s t (flat_map f (take (i + 1) xs))
-takes_gone f {s} {t} xs i e p =
-    let P : List ℕ → Type 0 = λ z. Takes s t z in
-    rw add-one (subst P (ap (flat_map f) (sym (take_stays xs i e))) p)
 
 -- all items are written where there is no further one
 pub takes_whole : {X : Type 0} (f : X → List ℕ) {s t : Output} (xs : List X) (i : ℕ) → None ≡ slice_get xs i → Takes s t (flat_map f (take i xs)) → Takes s t (flat_map f xs)
@@ -86,18 +90,100 @@ takes_no_part s = takes_none s
 
 -- ---- a block's bytes, behind a space
 
-spaced : (bytes : List ℕ) → length bytes ≢ 0 → 32 ∷ encode_lower bytes ≡ spaced_hex bytes
+-- the space, the digits and the line feed
+pub spaced : (bytes : List ℕ) → length bytes ≢ 0 → rest_of_line (hex_words bytes) ≡ 32 ∷ (encode_lower bytes ++ 10 ∷ [])
 spaced [] some = absurd (some refl)
 spaced (b ∷ bytes) some = refl
 
--- the space that is not written
-pub stops_at_space : {E : Type 0} {s t : Output} (bytes : List ℕ) (e : E) (r : Result Unit E) → length bytes ≢ 0 → IsErr r → Puts s t (Err e) (32 ∷ []) → Puts s t r (spaced_hex bytes)
-stops_at_space {E} {s} {t} bytes e r some z p =
-    let P : List ℕ → Type 0 = λ x. Breaks s t x in
-    puts_stops {e = e} r (record { ok = tt; err = subst P (spaced bytes some) (breaks_before (encode_lower bytes) p.err) }) z
+-- no bytes, and the line feed alone
+pub unspaced : (bytes : List ℕ) → length bytes ≡ 0 → 10 ∷ [] ≡ rest_of_line (hex_words bytes)
+unspaced [] none = refl
+unspaced (b ∷ bytes) none = absurd (omega arith)
 
--- the digits behind the space
-pub puts_spaced : {E : Type 0} {s t u : Output} {v : Unit {0}} (bytes : List ℕ) (r : Result Unit E) → length bytes ≢ 0 → Puts {E = E} s t (Ok v) (32 ∷ []) → Puts t u r (encode_lower bytes) → Puts s u r (spaced_hex bytes)
-puts_spaced {E} {s} {t} {u} bytes r some p q =
-    let P : List ℕ → Type 0 = λ x. Puts {E = E} s u r x in
-    subst P (spaced bytes some) (puts_more u r (encode_lower bytes) p q)
+-- ---- the records of transfers
+
+each_map : {X : Type 0} (f : X → RecordItem) (way : List ℕ) (xs : List X) → flat_map (λ x. record_line way (f x)) xs ≡ flat_map (record_line way) (map f xs)
+each_map f way [] = refl
+each_map f way (x ∷ xs) = ap (λ z. record_line way (f x) ++ z) (each_map f way xs)
+
+some_records : {X : Type 0} (f : X → RecordItem) (way : List ℕ) (xs : List X) → length xs ≢ 0 → flat_map (λ x. record_line way (f x)) xs ≡ record_lines way (map f xs)
+some_records f way [] some = absurd (some refl)
+some_records f way (x ∷ xs) some = each_map f way (x ∷ xs)
+
+-- one more record
+pub takes_record : {X : Type 0} (f : X → RecordItem) (way : List ℕ) {s t u : Output} (xs : List X) (i : ℕ) (x : X) (item : RecordItem) → item ≡ f x → x ≡ get_or xs i x → i < length xs → Takes s t (flat_map (λ y. record_line way (f y)) (take i xs)) → Takes t u (record_line way item) → Takes s u (flat_map (λ y. record_line way (f y)) (take (i + 1) xs))
+takes_record f way {s} {t} {u} xs i x item e at within p q =
+    let P : RecordItem → Type 0 = λ y. Takes t u (record_line way y) in
+    takes_each (λ y. record_line way (f y)) xs i x x at within p (subst P e q)
+
+-- the record that is not written whole
+pub puts_record : {E X : Type 0} (f : X → RecordItem) (way : List ℕ) {s t u : Output} (xs : List X) (i : ℕ) (x : X) (item : RecordItem) (e : E) (r : Result Unit E) → item ≡ f x → x ≡ get_or xs i x → IsErr r → i < length xs → Takes s t (flat_map (λ y. record_line way (f y)) (take i xs)) → Puts t u (Err e) (record_line way item) → Puts s u r (record_lines way (map f xs))
+puts_record {E} f way {s} {t} {u} xs i x item e r is at z within p q =
+    let P : RecordItem → Type 0 = λ y. Puts {E = E} t u (Err e) (record_line way y) in
+    let Q : List ℕ → Type 0 = λ y. Puts {E = E} s u r y in
+    let some : length xs ≢ 0 = omega arith in
+    subst Q (some_records f way xs some) (puts_each (λ y. record_line way (f y)) xs i x x e r at z within p (subst P is q))
+
+-- all records, of which there are some
+pub takes_records : {X : Type 0} (f : X → RecordItem) (way : List ℕ) {s t : Output} (xs : List X) (i : ℕ) → length xs ≢ 0 → length xs ≤ i → Takes s t (flat_map (λ y. record_line way (f y)) (take i xs)) → Takes s t (record_lines way (map f xs))
+takes_records f way {s} {t} xs i some past p =
+    let P : List ℕ → Type 0 = λ y. Takes s t y in
+    subst P (ap (flat_map (λ y. record_line way (f y))) (take_all i xs past) ∙ some_records f way xs some) p
+
+sent_of : Granted (ℕ × List Outgoing × List Incoming) → List Outgoing
+sent_of (Ok p) = p.1
+sent_of (Err f) = []
+
+taken_of : Granted (ℕ × List Outgoing × List Incoming) → List Incoming
+taken_of (Ok p) = p.2
+taken_of (Err f) = []
+
+records_found : (o : Option Task) (h : ℕ) (out : List Outgoing) (taken : List Incoming) → (found_or o NoName >>= (λ t. (let r : Granted (ℕ × List Outgoing × List Incoming) = Ok (t.handle, t.sending, t.taking) in r))) ≡ Ok (h, out, taken) → record_lines (111 ∷ 117 ∷ 116 ∷ []) (map out_item out) ++ record_lines (105 ∷ 110 ∷ []) (map in_item taken) ≡ later_lines (listed_of records_of o)
+unfolding found_or ◌>>=◌ later_lines sent_of taken_of
+records_found None h out taken e = absurd (cc)
+records_found (Some t) h out taken e =
+    let outs : out ≡ t.sending = sym (ap sent_of e) in
+    let ins : taken ≡ t.taking = sym (ap taken_of e) in
+    rw (outs, ins) refl
+
+-- the lines of the records that are answered
+pub records_listed : (d : Desk) (name : List ℕ) (h : ℕ) (out : List Outgoing) (taken : List Incoming) → status_at d name ≡ Ok (h, out, taken) → record_lines (111 ∷ 117 ∷ 116 ∷ []) (map out_item out) ++ record_lines (105 ∷ 110 ∷ []) (map in_item taken) ≡ later_lines (of_named name d records_of)
+unfolding status_at named
+records_listed d name h out taken e = records_found (find (has_name name) d.tasks) h out taken e
+
+nobody_found : (o : Option Task) (f : Refusal) → (found_or o NoName >>= (λ t. (let r : Granted (ℕ × List Outgoing × List Incoming) = Ok (t.handle, t.sending, t.taking) in r))) ≡ Err f → [] ≡ later_lines (listed_of records_of o)
+unfolding found_or ◌>>=◌ later_lines
+nobody_found None f e = refl
+nobody_found (Some t) f e = absurd (cc)
+
+-- no line where there is no such task
+pub records_of_nobody : (d : Desk) (name : List ℕ) (f : Refusal) → status_at d name ≡ Err f → [] ≡ later_lines (of_named name d records_of)
+unfolding status_at named
+records_of_nobody d name f e = nobody_found (find (has_name name) d.tasks) f e
+
+-- ---- first lines
+
+shown_nothing : (d : Desk) (c : Command) (size : ℕ) → ((name : List ℕ) (k : ℕ) → c ≡ command.Show name k → ⊥) → listed d c (reply.Shown size) ≡ Nothing
+shown_nothing d (command.Show name k) size other = absurd (other name k refl)
+shown_nothing d c size other = refl
+
+-- a reply to another command than `show` has no bytes in its first line
+pub unshown_command : (d : Desk) (c : Command) (r : Reply) → ((name : List ℕ) (k : ℕ) → c ≡ command.Show name k → ⊥) → first_line r Nothing ≡ first_line r (listed d c r)
+unfolding first_line
+unshown_command d c (reply.Shown size) other = ap (λ l. ok (decimal size ∷ hex_words (shown_bytes l))) (sym (shown_nothing d c size other))
+unshown_command d c r other = refl
+
+-- and so it is where no block is shown
+pub unshown_reply : (r : Reply) (l : Listed) → ((size : ℕ) → r ≡ reply.Shown size → ⊥) → first_line r Nothing ≡ first_line r l
+unfolding first_line
+unshown_reply (reply.Shown size) l other = absurd (other size refl)
+unshown_reply r l other = refl
+
+shown_of_task : (o : Option Task) (k : ℕ) → bytes_in (block_of k (slot_in o)) ≡ shown_bytes (listed_of (λ t. Bytes (bytes_in (block_of k t.slot))) o)
+shown_of_task None k = refl
+shown_of_task (Some t) k = refl
+
+-- a shown block has its bytes there
+pub shown_first : (d : Desk) (name : List ℕ) (k size : ℕ) → ok (decimal size ∷ hex_words (bytes_of_named name k d)) ≡ first_line (reply.Shown size) (listed d (command.Show name k) (reply.Shown size))
+unfolding first_line
+shown_first d name k size = ap (λ z. ok (decimal size ∷ hex_words z)) (shown_of_task (find (has_name name) d.tasks) k)

@@ -1,15 +1,21 @@
--- What a desk's readers give, in terms of the lists that are printed.
-use Rattle.std.proofs.Common.{◌≡◌, ℕ, ◌+◌, ◌≤◌, Bool, true, false, List, [], ◌∷◌, length, take, drop, Option, Some, None, Result, Ok, Err, refl, sym, ◌∙◌, arith}
-use Rattle.std.specs.Prelude.{MatchResult, nat_lt, slice_get, find}
+-- What a desk's readers give, in terms of what is printed of a named task's slot.
+use Rattle.std.proofs.Common.{◌≡◌, ℕ, ◌+◌, ◌≤◌, ◌<◌, ◌^◌, Bool, true, false, cond, List, [], ◌∷◌, length, take, drop, Option, Some, None, Result, Ok, Err, refl, sym, ap, ◌∙◌, arith}
+use Rattle.std.specs.Prelude.{MatchResult, nat_lt, ◌==◌, slice_get, find}
+use Rattle.std.specs.List.{AllByRecursion}
+use Rattle.std.specs.Option.{option_map}
 use borrow.Author.Tests.{tests}
 use Rattle.rh_defs.specs.declared.refusal.Refusal.{Refusal}
 use Rattle.rh_defs.specs.declared.refusal.Refusal.TheVariants.{NoName, NoBlock, BadRange}
 use Rattle.rh_defs.specs.declared.listing.BlockItem.{BlockItem}
+use Rattle.rh_defs.specs.declared.listing.SegmentItem.{SegmentItem}
 use Rattle.rh_defs.specs.Chain.{Granted, ◌>>=◌, ◌>>◌, refuse_if, found_or}
-use Rattle.rh_defs.specs.Pieces.{Split}
-use Rattle.rh_defs.specs.Slot.{Flex, weight, flex_start, block_of, slot_block}
-use Rattle.rh_defs.specs.Desk.{Desk, Task, has_name, named}
-use Rattle.rh_defs.specs.Listing.{block_items_from, block_items, blocks_at, shown_at, of_slot, blocks_of_named, bytes_in, bytes_of_named}
+use Rattle.rh_defs.specs.Pieces.{Split, behind, first_at, total}
+use Rattle.rh_defs.specs.Heap.{largest, free_bytes, segment_at}
+use Rattle.rh_defs.specs.Laws.{IsDesk}
+use Rattle.rh_defs.specs.Slot.{Slot, Flex, slot_pages, slot_length, IsSlot, HaveAnchors, weight, heap_start, flex_start, block_of, slot_block}
+use Rattle.rh_defs.specs.Desk.{Desk, Task, task_pages, has_name, named}
+use Rattle.rh_defs.specs.Listing.{block_items_from, block_items, blocks_at, heap_at, shown_at, segment_item, bytes_in}
+use Rattle.rh_script.specs.Named.{slot_in, slot_named, blocks_of_named, heap_of_named, segment_of_named, bytes_of_named}
 
 -- ---- flex blocks
 
@@ -19,34 +25,113 @@ length-block_items_from place [] = refl
 length-block_items_from place (b ∷ blocks) =
     let rest = length-block_items_from (place + weight b) blocks in omega (arith, rest)
 
--- what is read of a list of blocks: item i and their number, or a refusal where there is none
+-- what is read of a list of blocks: their number and item i, or a refusal where there is none
 abbrev pub ReadsBlocks : Granted (ℕ × Option BlockItem) → List BlockItem → ℕ → Type 0
 ReadsBlocks given items i =
-    MatchResult given (λ p. (p.1 ≡ slice_get items i) × (length items ≡ p.0)) (λ e. items ≡ [])
+    MatchResult given (λ p. (length items ≡ p.0) × (p.1 ≡ slice_get items i)) (λ e. items ≡ [])
 
-of_task : (found : Option Task) (i : ℕ) → ReadsBlocks (found_or found NoName >>= (λ t. Ok (length t.slot.blocks, slice_get (block_items t.slot) i))) (of_slot block_items [] found) i
+blocks_of_task : (found : Option Task) (i : ℕ) → ReadsBlocks (found_or found NoName >>= (λ t. Ok (length t.slot.blocks, slice_get (block_items t.slot) i))) (block_items (slot_in found)) i
 unfolding found_or ◌>>=◌
-of_task None i = refl
-of_task (Some t) i = (refl, length-block_items_from (flex_start t.slot) t.slot.blocks)
+blocks_of_task None i = refl
+blocks_of_task (Some t) i = (length-block_items_from (flex_start t.slot) t.slot.blocks, refl)
 
-pub reads_blocks : (d : Desk) (name : List ℕ) (i : ℕ) → ReadsBlocks (blocks_at d name i) (blocks_of_named name d) i
+reads_blocks : (d : Desk) (name : List ℕ) (i : ℕ) → ReadsBlocks (blocks_at d name i) (blocks_of_named name d) i
 unfolding blocks_at named
-reads_blocks d name i = of_task (find (has_name name) d.tasks) i
+reads_blocks d name i = blocks_of_task (find (has_name name) d.tasks) i
 
--- the item that is answered
-pub answered_item : (given : Granted (ℕ × Option BlockItem)) (items : List BlockItem) (i n : ℕ) (item : Option BlockItem) → Ok (n, item) ≡ given → ReadsBlocks given items i → item ≡ slice_get items i
-answered_item (Ok p) items i n item e r = cc
-answered_item (Err f) items i n item e r = absurd (cc)
+item_of_blocks : (given : Granted (ℕ × Option BlockItem)) (items : List BlockItem) (i n : ℕ) (item : Option BlockItem) → Ok (n, item) ≡ given → ReadsBlocks given items i → (item ≡ slice_get items i) × (length items ≡ n)
+item_of_blocks (Ok p) items i n item e r = (cc, cc)
+item_of_blocks (Err f) items i n item e r = absurd (cc)
 
--- the number that is answered
-pub answered_count : (given : Granted (ℕ × Option BlockItem)) (items : List BlockItem) (i n : ℕ) (item : Option BlockItem) → Ok (n, item) ≡ given → ReadsBlocks given items i → length items ≡ n
-answered_count (Ok p) items i n item e r = cc
-answered_count (Err f) items i n item e r = absurd (cc)
+none_of_blocks : (given : Granted (ℕ × Option BlockItem)) (items : List BlockItem) (i : ℕ) (f : Refusal) → Err f ≡ given → ReadsBlocks given items i → items ≡ []
+none_of_blocks (Ok p) items i f e r = absurd (cc)
+none_of_blocks (Err g) items i f e r = r
+
+-- the item that is answered, and the number of all
+pub block_read : (d : Desk) (name : List ℕ) (i n : ℕ) (item : Option BlockItem) → Ok (n, item) ≡ blocks_at d name i → (item ≡ slice_get (blocks_of_named name d) i) × (length (blocks_of_named name d) ≡ n)
+block_read d name i n item e = item_of_blocks (blocks_at d name i) _ i n item e (reads_blocks d name i)
 
 -- a refusal says that there is none
-pub answered_none : (given : Granted (ℕ × Option BlockItem)) (items : List BlockItem) (i : ℕ) (f : Refusal) → Err f ≡ given → ReadsBlocks given items i → items ≡ []
-answered_none (Ok p) items i f e r = absurd (cc)
-answered_none (Err g) items i f e r = r
+pub no_blocks : (d : Desk) (name : List ℕ) (i : ℕ) (f : Refusal) → Err f ≡ blocks_at d name i → blocks_of_named name d ≡ []
+no_blocks d name i f e = none_of_blocks (blocks_at d name i) _ i f e (reads_blocks d name i)
+
+-- ---- the C heap
+
+-- what is read of a C heap: its end and the segment at a place, or a refusal where there is no such task
+abbrev pub ReadsHeap : Granted ((ℕ × ℕ × ℕ) × Option SegmentItem) → List ℕ → Desk → ℕ → Type 0
+ReadsHeap given name d place =
+    MatchResult given (λ p. ((heap_of_named name d).end ≡ p.0.0) × (p.1 ≡ segment_of_named name place d)) (λ e. ((heap_of_named name d).end ≡ 16) × (None ≡ segment_of_named name place d))
+
+abbrev heap_asked : ℕ → Task → Granted ((ℕ × ℕ × ℕ) × Option SegmentItem)
+heap_asked place t = Ok (
+  (t.slot.heap.end, largest t.slot.heap, free_bytes t.slot.heap),
+  option_map (λ s. segment_item (heap_start + place) s.here) (segment_at place t.slot.heap),
+)
+
+abbrev HeapOf : Granted ((ℕ × ℕ × ℕ) × Option SegmentItem) → Slot → ℕ → Type 0
+HeapOf given s place =
+    MatchResult given (λ p. (s.heap.end ≡ p.0.0) × (p.1 ≡ option_map (λ c. segment_item (heap_start + place) c.here) (segment_at place s.heap))) (λ e. (s.heap.end ≡ 16) × (None ≡ option_map (λ c. segment_item (heap_start + place) c.here) (segment_at place s.heap)))
+
+heap_of_task : (found : Option Task) (place : ℕ) → HeapOf (found_or found NoName >>= heap_asked place) (slot_in found) place
+unfolding found_or ◌>>=◌
+heap_of_task None place = (refl, refl)
+heap_of_task (Some t) place = (refl, refl)
+
+reads_heap : (d : Desk) (name : List ℕ) (place : ℕ) → ReadsHeap (heap_at d name place) name d place
+unfolding heap_at named
+reads_heap d name place = heap_of_task (find (has_name name) d.tasks) place
+
+item_of_heap : (given : Granted ((ℕ × ℕ × ℕ) × Option SegmentItem)) (name : List ℕ) (d : Desk) (place : ℕ) (sums : ℕ × ℕ × ℕ) (item : Option SegmentItem) → Ok (sums, item) ≡ given → ReadsHeap given name d place → ((heap_of_named name d).end ≡ sums.0) × (item ≡ segment_of_named name place d)
+item_of_heap (Ok p) name d place sums item e r = (cc, cc)
+item_of_heap (Err f) name d place sums item e r = absurd (cc)
+
+none_of_heap : (given : Granted ((ℕ × ℕ × ℕ) × Option SegmentItem)) (name : List ℕ) (d : Desk) (place : ℕ) (f : Refusal) → Err f ≡ given → ReadsHeap given name d place → ((heap_of_named name d).end ≡ 16) × (None ≡ segment_of_named name place d)
+none_of_heap (Ok p) name d place f e r = absurd (cc)
+none_of_heap (Err g) name d place f e r = r
+
+pub segment_read : (d : Desk) (name : List ℕ) (place : ℕ) (sums : ℕ × ℕ × ℕ) (item : Option SegmentItem) → Ok (sums, item) ≡ heap_at d name place → ((heap_of_named name d).end ≡ sums.0) × (item ≡ segment_of_named name place d)
+segment_read d name place sums item e = item_of_heap (heap_at d name place) name d place sums item e (reads_heap d name place)
+
+pub no_segment : (d : Desk) (name : List ℕ) (place : ℕ) (f : Refusal) → Err f ≡ heap_at d name place → ((heap_of_named name d).end ≡ 16) × (None ≡ segment_of_named name place d)
+no_segment d name place f e = none_of_heap (heap_at d name place) name d place f e (reads_heap d name place)
+
+-- ---- what holds of the slot
+
+empty_is_slot : IsSlot (slot_in None)
+empty_is_slot = record { heap = record { tidy = tt; fits = omega arith; multiple = refl }; anchors = tt }
+
+found_is_slot : (p : Task → Bool) (tasks : List Task) → AllByRecursion (λ t. IsSlot t.slot) tasks → IsSlot (slot_in (find p tasks))
+found_is_slot p [] all = empty_is_slot
+found_is_slot p (t ∷ tasks) all = go (p t) (found_is_slot p tasks all.1)
+  where
+    go : (b : Bool) → IsSlot (slot_in (find p tasks)) → IsSlot (slot_in (cond b (Some t) (find p tasks)))
+    go true rest = all.0
+    go false rest = rest
+
+pub named_is_slot : (name : List ℕ) (d : Desk) → AllByRecursion (λ t. IsSlot t.slot) d.tasks → IsSlot (slot_in (find (has_name name) d.tasks))
+named_is_slot name d all = found_is_slot (has_name name) d.tasks all
+
+found_pages : (p : Task → Bool) (tasks : List Task) → slot_pages (slot_in (find p tasks)) ≤ total task_pages tasks + 1
+found_pages p [] = omega arith
+found_pages p (t ∷ tasks) = go (p t) (found_pages p tasks)
+  where
+    go : (b : Bool) → slot_pages (slot_in (find p tasks)) ≤ total task_pages tasks + 1 → slot_pages (slot_in (cond b (Some t) (find p tasks))) ≤ task_pages t + total task_pages tasks + 1
+    go true rest = omega arith
+    go false rest = omega (arith, rest)
+
+-- no slot is longer than the pool
+pub named_is_short : (name : List ℕ) (d : Desk) → IsDesk d → slot_length (slot_named name d) < 2 ^ 23
+named_is_short name d is = omega (arith, found_pages (has_name name) d.tasks, is.pages, is.pool)
+
+weighs_some : (blocks : List Flex) → length blocks ≤ total weight blocks
+weighs_some [] = omega arith
+weighs_some (b ∷ blocks) = omega (arith, weighs_some blocks)
+
+-- so its blocks are few
+pub named_has_few : (name : List ℕ) (d : Desk) → IsDesk d → length (blocks_of_named name d) < 2 ^ 32
+named_has_few name d is =
+    let s = slot_named name d in
+    omega (arith, named_is_short name d is, weighs_some s.blocks, length-block_items_from (flex_start s) s.blocks)
 
 -- ---- a block's bytes
 
@@ -65,7 +150,7 @@ unfolding found_or ◌>>=◌
 of_block None offset n = λ room. refl
 of_block (Some b) offset n = of_test (nat_lt (length b.here.bytes) (offset + n)) b.here.bytes offset n refl
 
-of_owner : (found : Option Task) (k offset n : ℕ) → ReadsPart (found_or found NoName >>= (λ t. slot_block k t.slot >>= (λ b. refuse_if (nat_lt (length b.here.bytes) (offset + n)) BadRange >> Ok (length b.here.bytes, take n (drop offset b.here.bytes))))) (of_slot (λ s. bytes_in (block_of k s)) [] found) offset n
+of_owner : (found : Option Task) (k offset n : ℕ) → ReadsPart (found_or found NoName >>= (λ t. slot_block k t.slot >>= (λ b. refuse_if (nat_lt (length b.here.bytes) (offset + n)) BadRange >> Ok (length b.here.bytes, take n (drop offset b.here.bytes))))) (bytes_in (block_of k (slot_in found))) offset n
 unfolding found_or ◌>>=◌ slot_block
 of_owner None k offset n = λ room. refl
 of_owner (Some t) k offset n = of_block (block_of k t.slot) offset n
@@ -98,3 +183,16 @@ answered_part (Ok p) answer bytes old new offset a r h = cc
 answered_part (Err e) answer bytes old new offset a r h =
     let none : length bytes ≡ 0 = r h in
     a.1 ∙ nothing_read old (drop offset bytes) (omega arith)
+
+-- ---- anchors that no slot has
+
+none_has : (k place : ℕ) (blocks : List Flex) → HaveAnchors blocks → 64 ≤ k → first_at weight (λ _ b. b.anchor == k) place blocks ≡ None
+none_has k place [] all past = refl
+none_has k place (b ∷ blocks) all past = go (b.anchor == k) refl (none_has k (place + weight b) blocks all.2 past)
+  where
+    go : (t : Bool) → (b.anchor == k) ≡ t → first_at weight (λ _ x. x.anchor == k) (place + weight b) blocks ≡ None → cond t (Some (record { before = []; here = b; after = blocks })) (option_map (behind b) (first_at weight (λ _ x. x.anchor == k) (place + weight b) blocks)) ≡ None
+    go true e h = let low : b.anchor < 64 = all.0 in absurd (grind (arith, tests))
+    go false e h = ap (option_map (behind b)) h
+
+pub no_bytes : (k : ℕ) (s : Slot) → IsSlot s → 64 ≤ k → 0 ≡ length (bytes_in (block_of k s))
+no_bytes k s is past = ap (λ o. length (bytes_in o)) (sym (none_has k (flex_start s) s.blocks is.anchors past))

@@ -1,24 +1,15 @@
-//! A script's bytes in and out: readers and writers whose bytes are known, lines as commands, replies as text.
+//! A script's bytes in and out over a world: lines as commands, replies as text, and readers and writers whose bytes
+//! are known.
 #![tactic(auto)]
 
-mod flagged;
-mod forms;
 mod listed;
-mod numbers;
-mod parse;
 mod print;
 mod read;
+mod records;
+mod segments;
 mod shown;
-mod sink;
-mod source;
-mod words;
 
-pub use flagged::Flagged;
-pub use numbers::Digits;
-pub use parse::parse_line;
-pub use print::{print_fault, print_reply};
-pub use sink::{Sink, WriteFailed, put, put_pieces};
-pub use source::{ReadFailed, Source};
-
-#[cfg(test)]
-mod tests;
+pub use print::print_reply;
+pub use rh_lines::{
+    Flagged, ReadFailed, Sink, Source, WriteFailed, parse_line, print_fault, print_first_line, put,
+};

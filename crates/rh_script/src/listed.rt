@@ -1,94 +1,91 @@
 //! Flex blocks, and areas and slots, as lines of text.
 
-ghost use Rattle.std.specs.Prelude.{◌≡◌, flat_map};
-ghost use Rattle.rh_defs.specs.Listing.{area_items, blocks_of_named};
-ghost use Rattle.rh_defs.specs.Text.{block_text, area_text};
-ghost use Rattle.rh_script.specs.Flow.{Puts};
+ghost use Rattle.std.specs.Prelude.{◌≡◌, ◌∷◌, [], codes, flat_map};
+ghost use Rattle.std.specs.Fmt.{decimal};
+ghost use Rattle.rh_defs.specs.Listing.{area_items};
+ghost use Rattle.rh_defs.specs.Text.{area_line, block_line, later};
+ghost use Rattle.rh_lines.specs.Flow.{Puts};
+ghost use Rattle.rh_script.specs.Named.{blocks_of_named};
 
-use crate::numbers::Digits;
-use crate::read::{area_at, block_at, count_blocks};
-use crate::sink::{Sink, WriteFailed, put_pieces};
+use crate::read::{area_at, block_at};
 use rh_defs::{AreaItem, BlockItem, Name};
+use rh_lines::{Row, Sink, WriteFailed, put};
+use rh_store::Store;
 use rh_tasks::World;
 
 /// Writes a line for each flex block of the task, from below.
-pub fn print_blocks<W: Sink>(world: &World, name: &Name, writer: &mut W) -> Result<(), WriteFailed>
+pub fn print_blocks<S: Store, W: Sink>(
+    world: &World<S>,
+    name: &Name,
+    writer: &mut W,
+) -> Result<(), WriteFailed>
     ensures { Puts (W.output writer.old) (W.output writer.new) result
-        (flat_map block_text (blocks_of_named name.now world.now)) }
+        (flat_map block_line (blocks_of_named name.now world.now.desk)) }
 {
-    for i in 0..count_blocks(world, name) {
-        if let Some(item) = block_at(world, name, i as usize) {
-            print_block(&item, writer)?;
-        }
+    let mut i = 0;
+    'items: while let Some(item) = block_at(world, name, i) {
+        print_block(&item, writer)?;
+        i += 1;
     }
     Ok(())
 }
 
-#[tactic(auto, unfolding(rh_defs::specs::Text::block_text))]
 fn print_block<W: Sink>(item: &BlockItem, writer: &mut W) -> Result<(), WriteFailed>
-    ensures { Puts (W.output writer.old) (W.output writer.new) result (block_text item.now) }
+    ensures { Puts (W.output writer.old) (W.output writer.new) result (block_line item.now) }
 {
-    let anchor = Digits::decimal(u32::from(item.anchor.0));
-    let address = Digits::address(item.address);
-    let size = Digits::decimal(item.size);
-    put_pieces(
-        writer,
-        &[
-            b"  ".as_slice(),
-            anchor.as_slice(),
-            b" ".as_slice(),
-            address.as_slice(),
-            b" ".as_slice(),
-            size.as_slice(),
-            b"\n".as_slice(),
-        ],
-    )
+    let mut row = Row::new();
+    row.text(b"  ");
+    row.decimal(u32::from(item.anchor.0));
+    row.byte(b' ');
+    row.address(item.address);
+    row.byte(b' ');
+    row.decimal(item.size);
+    row.byte(b'\n');
+    put(writer, row.as_slice())
 }
 
 /// Writes a line for each area, and then for each slot in order of handle.
-pub fn print_areas<W: Sink>(world: &World, writer: &mut W) -> Result<(), WriteFailed>
+pub fn print_areas<S: Store, W: Sink>(world: &World<S>, writer: &mut W) -> Result<(), WriteFailed>
     ensures { Puts (W.output writer.old) (W.output writer.new) result
-        (flat_map area_text (area_items world.now)) }
+        (flat_map area_line (area_items world.now.desk)) }
 {
     let mut i = 0;
-    while let Some(item) = area_at(world, i) {
+    'items: while let Some(item) = area_at(world, i) {
         print_area(&item, writer)?;
         i += 1;
     }
     Ok(())
 }
 
-#[tactic(auto, unfolding(rh_defs::specs::Text::area_text))]
 fn print_area<W: Sink>(item: &AreaItem, writer: &mut W) -> Result<(), WriteFailed>
-    ensures { Puts (W.output writer.old) (W.output writer.new) result (area_text item.now) }
+    ensures { Puts (W.output writer.old) (W.output writer.new) result (area_line item.now) }
 {
     match item {
-        AreaItem::Area { number, pages } => {
-            let number = Digits::decimal(u32::from(*number));
-            let pages = Digits::decimal(*pages);
-            put_pieces(
-                writer,
-                &[
-                    b"  area ".as_slice(),
-                    number.as_slice(),
-                    b" ".as_slice(),
-                    pages.as_slice(),
-                    b"\n".as_slice(),
-                ],
-            )
-        }
-        AreaItem::Slot { name, pages } => {
-            let pages = Digits::decimal(*pages);
-            put_pieces(
-                writer,
-                &[
-                    b"  slot ".as_slice(),
-                    name.as_bytes(),
-                    b" ".as_slice(),
-                    pages.as_slice(),
-                    b"\n".as_slice(),
-                ],
-            )
-        }
+        AreaItem::Area { number, pages } => print_numbered(*number, *pages, writer),
+        AreaItem::Slot { name, pages } => print_slot(name, *pages, writer),
     }
+}
+
+fn print_numbered<W: Sink>(number: u32, pages: u32, writer: &mut W) -> Result<(), WriteFailed>
+    ensures { Puts (W.output writer.old) (W.output writer.new) result (later (codes "area") (decimal number ∷ decimal pages ∷ [])) }
+{
+    let mut row = Row::new();
+    row.text(b"  area ");
+    row.decimal(number);
+    row.byte(b' ');
+    row.decimal(pages);
+    row.byte(b'\n');
+    put(writer, row.as_slice())
+}
+
+fn print_slot<W: Sink>(name: &Name, pages: u32, writer: &mut W) -> Result<(), WriteFailed>
+    ensures { Puts (W.output writer.old) (W.output writer.new) result (later (codes "slot") (name.now ∷ decimal pages ∷ [])) }
+{
+    let mut row = Row::new();
+    row.text(b"  slot ");
+    row.text(name.as_bytes());
+    row.byte(b' ');
+    row.decimal(pages);
+    row.byte(b'\n');
+    put(writer, row.as_slice())
 }

@@ -1,98 +1,91 @@
 //! A block's size and bytes as text.
 
-ghost use Rattle.std.specs.Prelude.{◌≡◌, ◌+◌, ◌≤◌, ◌++◌, ◌∷◌, [], length, codes, take, drop};
+ghost use Rattle.std.specs.Prelude.{◌≡◌, ◌+◌, ◌≤◌, ◌<◌, ◌++◌, ◌∷◌, [], length, codes, take, drop};
 ghost use Rattle.std.specs.Fmt.{decimal};
 ghost use Rattle.hex.specs.Hex.{encode_lower};
-ghost use Rattle.rh_defs.specs.Listing.{bytes_of_named};
-ghost use Rattle.rh_defs.specs.Text.{joined, spaced_hex, shown_line, shown_bytes};
-ghost use Rattle.rh_script.specs.Flow.{Puts};
+ghost use Rattle.rh_defs.specs.Text.{ok, hex_words, rest_of_line};
+ghost use Rattle.rh_lines.specs.Flow.{Puts};
+ghost use Rattle.rh_script.specs.Named.{bytes_of_named};
 
-use crate::numbers::Digits;
 use crate::read::{read_block, size_of_block};
-use crate::sink::{Sink, WriteFailed, put, put_pieces};
-use rh_defs::{Anchor, Command, Name};
+use rh_defs::{Anchor, Name};
+use rh_lines::{Row, Sink, WriteFailed, put};
+use rh_store::Store;
 use rh_tasks::World;
 
 /// So many bytes of a block are read and written at a time.
-const PIECE: u32 = 256;
+const PIECE: u32 = 512;
 
-/// Writes the first line of a reply that shows a block: its size, and the bytes that the command
-/// shows on this desk, if it shows any.
-#[tactic(auto, unfolding(rh_defs::specs::Text::shown_line))]
-pub fn print_shown<W: Sink>(
-    world: &World,
-    command: &Command,
+/// Writes the first line of a reply that shows a block: its size, and the bytes that the task's block has on this
+/// desk, if there are any.
+pub fn print_shown<S: Store, W: Sink>(
+    world: &World<S>,
+    name: &Name,
+    anchor: Anchor,
     size: u32,
     writer: &mut W,
 ) -> Result<(), WriteFailed>
     ensures { Puts (W.output writer.old) (W.output writer.new) result
-        (shown_line size (shown_bytes world.now command.now)) }
+        (ok (decimal size ∷ hex_words (bytes_of_named name.now anchor world.now.desk))) }
 {
     print_size(size, writer)?;
-    print_rest_of_shown(world, command, writer)
+    print_bytes(world, name, anchor, writer)
 }
 
 fn print_size<W: Sink>(size: u32, writer: &mut W) -> Result<(), WriteFailed>
-    ensures { Puts (W.output writer.old) (W.output writer.new) result
-        (joined (codes "ok " ∷ decimal size ∷ [])) }
+    ensures { Puts (W.output writer.old) (W.output writer.new) result (codes "ok " ++ decimal size) }
 {
-    let digits = Digits::decimal(size);
-    put_pieces(writer, &[b"ok ".as_slice(), digits.as_slice()])
+    let mut row = Row::new();
+    row.text(b"ok ");
+    row.decimal(size);
+    put(writer, row.as_slice())
 }
 
-fn print_rest_of_shown<W: Sink>(
-    world: &World,
-    command: &Command,
-    writer: &mut W,
-) -> Result<(), WriteFailed>
-    ensures { Puts (W.output writer.old) (W.output writer.new) result
-        (spaced_hex (shown_bytes world.now command.now) ++ codes "\n") }
-{
-    print_shown_bytes(world, command, writer)?;
-    put(writer, b"\n")
-}
-
-fn print_shown_bytes<W: Sink>(
-    world: &World,
-    command: &Command,
-    writer: &mut W,
-) -> Result<(), WriteFailed>
-    ensures { Puts (W.output writer.old) (W.output writer.new) result
-        (spaced_hex (shown_bytes world.now command.now)) }
-{
-    match command {
-        Command::Show { name, anchor } => print_bytes(world, name, *anchor, writer),
-        _ => Ok(()),
-    }
-}
-
-fn print_bytes<W: Sink>(
-    world: &World,
+/// The bytes of the task's block behind a space, where there are any, and the line's end.
+fn print_bytes<S: Store, W: Sink>(
+    world: &World<S>,
     name: &Name,
     anchor: Anchor,
     writer: &mut W,
 ) -> Result<(), WriteFailed>
     ensures { Puts (W.output writer.old) (W.output writer.new) result
-        (spaced_hex (bytes_of_named name.now anchor world.now)) }
+        (rest_of_line (hex_words (bytes_of_named name.now anchor world.now.desk))) }
 {
     let size = size_of_block(world, name, anchor);
     if size == 0 {
-        return Ok(());
+        return put(writer, b"\n");
     }
     put(writer, b" ")?;
-    print_hex(world, name, anchor, size, writer)
+    print_digits(world, name, anchor, size, writer)
 }
 
-fn print_hex<W: Sink>(
-    world: &World,
+fn print_digits<S: Store, W: Sink>(
+    world: &World<S>,
     name: &Name,
     anchor: Anchor,
     size: u32,
     writer: &mut W,
 ) -> Result<(), WriteFailed>
-    requires { size ≡ length (bytes_of_named name.now anchor world.now) }
+    requires anchor { anchor < 64 }
+    requires size { size ≡ length (bytes_of_named name.now anchor world.now.desk) }
     ensures { Puts (W.output writer.old) (W.output writer.new) result
-        (encode_lower (bytes_of_named name.now anchor world.now)) }
+        (encode_lower (bytes_of_named name.now anchor world.now.desk) ++ codes "\n") }
+{
+    print_hex(world, name, anchor, size, writer)?;
+    put(writer, b"\n")
+}
+
+fn print_hex<S: Store, W: Sink>(
+    world: &World<S>,
+    name: &Name,
+    anchor: Anchor,
+    size: u32,
+    writer: &mut W,
+) -> Result<(), WriteFailed>
+    requires anchor { anchor < 64 }
+    requires size { size ≡ length (bytes_of_named name.now anchor world.now.desk) }
+    ensures { Puts (W.output writer.old) (W.output writer.new) result
+        (encode_lower (bytes_of_named name.now anchor world.now.desk)) }
 {
     let mut offset = 0;
     while offset < size {
@@ -103,21 +96,22 @@ fn print_hex<W: Sink>(
     Ok(())
 }
 
-fn print_piece<W: Sink>(
-    world: &World,
+fn print_piece<S: Store, W: Sink>(
+    world: &World<S>,
     name: &Name,
     anchor: Anchor,
     offset: u32,
     count: u32,
     writer: &mut W,
 ) -> Result<(), WriteFailed>
-    requires small { count ≤ 256 }
-    requires within { offset + count ≤ length (bytes_of_named name.now anchor world.now) }
+    requires anchor { anchor < 64 }
+    requires small { count ≤ 512 }
+    requires within { offset + count ≤ length (bytes_of_named name.now anchor world.now.desk) }
     ensures { Puts (W.output writer.old) (W.output writer.new) result
-        (encode_lower (take count (drop offset (bytes_of_named name.now anchor world.now)))) }
+        (encode_lower (take count (drop offset (bytes_of_named name.now anchor world.now.desk)))) }
 {
-    let mut bytes = [0; 256];
-    let mut digits = [0; 512];
+    let mut bytes = [0; 512];
+    let mut digits = [0; 1024];
     let part = &mut bytes[..count as usize];
     read_block(world, name, anchor, offset, part);
     let text = &mut digits[..2 * count as usize];

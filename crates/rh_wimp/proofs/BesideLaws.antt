@@ -1,5 +1,5 @@
 -- The post stays where the module area's calls claim, free and resize blocks of others, or move the area's end.
-use Rattle.std.proofs.Common.{◌≡◌, ◌≢◌, ℕ, ◌+◌, ◌-◌, ◌<◌, ◌≤◌, inl, inr, Bool, true, false, cond, List, [], ◌∷◌, length, refl, sym, ap, subst, ◌∙◌, arith}
+use Rattle.std.proofs.Common.{◌≡◌, ℕ, ◌-◌, ◌<◌, ◌≤◌, inl, inr, Bool, true, false, List, [], ◌∷◌, length, refl, sym, ap, subst, ◌∙◌, arith}
 use Rattle.std.proofs.lemmas.Bool.{cases_eq, cases_lt}
 use Rattle.std.proofs.lemmas.Bool.Decides.{eqb_tells}
 use Rattle.std.specs.Prelude.{Option, Some, None, Ok, Err, ◌==◌, ◌||◌, ℤ}
@@ -7,7 +7,7 @@ use Rattle.std.specs.List.{list_any}
 use Rattle.std.specs.Option.{option_map}
 use Rattle.rh_defs.specs.Blocks.{block_bytes, SameShape}
 use Rattle.rh_defs.specs.Chain.{Granted, ◌>>=◌, refuse_if, found_or, answer_of, left_of, no_answer}
-use Rattle.rh_defs.specs.Heap.{Heap, Segment, Placed, as_granted, base, block_at, block_room, bytes_of, fitted, new_size, release, resize_growing, resize_need, size_of}
+use Rattle.rh_defs.specs.Heap.{Heap, Segment, Placed, as_granted, base, block_at, block_room, block_size, bytes_of, fitted, new_size, release, resize_growing, resize_need, size_of}
 use Rattle.rh_defs.specs.Pieces.{Split, lacks_pages, moved, pages_for, total}
 use Rattle.rh_defs.specs.declared.refusal.Refusal.{Refusal}
 use Rattle.rh_defs.specs.declared.refusal.Refusal.TheVariants.{BadSize, NotABlock, ExcessiveShrink, NoRoom}
@@ -19,21 +19,19 @@ use Rattle.rh_defs.proofs.BlockCalls.{module_free-there}
 use Rattle.rh_defs.proofs.BlockLaws.{bytes_here, block_at-bytes}
 use Rattle.rh_defs.proofs.ModuleLaws.{module_change-low, module_change-short, module_change-done, module_free-none}
 use Rattle.rh_defs.proofs.ResizeLaws.{CutAlike, Moves, resize_growing-alike, resize_growing-moves, resize_need-alike}
-use Rattle.rh_defs.proofs.ShapeLaws.{Alike, blank_cut, block-blank, module_claim-alike, same_heap, total-blank}
+use Rattle.rh_defs.proofs.ShapeLaws.{Alike, blank_cut, block-blank, block_size-alike, module_claim-alike, same_heap, total-blank}
 use Rattle.rh_module.specs.Area.{heap_in}
 use Rattle.rh_module.specs.Calls as module_calls
 use Rattle.rh_module.specs.declared.module.Module.{Module}
 use Rattle.rh_wimp.specs.Calls.{IsQueue}
-use Rattle.rh_wimp.specs.Chains.{Chains, Row, IsPost, SpellsPost, AllLie, Off, entry_at, row_at, rows_of, row_parcels}
+use Rattle.rh_wimp.specs.Chains.{Chains, IsPost, SpellsPost, Off, entry_at, row_at, rows_of, row_parcels}
 use Rattle.rh_wimp.specs.Laws.{GoesBeside, IsSmall, with_heap}
-use Rattle.rh_wimp.specs.PostIn.{in_order, post_in}
-use Rattle.rh_wimp.specs.Searches.{rows_have}
+use Rattle.rh_wimp.specs.PostIn.{post_in}
 use Rattle.rh_wimp.proofs.FrameLaws.{IsOff, block-changed, blocks-changed, claimed-beside, freed-beside}
 use Rattle.rh_wimp.proofs.LinkLaws.{zero-off, none-low}
-use Rattle.rh_wimp.proofs.PostCalls.{post_in-in_order, post_in-is, post_in-spelled}
+use Rattle.rh_wimp.proofs.PostCalls.{post_in-in_order, post_in-is}
 use Rattle.rh_wimp.proofs.RowLaws.{row-fresh}
 use Rattle.rh_wimp.proofs.SearchLaws.{one-has, rows-have}
-use Rattle.rh_wimp.proofs.SendLaws.{alike-ok}
 
 -- ---- blocks of others
 off-list : (a : ℕ) (ps : List Parcel) → list_any (λ (p : Parcel). p.block == a) ps ≡ false → Off a ps
@@ -54,6 +52,10 @@ off-message h q post a s e j l = off-list a (row_parcels (row_at (rows_of post) 
     go : (t : Bool) → list_any test (row_parcels (row_at (rows_of post) j)) ≡ t → t ≡ false
     go true f = sym (one-has test (rows_of post) j l f) ∙ rows-have test post s.recipients ∙ e
     go false f = refl
+
+-- the area's blocks have the sizes of the post's
+pub block_size-beside : (h : Heap) (q : Chains) (post : Post) (a : ℕ) → IsPost h q post → block_size a h ≡ block_size a post.heap
+block_size-beside h q post a s = block_size-alike a h post.heap s.linked.shape
 
 -- ---- a call beside the queue
 -- The area's heap and the post's heap grant the same, and the post is spelled with the heap that its own one becomes.

@@ -1,5 +1,5 @@
 -- A post and the same post in order of seats.
-use Rattle.std.proofs.Common.{◌≡◌, ℕ, zero, suc, ◌+◌, ◌<◌, ◌≤◌, ◌≢◌, inl, inr, Bool, true, false, cond, eqb, List, [], ◌∷◌, ◌++◌, length, map, get_or, refl, sym, ap, subst, ◌∙◌, arith}
+use Rattle.std.proofs.Common.{◌≡◌, ℕ, zero, suc, ◌<◌, ◌≢◌, inl, inr, Bool, true, false, cond, List, [], ◌∷◌, ◌++◌, length, map, refl, sym, ap, subst, ◌∙◌, arith}
 use Rattle.std.proofs.lemmas.Bool.Decides.{eqb_tells}
 use Rattle.std.proofs.lemmas.List.{length-map, length-append}
 use Rattle.std.proofs.lemmas.List.Elements.{filter-append}
@@ -15,7 +15,7 @@ use Rattle.rh_wimp.specs.Chains.{Chains, Row, Lies, Holds, RowLies, RowsLie, IsL
 use Rattle.rh_wimp.specs.PostIn.{seat_of, chains_of, for_task, own_seat, by_seats, in_order}
 use Rattle.rh_wimp.specs.declared.chain.Entry.{Entry}
 use Rattle.rh_wimp.proofs.LinkLaws.{AllLie-append, AllLie-parts}
-use Rattle.rh_wimp.proofs.PostLaws.{Named, eq_of, live-yes, no_seat, seat_at}
+use Rattle.rh_wimp.proofs.PostLaws.{Named, eq_of, live-yes, seat_at}
 use Rattle.rh_wimp.proofs.RowLaws.{Off-append, Off-parts, Clear-append, Clear-parts, Apart-append, Apart-parts}
 use Rattle.rh_wimp.proofs.SendLaws.{named}
 

@@ -1,6 +1,7 @@
 -- The post as a value: what the queue's calls, and edits of other areas, do to it.
-use Rattle.std.proofs.Common.{◌≡◌, ◌≢◌, ℕ, zero, suc, ◌<◌, ◌≤◌, ◌^◌, List, [], ◌∷◌, length, refl, sym, ap, subst, ◌∙◌, arith}
-use Rattle.std.specs.Prelude.{Option, Some, None, unwrap_or}
+use Rattle.std.proofs.Common.{◌≡◌, ◌≢◌, ℕ, zero, suc, ◌<◌, Bool, true, false, cond, List, [], ◌∷◌, ◌++◌, length, filter, refl, sym, ap, subst, ◌∙◌, arith}
+use Rattle.std.specs.Prelude.{Option, Some, None, unwrap_or, ◌==◌}
+use Rattle.rh_defs.specs.Heap.{Heap}
 use Rattle.std.specs.List.{AllByRecursion}
 use Rattle.rh_defs.specs.HeapImage.{heap_of}
 use Rattle.rh_defs.specs.Laws as laws
@@ -15,7 +16,7 @@ use Rattle.rh_wimp.specs.Chains.{Chains, HasEntry, IsPost, SpellsPost, joined}
 use Rattle.rh_wimp.specs.Laws.{HaveOnePost, IsSmall}
 use Rattle.rh_wimp.specs.PostIn.{by_seats, in_order, post_in, post_of}
 use Rattle.rh_wimp.proofs.JoinLaws.{join-spells}
-use Rattle.rh_wimp.proofs.OrderLaws.{HoldsOwn, by_seats-each, own-seats}
+use Rattle.rh_wimp.proofs.OrderLaws.{HoldsOwn, by_seats-each, by_seats-length, own-seats}
 use Rattle.rh_wimp.proofs.PostInLaws.{module-low, post_of-is, post_of-spells}
 use Rattle.rh_wimp.proofs.PostLaws.{seat_at}
 use Rattle.rh_wimp.proofs.SendLaws.{named}
@@ -69,6 +70,36 @@ post_in-requeued m rma q post small s w own =
     subst (IsRequeued post) (sym (post_in-is m rma q post small s w ∙ in_order-own post own)) (record {
       same = record { each = λ h. sym (by_seats-each post.seats post.queued h same w.recipients) };
       rest = refl;
+    })
+
+-- ---- what every call keeps of a post
+module _ (P : Parcel → Type 0) where
+  all-both : (ps qs : List Parcel) → AllByRecursion P ps → AllByRecursion P qs → AllByRecursion P (ps ++ qs)
+  all-both [] qs a b = b
+  all-both (p ∷ ps) qs a b = (a.0, all-both ps qs a.1 b)
+
+  all-some : (test : Parcel → Bool) (ps : List Parcel) → AllByRecursion P ps → AllByRecursion P (filter test ps)
+  all-some test [] a = tt
+  all-some test (p ∷ ps) a = go (test p) (all-some test ps a.1)
+    where
+      go : (t : Bool) → AllByRecursion P (filter test ps) → AllByRecursion P (cond t (p ∷ filter test ps) (filter test ps))
+      go true r = (a.0, r)
+      go false r = r
+
+  all-by_seats : (seats : List Seat) (queue : List Parcel) → AllByRecursion P queue → AllByRecursion P (by_seats seats queue)
+  all-by_seats [] queue a = tt
+  all-by_seats (s ∷ seats) queue a = all-both (filter (λ (p : Parcel). p.to == s.handle) queue) (by_seats seats queue) (all-some (λ (p : Parcel). p.to == s.handle) queue a) (all-by_seats seats queue a)
+
+pub in_order-keeps : (h : Heap) (q : Chains) (post : Post) → IsPost h q post → laws.IsPost post → laws.IsPost (in_order post)
+in_order-keeps h q post s w =
+    let n = by_seats-length post.seats post.queued (named h q post s) s.recipients in
+    let few = w.few in
+    subst laws.IsPost (sym (in_order-own post w.held)) (record {
+      heap = w.heap;
+      few = omega arith;
+      refs = w.refs;
+      queued = all-by_seats (laws.IsQueued post.next_ref post.seats) post.seats post.queued w.queued;
+      held = w.held;
     })
 
 -- ---- edits of other areas

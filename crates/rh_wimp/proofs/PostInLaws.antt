@@ -1,5 +1,5 @@
 -- The walk along the chains finds the post that the queue spells.
-use Rattle.std.proofs.Common.{◌≡◌, ℕ, zero, suc, ◌+◌, ◌<◌, ◌≤◌, ◌≢◌, ◌^◌, inl, inr, Bool, true, false, cond, eqb, List, [], ◌∷◌, ◌++◌, length, map, filter, refl, sym, ap, subst, ◌∙◌, arith}
+use Rattle.std.proofs.Common.{◌≡◌, ℕ, zero, suc, ◌+◌, ◌<◌, ◌≤◌, ◌≢◌, ◌^◌, inl, inr, Bool, true, false, cond, eqb, List, [], ◌∷◌, ◌++◌, length, map, refl, sym, ap, subst, ◌∙◌, arith}
 use Rattle.std.proofs.lemmas.Bool.{cases_eq}
 use Rattle.std.proofs.lemmas.List.{length-map}
 use Rattle.std.specs.Prelude.{Option, Some, None, ◌==◌}
@@ -22,15 +22,13 @@ use Rattle.rh_defs.proofs.ShapeLaws.{poked-shape, shape-both}
 use Rattle.rh_module.proofs.BlockBytes.{block_within}
 use Rattle.rh_module.specs.Area.{IsModule, heap_in}
 use Rattle.rh_module.specs.declared.module.Module.{Module}
-use Rattle.rh_wimp.specs.Chains.{Chain, Chains, Holds, Lies, Row, RowLies, RowsLie, IsLinked, IsPost, SpellsPost, AllLie, Off, entry_at, first_block, held_list, row_at, row_of, row_parcels, rows_of}
+use Rattle.rh_wimp.specs.Chains.{Chain, Chains, Holds, Lies, Row, RowLies, RowsLie, IsLinked, IsPost, AllLie, Off, entry_at, first_block, held_list, row_at, row_of, row_parcels, rows_of}
 use Rattle.rh_wimp.specs.PostIn.{bytes_in, or_no_bytes, or_user, or_no_message, parcel_in, chain_in, held_in, row_in, rows_in, seat_of, chains_of, parcels_of, unlinked, post_of, for_task, in_order}
-use Rattle.rh_wimp.specs.Searches.{AreShort}
 use Rattle.rh_wimp.specs.declared.chain.Entry.{Entry}
-use Rattle.rh_wimp.proofs.OrderLaws.{own_row, own_row-at, own-rows, own-linked, in_order-spells, seats-of-rows, chains-of-rows, sent_to}
+use Rattle.rh_wimp.proofs.OrderLaws.{own_row, own-rows, own-linked, in_order-spells, seats-of-rows, chains-of-rows, sent_to}
 use Rattle.rh_wimp.proofs.PostLaws.{eq_of, row-at, seat_at}
 use Rattle.rh_wimp.proofs.RowEdits.{lies-above}
 use Rattle.rh_wimp.proofs.SearchLaws.{short-rows}
-use Rattle.rh_wimp.proofs.SendLaws.{as_many}
 
 -- ---- two heaps with the same blocks
 same-segments : (p : ℕ) (ss ts : List Segment) → blank ss ≡ blank ts → ((a : ℕ) → bytes_at a p ss ≡ bytes_at a p ts) → ss ≡ ts

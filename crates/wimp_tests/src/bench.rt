@@ -157,7 +157,8 @@ impl<S: Store + Drop> Bench<S> {
         if !self.lists.is_live(task) {
             return Ok(());
         }
-        self.queue.bounce_for_death(&mut self.store, self.rma, Handle(task));
+        self.queue
+            .bounce_for_death(&mut self.store, self.rma, Handle(task));
         self.lists.end(task)
     }
 

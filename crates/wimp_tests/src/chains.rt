@@ -20,7 +20,11 @@ fn word_at<S: Store + Drop>(rt: &impl Abort, bench: &Bench<S>, at: usize) -> u32
     bench.store.word(bench.rma.area, at)
 }
 
-fn links_lead_to_the_next_block<S: Store + Drop>(rt: &impl Abort, alloc: Global, store: S) -> Result<(), Fail> {
+fn links_lead_to_the_next_block<S: Store + Drop>(
+    rt: &impl Abort,
+    alloc: Global,
+    store: S,
+) -> Result<(), Fail> {
     let mut bench = Bench::new(alloc, store, 1)?;
     assert_eq!(rt; bench.try_send(rt, recorded(1, 2)), Ok(Ref(1)));
     assert_eq!(rt; bench.try_send(rt, recorded(3, 2)), Ok(Ref(2)));
@@ -32,7 +36,11 @@ fn links_lead_to_the_next_block<S: Store + Drop>(rt: &impl Abort, alloc: Global,
     Ok(())
 }
 
-fn at_most_256_messages_are_live<S: Store + Drop>(rt: &impl Abort, alloc: Global, store: S) -> Result<(), Fail> {
+fn at_most_256_messages_are_live<S: Store + Drop>(
+    rt: &impl Abort,
+    alloc: Global,
+    store: S,
+) -> Result<(), Fail> {
     let mut bench = Bench::new(alloc, store, 1)?;
     for _turn in 0..256 {
         bench.send(rt, recorded(1, 2))?;
@@ -40,15 +48,34 @@ fn at_most_256_messages_are_live<S: Store + Drop>(rt: &impl Abort, alloc: Global
     assert_eq!(rt; bench.try_send(rt, recorded(1, 2)), Err(Refusal::QueueFull));
     assert_eq!(rt; bench.try_send(rt, recorded(1, 4)), Err(Refusal::NoTask));
     bench.poll(rt, 2)?;
-    assert_eq!(rt; bench.try_send(rt, Sent { your_ref: 1, ..recorded(2, 1) }), Err(Refusal::QueueFull));
+    assert_eq!(rt;
+        bench.try_send(
+            rt,
+            Sent {
+                your_ref: 1,
+                ..recorded(2, 1)
+            }
+        ),
+        Err(Refusal::QueueFull)
+    );
     bench.poll(rt, 2)?;
     assert_eq!(rt; bench.try_send(rt, recorded(1, 2)), Err(Refusal::QueueFull));
     bench.poll(rt, 1)?;
-    bench.send(rt, Sent { your_ref: 2, ..recorded(2, 1) })?;
+    bench.send(
+        rt,
+        Sent {
+            your_ref: 2,
+            ..recorded(2, 1)
+        },
+    )?;
     Ok(())
 }
 
-fn the_last_ref_is_given_once<S: Store + Drop>(rt: &impl Abort, alloc: Global, store: S) -> Result<(), Fail> {
+fn the_last_ref_is_given_once<S: Store + Drop>(
+    rt: &impl Abort,
+    alloc: Global,
+    store: S,
+) -> Result<(), Fail> {
     let mut bench = Bench::new(alloc, store, 4294967295)?;
     assert_eq!(rt; bench.try_send(rt, recorded(1, 2)), Ok(Ref(4294967295)));
     assert_eq!(rt; bench.try_send(rt, recorded(1, 2)), Err(Refusal::NoRefs));
@@ -83,7 +110,11 @@ fn some_message(number: u32, refs: u32) -> Sent {
 }
 
 /// Sends and polls in turn, each compared with what lists do.
-fn steps<S: Store + Drop>(rt: &impl Abort, bench: &mut Bench<S>, first: u32) -> Result<(), AllocError>
+fn steps<S: Store + Drop>(
+    rt: &impl Abort,
+    bench: &mut Bench<S>,
+    first: u32,
+) -> Result<(), AllocError>
     requires { Runs (S.memory bench.old.store) bench.old.rma bench.old.queue bench.old.lists.live.items }
     ensures { Runs (S.memory bench.new.store) bench.new.rma bench.new.queue bench.new.lists.live.items }
 {

@@ -45,7 +45,8 @@ impl Lists {
 
     /// Whether a message with the ref is queued or held.
     pub(crate) fn has_ref(&self, my_ref: u32) -> bool {
-        self.queued.iter().any(|s| s.my_ref == my_ref) || self.held.iter().any(|s| s.my_ref == my_ref)
+        self.queued.iter().any(|s| s.my_ref == my_ref)
+            || self.held.iter().any(|s| s.my_ref == my_ref)
     }
 
     /// The ref that the message is sent under, none where its recipient isn't live.

@@ -1,4 +1,3 @@
-use Rattle.std.proofs.Common.{rules}
 use Rattle.std.proofs.lemmas.Fn.{says_at}
 use Rattle.rh_defs.specs.Records.{open_of}
 use Rattle.rh_ram.proofs.FindingLaws.{walked-past, walked-to, open-here, open-past, ended-past}

@@ -1,5 +1,5 @@
-use Rattle.std.proofs.Common.{arith, ◌≡◌, ◌<◌, ℕ, length, ◌∙◌, sym, ap, List}
-use Rattle.std.specs.Prelude.{None, Option, not}
+use Rattle.std.proofs.Common.{◌∙◌, sym, ap}
+use Rattle.std.specs.Prelude.{not}
 use Rattle.std.specs.List.{position}
 use borrow.Author.Tests.{eqb-true}
 use Rattle.rh_ram.proofs.RecordLaws.{none_lasts_out}

@@ -1,4 +1,4 @@
-use Rattle.std.proofs.Common.{arith, rules, ◌≡◌, ◌∙◌, sym, ap, ◌==◌}
+use Rattle.std.proofs.Common.{arith, ◌∙◌, sym, ap, ◌==◌}
 use Rattle.rh_ram.proofs.RecordLaws.{written-more, kept-more}
 use Rattle.rh_ram.proofs.records.rewrite.Goals as goal
 use Rattle.rh_ram.proofs.records.rewrite.Goals.{then-eq, else-eq}

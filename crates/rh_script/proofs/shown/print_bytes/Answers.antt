@@ -1,10 +1,19 @@
-use Rattle.std.proofs.Common.{arith}
-use Rattle.rh_script.proofs.PrintLemmas.{stops_at_space, puts_spaced}
+use Rattle.std.proofs.Common.{◌≢◌, length, arith, refl}
+use Rattle.rh_script.specs.Named.{bytes_of_named}
+use Rattle.rh_lines.proofs.FlowLemmas.{puts_before, puts_stops, puts_more}
+use Rattle.rh_script.proofs.PrintLemmas.{spaced, unspaced}
 use Rattle.rh_script.proofs.shown.print_bytes.Goals as goal
+
+pub returns-then-size-eq0 : goal.returns-then-size-eq0
+returns-then-size-eq0 g c =
+    rw (← unspaced (bytes_of_named c.args.name.now c.args.anchor c.args.world.now.desk) (omega arith)) c.put.ensures
 
 pub returns-in_err-put : goal.returns-in_err-put
 returns-in_err-put g c =
-    stops_at_space _ _ _ (omega arith) c.from_residual.ensures.0 c.in_err-put.ensures
+    let some : length (bytes_of_named c.args.name.now c.args.anchor c.args.world.now.desk) ≢ 0 = omega arith in
+    rw (spaced (bytes_of_named c.args.name.now c.args.anchor c.args.world.now.desk) some) (puts_stops _ (puts_before _ c.in_err-put.ensures refl) c.from_residual.ensures.0)
 
 pub returns : goal.returns
-returns g c = puts_spaced _ _ (omega arith) c.in_ok-put.ensures c.print_hex.ensures
+returns g c =
+    let some : length (bytes_of_named c.args.name.now c.args.anchor c.args.world.now.desk) ≢ 0 = omega arith in
+    rw (spaced (bytes_of_named c.args.name.now c.args.anchor c.args.world.now.desk) some) (puts_more _ _ _ c.in_ok-put.ensures c.print_digits.ensures)

@@ -1,4 +1,4 @@
-use Rattle.std.proofs.Common.{◌≡◌, refl, sym, ◌∙◌}
+use Rattle.std.proofs.Common.{refl, sym, ◌∙◌}
 use Rattle.rh_ram.proofs.CallLaws.{cancel_in-refused, cancel_in-granted}
 use Rattle.rh_ram.proofs.receiver.Receiver.cancel.Goals as goal
 

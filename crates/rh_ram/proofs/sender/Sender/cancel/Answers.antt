@@ -1,4 +1,4 @@
-use Rattle.std.proofs.Common.{◌≡◌, refl, sym, ◌∙◌}
+use Rattle.std.proofs.Common.{refl, sym, ◌∙◌}
 use Rattle.rh_ram.proofs.CallLaws.{cancel_out-refused, cancel_out-granted}
 use Rattle.rh_ram.proofs.sender.Sender.cancel.Goals as goal
 

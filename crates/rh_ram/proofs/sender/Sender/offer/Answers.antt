@@ -1,4 +1,4 @@
-use Rattle.std.proofs.Common.{◌≡◌, refl, sym, ap, ◌∙◌}
+use Rattle.std.proofs.Common.{refl, sym, ◌∙◌}
 use Rattle.rh_ram.proofs.CallLaws.{offer-refused, offer-granted}
 use Rattle.rh_ram.proofs.sender.Sender.offer.Goals as goal
 

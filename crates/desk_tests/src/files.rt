@@ -1,0 +1,164 @@
+//! The files that a run is given, and those that are checked.
+
+use crate::words::ended;
+use std::alloc::Global;
+use std::fs;
+use std::test::Fail;
+
+/// The most bytes of a file.
+const MOST_BYTES: usize = 1_048_576;
+
+#[test]
+fn bad_file_words_are_told_before_any_file(rt: HostRuntime) -> Result<(), Fail> {
+    for (first, second, wanted) in [
+        ("logo", "b=lost.bin", "rh_desk: bad file word logo\n"),
+        (
+            "a=lost.bin",
+            "=lost.bin",
+            "rh_desk: bad file word =lost.bin\n",
+        ),
+        ("a=lost.bin", "b=", "rh_desk: bad file word b=\n"),
+        (
+            "a=lost.bin",
+            "a=other.bin",
+            "rh_desk: bad file word a=other.bin\n",
+        ),
+        ("1a=lost.bin", "b=", "rh_desk: bad file word 1a=lost.bin\n"),
+        (
+            "thirteenbytes=x",
+            "b=lost.bin",
+            "rh_desk: bad file word thirteenbytes=x\n",
+        ),
+    ] {
+        let bad = ended(&rt, &["run", "lost.desk", first, second], b"")?;
+        assert_eq!(rt; bad.errors.as_slice(), wanted.as_bytes());
+        assert!(rt; bad.output.is_empty());
+        assert_eq!(rt; bad.status, 2, "{wanted}");
+    }
+    Ok(())
+}
+
+#[test]
+fn files_are_read_before_the_script(rt: HostRuntime) -> Result<(), Fail> {
+    fs::write(&rt, "here.bin", "abc")?;
+    let second = ended(&rt, &["run", "lost.desk", "a=here.bin", "b=lost.bin"], b"")?;
+    let script = ended(&rt, &["run", "lost.desk", "a=here.bin"], b"")?;
+    fs::remove_file(&rt, "here.bin")?;
+    assert_eq!(rt;
+        second.errors.as_slice(),
+        b"rh_desk: file lost.bin\n".as_slice()
+    );
+    assert_eq!(rt; second.status, 3);
+    assert_eq!(rt;
+        script.errors.as_slice(),
+        b"rh_desk: file lost.desk\n".as_slice()
+    );
+    assert_eq!(rt; script.status, 3);
+    Ok(())
+}
+
+#[test]
+fn files_are_loaded_by_their_names(rt: HostRuntime) -> Result<(), Fail> {
+    fs::write(&rt, "logo=1.bin", "hello")?;
+    let loaded = ended(
+        &rt,
+        &["run", "-", "logo=logo=1.bin"],
+        b"task a 100\nload a 0 logo\nshow a 0\nload a 1 Logo\n",
+    )?;
+    fs::remove_file(&rt, "logo=1.bin")?;
+    assert_eq!(rt;
+        loaded.output.as_slice(),
+        b"ok 1\nok &9008\nok 5 68656c6c6f\nrefused NoFile\n".as_slice()
+    );
+    assert!(rt; loaded.errors.is_empty());
+    assert_eq!(rt; loaded.status, 0);
+    Ok(())
+}
+
+#[test]
+fn a_file_has_a_limit(rt: HostRuntime) -> Result<(), Fail> {
+    let alloc: Global = rt.alloc();
+    let mut bytes = Vec::new(alloc);
+    bytes.resize(MOST_BYTES, 7)?;
+    fs::write(&rt, "most.bin", bytes.as_slice())?;
+    let most = ended(
+        &rt,
+        &["run", "--pages", "300", "-", "a=most.bin"],
+        b"task a 100\nload a 0 a\nblocks a\n",
+    )?;
+    bytes.push(7)?;
+    fs::write(&rt, "more.bin", bytes.as_slice())?;
+    let more = ended(&rt, &["run", "-", "a=more.bin"], b"")?;
+    let image = ended(&rt, &["check", "more.bin"], b"")?;
+    fs::remove_file(&rt, "most.bin")?;
+    fs::remove_file(&rt, "more.bin")?;
+    assert_eq!(rt;
+        most.output.as_slice(),
+        b"ok 1\nok &9008\nok 1\n  0 &9008 1048576\n".as_slice()
+    );
+    assert_eq!(rt; most.status, 0);
+    assert_eq!(rt;
+        more.errors.as_slice(),
+        b"rh_desk: file more.bin\n".as_slice()
+    );
+    assert_eq!(rt; more.status, 3);
+    assert_eq!(rt;
+        image.errors.as_slice(),
+        b"rh_desk: file more.bin\n".as_slice()
+    );
+    assert_eq!(rt; image.status, 3);
+    Ok(())
+}
+
+#[test]
+fn heaps_are_checked(rt: HostRuntime) -> Result<(), Fail> {
+    // the bytes in front of some zeros, the length of all, and what is said of them
+    for (front, length, wanted, status) in [
+        ("", 0usize, "bad BadDescriptor\n", 1),
+        ("48656170000000001000000010000000", 16, "ok 0 0 0 0 0\n", 0),
+        (
+            "68656170000000001000000010000000",
+            16,
+            "bad BadDescriptor\n",
+            1,
+        ),
+        (
+            "486561701c000000300000003800000010000000000000000000000000000000000000000800000008000000",
+            56,
+            "ok 2 24 1 8 8\n",
+            0,
+        ),
+        (
+            "486561703c000000300000003800000010000000000000000000000000000000000000000800000008000000",
+            56,
+            "bad BadLink\n",
+            1,
+        ),
+        (
+            "4865617014000000300000003800000010000000000000000000000000000000000000000800000008000000",
+            56,
+            "bad BadSize\n",
+            1,
+        ),
+    ] {
+        let mut bytes = [0; 56];
+        let digits = bytes.len().min(front.len() / 2);
+        let decoded = hex::decode_to_slice(front.as_bytes(), &mut bytes[..digits]);
+        assert!(rt; decoded == Ok(()));
+        let all = bytes.len().min(length);
+        fs::write(&rt, "heap.bin", &bytes[..all])?;
+        let checked = ended(&rt, &["check", "heap.bin"], b"")?;
+        fs::remove_file(&rt, "heap.bin")?;
+        assert_eq!(rt; checked.output.as_slice(), wanted.as_bytes());
+        assert!(rt; checked.errors.is_empty());
+        assert_eq!(rt; checked.status, status, "{wanted}");
+    }
+    let lost = ended(&rt, &["check", "lost.bin"], b"")?;
+    assert_eq!(rt;
+        lost.errors.as_slice(),
+        b"rh_desk: file lost.bin\n".as_slice()
+    );
+    assert!(rt; lost.output.is_empty());
+    assert_eq!(rt; lost.status, 3);
+    Ok(())
+}

@@ -1,0 +1,9 @@
+//! Tests of lines as commands, of replies as text, and of streams that fail.
+#![tactic(auto)]
+
+#[cfg(test)]
+mod lines;
+#[cfg(test)]
+mod printing;
+#[cfg(test)]
+mod streams;

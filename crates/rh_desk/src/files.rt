@@ -1,0 +1,93 @@
+//! The files that a run is given, and the one that is checked.
+
+ghost use Rattle.std.specs.Prelude.{◌≤◌, IfOk, vec_len};
+
+use crate::ending::Ending;
+use crate::telling::{ended, tell_bad_word, tell_file};
+use rh_defs::{Files, Name};
+use rh_lines::Sink;
+use rh_run::RunFault;
+use std::alloc::Global;
+use std::fs::File;
+use std::io::{self, Read};
+use std::rt;
+
+/// A file has at most so many bytes.
+const MOST_BYTES: usize = 1_048_576;
+
+/// Looks over all the NAME=PATH words before any file is read. The first bad one is told: one that isn't a name, `=` and
+/// a path of at least one byte, or whose name was given before.
+pub fn check_words<E: Sink>(alloc: Global, words: &[&str], errors: &mut E) -> Result<(), Ending> {
+    let mut seen = Files::new(alloc);
+    for word in words {
+        let Some((name, _)) = file_word(word) else {
+            return Err(tell_bad_word(word, errors));
+        };
+        if seen.contains(&name) {
+            return Err(tell_bad_word(word, errors));
+        }
+        if seen.insert(name, Vec::new(alloc)).is_err() {
+            return Err(ended(Err(RunFault::NoMemory), errors));
+        }
+    }
+    Ok(())
+}
+
+/// Reads the files of NAME=PATH words, in the order given. What can't be read is told.
+pub fn read_files<R: rt::Files, E: Sink>(
+    runtime: &R,
+    alloc: Global,
+    words: &[&str],
+    errors: &mut E,
+) -> Result<Files, Ending> {
+    let mut files = Files::new(alloc);
+    for word in words {
+        let Some((name, path)) = file_word(word) else {
+            return Err(tell_bad_word(word, errors));
+        };
+        let bytes = read_whole(runtime, alloc, path, errors)?;
+        if files.contains(&name) {
+            return Err(tell_bad_word(word, errors));
+        }
+        if files.insert(name, bytes).is_err() {
+            return Err(ended(Err(RunFault::NoMemory), errors));
+        }
+    }
+    Ok(files)
+}
+
+/// The name and the path of a NAME=PATH word.
+fn file_word(word: &str) -> Option<(Name, &str)> {
+    let (name, path) = word.split_once('=')?;
+    let name = Name::new(name.as_bytes())?;
+    if path.is_empty() || !name.is_valid() {
+        return None;
+    }
+    Some((name, path))
+}
+
+/// All bytes of a file. One that can't be opened or read, or has too many bytes, is told.
+pub fn read_whole<R: rt::Files, E: Sink>(
+    runtime: &R,
+    alloc: Global,
+    path: &str,
+    errors: &mut E,
+) -> Result<Vec<u8>, Ending>
+    ensures { IfOk result (λ bytes. vec_len bytes ≤ 1048576) }
+{
+    let mut bytes = Vec::new(alloc);
+    match read_into(runtime, path, &mut bytes) {
+        Ok(()) if bytes.len() <= MOST_BYTES => Ok(bytes),
+        Err(error) if error.kind() == io::ErrorKind::OutOfMemory => {
+            Err(ended(Err(RunFault::NoMemory), errors))
+        }
+        _ => Err(tell_file(path, errors)),
+    }
+}
+
+/// Reads a file up to one byte more than it may have.
+fn read_into<R: rt::Files>(runtime: &R, path: &str, bytes: &mut Vec<u8>) -> io::Result<()> {
+    let file = File::open(runtime, path)?;
+    file.take(MOST_BYTES as u64 + 1).read_to_end(bytes)?;
+    Ok(())
+}

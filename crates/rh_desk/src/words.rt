@@ -1,0 +1,149 @@
+//! What the program does with its words.
+
+ghost use Rattle.std.specs.Prelude.{◌≡◌, ◌≤◌, [], length};
+ghost use Rattle.rh_defs.specs.Runs.{start};
+ghost use Rattle.rh_desk.specs.Ending.{ending_of, exit_status};
+ghost use Rattle.rh_session.specs.Outcome.{Finished};
+
+use crate::command_line::{PAGES, Request, RunRequest, parsed, request_of};
+use crate::ending::Ending;
+use crate::files::{check_words, read_files, read_whole};
+use crate::telling::{ended, tell_file, told};
+use rh_defs::Files;
+use rh_lines::{Flagged, Sink, Source, put};
+use rh_run::{RunFault, Status, check_image, run};
+use std::alloc::Global;
+use std::fs::File;
+use std::{io, rt};
+
+/// The SCRIPT that stands for the input.
+const INPUT: &str = "-";
+
+/// Runs the program on its words, of which the first is its own name, and answers its exit status:
+/// 0 for a clean run, a good heap or help, 1 for a bad line or a bad heap, 2 for wrong words, 3 for a file, read,
+/// write, length or memory fault.
+pub fn program<R: rt::Files, I: Source, O: Sink, E: Sink>(
+    runtime: &R,
+    alloc: Global,
+    words: &[String],
+    input: &mut I,
+    output: &mut O,
+    errors: &mut E,
+) -> u8
+    requires { (I.input input.old).reads ≡ 0 }
+    ensures small { result ≤ 3 }
+
+    // With no words but its name, a run of the input over 64 pages that came to its end.
+    ensures ran { length words.now ≤ 1 → (status : Status) → result ≡ exit_status (ending_of (Ok status)) → Finished (start 64 []) (I.input input.old) (I.input input.new) (O.output output.old) (O.output output.new) status }
+{
+    let ending = if words.len() <= 1 {
+        run_told(alloc, Files::new(alloc), PAGES, input, output, errors)
+    } else {
+        run_words(runtime, alloc, words, input, output, errors)
+    };
+    ending.exit_status()
+}
+
+/// Tells why the program's words could not be had, and answers its exit status: 3 where memory was refused, and 2 where
+/// one of them, its own name among them, is not text.
+pub fn words_unread<E: Sink>(error: &io::Error, errors: &mut E) -> u8
+    ensures fault { 2 ≤ result }
+    ensures small { result ≤ 3 }
+{
+    let ending = if error.kind() == io::ErrorKind::OutOfMemory {
+        ended(Err(RunFault::NoMemory), errors)
+    } else {
+        let _told = put(errors, b"rh_desk: a word is not text\n");
+        Ending::WrongWords
+    };
+    ending.exit_status()
+}
+
+/// Runs a script over so many pages with these files, and tells the fault that stopped it, if one did.
+fn run_told<I: Source, O: Sink, E: Sink>(
+    alloc: Global,
+    files: Files,
+    pages: u32,
+    script: &mut I,
+    output: &mut O,
+    errors: &mut E,
+) -> Ending
+    requires least { 8 ≤ pages }
+    requires most { pages ≤ 1024 }
+    requires fresh { (I.input script.old).reads ≡ 0 }
+
+    // A run that came to its end.
+    ensures { (status : Status) → result ≡ ending_of (Ok status) → Finished (start pages files) (I.input script.old) (I.input script.new) (O.output output.old) (O.output output.new) status }
+{
+    ended(run(alloc, files, script, output, pages), errors)
+}
+
+fn run_words<R: rt::Files, I: Source, O: Sink, E: Sink>(
+    runtime: &R,
+    alloc: Global,
+    words: &[String],
+    input: &mut I,
+    output: &mut O,
+    errors: &mut E,
+) -> Ending
+    requires { (I.input input.old).reads ≡ 0 }
+{
+    let matches = match parsed(alloc, words) {
+        Ok(matches) => matches,
+        Err(error) => return told(alloc, &error, output, errors),
+    };
+    match request_of(&matches) {
+        Some(Request::Check { file }) => check_file(runtime, alloc, file, output, errors),
+        Some(Request::Run(request)) => {
+            run_request(runtime, alloc, &request, input, output, errors)
+        }
+        None => Ending::WrongWords,
+    }
+}
+
+/// Looks over the NAME=PATH words, reads their files, and runs the script from its file, or the input for `-`.
+fn run_request<R: rt::Files, I: Source, O: Sink, E: Sink>(
+    runtime: &R,
+    alloc: Global,
+    request: &RunRequest<'_, '_>,
+    input: &mut I,
+    output: &mut O,
+    errors: &mut E,
+) -> Ending
+    requires { (I.input input.old).reads ≡ 0 }
+{
+    if let Err(ending) = check_words(alloc, request.files, errors) {
+        return ending;
+    }
+    let files = match read_files(runtime, alloc, request.files, errors) {
+        Ok(files) => files,
+        Err(ending) => return ending,
+    };
+    if request.script == INPUT {
+        return run_told(alloc, files, request.pages, input, output, errors);
+    }
+    match File::open(runtime, request.script) {
+        Ok(file) => {
+            let mut reader = Flagged::new(file);
+            run_told(alloc, files, request.pages, &mut reader, output, errors)
+        }
+        Err(error) if error.kind() == io::ErrorKind::OutOfMemory => {
+            ended(Err(RunFault::NoMemory), errors)
+        }
+        Err(_) => tell_file(request.script, errors),
+    }
+}
+
+/// Says whether the bytes of a file are a heap.
+fn check_file<R: rt::Files, O: Sink, E: Sink>(
+    runtime: &R,
+    alloc: Global,
+    path: &str,
+    output: &mut O,
+    errors: &mut E,
+) -> Ending {
+    match read_whole(runtime, alloc, path, errors) {
+        Ok(bytes) => ended(check_image(bytes.as_slice(), output), errors),
+        Err(ending) => ending,
+    }
+}

@@ -1,0 +1,126 @@
+-- Hexadecimal digits by a table, and the bytes that pairs of them spell.
+use Rattle.std.proofs.Common.{◌≡◌, ℕ, zero, suc, ◌+◌, ◌*◌, ◌%◌, ◌<◌, ◌≤◌, Bool, true, false, cond, eqb, ◌&&◌, List, [], ◌∷◌, ◌++◌, length, get_or, unwrap_or, Option, Some, None, Result, Ok, Err, refl, sym, ◌∙◌, ap, arith, rules, ◌⊎◌, inl, inr, subst, take, drop, ◌-◌, append_assoc, append-nil, ◌≢◌}
+use Rattle.std.proofs.lemmas.List.{take_rest}
+use Rattle.std.specs.Option.{option_map}
+use Rattle.std.specs.Result.{result_ok}
+use borrow.Author.Tests.{tests}
+use Rattle.hex.specs.Hex.{decode_of, decode_pairs, pair_value, hex_digit_value, ◌>>=◌}
+use Rattle.hex.proofs.HexLemmas.{decode_pairs-ok}
+use Rattle.hex.specs.declared.error.FromHexError.{FromHexError}
+use Rattle.rh_lines.specs.declared.hex_digits.TheConstants.{VALUES}
+
+-- ---- the table
+
+-- the first n entries are right
+are_right : ℕ → Bool
+are_right zero = true
+are_right (suc n) = eqb (get_or VALUES n 0) (unwrap_or (hex_digit_value n) 255) && are_right n
+
+all_right : are_right 256 ≡ true
+unfolding are_right
+all_right = refl
+
+both : (a b : Bool) → (a && b) ≡ true → (a ≡ true) × (b ≡ true)
+both true b e = (refl, e)
+both false b e = absurd (cc)
+
+same_number : (a b : ℕ) → eqb a b ≡ true → a ≡ b
+same_number a b e = search (rules, tests)
+
+below_or_at : (c n : ℕ) → c < suc n → (c < n) ⊎ (n ≡ c)
+below_or_at c n lt = grind arith
+
+right_next : (n c : ℕ) → (are_right n ≡ true → c < n → get_or VALUES c 0 ≡ unwrap_or (hex_digit_value c) 255) → (get_or VALUES n 0 ≡ unwrap_or (hex_digit_value n) 255) × (are_right n ≡ true) → (c < n) ⊎ (n ≡ c) → get_or VALUES c 0 ≡ unwrap_or (hex_digit_value c) 255
+right_next n c before h (inl lt) = before h.1 lt
+right_next n c before h (inr e) =
+    let P : ℕ → Type 0 = λ k. get_or VALUES k 0 ≡ unwrap_or (hex_digit_value k) 255 in subst P e h.0
+
+right_at : (n c : ℕ) → are_right n ≡ true → c < n → get_or VALUES c 0 ≡ unwrap_or (hex_digit_value c) 255
+unfolding are_right
+right_at zero c h lt = absurd (omega arith)
+right_at (suc n) c h lt =
+    let both_are = both (eqb (get_or VALUES n 0) (unwrap_or (hex_digit_value n) 255)) (are_right n) h in
+    right_next n c (right_at n c) (same_number (get_or VALUES n 0) (unwrap_or (hex_digit_value n) 255) both_are.0, both_are.1) (below_or_at c n lt)
+
+pub digit_value-is : (c : ℕ) → c < 256 → get_or VALUES c 0 ≡ unwrap_or (hex_digit_value c) 255
+digit_value-is c lt = right_at 256 c all_right lt
+
+-- ---- pairs of digits
+
+-- a byte in front of further ones, where there are both
+abbrev then_more : Option ℕ → Option (List ℕ) → Option (List ℕ)
+then_more None more = None
+then_more (Some v) more = option_map (λ ys. v ∷ ys) more
+
+pair_anywhere : (a b i j : ℕ) (x y : Option ℕ) → hex_digit_value a ≡ x → hex_digit_value b ≡ y → result_ok (pair_value a b i) ≡ result_ok (pair_value a b j)
+pair_anywhere a b i j None y e f = rw e refl
+pair_anywhere a b i j (Some v) None e f = rw (e, f) refl
+pair_anywhere a b i j (Some v) (Some w) e f = rw (e, f) refl
+
+byte_and_more : (v : ℕ) (r : Result (List ℕ) FromHexError) → result_ok (r >>= λ bytes. Ok (v ∷ bytes)) ≡ option_map (λ ys. v ∷ ys) (result_ok r)
+byte_and_more v (Ok bytes) = refl
+byte_and_more v (Err e) = refl
+
+pair_and_more : (i a b : ℕ) (rest : List ℕ) (r : Result ℕ FromHexError) → pair_value a b i ≡ r → result_ok (decode_pairs i (a ∷ b ∷ rest)) ≡ then_more (result_ok (pair_value a b i)) (result_ok (decode_pairs (i + 2) rest))
+unfolding decode_pairs
+pair_and_more i a b rest (Ok v) e = rw e (byte_and_more v (decode_pairs (i + 2) rest))
+pair_and_more i a b rest (Err f) e = rw e refl
+
+anywhere : (i j : ℕ) (s : List ℕ) → result_ok (decode_pairs i s) ≡ result_ok (decode_pairs j s)
+unfolding decode_pairs
+anywhere i j [] = refl
+anywhere i j (a ∷ []) = refl
+anywhere i j (a ∷ b ∷ s) =
+    pair_and_more i a b s (pair_value a b i) refl ∙ (ap (λ v. then_more v (result_ok (decode_pairs (i + 2) s))) (pair_anywhere a b i j (hex_digit_value a) (hex_digit_value b) refl refl) ∙ (ap (λ m. then_more (result_ok (pair_value a b j)) m) (anywhere (i + 2) (j + 2) s) ∙ sym (pair_and_more j a b s (pair_value a b j) refl)))
+
+-- the first pair, and the rest
+pub next_pair : (s : List ℕ) → 2 ≤ length s → result_ok (decode_pairs 0 s) ≡ then_more (result_ok (pair_value (get_or s 0 0) (get_or s 1 0) 0)) (result_ok (decode_pairs 0 (take (length s - 2) (drop 2 s))))
+next_pair [] h = absurd (omega arith)
+next_pair (a ∷ []) h = absurd (omega arith)
+next_pair (a ∷ b ∷ s) h =
+    let rest : take (length (a ∷ b ∷ s) - 2) (drop 2 (a ∷ b ∷ s)) ≡ s = take_rest (a ∷ b ∷ s) 2 in
+    rw rest (pair_and_more 0 a b s (pair_value a b 0) refl ∙ ap (λ m. then_more (result_ok (pair_value a b 0)) m) (anywhere 2 0 s))
+
+odd_fails : (s : List ℕ) (r : Result (List ℕ) FromHexError) → decode_pairs 0 s ≡ r → length s % 2 ≡ 1 → None ≡ result_ok r
+odd_fails s (Ok bytes) e odd =
+    let twice : length s ≡ 2 * length bytes = (decode_pairs-ok 0 s bytes e).1 in absurd (omega arith)
+odd_fails s (Err f) e odd = refl
+
+even_or_odd : (s : List ℕ) (b : Bool) → eqb (length s % 2) 1 ≡ b → result_ok (decode_of s) ≡ result_ok (decode_pairs 0 s)
+even_or_odd s true e = rw e (odd_fails s (decode_pairs 0 s) refl (same_number (length s % 2) 1 e))
+even_or_odd s false e = rw e refl
+
+nothing_before : (m : Option (List ℕ)) → m ≡ option_map (λ more. [] ++ more) m
+nothing_before None = refl
+nothing_before (Some ys) = refl
+
+-- all is left
+pub pairs_start : (s : List ℕ) → result_ok (decode_of s) ≡ option_map (λ more. [] ++ more) (result_ok (decode_pairs 0 s))
+pairs_start s = even_or_odd s (eqb (length s % 2) 1) refl ∙ nothing_before (result_ok (decode_pairs 0 s))
+
+one_more : (xs : List ℕ) (v : ℕ) (m : Option (List ℕ)) → option_map (λ more. xs ++ more) (option_map (λ ys. v ∷ ys) m) ≡ option_map (λ more. (xs ++ v ∷ []) ++ more) m
+one_more xs v None = refl
+one_more xs v (Some ys) = ap Some (sym (append_assoc xs (v ∷ []) ys))
+
+-- a byte more
+pub pairs_next : (all : Option (List ℕ)) (xs new s : List ℕ) (v : ℕ) → all ≡ option_map (λ more. xs ++ more) (result_ok (decode_pairs 0 s)) → 2 ≤ length s → Some v ≡ result_ok (pair_value (get_or s 0 0) (get_or s 1 0) 0) → new ≡ xs ++ v ∷ [] → all ≡ option_map (λ more. new ++ more) (result_ok (decode_pairs 0 (take (length s - 2) (drop 2 s))))
+pairs_next all xs new s v so_far h pair is =
+    rw is (so_far ∙ (ap (option_map (λ more. xs ++ more)) (next_pair s h ∙ ap (λ p. then_more p (result_ok (decode_pairs 0 (take (length s - 2) (drop 2 s))))) (sym pair)) ∙ one_more xs v (result_ok (decode_pairs 0 (take (length s - 2) (drop 2 s))))))
+
+-- two bytes that are no pair of digits
+pub pairs_stop : (all : Option (List ℕ)) (xs s : List ℕ) → all ≡ option_map (λ more. xs ++ more) (result_ok (decode_pairs 0 s)) → 2 ≤ length s → None ≡ result_ok (pair_value (get_or s 0 0) (get_or s 1 0) 0) → None ≡ all
+pairs_stop all xs s so_far h pair =
+    sym (so_far ∙ ap (option_map (λ more. xs ++ more)) (next_pair s h ∙ ap (λ p. then_more p (result_ok (decode_pairs 0 (take (length s - 2) (drop 2 s))))) (sym pair)))
+
+-- nothing is left
+pub pairs_end : (all : Option (List ℕ)) (xs s : List ℕ) → all ≡ option_map (λ more. xs ++ more) (result_ok (decode_pairs 0 s)) → length s ≡ 0 → Some xs ≡ all
+unfolding decode_pairs
+pairs_end all xs [] so_far none = sym (so_far ∙ ap Some (append-nil xs))
+pairs_end all xs (a ∷ s) so_far none = absurd (omega arith)
+
+-- one digit is left
+pub pairs_odd : (all : Option (List ℕ)) (xs s : List ℕ) → all ≡ option_map (λ more. xs ++ more) (result_ok (decode_pairs 0 s)) → length s ≢ 0 → length s < 2 → None ≡ all
+unfolding decode_pairs
+pairs_odd all xs [] so_far some few = absurd (some refl)
+pairs_odd all xs (a ∷ []) so_far some few = sym so_far
+pairs_odd all xs (a ∷ b ∷ s) so_far some few = absurd (omega arith)

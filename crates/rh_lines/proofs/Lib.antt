@@ -1,0 +1,6 @@
+pub mod FlowLemmas
+pub mod WordLemmas
+pub mod SplitLemmas
+pub mod DigitLemmas
+pub mod LineLemmas
+pub mod HexDigits

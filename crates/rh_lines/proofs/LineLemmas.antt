@@ -1,0 +1,133 @@
+-- What a line means, by its first word and its first six words.
+use Rattle.std.proofs.Common.{◌≡◌, ℕ, ◌+◌, ◌<◌, ◌≤◌, Bool, true, false, eqb, List, [], ◌∷◌, length, take, Option, Some, None, refl, sym, ◌∙◌, ap, arith, rules, cond, ◌&&◌, ◌⊎◌, inl, inr}
+use Rattle.std.specs.Prelude.{find, IfSome, IfNone, map, Err}
+use Rattle.std.specs.List.{list_all}
+use Rattle.std.specs.Option.{option_map}
+use Rattle.std.specs.Str.{bytes_eq}
+use Rattle.std.proofs.lemmas.List.{take_all, length-take}
+use borrow.Author.Tests.{tests}
+use Rattle.rh_defs.specs.declared.fault.LineFault.TheVariants.{Unknown}
+use Rattle.rh_defs.specs.Line.{words_of, word, is_skipped, command_of, rma_of}
+use Rattle.rh_lines.specs.declared.keyword.Keyword.{Keyword}
+use Rattle.rh_lines.specs.declared.keyword.Keyword.TheVariants.{Task, Kill, Alloc, Load, Put, Free, Extend, Mid, Claim, Release, Resize, Budge, Save, Poll, Cancel, Repeat, Area, Make, Remove, Rma, Show, Blocks, Heap, Status, Areas}
+use Rattle.rh_lines.specs.Keywords.{spelled, names, SpellsNone, command_by}
+use Rattle.rh_lines.specs.Words.{first_words}
+
+-- ---- by the first word
+
+-- the line's command, where its first word is a keyword
+pub by_keyword : (k : Keyword) (words : List (List ℕ)) → word words 1 ≡ spelled k → command_by k words ≡ command_of words
+unfolding command_of
+by_keyword Task words e = rw e refl
+by_keyword Kill words e = rw e refl
+by_keyword Alloc words e = rw e refl
+by_keyword Load words e = rw e refl
+by_keyword Put words e = rw e refl
+by_keyword Free words e = rw e refl
+by_keyword Extend words e = rw e refl
+by_keyword Mid words e = rw e refl
+by_keyword Claim words e = rw e refl
+by_keyword Release words e = rw e refl
+by_keyword Resize words e = rw e refl
+by_keyword Budge words e = rw e refl
+by_keyword Save words e = rw e refl
+by_keyword Poll words e = rw e refl
+by_keyword Cancel words e = rw e refl
+by_keyword Repeat words e = rw e refl
+by_keyword Area words e = rw e refl
+by_keyword Make words e = rw e refl
+by_keyword Remove words e = rw e refl
+by_keyword Rma words e = rw e refl
+by_keyword Show words e = rw e refl
+by_keyword Blocks words e = rw e refl
+by_keyword Heap words e = rw e refl
+by_keyword Status words e = rw e refl
+by_keyword Areas words e = rw e refl
+
+-- a line whose first word is none
+pub by_none : (words : List (List ℕ)) → SpellsNone (word words 1) names → Err Unknown ≡ command_of words
+unfolding command_of
+by_none words h = rw (h.0, h.1.0, h.1.1.0, h.1.1.1.0, h.1.1.1.1.0, h.1.1.1.1.1.0, h.1.1.1.1.1.1.0, h.1.1.1.1.1.1.1.0, h.1.1.1.1.1.1.1.1.0, h.1.1.1.1.1.1.1.1.1.0, h.1.1.1.1.1.1.1.1.1.1.0, h.1.1.1.1.1.1.1.1.1.1.1.0, h.1.1.1.1.1.1.1.1.1.1.1.1.0, h.1.1.1.1.1.1.1.1.1.1.1.1.1.0, h.1.1.1.1.1.1.1.1.1.1.1.1.1.1.0, h.1.1.1.1.1.1.1.1.1.1.1.1.1.1.1.0, h.1.1.1.1.1.1.1.1.1.1.1.1.1.1.1.1.0, h.1.1.1.1.1.1.1.1.1.1.1.1.1.1.1.1.1.0, h.1.1.1.1.1.1.1.1.1.1.1.1.1.1.1.1.1.1.0, h.1.1.1.1.1.1.1.1.1.1.1.1.1.1.1.1.1.1.1.0, h.1.1.1.1.1.1.1.1.1.1.1.1.1.1.1.1.1.1.1.1.0, h.1.1.1.1.1.1.1.1.1.1.1.1.1.1.1.1.1.1.1.1.1.0, h.1.1.1.1.1.1.1.1.1.1.1.1.1.1.1.1.1.1.1.1.1.1.0, h.1.1.1.1.1.1.1.1.1.1.1.1.1.1.1.1.1.1.1.1.1.1.1.0, h.1.1.1.1.1.1.1.1.1.1.1.1.1.1.1.1.1.1.1.1.1.1.1.1.0) refl
+
+-- ---- by the first six words
+
+is_not : (n k : ℕ) → k ≤ 5 → 5 < n → eqb n k ≡ false
+is_not n k few many = let differs : n ≡ k → ⊥ = λ e. omega arith in search (rules, tests)
+
+-- lines with too many words
+too_many : (words others : List (List ℕ)) → word words 1 ≡ word others 1 → word words 2 ≡ word others 2 → 5 < length words → 5 < length others → command_of words ≡ command_of others
+unfolding command_of rma_of
+too_many words others first second many more =
+    let a1 : eqb (length words) 1 ≡ false = is_not (length words) 1 (omega arith) many in
+    let a2 : eqb (length words) 2 ≡ false = is_not (length words) 2 (omega arith) many in
+    let a3 : eqb (length words) 3 ≡ false = is_not (length words) 3 (omega arith) many in
+    let a4 : eqb (length words) 4 ≡ false = is_not (length words) 4 (omega arith) many in
+    let a5 : eqb (length words) 5 ≡ false = is_not (length words) 5 (omega arith) many in
+    let b1 : eqb (length others) 1 ≡ false = is_not (length others) 1 (omega arith) more in
+    let b2 : eqb (length others) 2 ≡ false = is_not (length others) 2 (omega arith) more in
+    let b3 : eqb (length others) 3 ≡ false = is_not (length others) 3 (omega arith) more in
+    let b4 : eqb (length others) 4 ≡ false = is_not (length others) 4 (omega arith) more in
+    let b5 : eqb (length others) 5 ≡ false = is_not (length others) 5 (omega arith) more in
+    rw (a1, a2, a3, a4, a5, b1, b2, b3, b4, b5, first, second) refl
+
+first_same : (words : List (List ℕ)) → word (take 6 words) 1 ≡ word words 1
+first_same [] = refl
+first_same (w ∷ words) = refl
+
+second_same : (words : List (List ℕ)) → word (take 6 words) 2 ≡ word words 2
+second_same [] = refl
+second_same (w ∷ []) = refl
+second_same (w ∷ v ∷ words) = refl
+
+few_or_many : (n : ℕ) → (n ≤ 6) ⊎ (5 < n)
+few_or_many n = grind arith
+
+commands_same : (words : List (List ℕ)) → (length words ≤ 6) ⊎ (5 < length words) → command_of (take 6 words) ≡ command_of words
+commands_same words (inl few) = ap command_of (take_all 6 words few)
+commands_same words (inr many) =
+    too_many (take 6 words) words (first_same words) (second_same words) (grind (arith, length-take)) many
+
+pub command_of-first_words : (line : List ℕ) → command_of (first_words line) ≡ command_of (words_of line)
+unfolding first_words
+command_of-first_words line = commands_same (words_of line) (few_or_many (length (words_of line)))
+
+skipped_same : (words : List (List ℕ)) → is_skipped (take 6 words) ≡ is_skipped words
+skipped_same [] = refl
+skipped_same (w ∷ words) = let longer : eqb (length (w ∷ take 5 words)) 0 ≡ eqb (length (w ∷ words)) 0 = search (rules, tests) in cc
+
+pub is_skipped-first_words : (line : List ℕ) → is_skipped (first_words line) ≡ is_skipped (words_of line)
+unfolding first_words
+is_skipped-first_words line = skipped_same (words_of line)
+
+-- ---- keywords
+
+same_bytes : (a b : List ℕ) → bytes_eq a b ≡ true → a ≡ b
+same_bytes a b e = search (rules, tests)
+
+and_true : (a b : Bool) → (a && b) ≡ true → (a ≡ true) × (b ≡ true)
+and_true true b e = (refl, e)
+and_true false b e = absurd (cc)
+
+found_first : {X : Type 0} (of : X → Keyword) (w text : List ℕ) (x : X) (rest : Option X) (fits : Bool) → bytes_eq w text ≡ fits → text ≡ spelled (of x) → IfSome (option_map of rest) (λ k. w ≡ spelled k) → IfSome (option_map of (cond fits (Some x) rest)) (λ k. w ≡ spelled k)
+found_first of w text x rest true e same h = same_bytes w text e ∙ same
+found_first of w text x rest false e same h = h
+
+-- the first entry that fits is spelled like the word
+pub found_keyword : {X : Type 0} (text : X → List ℕ) (of : X → Keyword) (w : List ℕ) (entries : List X) → list_all (λ e. bytes_eq (text e) (spelled (of e))) entries ≡ true → IfSome (option_map of (find (λ e. bytes_eq w (text e)) entries)) (λ k. w ≡ spelled k)
+found_keyword text of w [] h = tt
+found_keyword text of w (x ∷ entries) h =
+    let both = and_true (bytes_eq (text x) (spelled (of x))) (list_all (λ e. bytes_eq (text e) (spelled (of e))) entries) h in
+    found_first of w (text x) x (find (λ e. bytes_eq w (text e)) entries) (bytes_eq w (text x)) refl (same_bytes (text x) (spelled (of x)) both.0) (found_keyword text of w entries both.1)
+
+no_first : {X : Type 0} (of : X → Keyword) (w text : List ℕ) (x : X) (rest : Option X) (texts : List (List ℕ)) (fits : Bool) → bytes_eq w text ≡ fits → IfNone (option_map of rest) (SpellsNone w texts) → IfNone (option_map of (cond fits (Some x) rest)) (SpellsNone w (text ∷ texts))
+no_first of w text x rest texts true e h = tt
+no_first of w text x None texts false e h = (e, h)
+no_first of w text x (Some y) texts false e h = tt
+
+-- where none fits, none is spelled like the word
+pub no_keyword : {X : Type 0} (text : X → List ℕ) (of : X → Keyword) (w : List ℕ) (entries : List X) → IfNone (option_map of (find (λ e. bytes_eq w (text e)) entries)) (SpellsNone w (map text entries))
+no_keyword text of w [] = tt
+no_keyword text of w (x ∷ entries) =
+    no_first of w (text x) x (find (λ e. bytes_eq w (text e)) entries) (map text entries) (bytes_eq w (text x)) refl (no_keyword text of w entries)
+
+pub ruleset by_words = (is_skipped-first_words, command_of-first_words)

@@ -1,0 +1,50 @@
+-- What a reader has left and what a writer has taken, and what writing some bytes does.
+use Rattle.std.specs.Prelude.{◌≡◌, ℕ, ◌+◌, min, Bool, true, ◌==◌, ◌&&◌, not, List, ◌++◌, Option, Result, Ok, Err, OnOk, OnErr, if◌then◌else◌}
+use Rattle.std.specs.Io.KnownBytes.{Appends}
+
+-- a writer: the bytes that it has taken, where they are known, and whether a call ever failed
+pub record Output : Type 0 where
+  pub taken : Option (List ℕ)
+  pub failed : Bool
+
+-- a reader: the bytes that it has left, where they are known, whether a call ever failed, and how many reads
+-- gave bytes, which stays at 1,000,001 once it is there
+pub record Input : Type 0 where
+  pub left : Option (List ℕ)
+  pub failed : Bool
+  pub reads : ℕ
+
+abbrev pub most_reads : ℕ
+most_reads = 1000001
+
+-- the count after one more read that gave n bytes
+abbrev pub reads_after : ℕ → ℕ → ℕ
+reads_after reads n = if n == 0 then reads else min most_reads (reads + 1)
+
+-- a write of n bytes failed: an error, or bytes were offered and none was taken
+abbrev pub write_failed : {E : Type 0} → Result ℕ E → ℕ → Bool
+write_failed (Ok k) n = (k == 0) && not (n == 0)
+write_failed (Err e) n = true
+
+-- the writer took just these bytes, and no call failed
+pub record Takes (old new : Output) (bytes : List ℕ) : Type 0 where
+  pub taken : Appends old.taken new.taken bytes
+  pub failed : new.failed ≡ old.failed
+
+-- a call failed, and the writer took only a front of these bytes
+pub record Breaks (old new : Output) (bytes : List ℕ) : Type 0 where
+  pub front : List ℕ
+  pub back : List ℕ
+  pub whole : bytes ≡ front ++ back
+  pub taken : Appends old.taken new.taken front
+  pub failed : new.failed ≡ true
+
+-- all of the bytes at Ok, and a front of them at Err, which comes only where the writer failed
+pub record Puts {E : Type 0} (old new : Output) (r : Result Unit E) (bytes : List ℕ) : Type 0 where
+  pub ok : OnOk r (Takes old new bytes)
+  pub err : OnErr r (Breaks old new bytes)
+
+-- what is held: the bytes, and whether some found no room
+pub record Holding : Type 0 where
+  pub bytes : List ℕ
+  pub failed : Bool

@@ -1,0 +1,4 @@
+pub mod Flow
+pub mod Noted
+pub mod Words
+pub mod Keywords

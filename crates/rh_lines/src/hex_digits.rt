@@ -1,0 +1,98 @@
+//! Hexadecimal digits of either case.
+
+ghost use Rattle.std.specs.Prelude.{◌≡◌, ◌<◌, ◌≤◌, length, unwrap_or};
+ghost use Rattle.std.specs.List.{list_all};
+ghost use Rattle.std.specs.Result.{result_ok};
+ghost use Rattle.hex.specs.Hex.{decode_of, pair_value, hex_digit_value, is_hex_digit};
+ghost use Rattle.rh_defs.specs.Line.{hex_number};
+
+use arrayvec::ArrayVec;
+use rh_defs::Bytes;
+
+/// What stands for a byte that is no digit.
+const NO_DIGIT: u8 = 255;
+
+/// The value of each byte as a digit.
+const VALUES: [u8; 256] = [
+    255, 255, 255, 255, 255, 255, 255, 255, 255, 255, 255, 255, 255, 255, 255, 255, 255, 255, 255,
+    255, 255, 255, 255, 255, 255, 255, 255, 255, 255, 255, 255, 255, 255, 255, 255, 255, 255, 255,
+    255, 255, 255, 255, 255, 255, 255, 255, 255, 255, 0, 1, 2, 3, 4, 5, 6, 7, 8, 9, 255, 255, 255,
+    255, 255, 255, 255, 10, 11, 12, 13, 14, 15, 255, 255, 255, 255, 255, 255, 255, 255, 255, 255,
+    255, 255, 255, 255, 255, 255, 255, 255, 255, 255, 255, 255, 255, 255, 255, 255, 10, 11, 12, 13,
+    14, 15, 255, 255, 255, 255, 255, 255, 255, 255, 255, 255, 255, 255, 255, 255, 255, 255, 255,
+    255, 255, 255, 255, 255, 255, 255, 255, 255, 255, 255, 255, 255, 255, 255, 255, 255, 255, 255,
+    255, 255, 255, 255, 255, 255, 255, 255, 255, 255, 255, 255, 255, 255, 255, 255, 255, 255, 255,
+    255, 255, 255, 255, 255, 255, 255, 255, 255, 255, 255, 255, 255, 255, 255, 255, 255, 255, 255,
+    255, 255, 255, 255, 255, 255, 255, 255, 255, 255, 255, 255, 255, 255, 255, 255, 255, 255, 255,
+    255, 255, 255, 255, 255, 255, 255, 255, 255, 255, 255, 255, 255, 255, 255, 255, 255, 255, 255,
+    255, 255, 255, 255, 255, 255, 255, 255, 255, 255, 255, 255, 255, 255, 255, 255, 255, 255, 255,
+    255, 255, 255, 255, 255, 255, 255, 255, 255, 255, 255, 255, 255, 255, 255, 255, 255, 255, 255,
+    255, 255, 255,
+];
+
+/// The value of a digit, and `NO_DIGIT` for any other byte.
+fn digit_value(digit: u8) -> u8
+    ensures { result ≡ unwrap_or (hex_digit_value digit) 255 }
+{
+    VALUES[digit as usize]
+}
+
+/// Whether all of the bytes are digits.
+pub fn are_hex_digits(digits: &[u8]) -> bool
+    ensures { result ≡ list_all is_hex_digit digits.now }
+{
+    digits.iter().all(|b| b.is_ascii_hexdigit())
+}
+
+/// The number that up to 8 digits spell; any other byte counts as 0.
+pub fn hex_number(digits: &[u8]) -> u32
+    requires { length digits.now ≤ 8 }
+    ensures { result ≡ hex_number digits.now }
+{
+    let mut number = 0;
+    for b in digits {
+        number = 16 * number + u32::from(number_of(*b));
+    }
+    number
+}
+
+fn number_of(digit: u8) -> u8
+    ensures value { result ≡ unwrap_or (hex_digit_value digit) 0 }
+    ensures small { result < 16 }
+{
+    let value = digit_value(digit);
+    if value == NO_DIGIT { 0 } else { value }
+}
+
+/// The bytes that up to 1,024 digits spell, two for each byte: none for an odd number of digits or any other byte.
+pub fn hex_bytes(digits: &[u8]) -> Option<Bytes>
+    requires { length digits.now ≤ 1024 }
+    ensures { result ≡ result_ok (decode_of digits.now) }
+{
+    let mut bytes = ArrayVec::new();
+    let mut rest = digits;
+    while let [high, low, tail @ ..] = rest {
+        match pair_value(*high, *low) {
+            Some(byte) => bytes.push(byte),
+            None => return None,
+        }
+        rest = tail;
+    }
+    if rest.is_empty() {
+        Some(Bytes::new(bytes))
+    } else {
+        None
+    }
+}
+
+/// The byte that two digits spell.
+fn pair_value(high: u8, low: u8) -> Option<u8>
+    ensures { result ≡ result_ok (pair_value high low 0) }
+{
+    let high = digit_value(high);
+    let low = digit_value(low);
+    if high == NO_DIGIT || low == NO_DIGIT {
+        return None;
+    }
+    Some(16 * high + low)
+}

@@ -1,0 +1,29 @@
+//! A script's bytes in and out: readers and writers whose bytes are known, lines as commands, and what of a reply
+//! needs no desk as text.
+#![tactic(auto)]
+
+mod areas;
+mod counts;
+mod flagged;
+mod flex;
+mod forms;
+mod heaps;
+mod held;
+mod hex_digits;
+mod keyword;
+mod numbers;
+mod parse;
+mod print;
+mod row;
+mod sink;
+mod source;
+mod tasks;
+mod words;
+
+pub use flagged::Flagged;
+pub use held::Held;
+pub use parse::parse_line;
+pub use print::{print_fault, print_first_line};
+pub use row::Row;
+pub use sink::{Sink, WriteFailed, put};
+pub use source::{ReadFailed, Source};

@@ -1,0 +1,261 @@
+//! Bad lines, and the first lines of replies, as text.
+
+ghost use Rattle.std.specs.Prelude.{◌≡◌, ◌≤◌, ◌++◌, ◌∷◌, [], ◌+◌, codes, length};
+ghost use Rattle.std.specs.Fmt.{decimal};
+ghost use Rattle.rh_defs.specs.Listing.{Nothing};
+ghost use Rattle.rh_defs.specs.Messages.{code_number};
+ghost use Rattle.rh_defs.specs.Text.{address, ok, action_name, fault_text, first_line, outcome_words, refusal_name, rest_of_line};
+ghost use Rattle.rh_lines.specs.Flow.{Puts};
+
+use crate::row::Row;
+use crate::sink::{Sink, WriteFailed, put};
+use rh_defs::{Action, EventCode, LineFault, Outcome, Ref, Refusal, Reply};
+
+/// Writes the reply of a bad line, `bad FAULT`. Fails only where the writer failed or took none
+/// of what it was offered; a front of the text is then written.
+#[tactic(auto, unfolding(rh_defs::specs::Text::fault_text))]
+pub fn print_fault<W: Sink>(fault: &LineFault, writer: &mut W) -> Result<(), WriteFailed>
+    ensures { Puts (W.output writer.old) (W.output writer.new) result (fault_text fault.now) }
+{
+    match fault {
+        LineFault::TooLong => put(writer, b"bad TooLong\n"),
+        LineFault::Unended => put(writer, b"bad Unended\n"),
+        LineFault::Unknown => put(writer, b"bad Unknown\n"),
+        LineFault::Count => put(writer, b"bad Count\n"),
+        LineFault::Word(n) => {
+            let mut row = Row::new();
+            row.text(b"bad Word ");
+            row.decimal(u32::from(*n));
+            row.byte(b'\n');
+            put(writer, row.as_slice())
+        }
+    }
+}
+
+/// Writes the first line of a reply, without the bytes that a block shows. Fails only where the writer failed or took
+/// none of what it was offered; a front of the line is then written.
+#[tactic(auto, unfolding(rh_defs::specs::Text::first_line))]
+pub fn print_first_line<W: Sink>(reply: &Reply, writer: &mut W) -> Result<(), WriteFailed>
+    ensures { Puts (W.output writer.old) (W.output writer.new) result (first_line reply.now Nothing) }
+{
+    match reply {
+        Reply::Refused(refusal) => print_refusal(*refusal, writer),
+        Reply::Done => put(writer, b"ok\n"),
+        Reply::Block { address } => print_address(*address, writer),
+        Reply::WasBudging(true) => put(writer, b"ok on\n"),
+        Reply::WasBudging(false) => put(writer, b"ok off\n"),
+        Reply::HeapSums {
+            length,
+            largest,
+            free,
+        } => print_numbers(*length, *largest, *free, writer),
+        Reply::NoEvent => put(writer, b"ok 0\n"),
+        Reply::Event {
+            code,
+            action,
+            my_ref,
+            your_ref,
+            outcome,
+        } => print_event(*code, *action, *my_ref, *your_ref, outcome, writer),
+        Reply::Started(handle) | Reply::StatusOf(handle) => print_number(handle.0, writer),
+        Reply::Sent(number) => print_number(number.0, writer),
+        Reply::Moved { bytes: number }
+        | Reply::Made { number }
+        | Reply::Shown { size: number }
+        | Reply::BlockCount(number)
+        | Reply::FreePages(number) => print_number(*number, writer),
+    }
+}
+
+fn print_refusal<W: Sink>(refusal: Refusal, writer: &mut W) -> Result<(), WriteFailed>
+    ensures { Puts (W.output writer.old) (W.output writer.new) result (codes "refused " ++ (refusal_name refusal ++ codes "\n")) }
+{
+    let mut row = Row::new();
+    row.text(b"refused ");
+    row.text(refusal_name(refusal));
+    row.byte(b'\n');
+    put(writer, row.as_slice())
+}
+
+fn print_number<W: Sink>(number: u32, writer: &mut W) -> Result<(), WriteFailed>
+    ensures { Puts (W.output writer.old) (W.output writer.new) result (ok (decimal number ∷ [])) }
+{
+    let mut row = Row::new();
+    row.text(b"ok ");
+    row.decimal(number);
+    row.byte(b'\n');
+    put(writer, row.as_slice())
+}
+
+fn print_address<W: Sink>(number: u32, writer: &mut W) -> Result<(), WriteFailed>
+    ensures { Puts (W.output writer.old) (W.output writer.new) result (ok (address number ∷ [])) }
+{
+    let mut row = Row::new();
+    row.text(b"ok ");
+    row.address(number);
+    row.byte(b'\n');
+    put(writer, row.as_slice())
+}
+
+fn print_numbers<W: Sink>(
+    first: u32,
+    second: u32,
+    third: u32,
+    writer: &mut W,
+) -> Result<(), WriteFailed>
+    ensures { Puts (W.output writer.old) (W.output writer.new) result (ok (decimal first ∷ decimal second ∷ decimal third ∷ [])) }
+{
+    let mut row = Row::new();
+    row.text(b"ok ");
+    row.decimal(first);
+    row.byte(b' ');
+    row.decimal(second);
+    row.byte(b' ');
+    row.decimal(third);
+    row.byte(b'\n');
+    put(writer, row.as_slice())
+}
+
+/// What a poll took, and what it did with it.
+fn print_event<W: Sink>(
+    code: EventCode,
+    action: Action,
+    my_ref: Ref,
+    your_ref: Ref,
+    outcome: &Outcome,
+    writer: &mut W,
+) -> Result<(), WriteFailed>
+    ensures { Puts (W.output writer.old) (W.output writer.new) result
+        (ok (decimal (code_number code) ∷ action_name action ∷ decimal my_ref ∷ decimal your_ref ∷ outcome_words outcome.now)) }
+{
+    let mut row = Row::new();
+    row.text(b"ok ");
+    row.decimal(code.number());
+    row.byte(b' ');
+    row.text(action_name(action));
+    row.byte(b' ');
+    row.decimal(my_ref.0);
+    row.byte(b' ');
+    row.decimal(your_ref.0);
+    add_outcome(outcome, &mut row);
+    put(writer, row.as_slice())
+}
+
+/// Ends the line with the words of an outcome.
+fn add_outcome(outcome: &Outcome, row: &mut Row)
+    requires { length row.old ≤ 50 }
+    ensures { row.new ≡ row.old ++ rest_of_line (outcome_words outcome.now) }
+{
+    match outcome {
+        Outcome::Ignored => row.text(b" ignored\n"),
+        Outcome::Failed => row.text(b" failed\n"),
+        Outcome::Drained => row.text(b" drained\n"),
+        Outcome::Done => row.text(b" done\n"),
+        Outcome::Refused(refusal) => add_failed(*refusal, row),
+        Outcome::Fetch(fetch) => add_ref(b" fetch ", *fetch, row),
+        Outcome::Asked(ack) => add_ref(b" asked ", *ack, row),
+        Outcome::Sent { count, transmit } => {
+            add_count(b" sent ", *count, row);
+            add_ref(b" ", *transmit, row);
+        }
+        Outcome::Saved { count, load } => {
+            add_count(b" saved ", *count, row);
+            add_ref(b" ", *load, row);
+        }
+        Outcome::TookFull { count, fetch } => {
+            add_count(b" took ", *count, row);
+            add_ref(b" fetch ", *fetch, row);
+        }
+        Outcome::TookLast { count } => {
+            add_count(b" took ", *count, row);
+            row.text(b" done\n");
+        }
+        Outcome::Loaded { count } => {
+            add_count(b" loaded ", *count, row);
+            row.text(b" done\n");
+        }
+        Outcome::TookFailed { count, refusal } => {
+            add_count(b" took ", *count, row);
+            add_failed(*refusal, row);
+        }
+        Outcome::LoadedFailed { count, refusal } => {
+            add_count(b" loaded ", *count, row);
+            add_failed(*refusal, row);
+        }
+    }
+}
+
+fn add_count(word: &[u8], count: u32, row: &mut Row)
+    requires short { length word.now ≤ 8 }
+    requires room { length row.old ≤ 50 }
+    ensures value { row.new ≡ row.old ++ (word.now ++ decimal count) }
+    ensures few { length row.new ≤ length row.old + 19 }
+{
+    row.text(word);
+    row.decimal(count);
+}
+
+fn add_ref(word: &[u8], number: Ref, row: &mut Row)
+    requires short { length word.now ≤ 8 }
+    requires room { length row.old ≤ 70 }
+    ensures { row.new ≡ row.old ++ (word.now ++ (decimal number ++ codes "\n")) }
+{
+    row.text(word);
+    row.decimal(number.0);
+    row.byte(b'\n');
+}
+
+fn add_failed(refusal: Refusal, row: &mut Row)
+    requires { length row.old ≤ 70 }
+    ensures { row.new ≡ row.old ++ (codes " failed " ++ (refusal_name refusal ++ codes "\n")) }
+{
+    row.text(b" failed ");
+    row.text(refusal_name(refusal));
+    row.byte(b'\n');
+}
+
+fn action_name(action: Action) -> &'static [u8]
+    ensures value { result.now ≡ action_name action }
+    ensures short { length result.now ≤ 11 }
+{
+    match action {
+        Action::DataSave => b"DataSave",
+        Action::DataSaveAck => b"DataSaveAck",
+        Action::DataLoad => b"DataLoad",
+        Action::DataLoadAck => b"DataLoadAck",
+        Action::RamFetch => b"RAMFetch",
+        Action::RamTransmit => b"RAMTransmit",
+    }
+}
+
+fn refusal_name(refusal: Refusal) -> &'static [u8]
+    ensures value { result.now ≡ refusal_name refusal }
+    ensures short { length result.now ≤ 15 }
+{
+    match refusal {
+        Refusal::NameInUse => b"NameInUse",
+        Refusal::NoName => b"NoName",
+        Refusal::TooManyTasks => b"TooManyTasks",
+        Refusal::NoHandles => b"NoHandles",
+        Refusal::NoFile => b"NoFile",
+        Refusal::NoBlock => b"NoBlock",
+        Refusal::AnchorInUse => b"AnchorInUse",
+        Refusal::NotABlock => b"NotABlock",
+        Refusal::NotYours => b"NotYours",
+        Refusal::Busy => b"Busy",
+        Refusal::NotOpen => b"NotOpen",
+        Refusal::NothingSent => b"NothingSent",
+        Refusal::BadRange => b"BadRange",
+        Refusal::BadSize => b"BadSize",
+        Refusal::ExcessiveShrink => b"ExcessiveShrink",
+        Refusal::NoTask => b"NoTask",
+        Refusal::NoRefs => b"NoRefs",
+        Refusal::QueueFull => b"QueueFull",
+        Refusal::NoBudge => b"NoBudge",
+        Refusal::NoRoom => b"NoRoom",
+        Refusal::NoArea => b"NoArea",
+        Refusal::TooManyAreas => b"TooManyAreas",
+        Refusal::NoNumbers => b"NoNumbers",
+        Refusal::TooBig => b"TooBig",
+    }
+}

@@ -1,0 +1,82 @@
+//! The words of a line, which spaces part.
+
+ghost use Rattle.std.specs.Prelude.{◌≡◌, ◌<◌, ◌≤◌, ◌++◌, ◌∷◌, [], length, map, All};
+ghost use Rattle.rh_defs.specs.Line.{words_of, word};
+ghost use Rattle.rh_lines.specs.Words.{first_words, piece_words};
+
+use arrayvec::ArrayVec;
+use memchr::memchr;
+use std::marker::Model;
+
+/// No command has more than five words: a sixth one is a word too many, and more are not looked at.
+const MOST_WORDS: usize = 6;
+
+/// The words of a line, up to the sixth.
+#[derive(Drop)]
+pub struct Words<'a> {
+    found: ArrayVec<&'a [u8], MOST_WORDS>,
+}
+
+impl<'a> Model for Words<'a> {
+    ghost use Rattle.std.specs.Prelude.{◌≤◌, ℕ, List, map, length, All};
+
+    ghost Value = { List (List ℕ) };
+
+    ghost view = { λ s. map (λ w. w.now) s.found.items };
+
+    ghost invariant = { λ s. All (λ w. length w.now ≤ 1024) s.found.items };
+}
+
+impl<'a> Words<'a> {
+    /// The words of a line of at most 1,024 bytes.
+    pub fn new(line: &'a [u8]) -> Words<'a>
+        requires { length line.now ≤ 1024 }
+        ensures { result ≡ first_words line.now }
+    {
+        let mut found = ArrayVec::new();
+        let mut rest = line;
+        'pieces: loop {
+            let Some(end) = memchr(b' ', rest) else {
+                push_word(&mut found, rest);
+                return Words { found };
+            };
+            push_word(&mut found, &rest[..end]);
+            if found.is_full() {
+                return Words { found };
+            }
+            rest = &rest[end + 1..];
+        }
+    }
+
+    /// How many words the line has, where it has fewer than six.
+    pub fn count(&self) -> usize
+        ensures { result ≡ length self.now }
+    {
+        self.found.len()
+    }
+
+    /// Word `n`, counted from 1, or no bytes.
+    pub fn word(&self, n: u8) -> &'a [u8]
+        requires { 0 < n }
+        ensures value { result.now ≡ word self.now n }
+        ensures short { length result.now ≤ 1024 }
+    {
+        match self.found.get(n as usize - 1) {
+            Some(word) => word,
+            None => &[],
+        }
+    }
+}
+
+/// Adds what stands between two spaces, unless that is nothing.
+fn push_word<'a>(found: &mut ArrayVec<&'a [u8], MOST_WORDS>, piece: &'a [u8])
+    requires room { length found.old.items < 6 }
+    requires few { length piece.now ≤ 1024 }
+    requires short { All (λ w. length w.now ≤ 1024) found.old.items }
+    ensures items { map (λ w. w.now) found.new.items ≡ map (λ w. w.now) found.old.items ++ piece_words piece.now }
+    ensures short { All (λ w. length w.now ≤ 1024) found.new.items }
+{
+    if !piece.is_empty() {
+        found.push(piece);
+    }
+}

@@ -1,0 +1,45 @@
+//! A run of a whole script over a fresh desk.
+
+ghost use Rattle.std.specs.Prelude.{◌≡◌, ◌≤◌, true, IfOk, IsErrOf};
+ghost use Rattle.rh_defs.specs.Runs.{start};
+ghost use Rattle.rh_session.specs.Outcome.{Answered, Finished, BrokeOff};
+
+use crate::world::PagedWorld;
+use rh_defs::Files;
+use rh_lines::{Sink, Source};
+use rh_session::{RunFault, Status, run_script};
+use std::alloc::Global;
+
+/// Runs a script over a fresh desk of 8 to 1,024 pages, and writes the answer of each line before it reads on.
+/// It takes memory before its first read only, and gives up after 1,000,000 reads that gave bytes.
+pub fn run<R: Source, W: Sink>(
+    alloc: Global,
+    files: Files,
+    reader: &mut R,
+    writer: &mut W,
+    pages: u32,
+) -> Result<Status, RunFault>
+    requires least { 8 ≤ pages }
+    requires most { pages ≤ 1024 }
+    requires fresh { (R.input reader.old).reads ≡ 0 }
+
+    // The whole script was read, and its text was written.
+    ensures ok { IfOk result (λ status. Finished (start pages files) (R.input reader.old) (R.input reader.new) (W.output writer.old) (W.output writer.new) status) }
+
+    // Nothing was read or written.
+    ensures no_memory { IsErrOf result RunFault.NoMemory → (R.input reader.new ≡ R.input reader.old) × (W.output writer.new ≡ W.output writer.old) }
+
+    // The complete lines that were read have been answered.
+    ensures read_failed { IsErrOf result RunFault.ReadFailed → (R.input reader.new).failed ≡ true }
+    ensures read_answered { IsErrOf result RunFault.ReadFailed → Answered (start pages files) (R.input reader.old) (R.input reader.new) (W.output writer.old) (W.output writer.new) }
+    ensures too_long { IsErrOf result RunFault.TooLong → ((R.input reader.new).reads ≡ 1000000) × ((R.input reader.new).failed ≡ (R.input reader.old).failed) }
+    ensures long_answered { IsErrOf result RunFault.TooLong → Answered (start pages files) (R.input reader.old) (R.input reader.new) (W.output writer.old) (W.output writer.new) }
+
+    // The writer failed, and took a front of the script's text.
+    ensures write_failed { IsErrOf result RunFault.WriteFailed → BrokeOff (start pages files) (R.input reader.old) (W.output writer.old) (W.output writer.new) }
+{
+    match PagedWorld::new(alloc, files, pages) {
+        Ok(world) => run_script(alloc, world, reader, writer),
+        Err(_) => Err(RunFault::NoMemory),
+    }
+}

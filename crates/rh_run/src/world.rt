@@ -1,0 +1,48 @@
+//! A world as what a script is run over.
+
+ghost use Rattle.std.specs.Prelude.{◌≡◌, ◌≤◌, IfOk};
+ghost use Rattle.rh_defs.specs.Runs.{start};
+
+use rh_defs::{Command, Files, Reply};
+use rh_lines::{Sink, WriteFailed};
+use rh_pages::PagedStore;
+use rh_script::print_reply;
+use rh_session::Desktop;
+use rh_tasks::World;
+use std::alloc::{AllocError, Global};
+
+/// A world over scattered pages.
+#[derive(Drop)]
+pub struct PagedWorld {
+    world: World<PagedStore>,
+}
+
+impl PagedWorld {
+    /// The first desk of 8 to 1,024 pages with these files. No later call takes memory.
+    pub fn new(alloc: Global, files: Files, pages: u32) -> Result<Self, AllocError>
+        requires least { 8 ≤ pages }
+        requires most { pages ≤ 1024 }
+        ensures { IfOk result (λ found. found.world.desk ≡ start pages files) }
+    {
+        let store = PagedStore::new(alloc, pages as usize)?;
+        let world = World::new(alloc, store, files)?;
+        Ok(PagedWorld { world })
+    }
+}
+
+impl Desktop for PagedWorld {
+    ghost spells = { λ w d. w.world.desk ≡ d };
+
+    fn apply(&mut self, command: &Command) -> Reply {
+        self.world.apply(command)
+    }
+
+    fn print_reply<W: Sink>(
+        &self,
+        command: &Command,
+        reply: &Reply,
+        writer: &mut W,
+    ) -> Result<(), WriteFailed> {
+        print_reply(&self.world, command, reply, writer)
+    }
+}

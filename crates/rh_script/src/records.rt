@@ -1,0 +1,129 @@
+//! The records of transfers as lines of text.
+
+ghost use Rattle.std.specs.Prelude.{◌≡◌, ◌≤◌, ◌++◌, ◌∷◌, [], codes, find, length, map};
+ghost use Rattle.std.specs.Fmt.{decimal};
+ghost use Rattle.rh_defs.specs.Desk.{has_name};
+ghost use Rattle.rh_defs.specs.Listing.{in_item as in_item_of, out_item as out_item_of, of_named, records_of};
+ghost use Rattle.rh_defs.specs.Text.{later_lines, record_line, record_lines, state_name as state_name_of};
+ghost use Rattle.rh_lines.specs.Flow.{Puts};
+
+use rh_defs::{Incoming, Name, Outgoing, RecordItem, State};
+use rh_lines::{Row, Sink, WriteFailed, put};
+use rh_store::Store;
+use rh_tasks::World;
+
+/// Writes a line for each record of the task's transfers, those that go out before those that come in.
+pub fn print_records<S: Store, W: Sink>(
+    world: &World<S>,
+    name: &Name,
+    writer: &mut W,
+) -> Result<(), WriteFailed>
+    ensures { Puts (W.output writer.old) (W.output writer.new) result
+        (later_lines (of_named name.now world.now.desk records_of)) }
+{
+    match world.status(name) {
+        Ok((_, outgoing, incoming)) => print_both(outgoing, incoming, writer),
+        Err(_) => Ok(()),
+    }
+}
+
+fn print_both<W: Sink>(
+    outgoing: &[Outgoing],
+    incoming: &[Incoming],
+    writer: &mut W,
+) -> Result<(), WriteFailed>
+    ensures { Puts (W.output writer.old) (W.output writer.new) result
+        (record_lines (codes "out") (map out_item_of outgoing.now) ++ record_lines (codes "in") (map in_item_of incoming.now)) }
+{
+    print_outgoing(outgoing, writer)?;
+    print_incoming(incoming, writer)
+}
+
+fn print_outgoing<W: Sink>(records: &[Outgoing], writer: &mut W) -> Result<(), WriteFailed>
+    ensures { Puts (W.output writer.old) (W.output writer.new) result
+        (record_lines (codes "out") (map out_item_of records.now)) }
+{
+    if records.is_empty() {
+        return put(writer, b"  out idle\n");
+    }
+    for each in records {
+        print_record(b"out", &out_item(each), writer)?;
+    }
+    Ok(())
+}
+
+fn print_incoming<W: Sink>(records: &[Incoming], writer: &mut W) -> Result<(), WriteFailed>
+    ensures { Puts (W.output writer.old) (W.output writer.new) result
+        (record_lines (codes "in") (map in_item_of records.now)) }
+{
+    if records.is_empty() {
+        return put(writer, b"  in idle\n");
+    }
+    for each in records {
+        print_record(b"in", &in_item(each), writer)?;
+    }
+    Ok(())
+}
+
+fn out_item(each: &Outgoing) -> RecordItem
+    ensures { result ≡ out_item_of each.now }
+{
+    let (state, id, count) = match each {
+        Outgoing::Open(sending) => (State::Open, sending.id, sending.count),
+        Outgoing::Done { id, count } => (State::Done, *id, *count),
+        Outgoing::Failed { id, count } => (State::Failed, *id, *count),
+    };
+    RecordItem { state, id, count }
+}
+
+fn in_item(each: &Incoming) -> RecordItem
+    ensures { result ≡ in_item_of each.now }
+{
+    let (state, id, count) = match each {
+        Incoming::Fetching(taking) => (State::Fetching, taking.id, taking.count),
+        Incoming::Draining(taking) => (State::Draining, taking.id, taking.count),
+        Incoming::Asking(asked) => (State::Asking, asked.id, 0),
+        Incoming::Done {
+            id,
+            anchor: _,
+            count,
+        } => (State::Done, *id, *count),
+        Incoming::Failed {
+            id,
+            anchor: _,
+            count,
+        } => (State::Failed, *id, *count),
+    };
+    RecordItem { state, id, count }
+}
+
+fn print_record<W: Sink>(way: &[u8], item: &RecordItem, writer: &mut W) -> Result<(), WriteFailed>
+    requires { length way.now ≤ 3 }
+    ensures { Puts (W.output writer.old) (W.output writer.new) result (record_line way.now item.now) }
+{
+    let mut row = Row::new();
+    row.text(b"  ");
+    row.text(way);
+    row.byte(b' ');
+    row.text(state_name(item.state));
+    row.byte(b' ');
+    row.decimal(item.id.0);
+    row.byte(b' ');
+    row.decimal(item.count);
+    row.byte(b'\n');
+    put(writer, row.as_slice())
+}
+
+fn state_name(state: State) -> &'static [u8]
+    ensures value { result.now ≡ state_name_of state }
+    ensures short { length result.now ≤ 8 }
+{
+    match state {
+        State::Open => b"open",
+        State::Fetching => b"fetching",
+        State::Draining => b"draining",
+        State::Asking => b"asking",
+        State::Done => b"done",
+        State::Failed => b"failed",
+    }
+}

@@ -1,0 +1,4 @@
+pub mod SessionLemmas
+pub mod HoldLemmas
+pub mod TakeLemmas
+pub mod RunLemmas

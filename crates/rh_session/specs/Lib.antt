@@ -1,0 +1,5 @@
+pub mod Holding
+pub mod Session
+pub mod Kept
+pub mod Answer
+pub mod Outcome

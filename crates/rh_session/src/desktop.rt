@@ -1,0 +1,36 @@
+//! What a script is run over.
+
+ghost use Rattle.std.specs.Prelude.{◌≡◌, false, IsTrue};
+ghost use Rattle.rh_defs.specs.Desk.{Desk};
+ghost use Rattle.rh_defs.specs.Known.{uses_post};
+ghost use Rattle.rh_defs.specs.Range.{in_range};
+ghost use Rattle.rh_defs.specs.Step.{step};
+ghost use Rattle.rh_defs.specs.Text.{reply_text};
+ghost use Rattle.rh_lines.specs.Flow.{Puts};
+
+use rh_defs::{Command, Reply};
+use rh_lines::{Sink, WriteFailed};
+
+/// What applies commands and prints their replies.
+pub trait Desktop: Drop {
+    // The desks that this may be seen as: one, up to what no reply shows.
+    ghost spells: { Self → Desk → Type 0 };
+
+    /// Applies a command that is in range and known, and answers its reply.
+    fn apply(&mut self, command: &Command) -> Reply
+        requires in_range { IsTrue (in_range command.now) }
+        requires known { uses_post command.now ≡ false }
+        ensures reply { (d : Desk) → spells self.old d → result ≡ (step d command.now).1 }
+        ensures desk { (d : Desk) → spells self.old d → spells self.new (step d command.now).0 };
+
+    /// Writes the reply to the command that was just applied. Fails only where the writer failed or took none of what
+    /// it was offered; a front of the text is then written.
+    fn print_reply<W: Sink>(
+        &self,
+        command: &Command,
+        reply: &Reply,
+        writer: &mut W,
+    ) -> Result<(), WriteFailed>
+        ensures { (d : Desk) → spells self.now d → Puts (W.output writer.old) (W.output writer.new) result
+            (reply_text d command.now reply.now) };
+}

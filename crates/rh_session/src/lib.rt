@@ -1,0 +1,14 @@
+//! A run of a script, line by line, over any desktop that applies commands and prints their replies.
+#![tactic(auto)]
+
+mod answer;
+mod desktop;
+mod known;
+mod line;
+mod running;
+mod session;
+mod status;
+
+pub use desktop::Desktop;
+pub use running::run_script;
+pub use status::{RunFault, Status};

@@ -1,0 +1,74 @@
+//! The line that is being read.
+
+ghost use Rattle.std.specs.Prelude.{◌≡◌, ◌≤◌, [], ◌++◌, false, length, IfOk, IfSome, IsTrue};
+ghost use Rattle.rh_defs.specs.Known.{line_known, uses_post};
+ghost use Rattle.rh_defs.specs.Range.{in_range};
+ghost use Rattle.rh_session.specs.Session.{kept};
+
+use crate::known::known_line;
+use rh_defs::{Command, LineFault};
+use std::alloc::{AllocError, Global};
+use std::marker::Model;
+
+/// One byte more than a line may have shows that it has too many.
+const ROOM: usize = 1025;
+
+/// The line so far, up to one byte more than a line may have. It takes no memory once it is made.
+#[derive(Drop)]
+pub struct LineBuffer {
+    bytes: Vec<u8>,
+}
+
+impl Model for LineBuffer {
+    ghost use Rattle.std.specs.Prelude.{List, ℕ, ◌≤◌, vec_len, vec_capacity};
+
+    ghost Value = { List ℕ };
+
+    ghost view = { λ s. s.bytes.items };
+
+    ghost invariant = { λ s. (vec_len s.bytes ≤ 1025) × (1025 ≤ vec_capacity s.bytes) };
+}
+
+impl LineBuffer {
+    /// An empty line, with room for 1,025 bytes.
+    pub fn new(alloc: Global) -> Result<Self, AllocError>
+        ensures { IfOk result (λ line. line ≡ []) }
+    {
+        let bytes = Vec::with_capacity(alloc, ROOM)?;
+        Ok(LineBuffer { bytes })
+    }
+
+    /// The bytes that are kept.
+    pub fn as_slice(&self) -> &[u8]
+        ensures value { result.now ≡ self.now }
+        ensures short { length self.now ≤ 1025 }
+    {
+        self.bytes.as_slice()
+    }
+
+    /// More bytes of the line. Those past the 1,025th are not kept: the line is too long anyway.
+    pub fn add(&mut self, bytes: &[u8])
+        ensures value { self.new ≡ kept (self.old ++ bytes.now) }
+        ensures short { length self.old ≤ 1025 }
+    {
+        let room = ROOM - self.bytes.len();
+        let part = &bytes[..room.min(bytes.len())];
+        let _fits = self.bytes.extend_from_slice(part);
+    }
+
+    /// What the line means that ends with these bytes. The next line begins.
+    pub fn end(&mut self, bytes: &[u8]) -> Result<Option<Command>, LineFault>
+        ensures means { result ≡ line_known (self.old ++ bytes.now) }
+        ensures in_range { IfOk result (λ found. IfSome found (λ command. IsTrue (in_range command))) }
+        ensures known { IfOk result (λ found. IfSome found (λ command. uses_post command ≡ false)) }
+        ensures next { self.new ≡ [] }
+    {
+        if self.as_slice().is_empty() {
+            return known_line(bytes);
+        }
+        self.add(bytes);
+        let meaning = known_line(self.as_slice());
+        self.bytes.clear();
+        meaning
+    }
+}

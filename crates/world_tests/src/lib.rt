@@ -1,0 +1,7 @@
+//! Tests of the world over a plain store and over scattered pages: what the program asks of it.
+#![tactic(auto)]
+
+#[cfg(test)]
+mod calls;
+#[cfg(test)]
+mod stores;
