@@ -2,7 +2,7 @@
 use Rattle.std.proofs.Common.{◌≡◌, ℕ, ◌-◌, Bool, cond, refl, ap, sym, subst, List, length}
 use Rattle.std.specs.Prelude.{Option, Some, None, ℤ, Ok, ◌==◌, nat_lt}
 use Rattle.rh_defs.specs.declared.refusal.Refusal.{Refusal}
-use Rattle.rh_defs.specs.declared.refusal.Refusal.TheVariants.{NotABlock, NotYours}
+use Rattle.rh_defs.specs.declared.refusal.Refusal.TheVariants.{NotABlock, NotYours, NoRoom}
 use Rattle.rh_defs.specs.declared.command.Command.{Command}
 use Rattle.rh_defs.specs.declared.command.Command.TheVariants as command
 use Rattle.rh_defs.specs.declared.command.Manner.{Manner}
@@ -25,7 +25,7 @@ use Rattle.rh_defs.specs.Post.{Post, post_join}
 use Rattle.rh_defs.specs.Desk.{Desk, Task, Scrap, free_pages, named, with_task, with_post, kept_scrap, with_delivered, send_letter}
 use Rattle.rh_defs.specs.Commands.{Answer, start_task, kill, alloc, load, put, free, extend, mid, claim, release, resize, budge, module_area, module_start, change_module, change_pages, change_made, change_area, make, remove, own_block, rma_claim, rma_free, rma_resize, show, blocks, heap_sums, status}
 use Rattle.rh_defs.specs.OutgoingEvents.{Handled, transmit, refused, answer_fetch, fail_sending, save_scrap, answer_ack, finish_load}
-use Rattle.rh_defs.specs.IncomingEvents.{ended, accept, take_save, appended, fetch_more, took, take_bytes, ask, fetch_back, ack_back, loaded, load_file, take_file}
+use Rattle.rh_defs.specs.IncomingEvents.{ended, accept, take_save, appended, fetch_more, took, is_uncountable, take_bytes, ask, fetch_back, ack_back, loaded, load_file, take_file}
 use Rattle.rh_defs.specs.Transfer.{came, came_back, handled}
 use Rattle.rh_defs.specs.Step.{save, repeat, event, poll_taken, poll, cancel_in, cancel_out, change, step}
 use Rattle.rh_defs.specs.Order.{SameForEach, requeued, with_queue, IsReordered, StepsAlike, IgnoresOrder}
@@ -131,7 +131,9 @@ take_bytes-alike : (d : Desk) (queue : List Parcel) (t : Task) (m : Parcel) (n :
 unfolding take_bytes ended with_task
 take_bytes-alike d queue t m n None same = Alike.alike d queue _ same
 take_bytes-alike d queue t m n (Some (incoming.Fetching f)) same =
-    or_else-follows Alike _ _ (follows-desk _ _ (appended-alike d queue same t f.anchor _) λ longer q s. Follows.both (took-alike longer q s t m f n))
+    or_else-follows Alike _ _
+    (follows-same (refuse_if (is_uncountable f n) NoRoom) _ _
+    λ _. follows-desk _ _ (appended-alike d queue same t f.anchor _) λ longer q s. Follows.both (took-alike longer q s t m f n))
     (λ refusal. Alike.alike _ queue _ same)
 take_bytes-alike d queue t m n (Some (incoming.Draining f)) same = Alike.alike _ queue _ same
 take_bytes-alike d queue t m n (Some (incoming.Asking q)) same = Alike.alike d queue _ same

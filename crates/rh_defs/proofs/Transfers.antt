@@ -23,7 +23,7 @@ use Rattle.rh_defs.specs.OutgoingEvents.{Handled, refused as failed_by, portion,
 use Rattle.rh_defs.specs.IncomingEvents.{without_buffer, ended, accept, take_save, appended, fetch_more, took, take_bytes, ask, fetch_back, ack_back, loaded, load_file, take_file}
 use Rattle.rh_defs.specs.Transfer.{came, came_back, handled}
 use Rattle.rh_defs.specs.Laws.{IsDesk}
-use Rattle.rh_defs.proofs.Chains.{OnGrant, granted, granted-then, granted-with, granted-both, granted-past, found_or-grants, or_else-keeps, chosen}
+use Rattle.rh_defs.proofs.Chains.{OnGrant, granted, granted-then, granted-with, granted-both, granted-past, granted-unless, found_or-grants, or_else-keeps, chosen}
 use Rattle.rh_defs.proofs.PostKeeps.{sendable-grants}
 use Rattle.rh_defs.proofs.SlotKeeps.{slot_alloc-grants, slot_claim-grants, slot_extend-grants, slot_put-grants, written_in-kept, without_buffer-kept}
 use Rattle.rh_defs.proofs.Desks.{IsTask, areas-keep, with_task-keeps, with_sending-keeps, with_taking-keeps, with_slot-keeps, roomed-then, roomed-after, send_letter-keeps}
@@ -172,7 +172,8 @@ take_bytes-keeps : (d : Desk) (t : Task) (m : Parcel) (n : ℕ) (o : Option Inco
 unfolding take_bytes
 take_bytes-keeps d t m n None task is = after-is is
 take_bytes-keeps d t m n (Some (incoming.Fetching f)) task is =
-    or_else-keeps IsAfter _ (granted-with _ (appended-keeps d t f.anchor _ task is) λ longer ok. granted (took-keeps longer t m f n ok))
+    or_else-keeps IsAfter _
+    (granted-unless _ _ _ λ small. granted-with _ (appended-keeps d t f.anchor _ task is) λ longer ok. granted (took-keeps longer t m f n ok))
     (λ refusal. after-is (ended-keeps t.handle f _ d is))
 take_bytes-keeps d t m n (Some (incoming.Draining f)) task is = after-is (ended-keeps t.handle f _ d is)
 take_bytes-keeps d t m n (Some (incoming.Asking q)) task is = after-is is

@@ -1,6 +1,6 @@
 -- What a message does to a transfer that comes in.
-use Rattle.std.specs.Prelude.{ℕ, ◌+◌, Bool, true, false, nat_lt, ◌==◌, if◌then◌else◌, List, length, Option, Some, None, Ok}
-use Rattle.rh_defs.specs.declared.refusal.Refusal.TheVariants.{AnchorInUse}
+use Rattle.std.specs.Prelude.{ℕ, ◌+◌, ◌^◌, Bool, true, false, nat_lt, nat_le, ◌==◌, if◌then◌else◌, List, length, Option, Some, None, Ok}
+use Rattle.rh_defs.specs.declared.refusal.Refusal.TheVariants.{AnchorInUse, NoRoom}
 use Rattle.rh_defs.specs.declared.command.Manner.{Manner}
 use Rattle.rh_defs.specs.declared.command.Manner.TheVariants as manner
 use Rattle.rh_defs.specs.declared.reply.Outcome.TheVariants as outcome
@@ -8,7 +8,7 @@ use Rattle.rh_defs.specs.declared.transfer.Taking.{Taking}
 use Rattle.rh_defs.specs.declared.transfer.Asked.{Asked}
 use Rattle.rh_defs.specs.declared.transfer.Incoming.{Incoming}
 use Rattle.rh_defs.specs.declared.transfer.Incoming.TheVariants as incoming
-use Rattle.rh_defs.specs.Chain.{Granted, ◌>>=◌, found_or, or_else, result_or}
+use Rattle.rh_defs.specs.Chain.{Granted, ◌>>=◌, refuse_if, found_or, or_else, result_or}
 use Rattle.rh_defs.specs.Slot.{Slot, heap_block_at, slot_block, slot_alloc, slot_claim, slot_release, slot_extend, slot_put}
 use Rattle.rh_defs.specs.Messages.{Parcel}
 use Rattle.rh_defs.specs.Letters.{fetch_letter, ack_letter, load_ack_letter}
@@ -74,10 +74,17 @@ took d t m f n =
     if nat_lt n t.buffer then (ended t.handle f (receiver.finished f n) d, outcome.TookLast n)
     else or_else (fetch_more d t m f n) (λ refusal. (end_failed t.handle f (f.count + n) d, outcome.TookFailed n refusal))
 
+-- whether n more bytes are more than a record can count: no slot has room for a document of 4 GiB
+abbrev pub is_uncountable : Taking → ℕ → Bool
+is_uncountable f n = nat_le (2 ^ 32) (f.count + n)
+
 -- a transmit for a record
 unfoldable pub take_bytes : Desk → Task → Parcel → ℕ → Option Incoming → Handled
 take_bytes d t m n (Some (incoming.Fetching f)) =
-    or_else (appended d t f.anchor (first_bytes n (heap_block_at f.buffer t.slot)) >>= λ longer. Ok (took longer t m f n))
+    or_else
+    (refuse_if (is_uncountable f n) NoRoom >>= λ _.
+    appended d t f.anchor (first_bytes n (heap_block_at f.buffer t.slot)) >>= λ longer.
+    Ok (took longer t m f n))
     (λ refusal. (end_failed t.handle f f.count d, outcome.Refused refusal))
 take_bytes d t m n (Some (incoming.Draining f)) = (end_failed t.handle f f.count d, outcome.Drained)
 take_bytes d t m n _ = ignored d

@@ -1,7 +1,7 @@
 -- A poll leaves the tasks their names and handles.
 use Rattle.std.proofs.Common.{◌≡◌, ℕ, List, Option, Some, None, refl, ◌∙◌, subst}
 use Rattle.std.specs.Prelude.{nat_lt, ◌==◌, Ok}
-use Rattle.rh_defs.specs.declared.refusal.Refusal.TheVariants.{AnchorInUse, NoTask}
+use Rattle.rh_defs.specs.declared.refusal.Refusal.TheVariants.{AnchorInUse, NoTask, NoRoom}
 use Rattle.rh_defs.specs.declared.message.Body.{Body}
 use Rattle.rh_defs.specs.declared.message.Body.TheVariants as body
 use Rattle.rh_defs.specs.declared.message.EventCode.{EventCode}
@@ -11,7 +11,7 @@ use Rattle.rh_defs.specs.declared.transfer.Taking.{Taking}
 use Rattle.rh_defs.specs.declared.transfer.Asked.{Asked}
 use Rattle.rh_defs.specs.declared.transfer.Incoming.{Incoming}
 use Rattle.rh_defs.specs.declared.transfer.Incoming.TheVariants as incoming
-use Rattle.rh_defs.specs.Chain.{found_or}
+use Rattle.rh_defs.specs.Chain.{refuse_if, found_or}
 use Rattle.rh_defs.specs.Messages.{Parcel}
 use Rattle.rh_defs.specs.Slot.{heap_block_at, slot_block, slot_claim, slot_alloc, slot_extend, slot_put}
 use Rattle.rh_defs.specs.Letters.{fetch_letter, ack_letter, load_ack_letter, transmit_letter, load_letter}
@@ -20,7 +20,7 @@ use Rattle.rh_defs.specs.Places.{first_bytes, free_anchor}
 use Rattle.rh_defs.specs.Desk.{Desk, Task, Scrap, free_pages, task_at, with_slot, send_letter}
 use Rattle.rh_defs.specs.OutgoingEvents.{Handled, ignored, portion, transmit, answer_fetch, fail_sending}
 use Rattle.rh_defs.specs.OutgoingEvents.{scrap_shortage, wider, save_scrap, answer_ack, finish_load}
-use Rattle.rh_defs.specs.IncomingEvents.{is_deaf, accept, take_save, appended, fetch_more, took, take_bytes, ask}
+use Rattle.rh_defs.specs.IncomingEvents.{is_deaf, accept, take_save, appended, fetch_more, took, is_uncountable, take_bytes, ask}
 use Rattle.rh_defs.specs.IncomingEvents.{fetch_back, ack_back, loaded, load_file, take_file}
 use Rattle.rh_defs.specs.Transfer as transfer
 use Rattle.rh_defs.specs.Transfer.{answers_none}
@@ -72,8 +72,9 @@ module _ (d : Desk) (t : Task) (m : Parcel) where
   bytes_keys n None = refl
   bytes_keys n (Some (incoming.Fetching f)) =
       by_grant Stays _ _
-      (λ x q. with_step (appended d t f.anchor (first_bytes n (heap_block_at f.buffer t.slot))) _ x q (λ after e q1.
-      subst Stays (ok_is _ x q1) (took_keys f n after (longer_keys f.anchor _ after e))))
+      (λ x q. with_step (refuse_if (is_uncountable f n) NoRoom) _ x q (λ _ e0 q0.
+      with_step (appended d t f.anchor (first_bytes n (heap_block_at f.buffer t.slot))) _ x q0 (λ after e q1.
+      subst Stays (ok_is _ x q1) (took_keys f n after (longer_keys f.anchor _ after e)))))
       (λ r q. ended_keys t.handle f _ d)
   bytes_keys n (Some (incoming.Draining f)) = ended_keys t.handle f _ d
   bytes_keys n (Some (incoming.Asking q)) = refl

@@ -34,7 +34,7 @@ use Rattle.rh_defs.specs.Places.{first_bytes, free_anchor, overlap}
 use Rattle.rh_defs.specs.Desk.{Desk, Task, Scrap, free_pages, named, task_at, with_slot, with_delivered, send_letter}
 use Rattle.rh_defs.specs.OutgoingEvents.{Handled, ignored, portion, is_out_of_reach, transmit, answer_fetch}
 use Rattle.rh_defs.specs.OutgoingEvents.{fail_sending, scrap_shortage, wider, save_scrap, answer_ack, finish_load}
-use Rattle.rh_defs.specs.IncomingEvents.{is_deaf, accept, take_save, appended, fetch_more, took, take_bytes, ask}
+use Rattle.rh_defs.specs.IncomingEvents.{is_deaf, accept, take_save, appended, fetch_more, took, is_uncountable, take_bytes, ask}
 use Rattle.rh_defs.specs.IncomingEvents.{fetch_back, ack_back, loaded, load_file, take_file}
 use Rattle.rh_defs.specs.Transfer as transfer
 use Rattle.rh_defs.specs.Transfer.{answers_none}
@@ -209,10 +209,12 @@ module _ (d : Desk) (t : Task) (m : Parcel) where
   bytes_fine n None = refl
   bytes_fine n (Some (incoming.Fetching f)) =
       by_grant Fine _ _
-      (λ x q. with_step (appended d t f.anchor (first_bytes n (heap_block_at f.buffer t.slot))) _ x q (λ after e q1.
-      subst Fine (ok_is _ x q1) (took_fine f n after)))
-      (λ r q. not_range r (bind_ok (appended d t f.anchor (first_bytes n (heap_block_at f.buffer t.slot))) _
-      (appended_ok d t f.anchor _) (λ after e. done_ok _) r q))
+      (λ x q. with_step (refuse_if (is_uncountable f n) NoRoom) _ x q (λ _ e0 q0.
+      with_step (appended d t f.anchor (first_bytes n (heap_block_at f.buffer t.slot))) _ x q0 (λ after e q1.
+      subst Fine (ok_is _ x q1) (took_fine f n after))))
+      (λ r q. not_range r (bind_ok (refuse_if (is_uncountable f n) NoRoom) _ (refuse_ok _ NoRoom (λ z. cc)) (λ _ e0.
+      bind_ok (appended d t f.anchor (first_bytes n (heap_block_at f.buffer t.slot))) _
+      (appended_ok d t f.anchor _) (λ after e. done_ok _)) r q))
   bytes_fine n (Some (incoming.Draining f)) = refl
   bytes_fine n (Some (incoming.Asking q)) = refl
   bytes_fine n (Some (incoming.Done i a k)) = refl

@@ -5,7 +5,7 @@ use Rattle.std.specs.Prelude.{if◌then◌else◌, nat_eq, nat_lt, Ok, is_none}
 use Rattle.std.specs.Option.{option_map}
 use Rattle.std.proofs.lemmas.Bool.Decides.{eqb_tells}
 use Rattle.std.proofs.lemmas.List.{take_all}
-use Rattle.rh_defs.specs.declared.refusal.Refusal.TheVariants.{AnchorInUse}
+use Rattle.rh_defs.specs.declared.refusal.Refusal.TheVariants.{AnchorInUse, NoRoom}
 use Rattle.rh_defs.specs.declared.message.Action.TheVariants as action
 use Rattle.rh_defs.specs.declared.message.Body.{Body}
 use Rattle.rh_defs.specs.declared.message.Body.TheVariants as body
@@ -14,7 +14,7 @@ use Rattle.rh_defs.specs.declared.transfer.Taking.{Taking}
 use Rattle.rh_defs.specs.declared.transfer.Asked.{Asked}
 use Rattle.rh_defs.specs.declared.transfer.Incoming.{Incoming}
 use Rattle.rh_defs.specs.declared.transfer.Incoming.TheVariants as incoming
-use Rattle.rh_defs.specs.Chain.{found_or}
+use Rattle.rh_defs.specs.Chain.{refuse_if, found_or}
 use Rattle.rh_defs.specs.Pieces.{Split, zeros}
 use Rattle.rh_defs.specs.Heap.{Segment, bytes_of, block_room}
 use Rattle.rh_defs.specs.Slot.{Slot, heap_block_at, slot_claim, slot_alloc, is_used, block_of, weight, flex_start}
@@ -27,7 +27,7 @@ use Rattle.rh_defs.specs.Places.{first_bytes, free_from, free_anchor}
 use Rattle.rh_defs.specs.Desk.{Desk, Task, Scrap, next_ref, free_pages, with_task, with_slot, with_taking, send_letter}
 use Rattle.rh_defs.specs.OutgoingEvents.{Handled, ignored}
 use Rattle.rh_defs.specs.IncomingEvents.{is_deaf, end_failed, accept, take_save, appended, fetch_more, took}
-use Rattle.rh_defs.specs.IncomingEvents.{take_bytes, ask, fetch_back, ack_back, loaded, load_file, take_file}
+use Rattle.rh_defs.specs.IncomingEvents.{is_uncountable, take_bytes, ask, fetch_back, ack_back, loaded, load_file, take_file}
 use Rattle.rh_safety.proofs.View.{view, seen_letter, seen_scrap, blocks_of, buffers_of, task_of}
 use Rattle.rh_safety.proofs.Ends.{Letter, put, Fetching, Recorded, RamFetch, how_many, one_more}
 use Rattle.rh_safety.proofs.Protocol as protocol
@@ -304,10 +304,11 @@ module _ (d : Desk) (t : Task) (m : Parcel) (f : Fits d) (is : task_of t.handle 
       let l = letter_of m b in
       by_grant (λ (x : Handled). CameAs lost action.RamTransmit x (λ luck. protocol.extends (view d) h luck r l
       luck.room_extend)) _ _
-      (λ x q. with_step (appended d t r.anchor (first_bytes l.amount (heap_block_at r.buffer t.slot))) _ x q
+      (λ x q. with_step (refuse_if (is_uncountable r l.amount) NoRoom) _ x q (λ _ e0 q0.
+      with_step (appended d t r.anchor (first_bytes l.amount (heap_block_at r.buffer t.slot))) _ x q0
       (λ after e q1.
       subst (λ (y : Handled). CameAs lost action.RamTransmit y (λ luck. protocol.extends (view d) h luck r l
-      luck.room_extend)) (ok_is _ x q1) (took_came b r after (longer_is d t r.anchor _ after is e))))
+      luck.room_extend)) (ok_is _ x q1) (took_came b r after (longer_is d t r.anchor _ after is e)))))
       (λ refusal q. record {
         luck = unlucky lost false;
         lost_is = refl;
