@@ -1,2 +1,3 @@
 mod SumLaws
 mod FreshLaws
+mod ReplyLaws
