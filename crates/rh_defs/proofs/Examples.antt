@@ -52,12 +52,7 @@ unfolding Script.computing
 strange_lines = refl
 
 -- signs, digits of either case, the greatest numbers
-pub strange_numbers : text (codes "task a 65536 file\nrelease a &aBcDeF01\narea 4 -0\narea 6 -2147483647\n") 64 []
-    ≡ codes "ok 1\nrefused NotABlock\nok 0\nrefused NoArea\n"
+pub strange_numbers : text (codes "task a 65536 file\nrelease a &aBcDeF01\narea 4 -0\narea 6 -2147483647\ncancel a out 4294967295\n") 64 []
+    ≡ codes "ok 1\nrefused NotABlock\nok 0\nrefused NoArea\nrefused NotOpen\n"
 unfolding Script.computing
 strange_numbers = refl
-
--- a command on messages isn't known yet, where its words are of their forms
-pub unknown_commands : text (codes "cancel a out 4294967295\ncancel a out 0\npoll a\n") 64 [] ≡ codes "bad Unknown\nbad Word 4\nbad Unknown\n"
-unfolding Script.computing
-unknown_commands = refl

@@ -4,8 +4,7 @@ use Rattle.std.specs.List.{list_any}
 use Rattle.std.specs.Str.{bytes_eq}
 use Prim.Native.String.{String}
 use Rattle.rh_defs.specs.Desk.{Desk}
-use Rattle.rh_defs.specs.Line.{line_means}
-use Rattle.rh_defs.specs.Script.{ended, meaning_text, meaning_desk}
+use Rattle.rh_defs.specs.Script.{ended, line_text, line_desk}
 
 -- what is said of a reply: nothing, its whole text, what it begins with, or one of its later lines
 pub data Wanted : Type 0 where
@@ -23,4 +22,4 @@ is_wanted (Has line) text = list_any (bytes_eq (codes "  " ++ codes line)) (ende
 -- each line of a script answers as it is to, from a desk on
 abbrev pub meets : Desk → List (String × Wanted) → Bool
 meets d [] = true
-meets d (row ∷ rows) = is_wanted row.1 (meaning_text d (line_means (codes row.0))) && meets (meaning_desk d (line_means (codes row.0))) rows
+meets d (row ∷ rows) = is_wanted row.1 (line_text d (codes row.0)) && meets (line_desk d (codes row.0)) rows

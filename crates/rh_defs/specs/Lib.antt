@@ -33,6 +33,5 @@ pub mod Spans
 pub mod Laws
 pub mod Listing
 pub mod Line
-pub mod Known
 pub mod Text
 pub mod Script

@@ -4,8 +4,7 @@ use Rattle.std.specs.List.{list_any, filter_map}
 use Rattle.rh_defs.specs.declared.command.Command.{Command}
 use Rattle.rh_defs.specs.declared.fault.LineFault.TheVariants.{TooLong, Unended}
 use Rattle.rh_defs.specs.Files.{FileList}
-use Rattle.rh_defs.specs.Line.{Meaning, longest_line}
-use Rattle.rh_defs.specs.Known.{line_known}
+use Rattle.rh_defs.specs.Line.{Meaning, line_means, longest_line}
 use Rattle.rh_defs.specs.Desk.{Desk}
 use Rattle.rh_defs.specs.Step.{step}
 use Rattle.rh_defs.specs.Runs.{start}
@@ -46,10 +45,10 @@ meaning_desk d (Ok (Some c)) = (step d c).0
 meaning_desk d (Err fault) = d
 
 abbrev pub line_text : Desk → List ℕ → List ℕ
-line_text d line = meaning_text d (line_known line)
+line_text d line = meaning_text d (line_means line)
 
 abbrev pub line_desk : Desk → List ℕ → Desk
-line_desk d line = meaning_desk d (line_known line)
+line_desk d line = meaning_desk d (line_means line)
 
 -- the replies of lines, in order
 abbrev pub lines_text : Desk → List (List ℕ) → List ℕ
@@ -80,7 +79,7 @@ text script pages files = script_text (start pages files) script
 
 -- whether a complete line is bad
 abbrev pub is_bad : List ℕ → Bool
-is_bad line = is_err (line_known line)
+is_bad line = is_err (line_means line)
 
 -- whether a line of a script is bad; one that was cut always is
 abbrev pub has_bad_line : List ℕ → Bool
@@ -88,7 +87,7 @@ has_bad_line script = list_any is_bad (ended script) || not (length (unended scr
 
 -- the commands that lines spell, in order
 abbrev pub commands_in : List (List ℕ) → List Command
-commands_in lines = filter_map (λ line. spelled (line_known line)) lines
+commands_in lines = filter_map (λ line. spelled (line_means line)) lines
   where
     spelled : Meaning (Option Command) → Option Command
     spelled (Ok c) = c

@@ -3,7 +3,6 @@
 ghost use Rattle.std.specs.Prelude.{◌≡◌};
 ghost use Rattle.rh_defs.specs.Forms.{is_delta as is_delta_of, is_id as is_id_of};
 ghost use Rattle.rh_defs.specs.Range.{in_range as in_range_of};
-ghost use Rattle.rh_defs.specs.Known.{uses_post as uses_post_of};
 
 use crate::bytes::Bytes;
 use crate::ids::{Anchor, Ref};
@@ -195,20 +194,6 @@ fn is_id(id: Option<Ref>) -> bool
 }
 
 impl Command {
-    /// Whether it sends messages, takes them, or acts on transfers.
-    pub fn uses_post(&self) -> bool
-        ensures { result ≡ uses_post_of self.now }
-    {
-        matches!(
-            self,
-            Command::Save { .. }
-                | Command::Poll { .. }
-                | Command::CancelIn { .. }
-                | Command::CancelOut { .. }
-                | Command::Repeat { .. }
-        )
-    }
-
     /// Whether its numbers, names and bytes are of the forms that a script line can give them.
     #[tactic(auto, unfolding(crate::specs::Range::in_range))]
     pub fn in_range(&self) -> bool

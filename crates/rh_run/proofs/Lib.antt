@@ -1,2 +1,4 @@
 mod SumLaws
 mod FreshLaws
+mod ReplyLaws
+mod SafeLaws

@@ -1,6 +1,7 @@
 //! A world as what a script is run over.
 
 ghost use Rattle.std.specs.Prelude.{◌≡◌, ◌≤◌, IfOk};
+ghost use Rattle.rh_defs.specs.Order.{IsReordered};
 ghost use Rattle.rh_defs.specs.Runs.{start};
 
 use rh_defs::{Command, Files, Reply};
@@ -31,7 +32,8 @@ impl PagedWorld {
 }
 
 impl Desktop for PagedWorld {
-    ghost spells = { λ w d. w.world.desk ≡ d };
+    // The world doesn't keep the order of messages to different tasks, and no reply shows it.
+    ghost spells = { λ w d. IsReordered d w.world.desk };
 
     fn apply(&mut self, command: &Command) -> Reply {
         self.world.apply(command)

@@ -12,11 +12,10 @@ use Rattle.hex.proofs.HexLemmas.{decode_of-ok}
 use Rattle.rh_defs.specs.declared.command.Command.{Command}
 use Rattle.rh_defs.specs.declared.command.Command.TheVariants as command
 use Rattle.rh_defs.specs.declared.fault.LineFault.{LineFault}
-use Rattle.rh_defs.specs.declared.fault.LineFault.TheVariants.{TooLong, Unknown, Count, Word}
+use Rattle.rh_defs.specs.declared.fault.LineFault.TheVariants.{TooLong, Count, Word}
 use Rattle.rh_defs.specs.Forms.{is_name, is_anchor, is_number, is_delta, is_decimal, is_leaf, is_id}
 use Rattle.rh_defs.specs.Forms.{number_of, greatest, longest_buffer, last_ref, first_made, last_made, most_pages}
 use Rattle.rh_defs.specs.Range.{in_range, all_in_range}
-use Rattle.rh_defs.specs.Known.{uses_post, known, line_known}
 use Rattle.rh_defs.specs.Script.{commands_in, lines_desk, meaning_desk}
 use Rattle.rh_defs.specs.Desk.{Desk}
 use Rattle.rh_defs.specs.Step.{step}
@@ -361,11 +360,6 @@ line_in line =
     (one_of IsSpelled (is_skipped (words_of line)) (Ok None) _ tt
     (then_means (Passes in_range) IsSpelled (command_of (words_of line)) _ (command_in (words_of line)) (λ c q. q)))
 
-known_in : (m : Meaning (Option Command)) → Means IsSpelled m → Means IsSpelled (known m)
-known_in (Ok None) p = p
-known_in (Ok (Some c)) p = one_of IsSpelled (uses_post c) (Err Unknown) (Ok (Some c)) tt p
-known_in (Err fault) p = p
-
 -- what a test passes of each item given is passed by all
 all_given : {A B : Type 0} (give : A → Option B) (test : B → Bool) (xs : List A) →
     ((x : A) → IfSome (give x) (Passes test)) → list_all test (filter_map give xs) ≡ true
@@ -383,8 +377,8 @@ by_meaning (Ok c) f g = f c refl
 by_meaning (Err fault) f g = g fault refl
 
 pub commands_in_range : (lines : List (List ℕ)) → all_in_range (commands_in lines) ≡ true
-commands_in_range lines = all_given _ in_range lines (λ line. by_meaning (line_known line) (λ c e.
-    rw e (subst (λ m. Means IsSpelled m) e (known_in (line_means line) (line_in line)))) (λ fault e. rw e tt))
+commands_in_range lines = all_given _ in_range lines (λ line. by_meaning (line_means line) (λ c e.
+    rw e (subst (λ m. Means IsSpelled m) e (line_in line))) (λ fault e. rw e tt))
 
 -- ---- the desk after lines
 
@@ -396,13 +390,13 @@ module _ (give : List ℕ → Option Command) (ls : List (List ℕ)) where
   one_more (Some c) d rest = rest (step d c).0
 
 after_given : (give : List ℕ → Option Command) →
-    ((l : List ℕ) (c : Option Command) → line_known l ≡ Ok c → give l ≡ c) →
-    ((l : List ℕ) (fault : LineFault) → line_known l ≡ Err fault → give l ≡ None) → (ls : List (List ℕ)) (d : Desk) →
+    ((l : List ℕ) (c : Option Command) → line_means l ≡ Ok c → give l ≡ c) →
+    ((l : List ℕ) (fault : LineFault) → line_means l ≡ Err fault → give l ≡ None) → (ls : List (List ℕ)) (d : Desk) →
     lines_desk d ls ≡ after d (filter_map give ls)
 after_given give is none [] d = refl
 after_given give is none (l ∷ ls) d =
     let rest : (e : Desk) → lines_desk e ls ≡ after e (filter_map give ls) = after_given give is none ls in
-    by_meaning (line_known l) (λ c e. rw (e, is l c e) (one_more give ls c d rest))
+    by_meaning (line_means l) (λ c e. rw (e, is l c e) (one_more give ls c d rest))
     (λ fault e. rw (e, none l fault e) (rest d))
 
 -- the desk after lines is that after the commands that they spell

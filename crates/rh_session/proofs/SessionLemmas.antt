@@ -7,7 +7,6 @@ use borrow.Author.Tests.{tests}
 use Rattle.std.specs.List.{list_any}
 use Rattle.rh_defs.specs.Desk.{Desk}
 use Rattle.rh_defs.specs.Line.{line_means}
-use Rattle.rh_defs.specs.Known.{known, line_known}
 use Rattle.rh_defs.specs.Script.{ended, unended, meaning_text, line_text, line_desk, lines_text, lines_desk, is_bad}
 use Rattle.rh_session.specs.Session.{State, state_after, text_after, state_of, text_of, kept, begin}
 
@@ -85,8 +84,8 @@ means_same n line (inr h) e =
 pub split_at : (n : ℕ) → (n ≤ 1024) ⊎ (1024 < n)
 split_at n = grind arith
 
-pub kept_known : (line : List ℕ) → line_known (kept line) ≡ line_known line
-kept_known line = ap known (means_same (length line) line (split_at (length line)) refl)
+pub kept_means : (line : List ℕ) → line_means (kept line) ≡ line_means line
+kept_means line = means_same (length line) line (split_at (length line)) refl
 
 -- where a session stands after these bytes
 pub record Reaches (desk : Desk) (bad : Bool) (all bs : List ℕ) (s : State) : Type 0 where
@@ -101,12 +100,12 @@ kept_nil = refl
 reach_feed : (desk : Desk) (bad : Bool) (line bs : List ℕ) → NoFeed line → Reaches (line_desk desk line) (bad || is_bad line) bs bs (at_line (line_desk desk line) [] (bad || is_bad line)) → Reaches desk bad (line ++ 10 ∷ bs) (10 ∷ bs) (at_line desk line bad)
 unfolding state_after text_after
 reach_feed desk bad line bs h k =
-    let next : state_after (at_line desk line bad) 10 ≡ at_line (line_desk desk line) [] (bad || is_bad line) = rw (kept_known line, kept_nil) refl in
+    let next : state_after (at_line desk line bad) 10 ≡ at_line (line_desk desk line) [] (bad || is_bad line) = rw (kept_means line, kept_nil) refl in
     let lines : at_line (lines_desk (line_desk desk line) (ended bs)) (unended bs) ((bad || is_bad line) || list_any is_bad (ended bs)) ≡ at_line (lines_desk desk (ended (line ++ 10 ∷ bs))) (unended (line ++ 10 ∷ bs)) (bad || list_any is_bad (ended (line ++ 10 ∷ bs))) =
     rw (ended_first line bs h, unended_first line bs h, one_bool bad (is_bad line) (list_any is_bad (ended bs))) refl in
     record {
       state = ap (λ s. state_of s bs) next ∙ (k.state ∙ lines);
-      text = ap (λ z. line_text desk (kept line) ++ text_of z bs) next ∙ (ap (λ m. meaning_text desk m ++ text_of (at_line (line_desk desk line) [] (bad || is_bad line)) bs) (kept_known line) ∙ (ap (λ z. line_text desk line ++ z) k.text ∙ sym (ap (lines_text desk) (ended_first line bs h))));
+      text = ap (λ z. line_text desk (kept line) ++ text_of z bs) next ∙ (ap (λ m. meaning_text desk m ++ text_of (at_line (line_desk desk line) [] (bad || is_bad line)) bs) (kept_means line) ∙ (ap (λ z. line_text desk line ++ z) k.text ∙ sym (ap (lines_text desk) (ended_first line bs h))));
     }
 
 reach_byte : (desk : Desk) (bad : Bool) (line bs : List ℕ) (b : ℕ) → eqb b 10 ≡ false → Reaches desk bad ((line ++ b ∷ []) ++ bs) bs (at_line desk (line ++ b ∷ []) bad) → Reaches desk bad (line ++ b ∷ bs) (b ∷ bs) (at_line desk line bad)

@@ -5,7 +5,7 @@ use Rattle.std.specs.Result.{IsErr, is_err}
 use Rattle.std.proofs.lemmas.List.{take_all, take_rest, length-take}
 use borrow.Author.Tests.{tests}
 use Rattle.rh_defs.specs.Desk.{Desk}
-use Rattle.rh_defs.specs.Known.{line_known}
+use Rattle.rh_defs.specs.Line.{line_means}
 use Rattle.rh_defs.specs.Script.{meaning_text, meaning_desk, line_text}
 use Rattle.rh_lines.specs.declared.sink.WriteFailed.{WriteFailed}
 use Rattle.rh_lines.specs.Flow.{Output, Breaks}
@@ -15,7 +15,7 @@ use Rattle.rh_session.specs.Session.{State, state_after, text_after, state_of, t
 use Rattle.rh_session.specs.Answer.{state_after_line}
 use Rattle.rh_session.specs.Kept.{IsState}
 use Rattle.rh_session.specs.Holding.{Holds, Gathers}
-use Rattle.rh_session.proofs.SessionLemmas.{NoFeed, kept_known, take_front, state_of-append, text_of-append}
+use Rattle.rh_session.proofs.SessionLemmas.{NoFeed, kept_means, take_front, state_of-append, text_of-append}
 use Rattle.rh_session.proofs.HoldLemmas.{holds_none, holds_more, holds_breaks}
 
 -- ---- lines, byte by byte
@@ -24,12 +24,12 @@ kept_front : (line xs : List ℕ) → kept (kept line ++ xs) ≡ kept (line ++ x
 unfolding kept
 kept_front line xs = take_front 1025 line xs
 
-known_front : (line xs : List ℕ) → line_known (kept line ++ xs) ≡ line_known (line ++ xs)
-known_front line xs =
-    sym (kept_known (kept line ++ xs)) ∙ (ap line_known (kept_front line xs) ∙ kept_known (line ++ xs))
+means_front : (line xs : List ℕ) → line_means (kept line ++ xs) ≡ line_means (line ++ xs)
+means_front line xs =
+    sym (kept_means (kept line ++ xs)) ∙ (ap line_means (kept_front line xs) ∙ kept_means (line ++ xs))
 
 line_same : (s : State) (line xs : List ℕ) → line_text s.desk (kept line ++ xs) ≡ line_text s.desk (line ++ xs)
-line_same s line xs = ap (meaning_text s.desk) (known_front line xs)
+line_same s line xs = ap (meaning_text s.desk) (means_front line xs)
 
 after_byte : (s : State) (b : ℕ) → eqb b 10 ≡ false → state_after s b ≡ record { desk = s.desk; line = kept (s.line ++ b ∷ []); bad = s.bad }
 unfolding state_after
@@ -48,17 +48,17 @@ line_text_of (x ∷ xs) s h =
     let next : State = record { desk = s.desk; line = kept (s.line ++ x ∷ []); bad = s.bad } in
     ap (λ z. z ++ text_of (state_after s x) (xs ++ 10 ∷ [])) (no_text s x h.0) ∙ (ap (λ z. text_of z (xs ++ 10 ∷ [])) (after_byte s x h.0) ∙ (line_text_of xs next h.1 ∙ (line_same s (s.line ++ x ∷ []) xs ∙ ap (line_text s.desk) (append_assoc s.line (x ∷ []) xs))))
 
-line_state : (s : State) (a b : List ℕ) → line_known a ≡ line_known b → state_after_line (record { desk = s.desk; line = []; bad = s.bad }) a ≡ state_after_line (record { desk = s.desk; line = []; bad = s.bad }) b
+line_state : (s : State) (a b : List ℕ) → line_means a ≡ line_means b → state_after_line (record { desk = s.desk; line = []; bad = s.bad }) a ≡ state_after_line (record { desk = s.desk; line = []; bad = s.bad }) b
 line_state s a b e =
     ap (λ m. let after : State = record { desk = meaning_desk s.desk m; line = []; bad = s.bad || is_err m } in after) e
 
 -- the state after them
 line_state_of : (xs : List ℕ) (s : State) → NoFeed xs → state_of s (xs ++ 10 ∷ []) ≡ state_after_line s xs
 unfolding state_after
-line_state_of [] s h = line_state s s.line (s.line ++ []) (ap line_known (sym (append-nil s.line)))
+line_state_of [] s h = line_state s s.line (s.line ++ []) (ap line_means (sym (append-nil s.line)))
 line_state_of (x ∷ xs) s h =
     let next : State = record { desk = s.desk; line = kept (s.line ++ x ∷ []); bad = s.bad } in
-    ap (λ z. state_of z (xs ++ 10 ∷ [])) (after_byte s x h.0) ∙ (line_state_of xs next h.1 ∙ line_state s (kept (s.line ++ x ∷ []) ++ xs) (s.line ++ x ∷ xs) (known_front (s.line ++ x ∷ []) xs ∙ ap line_known (append_assoc s.line (x ∷ []) xs)))
+    ap (λ z. state_of z (xs ++ 10 ∷ [])) (after_byte s x h.0) ∙ (line_state_of xs next h.1 ∙ line_state s (kept (s.line ++ x ∷ []) ++ xs) (s.line ++ x ∷ xs) (means_front (s.line ++ x ∷ []) xs ∙ ap line_means (append_assoc s.line (x ∷ []) xs)))
 
 shorter : (n : ℕ) (line : List ℕ) → length (take n line) ≤ n
 shorter n line = grind (arith, length-take)

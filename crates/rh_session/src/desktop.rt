@@ -1,8 +1,7 @@
 //! What a script is run over.
 
-ghost use Rattle.std.specs.Prelude.{◌≡◌, false, IsTrue};
+ghost use Rattle.std.specs.Prelude.{◌≡◌, IsTrue};
 ghost use Rattle.rh_defs.specs.Desk.{Desk};
-ghost use Rattle.rh_defs.specs.Known.{uses_post};
 ghost use Rattle.rh_defs.specs.Range.{in_range};
 ghost use Rattle.rh_defs.specs.Step.{step};
 ghost use Rattle.rh_defs.specs.Text.{reply_text};
@@ -16,10 +15,9 @@ pub trait Desktop: Drop {
     // The desks that this may be seen as: one, up to what no reply shows.
     ghost spells: { Self → Desk → Type 0 };
 
-    /// Applies a command that is in range and known, and answers its reply.
+    /// Applies a command that is in range, and answers its reply.
     fn apply(&mut self, command: &Command) -> Reply
         requires in_range { IsTrue (in_range command.now) }
-        requires known { uses_post command.now ≡ false }
         ensures reply { (d : Desk) → spells self.old d → result ≡ (step d command.now).1 }
         ensures desk { (d : Desk) → spells self.old d → spells self.new (step d command.now).0 };
 

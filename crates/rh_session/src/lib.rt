@@ -3,7 +3,6 @@
 
 mod answer;
 mod desktop;
-mod known;
 mod line;
 mod running;
 mod session;

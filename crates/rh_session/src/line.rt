@@ -1,12 +1,12 @@
 //! The line that is being read.
 
-ghost use Rattle.std.specs.Prelude.{◌≡◌, ◌≤◌, [], ◌++◌, false, length, IfOk, IfSome, IsTrue};
-ghost use Rattle.rh_defs.specs.Known.{line_known, uses_post};
+ghost use Rattle.std.specs.Prelude.{◌≡◌, ◌≤◌, [], ◌++◌, length, IfOk, IfSome, IsTrue};
+ghost use Rattle.rh_defs.specs.Line.{line_means};
 ghost use Rattle.rh_defs.specs.Range.{in_range};
 ghost use Rattle.rh_session.specs.Session.{kept};
 
-use crate::known::known_line;
 use rh_defs::{Command, LineFault};
+use rh_lines::parse_line;
 use std::alloc::{AllocError, Global};
 use std::marker::Model;
 
@@ -58,16 +58,15 @@ impl LineBuffer {
 
     /// What the line means that ends with these bytes. The next line begins.
     pub fn end(&mut self, bytes: &[u8]) -> Result<Option<Command>, LineFault>
-        ensures means { result ≡ line_known (self.old ++ bytes.now) }
+        ensures means { result ≡ line_means (self.old ++ bytes.now) }
         ensures in_range { IfOk result (λ found. IfSome found (λ command. IsTrue (in_range command))) }
-        ensures known { IfOk result (λ found. IfSome found (λ command. uses_post command ≡ false)) }
         ensures next { self.new ≡ [] }
     {
         if self.as_slice().is_empty() {
-            return known_line(bytes);
+            return parse_line(bytes);
         }
         self.add(bytes);
-        let meaning = known_line(self.as_slice());
+        let meaning = parse_line(self.as_slice());
         self.bytes.clear();
         meaning
     }

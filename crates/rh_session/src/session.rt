@@ -1,8 +1,7 @@
 //! A script in the middle of its run.
 
-ghost use Rattle.std.specs.Prelude.{◌≡◌, ◌++◌, [], false, not, ◌==◌, ◌||◌, length, IfOk, IfSome, IsTrue, OnOk};
+ghost use Rattle.std.specs.Prelude.{◌≡◌, ◌++◌, [], not, ◌==◌, ◌||◌, length, IfOk, IfSome, IsTrue, OnOk};
 ghost use Rattle.rh_defs.specs.Desk.{Desk};
-ghost use Rattle.rh_defs.specs.Known.{uses_post};
 ghost use Rattle.rh_defs.specs.Range.{in_range};
 ghost use Rattle.rh_defs.specs.Script.{line_text, meaning_text, rest_text};
 ghost use Rattle.rh_lines.specs.Flow.{Puts};
@@ -103,7 +102,6 @@ impl<D: Desktop> Session<D> {
         writer: &mut W,
     ) -> Result<(), WriteFailed>
         requires in_range { IfOk meaning (λ found. IfSome found (λ command. IsTrue (in_range command))) }
-        requires known { IfOk meaning (λ found. IfSome found (λ command. uses_post command ≡ false)) }
         ensures text { (s : State) → IsState D.spells self.old s → Gathers (W.output writer.old) (W.output writer.new) result held.old.bytes held.new.bytes (meaning_text s.desk meaning) }
         ensures state { (s : State) → IsState D.spells self.old s → IsState D.spells self.new (state_after_meaning s meaning) }
     {

@@ -1,9 +1,8 @@
 //! The world: a desk over a store.
 
-ghost use Rattle.std.specs.Prelude.{◌≡◌, ◌≤◌, ℕ, ◌+◌, ◌<◌, true, false, Ok, Err, IfOk, IsSome};
+ghost use Rattle.std.specs.Prelude.{◌≡◌, ◌≤◌, ℕ, ◌+◌, ◌<◌, true, Ok, Err, IfOk, IsSome};
 ghost use Rattle.rh_defs.specs.Memory.{Memory, fresh, bytes};
 ghost use Rattle.rh_defs.specs.Range.{in_range};
-ghost use Rattle.rh_defs.specs.Known.{uses_post};
 ghost use Rattle.rh_defs.specs.Runs.{start, start_with};
 ghost use Rattle.rh_defs.specs.Laws.{IsDesk};
 ghost use Rattle.rh_tasks.specs.Shown.{IsSpelled, IsBalanced, HasApartBlocks};
@@ -126,7 +125,6 @@ impl<S: Store> World<S> {
     /// tasks isn't kept, so what is said of the desk is said of each that differs in that order alone.
     pub fn apply(&mut self, command: &Command) -> Reply
         requires ranged { in_range command.now ≡ true }
-        requires known { uses_post command.now ≡ false }
         ensures steps { StepsTo command.now self.old.desk self.new.desk result }
         ensures spelled { IsSpelled self.new }
         ensures apart { HasApartBlocks self.new }
@@ -140,7 +138,6 @@ impl<S: Store> World<S> {
 
     fn change(&mut self, command: &Command) -> Reply
         requires ranged { in_range command.now ≡ true }
-        requires known { uses_post command.now ≡ false }
         ensures { StepsTo command.now self.old.desk self.new.desk result }
     {
         match command {

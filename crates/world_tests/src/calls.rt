@@ -15,10 +15,9 @@ pub(crate) fn name(letters: &[u8]) -> Result<Name, &'static str> {
     Name::new(letters).ok_or("not 1 to 12 bytes")
 }
 
-/// What a command answers that is in range and sends no message.
+/// What a command answers that is in range.
 pub(crate) fn said<R: Abort, S: Store>(rt: &R, world: &mut World<S>, command: &Command) -> Reply {
     assert!(rt; command.in_range());
-    assert!(rt; !command.uses_post());
     world.apply(command)
 }
 
