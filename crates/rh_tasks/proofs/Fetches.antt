@@ -76,14 +76,14 @@ module _ {m : Memory} {seats : List Seat} {i j : ℕ} {t r : Task} (a : Seated m
   in-buffer e h = rw (seat-is b s is) (sym (reach-buffer t (task_of m s) address room place n (buffer-wide address room (slot_in m s.slot) e h)))
 
   module _ (narrow : is_some (buffer_at address room (slot_in m s.slot)) ≡ false) where
-    pub in-none : holds address room (slot_in m s.slot) ≡ false → true ≡ is_out_of_reach t r address room place n
+    pub in-none : false ≡ holds address room (slot_in m s.slot) → true ≡ is_out_of_reach t r address room place n
     unfolding task_of
-    in-none e = rw (seat-is b s is) (sym (reach-nothing t (task_of m s) address room place n narrow e))
+    in-none e = rw (seat-is b s is) (sym (reach-nothing t (task_of m s) address room place n narrow (sym e)))
 
-    module _ (held : holds address room (slot_in m s.slot) ≡ true) where
+    module _ (held : true ≡ holds address room (slot_in m s.slot)) where
       in-block : is_out_of_reach t r address room place n ≡ (t.handle == r.handle && overlap address room place n)
       unfolding task_of
-      in-block = rw (seat-is b s is) (reach-block t (task_of m s) address room place n narrow held)
+      in-block = rw (seat-is b s is) (reach-block t (task_of m s) address room place n narrow (sym held))
 
       pub in-own : i ≡ j → overlap address room place n ≡ is_out_of_reach t r address room place n
       in-own e =

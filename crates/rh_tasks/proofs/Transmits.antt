@@ -174,11 +174,11 @@ module _ (d : Desk) (t : Task) (m : Parcel) (buffer amount : ℕ) (x : Sending) 
       out-same : is_out_of_reach t r buffer amount (flex_address t.slot p.source.before + x.count) (portion x amount p.source) ≡ is_out_of_reach t r buffer amount address n
       out-same = ap (λ a. is_out_of_reach t r buffer amount a (portion x amount p.source)) (sym p.address_is) ∙ ap (λ k. is_out_of_reach t r buffer amount address k) (sym p.length_is)
 
-      pub transmit-far : is_out_of_reach t r buffer amount address n ≡ true → given ≡ Err BadRange
+      pub transmit-far : true ≡ is_out_of_reach t r buffer amount address n → given ≡ Err BadRange
       unfolding transmit
-      transmit-far q = inside ∙ begins _ there (stops _ BadRange _ (out-same ∙ q))
+      transmit-far q = inside ∙ begins _ there (stops _ BadRange _ (out-same ∙ sym q))
 
-      module _ (near : is_out_of_reach t r buffer amount address n ≡ false) where
+      module _ (near : false ≡ is_out_of_reach t r buffer amount address n) where
         abbrev letter_of : ℕ → Letter
         letter_of k = transmit_letter t.handle m (nat_lt k amount) buffer k
 
@@ -190,12 +190,12 @@ module _ (d : Desk) (t : Task) (m : Parcel) (buffer amount : ℕ) (x : Sending) 
 
         pub transmit-refused : {e : Refusal} → send_letter (letter_of n) d ≡ Err e → given ≡ Err e
         unfolding transmit
-        transmit-refused q = inside ∙ begins _ there (past _ BadRange _ (out-same ∙ near) (ends _ (ap (λ k. send_letter (letter_of k) d) (sym p.length_is) ∙ q)))
+        transmit-refused q = inside ∙ begins _ there (past _ BadRange _ (out-same ∙ sym near) (ends _ (ap (λ k. send_letter (letter_of k) d) (sym p.length_is) ∙ q)))
 
         transmit-done : {sent : Desk} → send_letter (letter_of n) d ≡ Ok sent → given ≡ Ok (after_sent n (next_ref d) sent)
         unfolding transmit
         transmit-done {sent} q =
-            inside ∙ begins _ there (past _ BadRange _ (out-same ∙ near) (begins _ (ap (λ k. send_letter (letter_of k) d) (sym p.length_is) ∙ q)
+            inside ∙ begins _ there (past _ BadRange _ (out-same ∙ sym near) (begins _ (ap (λ k. send_letter (letter_of k) d) (sym p.length_is) ∙ q)
             (ap (λ k. let g : Granted Handled = Ok (after_sent k (next_ref d) sent) in g) (sym p.length_is))))
 
         pub transmit-whole : {ref : ℕ} {sent e f new : Desk} → ref ≡ next_ref d → send_letter (letter_of n) d ≡ Ok sent → IsReordered sent e

@@ -26,7 +26,7 @@ returns-then-not-inside g c =
     ] in
     rw (← c.self.view_is) (λ t r ti rj.
     in-none (seated m seats c.args.i t ti) (seated m seats c.args.target.seat r rj) c.index-seat.result.now (sym c.index-seat.ensures)
-    c.args.target.address c.args.target.room c.args.portion.address c.args.portion.length narrow (sym c.if-not-inside.ensures))
+    c.args.target.address c.args.target.room c.args.portion.address c.args.portion.length narrow c.if-not-inside.ensures)
 
 pub returns-then-i-target : goal.returns-then-i-target
 returns-then-i-target g c =
@@ -38,7 +38,7 @@ returns-then-i-target g c =
     ] in
     rw (← c.self.view_is) (λ t r ti rj.
     c.do_overlap.ensures ∙ in-own (seated m seats c.args.i t ti) (seated m seats c.args.target.seat r rj) c.index-seat.result.now (sym c.index-seat.ensures)
-    c.args.target.address c.args.target.room c.args.portion.address c.args.portion.length narrow (sym c.if-not-inside.ensures) c.if-i-target.true)
+    c.args.target.address c.args.target.room c.args.portion.address c.args.portion.length narrow c.if-not-inside.ensures c.if-i-target.true)
 
 pub returns-else-i-target : goal.returns-else-i-target
 returns-else-i-target g c =
@@ -50,4 +50,4 @@ returns-else-i-target g c =
     ] in
     rw (← c.self.view_is) (λ t r ti rj.
     in-other (seated m seats c.args.i t ti) (seated m seats c.args.target.seat r rj) c.index-seat.result.now (sym c.index-seat.ensures)
-    c.args.target.address c.args.target.room c.args.portion.address c.args.portion.length narrow (sym c.if-not-inside.ensures) (handles c.self.invariant.0) c.if-i-target.false)
+    c.args.target.address c.args.target.room c.args.portion.address c.args.portion.length narrow c.if-not-inside.ensures (handles c.self.invariant.0) c.if-i-target.false)

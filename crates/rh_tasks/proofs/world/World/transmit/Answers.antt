@@ -35,7 +35,7 @@ returns-then-is_out_of_reach g c =
     let d = c.args.self.now.desk in
     let r : Meant d c.in-Some.seat c.args.x.now.recipient = rw (← c.self.view_is) (somebody-with c.self.invariant.0 c.args.x.now.recipient c.in-Some.seat (sym c.in-Some.ensures)) in
     λ t m is. (
-      transmit-far d t m c.args.buffer c.args.amount c.args.x.now (c.in_ok-portion.ensures.ok t is.at) r.task r.found (sym (c.if-is_out_of_reach.ensures t r.task is.at r.at)),
+      transmit-far d t m c.args.buffer c.args.amount c.args.x.now (c.in_ok-portion.ensures.ok t is.at) r.task r.found (c.if-is_out_of_reach.ensures t r.task is.at r.at),
       refl,
     )
 
@@ -63,7 +63,7 @@ returns-in_err-transmit g c =
     let there = rw (← c.self.view_is) at is.at in
     let own : s.handle ≡ t.handle = sym (ap (λ (u : Task). u.handle) (seat-is (seated m0 c.self.inside.seats.items c.args.i t there) s (sym c.index-sender.ensures))) in
     let letter = c.transmit_letter-letter.ensures m is.message_is ∙ ap (λ h. transmit_letter h m (nat_lt n c.args.amount) c.args.buffer n) own in
-    let near = sym (c.if-is_out_of_reach.ensures t r.task is.at r.at) in (
+    let near = c.if-is_out_of_reach.ensures t r.task is.at r.at in (
       transmit-refused d t m c.args.buffer c.args.amount c.args.x.now (c.in_ok-portion.ensures.ok t is.at) r.task r.found near (ap (λ l. send_letter l d) (sym letter) ∙ c.in_err-transmit.ensures.0),
       c.in_err-transmit.ensures.1,
     ))
@@ -131,7 +131,7 @@ returns g c =
     let there = rw (← c.self.view_is) at is.at in
     let own : s.handle ≡ t.handle = sym (ap (λ (u : Task). u.handle) (seat-is (seated m0 c.self.inside.seats.items c.args.i t there) s (sym c.index-sender.ensures))) in
     let letter = c.transmit_letter-letter.ensures m is.message_is ∙ ap (λ h. transmit_letter h m (nat_lt n c.args.amount) c.args.buffer n) own in
-    let near = sym (c.if-is_out_of_reach.ensures t r.task is.at r.at) in
+    let near = c.if-is_out_of_reach.ensures t r.task is.at r.at in
     let p = c.in_ok-portion.ensures.ok t is.at in
     let after = seen handle_of (wrote-handles k c.args.i c.in-Some.seat is.at r.at p c.args.buffer c.args.amount c.write_portion.ensures) c.args.i t is.at in
     let last = c.in_ok-transmit.transmit in
