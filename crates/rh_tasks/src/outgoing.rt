@@ -89,7 +89,14 @@ impl<S: Store> World<S> {
     }
 
     /// Writes the bytes of a portion into a fetch's buffer that is in reach.
-    fn write_portion(&mut self, i: usize, x: &Sending, amount: u32, target: Target, portion: Portion)
+    fn write_portion(
+        &mut self,
+        i: usize,
+        x: &Sending,
+        amount: u32,
+        target: Target,
+        portion: Portion,
+    )
         requires source { i < length self.old.desk.tasks }
         requires target { target.seat < length self.old.desk.tasks }
         requires portion { (t : Task) → IsAt i t self.old.desk → IsPortion t x.now amount portion.address portion.length }
@@ -98,8 +105,8 @@ impl<S: Store> World<S> {
         requires room { portion.length ≤ target.room }
         ensures { (t r : Task) (source : Split Flex) → IsAt i t self.old.desk → IsAt target.seat r self.old.desk → slot_block x.now.anchor t.slot ≡ Ok source
             → self.new.desk ≡ with_task r.handle (λ r. record r {
-                slot = written_in target.address (take portion.length (drop x.now.count source.here.bytes)) (buffer_at target.address target.room r.slot) r.slot;
-              }) self.old.desk }
+              slot = written_in target.address (take portion.length (drop x.now.count source.here.bytes)) (buffer_at target.address target.room r.slot) r.slot;
+            }) self.old.desk }
     {
         let source = &self.seats[i];
         let seat = &self.seats[target.seat];
@@ -111,11 +118,26 @@ impl<S: Store> World<S> {
         };
         let from = source.slot.area;
         let slot = seat.slot;
-        write_from(&mut self.store, slot, target.address as usize, target.room as usize, from, place, n);
+        write_from(
+            &mut self.store,
+            slot,
+            target.address as usize,
+            target.room as usize,
+            from,
+            place,
+            n,
+        );
     }
 
     /// Sends the bytes for a fetch: NoBlock, NoTask, BadRange, NoRefs, QueueFull, NoRoom.
-    fn transmit(&mut self, i: usize, message: &Message, buffer: u32, amount: u32, x: &Sending) -> Result<Outcome, Refusal>
+    fn transmit(
+        &mut self,
+        i: usize,
+        message: &Message,
+        buffer: u32,
+        amount: u32,
+        x: &Sending,
+    ) -> Result<Outcome, Refusal>
         requires { i < length self.old.desk.tasks }
         ensures { (t : Task) (m : Parcel) → IsFor i t self.old.desk m message.now
             → Attempts (transmitted self.old.desk t m buffer amount x.now) self.old self.new result }
@@ -124,7 +146,11 @@ impl<S: Store> World<S> {
         let Some(seat) = with_handle(&self.seats, x.recipient) else {
             return Err(Refusal::NoTask);
         };
-        let target = Target { seat, address: buffer, room: amount };
+        let target = Target {
+            seat,
+            address: buffer,
+            room: amount,
+        };
         if self.is_out_of_reach(i, target, portion) {
             return Err(Refusal::BadRange);
         }
@@ -147,7 +173,14 @@ impl<S: Store> World<S> {
     }
 
     /// What a RAMFetch does to the transfer that it is for.
-    pub(crate) fn answer_fetch(&mut self, i: usize, message: &Message, buffer: u32, amount: u32, x: Option<Sending>) -> Outcome
+    pub(crate) fn answer_fetch(
+        &mut self,
+        i: usize,
+        message: &Message,
+        buffer: u32,
+        amount: u32,
+        x: Option<Sending>,
+    ) -> Outcome
         requires { i < length self.old.desk.tasks }
         ensures { (t : Task) (m : Parcel) → IsFor i t self.old.desk m message.now
             → Handles (answer_fetch_on self.old.desk t m buffer amount x) self.new result }

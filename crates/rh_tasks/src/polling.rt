@@ -95,7 +95,9 @@ impl<S: Store> World<S> {
                 self.answer_fetch(i, message, *buffer, *length, x)
             }
             Body::RamTransmit { buffer, written } => {
-                let entry = seat.taking.on_transmit(seat.buffer, from, your_ref, *buffer, *written);
+                let entry = seat
+                    .taking
+                    .on_transmit(seat.buffer, from, your_ref, *buffer, *written);
                 self.take_bytes(i, message, *written, entry)
             }
         }

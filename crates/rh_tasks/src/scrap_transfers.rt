@@ -148,7 +148,8 @@ impl<S: Store> World<S> {
         let seat = &self.seats[i];
         let slot = seat.slot;
         let address = slot.address(&self.store, anchor).unwrap();
-        self.store.copy(slot.area, address - SLOT_START, SCRAP, 0, size as usize);
+        self.store
+            .copy(slot.area, address - SLOT_START, SCRAP, 0, size as usize);
         self.scrap = Some(ScrapFile { load, size });
     }
 }

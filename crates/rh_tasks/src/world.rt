@@ -188,7 +188,12 @@ impl<S: Store> World<S> {
             Command::CancelIn { name, id } => answer(self.cancel_in(name, *id)),
             Command::CancelOut { name, id } => answer(self.cancel_out(name, *id)),
             Command::Repeat { name } => answer(self.repeat(name)),
-            Command::Save { name, anchor, to, leaf } => answer(self.save(name, *anchor, to, leaf)),
+            Command::Save {
+                name,
+                anchor,
+                to,
+                leaf,
+            } => answer(self.save(name, *anchor, to, leaf)),
             Command::Poll { name } => answer(self.poll(name)),
         }
     }
