@@ -107,7 +107,7 @@ module _ {o : Memory} {seats : List Seat} {made : List MadeArea} {files : FileLi
   any-parcel message = record { code = User; to = 0; block = 0; message = message }
 
   module _ (t : Task) (at-v : IsAt i t v.desk) where
-    own-is : task_of o s ≡ t
+    pub own-is : task_of o s ≡ t
     own-is = one-at v.desk i (task_of o s) t own-at at-v
 
     pub own-handle : s.handle ≡ t.handle

@@ -43,3 +43,4 @@ pub mod Rooms
 pub mod Accepts
 pub mod AcceptRooms
 pub mod AcceptSteps
+pub mod TakeSaves

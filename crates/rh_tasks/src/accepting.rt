@@ -4,7 +4,7 @@ ghost use Rattle.std.specs.Prelude.{◌≡◌, ◌<◌, ℕ, false, length, Ok, 
 ghost use Rattle.std.specs.Option.{MatchOption};
 ghost use Rattle.rh_defs.specs.Desk.{Desk, Task, free_pages};
 ghost use Rattle.rh_defs.specs.declared.reply.Outcome.TheVariants as outcome;
-ghost use Rattle.rh_defs.specs.IncomingEvents.{accept as accept_on, take_save as take_save_on};
+ghost use Rattle.rh_defs.specs.IncomingEvents.{accept as accept_on, is_deaf as is_deaf_on, take_save as take_save_on};
 ghost use Rattle.rh_defs.specs.Messages.{Parcel};
 ghost use Rattle.rh_defs.specs.Order.{IsReordered};
 ghost use Rattle.rh_defs.specs.Records.{is_going, is_full as is_full_of};
@@ -17,6 +17,16 @@ use crate::slot_bytes::free_anchor;
 use crate::world::World;
 use rh_defs::{Anchor, Manner, Message, Outcome, Ref, Refusal, Taking};
 use rh_store::Store;
+
+/// Whether a task in this manner takes no DataSave.
+fn is_deaf(manner: Manner) -> bool
+    ensures { result ≡ is_deaf_on manner }
+{
+    match manner {
+        Manner::Deaf => true,
+        Manner::Plain | Manner::File => false,
+    }
+}
 
 impl<S: Store> World<S> {
     /// Claims a buffer in the task's C heap: BadSize, NoBudge, NoRoom.
@@ -99,8 +109,7 @@ impl<S: Store> World<S> {
             → Handles (take_save_on self.old.desk t m) self.new result }
     {
         let seat = &self.seats[i];
-        let is_deaf = seat.manner == Manner::Deaf;
-        if !seat.taking.on_save(is_deaf) {
+        if !seat.taking.on_save(is_deaf(seat.manner)) {
             return Outcome::Ignored;
         }
         match self.accept(i, message) {
