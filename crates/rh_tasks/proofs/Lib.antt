@@ -22,6 +22,7 @@ pub mod Reorders
 pub mod Places
 pub mod Deaths
 pub mod Cancels
+pub mod SeatRecords
 pub mod Sends
 pub mod Repeats
 pub mod SentLetters

@@ -14,7 +14,7 @@ use Rattle.rh_defs.specs.declared.reply.Reply.TheVariants as reply
 use Rattle.rh_defs.specs.Chain.{Granted, ◌>>=◌, ◌>>◌, found_or, answer_of, left_of}
 use Rattle.rh_defs.specs.Range.{in_range}
 use Rattle.rh_defs.specs.Post.{Post, post_send}
-use Rattle.rh_defs.specs.Desk.{Desk, Task, next_ref, free_pages, with_task, with_post, send_letter}
+use Rattle.rh_defs.specs.Desk.{Desk, Task, next_ref, with_task, with_post, send_letter}
 use Rattle.rh_defs.specs.Commands.{Answer}
 use Rattle.rh_defs.specs.Laws.{IsDesk}
 use Rattle.rh_defs.specs.Order.{IsReordered}

@@ -1,6 +1,6 @@
 -- Blocks that are offered to other tasks.
-use Rattle.std.proofs.Common.{◌≡◌, ℕ, zero, suc, ◌<◌, ◌≤◌, Bool, true, false, cond, refl, ap, sym, subst, ◌∙◌, arith, List, [], ◌∷◌, length}
-use Rattle.std.specs.Prelude.{Some, None, Ok, Err, find, map, nat_lt, ◌==◌, ◌||◌, ◌&&◌}
+use Rattle.std.proofs.Common.{◌≡◌, ℕ, zero, suc, ◌<◌, Bool, true, false, cond, refl, ap, sym, ◌∙◌, arith, List, [], ◌∷◌, length}
+use Rattle.std.specs.Prelude.{Some, None, Ok, Err, find, map, nat_lt, nat_le, ◌==◌, ◌||◌, ◌&&◌, Option}
 use Rattle.std.specs.List.{list_all, list_any, position}
 use Rattle.std.proofs.Math.ListN.{get_or, set}
 use Rattle.std.proofs.lemmas.Bool.Decides.{nat_tests}
@@ -16,7 +16,6 @@ use Rattle.rh_defs.specs.declared.refusal.Refusal.{Refusal}
 use Rattle.rh_defs.specs.declared.refusal.Refusal.TheVariants.{NoName, NoTask, Busy}
 use Rattle.rh_defs.specs.declared.reply.Reply.TheVariants as reply
 use Rattle.rh_defs.specs.Chain.{Granted, ◌>>=◌, ◌>>◌, refuse_if, found_or, answer_of, left_of}
-use Rattle.rh_defs.specs.Pieces.{Split}
 use Rattle.rh_defs.specs.Range.{in_range}
 use Rattle.rh_defs.specs.Letters.{save_letter}
 use Rattle.rh_defs.specs.Post.{post_send}
@@ -30,7 +29,7 @@ use Rattle.rh_defs.specs.Order.{IsReordered}
 use Rattle.rh_defs.specs.Step.{save}
 use Rattle.rh_slot.specs.Area.{IsSlot, slot_in}
 use Rattle.rh_wimp.specs.Calls.{Answers, Leaves}
-use Rattle.rh_wimp.specs.Chains.{Chains}
+use Rattle.rh_wimp.specs.Chains.{Chains, HasEntry}
 use Rattle.rh_tasks.specs.declared.seat.Seat.{Seat}
 use Rattle.rh_tasks.specs.declared.made.MadeArea.{MadeArea}
 use Rattle.rh_tasks.specs.View.{Kept, the_module, HasSlot, is_named, task_of, desk_of, IsWorld}
@@ -43,7 +42,7 @@ use Rattle.rh_tasks.proofs.Finding.{sits, named-is, find-named, nobody-named}
 use Rattle.rh_tasks.proofs.Worlds.{granted-keeps}
 use Rattle.rh_tasks.proofs.Moves.{Moves}
 use Rattle.rh_tasks.proofs.Sends.{desk_then, sent-alike, sent-world}
-use Rattle.rh_tasks.proofs.Repeats.{letter-refused, letter_then, letter-sent, ref-is}
+use Rattle.rh_tasks.proofs.Repeats.{from-live, letter-refused, letter_then, letter-sent, ref-is}
 
 -- ---- a leafname can stand in a message
 
@@ -63,7 +62,7 @@ plain-graphic (b ∷ leaf) e =
 pub leaf-pathname : (leaf : List ℕ) → is_leaf leaf ≡ true → is_pathname leaf ≡ true
 leaf-pathname leaf e =
     let p = both _ (list_all is_graphic leaf) e in
-    let q = both _ _ p.0 in
+    let q = both (nat_le 1 (length leaf)) (nat_le (length leaf) 10) p.0 in
     name_is leaf (grind (arith, nat_tests)) (plain-graphic leaf p.1)
 
 -- ---- what a task may offer
@@ -142,7 +141,7 @@ edit-twice h first second same (t ∷ tasks) = go (t.handle == h) refl (edit-twi
 
 -- ---- the command
 
-module _ {m : Memory} {seats : List Seat} {made : List MadeArea} {files : FileList} {kept : Kept} {name : List ℕ} {i : ℕ} {s : Seat}
+module _ {m : Memory} {seats : List Seat} {made : List MadeArea} {files : FileList} {kept : Kept}
     (w : IsWorld m seats made files kept) (k : ℕ) (to leaf : List ℕ) where
   abbrev d : Desk
   d = desk_of m seats made files kept
@@ -154,11 +153,11 @@ module _ {m : Memory} {seats : List Seat} {made : List MadeArea} {files : FileLi
   abbrev then_sized : Task → ℕ → Granted Answer
   then_sized t n = found_or (find (has_name to) d.tasks) NoTask >>= then_to t n
 
-  pub save-stopped : {r : Refusal} → looked (source_block k) m name seats ≡ Err r → save d name k to leaf ≡ Err r
+  pub save-stopped : (name : List ℕ) {r : Refusal} → looked (source_block k) m name seats ≡ Err r → save d name k to leaf ≡ Err r
   unfolding save named
-  save-stopped e = look-refused (found_or (find (has_name name) d.tasks) NoName) k then_sized e
+  save-stopped name e = look-refused (found_or (find (has_name name) d.tasks) NoName) k then_sized e
 
-  module _ (f : Found name seats i s) (n : ℕ) (given : source_block k (task_of m s) ≡ Ok n) where
+  module _ {name : List ℕ} {i : ℕ} {s : Seat} (f : Found name seats i s) (n : ℕ) (given : source_block k (task_of m s) ≡ Ok n) where
     save-sized : save d name k to leaf ≡ then_sized (task_of m s) n
     unfolding save
     save-sized = begins _ (named-is m made files kept f) (behind-given (idle_block k (task_of m s)) (λ b. length b.here.bytes) (is_full is_open (task_of m s).sending) (then_sized (task_of m s)) n given)
@@ -171,13 +170,16 @@ module _ {m : Memory} {seats : List Seat} {made : List MadeArea} {files : FileLi
     unfolding found_or
     save-nobody none = save-sized ∙ ends _ (no-task (find (has_name to) (map (task_of m) seats)) (nobody-named m to seats none))
       where
-        no-task : (o : _) → found_or o NoName ≡ Err NoName → found_or o NoTask ≡ Err NoTask
+        no-task : (o : Option Task) → found_or o NoName ≡ Err NoName → found_or o NoTask ≡ Err NoTask
         no-task None e = refl
         no-task (Some t) e = absurd cc
 
     module _ {j h : ℕ} {x : Seat} (there : Found to seats j x) (is : x.handle ≡ h) where
       abbrev pub letter : Letter
       letter = save_letter s.handle h n leaf
+
+      pub save-live : HasEntry letter.from kept.queue
+      save-live = from-live w (sits f) letter refl
 
       task-found : found_or (find (has_name to) (map (task_of m) seats)) NoTask ≡ Ok (task_of m x)
       unfolding found_or

@@ -18,7 +18,7 @@ use Rattle.rh_tasks.specs.declared.seat.Seat.{Seat}
 use Rattle.rh_tasks.specs.declared.made.MadeArea.{MadeArea}
 use Rattle.rh_tasks.specs.View.{Kept, the_module, task_of, desk_of, shown_of, IsWorld}
 use Rattle.rh_tasks.specs.Letters.{with_last}
-use Rattle.rh_tasks.specs.Polls.{IsAt, Sends}
+use Rattle.rh_tasks.specs.Polls.{Sends}
 use Rattle.rh_tasks.proofs.Lists.{Sits, set_same}
 use Rattle.rh_tasks.proofs.Places.{mapped-inside, mapped-is}
 use Rattle.rh_tasks.proofs.Sends.{sent-alike, sent-world}

@@ -1,5 +1,5 @@
 -- What a task may offer, and to whom.
-use Rattle.std.specs.Prelude.{◌≡◌, ℕ, List, length, Ok, ◌==◌}
+use Rattle.std.specs.Prelude.{◌≡◌, ℕ, List, length, Ok}
 use Rattle.rh_defs.specs.declared.refusal.Refusal.TheVariants.{Busy}
 use Rattle.rh_defs.specs.Chain.{Granted, ◌>>=◌, ◌>>◌, refuse_if}
 use Rattle.rh_defs.specs.Desk.{Task, idle_block}

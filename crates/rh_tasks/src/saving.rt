@@ -44,7 +44,8 @@ fn idle_source<S: Words>(
     let i = find(seats, name)?;
     let seat = &seats[i];
     let size = seat.slot.size(store, anchor)? as u32;
-    if seat.is_busy_block(anchor) {
+    let is_busy = seat.is_busy_block(anchor);
+    if is_busy {
         return Err(Refusal::Busy);
     }
     if seat.sending.is_full() {

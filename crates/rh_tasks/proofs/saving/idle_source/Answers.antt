@@ -31,12 +31,12 @@ overflow_cast-size g c =
     let has = all-at (HasSlot m) c.args.seats.now.items c.in_ok-i.i s c.requires.slots (sits f) in
     omega (arith, small-size has (g.met.S.Words.small c.args.store.now s.slot.area.0) c.args.anchor c.in_ok-size.field-0 c.in_ok-size.ensures)
 
-pub returns-then-is_busy_block-clause-err : goal.returns-then-is_busy_block-clause-err
-returns-then-is_busy_block-clause-err g c =
+pub returns-then-is_busy-clause-err : goal.returns-then-is_busy-clause-err
+returns-then-is_busy-clause-err g c =
     let m = g.S.Words.memory c.args.store.now in
     let s = c.index-seat.result.now in
     let f : Found c.args.name.now c.args.seats.now.items c.in_ok-i.i s = record { at = c.in_ok-i.ensures.ok; is = sym c.index-seat.ensures } in
-    let busy = sym c.is_busy_block.ensures ∙ c.if-is_busy_block.true in
+    let busy = sym c.is_busy_block-is_busy.ensures ∙ c.if-is_busy.true in
     looked-at (source_block c.args.anchor) m f (source-is m s c.args.anchor _ c.in_ok-size.ensures ∙ rw busy refl)
 
 pub returns-then-is_full-clause-err : goal.returns-then-is_full-clause-err
@@ -44,7 +44,7 @@ returns-then-is_full-clause-err g c =
     let m = g.S.Words.memory c.args.store.now in
     let s = c.index-seat.result.now in
     let f : Found c.args.name.now c.args.seats.now.items c.in_ok-i.i s = record { at = c.in_ok-i.ensures.ok; is = sym c.index-seat.ensures } in
-    let busy = sym c.is_busy_block.ensures ∙ c.if-is_busy_block.false in
+    let busy = sym c.is_busy_block-is_busy.ensures ∙ c.if-is_busy.false in
     let full = sym c.is_full.ensures ∙ c.if-is_full.true in
     looked-at (source_block c.args.anchor) m f (source-is m s c.args.anchor _ c.in_ok-size.ensures ∙ rw (busy, full) refl)
 
@@ -52,7 +52,7 @@ pub returns-clause-ok : goal.returns-clause-ok
 returns-clause-ok g c =
     let m = g.S.Words.memory c.args.store.now in
     let s = c.index-seat.result.now in
-    let busy = sym c.is_busy_block.ensures ∙ c.if-is_busy_block.false in
+    let busy = sym c.is_busy_block-is_busy.ensures ∙ c.if-is_busy.false in
     let full = sym c.is_full.ensures ∙ c.if-is_full.false in record {
       seat = s;
       found = record { at = c.in_ok-i.ensures.ok; is = sym c.index-seat.ensures };

@@ -1,4 +1,3 @@
-use Rattle.std.proofs.Common.{subst, sym}
 use Rattle.rh_tasks.proofs.Saves.{leaf-pathname}
 use Rattle.rh_tasks.proofs.saving.save_letter.Goals as goal
 

@@ -3,10 +3,9 @@ use Rattle.std.proofs.Math.ListN.{set}
 use Rattle.std.proofs.lemmas.Result.{err_from_is_err_and}
 use Rattle.rh_tasks.specs.Finding.{Found}
 use Rattle.rh_tasks.specs.Saves.{source_block}
-use Rattle.rh_tasks.proofs.Finding.{sits}
 use Rattle.rh_tasks.proofs.Ranges.{save-anchor, save-leaf}
-use Rattle.rh_tasks.proofs.Repeats.{same-shown, seat-kept, from-live}
-use Rattle.rh_tasks.proofs.Saves.{again-found, again-given, save-stopped, save-nobody, may-open, save-refused, save-world, save-done, letter}
+use Rattle.rh_tasks.proofs.Repeats.{same-shown, seat-kept}
+use Rattle.rh_tasks.proofs.Saves.{again-found, again-given, save-stopped, save-nobody, may-open, save-refused, save-world, save-done, save-live}
 use Rattle.rh_tasks.proofs.world.World.save.Goals as goal
 
 pub idle_source-requires-clause-anchor : goal.idle_source-requires-clause-anchor
@@ -15,7 +14,7 @@ idle_source-requires-clause-anchor g c = save-anchor c.args.name.now c.args.anch
 pub returns-in_err-source : goal.returns-in_err-source
 returns-in_err-source g c =
     let p = err_from_is_err_and c.from_residual.result c.from_residual.ensures.1 in
-    rw (p.1, p.2, ← c.self.view_is) (save-stopped c.self.invariant.0 c.args.anchor c.args.to.now c.args.leaf.now c.in_err-source.ensures.err, refl)
+    rw (p.1, p.2, ← c.self.view_is) (save-stopped c.self.invariant.0 c.args.anchor c.args.to.now c.args.leaf.now c.args.name.now c.in_err-source.ensures.err, refl)
 
 pub returns-in_err-recipient : goal.returns-in_err-recipient
 returns-in_err-recipient g c =
@@ -36,7 +35,7 @@ send-requires-clause-from g c =
     let f : Found c.args.name.now c.self.inside.seats.items c.in_ok-source.source.place s = again-found e.found (sym c.index_mut-seat.ensures.value) in
     let given = again-given (source_block c.args.anchor) (g.S.Words.memory c.self.inside.store) e.found f e.given in
     let r = c.in_ok-recipient.ensures.ok in
-    rw (c.save_letter-letter.ensures) (from-live c.self.invariant.0 (sits f) (letter c.self.invariant.0 c.args.anchor c.args.to.now c.args.leaf.now f c.in_ok-source.source.size given r.found r.is) refl)
+    rw (c.save_letter-letter.ensures) (save-live c.self.invariant.0 c.args.anchor c.args.to.now c.args.leaf.now f c.in_ok-source.source.size given r.found r.is)
 
 pub returns-in_err-my_ref : goal.returns-in_err-my_ref
 returns-in_err-my_ref g c =

@@ -1,9 +1,4 @@
-use Rattle.std.proofs.Common.{ap, subst, sym, ◌∙◌}
-use Rattle.rh_defs.specs.Desk.{Task}
-use Rattle.rh_tasks.specs.View.{task_of}
-use Rattle.rh_tasks.specs.Polls.{Sends}
-use Rattle.rh_tasks.proofs.Places.{mapped-inside}
-use Rattle.rh_tasks.proofs.Lists.{Sits}
+use Rattle.std.proofs.Common.{sym}
 use Rattle.rh_tasks.proofs.Repeats.{from-live}
 use Rattle.rh_tasks.proofs.SentLetters.{at-place, own-letter, sends-world, sends-done}
 use Rattle.rh_tasks.proofs.world.World.send_from.Goals as goal

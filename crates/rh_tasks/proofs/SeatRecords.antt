@@ -1,0 +1,83 @@
+-- The records of the task at a place, edited.
+use Rattle.std.proofs.Common.{◌≡◌, ℕ, ◌<◌, refl, ap, sym, subst, arith, false, ◌∙◌, List, length}
+use Rattle.std.specs.Prelude.{map}
+use Rattle.std.proofs.Math.ListN.{get_or, set}
+use Rattle.std.proofs.lemmas.List.{length-map}
+use Rattle.rh_defs.specs.Memory.{Memory}
+use Rattle.rh_defs.proofs.MemoryLaws.{OnlyArea-self}
+use Rattle.rh_defs.specs.Files.{FileList}
+use Rattle.rh_defs.specs.declared.transfer.Outgoing.{Outgoing}
+use Rattle.rh_defs.specs.declared.transfer.Incoming.{Incoming}
+use Rattle.rh_defs.specs.Records.{is_going, is_full}
+use Rattle.rh_defs.specs.Desk.{Desk, Task, with_sending, with_taking}
+use Rattle.rh_defs.specs.Laws.{IsDesk}
+use Rattle.rh_defs.proofs.Desks.{with_sending-keeps, with_taking-keeps}
+use Rattle.rh_slot.specs.Area.{IsSlot}
+use Rattle.rh_tasks.specs.declared.seat.Seat.{Seat}
+use Rattle.rh_tasks.specs.declared.made.MadeArea.{MadeArea}
+use Rattle.rh_tasks.specs.View.{Kept, HasSlot, task_of, desk_of, IsWorld}
+use Rattle.rh_tasks.specs.Polls.{IsAt}
+use Rattle.rh_tasks.proofs.Lists.{Sits, all-at}
+use Rattle.rh_tasks.proofs.Places.{mapped-at, mapped-is}
+use Rattle.rh_tasks.proofs.Moves.{Moves, moved-desk, moved-world}
+
+module _ {m : Memory} {seats : List Seat} {made : List MadeArea} {files : FileList} {kept : Kept}
+    (w : IsWorld m seats made files kept) where
+  abbrev d : Desk
+  d = desk_of m seats made files kept
+
+  -- a place that the desk has
+  pub sits-in : {i : ℕ} {s : Seat} → i < length (map (task_of m) seats) → get_or seats i s ≡ s → Sits seats i s
+  sits-in inside is = record { inside = omega (arith, inside, length-map seats (task_of m)); is = is }
+
+  module _ {i : ℕ} {s : Seat} (at : Sits seats i s) where
+    has : IsSlot m s.slot
+    has = all-at (HasSlot m) seats i s w.areas.slots at
+
+    -- the task there
+    handle-at : (t : Task) → IsAt i t d → s.handle ≡ t.handle
+    unfolding task_of
+    handle-at t there = ap (λ (x : Task). x.handle) (mapped-is (task_of m) seats i s t at there)
+
+    -- the seat may take one more
+    pub room-at : ((t : Task) → IsAt i t d → is_full is_going t.taking ≡ false) → is_full is_going s.taking ≡ false
+    unfolding task_of
+    room-at room = room (task_of m s) (mapped-at (task_of m) seats i s at)
+
+    -- ---- transfers that go out
+
+    module _ (edit : List Outgoing → List Outgoing) {records : List Outgoing} (is : records ≡ edit s.sending) where
+      abbrev sending_seat : Seat
+      sending_seat = record s { sending = records }
+
+      sending-moves : Moves m m s sending_seat (λ t. record t { sending = edit t.sending })
+      unfolding task_of
+      sending-moves = record { handle = refl; area = refl; still = has; only = OnlyArea-self m s.slot.area.0 has.opened; task = ap (λ (l : List Outgoing). let t : Task = record (task_of m s) { sending = l } in t) is }
+
+      sending-desk : desk_of m (set seats i sending_seat) made files kept ≡ with_sending s.handle edit d
+      sending-desk = moved-desk w at sending-moves
+
+      pub sending-world : IsWorld m (set seats i sending_seat) made files kept
+      sending-world = moved-world w at sending-moves (subst IsDesk (sym sending-desk) (with_sending-keeps s.handle edit d w.desk))
+
+      pub sending-done : (t : Task) → IsAt i t d → desk_of m (set seats i sending_seat) made files kept ≡ with_sending t.handle edit d
+      sending-done t there = sending-desk ∙ ap (λ h. with_sending h edit d) (handle-at t there)
+
+    -- ---- transfers that come in
+
+    module _ (edit : List Incoming → List Incoming) {records : List Incoming} (is : records ≡ edit s.taking) where
+      abbrev taking_seat : Seat
+      taking_seat = record s { taking = records }
+
+      taking-moves : Moves m m s taking_seat (λ t. record t { taking = edit t.taking })
+      unfolding task_of
+      taking-moves = record { handle = refl; area = refl; still = has; only = OnlyArea-self m s.slot.area.0 has.opened; task = ap (λ (l : List Incoming). let t : Task = record (task_of m s) { taking = l } in t) is }
+
+      taking-desk : desk_of m (set seats i taking_seat) made files kept ≡ with_taking s.handle edit d
+      taking-desk = moved-desk w at taking-moves
+
+      pub taking-world : IsWorld m (set seats i taking_seat) made files kept
+      taking-world = moved-world w at taking-moves (subst IsDesk (sym taking-desk) (with_taking-keeps s.handle edit d w.desk))
+
+      pub taking-done : (t : Task) → IsAt i t d → desk_of m (set seats i taking_seat) made files kept ≡ with_taking t.handle edit d
+      taking-done t there = taking-desk ∙ ap (λ h. with_taking h edit d) (handle-at t there)
