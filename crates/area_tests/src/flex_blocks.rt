@@ -7,7 +7,7 @@ ghost use Rattle.rh_defs.specs.declared.sizes.TheConstants.{MAX_AREAS};
 
 use crate::stores::{paged_store, plain_store};
 use rh_defs::{Anchor, BlockItem, Refusal};
-use rh_slot::Slot;
+use rh_slot::{Slot, free_anchor, put_from, write_from};
 use rh_store::{AreaId, Store, Words};
 use std::process::Abort;
 use std::test::Fail;
@@ -34,6 +34,58 @@ fn bytes_at<S: Words>(store: &S, area: AreaId, place: usize) -> Option<[u8; 16]>
     let mut bytes = [0; 16];
     store.copy_out(area, place, &mut bytes);
     Some(bytes)
+}
+
+/// Copies the first two anchor words into the anchor's block, from an offset on.
+fn put_words<S: Store>(
+    store: &mut S,
+    slot: Slot,
+    anchor: Anchor,
+    offset: usize,
+) -> Result<(), Refusal>
+    requires slot { IsSlot (S.memory store.old) slot }
+    requires anchor { anchor < 64 }
+    ensures { IsSlot (S.memory store.new) slot }
+{
+    if store.len(slot.area) < 8 {
+        return Err(Refusal::BadRange);
+    }
+    put_from(store, slot, anchor, offset, slot.area, 0, 8)
+}
+
+/// Copies the second anchor word to an address, if a block holds four bytes there.
+fn write_word<S: Store>(store: &mut S, slot: Slot, address: usize) -> bool
+    requires { IsSlot (S.memory store.old) slot }
+    ensures { IsSlot (S.memory store.new) slot }
+{
+    if store.len(slot.area) < 8 || address < 0x8008 || !slot.inside(store, address, 4) {
+        return false;
+    }
+    write_from(store, slot, address, 4, slot.area, 4, 4);
+    true
+}
+
+fn bytes_come_from_elsewhere<R: Abort, S: Store>(rt: &R, store: &mut S) -> Result<(), Refusal>
+    requires { open_below (S.memory store.old).area MAX_AREAS < MAX_AREAS }
+{
+    let slot = Slot::start(store)?;
+    assert_eq!(rt; slot.alloc(store, Anchor(0), 32), Ok(0x9008));
+    assert_eq!(rt; slot.alloc(store, Anchor(1), 5), Ok(0x9030));
+    assert_eq!(rt; free_anchor(store, slot), Some(Anchor(2)));
+    assert_eq!(rt; put_words(store, slot, Anchor(0), 24), Ok(()));
+    assert_eq!(rt;
+        put_words(store, slot, Anchor(0), 25),
+        Err(Refusal::BadRange)
+    );
+    assert_eq!(rt; put_words(store, slot, Anchor(2), 0), Err(Refusal::NoBlock));
+    assert_eq!(rt; write_word(store, slot, 0x9031), true);
+    let mut eight = [1; 8];
+    assert_eq!(rt; slot.read(store, Anchor(0), 24, &mut eight), Ok(()));
+    assert_eq!(rt; eight, [0x08, 0x90, 0, 0, 0x30, 0x90, 0, 0]);
+    let mut five = [1; 5];
+    assert_eq!(rt; slot.read(store, Anchor(1), 0, &mut five), Ok(()));
+    assert_eq!(rt; five, [0, 0x30, 0x90, 0, 0]);
+    Ok(())
 }
 
 fn blocks_slide_where_one_goes<R: Abort, S: Store>(rt: &R, store: &mut S) -> Result<(), Refusal>
@@ -130,6 +182,7 @@ fn flex_blocks_in_a_plain_store(rt: HostRuntime) -> Result<(), Fail> {
     blocks_slide_where_one_goes(&rt, &mut plain_store(rt.alloc())?)?;
     blocks_slide_where_one_changes(&rt, &mut plain_store(rt.alloc())?)?;
     blocks_are_listed_in_one_walk(&rt, &mut plain_store(rt.alloc())?)?;
+    bytes_come_from_elsewhere(&rt, &mut plain_store(rt.alloc())?)?;
     Ok(())
 }
 
@@ -138,5 +191,6 @@ fn flex_blocks_in_scattered_pages(rt: HostRuntime) -> Result<(), Fail> {
     blocks_slide_where_one_goes(&rt, &mut paged_store(rt.alloc())?)?;
     blocks_slide_where_one_changes(&rt, &mut paged_store(rt.alloc())?)?;
     blocks_are_listed_in_one_walk(&rt, &mut paged_store(rt.alloc())?)?;
+    bytes_come_from_elsewhere(&rt, &mut paged_store(rt.alloc())?)?;
     Ok(())
 }

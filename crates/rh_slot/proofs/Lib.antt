@@ -4,6 +4,10 @@ pub mod FlexLaws
 pub mod EditLaws
 pub mod WalkLaws
 pub mod SpanLaws
+pub mod Ranges
+pub mod FreeLaws
+pub mod ReachLaws
+pub mod WriteLaws
 pub mod LeaveLaws
 pub mod StartLaws
 pub mod GrowLaws

@@ -16,9 +16,9 @@ use rh_store::{Pages, Words};
 
 /// Where a flex block's header stands in the slot's area, and how many bytes the block has.
 #[derive(Clone, Copy)]
-struct Spot {
-    place: usize,
-    size: usize,
+pub(crate) struct Spot {
+    pub place: usize,
+    pub size: usize,
 }
 
 /// A change of a block's bytes: how many before an offset are taken out, and how many zeros are then put in.
@@ -37,7 +37,7 @@ fn word_place(anchor: Anchor) -> usize
 }
 
 /// Whether `n` bytes from an offset on lie in a block of `size` bytes.
-fn fits(size: usize, offset: usize, n: usize) -> bool
+pub(crate) fn fits(size: usize, offset: usize, n: usize) -> bool
     ensures { IsTrue result ↔ (offset + n ≤ size) }
 {
     offset <= size && n <= size - offset
@@ -65,7 +65,7 @@ fn put_in(by: i32) -> usize
 
 impl Slot {
     /// The anchor's block, or `None` where it has none.
-    fn locate<S: Words>(self, store: &S, anchor: Anchor) -> Option<Spot>
+    pub(crate) fn locate<S: Words>(self, store: &S, anchor: Anchor) -> Option<Spot>
         requires slot { IsSlot (S.memory store.now) self }
         requires anchor { anchor < ANCHORS }
         ensures { MatchOption result (IsFree anchor (slot_in (S.memory store.now) self).blocks)

@@ -2,10 +2,12 @@
 #![tactic(auto)]
 
 mod area;
+mod bytes;
 mod c_heap;
 mod flex;
 mod row;
 mod slot;
 
+pub use bytes::{free_anchor, put_from, write_from};
 pub use row::FlexWalk;
 pub use slot::Slot;

@@ -13,9 +13,9 @@ ghost use Rattle.rh_tasks.specs.Polls.{IsAt, IsFor, IsFreeAnchor, Becomes, Claim
 
 use crate::letters::fetch_letter;
 use crate::module_blocks::MODULE;
-use crate::slot_bytes::free_anchor;
 use crate::world::World;
 use rh_defs::{Anchor, Manner, Message, Outcome, Ref, Refusal, Taking};
+use rh_slot::free_anchor;
 use rh_store::Store;
 
 /// Whether a task in this manner takes no DataSave.

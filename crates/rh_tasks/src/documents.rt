@@ -17,11 +17,10 @@ ghost use Rattle.rh_slot.specs.Calls.{Leaves};
 ghost use Rattle.rh_tasks.specs.Polls.{IsAt, IsFor, Attempts, Becomes, Handles, slot_append};
 
 use crate::letters::{ack_letter, fetch_letter};
-use crate::slot_bytes::put_from;
 use crate::world::World;
 use rh_defs::sizes::{ANCHORS, SLOT_START};
 use rh_defs::{Anchor, Asked, Incoming, Message, Outcome, Refusal, Taking};
-use rh_slot::Slot;
+use rh_slot::{Slot, put_from};
 use rh_store::{AreaId, Store, Words};
 
 /// How many bytes the anchor's block has: NoBlock where it has none, also for an anchor that no slot has.

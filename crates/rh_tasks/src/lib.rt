@@ -19,7 +19,6 @@ mod scrap;
 mod scrap_transfers;
 mod seat;
 mod seats;
-mod slot_bytes;
 mod tasks;
 mod transfers;
 mod world;

@@ -13,10 +13,10 @@ ghost use Rattle.rh_tasks.specs.Polls.{IsAt, IsFor, IsPortion, Attempts, Handles
 use crate::documents::document_size;
 use crate::letters::transmit_letter;
 use crate::seat::Seat;
-use crate::slot_bytes::write_from;
 use crate::world::World;
 use rh_defs::sizes::SLOT_START;
 use rh_defs::{Handle, Message, Outcome, Refusal, Sending};
+use rh_slot::write_from;
 use rh_store::Store;
 
 /// The bytes of a source that go out: their address in its slot, and how many they are.

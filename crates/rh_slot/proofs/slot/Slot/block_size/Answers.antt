@@ -1,8 +1,5 @@
 -- The size of a block of the C heap.
-use Rattle.std.proofs.Common.{◌≡◌, ◌-◌, ap, sym, ◌∙◌}
 use Rattle.std.proofs.lemmas.Result.{err_from_is_err_and}
-use Rattle.rh_defs.specs.Heap.{block_size}
-use Rattle.rh_slot.specs.Area.{slot_in}
 use Rattle.rh_slot.proofs.SpanLaws.{is_span_at, heap_at}
 use Rattle.rh_slot.proofs.CHeapLaws.{size_refused, size_granted}
 use Rattle.rh_slot.proofs.slot.Slot.block_size.Goals as goal

@@ -1,29 +1,37 @@
-//! Bytes that go into a slot's blocks from elsewhere in the store.
-
+//! Bytes that go into a slot's blocks from elsewhere in the store, and the anchors without a block.
 ghost use Rattle.std.specs.Prelude.{◌≡◌, ◌≤◌, ◌<◌, ◌+◌, ◌-◌, ◌||◌, ◌⊎◌, true, length, is_some, Ok};
 ghost use Rattle.rh_defs.specs.Bytes.{part};
 ghost use Rattle.rh_defs.specs.Chain.{no_answer};
-ghost use Rattle.rh_defs.specs.Memory.{Memory, IsOpen, bytes};
+ghost use Rattle.rh_defs.specs.Memory.{IsOpen, bytes};
 ghost use Rattle.rh_defs.specs.Places.{buffer_at, free_anchor as free_anchor_on, written_in};
 ghost use Rattle.rh_defs.specs.Slot.{holds, slot_put, slot_start};
 ghost use Rattle.rh_defs.specs.SlotImage.{flex_place};
 ghost use Rattle.rh_slot.specs.Area.{IsSlot, slot_in};
 ghost use Rattle.rh_slot.specs.Calls.{Leaves};
 
+use crate::flex::fits;
+use crate::slot::Slot;
+use rh_defs::sizes::{ANCHORS, FLEX_HEADER, SLOT_START};
 use rh_defs::{Anchor, Refusal};
-use rh_slot::Slot;
 use rh_store::{AreaId, Store, Words};
 
-/// The lowest anchor without a block, none where all 64 have one.
+/// The lowest anchor without a block, `None` where all 64 have one.
 pub fn free_anchor<S: Words>(store: &S, slot: Slot) -> Option<Anchor>
     requires { IsSlot (S.memory store.now) slot }
     ensures { result ≡ free_anchor_on (slot_in (S.memory store.now) slot) }
 {
+    let mut k: u8 = 0;
+    'walk: while (k as usize) < ANCHORS {
+        let Some(_) = slot.locate(store, Anchor(k)) else {
+            return Some(Anchor(k));
+        };
+        k += 1;
+    }
     None
 }
 
-/// Writes n bytes of an area, none of them among the slot's flex blocks, into the anchor's block, from an offset on.
-/// Refused: NoBlock, BadRange.
+/// Writes `n` bytes of an area, none of them among the slot's flex blocks, into the anchor's block, from an offset on.
+/// Refused: `NoBlock` where the anchor has none, `BadRange` where the bytes would go beyond the block's end.
 pub fn put_from<S: Store>(
     store: &mut S,
     slot: Slot,
@@ -41,11 +49,18 @@ pub fn put_from<S: Store>(
     ensures { Leaves (S.memory store.old) (S.memory store.new) slot
         (no_answer (slot_put anchor offset (part (bytes (S.memory store.old) from.0) place n) (slot_in (S.memory store.old) slot))) result }
 {
+    let Some(spot) = slot.locate(store, anchor) else {
+        return Err(Refusal::NoBlock);
+    };
+    if !fits(spot.size, offset, n) {
+        return Err(Refusal::BadRange);
+    }
+    store.copy(from, place, slot.area, spot.place + FLEX_HEADER + offset, n);
     Ok(())
 }
 
-/// Writes n bytes of an area at an address, where a block of the slot has so many bytes of room. In the slot's own area the
-/// two ranges don't overlap.
+/// Writes `n` bytes of an area at an address, where a block of the slot has so many bytes of room. In the slot's own
+/// area the two ranges don't overlap.
 pub fn write_from<S: Store>(
     store: &mut S,
     slot: Slot,
@@ -63,6 +78,7 @@ pub fn write_from<S: Store>(
     requires apart { from.0 ≡ slot.area.0 → (place + n ≤ address - slot_start) ⊎ (address - slot_start + n ≤ place) }
     ensures { Leaves (S.memory store.old) (S.memory store.new) slot
         (no_answer (Ok (written_in address (part (bytes (S.memory store.old) from.0) place n)
-            (buffer_at address room (slot_in (S.memory store.old) slot)) (slot_in (S.memory store.old) slot)))) (Ok tt) }
+        (buffer_at address room (slot_in (S.memory store.old) slot)) (slot_in (S.memory store.old) slot)))) (Ok tt) }
 {
+    store.copy(from, place, slot.area, address - SLOT_START, n);
 }

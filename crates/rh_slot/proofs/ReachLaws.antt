@@ -1,0 +1,229 @@
+-- Bytes at an address of a slot: the block that holds them, and a write into it.
+use Rattle.std.proofs.Common.{◌≡◌, ℕ, ◌+◌, ◌-◌, ◌%◌, ◌<◌, ◌≤◌, Bool, true, false, cond, List, [], ◌∷◌, ◌++◌, length, refl, sym, ap, subst, ◌∙◌, arith}
+use Rattle.std.proofs.lemmas.Bool.Decides.{nat_tests}
+use Rattle.std.specs.Prelude.{◌&&◌, ◌||◌, Option, Some, None, IfSome, is_some, nat_le}
+use Rattle.rh_defs.specs.Bytes.{part, put, SameOutside}
+use Rattle.rh_defs.specs.Pieces.{Split, total, first_at, with_here, written, is_inside, NonePass}
+use Rattle.rh_defs.specs.Heap.{Segment, Used, Hole, Heap, IsTidy, size_of, bytes_of, base, is_around, block_around}
+use Rattle.rh_defs.specs.HeapImage.{Stand, Spells}
+use Rattle.rh_defs.specs.HeapParts.{HasRoom, last_link}
+use Rattle.rh_defs.specs.Places.{with_heap_bytes, roomy_in, buffer_at, written_in, written_around, written_heap}
+use Rattle.rh_defs.specs.Slot.{Slot, Flex, weight, flex_start, flex_address, flex_around, heap_block_at, holds, with_bytes, HaveAnchors}
+use Rattle.rh_defs.specs.SlotImage.{SpellsSlot, flex_place}
+use Rattle.rh_defs.proofs.BlockLaws.{part-written}
+use Rattle.rh_defs.proofs.BytesLaws.{word_same, put-parts, put_outside, length-put, length-part}
+use Rattle.rh_defs.proofs.HeapLaws.{Open-kept, Stand-split, Stand-join}
+use Rattle.rh_defs.proofs.HeapLists.{leb_no, total-append, HasRoom-append, HasRoom-from_tidy, IsCut, first_at-cuts, first_at-none, first_at-found}
+use Rattle.rh_defs.proofs.HeapStretch.{Stand-kept, link_place}
+use Rattle.rh_defs.proofs.SlotImageLaws.{SpellsSlot-with_heap}
+use Rattle.rh_defs.proofs.SlotLaws.{in_below, in_above, wider, HaveAnchors-cut}
+use Rattle.rh_slot.proofs.EditLaws.{put_words}
+use Rattle.rh_slot.proofs.FlexLaws.{paged}
+use Rattle.rh_slot.proofs.Ranges.{HeapCut, heap_cut, cut_bytes, cut_found}
+use Rattle.rh_slot.proofs.WalkLaws.{is_at}
+
+-- ---- a block of a heap gets other bytes, as many as it has
+
+tidy_with : (t : Bool) (xs ys : List Segment) (old new : List ℕ) → length new ≡ length old → IsTidy t (xs ++ Used old ∷ ys) → IsTidy t (xs ++ Used new ∷ ys)
+tidy_with true [] ys old new e h = (ap (λ n. (4 + n) % 8) e ∙ h.0, h.1)
+tidy_with false [] ys old new e h = (ap (λ n. (4 + n) % 8) e ∙ h.0, h.1)
+tidy_with true (Used bs ∷ xs) ys old new e h = (h.0, tidy_with false xs ys old new e h.1)
+tidy_with false (Used bs ∷ xs) ys old new e h = (h.0, tidy_with false xs ys old new e h.1)
+tidy_with true (Hole n ∷ xs) ys old new e h = absurd h
+tidy_with false (Hole n ∷ xs) ys old new e h = (h.0, h.1, tidy_with true xs ys old new e h.2)
+
+pub Spells-with : (b c : List ℕ) (at : ℕ) (h : Heap) (xs ys : List Segment) (old new : List ℕ) (p : ℕ) → Spells b at h → h.segments ≡ xs ++ Used old ∷ ys → p ≡ at + 16 + total size_of xs → length new ≡ length old
+    → SameOutside b c (p + 4) (p + 4 + length old) → part c (p + 4) (length new) ≡ new → Spells c at (record h { segments = xs ++ Used new ∷ ys })
+Spells-with b c at h xs ys old new p s is ep e o now =
+    let room = HasRoom-append xs (Used old ∷ ys) (subst HasRoom is (HasRoom-from_tidy false h.segments s.heap.tidy)) in
+    let st = Stand-split b (at + 4) (at + 16) xs (Used old ∷ ys) (subst (Stand b (at + 4) (at + 16)) is s.stand) in
+    let f = last_link (at + 4) (at + 16) xs in
+    let here : Stand b f p (Used old ∷ ys) = subst (λ q. Stand b f q (Used old ∷ ys)) (sym ep) st.1 in
+    let l = link_place at xs f p room.0 refl ep in
+    let most = l.most in
+    let sum : total size_of h.segments ≡ total size_of xs + (4 + length old + total size_of ys) = ap (total size_of) is ∙ total-append xs (Used old ∷ ys) in
+    let both : total size_of (xs ++ Used new ∷ ys) ≡ total size_of xs + (4 + length new + total size_of ys) = total-append xs (Used new ∷ ys) in
+    let fits = s.heap.fits in
+    let len = o.len in
+    let within = s.within in
+    record {
+      heap = record { tidy = tidy_with false xs ys old new e (subst (IsTidy false) is s.heap.tidy); fits = omega arith; multiple = s.heap.multiple };
+      within = omega arith;
+      special = word_same b c at (in_below o (omega arith)) ∙ s.special;
+      base = word_same b c (at + 8) (in_below o (omega arith)) ∙ s.base ∙ omega arith;
+      last = word_same b c (at + 12) (in_below o (omega arith)) ∙ s.last;
+      stand = Stand-join c (at + 4) (at + 16) xs (Used new ∷ ys)
+          (Open-kept b c (at + 4) (at + 16) xs room.0 (omega arith) (record { link = λ k x y z. o.below k (omega arith); body = λ k x y z. o.below k (omega arith) }) st.0)
+          (subst (λ q. Stand c f q (Used new ∷ ys)) ep (
+            word_same b c p (in_below o (omega arith)) ∙ here.0 ∙ ap (λ n. 4 + n) (sym e),
+            now,
+            subst (λ n. Stand c f (p + (4 + n)) ys) (sym e) (Stand-kept b c f (p + (4 + length old)) ys room.1 (word_same b c f (in_below o (omega arith))) (in_above o (omega arith)) here.2),
+          ));
+    }
+
+-- bytes put into a block of a heap
+pub Spells-put : (b : List ℕ) (at : ℕ) (h : Heap) (y offset q : ℕ) (cut : Split Segment) (xs : List ℕ) → Spells b at h → HeapCut h y cut → offset + length xs ≤ length (bytes_of cut.here) → q ≡ at + y + offset
+    → Spells (put b q xs) at (record h { segments = with_here cut (Used (written (bytes_of cut.here) offset xs)) })
+Spells-put b at h y offset q cut xs s c h1 eq =
+    let old = bytes_of cut.here in
+    let new = written old offset xs in
+    let p = at + 16 + total size_of cut.before in
+    let stands = c.stands in
+    let inside = c.inside in
+    let fits = s.heap.fits in
+    let within = s.within in
+    let same : put old offset xs ≡ new = put-parts old offset xs h1 in
+    let e : length new ≡ length old = sym (ap length same) ∙ length-put old offset xs in
+    let o : SameOutside b (put b q xs) (p + 4) (p + 4 + length old) = wider (put_outside b q xs (q + length xs) (omega arith)) (omega arith) (omega arith) in
+    let place : q ≡ p + 4 + offset = omega arith in
+    let whole : part b (p + 4) (length old) ≡ old = ap (λ r. part b r (length old)) (let z : p + 4 ≡ at + y = omega arith in z) ∙ cut_bytes b at h y cut s c in
+    let now : part (put b q xs) (p + 4) (length new) ≡ new = ap (part (put b q xs) (p + 4)) e ∙ ap (λ r. part (put b r xs) (p + 4) (length old)) place
+    ∙ part-written b (p + 4) (length old) offset xs h1 (omega arith) ∙ ap (λ l. put l offset xs) whole ∙ same in
+    Spells-with b (put b q xs) at h cut.before cut.after old new p s c.is refl e o now
+
+-- ---- blocks in which no bytes at an address lie
+
+le_from : (x y : ℕ) → nat_le x y ≡ true → x ≤ y
+le_from x y h = grind (arith, nat_tests)
+
+is_inside_from : (x n a m : ℕ) → is_inside x n a m ≡ true → (a ≤ x) × (x + n ≤ a + m)
+is_inside_from x n a m e = grind (arith, nat_tests)
+
+is_inside_yes : (x n a m : ℕ) → a ≤ x → x + n ≤ a + m → is_inside x n a m ≡ true
+is_inside_yes x n a m g h = grind (arith, nat_tests)
+
+is_inside_no : (x n a m : ℕ) → a + m < x → is_inside x n a m ≡ false
+is_inside_no x n a m h = grind (arith, nat_tests)
+
+flex_below : (x n p : ℕ) (fs : List Flex) → p + total weight fs < x → NonePass weight (is_at x n) p fs
+flex_below x n p [] h = tt
+flex_below x n p (f ∷ fs) h = (is_inside_no x n (p + 8) (length f.bytes) (omega arith), flex_below x n (p + weight f) fs (omega arith))
+
+flex_above : (x n p : ℕ) (fs : List Flex) → x < p + 8 → NonePass weight (is_at x n) p fs
+flex_above x n p [] h = tt
+flex_above x n p (f ∷ fs) h = (ap (λ t. t && nat_le (x + n) (p + 8 + length f.bytes)) (leb_no (p + 8) x h), flex_above x n (p + weight f) fs (omega arith))
+
+heap_below : (x n p : ℕ) (ss : List Segment) → p + total size_of ss < x → NonePass size_of (is_around x n) p ss
+heap_below x n p [] h = tt
+heap_below x n p (Used bs ∷ ss) h = (is_inside_no x n (p + 4) (length bs) (omega arith), heap_below x n (p + (4 + length bs)) ss (omega arith))
+heap_below x n p (Hole m ∷ ss) h = (refl, heap_below x n (p + m) ss (omega arith))
+
+-- ---- the block in which bytes at an address lie
+
+-- the bytes that are written at an address go into one block
+pub data Reached (s : Slot) (x room : ℕ) (xs : List ℕ) : Type 0 where
+  in_heap : (cut : Split Segment) (y offset : ℕ) → HeapCut s.heap y cut → x ≡ 33024 + y + offset → offset + length xs ≤ length (bytes_of cut.here)
+      → written_in x xs (buffer_at x room s) s ≡ with_heap_bytes cut offset xs s → Reached s x room xs
+  in_flex : (cut : Split Flex) (offset : ℕ) → s.blocks ≡ cut.before ++ cut.here ∷ cut.after → x ≡ flex_address s cut.before + offset → offset + length xs ≤ length cut.here.bytes
+      → written_in x xs (buffer_at x room s) s ≡ with_bytes cut (written cut.here.bytes offset xs) s → Reached s x room xs
+
+roomy : (n : ℕ) (o : Option (Split Segment)) (cut : Split Segment) → roomy_in n o ≡ Some cut → (o ≡ Some cut) × (n ≤ length (bytes_of cut.here))
+roomy n None cut e = absurd cc
+roomy n (Some b) cut e = go (nat_le n (length (bytes_of b.here))) refl e
+  where
+    go : (t : Bool) → nat_le n (length (bytes_of b.here)) ≡ t → cond t (Some b) None ≡ Some cut → (Some b ≡ Some cut) × (n ≤ length (bytes_of cut.here))
+    go true q f = let same : b ≡ cut = cc in (f, subst (λ (c : Split Segment). n ≤ length (bytes_of c.here)) same (le_from n (length (bytes_of b.here)) q))
+    go false q f = absurd cc
+
+around_used : (x n place : ℕ) (g : Segment) → is_around x n place g ≡ true → (g ≡ Used (bytes_of g)) × ((place + 4 ≤ x) × (x + n ≤ place + 4 + length (bytes_of g)))
+around_used x n place (Used bs) e = (refl, is_inside_from x n (place + 4) (length bs) e)
+around_used x n place (Hole m) e = absurd cc
+
+module _ (s : Slot) (x room : ℕ) (xs : List ℕ) (few : length xs ≤ room) (fits : base s.heap ≤ s.heap.end) where
+  in_buffer : (cut : Split Segment) → buffer_at x room s ≡ Some cut → Reached s x room xs
+  in_buffer cut e =
+      let r = roomy room (heap_block_at x s) cut e in
+      let c = heap_cut s.heap (x - 33024) cut r.0 in
+      let stands = c.stands in
+      in_heap cut (x - 33024) 0 c (omega arith) (let most = r.1 in omega arith) (ap (λ o. written_in x xs o s) e)
+
+  in_some_flex : (cut : Split Flex) → buffer_at x room s ≡ None → flex_around x room s ≡ Some cut → Reached s x room xs
+  in_some_flex cut e f =
+      let c : IsCut weight (is_at x room) (flex_start s) s.blocks cut = subst (λ o. IfSome o (IsCut weight (is_at x room) (flex_start s) s.blocks)) f (first_at-cuts weight (is_at x room) (flex_start s) s.blocks) in
+      let r = is_inside_from x room (flex_start s + total weight cut.before + 8) (length cut.here.bytes) c.passes in
+      let low = r.0 in
+      let high = r.1 in
+      let found : flex_around x (length xs) s ≡ Some cut =
+      ap (first_at weight (is_at x (length xs)) (flex_start s)) c.whole
+      ∙ first_at-found weight (is_at x (length xs)) (flex_start s) cut.before cut.here cut.after (flex_below x (length xs) (flex_start s) cut.before (omega arith))
+      (is_inside_yes x (length xs) (flex_start s + total weight cut.before + 8) (length cut.here.bytes) low (omega arith)) in
+      in_flex cut (x - flex_address s cut.before) c.whole (omega arith) (omega arith) (ap (λ o. written_in x xs o s) e ∙ ap (λ o. written_around x xs o s) found)
+
+  in_some_segment : (cut : Split Segment) → buffer_at x room s ≡ None → 33024 ≤ x → block_around (x - 33024) room s.heap ≡ Some cut → Reached s x room xs
+  in_some_segment cut e l f =
+      let y = x - 33024 in
+      let c : IsCut size_of (is_around y room) 16 s.heap.segments cut =
+      subst (λ o. IfSome o (IsCut size_of (is_around y room) 16 s.heap.segments)) f (first_at-cuts size_of (is_around y room) 16 s.heap.segments) in
+      let r = around_used y room (16 + total size_of cut.before) cut.here c.passes in
+      let low = r.1.0 in
+      let high = r.1.1 in
+      let is : s.heap.segments ≡ cut.before ++ Used (bytes_of cut.here) ∷ cut.after = c.whole ∙ ap (λ g. cut.before ++ g ∷ cut.after) r.0 in
+      let sum : total size_of s.heap.segments ≡ total size_of cut.before + (4 + length (bytes_of cut.here) + total size_of cut.after) =
+      ap (total size_of) is ∙ total-append cut.before (Used (bytes_of cut.here) ∷ cut.after) in
+      let none : flex_around x (length xs) s ≡ None = first_at-none weight (is_at x (length xs)) (flex_start s) s.blocks (flex_above x (length xs) (flex_start s) s.blocks (omega arith)) in
+      let passes : is_around y (length xs) (16 + total size_of cut.before) cut.here ≡ true =
+      ap (is_around y (length xs) (16 + total size_of cut.before)) r.0 ∙ is_inside_yes y (length xs) (16 + total size_of cut.before + 4) (length (bytes_of cut.here)) low (omega arith) in
+      let found : block_around y (length xs) s.heap ≡ Some cut =
+      ap (first_at size_of (is_around y (length xs)) 16) c.whole
+      ∙ first_at-found size_of (is_around y (length xs)) 16 cut.before cut.here cut.after (heap_below y (length xs) 16 cut.before (omega arith)) passes in
+      in_heap cut (16 + total size_of cut.before + 4) (x - (33024 + (16 + total size_of cut.before) + 4))
+      (record { is = is; here = r.0; stands = refl; inside = omega arith }) (omega arith) (omega arith)
+      (ap (λ o. written_in x xs o s) e ∙ ap (λ o. written_around x xs o s) none ∙ ap (λ o. written_heap x xs o s) found)
+
+  in_segment : (t : Bool) (o : Option (Split Segment)) → buffer_at x room s ≡ None → nat_le 33024 x ≡ t → block_around (x - 33024) room s.heap ≡ o → (t && is_some o) ≡ true → Reached s x room xs
+  in_segment true (Some cut) e l f q = in_some_segment cut e (le_from 33024 x l) f
+  in_segment true None e l f q = absurd cc
+  in_segment false o e l f q = absurd cc
+
+  in_block : (o : Option (Split Flex)) → buffer_at x room s ≡ None → flex_around x room s ≡ o → (is_some o || (nat_le 33024 x && is_some (block_around (x - 33024) room s.heap))) ≡ true → Reached s x room xs
+  in_block (Some cut) e f q = in_some_flex cut e f
+  in_block None e f q = in_segment (nat_le 33024 x) (block_around (x - 33024) room s.heap) e refl refl q
+
+  in_any : (o : Option (Split Segment)) → buffer_at x room s ≡ o → (is_some o || holds x room s) ≡ true → Reached s x room xs
+  in_any (Some cut) e q = in_buffer cut e
+  in_any None e q = in_block (flex_around x room s) e refl q
+
+  pub reached : (is_some (buffer_at x room s) || holds x room s) ≡ true → Reached s x room xs
+  reached q = in_any (buffer_at x room s) refl q
+
+-- the same of n bytes of an area
+pub reached_part : (s : Slot) (x room n : ℕ) (b : List ℕ) (place : ℕ) (c : List ℕ) → SpellsSlot c s → n ≤ room → (is_some (buffer_at x room s) || holds x room s) ≡ true → Reached s x room (part b place n)
+reached_part s x room n b place c k few q = let l = length-part b place n in reached s x room (part b place n) (omega arith) k.words.heap.heap.fits q
+
+-- ---- where they lie, and what the area's bytes spell then
+
+-- the place of the bytes in the area
+pub record Within (b : List ℕ) (x n : ℕ) : Type 0 where
+  pub low : 33024 ≤ x
+  pub high : x - 32768 + n ≤ length b
+
+pub within : (b : List ℕ) (s : Slot) (x room : ℕ) (xs : List ℕ) → SpellsSlot b s → Reached s x room xs → Within b x (length xs)
+within b s x room xs k (in_heap cut y offset c e h q) =
+    let inside = c.inside in
+    let fits = k.words.heap.heap.fits in
+    let most = k.words.within in
+    record { low = omega arith; high = omega arith }
+within b s x room xs k (in_flex cut offset is e h q) =
+    let f = cut_found s cut.here.anchor cut is refl (HaveAnchors-cut cut.before cut.here cut.after (subst HaveAnchors is k.words.anchors)).before in
+    let inside = f.inside in
+    let most = k.words.within in
+    record { low = omega arith; high = omega arith }
+
+pub reached_spells : (b : List ℕ) (s : Slot) (x room : ℕ) (xs : List ℕ) → SpellsSlot b s → Reached s x room xs → SpellsSlot (put b (x - 32768) xs) (written_in x xs (buffer_at x room s) s)
+reached_spells b s x room xs k (in_heap cut y offset c e h q) =
+    let inside = c.inside in
+    let stands = c.stands in
+    let fits = k.words.heap.heap.fits in
+    subst (SpellsSlot (put b (x - 32768) xs)) (sym q)
+    (SpellsSlot-with_heap b (put b (x - 32768) xs) s (record s.heap { segments = with_here cut (Used (written (bytes_of cut.here) offset xs)) }) k
+    (wider (put_outside b (x - 32768) xs (x - 32768 + length xs) (omega arith)) (omega arith) (omega arith))
+    (Spells-put b 256 s.heap y offset (x - 32768) cut xs k.words.heap c h (omega arith)) refl)
+reached_spells b s x room xs k (in_flex cut offset is e h q) =
+    let f = cut_found s cut.here.anchor cut is refl (HaveAnchors-cut cut.before cut.here cut.after (subst HaveAnchors is k.words.anchors)).before in
+    let place : x - 32768 ≡ flex_place s + total weight cut.before + 8 + offset = omega arith in
+    let w = put_words b (put b (x - 32768) xs) s cut.here.anchor (flex_place s + total weight cut.before) (length cut.here.bytes) offset cut xs k.words f h (ap (λ p. put b p xs) place) in
+    subst (SpellsSlot (put b (x - 32768) xs)) (sym q) (paged _ _ _ w.0 w.1 (length-put b (x - 32768) xs ∙ k.pages))
+
+pub reached_budging : (s : Slot) (x room : ℕ) (xs : List ℕ) → Reached s x room xs → (written_in x xs (buffer_at x room s) s).budging ≡ s.budging
+reached_budging s x room xs (in_heap cut y offset c e h q) = ap (λ (t : Slot). t.budging) q
+reached_budging s x room xs (in_flex cut offset is e h q) = ap (λ (t : Slot). t.budging) q

@@ -1,0 +1,39 @@
+-- Bytes of the store are copied into a slot's block.
+use Rattle.std.proofs.Common.{◌≡◌, ℕ, ◌+◌, ◌≤◌, List, length, refl, sym, ap, subst, ◌∙◌, arith}
+use Rattle.std.specs.Prelude.{Ok}
+use Rattle.rh_defs.specs.Bytes.{put}
+use Rattle.rh_defs.specs.Chain.{Granted, no_answer}
+use Rattle.rh_defs.specs.Memory.{Memory, bytes, with_bytes}
+use Rattle.rh_defs.specs.Pieces.{Split}
+use Rattle.rh_defs.specs.Slot as plain
+use Rattle.rh_defs.specs.Slot.{Flex, slot_put}
+use Rattle.rh_defs.specs.SlotImage.{SpellsSlot}
+use Rattle.rh_defs.proofs.BytesLaws.{length-put}
+use Rattle.rh_defs.proofs.MemoryLaws.{bytes-with_bytes, OnlyArea-from_Edited}
+use Rattle.rh_slot.specs.declared.slot.Slot.{Slot}
+use Rattle.rh_slot.specs.Area.{IsSlot, slot_in}
+use Rattle.rh_slot.specs.Calls.{Leaves}
+use Rattle.rh_slot.specs.Flex.{FoundAt}
+use Rattle.rh_slot.proofs.AreaLaws.{Edited-put}
+use Rattle.rh_slot.proofs.EditLaws.{put_words, put_at}
+use Rattle.rh_slot.proofs.FlexLaws.{paged}
+use Rattle.rh_slot.proofs.LeaveLaws.{leaves}
+use Rattle.rh_slot.proofs.SpanLaws.{budging_same}
+
+-- bytes are put into a slot's area, where they spell the slot that is granted
+pub copied : (m n : Memory) (slot : Slot) (granted : Granted (plain.Slot × Unit {0})) (s : plain.Slot) (at : ℕ) (xs : List ℕ) → granted ≡ Ok (s, tt) → s.budging ≡ (slot_in m slot).budging
+    → n ≡ with_bytes m slot.area.0 (put (bytes m slot.area.0) at xs) → SpellsSlot (put (bytes m slot.area.0) at xs) s → Leaves m n slot granted (Ok tt)
+copied m n slot granted s at xs e b ne k =
+    let id = slot.area.0 in
+    let now : bytes n id ≡ put (bytes m id) at xs = ap (λ (r : Memory). bytes r id) ne ∙ bytes-with_bytes m id (put (bytes m id) at xs) in
+    leaves m n slot granted s tt e (b ∙ budging_same m slot) (subst (λ c. SpellsSlot c s) (sym now) k)
+    (OnlyArea-from_Edited m n id at (at + length xs) (Edited-put m n id at (at + length xs) xs ne (omega arith)))
+
+-- bytes are put into an anchor's block
+pub put_copied : (m n : Memory) (slot : Slot) (k offset place size : ℕ) (cut : Split Flex) (xs : List ℕ) → IsSlot m slot → FoundAt k (slot_in m slot) place size cut → offset + length xs ≤ size
+    → n ≡ with_bytes m slot.area.0 (put (bytes m slot.area.0) (place + 8 + offset) xs) → Leaves m n slot (no_answer (slot_put k offset xs (slot_in m slot))) (Ok tt)
+put_copied m n slot k offset place size cut xs s f h e =
+    let b = bytes m slot.area.0 in
+    let w = put_words b (put b (place + 8 + offset) xs) (slot_in m slot) k place size offset cut xs s.spells.words f h refl in
+    copied m n slot _ _ (place + 8 + offset) xs (ap no_answer (put_at k offset xs (slot_in m slot) place size cut f h)) refl e
+    (paged _ _ _ w.0 w.1 (length-put b (place + 8 + offset) xs ∙ s.spells.pages))
