@@ -67,12 +67,12 @@ twice : (h : ℕ) (f g : Task → Task) → ((t : Task) → (g t).handle ≡ t.h
 twice h f g keeps [] = refl
 twice h f g keeps (t ∷ tasks) = elim (cases_eq t.handle h) [
   | inl e ↦ ap (edit_task h f) (if_same t.handle h (g t ∷ tasks) (t ∷ edit_task h g tasks) e)
-    ∙ if_same (g t).handle h (f (g t) ∷ tasks) (g t ∷ edit_task h f tasks) (keeps t ∙ e)
-    ∙ sym (if_same t.handle h (f (g t) ∷ tasks) (t ∷ edit_task h (λ x. f (g x)) tasks) e)
+      ∙ if_same (g t).handle h (f (g t) ∷ tasks) (g t ∷ edit_task h f tasks) (keeps t ∙ e)
+      ∙ sym (if_same t.handle h (f (g t) ∷ tasks) (t ∷ edit_task h (λ x. f (g x)) tasks) e)
   | inr ne ↦ ap (edit_task h f) (if_apart t.handle h (g t ∷ tasks) (t ∷ edit_task h g tasks) ne)
-    ∙ if_apart t.handle h (f t ∷ edit_task h g tasks) (t ∷ edit_task h f (edit_task h g tasks)) ne
-    ∙ ap (λ (l : List Task). t ∷ l) (twice h f g keeps tasks)
-    ∙ sym (if_apart t.handle h (f (g t) ∷ tasks) (t ∷ edit_task h (λ x. f (g x)) tasks) ne)
+      ∙ if_apart t.handle h (f t ∷ edit_task h g tasks) (t ∷ edit_task h f (edit_task h g tasks)) ne
+      ∙ ap (λ (l : List Task). t ∷ l) (twice h f g keeps tasks)
+      ∙ sym (if_apart t.handle h (f (g t) ∷ tasks) (t ∷ edit_task h (λ x. f (g x)) tasks) ne)
 ]
 
 -- the last slot stays
@@ -263,7 +263,7 @@ module _ {v : Shown} {i : ℕ} {t : Task} {m : Parcel} {message : Message} {k h 
             let last : Task → Task = λ x. record x { last_sent = Some (l, made.from.1) } in
             let both : Task → Task = λ x. record x { slot = two.placed.0; last_sent = Some (l, made.from.1) } in
             let tasks : three.sent.tasks ≡ edit_task t.handle both v.desk.tasks = ap (λ (x : Desk). x.tasks) made.is ∙ ap (λ h. edit_task h last v2.desk.tasks) from-own
-                ∙ ap (λ (x : Desk). edit_task t.handle last x.tasks) two.desk ∙ twice t.handle last (λ x. record x { slot = two.placed.0 }) (λ x. refl) v.desk.tasks in
+            ∙ ap (λ (x : Desk). edit_task t.handle last x.tasks) two.desk ∙ twice t.handle last (λ x. record x { slot = two.placed.0 }) (λ x. refl) v.desk.tasks in
             record {
               task = both t;
               at = reordered-at three.sent v3.desk i (both t) three.alike (ap (λ (l : List Task). slice_get l i) tasks ∙ edited-at t.handle both 0 v.desk.next_handle v.desk.tasks i t can.is.handles can.here.at refl);
@@ -288,12 +288,14 @@ module _ {v : Shown} {i : ℕ} {t : Task} {m : Parcel} {message : Message} {k h 
         accept-done v4 recorded =
             let begun : (x : Message) (r : ℕ) → Desk → Desk = λ x r. with_taking t.handle (receiver.fetching (receiver.begun x.my_ref x.from k a r)) in
             let desk : v4.desk ≡ begun message ref v3.desk = recorded sent-task.task sent-task.at
-                ∙ ap (λ h. with_taking h (receiver.fetching (receiver.begun message.my_ref message.from k a ref)) v3.desk) sent-task.handle in
+            ∙ ap (λ h. with_taking h (receiver.fetching (receiver.begun message.my_ref message.from k a ref)) v3.desk) sent-task.handle in
             let granted : accept v.desk t m ≡ Ok (begun m.message (next_ref v.desk) three.sent, outcome.Fetch (next_ref v.desk)) = accept-is v.desk t m k can.free
-                ∙ begins (after_buffer v.desk t m k) one.granted (begins (after_document v.desk t m k (one.slot, a)) two.granted
-                (begins (after_fetch v.desk t m k (one.slot, a)) (same-send three.granted) refl)) in
-            (begun message ref three.sent, (
-              granted ∙ ap (λ r. let g : Granted Handled = Ok (begun m.message r three.sent, outcome.Fetch r) in g) (sym next-same)
-              ∙ ap (λ x. let g : Granted Handled = Ok (begun x ref three.sent, outcome.Fetch ref) in g) can.here.message_is,
-              subst (IsReordered (begun message ref three.sent)) (sym desk) (reordered-edit t.handle _ three.sent v3.desk three.alike),
-            ))
+            ∙ begins (after_buffer v.desk t m k) one.granted (begins (after_document v.desk t m k (one.slot, a)) two.granted
+            (begins (after_fetch v.desk t m k (one.slot, a)) (same-send three.granted) refl)) in (
+              begun message ref three.sent,
+              (
+                granted ∙ ap (λ r. let g : Granted Handled = Ok (begun m.message r three.sent, outcome.Fetch r) in g) (sym next-same)
+                    ∙ ap (λ x. let g : Granted Handled = Ok (begun x ref three.sent, outcome.Fetch ref) in g) can.here.message_is,
+                subst (IsReordered (begun message ref three.sent)) (sym desk) (reordered-edit t.handle _ three.sent v3.desk three.alike),
+              ),
+            )

@@ -170,7 +170,7 @@ module _ (d : Desk) (i : ℕ) (t : Task) (m : Parcel) (k : ℕ) (is : IsDesk d) 
       | inr some ↦ ok-begins (after_buffer d t m k) (buffer-fits take some) (elim (cases_lt (free_pages (with_slot t.handle b.0 d)) document_pages) [
         | inl few ↦ ok-ends (after_document d t m k b) (document-unused ∙ free-lacking _ document_pages p few)
         | inr more-are ↦ ok-begins (after_document d t m k b) (document-unused ∙ free-given _ document_pages p more-are)
-          (ok-ends (after_fetch d t m k b) (fetch-lacks t.handle p.0 fetch d needs
-          (omega (arith, pages-are, short, some, more-are, free-with b.0, free-with p.0, buffer-pages, document-pages, both-are))))
+            (ok-ends (after_fetch d t m k b) (fetch-lacks t.handle p.0 fetch d needs
+            (omega (arith, pages-are, short, some, more-are, free-with b.0, free-with p.0, buffer-pages, document-pages, both-are))))
       ])
     ]

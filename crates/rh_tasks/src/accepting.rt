@@ -77,8 +77,8 @@ impl<S: Store> World<S> {
         requires room { (t : Task) → IsAt i t self.old.desk → is_full_of is_going t.taking ≡ false }
         ensures { (t : Task) (m : Parcel) → IsFor i t self.old.desk m message.now
             → MatchOption result
-                (IsErr (accept_on self.old.desk t m) × (self.new ≡ self.old))
-                (λ fetch. (d : Desk) × ((accept_on self.old.desk t m ≡ Ok (d, outcome.Fetch fetch)) × IsReordered d self.new.desk)) }
+            (IsErr (accept_on self.old.desk t m) × (self.new ≡ self.old))
+            (λ fetch. (d : Desk) × ((accept_on self.old.desk t m ≡ Ok (d, outcome.Fetch fetch)) × IsReordered d self.new.desk)) }
     {
         let seat = &self.seats[i];
         let (handle, room) = (seat.handle, seat.buffer);
