@@ -1,5 +1,5 @@
 -- The steps by which a DataSave is taken, once all of them are known to be granted.
-use Rattle.std.proofs.Common.{◌≡◌, ℕ, ◌<◌, Bool, true, false, refl, ap, sym, subst, ◌∙◌, arith, inl, inr, List, [], ◌∷◌, length}
+use Rattle.std.proofs.Common.{◌≡◌, ℕ, ◌<◌, Bool, true, false, refl, ap, sym, subst, ◌∙◌, inl, inr, List, [], ◌∷◌, length}
 use Rattle.std.specs.Prelude.{Option, Some, None, Result, Ok, Err, IsOk, IsErr, is_ok, is_err, slice_get}
 use Rattle.std.proofs.lemmas.Bool.{cases_eq}
 use Rattle.std.proofs.lemmas.Option.{slice_get_within}
@@ -16,7 +16,6 @@ use Rattle.rh_defs.specs.Slot.{Slot, slot_alloc, slot_claim}
 use Rattle.rh_defs.specs.Messages.{Parcel}
 use Rattle.rh_defs.specs.Letters.{fetch_letter}
 use Rattle.rh_defs.specs.Places.{free_anchor}
-use Rattle.rh_defs.specs.Post.{Post}
 use Rattle.rh_defs.specs.Records.{is_going, is_full}
 use Rattle.rh_defs.specs.Desk.{Desk, Task, next_ref, free_pages, edit_task, with_task, with_slot, with_taking, send_letter}
 use Rattle.rh_defs.specs.OutgoingEvents.{Handled}
@@ -33,8 +32,8 @@ use Rattle.rh_tasks.specs.Polls.{IsAt, IsFor, IsFreeAnchor, Claims, Becomes, Sen
 use Rattle.rh_tasks.proofs.Lists.{Sits}
 use Rattle.rh_tasks.proofs.Chains.{begins, ends}
 use Rattle.rh_tasks.proofs.Frames.{if_same, if_apart}
-use Rattle.rh_tasks.proofs.Places.{edited-at, edited-is, same-at, reordered-at, one-at}
-use Rattle.rh_tasks.proofs.Slides.{seat-at, seat-is}
+use Rattle.rh_tasks.proofs.Places.{edited-at, edited-is, reordered-at, one-at}
+use Rattle.rh_tasks.proofs.Slides.{seat-at}
 use Rattle.rh_tasks.proofs.Accepts.{ok-begins, ok-ends, the_fetch, after_fetch, after_document, after_buffer, accept-is, sent_desk}
 
 -- ---- chains

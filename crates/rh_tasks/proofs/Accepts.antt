@@ -1,6 +1,6 @@
 -- A DataSave that is taken: a buffer, an empty document and a fetch, all granted or none.
-use Rattle.std.proofs.Common.{◌≡◌, ℕ, ◌+◌, ◌-◌, ◌≤◌, ◌<◌, Bool, true, false, refl, ap, sym, subst, ◌∙◌, arith, inl, inr}
-use Rattle.std.specs.Prelude.{Option, Some, Ok, Err, is_ok}
+use Rattle.std.proofs.Common.{◌≡◌, ℕ, ◌+◌, ◌-◌, ◌≤◌, ◌<◌, Bool, true, false, refl, ap, ◌∙◌, arith, inl, inr}
+use Rattle.std.specs.Prelude.{Some, Ok, Err, is_ok}
 use Rattle.std.proofs.lemmas.Bool.{cases_lt}
 use Rattle.rh_defs.specs.declared.message.Letter.{Letter}
 use Rattle.rh_defs.specs.declared.refusal.Refusal.{Refusal}
@@ -13,12 +13,12 @@ use Rattle.rh_defs.specs.Slot.{Slot, flex_weight, slot_length, slot_pages, slot_
 use Rattle.rh_defs.specs.Messages.{Parcel}
 use Rattle.rh_defs.specs.Letters.{fetch_letter}
 use Rattle.rh_defs.specs.Post.{Post, post_send, post_send_pages}
-use Rattle.rh_defs.specs.Desk.{Desk, Task, next_ref, free_pages, used_pages, with_task, with_slot, with_taking, with_post, send_letter}
+use Rattle.rh_defs.specs.Desk.{Desk, Task, next_ref, free_pages, with_task, with_slot, with_taking, with_post, send_letter}
 use Rattle.rh_defs.specs.OutgoingEvents.{Handled}
 use Rattle.rh_defs.specs.IncomingEvents.{accept}
 use Rattle.rh_defs.specs.Receiver as receiver
 use Rattle.rh_defs.specs.Laws.{IsDesk}
-use Rattle.rh_defs.proofs.Desks.{IsTask, with_slot-pages}
+use Rattle.rh_defs.proofs.Desks.{with_slot-pages}
 use Rattle.rh_defs.proofs.ModuleKeeps.{claim_growing-end}
 use Rattle.rh_defs.proofs.SlotRooms.{length-with_zeros, pages-with_heap}
 use Rattle.rh_tasks.specs.Polls.{IsAt, IsFreeAnchor}

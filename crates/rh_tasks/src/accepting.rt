@@ -32,7 +32,8 @@ impl<S: Store> World<S> {
     /// Claims a buffer in the task's C heap: BadSize, NoBudge, NoRoom.
     fn claim_buffer(&mut self, i: usize, n: u32) -> Result<u32, Refusal>
         requires { i < length self.old.desk.tasks }
-        ensures { (t : Task) → IsAt i t self.old.desk → Claims t.handle (slot_claim (free_pages self.old.desk) n t.slot) self.old self.new result }
+        ensures { (t : Task) → IsAt i t self.old.desk
+            → Claims t.handle (slot_claim (free_pages self.old.desk) n t.slot) self.old self.new result }
     {
         let seat = &self.seats[i];
         let slot = seat.slot;
@@ -71,14 +72,16 @@ impl<S: Store> World<S> {
         pages <= free && more <= free - pages
     }
 
-    /// A buffer, an empty document and a fetch for a DataSave. None, and nothing changed, where one of them isn't granted.
+    /// A buffer, an empty document and a fetch for a DataSave. None, and nothing changed, where one of them isn't
+    /// granted.
     fn accept(&mut self, i: usize, message: &Message) -> Option<Ref>
         requires place { i < length self.old.desk.tasks }
         requires room { (t : Task) → IsAt i t self.old.desk → is_full_of is_going t.taking ≡ false }
         ensures { (t : Task) (m : Parcel) → IsFor i t self.old.desk m message.now
             → MatchOption result
             (IsErr (accept_on self.old.desk t m) × (self.new ≡ self.old))
-            (λ fetch. (d : Desk) × ((accept_on self.old.desk t m ≡ Ok (d, outcome.Fetch fetch)) × IsReordered d self.new.desk)) }
+            (λ fetch. (d : Desk)
+            × ((accept_on self.old.desk t m ≡ Ok (d, outcome.Fetch fetch)) × IsReordered d self.new.desk)) }
     {
         let seat = &self.seats[i];
         let (handle, room) = (seat.handle, seat.buffer);

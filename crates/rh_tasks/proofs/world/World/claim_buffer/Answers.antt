@@ -1,4 +1,4 @@
-use Rattle.std.proofs.Common.{ℕ, refl, ap, arith}
+use Rattle.std.proofs.Common.{ℕ, ap, arith}
 use Rattle.std.proofs.lemmas.Result.{err_from_is_err_and}
 use Rattle.rh_defs.specs.Chain.{Granted}
 use Rattle.rh_defs.specs.Slot.{Slot, slot_claim}
