@@ -61,9 +61,9 @@ module _ {o : Memory} {seats : List Seat} {made : List MadeArea} {files : FileLi
       pub room-rest : pages ≤ n → nat_le more (n - pages) ≡ is_ok (accept d t m)
       room-rest a = elim (cases_lt (n - pages) more) [
         | inl short ↦ le-false more (n - pages) short
-          ∙ sym (accept-lacks d i t m k w.desk here.at free (take-here take) (send-here same send) (omega (arith, a, short, free-are, free-is w)))
+            ∙ sym (accept-lacks d i t m k w.desk here.at free (take-here take) (send-here same send) (omega (arith, a, short, free-are, free-is w)))
         | inr room ↦ le-true more (n - pages) room
-          ∙ sym (accept-fits d i t m k w.desk here.at free (take-here take) (send-here same send) (omega (arith, a, room, free-are, free-is w)))
+            ∙ sym (accept-fits d i t m k w.desk here.at free (take-here take) (send-here same send) (omega (arith, a, room, free-are, free-is w)))
       ]
 
       pub room-short : n < pages → nat_le pages n ≡ is_ok (accept d t m)

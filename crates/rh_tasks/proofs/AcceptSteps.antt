@@ -1,5 +1,5 @@
 -- The steps by which a DataSave is taken, once all of them are known to be granted.
-use Rattle.std.proofs.Common.{◌≡◌, ℕ, ◌<◌, Bool, true, false, refl, ap, sym, subst, ◌∙◌, arith, inl, inr, List, [], ◌∷◌, length}
+use Rattle.std.proofs.Common.{◌≡◌, ℕ, ◌<◌, Bool, true, false, refl, ap, sym, subst, ◌∙◌, inl, inr, List, [], ◌∷◌, length}
 use Rattle.std.specs.Prelude.{Option, Some, None, Result, Ok, Err, IsOk, IsErr, is_ok, is_err, slice_get}
 use Rattle.std.proofs.lemmas.Bool.{cases_eq}
 use Rattle.std.proofs.lemmas.Option.{slice_get_within}
@@ -16,7 +16,6 @@ use Rattle.rh_defs.specs.Slot.{Slot, slot_alloc, slot_claim}
 use Rattle.rh_defs.specs.Messages.{Parcel}
 use Rattle.rh_defs.specs.Letters.{fetch_letter}
 use Rattle.rh_defs.specs.Places.{free_anchor}
-use Rattle.rh_defs.specs.Post.{Post}
 use Rattle.rh_defs.specs.Records.{is_going, is_full}
 use Rattle.rh_defs.specs.Desk.{Desk, Task, next_ref, free_pages, edit_task, with_task, with_slot, with_taking, send_letter}
 use Rattle.rh_defs.specs.OutgoingEvents.{Handled}
@@ -33,8 +32,8 @@ use Rattle.rh_tasks.specs.Polls.{IsAt, IsFor, IsFreeAnchor, Claims, Becomes, Sen
 use Rattle.rh_tasks.proofs.Lists.{Sits}
 use Rattle.rh_tasks.proofs.Chains.{begins, ends}
 use Rattle.rh_tasks.proofs.Frames.{if_same, if_apart}
-use Rattle.rh_tasks.proofs.Places.{edited-at, edited-is, same-at, reordered-at, one-at}
-use Rattle.rh_tasks.proofs.Slides.{seat-at, seat-is}
+use Rattle.rh_tasks.proofs.Places.{edited-at, edited-is, reordered-at, one-at}
+use Rattle.rh_tasks.proofs.Slides.{seat-at}
 use Rattle.rh_tasks.proofs.Accepts.{ok-begins, ok-ends, the_fetch, after_fetch, after_document, after_buffer, accept-is, sent_desk}
 
 -- ---- chains
@@ -67,12 +66,12 @@ twice : (h : ℕ) (f g : Task → Task) → ((t : Task) → (g t).handle ≡ t.h
 twice h f g keeps [] = refl
 twice h f g keeps (t ∷ tasks) = elim (cases_eq t.handle h) [
   | inl e ↦ ap (edit_task h f) (if_same t.handle h (g t ∷ tasks) (t ∷ edit_task h g tasks) e)
-    ∙ if_same (g t).handle h (f (g t) ∷ tasks) (g t ∷ edit_task h f tasks) (keeps t ∙ e)
-    ∙ sym (if_same t.handle h (f (g t) ∷ tasks) (t ∷ edit_task h (λ x. f (g x)) tasks) e)
+      ∙ if_same (g t).handle h (f (g t) ∷ tasks) (g t ∷ edit_task h f tasks) (keeps t ∙ e)
+      ∙ sym (if_same t.handle h (f (g t) ∷ tasks) (t ∷ edit_task h (λ x. f (g x)) tasks) e)
   | inr ne ↦ ap (edit_task h f) (if_apart t.handle h (g t ∷ tasks) (t ∷ edit_task h g tasks) ne)
-    ∙ if_apart t.handle h (f t ∷ edit_task h g tasks) (t ∷ edit_task h f (edit_task h g tasks)) ne
-    ∙ ap (λ (l : List Task). t ∷ l) (twice h f g keeps tasks)
-    ∙ sym (if_apart t.handle h (f (g t) ∷ tasks) (t ∷ edit_task h (λ x. f (g x)) tasks) ne)
+      ∙ if_apart t.handle h (f t ∷ edit_task h g tasks) (t ∷ edit_task h f (edit_task h g tasks)) ne
+      ∙ ap (λ (l : List Task). t ∷ l) (twice h f g keeps tasks)
+      ∙ sym (if_apart t.handle h (f (g t) ∷ tasks) (t ∷ edit_task h (λ x. f (g x)) tasks) ne)
 ]
 
 -- the last slot stays
@@ -107,7 +106,7 @@ module _ {o : Memory} {seats : List Seat} {made : List MadeArea} {files : FileLi
   any-parcel message = record { code = User; to = 0; block = 0; message = message }
 
   module _ (t : Task) (at-v : IsAt i t v.desk) where
-    own-is : task_of o s ≡ t
+    pub own-is : task_of o s ≡ t
     own-is = one-at v.desk i (task_of o s) t own-at at-v
 
     pub own-handle : s.handle ≡ t.handle
@@ -263,7 +262,7 @@ module _ {v : Shown} {i : ℕ} {t : Task} {m : Parcel} {message : Message} {k h 
             let last : Task → Task = λ x. record x { last_sent = Some (l, made.from.1) } in
             let both : Task → Task = λ x. record x { slot = two.placed.0; last_sent = Some (l, made.from.1) } in
             let tasks : three.sent.tasks ≡ edit_task t.handle both v.desk.tasks = ap (λ (x : Desk). x.tasks) made.is ∙ ap (λ h. edit_task h last v2.desk.tasks) from-own
-                ∙ ap (λ (x : Desk). edit_task t.handle last x.tasks) two.desk ∙ twice t.handle last (λ x. record x { slot = two.placed.0 }) (λ x. refl) v.desk.tasks in
+            ∙ ap (λ (x : Desk). edit_task t.handle last x.tasks) two.desk ∙ twice t.handle last (λ x. record x { slot = two.placed.0 }) (λ x. refl) v.desk.tasks in
             record {
               task = both t;
               at = reordered-at three.sent v3.desk i (both t) three.alike (ap (λ (l : List Task). slice_get l i) tasks ∙ edited-at t.handle both 0 v.desk.next_handle v.desk.tasks i t can.is.handles can.here.at refl);
@@ -288,12 +287,14 @@ module _ {v : Shown} {i : ℕ} {t : Task} {m : Parcel} {message : Message} {k h 
         accept-done v4 recorded =
             let begun : (x : Message) (r : ℕ) → Desk → Desk = λ x r. with_taking t.handle (receiver.fetching (receiver.begun x.my_ref x.from k a r)) in
             let desk : v4.desk ≡ begun message ref v3.desk = recorded sent-task.task sent-task.at
-                ∙ ap (λ h. with_taking h (receiver.fetching (receiver.begun message.my_ref message.from k a ref)) v3.desk) sent-task.handle in
+            ∙ ap (λ h. with_taking h (receiver.fetching (receiver.begun message.my_ref message.from k a ref)) v3.desk) sent-task.handle in
             let granted : accept v.desk t m ≡ Ok (begun m.message (next_ref v.desk) three.sent, outcome.Fetch (next_ref v.desk)) = accept-is v.desk t m k can.free
-                ∙ begins (after_buffer v.desk t m k) one.granted (begins (after_document v.desk t m k (one.slot, a)) two.granted
-                (begins (after_fetch v.desk t m k (one.slot, a)) (same-send three.granted) refl)) in
-            (begun message ref three.sent, (
-              granted ∙ ap (λ r. let g : Granted Handled = Ok (begun m.message r three.sent, outcome.Fetch r) in g) (sym next-same)
-              ∙ ap (λ x. let g : Granted Handled = Ok (begun x ref three.sent, outcome.Fetch ref) in g) can.here.message_is,
-              subst (IsReordered (begun message ref three.sent)) (sym desk) (reordered-edit t.handle _ three.sent v3.desk three.alike),
-            ))
+            ∙ begins (after_buffer v.desk t m k) one.granted (begins (after_document v.desk t m k (one.slot, a)) two.granted
+            (begins (after_fetch v.desk t m k (one.slot, a)) (same-send three.granted) refl)) in (
+              begun message ref three.sent,
+              (
+                granted ∙ ap (λ r. let g : Granted Handled = Ok (begun m.message r three.sent, outcome.Fetch r) in g) (sym next-same)
+                    ∙ ap (λ x. let g : Granted Handled = Ok (begun x ref three.sent, outcome.Fetch ref) in g) can.here.message_is,
+                subst (IsReordered (begun message ref three.sent)) (sym desk) (reordered-edit t.handle _ three.sent v3.desk three.alike),
+              ),
+            )

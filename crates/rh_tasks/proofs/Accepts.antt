@@ -1,6 +1,6 @@
 -- A DataSave that is taken: a buffer, an empty document and a fetch, all granted or none.
-use Rattle.std.proofs.Common.{◌≡◌, ℕ, ◌+◌, ◌-◌, ◌≤◌, ◌<◌, Bool, true, false, refl, ap, sym, subst, ◌∙◌, arith, inl, inr}
-use Rattle.std.specs.Prelude.{Option, Some, Ok, Err, is_ok}
+use Rattle.std.proofs.Common.{◌≡◌, ℕ, ◌+◌, ◌-◌, ◌≤◌, ◌<◌, Bool, true, false, refl, ap, ◌∙◌, arith, inl, inr}
+use Rattle.std.specs.Prelude.{Some, Ok, Err, is_ok}
 use Rattle.std.proofs.lemmas.Bool.{cases_lt}
 use Rattle.rh_defs.specs.declared.message.Letter.{Letter}
 use Rattle.rh_defs.specs.declared.refusal.Refusal.{Refusal}
@@ -13,12 +13,12 @@ use Rattle.rh_defs.specs.Slot.{Slot, flex_weight, slot_length, slot_pages, slot_
 use Rattle.rh_defs.specs.Messages.{Parcel}
 use Rattle.rh_defs.specs.Letters.{fetch_letter}
 use Rattle.rh_defs.specs.Post.{Post, post_send, post_send_pages}
-use Rattle.rh_defs.specs.Desk.{Desk, Task, next_ref, free_pages, used_pages, with_task, with_slot, with_taking, with_post, send_letter}
+use Rattle.rh_defs.specs.Desk.{Desk, Task, next_ref, free_pages, with_task, with_slot, with_taking, with_post, send_letter}
 use Rattle.rh_defs.specs.OutgoingEvents.{Handled}
 use Rattle.rh_defs.specs.IncomingEvents.{accept}
 use Rattle.rh_defs.specs.Receiver as receiver
 use Rattle.rh_defs.specs.Laws.{IsDesk}
-use Rattle.rh_defs.proofs.Desks.{IsTask, with_slot-pages}
+use Rattle.rh_defs.proofs.Desks.{with_slot-pages}
 use Rattle.rh_defs.proofs.ModuleKeeps.{claim_growing-end}
 use Rattle.rh_defs.proofs.SlotRooms.{length-with_zeros, pages-with_heap}
 use Rattle.rh_tasks.specs.Polls.{IsAt, IsFreeAnchor}
@@ -170,7 +170,7 @@ module _ (d : Desk) (i : ℕ) (t : Task) (m : Parcel) (k : ℕ) (is : IsDesk d) 
       | inr some ↦ ok-begins (after_buffer d t m k) (buffer-fits take some) (elim (cases_lt (free_pages (with_slot t.handle b.0 d)) document_pages) [
         | inl few ↦ ok-ends (after_document d t m k b) (document-unused ∙ free-lacking _ document_pages p few)
         | inr more-are ↦ ok-begins (after_document d t m k b) (document-unused ∙ free-given _ document_pages p more-are)
-          (ok-ends (after_fetch d t m k b) (fetch-lacks t.handle p.0 fetch d needs
-          (omega (arith, pages-are, short, some, more-are, free-with b.0, free-with p.0, buffer-pages, document-pages, both-are))))
+            (ok-ends (after_fetch d t m k b) (fetch-lacks t.handle p.0 fetch d needs
+            (omega (arith, pages-are, short, some, more-are, free-with b.0, free-with p.0, buffer-pages, document-pages, both-are))))
       ])
     ]

@@ -58,3 +58,4 @@ pub mod Scraps
 pub mod ScrapTransfers
 pub mod TransferBlocks
 pub mod AcceptSteps
+pub mod TakeSaves

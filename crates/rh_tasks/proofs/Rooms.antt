@@ -6,7 +6,7 @@ use Rattle.rh_defs.specs.declared.refusal.Refusal.TheVariants.{BadSize, NoBudge,
 use Rattle.rh_defs.specs.Chain.{Granted, ◌>>=◌, refuse_if}
 use Rattle.rh_defs.specs.Pieces.{round_up, page, pages_for, zeros, Split, first_at, behind}
 use Rattle.rh_defs.specs.Heap.{Heap, need, claim_growing}
-use Rattle.rh_defs.specs.Slot.{Slot, Flex, weight, flex_weight, flex_address, slot_length, slot_pages, is_used, is_stuck, lacks_room, with_heap, with_block, with_placed, slot_alloc, slot_claim, slot_take_pages, flex_start}
+use Rattle.rh_defs.specs.Slot.{Slot, Flex, weight, flex_weight, flex_address, slot_length, slot_pages, is_used, is_stuck, with_heap, with_block, with_placed, slot_alloc, slot_claim, slot_take_pages, flex_start}
 use Rattle.rh_defs.specs.Places.{free_from}
 use Rattle.rh_tasks.specs.Polls.{IsFreeAnchor}
 use Rattle.rh_tasks.proofs.Chains.{lt-true, lt-false}

@@ -4,7 +4,7 @@ ghost use Rattle.std.specs.Prelude.{◌≡◌, ◌<◌, ℕ, false, length, Ok, 
 ghost use Rattle.std.specs.Option.{MatchOption};
 ghost use Rattle.rh_defs.specs.Desk.{Desk, Task, free_pages};
 ghost use Rattle.rh_defs.specs.declared.reply.Outcome.TheVariants as outcome;
-ghost use Rattle.rh_defs.specs.IncomingEvents.{accept as accept_on, take_save as take_save_on};
+ghost use Rattle.rh_defs.specs.IncomingEvents.{accept as accept_on, is_deaf as is_deaf_on, take_save as take_save_on};
 ghost use Rattle.rh_defs.specs.Messages.{Parcel};
 ghost use Rattle.rh_defs.specs.Order.{IsReordered};
 ghost use Rattle.rh_defs.specs.Records.{is_going, is_full as is_full_of};
@@ -18,11 +18,22 @@ use rh_defs::{Anchor, Manner, Message, Outcome, Ref, Refusal, Taking};
 use rh_slot::free_anchor;
 use rh_store::Store;
 
+/// Whether a task in this manner takes no DataSave.
+fn is_deaf(manner: Manner) -> bool
+    ensures { result ≡ is_deaf_on manner }
+{
+    match manner {
+        Manner::Deaf => true,
+        Manner::Plain | Manner::File => false,
+    }
+}
+
 impl<S: Store> World<S> {
     /// Claims a buffer in the task's C heap: BadSize, NoBudge, NoRoom.
     fn claim_buffer(&mut self, i: usize, n: u32) -> Result<u32, Refusal>
         requires { i < length self.old.desk.tasks }
-        ensures { (t : Task) → IsAt i t self.old.desk → Claims t.handle (slot_claim (free_pages self.old.desk) n t.slot) self.old self.new result }
+        ensures { (t : Task) → IsAt i t self.old.desk
+            → Claims t.handle (slot_claim (free_pages self.old.desk) n t.slot) self.old self.new result }
     {
         let seat = &self.seats[i];
         let slot = seat.slot;
@@ -61,14 +72,16 @@ impl<S: Store> World<S> {
         pages <= free && more <= free - pages
     }
 
-    /// A buffer, an empty document and a fetch for a DataSave. None, and nothing changed, where one of them isn't granted.
+    /// A buffer, an empty document and a fetch for a DataSave. None, and nothing changed, where one of them isn't
+    /// granted.
     fn accept(&mut self, i: usize, message: &Message) -> Option<Ref>
         requires place { i < length self.old.desk.tasks }
         requires room { (t : Task) → IsAt i t self.old.desk → is_full_of is_going t.taking ≡ false }
         ensures { (t : Task) (m : Parcel) → IsFor i t self.old.desk m message.now
             → MatchOption result
             (IsErr (accept_on self.old.desk t m) × (self.new ≡ self.old))
-            (λ fetch. (d : Desk) × ((accept_on self.old.desk t m ≡ Ok (d, outcome.Fetch fetch)) × IsReordered d self.new.desk)) }
+            (λ fetch. (d : Desk)
+            × ((accept_on self.old.desk t m ≡ Ok (d, outcome.Fetch fetch)) × IsReordered d self.new.desk)) }
     {
         let seat = &self.seats[i];
         let (handle, room) = (seat.handle, seat.buffer);
@@ -99,8 +112,7 @@ impl<S: Store> World<S> {
             → Handles (take_save_on self.old.desk t m) self.new result }
     {
         let seat = &self.seats[i];
-        let is_deaf = seat.manner == Manner::Deaf;
-        if !seat.taking.on_save(is_deaf) {
+        if !seat.taking.on_save(is_deaf(seat.manner)) {
             return Outcome::Ignored;
         }
         match self.accept(i, message) {

@@ -78,8 +78,8 @@ pub returns : goal.returns
 returns g c =
     let at = seat-sits _ _ _ _ _ c.self.view_is c.requires.place c.index-seat.ensures in
     λ t m here. (
-      let can = can-accept c.self.invariant.0 at c.self.view_is c.in_ok-anchor.ensures c.has_room.ensures t m here c.if-not-has_room.false in
-      let one = buffer-got can c.claim_buffer.result (c.claim_buffer.ensures _ can.here.at) c.unwrap-buffer.ensures in
-      let two = document-got can one c.alloc_document.result (c.alloc_document.ensures _ (buffer-at can one)) c.unwrap.ensures in
-      let three = fetch-got can one two c.fetch_letter-letter.ensures c.send_from.result c.send_from.ensures c.unwrap-fetch.ensures in
-      accept-done can one two c.fetch_letter-letter.ensures three c.record_fetching.new.self c.record_fetching.ensures)
+    let can = can-accept c.self.invariant.0 at c.self.view_is c.in_ok-anchor.ensures c.has_room.ensures t m here c.if-not-has_room.false in
+    let one = buffer-got can c.claim_buffer.result (c.claim_buffer.ensures _ can.here.at) c.unwrap-buffer.ensures in
+    let two = document-got can one c.alloc_document.result (c.alloc_document.ensures _ (buffer-at can one)) c.unwrap.ensures in
+    let three = fetch-got can one two c.fetch_letter-letter.ensures c.send_from.result c.send_from.ensures c.unwrap-fetch.ensures in
+    accept-done can one two c.fetch_letter-letter.ensures three c.record_fetching.new.self c.record_fetching.ensures)

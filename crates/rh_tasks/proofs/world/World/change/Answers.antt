@@ -88,3 +88,9 @@ returns-in-CancelOut g c = rw (c.in-CancelOut.is) (stepped (command.CancelOut c.
 
 pub returns-in-Repeat : goal.returns-in-Repeat
 returns-in-Repeat g c = rw (c.in-Repeat.is) (stepped-alike (command.Repeat c.in-Repeat.name) _ _ _ _ _ refl c.repeat.ensures c.answer-in-Repeat.ensures)
+
+pub returns-in-Save : goal.returns-in-Save
+returns-in-Save g c = rw (c.in-Save.is) (stepped-alike (command.Save c.in-Save.name c.in-Save.anchor c.in-Save.to c.in-Save.leaf) _ _ _ _ _ refl c.save.ensures c.answer-in-Save.ensures)
+
+pub returns-in-Poll : goal.returns-in-Poll
+returns-in-Poll g c = rw (c.in-Poll.is) (stepped-alike (command.Poll c.in-Poll.name) _ _ _ _ _ refl c.poll.ensures c.answer-in-Poll.ensures)

@@ -1,4 +1,4 @@
-use Rattle.std.proofs.Common.{ℕ, refl, ap, arith}
+use Rattle.std.proofs.Common.{ℕ, ap, arith}
 use Rattle.std.proofs.lemmas.Result.{err_from_is_err_and}
 use Rattle.rh_defs.specs.Chain.{Granted}
 use Rattle.rh_defs.specs.Slot.{Slot, slot_claim}
@@ -21,7 +21,9 @@ pub overflow_cast-result : goal.overflow_cast-result
 overflow_cast-result g c =
     let at = seat-sits _ _ _ _ _ c.self.view_is c.requires c.index-seat.ensures in
     let is = seat-slot c.self.invariant.0 at in
-    let low = grant-of (slot_claim-low _ _ _) (granted c.in_ok-address.ensures) in
+    let m = g.S.Words.memory c.self.inside.store in
+    let claim = slot_claim m.free c.args.n (slot_in m c.index-seat.result.now.slot) in
+    let low = grant-of (slot_claim-low _ _ _) (granted {g = claim} c.in_ok-address.ensures) in
     omega (arith, low, is.spells.words.within, is.spells.words.heap.within, is.spells.words.heap.heap.fits, g.met.S.Words.small c.self.inside.store c.index-seat.result.now.slot.area.0)
 
 pub invariant_of-self-2 : goal.invariant_of-self-2
