@@ -43,4 +43,3 @@ pub mod Scraps
 pub mod ScrapTransfers
 pub mod Appends
 pub mod Buffers
-pub mod Takings
