@@ -39,7 +39,7 @@ pub mod Steps
 pub mod AreaCommands
 pub mod ModuleCommands
 pub mod Readers
-pub mod Scraps
-pub mod ScrapTransfers
 pub mod Appends
 pub mod Buffers
+pub mod Scraps
+pub mod ScrapTransfers

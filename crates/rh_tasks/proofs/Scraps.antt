@@ -1,31 +1,24 @@
 -- Worlds in which area 5 or the scrap file changes.
-use Rattle.std.proofs.Common.{◌≡◌, ℕ, ◌+◌, ◌-◌, ◌*◌, ◌/◌, ◌%◌, ◌<◌, ◌≤◌, refl, ap, sym, subst, ◌∙◌, arith, List, [], ◌∷◌, length, take, drop}
-use Rattle.std.specs.Prelude.{map, Option, Result, Some, None, IfSome, Ok, Err, IsOk, is_some, ◌==◌, replicate, slice_index, slice_set}
-use Rattle.std.proofs.Math.ListN.{get_or}
-use Rattle.std.proofs.lemmas.List.{length-map, length-take, take-append-le, take_all}
-use borrow.Author.Tests.{eqb-true}
+use Rattle.std.proofs.Common.{◌≡◌, ℕ, ◌+◌, ◌-◌, ◌*◌, ◌/◌, ◌%◌, ◌<◌, ◌≤◌, refl, ap, sym, subst, ◌∙◌, arith, List, length, take, drop}
+use Rattle.std.specs.Prelude.{Option, Some, None, Ok, Err, IsOk, is_some, replicate, slice_set}
+use Rattle.std.proofs.lemmas.List.{length-take, take-append-le, take_all}
 use Rattle.rh_defs.specs.Bytes.{part, put}
 use Rattle.rh_defs.proofs.BytesLaws.{length-put, length-part, part-put, part-drop}
 use Rattle.rh_defs.specs.Memory.{Memory, OnlyArea, bytes, with_bytes, grown}
 use Rattle.rh_defs.proofs.MemoryLaws.{bytes-with_bytes, bytes-grown, length-grown, OnlyArea-self, OnlyArea-with_bytes, OnlyArea-grown}
 use Rattle.rh_defs.specs.Files.{FileList}
-use Rattle.rh_defs.specs.declared.refusal.Refusal.{Refusal}
-use Rattle.rh_defs.specs.declared.refusal.Refusal.TheVariants.{NoBlock}
-use Rattle.rh_defs.specs.Chain.{Granted, ◌>>=◌, found_or, no_answer}
+use Rattle.rh_defs.specs.Chain.{Granted, ◌>>=◌, no_answer}
 use Rattle.rh_defs.specs.Pieces.{Split, pages_for}
 use Rattle.rh_defs.specs.declared.message.Letter.{Letter}
 use Rattle.rh_defs.specs.Post.{post_send_pages}
 use Rattle.rh_defs.specs.Slot as plain
 use Rattle.rh_defs.specs.Slot.{Flex, HaveAnchors, weight, flex_start, flex_address, slot_start, block_of, slot_block, slot_size, slot_address}
 use Rattle.rh_defs.specs.SlotImage.{flex_place}
-use Rattle.rh_defs.proofs.Cuts.{IsCut, first_at-cuts}
-use Rattle.rh_defs.proofs.SlotLaws.{HaveAnchors-cut}
 use Rattle.rh_defs.specs.Desk.{Desk, Task, Scrap, used_pages, free_pages}
 use Rattle.rh_defs.specs.Laws.{IsDesk}
 use Rattle.rh_defs.specs.OutgoingEvents.{wider, scrap_shortage}
 use Rattle.rh_defs.specs.IncomingEvents.{appended}
 use Rattle.rh_defs.proofs.Transfers.{wider-keeps, scrap-keeps}
-use Rattle.rh_slot.specs.declared.slot.Slot.{Slot}
 use Rattle.rh_slot.specs.Area.{IsSlot, slot_in}
 use Rattle.rh_slot.specs.Calls.{Leaves}
 use Rattle.rh_wimp.specs.Calls.{Answers}
@@ -43,6 +36,7 @@ use Rattle.rh_tasks.proofs.Worlds.{free-is, same-desk}
 use Rattle.rh_tasks.proofs.Posts.{is-post}
 use Rattle.rh_tasks.proofs.Fixed.{KeepsFirst, fixed-at, fixed-desk, fixed-world, changed-areas, pages-of}
 use Rattle.rh_tasks.proofs.AreaCommands.{file-length}
+use Rattle.rh_tasks.proofs.Appends.{sized-anchor}
 use Rattle.rh_tasks.proofs.Buffers.{seat-task, appended-becomes}
 
 -- ---- area 5 gets longer
@@ -148,17 +142,6 @@ source-of k size s e = go (slot_block k s) refl e
     go (Ok c) q h = record { cut = c; is = q; long = cc }
     go (Err r) q h = absurd cc
 
--- an anchor that has a block is one of the 64
-pub anchor-small : (k : ℕ) (s : plain.Slot) (b : Split Flex) → slot_block k s ≡ Ok b → HaveAnchors s.blocks → k < 64
-unfolding slot_block found_or
-anchor-small k s b e all = go (block_of k s) e (first_at-cuts weight (λ _ c. c.anchor == k) (flex_start s) s.blocks)
-  where
-    go : (o : Option (Split Flex)) → found_or o NoBlock ≡ Ok b → IfSome o (IsCut weight (λ _ c. c.anchor == k) (flex_start s) s.blocks) → k < 64
-    go None q cut = absurd cc
-    go (Some x) q cut =
-        let small = (HaveAnchors-cut x.before x.here x.after (subst HaveAnchors (sym cut.whole) all)).small in
-        omega (arith, small, eqb-true x.here.anchor k cut.passes)
-
 module _ {m : Memory} {seats : List Seat} {made : List MadeArea} {files : FileList} {kept : Kept} {i : ℕ} {s : Seat}
     (w : IsWorld m seats made files kept) (at : Sits seats i s) (k size load : ℕ) (given : slot_size k (slot_in m s.slot) ≡ Ok size) where
   abbrev pub z : plain.Slot
@@ -171,7 +154,7 @@ module _ {m : Memory} {seats : List Seat} {made : List MadeArea} {files : FileLi
   source = source-of k size z given
 
   pub source-anchor : k < 64
-  source-anchor = anchor-small k z source.cut source.is has.spells.words.anchors
+  source-anchor = sized-anchor k size z (sym given) has.spells.words.anchors
 
   pub source-address : slot_address k z ≡ Ok (flex_address z source.cut.before)
   unfolding slot_address

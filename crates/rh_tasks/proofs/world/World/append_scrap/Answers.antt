@@ -7,8 +7,7 @@ use Rattle.rh_tasks.proofs.world.World.append_scrap.Goals as goal
 
 pub invariant_of-self : goal.invariant_of-self
 invariant_of-self g c =
-    let at : Sits c.self.inside.seats.items c.args.i c.index-seat.result.now = sits-there c.self.invariant.0 c.self.view_is c.requires c.index-seat.ensures in
-    (
+    let at : Sits c.self.inside.seats.items c.args.i c.index-seat.result.now = sits-there c.self.invariant.0 c.self.view_is c.requires c.index-seat.ensures in (
       appended-world c.self.invariant.0 at c.args.anchor (part (bytes (g.S.Words.memory c.self.inside.store) 5) 0 c.scrap_size-size.result) c.append.result c.append.ensures,
       c.self.invariant.1,
       c.self.invariant.2,
