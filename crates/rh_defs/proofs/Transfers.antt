@@ -149,7 +149,7 @@ unfolding take_save
 take_save-keeps d t m task is =
     chosen IsAfter _ _ _ (or_else-keeps IsAfter _ (accept-keeps d t m task is) (λ refusal. after-is is)) (after-is is)
 
-pub appended-keeps : (d : Desk) (t : Task) (k : ℕ) (bytes : List ℕ) → IsTask d t → IsDesk d → OnGrant IsDesk (appended d t k bytes)
+appended-keeps : (d : Desk) (t : Task) (k : ℕ) (bytes : List ℕ) → IsTask d t → IsDesk d → OnGrant IsDesk (appended d t k bytes)
 unfolding appended
 appended-keeps d t k bytes task is =
     granted-then _ _ λ document found.

@@ -181,7 +181,7 @@ module _ {m : Memory} {seats : List Seat} {made : List MadeArea} {files : FileLi
     unfolding task_of ◌>>=◌
     appended-not l = sym (appended-as d (task_of m s) k xs) ∙ ap (λ g. g >>= λ x. Ok (with_slot s.handle x d)) (the-append ∙ unchanged l)
 
-    appended-becomes : {n : Memory} (r : Granted (Unit {0})) → Leaves m n s.slot (no_answer call) r → Becomes (appended d (task_of m s) k xs) (shown_of m seats made files kept) (shown_of n seats made files kept) r
+    pub appended-becomes : {n : Memory} (r : Granted (Unit {0})) → Leaves m n s.slot (no_answer call) r → Becomes (appended d (task_of m s) k xs) (shown_of m seats made files kept) (shown_of n seats made files kept) r
     appended-becomes (Ok x) l = appended-done l
     appended-becomes (Err r) l = (appended-not l, ap (λ x. shown_of x seats made files kept) l.err)
 

@@ -1,34 +1,24 @@
 -- Worlds in which area 5 or the scrap file changes.
-use Rattle.std.proofs.Common.{◌≡◌, ℕ, ◌+◌, ◌-◌, ◌*◌, ◌/◌, ◌%◌, ◌<◌, ◌≤◌, refl, ap, sym, subst, ◌∙◌, arith, List, [], ◌∷◌, length, take, drop}
-use Rattle.std.specs.Prelude.{map, Option, Result, Some, None, IfSome, Ok, Err, IsOk, is_some, ◌==◌, replicate, slice_index, slice_set}
-use Rattle.std.proofs.Math.ListN.{get_or, set}
-use Rattle.std.proofs.lemmas.List.{length-map, length-take, take-append-le, take_all}
-use borrow.Author.Tests.{eqb-true}
+use Rattle.std.proofs.Common.{◌≡◌, ℕ, ◌+◌, ◌-◌, ◌*◌, ◌/◌, ◌%◌, ◌<◌, ◌≤◌, refl, ap, sym, subst, ◌∙◌, arith, List, length, take, drop}
+use Rattle.std.specs.Prelude.{Option, Some, None, Ok, Err, IsOk, is_some, replicate, slice_set}
+use Rattle.std.proofs.lemmas.List.{length-take, take-append-le, take_all}
 use Rattle.rh_defs.specs.Bytes.{part, put}
 use Rattle.rh_defs.proofs.BytesLaws.{length-put, length-part, part-put, part-drop}
 use Rattle.rh_defs.specs.Memory.{Memory, OnlyArea, bytes, with_bytes, grown}
 use Rattle.rh_defs.proofs.MemoryLaws.{bytes-with_bytes, bytes-grown, length-grown, OnlyArea-self, OnlyArea-with_bytes, OnlyArea-grown}
 use Rattle.rh_defs.specs.Files.{FileList}
-use Rattle.rh_defs.specs.declared.refusal.Refusal.{Refusal}
-use Rattle.rh_defs.specs.declared.refusal.Refusal.TheVariants.{NoBlock}
-use Rattle.rh_defs.specs.Chain.{Granted, ◌>>=◌, found_or, no_answer}
+use Rattle.rh_defs.specs.Chain.{Granted, ◌>>=◌, no_answer}
 use Rattle.rh_defs.specs.Pieces.{Split, pages_for}
 use Rattle.rh_defs.specs.declared.message.Letter.{Letter}
 use Rattle.rh_defs.specs.Post.{post_send_pages}
 use Rattle.rh_defs.specs.Slot as plain
 use Rattle.rh_defs.specs.Slot.{Flex, HaveAnchors, weight, flex_start, flex_address, slot_start, block_of, slot_block, slot_size, slot_address}
 use Rattle.rh_defs.specs.SlotImage.{flex_place}
-use Rattle.rh_defs.proofs.Cuts.{IsCut, first_at-cuts}
-use Rattle.rh_defs.proofs.SlotLaws.{HaveAnchors-cut}
-use Rattle.rh_defs.specs.Desk.{Desk, Task, Scrap, used_pages, free_pages, with_slot}
+use Rattle.rh_defs.specs.Desk.{Desk, Task, Scrap, used_pages, free_pages}
 use Rattle.rh_defs.specs.Laws.{IsDesk}
 use Rattle.rh_defs.specs.OutgoingEvents.{wider, scrap_shortage}
 use Rattle.rh_defs.specs.IncomingEvents.{appended}
-use Rattle.rh_defs.proofs.Chains.{grant-holds}
-use Rattle.rh_defs.proofs.Lists.{find-all}
-use Rattle.rh_defs.proofs.Desks.{IsTask, HasSlot as HasPlainSlot}
-use Rattle.rh_defs.proofs.Transfers.{wider-keeps, scrap-keeps, appended-keeps}
-use Rattle.rh_slot.specs.declared.slot.Slot.{Slot}
+use Rattle.rh_defs.proofs.Transfers.{wider-keeps, scrap-keeps}
 use Rattle.rh_slot.specs.Area.{IsSlot, slot_in}
 use Rattle.rh_slot.specs.Calls.{Leaves}
 use Rattle.rh_wimp.specs.Calls.{Answers}
@@ -39,34 +29,15 @@ use Rattle.rh_tasks.specs.declared.scrap.ScrapFile.{ScrapFile}
 use Rattle.rh_tasks.specs.View.{Kept, the_module, HasSlot, pages_at, fixed_pages, scrap_from, scrap_size, scrap_of, slot_area, made_area, task_of, desk_of, shown_of, IsWorld}
 use Rattle.rh_tasks.specs.Shown.{Shown}
 use Rattle.rh_tasks.specs.Polls.{IsAt, Becomes, slot_append}
-use Rattle.rh_tasks.proofs.Lists.{Sits, set_same, cons, all-at, avoids-below}
-use Rattle.rh_tasks.proofs.Places.{mapped-at, mapped-is, task-found, one-at}
-use Rattle.rh_tasks.proofs.Chains.{begins, ends}
-use Rattle.rh_tasks.proofs.Leaves.{slid, changed, unchanged}
-use Rattle.rh_tasks.proofs.Moves.{Moves, Slid, moved-desk, moved-world}
+use Rattle.rh_tasks.proofs.Lists.{Sits, cons, all-at, avoids-below}
+use Rattle.rh_tasks.proofs.Chains.{begins}
 use Rattle.rh_tasks.proofs.Frames.{Stay, pages-stay, tasks-stay, mades-stay, module-stays, post-stays, queue-stays}
 use Rattle.rh_tasks.proofs.Worlds.{free-is, same-desk}
 use Rattle.rh_tasks.proofs.Posts.{is-post}
 use Rattle.rh_tasks.proofs.Fixed.{KeepsFirst, fixed-at, fixed-desk, fixed-world, changed-areas, pages-of}
 use Rattle.rh_tasks.proofs.AreaCommands.{file-length}
-
--- ---- the seat at a place
-
-pub seat-sits : (m : Memory) {seats : List Seat} {i : ℕ} {s : Seat} → i < length (map (task_of m) seats) → get_or seats i s ≡ s → Sits seats i s
-seat-sits m {seats} inside is = record { inside = omega (arith, inside, length-map seats (task_of m)); is = is }
-
-module _ (m : Memory) {seats : List Seat} {i : ℕ} {s : Seat} (made : List MadeArea) (files : FileList) (kept : Kept) (at : Sits seats i s) where
-  pub seat-at : IsAt i (task_of m s) (desk_of m seats made files kept)
-  seat-at = mapped-at (task_of m) seats i s at
-
-  -- what holds of the slot of each task there holds of the seat's
-  pub slot-there : (P : plain.Slot → Type 0) → ((t : Task) → IsAt i t (desk_of m seats made files kept) → P t.slot) → P (slot_in m s.slot)
-  unfolding task_of
-  slot-there P h = h (task_of m s) seat-at
-
-  pub slot-at : {t : Task} → IsAt i t (desk_of m seats made files kept) → t.slot ≡ slot_in m s.slot
-  unfolding task_of
-  slot-at {t} there = ap (λ (x : Task). x.slot) (sym (mapped-is (task_of m) seats i s t at there))
+use Rattle.rh_tasks.proofs.Appends.{sized-anchor}
+use Rattle.rh_tasks.proofs.Buffers.{seat-task, appended-becomes}
 
 -- ---- area 5 gets longer
 
@@ -171,17 +142,6 @@ source-of k size s e = go (slot_block k s) refl e
     go (Ok c) q h = record { cut = c; is = q; long = cc }
     go (Err r) q h = absurd cc
 
--- an anchor that has a block is one of the 64
-pub anchor-small : (k : ℕ) (s : plain.Slot) (b : Split Flex) → slot_block k s ≡ Ok b → HaveAnchors s.blocks → k < 64
-unfolding slot_block found_or
-anchor-small k s b e all = go (block_of k s) e (first_at-cuts weight (λ _ c. c.anchor == k) (flex_start s) s.blocks)
-  where
-    go : (o : Option (Split Flex)) → found_or o NoBlock ≡ Ok b → IfSome o (IsCut weight (λ _ c. c.anchor == k) (flex_start s) s.blocks) → k < 64
-    go None q cut = absurd cc
-    go (Some x) q cut =
-        let small = (HaveAnchors-cut x.before x.here x.after (subst HaveAnchors (sym cut.whole) all)).small in
-        omega (arith, small, eqb-true x.here.anchor k cut.passes)
-
 module _ {m : Memory} {seats : List Seat} {made : List MadeArea} {files : FileList} {kept : Kept} {i : ℕ} {s : Seat}
     (w : IsWorld m seats made files kept) (at : Sits seats i s) (k size load : ℕ) (given : slot_size k (slot_in m s.slot) ≡ Ok size) where
   abbrev pub z : plain.Slot
@@ -194,7 +154,7 @@ module _ {m : Memory} {seats : List Seat} {made : List MadeArea} {files : FileLi
   source = source-of k size z given
 
   pub source-anchor : k < 64
-  source-anchor = anchor-small k z source.cut source.is has.spells.words.anchors
+  source-anchor = sized-anchor k size z (sym given) has.spells.words.anchors
 
   pub source-address : slot_address k z ≡ Ok (flex_address z source.cut.before)
   unfolding slot_address
@@ -258,110 +218,40 @@ module _ {m : Memory} {seats : List Seat} {made : List MadeArea} {files : FileLi
           rewritten-desk w only (ap (λ b. length b) bytes-then ∙ length-same) file
           ∙ ap (λ (b : List ℕ). let e : Desk = record (desk_of m seats made files kept) { scrap = Some (record { load = load; bytes = b }) } in e) (first-are ∙ ap (λ (b : Split Flex). b.here.bytes) same)
 
--- ---- bytes at the end of a document
-
--- two steps and a third one
-bind-twice : {B C D : Type 0} (b : Granted B) (c : B → Granted C) (f : C → Granted D) → ((b >>= c) >>= f) ≡ (b >>= (λ y. c y >>= f))
-unfolding ◌>>=◌
-bind-twice (Ok y) c f = refl
-bind-twice (Err r) c f = refl
-
-bind-thrice : {A B C D : Type 0} (a : Granted A) (b : A → Granted B) (c : A → B → Granted C) (f : C → Granted D)
-    → ((a >>= (λ x. b x >>= c x)) >>= f) ≡ (a >>= (λ x. b x >>= (λ y. c x y >>= f)))
-unfolding ◌>>=◌
-bind-thrice (Ok x) b c f = bind-twice (b x) (c x) f
-bind-thrice (Err r) b c f = refl
-
-appended-is : (d : Desk) (t : Task) (k : ℕ) (xs : List ℕ) → appended d t k xs ≡ (slot_append (free_pages d) k xs t.slot >>= (λ s. Ok (with_slot t.handle s d)))
-unfolding appended slot_append
-appended-is d t k xs = sym (bind-thrice (slot_block k t.slot) _ _ _)
-
--- the desk's task of its handle
-pub task-is : {d : Desk} (i : ℕ) {t : Task} → IsDesk d → IsAt i t d → IsTask d t
-task-is {d} i {t} is at = record {
-  found = task-found d i t is at;
-  slot = subst (λ o. IfSome o HasPlainSlot) (task-found d i t is at) (find-all HasPlainSlot (λ u. u.handle == t.handle) d.tasks is.slots);
-}
-
-module _ {m : Memory} {seats : List Seat} {made : List MadeArea} {files : FileList} {kept : Kept} {i : ℕ} {s : Seat}
-    (w : IsWorld m seats made files kept) (at : Sits seats i s) (k : ℕ) (xs : List ℕ) where
-  abbrev old : Desk
-  old = desk_of m seats made files kept
-
-  abbrev pub append_given : Granted plain.Slot
-  append_given = slot_append m.free k xs (slot_in m s.slot)
-
-  append-is : appended old (task_of m s) k xs ≡ (append_given >>= (λ z. Ok (with_slot s.handle z old)))
-  unfolding task_of
-  append-is =
-      appended-is old (task_of m s) k xs
-      ∙ ap (λ free. slot_append free k xs (slot_in m s.slot) >>= (λ z. Ok (with_slot s.handle z old))) (free-is w)
-
-  same : set seats i s ≡ seats
-  same = set_same seats i s at
-
-  module _ {n : Memory} where
-    moves : Slid m n s.slot → Moves m n s s (λ t. record t { slot = slot_in n s.slot })
-    unfolding task_of
-    moves l = record { handle = refl; area = refl; still = l.still; only = l.only; task = refl }
-
-    slid-desk : Slid m n s.slot → desk_of n seats made files kept ≡ with_slot s.handle (slot_in n s.slot) old
-    slid-desk l = ap (λ (x : List Seat). desk_of n x made files kept) (sym same) ∙ moved-desk w at (moves l)
-
-    append-done : Leaves m n s.slot (no_answer append_given) (Ok tt) → appended old (task_of m s) k xs ≡ Ok (desk_of n seats made files kept)
-    append-done l = append-is ∙ begins _ (changed l) (ap (λ (d : Desk). let r : Granted Desk = Ok d in r) (sym (slid-desk (slid l))))
-
-    append-refused : {r : Refusal} → Leaves m n s.slot (no_answer append_given) (Err r) → appended old (task_of m s) k xs ≡ Err r
-    append-refused l = append-is ∙ ends _ (unchanged l)
-
-    pub append-world : (r : Result (Unit {0}) Refusal) → Leaves m n s.slot (no_answer append_given) r → IsWorld n seats made files kept
-    append-world (Ok u) l =
-        let is : IsDesk (desk_of n seats made files kept) =
-        grant-holds (appended-keeps old (task_of m s) k xs (task-is i w.desk (seat-at m made files kept at)) w.desk) (append-done l) in
-        let P : List Seat → Type 0 = λ x. IsDesk (desk_of n x made files kept) → IsWorld n x made files kept in
-        subst P same (λ e. moved-world w at (moves (slid l)) e) is
-    append-world (Err r) l = subst (λ (x : Memory). IsWorld x seats made files kept) (sym l.err) w
-
-    becomes : (r : Result (Unit {0}) Refusal) → Leaves m n s.slot (no_answer append_given) r
-        → Becomes (appended old (task_of m s) k xs) (shown_of m seats made files kept) (shown_of n seats made files kept) r
-    becomes (Ok u) l = append-done l
-    becomes (Err r) l = (append-refused l, ap (λ (x : Memory). shown_of x seats made files kept) l.err)
-
-    pub append-becomes : {t : Task} → IsAt i t old → (r : Result (Unit {0}) Refusal) → Leaves m n s.slot (no_answer append_given) r
-        → Becomes (appended old t k xs) (shown_of m seats made files kept) (shown_of n seats made files kept) r
-    append-becomes {t} there r l =
-        subst (λ (x : Task). Becomes (appended old x k xs) (shown_of m seats made files kept) (shown_of n seats made files kept) r)
-        (mapped-is (task_of m) seats i s t at there) (becomes r l)
+-- ---- the scrap file's bytes at the end of a document
 
 -- the scrap file's bytes are the first of area 5
-pub scrap-part : (m : Memory) (scrap : Option ScrapFile) (file : Scrap) → scrap_size scrap ≤ length (bytes m 5) → scrap_of m scrap ≡ Some file → part (bytes m 5) 0 (scrap_size scrap) ≡ file.bytes
+scrap-part : (m : Memory) (scrap : Option ScrapFile) (file : Scrap) → scrap_size scrap ≤ length (bytes m 5) → scrap_of m scrap ≡ Some file → part (bytes m 5) 0 (scrap_size scrap) ≡ file.bytes
 unfolding scrap_of
 scrap-part m None file fits e = absurd cc
 scrap-part m (Some f) file fits e =
     let same : scrap_from (bytes m 5) f ≡ file = cc in
     part-drop (bytes m 5) 0 f.size (omega (arith, fits)) ∙ ap (λ (x : Scrap). x.bytes) same
 
--- ---- what is seen of the seat at a place
+pub scrap-appended : {m n : Memory} {seats : List Seat} {made : List MadeArea} {files : FileList} {kept : Kept} {i : ℕ} {s : Seat} {old : Shown}
+    (w : IsWorld m seats made files kept) (at : Sits seats i s) (view : shown_of m seats made files kept ≡ old) (k : ℕ) (r : Granted (Unit {0}))
+    → Leaves m n s.slot (no_answer (slot_append m.free k (part (bytes m 5) 0 (scrap_size kept.scrap)) (slot_in m s.slot))) r
+    → (t : Task) (file : Scrap) → IsAt i t old.desk → old.desk.scrap ≡ Some file
+    → Becomes (appended old.desk t k file.bytes) old (shown_of n seats made files kept) r
+scrap-appended {m} {n} {seats} {made} {files} {kept} {i} {s} {old} w at view k r l t file there is =
+    let d : Desk = desk_of m seats made files kept in
+    let xs : List ℕ = part (bytes m 5) 0 (scrap_size kept.scrap) in
+    let has : scrap_of m kept.scrap ≡ Some file = ap (λ (x : Shown). x.desk.scrap) view ∙ is in
+    let P : Task → Type 0 = λ u. Becomes (appended d u k xs) (shown_of m seats made files kept) (shown_of n seats made files kept) r in
+    let Q : List ℕ → Type 0 = λ ys. Becomes (appended d t k ys) (shown_of m seats made files kept) (shown_of n seats made files kept) r in
+    let R : Shown → Type 0 = λ o. Becomes (appended o.desk t k file.bytes) o (shown_of n seats made files kept) r in
+    subst R view (subst Q (scrap-part m kept.scrap file w.scrap has) (subst P (seat-task w view at there) (appended-becomes w at k xs r l)))
+
+-- ---- what a world shows
 
 module _ {m : Memory} {seats : List Seat} {made : List MadeArea} {files : FileList} {kept : Kept} {old : Shown}
     (w : IsWorld m seats made files kept) (view : shown_of m seats made files kept ≡ old) where
   pub seen-desk : IsDesk old.desk
   seen-desk = subst (λ (x : Shown). IsDesk x.desk) view w.desk
 
-  module _ {i : ℕ} {s : Seat} (inside : i < length old.desk.tasks) (is : get_or seats i s ≡ s) where
-    pub seen-sits : Sits seats i s
-    seen-sits = seat-sits m (subst (λ (x : Shown). i < length x.desk.tasks) (sym view) inside) is
-
-    pub seen-at : IsAt i (task_of m s) old.desk
-    seen-at = subst (λ (x : Shown). IsAt i (task_of m s) x.desk) view (seat-at m made files kept seen-sits)
-
-    pub seen-handle : {t : Task} → IsAt i t old.desk → s.handle ≡ t.handle
-    unfolding task_of
-    seen-handle {t} there = ap (λ (x : Task). x.handle) (one-at old.desk i (task_of m s) t seen-at there)
-
-    pub seen-slot : {t : Task} → IsAt i t old.desk → slot_in m s.slot ≡ t.slot
-    unfolding task_of
-    seen-slot {t} there = ap (λ (x : Task). x.slot) (one-at old.desk i (task_of m s) t seen-at there)
+  pub seen-slot : {i : ℕ} {s : Seat} {t : Task} → Sits seats i s → IsAt i t old.desk → slot_in m s.slot ≡ t.slot
+  unfolding task_of
+  seen-slot at there = ap (λ (x : Task). x.slot) (seat-task w view at there)
 
   -- the scrap file as the desk has it
   pub seen-nothing : kept.scrap ≡ None → old.desk.scrap ≡ None

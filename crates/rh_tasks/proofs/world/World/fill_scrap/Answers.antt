@@ -1,58 +1,52 @@
-use Rattle.std.proofs.Common.{◌≡◌, arith, sym, ap, ◌∙◌}
-use Rattle.std.specs.Prelude.{Ok, length, ◌≤◌}
+use Rattle.std.proofs.Common.{ap, arith, length, ◌≤◌, ◌∙◌}
+use Rattle.std.specs.Prelude.{Some}
 use Rattle.rh_defs.specs.Memory.{bytes}
-use Rattle.rh_defs.specs.Slot.{Slot, slot_size, slot_block}
-use Rattle.rh_tasks.specs.View.{kept_of}
+use Rattle.rh_defs.specs.Slot.{slot_size, slot_block}
+use Rattle.rh_defs.specs.Desk.{Desk}
+use Rattle.rh_tasks.specs.Shown.{Shown}
 use Rattle.rh_tasks.proofs.Lists.{Sits}
+use Rattle.rh_tasks.proofs.Buffers.{sits-there, seat-there}
 use Rattle.rh_tasks.proofs.Fixed.{fixed-at, pages-of}
-use Rattle.rh_tasks.proofs.Scraps.{seat-sits, slot-there, slot-at, source-anchor, source-given, source-high, source-inside, filled-world, filled-desk}
+use Rattle.rh_tasks.proofs.Scraps.{seen-slot, source-anchor, source-given, source-high, source-inside, filled-world, filled-desk}
 use Rattle.rh_tasks.proofs.world.World.fill_scrap.Goals as goal
 
 pub address-requires-clause-anchor : goal.address-requires-clause-anchor
 address-requires-clause-anchor g c =
-    let m = g.S.Words.memory c.self.inside.store in
     let s = c.index-seat.result.now in
-    let at : Sits c.self.inside.seats.items c.args.i s = seat-sits m (rw (← c.self.view_is) at c.requires.place) (sym c.index-seat.ensures) in
-    let P : Slot → Type 0 = λ z. slot_size c.args.anchor z ≡ Ok c.args.size in
-    let given = slot-there m c.self.inside.made.items c.self.inside.files (kept_of c.self.inside.next c.self.inside.queue c.self.inside.scrap) at P (rw (← c.self.view_is) at c.requires.block) in
+    let at : Sits c.self.inside.seats.items c.args.i s = sits-there c.self.invariant.0 c.self.view_is c.requires.place c.index-seat.ensures in
+    let task = seat-there c.self.invariant.0 c.self.view_is at in
+    let given = ap (slot_size c.args.anchor) (seen-slot c.self.invariant.0 c.self.view_is at task) ∙ c.requires.block _ task in
     source-anchor c.self.invariant.0 at c.args.anchor c.args.size c.args.load given
 
 pub unwrap-address-requires : goal.unwrap-address-requires
 unwrap-address-requires g c =
-    let m = g.S.Words.memory c.self.inside.store in
     let s = c.index-seat.result.now in
-    let at : Sits c.self.inside.seats.items c.args.i s = seat-sits m (rw (← c.self.view_is) at c.requires.place) (sym c.index-seat.ensures) in
-    let P : Slot → Type 0 = λ z. slot_size c.args.anchor z ≡ Ok c.args.size in
-    let given = slot-there m c.self.inside.made.items c.self.inside.files (kept_of c.self.inside.next c.self.inside.queue c.self.inside.scrap) at P (rw (← c.self.view_is) at c.requires.block) in
+    let at : Sits c.self.inside.seats.items c.args.i s = sits-there c.self.invariant.0 c.self.view_is c.requires.place c.index-seat.ensures in
+    let task = seat-there c.self.invariant.0 c.self.view_is at in
+    let given = ap (slot_size c.args.anchor) (seen-slot c.self.invariant.0 c.self.view_is at task) ∙ c.requires.block _ task in
     source-given c.self.invariant.0 at c.args.anchor c.args.size c.args.load given c.address.ensures
 
 pub overflow_sub-address : goal.overflow_sub-address
 overflow_sub-address g c =
-    let m = g.S.Words.memory c.self.inside.store in
     let s = c.index-seat.result.now in
-    let at : Sits c.self.inside.seats.items c.args.i s = seat-sits m (rw (← c.self.view_is) at c.requires.place) (sym c.index-seat.ensures) in
-    let P : Slot → Type 0 = λ z. slot_size c.args.anchor z ≡ Ok c.args.size in
-    let given = slot-there m c.self.inside.made.items c.self.inside.files (kept_of c.self.inside.next c.self.inside.queue c.self.inside.scrap) at P (rw (← c.self.view_is) at c.requires.block) in
+    let at : Sits c.self.inside.seats.items c.args.i s = sits-there c.self.invariant.0 c.self.view_is c.requires.place c.index-seat.ensures in
+    let task = seat-there c.self.invariant.0 c.self.view_is at in
+    let given = ap (slot_size c.args.anchor) (seen-slot c.self.invariant.0 c.self.view_is at task) ∙ c.requires.block _ task in
     let there = rw c.unwrap-address.ensures at c.address.ensures in
     source-high c.self.invariant.0 at c.args.anchor c.args.size c.args.load given there
 
 pub copy-requires-clause-source : goal.copy-requires-clause-source
 copy-requires-clause-source g c =
-    let m = g.S.Words.memory c.self.inside.store in
     let s = c.index-seat.result.now in
-    let at : Sits c.self.inside.seats.items c.args.i s = seat-sits m (rw (← c.self.view_is) at c.requires.place) (sym c.index-seat.ensures) in
-    let P : Slot → Type 0 = λ z. slot_size c.args.anchor z ≡ Ok c.args.size in
-    let given = slot-there m c.self.inside.made.items c.self.inside.files (kept_of c.self.inside.next c.self.inside.queue c.self.inside.scrap) at P (rw (← c.self.view_is) at c.requires.block) in
+    let at : Sits c.self.inside.seats.items c.args.i s = sits-there c.self.invariant.0 c.self.view_is c.requires.place c.index-seat.ensures in
+    let task = seat-there c.self.invariant.0 c.self.view_is at in
+    let given = ap (slot_size c.args.anchor) (seen-slot c.self.invariant.0 c.self.view_is at task) ∙ c.requires.block _ task in
     let there = rw c.unwrap-address.ensures at c.address.ensures in
     source-inside c.self.invariant.0 at c.args.anchor c.args.size c.args.load given there
 
 pub copy-requires-clause-target : goal.copy-requires-clause-target
 copy-requires-clause-target g c =
     let m = g.S.Words.memory c.self.inside.store in
-    let s = c.index-seat.result.now in
-    let at : Sits c.self.inside.seats.items c.args.i s = seat-sits m (rw (← c.self.view_is) at c.requires.place) (sym c.index-seat.ensures) in
-    let P : Slot → Type 0 = λ z. slot_size c.args.anchor z ≡ Ok c.args.size in
-    let given = slot-there m c.self.inside.made.items c.self.inside.files (kept_of c.self.inside.next c.self.inside.queue c.self.inside.scrap) at P (rw (← c.self.view_is) at c.requires.block) in
     let whole = g.met.S.Pages.whole c.self.inside.store 5 in
     let fits = rw (← c.self.view_is) at c.requires.room in
     let room : c.args.size ≤ length (bytes m 5) = omega (arith, fits, fixed-at m 5 (omega arith) (λ q. absurd (omega (arith, q))), pages-of m 5 whole) in
@@ -62,9 +56,9 @@ pub invariant_of-self : goal.invariant_of-self
 invariant_of-self g c =
     let m = g.S.Words.memory c.self.inside.store in
     let s = c.index-seat.result.now in
-    let at : Sits c.self.inside.seats.items c.args.i s = seat-sits m (rw (← c.self.view_is) at c.requires.place) (sym c.index-seat.ensures) in
-    let P : Slot → Type 0 = λ z. slot_size c.args.anchor z ≡ Ok c.args.size in
-    let given = slot-there m c.self.inside.made.items c.self.inside.files (kept_of c.self.inside.next c.self.inside.queue c.self.inside.scrap) at P (rw (← c.self.view_is) at c.requires.block) in
+    let at : Sits c.self.inside.seats.items c.args.i s = sits-there c.self.invariant.0 c.self.view_is c.requires.place c.index-seat.ensures in
+    let task = seat-there c.self.invariant.0 c.self.view_is at in
+    let given = ap (slot_size c.args.anchor) (seen-slot c.self.invariant.0 c.self.view_is at task) ∙ c.requires.block _ task in
     let there = rw c.unwrap-address.ensures at c.address.ensures in
     let whole = g.met.S.Pages.whole c.self.inside.store 5 in
     let fits = rw (← c.self.view_is) at c.requires.room in
@@ -75,12 +69,13 @@ pub returns : goal.returns
 returns g c =
     let m = g.S.Words.memory c.self.inside.store in
     let s = c.index-seat.result.now in
-    let at : Sits c.self.inside.seats.items c.args.i s = seat-sits m (rw (← c.self.view_is) at c.requires.place) (sym c.index-seat.ensures) in
-    let P : Slot → Type 0 = λ z. slot_size c.args.anchor z ≡ Ok c.args.size in
-    let given = slot-there m c.self.inside.made.items c.self.inside.files (kept_of c.self.inside.next c.self.inside.queue c.self.inside.scrap) at P (rw (← c.self.view_is) at c.requires.block) in
+    let at : Sits c.self.inside.seats.items c.args.i s = sits-there c.self.invariant.0 c.self.view_is c.requires.place c.index-seat.ensures in
+    let task = seat-there c.self.invariant.0 c.self.view_is at in
+    let given = ap (slot_size c.args.anchor) (seen-slot c.self.invariant.0 c.self.view_is at task) ∙ c.requires.block _ task in
     let there = rw c.unwrap-address.ensures at c.address.ensures in
     let whole = g.met.S.Pages.whole c.self.inside.store 5 in
     let fits = rw (← c.self.view_is) at c.requires.room in
     let room : c.args.size ≤ length (bytes m 5) = omega (arith, fits, fixed-at m 5 (omega arith) (λ q. absurd (omega (arith, q))), pages-of m 5 whole) in
-    rw (c.copy.ensures, ← c.self.view_is) (λ t b there_at is.
-    filled-desk c.self.invariant.0 at c.args.anchor c.args.size c.args.load given there room whole b (ap (slot_block c.args.anchor) (sym (slot-at m c.self.inside.made.items c.self.inside.files (kept_of c.self.inside.next c.self.inside.queue c.self.inside.scrap) at there_at)) ∙ is))
+    rw c.copy.ensures (λ t b same is.
+    filled-desk c.self.invariant.0 at c.args.anchor c.args.size c.args.load given there room whole b (ap (slot_block c.args.anchor) (seen-slot c.self.invariant.0 c.self.view_is at same) ∙ is)
+    ∙ ap (λ (x : Shown). let e : Desk = record x.desk { scrap = Some (record { load = c.args.load; bytes = b.here.bytes }) } in e) c.self.view_is)

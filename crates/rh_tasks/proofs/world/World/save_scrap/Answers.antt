@@ -1,5 +1,4 @@
-use Rattle.std.proofs.Common.{◌≡◌, ◌<◌, ◌≤◌, ◌-◌, refl, sym, ap, ◌∙◌, arith}
-use Rattle.std.specs.Prelude.{Ok}
+use Rattle.std.proofs.Common.{◌≡◌, ◌≤◌, refl, sym, ap, ◌∙◌, arith}
 use Rattle.std.proofs.lemmas.Result.{err_from_is_err_and}
 use Rattle.rh_defs.specs.declared.message.EventCode.TheVariants.{User}
 use Rattle.rh_defs.specs.declared.message.Letter.{Letter}
@@ -10,7 +9,9 @@ use Rattle.rh_defs.specs.Post.{post_send_pages}
 use Rattle.rh_defs.specs.Desk.{Desk, Task, free_pages}
 use Rattle.rh_defs.specs.OutgoingEvents.{wider, scrap_shortage}
 use Rattle.rh_tasks.specs.View.{task_of}
-use Rattle.rh_tasks.proofs.Scraps.{seen-desk, seen-at, seen-handle, seen-slot, seen-busy, seen-pages, seen-free, seen-shortage}
+use Rattle.rh_tasks.proofs.Lists.{Sits}
+use Rattle.rh_tasks.proofs.Buffers.{sits-there, seat-there, seat-handle}
+use Rattle.rh_tasks.proofs.Scraps.{seen-desk, seen-slot, seen-busy, seen-pages, seen-free, seen-shortage}
 use Rattle.rh_tasks.proofs.ScrapTransfers.{save-missing, save-busy, save-unsendable, save-full, save-short, sends-ok, first-at, first-sends, second-inside, second-room, second-block, third-inside, save-all}
 use Rattle.rh_tasks.proofs.world.World.save_scrap.Goals as goal
 
@@ -18,30 +19,29 @@ pub returns-in_err-size : goal.returns-in_err-size
 returns-in_err-size g c =
     let w = c.self.invariant.0 in
     let d : Desk = c.args.self.now.desk in
-    let at_seat = sym c.index-seat.ensures in
+    let sits : Sits c.self.inside.seats.items c.args.i c.index-seat.result.now = sits-there w c.self.view_is c.requires c.index-seat.ensures in
     let p = err_from_is_err_and c.from_residual.result c.from_residual.ensures.1 in
     rw (p.1, p.2) (λ t m for.
-    (save-missing d t m c.args.x.now (ap (slot_size c.args.x.now.anchor) (sym (seen-slot w c.self.view_is c.requires at_seat for.at)) ∙ sym c.in_err-size.ensures), refl))
+    (save-missing d t m c.args.x.now (ap (slot_size c.args.x.now.anchor) (sym (seen-slot w c.self.view_is sits for.at)) ∙ sym c.in_err-size.ensures), refl))
 
 pub returns-then-is_some : goal.returns-then-is_some
 returns-then-is_some g c =
     let w = c.self.invariant.0 in
     let d : Desk = c.args.self.now.desk in
-    let at_seat = sym c.index-seat.ensures in
+    let sits : Sits c.self.inside.seats.items c.args.i c.index-seat.result.now = sits-there w c.self.view_is c.requires c.index-seat.ensures in
     λ t m for.
-    let own = seen-handle w c.self.view_is c.requires at_seat for.at in
-    let given = ap (slot_size c.args.x.now.anchor) (sym (seen-slot w c.self.view_is c.requires at_seat for.at)) ∙ sym c.in_ok-size.ensures in
+    let given = ap (slot_size c.args.x.now.anchor) (sym (seen-slot w c.self.view_is sits for.at)) ∙ sym c.in_ok-size.ensures in
     (save-busy d t m c.args.x.now c.in_ok-size.size given (seen-busy w c.self.view_is ∙ sym c.if-is_some.ensures), refl)
 
 pub returns-in_err-more : goal.returns-in_err-more
 returns-in_err-more g c =
     let w = c.self.invariant.0 in
     let d : Desk = c.args.self.now.desk in
-    let at_seat = sym c.index-seat.ensures in
+    let sits : Sits c.self.inside.seats.items c.args.i c.index-seat.result.now = sits-there w c.self.view_is c.requires c.index-seat.ensures in
     let p = err_from_is_err_and c.from_residual-in_err-more.result c.from_residual-in_err-more.ensures.1 in
     rw (p.1, p.2) (λ t m for.
-    let own = seen-handle w c.self.view_is c.requires at_seat for.at in
-    let given = ap (slot_size c.args.x.now.anchor) (sym (seen-slot w c.self.view_is c.requires at_seat for.at)) ∙ sym c.in_ok-size.ensures in
+    let own = seat-handle w c.self.view_is sits for.at in
+    let given = ap (slot_size c.args.x.now.anchor) (sym (seen-slot w c.self.view_is sits for.at)) ∙ sym c.in_ok-size.ensures in
     let idle = seen-busy w c.self.view_is ∙ sym c.if-is_some.ensures in
     let letter : Letter = c.load_letter-letter.result in
     let same : letter ≡ load_letter t.handle m c.in_ok-size.size = c.load_letter-letter.ensures m for.message_is ∙ ap (λ h. load_letter h m c.in_ok-size.size) own in
@@ -51,10 +51,10 @@ pub returns-then-free-wider : goal.returns-then-free-wider
 returns-then-free-wider g c =
     let w = c.self.invariant.0 in
     let d : Desk = c.args.self.now.desk in
-    let at_seat = sym c.index-seat.ensures in
+    let sits : Sits c.self.inside.seats.items c.args.i c.index-seat.result.now = sits-there w c.self.view_is c.requires c.index-seat.ensures in
     λ t m for.
-    let own = seen-handle w c.self.view_is c.requires at_seat for.at in
-    let given = ap (slot_size c.args.x.now.anchor) (sym (seen-slot w c.self.view_is c.requires at_seat for.at)) ∙ sym c.in_ok-size.ensures in
+    let own = seat-handle w c.self.view_is sits for.at in
+    let given = ap (slot_size c.args.x.now.anchor) (sym (seen-slot w c.self.view_is sits for.at)) ∙ sym c.in_ok-size.ensures in
     let idle = seen-busy w c.self.view_is ∙ sym c.if-is_some.ensures in
     let letter : Letter = c.load_letter-letter.result in
     let same : letter ≡ load_letter t.handle m c.in_ok-size.size = c.load_letter-letter.ensures m for.message_is ∙ ap (λ h. load_letter h m c.in_ok-size.size) own in
@@ -67,10 +67,10 @@ pub returns-then-free-wider-2 : goal.returns-then-free-wider-2
 returns-then-free-wider-2 g c =
     let w = c.self.invariant.0 in
     let d : Desk = c.args.self.now.desk in
-    let at_seat = sym c.index-seat.ensures in
+    let sits : Sits c.self.inside.seats.items c.args.i c.index-seat.result.now = sits-there w c.self.view_is c.requires c.index-seat.ensures in
     λ t m for.
-    let own = seen-handle w c.self.view_is c.requires at_seat for.at in
-    let given = ap (slot_size c.args.x.now.anchor) (sym (seen-slot w c.self.view_is c.requires at_seat for.at)) ∙ sym c.in_ok-size.ensures in
+    let own = seat-handle w c.self.view_is sits for.at in
+    let given = ap (slot_size c.args.x.now.anchor) (sym (seen-slot w c.self.view_is sits for.at)) ∙ sym c.in_ok-size.ensures in
     let idle = seen-busy w c.self.view_is ∙ sym c.if-is_some.ensures in
     let letter : Letter = c.load_letter-letter.result in
     let same : letter ≡ load_letter t.handle m c.in_ok-size.size = c.load_letter-letter.ensures m for.message_is ∙ ap (λ h. load_letter h m c.in_ok-size.size) own in
@@ -84,12 +84,12 @@ pub send_from-requires : goal.send_from-requires
 send_from-requires g c =
     let w = c.self.invariant.0 in
     let d : Desk = c.args.self.now.desk in
-    let at_seat = sym c.index-seat.ensures in
+    let sits : Sits c.self.inside.seats.items c.args.i c.index-seat.result.now = sits-there w c.self.view_is c.requires c.index-seat.ensures in
     let t : Task = task_of (g.S.Words.memory c.self.inside.store) c.index-seat.result.now in
-    let at = seen-at w c.self.view_is c.requires at_seat in
+    let at = seat-there w c.self.view_is sits in
     let m : Parcel = record { code = User; to = 0; block = 0; message = c.args.message.now } in
-    let own = seen-handle w c.self.view_is c.requires at_seat at in
-    let given = ap (slot_size c.args.x.now.anchor) (sym (seen-slot w c.self.view_is c.requires at_seat at)) ∙ sym c.in_ok-size.ensures in
+    let own = seat-handle w c.self.view_is sits at in
+    let given = ap (slot_size c.args.x.now.anchor) (sym (seen-slot w c.self.view_is sits at)) ∙ sym c.in_ok-size.ensures in
     let letter : Letter = c.load_letter-letter.result in
     let same : letter ≡ load_letter t.handle m c.in_ok-size.size = c.load_letter-letter.ensures m refl ∙ ap (λ h. load_letter h m c.in_ok-size.size) own in
     let short : c.saturating_sub-wider.result ≡ scrap_shortage c.in_ok-size.size d = omega (arith, c.saturating_sub-wider.ensures, c.pages_for.ensures, c.len.ensures, seen-shortage w c.self.view_is c.in_ok-size.size) in
@@ -102,12 +102,12 @@ pub unwrap-load-requires : goal.unwrap-load-requires
 unwrap-load-requires g c =
     let w = c.self.invariant.0 in
     let d : Desk = c.args.self.now.desk in
-    let at_seat = sym c.index-seat.ensures in
+    let sits : Sits c.self.inside.seats.items c.args.i c.index-seat.result.now = sits-there w c.self.view_is c.requires c.index-seat.ensures in
     let t : Task = task_of (g.S.Words.memory c.self.inside.store) c.index-seat.result.now in
-    let at = seen-at w c.self.view_is c.requires at_seat in
+    let at = seat-there w c.self.view_is sits in
     let m : Parcel = record { code = User; to = 0; block = 0; message = c.args.message.now } in
-    let own = seen-handle w c.self.view_is c.requires at_seat at in
-    let given = ap (slot_size c.args.x.now.anchor) (sym (seen-slot w c.self.view_is c.requires at_seat at)) ∙ sym c.in_ok-size.ensures in
+    let own = seat-handle w c.self.view_is sits at in
+    let given = ap (slot_size c.args.x.now.anchor) (sym (seen-slot w c.self.view_is sits at)) ∙ sym c.in_ok-size.ensures in
     let letter : Letter = c.load_letter-letter.result in
     let same : letter ≡ load_letter t.handle m c.in_ok-size.size = c.load_letter-letter.ensures m refl ∙ ap (λ h. load_letter h m c.in_ok-size.size) own in
     let idle = seen-busy w c.self.view_is ∙ sym c.if-is_some.ensures in
@@ -123,12 +123,12 @@ pub fill_scrap-requires-clause-place : goal.fill_scrap-requires-clause-place
 fill_scrap-requires-clause-place g c =
     let w = c.self.invariant.0 in
     let d : Desk = c.args.self.now.desk in
-    let at_seat = sym c.index-seat.ensures in
+    let sits : Sits c.self.inside.seats.items c.args.i c.index-seat.result.now = sits-there w c.self.view_is c.requires c.index-seat.ensures in
     let t : Task = task_of (g.S.Words.memory c.self.inside.store) c.index-seat.result.now in
-    let at = seen-at w c.self.view_is c.requires at_seat in
+    let at = seat-there w c.self.view_is sits in
     let m : Parcel = record { code = User; to = 0; block = 0; message = c.args.message.now } in
-    let own = seen-handle w c.self.view_is c.requires at_seat at in
-    let given = ap (slot_size c.args.x.now.anchor) (sym (seen-slot w c.self.view_is c.requires at_seat at)) ∙ sym c.in_ok-size.ensures in
+    let own = seat-handle w c.self.view_is sits at in
+    let given = ap (slot_size c.args.x.now.anchor) (sym (seen-slot w c.self.view_is sits at)) ∙ sym c.in_ok-size.ensures in
     let letter : Letter = c.load_letter-letter.result in
     let same : letter ≡ load_letter t.handle m c.in_ok-size.size = c.load_letter-letter.ensures m refl ∙ ap (λ h. load_letter h m c.in_ok-size.size) own in
     let short : c.saturating_sub-wider.result ≡ scrap_shortage c.in_ok-size.size d = omega (arith, c.saturating_sub-wider.ensures, c.pages_for.ensures, c.len.ensures, seen-shortage w c.self.view_is c.in_ok-size.size) in
@@ -142,12 +142,12 @@ pub fill_scrap-requires-clause-room : goal.fill_scrap-requires-clause-room
 fill_scrap-requires-clause-room g c =
     let w = c.self.invariant.0 in
     let d : Desk = c.args.self.now.desk in
-    let at_seat = sym c.index-seat.ensures in
+    let sits : Sits c.self.inside.seats.items c.args.i c.index-seat.result.now = sits-there w c.self.view_is c.requires c.index-seat.ensures in
     let t : Task = task_of (g.S.Words.memory c.self.inside.store) c.index-seat.result.now in
-    let at = seen-at w c.self.view_is c.requires at_seat in
+    let at = seat-there w c.self.view_is sits in
     let m : Parcel = record { code = User; to = 0; block = 0; message = c.args.message.now } in
-    let own = seen-handle w c.self.view_is c.requires at_seat at in
-    let given = ap (slot_size c.args.x.now.anchor) (sym (seen-slot w c.self.view_is c.requires at_seat at)) ∙ sym c.in_ok-size.ensures in
+    let own = seat-handle w c.self.view_is sits at in
+    let given = ap (slot_size c.args.x.now.anchor) (sym (seen-slot w c.self.view_is sits at)) ∙ sym c.in_ok-size.ensures in
     let letter : Letter = c.load_letter-letter.result in
     let same : letter ≡ load_letter t.handle m c.in_ok-size.size = c.load_letter-letter.ensures m refl ∙ ap (λ h. load_letter h m c.in_ok-size.size) own in
     let short : c.saturating_sub-wider.result ≡ scrap_shortage c.in_ok-size.size d = omega (arith, c.saturating_sub-wider.ensures, c.pages_for.ensures, c.len.ensures, seen-shortage w c.self.view_is c.in_ok-size.size) in
@@ -161,12 +161,12 @@ pub fill_scrap-requires-clause-block : goal.fill_scrap-requires-clause-block
 fill_scrap-requires-clause-block g c =
     let w = c.self.invariant.0 in
     let d : Desk = c.args.self.now.desk in
-    let at_seat = sym c.index-seat.ensures in
+    let sits : Sits c.self.inside.seats.items c.args.i c.index-seat.result.now = sits-there w c.self.view_is c.requires c.index-seat.ensures in
     let t : Task = task_of (g.S.Words.memory c.self.inside.store) c.index-seat.result.now in
-    let at = seen-at w c.self.view_is c.requires at_seat in
+    let at = seat-there w c.self.view_is sits in
     let m : Parcel = record { code = User; to = 0; block = 0; message = c.args.message.now } in
-    let own = seen-handle w c.self.view_is c.requires at_seat at in
-    let given = ap (slot_size c.args.x.now.anchor) (sym (seen-slot w c.self.view_is c.requires at_seat at)) ∙ sym c.in_ok-size.ensures in
+    let own = seat-handle w c.self.view_is sits at in
+    let given = ap (slot_size c.args.x.now.anchor) (sym (seen-slot w c.self.view_is sits at)) ∙ sym c.in_ok-size.ensures in
     let letter : Letter = c.load_letter-letter.result in
     let same : letter ≡ load_letter t.handle m c.in_ok-size.size = c.load_letter-letter.ensures m refl ∙ ap (λ h. load_letter h m c.in_ok-size.size) own in
     let short : c.saturating_sub-wider.result ≡ scrap_shortage c.in_ok-size.size d = omega (arith, c.saturating_sub-wider.ensures, c.pages_for.ensures, c.len.ensures, seen-shortage w c.self.view_is c.in_ok-size.size) in
@@ -180,12 +180,12 @@ pub record_saved-requires : goal.record_saved-requires
 record_saved-requires g c =
     let w = c.self.invariant.0 in
     let d : Desk = c.args.self.now.desk in
-    let at_seat = sym c.index-seat.ensures in
+    let sits : Sits c.self.inside.seats.items c.args.i c.index-seat.result.now = sits-there w c.self.view_is c.requires c.index-seat.ensures in
     let t : Task = task_of (g.S.Words.memory c.self.inside.store) c.index-seat.result.now in
-    let at = seen-at w c.self.view_is c.requires at_seat in
+    let at = seat-there w c.self.view_is sits in
     let m : Parcel = record { code = User; to = 0; block = 0; message = c.args.message.now } in
-    let own = seen-handle w c.self.view_is c.requires at_seat at in
-    let given = ap (slot_size c.args.x.now.anchor) (sym (seen-slot w c.self.view_is c.requires at_seat at)) ∙ sym c.in_ok-size.ensures in
+    let own = seat-handle w c.self.view_is sits at in
+    let given = ap (slot_size c.args.x.now.anchor) (sym (seen-slot w c.self.view_is sits at)) ∙ sym c.in_ok-size.ensures in
     let letter : Letter = c.load_letter-letter.result in
     let same : letter ≡ load_letter t.handle m c.in_ok-size.size = c.load_letter-letter.ensures m refl ∙ ap (λ h. load_letter h m c.in_ok-size.size) own in
     let short : c.saturating_sub-wider.result ≡ scrap_shortage c.in_ok-size.size d = omega (arith, c.saturating_sub-wider.ensures, c.pages_for.ensures, c.len.ensures, seen-shortage w c.self.view_is c.in_ok-size.size) in
@@ -199,11 +199,11 @@ pub returns : goal.returns
 returns g c =
     let w = c.self.invariant.0 in
     let d : Desk = c.args.self.now.desk in
-    let at_seat = sym c.index-seat.ensures in
+    let sits : Sits c.self.inside.seats.items c.args.i c.index-seat.result.now = sits-there w c.self.view_is c.requires c.index-seat.ensures in
     λ t m for.
     let at = for.at in
-    let own = seen-handle w c.self.view_is c.requires at_seat at in
-    let given = ap (slot_size c.args.x.now.anchor) (sym (seen-slot w c.self.view_is c.requires at_seat at)) ∙ sym c.in_ok-size.ensures in
+    let own = seat-handle w c.self.view_is sits at in
+    let given = ap (slot_size c.args.x.now.anchor) (sym (seen-slot w c.self.view_is sits at)) ∙ sym c.in_ok-size.ensures in
     let letter : Letter = c.load_letter-letter.result in
     let same : letter ≡ load_letter t.handle m c.in_ok-size.size = c.load_letter-letter.ensures m for.message_is ∙ ap (λ h. load_letter h m c.in_ok-size.size) own in
     let idle = seen-busy w c.self.view_is ∙ sym c.if-is_some.ensures in

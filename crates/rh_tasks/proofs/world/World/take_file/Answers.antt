@@ -1,5 +1,5 @@
-use Rattle.std.proofs.Common.{◌≡◌, refl, sym, ap, subst, ◌∙◌}
-use Rattle.std.specs.Prelude.{Some, ◌==◌, ◌<◌, length}
+use Rattle.std.proofs.Common.{refl, sym, ap, subst, ◌∙◌}
+use Rattle.std.specs.Prelude.{◌==◌, ◌<◌, length}
 use Rattle.rh_defs.specs.declared.message.Message.{Message}
 use Rattle.rh_defs.specs.Memory.{bytes}
 use Rattle.rh_defs.specs.Desk.{Desk, Scrap}
