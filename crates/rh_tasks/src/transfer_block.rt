@@ -23,12 +23,8 @@ impl<S: Store> World<S> {
     ) -> Result<(), Refusal>
         ensures { Becomes (transferred self.old.desk from address to address2 n) self.old self.new result }
     {
-        let Some(i) = with_handle(&self.seats, from) else {
-            return Err(Refusal::NoTask);
-        };
-        let Some(j) = with_handle(&self.seats, to) else {
-            return Err(Refusal::NoTask);
-        };
+        let i = with_handle(&self.seats, from).ok_or(Refusal::NoTask)?;
+        let j = with_handle(&self.seats, to).ok_or(Refusal::NoTask)?;
         let source = self.seats[i].slot;
         let target = self.seats[j].slot;
         let (x, y, n) = (address as usize, address2 as usize, n as usize);
