@@ -37,8 +37,8 @@ returns-then-do_overlap g c =
     let rh = sym c.if-not-inside-2.ensures in
     rw (← c.self.view_is) (colliding c.self.invariant.0 _ _ _ a b sh rh (both-true _ _ (sym c.if-eq.ensures) (sym c.if-do_overlap.ensures)), refl)
 
-pub overflow_sub-x : goal.overflow_sub-x
-overflow_sub-x g c =
+pub overflow_sub-place : goal.overflow_sub-place
+overflow_sub-place g c =
     let a = seat-of _ _ _ _ (place-is _ c.with_handle.result c.in_ok-i.ensures.value c.with_handle.ensures) c.index.ensures in
     let sh = sym c.if-not-inside.ensures in
     (held-part _ c.index.result.now.slot _ _ (seat-slot c.self.invariant.0 a.at) sh).0
