@@ -1,6 +1,6 @@
 -- Bytes that are moved from one task's block to another's: where they stand, and the world after it.
-use Rattle.std.proofs.Common.{◌≡◌, ◌≢◌, ◌⊎◌, inl, inr, ℕ, zero, suc, ◌+◌, ◌-◌, ◌<◌, ◌≤◌, Bool, true, false, refl, ap, sym, subst, ◌∙◌, arith, List, [], ◌∷◌, length}
-use Rattle.std.specs.Prelude.{Option, Some, None, Ok, Err, is_some, not, ◌&&◌, ◌||◌, ◌==◌, map, take, drop, find}
+use Rattle.std.proofs.Common.{◌≡◌, ◌⊎◌, inl, inr, ℕ, zero, suc, ◌+◌, ◌-◌, ◌≤◌, Bool, true, false, refl, ap, sym, subst, ◌∙◌, arith, List, [], ◌∷◌, length}
+use Rattle.std.specs.Prelude.{Option, Some, None, Ok, Err, is_some, ok_or, not, ◌&&◌, ◌||◌, ◌==◌, map, take, drop}
 use Rattle.std.specs.List.{position}
 use Rattle.std.proofs.Math.ListN.{get_or}
 use Rattle.std.proofs.lemmas.Bool.{cases_lt, eqb-true}
@@ -8,6 +8,7 @@ use Rattle.std.proofs.lemmas.List.Quantifiers.{position-Some}
 use Rattle.rh_defs.specs.Bytes.{part}
 use Rattle.rh_defs.specs.Memory.{Memory, bytes}
 use Rattle.rh_defs.specs.Files.{FileList}
+use Rattle.rh_defs.specs.declared.refusal.Refusal.{Refusal}
 use Rattle.rh_defs.specs.declared.refusal.Refusal.TheVariants.{NoTask, BadRange}
 use Rattle.rh_defs.specs.Chain.{Granted, found_or, no_answer}
 use Rattle.rh_defs.specs.Pieces.{total}
@@ -118,6 +119,15 @@ seat-of seats h i s e is =
     let P : Seat → Type 0 = λ y. (y.handle == h) ≡ true in
     let f = position-Some (λ (x : Seat). x.handle == h) seats i s e in
     record { at = record { inside = f.0; is = sym is }; handle = eqb-true _ _ (subst P (sym is) f.1) }
+
+-- what a place that is asked for says, where there may be none
+pub place-is : {i : ℕ} (e : Refusal) (o : Option ℕ) {p : Option ℕ} → Ok i ≡ ok_or o e → o ≡ p → p ≡ Some i
+place-is r (Some k) e f = sym f ∙ (let same : k ≡ _ = cc in ap (λ (x : ℕ). Some x) same)
+place-is r None e f = absurd cc
+
+pub place-none : {r : Refusal} (e : Refusal) (o : Option ℕ) {p : Option ℕ} → Err r ≡ ok_or o e → o ≡ p → (r ≡ e) × (p ≡ None)
+place-none q (Some k) e f = absurd cc
+place-none q None e f = (cc, sym f)
 
 -- members whose numbers are distinct, and are one number, are one
 same-member : {A : Type 0} (f : A → ℕ) (xs : List A) (i j : ℕ) (x y : A) → AreDistinct (map f xs) → Sits xs i x → Sits xs j y → f x ≡ f y → x ≡ y

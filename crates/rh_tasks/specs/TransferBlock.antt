@@ -22,7 +22,7 @@ bytes_around x n s (Some b) = take n (drop (x - flex_address s b.before) b.here.
 abbrev pub bytes_held : ℕ → ℕ → Slot → List ℕ
 bytes_held x n s = bytes_around x n s (flex_around x n s)
 
--- n bytes moved from an address of one task's slot to an address of another's, or of its own where the two ranges don't overlap
+-- n bytes moved from an address of one task's slot to an address of another's, or of its own
 unfoldable pub transferred : Desk → ℕ → ℕ → ℕ → ℕ → ℕ → Granted Desk
 transferred d from address to address2 n = do
   t ← found_or (task_at from d) NoTask

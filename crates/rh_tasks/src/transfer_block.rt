@@ -11,8 +11,9 @@ use rh_slot::write_from;
 use rh_store::Store;
 
 impl<S: Store> World<S> {
-    /// Moves n bytes from an address of one task's slot to an address of another's, or of its own (Wimp_TransferBlock):
-    /// NoTask where one of the tasks isn't live, BadRange where a range isn't whole inside one live block or the two overlap.
+    /// Moves n bytes from an address of one task's slot to an address of another's, or of its own. Refused: NoTask where
+    /// one of the tasks isn't live, BadRange where a range isn't whole inside one live block or the two overlap.
+    /// (Wimp_TransferBlock.)
     pub fn transfer_block(
         &mut self,
         from: Handle,
@@ -23,12 +24,8 @@ impl<S: Store> World<S> {
     ) -> Result<(), Refusal>
         ensures { Becomes (transferred self.old.desk from address to address2 n) self.old self.new result }
     {
-        let Some(i) = with_handle(&self.seats, from) else {
-            return Err(Refusal::NoTask);
-        };
-        let Some(j) = with_handle(&self.seats, to) else {
-            return Err(Refusal::NoTask);
-        };
+        let i = with_handle(&self.seats, from).ok_or(Refusal::NoTask)?;
+        let j = with_handle(&self.seats, to).ok_or(Refusal::NoTask)?;
         let source = self.seats[i].slot;
         let target = self.seats[j].slot;
         let (x, y, n) = (address as usize, address2 as usize, n as usize);
@@ -38,7 +35,8 @@ impl<S: Store> World<S> {
         if from == to && do_overlap(x, n, y, n) {
             return Err(Refusal::BadRange);
         }
-        write_from(&mut self.store, target, y, n, source.area, x - SLOT_START, n);
+        let place = x - SLOT_START;
+        write_from(&mut self.store, target, y, n, source.area, place, n);
         Ok(())
     }
 }
