@@ -1,4 +1,4 @@
-use Rattle.std.proofs.Common.{sym, refl, ◌∙◌}
+use Rattle.std.proofs.Common.{sym, refl}
 use Rattle.rh_tasks.proofs.Reorders.{reordered-refl}
 use Rattle.rh_tasks.proofs.Tables.{save-came, ack-came, load-came, load-ack-came, fetch-ignored, fetch-came, bytes-came}
 use Rattle.rh_tasks.proofs.world.World.came.Goals as goal
@@ -27,16 +27,16 @@ returns-in-DataLoadAck g c = λ t m for.
     let h = rw (← c.self.view_is) at c.finish_load.ensures in
     rw (← c.self.view_is) (load-ack-came c.self.invariant.0 (sym c.index-seat.ensures) own c.in-DataLoadAck.is c.on_load_ack-x.ensures (h t own.at))
 
-pub returns-then-eq : goal.returns-then-eq
-returns-then-eq g c = λ t m for.
+pub returns-then-answers_none : goal.returns-then-answers_none
+returns-then-answers_none g c = λ t m for.
     let own = rw (← c.self.view_is) at for in
-    rw (← c.self.view_is) (fetch-ignored c.self.invariant.0 (sym c.index-seat.ensures) own c.in-RamFetch.is (sym c.answers_none.ensures ∙ c.then-eq.is) (refl, reordered-refl _))
+    rw (← c.self.view_is) (fetch-ignored c.self.invariant.0 (sym c.index-seat.ensures) own c.in-RamFetch.is (sym c.if-answers_none.ensures) (refl, reordered-refl _))
 
-pub returns-else-eq : goal.returns-else-eq
-returns-else-eq g c = λ t m for.
+pub returns-else-answers_none : goal.returns-else-answers_none
+returns-else-answers_none g c = λ t m for.
     let own = rw (← c.self.view_is) at for in
     let h = rw (← c.self.view_is) at c.answer_fetch.ensures in
-    rw (← c.self.view_is) (fetch-came c.self.invariant.0 (sym c.index-seat.ensures) own c.in-RamFetch.is (sym c.answers_none.ensures ∙ c.else-eq.is) c.on_fetch-x.ensures (h t m own))
+    rw (← c.self.view_is) (fetch-came c.self.invariant.0 (sym c.index-seat.ensures) own c.in-RamFetch.is (sym c.if-answers_none.ensures) c.on_fetch-x.ensures (h t m own))
 
 pub returns-in-RamTransmit : goal.returns-in-RamTransmit
 returns-in-RamTransmit g c = λ t m for.

@@ -4,6 +4,7 @@ use Rattle.rh_defs.specs.Step.{poll}
 use Rattle.rh_tasks.proofs.Chains.{ends}
 use Rattle.rh_tasks.proofs.Finding.{nobody, found-in}
 use Rattle.rh_tasks.proofs.Polls.{none-taken, some-taken, place-then, task-there, poll-none, poll-some}
+use Rattle.rh_tasks.specs.View.{task_of}
 use Rattle.rh_tasks.proofs.world.World.poll.Goals as goal
 
 pub returns-in_err-i : goal.returns-in_err-i
@@ -13,21 +14,24 @@ returns-in_err-i g c =
     rw (p.1, p.2, c.in_err-i.ensures.err.0, ← c.self.view_is) (ends _ (nobody _ _ _ _ _ _ c.in_err-i.ensures.err.1), refl)
 
 pub returns-in_default : goal.returns-in_default
+unfolding task_of
 returns-in_default g c =
     let f = found-in c.in_ok-i.ensures.ok in
-    let e = rw (← c.self.view_is) at c.take_event.ensures in
+    let e = rw (← c.self.view_is) at c.in_default.ensures in
     let at = task-there c.self.invariant.0 f.1 in
     rw (← c.self.view_is) (poll-none c.self.invariant.0 f.1 (none-taken _ (e.event _ at)) _ (e.desk _ at))
 
 pub handle-outcome-requires : goal.handle-outcome-requires
+unfolding task_of
 handle-outcome-requires g c =
     let f = found-in c.in_ok-i.ensures.ok in
     let e = rw (← c.self.view_is) at c.take_event.ensures in
     place-then c.self.invariant.0 f.1 _ (e.desk _ (task-there c.self.invariant.0 f.1))
 
 pub returns : goal.returns
+unfolding task_of
 returns g c =
     let f = found-in c.in_ok-i.ensures.ok in
-    let e = rw (← c.self.view_is) at c.take_event.ensures in
+    let e = rw (← c.self.view_is) at c.in-Some.ensures in
     let at = task-there c.self.invariant.0 f.1 in
-    rw (← c.self.view_is) (poll-some c.self.invariant.0 f.1 (some-taken _ _ (e.event _ at)) _ _ _ (e.desk _ at) c.handle-outcome.ensures)
+    rw (← c.self.view_is, c.action.ensures) (poll-some c.self.invariant.0 f.1 (some-taken _ _ (e.event _ at)) _ _ _ (e.desk _ at) c.handle-outcome.ensures)
