@@ -1,13 +1,21 @@
-//! Tests that cross crates: slots and the module area, over a plain store and over scattered pages, and
-//! the records of transfers.
+//! Tests that cross crates: heaps in a plain store, slots and the module area over a plain store and over
+//! scattered pages, and the records of transfers.
 #![tactic(auto)]
 
+#[cfg(test)]
+mod bench;
+#[cfg(test)]
+mod elsewhere;
 #[cfg(test)]
 mod flex_blocks;
 #[cfg(test)]
 mod heap_blocks;
 #[cfg(test)]
+mod heaps;
+#[cfg(test)]
 mod module_blocks;
+#[cfg(test)]
+mod same;
 #[cfg(test)]
 mod stores;
 #[cfg(test)]

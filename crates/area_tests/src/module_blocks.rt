@@ -1,9 +1,9 @@
 //! Blocks of the module area, which grows and shrinks by pages.
 
-ghost use Rattle.std.specs.Prelude.{◌<◌, ◌≤◌, IfOk, length};
-ghost use Rattle.rh_defs.specs.Memory.{Memory, IsOpen, bytes};
+ghost use Rattle.std.specs.Prelude.{IfOk};
 ghost use Rattle.rh_module.specs.Area.{IsModule};
 
+use crate::same::{is_true, same};
 use rh_defs::Refusal;
 use rh_defs::sizes::PAGE;
 use rh_heap::Segment;
@@ -13,86 +13,172 @@ use rh_store::{PlainStore, Store, StoreFault};
 use std::process::Abort;
 use std::test::Fail;
 
-/// The module area in an area of one page.
-#[tactic(auto, using(rh_defs::proofs::BytesLaws::word_laws, rh_defs::proofs::MemoryLaws::memory_laws, rh_defs::proofs::MemoryLaws::pool_laws))]
-fn started<S: Store>(store: &mut S) -> Result<Module, StoreFault>
-    ensures { IfOk result (IsModule (S.memory store.new)) }
-{
-    let area = store.open()?;
-    store.grow(area, 1)?;
-    Ok(Module::start(store, area))
+/// The module area in a store of its own, with calls that say no more than that it stays one.
+#[derive(Drop)]
+struct Bench<S: Store> {
+    store: S,
+    rma: Module,
 }
 
-fn the_area_grows_and_shrinks<R: Abort, S: Store>(rt: &R, store: &mut S) -> Result<(), StoreFault> {
-    let rma = started(store)?;
-    assert_eq!(rt; rma.claim(store, 4076), Ok(20));
-    assert_eq!(rt; rma.claim(store, 1), Ok(4100));
-    assert_eq!(rt; rma.change(store, -4096), Err(Refusal::ExcessiveShrink));
-    assert_eq!(rt; rma.free(store, 4100), Ok(()));
-    assert_eq!(rt; rma.change(store, -4096), Ok(4096));
-    assert_eq!(rt; rma.free(store, 4100), Err(Refusal::NotABlock));
-    assert_eq!(rt; rma.resize(store, 20, 4096), Ok(20));
-    assert_eq!(rt; store.len(rma.area), 2 * PAGE);
-    assert_eq!(rt; store.free_pages(), 6);
-    assert_eq!(rt; rma.resize(store, 20, -8172), Err(Refusal::BadSize));
-    assert_eq!(rt; rma.claim(store, 0), Err(Refusal::BadSize));
-    assert_eq!(rt; rma.claim(store, 2147483647), Err(Refusal::NoRoom));
-    assert_eq!(rt; store.free_pages(), 6);
-    assert_eq!(rt; rma.need_pages(store, 1), Ok(1));
+impl<S: Store + Drop> Bench<S> {
+    /// The module area in an area of one page.
+    #[tactic(auto, using(rh_defs::proofs::BytesLaws::word_laws, rh_defs::proofs::MemoryLaws::memory_laws, rh_defs::proofs::MemoryLaws::pool_laws))]
+    fn new(store: S) -> Result<Bench<S>, StoreFault>
+        ensures { IfOk result (λ bench. IsModule (S.memory bench.store) bench.rma) }
+    {
+        let mut store = store;
+        let area = store.open()?;
+        store.grow(area, 1)?;
+        let rma = Module::start(&mut store, area);
+        Ok(Bench { store, rma })
+    }
+
+    fn claim(&mut self, n: u32) -> Result<usize, Refusal>
+        requires { IsModule (S.memory self.old.store) self.old.rma }
+        ensures { IsModule (S.memory self.new.store) self.new.rma }
+    {
+        self.rma.claim(&mut self.store, n)
+    }
+
+    fn free(&mut self, address: usize) -> Result<(), Refusal>
+        requires { IsModule (S.memory self.old.store) self.old.rma }
+        ensures { IsModule (S.memory self.new.store) self.new.rma }
+    {
+        self.rma.free(&mut self.store, address)
+    }
+
+    fn resize(&mut self, address: usize, delta: i32) -> Result<usize, Refusal>
+        requires { IsModule (S.memory self.old.store) self.old.rma }
+        ensures { IsModule (S.memory self.new.store) self.new.rma }
+    {
+        self.rma.resize(&mut self.store, address, delta)
+    }
+
+    fn change(&mut self, delta: i32) -> Result<usize, Refusal>
+        requires { IsModule (S.memory self.old.store) self.old.rma }
+        ensures { IsModule (S.memory self.new.store) self.new.rma }
+    {
+        self.rma.change(&mut self.store, delta)
+    }
+
+    fn need_pages(&self, n: u32) -> Result<usize, Refusal>
+        requires { IsModule (S.memory self.now.store) self.now.rma }
+    {
+        self.rma.need_pages(&self.store, n)
+    }
+
+    fn block_size(&self, address: usize) -> Result<usize, Refusal>
+        requires { IsModule (S.memory self.now.store) self.now.rma }
+    {
+        self.rma.block_size(&self.store, address)
+    }
+
+    fn segment(&self, place: usize) -> Option<Segment>
+        requires { IsModule (S.memory self.now.store) self.now.rma }
+    {
+        self.rma.segment(&self.store, place)
+    }
+
+    fn holds(&self, address: usize, n: usize) -> bool
+        requires { IsModule (S.memory self.now.store) self.now.rma }
+    {
+        self.rma.holds(&self.store, address, n)
+    }
+
+    fn end(&self) -> usize
+        requires { IsModule (S.memory self.now.store) self.now.rma }
+    {
+        self.rma.end(&self.store)
+    }
+
+    fn describe(&self) -> (usize, usize)
+        requires { IsModule (S.memory self.now.store) self.now.rma }
+    {
+        self.rma.describe(&self.store)
+    }
+
+    /// The length of the area, in bytes.
+    fn len(&self) -> usize
+        requires { IsModule (S.memory self.now.store) self.now.rma }
+    {
+        self.store.len(self.rma.area)
+    }
+}
+
+fn the_area_grows_and_shrinks<R: Abort, S: Store + Drop>(
+    rt: &R,
+    store: S,
+) -> Result<(), StoreFault> {
+    let mut bench = Bench::new(store)?;
+    same(rt, bench.claim(4076), Ok(20));
+    same(rt, bench.claim(1), Ok(4100));
+    same(rt, bench.change(-4096), Err(Refusal::ExcessiveShrink));
+    same(rt, bench.free(4100), Ok(()));
+    same(rt, bench.change(-4096), Ok(4096));
+    same(rt, bench.free(4100), Err(Refusal::NotABlock));
+    same(rt, bench.resize(20, 4096), Ok(20));
+    same(rt, bench.len(), 2 * PAGE);
+    same(rt, bench.store.free_pages(), 6);
+    same(rt, bench.resize(20, -8172), Err(Refusal::BadSize));
+    same(rt, bench.claim(0), Err(Refusal::BadSize));
+    same(rt, bench.claim(2147483647), Err(Refusal::NoRoom));
+    same(rt, bench.store.free_pages(), 6);
+    same(rt, bench.need_pages(1), Ok(1));
     Ok(())
 }
 
-fn blocks_are_listed<R: Abort, S: Store>(rt: &R, store: &mut S) -> Result<(), StoreFault> {
-    let rma = started(store)?;
-    assert_eq!(rt; rma.claim(store, 12), Ok(20));
-    assert_eq!(rt; rma.claim(store, 5), Ok(36));
-    assert_eq!(rt; rma.free(store, 20), Ok(()));
-    assert_eq!(rt; rma.end(store), PAGE);
-    assert_eq!(rt; rma.describe(store), (4044, 4064));
-    assert_eq!(rt; rma.block_size(store, 36), Ok(12));
-    assert_eq!(rt; rma.block_size(store, 20), Err(Refusal::NotABlock));
-    assert!(rt; rma.holds(store, 40, 8));
-    assert!(rt; !rma.holds(store, 20, 0));
-    assert_eq!(rt;
-        rma.segment(store, 16),
+fn blocks_are_listed<R: Abort, S: Store + Drop>(rt: &R, store: S) -> Result<(), StoreFault> {
+    let mut bench = Bench::new(store)?;
+    same(rt, bench.claim(12), Ok(20));
+    same(rt, bench.claim(5), Ok(36));
+    same(rt, bench.free(20), Ok(()));
+    same(rt, bench.end(), PAGE);
+    same(rt, bench.describe(), (4044, 4064));
+    same(rt, bench.block_size(36), Ok(12));
+    same(rt, bench.block_size(20), Err(Refusal::NotABlock));
+    is_true(rt, bench.holds(40, 8));
+    is_true(rt, !bench.holds(20, 0));
+    same(
+        rt,
+        bench.segment(16),
         Some(Segment {
             place: 16,
             size: 16,
-            used: false
-        })
+            used: false,
+        }),
     );
-    assert_eq!(rt; rma.segment(store, 20), None);
+    same(rt, bench.segment(20), None);
     Ok(())
 }
 
-fn amounts_are_rounded_up_to_pages<R: Abort, S: Store>(
+fn amounts_are_rounded_up_to_pages<R: Abort, S: Store + Drop>(
     rt: &R,
-    store: &mut S,
+    store: S,
 ) -> Result<(), StoreFault> {
-    let rma = started(store)?;
-    assert_eq!(rt; rma.change(store, 0), Ok(0));
-    assert_eq!(rt; rma.change(store, 1), Ok(4096));
-    assert_eq!(rt; rma.change(store, 99999999), Err(Refusal::NoRoom));
-    assert_eq!(rt; store.len(rma.area), 2 * PAGE);
+    let mut bench = Bench::new(store)?;
+    same(rt, bench.change(0), Ok(0));
+    same(rt, bench.change(1), Ok(4096));
+    same(rt, bench.change(99999999), Err(Refusal::NoRoom));
+    same(rt, bench.len(), 2 * PAGE);
     Ok(())
 }
 
 #[test]
 fn the_area_grows_and_shrinks_in_a_plain_store(rt: HostRuntime) -> Result<(), Fail> {
-    let mut store = PlainStore::new(rt.alloc(), 8)?;
-    the_area_grows_and_shrinks(&rt, &mut store)?;
-    let mut store = PlainStore::new(rt.alloc(), 8)?;
-    blocks_are_listed(&rt, &mut store)?;
-    let mut store = PlainStore::new(rt.alloc(), 8)?;
-    Ok(amounts_are_rounded_up_to_pages(&rt, &mut store)?)
+    let store = PlainStore::new(rt.alloc(), 8)?;
+    the_area_grows_and_shrinks(&rt, store)?;
+    let store = PlainStore::new(rt.alloc(), 8)?;
+    blocks_are_listed(&rt, store)?;
+    let store = PlainStore::new(rt.alloc(), 8)?;
+    Ok(amounts_are_rounded_up_to_pages(&rt, store)?)
 }
 
 #[test]
 fn the_area_grows_and_shrinks_in_scattered_pages(rt: HostRuntime) -> Result<(), Fail> {
-    let mut store = PagedStore::new(rt.alloc(), 8)?;
-    the_area_grows_and_shrinks(&rt, &mut store)?;
-    let mut store = PagedStore::new(rt.alloc(), 8)?;
-    blocks_are_listed(&rt, &mut store)?;
-    let mut store = PagedStore::new(rt.alloc(), 8)?;
-    Ok(amounts_are_rounded_up_to_pages(&rt, &mut store)?)
+    let store = PagedStore::new(rt.alloc(), 8)?;
+    the_area_grows_and_shrinks(&rt, store)?;
+    let store = PagedStore::new(rt.alloc(), 8)?;
+    blocks_are_listed(&rt, store)?;
+    let store = PagedStore::new(rt.alloc(), 8)?;
+    Ok(amounts_are_rounded_up_to_pages(&rt, store)?)
 }

@@ -2,6 +2,7 @@
 
 ghost use Rattle.std.specs.Prelude.{◌≡◌};
 
+use crate::same::{is_true, same};
 use rh_defs::{Anchor, Asked, Handle, Incoming, Outgoing, Ref, Refusal, Sending, Taking};
 use rh_ram::{Receiver, Sender};
 
@@ -48,80 +49,97 @@ fn receiving() -> Receiver {
 #[test]
 fn a_multiple_of_the_buffer_ends_by_an_empty_transmit(rt: HostRuntime) {
     let mut sender = Sender::new();
-    assert_eq!(rt; sender.offer(Ref(1), RECEIVER, Anchor(0)), Ok(()));
-    assert!(rt; sender.is_source(Anchor(0)) && !sender.is_source(Anchor(1)));
-    assert_eq!(rt; sender.on_fetch(RECEIVER, Ref(1), 100), Some(sending(0, 1)));
+    same(&rt, sender.offer(Ref(1), RECEIVER, Anchor(0)), Ok(()));
+    is_true(
+        &rt,
+        sender.is_source(Anchor(0)) && !sender.is_source(Anchor(1)),
+    );
+    same(
+        &rt,
+        sender.on_fetch(RECEIVER, Ref(1), 100),
+        Some(sending(0, 1)),
+    );
     sender.sent(&sending(0, 1), 100, 100, Ref(3));
-    assert_eq!(rt;
+    same(
+        &rt,
         sender.on_fetch(RECEIVER, Ref(3), 100),
-        Some(sending(100, 3))
+        Some(sending(100, 3)),
     );
     sender.sent(&sending(100, 3), 100, 100, Ref(5));
-    assert_eq!(rt;
+    same(
+        &rt,
         sender.on_fetch(RECEIVER, Ref(5), 100),
-        Some(sending(200, 5))
+        Some(sending(200, 5)),
     );
     sender.sent(&sending(200, 5), 0, 100, Ref(7));
     let done = Outgoing::Done {
         id: Ref(1),
         count: 200,
     };
-    assert_eq!(rt; sender.records(), [done].as_slice());
-    assert!(rt; !sender.is_source(Anchor(0)));
+    same(&rt, sender.records(), [done].as_slice());
+    is_true(&rt, !sender.is_source(Anchor(0)));
 }
 
 #[test]
 fn full_transmits_are_taken_until_a_short_one(rt: HostRuntime) {
     let mut receiver = receiving();
     let found = receiver.on_transmit(100, SENDER, Ref(2), BUFFER, 100);
-    assert_eq!(rt; found, Some(Incoming::Fetching(taking(0, 2))));
+    same(&rt, found, Some(Incoming::Fetching(taking(0, 2))));
     receiver.fetched(&taking(0, 2), 100, Ref(4));
-    assert_eq!(rt;
+    same(
+        &rt,
         receiver.on_transmit(100, SENDER, Ref(4), BUFFER, 101),
-        None
+        None,
     );
     let found = receiver.on_transmit(100, SENDER, Ref(4), BUFFER, 50);
-    assert_eq!(rt; found, Some(Incoming::Fetching(taking(100, 4))));
+    same(&rt, found, Some(Incoming::Fetching(taking(100, 4))));
     receiver.finished(&taking(100, 4), 50);
     let done = Incoming::Done {
         id: Ref(1),
         anchor: Anchor(0),
         count: 150,
     };
-    assert_eq!(rt; receiver.records(), [done].as_slice());
-    assert!(rt; !receiver.is_document(Anchor(0)) && !receiver.is_buffer_of(BUFFER));
+    same(&rt, receiver.records(), [done].as_slice());
+    is_true(
+        &rt,
+        !receiver.is_document(Anchor(0)) && !receiver.is_buffer_of(BUFFER),
+    );
 }
 
 #[test]
 fn a_repeated_fetch_is_for_no_record(rt: HostRuntime) {
     let mut sender = Sender::new();
-    assert_eq!(rt; sender.offer(Ref(1), RECEIVER, Anchor(0)), Ok(()));
+    same(&rt, sender.offer(Ref(1), RECEIVER, Anchor(0)), Ok(()));
     sender.sent(&sending(0, 1), 100, 100, Ref(4));
-    assert_eq!(rt; sender.on_fetch(RECEIVER, Ref(1), 100), None);
-    assert_eq!(rt; sender.on_fetch(SENDER, Ref(4), 100), None);
-    assert_eq!(rt; sender.on_fetch(RECEIVER, Ref(4), 0), None);
-    assert_eq!(rt; sender.on_bounce(Ref(1)), None);
-    assert_eq!(rt; sender.on_bounce(Ref(4)), Some(sending(100, 4)));
+    same(&rt, sender.on_fetch(RECEIVER, Ref(1), 100), None);
+    same(&rt, sender.on_fetch(SENDER, Ref(4), 100), None);
+    same(&rt, sender.on_fetch(RECEIVER, Ref(4), 0), None);
+    same(&rt, sender.on_bounce(Ref(1)), None);
+    same(&rt, sender.on_bounce(Ref(4)), Some(sending(100, 4)));
     sender.failed(&sending(100, 4));
     let failed = Outgoing::Failed {
         id: Ref(1),
         count: 100,
     };
-    assert_eq!(rt; sender.records(), [failed].as_slice());
+    same(&rt, sender.records(), [failed].as_slice());
 }
 
 #[test]
 fn a_cancelled_transfer_drains(rt: HostRuntime) {
     let mut receiver = receiving();
-    assert_eq!(rt; receiver.cancel(Some(Ref(2))), Err(Refusal::NotOpen));
-    assert_eq!(rt; receiver.cancel(None), Ok(()));
-    assert!(rt; receiver.is_buffer_of(BUFFER) && !receiver.is_document(Anchor(0)));
-    assert_eq!(rt; receiver.cancel(Some(Ref(1))), Err(Refusal::NotOpen));
+    same(&rt, receiver.cancel(Some(Ref(2))), Err(Refusal::NotOpen));
+    same(&rt, receiver.cancel(None), Ok(()));
+    is_true(
+        &rt,
+        receiver.is_buffer_of(BUFFER) && !receiver.is_document(Anchor(0)),
+    );
+    same(&rt, receiver.cancel(Some(Ref(1))), Err(Refusal::NotOpen));
     let draining = Some(Incoming::Draining(taking(0, 2)));
-    assert_eq!(rt; receiver.on_bounce(Ref(2)), draining);
-    assert_eq!(rt;
+    same(&rt, receiver.on_bounce(Ref(2)), draining);
+    same(
+        &rt,
         receiver.on_transmit(100, SENDER, Ref(2), BUFFER, 5),
-        draining
+        draining,
     );
     receiver.failed(&taking(0, 2), 0);
     let failed = Incoming::Failed {
@@ -129,52 +147,70 @@ fn a_cancelled_transfer_drains(rt: HostRuntime) {
         anchor: Anchor(0),
         count: 0,
     };
-    assert_eq!(rt; receiver.records(), [failed].as_slice());
-    assert!(rt; receiver.on_save(false) && !receiver.on_save(true));
+    same(&rt, receiver.records(), [failed].as_slice());
+    is_true(&rt, receiver.on_save(false) && !receiver.on_save(true));
 }
 
 #[test]
 fn eight_transfers_go_out_at_once(rt: HostRuntime) {
     let mut sender = Sender::new();
     for i in 1..9u8 {
-        assert_eq!(rt;
+        same(
+            &rt,
             sender.offer(Ref(u32::from(i)), RECEIVER, Anchor(i)),
-            Ok(())
+            Ok(()),
         );
     }
-    assert!(rt; sender.is_full());
-    assert_eq!(rt;
+    is_true(&rt, sender.is_full());
+    same(
+        &rt,
         sender.offer(Ref(9), RECEIVER, Anchor(9)),
-        Err(Refusal::Busy)
+        Err(Refusal::Busy),
     );
-    assert_eq!(rt; sender.cancel(None), Ok(()));
-    assert_eq!(rt; sender.offer(Ref(9), RECEIVER, Anchor(9)), Ok(()));
+    same(&rt, sender.cancel(None), Ok(()));
+    same(&rt, sender.offer(Ref(9), RECEIVER, Anchor(9)), Ok(()));
     assert_eq!(rt; sender.records().len(), 8);
-    assert!(rt; !sender.is_source(Anchor(1)) && sender.is_source(Anchor(2)));
-    assert!(rt; matches!(sender.records()[0], Outgoing::Open(x) if x.id == Ref(2)));
-    assert!(rt; matches!(sender.records()[7], Outgoing::Open(x) if x.id == Ref(9)));
+    is_true(
+        &rt,
+        !sender.is_source(Anchor(1)) && sender.is_source(Anchor(2)),
+    );
+    is_true(
+        &rt,
+        matches!(sender.records()[0], Outgoing::Open(x) if x.id == Ref(2)),
+    );
+    is_true(
+        &rt,
+        matches!(sender.records()[7], Outgoing::Open(x) if x.id == Ref(9)),
+    );
 }
 
 #[test]
 fn a_file_goes_over_by_a_scrap_file(rt: HostRuntime) {
     let mut sender = Sender::new();
-    assert_eq!(rt; sender.offer(Ref(1), RECEIVER, Anchor(0)), Ok(()));
+    same(&rt, sender.offer(Ref(1), RECEIVER, Anchor(0)), Ok(()));
     let mut receiver = receiving();
     receiver.asking(&taking(0, 2), Ref(3));
-    assert!(rt; receiver.is_document(Anchor(0)) && !receiver.is_buffer_of(BUFFER));
-    assert_eq!(rt; sender.on_ack(RECEIVER, Ref(1)), Some(sending(0, 1)));
+    is_true(
+        &rt,
+        receiver.is_document(Anchor(0)) && !receiver.is_buffer_of(BUFFER),
+    );
+    same(&rt, sender.on_ack(RECEIVER, Ref(1)), Some(sending(0, 1)));
     sender.saved(&sending(0, 1), Ref(4));
-    assert_eq!(rt; sender.on_ack(RECEIVER, Ref(1)), None);
+    same(&rt, sender.on_ack(RECEIVER, Ref(1)), None);
     let asked = Asked {
         id: Ref(1),
         sender: SENDER,
         anchor: Anchor(0),
         ack: Ref(3),
     };
-    assert_eq!(rt; receiver.on_ack_bounce(Ref(3)), Some(asked));
-    assert_eq!(rt; receiver.on_load(SENDER, Ref(3)), Some(asked));
+    same(&rt, receiver.on_ack_bounce(Ref(3)), Some(asked));
+    same(&rt, receiver.on_load(SENDER, Ref(3)), Some(asked));
     receiver.loaded(&asked, 5);
-    assert_eq!(rt; sender.on_load_ack(RECEIVER, Ref(4)), Some(sending(0, 4)));
+    same(
+        &rt,
+        sender.on_load_ack(RECEIVER, Ref(4)),
+        Some(sending(0, 4)),
+    );
     sender.loaded(&sending(0, 4), 5);
     let went = Outgoing::Done {
         id: Ref(1),
@@ -185,6 +221,6 @@ fn a_file_goes_over_by_a_scrap_file(rt: HostRuntime) {
         anchor: Anchor(0),
         count: 5,
     };
-    assert_eq!(rt; sender.records(), [went].as_slice());
-    assert_eq!(rt; receiver.records(), [came].as_slice());
+    same(&rt, sender.records(), [went].as_slice());
+    same(&rt, receiver.records(), [came].as_slice());
 }

@@ -1,8 +1,10 @@
 //! The files that a run is given, and those that are checked.
 
-use crate::words::ended;
+use crate::same::{is_true, same};
+use crate::words::{Outcome, ended};
 use std::alloc::Global;
 use std::fs;
+use std::process::Abort;
 use std::test::Fail;
 
 /// The most bytes of a file.
@@ -31,9 +33,9 @@ fn bad_file_words_are_told_before_any_file(rt: HostRuntime) -> Result<(), Fail> 
         ),
     ] {
         let bad = ended(&rt, &["run", "lost.desk", first, second], b"")?;
-        assert_eq!(rt; bad.errors.as_slice(), wanted.as_bytes());
-        assert!(rt; bad.output.is_empty());
-        assert_eq!(rt; bad.status, 2, "{wanted}");
+        same(&rt, bad.errors.as_slice(), wanted.as_bytes());
+        is_true(&rt, bad.output.is_empty());
+        same(&rt, (wanted, bad.status), (wanted, 2));
     }
     Ok(())
 }
@@ -44,16 +46,18 @@ fn files_are_read_before_the_script(rt: HostRuntime) -> Result<(), Fail> {
     let second = ended(&rt, &["run", "lost.desk", "a=here.bin", "b=lost.bin"], b"")?;
     let script = ended(&rt, &["run", "lost.desk", "a=here.bin"], b"")?;
     fs::remove_file(&rt, "here.bin")?;
-    assert_eq!(rt;
+    same(
+        &rt,
         second.errors.as_slice(),
-        b"rh_desk: file lost.bin\n".as_slice()
+        b"rh_desk: file lost.bin\n".as_slice(),
     );
-    assert_eq!(rt; second.status, 3);
-    assert_eq!(rt;
+    same(&rt, second.status, 3);
+    same(
+        &rt,
         script.errors.as_slice(),
-        b"rh_desk: file lost.desk\n".as_slice()
+        b"rh_desk: file lost.desk\n".as_slice(),
     );
-    assert_eq!(rt; script.status, 3);
+    same(&rt, script.status, 3);
     Ok(())
 }
 
@@ -66,12 +70,13 @@ fn files_are_loaded_by_their_names(rt: HostRuntime) -> Result<(), Fail> {
         b"task a 100\nload a 0 logo\nshow a 0\nload a 1 Logo\n",
     )?;
     fs::remove_file(&rt, "logo=1.bin")?;
-    assert_eq!(rt;
+    same(
+        &rt,
         loaded.output.as_slice(),
-        b"ok 1\nok &9008\nok 5 68656c6c6f\nrefused NoFile\n".as_slice()
+        b"ok 1\nok &9008\nok 5 68656c6c6f\nrefused NoFile\n".as_slice(),
     );
-    assert!(rt; loaded.errors.is_empty());
-    assert_eq!(rt; loaded.status, 0);
+    is_true(&rt, loaded.errors.is_empty());
+    same(&rt, loaded.status, 0);
     Ok(())
 }
 
@@ -92,73 +97,85 @@ fn a_file_has_a_limit(rt: HostRuntime) -> Result<(), Fail> {
     let image = ended(&rt, &["check", "more.bin"], b"")?;
     fs::remove_file(&rt, "most.bin")?;
     fs::remove_file(&rt, "more.bin")?;
-    assert_eq!(rt;
+    same(
+        &rt,
         most.output.as_slice(),
-        b"ok 1\nok &9008\nok 1\n  0 &9008 1048576\n".as_slice()
+        b"ok 1\nok &9008\nok 1\n  0 &9008 1048576\n".as_slice(),
     );
-    assert_eq!(rt; most.status, 0);
-    assert_eq!(rt;
+    same(&rt, most.status, 0);
+    same(
+        &rt,
         more.errors.as_slice(),
-        b"rh_desk: file more.bin\n".as_slice()
+        b"rh_desk: file more.bin\n".as_slice(),
     );
-    assert_eq!(rt; more.status, 3);
-    assert_eq!(rt;
+    same(&rt, more.status, 3);
+    same(
+        &rt,
         image.errors.as_slice(),
-        b"rh_desk: file more.bin\n".as_slice()
+        b"rh_desk: file more.bin\n".as_slice(),
     );
-    assert_eq!(rt; image.status, 3);
+    same(&rt, image.status, 3);
+    Ok(())
+}
+
+/// Checks a file that has these bytes in front of zeros, `length` in all.
+fn checked(rt: &HostRuntime, front: &str, length: usize) -> Result<Outcome, Fail> {
+    let mut bytes = [0; 56];
+    let digits = bytes.len().min(front.len() / 2);
+    hex::decode_to_slice(front.as_bytes(), &mut bytes[..digits])?;
+    let all = bytes.len().min(length);
+    fs::write(rt, "heap.bin", &bytes[..all])?;
+    let checked = ended(rt, &["check", "heap.bin"], b"")?;
+    fs::remove_file(rt, "heap.bin")?;
+    Ok(checked)
+}
+
+/// Compares what was said of a file, and how the program ended.
+fn said(rt: &impl Abort, checked: &Outcome, wanted: &str, status: u8) {
+    same(rt, checked.output.as_slice(), wanted.as_bytes());
+    is_true(rt, checked.errors.is_empty());
+    same(rt, checked.status, status);
+}
+
+/// A heap of 56 bytes with two blocks and a hole between them.
+const WHOLE: &str =
+    "486561701c000000300000003800000010000000000000000000000000000000000000000800000008000000";
+
+/// The same with a first link past its base.
+const LINK_PAST_BASE: &str =
+    "486561703c000000300000003800000010000000000000000000000000000000000000000800000008000000";
+
+/// The same with a first link into a block.
+const LINK_INTO_BLOCK: &str =
+    "4865617014000000300000003800000010000000000000000000000000000000000000000800000008000000";
+
+#[test]
+fn heaps_are_checked(rt: HostRuntime) -> Result<(), Fail> {
+    said(&rt, &checked(&rt, "", 0)?, "bad BadDescriptor\n", 1);
+    let least = "48656170000000001000000010000000";
+    said(&rt, &checked(&rt, least, 16)?, "ok 0 0 0 0 0\n", 0);
+    let other_tag = "68656170000000001000000010000000";
+    said(&rt, &checked(&rt, other_tag, 16)?, "bad BadDescriptor\n", 1);
     Ok(())
 }
 
 #[test]
-fn heaps_are_checked(rt: HostRuntime) -> Result<(), Fail> {
-    // the bytes in front of some zeros, the length of all, and what is said of them
-    for (front, length, wanted, status) in [
-        ("", 0usize, "bad BadDescriptor\n", 1),
-        ("48656170000000001000000010000000", 16, "ok 0 0 0 0 0\n", 0),
-        (
-            "68656170000000001000000010000000",
-            16,
-            "bad BadDescriptor\n",
-            1,
-        ),
-        (
-            "486561701c000000300000003800000010000000000000000000000000000000000000000800000008000000",
-            56,
-            "ok 2 24 1 8 8\n",
-            0,
-        ),
-        (
-            "486561703c000000300000003800000010000000000000000000000000000000000000000800000008000000",
-            56,
-            "bad BadLink\n",
-            1,
-        ),
-        (
-            "4865617014000000300000003800000010000000000000000000000000000000000000000800000008000000",
-            56,
-            "bad BadSize\n",
-            1,
-        ),
-    ] {
-        let mut bytes = [0; 56];
-        let digits = bytes.len().min(front.len() / 2);
-        let decoded = hex::decode_to_slice(front.as_bytes(), &mut bytes[..digits]);
-        assert!(rt; decoded == Ok(()));
-        let all = bytes.len().min(length);
-        fs::write(&rt, "heap.bin", &bytes[..all])?;
-        let checked = ended(&rt, &["check", "heap.bin"], b"")?;
-        fs::remove_file(&rt, "heap.bin")?;
-        assert_eq!(rt; checked.output.as_slice(), wanted.as_bytes());
-        assert!(rt; checked.errors.is_empty());
-        assert_eq!(rt; checked.status, status, "{wanted}");
-    }
+fn heaps_of_blocks_are_checked(rt: HostRuntime) -> Result<(), Fail> {
+    said(&rt, &checked(&rt, WHOLE, 56)?, "ok 2 24 1 8 8\n", 0);
+    said(&rt, &checked(&rt, LINK_PAST_BASE, 56)?, "bad BadLink\n", 1);
+    said(&rt, &checked(&rt, LINK_INTO_BLOCK, 56)?, "bad BadSize\n", 1);
+    Ok(())
+}
+
+#[test]
+fn a_lost_heap_file_is_told(rt: HostRuntime) -> Result<(), Fail> {
     let lost = ended(&rt, &["check", "lost.bin"], b"")?;
-    assert_eq!(rt;
+    same(
+        &rt,
         lost.errors.as_slice(),
-        b"rh_desk: file lost.bin\n".as_slice()
+        b"rh_desk: file lost.bin\n".as_slice(),
     );
-    assert!(rt; lost.output.is_empty());
-    assert_eq!(rt; lost.status, 3);
+    is_true(&rt, lost.output.is_empty());
+    same(&rt, lost.status, 3);
     Ok(())
 }

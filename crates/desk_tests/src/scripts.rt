@@ -2,6 +2,7 @@
 
 ghost use Rattle.std.specs.Prelude.{◌≤◌};
 
+use crate::same::{is_true, same};
 use rh_defs::Files;
 use rh_desk::{RunFault, Status, run};
 use rh_lines::Flagged;
@@ -32,8 +33,8 @@ fn expect<R: Abort + Alloc<A = Global>>(
     requires most { pages ≤ 1024 }
 {
     let (written, outcome) = outcome_of(rt.alloc(), script, pages);
-    assert_eq!(rt; written.as_slice(), wanted);
-    assert!(rt; outcome == Ok(status));
+    same(rt, written.as_slice(), wanted);
+    is_true(rt, outcome == Ok(status));
 }
 
 #[test]
@@ -113,8 +114,8 @@ fn thirty_two_tasks_are_live_at_most(rt: HostRuntime) -> Result<(), Fail> {
     add_line(&mut script, b"task t33 100")?;
     add_line(&mut wanted, b"refused TooManyTasks")?;
     let (written, outcome) = outcome_of(alloc, script.as_slice(), 64);
-    assert_eq!(rt; written.as_slice(), wanted.as_slice());
-    assert!(rt; outcome == Ok(Status::Clean));
+    same(&rt, written.as_slice(), wanted.as_slice());
+    is_true(&rt, outcome == Ok(Status::Clean));
     Ok(())
 }
 
@@ -135,8 +136,8 @@ fn a_line_is_too_long_once(rt: HostRuntime) -> Result<(), Fail> {
             script.push(b'#')?;
         }
         let (written, outcome) = outcome_of(alloc, script.as_slice(), 64);
-        assert_eq!(rt; written.as_slice(), wanted, "{len} bytes");
-        assert!(rt; outcome == Ok(Status::BadLines));
+        same(&rt, (len, written.as_slice()), (len, wanted));
+        is_true(&rt, outcome == Ok(Status::BadLines));
     }
     Ok(())
 }

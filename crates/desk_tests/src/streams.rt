@@ -1,5 +1,6 @@
 //! Readers and writers that are slow, or fail.
 
+use crate::same::{is_true, same};
 use crate::scripts::outcome_of;
 use rh_defs::Files;
 use rh_desk::{RunFault, Status, run};
@@ -92,23 +93,26 @@ fn narrowly(alloc: Global, room: usize, fails: bool) -> (Vec<u8>, Result<Status,
 #[test]
 fn one_byte_a_read_and_a_write(rt: HostRuntime) {
     let (written, outcome) = slowly(rt.alloc(), SCRIPT, SCRIPT.len() + 1);
-    assert_eq!(rt; written.as_slice(), REPLIES);
-    assert!(rt; outcome == Ok(Status::BadLines));
+    same(&rt, written.as_slice(), REPLIES);
+    is_true(&rt, outcome == Ok(Status::BadLines));
     let (written, outcome) = narrowly(rt.alloc(), REPLIES.len(), true);
-    assert_eq!(rt; written.as_slice(), REPLIES);
-    assert!(rt; outcome == Ok(Status::BadLines));
+    same(&rt, written.as_slice(), REPLIES);
+    is_true(&rt, outcome == Ok(Status::BadLines));
 }
 
 #[test]
 fn a_failing_reader_leaves_the_complete_lines_answered(rt: HostRuntime) {
     for good in 0..SCRIPT.len() {
         let (written, outcome) = slowly(rt.alloc(), SCRIPT, good);
-        assert!(rt; outcome == Err(RunFault::ReadFailed));
+        is_true(&rt, outcome == Err(RunFault::ReadFailed));
         let (complete, rest) = outcome_of(rt.alloc(), &SCRIPT[..good], 64);
         // the same lines, but for the one that was cut
-        assert!(rt; rest == Ok(Status::Clean) || rest == Ok(Status::BadLines));
-        assert!(rt; complete.as_slice().starts_with(written.as_slice()));
-        assert!(rt; REPLIES.starts_with(written.as_slice()));
+        is_true(
+            &rt,
+            rest == Ok(Status::Clean) || rest == Ok(Status::BadLines),
+        );
+        is_true(&rt, complete.as_slice().starts_with(written.as_slice()));
+        is_true(&rt, REPLIES.starts_with(written.as_slice()));
     }
 }
 
@@ -117,8 +121,8 @@ fn a_failing_writer_has_taken_a_front(rt: HostRuntime) {
     for room in 0..REPLIES.len() {
         for fails in [true, false] {
             let (written, outcome) = narrowly(rt.alloc(), room, fails);
-            assert!(rt; outcome == Err(RunFault::WriteFailed));
-            assert_eq!(rt; written.as_slice(), &REPLIES[..room]);
+            is_true(&rt, outcome == Err(RunFault::WriteFailed));
+            same(&rt, written.as_slice(), &REPLIES[..room]);
         }
     }
 }
@@ -133,13 +137,13 @@ fn a_cut_script_answers_its_complete_lines(rt: HostRuntime) -> Result<(), Fail> 
     for len in 0..SCRIPT.len() {
         let (written, outcome) = outcome_of(rt.alloc(), &SCRIPT[..len], 64);
         let cut = len > 0 && SCRIPT[len - 1] != b'\n';
-        assert_eq!(rt;
-            written.as_slice().ends_with(b"bad Unended\n".as_slice()),
-            cut,
-            "{len} bytes"
+        let unended = written.as_slice().ends_with(b"bad Unended\n".as_slice());
+        same(&rt, (len, unended), (len, cut));
+        same(&rt, (len, outcome == Ok(Status::BadLines)), (len, cut));
+        is_true(
+            &rt,
+            feeds_in(written.as_slice()) >= feeds_in(&SCRIPT[..len]),
         );
-        assert_eq!(rt; outcome == Ok(Status::BadLines), cut, "{len} bytes");
-        assert!(rt; feeds_in(written.as_slice()) >= feeds_in(&SCRIPT[..len]));
     }
     Ok(())
 }
@@ -176,7 +180,7 @@ fn a_million_reads_are_too_many(rt: HostRuntime) {
             &mut writer,
             64,
         );
-        assert!(rt; outcome == wanted);
-        assert!(rt; writer.into_inner().is_empty());
+        is_true(&rt, outcome == wanted);
+        is_true(&rt, writer.into_inner().is_empty());
     }
 }

@@ -1,5 +1,6 @@
 //! The program's words, exit statuses and texts.
 
+use crate::same::{is_true, same};
 use memchr::memmem;
 use rh_desk::{program, words_unread};
 use rh_lines::Flagged;
@@ -45,15 +46,16 @@ pub fn ended(rt: &HostRuntime, words: &[&str], input: &[u8]) -> Result<Outcome, 
 #[test]
 fn no_words_run_the_input(rt: HostRuntime) -> Result<(), Fail> {
     let clean = ended(&rt, &[], b"task a 100\ntask a 100\n")?;
-    assert_eq!(rt;
+    same(
+        &rt,
         clean.output.as_slice(),
-        b"ok 1\nrefused NameInUse\n".as_slice()
+        b"ok 1\nrefused NameInUse\n".as_slice(),
     );
-    assert_eq!(rt; clean.status, 0);
+    same(&rt, clean.status, 0);
     let bad = ended(&rt, &[], b"tsk\n")?;
-    assert_eq!(rt; bad.output.as_slice(), b"bad Unknown\n".as_slice());
-    assert!(rt; bad.errors.is_empty());
-    assert_eq!(rt; bad.status, 1);
+    same(&rt, bad.output.as_slice(), b"bad Unknown\n".as_slice());
+    is_true(&rt, bad.errors.is_empty());
+    same(&rt, bad.status, 1);
     Ok(())
 }
 
@@ -69,9 +71,9 @@ fn wrong_words_are_told(rt: HostRuntime) -> Result<(), Fail> {
         ["check", "x", "y"].as_slice(),
     ] {
         let wrong = ended(&rt, words, b"")?;
-        assert_eq!(rt; wrong.status, 2, "{words:?}");
-        assert!(rt; wrong.output.is_empty());
-        assert!(rt; !wrong.errors.is_empty());
+        same(&rt, (words, wrong.status), (words, 2));
+        is_true(&rt, wrong.output.is_empty());
+        is_true(&rt, !wrong.errors.is_empty());
     }
     Ok(())
 }
@@ -89,17 +91,15 @@ fn help_is_no_mistake(rt: HostRuntime) -> Result<(), Fail> {
         ["check", "--help"].as_slice(),
     ] {
         let help = ended(&rt, words, b"")?;
-        assert_eq!(rt; help.status, 0, "{words:?}");
-        assert!(rt; help.errors.is_empty());
+        same(&rt, (words, help.status), (words, 0));
+        is_true(&rt, help.errors.is_empty());
         for text in [
             "With no words at all the script on standard input is run",
             "vervainfile run --pages 8 hello.desk",
             "Exit status:",
         ] {
-            assert!(rt;
-                holds(help.output.as_slice(), text.as_bytes()),
-                "{words:?} {text}"
-            );
+            let held = holds(help.output.as_slice(), text.as_bytes());
+            same(&rt, (words, text, held), (words, text, true));
         }
     }
     Ok(())
@@ -110,12 +110,10 @@ fn usage_shows_that_no_words_run_the_input(rt: HostRuntime) -> Result<(), Fail> 
     for words in [["walk", "x"].as_slice(), ["--pages", "8"].as_slice()] {
         let wrong = ended(&rt, words, b"")?;
         for text in ["vervainfile run [--pages N] SCRIPT", "with no words"] {
-            assert!(rt;
-                holds(wrong.errors.as_slice(), text.as_bytes()),
-                "{words:?} {text}"
-            );
+            let held = holds(wrong.errors.as_slice(), text.as_bytes());
+            same(&rt, (words, text, held), (words, text, true));
         }
-        assert_eq!(rt; wrong.status, 2, "{words:?}");
+        same(&rt, (words, wrong.status), (words, 2));
     }
     Ok(())
 }
@@ -123,24 +121,26 @@ fn usage_shows_that_no_words_run_the_input(rt: HostRuntime) -> Result<(), Fail> 
 #[test]
 fn the_version_is_told(rt: HostRuntime) -> Result<(), Fail> {
     let version = ended(&rt, &["--version"], b"")?;
-    assert_eq!(rt;
+    same(
+        &rt,
         version.output.as_slice(),
-        b"vervainfile 1.0.0\n".as_slice()
+        b"vervainfile 1.0.0\n".as_slice(),
     );
-    assert!(rt; version.errors.is_empty());
-    assert_eq!(rt; version.status, 0);
+    is_true(&rt, version.errors.is_empty());
+    same(&rt, version.status, 0);
     Ok(())
 }
 
 #[test]
 fn a_script_that_cannot_be_opened_is_told(rt: HostRuntime) -> Result<(), Fail> {
     let lost = ended(&rt, &["run", "no-such-script.desk"], b"")?;
-    assert_eq!(rt;
+    same(
+        &rt,
         lost.errors.as_slice(),
-        b"rh_desk: file no-such-script.desk\n".as_slice()
+        b"rh_desk: file no-such-script.desk\n".as_slice(),
     );
-    assert!(rt; lost.output.is_empty());
-    assert_eq!(rt; lost.status, 3);
+    is_true(&rt, lost.output.is_empty());
+    same(&rt, lost.status, 3);
     Ok(())
 }
 
@@ -150,21 +150,26 @@ fn a_script_is_run_over_the_pages_asked_for(rt: HostRuntime) -> Result<(), Fail>
     let few = ended(&rt, &["run", "--pages", "8", "eight-pages.desk"], b"")?;
     let many = ended(&rt, &["run", "--pages", "9", "eight-pages.desk"], b"")?;
     fs::remove_file(&rt, "eight-pages.desk")?;
-    assert_eq!(rt; few.output.as_slice(), b"ok 1\nrefused NoRoom\n".as_slice());
-    assert_eq!(rt; few.status, 0);
-    assert_eq!(rt; many.output.as_slice(), b"ok 1\nok &9008\n".as_slice());
-    assert_eq!(rt; many.status, 0);
+    same(
+        &rt,
+        few.output.as_slice(),
+        b"ok 1\nrefused NoRoom\n".as_slice(),
+    );
+    same(&rt, few.status, 0);
+    same(&rt, many.output.as_slice(), b"ok 1\nok &9008\n".as_slice());
+    same(&rt, many.status, 0);
     Ok(())
 }
 
 #[test]
 fn a_script_that_cannot_be_read_is_told(rt: HostRuntime) -> Result<(), Fail> {
     let folder = ended(&rt, &["run", "."], b"")?;
-    assert_eq!(rt;
+    same(
+        &rt,
         folder.errors.as_slice(),
-        b"rh_desk: read failed\n".as_slice()
+        b"rh_desk: read failed\n".as_slice(),
     );
-    assert_eq!(rt; folder.status, 3);
+    same(&rt, folder.status, 3);
     Ok(())
 }
 
@@ -180,9 +185,9 @@ fn a_long_path_is_told_whole(rt: HostRuntime) -> Result<(), Fail> {
     }
     wanted.push(b'\n')?;
     let lost = ended(&rt, &["run", path.as_str()], b"")?;
-    assert_eq!(rt; lost.errors.as_slice(), wanted.as_slice());
-    assert!(rt; lost.output.is_empty());
-    assert_eq!(rt; lost.status, 3);
+    same(&rt, lost.errors.as_slice(), wanted.as_slice());
+    is_true(&rt, lost.output.is_empty());
+    same(&rt, lost.status, 3);
     Ok(())
 }
 
@@ -190,11 +195,12 @@ fn a_long_path_is_told_whole(rt: HostRuntime) -> Result<(), Fail> {
 fn an_empty_path_is_shown(rt: HostRuntime) -> Result<(), Fail> {
     for words in [["run", ""].as_slice(), ["check", ""].as_slice()] {
         let empty = ended(&rt, words, b"")?;
-        assert_eq!(rt;
+        same(
+            &rt,
             empty.errors.as_slice(),
-            b"rh_desk: file '' (an empty path)\n".as_slice()
+            b"rh_desk: file '' (an empty path)\n".as_slice(),
         );
-        assert_eq!(rt; empty.status, 3);
+        same(&rt, empty.status, 3);
     }
     Ok(())
 }
@@ -202,17 +208,24 @@ fn an_empty_path_is_shown(rt: HostRuntime) -> Result<(), Fail> {
 #[test]
 fn the_input_is_run_for_a_hyphen(rt: HostRuntime) -> Result<(), Fail> {
     let plain = ended(&rt, &["run", "-"], b"areas\ntsk\n")?;
-    assert!(rt; plain.output.as_slice().starts_with(b"ok 63\n".as_slice()));
-    assert!(rt;
+    is_true(
+        &rt,
+        plain.output.as_slice().starts_with(b"ok 63\n".as_slice()),
+    );
+    is_true(
+        &rt,
         plain
             .output
             .as_slice()
-            .ends_with(b"bad Unknown\n".as_slice())
+            .ends_with(b"bad Unknown\n".as_slice()),
     );
-    assert_eq!(rt; plain.status, 1);
+    same(&rt, plain.status, 1);
     let paged = ended(&rt, &["run", "--pages", "9", "-"], b"areas\n")?;
-    assert!(rt; paged.output.as_slice().starts_with(b"ok 8\n".as_slice()));
-    assert_eq!(rt; paged.status, 0);
+    is_true(
+        &rt,
+        paged.output.as_slice().starts_with(b"ok 8\n".as_slice()),
+    );
+    same(&rt, paged.status, 0);
     Ok(())
 }
 
@@ -227,14 +240,15 @@ fn each_number_of_pages_is_had(rt: HostRuntime) -> Result<(), Fail> {
         ("1024", "ok 1023\n"),
     ] {
         let all = ended(&rt, &["run", "--pages", pages, "-"], b"areas\n")?;
-        assert!(rt;
-            all.output.as_slice().starts_with(wanted.as_bytes()),
-            "{pages} pages"
-        );
-        assert_eq!(rt; all.status, 0, "{pages} pages");
+        let begins = all.output.as_slice().starts_with(wanted.as_bytes());
+        same(&rt, (pages, begins), (pages, true));
+        same(&rt, (pages, all.status), (pages, 0));
     }
     let none = ended(&rt, &[], b"areas\n")?;
-    assert!(rt; none.output.as_slice().starts_with(b"ok 63\n".as_slice()));
+    is_true(
+        &rt,
+        none.output.as_slice().starts_with(b"ok 63\n".as_slice()),
+    );
     Ok(())
 }
 
@@ -249,9 +263,9 @@ fn a_long_script_is_run(rt: HostRuntime) -> Result<(), Fail> {
     fs::write(&rt, "long.desk", script.as_slice())?;
     let long = ended(&rt, &["run", "long.desk"], b"")?;
     fs::remove_file(&rt, "long.desk")?;
-    assert_eq!(rt; long.output.as_slice(), b"ok 1\n".as_slice());
-    assert!(rt; long.errors.is_empty());
-    assert_eq!(rt; long.status, 0);
+    same(&rt, long.output.as_slice(), b"ok 1\n".as_slice());
+    is_true(&rt, long.errors.is_empty());
+    same(&rt, long.status, 0);
     Ok(())
 }
 
@@ -267,7 +281,11 @@ fn many_bytes_are_shown_in_a_line(rt: HostRuntime) -> Result<(), Fail> {
         }
         wanted.push(b'\n')?;
         let shown = ended(&rt, &["run", "-"], script.as_bytes())?;
-        assert_eq!(rt; shown.output.as_slice(), wanted.as_slice(), "{size} bytes");
+        same(
+            &rt,
+            (size, shown.output.as_slice()),
+            (size, wanted.as_slice()),
+        );
     }
     Ok(())
 }
@@ -323,7 +341,7 @@ fn faults_of_streams_are_told(rt: HostRuntime) -> Result<(), Fail> {
         &mut output,
         &mut errors,
     );
-    assert_eq!(rt; long, 3);
+    same(&rt, long, 3);
     let broken = program(
         &rt,
         alloc,
@@ -332,7 +350,7 @@ fn faults_of_streams_are_told(rt: HostRuntime) -> Result<(), Fail> {
         &mut output,
         &mut errors,
     );
-    assert_eq!(rt; broken, 3);
+    same(&rt, broken, 3);
     let full = program(
         &rt,
         alloc,
@@ -341,11 +359,12 @@ fn faults_of_streams_are_told(rt: HostRuntime) -> Result<(), Fail> {
         &mut Flagged::new(Full),
         &mut errors,
     );
-    assert_eq!(rt; full, 3);
-    assert!(rt; output.into_inner().is_empty());
-    assert_eq!(rt;
+    same(&rt, full, 3);
+    is_true(&rt, output.into_inner().is_empty());
+    same(
+        &rt,
         errors.into_inner().as_slice(),
-        b"rh_desk: script too long\nrh_desk: read failed\nrh_desk: write failed\n".as_slice()
+        b"rh_desk: script too long\nrh_desk: read failed\nrh_desk: write failed\n".as_slice(),
     );
     Ok(())
 }
@@ -366,10 +385,11 @@ fn help_that_cannot_be_written_is_a_fault(rt: HostRuntime) -> Result<(), Fail> {
         &mut Flagged::new(Full),
         &mut errors,
     );
-    assert_eq!(rt; status, 3);
-    assert_eq!(rt;
+    same(&rt, status, 3);
+    same(
+        &rt,
         errors.into_inner().as_slice(),
-        b"rh_desk: write failed\n".as_slice()
+        b"rh_desk: write failed\n".as_slice(),
     );
     Ok(())
 }
@@ -378,11 +398,12 @@ fn help_that_cannot_be_written_is_a_fault(rt: HostRuntime) -> Result<(), Fail> {
 fn words_that_are_not_text_are_told(rt: HostRuntime) {
     let mut errors = Flagged::new(Vec::<u8>::new(rt.alloc()));
     let odd = io::Error::from(io::ErrorKind::InvalidData);
-    assert_eq!(rt; words_unread(&odd, &mut errors), 2);
+    same(&rt, words_unread(&odd, &mut errors), 2);
     let none = io::Error::from(io::ErrorKind::OutOfMemory);
-    assert_eq!(rt; words_unread(&none, &mut errors), 3);
-    assert_eq!(rt;
+    same(&rt, words_unread(&none, &mut errors), 3);
+    same(
+        &rt,
         errors.into_inner().as_slice(),
-        b"rh_desk: a word is not text\nrh_desk: no memory\n".as_slice()
+        b"rh_desk: a word is not text\nrh_desk: no memory\n".as_slice(),
     );
 }

@@ -1,4 +1,4 @@
-//! Tests of lines as commands, of replies as text, and of streams that fail.
+//! Tests of plain values, of lines as commands, of replies as text, and of streams that fail.
 #![tactic(auto)]
 
 #[cfg(test)]
@@ -6,4 +6,8 @@ mod lines;
 #[cfg(test)]
 mod printing;
 #[cfg(test)]
+mod same;
+#[cfg(test)]
 mod streams;
+#[cfg(test)]
+mod values;

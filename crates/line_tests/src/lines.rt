@@ -1,5 +1,6 @@
 //! Lines as commands.
 
+use crate::same::same;
 use arrayvec::ArrayVec;
 use rh_defs::{Anchor, Bytes, Command, Leaf, LineFault, Manner, Name, Ref};
 use rh_lines::parse_line;
@@ -305,7 +306,7 @@ fn skips_lines(rt: HostRuntime) {
     for line in b"\n   \n# areas\n  #\n#\t\xff".split(|b| *b == b'\n') {
         assert_eq!(rt; parse_line(line), Ok(None), "at {line:?}");
     }
-    assert_eq!(rt; parse_line(&[b' '; 1024]), Ok(None));
+    same(&rt, parse_line(&[b' '; 1024]), Ok(None));
 }
 
 /// Each of the lines has this fault.

@@ -1,5 +1,6 @@
 //! Bad lines, and first lines of replies, as text.
 
+use crate::same::same;
 use rh_defs::{Action, EventCode, Handle, LineFault, Outcome, Ref, Refusal, Reply};
 use rh_lines::{Flagged, print_fault, print_first_line};
 use std::process::Abort;
@@ -15,21 +16,21 @@ fn prints_faults(rt: HostRuntime) {
         LineFault::Word(5),
         LineFault::Word(255),
     ] {
-        assert_eq!(rt; print_fault(&fault, &mut writer), Ok(()));
+        same(&rt, print_fault(&fault, &mut writer), Ok(()));
     }
     let wanted = b"bad TooLong\nbad Unended\nbad Unknown\nbad Count\nbad Word 5\nbad Word 255\n";
     let written = writer.into_inner();
-    assert_eq!(rt; written.as_slice(), wanted.as_slice());
+    same(&rt, written.as_slice(), wanted.as_slice());
 }
 
 /// These replies have these first lines.
 fn expect<R: Abort + Alloc<A = std::alloc::Global>>(rt: &R, replies: &[Reply], wanted: &[u8]) {
     let mut writer = Flagged::new(Vec::<u8>::new(rt.alloc()));
     for reply in replies {
-        assert_eq!(rt; print_first_line(reply, &mut writer), Ok(()));
+        same(rt, print_first_line(reply, &mut writer), Ok(()));
     }
     let written = writer.into_inner();
-    assert_eq!(rt; written.as_slice(), wanted);
+    same(rt, written.as_slice(), wanted);
 }
 
 #[test]

@@ -1,5 +1,6 @@
 //! Readers and writers of which some fail.
 
+use crate::same::same;
 use arrayvec::ArrayVec;
 use rh_defs::LineFault;
 use rh_lines::{Flagged, Held, ReadFailed, Sink, Source, WriteFailed, print_fault, put};
@@ -10,12 +11,12 @@ use std::io;
 fn reads_to_the_end(rt: HostRuntime) {
     let mut reader = Flagged::new(b"areas\nab".as_slice());
     let mut buffer = [0; 6];
-    assert_eq!(rt; reader.read(&mut buffer), Ok(6));
-    assert_eq!(rt; buffer.as_slice(), b"areas\n".as_slice());
-    assert_eq!(rt; reader.read(&mut buffer), Ok(2));
-    assert_eq!(rt; buffer[..2], b"ab"[..]);
-    assert_eq!(rt; reader.read(&mut buffer), Ok(0));
-    assert_eq!(rt; reader.read(&mut buffer), Ok(0));
+    same(&rt, reader.read(&mut buffer), Ok(6));
+    same(&rt, buffer.as_slice(), b"areas\n".as_slice());
+    same(&rt, reader.read(&mut buffer), Ok(2));
+    same(&rt, &buffer[..2], &b"ab"[..]);
+    same(&rt, reader.read(&mut buffer), Ok(0));
+    same(&rt, reader.read(&mut buffer), Ok(0));
 }
 
 /// Takes a byte a call until it is full, and then fails or takes none.
@@ -60,9 +61,9 @@ fn stops_where_the_writer_fails(rt: HostRuntime) {
                 fails,
             });
             let wanted = if room < 11 { Err(WriteFailed) } else { Ok(()) };
-            assert_eq!(rt; print_fault(&LineFault::Word(3), &mut writer), wanted);
+            same(&rt, print_fault(&LineFault::Word(3), &mut writer), wanted);
             let narrow = writer.into_inner();
-            assert_eq!(rt; narrow.taken.as_slice(), &text[..room.min(11)]);
+            same(&rt, narrow.taken.as_slice(), &text[..room.min(11)]);
         }
     }
 }
@@ -93,24 +94,24 @@ impl io::Read for Broken {
 fn fails_where_the_reader_fails(rt: HostRuntime) {
     let mut reader = Flagged::new(Broken { calls: 0 });
     let mut buffer = [0; 4];
-    assert_eq!(rt; reader.read(&mut buffer), Ok(1));
-    assert_eq!(rt; reader.read(&mut buffer), Ok(1));
-    assert_eq!(rt; buffer[0], 2);
-    assert_eq!(rt; reader.read(&mut buffer), Err(ReadFailed));
-    assert_eq!(rt; reader.read(&mut buffer), Ok(1));
-    assert_eq!(rt; buffer[0], 4);
+    same(&rt, reader.read(&mut buffer), Ok(1));
+    same(&rt, reader.read(&mut buffer), Ok(1));
+    same(&rt, buffer[0], 2);
+    same(&rt, reader.read(&mut buffer), Err(ReadFailed));
+    same(&rt, reader.read(&mut buffer), Ok(1));
+    same(&rt, buffer[0], 4);
 }
 
 #[test]
 fn holds_what_fits(rt: HostRuntime) -> Result<(), AllocError> {
     let mut held = Held::new(rt.alloc())?;
-    assert_eq!(rt; put(&mut held, &[7; 65_535]), Ok(()));
-    assert_eq!(rt; put(&mut held, b"ab"), Err(WriteFailed));
-    assert_eq!(rt; held.as_slice().len(), 65_535);
-    assert_eq!(rt; put(&mut held, b"c"), Ok(()));
-    assert_eq!(rt; held.write(b"d"), Ok(0));
+    same(&rt, put(&mut held, &[7; 65_535]), Ok(()));
+    same(&rt, put(&mut held, b"ab"), Err(WriteFailed));
+    same(&rt, held.as_slice().len(), 65_535);
+    same(&rt, put(&mut held, b"c"), Ok(()));
+    same(&rt, held.write(b"d"), Ok(0));
     held.cut(2);
-    assert_eq!(rt; held.as_slice(), [7, 7].as_slice());
-    assert_eq!(rt; held.write(b"d"), Ok(1));
+    same(&rt, held.as_slice(), [7, 7].as_slice());
+    same(&rt, held.write(b"d"), Ok(1));
     Ok(())
 }

@@ -33,6 +33,3 @@ pub use pathname::Pathname;
 pub use refusal::Refusal;
 pub use reply::{Outcome, Reply};
 pub use transfer::{Asked, Incoming, Outgoing, Sending, Taking};
-
-#[cfg(test)]
-mod tests;

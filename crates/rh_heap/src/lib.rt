@@ -4,8 +4,6 @@
 mod image;
 mod layout;
 mod span;
-#[cfg(test)]
-mod tests;
 
 pub use image::{SegmentIter, Summary, check, segments};
 pub use layout::Segment;

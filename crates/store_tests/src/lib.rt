@@ -12,6 +12,8 @@ mod plain;
 #[cfg(test)]
 mod regions;
 #[cfg(test)]
+mod same;
+#[cfg(test)]
 mod scattered;
 #[cfg(test)]
 mod suite;

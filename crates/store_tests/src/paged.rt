@@ -2,6 +2,7 @@
 #![tactic(auto)]
 
 use crate::buffers::pattern;
+use crate::same::{is_true, same};
 use crate::suite;
 use rh_pages::PagedStore;
 use rh_store::{Pages, Store, Words};
@@ -70,7 +71,7 @@ fn slides_as_copy_within_does(rt: HostRuntime) -> Result<(), Fail> {
 #[test]
 fn a_constructor_answers_want_of_memory(rt: HostRuntime) {
     match PagedStore::new(rt.alloc(), 1024) {
-        Ok(store) => assert_eq!(rt; store.free_pages(), 1024),
+        Ok(store) => same(&rt, store.free_pages(), 1024),
         Err(AllocError) => {}
     }
 }
@@ -79,7 +80,7 @@ fn a_constructor_answers_want_of_memory(rt: HostRuntime) {
 #[tactic(auto, using(rh_defs::proofs::BytesLaws::word_laws, rh_defs::proofs::MemoryLaws::memory_laws, rh_defs::proofs::MemoryLaws::pool_laws))]
 fn a_page_stands_at_its_place(rt: HostRuntime) -> Result<(), Fail> {
     let mut store = PagedStore::new(rt.alloc(), 8)?;
-    assert_eq!(rt; store.region().len(), 32768);
+    same(&rt, store.region().len(), 32768);
     let x = store.open()?;
     store.grow(x, 1)?;
     let y = store.open()?;
@@ -87,9 +88,9 @@ fn a_page_stands_at_its_place(rt: HostRuntime) -> Result<(), Fail> {
     store.grow(x, 1)?;
     store.set_word(x, 4104, 0x44332211);
     let place = store.place(x, 1);
-    assert_eq!(rt; place % 4096, 0);
-    assert_eq!(rt; store.region().word(place + 8), 0x44332211);
-    assert!(rt; place != store.place(x, 0));
-    assert!(rt; place != store.place(y, 0));
+    same(&rt, place % 4096, 0);
+    same(&rt, store.region().word(place + 8), 0x44332211);
+    is_true(&rt, place != store.place(x, 0));
+    is_true(&rt, place != store.place(y, 0));
     Ok(())
 }

@@ -2,6 +2,7 @@
 #![tactic(auto)]
 
 use crate::buffers::pattern;
+use crate::same::same;
 use crate::suite;
 use rh_store::{Pages, PlainStore, StoreFault};
 use std::alloc::AllocError;
@@ -69,7 +70,7 @@ fn slides_as_copy_within_does(rt: HostRuntime) -> Result<(), Fail> {
 #[test]
 fn a_constructor_answers_want_of_memory(rt: HostRuntime) {
     match PlainStore::new(rt.alloc(), 256) {
-        Ok(store) => assert_eq!(rt; store.free_pages(), 256),
+        Ok(store) => same(&rt, store.free_pages(), 256),
         Err(AllocError) => {}
     }
 }
@@ -77,9 +78,10 @@ fn a_constructor_answers_want_of_memory(rt: HostRuntime) {
 #[test]
 fn faults_read_as_sentences(rt: HostRuntime) -> Result<(), Fail> {
     let text = format!(in rt.alloc(); "{}; {}", StoreFault::TooManyAreas, StoreFault::NoPages)?;
-    assert_eq!(rt;
+    same(
+        &rt,
         text.as_str(),
-        "too many areas are open; too few pages are free"
+        "too many areas are open; too few pages are free",
     );
     Ok(())
 }

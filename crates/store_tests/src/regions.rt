@@ -1,4 +1,5 @@
 //! The region's calls, at bytes that were worked out by hand.
+use crate::same::same;
 use rh_region::{PAGE, Region};
 use std::alloc::AllocError;
 use std::process::Abort;
@@ -16,7 +17,7 @@ fn count_up(rt: &impl Abort, region: &mut Region, plain: &mut [u8]) {
 #[test]
 fn one_page_is_zero(rt: HostRuntime) -> Result<(), Fail> {
     let region = Region::new(rt.alloc(), 1)?;
-    assert_eq!(rt; region.len(), 4096);
+    same(&rt, region.len(), 4096);
     assert!(rt; region.bytes(0, 4096).iter().all(|&byte| byte == 0));
     Ok(())
 }
@@ -25,13 +26,14 @@ fn one_page_is_zero(rt: HostRuntime) -> Result<(), Fail> {
 fn words_are_little_endian(rt: HostRuntime) -> Result<(), Fail> {
     let mut region = Region::new(rt.alloc(), 1)?;
     region.set_word(5, 0x0403_0201);
-    assert_eq!(rt; region.bytes(4, 6), [0, 1, 2, 3, 4, 0].as_slice());
-    assert_eq!(rt; region.word(5), 0x0403_0201);
-    assert_eq!(rt; region.word(6), 0x0004_0302);
+    same(&rt, region.bytes(4, 6), [0, 1, 2, 3, 4, 0].as_slice());
+    same(&rt, region.word(5), 0x0403_0201);
+    same(&rt, region.word(6), 0x0004_0302);
     region.set_word(4092, 0xffff_fffe);
-    assert_eq!(rt;
+    same(
+        &rt,
         region.bytes(4091, 5),
-        [0, 0xfe, 0xff, 0xff, 0xff].as_slice()
+        [0, 0xfe, 0xff, 0xff, 0xff].as_slice(),
     );
     Ok(())
 }
@@ -43,9 +45,9 @@ fn slides_overlap(rt: HostRuntime) -> Result<(), Fail> {
     count_up(&rt, &mut region, &mut plain);
     assert!(rt; region.len() == 4096);
     region.slide(0, 2, 4);
-    assert_eq!(rt; region.bytes(0, 8), [1, 2, 1, 2, 3, 4, 7, 8].as_slice());
+    same(&rt, region.bytes(0, 8), [1, 2, 1, 2, 3, 4, 7, 8].as_slice());
     region.slide(3, 1, 5);
-    assert_eq!(rt; region.bytes(0, 8), [1, 2, 3, 4, 7, 8, 7, 8].as_slice());
+    same(&rt, region.bytes(0, 8), [1, 2, 3, 4, 7, 8, 7, 8].as_slice());
     Ok(())
 }
 
@@ -81,20 +83,20 @@ fn zeroes_and_lends_runs(rt: HostRuntime) -> Result<(), Fail> {
     count_up(&rt, &mut region, &mut plain);
     assert!(rt; region.len() == 4096);
     region.zero(1, 3);
-    assert_eq!(rt; region.bytes(0, 7), [1, 0, 0, 0, 5, 6, 0].as_slice());
+    same(&rt, region.bytes(0, 7), [1, 0, 0, 0, 5, 6, 0].as_slice());
     region.bytes_mut(4, 2).reverse();
     assert!(rt; region.len() == 4096);
-    assert_eq!(rt; region.bytes(0, 7), [1, 0, 0, 0, 6, 5, 0].as_slice());
+    same(&rt, region.bytes(0, 7), [1, 0, 0, 0, 6, 5, 0].as_slice());
     Ok(())
 }
 
 #[test]
 fn many_pages(rt: HostRuntime) -> Result<(), Fail> {
     let mut region = Region::new(rt.alloc(), 1024)?;
-    assert_eq!(rt; region.len(), 4_194_304);
+    same(&rt, region.len(), 4_194_304);
     region.set_word(1023 * PAGE, 7);
-    assert_eq!(rt; region.word(1023 * PAGE), 7);
-    assert_eq!(rt; region.word(4_194_300), 0);
+    same(&rt, region.word(1023 * PAGE), 7);
+    same(&rt, region.word(4_194_300), 0);
     Ok(())
 }
 
@@ -102,12 +104,12 @@ fn many_pages(rt: HostRuntime) -> Result<(), Fail> {
 #[test]
 fn refused_memory_is_an_error(rt: HostRuntime) -> Result<(), Fail> {
     match Region::new(rt.alloc(), 2) {
-        Ok(region) => assert_eq!(rt; region.len(), 8192),
+        Ok(region) => same(&rt, region.len(), 8192),
         Err(AllocError) => (),
     }
     // 2^63 - 4096 bytes, which no machine has.
     assert!(rt; Region::new(rt.alloc(), 2_251_799_813_685_247).is_err());
     let region = Region::new(rt.alloc(), 2)?;
-    assert_eq!(rt; region.len(), 8192);
+    same(&rt, region.len(), 8192);
     Ok(())
 }

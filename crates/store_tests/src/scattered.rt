@@ -4,6 +4,7 @@
 ghost use Rattle.rh_defs.specs.Memory.{IsOpen};
 
 use crate::buffers::{alike, pattern, zero_from};
+use crate::same::{is_true, same};
 use rh_pages::PagedStore;
 use rh_store::{AreaId, Pages, PlainStore, Store, Words};
 use std::test::Fail;
@@ -55,14 +56,14 @@ fn scattered_pages_read_as_plain_ones(rt: HostRuntime) -> Result<(), Fail> {
     let mut ours = pattern(rt.alloc(), 12288)?;
     let mut theirs = pattern(rt.alloc(), 12288)?;
     for step in 0..9 {
-        assert!(rt; play(&mut paged, x, y, step, &fill));
-        assert!(rt; play(&mut plain, x2, y2, step, &fill));
-        assert_eq!(rt; paged.free_pages(), plain.free_pages());
-        assert!(rt; alike(&paged, x, &plain, x2, &mut ours, &mut theirs));
-        assert!(rt; alike(&paged, y, &plain, y2, &mut ours, &mut theirs));
+        is_true(&rt, play(&mut paged, x, y, step, &fill));
+        is_true(&rt, play(&mut plain, x2, y2, step, &fill));
+        same(&rt, paged.free_pages(), plain.free_pages());
+        is_true(&rt, alike(&paged, x, &plain, x2, &mut ours, &mut theirs));
+        is_true(&rt, alike(&paged, y, &plain, y2, &mut ours, &mut theirs));
     }
-    assert_eq!(rt; paged.free_pages(), 4);
-    assert_eq!(rt; paged.len(y), 12288);
-    assert!(rt; zero_from(&paged, y, 8192, &mut ours));
+    same(&rt, paged.free_pages(), 4);
+    same(&rt, paged.len(y), 12288);
+    is_true(&rt, zero_from(&paged, y, 8192, &mut ours));
     Ok(())
 }

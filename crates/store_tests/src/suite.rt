@@ -6,6 +6,7 @@ ghost use Rattle.rh_defs.specs.Memory.{IsOpen, bytes};
 
 use crate::buffers::{reads_as, slide_both};
 use crate::callers::{lengthen, make, stamp, swap_words};
+use crate::same::{is_true, same};
 use rh_store::{AreaId, Pages, Store, StoreFault, Words};
 use std::process::Abort;
 
@@ -13,18 +14,18 @@ use std::process::Abort;
 #[tactic(auto, using(rh_defs::proofs::MemoryLaws::pool_laws))]
 pub(crate) fn limits<R: Abort, S: Store>(rt: &R, store: &mut S) -> Result<(), StoreFault> {
     let first = store.open()?;
-    assert_eq!(rt; first, AreaId(0));
+    same(rt, first, AreaId(0));
     for number in 1..70u8 {
-        assert_eq!(rt; store.open(), Ok(AreaId(number)));
+        same(rt, store.open(), Ok(AreaId(number)));
     }
-    assert_eq!(rt; store.open(), Err(StoreFault::TooManyAreas));
-    assert!(rt; store.grow_check(first, 8));
-    assert!(rt; !store.grow_check(first, 9));
-    assert_eq!(rt; store.grow(first, 8), Ok(()));
-    assert_eq!(rt; store.len(first), 32768);
-    assert_eq!(rt; store.free_pages(), 0);
-    assert_eq!(rt; store.grow(first, 1), Err(StoreFault::NoPages));
-    assert_eq!(rt; store.free_pages(), 0);
+    same(rt, store.open(), Err(StoreFault::TooManyAreas));
+    is_true(rt, store.grow_check(first, 8));
+    is_true(rt, !store.grow_check(first, 9));
+    same(rt, store.grow(first, 8), Ok(()));
+    same(rt, store.len(first), 32768);
+    same(rt, store.free_pages(), 0);
+    same(rt, store.grow(first, 1), Err(StoreFault::NoPages));
+    same(rt, store.free_pages(), 0);
     Ok(())
 }
 
@@ -38,9 +39,9 @@ pub(crate) fn grown_pages_are_zero<R: Abort, S: Store>(
     store.grow(id, 2)?;
     store.set_word(id, 4094, 0x44332211);
     store.shrink(id, 1);
-    assert_eq!(rt; store.free_pages(), 7);
+    same(rt, store.free_pages(), 7);
     store.grow(id, 1)?;
-    assert_eq!(rt; store.word(id, 4094), 0x2211);
+    same(rt, store.word(id, 4094), 0x2211);
     Ok(())
 }
 
@@ -54,11 +55,11 @@ pub(crate) fn closed_pages_come_back<R: Abort, S: Store>(
     let id = store.open()?;
     store.grow(id, 5)?;
     store.zero(id, 0, 20480);
-    assert_eq!(rt; store.free_pages(), 3);
+    same(rt, store.free_pages(), 3);
     store.close(id);
-    assert_eq!(rt; store.free_pages(), 8);
-    assert_eq!(rt; store.open(), Ok(AreaId(1)));
-    assert_eq!(rt; kept, AreaId(0));
+    same(rt, store.free_pages(), 8);
+    same(rt, store.open(), Ok(AreaId(1)));
+    same(rt, kept, AreaId(0));
     Ok(())
 }
 
@@ -76,13 +77,13 @@ pub(crate) fn slides_as_copy_within_does<R: Abort, S: Store>(
     let id = store.open()?;
     store.grow(id, 2)?;
     slide_both(store, id, model, 10, 4090, 3000);
-    assert!(rt; reads_as(store, id, model, seen));
+    is_true(rt, reads_as(store, id, model, seen));
     slide_both(store, id, model, 4091, 9, 3000);
-    assert!(rt; reads_as(store, id, model, seen));
+    is_true(rt, reads_as(store, id, model, seen));
     slide_both(store, id, model, 0, 1, 8191);
-    assert!(rt; reads_as(store, id, model, seen));
+    is_true(rt, reads_as(store, id, model, seen));
     slide_both(store, id, model, 1, 0, 8191);
-    assert!(rt; reads_as(store, id, model, seen));
+    is_true(rt, reads_as(store, id, model, seen));
     Ok(())
 }
 
@@ -113,9 +114,9 @@ pub(crate) fn copies_both_ways<R: Abort, S: Store>(
     store.copy(x, 4, y, 8, 4);
     store.copy(y, 9, x, 100, 3);
     store.copy(x, 3, x, 9, 6);
-    assert_eq!(rt; store.word(y, 8), 0x65646362);
-    assert_eq!(rt; store.word(x, 100), 0x656463);
-    assert_eq!(rt; store.word(x, 11), 0x66656463);
+    same(rt, store.word(y, 8), 0x65646362);
+    same(rt, store.word(x, 100), 0x656463);
+    same(rt, store.word(x, 11), 0x66656463);
     Ok(())
 }
 
@@ -144,10 +145,10 @@ fn word_is_little_endian<R: Abort, S: Words>(rt: &R, store: &mut S, id: AreaId, 
     let mut seen = [9; 6];
     store.set_word(id, at, 0x44332211);
     store.copy_out(id, at - 1, &mut seen);
-    assert_eq!(rt; seen, [0, 0x11, 0x22, 0x33, 0x44, 0]);
-    assert_eq!(rt; store.word(id, at + 1), 0x443322);
+    same(rt, seen, [0, 0x11, 0x22, 0x33, 0x44, 0]);
+    same(rt, store.word(id, at + 1), 0x443322);
     store.zero(id, at + 2, 2);
-    assert_eq!(rt; store.word(id, at), 0x2211);
+    same(rt, store.word(id, at), 0x2211);
 }
 
 /// Of 8 pages: calls for no page and no byte change nothing.
@@ -164,8 +165,8 @@ pub(crate) fn nothing_changes_nothing<R: Abort, S: Store>(
     store.copy(id, 0, id, 0, 0);
     store.copy_in(id, 0, b"");
     store.copy_out(id, 0, &mut []);
-    assert_eq!(rt; store.len(id), 0);
-    assert_eq!(rt; store.free_pages(), 8);
+    same(rt, store.len(id), 0);
+    same(rt, store.free_pages(), 8);
     Ok(())
 }
 
@@ -174,13 +175,13 @@ pub(crate) fn nothing_changes_nothing<R: Abort, S: Store>(
 pub(crate) fn callers_run<R: Abort, S: Store>(rt: &R, store: &mut S) -> Result<(), StoreFault> {
     let id = make(store)?;
     lengthen(store, id)?;
-    assert_eq!(rt; store.len(id), 8192);
-    assert_eq!(rt; store.free_pages(), 6);
+    same(rt, store.len(id), 8192);
+    same(rt, store.free_pages(), 6);
     store.set_word(id, 0, 17);
     swap_words(store, id);
-    assert_eq!(rt; store.word(id, 4), 17);
+    same(rt, store.word(id, 4), 17);
     let id2 = store.open()?;
     store.grow(id2, 1)?;
-    assert_eq!(rt; stamp(store, id, id2, 258), 258);
+    same(rt, stamp(store, id, id2, 258), 258);
     Ok(())
 }

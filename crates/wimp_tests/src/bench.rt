@@ -8,6 +8,7 @@ ghost use Rattle.rh_module.specs.declared.module.Module.{Module as SpecModule};
 ghost use Rattle.wimp_tests.specs.Runs.{Runs};
 
 use crate::lists::{Lists, Sent};
+use crate::same::same;
 use rh_defs::{Body, EventCode, FileData, Handle, Letter, Pathname, Ref, Refusal};
 use rh_module::Module;
 use rh_store::{Store, StoreFault};
@@ -120,7 +121,7 @@ impl<S: Store + Drop> Bench<S> {
         }
         let expected = self.lists.send(sent)?;
         let result = self.try_send(rt, sent);
-        assert_eq!(rt; result.ok(), expected.map(|r| Ref(r)));
+        same(rt, result.ok(), expected.map(|r| Ref(r)));
         Ok(())
     }
 
@@ -134,7 +135,7 @@ impl<S: Store + Drop> Bench<S> {
         }
         let expected = self.lists.poll(task)?;
         match self.queue.poll(&mut self.store, self.rma, Handle(task)) {
-            None => assert_eq!(rt; expected, None),
+            None => same(rt, expected, None),
             Some(event) => {
                 let taken = Sent {
                     code: event.code,
@@ -143,7 +144,7 @@ impl<S: Store + Drop> Bench<S> {
                     my_ref: event.message.my_ref.0,
                     your_ref: event.message.your_ref.0,
                 };
-                assert_eq!(rt; expected, Some(taken));
+                same(rt, expected, Some(taken));
             }
         }
         Ok(())

@@ -5,6 +5,7 @@ ghost use Rattle.wimp_tests.specs.Runs.{Runs};
 
 use crate::bench::{Bench, recorded};
 use crate::lists::Sent;
+use crate::same::{is_true, same};
 use rh_defs::{EventCode, Ref, Refusal};
 use rh_pages::PagedStore;
 use rh_store::{PlainStore, Store};
@@ -26,13 +27,13 @@ fn links_lead_to_the_next_block<S: Store + Drop>(
     store: S,
 ) -> Result<(), Fail> {
     let mut bench = Bench::new(alloc, store, 1)?;
-    assert_eq!(rt; bench.try_send(rt, recorded(1, 2)), Ok(Ref(1)));
-    assert_eq!(rt; bench.try_send(rt, recorded(3, 2)), Ok(Ref(2)));
-    assert_eq!(rt; word_at(rt, &bench, 20), 84);
-    assert_eq!(rt; word_at(rt, &bench, 84), 0);
-    assert!(rt; bench.is_message(20));
-    assert!(rt; bench.is_message(84));
-    assert!(rt; !bench.is_message(148));
+    same(rt, bench.try_send(rt, recorded(1, 2)), Ok(Ref(1)));
+    same(rt, bench.try_send(rt, recorded(3, 2)), Ok(Ref(2)));
+    same(rt, word_at(rt, &bench, 20), 84);
+    same(rt, word_at(rt, &bench, 84), 0);
+    is_true(rt, bench.is_message(20));
+    is_true(rt, bench.is_message(84));
+    is_true(rt, !bench.is_message(148));
     Ok(())
 }
 
@@ -45,21 +46,30 @@ fn at_most_256_messages_are_live<S: Store + Drop>(
     for _turn in 0..256 {
         bench.send(rt, recorded(1, 2))?;
     }
-    assert_eq!(rt; bench.try_send(rt, recorded(1, 2)), Err(Refusal::QueueFull));
-    assert_eq!(rt; bench.try_send(rt, recorded(1, 4)), Err(Refusal::NoTask));
+    same(
+        rt,
+        bench.try_send(rt, recorded(1, 2)),
+        Err(Refusal::QueueFull),
+    );
+    same(rt, bench.try_send(rt, recorded(1, 4)), Err(Refusal::NoTask));
     bench.poll(rt, 2)?;
-    assert_eq!(rt;
+    same(
+        rt,
         bench.try_send(
             rt,
             Sent {
                 your_ref: 1,
                 ..recorded(2, 1)
-            }
+            },
         ),
-        Err(Refusal::QueueFull)
+        Err(Refusal::QueueFull),
     );
     bench.poll(rt, 2)?;
-    assert_eq!(rt; bench.try_send(rt, recorded(1, 2)), Err(Refusal::QueueFull));
+    same(
+        rt,
+        bench.try_send(rt, recorded(1, 2)),
+        Err(Refusal::QueueFull),
+    );
     bench.poll(rt, 1)?;
     bench.send(
         rt,
@@ -77,9 +87,9 @@ fn the_last_ref_is_given_once<S: Store + Drop>(
     store: S,
 ) -> Result<(), Fail> {
     let mut bench = Bench::new(alloc, store, 4294967295)?;
-    assert_eq!(rt; bench.try_send(rt, recorded(1, 2)), Ok(Ref(4294967295)));
-    assert_eq!(rt; bench.try_send(rt, recorded(1, 2)), Err(Refusal::NoRefs));
-    assert_eq!(rt; bench.try_send(rt, recorded(1, 4)), Err(Refusal::NoTask));
+    same(rt, bench.try_send(rt, recorded(1, 2)), Ok(Ref(4294967295)));
+    same(rt, bench.try_send(rt, recorded(1, 2)), Err(Refusal::NoRefs));
+    same(rt, bench.try_send(rt, recorded(1, 4)), Err(Refusal::NoTask));
     Ok(())
 }
 

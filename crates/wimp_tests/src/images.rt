@@ -1,5 +1,6 @@
 //! The bytes of messages, and what changed bytes spell.
 
+use crate::same::{is_true, same};
 use rh_defs::{Body, FileData, Handle, Message, MessageFault, Pathname, Ref};
 use rh_wimp::{decode, encode};
 use std::process::Abort;
@@ -48,13 +49,13 @@ const DATA_SAVE_ACK: [u8; 60] = [
 fn is_spelled(rt: &impl Abort, message: &Message, bytes: &[u8]) {
     let mut out = [255u8; 256];
     let length = encode(message, &mut out);
-    assert_eq!(rt; &out[..length], bytes);
-    assert!(rt; out[length..].iter().all(|b| *b == 255));
+    same(rt, &out[..length], bytes);
+    is_true(rt, out[length..].iter().all(|b| *b == 255));
     let Ok(again) = decode(bytes) else {
-        assert!(rt; false);
+        is_true(rt, false);
         return;
     };
-    assert_eq!(rt; again, *message);
+    same(rt, &again, message);
 }
 
 #[test]
@@ -78,10 +79,10 @@ fn worked_messages(rt: HostRuntime) {
 #[test]
 fn a_prefix_spells_no_message(rt: HostRuntime) {
     for n in 0..48 {
-        assert_eq!(rt; decode(&DATA_SAVE[..n]), Err(MessageFault::BadLength));
+        same(&rt, decode(&DATA_SAVE[..n]), Err(MessageFault::BadLength));
     }
     for n in 0..28 {
-        assert_eq!(rt; decode(&RAM_FETCH[..n]), Err(MessageFault::BadLength));
+        same(&rt, decode(&RAM_FETCH[..n]), Err(MessageFault::BadLength));
     }
 }
 
@@ -123,13 +124,13 @@ fn each_byte_changed(rt: HostRuntime) {
 #[test]
 fn names_have_at_most_211_bytes(rt: HostRuntime) {
     let longest = [b'x'; 211];
-    assert!(rt; Pathname::new(&[b'x'; 212]).is_none());
-    assert!(rt; Pathname::new(b"a\0b").is_none());
+    is_true(&rt, Pathname::new(&[b'x'; 212]).is_none());
+    is_true(&rt, Pathname::new(b"a\0b").is_none());
     for name in [b"".as_slice(), &longest] {
         let save = message(1, 1, 0, Body::DataLoad(file(&rt, 5, name)));
         let mut out = [255u8; 256];
         let length = encode(&save, &mut out);
-        assert_eq!(rt; length, 44 + (name.len() + 1).next_multiple_of(4));
-        assert_eq!(rt; decode(&out[..length]), Ok(save));
+        same(&rt, length, 44 + (name.len() + 1).next_multiple_of(4));
+        same(&rt, decode(&out[..length]), Ok(save));
     }
 }

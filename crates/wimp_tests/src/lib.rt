@@ -9,3 +9,5 @@ mod chains;
 mod images;
 #[cfg(test)]
 mod lists;
+#[cfg(test)]
+mod same;

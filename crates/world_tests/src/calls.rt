@@ -1,5 +1,6 @@
 //! Commands that are done, and what the world then tells of itself.
 
+use crate::same::{is_true, same};
 use crate::stores::{paged_store, plain_store};
 use arrayvec::ArrayVec;
 use rh_defs::{
@@ -37,7 +38,11 @@ pub(crate) fn fill<R: Abort, S: Store>(rt: &R, world: &mut World<S>, name: &Name
         anchor: Anchor(0),
         size: 5,
     };
-    assert_eq!(rt; said(rt, world, &alloc), Reply::Block { address: 0x9008 });
+    same(
+        rt,
+        said(rt, world, &alloc),
+        Reply::Block { address: 0x9008 },
+    );
     let mut two = ArrayVec::new();
     let _fits = two.try_extend_from_slice(&[0x0a, 0xff]);
     let put = Command::Put {
@@ -46,23 +51,25 @@ pub(crate) fn fill<R: Abort, S: Store>(rt: &R, world: &mut World<S>, name: &Name
         offset: 1,
         bytes: Bytes::new(two),
     };
-    assert_eq!(rt; said(rt, world, &put), Reply::Done);
+    same(rt, said(rt, world, &put), Reply::Done);
 }
 
 fn shows<R: Abort, S: Store>(rt: &R, world: &World<S>, name: &Name) {
     let mut whole = [1; 5];
-    assert_eq!(rt; world.show(name, Anchor(0), 0, &mut whole), Ok(5));
-    assert_eq!(rt; whole, [0, 0x0a, 0xff, 0, 0]);
+    same(rt, world.show(name, Anchor(0), 0, &mut whole), Ok(5));
+    same(rt, whole, [0, 0x0a, 0xff, 0, 0]);
     let mut past = [1; 2];
-    assert_eq!(rt;
+    same(
+        rt,
         world.show(name, Anchor(0), 4, &mut past),
-        Err(Refusal::BadRange)
+        Err(Refusal::BadRange),
     );
-    assert_eq!(rt;
+    same(
+        rt,
         world.show(name, Anchor(1), 0, &mut past),
-        Err(Refusal::NoBlock)
+        Err(Refusal::NoBlock),
     );
-    assert_eq!(rt; past, [1, 1]);
+    same(rt, past, [1, 1]);
 }
 
 fn lists_blocks<R: Abort, S: Store>(rt: &R, world: &World<S>, name: &Name) {
@@ -71,16 +78,16 @@ fn lists_blocks<R: Abort, S: Store>(rt: &R, world: &World<S>, name: &Name) {
         address: 0x9008,
         size: 5,
     };
-    assert_eq!(rt; world.blocks(name, 0), Ok((1, Some(item))));
-    assert_eq!(rt; world.blocks(name, 1), Ok((1, None)));
+    same(rt, world.blocks(name, 0), Ok((1, Some(item))));
+    same(rt, world.blocks(name, 1), Ok((1, None)));
 }
 
 fn tells_of_transfers<R: Abort, S: Store>(rt: &R, world: &World<S>, name: &Name) {
     match world.status(name) {
         Ok((handle, outgoing, incoming)) => {
-            assert_eq!(rt; handle, Handle(1));
-            assert!(rt; outgoing.is_empty());
-            assert!(rt; incoming.is_empty());
+            same(rt, handle, Handle(1));
+            is_true(rt, outgoing.is_empty());
+            is_true(rt, incoming.is_empty());
         }
         Err(refusal) => panic!(rt; "{refusal:?}"),
     }
@@ -91,24 +98,28 @@ fn describes<R: Abort, S: Store>(rt: &R, world: &mut World<S>, name: &Name) {
         name: name.copied(),
         size: 20,
     };
-    assert_eq!(rt; said(rt, world, &claim), Reply::Block { address: 0x8114 });
+    same(
+        rt,
+        said(rt, world, &claim),
+        Reply::Block { address: 0x8114 },
+    );
     let sums = (3840, 3796, 3800);
     let item = SegmentItem::Used {
         address: 0x8114,
         size: 20,
     };
-    assert_eq!(rt; world.heap(name, 16), Ok((sums, Some(item))));
-    assert_eq!(rt; world.heap(name, 17), Ok((sums, None)));
+    same(rt, world.heap(name, 16), Ok((sums, Some(item))));
+    same(rt, world.heap(name, 17), Ok((sums, None)));
 }
 
 fn lists_areas<R: Abort, S: Store>(rt: &R, world: &mut World<S>, name: &Name) {
     let make = Command::Make { most: 4 };
-    assert_eq!(rt; said(rt, world, &make), Reply::Made { number: 256 });
+    same(rt, said(rt, world, &make), Reply::Made { number: 256 });
     let grow = Command::Area {
         number: 256,
         delta: 4097,
     };
-    assert_eq!(rt; said(rt, world, &grow), Reply::Moved { bytes: 8192 });
+    same(rt, said(rt, world, &grow), Reply::Moved { bytes: 8192 });
     let made = AreaItem::Area {
         number: 256,
         pages: 2,
@@ -117,15 +128,15 @@ fn lists_areas<R: Abort, S: Store>(rt: &R, world: &mut World<S>, name: &Name) {
         name: name.copied(),
         pages: 2,
     };
-    assert_eq!(rt; world.areas(6), (59, Some(made)));
-    assert_eq!(rt; world.areas(7), (59, Some(slot)));
-    assert_eq!(rt; world.areas(8), (59, None));
+    same(rt, world.areas(6), (59, Some(made)));
+    same(rt, world.areas(7), (59, Some(slot)));
+    same(rt, world.areas(8), (59, None));
 }
 
 /// Asks everything of a fresh world.
 fn asks<R: Abort, S: Store>(rt: &R, world: &mut World<S>) -> Result<(), Fail> {
     let name = name(b"a")?;
-    assert_eq!(rt; said(rt, world, &task(&name)), Reply::Started(Handle(1)));
+    same(rt, said(rt, world, &task(&name)), Reply::Started(Handle(1)));
     fill(rt, world, &name);
     shows(rt, world, &name);
     lists_blocks(rt, world, &name);

@@ -1,19 +1,23 @@
-use super::*;
+//! Names, numbers and commands in their ranges, files by name, and the texts of refusals and faults.
+
+use crate::same::{is_true, same};
 use arrayvec::ArrayVec;
+use rh_defs::{Anchor, Bytes, Command, Files, Leaf, LineFault, Manner, Name, Refusal, image_law};
 use std::alloc::{AllocError, Global};
+use std::process::Abort;
 use std::test::Fail;
 
-fn some_name(rt: &impl std::process::Abort, bytes: &[u8]) -> Name {
+fn some_name(rt: &impl Abort, bytes: &[u8]) -> Name {
     Name::new(bytes).expect(rt, "a name of 1 to 12 bytes")
 }
 
 #[test]
 fn names_have_one_to_twelve_bytes(rt: HostRuntime) {
-    assert!(rt; Name::new(b"").is_none());
-    assert!(rt; Name::new(b"abcdefghijklm").is_none());
+    is_true(&rt, Name::new(b"").is_none());
+    is_true(&rt, Name::new(b"abcdefghijklm").is_none());
     let name = some_name(&rt, b"abcdefghijkl");
-    assert_eq!(rt; name.as_bytes(), b"abcdefghijkl".as_slice());
-    assert!(rt; name.copied() == name);
+    same(&rt, name.as_bytes(), b"abcdefghijkl".as_slice());
+    is_true(&rt, name.copied() == name);
 }
 
 #[test]
@@ -25,8 +29,17 @@ fn names_are_letters_and_digits(rt: HostRuntime) {
         (b"a-b".as_slice(), false),
         (b"a\xff".as_slice(), false),
     ] {
-        assert_eq!(rt; some_name(&rt, bytes).is_valid(), valid, "{bytes:?}");
+        same(
+            &rt,
+            (bytes, some_name(&rt, bytes).is_valid()),
+            (bytes, valid),
+        );
     }
+}
+
+/// Whether the command is in range is as wanted.
+fn expect_range(rt: &impl Abort, command: &Command, in_range: bool) {
+    assert_eq!(rt; command.in_range(), in_range, "{command:?}");
 }
 
 #[test]
@@ -41,8 +54,8 @@ fn commands_are_in_range(rt: HostRuntime) {
             anchor: Anchor(anchor),
             size,
         };
-        assert_eq!(rt; alloc.in_range(), in_range, "{alloc:?}");
-        assert_eq!(rt; Anchor(anchor).is_valid(), anchor < 64);
+        expect_range(&rt, &alloc, in_range);
+        same(&rt, Anchor(anchor).is_valid(), anchor < 64);
     }
     for (buffer, in_range) in [(0, false), (1, true), (65_536, true), (65_537, false)] {
         let task = Command::Task {
@@ -50,12 +63,12 @@ fn commands_are_in_range(rt: HostRuntime) {
             buffer,
             manner: Manner::Plain,
         };
-        assert_eq!(rt; task.in_range(), in_range, "{task:?}");
+        expect_range(&rt, &task, in_range);
     }
-    assert!(rt; Command::Areas.in_range());
+    expect_range(&rt, &Command::Areas, true);
 }
 
-fn some_leaf(rt: &impl std::process::Abort, bytes: &[u8]) -> Leaf {
+fn some_leaf(rt: &impl Abort, bytes: &[u8]) -> Leaf {
     let mut letters = ArrayVec::new();
     letters
         .try_extend_from_slice(bytes)
@@ -73,39 +86,38 @@ fn leafnames_are_graphic(rt: HostRuntime) {
         (b"a\x7f".as_slice(), false),
     ] {
         let leaf = some_leaf(&rt, bytes);
-        assert_eq!(rt; leaf.as_slice(), bytes);
-        assert_eq!(rt; leaf.is_valid(), valid, "{bytes:?}");
+        same(&rt, leaf.as_slice(), bytes);
+        same(&rt, (bytes, leaf.is_valid()), (bytes, valid));
     }
 }
 
 #[test]
 fn made_areas_are_in_range(rt: HostRuntime) {
     for (most, in_range) in [(0, false), (1, true), (1024, true), (1025, false)] {
-        assert_eq!(rt; Command::Make { most }.in_range(), in_range, "{most}");
+        expect_range(&rt, &Command::Make { most }, in_range);
     }
     for (number, in_range) in [(5, false), (256, true), (65_535, true), (65_536, false)] {
-        assert_eq!(rt; Command::Remove { number }.in_range(), in_range, "{number}");
+        expect_range(&rt, &Command::Remove { number }, in_range);
     }
     for (delta, in_range) in [(i32::MIN, false), (-2_147_483_647, true), (i32::MAX, true)] {
-        let area = Command::Area { number: 6, delta };
-        assert_eq!(rt; area.in_range(), in_range, "{delta}");
+        expect_range(&rt, &Command::Area { number: 6, delta }, in_range);
     }
 }
 
 #[test]
 fn a_put_has_bytes(rt: HostRuntime) {
     let none = Bytes::new(ArrayVec::new());
-    assert_eq!(rt; none.as_slice().len(), 0);
+    same(&rt, none.as_slice().len(), 0);
     let put = Command::Put {
         name: some_name(&rt, b"a"),
         anchor: Anchor(0),
         offset: 0,
         bytes: none,
     };
-    assert!(rt; !put.in_range());
+    is_true(&rt, !put.in_range());
 }
 
-fn two_files(rt: &impl std::process::Abort, alloc: Global) -> Result<Files, AllocError> {
+fn two_files(rt: &impl Abort, alloc: Global) -> Result<Files, AllocError> {
     let mut files = Files::new(alloc);
     let first = some_name(rt, b"f");
     if !files.contains(&first) {
@@ -126,7 +138,7 @@ fn files_are_found_by_name(rt: HostRuntime) -> Result<(), Fail> {
         (b"g".as_slice(), true),
         (b"h".as_slice(), false),
     ] {
-        assert_eq!(rt; files.contains(&some_name(&rt, name)), there);
+        same(&rt, files.contains(&some_name(&rt, name)), there);
     }
     Ok(())
 }
@@ -134,10 +146,18 @@ fn files_are_found_by_name(rt: HostRuntime) -> Result<(), Fail> {
 #[test]
 fn refusals_and_faults_print_their_names(rt: HostRuntime) -> Result<(), Fail> {
     let alloc = rt.alloc();
-    assert_eq!(rt; Refusal::NameInUse.to_string(alloc)?.as_str(), "NameInUse");
-    assert_eq!(rt; Refusal::NoRoom.to_string(alloc)?.as_str(), "NoRoom");
-    assert_eq!(rt; LineFault::TooLong.to_string(alloc)?.as_str(), "TooLong");
-    assert_eq!(rt; LineFault::Word(3).to_string(alloc)?.as_str(), "Word 3");
+    same(
+        &rt,
+        Refusal::NameInUse.to_string(alloc)?.as_str(),
+        "NameInUse",
+    );
+    same(&rt, Refusal::NoRoom.to_string(alloc)?.as_str(), "NoRoom");
+    same(
+        &rt,
+        LineFault::TooLong.to_string(alloc)?.as_str(),
+        "TooLong",
+    );
+    same(&rt, LineFault::Word(3).to_string(alloc)?.as_str(), "Word 3");
     Ok(())
 }
 
