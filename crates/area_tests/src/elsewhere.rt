@@ -23,7 +23,11 @@ fn bytes_come_from_elsewhere<R: Abort, S: Store + Drop>(rt: &R, store: S) -> Res
     same(rt, bench.put_words(Anchor(0), 1), Err(Refusal::BadRange));
     same(rt, bench.put_words(Anchor(2), 0), Err(Refusal::NoBlock));
     same(rt, bench.write_word(0x9019), true);
-    same(rt, bench.read(Anchor(0)), Ok([0x08, 0x90, 0, 0, 0x18, 0x90, 0, 0]));
+    same(
+        rt,
+        bench.read(Anchor(0)),
+        Ok([0x08, 0x90, 0, 0, 0x18, 0x90, 0, 0]),
+    );
     same(rt, bench.read(Anchor(1)), Ok([0, 0x18, 0x90, 0, 0]));
     Ok(())
 }
