@@ -10,4 +10,6 @@ mod scripts;
 #[cfg(test)]
 mod streams;
 #[cfg(test)]
+mod transfers;
+#[cfg(test)]
 mod words;

@@ -22,7 +22,7 @@ pub fn outcome_of(alloc: Global, script: &[u8], pages: u32) -> (Vec<u8>, Result<
 }
 
 /// Runs a script, and asserts what it writes and how its run ends.
-fn expect<R: Abort + Alloc<A = Global>>(
+pub(crate) fn expect<R: Abort + Alloc<A = Global>>(
     rt: &R,
     pages: u32,
     script: &[u8],
