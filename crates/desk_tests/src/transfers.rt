@@ -59,7 +59,7 @@ fn transfers_are_given_up(rt: HostRuntime) {
         &rt,
         64,
         b"task a 100\ntask b 100\nalloc a 0 5\nsave a 0 b doc\nput a 0 0 00\nfree a 0\nsave a 0 b x\ncancel a out\ncancel a out\nput a 0 0 00\npoll b\nextend b 0 9\npoll a\npoll a\npoll b\n",
-        b"ok 1\nok 2\nok &9008\nok 1\nrefused Busy\nrefused Busy\nrefused Busy\nok\nrefused NotOpen\nok\nok 18 DataSave 1 0 fetch 2\nrefused Busy\nok 18 RAMFetch 2 1 ignored\nok 0\nok 19 RAMFetch 2 1 failed\n",
+        b"ok 1\nok 2\nok &9008\nok 1\nrefused Busy\nrefused Busy\nrefused Busy\nok\nrefused NotOpen\nok\nok 18 DataSave 1 0 fetch 2\nrefused Busy\nok 18 RAMFetch 2 1 ignored\nok 0\nok 19 RAMFetch 2 1 asked 3\n",
         Status::Clean,
     );
 }
