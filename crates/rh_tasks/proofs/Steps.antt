@@ -1,6 +1,6 @@
 -- A command's call as a step.
 use Rattle.std.proofs.Common.{◌≡◌, refl, ap, sym, ◌∙◌, subst}
-use Rattle.std.specs.Prelude.{Result, Ok, Err}
+use Rattle.std.specs.Prelude.{List, [], ◌∷◌, ◌++◌, Result, Ok, Err}
 use Rattle.rh_defs.specs.declared.command.Command.{Command}
 use Rattle.rh_defs.specs.declared.refusal.Refusal.{Refusal}
 use Rattle.rh_defs.specs.declared.reply.Reply.{Reply}
@@ -9,10 +9,11 @@ use Rattle.rh_defs.specs.Chain.{Granted, or_else}
 use Rattle.rh_defs.specs.Commands.{Answer}
 use Rattle.rh_defs.specs.Desk.{Desk}
 use Rattle.rh_defs.specs.Order.{IsReordered}
+use Rattle.rh_defs.specs.Runs.{after}
 use Rattle.rh_defs.specs.Step.{change, step}
 use Rattle.rh_defs.proofs.OrderSteps.{order-ignored}
 use Rattle.rh_tasks.specs.Shown.{Shown}
-use Rattle.rh_tasks.specs.Answer.{Gives, GivesAlike, StepsTo, reply_of}
+use Rattle.rh_tasks.specs.Answer.{Gives, GivesAlike, RunsOn, StepsTo, reply_of}
 use Rattle.rh_tasks.proofs.Reorders.{reordered-refl, reordered-trans}
 
 -- where the old desk itself goes, each like it goes
@@ -44,3 +45,11 @@ stepped-alike c granted old new (Err refusal) said given h s =
     let same : new.desk ≡ old.desk = ap (λ (x : Shown). x.desk) h.1 in
     steps-from c old.desk new.desk said (ap (λ (p : Answer). p.1) e ∙ sym s)
     (subst (IsReordered (step old.desk c).0) (ap (λ (p : Answer). p.0) e ∙ sym same) (reordered-refl (step old.desk c).0))
+
+-- a run of one command more ends with that command's step
+after-more : (d : Desk) (commands : List Command) (c : Command) → after d (commands ++ c ∷ []) ≡ (step (after d commands) c).0
+after-more d [] c = refl
+after-more d (first ∷ commands) c = after-more (step d first).0 commands c
+
+pub runs_on : (c : Command) (old new : Desk) (said : Reply) → StepsTo c old new said → RunsOn c old new
+runs_on c old new said steps d commands alike = subst (λ e. IsReordered e new) (sym (after-more d commands c)) (steps (after d commands) alike).1

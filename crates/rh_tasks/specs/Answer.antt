@@ -1,5 +1,5 @@
 -- What a command's call gives.
-use Rattle.std.specs.Prelude.{◌≡◌, Result, Ok, Err}
+use Rattle.std.specs.Prelude.{◌≡◌, List, [], ◌∷◌, ◌++◌, Result, Ok, Err}
 use Rattle.std.specs.Result.{MatchResult}
 use Rattle.rh_defs.specs.declared.refusal.Refusal.{Refusal}
 use Rattle.rh_defs.specs.declared.reply.Reply.{Reply}
@@ -10,6 +10,7 @@ use Rattle.rh_defs.specs.Desk.{Desk}
 use Rattle.rh_defs.specs.Commands.{Answer}
 use Rattle.rh_defs.specs.Order.{IsReordered}
 use Rattle.rh_defs.specs.Step.{step}
+use Rattle.rh_defs.specs.Runs.{after}
 use Rattle.rh_tasks.specs.Shown.{Shown}
 
 -- the call gave what is granted, or was refused and changed nothing
@@ -24,6 +25,10 @@ GivesAlike granted old new result =
 -- Of each desk that differs from the old one in that order alone, the command gives the reply, and again such a desk.
 abbrev pub StepsTo : Command → Desk → Desk → Reply → Type 0
 StepsTo c old new said = (d : Desk) → IsReordered d old → ((step d c).1 ≡ said) × IsReordered (step d c).0 new
+
+-- Where the old desk is that after some commands, but for that order, the new one is that after them and this command.
+abbrev pub RunsOn : Command → Desk → Desk → Type 0
+RunsOn c old new = (d : Desk) (commands : List Command) → IsReordered (after d commands) old → IsReordered (after d (commands ++ c ∷ [])) new
 
 -- the reply that a call's result is
 abbrev pub reply_of : Result Reply Refusal → Reply

@@ -6,7 +6,7 @@ ghost use Rattle.rh_defs.specs.Range.{in_range};
 ghost use Rattle.rh_defs.specs.Runs.{start, start_with};
 ghost use Rattle.rh_defs.specs.Laws.{IsDesk};
 ghost use Rattle.rh_tasks.specs.Shown.{IsSpelled, IsBalanced, HasApartBlocks};
-ghost use Rattle.rh_tasks.specs.Answer.{StepsTo, reply_of};
+ghost use Rattle.rh_tasks.specs.Answer.{RunsOn, StepsTo, reply_of};
 ghost use Rattle.rh_tasks.specs.Start.{IsFurnished};
 
 use crate::areas::FIXED_AREAS;
@@ -122,10 +122,12 @@ impl<S: Store> World<S> {
     }
 
     /// Does one command, or answers the first of its refusals and changes nothing. The order of messages to different
-    /// tasks isn't kept, so what is said of the desk is said of each that differs in that order alone.
+    /// tasks isn't kept, so what is said of the desk is said of each that differs in that order alone. After any commands
+    /// the desk is so the one after them and this one.
     pub fn apply(&mut self, command: &Command) -> Reply
         requires ranged { in_range command.now ≡ true }
         ensures steps { StepsTo command.now self.old.desk self.new.desk result }
+        ensures runs { RunsOn command.now self.old.desk self.new.desk }
         ensures spelled { IsSpelled self.new }
         ensures apart { HasApartBlocks self.new }
         ensures balanced { IsBalanced self.new }
