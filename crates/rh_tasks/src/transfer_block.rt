@@ -1,6 +1,8 @@
 //! Bytes that are moved from one task's block to another's.
 
+ghost use Rattle.rh_defs.specs.Laws.{IsDesk};
 ghost use Rattle.rh_tasks.specs.Polls.{Becomes};
+ghost use Rattle.rh_tasks.specs.Shown.{IsSpelled, IsBalanced, HasApartBlocks};
 ghost use Rattle.rh_tasks.specs.TransferBlock.{transferred};
 
 use crate::outgoing::{do_overlap, with_handle};
@@ -15,6 +17,25 @@ impl<S: Store> World<S> {
     /// one of the tasks isn't live, BadRange where a range isn't whole inside one live block or the two overlap.
     /// (Wimp_TransferBlock.)
     pub fn transfer_block(
+        &mut self,
+        from: Handle,
+        address: u32,
+        to: Handle,
+        address2: u32,
+        n: u32,
+    ) -> Result<(), Refusal>
+        ensures moves { Becomes (transferred self.old.desk from address to address2 n) self.old self.new result }
+        ensures spelled { IsSpelled self.new }
+        ensures apart { HasApartBlocks self.new }
+        ensures balanced { IsBalanced self.new }
+        ensures desk { IsDesk self.new.desk }
+    {
+        let moved = self.move_block(from, address, to, address2, n);
+        self.spelled();
+        moved
+    }
+
+    fn move_block(
         &mut self,
         from: Handle,
         address: u32,
