@@ -1,9 +1,11 @@
 -- A call with growth is the call on the longer heap.
-use Rattle.std.proofs.Common.{◌≡◌, ℕ, ◌+◌, ◌-◌, ◌<◌, ◌≤◌, ◌≢◌, Bool, true, false, cond, eqb, leb, ltb, List, [], ◌∷◌, refl, sym, ap, ◌∙◌, arith}
+use Rattle.std.proofs.Common.{◌≡◌, ℕ, ◌+◌, ◌-◌, ◌*◌, ◌/◌, ◌<◌, ◌≤◌, ◌≢◌, inl, inr, Bool, true, false, cond, eqb, leb, ltb, List, [], ◌∷◌, refl, sym, ap, ◌∙◌, arith}
+use Rattle.std.proofs.lemmas.Bool.{cases_eq}
 use Rattle.std.proofs.lemmas.Bool.Decides.{nat_tests}
-use Rattle.std.specs.Prelude.{Option, Some, None, Ok}
+use Rattle.std.specs.Prelude.{Option, Some, None, Ok, ℤ}
+use Rattle.rh_defs.specs.Chain.{answer_of}
 use Rattle.rh_defs.specs.Pieces.{Split}
-use Rattle.rh_defs.specs.Heap.{Segment, Used, Hole, Heap, Way, Stays, Shrinks, GrowsIntoHole, GrowsAtTop, MovesToHole, MovesToTop, size_of, place_after, hole_for, shortage_in, segment_size, need, claim, as_granted, raised, claim_growing, way_beyond, way_to_grow, way_to, end_for, resize_need, resized, resized_by, fitted, block_room, bytes_of, resize_growing}
+use Rattle.rh_defs.specs.Heap.{Segment, Used, Hole, Heap, Way, Stays, Shrinks, GrowsIntoHole, GrowsAtTop, MovesToHole, MovesToTop, size_of, place_after, hole_for, shortage_in, segment_size, need, claim, claim_need, new_size, resize_found, need_found, as_granted, raised, claim_growing, way_beyond, way_to_grow, way_to, end_for, resize_need, resized, resized_by, fitted, block_room, bytes_of, resize_growing}
 use Rattle.rh_defs.proofs.HeapLists.{cond_true, cond_false, eqb_same, eqb_apart, leb_yes, leb_no}
 
 none_short : (t : ℕ) (h : Heap) (o : Option (Split Segment)) → shortage_in t (raised (shortage_in t h o) h) o ≡ 0
@@ -74,3 +76,33 @@ resize_need-raised n s h =
     let t = segment_size n in
     let g = raised (resize_need n s h) h in
     ap (λ (w : Way). end_for w t s g - g.end) (way-raised t s h) ∙ (let l = enough (way_to t s h) t s h in omega arith)
+
+-- ---- calls that the heap as it is grants
+
+-- a heap that is raised by nothing
+pub raised-none : (h : Heap) → raised 0 h ≡ h
+raised-none h = ap (λ (e : ℕ). let r : Heap = record h { end = e } in r) (let z : h.end + 4096 * ((0 + 4095) / 4096) ≡ h.end = omega arith in z)
+
+-- a claim that was granted needs no more
+pub claim-granted : (n x : ℕ) (h : Heap) → Ok x ≡ answer_of (claim n h) → Ok 0 ≡ claim_need n h
+claim-granted n x h e = elim (cases_eq n 0) [
+  | inl z ↦ absurd (let q = e ∙ ap answer_of (cond_true (eqb n 0) _ _ (eqb_same n 0 z)) in cc)
+  | inr ne ↦ elim (cases_eq (need n h) 0) [
+    | inl none ↦ sym (cond_false (eqb n 0) _ _ (eqb_apart n 0 ne) ∙ ap (λ i. Ok i) none)
+    | inr some ↦ absurd (let q = e ∙ ap answer_of (cond_false (eqb n 0) _ _ (eqb_apart n 0 ne) ∙ cond_false (eqb (need n h) 0) _ _ (eqb_apart (need n h) 0 some)) in cc)
+  ]
+]
+
+-- and so does a resize
+pub resize-granted : (delta : ℤ) (o : Option (Split Segment)) (h : Heap) (x : ℕ) → Ok x ≡ answer_of (resize_found delta o h) → Ok 0 ≡ need_found delta o h
+resize-granted delta None h x e = absurd cc
+resize-granted delta (Some b) h x e = elim (cases_eq (new_size delta b) 0) [
+  | inl z ↦ absurd (let q = e ∙ ap answer_of (cond_true (eqb (new_size delta b) 0) _ _ (eqb_same (new_size delta b) 0 z)) in cc)
+  | inr ne ↦ elim (cases_eq (resize_need (new_size delta b) b h) 0) [
+    | inl none ↦ sym (cond_false (eqb (new_size delta b) 0) _ _ (eqb_apart (new_size delta b) 0 ne) ∙ ap (λ i. Ok i) none)
+    | inr some ↦ absurd (
+        let q = e ∙ ap answer_of (cond_false (eqb (new_size delta b) 0) _ _ (eqb_apart (new_size delta b) 0 ne)
+            ∙ cond_false (eqb (resize_need (new_size delta b) b h) 0) _ _ (eqb_apart (resize_need (new_size delta b) b h) 0 some)) in
+        cc)
+  ]
+]

@@ -1,26 +1,34 @@
 -- What a call is granted, by the need that the heap answered.
-use Rattle.std.proofs.Common.{◌≡◌, ℕ, ◌<◌, ◌≤◌, to_z, of_z, sym, ap, subst, ◌∙◌}
+use Rattle.std.proofs.Common.{◌≡◌, ℕ, ◌+◌, ◌*◌, ◌<◌, ◌≤◌, to_z, of_z, refl, sym, ap, subst, ◌∙◌, arith}
 use Rattle.std.specs.Prelude.{Result, Ok, Err, ℤ, FitsSigned}
 use Rattle.std.specs.Int.{w32}
 use Rattle.std.proofs.lemmas.Int.{to_z-of_z}
 use Rattle.rh_defs.specs.Memory.{Memory}
 use Rattle.rh_defs.specs.Pieces.{pages_for}
-use Rattle.rh_defs.specs.Heap.{refusal_of, raised, claim, claim_need, resize, need_at}
+use Rattle.rh_defs.specs.Heap.{Heap, refusal_of, raised, block_at, claim, claim_need, resize, need_at}
 use Rattle.rh_defs.specs.Module.{module_claim, module_resize, module_need_pages}
 use Rattle.rh_defs.specs.declared.heap.HeapRefusal.{HeapRefusal}
 use Rattle.rh_defs.specs.declared.refusal.Refusal.TheVariants.{NoRoom}
 use Rattle.rh_defs.proofs.ModuleLaws.{Grows, module_claim-zero, module_claim-short, module_claim-grows, module_need_pages-zero, module_need_pages-is, module_resize-refused, module_resize-short, module_resize-grows}
+use Rattle.rh_defs.proofs.HeapGrowth.{claim-granted, resize-granted}
+use Rattle.rh_defs.proofs.MemoryLaws.{OnlyArea-self}
+use Rattle.rh_heap.specs.Calls as heap_calls
 use Rattle.rh_heap.specs.Spans as spans
 use Rattle.rh_heap.specs.declared.span.Span.{Span}
 use Rattle.rh_module.specs.declared.module.Module.{Module}
 use Rattle.rh_module.specs.Area.{IsModule, SpellsIn, heap_in}
 use Rattle.rh_module.specs.Lengths.{longer}
 use Rattle.rh_module.proofs.SpanLaws.{span_of, old_heap}
-use Rattle.rh_module.proofs.GrowthLaws.{Grown}
+use Rattle.rh_module.specs.Calls.{Leaves}
+use Rattle.rh_module.proofs.GrowthLaws.{Grown, done}
 
 -- an amount, as the code passes it on
 abbrev pub passed : ℤ → ℤ
 passed delta = to_z w32 (of_z w32 delta)
+
+-- a heap with no page more
+longer_none : (h : Heap) → longer 0 h ≡ h
+longer_none h = ap (λ (e : ℕ). let r : Heap = record h { end = e } in r) (let z : h.end + 4096 * 0 ≡ h.end = omega arith in z)
 
 module _ {m : Memory} {rma : Module} {span : Span} (at : span ≡ span_of rma) (s : IsModule m rma) where
   -- ---- claims
@@ -37,6 +45,14 @@ module _ {m : Memory} {rma : Module} {span : Span} (at : span ≡ span_of rma) (
       → Grown later rma span (heap_in m rma) k (claim n) (module_claim m.free n (heap_in m rma))
   claim_grown {k} {pages} n later e p l long =
       record { grows = module_claim-grows m.free k n (heap_in m rma) (asked (Ok k) n e) (rw (sym p) l); at = at; pages = pages; pages_are = p; long = long }
+
+  long_as_is : SpellsIn m rma (longer 0 (heap_in m rma))
+  long_as_is = subst (SpellsIn m rma) (sym (longer_none (heap_in m rma))) s.spells
+
+  -- a claim that the heap as it is grants
+  pub claimed_here : (n : Memory) (k x : ℕ) → heap_calls.Leaves m n span (claim k (spans.heap_in m span)) (Ok x) → Leaves m n rma (module_claim m.free k (heap_in m rma)) (Ok x)
+  claimed_here n k x l =
+      done (claim_grown {k = 0} {pages = 0} k m (claim-granted k x (spans.heap_in m span) l.answer) refl (omega arith) long_as_is) m n (Ok x) l x refl (OnlyArea-self m rma.area.0 s.opened)
 
   pub need_pages_refused : {refusal : HeapRefusal} (n : ℕ) → Err refusal ≡ claim_need n (spans.heap_in m span) → module_need_pages n (heap_in m rma) ≡ Err (refusal_of refusal)
   need_pages_refused {refusal} n e = module_need_pages-zero n (heap_in m rma) refusal (asked (Err refusal) n e)
@@ -67,3 +83,9 @@ module _ {m : Memory} {rma : Module} {span : Span} (at : span ≡ span_of rma) (
           pages_are = p;
           long = long;
         }
+
+    -- a resize that the heap as it is grants
+    pub resized_here : (n : Memory) (x : ℕ) → heap_calls.Leaves m n span (resize address (passed delta) (spans.heap_in m span)) (Ok x) → Leaves m n rma (module_resize m.free address delta (heap_in m rma)) (Ok x)
+    resized_here n x l =
+        let h = spans.heap_in m span in
+        done (resize_grown {k = 0} {pages = 0} m (resize-granted (passed delta) (block_at address h) h x l.answer) refl (omega arith) long_as_is) m n (Ok x) l x refl (OnlyArea-self m rma.area.0 s.opened)

@@ -15,9 +15,8 @@ use rh_heap::{Segment, claim, need, release, resize, resize_need};
 use rh_store::{Pages, Words};
 
 impl Module {
-    /// Claims a block of `n` bytes at least, all 0, and answers its address. The area grows where the heap is too short.
-    /// Refused, and nothing changed: `BadSize` for 0 bytes, `NoRoom` where too few pages are free. (OS_Module 6.)
-    pub fn claim<S: Pages>(self, store: &mut S, n: u32) -> Result<usize, Refusal>
+    /// Claims a block where the heap as it is refused one: it is too short and grows first, or refuses again.
+    fn claim_growing<S: Pages>(self, store: &mut S, n: u32) -> Result<usize, Refusal>
         requires { IsModule (S.memory store.old) self }
         ensures { Leaves (S.memory store.old) (S.memory store.new) self
             (module_claim (S.memory store.old).free n (heap_in (S.memory store.old) self)) result }
@@ -29,6 +28,19 @@ impl Module {
         Ok(claim(store, span, n).unwrap())
     }
 
+    /// Claims a block of `n` bytes at least, all 0, and answers its address. The area grows where the heap is too short.
+    /// Refused, and nothing changed: `BadSize` for 0 bytes, `NoRoom` where too few pages are free. (OS_Module 6.)
+    pub fn claim<S: Pages>(self, store: &mut S, n: u32) -> Result<usize, Refusal>
+        requires { IsModule (S.memory store.old) self }
+        ensures { Leaves (S.memory store.old) (S.memory store.new) self
+            (module_claim (S.memory store.old).free n (heap_in (S.memory store.old) self)) result }
+    {
+        match claim(store, self.span(), n) {
+            Ok(address) => Ok(address),
+            Err(_) => self.claim_growing(store, n),
+        }
+    }
+
     /// Frees the block at an address. Refused (`NotABlock`), and nothing changed, exactly where no block begins there.
     /// (OS_Module 7.)
     pub fn free<S: Pages>(self, store: &mut S, address: usize) -> Result<(), Refusal>
@@ -38,6 +50,24 @@ impl Module {
     {
         release(store, self.span(), address)?;
         Ok(())
+    }
+
+    /// Changes a block's size where the heap as it is refused it: it is too short and grows first, or refuses again.
+    fn resize_growing<S: Pages>(
+        self,
+        store: &mut S,
+        address: usize,
+        delta: i32,
+    ) -> Result<usize, Refusal>
+        requires { IsModule (S.memory store.old) self }
+        ensures { Leaves (S.memory store.old) (S.memory store.new) self
+            (module_resize (S.memory store.old).free address delta (heap_in (S.memory store.old) self)) result }
+    {
+        let span = self.span();
+        let shortage = resize_need(store, span, address, delta)?;
+        self.lengthen(store, pages_for(shortage))?;
+        // The heap has room now.
+        Ok(resize(store, span, address, delta).unwrap())
     }
 
     /// Gives the block at an address `delta` bytes more, or fewer where `delta` is negative, and answers its address,
@@ -53,11 +83,10 @@ impl Module {
         ensures { Leaves (S.memory store.old) (S.memory store.new) self
             (module_resize (S.memory store.old).free address delta (heap_in (S.memory store.old) self)) result }
     {
-        let span = self.span();
-        let shortage = resize_need(store, span, address, delta)?;
-        self.lengthen(store, pages_for(shortage))?;
-        // The heap has room now.
-        Ok(resize(store, span, address, delta).unwrap())
+        match resize(store, self.span(), address, delta) {
+            Ok(address) => Ok(address),
+            Err(_) => self.resize_growing(store, address, delta),
+        }
     }
 
     /// The pages that a claim of `n` bytes would take. Refused (`BadSize`) for 0 bytes.

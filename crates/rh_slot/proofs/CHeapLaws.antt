@@ -18,8 +18,8 @@ use Rattle.rh_defs.specs.declared.refusal.Refusal.TheVariants.{NotABlock, NoBudg
 use Rattle.rh_defs.proofs.Cuts.{total-append}
 use Rattle.rh_defs.proofs.HeapLists.{cond_true, cond_false, eqb_same, eqb_apart, IsCut, first_at-cuts}
 use Rattle.rh_defs.proofs.HeapCalls.{released_at-some, released-found, released-refused}
-use Rattle.rh_defs.proofs.MemoryLaws.{OnlyArea-from_Edited}
-use Rattle.rh_defs.proofs.HeapGrowth.{claim-raised, resize-raised, resize_need-raised}
+use Rattle.rh_defs.proofs.MemoryLaws.{OnlyArea-self, OnlyArea-from_Edited}
+use Rattle.rh_defs.proofs.HeapGrowth.{claim-raised, resize-raised, resize_need-raised, raised-none, claim-granted, resize-granted}
 use Rattle.rh_heap.specs.Calls as heap_calls
 use Rattle.rh_heap.specs.Spans.{heap_in}
 use Rattle.rh_heap.specs.declared.span.Span.{Span}
@@ -29,7 +29,7 @@ use Rattle.rh_slot.specs.Calls.{Leaves}
 use Rattle.rh_slot.specs.CHeap.{after_growth, lengthened}
 use Rattle.rh_slot.proofs.SpanLaws.{span_of, heap_same, slot_now, budging_same}
 use Rattle.rh_slot.proofs.LeaveLaws.{leaves, refuses, then_edited}
-use Rattle.rh_slot.proofs.GrowLaws.{Gives, growth_ok, growth_err, placed_there, slot_claim-growth, slot_claim-zero, end-claim_growing, need_ok, need_err}
+use Rattle.rh_slot.proofs.GrowLaws.{Gives, growth_none, growth_ok, growth_err, placed_there, slot_claim-growth, slot_claim-zero, end-claim_growing, need_ok, need_err}
 use Rattle.rh_defs.proofs.SlotImageLaws.{SpellsSlot-with_heap}
 
 -- the heap in the span once it is longer
@@ -303,6 +303,49 @@ resize_most delta a k h t f l =
     let c = bytes_low t.block.here in
     let u = used_low h t.block cut in
     omega (arith, t.short)
+
+-- ---- calls that the heap as it is grants
+
+spells_longer : (m : Memory) (slot : Slot) → IsSlot m slot → SpellsIn m slot (lengthened 0 (slot_in m slot))
+spells_longer m slot i = subst (λ h. SpellsIn m slot (with_heap h (slot_in m slot))) (sym (raised-none (slot_in m slot).heap)) i.spells
+
+module _ (m n : Memory) (slot : Slot) (span : Span) (at : span ≡ span_of slot) (i : IsSlot m slot) where
+  abbrev s : plain.Slot
+  s = slot_in m slot
+
+  module _ (k address : ℕ) (l : heap_calls.Leaves m n span (claim k (heap_in m span)) (Ok address)) where
+    claim_there : heap_calls.Leaves m n (span_of slot) (claim k (heap_in m (span_of slot))) (Ok address)
+    claim_there = subst (λ t. heap_calls.Leaves m n t (claim k (heap_in m t)) (Ok address)) at l
+
+    claims_none : (k ≢ 0) × (0 ≡ need k s.heap)
+    claims_none = claim_needs k 0 s (heap_in m (span_of slot)) (heap_same m slot) (claim-granted k address (heap_in m (span_of slot)) claim_there.answer)
+
+    pub claimed_here : Leaves m n slot (slot_claim m.free k s) (Ok (33024 + address))
+    claimed_here =
+        claimed m m n slot 0 k address (spells_longer m slot i) claims_none.0 claims_none.1 (growth_none m.free 0 s refl) claim_there (OnlyArea-self m slot.area.0 i.opened)
+
+    pub claimed_low : address ≤ base s.heap + 4
+    claimed_low =
+        let is = claim_longer m slot s 0 k (spells_longer m slot i) (budging_same m slot) claims_none.0 claims_none.1 in
+        omega (arith, claim_low k s.heap, address_low (claim_growing k s.heap) _ address is claim_there.answer)
+
+  module _ (a : ℕ) (delta : ℤ) (x : ℕ) (l : heap_calls.Leaves m n span (resize a delta (heap_in m span)) (Ok x)) where
+    resize_there : heap_calls.Leaves m n (span_of slot) (resize a delta (heap_in m (span_of slot))) (Ok x)
+    resize_there = subst (λ t. heap_calls.Leaves m n t (resize a delta (heap_in m t)) (Ok x)) at l
+
+    resizes_none : Resizes delta (block_at a s.heap) s.heap 0
+    resizes_none =
+        let h = heap_in m (span_of slot) in
+        subst (λ (g : Heap). Resizes delta (block_at a g) g 0) (heap_same m slot) (need_found_ok delta (block_at a h) h 0 (resize-granted delta (block_at a h) h x resize_there.answer))
+
+    pub resized_here : (address : ℕ) → a ≡ address - 33024 → Leaves m n slot (slot_resize m.free address delta s) (Ok (33024 + x))
+    resized_here address e =
+        resized_there m m n slot 0 a address delta x resizes_none e (spells_longer m slot i) (growth_none m.free 0 s refl) resize_there (OnlyArea-self m slot.area.0 i.opened)
+
+    pub resized_low_here : x ≤ base s.heap + 4
+    resized_low_here =
+        let is = resize_longer m slot s 0 a delta resizes_none (spells_longer m slot i) (budging_same m slot) in
+        omega (arith, resize_low delta a 0 s.heap resizes_none, address_low (resize_growing (new_size delta resizes_none.block) resizes_none.block s.heap) _ x is resize_there.answer)
 
 -- ---- the pages that a claim and a block of no bytes take
 

@@ -1,5 +1,5 @@
 -- What the calls that find, add and take away blocks do to the words of a slot.
-use Rattle.std.proofs.Common.{◌≡◌, ℕ, ◌+◌, ◌-◌, ◌*◌, ◌/◌, ◌<◌, ◌≤◌, ◌≢◌, ◌⊎◌, inl, inr, true, false, List, [], ◌∷◌, ◌++◌, length, replicate, refl, sym, ap, subst, ◌∙◌, arith, rules}
+use Rattle.std.proofs.Common.{◌≡◌, ℕ, ◌+◌, ◌-◌, ◌*◌, ◌/◌, ◌<◌, ◌≤◌, ◌≢◌, ◌⊎◌, inl, inr, true, false, List, [], ◌∷◌, ◌++◌, length, replicate, refl, sym, ap, subst, ◌∙◌, append_assoc, arith, rules}
 use Rattle.std.proofs.lemmas.List.{append-nil, length-replicate}
 use Rattle.std.proofs.lemmas.Bool.{cases_eq, cases_lt}
 use Rattle.std.specs.Prelude.{is_some, Ok, Err, ◌↔◌}
@@ -13,7 +13,7 @@ use Rattle.rh_defs.proofs.Anchors.{anchors-append}
 use Rattle.rh_defs.proofs.BytesLaws.{word_same, part_same}
 use Rattle.rh_defs.proofs.HeapLists.{sum-append, ltb_yes, ltb_no}
 use Rattle.rh_defs.proofs.SlotLaws.{part_of, wider, same_both, in_below, in_above, in_both, Lie-split, Lie-join, Lie-same, Hang-split, Hang-join, Hang-same, IsFree-split, IsFree-join, HaveAnchors-cut, find, block_of-none, block_of-at, Spells-same}
-use Rattle.rh_slot.specs.Row.{Row, Shifted}
+use Rattle.rh_slot.specs.Row.{Row, Shifted, Walked}
 use Rattle.rh_slot.specs.Flex.{FoundAt, Found}
 use Rattle.rh_slot.proofs.ShiftLaws.{apart, Hang-apart}
 use Rattle.rh_defs.proofs.Chains.{refuse_if-true, refuse_if-false}
@@ -119,6 +119,15 @@ rebuilt b d s xs mid new ys p q w is pp qq same fits ln hn ly hy others lost anc
 -- where the blocks above a block begin, and how many bytes they take
 pub reach : (s : Slot) (k place size w t : ℕ) (cut : Split Flex) → FoundAt k s place size cut → w ≡ flex_weight size → t ≡ slot_length s → place + w + (t - (place + w)) ≡ slot_length s
 reach s k place size w t cut f ew et = let i = f.inside in omega arith
+
+-- the walk that has passed the blocks up to one
+pub walked_past : (s : Slot) (k place size w : ℕ) (cut : Split Flex) → FoundAt k s place size cut → w ≡ flex_weight size → Walked s (place + w)
+walked_past s k place size w cut f ew = record {
+  before = cut.before ++ cut.here ∷ [];
+  rest = cut.after;
+  is = f.is ∙ sym (append_assoc cut.before (cut.here ∷ []) cut.after);
+  place_is = omega (arith, f.stands, ap flex_weight f.long, sum-append weight cut.before (cut.here ∷ []));
+}
 
 -- the blocks above a block
 pub above : (b : List ℕ) (s : Slot) (k place size from n : ℕ) (cut : Split Flex) → SlotWords b s → FoundAt k s place size cut → from ≡ place + flex_weight size → from + n ≡ slot_length s

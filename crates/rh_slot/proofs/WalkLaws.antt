@@ -4,7 +4,7 @@ use Rattle.std.specs.Prelude.{Some, None, is_some, slice_get}
 use Rattle.rh_defs.specs.Bytes.{word}
 use Rattle.rh_defs.specs.Pieces.{total, first_at, is_inside, NonePass}
 use Rattle.rh_defs.specs.Slot.{Flex, Slot, weight, flex_weight, slot_start, slot_length, flex_start, flex_around, HaveAnchors}
-use Rattle.rh_defs.specs.SlotImage.{Lie, Hang, SlotWords, flex_place, is_block}
+use Rattle.rh_defs.specs.SlotImage.{Lie, Hang, SlotWords, SpellsSlot, flex_place, is_block}
 use Rattle.rh_defs.specs.Listing.{block_items_from, block_items}
 use Rattle.rh_defs.specs.declared.listing.BlockItem.{BlockItem}
 use Rattle.rh_defs.proofs.Cuts.{total-append}
@@ -75,6 +75,10 @@ walked_most b s place k w = let l = k.within in omega (arith, w.place_is, ap (to
 -- where a header has no room, no block stands
 pub no_room : (b : List ℕ) (s : Slot) (place : ℕ) → SlotWords b s → Walked s place → length b < place + 8 → is_block b place ≡ false
 no_room b s place k w l = elim (stands b s place k w) [ at_block n ↦ absurd (let f = n.fits in let i = k.within in omega arith) | at_top e f ↦ f ]
+
+-- the slot ends in the last page, so below it a walk stands at a block
+pub below_last : (b : List ℕ) (s : Slot) (place : ℕ) → SpellsSlot b s → Walked s place → place + 4096 ≤ length b → is_block b place ≡ true
+below_last b s place k w l = elim (stands b s place k.words w) [ at_block n ↦ n.test | at_top e f ↦ absurd (omega (arith, at_end s place w e, k.pages)) ]
 
 -- the walk after one block
 pub onward : (b : List ℕ) (s : Slot) (place : ℕ) (w : Walked s place) (n : Next b s place w) (size step : ℕ) → size ≡ word b (place + 4) → step ≡ flex_weight size → step ≡ weight n.here

@@ -78,10 +78,8 @@ impl Slot {
         self.lengthen(store, shortage)
     }
 
-    /// Claims a block of `n` bytes at least in the C heap, all 0, and answers its address, from &8100 on. A heap that
-    /// is too short grows by whole pages, and the flex blocks slide up. Refused: `BadSize` for 0 bytes, `NoBudge`
-    /// where the heap is too short and budging is off, `NoRoom` where too few pages are free. (OS_Heap 2.)
-    pub fn claim<S: Pages>(self, store: &mut S, n: u32) -> Result<usize, Refusal>
+    /// Claims a block where the heap as it is refused one: it is too short and gets longer first, or refuses again.
+    fn claim_growing<S: Pages>(self, store: &mut S, n: u32) -> Result<usize, Refusal>
         requires slot { IsSlot (S.memory store.old) self }
         ensures { Leaves (S.memory store.old) (S.memory store.new) self
             (slot_claim (S.memory store.old).free n (slot_in (S.memory store.old) self)) result }
@@ -93,6 +91,20 @@ impl Slot {
         Ok(C_HEAP_START + address)
     }
 
+    /// Claims a block of `n` bytes at least in the C heap, all 0, and answers its address, from &8100 on. A heap that
+    /// is too short grows by whole pages, and the flex blocks slide up. Refused: `BadSize` for 0 bytes, `NoBudge`
+    /// where the heap is too short and budging is off, `NoRoom` where too few pages are free. (OS_Heap 2.)
+    pub fn claim<S: Pages>(self, store: &mut S, n: u32) -> Result<usize, Refusal>
+        requires slot { IsSlot (S.memory store.old) self }
+        ensures { Leaves (S.memory store.old) (S.memory store.new) self
+            (slot_claim (S.memory store.old).free n (slot_in (S.memory store.old) self)) result }
+    {
+        match rh_heap::claim(store, self.span(), n) {
+            Ok(address) => Ok(C_HEAP_START + address),
+            Err(_) => self.claim_growing(store, n),
+        }
+    }
+
     /// Releases the block of the C heap at an address. Refused (`NotABlock`) where none begins there. (OS_Heap 3.)
     pub fn release<S: Pages>(self, store: &mut S, address: usize) -> Result<(), Refusal>
         requires slot { IsSlot (S.memory store.old) self }
@@ -101,6 +113,26 @@ impl Slot {
     {
         rh_heap::release(store, self.span(), address.saturating_sub(C_HEAP_START))?;
         Ok(())
+    }
+
+    /// Changes a block's size where the heap as it is refused it: it is too short and gets longer first, or refuses
+    /// again.
+    fn resize_growing<S: Pages>(
+        self,
+        store: &mut S,
+        address: usize,
+        delta: i32,
+    ) -> Result<usize, Refusal>
+        requires slot { IsSlot (S.memory store.old) self }
+        ensures { Leaves (S.memory store.old) (S.memory store.new) self
+            (slot_resize (S.memory store.old).free address delta (slot_in (S.memory store.old) self)) result }
+    {
+        let place = address.saturating_sub(C_HEAP_START);
+        let shortage = rh_heap::resize_need(store, self.span(), place, delta)?;
+        self.make_room(store, shortage)?;
+        // The heap has room now.
+        let address = rh_heap::resize(store, self.span(), place, delta).unwrap();
+        Ok(C_HEAP_START + address)
     }
 
     /// Gives the block of the C heap at an address `delta` bytes more, or fewer where `delta` is negative, and answers
@@ -117,11 +149,10 @@ impl Slot {
             (slot_resize (S.memory store.old).free address delta (slot_in (S.memory store.old) self)) result }
     {
         let place = address.saturating_sub(C_HEAP_START);
-        let shortage = rh_heap::resize_need(store, self.span(), place, delta)?;
-        self.make_room(store, shortage)?;
-        // The heap has room now.
-        let address = rh_heap::resize(store, self.span(), place, delta).unwrap();
-        Ok(C_HEAP_START + address)
+        match rh_heap::resize(store, self.span(), place, delta) {
+            Ok(address) => Ok(C_HEAP_START + address),
+            Err(_) => self.resize_growing(store, address, delta),
+        }
     }
 
     /// By how many pages a claim of `n` bytes and then a flex block of no bytes would make the slot longer. Refused:

@@ -140,7 +140,7 @@ impl Slot {
             return Err(Refusal::NoBlock);
         };
         let from = spot.place + flex_weight(spot.size);
-        let above = self.top(store) - from;
+        let above = self.top_from(store, from) - from;
         shift(store, self.area, from, spot.place, above);
         write(store, self.area, word_place(anchor), 0);
         trim(store, self.area, spot.place + above);
@@ -167,7 +167,7 @@ impl Slot {
         let from = spot.place + flex_weight(spot.size);
         let size = spot.size - change.out + change.put;
         let to = spot.place + flex_weight(size);
-        let above = self.top(store) - from;
+        let above = self.top_from(store, from) - from;
         let Ok(()) = room_for(store, self.area, to + above) else {
             return Err(Refusal::NoRoom);
         };

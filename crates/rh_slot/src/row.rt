@@ -13,7 +13,7 @@ ghost use Rattle.rh_slot.specs.Row.{Row, Hung, Shifted, Walked, WalksIn, item_of
 use crate::area::{read, slide, write};
 use crate::slot::Slot;
 use rh_defs::sizes::{
-    C_HEAP_PLACE, C_HEAP_START, FLEX_HEADER, SLOT_START, WORD, flex_weight, is_inside,
+    C_HEAP_PLACE, C_HEAP_START, FLEX_HEADER, PAGE, SLOT_START, WORD, flex_weight, is_inside,
 };
 use rh_defs::{Anchor, BlockItem};
 use rh_store::{AreaId, Words};
@@ -87,6 +87,20 @@ impl Slot {
         C_HEAP_PLACE + rh_heap::end(store, self.span())
     }
 
+    /// Whether a block stands where a walk has come to, or the blocks end there.
+    fn stands<S: Words>(self, store: &S, place: usize) -> bool
+        requires slot { IsSlot (S.memory store.now) self }
+        requires walked { Walked (slot_in (S.memory store.now) self) place }
+        ensures { result ≡ is_block (bytes (S.memory store.now) self.area.0) place }
+    {
+        let len = store.len(self.area);
+        // The blocks end in the last page, so a block stands at each place below it to which a walk comes.
+        if place + PAGE <= len {
+            return true;
+        }
+        place + FLEX_HEADER <= len && begins(store, self.area, place)
+    }
+
     /// How many bytes the block has that stands where a walk has come to. `None` above the last block.
     pub(crate) fn size_at<S: Words>(self, store: &S, place: usize) -> Option<usize>
         requires slot { IsSlot (S.memory store.now) self }
@@ -95,13 +109,23 @@ impl Slot {
             (λ size. (is_block (bytes (S.memory store.now) self.area.0) place ≡ true)
             × (size ≡ word (bytes (S.memory store.now) self.area.0) (place + WORD))) }
     {
-        if store.len(self.area) < place + FLEX_HEADER {
-            return None;
-        }
-        if !begins(store, self.area, place) {
+        if !self.stands(store, place) {
             return None;
         }
         Some(read(store, self.area, place + WORD))
+    }
+
+    /// Where the flex blocks end, from a place to which a walk comes: the number of bytes that the slot takes.
+    pub(crate) fn top_from<S: Words>(self, store: &S, from: usize) -> usize
+        requires slot { IsSlot (S.memory store.now) self }
+        requires walked { Walked (slot_in (S.memory store.now) self) from }
+        ensures { result ≡ slot_length (slot_in (S.memory store.now) self) }
+    {
+        let mut place = from;
+        'walk: while let Some(size) = self.size_at(store, place) {
+            place += flex_weight(size);
+        }
+        place
     }
 
     /// Where the flex blocks end: the number of bytes that the slot takes.
@@ -109,11 +133,7 @@ impl Slot {
         requires { IsSlot (S.memory store.now) self }
         ensures { result ≡ slot_length (slot_in (S.memory store.now) self) }
     {
-        let mut place = self.flex_place(store);
-        'walk: while let Some(size) = self.size_at(store, place) {
-            place += flex_weight(size);
-        }
-        place
+        self.top_from(store, self.flex_place(store))
     }
 
     /// Whether the `n` bytes at an address lie whole in one flex block.

@@ -60,6 +60,14 @@ module _ {A : Type 0} {m : Memory} {seats : List Seat} {made : List MadeArea} {f
   idle-is look is =
       begins _ (found-named w o) (skipped (look (task_of m o.seat)) _ is) ∙ sym (begins _ (found-named w o) refl)
 
+  -- behind a step that is refused only as the call is
+  pub first-is : {B : Type 0} (look : Task → Granted B) → ((r : Refusal) → look (task_of m o.seat) ≡ Err r → call m.free (slot_in m slot) ≡ Err r) → on_idle look call out said name d ≡ on_slot call out said name d
+  first-is {B} look refuses = go (look (task_of m o.seat)) refl
+    where
+      go : (g : Granted B) → look (task_of m o.seat) ≡ g → on_idle look call out said name d ≡ on_slot call out said name d
+      go (Ok b) e = idle-is look (rw e refl)
+      go (Err r) e = begins _ (found-named w o) (ends _ e) ∙ sym (slot-refused (refuses r e))
+
 -- the look is refused
 pub not-idle : {A B : Type 0} (m : Memory) (seats : List Seat) (made : List MadeArea) (files : FileList) (kept : Kept) (name : List ℕ)
     (look : Task → Granted B) (call : ℕ → plain.Slot → Granted A) (out : A → plain.Slot) (said : A → Reply) {r : Refusal}

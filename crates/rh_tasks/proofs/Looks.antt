@@ -1,5 +1,5 @@
 -- Looks at the named task for a block that isn't busy.
-use Rattle.std.proofs.Common.{◌≡◌, ℕ, ◌-◌, Bool, true, false, refl, ap, sym, List, length}
+use Rattle.std.proofs.Common.{◌≡◌, ℕ, ◌-◌, Bool, true, false, refl, sym, ◌∙◌, List}
 use Rattle.std.specs.Prelude.{Option, Some, None, Ok, Err, IsOk, ok_or, ◌||◌}
 use Rattle.std.specs.List.{list_any}
 use Rattle.std.specs.Option.{option_map}
@@ -65,6 +65,16 @@ module _ (m : Memory) (s : Seat) (k : ℕ) where
     unfolding plain.slot_size idle_block task_of
     block-idle e = idle-if (plain.slot_block k (slot_in m s.slot)) _ _ n is e
 
+not-busy : {A : Type 0} (g : Granted A) (b : Bool) → b ≡ false → (g >>= λ a. refuse_if b Busy >> Ok a) ≡ g
+unfolding ◌>>=◌ ◌>>◌ refuse_if
+not-busy (Ok a) b e = rw e refl
+not-busy (Err r) b e = refl
+
+none-found : {A : Type 0} (o : Option A) (r : Refusal) → found_or o NotABlock ≡ Err r → (o ≡ None) × (r ≡ NotABlock)
+unfolding found_or
+none-found None r e = (refl, let q : NotABlock ≡ r = cc in sym q)
+none-found (Some x) r e = absurd cc
+
 module _ (m : Memory) (s : Seat) (address : ℕ) where
   pub buffer-missing : {r : Refusal} → Err r ≡ ok_or (block_size (address - plain.heap_start) (slot_in m s.slot).heap) NotABlock → idle_buffer address (task_of m s) ≡ Err r
   unfolding idle_buffer task_of
@@ -79,8 +89,9 @@ module _ (m : Memory) (s : Seat) (address : ℕ) where
         let o = block_at (address - plain.heap_start) (slot_in m s.slot).heap in
         busy-if (found_or o NotABlock) _ _ n (rw (asked o _) at is) e
 
-    pub buffer-idle : list_any (is_buffer_of address) s.taking ≡ false → IsOk (idle_buffer address (task_of m s))
-    unfolding idle_buffer task_of
-    buffer-idle e =
-        let o = block_at (address - plain.heap_start) (slot_in m s.slot).heap in
-        idle-if (found_or o NotABlock) _ _ n (rw (asked o _) at is) e
+  -- where no transfer has its buffer at the address, the look is refused only where no block is there
+  pub buffer-none : list_any (is_buffer_of address) s.taking ≡ false → (r : Refusal) → idle_buffer address (task_of m s) ≡ Err r → (plain.heap_block_at address (slot_in m s.slot) ≡ None) × (r ≡ NotABlock)
+  unfolding idle_buffer task_of
+  buffer-none e r q =
+      let o = plain.heap_block_at address (slot_in m s.slot) in
+      none-found o r (sym (not-busy (found_or o NotABlock) _ e) ∙ q)

@@ -1,5 +1,5 @@
 -- The commands on the module area, from what its call leaves.
-use Rattle.std.proofs.Common.{◌≡◌, ℕ, ◌-◌, ◌%◌, Bool, true, false, refl, ap, sym, ◌∙◌, List, length}
+use Rattle.std.proofs.Common.{◌≡◌, ℕ, ◌-◌, ◌%◌, Bool, true, false, refl, ap, sym, subst, ◌∙◌, List, length}
 use Rattle.std.specs.Prelude.{ℤ, Option, Some, None, Ok, Err, IsOk, is_some, ok_or}
 use Rattle.std.specs.Option.{option_map}
 use Rattle.rh_defs.specs.Memory.{Memory, bytes}
@@ -9,9 +9,11 @@ use Rattle.rh_defs.specs.declared.refusal.Refusal.{Refusal}
 use Rattle.rh_defs.specs.declared.refusal.Refusal.TheVariants.{NotABlock, NotYours}
 use Rattle.rh_defs.specs.declared.reply.Reply.{Reply}
 use Rattle.rh_defs.specs.Blocks.{SameShape}
-use Rattle.rh_defs.specs.Chain.{Granted, ◌>>=◌, ◌>>◌, refuse_if, found_or, answer_of, left_of, no_answer}
+use Rattle.rh_defs.specs.Chain.{Granted, ◌>>=◌, ◌>>◌, refuse_if, found_or, left_of, no_answer}
 use Rattle.rh_defs.specs.Pieces.{Split, first_at}
-use Rattle.rh_defs.specs.Heap.{Heap, Segment, block_at, block_size, is_block_at, size_of}
+use Rattle.rh_defs.specs.Heap.{Heap, Segment, block_at, block_size, is_block_at, need_found, size_of}
+use Rattle.rh_defs.specs.declared.heap.HeapRefusal.TheVariants as heap_refusal
+use Rattle.rh_defs.proofs.ModuleLaws.{module_free-none, module_resize-refused}
 use Rattle.rh_defs.proofs.ShapeLaws.{blank_cut, block-blank}
 use Rattle.rh_defs.specs.Module.{module_claim, module_free, module_resize, module_change}
 use Rattle.rh_defs.specs.Range.{in_range}
@@ -68,26 +70,35 @@ found None p f n e h = absurd cc
 found (Some t) None f n e h = absurd cc
 found (Some t) (Some s) f n e h = refl
 
-own-if : (g : Granted (Split Segment)) (b : Bool) → IsOk g → b ≡ false → IsOk (g >>= (λ x. refuse_if b NotYours >> Ok x))
-unfolding ◌>>=◌ ◌>>◌ refuse_if
-own-if (Ok x) b h e = rw e refl
-own-if (Err r) b h e = absurd cc
-
 yours-if : (g : Granted (Split Segment)) (b : Bool) → IsOk g → b ≡ true → (g >>= (λ x. refuse_if b NotYours >> (let r : Granted (Split Segment) = Ok x in r))) ≡ Err NotYours
 unfolding ◌>>=◌ ◌>>◌ refuse_if
 yours-if (Ok x) b h e = rw e refl
 yours-if (Err r) b h e = absurd cc
 
-none-if : (g : Granted (Split Segment)) (b : Bool) → IsOk (g >>= (λ x. refuse_if b NotYours >> Ok x)) → b ≡ false
+unmarked : (g : Granted (Split Segment)) (b : Bool) → b ≡ false → (g >>= (λ x. refuse_if b NotYours >> Ok x)) ≡ g
 unfolding ◌>>=◌ ◌>>◌ refuse_if
-none-if (Ok x) true h = absurd cc
-none-if (Ok x) false h = refl
-none-if (Err r) b h = absurd cc
+unmarked (Ok x) b e = rw e refl
+unmarked (Err r) b e = refl
 
--- no message lies in a block of one's own
-pub own-none : (address : ℕ) (d : Desk) → IsOk (own_block address d) → post_is_message (address - module_start) d.post ≡ false
+-- where no message lies, the look is refused only where no block is there
+unmarked-is : (address : ℕ) (d : Desk) → post_is_message (address - module_start) d.post ≡ false → own_block address d ≡ found_or (block_at (address - module_start) d.post.heap) NotABlock
 unfolding own_block
-own-none address d h = none-if (found_or (block_at (address - module_start) d.post.heap) NotABlock) (post_is_message (address - module_start) d.post) h
+unmarked-is address d e = unmarked (found_or (block_at (address - module_start) d.post.heap) NotABlock) (post_is_message (address - module_start) d.post) e
+
+was-found : (o : Option (Split Segment)) (b : Split Segment) → o ≡ Some b → IsOk (found_or o NotABlock)
+unfolding found_or
+was-found o b e = rw e refl
+
+not-found : (o : Option (Split Segment)) → o ≡ None → found_or o NotABlock ≡ Err NotABlock
+unfolding found_or
+not-found o e = rw e refl
+
+-- a call on no block
+pub free-none : (address : ℕ) (h : Heap) → block_at address h ≡ None → no_answer (module_free address h) ≡ Err NotABlock
+free-none address h e = ap no_answer (module_free-none address h e)
+
+pub resize-none : (free address : ℕ) (delta : ℤ) (h : Heap) → block_at address h ≡ None → module_resize free address delta h ≡ Err NotABlock
+resize-none free address delta h e = module_resize-refused free address delta h heap_refusal.NotABlock (sym (ap (λ o. need_found delta o h) e))
 
 -- a call that answers nothing
 unanswered : {B : Type 0} (g : Granted Heap) (next : Heap → Granted B) → (g >>= next) ≡ (no_answer g >>= (λ c. next c.0))
@@ -127,10 +138,6 @@ module _ {m : Memory} {seats : List Seat} {made : List MadeArea} {files : FileLi
     unfolding own_block
     own-yours {n} e is = yours-if _ _ (found (block_at place h) (block_at place the_post.heap) _ n same-block e) is
 
-    pub own-found : {n : ℕ} → Ok n ≡ ok_or (block_size place h) NotABlock → post_is_message place the_post ≡ false → IsOk (own_block address d)
-    unfolding own_block
-    own-found {n} e is = own-if _ _ (found (block_at place h) (block_at place the_post.heap) _ n same-block e) is
-
   -- ---- calls beside the messages
 
   pub claims : (n : ℕ) → Beside h kept.queue the_post (module_claim m.free n h) (module_claim m.free n the_post.heap)
@@ -139,9 +146,9 @@ module _ {m : Memory} {seats : List Seat} {made : List MadeArea} {files : FileLi
   pub changes : (delta : ℤ) → Beside h kept.queue the_post (module_change m.free delta h) (module_change m.free delta the_post.heap)
   changes delta = change-beside h kept.queue the_post m.free delta (is-post w)
 
-  module _ (address : ℕ) (own : IsOk (own_block address d)) where
+  module _ (address : ℕ) (none : post_is_message (address - module_start) the_post ≡ false) where
     off : IsOff (address - module_start) the_post
-    off = off-message h kept.queue the_post (address - module_start) (is-post w) (own-none address d own)
+    off = off-message h kept.queue the_post (address - module_start) (is-post w) none
 
     pub frees : Beside h kept.queue the_post (no_answer (module_free (address - module_start) h)) (no_answer (module_free (address - module_start) the_post.heap))
     frees = free-beside h kept.queue the_post (address - module_start) (is-post w) off
@@ -178,6 +185,11 @@ module _ {m : Memory} {seats : List Seat} {made : List MadeArea} {files : FileLi
       pub area-world : (c : Command) → change d c ≡ on_module call said d → in_range c ≡ true → length (bytes n 1) % 4096 ≡ 0 → IsWorld n seats made files kept
       area-world c same ranged whole = module-world w l.only still post-is whole (granted-keeps d _ c (said a) (same ∙ area-done) ranged w.desk)
 
-    -- behind the look for a block
-    pub own-is : (address : ℕ) → IsOk (own_block address d) → on_own address call said d ≡ on_module call said d
-    own-is address is = skipped (own_block address d) (on_module call said d) is
+    -- behind the look for a block, where no message lies
+    pub own-is : (address : ℕ) → post_is_message (address - module_start) the_post ≡ false → (block_at (address - module_start) the_post.heap ≡ None → call m.free the_post.heap ≡ Err NotABlock)
+        → on_own address call said d ≡ on_module call said d
+    own-is address none refused = go (block_at (address - module_start) the_post.heap) refl
+      where
+        go : (o : Option (Split Segment)) → block_at (address - module_start) the_post.heap ≡ o → on_own address call said d ≡ on_module call said d
+        go (Some b) e = skipped (own_block address d) (on_module call said d) (subst (λ g. IsOk g) (sym (unmarked-is address d none)) (was-found _ b e))
+        go None e = ends _ (unmarked-is address d none ∙ not-found _ e) ∙ sym (ends _ (the_call ∙ refused e))

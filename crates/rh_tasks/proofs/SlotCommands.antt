@@ -1,15 +1,18 @@
 -- The commands on a task's slot, from what the slot's call leaves.
-use Rattle.std.proofs.Common.{◌≡◌, ℕ, ◌∙◌, refl, List}
-use Rattle.std.specs.Prelude.{Ok, Err, IsOk, true}
+use Rattle.std.proofs.Common.{◌≡◌, ℕ, ◌∙◌, refl, sym, ap, List}
+use Rattle.std.specs.Prelude.{None, Ok, Err, IsOk, true, false}
+use Rattle.std.specs.List.{list_any}
 use Rattle.rh_defs.specs.Memory.{Memory}
 use Rattle.rh_defs.specs.Files.{FileList}
 use Rattle.rh_defs.specs.declared.command.Command.{Command}
 use Rattle.rh_defs.specs.declared.refusal.Refusal.{Refusal}
+use Rattle.rh_defs.specs.declared.refusal.Refusal.TheVariants.{NotABlock}
 use Rattle.rh_defs.specs.declared.reply.Reply.{Reply}
 use Rattle.rh_defs.specs.declared.reply.Reply.TheVariants as reply
 use Rattle.rh_defs.specs.Chain.{Granted, no_answer}
 use Rattle.rh_defs.specs.Range.{in_range}
 use Rattle.rh_defs.specs.Slot as plain
+use Rattle.rh_defs.specs.Records.{is_buffer_of}
 use Rattle.rh_defs.specs.Desk.{Desk, idle_block, idle_buffer}
 use Rattle.rh_defs.specs.Commands.{Answer}
 use Rattle.rh_defs.specs.Step.{change}
@@ -21,7 +24,8 @@ use Rattle.rh_tasks.specs.declared.made.MadeArea.{MadeArea}
 use Rattle.rh_tasks.specs.View.{Kept, task_of, desk_of, IsWorld}
 use Rattle.rh_tasks.specs.Finding.{Owns}
 use Rattle.rh_tasks.proofs.Leaves.{slid, granted, refused, changed, unchanged}
-use Rattle.rh_tasks.proofs.Calls.{on_slot, on_idle, slot-refused, slot-done, slot-world, idle-is}
+use Rattle.rh_tasks.proofs.Calls.{on_slot, on_idle, slot-refused, slot-done, slot-world, idle-is, first-is}
+use Rattle.rh_tasks.proofs.Looks.{buffer-none}
 
 -- the slot that a call leaves, and its block's address as the reply
 abbrev pub placed_slot : plain.Slot × ℕ → plain.Slot
@@ -74,13 +78,22 @@ module _ {m : Memory} {seats : List Seat} {made : List MadeArea} {files : FileLi
     pub block-refused : {n : Memory} {r : Refusal} → Leaves m n slot (no_answer (call m.free (slot_in m slot))) (Err r) → on_block ≡ Err r
     block-refused l = block-is ∙ slot-refused call same_slot done_reply w o (unchanged l)
 
+  -- where no transfer has its buffer at an address, a look for a block there is refused as the call is
+  none-there : {A : Type 0} (address : ℕ) (call : ℕ → plain.Slot → Granted A) → list_any (is_buffer_of address) o.seat.taking ≡ false
+      → (plain.heap_block_at address (slot_in m slot) ≡ None → call m.free (slot_in m slot) ≡ Err NotABlock)
+      → (r : Refusal) → idle_buffer address (task_of m o.seat) ≡ Err r → call m.free (slot_in m slot) ≡ Err r
+  none-there address call idle none r e =
+      let n = buffer-none m o.seat address idle r e in
+      none (ap (λ x. plain.heap_block_at address (slot_in m x)) (sym o.slot_is) ∙ n.0) ∙ ap (λ i. Err i) (sym n.1)
+
   -- a call on a block of the C heap
-  module _ (call : ℕ → plain.Slot → Granted plain.Slot) (address : ℕ) (idle : IsOk (idle_buffer address (task_of m o.seat))) where
+  module _ (call : ℕ → plain.Slot → Granted plain.Slot) (address : ℕ) (idle : list_any (is_buffer_of address) o.seat.taking ≡ false)
+      (none : plain.heap_block_at address (slot_in m slot) ≡ None → call m.free (slot_in m slot) ≡ Err NotABlock) where
     abbrev pub on_buffer : Granted Answer
     on_buffer = on_idle (idle_buffer address) call same_slot done_reply name d
 
     buffer-is : on_buffer ≡ on_slot call same_slot done_reply name d
-    buffer-is = idle-is call same_slot done_reply w o (idle_buffer address) idle
+    buffer-is = first-is call same_slot done_reply w o (idle_buffer address) (none-there address call idle none)
 
     module _ {n : Memory} (l : Leaves m n slot (no_answer (call m.free (slot_in m slot))) (Ok tt)) where
       pub buffer-done : on_buffer ≡ Ok (desk_of n seats made files kept, reply.Done)
@@ -93,12 +106,13 @@ module _ {m : Memory} {seats : List Seat} {made : List MadeArea} {files : FileLi
     buffer-refused l = buffer-is ∙ slot-refused call same_slot done_reply w o (unchanged l)
 
   -- a call on a block of the C heap that answers its address
-  module _ (call : ℕ → plain.Slot → Granted (plain.Slot × ℕ)) (address : ℕ) (idle : IsOk (idle_buffer address (task_of m o.seat))) where
+  module _ (call : ℕ → plain.Slot → Granted (plain.Slot × ℕ)) (address : ℕ) (idle : list_any (is_buffer_of address) o.seat.taking ≡ false)
+      (none : plain.heap_block_at address (slot_in m slot) ≡ None → call m.free (slot_in m slot) ≡ Err NotABlock) where
     abbrev pub on_moved : Granted Answer
     on_moved = on_idle (idle_buffer address) call placed_slot placed_reply name d
 
     moved-is : on_moved ≡ on_slot call placed_slot placed_reply name d
-    moved-is = idle-is call placed_slot placed_reply w o (idle_buffer address) idle
+    moved-is = first-is call placed_slot placed_reply w o (idle_buffer address) (none-there address call idle none)
 
     module _ {n : Memory} {a : ℕ} (l : Leaves m n slot (call m.free (slot_in m slot)) (Ok a)) where
       pub moved-done : on_moved ≡ Ok (desk_of n seats made files kept, reply.Block a)

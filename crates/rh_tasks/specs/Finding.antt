@@ -1,11 +1,12 @@
 -- Seats and made areas that were found.
-use Rattle.std.specs.Prelude.{◌≡◌, ℕ, List, Some, IsOk, find, map}
-use Rattle.std.specs.List.{position}
+use Rattle.std.specs.Prelude.{◌≡◌, ℕ, false, List, Some, IsOk, find, map}
+use Rattle.std.specs.List.{position, list_any}
 use Rattle.std.proofs.Math.ListN.{get_or}
 use Rattle.rh_defs.specs.declared.refusal.Refusal.TheVariants.{NoName}
 use Rattle.rh_defs.specs.Chain.{Granted, ◌>>=◌, found_or}
 use Rattle.rh_defs.specs.Desk.{Task, has_name}
 use Rattle.rh_defs.specs.Memory.{Memory}
+use Rattle.rh_defs.specs.Records.{is_buffer_of}
 use Rattle.rh_slot.specs.declared.slot.Slot.{Slot}
 use Rattle.rh_tasks.specs.declared.seat.Seat.{Seat}
 use Rattle.rh_tasks.specs.View.{is_named, task_of}
@@ -30,3 +31,8 @@ looked look m name seats = found_or (find (has_name name) (map (task_of m) seats
 pub record OwnsWith {B : Type 0} (look : Task → Granted B) (m : Memory) (name : List ℕ) (seats : List Seat) (slot : Slot) : Type 0 where
   pub owns : Owns name seats slot
   pub granted : IsOk (look (task_of m owns.seat))
+
+-- the slot is that of the seat with the name, and no transfer of its task has its buffer at the address
+pub record OwnsIdle (address : ℕ) (name : List ℕ) (seats : List Seat) (slot : Slot) : Type 0 where
+  pub owns : Owns name seats slot
+  pub idle : list_any (is_buffer_of address) owns.seat.taking ≡ false

@@ -1,9 +1,10 @@
 //! Blocks of the module area that commands claim (the RMA's).
 
-ghost use Rattle.std.specs.Prelude.{◌≡◌, ◌-◌, true, Ok, Err, IfOk, IfErr, IsOk};
+ghost use Rattle.std.specs.Prelude.{◌≡◌, ◌-◌, true, false, Ok, Err, IfOk, IfErr};
 ghost use Rattle.rh_defs.specs.declared.command.Command.TheVariants as Command;
 ghost use Rattle.rh_defs.specs.Range.{in_range};
-ghost use Rattle.rh_defs.specs.Commands.{module_start, own_block as own_block_on, rma_claim as rma_claim_on, rma_free as rma_free_on, rma_resize as rma_resize_on};
+ghost use Rattle.rh_defs.specs.Commands.{module_start, own_block, rma_claim as rma_claim_on, rma_free as rma_free_on, rma_resize as rma_resize_on};
+ghost use Rattle.rh_defs.specs.Post.{post_is_message};
 ghost use Rattle.rh_tasks.specs.Answer.{Gives};
 
 use crate::world::World;
@@ -27,17 +28,18 @@ impl<S: Store> World<S> {
         })
     }
 
-    /// The place of the block at the address in the module area: NotABlock, NotYours where it holds a message.
-    fn own_block(&self, address: u32) -> Result<usize, Refusal>
-        ensures ok { IfOk result (λ place. (place ≡ address - module_start) × IsOk (own_block_on address self.now.desk)) }
-        ensures err { IfErr result (λ e. own_block_on address self.now.desk ≡ Err e) }
+    /// The place of the address in the module area, where no message lies: NotABlock, NotYours. Whether a block is there,
+    /// the module area's own call finds out.
+    fn own_place(&self, address: u32) -> Result<usize, Refusal>
+        ensures ok { IfOk result (λ place. (place ≡ address - module_start) × (post_is_message (address - module_start) self.now.desk.post ≡ false)) }
+        ensures err { IfErr result (λ e. own_block address self.now.desk ≡ Err e) }
     {
         let place = (address as usize).saturating_sub(MODULE_START);
-        MODULE.block_size(&self.store, place)?;
-        if self.queue.is_message(&self.store, MODULE, place) {
-            return Err(Refusal::NotYours);
+        if !self.queue.is_message(&self.store, MODULE, place) {
+            return Ok(place);
         }
-        Ok(place)
+        MODULE.block_size(&self.store, place)?;
+        Err(Refusal::NotYours)
     }
 
     /// Frees a block of the module area (OS_Module 7): NotABlock, NotYours.
@@ -45,7 +47,7 @@ impl<S: Store> World<S> {
         requires { in_range (Command.RmaFree address) ≡ true }
         ensures { Gives (rma_free_on self.old.desk address) self.old self.new result }
     {
-        let place = self.own_block(address)?;
+        let place = self.own_place(address)?;
         MODULE.free(&mut self.store, place)?;
         Ok(Reply::Done)
     }
@@ -55,7 +57,7 @@ impl<S: Store> World<S> {
         requires { in_range (Command.RmaResize address delta) ≡ true }
         ensures { Gives (rma_resize_on self.old.desk address delta) self.old self.new result }
     {
-        let place = self.own_block(address)?;
+        let place = self.own_place(address)?;
         let address = MODULE.resize(&mut self.store, place, delta)?;
         Ok(Reply::Block {
             address: (MODULE_START + address) as u32,

@@ -5,7 +5,7 @@ ghost use Rattle.std.specs.List.{AllByRecursion, list_any, position};
 ghost use Rattle.rh_defs.specs.Memory.{Memory};
 ghost use Rattle.rh_defs.specs.Desk.{idle_block, idle_buffer};
 ghost use Rattle.rh_tasks.specs.View.{is_named, HasSlot};
-ghost use Rattle.rh_tasks.specs.Finding.{Owns, OwnsWith, looked};
+ghost use Rattle.rh_tasks.specs.Finding.{Owns, OwnsIdle, OwnsWith, looked};
 
 use crate::seat::Seat;
 use rh_defs::{Anchor, Name, Refusal};
@@ -67,7 +67,8 @@ pub fn idle_slot<S: Words>(
     Ok(seat.slot)
 }
 
-/// The slot of the task with the name, whose block of the C heap at the address isn't busy: NoName, NotABlock, Busy.
+/// The slot of the task with the name, where no block of its C heap at the address is busy: NoName, NotABlock, Busy.
+/// Whether a block that isn't busy is there, the slot's own call finds out.
 pub fn idle_heap<S: Words>(
     store: &S,
     seats: &Vec<Seat>,
@@ -75,14 +76,14 @@ pub fn idle_heap<S: Words>(
     address: u32,
 ) -> Result<Slot, Refusal>
     requires { AllByRecursion (HasSlot (S.memory store.now)) seats.now.items }
-    ensures ok { IfOk result (OwnsWith (idle_buffer address) (S.memory store.now) name.now seats.now.items) }
+    ensures ok { IfOk result (OwnsIdle address name.now seats.now.items) }
     ensures err { IfErr result (λ e. looked (idle_buffer address) (S.memory store.now) name.now seats.now.items ≡ Err e) }
 {
     let i = find(seats, name)?;
     let seat = &seats[i];
-    seat.slot.block_size(store, address as usize)?;
-    if seat.is_busy_buffer(address) {
-        return Err(Refusal::Busy);
+    if !seat.is_busy_buffer(address) {
+        return Ok(seat.slot);
     }
-    Ok(seat.slot)
+    seat.slot.block_size(store, address as usize)?;
+    Err(Refusal::Busy)
 }

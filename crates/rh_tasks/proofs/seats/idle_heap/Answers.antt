@@ -5,13 +5,20 @@ use Rattle.rh_tasks.specs.View.{HasSlot}
 use Rattle.rh_tasks.specs.Finding.{Found}
 use Rattle.rh_tasks.proofs.Lists.{all-at}
 use Rattle.rh_tasks.proofs.Finding.{sits}
-use Rattle.rh_tasks.proofs.Looks.{looked-none, looked-at, buffer-missing, buffer-busy, buffer-idle}
+use Rattle.rh_tasks.proofs.Looks.{looked-none, looked-at, buffer-missing, buffer-busy}
 use Rattle.rh_tasks.proofs.seats.idle_heap.Goals as goal
 
 pub returns-in_err-i-clause-err : goal.returns-in_err-i-clause-err
 returns-in_err-i-clause-err g c =
     let p = err_from_is_err_and c.from_residual.result c.from_residual.ensures.1 in
     rw (p.1, p.2, c.in_err-i.ensures.err.0) (looked-none (idle_buffer c.args.address) _ _ _ c.in_err-i.ensures.err.1)
+
+pub returns-then-not-is_busy_buffer-clause-ok : goal.returns-then-not-is_busy_buffer-clause-ok
+returns-then-not-is_busy_buffer-clause-ok g c =
+    record {
+      owns = record { place = c.in_ok-i.i; seat = c.index-seat.result.now; found = record { at = c.in_ok-i.ensures.ok; is = sym c.index-seat.ensures }; slot_is = refl };
+      idle = sym c.is_busy_buffer.ensures ∙ c.if-not-is_busy_buffer.true;
+    }
 
 pub block_size-requires : goal.block_size-requires
 block_size-requires g c =
@@ -27,17 +34,9 @@ returns-in_err-block_size-clause-err g c =
     let f : Found c.args.name.now c.args.seats.now.items c.in_ok-i.i s = record { at = c.in_ok-i.ensures.ok; is = sym c.index-seat.ensures } in
     rw (p.1, p.2) (looked-at (idle_buffer c.args.address) m f (buffer-missing m s c.args.address c.in_err-block_size.ensures))
 
-pub returns-then-is_busy_buffer-clause-err : goal.returns-then-is_busy_buffer-clause-err
-returns-then-is_busy_buffer-clause-err g c =
+pub returns-clause-err : goal.returns-clause-err
+returns-clause-err g c =
     let m = g.S.Words.memory c.args.store.now in
     let s = c.index-seat.result.now in
     let f : Found c.args.name.now c.args.seats.now.items c.in_ok-i.i s = record { at = c.in_ok-i.ensures.ok; is = sym c.index-seat.ensures } in
-    looked-at (idle_buffer c.args.address) m f (buffer-busy m s c.args.address c.in_ok-block_size.ensures (sym c.is_busy_buffer.ensures ∙ c.if-is_busy_buffer.true))
-
-pub returns-clause-ok : goal.returns-clause-ok
-returns-clause-ok g c =
-    let m = g.S.Words.memory c.args.store.now in
-    let s = c.index-seat.result.now in record {
-      owns = record { place = c.in_ok-i.i; seat = s; found = record { at = c.in_ok-i.ensures.ok; is = sym c.index-seat.ensures }; slot_is = refl };
-      granted = buffer-idle m s c.args.address c.in_ok-block_size.ensures (sym c.is_busy_buffer.ensures ∙ c.if-is_busy_buffer.false);
-    }
+    looked-at (idle_buffer c.args.address) m f (buffer-busy m s c.args.address c.in_ok-block_size.ensures (sym c.is_busy_buffer.ensures ∙ c.if-not-is_busy_buffer.false))

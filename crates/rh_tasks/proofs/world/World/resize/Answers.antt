@@ -2,9 +2,12 @@ use Rattle.std.proofs.Common.{refl, ap, arith, w32}
 use Rattle.std.proofs.lemmas.Int.{to_z-of_z}
 use Rattle.std.proofs.lemmas.Result.{err_from_is_err_and}
 use Rattle.rh_defs.specs.declared.command.Command.TheVariants as command
+use Rattle.std.specs.Prelude.{None}
+use Rattle.rh_defs.specs.declared.heap.HeapRefusal.TheVariants.{NotABlock}
 use Rattle.rh_defs.specs.Slot.{slot_resize}
 use Rattle.rh_defs.specs.Desk.{idle_buffer}
 use Rattle.rh_defs.specs.Commands.{resize}
+use Rattle.rh_slot.proofs.CHeapLaws.{resize_refused}
 use Rattle.rh_tasks.specs.View.{kept_of, shown_of}
 use Rattle.rh_tasks.proofs.Moves.{owned}
 use Rattle.rh_tasks.proofs.Addresses.{grant-of, slot_resize-low}
@@ -24,7 +27,7 @@ unfolding resize
 returns-in_err-address g c =
     let p = err_from_is_err_and c.from_residual-in_err-address.result c.from_residual-in_err-address.ensures.1 in
     let same = ap (λ m. shown_of m c.self.inside.seats.items c.self.inside.made.items c.self.inside.files (kept_of c.self.inside.next c.self.inside.queue c.self.inside.scrap)) c.in_err-address.ensures.err in
-    rw (p.1, p.2, ← c.self.view_is) (moved-refused c.self.invariant.0 c.in_ok-slot.ensures.ok.owns (λ free. slot_resize free c.args.address c.args.delta) c.args.address c.in_ok-slot.ensures.ok.granted (rw (to_z-of_z w32 c.args.delta c.ranges.delta) at c.in_err-address.ensures), same)
+    rw (p.1, p.2, ← c.self.view_is) (moved-refused c.self.invariant.0 c.in_ok-slot.ensures.ok.owns (λ free. slot_resize free c.args.address c.args.delta) c.args.address c.in_ok-slot.ensures.ok.idle (λ e. resize_refused _ _ _ _ None NotABlock e refl) (rw (to_z-of_z w32 c.args.delta c.ranges.delta) at c.in_err-address.ensures), same)
 
 pub overflow_cast-result : goal.overflow_cast-result
 overflow_cast-result g c =
@@ -35,8 +38,8 @@ overflow_cast-result g c =
 pub invariant_of-self-2 : goal.invariant_of-self-2
 unfolding resize
 invariant_of-self-2 g c =
-    (moved-world c.self.invariant.0 c.in_ok-slot.ensures.ok.owns (λ free. slot_resize free c.args.address c.args.delta) c.args.address c.in_ok-slot.ensures.ok.granted (rw (to_z-of_z w32 c.args.delta c.ranges.delta) at c.in_ok-address.ensures) (command.Resize c.args.name.now c.args.address c.args.delta) refl c.requires, c.self.invariant.1, c.self.invariant.2)
+    (moved-world c.self.invariant.0 c.in_ok-slot.ensures.ok.owns (λ free. slot_resize free c.args.address c.args.delta) c.args.address c.in_ok-slot.ensures.ok.idle (λ e. resize_refused _ _ _ _ None NotABlock e refl) (rw (to_z-of_z w32 c.args.delta c.ranges.delta) at c.in_ok-address.ensures) (command.Resize c.args.name.now c.args.address c.args.delta) refl c.requires, c.self.invariant.1, c.self.invariant.2)
 
 pub returns : goal.returns
 unfolding resize
-returns g c = rw (← c.self.view_is) (moved-done c.self.invariant.0 c.in_ok-slot.ensures.ok.owns (λ free. slot_resize free c.args.address c.args.delta) c.args.address c.in_ok-slot.ensures.ok.granted (rw (to_z-of_z w32 c.args.delta c.ranges.delta) at c.in_ok-address.ensures))
+returns g c = rw (← c.self.view_is) (moved-done c.self.invariant.0 c.in_ok-slot.ensures.ok.owns (λ free. slot_resize free c.args.address c.args.delta) c.args.address c.in_ok-slot.ensures.ok.idle (λ e. resize_refused _ _ _ _ None NotABlock e refl) (rw (to_z-of_z w32 c.args.delta c.ranges.delta) at c.in_ok-address.ensures))

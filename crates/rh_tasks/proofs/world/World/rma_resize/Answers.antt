@@ -9,7 +9,7 @@ use Rattle.rh_tasks.specs.View.{kept_of, shown_of}
 use Rattle.rh_tasks.proofs.Addresses.{grant-of, module_resize-low}
 use Rattle.rh_tasks.proofs.Chains.{ends}
 use Rattle.rh_tasks.proofs.Leaves.{module-granted}
-use Rattle.rh_tasks.proofs.ModuleCommands.{resizes, own-is, area-refused, area-done, area-world}
+use Rattle.rh_tasks.proofs.ModuleCommands.{resizes, resize-none, own-is, area-refused, area-done, area-world}
 use Rattle.rh_tasks.proofs.world.World.rma_resize.Goals as goal
 
 pub returns-in_err-place : goal.returns-in_err-place
@@ -23,7 +23,7 @@ unfolding rma_resize
 returns-in_err-address g c =
     let p = err_from_is_err_and c.from_residual-in_err-address.result c.from_residual-in_err-address.ensures.1 in
     let same = ap (λ m. shown_of m c.self.inside.seats.items c.self.inside.made.items c.self.inside.files (kept_of c.self.inside.next c.self.inside.queue c.self.inside.scrap)) c.in_err-address.ensures.err in
-    rw (p.1, p.2, ← c.self.view_is) (own-is c.self.invariant.0 (λ free. module_resize free (c.args.address - module_start) c.args.delta) (λ a. reply.Block (module_start + a)) (resizes c.self.invariant.0 c.args.address (rw (← c.self.view_is) at c.in_ok-place.ensures.ok.1) c.args.delta) c.args.address (rw (← c.self.view_is) at c.in_ok-place.ensures.ok.1) ∙ area-refused c.self.invariant.0 (λ free. module_resize free (c.args.address - module_start) c.args.delta) (λ a. reply.Block (module_start + a)) (resizes c.self.invariant.0 c.args.address (rw (← c.self.view_is) at c.in_ok-place.ensures.ok.1) c.args.delta) (rw (c.in_ok-place.ensures.ok.0) at (rw (to_z-of_z w32 c.args.delta c.ranges.delta) at c.in_err-address.ensures)), same)
+    rw (p.1, p.2, ← c.self.view_is) (own-is c.self.invariant.0 (λ free. module_resize free (c.args.address - module_start) c.args.delta) (λ a. reply.Block (module_start + a)) (resizes c.self.invariant.0 c.args.address (rw (← c.self.view_is) at c.in_ok-place.ensures.ok.1) c.args.delta) c.args.address (rw (← c.self.view_is) at c.in_ok-place.ensures.ok.1) (resize-none _ _ _ _) ∙ area-refused c.self.invariant.0 (λ free. module_resize free (c.args.address - module_start) c.args.delta) (λ a. reply.Block (module_start + a)) (resizes c.self.invariant.0 c.args.address (rw (← c.self.view_is) at c.in_ok-place.ensures.ok.1) c.args.delta) (rw (c.in_ok-place.ensures.ok.0) at (rw (to_z-of_z w32 c.args.delta c.ranges.delta) at c.in_err-address.ensures)), same)
 
 pub overflow_add-result : goal.overflow_add-result
 overflow_add-result g c =
@@ -40,11 +40,11 @@ overflow_cast-result g c =
 pub invariant_of-self-2 : goal.invariant_of-self-2
 unfolding rma_resize
 invariant_of-self-2 g c = (
-  area-world c.self.invariant.0 (λ free. module_resize free (c.args.address - module_start) c.args.delta) (λ a. reply.Block (module_start + a)) (resizes c.self.invariant.0 c.args.address (rw (← c.self.view_is) at c.in_ok-place.ensures.ok.1) c.args.delta) (rw (c.in_ok-place.ensures.ok.0) at (rw (to_z-of_z w32 c.args.delta c.ranges.delta) at c.in_ok-address.ensures)) (command.RmaResize c.args.address c.args.delta) (own-is c.self.invariant.0 (λ free. module_resize free (c.args.address - module_start) c.args.delta) (λ a. reply.Block (module_start + a)) (resizes c.self.invariant.0 c.args.address (rw (← c.self.view_is) at c.in_ok-place.ensures.ok.1) c.args.delta) c.args.address (rw (← c.self.view_is) at c.in_ok-place.ensures.ok.1)) c.requires (g.met.S.Pages.whole c.resize.new.store 1),
+  area-world c.self.invariant.0 (λ free. module_resize free (c.args.address - module_start) c.args.delta) (λ a. reply.Block (module_start + a)) (resizes c.self.invariant.0 c.args.address (rw (← c.self.view_is) at c.in_ok-place.ensures.ok.1) c.args.delta) (rw (c.in_ok-place.ensures.ok.0) at (rw (to_z-of_z w32 c.args.delta c.ranges.delta) at c.in_ok-address.ensures)) (command.RmaResize c.args.address c.args.delta) (own-is c.self.invariant.0 (λ free. module_resize free (c.args.address - module_start) c.args.delta) (λ a. reply.Block (module_start + a)) (resizes c.self.invariant.0 c.args.address (rw (← c.self.view_is) at c.in_ok-place.ensures.ok.1) c.args.delta) c.args.address (rw (← c.self.view_is) at c.in_ok-place.ensures.ok.1) (resize-none _ _ _ _)) c.requires (g.met.S.Pages.whole c.resize.new.store 1),
   c.self.invariant.1,
   c.self.invariant.2,
 )
 
 pub returns : goal.returns
 unfolding rma_resize
-returns g c = rw (← c.self.view_is) (own-is c.self.invariant.0 (λ free. module_resize free (c.args.address - module_start) c.args.delta) (λ a. reply.Block (module_start + a)) (resizes c.self.invariant.0 c.args.address (rw (← c.self.view_is) at c.in_ok-place.ensures.ok.1) c.args.delta) c.args.address (rw (← c.self.view_is) at c.in_ok-place.ensures.ok.1) ∙ area-done c.self.invariant.0 (λ free. module_resize free (c.args.address - module_start) c.args.delta) (λ a. reply.Block (module_start + a)) (resizes c.self.invariant.0 c.args.address (rw (← c.self.view_is) at c.in_ok-place.ensures.ok.1) c.args.delta) (rw (c.in_ok-place.ensures.ok.0) at (rw (to_z-of_z w32 c.args.delta c.ranges.delta) at c.in_ok-address.ensures)))
+returns g c = rw (← c.self.view_is) (own-is c.self.invariant.0 (λ free. module_resize free (c.args.address - module_start) c.args.delta) (λ a. reply.Block (module_start + a)) (resizes c.self.invariant.0 c.args.address (rw (← c.self.view_is) at c.in_ok-place.ensures.ok.1) c.args.delta) c.args.address (rw (← c.self.view_is) at c.in_ok-place.ensures.ok.1) (resize-none _ _ _ _) ∙ area-done c.self.invariant.0 (λ free. module_resize free (c.args.address - module_start) c.args.delta) (λ a. reply.Block (module_start + a)) (resizes c.self.invariant.0 c.args.address (rw (← c.self.view_is) at c.in_ok-place.ensures.ok.1) c.args.delta) (rw (c.in_ok-place.ensures.ok.0) at (rw (to_z-of_z w32 c.args.delta c.ranges.delta) at c.in_ok-address.ensures)))

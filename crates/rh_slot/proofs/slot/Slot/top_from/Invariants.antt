@@ -3,7 +3,7 @@ use Rattle.std.proofs.Common.{◌-◌}
 use Rattle.rh_defs.specs.Slot.{slot_length}
 use Rattle.rh_slot.specs.Area.{slot_in}
 use Rattle.rh_slot.specs.Row.{Walked}
-use Rattle.rh_slot.proofs.slot.Slot.top.Given as goal
+use Rattle.rh_slot.proofs.slot.Slot.top_from.Given as goal
 
 abbrev pub invariant-walk : goal.invariant-walk
 invariant-walk g l = Walked (slot_in (g.S.Words.memory l.store) l.self) l.place
