@@ -4,12 +4,13 @@ use Rattle.std.proofs.lemmas.List.{append-nil}
 use Rattle.std.specs.Prelude.{Option, Some, None, ◌==◌}
 use Rattle.std.proofs.Common.{cond}
 use Rattle.std.specs.Option.{option_map}
-use Rattle.rh_defs.specs.Bytes.{word}
+use Rattle.rh_defs.specs.Bytes.{word, part}
 use Rattle.rh_defs.specs.Pieces.{total, Split, first_at, behind, NonePass}
 use Rattle.rh_defs.specs.Heap.{Segment, Used, Hole, Heap, IsTidy, size_of, base, is_block_at, block_at, segment_at}
 use Rattle.rh_defs.specs.HeapImage.{Stand, Spells}
 use Rattle.rh_defs.proofs.HeapLists.{HasRoom-from_tidy, HasRoom-append, total-append, tidy_before, tidy_front, tidy_behind_used, NonePass-append, first_at-none, first_at-found, eqb_same, eqb_apart}
 use Rattle.rh_defs.proofs.HeapLaws.{last_link-append, last_link-none, Stand-split, NextHole, next_hole}
+use Rattle.rh_defs.proofs.BytesLaws.{length-part, word-part}
 use Rattle.rh_heap.specs.Segments.{GapIs, no_gap, a_gap, Reached, HereIs, used_here, hole_here, Met, Around, Found, NoHole, hole_spot, FoundBlock}
 use Rattle.rh_heap.specs.declared.span.segments.Spot.{Spot}
 use Rattle.rh_heap.specs.declared.span.segments.Mark.{Mark}
@@ -251,54 +252,46 @@ used_turn b at h link low from place target s r n le lt =
     used_turn_at b at h link low from place n.next r r.rest refl s n.links off (omega arith)
 
 -- the walk stands where it began, or behind a used segment
-pub record UsedWalk (b : List ℕ) (at : ℕ) (h : Heap) (start : Mark) (target place size : ℕ) : Type 0 where
-  pub low_end : place ≤ target
-  pub read : size ≡ word b (at + place)
+pub record UsedWalk (at : ℕ) (h : Heap) (start : Mark) (target place : ℕ) : Type 0 where
+  pub up_to : place ≤ target
   pub reached : (place ≡ start.place) ⊎ Reached at h start.from place start.from place
 
-pub record UsedStep (b : List ℕ) (at : ℕ) (h : Heap) (start : Mark) (target place size : ℕ) : Type 0 where
+pub record UsedStep (at : ℕ) (h : Heap) (start : Mark) (target place size : ℕ) : Type 0 where
   pub least : 8 ≤ size
-  pub fits : place + size ≤ base h
-  pub on : Reached at h start.from (place + size) start.from (place + size)
+  pub passed : place + size ≤ target → UsedWalk at h start target (place + size)
 
-module _ (b : List ℕ) (at : ℕ) (h : Heap) (start : Mark) (target place size : ℕ) (s : Spells b at h) (r : Reached at h start.link start.low start.from start.place) (n : NoHole b at start.from target) (lt : target < base h)
-    (w : UsedWalk b at h start target place size) where
-  pub used_step : UsedStep b at h start target place size
-  used_step =
-      let low = w.low_end in
+module _ (b : List ℕ) (at : ℕ) (h : Heap) (start : Mark) (target : ℕ) (s : Spells b at h) (r : Reached at h start.link start.low start.from start.place) (n : NoHole b at start.from target) (lt : target < base h) where
+  pub used_step : (place size : ℕ) → UsedWalk at h start target place → size ≡ word b (at + place) → UsedStep at h start target place size
+  used_step place size w e =
+      let up = w.up_to in
       elim w.reached [
-        | inl e ↦
-            let t = used_turn b at h start.link start.low start.from place target s (subst (Reached at h start.link start.low start.from) (sym e) r) n low lt in
-            let m = t.met size w.read in
-            record { least = m.least; fits = m.size_fits; on = t.on size w.read }
+        | inl q ↦
+            let t = used_turn b at h start.link start.low start.from place target s (subst (Reached at h start.link start.low start.from) (sym q) r) n up lt in
+            record { least = (t.met size e).least; passed = λ l. record { up_to = l; reached = inr (t.on size e) } }
         | inr q ↦
-            let t = used_turn b at h start.from place start.from place target s q n low lt in
-            let m = t.met size w.read in
-            record { least = m.least; fits = m.size_fits; on = t.on size w.read }
+            let t = used_turn b at h start.from place start.from place target s q n up lt in
+            record { least = (t.met size e).least; passed = λ l. record { up_to = l; reached = inr (t.on size e) } }
       ]
 
-  pub used_next : (more : ℕ) → place + size ≤ target → more ≡ word b (at + (place + size)) → UsedWalk b at h start target (place + size) more
-  used_next more le e = record { low_end = le; read = e; reached = inr used_step.on }
+  -- where a walk stands that went through a slice of the bytes
+  pub step_in : (bytes : List ℕ) (k passed size : ℕ) → bytes ≡ part b (at + start.place) k → passed + 4 ≤ length bytes → size ≡ word bytes passed → UsedWalk at h start target (start.place + passed)
+      → UsedStep at h start target (start.place + passed) size
+  step_in bytes k passed size eb room e w =
+      let long : length bytes ≡ k = ap length eb ∙ length-part b (at + start.place) k in
+      used_step (start.place + passed) size w (e ∙ ap (λ l. word l passed) eb ∙ word-part b (at + start.place) k passed (omega arith) ∙ ap (word b) (omega arith))
 
-  pub next_room : place + size ≤ target → place + size + 8 ≤ base h
-  next_room le = (used_turn b at h start.from (place + size) start.from (place + size) target s used_step.on n le lt).room
+-- the mark of the walk to a place
+pub record MarkWalk (at : ℕ) (h : Heap) (from target : ℕ) (mark : Mark) : Type 0 where
+  pub reached : Reached at h mark.link mark.low mark.from mark.place
+  pub same : mark.from ≡ from
+  pub up_to : mark.place ≤ target
 
-  pub ends_at_start : place ≡ start.place → target < place + size → Around at h target (record { place = place; size = size; used = true; from = start.from; low = start.low; link = start.link })
-  ends_at_start e l = record {
-    met = (used_turn b at h start.link start.low start.from place target s (subst (Reached at h start.link start.low start.from) (sym e) r) n w.low_end lt).met size w.read;
-    from_on = w.low_end;
-    up_to = l;
-  }
+module _ (b : List ℕ) (at : ℕ) (h : Heap) (from target : ℕ) (mark : Mark) (s : Spells b at h) (n : NoHole b at from target) (lt : target < base h) (w : MarkWalk at h from target mark) where
+  pub none_on : NoHole b at mark.from target
+  none_on = subst (λ i. NoHole b at i target) (sym w.same) n
 
-  pub ends_behind : place ≢ start.place → target < place + size → Around at h target (record { place = place; size = size; used = true; from = start.from; low = place; link = start.from })
-  ends_behind ne l = record {
-    met = elim w.reached [
-      | inl e ↦ absurd (ne e)
-      | inr q ↦ (used_turn b at h start.from place start.from place target s q n w.low_end lt).met size w.read
-    ];
-    from_on = w.low_end;
-    up_to = l;
-  }
+  pub mark_turn : UsedTurn b at h mark.link mark.low mark.from mark.place
+  mark_turn = used_turn b at h mark.link mark.low mark.from mark.place target s w.reached none_on w.up_to lt
 
 -- ---- the end of the walk
 below_target : (target p : ℕ) (ss : List Segment) → HasRoom ss → p + total size_of ss ≤ target → NonePass size_of (λ q g. target == q) p ss

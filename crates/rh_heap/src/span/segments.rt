@@ -7,12 +7,13 @@ ghost use Rattle.rh_heap.specs.Spans.{IsSpan, bytes_in, heap_in};
 ghost use Rattle.rh_heap.specs.Segments.{Around, Found, FoundBlock, NoHole, Reached, piece};
 ghost use Rattle.rh_defs.specs.declared.sizes.TheConstants.{HEAP_FIRST};
 
+use crate::image::word_in;
 use crate::layout::{BLOCK, Segment};
 use crate::span::Span;
 use crate::span::holes::last_hole;
 use crate::span::words::read;
 use rh_defs::HeapRefusal;
-use rh_defs::sizes::{HEAP_BASE, HEAP_FIRST, HEAP_FREE, is_inside};
+use rh_defs::sizes::{HEAP_BASE, HEAP_FIRST, HEAP_FREE, WORD, is_inside};
 use rh_store::Words;
 
 /// A segment of a heap, its size in bytes, and whether it is used. The link before it is at `from`. A hole made
@@ -36,7 +37,43 @@ struct Mark {
     link: usize,
 }
 
-/// The segment round a place that no hole begins below or at, from a mark on: only used segments are passed.
+/// Passes used segments from a mark on, up to the one round a place: as far as the words of their sizes lie in the
+/// mark's page. No hole from the mark on begins below that place or at it.
+fn pass_in_page<S: Words>(store: &S, span: Span, mark: Mark, target: usize) -> Mark
+    requires span { IsSpan (S.memory store.now) span }
+    requires reached { Reached span.at (heap_in (S.memory store.now) span) mark.link mark.low mark.from mark.place }
+    requires no_hole { NoHole (bytes_in (S.memory store.now) span) span.at mark.from target }
+    requires above { mark.place ≤ target }
+    requires below { target < base (heap_in (S.memory store.now) span) }
+    ensures reached { Reached span.at (heap_in (S.memory store.now) span) result.link result.low result.from result.place }
+    ensures from { result.from ≡ mark.from }
+    ensures on { mark.place ≤ result.place }
+    ensures above { result.place ≤ target }
+{
+    let page = store.rest_of_page(span.area, span.at + mark.place);
+    let most = target - mark.place;
+    let mut passed = 0;
+    'walk: while passed + WORD <= page.len() {
+        let next = passed + word_in(page, passed);
+        if most < next {
+            break;
+        }
+        passed = next;
+    }
+    if passed == 0 {
+        return mark;
+    }
+    let place = mark.place + passed;
+    Mark {
+        place,
+        from: mark.from,
+        low: place,
+        link: mark.from,
+    }
+}
+
+/// The segment round a place, from a mark on. No hole from there on begins below that place or at it, so only used
+/// segments are passed.
 fn used_around<S: Words>(store: &S, span: Span, start: Mark, target: usize) -> Spot
     requires span { IsSpan (S.memory store.now) span }
     requires reached { Reached span.at (heap_in (S.memory store.now) span) start.link start.low start.from start.place }
@@ -45,29 +82,27 @@ fn used_around<S: Words>(store: &S, span: Span, start: Mark, target: usize) -> S
     requires below { target < base (heap_in (S.memory store.now) span) }
     ensures { Around span.at (heap_in (S.memory store.now) span) target result }
 {
-    let mut place = start.place;
-    let mut size = read(store, span, place);
-    'walk: while place + size <= target {
-        place += size;
-        size = read(store, span, place);
-    }
-    if place == start.place {
-        return Spot {
-            place,
-            size,
-            used: true,
-            from: start.from,
-            low: start.low,
-            link: start.link,
+    let mut mark = start;
+    'walk: loop {
+        let size = read(store, span, mark.place);
+        let end = mark.place + size;
+        if target < end {
+            return Spot {
+                place: mark.place,
+                size,
+                used: true,
+                from: mark.from,
+                low: mark.low,
+                link: mark.link,
+            };
+        }
+        let behind = Mark {
+            place: end,
+            from: mark.from,
+            low: end,
+            link: mark.from,
         };
-    }
-    Spot {
-        place,
-        size,
-        used: true,
-        from: start.from,
-        low: place,
-        link: start.from,
+        mark = pass_in_page(store, span, behind, target);
     }
 }
 
