@@ -33,7 +33,7 @@ piece_of size false (Used bs) before after place k p = elim k [ ]
 
 pub segment_answer : (at : ℕ) (h : Heap) (target : ℕ) (spot : Spot) → Found at h target spot → Some (record { place = spot.place; size = spot.size; used = spot.used }) ≡ option_map piece (segment_at target h)
 segment_answer at h target spot f =
-    piece_of spot.size spot.used f.here (f.reached.front ++ f.reached.gap) f.after spot.place f.here_is f.reached.place_is ∙ sym (ap (option_map piece) f.found)
+    piece_of spot.size spot.used f.met.here (f.met.reached.front ++ f.met.reached.gap) f.met.after spot.place f.met.here_is f.met.reached.place_is ∙ sym (ap (option_map piece) f.found)
 
 -- ---- room
 largest_hole-append : (xs ys : List Segment) → largest_hole (xs ++ ys) ≡ max (largest_hole xs) (largest_hole ys)

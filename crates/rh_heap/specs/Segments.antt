@@ -1,10 +1,11 @@
 -- Where a walk over a heap's segments has come to, and the segment that it found.
-use Rattle.std.specs.Prelude.{◌≡◌, ℕ, ◌+◌, ◌≤◌, ◌%◌, ◌==◌, Bool, true, false, List, [], ◌∷◌, ◌++◌, length, Some}
-use Rattle.rh_defs.specs.Pieces.{Split, total, NonePass}
+use Rattle.std.specs.Prelude.{◌≡◌, ◌≢◌, ℕ, ◌+◌, ◌<◌, ◌≤◌, ◌%◌, Bool, true, false, List, [], ◌∷◌, ◌++◌, length, Some}
+use Rattle.rh_defs.specs.Pieces.{Split, total}
 use Rattle.rh_defs.specs.Heap.{Segment, Used, Hole, Heap, IsTidy, size_of, base, place_after, block_at, segment_at}
 use Rattle.rh_heap.specs.declared.layout.Segment as layout
 use Rattle.rh_heap.specs.declared.span.segments.Spot.{Spot}
-use Rattle.rh_defs.specs.HeapParts.{last_link}
+use Rattle.rh_heap.specs.declared.span.holes.Gap.{Gap}
+use Rattle.rh_defs.specs.HeapParts.{last_link, LinksTo}
 use Rattle.rh_defs.specs.declared.sizes.TheConstants.{HEAP_FIRST, HEAP_FREE, HEAP_UNIT, WORD}
 use Rattle.rh_heap.specs.declared.layout.TheConstants.{BLOCK}
 
@@ -29,27 +30,48 @@ pub record Reached (at : ℕ) (h : Heap) (link low from place : ℕ) : Type 0 wh
   pub behind : from + WORD ≤ place
   pub inside : place ≤ base h
 
--- and none of them begins at the target
-pub record Walking (at : ℕ) (h : Heap) (target link low from place : ℕ) : Type 0 where
-  pub reached : Reached at h link low from place
-  pub none : NonePass size_of (λ p g. target == p) HEAP_FIRST (reached.front ++ reached.gap)
-
 -- a segment and its size
 pub data HereIs (size : ℕ) : Bool → Segment → Type 0 where
   used_here : (bytes : List ℕ) → size ≡ BLOCK + length bytes → HereIs size true (Used bytes)
   hole_here : (n : ℕ) → size ≡ n → HereIs size false (Hole n)
 
--- the segment at a place
-pub record Found (at : ℕ) (h : Heap) (target : ℕ) (spot : Spot) : Type 0 where
+-- the segment to which a walk has come
+pub record Met (at : ℕ) (h : Heap) (spot : Spot) : Type 0 where
   pub reached : Reached at h spot.link spot.low spot.from spot.place
   pub here : Segment
   pub after : List Segment
   pub rest_is : reached.rest ≡ here ∷ after
   pub here_is : HereIs spot.size spot.used here
-  pub place_is : spot.place ≡ target
-  pub found : segment_at target h ≡ Some (record { before = reached.front ++ reached.gap; here = here; after = after })
   pub size_fits : spot.place + spot.size ≤ base h
   pub least : HEAP_UNIT ≤ spot.size
+
+-- the segment round a place
+pub record Around (at : ℕ) (h : Heap) (target : ℕ) (spot : Spot) : Type 0 where
+  pub met : Met at h spot
+  pub from_on : spot.place ≤ target
+  pub up_to : target < spot.place + spot.size
+
+-- the segment at a place
+pub record Found (at : ℕ) (h : Heap) (target : ℕ) (spot : Spot) : Type 0 where
+  pub met : Met at h spot
+  pub place_is : spot.place ≡ target
+  pub found : segment_at target h ≡ Some (record { before = met.reached.front ++ met.reached.gap; here = met.here; after = met.after })
+
+-- no hole from the link at `from` on begins at the target or below it
+pub record NoHole (b : List ℕ) (at from target : ℕ) : Type 0 where
+  pub next : ℕ
+  pub links : LinksTo b at (at + from) next
+  pub beyond : next ≢ 0 → target < next
+
+-- a hole as a segment; no hole stands just before it
+abbrev pub hole_spot : Gap → Spot
+hole_spot gap = record { place = gap.place; size = gap.size; used = false; from = gap.from; low = gap.place; link = gap.from }
+
+-- the last hole that begins at the target or below it
+pub record LastHole (b : List ℕ) (at : ℕ) (h : Heap) (target : ℕ) (gap : Gap) : Type 0 where
+  pub met : Met at h (hole_spot gap)
+  pub from_on : gap.place ≤ target
+  pub no_more : NoHole b at gap.place target
 
 -- the segment of the block at an address
 pub record FoundBlock (at : ℕ) (h : Heap) (address : ℕ) (spot : Spot) : Type 0 where

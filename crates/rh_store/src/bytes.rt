@@ -53,6 +53,14 @@ pub fn copy_from(b: &[u8], at: usize, to: &mut [u8])
     to.copy_from_slice(&b[at..at + to.len()]);
 }
 
+/// The n bytes from an offset on.
+pub fn part_of(b: &[u8], at: usize, n: usize) -> &[u8]
+    requires { at + n ≤ length b.now }
+    ensures { result.now ≡ part b.now at n }
+{
+    &b[at..at + n]
+}
+
 /// Copies n bytes from an offset of one slice to an offset of another.
 pub fn copy_over(from: &[u8], at: usize, to: &mut [u8], at2: usize, n: usize)
     requires source { at + n ≤ length from.now }

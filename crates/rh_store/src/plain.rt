@@ -10,7 +10,7 @@ use crate::area::{
     Area, close_at, copy_at, first_closed, lengthen_at, open_at, put_at, set_word_at, shorten_at,
     slide_at, zero_at,
 };
-use crate::bytes::{copy_from, word_in};
+use crate::bytes::{copy_from, part_of, word_in};
 use crate::store::{AreaId, Pages, Store, StoreFault, Words};
 use rh_defs::sizes::{MAX_AREAS, MIN_PAGES, PAGE};
 use std::alloc::{AllocError, Global};
@@ -79,6 +79,10 @@ impl Words for PlainStore {
 
     fn copy_out(&self, id: AreaId, at: usize, to: &mut [u8]) {
         copy_from(&self.areas[id.0 as usize].bytes, at, to);
+    }
+
+    fn rest_of_page(&self, id: AreaId, at: usize) -> &[u8] {
+        part_of(&self.areas[id.0 as usize].bytes, at, PAGE - at % PAGE)
     }
 
     fn len(&self, id: AreaId) -> usize {

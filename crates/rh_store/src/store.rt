@@ -1,8 +1,8 @@
 //! Areas of bytes that are made of pages.
-ghost use Rattle.std.specs.Prelude.{◌≡◌, ℕ, ◌+◌, ◌*◌, ◌%◌, ◌^◌, ◌<◌, ◌≤◌, ◌↔◌, ◌⊎◌, length, replicate, IsTrue, IsNone, IfOk, OnErr, OnOk, IsErr, IsErrOf};
+ghost use Rattle.std.specs.Prelude.{◌≡◌, ℕ, ◌+◌, ◌-◌, ◌*◌, ◌%◌, ◌^◌, ◌<◌, ◌≤◌, ◌↔◌, ◌⊎◌, length, replicate, IsTrue, IsNone, IfOk, OnErr, OnOk, IsErr, IsErrOf};
 ghost use Rattle.rh_defs.specs.Bytes.{word, put, put_word, part};
 ghost use Rattle.rh_defs.specs.Memory.{Memory, IsOpen, Ledger, bytes, with_bytes, opened, closed, grown, shrunk, open_below};
-ghost use Rattle.rh_defs.specs.declared.sizes.TheConstants.{MAX_AREAS};
+ghost use Rattle.rh_defs.specs.declared.sizes.TheConstants.{MAX_AREAS, PAGE};
 
 use rh_defs::sizes::MAX_AREAS;
 use thiserror::Error;
@@ -70,6 +70,12 @@ pub trait Words {
         requires opened { IsOpen (memory self.now) id.0 }
         requires within { at + length to.old ≤ length (bytes (memory self.now) id.0) }
         ensures { to.new ≡ part (bytes (memory self.now) id.0) at (length to.old) };
+
+    /// The bytes of an area from an offset on, up to the end of the offset's page.
+    fn rest_of_page(&self, id: AreaId, at: usize) -> &[u8]
+        requires opened { IsOpen (memory self.now) id.0 }
+        requires within { at < length (bytes (memory self.now) id.0) }
+        ensures { result.now ≡ part (bytes (memory self.now) id.0) at (PAGE - at % PAGE) };
 
     /// An area's length in bytes.
     fn len(&self, id: AreaId) -> usize

@@ -4,6 +4,8 @@ ghost use Rattle.rh_defs.specs.Memory.{Memory, IsOpen, bytes};
 ghost use Rattle.rh_defs.specs.Heap.{hole_for, largest, free_bytes};
 ghost use Rattle.rh_heap.specs.Spans.{IsSpan, bytes_in, heap_in};
 ghost use Rattle.rh_heap.specs.Holes.{FoundHole};
+ghost use Rattle.rh_heap.specs.Segments.{LastHole, NoHole};
+ghost use Rattle.rh_defs.specs.declared.sizes.TheConstants.{HEAP_FIRST, HEAP_FREE};
 
 use crate::layout::{BLOCK, HOLE_SIZE};
 use crate::span::Span;
@@ -41,6 +43,32 @@ pub fn find<S: Words>(store: &S, span: Span, size: usize) -> Option<Gap>
         }
         from = place;
     }
+}
+
+/// The last hole that begins at a place or below it. The links alone are read, and that hole's size.
+pub fn last_hole<S: Words>(store: &S, span: Span, target: usize) -> Option<Gap>
+    requires span { IsSpan (S.memory store.now) span }
+    requires above { HEAP_FIRST ≤ target }
+    ensures { MatchOption result (NoHole (bytes_in (S.memory store.now) span) span.at HEAP_FREE target)
+        (λ gap. LastHole (bytes_in (S.memory store.now) span) span.at (heap_in (S.memory store.now) span) target gap) }
+{
+    let mut before = HEAP_FREE;
+    let mut last = HEAP_FREE;
+    let mut next = follow(store, span, last);
+    'walk: while next != 0 && next <= target {
+        before = last;
+        last = next;
+        next = follow(store, span, last);
+    }
+    if last == HEAP_FREE {
+        return None;
+    }
+    let size = read(store, span, last + HOLE_SIZE);
+    Some(Gap {
+        from: before,
+        place: last,
+        size,
+    })
 }
 
 /// The bytes of the largest block that a claim would be given, and the bytes of all holes and the top.

@@ -4,13 +4,16 @@ ghost use Rattle.std.specs.Option.{option_map};
 ghost use Rattle.rh_defs.specs.Memory.{Memory, IsOpen, bytes};
 ghost use Rattle.rh_defs.specs.Heap.{segment_at, block_at, block_around, block_size, base};
 ghost use Rattle.rh_heap.specs.Spans.{IsSpan, bytes_in, heap_in};
-ghost use Rattle.rh_heap.specs.Segments.{Found, FoundBlock, Walking, piece};
+ghost use Rattle.rh_heap.specs.Segments.{Around, Found, FoundBlock, NoHole, Reached, piece};
+ghost use Rattle.rh_defs.specs.declared.sizes.TheConstants.{HEAP_FIRST};
 
-use crate::layout::{BLOCK, HOLE_SIZE, Segment};
+use crate::image::word_in;
+use crate::layout::{BLOCK, Segment};
 use crate::span::Span;
-use crate::span::words::{follow, read};
+use crate::span::holes::last_hole;
+use crate::span::words::read;
 use rh_defs::HeapRefusal;
-use rh_defs::sizes::{HEAP_BASE, HEAP_FIRST, HEAP_FREE, is_inside};
+use rh_defs::sizes::{HEAP_BASE, HEAP_FIRST, HEAP_FREE, WORD, is_inside};
 use rh_store::Words;
 
 /// A segment of a heap, its size in bytes, and whether it is used. The link before it is at `from`. A hole made
@@ -25,41 +28,118 @@ pub struct Spot {
     pub link: usize,
 }
 
-/// The segment at the place to which a walk has come.
-fn spot_at<S: Words>(
-    store: &S,
-    span: Span,
+/// A place between two segments to which a walk has come, and the links and the hole before it, as of a [`Spot`].
+#[derive(Clone, Copy, Debug)]
+struct Mark {
     place: usize,
     from: usize,
     low: usize,
     link: usize,
-) -> Spot
+}
+
+/// Passes used segments from a mark on, up to the one round a place: as far as the words of their sizes lie in the
+/// mark's page. No hole from the mark on begins below that place or at it.
+fn pass_in_page<S: Words>(store: &S, span: Span, mark: Mark, target: usize) -> Mark
     requires span { IsSpan (S.memory store.now) span }
-    requires below { place < base (heap_in (S.memory store.now) span) }
-    requires walking { Walking span.at (heap_in (S.memory store.now) span) place link low from place }
-    ensures { Found span.at (heap_in (S.memory store.now) span) place result }
+    requires reached { Reached span.at (heap_in (S.memory store.now) span) mark.link mark.low mark.from mark.place }
+    requires no_hole { NoHole (bytes_in (S.memory store.now) span) span.at mark.from target }
+    requires above { mark.place ≤ target }
+    requires below { target < base (heap_in (S.memory store.now) span) }
+    ensures reached { Reached span.at (heap_in (S.memory store.now) span) result.link result.low result.from result.place }
+    ensures from { result.from ≡ mark.from }
+    ensures on { mark.place ≤ result.place }
+    ensures above { result.place ≤ target }
 {
-    if follow(store, span, from) == place {
-        let size = read(store, span, place + HOLE_SIZE);
-        Spot {
-            place,
-            size,
-            used: false,
-            from,
-            low,
-            link,
+    let page = store.rest_of_page(span.area, span.at + mark.place);
+    let most = target - mark.place;
+    let mut passed = 0;
+    'walk: while passed + WORD <= page.len() {
+        let next = passed + word_in(page, passed);
+        if most < next {
+            break;
         }
-    } else {
-        let size = read(store, span, place);
-        Spot {
-            place,
-            size,
-            used: true,
-            from,
-            low,
-            link,
-        }
+        passed = next;
     }
+    if passed == 0 {
+        return mark;
+    }
+    let place = mark.place + passed;
+    Mark {
+        place,
+        from: mark.from,
+        low: place,
+        link: mark.from,
+    }
+}
+
+/// The segment round a place, from a mark on. No hole from there on begins below that place or at it, so only used
+/// segments are passed.
+fn used_around<S: Words>(store: &S, span: Span, start: Mark, target: usize) -> Spot
+    requires span { IsSpan (S.memory store.now) span }
+    requires reached { Reached span.at (heap_in (S.memory store.now) span) start.link start.low start.from start.place }
+    requires no_hole { NoHole (bytes_in (S.memory store.now) span) span.at start.from target }
+    requires above { start.place ≤ target }
+    requires below { target < base (heap_in (S.memory store.now) span) }
+    ensures { Around span.at (heap_in (S.memory store.now) span) target result }
+{
+    let mut mark = start;
+    'walk: loop {
+        let size = read(store, span, mark.place);
+        let end = mark.place + size;
+        if target < end {
+            return Spot {
+                place: mark.place,
+                size,
+                used: true,
+                from: mark.from,
+                low: mark.low,
+                link: mark.link,
+            };
+        }
+        let behind = Mark {
+            place: end,
+            from: mark.from,
+            low: end,
+            link: mark.from,
+        };
+        mark = pass_in_page(store, span, behind, target);
+    }
+}
+
+/// The segment round a place below the base. The holes below it are passed by their links.
+fn segment_around<S: Words>(store: &S, span: Span, target: usize) -> Spot
+    requires span { IsSpan (S.memory store.now) span }
+    requires above { HEAP_FIRST ≤ target }
+    requires below { target < base (heap_in (S.memory store.now) span) }
+    ensures { Around span.at (heap_in (S.memory store.now) span) target result }
+{
+    let Some(gap) = last_hole(store, span, target) else {
+        let start = Mark {
+            place: HEAP_FIRST,
+            from: HEAP_FREE,
+            low: HEAP_FIRST,
+            link: HEAP_FREE,
+        };
+        return used_around(store, span, start, target);
+    };
+    let end = gap.place + gap.size;
+    if target < end {
+        return Spot {
+            place: gap.place,
+            size: gap.size,
+            used: false,
+            from: gap.from,
+            low: gap.place,
+            link: gap.from,
+        };
+    }
+    let behind = Mark {
+        place: end,
+        from: gap.place,
+        low: gap.place,
+        link: gap.from,
+    };
+    used_around(store, span, behind, target)
 }
 
 /// The segment that begins at a place.
@@ -68,32 +148,15 @@ pub fn find_segment<S: Words>(store: &S, span: Span, target: usize) -> Option<Sp
     ensures { MatchOption result (segment_at target (heap_in (S.memory store.now) span) ≡ None)
         (λ spot. Found span.at (heap_in (S.memory store.now) span) target spot) }
 {
-    if read(store, span, HEAP_BASE) <= target {
+    if target < HEAP_FIRST || read(store, span, HEAP_BASE) <= target {
         return None;
     }
-    let mut link = HEAP_FREE;
-    let mut low = HEAP_FIRST;
-    let mut from = HEAP_FREE;
-    let mut place = HEAP_FIRST;
-    'walk: while place < target {
-        let next = follow(store, span, from);
-        if next == place {
-            let size = read(store, span, place + HOLE_SIZE);
-            link = from;
-            low = place;
-            from = place;
-            place += size;
-        } else {
-            let size = read(store, span, place);
-            link = from;
-            place += size;
-            low = place;
-        }
+    let spot = segment_around(store, span, target);
+    if spot.place == target {
+        Some(spot)
+    } else {
+        None
     }
-    if place != target {
-        return None;
-    }
-    Some(spot_at(store, span, target, from, low, link))
 }
 
 /// The segment of the block at an address.
@@ -143,20 +206,9 @@ pub fn holds<S: Words>(store: &S, span: Span, address: usize, n: usize) -> bool
     requires { IsSpan (S.memory store.now) span }
     ensures { result ≡ is_some (block_around address n (heap_in (S.memory store.now) span)) }
 {
-    let base = read(store, span, HEAP_BASE);
-    let mut from = HEAP_FREE;
-    let mut place = HEAP_FIRST;
-    'walk: while place < base {
-        if follow(store, span, from) == place {
-            from = place;
-            place += read(store, span, place + HOLE_SIZE);
-        } else {
-            let size = read(store, span, place);
-            if is_inside(address, n, place + BLOCK, size - BLOCK) {
-                return true;
-            }
-            place += size;
-        }
+    if address < HEAP_FIRST + BLOCK || read(store, span, HEAP_BASE) + BLOCK <= address {
+        return false;
     }
-    false
+    let spot = segment_around(store, span, address - BLOCK);
+    spot.used && is_inside(address, n, spot.place + BLOCK, spot.size - BLOCK)
 }

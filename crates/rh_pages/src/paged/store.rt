@@ -89,6 +89,11 @@ impl Words for PagedStore {
         }
     }
 
+    fn rest_of_page(&self, id: AreaId, at: usize) -> &[u8] {
+        let start = self.spot(id, at);
+        self.region.bytes(start, PAGE - at % PAGE)
+    }
+
     fn len(&self, id: AreaId) -> usize {
         PAGE * self.areas[id.0 as usize].len()
     }

@@ -1,55 +1,27 @@
--- Each turn passes a segment or finds the block; at the base none is left.
-use Rattle.std.proofs.Common.{sym, arith}
-use Rattle.rh_heap.proofs.HoldLaws.{passed_start, hold, not_held}
+use Rattle.std.proofs.Common.{◌+◌, ◌-◌, sym, ap, ◌∙◌, arith}
+use Rattle.std.specs.Prelude.{◌&&◌}
+use Rattle.rh_defs.specs.Pieces.{is_inside}
+use Rattle.rh_heap.specs.Spans.{heap_in}
+use Rattle.rh_heap.proofs.HoldLaws.{held_below, held_above, held_here}
+use Rattle.rh_heap.proofs.span.segments.holds.Goals.{then-address-via-then-address, then-address-via-else-address+then-read-address}
 use Rattle.rh_heap.proofs.span.segments.holds.Goals as goal
 
-pub walk-init : goal.walk-init
-walk-init g c = passed_start _ _ _ _
+pub returns-then-address : goal.returns-then-address
+returns-then-address g c = elim c.then-address.branch [
+  | then-address-via-then-address w ↦ sym (held_below (heap_in (g.S.Words.memory c.args.store.now) c.args.span) _ _ w.if-address.true)
+  | then-address-via-else-address+then-read-address w ↦ sym (held_above _ _ _ _ _ _ c.requires.spells w.read.ensures.value w.if-read-address.true)
+]
 
-pub read-place-requires-clause-within : goal.read-place-requires-clause-within
-read-place-requires-clause-within g c =
-    let t = hold _ _ _ c.args.address c.args.n _ _ _ _ c.requires.spells c.walk.invariant c.read-base.ensures.value c.walk-test.true c.follow.ensures in
-    let s = c.requires.spells in
-    omega (arith, t.room, s.heap.fits, s.within)
+pub returns-then-spot : goal.returns-then-spot
+returns-then-spot g c =
+    let spot = c.segment_around-spot.result in
+    let least = c.if-address.false in
+    c.is_inside.ensures
+    ∙ sym (held_here _ _ _ c.args.n spot c.requires.spells.heap.tidy (omega arith) c.segment_around-spot.ensures ∙ ap (λ u. u && is_inside c.args.address c.args.n (spot.place + 4) (spot.size - 4)) c.if-spot.true)
 
-pub walk-smaller-then-follow-place : goal.walk-smaller-then-follow-place
-walk-smaller-then-follow-place g c =
-    let t = hold _ _ _ c.args.address c.args.n _ _ _ _ c.requires.spells c.walk.invariant c.read-base.ensures.value c.walk-test.true c.follow.ensures in
-    let n = t.hole c.if-follow-place.true _ c.read-place.ensures.value in
-    omega (arith, n.0, c.walk-test.true)
-
-pub walk-preserved-then-follow-place : goal.walk-preserved-then-follow-place
-walk-preserved-then-follow-place g c =
-    let t = hold _ _ _ c.args.address c.args.n _ _ _ _ c.requires.spells c.walk.invariant c.read-base.ensures.value c.walk-test.true c.follow.ensures in
-    (t.hole c.if-follow-place.true _ c.read-place.ensures.value).2
-
-pub read-size-requires-clause-within : goal.read-size-requires-clause-within
-read-size-requires-clause-within g c =
-    let t = hold _ _ _ c.args.address c.args.n _ _ _ _ c.requires.spells c.walk.invariant c.read-base.ensures.value c.walk-test.true c.follow.ensures in
-    let s = c.requires.spells in
-    omega (arith, t.room, s.heap.fits, s.within)
-
-pub overflow_sub-size : goal.overflow_sub-size
-overflow_sub-size g c =
-    let t = hold _ _ _ c.args.address c.args.n _ _ _ _ c.requires.spells c.walk.invariant c.read-base.ensures.value c.walk-test.true c.follow.ensures in
-    let n = t.used c.if-follow-place.false _ c.read-size.ensures.value in
-    omega (arith, n.0)
-
-pub returns-then-is_inside : goal.returns-then-is_inside
-returns-then-is_inside g c =
-    let t = hold _ _ _ c.args.address c.args.n _ _ _ _ c.requires.spells c.walk.invariant c.read-base.ensures.value c.walk-test.true c.follow.ensures in
-    sym (t.inside c.if-follow-place.false _ c.read-size.ensures.value (sym c.if-is_inside.ensures))
-
-pub walk-smaller : goal.walk-smaller
-walk-smaller g c =
-    let t = hold _ _ _ c.args.address c.args.n _ _ _ _ c.requires.spells c.walk.invariant c.read-base.ensures.value c.walk-test.true c.follow.ensures in
-    let n = t.used c.if-follow-place.false _ c.read-size.ensures.value in
-    omega (arith, n.0, c.walk-test.true)
-
-pub walk-preserved : goal.walk-preserved
-walk-preserved g c =
-    let t = hold _ _ _ c.args.address c.args.n _ _ _ _ c.requires.spells c.walk.invariant c.read-base.ensures.value c.walk-test.true c.follow.ensures in
-    t.past c.if-follow-place.false _ c.read-size.ensures.value (sym c.if-is_inside.ensures)
-
-pub returns : goal.returns
-returns g c = sym (not_held _ _ _ _ _ _ _ _ c.requires.spells c.walk.invariant c.read-base.ensures.value c.walk-test.false)
+pub returns-else-spot : goal.returns-else-spot
+returns-else-spot g c =
+    let spot = c.segment_around-spot.result in
+    let least = c.if-address.false in
+    c.if-spot.false
+    ∙ sym (held_here _ _ _ c.args.n spot c.requires.spells.heap.tidy (omega arith) c.segment_around-spot.ensures ∙ ap (λ u. u && is_inside c.args.address c.args.n (spot.place + 4) (spot.size - 4)) c.if-spot.false)
