@@ -14,6 +14,17 @@ pub struct BlockItem {
     pub size: u32,
 }
 
+impl Default for BlockItem {
+    /// No block, as none is at address 0.
+    fn default() -> BlockItem {
+        BlockItem {
+            anchor: Anchor(0),
+            address: 0,
+            size: 0,
+        }
+    }
+}
+
 /// A segment of a C heap as `heap` lists it.
 #[derive(Clone, Copy, Debug, PartialEq, Eq)]
 pub enum SegmentItem {
@@ -21,6 +32,16 @@ pub enum SegmentItem {
     Used { address: u32, size: u32 },
     /// A hole: the address of its first byte, and its whole size in bytes.
     Hole { address: u32, size: u32 },
+}
+
+impl Default for SegmentItem {
+    /// A hole of no bytes, as no heap has one.
+    fn default() -> SegmentItem {
+        SegmentItem::Hole {
+            address: 0,
+            size: 0,
+        }
+    }
 }
 
 /// An area or a slot as `areas` lists it.

@@ -14,3 +14,4 @@ pub mod MoveLaws
 pub mod ChangeLaws
 pub mod SpanLaws
 pub mod CallLaws
+pub mod ListLaws

@@ -2,6 +2,7 @@ pub mod Calls
 pub mod Claims
 pub mod Holes
 pub mod Image
+pub mod Listed
 pub mod Segments
 pub mod Spans
 pub mod Stretches

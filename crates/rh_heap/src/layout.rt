@@ -13,7 +13,7 @@ pub const HOLE_HEADER: usize = 2 * WORD;
 
 /// A segment of a heap: its place and size in bytes from the heap's first one, and whether it is used.
 /// A used segment's block begins a word behind its place.
-#[derive(Clone, Copy, Debug, PartialEq, Eq)]
+#[derive(Clone, Copy, Debug, Default, PartialEq, Eq)]
 pub struct Segment {
     pub place: usize,
     pub size: usize,

@@ -9,6 +9,7 @@ pub use image::{SegmentIter, Summary, check, segments};
 pub use layout::Segment;
 pub use span::claim::{claim, need};
 pub use span::holes::describe;
+pub use span::list::{SEGMENTS_AT_ONCE, segments_from};
 pub use span::release::release;
 pub use span::resize::{resize, resize_need};
 pub use span::segments::{block_size, holds, segment};

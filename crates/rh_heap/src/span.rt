@@ -10,6 +10,7 @@ ghost use Rattle.rh_defs.specs.declared.sizes.TheConstants.{HEAP_FIRST, HEAP_UNI
 
 pub mod claim;
 pub mod holes;
+pub mod list;
 pub mod release;
 pub mod resize;
 pub mod segments;

@@ -1,6 +1,6 @@
 -- What a desk's readers give, in terms of what is printed of a named task's slot.
 use Rattle.std.proofs.Common.{◌≡◌, ℕ, ◌+◌, ◌≤◌, ◌<◌, ◌^◌, Bool, true, false, cond, List, [], ◌∷◌, length, take, drop, Option, Some, None, Result, Ok, Err, refl, sym, ap, ◌∙◌, arith}
-use Rattle.std.specs.Prelude.{MatchResult, nat_lt, ◌==◌, slice_get, find}
+use Rattle.std.specs.Prelude.{MatchResult, nat_lt, ◌==◌, find}
 use Rattle.std.specs.List.{AllByRecursion}
 use Rattle.std.specs.Option.{option_map}
 use borrow.Author.Tests.{tests}
@@ -10,90 +10,54 @@ use Rattle.rh_defs.specs.declared.listing.BlockItem.{BlockItem}
 use Rattle.rh_defs.specs.declared.listing.SegmentItem.{SegmentItem}
 use Rattle.rh_defs.specs.Chain.{Granted, ◌>>=◌, ◌>>◌, refuse_if, found_or}
 use Rattle.rh_defs.specs.Pieces.{Split, behind, first_at, total}
-use Rattle.rh_defs.specs.Heap.{largest, free_bytes, segment_at}
 use Rattle.rh_defs.specs.Laws.{IsDesk}
-use Rattle.rh_defs.specs.Slot.{Slot, Flex, slot_pages, slot_length, IsSlot, HaveAnchors, weight, heap_start, flex_start, block_of, slot_block}
+use Rattle.rh_defs.specs.Slot.{Slot, Flex, slot_pages, slot_length, IsSlot, HaveAnchors, weight, flex_start, block_of, slot_block}
 use Rattle.rh_defs.specs.Desk.{Desk, Task, task_pages, has_name, named}
-use Rattle.rh_defs.specs.Listing.{block_items_from, block_items, blocks_at, heap_at, shown_at, segment_item, bytes_in}
-use Rattle.rh_script.specs.Named.{slot_in, slot_named, blocks_of_named, heap_of_named, segment_of_named, bytes_of_named}
+use Rattle.rh_defs.specs.Listing.{block_items, shown_at, bytes_in}
+use Rattle.rh_tasks.specs.Lists.{segment_items_at, blocks_of, segments_of}
+use Rattle.rh_script.specs.Named.{slot_in, slot_named, blocks_of_named, heap_of_named, bytes_of_named}
 
 -- ---- flex blocks
 
--- there is an item for each block
-length-block_items_from : (place : ℕ) (blocks : List Flex) → length (block_items_from place blocks) ≡ length blocks
-length-block_items_from place [] = refl
-length-block_items_from place (b ∷ blocks) =
-    let rest = length-block_items_from (place + weight b) blocks in omega (arith, rest)
-
--- what is read of a list of blocks: their number and item i, or a refusal where there is none
-abbrev pub ReadsBlocks : Granted (ℕ × Option BlockItem) → List BlockItem → ℕ → Type 0
-ReadsBlocks given items i =
-    MatchResult given (λ p. (length items ≡ p.0) × (p.1 ≡ slice_get items i)) (λ e. items ≡ [])
-
-blocks_of_task : (found : Option Task) (i : ℕ) → ReadsBlocks (found_or found NoName >>= (λ t. Ok (length t.slot.blocks, slice_get (block_items t.slot) i))) (block_items (slot_in found)) i
+given_blocks : (found : Option Task) (items : List BlockItem) → (found_or found NoName >>= (λ t. (let r : Granted (List BlockItem) = Ok (block_items t.slot) in r))) ≡ Ok items → items ≡ block_items (slot_in found)
 unfolding found_or ◌>>=◌
-blocks_of_task None i = refl
-blocks_of_task (Some t) i = (length-block_items_from (flex_start t.slot) t.slot.blocks, refl)
+given_blocks None items e = absurd (cc)
+given_blocks (Some t) items e = cc
 
-reads_blocks : (d : Desk) (name : List ℕ) (i : ℕ) → ReadsBlocks (blocks_at d name i) (blocks_of_named name d) i
-unfolding blocks_at named
-reads_blocks d name i = blocks_of_task (find (has_name name) d.tasks) i
+refused_blocks : (found : Option Task) (f : Refusal) → (found_or found NoName >>= (λ t. (let r : Granted (List BlockItem) = Ok (block_items t.slot) in r))) ≡ Err f → [] ≡ block_items (slot_in found)
+unfolding found_or ◌>>=◌
+refused_blocks None f e = refl
+refused_blocks (Some t) f e = absurd (cc)
 
-item_of_blocks : (given : Granted (ℕ × Option BlockItem)) (items : List BlockItem) (i n : ℕ) (item : Option BlockItem) → Ok (n, item) ≡ given → ReadsBlocks given items i → (item ≡ slice_get items i) × (length items ≡ n)
-item_of_blocks (Ok p) items i n item e r = (cc, cc)
-item_of_blocks (Err f) items i n item e r = absurd (cc)
-
-none_of_blocks : (given : Granted (ℕ × Option BlockItem)) (items : List BlockItem) (i : ℕ) (f : Refusal) → Err f ≡ given → ReadsBlocks given items i → items ≡ []
-none_of_blocks (Ok p) items i f e r = absurd (cc)
-none_of_blocks (Err g) items i f e r = r
-
--- the item that is answered, and the number of all
-pub block_read : (d : Desk) (name : List ℕ) (i n : ℕ) (item : Option BlockItem) → Ok (n, item) ≡ blocks_at d name i → (item ≡ slice_get (blocks_of_named name d) i) × (length (blocks_of_named name d) ≡ n)
-block_read d name i n item e = item_of_blocks (blocks_at d name i) _ i n item e (reads_blocks d name i)
+-- the items that are answered
+pub blocks_read : (d : Desk) (name : List ℕ) (items : List BlockItem) → blocks_of d name ≡ Ok items → items ≡ blocks_of_named name d
+unfolding blocks_of named
+blocks_read d name items e = given_blocks (find (has_name name) d.tasks) items e
 
 -- a refusal says that there is none
-pub no_blocks : (d : Desk) (name : List ℕ) (i : ℕ) (f : Refusal) → Err f ≡ blocks_at d name i → blocks_of_named name d ≡ []
-no_blocks d name i f e = none_of_blocks (blocks_at d name i) _ i f e (reads_blocks d name i)
+pub no_blocks : (d : Desk) (name : List ℕ) (f : Refusal) → blocks_of d name ≡ Err f → [] ≡ blocks_of_named name d
+unfolding blocks_of named
+no_blocks d name f e = refused_blocks (find (has_name name) d.tasks) f e
 
 -- ---- the C heap
 
--- what is read of a C heap: its end and the segment at a place, or a refusal where there is no such task
-abbrev pub ReadsHeap : Granted ((ℕ × ℕ × ℕ) × Option SegmentItem) → List ℕ → Desk → ℕ → Type 0
-ReadsHeap given name d place =
-    MatchResult given (λ p. ((heap_of_named name d).end ≡ p.0.0) × (p.1 ≡ segment_of_named name place d)) (λ e. ((heap_of_named name d).end ≡ 16) × (None ≡ segment_of_named name place d))
-
-abbrev heap_asked : ℕ → Task → Granted ((ℕ × ℕ × ℕ) × Option SegmentItem)
-heap_asked place t = Ok (
-  (t.slot.heap.end, largest t.slot.heap, free_bytes t.slot.heap),
-  option_map (λ s. segment_item (heap_start + place) s.here) (segment_at place t.slot.heap),
-)
-
-abbrev HeapOf : Granted ((ℕ × ℕ × ℕ) × Option SegmentItem) → Slot → ℕ → Type 0
-HeapOf given s place =
-    MatchResult given (λ p. (s.heap.end ≡ p.0.0) × (p.1 ≡ option_map (λ c. segment_item (heap_start + place) c.here) (segment_at place s.heap))) (λ e. (s.heap.end ≡ 16) × (None ≡ option_map (λ c. segment_item (heap_start + place) c.here) (segment_at place s.heap)))
-
-heap_of_task : (found : Option Task) (place : ℕ) → HeapOf (found_or found NoName >>= heap_asked place) (slot_in found) place
+given_segments : (found : Option Task) (place : ℕ) (items : List SegmentItem) → (found_or found NoName >>= (λ t. (let r : Granted (List SegmentItem) = Ok (segment_items_at place t.slot.heap) in r))) ≡ Ok items → items ≡ segment_items_at place (slot_in found).heap
 unfolding found_or ◌>>=◌
-heap_of_task None place = (refl, refl)
-heap_of_task (Some t) place = (refl, refl)
+given_segments None place items e = absurd (cc)
+given_segments (Some t) place items e = cc
 
-reads_heap : (d : Desk) (name : List ℕ) (place : ℕ) → ReadsHeap (heap_at d name place) name d place
-unfolding heap_at named
-reads_heap d name place = heap_of_task (find (has_name name) d.tasks) place
+refused_segments : (found : Option Task) (place : ℕ) (f : Refusal) → (found_or found NoName >>= (λ t. (let r : Granted (List SegmentItem) = Ok (segment_items_at place t.slot.heap) in r))) ≡ Err f → [] ≡ segment_items_at place (slot_in found).heap
+unfolding found_or ◌>>=◌
+refused_segments None place f e = refl
+refused_segments (Some t) place f e = absurd (cc)
 
-item_of_heap : (given : Granted ((ℕ × ℕ × ℕ) × Option SegmentItem)) (name : List ℕ) (d : Desk) (place : ℕ) (sums : ℕ × ℕ × ℕ) (item : Option SegmentItem) → Ok (sums, item) ≡ given → ReadsHeap given name d place → ((heap_of_named name d).end ≡ sums.0) × (item ≡ segment_of_named name place d)
-item_of_heap (Ok p) name d place sums item e r = (cc, cc)
-item_of_heap (Err f) name d place sums item e r = absurd (cc)
+pub segments_read : (d : Desk) (name : List ℕ) (place : ℕ) (items : List SegmentItem) → segments_of d name place ≡ Ok items → items ≡ segment_items_at place (heap_of_named name d)
+unfolding segments_of named
+segments_read d name place items e = given_segments (find (has_name name) d.tasks) place items e
 
-none_of_heap : (given : Granted ((ℕ × ℕ × ℕ) × Option SegmentItem)) (name : List ℕ) (d : Desk) (place : ℕ) (f : Refusal) → Err f ≡ given → ReadsHeap given name d place → ((heap_of_named name d).end ≡ 16) × (None ≡ segment_of_named name place d)
-none_of_heap (Ok p) name d place f e r = absurd (cc)
-none_of_heap (Err g) name d place f e r = r
-
-pub segment_read : (d : Desk) (name : List ℕ) (place : ℕ) (sums : ℕ × ℕ × ℕ) (item : Option SegmentItem) → Ok (sums, item) ≡ heap_at d name place → ((heap_of_named name d).end ≡ sums.0) × (item ≡ segment_of_named name place d)
-segment_read d name place sums item e = item_of_heap (heap_at d name place) name d place sums item e (reads_heap d name place)
-
-pub no_segment : (d : Desk) (name : List ℕ) (place : ℕ) (f : Refusal) → Err f ≡ heap_at d name place → ((heap_of_named name d).end ≡ 16) × (None ≡ segment_of_named name place d)
-no_segment d name place f e = none_of_heap (heap_at d name place) name d place f e (reads_heap d name place)
+pub no_segments : (d : Desk) (name : List ℕ) (place : ℕ) (f : Refusal) → segments_of d name place ≡ Err f → [] ≡ segment_items_at place (heap_of_named name d)
+unfolding segments_of named
+no_segments d name place f e = refused_segments (find (has_name name) d.tasks) place f e
 
 -- ---- what holds of the slot
 
@@ -122,16 +86,6 @@ found_pages p (t ∷ tasks) = go (p t) (found_pages p tasks)
 -- no slot is longer than the pool
 pub named_is_short : (name : List ℕ) (d : Desk) → IsDesk d → slot_length (slot_named name d) < 2 ^ 23
 named_is_short name d is = omega (arith, found_pages (has_name name) d.tasks, is.pages, is.pool)
-
-weighs_some : (blocks : List Flex) → length blocks ≤ total weight blocks
-weighs_some [] = omega arith
-weighs_some (b ∷ blocks) = omega (arith, weighs_some blocks)
-
--- so its blocks are few
-pub named_has_few : (name : List ℕ) (d : Desk) → IsDesk d → length (blocks_of_named name d) < 2 ^ 32
-named_has_few name d is =
-    let s = slot_named name d in
-    omega (arith, named_is_short name d is, weighs_some s.blocks, length-block_items_from (flex_start s) s.blocks)
 
 -- ---- a block's bytes
 

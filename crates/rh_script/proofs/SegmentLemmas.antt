@@ -1,7 +1,8 @@
 -- The segments of a heap, place by place.
-use Rattle.std.proofs.Common.{◌≡◌, ℕ, ◌+◌, ◌≤◌, ◌<◌, Bool, true, false, cond, List, [], ◌∷◌, ◌++◌, Option, Some, None, refl, sym, ap, subst, ◌∙◌, arith, append_assoc, append-nil}
-use Rattle.std.specs.Prelude.{◌==◌, Result, Err}
+use Rattle.std.proofs.Common.{◌≡◌, ℕ, zero, suc, ◌+◌, ◌-◌, ◌≤◌, ◌<◌, Bool, true, false, cond, List, [], ◌∷◌, ◌++◌, length, take, drop, Option, Some, None, refl, sym, ap, subst, ◌∙◌, arith, append_assoc, append-nil}
+use Rattle.std.specs.Prelude.{◌==◌, Result, Err, slice_get}
 use Rattle.std.specs.Result.{IsErr}
+use Rattle.std.proofs.lemmas.List.{take-append-drop}
 use Rattle.std.proofs.lemmas.Grind.{flat_map-append}
 use Rattle.std.specs.List.{AllByRecursion, flat_map}
 use Rattle.std.specs.Option.{option_map}
@@ -15,7 +16,9 @@ use Rattle.rh_defs.specs.Text.{segment_line}
 use Rattle.rh_defs.proofs.Cuts.{total-append}
 use Rattle.rh_lines.specs.Flow.{Output, Takes, Breaks, Puts}
 use Rattle.rh_lines.proofs.FlowLemmas.{takes_none, takes_more, takes_breaks, breaks_before, puts_stops}
-use Rattle.rh_script.specs.Named.{item_length}
+use Rattle.rh_heap.specs.Listed.{from_cut}
+use Rattle.rh_tasks.specs.Lists.{segment_items_at}
+use Rattle.rh_script.specs.Named.{item_end}
 
 -- ---- the segment at a place
 
@@ -34,35 +37,23 @@ sized-front : (xs ys : List Segment) → AllSized (xs ++ ys) → AllSized xs
 sized-front [] ys all = tt
 sized-front (x ∷ xs) ys all = (all.0, sized-front xs ys all.1)
 
--- the first of some segments
-abbrev pub foremost : List Segment → Option Segment
-foremost [] = None
-foremost (g ∷ segments) = Some g
+from_cut-behind : (x : Segment) (o : Option (Split Segment)) → from_cut (option_map (behind x) o) ≡ from_cut o
+from_cut-behind x None = refl
+from_cut-behind x (Some s) = refl
 
-abbrev here : Split Segment → Segment
-here s = s.here
-
-here-behind : (x : Segment) (o : Option (Split Segment)) → option_map here (option_map (behind x) o) ≡ option_map here o
-here-behind x None = refl
-here-behind x (Some s) = refl
-
--- behind some segments stands the next one
-at_place : (start place : ℕ) (before after : List Segment) → AllSized before → place ≡ start + total size_of before → option_map here (first_at size_of (λ q g. place == q) start (before ++ after)) ≡ foremost after
+-- behind some segments stand the next ones
+at_place : (start place : ℕ) (before after : List Segment) → AllSized before → place ≡ start + total size_of before → from_cut (first_at size_of (λ q g. place == q) start (before ++ after)) ≡ after
 at_place start place [] [] all e = refl
 at_place start place [] (g ∷ after) all e = go (place == start) refl
   where
-    go : (b : Bool) → (place == start) ≡ b → option_map here (cond b (Some (record { before = []; here = g; after = after })) (option_map (behind g) (first_at size_of (λ q x. place == q) (start + size_of g) after))) ≡ Some g
+    go : (b : Bool) → (place == start) ≡ b → from_cut (cond b (Some (record { before = []; here = g; after = after })) (option_map (behind g) (first_at size_of (λ q x. place == q) (start + size_of g) after))) ≡ g ∷ after
     go true k = refl
     go false k = absurd (grind (arith, tests))
 at_place start place (x ∷ xs) after all e = go (place == start) refl (at_place (start + size_of x) place xs after all.1 (omega arith))
   where
-    go : (b : Bool) → (place == start) ≡ b → option_map here (first_at size_of (λ q g. place == q) (start + size_of x) (xs ++ after)) ≡ foremost after → option_map here (cond b (Some (record { before = []; here = x; after = xs ++ after })) (option_map (behind x) (first_at size_of (λ q g. place == q) (start + size_of x) (xs ++ after)))) ≡ foremost after
+    go : (b : Bool) → (place == start) ≡ b → from_cut (first_at size_of (λ q g. place == q) (start + size_of x) (xs ++ after)) ≡ after → from_cut (cond b (Some (record { before = []; here = x; after = xs ++ after })) (option_map (behind x) (first_at size_of (λ q g. place == q) (start + size_of x) (xs ++ after)))) ≡ after
     go true k h = let low : 0 < size_of x = all.0 in absurd (grind (arith, tests))
-    go false k h = here-behind x (first_at size_of (λ q g. place == q) (start + size_of x) (xs ++ after)) ∙ h
-
-map-here : {A : Type 0} (f : Segment → A) (o : Option (Split Segment)) → option_map (λ s. f s.here) o ≡ option_map f (option_map here o)
-map-here f None = refl
-map-here f (Some s) = refl
+    go false k h = from_cut-behind x (first_at size_of (λ q g. place == q) (start + size_of x) (xs ++ after)) ∙ h
 
 -- ---- the walk
 
@@ -72,9 +63,33 @@ items_append p (x ∷ xs) ys =
     let same : p + size_of x + total size_of xs ≡ p + (size_of x + total size_of xs) = omega arith in
     ap (λ z. segment_item p x ∷ z) (items_append (p + size_of x) xs ys ∙ ap (λ n. segment_items_from (p + size_of x) xs ++ segment_items_from n ys) same)
 
-item-length : (p : ℕ) (g : Segment) → item_length (segment_item p g) ≡ size_of g
-item-length p (Used bytes) = omega arith
-item-length p (Hole n) = refl
+items_taken : (n p : ℕ) (gs : List Segment) → take n (segment_items_from p gs) ≡ segment_items_from p (take n gs)
+items_taken zero p gs = refl
+items_taken (suc n) p [] = refl
+items_taken (suc n) p (g ∷ gs) = ap (λ z. segment_item p g ∷ z) (items_taken n (p + size_of g) gs)
+
+item_ends : (p : ℕ) (g : Segment) → item_end (segment_item p g) ≡ p + size_of g
+item_ends p (Used bytes) = omega arith
+item_ends p (Hole n) = refl
+
+-- the last of some segments ends where they all do
+last_at : (p : ℕ) (g : Segment) (gs : List Segment) (x : SegmentItem) → Some x ≡ slice_get (segment_items_from p (g ∷ gs)) (length (segment_items_from (p + size_of g) gs)) → item_end x ≡ p + total size_of (g ∷ gs)
+last_at p g [] x e =
+    let is : x ≡ segment_item p g = cc in
+    omega (arith, ap item_end is, item_ends p g)
+last_at p g (f ∷ gs) x e = omega (arith, last_at (p + size_of g) f gs x e)
+
+last_ends : (p : ℕ) (gs : List Segment) (x : SegmentItem) → Some x ≡ slice_get (segment_items_from p gs) (length (segment_items_from p gs) - 1) → item_end x ≡ p + total size_of gs
+last_ends p [] x e = absurd (cc)
+last_ends p (g ∷ gs) x e = last_at p g gs x (e ∙ ap (slice_get (segment_items_from p (g ∷ gs))) (omega arith))
+
+last_is : {A : Type 0} (x : A) (xs : List A) → None ≡ slice_get (x ∷ xs) (length xs) → x ∷ xs ≡ []
+last_is x [] e = absurd (cc)
+last_is x (y ∷ xs) e = let none = last_is y xs e in absurd (cc)
+
+none_last : {A : Type 0} (xs : List A) → None ≡ slice_get xs (length xs - 1) → xs ≡ []
+none_last [] e = refl
+none_last (x ∷ xs) e = last_is x xs (e ∙ ap (slice_get (x ∷ xs)) (omega arith))
 
 -- the lines of segments that begin at the heap's first place
 abbrev pub lines : List Segment → List ℕ
@@ -92,104 +107,97 @@ pub walk_none : (segments : List Segment) (o : Output) → Walked segments 16 o 
 walk_none segments o = record { before = []; after = segments; whole = refl; stands = refl; written = takes_none o }
 
 -- what is read at the place
-pub item_there : (h : Heap) (place : ℕ) {o n : Output} → IsHeap h → (w : Walked h.segments place o n) → option_map (λ s. segment_item (heap_start + place) s.here) (segment_at place h) ≡ option_map (segment_item (heap_start + place)) (foremost w.after)
-item_there h place is w =
+there : (h : Heap) (place : ℕ) {o n : Output} (items : List SegmentItem) → IsHeap h → (w : Walked h.segments place o n) → items ≡ segment_items_at place h → items ≡ segment_items_from (heap_start + place) (take 64 w.after)
+there h place items is w e =
     let all : AllSized (w.before ++ w.after) = (let P : List Segment → Type 0 = AllSized in subst P (sym w.whole) (sized false h.segments is.tidy)) in
-    map-here (segment_item (heap_start + place)) (segment_at place h)
-    ∙ (ap (λ gs. option_map (segment_item (heap_start + place)) (option_map here (first_at size_of (λ q g. place == q) first_place gs))) (sym w.whole)
-    ∙ ap (option_map (segment_item (heap_start + place))) (at_place first_place place w.before w.after (sized-front w.before w.after all) w.stands))
+    let after : from_cut (segment_at place h) ≡ w.after = ap (λ gs. from_cut (first_at size_of (λ q g. place == q) first_place gs)) (sym w.whole) ∙ at_place first_place place w.before w.after (sized-front w.before w.after all) w.stands in
+    e ∙ (ap (λ gs. take 64 (segment_items_from (heap_start + place) gs)) after ∙ items_taken 64 (heap_start + place) w.after)
 
--- the lines up to a segment, its own, and those behind
-lines_split : (place : ℕ) (before rest : List Segment) (g : Segment) → place ≡ place_after before → lines (before ++ g ∷ rest) ≡ (lines before ++ segment_line (segment_item (heap_start + place) g)) ++ flat_map segment_line (segment_items_from (heap_start + place + size_of g) rest)
-lines_split place before rest g e =
+-- the lines up to some segments and their own
+lines_more : (place : ℕ) (before front : List Segment) → place ≡ place_after before → lines (before ++ front) ≡ lines before ++ flat_map segment_line (segment_items_from (heap_start + place) front)
+lines_more place before front e =
     let same : heap_start + first_place + total size_of before ≡ heap_start + place = omega arith in
-    let items : segment_items_from (heap_start + first_place) (before ++ g ∷ rest) ≡ segment_items_from (heap_start + first_place) before ++ segment_items_from (heap_start + place) (g ∷ rest) =
-    items_append (heap_start + first_place) before (g ∷ rest) ∙ ap (λ n. segment_items_from (heap_start + first_place) before ++ segment_items_from n (g ∷ rest)) same in
-    ap (flat_map segment_line) items
-    ∙ (flat_map-append segment_line (segment_items_from (heap_start + first_place) before) (segment_items_from (heap_start + place) (g ∷ rest))
-    ∙ sym (append_assoc (lines before) (segment_line (segment_item (heap_start + place) g)) (flat_map segment_line (segment_items_from (heap_start + place + size_of g) rest))))
+    ap (flat_map segment_line) (items_append (heap_start + first_place) before front ∙ ap (λ n. segment_items_from (heap_start + first_place) before ++ segment_items_from n front) same)
+    ∙ flat_map-append segment_line (segment_items_from (heap_start + first_place) before) (segment_items_from (heap_start + place) front)
 
-lines_more : (place : ℕ) (before : List Segment) (g : Segment) → place ≡ place_after before → lines (before ++ g ∷ []) ≡ lines before ++ segment_line (segment_item (heap_start + place) g)
-lines_more place before g e = lines_split place before [] g e ∙ append-nil (lines before ++ segment_line (segment_item (heap_start + place) g))
+-- the same, and those behind
+lines_split : (place : ℕ) (before after : List Segment) → place ≡ place_after before
+    → lines (before ++ after) ≡ (lines before ++ flat_map segment_line (segment_items_from (heap_start + place) (take 64 after)))
+    ++ flat_map segment_line (segment_items_from (heap_start + place + total size_of (take 64 after)) (drop 64 after))
+lines_split place before after e =
+    let front = take 64 after in
+    let back = drop 64 after in
+    ap (λ l. lines (before ++ l)) (sym (take-append-drop 64 after))
+    ∙ (lines_more place before (front ++ back) e
+    ∙ (ap (λ l. lines before ++ l) (ap (flat_map segment_line) (items_append (heap_start + place) front back) ∙ flat_map-append segment_line (segment_items_from (heap_start + place) front) (segment_items_from (heap_start + place + total size_of front) back))
+    ∙ sym (append_assoc (lines before) (flat_map segment_line (segment_items_from (heap_start + place) front)) (flat_map segment_line (segment_items_from (heap_start + place + total size_of front) back)))))
 
-place_more : (before : List Segment) (g : Segment) → place_after (before ++ g ∷ []) ≡ place_after before + size_of g
-place_more before g = let e = total-append size_of before (g ∷ []) in omega (arith, e)
+-- where these segments end
+pub record Ends (h : Heap) (place : ℕ) (last : SegmentItem) : Type 0 where
+  pub low : place + heap_start < item_end last
+  pub within : item_end last ≤ h.end + heap_start
 
--- one more segment, which ends within the heap
-pub record Goes (segments : List Segment) (place length : ℕ) (old new : Output) : Type 0 where
-  pub walked : Walked segments (place + length) old new
-  pub some : 0 < length
+sized_some : (gs : List Segment) (p : ℕ) (x : SegmentItem) → AllSized gs → Some x ≡ slice_get (segment_items_from p gs) (length (segment_items_from p gs) - 1) → 0 < total size_of gs
+sized_some [] p x all e = absurd (cc)
+sized_some (g ∷ gs) p x all e = omega (arith, all.0)
 
-go_on : (segments : List Segment) (place : ℕ) {o n u : Output} (before after : List Segment) (item : SegmentItem) → AllSized segments → before ++ after ≡ segments → place ≡ place_after before → Takes o n (lines before) → Some item ≡ option_map (segment_item (heap_start + place)) (foremost after) → Takes n u (segment_line item) → Goes segments place (item_length item) o u
-go_on segments place before [] item all whole stands written e t = absurd (cc)
-go_on segments place {o} {n} {u} before (g ∷ rest) item all whole stands written e t =
-    let is : item ≡ segment_item (heap_start + place) g = cc in
-    let P : SegmentItem → Type 0 = λ i. Takes n u (segment_line i) in
+sized-back : (xs ys : List Segment) → AllSized (xs ++ ys) → AllSized ys
+sized-back [] ys all = all
+sized-back (x ∷ xs) ys all = sized-back xs ys all.1
+
+pub batch_ends : (h : Heap) (place : ℕ) {o n : Output} (items : List SegmentItem) (last : SegmentItem) → IsHeap h → Walked h.segments place o n → items ≡ segment_items_at place h → Some last ≡ slice_get items (length items - 1) → Ends h place last
+batch_ends h place items last is w e l =
+    let front = take 64 w.after in
+    let back = drop 64 w.after in
+    let here : Some last ≡ slice_get (segment_items_from (heap_start + place) front) (length (segment_items_from (heap_start + place) front) - 1) = l ∙ ap (λ xs. slice_get xs (length xs - 1)) (there h place items is w e) in
+    let all : AllSized (w.before ++ w.after) = (let P : List Segment → Type 0 = AllSized in subst P (sym w.whole) (sized false h.segments is.tidy)) in
+    let after : AllSized (front ++ back) = (let P : List Segment → Type 0 = AllSized in subst P (sym (take-append-drop 64 w.after)) (sized-back w.before w.after all)) in
+    let some = sized_some front (heap_start + place) last (sized-front front back after) here in
+    let ends = last_ends (heap_start + place) front last here in
+    let sum1 : total size_of (w.before ++ w.after) ≡ total size_of h.segments = ap (total size_of) w.whole in
+    let sum2 = total-append size_of w.before w.after in
+    let sum3 : total size_of (front ++ back) ≡ total size_of w.after = ap (total size_of) (take-append-drop 64 w.after) in
+    let sum4 = total-append size_of front back in
+    record { low = omega (arith, ends, some); within = omega (arith, ends, sum1, sum2, sum3, sum4, w.stands, is.fits) }
+
+-- the segments below the next place were written
+pub batch_more : (h : Heap) (place next : ℕ) {o n u : Output} (items : List SegmentItem) (last : SegmentItem) → IsHeap h → Walked h.segments place o n → items ≡ segment_items_at place h → Some last ≡ slice_get items (length items - 1)
+    → next + heap_start ≡ item_end last → Takes n u (flat_map segment_line items) → Walked h.segments next o u
+batch_more h place next {o} {n} {u} items last is w e l q t =
+    let front = take 64 w.after in
+    let back = drop 64 w.after in
+    let these = there h place items is w e in
+    let here : Some last ≡ slice_get (segment_items_from (heap_start + place) front) (length (segment_items_from (heap_start + place) front) - 1) = l ∙ ap (λ xs. slice_get xs (length xs - 1)) these in
+    let ends = last_ends (heap_start + place) front last here in
+    let P : List SegmentItem → Type 0 = λ xs. Takes n u (flat_map segment_line xs) in
     let Q : List ℕ → Type 0 = λ z. Takes o u z in
-    let long : item_length item ≡ size_of g = ap item_length is ∙ item-length (heap_start + place) g in
-    let R : List Segment → Type 0 = AllSized in
-    let positive : 0 < size_of g = sized_here before rest g (subst R (sym whole) all) in
     record {
-      walked = record {
-        before = before ++ g ∷ [];
-        after = rest;
-        whole = append_assoc before (g ∷ []) rest ∙ whole;
-        stands = omega (arith, place_more before g, stands, long);
-        written = subst Q (sym (lines_more place before g stands)) (takes_more written (subst P is t));
-      };
-      some = omega (arith, long, positive);
+      before = w.before ++ front;
+      after = back;
+      whole = append_assoc w.before front back ∙ (ap (λ gs. w.before ++ gs) (take-append-drop 64 w.after) ∙ w.whole);
+      stands = omega (arith, ends, q, w.stands, total-append size_of w.before front);
+      written = subst Q (sym (lines_more place w.before front w.stands)) (takes_more w.written (subst P these t));
     }
-  where
-    sized_here : (before rest : List Segment) (g : Segment) → AllSized (before ++ g ∷ rest) → 0 < size_of g
-    sized_here [] rest g all = all.0
-    sized_here (x ∷ before) rest g all = sized_here before rest g all.1
 
-pub walk_more : (h : Heap) (place : ℕ) {o n u : Output} (item : SegmentItem) → IsHeap h → (w : Walked h.segments place o n) → Some item ≡ option_map (λ s. segment_item (heap_start + place) s.here) (segment_at place h) → Takes n u (segment_line item) → Goes h.segments place (item_length item) o u
-walk_more h place item is w e t =
-    go_on h.segments place w.before w.after item (sized false h.segments is.tidy) w.whole w.stands w.written (e ∙ item_there h place is w) t
-
--- a walk stays within the heap
-walked_within : (segments : List Segment) (place : ℕ) {o n : Output} → Walked segments place o n → place ≤ place_after segments
-walked_within segments place w =
-    let e = total-append size_of w.before w.after in
-    let s : total size_of (w.before ++ w.after) ≡ total size_of segments = ap (total size_of) w.whole in
-    omega (arith, e, s, w.stands)
-
-item_within : (segments : List Segment) (place : ℕ) (before after : List Segment) (item : SegmentItem) → before ++ after ≡ segments → place ≡ place_after before → Some item ≡ option_map (segment_item (heap_start + place)) (foremost after) → place + item_length item ≤ place_after segments
-item_within segments place before [] item whole stands e = absurd (cc)
-item_within segments place before (g ∷ rest) item whole stands e =
-    let is : item ≡ segment_item (heap_start + place) g = cc in
-    let long : item_length item ≡ size_of g = ap item_length is ∙ item-length (heap_start + place) g in
-    let t = total-append size_of before (g ∷ rest) in
-    let s : total size_of (before ++ g ∷ rest) ≡ total size_of segments = ap (total size_of) whole in
-    omega (arith, t, s, stands, long)
-
--- the segment ends within the heap
-pub item_ends : (h : Heap) (place : ℕ) {o n : Output} (item : SegmentItem) → IsHeap h → Walked h.segments place o n → Some item ≡ option_map (λ s. segment_item (heap_start + place) s.here) (segment_at place h) → place + item_length item ≤ h.end
-item_ends h place item is w e =
-    omega (arith, item_within h.segments place w.before w.after item w.whole w.stands (e ∙ item_there h place is w), is.fits)
-
-break_off : {E : Type 0} (segments : List Segment) (place : ℕ) {o n u : Output} (before after : List Segment) (item : SegmentItem) (e : E) (r : Result Unit E) → before ++ after ≡ segments → place ≡ place_after before → Takes o n (lines before) → Some item ≡ option_map (segment_item (heap_start + place)) (foremost after) → IsErr r → Puts n u (Err e) (segment_line item) → Puts o u r (lines segments)
-break_off segments place before [] item e r whole stands written k z p = absurd (cc)
-break_off segments place {o} {n} {u} before (g ∷ rest) item e r whole stands written k z p =
-    let is : item ≡ segment_item (heap_start + place) g = cc in
-    let behind_it : List ℕ = flat_map segment_line (segment_items_from (heap_start + place + size_of g) rest) in
+-- some segments that are not written whole
+pub batch_breaks : {E : Type 0} (h : Heap) (place : ℕ) {o n u : Output} (items : List SegmentItem) (e : E) (r : Result Unit E) → IsHeap h → Walked h.segments place o n → items ≡ segment_items_at place h → IsErr r
+    → Puts n u (Err e) (flat_map segment_line items) → Puts o u r (lines h.segments)
+batch_breaks h place {o} {n} {u} items e r is w k z p =
+    let front = take 64 w.after in
+    let these = there h place items is w k in
+    let behind_it : List ℕ = flat_map segment_line (segment_items_from (heap_start + place + total size_of front) (drop 64 w.after)) in
     let P : List ℕ → Type 0 = λ x. Breaks o u x in
-    let same : (lines before ++ segment_line item) ++ behind_it ≡ lines segments =
-    ap (λ i. (lines before ++ segment_line i) ++ behind_it) is ∙ (sym (lines_split place before rest g stands) ∙ ap lines whole) in
-    puts_stops {e = e} r (record { ok = tt; err = subst P same (breaks_before behind_it (takes_breaks written p.err)) }) z
+    let same : (lines w.before ++ flat_map segment_line items) ++ behind_it ≡ lines h.segments =
+    ap (λ i. (lines w.before ++ flat_map segment_line i) ++ behind_it) these ∙ (sym (lines_split place w.before w.after w.stands) ∙ ap lines w.whole) in
+    puts_stops {e = e} r (record { ok = tt; err = subst P same (breaks_before behind_it (takes_breaks w.written p.err)) }) z
 
--- the segment that is not written whole
-pub walk_breaks : {E : Type 0} (h : Heap) (place : ℕ) {o n u : Output} (item : SegmentItem) (e : E) (r : Result Unit E) → IsHeap h → Walked h.segments place o n → Some item ≡ option_map (λ s. segment_item (heap_start + place) s.here) (segment_at place h) → IsErr r → Puts n u (Err e) (segment_line item) → Puts o u r (lines h.segments)
-walk_breaks h place item e r is w k z p =
-    break_off h.segments place w.before w.after item e r w.whole w.stands w.written (k ∙ item_there h place is w) z p
-
-all_walked : (segments : List Segment) (place : ℕ) {o n : Output} (before after : List Segment) → before ++ after ≡ segments → Takes o n (lines before) → None ≡ option_map (segment_item (heap_start + place)) (foremost after) → Takes o n (lines segments)
-all_walked segments place {o} {n} before [] whole written e =
+all_walked : (segments : List Segment) (p : ℕ) {o n : Output} (before after : List Segment) → before ++ after ≡ segments → Takes o n (lines before) → segment_items_from p (take 64 after) ≡ [] → Takes o n (lines segments)
+all_walked segments p {o} {n} before [] whole written e =
     let P : List Segment → Type 0 = λ gs. Takes o n (lines gs) in
     subst P (sym (append-nil before) ∙ whole) written
-all_walked segments place before (g ∷ rest) whole written e = absurd (cc)
+all_walked segments p before (g ∷ rest) whole written e = absurd (cc)
 
 -- all were written where none stands at the place
-pub walk_whole : (h : Heap) (place : ℕ) {o n : Output} → IsHeap h → Walked h.segments place o n → None ≡ option_map (λ s. segment_item (heap_start + place) s.here) (segment_at place h) → Takes o n (lines h.segments)
-walk_whole h place is w e = all_walked h.segments place w.before w.after w.whole w.written (e ∙ item_there h place is w)
+pub batch_none : (h : Heap) (place : ℕ) {o n : Output} (items : List SegmentItem) → IsHeap h → Walked h.segments place o n → items ≡ segment_items_at place h → None ≡ slice_get items (length items - 1) → Takes o n (lines h.segments)
+batch_none h place items is w e none =
+    all_walked h.segments (heap_start + place) w.before w.after w.whole w.written (sym (there h place items is w e) ∙ none_last items none)

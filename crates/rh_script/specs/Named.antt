@@ -1,13 +1,12 @@
 -- What the slot of a named task has, where a desk with no such task has a slot with nothing in it.
 use Rattle.std.specs.Prelude.{ℕ, ◌+◌, true, List, [], Option, Some, None, find}
-use Rattle.std.specs.Option.{option_map}
 use Rattle.rh_defs.specs.declared.listing.BlockItem.{BlockItem}
 use Rattle.rh_defs.specs.declared.listing.SegmentItem.{SegmentItem}
 use Rattle.rh_defs.specs.declared.listing.SegmentItem.TheVariants as segment
-use Rattle.rh_defs.specs.Heap.{Heap, empty_heap, first_place, segment_at}
+use Rattle.rh_defs.specs.Heap.{Heap, empty_heap, first_place}
 use Rattle.rh_defs.specs.Slot.{Slot, heap_start, block_of}
 use Rattle.rh_defs.specs.Desk.{Desk, Task, has_name}
-use Rattle.rh_defs.specs.Listing.{block_items, segment_item, segment_items_from, bytes_in}
+use Rattle.rh_defs.specs.Listing.{block_items, segment_items_from, bytes_in}
 
 -- the task's slot, or one with no block and an empty C heap
 abbrev pub slot_in : Option Task → Slot
@@ -30,16 +29,11 @@ heap_of_named name d = (slot_named name d).heap
 abbrev pub segments_of_named : List ℕ → Desk → List SegmentItem
 segments_of_named name d = segment_items_from (heap_start + first_place) (heap_of_named name d).segments
 
--- the segment that begins at a place of the C heap
-abbrev pub segment_of_named : List ℕ → ℕ → Desk → Option SegmentItem
-segment_of_named name place d =
-    option_map (λ s. segment_item (heap_start + place) s.here) (segment_at place (heap_of_named name d))
-
 -- the bytes of its flex block at an anchor, none where there is no block
 abbrev pub bytes_of_named : List ℕ → ℕ → Desk → List ℕ
 bytes_of_named name k d = bytes_in (block_of k (slot_named name d))
 
--- the bytes that a segment takes, with the word for its size
-abbrev pub item_length : SegmentItem → ℕ
-item_length (segment.Used address size) = size + 4
-item_length (segment.Hole address size) = size
+-- the address behind a segment
+abbrev pub item_end : SegmentItem → ℕ
+item_end (segment.Used address size) = address + size
+item_end (segment.Hole address size) = address + size

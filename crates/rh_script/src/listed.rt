@@ -7,7 +7,7 @@ ghost use Rattle.rh_defs.specs.Text.{area_line, block_line, later};
 ghost use Rattle.rh_lines.specs.Flow.{Puts};
 ghost use Rattle.rh_script.specs.Named.{blocks_of_named};
 
-use crate::read::{area_at, block_at};
+use crate::read::{area_at, blocks_of};
 use rh_defs::{AreaItem, BlockItem, Name};
 use rh_lines::{Row, Sink, WriteFailed, put};
 use rh_store::Store;
@@ -22,10 +22,15 @@ pub fn print_blocks<S: Store, W: Sink>(
     ensures { Puts (W.output writer.old) (W.output writer.new) result
         (flat_map block_line (blocks_of_named name.now world.now.desk)) }
 {
-    let mut i = 0;
-    'items: while let Some(item) = block_at(world, name, i) {
-        print_block(&item, writer)?;
-        i += 1;
+    print_items(&blocks_of(world, name), writer)
+}
+
+/// Writes a line for each of these blocks.
+fn print_items<W: Sink>(items: &[BlockItem], writer: &mut W) -> Result<(), WriteFailed>
+    ensures { Puts (W.output writer.old) (W.output writer.new) result (flat_map block_line items.now) }
+{
+    for item in items {
+        print_block(item, writer)?;
     }
     Ok(())
 }

@@ -3,9 +3,13 @@
 ghost use Rattle.std.specs.Prelude.{◌≡◌, ◌+◌, ◌≤◌, ◌<◌, ◌^◌, length, slice_get, take, drop};
 ghost use Rattle.rh_defs.specs.Heap.{IsHeap};
 ghost use Rattle.rh_defs.specs.Listing.{area_items};
-ghost use Rattle.rh_script.specs.Named.{blocks_of_named, bytes_of_named, heap_of_named, segment_of_named};
+ghost use Rattle.rh_tasks.specs.Lists.{segment_items_at};
+ghost use Rattle.rh_script.specs.Named.{blocks_of_named, bytes_of_named, heap_of_named};
 
+use arrayvec::ArrayVec;
+use rh_defs::sizes::ANCHORS;
 use rh_defs::{Anchor, AreaItem, BlockItem, Name, SegmentItem};
+use rh_heap::SEGMENTS_AT_ONCE;
 use rh_store::Store;
 use rh_tasks::World;
 
@@ -18,28 +22,31 @@ pub fn area_at<S: Store>(world: &World<S>, i: usize) -> Option<AreaItem>
     item
 }
 
-/// Flex block `i` of the task, from below.
-pub fn block_at<S: Store>(world: &World<S>, name: &Name, i: usize) -> Option<BlockItem>
-    ensures item { result ≡ slice_get (blocks_of_named name.now world.now.desk) i }
-    ensures few { length (blocks_of_named name.now world.now.desk) < 2 ^ 32 }
+/// All flex blocks of the task, from below.
+pub fn blocks_of<S: Store>(world: &World<S>, name: &Name) -> ArrayVec<BlockItem, ANCHORS>
+    ensures { result.items ≡ blocks_of_named name.now world.now.desk }
 {
-    world.spelled();
-    match world.blocks(name, i) {
-        Ok((_, item)) => item,
-        Err(_) => None,
+    match world.blocks_of(name) {
+        Ok(items) => items,
+        Err(_) => ArrayVec::new(),
     }
 }
 
-/// The segment of the task's C heap that begins at a place, in bytes from the heap's first one.
-pub fn segment_at<S: Store>(world: &World<S>, name: &Name, place: u32) -> Option<SegmentItem>
-    ensures item { result ≡ segment_of_named name.now place world.now.desk }
+/// Up to 64 segments of the task's C heap in order of place, from the one that begins at a place on, in bytes from the
+/// heap's first one.
+pub fn segments_of<S: Store>(
+    world: &World<S>,
+    name: &Name,
+    place: u32,
+) -> ArrayVec<SegmentItem, SEGMENTS_AT_ONCE>
+    ensures items { result.items ≡ segment_items_at place (heap_of_named name.now world.now.desk) }
     ensures heap { IsHeap (heap_of_named name.now world.now.desk) }
-    ensures short { (heap_of_named name.now world.now.desk).end < 2 ^ 32 }
+    ensures short { (heap_of_named name.now world.now.desk).end < 2 ^ 23 }
 {
     world.spelled();
-    match world.heap(name, place) {
-        Ok((_, item)) => item,
-        Err(_) => None,
+    match world.segments_of(name, place) {
+        Ok(items) => items,
+        Err(_) => ArrayVec::new(),
     }
 }
 

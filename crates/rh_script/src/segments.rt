@@ -3,18 +3,16 @@
 ghost use Rattle.std.specs.Prelude.{◌≡◌, ◌<◌, ◌≤◌, ◌+◌, ◌^◌, ◌++◌, codes, flat_map, length};
 ghost use Rattle.std.specs.Fmt.{decimal};
 ghost use Rattle.rh_defs.specs.Text.{address, segment_line};
+ghost use Rattle.rh_defs.specs.declared.sizes.TheConstants.{C_HEAP_START};
 ghost use Rattle.rh_lines.specs.Flow.{Puts};
-ghost use Rattle.rh_script.specs.Named.{item_length, segments_of_named};
+ghost use Rattle.rh_script.specs.Named.{item_end, segments_of_named};
 
-use crate::read::segment_at;
-use rh_defs::sizes::HEAP_FIRST;
+use crate::read::segments_of;
+use rh_defs::sizes::{C_HEAP_START, HEAP_FIRST};
 use rh_defs::{Name, SegmentItem};
 use rh_lines::{Row, Sink, WriteFailed, put};
 use rh_store::Store;
 use rh_tasks::World;
-
-/// The bytes of the word that holds a used segment's size.
-const SIZE_WORD: u32 = 4;
 
 /// Writes a line for each segment of the task's C heap, from below.
 pub fn print_segments<S: Store, W: Sink>(
@@ -26,22 +24,36 @@ pub fn print_segments<S: Store, W: Sink>(
         (flat_map segment_line (segments_of_named name.now world.now.desk)) }
 {
     let mut place = HEAP_FIRST as u32;
-    'places: while let Some(item) = segment_at(world, name, place) {
-        print_segment(&item, writer)?;
-        place = place_behind(&item, place);
+    let mut items = segments_of(world, name, place);
+    'places: while let Some(last) = items.last() {
+        print_items(&items, writer)?;
+        place = place_behind(last);
+        items = segments_of(world, name, place);
     }
     Ok(())
 }
 
-/// Where a segment ends that begins at a place.
-fn place_behind(item: &SegmentItem, place: u32) -> u32
-    requires { place + item_length item.now < 2 ^ 32 }
-    ensures { result ≡ place + item_length item.now }
+/// Where a segment ends, in bytes from the heap's first one.
+fn place_behind(item: &SegmentItem) -> u32
+    requires low { C_HEAP_START ≤ item_end item.now }
+    requires small { item_end item.now < 2 ^ 32 }
+    ensures { result + C_HEAP_START ≡ item_end item.now }
 {
-    match item {
-        SegmentItem::Used { address: _, size } => place + (*size + SIZE_WORD),
-        SegmentItem::Hole { address: _, size } => place + *size,
+    let end = match item {
+        SegmentItem::Used { address, size } => *address + *size,
+        SegmentItem::Hole { address, size } => *address + *size,
+    };
+    end - C_HEAP_START as u32
+}
+
+/// Writes a line for each of these segments.
+fn print_items<W: Sink>(items: &[SegmentItem], writer: &mut W) -> Result<(), WriteFailed>
+    ensures { Puts (W.output writer.old) (W.output writer.new) result (flat_map segment_line items.now) }
+{
+    for item in items {
+        print_segment(item, writer)?;
     }
+    Ok(())
 }
 
 fn print_segment<W: Sink>(item: &SegmentItem, writer: &mut W) -> Result<(), WriteFailed>

@@ -12,3 +12,4 @@ pub mod LeaveLaws
 pub mod StartLaws
 pub mod GrowLaws
 pub mod CHeapLaws
+pub mod ItemLaws

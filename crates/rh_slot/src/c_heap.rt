@@ -6,6 +6,7 @@ ghost use Rattle.rh_defs.specs.Chain.{no_answer};
 ghost use Rattle.rh_defs.specs.Heap.{block_size, largest, free_bytes, segment_at};
 ghost use Rattle.rh_defs.specs.Pieces.{pages_for};
 ghost use Rattle.rh_defs.specs.Slot.{heap_start, slot_claim, slot_release, slot_resize, slot_take_pages};
+ghost use Rattle.rh_heap.specs.Listed.{segments_from};
 ghost use Rattle.rh_heap.specs.Segments.{piece};
 ghost use Rattle.rh_slot.specs.Area.{IsSlot, SpellsIn, slot_in};
 ghost use Rattle.rh_slot.specs.Calls.{Leaves};
@@ -14,9 +15,10 @@ ghost use Rattle.rh_slot.specs.CHeap.{after_growth, lengthened};
 use crate::area::grow_to;
 use crate::row::shift;
 use crate::slot::Slot;
+use arrayvec::ArrayVec;
 use rh_defs::Refusal;
 use rh_defs::sizes::{C_HEAP_PLACE, C_HEAP_START, PAGE, flex_weight, pages_for};
-use rh_heap::{Segment, Span};
+use rh_heap::{SEGMENTS_AT_ONCE, Segment, Span};
 use rh_store::{Pages, Words};
 
 impl Slot {
@@ -184,6 +186,19 @@ impl Slot {
         ensures { result ≡ option_map piece (segment_at place (slot_in (S.memory store.now) self).heap) }
     {
         rh_heap::segment(store, self.span(), place)
+    }
+
+    /// Up to 64 segments of the C heap in order of place, from the one that begins at `place` on; none where none begins
+    /// there.
+    pub fn segments_from<S: Words>(
+        self,
+        store: &S,
+        place: usize,
+    ) -> ArrayVec<Segment, SEGMENTS_AT_ONCE>
+        requires slot { IsSlot (S.memory store.now) self }
+        ensures { result.items ≡ segments_from place (slot_in (S.memory store.now) self).heap }
+    {
+        rh_heap::segments_from(store, self.span(), place)
     }
 
     /// The C heap's end in bytes, its largest free block, and the bytes of all its holes and its top. (OS_Heap 1.)

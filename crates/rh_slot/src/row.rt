@@ -12,8 +12,10 @@ ghost use Rattle.rh_slot.specs.Row.{Row, Hung, Shifted, Walked, WalksIn, item_of
 
 use crate::area::{read, slide, write};
 use crate::slot::Slot;
+use arrayvec::ArrayVec;
 use rh_defs::sizes::{
-    C_HEAP_PLACE, C_HEAP_START, FLEX_HEADER, PAGE, SLOT_START, WORD, flex_weight, is_inside,
+    ANCHORS, C_HEAP_PLACE, C_HEAP_START, FLEX_HEADER, PAGE, SLOT_START, WORD, flex_weight,
+    is_inside,
 };
 use rh_defs::{Anchor, BlockItem};
 use rh_store::{AreaId, Words};
@@ -208,6 +210,19 @@ impl Slot {
         walk.passed += 1;
         walk.place = place + flex_weight(size);
         Some(item)
+    }
+
+    /// All flex blocks from below: the anchor, address and size in bytes of each.
+    pub fn items<S: Words>(self, store: &S) -> ArrayVec<BlockItem, ANCHORS>
+        requires slot { IsSlot (S.memory store.now) self }
+        ensures { result.items ≡ block_items (slot_in (S.memory store.now) self) }
+    {
+        let mut items = ArrayVec::new();
+        let mut walk = self.blocks(store);
+        'walk: while let Some(item) = self.next_block(store, &mut walk) {
+            items.push(item);
+        }
+        items
     }
 
     /// Flex block `i` from below, from 0 on: its anchor, address and size in bytes.

@@ -42,6 +42,7 @@ pub mod Steps
 pub mod AreaCommands
 pub mod ModuleCommands
 pub mod Readers
+pub mod SegmentItems
 pub mod Slides
 pub mod Rooms
 pub mod Accepts

@@ -1,5 +1,5 @@
 -- Items of lists, from what the world keeps.
-use Rattle.std.specs.Prelude.{ℕ, ◌+◌, ◌-◌, if◌then◌else◌, List, ◌++◌, map}
+use Rattle.std.specs.Prelude.{ℕ, ◌+◌, ◌-◌, ◌<◌, ◌^◌, if◌then◌else◌, List, ◌++◌, map}
 use Rattle.rh_defs.specs.Memory.{Memory}
 use Rattle.rh_defs.specs.Slot.{heap_start}
 use Rattle.rh_defs.specs.declared.listing.AreaItem.{AreaItem}
@@ -31,3 +31,11 @@ items_in m seats made = fixed_items m ++ made_items m made ++ slot_items m seats
 abbrev pub segment_item_of : ℕ → Segment → SegmentItem
 segment_item_of place s =
     if s.used then segment.Used (heap_start + place + 4) (s.size - 4) else segment.Hole (heap_start + place) s.size
+
+-- the same of a segment that knows its place
+abbrev pub item_of : Segment → SegmentItem
+item_of s = segment_item_of s.place s
+
+-- a segment whose place and size are small enough for an address
+abbrev pub IsSmall : Segment → Type 0
+IsSmall s = (s.place < 2 ^ 23) × (s.size < 2 ^ 23)

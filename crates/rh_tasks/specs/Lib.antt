@@ -3,6 +3,7 @@ pub mod View
 pub mod Answer
 pub mod Finding
 pub mod Items
+pub mod Lists
 pub mod Start
 pub mod Letters
 pub mod Saves

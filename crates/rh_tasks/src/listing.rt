@@ -1,6 +1,6 @@
 //! What is asked of the desk: sums, lists item by item, and bytes.
 
-ghost use Rattle.std.specs.Prelude.{◌≡◌, ◌≤◌, ◌<◌, ◌^◌, true, Ok, Err, IfErr, IfOk, length, slice_get};
+ghost use Rattle.std.specs.Prelude.{◌≡◌, ◌≤◌, ◌<◌, ◌^◌, true, Ok, Err, IfErr, IfOk, length, map, slice_get};
 ghost use Rattle.std.specs.List.{AllByRecursion};
 ghost use Rattle.std.specs.Result.{MatchResult};
 ghost use Rattle.rh_tasks.specs.declared.seat.Seat.{Seat};
@@ -12,18 +12,21 @@ ghost use Rattle.rh_defs.specs.Desk.{free_pages as free_pages_on};
 ghost use Rattle.rh_defs.specs.Listing.{area_items, areas_at, blocks_at, heap_at, shown_at, status_at};
 ghost use Rattle.rh_tasks.specs.Answer.{Gives};
 ghost use Rattle.rh_tasks.specs.View.{pages_at, HasAreas};
-ghost use Rattle.rh_tasks.specs.Items.{items_in, slot_items, segment_item_of};
+ghost use Rattle.rh_tasks.specs.Items.{items_in, slot_items, segment_item_of, item_of, IsSmall};
+ghost use Rattle.rh_tasks.specs.Lists.{blocks_of, segments_of};
+ghost use Rattle.rh_heap.specs.declared.span.list.TheConstants.{SEGMENTS_AT_ONCE};
 
 use crate::areas::FIXED_AREAS;
 use crate::made::MadeArea;
 use crate::seat::Seat;
 use crate::seats::{find, slot_of};
 use crate::world::World;
-use rh_defs::sizes::{C_HEAP_START, PAGE};
+use arrayvec::ArrayVec;
+use rh_defs::sizes::{ANCHORS, C_HEAP_START, PAGE};
 use rh_defs::{
     Anchor, AreaItem, BlockItem, Handle, Incoming, Name, Outgoing, Refusal, Reply, SegmentItem,
 };
-use rh_heap::Segment;
+use rh_heap::{SEGMENTS_AT_ONCE, Segment};
 use rh_store::{AreaId, Store};
 
 /// A C heap's length, the size of the largest block that fits, and its free bytes.
@@ -97,6 +100,19 @@ fn segment_item(place: u32, segment: Segment) -> SegmentItem
     SegmentItem::Hole { address, size }
 }
 
+/// Segments of a C heap, as they are listed.
+fn segment_items(segments: &[Segment]) -> ArrayVec<SegmentItem, SEGMENTS_AT_ONCE>
+    requires few { length segments.now ≤ SEGMENTS_AT_ONCE }
+    requires small { AllByRecursion IsSmall segments.now }
+    ensures { result.items ≡ map item_of segments.now }
+{
+    let mut items = ArrayVec::new();
+    for segment in segments {
+        items.push(segment_item(segment.place as u32, *segment));
+    }
+    items
+}
+
 impl<S: Store> World<S> {
     /// The free pages, and item i of areas 0 to 5, the made areas in order of number and the slots in order of handle;
     /// None past the end.
@@ -117,6 +133,15 @@ impl<S: Store> World<S> {
         Ok((count, slot.block(&self.store, i)))
     }
 
+    /// All flex blocks of the task from below; NoName where no task has the name.
+    pub fn blocks_of(&self, name: &Name) -> Result<ArrayVec<BlockItem, ANCHORS>, Refusal>
+        ensures ok { IfOk result (λ items. blocks_of self.now.desk name.now ≡ Ok items.items) }
+        ensures err { IfErr result (λ e. blocks_of self.now.desk name.now ≡ Err e) }
+    {
+        let slot = slot_of(&self.seats, name)?;
+        Ok(slot.items(&self.store))
+    }
+
     /// The sums over the task's C heap (OS_Heap 1), and the segment that begins at a place, in bytes from the heap's
     /// first one, None where none begins; NoName where no task has the name.
     pub fn heap(&self, name: &Name, place: u32) -> Result<(HeapSums, Option<SegmentItem>), Refusal>
@@ -129,6 +154,21 @@ impl<S: Store> World<S> {
             return Ok((sums, None));
         };
         Ok((sums, Some(segment_item(place, segment))))
+    }
+
+    /// Up to 64 segments of the task's C heap in order of place, from the one that begins at `place` on, in bytes from
+    /// the heap's first one, none where none begins there; NoName where no task has the name.
+    pub fn segments_of(
+        &self,
+        name: &Name,
+        place: u32,
+    ) -> Result<ArrayVec<SegmentItem, SEGMENTS_AT_ONCE>, Refusal>
+        ensures ok { IfOk result (λ items. segments_of self.now.desk name.now place ≡ Ok items.items) }
+        ensures err { IfErr result (λ e. segments_of self.now.desk name.now place ≡ Err e) }
+    {
+        let slot = slot_of(&self.seats, name)?;
+        let segments = slot.segments_from(&self.store, place as usize);
+        Ok(segment_items(&segments))
     }
 
     /// The size in bytes of the task's block at the anchor (flex_size), and its bytes from an offset on; NoName,

@@ -1,25 +1,4 @@
-use Rattle.std.proofs.Common.{sym, arith}
-use Rattle.std.proofs.lemmas.Option.{slice_get_within}
-use Rattle.rh_script.specs.Named.{blocks_of_named}
-use Rattle.rh_defs.specs.Text.{block_line}
-use Rattle.rh_script.proofs.PrintLemmas.{takes_next, puts_next, takes_whole}
 use Rattle.rh_script.proofs.listed.print_blocks.Goals as goal
 
-pub returns-in_err-print_block : goal.returns-in_err-print_block
-returns-in_err-print_block g c =
-    puts_next block_line _ c.items.i c.in-Some.item _ _ c.in-Some.ensures.item c.from_residual.ensures.0 c.items.invariant c.in_err-print_block.ensures
-
-pub overflow_add-i : goal.overflow_add-i
-overflow_add-i g c =
-    omega (arith, slice_get_within (blocks_of_named c.args.name.now c.args.world.now.desk) c.items.i c.in-Some.item (sym c.in-Some.ensures.item), c.in-Some.ensures.few)
-
-pub items-smaller : goal.items-smaller
-items-smaller g c = omega (arith, slice_get_within (blocks_of_named c.args.name.now c.args.world.now.desk) c.items.i c.in-Some.item (sym c.in-Some.ensures.item))
-
-pub items-preserved : goal.items-preserved
-items-preserved g c =
-    takes_next block_line _ c.items.i c.in-Some.item c.in-Some.ensures.item c.items.invariant c.in_ok-print_block.ensures.ok
-
 pub returns : goal.returns
-returns g c =
-    record { ok = takes_whole block_line _ c.items.i c.in_default.ensures.item c.items.invariant; err = tt }
+returns g c = rw (← c.blocks_of.ensures, ← c.deref.ensures.0) c.print_items.ensures

@@ -1,28 +1,37 @@
-use Rattle.std.proofs.Common.{arith}
+use Rattle.std.proofs.Common.{◌∙◌, arith}
 use Rattle.rh_script.specs.Named.{heap_of_named}
-use Rattle.rh_script.proofs.SegmentLemmas.{walk_none, walk_more, walk_breaks, walk_whole, item_ends}
+use Rattle.rh_script.proofs.SegmentLemmas.{walk_none, batch_ends, batch_more, batch_breaks, batch_none}
 use Rattle.rh_script.proofs.segments.print_segments.Goals as goal
 
 pub places-init : goal.places-init
-places-init g c = walk_none _ _
+places-init g c = record { walked = walk_none _ _; items_are = c.segments_of-items.ensures.items }
 
-pub returns-in_err-print_segment : goal.returns-in_err-print_segment
-returns-in_err-print_segment g c =
-    walk_breaks (heap_of_named c.args.name.now c.args.world.now.desk) c.places.place c.in-Some.item _ _ c.in-Some.ensures.heap c.places.invariant c.in-Some.ensures.item c.from_residual.ensures.0 c.in_err-print_segment.ensures
+pub returns-in_err-print_items : goal.returns-in_err-print_items
+returns-in_err-print_items g c =
+    batch_breaks (heap_of_named c.args.name.now c.args.world.now.desk) c.places.place c.deref-in-Some.result.now _ _ c.segments_of-items.ensures.heap c.places.invariant.walked (c.deref-in-Some.ensures.0 ∙ c.places.invariant.items_are) c.from_residual.ensures.0 c.in_err-print_items.ensures
 
-pub place_behind-place-requires : goal.place_behind-place-requires
-place_behind-place-requires g c =
-    omega (arith, item_ends (heap_of_named c.args.name.now c.args.world.now.desk) c.places.place c.in-Some.item c.in-Some.ensures.heap c.places.invariant c.in-Some.ensures.item, c.in-Some.ensures.short)
+pub place_behind-place-requires-clause-low : goal.place_behind-place-requires-clause-low
+place_behind-place-requires-clause-low g c =
+    let e = batch_ends (heap_of_named c.args.name.now c.args.world.now.desk) c.places.place c.deref.result.now c.in-Some.last.now c.segments_of-items.ensures.heap c.places.invariant.walked (c.deref.ensures.0 ∙ c.places.invariant.items_are) c.in-Some.ensures.value in
+    omega (arith, e.low)
 
-pub places-preserved : goal.places-preserved
-places-preserved g c =
-    rw c.place_behind-place.ensures (walk_more (heap_of_named c.args.name.now c.args.world.now.desk) c.places.place c.in-Some.item c.in-Some.ensures.heap c.places.invariant c.in-Some.ensures.item c.in_ok-print_segment.ensures.ok).walked
+pub place_behind-place-requires-clause-small : goal.place_behind-place-requires-clause-small
+place_behind-place-requires-clause-small g c =
+    let e = batch_ends (heap_of_named c.args.name.now c.args.world.now.desk) c.places.place c.deref.result.now c.in-Some.last.now c.segments_of-items.ensures.heap c.places.invariant.walked (c.deref.ensures.0 ∙ c.places.invariant.items_are) c.in-Some.ensures.value in
+    omega (arith, e.within, c.segments_of-items.ensures.short)
 
 pub places-smaller : goal.places-smaller
 places-smaller g c =
-    let next = walk_more (heap_of_named c.args.name.now c.args.world.now.desk) c.places.place c.in-Some.item c.in-Some.ensures.heap c.places.invariant c.in-Some.ensures.item c.in_ok-print_segment.ensures.ok in
-    omega (arith, c.place_behind-place.ensures, next.some, item_ends (heap_of_named c.args.name.now c.args.world.now.desk) c.places.place c.in-Some.item c.in-Some.ensures.heap c.places.invariant c.in-Some.ensures.item)
+    let e = batch_ends (heap_of_named c.args.name.now c.args.world.now.desk) c.places.place c.deref.result.now c.in-Some.last.now c.segments_of-items.ensures.heap c.places.invariant.walked (c.deref.ensures.0 ∙ c.places.invariant.items_are) c.in-Some.ensures.value in
+    omega (arith, e.low, e.within, c.place_behind-place.ensures)
+
+pub places-preserved : goal.places-preserved
+places-preserved g c = record {
+  walked = batch_more (heap_of_named c.args.name.now c.args.world.now.desk) c.places.place _ c.deref.result.now c.in-Some.last.now c.segments_of-items.ensures.heap c.places.invariant.walked (c.deref.ensures.0 ∙ c.places.invariant.items_are) c.in-Some.ensures.value
+      c.place_behind-place.ensures (rw (c.deref.ensures.0, ← c.deref-in-Some.ensures.0) c.in_ok-print_items.ensures.ok);
+  items_are = c.segments_of-items-in-Some.ensures.items;
+}
 
 pub returns : goal.returns
 returns g c =
-    record { ok = walk_whole (heap_of_named c.args.name.now c.args.world.now.desk) c.places.place c.in_default.ensures.heap c.places.invariant c.in_default.ensures.item; err = tt }
+    record { ok = batch_none (heap_of_named c.args.name.now c.args.world.now.desk) c.places.place c.deref.result.now c.segments_of-items.ensures.heap c.places.invariant.walked (c.deref.ensures.0 ∙ c.places.invariant.items_are) c.in_default.ensures.value; err = tt }

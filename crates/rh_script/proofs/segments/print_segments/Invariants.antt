@@ -1,12 +1,17 @@
-use Rattle.std.proofs.Common.{◌-◌}
+use Rattle.std.proofs.Common.{◌≡◌, ◌-◌}
+use Rattle.rh_tasks.specs.Lists.{segment_items_at}
 use Rattle.rh_script.specs.Named.{heap_of_named}
 use Rattle.rh_script.proofs.SegmentLemmas.{Walked}
 use Rattle.rh_script.proofs.segments.print_segments.Given as goal
 
--- the segments below the place were written
+-- the segments below the place were written, and the items are those from there on
 abbrev pub invariant-places : goal.invariant-places
 invariant-places g l =
-    Walked (heap_of_named l.name l.world.desk).segments l.place (g.W.Sink.output l.initial.writer) (g.W.Sink.output l.writer)
+    let h = heap_of_named l.name l.world.desk in
+    record {
+      walked : Walked h.segments l.place (g.W.Sink.output l.initial.writer) (g.W.Sink.output l.writer);
+      items_are : l.items.items ≡ segment_items_at l.place h;
+    }
 
 abbrev pub decreases-places : goal.decreases-places
 decreases-places g l = (heap_of_named l.name l.world.desk).end - l.place

@@ -1,0 +1,52 @@
+//! The segments of a heap one after the other, many at once.
+ghost use Rattle.std.specs.Prelude.{◌≡◌};
+ghost use Rattle.rh_heap.specs.Spans.{IsSpan, heap_in};
+ghost use Rattle.rh_heap.specs.Listed.{segments_from};
+
+use crate::layout::{HOLE_SIZE, Segment};
+use crate::span::Span;
+use crate::span::segments::find_segment;
+use crate::span::words::{follow, read};
+use arrayvec::ArrayVec;
+use rh_defs::sizes::HEAP_BASE;
+use rh_store::Words;
+
+/// How many segments are listed at once.
+pub const SEGMENTS_AT_ONCE: usize = 64;
+
+/// Up to 64 segments in order of place, from the one that begins at `place` on; none where none begins there.
+pub fn segments_from<S: Words>(
+    store: &S,
+    span: Span,
+    place: usize,
+) -> ArrayVec<Segment, SEGMENTS_AT_ONCE>
+    requires { IsSpan (S.memory store.now) span }
+    ensures { result.items ≡ segments_from place (heap_in (S.memory store.now) span) }
+{
+    let mut segments = ArrayVec::new();
+    let Some(spot) = find_segment(store, span, place) else {
+        return segments;
+    };
+    let base = read(store, span, HEAP_BASE);
+    let mut from = spot.from;
+    let mut place = spot.place;
+    'walk: while place < base && !segments.is_full() {
+        let segment = if follow(store, span, from) == place {
+            from = place;
+            Segment {
+                place,
+                size: read(store, span, place + HOLE_SIZE),
+                used: false,
+            }
+        } else {
+            Segment {
+                place,
+                size: read(store, span, place),
+                used: true,
+            }
+        };
+        segments.push(segment);
+        place += segment.size;
+    }
+    segments
+}

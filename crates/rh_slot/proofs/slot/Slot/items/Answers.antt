@@ -1,0 +1,27 @@
+-- The walk ends where no block is left.
+use Rattle.std.proofs.Common.{◌∙◌, ap, sym, take, arith}
+use Rattle.rh_defs.specs.Listing.{block_items}
+use Rattle.rh_slot.specs.Area.{slot_in}
+use Rattle.rh_slot.specs.declared.row.FlexWalk.{FlexWalk}
+use Rattle.rh_slot.proofs.ItemLaws.{room_left, one_more, all_listed}
+use Rattle.rh_slot.proofs.slot.Slot.items.Goals as goal
+
+pub push-requires : goal.push-requires
+push-requires g c =
+    (omega arith, room_left (slot_in (g.S.Words.memory c.args.store.now) c.args.self) c.walk.walk.passed _ _ c.requires.slot.spells.words.anchors c.walk.invariant.listed c.in-Some.ensures.block)
+
+pub walk-smaller : goal.walk-smaller
+walk-smaller g c = omega (arith, c.in-Some.ensures.walk.most, c.in-Some.ensures.passed)
+
+pub walk-preserved : goal.walk-preserved
+walk-preserved g c =
+    let s = slot_in (g.S.Words.memory c.args.store.now) c.args.self in
+    record {
+      stands = c.in-Some.ensures.walk;
+      listed = c.push.ensures.items ∙ (one_more _ _ _ _ c.walk.invariant.listed c.in-Some.ensures.block ∙ ap (λ n. take n (block_items s)) (sym c.in-Some.ensures.passed));
+    }
+
+pub returns : goal.returns
+returns g c =
+    all_listed (slot_in (g.S.Words.memory c.args.store.now) c.args.self) c.walk.walk.passed _ c.walk.invariant.listed
+    (sym (ap (λ (w : FlexWalk). w.passed) c.in_default.ensures.stays) ∙ c.in_default.ensures.all)

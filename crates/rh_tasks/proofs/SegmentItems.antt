@@ -1,0 +1,76 @@
+-- Segments of a C heap as they are listed, many at once.
+use Rattle.std.proofs.Common.{◌≡◌, ℕ, zero, suc, ◌+◌, ◌-◌, ◌<◌, ◌≤◌, ◌^◌, List, [], ◌∷◌, ◌++◌, length, take, refl, sym, ap, ◌∙◌, arith, get_or}
+use Rattle.std.specs.Prelude.{Option, Some, None, IfSome, map, ◌==◌}
+use Rattle.std.specs.List.{AllByRecursion}
+use Rattle.std.proofs.lemmas.Bool.{eqb-true}
+use Rattle.std.proofs.lemmas.List.{take-map, take_more, length-map, map-append, length-take, take_all}
+use Rattle.rh_defs.specs.declared.listing.SegmentItem.{SegmentItem}
+use Rattle.rh_defs.specs.declared.listing.SegmentItem.TheVariants as segment
+use Rattle.rh_defs.specs.Pieces.{Split, total}
+use Rattle.rh_defs.specs.Heap as heap
+use Rattle.rh_defs.specs.Heap.{Heap, Used, Hole, size_of, segment_at, first_place, base}
+use Rattle.rh_defs.specs.Slot.{heap_start}
+use Rattle.rh_defs.specs.Listing.{segment_item, segment_items_from}
+use Rattle.rh_defs.proofs.Cuts.{IsCut, first_at-cuts, cut-total}
+use Rattle.rh_heap.specs.declared.layout.Segment.{Segment}
+use Rattle.rh_heap.specs.Image.{listed}
+use Rattle.rh_heap.specs.Listed.{from_cut, segments_from}
+use Rattle.rh_tasks.specs.Items.{item_of, IsSmall}
+use Rattle.rh_tasks.specs.Lists.{segment_items_at}
+
+items_listed : (place : ℕ) (gs : List heap.Segment) → map item_of (listed place gs) ≡ segment_items_from (heap_start + place) gs
+items_listed place [] = refl
+items_listed place (Used bytes ∷ gs) =
+    let next : heap_start + (place + (4 + length bytes)) ≡ heap_start + place + (4 + length bytes) = omega arith in
+    let size : 4 + length bytes - 4 ≡ length bytes = omega arith in
+    ap (λ n. segment.Used (heap_start + place + 4) n ∷ map item_of (listed (place + (4 + length bytes)) gs)) size
+    ∙ ap (λ l. segment_item (heap_start + place) (Used bytes) ∷ l) (items_listed (place + (4 + length bytes)) gs ∙ ap (λ p. segment_items_from p gs) next)
+items_listed place (Hole n ∷ gs) =
+    let next : heap_start + (place + n) ≡ heap_start + place + n = omega arith in
+    ap (λ l. segment_item (heap_start + place) (Hole n) ∷ l) (items_listed (place + n) gs ∙ ap (λ p. segment_items_from p gs) next)
+
+-- the segments that a heap gives, as they are listed
+pub items_from : (place : ℕ) (h : Heap) → map item_of (segments_from place h) ≡ segment_items_at place h
+items_from place h =
+    sym (take-map item_of 64 (listed place (from_cut (segment_at place h)))) ∙ ap (take 64) (items_listed place (from_cut (segment_at place h)))
+
+-- ---- they are small
+
+small_listed : (place : ℕ) (gs : List heap.Segment) → place + total size_of gs < 2 ^ 23 → AllByRecursion IsSmall (listed place gs)
+small_listed place [] l = tt
+small_listed place (Used bytes ∷ gs) l = ((omega arith, omega arith), small_listed (place + (4 + length bytes)) gs (omega arith))
+small_listed place (Hole n ∷ gs) l = ((omega arith, omega arith), small_listed (place + n) gs (omega arith))
+
+small_taken : (n : ℕ) (xs : List Segment) → AllByRecursion IsSmall xs → AllByRecursion IsSmall (take n xs)
+small_taken zero xs all = tt
+small_taken (suc n) [] all = tt
+small_taken (suc n) (x ∷ xs) all = (all.0, small_taken n xs all.1)
+
+small_cut : (place : ℕ) (h : Heap) (o : Option (Split heap.Segment)) → IfSome o (IsCut size_of (λ q g. place == q) first_place h.segments) → base h < 2 ^ 23 → AllByRecursion IsSmall (listed place (from_cut o))
+small_cut place h None c l = tt
+small_cut place h (Some cut) c l =
+    let same : place ≡ first_place + total size_of cut.before = eqb-true _ _ c.passes in
+    small_listed place (cut.here ∷ cut.after) (omega (arith, same, cut-total c))
+
+pub small_from : (place : ℕ) (h : Heap) → base h < 2 ^ 23 → AllByRecursion IsSmall (segments_from place h)
+small_from place h l =
+    small_taken 64 (listed place (from_cut (segment_at place h)))
+    (small_cut place h (segment_at place h) (first_at-cuts size_of (λ q g. place == q) first_place h.segments) l)
+
+-- ---- one by one
+
+pub is_small : (xs : List Segment) (i : ℕ) (d : Segment) → AllByRecursion IsSmall xs → i < length xs → IsSmall (get_or xs i d)
+is_small [] i d all l = absurd (omega arith)
+is_small (y ∷ xs) zero d all l = all.0
+is_small (y ∷ xs) (suc i) d all l = is_small xs i d all.1 (omega arith)
+
+pub listed_more : (xs : List Segment) (i : ℕ) (d : Segment) (items : List SegmentItem) → items ≡ map item_of (take i xs) → i < length xs → items ++ item_of (get_or xs i d) ∷ [] ≡ map item_of (take (i + 1) xs)
+listed_more xs i d items is l =
+    ap (λ z. z ++ item_of (get_or xs i d) ∷ []) is
+    ∙ (sym (map-append item_of (take i xs) (get_or xs i d ∷ [])) ∙ ap (map item_of) (sym (take_more xs i d l)))
+
+pub listed_few : (xs : List Segment) (i : ℕ) (items : List SegmentItem) → items ≡ map item_of (take i xs) → i < length xs → length xs ≤ 64 → length items < 64
+listed_few xs i items is l few = omega (arith, ap length is, length-map (take i xs) item_of, length-take i xs)
+
+pub listed_all : (xs : List Segment) (i : ℕ) (items : List SegmentItem) → items ≡ map item_of (take i xs) → length xs ≤ i → items ≡ map item_of xs
+listed_all xs i items is l = is ∙ ap (map item_of) (take_all i xs l)
