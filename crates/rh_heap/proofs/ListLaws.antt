@@ -1,29 +1,101 @@
 -- One step of the walk that lists a heap's segments, and how it ends.
-use Rattle.std.proofs.Common.{◌≡◌, ℕ, ◌+◌, ◌<◌, ◌≤◌, ◌≢◌, Bool, true, false, List, [], ◌∷◌, ◌++◌, length, take, refl, sym, ap, subst, ◌∙◌, append_assoc, append-nil, arith}
+use Rattle.std.proofs.Common.{◌≡◌, ℕ, ◌+◌, ◌<◌, ◌≤◌, ◌≢◌, inl, inr, Bool, true, false, List, [], ◌∷◌, ◌++◌, length, take, refl, sym, ap, subst, ◌∙◌, append_assoc, append-nil, arith}
 use Rattle.std.proofs.lemmas.List.{take-append-le, take_all, append_cancel_left}
 use Rattle.rh_defs.specs.Bytes.{word}
 use Rattle.rh_defs.specs.Pieces.{total}
 use Rattle.rh_defs.specs.Heap as heap
-use Rattle.rh_defs.specs.Heap.{Used, Hole, Heap, size_of, base, segment_at}
+use Rattle.rh_defs.specs.Heap.{Used, Hole, Heap, IsTidy, size_of, base, segment_at}
 use Rattle.rh_defs.specs.HeapImage.{Spells}
-use Rattle.rh_defs.specs.HeapParts.{HasRoom, LinksTo}
-use Rattle.rh_defs.proofs.HeapLists.{HasRoom-from_tidy, HasRoom-append, no_segments, total-append}
+use Rattle.rh_defs.specs.HeapParts.{HasRoom, LinksTo, last_link}
+use Rattle.rh_defs.proofs.HeapLaws.{last_link-append, link_ahead}
+use Rattle.rh_defs.proofs.HeapLists.{HasRoom-from_tidy, HasRoom-append, no_segments, tidy_before, tidy_behind_used, tidy_front, total-append}
 use Rattle.rh_heap.specs.Image.{listed}
 use Rattle.rh_heap.specs.Listed.{from_cut, Lists}
-use Rattle.rh_heap.specs.Segments.{Reached, Found}
+use Rattle.rh_heap.specs.Segments.{Reached, Found, a_gap, no_gap}
+use Rattle.rh_heap.proofs.WalkLaws.{leads_here, stands}
 use Rattle.rh_heap.specs.declared.layout.Segment.{Segment}
 use Rattle.rh_heap.specs.declared.span.segments.Spot.{Spot}
-use Rattle.rh_heap.proofs.WalkLaws.{NextSegment, next_used, next_hole, next_segment_at}
 
 pub lists_start : (at : ℕ) (h : Heap) (target : ℕ) (spot : Spot) (items : List Segment) → Found at h target spot → items ≡ [] → Lists at h spot.from spot.place items (listed target (from_cut (segment_at target h)))
 lists_start at h target spot items f none = record {
   link = spot.link;
   low = spot.low;
-  reached = f.reached;
-  all_is = ap (λ l. l ++ listed spot.place f.reached.rest) none
-      ∙ (ap (listed spot.place) f.rest_is
-      ∙ (ap (λ p. listed p (f.here ∷ f.after)) f.place_is ∙ sym (ap (λ o. listed target (from_cut o)) f.found)));
+  reached = f.met.reached;
+  all_is = ap (λ l. l ++ listed spot.place f.met.reached.rest) none
+      ∙ (ap (listed spot.place) f.met.rest_is
+      ∙ (ap (λ p. listed p (f.met.here ∷ f.met.after)) f.place_is ∙ sym (ap (λ o. listed target (from_cut o)) f.found)));
 }
+
+-- the next segment
+data NextSegment (b : List ℕ) (at : ℕ) (h : Heap) (from place next : ℕ) (passed : List heap.Segment) : List heap.Segment → Type 0 where
+  next_used : (bytes : List ℕ) (ys : List heap.Segment) → next ≢ place → word b (at + place) ≡ 4 + length bytes → place + (4 + length bytes) ≤ base h → 8 ≤ 4 + length bytes
+      → (r : Reached at h from (place + (4 + length bytes)) from (place + (4 + length bytes))) → r.front ++ r.gap ≡ passed ++ Used bytes ∷ [] → NextSegment b at h from place next passed (Used bytes ∷ ys)
+  next_hole : (n : ℕ) (ys : List heap.Segment) → next ≡ place → word b (at + (place + 4)) ≡ n → place + n ≤ base h → 8 ≤ n
+      → (r : Reached at h from place place (place + n)) → r.front ++ r.gap ≡ passed ++ Hole n ∷ [] → NextSegment b at h from place next passed (Hole n ∷ ys)
+
+next_segment_at : (b : List ℕ) (at : ℕ) (h : Heap) (link low from place next : ℕ) (r : Reached at h link low from place) → (rest : List heap.Segment) → r.rest ≡ rest → Spells b at h → LinksTo b at (at + from) next → place < base h
+    → NextSegment b at h from place next (r.front ++ r.gap) rest
+next_segment_at b at h link low from place next r [] e s k lt =
+    absurd (let p = r.place_is in omega (arith, ap (total size_of) r.is, ap (total size_of) e, total-append (r.front ++ r.gap) r.rest))
+next_segment_at b at h link low from place next r (Used bs ∷ ys) e s k lt =
+    let passed = r.front ++ r.gap in
+    let is : h.segments ≡ passed ++ Used bs ∷ ys = r.is ∙ ap (λ l. passed ++ l) e in
+    let is' : h.segments ≡ (passed ++ Used bs ∷ []) ++ ys = is ∙ sym (append_assoc passed (Used bs ∷ []) ys) in
+    let p = r.place_is in
+    let here = stands b at h link low from place r (Used bs ∷ ys) e s in
+    let tidy = subst (IsTidy false) is s.heap.tidy in
+    let mult = (tidy_behind_used false passed bs ys tidy).0 in
+    let ahead = link_ahead b (at + from) (at + place + (4 + length bs)) ys (let i = r.behind in omega arith) here.2 in
+    let none = k.none in
+    let some = k.some in
+    let on = k.ahead in
+    let i = r.behind in
+    let off : next ≢ place = λ q. let l = on (omega arith) in let m = some (omega arith) in elim ahead [ inl z ↦ absurd (omega arith) | inr w ↦ absurd (omega arith) ] in
+    let sums = total-append passed (Used bs ∷ []) in
+    let all = ap (total size_of) is' ∙ total-append (passed ++ Used bs ∷ []) ys in
+    next_used bs ys off here.0 (omega arith) (omega arith) (record {
+      front = passed ++ Used bs ∷ [];
+      gap = [];
+      rest = ys;
+      is = is' ∙ ap (λ l. l ++ ys) (sym (append-nil (passed ++ Used bs ∷ [])));
+      gap_is = no_gap refl refl;
+      low_is = omega arith;
+      link_is = r.from_is ∙ sym (last_link-append (at + 4) (at + 16) passed (Used bs ∷ []));
+      place_is = omega (arith, ap (total size_of) (append-nil (passed ++ Used bs ∷ [])));
+      from_is = r.from_is ∙ sym (last_link-append (at + 4) (at + 16) passed (Used bs ∷ [])) ∙ ap (last_link (at + 4) (at + 16)) (sym (append-nil (passed ++ Used bs ∷ [])));
+      tidy = tidy_front false passed bs ys tidy;
+      link_below = omega arith;
+      behind = omega arith;
+      inside = omega arith;
+    }) (append-nil (passed ++ Used bs ∷ []))
+next_segment_at b at h link low from place next r (Hole n ∷ ys) e s k lt =
+    let passed = r.front ++ r.gap in
+    let is : h.segments ≡ passed ++ Hole n ∷ ys = r.is ∙ ap (λ l. passed ++ l) e in
+    let is' : h.segments ≡ (passed ++ Hole n ∷ []) ++ ys = is ∙ sym (append_assoc passed (Hole n ∷ []) ys) in
+    let p = r.place_is in
+    let here = stands b at h link low from place r (Hole n ∷ ys) e s in
+    let tidy = subst (IsTidy false) is s.heap.tidy in
+    let big = (HasRoom-append passed (Hole n ∷ ys) (HasRoom-from_tidy false (passed ++ Hole n ∷ ys) tidy)).1.0 in
+    let i = r.behind in
+    let link_here = here.0 in
+    let there : next ≡ place = leads_here b at from place next k link_here i in
+    let sums = total-append passed (Hole n ∷ []) in
+    let all = ap (total size_of) is' ∙ total-append (passed ++ Hole n ∷ []) ys in
+    next_hole n ys there (ap (word b) (omega arith) ∙ here.1) (omega arith) big (record {
+      front = passed;
+      gap = Hole n ∷ [];
+      rest = ys;
+      is = is';
+      gap_is = a_gap n refl refl;
+      low_is = p;
+      link_is = r.from_is;
+      place_is = omega arith;
+      from_is = omega (arith, last_link-append (at + 4) (at + 16) passed (Hole n ∷ []));
+      tidy = tidy_before false passed n ys tidy;
+      link_below = i;
+      behind = omega arith;
+      inside = omega arith;
+    }) refl
 
 -- a segment as it is listed
 abbrev pub at_place : ℕ → ℕ → Bool → Segment

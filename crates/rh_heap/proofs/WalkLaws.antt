@@ -178,12 +178,12 @@ pub record UsedTurn (b : List ℕ) (at : ℕ) (h : Heap) (link low from place : 
   pub met : (size : ℕ) → size ≡ word b (at + place) → Met at h (record { place = place; size = size; used = true; from = from; low = low; link = link })
   pub on : (size : ℕ) → size ≡ word b (at + place) → Reached at h from (place + size) from (place + size)
 
-leads_here : (b : List ℕ) (at from place next : ℕ) → LinksTo b at (at + from) next → at + from + word b (at + from) ≡ at + place → from + 4 ≤ place → next ≡ place
+pub leads_here : (b : List ℕ) (at from place next : ℕ) → LinksTo b at (at + from) next → at + from + word b (at + from) ≡ at + place → from + 4 ≤ place → next ≡ place
 leads_here b at from place zero k e i = absurd (let z = k.none refl in omega arith)
 leads_here b at from place (suc n) k e i = let m = k.some (omega arith) in omega arith
 
 -- the segments that are left stand there
-stands : (b : List ℕ) (at : ℕ) (h : Heap) (link low from place : ℕ) (r : Reached at h link low from place) (rest : List Segment) → r.rest ≡ rest → Spells b at h → Stand b (at + from) (at + place) rest
+pub stands : (b : List ℕ) (at : ℕ) (h : Heap) (link low from place : ℕ) (r : Reached at h link low from place) (rest : List Segment) → r.rest ≡ rest → Spells b at h → Stand b (at + from) (at + place) rest
 stands b at h link low from place r rest e s =
     let passed = r.front ++ r.gap in
     let is : h.segments ≡ passed ++ rest = r.is ∙ ap (λ l. passed ++ l) e in
