@@ -45,6 +45,13 @@ fn words_are_little_endian(rt: HostRuntime) -> Result<(), Fail> {
 }
 
 #[test]
+fn pages_are_lent(rt: HostRuntime) -> Result<(), Fail> {
+    let mut store = PagedStore::new(rt.alloc(), 8)?;
+    suite::pages_are_lent(&rt, &mut store)?;
+    Ok(())
+}
+
+#[test]
 fn nothing_changes_nothing(rt: HostRuntime) -> Result<(), Fail> {
     let mut store = PagedStore::new(rt.alloc(), 8)?;
     suite::nothing_changes_nothing(&rt, &mut store)?;

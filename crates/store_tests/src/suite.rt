@@ -151,6 +151,22 @@ fn word_is_little_endian<R: Abort, S: Words>(rt: &R, store: &mut S, id: AreaId, 
     same(rt, store.word(id, at), 0x2211);
 }
 
+/// Of 8 pages: what is left of a page, from its first byte, from one within and from its last.
+#[tactic(auto, using(rh_defs::proofs::BytesLaws::word_laws, rh_defs::proofs::MemoryLaws::memory_laws, rh_defs::proofs::MemoryLaws::pool_laws))]
+pub(crate) fn pages_are_lent<R: Abort, S: Store>(rt: &R, store: &mut S) -> Result<(), StoreFault> {
+    let id = store.open()?;
+    store.grow(id, 2)?;
+    store.set_word(id, 4094, 0x44332211);
+    same(rt, store.rest_of_page(id, 0).len(), 4096);
+    same(rt, store.rest_of_page(id, 4092), &[0, 0, 0x11, 0x22]);
+    same(rt, store.rest_of_page(id, 4095), &[0x22]);
+    let second = store.rest_of_page(id, 4096);
+    same(rt, second.len(), 4096);
+    same(rt, &second[..3], &[0x33, 0x44, 0]);
+    same(rt, store.rest_of_page(id, 8191), &[0]);
+    Ok(())
+}
+
 /// Of 8 pages: calls for no page and no byte change nothing.
 #[tactic(auto, using(rh_defs::proofs::BytesLaws::word_laws, rh_defs::proofs::MemoryLaws::memory_laws, rh_defs::proofs::MemoryLaws::pool_laws))]
 pub(crate) fn nothing_changes_nothing<R: Abort, S: Store>(
