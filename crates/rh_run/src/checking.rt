@@ -37,9 +37,7 @@ pub fn check_image<W: Sink>(image: &[u8], writer: &mut W) -> Result<Status, RunF
 fn has_small_end(image: &[u8])
     requires { 16 ≤ length image.now }
     ensures { word image.now 12 < 2 ^ 32 }
-{
-    let _end = u32::from_le_bytes([image[12], image[13], image[14], image[15]]);
-}
+{}
 
 /// The line of a heap's sums.
 fn sums_row(sums: &Summary) -> Row
