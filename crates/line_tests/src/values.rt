@@ -2,7 +2,7 @@
 
 use crate::same::{is_true, same};
 use arrayvec::ArrayVec;
-use rh_defs::{Anchor, Bytes, Command, Files, Leaf, LineFault, Manner, Name, Refusal, image_law};
+use rh_defs::{Anchor, Bytes, Command, Files, Leaf, LineFault, Manner, Name, Refusal, block_law, image_law};
 use std::alloc::{AllocError, Global};
 use std::process::Abort;
 use std::test::Fail;
@@ -164,4 +164,5 @@ fn refusals_and_faults_print_their_names(rt: HostRuntime) -> Result<(), Fail> {
 #[test]
 fn laws_are_called() {
     image_law();
+    block_law();
 }

@@ -1,15 +1,15 @@
 -- What the module area's calls leave of the blocks of its heap.
 use Rattle.std.proofs.Common.{◌≡◌, ℕ, ◌≤◌, Bool, true, false, eqb, ltb, List, refl, sym, subst, ◌∙◌, arith}
 use Rattle.std.proofs.lemmas.List.{length-replicate}
-use Rattle.std.specs.Prelude.{Option, Some, None, Ok}
+use Rattle.std.specs.Prelude.{Option, Some, None, Ok, Err}
 use Rattle.rh_defs.specs.Chain.{Granted, ◌>>=◌, ◌>>◌, refuse_if}
 use Rattle.rh_defs.specs.Pieces.{zeros, pages_for, Split}
 use Rattle.rh_defs.specs.Heap.{Heap, Segment, Placed, need, claim_growing, block_room, raised, block_at, release}
 use Rattle.rh_defs.specs.Module.{module_claim, module_free}
-use Rattle.rh_defs.specs.Blocks.{block_bytes, HasBlock}
-use Rattle.rh_defs.specs.declared.refusal.Refusal.TheVariants.{BadSize, NoRoom}
-use Rattle.rh_defs.proofs.BlockLaws.{Puts, placed-puts, block_at-bytes, bytes_here}
-use Rattle.rh_defs.proofs.ModuleLaws.{module_free-some}
+use Rattle.rh_defs.specs.Blocks.{block_bytes, HasBlock, Puts, Frees}
+use Rattle.rh_defs.specs.declared.refusal.Refusal.TheVariants.{NotABlock, BadSize, NoRoom}
+use Rattle.rh_defs.proofs.BlockLaws.{placed-puts, block_at-bytes, bytes_here, release-frees}
+use Rattle.rh_defs.proofs.ModuleLaws.{module_free-some, module_free-none}
 
 granted-is : (t u : Bool) (p : Placed) (there : Heap × ℕ) → ◌≡◌ {A = Granted (Heap × ℕ)} (refuse_if t BadSize >> (refuse_if u NoRoom >> Ok (p.heap, p.address))) (Ok there)
     → ◌≡◌ {A = Heap × ℕ} there (p.heap, p.address)
@@ -42,3 +42,14 @@ module_free-there a h bs b = go (block_at a h) refl (block_at-bytes a h)
     go : (q : Option (Split Segment)) → block_at a h ≡ q → bytes_here q ≡ block_bytes a h → module_free a h ≡ Ok (release a h)
     go None e f = let bad : None ≡ Some bs = f ∙ b in absurd cc
     go (Some s) e f = module_free-some a h s e
+
+-- a block that is freed is gone, and no other changes
+pub module_free-frees : (a : ℕ) (h k : Heap) → module_free a h ≡ Ok k → Frees a h k
+module_free-frees a h k e = go (block_at a h) refl
+  where
+    go : (q : Option (Split Segment)) → block_at a h ≡ q → Frees a h k
+    go None n = let bad : ◌≡◌ {A = Granted Heap} (Err NotABlock) (Ok k) = sym (module_free-none a h n) ∙ e in absurd cc
+    go (Some s) f =
+        let same : ◌≡◌ {A = Granted Heap} (Ok (release a h)) (Ok k) = sym (module_free-some a h s f) ∙ e in
+        let is : release a h ≡ k = cc in
+        subst (λ (x : Heap). Frees a h x) is (release-frees a h)

@@ -16,7 +16,7 @@ use Rattle.rh_defs.specs.HeapParts.{HasRoom}
 use Rattle.rh_defs.proofs.BytesLaws.{put_more, length-put, length-part, get-part, put_below, put_above, put_inside, word-put_below, part-put_below}
 use Rattle.rh_defs.proofs.HeapLists.{HasRoom-from_tidy}
 use Rattle.rh_defs.proofs.HeapStretch.{Stand-kept}
-use Rattle.rh_defs.specs.Blocks.{bytes_at, block_bytes, written_at, poked, HasBlock}
+use Rattle.rh_defs.specs.Blocks.{bytes_at, block_bytes, written_at, poked, HasBlock, Puts, Frees, Pokes}
 
 -- ---- where blocks lie
 pub below : (a p : ℕ) (ss : List Segment) → a < p + 4 → bytes_at a p ss ≡ None
@@ -51,11 +51,6 @@ joined-blocks a p (Used bs ∷ ss) = ap (cond (eqb a (p + 4)) (Some bs)) (joined
 joined-blocks a p (Hole n ∷ ss) = with_hole-blocks a p n (joined ss) ∙ joined-blocks a (p + n) ss
 
 -- ---- a block that is put there
-pub record Puts (bs : List ℕ) (h k : Heap) (address : ℕ) : Type 0 where
-  pub fresh : block_bytes address h ≡ None
-  pub here : block_bytes address k ≡ Some bs
-  pub others : (a : ℕ) → a ≢ address → block_bytes a k ≡ block_bytes a h
-
 in_hole : (bs : List ℕ) (xs ys : List Segment) (n r q : ℕ) → q ≡ 16 + total size_of xs → n ≡ 4 + length bs + r → (end end' : ℕ)
     → Puts bs (record { segments = xs ++ Hole n ∷ ys; end = end }) (record { segments = xs ++ Used bs ∷ with_hole r ys; end = end' }) (q + 4)
 in_hole bs xs ys n r q eq en end end' =
@@ -103,10 +98,6 @@ placed-puts bs h = go (hole_for (4 + length bs) h.segments) (first_at-cuts size_
     go (Some s) c = fits_hole bs h s s.here refl c.whole c.passes
 
 -- ---- a block that is released
-pub record Frees (x : ℕ) (h k : Heap) : Type 0 where
-  pub gone : block_bytes x k ≡ None
-  pub others : (a : ℕ) → a ≢ x → block_bytes a k ≡ block_bytes a h
-
 -- the block at an address, by its bytes
 abbrev pub bytes_here : Option (Split Segment) → Option (List ℕ)
 bytes_here o = option_map (λ (s : Split Segment). bytes_of s.here) o
@@ -203,10 +194,6 @@ written-other a b o xs p (Used cs ∷ ss) ne = elim (cases_eq a (p + 4)) [
 written-other a b o xs p (Hole n ∷ ss) ne = written-other a b o xs (p + n) ss ne
 
 -- bytes that are written into a block change it alone
-pub record Pokes (a : ℕ) (bs : List ℕ) (h k : Heap) : Type 0 where
-  pub here : block_bytes a k ≡ Some bs
-  pub others : (b : ℕ) → b ≢ a → block_bytes b k ≡ block_bytes b h
-
 pub poked-pokes : (a o : ℕ) (xs : List ℕ) (h : Heap) (bs : List ℕ) → block_bytes a h ≡ Some bs → Pokes a (put bs o xs) h (poked a o xs h)
 poked-pokes a o xs h bs e = record { here = written-here a o xs 16 h.segments bs e; others = λ b ne. written-other a b o xs 16 h.segments ne }
 

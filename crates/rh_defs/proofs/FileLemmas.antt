@@ -1,6 +1,6 @@
 -- The named files against the map that holds them.
 use Rattle.std.proofs.Common.{◌≡◌, ℕ, ◌≤◌, true, false, cond, ◌||◌, refl, sym, ap, subst, ◌∙◌, List, [], ◌∷◌, ◌++◌, length, is_some, Option, Some, None}
-use Rattle.std.specs.Prelude.{Vec, find, Bool}
+use Rattle.std.specs.Prelude.{Vec, find}
 use Rattle.std.specs.Option.{option_map}
 use Rattle.std.proofs.lemmas.Bool.Decides.{same_from_decides}
 use Rattle.std.proofs.lemmas.Slice.Eq.{bytes_eq-Decides}

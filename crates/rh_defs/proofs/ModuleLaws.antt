@@ -1,9 +1,9 @@
 -- Laws of the module area's calls, in the words of the heap's, and of a heap whose bytes are kept.
-use Rattle.std.proofs.Common.{◌≡◌, ℕ, ◌+◌, ◌-◌, ◌<◌, ◌≤◌, ◌≢◌, Bool, true, false, eqb, ltb, List, length, refl, sym, ap, ◌∙◌, inl, inr, arith}
-use Rattle.std.proofs.lemmas.Bool.Decides.{nat_tests, eqb_tells}
+use Rattle.std.proofs.Common.{◌≡◌, ℕ, ◌+◌, ◌-◌, ◌<◌, ◌≤◌, ◌≢◌, true, false, eqb, ltb, List, length, refl, sym, ap, ◌∙◌, inl, inr, arith}
+use Rattle.std.proofs.lemmas.Bool.Decides.{eqb_tells}
 use Rattle.std.specs.Prelude.{Option, Some, None, Result, Ok, Err, ℤ}
 use Rattle.rh_defs.specs.Bytes.{SameIn}
-use Rattle.rh_defs.specs.Chain.{Granted, ◌>>=◌, refuse_if, found_or}
+use Rattle.rh_defs.specs.Chain.{Granted, ◌>>=◌, found_or}
 use Rattle.rh_defs.specs.Pieces.{pages_for, lacks_pages, zeros, Split}
 use Rattle.rh_defs.specs.Heap.{Segment, Heap, Placed, as_granted, Way, Stays, Shrinks, GrowsIntoHole, GrowsAtTop, MovesToHole, MovesToTop, segment_size, block_room, bytes_of, place_after, hole_for, placed_in, fitted, way_to, resized_by, base, block_at, need, claim, claim_need, claim_growing, raised, release, release_found, new_size, resize, resize_found, resize_need, resize_growing, need_at, need_found, refusal_of}
 use Rattle.rh_defs.specs.HeapImage.{Spells}

@@ -1,12 +1,14 @@
 -- What holds of every desk of a run, and of all bytes that spell a heap or a slot.
-use Rattle.std.specs.Prelude.{ℕ, ◌+◌, ◌*◌, ◌^◌, ◌<◌, ◌≤◌, ◌≡◌, true, List, [], ◌∷◌, length, map, slice_index, IfSome}
+use Rattle.std.specs.Prelude.{ℕ, ◌+◌, ◌*◌, ◌^◌, ◌<◌, ◌≤◌, ◌≡◌, true, Some, Ok, List, [], ◌∷◌, length, map, slice_index, IfSome}
 use Rattle.std.specs.List.{AllByRecursion}
 use Rattle.rh_defs.specs.declared.command.Command.{Command}
 use Rattle.rh_defs.specs.Forms.{most_pages, first_made, last_made}
-use Rattle.rh_defs.specs.Pieces.{page}
-use Rattle.rh_defs.specs.Heap.{Heap}
-use Rattle.rh_defs.specs.HeapImage.{Spells, heap_of}
-use Rattle.rh_defs.specs.Module.{FillsPages}
+use Rattle.rh_defs.specs.Pieces.{page, zeros}
+use Rattle.rh_defs.specs.Bytes.{put}
+use Rattle.rh_defs.specs.Heap.{Heap, block_room}
+use Rattle.rh_defs.specs.Blocks.{block_bytes, poked, Puts, Frees, Pokes}
+use Rattle.rh_defs.specs.HeapImage.{IsImage, Spells, heap_of}
+use Rattle.rh_defs.specs.Module.{FillsPages, module_claim, module_free}
 use Rattle.rh_defs.specs.Range.{all_in_range}
 use Rattle.rh_defs.specs.Files.{FileList}
 use Rattle.rh_defs.specs.Slot.{Slot, IsSlot, slot_start, slot_pages}
@@ -116,3 +118,22 @@ HaveOneHeap = (b : List ℕ) (at : ℕ) (h : Heap) → Spells b at h → heap_of
 -- the same of a slot; whether budging is on does not stand in the bytes
 abbrev pub HaveOneSlot : Type 0
 HaveOneSlot = (b : List ℕ) (s : Slot) → SpellsSlot b s → slot_of s.budging b ≡ s
+
+-- ---- blocks by their addresses
+
+-- a block that is claimed is a new one of zeros, and no other changes
+abbrev pub ClaimsOne : Type 0
+ClaimsOne =
+    (free n : ℕ) (h k : Heap) (address : ℕ) → module_claim free n h ≡ Ok (k, address) → Puts (zeros (block_room n)) h k address
+
+-- a block that is freed is gone, and no other changes
+abbrev pub FreesOne : Type 0
+FreesOne = (address : ℕ) (h k : Heap) → module_free address h ≡ Ok k → Frees address h k
+
+-- bytes that are written inside a block change it alone, and where the heap was spelled, the one with that block is
+abbrev pub WritesOne : Type 0
+WritesOne =
+    (b : List ℕ) (h : Heap) (address offset : ℕ) (old bytes : List ℕ) → IsImage b h → block_bytes address h ≡ Some old →
+    offset + length bytes ≤ length old →
+    IsImage (put b (address + offset) bytes) (poked address offset bytes h)
+    × Pokes address (put old offset bytes) h (poked address offset bytes h)

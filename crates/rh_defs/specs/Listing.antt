@@ -25,7 +25,6 @@ use Rattle.rh_defs.specs.Heap.{Segment, Used, Hole, size_of, first_place, segmen
 use Rattle.rh_defs.specs.Slot.{Slot, Flex, weight, heap_start, flex_start, block_of, slot_block}
 use Rattle.rh_defs.specs.Desk.{Desk, Task, Made, task_pages, module_pages, has_name, free_pages, named}
 use Rattle.rh_defs.specs.Commands.{module_area}
-use Rattle.rh_defs.specs.Step.{step}
 
 -- flex blocks that lie one after the other from a place on
 abbrev pub block_items_from : ℕ → List Flex → List BlockItem
@@ -152,11 +151,6 @@ listed d (command.Heap name) (reply.HeapSums length largest free) = of_named nam
 listed d (command.Status name) (reply.StatusOf handle) = of_named name d records_of
 listed d command.Areas (reply.FreePages pages) = Areas (area_items d)
 listed d _ _ = Nothing
-
--- the replies of a run with what they list
-abbrev pub answers : Desk → List Command → List (Reply × Listed)
-answers d [] = []
-answers d (c ∷ commands) = ((step d c).1, listed (step d c).0 c (step d c).1) ∷ answers (step d c).0 commands
 
 -- opens this file's words, for a proof that computes
 unfoldable pub computing : Unit {0}

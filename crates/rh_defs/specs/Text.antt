@@ -201,10 +201,6 @@ later_lines (Areas areas) = flat_map area_line areas
 abbrev pub answer_text : Reply × Listed → List ℕ
 answer_text answer = first_line answer.0 answer.1 ++ later_lines answer.1
 
--- replies one after the other
-abbrev pub text_of : List (Reply × Listed) → List ℕ
-text_of answers = flat_map answer_text answers
-
 -- what prints the reply to a command, on the desk after it
 unfoldable pub reply_text : Desk → Command → Reply → List ℕ
 reply_text d c r = answer_text (r, listed d c r)

@@ -8,6 +8,7 @@ use crate::bytes::Bytes;
 use crate::ids::{Anchor, Ref};
 use crate::leaf::Leaf;
 use crate::name::Name;
+use crate::sizes::{GREATEST_NUMBER, MAX_PAGES};
 
 /// How a task takes part in transfers.
 #[derive(Clone, Copy, Debug, PartialEq, Eq)]
@@ -163,9 +164,6 @@ pub enum Command {
     Areas,
 }
 
-/// The greatest number of a line.
-const GREATEST: u32 = 2_147_483_647;
-
 /// The size in bytes of the longest receive buffer.
 const LONGEST_BUFFER: u32 = 65_536;
 
@@ -174,9 +172,6 @@ const FIRST_MADE: u32 = 256;
 
 /// The greatest number of an area.
 const LAST_AREA: u32 = 65_535;
-
-/// The most pages that a made area may have.
-const MOST_PAGES: u32 = 1024;
 
 fn is_delta(n: i32) -> bool
     ensures { result ≡ is_delta_of n }
@@ -206,7 +201,7 @@ impl Command {
                 manner: _,
             } => { name.is_valid() && *buffer >= 1 && *buffer <= LONGEST_BUFFER }
             Command::Alloc { name, anchor, size } | Command::Extend { name, anchor, size } => {
-                name.is_valid() && anchor.is_valid() && *size <= GREATEST
+                name.is_valid() && anchor.is_valid() && *size <= GREATEST_NUMBER
             }
             Command::Load { name, anchor, file } => {
                 name.is_valid() && anchor.is_valid() && file.is_valid()
@@ -219,7 +214,7 @@ impl Command {
             } => {
                 name.is_valid()
                     && anchor.is_valid()
-                    && *offset <= GREATEST
+                    && *offset <= GREATEST_NUMBER
                     && !bytes.as_slice().is_empty()
             }
             Command::Free { name, anchor } | Command::Show { name, anchor } => {
@@ -230,8 +225,10 @@ impl Command {
                 anchor,
                 offset,
                 by,
-            } => { name.is_valid() && anchor.is_valid() && *offset <= GREATEST && is_delta(*by) }
-            Command::Claim { name, size } => name.is_valid() && *size <= GREATEST,
+            } => {
+                name.is_valid() && anchor.is_valid() && *offset <= GREATEST_NUMBER && is_delta(*by)
+            }
+            Command::Claim { name, size } => name.is_valid() && *size <= GREATEST_NUMBER,
             Command::Resize {
                 name,
                 address: _,
@@ -247,9 +244,9 @@ impl Command {
                 name.is_valid() && is_id(*id)
             }
             Command::Area { number, delta } => *number <= LAST_AREA && is_delta(*delta),
-            Command::Make { most } => *most >= 1 && *most <= MOST_PAGES,
+            Command::Make { most } => *most >= 1 && *most as usize <= MAX_PAGES,
             Command::Remove { number } => *number >= FIRST_MADE && *number <= LAST_AREA,
-            Command::RmaClaim { size } => *size <= GREATEST,
+            Command::RmaClaim { size } => *size <= GREATEST_NUMBER,
             Command::RmaResize { address: _, delta } => is_delta(*delta),
             Command::RmaFree { address: _ } | Command::Areas => true,
             Command::Kill { name }

@@ -3,6 +3,7 @@
 ghost use Rattle.std.specs.Prelude.{◌≡◌};
 ghost use Rattle.rh_defs.specs.Forms.{is_anchor};
 
+use crate::sizes::ANCHORS;
 use std::marker::Model;
 
 /// A task's handle. Handles count up from 1 and are never used again.
@@ -52,6 +53,6 @@ impl Anchor {
     pub fn is_valid(self) -> bool
         ensures { result ≡ is_anchor self }
     {
-        self.0 < 64
+        (self.0 as usize) < ANCHORS
     }
 }

@@ -1,7 +1,7 @@
 //! Laws over the definitions alone, each the contract of a function with nothing to do.
 
 ghost use Rattle.rh_defs.specs.Order.{IgnoresOrder};
-ghost use Rattle.rh_defs.specs.Laws.{Always, HasApartBlocks, HaveOneHeap, HaveOneSlot, IsBalanced, IsDesk};
+ghost use Rattle.rh_defs.specs.Laws.{Always, ClaimsOne, FreesOne, HasApartBlocks, HaveOneHeap, HaveOneSlot, IsBalanced, IsDesk, WritesOne};
 
 /// After any commands the live blocks lie in their slots and in the module area, no two overlap, the pages add up to the
 /// pool, and the desk is one of a run.
@@ -21,4 +21,12 @@ pub fn order_law()
 pub fn image_law()
     ensures heap { HaveOneHeap }
     ensures slot { HaveOneSlot }
+{}
+
+/// A claim from the module area makes a block of zeros at an address that had none, and a free takes one away. Bytes
+/// written inside a block change it alone, and the area's bytes then spell the heap with that block. Other blocks stay.
+pub fn block_law()
+    ensures claim { ClaimsOne }
+    ensures free { FreesOne }
+    ensures write { WritesOne }
 {}

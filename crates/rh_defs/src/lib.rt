@@ -24,7 +24,7 @@ pub use fault::LineFault;
 pub use files::Files;
 pub use heap::{HeapFault, HeapRefusal};
 pub use ids::{Anchor, Handle, Ref};
-pub use laws::{image_law, order_law, span_law};
+pub use laws::{block_law, image_law, order_law, span_law};
 pub use leaf::Leaf;
 pub use listing::{AreaItem, BlockItem, RecordItem, SegmentItem, State};
 pub use message::{Action, Body, Event, EventCode, FileData, Letter, Message, MessageFault};

@@ -6,6 +6,7 @@ ghost use Rattle.rh_defs.specs.Memory.{IsOpen, bytes};
 ghost use Rattle.rh_defs.specs.Places.{buffer_at, free_anchor as free_anchor_on, written_in};
 ghost use Rattle.rh_defs.specs.Slot.{holds, slot_put, slot_start};
 ghost use Rattle.rh_defs.specs.SlotImage.{flex_place};
+ghost use Rattle.rh_defs.specs.declared.sizes.TheConstants.{ANCHORS};
 ghost use Rattle.rh_slot.specs.Area.{IsSlot, slot_in};
 ghost use Rattle.rh_slot.specs.Calls.{Leaves};
 
@@ -42,7 +43,7 @@ pub fn put_from<S: Store>(
     n: usize,
 ) -> Result<(), Refusal>
     requires slot { IsSlot (S.memory store.old) slot }
-    requires anchor { anchor < 64 }
+    requires anchor { anchor < ANCHORS }
     requires opened { IsOpen (S.memory store.old) from.0 }
     requires source { place + n ≤ length (bytes (S.memory store.old) from.0) }
     requires below { from.0 ≡ slot.area.0 → place + n ≤ flex_place (slot_in (S.memory store.old) slot) }

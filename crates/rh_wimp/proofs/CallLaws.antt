@@ -15,12 +15,12 @@ use Rattle.rh_module.specs.Calls.{Leaves}
 use Rattle.rh_module.specs.declared.module.Module.{Module}
 use Rattle.rh_module.specs.Writes.{Wrote}
 use Rattle.rh_wimp.specs.Moves.{Turns}
-use Rattle.rh_defs.specs.Blocks.{poked, HasBlock}
+use Rattle.rh_defs.specs.Blocks.{poked, HasBlock, Puts}
 use Rattle.rh_defs.specs.Bytes.{word_bytes}
 use Rattle.rh_defs.specs.Messages.{encoded, encoded_length}
 use Rattle.rh_defs.specs.declared.message.Message.{Message}
 use Rattle.rh_defs.proofs.BlockCalls.{module_claim-puts, module_claim-has, module_free-there}
-use Rattle.rh_defs.proofs.BlockLaws.{Puts, has-poked, poked-row}
+use Rattle.rh_defs.proofs.BlockLaws.{has-poked, poked-row}
 use Rattle.rh_defs.proofs.MessageLaws.{length-word_bytes, length-encoded}
 
 -- ---- claims

@@ -17,7 +17,7 @@ use Rattle.rh_defs.specs.Memory.{Memory, OnlyArea}
 use Rattle.rh_module.specs.Area.{IsModule, heap_in}
 use Rattle.rh_module.specs.declared.module.Module.{Module}
 use Rattle.rh_wimp.specs.Moves.{Turns, relinked, PutsDown, Settled}
-use Rattle.rh_defs.specs.Blocks.{block_bytes, poked, HasBlock, SameShape}
+use Rattle.rh_defs.specs.Blocks.{block_bytes, poked, HasBlock, SameShape, Puts}
 use Rattle.rh_defs.specs.Bytes.{word_bytes}
 use Rattle.rh_defs.proofs.ParcelLaws.{parcel-row}
 use Rattle.rh_defs.specs.Messages.{Parcel, Fits, code_number, encoded, parcel_bytes, parcel_size, padded}
@@ -26,7 +26,7 @@ use Rattle.rh_wimp.specs.Chains.{Chains, Chain, Holds, Row, RowLies, RowsLie, Is
 use Rattle.rh_wimp.specs.declared.chain.Entry.{Entry}
 use Rattle.rh_defs.specs.declared.message.Letter.{Letter}
 use Rattle.rh_wimp.proofs.AnswerLaws.{answered-some}
-use Rattle.rh_defs.proofs.BlockLaws.{Puts, poked-pokes, poked-other, block-above, release-frees}
+use Rattle.rh_defs.proofs.BlockLaws.{poked-pokes, poked-other, block-above, release-frees}
 use Rattle.rh_defs.proofs.BlockCalls.{module_claim-puts}
 use Rattle.rh_wimp.proofs.LinkLaws.{linked-longer, linked-dropped}
 use Rattle.rh_wimp.proofs.PostLaws.{found-at, not-found, seat_at, Named, row-at, live-yes, live-no, held-at, seat_with, with_held-at, rows-queued, rows-seat, count-seat}

@@ -4,13 +4,14 @@ ghost use Rattle.rh_defs.specs.Bytes.{put, word, word_bytes};
 ghost use Rattle.rh_defs.specs.Messages.{AreWords, words};
 
 use byteorder::{ByteOrder, LittleEndian};
+use rh_defs::sizes::WORD;
 
 /// Writes a word at an offset.
 pub fn put_word(out: &mut [u8], at: usize, w: u32)
     requires { at + 4 ≤ length out.old }
     ensures { out.new ≡ put out.old at (word_bytes w) }
 {
-    LittleEndian::write_u32(&mut out[at..at + 4], w);
+    LittleEndian::write_u32(&mut out[at..at + WORD], w);
 }
 
 /// Writes words from an offset on.
@@ -20,7 +21,7 @@ pub fn put_words(out: &mut [u8], at: usize, ws: &[u32])
     ensures numbers { AreWords ws.now }
 {
     for (i, w) in ws.iter().enumerate() {
-        put_word(out, at + 4 * i, *w);
+        put_word(out, at + WORD * i, *w);
     }
 }
 
@@ -45,5 +46,5 @@ pub fn get_word(bytes: &[u8], at: usize) -> u32
     requires { at + 4 ≤ length bytes.now }
     ensures { result ≡ word bytes.now at }
 {
-    LittleEndian::read_u32(&bytes[at..at + 4])
+    LittleEndian::read_u32(&bytes[at..at + WORD])
 }

@@ -11,6 +11,7 @@ use crate::layout::{
     ACTION, DATA, LEAST_FILE_LENGTH, LEAST_LENGTH, LEAST_RAM_LENGTH, MOST_LENGTH, MY_REF, NAME,
     SENDER, YOUR_REF,
 };
+use rh_defs::sizes::WORD;
 use rh_defs::{Action, Body, FileData, Handle, Message, MessageFault, Pathname, Ref};
 
 /// The place of the first zero byte.
@@ -53,11 +54,11 @@ fn decode_file(bytes: &[u8], end: usize) -> Result<FileData, MessageFault>
     };
     Ok(FileData {
         window: get_word(bytes, DATA),
-        icon: get_word(bytes, DATA + 4),
-        x: get_word(bytes, DATA + 8),
-        y: get_word(bytes, DATA + 12),
-        size: get_word(bytes, DATA + 16),
-        file_type: get_word(bytes, DATA + 20),
+        icon: get_word(bytes, DATA + WORD),
+        x: get_word(bytes, DATA + 2 * WORD),
+        y: get_word(bytes, DATA + 3 * WORD),
+        size: get_word(bytes, DATA + 4 * WORD),
+        file_type: get_word(bytes, DATA + 5 * WORD),
         name: read_name(bytes, n),
     })
 }
@@ -80,7 +81,7 @@ fn decode_body(bytes: &[u8], end: usize, action: Action) -> Result<Body, Message
             }
             Ok(Body::RamFetch {
                 buffer: get_word(bytes, DATA),
-                length: get_word(bytes, DATA + 4),
+                length: get_word(bytes, DATA + WORD),
             })
         }
         Action::RamTransmit => {
@@ -89,7 +90,7 @@ fn decode_body(bytes: &[u8], end: usize, action: Action) -> Result<Body, Message
             }
             Ok(Body::RamTransmit {
                 buffer: get_word(bytes, DATA),
-                written: get_word(bytes, DATA + 4),
+                written: get_word(bytes, DATA + WORD),
             })
         }
     }
@@ -103,7 +104,7 @@ fn has_length(bytes: &[u8]) -> bool
         return false;
     }
     let end = get_word(bytes, 0) as usize;
-    LEAST_LENGTH <= end && end <= MOST_LENGTH && end % 4 == 0 && end <= bytes.len()
+    LEAST_LENGTH <= end && end <= MOST_LENGTH && end % WORD == 0 && end <= bytes.len()
 }
 
 /// Reads a message. Bytes past its length, and past what its kind needs, are ignored. Refused with the first fault:

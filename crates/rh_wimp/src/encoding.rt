@@ -5,7 +5,8 @@ ghost use Rattle.rh_defs.specs.Messages.{AreWords, Fits, HasName, body_bytes, da
 ghost use Rattle.rh_defs.specs.Pathnames.{is_pathname};
 
 use crate::bytes::{put_bytes, put_word, put_words, put_zeros};
-use crate::layout::{ACTION, DATA, NAME};
+use crate::layout::{ACTION, DATA, FILE_LENGTH, NAME, RAM_LENGTH};
+use rh_defs::sizes::WORD;
 use rh_defs::{Body, FileData, Message};
 
 /// The bytes that a name takes with its zero byte, in whole words.
@@ -13,7 +14,7 @@ fn name_room(name: &[u8]) -> usize
     requires { length name.now < 2 ^ 32 }
     ensures { result ≡ length (name_bytes name.now) }
 {
-    (name.len() + 1).next_multiple_of(4)
+    (name.len() + 1).next_multiple_of(WORD)
 }
 
 /// Writes a name from offset 44 on, with zeros up to whole words, and answers the bytes that it takes.
@@ -51,7 +52,7 @@ fn encode_file(file: &FileData, out: &mut [u8]) -> usize
             file.file_type,
         ],
     );
-    24 + encode_name(file.name.as_bytes(), out)
+    FILE_LENGTH + encode_name(file.name.as_bytes(), out)
 }
 
 /// Writes the two words of a RAMFetch or RAMTransmit, and answers their length.
@@ -61,7 +62,7 @@ fn encode_pair(buffer: u32, n: u32, out: &mut [u8]) -> usize
     ensures length { result ≡ 8 }
 {
     put_words(out, DATA, &[buffer, n]);
-    8
+    RAM_LENGTH
 }
 
 /// Writes action and data from offset 16 on, and answers their length.
@@ -74,7 +75,7 @@ fn encode_body(body: &Body, out: &mut [u8]) -> usize
     ensures name { HasName body.now }
 {
     put_word(out, ACTION, body.action().number());
-    4 + match body {
+    WORD + match body {
         Body::DataSave(file) => encode_file(file, out),
         Body::DataSaveAck(file) => encode_file(file, out),
         Body::DataLoad(file) => encode_file(file, out),
@@ -89,7 +90,7 @@ fn file_length(file: &FileData) -> usize
     ensures length { result ≡ 24 + length (name_bytes file.now.name) }
     ensures short { result ≤ 236 }
 {
-    24 + name_room(file.name.as_bytes())
+    FILE_LENGTH + name_room(file.name.as_bytes())
 }
 
 /// The length of action and data.
@@ -97,13 +98,13 @@ pub fn body_length(body: &Body) -> usize
     ensures length { result ≡ length (body_bytes body.now) }
     ensures short { result ≤ 240 }
 {
-    4 + match body {
+    WORD + match body {
         Body::DataSave(file) => file_length(file),
         Body::DataSaveAck(file) => file_length(file),
         Body::DataLoad(file) => file_length(file),
         Body::DataLoadAck(file) => file_length(file),
-        Body::RamFetch { .. } => 8,
-        Body::RamTransmit { .. } => 8,
+        Body::RamFetch { .. } => RAM_LENGTH,
+        Body::RamTransmit { .. } => RAM_LENGTH,
     }
 }
 

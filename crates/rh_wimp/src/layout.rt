@@ -1,5 +1,7 @@
 //! Where the words of a message stand, and how long messages are.
 
+use rh_defs::sizes::WORD;
+
 /// The most bytes of a message block.
 pub const MOST_LENGTH: usize = 256;
 
@@ -29,6 +31,12 @@ pub const DATA: usize = 20;
 
 /// Where the name of a file begins.
 pub const NAME: usize = 44;
+
+/// The bytes of what is said of a file, before its name.
+pub const FILE_LENGTH: usize = NAME - DATA;
+
+/// The bytes of the two words of a RAMFetch or RAMTransmit.
+pub const RAM_LENGTH: usize = 2 * WORD;
 
 /// Where the link stands in a block of the module area.
 pub const LINK: usize = 0;

@@ -9,15 +9,13 @@ ghost use Rattle.rh_wimp.specs.Calls.{IsQueue, handles_of};
 ghost use Rattle.rh_wimp.specs.Chains.{HasEntry, IsPost, joined};
 
 use crate::chain::Entry;
+use rh_defs::sizes::MAX_TASKS;
 use rh_defs::{Handle, Ref};
 use std::alloc::{AllocError, Global};
 use std::marker::Model;
 
 /// At most so many messages are live: queued, or held.
 pub(crate) const MOST_MESSAGES: usize = 256;
-
-/// At most so many tasks are live.
-const MOST_TASKS: usize = 32;
 
 /// For each live task a chain of messages in blocks of the module area, and the message that it holds.
 #[derive(Drop)]
@@ -56,7 +54,7 @@ impl Queue {
         ensures value { IfOk result (λ queue. queue ≡ record { entries = []; live = 0; next_ref = next_ref }) }
         ensures starts { IfOk result (λ queue. (m : Memory) (rma : Module) → IsModule m rma → IsQueue m rma queue) }
     {
-        let entries = Vec::with_capacity(alloc, MOST_TASKS)?;
+        let entries = Vec::with_capacity(alloc, MAX_TASKS)?;
         Ok(Queue {
             entries,
             live: 0,
