@@ -1,7 +1,7 @@
 //! The files that a run is given, and those that are checked.
 
 use crate::same::{is_true, same};
-use crate::words::{Outcome, ended};
+use crate::words::{Outcome, ended, is_told};
 use std::alloc::Global;
 use std::fs;
 use std::process::Abort;
@@ -81,6 +81,30 @@ fn files_are_loaded_by_their_names(rt: HostRuntime) -> Result<(), Fail> {
 }
 
 #[test]
+fn files_are_loaded_whole(rt: HostRuntime) -> Result<(), Fail> {
+    let alloc: Global = rt.alloc();
+    let mut bytes = Vec::new(alloc);
+    let mut wanted = Vec::new(alloc);
+    wanted.extend_from_slice(b"ok 1\nok &9008\nok 100010 ")?;
+    for _row in 0..8334 {
+        bytes.extend_from_slice(b"\x00\x1f\n\xff ruler\r\n")?;
+        wanted.extend_from_slice(b"001f0aff2072756c65720d0a")?;
+    }
+    bytes.extend_from_slice(b"xy")?;
+    wanted.extend_from_slice(b"7879\n")?;
+    fs::write(&rt, "whole.bin", bytes.as_slice())?;
+    let loaded = ended(
+        &rt,
+        &["run", "-", "a=whole.bin"],
+        b"task a 100\nload a 0 a\nshow a 0\n",
+    )?;
+    fs::remove_file(&rt, "whole.bin")?;
+    is_true(&rt, loaded.output.as_slice() == wanted.as_slice());
+    same(&rt, loaded.status, 0);
+    Ok(())
+}
+
+#[test]
 fn a_file_has_a_limit(rt: HostRuntime) -> Result<(), Fail> {
     let alloc: Global = rt.alloc();
     let mut bytes = Vec::new(alloc);
@@ -91,6 +115,7 @@ fn a_file_has_a_limit(rt: HostRuntime) -> Result<(), Fail> {
         &["run", "--pages", "300", "-", "a=most.bin"],
         b"task a 100\nload a 0 a\nblocks a\n",
     )?;
+    let whole = ended(&rt, &["check", "most.bin"], b"")?;
     bytes.push(7)?;
     fs::write(&rt, "more.bin", bytes.as_slice())?;
     let more = ended(&rt, &["run", "-", "a=more.bin"], b"")?;
@@ -103,18 +128,9 @@ fn a_file_has_a_limit(rt: HostRuntime) -> Result<(), Fail> {
         b"ok 1\nok &9008\nok 1\n  0 &9008 1048576\n".as_slice(),
     );
     same(&rt, most.status, 0);
-    same(
-        &rt,
-        more.errors.as_slice(),
-        b"rh_desk: file more.bin\n".as_slice(),
-    );
-    same(&rt, more.status, 3);
-    same(
-        &rt,
-        image.errors.as_slice(),
-        b"rh_desk: file more.bin\n".as_slice(),
-    );
-    same(&rt, image.status, 3);
+    said(&rt, &whole, "bad BadDescriptor\n", 1);
+    is_told(&rt, &more, "rh_desk: file more.bin\n", 3);
+    is_told(&rt, &image, "rh_desk: file more.bin\n", 3);
     Ok(())
 }
 

@@ -2,12 +2,13 @@
 
 use crate::same::{is_true, same};
 use memchr::memmem;
-use rh_desk::{program, words_unread};
+use rh_desk::program;
 use rh_lines::Flagged;
 use std::alloc::{AllocError, Global};
-use std::fs;
-use std::io::{self, Read, Write};
+use std::io::Read;
+use std::process::Abort;
 use std::test::Fail;
+use std::{fs, rt};
 
 /// What the program wrote to its output and its errors, and its exit status.
 #[derive(Drop)]
@@ -17,19 +18,35 @@ pub struct Outcome {
     pub status: u8,
 }
 
-/// Runs the program on these words behind its own name, over this input.
-pub fn ended(rt: &HostRuntime, words: &[&str], input: &[u8]) -> Result<Outcome, AllocError> {
-    let alloc: Global = rt.alloc();
+/// The program's own name, and these words behind it.
+pub fn all_words(alloc: Global, words: &[&str]) -> Result<Vec<String>, AllocError> {
     let mut all = Vec::new(alloc);
     all.push(String::from_str(alloc, "vervainfile")?)?;
     for word in words {
         all.push(String::from_str(alloc, word)?)?;
     }
+    Ok(all)
+}
+
+/// Runs the program on these words behind its own name, over this input.
+pub fn ended(rt: &HostRuntime, words: &[&str], input: &[u8]) -> Result<Outcome, AllocError> {
+    ended_over(rt, rt, words, input)
+}
+
+/// Runs the program on these words behind its own name, over these files and this reader.
+pub fn ended_over<F: rt::Files, I: Read + Drop>(
+    files: &F,
+    rt: &HostRuntime,
+    words: &[&str],
+    input: I,
+) -> Result<Outcome, AllocError> {
+    let alloc: Global = rt.alloc();
+    let all = all_words(alloc, words)?;
     let mut reader = Flagged::new(input);
     let mut writer = Flagged::new(Vec::<u8>::new(alloc));
     let mut errors = Flagged::new(Vec::<u8>::new(alloc));
     let status = program(
-        rt,
+        files,
         alloc,
         all.as_slice(),
         &mut reader,
@@ -162,6 +179,21 @@ fn a_script_is_run_over_the_pages_asked_for(rt: HostRuntime) -> Result<(), Fail>
 }
 
 #[test]
+fn a_bad_line_of_a_script_is_told(rt: HostRuntime) -> Result<(), Fail> {
+    fs::write(&rt, "bad.desk", "task a 100\ntsk\nfree a 0\n")?;
+    let bad = ended(&rt, &["run", "bad.desk"], b"")?;
+    fs::remove_file(&rt, "bad.desk")?;
+    same(
+        &rt,
+        bad.output.as_slice(),
+        b"ok 1\nbad Unknown\nrefused NoBlock\n".as_slice(),
+    );
+    is_true(&rt, bad.errors.is_empty());
+    same(&rt, bad.status, 1);
+    Ok(())
+}
+
+#[test]
 fn a_script_that_cannot_be_read_is_told(rt: HostRuntime) -> Result<(), Fail> {
     let folder = ended(&rt, &["run", "."], b"")?;
     same(
@@ -177,18 +209,28 @@ fn a_script_that_cannot_be_read_is_told(rt: HostRuntime) -> Result<(), Fail> {
 fn a_long_path_is_told_whole(rt: HostRuntime) -> Result<(), Fail> {
     let alloc: Global = rt.alloc();
     let mut path = String::new(alloc);
-    let mut wanted = Vec::new(alloc);
-    wanted.extend_from_slice(b"rh_desk: file ")?;
-    for _part in 0..90 {
+    for _part in 0..900 {
         path.push_str("lost/")?;
-        wanted.extend_from_slice(b"lost/")?;
     }
-    wanted.push(b'\n')?;
-    let lost = ended(&rt, &["run", path.as_str()], b"")?;
-    same(&rt, lost.errors.as_slice(), wanted.as_slice());
-    is_true(&rt, lost.output.is_empty());
-    same(&rt, lost.status, 3);
+    let lost = format!(in alloc; "rh_desk: file {path}\n")?;
+    let named = format!(in alloc; "a={path}")?;
+    let run = ended(&rt, &["run", path.as_str()], b"areas\n")?;
+    is_told(&rt, &run, lost.as_str(), 3);
+    let check = ended(&rt, &["check", path.as_str()], b"areas\n")?;
+    is_told(&rt, &check, lost.as_str(), 3);
+    let file = ended(&rt, &["run", "-", named.as_str()], b"areas\n")?;
+    is_told(&rt, &file, lost.as_str(), 3);
+    let bad = format!(in alloc; "rh_desk: bad file word {path}\n")?;
+    let word = ended(&rt, &["run", "-", path.as_str()], b"areas\n")?;
+    is_told(&rt, &word, bad.as_str(), 2);
     Ok(())
+}
+
+/// The program told just this, wrote nothing, and ended with this status.
+pub fn is_told(rt: &impl Abort, told: &Outcome, text: &str, status: u8) {
+    same(rt, told.errors.as_slice(), text.as_bytes());
+    is_true(rt, told.output.is_empty());
+    same(rt, told.status, status);
 }
 
 #[test]
@@ -231,6 +273,7 @@ fn the_input_is_run_for_a_hyphen(rt: HostRuntime) -> Result<(), Fail> {
 
 #[test]
 fn each_number_of_pages_is_had(rt: HostRuntime) -> Result<(), Fail> {
+    fs::write(&rt, "areas.desk", "areas\n")?;
     for (pages, wanted) in [
         ("8", "ok 7\n"),
         ("64", "ok 63\n"),
@@ -239,17 +282,25 @@ fn each_number_of_pages_is_had(rt: HostRuntime) -> Result<(), Fail> {
         ("256", "ok 255\n"),
         ("1024", "ok 1023\n"),
     ] {
-        let all = ended(&rt, &["run", "--pages", pages, "-"], b"areas\n")?;
-        let begins = all.output.as_slice().starts_with(wanted.as_bytes());
-        same(&rt, (pages, begins), (pages, true));
-        same(&rt, (pages, all.status), (pages, 0));
+        for script in ["-", "areas.desk"] {
+            let words = ["run", "--pages", pages, script];
+            begins(&rt, &words, &ended(&rt, &words, b"areas\n")?, wanted);
+        }
     }
-    let none = ended(&rt, &[], b"areas\n")?;
-    is_true(
-        &rt,
-        none.output.as_slice().starts_with(b"ok 63\n".as_slice()),
-    );
+    for script in ["-", "areas.desk"] {
+        let words = ["run", script];
+        begins(&rt, &words, &ended(&rt, &words, b"areas\n")?, "ok 63\n");
+    }
+    begins(&rt, &[], &ended(&rt, &[], b"areas\n")?, "ok 63\n");
+    fs::remove_file(&rt, "areas.desk")?;
     Ok(())
+}
+
+/// What the program wrote for these words begins so, and it ended clean.
+fn begins(rt: &impl Abort, words: &[&str], all: &Outcome, wanted: &str) {
+    let begins = all.output.as_slice().starts_with(wanted.as_bytes());
+    same(rt, (words, begins), (words, true));
+    same(rt, (words, all.status), (words, 0));
 }
 
 #[test]
@@ -261,11 +312,17 @@ fn a_long_script_is_run(rt: HostRuntime) -> Result<(), Fail> {
     }
     script.extend_from_slice(b"task a 100\n")?;
     fs::write(&rt, "long.desk", script.as_slice())?;
-    let long = ended(&rt, &["run", "long.desk"], b"")?;
+    for name in ["-", "long.desk"] {
+        let words = ["run", name];
+        begins(
+            &rt,
+            &words,
+            &ended(&rt, &words, script.as_slice())?,
+            "ok 1\n",
+        );
+    }
+    begins(&rt, &[], &ended(&rt, &[], script.as_slice())?, "ok 1\n");
     fs::remove_file(&rt, "long.desk")?;
-    same(&rt, long.output.as_slice(), b"ok 1\n".as_slice());
-    is_true(&rt, long.errors.is_empty());
-    same(&rt, long.status, 0);
     Ok(())
 }
 
@@ -288,122 +345,4 @@ fn many_bytes_are_shown_in_a_line(rt: HostRuntime) -> Result<(), Fail> {
         );
     }
     Ok(())
-}
-
-/// A reader that gives a line feed a read, without end.
-#[derive(Drop)]
-struct Endless;
-
-impl Read for Endless {
-    fn read(&mut self, buf: &mut [u8]) -> io::Result<usize> {
-        if buf.is_empty() {
-            return Ok(0);
-        }
-        buf[0] = b'\n';
-        Ok(1)
-    }
-}
-
-/// A reader that fails.
-#[derive(Drop)]
-struct Broken;
-
-impl Read for Broken {
-    fn read(&mut self, _buf: &mut [u8]) -> io::Result<usize> {
-        Err(io::Error::from(io::ErrorKind::Other))
-    }
-}
-
-/// A writer that takes nothing.
-#[derive(Drop)]
-struct Full;
-
-impl Write for Full {
-    fn write(&mut self, _buf: &[u8]) -> io::Result<usize> {
-        Ok(0)
-    }
-
-    fn flush(&mut self) -> io::Result<()> {
-        Ok(())
-    }
-}
-
-#[test]
-fn faults_of_streams_are_told(rt: HostRuntime) -> Result<(), Fail> {
-    let alloc: Global = rt.alloc();
-    let mut output = Flagged::new(Vec::<u8>::new(alloc));
-    let mut errors = Flagged::new(Vec::<u8>::new(alloc));
-    let long = program(
-        &rt,
-        alloc,
-        &[],
-        &mut Flagged::new(Endless),
-        &mut output,
-        &mut errors,
-    );
-    same(&rt, long, 3);
-    let broken = program(
-        &rt,
-        alloc,
-        &[],
-        &mut Flagged::new(Broken),
-        &mut output,
-        &mut errors,
-    );
-    same(&rt, broken, 3);
-    let full = program(
-        &rt,
-        alloc,
-        &[],
-        &mut Flagged::new(b"areas\n".as_slice()),
-        &mut Flagged::new(Full),
-        &mut errors,
-    );
-    same(&rt, full, 3);
-    is_true(&rt, output.into_inner().is_empty());
-    same(
-        &rt,
-        errors.into_inner().as_slice(),
-        b"rh_desk: script too long\nrh_desk: read failed\nrh_desk: write failed\n".as_slice(),
-    );
-    Ok(())
-}
-
-#[test]
-fn help_that_cannot_be_written_is_a_fault(rt: HostRuntime) -> Result<(), Fail> {
-    let alloc: Global = rt.alloc();
-    let words = [
-        String::from_str(alloc, "vervainfile")?,
-        String::from_str(alloc, "--help")?,
-    ];
-    let mut errors = Flagged::new(Vec::<u8>::new(alloc));
-    let status = program(
-        &rt,
-        alloc,
-        &words,
-        &mut Flagged::new(b"".as_slice()),
-        &mut Flagged::new(Full),
-        &mut errors,
-    );
-    same(&rt, status, 3);
-    same(
-        &rt,
-        errors.into_inner().as_slice(),
-        b"rh_desk: write failed\n".as_slice(),
-    );
-    Ok(())
-}
-
-#[test]
-fn words_that_are_not_text_are_told(rt: HostRuntime) {
-    let mut errors = Flagged::new(Vec::<u8>::new(rt.alloc()));
-    let odd = io::Error::from(io::ErrorKind::InvalidData);
-    same(&rt, words_unread(&odd, &mut errors), 2);
-    let none = io::Error::from(io::ErrorKind::OutOfMemory);
-    same(&rt, words_unread(&none, &mut errors), 3);
-    same(
-        &rt,
-        errors.into_inner().as_slice(),
-        b"rh_desk: a word is not text\nrh_desk: no memory\n".as_slice(),
-    );
 }

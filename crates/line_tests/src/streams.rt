@@ -19,6 +19,19 @@ fn reads_to_the_end(rt: HostRuntime) {
     same(&rt, reader.read(&mut buffer), Ok(0));
 }
 
+#[test]
+fn bytes_of_each_length_go_through(rt: HostRuntime) {
+    let bytes = [7; 2048];
+    for len in 0..2049usize {
+        let mut writer = Flagged::new(Vec::<u8>::new(rt.alloc()));
+        same(&rt, (len, writer.write(&bytes[..len])), (len, Ok(len)));
+        let mut reader = Flagged::new(&bytes[..len]);
+        let mut buffer = [0; 2048];
+        same(&rt, (len, reader.read(&mut buffer)), (len, Ok(len)));
+        same(&rt, &buffer[..len], &bytes[..len]);
+    }
+}
+
 /// Takes a byte a call until it is full, and then fails or takes none.
 #[derive(Drop)]
 struct Narrow {

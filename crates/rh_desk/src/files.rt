@@ -1,6 +1,7 @@
 //! The files that a run is given, and the one that is checked.
 
-ghost use Rattle.std.specs.Prelude.{◌≤◌, IfOk, vec_len};
+ghost use Rattle.std.specs.Prelude.{◌≡◌, ◌≤◌, IfOk, IfErr, vec_len};
+ghost use Rattle.rh_desk.specs.Ending.{exit_status};
 
 use crate::ending::Ending;
 use crate::telling::{ended, tell_bad_word, tell_file};
@@ -17,7 +18,9 @@ const MOST_BYTES: usize = 1_048_576;
 
 /// Looks over all the NAME=PATH words before any file is read. The first bad one is told: one that isn't a name, `=` and
 /// a path of at least one byte, or whose name was given before.
-pub fn check_words<E: Sink>(alloc: Global, words: &[&str], errors: &mut E) -> Result<(), Ending> {
+pub fn check_words<E: Sink>(alloc: Global, words: &[&str], errors: &mut E) -> Result<(), Ending>
+    ensures { IfErr result (λ ending. 2 ≤ exit_status ending) }
+{
     let mut seen = Files::new(alloc);
     for word in words {
         let Some((name, _)) = file_word(word) else {
@@ -39,7 +42,9 @@ pub fn read_files<R: rt::Files, E: Sink>(
     alloc: Global,
     words: &[&str],
     errors: &mut E,
-) -> Result<Files, Ending> {
+) -> Result<Files, Ending>
+    ensures { IfErr result (λ ending. 2 ≤ exit_status ending) }
+{
     let mut files = Files::new(alloc);
     for word in words {
         let Some((name, path)) = file_word(word) else {
@@ -73,7 +78,8 @@ pub fn read_whole<R: rt::Files, E: Sink>(
     path: &str,
     errors: &mut E,
 ) -> Result<Vec<u8>, Ending>
-    ensures { IfOk result (λ bytes. vec_len bytes ≤ 1048576) }
+    ensures ok { IfOk result (λ bytes. vec_len bytes ≤ 1048576) }
+    ensures err { IfErr result (λ ending. ending ≡ Ending.Fault) }
 {
     let mut bytes = Vec::new(alloc);
     match read_into(runtime, path, &mut bytes) {

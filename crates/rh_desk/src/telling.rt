@@ -1,7 +1,8 @@
 //! What the program tells of faults.
 
-ghost use Rattle.std.specs.Prelude.{◌≡◌};
-ghost use Rattle.rh_desk.specs.Ending.{ending_of};
+ghost use Rattle.std.specs.Prelude.{◌≡◌, ◌≢◌, ◌⊎◌, ◌≤◌};
+ghost use Rattle.clap.specs.Values.{kind_of};
+ghost use Rattle.rh_desk.specs.Ending.{ending_of, exit_status};
 
 use crate::ending::Ending;
 use clap::Error;
@@ -32,7 +33,14 @@ pub fn told<O: Sink, E: Sink>(
     error: &Error,
     output: &mut O,
     errors: &mut E,
-) -> Ending {
+) -> Ending
+    ensures not_run { result ≡ Ending.BadLines → ⊥ }
+    ensures memory { kind_of error.now ≡ ErrorKind.OutOfMemory → result ≡ Ending.Fault }
+    ensures shown { result ≡ Ending.Clean → (kind_of error.now ≡ ErrorKind.DisplayHelp) ⊎ (kind_of error.now ≡ ErrorKind.DisplayVersion) }
+    ensures mistake { result ≡ Ending.WrongWords → (kind_of error.now ≢ ErrorKind.DisplayHelp) × (kind_of error.now ≢ ErrorKind.DisplayVersion) }
+    ensures well { exit_status result ≤ 1 → (O.output output.new).failed ≡ (O.output output.old).failed }
+    ensures wrong { result ≡ Ending.WrongWords → O.output output.new ≡ O.output output.old }
+{
     let text = match error.to_string(alloc) {
         Ok(text) if error.kind() != ErrorKind::OutOfMemory => text,
         _ => return ended(Err(RunFault::NoMemory), errors),
@@ -48,7 +56,9 @@ pub fn told<O: Sink, E: Sink>(
 }
 
 /// Tells of a file that can't be opened, or can't be read whole.
-pub fn tell_file<E: Sink>(path: &str, errors: &mut E) -> Ending {
+pub fn tell_file<E: Sink>(path: &str, errors: &mut E) -> Ending
+    ensures { result ≡ Ending.Fault }
+{
     let shown = if path.is_empty() {
         "'' (an empty path)"
     } else {
@@ -59,7 +69,9 @@ pub fn tell_file<E: Sink>(path: &str, errors: &mut E) -> Ending {
 }
 
 /// Tells of a NAME=PATH word that is none.
-pub fn tell_bad_word<E: Sink>(word: &str, errors: &mut E) -> Ending {
+pub fn tell_bad_word<E: Sink>(word: &str, errors: &mut E) -> Ending
+    ensures { result ≡ Ending.WrongWords }
+{
     let _told = put_line(b"rh_desk: bad file word ", word, errors);
     Ending::WrongWords
 }

@@ -1,9 +1,11 @@
 //! What the program does with its words.
 
-ghost use Rattle.std.specs.Prelude.{◌≡◌, ◌≤◌, [], length};
+ghost use Rattle.std.specs.Prelude.{◌≡◌, ◌≢◌, ◌≤◌, [], length};
 ghost use Rattle.rh_defs.specs.Runs.{start};
 ghost use Rattle.rh_desk.specs.Ending.{ending_of, exit_status};
 ghost use Rattle.rh_session.specs.Outcome.{Finished};
+ghost use Rattle.std.specs.IoError.{error_kind};
+ghost use Rattle.std.specs.declared.io.ErrorKind.TheVariants.{OutOfMemory};
 
 use crate::command_line::{PAGES, Request, RunRequest, parsed, request_of};
 use crate::ending::Ending;
@@ -33,6 +35,10 @@ pub fn program<R: rt::Files, I: Source, O: Sink, E: Sink>(
     requires { (I.input input.old).reads ≡ 0 }
     ensures small { result ≤ 3 }
 
+    // At 0 and 1 the output took all that it was offered, and at 2 it was offered nothing.
+    ensures well { result ≤ 1 → (O.output output.new).failed ≡ (O.output output.old).failed }
+    ensures wrong { result ≡ 2 → O.output output.new ≡ O.output output.old }
+
     // With no words but its name, a run of the input over 64 pages that came to its end.
     ensures ran { length words.now ≤ 1 → (status : Status) → result ≡ exit_status (ending_of (Ok status)) → Finished (start 64 []) (I.input input.old) (I.input input.new) (O.output output.old) (O.output output.new) status }
 {
@@ -49,6 +55,8 @@ pub fn program<R: rt::Files, I: Source, O: Sink, E: Sink>(
 pub fn words_unread<E: Sink>(error: &io::Error, errors: &mut E) -> u8
     ensures fault { 2 ≤ result }
     ensures small { result ≤ 3 }
+    ensures memory { error_kind error.now ≡ OutOfMemory → result ≡ 3 }
+    ensures other { error_kind error.now ≢ OutOfMemory → result ≡ 2 }
 {
     let ending = if error.kind() == io::ErrorKind::OutOfMemory {
         ended(Err(RunFault::NoMemory), errors)
@@ -73,7 +81,9 @@ fn run_told<I: Source, O: Sink, E: Sink>(
     requires fresh { (I.input script.old).reads ≡ 0 }
 
     // A run that came to its end.
-    ensures { (status : Status) → result ≡ ending_of (Ok status) → Finished (start pages files) (I.input script.old) (I.input script.new) (O.output output.old) (O.output output.new) status }
+    ensures ran { (status : Status) → result ≡ ending_of (Ok status) → Finished (start pages files) (I.input script.old) (I.input script.new) (O.output output.old) (O.output output.new) status }
+    ensures well { exit_status result ≤ 1 → (O.output output.new).failed ≡ (O.output output.old).failed }
+    ensures run { result ≡ Ending.WrongWords → ⊥ }
 {
     ended(run(alloc, files, script, output, pages), errors)
 }
@@ -87,6 +97,8 @@ fn run_words<R: rt::Files, I: Source, O: Sink, E: Sink>(
     errors: &mut E,
 ) -> Ending
     requires { (I.input input.old).reads ≡ 0 }
+    ensures well { exit_status result ≤ 1 → (O.output output.new).failed ≡ (O.output output.old).failed }
+    ensures wrong { result ≡ Ending.WrongWords → O.output output.new ≡ O.output output.old }
 {
     let matches = match parsed(alloc, words) {
         Ok(matches) => matches,
@@ -111,6 +123,8 @@ fn run_request<R: rt::Files, I: Source, O: Sink, E: Sink>(
     errors: &mut E,
 ) -> Ending
     requires { (I.input input.old).reads ≡ 0 }
+    ensures well { exit_status result ≤ 1 → (O.output output.new).failed ≡ (O.output output.old).failed }
+    ensures wrong { result ≡ Ending.WrongWords → O.output output.new ≡ O.output output.old }
 {
     if let Err(ending) = check_words(alloc, request.files, errors) {
         return ending;
@@ -141,7 +155,10 @@ fn check_file<R: rt::Files, O: Sink, E: Sink>(
     path: &str,
     output: &mut O,
     errors: &mut E,
-) -> Ending {
+) -> Ending
+    ensures well { exit_status result ≤ 1 → (O.output output.new).failed ≡ (O.output output.old).failed }
+    ensures run { result ≡ Ending.WrongWords → ⊥ }
+{
     match read_whole(runtime, alloc, path, errors) {
         Ok(bytes) => ended(check_image(bytes.as_slice(), output), errors),
         Err(ending) => ending,
