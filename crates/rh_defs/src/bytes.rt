@@ -22,7 +22,7 @@ impl Model for Bytes {
 }
 
 impl Bytes {
-    /// These bytes.
+    /// The bytes of a `put`.
     pub fn new(bytes: ArrayVec<u8, 512>) -> Bytes
         ensures { result ≡ bytes.items }
     {

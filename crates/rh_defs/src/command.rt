@@ -71,23 +71,23 @@ pub enum Command {
         offset: u32,
         by: i32,
     },
-    /// Claims a block of the task's C heap (OS_Heap 2).
+    /// Claims a block of at least `size` bytes of the task's C heap (OS_Heap 2).
     Claim {
         name: Name,
         size: u32,
     },
-    /// Releases a block of the task's C heap (OS_Heap 3).
+    /// Releases the block at an address of the task's C heap (OS_Heap 3).
     Release {
         name: Name,
         address: u32,
     },
-    /// Changes the size of a block of the task's C heap (OS_Heap 4).
+    /// Gives the block at an address of the task's C heap `delta` bytes more, or fewer where it is below 0 (OS_Heap 4).
     Resize {
         name: Name,
         address: u32,
         delta: i32,
     },
-    /// Says whether flex blocks give way where the C heap grows.
+    /// Says whether flex blocks give way where the C heap grows (flex_set_budge).
     Budge {
         name: Name,
         on: bool,
@@ -113,32 +113,34 @@ pub enum Command {
         name: Name,
         id: Option<Ref>,
     },
-    /// Sends the task's last message once more, under another ref.
+    /// Sends the message that the task sent last once more, under another ref.
     Repeat {
         name: Name,
     },
-    /// Moves an area's length by whole pages (OS_ChangeDynamicArea).
+    /// Moves an area's length by `delta` bytes, of which the magnitude is rounded up to whole pages
+    /// (OS_ChangeDynamicArea).
     Area {
         number: u32,
         delta: i32,
     },
-    /// Makes an area of no page, and of at most so many.
+    /// Makes an area of no page, and of at most `most` pages.
     Make {
         most: u32,
     },
-    /// Takes a made area away.
+    /// Takes a made area away; its pages are free then.
     Remove {
         number: u32,
     },
-    /// Claims a block of the module area (OS_Module 6).
+    /// Claims a block of at least `size` bytes of the module area (OS_Module 6).
     RmaClaim {
         size: u32,
     },
-    /// Frees a block of the module area (OS_Module 7).
+    /// Frees the block at an address of the module area (OS_Module 7).
     RmaFree {
         address: u32,
     },
-    /// Changes the size of a block of the module area (OS_Module 13).
+    /// Gives the block at an address of the module area `delta` bytes more, or fewer where it is below 0 (OS_Module
+    /// 13).
     RmaResize {
         address: u32,
         delta: i32,

@@ -35,7 +35,7 @@ impl Files {
         }
     }
 
-    /// Adds a file behind the others.
+    /// Adds a file behind the others. AllocError where memory is refused, and then the files are as before.
     pub fn insert(&mut self, name: Name, bytes: Vec<u8>) -> Result<(), AllocError>
         requires new_name { has_file name self.old ≡ false }
         requires small { vec_len bytes ≤ 1048576 }

@@ -8,12 +8,16 @@ use thiserror::Error;
 /// Why a call on a heap was refused.
 #[derive(Clone, Copy, Debug, Drop, PartialEq, Eq, Error)]
 pub enum HeapRefusal {
+    /// No block begins at the address.
     #[error("no block begins at this address")]
     NotABlock,
+    /// The block would have fewer than 1 byte.
     #[error("a block has at least 1 byte")]
     BadSize,
+    /// No hole is large enough, and the top isn't either.
     #[error("the heap has no room")]
     NoRoom,
+    /// The heap's end would be below its last block.
     #[error("the heap would end below its last block")]
     ExcessiveShrink,
 }
@@ -21,10 +25,13 @@ pub enum HeapRefusal {
 /// Why bytes spell no heap.
 #[derive(Clone, Copy, Debug, PartialEq, Eq, Error)]
 pub enum HeapFault {
+    /// The length or a word of the descriptor is wrong.
     #[error("the descriptor is not that of a heap")]
     BadDescriptor,
+    /// A link isn't 0, and leads to no place ahead at which a hole has room.
     #[error("a link does not lead to a hole ahead")]
     BadLink,
+    /// A size isn't a positive multiple of 8, or goes past what follows.
     #[error("a size is not that of a segment")]
     BadSize,
 }

@@ -24,14 +24,14 @@ impl Model for Leaf {
 }
 
 impl Leaf {
-    /// These bytes.
+    /// The leafname of these bytes, whatever they are: `is_valid` tests them.
     pub fn new(letters: ArrayVec<u8, 10>) -> Leaf
         ensures { result ≡ letters.items }
     {
         Leaf { letters }
     }
 
-    /// The leafname as a slice.
+    /// The bytes of the leafname.
     pub fn as_slice(&self) -> &[u8]
         ensures value { result.now ≡ self.now }
         ensures short { length self.now ≤ 10 }

@@ -47,7 +47,7 @@ impl Default for SegmentItem {
 /// An area or a slot as `areas` lists it.
 #[derive(Debug, Drop, PartialEq, Eq)]
 pub enum AreaItem {
-    /// A dynamic area of OS_ChangeDynamicArea, by its number.
+    /// An area by its number: 0 to 5 as OS_ChangeDynamicArea has them, or that of a made one.
     Area { number: u32, pages: u32 },
     /// The slot of the task with the name.
     Slot { name: Name, pages: u32 },
@@ -66,7 +66,7 @@ pub enum State {
     Asking,
     /// It ended, and all bytes were handed over.
     Done,
-    /// It ended before.
+    /// It ended early.
     Failed,
 }
 
@@ -77,6 +77,6 @@ pub struct RecordItem {
     pub state: State,
     /// The ref of its DataSave.
     pub id: Ref,
-    /// The bytes that were handed over.
+    /// The bytes that were handed over so far.
     pub count: u32,
 }

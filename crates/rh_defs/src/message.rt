@@ -57,11 +57,17 @@ impl EventCode {
 /// What a message asks for.
 #[derive(Clone, Copy, Debug, PartialEq, Eq)]
 pub enum Action {
+    /// To take a file (Message_DataSave, 1).
     DataSave,
+    /// To save it as a file of a name (Message_DataSaveAck, 2).
     DataSaveAck,
+    /// To load that file (Message_DataLoad, 3).
     DataLoad,
+    /// Nothing more: the file was loaded (Message_DataLoadAck, 4).
     DataLoadAck,
+    /// To write bytes into a buffer (Message_RAMFetch, 6).
     RamFetch,
+    /// To take the bytes from the buffer (Message_RAMTransmit, 7).
     RamTransmit,
 }
 
@@ -96,7 +102,8 @@ impl Action {
     }
 }
 
-/// What the messages about a file say: where it is dropped, its size in bytes and its type, and its name.
+/// What the messages about a file say: where it is dropped (window, icon and place, all 0 in this desk's own messages),
+/// its size in bytes, its type (&FFD there), and its name.
 #[derive(Debug, Drop, PartialEq, Eq)]
 pub struct FileData {
     pub window: u32,
@@ -181,18 +188,23 @@ impl Body {
 /// A message as its block spells it.
 #[derive(Debug, Drop, PartialEq, Eq)]
 pub struct Message {
+    /// The task that sent it.
     pub from: Handle,
+    /// Its own ref.
     pub my_ref: Ref,
     /// The ref of the message that this one answers, 0 for an original.
     pub your_ref: Ref,
     pub body: Body,
 }
 
-/// What a task sends.
+/// What a task sends: a message that has no ref yet, and whom it is for.
 #[derive(Debug, Drop, PartialEq, Eq)]
 pub struct Letter {
+    /// Whether it wants an answer.
     pub code: EventCode,
+    /// The task that sends it.
     pub from: Handle,
+    /// The task that it is for.
     pub to: Handle,
     /// The ref of the message that this one answers, 0 for an original.
     pub your_ref: Ref,
@@ -224,8 +236,11 @@ pub struct Event {
 /// Why bytes spell no message.
 #[derive(Clone, Copy, Debug, PartialEq, Eq, Error)]
 pub enum MessageFault {
+    /// The length word isn't a multiple of 4 from 20 to 256, is more than the bytes that are there, or has no room for
+    /// what the action needs; or no zero byte ends the name.
     #[error("the length is not that of the message")]
     BadLength,
+    /// The action isn't one of the six.
     #[error("the action is not one of a file or a RAM transfer")]
     BadAction,
 }

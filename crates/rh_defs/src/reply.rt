@@ -60,7 +60,7 @@ pub enum Reply {
 /// What a poll did with its message.
 #[derive(Clone, Copy, Debug, PartialEq, Eq)]
 pub enum Outcome {
-    /// Nothing.
+    /// Nothing: the message is for no record, or a DataSave that wasn't taken.
     Ignored,
     /// A transfer was begun by this fetch.
     Fetch(Ref),
@@ -70,9 +70,9 @@ pub enum Outcome {
     Refused(Refusal),
     /// The transfer failed as its message came back.
     Failed,
-    /// A transfer that was given up has its buffer back.
+    /// The buffer of a transfer that was given up was released.
     Drained,
-    /// The last bytes were taken.
+    /// The last bytes were taken: the document is whole.
     TookLast { count: u32 },
     /// Bytes were taken, and the next fetch was sent.
     TookFull { count: u32, fetch: Ref },
@@ -82,10 +82,10 @@ pub enum Outcome {
     Asked(Ref),
     /// The source became the scrap file, and the DataLoad was sent.
     Saved { count: u32, load: Ref },
-    /// The scrap file became the document.
+    /// The scrap file became the document, and the sender was told.
     Loaded { count: u32 },
     /// The scrap file became the document, and the answer was refused.
     LoadedFailed { count: u32, refusal: Refusal },
-    /// The recipient has loaded the file.
+    /// The recipient has loaded the file: the transfer that went out is done.
     Done,
 }

@@ -22,7 +22,7 @@ use std::{io, rt};
 const INPUT: &str = "-";
 
 /// Runs the program on its words, of which the first is its own name, and answers its exit status:
-/// 0 for a clean run, a good heap or help, 1 for a bad line or a bad heap, 2 for wrong words, 3 for a file, read,
+/// 0 for a clean run, a good heap, help or the version, 1 for a bad line or a bad heap, 2 for wrong words, 3 for a file, read,
 /// write, length or memory fault.
 pub fn program<R: rt::Files, I: Source, O: Sink, E: Sink>(
     runtime: &R,

@@ -15,13 +15,18 @@ use rh_defs::sizes::{
     HEAP_BASE, HEAP_END, HEAP_FIRST, HEAP_FREE, HEAP_SPECIAL, HEAP_UNIT, HEAP_WORD,
 };
 
-/// What a heap consists of: numbers of segments, and bytes.
+/// What a heap consists of. Sizes are those of whole segments, their own words among them.
 #[derive(Clone, Copy, Debug, PartialEq, Eq)]
 pub struct Summary {
+    /// How many segments are used.
     pub used: usize,
+    /// Their sizes in bytes, added up.
     pub used_bytes: usize,
+    /// How many holes there are.
     pub holes: usize,
+    /// Their sizes in bytes, added up.
     pub hole_bytes: usize,
+    /// The bytes from the base to the end.
     pub top: usize,
 }
 

@@ -29,7 +29,7 @@ impl Model for Held {
 }
 
 impl Held {
-    /// Nothing is held.
+    /// Nothing is held. AllocError where memory is refused.
     pub fn new(alloc: Global) -> Result<Held, AllocError>
         ensures { IfOk result (λ held. (held.bytes ≡ []) × (held.failed ≡ false)) }
     {

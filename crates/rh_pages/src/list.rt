@@ -24,7 +24,7 @@ impl Model for PageList {
 }
 
 impl PageList {
-    /// An empty list.
+    /// An empty list. AllocError where memory is refused.
     pub fn new(alloc: Global) -> Result<PageList, AllocError>
         ensures { IfOk result (λ p. p ≡ []) }
     {

@@ -35,7 +35,8 @@ impl PagedStore {
     ghost use Rattle.rh_pages.specs.Pages.{spot_in};
     ghost use Rattle.rh_pages.specs.Paged.{memory_of, place_of};
 
-    /// A store of this many pages, 8 to 1,024, all of them free. All memory is taken here.
+    /// A store of this many pages, 8 to 1,024, all of them free. All memory is taken here: AllocError where it is
+    /// refused.
     pub fn new(alloc: Global, pages: usize) -> Result<PagedStore, AllocError>
         requires least { MIN_PAGES ≤ pages }
         requires most { pages ≤ MAX_PAGES }

@@ -31,7 +31,7 @@ impl Model for LineBuffer {
 }
 
 impl LineBuffer {
-    /// An empty line, with room for 1,025 bytes.
+    /// An empty line, with room for 1,025 bytes. AllocError where memory is refused.
     pub fn new(alloc: Global) -> Result<Self, AllocError>
         ensures { IfOk result (λ line. line ≡ []) }
     {

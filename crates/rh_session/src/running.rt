@@ -15,7 +15,7 @@ use std::alloc::Global;
 /// So many bytes are read at a time.
 const PIECE: usize = 65_536;
 
-/// More reads than these make a script too long.
+/// So many reads that give bytes make a script too long.
 const MOST_READS: u32 = 1_000_000;
 
 /// Runs a script over a desktop, and writes the answer of each line before it reads on.

@@ -31,7 +31,7 @@ pub struct Session<D> {
 impl<D: Desktop> Session<D> {
     ghost use Rattle.rh_session.specs.Kept.{IsState};
 
-    /// A session over this desktop, which has read nothing.
+    /// A session over this desktop, which has read nothing. AllocError where memory is refused.
     pub fn new(alloc: Global, desktop: D) -> Result<Self, AllocError>
         ensures { IfOk result (λ session. (d : Desk) → D.spells desktop d → IsState D.spells session (begin d)) }
     {

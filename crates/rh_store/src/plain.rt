@@ -30,7 +30,8 @@ impl PlainStore {
     ghost use Rattle.rh_store.specs.Plain.{memory_of};
     ghost use Rattle.rh_defs.specs.Memory.{fresh};
 
-    /// A store of this many pages, 8 to 256, all of them free. All memory is taken here.
+    /// A store of this many pages, 8 to 256, all of them free. All memory is taken here: AllocError where it is
+    /// refused.
     pub fn new(alloc: Global, pages: usize) -> Result<PlainStore, AllocError>
         requires least { MIN_PAGES ≤ pages }
         requires most { pages ≤ 256 }

@@ -48,7 +48,7 @@ impl Queue {
         Queue::with_next_ref(alloc, Ref(1))
     }
 
-    /// An empty queue whose next ref is this one.
+    /// An empty queue whose first ref is this one, with room for 32 tasks. AllocError where memory is refused.
     pub fn with_next_ref(alloc: Global, next_ref: Ref) -> Result<Queue, AllocError>
         ensures word { next_ref < 2 ^ 32 }
         ensures value { IfOk result (λ queue. queue ≡ record { entries = []; live = 0; next_ref = next_ref }) }
