@@ -7,7 +7,6 @@ ghost use Rattle.rh_heap.specs.Spans.{IsSpan, bytes_in, heap_in};
 ghost use Rattle.rh_heap.specs.Segments.{Around, Found, FoundBlock, NoHole, Reached, piece};
 ghost use Rattle.rh_defs.specs.declared.sizes.TheConstants.{HEAP_FIRST};
 
-use crate::image::word_in;
 use crate::layout::{BLOCK, Segment};
 use crate::span::Span;
 use crate::span::holes::last_hole;
@@ -15,6 +14,7 @@ use crate::span::words::read;
 use rh_defs::HeapRefusal;
 use rh_defs::sizes::{HEAP_BASE, HEAP_FIRST, HEAP_FREE, WORD, is_inside};
 use rh_store::Words;
+use rh_store::bytes::word_in;
 
 /// A segment of a heap, its size in bytes, and whether it is used. The link before it is at `from`. A hole made
 /// of it would begin at `low`, where the hole before it does if there is one, and the link before that is at `link`.
@@ -54,7 +54,7 @@ fn pass_in_page<S: Words>(store: &S, span: Span, mark: Mark, target: usize) -> M
     let most = target - mark.place;
     let mut passed = 0;
     'walk: while passed + WORD <= page.len() {
-        let next = passed + word_in(page, passed);
+        let next = passed + word_in(page, passed) as usize;
         if most < next {
             break;
         }
