@@ -1,4 +1,4 @@
-//! What is asked of the desk: sums, lists item by item, and bytes.
+//! What is asked of the desk: sums, lists whole and item by item, and bytes.
 
 ghost use Rattle.std.specs.Prelude.{◌≡◌, ◌≤◌, ◌<◌, ◌^◌, true, Ok, Err, IfErr, IfOk, length, map, slice_get};
 ghost use Rattle.std.specs.List.{AllByRecursion};
