@@ -104,6 +104,7 @@ impl Slot {
     }
 
     /// How many bytes the block has that stands where a walk has come to. `None` above the last block.
+    #[inline(always)]
     pub(crate) fn size_at<S: Words>(self, store: &S, place: usize) -> Option<usize>
         requires slot { IsSlot (S.memory store.now) self }
         requires walked { Walked (slot_in (S.memory store.now) self) place }
