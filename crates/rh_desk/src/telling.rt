@@ -1,8 +1,10 @@
 //! What the program tells of faults.
 
-ghost use Rattle.std.specs.Prelude.{◌≡◌, ◌≢◌, ◌⊎◌, ◌≤◌};
+ghost use Rattle.std.specs.Prelude.{◌≡◌, ◌≢◌, ◌⊎◌, ◌≤◌, ◌++◌, codes};
 ghost use Rattle.clap.specs.Values.{kind_of};
 ghost use Rattle.rh_desk.specs.Ending.{ending_of, exit_status};
+ghost use Rattle.rh_desk.specs.Telling.{Tells, bad_word_text, fault_text};
+ghost use Rattle.rh_lines.specs.Flow.{Puts};
 
 use crate::ending::Ending;
 use clap::Error;
@@ -12,19 +14,32 @@ use rh_run::{RunFault, Status};
 use std::alloc::Global;
 
 /// How a run's outcome ends the program; a fault is told.
+#[tactic(auto, using(crate::proofs::TellLemmas::puts_tells))]
 pub fn ended<E: Sink>(outcome: Result<Status, RunFault>, errors: &mut E) -> Ending
-    ensures { result ≡ ending_of outcome }
+    ensures ending { result ≡ ending_of outcome }
+    ensures quiet { (status : Status) → outcome ≡ Ok status → E.output errors.new ≡ E.output errors.old }
+    ensures told { (fault : RunFault) → outcome ≡ Err fault → Tells (E.output errors.old) (E.output errors.new) (fault_text fault) }
 {
-    let text = match outcome {
-        Ok(Status::Clean) => return Ending::Clean,
-        Ok(Status::BadLines) => return Ending::BadLines,
-        Err(RunFault::NoMemory) => b"rh_desk: no memory\n".as_slice(),
-        Err(RunFault::ReadFailed) => b"rh_desk: read failed\n".as_slice(),
-        Err(RunFault::WriteFailed) => b"rh_desk: write failed\n".as_slice(),
-        Err(RunFault::TooLong) => b"rh_desk: script too long\n".as_slice(),
-    };
-    let _told = put(errors, text);
-    Ending::Fault
+    match outcome {
+        Ok(Status::Clean) => Ending::Clean,
+        Ok(Status::BadLines) => Ending::BadLines,
+        Err(fault) => {
+            let _told = put(errors, fault_text(fault));
+            Ending::Fault
+        }
+    }
+}
+
+/// What is told of the fault that stopped a run.
+fn fault_text(fault: RunFault) -> &'static [u8]
+    ensures { result.now ≡ fault_text fault }
+{
+    match fault {
+        RunFault::NoMemory => b"rh_desk: no memory\n",
+        RunFault::ReadFailed => b"rh_desk: read failed\n",
+        RunFault::WriteFailed => b"rh_desk: write failed\n",
+        RunFault::TooLong => b"rh_desk: script too long\n",
+    }
 }
 
 /// Prints what `clap` says of the words: help and version to the output, anything else to the errors.
@@ -69,14 +84,18 @@ pub fn tell_file<E: Sink>(path: &str, errors: &mut E) -> Ending
 }
 
 /// Tells of a NAME=PATH word that is none.
+#[tactic(auto, using(crate::proofs::TellLemmas::puts_tells))]
 pub fn tell_bad_word<E: Sink>(word: &str, errors: &mut E) -> Ending
-    ensures { result ≡ Ending.WrongWords }
+    ensures ending { result ≡ Ending.WrongWords }
+    ensures told { Tells (E.output errors.old) (E.output errors.new) (bad_word_text word.now) }
 {
     let _told = put_line(b"rh_desk: bad file word ", word, errors);
     Ending::WrongWords
 }
 
-fn put_line<E: Sink>(text: &[u8], word: &str, errors: &mut E) -> Result<(), WriteFailed> {
+fn put_line<E: Sink>(text: &[u8], word: &str, errors: &mut E) -> Result<(), WriteFailed>
+    ensures { Puts (E.output errors.old) (E.output errors.new) result (text.now ++ (word.now ++ codes "\n")) }
+{
     put(errors, text)?;
     put(errors, word.as_bytes())?;
     put(errors, b"\n")

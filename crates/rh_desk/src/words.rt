@@ -1,8 +1,9 @@
 //! What the program does with its words.
 
-ghost use Rattle.std.specs.Prelude.{◌≡◌, ◌≢◌, ◌≤◌, [], length};
+ghost use Rattle.std.specs.Prelude.{◌≡◌, ◌≢◌, ◌≤◌, [], codes, length};
 ghost use Rattle.rh_defs.specs.Runs.{start};
 ghost use Rattle.rh_desk.specs.Ending.{ending_of, exit_status};
+ghost use Rattle.rh_desk.specs.Telling.{Tells, fault_text};
 ghost use Rattle.rh_session.specs.Outcome.{Finished};
 ghost use Rattle.std.specs.IoError.{error_kind};
 ghost use Rattle.std.specs.declared.io.ErrorKind.TheVariants.{OutOfMemory};
@@ -39,8 +40,9 @@ pub fn program<R: rt::Files, I: Source, O: Sink, E: Sink>(
     ensures well { result ≤ 1 → (O.output output.new).failed ≡ (O.output output.old).failed }
     ensures wrong { result ≡ 2 → O.output output.new ≡ O.output output.old }
 
-    // With no words but its name, a run of the input over 64 pages that came to its end.
+    // With no words but its name, a run of the input over 64 pages that came to its end; nothing is told of it.
     ensures ran { length words.now ≤ 1 → (status : Status) → result ≡ exit_status (ending_of (Ok status)) → Finished (start 64 []) (I.input input.old) (I.input input.new) (O.output output.old) (O.output output.new) status }
+    ensures quiet { length words.now ≤ 1 → result ≤ 1 → E.output errors.new ≡ E.output errors.old }
 {
     let ending = if words.len() <= 1 {
         run_told(alloc, Files::new(alloc), PAGES, input, output, errors)
@@ -52,11 +54,14 @@ pub fn program<R: rt::Files, I: Source, O: Sink, E: Sink>(
 
 /// Tells why the program's words could not be had, and answers its exit status: 3 where memory was refused, and 2 where
 /// one of them, its own name among them, is not text.
+#[tactic(auto, using(crate::proofs::TellLemmas::puts_tells))]
 pub fn words_unread<E: Sink>(error: &io::Error, errors: &mut E) -> u8
     ensures fault { 2 ≤ result }
     ensures small { result ≤ 3 }
     ensures memory { error_kind error.now ≡ OutOfMemory → result ≡ 3 }
     ensures other { error_kind error.now ≢ OutOfMemory → result ≡ 2 }
+    ensures memory_told { error_kind error.now ≡ OutOfMemory → Tells (E.output errors.old) (E.output errors.new) (fault_text RunFault.NoMemory) }
+    ensures other_told { error_kind error.now ≢ OutOfMemory → Tells (E.output errors.old) (E.output errors.new) (codes "rh_desk: a word is not text\n") }
 {
     let ending = if error.kind() == io::ErrorKind::OutOfMemory {
         ended(Err(RunFault::NoMemory), errors)
@@ -84,6 +89,7 @@ fn run_told<I: Source, O: Sink, E: Sink>(
     ensures ran { (status : Status) → result ≡ ending_of (Ok status) → Finished (start pages files) (I.input script.old) (I.input script.new) (O.output output.old) (O.output output.new) status }
     ensures well { exit_status result ≤ 1 → (O.output output.new).failed ≡ (O.output output.old).failed }
     ensures run { result ≡ Ending.WrongWords → ⊥ }
+    ensures quiet { exit_status result ≤ 1 → E.output errors.new ≡ E.output errors.old }
 {
     ended(run(alloc, files, script, output, pages), errors)
 }
