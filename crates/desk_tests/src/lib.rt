@@ -1,10 +1,15 @@
-//! Tests that cross crates: worked scripts through `run`, streams that fail, and the program's words.
+//! Tests that cross crates: worked scripts through `run`, streams that fail, memory that runs out, and the program's
+//! words.
 #![tactic(auto)]
 
 #[cfg(test)]
 mod files;
 #[cfg(test)]
+mod memory;
+#[cfg(test)]
 mod same;
+#[cfg(test)]
+mod scarce;
 #[cfg(test)]
 mod scripts;
 #[cfg(test)]
