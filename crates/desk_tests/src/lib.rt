@@ -1,4 +1,5 @@
-//! Tests that cross crates: worked scripts through `run`, streams that fail, and the program's words.
+//! Tests that cross crates: worked scripts through `run`, streams that fail, memory that runs out, and the program's
+//! words.
 #![tactic(auto)]
 
 #[cfg(test)]
@@ -6,7 +7,11 @@ mod faults;
 #[cfg(test)]
 mod files;
 #[cfg(test)]
+mod memory;
+#[cfg(test)]
 mod same;
+#[cfg(test)]
+mod scarce;
 #[cfg(test)]
 mod scripts;
 #[cfg(test)]
