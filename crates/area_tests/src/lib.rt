@@ -13,6 +13,8 @@ mod heap_blocks;
 #[cfg(test)]
 mod heaps;
 #[cfg(test)]
+mod images;
+#[cfg(test)]
 mod module_blocks;
 #[cfg(test)]
 mod same;
