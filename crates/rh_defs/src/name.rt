@@ -34,7 +34,7 @@ impl Name {
             return None;
         }
         let mut letters = ArrayVec::new();
-        let _fits = letters.try_extend_from_slice(bytes);
+        letters.try_extend_from_slice(bytes).unwrap();
         Some(Name { letters })
     }
 
@@ -51,7 +51,7 @@ impl Name {
         ensures { result ≡ self.now }
     {
         let mut letters = ArrayVec::new();
-        let _fits = letters.try_extend_from_slice(self.letters.as_slice());
+        letters.try_extend_from_slice(self.letters.as_slice()).unwrap();
         Name { letters }
     }
 

@@ -44,7 +44,7 @@ impl Pathname {
             return None;
         }
         let mut letters = ArrayVec::new();
-        let _fits = letters.try_extend_from_slice(bytes);
+        letters.try_extend_from_slice(bytes).unwrap();
         Some(Pathname { bytes: letters })
     }
 
@@ -61,7 +61,7 @@ impl Pathname {
         ensures { result ≡ self.now }
     {
         let mut letters = ArrayVec::new();
-        let _fits = letters.try_extend_from_slice(self.bytes.as_slice());
+        letters.try_extend_from_slice(self.bytes.as_slice()).unwrap();
         Pathname { bytes: letters }
     }
 }

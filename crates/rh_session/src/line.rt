@@ -5,14 +5,13 @@ ghost use Rattle.rh_defs.specs.Line.{line_means};
 ghost use Rattle.rh_defs.specs.Range.{in_range};
 ghost use Rattle.rh_session.specs.Session.{kept};
 
-use rh_defs::sizes::LONGEST_LINE;
 use rh_defs::{Command, LineFault};
 use rh_lines::parse_line;
 use std::alloc::{AllocError, Global};
 use std::marker::Model;
 
 /// One byte more than a line may have shows that it has too many.
-const ROOM: usize = LONGEST_LINE + 1;
+const ROOM: usize = 1025;
 
 /// The line so far, up to one byte more than a line may have. It takes no memory once it is made.
 #[derive(Drop)]
