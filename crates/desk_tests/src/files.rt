@@ -153,33 +153,66 @@ fn said(rt: &impl Abort, checked: &Outcome, wanted: &str, status: u8) {
     same(rt, checked.status, status);
 }
 
-/// A heap of 56 bytes with two blocks and a hole between them.
-const WHOLE: &str =
-    "486561701c000000300000003800000010000000000000000000000000000000000000000800000008000000";
-
-/// The same with a first link past its base.
-const LINK_PAST_BASE: &str =
-    "486561703c000000300000003800000010000000000000000000000000000000000000000800000008000000";
-
-/// The same with a first link into a block.
-const LINK_INTO_BLOCK: &str =
-    "4865617014000000300000003800000010000000000000000000000000000000000000000800000008000000";
+/// Files by the words that they begin with and their lengths, what is said of each, and the exit status.
+const HEAPS: [(&str, usize, &str, u8); 10] = [
+    ("", 0, "bad BadDescriptor\n", 1),
+    ("486561700000000010000000", 12, "bad BadDescriptor\n", 1),
+    (
+        "68656170000000001000000010000000",
+        16,
+        "bad BadDescriptor\n",
+        1,
+    ),
+    ("48656170000000001000000010000000", 16, "ok 0 0 0 0 0\n", 0),
+    // two blocks and a hole between them
+    (
+        "486561701c000000300000003800000010000000000000000000000000000000000000000800000008000000",
+        56,
+        "ok 2 24 1 8 8\n",
+        0,
+    ),
+    // a first link past the base
+    (
+        "486561703c000000300000003800000010000000000000000000000000000000000000000800000008000000",
+        56,
+        "bad BadLink\n",
+        1,
+    ),
+    // a link backwards
+    (
+        "486561701c000000300000003800000010000000000000000000000000000000f0ffffff0800000008000000",
+        56,
+        "bad BadLink\n",
+        1,
+    ),
+    // a first link into a block
+    (
+        "4865617014000000300000003800000010000000000000000000000000000000000000000800000008000000",
+        56,
+        "bad BadSize\n",
+        1,
+    ),
+    // a hole that touches the next
+    (
+        "4865617014000000300000003800000008000000000000000800000008000000000000000800000008000000",
+        56,
+        "bad BadLink\n",
+        1,
+    ),
+    // a hole that isn't linked
+    (
+        "486561700c000000300000003800000000000000080000000800000000000000000000000800000008000000",
+        56,
+        "bad BadSize\n",
+        1,
+    ),
+];
 
 #[test]
 fn heaps_are_checked(rt: HostRuntime) -> Result<(), Fail> {
-    said(&rt, &checked(&rt, "", 0)?, "bad BadDescriptor\n", 1);
-    let least = "48656170000000001000000010000000";
-    said(&rt, &checked(&rt, least, 16)?, "ok 0 0 0 0 0\n", 0);
-    let other_tag = "68656170000000001000000010000000";
-    said(&rt, &checked(&rt, other_tag, 16)?, "bad BadDescriptor\n", 1);
-    Ok(())
-}
-
-#[test]
-fn heaps_of_blocks_are_checked(rt: HostRuntime) -> Result<(), Fail> {
-    said(&rt, &checked(&rt, WHOLE, 56)?, "ok 2 24 1 8 8\n", 0);
-    said(&rt, &checked(&rt, LINK_PAST_BASE, 56)?, "bad BadLink\n", 1);
-    said(&rt, &checked(&rt, LINK_INTO_BLOCK, 56)?, "bad BadSize\n", 1);
+    for (front, length, wanted, status) in HEAPS {
+        said(&rt, &checked(&rt, front, length)?, wanted, status);
+    }
     Ok(())
 }
 
