@@ -2,7 +2,9 @@
 
 use crate::same::{is_true, same};
 use arrayvec::ArrayVec;
-use rh_defs::{Anchor, Bytes, Command, Files, Leaf, LineFault, Manner, Name, Refusal, block_law, image_law};
+use rh_defs::{
+    Anchor, Bytes, Command, Files, Leaf, LineFault, Manner, Name, Refusal, block_law, image_law,
+};
 use std::alloc::{AllocError, Global};
 use std::process::Abort;
 use std::test::Fail;

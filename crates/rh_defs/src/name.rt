@@ -51,7 +51,9 @@ impl Name {
         ensures { result ≡ self.now }
     {
         let mut letters = ArrayVec::new();
-        letters.try_extend_from_slice(self.letters.as_slice()).unwrap();
+        letters
+            .try_extend_from_slice(self.letters.as_slice())
+            .unwrap();
         Name { letters }
     }
 

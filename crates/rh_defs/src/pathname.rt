@@ -61,7 +61,9 @@ impl Pathname {
         ensures { result ≡ self.now }
     {
         let mut letters = ArrayVec::new();
-        letters.try_extend_from_slice(self.bytes.as_slice()).unwrap();
+        letters
+            .try_extend_from_slice(self.bytes.as_slice())
+            .unwrap();
         Pathname { bytes: letters }
     }
 }
