@@ -11,7 +11,11 @@ use std::process::Abort;
 use std::test::Fail;
 
 /// What a script writes over so many pages, and how its run ends.
-pub fn outcome_of(alloc: Global, script: &[u8], pages: u32) -> (Vec<u8>, Result<Status, RunFault>)
+pub(crate) fn outcome_of(
+    alloc: Global,
+    script: &[u8],
+    pages: u32,
+) -> (Vec<u8>, Result<Status, RunFault>)
     requires least { 8 ≤ pages }
     requires most { pages ≤ 1024 }
 {

@@ -19,7 +19,7 @@ pub struct Outcome {
 }
 
 /// The program's own name, and these words behind it.
-pub fn all_words(alloc: Global, words: &[&str]) -> Result<Vec<String>, AllocError> {
+pub(crate) fn all_words(alloc: Global, words: &[&str]) -> Result<Vec<String>, AllocError> {
     let mut all = Vec::new(alloc);
     all.push(String::from_str(alloc, "vervainfile")?)?;
     for word in words {
@@ -29,12 +29,12 @@ pub fn all_words(alloc: Global, words: &[&str]) -> Result<Vec<String>, AllocErro
 }
 
 /// Runs the program on these words behind its own name, over this input.
-pub fn ended(rt: &HostRuntime, words: &[&str], input: &[u8]) -> Result<Outcome, AllocError> {
+pub(crate) fn ended(rt: &HostRuntime, words: &[&str], input: &[u8]) -> Result<Outcome, AllocError> {
     ended_over(rt, rt, words, input)
 }
 
 /// Runs the program on these words behind its own name, over these files and this reader.
-pub fn ended_over<F: rt::Files, I: Read + Drop>(
+pub(crate) fn ended_over<F: rt::Files, I: Read + Drop>(
     files: &F,
     rt: &HostRuntime,
     words: &[&str],
@@ -227,7 +227,7 @@ fn a_long_path_is_told_whole(rt: HostRuntime) -> Result<(), Fail> {
 }
 
 /// The program told just this, wrote nothing, and ended with this status.
-pub fn is_told(rt: &impl Abort, told: &Outcome, text: &str, status: u8) {
+pub(crate) fn is_told(rt: &impl Abort, told: &Outcome, text: &str, status: u8) {
     same(rt, told.errors.as_slice(), text.as_bytes());
     is_true(rt, told.output.is_empty());
     same(rt, told.status, status);
