@@ -22,6 +22,10 @@ pub(crate) struct Scarce {
 impl Scarce {
     pub(crate) fn new(alloc: Global) -> Result<Scarce, AllocError> {
         let mut blocks = Vec::with_capacity(alloc, MOST_BLOCKS)?;
+        if has(alloc, 1 << 39) && !has(alloc, 1 << 41) {
+            // the allocator of `rt try`, which lends up to 1 TiB and stops the process where that runs out
+            return Ok(Scarce { blocks, piece: 0 });
+        }
         let mut kept = Vec::with_capacity(alloc, PIECE / PART)?;
         for _part in 0..PIECE / PART {
             let part: Vec<u8> = Vec::with_capacity(alloc, PART)?;
