@@ -102,7 +102,7 @@ resize-granted delta (Some b) h x e = elim (cases_eq (new_size delta b) 0) [
     | inl none ↦ sym (cond_false (eqb (new_size delta b) 0) _ _ (eqb_apart (new_size delta b) 0 ne) ∙ ap (λ i. Ok i) none)
     | inr some ↦ absurd (
         let q = e ∙ ap answer_of (cond_false (eqb (new_size delta b) 0) _ _ (eqb_apart (new_size delta b) 0 ne)
-            ∙ cond_false (eqb (resize_need (new_size delta b) b h) 0) _ _ (eqb_apart (resize_need (new_size delta b) b h) 0 some)) in
+        ∙ cond_false (eqb (resize_need (new_size delta b) b h) 0) _ _ (eqb_apart (resize_need (new_size delta b) b h) 0 some)) in
         cc)
   ]
 ]
