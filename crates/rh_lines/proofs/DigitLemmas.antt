@@ -1,26 +1,20 @@
--- Digits, written from the last one on.
-use Rattle.std.proofs.Common.{◌≡◌, ◌≢◌, ℕ, zero, suc, ◌+◌, ◌-◌, ◌*◌, ◌/◌, ◌%◌, ◌^◌, ◌<◌, ◌≤◌, Bool, true, false, cond, eqb, List, [], ◌∷◌, length, drop, set, refl, subst, arith, rules}
-use Rattle.std.specs.Fmt.{digits, digits_onto, digit_glyph}
-use Rattle.std.proofs.Math.Nat.{mul-le-mul_right, pow-suc}
+-- Digits, two at a time from the last ones on.
+use Rattle.std.proofs.Common.{◌≡◌, ◌≢◌, ℕ, zero, suc, ◌+◌, ◌/◌, ◌%◌, ◌^◌, ◌<◌, ◌≤◌, inl, inr, Bool, true, false, cond, eqb, List, [], ◌∷◌, ◌++◌, length, append_assoc, refl, sym, ap, ◌∙◌, arith, rules}
+use Rattle.std.specs.Fmt.{decimal, digits, digits_onto, digit_glyph}
+use Rattle.std.proofs.lemmas.Fmt.{decimal_digit, decimal_step, length-decimal-le, hex_one_digit}
+use Rattle.std.proofs.lemmas.Bool.{cases_lt}
+use Rattle.std.proofs.lemmas.List.{length-append}
 use borrow.Author.Tests.{tests}
-use Rattle.std.proofs.lemmas.Grind.{common_steps, drop-set_at}
 
--- the digits of number are those of rest and then tail, whose last one goes to place at
-pub record Filled (base number : ℕ) (upper : Bool) (at rest : ℕ) (tail : List ℕ) : Type 0 where
-  pub small : rest < 10 ^ at
-  pub same : digits_onto (suc (53 + at)) base upper rest tail ≡ digits base upper number
+-- the hexadecimal digits of n before acc, up to k of them
+abbrev hex_onto : ℕ → ℕ → List ℕ → List ℕ
+hex_onto k n acc = digits_onto k 16 true n acc
 
-pub filled_start : (base number : ℕ) (upper : Bool) → number < 2 ^ 32 → Filled base number upper 10 number []
-unfolding digits
-filled_start base number upper small = record { small = omega arith; same = refl }
+abbrev glyph : ℕ → ℕ
+glyph n = digit_glyph true (n % 16)
 
-one_step : (b : Bool) (x y z : List ℕ) → b ≡ true → cond b x y ≡ z → x ≡ z
-one_step true x y z h e = e
-one_step false x y z h e = absurd (cc)
-
-other_step : (b : Bool) (x y z : List ℕ) → b ≡ false → cond b x y ≡ z → y ≡ z
-other_step true x y z h e = absurd (cc)
-other_step false x y z h e = e
+by_test : (b t : Bool) (x y : List ℕ) → b ≡ t → cond b x y ≡ cond t x y
+by_test b t x y e = ap (λ c. cond c x y) e
 
 is_zero : (n : ℕ) → n ≡ 0 → eqb n 0 ≡ true
 is_zero n e = search (rules, tests)
@@ -28,33 +22,67 @@ is_zero n e = search (rules, tests)
 is_positive : (n : ℕ) → n ≢ 0 → eqb n 0 ≡ false
 is_positive n e = search (rules, tests)
 
-pub filled_last : (base number : ℕ) (upper : Bool) (at rest : ℕ) (tail : List ℕ) → Filled base number upper at rest tail → rest / base ≡ 0 → digit_glyph upper (rest % base) ∷ tail ≡ digits base upper number
-filled_last base number upper at rest tail h e = one_step (eqb (rest / base) 0) _ _ _ (is_zero (rest / base) e) h.same
+last : (k n : ℕ) (acc : List ℕ) → n < 16 → hex_onto (suc k) n acc ≡ glyph n ∷ acc
+last k n acc h = by_test _ true _ _ (is_zero (n / 16) (omega arith))
 
-quotient_small : (base rest m : ℕ) → 10 ≤ base → rest < 10 * m → rest / base < m
-quotient_small base rest m low h = grind (arith, mul-le-mul_right)
+next : (k n : ℕ) (acc : List ℕ) → 16 ≤ n → hex_onto (suc k) n acc ≡ hex_onto k (n / 16) (glyph n ∷ acc)
+next k n acc h = by_test _ false _ _ (is_positive (n / 16) (λ e. omega arith))
 
-pub filled_next : (base number : ℕ) (upper : Bool) (at rest : ℕ) (tail : List ℕ) → Filled base number upper (suc at) rest tail → 10 ≤ base → rest / base ≢ 0 → Filled base number upper at (rest / base) (digit_glyph upper (rest % base) ∷ tail)
-filled_next base number upper at rest tail h low e =
-    let steps : 53 + suc at ≡ suc (53 + at) = omega arith in
-    let P : ℕ → Type 0 = λ k. digits_onto k base upper (rest / base) (digit_glyph upper (rest % base) ∷ tail) ≡ digits base upper number in
-    record {
-      small = quotient_small base rest (10 ^ at) low (omega (arith, pow-suc 10 at, h.small));
-      same = subst P steps (other_step (eqb (rest / base) 0) _ _ _ (is_positive (rest / base) e) h.same);
-    }
+onto_append : (k n : ℕ) (acc : List ℕ) → hex_onto k n acc ≡ hex_onto k n [] ++ acc
+onto_append zero n acc = refl
+onto_append (suc k) n acc = elim (cases_lt n 16) [
+  | inl l ↦ last k n acc l ∙ ap (λ x. x ++ acc) (sym (last k n [] l))
+  | inr l ↦ next k n acc l ∙ onto_append k (n / 16) (glyph n ∷ acc) ∙ sym (append_assoc (hex_onto k (n / 16) []) (glyph n ∷ []) acc)
+      ∙ ap (λ x. x ++ acc) (sym (next k n [] l ∙ onto_append k (n / 16) (glyph n ∷ [])))
+]
 
-pub filled_more : (base number : ℕ) (upper : Bool) (at rest : ℕ) (tail : List ℕ) → 0 < at → Filled base number upper at rest tail → 10 ≤ base → rest / base ≢ 0 → 0 < at - 1
-filled_more base number upper zero rest tail p h low e = absurd (omega arith)
-filled_more base number upper (suc zero) rest tail p h low e =
-    absurd (e (omega (arith, quotient_small base rest 1 low (omega (arith, h.small)))))
-filled_more base number upper (suc (suc at)) rest tail p h low e = omega arith
+-- room for one digit more changes nothing where there is enough
+onto_more : (k n : ℕ) (acc : List ℕ) → n < 16 ^ suc k → hex_onto (suc (suc k)) n acc ≡ hex_onto (suc k) n acc
+onto_more zero n acc h = last (suc zero) n acc (omega arith) ∙ sym (last zero n acc (omega arith))
+onto_more (suc k) n acc h = elim (cases_lt n 16) [
+  | inl l ↦ last (suc (suc k)) n acc l ∙ sym (last (suc k) n acc l)
+  | inr l ↦ next (suc (suc k)) n acc l ∙ onto_more k (n / 16) (glyph n ∷ acc) (omega (arith, h)) ∙ sym (next (suc k) n acc l)
+]
 
--- the place before, in a buffer
-pub filled_before : (base number : ℕ) (upper : Bool) (at rest glyph : ℕ) (buffer : List ℕ) → at < length buffer → 0 < at → Filled base number upper at rest (drop (at + 1) buffer) → 10 ≤ base → rest / base ≢ 0 → glyph ≡ digit_glyph upper (rest % base) → Filled base number upper (at - 1) (rest / base) (drop (at - 1 + 1) (set buffer at glyph))
-filled_before base number upper at rest glyph buffer room p h low e g =
-    let same_at : at ≡ suc (at - 1) = omega arith in
-    let P : ℕ → Type 0 = λ k. Filled base number upper k rest (drop (at + 1) buffer) in
-    let next = filled_next base number upper (at - 1) rest (drop (at + 1) buffer) (subst P same_at h) low e in
-    let tail : digit_glyph upper (rest % base) ∷ drop (at + 1) buffer ≡ drop (at - 1 + 1) (set buffer at glyph) = grind (arith, common_steps, drop-set_at) in
-    let Q : List ℕ → Type 0 = λ z. Filled base number upper (at - 1) (rest / base) z in
-    subst Q tail next
+pub hex_step : (n : ℕ) → 16 ≤ n → n < 2 ^ 32 → digits 16 true n ≡ digits 16 true (n / 16) ++ (glyph n ∷ [])
+unfolding digits
+hex_step n h small = next 63 n [] h ∙ sym (onto_more 62 (n / 16) (glyph n ∷ []) (omega arith)) ∙ onto_append 64 (n / 16) (glyph n ∷ [])
+
+-- the last two digits of a number that has more of them
+pub hex_pair : (n : ℕ) → 256 ≤ n → n < 2 ^ 32 → digits 16 true n ≡ digits 16 true (n / 256) ++ (digit_glyph true (n % 256 / 16) ∷ digit_glyph true (n % 256 % 16) ∷ [])
+hex_pair n h small =
+    let front : n / 16 / 16 ≡ n / 256 = omega arith in
+    let high : n / 16 % 16 ≡ n % 256 / 16 = omega arith in
+    let low : n % 16 ≡ n % 256 % 16 = omega arith in
+    hex_step n (omega arith) small ∙ ap (λ x. x ++ (glyph n ∷ [])) (hex_step (n / 16) (omega arith) (omega arith))
+    ∙ append_assoc (digits 16 true (n / 16 / 16)) (glyph (n / 16) ∷ []) (glyph n ∷ []) ∙ ap (λ m. digits 16 true m ++ (glyph (n / 16) ∷ glyph n ∷ [])) front
+    ∙ ap (λ d. digits 16 true (n / 256) ++ (digit_glyph true d ∷ glyph n ∷ [])) high
+    ∙ ap (λ d. digits 16 true (n / 256) ++ (digit_glyph true (n % 256 / 16) ∷ digit_glyph true d ∷ [])) low
+
+few : (k n : ℕ) → n < 16 ^ suc k → n < 2 ^ 32 → length (digits 16 true n) ≤ suc k
+few zero n h small = omega (arith, ap (λ (x : List ℕ). length x) (hex_one_digit true n (omega (arith, h))))
+few (suc k) n h small = elim (cases_lt n 16) [
+  | inl l ↦ omega (arith, ap (λ (x : List ℕ). length x) (hex_one_digit true n l))
+  | inr l ↦ omega (arith, ap (λ (x : List ℕ). length x) (hex_step n l small), length-append (digits 16 true (n / 16)) (glyph n ∷ []), few k (n / 16) (omega (arith, h)) (omega (arith, small)))
+]
+
+pub hex_few : (n : ℕ) → n < 2 ^ 24 → length (digits 16 true n) ≤ 6
+hex_few n h = few 5 n (omega (arith, h)) (omega (arith, h))
+
+-- the same in decimal
+pub decimal_two : (n : ℕ) → 10 ≤ n → n < 100 → decimal n ≡ (48 + n / 10) ∷ (48 + n % 10) ∷ []
+decimal_two n h small = decimal_step n h (omega arith) ∙ ap (λ x. x ++ ((48 + n % 10) ∷ [])) (decimal_digit (n / 10) (omega arith))
+
+pub decimal_pair : (n : ℕ) → 100 ≤ n → n < 2 ^ 32 → decimal n ≡ decimal (n / 100) ++ ((48 + n % 100 / 10) ∷ (48 + n % 100 % 10) ∷ [])
+decimal_pair n h small =
+    let front : n / 10 / 10 ≡ n / 100 = omega arith in
+    let tens : n / 10 % 10 ≡ n % 100 / 10 = omega arith in
+    let ones : n % 10 ≡ n % 100 % 10 = omega arith in
+    decimal_step n (omega arith) (omega arith) ∙ ap (λ x. x ++ ((48 + n % 10) ∷ [])) (decimal_step (n / 10) (omega arith) (omega arith))
+    ∙ append_assoc (decimal (n / 10 / 10)) ((48 + n / 10 % 10) ∷ []) ((48 + n % 10) ∷ [])
+    ∙ ap (λ m. decimal m ++ ((48 + n / 10 % 10) ∷ (48 + n % 10) ∷ [])) front
+    ∙ ap (λ d. decimal (n / 100) ++ ((48 + d) ∷ (48 + n % 10) ∷ [])) tens
+    ∙ ap (λ d. decimal (n / 100) ++ ((48 + n % 100 / 10) ∷ (48 + d) ∷ [])) ones
+
+pub decimal_few : (n : ℕ) → n < 2 ^ 28 → length (decimal n) ≤ 9
+decimal_few n h = length-decimal-le 9 n (omega arith) (omega (arith, h)) (omega (arith, h))

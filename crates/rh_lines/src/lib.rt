@@ -11,7 +11,6 @@ mod heaps;
 mod held;
 mod hex_digits;
 mod keyword;
-mod numbers;
 mod parse;
 mod print;
 mod row;

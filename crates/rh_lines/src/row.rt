@@ -1,10 +1,9 @@
 //! A line of text while it is built.
 
-ghost use Rattle.std.specs.Prelude.{◌≡◌, ◌≤◌, ◌<◌, ◌+◌, [], ◌∷◌, ◌++◌, length};
-ghost use Rattle.std.specs.Fmt.{decimal};
+ghost use Rattle.std.specs.Prelude.{◌≡◌, ◌≤◌, ◌<◌, ◌+◌, ◌/◌, ◌%◌, [], ◌∷◌, ◌++◌, length, true};
+ghost use Rattle.std.specs.Fmt.{decimal, digits, digit_glyph};
 ghost use Rattle.rh_defs.specs.Text.{address};
 
-use crate::numbers::Digits;
 use std::marker::Model;
 
 /// A line of up to 96 bytes while it is built, which takes no memory.
@@ -63,8 +62,20 @@ impl Row {
         self.len = end;
     }
 
+    /// Adds two bytes.
+    #[inline(always)]
+    fn pair(&mut self, first: u8, second: u8)
+        requires { length self.old + 2 ≤ 96 }
+        ensures { self.new ≡ self.old ++ first ∷ second ∷ [] }
+    {
+        let at = self.len;
+        self.bytes[at] = first;
+        self.bytes[at + 1] = second;
+        self.len = at + 2;
+    }
+
     /// Adds a number in decimal.
-    #[tactic(auto, using(std::proofs::lemmas::Fmt::decimal_digit))]
+    #[tactic(auto, using(std::proofs::lemmas::Fmt::decimal_digit, crate::proofs::DigitLemmas::decimal_two))]
     pub fn decimal(&mut self, number: u32)
         requires { length self.old + 11 ≤ 96 }
         ensures value { self.new ≡ self.old ++ decimal number }
@@ -72,19 +83,70 @@ impl Row {
     {
         if number < 10 {
             self.byte(b'0' + number as u8);
-            return;
+        } else if number < 100 {
+            self.two_digits(number);
+        } else {
+            self.decimal(number / 100);
+            self.two_digits(number % 100);
         }
-        let digits = Digits::decimal(number);
-        self.text(digits.as_slice());
+    }
+
+    /// Adds a number below 100 as two decimal digits.
+    #[inline(always)]
+    fn two_digits(&mut self, number: u32)
+        requires room { length self.old + 2 ≤ 96 }
+        requires few { number < 100 }
+        ensures { self.new ≡ self.old ++ (48 + number / 10) ∷ (48 + number % 10) ∷ [] }
+    {
+        self.pair(b'0' + (number / 10) as u8, b'0' + (number % 10) as u8);
     }
 
     /// Adds an address.
+    #[tactic(auto, unfolding(rh_defs::specs::Text::address))]
     pub fn address(&mut self, number: u32)
         requires { length self.old + 11 ≤ 96 }
         ensures value { self.new ≡ self.old ++ address number }
         ensures few { length self.new ≤ length self.old + 11 }
     {
-        let digits = Digits::address(number);
-        self.text(digits.as_slice());
+        self.byte(b'&');
+        self.hexadecimal(number);
+    }
+
+    /// Adds a number in upper-case hexadecimal, without leading zeros.
+    #[tactic(auto, using(std::proofs::lemmas::Fmt::hex_one_digit, std::proofs::lemmas::Fmt::hex_two_digits))]
+    fn hexadecimal(&mut self, number: u32)
+        requires { length self.old + 10 ≤ 96 }
+        ensures value { self.new ≡ self.old ++ digits 16 true number }
+        ensures few { length self.new ≤ length self.old + 10 }
+    {
+        if number < 16 {
+            self.byte(hex_glyph(number));
+        } else if number < 256 {
+            self.two_hex_digits(number);
+        } else {
+            self.hexadecimal(number / 256);
+            self.two_hex_digits(number % 256);
+        }
+    }
+
+    /// Adds a number below 256 as two hexadecimal digits.
+    #[inline(always)]
+    fn two_hex_digits(&mut self, number: u32)
+        requires room { length self.old + 2 ≤ 96 }
+        requires few { number < 256 }
+        ensures { self.new ≡ self.old ++ digit_glyph true (number / 16) ∷ digit_glyph true (number % 16) ∷ [] }
+    {
+        self.pair(hex_glyph(number / 16), hex_glyph(number % 16));
+    }
+}
+
+fn hex_glyph(digit: u32) -> u8
+    requires { digit < 16 }
+    ensures { result ≡ digit_glyph true digit }
+{
+    if digit < 10 {
+        b'0' + digit as u8
+    } else {
+        b'A' + (digit as u8 - 10)
     }
 }

@@ -178,7 +178,10 @@ impl Slot {
         ensures { result ≡ length (slot_in (S.memory store.now) self).blocks }
     {
         let mut walk = self.blocks(store);
-        'walk: while let Some(_) = self.next_block(store, &mut walk) {}
+        'walk: while let Some(size) = self.size_at(store, walk.place) {
+            walk.passed += 1;
+            walk.place += flex_weight(size);
+        }
         walk.passed
     }
 
@@ -196,6 +199,7 @@ impl Slot {
 
     /// The next flex block of a walk: its anchor, address and size in bytes. `None` above the last one, where the walk
     /// stays.
+    #[inline(always)]
     pub fn next_block<S: Words>(self, store: &S, walk: &mut FlexWalk) -> Option<BlockItem>
         requires slot { IsSlot (S.memory store.now) self }
         requires walk { WalksIn (slot_in (S.memory store.now) self) walk.old }
