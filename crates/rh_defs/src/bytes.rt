@@ -2,13 +2,14 @@
 
 ghost use Rattle.std.specs.Prelude.{◌≡◌, ◌≤◌, length};
 
+use crate::sizes::MOST_BYTES;
 use arrayvec::ArrayVec;
 use std::marker::Model;
 
 /// The bytes that a `put` writes: at most 512, as a script line has room for no more.
 #[derive(Debug, Drop, PartialEq, Eq)]
 pub struct Bytes {
-    bytes: ArrayVec<u8, 512>,
+    bytes: ArrayVec<u8, MOST_BYTES>,
 }
 
 impl Model for Bytes {
@@ -23,7 +24,7 @@ impl Model for Bytes {
 
 impl Bytes {
     /// The bytes of a `put`.
-    pub fn new(bytes: ArrayVec<u8, 512>) -> Bytes
+    pub fn new(bytes: ArrayVec<u8, MOST_BYTES>) -> Bytes
         ensures { result ≡ bytes.items }
     {
         Bytes { bytes }

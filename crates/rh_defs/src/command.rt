@@ -8,7 +8,7 @@ use crate::bytes::Bytes;
 use crate::ids::{Anchor, Ref};
 use crate::leaf::Leaf;
 use crate::name::Name;
-use crate::sizes::{GREATEST_NUMBER, MAX_PAGES};
+use crate::sizes::{FIRST_MADE, GREATEST_NUMBER, LAST_AREA, LONGEST_BUFFER, MAX_PAGES};
 
 /// How a task takes part in transfers.
 #[derive(Clone, Copy, Debug, PartialEq, Eq)]
@@ -165,15 +165,6 @@ pub enum Command {
     /// Lists the free pages, and those of each area and slot.
     Areas,
 }
-
-/// The size in bytes of the longest receive buffer.
-const LONGEST_BUFFER: u32 = 65_536;
-
-/// The number of the first made area.
-const FIRST_MADE: u32 = 256;
-
-/// The greatest number of an area.
-const LAST_AREA: u32 = 65_535;
 
 fn is_delta(n: i32) -> bool
     ensures { result ≡ is_delta_of n }

@@ -4,13 +4,14 @@ ghost use Rattle.std.specs.Prelude.{◌≡◌, ◌≤◌, length};
 ghost use Rattle.std.specs.List.{list_all};
 ghost use Rattle.rh_defs.specs.Forms.{is_graphic, is_leaf};
 
+use crate::sizes::LONGEST_LEAF;
 use arrayvec::ArrayVec;
 use std::marker::Model;
 
 /// The leafname that a task gives to what it saves: at most 10 bytes.
 #[derive(Debug, Drop, PartialEq, Eq)]
 pub struct Leaf {
-    letters: ArrayVec<u8, 10>,
+    letters: ArrayVec<u8, LONGEST_LEAF>,
 }
 
 impl Model for Leaf {
@@ -25,7 +26,7 @@ impl Model for Leaf {
 
 impl Leaf {
     /// The leafname of these bytes, whatever they are: `is_valid` tests them.
-    pub fn new(letters: ArrayVec<u8, 10>) -> Leaf
+    pub fn new(letters: ArrayVec<u8, LONGEST_LEAF>) -> Leaf
         ensures { result ≡ letters.items }
     {
         Leaf { letters }
@@ -50,7 +51,7 @@ impl Leaf {
 fn spells_leaf(letters: &[u8]) -> bool
     ensures { result ≡ is_leaf letters.now }
 {
-    !letters.is_empty() && letters.len() <= 10 && are_graphic(letters)
+    !letters.is_empty() && letters.len() <= LONGEST_LEAF && are_graphic(letters)
 }
 
 fn are_graphic(letters: &[u8]) -> bool

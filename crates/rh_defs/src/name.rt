@@ -5,13 +5,14 @@ ghost use Rattle.std.specs.List.{list_all};
 ghost use Rattle.std.specs.Char.{is_ascii_alphanumeric};
 ghost use Rattle.rh_defs.specs.Forms.{is_name};
 
+use crate::sizes::LONGEST_NAME;
 use arrayvec::ArrayVec;
 use std::marker::Model;
 
 /// The name of a task or a file: 1 to 12 bytes.
 #[derive(Debug, Drop, PartialEq, Eq, Hash)]
 pub struct Name {
-    letters: ArrayVec<u8, 12>,
+    letters: ArrayVec<u8, LONGEST_NAME>,
 }
 
 impl Model for Name {
@@ -30,7 +31,7 @@ impl Name {
         ensures found { IsSome result ↔ ((0 < length bytes.now) × (length bytes.now ≤ 12)) }
         ensures value { IfSome result (λ name. name ≡ bytes.now) }
     {
-        if bytes.is_empty() || bytes.len() > 12 {
+        if bytes.is_empty() || bytes.len() > LONGEST_NAME {
             return None;
         }
         let mut letters = ArrayVec::new();
@@ -68,7 +69,7 @@ impl Name {
 fn spells_name(letters: &[u8]) -> bool
     ensures { result ≡ is_name letters.now }
 {
-    if letters.is_empty() || letters.len() > 12 {
+    if letters.is_empty() || letters.len() > LONGEST_NAME {
         return false;
     }
     letters[0].is_ascii_alphabetic() && are_letters_or_digits(letters)

@@ -79,6 +79,24 @@ pub const LONGEST_LINE: usize = 1024;
 /// The greatest number that a script can spell.
 pub const GREATEST_NUMBER: u32 = 2_147_483_647;
 
+/// The most bytes of a task's or a file's name.
+pub const LONGEST_NAME: usize = 12;
+
+/// The most bytes of a leafname.
+pub const LONGEST_LEAF: usize = 10;
+
+/// The most bytes that a `put` writes: two digits stand for each.
+pub const MOST_BYTES: usize = LONGEST_LINE / 2;
+
+/// The size in bytes of the longest receive buffer.
+pub const LONGEST_BUFFER: u32 = 65_536;
+
+/// The number of the first area that is made at run.
+pub const FIRST_MADE: u32 = 256;
+
+/// The greatest number of an area.
+pub const LAST_AREA: u32 = 65_535;
+
 /// The areas of a desk fit exactly, with as many made ones and slots as there can be. Pages are from 8 up to as many
 /// as make 4 MiB.
 pub fn limits_law()

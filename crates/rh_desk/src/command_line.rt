@@ -3,15 +3,11 @@
 ghost use Rattle.std.specs.Prelude.{◌≤◌};
 
 use clap::{Arg, ArgAction, ArgMatches, Command, Error, value_parser};
+use rh_defs::sizes::{MAX_PAGES, MIN_PAGES};
 use std::alloc::{AllocError, Global};
 
 /// The pages of a desk where nothing is said.
 pub const PAGES: u32 = 64;
-
-/// The fewest and the most pages of a desk.
-const FEWEST_PAGES: u32 = 8;
-
-const MOST_PAGES: u32 = 1024;
 
 /// How the program is called.
 const USAGE: &str = "\
@@ -59,7 +55,7 @@ pub fn request_of<'m, 'a>(matches: &'m ArgMatches<'a>) -> Option<Request<'m, 'a>
     }
     let pages = found.get_one::<u32>("pages").unwrap_or(PAGES);
     let script = found.get_str("script")?;
-    if pages < FEWEST_PAGES || pages > MOST_PAGES {
+    if pages < MIN_PAGES as u32 || pages > MAX_PAGES as u32 {
         return None;
     }
     let files = found.get_strs("files").unwrap_or(&[]);
@@ -88,7 +84,7 @@ fn running<'a>(alloc: Global) -> Result<Command<'a>, AllocError> {
         .long("pages")
         .value_name("N")
         .help("Pages of the desk, 8 to 1024 [default: 64]")
-        .value_parser(value_parser!(u32).range(8..1025));
+        .value_parser(value_parser!(u32).range(MIN_PAGES as i64..MAX_PAGES as i64 + 1));
     let script = Arg::new(alloc, "script")
         .value_name("SCRIPT")
         .help("The script, a command a line; - for standard input")

@@ -7,16 +7,8 @@ ghost use Rattle.rh_defs.specs.Range.{in_range};
 use crate::counts::counted;
 use crate::forms::{delta_at, number_at};
 use crate::words::Words;
+use rh_defs::sizes::{FIRST_MADE, LAST_AREA, MAX_PAGES};
 use rh_defs::{Command, LineFault};
-
-/// The greatest number of an area.
-const LAST_AREA: u32 = 65_535;
-
-/// The number of the first made area.
-const FIRST_MADE: u32 = 256;
-
-/// The most pages that a made area may have.
-const MOST_PAGES: u32 = 1024;
 
 /// `area K DELTA`.
 #[tactic(auto, unfolding(rh_defs::specs::Line::area_of, rh_defs::specs::Range::in_range))]
@@ -37,7 +29,7 @@ pub fn make_of(words: &Words<'_>) -> Result<Command, LineFault>
     ensures in_range { IfOk result (λ command. IsTrue (in_range command)) }
 {
     counted(words, 2)?;
-    let most = number_at(words, 2, 1, MOST_PAGES)?;
+    let most = number_at(words, 2, 1, MAX_PAGES as u32)?;
     Ok(Command::Make { most })
 }
 

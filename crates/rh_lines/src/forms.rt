@@ -11,10 +11,8 @@ ghost use Rattle.rh_defs.specs.Line.{name_at, number_at, delta_at, is_address, h
 use crate::hex_digits::{are_hex_digits, hex_bytes, hex_number};
 use crate::words::Words;
 use arrayvec::ArrayVec;
+use rh_defs::sizes::GREATEST_NUMBER;
 use rh_defs::{Anchor, Bytes, Leaf, LineFault, Name};
-
-/// The greatest number of a line.
-const GREATEST: u32 = 2_147_483_647;
 
 /// Word `n` as a name: an ASCII letter, and then up to 11 ASCII letters or digits.
 #[tactic(auto, unfolding(rh_defs::specs::Line::name_at))]
@@ -45,7 +43,7 @@ pub fn size_at(words: &Words<'_>, n: u8) -> Result<u32, LineFault>
     ensures means { result ≡ number_at words.now n 0 2147483647 }
     ensures form { IfOk result (λ size. IsTrue (is_number size)) }
 {
-    number_at(words, n, 0, GREATEST)
+    number_at(words, n, 0, GREATEST_NUMBER)
 }
 
 /// Word `n` as a decimal number of 1 to 10 digits, from `low` to `high`.
@@ -74,7 +72,7 @@ pub fn delta_at(words: &Words<'_>, n: u8) -> Result<i32, LineFault>
         _ => (false, word),
     };
     match decimal(digits) {
-        Some(number) if number <= u64::from(GREATEST) => Ok(signed(is_negative, number as u32)),
+        Some(number) if number <= u64::from(GREATEST_NUMBER) => Ok(signed(is_negative, number as u32)),
         _ => Err(LineFault::Word(n)),
     }
 }

@@ -67,7 +67,7 @@ impl Sink for Held {
             self.failed = true;
             return Ok(0);
         }
-        let _fits = self.bytes.extend_from_slice(bytes);
+        self.bytes.extend_from_slice(bytes).unwrap();
         Ok(bytes.len())
     }
 }

@@ -11,10 +11,8 @@ use crate::heaps::{budge_of, claim_of, heap_of, release_of, resize_of, rma_of};
 use crate::keyword::{Keyword, keyword_of};
 use crate::tasks::{cancel_of, kill_of, poll_of, repeat_of, save_of, status_of, task_of};
 use crate::words::Words;
+use rh_defs::sizes::LONGEST_LINE;
 use rh_defs::{Command, LineFault};
-
-/// The greatest number of bytes before a line feed.
-const LONGEST_LINE: usize = 1024;
 
 /// What a complete line, without its line feed, asks for: a command that is in range, nothing for
 /// a line without words or whose first word begins with `#`, or else its first fault. Never

@@ -8,10 +8,8 @@ ghost use Rattle.rh_defs.specs.Range.{in_range};
 use crate::counts::{counted, counted_from};
 use crate::forms::{anchor_at, choice_at, leaf_at, name_at, number_at};
 use crate::words::Words;
+use rh_defs::sizes::LONGEST_BUFFER;
 use rh_defs::{Command, LineFault, Manner, Ref};
-
-/// The size in bytes of the longest receive buffer.
-const LONGEST_BUFFER: u32 = 65_536;
 
 /// `task NAME BUF`, with `deaf` or `file` behind it or not.
 #[tactic(auto, unfolding(rh_defs::specs::Line::task_of, rh_defs::specs::Range::in_range))]

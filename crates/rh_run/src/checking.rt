@@ -3,6 +3,7 @@
 ghost use Rattle.std.specs.Prelude.{◌≡◌, ◌+◌, ◌<◌, ◌≤◌, ◌^◌, ◌++◌, codes, length, IfOk, IfErr};
 ghost use Rattle.std.specs.Fmt.{decimal};
 ghost use Rattle.rh_defs.specs.Bytes.{word};
+ghost use Rattle.rh_defs.specs.declared.sizes.TheConstants.{HEAP_END, HEAP_FIRST};
 ghost use Rattle.rh_lines.specs.Flow.{Breaks, Takes};
 ghost use Rattle.rh_run.specs.Checked.{AreWords, image_line, image_status, fault_name, fault_line, sums_line};
 
@@ -32,11 +33,11 @@ pub fn check_image<W: Sink>(image: &[u8], writer: &mut W) -> Result<Status, RunF
     }
 }
 
-/// The word at place 12, the length of a heap, is less than 2^32.
+/// The word that has the length of a heap is less than 2^32.
 #[tactic(auto, unfolding(rh_defs::specs::Bytes::word))]
 fn has_small_end(image: &[u8])
-    requires { 16 ≤ length image.now }
-    ensures { word image.now 12 < 2 ^ 32 }
+    requires { HEAP_FIRST ≤ length image.now }
+    ensures { word image.now HEAP_END < 2 ^ 32 }
 {}
 
 /// The line of a heap's sums.

@@ -77,5 +77,5 @@ pub fn read_block<S: Store>(
     requires within { offset + length to.old ≤ length (bytes_of_named name.now anchor world.now.desk) }
     ensures { to.new ≡ take (length to.old) (drop offset (bytes_of_named name.now anchor world.now.desk)) }
 {
-    let _size = world.show(name, anchor, offset, to);
+    world.show(name, anchor, offset, to).unwrap();
 }

@@ -14,7 +14,7 @@ use rh_store::Store;
 use rh_tasks::World;
 
 /// So many bytes of a block are read and written at a time.
-const PIECE: u32 = 512;
+const PIECE: usize = 512;
 
 /// Writes the first line of a reply that shows a block: its size, and the bytes that the task's block has on this
 /// desk, if there are any.
@@ -89,7 +89,7 @@ fn print_hex<S: Store, W: Sink>(
 {
     let mut offset = 0;
     while offset < size {
-        let count = PIECE.min(size - offset);
+        let count = (PIECE as u32).min(size - offset);
         print_piece(world, name, anchor, offset, count, writer)?;
         offset += count;
     }
@@ -110,11 +110,11 @@ fn print_piece<S: Store, W: Sink>(
     ensures { Puts (W.output writer.old) (W.output writer.new) result
         (encode_lower (take count (drop offset (bytes_of_named name.now anchor world.now.desk)))) }
 {
-    let mut bytes = [0; 512];
-    let mut digits = [0; 1024];
+    let mut bytes = [0; PIECE];
+    let mut digits = [0; 2 * PIECE];
     let part = &mut bytes[..count as usize];
     read_block(world, name, anchor, offset, part);
     let text = &mut digits[..2 * count as usize];
-    let _fits = hex::encode_to_slice(&*part, text);
+    hex::encode_to_slice(&*part, text).unwrap();
     put(writer, text)
 }

@@ -5,13 +5,14 @@ ghost use Rattle.rh_defs.specs.Line.{line_means};
 ghost use Rattle.rh_defs.specs.Range.{in_range};
 ghost use Rattle.rh_session.specs.Session.{kept};
 
+use rh_defs::sizes::LONGEST_LINE;
 use rh_defs::{Command, LineFault};
 use rh_lines::parse_line;
 use std::alloc::{AllocError, Global};
 use std::marker::Model;
 
 /// One byte more than a line may have shows that it has too many.
-const ROOM: usize = 1025;
+const ROOM: usize = LONGEST_LINE + 1;
 
 /// The line so far, up to one byte more than a line may have. It takes no memory once it is made.
 #[derive(Drop)]
@@ -53,7 +54,7 @@ impl LineBuffer {
     {
         let room = ROOM - self.bytes.len();
         let part = &bytes[..room.min(bytes.len())];
-        let _fits = self.bytes.extend_from_slice(part);
+        self.bytes.extend_from_slice(part).unwrap();
     }
 
     /// What the line means that ends with these bytes. The next line begins.

@@ -15,12 +15,10 @@ use crate::desktop::Desktop;
 use crate::line::LineBuffer;
 use crate::status::Status;
 use memchr::memchr;
+use rh_defs::sizes::LONGEST_LINE;
 use rh_defs::{Command, LineFault};
 use rh_lines::{Held, Sink, WriteFailed, print_fault};
 use std::alloc::{AllocError, Global};
-
-/// The greatest number of bytes before a line feed.
-const LONGEST_LINE: usize = 1024;
 
 /// A script in the middle of its run: the desktop, the line so far, and whether a line was bad.
 #[derive(Drop)]

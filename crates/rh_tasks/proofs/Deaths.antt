@@ -1,5 +1,5 @@
 -- A task's end.
-use Rattle.std.proofs.Common.{◌≡◌, ◌≢◌, ℕ, ◌+◌, ◌*◌, ◌/◌, ◌<◌, ◌≤◌, Bool, true, false, cond, refl, ap, sym, subst, ◌∙◌, arith, List, length}
+use Rattle.std.proofs.Common.{◌≡◌, ◌≢◌, ℕ, ◌+◌, ◌<◌, ◌≤◌, true, false, cond, refl, ap, sym, subst, ◌∙◌, arith, List, length}
 use Rattle.std.specs.Prelude.{map, filter, not, ◌==◌, Option, Some, None, Ok}
 use Rattle.std.specs.List.{remove}
 use Rattle.std.specs.Option.{option_map}
@@ -15,7 +15,7 @@ use Rattle.rh_defs.specs.Post.{Post, post_is_live, post_death}
 use Rattle.rh_defs.specs.Desk.{Desk, Task, Made, Scrap, kept_scrap, task_pages, used_pages, with_delivered}
 use Rattle.rh_defs.specs.Commands.{kill}
 use Rattle.rh_defs.specs.Laws.{IsDesk}
-use Rattle.rh_defs.specs.Order.{IsReordered, requeued, with_queue}
+use Rattle.rh_defs.specs.Order.{IsReordered, with_queue}
 use Rattle.rh_defs.specs.declared.sizes.TheConstants.{MAX_AREAS}
 use Rattle.rh_wimp.specs.Calls.{IsQueue, Leaves}
 use Rattle.rh_wimp.specs.Chains.{Chains, SpellsPost}

@@ -1,6 +1,6 @@
 -- A world in which one of areas 0 to 5 has changed.
 use Rattle.std.proofs.Common.{◌≡◌, ℕ, zero, suc, ◌+◌, ◌*◌, ◌%◌, ◌<◌, ◌≤◌, ◌≢◌, inl, inr, refl, ap, subst, arith, List, [], ◌∷◌, length, ◌∙◌, sym}
-use Rattle.std.specs.Prelude.{map, take, slice_index, slice_set}
+use Rattle.std.specs.Prelude.{take, slice_index, slice_set}
 use Rattle.std.proofs.lemmas.Bool.{cases_eq}
 use Rattle.rh_defs.specs.Memory.{Memory, IsOpen, OnlyArea, bytes}
 use Rattle.rh_defs.specs.Pieces.{total}
@@ -15,7 +15,7 @@ use Rattle.rh_wimp.specs.Laws.{with_heap}
 use Rattle.rh_wimp.specs.PostIn.{post_in}
 use Rattle.rh_tasks.specs.declared.seat.Seat.{Seat}
 use Rattle.rh_tasks.specs.declared.made.MadeArea.{MadeArea}
-use Rattle.rh_tasks.specs.View.{Kept, the_module, pages_at, fixed_pages, scrap_size, scrap_of, desk_of, slot_area, made_area, Avoids, HasAreas, IsWorld}
+use Rattle.rh_tasks.specs.View.{Kept, the_module, pages_at, fixed_pages, scrap_size, scrap_of, desk_of, slot_area, made_area, HasAreas, IsWorld}
 use Rattle.rh_tasks.proofs.Lists.{avoids-below}
 use Rattle.rh_tasks.proofs.Frames.{Stay, pages-stay, tasks-stay, slots-stay, mades-stay, mades-opened, fixed-opened, post-stays, queue-stays, scrap-same, scrap-stays, scrap-fits, module-stays, count-stays}
 use Rattle.rh_tasks.proofs.Worlds.{same-desk}

@@ -21,7 +21,7 @@ use Rattle.rh_wimp.proofs.PostCalls.{post_in-stays, spells-stays}
 use Rattle.rh_tasks.specs.declared.seat.Seat.{Seat}
 use Rattle.rh_tasks.specs.declared.made.MadeArea.{MadeArea}
 use Rattle.rh_tasks.specs.declared.scrap.ScrapFile.{ScrapFile}
-use Rattle.rh_tasks.specs.View.{the_module, fixed, pages_at, task_of, made_of, fixed_pages, scrap_from, scrap_size, scrap_of, slot_area, made_area, made_number, Avoids, AreDistinct, HasSlot, IsAbove}
+use Rattle.rh_tasks.specs.View.{the_module, fixed, pages_at, task_of, made_of, fixed_pages, scrap_size, scrap_of, slot_area, made_area, made_number, Avoids, AreDistinct, HasSlot, IsAbove}
 use Rattle.rh_tasks.proofs.Lists.{Sits, cons, avoids-at}
 
 pub if_apart : {A : Type 0} (a b : ℕ) (x y : A) → a ≢ b → (if a == b then x else y) ≡ y

@@ -1,5 +1,5 @@
 -- A world with one seat or made area more, or one less.
-use Rattle.std.proofs.Common.{◌≡◌, ℕ, zero, suc, ◌+◌, ◌/◌, ◌<◌, ◌≢◌, true, false, cond, refl, ap, subst, arith, List, [], ◌∷◌, ◌++◌, length, ◌∙◌, sym, inl, inr}
+use Rattle.std.proofs.Common.{◌≡◌, ℕ, zero, suc, ◌+◌, ◌/◌, ◌<◌, ◌≢◌, true, false, refl, ap, subst, arith, List, [], ◌∷◌, ◌++◌, length, ◌∙◌, sym, inl, inr}
 use Rattle.std.specs.Prelude.{map, filter, not, ◌==◌, Option, Some, None, IsNone, IsSome, is_some}
 use Rattle.std.specs.List.{AllByRecursion, remove}
 use Rattle.std.proofs.Math.ListN.{length-append}
@@ -8,7 +8,7 @@ use Rattle.std.proofs.lemmas.List.Edits.{length-remove}
 use Rattle.std.proofs.lemmas.Bool.{cases_eq}
 use Rattle.std.proofs.lemmas.Bool.Decides.{nat_tests}
 use Rattle.rh_defs.specs.Memory.{Memory, IsOpen, OnlyArea, bytes, opened, closed, open_below}
-use Rattle.rh_defs.proofs.MemoryLaws.{open_below-same, open_below-opened, open_below-closed, open_apart, area-opened, area-closed, bytes-none, free-closed, pages-closed, IsOpen-opened}
+use Rattle.rh_defs.proofs.MemoryLaws.{open_below-same, open_below-opened, open_below-closed, open_apart, area-opened, area-closed, bytes-none, IsOpen-opened}
 use Rattle.rh_defs.specs.Pieces.{total}
 use Rattle.rh_defs.proofs.Cuts.{total-append}
 use Rattle.rh_defs.specs.Files.{FileList}

@@ -2,7 +2,6 @@
 use Rattle.std.proofs.Common.{◌≡◌, ℕ, ◌<◌, refl, ap, sym, subst, ◌∙◌, arith, List, length}
 use Rattle.std.specs.Prelude.{Option, None, Some, Ok, map}
 use Rattle.std.specs.Option.{option_map}
-use Rattle.std.proofs.Math.ListN.{get_or}
 use Rattle.std.proofs.lemmas.List.{length-map}
 use Rattle.rh_defs.specs.Memory.{Memory}
 use Rattle.rh_defs.specs.Files.{FileList}
@@ -13,13 +12,13 @@ use Rattle.rh_defs.specs.declared.reply.Outcome.{Outcome}
 use Rattle.rh_defs.specs.declared.reply.Reply.{Reply}
 use Rattle.rh_defs.specs.declared.reply.Reply.TheVariants as reply
 use Rattle.rh_defs.specs.Messages.{Parcel, action_of}
-use Rattle.rh_defs.specs.Post.{Post, post_poll}
+use Rattle.rh_defs.specs.Post.{post_poll}
 use Rattle.rh_defs.specs.Desk.{Desk, Task, with_delivered}
 use Rattle.rh_defs.specs.Order.{IsReordered, with_queue}
 use Rattle.rh_defs.specs.OutgoingEvents.{Handled}
 use Rattle.rh_defs.specs.Chain.{Granted}
 use Rattle.rh_defs.specs.Commands.{Answer}
-use Rattle.rh_defs.specs.Step.{event, poll, poll_taken}
+use Rattle.rh_defs.specs.Step.{poll, poll_taken}
 use Rattle.rh_defs.specs.Transfer.{handled}
 use Rattle.rh_defs.proofs.OrderSteps.{Alike, handled-alike}
 use Rattle.rh_wimp.specs.Chains.{event_of}
@@ -28,7 +27,6 @@ use Rattle.rh_tasks.specs.declared.made.MadeArea.{MadeArea}
 use Rattle.rh_tasks.specs.View.{Kept, task_of, desk_of, IsWorld}
 use Rattle.rh_tasks.specs.Finding.{Found}
 use Rattle.rh_tasks.specs.Polls.{IsAt, IsFor}
-use Rattle.rh_tasks.proofs.Lists.{Sits}
 use Rattle.rh_tasks.proofs.Chains.{begins}
 use Rattle.rh_tasks.proofs.Finding.{sits, named-is}
 use Rattle.rh_tasks.proofs.Places.{mapped-at, reordered-at}

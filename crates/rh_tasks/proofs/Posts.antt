@@ -13,7 +13,7 @@ use Rattle.rh_defs.specs.Desk.{Desk, Task, module_pages}
 use Rattle.rh_defs.specs.Laws.{seat_handles, task_handles}
 use Rattle.rh_module.specs.Area.{heap_in}
 use Rattle.rh_wimp.specs.declared.chain.Entry.{Entry}
-use Rattle.rh_wimp.specs.Calls.{IsQueue, handles_of}
+use Rattle.rh_wimp.specs.Calls.{handles_of}
 use Rattle.rh_wimp.specs.Chains.{Chains, Row, HasEntry, SpellsPost, entry_at, joined, row_parcels}
 use Rattle.rh_wimp.specs.Laws.{IsSmall}
 use Rattle.rh_wimp.specs.PostIn.{row_in, rows_in, seat_of, chains_of, parcels_of, unlinked, post_of, post_in}

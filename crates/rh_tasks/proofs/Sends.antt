@@ -1,13 +1,12 @@
 -- A world whose queue has changed, and beside it what is kept of one task.
-use Rattle.std.proofs.Common.{◌≡◌, ◌≢◌, ℕ, ◌+◌, ◌*◌, ◌/◌, ◌≤◌, refl, ap, sym, subst, ◌∙◌, arith, List, length}
+use Rattle.std.proofs.Common.{◌≡◌, ℕ, ◌+◌, ◌≤◌, ap, ◌∙◌, arith, List, length}
 use Rattle.std.specs.Prelude.{map, Option}
-use Rattle.std.specs.List.{AllByRecursion}
 use Rattle.std.proofs.Math.ListN.{set}
 use Rattle.rh_defs.specs.Memory.{Memory, OnlyArea, bytes}
 use Rattle.rh_defs.specs.Pieces.{total}
 use Rattle.rh_defs.specs.Files.{FileList}
 use Rattle.rh_defs.specs.Post.{Post}
-use Rattle.rh_defs.specs.Desk.{Desk, Task, Made, Scrap, task_pages, used_pages, with_task}
+use Rattle.rh_defs.specs.Desk.{Desk, Task, Made, task_pages, used_pages, with_task}
 use Rattle.rh_defs.specs.Laws.{IsDesk}
 use Rattle.rh_defs.specs.Order.{IsReordered, with_queue}
 use Rattle.rh_wimp.specs.Calls.{Leaves}
@@ -17,7 +16,7 @@ use Rattle.rh_wimp.proofs.PostCalls.{IsRequeued, post_in-requeued}
 use Rattle.rh_tasks.specs.declared.seat.Seat.{Seat}
 use Rattle.rh_tasks.specs.declared.made.MadeArea.{MadeArea}
 use Rattle.rh_tasks.specs.declared.scrap.ScrapFile.{ScrapFile}
-use Rattle.rh_tasks.specs.View.{Kept, the_module, scrap_size, scrap_of, slot_area, made_area, Avoids, HasAreas, desk_of, task_of, made_of, fixed_pages, IsWorld}
+use Rattle.rh_tasks.specs.View.{Kept, the_module, scrap_size, scrap_of, slot_area, made_area, HasAreas, desk_of, task_of, made_of, IsWorld}
 use Rattle.rh_tasks.proofs.Lists.{Sits, avoids-below}
 use Rattle.rh_tasks.proofs.Frames.{Stay, tasks-stay, mades-stay, scrap-stays, scrap-fits}
 use Rattle.rh_tasks.proofs.Worlds.{same-desk}

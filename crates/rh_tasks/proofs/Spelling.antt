@@ -7,7 +7,7 @@ use Rattle.rh_defs.specs.Pieces.{page, total}
 use Rattle.rh_defs.specs.Files.{FileList}
 use Rattle.rh_defs.specs.Slot as plain
 use Rattle.rh_defs.specs.Spans.{AreLaidOut, slot_spans, module_spans}
-use Rattle.rh_defs.specs.Desk.{Task, Made, task_pages, module_pages}
+use Rattle.rh_defs.specs.Desk.{Task, Made, task_pages}
 use Rattle.rh_defs.specs.Commands.{module_start}
 use Rattle.rh_defs.specs.Laws as laws
 use Rattle.rh_defs.proofs.Spaced.{apart-of}

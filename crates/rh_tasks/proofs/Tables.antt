@@ -1,10 +1,9 @@
 -- What a poll does with its message, by its action.
 use Rattle.std.proofs.Common.{◌≡◌, ◌⊎◌, inl, inr, ℕ, true, false, refl, ap, sym, subst, ◌∙◌, List}
-use Rattle.std.specs.Prelude.{Option, map, if◌then◌else◌}
+use Rattle.std.specs.Prelude.{Option, if◌then◌else◌}
 use Rattle.std.proofs.Math.ListN.{get_or}
 use Rattle.rh_defs.specs.Memory.{Memory}
 use Rattle.rh_defs.specs.Files.{FileList}
-use Rattle.rh_defs.specs.declared.command.Manner.{Manner}
 use Rattle.rh_defs.specs.declared.message.Body.{Body}
 use Rattle.rh_defs.specs.declared.message.Body.TheVariants.{DataSave, DataSaveAck, DataLoad, DataLoadAck, RamFetch, RamTransmit}
 use Rattle.rh_defs.specs.declared.message.EventCode.{EventCode}
@@ -26,7 +25,7 @@ use Rattle.rh_defs.specs.Transfer.{answers_none, came, came_back, handled}
 use Rattle.rh_tasks.specs.declared.seat.Seat.{Seat}
 use Rattle.rh_tasks.specs.declared.made.MadeArea.{MadeArea}
 use Rattle.rh_tasks.specs.View.{Kept, task_of, desk_of, IsWorld}
-use Rattle.rh_tasks.specs.Polls.{IsAt, IsFor}
+use Rattle.rh_tasks.specs.Polls.{IsFor}
 use Rattle.rh_tasks.proofs.Lists.{Sits}
 use Rattle.rh_tasks.proofs.Places.{mapped-inside, mapped-is}
 

@@ -17,7 +17,6 @@ use Rattle.rh_defs.proofs.PostKeeps.{post_poll-kept}
 use Rattle.rh_slot.specs.Area.{IsSlot}
 use Rattle.rh_wimp.specs.Calls.{Answers, Leaves}
 use Rattle.rh_wimp.specs.Chains.{Chains, HasEntry, SpellsPost, event_of}
-use Rattle.rh_wimp.specs.PostIn.{post_in}
 use Rattle.rh_tasks.specs.declared.seat.Seat.{Seat}
 use Rattle.rh_tasks.specs.declared.made.MadeArea.{MadeArea}
 use Rattle.rh_tasks.specs.declared.scrap.ScrapFile.{ScrapFile}

@@ -13,7 +13,7 @@ use crate::made::find_made;
 use crate::module_blocks::MODULE;
 use crate::scrap::scrap_size;
 use crate::world::World;
-use rh_defs::sizes::PAGE;
+use rh_defs::sizes::{FIXED_AREAS, PAGE};
 use rh_defs::{Refusal, Reply};
 use rh_store::{AreaId, Pages, Store};
 
@@ -22,9 +22,6 @@ const MODULE_AREA: u32 = 1;
 
 /// The number of the area in which the scrap file lies.
 const SCRAP_AREA: u32 = 5;
-
-/// How many areas are there from the start.
-pub const FIXED_AREAS: u32 = 6;
 
 /// How many pages hold an amount of bytes, whatever its sign.
 fn pages_of(delta: i32) -> usize
@@ -86,7 +83,7 @@ impl<S: Store> World<S> {
         if number == MODULE_AREA {
             return self.change_module(delta);
         }
-        if number < FIXED_AREAS {
+        if number < FIXED_AREAS as u32 {
             return self.change_fixed(number, delta);
         }
         self.change_made(number, delta)

@@ -16,13 +16,12 @@ ghost use Rattle.rh_tasks.specs.Items.{items_in, slot_items, segment_item_of, it
 ghost use Rattle.rh_tasks.specs.Lists.{blocks_of, segments_of};
 ghost use Rattle.rh_heap.specs.declared.span.list.TheConstants.{SEGMENTS_AT_ONCE};
 
-use crate::areas::FIXED_AREAS;
 use crate::made::MadeArea;
 use crate::seat::Seat;
 use crate::seats::{find, slot_of};
 use crate::world::World;
 use arrayvec::ArrayVec;
-use rh_defs::sizes::{ANCHORS, C_HEAP_START, PAGE};
+use rh_defs::sizes::{ANCHORS, C_HEAP_START, FIXED_AREAS, PAGE, WORD};
 use rh_defs::{
     Anchor, AreaItem, BlockItem, Handle, Incoming, Name, Outgoing, Refusal, Reply, SegmentItem,
 };
@@ -51,14 +50,13 @@ fn area_item<S: Store>(
     requires { HasAreas (S.memory store.now) seats.now.items made.now.items }
     ensures { result ≡ slice_get (items_in (S.memory store.now) seats.now.items made.now.items) i }
 {
-    let fixed = FIXED_AREAS as usize;
-    if i < fixed {
+    if i < FIXED_AREAS {
         return Some(AreaItem::Area {
             number: i as u32,
             pages: pages_in(store, AreaId(i as u8)),
         });
     }
-    let behind = i - fixed;
+    let behind = i - FIXED_AREAS;
     if behind < made.len() {
         let area = &made[behind];
         return Some(AreaItem::Area {
@@ -93,8 +91,8 @@ fn segment_item(place: u32, segment: Segment) -> SegmentItem
     let size = segment.size as u32;
     if segment.used {
         return SegmentItem::Used {
-            address: address + 4,
-            size: size.saturating_sub(4),
+            address: address + WORD as u32,
+            size: size.saturating_sub(WORD as u32),
         };
     }
     SegmentItem::Hole { address, size }

@@ -9,17 +9,9 @@ ghost use Rattle.rh_defs.specs.Range.{in_range};
 ghost use Rattle.rh_tasks.specs.View.{has_number};
 
 use crate::world::World;
+use rh_defs::sizes::{LAST_AREA, MADE_AREAS};
 use rh_defs::{Refusal, Reply};
 use rh_store::{AreaId, Store};
-
-/// At most so many made areas are live.
-pub const MOST_MADE: usize = 32;
-
-/// The number of the first made area.
-pub const FIRST_MADE: u32 = 256;
-
-/// The greatest number of a made area.
-const LAST_MADE: u32 = 65_535;
 
 /// What the world keeps of a made area beside its pages.
 #[derive(Clone, Copy, Debug, PartialEq, Eq)]
@@ -55,11 +47,11 @@ impl<S: Store> World<S> {
         requires { in_range (Command.Make most) ≡ true }
         ensures { Gives (make_on self.old.desk most) self.old self.new result }
     {
-        if self.made.len() >= MOST_MADE {
+        if self.made.len() >= MADE_AREAS {
             return Err(Refusal::TooManyAreas);
         }
         let number = self.next.area;
-        if number > LAST_MADE {
+        if number > LAST_AREA {
             return Err(Refusal::NoNumbers);
         }
         let area = self.store.open().unwrap();

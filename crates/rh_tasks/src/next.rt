@@ -1,8 +1,9 @@
 //! What is given next.
 
 ghost use Rattle.std.specs.Prelude.{◌≡◌, ◌<◌, ◌^◌};
+ghost use Rattle.rh_defs.specs.declared.sizes.TheConstants.{FIRST_MADE};
 
-use crate::made::FIRST_MADE;
+use rh_defs::sizes::FIRST_MADE;
 
 /// The numbers that are given next. Each goes up by one, and none is given twice.
 #[derive(Clone, Copy, Debug, PartialEq, Eq)]

@@ -11,13 +11,11 @@ use crate::scrap::kept_scrap;
 use crate::seat::Seat;
 use crate::seats::{find, is_name_in_use};
 use crate::world::World;
+use rh_defs::sizes::MAX_TASKS;
 use rh_defs::{Handle, Manner, Name, Refusal, Reply};
 use rh_ram::{Receiver, Sender};
 use rh_slot::Slot;
 use rh_store::Store;
-
-/// At most so many tasks are live.
-pub const MOST_TASKS: usize = 32;
 
 impl<S: Store> World<S> {
     /// Starts a task with a fresh slot: NameInUse, TooManyTasks, NoHandles, NoRoom.
@@ -33,7 +31,7 @@ impl<S: Store> World<S> {
         if is_name_in_use(&self.seats, name) {
             return Err(Refusal::NameInUse);
         }
-        if self.seats.len() >= MOST_TASKS {
+        if self.seats.len() >= MAX_TASKS {
             return Err(Refusal::TooManyTasks);
         }
         if self.next.handle > u64::from(u32::MAX) {

@@ -9,13 +9,12 @@ ghost use Rattle.rh_tasks.specs.Shown.{IsSpelled, IsBalanced, HasApartBlocks};
 ghost use Rattle.rh_tasks.specs.Answer.{RunsOn, StepsTo, reply_of};
 ghost use Rattle.rh_tasks.specs.Start.{IsFurnished};
 
-use crate::areas::FIXED_AREAS;
-use crate::made::{MOST_MADE, MadeArea};
+use crate::made::MadeArea;
 use crate::module_blocks::MODULE;
 use crate::next::Next;
 use crate::scrap::ScrapFile;
 use crate::seat::Seat;
-use crate::tasks::MOST_TASKS;
+use rh_defs::sizes::{FIXED_AREAS, MADE_AREAS, MAX_TASKS};
 use rh_defs::{Command, Files, Handle, Ref, Refusal, Reply};
 use rh_module::Module;
 use rh_store::Store;
@@ -93,8 +92,8 @@ impl<S: Store + Drop> World<S> {
         requires message { 1 ≤ r }
         ensures { IfOk result (λ world. world.desk ≡ start_with (S.memory store).pages files handle r) }
     {
-        let seats = Vec::with_capacity(alloc, MOST_TASKS)?;
-        let made = Vec::with_capacity(alloc, MOST_MADE)?;
+        let seats = Vec::with_capacity(alloc, MAX_TASKS)?;
+        let made = Vec::with_capacity(alloc, MADE_AREAS)?;
         let queue = Queue::with_next_ref(alloc, r)?;
         furnish(&mut store);
         Ok(World {

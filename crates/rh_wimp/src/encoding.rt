@@ -5,7 +5,7 @@ ghost use Rattle.rh_defs.specs.Messages.{AreWords, Fits, HasName, body_bytes, da
 ghost use Rattle.rh_defs.specs.Pathnames.{is_pathname};
 
 use crate::bytes::{put_bytes, put_word, put_words, put_zeros};
-use crate::layout::{ACTION, DATA, FILE_LENGTH, NAME, RAM_LENGTH};
+use crate::layout::{ACTION, DATA, FILE_LENGTH, MOST_LENGTH, NAME, RAM_LENGTH};
 use rh_defs::sizes::WORD;
 use rh_defs::{Body, FileData, Message};
 
@@ -122,7 +122,7 @@ fn encode_parts(from: u32, my_ref: u32, your_ref: u32, body: &Body, out: &mut [u
 }
 
 /// Writes a message block, and answers its length; the bytes beyond it stay as they were.
-pub fn encode(message: &Message, out: &mut [u8; 256]) -> usize
+pub fn encode(message: &Message, out: &mut [u8; MOST_LENGTH]) -> usize
     ensures length { result ≡ encoded_length message.now }
     ensures bytes { out.new ≡ put out.old 0 (encoded message.now) }
     ensures short { result ≤ 256 }

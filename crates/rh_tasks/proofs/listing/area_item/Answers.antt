@@ -11,7 +11,7 @@ use Rattle.rh_tasks.proofs.listing.area_item.Goals as goal
 pub returns-then-behind-len : goal.returns-then-behind-len
 returns-then-behind-len g c =
     rw c.pages_in-then-behind-len.ensures
-    (sym (item-made (g.S.Words.memory c.args.store.now) c.args.seats.now.items c.args.made.now.items c.args.i c.index-area.result.now c.if-i-fixed.false
+    (sym (item-made (g.S.Words.memory c.args.store.now) c.args.seats.now.items c.args.made.now.items c.args.i c.index-area.result.now c.if-i-lt-FIXED_AREAS.false
     (omega (arith, c.if-behind-len.true, c.len.ensures, c.args.made.now.ok)) (sym c.index-area.ensures)))
 
 pub slot_item-requires : goal.slot_item-requires
@@ -24,4 +24,4 @@ returns g c =
     let m = g.S.Words.memory c.args.store.now in
     c.slot_item.ensures
     ∙ ap (slice_get (slot_items m c.args.seats.now.items)) (omega (arith, c.len-2.ensures, c.args.made.now.ok))
-    ∙ sym (item-slot m c.args.seats.now.items c.args.made.now.items c.args.i c.if-i-fixed.false (omega (arith, c.if-behind-len.false, c.len.ensures, c.args.made.now.ok)))
+    ∙ sym (item-slot m c.args.seats.now.items c.args.made.now.items c.args.i c.if-i-lt-FIXED_AREAS.false (omega (arith, c.if-behind-len.false, c.len.ensures, c.args.made.now.ok)))

@@ -1,4 +1,3 @@
-use Rattle.std.proofs.Common.{inl, inr}
 use Rattle.rh_tasks.proofs.Tables.{user-or-recorded, acknowledged}
 use Rattle.rh_tasks.proofs.world.World.handle.Goals as goal
 

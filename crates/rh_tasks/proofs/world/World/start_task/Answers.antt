@@ -9,10 +9,10 @@ pub returns-then-is_name_in_use : goal.returns-then-is_name_in_use
 returns-then-is_name_in_use g c =
     rw (← c.self.view_is) (name-in-use c.args.name.now c.args.buffer c.args.manner c.self.invariant.0 (sym c.is_name_in_use.ensures ∙ c.if-is_name_in_use.true), refl)
 
-pub returns-then-len-ge-MOST_TASKS : goal.returns-then-len-ge-MOST_TASKS
-returns-then-len-ge-MOST_TASKS g c =
+pub returns-then-len-ge-MAX_TASKS : goal.returns-then-len-ge-MAX_TASKS
+returns-then-len-ge-MAX_TASKS g c =
     rw (← c.self.view_is) (
-      too-many c.args.name.now c.args.buffer c.args.manner c.self.invariant.0 (sym c.is_name_in_use.ensures ∙ c.if-is_name_in_use.false) (omega (arith, c.if-len-ge-MOST_TASKS.true, c.self.inside.seats.ok)),
+      too-many c.args.name.now c.args.buffer c.args.manner c.self.invariant.0 (sym c.is_name_in_use.ensures ∙ c.if-is_name_in_use.false) (omega (arith, c.if-len-ge-MAX_TASKS.true, c.self.inside.seats.ok)),
       refl,
     )
 
@@ -20,13 +20,13 @@ pub returns-then-self-from : goal.returns-then-self-from
 returns-then-self-from g c =
     rw (← c.self.view_is) (
       no-handles c.args.name.now c.args.buffer c.args.manner c.self.invariant.0 (sym c.is_name_in_use.ensures ∙ c.if-is_name_in_use.false)
-          (omega (arith, c.if-len-ge-MOST_TASKS.false, c.self.inside.seats.ok)) (omega (arith, c.if-self-from.true, c.from.ensures)),
+          (omega (arith, c.if-len-ge-MAX_TASKS.false, c.self.inside.seats.ok)) (omega (arith, c.if-self-from.true, c.from.ensures)),
       refl,
     )
 
 pub start-requires : goal.start-requires
 start-requires g c =
-    can-open c.args.name.now c.args.buffer c.args.manner c.self.invariant.0 (sym c.is_name_in_use.ensures ∙ c.if-is_name_in_use.false) (omega (arith, c.if-len-ge-MOST_TASKS.false, c.self.inside.seats.ok))
+    can-open c.args.name.now c.args.buffer c.args.manner c.self.invariant.0 (sym c.is_name_in_use.ensures ∙ c.if-is_name_in_use.false) (omega (arith, c.if-len-ge-MAX_TASKS.false, c.self.inside.seats.ok))
 
 pub returns-in_err-slot : goal.returns-in_err-slot
 returns-in_err-slot g c =
@@ -34,12 +34,12 @@ returns-in_err-slot g c =
     let same = ap (λ m. shown_of m c.self.inside.seats.items c.self.inside.made.items c.self.inside.files (kept_of c.self.inside.next c.self.inside.queue c.self.inside.scrap)) c.in_err-slot.ensures.err in
     rw (p.1, p.2, ← c.self.view_is) (
       no-room c.args.name.now c.args.buffer c.args.manner c.self.invariant.0 (sym c.is_name_in_use.ensures ∙ c.if-is_name_in_use.false)
-          (omega (arith, c.if-len-ge-MOST_TASKS.false, c.self.inside.seats.ok)) (omega (arith, c.if-self-from.false, c.from.ensures)) c.in_err-slot.ensures.answer,
+          (omega (arith, c.if-len-ge-MAX_TASKS.false, c.self.inside.seats.ok)) (omega (arith, c.if-self-from.false, c.from.ensures)) c.in_err-slot.ensures.answer,
       same,
     )
 
 pub join-requires-clause-few : goal.join-requires-clause-few
-join-requires-clause-few g c = omega (arith, few-entries c.self.invariant.0, c.if-len-ge-MOST_TASKS.false, c.self.inside.seats.ok)
+join-requires-clause-few g c = omega (arith, few-entries c.self.invariant.0, c.if-len-ge-MAX_TASKS.false, c.self.inside.seats.ok)
 
 pub join-requires-clause-new : goal.join-requires-clause-new
 join-requires-clause-new g c = new-handle c.self.invariant.0
@@ -49,7 +49,7 @@ invariant_of-self-2 g c =
     let e = c.in_ok-slot.ensures in
     rw (c.push_reserved.ensures.items, c.push_reserved.ensures.capacity, c.copied.ensures, c.new-sending.ensures, c.new-taking.ensures, c.join.ensures.entries) (
       start-world c.args.name.now c.args.buffer c.args.manner c.self.invariant.0 (sym c.is_name_in_use.ensures ∙ c.if-is_name_in_use.false)
-          (omega (arith, c.if-len-ge-MOST_TASKS.false, c.self.inside.seats.ok)) (omega (arith, c.if-self-from.false, c.from.ensures))
+          (omega (arith, c.if-len-ge-MAX_TASKS.false, c.self.inside.seats.ok)) (omega (arith, c.if-self-from.false, c.from.ensures))
           c.in_ok-slot.slot e.slot e.answer e.closed e.number e.only e.still (rw (c.join.ensures.entries) at c.join.ensures.still _ the_module) c.requires,
       c.self.invariant.1,
       c.self.invariant.2,
@@ -60,6 +60,6 @@ returns g c =
     let e = c.in_ok-slot.ensures in
     rw (← c.self.view_is, c.push_reserved.ensures.items, c.copied.ensures, c.new-sending.ensures, c.new-taking.ensures, c.join.ensures.entries) (
     start-done c.args.name.now c.args.buffer c.args.manner c.self.invariant.0 (sym c.is_name_in_use.ensures ∙ c.if-is_name_in_use.false)
-    (omega (arith, c.if-len-ge-MOST_TASKS.false, c.self.inside.seats.ok)) (omega (arith, c.if-self-from.false, c.from.ensures))
+    (omega (arith, c.if-len-ge-MAX_TASKS.false, c.self.inside.seats.ok)) (omega (arith, c.if-self-from.false, c.from.ensures))
     c.in_ok-slot.slot e.slot e.answer e.closed e.number e.only e.still
     )
