@@ -72,7 +72,10 @@ pub fn delta_at(words: &Words<'_>, n: u8) -> Result<i32, LineFault>
         _ => (false, word),
     };
     match decimal(digits) {
-        Some(number) if number <= u64::from(GREATEST_NUMBER) => Ok(signed(is_negative, number as u32)),
+        Some(number) if number <= u64::from(GREATEST_NUMBER) => Ok(signed(
+            is_negative,
+            number as u32,
+        )),
         _ => Err(LineFault::Word(n)),
     }
 }
