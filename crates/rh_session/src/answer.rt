@@ -12,12 +12,12 @@ use rh_lines::{Held, Sink, WriteFailed, print_fault, put};
 
 /// What is written for a line: a command's reply, or what is wrong with the line.
 #[derive(Drop)]
-pub enum Answer {
-    Reply(Command, Reply),
-    Fault(LineFault),
+pub enum Answer<'a> {
+    Reply(&'a Command, Reply),
+    Fault(&'a LineFault),
 }
 
-impl Answer {
+impl<'a> Answer<'a> {
     ghost use Rattle.rh_session.specs.Answer.{answer_bytes};
 
     /// Writes the answer behind what is held. What is held is written first only where there is no room for both.

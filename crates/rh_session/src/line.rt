@@ -57,17 +57,25 @@ impl LineBuffer {
         self.bytes.extend_from_slice(part).unwrap();
     }
 
+    /// The whole line that ends with these bytes, as far as its meaning goes: gathered unless it lies in them.
+    #[inline(always)]
+    fn whole<'b>(&'b mut self, bytes: &'b [u8]) -> &'b [u8]
+        ensures { line_means result.now ≡ line_means (self.old ++ bytes.now) }
+    {
+        if self.as_slice().is_empty() {
+            return bytes;
+        }
+        self.add(bytes);
+        self.as_slice()
+    }
+
     /// What the line means that ends with these bytes. The next line begins.
     pub fn end(&mut self, bytes: &[u8]) -> Result<Option<Command>, LineFault>
         ensures means { result ≡ line_means (self.old ++ bytes.now) }
         ensures in_range { IfOk result (λ found. IfSome found (λ command. IsTrue (in_range command))) }
         ensures next { self.new ≡ [] }
     {
-        if self.as_slice().is_empty() {
-            return parse_line(bytes);
-        }
-        self.add(bytes);
-        let meaning = parse_line(self.as_slice());
+        let meaning = parse_line(self.whole(bytes));
         self.bytes.clear();
         meaning
     }

@@ -89,24 +89,24 @@ impl<D: Desktop> Session<D> {
         ensures state { (s : State) → IsState D.spells self.old s → IsState D.spells self.new (state_after_line s bytes.now) }
     {
         let meaning = self.line.end(bytes);
-        self.answer(meaning, held, writer)
+        self.answer(&meaning, held, writer)
     }
 
     /// Does what a line means, and answers it.
     fn answer<W: Sink>(
         &mut self,
-        meaning: Result<Option<Command>, LineFault>,
+        meaning: &Result<Option<Command>, LineFault>,
         held: &mut Held,
         writer: &mut W,
     ) -> Result<(), WriteFailed>
-        requires in_range { IfOk meaning (λ found. IfSome found (λ command. IsTrue (in_range command))) }
-        ensures text { (s : State) → IsState D.spells self.old s → Gathers (W.output writer.old) (W.output writer.new) result held.old.bytes held.new.bytes (meaning_text s.desk meaning) }
-        ensures state { (s : State) → IsState D.spells self.old s → IsState D.spells self.new (state_after_meaning s meaning) }
+        requires in_range { IfOk meaning.now (λ found. IfSome found (λ command. IsTrue (in_range command))) }
+        ensures text { (s : State) → IsState D.spells self.old s → Gathers (W.output writer.old) (W.output writer.new) result held.old.bytes held.new.bytes (meaning_text s.desk meaning.now) }
+        ensures state { (s : State) → IsState D.spells self.old s → IsState D.spells self.new (state_after_meaning s meaning.now) }
     {
         match meaning {
             Ok(None) => Ok(()),
             Ok(Some(command)) => {
-                let reply = self.desktop.apply(&command);
+                let reply = self.desktop.apply(command);
                 Answer::Reply(command, reply).write(&self.desktop, held, writer)
             }
             Err(fault) => {
