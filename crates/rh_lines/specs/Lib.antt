@@ -1,3 +1,4 @@
+pub mod Asked
 pub mod Flow
 pub mod Noted
 pub mod Words

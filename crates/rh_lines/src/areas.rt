@@ -1,8 +1,9 @@
 //! Lines about areas of pages.
 
-ghost use Rattle.std.specs.Prelude.{◌≡◌, IfOk, IsTrue};
+ghost use Rattle.std.specs.Prelude.{◌≡◌, IfOk, IfSome, IsTrue};
 ghost use Rattle.rh_defs.specs.Line.{counted, area_of, make_of, remove_of};
 ghost use Rattle.rh_defs.specs.Range.{in_range};
+ghost use Rattle.rh_lines.specs.Asked.{asked};
 
 use crate::counts::counted;
 use crate::forms::{delta_at, number_at};
@@ -12,44 +13,44 @@ use rh_defs::{Command, LineFault};
 
 /// `area K DELTA`.
 #[tactic(auto, unfolding(rh_defs::specs::Line::area_of, rh_defs::specs::Range::in_range))]
-pub fn area_of(words: &Words<'_>) -> Result<Command, LineFault>
-    ensures means { result ≡ counted 3 words.now (area_of words.now) }
-    ensures in_range { IfOk result (λ command. IsTrue (in_range command)) }
+pub fn area_of(words: &Words<'_>) -> Result<Option<Command>, LineFault>
+    ensures means { result ≡ asked (counted 3 words.now (area_of words.now)) }
+    ensures in_range { IfOk result (λ found. IfSome found (λ command. IsTrue (in_range command))) }
 {
     counted(words, 3)?;
     let number = number_at(words, 2, 0, LAST_AREA)?;
     let delta = delta_at(words, 3)?;
-    Ok(Command::Area { number, delta })
+    Ok(Some(Command::Area { number, delta }))
 }
 
 /// `make MAX`.
 #[tactic(auto, unfolding(rh_defs::specs::Line::make_of, rh_defs::specs::Range::in_range))]
-pub fn make_of(words: &Words<'_>) -> Result<Command, LineFault>
-    ensures means { result ≡ counted 2 words.now (make_of words.now) }
-    ensures in_range { IfOk result (λ command. IsTrue (in_range command)) }
+pub fn make_of(words: &Words<'_>) -> Result<Option<Command>, LineFault>
+    ensures means { result ≡ asked (counted 2 words.now (make_of words.now)) }
+    ensures in_range { IfOk result (λ found. IfSome found (λ command. IsTrue (in_range command))) }
 {
     counted(words, 2)?;
     let most = number_at(words, 2, 1, MAX_PAGES as u32)?;
-    Ok(Command::Make { most })
+    Ok(Some(Command::Make { most }))
 }
 
 /// `remove K`.
 #[tactic(auto, unfolding(rh_defs::specs::Line::remove_of, rh_defs::specs::Range::in_range))]
-pub fn remove_of(words: &Words<'_>) -> Result<Command, LineFault>
-    ensures means { result ≡ counted 2 words.now (remove_of words.now) }
-    ensures in_range { IfOk result (λ command. IsTrue (in_range command)) }
+pub fn remove_of(words: &Words<'_>) -> Result<Option<Command>, LineFault>
+    ensures means { result ≡ asked (counted 2 words.now (remove_of words.now)) }
+    ensures in_range { IfOk result (λ found. IfSome found (λ command. IsTrue (in_range command))) }
 {
     counted(words, 2)?;
     let number = number_at(words, 2, FIRST_MADE, LAST_AREA)?;
-    Ok(Command::Remove { number })
+    Ok(Some(Command::Remove { number }))
 }
 
 /// `areas`.
 #[tactic(auto, unfolding(rh_defs::specs::Range::in_range))]
-pub fn areas_of(words: &Words<'_>) -> Result<Command, LineFault>
-    ensures means { result ≡ counted 1 words.now (Ok Command.Areas) }
-    ensures in_range { IfOk result (λ command. IsTrue (in_range command)) }
+pub fn areas_of(words: &Words<'_>) -> Result<Option<Command>, LineFault>
+    ensures means { result ≡ asked (counted 1 words.now (Ok Command.Areas)) }
+    ensures in_range { IfOk result (λ found. IfSome found (λ command. IsTrue (in_range command))) }
 {
     counted(words, 1)?;
-    Ok(Command::Areas)
+    Ok(Some(Command::Areas))
 }

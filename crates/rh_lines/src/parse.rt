@@ -3,6 +3,7 @@
 ghost use Rattle.std.specs.Prelude.{◌≡◌, ◌≤◌, length, IfOk, IfSome, IsTrue};
 ghost use Rattle.rh_defs.specs.Range.{in_range};
 ghost use Rattle.rh_defs.specs.Line.{is_skipped, line_means, command_of};
+ghost use Rattle.rh_lines.specs.Asked.{asked};
 ghost use Rattle.rh_lines.specs.Keywords.{command_by};
 
 use crate::areas::{area_of, areas_of, make_of, remove_of};
@@ -29,8 +30,7 @@ pub fn parse_line(line: &[u8]) -> Result<Option<Command>, LineFault>
     if is_skipped(&words) {
         return Ok(None);
     }
-    let command = command_of(&words)?;
-    Ok(Some(command))
+    command_of(&words)
 }
 
 fn is_skipped(words: &Words<'_>) -> bool
@@ -42,9 +42,9 @@ fn is_skipped(words: &Words<'_>) -> bool
     }
 }
 
-fn command_of(words: &Words<'_>) -> Result<Command, LineFault>
-    ensures means { result ≡ command_of words.now }
-    ensures in_range { IfOk result (λ command. IsTrue (in_range command)) }
+fn command_of(words: &Words<'_>) -> Result<Option<Command>, LineFault>
+    ensures means { result ≡ asked (command_of words.now) }
+    ensures in_range { IfOk result (λ found. IfSome found (λ command. IsTrue (in_range command))) }
 {
     match keyword_of(words.word(1)) {
         Some(keyword) => command_by(keyword, words),
@@ -53,9 +53,9 @@ fn command_of(words: &Words<'_>) -> Result<Command, LineFault>
 }
 
 /// The command of a line that begins with the keyword.
-fn command_by(keyword: Keyword, words: &Words<'_>) -> Result<Command, LineFault>
-    ensures means { result ≡ command_by keyword words.now }
-    ensures in_range { IfOk result (λ command. IsTrue (in_range command)) }
+fn command_by(keyword: Keyword, words: &Words<'_>) -> Result<Option<Command>, LineFault>
+    ensures means { result ≡ asked (command_by keyword words.now) }
+    ensures in_range { IfOk result (λ found. IfSome found (λ command. IsTrue (in_range command))) }
 {
     match keyword {
         Keyword::Task => task_of(words),

@@ -1,9 +1,10 @@
 //! Lines about tasks and their transfers.
 
-ghost use Rattle.std.specs.Prelude.{◌≡◌, IfOk, IsTrue};
+ghost use Rattle.std.specs.Prelude.{◌≡◌, IfOk, IfSome, IsTrue};
 ghost use Rattle.rh_defs.specs.Forms.{is_id};
 ghost use Rattle.rh_defs.specs.Line.{counted, counted_from, kill_of, save_of, poll_of, repeat_of, status_of, task_of, manner_of, cancel_of, id_of};
 ghost use Rattle.rh_defs.specs.Range.{in_range};
+ghost use Rattle.rh_lines.specs.Asked.{asked};
 
 use crate::counts::{counted, counted_from};
 use crate::forms::{anchor_at, choice_at, leaf_at, name_at, number_at};
@@ -13,19 +14,19 @@ use rh_defs::{Command, LineFault, Manner, Ref};
 
 /// `task NAME BUF`, with `deaf` or `file` behind it or not.
 #[tactic(auto, unfolding(rh_defs::specs::Line::task_of, rh_defs::specs::Range::in_range))]
-pub fn task_of(words: &Words<'_>) -> Result<Command, LineFault>
-    ensures means { result ≡ counted_from 3 4 words.now (task_of words.now) }
-    ensures in_range { IfOk result (λ command. IsTrue (in_range command)) }
+pub fn task_of(words: &Words<'_>) -> Result<Option<Command>, LineFault>
+    ensures means { result ≡ asked (counted_from 3 4 words.now (task_of words.now)) }
+    ensures in_range { IfOk result (λ found. IfSome found (λ command. IsTrue (in_range command))) }
 {
     counted_from(words, 3, 4)?;
     let name = name_at(words, 2)?;
     let buffer = number_at(words, 3, 1, LONGEST_BUFFER)?;
     let manner = manner_of(words)?;
-    Ok(Command::Task {
+    Ok(Some(Command::Task {
         name,
         buffer,
         manner,
-    })
+    }))
 }
 
 /// The manner of a task, which a fourth word may give.
@@ -45,81 +46,81 @@ fn manner_of(words: &Words<'_>) -> Result<Manner, LineFault>
 
 /// `kill NAME`.
 #[tactic(auto, unfolding(rh_defs::specs::Line::kill_of, rh_defs::specs::Range::in_range))]
-pub fn kill_of(words: &Words<'_>) -> Result<Command, LineFault>
-    ensures means { result ≡ counted 2 words.now (kill_of words.now) }
-    ensures in_range { IfOk result (λ command. IsTrue (in_range command)) }
+pub fn kill_of(words: &Words<'_>) -> Result<Option<Command>, LineFault>
+    ensures means { result ≡ asked (counted 2 words.now (kill_of words.now)) }
+    ensures in_range { IfOk result (λ found. IfSome found (λ command. IsTrue (in_range command))) }
 {
     counted(words, 2)?;
     let name = name_at(words, 2)?;
-    Ok(Command::Kill { name })
+    Ok(Some(Command::Kill { name }))
 }
 
 /// `save NAME A TO LEAF`.
 #[tactic(auto, unfolding(rh_defs::specs::Line::save_of, rh_defs::specs::Range::in_range))]
-pub fn save_of(words: &Words<'_>) -> Result<Command, LineFault>
-    ensures means { result ≡ counted 5 words.now (save_of words.now) }
-    ensures in_range { IfOk result (λ command. IsTrue (in_range command)) }
+pub fn save_of(words: &Words<'_>) -> Result<Option<Command>, LineFault>
+    ensures means { result ≡ asked (counted 5 words.now (save_of words.now)) }
+    ensures in_range { IfOk result (λ found. IfSome found (λ command. IsTrue (in_range command))) }
 {
     counted(words, 5)?;
     let name = name_at(words, 2)?;
     let anchor = anchor_at(words, 3)?;
     let to = name_at(words, 4)?;
     let leaf = leaf_at(words, 5)?;
-    Ok(Command::Save {
+    Ok(Some(Command::Save {
         name,
         anchor,
         to,
         leaf,
-    })
+    }))
 }
 
 /// `poll NAME`.
 #[tactic(auto, unfolding(rh_defs::specs::Line::poll_of, rh_defs::specs::Range::in_range))]
-pub fn poll_of(words: &Words<'_>) -> Result<Command, LineFault>
-    ensures means { result ≡ counted 2 words.now (poll_of words.now) }
-    ensures in_range { IfOk result (λ command. IsTrue (in_range command)) }
+pub fn poll_of(words: &Words<'_>) -> Result<Option<Command>, LineFault>
+    ensures means { result ≡ asked (counted 2 words.now (poll_of words.now)) }
+    ensures in_range { IfOk result (λ found. IfSome found (λ command. IsTrue (in_range command))) }
 {
     counted(words, 2)?;
     let name = name_at(words, 2)?;
-    Ok(Command::Poll { name })
+    Ok(Some(Command::Poll { name }))
 }
 
 /// `repeat NAME`.
 #[tactic(auto, unfolding(rh_defs::specs::Line::repeat_of, rh_defs::specs::Range::in_range))]
-pub fn repeat_of(words: &Words<'_>) -> Result<Command, LineFault>
-    ensures means { result ≡ counted 2 words.now (repeat_of words.now) }
-    ensures in_range { IfOk result (λ command. IsTrue (in_range command)) }
+pub fn repeat_of(words: &Words<'_>) -> Result<Option<Command>, LineFault>
+    ensures means { result ≡ asked (counted 2 words.now (repeat_of words.now)) }
+    ensures in_range { IfOk result (λ found. IfSome found (λ command. IsTrue (in_range command))) }
 {
     counted(words, 2)?;
     let name = name_at(words, 2)?;
-    Ok(Command::Repeat { name })
+    Ok(Some(Command::Repeat { name }))
 }
 
 /// `status NAME`.
 #[tactic(auto, unfolding(rh_defs::specs::Line::status_of, rh_defs::specs::Range::in_range))]
-pub fn status_of(words: &Words<'_>) -> Result<Command, LineFault>
-    ensures means { result ≡ counted 2 words.now (status_of words.now) }
-    ensures in_range { IfOk result (λ command. IsTrue (in_range command)) }
+pub fn status_of(words: &Words<'_>) -> Result<Option<Command>, LineFault>
+    ensures means { result ≡ asked (counted 2 words.now (status_of words.now)) }
+    ensures in_range { IfOk result (λ found. IfSome found (λ command. IsTrue (in_range command))) }
 {
     counted(words, 2)?;
     let name = name_at(words, 2)?;
-    Ok(Command::Status { name })
+    Ok(Some(Command::Status { name }))
 }
 
 /// `cancel NAME in`, or `out`, with an ID behind it or not.
 #[tactic(auto, unfolding(rh_defs::specs::Line::cancel_of, rh_defs::specs::Range::in_range))]
-pub fn cancel_of(words: &Words<'_>) -> Result<Command, LineFault>
-    ensures means { result ≡ counted_from 3 4 words.now (cancel_of words.now) }
-    ensures in_range { IfOk result (λ command. IsTrue (in_range command)) }
+pub fn cancel_of(words: &Words<'_>) -> Result<Option<Command>, LineFault>
+    ensures means { result ≡ asked (counted_from 3 4 words.now (cancel_of words.now)) }
+    ensures in_range { IfOk result (λ found. IfSome found (λ command. IsTrue (in_range command))) }
 {
     counted_from(words, 3, 4)?;
     let name = name_at(words, 2)?;
     let comes_in = choice_at(words, 3, b"in", b"out")?;
     let id = id_of(words)?;
     if comes_in {
-        Ok(Command::CancelIn { name, id })
+        Ok(Some(Command::CancelIn { name, id }))
     } else {
-        Ok(Command::CancelOut { name, id })
+        Ok(Some(Command::CancelOut { name, id }))
     }
 }
 
