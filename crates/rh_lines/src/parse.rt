@@ -2,7 +2,7 @@
 
 ghost use Rattle.std.specs.Prelude.{◌≡◌, ◌≤◌, length, IfOk, IfSome, IsTrue};
 ghost use Rattle.rh_defs.specs.Range.{in_range};
-ghost use Rattle.rh_defs.specs.Line.{is_skipped, line_means, command_of};
+ghost use Rattle.rh_defs.specs.Line.{is_skipped, line_means};
 ghost use Rattle.rh_lines.specs.Asked.{asked};
 ghost use Rattle.rh_lines.specs.Keywords.{command_by};
 
@@ -30,7 +30,10 @@ pub fn parse_line(line: &[u8]) -> Result<Option<Command>, LineFault>
     if is_skipped(&words) {
         return Ok(None);
     }
-    command_of(&words)
+    match keyword_of(words.word(1)) {
+        Some(keyword) => command_by(keyword, &words),
+        None => Err(LineFault::Unknown),
+    }
 }
 
 fn is_skipped(words: &Words<'_>) -> bool
@@ -39,16 +42,6 @@ fn is_skipped(words: &Words<'_>) -> bool
     match words.word(1) {
         [b'#', ..] => true,
         _ => words.count() == 0,
-    }
-}
-
-fn command_of(words: &Words<'_>) -> Result<Option<Command>, LineFault>
-    ensures means { result ≡ asked (command_of words.now) }
-    ensures in_range { IfOk result (λ found. IfSome found (λ command. IsTrue (in_range command))) }
-{
-    match keyword_of(words.word(1)) {
-        Some(keyword) => command_by(keyword, words),
-        None => Err(LineFault::Unknown),
     }
 }
 

@@ -1,13 +1,10 @@
 //! The line that is being read.
 
-ghost use Rattle.std.specs.Prelude.{◌≡◌, ◌≤◌, [], ◌++◌, length, IfOk, IfSome, IsTrue};
+ghost use Rattle.std.specs.Prelude.{◌≡◌, ◌≤◌, [], ◌++◌, length, IfOk};
 ghost use Rattle.rh_defs.specs.Line.{line_means};
-ghost use Rattle.rh_defs.specs.Range.{in_range};
 ghost use Rattle.rh_session.specs.Session.{kept};
 
 use rh_defs::sizes::LONGEST_LINE;
-use rh_defs::{Command, LineFault};
-use rh_lines::parse_line;
 use std::alloc::{AllocError, Global};
 use std::marker::Model;
 
@@ -57,9 +54,8 @@ impl LineBuffer {
         self.bytes.extend_from_slice(part).unwrap();
     }
 
-    /// The whole line that ends with these bytes, as far as its meaning goes: gathered unless it lies in them.
-    #[inline(always)]
-    fn whole<'b>(&'b mut self, bytes: &'b [u8]) -> &'b [u8]
+    /// The line that ends with these bytes, as far as its meaning goes: gathered, unless it lies whole in them.
+    pub fn whole<'b>(&'b mut self, bytes: &'b [u8]) -> &'b [u8]
         ensures { line_means result.now ≡ line_means (self.old ++ bytes.now) }
     {
         if self.as_slice().is_empty() {
@@ -69,14 +65,10 @@ impl LineBuffer {
         self.as_slice()
     }
 
-    /// What the line means that ends with these bytes. The next line begins.
-    pub fn end(&mut self, bytes: &[u8]) -> Result<Option<Command>, LineFault>
-        ensures means { result ≡ line_means (self.old ++ bytes.now) }
-        ensures in_range { IfOk result (λ found. IfSome found (λ command. IsTrue (in_range command))) }
-        ensures next { self.new ≡ [] }
+    /// The next line begins.
+    pub fn clear(&mut self)
+        ensures { self.new ≡ [] }
     {
-        let meaning = parse_line(self.whole(bytes));
         self.bytes.clear();
-        meaning
     }
 }

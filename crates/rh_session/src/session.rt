@@ -17,7 +17,7 @@ use crate::status::Status;
 use memchr::memchr;
 use rh_defs::sizes::LONGEST_LINE;
 use rh_defs::{Command, LineFault};
-use rh_lines::{Held, Sink, WriteFailed, print_fault};
+use rh_lines::{Held, Sink, WriteFailed, parse_line, print_fault};
 use std::alloc::{AllocError, Global};
 
 /// A script in the middle of its run: the desktop, the line so far, and whether a line was bad.
@@ -88,7 +88,8 @@ impl<D: Desktop> Session<D> {
         ensures text { (s : State) → IsState D.spells self.old s → Gathers (W.output writer.old) (W.output writer.new) result held.old.bytes held.new.bytes (line_text s.desk (s.line ++ bytes.now)) }
         ensures state { (s : State) → IsState D.spells self.old s → IsState D.spells self.new (state_after_line s bytes.now) }
     {
-        let meaning = self.line.end(bytes);
+        let meaning = parse_line(self.line.whole(bytes));
+        self.line.clear();
         self.answer(&meaning, held, writer)
     }
 
