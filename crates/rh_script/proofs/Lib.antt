@@ -1,3 +1,4 @@
 pub mod ReadLemmas
 pub mod SegmentLemmas
 pub mod PrintLemmas
+pub mod GatherLemmas

@@ -39,7 +39,7 @@ pub puts_next : {E X : Type 0} (f : X → List ℕ) {s t u : Output} (xs : List 
 puts_next f xs i x e r k z p q =
     puts_each f xs i x x e r (sym (get_or_from_slice_get xs i x x (sym k))) z (slice_get_within xs i x (sym k)) p q
 
-take_past : {X : Type 0} (xs : List X) (i : ℕ) → None ≡ slice_get xs i → take i xs ≡ xs
+pub take_past : {X : Type 0} (xs : List X) (i : ℕ) → None ≡ slice_get xs i → take i xs ≡ xs
 take_past [] zero e = refl
 take_past [] (suc i) e = refl
 take_past (x ∷ xs) zero e = absurd (cc)

@@ -2,6 +2,7 @@
 //! are known.
 #![tactic(auto)]
 
+mod gathered;
 mod listed;
 mod print;
 mod read;

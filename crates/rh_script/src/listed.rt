@@ -1,12 +1,13 @@
 //! Flex blocks, and areas and slots, as lines of text.
 
-ghost use Rattle.std.specs.Prelude.{◌≡◌, ◌∷◌, [], codes, flat_map};
+ghost use Rattle.std.specs.Prelude.{◌≡◌, ◌≤◌, ◌∷◌, ◌++◌, [], codes, flat_map, length};
 ghost use Rattle.std.specs.Fmt.{decimal};
 ghost use Rattle.rh_defs.specs.Listing.{area_items};
 ghost use Rattle.rh_defs.specs.Text.{area_line, block_line, later};
 ghost use Rattle.rh_lines.specs.Flow.{Puts};
 ghost use Rattle.rh_script.specs.Named.{blocks_of_named};
 
+use crate::gathered::make_room;
 use crate::read::{area_at, blocks_of};
 use rh_defs::{AreaItem, BlockItem, Name};
 use rh_lines::{Row, Sink, WriteFailed, put};
@@ -29,16 +30,19 @@ pub fn print_blocks<S: Store, W: Sink>(
 fn print_items<W: Sink>(items: &[BlockItem], writer: &mut W) -> Result<(), WriteFailed>
     ensures { Puts (W.output writer.old) (W.output writer.new) result (flat_map block_line items.now) }
 {
+    let mut row = Row::new();
     for item in items {
-        print_block(item, writer)?;
+        make_room(&mut row, writer)?;
+        add_block(&mut row, item);
     }
-    Ok(())
+    put(writer, row.as_slice())
 }
 
-fn print_block<W: Sink>(item: &BlockItem, writer: &mut W) -> Result<(), WriteFailed>
-    ensures { Puts (W.output writer.old) (W.output writer.new) result (block_line item.now) }
+#[inline(always)]
+fn add_block(row: &mut Row, item: &BlockItem)
+    requires { length row.old ≤ 58 }
+    ensures { row.new ≡ row.old ++ block_line item.now }
 {
-    let mut row = Row::new();
     row.text(b"  ");
     row.decimal(u32::from(item.anchor.0));
     row.byte(b' ');
@@ -46,7 +50,6 @@ fn print_block<W: Sink>(item: &BlockItem, writer: &mut W) -> Result<(), WriteFai
     row.byte(b' ');
     row.decimal(item.size);
     row.byte(b'\n');
-    put(writer, row.as_slice())
 }
 
 /// Writes a line for each area, and then for each slot in order of handle.
@@ -54,43 +57,45 @@ pub fn print_areas<S: Store, W: Sink>(world: &World<S>, writer: &mut W) -> Resul
     ensures { Puts (W.output writer.old) (W.output writer.new) result
         (flat_map area_line (area_items world.now.desk)) }
 {
+    let mut row = Row::new();
     let mut i = 0;
     'items: while let Some(item) = area_at(world, i) {
-        print_area(&item, writer)?;
+        make_room(&mut row, writer)?;
+        add_area(&mut row, &item);
         i += 1;
     }
-    Ok(())
+    put(writer, row.as_slice())
 }
 
-fn print_area<W: Sink>(item: &AreaItem, writer: &mut W) -> Result<(), WriteFailed>
-    ensures { Puts (W.output writer.old) (W.output writer.new) result (area_line item.now) }
+#[inline(always)]
+fn add_area(row: &mut Row, item: &AreaItem)
+    requires { length row.old ≤ 58 }
+    ensures { row.new ≡ row.old ++ area_line item.now }
 {
     match item {
-        AreaItem::Area { number, pages } => print_numbered(*number, *pages, writer),
-        AreaItem::Slot { name, pages } => print_slot(name, *pages, writer),
+        AreaItem::Area { number, pages } => add_numbered(row, *number, *pages),
+        AreaItem::Slot { name, pages } => add_slot(row, name, *pages),
     }
 }
 
-fn print_numbered<W: Sink>(number: u32, pages: u32, writer: &mut W) -> Result<(), WriteFailed>
-    ensures { Puts (W.output writer.old) (W.output writer.new) result (later (codes "area") (decimal number ∷ decimal pages ∷ [])) }
+fn add_numbered(row: &mut Row, number: u32, pages: u32)
+    requires { length row.old ≤ 58 }
+    ensures { row.new ≡ row.old ++ later (codes "area") (decimal number ∷ decimal pages ∷ []) }
 {
-    let mut row = Row::new();
     row.text(b"  area ");
     row.decimal(number);
     row.byte(b' ');
     row.decimal(pages);
     row.byte(b'\n');
-    put(writer, row.as_slice())
 }
 
-fn print_slot<W: Sink>(name: &Name, pages: u32, writer: &mut W) -> Result<(), WriteFailed>
-    ensures { Puts (W.output writer.old) (W.output writer.new) result (later (codes "slot") (name.now ∷ decimal pages ∷ [])) }
+fn add_slot(row: &mut Row, name: &Name, pages: u32)
+    requires { length row.old ≤ 58 }
+    ensures { row.new ≡ row.old ++ later (codes "slot") (name.now ∷ decimal pages ∷ []) }
 {
-    let mut row = Row::new();
     row.text(b"  slot ");
     row.text(name.as_bytes());
     row.byte(b' ');
     row.decimal(pages);
     row.byte(b'\n');
-    put(writer, row.as_slice())
 }

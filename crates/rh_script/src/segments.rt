@@ -7,6 +7,7 @@ ghost use Rattle.rh_defs.specs.declared.sizes.TheConstants.{C_HEAP_START};
 ghost use Rattle.rh_lines.specs.Flow.{Puts};
 ghost use Rattle.rh_script.specs.Named.{item_end, segments_of_named};
 
+use crate::gathered::make_room;
 use crate::read::segments_of;
 use rh_defs::sizes::{C_HEAP_START, HEAP_FIRST};
 use rh_defs::{Name, SegmentItem};
@@ -50,35 +51,33 @@ fn place_behind(item: &SegmentItem) -> u32
 fn print_items<W: Sink>(items: &[SegmentItem], writer: &mut W) -> Result<(), WriteFailed>
     ensures { Puts (W.output writer.old) (W.output writer.new) result (flat_map segment_line items.now) }
 {
+    let mut row = Row::new();
     for item in items {
-        print_segment(item, writer)?;
+        make_room(&mut row, writer)?;
+        add_segment(&mut row, item);
     }
-    Ok(())
+    put(writer, row.as_slice())
 }
 
-fn print_segment<W: Sink>(item: &SegmentItem, writer: &mut W) -> Result<(), WriteFailed>
-    ensures { Puts (W.output writer.old) (W.output writer.new) result (segment_line item.now) }
+#[inline(always)]
+fn add_segment(row: &mut Row, item: &SegmentItem)
+    requires { length row.old ≤ 58 }
+    ensures { row.new ≡ row.old ++ segment_line item.now }
 {
     match item {
-        SegmentItem::Used { address, size } => print_stretch(b"  used ", *address, *size, writer),
-        SegmentItem::Hole { address, size } => print_stretch(b"  hole ", *address, *size, writer),
+        SegmentItem::Used { address, size } => add_stretch(row, b"  used ", *address, *size),
+        SegmentItem::Hole { address, size } => add_stretch(row, b"  hole ", *address, *size),
     }
 }
 
-fn print_stretch<W: Sink>(
-    kind: &[u8],
-    place: u32,
-    size: u32,
-    writer: &mut W,
-) -> Result<(), WriteFailed>
-    requires { length kind.now ≤ 7 }
-    ensures { Puts (W.output writer.old) (W.output writer.new) result (kind.now ++ (address place ++ (codes " " ++ (decimal size ++ codes "\n")))) }
+fn add_stretch(row: &mut Row, kind: &[u8], place: u32, size: u32)
+    requires kind { length kind.now ≤ 7 }
+    requires room { length row.old ≤ 58 }
+    ensures { row.new ≡ row.old ++ (kind.now ++ (address place ++ (codes " " ++ (decimal size ++ codes "\n")))) }
 {
-    let mut row = Row::new();
     row.text(kind);
     row.address(place);
     row.byte(b' ');
     row.decimal(size);
     row.byte(b'\n');
-    put(writer, row.as_slice())
 }

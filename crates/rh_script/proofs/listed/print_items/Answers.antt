@@ -1,11 +1,16 @@
+use Rattle.std.proofs.Common.{arith}
 use Rattle.rh_defs.specs.Text.{block_line}
-use Rattle.rh_lines.proofs.FlowLemmas.{puts_each, takes_each}
+use Rattle.rh_script.proofs.GatherLemmas.{gathered_each, gathered_stops, gathered_ends, gathered_all}
 use Rattle.rh_script.proofs.listed.print_items.Goals as goal
 
-pub returns-in_err-print_block : goal.returns-in_err-print_block
-returns-in_err-print_block g c =
-    puts_each block_line _ c.loop-item.item-index c.item-item.result _ _ _ c.item-item.is c.from_residual.ensures.0 c.loop-item-test.true c.loop-item.invariant c.in_err-print_block.ensures
+pub returns-in_err-make_room : goal.returns-in_err-make_room
+returns-in_err-make_room g c =
+    gathered_stops block_line _ c.loop-item.item-index _ _ c.from_residual.ensures.0 c.loop-item.invariant c.in_err-make_room.ensures.err
 
 pub loop-item-preserved : goal.loop-item-preserved
 loop-item-preserved g c =
-    takes_each block_line _ c.loop-item.item-index c.item-item.result _ c.item-item.is c.loop-item-test.true c.loop-item.invariant c.in_ok-print_block.ensures.ok
+    gathered_each block_line _ c.loop-item.item-index c.item-item.result _ c.item-item.is c.loop-item-test.true c.loop-item.invariant c.in_ok-make_room.ensures.ok c.add_block.ensures
+
+pub returns : goal.returns
+returns g c =
+    gathered_ends _ c.put.result (gathered_all block_line _ c.loop-item.item-index (omega (arith, c.loop-item-test.false)) c.loop-item.invariant) (rw (← c.as_slice.ensures) c.put.ensures)
