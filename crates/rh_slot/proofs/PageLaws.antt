@@ -1,0 +1,71 @@
+-- A flex block whose header is read in the bytes of a page.
+use Rattle.std.proofs.Common.{◌≡◌, ℕ, ◌+◌, ◌-◌, ◌/◌, ◌≤◌, true, List, length, sym, ap, ◌∙◌, arith}
+use Rattle.std.specs.Prelude.{Some, slice_get}
+use Rattle.rh_defs.specs.Bytes.{word, part}
+use Rattle.rh_defs.specs.Listing.{block_items}
+use Rattle.rh_defs.specs.Slot.{Slot, flex_weight}
+use Rattle.rh_defs.specs.SlotImage.{SlotWords, is_block}
+use Rattle.rh_defs.specs.declared.listing.BlockItem.{BlockItem}
+use Rattle.rh_defs.proofs.BytesLaws.{length-part, word-part}
+use Rattle.rh_defs.proofs.SlotImageLaws.{is_block-yes}
+use Rattle.rh_slot.specs.Row.{WalksIn, Headed, item_of}
+use Rattle.rh_slot.specs.declared.row.FlexWalk.{FlexWalk}
+use Rattle.rh_slot.proofs.WalkLaws.{walk_at, walks_on, turn, step_item}
+
+-- the first page has all anchor words
+pub anchors_long : (b anchors : List ℕ) → anchors ≡ part b 0 4096 → 256 ≤ length anchors
+anchors_long b anchors e = omega (arith, ap length e, length-part b 0 4096)
+
+module _ (b anchors page : List ℕ) (start n at place : ℕ) (item : BlockItem) (first : anchors ≡ part b 0 4096) (rest : page ≡ part b start n) (e : place ≡ start + at) (h : Headed anchors page at place item) where
+  long : length page ≡ n
+  long = ap length rest ∙ length-part b start n
+
+  -- a word of the header is the area's
+  in_header : (k : ℕ) → k ≤ 4 → word page (at + k) ≡ word b (place + k)
+  in_header k l = let w = h.whole in let z = long in ap (λ l. word l (at + k)) rest ∙ word-part b start n (at + k) (omega arith) ∙ ap (word b) (omega arith)
+
+  head_word : word page at ≡ word b place
+  head_word = ap (word page) (omega arith) ∙ in_header 0 (omega arith) ∙ ap (word b) (omega arith)
+
+  headed_size : item.size ≡ word b (place + 4)
+  headed_size = ap (λ (i : BlockItem). i.size) h.is ∙ in_header 4 (omega arith)
+
+  anchor_word : (k : ℕ) → k ≤ 256 → word anchors k ≡ word b k
+  anchor_word k l = ap (λ l. word l k) first ∙ word-part b 0 4096 k (omega arith) ∙ ap (word b) (omega arith)
+
+  headed_block : is_block b place ≡ true
+  headed_block =
+      let w = head_word in
+      let least = h.least in
+      let most = h.most in
+      let multiple = h.multiple in
+      is_block-yes b place (record {
+        least = omega arith;
+        most = omega arith;
+        multiple = omega arith;
+        back = ap (λ a. word b (a - 32768)) (sym w) ∙ (sym (anchor_word (word page at - 32768) (omega arith)) ∙ h.back);
+      })
+
+  headed_item : item ≡ item_of b place
+  headed_item =
+      h.is
+      ∙ (ap (λ w. let r : BlockItem = record { anchor = (w - 32768) / 4; address = 32768 + place + 8; size = word page (at + 4) } in r) head_word
+      ∙ ap (λ w. let r : BlockItem = record { anchor = (word b place - 32768) / 4; address = 32768 + place + 8; size = w } in r) (in_header 4 (omega arith)))
+
+-- what a walk finds in such a header
+pub record Passes (b : List ℕ) (s : Slot) (w : FlexWalk) (item : BlockItem) : Type 0 where
+  pub inside : w.place + flex_weight item.size ≤ length b
+  pub is : Some item ≡ slice_get (block_items s) w.passed
+  pub on : (step : ℕ) → step ≡ flex_weight item.size → WalksIn s (record { passed = w.passed + 1; place = w.place + step })
+
+pub passes : (b anchors page : List ℕ) (s : Slot) (start n at : ℕ) (w : FlexWalk) (item : BlockItem) → SlotWords b s → WalksIn s w → anchors ≡ part b 0 4096 → page ≡ part b start n → w.place ≡ start + at
+    → Headed anchors page at w.place item → Passes b s w item
+passes b anchors page s start n at w item k i first rest e h =
+    let stands = headed_block b anchors page start n at w.place item first rest e h in
+    let size = headed_size b anchors page start n at w.place item first rest e h in
+    let is = headed_item b anchors page start n at w.place item first rest e h in
+    record {
+      inside = (turn b s w.place k (walk_at s w i) stands item.size size).inside;
+      is = ap Some is ∙ step_item b s w k i stands;
+      on = λ step u. walks_on b s w k i stands item.size step size u;
+    }
