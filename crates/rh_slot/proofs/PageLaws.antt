@@ -1,16 +1,13 @@
 -- A flex block whose header is read in the bytes of a page.
 use Rattle.std.proofs.Common.{◌≡◌, ℕ, ◌+◌, ◌-◌, ◌/◌, ◌≤◌, true, List, length, sym, ap, ◌∙◌, arith}
-use Rattle.std.specs.Prelude.{Some, slice_get}
 use Rattle.rh_defs.specs.Bytes.{word, part}
-use Rattle.rh_defs.specs.Listing.{block_items}
-use Rattle.rh_defs.specs.Slot.{Slot, flex_weight}
+use Rattle.rh_defs.specs.Slot.{Slot}
 use Rattle.rh_defs.specs.SlotImage.{SlotWords, is_block}
 use Rattle.rh_defs.specs.declared.listing.BlockItem.{BlockItem}
 use Rattle.rh_defs.proofs.BytesLaws.{length-part, word-part}
 use Rattle.rh_defs.proofs.SlotImageLaws.{is_block-yes}
-use Rattle.rh_slot.specs.Row.{WalksIn, Headed, item_of}
-use Rattle.rh_slot.specs.declared.row.FlexWalk.{FlexWalk}
-use Rattle.rh_slot.proofs.WalkLaws.{walk_at, walks_on, turn, step_item}
+use Rattle.rh_slot.specs.Row.{Walked, Headed, item_of}
+use Rattle.rh_slot.proofs.WalkLaws.{Turn, turn}
 
 -- the first page has all anchor words
 pub anchors_long : (b anchors : List ℕ) → anchors ≡ part b 0 4096 → 256 ≤ length anchors
@@ -53,19 +50,15 @@ module _ (b anchors page : List ℕ) (start n at place : ℕ) (item : BlockItem)
       ∙ ap (λ w. let r : BlockItem = record { anchor = (word b place - 32768) / 4; address = 32768 + place + 8; size = w } in r) (in_header 4 (omega arith)))
 
 -- what a walk finds in such a header
-pub record Passes (b : List ℕ) (s : Slot) (w : FlexWalk) (item : BlockItem) : Type 0 where
-  pub inside : w.place + flex_weight item.size ≤ length b
-  pub is : Some item ≡ slice_get (block_items s) w.passed
-  pub on : (step : ℕ) → step ≡ flex_weight item.size → WalksIn s (record { passed = w.passed + 1; place = w.place + step })
+pub record Passes (b : List ℕ) (s : Slot) (place : ℕ) (item : BlockItem) : Type 0 where
+  pub block : is_block b place ≡ true
+  pub size : item.size ≡ word b (place + 4)
+  pub is : item ≡ item_of b place
+  pub turned : Turn b s place item.size
 
-pub passes : (b anchors page : List ℕ) (s : Slot) (start n at : ℕ) (w : FlexWalk) (item : BlockItem) → SlotWords b s → WalksIn s w → anchors ≡ part b 0 4096 → page ≡ part b start n → w.place ≡ start + at
-    → Headed anchors page at w.place item → Passes b s w item
-passes b anchors page s start n at w item k i first rest e h =
-    let stands = headed_block b anchors page start n at w.place item first rest e h in
-    let size = headed_size b anchors page start n at w.place item first rest e h in
-    let is = headed_item b anchors page start n at w.place item first rest e h in
-    record {
-      inside = (turn b s w.place k (walk_at s w i) stands item.size size).inside;
-      is = ap Some is ∙ step_item b s w k i stands;
-      on = λ step u. walks_on b s w k i stands item.size step size u;
-    }
+pub passes : (b anchors page : List ℕ) (s : Slot) (start n at place : ℕ) (item : BlockItem) → SlotWords b s → Walked s place → anchors ≡ part b 0 4096 → page ≡ part b start n → place ≡ start + at
+    → Headed anchors page at place item → Passes b s place item
+passes b anchors page s start n at place item k w first rest e h =
+    let block = headed_block b anchors page start n at place item first rest e h in
+    let size = headed_size b anchors page start n at place item first rest e h in
+    record { block = block; size = size; is = headed_item b anchors page start n at place item first rest e h; turned = turn b s place k w block item.size size }

@@ -30,6 +30,13 @@ pub struct FlexWalk {
     pub place: usize,
 }
 
+/// A walk from a place on, which has passed no block.
+fn walk_from(place: usize) -> FlexWalk
+    ensures { result ≡ record { passed = 0; place = place } }
+{
+    FlexWalk { passed: 0, place }
+}
+
 /// Whether a block begins at a place: its header names an anchor word that leads back to it.
 fn begins<S: Words>(store: &S, area: AreaId, place: usize) -> bool
     requires opened { IsOpen (S.memory store.now) area.0 }
@@ -148,15 +155,40 @@ impl Slot {
         Some(read(store, self.area, place + WORD))
     }
 
+    /// Passes the flex blocks from a walk's place on whose headers lie whole in that place's page.
+    fn pass_in_page<S: Words>(self, store: &S, anchors: &[u8], start: FlexWalk) -> FlexWalk
+        requires slot { IsSlot (S.memory store.now) self }
+        requires anchors { anchors.now ≡ part (bytes (S.memory store.now) self.area.0) 0 PAGE }
+        requires walked { Walked (slot_in (S.memory store.now) self) start.place }
+        requires small { start.passed < 2 ^ 32 }
+        ensures walked { Walked (slot_in (S.memory store.now) self) result.place }
+        ensures on { start.place ≤ result.place }
+        ensures walk { WalksIn (slot_in (S.memory store.now) self) start → WalksIn (slot_in (S.memory store.now) self) result }
+        ensures passed { start.passed ≤ result.passed }
+    {
+        let mut walk = start;
+        if store.len(self.area) <= start.place {
+            return walk;
+        }
+        let page = store.rest_of_page(self.area, start.place);
+        'walk: while let Some(item) = item_in(anchors, page, walk.place - start.place, walk.place) {
+            walk.passed += 1;
+            walk.place += flex_weight(item.size as usize);
+        }
+        walk
+    }
+
     /// Where the flex blocks end, from a place to which a walk comes: the number of bytes that the slot takes.
     pub(crate) fn top_from<S: Words>(self, store: &S, from: usize) -> usize
         requires slot { IsSlot (S.memory store.now) self }
         requires walked { Walked (slot_in (S.memory store.now) self) from }
         ensures { result ≡ slot_length (slot_in (S.memory store.now) self) }
     {
+        let anchors = store.rest_of_page(self.area, 0);
         let mut place = from;
         'walk: while let Some(size) = self.size_at(store, place) {
-            place += flex_weight(size);
+            let behind = place + flex_weight(size);
+            place = self.pass_in_page(store, anchors, walk_from(behind)).place;
         }
         place
     }
@@ -202,26 +234,6 @@ impl Slot {
         }
     }
 
-    /// Passes the flex blocks from a walk's place on whose headers lie whole in that place's page.
-    fn pass_in_page<S: Words>(self, store: &S, anchors: &[u8], start: FlexWalk) -> FlexWalk
-        requires slot { IsSlot (S.memory store.now) self }
-        requires anchors { anchors.now ≡ part (bytes (S.memory store.now) self.area.0) 0 PAGE }
-        requires walk { WalksIn (slot_in (S.memory store.now) self) start }
-        ensures walk { WalksIn (slot_in (S.memory store.now) self) result }
-        ensures on { start.passed ≤ result.passed }
-    {
-        let mut walk = start;
-        if store.len(self.area) <= start.place {
-            return walk;
-        }
-        let page = store.rest_of_page(self.area, start.place);
-        'walk: while let Some(item) = item_in(anchors, page, walk.place - start.place, walk.place) {
-            walk.passed += 1;
-            walk.place += flex_weight(item.size as usize);
-        }
-        walk
-    }
-
     /// How many flex blocks the slot has.
     pub fn count<S: Words>(self, store: &S) -> usize
         requires slot { IsSlot (S.memory store.now) self }
@@ -243,10 +255,7 @@ impl Slot {
         ensures passed { result.passed ≡ 0 }
         ensures walk { WalksIn (slot_in (S.memory store.now) self) result }
     {
-        FlexWalk {
-            passed: 0,
-            place: self.flex_place(store),
-        }
+        walk_from(self.flex_place(store))
     }
 
     /// The next flex block of a walk: its anchor, address and size in bytes. `None` above the last one, where the walk
