@@ -1,9 +1,9 @@
 -- The row of flex blocks in the words of an area: blocks that lie there, blocks that slid, and walks over them.
-use Rattle.std.specs.Prelude.{◌≡◌, ℕ, ◌+◌, ◌-◌, ◌*◌, ◌/◌, ◌<◌, ◌≤◌, List, ◌++◌, length, take}
+use Rattle.std.specs.Prelude.{◌≡◌, ℕ, ◌+◌, ◌-◌, ◌*◌, ◌/◌, ◌%◌, ◌<◌, ◌≤◌, List, ◌++◌, length, take}
 use Rattle.rh_defs.specs.Bytes.{word, SameOutside}
 use Rattle.rh_defs.specs.Memory.{Memory, Edited, bytes}
 use Rattle.rh_defs.specs.Pieces.{total}
-use Rattle.rh_defs.specs.Slot.{Flex, Slot, weight, slot_start, IsFree, HaveAnchors}
+use Rattle.rh_defs.specs.Slot.{Flex, Slot, weight, slot_start, heap_start, IsFree, HaveAnchors}
 use Rattle.rh_defs.specs.SlotImage.{Lie, Hang, heap_place, flex_place}
 use Rattle.rh_defs.specs.declared.listing.BlockItem.{BlockItem}
 use Rattle.rh_defs.specs.declared.sizes.TheConstants.{ANCHORS, FLEX_HEADER, WORD}
@@ -59,3 +59,12 @@ pub record WalksIn (s : Slot) (walk : FlexWalk) : Type 0 where
 -- the block whose header stands at a place of the slot's bytes
 abbrev pub item_of : List ℕ → ℕ → BlockItem
 item_of b place = record { anchor = (word b place - slot_start) / WORD; address = slot_start + place + FLEX_HEADER; size = word b (place + WORD) }
+
+-- The header of a flex block at a place of a slot lies so many bytes into a page, and names an anchor word that leads back to the block. This is its item.
+pub record Headed (anchors page : List ℕ) (at place : ℕ) (item : BlockItem) : Type 0 where
+  pub whole : at + FLEX_HEADER ≤ length page
+  pub least : slot_start ≤ word page at
+  pub most : word page at < heap_start
+  pub multiple : word page at % WORD ≡ 0
+  pub back : word anchors (word page at - slot_start) ≡ slot_start + place + FLEX_HEADER
+  pub is : item ≡ record { anchor = (word page at - slot_start) / WORD; address = slot_start + place + FLEX_HEADER; size = word page (at + WORD) }

@@ -1,14 +1,15 @@
 //! The row of flex blocks that lie one after the other above the C heap: walks over it, and how it slides.
-ghost use Rattle.std.specs.Prelude.{◌≡◌, ◌+◌, ◌<◌, true, ◌^◌, ◌≤◌, length, is_some, slice_get, MatchOption, List, OnSome, IfNone, false};
+ghost use Rattle.std.specs.Prelude.{◌≡◌, ◌+◌, ◌<◌, true, ◌^◌, ◌≤◌, length, take, is_some, slice_get, MatchOption, List, OnSome, IfSome, IfNone, false};
 ghost use Rattle.rh_defs.specs.Memory.{IsOpen, bytes, Edited};
 ghost use Rattle.rh_defs.specs.Slot.{Flex, flex_around, weight, slot_length};
 ghost use Rattle.rh_defs.specs.Pieces.{total};
 ghost use Rattle.rh_defs.specs.Listing.{block_items};
-ghost use Rattle.rh_defs.specs.Bytes.{word, SameIn};
+ghost use Rattle.rh_defs.specs.Bytes.{word, part, SameIn};
 ghost use Rattle.rh_defs.specs.SlotImage.{Lie, is_block, flex_place};
 ghost use Rattle.rh_defs.specs.declared.listing.BlockItem.{BlockItem};
 ghost use Rattle.rh_slot.specs.Area.{IsSlot, slot_in};
-ghost use Rattle.rh_slot.specs.Row.{Row, Hung, Shifted, Walked, WalksIn, item_of};
+ghost use Rattle.rh_slot.specs.Row.{Row, Hung, Shifted, Walked, WalksIn, Headed, item_of};
+ghost use Rattle.rh_defs.specs.declared.sizes.TheConstants.{PAGE};
 
 use crate::area::{read, slide, write};
 use crate::slot::Slot;
@@ -18,6 +19,7 @@ use rh_defs::sizes::{
     is_inside,
 };
 use rh_defs::{Anchor, BlockItem};
+use rh_store::bytes::word_in;
 use rh_store::{AreaId, Words};
 
 /// A walk over a slot's flex blocks from below: how many it has passed, and where the next one stands in the slot's
@@ -26,6 +28,13 @@ use rh_store::{AreaId, Words};
 pub struct FlexWalk {
     pub passed: usize,
     pub place: usize,
+}
+
+/// A walk from a place on, which has passed no block.
+fn walk_from(place: usize) -> FlexWalk
+    ensures { result ≡ record { passed = 0; place = place } }
+{
+    FlexWalk { passed: 0, place }
 }
 
 /// Whether a block begins at a place: its header names an anchor word that leads back to it.
@@ -40,6 +49,34 @@ fn begins<S: Words>(store: &S, area: AreaId, place: usize) -> bool
         return false;
     }
     read(store, area, anchor - SLOT_START) == SLOT_START + place + FLEX_HEADER
+}
+
+/// The flex block at a place, whose header lies `at` bytes into a page, with the anchors in the slot's first page.
+/// `None` where no block begins there, or the page ends in the header.
+#[inline(always)]
+fn item_in(anchors: &[u8], page: &[u8], at: usize, place: usize) -> Option<BlockItem>
+    requires anchors { C_HEAP_PLACE ≤ length anchors.now }
+    requires small { place < 2 ^ 30 }
+    requires low { at ≤ place }
+    ensures { IfSome result (Headed anchors.now page.now at place) }
+{
+    if page.len() < at + FLEX_HEADER {
+        return None;
+    }
+    let anchor = word_in(page, at) as usize;
+    if anchor < SLOT_START || C_HEAP_START <= anchor || anchor % WORD != 0 {
+        return None;
+    }
+    let address = SLOT_START + place + FLEX_HEADER;
+    let word = anchor - SLOT_START;
+    if word_in(anchors, word) as usize != address {
+        return None;
+    }
+    Some(BlockItem {
+        anchor: Anchor((word / WORD) as u8),
+        address: address as u32,
+        size: word_in(page, at + WORD),
+    })
 }
 
 /// Writes the anchor words of the blocks that lie in `n` bytes.
@@ -118,15 +155,40 @@ impl Slot {
         Some(read(store, self.area, place + WORD))
     }
 
+    /// Passes the flex blocks from a walk's place on whose headers lie whole in that place's page.
+    fn pass_in_page<S: Words>(self, store: &S, anchors: &[u8], start: FlexWalk) -> FlexWalk
+        requires slot { IsSlot (S.memory store.now) self }
+        requires anchors { anchors.now ≡ part (bytes (S.memory store.now) self.area.0) 0 PAGE }
+        requires walked { Walked (slot_in (S.memory store.now) self) start.place }
+        requires small { start.passed < 2 ^ 32 }
+        ensures walked { Walked (slot_in (S.memory store.now) self) result.place }
+        ensures on { start.place ≤ result.place }
+        ensures walk { WalksIn (slot_in (S.memory store.now) self) start → WalksIn (slot_in (S.memory store.now) self) result }
+        ensures passed { start.passed ≤ result.passed }
+    {
+        let mut walk = start;
+        if store.len(self.area) <= start.place {
+            return walk;
+        }
+        let page = store.rest_of_page(self.area, start.place);
+        'walk: while let Some(item) = item_in(anchors, page, walk.place - start.place, walk.place) {
+            walk.passed += 1;
+            walk.place += flex_weight(item.size as usize);
+        }
+        walk
+    }
+
     /// Where the flex blocks end, from a place to which a walk comes: the number of bytes that the slot takes.
     pub(crate) fn top_from<S: Words>(self, store: &S, from: usize) -> usize
         requires slot { IsSlot (S.memory store.now) self }
         requires walked { Walked (slot_in (S.memory store.now) self) from }
         ensures { result ≡ slot_length (slot_in (S.memory store.now) self) }
     {
+        let anchors = store.rest_of_page(self.area, 0);
         let mut place = from;
         'walk: while let Some(size) = self.size_at(store, place) {
-            place += flex_weight(size);
+            let behind = place + flex_weight(size);
+            place = self.pass_in_page(store, anchors, walk_from(behind)).place;
         }
         place
     }
@@ -177,10 +239,12 @@ impl Slot {
         requires slot { IsSlot (S.memory store.now) self }
         ensures { result ≡ length (slot_in (S.memory store.now) self).blocks }
     {
+        let anchors = store.rest_of_page(self.area, 0);
         let mut walk = self.blocks(store);
         'walk: while let Some(size) = self.size_at(store, walk.place) {
             walk.passed += 1;
             walk.place += flex_weight(size);
+            walk = self.pass_in_page(store, anchors, walk);
         }
         walk.passed
     }
@@ -191,10 +255,7 @@ impl Slot {
         ensures passed { result.passed ≡ 0 }
         ensures walk { WalksIn (slot_in (S.memory store.now) self) result }
     {
-        FlexWalk {
-            passed: 0,
-            place: self.flex_place(store),
-        }
+        walk_from(self.flex_place(store))
     }
 
     /// The next flex block of a walk: its anchor, address and size in bytes. `None` above the last one, where the walk
@@ -217,15 +278,46 @@ impl Slot {
         Some(item)
     }
 
+    /// Lists the flex blocks from a walk's place on whose headers lie whole in that place's page.
+    fn list_in_page<S: Words>(
+        self,
+        store: &S,
+        anchors: &[u8],
+        start: FlexWalk,
+        listed: &mut ArrayVec<BlockItem, ANCHORS>,
+    ) -> FlexWalk
+        requires slot { IsSlot (S.memory store.now) self }
+        requires anchors { anchors.now ≡ part (bytes (S.memory store.now) self.area.0) 0 PAGE }
+        requires walk { WalksIn (slot_in (S.memory store.now) self) start }
+        requires listed { listed.old.items ≡ take start.passed (block_items (slot_in (S.memory store.now) self)) }
+        ensures walk { WalksIn (slot_in (S.memory store.now) self) result }
+        ensures on { start.passed ≤ result.passed }
+        ensures listed { listed.new.items ≡ take result.passed (block_items (slot_in (S.memory store.now) self)) }
+    {
+        let mut walk = start;
+        if store.len(self.area) <= start.place {
+            return walk;
+        }
+        let page = store.rest_of_page(self.area, start.place);
+        'walk: while let Some(item) = item_in(anchors, page, walk.place - start.place, walk.place) {
+            walk.passed += 1;
+            walk.place += flex_weight(item.size as usize);
+            listed.push(item);
+        }
+        walk
+    }
+
     /// All flex blocks from below: the anchor, address and size in bytes of each.
     pub fn items<S: Words>(self, store: &S) -> ArrayVec<BlockItem, ANCHORS>
         requires slot { IsSlot (S.memory store.now) self }
         ensures { result.items ≡ block_items (slot_in (S.memory store.now) self) }
     {
+        let anchors = store.rest_of_page(self.area, 0);
         let mut items = ArrayVec::new();
         let mut walk = self.blocks(store);
         'walk: while let Some(item) = self.next_block(store, &mut walk) {
             items.push(item);
+            walk = self.list_in_page(store, anchors, walk, &mut items);
         }
         items
     }

@@ -1,0 +1,64 @@
+-- A flex block whose header is read in the bytes of a page.
+use Rattle.std.proofs.Common.{◌≡◌, ℕ, ◌+◌, ◌-◌, ◌/◌, ◌≤◌, true, List, length, sym, ap, ◌∙◌, arith}
+use Rattle.rh_defs.specs.Bytes.{word, part}
+use Rattle.rh_defs.specs.Slot.{Slot}
+use Rattle.rh_defs.specs.SlotImage.{SlotWords, is_block}
+use Rattle.rh_defs.specs.declared.listing.BlockItem.{BlockItem}
+use Rattle.rh_defs.proofs.BytesLaws.{length-part, word-part}
+use Rattle.rh_defs.proofs.SlotImageLaws.{is_block-yes}
+use Rattle.rh_slot.specs.Row.{Walked, Headed, item_of}
+use Rattle.rh_slot.proofs.WalkLaws.{Turn, turn}
+
+-- the first page has all anchor words
+pub anchors_long : (b anchors : List ℕ) → anchors ≡ part b 0 4096 → 256 ≤ length anchors
+anchors_long b anchors e = omega (arith, ap length e, length-part b 0 4096)
+
+module _ (b anchors page : List ℕ) (start n at place : ℕ) (item : BlockItem) (first : anchors ≡ part b 0 4096) (rest : page ≡ part b start n) (e : place ≡ start + at) (h : Headed anchors page at place item) where
+  long : length page ≡ n
+  long = ap length rest ∙ length-part b start n
+
+  -- a word of the header is the area's
+  in_header : (k : ℕ) → k ≤ 4 → word page (at + k) ≡ word b (place + k)
+  in_header k l = let w = h.whole in let z = long in ap (λ l. word l (at + k)) rest ∙ word-part b start n (at + k) (omega arith) ∙ ap (word b) (omega arith)
+
+  head_word : word page at ≡ word b place
+  head_word = ap (word page) (omega arith) ∙ in_header 0 (omega arith) ∙ ap (word b) (omega arith)
+
+  headed_size : item.size ≡ word b (place + 4)
+  headed_size = ap (λ (i : BlockItem). i.size) h.is ∙ in_header 4 (omega arith)
+
+  anchor_word : (k : ℕ) → k ≤ 256 → word anchors k ≡ word b k
+  anchor_word k l = ap (λ l. word l k) first ∙ word-part b 0 4096 k (omega arith) ∙ ap (word b) (omega arith)
+
+  headed_block : is_block b place ≡ true
+  headed_block =
+      let w = head_word in
+      let least = h.least in
+      let most = h.most in
+      let multiple = h.multiple in
+      is_block-yes b place (record {
+        least = omega arith;
+        most = omega arith;
+        multiple = omega arith;
+        back = ap (λ a. word b (a - 32768)) (sym w) ∙ (sym (anchor_word (word page at - 32768) (omega arith)) ∙ h.back);
+      })
+
+  headed_item : item ≡ item_of b place
+  headed_item =
+      h.is
+      ∙ (ap (λ w. let r : BlockItem = record { anchor = (w - 32768) / 4; address = 32768 + place + 8; size = word page (at + 4) } in r) head_word
+      ∙ ap (λ w. let r : BlockItem = record { anchor = (word b place - 32768) / 4; address = 32768 + place + 8; size = w } in r) (in_header 4 (omega arith)))
+
+-- what a walk finds in such a header
+pub record Passes (b : List ℕ) (s : Slot) (place : ℕ) (item : BlockItem) : Type 0 where
+  pub block : is_block b place ≡ true
+  pub size : item.size ≡ word b (place + 4)
+  pub is : item ≡ item_of b place
+  pub turned : Turn b s place item.size
+
+pub passes : (b anchors page : List ℕ) (s : Slot) (start n at place : ℕ) (item : BlockItem) → SlotWords b s → Walked s place → anchors ≡ part b 0 4096 → page ≡ part b start n → place ≡ start + at
+    → Headed anchors page at place item → Passes b s place item
+passes b anchors page s start n at place item k w first rest e h =
+    let block = headed_block b anchors page start n at place item first rest e h in
+    let size = headed_size b anchors page start n at place item first rest e h in
+    record { block = block; size = size; is = headed_item b anchors page start n at place item first rest e h; turned = turn b s place k w block item.size size }

@@ -1,0 +1,14 @@
+-- What was listed are the blocks that the walk has passed, in the page or above it.
+use Rattle.std.proofs.Common.{◌≡◌, ◌≤◌, ◌-◌, length, take}
+use Rattle.rh_defs.specs.Listing.{block_items}
+use Rattle.rh_slot.specs.Area.{slot_in}
+use Rattle.rh_slot.specs.Row.{WalksIn}
+use Rattle.rh_slot.proofs.slot.Slot.list_in_page.Given as goal
+
+abbrev pub invariant-walk : goal.invariant-walk
+invariant-walk g l =
+    let s = slot_in (g.S.Words.memory l.store) l.fn.self in
+    record { stands : WalksIn s l.walk; on : l.start.passed ≤ l.walk.passed; above : l.start.place ≤ l.walk.place; listed : l.listed.items ≡ take l.walk.passed (block_items s) }
+
+abbrev pub decreases-walk : goal.decreases-walk
+decreases-walk g l = length (slot_in (g.S.Words.memory l.store) l.fn.self).blocks - l.walk.passed
