@@ -47,8 +47,9 @@ impl Row {
         requires { length self.old < 96 }
         ensures { self.new ≡ self.old ++ byte ∷ [] }
     {
-        self.bytes[self.len] = byte;
-        self.len += 1;
+        let at = self.len;
+        self.bytes[at] = byte;
+        self.len = at + 1;
     }
 
     /// Adds some text.
@@ -113,19 +114,50 @@ impl Row {
     }
 
     /// Adds a number in upper-case hexadecimal, without leading zeros.
-    #[tactic(auto, using(std::proofs::lemmas::Fmt::hex_one_digit, std::proofs::lemmas::Fmt::hex_two_digits))]
+    #[inline(always)]
     fn hexadecimal(&mut self, number: u32)
         requires { length self.old + 10 ≤ 96 }
         ensures value { self.new ≡ self.old ++ digits 16 true number }
         ensures few { length self.new ≤ length self.old + 10 }
     {
+        if number < 0x1_0000 {
+            self.up_to_four_hex_digits(number);
+        } else {
+            self.up_to_four_hex_digits(number / 0x1_0000);
+            self.two_hex_digits(number / 0x100 % 0x100);
+            self.two_hex_digits(number % 0x100);
+        }
+    }
+
+    /// Adds a number below 65,536 in hexadecimal.
+    #[inline(always)]
+    fn up_to_four_hex_digits(&mut self, number: u32)
+        requires room { length self.old + 4 ≤ 96 }
+        requires small { number < 65536 }
+        ensures value { self.new ≡ self.old ++ digits 16 true number }
+        ensures few { length self.new ≤ length self.old + 4 }
+    {
+        if number < 0x100 {
+            self.up_to_two_hex_digits(number);
+        } else {
+            self.up_to_two_hex_digits(number / 0x100);
+            self.two_hex_digits(number % 0x100);
+        }
+    }
+
+    /// Adds a number below 256 in hexadecimal.
+    #[inline(always)]
+    #[tactic(auto, using(std::proofs::lemmas::Fmt::hex_one_digit, std::proofs::lemmas::Fmt::hex_two_digits))]
+    fn up_to_two_hex_digits(&mut self, number: u32)
+        requires room { length self.old + 2 ≤ 96 }
+        requires small { number < 256 }
+        ensures value { self.new ≡ self.old ++ digits 16 true number }
+        ensures few { length self.new ≤ length self.old + 2 }
+    {
         if number < 16 {
             self.byte(hex_glyph(number));
-        } else if number < 256 {
-            self.two_hex_digits(number);
         } else {
-            self.hexadecimal(number / 256);
-            self.two_hex_digits(number % 256);
+            self.two_hex_digits(number);
         }
     }
 
