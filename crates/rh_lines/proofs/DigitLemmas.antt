@@ -81,5 +81,9 @@ decimal_pair n h small =
     ∙ ap (λ d. decimal (n / 100) ++ ((48 + d) ∷ (48 + n % 10) ∷ [])) tens
     ∙ ap (λ d. decimal (n / 100) ++ ((48 + n % 100 / 10) ∷ (48 + d) ∷ [])) ones
 
-pub decimal_few : (n : ℕ) → n < 2 ^ 28 → length (decimal n) ≤ 9
-decimal_few n h = length-decimal-le 9 n (omega arith) (omega (arith, h)) (omega (arith, h))
+-- two digits more, after those of the front q
+pub decimal_next : (n q : ℕ) (old front new : List ℕ) → 100 ≤ n → n < 2 ^ 32 → n / 100 ≡ q → front ≡ old ++ decimal q → new ≡ front ++ ((48 + n % 100 / 10) ∷ (48 + n % 100 % 10) ∷ []) → new ≡ old ++ decimal n
+decimal_next n q old front new h small is before after =
+    let last : List ℕ = (48 + n % 100 / 10) ∷ (48 + n % 100 % 10) ∷ [] in
+    after ∙ ap (λ x. x ++ last) (before ∙ ap (λ m. old ++ decimal m) (sym is)) ∙ append_assoc old (decimal (n / 100)) last
+    ∙ ap (λ x. old ++ x) (sym (decimal_pair n h small))

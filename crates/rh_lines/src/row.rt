@@ -76,7 +76,8 @@ impl Row {
     }
 
     /// Adds a number in decimal.
-    #[tactic(auto, using(std::proofs::lemmas::Fmt::decimal_digit, crate::proofs::DigitLemmas::decimal_two))]
+    #[inline(always)]
+    #[tactic(auto, using(std::proofs::lemmas::Fmt::decimal_digit))]
     pub fn decimal(&mut self, number: u32)
         requires { length self.old + 11 ≤ 96 }
         ensures value { self.new ≡ self.old ++ decimal number }
@@ -84,11 +85,73 @@ impl Row {
     {
         if number < 10 {
             self.byte(b'0' + number as u8);
-        } else if number < 100 {
+        } else {
+            self.up_to_ten_digits(number);
+        }
+    }
+
+    /// Adds any number in decimal.
+    #[inline(never)]
+    fn up_to_ten_digits(&mut self, number: u32)
+        requires { length self.old + 10 ≤ 96 }
+        ensures value { self.new ≡ self.old ++ decimal number }
+        ensures few { length self.new ≤ length self.old + 10 }
+    {
+        if number < 10_000 {
+            self.up_to_four_digits(number);
+        } else {
+            self.up_to_six_digits(number / 10_000);
+            self.two_digits(number / 100 % 100);
+            self.two_digits(number % 100);
+        }
+    }
+
+    /// Adds a number below 1,000,000 in decimal.
+    #[inline(always)]
+    fn up_to_six_digits(&mut self, number: u32)
+        requires room { length self.old + 6 ≤ 96 }
+        requires small { number < 1000000 }
+        ensures value { self.new ≡ self.old ++ decimal number }
+        ensures few { length self.new ≤ length self.old + 6 }
+    {
+        if number < 10_000 {
+            self.up_to_four_digits(number);
+        } else {
+            self.up_to_two_digits(number / 10_000);
+            self.two_digits(number / 100 % 100);
+            self.two_digits(number % 100);
+        }
+    }
+
+    /// Adds a number below 10,000 in decimal.
+    #[inline(always)]
+    fn up_to_four_digits(&mut self, number: u32)
+        requires room { length self.old + 4 ≤ 96 }
+        requires small { number < 10000 }
+        ensures value { self.new ≡ self.old ++ decimal number }
+        ensures few { length self.new ≤ length self.old + 4 }
+    {
+        if number < 100 {
+            self.up_to_two_digits(number);
+        } else {
+            self.up_to_two_digits(number / 100);
+            self.two_digits(number % 100);
+        }
+    }
+
+    /// Adds a number below 100 in decimal.
+    #[inline(always)]
+    #[tactic(auto, using(std::proofs::lemmas::Fmt::decimal_digit, crate::proofs::DigitLemmas::decimal_two))]
+    fn up_to_two_digits(&mut self, number: u32)
+        requires room { length self.old + 2 ≤ 96 }
+        requires small { number < 100 }
+        ensures value { self.new ≡ self.old ++ decimal number }
+        ensures few { length self.new ≤ length self.old + 2 }
+    {
+        if number >= 10 {
             self.two_digits(number);
         } else {
-            self.decimal(number / 100);
-            self.two_digits(number % 100);
+            self.byte(b'0' + number as u8);
         }
     }
 
@@ -172,13 +235,14 @@ impl Row {
     }
 }
 
+/// The glyph of each hexadecimal digit.
+const GLYPHS: [u8; 16] = [
+    b'0', b'1', b'2', b'3', b'4', b'5', b'6', b'7', b'8', b'9', b'A', b'B', b'C', b'D', b'E', b'F',
+];
+
 fn hex_glyph(digit: u32) -> u8
     requires { digit < 16 }
     ensures { result ≡ digit_glyph true digit }
 {
-    if digit < 10 {
-        b'0' + digit as u8
-    } else {
-        b'A' + (digit as u8 - 10)
-    }
+    GLYPHS[digit as usize]
 }
