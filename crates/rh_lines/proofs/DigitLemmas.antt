@@ -59,15 +59,12 @@ hex_pair n h small =
     ∙ ap (λ d. digits 16 true (n / 256) ++ (digit_glyph true d ∷ glyph n ∷ [])) high
     ∙ ap (λ d. digits 16 true (n / 256) ++ (digit_glyph true (n % 256 / 16) ∷ digit_glyph true d ∷ [])) low
 
-few : (k n : ℕ) → n < 16 ^ suc k → n < 2 ^ 32 → length (digits 16 true n) ≤ suc k
-few zero n h small = omega (arith, ap (λ (x : List ℕ). length x) (hex_one_digit true n (omega (arith, h))))
-few (suc k) n h small = elim (cases_lt n 16) [
-  | inl l ↦ omega (arith, ap (λ (x : List ℕ). length x) (hex_one_digit true n l))
-  | inr l ↦ omega (arith, ap (λ (x : List ℕ). length x) (hex_step n l small), length-append (digits 16 true (n / 16)) (glyph n ∷ []), few k (n / 16) (omega (arith, h)) (omega (arith, small)))
-]
-
-pub hex_few : (n : ℕ) → n < 2 ^ 24 → length (digits 16 true n) ≤ 6
-hex_few n h = few 5 n (omega (arith, h)) (omega (arith, h))
+-- two digits more, after those of the front q
+pub hex_next : (n q : ℕ) (old front new : List ℕ) → 256 ≤ n → n < 2 ^ 32 → n / 256 ≡ q → front ≡ old ++ digits 16 true q → new ≡ front ++ (digit_glyph true (n % 256 / 16) ∷ digit_glyph true (n % 256 % 16) ∷ []) → new ≡ old ++ digits 16 true n
+hex_next n q old front new h small is before after =
+    let last : List ℕ = digit_glyph true (n % 256 / 16) ∷ digit_glyph true (n % 256 % 16) ∷ [] in
+    after ∙ ap (λ x. x ++ last) (before ∙ ap (λ m. old ++ digits 16 true m) (sym is)) ∙ append_assoc old (digits 16 true (n / 256)) last
+    ∙ ap (λ x. old ++ x) (sym (hex_pair n h small))
 
 -- the same in decimal
 pub decimal_two : (n : ℕ) → 10 ≤ n → n < 100 → decimal n ≡ (48 + n / 10) ∷ (48 + n % 10) ∷ []
@@ -84,5 +81,9 @@ decimal_pair n h small =
     ∙ ap (λ d. decimal (n / 100) ++ ((48 + d) ∷ (48 + n % 10) ∷ [])) tens
     ∙ ap (λ d. decimal (n / 100) ++ ((48 + n % 100 / 10) ∷ (48 + d) ∷ [])) ones
 
-pub decimal_few : (n : ℕ) → n < 2 ^ 28 → length (decimal n) ≤ 9
-decimal_few n h = length-decimal-le 9 n (omega arith) (omega (arith, h)) (omega (arith, h))
+-- two digits more, after those of the front q
+pub decimal_next : (n q : ℕ) (old front new : List ℕ) → 100 ≤ n → n < 2 ^ 32 → n / 100 ≡ q → front ≡ old ++ decimal q → new ≡ front ++ ((48 + n % 100 / 10) ∷ (48 + n % 100 % 10) ∷ []) → new ≡ old ++ decimal n
+decimal_next n q old front new h small is before after =
+    let last : List ℕ = (48 + n % 100 / 10) ∷ (48 + n % 100 % 10) ∷ [] in
+    after ∙ ap (λ x. x ++ last) (before ∙ ap (λ m. old ++ decimal m) (sym is)) ∙ append_assoc old (decimal (n / 100)) last
+    ∙ ap (λ x. old ++ x) (sym (decimal_pair n h small))

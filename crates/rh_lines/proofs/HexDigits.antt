@@ -1,4 +1,4 @@
--- Hexadecimal digits by a table, and the bytes that pairs of them spell.
+-- Hexadecimal digits by tables, and the bytes that pairs of them spell.
 use Rattle.std.proofs.Common.{◌≡◌, ℕ, zero, suc, ◌+◌, ◌*◌, ◌%◌, ◌<◌, ◌≤◌, Bool, true, false, cond, eqb, ◌&&◌, List, [], ◌∷◌, ◌++◌, length, get_or, unwrap_or, Option, Some, None, Result, Ok, Err, refl, sym, ◌∙◌, ap, arith, rules, ◌⊎◌, inl, inr, subst, take, drop, ◌-◌, append_assoc, append-nil, ◌≢◌}
 use Rattle.std.proofs.lemmas.List.{take_rest}
 use Rattle.std.specs.Option.{option_map}
@@ -9,16 +9,12 @@ use Rattle.hex.proofs.HexLemmas.{decode_pairs-ok}
 use Rattle.hex.specs.declared.error.FromHexError.{FromHexError}
 use Rattle.rh_lines.specs.declared.hex_digits.TheConstants.{VALUES}
 
--- ---- the table
+-- ---- tables
 
--- the first n entries are right
-are_right : ℕ → Bool
-are_right zero = true
-are_right (suc n) = eqb (get_or VALUES n 0) (unwrap_or (hex_digit_value n) 255) && are_right n
-
-all_right : are_right 256 ≡ true
-unfolding are_right
-all_right = refl
+-- the first n entries are those of f
+abbrev pub agrees : List ℕ → (ℕ → ℕ) → ℕ → Bool
+agrees table f zero = true
+agrees table f (suc n) = eqb (get_or table n 0) (f n) && agrees table f n
 
 both : (a b : Bool) → (a && b) ≡ true → (a ≡ true) × (b ≡ true)
 both true b e = (refl, e)
@@ -30,20 +26,22 @@ same_number a b e = search (rules, tests)
 below_or_at : (c n : ℕ) → c < suc n → (c < n) ⊎ (n ≡ c)
 below_or_at c n lt = grind arith
 
-right_next : (n c : ℕ) → (are_right n ≡ true → c < n → get_or VALUES c 0 ≡ unwrap_or (hex_digit_value c) 255) → (get_or VALUES n 0 ≡ unwrap_or (hex_digit_value n) 255) × (are_right n ≡ true) → (c < n) ⊎ (n ≡ c) → get_or VALUES c 0 ≡ unwrap_or (hex_digit_value c) 255
-right_next n c before h (inl lt) = before h.1 lt
-right_next n c before h (inr e) =
-    let P : ℕ → Type 0 = λ k. get_or VALUES k 0 ≡ unwrap_or (hex_digit_value k) 255 in subst P e h.0
+agrees_next : (table : List ℕ) (f : ℕ → ℕ) (n c : ℕ) → (agrees table f n ≡ true → c < n → get_or table c 0 ≡ f c) → (get_or table n 0 ≡ f n) × (agrees table f n ≡ true) → (c < n) ⊎ (n ≡ c) → get_or table c 0 ≡ f c
+agrees_next table f n c before h (inl lt) = before h.1 lt
+agrees_next table f n c before h (inr e) =
+    let P : ℕ → Type 0 = λ k. get_or table k 0 ≡ f k in subst P e h.0
 
-right_at : (n c : ℕ) → are_right n ≡ true → c < n → get_or VALUES c 0 ≡ unwrap_or (hex_digit_value c) 255
-unfolding are_right
-right_at zero c h lt = absurd (omega arith)
-right_at (suc n) c h lt =
-    let both_are = both (eqb (get_or VALUES n 0) (unwrap_or (hex_digit_value n) 255)) (are_right n) h in
-    right_next n c (right_at n c) (same_number (get_or VALUES n 0) (unwrap_or (hex_digit_value n) 255) both_are.0, both_are.1) (below_or_at c n lt)
+pub agrees_at : (table : List ℕ) (f : ℕ → ℕ) (n c : ℕ) → agrees table f n ≡ true → c < n → get_or table c 0 ≡ f c
+agrees_at table f zero c h lt = absurd (omega arith)
+agrees_at table f (suc n) c h lt =
+    let both_are = both (eqb (get_or table n 0) (f n)) (agrees table f n) h in
+    agrees_next table f n c (agrees_at table f n c) (same_number (get_or table n 0) (f n) both_are.0, both_are.1) (below_or_at c n lt)
+
+values_agree : agrees VALUES (λ c. unwrap_or (hex_digit_value c) 255) 256 ≡ true
+values_agree = refl
 
 pub digit_value-is : (c : ℕ) → c < 256 → get_or VALUES c 0 ≡ unwrap_or (hex_digit_value c) 255
-digit_value-is c lt = right_at 256 c all_right lt
+digit_value-is c lt = agrees_at VALUES (λ c. unwrap_or (hex_digit_value c) 255) 256 c values_agree lt
 
 -- ---- pairs of digits
 

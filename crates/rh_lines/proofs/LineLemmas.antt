@@ -1,7 +1,7 @@
 -- What a line means, by its first word and its first six words.
-use Rattle.std.proofs.Common.{◌≡◌, ℕ, ◌+◌, ◌<◌, ◌≤◌, Bool, true, false, eqb, List, [], ◌∷◌, length, take, Option, Some, None, refl, sym, ◌∙◌, ap, arith, rules, cond, ◌&&◌, ◌⊎◌, inl, inr}
+use Rattle.std.proofs.Common.{◌≡◌, ℕ, ◌+◌, ◌<◌, ◌≤◌, Bool, true, false, eqb, List, [], ◌∷◌, length, take, get_or, subst, Option, Some, None, refl, sym, ◌∙◌, ap, arith, rules, cond, ◌&&◌, ◌⊎◌, inl, inr}
 use Rattle.std.specs.Prelude.{find, IfSome, IfNone, map, nat_lt, Err}
-use Rattle.std.specs.List.{list_all}
+use Rattle.std.specs.List.{list_all, filter}
 use Rattle.std.specs.Option.{option_map}
 use Rattle.std.specs.Str.{bytes_eq}
 use Rattle.std.proofs.lemmas.List.{take_all, length-take}
@@ -126,7 +126,7 @@ no_first of w text x None texts false e h = (e, h)
 no_first of w text x (Some y) texts false e h = tt
 
 -- where none fits, none is spelled like the word
-pub no_keyword : {X : Type 0} (text : X → List ℕ) (of : X → Keyword) (w : List ℕ) (entries : List X) → IfNone (option_map of (find (λ e. bytes_eq w (text e)) entries)) (SpellsNone w (map text entries))
+no_keyword : {X : Type 0} (text : X → List ℕ) (of : X → Keyword) (w : List ℕ) (entries : List X) → IfNone (option_map of (find (λ e. bytes_eq w (text e)) entries)) (SpellsNone w (map text entries))
 no_keyword text of w [] = tt
 no_keyword text of w (x ∷ entries) =
     no_first of w (text x) x (find (λ e. bytes_eq w (text e)) entries) (map text entries) (bytes_eq w (text x)) refl (no_keyword text of w entries)
@@ -139,4 +139,31 @@ means_asked line words all fits not =
     let here : is_skipped (words_of line) ≡ false = sym (is_skipped-first_words line) ∙ (ap is_skipped (sym all) ∙ not) in
     rw (few, here) (ap asked (ap command_of all ∙ command_of-first_words line))
 
-pub ruleset by_words = (is_skipped-first_words, command_of-first_words)
+-- words that begin otherwise differ
+differs : (w text : List ℕ) (first : ℕ) (same : Bool) → bytes_eq w text ≡ same → get_or w 0 0 ≡ first → eqb (get_or text 0 0) first ≡ false → same ≡ false
+differs w text first true e begins other =
+    let is : w ≡ text = same_bytes w text e in
+    let one : get_or text 0 0 ≡ first = ap (λ (t : List ℕ). get_or t 0 0) (sym is) ∙ begins in
+    absurd (search (rules, tests, other, one))
+differs w text first false e begins other = refl
+
+next_text : (w text : List ℕ) (first : ℕ) (rest some : List (List ℕ)) (fits : Bool) → eqb (get_or text 0 0) first ≡ fits → get_or w 0 0 ≡ first → (SpellsNone w some → SpellsNone w rest) → SpellsNone w (cond fits (text ∷ some) some) → SpellsNone w (text ∷ rest)
+next_text w text first rest some true e begins before h = (h.0, before h.1)
+next_text w text first rest some false e begins before h = (differs w text first (bytes_eq w text) refl begins e, before h)
+
+-- a word is none of the texts, if it is none of those that begin as it does
+by_first : (w : List ℕ) (first : ℕ) (texts : List (List ℕ)) → get_or w 0 0 ≡ first → SpellsNone w (filter (λ text. eqb (get_or text 0 0) first) texts) → SpellsNone w texts
+by_first w first [] begins h = tt
+by_first w first (text ∷ texts) begins h =
+    next_text w text first texts (filter (λ text. eqb (get_or text 0 0) first) texts) (eqb (get_or text 0 0) first) refl begins (by_first w first texts begins) h
+
+if_none : {X : Type 0} (P Q : Type 0) (found : Option X) → (P → Q) → IfNone found P → IfNone found Q
+if_none P Q None f h = f h
+if_none P Q (Some x) f h = tt
+
+-- where none of those that begin as the word does fits, it is none of the texts
+pub no_keyword_from : {X : Type 0} (text : X → List ℕ) (of : X → Keyword) (w : List ℕ) (first : ℕ) (entries : List X) (texts : List (List ℕ)) → get_or w 0 0 ≡ first → map text entries ≡ filter (λ name. eqb (get_or name 0 0) first) texts → IfNone (option_map of (find (λ e. bytes_eq w (text e)) entries)) (SpellsNone w texts)
+no_keyword_from text of w first entries texts begins are =
+    if_none (SpellsNone w (map text entries)) (SpellsNone w texts) (option_map of (find (λ e. bytes_eq w (text e)) entries))
+    (λ h. let P : List (List ℕ) → Type 0 = λ names. SpellsNone w names in by_first w first texts begins (subst P are h))
+    (no_keyword text of w entries)

@@ -1,6 +1,7 @@
 //! The words that commands begin with.
 
-ghost use Rattle.std.specs.Prelude.{◌≡◌, find, IfSome, IfNone};
+ghost use Rattle.std.specs.Prelude.{◌≡◌, find, IfSome, IfNone, map, get_or, eqb, true};
+ghost use Rattle.std.specs.List.{list_all, filter};
 ghost use Rattle.std.specs.Option.{option_map};
 ghost use Rattle.std.specs.Str.{bytes_eq};
 ghost use Rattle.rh_lines.specs.Keywords.{spelled, names, SpellsNone};
@@ -35,41 +36,52 @@ pub enum Keyword {
     Task,
 }
 
-/// The keywords as they are spelled.
-const SPELLED: [(&[u8], Keyword); 25] = [
-    (b"task", Keyword::Task),
-    (b"kill", Keyword::Kill),
-    (b"alloc", Keyword::Alloc),
-    (b"load", Keyword::Load),
-    (b"put", Keyword::Put),
-    (b"free", Keyword::Free),
-    (b"extend", Keyword::Extend),
-    (b"mid", Keyword::Mid),
-    (b"claim", Keyword::Claim),
-    (b"release", Keyword::Release),
-    (b"resize", Keyword::Resize),
-    (b"budge", Keyword::Budge),
-    (b"save", Keyword::Save),
-    (b"poll", Keyword::Poll),
-    (b"cancel", Keyword::Cancel),
-    (b"repeat", Keyword::Repeat),
-    (b"area", Keyword::Area),
-    (b"make", Keyword::Make),
-    (b"remove", Keyword::Remove),
-    (b"rma", Keyword::Rma),
-    (b"show", Keyword::Show),
-    (b"blocks", Keyword::Blocks),
-    (b"heap", Keyword::Heap),
-    (b"status", Keyword::Status),
-    (b"areas", Keyword::Areas),
-];
-
 /// The keyword that a word spells.
 pub fn keyword_of(word: &[u8]) -> Option<Keyword>
     ensures found { IfSome result (λ keyword. word.now ≡ spelled keyword) }
     ensures none { IfNone result (SpellsNone word.now names) }
 {
-    find_keyword(word, SPELLED.as_slice())
+    match word {
+        [] => None,
+        [first, ..] => find_keyword(word, keywords_from(*first)),
+    }
+}
+
+/// The keywords that begin with a byte, as they are spelled.
+fn keywords_from(first: u8) -> &'static [(&'static [u8], Keyword)]
+    ensures right { list_all (λ entry. bytes_eq entry.0.now (spelled entry.1)) result.now ≡ true }
+    ensures all { map (λ entry. entry.0.now) result.now ≡ filter (λ name. eqb (get_or name 0 0) first) names }
+{
+    match first {
+        b'a' => &[
+            (b"alloc", Keyword::Alloc),
+            (b"area", Keyword::Area),
+            (b"areas", Keyword::Areas),
+        ],
+        b'b' => &[(b"budge", Keyword::Budge), (b"blocks", Keyword::Blocks)],
+        b'c' => &[(b"claim", Keyword::Claim), (b"cancel", Keyword::Cancel)],
+        b'e' => &[(b"extend", Keyword::Extend)],
+        b'f' => &[(b"free", Keyword::Free)],
+        b'h' => &[(b"heap", Keyword::Heap)],
+        b'k' => &[(b"kill", Keyword::Kill)],
+        b'l' => &[(b"load", Keyword::Load)],
+        b'm' => &[(b"mid", Keyword::Mid), (b"make", Keyword::Make)],
+        b'p' => &[(b"put", Keyword::Put), (b"poll", Keyword::Poll)],
+        b'r' => &[
+            (b"release", Keyword::Release),
+            (b"resize", Keyword::Resize),
+            (b"repeat", Keyword::Repeat),
+            (b"remove", Keyword::Remove),
+            (b"rma", Keyword::Rma),
+        ],
+        b's' => &[
+            (b"save", Keyword::Save),
+            (b"show", Keyword::Show),
+            (b"status", Keyword::Status),
+        ],
+        b't' => &[(b"task", Keyword::Task)],
+        _ => &[],
+    }
 }
 
 fn find_keyword(word: &[u8], spelled: &[(&[u8], Keyword)]) -> Option<Keyword>

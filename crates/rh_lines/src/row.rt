@@ -47,8 +47,9 @@ impl Row {
         requires { length self.old < 96 }
         ensures { self.new ≡ self.old ++ byte ∷ [] }
     {
-        self.bytes[self.len] = byte;
-        self.len += 1;
+        let at = self.len;
+        self.bytes[at] = byte;
+        self.len = at + 1;
     }
 
     /// Adds some text.
@@ -75,7 +76,8 @@ impl Row {
     }
 
     /// Adds a number in decimal.
-    #[tactic(auto, using(std::proofs::lemmas::Fmt::decimal_digit, crate::proofs::DigitLemmas::decimal_two))]
+    #[inline(always)]
+    #[tactic(auto, using(std::proofs::lemmas::Fmt::decimal_digit))]
     pub fn decimal(&mut self, number: u32)
         requires { length self.old + 11 ≤ 96 }
         ensures value { self.new ≡ self.old ++ decimal number }
@@ -83,11 +85,73 @@ impl Row {
     {
         if number < 10 {
             self.byte(b'0' + number as u8);
-        } else if number < 100 {
+        } else {
+            self.up_to_ten_digits(number);
+        }
+    }
+
+    /// Adds any number in decimal.
+    #[inline(never)]
+    fn up_to_ten_digits(&mut self, number: u32)
+        requires { length self.old + 10 ≤ 96 }
+        ensures value { self.new ≡ self.old ++ decimal number }
+        ensures few { length self.new ≤ length self.old + 10 }
+    {
+        if number < 10_000 {
+            self.up_to_four_digits(number);
+        } else {
+            self.up_to_six_digits(number / 10_000);
+            self.two_digits(number / 100 % 100);
+            self.two_digits(number % 100);
+        }
+    }
+
+    /// Adds a number below 1,000,000 in decimal.
+    #[inline(always)]
+    fn up_to_six_digits(&mut self, number: u32)
+        requires room { length self.old + 6 ≤ 96 }
+        requires small { number < 1000000 }
+        ensures value { self.new ≡ self.old ++ decimal number }
+        ensures few { length self.new ≤ length self.old + 6 }
+    {
+        if number < 10_000 {
+            self.up_to_four_digits(number);
+        } else {
+            self.up_to_two_digits(number / 10_000);
+            self.two_digits(number / 100 % 100);
+            self.two_digits(number % 100);
+        }
+    }
+
+    /// Adds a number below 10,000 in decimal.
+    #[inline(always)]
+    fn up_to_four_digits(&mut self, number: u32)
+        requires room { length self.old + 4 ≤ 96 }
+        requires small { number < 10000 }
+        ensures value { self.new ≡ self.old ++ decimal number }
+        ensures few { length self.new ≤ length self.old + 4 }
+    {
+        if number < 100 {
+            self.up_to_two_digits(number);
+        } else {
+            self.up_to_two_digits(number / 100);
+            self.two_digits(number % 100);
+        }
+    }
+
+    /// Adds a number below 100 in decimal.
+    #[inline(always)]
+    #[tactic(auto, using(std::proofs::lemmas::Fmt::decimal_digit, crate::proofs::DigitLemmas::decimal_two))]
+    fn up_to_two_digits(&mut self, number: u32)
+        requires room { length self.old + 2 ≤ 96 }
+        requires small { number < 100 }
+        ensures value { self.new ≡ self.old ++ decimal number }
+        ensures few { length self.new ≤ length self.old + 2 }
+    {
+        if number >= 10 {
             self.two_digits(number);
         } else {
-            self.decimal(number / 100);
-            self.two_digits(number % 100);
+            self.byte(b'0' + number as u8);
         }
     }
 
@@ -113,19 +177,50 @@ impl Row {
     }
 
     /// Adds a number in upper-case hexadecimal, without leading zeros.
-    #[tactic(auto, using(std::proofs::lemmas::Fmt::hex_one_digit, std::proofs::lemmas::Fmt::hex_two_digits))]
+    #[inline(always)]
     fn hexadecimal(&mut self, number: u32)
         requires { length self.old + 10 ≤ 96 }
         ensures value { self.new ≡ self.old ++ digits 16 true number }
         ensures few { length self.new ≤ length self.old + 10 }
     {
+        if number < 0x1_0000 {
+            self.up_to_four_hex_digits(number);
+        } else {
+            self.up_to_four_hex_digits(number / 0x1_0000);
+            self.two_hex_digits(number / 0x100 % 0x100);
+            self.two_hex_digits(number % 0x100);
+        }
+    }
+
+    /// Adds a number below 65,536 in hexadecimal.
+    #[inline(always)]
+    fn up_to_four_hex_digits(&mut self, number: u32)
+        requires room { length self.old + 4 ≤ 96 }
+        requires small { number < 65536 }
+        ensures value { self.new ≡ self.old ++ digits 16 true number }
+        ensures few { length self.new ≤ length self.old + 4 }
+    {
+        if number < 0x100 {
+            self.up_to_two_hex_digits(number);
+        } else {
+            self.up_to_two_hex_digits(number / 0x100);
+            self.two_hex_digits(number % 0x100);
+        }
+    }
+
+    /// Adds a number below 256 in hexadecimal.
+    #[inline(always)]
+    #[tactic(auto, using(std::proofs::lemmas::Fmt::hex_one_digit, std::proofs::lemmas::Fmt::hex_two_digits))]
+    fn up_to_two_hex_digits(&mut self, number: u32)
+        requires room { length self.old + 2 ≤ 96 }
+        requires small { number < 256 }
+        ensures value { self.new ≡ self.old ++ digits 16 true number }
+        ensures few { length self.new ≤ length self.old + 2 }
+    {
         if number < 16 {
             self.byte(hex_glyph(number));
-        } else if number < 256 {
-            self.two_hex_digits(number);
         } else {
-            self.hexadecimal(number / 256);
-            self.two_hex_digits(number % 256);
+            self.two_hex_digits(number);
         }
     }
 
@@ -140,13 +235,14 @@ impl Row {
     }
 }
 
+/// The glyph of each hexadecimal digit.
+const GLYPHS: [u8; 16] = [
+    b'0', b'1', b'2', b'3', b'4', b'5', b'6', b'7', b'8', b'9', b'A', b'B', b'C', b'D', b'E', b'F',
+];
+
 fn hex_glyph(digit: u32) -> u8
     requires { digit < 16 }
     ensures { result ≡ digit_glyph true digit }
 {
-    if digit < 10 {
-        b'0' + digit as u8
-    } else {
-        b'A' + (digit as u8 - 10)
-    }
+    GLYPHS[digit as usize]
 }

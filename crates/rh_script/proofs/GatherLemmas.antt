@@ -1,5 +1,5 @@
 -- Lists whose lines are gathered in a row.
-use Rattle.std.proofs.Common.{◌≡◌, ℕ, ◌+◌, List, [], ◌∷◌, ◌++◌, take, drop, Some, None, Result, get_or, length, ◌<◌, ◌≤◌, sym, ◌∙◌, ap, subst, refl, append_assoc, append-nil}
+use Rattle.std.proofs.Common.{◌≡◌, ℕ, zero, suc, ◌+◌, List, [], ◌∷◌, ◌++◌, take, drop, Some, None, Result, get_or, length, ◌<◌, ◌≤◌, sym, ◌∙◌, ap, subst, refl, append_assoc, append-nil}
 use Rattle.std.specs.Prelude.{slice_get}
 use Rattle.std.specs.List.{flat_map}
 use Rattle.std.specs.Result.{IsErr}
@@ -9,7 +9,6 @@ use Rattle.std.proofs.lemmas.Option.{get_or_from_slice_get, slice_get_within}
 use Rattle.rh_lines.specs.Flow.{Output, Breaks, Puts}
 use Rattle.rh_lines.proofs.FlowLemmas.{takes_none, takes_more, takes_breaks, breaks_before, puts_more, puts_stops}
 use Rattle.rh_script.specs.Gathered.{Gathered}
-use Rattle.rh_script.proofs.PrintLemmas.{take_past}
 
 -- nothing was gathered yet
 pub gathered_none : (s : Output) → Gathered s s [] []
@@ -45,6 +44,12 @@ gathered_each f {s} {t} {u} {row} {rest} {new} xs i x d e h p q grown =
 pub gathered_next : {X : Type 0} (f : X → List ℕ) {s t u : Output} {row rest new : List ℕ} (xs : List X) (i : ℕ) (x : X) → Some x ≡ slice_get xs i → Gathered s t row (flat_map f (take i xs)) → Gathered t u rest row → new ≡ rest ++ f x → Gathered s u new (flat_map f (take (i + 1) xs))
 gathered_next f xs i x e p q grown =
     gathered_each f xs i x x (sym (get_or_from_slice_get xs i x x (sym e))) (slice_get_within xs i x (sym e)) p q grown
+
+take_past : {X : Type 0} (xs : List X) (i : ℕ) → None ≡ slice_get xs i → take i xs ≡ xs
+take_past [] zero e = refl
+take_past [] (suc i) e = refl
+take_past (x ∷ xs) zero e = absurd (cc)
+take_past (x ∷ xs) (suc i) e = ap (λ z. x ∷ z) (take_past xs i e)
 
 -- all items, where there is no further one
 pub gathered_whole : {X : Type 0} (f : X → List ℕ) {s t : Output} {row : List ℕ} (xs : List X) (i : ℕ) → None ≡ slice_get xs i → Gathered s t row (flat_map f (take i xs)) → Gathered s t row (flat_map f xs)

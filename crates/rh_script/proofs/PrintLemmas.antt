@@ -1,4 +1,4 @@
--- Lists that are written item by item, and bytes that are written part by part.
+-- Bytes that are written part by part, and records and first lines.
 use Rattle.std.proofs.Common.{◌≡◌, ◌≢◌, ℕ, zero, suc, ◌+◌, List, [], ◌∷◌, ◌++◌, length, take, drop, Some, None, Result, Ok, Err, get_or, ◌<◌, ◌≤◌, refl, sym, ◌∙◌, ap, subst, arith, Option, find}
 use Rattle.std.specs.Prelude.{map}
 use Rattle.rh_defs.specs.declared.listing.RecordItem.{RecordItem}
@@ -26,30 +26,6 @@ use Rattle.hex.specs.Hex.{encode_with, encode_lower, lower_digits}
 use Rattle.rh_defs.specs.Text.{ok, shown_bytes, first_line, hex_words, rest_of_line, later_lines, record_line, record_lines}
 use Rattle.rh_lines.specs.Flow.{Output, Takes, Breaks, Puts}
 use Rattle.rh_lines.proofs.FlowLemmas.{takes_none, takes_each, puts_each, takes_more, takes_breaks, breaks_before, puts_stops}
-
--- ---- a list, item by item
-
--- one more item
-pub takes_next : {X : Type 0} (f : X → List ℕ) {s t u : Output} (xs : List X) (i : ℕ) (x : X) → Some x ≡ slice_get xs i → Takes s t (flat_map f (take i xs)) → Takes t u (f x) → Takes s u (flat_map f (take (i + 1) xs))
-takes_next f xs i x e p q =
-    takes_each f xs i x x (sym (get_or_from_slice_get xs i x x (sym e))) (slice_get_within xs i x (sym e)) p q
-
--- the item that is not written whole
-pub puts_next : {E X : Type 0} (f : X → List ℕ) {s t u : Output} (xs : List X) (i : ℕ) (x : X) (e : E) (r : Result Unit E) → Some x ≡ slice_get xs i → IsErr r → Takes s t (flat_map f (take i xs)) → Puts t u (Err e) (f x) → Puts s u r (flat_map f xs)
-puts_next f xs i x e r k z p q =
-    puts_each f xs i x x e r (sym (get_or_from_slice_get xs i x x (sym k))) z (slice_get_within xs i x (sym k)) p q
-
-pub take_past : {X : Type 0} (xs : List X) (i : ℕ) → None ≡ slice_get xs i → take i xs ≡ xs
-take_past [] zero e = refl
-take_past [] (suc i) e = refl
-take_past (x ∷ xs) zero e = absurd (cc)
-take_past (x ∷ xs) (suc i) e = ap (λ z. x ∷ z) (take_past xs i e)
-
--- all items are written where there is no further one
-pub takes_whole : {X : Type 0} (f : X → List ℕ) {s t : Output} (xs : List X) (i : ℕ) → None ≡ slice_get xs i → Takes s t (flat_map f (take i xs)) → Takes s t (flat_map f xs)
-takes_whole f {s} {t} xs i e p =
-    let P : List ℕ → Type 0 = λ z. Takes s t z in
-    subst P (ap (flat_map f) (take_past xs i e)) p
 
 -- ---- bytes as digits, part by part
 
