@@ -1,5 +1,5 @@
 -- What a line means, by its first word and its first six words.
-use Rattle.std.proofs.Common.{◌≡◌, ℕ, ◌+◌, ◌<◌, ◌≤◌, Bool, true, false, eqb, List, [], ◌∷◌, length, take, get_or, subst, Option, Some, None, refl, sym, ◌∙◌, ap, arith, rules, cond, ◌&&◌, ◌⊎◌, inl, inr}
+use Rattle.std.proofs.Common.{◌≡◌, ℕ, ◌<◌, ◌≤◌, Bool, true, false, eqb, List, [], ◌∷◌, length, take, get_or, subst, Option, Some, None, refl, sym, ◌∙◌, ap, arith, rules, cond, ◌&&◌, ◌⊎◌, inl, inr}
 use Rattle.std.specs.Prelude.{find, IfSome, IfNone, map, nat_lt, Err}
 use Rattle.std.specs.List.{list_all, filter}
 use Rattle.std.specs.Option.{option_map}
@@ -167,3 +167,5 @@ no_keyword_from text of w first entries texts begins are =
     if_none (SpellsNone w (map text entries)) (SpellsNone w texts) (option_map of (find (λ e. bytes_eq w (text e)) entries))
     (λ h. let P : List (List ℕ) → Type 0 = λ names. SpellsNone w names in by_first w first texts begins (subst P are h))
     (no_keyword text of w entries)
+
+pub ruleset by_words = (is_skipped-first_words, command_of-first_words)

@@ -1,5 +1,5 @@
 -- A line is cut at its spaces, from left to right.
-use Rattle.std.proofs.Common.{◌≡◌, ℕ, zero, suc, ◌+◌, ◌<◌, ◌≤◌, Bool, true, false, cond, not, eqb, List, [], ◌∷◌, ◌++◌, length, take, drop, add-one, refl, sym, ◌∙◌, ap, arith, rules, lit≤, append_assoc, map, length-append, ◌-◌, subst}
+use Rattle.std.proofs.Common.{◌≡◌, ℕ, zero, suc, ◌+◌, ◌<◌, ◌≤◌, Bool, true, false, not, eqb, List, [], ◌∷◌, ◌++◌, length, take, drop, add-one, refl, sym, ◌∙◌, ap, arith, rules, lit≤, append_assoc, map, length-append, ◌-◌}
 use Rattle.std.proofs.lemmas.List.{take_all, take-append-le, take_rest, length-map}
 use borrow.Author.Tests.{tests}
 use Rattle.std.specs.List.{slice_split, onto_first, filter}

@@ -18,7 +18,7 @@ use rh_defs::{Command, LineFault};
 /// What a complete line, without its line feed, asks for: a command that is in range, nothing for
 /// a line without words or whose first word begins with `#`, or else its first fault. Never
 /// answers `Unended`, since a line that is cut isn't complete.
-#[tactic(auto, using(crate::proofs::LineLemmas::is_skipped-first_words), unfolding(rh_defs::specs::Line::line_means))]
+#[tactic(auto, using(crate::proofs::LineLemmas::by_words), unfolding(rh_defs::specs::Line::line_means))]
 pub fn parse_line(line: &[u8]) -> Result<Option<Command>, LineFault>
     ensures means { result ≡ line_means line.now }
     ensures in_range { IfOk result (λ found. IfSome found (λ command. IsTrue (in_range command))) }

@@ -1,5 +1,4 @@
-use Rattle.std.proofs.Common.{◌≡◌, false, sym, ◌∙◌, ap, arith}
-use Rattle.rh_defs.specs.Line.{is_skipped}
+use Rattle.std.proofs.Common.{sym, ◌∙◌, ap, arith}
 use Rattle.rh_lines.specs.Asked.{asked}
 use Rattle.rh_lines.proofs.LineLemmas.{by_keyword, by_none, means_asked}
 use Rattle.rh_lines.proofs.parse.parse_line.Goals as goal
