@@ -13,3 +13,4 @@ pub mod StartLaws
 pub mod GrowLaws
 pub mod CHeapLaws
 pub mod ItemLaws
+pub mod Examples
