@@ -6,8 +6,10 @@ ghost use Rattle.rh_defs.specs.Memory.{open_below};
 ghost use Rattle.rh_slot.specs.Area.{IsSlot};
 ghost use Rattle.rh_defs.specs.declared.sizes.TheConstants.{ANCHORS, MAX_AREAS};
 
+use arrayvec::ArrayVec;
+use rh_defs::sizes::ANCHORS;
 use rh_defs::{Anchor, BlockItem, Refusal};
-use rh_heap::Segment;
+use rh_heap::{SEGMENTS_AT_ONCE, Segment};
 use rh_slot::{Slot, free_anchor, put_from, write_from};
 use rh_store::Store;
 
@@ -105,6 +107,12 @@ impl<S: Store + Drop> Bench<S> {
         requires { IsSlot (S.memory self.now.store) self.now.slot }
     {
         self.slot.segment(&self.store, place)
+    }
+
+    pub(crate) fn segments_from(&self, place: usize) -> ArrayVec<Segment, SEGMENTS_AT_ONCE>
+        requires { IsSlot (S.memory self.now.store) self.now.slot }
+    {
+        self.slot.segments_from(&self.store, place)
     }
 
     pub(crate) fn describe(&self) -> (usize, usize, usize)
@@ -219,6 +227,12 @@ impl<S: Store + Drop> Bench<S> {
         requires { IsSlot (S.memory self.now.store) self.now.slot }
     {
         self.slot.block(&self.store, i)
+    }
+
+    pub(crate) fn items(&self) -> ArrayVec<BlockItem, ANCHORS>
+        requires { IsSlot (S.memory self.now.store) self.now.slot }
+    {
+        self.slot.items(&self.store)
     }
 
     /// The first four answers of one walk over the flex blocks.

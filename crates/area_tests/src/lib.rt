@@ -15,6 +15,8 @@ mod heaps;
 #[cfg(test)]
 mod images;
 #[cfg(test)]
+mod lists;
+#[cfg(test)]
 mod module_blocks;
 #[cfg(test)]
 mod same;

@@ -11,6 +11,7 @@ pub mod HeapLaws
 pub mod HeapStretch
 pub mod HeapRest
 pub mod HeapRows
+pub mod BlockRows
 pub mod HeapFaults
 pub mod HeapCalls
 pub mod HeapGrowth

@@ -15,3 +15,4 @@ pub mod ChangeLaws
 pub mod SpanLaws
 pub mod CallLaws
 pub mod ListLaws
+pub mod Examples

@@ -10,13 +10,13 @@ use Rattle.rh_defs.specs.HeapParts.{HasRoom, LinksTo, last_link}
 use Rattle.rh_defs.proofs.HeapLaws.{last_link-append, link_ahead}
 use Rattle.rh_defs.proofs.HeapLists.{HasRoom-from_tidy, HasRoom-append, no_segments, tidy_before, tidy_behind_used, tidy_front, total-append}
 use Rattle.rh_heap.specs.Image.{listed}
-use Rattle.rh_heap.specs.Listed.{from_cut, Lists}
+use Rattle.rh_heap.specs.Listed.{from_cut, HasListed}
 use Rattle.rh_heap.specs.Segments.{Reached, Found, a_gap, no_gap}
 use Rattle.rh_heap.proofs.WalkLaws.{leads_here, stands}
 use Rattle.rh_heap.specs.declared.layout.Segment.{Segment}
 use Rattle.rh_heap.specs.declared.span.segments.Spot.{Spot}
 
-pub lists_start : (at : ℕ) (h : Heap) (target : ℕ) (spot : Spot) (items : List Segment) → Found at h target spot → items ≡ [] → Lists at h spot.from spot.place items (listed target (from_cut (segment_at target h)))
+pub lists_start : (at : ℕ) (h : Heap) (target : ℕ) (spot : Spot) (items : List Segment) → Found at h target spot → items ≡ [] → HasListed at h spot.from spot.place items (listed target (from_cut (segment_at target h)))
 lists_start at h target spot items f none = record {
   link = spot.link;
   low = spot.low;
@@ -105,7 +105,7 @@ at_place place size used = record { place = place; size = size; used = used }
 pub record Step (at : ℕ) (h : Heap) (from place : ℕ) (x : Segment) (items all : List Segment) : Type 0 where
   pub least : 8 ≤ x.size
   pub fits : place + x.size ≤ base h
-  pub lists : Lists at h from (place + x.size) (items ++ x ∷ []) all
+  pub lists : HasListed at h from (place + x.size) (items ++ x ∷ []) all
 
 -- what one turn finds, for any size that is read
 pub record Turn (b : List ℕ) (at : ℕ) (h : Heap) (from place next : ℕ) (items all : List Segment) : Type 0 where
@@ -122,7 +122,7 @@ left {h} w r x ys er e =
     let two : h.segments ≡ (passed ++ x ∷ []) ++ ys = w.is ∙ (ap (λ l. passed ++ l) er ∙ sym (append_assoc passed (x ∷ []) ys)) in
     append_cancel_left (passed ++ x ∷ []) r.rest ys (one ∙ two)
 
-turn_at : (b : List ℕ) (at : ℕ) (h : Heap) (from place next : ℕ) (items all : List Segment) (w : Lists at h from place items all) (rest : List heap.Segment) → w.reached.rest ≡ rest
+turn_at : (b : List ℕ) (at : ℕ) (h : Heap) (from place next : ℕ) (items all : List Segment) (w : HasListed at h from place items all) (rest : List heap.Segment) → w.reached.rest ≡ rest
     → NextSegment b at h from place next (w.reached.front ++ w.reached.gap) rest → Turn b at h from place next items all
 turn_at b at h from place next items all w [] er x = elim x [ ]
 turn_at b at h from place next items all w (Used bs ∷ ys) er (next_used _ _ off read fits least r e) = record {
@@ -157,19 +157,19 @@ turn_at b at h from place next items all w (Hole n ∷ ys) er (next_hole _ _ her
   });
 }
 
-pub turn : (b : List ℕ) (at : ℕ) (h : Heap) (from place next base' : ℕ) (items all : List Segment) → Spells b at h → Lists at h from place items all → base' ≡ word b (at + 8) → place < base' → LinksTo b at (at + from) next
+pub turn : (b : List ℕ) (at : ℕ) (h : Heap) (from place next base' : ℕ) (items all : List Segment) → Spells b at h → HasListed at h from place items all → base' ≡ word b (at + 8) → place < base' → LinksTo b at (at + from) next
     → Turn b at h from place next items all
 turn b at h from place next base' items all s w eb lt k =
     let e = s.base in
     turn_at b at h from place next items all w w.reached.rest refl (next_segment_at b at h w.link w.low from place next w.reached w.reached.rest refl s k (omega arith))
 
 -- as many are listed as may be
-pub lists_full : (at : ℕ) (h : Heap) (from place n : ℕ) (items all : List Segment) → Lists at h from place items all → length items ≡ n → items ≡ take n all
+pub lists_full : (at : ℕ) (h : Heap) (from place n : ℕ) (items all : List Segment) → HasListed at h from place items all → length items ≡ n → items ≡ take n all
 lists_full at h from place n items all w e =
     sym (ap (take n) (sym w.all_is) ∙ (take-append-le n items (listed place w.reached.rest) (omega arith) ∙ take_all n items (omega arith)))
 
 -- all are listed
-pub lists_all : (b : List ℕ) (at : ℕ) (h : Heap) (from place n base' : ℕ) (items all : List Segment) → Spells b at h → Lists at h from place items all → base' ≡ word b (at + 8) → base' ≤ place → length items ≤ n → items ≡ take n all
+pub lists_all : (b : List ℕ) (at : ℕ) (h : Heap) (from place n base' : ℕ) (items all : List Segment) → Spells b at h → HasListed at h from place items all → base' ≡ word b (at + 8) → base' ≤ place → length items ≤ n → items ≡ take n all
 lists_all b at h from place n base' items all s w eb le few =
     let r = w.reached in
     let passed = r.front ++ r.gap in

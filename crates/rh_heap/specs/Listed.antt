@@ -18,7 +18,7 @@ abbrev pub segments_from : ℕ → Heap → List Segment
 segments_from place h = take SEGMENTS_AT_ONCE (listed place (from_cut (segment_at place h)))
 
 -- A walk has come to a place: what it has listed, and the segments from there on, are all of these.
-pub record Lists (at : ℕ) (h : Heap) (from place : ℕ) (items all : List Segment) : Type 0 where
+pub record HasListed (at : ℕ) (h : Heap) (from place : ℕ) (items all : List Segment) : Type 0 where
   pub link : ℕ
   pub low : ℕ
   pub reached : Reached at h link low from place

@@ -14,3 +14,4 @@ pub mod GrowLaws
 pub mod CHeapLaws
 pub mod ItemLaws
 pub mod PageLaws
+pub mod Examples

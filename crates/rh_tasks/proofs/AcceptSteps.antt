@@ -33,7 +33,8 @@ use Rattle.rh_tasks.proofs.Lists.{Sits}
 use Rattle.rh_tasks.proofs.Chains.{begins, ends}
 use Rattle.rh_tasks.proofs.Frames.{if_same, if_apart}
 use Rattle.rh_tasks.proofs.Places.{edited-at, edited-is, reordered-at, one-at}
-use Rattle.rh_tasks.proofs.Slides.{seat-at}
+use Rattle.rh_tasks.proofs.Reorders.{edit-alike}
+use Rattle.rh_tasks.proofs.Buffers.{seat-task, seat-handle, seat-buffer, seat-there}
 use Rattle.rh_tasks.proofs.Accepts.{ok-begins, ok-ends, the_fetch, after_fetch, after_document, after_buffer, accept-is, sent_desk}
 
 -- ---- chains
@@ -80,11 +81,6 @@ unfolding with_task
 last-slot h s first d =
     ap (λ (l : List Task). let x : Desk = record d { tasks = l } in x) (twice h (λ t. record t { slot = s }) (λ t. record t { slot = first }) (λ t. refl) d.tasks)
 
--- a task edited in both of two reordered desks
-pub reordered-edit : (h : ℕ) (edit : Task → Task) (d e : Desk) → IsReordered d e → IsReordered (with_task h edit d) (with_task h edit e)
-unfolding with_task
-reordered-edit h edit d e r = record { same = r.same; rest = ap (with_task h edit) r.rest }
-
 -- ---- what is known before the first step
 
 -- the task's handle is h, its receive buffer n bytes long, k its lowest anchor without a block, and all is granted
@@ -98,28 +94,14 @@ pub record CanAccept (v : Shown) (i : ℕ) (t : Task) (m : Parcel) (message : Me
 
 module _ {o : Memory} {seats : List Seat} {made : List MadeArea} {files : FileList} {kept : Kept} {i : ℕ} {s : Seat} {v : Shown}
     (w : IsWorld o seats made files kept) (at : Sits seats i s) (view : shown_of o seats made files kept ≡ v) where
-  -- the seat's task, and a message like any other
-  pub own-at : IsAt i (task_of o s) v.desk
-  own-at = subst (λ (x : Shown). IsAt i (task_of o s) x.desk) view (seat-at w at)
-
+  -- a message like any other
   abbrev pub any-parcel : Message → Parcel
   any-parcel message = record { code = User; to = 0; block = 0; message = message }
 
   module _ (t : Task) (at-v : IsAt i t v.desk) where
-    pub own-is : task_of o s ≡ t
-    own-is = one-at v.desk i (task_of o s) t own-at at-v
-
-    pub own-handle : s.handle ≡ t.handle
+    own-slot : slot_in o s.slot ≡ t.slot
     unfolding task_of
-    own-handle = ap (λ (x : Task). x.handle) own-is
-
-    pub own-buffer : s.buffer ≡ t.buffer
-    unfolding task_of
-    own-buffer = ap (λ (x : Task). x.buffer) own-is
-
-    pub own-slot : slot_in o s.slot ≡ t.slot
-    unfolding task_of
-    own-slot = ap (λ (x : Task). x.slot) own-is
+    own-slot = ap (λ (x : Task). x.slot) (seat-task w view at at-v)
 
     own-anchor : {k : ℕ} → Some k ≡ free_anchor (slot_in o s.slot) → IsFreeAnchor k t.slot
     own-anchor {k} e = subst (IsFreeAnchor k) own-slot (record { is = sym e })
@@ -144,13 +126,13 @@ module _ {o : Memory} {seats : List Seat} {made : List MadeArea} {files : FileLi
       is = subst (λ (x : Shown). IsDesk x.desk) view w.desk;
       here = here;
       free = own-anchor t here.at anchor;
-      own = own-handle t here.at;
-      room = own-buffer t here.at;
+      own = seat-handle w view at here.at;
+      room = seat-buffer w view at here.at;
       ok = sym (says t m k here (own-anchor t here.at anchor)) ∙ granted;
     }
 
     pub can-accept-own : has ≡ true → CanAccept v i (task_of o s) (any-parcel message) message k s.handle s.buffer
-    can-accept-own granted = can-accept (task_of o s) (any-parcel message) (record { at = own-at; message_is = refl }) granted
+    can-accept-own granted = can-accept (task_of o s) (any-parcel message) (record { at = seat-there w view at; message_is = refl }) granted
 
 -- ---- the steps
 
@@ -295,6 +277,6 @@ module _ {v : Shown} {i : ℕ} {t : Task} {m : Parcel} {message : Message} {k h 
               (
                 granted ∙ ap (λ r. let g : Granted Handled = Ok (begun m.message r three.sent, outcome.Fetch r) in g) (sym next-same)
                     ∙ ap (λ x. let g : Granted Handled = Ok (begun x ref three.sent, outcome.Fetch ref) in g) can.here.message_is,
-                subst (IsReordered (begun message ref three.sent)) (sym desk) (reordered-edit t.handle _ three.sent v3.desk three.alike),
+                subst (IsReordered (begun message ref three.sent)) (sym desk) (edit-alike t.handle _ three.alike),
               ),
             )

@@ -26,7 +26,7 @@ use Rattle.rh_slot.proofs.SpanLaws.{budging_same}
 use Rattle.rh_slot.proofs.Ranges.{heap-part}
 use Rattle.rh_slot.proofs.LeaveLaws.{leaves, refuses}
 use Rattle.rh_tasks.specs.Polls.{AreFirst, slot_append}
-use Rattle.rh_tasks.proofs.Chains.{begins, ends, lt-false}
+use Rattle.rh_tasks.proofs.Chains.{begins, ends, not-refused, lt-false}
 use Rattle.rh_tasks.proofs.Leaves.{changed, unchanged}
 use Rattle.rh_tasks.proofs.Frames.{Stay, bytes-stay}
 
@@ -96,11 +96,6 @@ extended-heap free k n size s t e h =
     let b = sized-block k s size e in
     ap (λ (x : Slot). x.heap) (extended-is free k n s t b.0 b.1.0 h)
 
-put-ok : (b : Bool) (r : Refusal) (t : Slot) → b ≡ false → IsOk (refuse_if b r >>= λ _. Ok t)
-unfolding ◌>>=◌ refuse_if
-put-ok true r t e = absurd (cc)
-put-ok false r t e = refl
-
 -- it has room behind its bytes
 pub extended-fits : (free k size : ℕ) (xs : List ℕ) (s t : Slot) → Ok size ≡ slot_size k s → slot_extend free k (size + length xs) s ≡ Ok t → IsOk (slot_put k size xs t)
 unfolding slot_put ◌>>=◌
@@ -112,7 +107,7 @@ extended-fits free k size xs s t e h =
     let has : Has k (with_bytes b.0 longer s) c = record { is = refl; free = old.free; anchor = old.anchor } in
     let P : Slot → Type 0 = λ x. IsOk (slot_put k size xs x) in
     subst P (sym (extended-is free k (size + length xs) s t b.0 b.1.0 h))
-    (rw (has-block c has) (put-ok _ BadRange _ (lt-false (length longer) (size + length xs) (omega (arith, length-fitted (size + length xs) b.0.here.bytes)))))
+    (rw (has-block c has) (not-refused _ BadRange _ (lt-false (length longer) (size + length xs) (omega (arith, length-fitted (size + length xs) b.0.here.bytes)))))
 
 -- ---- what is put at a block's end
 

@@ -24,6 +24,12 @@ pub stops : {B : Type 0} (b : Bool) (r : Refusal) (x : Granted B) → b ≡ true
 unfolding ◌>>=◌ ◌>>◌ refuse_if
 stops b r x e = rw e refl
 
+-- a step that isn't refused
+pub not-refused : {A : Type 0} (b : Bool) (r : Refusal) (x : A) → b ≡ false → IsOk (refuse_if b r >>= λ _. Ok x)
+unfolding ◌>>=◌ refuse_if
+not-refused true r x e = absurd (cc)
+not-refused false r x e = refl
+
 -- a granted step that is not looked at
 pub skipped : {A B : Type 0} (first : Granted A) (x : Granted B) → IsOk first → (first >>= (λ a. x)) ≡ x
 unfolding ◌>>=◌

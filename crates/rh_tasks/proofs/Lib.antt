@@ -60,3 +60,4 @@ pub mod ScrapTransfers
 pub mod TransferBlocks
 pub mod AcceptSteps
 pub mod TakeSaves
+pub mod Examples

@@ -27,7 +27,7 @@ use Rattle.rh_tasks.specs.declared.seat.Seat.{Seat}
 use Rattle.rh_tasks.specs.declared.made.MadeArea.{MadeArea}
 use Rattle.rh_tasks.specs.View.{Kept, desk_of, task_of, IsWorld}
 use Rattle.rh_tasks.specs.Finding.{Owns}
-use Rattle.rh_tasks.proofs.Chains.{begins, ends, granted-same, lt-false}
+use Rattle.rh_tasks.proofs.Chains.{begins, ends, granted-same, not-refused, lt-false}
 use Rattle.rh_tasks.proofs.Addresses.{grant-of}
 use Rattle.rh_tasks.proofs.Leaves as leaves
 use Rattle.rh_tasks.proofs.Worlds.{free-is, granted-keeps}
@@ -75,16 +75,11 @@ new-block k n s unused =
     let e = block_of-at k (with_block k (zeros n) s) (record { before = s.blocks; here = record { anchor = k; bytes = zeros n }; after = [] }) refl (is_free weight k (flex_start s) s.blocks unused) refl in
     rw e refl
 
-ok-of : (b : Bool) (r : Refusal) (t : Slot) → b ≡ false → IsOk (refuse_if b r >>= λ _. Ok t)
-unfolding ◌>>=◌ refuse_if
-ok-of true r t e = absurd (cc)
-ok-of false r t e = refl
-
 put-fits : (k n : ℕ) (bytes : List ℕ) (s : Slot) → is_used k s ≡ false → length bytes ≤ n → IsOk (slot_put k 0 bytes (with_block k (zeros n) s))
 unfolding slot_put ◌>>=◌
 put-fits k n bytes s unused fits =
     let e = new-block k n s unused in
-    rw e (ok-of _ BadRange _ (lt-false (length (zeros n)) (0 + length bytes) (omega (arith, fits, length-replicate {A = ℕ} n 0))))
+    rw e (not-refused _ BadRange _ (lt-false (length (zeros n)) (0 + length bytes) (omega (arith, fits, length-replicate {A = ℕ} n 0))))
 
 -- bytes that fit are written
 pub new-fits : (free k n : ℕ) (bytes : List ℕ) (s : Slot) (p : Slot × ℕ) → slot_alloc free k n s ≡ Ok p → length bytes ≤ n → IsOk (slot_put k 0 bytes p.0)

@@ -15,6 +15,11 @@ use Rattle.rh_tasks.proofs.Frames.{if_apart, if_same}
 pub some-same : {A : Type 0} {x y : A} → (let a : _ = Some x in a) ≡ Some y → x ≡ y
 some-same e = cc
 
+pub member-at : {A : Type 0} (xs : List A) (i : ℕ) → i < length xs → (x : A) × (slice_get xs i ≡ Some x)
+member-at [] i h = absurd (omega (arith, h))
+member-at (x ∷ xs) zero h = (x, refl)
+member-at (x ∷ xs) (suc i) h = member-at xs i (omega (arith, h))
+
 -- numbers that go up are at least the least one
 pub rise-at : {A : Type 0} (number : A → ℕ) (least next : ℕ) (xs : List A) (i : ℕ) (x : A) → Rise number least next xs → slice_get xs i ≡ Some x → least ≤ number x
 rise-at number least next [] i x up at = absurd cc

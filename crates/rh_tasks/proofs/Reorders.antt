@@ -4,7 +4,7 @@ use Rattle.std.specs.Prelude.{filter, ◌==◌}
 use Rattle.std.specs.List.{AllByRecursion}
 use Rattle.rh_defs.specs.Messages.{Parcel}
 use Rattle.rh_defs.specs.Post.{Post}
-use Rattle.rh_defs.specs.Desk.{Desk}
+use Rattle.rh_defs.specs.Desk.{Desk, Task, with_task}
 use Rattle.rh_defs.specs.Laws.{IsDesk, IsPost, IsQueued}
 use Rattle.rh_defs.specs.Order.{is_to, SameForEach, requeued, with_queue, IsReordered}
 use Rattle.rh_defs.proofs.Orders.{same-length}
@@ -20,6 +20,14 @@ reordered-refl d = record { same = same-refl d.post.queued; rest = refl }
 
 pub reordered-trans : {a b c : Desk} → IsReordered a b → IsReordered b c → IsReordered a c
 reordered-trans {a} {b} {c} p q = record { same = same-trans p.same q.same; rest = q.rest ∙ ap (with_queue c.post.queued) p.rest }
+
+-- an edit of a task doesn't see the order
+pub edit-alike : {d e : Desk} (h : ℕ) (edit : Task → Task) → IsReordered d e → IsReordered (with_task h edit d) (with_task h edit e)
+unfolding with_task
+edit-alike h edit r = record { same = r.same; rest = ap (with_task h edit) r.rest }
+
+pub same-alike : {d e : Desk} → d ≡ e → IsReordered d e
+same-alike {d} q = subst (IsReordered d) q (reordered-refl d)
 
 -- ---- what holds of every queued message
 

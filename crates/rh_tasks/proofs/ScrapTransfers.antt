@@ -33,15 +33,11 @@ use Rattle.rh_tasks.specs.Polls.{IsAt, Sends, scrapped}
 use Rattle.rh_tasks.proofs.Chains.{begins, ends, past, stops, lt-true, lt-false}
 use Rattle.rh_tasks.proofs.Fixed.{total-set}
 use Rattle.rh_tasks.proofs.Places.{edited-at, edited-is, reordered-at, same-at, one-at}
-use Rattle.rh_tasks.proofs.Reorders.{reordered-refl}
+use Rattle.rh_tasks.proofs.Reorders.{reordered-refl, edit-alike}
 use Rattle.rh_tasks.proofs.SendRooms.{send-fits, send-lacks}
 use Rattle.rh_tasks.proofs.Scraps.{HasSource, source-of}
 
 -- ---- desks that differ in the order of messages alone
-
-pub task-alike : {a b : Desk} (h : ℕ) (edit : Task → Task) → IsReordered a b → IsReordered (with_task h edit a) (with_task h edit b)
-unfolding with_task
-task-alike h edit r = record { same = r.same; rest = ap (with_task h edit) r.rest }
 
 pub scrap-alike : {a b : Desk} (o : Option Scrap) → IsReordered a b → IsReordered (record a { scrap = o }) (record b { scrap = o })
 scrap-alike o r = record { same = r.same; rest = ap (λ (x : Desk). let y : Desk = record x { scrap = o } in y) r.rest }
@@ -62,11 +58,6 @@ not-false false e = absurd cc
 
 pub at-inside : (d : Desk) (i : ℕ) (t : Task) → IsAt i t d → i < length d.tasks
 at-inside d i t at = slice_get_within d.tasks i t at
-
-pub task-there : (tasks : List Task) (i : ℕ) → i < length tasks → (t : Task) × (slice_get tasks i ≡ Some t)
-task-there [] i inside = absurd (omega (arith, inside))
-task-there (t ∷ tasks) zero inside = (t, refl)
-task-there (t ∷ tasks) (suc i) inside = task-there tasks i (omega (arith, inside))
 
 -- the desk has the task there, with another last letter
 pub record HasSent (i : ℕ) (t : Task) (e : Desk) : Type 0 where
@@ -138,7 +129,7 @@ module _ (d : Desk) (i : ℕ) (t : Task) (is : IsDesk d) (at : IsAt i t d) (m : 
       let s = sent-at d e i t letter is at (ap (λ (l : Letter). l.from) same) sent.1.0 in
       let u : Task = record t { last_sent = s.last } in
       let now : new ≡ with_taking t.handle (receiver.loaded q n) mid = edited u (reordered-at e mid i u sent.1.1 s.at) in
-      as-after (told sent.1.0) (refl, subst (IsReordered (with_taking t.handle (receiver.loaded q n) e)) (sym now) (task-alike t.handle _ sent.1.1))
+      as-after (told sent.1.0) (refl, subst (IsReordered (with_taking t.handle (receiver.loaded q n) e)) (sym now) (edit-alike t.handle _ sent.1.1))
 
   pub loaded-failed : {r : Refusal} {mid new : Desk} → send_letter letter d ≡ Err r → mid ≡ d
       → ((u : Task) → IsAt i u mid → new ≡ with_taking u.handle (receiver.abandoned q n) mid)
@@ -381,7 +372,7 @@ module _ (d : Desk) (i : ℕ) (t : Task) (is : IsDesk d) (at : IsAt i t d) (m : 
               saved_desk d t m x n given sent.0,
               (
                 done ∙ ap (λ k. let y : Granted Handled = Ok (saved_desk d t m x n given sent.0, outcome.Saved n k) in y) (sym r),
-                subst (IsReordered (saved_desk d t m x n given sent.0)) (sym now) (task-alike t.handle _ (scrap-alike _ sent.1.1)),
+                subst (IsReordered (saved_desk d t m x n given sent.0)) (sym now) (edit-alike t.handle _ (scrap-alike _ sent.1.1)),
               ),
             )
 

@@ -15,24 +15,24 @@ use Rattle.rh_defs.proofs.Cuts.{IsCut, first_at-cuts, cut-total}
 use Rattle.rh_heap.specs.declared.layout.Segment.{Segment}
 use Rattle.rh_heap.specs.Image.{listed}
 use Rattle.rh_heap.specs.Listed.{from_cut, segments_from}
-use Rattle.rh_tasks.specs.Items.{item_of, IsSmall}
+use Rattle.rh_tasks.specs.Items.{placed_item, IsSmall}
 use Rattle.rh_tasks.specs.Lists.{segment_items_at}
 
-items_listed : (place : ℕ) (gs : List heap.Segment) → map item_of (listed place gs) ≡ segment_items_from (heap_start + place) gs
+items_listed : (place : ℕ) (gs : List heap.Segment) → map placed_item (listed place gs) ≡ segment_items_from (heap_start + place) gs
 items_listed place [] = refl
 items_listed place (Used bytes ∷ gs) =
     let next : heap_start + (place + (4 + length bytes)) ≡ heap_start + place + (4 + length bytes) = omega arith in
     let size : 4 + length bytes - 4 ≡ length bytes = omega arith in
-    ap (λ n. segment.Used (heap_start + place + 4) n ∷ map item_of (listed (place + (4 + length bytes)) gs)) size
+    ap (λ n. segment.Used (heap_start + place + 4) n ∷ map placed_item (listed (place + (4 + length bytes)) gs)) size
     ∙ ap (λ l. segment_item (heap_start + place) (Used bytes) ∷ l) (items_listed (place + (4 + length bytes)) gs ∙ ap (λ p. segment_items_from p gs) next)
 items_listed place (Hole n ∷ gs) =
     let next : heap_start + (place + n) ≡ heap_start + place + n = omega arith in
     ap (λ l. segment_item (heap_start + place) (Hole n) ∷ l) (items_listed (place + n) gs ∙ ap (λ p. segment_items_from p gs) next)
 
 -- the segments that a heap gives, as they are listed
-pub items_from : (place : ℕ) (h : Heap) → map item_of (segments_from place h) ≡ segment_items_at place h
+pub items_from : (place : ℕ) (h : Heap) → map placed_item (segments_from place h) ≡ segment_items_at place h
 items_from place h =
-    sym (take-map item_of 64 (listed place (from_cut (segment_at place h)))) ∙ ap (take 64) (items_listed place (from_cut (segment_at place h)))
+    sym (take-map placed_item 64 (listed place (from_cut (segment_at place h)))) ∙ ap (take 64) (items_listed place (from_cut (segment_at place h)))
 
 -- ---- they are small
 
@@ -64,13 +64,13 @@ is_small [] i d all l = absurd (omega arith)
 is_small (y ∷ xs) zero d all l = all.0
 is_small (y ∷ xs) (suc i) d all l = is_small xs i d all.1 (omega arith)
 
-pub listed_more : (xs : List Segment) (i : ℕ) (d : Segment) (items : List SegmentItem) → items ≡ map item_of (take i xs) → i < length xs → items ++ item_of (get_or xs i d) ∷ [] ≡ map item_of (take (i + 1) xs)
+pub listed_more : (xs : List Segment) (i : ℕ) (d : Segment) (items : List SegmentItem) → items ≡ map placed_item (take i xs) → i < length xs → items ++ placed_item (get_or xs i d) ∷ [] ≡ map placed_item (take (i + 1) xs)
 listed_more xs i d items is l =
-    ap (λ z. z ++ item_of (get_or xs i d) ∷ []) is
-    ∙ (sym (map-append item_of (take i xs) (get_or xs i d ∷ [])) ∙ ap (map item_of) (sym (take_more xs i d l)))
+    ap (λ z. z ++ placed_item (get_or xs i d) ∷ []) is
+    ∙ (sym (map-append placed_item (take i xs) (get_or xs i d ∷ [])) ∙ ap (map placed_item) (sym (take_more xs i d l)))
 
-pub listed_few : (xs : List Segment) (i : ℕ) (items : List SegmentItem) → items ≡ map item_of (take i xs) → i < length xs → length xs ≤ 64 → length items < 64
-listed_few xs i items is l few = omega (arith, ap length is, length-map (take i xs) item_of, length-take i xs)
+pub listed_few : (xs : List Segment) (i : ℕ) (items : List SegmentItem) → items ≡ map placed_item (take i xs) → i < length xs → length xs ≤ 64 → length items < 64
+listed_few xs i items is l few = omega (arith, ap length is, length-map (take i xs) placed_item, length-take i xs)
 
-pub listed_all : (xs : List Segment) (i : ℕ) (items : List SegmentItem) → items ≡ map item_of (take i xs) → length xs ≤ i → items ≡ map item_of xs
-listed_all xs i items is l = is ∙ ap (map item_of) (take_all i xs l)
+pub listed_all : (xs : List Segment) (i : ℕ) (items : List SegmentItem) → items ≡ map placed_item (take i xs) → length xs ≤ i → items ≡ map placed_item xs
+listed_all xs i items is l = is ∙ ap (map placed_item) (take_all i xs l)

@@ -19,7 +19,7 @@ use Rattle.rh_tasks.specs.View.{Kept, task_of, shown_of, IsWorld}
 use Rattle.rh_tasks.specs.Polls.{IsAt}
 use Rattle.rh_tasks.proofs.Lists.{Sits}
 use Rattle.rh_tasks.proofs.Reorders.{reordered-refl}
-use Rattle.rh_tasks.proofs.AcceptSteps.{own-is}
+use Rattle.rh_tasks.proofs.Buffers.{seat-task}
 
 -- whether the task takes it
 abbrev pub takes : Task → Bool
@@ -35,7 +35,7 @@ pub takes-is : {o : Memory} {seats : List Seat} {made : List MadeArea} {files : 
     → deaf ≡ is_deaf s.manner → given ≡ receiver.on_save deaf s.taking → takes t ≡ given
 unfolding task_of
 takes-is {s = s} w at view t at-v e g =
-    ap (λ (x : Task). takes x) (sym (own-is w at view t at-v)) ∙ ap (λ b. receiver.on_save b s.taking) (sym e) ∙ sym g
+    ap (λ (x : Task). takes x) (sym (seat-task w view at at-v)) ∙ ap (λ b. receiver.on_save b s.taking) (sym e) ∙ sym g
 
 both : (a b : Bool) → (not a && not b) ≡ true → b ≡ false
 both true b e = absurd cc

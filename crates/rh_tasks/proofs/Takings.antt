@@ -30,14 +30,9 @@ use Rattle.rh_tasks.specs.Polls.{IsAt, IsFor, Becomes, Handles}
 use Rattle.rh_tasks.proofs.Addresses.{grant-of}
 use Rattle.rh_tasks.proofs.Places.{some-same}
 use Rattle.rh_tasks.proofs.Chains.{begins, ends, le-false}
-use Rattle.rh_tasks.proofs.Reorders.{reordered-refl}
+use Rattle.rh_tasks.proofs.Reorders.{edit-alike, same-alike}
 
 -- ---- places
-
-pub member-at : {A : Type 0} (xs : List A) (i : ℕ) → i < length xs → (x : A) × (slice_get xs i ≡ Some x)
-member-at [] i h = absurd (omega (arith, h))
-member-at (x ∷ xs) zero h = (x, refl)
-member-at (x ∷ xs) (suc i) h = member-at xs i (omega (arith, h))
 
 module _ (P : Task → Type 0) (h : ℕ) (edit : Task → Task) where
   -- what holds of a task and of the edited one
@@ -96,14 +91,6 @@ sent-by l d e i t (Ok sent) q at =
 pub stands-sent : (l : Letter) (d e : Desk) {f : Desk} (i : ℕ) (t : Task) → send_letter l d ≡ Ok e → IsReordered e f → IsAt i t d → Stands i t f
 unfolding send_letter
 stands-sent l d e i t q r at = stands-reordered r (sent-by l d e i t (post_send (free_pages d) l d.post) q at)
-
--- an edit of tasks doesn't see the order of messages
-pub edit-alike : {d e : Desk} (h : ℕ) (edit : Task → Task) → IsReordered d e → IsReordered (with_task h edit d) (with_task h edit e)
-unfolding with_task
-edit-alike h edit r = record { same = r.same; rest = ap (with_task h edit) r.rest }
-
-pub same-alike : {d e : Desk} → d ≡ e → IsReordered d e
-same-alike {d} q = subst (IsReordered d) q (reordered-refl d)
 
 -- ---- a transfer ends
 

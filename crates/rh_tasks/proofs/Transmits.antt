@@ -33,7 +33,7 @@ use Rattle.rh_tasks.proofs.Chains.{begins, ends, past, stops}
 use Rattle.rh_tasks.proofs.Finding.{find-none, find-map}
 use Rattle.rh_tasks.proofs.Lists.{Sits}
 use Rattle.rh_tasks.proofs.Places.{mapped-at, task-found}
-use Rattle.rh_tasks.proofs.Reorders.{reordered-refl}
+use Rattle.rh_tasks.proofs.Reorders.{edit-alike}
 use Rattle.rh_tasks.proofs.Writes.{with_written, KeyAlike, alike-edited, alike-reordered, alike-both, alike-sent, seen}
 
 -- ---- the task with a handle
@@ -76,20 +76,6 @@ module _ {m : Memory} {seats : List Seat} {made : List MadeArea} {files : FileLi
       let at : IsAt j (task_of m s.seat) desk = mapped-at (task_of m) seats j s.seat s.sits in
       let P : ℕ → Type 0 = λ k. task_at k desk ≡ Some (task_of m s.seat) in
       record { task = task_of m s.seat; at = at; found = subst P s.handle (task-found desk j (task_of m s.seat) w.desk at) }
-
-pub member-at : {A : Type 0} (xs : List A) (i : ℕ) → i < length xs → (x : A) × (slice_get xs i ≡ Some x)
-member-at [] i h = absurd (omega (arith, h))
-member-at (x ∷ xs) zero h = (x, refl)
-member-at (x ∷ xs) (suc i) h = member-at xs i (omega (arith, h))
-
--- ---- desks that are edited alike
-
-pub edited-reordered : (h : ℕ) (edit : Task → Task) {a b : Desk} → IsReordered a b → IsReordered (with_task h edit a) (with_task h edit b)
-unfolding with_task
-edited-reordered h edit {a} {b} r = record { same = r.same; rest = ap (λ d. with_task h edit d) r.rest }
-
-pub reordered-same : {a b : Desk} → a ≡ b → IsReordered a b
-reordered-same {a} {b} e = subst (IsReordered a) e (reordered-refl a)
 
 -- what was handled, and the desk like it
 pub handles-alike : {after : Handled} {d new : Desk} {o : Outcome} → after ≡ (d, o) → IsReordered d new → (o ≡ after.1) × IsReordered after.0 new
@@ -204,8 +190,8 @@ module _ (d : Desk) (t : Task) (m : Parcel) (buffer amount : ℕ) (x : Sending) 
             → (y : Desk) × ((given ≡ Ok (y, outcome.Sent n ref)) × IsReordered y new)
         transmit-whole {ref} {sent} {e} {f} {new} is q alike wrote recorded =
             let after = after_sent n ref sent in
-            let edits = edited-reordered t.handle (λ u. record u { sending = sender.sent x n amount ref u.sending })
-            (edited-reordered r.handle (with_written buffer amount (take n (drop x.count p.source.here.bytes))) alike) in
+            let edits = edit-alike t.handle (λ u. record u { sending = sender.sent x n amount ref u.sending })
+            (edit-alike r.handle (with_written buffer amount (take n (drop x.count p.source.here.bytes))) alike) in
             let same = recorded ∙ ap (λ y. with_sending t.handle (sender.sent x n amount ref) y) wrote in (
               after.0,
               (

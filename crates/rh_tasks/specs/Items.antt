@@ -33,8 +33,8 @@ segment_item_of place s =
     if s.used then segment.Used (heap_start + place + 4) (s.size - 4) else segment.Hole (heap_start + place) s.size
 
 -- the same of a segment that knows its place
-abbrev pub item_of : Segment → SegmentItem
-item_of s = segment_item_of s.place s
+abbrev pub placed_item : Segment → SegmentItem
+placed_item s = segment_item_of s.place s
 
 -- a segment whose place and size are small enough for an address
 abbrev pub IsSmall : Segment → Type 0

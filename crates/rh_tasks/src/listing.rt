@@ -12,7 +12,7 @@ ghost use Rattle.rh_defs.specs.Desk.{free_pages as free_pages_on};
 ghost use Rattle.rh_defs.specs.Listing.{area_items, areas_at, blocks_at, heap_at, shown_at, status_at};
 ghost use Rattle.rh_tasks.specs.Answer.{Gives};
 ghost use Rattle.rh_tasks.specs.View.{pages_at, HasAreas};
-ghost use Rattle.rh_tasks.specs.Items.{items_in, slot_items, segment_item_of, item_of, IsSmall};
+ghost use Rattle.rh_tasks.specs.Items.{items_in, slot_items, segment_item_of, placed_item, IsSmall};
 ghost use Rattle.rh_tasks.specs.Lists.{blocks_of, segments_of};
 ghost use Rattle.rh_heap.specs.declared.span.list.TheConstants.{SEGMENTS_AT_ONCE};
 
@@ -102,7 +102,7 @@ fn segment_item(place: u32, segment: Segment) -> SegmentItem
 fn segment_items(segments: &[Segment]) -> ArrayVec<SegmentItem, SEGMENTS_AT_ONCE>
     requires few { length segments.now ≤ SEGMENTS_AT_ONCE }
     requires small { AllByRecursion IsSmall segments.now }
-    ensures { result.items ≡ map item_of segments.now }
+    ensures { result.items ≡ map placed_item segments.now }
 {
     let mut items = ArrayVec::new();
     for segment in segments {

@@ -3,7 +3,7 @@ use Rattle.std.proofs.Common.{◌-◌, ◌≤◌, length}
 use Rattle.rh_defs.specs.Heap.{segment_at}
 use Rattle.rh_heap.specs.Spans.{heap_in}
 use Rattle.rh_heap.specs.Image.{listed}
-use Rattle.rh_heap.specs.Listed.{from_cut, Lists}
+use Rattle.rh_heap.specs.Listed.{from_cut, HasListed}
 use Rattle.rh_heap.specs.declared.span.list.TheConstants.{SEGMENTS_AT_ONCE}
 use Rattle.rh_heap.proofs.span.list.segments_from.Given as goal
 
@@ -12,7 +12,7 @@ invariant-walk g l =
     let h = heap_in (g.S.Words.memory l.store) l.span in
     record {
       few : length l.segments.items ≤ SEGMENTS_AT_ONCE;
-      lists : Lists l.span.at h l.from l.place l.segments.items (listed l.fn.place (from_cut (segment_at l.fn.place h)));
+      lists : HasListed l.span.at h l.from l.place l.segments.items (listed l.fn.place (from_cut (segment_at l.fn.place h)));
     }
 
 abbrev pub decreases-walk : goal.decreases-walk

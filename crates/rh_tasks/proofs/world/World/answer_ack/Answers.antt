@@ -3,8 +3,9 @@ use Rattle.std.specs.Prelude.{◌<◌, length}
 use Rattle.rh_defs.specs.declared.message.EventCode.TheVariants.{User}
 use Rattle.rh_tasks.specs.Shown.{Shown}
 use Rattle.rh_tasks.specs.Polls.{IsAt}
+use Rattle.rh_tasks.proofs.Places.{member-at}
 use Rattle.rh_tasks.proofs.Reorders.{reordered-refl}
-use Rattle.rh_tasks.proofs.ScrapTransfers.{as-after, task-there, ack-none, ack-done, ack-refused}
+use Rattle.rh_tasks.proofs.ScrapTransfers.{as-after, ack-none, ack-done, ack-refused}
 use Rattle.rh_tasks.proofs.world.World.answer_ack.Goals as goal
 
 pub returns-in_default : goal.returns-in_default
@@ -12,7 +13,7 @@ returns-in_default g c = rw (c.in_default.is) (λ t m for. as-after (ack-none c.
 
 pub refused_out-requires : goal.refused_out-requires
 refused_out-requires g c =
-    let there = task-there c.args.self.now.desk.tasks c.args.i c.requires in
+    let there = member-at c.args.self.now.desk.tasks c.args.i c.requires in
     let stays = (c.in-Err.ensures there.0 (record { code = User; to = 0; block = 0; message = c.args.message.now }) (record { at = there.1; message_is = refl })).1 in
     subst (λ (x : Shown). c.args.i < length x.desk.tasks) (sym stays) c.requires
 

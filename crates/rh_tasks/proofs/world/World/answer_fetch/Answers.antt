@@ -6,8 +6,9 @@ use Rattle.rh_defs.specs.Order.{IsReordered}
 use Rattle.rh_defs.specs.OutgoingEvents.{Handled, answer_fetch, refused}
 use Rattle.rh_tasks.specs.Shown.{Shown}
 use Rattle.rh_tasks.specs.Polls.{IsAt, IsFor}
+use Rattle.rh_tasks.proofs.Places.{member-at}
 use Rattle.rh_tasks.proofs.Reorders.{reordered-refl}
-use Rattle.rh_tasks.proofs.Transmits.{member-at, handles-alike, fetch-done, fetch-refused}
+use Rattle.rh_tasks.proofs.Transmits.{handles-alike, fetch-done, fetch-refused}
 use Rattle.rh_tasks.proofs.world.World.answer_fetch.Goals as goal
 
 pub returns-in_default : goal.returns-in_default

@@ -1,5 +1,6 @@
 use Rattle.rh_defs.specs.Receiver as receiver
-use Rattle.rh_tasks.proofs.Takings.{member-at, inside, stands-dropped, ended-is}
+use Rattle.rh_tasks.proofs.Places.{member-at}
+use Rattle.rh_tasks.proofs.Takings.{inside, stands-dropped, ended-is}
 use Rattle.rh_tasks.proofs.world.World.end_failed.Goals as goal
 
 pub record_failed_in-requires : goal.record_failed_in-requires

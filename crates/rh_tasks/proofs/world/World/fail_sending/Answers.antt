@@ -1,7 +1,6 @@
 use Rattle.std.proofs.Common.{refl}
 use Rattle.rh_defs.specs.OutgoingEvents.{fail_sending}
-use Rattle.rh_tasks.proofs.Reorders.{reordered-refl}
-use Rattle.rh_tasks.proofs.Transmits.{reordered-same}
+use Rattle.rh_tasks.proofs.Reorders.{reordered-refl, same-alike}
 use Rattle.std.proofs.Common.{sym}
 use Rattle.rh_tasks.proofs.world.World.fail_sending.Goals as goal
 
@@ -11,4 +10,4 @@ returns-in_default g c = rw c.in_default.is (λ t ti. (refl, reordered-refl c.ar
 
 pub returns : goal.returns
 unfolding fail_sending
-returns g c = rw c.in-Some.is (λ t ti. (refl, reordered-same (sym (c.record_failed_out.ensures t ti))))
+returns g c = rw c.in-Some.is (λ t ti. (refl, same-alike (sym (c.record_failed_out.ensures t ti))))

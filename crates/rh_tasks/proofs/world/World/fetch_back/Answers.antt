@@ -1,7 +1,6 @@
 use Rattle.std.proofs.Common.{refl, sym}
 use Rattle.rh_defs.specs.IncomingEvents.{fetch_back}
-use Rattle.rh_tasks.proofs.Reorders.{reordered-refl}
-use Rattle.rh_tasks.proofs.Takings.{same-alike}
+use Rattle.rh_tasks.proofs.Reorders.{reordered-refl, same-alike}
 use Rattle.rh_tasks.proofs.world.World.fetch_back.Goals as goal
 
 pub returns-in-Some-Draining : goal.returns-in-Some-Draining

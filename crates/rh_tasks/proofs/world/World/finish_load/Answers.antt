@@ -9,8 +9,8 @@ use Rattle.rh_slot.specs.Area.{slot_in}
 use Rattle.rh_tasks.specs.View.{task_of}
 use Rattle.rh_tasks.proofs.Portions.{unsized, sized}
 use Rattle.rh_tasks.proofs.Fetches.{seated, seat-is}
-use Rattle.rh_tasks.proofs.Reorders.{reordered-refl}
-use Rattle.rh_tasks.proofs.Transmits.{reordered-same, handles-alike, load-done, load-refused}
+use Rattle.rh_tasks.proofs.Reorders.{reordered-refl, same-alike}
+use Rattle.rh_tasks.proofs.Transmits.{handles-alike, load-done, load-refused}
 use Rattle.rh_tasks.proofs.world.World.finish_load.Goals as goal
 
 pub returns-in_default : goal.returns-in_default
@@ -29,7 +29,7 @@ returns-in-Ok g c =
     let there = rw (← c.self.view_is) at ti in
     let is : t ≡ task_of m s = seat-is (seated m c.self.inside.seats.items c.args.i t there) s (sym c.index-seat.ensures) in
     let block : slot_block x.anchor t.slot ≡ Ok z.cut = rw is z.block in
-    handles-alike (load-done d t x block) (reordered-same (sym (c.record_loaded_out.ensures t ti ∙ ap (λ k. with_sending t.handle (sender.loaded x k) d) z.long))))
+    handles-alike (load-done d t x block) (same-alike (sym (c.record_loaded_out.ensures t ti ∙ ap (λ k. with_sending t.handle (sender.loaded x k) d) z.long))))
 
 pub returns-in-Err : goal.returns-in-Err
 unfolding task_of

@@ -5,10 +5,10 @@ use Rattle.rh_defs.specs.Memory.{bytes}
 use Rattle.rh_defs.specs.Desk.{Desk, Scrap}
 use Rattle.rh_tasks.specs.Shown.{Shown}
 use Rattle.rh_tasks.specs.View.{scrap_from}
-use Rattle.rh_tasks.proofs.Places.{same-at}
+use Rattle.rh_tasks.proofs.Places.{member-at, same-at}
 use Rattle.rh_tasks.proofs.Reorders.{reordered-refl}
 use Rattle.rh_tasks.proofs.Scraps.{seen-desk, seen-nothing, seen-file, seen-size}
-use Rattle.rh_tasks.proofs.ScrapTransfers.{as-after, not-true, not-false, at-inside, task-there, appended-at, take-none, take-nothing, take-other, take-loaded, take-failed}
+use Rattle.rh_tasks.proofs.ScrapTransfers.{as-after, not-true, not-false, at-inside, appended-at, take-none, take-nothing, take-other, take-loaded, take-failed}
 use Rattle.rh_tasks.proofs.world.World.take_file.Goals as goal
 
 pub returns-in_default : goal.returns-in_default
@@ -34,7 +34,7 @@ loaded-requires g c =
     let f = c.in-Some-scrap.file in
     let file : Scrap = scrap_from (bytes (g.S.Words.memory c.self.inside.store) 5) f in
     let has = seen-file w c.self.view_is f c.in-Some-scrap.is in
-    let there = task-there c.args.self.now.desk.tasks c.args.i c.requires in
+    let there = member-at c.args.self.now.desk.tasks c.args.i c.requires in
     let mid : Desk = c.append_scrap.new.self.desk in
     let s = appended-at c.args.self.now.desk mid c.args.i there.0 c.in-Some.q.anchor file.bytes (seen-desk w c.self.view_is) there.1 (c.in-Ok.ensures there.0 file there.1 has) in
     at-inside c.drop_scrap.new.self.desk c.args.i _ (same-at mid c.drop_scrap.new.self.desk c.args.i _ (ap (λ (x : Desk). x.tasks) c.drop_scrap.ensures) s.at)
@@ -45,7 +45,7 @@ record_abandoned-requires g c =
     let f = c.in-Some-scrap.file in
     let file : Scrap = scrap_from (bytes (g.S.Words.memory c.self.inside.store) 5) f in
     let has = seen-file w c.self.view_is f c.in-Some-scrap.is in
-    let there = task-there c.args.self.now.desk.tasks c.args.i c.requires in
+    let there = member-at c.args.self.now.desk.tasks c.args.i c.requires in
     let stays = (c.in-Err.ensures there.0 file there.1 has).1 in
     subst (λ (x : Shown). c.args.i < length x.desk.tasks) (sym stays) c.requires
 

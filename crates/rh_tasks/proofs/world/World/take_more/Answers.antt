@@ -10,7 +10,8 @@ use Rattle.rh_defs.specs.Slot.{heap_block_at}
 use Rattle.rh_tasks.specs.Shown.{Shown}
 use Rattle.rh_tasks.specs.Polls.{Handles}
 use Rattle.rh_tasks.proofs.Chains.{le-true, le-false}
-use Rattle.rh_tasks.proofs.Takings.{member-at, inside, stands-appended, becomes-ok, becomes-err, was-refused, not-both, failed-as, counted, uncounted, taken-uncounted, taken-refused, taken-on}
+use Rattle.rh_tasks.proofs.Places.{member-at}
+use Rattle.rh_tasks.proofs.Takings.{inside, stands-appended, becomes-ok, becomes-err, was-refused, not-both, failed-as, counted, uncounted, taken-uncounted, taken-refused, taken-on}
 use Rattle.rh_tasks.proofs.world.World.take_more.Goals.{in-Some, in-None}
 use Rattle.rh_tasks.proofs.world.World.take_more.Goals as goal
 

@@ -4,7 +4,8 @@ use Rattle.rh_tasks.specs.Shown.{Shown}
 use Rattle.rh_tasks.proofs.Lists.{Sits}
 use Rattle.rh_tasks.proofs.Chains.{lt-true, lt-false}
 use Rattle.rh_tasks.proofs.Buffers.{sits-there, seat-buffer}
-use Rattle.rh_tasks.proofs.Takings.{member-at, inside, stands-dropped, failed-as, handles-as, parcel_with, took-ended, took-more, took-failed}
+use Rattle.rh_tasks.proofs.Places.{member-at}
+use Rattle.rh_tasks.proofs.Takings.{inside, stands-dropped, failed-as, handles-as, parcel_with, took-ended, took-more, took-failed}
 use Rattle.rh_tasks.proofs.world.World.took.Goals as goal
 
 pub record_finished-requires-clause-place : goal.record_finished-requires-clause-place

@@ -10,10 +10,10 @@ use Rattle.rh_defs.specs.Desk.{Task, task_at, with_sending, send_letter}
 use Rattle.rh_defs.specs.Sender as sender
 use Rattle.rh_tasks.specs.View.{task_of}
 use Rattle.rh_tasks.proofs.SeatRecords.{sits-in}
-use Rattle.rh_tasks.proofs.Places.{mapped-at}
+use Rattle.rh_tasks.proofs.Places.{member-at, mapped-at}
 use Rattle.rh_tasks.proofs.Fetches.{seated, seat-is}
 use Rattle.rh_tasks.proofs.Writes.{alike-length, alike-at, seen}
-use Rattle.rh_tasks.proofs.Transmits.{Meant, nobody-with, somebody-with, member-at, pair_of, handle_of, sent-pairs, portion-seen, reach-seen, wrote-is, wrote-handles, transmit-missing, transmit-nobody, transmit-far, transmit-refused, transmit-whole}
+use Rattle.rh_tasks.proofs.Transmits.{Meant, nobody-with, somebody-with, pair_of, handle_of, sent-pairs, portion-seen, reach-seen, wrote-is, wrote-handles, transmit-missing, transmit-nobody, transmit-far, transmit-refused, transmit-whole}
 use Rattle.rh_tasks.proofs.world.World.transmit.Goals as goal
 
 pub returns-in_err-portion : goal.returns-in_err-portion
