@@ -1,7 +1,10 @@
 //! The files that a run is given, and the one that is checked.
 
-ghost use Rattle.std.specs.Prelude.{◌≡◌, ◌≤◌, IfOk, IfErr, vec_len};
+ghost use Rattle.std.specs.Prelude.{◌≡◌, ◌≢◌, ◌⊎◌, ◌≤◌, [], None, IfOk, IfErr, map, vec_len};
+ghost use Rattle.std.specs.Option.{option_map};
 ghost use Rattle.rh_desk.specs.Ending.{exit_status};
+ghost use Rattle.rh_desk.specs.FileWords.{TellsBadWord, bad_word, file_word, word_name};
+ghost use Rattle.rh_desk.specs.Telling.{Tells, lost_file_text, run_fault_text};
 
 use crate::ending::Ending;
 use crate::telling::{ended, tell_bad_word, tell_file};
@@ -19,7 +22,10 @@ const MOST_BYTES: usize = 1_048_576;
 /// Looks over all the NAME=PATH words before any file is read. The first bad one is told: one that isn't a name, `=` and
 /// a path of at least one byte, or whose name was given before.
 pub fn check_words<E: Sink>(alloc: Global, words: &[&str], errors: &mut E) -> Result<(), Ending>
-    ensures { IfErr result (λ ending. 2 ≤ exit_status ending) }
+    ensures status { IfErr result (λ ending. 2 ≤ exit_status ending) }
+    ensures good { IfOk result (λ _. bad_word [] (map (λ word. word.now) words.now) ≡ None) }
+    ensures quiet { IfOk result (λ _. E.output errors.new ≡ E.output errors.old) }
+    ensures told { IfErr result (TellsBadWord (E.output errors.old) (E.output errors.new) (map (λ word. word.now) words.now)) }
 {
     let mut seen = Files::new(alloc);
     for word in words {
@@ -43,7 +49,9 @@ pub fn read_files<R: rt::Files, E: Sink>(
     words: &[&str],
     errors: &mut E,
 ) -> Result<Files, Ending>
-    ensures { IfErr result (λ ending. 2 ≤ exit_status ending) }
+    ensures status { IfErr result (λ ending. 2 ≤ exit_status ending) }
+    ensures named { IfOk result (λ files. map (λ file. file.0) files ≡ map (λ word. word_name word.now) words.now) }
+    ensures wrong { IfErr result (λ ending. ending ≡ Ending.WrongWords → bad_word [] (map (λ word. word.now) words.now) ≢ None) }
 {
     let mut files = Files::new(alloc);
     for word in words {
@@ -62,7 +70,9 @@ pub fn read_files<R: rt::Files, E: Sink>(
 }
 
 /// The name and the path of a NAME=PATH word.
-fn file_word(word: &str) -> Option<(Name, &str)> {
+fn file_word(word: &str) -> Option<(Name, &str)>
+    ensures { option_map (λ found. (found.0, found.1.now)) result ≡ file_word word.now }
+{
     let (name, path) = word.split_once('=')?;
     let name = Name::new(name.as_bytes())?;
     if path.is_empty() || !name.is_valid() {
@@ -80,6 +90,9 @@ pub fn read_whole<R: rt::Files, E: Sink>(
 ) -> Result<Vec<u8>, Ending>
     ensures ok { IfOk result (λ bytes. vec_len bytes ≤ 1048576) }
     ensures err { IfErr result (λ ending. ending ≡ Ending.Fault) }
+    ensures told { IfErr result (λ ending. Tells (E.output errors.old) (E.output errors.new) (lost_file_text path.now)
+        ⊎ Tells (E.output errors.old) (E.output errors.new) (run_fault_text RunFault.NoMemory)) }
+    ensures quiet { IfOk result (λ _. E.output errors.new ≡ E.output errors.old) }
 {
     let mut bytes = Vec::new(alloc);
     match read_into(runtime, path, &mut bytes) {

@@ -3,7 +3,7 @@
 ghost use Rattle.std.specs.Prelude.{◌≡◌, ◌≢◌, ◌⊎◌, ◌≤◌, ◌++◌, codes};
 ghost use Rattle.clap.specs.Values.{kind_of};
 ghost use Rattle.rh_desk.specs.Ending.{ending_of, exit_status};
-ghost use Rattle.rh_desk.specs.Telling.{Tells, bad_word_text, fault_text};
+ghost use Rattle.rh_desk.specs.Telling.{Tells, bad_word_text, lost_file_text, run_fault_text, shown_path};
 ghost use Rattle.rh_lines.specs.Flow.{Puts};
 
 use crate::ending::Ending;
@@ -18,21 +18,21 @@ use std::alloc::Global;
 pub fn ended<E: Sink>(outcome: Result<Status, RunFault>, errors: &mut E) -> Ending
     ensures ending { result ≡ ending_of outcome }
     ensures quiet { (status : Status) → outcome ≡ Ok status → E.output errors.new ≡ E.output errors.old }
-    ensures told { (fault : RunFault) → outcome ≡ Err fault → Tells (E.output errors.old) (E.output errors.new) (fault_text fault) }
+    ensures told { (fault : RunFault) → outcome ≡ Err fault → Tells (E.output errors.old) (E.output errors.new) (run_fault_text fault) }
 {
     match outcome {
         Ok(Status::Clean) => Ending::Clean,
         Ok(Status::BadLines) => Ending::BadLines,
         Err(fault) => {
-            let _told = put(errors, fault_text(fault));
+            let _told = put(errors, run_fault_text(fault));
             Ending::Fault
         }
     }
 }
 
 /// What is told of the fault that stopped a run.
-fn fault_text(fault: RunFault) -> &'static [u8]
-    ensures { result.now ≡ fault_text fault }
+fn run_fault_text(fault: RunFault) -> &'static [u8]
+    ensures { result.now ≡ run_fault_text fault }
 {
     match fault {
         RunFault::NoMemory => b"rh_desk: no memory\n",
@@ -71,16 +71,24 @@ pub fn told<O: Sink, E: Sink>(
 }
 
 /// Tells of a file that can't be opened, or can't be read whole.
+#[tactic(auto, using(crate::proofs::TellLemmas::puts_tells))]
 pub fn tell_file<E: Sink>(path: &str, errors: &mut E) -> Ending
-    ensures { result ≡ Ending.Fault }
+    ensures ending { result ≡ Ending.Fault }
+    ensures told { Tells (E.output errors.old) (E.output errors.new) (lost_file_text path.now) }
 {
-    let shown = if path.is_empty() {
+    let _told = put_line(b"rh_desk: file ", shown_path(path), errors);
+    Ending::Fault
+}
+
+/// How a path is shown.
+fn shown_path(path: &str) -> &str
+    ensures { result.now ≡ shown_path path.now }
+{
+    if path.is_empty() {
         "'' (an empty path)"
     } else {
         path
-    };
-    let _told = put_line(b"rh_desk: file ", shown, errors);
-    Ending::Fault
+    }
 }
 
 /// Tells of a NAME=PATH word that is none.

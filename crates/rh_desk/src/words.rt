@@ -3,7 +3,7 @@
 ghost use Rattle.std.specs.Prelude.{◌≡◌, ◌≢◌, ◌≤◌, [], codes, length};
 ghost use Rattle.rh_defs.specs.Runs.{start};
 ghost use Rattle.rh_desk.specs.Ending.{ending_of, exit_status};
-ghost use Rattle.rh_desk.specs.Telling.{Tells, fault_text};
+ghost use Rattle.rh_desk.specs.Telling.{Tells, run_fault_text};
 ghost use Rattle.rh_session.specs.Outcome.{Finished};
 ghost use Rattle.std.specs.IoError.{error_kind};
 ghost use Rattle.std.specs.declared.io.ErrorKind.TheVariants.{OutOfMemory};
@@ -60,7 +60,7 @@ pub fn words_unread<E: Sink>(error: &io::Error, errors: &mut E) -> u8
     ensures small { result ≤ 3 }
     ensures memory { error_kind error.now ≡ OutOfMemory → result ≡ 3 }
     ensures other { error_kind error.now ≢ OutOfMemory → result ≡ 2 }
-    ensures memory_told { error_kind error.now ≡ OutOfMemory → Tells (E.output errors.old) (E.output errors.new) (fault_text RunFault.NoMemory) }
+    ensures memory_told { error_kind error.now ≡ OutOfMemory → Tells (E.output errors.old) (E.output errors.new) (run_fault_text RunFault.NoMemory) }
     ensures other_told { error_kind error.now ≢ OutOfMemory → Tells (E.output errors.old) (E.output errors.new) (codes "rh_desk: a word is not text\n") }
 {
     let ending = if error.kind() == io::ErrorKind::OutOfMemory {
