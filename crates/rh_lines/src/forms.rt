@@ -11,8 +11,14 @@ ghost use Rattle.rh_defs.specs.Line.{name_at, number_at, delta_at, is_address, h
 use crate::hex_digits::{are_hex_digits, hex_bytes, hex_number};
 use crate::words::Words;
 use arrayvec::ArrayVec;
-use rh_defs::sizes::GREATEST_NUMBER;
+use rh_defs::sizes::{ANCHORS, GREATEST_NUMBER};
 use rh_defs::{Anchor, Bytes, Leaf, LineFault, Name};
+
+/// A number has at most so many decimal digits.
+const MOST_DIGITS: usize = 10;
+
+/// An address has at most so many hexadecimal digits.
+const MOST_HEX_DIGITS: usize = 8;
 
 /// Word `n` as a name: an ASCII letter, and then up to 11 ASCII letters or digits.
 #[tactic(auto, unfolding(rh_defs::specs::Line::name_at))]
@@ -33,7 +39,7 @@ pub fn anchor_at(words: &Words<'_>, n: u8) -> Result<Anchor, LineFault>
     ensures means { result ≡ number_at words.now n 0 63 }
     ensures form { IfOk result (λ anchor. IsTrue (is_anchor anchor)) }
 {
-    let anchor = number_at(words, n, 0, 63)?;
+    let anchor = number_at(words, n, 0, ANCHORS as u32 - 1)?;
     Ok(Anchor(anchor as u8))
 }
 
@@ -97,7 +103,7 @@ fn signed(is_negative: bool, magnitude: u32) -> i32
 fn decimal(word: &[u8]) -> Option<u64>
     ensures { result ≡ (if is_decimal word.now then Some (number_of word.now) else None) }
 {
-    if !has_digits(word) || word.is_empty() || word.len() > 10 {
+    if !has_digits(word) || word.is_empty() || word.len() > MOST_DIGITS {
         return None;
     }
     Some(number_of(word))
@@ -127,8 +133,10 @@ pub fn address_at(words: &Words<'_>, n: u8) -> Result<u32, LineFault>
     ensures { result ≡ address_at words.now n }
 {
     match words.word(n) {
-        [b'&', digits @ ..] if !digits.is_empty() && digits.len() <= 8 && are_hex_digits(digits) =>
-            { Ok(hex_number(digits)) }
+        [b'&', digits @ ..]
+            if !digits.is_empty() && digits.len() <= MOST_HEX_DIGITS && are_hex_digits(digits) => {
+            Ok(hex_number(digits))
+        }
         _ => Err(LineFault::Word(n)),
     }
 }
