@@ -27,6 +27,7 @@ use Rattle.rh_slot.proofs.Ranges.{heap-part}
 use Rattle.rh_slot.proofs.LeaveLaws.{leaves, refuses}
 use Rattle.rh_tasks.specs.Polls.{AreFirst, slot_append}
 use Rattle.rh_tasks.proofs.Chains.{begins, ends, not-refused, lt-false}
+use Rattle.rh_tasks.proofs.Portions.{sized}
 use Rattle.rh_tasks.proofs.Leaves.{changed, unchanged}
 use Rattle.rh_tasks.proofs.Frames.{Stay, bytes-stay}
 
@@ -72,14 +73,6 @@ block-has k s b e = elim (find k s.blocks) [
       subst (Has k s) same has)
 ]
 
-pub sized-block : (k : ℕ) (s : Slot) (n : ℕ) → Ok n ≡ slot_size k s → (b : Split Flex) × ((slot_block k s ≡ Ok b) × (n ≡ length b.here.bytes))
-unfolding slot_size ◌>>=◌
-sized-block k s n e = go (slot_block k s) refl e
-  where
-    go : (g : Granted (Split Flex)) → slot_block k s ≡ g → Ok n ≡ (g >>= λ b. Ok (length b.here.bytes)) → (b : Split Flex) × ((slot_block k s ≡ Ok b) × (n ≡ length b.here.bytes))
-    go (Ok b) h e = (b, (h, cc))
-    go (Err r) h e = absurd cc
-
 -- ---- a longer block
 
 extended-is : (free k n : ℕ) (s t : Slot) (b : Split Flex) → slot_block k s ≡ Ok b → slot_extend free k n s ≡ Ok t → t ≡ with_bytes b (fitted n b.here.bytes) s
@@ -93,21 +86,21 @@ extended-is free k n s t b e h = go (lacks_room free (length_with b n s) s) (sym
 -- the C heap stays
 pub extended-heap : (free k n size : ℕ) (s t : Slot) → Ok size ≡ slot_size k s → slot_extend free k n s ≡ Ok t → t.heap ≡ s.heap
 extended-heap free k n size s t e h =
-    let b = sized-block k s size e in
-    ap (λ (x : Slot). x.heap) (extended-is free k n s t b.0 b.1.0 h)
+    let b = sized {k = k} {n = size} {s = s} e in
+    ap (λ (x : Slot). x.heap) (extended-is free k n s t b.cut b.block h)
 
 -- it has room behind its bytes
 pub extended-fits : (free k size : ℕ) (xs : List ℕ) (s t : Slot) → Ok size ≡ slot_size k s → slot_extend free k (size + length xs) s ≡ Ok t → IsOk (slot_put k size xs t)
 unfolding slot_put ◌>>=◌
 extended-fits free k size xs s t e h =
-    let b = sized-block k s size e in
-    let old = block-has k s b.0 b.1.0 in
-    let longer : List ℕ = fitted (size + length xs) b.0.here.bytes in
-    let c : Split Flex = record { before = b.0.before; here = record { anchor = b.0.here.anchor; bytes = longer }; after = b.0.after } in
-    let has : Has k (with_bytes b.0 longer s) c = record { is = refl; free = old.free; anchor = old.anchor } in
+    let b = sized {k = k} {n = size} {s = s} e in
+    let old = block-has k s b.cut b.block in
+    let longer : List ℕ = fitted (size + length xs) b.cut.here.bytes in
+    let c : Split Flex = record { before = b.cut.before; here = record { anchor = b.cut.here.anchor; bytes = longer }; after = b.cut.after } in
+    let has : Has k (with_bytes b.cut longer s) c = record { is = refl; free = old.free; anchor = old.anchor } in
     let P : Slot → Type 0 = λ x. IsOk (slot_put k size xs x) in
-    subst P (sym (extended-is free k (size + length xs) s t b.0 b.1.0 h))
-    (rw (has-block c has) (not-refused _ BadRange _ (lt-false (length longer) (size + length xs) (omega (arith, length-fitted (size + length xs) b.0.here.bytes)))))
+    subst P (sym (extended-is free k (size + length xs) s t b.cut b.block h))
+    (rw (has-block c has) (not-refused _ BadRange _ (lt-false (length longer) (size + length xs) (omega (arith, length-fitted (size + length xs) b.cut.here.bytes)))))
 
 -- ---- what is put at a block's end
 
@@ -123,14 +116,14 @@ module _ (free k size : ℕ) (xs : List ℕ) (s : Slot) (e : Ok size ≡ slot_si
   pub append-full : (r : Refusal) → slot_extend free k (size + length xs) s ≡ Err r → slot_append free k xs s ≡ Err r
   unfolding slot_append
   append-full r h =
-      let b = sized-block k s size e in
-      begins _ b.1.0 (ends _ (ap (λ n. slot_extend free k (n + length xs) s) (sym b.1.1) ∙ h))
+      let b = sized {k = k} {n = size} {s = s} e in
+      begins _ b.block (ends _ (ap (λ n. slot_extend free k (n + length xs) s) (sym b.long) ∙ h))
 
   pub append-done : (t u : Slot) → slot_extend free k (size + length xs) s ≡ Ok t → slot_put k size xs t ≡ Ok u → slot_append free k xs s ≡ Ok u
   unfolding slot_append
   append-done t u h p =
-      let b = sized-block k s size e in
-      begins _ b.1.0 (begins _ (ap (λ n. slot_extend free k (n + length xs) s) (sym b.1.1) ∙ h) (ap (λ n. slot_put k n xs t) (sym b.1.1) ∙ p))
+      let b = sized {k = k} {n = size} {s = s} e in
+      begins _ b.block (begins _ (ap (λ n. slot_extend free k (n + length xs) s) (sym b.long) ∙ h) (ap (λ n. slot_put k n xs t) (sym b.long) ∙ p))
 
 -- ---- bytes of the C heap
 

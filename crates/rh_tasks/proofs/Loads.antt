@@ -1,5 +1,5 @@
 -- A file loaded into a new block.
-use Rattle.std.proofs.Common.{◌≡◌, ℕ, ◌+◌, ◌≤◌, Bool, true, false, refl, ap, sym, subst, ◌∙◌, arith, List, [], length}
+use Rattle.std.proofs.Common.{◌≡◌, ℕ, ◌+◌, ◌≤◌, true, false, refl, ap, sym, subst, ◌∙◌, arith, List, [], length}
 use Rattle.std.specs.Prelude.{Option, Some, None, find, Ok, Err, IsOk}
 use Rattle.std.specs.Option.{option_map}
 use Rattle.std.specs.Str.{bytes_eq}
@@ -11,7 +11,7 @@ use Rattle.rh_defs.specs.declared.refusal.Refusal.{Refusal}
 use Rattle.rh_defs.specs.declared.refusal.Refusal.TheVariants.{NoFile, BadRange}
 use Rattle.rh_defs.specs.declared.reply.Reply.TheVariants as reply
 use Rattle.rh_defs.specs.declared.command.Command.TheVariants as command
-use Rattle.rh_defs.specs.Chain.{Granted, ◌>>=◌, refuse_if, found_or, no_answer, answer_of}
+use Rattle.rh_defs.specs.Chain.{Granted, ◌>>=◌, found_or, no_answer, answer_of}
 use Rattle.rh_defs.specs.Range.{in_range}
 use Rattle.rh_defs.specs.Pieces.{zeros}
 use Rattle.rh_defs.specs.Slot.{Slot, weight, flex_start, is_used, with_block, slot_alloc, slot_put, slot_block}

@@ -1,5 +1,5 @@
 -- Transfers by way of the scrap file, on desks.
-use Rattle.std.proofs.Common.{◌≡◌, ℕ, zero, suc, ◌+◌, ◌-◌, ◌*◌, ◌<◌, ◌≤◌, Bool, true, false, refl, ap, sym, subst, ◌∙◌, arith, List, [], ◌∷◌, length}
+use Rattle.std.proofs.Common.{◌≡◌, ℕ, ◌+◌, ◌-◌, ◌*◌, ◌<◌, ◌≤◌, Bool, true, false, refl, ap, sym, subst, ◌∙◌, arith, List, length}
 use Rattle.std.specs.Prelude.{Option, Some, None, Result, Ok, Err, IsOk, is_some, not, nat_lt, ◌==◌, slice_get, slice_index}
 use Rattle.std.proofs.lemmas.Bool.Decides.{nat_tests}
 use Rattle.std.proofs.lemmas.Option.{slice_get_within}
@@ -35,7 +35,7 @@ use Rattle.rh_tasks.proofs.Fixed.{total-set}
 use Rattle.rh_tasks.proofs.Places.{edited-at, edited-is, reordered-at, same-at, one-at}
 use Rattle.rh_tasks.proofs.Reorders.{reordered-refl, edit-alike}
 use Rattle.rh_tasks.proofs.SendRooms.{send-fits, send-lacks}
-use Rattle.rh_tasks.proofs.Scraps.{HasSource, source-of}
+use Rattle.rh_tasks.proofs.Portions.{Sized, sized, unsized}
 
 -- ---- desks that differ in the order of messages alone
 
@@ -225,21 +225,13 @@ pub free-wider : (more : ℕ) (d : Desk) → IsDesk d → free_pages (wider more
 free-wider more d is =
     omega (arith, is.pages, total-set d.areas scrap_area (slice_index d.areas scrap_area + more) (omega (arith, is.areas.six)))
 
-pub size-missing : (k : ℕ) (s : Slot) {r : Refusal} → slot_size k s ≡ Err r → slot_block k s ≡ Err r
-unfolding slot_size ◌>>=◌
-size-missing k s {r} e = go (slot_block k s) e
-  where
-    go : (b : Granted (Split Flex)) → (b >>= (λ c. let x : Granted ℕ = Ok (length c.here.bytes) in x)) ≡ Err r → b ≡ Err r
-    go (Ok c) h = absurd cc
-    go (Err q) h = let same : q ≡ r = cc in ap (λ x. Err x) same
-
 module _ (d : Desk) (t : Task) (m : Parcel) (x : Sending) where
   pub save-missing : {r : Refusal} → slot_size x.anchor t.slot ≡ Err r → scrapped d t m x ≡ Err r
-  save-missing e = ends _ (size-missing x.anchor t.slot e)
+  save-missing e = ends _ (unsized x.anchor t.slot (sym e))
 
   module _ (n : ℕ) (given : slot_size x.anchor t.slot ≡ Ok n) where
-    pub source : HasSource x.anchor n t.slot
-    source = source-of x.anchor n t.slot given
+    pub source : Sized x.anchor n t.slot
+    source = sized (sym given)
 
     abbrev pub letter : Letter
     letter = load_letter t.handle m n
@@ -262,7 +254,7 @@ module _ (d : Desk) (t : Task) (m : Parcel) (x : Sending) where
 
     steps-are : scrapped d t m x ≡ steps n
     unfolding save_scrap
-    steps-are = begins _ source.is (ap steps source.long)
+    steps-are = begins _ source.block (ap steps (sym source.long))
 
     pub save-busy : is_some d.scrap ≡ true → scrapped d t m x ≡ Err Busy
     save-busy busy = steps-are ∙ stops _ _ _ busy
@@ -304,7 +296,7 @@ sends-ok l old new (Err e) s is = absurd (let h : IsOk (let x : Granted Desk = E
 
 module _ (d : Desk) (i : ℕ) (t : Task) (is : IsDesk d) (at : IsAt i t d) (m : Parcel) (x : Sending) (n : ℕ) (given : slot_size x.anchor t.slot ≡ Ok n)
     (l : Letter) (same : l ≡ load_letter t.handle m n) where
-  abbrev there : HasSource x.anchor n t.slot
+  abbrev there : Sized x.anchor n t.slot
   there = source d t m x n given
 
   own : l.from ≡ t.handle
@@ -350,7 +342,7 @@ module _ (d : Desk) (i : ℕ) (t : Task) (is : IsDesk d) (at : IsAt i t d) (m : 
       module _ {third : Desk} (load : ℕ) (filled : (v : Task) (b : Split Flex) → IsAt i v second → slot_block x.anchor v.slot ≡ Ok b
           → third ≡ (let y : Desk = record second { scrap = Some (record { load = load; bytes = b.here.bytes }) } in y)) where
         third-is : third ≡ (let y : Desk = record second { scrap = Some (record { load = load; bytes = there.cut.here.bytes }) } in y)
-        third-is = filled u there.cut second-at there.is
+        third-is = filled u there.cut second-at there.block
 
         third-at : IsAt i u third
         third-at = same-at second third i u (ap (λ (x : Desk). x.tasks) third-is) second-at

@@ -30,12 +30,12 @@ use Rattle.rh_tasks.specs.View.{Kept, the_module, HasSlot, pages_at, fixed_pages
 use Rattle.rh_tasks.specs.Shown.{Shown}
 use Rattle.rh_tasks.specs.Polls.{IsAt, Becomes, slot_append}
 use Rattle.rh_tasks.proofs.Lists.{Sits, cons, all-at, avoids-below}
-use Rattle.rh_tasks.proofs.Chains.{begins}
 use Rattle.rh_tasks.proofs.Frames.{Stay, pages-stay, tasks-stay, mades-stay, module-stays, post-stays, queue-stays}
 use Rattle.rh_tasks.proofs.Worlds.{free-is, same-desk}
 use Rattle.rh_tasks.proofs.Posts.{is-post}
 use Rattle.rh_tasks.proofs.Fixed.{KeepsFirst, fixed-at, fixed-desk, fixed-world, changed-areas, pages-of}
 use Rattle.rh_tasks.proofs.AreaCommands.{file-length}
+use Rattle.rh_tasks.proofs.Portions.{Sized, sized, addressed}
 use Rattle.rh_tasks.proofs.Appends.{sized-anchor}
 use Rattle.rh_tasks.proofs.Buffers.{seat-task, appended-becomes}
 
@@ -128,20 +128,6 @@ module _ {m : Memory} {seats : List Seat} {made : List MadeArea} {files : FileLi
 
 -- ---- a block becomes the scrap file
 
--- the anchor's block has so many bytes
-pub record HasSource (k size : ℕ) (s : plain.Slot) : Type 0 where
-  pub cut : Split Flex
-  pub is : slot_block k s ≡ Ok cut
-  pub long : length cut.here.bytes ≡ size
-
-pub source-of : (k size : ℕ) (s : plain.Slot) → slot_size k s ≡ Ok size → HasSource k size s
-unfolding slot_size ◌>>=◌
-source-of k size s e = go (slot_block k s) refl e
-  where
-    go : (b : Granted (Split Flex)) → slot_block k s ≡ b → (b >>= (λ c. Ok (length c.here.bytes))) ≡ Ok size → HasSource k size s
-    go (Ok c) q h = record { cut = c; is = q; long = cc }
-    go (Err r) q h = absurd cc
-
 module _ {m : Memory} {seats : List Seat} {made : List MadeArea} {files : FileList} {kept : Kept} {i : ℕ} {s : Seat}
     (w : IsWorld m seats made files kept) (at : Sits seats i s) (k size load : ℕ) (given : slot_size k (slot_in m s.slot) ≡ Ok size) where
   abbrev pub z : plain.Slot
@@ -150,15 +136,14 @@ module _ {m : Memory} {seats : List Seat} {made : List MadeArea} {files : FileLi
   has : IsSlot m s.slot
   has = all-at (HasSlot m) seats i s w.areas.slots at
 
-  pub source : HasSource k size z
-  source = source-of k size z given
+  pub source : Sized k size z
+  source = sized (sym given)
 
   pub source-anchor : k < 64
   source-anchor = sized-anchor k size z (sym given) has.spells.words.anchors
 
   pub source-address : slot_address k z ≡ Ok (flex_address z source.cut.before)
-  unfolding slot_address
-  source-address = begins _ source.is refl
+  source-address = addressed source
 
   pub source-given : {r : Granted ℕ} → r ≡ slot_address k z → IsOk r
   source-given e = let q = e ∙ source-address in rw q refl
@@ -171,7 +156,7 @@ module _ {m : Memory} {seats : List Seat} {made : List MadeArea} {files : FileLi
     source-high = omega (arith, place-is)
 
     stands : Standing (bytes m s.slot.area.0) (take size (drop 0 source.cut.here.bytes)) (flex_address z source.cut.before + 0 - slot_start) size (flex_place z) (length (bytes m s.slot.area.0))
-    stands = flex-part m s.slot k 0 size source.cut has source.is (omega (arith, source.long))
+    stands = flex-part m s.slot k 0 size source.cut has source.block (omega (arith, source.long))
 
     pub source-inside : address - 32768 + size ≤ length (bytes m s.slot.area.0)
     source-inside = omega (arith, stands.high, place-is)
@@ -214,7 +199,7 @@ module _ {m : Memory} {seats : List Seat} {made : List MadeArea} {files : FileLi
           → desk_of filled seats made files (record kept { scrap = file }) ≡ (let e : Desk = record (desk_of m seats made files kept) { scrap = Some (record { load = load; bytes = b.here.bytes }) } in e)
       unfolding scrap_of
       filled-desk b is =
-          let same : source.cut ≡ b = (let q = sym source.is ∙ is in cc) in
+          let same : source.cut ≡ b = (let q = sym source.block ∙ is in cc) in
           rewritten-desk w only (ap (λ b. length b) bytes-then ∙ length-same) file
           ∙ ap (λ (b : List ℕ). let e : Desk = record (desk_of m seats made files kept) { scrap = Some (record { load = load; bytes = b }) } in e) (first-are ∙ ap (λ (b : Split Flex). b.here.bytes) same)
 
