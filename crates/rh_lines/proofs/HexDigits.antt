@@ -1,22 +1,18 @@
 -- Hexadecimal digits by a table, and the bytes that pairs of them spell.
-use Rattle.std.proofs.Common.{◌≡◌, ℕ, zero, suc, ◌+◌, ◌*◌, ◌%◌, ◌<◌, ◌≤◌, Bool, true, false, cond, eqb, ◌&&◌, List, [], ◌∷◌, ◌++◌, length, get_or, unwrap_or, Option, Some, None, Result, Ok, Err, refl, sym, ◌∙◌, ap, arith, rules, ◌⊎◌, inl, inr, subst, take, drop, ◌-◌, append_assoc, append-nil, ◌≢◌}
+use Rattle.std.proofs.Common.{◌≡◌, ℕ, ◌+◌, ◌*◌, ◌%◌, ◌<◌, ◌≤◌, Bool, true, false, eqb, List, [], ◌∷◌, ◌++◌, length, get_or, unwrap_or, Option, Some, None, Result, Ok, Err, refl, sym, ◌∙◌, ap, arith, take, drop, ◌-◌, append_assoc, append-nil, ◌≢◌}
 use Rattle.std.proofs.lemmas.List.{take_rest}
 use Rattle.std.specs.Option.{option_map}
 use Rattle.std.specs.Result.{result_ok}
-use borrow.Author.Tests.{tests}
 use Rattle.hex.specs.Hex.{decode_of, decode_pairs, pair_value, hex_digit_value, ◌>>=◌}
 use Rattle.hex.proofs.HexLemmas.{decode_pairs-ok}
 use Rattle.hex.specs.declared.error.FromHexError.{FromHexError}
 use Rattle.rh_lines.specs.declared.hex_digits.TheConstants.{VALUES}
-use Rattle.rh_lines.proofs.Tables.{agrees_at}
+use Rattle.rh_lines.proofs.Tables.{agrees_at, same_number}
 
 -- ---- the table
 
 pub digit_value-is : (c : ℕ) → c < 256 → get_or VALUES c 0 ≡ unwrap_or (hex_digit_value c) 255
 digit_value-is c lt = agrees_at VALUES (λ c. unwrap_or (hex_digit_value c) 255) 256 c refl lt
-
-same_number : (a b : ℕ) → eqb a b ≡ true → a ≡ b
-same_number a b e = search (rules, tests)
 
 -- ---- pairs of digits
 

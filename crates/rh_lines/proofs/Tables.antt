@@ -11,7 +11,7 @@ both : (a b : Bool) → (a && b) ≡ true → (a ≡ true) × (b ≡ true)
 both true b e = (refl, e)
 both false b e = absurd (cc)
 
-same_number : (a b : ℕ) → eqb a b ≡ true → a ≡ b
+pub same_number : (a b : ℕ) → eqb a b ≡ true → a ≡ b
 same_number a b e = search (rules, tests)
 
 below_or_at : (c n : ℕ) → c < suc n → (c < n) ⊎ (n ≡ c)
