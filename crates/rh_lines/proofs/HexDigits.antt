@@ -1,47 +1,18 @@
--- Hexadecimal digits by tables, and the bytes that pairs of them spell.
-use Rattle.std.proofs.Common.{◌≡◌, ℕ, zero, suc, ◌+◌, ◌*◌, ◌%◌, ◌<◌, ◌≤◌, Bool, true, false, eqb, ◌&&◌, List, [], ◌∷◌, ◌++◌, length, get_or, unwrap_or, Option, Some, None, Result, Ok, Err, refl, sym, ◌∙◌, ap, arith, rules, ◌⊎◌, inl, inr, subst, take, drop, ◌-◌, append_assoc, append-nil, ◌≢◌}
+-- Hexadecimal digits by a table, and the bytes that pairs of them spell.
+use Rattle.std.proofs.Common.{◌≡◌, ℕ, ◌+◌, ◌*◌, ◌%◌, ◌<◌, ◌≤◌, Bool, true, false, eqb, List, [], ◌∷◌, ◌++◌, length, get_or, unwrap_or, Option, Some, None, Result, Ok, Err, refl, sym, ◌∙◌, ap, arith, take, drop, ◌-◌, append_assoc, append-nil, ◌≢◌}
 use Rattle.std.proofs.lemmas.List.{take_rest}
 use Rattle.std.specs.Option.{option_map}
 use Rattle.std.specs.Result.{result_ok}
-use borrow.Author.Tests.{tests}
 use Rattle.hex.specs.Hex.{decode_of, decode_pairs, pair_value, hex_digit_value, ◌>>=◌}
 use Rattle.hex.proofs.HexLemmas.{decode_pairs-ok}
 use Rattle.hex.specs.declared.error.FromHexError.{FromHexError}
 use Rattle.rh_lines.specs.declared.hex_digits.TheConstants.{VALUES}
+use Rattle.rh_lines.proofs.Tables.{agrees_at, same_number}
 
--- ---- tables
-
--- the first n entries are those of f
-abbrev pub agrees : List ℕ → (ℕ → ℕ) → ℕ → Bool
-agrees table f zero = true
-agrees table f (suc n) = eqb (get_or table n 0) (f n) && agrees table f n
-
-both : (a b : Bool) → (a && b) ≡ true → (a ≡ true) × (b ≡ true)
-both true b e = (refl, e)
-both false b e = absurd (cc)
-
-same_number : (a b : ℕ) → eqb a b ≡ true → a ≡ b
-same_number a b e = search (rules, tests)
-
-below_or_at : (c n : ℕ) → c < suc n → (c < n) ⊎ (n ≡ c)
-below_or_at c n lt = grind arith
-
-agrees_next : (table : List ℕ) (f : ℕ → ℕ) (n c : ℕ) → (agrees table f n ≡ true → c < n → get_or table c 0 ≡ f c) → (get_or table n 0 ≡ f n) × (agrees table f n ≡ true) → (c < n) ⊎ (n ≡ c) → get_or table c 0 ≡ f c
-agrees_next table f n c before h (inl lt) = before h.1 lt
-agrees_next table f n c before h (inr e) =
-    let P : ℕ → Type 0 = λ k. get_or table k 0 ≡ f k in subst P e h.0
-
-pub agrees_at : (table : List ℕ) (f : ℕ → ℕ) (n c : ℕ) → agrees table f n ≡ true → c < n → get_or table c 0 ≡ f c
-agrees_at table f zero c h lt = absurd (omega arith)
-agrees_at table f (suc n) c h lt =
-    let both_are = both (eqb (get_or table n 0) (f n)) (agrees table f n) h in
-    agrees_next table f n c (agrees_at table f n c) (same_number (get_or table n 0) (f n) both_are.0, both_are.1) (below_or_at c n lt)
-
-values_agree : agrees VALUES (λ c. unwrap_or (hex_digit_value c) 255) 256 ≡ true
-values_agree = refl
+-- ---- the table
 
 pub digit_value-is : (c : ℕ) → c < 256 → get_or VALUES c 0 ≡ unwrap_or (hex_digit_value c) 255
-digit_value-is c lt = agrees_at VALUES (λ c. unwrap_or (hex_digit_value c) 255) 256 c values_agree lt
+digit_value-is c lt = agrees_at VALUES (λ c. unwrap_or (hex_digit_value c) 255) 256 c refl lt
 
 -- ---- pairs of digits
 

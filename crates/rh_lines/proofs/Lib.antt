@@ -3,4 +3,5 @@ pub mod WordLemmas
 pub mod SplitLemmas
 pub mod DigitLemmas
 pub mod LineLemmas
+pub mod Tables
 pub mod HexDigits

@@ -4,6 +4,7 @@
 
 mod areas;
 mod counts;
+mod digit_pairs;
 mod flagged;
 mod flex;
 mod forms;

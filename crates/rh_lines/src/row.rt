@@ -4,6 +4,7 @@ ghost use Rattle.std.specs.Prelude.{◌≡◌, ◌≤◌, ◌<◌, ◌+◌, ◌/
 ghost use Rattle.std.specs.Fmt.{decimal, digits, digit_glyph};
 ghost use Rattle.rh_defs.specs.Text.{address};
 
+use crate::digit_pairs::{decimal_pair, hex_pair};
 use std::marker::Model;
 
 /// A line of up to 96 bytes while it is built, which takes no memory.
@@ -162,7 +163,8 @@ impl Row {
         requires few { number < 100 }
         ensures { self.new ≡ self.old ++ (48 + number / 10) ∷ (48 + number % 10) ∷ [] }
     {
-        self.pair(b'0' + (number / 10) as u8, b'0' + (number % 10) as u8);
+        let (tens, ones) = decimal_pair(number);
+        self.pair(tens, ones);
     }
 
     /// Adds an address.
@@ -218,7 +220,7 @@ impl Row {
         ensures few { length self.new ≤ length self.old + 2 }
     {
         if number < 16 {
-            self.byte(hex_glyph(number));
+            self.byte(hex_pair(number).1);
         } else {
             self.two_hex_digits(number);
         }
@@ -231,18 +233,7 @@ impl Row {
         requires few { number < 256 }
         ensures { self.new ≡ self.old ++ digit_glyph true (number / 16) ∷ digit_glyph true (number % 16) ∷ [] }
     {
-        self.pair(hex_glyph(number / 16), hex_glyph(number % 16));
+        let (high, low) = hex_pair(number);
+        self.pair(high, low);
     }
-}
-
-/// The glyph of each hexadecimal digit.
-const GLYPHS: [u8; 16] = [
-    b'0', b'1', b'2', b'3', b'4', b'5', b'6', b'7', b'8', b'9', b'A', b'B', b'C', b'D', b'E', b'F',
-];
-
-fn hex_glyph(digit: u32) -> u8
-    requires { digit < 16 }
-    ensures { result ≡ digit_glyph true digit }
-{
-    GLYPHS[digit as usize]
 }
