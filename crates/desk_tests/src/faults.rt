@@ -173,6 +173,37 @@ fn a_full_output_is_a_fault(rt: HostRuntime) -> Result<(), Fail> {
     Ok(())
 }
 
+/// The exit status where nothing can be told.
+fn status_untold(rt: &HostRuntime, words: &[&str], input: &[u8]) -> Result<u8, AllocError> {
+    let alloc: Global = rt.alloc();
+    let all = all_words(alloc, words)?;
+    let status = program(
+        rt,
+        alloc,
+        all.as_slice(),
+        &mut Flagged::new(input),
+        &mut Flagged::new(Vec::<u8>::new(alloc)),
+        &mut Flagged::new(Full),
+    );
+    Ok(status)
+}
+
+#[test]
+fn the_status_is_had_where_nothing_can_be_told(rt: HostRuntime) -> Result<(), Fail> {
+    for (words, wanted) in [
+        ([].as_slice(), 1),
+        (["walk"].as_slice(), 2),
+        (["run", "-", "logo"].as_slice(), 2),
+        (["run", "lost.desk"].as_slice(), 3),
+        (["run", "-", "a=lost.bin"].as_slice(), 3),
+        (["check", "lost.bin"].as_slice(), 3),
+    ] {
+        let status = status_untold(&rt, words, b"tsk\n")?;
+        same(&rt, (words, status), (words, wanted));
+    }
+    Ok(())
+}
+
 #[test]
 fn words_that_are_not_text_are_told(rt: HostRuntime) {
     let mut errors = Flagged::new(Vec::<u8>::new(rt.alloc()));

@@ -81,6 +81,38 @@ fn files_are_loaded_by_their_names(rt: HostRuntime) -> Result<(), Fail> {
 }
 
 #[test]
+fn each_file_has_its_own_bytes(rt: HostRuntime) -> Result<(), Fail> {
+    fs::write(&rt, "1.bin", "one")?;
+    fs::write(&rt, "2.bin", "two")?;
+    fs::write(&rt, "3.bin", "six")?;
+    for words in [
+        ["run", "-", "a=1.bin", "b=2.bin", "c=3.bin"].as_slice(),
+        ["run", "-", "a=1.bin", "--pages", "9", "b=2.bin", "c=3.bin"].as_slice(),
+    ] {
+        let script =
+            b"task a 100\nload a 0 a\nload a 1 b\nload a 2 c\nshow a 0\nshow a 1\nshow a 2\n";
+        let loaded = ended(&rt, words, script)?;
+        let bytes = b"ok 3 6f6e65\nok 3 74776f\nok 3 736978\n";
+        let ends = loaded.output.as_slice().ends_with(bytes.as_slice());
+        same(&rt, (words, ends), (words, true));
+        same(&rt, (words, loaded.status), (words, 0));
+    }
+    fs::remove_file(&rt, "1.bin")?;
+    fs::remove_file(&rt, "2.bin")?;
+    fs::remove_file(&rt, "3.bin")?;
+    Ok(())
+}
+
+#[test]
+fn a_file_that_cannot_be_read_is_told(rt: HostRuntime) -> Result<(), Fail> {
+    for words in [["check", "."].as_slice(), ["run", "-", "a=."].as_slice()] {
+        let folder = ended(&rt, words, b"areas\n")?;
+        is_told(&rt, &folder, "rh_desk: file .\n", 3);
+    }
+    Ok(())
+}
+
+#[test]
 fn files_are_loaded_whole(rt: HostRuntime) -> Result<(), Fail> {
     let alloc: Global = rt.alloc();
     let mut bytes = Vec::new(alloc);

@@ -86,6 +86,14 @@ fn wrong_words_are_told(rt: HostRuntime) -> Result<(), Fail> {
         ["run", "--pages", "many", "x"].as_slice(),
         ["check"].as_slice(),
         ["check", "x", "y"].as_slice(),
+        ["--"].as_slice(),
+        ["ru", "-"].as_slice(),
+        ["run", "-p", "9", "-"].as_slice(),
+        ["run", "--page", "9", "-"].as_slice(),
+        ["run", "--pages", "8", "--pages", "9", "-"].as_slice(),
+        ["run", "-x"].as_slice(),
+        ["run", "-", "-x"].as_slice(),
+        ["check", "--pages", "8", "x"].as_slice(),
     ] {
         let wrong = ended(&rt, words, b"")?;
         same(&rt, (words, wrong.status), (words, 2));
@@ -106,6 +114,9 @@ fn help_is_no_mistake(rt: HostRuntime) -> Result<(), Fail> {
         ["--help"].as_slice(),
         ["run", "--help"].as_slice(),
         ["check", "--help"].as_slice(),
+        ["help"].as_slice(),
+        ["help", "run"].as_slice(),
+        ["-h"].as_slice(),
     ] {
         let help = ended(&rt, words, b"")?;
         same(&rt, (words, help.status), (words, 0));
@@ -119,6 +130,41 @@ fn help_is_no_mistake(rt: HostRuntime) -> Result<(), Fail> {
             same(&rt, (words, text, held), (words, text, true));
         }
     }
+    Ok(())
+}
+
+/// The help has each of the texts.
+fn helps(rt: &impl Abort, help: &Outcome, texts: &[&str]) {
+    for text in texts {
+        let held = holds(help.output.as_slice(), text.as_bytes());
+        same(rt, (*text, held), (*text, true));
+    }
+}
+
+#[test]
+fn help_says_what_each_word_is(rt: HostRuntime) -> Result<(), Fail> {
+    let program = [
+        "The memory of a desktop, shared by its tasks",
+        "vervainfile run [--pages N] SCRIPT [NAME=PATH ...]\n",
+        "vervainfile check FILE\n",
+        "  0  each line was good, or the bytes are a heap\n",
+        "  1  a line was bad, or the bytes are no heap\n",
+        "  2  the words are wrong\n",
+        "  3  a file, read, write, length or memory fault\n",
+    ];
+    helps(&rt, &ended(&rt, &["--help"], b"")?, program.as_slice());
+    let run = [
+        "Pages of the desk, 8 to 1024 [default: 64]",
+        "The script, a command a line; - for standard input",
+        "Files that the script may load, each by a name",
+    ];
+    helps(&rt, &ended(&rt, &["run", "--help"], b"")?, run.as_slice());
+    let check = ["The bytes of a heap, 1048576 at most"];
+    helps(
+        &rt,
+        &ended(&rt, &["check", "--help"], b"")?,
+        check.as_slice(),
+    );
     Ok(())
 }
 
@@ -268,6 +314,24 @@ fn the_input_is_run_for_a_hyphen(rt: HostRuntime) -> Result<(), Fail> {
         paged.output.as_slice().starts_with(b"ok 8\n".as_slice()),
     );
     same(&rt, paged.status, 0);
+    Ok(())
+}
+
+#[test]
+fn a_script_may_begin_with_a_hyphen(rt: HostRuntime) -> Result<(), Fail> {
+    let lost = ended(&rt, &["run", "--", "-x"], b"areas\n")?;
+    is_told(&rt, &lost, "rh_desk: file -x\n", 3);
+    Ok(())
+}
+
+#[test]
+fn pages_are_asked_for_anywhere(rt: HostRuntime) -> Result<(), Fail> {
+    for words in [
+        ["run", "--pages=9", "-"].as_slice(),
+        ["run", "-", "--pages", "9"].as_slice(),
+    ] {
+        begins(&rt, words, &ended(&rt, words, b"areas\n")?, "ok 8\n");
+    }
     Ok(())
 }
 
