@@ -12,9 +12,11 @@ ghost use Rattle.rh_region.specs.Zeros.{zeros};
 mod raw;
 
 use crate::raw::Block;
-use rh_defs::sizes::PAGE;
 use std::alloc::{AllocError, Global};
 use std::marker::Model;
+
+/// The bytes of a page.
+pub const PAGE: usize = 4096;
 
 /// A fixed number of pages of bytes, freed when it is dropped. Callers see it as the list of its bytes, and an address
 /// is an index into that list, from 0. Words need no alignment.

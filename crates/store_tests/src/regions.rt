@@ -1,7 +1,6 @@
 //! The region's calls, at bytes that were worked out by hand.
 use crate::same::same;
-use rh_defs::sizes::PAGE;
-use rh_region::Region;
+use rh_region::{PAGE, Region};
 use std::alloc::AllocError;
 use std::process::Abort;
 use std::test::Fail;
