@@ -1,6 +1,7 @@
 //! The program's words.
 
 ghost use Rattle.std.specs.Prelude.{◌≤◌};
+ghost use Rattle.rh_defs.specs.declared.sizes.TheConstants.{MAX_PAGES, MIN_PAGES};
 
 use clap::{Arg, ArgAction, ArgMatches, Command, Error, value_parser};
 use rh_defs::sizes::{MAX_PAGES, MIN_PAGES};
@@ -34,8 +35,8 @@ pub struct RunRequest<'m, 'a> {
     pub pages: u32,
     pub script: &'a str,
     pub files: &'m [&'a str],
-    ghost fewest: { 8 ≤ pages },
-    ghost most: { pages ≤ 1024 },
+    ghost fewest: { MIN_PAGES ≤ pages },
+    ghost most: { pages ≤ MAX_PAGES },
 }
 
 /// What the words ask for.

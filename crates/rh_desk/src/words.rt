@@ -7,6 +7,7 @@ ghost use Rattle.rh_desk.specs.Telling.{Tells, run_fault_text};
 ghost use Rattle.rh_session.specs.Outcome.{Finished};
 ghost use Rattle.std.specs.IoError.{error_kind};
 ghost use Rattle.std.specs.declared.io.ErrorKind.TheVariants.{OutOfMemory};
+ghost use Rattle.rh_defs.specs.declared.sizes.TheConstants.{MAX_PAGES, MIN_PAGES};
 
 use crate::command_line::{PAGES, Request, RunRequest, parsed, request_of};
 use crate::ending::Ending;
@@ -81,8 +82,8 @@ fn run_told<I: Source, O: Sink, E: Sink>(
     output: &mut O,
     errors: &mut E,
 ) -> Ending
-    requires least { 8 ≤ pages }
-    requires most { pages ≤ 1024 }
+    requires least { MIN_PAGES ≤ pages }
+    requires most { pages ≤ MAX_PAGES }
     requires fresh { (I.input script.old).reads ≡ 0 }
 
     // A run that came to its end.

@@ -5,6 +5,7 @@ ghost use Rattle.std.specs.List.{list_all};
 ghost use Rattle.std.specs.Result.{result_ok};
 ghost use Rattle.hex.specs.Hex.{decode_of, pair_value, hex_digit_value, is_hex_digit};
 ghost use Rattle.rh_defs.specs.Line.{hex_number};
+ghost use Rattle.rh_defs.specs.declared.sizes.TheConstants.{LONGEST_LINE};
 
 use arrayvec::ArrayVec;
 use rh_defs::Bytes;
@@ -66,7 +67,7 @@ fn number_of(digit: u8) -> u8
 
 /// The bytes that up to 1,024 digits spell, two for each byte: none for an odd number of digits or any other byte.
 pub fn hex_bytes(digits: &[u8]) -> Option<Bytes>
-    requires { length digits.now ≤ 1024 }
+    requires { length digits.now ≤ LONGEST_LINE }
     ensures { result ≡ result_ok (decode_of digits.now) }
 {
     let mut bytes = ArrayVec::new();

@@ -3,6 +3,7 @@
 ghost use Rattle.std.specs.Prelude.{◌≡◌, ◌<◌, ◌≤◌, ◌++◌, ◌∷◌, [], length, map, All};
 ghost use Rattle.rh_defs.specs.Line.{words_of, word};
 ghost use Rattle.rh_lines.specs.Words.{first_words, piece_words};
+ghost use Rattle.rh_defs.specs.declared.sizes.TheConstants.{LONGEST_LINE};
 
 use arrayvec::ArrayVec;
 use memchr::memchr;
@@ -19,18 +20,19 @@ pub struct Words<'a> {
 
 impl<'a> Model for Words<'a> {
     ghost use Rattle.std.specs.Prelude.{◌≤◌, ℕ, List, map, length, All};
+    ghost use Rattle.rh_defs.specs.declared.sizes.TheConstants.{LONGEST_LINE};
 
     ghost Value = { List (List ℕ) };
 
     ghost view = { λ s. map (λ w. w.now) s.found.items };
 
-    ghost invariant = { λ s. All (λ w. length w.now ≤ 1024) s.found.items };
+    ghost invariant = { λ s. All (λ w. length w.now ≤ LONGEST_LINE) s.found.items };
 }
 
 impl<'a> Words<'a> {
     /// The words of a line of at most 1,024 bytes.
     pub fn new(line: &'a [u8]) -> Words<'a>
-        requires { length line.now ≤ 1024 }
+        requires { length line.now ≤ LONGEST_LINE }
         ensures { result ≡ first_words line.now }
     {
         let mut found = ArrayVec::new();
@@ -59,7 +61,7 @@ impl<'a> Words<'a> {
     pub fn word(&self, n: u8) -> &'a [u8]
         requires { 0 < n }
         ensures value { result.now ≡ word self.now n }
-        ensures short { length result.now ≤ 1024 }
+        ensures short { length result.now ≤ LONGEST_LINE }
     {
         match self.found.get(n as usize - 1) {
             Some(word) => word,
@@ -71,10 +73,10 @@ impl<'a> Words<'a> {
 /// Adds what stands between two spaces, unless that is nothing.
 fn push_word<'a>(found: &mut ArrayVec<&'a [u8], MOST_WORDS>, piece: &'a [u8])
     requires room { length found.old.items < 6 }
-    requires few { length piece.now ≤ 1024 }
-    requires short { All (λ w. length w.now ≤ 1024) found.old.items }
+    requires few { length piece.now ≤ LONGEST_LINE }
+    requires short { All (λ w. length w.now ≤ LONGEST_LINE) found.old.items }
     ensures items { map (λ w. w.now) found.new.items ≡ map (λ w. w.now) found.old.items ++ piece_words piece.now }
-    ensures short { All (λ w. length w.now ≤ 1024) found.new.items }
+    ensures short { All (λ w. length w.now ≤ LONGEST_LINE) found.new.items }
 {
     if !piece.is_empty() {
         found.push(piece);

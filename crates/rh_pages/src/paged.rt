@@ -2,7 +2,7 @@
 #![tactic(auto, unfolding(rh_defs::specs::Memory::bytes, crate::specs::Paged::memory_of))]
 
 ghost use Rattle.std.specs.Prelude.{◌≤◌};
-ghost use Rattle.rh_defs.specs.declared.sizes.TheConstants.{MAX_AREAS, MAX_PAGES};
+ghost use Rattle.rh_defs.specs.declared.sizes.TheConstants.{MAX_AREAS, MAX_PAGES, PAGE};
 ghost use Rattle.rh_pages.specs.Pages.{IsStore};
 
 mod moves;
@@ -66,7 +66,7 @@ impl PagedStore {
     /// The region that holds the bytes of all areas, 4096 for each page of the store.
     pub fn region(&self) -> &Region
         ensures bytes { result.now ≡ self.now.region }
-        ensures size { length result.now ≡ 4096 * (memory_of self.now).pages }
+        ensures size { length result.now ≡ PAGE * (memory_of self.now).pages }
     {
         &self.region
     }
@@ -75,12 +75,12 @@ impl PagedStore {
     /// It is a multiple of 4096, and no other page has it.
     pub fn place(&self, id: AreaId, i: usize) -> usize
         requires opened { IsOpen (memory_of self.now) id.0 }
-        requires within { 4096 * i < length (bytes (memory_of self.now) id.0) }
+        requires within { PAGE * i < length (bytes (memory_of self.now) id.0) }
         ensures value { result ≡ place_of self.now id.0 i }
-        ensures whole { result % 4096 ≡ 0 }
-        ensures within { result + 4096 ≤ length self.now.region }
-        ensures bytes { part self.now.region result 4096 ≡ part (bytes (memory_of self.now) id.0) (4096 * i) 4096 }
-        ensures apart { (a j : ℕ) → IsOpen (memory_of self.now) a → 4096 * j < length (bytes (memory_of self.now) a) →
+        ensures whole { result % PAGE ≡ 0 }
+        ensures within { result + PAGE ≤ length self.now.region }
+        ensures bytes { part self.now.region result PAGE ≡ part (bytes (memory_of self.now) id.0) (PAGE * i) PAGE }
+        ensures apart { (a j : ℕ) → IsOpen (memory_of self.now) a → PAGE * j < length (bytes (memory_of self.now) a) →
             place_of self.now a j ≡ result → (a ≡ id.0) × (j ≡ i) }
     {
         PAGE * self.areas[id.0 as usize].at(i)

@@ -5,6 +5,7 @@ ghost use Rattle.rh_defs.specs.Runs.{start};
 ghost use Rattle.rh_defs.specs.Script.{ended_text, script_text};
 ghost use Rattle.rh_run.specs.Safely.{RanSafely};
 ghost use Rattle.rh_session.specs.Outcome.{Answered, Finished, BrokeOff};
+ghost use Rattle.rh_defs.specs.declared.sizes.TheConstants.{MAX_PAGES, MIN_PAGES};
 
 use crate::world::PagedWorld;
 use rh_defs::Files;
@@ -21,8 +22,8 @@ pub fn run<R: Source, W: Sink>(
     writer: &mut W,
     pages: u32,
 ) -> Result<Status, RunFault>
-    requires least { 8 ≤ pages }
-    requires most { pages ≤ 1024 }
+    requires least { MIN_PAGES ≤ pages }
+    requires most { pages ≤ MAX_PAGES }
     requires fresh { (R.input reader.old).reads ≡ 0 }
 
     // The whole script was read, and its text was written.

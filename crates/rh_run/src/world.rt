@@ -3,6 +3,7 @@
 ghost use Rattle.std.specs.Prelude.{◌≡◌, ◌≤◌, IfOk};
 ghost use Rattle.rh_defs.specs.Order.{IsReordered};
 ghost use Rattle.rh_defs.specs.Runs.{start};
+ghost use Rattle.rh_defs.specs.declared.sizes.TheConstants.{MAX_PAGES, MIN_PAGES};
 
 use rh_defs::{Command, Files, Reply};
 use rh_lines::{Sink, WriteFailed};
@@ -21,8 +22,8 @@ pub struct PagedWorld {
 impl PagedWorld {
     /// The first desk of 8 to 1,024 pages with these files. No later call takes memory.
     pub fn new(alloc: Global, files: Files, pages: u32) -> Result<Self, AllocError>
-        requires least { 8 ≤ pages }
-        requires most { pages ≤ 1024 }
+        requires least { MIN_PAGES ≤ pages }
+        requires most { pages ≤ MAX_PAGES }
         ensures { IfOk result (λ found. found.world.desk ≡ start pages files) }
     {
         let store = PagedStore::new(alloc, pages as usize)?;

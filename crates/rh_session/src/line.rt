@@ -1,8 +1,9 @@
 //! The line that is being read.
 
-ghost use Rattle.std.specs.Prelude.{◌≡◌, ◌≤◌, [], ◌++◌, length, IfOk};
+ghost use Rattle.std.specs.Prelude.{◌≡◌, ◌+◌, ◌≤◌, [], ◌++◌, length, IfOk};
 ghost use Rattle.rh_defs.specs.Line.{line_means};
 ghost use Rattle.rh_session.specs.Session.{kept};
+ghost use Rattle.rh_defs.specs.declared.sizes.TheConstants.{LONGEST_LINE};
 
 use rh_defs::sizes::LONGEST_LINE;
 use std::alloc::{AllocError, Global};
@@ -18,13 +19,14 @@ pub struct LineBuffer {
 }
 
 impl Model for LineBuffer {
-    ghost use Rattle.std.specs.Prelude.{List, ℕ, ◌≤◌, vec_len, vec_capacity};
+    ghost use Rattle.std.specs.Prelude.{List, ℕ, ◌+◌, ◌≤◌, vec_len, vec_capacity};
+    ghost use Rattle.rh_defs.specs.declared.sizes.TheConstants.{LONGEST_LINE};
 
     ghost Value = { List ℕ };
 
     ghost view = { λ s. s.bytes.items };
 
-    ghost invariant = { λ s. (vec_len s.bytes ≤ 1025) × (1025 ≤ vec_capacity s.bytes) };
+    ghost invariant = { λ s. (vec_len s.bytes ≤ LONGEST_LINE + 1) × (LONGEST_LINE + 1 ≤ vec_capacity s.bytes) };
 }
 
 impl LineBuffer {
@@ -39,7 +41,7 @@ impl LineBuffer {
     /// The bytes that are kept.
     pub fn as_slice(&self) -> &[u8]
         ensures value { result.now ≡ self.now }
-        ensures short { length self.now ≤ 1025 }
+        ensures short { length self.now ≤ LONGEST_LINE + 1 }
     {
         self.bytes.as_slice()
     }
@@ -47,7 +49,7 @@ impl LineBuffer {
     /// More bytes of the line. Those past the 1,025th are not kept: the line is too long anyway.
     pub fn add(&mut self, bytes: &[u8])
         ensures value { self.new ≡ kept (self.old ++ bytes.now) }
-        ensures short { length self.old ≤ 1025 }
+        ensures short { length self.old ≤ LONGEST_LINE + 1 }
     {
         let room = ROOM - self.bytes.len();
         let part = &bytes[..room.min(bytes.len())];

@@ -109,7 +109,7 @@ pub trait Pages: Words {
     /// from then on.
     fn shrink(&mut self, id: AreaId, pages: usize)
         requires opened { IsOpen (Self.memory self.old) id.0 }
-        requires within { 4096 * pages ≤ length (bytes (Self.memory self.old) id.0) }
+        requires within { PAGE * pages ≤ length (bytes (Self.memory self.old) id.0) }
         ensures { Self.memory self.new ≡ shrunk (Self.memory self.old) id.0 pages };
 
     /// How many pages are free.
@@ -120,11 +120,11 @@ pub trait Pages: Words {
     ghost ledger: { (s : Self) → Ledger (Self.memory s) MAX_AREAS };
 
     /// Each area is a whole number of pages.
-    ghost whole: { (s : Self) (id : ℕ) → length (bytes (Self.memory s) id) % 4096 ≡ 0 };
+    ghost whole: { (s : Self) (id : ℕ) → length (bytes (Self.memory s) id) % PAGE ≡ 0 };
 
     /// The free pages and an area's pages together are at most all pages.
     ghost within: { (s : Self) (id : ℕ) →
-        4096 * (Self.memory s).free + length (bytes (Self.memory s) id) ≤ 4096 * (Self.memory s).pages };
+        PAGE * (Self.memory s).free + length (bytes (Self.memory s) id) ≤ PAGE * (Self.memory s).pages };
 
     /// A store has at most 1,024 pages.
     ghost few: { (s : Self) → (Self.memory s).pages ≤ 2 ^ 10 };

@@ -8,6 +8,7 @@ ghost use Rattle.rh_defs.specs.Range.{in_range};
 ghost use Rattle.rh_defs.specs.Commands.{least_length as least_length_on, pages_after as pages_after_on, change_area as change_area_on};
 ghost use Rattle.rh_tasks.specs.Answer.{Gives};
 ghost use Rattle.rh_tasks.specs.View.{pages_at};
+ghost use Rattle.rh_defs.specs.declared.sizes.TheConstants.{PAGE};
 
 use crate::made::find_made;
 use crate::module_blocks::MODULE;
@@ -25,7 +26,7 @@ const SCRAP_AREA: u32 = 5;
 
 /// How many pages hold an amount of bytes, whatever its sign.
 fn pages_of(delta: i32) -> usize
-    ensures { 4096 * result ≡ whole_pages delta }
+    ensures { PAGE * result ≡ whole_pages delta }
 {
     (delta.unsigned_abs() as usize).div_ceil(PAGE)
 }
@@ -63,7 +64,7 @@ fn set_pages<S: Pages>(store: &mut S, area: AreaId, pages: usize)
     requires room { pages ≤ pages_at (S.memory store.old) area.0 + (S.memory store.old).free }
     ensures pages { pages_at (S.memory store.new) area.0 ≡ pages }
     ensures only { OnlyArea (S.memory store.old) (S.memory store.new) area.0 }
-    ensures first { (k : ℕ) → k ≤ length (bytes (S.memory store.old) area.0) → k ≤ 4096 * pages
+    ensures first { (k : ℕ) → k ≤ length (bytes (S.memory store.old) area.0) → k ≤ PAGE * pages
         → take k (bytes (S.memory store.new) area.0) ≡ take k (bytes (S.memory store.old) area.0) }
 {
     let now = store.len(area) / PAGE;

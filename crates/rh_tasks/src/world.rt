@@ -8,6 +8,7 @@ ghost use Rattle.rh_defs.specs.Laws.{IsDesk};
 ghost use Rattle.rh_tasks.specs.Shown.{IsSpelled, IsBalanced, HasApartBlocks};
 ghost use Rattle.rh_tasks.specs.Answer.{RunsOn, StepsTo, reply_of};
 ghost use Rattle.rh_tasks.specs.Start.{IsFurnished};
+ghost use Rattle.rh_defs.specs.declared.sizes.TheConstants.{MAX_PAGES, MIN_PAGES};
 
 use crate::made::MadeArea;
 use crate::module_blocks::MODULE;
@@ -54,7 +55,7 @@ impl<S: Store> Model for World<S> {
 /// Opens areas 0 to 5 of a fresh store, and makes area 1, the module area, an empty heap of one page.
 fn furnish<S: Store>(store: &mut S)
     requires fresh { S.memory store.old ≡ fresh (S.memory store.old).pages }
-    requires least { 8 ≤ (S.memory store.old).pages }
+    requires least { MIN_PAGES ≤ (S.memory store.old).pages }
     ensures { IsFurnished (S.memory store.new) (S.memory store.old).pages }
 {
     for _area in 0..FIXED_AREAS {
@@ -69,8 +70,8 @@ impl<S: Store + Drop> World<S> {
     /// Handles and refs count up from 1. AllocError where memory is refused; store and files are dropped then.
     pub fn new(alloc: Global, store: S, files: Files) -> Result<World<S>, AllocError>
         requires fresh { S.memory store ≡ fresh (S.memory store).pages }
-        requires least { 8 ≤ (S.memory store).pages }
-        requires most { (S.memory store).pages ≤ 1024 }
+        requires least { MIN_PAGES ≤ (S.memory store).pages }
+        requires most { (S.memory store).pages ≤ MAX_PAGES }
         ensures { IfOk result (λ world. world.desk ≡ start (S.memory store).pages files) }
     {
         World::with_next(alloc, store, files, Handle(1), Ref(1))
@@ -86,8 +87,8 @@ impl<S: Store + Drop> World<S> {
         r: Ref,
     ) -> Result<World<S>, AllocError>
         requires fresh { S.memory store ≡ fresh (S.memory store).pages }
-        requires least { 8 ≤ (S.memory store).pages }
-        requires most { (S.memory store).pages ≤ 1024 }
+        requires least { MIN_PAGES ≤ (S.memory store).pages }
+        requires most { (S.memory store).pages ≤ MAX_PAGES }
         requires handle { 1 ≤ handle }
         requires message { 1 ≤ r }
         ensures { IfOk result (λ world. world.desk ≡ start_with (S.memory store).pages files handle r) }

@@ -9,6 +9,7 @@ impl PagedStore {
     ghost use Rattle.std.specs.Prelude.{◌≡◌, ℕ, ◌+◌, ◌*◌, ◌%◌, ◌<◌, ◌≤◌, length, replicate};
     ghost use Rattle.rh_defs.specs.Bytes.{part, put};
     ghost use Rattle.rh_defs.specs.Memory.{IsOpen, bytes, with_bytes, grown, shrunk};
+    ghost use Rattle.rh_defs.specs.declared.sizes.TheConstants.{PAGE};
     ghost use Rattle.rh_pages.specs.Paged.{memory_of};
 
     /// Writes zeros to bytes of one page.
@@ -16,7 +17,7 @@ impl PagedStore {
         requires opened { IsOpen (memory_of self.old) id.0 }
         requires some { 0 < n }
         requires within { at + n ≤ length (bytes (memory_of self.old) id.0) }
-        requires fits { at % 4096 + n ≤ 4096 }
+        requires fits { at % PAGE + n ≤ PAGE }
         ensures { memory_of self.new ≡ with_bytes (memory_of self.old) id.0
             (put (bytes (memory_of self.old) id.0) at (replicate n 0)) }
     {
@@ -30,9 +31,9 @@ impl PagedStore {
         requires opened2 { IsOpen (memory_of self.old) id2.0 }
         requires some { 0 < n }
         requires source { at + n ≤ length (bytes (memory_of self.old) id.0) }
-        requires source_fits { at % 4096 + n ≤ 4096 }
+        requires source_fits { at % PAGE + n ≤ PAGE }
         requires target { at2 + n ≤ length (bytes (memory_of self.old) id2.0) }
-        requires target_fits { at2 % 4096 + n ≤ 4096 }
+        requires target_fits { at2 % PAGE + n ≤ PAGE }
         ensures { memory_of self.new ≡ with_bytes (memory_of self.old) id2.0
             (put (bytes (memory_of self.old) id2.0) at2 (part (bytes (memory_of self.old) id.0) at n)) }
     {
@@ -46,7 +47,7 @@ impl PagedStore {
         requires opened { IsOpen (memory_of self.old) id.0 }
         requires some { 0 < length from.now }
         requires within { at + length from.now ≤ length (bytes (memory_of self.old) id.0) }
-        requires fits { at % 4096 + length from.now ≤ 4096 }
+        requires fits { at % PAGE + length from.now ≤ PAGE }
         ensures { memory_of self.new ≡ with_bytes (memory_of self.old) id.0
             (put (bytes (memory_of self.old) id.0) at from.now) }
     {
@@ -61,7 +62,7 @@ impl PagedStore {
         requires opened { IsOpen (memory_of self.now) id.0 }
         requires some { 0 < length to.old }
         requires within { at + length to.old ≤ length (bytes (memory_of self.now) id.0) }
-        requires fits { at % 4096 + length to.old ≤ 4096 }
+        requires fits { at % PAGE + length to.old ≤ PAGE }
         ensures { to.new ≡ part (bytes (memory_of self.now) id.0) at (length to.old) }
     {
         let place = self.spot(id, at);
@@ -83,7 +84,7 @@ impl PagedStore {
     /// Takes an area's last page off and frees it.
     pub(super) fn shrink_page(&mut self, id: AreaId)
         requires opened { IsOpen (memory_of self.old) id.0 }
-        requires some { 4096 ≤ length (bytes (memory_of self.old) id.0) }
+        requires some { PAGE ≤ length (bytes (memory_of self.old) id.0) }
         ensures { memory_of self.new ≡ shrunk (memory_of self.old) id.0 1 }
     {
         let list = &mut self.areas[id.0 as usize];
