@@ -1,12 +1,14 @@
 //! The forms of a line's words: names, numbers, addresses and bytes.
 
-ghost use Rattle.std.specs.Prelude.{◌≡◌, ◌<◌, ◌≤◌, length, drop, slice_index, Option, Some, None, if◌then◌else◌, IfOk, IsTrue, unwrap_or, nat_le};
+ghost use Rattle.std.specs.Prelude.{◌≡◌, ◌-◌, ◌<◌, ◌≤◌, length, drop, slice_index, Option, Some, None, if◌then◌else◌, IfOk, IsTrue, unwrap_or, nat_le};
 ghost use Rattle.std.specs.List.{list_all};
 ghost use Rattle.std.specs.Char.{is_ascii_digit};
 ghost use Rattle.std.specs.Result.{result_ok};
 ghost use Rattle.hex.specs.Hex.{decode_of, hex_digit_value, is_hex_digit};
 ghost use Rattle.rh_defs.specs.Forms.{is_name, is_anchor, is_number, is_delta, is_leaf, is_decimal, number_of};
 ghost use Rattle.rh_defs.specs.Line.{name_at, number_at, delta_at, is_address, hex_number, address_at, leaf_at, choice_at, bytes_at, signed};
+ghost use Rattle.rh_defs.specs.declared.sizes.TheConstants.{ANCHORS, GREATEST_NUMBER, LONGEST_LEAF};
+ghost use Rattle.rh_lines.specs.declared.forms.TheConstants.{MOST_DIGITS};
 
 use crate::hex_digits::{are_hex_digits, hex_bytes, hex_number};
 use crate::words::Words;
@@ -36,7 +38,7 @@ pub fn name_at(words: &Words<'_>, n: u8) -> Result<Name, LineFault>
 /// Word `n` as an anchor, 0 to 63.
 pub fn anchor_at(words: &Words<'_>, n: u8) -> Result<Anchor, LineFault>
     requires { 0 < n }
-    ensures means { result ≡ number_at words.now n 0 63 }
+    ensures means { result ≡ number_at words.now n 0 (ANCHORS - 1) }
     ensures form { IfOk result (λ anchor. IsTrue (is_anchor anchor)) }
 {
     let anchor = number_at(words, n, 0, ANCHORS as u32 - 1)?;
@@ -46,7 +48,7 @@ pub fn anchor_at(words: &Words<'_>, n: u8) -> Result<Anchor, LineFault>
 /// Word `n` as a size or an offset, 0 to 2,147,483,647.
 pub fn size_at(words: &Words<'_>, n: u8) -> Result<u32, LineFault>
     requires { 0 < n }
-    ensures means { result ≡ number_at words.now n 0 2147483647 }
+    ensures means { result ≡ number_at words.now n 0 GREATEST_NUMBER }
     ensures form { IfOk result (λ size. IsTrue (is_number size)) }
 {
     number_at(words, n, 0, GREATEST_NUMBER)
@@ -87,7 +89,7 @@ pub fn delta_at(words: &Words<'_>, n: u8) -> Result<i32, LineFault>
 }
 
 fn signed(is_negative: bool, magnitude: u32) -> i32
-    requires { magnitude ≤ 2147483647 }
+    requires { magnitude ≤ GREATEST_NUMBER }
     ensures value { result ≡ signed is_negative magnitude }
     ensures form { IsTrue (is_delta result) }
 {
@@ -116,7 +118,7 @@ fn has_digits(word: &[u8]) -> bool
 }
 
 fn number_of(word: &[u8]) -> u64
-    requires { length word.now ≤ 10 }
+    requires { length word.now ≤ MOST_DIGITS }
     ensures { result ≡ number_of word.now }
 {
     let mut number = 0;
@@ -156,7 +158,7 @@ pub fn leaf_at(words: &Words<'_>, n: u8) -> Result<Leaf, LineFault>
 
 /// A leafname of these bytes, none where there are more than 10.
 fn leaf_of(word: &[u8]) -> Option<Leaf>
-    ensures { result ≡ (if nat_le (length word.now) 10 then Some word.now else None) }
+    ensures { result ≡ (if nat_le (length word.now) LONGEST_LEAF then Some word.now else None) }
 {
     let mut letters = ArrayVec::new();
     letters.try_extend_from_slice(word).ok()?;

@@ -1,6 +1,7 @@
 //! Replies that wait to be written.
 
 ghost use Rattle.std.specs.Prelude.{◌≡◌, ◌≤◌, [], IfOk, take, false, length};
+ghost use Rattle.rh_lines.specs.declared.held.TheConstants.{ROOM};
 
 use crate::sink::{Sink, WriteFailed};
 use std::alloc::{AllocError, Global};
@@ -19,13 +20,14 @@ pub struct Held {
 
 impl Model for Held {
     ghost use Rattle.std.specs.Prelude.{◌≤◌, vec_len, vec_capacity, Some};
+    ghost use Rattle.rh_lines.specs.declared.held.TheConstants.{ROOM};
     ghost use Rattle.rh_lines.specs.Flow.{Holding};
 
     ghost Value = { Holding };
 
     ghost view = { λ s. record { bytes = s.bytes.items; failed = s.failed } };
 
-    ghost invariant = { λ s. (vec_len s.bytes ≤ 65536) × (65536 ≤ vec_capacity s.bytes) };
+    ghost invariant = { λ s. (vec_len s.bytes ≤ ROOM) × (ROOM ≤ vec_capacity s.bytes) };
 }
 
 impl Held {
@@ -42,7 +44,7 @@ impl Held {
     /// The bytes that are held.
     pub fn as_slice(&self) -> &[u8]
         ensures value { result.now ≡ self.now.bytes }
-        ensures few { length self.now.bytes ≤ 65536 }
+        ensures few { length self.now.bytes ≤ ROOM }
     {
         self.bytes.as_slice()
     }
