@@ -5,6 +5,7 @@ use Rattle.rh_defs.specs.Messages.{Parcel, is_recorded}
 use Rattle.rh_defs.specs.Post.{Seat, Post, with_held, bounced, bounce_all, without_block}
 use Rattle.rh_module.specs.declared.module.Module.{Module}
 use Rattle.rh_wimp.specs.Chains.{Chains, SpellsPost}
+use Rattle.rh_wimp.specs.declared.queue.TheConstants.{MOST_MESSAGES}
 
 -- what is held is held no more
 abbrev pub lifted : ℕ → Post → Post
@@ -41,7 +42,7 @@ rest_of_death h post = bounce_all (queue_to h post.queued) (without_seat h post)
 pub record Drained (m : Memory) (rma : Module) (q : Chains) (post : Post) (h turn : ℕ) (now : Post) : Type 0 where
   pub spells : SpellsPost m rma q now
   pub same : rest_of_death h now ≡ rest_of_death h post
-  pub few : length (queue_to h now.queued) + turn ≤ 256
+  pub few : length (queue_to h now.queued) + turn ≤ MOST_MESSAGES
   pub seats : now.seats ≡ post.seats
 
 -- after so many turns

@@ -17,6 +17,7 @@ use Rattle.rh_module.specs.Area.{heap_in}
 use Rattle.rh_module.specs.declared.module.Module.{Module}
 use Rattle.rh_wimp.specs.Chains.{Chains, Row, row_parcels}
 use Rattle.rh_wimp.specs.declared.chain.Entry.{Entry}
+use Rattle.rh_wimp.specs.declared.queue.TheConstants.{MOST_MESSAGES}
 
 -- ---- one block
 abbrev pub or_no_bytes : Option (List ℕ) → List ℕ
@@ -61,7 +62,7 @@ held_in to block h = if block == 0 then None else Some (parcel_in to block h)
 
 -- what an entry's two chains have: the one of its blocks, and the block that is held
 abbrev pub row_in : Heap → Entry → Row
-row_in h e = record { handle = e.handle; chain = chain_in 256 e.handle e.first h; held = held_in e.handle e.held h }
+row_in h e = record { handle = e.handle; chain = chain_in MOST_MESSAGES e.handle e.first h; held = held_in e.handle e.held h }
 
 -- ---- all entries
 abbrev pub rows_in : Heap → Chains → List Row

@@ -3,6 +3,7 @@ use Rattle.std.specs.Prelude.{ℕ, ◌<◌, ◌≤◌, ◌==◌, Bool, List, len
 use Rattle.std.specs.List.{list_any}
 use Rattle.rh_defs.specs.Messages.{Parcel}
 use Rattle.rh_wimp.specs.Chains.{Row, row_at, row_parcels}
+use Rattle.rh_wimp.specs.declared.queue.TheConstants.{MOST_MESSAGES}
 use Rattle.rh_wimp.specs.declared.searching.Wanted.{Wanted}
 use Rattle.rh_wimp.specs.declared.searching.Wanted.TheVariants.{At, WithRef}
 
@@ -17,4 +18,4 @@ rows_have test rows = list_any (λ (r : Row). list_any test (row_parcels r)) row
 
 -- no chain is longer than there can be messages
 abbrev pub AreShort : List Row → Type 0
-AreShort rows = (i : ℕ) → i < length rows → length (row_at rows i).chain ≤ 256
+AreShort rows = (i : ℕ) → i < length rows → length (row_at rows i).chain ≤ MOST_MESSAGES

@@ -2,13 +2,14 @@
 ghost use Rattle.std.specs.Prelude.{◌≡◌, ◌+◌, ◌*◌, ◌≤◌, length, replicate};
 ghost use Rattle.rh_defs.specs.Bytes.{put, word, word_bytes};
 ghost use Rattle.rh_defs.specs.Messages.{AreWords, words};
+ghost use Rattle.rh_defs.specs.declared.sizes.TheConstants.{WORD};
 
 use byteorder::{ByteOrder, LittleEndian};
 use rh_defs::sizes::WORD;
 
 /// Writes a word at an offset.
 pub fn put_word(out: &mut [u8], at: usize, w: u32)
-    requires { at + 4 ≤ length out.old }
+    requires { at + WORD ≤ length out.old }
     ensures { out.new ≡ put out.old at (word_bytes w) }
 {
     LittleEndian::write_u32(&mut out[at..at + WORD], w);
@@ -16,7 +17,7 @@ pub fn put_word(out: &mut [u8], at: usize, w: u32)
 
 /// Writes words from an offset on.
 pub fn put_words(out: &mut [u8], at: usize, ws: &[u32])
-    requires { at + 4 * length ws.now ≤ length out.old }
+    requires { at + WORD * length ws.now ≤ length out.old }
     ensures bytes { out.new ≡ put out.old at (words ws.now) }
     ensures numbers { AreWords ws.now }
 {
@@ -43,7 +44,7 @@ pub fn put_zeros(out: &mut [u8], at: usize, n: usize)
 
 /// The word at an offset.
 pub fn get_word(bytes: &[u8], at: usize) -> u32
-    requires { at + 4 ≤ length bytes.now }
+    requires { at + WORD ≤ length bytes.now }
     ensures { result ≡ word bytes.now at }
 {
     LittleEndian::read_u32(&bytes[at..at + WORD])

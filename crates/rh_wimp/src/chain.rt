@@ -6,6 +6,7 @@ ghost use Rattle.rh_module.specs.Area.{IsModule, heap_in};
 ghost use Rattle.rh_wimp.specs.Moves.{Relinks};
 ghost use Rattle.rh_defs.specs.Blocks.{HasBlock};
 ghost use Rattle.rh_wimp.specs.Chains.{entry_at, lengthened, shortened};
+ghost use Rattle.rh_defs.specs.declared.sizes.TheConstants.{WORD};
 
 use crate::layout::LINK;
 use rh_defs::Handle;
@@ -50,7 +51,7 @@ pub fn append<S: Words>(
 )
     requires module { IsModule (S.memory store.old) rma }
     requires within { at < vec_len entries.old }
-    requires last { (entry_at entries.old.items at).last ≢ 0 → HasBlock (entry_at entries.old.items at).last 4 (heap_in (S.memory store.old) rma) }
+    requires last { (entry_at entries.old.items at).last ≢ 0 → HasBlock (entry_at entries.old.items at).last WORD (heap_in (S.memory store.old) rma) }
     requires small { block < 2 ^ 32 }
     ensures entries { entries.new.items ≡ set entries.old.items at (lengthened block (entry_at entries.old.items at)) }
     ensures len { vec_len entries.new ≡ vec_len entries.old }

@@ -7,6 +7,7 @@ ghost use Rattle.rh_module.specs.Area.{IsModule};
 ghost use Rattle.rh_wimp.specs.Calls.{IsQueue, Leaves, handles_of};
 ghost use Rattle.rh_wimp.specs.Chains.{HasEntry, MayBounce, SpellsPost, entry_at};
 ghost use Rattle.rh_wimp.specs.Deaths.{Drains, bounced_from, ended_from, settled_from};
+ghost use Rattle.rh_wimp.specs.declared.queue.TheConstants.{MOST_MESSAGES};
 
 use crate::chain::find;
 use crate::layout::{MESSAGE, SENDER};
@@ -56,7 +57,7 @@ impl Queue {
         requires within { at < length self.old.entries }
         requires handle { (entry_at self.old.entries at).handle ≡ dying }
         requires post { (post : Post) × SpellsPost (S.memory store.old) rma self.old post }
-        ensures drains { (post : Post) → SpellsPost (S.memory store.old) rma self.old post → Drains (S.memory store.new) rma self.new post dying 256 }
+        ensures drains { (post : Post) → SpellsPost (S.memory store.old) rma self.old post → Drains (S.memory store.new) rma self.new post dying MOST_MESSAGES }
         ensures module { IsModule (S.memory store.new) rma }
         ensures only { OnlyArea (S.memory store.old) (S.memory store.new) rma.area.0 }
     {

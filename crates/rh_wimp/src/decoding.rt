@@ -5,6 +5,7 @@ ghost use Rattle.rh_defs.specs.Bytes.{part};
 ghost use Rattle.rh_defs.specs.MessageImage.{SpellsMessage, body_for, decoded, file_in, has_length as has_length_of, name_length};
 ghost use Rattle.rh_defs.specs.Pathnames.{is_plain};
 ghost use Rattle.rh_defs.specs.declared.message.Message.{Message as SpecMessage};
+ghost use Rattle.rh_wimp.specs.declared.layout.TheConstants.{LEAST_LENGTH, MOST_LENGTH, NAME};
 
 use crate::bytes::get_word;
 use crate::layout::{
@@ -23,7 +24,7 @@ fn first_zero(bytes: &[u8]) -> Option<usize>
 
 /// The length of the name that begins at offset 44 and ends before a zero byte below `end`.
 fn name_length(bytes: &[u8], end: usize) -> Option<usize>
-    requires low { 44 ≤ end }
+    requires low { NAME ≤ end }
     requires high { end ≤ length bytes.now }
     ensures { result ≡ name_length bytes.now end }
 {
@@ -32,10 +33,10 @@ fn name_length(bytes: &[u8], end: usize) -> Option<usize>
 
 /// The name of so many bytes that begins at offset 44.
 fn read_name(bytes: &[u8], n: usize) -> Pathname
-    requires within { 44 + n ≤ length bytes.now }
+    requires within { NAME + n ≤ length bytes.now }
     requires short { n ≤ 211 }
-    requires plain { is_plain (part bytes.now 44 n) ≡ true }
-    ensures { result ≡ part bytes.now 44 n }
+    requires plain { is_plain (part bytes.now NAME n) ≡ true }
+    ensures { result ≡ part bytes.now NAME n }
 {
     Pathname::new(&bytes[NAME..NAME + n]).unwrap()
 }
@@ -43,7 +44,7 @@ fn read_name(bytes: &[u8], n: usize) -> Pathname
 /// What is said of a file in a message of so many bytes.
 fn decode_file(bytes: &[u8], end: usize) -> Result<FileData, MessageFault>
     requires high { end ≤ length bytes.now }
-    requires small { end ≤ 256 }
+    requires small { end ≤ MOST_LENGTH }
     ensures { result ≡ file_in bytes.now end }
 {
     if end < LEAST_FILE_LENGTH {
@@ -65,9 +66,9 @@ fn decode_file(bytes: &[u8], end: usize) -> Result<FileData, MessageFault>
 
 /// Data of a message of so many bytes, whose action this is.
 fn decode_body(bytes: &[u8], end: usize, action: Action) -> Result<Body, MessageFault>
-    requires low { 20 ≤ end }
+    requires low { LEAST_LENGTH ≤ end }
     requires high { end ≤ length bytes.now }
-    requires small { end ≤ 256 }
+    requires small { end ≤ MOST_LENGTH }
     ensures { result ≡ body_for bytes.now end (Some action) }
 {
     match action {

@@ -3,6 +3,7 @@ ghost use Rattle.std.specs.Prelude.{◌≡◌, ◌+◌, ◌^◌, ◌<◌, ◌≤
 ghost use Rattle.rh_defs.specs.Bytes.{put};
 ghost use Rattle.rh_defs.specs.Messages.{AreWords, Fits, HasName, body_bytes, data_words, encoded, encoded_length, file_words, name_bytes, words};
 ghost use Rattle.rh_defs.specs.Pathnames.{is_pathname};
+ghost use Rattle.rh_wimp.specs.declared.layout.TheConstants.{ACTION, DATA, FILE_LENGTH, MOST_LENGTH, NAME, RAM_LENGTH};
 
 use crate::bytes::{put_bytes, put_word, put_words, put_zeros};
 use crate::layout::{ACTION, DATA, FILE_LENGTH, MOST_LENGTH, NAME, RAM_LENGTH};
@@ -19,9 +20,9 @@ fn name_room(name: &[u8]) -> usize
 
 /// Writes a name from offset 44 on, with zeros up to whole words, and answers the bytes that it takes.
 fn encode_name(name: &[u8], out: &mut [u8]) -> usize
-    requires room { length out.old ≡ 256 }
+    requires room { length out.old ≡ MOST_LENGTH }
     requires name { is_pathname name.now ≡ true }
-    ensures bytes { out.new ≡ put out.old 44 (name_bytes name.now) }
+    ensures bytes { out.new ≡ put out.old NAME (name_bytes name.now) }
     ensures length { result ≡ length (name_bytes name.now) }
     ensures short { result ≤ 212 }
 {
@@ -33,9 +34,9 @@ fn encode_name(name: &[u8], out: &mut [u8]) -> usize
 
 /// Writes what is said of a file from offset 20 on, and answers its length.
 fn encode_file(file: &FileData, out: &mut [u8]) -> usize
-    requires { length out.old ≡ 256 }
-    ensures bytes { out.new ≡ put out.old 20 (words (file_words file.now) ++ name_bytes file.now.name) }
-    ensures length { result ≡ 24 + length (name_bytes file.now.name) }
+    requires { length out.old ≡ MOST_LENGTH }
+    ensures bytes { out.new ≡ put out.old DATA (words (file_words file.now) ++ name_bytes file.now.name) }
+    ensures length { result ≡ FILE_LENGTH + length (name_bytes file.now.name) }
     ensures short { result ≤ 236 }
     ensures numbers { AreWords (file_words file.now) }
     ensures name { is_pathname file.now.name ≡ true }
@@ -57,9 +58,9 @@ fn encode_file(file: &FileData, out: &mut [u8]) -> usize
 
 /// Writes the two words of a RAMFetch or RAMTransmit, and answers their length.
 fn encode_pair(buffer: u32, n: u32, out: &mut [u8]) -> usize
-    requires { length out.old ≡ 256 }
-    ensures bytes { out.new ≡ put out.old 20 (words (buffer ∷ n ∷ [])) }
-    ensures length { result ≡ 8 }
+    requires { length out.old ≡ MOST_LENGTH }
+    ensures bytes { out.new ≡ put out.old DATA (words (buffer ∷ n ∷ [])) }
+    ensures length { result ≡ RAM_LENGTH }
 {
     put_words(out, DATA, &[buffer, n]);
     RAM_LENGTH
@@ -67,8 +68,8 @@ fn encode_pair(buffer: u32, n: u32, out: &mut [u8]) -> usize
 
 /// Writes action and data from offset 16 on, and answers their length.
 fn encode_body(body: &Body, out: &mut [u8]) -> usize
-    requires { length out.old ≡ 256 }
-    ensures bytes { out.new ≡ put out.old 16 (body_bytes body.now) }
+    requires { length out.old ≡ MOST_LENGTH }
+    ensures bytes { out.new ≡ put out.old ACTION (body_bytes body.now) }
     ensures length { result ≡ length (body_bytes body.now) }
     ensures short { result ≤ 240 }
     ensures numbers { AreWords (data_words body.now) }
@@ -87,7 +88,7 @@ fn encode_body(body: &Body, out: &mut [u8]) -> usize
 
 /// The length of what is said of a file.
 fn file_length(file: &FileData) -> usize
-    ensures length { result ≡ 24 + length (name_bytes file.now.name) }
+    ensures length { result ≡ FILE_LENGTH + length (name_bytes file.now.name) }
     ensures short { result ≤ 236 }
 {
     FILE_LENGTH + name_room(file.name.as_bytes())
@@ -110,10 +111,10 @@ pub fn body_length(body: &Body) -> usize
 
 /// Writes a message block, and answers its length.
 fn encode_parts(from: u32, my_ref: u32, your_ref: u32, body: &Body, out: &mut [u8]) -> usize
-    requires { length out.old ≡ 256 }
-    ensures length { result ≡ 16 + length (body_bytes body.now) }
+    requires { length out.old ≡ MOST_LENGTH }
+    ensures length { result ≡ ACTION + length (body_bytes body.now) }
     ensures bytes { out.new ≡ put out.old 0 (encoded (record { from = from; my_ref = my_ref; your_ref = your_ref; body = body.now })) }
-    ensures short { result ≤ 256 }
+    ensures short { result ≤ MOST_LENGTH }
     ensures fits { Fits (record { from = from; my_ref = my_ref; your_ref = your_ref; body = body.now }) }
 {
     let length = ACTION + encode_body(body, out);
@@ -125,7 +126,7 @@ fn encode_parts(from: u32, my_ref: u32, your_ref: u32, body: &Body, out: &mut [u
 pub fn encode(message: &Message, out: &mut [u8; MOST_LENGTH]) -> usize
     ensures length { result ≡ encoded_length message.now }
     ensures bytes { out.new ≡ put out.old 0 (encoded message.now) }
-    ensures short { result ≤ 256 }
+    ensures short { result ≤ MOST_LENGTH }
     ensures fits { Fits message.now }
 {
     encode_parts(

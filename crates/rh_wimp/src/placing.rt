@@ -1,5 +1,5 @@
 //! Messages into blocks of the module area, and blocks that go.
-ghost use Rattle.std.specs.Prelude.{◌≡◌, ◌≢◌, ◌<◌, ◌==◌, ◌++◌, ℕ, List, Some, None, Ok, false, OnErr, IfOk, vec_len, vec_capacity, set};
+ghost use Rattle.std.specs.Prelude.{◌≡◌, ◌≢◌, ◌+◌, ◌<◌, ◌==◌, ◌++◌, ℕ, List, Some, None, Ok, false, OnErr, IfOk, vec_len, vec_capacity, set};
 ghost use Rattle.rh_defs.specs.Bytes.{word};
 ghost use Rattle.rh_defs.specs.Chain.{answer_of};
 ghost use Rattle.rh_defs.specs.Heap.{Heap, release};
@@ -11,6 +11,8 @@ ghost use Rattle.rh_defs.specs.Blocks.{HasBlock, block_bytes, poked};
 ghost use Rattle.rh_wimp.specs.Chains.{entry_at, emptied};
 ghost use Rattle.rh_defs.specs.Bytes.{word_bytes};
 ghost use Rattle.rh_defs.specs.Messages.{Fits, code_number, encoded, parcel_size};
+ghost use Rattle.rh_defs.specs.declared.sizes.TheConstants.{WORD};
+ghost use Rattle.rh_wimp.specs.declared.layout.TheConstants.{MESSAGE, MY_REF};
 
 use crate::chain::Entry;
 use crate::encoding::encode;
@@ -46,9 +48,9 @@ pub fn place<S: Pages>(
 /// Whether a task holds a message with this ref.
 pub fn holds_ref<S: Pages>(store: &S, rma: Module, entry: Entry, my_ref: Ref) -> bool
     requires module { IsModule (S.memory store.now) rma }
-    requires held { entry.held ≢ 0 → HasBlock entry.held 20 (heap_in (S.memory store.now) rma) }
+    requires held { entry.held ≢ 0 → HasBlock entry.held (MESSAGE + MY_REF + WORD) (heap_in (S.memory store.now) rma) }
     ensures none { entry.held ≡ 0 → result ≡ false }
-    ensures some { entry.held ≢ 0 → (bytes : List ℕ) → block_bytes entry.held (heap_in (S.memory store.now) rma) ≡ Some bytes → result ≡ (word bytes 16 == my_ref) }
+    ensures some { entry.held ≢ 0 → (bytes : List ℕ) → block_bytes entry.held (heap_in (S.memory store.now) rma) ≡ Some bytes → result ≡ (word bytes (MESSAGE + MY_REF) == my_ref) }
 {
     if entry.held == 0 {
         return false;
@@ -59,7 +61,7 @@ pub fn holds_ref<S: Pages>(store: &S, rma: Module, entry: Entry, my_ref: Ref) ->
 /// Frees a block.
 pub fn free<S: Pages>(store: &mut S, rma: Module, block: usize)
     requires module { IsModule (S.memory store.old) rma }
-    requires block { HasBlock block 4 (heap_in (S.memory store.old) rma) }
+    requires block { HasBlock block WORD (heap_in (S.memory store.old) rma) }
     ensures { Turns (S.memory store.old) (S.memory store.new) rma (release block (heap_in (S.memory store.old) rma)) }
 {
     rma.free(store, block).unwrap();
@@ -69,7 +71,7 @@ pub fn free<S: Pages>(store: &mut S, rma: Module, block: usize)
 pub fn put_down<S: Pages>(store: &mut S, rma: Module, entries: &mut Vec<Entry>, at: usize)
     requires module { IsModule (S.memory store.old) rma }
     requires within { at < vec_len entries.old }
-    requires held { HasBlock (entry_at entries.old.items at).held 4 (heap_in (S.memory store.old) rma) }
+    requires held { HasBlock (entry_at entries.old.items at).held WORD (heap_in (S.memory store.old) rma) }
     ensures entries { entries.new.items ≡ set entries.old.items at (emptied (entry_at entries.old.items at)) }
     ensures len { vec_len entries.new ≡ vec_len entries.old }
     ensures capacity { vec_capacity entries.new ≡ vec_capacity entries.old }

@@ -8,6 +8,7 @@ ghost use Rattle.rh_defs.specs.Post.{Post, bounce_held, bounced, held_by, post_p
 ghost use Rattle.rh_module.specs.Area.{IsModule, heap_in};
 ghost use Rattle.rh_wimp.specs.Calls.{Answers, IsQueue, Leaves, handles_of};
 ghost use Rattle.rh_wimp.specs.Chains.{HasEntry, IsPost, LiftsFirst, MayBounce, SpellsPost, emptied_chains, entry_at, event_of, holding_chains};
+ghost use Rattle.rh_wimp.specs.declared.queue.TheConstants.{MOST_MESSAGES};
 
 use crate::chain::{Entry, append, find, shortened};
 use crate::layout::{CODE, LINK, MESSAGE, SENDER};
@@ -115,7 +116,7 @@ impl Queue {
     /// Makes a task that holds no message hold one.
     fn hold(&mut self, at: usize, block: usize)
         requires within { at < length self.old.entries }
-        requires few { self.old.live < 256 }
+        requires few { self.old.live < MOST_MESSAGES }
         ensures { self.new ≡ holding_chains at block self.old }
     {
         self.entries[at].held = block;

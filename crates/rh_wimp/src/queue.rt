@@ -30,13 +30,14 @@ pub struct Queue {
 
 impl Model for Queue {
     ghost use Rattle.std.specs.Prelude.{◌≡◌, ◌≤◌, ◌^◌, vec_capacity, vec_len};
+    ghost use Rattle.rh_defs.specs.declared.sizes.TheConstants.{MAX_TASKS};
     ghost use Rattle.rh_wimp.specs.Chains.{Chains};
 
     ghost Value = { Chains };
 
     ghost view = { λ q. record { entries = q.entries.items; live = q.live; next_ref = q.next_ref } };
 
-    ghost invariant = { λ q. (vec_capacity q.entries ≡ 32) × (q.next_ref ≤ 2 ^ 32) };
+    ghost invariant = { λ q. (vec_capacity q.entries ≡ MAX_TASKS) × (q.next_ref ≤ 2 ^ 32) };
 }
 
 impl Queue {

@@ -4,6 +4,7 @@ ghost use Rattle.rh_defs.specs.Memory.{Memory};
 ghost use Rattle.rh_module.specs.Area.{IsModule};
 ghost use Rattle.rh_wimp.specs.Chains.{LiesAt};
 ghost use Rattle.rh_defs.specs.Messages.{Parcel};
+ghost use Rattle.rh_wimp.specs.declared.layout.TheConstants.{MOST_LENGTH};
 
 use crate::decoding::decode;
 use crate::layout::{CODE, MESSAGE, MOST_LENGTH};
@@ -14,7 +15,7 @@ use rh_store::Words;
 /// The message that lies in a block, by a buffer with room for it.
 fn read_into<S: Words>(store: &S, rma: Module, block: usize, buffer: &mut [u8]) -> Message
     requires module { IsModule (S.memory store.now) rma }
-    requires room { length buffer.old ≡ 256 }
+    requires room { length buffer.old ≡ MOST_LENGTH }
     requires lies { (p : Parcel) × LiesAt (S.memory store.now) rma block p }
     ensures { (p : Parcel) → LiesAt (S.memory store.now) rma block p → result ≡ p.message }
 {

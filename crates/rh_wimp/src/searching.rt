@@ -7,6 +7,7 @@ ghost use Rattle.rh_module.specs.Area.{IsModule, heap_in};
 ghost use Rattle.rh_wimp.specs.Calls.{Answers, IsQueue};
 ghost use Rattle.rh_wimp.specs.Chains.{Chain, Holds, Lies, Row, RowLies, RowsLie, first_block, row_parcels};
 ghost use Rattle.rh_wimp.specs.Searches.{AreShort, rows_have, wants};
+ghost use Rattle.rh_wimp.specs.declared.queue.TheConstants.{MOST_MESSAGES};
 
 use crate::chain::Entry;
 use crate::layout::{LINK, MESSAGE, MY_REF};
@@ -59,8 +60,8 @@ fn any_entry<S: Words>(store: &S, rma: Module, entries: &Vec<Entry>, wanted: &Wa
 /// Whether a message of a task is the one that is looked for.
 fn entry_has<S: Words>(store: &S, rma: Module, entry: Entry, wanted: &Wanted) -> bool
     requires module { IsModule (S.memory store.now) rma }
-    requires row { (r : Row) × (RowLies (heap_in (S.memory store.now) rma) entry r × (length r.chain ≤ 256)) }
-    ensures { (r : Row) → RowLies (heap_in (S.memory store.now) rma) entry r → length r.chain ≤ 256 → result ≡ list_any (wants wanted.now) (row_parcels r) }
+    requires row { (r : Row) × (RowLies (heap_in (S.memory store.now) rma) entry r × (length r.chain ≤ MOST_MESSAGES)) }
+    ensures { (r : Row) → RowLies (heap_in (S.memory store.now) rma) entry r → length r.chain ≤ MOST_MESSAGES → result ≡ list_any (wants wanted.now) (row_parcels r) }
 {
     if held_has(store, rma, entry.held, wanted) {
         return true;
@@ -83,8 +84,8 @@ fn held_has<S: Words>(store: &S, rma: Module, held: usize, wanted: &Wanted) -> b
 /// Whether a message of a chain is the one that is looked for.
 fn chain_has<S: Words>(store: &S, rma: Module, first: usize, wanted: &Wanted) -> bool
     requires module { IsModule (S.memory store.now) rma }
-    requires chain { (ps : List Parcel) × ((first ≡ first_block ps 0) × Chain (heap_in (S.memory store.now) rma) ps 0 × (length ps ≤ 256)) }
-    ensures { (ps : List Parcel) → first ≡ first_block ps 0 → Chain (heap_in (S.memory store.now) rma) ps 0 → length ps ≤ 256 → result ≡ list_any (wants wanted.now) ps }
+    requires chain { (ps : List Parcel) × ((first ≡ first_block ps 0) × Chain (heap_in (S.memory store.now) rma) ps 0 × (length ps ≤ MOST_MESSAGES)) }
+    ensures { (ps : List Parcel) → first ≡ first_block ps 0 → Chain (heap_in (S.memory store.now) rma) ps 0 → length ps ≤ MOST_MESSAGES → result ≡ list_any (wants wanted.now) ps }
 {
     let mut block = first;
     for _turn in 0..MOST_MESSAGES {
