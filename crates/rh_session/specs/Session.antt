@@ -1,6 +1,7 @@
 -- A run of a script, byte by byte.
-use Rattle.std.specs.Prelude.{ℕ, Bool, false, ◌||◌, List, [], ◌∷◌, ◌++◌, take, ◌==◌, if◌then◌else◌}
+use Rattle.std.specs.Prelude.{ℕ, ◌+◌, Bool, false, ◌||◌, List, [], ◌∷◌, ◌++◌, take, ◌==◌, if◌then◌else◌}
 use Rattle.rh_defs.specs.Desk.{Desk}
+use Rattle.rh_defs.specs.declared.sizes.TheConstants.{LONGEST_LINE}
 use Rattle.rh_defs.specs.Script.{line_text, line_desk, is_bad}
 
 -- the desk, the line so far as far as it is kept, and whether a line was bad
@@ -11,7 +12,7 @@ pub record State : Type 0 where
 
 -- one byte more than a line may have shows that it has too many
 unfoldable pub kept : List ℕ → List ℕ
-kept line = take 1025 line
+kept line = take (LONGEST_LINE + 1) line
 
 abbrev pub begin : Desk → State
 begin d = record { desk = d; line = []; bad = false }
