@@ -3,16 +3,16 @@ use Rattle.std.specs.Prelude.{◌≡◌, ℕ, ◌+◌, ◌*◌, ◌%◌, ◌^◌
 use Rattle.std.proofs.Common.{inl, inr, sym, ◌∙◌, arith, length-append}
 use Rattle.std.proofs.lemmas.Bool.{cases_lt}
 use Rattle.std.proofs.lemmas.List.{get_or_past}
-use Rattle.rh_defs.specs.declared.sizes.TheConstants.{MAX_PAGES}
+use Rattle.rh_defs.specs.declared.sizes.TheConstants.{MAX_PAGES, PAGE}
 use Rattle.rh_defs.specs.Memory.{IsOpen, bytes}
 use Rattle.rh_defs.proofs.BytesLaws.{length-part}
 use Rattle.rh_defs.proofs.MemoryLaws.{pages_below-one}
 use Rattle.rh_pages.specs.Pages.{page, bytes_of, list_at, contents, memory_in, IsStore}
 
-pub length-bytes : (region ks : List ℕ) → length (bytes_of region ks) ≡ 4096 * length ks
+pub length-bytes : (region ks : List ℕ) → length (bytes_of region ks) ≡ PAGE * length ks
 length-bytes region [] = refl
 length-bytes region (k ∷ ks) =
-    let here = length-part region (4096 * k) 4096 in let rest = length-bytes region ks in
+    let here = length-part region (PAGE * k) PAGE in let rest = length-bytes region ks in
     omega (arith, length-append (page region k) (bytes_of region ks))
 
 some_of : (b : Bool) (y : List ℕ) → IsSome (cond b (Some y) None) → b ≡ true
@@ -31,17 +31,17 @@ open_index region lists opened id o = elim (cases_lt id (length opened)) [
   | inr h ↦ absurd (let past : false ≡ true = sym (get_or_past opened id false h) ∙ open_flag region lists opened id o in cc)
 ]
 
-whole_shown : (b : Bool) (y : List ℕ) → length y % 4096 ≡ 0 → length (unwrap_or (cond b (Some y) None) []) % 4096 ≡ 0
+whole_shown : (b : Bool) (y : List ℕ) → length y % PAGE ≡ 0 → length (unwrap_or (cond b (Some y) None) []) % PAGE ≡ 0
 whole_shown true y h = h
 whole_shown false y h = refl
 
-pub whole_contents : (region : List ℕ) (lists : List (List ℕ)) (opened : List Bool) (id : ℕ) → length (unwrap_or (contents region lists opened id) []) % 4096 ≡ 0
+pub whole_contents : (region : List ℕ) (lists : List (List ℕ)) (opened : List Bool) (id : ℕ) → length (unwrap_or (contents region lists opened id) []) % PAGE ≡ 0
 unfolding contents
 whole_contents region lists opened id =
     let long = length-bytes region (list_at lists id) in
     whole_shown (get_or opened id false) (bytes_of region (list_at lists id)) (omega arith)
 
-pub whole_areas : (region : List ℕ) (lists : List (List ℕ)) (opened : List Bool) (free : List ℕ) (pages id : ℕ) → length (bytes (memory_in region lists opened free pages) id) % 4096 ≡ 0
+pub whole_areas : (region : List ℕ) (lists : List (List ℕ)) (opened : List Bool) (free : List ℕ) (pages id : ℕ) → length (bytes (memory_in region lists opened free pages) id) % PAGE ≡ 0
 unfolding bytes
 whole_areas region lists opened free pages id = whole_contents region lists opened id
 
@@ -57,7 +57,7 @@ unfolding contents
 past region lists opened id h = past_shown (get_or opened id false) (bytes_of region (list_at lists id)) (get_or_past opened id false h)
 
 pub within_pool : (region : List ℕ) (lists : List (List ℕ)) (opened : List Bool) (free : List ℕ) (pages limit id : ℕ) → IsStore region lists opened free pages limit
-    → 4096 * length free + length (bytes (memory_in region lists opened free pages) id) ≤ 4096 * pages
+    → PAGE * length free + length (bytes (memory_in region lists opened free pages) id) ≤ PAGE * pages
 unfolding bytes
 within_pool region lists opened free pages limit id k = elim (cases_lt id limit) [
   | inl h ↦ let one = pages_below-one (contents region lists opened) id limit h in let whole = whole_contents region lists opened id in let sum = k.ledger in omega arith

@@ -1,6 +1,6 @@
 -- The memory of a paged store, where its pages stand, and why the laws of `Store` hold of it.
 use Rattle.std.specs.Prelude.{ℕ, ◌+◌, ◌*◌, ◌%◌, ◌^◌, ◌<◌, ◌≤◌, ◌≡◌, length, get_or}
-use Rattle.rh_defs.specs.declared.sizes.TheConstants.{MAX_AREAS}
+use Rattle.rh_defs.specs.declared.sizes.TheConstants.{MAX_AREAS, PAGE}
 use Rattle.rh_defs.specs.Memory.{Memory, IsOpen, Ledger, bytes}
 use Rattle.rh_pages.specs.declared.paged.PagedStore.{PagedStore}
 use Rattle.rh_pages.specs.Pages.{list_at, memory_in}
@@ -12,17 +12,17 @@ memory_of s = memory_in s.region s.areas.items s.opened.items s.free s.pages
 
 -- where page i of an area stands in the region
 unfoldable pub place_of : PagedStore → ℕ → ℕ → ℕ
-place_of s id i = 4096 * get_or (list_at s.areas.items id) i 0
+place_of s id i = PAGE * get_or (list_at s.areas.items id) i 0
 
 pub ledger_law : (s : PagedStore) → Ledger (memory_of s) MAX_AREAS
 unfolding memory_of
 ledger_law s = s.kept.ledger
 
-pub whole_law : (s : PagedStore) (id : ℕ) → length (bytes (memory_of s) id) % 4096 ≡ 0
+pub whole_law : (s : PagedStore) (id : ℕ) → length (bytes (memory_of s) id) % PAGE ≡ 0
 unfolding memory_of
 whole_law s id = whole_areas s.region s.areas.items s.opened.items s.free s.pages id
 
-pub within_law : (s : PagedStore) (id : ℕ) → 4096 * (memory_of s).free + length (bytes (memory_of s) id) ≤ 4096 * (memory_of s).pages
+pub within_law : (s : PagedStore) (id : ℕ) → PAGE * (memory_of s).free + length (bytes (memory_of s) id) ≤ PAGE * (memory_of s).pages
 unfolding memory_of
 within_law s id = within_pool s.region s.areas.items s.opened.items s.free s.pages MAX_AREAS id s.kept
 

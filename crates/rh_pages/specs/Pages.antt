@@ -1,11 +1,12 @@
 -- Areas that are made of pages of a region.
 use Rattle.std.specs.Prelude.{◌≡◌, ℕ, ◌+◌, ◌*◌, ◌/◌, ◌%◌, ◌≤◌, ◌==◌, if◌then◌else◌, Bool, false, List, [], ◌∷◌, ◌++◌, length, get_or, Option, Some, None}
 use Rattle.rh_defs.specs.Bytes.{part}
+use Rattle.rh_defs.specs.declared.sizes.TheConstants.{PAGE}
 use Rattle.rh_defs.specs.Memory.{Memory, Ledger}
 
--- the 4096 bytes of a page of the region
+-- the bytes of a page of the region
 abbrev pub page : List ℕ → ℕ → List ℕ
-page region k = part region (4096 * k) 4096
+page region k = part region (PAGE * k) PAGE
 
 -- the bytes of pages, one page after another
 abbrev pub bytes_of : List ℕ → List ℕ → List ℕ
@@ -26,7 +27,7 @@ memory_in region lists opened free pages = record { area = contents region lists
 
 -- where the byte at an offset of an area stands in the region
 abbrev pub spot_in : List (List ℕ) → ℕ → ℕ → ℕ
-spot_in lists id at = 4096 * get_or (list_at lists id) (at / 4096) 0 + at % 4096
+spot_in lists id at = PAGE * get_or (list_at lists id) (at / PAGE) 0 + at % PAGE
 
 -- how often a page stands in a list
 abbrev pub times : ℕ → List ℕ → ℕ
@@ -40,7 +41,7 @@ times_all k (x ∷ xs) = times k x + times_all k xs
 
 -- page lists and a free list that share out the pages of a region
 pub record IsStore (region : List ℕ) (lists : List (List ℕ)) (opened : List Bool) (free : List ℕ) (pages limit : ℕ) : Type 0 where
-  pub size : length region ≡ 4096 * pages
+  pub size : length region ≡ PAGE * pages
   pub table : length lists ≡ limit
   pub flags : length opened ≡ limit
   -- no page stands in two places
