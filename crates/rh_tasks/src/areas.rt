@@ -12,17 +12,11 @@ ghost use Rattle.rh_defs.specs.declared.sizes.TheConstants.{PAGE};
 
 use crate::made::find_made;
 use crate::module_blocks::MODULE;
-use crate::scrap::scrap_size;
+use crate::scrap::{SCRAP, scrap_size};
 use crate::world::World;
 use rh_defs::sizes::{FIXED_AREAS, PAGE};
 use rh_defs::{Refusal, Reply};
 use rh_store::{AreaId, Pages, Store};
-
-/// The module area's number.
-const MODULE_AREA: u32 = 1;
-
-/// The number of the area in which the scrap file lies.
-const SCRAP_AREA: u32 = 5;
 
 /// How many pages hold an amount of bytes, whatever its sign.
 fn pages_of(delta: i32) -> usize
@@ -81,7 +75,7 @@ impl<S: Store> World<S> {
         requires { in_range (Command.Area number delta) ≡ true }
         ensures { Gives (change_area_on self.old.desk number delta) self.old self.new result }
     {
-        if number == MODULE_AREA {
+        if number == u32::from(MODULE.area.0) {
             return self.change_module(delta);
         }
         if number < FIXED_AREAS as u32 {
@@ -94,7 +88,7 @@ impl<S: Store> World<S> {
     fn least_length(&self, number: u32) -> u32
         ensures { result ≡ least_length_on number self.now.desk }
     {
-        if number != SCRAP_AREA {
+        if number != u32::from(SCRAP.0) {
             return 0;
         }
         scrap_size(self.scrap)

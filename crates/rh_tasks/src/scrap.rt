@@ -9,8 +9,11 @@ ghost use Rattle.rh_tasks.specs.View.{the_module, kept_file, scrap_size as scrap
 
 use crate::module_blocks::MODULE;
 use rh_defs::Ref;
-use rh_store::Words;
+use rh_store::{AreaId, Words};
 use rh_wimp::Queue;
+
+/// The area in which the scrap file lies.
+pub const SCRAP: AreaId = AreaId(5);
 
 /// The scrap file, whose bytes are the first of area 5.
 #[derive(Clone, Copy, Debug, PartialEq, Eq)]

@@ -13,14 +13,11 @@ ghost use Rattle.rh_tasks.specs.Polls.{IsAt, IsFor, Attempts, Becomes, Handles, 
 use crate::documents::{append, document_size};
 use crate::letters::{load_ack_letter, load_letter};
 use crate::module_blocks::MODULE;
-use crate::scrap::{ScrapFile, scrap_size};
+use crate::scrap::{SCRAP, ScrapFile, scrap_size};
 use crate::world::World;
 use rh_defs::sizes::{PAGE, SLOT_START, pages_for};
 use rh_defs::{Anchor, Asked, Message, Outcome, Ref, Refusal, Sending};
-use rh_store::{AreaId, Store};
-
-/// The area in which the scrap file lies.
-const SCRAP: AreaId = AreaId(5);
+use rh_store::Store;
 
 impl<S: Store> World<S> {
     /// The source becomes the scrap file, and the DataLoad is sent, whole or not at all: NoBlock, Busy, NoTask, NoRefs,
