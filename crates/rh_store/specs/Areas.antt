@@ -1,6 +1,7 @@
 -- What a list of areas contains.
 use Rattle.std.specs.Prelude.{◌≡◌, ℕ, zero, suc, ◌*◌, ◌%◌, ◌≤◌, false, if◌then◌else◌, List, [], ◌∷◌, length, Option, Some, None, All, unwrap_or, vec_capacity}
 use Rattle.rh_store.specs.declared.area.Area.{Area}
+use Rattle.rh_defs.specs.declared.sizes.TheConstants.{PAGE}
 use Rattle.rh_defs.specs.Memory.{Memory, Ledger, area_set}
 
 -- an area's bytes, where it is open
@@ -29,12 +30,12 @@ room_at (a ∷ list) (suc k) = room_at list k
 
 -- an area is whole pages, and none where it is closed
 pub record IsTidy (a : Area) : Type 0 where
-  pub whole : length a.bytes.items % 4096 ≡ 0
+  pub whole : length a.bytes.items % PAGE ≡ 0
   pub empty : a.opened ≡ false → a.bytes.items ≡ []
 
 -- an area's vector has room for this many pages
 pub record HasRoom (pages : ℕ) (a : Area) : Type 0 where
-  pub room : 4096 * pages ≤ vec_capacity a.bytes
+  pub room : PAGE * pages ≤ vec_capacity a.bytes
 
 -- a table of so many areas, each of whole pages and with room for all pages, and the ledger holds
 pub record IsStore (list : List Area) (free pages limit : ℕ) : Type 0 where
@@ -47,5 +48,5 @@ pub record IsStore (list : List Area) (free pages limit : ℕ) : Type 0 where
 pub record ChangedAt (list new : List Area) (i : ℕ) (o : Option (List ℕ)) : Type 0 where
   pub len : length new ≡ length list
   pub contents_are : contents new ≡ area_set (contents list) i o
-  pub tidy : length (unwrap_or o []) % 4096 ≡ 0 → All IsTidy list → All IsTidy new
+  pub tidy : length (unwrap_or o []) % PAGE ≡ 0 → All IsTidy list → All IsTidy new
   pub reserved : (pages : ℕ) → All (HasRoom pages) list → All (HasRoom pages) new

@@ -3,7 +3,7 @@ use Rattle.std.specs.Prelude.{◌≡◌, ℕ, zero, suc, ◌+◌, ◌*◌, ◌%�
 use Rattle.std.proofs.Common.{inl, inr, ap, arith}
 use Rattle.std.proofs.lemmas.Bool.{cases_lt}
 use Rattle.rh_store.specs.declared.area.Area.{Area}
-use Rattle.rh_defs.specs.declared.sizes.TheConstants.{MAX_PAGES}
+use Rattle.rh_defs.specs.declared.sizes.TheConstants.{MAX_PAGES, PAGE}
 use Rattle.rh_store.specs.Areas.{contents, memory_in, IsTidy, IsStore}
 use Rattle.rh_defs.specs.Memory.{IsOpen, bytes}
 use Rattle.rh_defs.proofs.MemoryLaws.{pages_below-one}
@@ -22,24 +22,24 @@ open_index [] i o = absurd cc
 open_index (x ∷ list) zero o = omega arith
 open_index (x ∷ list) (suc i) o = let r = open_index list i o in omega arith
 
-whole_shown : (b : Bool) (y : List ℕ) → length y % 4096 ≡ 0 → length (unwrap_or (cond b (Some y) None) []) % 4096 ≡ 0
+whole_shown : (b : Bool) (y : List ℕ) → length y % PAGE ≡ 0 → length (unwrap_or (cond b (Some y) None) []) % PAGE ≡ 0
 whole_shown true y h = h
 whole_shown false y h = refl
 
-pub whole_contents : (list : List Area) (i : ℕ) → All IsTidy list → length (unwrap_or (contents list i) []) % 4096 ≡ 0
+pub whole_contents : (list : List Area) (i : ℕ) → All IsTidy list → length (unwrap_or (contents list i) []) % PAGE ≡ 0
 unfolding contents
 whole_contents [] i all = refl
 whole_contents (x ∷ list) zero all = whole_shown x.opened x.bytes.items (all 0 x (omega arith)).whole
 whole_contents (x ∷ list) (suc i) all = whole_contents list i (λ k d h. all (suc k) d (omega arith))
 
-pub whole_areas : (list : List Area) (free pages limit id : ℕ) → IsStore list free pages limit → length (bytes (memory_in list free pages) id) % 4096 ≡ 0
+pub whole_areas : (list : List Area) (free pages limit id : ℕ) → IsStore list free pages limit → length (bytes (memory_in list free pages) id) % PAGE ≡ 0
 unfolding bytes
 whole_areas list free pages limit id k = whole_contents list id k.tidy
 
 pub numbered_areas : (list : List Area) (free pages limit id : ℕ) → IsStore list free pages limit → IsOpen (memory_in list free pages) id → id < limit
 numbered_areas list free pages limit id k o = let h = open_index list id o in let t = k.table in omega arith
 
-pub within_pool : (list : List Area) (free pages limit id : ℕ) → IsStore list free pages limit → 4096 * free + length (bytes (memory_in list free pages) id) ≤ 4096 * pages
+pub within_pool : (list : List Area) (free pages limit id : ℕ) → IsStore list free pages limit → PAGE * free + length (bytes (memory_in list free pages) id) ≤ PAGE * pages
 unfolding bytes
 within_pool list free pages limit id k = elim (cases_lt id limit) [
   | inl h ↦ let one = pages_below-one (contents list) id limit h in let whole = whole_contents list id k.tidy in let sum = k.ledger in omega arith

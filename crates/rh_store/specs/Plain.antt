@@ -1,7 +1,7 @@
 -- The memory of a plain store, and why the laws of `Store` hold of it.
 use Rattle.std.specs.Prelude.{ℕ, ◌+◌, ◌*◌, ◌%◌, ◌^◌, ◌<◌, ◌≤◌, ◌≡◌, length}
 use Rattle.rh_store.specs.declared.plain.PlainStore.{PlainStore}
-use Rattle.rh_defs.specs.declared.sizes.TheConstants.{MAX_AREAS}
+use Rattle.rh_defs.specs.declared.sizes.TheConstants.{MAX_AREAS, PAGE}
 use Rattle.rh_store.specs.Areas.{memory_in}
 use Rattle.rh_store.specs.Kept.{whole_areas, within_pool, few_pages, small_areas, numbered_areas}
 use Rattle.rh_defs.specs.Memory.{Memory, IsOpen, Ledger, bytes}
@@ -14,11 +14,11 @@ pub ledger_law : (s : PlainStore) → Ledger (memory_of s) MAX_AREAS
 unfolding memory_of
 ledger_law s = s.kept.ledger
 
-pub whole_law : (s : PlainStore) (id : ℕ) → length (bytes (memory_of s) id) % 4096 ≡ 0
+pub whole_law : (s : PlainStore) (id : ℕ) → length (bytes (memory_of s) id) % PAGE ≡ 0
 unfolding memory_of
 whole_law s id = whole_areas s.areas.items s.free s.pages MAX_AREAS id s.kept
 
-pub within_law : (s : PlainStore) (id : ℕ) → 4096 * (memory_of s).free + length (bytes (memory_of s) id) ≤ 4096 * (memory_of s).pages
+pub within_law : (s : PlainStore) (id : ℕ) → PAGE * (memory_of s).free + length (bytes (memory_of s) id) ≤ PAGE * (memory_of s).pages
 unfolding memory_of
 within_law s id = within_pool s.areas.items s.free s.pages MAX_AREAS id s.kept
 
