@@ -24,7 +24,7 @@ fn encode_name(name: &[u8], out: &mut [u8]) -> usize
     requires name { is_pathname name.now ≡ true }
     ensures bytes { out.new ≡ put out.old NAME (name_bytes name.now) }
     ensures length { result ≡ length (name_bytes name.now) }
-    ensures short { result ≤ 212 }
+    ensures short { NAME + result ≤ MOST_LENGTH }
 {
     let room = name_room(name);
     put_bytes(out, NAME, name);
@@ -37,7 +37,7 @@ fn encode_file(file: &FileData, out: &mut [u8]) -> usize
     requires { length out.old ≡ MOST_LENGTH }
     ensures bytes { out.new ≡ put out.old DATA (words (file_words file.now) ++ name_bytes file.now.name) }
     ensures length { result ≡ FILE_LENGTH + length (name_bytes file.now.name) }
-    ensures short { result ≤ 236 }
+    ensures short { DATA + result ≤ MOST_LENGTH }
     ensures numbers { AreWords (file_words file.now) }
     ensures name { is_pathname file.now.name ≡ true }
 {
@@ -71,7 +71,7 @@ fn encode_body(body: &Body, out: &mut [u8]) -> usize
     requires { length out.old ≡ MOST_LENGTH }
     ensures bytes { out.new ≡ put out.old ACTION (body_bytes body.now) }
     ensures length { result ≡ length (body_bytes body.now) }
-    ensures short { result ≤ 240 }
+    ensures short { ACTION + result ≤ MOST_LENGTH }
     ensures numbers { AreWords (data_words body.now) }
     ensures name { HasName body.now }
 {
@@ -89,7 +89,7 @@ fn encode_body(body: &Body, out: &mut [u8]) -> usize
 /// The length of what is said of a file.
 fn file_length(file: &FileData) -> usize
     ensures length { result ≡ FILE_LENGTH + length (name_bytes file.now.name) }
-    ensures short { result ≤ 236 }
+    ensures short { DATA + result ≤ MOST_LENGTH }
 {
     FILE_LENGTH + name_room(file.name.as_bytes())
 }
@@ -97,7 +97,7 @@ fn file_length(file: &FileData) -> usize
 /// The length of action and data.
 pub fn body_length(body: &Body) -> usize
     ensures length { result ≡ length (body_bytes body.now) }
-    ensures short { result ≤ 240 }
+    ensures short { ACTION + result ≤ MOST_LENGTH }
 {
     WORD + match body {
         Body::DataSave(file) => file_length(file),
