@@ -1,5 +1,5 @@
 //! The row of flex blocks that lie one after the other above the C heap: walks over it, and how it slides.
-ghost use Rattle.std.specs.Prelude.{◌≡◌, ◌+◌, ◌-◌, ◌%◌, ◌<◌, true, ◌^◌, ◌≤◌, length, take, is_some, slice_get, MatchOption, List, OnSome, IfSome, IfNone, false};
+ghost use Rattle.std.specs.Prelude.{◌≡◌, ◌+◌, ◌-◌, ◌%◌, ◌<◌, true, ◌^◌, ◌≤◌, length, take, is_some, slice_get, MatchOption, List, OnSome, IfNone, false};
 ghost use Rattle.rh_defs.specs.Memory.{IsOpen, bytes, Edited};
 ghost use Rattle.rh_defs.specs.Slot.{Flex, flex_around, weight, slot_length};
 ghost use Rattle.rh_defs.specs.Pieces.{total};
