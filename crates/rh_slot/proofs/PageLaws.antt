@@ -1,11 +1,12 @@
 -- A flex block whose header is read in the bytes of a page.
-use Rattle.std.proofs.Common.{◌≡◌, ℕ, ◌+◌, ◌-◌, ◌/◌, ◌≤◌, true, List, length, sym, ap, ◌∙◌, arith}
+use Rattle.std.proofs.Common.{◌≡◌, ℕ, ◌+◌, ◌-◌, ◌/◌, ◌<◌, ◌≤◌, inl, inr, true, List, length, refl, sym, ap, ◌∙◌, arith}
+use Rattle.std.proofs.lemmas.Bool.{cases_lt}
 use Rattle.rh_defs.specs.Bytes.{word, part}
-use Rattle.rh_defs.specs.Slot.{Slot}
+use Rattle.rh_defs.specs.Slot.{Slot, slot_start}
 use Rattle.rh_defs.specs.SlotImage.{SlotWords, is_block}
 use Rattle.rh_defs.specs.declared.listing.BlockItem.{BlockItem}
 use Rattle.rh_defs.proofs.BytesLaws.{length-part, word-part}
-use Rattle.rh_defs.proofs.SlotImageLaws.{is_block-yes}
+use Rattle.rh_defs.proofs.SlotImageLaws.{is_block-yes, is_block-is}
 use Rattle.rh_slot.specs.Row.{Walked, Headed, item_of}
 use Rattle.rh_slot.proofs.WalkLaws.{Turn, turn}
 
@@ -48,6 +49,35 @@ module _ (b anchors page : List ℕ) (start n at place : ℕ) (item : BlockItem)
       h.is
       ∙ (ap (λ w. let r : BlockItem = record { anchor = (w - 32768) / 4; address = 32768 + place + 8; size = word page (at + 4) } in r) head_word
       ∙ ap (λ w. let r : BlockItem = record { anchor = (word b place - 32768) / 4; address = 32768 + place + 8; size = w } in r) (in_header 4 (omega arith)))
+
+-- a block's header that lies whole in the page
+module _ (b anchors page : List ℕ) (start n at place : ℕ) (first : anchors ≡ part b 0 4096) (rest : page ≡ part b start n) (e : place ≡ start + at) (within : at + 8 ≤ n) where
+  first_word : word page at ≡ word b place
+  first_word = ap (λ l. word l at) rest ∙ word-part b start n at (omega arith) ∙ ap (word b) (omega arith)
+
+  header_in : is_block b place ≡ true → Headed anchors page at place (record { anchor = (word page at - slot_start) / 4; address = slot_start + place + 8; size = word page (at + 4) })
+  header_in t =
+      let i = is_block-is b place t in
+      let w = first_word in
+      let least = i.least in
+      let most = i.most in
+      let multiple = i.multiple in
+      record {
+        whole = omega (arith, ap length rest, length-part b start n);
+        least = omega arith;
+        most = omega arith;
+        multiple = omega arith;
+        back = ap (λ l. word l (word page at - slot_start)) first ∙ word-part b 0 4096 (word page at - slot_start) (omega arith) ∙ ap (word b) (omega arith) ∙ i.back;
+        is = refl;
+      }
+
+-- where no header was found, none lies whole in the page
+pub beyond : (b anchors page : List ℕ) (start n at place : ℕ) → anchors ≡ part b 0 4096 → page ≡ part b start n → place ≡ start + at → ((item : BlockItem) → Headed anchors page at place item → ⊥)
+    → is_block b place ≡ true → start + n < place + 8
+beyond b anchors page start n at place first rest e none t = elim (cases_lt (start + n) (place + 8)) [
+  | inl l ↦ l
+  | inr l ↦ absurd (none _ (header_in b anchors page start n at place first rest e (omega arith) t))
+]
 
 -- what a walk finds in such a header
 pub record Passes (b : List ℕ) (s : Slot) (place : ℕ) (item : BlockItem) : Type 0 where

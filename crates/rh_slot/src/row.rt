@@ -1,5 +1,5 @@
 //! The row of flex blocks that lie one after the other above the C heap: walks over it, and how it slides.
-ghost use Rattle.std.specs.Prelude.{◌≡◌, ◌+◌, ◌<◌, true, ◌^◌, ◌≤◌, length, take, is_some, slice_get, MatchOption, List, OnSome, IfSome, IfNone, false};
+ghost use Rattle.std.specs.Prelude.{◌≡◌, ◌+◌, ◌-◌, ◌%◌, ◌<◌, true, ◌^◌, ◌≤◌, length, take, is_some, slice_get, MatchOption, List, OnSome, IfNone, false};
 ghost use Rattle.rh_defs.specs.Memory.{IsOpen, bytes, Edited};
 ghost use Rattle.rh_defs.specs.Slot.{Flex, flex_around, weight, slot_length};
 ghost use Rattle.rh_defs.specs.Pieces.{total};
@@ -9,7 +9,7 @@ ghost use Rattle.rh_defs.specs.SlotImage.{Lie, is_block, flex_place};
 ghost use Rattle.rh_defs.specs.declared.listing.BlockItem.{BlockItem};
 ghost use Rattle.rh_slot.specs.Area.{IsSlot, slot_in};
 ghost use Rattle.rh_slot.specs.Row.{Row, Hung, Shifted, Walked, WalksIn, Headed, item_of};
-ghost use Rattle.rh_defs.specs.declared.sizes.TheConstants.{PAGE};
+ghost use Rattle.rh_defs.specs.declared.sizes.TheConstants.{FLEX_HEADER, PAGE};
 
 use crate::area::{read, slide, write};
 use crate::slot::Slot;
@@ -52,13 +52,14 @@ fn begins<S: Words>(store: &S, area: AreaId, place: usize) -> bool
 }
 
 /// The flex block at a place, whose header lies `at` bytes into a page, with the anchors in the slot's first page.
-/// `None` where no block begins there, or the page ends in the header.
+/// `None` just where no block begins there, or the page ends in the header.
 #[inline(always)]
 fn item_in(anchors: &[u8], page: &[u8], at: usize, place: usize) -> Option<BlockItem>
     requires anchors { C_HEAP_PLACE ≤ length anchors.now }
     requires small { place < 2 ^ 30 }
     requires low { at ≤ place }
-    ensures { IfSome result (Headed anchors.now page.now at place) }
+    ensures { MatchOption result ((item : BlockItem) → Headed anchors.now page.now at place item → ⊥)
+        (Headed anchors.now page.now at place) }
 {
     if page.len() < at + FLEX_HEADER {
         return None;
@@ -155,7 +156,7 @@ impl Slot {
         Some(read(store, self.area, place + WORD))
     }
 
-    /// Passes the flex blocks from a walk's place on whose headers lie whole in that place's page.
+    /// Passes the flex blocks from a walk's place on whose headers lie whole in that place's page, all of them.
     fn pass_in_page<S: Words>(self, store: &S, anchors: &[u8], start: FlexWalk) -> FlexWalk
         requires slot { IsSlot (S.memory store.now) self }
         requires anchors { anchors.now ≡ part (bytes (S.memory store.now) self.area.0) 0 PAGE }
@@ -165,6 +166,8 @@ impl Slot {
         ensures on { start.place ≤ result.place }
         ensures walk { WalksIn (slot_in (S.memory store.now) self) start → WalksIn (slot_in (S.memory store.now) self) result }
         ensures passed { start.passed ≤ result.passed }
+        ensures all { is_block (bytes (S.memory store.now) self.area.0) result.place ≡ true
+            → start.place + (PAGE - start.place % PAGE) < result.place + FLEX_HEADER }
     {
         let mut walk = start;
         if store.len(self.area) <= start.place {
@@ -278,7 +281,7 @@ impl Slot {
         Some(item)
     }
 
-    /// Lists the flex blocks from a walk's place on whose headers lie whole in that place's page.
+    /// Lists the flex blocks from a walk's place on whose headers lie whole in that place's page, all of them.
     fn list_in_page<S: Words>(
         self,
         store: &S,
@@ -293,6 +296,8 @@ impl Slot {
         ensures walk { WalksIn (slot_in (S.memory store.now) self) result }
         ensures on { start.passed ≤ result.passed }
         ensures listed { listed.new.items ≡ take result.passed (block_items (slot_in (S.memory store.now) self)) }
+        ensures all { is_block (bytes (S.memory store.now) self.area.0) result.place ≡ true
+            → start.place + (PAGE - start.place % PAGE) < result.place + FLEX_HEADER }
     {
         let mut walk = start;
         if store.len(self.area) <= start.place {

@@ -3,8 +3,8 @@ use Rattle.std.proofs.Common.{◌∙◌, ap, arith}
 use Rattle.std.specs.Prelude.{Some}
 use Rattle.rh_slot.specs.Area.{slot_in}
 use Rattle.rh_slot.proofs.ItemLaws.{room_left, one_more}
-use Rattle.rh_slot.proofs.WalkLaws.{walk_at, walked_most, few_passed, walks_on, step_item}
-use Rattle.rh_slot.proofs.PageLaws.{anchors_long, passes}
+use Rattle.rh_slot.proofs.WalkLaws.{walk_at, walked_most, no_room, few_passed, walks_on, step_item}
+use Rattle.rh_slot.proofs.PageLaws.{anchors_long, beyond, passes}
 use Rattle.rh_slot.proofs.slot.Slot.list_in_page.Goals as goal
 
 pub item_in-requires-clause-anchors : goal.item_in-requires-clause-anchors
@@ -45,3 +45,9 @@ walk-preserved g c =
       above = omega (arith, i.above);
       listed = c.push.ensures.items ∙ one_more _ _ _ _ i.listed (ap Some p.is ∙ step_item _ _ _ k i.stands p.block);
     }
+
+pub returns-then-len-start-clause-all : goal.returns-then-len-start-clause-all
+returns-then-len-start-clause-all g c = λ t. absurd (let n = no_room _ _ _ c.requires.slot.spells.words (walk_at _ _ c.requires.walk) (omega (arith, c.if-len-start.true, c.len.ensures)) in cc)
+
+pub returns-clause-all : goal.returns-clause-all
+returns-clause-all g c = λ t. let l = beyond _ _ _ _ _ _ _ c.requires.anchors c.rest_of_page-page.ensures (omega (arith, c.walk.invariant.above)) c.in_default.ensures t in omega (arith, l)

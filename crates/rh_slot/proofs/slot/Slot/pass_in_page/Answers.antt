@@ -1,7 +1,7 @@
 -- Each turn passes one block, whose header is read in the page's bytes.
 use Rattle.std.proofs.Common.{arith}
-use Rattle.rh_slot.proofs.WalkLaws.{walked_most, walks_on}
-use Rattle.rh_slot.proofs.PageLaws.{anchors_long, passes}
+use Rattle.rh_slot.proofs.WalkLaws.{walked_most, no_room, walks_on}
+use Rattle.rh_slot.proofs.PageLaws.{anchors_long, beyond, passes}
 use Rattle.rh_slot.proofs.slot.Slot.pass_in_page.Goals as goal
 
 pub walk-init : goal.walk-init
@@ -38,3 +38,9 @@ walk-preserved g c =
       passed = omega (arith, i.passed);
       few = omega (arith, i.few, c.flex_weight.ensures);
     }
+
+pub returns-then-len-start-clause-all : goal.returns-then-len-start-clause-all
+returns-then-len-start-clause-all g c = λ t. absurd (let n = no_room _ _ _ c.requires.slot.spells.words c.requires.walked (omega (arith, c.if-len-start.true, c.len.ensures)) in cc)
+
+pub returns-clause-all : goal.returns-clause-all
+returns-clause-all g c = λ t. let l = beyond _ _ _ _ _ _ _ c.requires.anchors c.rest_of_page-page.ensures (omega (arith, c.walk.invariant.above)) c.in_default.ensures t in omega (arith, l)
