@@ -146,20 +146,49 @@ fn files_are_found_by_name(rt: HostRuntime) -> Result<(), Fail> {
 }
 
 #[test]
-fn refusals_and_faults_print_their_names(rt: HostRuntime) -> Result<(), Fail> {
-    let alloc = rt.alloc();
-    same(
-        &rt,
-        Refusal::NameInUse.to_string(alloc)?.as_str(),
-        "NameInUse",
-    );
-    same(&rt, Refusal::NoRoom.to_string(alloc)?.as_str(), "NoRoom");
-    same(
-        &rt,
-        LineFault::TooLong.to_string(alloc)?.as_str(),
-        "TooLong",
-    );
-    same(&rt, LineFault::Word(3).to_string(alloc)?.as_str(), "Word 3");
+fn refusals_print_their_names(rt: HostRuntime) -> Result<(), Fail> {
+    for (refusal, name) in [
+        (Refusal::NameInUse, "NameInUse"),
+        (Refusal::NoName, "NoName"),
+        (Refusal::TooManyTasks, "TooManyTasks"),
+        (Refusal::NoHandles, "NoHandles"),
+        (Refusal::NoFile, "NoFile"),
+        (Refusal::NoBlock, "NoBlock"),
+        (Refusal::AnchorInUse, "AnchorInUse"),
+        (Refusal::NotABlock, "NotABlock"),
+        (Refusal::NotYours, "NotYours"),
+        (Refusal::Busy, "Busy"),
+        (Refusal::NotOpen, "NotOpen"),
+        (Refusal::NothingSent, "NothingSent"),
+        (Refusal::BadRange, "BadRange"),
+        (Refusal::BadSize, "BadSize"),
+        (Refusal::ExcessiveShrink, "ExcessiveShrink"),
+        (Refusal::NoTask, "NoTask"),
+        (Refusal::NoRefs, "NoRefs"),
+        (Refusal::QueueFull, "QueueFull"),
+        (Refusal::NoBudge, "NoBudge"),
+        (Refusal::NoRoom, "NoRoom"),
+        (Refusal::NoArea, "NoArea"),
+        (Refusal::TooManyAreas, "TooManyAreas"),
+        (Refusal::NoNumbers, "NoNumbers"),
+        (Refusal::TooBig, "TooBig"),
+    ] {
+        same(&rt, refusal.to_string(rt.alloc())?.as_str(), name);
+    }
+    Ok(())
+}
+
+#[test]
+fn faults_print_their_names(rt: HostRuntime) -> Result<(), Fail> {
+    for (fault, name) in [
+        (LineFault::TooLong, "TooLong"),
+        (LineFault::Unended, "Unended"),
+        (LineFault::Unknown, "Unknown"),
+        (LineFault::Count, "Count"),
+        (LineFault::Word(3), "Word 3"),
+    ] {
+        same(&rt, fault.to_string(rt.alloc())?.as_str(), name);
+    }
     Ok(())
 }
 
