@@ -14,8 +14,12 @@ returns-in_default-clause-told g c =
 pub returns-then-contains-clause-told : goal.returns-then-contains-clause-told
 returns-then-contains-clause-told g c =
     rw (← c.loop-word.invariant.quiet)
-    (inr (_, c.tell_bad_word-then-contains.ensures.ending,
-    bad-given _ _ _ _ _ _ c.loop-word-test.true c.in-Some.ensures c.if-contains.ensures c.loop-word.invariant.named c.loop-word.invariant.good, c.tell_bad_word-then-contains.ensures.told))
+    (inr (
+      _,
+      c.tell_bad_word-then-contains.ensures.ending,
+      bad-given _ _ _ _ _ _ c.loop-word-test.true c.in-Some.ensures c.if-contains.ensures c.loop-word.invariant.named c.loop-word.invariant.good,
+      c.tell_bad_word-then-contains.ensures.told,
+    ))
 
 pub returns-then-is_err-clause-told : goal.returns-then-is_err-clause-told
 returns-then-is_err-clause-told g c = rw (← c.loop-word.invariant.quiet) (inl (c.ended.ensures.ending, c.ended.ensures.told NoMemory refl))

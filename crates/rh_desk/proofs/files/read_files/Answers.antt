@@ -26,8 +26,12 @@ returns-then-contains-clause-wrong g c = λ ending.
 pub returns-then-contains-clause-told : goal.returns-then-contains-clause-told
 returns-then-contains-clause-told g c =
     rw (← (c.in_ok-bytes.ensures.quiet ∙ c.loop-word.invariant.quiet))
-    (inl (inr (_, c.tell_bad_word-then-contains.ensures.ending,
-    bad-given _ _ _ _ _ _ c.loop-word-test.true c.in-Some.ensures c.if-contains.ensures c.loop-word.invariant.named c.loop-word.invariant.good, c.tell_bad_word-then-contains.ensures.told)))
+    (inl (inr (
+      _,
+      c.tell_bad_word-then-contains.ensures.ending,
+      bad-given _ _ _ _ _ _ c.loop-word-test.true c.in-Some.ensures c.if-contains.ensures c.loop-word.invariant.named c.loop-word.invariant.good,
+      c.tell_bad_word-then-contains.ensures.told,
+    )))
 
 pub returns-then-is_err-clause-told : goal.returns-then-is_err-clause-told
 returns-then-is_err-clause-told g c =
