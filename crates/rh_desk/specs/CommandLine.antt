@@ -1,5 +1,5 @@
 -- What the program's words may be: `run [--pages N] SCRIPT [NAME=PATH ...]`, and `check FILE`.
-use Rattle.std.specs.Prelude.{ℕ, [], ◌∷◌, List, Option, Some, codes, pos, true}
+use Rattle.std.specs.Prelude.{Some, codes, pos, true}
 use Rattle.rh_defs.specs.declared.sizes.TheConstants.{MAX_PAGES, MIN_PAGES}
 use Rattle.clap.specs.Lexer.{usize_max}
 use Rattle.clap.specs.Simple.{App, new_app, new_rule, on_top, with_rule, with_subcommand}
