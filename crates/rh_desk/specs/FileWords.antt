@@ -1,11 +1,10 @@
 -- The NAME=PATH words.
-use Rattle.std.specs.Prelude.{◌≡◌, ◌⊎◌, ℕ, ◌==◌, ◌&&◌, not, Bool, if◌then◌else◌, List, [], ◌∷◌, ◌++◌, length, Option, Some, None}
-use Rattle.std.specs.List.{list_any, before_first, after_first}
-use Rattle.std.specs.Str.{bytes_eq}
+use Rattle.std.specs.Prelude.{◌≡◌, ◌≢◌, ◌⊎◌, ℕ, ◌==◌, ◌&&◌, not, Bool, false, if◌then◌else◌, List, ◌∷◌, ◌++◌, map, length, AllPairs, Contains, Option, Some, None}
+use Rattle.std.specs.List.{AllPass, before_first, after_first}
 use Rattle.rh_defs.specs.Forms.{is_name}
 use Rattle.rh_lines.specs.Flow.{Output}
 use Rattle.rh_session.specs.declared.status.RunFault.TheVariants.{NoMemory}
-use Rattle.rh_desk.specs.Telling.{Tells, bad_word_text, run_fault_text}
+use Rattle.rh_desk.specs.Telling.{Tells, bad_word_text, lost_file_text, run_fault_text}
 use Rattle.rh_desk.specs.declared.ending.Ending.{Ending}
 use Rattle.rh_desk.specs.declared.ending.Ending.TheVariants.{WrongWords, Fault}
 
@@ -24,18 +23,27 @@ is_file_word word = is_name (word_name word) && not (length (word_path word) == 
 abbrev pub file_word : List ℕ → Option (List ℕ × List ℕ)
 file_word word = if is_file_word word then Some (word_name word, word_path word) else None
 
--- the word may come behind words with these names
-abbrev pub is_next : List (List ℕ) → List ℕ → Bool
-is_next names word = is_file_word word && not (list_any (bytes_eq (word_name word)) names)
+-- each word is a NAME=PATH word, and no two have one name
+pub record AreGood (words : List (List ℕ)) : Type 0 where
+  pub formed : AllPass is_file_word words
+  pub distinct : AllPairs (λ name later. name ≢ later) (map word_name words)
 
--- of words behind those with these names the first that is no NAME=PATH word, or whose name was given before
-unfoldable pub bad_word : List (List ℕ) → List (List ℕ) → Option (List ℕ)
-bad_word names [] = None
-bad_word names (word ∷ words) =
-    if is_next names word then bad_word (names ++ word_name word ∷ []) words else Some word
+-- the first word that is no NAME=PATH word, or whose name a word before it has
+pub record IsFirstBad (words : List (List ℕ)) (word : List ℕ) : Type 0 where
+  pub before : List (List ℕ)
+  pub behind : List (List ℕ)
+  pub whole : words ≡ before ++ word ∷ behind
+  pub good : AreGood before
+  pub bad : (is_file_word word ≡ false) ⊎ Contains (map word_name before) (word_name word)
 
 -- the first bad word was told, or that memory was refused
 abbrev pub TellsBadWord : Output → Output → List (List ℕ) → Ending → Type 0
 TellsBadWord old new words ending =
     ((ending ≡ Fault) × Tells old new (run_fault_text NoMemory))
-    ⊎ ((word : List ℕ) × (ending ≡ WrongWords) × (bad_word [] words ≡ Some word) × Tells old new (bad_word_text word))
+    ⊎ ((word : List ℕ) × (ending ≡ WrongWords) × IsFirstBad words word × Tells old new (bad_word_text word))
+
+-- the same, or the path of one of the words was told, since its file can't be had
+abbrev pub TellsBadFile : Output → Output → List (List ℕ) → Ending → Type 0
+TellsBadFile old new words ending =
+    TellsBadWord old new words ending
+    ⊎ ((word : List ℕ) × (ending ≡ Fault) × Contains words word × Tells old new (lost_file_text (word_path word)))

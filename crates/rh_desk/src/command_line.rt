@@ -1,6 +1,8 @@
 //! The program's words.
 
-ghost use Rattle.std.specs.Prelude.{◌≤◌};
+ghost use Rattle.std.specs.Prelude.{◌≡◌, ◌≤◌, IfOk, map, string_bytes};
+ghost use Rattle.clap.specs.Words.{FailsBy, app_of, fault_of, subcommand_of, subcommand_rows_of};
+ghost use Rattle.rh_desk.specs.CommandLine.{check_words, program_words, run_words};
 ghost use Rattle.rh_defs.specs.declared.sizes.TheConstants.{MAX_PAGES, MIN_PAGES};
 
 use clap::{Arg, ArgAction, ArgMatches, Command, Error, value_parser};
@@ -68,7 +70,10 @@ pub fn request_of<'m, 'a>(matches: &'m ArgMatches<'a>) -> Option<Request<'m, 'a>
 }
 
 /// The words, as far as `clap` knows them.
-pub fn parsed<'a>(alloc: Global, words: &'a [String]) -> Result<ArgMatches<'a>, Error> {
+pub fn parsed<'a>(alloc: Global, words: &'a [String]) -> Result<ArgMatches<'a>, Error>
+    ensures found { IfOk result (λ matches. subcommand_rows_of matches ≡ subcommand_of program_words (map string_bytes words.entry.now)) }
+    ensures fails { FailsBy (fault_of program_words (map string_bytes words.entry.now)) result }
+{
     Command::new(alloc, "vervainfile")
         .version("1.0.0")
         .about("The memory of a desktop, shared by its tasks")
@@ -80,7 +85,9 @@ pub fn parsed<'a>(alloc: Global, words: &'a [String]) -> Result<ArgMatches<'a>, 
         .try_get_matches_from(words)
 }
 
-fn running<'a>(alloc: Global) -> Result<Command<'a>, AllocError> {
+fn running<'a>(alloc: Global) -> Result<Command<'a>, AllocError>
+    ensures { IfOk result (λ command. app_of command ≡ run_words) }
+{
     let pages = Arg::new(alloc, "pages")
         .long("pages")
         .value_name("N")
@@ -104,7 +111,9 @@ fn running<'a>(alloc: Global) -> Result<Command<'a>, AllocError> {
         .arg(files)
 }
 
-fn checking<'a>(alloc: Global) -> Result<Command<'a>, AllocError> {
+fn checking<'a>(alloc: Global) -> Result<Command<'a>, AllocError>
+    ensures { IfOk result (λ command. app_of command ≡ check_words) }
+{
     let file = Arg::new(alloc, "file")
         .value_name("FILE")
         .help("The bytes of a heap, 1048576 at most")

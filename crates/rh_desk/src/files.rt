@@ -1,9 +1,9 @@
 //! The files that a run is given, and the one that is checked.
 
-ghost use Rattle.std.specs.Prelude.{◌≡◌, ◌≢◌, ◌⊎◌, ◌≤◌, [], None, IfOk, IfErr, map, vec_len};
+ghost use Rattle.std.specs.Prelude.{◌≡◌, ◌⊎◌, ◌≤◌, ℕ, List, IfOk, IfErr, map, vec_len};
 ghost use Rattle.std.specs.Option.{option_map};
 ghost use Rattle.rh_desk.specs.Ending.{exit_status};
-ghost use Rattle.rh_desk.specs.FileWords.{TellsBadWord, bad_word, file_word, word_name};
+ghost use Rattle.rh_desk.specs.FileWords.{AreGood, IsFirstBad, TellsBadFile, TellsBadWord, file_word, word_name};
 ghost use Rattle.rh_desk.specs.Telling.{Tells, lost_file_text, run_fault_text};
 
 use crate::ending::Ending;
@@ -23,7 +23,7 @@ const MOST_BYTES: usize = 1_048_576;
 /// a path of at least one byte, or whose name was given before.
 pub fn check_words<E: Sink>(alloc: Global, words: &[&str], errors: &mut E) -> Result<(), Ending>
     ensures status { IfErr result (λ ending. 2 ≤ exit_status ending) }
-    ensures good { IfOk result (λ _. bad_word [] (map (λ word. word.now) words.now) ≡ None) }
+    ensures good { IfOk result (λ _. AreGood (map (λ word. word.now) words.now)) }
     ensures quiet { IfOk result (λ _. E.output errors.new ≡ E.output errors.old) }
     ensures told { IfErr result (TellsBadWord (E.output errors.old) (E.output errors.new) (map (λ word. word.now) words.now)) }
 {
@@ -51,7 +51,9 @@ pub fn read_files<R: rt::Files, E: Sink>(
 ) -> Result<Files, Ending>
     ensures status { IfErr result (λ ending. 2 ≤ exit_status ending) }
     ensures named { IfOk result (λ files. map (λ file. file.0) files ≡ map (λ word. word_name word.now) words.now) }
-    ensures wrong { IfErr result (λ ending. ending ≡ Ending.WrongWords → bad_word [] (map (λ word. word.now) words.now) ≢ None) }
+    ensures wrong { IfErr result (λ ending. ending ≡ Ending.WrongWords → (word : List ℕ) × IsFirstBad (map (λ word. word.now) words.now) word) }
+    ensures quiet { IfOk result (λ _. E.output errors.new ≡ E.output errors.old) }
+    ensures told { IfErr result (TellsBadFile (E.output errors.old) (E.output errors.new) (map (λ word. word.now) words.now)) }
 {
     let mut files = Files::new(alloc);
     for word in words {
@@ -88,7 +90,7 @@ pub fn read_whole<R: rt::Files, E: Sink>(
     path: &str,
     errors: &mut E,
 ) -> Result<Vec<u8>, Ending>
-    ensures ok { IfOk result (λ bytes. vec_len bytes ≤ 1048576) }
+    ensures ok { IfOk result (λ bytes. vec_len bytes ≤ MOST_BYTES) }
     ensures err { IfErr result (λ ending. ending ≡ Ending.Fault) }
     ensures told { IfErr result (λ ending. Tells (E.output errors.old) (E.output errors.new) (lost_file_text path.now)
         ⊎ Tells (E.output errors.old) (E.output errors.new) (run_fault_text RunFault.NoMemory)) }

@@ -1,6 +1,6 @@
 //! What the program tells of faults.
 
-ghost use Rattle.std.specs.Prelude.{◌≡◌, ◌≢◌, ◌⊎◌, ◌≤◌, ◌++◌, codes};
+ghost use Rattle.std.specs.Prelude.{◌≡◌, ◌≢◌, ◌⊎◌, ◌≤◌, ◌++◌, codes, true};
 ghost use Rattle.clap.specs.Values.{kind_of};
 ghost use Rattle.rh_desk.specs.Ending.{ending_of, exit_status};
 ghost use Rattle.rh_desk.specs.Telling.{Tells, bad_word_text, lost_file_text, run_fault_text, shown_path};
@@ -55,6 +55,10 @@ pub fn told<O: Sink, E: Sink>(
     ensures mistake { result ≡ Ending.WrongWords → (kind_of error.now ≢ ErrorKind.DisplayHelp) × (kind_of error.now ≢ ErrorKind.DisplayVersion) }
     ensures well { exit_status result ≤ 1 → (O.output output.new).failed ≡ (O.output output.old).failed }
     ensures wrong { result ≡ Ending.WrongWords → O.output output.new ≡ O.output output.old }
+    ensures quiet { result ≡ Ending.Clean → E.output errors.new ≡ E.output errors.old }
+    ensures fault { result ≡ Ending.Fault →
+        (Tells (E.output errors.old) (E.output errors.new) (run_fault_text RunFault.NoMemory) × (O.output output.new ≡ O.output output.old))
+        ⊎ (Tells (E.output errors.old) (E.output errors.new) (run_fault_text RunFault.WriteFailed) × ((O.output output.new).failed ≡ true)) }
 {
     let text = match error.to_string(alloc) {
         Ok(text) if error.kind() != ErrorKind::OutOfMemory => text,

@@ -1,24 +1,50 @@
-use Rattle.std.proofs.Common.{sym, ap, ◌∙◌, map, drop, ◌+◌}
-use Rattle.std.proofs.lemmas.List.{take_all}
-use Rattle.rh_desk.specs.FileWords.{bad_word, word_name}
-use Rattle.rh_desk.proofs.FileWordLemmas.{bad-lost, bad-given, good-new, names-more, is-bad, at-ok}
+use Rattle.std.proofs.Common.{ap, ◌∙◌, inl, inr, refl, map}
+use Rattle.rh_session.specs.declared.status.RunFault.TheVariants.{NoMemory}
+use Rattle.rh_desk.proofs.FileWordLemmas.{all-named, at-err, at-ok, bad-given, bad-lost, good-new, good-none, lost-file, names-more}
 use Rattle.rh_desk.proofs.files.read_files.Goals as goal
 
+pub loop-word-init : goal.loop-word-init
+loop-word-init g c = record { good = good-none; named = ap (map (λ file. file.0)) c.new-files.ensures; quiet = refl }
+
 pub returns-in_default-clause-wrong : goal.returns-in_default-clause-wrong
-returns-in_default-clause-wrong g c = λ ending. is-bad _ _ (c.loop-word.invariant.same ∙ bad-lost _ _ _ _ c.loop-word-test.true c.in_default.ensures)
+returns-in_default-clause-wrong g c = λ ending. (_, bad-lost _ _ _ c.loop-word-test.true c.in_default.ensures c.loop-word.invariant.good)
+
+pub returns-in_default-clause-told : goal.returns-in_default-clause-told
+returns-in_default-clause-told g c =
+    rw (← c.loop-word.invariant.quiet)
+    (inl (inr (_, c.tell_bad_word.ensures.ending, bad-lost _ _ _ c.loop-word-test.true c.in_default.ensures c.loop-word.invariant.good, c.tell_bad_word.ensures.told)))
+
+pub returns-in_err-bytes-clause-told : goal.returns-in_err-bytes-clause-told
+returns-in_err-bytes-clause-told g c =
+    rw (← c.loop-word.invariant.quiet)
+    (at-err _ _ _ c.from_residual.ensures.1 (lost-file _ _ _ _ _ _ _ _ c.loop-word-test.true c.in-Some.ensures c.in_err-bytes.ensures.err c.in_err-bytes.ensures.told))
 
 pub returns-then-contains-clause-wrong : goal.returns-then-contains-clause-wrong
-returns-then-contains-clause-wrong g c = λ ending. is-bad _ _ (c.loop-word.invariant.same ∙ bad-given _ _ _ _ _ _ c.loop-word-test.true c.in-Some.ensures c.if-contains.ensures)
+returns-then-contains-clause-wrong g c = λ ending.
+    (_, bad-given _ _ _ _ _ _ c.loop-word-test.true c.in-Some.ensures c.if-contains.ensures c.loop-word.invariant.named c.loop-word.invariant.good)
 
-pub returns-clause-named : goal.returns-clause-named
-returns-clause-named g c = c.loop-word.invariant.named ∙ ap (λ ws. map (λ word. word_name word.now) ws) (take_all _ _ c.loop-word-test.false)
+pub returns-then-contains-clause-told : goal.returns-then-contains-clause-told
+returns-then-contains-clause-told g c =
+    rw (← (c.in_ok-bytes.ensures.quiet ∙ c.loop-word.invariant.quiet))
+    (inl (inr (
+      _,
+      c.tell_bad_word-then-contains.ensures.ending,
+      bad-given _ _ _ _ _ _ c.loop-word-test.true c.in-Some.ensures c.if-contains.ensures c.loop-word.invariant.named c.loop-word.invariant.good,
+      c.tell_bad_word-then-contains.ensures.told,
+    )))
+
+pub returns-then-is_err-clause-told : goal.returns-then-is_err-clause-told
+returns-then-is_err-clause-told g c =
+    rw (← (c.in_ok-bytes.ensures.quiet ∙ c.loop-word.invariant.quiet))
+    (inl (inl (c.ended.ensures.ending, c.ended.ensures.told NoMemory refl)))
 
 pub loop-word-preserved : goal.loop-word-preserved
 loop-word-preserved g c = record {
-  same = c.loop-word.invariant.same
-      ∙ good-new _ _ _ _ _ _ c.in_ok-bytes.bytes.items c.loop-word-test.true c.in-Some.ensures c.if-contains.ensures
-      ∙ ap (λ files. bad_word (map (λ file. file.0) files) (map (λ word. word.now) (drop (c.loop-word.word-index + 1) c.args.words.now)))
-      (sym (at-ok c.insert.result c.if-is_err.ensures.value c.insert.ensures.ok));
+  good = good-new _ _ _ _ _ _ c.loop-word-test.true c.in-Some.ensures c.if-contains.ensures c.loop-word.invariant.named c.loop-word.invariant.good;
   named = ap (λ files. map (λ file. file.0) files) (at-ok c.insert.result c.if-is_err.ensures.value c.insert.ensures.ok)
       ∙ names-more _ _ _ _ _ _ c.in_ok-bytes.bytes.items c.loop-word-test.true c.in-Some.ensures c.loop-word.invariant.named;
+  quiet = c.in_ok-bytes.ensures.quiet ∙ c.loop-word.invariant.quiet;
 }
+
+pub returns-clause-named : goal.returns-clause-named
+returns-clause-named g c = all-named _ _ _ c.loop-word-test.false c.loop-word.invariant.named

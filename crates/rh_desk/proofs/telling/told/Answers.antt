@@ -1,0 +1,9 @@
+use Rattle.std.proofs.Common.{inl, inr, refl}
+use Rattle.rh_session.specs.declared.status.RunFault.TheVariants.{NoMemory, WriteFailed}
+use Rattle.rh_desk.proofs.telling.told.Goals as goal
+
+pub returns-in_default-clause-fault : goal.returns-in_default-clause-fault
+returns-in_default-clause-fault g c = λ fault. inl (c.ended.ensures.told NoMemory refl, refl)
+
+pub returns-clause-fault : goal.returns-clause-fault
+returns-clause-fault g c = λ fault. inr (c.ended-in-Err.ensures.told WriteFailed refl, c.in-Err.ensures.err.failed)

@@ -1,0 +1,41 @@
+-- What the program's words may be: `run [--pages N] SCRIPT [NAME=PATH ...]`, and `check FILE`.
+use Rattle.std.specs.Prelude.{Some, codes, pos, true}
+use Rattle.rh_defs.specs.declared.sizes.TheConstants.{MAX_PAGES, MIN_PAGES}
+use Rattle.clap.specs.Lexer.{usize_max}
+use Rattle.clap.specs.Simple.{App, new_app, new_rule, on_top, with_rule, with_subcommand}
+use Rattle.clap.specs.Walk.{Rule, Text}
+use Rattle.clap.specs.declared.builder.action.ArgAction.TheVariants.{Append, Set}
+use Rattle.clap.specs.declared.builder.value_parser.ValueParser.TheVariants.{Signed}
+
+-- `--pages N`, in its range
+abbrev pub pages_rule : Rule
+pages_rule = record (new_rule (codes "pages")) {
+  long = Some (codes "pages");
+  value_names = 1;
+  parser = Some (Signed (pos MIN_PAGES) (pos MAX_PAGES));
+}
+
+-- one word that has to be there
+abbrev pub needed_rule : Text → Rule
+needed_rule id = record (new_rule id) { value_names = 1; required = true; action = Some Set }
+
+-- any number of words
+abbrev pub files_rule : Rule
+files_rule = record (new_rule (codes "files")) {
+  value_names = 1;
+  range = Some (record { start_inclusive = 0; end_inclusive = usize_max });
+  action = Some Append;
+}
+
+abbrev pub run_words : App
+run_words = with_rule (with_rule (with_rule (new_app (codes "run")) pages_rule) (needed_rule (codes "script"))) files_rule
+
+abbrev pub check_words : App
+check_words = with_rule (new_app (codes "check")) (needed_rule (codes "file"))
+
+-- a subcommand is required, and the program has a version
+abbrev pub program_top : App
+program_top = on_top (λ shape. record shape { has_version = true; subcommand_required = true }) (new_app (codes "vervainfile"))
+
+abbrev pub program_words : App
+program_words = with_subcommand (with_subcommand program_top run_words.top) check_words.top
