@@ -1,4 +1,5 @@
 pub mod CommandLine
 pub mod Ending
 pub mod FileWords
+pub mod Requests
 pub mod Telling

@@ -1,10 +1,11 @@
 //! The program's words.
 
-ghost use Rattle.std.specs.Prelude.{◌≡◌, ◌≤◌, IfOk, map, string_bytes};
+ghost use Rattle.std.specs.Prelude.{◌≡◌, IfOk, IfSome, map, string_bytes};
 ghost use Rattle.clap.specs.Words.{FailsBy, app_of, fault_of, subcommand_of, subcommand_rows_of};
 ghost use Rattle.rh_desk.specs.CommandLine.{check_words, program_words, run_words};
-ghost use Rattle.rh_defs.specs.declared.sizes.TheConstants.{MAX_PAGES, MIN_PAGES};
+ghost use Rattle.rh_desk.specs.Requests.{AsksFor};
 
+use crate::request::{Request, RunRequest};
 use clap::{Arg, ArgAction, ArgMatches, Command, Error, value_parser};
 use rh_defs::sizes::{MAX_PAGES, MIN_PAGES};
 use std::alloc::{AllocError, Global};
@@ -31,26 +32,10 @@ Exit status:
   2  the words are wrong
   3  a file, read, write, length or memory fault";
 
-/// A run that is asked for: of a script over so many pages, with files.
-#[derive(Clone, Copy)]
-pub struct RunRequest<'m, 'a> {
-    pub pages: u32,
-    pub script: &'a str,
-    pub files: &'m [&'a str],
-    ghost fewest: { MIN_PAGES ≤ pages },
-    ghost most: { pages ≤ MAX_PAGES },
-}
-
-/// What the words ask for.
-pub enum Request<'m, 'a> {
-    /// To run a script.
-    Run(RunRequest<'m, 'a>),
-    /// To say whether the bytes of a file are a heap.
-    Check { file: &'a str },
-}
-
 /// What was asked for. `clap` let through nothing else, which its types don't say.
-pub fn request_of<'m, 'a>(matches: &'m ArgMatches<'a>) -> Option<Request<'m, 'a>> {
+pub fn request_of<'m, 'a>(matches: &'m ArgMatches<'a>) -> Option<Request<'m, 'a>>
+    ensures { IfSome result (AsksFor (subcommand_rows_of matches.now)) }
+{
     let (name, found) = matches.subcommand()?;
     if name == "check" {
         let file = found.get_str("file")?;

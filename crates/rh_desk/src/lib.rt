@@ -4,6 +4,7 @@
 mod command_line;
 mod ending;
 mod files;
+mod request;
 mod telling;
 mod words;
 

@@ -9,9 +9,10 @@ ghost use Rattle.std.specs.IoError.{error_kind};
 ghost use Rattle.std.specs.declared.io.ErrorKind.TheVariants.{OutOfMemory};
 ghost use Rattle.rh_defs.specs.declared.sizes.TheConstants.{MAX_PAGES, MIN_PAGES};
 
-use crate::command_line::{PAGES, Request, RunRequest, parsed, request_of};
+use crate::command_line::{PAGES, parsed, request_of};
 use crate::ending::Ending;
 use crate::files::{check_words, read_files, read_whole};
+use crate::request::{Request, RunRequest};
 use crate::telling::{ended, tell_file, told};
 use rh_defs::Files;
 use rh_lines::{Flagged, Sink, Source, put};

@@ -1,0 +1,22 @@
+//! What the program is asked to do.
+
+ghost use Rattle.std.specs.Prelude.{◌≤◌};
+ghost use Rattle.rh_defs.specs.declared.sizes.TheConstants.{MAX_PAGES, MIN_PAGES};
+
+/// A run that is asked for: of a script over so many pages, with files.
+#[derive(Clone, Copy)]
+pub struct RunRequest<'m, 'a> {
+    pub pages: u32,
+    pub script: &'a str,
+    pub files: &'m [&'a str],
+    ghost fewest: { MIN_PAGES ≤ pages },
+    ghost most: { pages ≤ MAX_PAGES },
+}
+
+/// What the words ask for.
+pub enum Request<'m, 'a> {
+    /// To run a script.
+    Run(RunRequest<'m, 'a>),
+    /// To say whether the bytes of a file are a heap.
+    Check { file: &'a str },
+}
