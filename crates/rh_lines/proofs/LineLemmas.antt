@@ -1,6 +1,8 @@
 -- What a line means, by its first word and its first six words.
 use Rattle.std.proofs.Common.{◌≡◌, ℕ, ◌<◌, ◌≤◌, Bool, true, false, eqb, List, [], ◌∷◌, length, take, get_or, subst, Option, Some, None, refl, sym, ◌∙◌, ap, arith, rules, cond, ◌&&◌, ◌⊎◌, inl, inr}
-use Rattle.std.specs.Prelude.{find, IfSome, IfNone, map, nat_lt, Err}
+use Rattle.std.specs.Prelude.{find, IfSome, IfNone, map, nat_lt, Ok, Err, Result, IsErr, IsErrAnd}
+use Rattle.rh_defs.specs.declared.fault.LineFault.{LineFault}
+use Rattle.rh_lines.specs.Placed.{if_placed}
 use Rattle.std.specs.List.{list_all, filter}
 use Rattle.std.specs.Option.{option_map}
 use Rattle.std.specs.Str.{bytes_eq}
@@ -8,7 +10,8 @@ use Rattle.std.proofs.lemmas.List.{take_all, length-take}
 use borrow.Author.Tests.{tests}
 use Rattle.rh_defs.specs.declared.fault.LineFault.TheVariants.{Unknown}
 use Rattle.rh_defs.specs.Line.{words_of, word, is_skipped, line_means, command_of, rma_of}
-use Rattle.rh_lines.specs.Asked.{asked}
+use Rattle.rh_defs.specs.Line.{Meaning, ◌>>=◌}
+use Rattle.rh_defs.specs.declared.command.Command.{Command}
 use Rattle.rh_lines.specs.declared.keyword.Keyword.{Keyword}
 use Rattle.rh_lines.specs.declared.keyword.Keyword.TheVariants.{Task, Kill, Alloc, Load, Put, Free, Extend, Mid, Claim, Release, Resize, Budge, Save, Poll, Cancel, Repeat, Area, Make, Remove, Rma, Show, Blocks, Heap, Status, Areas}
 use Rattle.rh_lines.specs.Keywords.{spelled, names, SpellsNone, command_by}
@@ -131,6 +134,10 @@ no_keyword text of w [] = tt
 no_keyword text of w (x ∷ entries) =
     no_first of w (text x) x (find (λ e. bytes_eq w (text e)) entries) (map text entries) (bytes_eq w (text x)) refl (no_keyword text of w entries)
 
+-- a line's command, which it has
+abbrev pub asked : Meaning Command → Meaning (Option Command)
+asked meaning = meaning >>= λ command. Ok (Some command)
+
 -- what a line means that isn't too long, and isn't skipped, by its first six words
 pub means_asked : (line : List ℕ) (words : List (List ℕ)) → words ≡ first_words line → length line ≤ 1024 → is_skipped words ≡ false → asked (command_of words) ≡ line_means line
 unfolding line_means
@@ -138,6 +145,11 @@ means_asked line words all fits not =
     let few : nat_lt 1024 (length line) ≡ false = search (rules, arith, tests) in
     let here : is_skipped (words_of line) ≡ false = sym (is_skipped-first_words line) ∙ (ap is_skipped (sym all) ∙ not) in
     rw (few, here) (ap asked (ap command_of all ∙ command_of-first_words line))
+
+-- a fault that is handed on
+pub fault_same : (r : Meaning Bool) (fault : LineFault) (command : Command) → IsErr r → IsErrAnd r (λ other. other ≡ fault) → if_placed r command ≡ Err fault
+fault_same (Ok found) fault command is same = absurd (cc)
+fault_same (Err other) fault command is same = ap Err same
 
 -- words that begin otherwise differ
 differs : (w text : List ℕ) (first : ℕ) (same : Bool) → bytes_eq w text ≡ same → get_or w 0 0 ≡ first → eqb (get_or text 0 0) first ≡ false → same ≡ false

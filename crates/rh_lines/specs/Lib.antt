@@ -1,4 +1,4 @@
-pub mod Asked
+pub mod Placed
 pub mod Flow
 pub mod Noted
 pub mod Words

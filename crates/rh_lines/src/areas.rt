@@ -1,9 +1,9 @@
 //! Lines about areas of pages.
 
-ghost use Rattle.std.specs.Prelude.{◌≡◌, IfOk, IfSome, IsTrue};
+ghost use Rattle.std.specs.Prelude.{◌≡◌, OnOk, OnErr, IsTrue};
 ghost use Rattle.rh_defs.specs.Line.{counted, area_of, make_of, remove_of};
 ghost use Rattle.rh_defs.specs.Range.{in_range};
-ghost use Rattle.rh_lines.specs.Asked.{asked};
+ghost use Rattle.rh_lines.specs.Placed.{placed};
 
 use crate::counts::counted;
 use crate::forms::{delta_at, number_at};
@@ -13,44 +13,52 @@ use rh_defs::{Command, LineFault};
 
 /// `area K DELTA`.
 #[tactic(auto, unfolding(rh_defs::specs::Line::area_of, rh_defs::specs::Range::in_range))]
-pub fn area_of(words: &Words<'_>) -> Result<Option<Command>, LineFault>
-    ensures means { result ≡ asked (counted 3 words.now (area_of words.now)) }
-    ensures in_range { IfOk result (λ found. IfSome found (λ command. IsTrue (in_range command))) }
+pub fn area_of(words: &Words<'_>, command: &mut Command) -> Result<(), LineFault>
+    ensures means { placed result command.new ≡ counted 3 words.now (area_of words.now) }
+    ensures in_range { OnOk result (IsTrue (in_range command.new)) }
+    ensures kept { OnErr result (command.new ≡ command.old) }
 {
     counted(words, 3)?;
     let number = number_at(words, 2, 0, LAST_AREA)?;
     let delta = delta_at(words, 3)?;
-    Ok(Some(Command::Area { number, delta }))
+    *command = Command::Area { number, delta };
+    Ok(())
 }
 
 /// `make MAX`.
 #[tactic(auto, unfolding(rh_defs::specs::Line::make_of, rh_defs::specs::Range::in_range))]
-pub fn make_of(words: &Words<'_>) -> Result<Option<Command>, LineFault>
-    ensures means { result ≡ asked (counted 2 words.now (make_of words.now)) }
-    ensures in_range { IfOk result (λ found. IfSome found (λ command. IsTrue (in_range command))) }
+pub fn make_of(words: &Words<'_>, command: &mut Command) -> Result<(), LineFault>
+    ensures means { placed result command.new ≡ counted 2 words.now (make_of words.now) }
+    ensures in_range { OnOk result (IsTrue (in_range command.new)) }
+    ensures kept { OnErr result (command.new ≡ command.old) }
 {
     counted(words, 2)?;
     let most = number_at(words, 2, 1, MAX_PAGES as u32)?;
-    Ok(Some(Command::Make { most }))
+    *command = Command::Make { most };
+    Ok(())
 }
 
 /// `remove K`.
 #[tactic(auto, unfolding(rh_defs::specs::Line::remove_of, rh_defs::specs::Range::in_range))]
-pub fn remove_of(words: &Words<'_>) -> Result<Option<Command>, LineFault>
-    ensures means { result ≡ asked (counted 2 words.now (remove_of words.now)) }
-    ensures in_range { IfOk result (λ found. IfSome found (λ command. IsTrue (in_range command))) }
+pub fn remove_of(words: &Words<'_>, command: &mut Command) -> Result<(), LineFault>
+    ensures means { placed result command.new ≡ counted 2 words.now (remove_of words.now) }
+    ensures in_range { OnOk result (IsTrue (in_range command.new)) }
+    ensures kept { OnErr result (command.new ≡ command.old) }
 {
     counted(words, 2)?;
     let number = number_at(words, 2, FIRST_MADE, LAST_AREA)?;
-    Ok(Some(Command::Remove { number }))
+    *command = Command::Remove { number };
+    Ok(())
 }
 
 /// `areas`.
 #[tactic(auto, unfolding(rh_defs::specs::Range::in_range))]
-pub fn areas_of(words: &Words<'_>) -> Result<Option<Command>, LineFault>
-    ensures means { result ≡ asked (counted 1 words.now (Ok Command.Areas)) }
-    ensures in_range { IfOk result (λ found. IfSome found (λ command. IsTrue (in_range command))) }
+pub fn areas_of(words: &Words<'_>, command: &mut Command) -> Result<(), LineFault>
+    ensures means { placed result command.new ≡ counted 1 words.now (Ok Command.Areas) }
+    ensures in_range { OnOk result (IsTrue (in_range command.new)) }
+    ensures kept { OnErr result (command.new ≡ command.old) }
 {
     counted(words, 1)?;
-    Ok(Some(Command::Areas))
+    *command = Command::Areas;
+    Ok(())
 }

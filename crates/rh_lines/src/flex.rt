@@ -1,9 +1,9 @@
 //! Lines about flex blocks.
 
-ghost use Rattle.std.specs.Prelude.{◌≡◌, IfOk, IfSome, IsTrue};
+ghost use Rattle.std.specs.Prelude.{◌≡◌, OnOk, OnErr, IsTrue};
 ghost use Rattle.rh_defs.specs.Line.{counted, alloc_of, load_of, put_of, free_of, extend_of, mid_of, show_of, blocks_of};
 ghost use Rattle.rh_defs.specs.Range.{in_range};
-ghost use Rattle.rh_lines.specs.Asked.{asked};
+ghost use Rattle.rh_lines.specs.Placed.{placed};
 
 use crate::counts::counted;
 use crate::forms::{anchor_at, bytes_at, delta_at, name_at, size_at};
@@ -12,112 +12,128 @@ use rh_defs::{Command, LineFault};
 
 /// `alloc NAME A N`.
 #[tactic(auto, unfolding(rh_defs::specs::Line::alloc_of, rh_defs::specs::Range::in_range))]
-pub fn alloc_of(words: &Words<'_>) -> Result<Option<Command>, LineFault>
-    ensures means { result ≡ asked (counted 4 words.now (alloc_of words.now)) }
-    ensures in_range { IfOk result (λ found. IfSome found (λ command. IsTrue (in_range command))) }
+pub fn alloc_of(words: &Words<'_>, command: &mut Command) -> Result<(), LineFault>
+    ensures means { placed result command.new ≡ counted 4 words.now (alloc_of words.now) }
+    ensures in_range { OnOk result (IsTrue (in_range command.new)) }
+    ensures kept { OnErr result (command.new ≡ command.old) }
 {
     counted(words, 4)?;
     let name = name_at(words, 2)?;
     let anchor = anchor_at(words, 3)?;
     let size = size_at(words, 4)?;
-    Ok(Some(Command::Alloc { name, anchor, size }))
+    *command = Command::Alloc { name, anchor, size };
+    Ok(())
 }
 
 /// `load NAME A FILE`.
 #[tactic(auto, unfolding(rh_defs::specs::Line::load_of, rh_defs::specs::Range::in_range))]
-pub fn load_of(words: &Words<'_>) -> Result<Option<Command>, LineFault>
-    ensures means { result ≡ asked (counted 4 words.now (load_of words.now)) }
-    ensures in_range { IfOk result (λ found. IfSome found (λ command. IsTrue (in_range command))) }
+pub fn load_of(words: &Words<'_>, command: &mut Command) -> Result<(), LineFault>
+    ensures means { placed result command.new ≡ counted 4 words.now (load_of words.now) }
+    ensures in_range { OnOk result (IsTrue (in_range command.new)) }
+    ensures kept { OnErr result (command.new ≡ command.old) }
 {
     counted(words, 4)?;
     let name = name_at(words, 2)?;
     let anchor = anchor_at(words, 3)?;
     let file = name_at(words, 4)?;
-    Ok(Some(Command::Load { name, anchor, file }))
+    *command = Command::Load { name, anchor, file };
+    Ok(())
 }
 
 /// `put NAME A OFF HEX`.
 #[tactic(auto, unfolding(rh_defs::specs::Line::put_of, rh_defs::specs::Range::in_range))]
-pub fn put_of(words: &Words<'_>) -> Result<Option<Command>, LineFault>
-    ensures means { result ≡ asked (counted 5 words.now (put_of words.now)) }
-    ensures in_range { IfOk result (λ found. IfSome found (λ command. IsTrue (in_range command))) }
+pub fn put_of(words: &Words<'_>, command: &mut Command) -> Result<(), LineFault>
+    ensures means { placed result command.new ≡ counted 5 words.now (put_of words.now) }
+    ensures in_range { OnOk result (IsTrue (in_range command.new)) }
+    ensures kept { OnErr result (command.new ≡ command.old) }
 {
     counted(words, 5)?;
     let name = name_at(words, 2)?;
     let anchor = anchor_at(words, 3)?;
     let offset = size_at(words, 4)?;
     let bytes = bytes_at(words, 5)?;
-    Ok(Some(Command::Put {
+    *command = Command::Put {
         name,
         anchor,
         offset,
         bytes,
-    }))
+    };
+    Ok(())
 }
 
 /// `free NAME A`.
 #[tactic(auto, unfolding(rh_defs::specs::Line::free_of, rh_defs::specs::Range::in_range))]
-pub fn free_of(words: &Words<'_>) -> Result<Option<Command>, LineFault>
-    ensures means { result ≡ asked (counted 3 words.now (free_of words.now)) }
-    ensures in_range { IfOk result (λ found. IfSome found (λ command. IsTrue (in_range command))) }
+pub fn free_of(words: &Words<'_>, command: &mut Command) -> Result<(), LineFault>
+    ensures means { placed result command.new ≡ counted 3 words.now (free_of words.now) }
+    ensures in_range { OnOk result (IsTrue (in_range command.new)) }
+    ensures kept { OnErr result (command.new ≡ command.old) }
 {
     counted(words, 3)?;
     let name = name_at(words, 2)?;
     let anchor = anchor_at(words, 3)?;
-    Ok(Some(Command::Free { name, anchor }))
+    *command = Command::Free { name, anchor };
+    Ok(())
 }
 
 /// `extend NAME A N`.
 #[tactic(auto, unfolding(rh_defs::specs::Line::extend_of, rh_defs::specs::Range::in_range))]
-pub fn extend_of(words: &Words<'_>) -> Result<Option<Command>, LineFault>
-    ensures means { result ≡ asked (counted 4 words.now (extend_of words.now)) }
-    ensures in_range { IfOk result (λ found. IfSome found (λ command. IsTrue (in_range command))) }
+pub fn extend_of(words: &Words<'_>, command: &mut Command) -> Result<(), LineFault>
+    ensures means { placed result command.new ≡ counted 4 words.now (extend_of words.now) }
+    ensures in_range { OnOk result (IsTrue (in_range command.new)) }
+    ensures kept { OnErr result (command.new ≡ command.old) }
 {
     counted(words, 4)?;
     let name = name_at(words, 2)?;
     let anchor = anchor_at(words, 3)?;
     let size = size_at(words, 4)?;
-    Ok(Some(Command::Extend { name, anchor, size }))
+    *command = Command::Extend { name, anchor, size };
+    Ok(())
 }
 
 /// `mid NAME A AT BY`.
 #[tactic(auto, unfolding(rh_defs::specs::Line::mid_of, rh_defs::specs::Range::in_range))]
-pub fn mid_of(words: &Words<'_>) -> Result<Option<Command>, LineFault>
-    ensures means { result ≡ asked (counted 5 words.now (mid_of words.now)) }
-    ensures in_range { IfOk result (λ found. IfSome found (λ command. IsTrue (in_range command))) }
+pub fn mid_of(words: &Words<'_>, command: &mut Command) -> Result<(), LineFault>
+    ensures means { placed result command.new ≡ counted 5 words.now (mid_of words.now) }
+    ensures in_range { OnOk result (IsTrue (in_range command.new)) }
+    ensures kept { OnErr result (command.new ≡ command.old) }
 {
     counted(words, 5)?;
     let name = name_at(words, 2)?;
     let anchor = anchor_at(words, 3)?;
     let offset = size_at(words, 4)?;
     let by = delta_at(words, 5)?;
-    Ok(Some(Command::Mid {
+    *command = Command::Mid {
         name,
         anchor,
         offset,
         by,
-    }))
+    };
+    Ok(())
 }
 
 /// `show NAME A`.
 #[tactic(auto, unfolding(rh_defs::specs::Line::show_of, rh_defs::specs::Range::in_range))]
-pub fn show_of(words: &Words<'_>) -> Result<Option<Command>, LineFault>
-    ensures means { result ≡ asked (counted 3 words.now (show_of words.now)) }
-    ensures in_range { IfOk result (λ found. IfSome found (λ command. IsTrue (in_range command))) }
+pub fn show_of(words: &Words<'_>, command: &mut Command) -> Result<(), LineFault>
+    ensures means { placed result command.new ≡ counted 3 words.now (show_of words.now) }
+    ensures in_range { OnOk result (IsTrue (in_range command.new)) }
+    ensures kept { OnErr result (command.new ≡ command.old) }
 {
     counted(words, 3)?;
     let name = name_at(words, 2)?;
     let anchor = anchor_at(words, 3)?;
-    Ok(Some(Command::Show { name, anchor }))
+    *command = Command::Show { name, anchor };
+    Ok(())
 }
 
 /// `blocks NAME`.
 #[tactic(auto, unfolding(rh_defs::specs::Line::blocks_of, rh_defs::specs::Range::in_range))]
-pub fn blocks_of(words: &Words<'_>) -> Result<Option<Command>, LineFault>
-    ensures means { result ≡ asked (counted 2 words.now (blocks_of words.now)) }
-    ensures in_range { IfOk result (λ found. IfSome found (λ command. IsTrue (in_range command))) }
+pub fn blocks_of(words: &Words<'_>, command: &mut Command) -> Result<(), LineFault>
+    ensures means { placed result command.new ≡ counted 2 words.now (blocks_of words.now) }
+    ensures in_range { OnOk result (IsTrue (in_range command.new)) }
+    ensures kept { OnErr result (command.new ≡ command.old) }
 {
     counted(words, 2)?;
     let name = name_at(words, 2)?;
-    Ok(Some(Command::Blocks { name }))
+    *command = Command::Blocks { name };
+    Ok(())
 }

@@ -22,7 +22,7 @@ mod words;
 
 pub use flagged::Flagged;
 pub use held::Held;
-pub use parse::parse_line;
+pub use parse::{parse_line, read_line};
 pub use print::{print_fault, print_first_line};
 pub use row::Row;
 pub use sink::{Sink, WriteFailed, put};

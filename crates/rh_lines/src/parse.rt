@@ -1,9 +1,9 @@
 //! Lines of a script as commands.
 
-ghost use Rattle.std.specs.Prelude.{◌≡◌, ◌≤◌, length, IfOk, IfSome, IsTrue};
+ghost use Rattle.std.specs.Prelude.{◌≡◌, IfOk, IfSome, OnOk, OnErr, IsTrue};
 ghost use Rattle.rh_defs.specs.Range.{in_range};
 ghost use Rattle.rh_defs.specs.Line.{is_skipped, line_means};
-ghost use Rattle.rh_lines.specs.Asked.{asked};
+ghost use Rattle.rh_lines.specs.Placed.{if_placed, placed, OnFound, OnNone};
 ghost use Rattle.rh_lines.specs.Keywords.{command_by};
 
 use crate::areas::{area_of, areas_of, make_of, remove_of};
@@ -18,20 +18,38 @@ use rh_defs::{Command, LineFault};
 /// What a complete line, without its line feed, asks for: a command that is in range, nothing for
 /// a line without words or whose first word begins with `#`, or else its first fault. Never
 /// answers `Unended`, since a line that is cut isn't complete.
-#[tactic(auto, using(crate::proofs::LineLemmas::by_words), unfolding(rh_defs::specs::Line::line_means))]
 pub fn parse_line(line: &[u8]) -> Result<Option<Command>, LineFault>
     ensures means { result ≡ line_means line.now }
     ensures in_range { IfOk result (λ found. IfSome found (λ command. IsTrue (in_range command))) }
+{
+    let mut command = Command::Areas;
+    if read_line(line, &mut command)? {
+        Ok(Some(command))
+    } else {
+        Ok(None)
+    }
+}
+
+/// The same as `parse_line`, but a command is put in a place that is there, and what is answered is whether the line
+/// has one. Where it has none, or a fault, the place keeps its command.
+#[tactic(auto, using(crate::proofs::LineLemmas::by_words), unfolding(rh_defs::specs::Line::line_means))]
+pub fn read_line(line: &[u8], command: &mut Command) -> Result<bool, LineFault>
+    ensures means { if_placed result command.new ≡ line_means line.now }
+    ensures in_range { OnFound result (IsTrue (in_range command.new)) }
+    ensures kept { OnNone result (command.new ≡ command.old) }
 {
     if line.len() > LONGEST_LINE {
         return Err(LineFault::TooLong);
     }
     let words = Words::new(line);
     if is_skipped(&words) {
-        return Ok(None);
+        return Ok(false);
     }
     match keyword_of(words.word(1)) {
-        Some(keyword) => command_by(keyword, &words),
+        Some(keyword) => {
+            command_by(keyword, &words, command)?;
+            Ok(true)
+        }
         None => Err(LineFault::Unknown),
     }
 }
@@ -45,36 +63,37 @@ fn is_skipped(words: &Words<'_>) -> bool
     }
 }
 
-/// The command of a line that begins with the keyword.
-fn command_by(keyword: Keyword, words: &Words<'_>) -> Result<Option<Command>, LineFault>
-    ensures means { result ≡ asked (command_by keyword words.now) }
-    ensures in_range { IfOk result (λ found. IfSome found (λ command. IsTrue (in_range command))) }
+/// Puts the command of a line that begins with the keyword in its place.
+fn command_by(keyword: Keyword, words: &Words<'_>, command: &mut Command) -> Result<(), LineFault>
+    ensures means { placed result command.new ≡ command_by keyword words.now }
+    ensures in_range { OnOk result (IsTrue (in_range command.new)) }
+    ensures kept { OnErr result (command.new ≡ command.old) }
 {
     match keyword {
-        Keyword::Task => task_of(words),
-        Keyword::Kill => kill_of(words),
-        Keyword::Alloc => alloc_of(words),
-        Keyword::Load => load_of(words),
-        Keyword::Put => put_of(words),
-        Keyword::Free => free_of(words),
-        Keyword::Extend => extend_of(words),
-        Keyword::Mid => mid_of(words),
-        Keyword::Claim => claim_of(words),
-        Keyword::Release => release_of(words),
-        Keyword::Resize => resize_of(words),
-        Keyword::Budge => budge_of(words),
-        Keyword::Save => save_of(words),
-        Keyword::Poll => poll_of(words),
-        Keyword::Cancel => cancel_of(words),
-        Keyword::Repeat => repeat_of(words),
-        Keyword::Area => area_of(words),
-        Keyword::Make => make_of(words),
-        Keyword::Remove => remove_of(words),
-        Keyword::Rma => rma_of(words),
-        Keyword::Show => show_of(words),
-        Keyword::Blocks => blocks_of(words),
-        Keyword::Heap => heap_of(words),
-        Keyword::Status => status_of(words),
-        Keyword::Areas => areas_of(words),
+        Keyword::Task => task_of(words, command),
+        Keyword::Kill => kill_of(words, command),
+        Keyword::Alloc => alloc_of(words, command),
+        Keyword::Load => load_of(words, command),
+        Keyword::Put => put_of(words, command),
+        Keyword::Free => free_of(words, command),
+        Keyword::Extend => extend_of(words, command),
+        Keyword::Mid => mid_of(words, command),
+        Keyword::Claim => claim_of(words, command),
+        Keyword::Release => release_of(words, command),
+        Keyword::Resize => resize_of(words, command),
+        Keyword::Budge => budge_of(words, command),
+        Keyword::Save => save_of(words, command),
+        Keyword::Poll => poll_of(words, command),
+        Keyword::Cancel => cancel_of(words, command),
+        Keyword::Repeat => repeat_of(words, command),
+        Keyword::Area => area_of(words, command),
+        Keyword::Make => make_of(words, command),
+        Keyword::Remove => remove_of(words, command),
+        Keyword::Rma => rma_of(words, command),
+        Keyword::Show => show_of(words, command),
+        Keyword::Blocks => blocks_of(words, command),
+        Keyword::Heap => heap_of(words, command),
+        Keyword::Status => status_of(words, command),
+        Keyword::Areas => areas_of(words, command),
     }
 }

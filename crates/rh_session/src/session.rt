@@ -1,10 +1,11 @@
 //! A script in the middle of its run.
 
-ghost use Rattle.std.specs.Prelude.{◌≡◌, ◌++◌, [], not, ◌==◌, ◌||◌, length, IfOk, IfSome, IsTrue, OnOk};
+ghost use Rattle.std.specs.Prelude.{◌≡◌, ◌++◌, [], not, ◌==◌, ◌||◌, length, IfOk, IsTrue, OnOk};
 ghost use Rattle.rh_defs.specs.Desk.{Desk};
 ghost use Rattle.rh_defs.specs.Range.{in_range};
 ghost use Rattle.rh_defs.specs.Script.{line_text, meaning_text, rest_text};
 ghost use Rattle.rh_lines.specs.Flow.{Puts};
+ghost use Rattle.rh_lines.specs.Placed.{if_placed, OnFound};
 ghost use Rattle.rh_session.specs.Answer.{state_after_meaning, state_after_line};
 ghost use Rattle.rh_session.specs.Holding.{Gathers};
 ghost use Rattle.rh_session.specs.Outcome.{status_of};
@@ -17,7 +18,7 @@ use crate::status::Status;
 use memchr::memchr;
 use rh_defs::sizes::LONGEST_LINE;
 use rh_defs::{Command, LineFault};
-use rh_lines::{Held, Sink, WriteFailed, parse_line, print_fault};
+use rh_lines::{Held, Sink, WriteFailed, print_fault, read_line};
 use std::alloc::{AllocError, Global};
 
 /// A script in the middle of its run: the desktop, the line so far, and whether a line was bad.
@@ -69,50 +70,53 @@ impl<D: Desktop> Session<D> {
         ensures text { (s : State) → IsState D.spells self.old s → Gathers (W.output writer.old) (W.output writer.new) result held.old.bytes held.new.bytes (text_of s bytes.now) }
         ensures state { (s : State) → IsState D.spells self.old s → OnOk result (IsState D.spells self.new (state_of s bytes.now)) }
     {
+        let mut command = Command::Areas;
         let mut rest = bytes;
         while let Some(end) = memchr(b'\n', rest) {
-            self.take_line(&rest[..end], held, writer)?;
+            self.take_line(&rest[..end], &mut command, held, writer)?;
             rest = &rest[end..][1..];
         }
         self.line.add(rest);
         Ok(())
     }
 
-    /// Takes the bytes before a line feed.
+    /// Takes the bytes before a line feed, and puts the command that they ask for in a place that is there.
     fn take_line<W: Sink>(
         &mut self,
         bytes: &[u8],
+        command: &mut Command,
         held: &mut Held,
         writer: &mut W,
     ) -> Result<(), WriteFailed>
         ensures text { (s : State) → IsState D.spells self.old s → Gathers (W.output writer.old) (W.output writer.new) result held.old.bytes held.new.bytes (line_text s.desk (s.line ++ bytes.now)) }
         ensures state { (s : State) → IsState D.spells self.old s → IsState D.spells self.new (state_after_line s bytes.now) }
     {
-        let meaning = parse_line(self.line.whole(bytes));
+        let found = read_line(self.line.whole(bytes), command);
         self.line.clear();
-        self.answer(&meaning, held, writer)
+        self.answer(found, command, held, writer)
     }
 
-    /// Does what a line means, and answers it.
+    /// Does what a line means, and answers it: the command, where one was found, or a fault.
     fn answer<W: Sink>(
         &mut self,
-        meaning: &Result<Option<Command>, LineFault>,
+        found: Result<bool, LineFault>,
+        command: &Command,
         held: &mut Held,
         writer: &mut W,
     ) -> Result<(), WriteFailed>
-        requires in_range { IfOk meaning.now (λ found. IfSome found (λ command. IsTrue (in_range command))) }
-        ensures text { (s : State) → IsState D.spells self.old s → Gathers (W.output writer.old) (W.output writer.new) result held.old.bytes held.new.bytes (meaning_text s.desk meaning.now) }
-        ensures state { (s : State) → IsState D.spells self.old s → IsState D.spells self.new (state_after_meaning s meaning.now) }
+        requires in_range { OnFound found (IsTrue (in_range command.now)) }
+        ensures text { (s : State) → IsState D.spells self.old s → Gathers (W.output writer.old) (W.output writer.new) result held.old.bytes held.new.bytes (meaning_text s.desk (if_placed found command.now)) }
+        ensures state { (s : State) → IsState D.spells self.old s → IsState D.spells self.new (state_after_meaning s (if_placed found command.now)) }
     {
-        match meaning {
-            Ok(None) => Ok(()),
-            Ok(Some(command)) => {
+        match found {
+            Ok(false) => Ok(()),
+            Ok(true) => {
                 let reply = self.desktop.apply(command);
                 Answer::Reply(command, reply).write(&self.desktop, held, writer)
             }
             Err(fault) => {
                 self.has_bad_line = true;
-                Answer::Fault(fault).write(&self.desktop, held, writer)
+                Answer::Fault(&fault).write(&self.desktop, held, writer)
             }
         }
     }

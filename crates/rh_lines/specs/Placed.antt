@@ -1,0 +1,27 @@
+-- What a line asks for, where its command is put in a place that the caller gives.
+use Rattle.std.specs.Prelude.{Bool, true, false, Option, Some, None, Ok, Err}
+use Rattle.rh_defs.specs.declared.command.Command.{Command}
+use Rattle.rh_defs.specs.Line.{Meaning}
+
+-- the command in the place, unless there is a fault
+abbrev pub placed : Meaning Unit → Command → Meaning Command
+placed (Ok done) command = Ok command
+placed (Err fault) command = Err fault
+
+-- the same, where a line may have no command
+abbrev pub if_placed : Meaning Bool → Command → Meaning (Option Command)
+if_placed (Ok true) command = Ok (Some command)
+if_placed (Ok false) command = Ok None
+if_placed (Err fault) command = Err fault
+
+-- a fact where the line has a command
+abbrev pub OnFound : Meaning Bool → Type 0 → Type 0
+OnFound (Ok true) X = X
+OnFound (Ok false) X = Unit {0}
+OnFound (Err fault) X = Unit {0}
+
+-- a fact where it has none, or a fault
+abbrev pub OnNone : Meaning Bool → Type 0 → Type 0
+OnNone (Ok true) X = Unit {0}
+OnNone (Ok false) X = X
+OnNone (Err fault) X = X
