@@ -1,9 +1,9 @@
 //! Lines as commands.
 
-use crate::same::same;
+use crate::same::{is_true, same};
 use arrayvec::ArrayVec;
 use rh_defs::{Anchor, Bytes, Command, Leaf, LineFault, Manner, Name, Ref};
-use rh_lines::parse_line;
+use rh_lines::{parse_line, read_line};
 use std::process::Abort;
 
 fn name(rt: &impl Abort, bytes: &[u8]) -> Name {
@@ -307,6 +307,16 @@ fn skips_lines(rt: HostRuntime) {
         assert_eq!(rt; parse_line(line), Ok(None), "at {line:?}");
     }
     same(&rt, parse_line(&[b' '; 1024]), Ok(None));
+}
+
+#[test]
+fn puts_a_command_in_a_place(rt: HostRuntime) {
+    let mut place = Command::Areas;
+    same(&rt, read_line(b"make 7", &mut place), Ok(true));
+    is_true(&rt, place == Command::Make { most: 7 });
+    same(&rt, read_line(b"# make 8", &mut place), Ok(false));
+    same(&rt, read_line(b"make x", &mut place), Err(LineFault::Word(2)));
+    is_true(&rt, place == Command::Make { most: 7 });
 }
 
 /// Each of the lines has this fault.

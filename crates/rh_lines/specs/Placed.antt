@@ -1,14 +1,14 @@
--- What a line asks for, where its command is put in a place that the caller gives.
+-- What a line asks for, where its command or its bytes are put in a place that the caller gives.
 use Rattle.std.specs.Prelude.{Bool, true, false, Option, Some, None, Ok, Err}
 use Rattle.rh_defs.specs.declared.command.Command.{Command}
 use Rattle.rh_defs.specs.Line.{Meaning}
 
--- the command in the place, unless there is a fault
-abbrev pub placed : Meaning Unit → Command → Meaning Command
-placed (Ok done) command = Ok command
-placed (Err fault) command = Err fault
+-- what is in the place, unless there is a fault
+abbrev pub placed : {A : Type 0} → Meaning Unit → A → Meaning A
+placed (Ok done) x = Ok x
+placed (Err fault) x = Err fault
 
--- the same, where a line may have no command
+-- the command in the place, where a line may have none
 abbrev pub if_placed : Meaning Bool → Command → Meaning (Option Command)
 if_placed (Ok true) command = Ok (Some command)
 if_placed (Ok false) command = Ok None

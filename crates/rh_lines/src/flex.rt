@@ -8,7 +8,8 @@ ghost use Rattle.rh_lines.specs.Placed.{placed};
 use crate::counts::counted;
 use crate::forms::{anchor_at, bytes_at, delta_at, name_at, size_at};
 use crate::words::Words;
-use rh_defs::{Command, LineFault};
+use arrayvec::ArrayVec;
+use rh_defs::{Bytes, Command, LineFault};
 
 /// `alloc NAME A N`.
 #[tactic(auto, unfolding(rh_defs::specs::Line::alloc_of, rh_defs::specs::Range::in_range))]
@@ -51,12 +52,13 @@ pub fn put_of(words: &Words<'_>, command: &mut Command) -> Result<(), LineFault>
     let name = name_at(words, 2)?;
     let anchor = anchor_at(words, 3)?;
     let offset = size_at(words, 4)?;
-    let bytes = bytes_at(words, 5)?;
+    let mut bytes = ArrayVec::new();
+    bytes_at(words, 5, &mut bytes)?;
     *command = Command::Put {
         name,
         anchor,
         offset,
-        bytes,
+        bytes: Bytes::new(bytes),
     };
     Ok(())
 }

@@ -1,6 +1,6 @@
 //! The forms of a line's words: names, numbers, addresses and bytes.
 
-ghost use Rattle.std.specs.Prelude.{◌≡◌, ◌-◌, ◌<◌, ◌≤◌, length, drop, slice_index, Option, Some, None, if◌then◌else◌, IfOk, IsTrue, unwrap_or, nat_le};
+ghost use Rattle.std.specs.Prelude.{◌≡◌, ◌-◌, ◌<◌, ◌≤◌, length, drop, slice_index, Option, Some, None, if◌then◌else◌, [], IfOk, OnOk, IsTrue, unwrap_or, nat_le};
 ghost use Rattle.std.specs.List.{list_all};
 ghost use Rattle.std.specs.Char.{is_ascii_digit};
 ghost use Rattle.std.specs.Result.{result_ok};
@@ -8,13 +8,14 @@ ghost use Rattle.hex.specs.Hex.{decode_of, hex_digit_value, is_hex_digit};
 ghost use Rattle.rh_defs.specs.Forms.{is_name, is_anchor, is_number, is_delta, is_leaf, is_decimal, number_of};
 ghost use Rattle.rh_defs.specs.Line.{name_at, number_at, delta_at, is_address, hex_number, address_at, leaf_at, choice_at, bytes_at, signed};
 ghost use Rattle.rh_defs.specs.declared.sizes.TheConstants.{ANCHORS, GREATEST_NUMBER, LONGEST_LEAF};
+ghost use Rattle.rh_lines.specs.Placed.{placed};
 ghost use Rattle.rh_lines.specs.declared.forms.TheConstants.{MOST_DIGITS};
 
 use crate::hex_digits::{are_hex_digits, hex_bytes, hex_number};
 use crate::words::Words;
 use arrayvec::ArrayVec;
-use rh_defs::sizes::{ANCHORS, GREATEST_NUMBER};
-use rh_defs::{Anchor, Bytes, Leaf, LineFault, Name};
+use rh_defs::sizes::{ANCHORS, GREATEST_NUMBER, MOST_BYTES};
+use rh_defs::{Anchor, Leaf, LineFault, Name};
 
 /// A number has at most so many decimal digits.
 const MOST_DIGITS: usize = 10;
@@ -181,19 +182,22 @@ pub fn choice_at(words: &Words<'_>, n: u8, first: &[u8], second: &[u8]) -> Resul
     }
 }
 
-/// Word `n` as hexadecimal digits of either case, two for each byte, at least one byte.
+/// Word `n` as hexadecimal digits of either case, two for each byte, at least one byte. The bytes are added to an empty
+/// list.
 #[tactic(auto, unfolding(rh_defs::specs::Line::bytes_at))]
-pub fn bytes_at(words: &Words<'_>, n: u8) -> Result<Bytes, LineFault>
-    requires { 0 < n }
-    ensures means { result ≡ bytes_at words.now n }
-    ensures form { IfOk result (λ bytes. 1 ≤ length bytes) }
+pub fn bytes_at(
+    words: &Words<'_>,
+    n: u8,
+    bytes: &mut ArrayVec<u8, MOST_BYTES>,
+) -> Result<(), LineFault>
+    requires counted { 0 < n }
+    requires none { bytes.old.items ≡ [] }
+    ensures means { placed result bytes.new.items ≡ bytes_at words.now n }
+    ensures form { OnOk result (1 ≤ length bytes.new.items) }
 {
     let word = words.word(n);
-    if word.is_empty() {
+    if word.is_empty() || !hex_bytes(word, bytes) {
         return Err(LineFault::Word(n));
     }
-    match hex_bytes(word) {
-        Some(bytes) => Ok(bytes),
-        None => Err(LineFault::Word(n)),
-    }
+    Ok(())
 }

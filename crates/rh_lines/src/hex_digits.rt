@@ -1,6 +1,6 @@
 //! Hexadecimal digits of either case.
 
-ghost use Rattle.std.specs.Prelude.{◌≡◌, ◌<◌, ◌≤◌, length, unwrap_or};
+ghost use Rattle.std.specs.Prelude.{◌≡◌, ◌<◌, ◌≤◌, [], length, unwrap_or, Some, None, if◌then◌else◌};
 ghost use Rattle.std.specs.List.{list_all};
 ghost use Rattle.std.specs.Result.{result_ok};
 ghost use Rattle.hex.specs.Hex.{decode_of, pair_value, hex_digit_value, is_hex_digit};
@@ -8,7 +8,7 @@ ghost use Rattle.rh_defs.specs.Line.{hex_number};
 ghost use Rattle.rh_defs.specs.declared.sizes.TheConstants.{LONGEST_LINE};
 
 use arrayvec::ArrayVec;
-use rh_defs::Bytes;
+use rh_defs::sizes::MOST_BYTES;
 
 /// What stands for a byte that is no digit.
 const NO_DIGIT: u8 = 255;
@@ -65,25 +65,22 @@ fn number_of(digit: u8) -> u8
     if value == NO_DIGIT { 0 } else { value }
 }
 
-/// The bytes that up to 1,024 digits spell, two for each byte: none for an odd number of digits or any other byte.
-pub fn hex_bytes(digits: &[u8]) -> Option<Bytes>
-    requires { length digits.now ≤ LONGEST_LINE }
-    ensures { result ≡ result_ok (decode_of digits.now) }
+/// Adds the bytes that up to 1,024 digits spell, two for each byte, to an empty list. False for an odd number of digits or
+/// any other byte: the list then holds the bytes before it.
+pub fn hex_bytes(digits: &[u8], bytes: &mut ArrayVec<u8, MOST_BYTES>) -> bool
+    requires few { length digits.now ≤ LONGEST_LINE }
+    requires none { bytes.old.items ≡ [] }
+    ensures { (if result then Some bytes.new.items else None) ≡ result_ok (decode_of digits.now) }
 {
-    let mut bytes = ArrayVec::new();
     let mut rest = digits;
     while let [high, low, tail @ ..] = rest {
         match pair_value(*high, *low) {
             Some(byte) => bytes.push(byte),
-            None => return None,
+            None => return false,
         }
         rest = tail;
     }
-    if rest.is_empty() {
-        Some(Bytes::new(bytes))
-    } else {
-        None
-    }
+    rest.is_empty()
 }
 
 /// The byte that two digits spell.

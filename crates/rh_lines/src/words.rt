@@ -36,18 +36,8 @@ impl<'a> Words<'a> {
         ensures { result ≡ first_words line.now }
     {
         let mut found = ArrayVec::new();
-        let mut rest = line;
-        'pieces: loop {
-            let Some(end) = memchr(b' ', rest) else {
-                push_word(&mut found, rest);
-                return Words { found };
-            };
-            push_word(&mut found, &rest[..end]);
-            if found.is_full() {
-                return Words { found };
-            }
-            rest = &rest[end + 1..];
-        }
+        split(line, &mut found);
+        Words { found }
     }
 
     /// How many words the line has, where it has fewer than six.
@@ -67,6 +57,27 @@ impl<'a> Words<'a> {
             Some(word) => word,
             None => &[],
         }
+    }
+}
+
+/// Finds the words of a line, up to the sixth.
+fn split<'a>(line: &'a [u8], found: &mut ArrayVec<&'a [u8], MOST_WORDS>)
+    requires few { length line.now ≤ LONGEST_LINE }
+    requires none { found.old.items ≡ [] }
+    ensures items { map (λ w. w.now) found.new.items ≡ first_words line.now }
+    ensures short { All (λ w. length w.now ≤ LONGEST_LINE) found.new.items }
+{
+    let mut rest = line;
+    'pieces: loop {
+        let Some(end) = memchr(b' ', rest) else {
+            push_word(found, rest);
+            return;
+        };
+        push_word(found, &rest[..end]);
+        if found.is_full() {
+            return;
+        }
+        rest = &rest[end + 1..];
     }
 }
 

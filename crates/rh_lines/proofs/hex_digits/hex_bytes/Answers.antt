@@ -1,4 +1,4 @@
-use Rattle.std.proofs.Common.{◌≡◌, ◌≢◌, ℕ, Bool, true, false, eqb, rules, arith, length-take, length-drop, sym, ◌∙◌}
+use Rattle.std.proofs.Common.{◌≡◌, ◌≢◌, ℕ, Bool, true, false, eqb, Option, Some, None, if◌then◌else◌, refl, rules, arith, length-take, length-drop, sym, ◌∙◌}
 use borrow.Author.Tests.{tests}
 use Rattle.rh_lines.proofs.HexDigits.{pairs_start, pairs_next, pairs_stop, pairs_end, pairs_odd}
 use Rattle.rh_lines.proofs.hex_digits.hex_bytes.Goals as goal
@@ -9,9 +9,13 @@ none_left n b is holds = let e : eqb n 0 ≡ true = sym is ∙ holds in search (
 some_left : (n : ℕ) (b : Bool) → b ≡ eqb n 0 → b ≡ false → n ≢ 0
 some_left n b is fails = let e : eqb n 0 ≡ false = sym is ∙ fails in search (rules, tests)
 
+by_end : {A : Type 0} {x : A} {m : Option A} (b : Bool) → (b ≡ true → Some x ≡ m) → (b ≡ false → None ≡ m) → (if b then Some x else None) ≡ m
+by_end true all odd = all refl
+by_end false all odd = odd refl
+
 pub loop-rest-init : goal.loop-rest-init
 loop-rest-init c =
-    record { room = rw c.new-bytes.ensures (omega (arith, c.requires)); so_far = rw c.new-bytes.ensures (pairs_start c.args.digits.now) }
+    record { room = rw c.requires.none (omega (arith, c.requires.few)); so_far = rw c.requires.none (pairs_start c.args.digits.now) }
 
 pub returns-in-None : goal.returns-in-None
 returns-in-None c =
@@ -23,10 +27,8 @@ loop-rest-preserved c = record {
   so_far = pairs_next _ c.loop-rest.bytes.items c.push.new.self.items c.loop-rest.rest.now c.in-Some.byte c.loop-rest.invariant.so_far (omega arith) c.in-Some.ensures c.push.ensures.items;
 }
 
-pub returns-then-is_empty : goal.returns-then-is_empty
-returns-then-is_empty c =
-    rw c.new.ensures (pairs_end _ c.loop-rest.bytes.items c.loop-rest.rest.now c.loop-rest.invariant.so_far (none_left _ c.is_empty.result c.is_empty.ensures c.if-is_empty.true))
-
-pub returns-else-is_empty : goal.returns-else-is_empty
-returns-else-is_empty c =
-    pairs_odd _ c.loop-rest.bytes.items c.loop-rest.rest.now c.loop-rest.invariant.so_far (some_left _ c.is_empty.result c.is_empty.ensures c.if-is_empty.false) c.in_default.len_below
+pub returns : goal.returns
+returns c =
+    by_end c.is_empty.result
+    (λ t. pairs_end _ c.loop-rest.bytes.items c.loop-rest.rest.now c.loop-rest.invariant.so_far (none_left _ c.is_empty.result c.is_empty.ensures t))
+    (λ f. pairs_odd _ c.loop-rest.bytes.items c.loop-rest.rest.now c.loop-rest.invariant.so_far (some_left _ c.is_empty.result c.is_empty.ensures f) c.in_default.len_below)

@@ -1,6 +1,6 @@
 use Rattle.std.proofs.Common.{◌≡◌, ◌<◌, ◌≤◌, All, ◌++◌, length, map}
 use Rattle.rh_defs.specs.Line.{words_of}
-use Rattle.rh_lines.proofs.words.Words.new.Given as goal
+use Rattle.rh_lines.proofs.words.split.Given as goal
 
 -- the words found so far, and those of the rest
 abbrev pub invariant-pieces : goal.invariant-pieces
