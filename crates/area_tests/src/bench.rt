@@ -229,10 +229,18 @@ impl<S: Store + Drop> Bench<S> {
         self.slot.block(&self.store, i)
     }
 
+    /// The flex blocks, put into a list that held another block before.
     pub(crate) fn items(&self) -> ArrayVec<BlockItem, ANCHORS>
         requires { IsSlot (S.memory self.now.store) self.now.slot }
     {
-        self.slot.items(&self.store)
+        let mut items = ArrayVec::new();
+        items.push(BlockItem {
+            anchor: Anchor(9),
+            address: 0x9040,
+            size: 1,
+        });
+        self.slot.list(&self.store, &mut items);
+        items
     }
 
     /// The first four answers of one walk over the flex blocks.

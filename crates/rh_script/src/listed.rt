@@ -9,6 +9,7 @@ ghost use Rattle.rh_script.specs.Named.{blocks_of_named};
 
 use crate::gathered::make_room;
 use crate::read::{area_at, blocks_of};
+use arrayvec::ArrayVec;
 use rh_defs::{AreaItem, BlockItem, Name};
 use rh_lines::{Row, Sink, WriteFailed, put};
 use rh_store::Store;
@@ -23,7 +24,9 @@ pub fn print_blocks<S: Store, W: Sink>(
     ensures { Puts (W.output writer.old) (W.output writer.new) result
         (flat_map block_line (blocks_of_named name.now world.now.desk)) }
 {
-    print_items(&blocks_of(world, name), writer)
+    let mut items = ArrayVec::new();
+    blocks_of(world, name, &mut items);
+    print_items(&items, writer)
 }
 
 /// Writes a line for each of these blocks.

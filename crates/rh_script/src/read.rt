@@ -22,13 +22,12 @@ pub fn area_at<S: Store>(world: &World<S>, i: usize) -> Option<AreaItem>
     item
 }
 
-/// All flex blocks of the task, from below.
-pub fn blocks_of<S: Store>(world: &World<S>, name: &Name) -> ArrayVec<BlockItem, ANCHORS>
-    ensures { result.items ≡ blocks_of_named name.now world.now.desk }
+/// Puts all flex blocks of the task, from below, into a list, in place of what it held.
+pub fn blocks_of<S: Store>(world: &World<S>, name: &Name, items: &mut ArrayVec<BlockItem, ANCHORS>)
+    ensures { items.new.items ≡ blocks_of_named name.now world.now.desk }
 {
-    match world.blocks_of(name) {
-        Ok(items) => items,
-        Err(_) => ArrayVec::new(),
+    if world.blocks_of(name, items).is_err() {
+        items.clear();
     }
 }
 

@@ -312,19 +312,19 @@ impl Slot {
         walk
     }
 
-    /// All flex blocks from below: the anchor, address and size in bytes of each.
-    pub fn items<S: Words>(self, store: &S) -> ArrayVec<BlockItem, ANCHORS>
+    /// Puts all flex blocks from below into a list, in place of what it held: the anchor, address and size in bytes of
+    /// each.
+    pub fn list<S: Words>(self, store: &S, items: &mut ArrayVec<BlockItem, ANCHORS>)
         requires slot { IsSlot (S.memory store.now) self }
-        ensures { result.items ≡ block_items (slot_in (S.memory store.now) self) }
+        ensures { items.new.items ≡ block_items (slot_in (S.memory store.now) self) }
     {
         let anchors = store.rest_of_page(self.area, 0);
-        let mut items = ArrayVec::new();
+        items.clear();
         let mut walk = self.blocks(store);
         'walk: while let Some(item) = self.next_block(store, &mut walk) {
             items.push(item);
-            walk = self.list_in_page(store, anchors, walk, &mut items);
+            walk = self.list_in_page(store, anchors, walk, items);
         }
-        items
     }
 
     /// Flex block `i` from below, from 0 on: its anchor, address and size in bytes.

@@ -1,6 +1,6 @@
 //! What is asked of the desk: sums, lists whole and item by item, and bytes.
 
-ghost use Rattle.std.specs.Prelude.{◌≡◌, ◌≤◌, ◌<◌, ◌^◌, true, Ok, Err, IfErr, IfOk, length, map, slice_get};
+ghost use Rattle.std.specs.Prelude.{◌≡◌, ◌≤◌, ◌<◌, ◌^◌, true, Ok, Err, IfErr, IfOk, OnOk, length, map, slice_get};
 ghost use Rattle.std.specs.List.{AllByRecursion};
 ghost use Rattle.std.specs.Result.{MatchResult};
 ghost use Rattle.rh_tasks.specs.declared.seat.Seat.{Seat};
@@ -131,13 +131,19 @@ impl<S: Store> World<S> {
         Ok((count, slot.block(&self.store, i)))
     }
 
-    /// All flex blocks of the task from below; NoName where no task has the name.
-    pub fn blocks_of(&self, name: &Name) -> Result<ArrayVec<BlockItem, ANCHORS>, Refusal>
-        ensures ok { IfOk result (λ items. blocks_of self.now.desk name.now ≡ Ok items.items) }
-        ensures err { IfErr result (λ e. blocks_of self.now.desk name.now ≡ Err e) }
+    /// Puts all flex blocks of the task from below into a list, in place of what it held; NoName where no task has the
+    /// name, which leaves the list as it was.
+    pub fn blocks_of(
+        &self,
+        name: &Name,
+        items: &mut ArrayVec<BlockItem, ANCHORS>,
+    ) -> Result<(), Refusal>
+        ensures ok { OnOk result (blocks_of self.now.desk name.now ≡ Ok items.new.items) }
+        ensures err { IfErr result (λ e. (blocks_of self.now.desk name.now ≡ Err e) × (items.new ≡ items.old)) }
     {
         let slot = slot_of(&self.seats, name)?;
-        Ok(slot.items(&self.store))
+        slot.list(&self.store, items);
+        Ok(())
     }
 
     /// The sums over the task's C heap (OS_Heap 1), and the segment that begins at a place, in bytes from the heap's

@@ -4,11 +4,14 @@ use crate::calls::{fill, name, said, task};
 use crate::same::same;
 use crate::stores::{paged_store, plain_store};
 use arrayvec::ArrayVec;
+use rh_defs::sizes::ANCHORS;
 use rh_defs::{Anchor, BlockItem, Command, Files, Handle, Name, Refusal, Reply, SegmentItem};
 use rh_store::Store;
 use rh_tasks::World;
 use std::process::Abort;
 use std::test::Fail;
+
+type Blocks = ArrayVec<BlockItem, ANCHORS>;
 
 /// A list of these items.
 fn list<T: Copy + Default, const CAP: usize>(items: &[T]) -> ArrayVec<T, CAP> {
@@ -37,8 +40,20 @@ fn claims<R: Abort, S: Store>(rt: &R, world: &mut World<S>, name: &Name, size: u
     said(rt, world, &claim)
 }
 
+/// The block that a list holds before it is lent.
+fn before() -> BlockItem {
+    block(9, 0x9040, 1)
+}
+
+/// Lends the world a list with a block in it: its answer, and the list after it.
+fn blocks_of<S: Store>(world: &World<S>, name: &Name) -> (Result<(), Refusal>, Blocks) {
+    let mut items = list(&[before()]);
+    let answer = world.blocks_of(name, &mut items);
+    (answer, items)
+}
+
 fn lists_blocks<R: Abort, S: Store>(rt: &R, world: &mut World<S>, name: &Name) {
-    same(rt, world.blocks_of(name), Ok(list(&[])));
+    same(rt, blocks_of(world, name), (Ok(()), list(&[])));
     fill(rt, world, name);
     let alloc = Command::Alloc {
         name: name.copied(),
@@ -51,7 +66,7 @@ fn lists_blocks<R: Abort, S: Store>(rt: &R, world: &mut World<S>, name: &Name) {
         Reply::Block { address: 0x9018 },
     );
     let all = [block(0, 0x9008, 5), block(63, 0x9018, 0)];
-    same(rt, world.blocks_of(name), Ok(list(&all)));
+    same(rt, blocks_of(world, name), (Ok(()), list(&all)));
 }
 
 fn lists_segments<R: Abort, S: Store>(rt: &R, world: &mut World<S>, name: &Name) {
@@ -112,8 +127,9 @@ fn lists<R: Abort, S: Store>(rt: &R, world: &mut World<S>) -> Result<(), Fail> {
     lists_blocks(rt, world, &second);
     lists_segments(rt, world, &second);
     lists_64_segments(rt, world, &first);
-    same(rt, world.blocks_of(&first), Ok(list(&[])));
-    same(rt, world.blocks_of(&nobody), Err(Refusal::NoName));
+    same(rt, blocks_of(world, &first), (Ok(()), list(&[])));
+    let refused = (Err(Refusal::NoName), list(&[before()]));
+    same(rt, blocks_of(world, &nobody), refused);
     same(rt, world.segments_of(&nobody, 16), Err(Refusal::NoName));
     Ok(())
 }

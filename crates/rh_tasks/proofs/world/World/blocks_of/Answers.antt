@@ -1,4 +1,4 @@
-use Rattle.std.proofs.Common.{List}
+use Rattle.std.proofs.Common.{List, refl}
 use Rattle.std.specs.Prelude.{Ok}
 use Rattle.std.proofs.lemmas.Result.{err_from_is_err_and}
 use Rattle.rh_defs.specs.declared.listing.BlockItem.{BlockItem}
@@ -14,9 +14,9 @@ pub returns-in_err-slot-clause-err : goal.returns-in_err-slot-clause-err
 unfolding blocks_of
 returns-in_err-slot-clause-err g c =
     let p = err_from_is_err_and c.from_residual.result c.from_residual.ensures.1 in
-    rw (p.1, p.2, c.in_err-slot.ensures.err.0, ← c.self.view_is) (ends _ (nobody _ _ _ _ _ _ c.in_err-slot.ensures.err.1))
+    rw (p.1, p.2, c.in_err-slot.ensures.err.0, ← c.self.view_is) (ends _ (nobody _ _ _ _ _ _ c.in_err-slot.ensures.err.1), refl)
 
 pub returns-clause-ok : goal.returns-clause-ok
 unfolding blocks_of
 returns-clause-ok g c =
-    rw (← c.self.view_is, c.items.ensures) (asked c.self.invariant.0 c.in_ok-slot.ensures.ok (λ s. let r : Granted (List BlockItem) = Ok (block_items s) in r))
+    rw (← c.self.view_is, c.list.ensures) (asked c.self.invariant.0 c.in_ok-slot.ensures.ok (λ s. let r : Granted (List BlockItem) = Ok (block_items s) in r))

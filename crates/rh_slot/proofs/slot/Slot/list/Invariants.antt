@@ -3,7 +3,7 @@ use Rattle.std.proofs.Common.{◌≡◌, ◌-◌, length, take}
 use Rattle.rh_defs.specs.Listing.{block_items}
 use Rattle.rh_slot.specs.Area.{slot_in}
 use Rattle.rh_slot.specs.Row.{WalksIn}
-use Rattle.rh_slot.proofs.slot.Slot.items.Given as goal
+use Rattle.rh_slot.proofs.slot.Slot.list.Given as goal
 
 abbrev pub invariant-walk : goal.invariant-walk
 invariant-walk g l =

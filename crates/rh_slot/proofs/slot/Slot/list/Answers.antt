@@ -4,7 +4,7 @@ use Rattle.rh_defs.specs.Listing.{block_items}
 use Rattle.rh_slot.specs.Area.{slot_in}
 use Rattle.rh_slot.specs.declared.row.FlexWalk.{FlexWalk}
 use Rattle.rh_slot.proofs.ItemLaws.{room_left, one_more, all_listed}
-use Rattle.rh_slot.proofs.slot.Slot.items.Goals as goal
+use Rattle.rh_slot.proofs.slot.Slot.list.Goals as goal
 
 pub rest_of_page-anchors-requires-clause-within : goal.rest_of_page-anchors-requires-clause-within
 rest_of_page-anchors-requires-clause-within g c = omega (arith, c.requires.slot.spells.words.within)
