@@ -1,6 +1,6 @@
 -- What a line means, by its first word and its first six words.
 use Rattle.std.proofs.Common.{◌≡◌, ℕ, ◌<◌, ◌≤◌, Bool, true, false, eqb, List, [], ◌∷◌, length, take, get_or, subst, Option, Some, None, refl, sym, ◌∙◌, ap, arith, rules, cond, ◌&&◌, ◌⊎◌, inl, inr}
-use Rattle.std.specs.Prelude.{find, IfSome, IfNone, map, nat_lt, Ok, Err, Result, IsErr, IsErrAnd}
+use Rattle.std.specs.Prelude.{find, IfSome, IfNone, map, nat_lt, Ok, Err, IsErr, IsErrAnd}
 use Rattle.rh_defs.specs.declared.fault.LineFault.{LineFault}
 use Rattle.rh_lines.specs.Placed.{if_placed}
 use Rattle.std.specs.List.{list_all, filter}
