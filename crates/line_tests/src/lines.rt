@@ -315,7 +315,11 @@ fn puts_a_command_in_a_place(rt: HostRuntime) {
     same(&rt, read_line(b"make 7", &mut place), Ok(true));
     is_true(&rt, place == Command::Make { most: 7 });
     same(&rt, read_line(b"# make 8", &mut place), Ok(false));
-    same(&rt, read_line(b"make x", &mut place), Err(LineFault::Word(2)));
+    same(
+        &rt,
+        read_line(b"make x", &mut place),
+        Err(LineFault::Word(2)),
+    );
     is_true(&rt, place == Command::Make { most: 7 });
 }
 
