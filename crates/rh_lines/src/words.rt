@@ -2,6 +2,7 @@
 
 ghost use Rattle.std.specs.Prelude.{◌≡◌, ◌<◌, ◌≤◌, ◌++◌, ◌∷◌, [], length, map, All};
 ghost use Rattle.rh_defs.specs.Line.{words_of, word};
+ghost use Rattle.memchr.specs.Find.{IsFirstByte, is_byte};
 ghost use Rattle.rh_lines.specs.Words.{first_words, piece_words};
 ghost use Rattle.rh_defs.specs.declared.sizes.TheConstants.{LONGEST_LINE};
 
@@ -11,6 +12,9 @@ use std::marker::Model;
 
 /// No command has more than five words: a sixth one is a word too many, and more are not looked at.
 const MOST_WORDS: usize = 6;
+
+/// Up to so many bytes are sooner looked over one by one than by `memchr`, which looks at many at once.
+const FEW: usize = 24;
 
 /// The words of a line, up to the sixth.
 #[derive(Drop)]
@@ -35,9 +39,11 @@ impl<'a> Words<'a> {
         requires { length line.now ≤ LONGEST_LINE }
         ensures { result ≡ first_words line.now }
     {
-        let mut found = ArrayVec::new();
-        split(line, &mut found);
-        Words { found }
+        let mut words = Words {
+            found: ArrayVec::new(),
+        };
+        split(line, &mut words.found);
+        words
     }
 
     /// How many words the line has, where it has fewer than six.
@@ -69,7 +75,7 @@ fn split<'a>(line: &'a [u8], found: &mut ArrayVec<&'a [u8], MOST_WORDS>)
 {
     let mut rest = line;
     'pieces: loop {
-        let Some(end) = memchr(b' ', rest) else {
+        let Some(end) = first_space(rest) else {
             push_word(found, rest);
             return;
         };
@@ -79,6 +85,21 @@ fn split<'a>(line: &'a [u8], found: &mut ArrayVec<&'a [u8], MOST_WORDS>)
         }
         rest = &rest[end + 1..];
     }
+}
+
+/// Where the first space stands.
+fn first_space(piece: &[u8]) -> Option<usize>
+    ensures { IsFirstByte (is_byte 32) piece.now result }
+{
+    if piece.len() > FEW {
+        return memchr(b' ', piece);
+    }
+    for (i, b) in piece.iter().enumerate() {
+        if *b == b' ' {
+            return Some(i);
+        }
+    }
+    None
 }
 
 /// Adds what stands between two spaces, unless that is nothing.
