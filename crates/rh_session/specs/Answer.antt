@@ -11,7 +11,7 @@ use Rattle.rh_session.specs.Session.{State}
 
 -- the bytes of an answer, on the desk after it
 abbrev pub answer_bytes : Desk → Answer → List ℕ
-answer_bytes d (Reply command reply) = reply_text d command.now reply
+answer_bytes d (Reply command reply) = reply_text d command.now reply.now
 answer_bytes d (Fault fault) = fault_text fault.now
 
 -- the state after a line of this meaning

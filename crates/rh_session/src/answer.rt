@@ -13,7 +13,7 @@ use rh_lines::{Held, Sink, WriteFailed, print_fault, put};
 /// What is written for a line: a command's reply, or what is wrong with the line.
 #[derive(Drop)]
 pub enum Answer<'a> {
-    Reply(&'a Command, Reply),
+    Reply(&'a Command, &'a Reply),
     Fault(&'a LineFault),
 }
 

@@ -112,7 +112,7 @@ impl<D: Desktop> Session<D> {
             Ok(false) => Ok(()),
             Ok(true) => {
                 let reply = self.desktop.apply(command);
-                Answer::Reply(command, reply).write(&self.desktop, held, writer)
+                Answer::Reply(command, &reply).write(&self.desktop, held, writer)
             }
             Err(fault) => {
                 self.has_bad_line = true;
