@@ -5,15 +5,16 @@ ghost use Rattle.std.specs.Fmt.{decimal};
 ghost use Rattle.rh_defs.specs.Listing.{area_items};
 ghost use Rattle.rh_defs.specs.Text.{area_line, block_line, later};
 ghost use Rattle.rh_lines.specs.Flow.{Puts};
+ghost use Rattle.rh_tasks.specs.Items.{item_of};
 ghost use Rattle.rh_script.specs.Named.{blocks_of_named};
 
 use crate::gathered::make_room;
-use crate::read::{area_at, blocks_of};
+use crate::read::blocks_of;
 use arrayvec::ArrayVec;
-use rh_defs::{AreaItem, BlockItem, Name};
+use rh_defs::{BlockItem, Name};
 use rh_lines::{Row, Sink, WriteFailed, put};
 use rh_store::Store;
-use rh_tasks::World;
+use rh_tasks::{AreaEntry, World};
 
 /// Writes a line for each flex block of the task, from below.
 pub fn print_blocks<S: Store, W: Sink>(
@@ -62,22 +63,22 @@ pub fn print_areas<S: Store, W: Sink>(world: &World<S>, writer: &mut W) -> Resul
 {
     let mut row = Row::new();
     let mut i = 0;
-    'items: while let Some(item) = area_at(world, i) {
+    'items: while let Some(item) = world.area_entry(i) {
         make_room(&mut row, writer)?;
-        add_area(&mut row, &item);
+        add_area(&mut row, item);
         i += 1;
     }
     put(writer, row.as_slice())
 }
 
 #[inline(always)]
-fn add_area(row: &mut Row, item: &AreaItem)
+fn add_area(row: &mut Row, item: AreaEntry<'_>)
     requires { length row.old ≤ 58 }
-    ensures { row.new ≡ row.old ++ area_line item.now }
+    ensures { row.new ≡ row.old ++ area_line (item_of item.entry) }
 {
     match item {
-        AreaItem::Area { number, pages } => add_numbered(row, *number, *pages),
-        AreaItem::Slot { name, pages } => add_slot(row, name, *pages),
+        AreaEntry::Area { number, pages } => add_numbered(row, number, pages),
+        AreaEntry::Slot { name, pages } => add_slot(row, name, pages),
     }
 }
 

@@ -1,26 +1,16 @@
 //! What is read of a named task's slot, where a name that no task has stands for a slot with nothing in it.
 
-ghost use Rattle.std.specs.Prelude.{◌≡◌, ◌+◌, ◌≤◌, ◌<◌, ◌^◌, length, slice_get, take, drop};
+ghost use Rattle.std.specs.Prelude.{◌≡◌, ◌+◌, ◌≤◌, ◌<◌, ◌^◌, length, take, drop};
 ghost use Rattle.rh_defs.specs.Heap.{IsHeap};
-ghost use Rattle.rh_defs.specs.Listing.{area_items};
 ghost use Rattle.rh_tasks.specs.Lists.{segment_items_at};
 ghost use Rattle.rh_script.specs.Named.{blocks_of_named, bytes_of_named, heap_of_named};
 
 use arrayvec::ArrayVec;
 use rh_defs::sizes::ANCHORS;
-use rh_defs::{Anchor, AreaItem, BlockItem, Name, SegmentItem};
+use rh_defs::{Anchor, BlockItem, Name, SegmentItem};
 use rh_heap::SEGMENTS_AT_ONCE;
 use rh_store::Store;
 use rh_tasks::World;
-
-/// Item `i` of the areas and slots.
-pub fn area_at<S: Store>(world: &World<S>, i: usize) -> Option<AreaItem>
-    ensures item { result ≡ slice_get (area_items world.now.desk) i }
-    ensures few { length (area_items world.now.desk) ≤ 70 }
-{
-    let (_, item) = world.areas(i);
-    item
-}
 
 /// Puts all flex blocks of the task, from below, into a list, in place of what it held.
 pub fn blocks_of<S: Store>(world: &World<S>, name: &Name, items: &mut ArrayVec<BlockItem, ANCHORS>)

@@ -7,9 +7,16 @@ use Rattle.rh_defs.specs.declared.listing.AreaItem.TheVariants as item
 use Rattle.rh_defs.specs.declared.listing.SegmentItem.{SegmentItem}
 use Rattle.rh_defs.specs.declared.listing.SegmentItem.TheVariants as segment
 use Rattle.rh_heap.specs.declared.layout.Segment.{Segment}
+use Rattle.rh_tasks.specs.declared.listing.AreaEntry.{AreaEntry}
+use Rattle.rh_tasks.specs.declared.listing.AreaEntry.TheVariants as entry
 use Rattle.rh_tasks.specs.declared.seat.Seat.{Seat}
 use Rattle.rh_tasks.specs.declared.made.MadeArea.{MadeArea}
 use Rattle.rh_tasks.specs.View.{fixed, pages_at}
+
+-- the item that an entry stands for
+abbrev pub item_of : AreaEntry → AreaItem
+item_of (entry.Area number pages) = item.Area number pages
+item_of (entry.Slot name pages) = item.Slot name.now pages
 
 -- areas 0 to 5
 abbrev pub fixed_items : Memory → List AreaItem

@@ -24,5 +24,5 @@ mod transfer_block;
 mod transfers;
 mod world;
 
-pub use listing::HeapSums;
+pub use listing::{AreaEntry, HeapSums};
 pub use world::World;

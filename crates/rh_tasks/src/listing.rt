@@ -2,6 +2,7 @@
 
 ghost use Rattle.std.specs.Prelude.{◌≡◌, ◌≤◌, ◌<◌, ◌^◌, true, Ok, Err, IfErr, IfOk, OnOk, length, map, slice_get};
 ghost use Rattle.std.specs.List.{AllByRecursion};
+ghost use Rattle.std.specs.Option.{option_map};
 ghost use Rattle.std.specs.Result.{MatchResult};
 ghost use Rattle.rh_tasks.specs.declared.seat.Seat.{Seat};
 ghost use Rattle.rh_defs.specs.Memory.{Memory, IsOpen};
@@ -12,7 +13,7 @@ ghost use Rattle.rh_defs.specs.Desk.{free_pages as free_pages_on};
 ghost use Rattle.rh_defs.specs.Listing.{area_items, areas_at, blocks_at, heap_at, shown_at, status_at};
 ghost use Rattle.rh_tasks.specs.Answer.{Gives};
 ghost use Rattle.rh_tasks.specs.View.{pages_at, HasAreas};
-ghost use Rattle.rh_tasks.specs.Items.{items_in, slot_items, segment_item_of, placed_item, IsSmall};
+ghost use Rattle.rh_tasks.specs.Items.{item_of, items_in, slot_items, segment_item_of, placed_item, IsSmall};
 ghost use Rattle.rh_tasks.specs.Lists.{blocks_of, segments_of};
 ghost use Rattle.rh_heap.specs.declared.span.list.TheConstants.{SEGMENTS_AT_ONCE};
 
@@ -40,7 +41,57 @@ fn pages_in<S: Store>(store: &S, area: AreaId) -> u32
     (store.len(area) / PAGE) as u32
 }
 
+/// An area or a slot as `areas` lists it, with its name where the world keeps it.
+#[derive(Clone, Copy, Debug, PartialEq, Eq)]
+pub enum AreaEntry<'a> {
+    /// An area by its number: 0 to 5 as OS_ChangeDynamicArea has them, or that of a made one.
+    Area { number: u32, pages: u32 },
+    /// The slot of the task with the name.
+    Slot { name: &'a Name, pages: u32 },
+}
+
 /// Item i of areas 0 to 5, the made areas in order of number, and the slots in order of handle.
+fn entry_at<'a, S: Store>(
+    store: &S,
+    seats: &'a Vec<Seat>,
+    made: &Vec<MadeArea>,
+    i: usize,
+) -> Option<AreaEntry<'a>>
+    requires { HasAreas (S.memory store.now) seats.now.items made.now.items }
+    ensures { option_map item_of result ≡ slice_get (items_in (S.memory store.now) seats.now.items made.now.items) i }
+{
+    if i < FIXED_AREAS {
+        return Some(AreaEntry::Area {
+            number: i as u32,
+            pages: pages_in(store, AreaId(i as u8)),
+        });
+    }
+    let behind = i - FIXED_AREAS;
+    if behind < made.len() {
+        let area = &made[behind];
+        return Some(AreaEntry::Area {
+            number: area.number,
+            pages: pages_in(store, area.area),
+        });
+    }
+    slot_entry(store, seats, behind - made.len())
+}
+
+fn slot_entry<'a, S: Store>(store: &S, seats: &'a Vec<Seat>, i: usize) -> Option<AreaEntry<'a>>
+    requires { AllByRecursion (λ (s : Seat). IsOpen (S.memory store.now) s.slot.area.0) seats.now.items }
+    ensures { option_map item_of result ≡ slice_get (slot_items (S.memory store.now) seats.now.items) i }
+{
+    if i >= seats.len() {
+        return None;
+    }
+    let seat = &seats[i];
+    Some(AreaEntry::Slot {
+        name: &seat.name,
+        pages: pages_in(store, seat.slot.area),
+    })
+}
+
+/// The same item, with a name of its own.
 fn area_item<S: Store>(
     store: &S,
     seats: &Vec<Seat>,
@@ -50,35 +101,13 @@ fn area_item<S: Store>(
     requires { HasAreas (S.memory store.now) seats.now.items made.now.items }
     ensures { result ≡ slice_get (items_in (S.memory store.now) seats.now.items made.now.items) i }
 {
-    if i < FIXED_AREAS {
-        return Some(AreaItem::Area {
-            number: i as u32,
-            pages: pages_in(store, AreaId(i as u8)),
-        });
+    match entry_at(store, seats, made, i)? {
+        AreaEntry::Area { number, pages } => Some(AreaItem::Area { number, pages }),
+        AreaEntry::Slot { name, pages } => Some(AreaItem::Slot {
+            name: name.copied(),
+            pages,
+        }),
     }
-    let behind = i - FIXED_AREAS;
-    if behind < made.len() {
-        let area = &made[behind];
-        return Some(AreaItem::Area {
-            number: area.number,
-            pages: pages_in(store, area.area),
-        });
-    }
-    slot_item(store, seats, behind - made.len())
-}
-
-fn slot_item<S: Store>(store: &S, seats: &Vec<Seat>, i: usize) -> Option<AreaItem>
-    requires { AllByRecursion (λ (s : Seat). IsOpen (S.memory store.now) s.slot.area.0) seats.now.items }
-    ensures { result ≡ slice_get (slot_items (S.memory store.now) seats.now.items) i }
-{
-    if i >= seats.len() {
-        return None;
-    }
-    let seat = &seats[i];
-    Some(AreaItem::Slot {
-        name: seat.name.copied(),
-        pages: pages_in(store, seat.slot.area),
-    })
 }
 
 /// A segment that begins at a place of the C heap, as it is listed.
@@ -120,6 +149,14 @@ impl<S: Store> World<S> {
     {
         let free = self.free_pages();
         (free, area_item(&self.store, &self.seats, &self.made, i))
+    }
+
+    /// The same item without a copy of its name, and without the free pages; None past the end.
+    pub fn area_entry(&self, i: usize) -> Option<AreaEntry<'_>>
+        ensures item { option_map item_of result ≡ slice_get (area_items self.now.desk) i }
+        ensures few { length (area_items self.now.desk) ≤ 70 }
+    {
+        entry_at(&self.store, &self.seats, &self.made, i)
     }
 
     /// How many flex blocks the task has, and block i from below, None past the end; NoName where no task has the name.

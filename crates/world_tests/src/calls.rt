@@ -8,7 +8,7 @@ use rh_defs::{
     SegmentItem,
 };
 use rh_store::Store;
-use rh_tasks::World;
+use rh_tasks::{AreaEntry, World};
 use std::process::Abort;
 use std::test::Fail;
 
@@ -133,6 +133,23 @@ fn lists_areas<R: Abort, S: Store>(rt: &R, world: &mut World<S>, name: &Name) {
     same(rt, world.areas(8), (59, None));
 }
 
+/// The same items, with the name where the world keeps it.
+fn lends_areas<R: Abort, S: Store>(rt: &R, world: &World<S>, name: &Name) {
+    let fixed = AreaEntry::Area {
+        number: 5,
+        pages: 0,
+    };
+    let made = AreaEntry::Area {
+        number: 256,
+        pages: 2,
+    };
+    let slot = AreaEntry::Slot { name, pages: 2 };
+    same(rt, world.area_entry(5), Some(fixed));
+    same(rt, world.area_entry(6), Some(made));
+    same(rt, world.area_entry(7), Some(slot));
+    same(rt, world.area_entry(8), None);
+}
+
 /// Asks everything of a fresh world.
 fn asks<R: Abort, S: Store>(rt: &R, world: &mut World<S>) -> Result<(), Fail> {
     let name = name(b"a")?;
@@ -143,6 +160,7 @@ fn asks<R: Abort, S: Store>(rt: &R, world: &mut World<S>) -> Result<(), Fail> {
     tells_of_transfers(rt, world, &name);
     describes(rt, world, &name);
     lists_areas(rt, world, &name);
+    lends_areas(rt, world, &name);
     world.spelled();
     Ok(())
 }
