@@ -2,7 +2,7 @@
 
 use crate::same::same;
 use rh_defs::{Action, EventCode, Handle, LineFault, Outcome, Ref, Refusal, Reply};
-use rh_lines::{Flagged, print_fault, print_first_line};
+use rh_lines::{Flagged, print_fault, print_first_line, write_hex_digits};
 use std::process::Abort;
 
 #[test]
@@ -156,4 +156,14 @@ fn prints_events_of_transfers_by_file(rt: HostRuntime) {
         ],
         b"ok 19 RAMFetch 2 1 asked 3\nok 18 DataSaveAck 3 1 saved 5 4\nok 18 DataLoad 4 3 loaded 5 done\nok 17 DataLoadAck 5 4 done\nok 18 DataSaveAck 4294967295 4294967295 loaded 4294967295 failed ExcessiveShrink\n",
     );
+}
+
+#[test]
+fn writes_hex_digits(rt: HostRuntime) {
+    let mut digits = [b'-'; 16];
+    write_hex_digits(b"\x01\x23\x45\x67\x89\xab\xcd\xef", &mut digits);
+    same(&rt, digits.as_slice(), b"0123456789abcdef".as_slice());
+    write_hex_digits(b"\x00\xff~/", &mut digits[4..12]);
+    same(&rt, digits.as_slice(), b"012300ff7e2fcdef".as_slice());
+    write_hex_digits(b"", &mut []);
 }

@@ -1,7 +1,8 @@
 //! The two digits of a small number, by tables.
 
-ghost use Rattle.std.specs.Prelude.{◌≡◌, ◌+◌, ◌/◌, ◌%◌, ◌<◌, true};
+ghost use Rattle.std.specs.Prelude.{◌≡◌, ◌+◌, ◌/◌, ◌%◌, ◌<◌, true, slice_index};
 ghost use Rattle.std.specs.Fmt.{digit_glyph};
+ghost use Rattle.hex.specs.Hex.{lower_digits};
 
 /// The decimal digits of each number below 100.
 static DECIMALS: [u8; 200] = *b"\
@@ -24,6 +25,18 @@ static HEXADECIMALS: [u8; 512] = *b"\
     E0E1E2E3E4E5E6E7E8E9EAEBECEDEEEFF0F1F2F3F4F5F6F7F8F9FAFBFCFDFEFF\
     ";
 
+/// The same digits in lower case.
+static LOWER_HEXADECIMALS: [u8; 512] = *b"\
+    000102030405060708090a0b0c0d0e0f101112131415161718191a1b1c1d1e1f\
+    202122232425262728292a2b2c2d2e2f303132333435363738393a3b3c3d3e3f\
+    404142434445464748494a4b4c4d4e4f505152535455565758595a5b5c5d5e5f\
+    606162636465666768696a6b6c6d6e6f707172737475767778797a7b7c7d7e7f\
+    808182838485868788898a8b8c8d8e8f909192939495969798999a9b9c9d9e9f\
+    a0a1a2a3a4a5a6a7a8a9aaabacadaeafb0b1b2b3b4b5b6b7b8b9babbbcbdbebf\
+    c0c1c2c3c4c5c6c7c8c9cacbcccdcecfd0d1d2d3d4d5d6d7d8d9dadbdcdddedf\
+    e0e1e2e3e4e5e6e7e8e9eaebecedeeeff0f1f2f3f4f5f6f7f8f9fafbfcfdfeff\
+    ";
+
 /// The two decimal digits of a number below 100.
 #[inline(always)]
 pub fn decimal_pair(number: u32) -> (u8, u8)
@@ -42,4 +55,13 @@ pub fn hex_pair(number: u32) -> (u8, u8)
 {
     let from = number as usize * 2;
     (HEXADECIMALS[from], HEXADECIMALS[from + 1])
+}
+
+/// The two lower-case hexadecimal digits of a byte.
+#[inline(always)]
+pub fn lower_hex_pair(byte: u8) -> (u8, u8)
+    ensures { result ≡ (slice_index lower_digits (byte / 16), slice_index lower_digits (byte % 16)) }
+{
+    let from = byte as usize * 2;
+    (LOWER_HEXADECIMALS[from], LOWER_HEXADECIMALS[from + 1])
 }

@@ -1,12 +1,13 @@
 //! Hexadecimal digits of either case.
 
-ghost use Rattle.std.specs.Prelude.{◌≡◌, ◌<◌, ◌≤◌, [], length, unwrap_or, Some, None, if◌then◌else◌};
+ghost use Rattle.std.specs.Prelude.{◌≡◌, ◌*◌, ◌<◌, ◌≤◌, [], length, unwrap_or, Some, None, if◌then◌else◌};
 ghost use Rattle.std.specs.List.{list_all};
 ghost use Rattle.std.specs.Result.{result_ok};
-ghost use Rattle.hex.specs.Hex.{decode_of, pair_value, hex_digit_value, is_hex_digit};
+ghost use Rattle.hex.specs.Hex.{decode_of, encode_lower, pair_value, hex_digit_value, is_hex_digit};
 ghost use Rattle.rh_defs.specs.Line.{hex_number};
 ghost use Rattle.rh_defs.specs.declared.sizes.TheConstants.{LONGEST_LINE};
 
+use crate::digit_pairs::lower_hex_pair;
 use arrayvec::ArrayVec;
 use rh_defs::sizes::MOST_BYTES;
 
@@ -93,4 +94,16 @@ fn pair_value(high: u8, low: u8) -> Option<u8>
         return None;
     }
     Some(16 * high + low)
+}
+
+/// Writes the lower-case digits of some bytes, two for each byte, over a slice that is twice as long.
+pub fn write_hex_digits(bytes: &[u8], digits: &mut [u8])
+    requires { length digits.old ≡ 2 * length bytes.now }
+    ensures { digits.new ≡ encode_lower bytes.now }
+{
+    for i in 0..bytes.len() {
+        let (high, low) = lower_hex_pair(bytes[i]);
+        digits[2 * i] = high;
+        digits[2 * i + 1] = low;
+    }
 }

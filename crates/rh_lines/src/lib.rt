@@ -22,6 +22,7 @@ mod words;
 
 pub use flagged::Flagged;
 pub use held::Held;
+pub use hex_digits::write_hex_digits;
 pub use parse::{parse_line, read_line};
 pub use print::{print_fault, print_first_line};
 pub use row::Row;

@@ -9,7 +9,7 @@ ghost use Rattle.rh_script.specs.Named.{bytes_of_named};
 
 use crate::read::{read_block, size_of_block};
 use rh_defs::{Anchor, Name};
-use rh_lines::{Row, Sink, WriteFailed, put};
+use rh_lines::{Row, Sink, WriteFailed, put, write_hex_digits};
 use rh_store::Store;
 use rh_tasks::World;
 
@@ -115,6 +115,6 @@ fn print_piece<S: Store, W: Sink>(
     let part = &mut bytes[..count as usize];
     read_block(world, name, anchor, offset, part);
     let text = &mut digits[..2 * count as usize];
-    hex::encode_to_slice(&*part, text).unwrap();
+    write_hex_digits(part, text);
     put(writer, text)
 }
