@@ -1,5 +1,5 @@
 -- Bytes that are written part by part, and records and first lines.
-use Rattle.std.proofs.Common.{◌≡◌, ◌≢◌, ℕ, zero, suc, ◌+◌, List, [], ◌∷◌, ◌++◌, length, take, drop, Some, None, Result, Ok, Err, get_or, ◌<◌, ◌≤◌, refl, sym, ◌∙◌, ap, subst, arith, Option, find}
+use Rattle.std.proofs.Common.{◌≡◌, ◌≢◌, ℕ, ◌+◌, List, [], ◌∷◌, ◌++◌, length, take, drop, Some, None, Result, Ok, Err, get_or, ◌<◌, ◌≤◌, refl, sym, ◌∙◌, ap, subst, arith, Option, find}
 use Rattle.std.specs.Prelude.{map}
 use Rattle.rh_defs.specs.declared.listing.RecordItem.{RecordItem}
 use Rattle.rh_defs.specs.declared.transfer.Outgoing.{Outgoing}
@@ -16,12 +16,10 @@ use Rattle.std.specs.Fmt.{decimal}
 use Rattle.rh_defs.specs.Chain.{Granted, ◌>>=◌, found_or}
 use Rattle.rh_defs.specs.Desk.{Desk, Task, has_name, named}
 use Rattle.rh_defs.specs.Listing.{Listed, Nothing, Bytes, bytes_in, listed, out_item, in_item, listed_of, of_named, records_of, status_at}
-use Rattle.std.specs.Prelude.{slice_get}
 use Rattle.std.specs.List.{flat_map}
 use Rattle.std.specs.Result.{IsErr}
 use Rattle.std.proofs.Math.Seq.{take-add}
 use Rattle.std.proofs.lemmas.List.{take-append-drop, take_all}
-use Rattle.std.proofs.lemmas.Option.{get_or_from_slice_get, slice_get_within}
 use Rattle.hex.specs.Hex.{encode_with, encode_lower, lower_digits}
 use Rattle.rh_defs.specs.Text.{ok, shown_bytes, first_line, hex_words, rest_of_line, later_lines, record_line, record_lines}
 use Rattle.rh_lines.specs.Flow.{Output, Takes, Breaks, Puts}

@@ -1,5 +1,6 @@
 -- What a desk's readers give, in terms of what is printed of a named task's slot.
-use Rattle.std.proofs.Common.{◌≡◌, ℕ, ◌+◌, ◌≤◌, ◌<◌, ◌^◌, Bool, true, false, cond, List, [], ◌∷◌, length, take, drop, Option, Some, None, Result, Ok, Err, refl, sym, ap, ◌∙◌, arith}
+use Rattle.std.proofs.Common.{◌≡◌, ℕ, zero, suc, ◌+◌, ◌≤◌, ◌<◌, ◌^◌, Bool, true, false, cond, List, [], ◌∷◌, length, take, drop, Option, Some, None, Result, Ok, Err, refl, sym, ap, ◌∙◌, arith}
+use Rattle.std.proofs.lemmas.List.{take_all}
 use Rattle.std.specs.Prelude.{MatchResult, nat_lt, ◌==◌, find}
 use Rattle.std.specs.List.{AllByRecursion}
 use Rattle.std.specs.Option.{option_map}
@@ -118,10 +119,10 @@ abbrev pub Answers : Granted (ℕ × List ℕ) → Result ℕ Refusal → List �
 Answers given answer old new =
     MatchResult given (λ p. (answer ≡ Ok p.0) × (new ≡ p.1)) (λ e. (answer ≡ Err e) × (new ≡ old))
 
--- with no room, the size alone
-pub answered_size : (given : Granted (ℕ × List ℕ)) (size : ℕ) (bytes old new : List ℕ) → Answers given (Ok size) old new → ReadsPart given bytes 0 0 → size ≡ length bytes
-answered_size (Ok p) size bytes old new a r = cc
-answered_size (Err e) size bytes old new a r = absurd (cc)
+-- the size
+pub answered_size : (given : Granted (ℕ × List ℕ)) (size : ℕ) (bytes old new : List ℕ) (n : ℕ) → Answers given (Ok size) old new → ReadsPart given bytes 0 n → size ≡ length bytes
+answered_size (Ok p) size bytes old new n a r = cc
+answered_size (Err e) size bytes old new n a r = absurd (cc)
 
 pub refused_size : (given : Granted (ℕ × List ℕ)) (e : Refusal) (bytes old new : List ℕ) → Answers given (Err e) old new → ReadsPart given bytes 0 0 → 0 ≡ length bytes
 refused_size (Ok p) e bytes old new a r = absurd (cc)
@@ -137,6 +138,21 @@ answered_part (Ok p) answer bytes old new offset a r h = cc
 answered_part (Err e) answer bytes old new offset a r h =
     let none : length bytes ≡ 0 = r h in
     a.1 ∙ nothing_read old (drop offset bytes) (omega arith)
+
+-- with room for all bytes, these
+pub answered_whole : (given : Granted (ℕ × List ℕ)) (answer : Result ℕ Refusal) (bytes old new : List ℕ) → Answers given answer old new → ReadsPart given bytes 0 (length old) → length bytes ≡ length old → new ≡ bytes
+answered_whole given answer bytes old new a r same =
+    answered_part given answer bytes old new 0 a r (omega (arith, same)) ∙ take_all (length old) bytes (omega (arith, same))
+
+no_elements : (old bytes : List ℕ) → length bytes ≡ 0 → 0 ≡ length old → old ≡ bytes
+no_elements [] [] e f = refl
+no_elements [] (b ∷ bytes) e f = absurd (omega arith)
+no_elements (x ∷ old) bytes e f = absurd (omega arith)
+
+-- a buffer with no room holds the bytes of nothing
+pub nothing_whole : (n : ℕ) (old bytes : List ℕ) → n ≡ length bytes → (0 < n → ⊥) → n ≡ length old → old ≡ bytes
+nothing_whole zero old bytes e none same = no_elements old bytes (sym e) same
+nothing_whole (suc n) old bytes e none same = absurd (none (omega arith))
 
 -- ---- anchors that no slot has
 

@@ -39,8 +39,23 @@ pub fn segments_of<S: Store>(
     }
 }
 
-/// The size in bytes of the task's block at the anchor, 0 where there is none.
-pub fn size_of_block<S: Store>(world: &World<S>, name: &Name, anchor: Anchor) -> u32
+/// The size in bytes of the task's block at the anchor, 0 where there is none. Where the buffer is as long, it then
+/// holds the block's bytes.
+pub fn read_whole<S: Store>(world: &World<S>, name: &Name, anchor: Anchor, to: &mut [u8]) -> u32
+    ensures size { result ≡ length (bytes_of_named name.now anchor world.now.desk) }
+    ensures anchor { 0 < result → anchor < 64 }
+    ensures bytes { result ≡ length to.old → to.new ≡ bytes_of_named name.now anchor world.now.desk }
+{
+    if !anchor.is_valid() {
+        return size_of_block(world, name, anchor);
+    }
+    match world.show(name, anchor, 0, to) {
+        Ok(size) => size,
+        Err(_) => size_of_block(world, name, anchor),
+    }
+}
+
+fn size_of_block<S: Store>(world: &World<S>, name: &Name, anchor: Anchor) -> u32
     ensures size { result ≡ length (bytes_of_named name.now anchor world.now.desk) }
     ensures anchor { 0 < result → anchor < 64 }
 {

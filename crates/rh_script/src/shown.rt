@@ -7,7 +7,7 @@ ghost use Rattle.rh_defs.specs.Text.{ok, hex_words, rest_of_line};
 ghost use Rattle.rh_lines.specs.Flow.{Puts};
 ghost use Rattle.rh_script.specs.Named.{bytes_of_named};
 
-use crate::read::{read_block, size_of_block};
+use crate::read::{read_block, read_whole};
 use rh_defs::{Anchor, Name};
 use rh_lines::{Row, Sink, WriteFailed, put, write_hex_digits};
 use rh_store::Store;
@@ -29,7 +29,7 @@ pub fn print_shown<S: Store, W: Sink>(
         (ok (decimal size ∷ hex_words (bytes_of_named name.now anchor world.now.desk))) }
 {
     print_size(size, writer)?;
-    print_bytes(world, name, anchor, writer)
+    print_bytes(world, name, anchor, size, writer)
 }
 
 fn print_size<W: Sink>(size: u32, writer: &mut W) -> Result<(), WriteFailed>
@@ -41,22 +41,39 @@ fn print_size<W: Sink>(size: u32, writer: &mut W) -> Result<(), WriteFailed>
     put(writer, row.as_slice())
 }
 
-/// The bytes of the task's block behind a space, where there are any, and the line's end.
+/// The bytes of the task's block behind a space, where there are any, and the line's end. The block is looked for
+/// once where it has as many bytes as is likely, and is no longer than a piece.
 fn print_bytes<S: Store, W: Sink>(
     world: &World<S>,
     name: &Name,
     anchor: Anchor,
+    likely: u32,
     writer: &mut W,
 ) -> Result<(), WriteFailed>
     ensures { Puts (W.output writer.old) (W.output writer.new) result
         (rest_of_line (hex_words (bytes_of_named name.now anchor world.now.desk))) }
 {
-    let size = size_of_block(world, name, anchor);
+    let mut bytes = [0; PIECE];
+    let room = if likely as usize <= PIECE { likely } else { 0 };
+    let whole = &mut bytes[..room as usize];
+    let size = read_whole(world, name, anchor, whole);
     if size == 0 {
         return put(writer, b"\n");
     }
     put(writer, b" ")?;
-    print_digits(world, name, anchor, size, writer)
+    if size as usize == whole.len() {
+        print_whole(whole, writer)
+    } else {
+        print_digits(world, name, anchor, size, writer)
+    }
+}
+
+fn print_whole<W: Sink>(bytes: &[u8], writer: &mut W) -> Result<(), WriteFailed>
+    requires { length bytes.now ≤ 512 }
+    ensures { Puts (W.output writer.old) (W.output writer.new) result (encode_lower bytes.now ++ codes "\n") }
+{
+    put_digits(bytes, writer)?;
+    put(writer, b"\n")
 }
 
 fn print_digits<S: Store, W: Sink>(
@@ -111,10 +128,17 @@ fn print_piece<S: Store, W: Sink>(
         (encode_lower (take count (drop offset (bytes_of_named name.now anchor world.now.desk)))) }
 {
     let mut bytes = [0; PIECE];
-    let mut digits = [0; 2 * PIECE];
     let part = &mut bytes[..count as usize];
     read_block(world, name, anchor, offset, part);
-    let text = &mut digits[..2 * count as usize];
-    write_hex_digits(part, text);
+    put_digits(part, writer)
+}
+
+fn put_digits<W: Sink>(bytes: &[u8], writer: &mut W) -> Result<(), WriteFailed>
+    requires { length bytes.now ≤ 512 }
+    ensures { Puts (W.output writer.old) (W.output writer.new) result (encode_lower bytes.now) }
+{
+    let mut digits = [0; 2 * PIECE];
+    let text = &mut digits[..2 * bytes.len()];
+    write_hex_digits(bytes, text);
     put(writer, text)
 }

@@ -10,7 +10,7 @@ returns-then-not-is_valid-clause-size g c =
 
 pub returns-in-Ok-clause-size : goal.returns-in-Ok-clause-size
 returns-in-Ok-clause-size g c =
-    answered_size _ c.in-Ok.size _ _ _ c.in-Ok.ensures (reads_part c.args.world.now.desk c.args.name.now c.args.anchor 0 0)
+    answered_size _ c.in-Ok.size _ _ _ 0 c.in-Ok.ensures (reads_part c.args.world.now.desk c.args.name.now c.args.anchor 0 0)
 
 pub returns-in-Err-clause-size : goal.returns-in-Err-clause-size
 returns-in-Err-clause-size g c =
