@@ -2,7 +2,7 @@
 
 use crate::same::same;
 use rh_defs::{Action, EventCode, Handle, LineFault, Outcome, Ref, Refusal, Reply};
-use rh_lines::{Flagged, print_fault, print_first_line, write_hex_digits};
+use rh_lines::{Flagged, Row, add_number, print_fault, print_first_line, write_hex_digits};
 use std::process::Abort;
 
 #[test]
@@ -166,4 +166,18 @@ fn writes_hex_digits(rt: HostRuntime) {
     write_hex_digits(b"\x00\xff~/", &mut digits[4..12]);
     same(&rt, digits.as_slice(), b"012300ff7e2fcdef".as_slice());
     write_hex_digits(b"", &mut []);
+}
+
+#[test]
+fn gathers_a_row(rt: HostRuntime) {
+    let mut row = Row::new();
+    add_number(1_048_576, &mut row);
+    row.text(b"  slot ");
+    row.decimal(9);
+    row.byte(b' ');
+    row.address(0x0380_9a4c);
+    row.byte(b' ');
+    row.hex_digits(b"\x00~\xff");
+    row.hex_digits(b"");
+    same(&rt, row.as_slice(), b"ok 1048576\n  slot 9 &3809A4C 007eff".as_slice());
 }

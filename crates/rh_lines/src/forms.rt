@@ -106,27 +106,17 @@ fn signed(is_negative: bool, magnitude: u32) -> i32
 fn decimal(word: &[u8]) -> Option<u64>
     ensures { result ≡ (if is_decimal word.now then Some (number_of word.now) else None) }
 {
-    if !has_digits(word) || word.is_empty() || word.len() > MOST_DIGITS {
+    if word.is_empty() || word.len() > MOST_DIGITS {
         return None;
     }
-    Some(number_of(word))
-}
-
-fn has_digits(word: &[u8]) -> bool
-    ensures { result ≡ list_all is_ascii_digit word.now }
-{
-    word.iter().all(|b| b.is_ascii_digit())
-}
-
-fn number_of(word: &[u8]) -> u64
-    requires { length word.now ≤ MOST_DIGITS }
-    ensures { result ≡ number_of word.now }
-{
     let mut number = 0;
     for b in word {
-        number = 10 * number + u64::from(b.saturating_sub(b'0'));
+        if !b.is_ascii_digit() {
+            return None;
+        }
+        number = 10 * number + u64::from(*b - b'0');
     }
-    number
+    Some(number)
 }
 
 /// Word `n` as an address: `&`, and 1 to 8 hexadecimal digits of either case.

@@ -41,7 +41,8 @@ pub fn read_line(line: &[u8], command: &mut Command) -> Result<bool, LineFault>
     if line.len() > LONGEST_LINE {
         return Err(LineFault::TooLong);
     }
-    let words = Words::new(line);
+    let mut words = Words::new();
+    words.find(line);
     if is_skipped(&words) {
         return Ok(false);
     }

@@ -6,6 +6,7 @@ ghost use Rattle.rh_defs.specs.Listing.{Nothing};
 ghost use Rattle.rh_defs.specs.Messages.{code_number};
 ghost use Rattle.rh_defs.specs.Text.{address, ok, action_name, fault_text, first_line, outcome_words, refusal_name, rest_of_line};
 ghost use Rattle.rh_lines.specs.Flow.{Puts};
+ghost use Rattle.rh_lines.specs.declared.row.TheConstants.{ROW};
 
 use crate::row::Row;
 use crate::sink::{Sink, WriteFailed, put};
@@ -81,10 +82,18 @@ fn print_number<W: Sink>(number: u32, writer: &mut W) -> Result<(), WriteFailed>
     ensures { Puts (W.output writer.old) (W.output writer.new) result (ok (decimal number ∷ [])) }
 {
     let mut row = Row::new();
+    add_number(number, &mut row);
+    put(writer, row.as_slice())
+}
+
+/// Adds the first line of a reply that is one number.
+pub fn add_number(number: u32, row: &mut Row)
+    requires { length row.old + 15 ≤ ROW }
+    ensures { row.new ≡ row.old ++ ok (decimal number ∷ []) }
+{
     row.text(b"ok ");
     row.decimal(number);
     row.byte(b'\n');
-    put(writer, row.as_slice())
 }
 
 fn print_address<W: Sink>(number: u32, writer: &mut W) -> Result<(), WriteFailed>

@@ -34,16 +34,23 @@ impl<'a> Model for Words<'a> {
 }
 
 impl<'a> Words<'a> {
-    /// The words of a line of at most 1,024 bytes.
-    pub fn new(line: &'a [u8]) -> Words<'a>
-        requires { length line.now ≤ LONGEST_LINE }
-        ensures { result ≡ first_words line.now }
+    /// No words.
+    #[inline(always)]
+    pub fn new() -> Words<'a>
+        ensures { result ≡ [] }
     {
-        let mut words = Words {
+        Words {
             found: ArrayVec::new(),
-        };
-        split(line, &mut words.found);
-        words
+        }
+    }
+
+    /// Finds the words of a line of at most 1,024 bytes, in place of those found before.
+    pub fn find(&mut self, line: &'a [u8])
+        requires { length line.now ≤ LONGEST_LINE }
+        ensures { self.new ≡ first_words line.now }
+    {
+        self.found.clear();
+        split(line, &mut self.found);
     }
 
     /// How many words the line has, where it has fewer than six.

@@ -5,6 +5,7 @@ ghost use Rattle.std.specs.Fmt.{decimal};
 ghost use Rattle.rh_defs.specs.Bytes.{word};
 ghost use Rattle.rh_defs.specs.declared.sizes.TheConstants.{HEAP_END, HEAP_FIRST};
 ghost use Rattle.rh_lines.specs.Flow.{Breaks, Takes};
+ghost use Rattle.rh_lines.specs.declared.row.TheConstants.{ROW};
 ghost use Rattle.rh_run.specs.Checked.{AreWords, image_line, image_status, fault_name, fault_line, sums_line};
 
 use rh_defs::HeapFault;
@@ -59,7 +60,7 @@ fn sums_row(sums: &Summary) -> Row
 /// Adds a space and a sum.
 fn add_sum(row: &mut Row, sum: usize)
     requires small { sum < 2 ^ 32 }
-    requires room { length row.old + 12 ≤ 96 }
+    requires room { length row.old + 12 ≤ ROW }
     ensures value { row.new ≡ row.old ++ (codes " " ++ decimal sum) }
     ensures few { length row.new ≤ length row.old + 12 }
 {

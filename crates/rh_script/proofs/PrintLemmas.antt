@@ -1,5 +1,5 @@
--- Bytes that are written part by part, and records and first lines.
-use Rattle.std.proofs.Common.{◌≡◌, ◌≢◌, ℕ, ◌+◌, List, [], ◌∷◌, ◌++◌, length, take, drop, Some, None, Result, Ok, Err, get_or, ◌<◌, ◌≤◌, refl, sym, ◌∙◌, ap, subst, arith, Option, find}
+-- Bytes that are written part by part, records, and whole replies.
+use Rattle.std.proofs.Common.{◌≡◌, ◌≢◌, ℕ, ◌+◌, List, [], ◌∷◌, ◌++◌, length, take, drop, Some, None, Result, Ok, Err, get_or, ◌<◌, ◌≤◌, refl, sym, ◌∙◌, ap, append-nil, subst, arith, Option, find}
 use Rattle.std.specs.Prelude.{map}
 use Rattle.rh_defs.specs.declared.listing.RecordItem.{RecordItem}
 use Rattle.rh_defs.specs.declared.transfer.Outgoing.{Outgoing}
@@ -11,17 +11,17 @@ use Rattle.rh_defs.specs.declared.command.Command.TheVariants as command
 use Rattle.rh_defs.specs.declared.reply.Reply.{Reply}
 use Rattle.rh_defs.specs.declared.reply.Reply.TheVariants as reply
 use Rattle.rh_defs.specs.Slot.{block_of}
-use Rattle.rh_script.specs.Named.{slot_in, bytes_of_named}
+use Rattle.rh_script.specs.Named.{slot_in, blocks_of_named, bytes_of_named, segments_of_named}
 use Rattle.std.specs.Fmt.{decimal}
 use Rattle.rh_defs.specs.Chain.{Granted, ◌>>=◌, found_or}
 use Rattle.rh_defs.specs.Desk.{Desk, Task, has_name, named}
-use Rattle.rh_defs.specs.Listing.{Listed, Nothing, Bytes, bytes_in, listed, out_item, in_item, listed_of, of_named, records_of, status_at}
+use Rattle.rh_defs.specs.Listing.{Listed, Nothing, Bytes, Blocks, Segments, bytes_in, block_items, segment_items, area_items, listed, out_item, in_item, listed_of, of_named, records_of, status_at}
 use Rattle.std.specs.List.{flat_map}
 use Rattle.std.specs.Result.{IsErr}
 use Rattle.std.proofs.Math.Seq.{take-add}
 use Rattle.std.proofs.lemmas.List.{take-append-drop, take_all}
 use Rattle.hex.specs.Hex.{encode_with, encode_lower, lower_digits}
-use Rattle.rh_defs.specs.Text.{ok, shown_bytes, first_line, hex_words, rest_of_line, later_lines, record_line, record_lines}
+use Rattle.rh_defs.specs.Text.{ok, answer_text, area_line, block_line, first_line, hex_words, rest_of_line, later_lines, record_line, record_lines, reply_text, segment_line}
 use Rattle.rh_lines.specs.Flow.{Output, Takes, Breaks, Puts}
 use Rattle.rh_lines.proofs.FlowLemmas.{takes_none, takes_each, puts_each, takes_more, takes_breaks, breaks_before, puts_stops}
 
@@ -135,29 +135,52 @@ pub records_of_nobody : (d : Desk) (name : List ℕ) (f : Refusal) → status_at
 unfolding status_at named
 records_of_nobody d name f e = nobody_found (find (has_name name) d.tasks) f e
 
--- ---- first lines
+-- ---- whole replies
 
-shown_nothing : (d : Desk) (c : Command) (size : ℕ) → ((name : List ℕ) (k : ℕ) → c ≡ command.Show name k → ⊥) → listed d c (reply.Shown size) ≡ Nothing
-shown_nothing d (command.Show name k) size other = absurd (other name k refl)
-shown_nothing d c size other = refl
+shown_of_task : (o : Option Task) (k size : ℕ) → ok (decimal size ∷ hex_words (bytes_in (block_of k (slot_in o)))) ≡ answer_text (reply.Shown size, listed_of (λ t. Bytes (bytes_in (block_of k t.slot))) o)
+unfolding first_line later_lines
+shown_of_task None k size = sym (append-nil (ok (decimal size ∷ [])))
+shown_of_task (Some t) k size = sym (append-nil (ok (decimal size ∷ hex_words (bytes_in (block_of k t.slot)))))
 
--- a reply to another command than `show` has no bytes in its first line
-pub unshown_command : (d : Desk) (c : Command) (r : Reply) → ((name : List ℕ) (k : ℕ) → c ≡ command.Show name k → ⊥) → first_line r Nothing ≡ first_line r (listed d c r)
-unfolding first_line
-unshown_command d c (reply.Shown size) other = ap (λ l. ok (decimal size ∷ hex_words (shown_bytes l))) (sym (shown_nothing d c size other))
-unshown_command d c r other = refl
+-- a shown block's size and bytes
+pub shown_reply : (d : Desk) (name : List ℕ) (k size : ℕ) → ok (decimal size ∷ hex_words (bytes_of_named name k d)) ≡ reply_text d (command.Show name k) (reply.Shown size)
+unfolding reply_text
+shown_reply d name k size = shown_of_task (find (has_name name) d.tasks) k size
 
--- and so it is where no block is shown
-pub unshown_reply : (r : Reply) (l : Listed) → ((size : ℕ) → r ≡ reply.Shown size → ⊥) → first_line r Nothing ≡ first_line r l
-unfolding first_line
-unshown_reply (reply.Shown size) l other = absurd (other size refl)
-unshown_reply r l other = refl
+blocks_of_task : (o : Option Task) (count : ℕ) → ok (decimal count ∷ []) ++ flat_map block_line (block_items (slot_in o)) ≡ answer_text (reply.BlockCount count, listed_of (λ t. Blocks (block_items t.slot)) o)
+unfolding first_line later_lines
+blocks_of_task None count = refl
+blocks_of_task (Some t) count = refl
 
-shown_of_task : (o : Option Task) (k : ℕ) → bytes_in (block_of k (slot_in o)) ≡ shown_bytes (listed_of (λ t. Bytes (bytes_in (block_of k t.slot))) o)
-shown_of_task None k = refl
-shown_of_task (Some t) k = refl
+-- how many blocks a task has, and each of them
+pub blocks_reply : (d : Desk) (name : List ℕ) (count : ℕ) → ok (decimal count ∷ []) ++ flat_map block_line (blocks_of_named name d) ≡ reply_text d (command.Blocks name) (reply.BlockCount count)
+unfolding reply_text
+blocks_reply d name count = blocks_of_task (find (has_name name) d.tasks) count
 
--- a shown block has its bytes there
-pub shown_first : (d : Desk) (name : List ℕ) (k size : ℕ) → ok (decimal size ∷ hex_words (bytes_of_named name k d)) ≡ first_line (reply.Shown size) (listed d (command.Show name k) (reply.Shown size))
-unfolding first_line
-shown_first d name k size = ap (λ z. ok (decimal size ∷ hex_words z)) (shown_of_task (find (has_name name) d.tasks) k)
+segments_of_task : (o : Option Task) (r : Reply) → first_line r Nothing ≡ first_line r (listed_of (λ t. Segments (segment_items t.slot)) o) → first_line r Nothing ++ flat_map segment_line (segment_items (slot_in o)) ≡ answer_text (r, listed_of (λ t. Segments (segment_items t.slot)) o)
+unfolding later_lines
+segments_of_task None r e = ap (λ z. z ++ []) e
+segments_of_task (Some t) r e = ap (λ z. z ++ flat_map segment_line (segment_items t.slot)) e
+
+-- the sums over a C heap, and each of its segments
+pub heap_reply : (d : Desk) (name : List ℕ) (length largest free : ℕ) → first_line (reply.HeapSums length largest free) Nothing ++ flat_map segment_line (segments_of_named name d) ≡ reply_text d (command.Heap name) (reply.HeapSums length largest free)
+unfolding reply_text first_line
+heap_reply d name length largest free =
+    segments_of_task (find (has_name name) d.tasks) (reply.HeapSums length largest free) refl
+
+-- a task's handle, and its records
+pub status_reply : (d : Desk) (name : List ℕ) (handle : ℕ) → first_line (reply.StatusOf handle) Nothing ++ later_lines (of_named name d records_of) ≡ reply_text d (command.Status name) (reply.StatusOf handle)
+unfolding reply_text first_line
+status_reply d name handle = refl
+
+-- the free pages, and each area and slot
+pub areas_reply : (d : Desk) (free : ℕ) → ok (decimal free ∷ []) ++ flat_map area_line (area_items d) ≡ reply_text d command.Areas (reply.FreePages free)
+unfolding reply_text first_line later_lines
+areas_reply d free = refl
+
+-- a reply that lists nothing has one line
+pub one_line : (d : Desk) (c : Command) (r : Reply) → listed d c r ≡ Nothing → first_line r Nothing ≡ reply_text d c r
+unfolding reply_text later_lines
+one_line d c r none =
+    let P : Listed → Type 0 = λ l. first_line r Nothing ≡ answer_text (r, l) in
+    subst P (sym none) (sym (append-nil (first_line r Nothing)))

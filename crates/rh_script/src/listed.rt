@@ -1,40 +1,49 @@
 //! Flex blocks, and areas and slots, as lines of text.
 
-ghost use Rattle.std.specs.Prelude.{◌≡◌, ◌≤◌, ◌∷◌, ◌++◌, [], codes, flat_map, length};
+ghost use Rattle.std.specs.Prelude.{◌≡◌, ◌≤◌, ◌+◌, ◌∷◌, ◌++◌, [], codes, flat_map, length};
 ghost use Rattle.std.specs.Fmt.{decimal};
 ghost use Rattle.rh_defs.specs.Listing.{area_items};
-ghost use Rattle.rh_defs.specs.Text.{area_line, block_line, later};
+ghost use Rattle.rh_defs.specs.Text.{area_line, block_line, later, ok};
 ghost use Rattle.rh_lines.specs.Flow.{Puts};
+ghost use Rattle.rh_lines.specs.declared.row.TheConstants.{ROW};
 ghost use Rattle.rh_tasks.specs.Items.{item_of};
+ghost use Rattle.rh_script.specs.declared.gathered.TheConstants.{LONGEST_ITEM};
 ghost use Rattle.rh_script.specs.Named.{blocks_of_named};
 
 use crate::gathered::make_room;
 use crate::read::blocks_of;
 use arrayvec::ArrayVec;
 use rh_defs::{BlockItem, Name};
-use rh_lines::{Row, Sink, WriteFailed, put};
+use rh_lines::{Row, Sink, WriteFailed, add_number, put};
 use rh_store::Store;
 use rh_tasks::{AreaEntry, World};
 
-/// Writes a line for each flex block of the task, from below.
+/// Writes how many flex blocks the task has, as the reply says, and a line for each, from below.
 pub fn print_blocks<S: Store, W: Sink>(
     world: &World<S>,
     name: &Name,
+    count: u32,
     writer: &mut W,
 ) -> Result<(), WriteFailed>
     ensures { Puts (W.output writer.old) (W.output writer.new) result
-        (flat_map block_line (blocks_of_named name.now world.now.desk)) }
+        (ok (decimal count ∷ []) ++ flat_map block_line (blocks_of_named name.now world.now.desk)) }
 {
     let mut items = ArrayVec::new();
     blocks_of(world, name, &mut items);
-    print_items(&items, writer)
+    print_items(count, &items, writer)
 }
 
-/// Writes a line for each of these blocks.
-fn print_items<W: Sink>(items: &[BlockItem], writer: &mut W) -> Result<(), WriteFailed>
-    ensures { Puts (W.output writer.old) (W.output writer.new) result (flat_map block_line items.now) }
+/// Writes a number, and a line for each of these blocks.
+fn print_items<W: Sink>(
+    count: u32,
+    items: &[BlockItem],
+    writer: &mut W,
+) -> Result<(), WriteFailed>
+    ensures { Puts (W.output writer.old) (W.output writer.new) result
+        (ok (decimal count ∷ []) ++ flat_map block_line items.now) }
 {
     let mut row = Row::new();
+    add_number(count, &mut row);
     for item in items {
         make_room(&mut row, writer)?;
         add_block(&mut row, item);
@@ -44,7 +53,7 @@ fn print_items<W: Sink>(items: &[BlockItem], writer: &mut W) -> Result<(), Write
 
 #[inline(always)]
 fn add_block(row: &mut Row, item: &BlockItem)
-    requires { length row.old ≤ 58 }
+    requires { length row.old + LONGEST_ITEM ≤ ROW }
     ensures { row.new ≡ row.old ++ block_line item.now }
 {
     row.text(b"  ");
@@ -56,12 +65,18 @@ fn add_block(row: &mut Row, item: &BlockItem)
     row.byte(b'\n');
 }
 
-/// Writes a line for each area, and then for each slot in order of handle.
-pub fn print_areas<S: Store, W: Sink>(world: &World<S>, writer: &mut W) -> Result<(), WriteFailed>
+/// Writes how many pages are free, as the reply says, and a line for each area, and then for each slot in order of
+/// handle.
+pub fn print_areas<S: Store, W: Sink>(
+    world: &World<S>,
+    free: u32,
+    writer: &mut W,
+) -> Result<(), WriteFailed>
     ensures { Puts (W.output writer.old) (W.output writer.new) result
-        (flat_map area_line (area_items world.now.desk)) }
+        (ok (decimal free ∷ []) ++ flat_map area_line (area_items world.now.desk)) }
 {
     let mut row = Row::new();
+    add_number(free, &mut row);
     let mut i = 0;
     'items: while let Some(item) = world.area_entry(i) {
         make_room(&mut row, writer)?;
@@ -73,7 +88,7 @@ pub fn print_areas<S: Store, W: Sink>(world: &World<S>, writer: &mut W) -> Resul
 
 #[inline(always)]
 fn add_area(row: &mut Row, item: AreaEntry<'_>)
-    requires { length row.old ≤ 58 }
+    requires { length row.old + LONGEST_ITEM ≤ ROW }
     ensures { row.new ≡ row.old ++ area_line (item_of item.entry) }
 {
     match item {
@@ -83,7 +98,7 @@ fn add_area(row: &mut Row, item: AreaEntry<'_>)
 }
 
 fn add_numbered(row: &mut Row, number: u32, pages: u32)
-    requires { length row.old ≤ 58 }
+    requires { length row.old + LONGEST_ITEM ≤ ROW }
     ensures { row.new ≡ row.old ++ later (codes "area") (decimal number ∷ decimal pages ∷ []) }
 {
     row.text(b"  area ");
@@ -94,7 +109,7 @@ fn add_numbered(row: &mut Row, number: u32, pages: u32)
 }
 
 fn add_slot(row: &mut Row, name: &Name, pages: u32)
-    requires { length row.old ≤ 58 }
+    requires { length row.old + LONGEST_ITEM ≤ ROW }
     ensures { row.new ≡ row.old ++ later (codes "slot") (name.now ∷ decimal pages ∷ []) }
 {
     row.text(b"  slot ");

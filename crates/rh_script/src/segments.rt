@@ -5,6 +5,8 @@ ghost use Rattle.std.specs.Fmt.{decimal};
 ghost use Rattle.rh_defs.specs.Text.{address, segment_line};
 ghost use Rattle.rh_defs.specs.declared.sizes.TheConstants.{C_HEAP_START};
 ghost use Rattle.rh_lines.specs.Flow.{Puts};
+ghost use Rattle.rh_lines.specs.declared.row.TheConstants.{ROW};
+ghost use Rattle.rh_script.specs.declared.gathered.TheConstants.{LONGEST_ITEM};
 ghost use Rattle.rh_script.specs.Named.{item_end, segments_of_named};
 
 use crate::gathered::make_room;
@@ -61,7 +63,7 @@ fn print_items<W: Sink>(items: &[SegmentItem], writer: &mut W) -> Result<(), Wri
 
 #[inline(always)]
 fn add_segment(row: &mut Row, item: &SegmentItem)
-    requires { length row.old ≤ 58 }
+    requires { length row.old + LONGEST_ITEM ≤ ROW }
     ensures { row.new ≡ row.old ++ segment_line item.now }
 {
     match item {
@@ -72,7 +74,7 @@ fn add_segment(row: &mut Row, item: &SegmentItem)
 
 fn add_stretch(row: &mut Row, kind: &[u8], place: u32, size: u32)
     requires kind { length kind.now ≤ 7 }
-    requires room { length row.old ≤ 58 }
+    requires room { length row.old + LONGEST_ITEM ≤ ROW }
     ensures { row.new ≡ row.old ++ (kind.now ++ (address place ++ (codes " " ++ (decimal size ++ codes "\n")))) }
 {
     row.text(kind);

@@ -1,10 +1,12 @@
 //! A block's size and bytes as text.
 
-ghost use Rattle.std.specs.Prelude.{◌≡◌, ◌+◌, ◌≤◌, ◌<◌, ◌++◌, ◌∷◌, [], length, codes, take, drop};
+ghost use Rattle.std.specs.Prelude.{◌≡◌, ◌+◌, ◌*◌, ◌≤◌, ◌<◌, ◌++◌, ◌∷◌, [], length, codes, take, drop};
 ghost use Rattle.std.specs.Fmt.{decimal};
 ghost use Rattle.hex.specs.Hex.{encode_lower};
 ghost use Rattle.rh_defs.specs.Text.{ok, hex_words, rest_of_line};
 ghost use Rattle.rh_lines.specs.Flow.{Puts};
+ghost use Rattle.rh_lines.specs.declared.row.TheConstants.{ROW};
+ghost use Rattle.rh_script.specs.declared.shown.TheConstants.{PIECE};
 ghost use Rattle.rh_script.specs.Named.{bytes_of_named};
 
 use crate::read::{read_block, read_whole};
@@ -13,11 +15,14 @@ use rh_lines::{Row, Sink, WriteFailed, put, write_hex_digits};
 use rh_store::Store;
 use rh_tasks::World;
 
-/// So many bytes of a block are read and written at a time.
+/// A block of up to so many bytes is looked for once, and written together with its size.
+const SHORT: usize = 64;
+
+/// So many bytes of a longer block are read and written at a time.
 const PIECE: usize = 512;
 
-/// Writes the first line of a reply that shows a block: its size, and the bytes that the task's block has on this
-/// desk, if there are any.
+/// Writes the first line of a reply that shows a block: its size, as the reply says, and the bytes that the task's
+/// block has on this desk, if there are any.
 pub fn print_shown<S: Store, W: Sink>(
     world: &World<S>,
     name: &Name,
@@ -28,52 +33,52 @@ pub fn print_shown<S: Store, W: Sink>(
     ensures { Puts (W.output writer.old) (W.output writer.new) result
         (ok (decimal size ∷ hex_words (bytes_of_named name.now anchor world.now.desk))) }
 {
-    print_size(size, writer)?;
-    print_bytes(world, name, anchor, size, writer)
-}
-
-fn print_size<W: Sink>(size: u32, writer: &mut W) -> Result<(), WriteFailed>
-    ensures { Puts (W.output writer.old) (W.output writer.new) result (codes "ok " ++ decimal size) }
-{
     let mut row = Row::new();
     row.text(b"ok ");
     row.decimal(size);
-    put(writer, row.as_slice())
+    let mut bytes = [0; SHORT];
+    let room = if size as usize <= SHORT { size } else { 0 };
+    let whole = &mut bytes[..room as usize];
+    let there = read_whole(world, name, anchor, whole);
+    if there == room {
+        add_bytes(&mut row, whole);
+        return put(writer, row.as_slice());
+    }
+    put(writer, row.as_slice())?;
+    print_bytes(world, name, anchor, there, writer)
 }
 
-/// The bytes of the task's block behind a space, where there are any, and the line's end. The block is looked for
-/// once where it has as many bytes as is likely, and is no longer than a piece.
+/// Ends the line with a block's bytes, behind a space where there are any.
+fn add_bytes(row: &mut Row, bytes: &[u8])
+    requires { length row.old + 2 * length bytes.now + 2 ≤ ROW }
+    ensures { row.new ≡ row.old ++ rest_of_line (hex_words bytes.now) }
+{
+    if bytes.is_empty() {
+        return row.byte(b'\n');
+    }
+    row.byte(b' ');
+    row.hex_digits(bytes);
+    row.byte(b'\n');
+}
+
+/// The bytes of the task's block behind a space, where there are any, and the line's end.
 fn print_bytes<S: Store, W: Sink>(
     world: &World<S>,
     name: &Name,
     anchor: Anchor,
-    likely: u32,
+    size: u32,
     writer: &mut W,
 ) -> Result<(), WriteFailed>
+    requires anchor { 0 < size → anchor < 64 }
+    requires size { size ≡ length (bytes_of_named name.now anchor world.now.desk) }
     ensures { Puts (W.output writer.old) (W.output writer.new) result
         (rest_of_line (hex_words (bytes_of_named name.now anchor world.now.desk))) }
 {
-    let mut bytes = [0; PIECE];
-    let room = if likely as usize <= PIECE { likely } else { 0 };
-    let whole = &mut bytes[..room as usize];
-    let size = read_whole(world, name, anchor, whole);
     if size == 0 {
         return put(writer, b"\n");
     }
     put(writer, b" ")?;
-    if size as usize == whole.len() {
-        print_whole(whole, writer)
-    } else {
-        print_digits(world, name, anchor, size, writer)
-    }
-}
-
-fn print_whole<W: Sink>(bytes: &[u8], writer: &mut W) -> Result<(), WriteFailed>
-    requires { length bytes.now ≤ 512 }
-    ensures { Puts (W.output writer.old) (W.output writer.new) result (encode_lower bytes.now ++ codes "\n") }
-{
-    put_digits(bytes, writer)?;
-    put(writer, b"\n")
+    print_digits(world, name, anchor, size, writer)
 }
 
 fn print_digits<S: Store, W: Sink>(
@@ -122,7 +127,7 @@ fn print_piece<S: Store, W: Sink>(
     writer: &mut W,
 ) -> Result<(), WriteFailed>
     requires anchor { anchor < 64 }
-    requires small { count ≤ 512 }
+    requires small { count ≤ PIECE }
     requires within { offset + count ≤ length (bytes_of_named name.now anchor world.now.desk) }
     ensures { Puts (W.output writer.old) (W.output writer.new) result
         (encode_lower (take count (drop offset (bytes_of_named name.now anchor world.now.desk)))) }
@@ -134,7 +139,7 @@ fn print_piece<S: Store, W: Sink>(
 }
 
 fn put_digits<W: Sink>(bytes: &[u8], writer: &mut W) -> Result<(), WriteFailed>
-    requires { length bytes.now ≤ 512 }
+    requires { length bytes.now ≤ PIECE }
     ensures { Puts (W.output writer.old) (W.output writer.new) result (encode_lower bytes.now) }
 {
     let mut digits = [0; 2 * PIECE];

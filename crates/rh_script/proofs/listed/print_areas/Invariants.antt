@@ -1,14 +1,15 @@
-use Rattle.std.proofs.Common.{◌-◌, length, take}
+use Rattle.std.proofs.Common.{◌++◌, ◌∷◌, [], ◌-◌, length, take}
+use Rattle.std.specs.Fmt.{decimal}
 use Rattle.std.specs.List.{flat_map}
 use Rattle.rh_defs.specs.Listing.{area_items}
-use Rattle.rh_defs.specs.Text.{area_line}
+use Rattle.rh_defs.specs.Text.{area_line, ok}
 use Rattle.rh_script.specs.Gathered.{Gathered}
 use Rattle.rh_script.proofs.listed.print_areas.Given as goal
 
--- the areas and slots so far were written, or wait in the row
+-- the number and the areas and slots so far were written, or wait in the row
 abbrev pub invariant-items : goal.invariant-items
 invariant-items g l =
-    Gathered (g.W.Sink.output l.initial.writer) (g.W.Sink.output l.writer) l.row (flat_map area_line (take l.i (area_items l.world.desk)))
+    Gathered (g.W.Sink.output l.initial.writer) (g.W.Sink.output l.writer) l.row (ok (decimal l.free ∷ []) ++ flat_map area_line (take l.i (area_items l.world.desk)))
 
 abbrev pub decreases-items : goal.decreases-items
 decreases-items g l = length (area_items l.world.desk) - l.i

@@ -1,10 +1,11 @@
-use Rattle.std.proofs.Common.{take}
+use Rattle.std.proofs.Common.{◌++◌, ◌∷◌, [], take}
+use Rattle.std.specs.Fmt.{decimal}
 use Rattle.std.specs.List.{flat_map}
-use Rattle.rh_defs.specs.Text.{block_line}
+use Rattle.rh_defs.specs.Text.{block_line, ok}
 use Rattle.rh_script.specs.Gathered.{Gathered}
 use Rattle.rh_script.proofs.listed.print_items.Given as goal
 
--- the blocks so far were written, or wait in the row
+-- the number and the blocks so far were written, or wait in the row
 abbrev pub invariant-loop-item : goal.invariant-loop-item
 invariant-loop-item g l =
-    Gathered (g.W.Sink.output l.initial.writer) (g.W.Sink.output l.writer) l.row (flat_map block_line (take l.item-index l.items))
+    Gathered (g.W.Sink.output l.initial.writer) (g.W.Sink.output l.writer) l.row (ok (decimal l.count ∷ []) ++ flat_map block_line (take l.item-index l.items))
