@@ -184,3 +184,25 @@ unfolding reply_text later_lines
 one_line d c r none =
     let P : Listed → Type 0 = λ l. first_line r Nothing ≡ answer_text (r, l) in
     subst P (sym none) (sym (append-nil (first_line r Nothing)))
+
+-- ---- replies that list nothing
+
+pub not_shown : (d : Desk) (name : List ℕ) (k : ℕ) (r : Reply) → ((size : ℕ) → r ≡ reply.Shown size → ⊥) → listed d (command.Show name k) r ≡ Nothing
+not_shown d name k (reply.Shown size) other = absurd (other size refl)
+not_shown d name k r other = refl
+
+pub not_counted : (d : Desk) (name : List ℕ) (r : Reply) → ((count : ℕ) → r ≡ reply.BlockCount count → ⊥) → listed d (command.Blocks name) r ≡ Nothing
+not_counted d name (reply.BlockCount count) other = absurd (other count refl)
+not_counted d name r other = refl
+
+pub not_summed : (d : Desk) (name : List ℕ) (r : Reply) → ((length largest free : ℕ) → r ≡ reply.HeapSums length largest free → ⊥) → listed d (command.Heap name) r ≡ Nothing
+not_summed d name (reply.HeapSums length largest free) other = absurd (other length largest free refl)
+not_summed d name r other = refl
+
+pub not_told : (d : Desk) (name : List ℕ) (r : Reply) → ((handle : ℕ) → r ≡ reply.StatusOf handle → ⊥) → listed d (command.Status name) r ≡ Nothing
+not_told d name (reply.StatusOf handle) other = absurd (other handle refl)
+not_told d name r other = refl
+
+pub not_free : (d : Desk) (r : Reply) → ((pages : ℕ) → r ≡ reply.FreePages pages → ⊥) → listed d command.Areas r ≡ Nothing
+not_free d (reply.FreePages pages) other = absurd (other pages refl)
+not_free d r other = refl

@@ -42,7 +42,6 @@ pub fn print_reply<S: Store, W: Sink>(
 }
 
 /// The reply to `heap`: the sums, and a line for each segment.
-#[tactic(auto, using(rh_lines::proofs::FlowLemmas::writing))]
 fn print_heap<S: Store, W: Sink>(
     world: &World<S>,
     name: &Name,
@@ -57,7 +56,6 @@ fn print_heap<S: Store, W: Sink>(
 }
 
 /// The reply to `status`: the handle, and a line for each record.
-#[tactic(auto, using(rh_lines::proofs::FlowLemmas::writing))]
 fn print_status<S: Store, W: Sink>(
     world: &World<S>,
     name: &Name,

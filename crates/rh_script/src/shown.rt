@@ -40,7 +40,7 @@ pub fn print_shown<S: Store, W: Sink>(
     let room = if size as usize <= SHORT { size } else { 0 };
     let whole = &mut bytes[..room as usize];
     let there = read_whole(world, name, anchor, whole);
-    if there == room {
+    if there as usize == whole.len() {
         add_bytes(&mut row, whole);
         return put(writer, row.as_slice());
     }

@@ -13,14 +13,7 @@ returns-in_err-put g c =
     let some : length (bytes_of_named c.args.name.now c.args.anchor c.args.world.now.desk) ≢ 0 = omega arith in
     rw (spaced (bytes_of_named c.args.name.now c.args.anchor c.args.world.now.desk) some) (puts_stops _ (puts_before _ c.in_err-put.ensures refl) c.from_residual.ensures.0)
 
-pub returns-then-size-whole : goal.returns-then-size-whole
-returns-then-size-whole g c =
-    let some : length (bytes_of_named c.args.name.now c.args.anchor c.args.world.now.desk) ≢ 0 = omega arith in
-    let whole = c.read_whole-size.ensures.bytes (omega arith) in
-    let rest = c.print_whole.ensures in
-    rw (spaced (bytes_of_named c.args.name.now c.args.anchor c.args.world.now.desk) some) (puts_more _ _ _ c.in_ok-put.ensures (rw whole at rest))
-
-pub returns-else-size-whole : goal.returns-else-size-whole
-returns-else-size-whole g c =
+pub returns : goal.returns
+returns g c =
     let some : length (bytes_of_named c.args.name.now c.args.anchor c.args.world.now.desk) ≢ 0 = omega arith in
     rw (spaced (bytes_of_named c.args.name.now c.args.anchor c.args.world.now.desk) some) (puts_more _ _ _ c.in_ok-put.ensures c.print_digits.ensures)
