@@ -179,5 +179,9 @@ fn gathers_a_row(rt: HostRuntime) {
     row.byte(b' ');
     row.hex_digits(b"\x00~\xff");
     row.hex_digits(b"");
-    same(&rt, row.as_slice(), b"ok 1048576\n  slot 9 &3809A4C 007eff".as_slice());
+    same(
+        &rt,
+        row.as_slice(),
+        b"ok 1048576\n  slot 9 &3809A4C 007eff".as_slice(),
+    );
 }

@@ -185,6 +185,7 @@ impl Row {
     }
 
     /// Adds an address.
+    #[inline(always)]
     #[tactic(auto, unfolding(rh_defs::specs::Text::address))]
     pub fn address(&mut self, number: u32)
         requires { length self.old + 11 ≤ ROW }

@@ -34,11 +34,7 @@ pub fn print_blocks<S: Store, W: Sink>(
 }
 
 /// Writes a number, and a line for each of these blocks.
-fn print_items<W: Sink>(
-    count: u32,
-    items: &[BlockItem],
-    writer: &mut W,
-) -> Result<(), WriteFailed>
+fn print_items<W: Sink>(count: u32, items: &[BlockItem], writer: &mut W) -> Result<(), WriteFailed>
     ensures { Puts (W.output writer.old) (W.output writer.new) result
         (ok (decimal count ∷ []) ++ flat_map block_line items.now) }
 {

@@ -21,6 +21,7 @@ impl<'a> Answer<'a> {
     ghost use Rattle.rh_session.specs.Answer.{answer_bytes};
 
     /// Writes the answer behind what is held. What is held is written first only where there is no room for both.
+    #[inline(always)]
     pub fn write<D: Desktop, W: Sink>(
         &self,
         desktop: &D,

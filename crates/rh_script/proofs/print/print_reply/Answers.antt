@@ -30,10 +30,10 @@ returns-in_default g c =
     let d = c.args.world.now.desk in
     let r = c.args.reply.now in
     elim c.in_default.branch [
-      in_default-via-in-Show+in_default w ↦ rw (w.in_default.is-0, ← one_line d _ r (not_shown d w.in_default.field-0-0 w.in_default.field-1-0 r w.in_default.not-Shown-1)) c.print_first_line.ensures
-    | in_default-via-in-Blocks+in_default w ↦ rw (w.in_default.is-0, ← one_line d _ r (not_counted d w.in_default.field-0-0 r w.in_default.not-BlockCount-1)) c.print_first_line.ensures
-    | in_default-via-in-Heap+in_default w ↦ rw (w.in_default.is-0, ← one_line d _ r (not_summed d w.in_default.field-0-0 r w.in_default.not-HeapSums-1)) c.print_first_line.ensures
-    | in_default-via-in-Status+in_default w ↦ rw (w.in_default.is-0, ← one_line d _ r (not_told d w.in_default.field-0-0 r w.in_default.not-StatusOf-1)) c.print_first_line.ensures
-    | in_default-via-in-Areas+in_default w ↦ rw (w.in_default.is-0, ← one_line d _ r (not_free d r w.in_default.not-FreePages-1)) c.print_first_line.ensures
-    | in_default-via-in_default w ↦ rw (← one_line d c.args.command.now r (search rules)) c.print_first_line.ensures
+      | in_default-via-in-Show+in_default w ↦ rw (w.in_default.is-0, ← one_line d _ r (not_shown d w.in_default.field-0-0 w.in_default.field-1-0 r w.in_default.not-Shown-1)) c.print_first_line.ensures
+      | in_default-via-in-Blocks+in_default w ↦ rw (w.in_default.is-0, ← one_line d _ r (not_counted d w.in_default.field-0-0 r w.in_default.not-BlockCount-1)) c.print_first_line.ensures
+      | in_default-via-in-Heap+in_default w ↦ rw (w.in_default.is-0, ← one_line d _ r (not_summed d w.in_default.field-0-0 r w.in_default.not-HeapSums-1)) c.print_first_line.ensures
+      | in_default-via-in-Status+in_default w ↦ rw (w.in_default.is-0, ← one_line d _ r (not_told d w.in_default.field-0-0 r w.in_default.not-StatusOf-1)) c.print_first_line.ensures
+      | in_default-via-in-Areas+in_default w ↦ rw (w.in_default.is-0, ← one_line d _ r (not_free d r w.in_default.not-FreePages-1)) c.print_first_line.ensures
+      | in_default-via-in_default w ↦ rw (← one_line d c.args.command.now r (search rules)) c.print_first_line.ensures
     ]
