@@ -171,17 +171,26 @@ fn writes_hex_digits(rt: HostRuntime) {
 #[test]
 fn gathers_a_row(rt: HostRuntime) {
     let mut row = Row::new();
-    add_number(1_048_576, &mut row);
     row.text(b"  slot ");
-    row.decimal(9);
+    row.byte(b'9');
     row.byte(b' ');
     row.address(0x0380_9a4c);
-    row.byte(b' ');
+    same(&rt, row.as_slice(), b"  slot 9 &3809A4C".as_slice());
+}
+
+#[test]
+fn gathers_digits(rt: HostRuntime) {
+    let mut row = Row::new();
     row.hex_digits(b"\x00~\xff");
-    row.hex_digits(b"");
-    same(
-        &rt,
-        row.as_slice(),
-        b"ok 1048576\n  slot 9 &3809A4C 007eff".as_slice(),
-    );
+    same(&rt, row.as_slice(), b"007eff".as_slice());
+    let mut none = Row::new();
+    none.hex_digits(b"");
+    same(&rt, none.as_slice(), b"".as_slice());
+}
+
+#[test]
+fn gathers_a_number(rt: HostRuntime) {
+    let mut row = Row::new();
+    add_number(1_048_576, &mut row);
+    same(&rt, row.as_slice(), b"ok 1048576\n".as_slice());
 }
