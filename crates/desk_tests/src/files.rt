@@ -8,7 +8,7 @@ use std::process::Abort;
 use std::test::Fail;
 
 /// The most bytes of a file.
-const MOST_BYTES: usize = 1_048_576;
+const LONGEST_FILE: usize = 1_048_576;
 
 #[test]
 fn bad_file_words_are_told_before_any_file(rt: HostRuntime) -> Result<(), Fail> {
@@ -140,7 +140,7 @@ fn files_are_loaded_whole(rt: HostRuntime) -> Result<(), Fail> {
 fn a_file_has_a_limit(rt: HostRuntime) -> Result<(), Fail> {
     let alloc: Global = rt.alloc();
     let mut bytes = Vec::new(alloc);
-    bytes.resize(MOST_BYTES, 7)?;
+    bytes.resize(LONGEST_FILE, 7)?;
     fs::write(&rt, "most.bin", bytes.as_slice())?;
     let most = ended(
         &rt,

@@ -251,3 +251,16 @@ fn a_million_reads_are_too_many(rt: HostRuntime) {
         is_true(&rt, writer.into_inner().is_empty());
     }
 }
+
+#[test]
+fn faults_of_a_run_read_as_they_are_told(rt: HostRuntime) -> Result<(), Fail> {
+    for (fault, text) in [
+        (RunFault::NoMemory, "no memory"),
+        (RunFault::ReadFailed, "read failed"),
+        (RunFault::WriteFailed, "write failed"),
+        (RunFault::TooLong, "script too long"),
+    ] {
+        same(&rt, fault.to_string(rt.alloc())?.as_str(), text);
+    }
+    Ok(())
+}

@@ -3,8 +3,10 @@
 use crate::same::{is_true, same};
 use arrayvec::ArrayVec;
 use rh_defs::{
-    Anchor, Bytes, Command, Files, Leaf, LineFault, Manner, Name, Refusal, block_law, image_law,
+    Anchor, Bytes, Command, Files, HeapFault, HeapRefusal, Leaf, LineFault, Manner, MessageFault,
+    Name, Refusal, block_law, image_law,
 };
+use rh_lines::{ReadFailed, WriteFailed};
 use std::alloc::{AllocError, Global};
 use std::process::Abort;
 use std::test::Fail;
@@ -189,6 +191,69 @@ fn faults_print_their_names(rt: HostRuntime) -> Result<(), Fail> {
     ] {
         same(&rt, fault.to_string(rt.alloc())?.as_str(), name);
     }
+    Ok(())
+}
+
+#[test]
+fn refusals_of_heaps_read_as_sentences(rt: HostRuntime) -> Result<(), Fail> {
+    for (refusal, text) in [
+        (HeapRefusal::NotABlock, "no block begins at this address"),
+        (HeapRefusal::BadSize, "a block has at least 1 byte"),
+        (HeapRefusal::NoRoom, "the heap has no room"),
+        (
+            HeapRefusal::ExcessiveShrink,
+            "the heap would end below its last block",
+        ),
+    ] {
+        same(&rt, refusal.to_string(rt.alloc())?.as_str(), text);
+    }
+    Ok(())
+}
+
+#[test]
+fn faults_of_images_read_as_sentences(rt: HostRuntime) -> Result<(), Fail> {
+    for (fault, text) in [
+        (
+            HeapFault::BadDescriptor,
+            "the descriptor is not that of a heap",
+        ),
+        (HeapFault::BadLink, "a link does not lead to a hole ahead"),
+        (HeapFault::BadSize, "a size is not that of a segment"),
+    ] {
+        same(&rt, fault.to_string(rt.alloc())?.as_str(), text);
+    }
+    Ok(())
+}
+
+#[test]
+fn faults_of_messages_read_as_sentences(rt: HostRuntime) -> Result<(), Fail> {
+    for (fault, text) in [
+        (
+            MessageFault::BadLength,
+            "the length is not that of the message",
+        ),
+        (
+            MessageFault::BadAction,
+            "the action is not one of a file or a RAM transfer",
+        ),
+    ] {
+        same(&rt, fault.to_string(rt.alloc())?.as_str(), text);
+    }
+    Ok(())
+}
+
+#[test]
+fn faults_of_streams_read_as_they_are_told(rt: HostRuntime) -> Result<(), Fail> {
+    same(
+        &rt,
+        ReadFailed.to_string(rt.alloc())?.as_str(),
+        "read failed",
+    );
+    same(
+        &rt,
+        WriteFailed.to_string(rt.alloc())?.as_str(),
+        "write failed",
+    );
     Ok(())
 }
 

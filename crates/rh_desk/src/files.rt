@@ -17,7 +17,7 @@ use std::io::{self, Read};
 use std::rt;
 
 /// A file has at most so many bytes.
-const MOST_BYTES: usize = 1_048_576;
+const LONGEST_FILE: usize = 1_048_576;
 
 /// Looks over all the NAME=PATH words before any file is read. The first bad one is told: one that isn't a name, `=` and
 /// a path of at least one byte, or whose name was given before.
@@ -90,7 +90,7 @@ pub fn read_whole<R: rt::Files, E: Sink>(
     path: &str,
     errors: &mut E,
 ) -> Result<Vec<u8>, Ending>
-    ensures ok { IfOk result (λ bytes. vec_len bytes ≤ MOST_BYTES) }
+    ensures ok { IfOk result (λ bytes. vec_len bytes ≤ LONGEST_FILE) }
     ensures err { IfErr result (λ ending. ending ≡ Ending.Fault) }
     ensures told { IfErr result (λ ending. Tells (E.output errors.old) (E.output errors.new) (lost_file_text path.now)
         ⊎ Tells (E.output errors.old) (E.output errors.new) (run_fault_text RunFault.NoMemory)) }
@@ -98,7 +98,7 @@ pub fn read_whole<R: rt::Files, E: Sink>(
 {
     let mut bytes = Vec::new(alloc);
     match read_into(runtime, path, &mut bytes) {
-        Ok(()) if bytes.len() <= MOST_BYTES => Ok(bytes),
+        Ok(()) if bytes.len() <= LONGEST_FILE => Ok(bytes),
         Err(error) if error.kind() == io::ErrorKind::OutOfMemory => {
             Err(ended(Err(RunFault::NoMemory), errors))
         }
@@ -109,6 +109,6 @@ pub fn read_whole<R: rt::Files, E: Sink>(
 /// Reads a file up to one byte more than it may have.
 fn read_into<R: rt::Files>(runtime: &R, path: &str, bytes: &mut Vec<u8>) -> io::Result<()> {
     let file = File::open(runtime, path)?;
-    file.take(MOST_BYTES as u64 + 1).read_to_end(bytes)?;
+    file.take(LONGEST_FILE as u64 + 1).read_to_end(bytes)?;
     Ok(())
 }

@@ -199,26 +199,26 @@ impl Receiver {
         first_asking(&self.records, |q| from == q.sender && your_ref == q.ack)
     }
 
-    /// The document has all n bytes of the file.
-    pub fn loaded(&mut self, q: &Asked, n: u32)
-        ensures { self.new ≡ receiver.loaded q.now n self.old }
+    /// The document has all bytes of the file, whose size this is.
+    pub fn loaded(&mut self, q: &Asked, size: u32)
+        ensures { self.new ≡ receiver.loaded q.now size self.old }
     {
         let new = Incoming::Done {
             id: q.id,
             anchor: q.anchor,
-            count: n,
+            count: size,
         };
         rewrite(&mut self.records, q.id, new);
     }
 
-    /// The transfer failed with n bytes in its document.
-    pub fn abandoned(&mut self, q: &Asked, n: u32)
-        ensures { self.new ≡ receiver.abandoned q.now n self.old }
+    /// The transfer failed with so many bytes held in its document.
+    pub fn abandoned(&mut self, q: &Asked, held: u32)
+        ensures { self.new ≡ receiver.abandoned q.now held self.old }
     {
         let new = Incoming::Failed {
             id: q.id,
             anchor: q.anchor,
-            count: n,
+            count: held,
         };
         rewrite(&mut self.records, q.id, new);
     }
