@@ -1,0 +1,134 @@
+"""Edits: wrong bodies as files of lines 'file:', 'old:' and 'new:', and which places and functions each changes."""
+
+import dataclasses
+import difflib
+import os
+
+from kit import bodies, rt
+
+FOLDER = "wrong"
+ENDING = ".edit"
+
+
+class BadEdit(Exception):
+    """Why an edit can't be applied, as where its old text doesn't stand in its file just once."""
+
+
+@dataclasses.dataclass(frozen=True)
+class Change:
+    """The bytes from `start` up to `end` of a file of the crate, and what stands in their place."""
+
+    file: str
+    start: int
+    end: int
+    new: bytes
+
+
+@dataclasses.dataclass
+class Edit:
+    """A wrong body: its name, what it changes, and the functions in which all of that lies.
+
+    There are none where it changes something outside of functions, as a constant, a type or a definition. Only
+    where it changes nothing but bodies (`is_inside`) can no other function see it.
+    """
+
+    name: str
+    changes: list
+    functions: list
+    is_inside: bool
+
+
+def functions_of(folder):
+    """The functions of a crate's src/ that have a body, as the kit reads them."""
+    source = bodies.Source(folder)
+    source.read("src/main.rt" if os.path.isfile(f"{folder}/src/main.rt") else "src/lib.rt")
+    return [it for it in source.functions if it.has_body]
+
+
+def names_of(crate):
+    """The files in the crate's folder of edits."""
+    folder = f"{crate.folder}/{FOLDER}"
+    return sorted(os.listdir(folder)) if os.path.isdir(folder) else []
+
+
+def read_edits(crate):
+    """Reads the crate's edits, and gives (the edits, why each other one can't be applied)."""
+    names = names_of(crate)
+    functions = functions_of(crate.folder) if names else []
+    edits, bad = [], []
+    for name in names:
+        try:
+            edits.append(_read(crate.folder, functions, name))
+        except BadEdit as why:
+            bad.append(f"{name.removesuffix(ENDING)}: BAD EDIT: {why}")
+    return edits, bad
+
+
+def _read(folder, functions, name):
+    if not name.endswith(ENDING):
+        raise BadEdit(f"the name of an edit ends in {ENDING}")
+    texts, why = rt.read_edit(f"{folder}/{FOLDER}/{name}", folder)
+    if why:
+        raise BadEdit(why)
+    changes = [it for file, text in texts.items() for it in _changes(folder, file, text)]
+    if not changes:
+        raise BadEdit("it changes nothing")
+    held = [_holding(functions, it) for it in changes]
+    is_inside = all(f and f.opens < it.start for f, it in zip(held, changes))
+    return Edit(name.removesuffix(ENDING), changes, [] if None in held else list(dict.fromkeys(held)), is_inside)
+
+
+def _holding(functions, change):
+    """The function, signature and clauses included, in which the change lies, if it lies in one."""
+    inside = (it for it in functions if it.file == change.file and it.first <= change.start and change.end < it.end)
+    return next(inside, None)
+
+
+def _changes(folder, file, text):
+    with open(f"{folder}/{file}", "rb") as it:
+        old = it.read().splitlines(keepends=True)
+    new = text.encode().splitlines(keepends=True)
+    starts = [0]
+    for line in old:
+        starts.append(starts[-1] + len(line))
+    parts = difflib.SequenceMatcher(None, old, new, autojunk=False).get_opcodes()
+    pairs = [(starts[a], b"".join(old[a:b]), b"".join(new[c:d])) for tag, a, b, c, d in parts if tag != "equal"]
+    return [_trimmed(file, *it) for it in pairs]
+
+
+def _trimmed(file, start, old, new):
+    """The change without the bytes that both texts begin with, and those that both end with."""
+    before = len(os.path.commonprefix([old, new]))
+    old, new = old[before:], new[before:]
+    behind = len(os.path.commonprefix([old[::-1], new[::-1]]))
+    return Change(file, start + before, start + before + len(old) - behind, new[: len(new) - behind])
+
+
+def grouped(edits):
+    """Shares the edits out: no two of a group change one function, and one that other functions see is by itself."""
+    groups = []
+    for edit in (it for it in edits if it.is_inside):
+        group = next((it for it in groups if not _share_a_function(it, edit)), None)
+        if group is None:
+            groups.append(group := [])
+        group.append(edit)
+    return groups + [[it] for it in edits if not it.is_inside]
+
+
+def _share_a_function(group, edit):
+    return any(it in other.functions for other in group for it in edit.functions)
+
+
+def applied(folder, edits):
+    """The texts of the files that these edits change, by their paths, once all of them are applied."""
+    changes = sorted((it for edit in edits for it in edit.changes), key=lambda it: it.start, reverse=True)
+    texts = {}
+    for it in changes:
+        text = texts[it.file] if it.file in texts else _bytes_of(f"{folder}/{it.file}")
+        texts[it.file] = text[: it.start] + it.new + text[it.end :]
+    return {file: text.decode() for file, text in texts.items()}
+
+
+def _bytes_of(path):
+    with open(path, "rb") as it:
+        return it.read()

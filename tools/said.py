@@ -1,0 +1,80 @@
+"""What a check said of a crate: the goals that it refused, function by function."""
+
+import re
+
+from kit import rt, rtlib
+
+FUNCTION = re.compile(r"(?m)^fn (\S+): (.*)$")
+SEARCHED = re.compile(r"`search` did not prove ((?:`[^`]+`(?:, )?)+)")
+STANDS_ON = re.compile(r"it stands on (.*?),? which antt refuses")
+ERROR = re.compile(r"(?m)^(?:\./)?proofs/(\S+)\.antt:\d+:\d+: error: (?:`([^`]*)`: )?(.*)$")
+# What antt says of a proof that names what is no longer there: that refuses no statement.
+NAMES = re.compile(r"has no field|is not in scope|has no `|was not admitted")
+PROOF_FILES = ("Answers", "Invariants", "Proof")
+ENDED = re.compile(r"(?m)^holes=\d+$")
+
+
+class Said:
+    """The text that a check of a crate with edited files printed, and whether it came to its end."""
+
+    def __init__(self, crate, ran, texts):
+        self.crate, self.text, self.texts = crate, ran.stdout, texts
+        self.status = ran.returncode
+        self.lines = dict(FUNCTION.findall(self.text))
+        self.errors = [it for it in ERROR.findall(self.text) if not NAMES.search(it[2])]
+
+    def fault(self):
+        """Why nothing can be told from this check, or an empty text."""
+        lines = self.text.rstrip("\n").split("\n")
+        unread = next((it for it in lines if rt.unread(it, self.texts)), "")
+        if unread:
+            return f"the prover can't read the edited text: {unread[:200]}"
+        if rtlib.STALE.search(self.text):
+            return "the kept work of a library can't be used"
+        if self.status in (0, 1) and ENDED.search(self.text) and self.lines:
+            return ""
+        told = next((it for it in lines if ": error" in it or it.startswith("error")), lines[-1])
+        return f"the check ended with status {self.status} before the prover's end: {told[:200]}"
+
+    def is_all_proved(self):
+        """Whether nothing at all was refused."""
+        return self.status == 0
+
+    def symbols(self, function):
+        """The check's names for a function, and for the closures in it."""
+        start = "::".join([self.crate.name, *function.module, ""])
+        parts = {it: it[len(start) :].split("::") for it in self.lines if it.startswith(start)}
+        own = [it for it, words in parts.items() if _is_of(function, words)]
+        return own + [it for it, words in parts.items() if words[0] == "fn" and _is_of(function, words[1:-1])]
+
+    def goals(self, symbol):
+        """The goals of this function's own that were refused: those of its proof's files, and those without a proof."""
+        path = "/".join(symbol.split("::")[1:])
+        files = {f"{path}/{it}" for it in PROOF_FILES}
+        found = [f"{file}.{goal}" for file, goal, _ in self.errors if file in files]
+        for names in SEARCHED.findall(self.lines[symbol]):
+            found += [f"{path}.{it}" for it in re.findall(r"`([^`]+)`", names)]
+        return [it.replace("/", ".") for it in found]
+
+    def all_goals(self):
+        """The refused goals of all functions, and the refused lemmas that some function stands on."""
+        lemmas = {f"{file}.{name}".replace("/", ".") for file, name, _ in self.errors}
+        cited = [it for line in self.lines.values() for names in STANDS_ON.findall(line)
+                 for it in re.findall(r"`Rattle\.\w+\.proofs\.([^`]+)`", names)]
+        own = [it for symbol in self.lines for it in self.goals(symbol)]
+        return list(dict.fromkeys(own + [it for it in cited if it in lemmas]))
+
+
+def _is_of(function, words):
+    """Whether these words, a name's below its module, are those of the function."""
+    if not words or words[-1] != function.name:
+        return False
+    if function.block is None:
+        return len(words) == 1
+    return len(words) == 2 and _fits(function, words[0])
+
+
+def _fits(function, owner):
+    if function.in_trait:
+        return function.block.fits(owner) and owner != function.owner
+    return owner == function.owner

@@ -1,0 +1,111 @@
+"""The trial of wrong bodies: group by group, crate beside crate, with a line for each edit."""
+
+import sys
+import tempfile
+import threading
+
+import edit as edits_of
+import kit
+import libraries
+from kit import rt, rtlib
+from said import Said
+
+PRINTING = threading.Lock()
+
+
+class Verdict:
+    """What came of one edit, and whether it was refused at a goal of its own."""
+
+    def __init__(self, edit, text, is_well=False):
+        self.edit, self.text, self.is_well = edit, text, is_well
+
+
+class Trial:
+    """The edits of one crate, tried over one folder that keeps what each check has proved."""
+
+    def __init__(self, crate, kept, jobs):
+        self.crate, self.kept, self.jobs = crate, kept, jobs
+
+    def check(self, edits):
+        """Checks the crate with these edits."""
+        texts = edits_of.applied(self.crate.folder, edits)
+        flags = ["--allow-holes", "--jobs", str(self.jobs)]
+        ran = rt.checked(self.crate, texts, flags, self.kept)
+        if ran.returncode < 0:
+            # It was killed, most likely for memory.
+            ran = rt.checked(self.crate, texts, ["--allow-holes", "--jobs", "1"], self.kept)
+        return Said(self.crate, ran, texts)
+
+    def judge(self, group):
+        """A verdict for each edit of the group, which is tried in halves where nothing can be told of the whole."""
+        said = self.check(group)
+        fault = said.fault()
+        if not fault:
+            return [self.verdict(said, it, len(group) == 1) for it in group]
+        if len(group) == 1:
+            return [Verdict(group[0], f"BAD EDIT: {fault}")]
+        half = len(group) // 2
+        return self.judge(group[:half]) + self.judge(group[half:])
+
+    def verdict(self, said, edit, is_alone):
+        """What the check says of one edit of its group."""
+        own = refused_at(said, edit)
+        if own:
+            return Verdict(edit, f"refused at {own[0]}", True)
+        if not is_alone:
+            return self.judge([edit])[0]
+        elsewhere = said.all_goals()
+        if elsewhere:
+            return Verdict(edit, f"refused elsewhere only, at {elsewhere[0]}")
+        return Verdict(edit, "PROVED" if said.is_all_proved() else "refused elsewhere only, at no goal")
+
+
+def refused_at(said, edit):
+    """The refused goals of the functions that the edit changes: of any one, where it lies outside of functions."""
+    if not edit.functions:
+        return said.all_goals()
+    return [goal for it in edit.functions for symbol in said.symbols(it) for goal in said.goals(symbol)]
+
+
+def tried(crate, jobs):
+    """Tries all edits of the crate, prints their lines, and gives (how many there are, how many were refused)."""
+    edits, bad = edits_of.read_edits(crate)
+    with tempfile.TemporaryDirectory(prefix="wrong-bodies-") as kept:
+        trial = Trial(crate, kept, jobs)
+        verdicts = [it for group in edits_of.grouped(edits) for it in trial.judge(group)]
+    lines = [f"{crate.name}/{it}" for it in bad]
+    lines += [f"{crate.name}/{it.edit.name}: {it.text}" for it in sorted(verdicts, key=lambda it: it.edit.name)]
+    with PRINTING:
+        print("\n".join(lines), flush=True)
+    return len(lines), sum(it.is_well for it in verdicts)
+
+
+def tasks_of(crates):
+    """What is to be run: the libraries that are not there, and each crate's trial over those below it."""
+    left = libraries.unbuilt(libraries.below(crates))
+    tasks = libraries.tasks(left, lambda it, jobs: libraries.build(it, jobs, sys.stderr))
+    for it in crates:
+        waits = [(dep.name, "library") for dep in it.below() if dep in left]
+        call = lambda given, jobs, it=it, waits=waits: tried(it, jobs) if all(given[key] for key in waits) else None
+        tasks[it.name, "wrong"] = (waits, it.count(rb"\n"), rt.need(it), call)
+    return tasks
+
+
+def main(top, names):
+    """Tries the edits of the crates with these names, or of all, and gives the exit status."""
+    crates = kit.crates_of(top)
+    unknown = set(names) - {it.name for it in crates}
+    if unknown:
+        print(f"wrong-bodies: no such crate: {', '.join(sorted(unknown))}", file=sys.stderr)
+        return 2
+    chosen = [it for it in crates if it.name in names or not names and edits_of.names_of(it)]
+    held = rtlib.lock(libraries.below(chosen))
+    given = rt.in_lanes(tasks_of(chosen))
+    del held
+    counts = [given[it.name, "wrong"] for it in chosen]
+    for crate, count in zip(chosen, counts):
+        if count is None:
+            print(f"{crate.name}: a library below it is not proved")
+    edits, refused = (sum(it[at] for it in counts if it) for at in (0, 1))
+    print(f"{edits} wrong bodies, {refused} refused at goals of their own")
+    return 0 if edits == refused and None not in counts else 1
