@@ -4,7 +4,8 @@ import re
 
 from kit import rt, rtlib
 
-FUNCTION = re.compile(r"(?m)^fn (\S+): (.*)$")
+ITEM = re.compile(r"(fn|struct|enum|trait|impl) (\S+): (.*)")
+NOTE = re.compile(r"note: src/\S+:\d+:\d+: .*?\(`(\S+)`\)")
 SEARCHED = re.compile(r"`search` did not prove ((?:`[^`]+`(?:, )?)+)")
 STANDS_ON = re.compile(r"it stands on (.*?),? which antt refuses")
 ERROR = re.compile(r"(?m)^(?:\./)?proofs/(\S+)\.antt:\d+:\d+: error: (?:`([^`]*)`: )?(.*)$")
@@ -20,7 +21,7 @@ class Said:
     def __init__(self, crate, ran, texts):
         self.crate, self.text, self.texts = crate, ran.stdout, texts
         self.status = ran.returncode
-        self.lines = dict(FUNCTION.findall(self.text))
+        self.lines, self.notes = _functions(self.text)
         self.errors = [it for it in ERROR.findall(self.text) if not NAMES.search(it[2])]
 
     def fault(self):
@@ -52,9 +53,10 @@ class Said:
         path = "/".join(symbol.split("::")[1:])
         files = {f"{path}/{it}" for it in PROOF_FILES}
         found = [f"{file}.{goal}" for file, goal, _ in self.errors if file in files]
+        found += [f"{path}.{it}" for it in self.notes[symbol]]
         for names in SEARCHED.findall(self.lines[symbol]):
             found += [f"{path}.{it}" for it in re.findall(r"`([^`]+)`", names)]
-        return [it.replace("/", ".") for it in found]
+        return list(dict.fromkeys(it.replace("/", ".") for it in found))
 
     def all_goals(self):
         """The refused goals of all functions, and the refused lemmas that some function stands on."""
@@ -63,6 +65,20 @@ class Said:
                  for it in re.findall(r"`Rattle\.\w+\.proofs\.([^`]+)`", names)]
         own = [it for symbol in self.lines for it in self.goals(symbol)]
         return list(dict.fromkeys(own + [it for it in cited if it in lemmas]))
+
+
+def _functions(text):
+    """What is said of each function, and the goals that the notes above its line name, by the function's name."""
+    lines, notes, waiting = {}, {}, []
+    for line in text.split("\n"):
+        note, item = NOTE.match(line), ITEM.match(line)
+        if note:
+            waiting.append(note[1])
+        elif item:
+            if item[1] == "fn":
+                lines[item[2]], notes[item[2]] = item[3], waiting
+            waiting = []
+    return lines, notes
 
 
 def _is_of(function, words):

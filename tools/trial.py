@@ -98,14 +98,17 @@ def main(top, names):
     if unknown:
         print(f"wrong-bodies: no such crate: {', '.join(sorted(unknown))}", file=sys.stderr)
         return 2
-    chosen = [it for it in crates if it.name in names or not names and edits_of.names_of(it)]
-    held = rtlib.lock(libraries.below(chosen))
+    chosen = [it for it in crates if edits_of.names_of(it) and (not names or it.name in names)]
+    held = rtlib.lock([*libraries.below(chosen), *chosen])
     given = rt.in_lanes(tasks_of(chosen))
     del held
-    counts = [given[it.name, "wrong"] for it in chosen]
-    for crate, count in zip(chosen, counts):
-        if count is None:
-            print(f"{crate.name}: a library below it is not proved")
-    edits, refused = (sum(it[at] for it in counts if it) for at in (0, 1))
+    return summed(chosen, [given[it.name, "wrong"] for it in chosen])
+
+
+def summed(crates, counts):
+    """Prints what came of all, and gives the exit status: 0 only where there are edits and each was refused."""
+    for crate in (it for it, count in zip(crates, counts) if count is None):
+        print(f"{crate.name}: a library below it is not proved, and no edit was tried")
+    edits, refused = (sum(count[at] for count in counts if count) for at in (0, 1))
     print(f"{edits} wrong bodies, {refused} refused at goals of their own")
-    return 0 if edits == refused and None not in counts else 1
+    return 0 if edits and edits == refused and None not in counts else 1
