@@ -38,11 +38,35 @@ class Edit:
     is_inside: bool
 
 
+class Function:
+    """A function with a body, as the kit has read it, and the modules under which a check may name it.
+
+    A method goes by the module of its type, wherever its `impl` stands.
+    """
+
+    def __init__(self, read, types):
+        self.name, self.file, self.block, self.in_trait = read.name, read.file, read.block, read.in_trait
+        self.first, self.opens, self.end = read.first, read.opens, read.end
+        self.owner = read.owner if read.block else ""
+        self.modules = {read.module} | {module for module, *_ in types.get(self.owner, [])}
+
+    def is_called(self, words):
+        """Whether these words, what a check's name has below its module, are this function's."""
+        if not self.block:
+            return words == [self.name]
+        return words[1:] == [self.name] and self._is_owned_by(words[0])
+
+    def _is_owned_by(self, word):
+        if self.in_trait:
+            return word != self.owner and self.block.fits(word)
+        return word == self.owner
+
+
 def functions_of(folder):
-    """The functions of a crate's src/ that have a body, as the kit reads them."""
+    """The functions of a crate's src/ that have a body."""
     source = bodies.Source(folder)
     source.read("src/main.rt" if os.path.isfile(f"{folder}/src/main.rt") else "src/lib.rt")
-    return [it for it in source.functions if it.has_body]
+    return [Function(it, source.declared) for it in source.functions if it.has_body]
 
 
 def names_of(crate):

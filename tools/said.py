@@ -43,10 +43,16 @@ class Said:
 
     def symbols(self, function):
         """The check's names for a function, and for the closures in it."""
-        start = "::".join([self.crate.name, *function.module, ""])
-        parts = {it: it[len(start) :].split("::") for it in self.lines if it.startswith(start)}
-        own = [it for it, words in parts.items() if _is_of(function, words)]
-        return own + [it for it, words in parts.items() if words[0] == "fn" and _is_of(function, words[1:-1])]
+        return [it for module in function.modules for it in self.lines if self._is_in(module, function, it)]
+
+    def _is_in(self, module, function, symbol):
+        start = [self.crate.name, *module]
+        words = symbol.split("::")
+        words, inner = words[: len(start)], words[len(start) :]
+        if words != start:
+            return False
+        # A closure's name has the function's behind a word `fn`, and then its own.
+        return function.is_called(inner) or inner[:1] == ["fn"] and function.is_called(inner[1:-1])
 
     def goals(self, symbol):
         """The goals of this function's own that were refused: those of its proof's files, and those without a proof."""
@@ -79,18 +85,3 @@ def _functions(text):
                 lines[item[2]], notes[item[2]] = item[3], waiting
             waiting = []
     return lines, notes
-
-
-def _is_of(function, words):
-    """Whether these words, a name's below its module, are those of the function."""
-    if not words or words[-1] != function.name:
-        return False
-    if function.block is None:
-        return len(words) == 1
-    return len(words) == 2 and _fits(function, words[0])
-
-
-def _fits(function, owner):
-    if function.in_trait:
-        return function.block.fits(owner) and owner != function.owner
-    return owner == function.owner
