@@ -29,7 +29,7 @@ def _is_left(library):
 
 
 def unbuilt(libraries):
-    """Those that are still to be built. Where `rt ci` has left them all, there are none, else they lie in a folder apart."""
+    """Those that are still to be built: none where `rt ci` has left them all, else those that a folder apart lacks."""
     if are_left_by_gate(libraries):
         return []
     for it in libraries:

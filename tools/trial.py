@@ -80,10 +80,20 @@ def tried(crate, jobs):
     return len(lines), sum(it.is_well for it in verdicts)
 
 
+def built(library, jobs):
+    """Builds a library, and tells what the prover said where it isn't proved; gives whether it is."""
+    with tempfile.TemporaryFile("w+", errors="replace") as log:
+        if libraries.build(library, jobs, log):
+            return True
+        log.seek(0)
+        print(log.read(), end="", file=sys.stderr)
+    return False
+
+
 def tasks_of(crates):
     """What is to be run: the libraries that are not there, and each crate's trial over those below it."""
     left = libraries.unbuilt(libraries.below(crates))
-    tasks = libraries.tasks(left, lambda it, jobs: libraries.build(it, jobs, sys.stderr))
+    tasks = libraries.tasks(left, built)
     for it in crates:
         waits = [(dep.name, "library") for dep in it.below() if dep in left]
         call = lambda given, jobs, it=it, waits=waits: tried(it, jobs) if all(given[key] for key in waits) else None
