@@ -63,19 +63,21 @@ def linked(program, jobs, log):
     return True
 
 
-def built(top, log):
-    """Builds all that isn't built of these sources yet, and then the program; gives whether that was done."""
+def failed(top, log):
+    """Builds all that isn't built of these sources yet, and the program; gives the crate that is not proved, if any."""
     program = named(kit.crates_of(top))
     needed = program.below()
     held = rtlib.lock([*needed, program])
     left = libraries.unbuilt(needed)
     progress = Progress(len(left) + 1)
     call = lambda it, jobs: progress.at(it.name, lambda: libraries.build(it, jobs, log))
-    well = all(rt.in_lanes(libraries.tasks(left, call)).values())
-    well = well and progress.at(NAME, lambda: linked(program, rt.processors(), log))
+    given = rt.in_lanes(libraries.tasks(left, call))
+    lost = next((it.name for it in left if not given[it.name, "library"]), None)
+    if not lost and not progress.at(NAME, lambda: linked(program, rt.processors(), log)):
+        lost = NAME
     progress.end()
     del held
-    return well
+    return lost
 
 
 def main(top):
@@ -85,10 +87,10 @@ def main(top):
     print(f"{NAME}: building from source: everything is proved first. {DURATION}", file=sys.stderr)
     print(f"{NAME}: what the prover says goes to {path}", file=sys.stderr, flush=True)
     with open(path, "w", encoding="utf-8", errors="replace") as log:
-        well = built(top, log)
-    if well:
+        lost = failed(top, log)
+    if not lost:
         return 0
-    print(f"{NAME}: it could not be built; the end of {path} says why", file=sys.stderr)
+    print(f"{NAME}: it could not be built, since {lost} is not proved; {path} says why", file=sys.stderr)
     return 3
 
 
