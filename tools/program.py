@@ -11,7 +11,7 @@ from kit import rt, rtlib
 
 NAME = "vervainfile"
 LOG = "out/build.log"
-DURATION = "That takes a quarter of an hour on four fast cores, and longer on fewer."
+DURATION = "On four slow cores that took 20 minutes."
 
 
 class Progress:
