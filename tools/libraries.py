@@ -25,6 +25,7 @@ def _is_left(library):
     if not os.path.isfile(made):
         return False
     sources = [it for crate in [library, *library.below()] for it in rtlib.files_of(crate.folder)]
+    sources.append(f"{rtlib.root_above(library.folder)}/crates.txt")
     return os.path.getmtime(made) > max(map(os.path.getmtime, sources))
 
 
