@@ -39,5 +39,6 @@ pub mod SeenNames
 pub mod SeenTurns
 pub mod SeenRanges
 pub mod SeenBuffers
+pub mod RecordLaws
 pub mod SafetyRows
 pub mod WrongBodies

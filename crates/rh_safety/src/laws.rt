@@ -4,6 +4,7 @@ ghost use Rattle.rh_defs.specs.Laws.{Always};
 ghost use Rattle.rh_safety.specs.Alternation.{Alternates};
 ghost use Rattle.rh_safety.specs.Buffers.{HasBuffers, HasGoodRanges};
 ghost use Rattle.rh_safety.specs.Safe.{AlwaysSafe, ScriptsAreSafe};
+ghost use Rattle.rh_safety.specs.TaskRecords.{AreRecorded};
 
 /// After any commands: what a task holds of a transfer was offered, and the file begins with it; it
 /// is the whole file where the task's record says Done, and where a sender's record says so, it counts
@@ -24,4 +25,10 @@ pub fn buffer_law()
 /// records Done and the document equal to the source.
 pub fn alternation_law()
     ensures { Always Alternates }
+{}
+
+/// After any commands: the records of a live task stand in order of id, at most eight each way; what
+/// they name is there and long enough, each buffer for one transfer; and each busy block is live.
+pub fn record_law()
+    ensures { Always AreRecorded }
 {}
