@@ -1,25 +1,20 @@
 -- What a DataSave, a transmit, a bounce and the scrap file do keeps the invariant.
-use Rattle.std.proofs.Common.{nat_le, ◌≡◌, ◌≢◌, ℕ, suc, ◌+◌, ◌≤◌, ◌<◌, Bool, true, false, not, ◌&&◌, List, [], ◌++◌}
-use Rattle.std.proofs.Common.{length, take, drop, replicate, Option, Some, None, refl, sym, ap, ◌∙◌, subst, inl, inr}
+use Rattle.std.proofs.Common.{nat_le, ◌≡◌, ◌≢◌, ℕ, ◌+◌, ◌≤◌, ◌<◌, Bool, true, false, List, [], ◌++◌}
+use Rattle.std.proofs.Common.{length, take, drop, Option, Some, None, refl, sym, ap, ◌∙◌, subst, inl, inr}
 use Rattle.std.proofs.Common.{arith}
-use Rattle.std.proofs.lemmas.List.{length-replicate}
 use Rattle.std.proofs.lemmas.Grind.{common_steps}
-use Rattle.std.specs.Prelude.{if◌then◌else◌, nat_eq, nat_lt, is_none}
+use Rattle.std.specs.Prelude.{nat_eq}
 use Rattle.std.proofs.lemmas.Bool.Decides.{eqb_tells, leb_tells}
-use Rattle.rh_safety.proofs.Ends.{Plain, Recorded, Kind, DataSave, RamFetch, RamTransmit, DataSaveAck, DataLoad}
+use Rattle.rh_safety.proofs.Ends.{Plain, Recorded, DataSave, RamFetch, RamTransmit, DataSaveAck, DataLoad}
 use Rattle.rh_safety.proofs.Ends.{DataLoadAck, Letter, Message, Sending, Taking, Asked, Out, Open, Out_done}
 use Rattle.rh_safety.proofs.Ends.{Out_failed, In, Fetching, Draining, Asking, In_done, In_failed, out_id, in_id}
 use Rattle.rh_safety.proofs.Ends.{in_anchor, is_going, is_growing, Has, Active, put, how_many, one_more, with_id}
-use Rattle.rh_safety.proofs.Ends.{find_open, find_active, find_asking}
-use Rattle.rh_safety.proofs.Protocol.{Desk, Scrap, Luck, begun, can_begin, on_save, bytes_of, longer, goes_on}
-use Rattle.rh_safety.proofs.Protocol.{appended, extends, matches, given_up, on_transmit, is_fetch, asks, first_back}
-use Rattle.rh_safety.proofs.Protocol.{on_fetch_back, with_in, is_load, copied, loaded, loads, on_file, on_load}
-use Rattle.rh_safety.proofs.Protocol.{is_ack, on_ack_back, with_out, failed, is_last, on_out_back, asks_for, filed}
-use Rattle.rh_safety.proofs.Protocol.{files, on_ack, on_load_ack, came_back}
-use Rattle.rh_safety.proofs.Basics.{length_more, asking_is, put_same, put_other, same_value, none_some, none_of}
+use Rattle.rh_defs.specs.Receiver.{is_answer}
+use Rattle.rh_safety.proofs.Protocol.{Desk, Scrap, begun, ended, bytes_of, longer, fetched, given_up, with_in, copied}
+use Rattle.rh_safety.proofs.Protocol.{told, with_out, failed, filed}
+use Rattle.rh_safety.proofs.Basics.{length_more, put_same, put_other, same_value, none_some}
 use Rattle.rh_safety.proofs.Basics.{and_left, and_right, is_equal, take_more, Ascend, with_puts, with_ascends}
-use Rattle.rh_safety.proofs.Basics.{more_keeps, more_puts, more_ascends, open_is, FoundActive, fetches, drains}
-use Rattle.rh_safety.proofs.Basics.{active_is}
+use Rattle.rh_safety.proofs.Basics.{more_keeps, more_puts, more_ascends}
 use Rattle.rh_safety.proofs.Invariant.{LetterAck, LetterFile, Offered, Knows, Below, Offers, LetterOut, LetterIn}
 use Rattle.rh_safety.proofs.Invariant.{LetterCarries, LetterOlder, LetterAhead, Carries, Begins, Whole, Untouched}
 use Rattle.rh_safety.proofs.Invariant.{IsGood, Unread, Inv, IsWaiting, PendingAt, Good}
@@ -27,7 +22,7 @@ use Rattle.rh_safety.proofs.Moves.{Move, OutOk, BothOutOk, move_with, move_more,
 use Rattle.rh_safety.proofs.Sends.{few_put, few_here, few_with, sent_knows, put_ascends, order_out, one_active}
 use Rattle.rh_safety.proofs.Sends.{KeepsActive, Quiet, NewOut, out_inv, out_pending, NewFetch, fetch_inv}
 use Rattle.rh_safety.proofs.Sends.{fetch_pending}
-use Rattle.rh_safety.proofs.Endings.{asked_over, tell_good, asked_good, lost_good, put2_other, put2_same, keeps_with}
+use Rattle.rh_safety.proofs.Endings.{asked_over, tell_good, lost_good, put2_other, put2_same, keeps_with}
 use Rattle.rh_safety.proofs.Endings.{Ends, ended_good, active_id, heap_inv}
 
 -- a letter that was known when it was taken
@@ -65,7 +60,7 @@ waiting_active {o} {e} {d} h i g never s x q l k from same =
     w.newer l w.unread w.free
 
 -- a reader of the transmit that answers its fetch waits for nothing
-read_quiet : {o : Offered} {e : ℕ → ℕ → Bool} {d : Desk} (h : ℕ) (t : Taking) (n : Letter) → Active (d.taking h) t →
+pub read_quiet : {o : Offered} {e : ℕ → ℕ → Bool} {d : Desk} (h : ℕ) (t : Taking) (n : Letter) → Active (d.taking h) t →
     n.kind ≡ RamTransmit → n.from ≡ t.sender → n.answers ≡ t.fetch → LetterOk o d n → Good o e d → Quiet d h t.id
 read_quiet {o} {e} {d} h t n act kind from answers ok g =
     waiting_active h t.id g (λ w a same s x q i sender newer l unread free.
@@ -96,35 +91,48 @@ keeps_more old h most i v r t act ne =
       | inr w ↦ rw w.0 act
     ]
 
-begun_good : {o : Offered} {e : ℕ → ℕ → Bool} {d : Desk} (h : ℕ) (luck : Luck) (l : Letter) → Good o e d →
-    Read o d h l → l.kind ≡ DataSave → d.block h luck.anchor ≡ None → d.heap h luck.address ≡ None →
-    how_many is_going (d.taking h) < d.most → Good o e (begun d h luck l)
-begun_good {o} {e} {d} h luck l g rd kind free_anchor free_address count =
+-- a first fetch was sent
+pub record Began (d : Desk) (h : ℕ) (l : Letter) (after : Desk) : Type 0 where
+  pub anchor : ℕ
+  pub address : ℕ
+  pub bytes : List ℕ
+  pub free_anchor : d.block h anchor ≡ None
+  pub free_address : d.heap h address ≡ None
+  pub size : d.buf h ≤ length bytes
+  pub few : how_many is_going (d.taking h) < d.most
+  pub seen : after ≡ begun d h anchor address bytes l
+
+pub began_good : {o : Offered} {e : ℕ → ℕ → Bool} {d : Desk} (h : ℕ) (l : Letter) → Good o e d → Read o d h l →
+    l.kind ≡ DataSave → (after : Desk) → Began d h l after → Good o e after
+began_good {o} {e} {d} h l g rd kind after b =
+    let anchor = b.anchor in
+    let address = b.address in
+    let bytes = b.bytes in
+    let size = b.size in
     let i = g.inv in
     let ok = rd.ok in
-    let bytes : List ℕ = replicate (d.buf h + luck.spare) 0 in
-    let bl : ℕ → ℕ → Option (List ℕ) = put d.block h (put (d.block h) luck.anchor (Some [])) in
-    let hp : ℕ → ℕ → Option (List ℕ) = put d.heap h (put (d.heap h) luck.address (Some bytes)) in
+    let bl : ℕ → ℕ → Option (List ℕ) = put d.block h (put (d.block h) anchor (Some [])) in
+    let hp : ℕ → ℕ → Option (List ℕ) = put d.heap h (put (d.heap h) address (Some bytes)) in
     let t : Taking = record {
       id = l.me;
       sender = l.from;
-      anchor = luck.anchor;
-      buffer = luck.address;
+      anchor = anchor;
+      buffer = address;
       count = 0;
       fetch = d.next_ref;
     } in
     let new : ℕ → List In = put d.taking h (one_more d.most is_going (d.taking h) (Fetching t)) in
     let of = ok.offers.some kind in
-    let no_buffer : (u : Taking) → Active (d.taking h) u → u.buffer ≢ luck.address = λ u a eq. let w = i.ins.buffer h
-    u a in none_some (d.heap h luck.address) free_address (subst (λ j. d.heap h j ≡ Some w.bytes) eq w.there) in
-    let no_document : (w : In) → Has w (d.taking h) → Untouched (e h) w → in_anchor w ≢ luck.anchor = λ w q u eq.
-    let z = has_block o w (d.block h (in_anchor w)) (i.ins.good h w q u) in none_some (d.block h luck.anchor)
-    free_anchor (subst (λ j. d.block h j ≡ Some z.0) eq z.1) in
-    let no_source : (x : Sending) → Has (Open x) (d.sending h) → x.anchor ≢ luck.anchor = λ x q eq. let w =
-    i.outs.source h x q in none_some (d.block h luck.anchor) free_anchor (subst (λ j. d.block h j ≡ Some w.all) eq
+    let no_buffer : (u : Taking) → Active (d.taking h) u → u.buffer ≢ address = λ u a eq. let w = i.ins.buffer h
+    u a in none_some (d.heap h address) b.free_address (subst (λ j. d.heap h j ≡ Some w.bytes) eq w.there) in
+    let no_document : (w : In) → Has w (d.taking h) → Untouched (e h) w → in_anchor w ≢ anchor = λ w q u eq.
+    let z = has_block o w (d.block h (in_anchor w)) (i.ins.good h w q u) in none_some (d.block h anchor)
+    b.free_anchor (subst (λ j. d.block h j ≡ Some z.0) eq z.1) in
+    let no_source : (x : Sending) → Has (Open x) (d.sending h) → x.anchor ≢ anchor = λ x q eq. let w =
+    i.outs.source h x q in none_some (d.block h anchor) b.free_anchor (subst (λ j. d.block h j ≡ Some w.all) eq
     w.there) in
     let d1 : Desk = record d { heap = hp } in
-    let step1 : Inv o e d1 = heap_inv h luck.address (Some bytes) no_buffer i in
+    let step1 : Inv o e d1 = heap_inv h address (Some bytes) no_buffer i in
     let quiet : Quiet d1 h l.me = λ s x q n k from eq.
     let w = g.pending s x q n (record {
       known = k.known;
@@ -151,36 +159,34 @@ begun_good {o} {e} {d} h luck l g rd kind free_anchor free_address count =
       ascends = subst (λ z. Ascend in_id z) (sym (put_same d.taking h (one_more d.most is_going (d.taking h)
           (Fetching t)))) (more_ascends in_id d.most is_going (d.taking h) (Fetching t) (i.order.ins h) rd.past);
       few = few_here d.taking h (one_more d.most is_going (d.taking h) (Fetching t)) (length_more d.most is_going
-          (d.taking h) (Fetching t) count (i.few.ins h));
+          (d.taking h) (Fetching t) b.few (i.few.ins h));
       elsewhere = put_other d.taking h (one_more d.most is_going (d.taking h) (Fetching t));
       born = me;
       above = rd.next_up;
       fresh = refl;
       old = me;
       handle = rd.handle;
-      sources = λ s x q. put2_other d.block h luck.anchor (Some []) s x.anchor (λ here. no_source x
+      sources = λ s x q. put2_other d.block h anchor (Some []) s x.anchor (λ here. no_source x
           (subst (λ j. Has (Open x) (d.sending j)) here q));
-      same = λ r w q ne u. put2_other d.block h luck.anchor (Some []) r (in_anchor w) (λ here. no_document w
+      same = λ r w q ne u. put2_other d.block h anchor (Some []) r (in_anchor w) (λ here. no_document w
           (subst (λ j. Has w (d.taking j)) here q) (subst (λ j. Untouched (e j) w) here u));
       begins = record {
         all = of.0;
         offered = of.1;
-        there = put2_same d.block h luck.anchor (Some []);
+        there = put2_same d.block h anchor (Some []);
         fits = omega arith;
       };
       buffer = record {
         bytes = bytes;
-        there = put2_same d.heap h luck.address (Some bytes);
-        size = let z : length
-            (replicate {A = ℕ} (d.buf h + luck.spare) 0) ≡ d.buf h + luck.spare = length-replicate
-            (d.buf h + luck.spare) 0 in omega arith;
+        there = put2_same d.heap h address (Some bytes);
+        size = size;
         below = omega arith;
       };
       buffers = λ u a ne. no_buffer u a;
       documents = λ w q u ne. no_document w q u;
       apart = no_source;
     } in
-    record {
+    subst (λ z. Good o e z) (sym b.seen) (record {
       inv = fetch_inv new bl h t l.me nf step1;
       pending = fetch_pending new bl h t l.me nf step1 quiet
           (λ s x q c f. let w = ok.out s x q in let same = w.same_id c kind in
@@ -194,32 +200,18 @@ begun_good {o} {e} {d} h luck l g rd kind free_anchor free_address count =
             fetches = k.fetches;
           }));
       born = λ j le. g.born j (omega arith);
-    }
-
-pub on_save_good : {o : Offered} {e : ℕ → ℕ → Bool} {d : Desk} (h : ℕ) (luck : Luck) (l : Letter) → Good o e d →
-    Read o d h l → l.kind ≡ DataSave → (b : Bool) → can_begin d h luck l ≡ b → Good o e (on_save d h luck l b)
-on_save_good h luck l g rd kind false q = g
-on_save_good {o} {e} {d} h luck l g rd kind true q =
-    let q1 = and_right (not (d.deaf h)) _ q in
-    let q2 = and_right (nat_lt (how_many is_going (d.taking h)) d.most) _ q1 in
-    let q3 = and_right (is_none (d.block h luck.anchor)) _ q2 in
-    begun_good h luck l g rd kind (none_of _ (and_left (is_none (d.block h luck.anchor)) _ q2))
-    (none_of _ (and_left (is_none (d.heap h luck.address)) _ q3))
-    (elim (leb_tells (suc (how_many is_going (d.taking h))) d.most) [
-      | inl w ↦ w.1
-      | inr w ↦ absurd (let a = w.0 in
-          let b = and_left (nat_lt (how_many is_going (d.taking h)) d.most) _ q1 in (cc))
-    ])
+    })
 
 -- ---- RAMTransmit
 
-record Matched (d : Desk) (h : ℕ) (t : Taking) (l : Letter) : Type 0 where
-  from : l.from ≡ t.sender
-  answers : l.answers ≡ t.fetch
-  address : l.address ≡ t.buffer
-  amount : l.amount ≤ d.buf h
+pub record Matched (d : Desk) (h : ℕ) (t : Taking) (l : Letter) : Type 0 where
+  pub from : l.from ≡ t.sender
+  pub answers : l.answers ≡ t.fetch
+  pub address : l.address ≡ t.buffer
+  pub amount : l.amount ≤ d.buf h
 
-matched : (d : Desk) (h : ℕ) (t : Taking) (l : Letter) → matches d h l t ≡ true → Matched d h t l
+pub matched : (d : Desk) (h : ℕ) (t : Taking) (l : Letter) → is_answer (d.buf h) l.from l.answers l.address l.amount t ≡ true →
+    Matched d h t l
 matched d h t l q =
     let q3 = and_left _ (nat_le l.amount (d.buf h)) q in
     let q2 = and_left _ (nat_eq l.address t.buffer) q3 in
@@ -332,21 +324,25 @@ beside_growing : {o : Offered} {e : ℕ → ℕ → Bool} {d : Desk} (h : ℕ) (
     in_anchor w ≢ in_anchor u
 beside_growing h w i is un u q y ne eq = ne (sym (i.ins.documents h u w q y is un eq))
 
-module _ {o : Offered} {e : ℕ → ℕ → Bool} {d : Desk} (h : ℕ) (luck : Luck) (t : Taking) (l : Letter) (g : Good o e d)
+module _ {o : Offered} {e : ℕ → ℕ → Bool} {d : Desk} (h : ℕ) (t : Taking) (l : Letter) (g : Good o e d)
     (rd : Read o d h l) (kind : l.kind ≡ RamTransmit) (is : Has (Fetching t) (d.taking h)) (m : Matched d h t l) where
   carries_here : Carries o l t (d.heap h) (d.buf h)
   carries_here = (rd.ok.carries h t is).carries kind m.answers m.from
 
-  here_quiet : Quiet d h t.id
+  pub here_quiet : Quiet d h t.id
   here_quiet = read_quiet h t l (inl is) kind m.from m.answers rd.ok g
 
-  goes_on_good : (b : Bool) → Good o e (goes_on (longer d h t l.amount) h t l b)
-  goes_on_good false =
+  -- the bytes are in the document, and no other fetch could be sent
+  pub stopped_good : Good o e (ended (longer d h t l.amount) h t (In_failed t.id t.anchor (t.count + l.amount)))
+  stopped_good =
       let w = grown {e = e} h t l g.inv is carries_here in
       ended_good (grown_block d h t l.amount) h t (In_failed t.id t.anchor (t.count + l.amount)) (inl is) here_quiet
       (end_of (grown_block d h t l.amount) h t.id t.anchor (t.count + l.amount) (Fetching t) is refl g.inv w.sources
       w.same (λ u. w.begins) (λ u q y ne f. beside_growing h (Fetching t) g.inv is tt u q y ne)) g
-  goes_on_good true =
+
+  -- the bytes are in the document, and the next fetch is sent
+  pub fetched_good : Good o e (fetched (longer d h t l.amount) h t l.amount l.me)
+  fetched_good =
       let i = g.inv in
       let w = grown {e = e} h t l i is carries_here in
       let u : Taking = record {
@@ -394,28 +390,17 @@ module _ {o : Offered} {e : ℕ → ℕ → Bool} {d : Desk} (h : ℕ) (luck : L
         born = λ j le. g.born j (omega arith);
       }
 
-  appended_good : (b : Bool) → nat_lt l.amount (d.buf h) ≡ b → Good o e (appended (longer d h t l.amount) h luck t l b)
-  appended_good true q =
+  -- the bytes were the last
+  pub finished_good : l.amount < d.buf h →
+      Good o e (ended (longer d h t l.amount) h t (In_done t.id t.anchor (t.count + l.amount)))
+  finished_good less =
       let w = grown {e = e} h t l g.inv is carries_here in
-      let less : l.amount < d.buf h = elim (leb_tells (suc l.amount) (d.buf h)) [
-        | inl a ↦ a.1
-        | inr a ↦ absurd
-            (let u = a.0 in (cc))
-      ] in
       ended_good (grown_block d h t l.amount) h t (In_done t.id t.anchor (t.count + l.amount)) (inl is) here_quiet
       (done_of (grown_block d h t l.amount) h t.id t.anchor (t.count + l.amount) (Fetching t) is refl g.inv w.sources
       w.same (w.short less) (beside_growing h (Fetching t) g.inv is tt)) g
-  appended_good false q = goes_on_good (luck.room_send && d.live t.sender)
-
-  extends_good : (b : Bool) → Good o e (extends d h luck t l b)
-  extends_good true = appended_good (nat_lt l.amount (d.buf h)) refl
-  extends_good false =
-      ended_good d.block h t (In_failed t.id t.anchor t.count) (inl is) here_quiet
-      (end_of d.block h t.id t.anchor t.count (Fetching t) is refl g.inv (λ s x q. refl) (λ r w q ne u. refl) (λ u.
-      g.inv.ins.good h (Fetching t) is tt) (λ u q y ne f. beside_growing h (Fetching t) g.inv is tt u q y ne)) g
 
 -- a Draining record, or one whose fetch is back, fails with the bytes that it has
-given_up_good : {o : Offered} {e : ℕ → ℕ → Bool} {d : Desk} (h : ℕ) (t : Taking) → Good o e d →
+pub given_up_good : {o : Offered} {e : ℕ → ℕ → Bool} {d : Desk} (h : ℕ) (t : Taking) → Good o e d →
     Active (d.taking h) t → Quiet d h t.id → Good o e (given_up d h t)
 given_up_good {o} {e} {d} h t g (inl is) quiet =
     ended_good d.block h t (In_failed t.id t.anchor t.count) (inl is) quiet
@@ -425,21 +410,6 @@ given_up_good {o} {e} {d} h t g (inr is) quiet =
     ended_good d.block h t (In_failed t.id t.anchor t.count) (inr is) quiet
     (end_of d.block h t.id t.anchor t.count (Draining t) is refl g.inv (λ s x q. refl) (λ r w q ne u. refl) (λ u.
     g.inv.ins.good h (Draining t) is u) (λ u q y ne f. beside_growing h (Draining t) g.inv is f u q y ne)) g
-
-transmit_found : {o : Offered} {e : ℕ → ℕ → Bool} {d : Desk} (h : ℕ) (luck : Luck) (l : Letter) → Good o e d →
-    Read o d h l → l.kind ≡ RamTransmit → (w : In) → FoundActive (matches d h l) (d.taking h) w →
-    Good o e (on_transmit d h luck l (Some w))
-transmit_found {o} {e} {d} h luck l g rd kind w (fetches t is q) = extends_good h luck t l g rd kind is (matched d h t
-    l q) luck.room_extend
-transmit_found {o} {e} {d} h luck l g rd kind w (drains t is q) = let m = matched d h t l q in given_up_good h t g
-    (inr is) (read_quiet h t l (inr is) kind m.from m.answers rd.ok g)
-
-pub on_transmit_good : {o : Offered} {e : ℕ → ℕ → Bool} {d : Desk} (h : ℕ) (luck : Luck) (l : Letter) → Good o e d →
-    Read o d h l → l.kind ≡ RamTransmit → (v : Option In) → find_active (matches d h l) (d.taking h) ≡ v →
-    Good o e (on_transmit d h luck l v)
-on_transmit_good h luck l g rd kind None q = g
-on_transmit_good {o} {e} {d} h luck l g rd kind (Some w) q = transmit_found h luck l g rd kind w
-    (active_is (matches d h l) (d.taking h) w q)
 
 -- ---- messages that came back
 
@@ -490,37 +460,6 @@ pub shut_good : {o : Offered} {e : ℕ → ℕ → Bool} {d : Desk} (h : ℕ) (x
 shut_good h x i others born is = over_good h x (Out_failed x.id x.count) refl tt tt (λ y q. let z : Open y ≡
     Out_failed x.id x.count = q in (cc)) i others born is
 
-pub on_out_back_good : {o : Offered} {e : ℕ → ℕ → Bool} {d : Desk} (h : ℕ) (p : Sending → Bool) → Good o e d →
-    (v : Option Sending) → find_open p (d.sending h) ≡ v → Good o e (on_out_back d h v)
-on_out_back_good h p g None q = g
-on_out_back_good {o} {e} {d} h p g (Some x) q = shut_good h x g.inv (λ s y r ne. g.pending s y r) g.born
-    (open_is p (d.sending h) x q).0
-
-first_back_good : {o : Offered} {e : ℕ → ℕ → Bool} {d : Desk} (h : ℕ) (luck : Luck) (t : Taking) →
-    Has (Fetching t) (d.taking h) → h < d.next_handle → Quiet d h t.id → Good o e d → (b : Bool) →
-    nat_eq t.count 0 ≡ b → Good o e (first_back d h luck t b)
-first_back_good h luck t is handle quiet g false q = given_up_good h t g (inl is) quiet
-first_back_good {o} {e} {d} h luck t is handle quiet g true q = asks_good (luck.room_send && d.live t.sender)
-  where
-    asks_good : (b : Bool) → Good o e (asks d h t b)
-    asks_good true = asked_good h t is (is_equal _ _ q) handle quiet g
-    asks_good false = given_up_good h t g (inl is) quiet
-
-fetch_back_found : {o : Offered} {e : ℕ → ℕ → Bool} {d : Desk} (h : ℕ) (luck : Luck) (me : ℕ) → Good o e d →
-    h < d.next_handle → ((t : Taking) → Active (d.taking h) t → me ≡ t.fetch → Quiet d h t.id) → (w : In) →
-    FoundActive (is_fetch me) (d.taking h) w → Good o e (on_fetch_back d h luck (Some w))
-fetch_back_found h luck me g handle back w (fetches t is q) = first_back_good h luck t is handle (back t (inl is)
-    (sym (is_equal _ _ q))) g (nat_eq t.count 0) refl
-fetch_back_found h luck me g handle back w (drains t is q) = given_up_good h t g (inr is) (back t (inr is)
-    (sym (is_equal _ _ q)))
-
-fetch_back_good : {o : Offered} {e : ℕ → ℕ → Bool} {d : Desk} (h : ℕ) (luck : Luck) (me : ℕ) → Good o e d →
-    h < d.next_handle → ((t : Taking) → Active (d.taking h) t → me ≡ t.fetch → Quiet d h t.id) → (v : Option In) →
-    find_active (is_fetch me) (d.taking h) ≡ v → Good o e (on_fetch_back d h luck v)
-fetch_back_good h luck me g handle back None q = g
-fetch_back_good {o} {e} {d} h luck me g handle back (Some w) q = fetch_back_found h luck me g handle back w
-    (active_is (is_fetch me) (d.taking h) w q)
-
 -- ---- the scrap file
 
 -- a record that waits for a file fails with no bytes
@@ -531,19 +470,14 @@ unasked_good {o} {e} {d} h q is g =
     (end_of d.block h q.id q.anchor 0 (Asking q) is refl g.inv (λ s x p. refl) (λ r w p ne u. refl) (λ u.
     g.inv.ins.good h (Asking q) is tt) (λ u p y ne f. beside_growing h (Asking q) g.inv is tt u p y ne)) g
 
-on_ack_back_good : {o : Offered} {e : ℕ → ℕ → Bool} {d : Desk} (h : ℕ) (p : Asked → Bool) → Good o e d →
-    (v : Option Asked) → find_asking p (d.taking h) ≡ v → Good o e (on_ack_back d h v)
-on_ack_back_good h p g None q = g
-on_ack_back_good {o} {e} {d} h p g (Some x) q = unasked_good h x (asking_is p (d.taking h) x q).0 g
-
 -- the source becomes the scrap file
-filed_good : {o : Offered} {e : ℕ → ℕ → Bool} {d : Desk} (h : ℕ) (l : Letter) (x : Sending) → Good o e d →
-    Read o d h l → l.kind ≡ DataSaveAck → Has (Open x) (d.sending h) → l.answers ≡ x.id → Good o e (filed d h l x)
-filed_good {o} {e} {d} h l x g rd kind is answers =
+pub filed_good : {o : Offered} {e : ℕ → ℕ → Bool} {d : Desk} (h : ℕ) (l : Letter) (x : Sending) (bytes : List ℕ) →
+    Good o e d → Read o d h l → l.kind ≡ DataSaveAck → Has (Open x) (d.sending h) → l.answers ≡ x.id →
+    d.block h x.anchor ≡ Some bytes → Good o e (filed d h l x bytes)
+filed_good {o} {e} {d} h l x bytes g rd kind is answers there =
     let i = g.inv in
     let w = i.outs.source h x is in
-    let bytes = bytes_of (d.block h x.anchor) in
-    let eq : bytes ≡ w.all = ap bytes_of w.there in
+    let eq : bytes ≡ w.all = same_value (d.block h x.anchor) there w.there in
     let y : Sending = record {
       id = x.id;
       recipient = x.recipient;
@@ -646,34 +580,18 @@ filed_good {o} {e} {d} h l x g rd kind is answers =
     some_is : {a b : Scrap} → Option.Some a ≡ Some b → a ≡ b
     some_is q = cc
 
-pub on_ack_good : {o : Offered} {e : ℕ → ℕ → Bool} {d : Desk} (h : ℕ) (luck : Luck) (l : Letter) → Good o e d →
-    Read o d h l → l.kind ≡ DataSaveAck → (v : Option Sending) → find_open (asks_for l) (d.sending h) ≡ v →
-    Good o e (on_ack d h luck l v)
-on_ack_good h luck l g rd kind None q = g
-on_ack_good {o} {e} {d} h luck l g rd kind (Some x) q = files_good (is_none d.scrap && (d.live x.recipient &&
-    luck.room_send))
-  where
-    files_good : (b : Bool) → Good o e (files d h l x b)
-    files_good true =
-        let w = open_is (asks_for l) (d.sending h) x q in
-        let q1 = and_left _ (nat_eq x.id x.last) w.1 in
-        filed_good h l x g rd kind w.0 (is_equal _ _ (and_right _ (nat_eq l.answers x.id) q1))
-    files_good false = shut_good h x g.inv (λ s y r ne. g.pending s y r) g.born (open_is (asks_for l) (d.sending h) x
-        q).0
-
-pub on_load_ack_good : {o : Offered} {e : ℕ → ℕ → Bool} {d : Desk} (h : ℕ) (p : Sending → Bool) → Good o e d →
-    (v : Option Sending) → find_open p (d.sending h) ≡ v → Good o e (on_load_ack d h v)
-on_load_ack_good h p g None q = g
-on_load_ack_good {o} {e} {d} h p g (Some x) q =
-    let is = (open_is p (d.sending h) x q).0 in
+-- all of the source was loaded
+pub loaded_good : {o : Offered} {e : ℕ → ℕ → Bool} {d : Desk} (h : ℕ) (x : Sending) (bytes : List ℕ) → Good o e d →
+    Has (Open x) (d.sending h) → d.block h x.anchor ≡ Some bytes →
+    Good o e (with_out d h x (Out_done x.id (length bytes)))
+loaded_good {o} {e} {d} h x bytes g is there =
     let w = g.inv.outs.source h x is in
-    let v = Out_done x.id (length (bytes_of (d.block h x.anchor))) in
-    over_good h x v refl (record { all = w.all; offered = w.offered; whole = ap (λ b. length (bytes_of b)) w.there })
-    tt (λ y r. let z : Open y ≡ Out_done x.id (length (bytes_of (d.block h x.anchor))) = r in (cc)) g.inv
-    (λ s y r ne. g.pending s y r) g.born is
+    let same : bytes ≡ w.all = same_value (d.block h x.anchor) there w.there in
+    over_good h x (Out_done x.id (length bytes)) refl (record { all = w.all; offered = w.offered; whole = ap length same })
+    tt (λ y r. let z : Open y ≡ Out_done x.id (length bytes) = r in (cc)) g.inv (λ s y r ne. g.pending s y r) g.born is
 
 -- the file is the document
-module _ {o : Offered} {e : ℕ → ℕ → Bool} {d : Desk} (h : ℕ) (luck : Luck) (l : Letter) (q : Asked) (g : Good o e d)
+module _ {o : Offered} {e : ℕ → ℕ → Bool} {d : Desk} (h : ℕ) (l : Letter) (q : Asked) (g : Good o e d)
     (rd : Read o d h l) (is : Has (Asking q) (d.taking h)) (bytes : List ℕ) (of : o q.id ≡ Some bytes) where
   abbrev with_file : ℕ → ℕ → Option (List ℕ)
   with_file = put d.block h (put (d.block h) q.anchor (Some (bytes_of (d.block h q.anchor) ++ bytes)))
@@ -694,8 +612,8 @@ module _ {o : Offered} {e : ℕ → ℕ → Bool} {d : Desk} (h : ℕ) (luck : L
       (λ here eq. ne here (g.inv.ins.documents h (Asking q) w is refl (subst (λ j. Has w (d.taking j)) here p)
       (subst (λ j. Untouched (e j) w) here u) eq))
 
-  loaded_good : (b : Bool) → Good o e (loaded (copied d h q bytes) h l q (length bytes) b)
-  loaded_good true =
+  pub told_good : Good o e (told (copied d h q bytes) h l q (length bytes))
+  told_good =
       let me = rd.ok.below.me in
       let handle = rd.handle in
       let g1 = lost_good (asked_over with_file h q (In_done q.id q.anchor (length bytes)) is
@@ -724,7 +642,10 @@ module _ {o : Offered} {e : ℕ → ℕ → Bool} {d : Desk} (h : ℕ) (luck : L
         not_transmit = λ k.
             let z : DataLoadAck ≡ RamTransmit = k in (cc);
       }) g1
-  loaded_good false =
+
+  -- the same, where the sender could not be told
+  pub untold_good : Good o e (with_in (copied d h q bytes) h q (In_failed q.id q.anchor (length bytes)))
+  untold_good =
       lost_good (asked_over with_file h q (In_failed q.id q.anchor (length bytes)) is
       (end_of with_file h q.id q.anchor (length bytes) (Asking q) is refl g.inv file_sources file_same (λ u.
       record {
@@ -735,42 +656,3 @@ module _ {o : Offered} {e : ℕ → ℕ → Bool} {d : Desk} (h : ℕ) (luck : L
         fits = omega arith;
       }) (λ u p y ne f. beside_growing h (Asking q)
       g.inv is tt u p y ne)) g)
-
-  loads_good : (b : Bool) → Good o e (loads d h luck l q bytes b)
-  loads_good true = loaded_good (luck.room_send && d.live q.sender)
-  loads_good false = unasked_good h q is g
-
-on_file_good : {o : Offered} {e : ℕ → ℕ → Bool} {d : Desk} (h : ℕ) (luck : Luck) (l : Letter) (q : Asked) →
-    Good o e d → Read o d h l → l.kind ≡ DataLoad → Has (Asking q) (d.taking h) → l.answers ≡ q.ack →
-    (v : Option Scrap) → d.scrap ≡ v → Good o e (on_file d h luck l q v)
-on_file_good h luck l q g rd kind is answers None s = g
-on_file_good {o} {e} {d} h luck l q g rd kind is answers (Some f) s = its_file (nat_eq f.load l.me) refl
-  where
-    its_file : (b : Bool) → nat_eq f.load l.me ≡ b →
-        Good o e (if b then loads d h luck l q f.bytes luck.room_extend else d)
-    its_file true r = loads_good h luck l q g rd is f.bytes ((rd.ok.file h q is).whole f s kind (sym (is_equal _ _ r))
-        answers) luck.room_extend
-    its_file false r = g
-
-pub on_load_good : {o : Offered} {e : ℕ → ℕ → Bool} {d : Desk} (h : ℕ) (luck : Luck) (l : Letter) → Good o e d →
-    Read o d h l → l.kind ≡ DataLoad → (v : Option Asked) → find_asking (is_load l) (d.taking h) ≡ v →
-    Good o e (on_load d h luck l v)
-on_load_good h luck l g rd kind None q = g
-on_load_good {o} {e} {d} h luck l g rd kind (Some x) q =
-    let w = asking_is (is_load l) (d.taking h) x q in
-    on_file_good h luck l x g rd kind w.0 (is_equal _ _ (and_right (nat_eq l.from x.sender) _ w.1)) d.scrap refl
-
-pub came_back_good : {o : Offered} {e : ℕ → ℕ → Bool} {d : Desk} (h : ℕ) (luck : Luck) (l : Letter) → Good o e d →
-    h < d.next_handle → ((t : Taking) → Active (d.taking h) t → l.me ≡ t.fetch → Quiet d h t.id) → (c : Kind) →
-    Good o e (came_back d h luck l c)
-came_back_good {o} {e} {d} h luck l g handle back DataSave = on_out_back_good h (is_last l.me) g
-    (find_open (is_last l.me) (d.sending h)) refl
-came_back_good {o} {e} {d} h luck l g handle back RamFetch = fetch_back_good h luck l.me g handle back
-    (find_active (is_fetch l.me) (d.taking h)) refl
-came_back_good {o} {e} {d} h luck l g handle back RamTransmit = on_out_back_good h (is_last l.me) g
-    (find_open (is_last l.me) (d.sending h)) refl
-came_back_good {o} {e} {d} h luck l g handle back DataSaveAck = on_ack_back_good h (is_ack l.me) g
-    (find_asking (is_ack l.me) (d.taking h)) refl
-came_back_good {o} {e} {d} h luck l g handle back DataLoad = on_out_back_good h (is_last l.me) g
-    (find_open (is_last l.me) (d.sending h)) refl
-came_back_good {o} {e} {d} h luck l g handle back DataLoadAck = g

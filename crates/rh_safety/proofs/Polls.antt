@@ -1,63 +1,58 @@
 -- A poll keeps the invariant.
 use Rattle.std.proofs.Common.{nat_le, ◌≡◌, ◌≢◌, ℕ, suc, ◌+◌, ◌≤◌, ◌<◌, Bool, true, false, List, ◌++◌, length, take}
 use Rattle.std.proofs.Common.{drop, Option, Some, None, refl, sym, ap, ◌∙◌, subst, ◌⊎◌, inl, inr, arith, length-drop}
-use Rattle.std.specs.Prelude.{nat_eq, nat_lt}
+use Rattle.std.specs.Prelude.{if◌then◌else◌, nat_eq, nat_lt}
 use Rattle.std.proofs.lemmas.Bool.Decides.{leb_tells, nat_tests}
 use Rattle.std.proofs.lemmas.Bool.{eq-eqb}
-use Rattle.rh_safety.proofs.Ends.{Code, Plain, Recorded, Returned, Kind, DataSave, RamFetch, RamTransmit, DataSaveAck}
-use Rattle.rh_safety.proofs.Ends.{DataLoad, DataLoadAck, Letter, Message, Sending, Taking, Out, Open, Out_done}
-use Rattle.rh_safety.proofs.Ends.{out_id, Has, Active, put, with_id, find_open, find_active, find_asking, first_for}
+use Rattle.rh_safety.proofs.Ends.{Code, Plain, Recorded, Returned, DataSave, RamFetch, RamTransmit}
+use Rattle.rh_safety.proofs.Ends.{Letter, Message, Sending, Taking, Out, Open, Out_done}
+use Rattle.rh_safety.proofs.Ends.{out_id, Has, Active, put, with_id, find_open, first_for}
 use Rattle.rh_safety.proofs.Ends.{without_first}
-use Rattle.rh_safety.proofs.Protocol.{Desk, Luck, returned, picked, can_begin, bytes_of, matches, is_load, failed}
-use Rattle.rh_safety.proofs.Protocol.{portion, moved, transmits, has_room, in_range, recipient_lives, would_answer}
-use Rattle.rh_safety.proofs.Protocol.{on_fetch, asks_for, is_loaded, on_fetch_by, came, handled, handed_out, lost_if}
-use Rattle.rh_safety.proofs.Protocol.{polled}
+use Rattle.rh_safety.proofs.Protocol.{sent, Desk, returned, picked, failed}
+use Rattle.rh_safety.proofs.Protocol.{portion, would_answer, lost_if}
 use Rattle.rh_safety.proofs.Basics.{put_all, put_same, put_other, and_left, and_right, is_equal, first_has}
 use Rattle.rh_safety.proofs.Basics.{length_take, front_written, length_written, Ascend, with_ascends, open_is}
-use Rattle.rh_safety.proofs.Basics.{open_none}
 use Rattle.rh_safety.proofs.Invariant.{Offered, queued, Knows, Unread, Inv, PendingAt, Good}
 use Rattle.rh_safety.proofs.Moves.{Move, move_with}
 use Rattle.rh_safety.proofs.Sends.{few_here, few_with, one_active, Quiet, OutPart, NewOut, out_inv, out_pending}
 use Rattle.rh_safety.proofs.Endings.{lost_good, put2_same, write_inv}
-use Rattle.rh_safety.proofs.Posts.{returned_good, OneMore, picked_known, picked_inv, picked_pending, first_below}
-use Rattle.rh_safety.proofs.Arrivals.{LetterOk, Read, on_save_good, on_transmit_good, shut_good, on_ack_good}
-use Rattle.rh_safety.proofs.Arrivals.{on_load_ack_good, on_load_good, came_back_good}
+use Rattle.rh_safety.proofs.Posts.{OneMore, picked_known, picked_inv, picked_pending, first_below}
+use Rattle.rh_safety.proofs.Arrivals.{LetterOk, Read, shut_good}
 
 -- ---- RAMFetch
 
 -- what the sender knows where it is to answer; the other records of task h that would answer the fetch are x alone
-record Called (o : Offered) (e : ℕ → ℕ → Bool) (d : Desk) (h : ℕ) (x : Sending) (l : Letter) : Type 0 where
-  inv : Inv o e d
-  others : (s : ℕ) (y : Sending) → Has (Open y) (d.sending s) → (s ≡ h → y.id ≢ x.id) → PendingAt d s y
-  born : (i : ℕ) → d.next_ref ≤ i → o i ≡ None
-  read : Read o d h l
-  is_open : Has (Open x) (d.sending h)
-  kind : l.kind ≡ RamFetch
-  from : l.from ≡ x.recipient
+pub record Called (o : Offered) (e : ℕ → ℕ → Bool) (d : Desk) (h : ℕ) (x : Sending) (l : Letter) : Type 0 where
+  pub inv : Inv o e d
+  pub others : (s : ℕ) (y : Sending) → Has (Open y) (d.sending s) → (s ≡ h → y.id ≢ x.id) → PendingAt d s y
+  pub born : (i : ℕ) → d.next_ref ≤ i → o i ≡ None
+  pub read : Read o d h l
+  pub is_open : Has (Open x) (d.sending h)
+  pub kind : l.kind ≡ RamFetch
+  pub from : l.from ≡ x.recipient
 
 -- the record that waits for the answer
-record Waiter (d : Desk) (h : ℕ) (x : Sending) (l : Letter) : Type 0 where
-  taking : Taking
-  is_active : Active (d.taking x.recipient) taking
-  same_id : taking.id ≡ x.id
-  sender : taking.sender ≡ h
-  names : taking.buffer ≡ l.address
-  amount : l.amount ≡ d.buf x.recipient
-  newer : x.last < taking.fetch
-  level : x.count ≡ taking.count
+pub record Waiter (d : Desk) (h : ℕ) (x : Sending) (l : Letter) : Type 0 where
+  pub taking : Taking
+  pub is_active : Active (d.taking x.recipient) taking
+  pub same_id : taking.id ≡ x.id
+  pub sender : taking.sender ≡ h
+  pub names : taking.buffer ≡ l.address
+  pub amount : l.amount ≡ d.buf x.recipient
+  pub newer : x.last < taking.fetch
+  pub level : x.count ≡ taking.count
 
-record Portion (source : List ℕ) (x : Sending) (l : Letter) (n : ℕ) : Type 0 where
-  within : n ≤ l.amount
-  fits : x.count + n ≤ length source
-  short : n < l.amount → x.count + n ≡ length source
+pub record Portion (source : List ℕ) (x : Sending) (l : Letter) (n : ℕ) : Type 0 where
+  pub within : n ≤ l.amount
+  pub fits : x.count + n ≤ length source
+  pub short : n < l.amount → x.count + n ≡ length source
 
-portion_ok : (source : List ℕ) (x : Sending) (l : Letter) → x.count ≤ length source →
+pub portion_ok : (source : List ℕ) (x : Sending) (l : Letter) → x.count ≤ length source →
     Portion source x l (portion source x l)
 portion_ok source x l le = record { within = omega arith; fits = omega arith; short = λ s. omega arith }
 
-module _ {o : Offered} {e : ℕ → ℕ → Bool} {d : Desk} (h : ℕ) (luck : Luck) (l : Letter) (x : Sending) (g : Called o e
-    d h x l) where
-  failed_good : Good o e (failed d h x)
+module _ {o : Offered} {e : ℕ → ℕ → Bool} {d : Desk} (h : ℕ) (l : Letter) (x : Sending) (g : Called o e d h x l) where
+  pub failed_good : Good o e (failed d h x)
   failed_good = shut_good h x g.inv g.others g.born g.is_open
 
   module _ (a : Waiter d h x l) where
@@ -72,16 +67,16 @@ module _ {o : Offered} {e : ℕ → ℕ → Bool} {d : Desk} (h : ℕ) (luck : L
               (g.inv.ins.buffers x.recipient u a.taking there a.is_active (sym (w.names f g.kind) ∙ sym a.names)),
         )
 
-    abbrev written : List ℕ → List ℕ → ℕ → Desk
-    written source old n = record d {
+    abbrev filled : List ℕ → List ℕ → ℕ → Desk
+    filled source old n = record d {
       heap = put d.heap x.recipient (put (d.heap x.recipient) l.address
           (Some (take n (drop x.count source) ++ drop n old)));
     }
 
-    abbrev told : ℕ → Code → Message
-    told n c = record {
+    abbrev told : ℕ → ℕ → Code → Message
+    told to n c = record {
       code = c;
-      to = x.recipient;
+      to = to;
       letter = record {
         from = h;
         me = d.next_ref;
@@ -92,12 +87,17 @@ module _ {o : Offered} {e : ℕ → ℕ → Bool} {d : Desk} (h : ℕ) (luck : L
       };
     }
 
+    -- the desk once n bytes went out, where the sender's record is v from then on
+    abbrev gone : ℕ → List ℕ → List ℕ → ℕ → Out → Code → Desk
+    gone to source old n v c =
+        sent (record (filled source old n) { sending = put d.sending h (with_id out_id x.id v (d.sending h)) }) h
+        (told to n c)
+
     -- n bytes are moved, and the sender's record is v from then on
-    moved_good : (source old : List ℕ) (n : ℕ) (v : Out) (c : Code) → o x.id ≡ Some source →
+    moved_good : (to : ℕ) (source old : List ℕ) (n : ℕ) (v : Out) (c : Code) → o x.id ≡ Some source →
         d.heap x.recipient l.address ≡ Some old → l.amount ≤ length old → Portion source x l n →
-        out_id v ≡ x.id → OutPart o (written source old n) h (told n c).letter v → Good o e (moved d h l x source old
-        n v c)
-    moved_good source old n v c of there room p same_id opens =
+        out_id v ≡ x.id → OutPart o (filled source old n) h (told to n c).letter v → Good o e (gone to source old n v c)
+    moved_good to source old n v c of there room p same_id opens =
         let i = g.inv in
         let r = x.recipient in
         let t = a.taking in
@@ -120,7 +120,7 @@ module _ {o : Offered} {e : ℕ → ℕ → Bool} {d : Desk} (h : ℕ) (luck : L
         let newer = a.newer in
         let late : u.fetch ≡ t.fetch = ap (λ (j : Taking). j.fetch) z in
         omega arith) i) in
-        let m : Message = told n c in
+        let m : Message = told to n c in
         let mv : Move out_id d.sending (put d.sending h (with_id out_id x.id v (d.sending h))) h v = move_with out_id
         d.sending h x.id v same_id in
         let sent_out : NewOut o d1 (put d.sending h (with_id out_id x.id v (d.sending h))) h m.letter v = record {
@@ -172,72 +172,55 @@ module _ {o : Offered} {e : ℕ → ℕ → Bool} {d : Desk} (h : ℕ) (luck : L
           born = λ j le. g.born j (omega arith);
         }
 
-    transmits_good : (source old : List ℕ) (n : ℕ) → source ≡ (g.inv.outs.source h x g.is_open).all →
+    -- a short answer is the last
+    pub answered_good : (to : ℕ) (source old : List ℕ) (n : ℕ) → source ≡ (g.inv.outs.source h x g.is_open).all →
         d.heap x.recipient l.address ≡ Some old → l.amount ≤ length old → Portion source x l n → (b : Bool) →
-        nat_lt n l.amount ≡ b → Good o e (transmits d h l x source old n b)
-    transmits_good source old n eq there room p true q =
-        let w = g.inv.outs.source h x g.is_open in
-        let of : o x.id ≡ Some source = w.offered ∙ ap (λ (j : List ℕ). Option.Some j) (sym eq) in
-        let less : n < l.amount = elim (leb_tells (suc n) l.amount) [
-          | inl b ↦ b.1
-          | inr b ↦ absurd (let u = b.0 in (cc))
-        ] in
-        moved_good source old n (Out_done x.id (x.count + n)) Plain of there room p refl (record {
-          all = source;
-          offered = of;
-          whole = p.short less;
-        })
-    transmits_good source old n eq there room p false q =
-        let w = g.inv.outs.source h x g.is_open in
-        let of : o x.id ≡ Some source = w.offered ∙ ap (λ (j : List ℕ). Option.Some j) (sym eq) in
-        let y : Sending = record {
-          id = x.id;
-          recipient = x.recipient;
-          anchor = x.anchor;
+        nat_lt n l.amount ≡ b →
+        Good o e (gone to source old n (if b then Out_done x.id (x.count + n) else Open (record x {
           count = x.count + n;
           last = d.next_ref;
-        } in
-        let born = g.inv.order.out_below h (Open x) g.is_open in
-        moved_good source old n (Open y) Recorded of there room p refl
-        (record {
-          last = refl;
-          same_id = λ k. absurd (let z : RamTransmit ≡ DataSave = k in (cc));
-          id = λ b u k r f. sym a.same_id ∙ ap (λ (j : Taking). j.id) (sym (which b u (inl r) f).1);
-          level = λ b u k r f. ap (λ j. j + n) (a.level ∙ ap (λ (j : Taking). j.count) (sym (which b u (inl r) f).1));
-          source = record {
-            all = source;
-            offered = of;
-            there = w.there ∙ ap (λ (j : List ℕ). Option.Some j) (sym eq);
-            fits = p.fits;
-            unread = λ r. absurd (omega arith);
-            below = omega arith;
-          };
-          apart = λ u r z. g.inv.boths.apart h x u g.is_open r z;
-        })
-
-    has_room_good : (old : List ℕ) → d.heap x.recipient l.address ≡ Some old → l.amount ≤ length old → (b : Bool) →
-        Good o e (has_room d h luck l x old b)
-    has_room_good old there room false = failed_good
-    has_room_good old there room true =
+        })) (if b then Plain else Recorded))
+    answered_good to source old n eq there room p b q =
         let w = g.inv.outs.source h x g.is_open in
-        let source : List ℕ = bytes_of (d.block h x.anchor) in
-        let eq : source ≡ w.all = ap bytes_of w.there in
-        let le : x.count ≤ length source = subst (λ (j : List ℕ). x.count ≤ length j) (sym eq) w.fits in
-        transmits_good source old (portion source x l) eq there room (portion_ok source x l le)
-        (nat_lt (portion source x l) l.amount) refl
-
-    in_range_good : (b : Option (List ℕ)) → d.heap x.recipient l.address ≡ b → Good o e (in_range d h luck l x b)
-    in_range_good None there = failed_good
-    in_range_good (Some old) there =
-        elim (leb_tells l.amount (length old)) [
-          | inl w ↦ rw w.0 (has_room_good old there w.1 luck.room_send)
-          | inr w ↦ rw w.0 failed_good
-        ]
-
-  lives_good : (d.live x.recipient ≡ true → Waiter d h x l) → (b : Bool) → d.live x.recipient ≡ b →
-      Good o e (recipient_lives d h luck l x b)
-  lives_good a true live = in_range_good (a live) (d.heap x.recipient l.address) refl
-  lives_good a false live = failed_good
+        let of : o x.id ≡ Some source = w.offered ∙ ap (λ (j : List ℕ). Option.Some j) (sym eq) in
+        by_length b q of
+      where
+        by_length : (b : Bool) → nat_lt n l.amount ≡ b → o x.id ≡ Some source →
+            Good o e (gone to source old n (if b then Out_done x.id (x.count + n) else Open (record x {
+              count = x.count + n;
+              last = d.next_ref;
+            })) (if b then Plain else Recorded))
+        by_length true q of =
+            let less : n < l.amount = elim (leb_tells (suc n) l.amount) [
+              | inl b ↦ b.1
+              | inr b ↦ absurd (let u = b.0 in (cc))
+            ] in
+            moved_good to source old n (Out_done x.id (x.count + n)) Plain of there room p refl (record {
+              all = source;
+              offered = of;
+              whole = p.short less;
+            })
+        by_length false q of =
+            let w = g.inv.outs.source h x g.is_open in
+            let born = g.inv.order.out_below h (Open x) g.is_open in
+            moved_good to source old n (Open (record x { count = x.count + n; last = d.next_ref })) Recorded of there
+            room p refl
+            (record {
+              last = refl;
+              same_id = λ k. absurd (let z : RamTransmit ≡ DataSave = k in (cc));
+              id = λ b u k r f. sym a.same_id ∙ ap (λ (j : Taking). j.id) (sym (which b u (inl r) f).1);
+              level = λ b u k r f. ap (λ j. j + n) (a.level ∙ ap (λ (j : Taking). j.count) (sym (which b u (inl r)
+                  f).1));
+              source = record {
+                all = source;
+                offered = of;
+                there = w.there ∙ ap (λ (j : List ℕ). Option.Some j) (sym eq);
+                fits = p.fits;
+                unread = λ r. absurd (omega arith);
+                below = omega arith;
+              };
+              apart = λ u r z. g.inv.boths.apart h x u g.is_open r z;
+            })
 
 pub would_true : (x : Sending) (l : Letter) → l.from ≡ x.recipient → l.answers ≡ x.last → 0 < l.amount →
     would_answer l x ≡ true
@@ -263,18 +246,19 @@ would_tells x l q =
 -- ---- polls
 
 -- what a handler is given: the desk after the taking, and the letter taken
-record Taken (o : Offered) (e : ℕ → ℕ → Bool) (d : Desk) (h : ℕ) (l : Letter) : Type 0 where
-  inv : Inv o e d
-  born : (i : ℕ) → d.next_ref ≤ i → o i ≡ None
-  read : Read o d h l
+pub record Taken (o : Offered) (e : ℕ → ℕ → Bool) (d : Desk) (h : ℕ) (l : Letter) : Type 0 where
+  pub inv : Inv o e d
+  pub born : (i : ℕ) → d.next_ref ≤ i → o i ≡ None
+  pub read : Read o d h l
   -- nothing was lost for a record that would not answer it
-  others : (s : ℕ) (x : Sending) → Has (Open x) (d.sending s) →
+  pub others : (s : ℕ) (x : Sending) → Has (Open x) (d.sending s) →
       (s ≡ h → l.kind ≡ RamFetch → would_answer l x ≡ true → d.file h ≡ false → ⊥) → PendingAt d s x
   -- and where one would, the fetch's sender still holds the buffer
-  waiter : (x : Sending) → Has (Open x) (d.sending h) → l.kind ≡ RamFetch → would_answer l x ≡ true →
+  pub waiter : (x : Sending) → Has (Open x) (d.sending h) → l.kind ≡ RamFetch → would_answer l x ≡ true →
       d.file h ≡ false → d.live x.recipient ≡ true → Waiter d h x l
 
-not_fetch_good : {o : Offered} {e : ℕ → ℕ → Bool} {d : Desk} (h : ℕ) (l : Letter) → Taken o e d h l →
+-- another letter than a fetch
+pub not_fetch_good : {o : Offered} {e : ℕ → ℕ → Bool} {d : Desk} (h : ℕ) (l : Letter) → Taken o e d h l →
     (l.kind ≡ RamFetch → ⊥) → Good o e d
 not_fetch_good h l t other = record {
   inv = t.inv;
@@ -282,20 +266,23 @@ not_fetch_good h l t other = record {
   born = t.born;
 }
 
-module _ {o : Offered} {e : ℕ → ℕ → Bool} {d : Desk} (h : ℕ) (luck : Luck) (l : Letter) (t : Taken o e d h l) where
-  on_fetch_good : l.kind ≡ RamFetch → d.file h ≡ false → (v : Option Sending) →
-      find_open (would_answer l) (d.sending h) ≡ v → Good o e (on_fetch d h luck l v)
-  on_fetch_good k file None q = record {
+module _ {o : Offered} {e : ℕ → ℕ → Bool} {d : Desk} (h : ℕ) (l : Letter) (t : Taken o e d h l) where
+  -- a fetch that no record would answer
+  pub unanswered_good : ((x : Sending) → Has (Open x) (d.sending h) → would_answer l x ≡ true → d.file h ≡ false → ⊥) →
+      Good o e d
+  unanswered_good none = record {
     inv = t.inv;
-    pending = λ s x r. t.others s x r (λ here c f y.
-        let z : would_answer l x ≡ false = open_none (would_answer l) (d.sending h) x q
-        (subst (λ j. Has (Open x) (d.sending j)) here r) in let u : Bool.true ≡ false = sym f ∙ z in absurd (cc));
+    pending = λ s x r. t.others s x r (λ here c f y. none x (subst (λ j. Has (Open x) (d.sending j)) here r) f y);
     born = t.born;
   }
-  on_fetch_good k file (Some x) q =
+
+  -- a fetch that a record answers
+  pub called : l.kind ≡ RamFetch → d.file h ≡ false → (x : Sending) → find_open (would_answer l) (d.sending h) ≡ Some x →
+      Called o e d h x l
+  called k file x q =
       let w = open_is (would_answer l) (d.sending h) x q in
       let u = would_tells x l w.1 in
-      lives_good h luck l x (record {
+      record {
         inv = t.inv;
         others = λ s y r ne. t.others s y r (λ here c f n. ne here (t.inv.outs.lasts h y x
             (subst (λ j. Has (Open y) (d.sending j)) here r) w.0 (sym (would_tells y l f).answers ∙ u.answers)));
@@ -304,31 +291,9 @@ module _ {o : Offered} {e : ℕ → ℕ → Bool} {d : Desk} (h : ℕ) (luck : L
         is_open = w.0;
         kind = k;
         from = u.from;
-      }) (t.waiter x w.0 k w.1 file) (d.live x.recipient) refl
+      }
 
-  on_fetch_by_good : l.kind ≡ RamFetch → (b : Bool) → d.file h ≡ b → Good o e (on_fetch_by d h luck l b)
-  on_fetch_by_good k true q = record {
-    inv = t.inv;
-    pending = λ s x r. t.others s x r (λ here c f y.
-        let z : Bool.true ≡ false = sym q ∙ y in absurd (cc));
-    born = t.born;
-  }
-  on_fetch_by_good k false q = on_fetch_good k q (find_open (would_answer l) (d.sending h)) refl
-
-  came_good : (c : Kind) → l.kind ≡ c → Good o e (came d h luck l c)
-  came_good DataSave q = on_save_good h luck l (not_fetch_good h l t (λ c. let z : DataSave ≡ RamFetch = sym q ∙ c in
-      (cc))) t.read q (can_begin d h luck l) refl
-  came_good RamFetch q = on_fetch_by_good q (d.file h) refl
-  came_good RamTransmit q = on_transmit_good h luck l (not_fetch_good h l t (λ c. let z : RamTransmit ≡ RamFetch =
-      sym q ∙ c in (cc))) t.read q (find_active (matches d h l) (d.taking h)) refl
-  came_good DataSaveAck q = on_ack_good h luck l (not_fetch_good h l t (λ c. let z : DataSaveAck ≡ RamFetch = sym q ∙
-      c in (cc))) t.read q (find_open (asks_for l) (d.sending h)) refl
-  came_good DataLoad q = on_load_good h luck l (not_fetch_good h l t (λ c. let z : DataLoad ≡ RamFetch = sym q ∙ c in
-      (cc))) t.read q (find_asking (is_load l) (d.taking h)) refl
-  came_good DataLoadAck q = on_load_ack_good h (is_loaded l) (not_fetch_good h l t (λ c. let z : DataLoadAck ≡
-      RamFetch = sym q ∙ c in (cc))) (find_open (is_loaded l) (d.sending h)) refl
-
-module _ {o : Offered} {e : ℕ → ℕ → Bool} {d : Desk} (h : ℕ) (luck : Luck) (m : Message) (g : Good o e d)
+module _ {o : Offered} {e : ℕ → ℕ → Bool} {d : Desk} (h : ℕ) (m : Message) (g : Good o e d)
     (is_first : first_for h d.queue ≡ Some m) (handle : h < d.next_handle) where
   here : Has m d.queue
   here = (first_has h d.queue m is_first).0
@@ -352,7 +317,7 @@ module _ {o : Offered} {e : ℕ → ℕ → Bool} {d : Desk} (h : ℕ) (luck : L
         file = i.loads.file m.letter k;
       }
 
-  taken : Unread m → (hd : ℕ → Option Message) → OneMore d.held hd m → Taken o e (record d {
+  pub taken : Unread m → (hd : ℕ → Option Message) → OneMore d.held hd m → Taken o e (record d {
     queue = without_first h d.queue;
     held = hd;
   }) h m.letter
@@ -403,62 +368,47 @@ module _ {o : Offered} {e : ℕ → ℕ → Bool} {d : Desk} (h : ℕ) (luck : L
         };
   }
 
-  back_good : m.code ≡ Returned → Good o e (handled (picked d h m Returned) h luck m.letter Returned)
-  back_good code =
-      let hd = d.held in
-      let d1 : Desk = record d { queue = without_first h d.queue; held = hd } in
-      let one : OneMore d.held hd m = λ k y q. inl q in
-      let good : Good o e d1 = record {
-        inv = picked_inv h m hd here one g.inv;
-        pending = λ s x q. picked_pending h m hd here one g.inv s x (λ l a f pos wait n file. let z : Returned ≡
-            Recorded = sym code ∙ wait.code in (cc)) (g.pending s x q);
-        born = g.born;
-      } in
-      let quiet : (t : Taking) → Active (d.taking h) t → m.letter.me ≡ t.fetch → Quiet d1 h t.id = λ t act eq s x q l
-      k from same.
-      let w = g.pending s x q l (record {
-        known = picked_known d h m hd here one l k.known;
-        kind = k.kind;
-        answers = k.answers;
-        from = k.from;
-        live = k.live;
-        fetches = k.fetches;
-      }) in
-      let z : w.taking ≡ t = one_active (d.taking h) w.taking t (g.inv.order.ins h) (subst (λ j. Active (d.taking j)
-      w.taking) from w.is_active) act (w.same_id ∙ same) in
-      let wait = w.unread m here (eq ∙ ap (λ (y : Taking). y.fetch) (sym z)) in
-      let y : Returned ≡ Recorded = sym code ∙ wait.code in absurd (cc) in
-      came_back_good h luck m.letter good handle quiet m.letter.kind
+  -- a message that came back
+  pub back_ready : m.code ≡ Returned → Good o e (picked d h m Returned) × ((t : Taking) → Active (d.taking h) t →
+      m.letter.me ≡ t.fetch → Quiet (picked d h m Returned) h t.id)
+  back_ready code =
+      let one : OneMore d.held d.held m = λ k y q. inl q in (
+        record {
+          inv = picked_inv h m d.held here one g.inv;
+          pending = λ s x q. picked_pending h m d.held here one g.inv s x (λ l a f pos wait n file. let z : Returned ≡
+              Recorded = sym code ∙ wait.code in (cc)) (g.pending s x q);
+          born = g.born;
+        },
+        λ t act eq s x q l k from same.
+            let w = g.pending s x q l (record {
+              known = picked_known d h m d.held here one l k.known;
+              kind = k.kind;
+              answers = k.answers;
+              from = k.from;
+              live = k.live;
+              fetches = k.fetches;
+            }) in
+            let z : w.taking ≡ t = one_active (d.taking h) w.taking t (g.inv.order.ins h) (subst (λ j.
+            Active (d.taking j) w.taking) from w.is_active) act (w.same_id ∙ same) in
+            let wait = w.unread m here (eq ∙ ap (λ (y : Taking). y.fetch) (sym z)) in
+            let y : Returned ≡ Recorded = sym code ∙ wait.code in absurd (cc),
+      )
 
-  handled_good : (c : Code) → m.code ≡ c → Good o e (handled (picked d h m c) h luck m.letter c)
-  handled_good Plain q = came_good h luck m.letter (taken (λ r. let z : Plain ≡ Returned = sym q ∙ r in (cc)) d.held
-      (λ k y r. inl r)) m.letter.kind refl
-  handled_good Recorded q = came_good h luck m.letter (taken (λ r. let z : Recorded ≡ Returned = sym q ∙ r in (cc))
-      (put d.held h (Some m)) (λ k y r. put_all (λ j z. z ≡ Some y → (d.held j ≡ Some y) ⊎ (m ≡ y)) d.held h (Some m)
-      (λ a. inr (let z : m ≡ y = cc in z)) (λ j ne a. inl a) k r)) m.letter.kind refl
-  handled_good Returned q = back_good q
+  -- a message that wants no answer, or is held
+  pub came_taken : (c : Code) → m.code ≡ c → (c ≡ Returned → ⊥) → Taken o e (picked d h m c) h m.letter
+  came_taken Plain q ne = taken (λ r. ne (sym q ∙ r)) d.held (λ k y r. inl r)
+  came_taken Recorded q ne = taken (λ r. ne (sym q ∙ r)) (put d.held h (Some m)) (λ k y r. put_all (λ j z. z ≡ Some y →
+      (d.held j ≡ Some y) ⊎ (m ≡ y)) d.held h (Some m) (λ a. inr (let z : m ≡ y = cc in z)) (λ j ne a. inl a) k r)
+  came_taken Returned q ne = absurd (ne refl)
 
-handed_out_good : {o : Offered} {e : ℕ → ℕ → Bool} {d : Desk} (h : ℕ) (luck : Luck) → Good o e d → h < d.next_handle →
-    (v : Option Message) → first_for h d.queue ≡ v → Good o e (handed_out d h luck v)
-handed_out_good h luck g handle None q = g
-handed_out_good {o} {e} {d} h luck g handle (Some m) q = handled_good h luck m g q handle m.code refl
-
-lost_if_good : {o : Offered} {e : ℕ → ℕ → Bool} {d : Desk} (b : Bool) → Good o e d → Good o e (lost_if b d)
+pub lost_if_good : {o : Offered} {e : ℕ → ℕ → Bool} {d : Desk} (b : Bool) → Good o e d → Good o e (lost_if b d)
 lost_if_good true g = lost_good g
 lost_if_good false g = g
 
-lost_if_handle : (d : Desk) (b : Bool) (h : ℕ) → h < d.next_handle → h < (lost_if b d).next_handle
+pub lost_if_handle : (d : Desk) (b : Bool) (h : ℕ) → h < d.next_handle → h < (lost_if b d).next_handle
 lost_if_handle d true h lt = lt
 lost_if_handle d false h lt = lt
 
-returned_handle : (d : Desk) (v : Option Message) (h k : ℕ) → k < d.next_handle → k < (returned d h v).next_handle
+pub returned_handle : (d : Desk) (v : Option Message) (h k : ℕ) → k < d.next_handle → k < (returned d h v).next_handle
 returned_handle d None h k lt = lt
 returned_handle d (Some m) h k lt = lt
-
-pub polled_good : {o : Offered} {e : ℕ → ℕ → Bool} {d : Desk} (h : ℕ) (luck : Luck) → Good o e d → h < d.next_handle →
-    Good o e (polled d h luck)
-polled_good {o} {e} {d} h luck g handle =
-    let d1 : Desk = returned d h (d.held h) in
-    let d2 : Desk = lost_if luck.lost d1 in
-    handed_out_good {d = d2} h luck (lost_if_good luck.lost (returned_good h (d.held h) refl g)) (lost_if_handle d1
-    luck.lost h (returned_handle d (d.held h) h h handle)) (first_for h d2.queue) refl

@@ -1,12 +1,11 @@
--- What a message does, as a step of the reduced desk: what each handler of a poll is shown to be.
-use Rattle.std.proofs.Common.{length-append, drop, ◌≡◌, ℕ, ◌+◌, ◌-◌, Bool, true, false, List, [], ◌∷◌, ◌++◌, length}
+-- A record that ends with its buffer, and a document with more bytes at its end, as they are seen.
+use Rattle.std.proofs.Common.{length-append, drop, ◌≡◌, ℕ, ◌+◌, ◌-◌, true, List, [], ◌∷◌, ◌++◌, length}
 use Rattle.std.proofs.Common.{take, Option, Some, None, refl, sym, ap, ◌∙◌, subst, inl, inr, arith}
 use Rattle.std.specs.Prelude.{Ok, Err}
 use Rattle.std.specs.Option.{option_map}
 use Rattle.std.proofs.lemmas.Bool.Decides.{eqb_tells}
 use Rattle.std.proofs.lemmas.List.{take_all, drop_all, length-replicate, append-nil}
 use Rattle.std.proofs.Math.Seq.{take-append_seam}
-use Rattle.rh_defs.specs.declared.message.Action.{Action}
 use Rattle.rh_defs.specs.declared.message.Body.{Body}
 use Rattle.rh_defs.specs.declared.transfer.Taking.{Taking}
 use Rattle.rh_defs.specs.declared.transfer.Incoming.{Incoming}
@@ -18,13 +17,10 @@ use Rattle.rh_defs.specs.Slot.{Slot, Flex, weight, flex_start, heap_start, heap_
 use Rattle.rh_defs.specs.Slot.{slot_release, slot_extend, slot_put}
 use Rattle.rh_defs.specs.Messages.{Parcel, action_of}
 use Rattle.rh_defs.specs.Desk.{Desk, Task, free_pages, with_task, with_slot}
-use Rattle.rh_defs.specs.OutgoingEvents.{Handled}
 use Rattle.rh_defs.specs.IncomingEvents.{without_buffer, ended, appended}
 use Rattle.rh_safety.proofs.View.{view, address_in, amount_in, blocks_of, buffers_of, task_of}
-use Rattle.rh_safety.specs.Alternation.{is_refusal}
 use Rattle.rh_safety.proofs.Ends.{Letter, put}
 use Rattle.rh_safety.proofs.Protocol as protocol
-use Rattle.rh_safety.proofs.Protocol.{Luck}
 use Rattle.rh_safety.proofs.FlexMaps as flex
 use Rattle.rh_safety.proofs.Basics.{put_same}
 use Rattle.rh_safety.proofs.SeenTasks.{Same, unput, live_of, slot_is, slot_at, block_view, buffer_view, ins_view}
@@ -33,7 +29,7 @@ use Rattle.rh_safety.proofs.SeenBlocks.{put_over}
 use Rattle.rh_safety.proofs.SeenSends.{with_step}
 use Rattle.rh_safety.proofs.SeenHeaps.{release_is, gone_map, gone_still}
 
--- ---- what is shown
+-- ---- letters
 
 -- the letter of a message with this body
 abbrev pub letter_of : Parcel → Body → Letter
@@ -45,53 +41,6 @@ letter_of m b = record {
   address = address_in b;
   amount = amount_in b;
 }
-
--- everything was granted
-pub record HasRoom (luck : Luck) : Type 0 where
-  pub buffer : luck.room_buffer ≡ true
-  pub document : luck.room_document ≡ true
-  pub send : luck.room_send ≡ true
-  pub extend : luck.room_extend ≡ true
-
--- what was done is what the reduced desk does with some luck, of which something is sure where nothing was refused
-pub record CameBy (lost : Bool) (a : Action) (after : Handled) (does : Luck → protocol.Desk) (sure : Luck → Type 0) :
-    Type 0 where
-  pub luck : Luck
-  pub lost_is : luck.lost ≡ lost
-  pub seen : view after.0 ≡ does luck
-  pub room : is_refusal a after.1 ≡ false → sure luck
-
-abbrev pub CameAs : Bool → Action → Handled → (Luck → protocol.Desk) → Type 0
-CameAs lost a after does = CameBy lost a after does HasRoom
-
--- all is granted
-abbrev pub lucky : Bool → ℕ → ℕ → ℕ → Luck
-lucky lost anchor address spare = record {
-  anchor = anchor;
-  address = address;
-  spare = spare;
-  room_buffer = true;
-  room_document = true;
-  room_send = true;
-  room_extend = true;
-  lost = lost;
-}
-
--- nothing is granted, or nothing but the document's bytes
-abbrev pub unlucky : Bool → Bool → Luck
-unlucky lost extend = record {
-  anchor = 0;
-  address = 0;
-  spare = 0;
-  room_buffer = false;
-  room_document = false;
-  room_send = false;
-  room_extend = extend;
-  lost = lost;
-}
-
-pub has_room : (lost : Bool) (anchor address spare : ℕ) → HasRoom (lucky lost anchor address spare)
-has_room lost anchor address spare = record { buffer = refl; document = refl; send = refl; extend = refl }
 
 -- ---- buffers
 

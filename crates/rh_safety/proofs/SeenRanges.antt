@@ -2,7 +2,6 @@
 use Rattle.std.proofs.Common.{◌≡◌, ◌≢◌, ℕ, ◌+◌, ◌≤◌, Bool, true, false, not, ◌&&◌, ◌||◌, List, length, Option, Some}
 use Rattle.std.proofs.Common.{None, refl, sym, ap, ◌∙◌, subst, arith}
 use Rattle.std.specs.Prelude.{nat_lt, nat_le, ◌==◌, ◌^◌, Ok, Err, is_some}
-use Rattle.std.specs.Option.{option_map}
 use Rattle.std.proofs.lemmas.Bool.Decides.{leb_tells}
 use Rattle.rh_defs.specs.declared.refusal.Refusal.{Refusal}
 use Rattle.rh_defs.specs.declared.refusal.Refusal.TheVariants.{NoBlock, AnchorInUse, BadSize, BadRange, NoTask}
@@ -40,23 +39,21 @@ use Rattle.rh_defs.specs.Transfer as transfer
 use Rattle.rh_defs.specs.Transfer.{answers_none}
 use Rattle.rh_defs.specs.Commands.{Answer}
 use Rattle.rh_defs.specs.Step.{poll, poll_taken, step}
-use Rattle.rh_safety.proofs.View.{view, seen_parcel, blocks_of, buffers_of, task_of}
 use Rattle.rh_safety.specs.Buffers.{refusal_of, failed_by, HasGoodRanges}
-use Rattle.rh_safety.proofs.Ends.{Has}
-use Rattle.rh_safety.proofs.Ends as post
-use Rattle.rh_safety.proofs.Protocol as protocol
-use Rattle.rh_safety.proofs.Schedules.{range_is_bad}
-use Rattle.rh_safety.proofs.Basics.{either, first_has, put_same}
+use Rattle.rh_safety.proofs.View.{view, blocks_of, buffers_of, task_of}
+use Rattle.rh_safety.proofs.Basics.{either, put_same}
 use Rattle.rh_safety.proofs.Invariant.{Offered, Good}
+use Rattle.rh_safety.proofs.Polls.{Taken}
 use Rattle.rh_safety.proofs.SeenTasks.{field_is, live_of}
 use Rattle.rh_safety.proofs.SeenFrames.{Fits, bind, done, is_found, instead_of, the_task}
 use Rattle.rh_safety.proofs.SeenBlocks.{from_test, ok_is, extend_is, changed_map}
 use Rattle.rh_safety.proofs.SeenHeaps.{length_fitted}
 use Rattle.rh_safety.proofs.SeenSends.{by_grant, with_step}
-use Rattle.rh_safety.proofs.SeenHandled.{block_there}
-use Rattle.rh_safety.proofs.SeenTaking.{IsTaken, lost_queue, poll_taken_is}
-use Rattle.rh_safety.proofs.SeenSender.{range_of, buffer_found}
-use Rattle.rh_safety.proofs.SeenPolls.{Reaches, reaches_by}
+use Rattle.rh_safety.proofs.SeenHandled.{letter_of, block_there}
+use Rattle.rh_safety.proofs.SeenTaking.{poll_taken_is}
+use Rattle.rh_safety.proofs.SeenWrites.{buffer_found}
+use Rattle.rh_safety.proofs.KeptFetch.{Reaches, reaches}
+use Rattle.rh_safety.proofs.KeptPolls.{Given, given}
 
 -- ---- answers that name a bad range
 
@@ -265,12 +262,12 @@ module _ (d : Desk) (t : Task) (m : Parcel) where
   load_fine None = refl
   load_fine (Some q) = file_fine q d.scrap
 
-  fetch_fine : (buffer amount : ℕ) (v : Option Sending) →
-      ((x : Sending) → v ≡ Some x → (view d).live x.recipient ≡ true → range_is_bad ((view d).heap x.recipient buffer)
-      amount ≡ false) → Fine (answer_fetch d t m buffer amount v)
+  fetch_fine : (is : task_of t.handle d.tasks ≡ Some t) (buffer amount : ℕ) (v : Option Sending) →
+      ((x : Sending) → v ≡ Some x → (view d).live x.recipient ≡ true → Reaches d t m is buffer amount x) →
+      Fine (answer_fetch d t m buffer amount v)
   unfolding answer_fetch transmit
-  fetch_fine buffer amount None reach = refl
-  fetch_fine buffer amount (Some x) reach =
+  fetch_fine is buffer amount None reach = refl
+  fetch_fine is buffer amount (Some x) reach =
       by_grant Fine _ _
       (λ y q. with_step (slot_block x.anchor t.slot) _ y q (λ b e1 q1. with_step (found_or (task_at x.recipient d)
       NoTask) _ y q1 (λ r e2 q2.
@@ -279,9 +276,8 @@ module _ (d : Desk) (t : Task) (m : Parcel) where
       (λ s q. not_range s (bind_ok (slot_block x.anchor t.slot) _ (block_ok x.anchor t.slot) (λ b e1.
       bind_ok (found_or (task_at x.recipient d) NoTask) _ (found_ok _ NoTask (λ z. cc)) (λ r e2.
       let to : task_of x.recipient d.tasks ≡ Some r = is_found (task_at x.recipient d) NoTask r e2 in
-      let range = range_of amount ((view d).heap x.recipient buffer) (reach x refl (field_is (λ k. true) false
-      x.recipient d.tasks r to)) in
-      let w = buffer_found buffer amount r.slot range.bytes (ap (λ (g : ℕ → Option (List ℕ)). g buffer)
+      let range = reach x refl (live_of d x.recipient r to) in
+      let w = buffer_found buffer amount r.slot range.old (ap (λ (g : ℕ → Option (List ℕ)). g buffer)
       (sym (field_is (λ y. buffers_of y.slot) (λ a. None) x.recipient d.tasks r to)) ∙ range.there) range.fits
       (heap_block_at buffer r.slot) refl in
       let place : ℕ = flex_address t.slot b.before + x.count in
@@ -321,16 +317,6 @@ module _ (d : Desk) (t : Task) (m : Parcel) where
       refl))
       (λ r q. not_range r (bind_ok (slot_block x.anchor t.slot) _ (block_ok x.anchor t.slot) (λ s e. done_ok _) r q))
 
-  came_fine : (b : Body) → Reaches d t m b → Fine (transfer.came d t m b)
-  unfolding transfer.came
-  came_fine (body.DataSave file) r = save_fine
-  came_fine (body.DataSaveAck file) r = ack_fine _
-  came_fine (body.DataLoad file) r = load_fine _
-  came_fine (body.DataLoadAck file) r = finish_fine _
-  came_fine (body.RamFetch buffer amount) r = either Fine (answers_none t.manner) (ignored d) _ (λ e. refl) (λ e.
-      fetch_fine buffer amount _ (r e))
-  came_fine (body.RamTransmit buffer n) r = bytes_fine n _
-
   came_back_fine : (b : Body) → Fine (transfer.came_back d t m b)
   unfolding transfer.came_back
   came_back_fine (body.DataSave file) = fail_fine _
@@ -340,32 +326,38 @@ module _ (d : Desk) (t : Task) (m : Parcel) where
   came_back_fine (body.RamFetch buffer amount) = back_fine _
   came_back_fine (body.RamTransmit buffer n) = fail_fine _
 
-  handled_fine : (c : EventCode) → Reaches d t m m.message.body → Fine (transfer.handled d t m c)
-  unfolding transfer.handled
-  handled_fine User r = came_fine m.message.body r
-  handled_fine Recorded r = came_fine m.message.body r
-  handled_fine Acknowledge r = came_back_fine m.message.body
-
 -- ---- a poll
 
-module _ {o : Offered} {e : ℕ → ℕ → Bool} (d : Desk) (t : Task) (f : Fits d) (is : task_of t.handle d.tasks ≡ Some t)
-    (g : Good o e (view d)) where
-  taken_fine : (p : Post × Option Parcel) → IsTaken d t.handle p → (v : Option Parcel) → p.1 ≡ v →
-      is_bad_reply (poll_taken (with_delivered p.0 d) t v).1 ≡ false
-  unfolding poll_taken with_delivered
-  taken_fine p w None q = refl
-  taken_fine p w (Some m) q =
-      let back = protocol.returned (view d) t.handle ((view d).held t.handle) in
-      let first : post.first_for t.handle (protocol.lost_if w.lost back).queue ≡ Some (seen_parcel m) = w.first ∙
-      ap (option_map seen_parcel) q in
-      let has : Has (seen_parcel m) back.queue = (first_has t.handle back.queue (seen_parcel m)
-      (ap (post.first_for t.handle) (sym (lost_queue w.lost back)) ∙ first)).0 in
-      handled_fine (with_delivered p.0 d) t m m.code (reaches_by d t f is g m has m.message.body refl)
+module _ {o : Offered} {e : ℕ → ℕ → Bool} (d : Desk) (t : Task) (m : Parcel) where
+  came_fine : (is : task_of t.handle d.tasks ≡ Some t) (b : Body) → Taken o e (view d) t.handle (letter_of m b) →
+      Fine (transfer.came d t m b)
+  unfolding transfer.came
+  came_fine is (body.DataSave file) tk = save_fine d t m
+  came_fine is (body.DataSaveAck file) tk = ack_fine d t m _
+  came_fine is (body.DataLoad file) tk = load_fine d t m _
+  came_fine is (body.DataLoadAck file) tk = finish_fine d t m _
+  came_fine is (body.RamFetch buffer amount) tk = either Fine (answers_none t.manner) (ignored d) _ (λ y. refl) (λ y.
+      fetch_fine d t m is buffer amount _ (reaches d t m is buffer amount tk y))
+  came_fine is (body.RamTransmit buffer n) tk = bytes_fine d t m n _
 
-  poll_fine : is_bad_reply (poll_taken (with_delivered (post_poll t.handle d.post).0 d) t (post_poll t.handle
-      d.post).1).1 ≡ false
-  poll_fine = let p = post_poll t.handle d.post in taken_fine p (poll_taken_is d t.handle f (live_of d t.handle t is))
-      p.1 refl
+  handled_fine : Given o e d t m → (c : EventCode) → m.code ≡ c → Fine (transfer.handled d t m c)
+  unfolding transfer.handled
+  handled_fine w User q = came_fine w.is m.message.body (w.came (λ z. let y : User ≡ Acknowledge = sym q ∙ z in (cc)))
+  handled_fine w Recorded q = came_fine w.is m.message.body (w.came (λ z. let y : Recorded ≡ Acknowledge = sym q ∙ z in
+      (cc)))
+  handled_fine w Acknowledge q = came_back_fine d t m m.message.body
+
+poll_fine : {o : Offered} {e : ℕ → ℕ → Bool} (d : Desk) (t : Task) → Fits d → task_of t.handle d.tasks ≡ Some t →
+    Good o e (view d) → is_bad_reply (poll_taken (with_delivered (post_poll t.handle d.post).0 d) t (post_poll t.handle
+    d.post).1).1 ≡ false
+unfolding poll_taken
+poll_fine d t f is g = go (post_poll t.handle d.post).1 refl
+  where
+    go : (v : Option Parcel) → (post_poll t.handle d.post).1 ≡ v →
+        is_bad_reply (poll_taken (with_delivered (post_poll t.handle d.post).0 d) t v).1 ≡ false
+    go None q = refl
+    go (Some m) q = handled_fine (with_delivered (post_poll t.handle d.post).0 d) t m (given d t f is g
+        (post_poll t.handle d.post) (poll_taken_is d t.handle f (live_of d t.handle t is)) m q) m.code refl
 
 never_bad : {o : Offered} {e : ℕ → ℕ → Bool} (d : Desk) (name : List ℕ) → Fits d → Good o e (view d) →
     is_bad_reply (step d (command.Poll name)).1 ≡ false

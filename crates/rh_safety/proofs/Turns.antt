@@ -1,26 +1,23 @@
--- Polled in turn, a transfer comes to its end.
-use Rattle.std.proofs.Common.{◌≡◌, ◌≢◌, ℕ, suc, ◌+◌, ◌-◌, ◌≤◌, ◌<◌, Bool, true, false, not, ◌&&◌, List, [], ◌∷◌, ◌++◌}
-use Rattle.std.proofs.Common.{length, take, drop, replicate, Option, Some, None, refl, sym, ap, ◌∙◌, subst, inl, inr}
-use Rattle.std.proofs.Common.{arith, length-drop}
-use Rattle.std.specs.Prelude.{if◌then◌else◌, nat_eq, nat_lt, nat_le, is_none}
-use Rattle.std.proofs.lemmas.List.{length-replicate}
+-- Polled in turn, a transfer comes to its end: what the messages in turn make of what is seen of the desk.
+use Rattle.std.proofs.Common.{◌≡◌, ◌≢◌, ℕ, suc, ◌+◌, ◌-◌, ◌≤◌, ◌<◌, Bool, true, false, List, [], ◌∷◌, ◌++◌, length}
+use Rattle.std.proofs.Common.{take, drop, Option, Some, None, refl, sym, ap, ◌∙◌, subst, inl, inr, arith, length-drop}
+use Rattle.std.specs.Prelude.{if◌then◌else◌, nat_eq, nat_lt, nat_le, min}
 use Rattle.std.proofs.lemmas.Bool.{eq-eqb}
 use Rattle.std.proofs.lemmas.Bool.Decides.{eqb_tells, leb_tells}
-use Rattle.rh_safety.proofs.Ends.{Asking, Code, Plain, Recorded, DataSave, RamFetch, RamTransmit, Letter, Message}
+use Rattle.rh_defs.specs.Sender as sender
+use Rattle.rh_defs.specs.Receiver as receiver
+use Rattle.rh_safety.proofs.Ends.{Asking, Code, Plain, Recorded, DataSave, RamFetch, RamTransmit, Message}
 use Rattle.rh_safety.proofs.Ends.{Sending, Taking, Out, Open, Out_done, Out_failed, In, Fetching, Draining, In_done}
-use Rattle.rh_safety.proofs.Ends.{In_failed, out_id, in_id, is_open, is_going, Has, put, any, how_many, drop_first}
-use Rattle.rh_safety.proofs.Ends.{with_id, find_open, find_active, first_for, without_first}
-use Rattle.rh_safety.proofs.Protocol.{on_fetch_by, lost_if, Desk, Luck, saved, still_held, returned, picked, begun}
-use Rattle.rh_safety.proofs.Protocol.{can_begin, on_save, ended, bytes_of, longer, fetched, goes_on, appended}
-use Rattle.rh_safety.proofs.Protocol.{extends, matches, on_transmit, portion, moved, transmits, has_room, in_range}
-use Rattle.rh_safety.proofs.Protocol.{recipient_lives, failed, would_answer, on_fetch, handled, handed_out}
-use Rattle.rh_safety.proofs.Protocol.{after_return, polled}
-use Rattle.rh_safety.proofs.Basics.{and_left, and_right, none_of, put_all, put_same, put_other, take_more}
-use Rattle.rh_safety.proofs.Basics.{length_take, front_written, length_written, none_some, or_left, or_right, either}
-use Rattle.rh_safety.proofs.Basics.{drop_old, Has-right}
+use Rattle.rh_safety.proofs.Ends.{In_failed, out_id, in_id, is_open, is_going, Has, put, any, drop_first, with_id}
+use Rattle.rh_safety.proofs.Ends.{find_open, find_active, first_for, without_first}
+use Rattle.rh_safety.proofs.Protocol.{Desk, saved, still_held, picked, ended, bytes_of, longer, fetched, would_answer}
+use Rattle.rh_safety.proofs.Basics.{put_all, put_same, put_other, take_more, length_take, front_written}
+use Rattle.rh_safety.proofs.Basics.{length_written, none_some, or_left, or_right, either, drop_old, Has-right}
 use Rattle.rh_safety.proofs.Invariant.{Order}
-use Rattle.rh_safety.proofs.Arrivals.{take_whole}
+use Rattle.rh_safety.proofs.Arrivals.{Began, take_whole}
 use Rattle.rh_safety.proofs.Polls.{would_true}
+use Rattle.rh_safety.proofs.KeptFetch.{gone}
+use Rattle.rh_safety.proofs.KeptTransmits.{taken_desk}
 
 -- ---- lists whose last record is the only one that goes on
 
@@ -48,10 +45,6 @@ last_with f i u v (x ∷ xs) ne e = elim (eqb_tells (f x) i) [
   | inr w ↦ rw w.0 (ap (λ (z : List _). x ∷ z) (last_with f i u v xs (λ w h. ne w (inr h)) e))
 ]
 
-none_counted : {A : Type 0} (p : A → Bool) (xs : List A) → any p xs ≡ false → how_many p xs ≡ 0
-none_counted p [] n = refl
-none_counted p (x ∷ xs) n = let z = or_left (p x) _ n in rw z (none_counted p xs (or_right (p x) _ n))
-
 drop_none : {A : Type 0} (keep p : A → Bool) (xs : List A) → any p xs ≡ false → any p (drop_first keep xs) ≡ false
 drop_none keep p [] n = n
 drop_none keep p (x ∷ xs) n =
@@ -70,13 +63,6 @@ rest_old : {A : Type 0} (most : ℕ) (p : A → Bool) (xs : List A) (w : A) → 
 rest_old most p xs w h = either (λ z. Has w z → Has w xs) (nat_le most (length xs)) (drop_first p xs) xs (λ b k.
     drop_old p xs w k) (λ b k. k) h
 
--- the other records of both ends
-pub record Sides (os : List Out) (ws : List In) (id : ℕ) : Type 0 where
-  pub closed : any is_open os ≡ false
-  pub idle : any is_going ws ≡ false
-  pub outs : (v : Out) → Has v os → out_id v ≢ id
-  pub ins : (w : In) → Has w ws → in_id w ≢ id
-
 -- a test that holds
 same_eq : (a : ℕ) → nat_eq a a ≡ true
 same_eq a = eq-eqb a a refl
@@ -85,27 +71,18 @@ is_le : (a b : ℕ) → a ≤ b → nat_le a b ≡ true
 is_le a b h = elim (leb_tells a b) [ inl w ↦ w.0 | inr w ↦ absurd (let z = w.1 in omega arith) ]
 
 is_lt : (a b : ℕ) → a < b → nat_lt a b ≡ true
-is_lt a b h = elim (leb_tells (suc a) b) [ inl w ↦ w.0 | inr w ↦ absurd (let z = w.1 in omega arith) ]
+is_lt a b h = is_le (suc a) b (omega arith)
 
 not_lt : (a b : ℕ) → b ≤ a → nat_lt a b ≡ false
 not_lt a b h = elim (leb_tells (suc a) b) [ inl w ↦ absurd (let z = w.1 in omega arith) | inr w ↦ w.0 ]
+
+-- ---- a queue of one message
 
 pub first_one : (h : ℕ) (m : Message) → m.to ≡ h → first_for h (m ∷ []) ≡ Some m
 first_one h m to = let t : nat_eq m.to h ≡ true = eq-eqb _ _ to in rw t refl
 
 without_one : (h : ℕ) (m : Message) → m.to ≡ h → without_first h (m ∷ []) ≡ []
 without_one h m to = let t : nat_eq m.to h ≡ true = eq-eqb _ _ to in rw t refl
-
--- a poll that finds one message
-poll_one : (d : Desk) (h : ℕ) (luck : Luck) (m : Message) → d.queue ≡ m ∷ [] → m.to ≡ h →
-    after_return d h luck ≡ handled (picked d h m m.code) h luck m.letter m.code
-poll_one d h luck m queue to = ap (λ (v : Option Message). handed_out d h luck v) (ap (first_for h) queue ∙
-    first_one h m to)
-
--- a poll of a task that holds no message
-pub polled_is : (d : Desk) (h : ℕ) (luck : Luck) → d.held h ≡ None →
-    polled d h luck ≡ after_return (lost_if luck.lost d) h luck
-polled_is d h luck held = ap (λ (v : Option Message). after_return (lost_if luck.lost (returned d h v)) h luck) held
 
 -- what is held after a send that answers the message just taken
 let_go : (held : ℕ → Option Message) (h : ℕ) (m : Message) → ((k : ℕ) → held k ≡ None) → (k : ℕ) →
@@ -117,475 +94,321 @@ let_go held h m none k =
     (let t = same_eq m.letter.me in rw t refl))
     (λ j ne. put_other held h (Some m) j ne ∙ none j) k
 
+-- ---- two tasks and a transfer between them
+
+-- the transfer, its places, and the other records of both tasks
+pub record Pair : Type 0 where
+  pub sender : ℕ
+  pub receiver : ℕ
+  pub id : ℕ
+  pub anchor : ℕ  -- of the source
+  pub source : List ℕ
+  pub document : ℕ  -- the document's anchor
+  pub address : ℕ  -- of the receiver's buffer
+  pub room : ℕ  -- the receiver's buffer size
+  pub outs : List Out
+  pub ins : List In
+
+-- no other record goes on, or has its id
+pub record Alone (p : Pair) : Type 0 where
+  pub closed : any is_open p.outs ≡ false
+  pub idle : any is_going p.ins ≡ false
+  pub outs : (v : Out) → Has v p.outs → out_id v ≢ p.id
+  pub ins : (w : In) → Has w p.ins → in_id w ≢ p.id
+  pub apart : p.sender ≡ p.receiver → p.anchor ≢ p.document
+  pub some : 0 < p.room
+
+-- the sender's record at count k
+abbrev pub outgoing_at : Pair → ℕ → ℕ → Sending
+outgoing_at p k last = record { id = p.id; recipient = p.receiver; anchor = p.anchor; count = k; last = last }
+
+-- the receiver's
+abbrev pub incoming_at : Pair → ℕ → ℕ → Taking
+incoming_at p k fetch = record {
+  id = p.id;
+  sender = p.sender;
+  anchor = p.document;
+  buffer = p.address;
+  count = k;
+  fetch = fetch;
+}
+
+-- its fetch, in answer to the sender's last message
+abbrev pub fetch_of : Pair → ℕ → ℕ → Message
+fetch_of p fetch last = record {
+  code = Recorded;
+  to = p.sender;
+  letter = record {
+    from = p.receiver;
+    me = fetch;
+    answers = last;
+    kind = RamFetch;
+    address = p.address;
+    amount = p.room;
+  };
+}
+
+-- the transmit of n bytes that answers the fetch
+abbrev pub transmit_of : Pair → Code → ℕ → ℕ → ℕ → Message
+transmit_of p c me fetch n = record {
+  code = c;
+  to = p.receiver;
+  letter = record {
+    from = p.sender;
+    me = me;
+    answers = fetch;
+    kind = RamTransmit;
+    address = p.address;
+    amount = n;
+  };
+}
+
 -- the fetch at count k waits for the sender
-pub record Waiting (os : List Out) (ws : List In) (d : Desk) (doc address s r id anchor k : ℕ) (source : List ℕ) :
-    Type 0 where
-  pub sides : Sides os ws id
+pub record Waiting (p : Pair) (d : Desk) (k : ℕ) : Type 0 where
+  pub alone : Alone p
   pub fetch : ℕ
   pub last : ℕ
   pub bytes : List ℕ
-  pub queue : d.queue ≡ record {
-    code = Recorded;
-    to = s;
-    letter = record {
-      from = r;
-      me = fetch;
-      answers = last;
-      kind = RamFetch;
-      address = address;
-      amount = d.buf r;
-    };
-  } ∷ []
+  pub queue : d.queue ≡ fetch_of p fetch last ∷ []
   pub held : (h : ℕ) → d.held h ≡ None
-  pub sends : d.sending s ≡ os ++ Open (record { id = id; recipient = r; anchor = anchor; count = k; last = last }) ∷ []
-  pub takes : d.taking r ≡ ws ++ Fetching (record {
-    id = id;
-    sender = s;
-    anchor = doc;
-    buffer = address;
-    count = k;
-    fetch = fetch;
-  }) ∷ []
-  pub block : d.block s anchor ≡ Some source
-  pub document : d.block r doc ≡ Some (take k source)
-  pub apart : s ≡ r → anchor ≢ doc
-  pub buffer : d.heap r address ≡ Some bytes
-  pub size : d.buf r ≤ length bytes
-  pub some : 0 < d.buf r
-  pub live_sender : d.live s ≡ true
-  pub live_receiver : d.live r ≡ true
-  pub fetches : d.file s ≡ false
+  pub sends : d.sending p.sender ≡ p.outs ++ Open (outgoing_at p k last) ∷ []
+  pub takes : d.taking p.receiver ≡ p.ins ++ Fetching (incoming_at p k fetch) ∷ []
+  pub source : d.block p.sender p.anchor ≡ Some p.source
+  pub document : d.block p.receiver p.document ≡ Some (take k p.source)
+  pub buffer : d.heap p.receiver p.address ≡ Some bytes
+  pub fits : p.room ≤ length bytes
+  pub room : d.buf p.receiver ≡ p.room
+  pub fetches : d.file p.sender ≡ false
 
--- the transmit of n bytes waits for the receiver
-pub record Answered (os : List Out) (ws : List In) (d : Desk) (doc address s r id anchor k n me : ℕ) (v : Out)
-    (c : Code) (source : List ℕ) : Type 0 where
-  pub sides : Sides os ws id
+-- the transmit of n bytes, after k, waits for the receiver; the sender's record is v
+pub record Answered (p : Pair) (d : Desk) (k n me : ℕ) (v : Out) (c : Code) : Type 0 where
+  pub alone : Alone p
   pub fetch : ℕ
   pub bytes : List ℕ
-  pub queue : d.queue ≡ record {
-    code = c;
-    to = r;
-    letter = record {
-      from = s;
-      me = me;
-      answers = fetch;
-      kind = RamTransmit;
-      address = address;
-      amount = n;
-    };
-  } ∷ []
+  pub queue : d.queue ≡ transmit_of p c me fetch n ∷ []
   pub held : (h : ℕ) → d.held h ≡ None
-  pub sends : d.sending s ≡ os ++ v ∷ []
-  pub takes : d.taking r ≡ ws ++ Fetching (record {
-    id = id;
-    sender = s;
-    anchor = doc;
-    buffer = address;
-    count = k;
-    fetch = fetch;
-  }) ∷ []
-  pub block : d.block s anchor ≡ Some source
-  pub document : d.block r doc ≡ Some (take k source)
-  pub apart : s ≡ r → anchor ≢ doc
-  pub buffer : d.heap r address ≡ Some bytes
-  pub front : take n bytes ≡ take n (drop k source)
-  pub size : d.buf r ≤ length bytes
-  pub some : 0 < d.buf r
-  pub live_sender : d.live s ≡ true
-  pub live_receiver : d.live r ≡ true
-  pub fetches : d.file s ≡ false
+  pub sends : d.sending p.sender ≡ p.outs ++ v ∷ []
+  pub takes : d.taking p.receiver ≡ p.ins ++ Fetching (incoming_at p k fetch) ∷ []
+  pub source : d.block p.sender p.anchor ≡ Some p.source
+  pub document : d.block p.receiver p.document ≡ Some (take k p.source)
+  pub buffer : d.heap p.receiver p.address ≡ Some bytes
+  pub front : take n bytes ≡ take n (drop k p.source)
+  pub fits : p.room ≤ length bytes
+  pub room : d.buf p.receiver ≡ p.room
+  pub fetches : d.file p.sender ≡ false
 
-module _ (os : List Out) (ws : List In) (d : Desk) (doc address s r id anchor k : ℕ) (source : List ℕ) (w : Waiting os
-    ws d doc address s r id anchor k source) (within : k ≤ length source) where
-  abbrev asked_letter : Letter
-  asked_letter = record {
-    from = r;
-    me = w.fetch;
-    answers = w.last;
-    kind = RamFetch;
-    address = address;
-    amount = d.buf r;
-  }
+-- both records are done, and the document is the source
+pub record AllCame (p : Pair) (d : Desk) : Type 0 where
+  pub sends : Has (Out_done p.id (length p.source)) (d.sending p.sender)
+  pub takes : Has (In_done p.id p.document (length p.source)) (d.taking p.receiver)
+  pub document : d.block p.receiver p.document ≡ Some p.source
 
-  abbrev asked : Message
-  asked = record { code = Recorded; to = s; letter = asked_letter }
+-- ---- the sender's poll
 
-  abbrev open_record : Sending
-  open_record = record { id = id; recipient = r; anchor = anchor; count = k; last = w.last }
+module _ (p : Pair) (d : Desk) (k : ℕ) (w : Waiting p d k) (within : k ≤ length p.source) where
+  abbrev pub asked : Message
+  asked = fetch_of p w.fetch w.last
+
+  abbrev pub open_record : Sending
+  open_record = outgoing_at p k w.last
 
   abbrev at_sender : Desk
-  at_sender = picked d s asked Recorded
+  at_sender = picked d p.sender asked Recorded
 
-  abbrev now : ℕ
-  now = portion source open_record asked_letter
+  -- how many bytes go out
+  abbrev pub now : ℕ
+  now = min p.room (length p.source - k)
 
-  -- the sender's poll answers
-  poll_sender : (luck : Luck) → luck.room_send ≡ true →
-      handled at_sender s luck asked_letter Recorded ≡ transmits at_sender s asked_letter open_record source w.bytes
-      now (nat_lt now (d.buf r))
-  poll_sender luck room =
-      ap (λ (b : Bool). on_fetch_by at_sender s luck asked_letter b) w.fetches ∙
-      ap (λ (v : Option Sending). on_fetch at_sender s luck asked_letter v)
-      (ap (find_open (would_answer asked_letter)) w.sends ∙ last_open (would_answer asked_letter) os open_record
-      w.sides.closed (would_true open_record asked_letter refl refl w.some)) ∙
-      ap (λ (b : Bool). recipient_lives at_sender s luck asked_letter open_record b) w.live_receiver ∙
-      ap (λ (v : Option (List ℕ)). in_range at_sender s luck asked_letter open_record v) w.buffer ∙
-      ap (λ (b : Bool). if b then has_room at_sender s luck asked_letter open_record w.bytes luck.room_send else
-      failed at_sender s open_record) (is_le (d.buf r) (length w.bytes) (let z = w.size in omega arith)) ∙
-      ap (λ (b : Bool). has_room at_sender s luck asked_letter open_record w.bytes b) room ∙
-      ap (λ (v : Option (List ℕ)). transmits at_sender s asked_letter open_record (bytes_of v) w.bytes
-      (portion (bytes_of v) open_record asked_letter) (nat_lt (portion (bytes_of v) open_record asked_letter)
-      (d.buf r))) w.block
+  -- the record that answers
+  pub answers_it : find_open (would_answer asked.letter) (d.sending p.sender) ≡ Some open_record
+  answers_it = ap (find_open (would_answer asked.letter)) w.sends ∙ last_open (would_answer asked.letter) p.outs
+      open_record w.alone.closed (would_true open_record asked.letter refl refl w.alone.some)
 
-  moved_answered : (v : Out) (c : Code) →
-      Answered os ws (moved at_sender s asked_letter open_record source w.bytes now v c) doc address s r id anchor k
-      now d.next_ref v c source
-  moved_answered v c =
-      let part : List ℕ = take now (drop k source) in
-      let size : length part ≡ now = length_take now (drop k source) (simp length-drop (omega arith)) in
+  -- the desk after it
+  abbrev pub gone_desk : Desk
+  gone_desk = gone at_sender p.sender asked.letter open_record p.receiver p.source w.bytes now
+
+  abbrev next_out : Out
+  next_out = sender.after_sent open_record now p.room d.next_ref
+
+  abbrev next_code : Code
+  next_code = if nat_lt now p.room then Plain else Recorded
+
+  gone_answered : Answered p gone_desk k now d.next_ref next_out next_code
+  gone_answered =
+      let part : List ℕ = take now (drop k p.source) in
+      let size : length part ≡ now = length_take now (drop k p.source) (simp length-drop (omega arith)) in
       let new : List ℕ = part ++ drop now w.bytes in
-      let old : now ≤ length w.bytes = let z = w.size in omega arith in
+      let old : now ≤ length w.bytes = let z = w.fits in omega arith in
       record {
+        alone = w.alone;
         fetch = w.fetch;
         bytes = new;
-        queue = ap (λ (q : List Message). q ++ (record {
-          code = c;
-          to = r;
-          letter = record {
-            from = s;
-            me = d.next_ref;
-            answers = w.fetch;
-            kind = RamTransmit;
-            address = address;
-            amount = now;
-          };
-        } ∷ []))
-            (ap (without_first s) w.queue ∙ without_one s asked refl);
-        held = let_go d.held s asked w.held;
-        sides = w.sides;
-        sends = put_same d.sending s (with_id out_id id v (d.sending s)) ∙ ap (with_id out_id id v) w.sends ∙
-            last_with out_id id (Open open_record) v os w.sides.outs refl;
+        queue = ap (λ (q : List Message). q ++ (transmit_of p next_code d.next_ref w.fetch now ∷ []))
+            (ap (without_first p.sender) w.queue ∙ without_one p.sender asked refl);
+        held = let_go d.held p.sender asked w.held;
+        sends = put_same d.sending p.sender (with_id out_id p.id next_out (d.sending p.sender)) ∙
+            ap (with_id out_id p.id next_out) w.sends ∙
+            last_with out_id p.id (Open open_record) next_out p.outs w.alone.outs refl;
         takes = w.takes;
-        block = w.block;
+        source = w.source;
         document = w.document;
-        apart = w.apart;
-        buffer = ap (λ (f : ℕ → Option (List ℕ)). f address) (put_same d.heap r (put (d.heap r) address (Some new))) ∙
-            put_same (d.heap r) address (Some new);
+        buffer = ap (λ (f : ℕ → Option (List ℕ)). f p.address) (put_same d.heap p.receiver (put (d.heap p.receiver)
+            p.address (Some new))) ∙ put_same (d.heap p.receiver) p.address (Some new);
         front = front_written now part w.bytes size;
-        size = let e = length_written now part w.bytes size old in let z = w.size in omega arith;
-        some = w.some;
-        live_sender = w.live_sender;
-        live_receiver = w.live_receiver;
+        fits = let e = length_written now part w.bytes size old in let z = w.fits in omega arith;
+        room = w.room;
         fetches = w.fetches;
       }
 
-module _ (os : List Out) (ws : List In) (d : Desk) (doc address s r id anchor k n me : ℕ) (v : Out) (c : Code)
-    (source : List ℕ) (w : Answered os ws d doc address s r id anchor k n me v c source) (within : k + n ≤ length
-    source) (small : n ≤ d.buf r) where
-  abbrev told_letter : Letter
-  told_letter = record { from = s; me = me; answers = w.fetch; kind = RamTransmit; address = address; amount = n }
-
-  abbrev told : Message
-  told = record { code = c; to = r; letter = told_letter }
-
-  abbrev taking_record : Taking
-  taking_record = record { id = id; sender = s; anchor = doc; buffer = address; count = k; fetch = w.fetch }
-
-  abbrev new_bytes : List ℕ
-  new_bytes = bytes_of (d.block r doc) ++ take n (bytes_of (d.heap r address))
-
-  new_is : new_bytes ≡ take (k + n) source
-  new_is =
-      ap (λ (o : Option (List ℕ)). bytes_of o ++ take n (bytes_of (d.heap r address))) w.document ∙
-      ap (λ (o : Option (List ℕ)). take k source ++ take n (bytes_of o)) w.buffer ∙
-      ap (λ (x : List ℕ). take k source ++ x) w.front ∙ sym (take_more k n source)
-
-  match_is : matches d r told_letter taking_record ≡ true
-  match_is =
-      let t1 = same_eq s in let t2 = same_eq w.fetch in let t3 = same_eq address in let t4 = is_le n (d.buf r) small in
-      rw (t1, t2, t3, t4) refl
-
-  -- the receiver's poll takes the bytes
-  poll_receiver : (luck : Luck) → luck.room_extend ≡ true →
-      handled (picked d r told c) r luck told_letter c ≡ on_transmit (picked d r told c) r luck told_letter
-      (find_active (matches d r told_letter) (d.taking r)) →
-      handled (picked d r told c) r luck told_letter c ≡ appended (longer (picked d r told c) r taking_record n) r
-      luck taking_record told_letter (nat_lt n ((picked d r told c).buf r))
-  poll_receiver luck room how =
-      how ∙
-      ap (λ (x : Option In). on_transmit (picked d r told c) r luck told_letter x)
-      (ap (find_active (matches d r told_letter)) w.takes ∙ last_active (matches d r told_letter) ws taking_record
-      w.sides.idle match_is) ∙
-      ap (λ (x : Bool). extends (picked d r told c) r luck taking_record told_letter x) room
-
-  -- its records then
-  with_last : (u : In) → put d.taking r (with_id in_id id u (d.taking r)) r ≡ ws ++ u ∷ []
-  with_last u = put_same d.taking r (with_id in_id id u (d.taking r)) ∙ ap (with_id in_id id u) w.takes ∙
-      last_with in_id id (Fetching taking_record) u ws w.sides.ins refl
-
-  block_is : (new : List ℕ) → put d.block r (put (d.block r) doc (Some new)) s anchor ≡ Some source
-  block_is new = elim (eqb_tells s r) [
-    | inl e ↦ subst (λ j. put d.block r (put (d.block r) doc (Some new)) j anchor ≡ Some source) (sym e.1)
-        (ap (λ (f : ℕ → Option (List ℕ)). f anchor) (put_same d.block r (put (d.block r) doc (Some new))) ∙
-        put_other (d.block r) doc (Some new) anchor (w.apart e.1) ∙ subst (λ j. d.block j anchor ≡ Some source) e.1
-        w.block)
-    | inr e ↦ ap (λ (f : ℕ → Option (List ℕ)). f anchor) (put_other d.block r (put (d.block r) doc (Some new)) s
-        e.1) ∙ w.block
-  ]
-
-  document_is : (new : List ℕ) → put d.block r (put (d.block r) doc (Some new)) r doc ≡ Some new
-  document_is new = ap (λ (f : ℕ → Option (List ℕ)). f doc) (put_same d.block r (put (d.block r) doc (Some new))) ∙
-      put_same (d.block r) doc (Some new)
-
--- both records are done, and the document is the source
-pub record AllCame (d : Desk) (doc s r id : ℕ) (source : List ℕ) : Type 0 where
-  pub sends : Has (Out_done id (length source)) (d.sending s)
-  pub takes : Has (In_done id doc (length source)) (d.taking r)
-  pub document : d.block r doc ≡ Some source
-
--- a scrap file that is given up changes nothing of it
-pub waiting_lost : {os : List Out} {ws : List In} {d : Desk} {doc address s r id anchor k : ℕ} {source : List ℕ}
-    (b : Bool) →
-    Waiting os ws d doc address s r id anchor k source →
-    Waiting os ws (lost_if b d) doc address s r id anchor k source
-waiting_lost true w = record {
-  sides = w.sides;
-  fetch = w.fetch;
-  last = w.last;
-  bytes = w.bytes;
-  queue = w.queue;
-  held = w.held;
-  sends = w.sends;
-  takes = w.takes;
-  block = w.block;
-  document = w.document;
-  apart = w.apart;
-  buffer = w.buffer;
-  size = w.size;
-  some = w.some;
-  live_sender = w.live_sender;
-  live_receiver = w.live_receiver;
-  fetches = w.fetches;
-}
-waiting_lost false w = w
-
-pub answered_lost : {os : List Out} {ws : List In} {d : Desk} {doc address s r id anchor k n me : ℕ} {v : Out}
-    {c : Code} {source : List ℕ} (b : Bool) →
-    Answered os ws d doc address s r id anchor k n me v c source →
-    Answered os ws (lost_if b d) doc address s r id anchor k n me v c source
-answered_lost true w = record {
-  sides = w.sides;
-  fetch = w.fetch;
-  bytes = w.bytes;
-  queue = w.queue;
-  held = w.held;
-  sends = w.sends;
-  takes = w.takes;
-  block = w.block;
-  document = w.document;
-  apart = w.apart;
-  buffer = w.buffer;
-  front = w.front;
-  size = w.size;
-  some = w.some;
-  live_sender = w.live_sender;
-  live_receiver = w.live_receiver;
-  fetches = w.fetches;
-}
-answered_lost false w = w
-
-pub lost_buf : (b : Bool) (d : Desk) (r : ℕ) → (lost_if b d).buf r ≡ d.buf r
-lost_buf true d r = refl
-lost_buf false d r = refl
-
--- ---- the turns
-
--- the transmit of n bytes that the sender's poll sends
-pub record SentOne (os : List Out) (ws : List In) (d after : Desk) (doc address s r id anchor k n : ℕ) (v : ℕ → Out)
-    (c : Code) (source : List ℕ) : Type 0 where
-  pub me : ℕ
-  pub waits : Answered os ws after doc address s r id anchor k n me (v me) c source
-  pub size : after.buf r ≡ d.buf r
-
-module _ (os : List Out) (ws : List In) (d : Desk) (doc address s r id anchor k : ℕ) (source : List ℕ) (w : Waiting os
-    ws d doc address s r id anchor k source) (luck : Luck) (room : luck.room_send ≡ true) where
   -- the last bytes, fewer than the buffer has
-  pub sender_last : k ≤ length source → length source < k + d.buf r →
-      SentOne os ws d (after_return d s luck) doc address s r id anchor k (length source - k) (λ me. Out_done id
-      (length source)) Plain source
-  sender_last within short =
-      let n = now os ws d doc address s r id anchor k source w within in
-      let less : n < d.buf r = omega arith in
-      let all : k + n ≡ length source = omega arith in
-      let rest : n ≡ length source - k = omega arith in
-      let eq : after_return d s luck ≡ moved (at_sender os ws d doc address s r id anchor k source w within) s
-      (asked_letter os ws d doc address s r id anchor k source w within) (open_record os ws d doc address s r id
-      anchor k source w within) source w.bytes n (Out_done id (k + n)) Plain =
-      poll_one d s luck (asked os ws d doc address s r id anchor k source w within) w.queue refl ∙ poll_sender os ws d
-      doc address s r id anchor k source w within luck room ∙
-      ap (λ (b : Bool). transmits (at_sender os ws d doc address s r id anchor k source w within) s (asked_letter os
-      ws d doc address s r id anchor k source w within) (open_record os ws d doc address s r id anchor k source w
-      within) source w.bytes n b) (is_lt n (d.buf r) less) in
-      let a : Answered os ws (after_return d s luck) doc address s r id anchor k n d.next_ref (Out_done id (k + n))
-      Plain source =
-      subst (λ (z : Desk). Answered os ws z doc address s r id anchor k n d.next_ref (Out_done id (k + n)) Plain
-      source) (sym eq) (moved_answered os ws d doc address s r id anchor k source w within (Out_done id (k + n))
-      Plain) in
-      record {
-        me = d.next_ref;
-        waits = subst (λ z. Answered os ws (after_return d s luck) doc address s r id anchor k z d.next_ref
-            (Out_done id (length source)) Plain source) rest
-            (subst (λ z. Answered os ws (after_return d s luck) doc address s r id anchor k n d.next_ref
-            (Out_done id z) Plain source) all a);
-        size = ap (λ (z : Desk). z.buf r) eq;
-      }
+  pub sent_last : length p.source < k + p.room →
+      Answered p gone_desk k (length p.source - k) d.next_ref (Out_done p.id (length p.source)) Plain
+  sent_last short =
+      let less : nat_lt now p.room ≡ true = is_lt now p.room (omega arith) in
+      let all : k + now ≡ length p.source = omega arith in
+      let rest : now ≡ length p.source - k = omega arith in
+      subst (λ z. Answered p gone_desk k z d.next_ref (Out_done p.id (length p.source)) Plain) rest
+      (subst (λ z. Answered p gone_desk k now d.next_ref (Out_done p.id z) Plain) all
+      (subst (λ (b : Bool). Answered p gone_desk k now d.next_ref (if b then Out_done p.id (k + now) else Open (record
+      open_record { count = k + now; last = d.next_ref })) (if b then Plain else Recorded)) less gone_answered))
 
   -- a full buffer
-  pub sender_full : k + d.buf r ≤ length source → SentOne os ws d (after_return d s luck) doc address s r id anchor k
-      (d.buf r) (λ me. Open (record { id = id; recipient = r; anchor = anchor; count = k + d.buf r; last = me }))
-      Recorded source
-  sender_full fits =
-      let within : k ≤ length source = omega arith in
-      let n = now os ws d doc address s r id anchor k source w within in
-      let full : n ≡ d.buf r = omega arith in
-      let v : ℕ → Out = λ m. Open (record {
-        id = id;
-        recipient = r;
-        anchor = anchor;
-        count = k + m;
-        last = d.next_ref;
-      }) in
-      let eq : after_return d s luck ≡ moved (at_sender os ws d doc address s r id anchor k source w within) s
-      (asked_letter os ws d doc address s r id anchor k source w within) (open_record os ws d doc address s r id
-      anchor k source w within) source w.bytes n (v n) Recorded =
-      poll_one d s luck (asked os ws d doc address s r id anchor k source w within) w.queue refl ∙ poll_sender os ws d
-      doc address s r id anchor k source w within luck room ∙
-      ap (λ (b : Bool). transmits (at_sender os ws d doc address s r id anchor k source w within) s (asked_letter os
-      ws d doc address s r id anchor k source w within) (open_record os ws d doc address s r id anchor k source w
-      within) source w.bytes n b) (not_lt n (d.buf r) (omega arith)) in
-      let a : Answered os ws (after_return d s luck) doc address s r id anchor k n d.next_ref (v n) Recorded source =
-      subst (λ (z : Desk). Answered os ws z doc address s r id anchor k n d.next_ref (v n) Recorded source) (sym eq)
-      (moved_answered os ws d doc address s r id anchor k source w within (v n) Recorded) in
-      record {
-        me = d.next_ref;
-        waits = subst (λ z. Answered os ws (after_return d s luck) doc address s r id anchor k z d.next_ref (v z)
-            Recorded source) full a;
-        size = ap (λ (z : Desk). z.buf r) eq;
-      }
+  pub sent_full : k + p.room ≤ length p.source →
+      Answered p gone_desk k p.room d.next_ref (Open (outgoing_at p (k + p.room) d.next_ref)) Recorded
+  sent_full fits =
+      let full : now ≡ p.room = omega arith in
+      let less : nat_lt now p.room ≡ false = not_lt now p.room (omega arith) in
+      subst (λ z. Answered p gone_desk k z d.next_ref (Open (outgoing_at p (k + z) d.next_ref)) Recorded) full
+      (subst (λ (b : Bool). Answered p gone_desk k now d.next_ref (if b then Out_done p.id (k + now) else Open (record
+      open_record { count = k + now; last = d.next_ref })) (if b then Plain else Recorded)) less gone_answered)
 
 -- the sender's record
-pub sender_record : {os : List Out} {ws : List In} {d : Desk} {doc address s r id anchor k n me : ℕ} {v : Out}
-    {c : Code} {source : List ℕ} →
-    Answered os ws d doc address s r id anchor k n me v c source → Has v (d.sending s)
-sender_record {os} {v = v} w = subst (λ z. Has v z) (sym w.sends) (Has-right v os (v ∷ []) (inl refl))
+pub sender_record : {p : Pair} {d : Desk} {k n me : ℕ} {v : Out} {c : Code} → Answered p d k n me v c →
+    Has v (d.sending p.sender)
+sender_record {p} {v = v} w = subst (λ z. Has v z) (sym w.sends) (Has-right v p.outs (v ∷ []) (inl refl))
 
--- the receiver's poll takes the last bytes
-pub receiver_last : (os : List Out) (ws : List In) (d : Desk) (doc address s r id anchor k n me : ℕ) (source : List ℕ) →
-    Answered os ws d doc address s r id anchor k n me (Out_done id (length source)) Plain source →
-    k + n ≡ length source → n < d.buf r →
-    (luck : Luck) → luck.room_extend ≡ true → AllCame (after_return d r luck) doc s r id source
-receiver_last os ws d doc address s r id anchor k n me source w all short luck room =
-    let le : k + n ≤ length source = omega arith in
-    let small : n ≤ d.buf r = omega arith in
-    let c = Plain in
-    let v = Out_done id (length source) in
-    let m : Message = told os ws d doc address s r id anchor k n me v c source w le small in
-    let d1 : Desk = picked d r m Plain in
-    let t : Taking = taking_record os ws d doc address s r id anchor k n me v c source w le small in
-    let new = new_bytes os ws d doc address s r id anchor k n me v c source w le small in
-    let eq : after_return d r luck ≡ ended (longer d1 r t n) r t (In_done id doc (k + n)) =
-    poll_one d r luck m w.queue refl ∙ poll_receiver os ws d doc address s r id anchor k n me v c source w le small
-    luck room refl ∙
-    ap (λ (b : Bool). appended (longer d1 r t n) r luck t m.letter b) (is_lt n (d.buf r) short) in
-    subst (λ (z : Desk). AllCame z doc s r id source) (sym eq) (record {
-      sends = sender_record w;
-      takes = subst (λ z. Has (In_done id doc z) (put d.taking r (with_id in_id id (In_done id doc (k + n))
-          (d.taking r)) r)) all
-          (subst (λ z. Has (In_done id doc (k + n)) z) (sym (with_last os ws d doc address s r id anchor k n me v c
-          source w le small (In_done id doc (k + n)))) (Has-right (In_done id doc (k + n)) ws (In_done id doc
-          (k + n) ∷ []) (inl refl)));
-      document = document_is os ws d doc address s r id anchor k n me v c source w le small new ∙ ap (λ (x : List ℕ).
-          Option.Some x) (new_is os ws d doc address s r id anchor k n me v c source w le small ∙ take_whole (k + n)
-          source all);
-    })
+-- ---- the receiver's poll
 
--- a desk on which the next fetch waits
-pub record GoesOn (os : List Out) (ws : List In) (d after : Desk) (doc address s r id anchor k : ℕ) (source : List
-    ℕ) : Type 0 where
-  pub size : after.buf r ≡ d.buf r
-  pub waits : Waiting os ws after doc address s r id anchor k source
+module _ (p : Pair) (d : Desk) (k n me : ℕ) (v : Out) (c : Code) (w : Answered p d k n me v c) where
+  abbrev pub sent_back : Message
+  sent_back = transmit_of p c me w.fetch n
 
--- the receiver's poll takes a full buffer
-pub receiver_full : (os : List Out) (ws : List In) (d : Desk) (doc address s r id anchor k n me : ℕ) (source : List
-    ℕ) → Answered os ws d doc address s r id anchor k n me (Open (record {
-      id = id;
-      recipient = r;
-      anchor = anchor;
-      count = k + n;
-      last = me;
-    })) Recorded source → k + n ≤ length source → n ≡ d.buf r →
-    (luck : Luck) → luck.room_extend ≡ true → luck.room_send ≡ true → GoesOn os ws d (after_return d r luck) doc
-    address s r id anchor (k + n) source
-receiver_full os ws d doc address s r id anchor k n me source w le full luck extends_it sends_it =
-    let small : n ≤ d.buf r = omega arith in
-    let c = Recorded in
-    let v = Open (record { id = id; recipient = r; anchor = anchor; count = k + n; last = me }) in
-    let m : Message = told os ws d doc address s r id anchor k n me v c source w le small in
-    let d1 : Desk = picked d r m Recorded in
-    let t : Taking = taking_record os ws d doc address s r id anchor k n me v c source w le small in
-    let new = new_bytes os ws d doc address s r id anchor k n me v c source w le small in
-    let room : (luck.room_send && d.live s) ≡ true = let e2 = w.live_sender in rw (sends_it, e2) refl in
-    let full_desk : Desk = fetched (longer d1 r t n) r t n m.letter.me in
-    let eq : after_return d r luck ≡ full_desk =
-    poll_one d r luck m w.queue refl ∙ poll_receiver os ws d doc address s r id anchor k n me v c source w le small
-    luck extends_it refl ∙
-    ap (λ (b : Bool). appended (longer d1 r t n) r luck t m.letter b) (not_lt n (d.buf r) (omega arith)) ∙
-    ap (λ (b : Bool). goes_on (longer d1 r t n) r t m.letter b) room in
-    subst (λ (z : Desk). GoesOn os ws d z doc address s r id anchor (k + n) source) (sym eq) (record {
-      size = refl;
-      waits = record {
+  abbrev pub taking_record : Taking
+  taking_record = incoming_at p k w.fetch
+
+  abbrev at_receiver : Desk
+  at_receiver = picked d p.receiver sent_back c
+
+  -- the record that takes it
+  pub takes_it : n ≤ p.room →
+      find_active (receiver.is_answer (d.buf p.receiver) p.sender w.fetch p.address n) (d.taking p.receiver) ≡
+      Some (Fetching taking_record)
+  takes_it small =
+      let t1 = same_eq p.sender in
+      let t2 = same_eq w.fetch in
+      let t3 = same_eq p.address in
+      let t4 : nat_le n (d.buf p.receiver) ≡ true = ap (nat_le n) w.room ∙ is_le n p.room small in
+      ap (find_active (receiver.is_answer (d.buf p.receiver) p.sender w.fetch p.address n)) w.takes ∙
+      last_active (receiver.is_answer (d.buf p.receiver) p.sender w.fetch p.address n) p.ins taking_record w.alone.idle
+      (rw (t1, t2, t3, t4) refl)
+
+  abbrev new_bytes : List ℕ
+  new_bytes = bytes_of (d.block p.receiver p.document) ++ take n (bytes_of (d.heap p.receiver p.address))
+
+  new_is : new_bytes ≡ take (k + n) p.source
+  new_is =
+      ap (λ (o : Option (List ℕ)). bytes_of o ++ take n (bytes_of (d.heap p.receiver p.address))) w.document ∙
+      ap (λ (o : Option (List ℕ)). take k p.source ++ take n (bytes_of o)) w.buffer ∙
+      ap (λ (x : List ℕ). take k p.source ++ x) w.front ∙ sym (take_more k n p.source)
+
+  -- its records then
+  with_last : (u : In) → put d.taking p.receiver (with_id in_id p.id u (d.taking p.receiver)) p.receiver ≡ p.ins ++ u ∷ []
+  with_last u = put_same d.taking p.receiver (with_id in_id p.id u (d.taking p.receiver)) ∙ ap (with_id in_id p.id u)
+      w.takes ∙ last_with in_id p.id (Fetching taking_record) u p.ins w.alone.ins refl
+
+  -- the source is as it was, beside a document with other bytes
+  source_is : (bl : ℕ → Option (List ℕ)) → (p.sender ≡ p.receiver → bl p.anchor ≡ d.block p.receiver p.anchor) →
+      put d.block p.receiver bl p.sender p.anchor ≡ Some p.source
+  source_is bl same = put_all (λ j (g : ℕ → Option (List ℕ)). j ≡ p.sender → g p.anchor ≡ Some p.source) d.block
+      p.receiver bl
+      (λ here. same (sym here) ∙ ap (λ j. d.block j p.anchor) here ∙ w.source)
+      (λ j ne here. ap (λ i. d.block i p.anchor) here ∙ w.source) p.sender refl
+
+  document_is : put d.block p.receiver (put (d.block p.receiver) p.document (Some new_bytes)) p.receiver p.document ≡
+      Some (take (k + n) p.source)
+  document_is =
+      ap (λ (f : ℕ → Option (List ℕ)). f p.document) (put_same d.block p.receiver (put (d.block p.receiver) p.document
+      (Some new_bytes))) ∙ put_same (d.block p.receiver) p.document (Some new_bytes) ∙
+      ap (λ (x : List ℕ). Option.Some x) new_is
+
+  -- the bytes are in the document
+  abbrev pub taken_it : Desk
+  taken_it = taken_desk at_receiver p.receiver taking_record sent_back.letter
+
+  -- a full buffer: the next fetch waits
+  pub took_full : c ≡ Recorded → n ≡ p.room → v ≡ Open (outgoing_at p (k + n) me) → Waiting p taken_it (k + n)
+  took_full code full is_v =
+      let D : Desk = picked d p.receiver (transmit_of p c me w.fetch n) Recorded in
+      let t = taking_record in
+      let not_less : nat_lt n (d.buf p.receiver) ≡ false = ap (nat_lt n) w.room ∙ not_lt n p.room (omega arith) in
+      let F : Desk = fetched (longer D p.receiver t n) p.receiver t n me in
+      let eq : taken_it ≡ F = ap (λ (x : Code). taken_desk (picked d p.receiver (transmit_of p c me w.fetch n) x)
+      p.receiver t sent_back.letter) code ∙
+      ap (λ (b : Bool). if b then ended (longer D p.receiver t n) p.receiver t (In_done p.id p.document (k + n)) else F)
+      not_less in
+      let next : ℕ → Message = λ size. record {
+        code = Recorded;
+        to = p.sender;
+        letter = record {
+          from = p.receiver;
+          me = d.next_ref;
+          answers = me;
+          kind = RamFetch;
+          address = p.address;
+          amount = size;
+        };
+      } in
+      subst (λ (z : Desk). Waiting p z (k + n)) (sym eq) (record {
+        alone = w.alone;
         fetch = d.next_ref;
         last = me;
         bytes = w.bytes;
-        queue = ap (λ (q : List Message). q ++ (record {
-          code = Recorded;
-          to = s;
-          letter = record {
-            from = r;
-            me = d.next_ref;
-            answers = me;
-            kind = RamFetch;
-            address = address;
-            amount = d.buf r;
-          };
-        } ∷ []))
-            (ap (without_first r) w.queue ∙ without_one r m refl);
-        held = let_go d.held r m w.held;
-        sides = w.sides;
-        sends = w.sends;
-        takes = with_last os ws d doc address s r id anchor k n me v c source w le small _;
-        block = block_is os ws d doc address s r id anchor k n me v c source w le small new;
-        document = document_is os ws d doc address s r id anchor k n me v c source w le small new ∙
-            ap (λ (x : List ℕ). Option.Some x) (new_is os ws d doc address s r id anchor k n me v c source w le
-            small);
-        apart = w.apart;
+        queue = ap (λ (q : List Message). q ++ (next (d.buf p.receiver) ∷ [])) (ap (without_first p.receiver) w.queue ∙
+            without_one p.receiver sent_back refl) ∙ ap (λ (x : ℕ). next x ∷ []) w.room;
+        held = let_go d.held p.receiver sent_back w.held;
+        sends = w.sends ∙ ap (λ (x : Out). p.outs ++ x ∷ []) is_v;
+        takes = with_last _;
+        source = source_is (put (d.block p.receiver) p.document (Some new_bytes)) (λ here. put_other
+            (d.block p.receiver) p.document (Some new_bytes) p.anchor (w.alone.apart here));
+        document = document_is;
         buffer = w.buffer;
-        size = w.size;
-        some = w.some;
-        live_sender = w.live_sender;
-        live_receiver = w.live_receiver;
+        fits = w.fits;
+        room = w.room;
         fetches = w.fetches;
-      };
-    })
+      })
+
+  -- the last bytes: all came
+  pub took_rest : c ≡ Plain → n < p.room → k + n ≡ length p.source → v ≡ Out_done p.id (length p.source) →
+      AllCame p taken_it
+  took_rest code short all is_v =
+      let D : Desk = picked d p.receiver (transmit_of p c me w.fetch n) Plain in
+      let t = taking_record in
+      let less : nat_lt n (d.buf p.receiver) ≡ true = ap (nat_lt n) w.room ∙ is_lt n p.room short in
+      let u : In = In_done p.id p.document (k + n) in
+      let E : Desk = ended (longer D p.receiver t n) p.receiver t u in
+      let eq : taken_it ≡ E = ap (λ (x : Code). taken_desk (picked d p.receiver (transmit_of p c me w.fetch n) x)
+      p.receiver t sent_back.letter) code ∙
+      ap (λ (b : Bool). if b then E else fetched (longer D p.receiver t n) p.receiver t n me) less in
+      subst (λ (z : Desk). AllCame p z) (sym eq) (record {
+        sends = subst (λ (x : Out). Has x (d.sending p.sender)) is_v (sender_record w);
+        takes = subst (λ z. Has (In_done p.id p.document z) (put d.taking p.receiver (with_id in_id p.id u (d.taking
+            p.receiver)) p.receiver)) all
+            (subst (λ z. Has u z) (sym (with_last u)) (Has-right u p.ins (u ∷ []) (inl refl)));
+        document = document_is ∙ ap (λ (x : List ℕ). Option.Some x) (take_whole (k + n) p.source all);
+      })
 
 -- ---- the save and the first poll
-
--- the records beside
-abbrev pub out_rest : Desk → ℕ → List Out
-out_rest d s = rest d.most is_open (d.sending s)
-
-abbrev pub in_rest : Desk → ℕ → List In
-in_rest d r = rest d.most is_going (d.taking r)
 
 -- what a transfer begins with: the post is empty, and no other record goes on
 pub record Ready (d : Desk) (s r anchor : ℕ) (source : List ℕ) : Type 0 where
@@ -594,32 +417,9 @@ pub record Ready (d : Desk) (s r anchor : ℕ) (source : List ℕ) : Type 0 wher
   pub closed : any is_open (d.sending s) ≡ false
   pub idle : any is_going (d.taking r) ≡ false
   pub block : d.block s anchor ≡ Some source
-  pub live_sender : d.live s ≡ true
-  pub live_receiver : d.live r ≡ true
   pub fetches : d.file s ≡ false
   pub some : 0 < d.buf r
   pub order : Order d.queue d.sending d.taking d.next_ref
-
-pub ready_lost : {d : Desk} {s r anchor : ℕ} {source : List ℕ} (b : Bool) → Ready d s r anchor source →
-    Ready (lost_if b d) s r anchor source
-ready_lost true w = record {
-  queue = w.queue;
-  held = w.held;
-  closed = w.closed;
-  idle = w.idle;
-  block = w.block;
-  live_sender = w.live_sender;
-  live_receiver = w.live_receiver;
-  fetches = w.fetches;
-  some = w.some;
-  order = w.order;
-}
-ready_lost false w = w
-
-pub saved_lost : (b : Bool) (d : Desk) (s anchor r : ℕ) →
-    lost_if b (saved d s anchor r) ≡ saved (lost_if b d) s anchor r
-saved_lost true d s anchor r = refl
-saved_lost false d s anchor r = refl
 
 -- its message
 abbrev pub offer : Desk → ℕ → ℕ → ℕ → Message
@@ -636,6 +436,21 @@ offer d s r anchor = record {
   };
 }
 
+-- the transfer that begins, its document and its buffer
+abbrev pub pair_of : Desk → ℕ → ℕ → ℕ → List ℕ → ℕ → ℕ → Pair
+pair_of d s r anchor source document address = record {
+  sender = s;
+  receiver = r;
+  id = d.next_ref;
+  anchor = anchor;
+  source = source;
+  document = document;
+  address = address;
+  room = d.buf r;
+  outs = rest d.most is_open (d.sending s);
+  ins = rest d.most is_going (d.taking r);
+}
+
 module _ (d : Desk) (s r anchor : ℕ) (source : List ℕ) (w : Ready d s r anchor source) where
   abbrev d0 : Desk
   d0 = saved d s anchor r
@@ -647,69 +462,42 @@ module _ (d : Desk) (s r anchor : ℕ) (source : List ℕ) (w : Ready d s r anch
   none_held h = put_all (λ j (v : Option Message). v ≡ None) d.held s (still_held (d.held s) 0)
       (ap (λ (v : Option Message). still_held v 0) (w.held s)) (λ j ne. w.held j) h
 
-  -- it is taken
-  pub receiver_first : (luck : Luck) →
-      can_begin (picked d0 r (offer d s r anchor) Recorded) r luck (offer d s r anchor).letter ≡ true →
-      GoesOn (out_rest d s) (in_rest d r) d (after_return d0 r luck) luck.anchor luck.address s r d.next_ref anchor 0
-      source
-  receiver_first luck can =
+  -- the offer is taken, and the first fetch waits
+  pub took_first : (after : Desk) (b : Began (picked d0 r (offer d s r anchor) Recorded) r (offer d s r anchor).letter
+      after) → Waiting (pair_of d s r anchor source b.anchor b.address) after 0
+  took_first after b =
       let m = offer d s r anchor in
-      let l = m.letter in
-      let d1 : Desk = picked d0 r m Recorded in
-      let free : d.block r luck.anchor ≡ None = none_of (d.block r luck.anchor)
-      (and_left (is_none (d.block r luck.anchor)) _ (and_right (nat_lt (how_many is_going (d.taking r)) d.most) _
-      (and_right (not (d.deaf r)) _ can))) in
-      let bl = put (d.block r) luck.anchor (Some []) in
-      let bytes : List ℕ = replicate (d.buf r + luck.spare) 0 in
-      let hp = put (d.heap r) luck.address (Some bytes) in
-      let apart = λ (e : s ≡ r) (a : anchor ≡ luck.anchor). none_some (d.block r luck.anchor) free
+      let p = pair_of d s r anchor source b.anchor b.address in
+      let bl = put (d.block r) b.anchor (Some []) in
+      let hp = put (d.heap r) b.address (Some b.bytes) in
+      let apart = λ (e : s ≡ r) (a : anchor ≡ b.anchor). none_some (d.block r b.anchor) b.free_anchor
       (subst (λ j. d.block r j ≡ Some source) a (subst (λ j. d.block j anchor ≡ Some source) e w.block)) in
-      let eq : after_return d0 r luck ≡ begun d1 r luck l = poll_one d0 r luck m offer_queued refl ∙ ap (λ (b : Bool).
-      on_save d1 r luck l b) can in
-      subst (λ (z : Desk). GoesOn (out_rest d s) (in_rest d r) d z luck.anchor luck.address s r d.next_ref anchor 0
-      source) (sym eq) (record {
-        size = refl;
-        waits = record {
-          sides = record {
-            closed = rest_none d.most is_open (d.sending s) w.closed;
-            idle = rest_none d.most is_going (d.taking r) w.idle;
-            outs = λ v h eq. let z = w.order.out_below s v (rest_old d.most is_open (d.sending s) v h) in omega arith;
-            ins = λ v h eq. let z = w.order.in_below r v (rest_old d.most is_going (d.taking r) v h) in omega arith;
-          };
-          fetch = d.next_ref + 1;
-          last = d.next_ref;
-          bytes = bytes;
-          queue = ap (λ (q : List Message). q ++ (record {
-            code = Recorded;
-            to = s;
-            letter = record {
-              from = r;
-              me = d.next_ref + 1;
-              answers = d.next_ref;
-              kind = RamFetch;
-              address = luck.address;
-              amount = d.buf r;
-            };
-          } ∷
-              [])) (ap (without_first r) offer_queued ∙ without_one r m refl);
-          held = let_go d0.held r m none_held;
-          sends = put_same d.sending s _;
-          takes = put_same d.taking r _;
-          block = elim (eqb_tells s r) [
-            | inl e ↦ subst (λ j. put d.block r bl j anchor ≡ Some source) (sym e.1) (ap (λ (f : ℕ → Option (List ℕ)).
-                f anchor) (put_same d.block r bl) ∙ put_other (d.block r) luck.anchor (Some []) anchor (apart e.1) ∙
-                subst (λ j. d.block j anchor ≡ Some source) e.1 w.block)
-            | inr e ↦ ap (λ (f : ℕ → Option (List ℕ)). f anchor) (put_other d.block r bl s e.1) ∙ w.block
-          ];
-          document = ap (λ (f : ℕ → Option (List ℕ)). f luck.anchor) (put_same d.block r bl) ∙ put_same (d.block r)
-              luck.anchor (Some []);
+      subst (λ (z : Desk). Waiting p z 0) (sym b.seen) (record {
+        alone = record {
+          closed = rest_none d.most is_open (d.sending s) w.closed;
+          idle = rest_none d.most is_going (d.taking r) w.idle;
+          outs = λ v h eq. let z = w.order.out_below s v (rest_old d.most is_open (d.sending s) v h) in omega arith;
+          ins = λ v h eq. let z = w.order.in_below r v (rest_old d.most is_going (d.taking r) v h) in omega arith;
           apart = apart;
-          buffer = ap (λ (f : ℕ → Option (List ℕ)). f luck.address) (put_same d.heap r hp) ∙ put_same (d.heap r)
-              luck.address (Some bytes);
-          size = let z : length bytes ≡ d.buf r + luck.spare = length-replicate (d.buf r + luck.spare) 0 in omega arith;
           some = w.some;
-          live_sender = w.live_sender;
-          live_receiver = w.live_receiver;
-          fetches = w.fetches;
         };
+        fetch = d.next_ref + 1;
+        last = d.next_ref;
+        bytes = b.bytes;
+        queue = ap (λ (q : List Message). q ++ (fetch_of p (d.next_ref + 1) d.next_ref ∷ []))
+            (ap (without_first r) offer_queued ∙ without_one r m refl);
+        held = let_go d0.held r m none_held;
+        sends = put_same d.sending s _;
+        takes = put_same d.taking r _;
+        source = put_all (λ j (g : ℕ → Option (List ℕ)). j ≡ s → g anchor ≡ Some source) d.block r bl
+            (λ here. put_other (d.block r) b.anchor (Some []) anchor (apart (sym here)) ∙
+            ap (λ j. d.block j anchor) here ∙ w.block)
+            (λ j ne here. ap (λ i. d.block i anchor) here ∙ w.block) s refl;
+        document = ap (λ (f : ℕ → Option (List ℕ)). f b.anchor) (put_same d.block r bl) ∙ put_same (d.block r)
+            b.anchor (Some []);
+        buffer = ap (λ (f : ℕ → Option (List ℕ)). f b.address) (put_same d.heap r hp) ∙ put_same (d.heap r) b.address
+            (Some b.bytes);
+        fits = b.size;
+        room = refl;
+        fetches = w.fetches;
       })

@@ -1,0 +1,177 @@
+-- The messages of a transfer by way of the scrap file keep the invariant.
+use Rattle.std.proofs.Common.{◌≡◌, ℕ, true, List, [], ◌++◌, length, Option, Some, None, refl, sym, ap, ◌∙◌}
+use Rattle.std.proofs.Common.{subst}
+use Rattle.std.specs.Prelude.{nat_eq}
+use Rattle.std.specs.Option.{option_map}
+use Rattle.rh_defs.specs.declared.message.Action.TheVariants as action
+use Rattle.rh_defs.specs.declared.message.Body.{Body}
+use Rattle.rh_defs.specs.declared.transfer.Sending.{Sending}
+use Rattle.rh_defs.specs.declared.transfer.Asked.{Asked}
+use Rattle.rh_defs.specs.declared.transfer.Outgoing.{Outgoing}
+use Rattle.rh_defs.specs.declared.transfer.Outgoing.TheVariants as outgoing
+use Rattle.rh_defs.specs.declared.transfer.Incoming.{Incoming}
+use Rattle.rh_defs.specs.declared.transfer.Incoming.TheVariants as incoming
+use Rattle.rh_defs.specs.Slot.{slot_block}
+use Rattle.rh_defs.specs.Messages.{Parcel, action_of}
+use Rattle.rh_defs.specs.Letters.{load_letter, load_ack_letter}
+use Rattle.rh_defs.specs.Sender as sender
+use Rattle.rh_defs.specs.Receiver as receiver
+use Rattle.rh_defs.specs.Desk.{Desk, Task, Scrap, next_ref, send_letter}
+use Rattle.rh_defs.specs.OutgoingEvents.{Handled, scrap_shortage, wider, save_scrap, answer_ack, finish_load, ignored}
+use Rattle.rh_defs.specs.IncomingEvents.{appended, loaded, load_file, take_file}
+use Rattle.rh_safety.proofs.View.{view, seen_letter, seen_scrap, blocks_of, task_of}
+use Rattle.rh_safety.proofs.Ends.{Letter, Has, Offers, Edits, put}
+use Rattle.rh_safety.proofs.Protocol as protocol
+use Rattle.rh_safety.proofs.Basics.{either, and_left, and_right, is_equal, open_is, asking_is}
+use Rattle.rh_safety.proofs.Invariant.{Good}
+use Rattle.rh_safety.proofs.Arrivals.{Read, shut_good, filed_good, loaded_good, unasked_good, told_good, untold_good}
+use Rattle.rh_safety.proofs.SeenTasks.{field_is, live_of, outs_view, ins_view}
+use Rattle.rh_safety.proofs.SeenBlocks.{from_test, ok_is}
+use Rattle.rh_safety.proofs.SeenSends.{by_grant, with_step, sent_view}
+use Rattle.rh_safety.proofs.SeenHandled.{letter_of, IsLonger, longer_is, block_there}
+use Rattle.rh_safety.proofs.Keeps.{seen_good}
+
+module _ {o : Offers} {e : Edits} (d : Desk) (t : Task) (m : Parcel) (b : Body) (is : task_of t.handle d.tasks ≡ Some t)
+    (g : Good o e (view d)) (rd : Read o (view d) t.handle (letter_of m b)) where
+  abbrev h : ℕ
+  h = t.handle
+
+  abbrev l : Letter
+  l = letter_of m b
+
+  live : (view d).live h ≡ true
+  live = live_of d h t is
+
+  abbrev IsKept : Handled → Type 0
+  IsKept y = Good o e (view y.0)
+
+  -- the bytes at an anchor
+  block_seen : (k : ℕ) → (view d).block h k ≡ blocks_of t.slot k
+  block_seen k = ap (λ (f : ℕ → Option (List ℕ)). f k) (field_is (λ y. blocks_of y.slot) (λ a. None) h d.tasks t is)
+
+  -- ---- the sender
+
+  fails : (x : Sending) → Has (outgoing.Open x) ((view d).sending h) → Good o e (protocol.failed (view d) h x)
+  fails x has = shut_good h x g.inv (λ s y r ne. g.pending s y r) g.born has
+
+  -- a DataSaveAck: the source becomes the scrap file
+  ack_by : action_of b ≡ action.DataSaveAck → (v : Option Sending) →
+      sender.on_ack m.message.from m.message.your_ref ((view d).sending h) ≡ v → IsKept (answer_ack d t m v)
+  unfolding answer_ack save_scrap
+  ack_by kind None q = g
+  ack_by kind (Some x) q =
+      let w = open_is (sender.asks_for m.message.from m.message.your_ref) ((view d).sending h) x q in
+      let both = and_left _ (nat_eq x.id x.last) w.1 in
+      let from : m.message.from ≡ x.recipient = is_equal _ _ (and_left (nat_eq m.message.from x.recipient) _ both) in
+      let answers = is_equal _ _ (and_right _ (nat_eq m.message.your_ref x.id) both) in
+      by_grant IsKept _ _
+      (λ y z. with_step (slot_block x.anchor t.slot) _ y z (λ s e1 z1.
+      let n : ℕ = length s.here.bytes in
+      let after : Desk = wider (scrap_shortage n d) d in
+      let letter = load_letter h m n in
+      with_step (send_letter letter after) _ y (from_test _ _ y (from_test _ _ y (from_test _ _ y z1)))
+      (λ sent e2 z2.
+      let v : view sent ≡ protocol.sent (view d) h (seen_letter letter d.post.next_ref) = sent_view after sent letter e2
+      live in
+      let edit = sender.saved x (next_ref d) in
+      let file : protocol.Scrap = record { load = next_ref d; bytes = s.here.bytes } in
+      subst IsKept (ok_is _ y z2) (seen_good (outs_view (record sent {
+        scrap = Some (record { load = next_ref d; bytes = s.here.bytes });
+      }) h edit (ap (λ (y : protocol.Desk). y.live h) v ∙ live) ∙
+      ap (λ (y : protocol.Desk). record y { sending = put y.sending h (edit (y.sending h)); scrap = Some file }) v ∙
+      ap (λ k. record (protocol.sent (view d) h (seen_letter (record letter { to = k }) d.post.next_ref)) {
+        sending = put (view d).sending h (edit ((view d).sending h));
+        scrap = Some file;
+      }) from)
+      (filed_good h l x s.here.bytes g rd kind w.0 answers (block_seen x.anchor ∙ block_there x.anchor t.slot s e1))))))
+      (λ refusal z. seen_good (outs_view d h (sender.failed x) live) (fails x w.0))
+
+  pub ack_keeps : action_of b ≡ action.DataSaveAck →
+      IsKept (answer_ack d t m (sender.on_ack m.message.from m.message.your_ref t.sending))
+  ack_keeps kind = subst (λ (xs : List Outgoing). IsKept (answer_ack d t m (sender.on_ack m.message.from
+      m.message.your_ref xs))) (field_is (λ y. y.sending) [] h d.tasks t is) (ack_by kind _ refl)
+
+  -- a DataLoadAck: all of the source was loaded
+  load_ack_by : (v : Option Sending) → sender.on_load_ack m.message.from m.message.your_ref ((view d).sending h) ≡ v →
+      IsKept (finish_load d t v)
+  unfolding finish_load
+  load_ack_by None q = g
+  load_ack_by (Some x) q =
+      let has = (open_is (sender.is_loaded m.message.from m.message.your_ref) ((view d).sending h) x q).0 in
+      by_grant IsKept _ _
+      (λ y z. with_step (slot_block x.anchor t.slot) _ y z (λ s e1 z1.
+      subst IsKept (ok_is _ y z1) (seen_good (outs_view d h (sender.loaded x (length s.here.bytes)) live)
+      (loaded_good h x s.here.bytes g has (block_seen x.anchor ∙ block_there x.anchor t.slot s e1)))))
+      (λ refusal z. seen_good (outs_view d h (sender.failed x) live) (fails x has))
+
+  pub load_ack_keeps : IsKept (finish_load d t (sender.on_load_ack m.message.from m.message.your_ref t.sending))
+  load_ack_keeps = subst (λ (xs : List Outgoing). IsKept (finish_load d t (sender.on_load_ack m.message.from
+      m.message.your_ref xs))) (field_is (λ y. y.sending) [] h d.tasks t is) (load_ack_by _ refl)
+
+  -- ---- the receiver
+
+  -- a DataLoad: the file is in the document
+  loaded_keeps : (q : Asked) (bytes : List ℕ) (after : Desk) → IsLonger d t q.anchor bytes after →
+      m.message.from ≡ q.sender → Has (incoming.Asking q) ((view d).taking h) → o q.id ≡ Some bytes →
+      IsKept (loaded (record after { scrap = None }) t m q (length bytes))
+  unfolding loaded
+  loaded_keeps q bytes after w from has offered =
+      let n = length bytes in
+      let d1 : Desk = record after { scrap = None } in
+      let D : protocol.Desk = protocol.copied (view d) h q bytes in
+      let document : w.document ≡ protocol.bytes_of ((view d).block h q.anchor) = ap protocol.bytes_of (sym w.there ∙
+      sym (block_seen q.anchor)) in
+      let v : view d1 ≡ D = ap (λ (y : protocol.Desk). record y { scrap = None }) w.seen ∙
+      ap (λ (z : List ℕ). record (protocol.with_block (view d) h q.anchor (Some (z ++ bytes))) { scrap = None })
+      document in
+      by_grant IsKept _ _
+      (λ x z. with_step (send_letter (load_ack_letter h m n) d1) _ x z (λ sent e1 z1.
+      let letter = load_ack_letter h m n in
+      let v2 : view sent ≡ protocol.sent (view d1) h (seen_letter letter d1.post.next_ref) = sent_view d1 sent letter e1
+      w.live in
+      let edit = receiver.loaded q n in
+      subst IsKept (ok_is _ x z1)
+      (seen_good (ins_view sent h edit (ap (λ (y : protocol.Desk). y.live h) v2 ∙ w.live) ∙
+      ap (λ (y : protocol.Desk). record y { taking = put y.taking h (edit (y.taking h)) }) v2 ∙
+      ap (λ (z : protocol.Desk). let y = protocol.sent z h (seen_letter letter d1.post.next_ref) in
+      record y { taking = put y.taking h (edit (y.taking h)) }) v ∙
+      ap (λ (k : ℕ). let y = protocol.sent D h (seen_letter letter k) in record y {
+        taking = put y.taking h (edit (y.taking h));
+      }) (ap (λ p. p.next_ref) w.post) ∙
+      ap (λ (k : ℕ). let y = protocol.sent D h (seen_letter (record letter { to = k }) D.next_ref) in
+      record y { taking = put y.taking h (edit (y.taking h)) }) from)
+      (told_good h l q g rd has bytes offered))))
+      (λ refusal z. seen_good (ins_view d1 h (receiver.abandoned q n) w.live ∙ ap (λ (y : protocol.Desk). record y {
+        taking = put y.taking h (receiver.abandoned q n (y.taking h));
+      }) v) (untold_good h l q g rd has bytes offered))
+
+  file_by : action_of b ≡ action.DataLoad → (q : Asked) → Has (incoming.Asking q) ((view d).taking h) →
+      m.message.from ≡ q.sender → m.message.your_ref ≡ q.ack → (v : Option Scrap) → d.scrap ≡ v →
+      IsKept (load_file d t m q v)
+  unfolding load_file
+  file_by kind q has from answers None s = g
+  file_by kind q has from answers (Some file) s =
+      either IsKept (nat_eq file.load m.message.my_ref) _ (ignored d)
+      (λ same.
+      let offered : o q.id ≡ Some file.bytes = (rd.ok.file h q has).whole (seen_scrap file) (ap (option_map seen_scrap)
+      s) kind (sym (is_equal _ _ same)) answers in
+      by_grant IsKept _ _
+      (λ x z. with_step (appended d t q.anchor file.bytes) _ x z (λ after e1 z1.
+      subst IsKept (ok_is _ x z1)
+      (loaded_keeps q file.bytes after (longer_is d t q.anchor file.bytes after is e1) from has offered)))
+      (λ refusal z. seen_good (ins_view d h (receiver.abandoned q 0) live) (unasked_good h q has g)))
+      (λ other. g)
+
+  load_by : action_of b ≡ action.DataLoad → (v : Option Asked) →
+      receiver.on_load m.message.from m.message.your_ref ((view d).taking h) ≡ v → IsKept (take_file d t m v)
+  unfolding take_file
+  load_by kind None q = g
+  load_by kind (Some x) q =
+      let w = asking_is (receiver.is_load m.message.from m.message.your_ref) ((view d).taking h) x q in
+      file_by kind x w.0 (is_equal _ _ (and_left (nat_eq m.message.from x.sender) _ w.1))
+      (is_equal _ _ (and_right (nat_eq m.message.from x.sender) _ w.1)) d.scrap refl
+
+  pub load_keeps : action_of b ≡ action.DataLoad →
+      IsKept (take_file d t m (receiver.on_load m.message.from m.message.your_ref t.taking))
+  load_keeps kind = subst (λ (xs : List Incoming). IsKept (take_file d t m (receiver.on_load m.message.from
+      m.message.your_ref xs))) (field_is (λ y. y.taking) [] h d.tasks t is) (load_by kind _ refl)

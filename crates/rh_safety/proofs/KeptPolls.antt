@@ -1,0 +1,129 @@
+-- A poll keeps the invariant.
+use Rattle.std.proofs.Common.{◌≡◌, ℕ, ◌<◌, true, false, List, Option, Some, None, refl, sym, ap, ◌∙◌, subst}
+use Rattle.std.specs.Option.{option_map}
+use Rattle.rh_defs.specs.declared.message.Action.TheVariants as action
+use Rattle.rh_defs.specs.declared.message.Body.{Body}
+use Rattle.rh_defs.specs.declared.message.Body.TheVariants as body
+use Rattle.rh_defs.specs.declared.message.EventCode.{EventCode}
+use Rattle.rh_defs.specs.declared.message.EventCode.TheVariants.{User, Recorded, Acknowledge}
+use Rattle.rh_defs.specs.declared.command.Command.TheVariants as command
+use Rattle.rh_defs.specs.Messages.{Parcel, action_of}
+use Rattle.rh_defs.specs.Post.{Post, post_poll}
+use Rattle.rh_defs.specs.Desk.{Desk, Task, named, with_delivered}
+use Rattle.rh_defs.specs.OutgoingEvents.{Handled, ignored}
+use Rattle.rh_defs.specs.Transfer as transfer
+use Rattle.rh_defs.specs.Transfer.{answers_none}
+use Rattle.rh_defs.specs.Step.{poll, poll_taken, step}
+use Rattle.rh_safety.proofs.View.{view, seen_parcel, task_of}
+use Rattle.rh_safety.proofs.Ends.{Offers, Edits, first_for}
+use Rattle.rh_safety.proofs.Protocol as protocol
+use Rattle.rh_safety.proofs.Basics.{either}
+use Rattle.rh_safety.proofs.Invariant.{Good}
+use Rattle.rh_safety.proofs.Posts.{returned_good}
+use Rattle.rh_safety.proofs.Polls.{Taken, not_fetch_good, unanswered_good, came_taken, back_ready, lost_if_good, lost_if_handle}
+use Rattle.rh_safety.proofs.Polls.{returned_handle}
+use Rattle.rh_safety.proofs.SeenTasks.{field_is, live_of}
+use Rattle.rh_safety.proofs.SeenFrames.{Fits, bind, done, instead_of, the_task}
+use Rattle.rh_safety.proofs.SeenTaking.{IsTaken, picked_by, poll_taken_is}
+use Rattle.rh_safety.proofs.SeenHandled.{letter_of}
+use Rattle.rh_safety.proofs.Keeps.{Keeps, seen_good}
+use Rattle.rh_defs.specs.declared.transfer.Taking.{Taking}
+use Rattle.rh_safety.proofs.Ends.{Active}
+use Rattle.rh_safety.proofs.Sends.{Quiet}
+use Rattle.rh_safety.proofs.KeptBacks.{back_keeps}
+use Rattle.rh_safety.proofs.KeptFetch.{fetch_keeps}
+use Rattle.rh_safety.proofs.KeptOffers.{save_keeps}
+use Rattle.rh_safety.proofs.KeptTransmits.{transmit_keeps}
+use Rattle.rh_safety.proofs.KeptFiles.{ack_keeps, load_keeps, load_ack_keeps}
+
+module _ {o : Offers} {e : Edits} (d : Desk) (t : Task) (m : Parcel) (is : task_of t.handle d.tasks ≡ Some t) where
+  good_of : (b : Body) → Taken o e (view d) t.handle (letter_of m b) → (action_of b ≡ action.RamFetch → ⊥) → Good o e (view d)
+  good_of b = not_fetch_good t.handle (letter_of m b)
+
+  came_keeps : (b : Body) → Taken o e (view d) t.handle (letter_of m b) → Good o e (view (transfer.came d t m b).0)
+  unfolding transfer.came
+  came_keeps (body.DataSave x) tk = save_keeps d t m (body.DataSave x) is (good_of (body.DataSave x) tk (λ q.
+      let z : action.DataSave ≡ action.RamFetch = q in (cc))) tk.read refl
+  came_keeps (body.DataSaveAck x) tk = ack_keeps d t m (body.DataSaveAck x) is (good_of (body.DataSaveAck x) tk (λ q.
+      let z : action.DataSaveAck ≡ action.RamFetch = q in (cc))) tk.read refl
+  came_keeps (body.DataLoad x) tk = load_keeps d t m (body.DataLoad x) is (good_of (body.DataLoad x) tk (λ q.
+      let z : action.DataLoad ≡ action.RamFetch = q in (cc))) tk.read refl
+  came_keeps (body.DataLoadAck x) tk = load_ack_keeps d t m (body.DataLoadAck x) is (good_of (body.DataLoadAck x) tk
+      (λ q. let z : action.DataLoadAck ≡ action.RamFetch = q in (cc))) tk.read
+  came_keeps (body.RamFetch buffer amount) tk = either (λ (x : Handled). Good o e (view x.0)) (answers_none t.manner)
+      (ignored d) _
+      (λ y. unanswered_good t.handle (letter_of m (body.RamFetch buffer amount)) tk (λ x r w z. let v : true ≡ false =
+      sym (field_is (λ y. answers_none y.manner) false t.handle d.tasks t is ∙ y) ∙ z in cc))
+      (λ y. fetch_keeps d t m is buffer amount tk y)
+  came_keeps (body.RamTransmit buffer n) tk = transmit_keeps d t m is buffer n (good_of (body.RamTransmit buffer n) tk
+      (λ q. let z : action.RamTransmit ≡ action.RamFetch = q in (cc))) tk.read
+
+-- what is known of the desk that a message is handled on: it was taken just now, or came back
+pub record Given (o : Offers) (e : Edits) (d : Desk) (t : Task) (m : Parcel) : Type 0 where
+  pub is : task_of t.handle d.tasks ≡ Some t
+  pub handle : t.handle < (view d).next_handle
+  pub came : (m.code ≡ Acknowledge → ⊥) → Taken o e (view d) t.handle (seen_parcel m).letter
+  pub back : m.code ≡ Acknowledge → Good o e (view d)
+  pub quiet : m.code ≡ Acknowledge → (k : Taking) → Active ((view d).taking t.handle) k → m.message.my_ref ≡ k.fetch →
+      Quiet (view d) t.handle k.id
+
+handled_keeps : {o : Offers} {e : Edits} (d : Desk) (t : Task) (m : Parcel) → Given o e d t m → (c : EventCode) →
+    m.code ≡ c → Good o e (view (transfer.handled d t m c).0)
+unfolding transfer.handled
+handled_keeps d t m w User q = came_keeps d t m w.is m.message.body (w.came (λ z. let y : User ≡ Acknowledge = sym q ∙ z
+    in (cc)))
+handled_keeps d t m w Recorded q = came_keeps d t m w.is m.message.body (w.came (λ z. let y : Recorded ≡ Acknowledge =
+    sym q ∙ z in (cc)))
+handled_keeps {o} {e} d t m w Acknowledge q = back_keeps o e d t m w.is (w.back q) w.handle (w.quiet q) m.message.body
+
+module _ {o : Offers} {e : Edits} (d : Desk) (t : Task) (f : Fits d) (is : task_of t.handle d.tasks ≡ Some t)
+    (g : Good o e (view d)) (p : Post × Option Parcel) (w : IsTaken d t.handle p) where
+  -- the desk that the message is taken from
+  abbrev left : protocol.Desk
+  left = protocol.lost_if w.lost (protocol.returned (view d) t.handle ((view d).held t.handle))
+
+  left_good : Good o e left
+  left_good = lost_if_good w.lost (returned_good t.handle ((view d).held t.handle) refl g)
+
+  below : t.handle < left.next_handle
+  below = lost_if_handle (protocol.returned (view d) t.handle ((view d).held t.handle)) w.lost t.handle
+      (returned_handle (view d) ((view d).held t.handle) t.handle t.handle (g.inv.alive t.handle (live_of d t.handle t
+      is)))
+
+  pub given : (m : Parcel) → p.1 ≡ Some m → Given o e (with_delivered p.0 d) t m
+  unfolding with_delivered
+  given m q =
+      let h : ℕ = t.handle in
+      let x = seen_parcel m in
+      let first : first_for h left.queue ≡ Some x = w.first ∙ ap (option_map seen_parcel) q in
+      let seen : view (with_delivered p.0 d) ≡ protocol.picked left h x m.code = w.seen ∙ ap (λ (v : Option Parcel).
+      picked_by h (option_map seen_parcel v) left) q in
+      let back : m.code ≡ Acknowledge → Good o e (view (with_delivered p.0 d)) × ((k : Taking) → Active
+      ((view (with_delivered p.0 d)).taking h) k → m.message.my_ref ≡ k.fetch → Quiet (view (with_delivered p.0 d)) h
+      k.id) = λ code. subst (λ (y : protocol.Desk). Good o e y × ((k : Taking) → Active (y.taking h) k →
+      m.message.my_ref ≡ k.fetch → Quiet y h k.id)) (sym (seen ∙ ap (protocol.picked left h x) code))
+      (back_ready h x left_good first below code) in
+      record {
+        is = is;
+        handle = g.inv.alive h (live_of d h t is);
+        came = λ ne. subst (λ (y : protocol.Desk). Taken o e y h x.letter) (sym seen) (came_taken h x left_good first
+            below m.code refl ne);
+        back = λ code. (back code).0;
+        quiet = λ code. (back code).1;
+      }
+
+  by_message : (v : Option Parcel) → p.1 ≡ v → Good o e (view (poll_taken (with_delivered p.0 d) t v).0)
+  unfolding poll_taken
+  by_message None q = seen_good (w.seen ∙ ap (λ (v : Option Parcel). picked_by t.handle (option_map seen_parcel v) left) q)
+      left_good
+  by_message (Some m) q = handled_keeps (with_delivered p.0 d) t m (given m q) m.code refl
+
+pub poll_keeps : {o : Offers} {e : Edits} (d : Desk) (name : List ℕ) → Fits d → Good o e (view d) →
+    Keeps o e d (command.Poll name) (step d (command.Poll name))
+unfolding poll
+poll_keeps {o} {e} d name f g =
+    let P = Keeps o e d (command.Poll name) in
+    bind P (named name d) _ (instead_of d) (λ r. g) (λ t q. done P _ (instead_of d) (
+    let is = the_task d name t f q in
+    let p = post_poll t.handle d.post in
+    by_message d t f is g p (poll_taken_is d t.handle f (live_of d t.handle t is)) p.1 refl))

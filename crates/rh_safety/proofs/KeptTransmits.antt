@@ -1,0 +1,189 @@
+-- A transmit that came keeps the invariant.
+use Rattle.std.proofs.Common.{◌≡◌, ℕ, ◌+◌, Bool, true, false, List, [], ◌++◌, take, Option, Some, None}
+use Rattle.std.proofs.Common.{refl, sym, ap, ◌∙◌, subst, inl, inr, arith, suc}
+use Rattle.std.specs.Prelude.{if◌then◌else◌, nat_lt}
+use Rattle.std.specs.Option.{option_map}
+use Rattle.std.proofs.lemmas.List.{take_all}
+use Rattle.std.proofs.lemmas.Bool.Decides.{leb_tells}
+use Rattle.rh_defs.specs.declared.refusal.Refusal.{Refusal}
+use Rattle.rh_defs.specs.declared.refusal.Refusal.TheVariants.{NoRoom}
+use Rattle.rh_defs.specs.declared.message.Action.TheVariants as action
+use Rattle.rh_defs.specs.declared.message.Body.TheVariants as body
+use Rattle.rh_defs.specs.declared.reply.Outcome.{Outcome}
+use Rattle.rh_defs.specs.declared.reply.Outcome.TheVariants as outcome
+use Rattle.rh_defs.specs.declared.transfer.Taking.{Taking}
+use Rattle.rh_defs.specs.declared.transfer.Incoming.{Incoming}
+use Rattle.rh_defs.specs.declared.transfer.Incoming.TheVariants as incoming
+use Rattle.rh_defs.specs.Chain.{refuse_if}
+use Rattle.rh_defs.specs.Pieces.{Split}
+use Rattle.rh_defs.specs.Heap.{Segment, bytes_of}
+use Rattle.rh_defs.specs.Slot.{heap_block_at}
+use Rattle.rh_defs.specs.Messages.{Parcel}
+use Rattle.rh_defs.specs.Letters.{fetch_letter}
+use Rattle.rh_defs.specs.Receiver as receiver
+use Rattle.rh_defs.specs.Places.{first_bytes}
+use Rattle.rh_defs.specs.Desk.{Desk, Task, next_ref, send_letter}
+use Rattle.rh_defs.specs.OutgoingEvents.{Handled}
+use Rattle.rh_defs.specs.IncomingEvents.{appended, fetch_more, took, is_uncountable, take_bytes}
+use Rattle.rh_safety.specs.Alternation.{is_refusal}
+use Rattle.rh_safety.proofs.View.{view, seen_letter, blocks_of, buffers_of, task_of}
+use Rattle.rh_safety.proofs.Ends.{Letter, Has, Offers, Edits, put, In_done, In_failed}
+use Rattle.rh_safety.proofs.Protocol as protocol
+use Rattle.rh_safety.proofs.Basics.{either, FoundActive, fetches, drains, active_is}
+use Rattle.rh_safety.proofs.Invariant.{Good}
+use Rattle.rh_safety.proofs.Arrivals.{Matched, Read, matched, read_quiet, given_up_good, here_quiet, stopped_good}
+use Rattle.rh_safety.proofs.Arrivals.{fetched_good, finished_good}
+use Rattle.rh_safety.proofs.SeenTasks.{field_is, live_of, ins_view}
+use Rattle.rh_safety.proofs.SeenBlocks.{ok_is}
+use Rattle.rh_safety.proofs.SeenSends.{by_grant, with_step, sent_view}
+use Rattle.rh_safety.proofs.SeenHandled.{letter_of, buffer_is, ended_view, IsLonger, longer_is}
+use Rattle.rh_safety.proofs.Keeps.{seen_good}
+
+-- the desk once the bytes of a transmit are in the document: fewer than the buffer has were the last
+abbrev pub taken_desk : protocol.Desk → ℕ → Taking → Letter → protocol.Desk
+taken_desk d h r l =
+    let D = protocol.longer d h r l.amount in
+    if nat_lt l.amount (d.buf h) then protocol.ended D h r (In_done r.id r.anchor (r.count + l.amount))
+    else protocol.fetched D h r l.amount l.me
+
+-- what a transmit does to the record that fetches, and what the poll answers
+pub data Took (d : protocol.Desk) (h : ℕ) (r : Taking) (l : Letter) (a : Outcome) (after : protocol.Desk) : Type 0 where
+  refuses : (s : Refusal) → a ≡ outcome.Refused s → after ≡ protocol.given_up d h r → Took d h r l a after
+  stops : (s : Refusal) → a ≡ outcome.TookFailed l.amount s → after ≡ protocol.ended (protocol.longer d h r l.amount) h
+      r (In_failed r.id r.anchor (r.count + l.amount)) → Took d h r l a after
+  takes_all : after ≡ taken_desk d h r l → Took d h r l a after
+
+-- the bytes were taken, where nothing was refused
+pub took_all : (d : protocol.Desk) (h : ℕ) (r : Taking) (l : Letter) (a : Outcome) (after : protocol.Desk) →
+    Took d h r l a after → is_refusal action.RamTransmit a ≡ false → after ≡ taken_desk d h r l
+took_all d h r l a after (refuses s q v) granted =
+    let z : is_refusal action.RamTransmit (outcome.Refused s) ≡ false = subst (λ (u : Outcome).
+    is_refusal action.RamTransmit u ≡ false) q granted in absurd (cc)
+took_all d h r l a after (stops s q v) granted =
+    let z : is_refusal action.RamTransmit (outcome.TookFailed l.amount s) ≡ false = subst (λ (u : Outcome).
+    is_refusal action.RamTransmit u ≡ false) q granted in absurd (cc)
+took_all d h r l a after (takes_all v) granted = v
+
+took_good : {o : Offers} {e : Edits} {d : protocol.Desk} (h : ℕ) (r : Taking) (l : Letter) (a : Outcome)
+    (after : protocol.Desk) → Good o e d → Read o d h l → l.kind ≡ action.RamTransmit →
+    Has (incoming.Fetching r) (d.taking h) → Matched d h r l → Took d h r l a after → Good o e after
+took_good h r l a after g rd kind is m (refuses s q v) = seen_good v (given_up_good h r g (inl is) (here_quiet h r l g
+    rd kind is m))
+took_good h r l a after g rd kind is m (stops s q v) = seen_good v (stopped_good h r l g rd kind is m)
+took_good {o} {e} {d} h r l a after g rd kind is m (takes_all v) =
+    seen_good v (either (Good o e) (nat_lt l.amount (d.buf h)) _ _
+    (λ short. finished_good h r l g rd kind is m (elim (leb_tells (suc l.amount) (d.buf h)) [
+      | inl w ↦ w.1
+      | inr w ↦ absurd (let z = w.0 in (cc))
+    ]))
+    (λ full. fetched_good h r l g rd kind is m))
+
+module _ (d : Desk) (t : Task) (m : Parcel) (is : task_of t.handle d.tasks ≡ Some t) (buffer n : ℕ) where
+  abbrev h : ℕ
+  h = t.handle
+
+  abbrev l : Letter
+  l = letter_of m (body.RamTransmit buffer n)
+
+  buffer_size : (view d).buf h ≡ t.buffer
+  buffer_size = field_is (λ y. y.buffer) 1 h d.tasks t is
+
+  first_is : (o : Option (Split Segment)) →
+      first_bytes n o ≡ take n (protocol.bytes_of (option_map (λ (b : Split Segment). bytes_of b.here) o))
+  first_is None = sym (take_all n [] (omega arith))
+  first_is (Some b) = refl
+
+  -- the document is longer
+  longer_seen : (r : Taking) (after : Desk) → IsLonger d t r.anchor (first_bytes n (heap_block_at r.buffer t.slot)) after →
+      view after ≡ protocol.longer (view d) h r n
+  longer_seen r after w =
+      let bytes : first_bytes n (heap_block_at r.buffer t.slot) ≡ take n (protocol.bytes_of ((view d).heap h
+      r.buffer)) =
+      first_is (heap_block_at r.buffer t.slot) ∙ ap (λ (o : Option (List ℕ)). take n (protocol.bytes_of o))
+      (buffer_is r.buffer t.slot) ∙ ap (λ (g : ℕ → Option (List ℕ)). take n (protocol.bytes_of (g r.buffer)))
+      (sym (field_is (λ y. buffers_of y.slot) (λ a. None) h d.tasks t is)) in
+      let document : w.document ≡ protocol.bytes_of ((view d).block h r.anchor) = ap protocol.bytes_of (sym w.there) ∙
+      ap (λ (g : ℕ → Option (List ℕ)). protocol.bytes_of (g r.anchor)) (sym (field_is (λ y. blocks_of y.slot) (λ a.
+      None) h d.tasks t is)) in
+      w.seen ∙ ap (λ (z : List ℕ). protocol.with_block (view d) h r.anchor (Some (w.document ++ z))) bytes ∙
+      ap (λ (z : List ℕ). protocol.with_block (view d) h r.anchor
+      (Some (z ++ take n (protocol.bytes_of ((view d).heap h r.buffer))))) document
+
+  -- what a record does
+  abbrev Does : Taking → Handled → Type 0
+  Does r y = Took (view d) h r l y.1 (view y.0)
+
+  took_does : (r : Taking) (after : Desk) → IsLonger d t r.anchor (first_bytes n (heap_block_at r.buffer t.slot)) after →
+      Does r (took after t m r n)
+  unfolding took fetch_more
+  took_does r after w =
+      let v = longer_seen r after w in
+      let D : protocol.Desk = protocol.longer (view d) h r n in
+      either (Does r) (nat_lt n t.buffer) _ _
+      (λ less. takes_all (ended_view after h r (receiver.finished r n) w.live ∙ ap (λ (y : protocol.Desk). record y {
+        heap = put y.heap h (put (y.heap h) r.buffer None);
+        taking = put y.taking h (receiver.finished r n (y.taking h));
+      }) v ∙ choose true (ap (nat_lt n) buffer_size ∙ less)))
+      (λ full. by_grant (Does r) _ _
+      (λ x q. with_step (send_letter (fetch_letter h r.sender m.message.my_ref r.buffer t.buffer) after) _ x q
+      (λ sent e1 q1.
+      let letter : ℕ → _ = λ size. fetch_letter h r.sender m.message.my_ref r.buffer size in
+      let v2 : view sent ≡ protocol.sent (view after) h (seen_letter (letter t.buffer) after.post.next_ref) =
+      sent_view after sent (letter t.buffer) e1 w.live in
+      let edit = receiver.fetched r n (next_ref after) in
+      subst (Does r) (ok_is _ x q1)
+      (takes_all (ins_view sent h edit (ap (λ (y : protocol.Desk). y.live h) v2 ∙ w.live) ∙
+      ap (λ (y : protocol.Desk). record y { taking = put y.taking h (edit (y.taking h)) }) v2 ∙
+      ap (λ (z : protocol.Desk). let y = protocol.sent z h (seen_letter (letter t.buffer) after.post.next_ref) in
+      record y { taking = put y.taking h (edit (y.taking h)) }) v ∙
+      ap (λ (k : ℕ). let y = protocol.sent D h (seen_letter (letter t.buffer) k) in record y {
+        taking = put y.taking h (receiver.fetched r n k (y.taking h));
+      }) (ap (λ p. p.next_ref) w.post) ∙
+      ap (λ (k : ℕ). let y = protocol.sent D h (seen_letter (letter k) D.next_ref) in record y {
+        taking = put y.taking h (receiver.fetched r n D.next_ref (y.taking h));
+      }) (sym buffer_size) ∙ choose false (ap (nat_lt n) buffer_size ∙ full)))))
+      (λ refusal q. stops refusal refl (ended_view after h r (receiver.failed r (r.count + n)) w.live ∙
+      ap (λ (y : protocol.Desk). record y {
+        heap = put y.heap h (put (y.heap h) r.buffer None);
+        taking = put y.taking h (receiver.failed r (r.count + n) (y.taking h));
+      }) v)))
+    where
+      choose : (c : Bool) → nat_lt n ((view d).buf h) ≡ c →
+          (if c then protocol.ended (protocol.longer (view d) h r n) h r (In_done r.id r.anchor (r.count + n))
+          else protocol.fetched (protocol.longer (view d) h r n) h r n l.me) ≡ taken_desk (view d) h r l
+      choose c q = ap (λ (x : Bool). if x then protocol.ended (protocol.longer (view d) h r n) h r (In_done r.id r.anchor
+          (r.count + n)) else protocol.fetched (protocol.longer (view d) h r n) h r n l.me) (sym q)
+
+  pub transmit_does : (r : Taking) → Does r (take_bytes d t m n (Some (incoming.Fetching r)))
+  unfolding take_bytes
+  transmit_does r =
+      by_grant (Does r) _ _
+      (λ x q. with_step (refuse_if (is_uncountable r n) NoRoom) _ x q (λ _ e0 q0.
+      with_step (appended d t r.anchor (first_bytes n (heap_block_at r.buffer t.slot))) _ x q0 (λ after e q1.
+      subst (Does r) (ok_is _ x q1) (took_does r after (longer_is d t r.anchor _ after is e)))))
+      (λ refusal q. refuses refusal refl (ended_view d h r (receiver.failed r r.count) (live_of d h t is)))
+
+  module _ {o : Offers} {e : Edits} (g : Good o e (view d)) (rd : Read o (view d) h l) where
+    transmit_found : (w : Incoming) →
+        FoundActive (receiver.is_answer ((view d).buf h) m.message.from m.message.your_ref buffer n) ((view d).taking h)
+        w → Good o e (view (take_bytes d t m n (Some w)).0)
+    unfolding take_bytes
+    transmit_found w (fetches r has q) = took_good h r l _ _ g rd refl has (matched (view d) h r l q) (transmit_does r)
+    transmit_found w (drains r has q) =
+        let a = matched (view d) h r l q in
+        seen_good (ended_view d h r (receiver.failed r r.count) (live_of d h t is))
+        (given_up_good h r g (inr has) (read_quiet h r l (inr has) refl a.from a.answers rd.ok g))
+
+    transmit_by : (v : Option Incoming) → receiver.on_transmit ((view d).buf h) m.message.from m.message.your_ref buffer
+        n ((view d).taking h) ≡ v → Good o e (view (take_bytes d t m n v).0)
+    unfolding take_bytes
+    transmit_by None q = g
+    transmit_by (Some w) q = transmit_found w (active_is (receiver.is_answer ((view d).buf h) m.message.from
+        m.message.your_ref buffer n) ((view d).taking h) w q)
+
+    pub transmit_keeps : Good o e (view (take_bytes d t m n (receiver.on_transmit t.buffer m.message.from
+        m.message.your_ref buffer n t.taking)).0)
+    transmit_keeps = transmit_by _
+        (ap (λ k. receiver.on_transmit k m.message.from m.message.your_ref buffer n ((view d).taking h)) buffer_size ∙
+        ap (receiver.on_transmit t.buffer m.message.from m.message.your_ref buffer n) (field_is (λ y. y.taking) [] h
+        d.tasks t is))
