@@ -38,6 +38,7 @@ pub mod QuestionLaws
 pub mod Openings
 pub mod NewWorlds
 pub mod PageLaws
+pub mod Replies
 pub mod Steps
 pub mod AreaCommands
 pub mod ModuleCommands

@@ -1,5 +1,5 @@
 -- The store's bytes and lengths spell the desk.
-use Rattle.std.proofs.Common.{◌≡◌, ℕ, suc, ◌*◌, ◌%◌, ◌<◌, refl, ap, sym, subst, arith, List, [], ◌∷◌, length}
+use Rattle.std.proofs.Common.{◌≡◌, ◌≢◌, ℕ, suc, ◌*◌, ◌%◌, ◌<◌, refl, ap, sym, subst, arith, List, [], ◌∷◌, length}
 use Rattle.std.specs.Prelude.{map, take, Option, Some, None}
 use Rattle.std.specs.List.{AllByRecursion, enumerate_from}
 use Rattle.rh_defs.specs.Memory.{Memory, bytes}
@@ -13,10 +13,12 @@ use Rattle.rh_defs.specs.Laws as laws
 use Rattle.rh_defs.proofs.Spaced.{apart-of}
 use Rattle.rh_defs.specs.Heap.{Heap}
 use Rattle.rh_module.specs.Area.{heap_in}
-use Rattle.rh_wimp.specs.Chains.{Row, AllLie, row_at, row_parcels, rows_of}
+use Rattle.rh_defs.specs.Messages.{Parcel}
+use Rattle.rh_wimp.specs.Chains.{Row, AllLie, Apart, Clear, row_at, row_parcels, rows_of}
 use Rattle.rh_wimp.specs.PostIn.{parcels_of}
 use Rattle.rh_wimp.proofs.LinkLaws.{AllLie-append}
 use Rattle.rh_wimp.proofs.PostInLaws.{rows-unlinked}
+use Rattle.rh_wimp.proofs.RowLaws.{Apart-append, Clear-behind}
 use Rattle.rh_tasks.specs.declared.scrap.ScrapFile.{ScrapFile}
 use Rattle.rh_tasks.specs.declared.seat.Seat.{Seat}
 use Rattle.rh_tasks.specs.declared.made.MadeArea.{MadeArea}
@@ -64,6 +66,24 @@ all-lie : (h : Heap) (rows : List Row) → ((i : ℕ) → i < length rows → Al
 all-lie h [] each = tt
 all-lie h (r ∷ rows) each = AllLie-append h (row_parcels r) (parcels_of rows) (each 0 (omega arith)) (all-lie h rows (λ i inside. each (suc i) (omega arith)))
 
+-- no two messages lie in one block, be they in one row or in two
+clear-none : (ps : List Parcel) → Clear ps []
+clear-none [] = tt
+clear-none (p ∷ ps) = (tt, clear-none ps)
+
+clear-of : (ps : List Parcel) (rows : List Row) → ((i : ℕ) → i < length rows → Clear ps (row_parcels (row_at rows i))) → Clear ps (parcels_of rows)
+clear-of ps [] each = clear-none ps
+clear-of ps (r ∷ rows) each = Clear-behind ps (row_parcels r) (parcels_of rows) (each 0 (omega arith)) (clear-of ps rows (λ i inside. each (suc i) (omega arith)))
+
+all-apart : (rows : List Row) → ((i : ℕ) → i < length rows → Apart (row_parcels (row_at rows i)))
+    → ((i j : ℕ) → i < length rows → j < length rows → i ≢ j → Clear (row_parcels (row_at rows i)) (row_parcels (row_at rows j)))
+    → Apart (parcels_of rows)
+all-apart [] own cross = tt
+all-apart (r ∷ rows) own cross =
+    Apart-append (row_parcels r) (parcels_of rows) (own 0 (omega arith))
+    (all-apart rows (λ i inside. own (suc i) (omega arith)) (λ i j a b other. cross (suc i) (suc j) (omega arith) (omega arith) (λ e. other (omega (arith, e)))))
+    (clear-of (row_parcels r) rows (λ i inside. cross 0 (suc i) (omega arith) (omega arith) (λ e. absurd (omega (arith, e)))))
+
 scrap-spelled : (m : Memory) (scrap : Option ScrapFile) → take (scrap_size scrap) (bytes m 5) ≡ scrap_bytes (scrap_of m scrap)
 unfolding scrap_of
 scrap-spelled m None = refl
@@ -91,6 +111,7 @@ module _ {m : Memory} {seats : List Seat} {made : List MadeArea} {files : FileLi
         spelled = w.areas.module_area.spells;
         but_links = rows-unlinked (heap_in m the_module) s.desk.post.heap kept.queue.entries (rows_of s.desk.post) is.rows is.linked;
         messages = all-lie s.desk.post.heap (rows_of s.desk.post) is.linked.lie;
+        apart = all-apart (rows_of s.desk.post) is.rows.own is.rows.cross;
       }
 
   pub is-spelled : IsSpelled s

@@ -1,5 +1,5 @@
 -- A command's call as a step.
-use Rattle.std.proofs.Common.{◌≡◌, refl, ap, sym, ◌∙◌, subst}
+use Rattle.std.proofs.Common.{◌≡◌, Bool, true, false, refl, ap, sym, ◌∙◌, subst}
 use Rattle.std.specs.Prelude.{List, [], ◌∷◌, ◌++◌, Result, Ok, Err}
 use Rattle.rh_defs.specs.declared.command.Command.{Command}
 use Rattle.rh_defs.specs.declared.refusal.Refusal.{Refusal}
@@ -13,8 +13,9 @@ use Rattle.rh_defs.specs.Runs.{after}
 use Rattle.rh_defs.specs.Step.{change, step}
 use Rattle.rh_defs.proofs.OrderSteps.{order-ignored}
 use Rattle.rh_tasks.specs.Shown.{Shown}
-use Rattle.rh_tasks.specs.Answer.{Gives, GivesAlike, RunsOn, StepsTo, reply_of}
+use Rattle.rh_tasks.specs.Answer.{Does, Gives, GivesAlike, RunsOn, StaysIfRefused, StepsTo, is_question, reply_of}
 use Rattle.rh_tasks.proofs.Reorders.{reordered-refl, reordered-trans}
+use Rattle.rh_tasks.proofs.Replies.{is_refused, never-refuses}
 
 -- where the old desk itself goes, each like it goes
 pub steps-from : (c : Command) (old new : Desk) (said : Reply) → (step old c).1 ≡ said → IsReordered (step old c).0 new → StepsTo c old new said
@@ -28,23 +29,76 @@ unfolding or_else
 equal-steps granted old new (Ok answer) said h s = rw (h, s) refl
 equal-steps granted old new (Err refusal) said h s = rw (h.0, h.1, s) refl
 
-pub stepped : (c : Command) (granted : Granted Answer) (old new : Shown) (result : Result Reply Refusal) (said : Reply) → change old.desk c ≡ granted
+steps-so : (c : Command) (granted : Granted Answer) (old new : Shown) (result : Result Reply Refusal) (said : Reply) → change old.desk c ≡ granted
     → Gives granted old new result → said ≡ reply_of result → StepsTo c old.desk new.desk said
-stepped c granted old new result said same h s =
+steps-so c granted old new result said same h s =
     let e = ap (λ (g : Granted Answer). or_else g (λ refusal. (old.desk, reply.Refused refusal))) same ∙ equal-steps granted old new result said h s in
     steps-from c old.desk new.desk said (ap (λ (p : Answer). p.1) e) (subst (IsReordered (step old.desk c).0) (ap (λ (p : Answer). p.0) e) (reordered-refl (step old.desk c).0))
 
-pub stepped-alike : (c : Command) (granted : Granted Answer) (old new : Shown) (result : Result Reply Refusal) (said : Reply) → change old.desk c ≡ granted
+steps-alike : (c : Command) (granted : Granted Answer) (old new : Shown) (result : Result Reply Refusal) (said : Reply) → change old.desk c ≡ granted
     → GivesAlike granted old new result → said ≡ reply_of result → StepsTo c old.desk new.desk said
 unfolding or_else
-stepped-alike c granted old new (Ok answer) said given h s =
+steps-alike c granted old new (Ok answer) said given h s =
     let e = ap (λ (g : Granted Answer). or_else g (λ refusal. (old.desk, reply.Refused refusal))) (given ∙ h.1.0) in
     steps-from c old.desk new.desk said (ap (λ (p : Answer). p.1) e ∙ sym s) (subst (λ d. IsReordered d new.desk) (sym (ap (λ (p : Answer). p.0) e)) h.1.1)
-stepped-alike c granted old new (Err refusal) said given h s =
+steps-alike c granted old new (Err refusal) said given h s =
     let e = ap (λ (g : Granted Answer). or_else g (λ r. (old.desk, reply.Refused r))) (given ∙ h.0) in
     let same : new.desk ≡ old.desk = ap (λ (x : Shown). x.desk) h.1 in
     steps-from c old.desk new.desk said (ap (λ (p : Answer). p.1) e ∙ sym s)
     (subst (IsReordered (step old.desk c).0) (ap (λ (p : Answer). p.0) e ∙ sym same) (reordered-refl (step old.desk c).0))
+
+-- ---- what a refused command leaves
+
+-- what is granted is no refusal
+granted-stays : (c : Command) (d e : Desk) (old new : Shown) (said answer : Reply) → change d c ≡ Ok (e, answer) → said ≡ answer → StaysIfRefused old new said
+granted-stays c d e old new said answer given same refusal is =
+    absurd (differ answer refusal (never-refuses d e c answer given) (sym same ∙ is))
+  where
+    differ : (answer : Reply) (refusal : Refusal) → is_refused answer ≡ false → answer ≡ reply.Refused refusal → ⊥
+    differ answer refusal other e = let both : ◌≡◌ {A = Bool} true false = sym (ap is_refused e) ∙ other in (cc)
+
+refused-stays : (c : Command) (granted : Granted Answer) (old new : Shown) (result : Result Reply Refusal) (said : Reply) → change old.desk c ≡ granted
+    → Gives granted old new result → said ≡ reply_of result → StaysIfRefused old new said
+refused-stays c granted old new (Ok answer) said given h s = granted-stays c old.desk new.desk old new said answer (given ∙ h) s
+refused-stays c granted old new (Err refusal) said given h s = λ other is. h.1
+
+refused-alike : (c : Command) (granted : Granted Answer) (old new : Shown) (result : Result Reply Refusal) (said : Reply) → change old.desk c ≡ granted
+    → GivesAlike granted old new result → said ≡ reply_of result → StaysIfRefused old new said
+refused-alike c granted old new (Ok answer) said given h s = granted-stays c old.desk h.0 old new said answer (given ∙ h.1.0) s
+refused-alike c granted old new (Err refusal) said given h s = λ other is. h.1
+
+-- ---- a command's call
+
+-- a change
+pub stepped : (c : Command) (granted : Granted Answer) (old new : Shown) (result : Result Reply Refusal) (said : Reply) → change old.desk c ≡ granted → is_question c ≡ false
+    → Gives granted old new result → said ≡ reply_of result → Does c old new said
+stepped c granted old new result said given changes h s = record {
+  steps = steps-so c granted old new result said given h s;
+  refused = refused-stays c granted old new result said given h s;
+  asked = λ asks. absurd (let both : ◌≡◌ {A = Bool} true false = sym asks ∙ changes in (cc));
+}
+
+-- the same, but for the order of messages to different tasks
+pub stepped-alike : (c : Command) (granted : Granted Answer) (old new : Shown) (result : Result Reply Refusal) (said : Reply) → change old.desk c ≡ granted → is_question c ≡ false
+    → GivesAlike granted old new result → said ≡ reply_of result → Does c old new said
+stepped-alike c granted old new result said given changes h s = record {
+  steps = steps-alike c granted old new result said given h s;
+  refused = refused-alike c granted old new result said given h s;
+  asked = λ asks. absurd (let both : ◌≡◌ {A = Bool} true false = sym asks ∙ changes in (cc));
+}
+
+-- a question
+pub asked : (c : Command) (granted : Granted Answer) (world : Shown) (result : Result Reply Refusal) (said : Reply) → change world.desk c ≡ granted
+    → Gives granted world world result → said ≡ reply_of result → Does c world world said
+asked c granted world result said given h s = record {
+  steps = steps-so c granted world world result said given h s;
+  refused = λ refusal is. refl;
+  asked = λ asks. refl;
+}
+
+-- the question that is never refused
+pub told : (c : Command) (world : Shown) (said : Reply) → change world.desk c ≡ Ok (world.desk, said) → Does c world world said
+told c world said given = asked c (Ok (world.desk, said)) world (Ok said) said given refl refl
 
 -- a run of one command more ends with that command's step
 after-more : (d : Desk) (commands : List Command) (c : Command) → after d (commands ++ c ∷ []) ≡ (step (after d commands) c).0

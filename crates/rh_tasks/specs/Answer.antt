@@ -1,11 +1,12 @@
 -- What a command's call gives.
-use Rattle.std.specs.Prelude.{◌≡◌, List, [], ◌∷◌, ◌++◌, Result, Ok, Err}
+use Rattle.std.specs.Prelude.{◌≡◌, Bool, true, false, List, [], ◌∷◌, ◌++◌, Result, Ok, Err}
 use Rattle.std.specs.Result.{MatchResult}
 use Rattle.rh_defs.specs.declared.refusal.Refusal.{Refusal}
 use Rattle.rh_defs.specs.declared.reply.Reply.{Reply}
 use Rattle.rh_defs.specs.declared.reply.Reply.TheVariants as reply
 use Rattle.rh_defs.specs.Chain.{Granted}
 use Rattle.rh_defs.specs.declared.command.Command.{Command}
+use Rattle.rh_defs.specs.declared.command.Command.TheVariants as command
 use Rattle.rh_defs.specs.Desk.{Desk}
 use Rattle.rh_defs.specs.Commands.{Answer}
 use Rattle.rh_defs.specs.Order.{IsReordered}
@@ -25,6 +26,29 @@ GivesAlike granted old new result =
 -- Of each desk that differs from the old one in that order alone, the command gives the reply, and again such a desk.
 abbrev pub StepsTo : Command → Desk → Desk → Reply → Type 0
 StepsTo c old new said = (d : Desk) → IsReordered d old → ((step d c).1 ≡ said) × IsReordered (step d c).0 new
+
+-- A refused command leaves all that is shown as it was: the desk, the areas' bytes and lengths, and the free pages.
+abbrev pub StaysIfRefused : Shown → Shown → Reply → Type 0
+StaysIfRefused old new said = (refusal : Refusal) → said ≡ reply.Refused refusal → new ≡ old
+
+-- whether a command only looks at the desk
+abbrev pub is_question : Command → Bool
+is_question (command.Show name k) = true
+is_question (command.Blocks name) = true
+is_question (command.Heap name) = true
+is_question (command.Status name) = true
+is_question command.Areas = true
+is_question c = false
+
+-- A question leaves all that is shown as it was, whatever it answers.
+abbrev pub StaysIfAsked : Command → Shown → Shown → Type 0
+StaysIfAsked c old new = is_question c ≡ true → new ≡ old
+
+-- a command's step, and what it leaves as it was
+pub record Does (c : Command) (old new : Shown) (said : Reply) : Type 0 where
+  pub steps : StepsTo c old.desk new.desk said
+  pub refused : StaysIfRefused old new said
+  pub asked : StaysIfAsked c old new
 
 -- Where the old desk is that after some commands, but for that order, the new one is that after them and this command.
 abbrev pub RunsOn : Command → Desk → Desk → Type 0

@@ -11,7 +11,7 @@ use Rattle.rh_defs.specs.Messages.{Parcel}
 use Rattle.rh_defs.specs.Post.{Post}
 use Rattle.rh_defs.specs.Desk.{Desk, Task, Made, Scrap, module_pages, free_pages}
 use Rattle.rh_defs.specs.Commands.{module_area, module_start}
-use Rattle.rh_wimp.specs.Chains.{AllLie, rows_of}
+use Rattle.rh_wimp.specs.Chains.{AllLie, Apart, rows_of}
 use Rattle.rh_wimp.specs.PostIn.{parcels_of, unlinked}
 
 -- The desk; the bytes of the module area, and of each slot in order of handle; the lengths of areas 0 to 5 and of the
@@ -45,12 +45,13 @@ scrap_bytes None = []
 scrap_bytes (Some file) = file.bytes
 
 -- The bytes spell the post's heap, but for the link words of messages, which are 0 in the post's heap; there each message's
--- block has the message.
+-- block has the message, and no two messages lie in one block.
 pub record SpellsPost (b : List ℕ) (post : Post) : Type 0 where
   pub heap : Heap
   pub spelled : IsImage b heap
   pub but_links : unlinked (messages_of post) heap ≡ post.heap
   pub messages : AllLie post.heap (messages_of post)
+  pub apart : Apart (messages_of post)
 
 -- the bytes and lengths spell the desk
 pub record IsSpelled (s : Shown) : Type 0 where

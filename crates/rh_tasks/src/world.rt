@@ -6,7 +6,7 @@ ghost use Rattle.rh_defs.specs.Range.{in_range};
 ghost use Rattle.rh_defs.specs.Runs.{start, start_with};
 ghost use Rattle.rh_defs.specs.Laws.{IsDesk};
 ghost use Rattle.rh_tasks.specs.Shown.{IsSpelled, IsBalanced, HasApartBlocks};
-ghost use Rattle.rh_tasks.specs.Answer.{RunsOn, StepsTo, reply_of};
+ghost use Rattle.rh_tasks.specs.Answer.{Does, RunsOn, StaysIfAsked, StaysIfRefused, StepsTo, reply_of};
 ghost use Rattle.rh_tasks.specs.Start.{IsFurnished};
 ghost use Rattle.rh_defs.specs.declared.sizes.TheConstants.{MAX_PAGES, MIN_PAGES};
 
@@ -121,13 +121,15 @@ impl<S: Store> World<S> {
         let _ = &self.store;
     }
 
-    /// Does one command, or answers the first of its refusals and changes nothing. The order of messages to different
-    /// tasks isn't kept, so what is said of the desk is said of each that differs in that order alone. After any commands
-    /// the desk is so the one after them and this one.
+    /// Does one command, or answers the first of its refusals and changes nothing; a question changes nothing in any case.
+    /// The order of messages to different tasks isn't kept, so what is said of the desk is said of each that differs in
+    /// that order alone. After any commands the desk is so the one after them and this one.
     pub fn apply(&mut self, command: &Command) -> Reply
         requires ranged { in_range command.now ≡ true }
         ensures steps { StepsTo command.now self.old.desk self.new.desk result }
         ensures runs { RunsOn command.now self.old.desk self.new.desk }
+        ensures refused { StaysIfRefused self.old self.new result }
+        ensures asked { StaysIfAsked command.now self.old self.new }
         ensures spelled { IsSpelled self.new }
         ensures apart { HasApartBlocks self.new }
         ensures balanced { IsBalanced self.new }
@@ -140,7 +142,7 @@ impl<S: Store> World<S> {
 
     fn change(&mut self, command: &Command) -> Reply
         requires ranged { in_range command.now ≡ true }
-        ensures { StepsTo command.now self.old.desk self.new.desk result }
+        ensures { Does command.now self.old self.new result }
     {
         match command {
             Command::Task {

@@ -1,5 +1,6 @@
 pub mod EncodeLaws
 pub mod DecodeLaws
+pub mod CodecLaws
 pub mod RowLaws
 pub mod RowEdits
 pub mod LinkLaws

@@ -1,5 +1,9 @@
--- What holds of every queue over every module area.
-use Rattle.std.specs.Prelude.{◌≡◌, ℕ, ◌≤◌, ◌^◌, length}
+-- What holds of every queue over every module area, and of every message block.
+use Rattle.std.specs.Prelude.{◌≡◌, ℕ, ◌≤◌, ◌^◌, List, length, take, Ok}
+use Rattle.rh_defs.specs.Bytes.{put}
+use Rattle.rh_defs.specs.MessageImage.{decoded}
+use Rattle.rh_defs.specs.Messages.{Fits, encoded, encoded_length}
+use Rattle.rh_defs.specs.declared.message.Message.{Message}
 use Rattle.rh_defs.specs.Chain.{Granted, answer_of, left_of}
 use Rattle.rh_defs.specs.Heap.{Heap}
 use Rattle.rh_defs.specs.Memory.{Memory, bytes}
@@ -9,6 +13,7 @@ use Rattle.rh_module.specs.Calls as module_calls
 use Rattle.rh_module.specs.declared.module.Module.{Module}
 use Rattle.rh_wimp.specs.Chains.{Chains, SpellsPost}
 use Rattle.rh_wimp.specs.PostIn.{in_order, post_in}
+use Rattle.rh_wimp.specs.declared.layout.TheConstants.{MOST_LENGTH}
 
 -- the area is so small that its blocks have addresses that are words, as every store's areas are
 abbrev pub IsSmall : Memory → Module → Type 0
@@ -30,3 +35,10 @@ GoesBeside {A} allowed call =
     (m n : Memory) (rma : Module) (q : Chains) (post : Post) (result : Granted A) → allowed post → SpellsPost m rma q post
     → module_calls.Leaves m n rma (call m.free (heap_in m rma)) result
     → (result ≡ answer_of (call m.free post.heap)) × SpellsPost n rma q (with_heap (left_of post.heap (call m.free post.heap)) post)
+
+-- What stands in a message block once a message was encoded there decodes to that message: the whole block, whatever was
+-- in it before, and each front of it that has the message's length.
+abbrev pub ComesBack : Type 0
+ComesBack =
+    (m : Message) (block : List ℕ) (n : ℕ) → Fits m → length block ≡ MOST_LENGTH → encoded_length m ≤ n → n ≤ MOST_LENGTH
+    → decoded (take n (put block 0 (encoded m))) ≡ Ok m

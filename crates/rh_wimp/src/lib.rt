@@ -17,5 +17,5 @@ mod sending;
 
 pub use decoding::decode;
 pub use encoding::encode;
-pub use laws::{beside_law, post_law};
+pub use laws::{beside_law, codec_law, post_law};
 pub use queue::Queue;
