@@ -1,12 +1,10 @@
 -- What a command answers where it is granted: no refusal.
 use Rattle.std.proofs.Common.{◌≡◌, refl, ℕ, Bool, true, false, cond}
-use Rattle.std.specs.Prelude.{Option, Some, None, Result, Ok, Err, ℤ, nat_lt, length, ◌==◌}
+use Rattle.std.specs.Prelude.{Option, Some, None, Ok, ℤ, nat_lt, length, ◌==◌}
 use Rattle.rh_defs.specs.declared.command.Command.{Command}
 use Rattle.rh_defs.specs.declared.command.Command.TheVariants as command
-use Rattle.rh_defs.specs.declared.refusal.Refusal.{Refusal}
 use Rattle.rh_defs.specs.declared.reply.Reply.{Reply}
 use Rattle.rh_defs.specs.declared.reply.Reply.TheVariants as reply
-use Rattle.rh_defs.specs.Chain.{Granted}
 use Rattle.rh_defs.specs.Commands.{Answer, start_task, kill, alloc, load, put, free, extend, mid, claim, release, resize, budge, module_area, change_module, change_pages, change_made, change_area, make, remove, rma_claim, rma_free, rma_resize, show, blocks, heap_sums, status}
 use Rattle.rh_defs.specs.Desk.{Desk, Task}
 use Rattle.rh_defs.specs.Messages.{Parcel}

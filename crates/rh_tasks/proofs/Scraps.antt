@@ -1,13 +1,13 @@
 -- Worlds in which area 5 or the scrap file changes.
 use Rattle.std.proofs.Common.{◌≡◌, ℕ, ◌+◌, ◌-◌, ◌*◌, ◌/◌, ◌%◌, ◌<◌, ◌≤◌, refl, ap, sym, subst, ◌∙◌, arith, List, length, take, drop}
-use Rattle.std.specs.Prelude.{Option, Some, None, Ok, Err, IsOk, is_some, replicate, slice_set}
+use Rattle.std.specs.Prelude.{Option, Some, None, Ok, IsOk, is_some, replicate, slice_set}
 use Rattle.std.proofs.lemmas.List.{length-take, take-append-le, take_all}
 use Rattle.rh_defs.specs.Bytes.{part, put}
 use Rattle.rh_defs.proofs.BytesLaws.{length-put, length-part, part-put, part-drop}
 use Rattle.rh_defs.specs.Memory.{Memory, OnlyArea, bytes, with_bytes, grown}
 use Rattle.rh_defs.proofs.MemoryLaws.{bytes-with_bytes, bytes-grown, length-grown, OnlyArea-self, OnlyArea-with_bytes, OnlyArea-grown}
 use Rattle.rh_defs.specs.Files.{FileList}
-use Rattle.rh_defs.specs.Chain.{Granted, ◌>>=◌, no_answer}
+use Rattle.rh_defs.specs.Chain.{Granted, no_answer}
 use Rattle.rh_defs.specs.Pieces.{Split, pages_for}
 use Rattle.rh_defs.specs.declared.message.Letter.{Letter}
 use Rattle.rh_defs.specs.Post.{post_send_pages}

@@ -1,5 +1,5 @@
 -- The handlers of a transfer that goes out, on desks alone.
-use Rattle.std.proofs.Common.{◌≡◌, ℕ, ◌+◌, Bool, true, false, refl, ap, sym, subst, ◌∙◌, arith, List, [], ◌∷◌, length}
+use Rattle.std.proofs.Common.{◌≡◌, ℕ, ◌+◌, Bool, true, false, refl, ap, sym, subst, ◌∙◌, List, [], ◌∷◌, length}
 use Rattle.std.specs.Prelude.{Some, None, Ok, Err, is_some, not, map, nat_lt, take, drop, ◌==◌, ◌&&◌, ◌||◌}
 use Rattle.std.specs.List.{position}
 use Rattle.std.proofs.Math.ListN.{get_or}

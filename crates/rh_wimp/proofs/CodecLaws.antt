@@ -1,9 +1,8 @@
 -- What was encoded in a block is decoded from it, whatever stands behind it.
-use Rattle.std.proofs.Common.{◌≡◌, ℕ, ◌+◌, ◌*◌, ◌%◌, ◌<◌, ◌≤◌, List, [], ◌∷◌, length, take, ap, sym, subst, ◌∙◌, arith}
+use Rattle.std.proofs.Common.{◌≡◌, ℕ, ◌+◌, ◌*◌, ◌%◌, ◌≤◌, List, [], ◌∷◌, length, take, ap, sym, subst, ◌∙◌, arith}
 use Rattle.std.proofs.lemmas.List.{length-take-le}
-use Rattle.std.specs.Prelude.{slice_index}
-use Rattle.rh_defs.specs.Bytes.{word, part, put, SameIn}
-use Rattle.rh_defs.specs.Messages.{Fits, action_number, action_of, data_words, encoded, encoded_length}
+use Rattle.rh_defs.specs.Bytes.{word, put, SameIn}
+use Rattle.rh_defs.specs.Messages.{action_number, action_of, data_words, encoded}
 use Rattle.rh_defs.specs.MessageImage.{SpellWords, SpellsName, SpellsTail, SpellsMessage}
 use Rattle.rh_defs.specs.declared.message.Body.{Body}
 use Rattle.rh_defs.specs.declared.message.Body.TheVariants.{DataSave, DataSaveAck, DataLoad, DataLoadAck, RamFetch, RamTransmit}
