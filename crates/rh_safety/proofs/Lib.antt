@@ -49,5 +49,8 @@ pub mod SeenTurns
 pub mod SeenRanges
 pub mod SeenBuffers
 pub mod RecordLaws
+pub mod CountLaws
+pub mod NameLaws
 pub mod SafetyRows
 pub mod WrongBodies
+pub mod RecordRows

@@ -1,8 +1,7 @@
 -- Records of live tasks stand in order, and what they name is there.
 use Rattle.std.proofs.Common.{◌≡◌, ℕ, ◌+◌, ◌≤◌, ◌<◌, Bool, true, false, ◌||◌, List, [], ◌∷◌, length, take, Option, Some, None, refl, sym}
-use Rattle.std.proofs.Common.{ap, ◌∙◌, subst, ◌⊎◌, inl, inr, arith, length-take}
-use Rattle.std.specs.Prelude.{◌==◌}
-use Rattle.std.specs.List.{Contains, list_any}
+use Rattle.std.proofs.Common.{ap, ◌∙◌, subst, ◌⊎◌, inl, inr, arith}
+use Rattle.std.specs.List.{list_any}
 use Rattle.rh_defs.specs.declared.transfer.Sending.{Sending}
 use Rattle.rh_defs.specs.declared.transfer.Taking.{Taking}
 use Rattle.rh_defs.specs.declared.transfer.Asked.{Asked}
@@ -15,11 +14,9 @@ use Rattle.rh_defs.specs.Desk.{Desk, Task, is_busy_block, is_busy_buffer, task_a
 use Rattle.rh_defs.specs.Laws.{Rise}
 use Rattle.rh_safety.specs.Offered.{bytes_of_block}
 use Rattle.rh_safety.specs.Buffers.{bytes_of_buffer}
-use Rattle.rh_safety.specs.Held.{in_anchor}
 use Rattle.rh_safety.specs.TaskRecords.{HoldsOne, HasBlock, HasBuffer, Measures, IsRecorded, AreRecorded}
 use Rattle.rh_safety.proofs.Ends.{Active, Has}
 use Rattle.rh_safety.proofs.Basics.{Ascend, has_of, is_equal, length_take}
-use Rattle.rh_safety.proofs.Invariant as invariant
 use Rattle.rh_safety.proofs.Invariant.{Good, Offered}
 use Rattle.rh_safety.proofs.SeenHandled.{buffer_is}
 use Rattle.rh_safety.proofs.SeenLaws.{block_is}
@@ -148,7 +145,7 @@ module _ {o : Offered} {e : ℕ → ℕ → Bool} (d : Desk) (g : Good o e (view
   busy_buffer : (address : ℕ) → is_busy_buffer address t ≡ true → HasBuffer t address 0
   busy_buffer address is = let r = passes (is_buffer_of address) t.taking is in of_buffer address r.0 r.1.0 r.1.1
 
-  recorded : IsRecorded d t
+  pub recorded : IsRecorded d t
   recorded = record {
     few_out = subst (λ (vs : List Outgoing). length vs ≤ 8) sends (g.inv.few.outs h);
     few_in = subst (λ (ws : List Incoming). length ws ≤ 8) takes (g.inv.few.ins h);

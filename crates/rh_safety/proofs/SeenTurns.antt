@@ -62,12 +62,12 @@ record IsPolled (o : Offered) (e : Edits) (d : Desk) (h : ℕ) (a : Answer) : Ty
   pub kept : IsDesk a.0
   pub good : Good o e (view a.0)
 
-taken_keys : (d : Desk) (t : Task) (v : Option Parcel) → SameKeys d (poll_taken d t v).0
+pub taken_keys : (d : Desk) (t : Task) (v : Option Parcel) → SameKeys d (poll_taken d t v).0
 unfolding poll_taken
 taken_keys d t None = refl
 taken_keys d t (Some m) = handled_keys d t m m.code
 
-delivered_keys : (p : _) (d : Desk) → SameKeys d (with_delivered p d)
+pub delivered_keys : (p : _) (d : Desk) → SameKeys d (with_delivered p d)
 unfolding with_delivered
 delivered_keys p d = refl
 

@@ -44,15 +44,15 @@ use Rattle.rh_safety.specs.Buffers.{bytes_of_buffer}
 use Rattle.rh_safety.proofs.SafetyRows.{fresh, script}
 
 -- the definitions that may be changed
-record Rules : Type 0 where
-  answers_fetch : Desk → Task → Parcel → ℕ → ℕ → Handled
-  takes_save : Desk → Task → Parcel → Handled
-  answers_ack : Desk → Task → Parcel → Handled
-  takes_file : Desk → Task → Parcel → Handled
-  saves : Desk → List ℕ → ℕ → List ℕ → List ℕ → Granted Answer
-  cancels : Desk → List ℕ → Option ℕ → Granted Answer
+pub record Rules : Type 0 where
+  pub answers_fetch : Desk → Task → Parcel → ℕ → ℕ → Handled
+  pub takes_save : Desk → Task → Parcel → Handled
+  pub answers_ack : Desk → Task → Parcel → Handled
+  pub takes_file : Desk → Task → Parcel → Handled
+  pub saves : Desk → List ℕ → ℕ → List ℕ → List ℕ → Granted Answer
+  pub cancels : Desk → List ℕ → Option ℕ → Granted Answer
 
-abbrev landed : Rules
+abbrev pub landed : Rules
 landed = record {
   answers_fetch = λ d t m buffer amount. answer_fetch d t m buffer amount (sender.on_fetch m.message.from
       m.message.your_ref amount t.sending);
@@ -87,7 +87,7 @@ abbrev polled_by : Rules → Desk → List ℕ → Granted Answer
 polled_by rules d name = named name d >>= λ t. Ok (taken_by rules (with_delivered (post_poll t.handle d.post).0 d) t
     (post_poll t.handle d.post).1)
 
-abbrev step_by : Rules → Desk → Command → Answer
+abbrev pub step_by : Rules → Desk → Command → Answer
 step_by rules d (command.Save name k to leaf) = or_else (rules.saves d name k to leaf) (λ refusal.
     (d, reply.Refused refusal))
 step_by rules d (command.Poll name) = or_else (polled_by rules d name) (λ refusal. (d, reply.Refused refusal))
@@ -95,10 +95,10 @@ step_by rules d (command.CancelIn name id) = or_else (rules.cancels d name id) (
 step_by rules d c = step d c
 
 -- the desk, the offers and the edits after commands
-record Run : Type 0 where
-  desk : Desk
-  offers : Offers
-  edits : Edits
+pub record Run : Type 0 where
+  pub desk : Desk
+  pub offers : Offers
+  pub edits : Edits
 
 abbrev next_by : Rules → Run → Command → Run
 next_by rules r c =
@@ -109,7 +109,7 @@ abbrev run_by : Rules → Run → List Command → Run
 run_by rules r [] = r
 run_by rules r (c ∷ commands) = run_by rules (next_by rules r c) commands
 
-abbrev run_of : Rules → List String → Run
+abbrev pub run_of : Rules → List String → Run
 run_of rules lines = run_by rules (record { desk = fresh; offers = λ id. None; edits = λ h id. false }) (script lines)
 
 -- what the task holds of a transfer, and what that offered

@@ -3,6 +3,8 @@
 ghost use Rattle.rh_defs.specs.Laws.{Always};
 ghost use Rattle.rh_safety.specs.Alternation.{Alternates};
 ghost use Rattle.rh_safety.specs.Buffers.{HasBuffers, HasGoodRanges};
+ghost use Rattle.rh_safety.specs.Names.{HaveOwnNames};
+ghost use Rattle.rh_safety.specs.Polls.{CountsFit, LosesNoBlock};
 ghost use Rattle.rh_safety.specs.Safe.{AlwaysSafe, ScriptsAreSafe};
 ghost use Rattle.rh_safety.specs.TaskRecords.{AreRecorded};
 
@@ -28,7 +30,11 @@ pub fn alternation_law()
 {}
 
 /// After any commands: the records of a live task stand in order of id, at most eight each way; what
-/// they name is there and long enough, each buffer for one transfer; and each busy block is live.
+/// they name is there and long enough, each buffer for one transfer; and each busy block is live. No
+/// poll answers NoBlock, and no count outgrows a 32-bit word. Live tasks have different names.
 pub fn record_law()
-    ensures { Always AreRecorded }
+    ensures records { Always AreRecorded }
+    ensures blocks { Always LosesNoBlock }
+    ensures counts { Always CountsFit }
+    ensures names { Always HaveOwnNames }
 {}

@@ -1,7 +1,21 @@
+use Rattle.rh_safety.specs.Polls.{CountsFit, LosesNoBlock}
 use Rattle.rh_safety.specs.TaskRecords.{AreRecorded}
 use Rattle.rh_safety.proofs.RecordLaws.{are_recorded}
+use Rattle.rh_safety.proofs.CountLaws.{counts_fit}
+use Rattle.rh_safety.proofs.NameLaws.{always_own_names}
+use Rattle.rh_safety.proofs.SeenDesks.{fits}
 use Rattle.rh_safety.proofs.SeenLaws.{always}
+use Rattle.rh_safety.proofs.SeenRanges.{no_lost_blocks}
 use Rattle.rh_safety.proofs.laws.record_law.Goals as goal
 
-pub returns : goal.returns
-returns c = always AreRecorded (λ d w. are_recorded d w.good)
+pub returns-clause-records : goal.returns-clause-records
+returns-clause-records c = always AreRecorded (λ d w. are_recorded d w.good)
+
+pub returns-clause-blocks : goal.returns-clause-blocks
+returns-clause-blocks c = always LosesNoBlock (λ d w. no_lost_blocks d (fits d w.kept) w.good)
+
+pub returns-clause-counts : goal.returns-clause-counts
+returns-clause-counts c = always CountsFit (λ d w. counts_fit d w.kept w.good)
+
+pub returns-clause-names : goal.returns-clause-names
+returns-clause-names c = always_own_names

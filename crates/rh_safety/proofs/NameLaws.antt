@@ -1,0 +1,312 @@
+-- No two live tasks have one name.
+use Rattle.std.proofs.Common.{◌≡◌, ◌≢◌, ℕ, Bool, true, false, not, ◌||◌, List, [], ◌∷◌, ◌++◌, Option, Some, refl, sym, ap}
+use Rattle.std.proofs.Common.{◌∙◌, subst, inl, inr}
+use Rattle.std.specs.Prelude.{if◌then◌else◌, ◌==◌, ℤ, filter, nat_lt}
+use Rattle.std.specs.List.{list_any}
+use Rattle.std.specs.Str.{bytes_eq}
+use Rattle.std.proofs.lemmas.Slice.Eq.{bytes_eq-Decides}
+use Rattle.rh_defs.specs.declared.refusal.Refusal.{Refusal}
+use Rattle.rh_defs.specs.declared.refusal.Refusal.TheVariants.{NameInUse}
+use Rattle.rh_defs.specs.declared.command.Command.{Command}
+use Rattle.rh_defs.specs.declared.command.Command.TheVariants as command
+use Rattle.rh_defs.specs.declared.command.Manner.{Manner}
+use Rattle.rh_defs.specs.Post.{post_poll}
+use Rattle.rh_defs.specs.Desk.{Desk, Task, has_name, named, task_at, with_delivered}
+use Rattle.rh_defs.specs.Commands.{Answer, start_task, kill, alloc, load, put, free, extend, mid, claim, release, resize}
+use Rattle.rh_defs.specs.Commands.{budge, module_area, change_module, change_pages, change_made, make, remove, rma_claim}
+use Rattle.rh_defs.specs.Commands.{rma_free, rma_resize, show, blocks, heap_sums, status}
+use Rattle.rh_defs.specs.Step.{save, repeat, poll, cancel_in, cancel_out, step}
+use Rattle.rh_defs.specs.Laws.{Always}
+use Rattle.rh_defs.specs.Runs.{start_with, after}
+use Rattle.rh_safety.specs.Names.{HaveOwnNames}
+use Rattle.rh_safety.proofs.Ends.{Has}
+use Rattle.rh_safety.proofs.Basics.{first_is, is_equal}
+use Rattle.rh_safety.proofs.SeenFrames.{bind, test, done, instead_of}
+use Rattle.rh_safety.proofs.SeenBlocks.{not_refused}
+use Rattle.rh_safety.proofs.SeenKeys.{keys_of, SameKeys, slot_keys, outs_keys, ins_keys, sent_keys}
+use Rattle.rh_safety.proofs.SeenTurns.{taken_keys, delivered_keys}
+use Rattle.rh_safety.proofs.KeptFrames.{area_case}
+
+-- ---- keys of different names
+
+-- no key has the name
+abbrev Lacks : List ℕ → List (ℕ × List ℕ) → Type 0
+Lacks name [] = Unit {0}
+Lacks name (k ∷ keys) = (k.1 ≢ name) × Lacks name keys
+
+-- no two keys have one name
+abbrev Differ : List (ℕ × List ℕ) → Type 0
+Differ [] = Unit {0}
+Differ (k ∷ keys) = Lacks k.1 keys × Differ keys
+
+lacks_it : (name : List ℕ) (keys : List (ℕ × List ℕ)) (k : ℕ × List ℕ) → Lacks name keys → Has k keys → k.1 ≢ name
+lacks_it name [] k all has = absurd has
+lacks_it name (y ∷ keys) k all (inl same) = subst (λ (z : ℕ × List ℕ). z.1 ≢ name) same all.0
+lacks_it name (y ∷ keys) k all (inr has) = lacks_it name keys k all.1 has
+
+-- keys with one name are one
+one_key : (keys : List (ℕ × List ℕ)) (a b : ℕ × List ℕ) → Differ keys → Has a keys → Has b keys → a.1 ≡ b.1 → a.0 ≡ b.0
+one_key [] a b all in_a in_b same = absurd in_a
+one_key (k ∷ keys) a b all (inl p) (inl q) same = ap (λ (z : ℕ × List ℕ). z.0) (sym p ∙ q)
+one_key (k ∷ keys) a b all (inl p) (inr q) same =
+    absurd (lacks_it k.1 keys b all.0 q (sym same ∙ ap (λ (z : ℕ × List ℕ). z.1) (sym p)))
+one_key (k ∷ keys) a b all (inr p) (inl q) same =
+    absurd (lacks_it k.1 keys a all.0 p (same ∙ ap (λ (z : ℕ × List ℕ). z.1) (sym q)))
+one_key (k ∷ keys) a b all (inr p) (inr q) same = one_key keys a b all.1 p q same
+
+-- ---- one more task, and one fewer
+
+lacks_more : (name : List ℕ) (k : ℕ × List ℕ) (ts : List Task) (t : Task) → Lacks name (keys_of ts) → t.name ≢ name →
+    Lacks name (keys_of (ts ++ t ∷ []))
+lacks_more name k [] t all ne = (ne, tt)
+lacks_more name k (y ∷ ts) t all ne = (all.0, lacks_more name k ts t all.1 ne)
+
+-- a task with a name that none has
+differ_more : (ts : List Task) (t : Task) → Differ (keys_of ts) → Lacks t.name (keys_of ts) → Differ (keys_of (ts ++ t ∷ []))
+differ_more [] t all none = (tt, tt)
+differ_more (y ∷ ts) t all none = (
+  lacks_more y.name (t.handle, t.name) ts t all.0 (λ e. none.0 (sym e)),
+  differ_more ts t all.1 none.1,
+)
+
+-- a name that isn't in use
+lacks_new : (name : List ℕ) (ts : List Task) → list_any (has_name name) ts ≡ false → Lacks name (keys_of ts)
+lacks_new name [] none = tt
+lacks_new name (t ∷ ts) none = go (bytes_eq t.name name) refl none (lacks_new name ts)
+  where
+    go : (b : Bool) → bytes_eq t.name name ≡ b → (b || list_any (has_name name) ts) ≡ false →
+        (list_any (has_name name) ts ≡ false → Lacks name (keys_of ts)) → Lacks name (keys_of (t ∷ ts))
+    go true e q rest = absurd cc
+    go false e q rest = (
+      (λ same. let yes : bytes_eq t.name name ≡ true = (bytes_eq-Decides t.name name).1 same in let no : Bool.true ≡ false =
+          sym yes ∙ e in cc),
+      rest q,
+    )
+
+lacks_less : (name : List ℕ) (stays : Task → Bool) (ts : List Task) → Lacks name (keys_of ts) →
+    Lacks name (keys_of (filter stays ts))
+lacks_less name stays [] all = tt
+lacks_less name stays (t ∷ ts) all = elim (stays t) as (λ b. Lacks name (keys_of (if b then t ∷ filter stays ts else filter
+    stays ts))) [ true ↦ (all.0, lacks_less name stays ts all.1) | false ↦ lacks_less name stays ts all.1 ]
+
+differ_less : (stays : Task → Bool) (ts : List Task) → Differ (keys_of ts) → Differ (keys_of (filter stays ts))
+differ_less stays [] all = tt
+differ_less stays (t ∷ ts) all = elim (stays t) as (λ b. Differ (keys_of (if b then t ∷ filter stays ts else filter stays
+    ts))) [
+      | true ↦ (lacks_less t.name stays ts all.0, differ_less stays ts all.1)
+      | false ↦ differ_less stays ts all.1
+    ]
+
+-- ---- commands
+
+abbrev AreApart : Desk → Type 0
+AreApart d = Differ (keys_of d.tasks)
+
+module _ (d : Desk) where
+  -- the tasks keep their names
+  abbrev Stays : Answer → Type 0
+  Stays a = SameKeys d a.0
+
+  no : (r : Refusal) → Stays (instead_of d r)
+  no r = refl
+
+  alloc_stays : (name : List ℕ) (k n : ℕ) → Stays (step d (command.Alloc name k n))
+  unfolding alloc
+  alloc_stays name k n = bind Stays _ _ (instead_of d) no (λ t q. bind Stays _ _ (instead_of d) no (λ p w.
+      done Stays _ (instead_of d) (slot_keys t.handle (λ _. p.0) d)))
+
+  load_stays : (name : List ℕ) (k : ℕ) (file : List ℕ) → Stays (step d (command.Load name k file))
+  unfolding load
+  load_stays name k file = bind Stays _ _ (instead_of d) no (λ t q. bind Stays _ _ (instead_of d) no (λ entry e.
+      bind Stays _ _ (instead_of d) no (λ p w. bind Stays _ _ (instead_of d) no (λ s v. done Stays _ (instead_of d)
+      (slot_keys t.handle (λ _. s) d)))))
+
+  put_stays : (name : List ℕ) (k offset : ℕ) (bytes : List ℕ) → Stays (step d (command.Put name k offset bytes))
+  unfolding put
+  put_stays name k offset bytes = bind Stays _ _ (instead_of d) no (λ t q. bind Stays _ _ (instead_of d) no (λ b e.
+      bind Stays _ _ (instead_of d) no (λ s w. done Stays _ (instead_of d) (slot_keys t.handle (λ _. s) d))))
+
+  free_stays : (name : List ℕ) (k : ℕ) → Stays (step d (command.Free name k))
+  unfolding free
+  free_stays name k = bind Stays _ _ (instead_of d) no (λ t q. bind Stays _ _ (instead_of d) no (λ b e.
+      bind Stays _ _ (instead_of d) no (λ s w. done Stays _ (instead_of d) (slot_keys t.handle (λ _. s) d))))
+
+  extend_stays : (name : List ℕ) (k n : ℕ) → Stays (step d (command.Extend name k n))
+  unfolding extend
+  extend_stays name k n = bind Stays _ _ (instead_of d) no (λ t q. bind Stays _ _ (instead_of d) no (λ b e.
+      bind Stays _ _ (instead_of d) no (λ s w. done Stays _ (instead_of d) (slot_keys t.handle (λ _. s) d))))
+
+  mid_stays : (name : List ℕ) (k offset : ℕ) (by : ℤ) → Stays (step d (command.Mid name k offset by))
+  unfolding mid
+  mid_stays name k offset by = bind Stays _ _ (instead_of d) no (λ t q. bind Stays _ _ (instead_of d) no (λ b e.
+      bind Stays _ _ (instead_of d) no (λ s w. done Stays _ (instead_of d) (slot_keys t.handle (λ _. s) d))))
+
+  claim_stays : (name : List ℕ) (n : ℕ) → Stays (step d (command.Claim name n))
+  unfolding claim
+  claim_stays name n = bind Stays _ _ (instead_of d) no (λ t q. bind Stays _ _ (instead_of d) no (λ p w.
+      done Stays _ (instead_of d) (slot_keys t.handle (λ _. p.0) d)))
+
+  release_stays : (name : List ℕ) (address : ℕ) → Stays (step d (command.Release name address))
+  unfolding release
+  release_stays name address = bind Stays _ _ (instead_of d) no (λ t q. bind Stays _ _ (instead_of d) no (λ b e.
+      bind Stays _ _ (instead_of d) no (λ s w. done Stays _ (instead_of d) (slot_keys t.handle (λ _. s) d))))
+
+  resize_stays : (name : List ℕ) (address : ℕ) (delta : ℤ) → Stays (step d (command.Resize name address delta))
+  unfolding resize
+  resize_stays name address delta = bind Stays _ _ (instead_of d) no (λ t q. bind Stays _ _ (instead_of d) no (λ b e.
+      bind Stays _ _ (instead_of d) no (λ p w. done Stays _ (instead_of d) (slot_keys t.handle (λ _. p.0) d))))
+
+  budge_stays : (name : List ℕ) (on : Bool) → Stays (step d (command.Budge name on))
+  unfolding budge
+  budge_stays name on = bind Stays _ _ (instead_of d) no (λ t q. done Stays _ (instead_of d) (slot_keys t.handle _ d))
+
+  save_stays : (name : List ℕ) (k : ℕ) (to leaf : List ℕ) → Stays (step d (command.Save name k to leaf))
+  unfolding save
+  save_stays name k to leaf = bind Stays _ _ (instead_of d) no (λ t q. bind Stays _ _ (instead_of d) no (λ b e.
+      test Stays _ _ (instead_of d) no (λ u v. bind Stays _ _ (instead_of d) no (λ r f. bind Stays _ _ (instead_of d) no
+      (λ sent w. done Stays _ (instead_of d) (outs_keys t.handle _ sent ∙ sent_keys d sent _ w))))))
+
+  repeat_stays : (name : List ℕ) → Stays (step d (command.Repeat name))
+  unfolding repeat
+  repeat_stays name = bind Stays _ _ (instead_of d) no (λ t q. bind Stays _ _ (instead_of d) no (λ last e.
+      bind Stays _ _ (instead_of d) no (λ sent w. done Stays _ (instead_of d) (sent_keys d sent _ w))))
+
+  poll_stays : (name : List ℕ) → Stays (step d (command.Poll name))
+  unfolding poll
+  poll_stays name = bind Stays (named name d) _ (instead_of d) no (λ t q. done Stays _ (instead_of d)
+      (let p = post_poll t.handle d.post in taken_keys (with_delivered p.0 d) t p.1 ∙ delivered_keys p.0 d))
+
+  cancel_in_stays : (name : List ℕ) (id : Option ℕ) → Stays (step d (command.CancelIn name id))
+  unfolding cancel_in
+  cancel_in_stays name id = bind Stays _ _ (instead_of d) no (λ t q. bind Stays _ _ (instead_of d) no (λ records w.
+      done Stays _ (instead_of d) (ins_keys t.handle (λ _. records) d)))
+
+  cancel_out_stays : (name : List ℕ) (id : Option ℕ) → Stays (step d (command.CancelOut name id))
+  unfolding cancel_out
+  cancel_out_stays name id = bind Stays _ _ (instead_of d) no (λ t q. bind Stays _ _ (instead_of d) no (λ records w.
+      done Stays _ (instead_of d) (outs_keys t.handle (λ _. records) d)))
+
+  area_stays : (k : ℕ) (delta : ℤ) → Stays (step d (command.Area k delta))
+  unfolding change_module change_pages change_made
+  area_stays k delta =
+      area_case (k == module_area) Stays (change_module d delta) _ (instead_of d)
+      (bind Stays _ _ (instead_of d) no (λ x q. done Stays _ (instead_of d) refl))
+      (area_case (nat_lt k _) Stays (change_pages d k delta) (change_made d k delta) (instead_of d)
+      (bind Stays _ _ (instead_of d) no (λ x q. done Stays _ (instead_of d) refl))
+      (bind Stays _ _ (instead_of d) no (λ m q. bind Stays _ _ (instead_of d) no (λ n w. test Stays _ _ (instead_of d)
+      no (λ u v. done Stays _ (instead_of d) refl)))))
+
+  make_stays : (most : ℕ) → Stays (step d (command.Make most))
+  unfolding make
+  make_stays most = test Stays _ _ (instead_of d) no (λ u v. test Stays _ _ (instead_of d) no (λ x y. done Stays _
+      (instead_of d) refl))
+
+  remove_stays : (k : ℕ) → Stays (step d (command.Remove k))
+  unfolding remove
+  remove_stays k = bind Stays _ _ (instead_of d) no (λ u v. done Stays _ (instead_of d) refl)
+
+  rma_claim_stays : (n : ℕ) → Stays (step d (command.RmaClaim n))
+  unfolding rma_claim
+  rma_claim_stays n = bind Stays _ _ (instead_of d) no (λ u v. done Stays _ (instead_of d) refl)
+
+  rma_free_stays : (address : ℕ) → Stays (step d (command.RmaFree address))
+  unfolding rma_free
+  rma_free_stays address = bind Stays _ _ (instead_of d) no (λ b w. bind Stays _ _ (instead_of d) no (λ u v.
+      done Stays _ (instead_of d) refl))
+
+  rma_resize_stays : (address : ℕ) (delta : ℤ) → Stays (step d (command.RmaResize address delta))
+  unfolding rma_resize
+  rma_resize_stays address delta = bind Stays _ _ (instead_of d) no (λ b w. bind Stays _ _ (instead_of d) no (λ u v.
+      done Stays _ (instead_of d) refl))
+
+  show_stays : (name : List ℕ) (k : ℕ) → Stays (step d (command.Show name k))
+  unfolding show
+  show_stays name k = bind Stays _ _ (instead_of d) no (λ t q. bind Stays _ _ (instead_of d) no (λ b w. done Stays _
+      (instead_of d) refl))
+
+  blocks_stays : (name : List ℕ) → Stays (step d (command.Blocks name))
+  unfolding blocks
+  blocks_stays name = bind Stays _ _ (instead_of d) no (λ t q. done Stays _ (instead_of d) refl)
+
+  heap_stays : (name : List ℕ) → Stays (step d (command.Heap name))
+  unfolding heap_sums
+  heap_stays name = bind Stays _ _ (instead_of d) no (λ t q. done Stays _ (instead_of d) refl)
+
+  status_stays : (name : List ℕ) → Stays (step d (command.Status name))
+  unfolding status
+  status_stays name = bind Stays _ _ (instead_of d) no (λ t q. done Stays _ (instead_of d) refl)
+
+  -- ---- tasks come and go
+
+  abbrev Apart : Answer → Type 0
+  Apart a = AreApart a.0
+
+  task_apart : (name : List ℕ) (buffer : ℕ) (manner : Manner) → AreApart d → Apart (step d (command.Task name buffer manner))
+  unfolding start_task
+  task_apart name buffer manner all = test Apart _ _ (instead_of d) (λ r. all) (λ u new. test Apart _ _ (instead_of d)
+      (λ r. all) (λ v few. test Apart _ _ (instead_of d) (λ r. all) (λ w more. bind Apart _ _ (instead_of d) (λ r. all)
+      (λ s begun. done Apart _ (instead_of d) (differ_more d.tasks _ all
+      (lacks_new name d.tasks (not_refused (list_any (has_name name) d.tasks) NameInUse u new)))))))
+
+  kill_apart : (name : List ℕ) → AreApart d → Apart (step d (command.Kill name))
+  unfolding kill with_delivered
+  kill_apart name all = bind Apart _ _ (instead_of d) (λ r. all) (λ t q. done Apart _ (instead_of d)
+      (differ_less (λ (u : Task). not (u.handle == t.handle)) d.tasks all))
+
+  same_apart : (c : Command) → Stays (step d c) → AreApart d → Apart (step d c)
+  same_apart c same all = subst Differ (sym same) all
+
+  step_apart : (c : Command) → AreApart d → Apart (step d c)
+  step_apart (command.Task name buffer manner) all = task_apart name buffer manner all
+  step_apart (command.Kill name) all = kill_apart name all
+  step_apart (command.Alloc name k n) all = same_apart (command.Alloc name k n) (alloc_stays name k n) all
+  step_apart (command.Load name k file) all = same_apart (command.Load name k file) (load_stays name k file) all
+  step_apart (command.Put name k offset bytes) all = same_apart (command.Put name k offset bytes) (put_stays name k offset bytes) all
+  step_apart (command.Free name k) all = same_apart (command.Free name k) (free_stays name k) all
+  step_apart (command.Extend name k n) all = same_apart (command.Extend name k n) (extend_stays name k n) all
+  step_apart (command.Mid name k offset by) all = same_apart (command.Mid name k offset by) (mid_stays name k offset by) all
+  step_apart (command.Claim name n) all = same_apart (command.Claim name n) (claim_stays name n) all
+  step_apart (command.Release name address) all = same_apart (command.Release name address) (release_stays name address) all
+  step_apart (command.Resize name address delta) all = same_apart (command.Resize name address delta) (resize_stays name address delta) all
+  step_apart (command.Budge name on) all = same_apart (command.Budge name on) (budge_stays name on) all
+  step_apart (command.Save name k to leaf) all = same_apart (command.Save name k to leaf) (save_stays name k to leaf) all
+  step_apart (command.Poll name) all = same_apart (command.Poll name) (poll_stays name) all
+  step_apart (command.CancelIn name id) all = same_apart (command.CancelIn name id) (cancel_in_stays name id) all
+  step_apart (command.CancelOut name id) all = same_apart (command.CancelOut name id) (cancel_out_stays name id) all
+  step_apart (command.Repeat name) all = same_apart (command.Repeat name) (repeat_stays name) all
+  step_apart (command.Area k delta) all = same_apart (command.Area k delta) (area_stays k delta) all
+  step_apart (command.Make most) all = same_apart (command.Make most) (make_stays most) all
+  step_apart (command.Remove k) all = same_apart (command.Remove k) (remove_stays k) all
+  step_apart (command.RmaClaim n) all = same_apart (command.RmaClaim n) (rma_claim_stays n) all
+  step_apart (command.RmaFree address) all = same_apart (command.RmaFree address) (rma_free_stays address) all
+  step_apart (command.RmaResize address delta) all = same_apart (command.RmaResize address delta) (rma_resize_stays address delta) all
+  step_apart (command.Show name k) all = same_apart (command.Show name k) (show_stays name k) all
+  step_apart (command.Blocks name) all = same_apart (command.Blocks name) (blocks_stays name) all
+  step_apart (command.Heap name) all = same_apart (command.Heap name) (heap_stays name) all
+  step_apart (command.Status name) all = same_apart (command.Status name) (status_stays name) all
+  step_apart command.Areas all = same_apart command.Areas (done Stays _ (instead_of d) refl) all
+
+-- ---- every run
+
+after_apart : (d : Desk) (cs : List Command) → AreApart d → AreApart (after d cs)
+after_apart d [] all = all
+after_apart d (c ∷ cs) all = after_apart (step d c).0 cs (step_apart d c all)
+
+key_of : (d : Desk) (h : ℕ) (t : Task) → task_at h d ≡ Some t → Has (t.handle, t.name) (keys_of d.tasks)
+key_of d h t at = has_key d.tasks (first_is (λ (y : Task). y.handle == h) d.tasks t at).0
+  where
+    has_key : (ts : List Task) → Has t ts → Has (t.handle, t.name) (keys_of ts)
+    has_key [] has = absurd has
+    has_key (y ∷ ts) (inl same) = inl (ap (λ (z : Task). (z.handle, z.name)) same)
+    has_key (y ∷ ts) (inr has) = inr (has_key ts has)
+
+handle_of : (d : Desk) (h : ℕ) (t : Task) → task_at h d ≡ Some t → t.handle ≡ h
+handle_of d h t at = is_equal _ _ (first_is (λ (y : Task). y.handle == h) d.tasks t at).1
+
+own_names : (d : Desk) → AreApart d → HaveOwnNames d
+own_names d all h k t u at_h at_k same = sym (handle_of d h t at_h) ∙ one_key (keys_of d.tasks) (t.handle, t.name)
+    (u.handle, u.name) all (key_of d h t at_h) (key_of d k u at_k) same ∙ handle_of d k u at_k
+
+pub always_own_names : Always HaveOwnNames
+always_own_names pool handle ref files cs from ranged =
+    let d = start_with pool files handle ref in own_names (after d cs) (after_apart d cs tt)

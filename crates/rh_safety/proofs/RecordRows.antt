@@ -1,0 +1,114 @@
+-- Worked runs of what records name, and runs with one definition changed, on which record_law fails.
+use Rattle.std.specs.Prelude.{◌≡◌, refl, ℕ, List, [], ◌∷◌, length, map, codes, Option, Some, None, Ok}
+use Rattle.std.specs.List.{filter_map}
+use Rattle.std.specs.Option.{option_map}
+use Rattle.hex.proofs.OnLiterals.{hex_on_literals}
+use Prim.Native.String.{String}
+use Rattle.rh_defs.specs.declared.refusal.Refusal.{Refusal}
+use Rattle.rh_defs.specs.declared.refusal.Refusal.TheVariants.{AnchorInUse, NoBlock}
+use Rattle.rh_defs.specs.declared.command.Manner.TheVariants as manner
+use Rattle.rh_defs.specs.declared.command.Command.TheVariants as command
+use Rattle.rh_defs.specs.declared.reply.Outcome.TheVariants as outcome
+use Rattle.rh_defs.specs.declared.transfer.Incoming.{Incoming}
+use Rattle.rh_defs.specs.declared.transfer.Incoming.TheVariants as incoming
+use Rattle.rh_defs.specs.Chain.{Granted, ◌>>=◌, found_or, or_else}
+use Rattle.rh_defs.specs.Slot.{new_slot, slot_claim}
+use Rattle.rh_defs.specs.Messages.{Parcel}
+use Rattle.rh_defs.specs.Letters.{fetch_letter}
+use Rattle.rh_defs.specs.Receiver as receiver
+use Rattle.rh_defs.specs.Places.{free_anchor}
+use Rattle.rh_defs.specs.Desk.{Desk, Task, next_ref, free_pages, task_at, with_slot, with_taking, send_letter}
+use Rattle.rh_defs.specs.Commands.{with_new_task}
+use Rattle.rh_defs.specs.OutgoingEvents.{Handled, ignored}
+use Rattle.rh_defs.specs.Runs.{after}
+use Rattle.rh_defs.specs.Script
+use Rattle.rh_safety.specs.Offered.{bytes_of_block}
+use Rattle.rh_safety.specs.Buffers.{bytes_of_buffer, failed_by}
+use Rattle.rh_safety.proofs.SafetyRows.{fresh, script}
+use Rattle.rh_safety.proofs.WrongBodies.{Rules, landed, run_of, step_by}
+
+-- a record that fetches: its count, the length of its document, and that of its buffer
+abbrev Measured : Type 0
+Measured = ℕ × Option ℕ × Option ℕ
+
+abbrev measured : Task → Incoming → Option Measured
+measured t (incoming.Fetching f) = Some (
+  f.count,
+  option_map (λ (bytes : List ℕ). length bytes) (bytes_of_block t.slot f.anchor),
+  option_map (λ (bytes : List ℕ). length bytes) (bytes_of_buffer t.slot f.buffer),
+)
+measured t _ = None
+
+-- those of a live task
+abbrev measures : Option Task → List Measured
+measures None = []
+measures (Some t) = filter_map (measured t) t.taking
+
+-- the refusal that the task's next poll names
+abbrev poll_fails : Rules → List String → String → Option Refusal
+poll_fails rules lines name = failed_by (step_by rules (run_of rules lines).desk (command.Poll (codes name))).1
+
+-- ---- a document for each transfer
+
+-- six bytes by a buffer of four, of which four were taken, and a transfer that has taken none
+abbrev two_transfers : List String
+two_transfers = "task a 4" ∷ "task b 4" ∷ "alloc a 0 6" ∷ "alloc a 1 9" ∷ "save a 0 b x" ∷ "save a 1 b y" ∷ "poll b"
+    ∷ "poll b" ∷ "poll a" ∷ "poll b" ∷ []
+
+right_measures : measures (task_at 2 (run_of landed two_transfers).desk) ≡ (4, Some 4, Some 4) ∷ (0, Some 0, Some 4) ∷ []
+unfolding Script.computing hex_on_literals
+right_measures = refl
+
+-- a receiver that makes no document
+abbrev accepts_bare : Desk → Task → Parcel → Granted Handled
+accepts_bare d t m = do
+  k ← found_or (free_anchor t.slot) AnchorInUse
+  b ← slot_claim (free_pages d) t.buffer t.slot
+  sent ← send_letter (fetch_letter t.handle m.message.from m.message.my_ref b.1 t.buffer) (with_slot t.handle b.0 d)
+  Ok (
+    with_taking t.handle (receiver.fetching (receiver.begun m.message.my_ref m.message.from k b.1 (next_ref d))) sent,
+    outcome.Fetch (next_ref d),
+  )
+
+abbrev no_document : Rules
+no_document = record landed { takes_save = λ d t m. or_else (accepts_bare d t m) (λ refusal. ignored d) }
+
+abbrev answered : List String
+answered = "task a 4" ∷ "task b 4" ∷ "alloc a 0 6" ∷ "save a 0 b x" ∷ "poll b" ∷ "poll a" ∷ []
+
+wrong_document : measures (task_at 2 (run_of no_document answered).desk) ≡ (0, None, Some 4) ∷ []
+unfolding Script.computing hex_on_literals
+wrong_document = refl
+
+right_document : measures (task_at 2 (run_of landed answered).desk) ≡ (0, Some 0, Some 4) ∷ []
+unfolding Script.computing hex_on_literals
+right_document = refl
+
+-- and its poll then answers that the block is missing
+wrong_poll : poll_fails no_document answered "b" ≡ Some NoBlock
+unfolding Script.computing hex_on_literals
+wrong_poll = refl
+
+right_poll : poll_fails landed answered "b" ≡ None
+unfolding Script.computing hex_on_literals
+right_poll = refl
+
+-- ---- names
+
+-- handles and names of the live tasks
+abbrev names_of : Desk → List (ℕ × List ℕ)
+names_of d = map (λ (t : Task). (t.handle, t.name)) d.tasks
+
+-- a task that begins under a name in use
+abbrev one_more_a : Desk → Desk
+one_more_a d = with_new_task (codes "a") 4 manner.Plain new_slot d
+
+wrong_name : names_of (one_more_a (after fresh (script ("task a 4" ∷ [])))) ≡ (1, codes "a") ∷ (2, codes "a") ∷ []
+unfolding Script.computing hex_on_literals
+wrong_name = refl
+
+-- the name is free again once its task has ended
+right_name : names_of (after fresh (script ("task a 4" ∷ "task a 4" ∷ "task b 4" ∷ "kill a" ∷ "task a 4" ∷ [])))
+    ≡ (2, codes "b") ∷ (3, codes "a") ∷ []
+unfolding Script.computing hex_on_literals
+right_name = refl
