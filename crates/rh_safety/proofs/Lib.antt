@@ -54,3 +54,5 @@ pub mod NameLaws
 pub mod SafetyRows
 pub mod WrongBodies
 pub mod RecordRows
+pub mod Numbers
+pub mod NumberRows

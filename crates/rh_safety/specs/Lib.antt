@@ -6,3 +6,4 @@ pub mod Polls
 pub mod TaskRecords
 pub mod Names
 pub mod Alternation
+pub mod Numbers

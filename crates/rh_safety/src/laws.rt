@@ -5,6 +5,7 @@ ghost use Rattle.rh_safety.specs.Alternation.{Alternates};
 ghost use Rattle.rh_safety.specs.Buffers.{HasBuffers, HasGoodRanges};
 ghost use Rattle.rh_safety.specs.Names.{HaveOwnNames};
 ghost use Rattle.rh_safety.specs.Polls.{CountsFit, LosesNoBlock};
+ghost use Rattle.rh_safety.specs.Numbers.{NumbersGoUp};
 ghost use Rattle.rh_safety.specs.Safe.{AlwaysSafe, ScriptsAreSafe};
 ghost use Rattle.rh_safety.specs.TaskRecords.{AreRecorded};
 
@@ -37,4 +38,10 @@ pub fn record_law()
     ensures blocks { Always LosesNoBlock }
     ensures counts { Always CountsFit }
     ensures names { Always HaveOwnNames }
+{}
+
+/// Along the replies to any commands: the handles that `task` answers go up strictly, and so do the refs of messages that
+/// were sent and the numbers of areas that were made. None is answered twice.
+pub fn numbers_law()
+    ensures { NumbersGoUp }
 {}

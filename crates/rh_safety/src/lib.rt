@@ -3,4 +3,4 @@
 
 mod laws;
 
-pub use laws::{alternation_law, buffer_law, record_law, safe_law};
+pub use laws::{alternation_law, buffer_law, numbers_law, record_law, safe_law};

@@ -1,0 +1,64 @@
+-- Worked runs: the numbers that replies answer; and a run with one definition changed, on which they don't go up.
+use Rattle.std.proofs.Common.{arith}
+use Rattle.std.specs.Prelude.{◌≡◌, refl, ℕ, ◌+◌, List, [], ◌∷◌, ◌++◌, length, nat_le, Ok}
+use Rattle.std.specs.List.{flat_map}
+use Rattle.hex.proofs.OnLiterals.{hex_on_literals}
+use Prim.Native.String.{String}
+use Rattle.rh_defs.specs.declared.command.Command.{Command}
+use Rattle.rh_defs.specs.declared.command.Command.TheVariants as command
+use Rattle.rh_defs.specs.declared.refusal.Refusal.TheVariants.{TooManyAreas}
+use Rattle.rh_defs.specs.declared.reply.Reply.{Reply}
+use Rattle.rh_defs.specs.declared.reply.Reply.TheVariants as reply
+use Rattle.rh_defs.specs.Chain.{Granted, ◌>>◌, refuse_if, or_else}
+use Rattle.rh_defs.specs.Forms.{first_made}
+use Rattle.rh_defs.specs.Script
+use Rattle.rh_defs.specs.Desk.{Desk}
+use Rattle.rh_defs.specs.Commands.{Answer, most_made}
+use Rattle.rh_defs.specs.Runs.{replies}
+use Rattle.rh_defs.specs.Step.{step}
+use Rattle.rh_safety.specs.Numbers.{GoUp, handles_in, refs_in, areas_in}
+use Rattle.rh_safety.proofs.SafetyRows.{fresh, script}
+
+-- a task dies and another comes under its name, messages go to and fro, and an area is made after one was removed
+abbrev numbered : List String
+numbered =
+    "task a 4" ∷ "task b 4" ∷ "alloc a 0 6" ∷ "make 2" ∷ "save a 0 b doc" ∷ "poll b" ∷ "poll a" ∷ "poll b" ∷ "kill b"
+    ∷ "remove 256" ∷ "make 2" ∷ "task b 4" ∷ "cancel a out"
+    ∷ "save a 0 b doc" ∷ "repeat a" ∷ []
+
+handles_go_up : flat_map handles_in (replies fresh (script numbered)) ≡ 1 ∷ 2 ∷ 3 ∷ []
+unfolding Script.computing hex_on_literals
+handles_go_up = refl
+
+-- offer, fetch, transmit, fetch, offer, and the offer once more
+refs_go_up : flat_map refs_in (replies fresh (script numbered)) ≡ 1 ∷ 2 ∷ 3 ∷ 4 ∷ 5 ∷ 6 ∷ []
+unfolding Script.computing hex_on_literals
+refs_go_up = refl
+
+areas_go_up : flat_map areas_in (replies fresh (script numbered)) ≡ 256 ∷ 257 ∷ []
+unfolding Script.computing hex_on_literals
+areas_go_up = refl
+
+-- ---- an area that gets the number of one that was removed
+
+abbrev makes_again : Desk → ℕ → Granted Answer
+makes_again d most =
+    let number : ℕ = first_made + length d.made in do
+      refuse_if (nat_le most_made (length d.made)) TooManyAreas
+      Ok (record d { made = d.made ++ record { number = number; most = most; pages = 0 } ∷ [] }, reply.Made number)
+
+abbrev step_again : Desk → Command → Answer
+step_again d (command.Make most) = or_else (makes_again d most) (λ refusal. (d, reply.Refused refusal))
+step_again d c = step d c
+
+abbrev replies_again : Desk → List Command → List Reply
+replies_again d [] = []
+replies_again d (c ∷ commands) = (step_again d c).1 ∷ replies_again (step_again d c).0 commands
+
+wrong_number : flat_map areas_in (replies_again fresh (script numbered)) ≡ 256 ∷ 256 ∷ []
+unfolding Script.computing hex_on_literals
+wrong_number = refl
+
+-- two equal numbers don't go up
+wrong_numbers : (least next : ℕ) → GoUp least next (256 ∷ 256 ∷ []) → ⊥
+wrong_numbers least next up = absurd (omega (arith, up.1.0))

@@ -1,0 +1,548 @@
+-- The numbers that are answered go up, since each is the desk's next one, and the next one goes up by one.
+use Rattle.std.proofs.Common.{◌≡◌, ℕ, ◌+◌, ◌≤◌, Bool, refl, sym, subst, ◌∙◌, arith, List, [], ◌∷◌, ◌++◌, length}
+use Rattle.std.specs.Prelude.{Option, Some, None, ℤ, Ok, Err, ◌==◌, nat_lt, not, filter}
+use Rattle.rh_defs.specs.declared.command.Command.{Command}
+use Rattle.rh_defs.specs.declared.command.Command.TheVariants as command
+use Rattle.rh_defs.specs.declared.command.Manner.{Manner}
+use Rattle.rh_defs.specs.declared.message.Body.{Body}
+use Rattle.rh_defs.specs.declared.message.Body.TheVariants.{DataSave, DataSaveAck, DataLoad, DataLoadAck, RamFetch, RamTransmit}
+use Rattle.rh_defs.specs.declared.message.EventCode.{EventCode}
+use Rattle.rh_defs.specs.declared.message.EventCode.TheVariants.{User, Recorded, Acknowledge}
+use Rattle.rh_defs.specs.declared.message.Letter.{Letter}
+use Rattle.rh_defs.specs.declared.refusal.Refusal.{Refusal}
+use Rattle.rh_defs.specs.declared.reply.Outcome.{Outcome}
+use Rattle.rh_defs.specs.declared.reply.Outcome.TheVariants as outcome
+use Rattle.rh_defs.specs.declared.reply.Reply.{Reply}
+use Rattle.rh_defs.specs.declared.reply.Reply.TheVariants as reply
+use Rattle.rh_defs.specs.declared.transfer.Asked.{Asked}
+use Rattle.rh_defs.specs.declared.transfer.Incoming.{Incoming}
+use Rattle.rh_defs.specs.declared.transfer.Incoming.TheVariants as incoming
+use Rattle.rh_defs.specs.declared.transfer.Sending.{Sending}
+use Rattle.rh_defs.specs.declared.transfer.Taking.{Taking}
+use Rattle.rh_defs.specs.Chain.{Granted}
+use Rattle.rh_defs.specs.Pieces.{Split}
+use Rattle.rh_defs.specs.Slot.{Flex}
+use Rattle.rh_defs.specs.Messages.{Parcel, is_recorded}
+use Rattle.rh_defs.specs.Post.{Post, Seat, answers_held, held_by, has_seat, bounced, bounce_held, bounce_all, without_block, first_for, taken_from, queued_in, put_down, post_join, post_send, post_poll, post_death}
+use Rattle.rh_defs.specs.Desk.{Desk, Task, Scrap, next_ref, free_pages, with_task, with_delivered, send_letter}
+use Rattle.rh_defs.specs.OutgoingEvents.{Handled, transmit, answer_fetch, fail_sending, save_scrap, answer_ack, finish_load, refused as failed_by}
+use Rattle.rh_defs.specs.IncomingEvents.{ended, accept, take_save, appended, fetch_more, took, take_bytes, ask, fetch_back, ack_back, loaded, load_file, take_file}
+use Rattle.rh_defs.specs.Transfer.{came, came_back, handled}
+use Rattle.rh_defs.specs.Commands.{Answer, start_task, kill, alloc, load, put, free, extend, mid, claim, release, resize, budge, module_area, change_module, change_pages, change_made, change_area, make, remove, rma_claim, rma_free, rma_resize, show, blocks, heap_sums, status}
+use Rattle.rh_defs.specs.Step.{save, repeat, poll, poll_taken, cancel_in, cancel_out, change, step}
+use Rattle.rh_defs.specs.Runs.{after}
+use Rattle.rh_defs.proofs.Chains.{OnGrant, granted, refused, granted-then, granted-with, granted-both, granted-past, granted-unless, or_else-keeps, chosen}
+use Rattle.rh_safety.specs.Numbers.{GoUp, NumbersGoUp, handles_in, refs_in, refs_of_outcome, areas_in}
+
+-- ---- numbers that go up
+
+go-up-from : (a b c : ℕ) (ns : List ℕ) → a ≤ b → GoUp b c ns → GoUp a c ns
+go-up-from a b c [] low up = omega (arith, up)
+go-up-from a b c (n ∷ ns) low up = (omega (arith, up.0), up.1)
+
+go-up-join : (a b c : ℕ) (ms ns : List ℕ) → GoUp a b ms → GoUp b c ns → GoUp a c (ms ++ ns)
+go-up-join a b c [] ns first rest = go-up-from a b c ns first rest
+go-up-join a b c (m ∷ ms) ns first rest = (first.0, go-up-join (m + 1) b c ms ns first.1 rest)
+
+none-of : (a b : ℕ) → b ≡ a → GoUp a b []
+none-of a b e = omega (arith, e)
+
+one-of : (a b : ℕ) → b ≡ a + 1 → GoUp a b (a ∷ [])
+one-of a b e = (omega arith, omega (arith, e))
+
+-- ---- posts
+
+bounced-ref : (p : Parcel) (post : Post) → (bounced p post).next_ref ≡ post.next_ref
+bounced-ref p post = chosen (λ (x : Post). x.next_ref ≡ post.next_ref) (has_seat p.message.from post.seats) _ _ refl refl
+
+bounce_held-ref : (h : ℕ) (o : Option Parcel) (post : Post) → (bounce_held h o post).next_ref ≡ post.next_ref
+bounce_held-ref h None post = refl
+bounce_held-ref h (Some p) post = bounced-ref p _
+
+bounce_all-ref : (queue : List Parcel) (post : Post) → (bounce_all queue post).next_ref ≡ post.next_ref
+bounce_all-ref [] post = refl
+bounce_all-ref (p ∷ queue) post =
+    bounce_all-ref queue _
+    ∙ chosen (λ (x : Post). x.next_ref ≡ post.next_ref) (is_recorded p.code) (bounced p post) (without_block p post) (bounced-ref p post) refl
+
+taken_from-ref : (h : ℕ) (o : Option (Parcel × List Parcel)) (post : Post) → (taken_from h o post).0.next_ref ≡ post.next_ref
+taken_from-ref h None post = refl
+taken_from-ref h (Some t) post = chosen (λ (x : Post). x.next_ref ≡ post.next_ref) (is_recorded t.0.code) _ _ refl refl
+
+post_poll-ref : (h : ℕ) (post : Post) → (post_poll h post).0.next_ref ≡ post.next_ref
+unfolding post_poll
+post_poll-ref h post =
+    let between : Post = bounce_held h (held_by h post.seats) post in
+    taken_from-ref h (first_for h between.queued) between ∙ bounce_held-ref h (held_by h post.seats) post
+
+post_death-ref : (h : ℕ) (post : Post) → (post_death h post).next_ref ≡ post.next_ref
+unfolding post_death
+post_death-ref h post =
+    let rest : Post = record post {
+      seats = filter (λ (s : Seat). not (s.handle == h)) post.seats;
+      queued = filter (λ (p : Parcel). not (p.to == h)) post.queued;
+    } in
+    bounce_all-ref (filter (λ (p : Parcel). p.to == h) post.queued) (bounce_held h (held_by h post.seats) rest)
+    ∙ bounce_held-ref h (held_by h post.seats) rest
+
+-- a step of which nothing is known
+any-grant : {A : Type 0} (r : Granted A) → OnGrant (λ (x : A). Unit {0}) r
+any-grant (Ok x) = granted tt
+any-grant (Err refusal) = refused
+
+-- a letter that is sent gets the next ref
+record IsSent (post : Post) (sent : Post × ℕ) : Type 0 where
+  next : sent.0.next_ref ≡ post.next_ref + 1
+
+post_send-ref : (room : ℕ) (l : Letter) (post : Post) → OnGrant (IsSent post) (post_send room l post)
+unfolding post_send
+post_send-ref room l post =
+    granted-both _ (any-grant _) λ x u. granted-then _ _ λ there e.
+    granted (record {
+      next = chosen (λ (x : Post). x.next_ref ≡ post.next_ref + 1) (answers_held l.your_ref (held_by l.from post.seats)) (put_down l.from (queued_in l there post)) (queued_in l there post) refl refl;
+    })
+
+-- ---- desks
+
+-- nothing was given
+record Stands (d e : Desk) : Type 0 where
+  handle : e.next_handle ≡ d.next_handle
+  ref : next_ref e ≡ next_ref d
+  area : e.next_area ≡ d.next_area
+
+stands : {d e : Desk} → e.next_handle ≡ d.next_handle → next_ref e ≡ next_ref d → e.next_area ≡ d.next_area → Stands d e
+stands h r a = record { handle = h; ref = r; area = a }
+
+-- one ref was given
+record SentOne (d e : Desk) : Type 0 where
+  handle : e.next_handle ≡ d.next_handle
+  ref : next_ref e ≡ next_ref d + 1
+  area : e.next_area ≡ d.next_area
+
+send_letter-one : (l : Letter) (d : Desk) → OnGrant (SentOne d) (send_letter l d)
+unfolding send_letter with_task
+send_letter-one l d =
+    granted-with _ (post_send-ref (free_pages d) l d.post) λ sent one.
+    granted (record { handle = refl; ref = one.next; area = refl })
+
+-- ---- messages
+
+-- the refs that were given are those of the outcome
+record Marks (d : Desk) (h : Handled) : Type 0 where
+  handle : h.0.next_handle ≡ d.next_handle
+  refs : GoUp (next_ref d) (next_ref h.0) (refs_of_outcome h.1)
+  area : h.0.next_area ≡ d.next_area
+
+quiet : {d e : Desk} {o : Outcome} → Stands d e → refs_of_outcome o ≡ [] → Marks d (e, o)
+quiet {d} {e} {o} s none = record {
+  handle = s.handle;
+  refs = subst (GoUp (next_ref d) (next_ref e)) (sym none) (none-of (next_ref d) (next_ref e) s.ref);
+  area = s.area;
+}
+
+-- a message more, whose ref is told
+tells : {d sent e : Desk} {o : Outcome} → SentOne d sent → Stands sent e → refs_of_outcome o ≡ next_ref d ∷ [] → Marks d (e, o)
+tells {d} {sent} {e} {o} one s told = record {
+  handle = s.handle ∙ one.handle;
+  refs = subst (GoUp (next_ref d) (next_ref e)) (sym told) (one-of (next_ref d) (next_ref e) (s.ref ∙ one.ref));
+  area = s.area ∙ one.area;
+}
+
+-- a message more, whose ref isn't told
+hides : {d sent e : Desk} {o : Outcome} → SentOne d sent → Stands sent e → refs_of_outcome o ≡ [] → Marks d (e, o)
+hides {d} {sent} {e} {o} one s none = record {
+  handle = s.handle ∙ one.handle;
+  refs = subst (GoUp (next_ref d) (next_ref e)) (sym none) (omega (arith, one.ref, s.ref));
+  area = s.area ∙ one.area;
+}
+
+past : {d e : Desk} {h : Handled} → Stands d e → Marks e h → Marks d h
+past {d} {e} {h} s m = record {
+  handle = m.handle ∙ s.handle;
+  refs = subst (λ r. GoUp r (next_ref h.0) (refs_of_outcome h.1)) s.ref m.refs;
+  area = m.area ∙ s.area;
+}
+
+module _ (d : Desk) (t : Task) where
+  ignored-marks : Marks d (d, outcome.Ignored)
+  ignored-marks = quiet (stands refl refl refl) refl
+
+  failed-marks : (x : Sending) (refusal : Refusal) → Marks d (failed_by d t x refusal)
+  unfolding with_task
+  failed-marks x refusal = quiet (stands refl refl refl) refl
+
+  transmit-marks : (m : Parcel) (buffer amount : ℕ) (x : Sending) (source : Split Flex) → OnGrant (Marks d) (transmit d t m buffer amount x source)
+  unfolding transmit with_task
+  transmit-marks m buffer amount x source =
+      granted-then _ _ λ r live. granted-past _ _ _ λ reach. granted-with _ (send_letter-one _ d) λ sent one.
+      granted (tells one (stands refl refl refl) refl)
+
+  answer_fetch-marks : (m : Parcel) (buffer amount : ℕ) (o : Option Sending) → Marks d (answer_fetch d t m buffer amount o)
+  unfolding answer_fetch
+  answer_fetch-marks m buffer amount None = ignored-marks
+  answer_fetch-marks m buffer amount (Some x) =
+      or_else-keeps (Marks d) _ (granted-then _ _ λ source found. transmit-marks m buffer amount x source) (failed-marks x)
+
+  fail_sending-marks : (o : Option Sending) → Marks d (fail_sending d t o)
+  unfolding fail_sending with_task
+  fail_sending-marks None = ignored-marks
+  fail_sending-marks (Some x) = quiet (stands refl refl refl) refl
+
+  save_scrap-marks : (m : Parcel) (x : Sending) (source : Split Flex) → OnGrant (Marks d) (save_scrap d t m x source)
+  unfolding save_scrap with_task
+  save_scrap-marks m x source =
+      granted-past _ _ _ λ busy. granted-both _ (any-grant _) λ y u. granted-past _ _ _ λ room. granted-with _ (send_letter-one _ _) λ sent one.
+      granted (tells {sent = sent} (record { handle = one.handle; ref = one.ref; area = one.area }) (stands refl refl refl) refl)
+
+  answer_ack-marks : (m : Parcel) (o : Option Sending) → Marks d (answer_ack d t m o)
+  unfolding answer_ack
+  answer_ack-marks m None = ignored-marks
+  answer_ack-marks m (Some x) =
+      or_else-keeps (Marks d) _ (granted-then _ _ λ source found. save_scrap-marks m x source) (failed-marks x)
+
+  finish_load-marks : (o : Option Sending) → Marks d (finish_load d t o)
+  unfolding finish_load with_task
+  finish_load-marks None = ignored-marks
+  finish_load-marks (Some x) =
+      or_else-keeps (Marks d) _ (granted-then _ _ λ source found. granted (quiet (stands refl refl refl) refl)) (failed-marks x)
+
+  accept-marks : (m : Parcel) → OnGrant (Marks d) (accept d t m)
+  unfolding accept with_task
+  accept-marks m =
+      granted-then _ _ λ k free. granted-then _ _ λ b claimed. granted-then _ _ λ p there. granted-with _ (send_letter-one _ _) λ sent one.
+      granted (tells {sent = sent} (record { handle = one.handle; ref = one.ref; area = one.area }) (stands refl refl refl) refl)
+
+  take_save-marks : (m : Parcel) → Marks d (take_save d t m)
+  unfolding take_save
+  take_save-marks m = chosen (Marks d) _ _ _ (or_else-keeps (Marks d) _ (accept-marks m) (λ refusal. ignored-marks)) ignored-marks
+
+  appended-stands : (k : ℕ) (bytes : List ℕ) → OnGrant (Stands d) (appended d t k bytes)
+  unfolding appended with_task
+  appended-stands k bytes =
+      granted-then _ _ λ document found. granted-then _ _ λ longer e. granted-then _ _ λ s f. granted (stands refl refl refl)
+
+  -- a transfer ended
+  ended-marks : (f : Taking) (edit : List Incoming → List Incoming) (o : Outcome) → refs_of_outcome o ≡ [] → Marks d (ended t.handle f edit d, o)
+  unfolding ended with_task
+  ended-marks f edit o none = quiet (stands refl refl refl) none
+
+  fetch_more-marks : (m : Parcel) (f : Taking) (n : ℕ) → OnGrant (Marks d) (fetch_more d t m f n)
+  unfolding fetch_more with_task
+  fetch_more-marks m f n = granted-with _ (send_letter-one _ d) λ sent one. granted (tells one (stands refl refl refl) refl)
+
+  took-marks : (m : Parcel) (f : Taking) (n : ℕ) → Marks d (took d t m f n)
+  unfolding took
+  took-marks m f n =
+      chosen (Marks d) _ _ _ (ended-marks f _ _ refl)
+      (or_else-keeps (Marks d) _ (fetch_more-marks m f n) (λ refusal. ended-marks f _ _ refl))
+
+  ask-marks : (f : Taking) → OnGrant (Marks d) (ask d t f)
+  unfolding ask ended with_task
+  ask-marks f = granted-with _ (send_letter-one _ d) λ sent one. granted (tells one (stands refl refl refl) refl)
+
+  fetch_back-marks : (o : Option Incoming) → Marks d (fetch_back d t o)
+  unfolding fetch_back
+  fetch_back-marks None = ignored-marks
+  fetch_back-marks (Some (incoming.Fetching f)) =
+      chosen (Marks d) _ _ _ (or_else-keeps (Marks d) _ (ask-marks f) (λ refusal. ended-marks f _ _ refl)) (ended-marks f _ _ refl)
+  fetch_back-marks (Some (incoming.Draining f)) = ended-marks f _ _ refl
+  fetch_back-marks (Some (incoming.Asking q)) = ignored-marks
+  fetch_back-marks (Some (incoming.Done id anchor count)) = ignored-marks
+  fetch_back-marks (Some (incoming.Failed id anchor count)) = ignored-marks
+
+  ack_back-marks : (o : Option Asked) → Marks d (ack_back d t o)
+  unfolding ack_back with_task
+  ack_back-marks None = ignored-marks
+  ack_back-marks (Some q) = quiet (stands refl refl refl) refl
+
+  loaded-marks : (m : Parcel) (q : Asked) (n : ℕ) → Marks d (loaded d t m q n)
+  unfolding loaded with_task
+  loaded-marks m q n =
+      or_else-keeps (Marks d) _ (granted-with _ (send_letter-one _ d) λ sent one. granted (hides one (stands refl refl refl) refl))
+      (λ refusal. quiet (stands refl refl refl) refl)
+
+module _ (d : Desk) (t : Task) where
+  take_bytes-marks : (m : Parcel) (n : ℕ) (o : Option Incoming) → Marks d (take_bytes d t m n o)
+  unfolding take_bytes
+  take_bytes-marks m n None = ignored-marks d t
+  take_bytes-marks m n (Some (incoming.Fetching f)) =
+      or_else-keeps (Marks d) _
+      (granted-unless _ _ _ λ small. granted-with _ (appended-stands d t f.anchor _) λ longer s. granted (past s (took-marks longer t m f n)))
+      (λ refusal. ended-marks d t f _ _ refl)
+  take_bytes-marks m n (Some (incoming.Draining f)) = ended-marks d t f _ _ refl
+  take_bytes-marks m n (Some (incoming.Asking q)) = ignored-marks d t
+  take_bytes-marks m n (Some (incoming.Done id anchor count)) = ignored-marks d t
+  take_bytes-marks m n (Some (incoming.Failed id anchor count)) = ignored-marks d t
+
+  load_file-marks : (m : Parcel) (q : Asked) (o : Option Scrap) → Marks d (load_file d t m q o)
+  unfolding load_file with_task
+  load_file-marks m q None = ignored-marks d t
+  load_file-marks m q (Some file) =
+      chosen (Marks d) _ _ _
+      (or_else-keeps (Marks d) _
+      (granted-with _ (appended-stands d t q.anchor file.bytes) λ longer s.
+      granted (past (stands s.handle s.ref s.area) (loaded-marks (record longer { scrap = None }) t m q (length file.bytes))))
+      (λ refusal. quiet (stands refl refl refl) refl))
+      (ignored-marks d t)
+
+  take_file-marks : (m : Parcel) (o : Option Asked) → Marks d (take_file d t m o)
+  unfolding take_file
+  take_file-marks m None = ignored-marks d t
+  take_file-marks m (Some q) = load_file-marks m q d.scrap
+
+  came-marks : (m : Parcel) (body : Body) → Marks d (came d t m body)
+  unfolding came
+  came-marks m (DataSave file) = take_save-marks d t m
+  came-marks m (DataSaveAck file) = answer_ack-marks d t m _
+  came-marks m (DataLoad file) = take_file-marks m _
+  came-marks m (DataLoadAck file) = finish_load-marks d t _
+  came-marks m (RamFetch buffer amount) = chosen (Marks d) _ _ _ (ignored-marks d t) (answer_fetch-marks d t m buffer amount _)
+  came-marks m (RamTransmit buffer n) = take_bytes-marks m n _
+
+  came_back-marks : (m : Parcel) (body : Body) → Marks d (came_back d t m body)
+  unfolding came_back
+  came_back-marks m (DataSave file) = fail_sending-marks d t _
+  came_back-marks m (DataSaveAck file) = ack_back-marks d t _
+  came_back-marks m (DataLoad file) = fail_sending-marks d t _
+  came_back-marks m (DataLoadAck file) = ignored-marks d t
+  came_back-marks m (RamFetch buffer amount) = fetch_back-marks d t _
+  came_back-marks m (RamTransmit buffer n) = fail_sending-marks d t _
+
+  handled-marks : (m : Parcel) (code : EventCode) → Marks d (handled d t m code)
+  unfolding handled
+  handled-marks m User = came-marks m m.message.body
+  handled-marks m Recorded = came-marks m m.message.body
+  handled-marks m Acknowledge = came_back-marks m m.message.body
+
+-- ---- commands
+
+-- the numbers that were given are those of the reply
+record Counts (d : Desk) (a : Answer) : Type 0 where
+  handles : GoUp d.next_handle a.0.next_handle (handles_in a.1)
+  refs : GoUp (next_ref d) (next_ref a.0) (refs_in a.1)
+  areas : GoUp d.next_area a.0.next_area (areas_in a.1)
+
+silent : {d e : Desk} {said : Reply} → Stands d e → handles_in said ≡ [] → refs_in said ≡ [] → areas_in said ≡ [] → Counts d (e, said)
+silent {d} {e} {said} s h r a = record {
+  handles = subst (GoUp d.next_handle e.next_handle) (sym h) (none-of d.next_handle e.next_handle s.handle);
+  refs = subst (GoUp (next_ref d) (next_ref e)) (sym r) (none-of (next_ref d) (next_ref e) s.ref);
+  areas = subst (GoUp d.next_area e.next_area) (sym a) (none-of d.next_area e.next_area s.area);
+}
+
+-- a message that was sent
+sent-counts : {d sent e : Desk} → SentOne d sent → Stands sent e → Counts d (e, reply.Sent (next_ref d))
+sent-counts {d} {sent} {e} one s = record {
+  handles = none-of d.next_handle e.next_handle (s.handle ∙ one.handle);
+  refs = one-of (next_ref d) (next_ref e) (s.ref ∙ one.ref);
+  areas = none-of d.next_area e.next_area (s.area ∙ one.area);
+}
+
+module _ (d : Desk) where
+  still : {e : Desk} {said : Reply} → Stands d e → handles_in said ≡ [] → refs_in said ≡ [] → areas_in said ≡ [] → OnGrant (Counts d) (Ok (e, said))
+  still s h r a = granted (silent s h r a)
+
+  start_task-counts : (name : List ℕ) (buffer : ℕ) (manner : Manner) → OnGrant (Counts d) (start_task d name buffer manner)
+  unfolding start_task post_join
+  start_task-counts name buffer manner =
+      granted-past _ _ _ λ a. granted-past _ _ _ λ b. granted-past _ _ _ λ c. granted-then _ _ λ s e.
+      granted (record {
+        handles = one-of d.next_handle (d.next_handle + 1) refl;
+        refs = none-of (next_ref d) (next_ref d) refl;
+        areas = none-of d.next_area d.next_area refl;
+      })
+
+  kill-counts : (name : List ℕ) → OnGrant (Counts d) (kill d name)
+  unfolding kill with_delivered
+  kill-counts name = granted-then _ _ λ t e. still (stands refl (post_death-ref t.handle d.post) refl) refl refl refl
+
+  alloc-counts : (name : List ℕ) (k n : ℕ) → OnGrant (Counts d) (alloc d name k n)
+  unfolding alloc with_task
+  alloc-counts name k n = granted-then _ _ λ t e. granted-then _ _ λ p f. still (stands refl refl refl) refl refl refl
+
+  load-counts : (name : List ℕ) (k : ℕ) (file : List ℕ) → OnGrant (Counts d) (load d name k file)
+  unfolding load with_task
+  load-counts name k file = granted-then _ _ λ t e. granted-then _ _ λ entry f. granted-then _ _ λ p g. granted-then _ _ λ s h. still (stands refl refl refl) refl refl refl
+
+  put-counts : (name : List ℕ) (k offset : ℕ) (bytes : List ℕ) → OnGrant (Counts d) (put d name k offset bytes)
+  unfolding put with_task
+  put-counts name k offset bytes = granted-then _ _ λ t e. granted-then _ _ λ b f. granted-then _ _ λ s g. still (stands refl refl refl) refl refl refl
+
+  free-counts : (name : List ℕ) (k : ℕ) → OnGrant (Counts d) (free d name k)
+  unfolding free with_task
+  free-counts name k = granted-then _ _ λ t e. granted-then _ _ λ b f. granted-then _ _ λ s g. still (stands refl refl refl) refl refl refl
+
+  extend-counts : (name : List ℕ) (k n : ℕ) → OnGrant (Counts d) (extend d name k n)
+  unfolding extend with_task
+  extend-counts name k n = granted-then _ _ λ t e. granted-then _ _ λ b f. granted-then _ _ λ s g. still (stands refl refl refl) refl refl refl
+
+  mid-counts : (name : List ℕ) (k offset : ℕ) (by : ℤ) → OnGrant (Counts d) (mid d name k offset by)
+  unfolding mid with_task
+  mid-counts name k offset by = granted-then _ _ λ t e. granted-then _ _ λ b f. granted-then _ _ λ s g. still (stands refl refl refl) refl refl refl
+
+  claim-counts : (name : List ℕ) (n : ℕ) → OnGrant (Counts d) (claim d name n)
+  unfolding claim with_task
+  claim-counts name n = granted-then _ _ λ t e. granted-then _ _ λ p f. still (stands refl refl refl) refl refl refl
+
+  release-counts : (name : List ℕ) (address : ℕ) → OnGrant (Counts d) (release d name address)
+  unfolding release with_task
+  release-counts name address = granted-then _ _ λ t e. granted-then _ _ λ b f. granted-then _ _ λ s g. still (stands refl refl refl) refl refl refl
+
+  resize-counts : (name : List ℕ) (address : ℕ) (delta : ℤ) → OnGrant (Counts d) (resize d name address delta)
+  unfolding resize with_task
+  resize-counts name address delta = granted-then _ _ λ t e. granted-then _ _ λ b f. granted-then _ _ λ p g. still (stands refl refl refl) refl refl refl
+
+  budge-counts : (name : List ℕ) (on : Bool) → OnGrant (Counts d) (budge d name on)
+  unfolding budge with_task
+  budge-counts name on = granted-then _ _ λ t e. still (stands refl refl refl) refl refl refl
+
+  save-counts : (name : List ℕ) (k : ℕ) (to leaf : List ℕ) → OnGrant (Counts d) (save d name k to leaf)
+  unfolding save with_task
+  save-counts name k to leaf =
+      granted-then _ _ λ t e. granted-then _ _ λ b f. granted-past _ _ _ λ full. granted-then _ _ λ r g. granted-with _ (send_letter-one _ d) λ sent one.
+      granted (sent-counts one (stands refl refl refl))
+
+  repeat-counts : (name : List ℕ) → OnGrant (Counts d) (repeat d name)
+  unfolding repeat
+  repeat-counts name =
+      granted-then _ _ λ t e. granted-then _ _ λ last f. granted-with _ (send_letter-one _ d) λ sent one.
+      granted (sent-counts one (stands refl refl refl))
+
+  cancel_in-counts : (name : List ℕ) (id : Option ℕ) → OnGrant (Counts d) (cancel_in d name id)
+  unfolding cancel_in with_task
+  cancel_in-counts name id = granted-then _ _ λ t e. granted-then _ _ λ records f. still (stands refl refl refl) refl refl refl
+
+  cancel_out-counts : (name : List ℕ) (id : Option ℕ) → OnGrant (Counts d) (cancel_out d name id)
+  unfolding cancel_out with_task
+  cancel_out-counts name id = granted-then _ _ λ t e. granted-then _ _ λ records f. still (stands refl refl refl) refl refl refl
+
+  change_module-counts : (delta : ℤ) → OnGrant (Counts d) (change_module d delta)
+  unfolding change_module
+  change_module-counts delta = granted-then _ _ λ c e. still (stands refl refl refl) refl refl refl
+
+  change_pages-counts : (k : ℕ) (delta : ℤ) → OnGrant (Counts d) (change_pages d k delta)
+  unfolding change_pages
+  change_pages-counts k delta = granted-then _ _ λ n e. still (stands refl refl refl) refl refl refl
+
+  change_made-counts : (k : ℕ) (delta : ℤ) → OnGrant (Counts d) (change_made d k delta)
+  unfolding change_made
+  change_made-counts k delta = granted-then _ _ λ m e. granted-then _ _ λ n f. granted-past _ _ _ λ big. still (stands refl refl refl) refl refl refl
+
+  change_area-counts : (k : ℕ) (delta : ℤ) → OnGrant (Counts d) (change_area d k delta)
+  change_area-counts k delta =
+      chosen (OnGrant (Counts d)) (k == module_area) _ _ (change_module-counts delta)
+      (chosen (OnGrant (Counts d)) (nat_lt k (length d.areas)) _ _ (change_pages-counts k delta) (change_made-counts k delta))
+
+  make-counts : (most : ℕ) → OnGrant (Counts d) (make d most)
+  unfolding make
+  make-counts most =
+      granted-past _ _ _ λ few. granted-past _ _ _ λ more.
+      granted (record {
+        handles = none-of d.next_handle d.next_handle refl;
+        refs = none-of (next_ref d) (next_ref d) refl;
+        areas = one-of d.next_area (d.next_area + 1) refl;
+      })
+
+  remove-counts : (k : ℕ) → OnGrant (Counts d) (remove d k)
+  unfolding remove
+  remove-counts k = granted-then _ _ λ m e. still (stands refl refl refl) refl refl refl
+
+  rma_claim-counts : (n : ℕ) → OnGrant (Counts d) (rma_claim d n)
+  unfolding rma_claim
+  rma_claim-counts n = granted-then _ _ λ c e. still (stands refl refl refl) refl refl refl
+
+  rma_free-counts : (address : ℕ) → OnGrant (Counts d) (rma_free d address)
+  unfolding rma_free
+  rma_free-counts address = granted-then _ _ λ b e. granted-then _ _ λ h f. still (stands refl refl refl) refl refl refl
+
+  rma_resize-counts : (address : ℕ) (delta : ℤ) → OnGrant (Counts d) (rma_resize d address delta)
+  unfolding rma_resize
+  rma_resize-counts address delta = granted-then _ _ λ b e. granted-then _ _ λ c f. still (stands refl refl refl) refl refl refl
+
+  show-counts : (name : List ℕ) (k : ℕ) → OnGrant (Counts d) (show d name k)
+  unfolding show
+  show-counts name k = granted-then _ _ λ t e. granted-then _ _ λ b f. still (stands refl refl refl) refl refl refl
+
+  blocks-counts : (name : List ℕ) → OnGrant (Counts d) (blocks d name)
+  unfolding blocks
+  blocks-counts name = granted-then _ _ λ t e. still (stands refl refl refl) refl refl refl
+
+  heap_sums-counts : (name : List ℕ) → OnGrant (Counts d) (heap_sums d name)
+  unfolding heap_sums
+  heap_sums-counts name = granted-then _ _ λ t e. still (stands refl refl refl) refl refl refl
+
+  status-counts : (name : List ℕ) → OnGrant (Counts d) (status d name)
+  unfolding status
+  status-counts name = granted-then _ _ λ t e. still (stands refl refl refl) refl refl refl
+
+-- ---- polls
+
+poll_taken-counts : (d e : Desk) (t : Task) (o : Option Parcel) → Stands d e → Counts d (poll_taken e t o)
+unfolding poll_taken
+poll_taken-counts d e t None s = silent s refl refl refl
+poll_taken-counts d e t (Some m) s =
+    let marks : Marks d (handled e t m m.code) = past s (handled-marks e t m m.code) in record {
+      handles = none-of d.next_handle (handled e t m m.code).0.next_handle marks.handle;
+      refs = marks.refs;
+      areas = none-of d.next_area (handled e t m m.code).0.next_area marks.area;
+    }
+
+delivered-stands : (p : Post) (d : Desk) → p.next_ref ≡ next_ref d → Stands d (with_delivered p d)
+unfolding with_delivered
+delivered-stands p d e = stands refl e refl
+
+poll-counts : (d : Desk) (name : List ℕ) → OnGrant (Counts d) (poll d name)
+unfolding poll
+poll-counts d name =
+    granted-then _ _ λ t e.
+    let gone : Post × Option Parcel = post_poll t.handle d.post in
+    granted (poll_taken-counts d (with_delivered gone.0 d) t gone.1 (delivered-stands gone.0 d (post_poll-ref t.handle d.post)))
+
+-- ---- all commands
+
+change-counts : (d : Desk) (c : Command) → OnGrant (Counts d) (change d c)
+change-counts d (command.Task name buffer manner) = start_task-counts d name buffer manner
+change-counts d (command.Kill name) = kill-counts d name
+change-counts d (command.Alloc name k n) = alloc-counts d name k n
+change-counts d (command.Load name k file) = load-counts d name k file
+change-counts d (command.Put name k offset bytes) = put-counts d name k offset bytes
+change-counts d (command.Free name k) = free-counts d name k
+change-counts d (command.Extend name k n) = extend-counts d name k n
+change-counts d (command.Mid name k offset by) = mid-counts d name k offset by
+change-counts d (command.Claim name n) = claim-counts d name n
+change-counts d (command.Release name address) = release-counts d name address
+change-counts d (command.Resize name address delta) = resize-counts d name address delta
+change-counts d (command.Budge name on) = budge-counts d name on
+change-counts d (command.Save name k to leaf) = save-counts d name k to leaf
+change-counts d (command.Poll name) = poll-counts d name
+change-counts d (command.CancelIn name id) = cancel_in-counts d name id
+change-counts d (command.CancelOut name id) = cancel_out-counts d name id
+change-counts d (command.Repeat name) = repeat-counts d name
+change-counts d (command.Area k delta) = change_area-counts d k delta
+change-counts d (command.Make most) = make-counts d most
+change-counts d (command.Remove k) = remove-counts d k
+change-counts d (command.RmaClaim n) = rma_claim-counts d n
+change-counts d (command.RmaFree address) = rma_free-counts d address
+change-counts d (command.RmaResize address delta) = rma_resize-counts d address delta
+change-counts d (command.Show name k) = show-counts d name k
+change-counts d (command.Blocks name) = blocks-counts d name
+change-counts d (command.Heap name) = heap_sums-counts d name
+change-counts d (command.Status name) = status-counts d name
+change-counts d command.Areas = still d (stands refl refl refl) refl refl refl
+
+step-counts : (d : Desk) (c : Command) → Counts d (step d c)
+step-counts d c = or_else-keeps (Counts d) _ (change-counts d c) (λ refusal. silent (stands refl refl refl) refl refl refl)
+
+pub numbers-go-up : NumbersGoUp
+numbers-go-up d [] = record {
+  handles = none-of d.next_handle d.next_handle refl;
+  refs = none-of (next_ref d) (next_ref d) refl;
+  areas = none-of d.next_area d.next_area refl;
+}
+numbers-go-up d (c ∷ commands) =
+    let here = step-counts d c in
+    let e : Desk = (step d c).0 in
+    let rest = numbers-go-up e commands in record {
+      handles = go-up-join d.next_handle e.next_handle (after e commands).next_handle (handles_in (step d c).1) _ here.handles rest.handles;
+      refs = go-up-join (next_ref d) (next_ref e) (next_ref (after e commands)) (refs_in (step d c).1) _ here.refs rest.refs;
+      areas = go-up-join d.next_area e.next_area (after e commands).next_area (areas_in (step d c).1) _ here.areas rest.areas;
+    }
