@@ -51,6 +51,7 @@ pub mod SeenBuffers
 pub mod RecordLaws
 pub mod CountLaws
 pub mod NameLaws
+pub mod ScrapLaws
 pub mod SafetyRows
 pub mod WrongBodies
 pub mod RecordRows

@@ -38,7 +38,7 @@ rises number least next (x ∷ xs) room low high up = (
 -- ---- a test that some record passes
 
 -- the record that passes
-passes : {A : Type 0} (test : A → Bool) (xs : List A) → list_any test xs ≡ true → (x : A) × (Has x xs × (test x ≡ true))
+pub passes : {A : Type 0} (test : A → Bool) (xs : List A) → list_any test xs ≡ true → (x : A) × (Has x xs × (test x ≡ true))
 passes test [] some = absurd cc
 passes {A} test (x ∷ xs) some = go (test x) refl some (passes test xs)
   where
@@ -47,7 +47,7 @@ passes {A} test (x ∷ xs) some = go (test x) refl some (passes test xs)
     go true e s rest = (x, (inl refl, e))
     go false e s rest = let r = rest s in (r.0, (inr r.1.0, r.1.1))
 
-one_of : (a b : Bool) → (a || b) ≡ true → (a ≡ true) ⊎ (b ≡ true)
+pub one_of : (a b : Bool) → (a || b) ≡ true → (a ≡ true) ⊎ (b ≡ true)
 one_of true b e = inl refl
 one_of false b e = inr e
 

@@ -1,5 +1,5 @@
--- Worked runs of what records name, and runs with one definition changed, on which record_law fails.
-use Rattle.std.specs.Prelude.{◌≡◌, refl, ℕ, List, [], ◌∷◌, length, map, codes, Option, Some, None, Ok}
+-- Worked runs of what records name, and runs with one definition changed, on which record_law or scrap_law fails.
+use Rattle.std.specs.Prelude.{◌≡◌, refl, ℕ, ◌==◌, if◌then◌else◌, List, [], ◌∷◌, length, map, codes, Option, Some, None, Ok}
 use Rattle.std.specs.List.{filter_map}
 use Rattle.std.specs.Option.{option_map}
 use Rattle.hex.proofs.OnLiterals.{hex_on_literals}
@@ -9,17 +9,23 @@ use Rattle.rh_defs.specs.declared.refusal.Refusal.TheVariants.{AnchorInUse, NoBl
 use Rattle.rh_defs.specs.declared.command.Manner.TheVariants as manner
 use Rattle.rh_defs.specs.declared.command.Command.TheVariants as command
 use Rattle.rh_defs.specs.declared.reply.Outcome.TheVariants as outcome
+use Rattle.rh_defs.specs.declared.transfer.Sending.{Sending}
+use Rattle.rh_defs.specs.declared.transfer.Outgoing.{Outgoing}
+use Rattle.rh_defs.specs.declared.transfer.Outgoing.TheVariants as outgoing
 use Rattle.rh_defs.specs.declared.transfer.Incoming.{Incoming}
 use Rattle.rh_defs.specs.declared.transfer.Incoming.TheVariants as incoming
 use Rattle.rh_defs.specs.Chain.{Granted, ◌>>=◌, found_or, or_else}
-use Rattle.rh_defs.specs.Slot.{new_slot, slot_claim}
+use Rattle.rh_defs.specs.Pieces.{Split}
+use Rattle.rh_defs.specs.Slot.{Flex, new_slot, slot_block, slot_claim}
 use Rattle.rh_defs.specs.Messages.{Parcel}
-use Rattle.rh_defs.specs.Letters.{fetch_letter}
+use Rattle.rh_defs.specs.Letters.{fetch_letter, load_letter}
+use Rattle.rh_defs.specs.Sender as sender
 use Rattle.rh_defs.specs.Receiver as receiver
 use Rattle.rh_defs.specs.Places.{free_anchor}
-use Rattle.rh_defs.specs.Desk.{Desk, Task, next_ref, free_pages, task_at, with_slot, with_taking, send_letter}
+use Rattle.rh_defs.specs.Desk.{Desk, Task, Scrap, next_ref, free_pages, task_at, with_slot, with_sending, with_taking}
+use Rattle.rh_defs.specs.Desk.{send_letter}
 use Rattle.rh_defs.specs.Commands.{with_new_task}
-use Rattle.rh_defs.specs.OutgoingEvents.{Handled, ignored}
+use Rattle.rh_defs.specs.OutgoingEvents.{Handled, ignored, refused, scrap_shortage, wider}
 use Rattle.rh_defs.specs.Runs.{after}
 use Rattle.rh_defs.specs.Script
 use Rattle.rh_safety.specs.Offered.{bytes_of_block}
@@ -112,3 +118,54 @@ right_name : names_of (after fresh (script ("task a 4" ∷ "task a 4" ∷ "task 
     ≡ (2, codes "b") ∷ (3, codes "a") ∷ []
 unfolding Script.computing hex_on_literals
 right_name = refl
+
+-- ---- the scrap file
+
+abbrev sent_last : ℕ → Outgoing → Option ℕ
+sent_last ref (outgoing.Open x) = if x.last == ref then Some x.id else None
+sent_last ref _ = None
+
+-- the ids of the task's open records that sent the scrap file's DataLoad last
+abbrev owners : Option Scrap → Option Task → List ℕ
+owners (Some file) (Some t) = filter_map (sent_last file.load) t.sending
+owners _ _ = []
+
+abbrev owners_at : Rules → List String → ℕ → List ℕ
+owners_at rules lines h = let d : Desk = (run_of rules lines).desk in owners d.scrap (task_at h d)
+
+-- a sender whose open records all take the DataLoad for their last message
+abbrev saved_as_last : ℕ → Outgoing → Outgoing
+saved_as_last ref (outgoing.Open x) = outgoing.Open (record x { last = ref })
+saved_as_last ref r = r
+
+abbrev saves_all : Desk → Task → Parcel → Sending → Split Flex → Granted Handled
+saves_all d t m x source =
+    let n : ℕ = length source.here.bytes in do
+      sent ← send_letter (load_letter t.handle m n) (wider (scrap_shortage n d) d)
+      Ok (
+        with_sending t.handle (map (saved_as_last (next_ref d)))
+            (record sent { scrap = Some (record { load = next_ref d; bytes = source.here.bytes }) }),
+        outcome.Saved n (next_ref d),
+      )
+
+abbrev answers_all : Desk → Task → Parcel → Option Sending → Handled
+answers_all d t m None = ignored d
+answers_all d t m (Some x) = or_else (slot_block x.anchor t.slot >>= saves_all d t m x) (refused d t x)
+
+abbrev saved_for_all : Rules
+saved_for_all = record landed {
+  answers_ack = λ d t m. answers_all d t m (sender.on_ack m.message.from m.message.your_ref t.sending);
+}
+
+-- two open transfers of one sender, the first of which is asked for a file
+abbrev one_file : List String
+one_file = "task a 100 file" ∷ "task b 100" ∷ "alloc a 0 1" ∷ "alloc a 1 1" ∷ "save a 0 b x" ∷ "save a 1 b y" ∷ "poll b"
+    ∷ "poll b" ∷ "poll a" ∷ "poll a" ∷ "poll b" ∷ "poll a" ∷ []
+
+right_owner : owners_at landed one_file 1 ≡ 1 ∷ []
+unfolding Script.computing hex_on_literals
+right_owner = refl
+
+wrong_owner : owners_at saved_for_all one_file 1 ≡ 1 ∷ 2 ∷ []
+unfolding Script.computing hex_on_literals
+wrong_owner = refl

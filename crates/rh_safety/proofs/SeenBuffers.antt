@@ -19,7 +19,7 @@ use Rattle.rh_safety.proofs.Runs.{holds_buffer}
 use Rattle.rh_safety.proofs.SeenTasks.{field_is}
 use Rattle.rh_safety.proofs.SeenHandled.{buffer_is}
 
-has_map : {A B : Type 0} (f : A → B) (x : A) (xs : List A) → Has x xs → Has (f x) (map f xs)
+pub has_map : {A B : Type 0} (f : A → B) (x : A) (xs : List A) → Has x xs → Has (f x) (map f xs)
 has_map f x [] q = absurd q
 has_map f x (y ∷ xs) q = elim q as (λ _. Has (f x) (map f (y ∷ xs))) [
   | inl e ↦ inl (ap f e)

@@ -5,5 +5,6 @@ pub mod Buffers
 pub mod Polls
 pub mod TaskRecords
 pub mod Names
+pub mod ScrapFile
 pub mod Alternation
 pub mod Numbers

@@ -7,6 +7,7 @@ ghost use Rattle.rh_safety.specs.Names.{HaveOwnNames};
 ghost use Rattle.rh_safety.specs.Polls.{CountsFit, LosesNoBlock};
 ghost use Rattle.rh_safety.specs.Numbers.{NumbersGoUp};
 ghost use Rattle.rh_safety.specs.Safe.{AlwaysSafe, ScriptsAreSafe};
+ghost use Rattle.rh_safety.specs.ScrapFile.{OwnsScrapFile};
 ghost use Rattle.rh_safety.specs.TaskRecords.{AreRecorded};
 
 /// After any commands: what a task holds of a transfer was offered, and the file begins with it; it
@@ -44,4 +45,10 @@ pub fn record_law()
 /// were sent and the numbers of areas that were made. None is answered twice.
 pub fn numbers_law()
     ensures { NumbersGoUp }
+{}
+
+/// After any commands: the scrap file's ref was given, and while the message of that ref is queued or
+/// held, one open record at most sent it last.
+pub fn scrap_law()
+    ensures { Always OwnsScrapFile }
 {}
