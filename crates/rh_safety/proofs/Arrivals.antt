@@ -1,4 +1,4 @@
--- What a DataSave, a transmit, a bounce and the scrap file do keeps the invariant.
+-- What a DataSave, a transmit, a failure and the scrap file make of the records keeps the invariant.
 use Rattle.std.proofs.Common.{nat_le, ◌≡◌, ◌≢◌, ℕ, ◌+◌, ◌≤◌, ◌<◌, Bool, true, false, List, [], ◌++◌}
 use Rattle.std.proofs.Common.{length, take, drop, Option, Some, None, refl, sym, ap, ◌∙◌, subst, inl, inr}
 use Rattle.std.proofs.Common.{arith}
@@ -10,8 +10,8 @@ use Rattle.rh_safety.proofs.Ends.{DataLoadAck, Letter, Message, Sending, Taking,
 use Rattle.rh_safety.proofs.Ends.{Out_failed, In, Fetching, Draining, Asking, In_done, In_failed, out_id, in_id}
 use Rattle.rh_safety.proofs.Ends.{in_anchor, is_going, is_growing, Has, Active, put, how_many, one_more, with_id}
 use Rattle.rh_defs.specs.Receiver.{is_answer}
-use Rattle.rh_safety.proofs.Protocol.{Desk, Scrap, begun, ended, bytes_of, longer, fetched, given_up, with_in, copied}
-use Rattle.rh_safety.proofs.Protocol.{told, with_out, failed, filed}
+use Rattle.rh_safety.proofs.Sight.{Desk, Scrap, begun, ended, bytes_of, longer, fetched, given_up, with_in, copied}
+use Rattle.rh_safety.proofs.Sight.{told, with_out, failed, filed}
 use Rattle.rh_safety.proofs.Basics.{length_more, put_same, put_other, same_value, none_some}
 use Rattle.rh_safety.proofs.Basics.{and_left, and_right, is_equal, take_more, Ascend, with_puts, with_ascends}
 use Rattle.rh_safety.proofs.Basics.{more_keeps, more_puts, more_ascends}
@@ -134,14 +134,7 @@ began_good {o} {e} {d} h l g rd kind after b =
     let d1 : Desk = record d { heap = hp } in
     let step1 : Inv o e d1 = heap_inv h address (Some bytes) no_buffer i in
     let quiet : Quiet d1 h l.me = λ s x q n k from eq.
-    let w = g.pending s x q n (record {
-      known = k.known;
-      kind = k.kind;
-      answers = k.answers;
-      from = k.from;
-      live = k.live;
-      fetches = k.fetches;
-    }) in
+    let w = g.pending s x q n k in
     let a : Active (d.taking h) w.taking = subst (λ j. Active (d.taking j) w.taking) from w.is_active in
     let less : w.taking.id < l.me = elim a as (λ _. w.taking.id < l.me) [
       | inl b ↦ rd.past (Fetching w.taking) b
@@ -191,14 +184,7 @@ began_good {o} {e} {d} h l g rd kind after b =
       pending = fetch_pending new bl h t l.me nf step1 quiet
           (λ s x q c f. let w = ok.out s x q in let same = w.same_id c kind in
           (c ∙ sym same, w.owner c, (i.outs.source s x q).unread (sym same)))
-          (λ s x q n k. g.pending s x q n (record {
-            known = k.known;
-            kind = k.kind;
-            answers = k.answers;
-            from = k.from;
-            live = k.live;
-            fetches = k.fetches;
-          }));
+          (λ s x q n k. g.pending s x q n k);
       born = λ j le. g.born j (omega arith);
     })
 
@@ -210,7 +196,8 @@ pub record Matched (d : Desk) (h : ℕ) (t : Taking) (l : Letter) : Type 0 where
   pub address : l.address ≡ t.buffer
   pub amount : l.amount ≤ d.buf h
 
-pub matched : (d : Desk) (h : ℕ) (t : Taking) (l : Letter) → is_answer (d.buf h) l.from l.answers l.address l.amount t ≡ true →
+pub matched : (d : Desk) (h : ℕ) (t : Taking) (l : Letter) → is_answer (d.buf h) l.from l.answers l.address l.amount t
+    ≡ true →
     Matched d h t l
 matched d h t l q =
     let q3 = and_left _ (nat_le l.amount (d.buf h)) q in
@@ -441,14 +428,7 @@ over_good {o} {e} {d} h x v same_id ok both never i others born is =
         positive = i.positive;
       };
       pending = λ s y q l k. elim (mv s (Open y) q) [
-        | inl a ↦ others s y a.0 (λ here eq. a.1 here (eq ∙ sym same_id)) l (record {
-          known = k.known;
-          kind = k.kind;
-          answers = k.answers;
-          from = k.from;
-          live = k.live;
-          fetches = k.fetches;
-        })
+        | inl a ↦ others s y a.0 (λ here eq. a.1 here (eq ∙ sym same_id)) l k
         | inr a ↦ absurd (never y a.1)
       ];
       born = born;
@@ -566,14 +546,7 @@ filed_good {o} {e} {d} h l x bytes g rd kind is answers there =
         positive = step1.positive;
       };
       pending = λ s z q n k. out_pending new h (Open y) m sent_out i (λ b u r ne. g.pending b u r) s z q n
-          (record {
-            known = k.known;
-            kind = k.kind;
-            answers = k.answers;
-            from = k.from;
-            live = k.live;
-            fetches = k.fetches;
-          });
+          k;
       born = λ j le. g.born j (omega arith);
     }
   where
@@ -587,7 +560,12 @@ pub loaded_good : {o : Offered} {e : ℕ → ℕ → Bool} {d : Desk} (h : ℕ) 
 loaded_good {o} {e} {d} h x bytes g is there =
     let w = g.inv.outs.source h x is in
     let same : bytes ≡ w.all = same_value (d.block h x.anchor) there w.there in
-    over_good h x (Out_done x.id (length bytes)) refl (record { all = w.all; offered = w.offered; whole = ap length same })
+    over_good h x (Out_done x.id (length bytes)) refl (record {
+      all = w.all;
+      offered = w.offered;
+      whole = ap length
+          same;
+    })
     tt (λ y r. let z : Open y ≡ Out_done x.id (length bytes) = r in (cc)) g.inv (λ s y r ne. g.pending s y r) g.born is
 
 -- the file is the document

@@ -2,7 +2,7 @@
 use Rattle.std.proofs.Common.{◌≡◌, ◌≢◌, ℕ, zero, suc, ◌+◌, ◌≤◌, ◌<◌, Bool, true, false, not, ◌&&◌, ◌||◌, List, []}
 use Rattle.std.proofs.Common.{◌∷◌, ◌++◌, length, take, drop, Option, Some, None, refl, sym, ap, ◌∙◌, subst, ◌⊎◌, inl}
 use Rattle.std.proofs.Common.{inr, arith, length-append, length-take, length-drop}
-use Rattle.std.specs.Prelude.{if◌then◌else◌, nat_eq, nat_le, is_none, is_some, ◌||◌, slice_index_or}
+use Rattle.std.specs.Prelude.{if◌then◌else◌, nat_eq, nat_le, ◌||◌, slice_index_or}
 use Rattle.std.proofs.lemmas.Bool.Decides.{eqb_tells, leb_tells}
 use Rattle.std.proofs.lemmas.List.{take-append-drop, drop-take, take-take}
 use Rattle.std.proofs.Math.Seq.{take-append_seam}
@@ -47,16 +47,8 @@ not_equal a b h = elim (eqb_tells a b) [ inl w ↦ absurd (let e = w.0 in (cc)) 
 pub none_some : {A : Type 0} {x : A} (o : Option A) → o ≡ None → o ≡ Some x → ⊥
 none_some o p q = cc
 
-pub none_of : {A : Type 0} (o : Option A) → is_none o ≡ true → o ≡ None
-none_of None h = refl
-none_of (Some x) h = absurd (cc)
-
 pub same_value : {A : Type 0} {x y : A} (o : Option A) → o ≡ Some x → o ≡ Some y → x ≡ y
 same_value o p q = cc
-
-pub some_of : {A : Type 0} (v : Option A) → is_some v ≡ true → (x : A) × (v ≡ Some x)
-some_of None q = absurd (cc)
-some_of (Some x) q = (x, refl)
 
 pub or_left : (a b : Bool) → (a || b) ≡ false → a ≡ false
 or_left true b q = q

@@ -16,7 +16,7 @@ use Rattle.rh_safety.proofs.View.{view, flex_map}
 use Rattle.rh_safety.proofs.Invariant.{Offered, Good}
 use Rattle.rh_safety.proofs.RecordLaws.{recorded}
 use Rattle.rh_safety.proofs.SeenDesks.{fits}
-use Rattle.rh_safety.proofs.SeenHandled.{buffer_is}
+use Rattle.rh_safety.proofs.SeenDocuments.{buffer_is}
 use Rattle.rh_safety.proofs.SeenLaws.{block_is}
 
 -- one member is no larger than all

@@ -6,10 +6,10 @@ use Rattle.rh_safety.proofs.Ends.{Recorded, DataSave, RamFetch, RamTransmit, Dat
 use Rattle.rh_safety.proofs.Ends.{Sending, Taking, Asked, Open, In, Fetching, Draining}
 use Rattle.rh_safety.proofs.Ends.{Asking, In_done, In_failed, is_going, is_growing, in_id, in_anchor, Has}
 use Rattle.rh_safety.proofs.Ends.{Active, put, with_id}
-use Rattle.rh_safety.proofs.Protocol.{Desk, sent, ended, asked}
+use Rattle.rh_safety.proofs.Sight.{Desk, sent, ended, asked}
 use Rattle.rh_safety.proofs.Basics.{put_same, put_other, same_value}
 use Rattle.rh_safety.proofs.Basics.{one_of_id, with_keeps, with_puts, with_ascends}
-use Rattle.rh_safety.proofs.Invariant.{Offered, Knows}
+use Rattle.rh_safety.proofs.Invariant.{Offered, Knows, known_by}
 use Rattle.rh_safety.proofs.Invariant.{Begins, Untouched, IsGood, Unread, Inv}
 use Rattle.rh_safety.proofs.Invariant.{Asks, Good}
 use Rattle.rh_safety.proofs.Moves.{letters_more, outs_more, ins_more, boths_more, letters_bump, outs_bump, ins_bump}
@@ -143,16 +143,8 @@ ended_good {o} {e} {d} bl h t v act quiet n g =
         ]
       ]) (end_inv bl h t.id v n i);
       pending = λ s x q l k.
-          let k0 : Asks d s x l = record {
-            known = k.known;
-            kind = k.kind;
-            answers = k.answers;
-            from = k.from;
-            live = k.live;
-            fetches = k.fetches;
-          } in
           waits_kept (d.taking l.from) (new l.from) (λ u a z. keeps_with d.taking h t.id v l.from u a (λ r f.
-          quiet s x q l k0 r (sym z ∙ f))) (g.pending s x q l k0);
+          quiet s x q l k r (sym z ∙ f))) (g.pending s x q l k);
       born = g.born;
     }
 
@@ -181,19 +173,11 @@ asked_over {o} {e} {d} bl h q v has n g =
     record {
       inv = end_inv bl h q.id v n g.inv;
       pending = λ s x p l k.
-          let k0 : Asks d s x l = record {
-            known = k.known;
-            kind = k.kind;
-            answers = k.answers;
-            from = k.from;
-            live = k.live;
-            fetches = k.fetches;
-          } in
           waits_kept (d.taking l.from) (new l.from)
           (λ u a z. keeps_with d.taking h q.id v l.from u a (λ r. not_active h (Asking q) g.inv has (λ t y.
           let b : Asking q ≡ Fetching t = y in (cc)) (λ t y. let b : Asking q ≡ Draining t = y in (cc)) u
           (subst (λ j. Active (d.taking j) u) r a)))
-          (g.pending s x p l k0);
+          (g.pending s x p l k);
       born = g.born;
     }
 
@@ -250,14 +234,7 @@ tell_good {o} {e} {d} h m n g =
       pending = λ s x q l k. elim (sent_knows d h m n.sender l k.known) [
         | inl a ↦ waits_sent d h m s l x (d.taking l.from) (d.buf l.from) (λ u act eq. let w = i.ins.buffer l.from u
             act in let y = w.below in absurd (omega arith))
-            (g.pending s x q l (record {
-              known = a;
-              kind = k.kind;
-              answers = k.answers;
-              from = k.from;
-              live = k.live;
-              fetches = k.fetches;
-            }))
+            (g.pending s x q l (known_by k a))
         | inr a ↦ absurd (n.not_fetch (ap (λ (z : Letter). z.kind) (sym a) ∙ k.kind))
       ];
       born = λ j le. g.born j (omega arith);
@@ -370,14 +347,7 @@ asked_good {o} {e} {d} h t is none handle quiet g =
           a.1 refl (i.ins.buffers h u t a.0 (inl is) eq)) step1;
       pending = λ s x p l k. elim (sent_knows d1 h m refl l k.known) [
         | inl a ↦
-            let k0 : Asks d s x l = record {
-              known = a;
-              kind = k.kind;
-              answers = k.answers;
-              from = k.from;
-              live = k.live;
-              fetches = k.fetches;
-            } in
+            let k0 : Asks (Knows d) d.live d.file s x l = known_by k a in
             waits_kept (d.taking l.from) (new l.from) (λ u b z. keeps_with d.taking h t.id v l.from u b (λ r f.
             quiet s x p l k0 r (sym z ∙ f)))
             (waits_sent d1 h m s l x (d.taking l.from) (d.buf l.from) (λ u act eq. let w = i.ins.buffer l.from u
@@ -426,14 +396,6 @@ drained_good {o} {e} {d} h t here g =
         positive = i.positive;
       };
       pending = λ s x q l k.
-          let k0 : Asks d s x l = record {
-            known = k.known;
-            kind = k.kind;
-            answers = k.answers;
-            from = k.from;
-            live = k.live;
-            fetches = k.fetches;
-          } in
           waits_kept (d.taking l.from) (new l.from)
           (λ u a z. elim (eqb_tells u.id t.id) [
             | inl b ↦ elim (eqb_tells l.from h) [
@@ -446,7 +408,7 @@ drained_good {o} {e} {d} h t here g =
             ]
             | inr b ↦ keeps_with d.taking h t.id v l.from u a (λ r. b.1)
           ])
-          (g.pending s x q l k0);
+          (g.pending s x q l k);
       born = g.born;
     }
 
@@ -566,13 +528,6 @@ lost_good g = record {
     alive = g.inv.alive;
     positive = g.inv.positive;
   };
-  pending = λ s x q l k. g.pending s x q l (record {
-    known = k.known;
-    kind = k.kind;
-    answers = k.answers;
-    from = k.from;
-    live = k.live;
-    fetches = k.fetches;
-  });
+  pending = λ s x q l k. g.pending s x q l k;
   born = g.born;
 }

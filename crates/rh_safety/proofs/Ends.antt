@@ -56,7 +56,8 @@ abbrev pub how_many : {A : Type 0} → (A → Bool) → List A → ℕ
 how_many p [] = 0
 how_many p (x ∷ xs) = if p x then how_many p xs + 1 else how_many p xs
 
--- one more record: on a full list the first one that has ended goes; as the lists are in the order of ids, it has the least id
+-- one more record: on a full list the first one that has ended goes; as the lists are in the order of ids, it has the
+-- least id
 abbrev pub one_more : {A : Type 0} → ℕ → (A → Bool) → List A → A → List A
 one_more most keep xs v = (if nat_le most (length xs) then drop_first keep xs else xs) ++ v ∷ []
 

@@ -5,7 +5,7 @@ use Rattle.rh_safety.proofs.Ends.{Recorded, Returned, DataSave, RamFetch, RamTra
 use Rattle.rh_safety.proofs.Ends.{Letter, Message, Sending, Taking, Out, Open, Out_done, In, Fetching, Draining}
 use Rattle.rh_safety.proofs.Ends.{Asking, In_done, In_failed, is_growing, out_id, in_id, in_anchor, Has, Active}
 use Rattle.rh_safety.proofs.Ends.{Pairwise}
-use Rattle.rh_safety.proofs.Protocol.{Desk, Scrap, owned}
+use Rattle.rh_safety.proofs.Sight.{Desk, Scrap, owned}
 use Rattle.rh_safety.proofs.Basics.{Ascend}
 
 -- a letter that is queued, held, or the last that a task sent
@@ -222,17 +222,30 @@ pub record Waits (q : List Message) (held : ℕ → Option Message) (s : ℕ) (l
   pub unread : (m : Message) → Has m q → m.letter.me ≡ taking.fetch → IsWaiting m s l
   pub free : (h : ℕ) (m : Message) → held h ≡ Some m → m.letter.me ≢ taking.fetch
 
--- the fetch l would be answered by record x of task s
-pub record Asks (d : Desk) (s : ℕ) (x : Sending) (l : Letter) : Type 0 where
-  pub known : Knows d l
+-- the fetch l, which is known, would be answered by record x of task s
+pub record Asks (K : Letter → Type 0) (lives files : ℕ → Bool) (s : ℕ) (x : Sending) (l : Letter) : Type 0 where
+  pub known : K l
   pub kind : l.kind ≡ RamFetch
   pub answers : l.answers ≡ x.last
   pub from : l.from ≡ x.recipient
-  pub live : d.live l.from ≡ true
-  pub fetches : d.file s ≡ false
+  pub live : lives l.from ≡ true
+  pub fetches : files s ≡ false
+
+-- the same, known otherwise
+pub known_by : {K L : Letter → Type 0} {lives files : ℕ → Bool} {s : ℕ} {x : Sending} {l : Letter} →
+    Asks K lives files s x l → L l → Asks L lives files s x l
+known_by k known = record {
+  known = known;
+  kind = k.kind;
+  answers = k.answers;
+  from = k.from;
+  live = k.live;
+  fetches = k.fetches;
+}
 
 abbrev pub PendingAt : Desk → ℕ → Sending → Type 0
-PendingAt d s x = (l : Letter) → Asks d s x l → Waits d.queue d.held s l x (d.taking l.from) (d.buf l.from)
+PendingAt d s x = (l : Letter) → Asks (Knows d) d.live d.file s x l → Waits d.queue d.held s l x (d.taking l.from)
+    (d.buf l.from)
 
 pub record Good (o : Offered) (e : ℕ → ℕ → Bool) (d : Desk) : Type 0 where
   pub inv : Inv o e d

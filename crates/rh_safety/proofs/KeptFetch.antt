@@ -1,5 +1,6 @@
 -- A fetch that is answered keeps the invariant.
-use Rattle.std.proofs.Common.{◌≡◌, ℕ, ◌≤◌, true, false, List, [], length, take, drop, Option, Some, None, refl, sym, ap, ◌∙◌, subst}
+use Rattle.std.proofs.Common.{◌≡◌, ℕ, ◌≤◌, true, false, List, [], length, take, drop, Option, Some, None, refl, sym}
+use Rattle.std.proofs.Common.{ap, ◌∙◌, subst}
 use Rattle.std.proofs.Common.{arith, length-drop, length-take}
 use Rattle.std.specs.Prelude.{◌-◌, ◌++◌, min, if◌then◌else◌, nat_eq, nat_lt, Ok}
 use Rattle.rh_defs.specs.declared.refusal.Refusal.{Refusal}
@@ -25,22 +26,23 @@ use Rattle.rh_defs.specs.OutgoingEvents.{Handled, portion, transmit, answer_fetc
 use Rattle.rh_defs.specs.Transfer.{answers_none}
 use Rattle.rh_safety.proofs.View.{view, seen_letter, blocks_of, buffers_of, task_of}
 use Rattle.rh_safety.proofs.Ends.{Letter, Offers, Edits, put}
-use Rattle.rh_safety.proofs.Protocol as protocol
+use Rattle.rh_safety.proofs.Sight as sight
 use Rattle.rh_safety.proofs.Basics.{same_value, open_none, open_is, first_is, is_equal}
 use Rattle.rh_safety.proofs.Invariant.{Good}
-use Rattle.rh_safety.proofs.Polls.{Called, Waiter, Taken, failed_good, answered_good, portion_ok, unanswered_good, called}
+use Rattle.rh_safety.proofs.Polls.{Called, Waiter, Taken, failed_good, answered_good, portion_ok, unanswered_good}
+use Rattle.rh_safety.proofs.Polls.{called}
 use Rattle.rh_safety.proofs.SeenTasks.{field_is, live_of, slot_is, slot_at, outs_view, buffer_view}
 use Rattle.rh_safety.proofs.SeenFrames.{is_found}
 use Rattle.rh_safety.proofs.SeenBlocks.{from_test, ok_is}
 use Rattle.rh_safety.proofs.SeenSends.{by_grant, with_step, sent_view, sent_slot}
-use Rattle.rh_safety.proofs.SeenHandled.{letter_of, block_there}
+use Rattle.rh_safety.proofs.SeenDocuments.{letter_of, block_there}
 use Rattle.rh_safety.proofs.SeenWrites.{front, written_map, buffer_found}
 use Rattle.rh_safety.proofs.Keeps.{seen_good}
 
 -- what is seen once n bytes of the source went into the buffer
-abbrev pub gone : protocol.Desk → ℕ → Letter → Sending → ℕ → List ℕ → List ℕ → ℕ → protocol.Desk
+abbrev pub gone : sight.Desk → ℕ → Letter → Sending → ℕ → List ℕ → List ℕ → ℕ → sight.Desk
 gone D h l x to S old n =
-    protocol.sent (record D {
+    sight.sent (record D {
       heap = put D.heap x.recipient (put (D.heap x.recipient) l.address (Some (take n (drop x.count S) ++ drop n old)));
       sending = put D.sending h (sender.sent x n l.amount D.next_ref (D.sending h));
     }) h (record {
@@ -86,7 +88,7 @@ module _ (d : Desk) (t : Task) (m : Parcel) (is : task_of t.handle d.tasks ≡ S
       view (with_task r.handle (λ r. record r {
         slot = written_in buffer (take (portion_of x S) (drop x.count S)) (buffer_at buffer amount r.slot) r.slot;
       }) sent) ≡
-      protocol.with_heap (protocol.sent (view d) h (seen_letter (transmit_letter h m (nat_lt (portion_of x S) amount)
+      sight.with_heap (sight.sent (view d) h (seen_letter (transmit_letter h m (nat_lt (portion_of x S) amount)
       buffer (portion_of x S)) d.post.next_ref)) x.recipient buffer
       (Some (take (portion_of x S) (drop x.count S) ++ drop (portion_of x S) w.old))
   poured x S r sent w to e =
@@ -102,25 +104,26 @@ module _ (d : Desk) (t : Task) (m : Parcel) (is : task_of t.handle d.tasks ≡ S
       let fits : length out ≤ length (bytes_of c.cut.here) = let y : length (bytes_of c.cut.here) ≡ length w.old =
       ap (λ (v : List ℕ). length v) c.bytes in let z = w.fits in omega arith in
       let letter = transmit_letter h m (nat_lt n amount) buffer n in
-      let v : view sent ≡ protocol.sent (view d) h (seen_letter letter d.post.next_ref) = sent_view d sent letter e live
+      let v : view sent ≡ sight.sent (view d) h (seen_letter letter d.post.next_ref) = sent_view d sent letter e live
       in
-      let there : (view sent).live r.handle ≡ true = ap (λ (y : protocol.Desk). y.live r.handle) v ∙ ap (view d).live
+      let there : (view sent).live r.handle ≡ true = ap (λ (y : sight.Desk). y.live r.handle) v ∙ ap (view d).live
       same ∙ field_is (λ y. true) false x.recipient d.tasks r to in
       let slot : slot_at sent r.handle ≡ r.slot = sent_slot d sent letter e r.handle ∙ ap (slot_at d) same ∙
       slot_is d x.recipient r to in
       let g : Slot → Slot = λ s. written_in buffer out (buffer_at buffer amount s) s in
       let now : g r.slot ≡ with_heap_bytes c.cut 0 out r.slot = ap (λ o. written_in buffer out o r.slot) c.found in
-      let bytes : written (bytes_of c.cut.here) 0 out ≡ new = ap (λ v. written v 0 out) c.bytes ∙ front n out w.old len in
+      let bytes : written (bytes_of c.cut.here) 0 out ≡ new = ap (λ v. written v 0 out) c.bytes ∙
+      front n out w.old len in
       buffer_view sent r.handle buffer g (Some new) r.slot there slot
       (λ a. ap (λ (s : Slot). blocks_of s a) now)
       (λ a. ap (λ (s : Slot). buffers_of s a) now ∙ written_map buffer r.slot c.cut out c.is fits a ∙
       ap (λ v. put (buffers_of r.slot) buffer (Some v) a) bytes) ∙
-      ap (λ k. protocol.with_heap (view sent) k buffer (Some new)) same ∙
-      ap (λ (y : protocol.Desk). protocol.with_heap y x.recipient buffer (Some new)) v
+      ap (λ k. sight.with_heap (view sent) k buffer (Some new)) same ∙
+      ap (λ (y : sight.Desk). sight.with_heap y x.recipient buffer (Some new)) v
 
   -- what the answer by a record does: nothing goes out, or what the buffer has room for of the source S
   pub data Does (x : Sending) (y : Handled) : Type 0 where
-    fails : (r : Refusal) → y.1 ≡ outcome.Refused r → view y.0 ≡ protocol.failed (view d) h x → Does x y
+    fails : (r : Refusal) → y.1 ≡ outcome.Refused r → view y.0 ≡ sight.failed (view d) h x → Does x y
     sends : (S : List ℕ) → (view d).block h x.anchor ≡ Some S → (view d).live x.recipient ≡ true → (w : Reaches x) →
         view y.0 ≡ gone (view d) h l x m.message.from S w.old (min amount (length S - x.count)) → Does x y
 
@@ -141,7 +144,7 @@ module _ (d : Desk) (t : Task) (m : Parcel) (is : task_of t.handle d.tasks ≡ S
       let edit = sender.sent x n amount (next_ref d) in
       subst (Does x) (ok_is _ y q4) (sends b.here.bytes (ap (λ (k : ℕ → Option (List ℕ)). k x.anchor)
       (field_is (λ y. blocks_of y.slot) (λ a. None) h d.tasks t is) ∙ block_there x.anchor t.slot b e1) lives w
-      (outs_view _ h edit (ap (λ (y : protocol.Desk). y.live h) v ∙ live) ∙ ap (λ (y : protocol.Desk). record y {
+      (outs_view _ h edit (ap (λ (y : sight.Desk). y.live h) v ∙ live) ∙ ap (λ (y : sight.Desk). record y {
         sending = put y.sending h (edit (y.sending h));
       }) v))))))
       (λ refusal q. fails refusal refl (outs_view d h (sender.failed x) live))
@@ -150,7 +153,8 @@ module _ (d : Desk) (t : Task) (m : Parcel) (is : task_of t.handle d.tasks ≡ S
   pub fetch_goes : (x : Sending) (S old : List ℕ) (y : Handled) → Does x y → is_refusal action.RamFetch y.1 ≡ false →
       (view d).block h x.anchor ≡ Some S → (view d).heap x.recipient buffer ≡ Some old →
       view y.0 ≡ gone (view d) h l x m.message.from S old (min amount (length S - x.count))
-  fetch_goes x S old y (fails r is_r v) granted source range = let z : is_refusal action.RamFetch (outcome.Refused r) ≡ false =
+  fetch_goes x S old y (fails r is_r v) granted source range = let z : is_refusal action.RamFetch (outcome.Refused r)
+      ≡ false =
       subst (λ (u : Outcome). is_refusal action.RamFetch u ≡ false) is_r granted in absurd (cc)
   fetch_goes x S old y (sends T there lives w v) granted source range =
       let one : T ≡ S = same_value ((view d).block h x.anchor) there source in
@@ -161,13 +165,15 @@ module _ (d : Desk) (t : Task) (m : Parcel) (is : task_of t.handle d.tasks ≡ S
 module _ {o : Offers} {e : Edits} (d : Desk) (t : Task) (m : Parcel) (is : task_of t.handle d.tasks ≡ Some t)
     (buffer amount : ℕ) where
   done_good : (x : Sending) (g : Called o e (view d) t.handle x (fetch_in m buffer amount)) →
-      ((view d).live x.recipient ≡ true → Waiter (view d) t.handle x (fetch_in m buffer amount)) → (y : Handled) → Does d t m is buffer amount x y → Good o e (view y.0)
+      ((view d).live x.recipient ≡ true → Waiter (view d) t.handle x (fetch_in m buffer amount)) → (y : Handled) →
+      Does d t m is buffer amount x y → Good o e (view y.0)
   done_good x g a y (fails r is_r v) = seen_good v (failed_good t.handle (fetch_in m buffer amount) x g)
   done_good x g a y (sends S there lives w v) =
       let source = g.inv.outs.source t.handle x g.is_open in
       let all : S ≡ source.all = same_value ((view d).block t.handle x.anchor) there source.there in
       seen_good v (answered_good t.handle (fetch_in m buffer amount) x g (a lives) m.message.from S w.old
-      (min amount (length S - x.count)) all w.there w.fits (portion_ok S x (fetch_in m buffer amount) (subst (λ (z : List ℕ). x.count ≤ length z) (sym all) source.fits)) _ refl)
+      (min amount (length S - x.count)) all w.there w.fits (portion_ok S x (fetch_in m buffer amount)
+      (subst (λ (z : List ℕ). x.count ≤ length z) (sym all) source.fits)) _ refl)
 
   -- the buffer of the record that waits
   reached : (x : Sending) → Called o e (view d) t.handle x (fetch_in m buffer amount) →
@@ -185,7 +191,7 @@ module _ {o : Offers} {e : Edits} (d : Desk) (t : Task) (m : Parcel) (is : task_
       sender.on_fetch m.message.from m.message.your_ref amount ((view d).sending t.handle) ≡ Some x →
       (view d).live x.recipient ≡ true → Waiter (view d) t.handle x (fetch_in m buffer amount)
   waits tk file x q lives =
-      let w = open_is (protocol.would_answer (fetch_in m buffer amount)) ((view d).sending t.handle) x q in
+      let w = open_is (sight.would_answer (fetch_in m buffer amount)) ((view d).sending t.handle) x q in
       tk.waiter x w.0 refl w.1 file lives
 
   -- the range that it names is in one buffer
@@ -203,7 +209,7 @@ module _ {o : Offers} {e : Edits} (d : Desk) (t : Task) (m : Parcel) (is : task_
       Good o e (view (answer_fetch d t m buffer amount v).0)
   unfolding answer_fetch
   fetch_by tk file None q = unanswered_good t.handle (fetch_in m buffer amount) tk (λ x r w y. let z : true ≡ false =
-      sym w ∙ open_none (protocol.would_answer (fetch_in m buffer amount)) ((view d).sending t.handle) x q r in cc)
+      sym w ∙ open_none (sight.would_answer (fetch_in m buffer amount)) ((view d).sending t.handle) x q r in cc)
   fetch_by tk file (Some x) q =
       let c = called t.handle (fetch_in m buffer amount) tk refl file x q in
       done_good x c (waits tk file x q) _ (fetch_does d t m is buffer amount x c.from (λ lives.

@@ -21,14 +21,14 @@ use Rattle.rh_defs.specs.OutgoingEvents.{Handled, scrap_shortage, wider, save_sc
 use Rattle.rh_defs.specs.IncomingEvents.{appended, loaded, load_file, take_file}
 use Rattle.rh_safety.proofs.View.{view, seen_letter, seen_scrap, blocks_of, task_of}
 use Rattle.rh_safety.proofs.Ends.{Letter, Has, Offers, Edits, put}
-use Rattle.rh_safety.proofs.Protocol as protocol
+use Rattle.rh_safety.proofs.Sight as sight
 use Rattle.rh_safety.proofs.Basics.{either, and_left, and_right, is_equal, open_is, asking_is}
 use Rattle.rh_safety.proofs.Invariant.{Good}
 use Rattle.rh_safety.proofs.Arrivals.{Read, shut_good, filed_good, loaded_good, unasked_good, told_good, untold_good}
 use Rattle.rh_safety.proofs.SeenTasks.{field_is, live_of, outs_view, ins_view}
 use Rattle.rh_safety.proofs.SeenBlocks.{from_test, ok_is}
 use Rattle.rh_safety.proofs.SeenSends.{by_grant, with_step, sent_view}
-use Rattle.rh_safety.proofs.SeenHandled.{letter_of, IsLonger, longer_is, block_there}
+use Rattle.rh_safety.proofs.SeenDocuments.{letter_of, IsLonger, longer_is, block_there}
 use Rattle.rh_safety.proofs.Keeps.{seen_good}
 
 module _ {o : Offers} {e : Edits} (d : Desk) (t : Task) (m : Parcel) (b : Body) (is : task_of t.handle d.tasks ≡ Some t)
@@ -51,7 +51,7 @@ module _ {o : Offers} {e : Edits} (d : Desk) (t : Task) (m : Parcel) (b : Body) 
 
   -- ---- the sender
 
-  fails : (x : Sending) → Has (outgoing.Open x) ((view d).sending h) → Good o e (protocol.failed (view d) h x)
+  fails : (x : Sending) → Has (outgoing.Open x) ((view d).sending h) → Good o e (sight.failed (view d) h x)
   fails x has = shut_good h x g.inv (λ s y r ne. g.pending s y r) g.born has
 
   -- a DataSaveAck: the source becomes the scrap file
@@ -71,15 +71,15 @@ module _ {o : Offers} {e : Edits} (d : Desk) (t : Task) (m : Parcel) (b : Body) 
       let letter = load_letter h m n in
       with_step (send_letter letter after) _ y (from_test _ _ y (from_test _ _ y (from_test _ _ y z1)))
       (λ sent e2 z2.
-      let v : view sent ≡ protocol.sent (view d) h (seen_letter letter d.post.next_ref) = sent_view after sent letter e2
+      let v : view sent ≡ sight.sent (view d) h (seen_letter letter d.post.next_ref) = sent_view after sent letter e2
       live in
       let edit = sender.saved x (next_ref d) in
-      let file : protocol.Scrap = record { load = next_ref d; bytes = s.here.bytes } in
+      let file : sight.Scrap = record { load = next_ref d; bytes = s.here.bytes } in
       subst IsKept (ok_is _ y z2) (seen_good (outs_view (record sent {
         scrap = Some (record { load = next_ref d; bytes = s.here.bytes });
-      }) h edit (ap (λ (y : protocol.Desk). y.live h) v ∙ live) ∙
-      ap (λ (y : protocol.Desk). record y { sending = put y.sending h (edit (y.sending h)); scrap = Some file }) v ∙
-      ap (λ k. record (protocol.sent (view d) h (seen_letter (record letter { to = k }) d.post.next_ref)) {
+      }) h edit (ap (λ (y : sight.Desk). y.live h) v ∙ live) ∙
+      ap (λ (y : sight.Desk). record y { sending = put y.sending h (edit (y.sending h)); scrap = Some file }) v ∙
+      ap (λ k. record (sight.sent (view d) h (seen_letter (record letter { to = k }) d.post.next_ref)) {
         sending = put (view d).sending h (edit ((view d).sending h));
         scrap = Some file;
       }) from)
@@ -118,30 +118,30 @@ module _ {o : Offers} {e : Edits} (d : Desk) (t : Task) (m : Parcel) (b : Body) 
   loaded_keeps q bytes after w from has offered =
       let n = length bytes in
       let d1 : Desk = record after { scrap = None } in
-      let D : protocol.Desk = protocol.copied (view d) h q bytes in
-      let document : w.document ≡ protocol.bytes_of ((view d).block h q.anchor) = ap protocol.bytes_of (sym w.there ∙
+      let D : sight.Desk = sight.copied (view d) h q bytes in
+      let document : w.document ≡ sight.bytes_of ((view d).block h q.anchor) = ap sight.bytes_of (sym w.there ∙
       sym (block_seen q.anchor)) in
-      let v : view d1 ≡ D = ap (λ (y : protocol.Desk). record y { scrap = None }) w.seen ∙
-      ap (λ (z : List ℕ). record (protocol.with_block (view d) h q.anchor (Some (z ++ bytes))) { scrap = None })
+      let v : view d1 ≡ D = ap (λ (y : sight.Desk). record y { scrap = None }) w.seen ∙
+      ap (λ (z : List ℕ). record (sight.with_block (view d) h q.anchor (Some (z ++ bytes))) { scrap = None })
       document in
       by_grant IsKept _ _
       (λ x z. with_step (send_letter (load_ack_letter h m n) d1) _ x z (λ sent e1 z1.
       let letter = load_ack_letter h m n in
-      let v2 : view sent ≡ protocol.sent (view d1) h (seen_letter letter d1.post.next_ref) = sent_view d1 sent letter e1
+      let v2 : view sent ≡ sight.sent (view d1) h (seen_letter letter d1.post.next_ref) = sent_view d1 sent letter e1
       w.live in
       let edit = receiver.loaded q n in
       subst IsKept (ok_is _ x z1)
-      (seen_good (ins_view sent h edit (ap (λ (y : protocol.Desk). y.live h) v2 ∙ w.live) ∙
-      ap (λ (y : protocol.Desk). record y { taking = put y.taking h (edit (y.taking h)) }) v2 ∙
-      ap (λ (z : protocol.Desk). let y = protocol.sent z h (seen_letter letter d1.post.next_ref) in
+      (seen_good (ins_view sent h edit (ap (λ (y : sight.Desk). y.live h) v2 ∙ w.live) ∙
+      ap (λ (y : sight.Desk). record y { taking = put y.taking h (edit (y.taking h)) }) v2 ∙
+      ap (λ (z : sight.Desk). let y = sight.sent z h (seen_letter letter d1.post.next_ref) in
       record y { taking = put y.taking h (edit (y.taking h)) }) v ∙
-      ap (λ (k : ℕ). let y = protocol.sent D h (seen_letter letter k) in record y {
+      ap (λ (k : ℕ). let y = sight.sent D h (seen_letter letter k) in record y {
         taking = put y.taking h (edit (y.taking h));
       }) (ap (λ p. p.next_ref) w.post) ∙
-      ap (λ (k : ℕ). let y = protocol.sent D h (seen_letter (record letter { to = k }) D.next_ref) in
+      ap (λ (k : ℕ). let y = sight.sent D h (seen_letter (record letter { to = k }) D.next_ref) in
       record y { taking = put y.taking h (edit (y.taking h)) }) from)
       (told_good h l q g rd has bytes offered))))
-      (λ refusal z. seen_good (ins_view d1 h (receiver.abandoned q n) w.live ∙ ap (λ (y : protocol.Desk). record y {
+      (λ refusal z. seen_good (ins_view d1 h (receiver.abandoned q n) w.live ∙ ap (λ (y : sight.Desk). record y {
         taking = put y.taking h (receiver.abandoned q n (y.taking h));
       }) v) (untold_good h l q g rd has bytes offered))
 

@@ -22,7 +22,7 @@ use Rattle.rh_defs.specs.OutgoingEvents.{Handled, ignored}
 use Rattle.rh_defs.specs.IncomingEvents.{is_deaf, accept, take_save}
 use Rattle.rh_safety.proofs.View.{view, seen_letter, blocks_of, buffers_of, task_of}
 use Rattle.rh_safety.proofs.Ends.{Offers, Edits, put, how_many}
-use Rattle.rh_safety.proofs.Protocol as protocol
+use Rattle.rh_safety.proofs.Sight as sight
 use Rattle.rh_safety.proofs.Basics.{none_some, either, and_right, not_true}
 use Rattle.rh_safety.proofs.Invariant.{Good}
 use Rattle.rh_safety.proofs.Arrivals.{Began, Read, began_good}
@@ -33,7 +33,7 @@ use Rattle.rh_safety.proofs.SeenBlocks.{ok_is, not_some, alloc_is, added_map, ad
 use Rattle.rh_safety.proofs.SeenHeaps.{claim_is, claimed_free, claimed_map, claimed_still}
 use Rattle.rh_safety.proofs.SeenSends.{by_grant, with_step, sent_view}
 use Rattle.rh_safety.proofs.SeenSaves.{not_full}
-use Rattle.rh_safety.proofs.SeenHandled.{letter_of}
+use Rattle.rh_safety.proofs.SeenDocuments.{letter_of}
 
 put_cong : {A : Type 0} (f g : ℕ → A) (k : ℕ) (v : A) → Same f g → Same (put f k v) (put g k v)
 put_cong f g k v same a = elim (eqb_tells a k) [ inl w ↦ rw w.0 refl | inr w ↦ rw w.0 (same a) ]
@@ -50,17 +50,17 @@ module _ (d : Desk) (t : Task) (m : Parcel) (is : task_of t.handle d.tasks ≡ S
   h = t.handle
 
   -- the desk with the anchor's empty block and the buffer at the address
-  abbrev placed : ℕ → ℕ → List ℕ → protocol.Desk
+  abbrev placed : ℕ → ℕ → List ℕ → sight.Desk
   placed k address bytes = record (view d) {
     heap = put (view d).heap h (put ((view d).heap h) address (Some bytes));
     block = put (view d).block h (put ((view d).block h) k (Some []));
   }
 
   -- a first fetch of n bytes was sent
-  abbrev fetching : ℕ → ℕ → List ℕ → ℕ → protocol.Desk
+  abbrev fetching : ℕ → ℕ → List ℕ → ℕ → sight.Desk
   fetching k address bytes n =
       let edit = receiver.fetching (receiver.begun m.message.my_ref m.message.from k address (next_ref d)) in
-      let y = protocol.sent (placed k address bytes) h (seen_letter (fetch_letter h m.message.from m.message.my_ref
+      let y = sight.sent (placed k address bytes) h (seen_letter (fetch_letter h m.message.from m.message.my_ref
       address n) d.post.next_ref) in
       record y { taking = put y.taking h (edit (y.taking h)) }
 
@@ -92,15 +92,15 @@ module _ (d : Desk) (t : Task) (m : Parcel) (is : task_of t.handle d.tasks ≡ S
       (λ a. added_map k (zeros 0) c.0 p.0 added a ∙ put_cong (blocks_of c.0) (blocks_of t.slot) k (Some [])
       (claimed_still claimed) a)
       (λ a. added_still k (zeros 0) c.0 p.0 added a ∙ claimed_map claimed a) in
-      let live1 : (view d1).live h ≡ true = ap (λ (y : protocol.Desk). y.live h) v1 ∙ live in
+      let live1 : (view d1).live h ≡ true = ap (λ (y : sight.Desk). y.live h) v1 ∙ live in
       let letter = fetch_letter h m.message.from m.message.my_ref c.1 t.buffer in
-      let v2 : view sent ≡ protocol.sent (view d1) h (seen_letter letter d.post.next_ref) = sent_view d1 sent letter
+      let v2 : view sent ≡ sight.sent (view d1) h (seen_letter letter d.post.next_ref) = sent_view d1 sent letter
       e4 live1 in
       let edit = receiver.fetching (receiver.begun m.message.my_ref m.message.from k c.1 (next_ref d)) in
       let v3 : view (with_taking h edit sent) ≡ fetching k c.1 bytes t.buffer =
-      ins_view sent h edit (ap (λ (y : protocol.Desk). y.live h) v2 ∙ live1) ∙
-      ap (λ (y : protocol.Desk). record y { taking = put y.taking h (edit (y.taking h)) }) v2 ∙
-      ap (λ (z : protocol.Desk). let y = protocol.sent z h (seen_letter letter d.post.next_ref) in record y {
+      ins_view sent h edit (ap (λ (y : sight.Desk). y.live h) v2 ∙ live1) ∙
+      ap (λ (y : sight.Desk). record y { taking = put y.taking h (edit (y.taking h)) }) v2 ∙
+      ap (λ (z : sight.Desk). let y = sight.sent z h (seen_letter letter d.post.next_ref) in record y {
         taking = put y.taking h (edit (y.taking h));
       }) v1 in
       let size : (view d).buf h ≡ t.buffer = field_is (λ y. y.buffer) 1 h d.tasks t is in
@@ -119,7 +119,8 @@ module _ (d : Desk) (t : Task) (m : Parcel) (is : task_of t.handle d.tasks ≡ S
       })))))
 
   -- a first fetch was sent, or nothing was done
-  pub save_does : (b : Body) → Began (view d) h (letter_of m b) (view (take_save d t m).0) ⊎ (take_save d t m ≡ ignored d)
+  pub save_does : (b : Body) → Began (view d) h (letter_of m b)
+      (view (take_save d t m).0) ⊎ (take_save d t m ≡ ignored d)
   unfolding take_save
   save_does b =
       let P : Handled → Type 0 = λ x. Began (view d) h (letter_of m b) (view x.0) ⊎ (x ≡ ignored d) in

@@ -16,16 +16,17 @@ use Rattle.rh_defs.specs.Transfer.{answers_none}
 use Rattle.rh_defs.specs.Step.{poll, poll_taken, step}
 use Rattle.rh_safety.proofs.View.{view, seen_parcel, task_of}
 use Rattle.rh_safety.proofs.Ends.{Offers, Edits, first_for}
-use Rattle.rh_safety.proofs.Protocol as protocol
+use Rattle.rh_safety.proofs.Sight as sight
 use Rattle.rh_safety.proofs.Basics.{either}
 use Rattle.rh_safety.proofs.Invariant.{Good}
 use Rattle.rh_safety.proofs.Posts.{returned_good}
-use Rattle.rh_safety.proofs.Polls.{Taken, not_fetch_good, unanswered_good, came_taken, back_ready, lost_if_good, lost_if_handle}
+use Rattle.rh_safety.proofs.Polls.{Taken, not_fetch_good, unanswered_good, came_taken, back_ready, lost_if_good}
+use Rattle.rh_safety.proofs.Polls.{lost_if_handle}
 use Rattle.rh_safety.proofs.Polls.{returned_handle}
 use Rattle.rh_safety.proofs.SeenTasks.{field_is, live_of}
 use Rattle.rh_safety.proofs.SeenFrames.{Fits, bind, done, instead_of, the_task}
 use Rattle.rh_safety.proofs.SeenTaking.{IsTaken, picked_by, poll_taken_is}
-use Rattle.rh_safety.proofs.SeenHandled.{letter_of}
+use Rattle.rh_safety.proofs.SeenDocuments.{letter_of}
 use Rattle.rh_safety.proofs.Keeps.{Keeps, seen_good}
 use Rattle.rh_defs.specs.declared.transfer.Taking.{Taking}
 use Rattle.rh_safety.proofs.Ends.{Active}
@@ -37,7 +38,8 @@ use Rattle.rh_safety.proofs.KeptTransmits.{transmit_keeps}
 use Rattle.rh_safety.proofs.KeptFiles.{ack_keeps, load_keeps, load_ack_keeps}
 
 module _ {o : Offers} {e : Edits} (d : Desk) (t : Task) (m : Parcel) (is : task_of t.handle d.tasks ≡ Some t) where
-  good_of : (b : Body) → Taken o e (view d) t.handle (letter_of m b) → (action_of b ≡ action.RamFetch → ⊥) → Good o e (view d)
+  good_of : (b : Body) → Taken o e (view d) t.handle (letter_of m b) → (action_of b ≡ action.RamFetch → ⊥) →
+      Good o e (view d)
   good_of b = not_fetch_good t.handle (letter_of m b)
 
   came_keeps : (b : Body) → Taken o e (view d) t.handle (letter_of m b) → Good o e (view (transfer.came d t m b).0)
@@ -79,14 +81,14 @@ handled_keeps {o} {e} d t m w Acknowledge q = back_keeps o e d t m w.is (w.back 
 module _ {o : Offers} {e : Edits} (d : Desk) (t : Task) (f : Fits d) (is : task_of t.handle d.tasks ≡ Some t)
     (g : Good o e (view d)) (p : Post × Option Parcel) (w : IsTaken d t.handle p) where
   -- the desk that the message is taken from
-  abbrev left : protocol.Desk
-  left = protocol.lost_if w.lost (protocol.returned (view d) t.handle ((view d).held t.handle))
+  abbrev left : sight.Desk
+  left = sight.lost_if w.lost (sight.returned (view d) t.handle ((view d).held t.handle))
 
   left_good : Good o e left
   left_good = lost_if_good w.lost (returned_good t.handle ((view d).held t.handle) refl g)
 
   below : t.handle < left.next_handle
-  below = lost_if_handle (protocol.returned (view d) t.handle ((view d).held t.handle)) w.lost t.handle
+  below = lost_if_handle (sight.returned (view d) t.handle ((view d).held t.handle)) w.lost t.handle
       (returned_handle (view d) ((view d).held t.handle) t.handle t.handle (g.inv.alive t.handle (live_of d t.handle t
       is)))
 
@@ -96,17 +98,17 @@ module _ {o : Offers} {e : Edits} (d : Desk) (t : Task) (f : Fits d) (is : task_
       let h : ℕ = t.handle in
       let x = seen_parcel m in
       let first : first_for h left.queue ≡ Some x = w.first ∙ ap (option_map seen_parcel) q in
-      let seen : view (with_delivered p.0 d) ≡ protocol.picked left h x m.code = w.seen ∙ ap (λ (v : Option Parcel).
+      let seen : view (with_delivered p.0 d) ≡ sight.picked left h x m.code = w.seen ∙ ap (λ (v : Option Parcel).
       picked_by h (option_map seen_parcel v) left) q in
       let back : m.code ≡ Acknowledge → Good o e (view (with_delivered p.0 d)) × ((k : Taking) → Active
       ((view (with_delivered p.0 d)).taking h) k → m.message.my_ref ≡ k.fetch → Quiet (view (with_delivered p.0 d)) h
-      k.id) = λ code. subst (λ (y : protocol.Desk). Good o e y × ((k : Taking) → Active (y.taking h) k →
-      m.message.my_ref ≡ k.fetch → Quiet y h k.id)) (sym (seen ∙ ap (protocol.picked left h x) code))
+      k.id) = λ code. subst (λ (y : sight.Desk). Good o e y × ((k : Taking) → Active (y.taking h) k →
+      m.message.my_ref ≡ k.fetch → Quiet y h k.id)) (sym (seen ∙ ap (sight.picked left h x) code))
       (back_ready h x left_good first below code) in
       record {
         is = is;
         handle = g.inv.alive h (live_of d h t is);
-        came = λ ne. subst (λ (y : protocol.Desk). Taken o e y h x.letter) (sym seen) (came_taken h x left_good first
+        came = λ ne. subst (λ (y : sight.Desk). Taken o e y h x.letter) (sym seen) (came_taken h x left_good first
             below m.code refl ne);
         back = λ code. (back code).0;
         quiet = λ code. (back code).1;
@@ -114,7 +116,8 @@ module _ {o : Offers} {e : Edits} (d : Desk) (t : Task) (f : Fits d) (is : task_
 
   by_message : (v : Option Parcel) → p.1 ≡ v → Good o e (view (poll_taken (with_delivered p.0 d) t v).0)
   unfolding poll_taken
-  by_message None q = seen_good (w.seen ∙ ap (λ (v : Option Parcel). picked_by t.handle (option_map seen_parcel v) left) q)
+  by_message None q = seen_good (w.seen ∙ ap (λ (v : Option Parcel). picked_by t.handle (option_map seen_parcel v)
+      left) q)
       left_good
   by_message (Some m) q = handled_keeps (with_delivered p.0 d) t m (given m q) m.code refl
 

@@ -28,7 +28,7 @@ use Rattle.rh_defs.specs.IncomingEvents.{appended, fetch_more, took, is_uncounta
 use Rattle.rh_safety.specs.Alternation.{is_refusal}
 use Rattle.rh_safety.proofs.View.{view, seen_letter, blocks_of, buffers_of, task_of}
 use Rattle.rh_safety.proofs.Ends.{Letter, Has, Offers, Edits, put, In_done, In_failed}
-use Rattle.rh_safety.proofs.Protocol as protocol
+use Rattle.rh_safety.proofs.Sight as sight
 use Rattle.rh_safety.proofs.Basics.{either, FoundActive, fetches, drains, active_is}
 use Rattle.rh_safety.proofs.Invariant.{Good}
 use Rattle.rh_safety.proofs.Arrivals.{Matched, Read, matched, read_quiet, given_up_good, here_quiet, stopped_good}
@@ -36,25 +36,25 @@ use Rattle.rh_safety.proofs.Arrivals.{fetched_good, finished_good}
 use Rattle.rh_safety.proofs.SeenTasks.{field_is, live_of, ins_view}
 use Rattle.rh_safety.proofs.SeenBlocks.{ok_is}
 use Rattle.rh_safety.proofs.SeenSends.{by_grant, with_step, sent_view}
-use Rattle.rh_safety.proofs.SeenHandled.{letter_of, buffer_is, ended_view, IsLonger, longer_is}
+use Rattle.rh_safety.proofs.SeenDocuments.{letter_of, buffer_is, ended_view, IsLonger, longer_is}
 use Rattle.rh_safety.proofs.Keeps.{seen_good}
 
 -- the desk once the bytes of a transmit are in the document: fewer than the buffer has were the last
-abbrev pub taken_desk : protocol.Desk → ℕ → Taking → Letter → protocol.Desk
+abbrev pub taken_desk : sight.Desk → ℕ → Taking → Letter → sight.Desk
 taken_desk d h r l =
-    let D = protocol.longer d h r l.amount in
-    if nat_lt l.amount (d.buf h) then protocol.ended D h r (In_done r.id r.anchor (r.count + l.amount))
-    else protocol.fetched D h r l.amount l.me
+    let D = sight.longer d h r l.amount in
+    if nat_lt l.amount (d.buf h) then sight.ended D h r (In_done r.id r.anchor (r.count + l.amount))
+    else sight.fetched D h r l.amount l.me
 
 -- what a transmit does to the record that fetches, and what the poll answers
-pub data Took (d : protocol.Desk) (h : ℕ) (r : Taking) (l : Letter) (a : Outcome) (after : protocol.Desk) : Type 0 where
-  refuses : (s : Refusal) → a ≡ outcome.Refused s → after ≡ protocol.given_up d h r → Took d h r l a after
-  stops : (s : Refusal) → a ≡ outcome.TookFailed l.amount s → after ≡ protocol.ended (protocol.longer d h r l.amount) h
+pub data Took (d : sight.Desk) (h : ℕ) (r : Taking) (l : Letter) (a : Outcome) (after : sight.Desk) : Type 0 where
+  refuses : (s : Refusal) → a ≡ outcome.Refused s → after ≡ sight.given_up d h r → Took d h r l a after
+  stops : (s : Refusal) → a ≡ outcome.TookFailed l.amount s → after ≡ sight.ended (sight.longer d h r l.amount) h
       r (In_failed r.id r.anchor (r.count + l.amount)) → Took d h r l a after
   takes_all : after ≡ taken_desk d h r l → Took d h r l a after
 
 -- the bytes were taken, where nothing was refused
-pub took_all : (d : protocol.Desk) (h : ℕ) (r : Taking) (l : Letter) (a : Outcome) (after : protocol.Desk) →
+pub took_all : (d : sight.Desk) (h : ℕ) (r : Taking) (l : Letter) (a : Outcome) (after : sight.Desk) →
     Took d h r l a after → is_refusal action.RamTransmit a ≡ false → after ≡ taken_desk d h r l
 took_all d h r l a after (refuses s q v) granted =
     let z : is_refusal action.RamTransmit (outcome.Refused s) ≡ false = subst (λ (u : Outcome).
@@ -64,8 +64,8 @@ took_all d h r l a after (stops s q v) granted =
     is_refusal action.RamTransmit u ≡ false) q granted in absurd (cc)
 took_all d h r l a after (takes_all v) granted = v
 
-took_good : {o : Offers} {e : Edits} {d : protocol.Desk} (h : ℕ) (r : Taking) (l : Letter) (a : Outcome)
-    (after : protocol.Desk) → Good o e d → Read o d h l → l.kind ≡ action.RamTransmit →
+took_good : {o : Offers} {e : Edits} {d : sight.Desk} (h : ℕ) (r : Taking) (l : Letter) (a : Outcome)
+    (after : sight.Desk) → Good o e d → Read o d h l → l.kind ≡ action.RamTransmit →
     Has (incoming.Fetching r) (d.taking h) → Matched d h r l → Took d h r l a after → Good o e after
 took_good h r l a after g rd kind is m (refuses s q v) = seen_good v (given_up_good h r g (inl is) (here_quiet h r l g
     rd kind is m))
@@ -89,38 +89,40 @@ module _ (d : Desk) (t : Task) (m : Parcel) (is : task_of t.handle d.tasks ≡ S
   buffer_size = field_is (λ y. y.buffer) 1 h d.tasks t is
 
   first_is : (o : Option (Split Segment)) →
-      first_bytes n o ≡ take n (protocol.bytes_of (option_map (λ (b : Split Segment). bytes_of b.here) o))
+      first_bytes n o ≡ take n (sight.bytes_of (option_map (λ (b : Split Segment). bytes_of b.here) o))
   first_is None = sym (take_all n [] (omega arith))
   first_is (Some b) = refl
 
   -- the document is longer
-  longer_seen : (r : Taking) (after : Desk) → IsLonger d t r.anchor (first_bytes n (heap_block_at r.buffer t.slot)) after →
-      view after ≡ protocol.longer (view d) h r n
+  longer_seen : (r : Taking) (after : Desk) → IsLonger d t r.anchor (first_bytes n (heap_block_at r.buffer t.slot))
+      after →
+      view after ≡ sight.longer (view d) h r n
   longer_seen r after w =
-      let bytes : first_bytes n (heap_block_at r.buffer t.slot) ≡ take n (protocol.bytes_of ((view d).heap h
+      let bytes : first_bytes n (heap_block_at r.buffer t.slot) ≡ take n (sight.bytes_of ((view d).heap h
       r.buffer)) =
-      first_is (heap_block_at r.buffer t.slot) ∙ ap (λ (o : Option (List ℕ)). take n (protocol.bytes_of o))
-      (buffer_is r.buffer t.slot) ∙ ap (λ (g : ℕ → Option (List ℕ)). take n (protocol.bytes_of (g r.buffer)))
+      first_is (heap_block_at r.buffer t.slot) ∙ ap (λ (o : Option (List ℕ)). take n (sight.bytes_of o))
+      (buffer_is r.buffer t.slot) ∙ ap (λ (g : ℕ → Option (List ℕ)). take n (sight.bytes_of (g r.buffer)))
       (sym (field_is (λ y. buffers_of y.slot) (λ a. None) h d.tasks t is)) in
-      let document : w.document ≡ protocol.bytes_of ((view d).block h r.anchor) = ap protocol.bytes_of (sym w.there) ∙
-      ap (λ (g : ℕ → Option (List ℕ)). protocol.bytes_of (g r.anchor)) (sym (field_is (λ y. blocks_of y.slot) (λ a.
+      let document : w.document ≡ sight.bytes_of ((view d).block h r.anchor) = ap sight.bytes_of (sym w.there) ∙
+      ap (λ (g : ℕ → Option (List ℕ)). sight.bytes_of (g r.anchor)) (sym (field_is (λ y. blocks_of y.slot) (λ a.
       None) h d.tasks t is)) in
-      w.seen ∙ ap (λ (z : List ℕ). protocol.with_block (view d) h r.anchor (Some (w.document ++ z))) bytes ∙
-      ap (λ (z : List ℕ). protocol.with_block (view d) h r.anchor
-      (Some (z ++ take n (protocol.bytes_of ((view d).heap h r.buffer))))) document
+      w.seen ∙ ap (λ (z : List ℕ). sight.with_block (view d) h r.anchor (Some (w.document ++ z))) bytes ∙
+      ap (λ (z : List ℕ). sight.with_block (view d) h r.anchor
+      (Some (z ++ take n (sight.bytes_of ((view d).heap h r.buffer))))) document
 
   -- what a record does
   abbrev Does : Taking → Handled → Type 0
   Does r y = Took (view d) h r l y.1 (view y.0)
 
-  took_does : (r : Taking) (after : Desk) → IsLonger d t r.anchor (first_bytes n (heap_block_at r.buffer t.slot)) after →
+  took_does : (r : Taking) (after : Desk) → IsLonger d t r.anchor (first_bytes n (heap_block_at r.buffer t.slot))
+      after →
       Does r (took after t m r n)
   unfolding took fetch_more
   took_does r after w =
       let v = longer_seen r after w in
-      let D : protocol.Desk = protocol.longer (view d) h r n in
+      let D : sight.Desk = sight.longer (view d) h r n in
       either (Does r) (nat_lt n t.buffer) _ _
-      (λ less. takes_all (ended_view after h r (receiver.finished r n) w.live ∙ ap (λ (y : protocol.Desk). record y {
+      (λ less. takes_all (ended_view after h r (receiver.finished r n) w.live ∙ ap (λ (y : sight.Desk). record y {
         heap = put y.heap h (put (y.heap h) r.buffer None);
         taking = put y.taking h (receiver.finished r n (y.taking h));
       }) v ∙ choose true (ap (nat_lt n) buffer_size ∙ less)))
@@ -128,31 +130,31 @@ module _ (d : Desk) (t : Task) (m : Parcel) (is : task_of t.handle d.tasks ≡ S
       (λ x q. with_step (send_letter (fetch_letter h r.sender m.message.my_ref r.buffer t.buffer) after) _ x q
       (λ sent e1 q1.
       let letter : ℕ → _ = λ size. fetch_letter h r.sender m.message.my_ref r.buffer size in
-      let v2 : view sent ≡ protocol.sent (view after) h (seen_letter (letter t.buffer) after.post.next_ref) =
+      let v2 : view sent ≡ sight.sent (view after) h (seen_letter (letter t.buffer) after.post.next_ref) =
       sent_view after sent (letter t.buffer) e1 w.live in
       let edit = receiver.fetched r n (next_ref after) in
       subst (Does r) (ok_is _ x q1)
-      (takes_all (ins_view sent h edit (ap (λ (y : protocol.Desk). y.live h) v2 ∙ w.live) ∙
-      ap (λ (y : protocol.Desk). record y { taking = put y.taking h (edit (y.taking h)) }) v2 ∙
-      ap (λ (z : protocol.Desk). let y = protocol.sent z h (seen_letter (letter t.buffer) after.post.next_ref) in
+      (takes_all (ins_view sent h edit (ap (λ (y : sight.Desk). y.live h) v2 ∙ w.live) ∙
+      ap (λ (y : sight.Desk). record y { taking = put y.taking h (edit (y.taking h)) }) v2 ∙
+      ap (λ (z : sight.Desk). let y = sight.sent z h (seen_letter (letter t.buffer) after.post.next_ref) in
       record y { taking = put y.taking h (edit (y.taking h)) }) v ∙
-      ap (λ (k : ℕ). let y = protocol.sent D h (seen_letter (letter t.buffer) k) in record y {
+      ap (λ (k : ℕ). let y = sight.sent D h (seen_letter (letter t.buffer) k) in record y {
         taking = put y.taking h (receiver.fetched r n k (y.taking h));
       }) (ap (λ p. p.next_ref) w.post) ∙
-      ap (λ (k : ℕ). let y = protocol.sent D h (seen_letter (letter k) D.next_ref) in record y {
+      ap (λ (k : ℕ). let y = sight.sent D h (seen_letter (letter k) D.next_ref) in record y {
         taking = put y.taking h (receiver.fetched r n D.next_ref (y.taking h));
       }) (sym buffer_size) ∙ choose false (ap (nat_lt n) buffer_size ∙ full)))))
       (λ refusal q. stops refusal refl (ended_view after h r (receiver.failed r (r.count + n)) w.live ∙
-      ap (λ (y : protocol.Desk). record y {
+      ap (λ (y : sight.Desk). record y {
         heap = put y.heap h (put (y.heap h) r.buffer None);
         taking = put y.taking h (receiver.failed r (r.count + n) (y.taking h));
       }) v)))
     where
       choose : (c : Bool) → nat_lt n ((view d).buf h) ≡ c →
-          (if c then protocol.ended (protocol.longer (view d) h r n) h r (In_done r.id r.anchor (r.count + n))
-          else protocol.fetched (protocol.longer (view d) h r n) h r n l.me) ≡ taken_desk (view d) h r l
-      choose c q = ap (λ (x : Bool). if x then protocol.ended (protocol.longer (view d) h r n) h r (In_done r.id r.anchor
-          (r.count + n)) else protocol.fetched (protocol.longer (view d) h r n) h r n l.me) (sym q)
+          (if c then sight.ended (sight.longer (view d) h r n) h r (In_done r.id r.anchor (r.count + n))
+          else sight.fetched (sight.longer (view d) h r n) h r n l.me) ≡ taken_desk (view d) h r l
+      choose c q = ap (λ (x : Bool). if x then sight.ended (sight.longer (view d) h r n) h r (In_done r.id r.anchor
+          (r.count + n)) else sight.fetched (sight.longer (view d) h r n) h r n l.me) (sym q)
 
   pub transmit_does : (r : Taking) → Does r (take_bytes d t m n (Some (incoming.Fetching r)))
   unfolding take_bytes

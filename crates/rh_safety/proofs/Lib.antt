@@ -1,8 +1,7 @@
 pub mod FlexMap
 pub mod HeapMap
 pub mod Ends
-pub mod Protocol
-pub mod Schedules
+pub mod Sight
 pub mod View
 pub mod Basics
 pub mod Invariant
@@ -30,7 +29,7 @@ pub mod KeptTransmits
 pub mod KeptFiles
 pub mod KeptBacks
 pub mod KeptPolls
-pub mod KeptTurns
+pub mod PollTurns
 pub mod SeenBlocks
 pub mod SeenHeaps
 pub mod SeenSends
@@ -38,14 +37,14 @@ pub mod SeenSaves
 pub mod SeenStarts
 pub mod SeenPosts
 pub mod SeenTaking
-pub mod SeenHandled
+pub mod SeenDocuments
 pub mod SeenWrites
 pub mod SeenDesks
 pub mod Lines
 pub mod SeenLaws
 pub mod SeenKeys
 pub mod SeenNames
-pub mod SeenTurns
+pub mod Alternations
 pub mod SeenRanges
 pub mod SeenBuffers
 pub mod RecordLaws

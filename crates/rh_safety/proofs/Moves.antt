@@ -5,7 +5,7 @@ use Rattle.std.proofs.lemmas.Bool.Decides.{eqb_tells}
 use Rattle.rh_safety.proofs.Ends.{Letter, Sending, Taking, Asked, Out, Open, Out_done, Out_failed, In, Fetching}
 use Rattle.rh_safety.proofs.Ends.{Draining, Asking, In_done, In_failed, is_growing, out_id, in_id, in_anchor, Has}
 use Rattle.rh_safety.proofs.Ends.{Active, put, with_id, one_more}
-use Rattle.rh_safety.proofs.Protocol.{Scrap}
+use Rattle.rh_safety.proofs.Sight.{Scrap}
 use Rattle.rh_safety.proofs.Basics.{none_some, with_old, more_old}
 use Rattle.rh_safety.proofs.Invariant.{LetterAck, LetterFile, Loads, Offered, Below, Offers, LetterOut, LetterIn}
 use Rattle.rh_safety.proofs.Invariant.{LetterCarries, LetterOlder, LetterAhead, Source, Counted, Begins, Untouched}

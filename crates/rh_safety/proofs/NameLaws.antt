@@ -24,7 +24,7 @@ use Rattle.rh_safety.proofs.Basics.{first_is, is_equal}
 use Rattle.rh_safety.proofs.SeenFrames.{bind, test, done, instead_of}
 use Rattle.rh_safety.proofs.SeenBlocks.{not_refused}
 use Rattle.rh_safety.proofs.SeenKeys.{keys_of, SameKeys, slot_keys, outs_keys, ins_keys, sent_keys}
-use Rattle.rh_safety.proofs.SeenTurns.{taken_keys, delivered_keys}
+use Rattle.rh_safety.proofs.Alternations.{taken_keys, delivered_keys}
 use Rattle.rh_safety.proofs.KeptFrames.{area_case}
 
 -- ---- keys of different names

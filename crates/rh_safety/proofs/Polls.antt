@@ -1,4 +1,4 @@
--- A poll keeps the invariant.
+-- What is known of a message that a poll takes, and of the fetch among them.
 use Rattle.std.proofs.Common.{nat_le, ◌≡◌, ◌≢◌, ℕ, suc, ◌+◌, ◌≤◌, ◌<◌, Bool, true, false, List, ◌++◌, length, take}
 use Rattle.std.proofs.Common.{drop, Option, Some, None, refl, sym, ap, ◌∙◌, subst, ◌⊎◌, inl, inr, arith, length-drop}
 use Rattle.std.specs.Prelude.{if◌then◌else◌, nat_eq, nat_lt}
@@ -8,11 +8,11 @@ use Rattle.rh_safety.proofs.Ends.{Code, Plain, Recorded, Returned, DataSave, Ram
 use Rattle.rh_safety.proofs.Ends.{Letter, Message, Sending, Taking, Out, Open, Out_done}
 use Rattle.rh_safety.proofs.Ends.{out_id, Has, Active, put, with_id, find_open, first_for}
 use Rattle.rh_safety.proofs.Ends.{without_first}
-use Rattle.rh_safety.proofs.Protocol.{sent, Desk, returned, picked, failed}
-use Rattle.rh_safety.proofs.Protocol.{portion, would_answer, lost_if}
+use Rattle.rh_safety.proofs.Sight.{sent, Desk, returned, picked, failed}
+use Rattle.rh_safety.proofs.Sight.{portion, would_answer, lost_if}
 use Rattle.rh_safety.proofs.Basics.{put_all, put_same, put_other, and_left, and_right, is_equal, first_has}
 use Rattle.rh_safety.proofs.Basics.{length_take, front_written, length_written, Ascend, with_ascends, open_is}
-use Rattle.rh_safety.proofs.Invariant.{Offered, queued, Knows, Unread, Inv, PendingAt, Good}
+use Rattle.rh_safety.proofs.Invariant.{Offered, queued, Knows, Unread, Inv, PendingAt, Good, known_by}
 use Rattle.rh_safety.proofs.Moves.{Move, move_with}
 use Rattle.rh_safety.proofs.Sends.{few_here, few_with, one_active, Quiet, OutPart, NewOut, out_inv, out_pending}
 use Rattle.rh_safety.proofs.Endings.{lost_good, put2_same, write_inv}
@@ -161,14 +161,7 @@ module _ {o : Offered} {e : ℕ → ℕ → Bool} {d : Desk} (h : ℕ) (l : Lett
         record {
           inv = out_inv (put d.sending h (with_id out_id x.id v (d.sending h))) h v m sent_out step1;
           pending = out_pending (put d.sending h (with_id out_id x.id v (d.sending h))) h v m sent_out step1
-              (λ s y q ne b k. g.others s y q (λ here eq. ne here (eq ∙ sym same_id)) b (record {
-                known = k.known;
-                kind = k.kind;
-                answers = k.answers;
-                from = k.from;
-                live = k.live;
-                fetches = k.fetches;
-              }));
+              (λ s y q ne b k. g.others s y q (λ here eq. ne here (eq ∙ sym same_id)) b k);
           born = λ j le. g.born j (omega arith);
         }
 
@@ -277,7 +270,8 @@ module _ {o : Offered} {e : ℕ → ℕ → Bool} {d : Desk} (h : ℕ) (l : Lett
   }
 
   -- a fetch that a record answers
-  pub called : l.kind ≡ RamFetch → d.file h ≡ false → (x : Sending) → find_open (would_answer l) (d.sending h) ≡ Some x →
+  pub called : l.kind ≡ RamFetch → d.file h ≡ false → (x : Sending) →
+      find_open (would_answer l) (d.sending h) ≡ Some x →
       Called o e d h x l
   called k file x q =
       let w = open_is (would_answer l) (d.sending h) x q in
@@ -380,14 +374,7 @@ module _ {o : Offered} {e : ℕ → ℕ → Bool} {d : Desk} (h : ℕ) (m : Mess
           born = g.born;
         },
         λ t act eq s x q l k from same.
-            let w = g.pending s x q l (record {
-              known = picked_known d h m d.held here one l k.known;
-              kind = k.kind;
-              answers = k.answers;
-              from = k.from;
-              live = k.live;
-              fetches = k.fetches;
-            }) in
+            let w = g.pending s x q l (known_by k (picked_known d h m d.held here one l k.known)) in
             let z : w.taking ≡ t = one_active (d.taking h) w.taking t (g.inv.order.ins h) (subst (λ j.
             Active (d.taking j) w.taking) from w.is_active) act (w.same_id ∙ same) in
             let wait = w.unread m here (eq ∙ ap (λ (y : Taking). y.fetch) (sym z)) in

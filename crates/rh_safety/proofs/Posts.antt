@@ -6,10 +6,11 @@ use Rattle.std.proofs.lemmas.Bool.Decides.{eqb_tells}
 use Rattle.rh_safety.proofs.Ends.{Code, Plain, Recorded, Returned, Letter, Message, Sending, Taking, Out, Open, In}
 use Rattle.rh_safety.proofs.Ends.{Fetching, Draining, out_id, in_id, in_anchor, Has, Active, put, without_first}
 use Rattle.rh_safety.proofs.Ends.{first_for}
-use Rattle.rh_safety.proofs.Protocol.{Desk, sent, again, back, returned, for_others, back_if_recorded, bounced_for}
-use Rattle.rh_safety.proofs.Protocol.{back_held, killed, started}
+use Rattle.rh_safety.proofs.Sight.{Desk, sent, again, back, returned, for_others, back_if_recorded, bounced_for}
+use Rattle.rh_safety.proofs.Sight.{back_held, killed, started}
 use Rattle.rh_safety.proofs.Basics.{put_all, put_same, put_other, Has-append, none_some, without_has, pair_append}
 use Rattle.rh_safety.proofs.Invariant.{Offered, Known, queued, kept, latest, Knows, Offers, Unread, Rises, Order, Inv}
+use Rattle.rh_safety.proofs.Invariant.{known_by}
 use Rattle.rh_safety.proofs.Invariant.{IsWaiting, Waits, PendingAt, Good, LetterCarries, HasBuffer}
 use Rattle.rh_safety.proofs.Moves.{loads_other, loads_fewer, loads_less, letters_more, outs_more, ins_more}
 use Rattle.rh_safety.proofs.Moves.{boths_more, letters_fewer, outs_fewer, ins_fewer, boths_fewer, letters_bump}
@@ -76,14 +77,7 @@ copy_pending {o} {e} {d} h m own km i p s x q l k =
     i.ins.buffer j u act in let b = w.below in omega arith in z in
     elim (sent_knows d h n own l k.known) [
       | inl a ↦ waits_sent d h n s l x (d.taking l.from) (d.buf l.from) (other l.from)
-          (p s x q l (record {
-            known = a;
-            kind = k.kind;
-            answers = k.answers;
-            from = k.from;
-            live = k.live;
-            fetches = k.fetches;
-          }))
+          (p s x q l (known_by k a))
       | inr a ↦ subst (λ z. Waits (sent d h n).queue (sent d h n).held s z x (d.taking z.from) (d.buf z.from)) (sym a)
           (let from : l.from ≡ m.letter.from = ap (λ (z : Letter). z.from) a in
           let w = waits_sent d h n s m.letter x (d.taking m.letter.from) (d.buf m.letter.from) (other m.letter.from)
@@ -241,14 +235,7 @@ waits_fewer p hd w f g = record {
 pub returned_pending : (d : Desk) (h : ℕ) (m : Option Message) → d.held h ≡ m → Pending d → Pending (returned d h m)
 returned_pending d h None is p s x q l k = p s x q l k
 returned_pending d h (Some m) is p s x q l k =
-    let w = p s x q l (record {
-      known = returned_known d h m is l k.known;
-      kind = k.kind;
-      answers = k.answers;
-      from = k.from;
-      live = k.live;
-      fetches = k.fetches;
-    }) in
+    let w = p s x q l (known_by k (returned_known d h m is l k.known)) in
     waits_fewer (d.queue ++ back d.live m) (put d.held h None) w
     (λ y has r. elim (Has-append y d.queue (back d.live m) has) [
       | inl a ↦ w.unread y a r
@@ -298,14 +285,7 @@ pub picked_pending : {o : Offered} {e : ℕ → ℕ → Bool} {d : Desk} (h : �
     Has m d.queue → OneMore d.held hd m → Inv o e d → (s : ℕ) (x : Sending) → NotFor d m s x → PendingAt d s x →
     PendingAt (record d { queue = without_first h d.queue; held = hd }) s x
 picked_pending {o} {e} {d} h m hd here one i s x not_for p l k =
-    let w = p l (record {
-      known = picked_known d h m hd here one l k.known;
-      kind = k.kind;
-      answers = k.answers;
-      from = k.from;
-      live = k.live;
-      fetches = k.fetches;
-    }) in
+    let w = p l (known_by k (picked_known d h m hd here one l k.known)) in
     waits_fewer (without_first h d.queue) hd w
     (λ y has r. w.unread y (without_has h d.queue y has) r)
     (λ b y r eq. elim (one b y r) [

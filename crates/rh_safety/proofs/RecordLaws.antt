@@ -18,7 +18,7 @@ use Rattle.rh_safety.specs.TaskRecords.{HoldsOne, HasBlock, HasBuffer, Measures,
 use Rattle.rh_safety.proofs.Ends.{Active, Has}
 use Rattle.rh_safety.proofs.Basics.{Ascend, has_of, is_equal, length_take}
 use Rattle.rh_safety.proofs.Invariant.{Good, Offered}
-use Rattle.rh_safety.proofs.SeenHandled.{buffer_is}
+use Rattle.rh_safety.proofs.SeenDocuments.{buffer_is}
 use Rattle.rh_safety.proofs.SeenLaws.{block_is}
 use Rattle.rh_safety.proofs.SeenTasks.{field_is}
 use Rattle.rh_safety.proofs.View.{view, blocks_of, buffers_of}

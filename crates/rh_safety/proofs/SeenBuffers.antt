@@ -17,7 +17,7 @@ use Rattle.rh_safety.proofs.Basics.{has_of, contains_of}
 use Rattle.rh_safety.proofs.Invariant.{Offered, Good}
 use Rattle.rh_safety.proofs.Runs.{holds_buffer}
 use Rattle.rh_safety.proofs.SeenTasks.{field_is}
-use Rattle.rh_safety.proofs.SeenHandled.{buffer_is}
+use Rattle.rh_safety.proofs.SeenDocuments.{buffer_is}
 
 pub has_map : {A B : Type 0} (f : A → B) (x : A) (xs : List A) → Has x xs → Has (f x) (map f xs)
 has_map f x [] q = absurd q

@@ -20,7 +20,8 @@ use Rattle.rh_defs.specs.Places.{first_bytes, free_anchor}
 use Rattle.rh_defs.specs.Desk.{Desk, Task, Scrap, free_pages, task_at, with_slot, send_letter}
 use Rattle.rh_defs.specs.OutgoingEvents.{Handled, ignored, portion, transmit, answer_fetch, fail_sending}
 use Rattle.rh_defs.specs.OutgoingEvents.{scrap_shortage, wider, save_scrap, answer_ack, finish_load}
-use Rattle.rh_defs.specs.IncomingEvents.{is_deaf, accept, take_save, appended, fetch_more, took, is_uncountable, take_bytes, ask}
+use Rattle.rh_defs.specs.IncomingEvents.{is_deaf, accept, take_save, appended, fetch_more, took, is_uncountable}
+use Rattle.rh_defs.specs.IncomingEvents.{take_bytes, ask}
 use Rattle.rh_defs.specs.IncomingEvents.{fetch_back, ack_back, loaded, load_file, take_file}
 use Rattle.rh_defs.specs.Transfer as transfer
 use Rattle.rh_defs.specs.Transfer.{answers_none}

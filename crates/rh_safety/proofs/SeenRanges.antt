@@ -38,7 +38,8 @@ use Rattle.rh_defs.specs.Places.{first_bytes, free_anchor, overlap}
 use Rattle.rh_defs.specs.Desk.{Desk, Task, Scrap, free_pages, named, task_at, with_slot, with_delivered, send_letter}
 use Rattle.rh_defs.specs.OutgoingEvents.{Handled, ignored, portion, is_out_of_reach, transmit, answer_fetch}
 use Rattle.rh_defs.specs.OutgoingEvents.{fail_sending, scrap_shortage, wider, save_scrap, answer_ack, finish_load}
-use Rattle.rh_defs.specs.IncomingEvents.{is_deaf, accept, take_save, appended, fetch_more, took, is_uncountable, take_bytes, ask}
+use Rattle.rh_defs.specs.IncomingEvents.{is_deaf, accept, take_save, appended, fetch_more, took, is_uncountable}
+use Rattle.rh_defs.specs.IncomingEvents.{take_bytes, ask}
 use Rattle.rh_defs.specs.IncomingEvents.{fetch_back, ack_back, loaded, load_file, take_file}
 use Rattle.rh_defs.specs.Transfer as transfer
 use Rattle.rh_defs.specs.Transfer.{answers_none}
@@ -57,7 +58,7 @@ use Rattle.rh_safety.proofs.SeenFrames.{Fits, bind, done, is_found, instead_of, 
 use Rattle.rh_safety.proofs.SeenBlocks.{from_test, ok_is, extend_is, changed_map}
 use Rattle.rh_safety.proofs.SeenHeaps.{length_fitted}
 use Rattle.rh_safety.proofs.SeenSends.{by_grant, with_step}
-use Rattle.rh_safety.proofs.SeenHandled.{letter_of, block_there}
+use Rattle.rh_safety.proofs.SeenDocuments.{letter_of, block_there}
 use Rattle.rh_safety.proofs.SeenTaking.{poll_taken_is}
 use Rattle.rh_safety.proofs.SeenWrites.{buffer_found}
 use Rattle.rh_safety.proofs.KeptFetch.{Reaches, reaches}

@@ -1,13 +1,12 @@
 -- A letter sent, as what is seen of the desk.
-use Rattle.std.proofs.Common.{◌≡◌, ℕ, ◌+◌, Bool, true, false, not, List, [], ◌∷◌, ◌++◌, Option, Some, None, refl, sym}
+use Rattle.std.proofs.Common.{◌≡◌, ℕ, ◌+◌, Bool, true, false, List, [], ◌∷◌, ◌++◌, Option, Some, None, refl, sym}
 use Rattle.std.proofs.Common.{ap, ◌∙◌, subst, inl, inr, arith}
 use Rattle.std.specs.Prelude.{if◌then◌else◌, nat_eq, map, Ok, Err}
 use Rattle.std.specs.Option.{option_map}
 use Rattle.std.proofs.lemmas.Bool.Decides.{eqb_tells}
 use Rattle.rh_defs.specs.declared.refusal.Refusal.{Refusal}
-use Rattle.rh_defs.specs.declared.refusal.Refusal.TheVariants.{NoTask}
 use Rattle.rh_defs.specs.declared.message.Letter.{Letter}
-use Rattle.rh_defs.specs.Chain.{Granted, ◌>>=◌, ◌>>◌, or_else, refuse_if}
+use Rattle.rh_defs.specs.Chain.{Granted, ◌>>=◌, or_else}
 use Rattle.rh_defs.specs.Module.{module_claim}
 use Rattle.rh_defs.specs.Messages.{Parcel, parcel_size}
 use Rattle.rh_defs.specs.Post.{Seat, Post, has_seat, held_by, with_held, answers_held, message_of, parcel_of}
@@ -18,9 +17,9 @@ use Rattle.rh_defs.specs.IncomingEvents.{is_deaf}
 use Rattle.rh_defs.specs.Transfer.{answers_none}
 use Rattle.rh_safety.proofs.View.{view, seen_parcel, seen_letter, seen_last, blocks_of, buffers_of}
 use Rattle.rh_safety.proofs.Ends.{Message, put}
-use Rattle.rh_safety.proofs.Protocol as protocol
+use Rattle.rh_safety.proofs.Sight as sight
 use Rattle.rh_safety.proofs.SeenTasks.{Same, same_desk, change_other, change_here, unput, task_or, task_is, slot_at}
-use Rattle.rh_safety.proofs.SeenBlocks.{from_bind, from_test, ok_is, not_refused}
+use Rattle.rh_safety.proofs.SeenBlocks.{from_bind, from_test, ok_is}
 
 pub map_append : {A B : Type 0} (f : A → B) (xs ys : List A) → map f (xs ++ ys) ≡ map f xs ++ map f ys
 map_append f [] ys = refl
@@ -94,7 +93,7 @@ held_seen seats k = option_map seen_parcel (held_by k seats)
 
 pub record IsSent (l : Letter) (q p : Post) : Type 0 where
   pub queued : map seen_parcel p.queued ≡ map seen_parcel q.queued ++ seen_letter l q.next_ref ∷ []
-  pub held : Same (held_seen p.seats) (put (held_seen q.seats) l.from (protocol.still_held (held_seen q.seats l.from)
+  pub held : Same (held_seen p.seats) (put (held_seen q.seats) l.from (sight.still_held (held_seen q.seats l.from)
       l.your_ref))
   pub next : p.next_ref ≡ q.next_ref + 1
 
@@ -102,7 +101,7 @@ posted_is : (l : Letter) (there : _) (q : Post) (o : Option Parcel) → held_by 
     IsSent l q (if answers_held l.your_ref o then put_down l.from (queued_in l there q) else queued_in l there q)
 posted_is l there q None e = record {
   queued = map_append seen_parcel q.queued (parcel_of l q.next_ref there.1 ∷ []);
-  held = λ k. unput (held_seen q.seats) l.from (protocol.still_held (held_seen q.seats l.from) l.your_ref) (rw e refl)
+  held = λ k. unput (held_seen q.seats) l.from (sight.still_held (held_seen q.seats l.from) l.your_ref) (rw e refl)
       k;
   next = refl;
 }
@@ -123,7 +122,7 @@ posted_is l there q (Some p) e = elim (eqb_tells p.message.my_ref l.your_ref) as
       })
       | inr w ↦ rw w.0 (record {
         queued = map_append seen_parcel q.queued (parcel_of l q.next_ref there.1 ∷ []);
-        held = λ k. unput (held_seen q.seats) l.from (protocol.still_held (held_seen q.seats l.from) l.your_ref)
+        held = λ k. unput (held_seen q.seats) l.from (sight.still_held (held_seen q.seats l.from) l.your_ref)
             (rw (e, w.0) refl) k;
         next = refl;
       })
@@ -132,41 +131,22 @@ posted_is l there q (Some p) e = elim (eqb_tells p.message.my_ref l.your_ref) as
 pub record IsPosted (l : Letter) (q : Post) (p : Post × ℕ) : Type 0 where
   pub sent : IsSent l q p.0
   pub ref : p.1 ≡ q.next_ref
-  pub live : has_seat l.to q.seats ≡ true
-
--- a first step that was granted
-pub from_first : {A B : Type 0} (g : Granted A) (next : Granted B) (y : B) → (g >> next) ≡ Ok y → (x : A) × (g ≡ Ok x)
-unfolding ◌>>=◌ ◌>>◌
-from_first (Ok x) next y q = (x, refl)
-from_first (Err r) next y q = absurd (let z : Err r ≡ Ok y = q in (cc))
-
-pub not_false : (b : Bool) → not b ≡ false → b ≡ true
-not_false true q = refl
-not_false false q = absurd (let z : Bool.true ≡ false = q in (cc))
-
-pub to_live : (l : Letter) (q : Post) (u : Unit {0}) → sendable l q ≡ Ok u → has_seat l.to q.seats ≡ true
-unfolding sendable
-to_live l q u e = let w = from_first (refuse_if (not (has_seat l.to q.seats)) NoTask) _ u e in not_false _
-    (not_refused (not (has_seat l.to q.seats)) NoTask w.0 w.1)
 
 pub post_sent : (free : ℕ) (l : Letter) (q : Post) (p : Post × ℕ) → post_send free l q ≡ Ok p → IsPosted l q p
 unfolding post_send
 post_sent free l q p e =
-    let u = from_first (sendable l q) (module_claim free (parcel_size (message_of l 0)) q.heap >>=
-    (λ there. Ok (posted l there q, q.next_ref))) p e in
     let w = from_bind (module_claim free (parcel_size (message_of l 0)) q.heap) (λ there. Ok (
       posted l there q,
       q.next_ref,
     )) p (from_test (sendable l q) _ p e) in
     subst (IsPosted l q) (ok_is (posted l w.value q, q.next_ref) p w.rest)
-    (record { sent = posted_is l w.value q (held_by l.from q.seats) refl; ref = refl; live = to_live l q u.0 u.1 })
+    (record { sent = posted_is l w.value q (held_by l.from q.seats) refl; ref = refl })
 
 -- a letter sent from a desk
 pub record IsSentOn (l : Letter) (d e : Desk) : Type 0 where
   pub after : Post
   pub sent : IsSent l d.post after
   pub same : with_task l.from (λ t. record t { last_sent = Some (l, d.post.next_ref) }) (with_post after d) ≡ e
-  pub live : has_seat l.to d.post.seats ≡ true
 
 pub letter_sent : (l : Letter) (d e : Desk) → send_letter l d ≡ Ok e → IsSentOn l d e
 unfolding send_letter
@@ -178,11 +158,10 @@ letter_sent l d e q =
       sent = s.sent;
       same = ap (λ n. with_task l.from (λ t. record t { last_sent = Some (l, n) }) (with_post w.value.0 d))
           (sym s.ref) ∙ ok_is _ e w.rest;
-      live = s.live;
     }
 
 sent_seen : (d : Desk) (l : Letter) (p : Post) → (view d).live l.from ≡ true → IsSent l d.post p →
-    view (with_task l.from (λ y. record y { last_sent = Some (l, d.post.next_ref) }) (with_post p d)) ≡ protocol.sent
+    view (with_task l.from (λ y. record y { last_sent = Some (l, d.post.next_ref) }) (with_post p d)) ≡ sight.sent
     (view d) l.from (seen_letter l d.post.next_ref)
 unfolding with_task
 sent_seen d l p live w =
@@ -190,8 +169,8 @@ sent_seen d l p live w =
     let h = l.from in
     let t = task_or d h in
     let is = task_is d h live in
-    let d1 : protocol.Desk = protocol.sent (view d) l.from (seen_letter l d.post.next_ref) in
-    let d0 : protocol.Desk = record d1 {
+    let d1 : sight.Desk = sight.sent (view d) l.from (seen_letter l d.post.next_ref) in
+    let d0 : sight.Desk = record d1 {
       queue = map seen_parcel p.queued;
       held = held_seen p.seats;
       next_ref = p.next_ref;
@@ -211,10 +190,10 @@ sent_seen d l p live w =
 
 -- what is seen after a letter was sent
 pub sent_view : (d e : Desk) (l : Letter) → send_letter l d ≡ Ok e → (view d).live l.from ≡ true →
-    view e ≡ protocol.sent (view d) l.from (seen_letter l d.post.next_ref)
+    view e ≡ sight.sent (view d) l.from (seen_letter l d.post.next_ref)
 sent_view d e l q live =
     let w = letter_sent l d e q in
-    subst (λ (y : Desk). view y ≡ protocol.sent (view d) l.from (seen_letter l d.post.next_ref)) w.same (sent_seen d l
+    subst (λ (y : Desk). view y ≡ sight.sent (view d) l.from (seen_letter l d.post.next_ref)) w.same (sent_seen d l
     w.after live w.sent)
 
 -- slots stay
@@ -224,8 +203,3 @@ sent_slot d e l q h =
     let w = letter_sent l d e q in
     subst (λ (y : Desk). slot_at y h ≡ slot_at d h) w.same (change_other (λ y. y.slot) new_slot l.from (λ y.
     record y { last_sent = Some (l, d.post.next_ref) }) (λ y. refl) (λ y. refl) d.tasks h)
-
--- the recipient is live
-pub sent_live : (d e : Desk) (l : Letter) → has_seat l.to d.post.seats ≡ (view d).live l.to → send_letter l d ≡ Ok e →
-    (view d).live l.to ≡ true
-sent_live d e l f q = let w = letter_sent l d e q in sym f ∙ w.live

@@ -13,7 +13,7 @@ use Rattle.rh_defs.specs.Desk.{Desk, with_post, with_delivered}
 use Rattle.rh_safety.proofs.View.{view, seen_parcel, seen_scrap}
 use Rattle.rh_safety.proofs.Ends.{Message, put}
 use Rattle.rh_safety.proofs.Ends as post
-use Rattle.rh_safety.proofs.Protocol as protocol
+use Rattle.rh_safety.proofs.Sight as sight
 use Rattle.rh_safety.proofs.Basics.{none_some}
 use Rattle.rh_safety.proofs.SeenFrames.{Fits}
 use Rattle.rh_safety.proofs.SeenSends.{held_put, held_got, seats_held, held_seen}
@@ -22,13 +22,13 @@ use Rattle.rh_safety.proofs.SeenPosts.{bounced_leads, live_bounced, kept_is}
 -- ---- the bounce
 
 returned_post : (d : Desk) (h : ℕ) (o : Option Parcel) → Fits d → held_by h d.post.seats ≡ o →
-    view (with_post (bounce_held h o d.post) d) ≡ protocol.returned (view d) h (option_map seen_parcel o)
+    view (with_post (bounce_held h o d.post) d) ≡ sight.returned (view d) h (option_map seen_parcel o)
 returned_post d h None f e = refl
 returned_post d h (Some m) f e =
     let q : Post = record d.post { seats = with_held h None d.post.seats } in
     let w = bounced_leads m q in
     λ i. record (view d) {
-      queue = (w.queued ∙ ap (λ (g : ℕ → Bool). map seen_parcel d.post.queued ++ protocol.back g (seen_parcel m))
+      queue = (w.queued ∙ ap (λ (g : ℕ → Bool). map seen_parcel d.post.queued ++ sight.back g (seen_parcel m))
           (λ j k. (seats_held h None d.post.seats k ∙ f.seats k) j)) i;
       held = λ k. (ap (λ (z : List Seat). held_seen z k) w.seats ∙ ap (option_map seen_parcel)
           (held_put h d.post.seats k) ∙
@@ -83,14 +83,14 @@ none_first h (m ∷ q) e = elim (eqb_tells m.to h) [
 ]
 
 -- what is picked, if anything is
-abbrev pub picked_by : ℕ → Option Message → protocol.Desk → protocol.Desk
+abbrev pub picked_by : ℕ → Option Message → sight.Desk → sight.Desk
 picked_by h None d = d
-picked_by h (Some m) d = protocol.picked d h m m.code
+picked_by h (Some m) d = sight.picked d h m m.code
 
 picked_code : (d : Desk) (h : ℕ) (t : Parcel × List Parcel) (c : EventCode) → first_for h d.post.queued ≡ Some t →
     has_seat h d.post.seats ≡ true →
     view (with_post (if is_recorded c then record d.post { seats = with_held h (Some t.0) d.post.seats; queued = t.1 }
-    else without_block t.0 (record d.post { queued = t.1 })) d) ≡ protocol.picked (view d) h (seen_parcel t.0) c
+    else without_block t.0 (record d.post { queued = t.1 })) d) ≡ sight.picked (view d) h (seen_parcel t.0) c
 picked_code d h t User e live = ap (λ (z : List Message). record (view d) { queue = z }) (first_found h d.post.queued
     t e).rest
 picked_code d h t Acknowledge e live = ap (λ (z : List Message). record (view d) { queue = z }) (first_found h
@@ -104,29 +104,29 @@ picked_code d h t Recorded e live = λ i. record (view d) {
 
 -- ---- a poll's post
 
-abbrev pub with_scrap : Option protocol.Scrap → protocol.Desk → protocol.Desk
+abbrev pub with_scrap : Option sight.Scrap → sight.Desk → sight.Desk
 with_scrap v d = record d { scrap = v }
 
 -- the desk that was polled, and what was taken
 pub record IsTaken (d : Desk) (h : ℕ) (p : Post × Option Parcel) : Type 0 where
   pub lost : Bool
-  pub first : post.first_for h (protocol.lost_if lost (protocol.returned (view d) h ((view d).held h))).queue ≡
+  pub first : post.first_for h (sight.lost_if lost (sight.returned (view d) h ((view d).held h))).queue ≡
       option_map seen_parcel p.1
-  pub seen : view (with_delivered p.0 d) ≡ picked_by h (option_map seen_parcel p.1) (protocol.lost_if lost
-      (protocol.returned (view d) h ((view d).held h)))
+  pub seen : view (with_delivered p.0 d) ≡ picked_by h (option_map seen_parcel p.1) (sight.lost_if lost
+      (sight.returned (view d) h ((view d).held h)))
   pub seats : (k : ℕ) → has_seat k p.0.seats ≡ has_seat k d.post.seats
 
-pub lost_queue : (b : Bool) (d : protocol.Desk) → (protocol.lost_if b d).queue ≡ d.queue
+pub lost_queue : (b : Bool) (d : sight.Desk) → (sight.lost_if b d).queue ≡ d.queue
 lost_queue true d = refl
 lost_queue false d = refl
 
 -- the scrap file may go before the taking or after it
-lost_before : (h : ℕ) (v : Option Message) (d : protocol.Desk) →
-    with_scrap None (picked_by h v d) ≡ picked_by h v (protocol.lost d)
+lost_before : (h : ℕ) (v : Option Message) (d : sight.Desk) →
+    with_scrap None (picked_by h v d) ≡ picked_by h v (sight.lost d)
 lost_before h None d = refl
 lost_before h (Some m) d = go m.code
   where
-    go : (c : EventCode) → with_scrap None (protocol.picked d h m c) ≡ protocol.picked (protocol.lost d) h m c
+    go : (c : EventCode) → with_scrap None (sight.picked d h m c) ≡ sight.picked (sight.lost d) h m c
     go User = refl
     go Recorded = refl
     go Acknowledge = refl
@@ -135,7 +135,7 @@ module _ (d : Desk) (h : ℕ) (f : Fits d) (live : (view d).live h ≡ true) whe
   abbrev before : Post
   before = bounce_held h (held_by h d.post.seats) d.post
 
-  seen_before : view (with_post before d) ≡ protocol.returned (view d) h ((view d).held h)
+  seen_before : view (with_post before d) ≡ sight.returned (view d) h ((view d).held h)
   seen_before = returned_post d h (held_by h d.post.seats) f refl
 
   live_before : has_seat h before.seats ≡ true
@@ -172,8 +172,8 @@ module _ (d : Desk) (h : ℕ) (f : Fits d) (live : (view d).live h ≡ true) whe
   poll_taken_is =
       let p = taken h before in
       let w : IsPicked p = picked_some (first_for h before.queued) refl in
-      let r = protocol.returned (view d) h ((view d).held h) in
-      let first : post.first_for h r.queue ≡ option_map seen_parcel p.1 = ap (λ (y : protocol.Desk). post.first_for h
+      let r = sight.returned (view d) h ((view d).held h) in
+      let first : post.first_for h r.queue ≡ option_map seen_parcel p.1 = ap (λ (y : sight.Desk). post.first_for h
       y.queue) (sym seen_before) ∙ w.first in
       let seen : view (with_post p.0 d) ≡ picked_by h (option_map seen_parcel p.1) r = w.seen ∙
       ap (picked_by h (option_map seen_parcel p.1)) seen_before in

@@ -14,7 +14,7 @@ use Rattle.rh_defs.specs.IncomingEvents.{is_deaf}
 use Rattle.rh_defs.specs.Transfer.{answers_none}
 use Rattle.rh_safety.proofs.View.{view, seen_last, blocks_of, buffers_of, of, task_of, field}
 use Rattle.rh_safety.proofs.Ends.{put, Out, In, Message}
-use Rattle.rh_safety.proofs.Protocol as protocol
+use Rattle.rh_safety.proofs.Sight as sight
 use Rattle.rh_safety.proofs.Basics.{put_all, none_some}
 
 -- two maps with the same values
@@ -64,11 +64,11 @@ pub unput : {A : Type 0} (f : ℕ → A) (h : ℕ) (v : A) → f h ≡ v → (k 
 unput f h v q k = put_all (λ j z. f j ≡ z) f h v q (λ j ne. refl) k
 
 -- desks that have the same values
-pub same_desk : (d : protocol.Desk) (lv : ℕ → Bool) (bf : ℕ → ℕ) (df fl : ℕ → Bool) (bl hp : ℕ → ℕ → Option (List ℕ))
+pub same_desk : (d : sight.Desk) (lv : ℕ → Bool) (bf : ℕ → ℕ) (df fl : ℕ → Bool) (bl hp : ℕ → ℕ → Option (List ℕ))
     (sd : ℕ → List Out) (tk : ℕ → List In) (la : ℕ → Option Message) →
     Same lv d.live → Same bf d.buf → Same df d.deaf → Same fl d.file → Same bl d.block → Same hp d.heap →
     Same sd d.sending → Same tk d.taking → Same la d.last →
-    ◌≡◌ {A = protocol.Desk} (record d {
+    ◌≡◌ {A = sight.Desk} (record d {
       live = lv;
       buf = bf;
       deaf = df;
@@ -238,7 +238,7 @@ ins_view d h g live =
 pub block_view : (d : Desk) (h k : ℕ) (g : Slot → Slot) (v : Option (List ℕ)) (s : Slot) → (view d).live h ≡ true →
     slot_at d h ≡ s →
     Same (blocks_of (g s)) (put (blocks_of s) k v) → Same (buffers_of (g s)) (buffers_of s) →
-    view (with_task h (λ y. record y { slot = g y.slot }) d) ≡ protocol.with_block (view d) h k v
+    view (with_task h (λ y. record y { slot = g y.slot }) d) ≡ sight.with_block (view d) h k v
 block_view d h k g v s live at_ eb eh =
     slot_view d h g s live at_ ∙
     (λ i. record (view d) {
@@ -252,7 +252,7 @@ block_view d h k g v s live at_ eb eh =
 pub buffer_view : (d : Desk) (h k : ℕ) (g : Slot → Slot) (v : Option (List ℕ)) (s : Slot) → (view d).live h ≡ true →
     slot_at d h ≡ s →
     Same (blocks_of (g s)) (blocks_of s) → Same (buffers_of (g s)) (put (buffers_of s) k v) →
-    view (with_task h (λ y. record y { slot = g y.slot }) d) ≡ protocol.with_heap (view d) h k v
+    view (with_task h (λ y. record y { slot = g y.slot }) d) ≡ sight.with_heap (view d) h k v
 buffer_view d h k g v s live at_ eb eh =
     slot_view d h g s live at_ ∙
     (λ i. record (view d) {

@@ -16,7 +16,7 @@ use Rattle.rh_safety.proofs.Basics.{none_some}
 use Rattle.rh_safety.proofs.HeapMaps as heaps
 use Rattle.rh_safety.proofs.SeenTasks.{Same}
 use Rattle.rh_safety.proofs.SeenHeaps.{cut_is, used_is, shifted}
-use Rattle.rh_safety.proofs.SeenHandled.{buffer_is}
+use Rattle.rh_safety.proofs.SeenDocuments.{buffer_is}
 
 -- ---- bytes written into a buffer
 

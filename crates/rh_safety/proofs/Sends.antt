@@ -6,10 +6,11 @@ use Rattle.rh_safety.proofs.Ends.{Recorded, DataSave, RamFetch, RamTransmit, Let
 use Rattle.rh_safety.proofs.Ends.{Sending, Taking, Out, Open, Out_done, Out_failed, In, Fetching, Draining}
 use Rattle.rh_safety.proofs.Ends.{Asking, In_done, In_failed, is_growing, out_id, in_id, in_anchor, Has}
 use Rattle.rh_safety.proofs.Ends.{Active, put, with_id}
-use Rattle.rh_safety.proofs.Protocol.{owned, Desk, sent, still_held}
+use Rattle.rh_safety.proofs.Sight.{owned, Desk, sent, still_held}
 use Rattle.rh_safety.proofs.Basics.{length_with, put_all, put_same, put_other, Has-append, none_some}
 use Rattle.rh_safety.proofs.Basics.{pair_append, Ascend, one_of_id}
 use Rattle.rh_safety.proofs.Invariant.{Offered, queued, kept, latest, Knows, Offers, LetterIn, Carries, Source}
+use Rattle.rh_safety.proofs.Invariant.{known_by}
 use Rattle.rh_safety.proofs.Invariant.{Counted, Begins, Untouched, HasBuffer, Order, Unread, Inv, IsWaiting}
 use Rattle.rh_safety.proofs.Invariant.{Waits, Asks, PendingAt}
 use Rattle.rh_safety.proofs.Moves.{letters_more, outs_more, ins_more, boths_more, letters_bump, outs_bump, ins_bump}
@@ -187,7 +188,8 @@ waits_kept ws vs f a = record {
 
 -- no fetch of task h for id i is to be answered
 abbrev pub Quiet : Desk → ℕ → ℕ → Type 0
-Quiet d h i = (s : ℕ) (x : Sending) → Has (Open x) (d.sending s) → (l : Letter) → Asks d s x l → l.from ≡ h → x.id ≢ i
+Quiet d h i = (s : ℕ) (x : Sending) → Has (Open x) (d.sending s) → (l : Letter) →
+    Asks (Knows d) d.live d.file s x l → l.from ≡ h → x.id ≢ i
 
 abbrev pub Pending : Desk → Type 0
 Pending d = (s : ℕ) (x : Sending) → Has (Open x) (d.sending s) → PendingAt d s x
@@ -333,14 +335,7 @@ out_pending {o} {e} {d} new h v m n i p s x q l k =
       | inl a ↦ elim (n.move s (Open x) q) [
         | inl b ↦ waits_sent d2 h m s l x (d.taking l.from) (d.buf l.from) (λ u act eq. let w = i.ins.buffer l.from u
             act in let f = n.fresh in let y = w.below in absurd (omega arith))
-            (p s x b.0 b.1 l (record {
-              known = a;
-              kind = k.kind;
-              answers = k.answers;
-              from = k.from;
-              live = k.live;
-              fetches = k.fetches;
-            }))
+            (p s x b.0 b.1 l (known_by k a))
         | inr b ↦ let y : NewOpen o d h m.letter x = subst (λ u. OutPart o d h m.letter u) (sym b.1) n.part in let z =
             y.last in let c = i.letters.below l a in absurd (let u = c.answers in let g = k.answers in omega arith)
       ]
@@ -394,7 +389,8 @@ growing_untouched e (In_failed i a n) q = absurd (let z : Bool.false ≡ true = 
 
 fetch_letter : {o : Offered} {e : ℕ → ℕ → Bool} {d : Desk} (h : ℕ) (t : Taking) (answers r : ℕ) (u : Taking) →
     t.fetch ≡ d.next_ref → Inv o e d →
-    (Active (d.taking r) u × (r ≡ h → u.id ≢ t.id)) ⊎ ((r ≡ h) × ((Fetching u ≡ Fetching t) ⊎ (Draining u ≡ Fetching t))) →
+    (Active (d.taking r) u × (r ≡ h → u.id ≢ t.id)) ⊎ ((r ≡ h) × ((Fetching u ≡ Fetching t) ⊎ (Draining u ≡ Fetching
+    t))) →
     LetterIn (fetch_of h t answers (d.buf h)).letter r u
 fetch_letter h t answers r u fresh i (inl a) = let w = i.ins.buffer r u a.0 in let z = w.below in record {
   owner = λ b. absurd (omega arith);
@@ -496,14 +492,7 @@ fetch_pending {o} {e} {d} new bl h t answers n i quiet level p s x q l k =
     let fresh = n.fresh in
     elim (sent_knows d2 h m refl l k.known) [
       | inl a ↦
-          let k0 : Asks d s x l = record {
-            known = a;
-            kind = k.kind;
-            answers = k.answers;
-            from = k.from;
-            live = k.live;
-            fetches = k.fetches;
-          } in
+          let k0 : Asks (Knows d) d.live d.file s x l = known_by k a in
           waits_kept (d.taking l.from) (new l.from) (λ u act z. n.keeps l.from u act (λ r f. quiet s x q l k0 r
           (sym z ∙ f)))
           (waits_sent d2 h m s l x (d.taking l.from) (d.buf l.from) (λ u act eq. let w = i.ins.buffer l.from u act in

@@ -1,4 +1,4 @@
--- Polled in turn, a transfer comes to its end: what the messages in turn make of what is seen of the desk.
+-- Two tasks polled in turn: what each message makes of what is seen of the desk.
 use Rattle.std.proofs.Common.{◌≡◌, ◌≢◌, ℕ, suc, ◌+◌, ◌-◌, ◌≤◌, ◌<◌, Bool, true, false, List, [], ◌∷◌, ◌++◌, length}
 use Rattle.std.proofs.Common.{take, drop, Option, Some, None, refl, sym, ap, ◌∙◌, subst, inl, inr, arith, length-drop}
 use Rattle.std.specs.Prelude.{if◌then◌else◌, nat_eq, nat_lt, nat_le, min}
@@ -10,7 +10,7 @@ use Rattle.rh_safety.proofs.Ends.{Asking, Code, Plain, Recorded, DataSave, RamFe
 use Rattle.rh_safety.proofs.Ends.{Sending, Taking, Out, Open, Out_done, Out_failed, In, Fetching, Draining, In_done}
 use Rattle.rh_safety.proofs.Ends.{In_failed, out_id, in_id, is_open, is_going, Has, put, any, drop_first, with_id}
 use Rattle.rh_safety.proofs.Ends.{find_open, find_active, first_for, without_first}
-use Rattle.rh_safety.proofs.Protocol.{Desk, saved, still_held, picked, ended, bytes_of, longer, fetched, would_answer}
+use Rattle.rh_safety.proofs.Sight.{Desk, saved, still_held, picked, ended, bytes_of, longer, fetched, would_answer}
 use Rattle.rh_safety.proofs.Basics.{put_all, put_same, put_other, take_more, length_take, front_written}
 use Rattle.rh_safety.proofs.Basics.{length_written, none_some, or_left, or_right, either, drop_old, Has-right}
 use Rattle.rh_safety.proofs.Invariant.{Order}
@@ -323,7 +323,8 @@ module _ (p : Pair) (d : Desk) (k n me : ℕ) (v : Out) (c : Code) (w : Answered
       ap (λ (x : List ℕ). take k p.source ++ x) w.front ∙ sym (take_more k n p.source)
 
   -- its records then
-  with_last : (u : In) → put d.taking p.receiver (with_id in_id p.id u (d.taking p.receiver)) p.receiver ≡ p.ins ++ u ∷ []
+  with_last : (u : In) → put d.taking p.receiver (with_id in_id p.id u (d.taking p.receiver)) p.receiver ≡ p.ins ++ u
+      ∷ []
   with_last u = put_same d.taking p.receiver (with_id in_id p.id u (d.taking p.receiver)) ∙ ap (with_id in_id p.id u)
       w.takes ∙ last_with in_id p.id (Fetching taking_record) u p.ins w.alone.ins refl
 

@@ -1,4 +1,4 @@
--- The desk seen as the reduced one: tasks as maps by handle, slots as maps by anchor and by address.
+-- What is seen of the desk: tasks as maps by handle, slots as maps by anchor and by address.
 use Rattle.std.specs.Prelude.{ℕ, ◌-◌, true, false, ◌==◌, if◌then◌else◌, List, [], ◌∷◌, map, find, Option, Some, None}
 use Rattle.std.specs.Option.{option_map}
 use Rattle.rh_defs.specs.Blocks.{block_bytes}
@@ -13,7 +13,7 @@ use Rattle.rh_defs.specs.Desk.{Desk, Task, Scrap}
 use Rattle.rh_defs.specs.IncomingEvents.{is_deaf}
 use Rattle.rh_defs.specs.Transfer.{answers_none}
 use Rattle.rh_safety.proofs.Ends as ram
-use Rattle.rh_safety.proofs.Protocol as protocol
+use Rattle.rh_safety.proofs.Sight as sight
 
 -- ---- messages
 
@@ -67,7 +67,7 @@ abbrev pub seen_last : Letter × ℕ → ram.Message
 seen_last p = seen_letter p.0 p.1
 
 -- the scrap file
-abbrev pub seen_scrap : Scrap → protocol.Scrap
+abbrev pub seen_scrap : Scrap → sight.Scrap
 seen_scrap file = record { load = file.load; bytes = file.bytes }
 
 -- ---- slots
@@ -101,7 +101,7 @@ abbrev pub field : {A : Type 0} → (Task → A) → A → List Task → ℕ →
 field f d tasks h = of f d (task_of h tasks)
 
 -- the desk as the reduced one
-abbrev pub view : Desk → protocol.Desk
+abbrev pub view : Desk → sight.Desk
 view d = record {
   most = most_records;
   live = field (λ t. true) false d.tasks;

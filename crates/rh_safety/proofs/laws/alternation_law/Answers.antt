@@ -1,5 +1,5 @@
 use Rattle.rh_safety.proofs.SeenLaws.{always}
-use Rattle.rh_safety.proofs.SeenTurns.{alternates}
+use Rattle.rh_safety.proofs.Alternations.{alternates}
 use Rattle.rh_safety.specs.Alternation.{Alternates}
 use Rattle.rh_safety.proofs.laws.alternation_law.Goals as goal
 

@@ -20,7 +20,7 @@ use Rattle.rh_defs.specs.Desk.{Desk, Task, free_pages, with_task, with_slot}
 use Rattle.rh_defs.specs.IncomingEvents.{without_buffer, ended, appended}
 use Rattle.rh_safety.proofs.View.{view, address_in, amount_in, blocks_of, buffers_of, task_of}
 use Rattle.rh_safety.proofs.Ends.{Letter, put}
-use Rattle.rh_safety.proofs.Protocol as protocol
+use Rattle.rh_safety.proofs.Sight as sight
 use Rattle.rh_safety.proofs.FlexMaps as flex
 use Rattle.rh_safety.proofs.Basics.{put_same}
 use Rattle.rh_safety.proofs.SeenTasks.{Same, unput, live_of, slot_is, slot_at, block_view, buffer_view, ins_view}
@@ -52,7 +52,8 @@ behind_is x (Some b) = refl
 
 -- the block at an address, by either word
 pub block_is : (a place : ℕ) (ss : List Segment) →
-    option_map (λ (b : Split Segment). bytes_of b.here) (first_at size_of (is_block_at a) place ss) ≡ bytes_at a place ss
+    option_map (λ (b : Split Segment). bytes_of b.here) (first_at size_of (is_block_at a) place ss) ≡ bytes_at a place
+    ss
 block_is a place [] = refl
 block_is a place (Used bs ∷ ss) = elim (eqb_tells a (place + 4)) [
   | inl w ↦ rw w.0 refl
@@ -96,10 +97,10 @@ ended_view d h f edit live =
     let s = slot_at d h in
     let w = rid_of f.buffer s in
     let e : Desk = with_task h (λ t. record t { slot = without_buffer f.buffer t.slot }) d in
-    let v : view e ≡ protocol.with_heap (view d) h f.buffer None = buffer_view d h f.buffer (without_buffer f.buffer)
+    let v : view e ≡ sight.with_heap (view d) h f.buffer None = buffer_view d h f.buffer (without_buffer f.buffer)
     None s live refl w.blocks w.buffers in
-    ins_view e h edit (ap (λ (y : protocol.Desk). y.live h) v ∙ live) ∙
-    ap (λ (y : protocol.Desk). record y { taking = put y.taking h (edit (y.taking h)) }) v
+    ins_view e h edit (ap (λ (y : sight.Desk). y.live h) v ∙ live) ∙
+    ap (λ (y : sight.Desk). record y { taking = put y.taking h (edit (y.taking h)) }) v
 
 -- ---- documents
 
@@ -111,7 +112,7 @@ block_there k s b q = (flex.edits weight (flex_start s) k s.blocks).found b (the
 pub record IsLonger (d : Desk) (t : Task) (k : ℕ) (bytes : List ℕ) (after : Desk) : Type 0 where
   pub document : List ℕ
   pub there : blocks_of t.slot k ≡ Some document
-  pub seen : view after ≡ protocol.with_block (view d) t.handle k (Some (document ++ bytes))
+  pub seen : view after ≡ sight.with_block (view d) t.handle k (Some (document ++ bytes))
   pub live : (view after).live t.handle ≡ true
   pub post : after.post ≡ d.post
 
@@ -158,7 +159,7 @@ longer_is d t k bytes after is q =
     with_step (slot_put k (length b.here.bytes) bytes mid) _ after q2 (λ new e3 q3.
     let there : blocks_of t.slot k ≡ Some b.here.bytes = block_there k t.slot b e1 in
     let live = live_of d t.handle t is in
-    let v : view (with_slot t.handle new d) ≡ protocol.with_block (view d) t.handle k (Some (b.here.bytes ++ bytes)) =
+    let v : view (with_slot t.handle new d) ≡ sight.with_block (view d) t.handle k (Some (b.here.bytes ++ bytes)) =
     block_view d t.handle k (λ y. new) (Some (b.here.bytes ++ bytes)) t.slot live (slot_is d t.handle t is)
     (longer_map k (free_pages d) b.here.bytes bytes t.slot mid new there e2 e3)
     (λ a. changed_still (put_is k (length b.here.bytes) bytes mid new e3) a ∙ changed_still (extend_is (free_pages d)
@@ -168,6 +169,6 @@ longer_is d t k bytes after is q =
       document = b.here.bytes;
       there = there;
       seen = v;
-      live = ap (λ (y : protocol.Desk). y.live t.handle) v ∙ live;
+      live = ap (λ (y : sight.Desk). y.live t.handle) v ∙ live;
       post = refl;
     }))))

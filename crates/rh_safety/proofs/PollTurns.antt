@@ -1,5 +1,6 @@
 -- A poll that takes the one message of the post, and what is seen of the desk once it was dealt with.
-use Rattle.std.proofs.Common.{◌≡◌, ℕ, ◌-◌, ◌≤◌, Bool, true, false, List, [], ◌∷◌, length, Option, Some, None, refl, sym, ap}
+use Rattle.std.proofs.Common.{◌≡◌, ℕ, ◌-◌, ◌≤◌, Bool, true, false, List, [], ◌∷◌, length, Option, Some, None, refl}
+use Rattle.std.proofs.Common.{sym, ap}
 use Rattle.std.proofs.Common.{◌∙◌, subst, inl, inr}
 use Rattle.std.specs.Prelude.{◌+◌, if◌then◌else◌, min, nat_lt}
 use Rattle.std.specs.Option.{option_map}
@@ -27,13 +28,13 @@ use Rattle.rh_defs.specs.Step.{event, poll_taken}
 use Rattle.rh_safety.specs.Alternation.{is_refusal, is_refused_poll}
 use Rattle.rh_safety.proofs.View.{view, seen_parcel, address_in, amount_in, task_of}
 use Rattle.rh_safety.proofs.Ends.{Letter, Message, first_for}
-use Rattle.rh_safety.proofs.Protocol as protocol
+use Rattle.rh_safety.proofs.Sight as sight
 use Rattle.rh_safety.proofs.Basics.{none_some, open_is, is_equal, and_left}
 use Rattle.rh_safety.proofs.Arrivals.{Began}
 use Rattle.rh_safety.proofs.Turns.{first_one}
 use Rattle.rh_safety.proofs.SeenTasks.{field_is}
 use Rattle.rh_safety.proofs.SeenTaking.{IsTaken, lost_queue, picked_by}
-use Rattle.rh_safety.proofs.SeenHandled.{letter_of}
+use Rattle.rh_safety.proofs.SeenDocuments.{letter_of}
 use Rattle.rh_safety.proofs.KeptFetch.{gone, fetch_does, fetch_goes}
 use Rattle.rh_safety.proofs.KeptOffers.{save_does}
 use Rattle.rh_safety.proofs.KeptTransmits.{taken_desk, took_all, transmit_does}
@@ -44,20 +45,25 @@ use Rattle.rh_safety.proofs.KeptTransmits.{taken_desk, took_all, transmit_does}
 -- it may have gone with a message before.
 pub data Turn (d : Desk) : ℕ → Message → Answer → Type 0 where
   takes : (e : Desk) (t : Task) (p : Parcel) → task_of t.handle e.tasks ≡ Some t →
-      protocol.lost (view e) ≡ protocol.picked (protocol.lost (view d)) t.handle (seen_parcel p) p.code →
+      sight.lost (view e) ≡ sight.picked (sight.lost (view d)) t.handle (seen_parcel p) p.code →
       Turn d t.handle (seen_parcel p) (event p (transfer.handled e t p p.code))
 
 one_of : (o : Option Parcel) (m : Message) → option_map seen_parcel o ≡ Some m →
     (p : Parcel) × (o ≡ Some p) × (seen_parcel p ≡ m)
 one_of None m q = absurd (none_some None refl q)
-one_of (Some p) m q = (p, refl, let z : Option.Some (seen_parcel p) ≡ Some m = q in (let y : seen_parcel p ≡ m = cc in y))
+one_of (Some p) m q = (
+  p,
+  refl,
+  let z : Option.Some (seen_parcel p) ≡ Some m = q in (let y : seen_parcel p ≡ m = cc in
+      y),
+)
 
-lost_twice : (b : Bool) (d : protocol.Desk) → protocol.lost (protocol.lost_if b d) ≡ protocol.lost d
+lost_twice : (b : Bool) (d : sight.Desk) → sight.lost (sight.lost_if b d) ≡ sight.lost d
 lost_twice true d = refl
 lost_twice false d = refl
 
-lost_picked : (d : protocol.Desk) (h : ℕ) (m : Message) (c : EventCode) →
-    protocol.lost (protocol.picked d h m c) ≡ protocol.picked (protocol.lost d) h m c
+lost_picked : (d : sight.Desk) (h : ℕ) (m : Message) (c : EventCode) →
+    sight.lost (sight.picked d h m c) ≡ sight.picked (sight.lost d) h m c
 lost_picked d h m User = refl
 lost_picked d h m Recorded = refl
 lost_picked d h m Acknowledge = refl
@@ -69,20 +75,20 @@ pub turn_is : (d : Desk) (t : Task) (m : Message) (p : Post × Option Parcel) �
 unfolding poll_taken with_delivered
 turn_is d t m p w is none queue to =
     let h : ℕ = t.handle in
-    let back = protocol.returned (view d) h ((view d).held h) in
-    let same : protocol.lost_if w.lost back ≡ protocol.lost_if w.lost (view d) = ap (λ (v : Option Message).
-    protocol.lost_if w.lost (protocol.returned (view d) h v)) none in
-    let first : option_map seen_parcel p.1 ≡ Some m = sym w.first ∙ ap (λ (y : protocol.Desk). first_for h y.queue)
+    let back = sight.returned (view d) h ((view d).held h) in
+    let same : sight.lost_if w.lost back ≡ sight.lost_if w.lost (view d) = ap (λ (v : Option Message).
+    sight.lost_if w.lost (sight.returned (view d) h v)) none in
+    let first : option_map seen_parcel p.1 ≡ Some m = sym w.first ∙ ap (λ (y : sight.Desk). first_for h y.queue)
     same ∙ ap (first_for h) (lost_queue w.lost (view d) ∙ queue) ∙ first_one h m to in
     let o = one_of p.1 m first in
     let q : Parcel = o.0 in
     let e : Desk = with_delivered p.0 d in
-    let seen : view e ≡ protocol.picked (protocol.lost_if w.lost (view d)) h (seen_parcel q) q.code = w.seen ∙
-    ap (λ (v : Option Parcel). picked_by h (option_map seen_parcel v) (protocol.lost_if w.lost back)) o.1 ∙
-    ap (λ (y : protocol.Desk). protocol.picked y h (seen_parcel q) q.code) same in
-    let taken : protocol.lost (view e) ≡ protocol.picked (protocol.lost (view d)) h (seen_parcel q) q.code =
-    ap protocol.lost seen ∙ lost_picked (protocol.lost_if w.lost (view d)) h (seen_parcel q) q.code ∙
-    ap (λ (y : protocol.Desk). protocol.picked y h (seen_parcel q) q.code) (lost_twice w.lost (view d)) in
+    let seen : view e ≡ sight.picked (sight.lost_if w.lost (view d)) h (seen_parcel q) q.code = w.seen ∙
+    ap (λ (v : Option Parcel). picked_by h (option_map seen_parcel v) (sight.lost_if w.lost back)) o.1 ∙
+    ap (λ (y : sight.Desk). sight.picked y h (seen_parcel q) q.code) same in
+    let taken : sight.lost (view e) ≡ sight.picked (sight.lost (view d)) h (seen_parcel q) q.code =
+    ap sight.lost seen ∙ lost_picked (sight.lost_if w.lost (view d)) h (seen_parcel q) q.code ∙
+    ap (λ (y : sight.Desk). sight.picked y h (seen_parcel q) q.code) (lost_twice w.lost (view d)) in
     subst (λ (v : Option Parcel). Turn d h m (poll_taken e t v)) (sym o.1)
     (subst (λ (x : Message). Turn d h x (event q (transfer.handled e t q q.code))) o.2 (takes e t q is taken))
 
@@ -105,7 +111,7 @@ fetch_body (body.DataLoadAck x) q = absurd (let z : action.DataLoadAck ≡ actio
 fetch_body (body.RamTransmit a n) q = absurd (let z : action.RamTransmit ≡ action.RamFetch = q in (cc))
 
 -- the record x of task h answers the fetch l from the source, into the buffer's old bytes
-pub record Answers (d : protocol.Desk) (h : ℕ) (l : Letter) (x : Sending) (source old : List ℕ) : Type 0 where
+pub record Answers (d : sight.Desk) (h : ℕ) (l : Letter) (x : Sending) (source old : List ℕ) : Type 0 where
   pub fetches : d.file h ≡ false
   pub found : sender.on_fetch l.from l.answers l.amount (d.sending h) ≡ Some x
   pub there : d.block h x.anchor ≡ Some source
@@ -117,7 +123,7 @@ module _ (d : Desk) (t : Task) (m : Parcel) (is : task_of t.handle d.tasks ≡ S
   h = t.handle
 
   fetch_came : (a n : ℕ) (x : Sending) (source old : List ℕ) →
-      Answers (protocol.lost (view d)) h (letter_of m (body.RamFetch a n)) x source old →
+      Answers (sight.lost (view d)) h (letter_of m (body.RamFetch a n)) x source old →
       is_refusal action.RamFetch (transfer.came d t m (body.RamFetch a n)).1 ≡ false →
       view (transfer.came d t m (body.RamFetch a n)).0 ≡ gone (view d) h (letter_of m (body.RamFetch a n)) x
       m.message.from source old (min n (length source - x.count))
@@ -136,26 +142,26 @@ module _ (d : Desk) (t : Task) (m : Parcel) (is : task_of t.handle d.tasks ≡ S
       (ap (λ (z : Handled). is_refusal action.RamFetch z.1) (sym same) ∙ granted) w.there w.buffer
 
   fetch_handled : action_of m.message.body ≡ action.RamFetch → (x : Sending) (source old : List ℕ) →
-      Answers (protocol.lost (view d)) h (seen_parcel m).letter x source old →
+      Answers (sight.lost (view d)) h (seen_parcel m).letter x source old →
       is_refusal (action_of m.message.body) (transfer.came d t m m.message.body).1 ≡ false →
       view (transfer.came d t m m.message.body).0 ≡ gone (view d) h (seen_parcel m).letter x m.message.from source old
       (min (amount_in m.message.body) (length source - x.count))
-  fetch_handled kind x source old = subst (λ (b : Body). Answers (protocol.lost (view d)) h (letter_of m b) x source old →
+  fetch_handled kind x source old = subst (λ (b : Body). Answers (sight.lost (view d)) h (letter_of m b) x source old →
       is_refusal (action_of b) (transfer.came d t m b).1 ≡ false → view (transfer.came d t m b).0 ≡ gone (view d) h
       (letter_of m b) x m.message.from source old (min (amount_in b) (length source - x.count)))
       (fetch_body m.message.body kind) (fetch_came (address_in m.message.body) (amount_in m.message.body) x source old)
 
 pub fetch_turn : (d : Desk) (h : ℕ) (m : Message) (a : Answer) → Turn d h m a →
     is_refused_poll a.1 ≡ false → (m.code ≡ Acknowledge → ⊥) → m.letter.kind ≡ action.RamFetch → (x : Sending)
-    (source old : List ℕ) → Answers (protocol.picked (protocol.lost (view d)) h m m.code) h m.letter x source old →
-    protocol.lost (view a.0) ≡ gone (protocol.picked (protocol.lost (view d)) h m m.code) h m.letter x m.letter.from
+    (source old : List ℕ) → Answers (sight.picked (sight.lost (view d)) h m m.code) h m.letter x source old →
+    sight.lost (view a.0) ≡ gone (sight.picked (sight.lost (view d)) h m m.code) h m.letter x m.letter.from
     source old (min m.letter.amount (length source - x.count))
 fetch_turn d h m a (takes d2 t p is taken) granted came kind x source old w =
     let same = came_of d2 t p p.code came in
     let l : Letter = (seen_parcel p).letter in
-    let v = fetch_handled d2 t p is kind x source old (subst (λ (y : protocol.Desk). Answers y t.handle l x source
+    let v = fetch_handled d2 t p is kind x source old (subst (λ (y : sight.Desk). Answers y t.handle l x source
     old) (sym taken) w) (ap (λ (z : Handled). is_refusal (action_of p.message.body) z.1) (sym same) ∙ granted) in
-    ap (λ (z : Handled). protocol.lost (view z.0)) same ∙ ap protocol.lost v ∙ ap (λ (y : protocol.Desk). gone y t.handle l
+    ap (λ (z : Handled). sight.lost (view z.0)) same ∙ ap sight.lost v ∙ ap (λ (y : sight.Desk). gone y t.handle l
     x p.message.from source old (min l.amount (length source - x.count))) taken
 
 -- ---- a transmit
@@ -169,7 +175,7 @@ transmit_body (body.DataLoadAck x) q = absurd (let z : action.DataLoadAck ≡ ac
 transmit_body (body.RamFetch a n) q = absurd (let z : action.RamFetch ≡ action.RamTransmit = q in (cc))
 
 -- the record of task h that takes the transmit
-abbrev pub taker : protocol.Desk → ℕ → Letter → Option Incoming
+abbrev pub taker : sight.Desk → ℕ → Letter → Option Incoming
 taker d h l = receiver.on_transmit (d.buf h) l.from l.answers l.address l.amount (d.taking h)
 
 module _ (d : Desk) (t : Task) (m : Parcel) (is : task_of t.handle d.tasks ≡ Some t) where
@@ -182,8 +188,10 @@ module _ (d : Desk) (t : Task) (m : Parcel) (is : task_of t.handle d.tasks ≡ S
   transmit_came a n r found granted =
       let y : Handled = take_bytes d t m n (Some (incoming.Fetching r)) in
       let here : receiver.on_transmit t.buffer m.message.from m.message.your_ref a n t.taking ≡ Some (incoming.Fetching
-      r) = ap (λ k. receiver.on_transmit k m.message.from m.message.your_ref a n t.taking) (sym (field_is (λ y. y.buffer)
-      1 t.handle d.tasks t is)) ∙ ap (receiver.on_transmit ((view d).buf t.handle) m.message.from m.message.your_ref a n)
+      r) = ap (λ k. receiver.on_transmit k m.message.from m.message.your_ref a n t.taking)
+      (sym (field_is (λ y. y.buffer)
+      1 t.handle d.tasks t is)) ∙ ap (receiver.on_transmit ((view d).buf t.handle) m.message.from m.message.your_ref a
+      n)
       (sym (field_is (λ y. y.taking) [] t.handle d.tasks t is)) ∙ found in
       let same : transfer.came d t m (body.RamTransmit a n) ≡ y = ap (take_bytes d t m n) here in
       ap (λ (z : Handled). view z.0) same ∙ took_all (view d) t.handle r (letter_of m (body.RamTransmit a n)) y.1
@@ -199,30 +207,30 @@ module _ (d : Desk) (t : Task) (m : Parcel) (is : task_of t.handle d.tasks ≡ S
       t.handle r (letter_of m b)) (transmit_body m.message.body kind) (transmit_came (address_in m.message.body)
       (amount_in m.message.body) r)
 
-lost_taken : (d : protocol.Desk) (h : ℕ) (r : Taking) (l : Letter) →
-    protocol.lost (taken_desk d h r l) ≡ taken_desk (protocol.lost d) h r l
+lost_taken : (d : sight.Desk) (h : ℕ) (r : Taking) (l : Letter) →
+    sight.lost (taken_desk d h r l) ≡ taken_desk (sight.lost d) h r l
 lost_taken d h r l = go (nat_lt l.amount (d.buf h))
   where
     go : (c : Bool) →
-        protocol.lost (if c then protocol.ended (protocol.longer d h r l.amount) h r (incoming.Done r.id r.anchor
-        (r.count + l.amount)) else protocol.fetched (protocol.longer d h r l.amount) h r l.amount l.me) ≡
-        (let D = protocol.longer (protocol.lost d) h r l.amount in
-        if c then protocol.ended D h r (incoming.Done r.id r.anchor (r.count + l.amount)) else protocol.fetched D h r
+        sight.lost (if c then sight.ended (sight.longer d h r l.amount) h r (incoming.Done r.id r.anchor
+        (r.count + l.amount)) else sight.fetched (sight.longer d h r l.amount) h r l.amount l.me) ≡
+        (let D = sight.longer (sight.lost d) h r l.amount in
+        if c then sight.ended D h r (incoming.Done r.id r.anchor (r.count + l.amount)) else sight.fetched D h r
         l.amount l.me)
     go true = refl
     go false = refl
 
 pub transmit_turn : (d : Desk) (h : ℕ) (m : Message) (a : Answer) → Turn d h m a → is_refused_poll a.1 ≡ false →
     (m.code ≡ Acknowledge → ⊥) → m.letter.kind ≡ action.RamTransmit → (r : Taking) →
-    taker (protocol.picked (protocol.lost (view d)) h m m.code) h m.letter ≡ Some (incoming.Fetching r) →
-    protocol.lost (view a.0) ≡ taken_desk (protocol.picked (protocol.lost (view d)) h m m.code) h r m.letter
+    taker (sight.picked (sight.lost (view d)) h m m.code) h m.letter ≡ Some (incoming.Fetching r) →
+    sight.lost (view a.0) ≡ taken_desk (sight.picked (sight.lost (view d)) h m m.code) h r m.letter
 transmit_turn d h m a (takes d2 t p is taken) granted came kind r found =
     let same = came_of d2 t p p.code came in
     let l : Letter = (seen_parcel p).letter in
-    let v = transmit_handled d2 t p is kind r (ap (λ (y : protocol.Desk). taker y t.handle l) taken ∙ found)
+    let v = transmit_handled d2 t p is kind r (ap (λ (y : sight.Desk). taker y t.handle l) taken ∙ found)
     (ap (λ (z : Handled). is_refusal (action_of p.message.body) z.1) (sym same) ∙ granted) in
-    ap (λ (z : Handled). protocol.lost (view z.0)) same ∙ ap protocol.lost v ∙ lost_taken (view d2) t.handle r l ∙
-    ap (λ (y : protocol.Desk). taken_desk y t.handle r l) taken
+    ap (λ (z : Handled). sight.lost (view z.0)) same ∙ ap sight.lost v ∙ lost_taken (view d2) t.handle r l ∙
+    ap (λ (y : sight.Desk). taken_desk y t.handle r l) taken
 
 -- ---- a DataSave
 
@@ -238,13 +246,13 @@ save_body d t m (body.RamTransmit a n) q = absurd (let z : action.RamTransmit �
 
 pub save_turn : (d : Desk) (h : ℕ) (m : Message) (a : Answer) → Turn d h m a → is_refused_poll a.1 ≡ false →
     (m.code ≡ Acknowledge → ⊥) → m.letter.kind ≡ action.DataSave →
-    Began (protocol.picked (protocol.lost (view d)) h m m.code) h m.letter (protocol.lost (view a.0))
+    Began (sight.picked (sight.lost (view d)) h m m.code) h m.letter (sight.lost (view a.0))
 save_turn d h m a (takes d2 t p is taken) granted came kind =
     let same : transfer.handled d2 t p p.code ≡ take_save d2 t p = came_of d2 t p p.code came ∙ save_body d2 t p
     p.message.body kind in
     let l : Letter = (seen_parcel p).letter in
     elim (save_does d2 t p is p.message.body) [
-      | inl w ↦ subst (λ (y : protocol.Desk). Began y t.handle l (protocol.lost (view (transfer.handled d2 t p
+      | inl w ↦ subst (λ (y : sight.Desk). Began y t.handle l (sight.lost (view (transfer.handled d2 t p
           p.code).0))) taken (record {
             anchor = w.anchor;
             address = w.address;
@@ -253,7 +261,7 @@ save_turn d h m a (takes d2 t p is taken) granted came kind =
             free_address = w.free_address;
             size = w.size;
             few = w.few;
-            seen = ap (λ (z : Handled). protocol.lost (view z.0)) same ∙ ap protocol.lost w.seen;
+            seen = ap (λ (z : Handled). sight.lost (view z.0)) same ∙ ap sight.lost w.seen;
           })
       | inr w ↦ absurd (let z : is_refusal action.DataSave outcome.Ignored ≡ false = subst (λ k. is_refusal k
           outcome.Ignored ≡ false) kind (ap (λ (z : Handled). is_refusal (action_of p.message.body) z.1) (sym (same ∙

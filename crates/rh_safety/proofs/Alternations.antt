@@ -1,4 +1,4 @@
--- Two tasks polled in turn, on the desk itself.
+-- Two tasks polled in turn bring a transfer to its end, on the desk itself.
 use Rattle.std.proofs.Common.{◌≡◌, ℕ, zero, suc, ◌+◌, ◌-◌, ◌*◌, ◌/◌, ◌<◌, ◌≤◌, Bool, true, false, not, List, [], ◌∷◌}
 use Rattle.std.proofs.Common.{length, Option, Some, None, refl, sym, ap, ◌∙◌, subst, arith}
 use Rattle.std.specs.Prelude.{◌&&◌, ◌==◌, find, map, Ok}
@@ -31,13 +31,14 @@ use Rattle.rh_safety.specs.Alternation.{is_refused_poll, all_granted, turns, tur
 use Rattle.rh_safety.specs.Alternation.{ReceiverDone, EndsDone, Alternates}
 use Rattle.rh_safety.proofs.View.{view, seen_parcel, blocks_of, of, task_of}
 use Rattle.rh_safety.proofs.Ends.{Has, Out, Open, Out_done, In_done, Fetching, Message, Plain, Edits}
-use Rattle.rh_safety.proofs.Protocol as protocol
+use Rattle.rh_safety.proofs.Sight as sight
 use Rattle.rh_safety.proofs.Basics.{contains_of, either, and_left, and_right, none_some, not_true}
 use Rattle.rh_safety.proofs.Invariant.{Offered, Good}
 use Rattle.rh_safety.proofs.Arrivals.{Began}
 use Rattle.rh_safety.proofs.Turns.{Pair, Waiting, Answered, AllCame, Ready, asked, open_record, answers_it, gone_desk}
 use Rattle.rh_safety.proofs.Turns.{sent_last, sent_full, sender_record, sent_back, taking_record, takes_it, taken_it}
-use Rattle.rh_safety.proofs.Turns.{took_full, took_rest, outgoing_at, offer, offer_queued, none_held, pair_of, took_first}
+use Rattle.rh_safety.proofs.Turns.{took_full, took_rest, outgoing_at, offer, offer_queued, none_held, pair_of}
+use Rattle.rh_safety.proofs.Turns.{took_first}
 use Rattle.rh_safety.proofs.SeenTasks.{found_task, field_is, live_of}
 use Rattle.rh_safety.proofs.SeenFrames.{Fits}
 use Rattle.rh_safety.proofs.SeenKeys.{keys_of, named_in, handle_named, SameKeys}
@@ -47,7 +48,7 @@ use Rattle.rh_safety.proofs.SeenSaves.{IsSaved, save_step, save_keeps}
 use Rattle.rh_safety.proofs.SeenDesks.{fits}
 use Rattle.rh_safety.proofs.SeenLaws.{IsReached, block_is}
 use Rattle.rh_safety.proofs.KeptPolls.{poll_keeps}
-use Rattle.rh_safety.proofs.KeptTurns.{Turn, turn_is, fetch_turn, taker, transmit_turn, save_turn}
+use Rattle.rh_safety.proofs.PollTurns.{Turn, turn_is, fetch_turn, taker, transmit_turn, save_turn}
 
 -- ---- one poll, by name
 
@@ -77,7 +78,8 @@ found_of h None q = absurd (none_some None refl q)
 found_of h (Some t) q = (t, refl, let z : Some t.handle ≡ Some h = q in (let y : t.handle ≡ h = cc in y))
 
 poll_step : (d : Desk) (name : List ℕ) (t : Task) → find (has_name name) d.tasks ≡ Some t →
-    step d (command.Poll name) ≡ poll_taken (with_delivered (post_poll t.handle d.post).0 d) t (post_poll t.handle d.post).1
+    step d (command.Poll name) ≡ poll_taken (with_delivered (post_poll t.handle d.post).0 d) t (post_poll t.handle
+    d.post).1
 unfolding poll named found_or or_else ◌>>=◌
 poll_step d name t q =
     ap (λ (o : Option Task). or_else (found_or o NoName >>= (λ (u : Task).
@@ -143,12 +145,12 @@ module _ (o : Offered) (e : Edits) (s r : List ℕ) (p : Pair) where
   -- a fetch waits, and so many bytes have come
   record AtFetch (d : Desk) (k : ℕ) : Type 0 where
     pub tasks : IsPair d
-    pub waits : Waiting p (protocol.lost (view d)) k
+    pub waits : Waiting p (sight.lost (view d)) k
 
   -- how it ends
   record Ends (before last : Desk) : Type 0 where
     pub sent : Has (Out_done p.id (length p.source)) ((view before).sending p.sender)
-    pub came : AllCame p (protocol.lost (view last))
+    pub came : AllCame p (sight.lost (view last))
 
   sender_polled : (d : Desk) → IsPair d → IsPolled o e d p.sender (step d (command.Poll s))
   sender_polled d t = is_polled d s p.sender t.kept t.good t.valid_sender t.sender
@@ -159,34 +161,34 @@ module _ (o : Offered) (e : Edits) (s r : List ℕ) (p : Pair) where
   -- the sender answers
   sender_turn : (d : Desk) (k : ℕ) (w : AtFetch d k) (within : k ≤ length p.source) →
       is_refused_poll (step d (command.Poll s)).1 ≡ false →
-      protocol.lost (view (step d (command.Poll s)).0) ≡ gone_desk p (protocol.lost (view d)) k w.waits within
+      sight.lost (view (step d (command.Poll s)).0) ≡ gone_desk p (sight.lost (view d)) k w.waits within
   sender_turn d k w within ok =
       let x = w.waits in
-      let m = asked p (protocol.lost (view d)) k x within in
+      let m = asked p (sight.lost (view d)) k x within in
       fetch_turn d p.sender m _ ((sender_polled d w.tasks).turn m (x.held p.sender) x.queue refl) ok
-      (λ z. let y : Recorded ≡ Acknowledge = z in (cc)) refl (open_record p (protocol.lost (view d)) k x within) p.source
+      (λ z. let y : Recorded ≡ Acknowledge = z in (cc)) refl (open_record p (sight.lost (view d)) k x within) p.source
       x.bytes (record {
         fetches = x.fetches;
-        found = answers_it p (protocol.lost (view d)) k x within;
+        found = answers_it p (sight.lost (view d)) k x within;
         there = x.source;
         buffer = x.buffer;
         fits = x.fits;
       })
 
   -- the receiver takes the bytes
-  receiver_turn : (d : Desk) (k n me : ℕ) (v : Out) (c : EventCode) (w : Answered p (protocol.lost (view d)) k n me v c) →
+  receiver_turn : (d : Desk) (k n me : ℕ) (v : Out) (c : EventCode) (w : Answered p (sight.lost (view d)) k n me v c) →
       IsPair d → (c ≡ Acknowledge → ⊥) → n ≤ p.room → is_refused_poll (step d (command.Poll r)).1 ≡ false →
-      protocol.lost (view (step d (command.Poll r)).0) ≡ taken_it p (protocol.lost (view d)) k n me v c w
+      sight.lost (view (step d (command.Poll r)).0) ≡ taken_it p (sight.lost (view d)) k n me v c w
   receiver_turn d k n me v c w t came small ok =
-      let D = protocol.lost (view d) in
+      let D = sight.lost (view d) in
       let m = sent_back p D k n me v c w in
       transmit_turn d p.receiver m _ ((receiver_polled d t).turn m (w.held p.receiver) w.queue refl) ok came refl
       (taking_record p D k n me v c w) (same_taker c (taking_record p D k n me v c w) (takes_it p D k n me v c w small))
     where
-      same_taker : (c2 : EventCode) (x : Taking) → taker (protocol.lost (view d)) p.receiver
-          (sent_back p (protocol.lost (view d)) k n me v c w).letter ≡ Some (Fetching x) →
-          taker (protocol.picked (protocol.lost (view d)) p.receiver (sent_back p (protocol.lost (view d)) k n me v c w)
-          c2) p.receiver (sent_back p (protocol.lost (view d)) k n me v c w).letter ≡ Some (Fetching x)
+      same_taker : (c2 : EventCode) (x : Taking) → taker (sight.lost (view d)) p.receiver
+          (sent_back p (sight.lost (view d)) k n me v c w).letter ≡ Some (Fetching x) →
+          taker (sight.picked (sight.lost (view d)) p.receiver (sent_back p (sight.lost (view d)) k n me v c w)
+          c2) p.receiver (sent_back p (sight.lost (view d)) k n me v c w).letter ≡ Some (Fetching x)
       same_taker User x q = q
       same_taker Recorded x q = q
       same_taker Acknowledge x q = q
@@ -198,9 +200,9 @@ module _ (o : Offered) (e : Edits) (s r : List ℕ) (p : Pair) where
       let n : ℕ = length p.source - k in
       let d1 : Desk = (step d (command.Poll s)).0 in
       let v : Out = Out_done p.id (length p.source) in
-      let a : Answered p (protocol.lost (view d1)) k n (view d).next_ref v Plain = subst (λ (y : protocol.Desk).
+      let a : Answered p (sight.lost (view d1)) k n (view d).next_ref v Plain = subst (λ (y : sight.Desk).
       Answered p y k n (view d).next_ref v Plain) (sym (sender_turn d k w within (granted d (command.Poll s)
-      (turns r s zero) q))) (sent_last p (protocol.lost (view d)) k w.waits within short) in
+      (turns r s zero) q))) (sent_last p (sight.lost (view d)) k w.waits within short) in
       let t1 = next_tasks p.sender (step d (command.Poll s)) w.tasks (sender_polled d w.tasks) in
       let less : n < p.room = omega arith in
       let all : k + n ≡ length p.source = omega arith in
@@ -208,7 +210,7 @@ module _ (o : Offered) (e : Edits) (s r : List ℕ) (p : Pair) where
       (omega arith) (granted d1 (command.Poll r) [] (rest_granted d (command.Poll s) (turns r s zero) q)) in
       record {
         sent = sender_record a;
-        came = subst (λ (y : protocol.Desk). AllCame p y) (sym eq) (took_rest p (protocol.lost (view d1)) k n
+        came = subst (λ (y : sight.Desk). AllCame p y) (sym eq) (took_rest p (sight.lost (view d1)) k n
             (view d).next_ref v Plain a refl less all refl);
       }
 
@@ -224,16 +226,16 @@ module _ (o : Offered) (e : Edits) (s r : List ℕ) (p : Pair) where
       let d1 : Desk = (step d (command.Poll s)).0 in
       let d2 : Desk = (step d1 (command.Poll r)).0 in
       let v : Out = Open (outgoing_at p (k + n) (view d).next_ref) in
-      let a : Answered p (protocol.lost (view d1)) k n (view d).next_ref v Recorded = subst (λ (y : protocol.Desk).
+      let a : Answered p (sight.lost (view d1)) k n (view d).next_ref v Recorded = subst (λ (y : sight.Desk).
       Answered p y k n (view d).next_ref v Recorded) (sym (sender_turn d k w within (granted d (command.Poll s)
-      (turns r s (suc j)) q))) (sent_full p (protocol.lost (view d)) k w.waits within (omega arith)) in
+      (turns r s (suc j)) q))) (sent_full p (sight.lost (view d)) k w.waits within (omega arith)) in
       let t1 = next_tasks p.sender (step d (command.Poll s)) w.tasks (sender_polled d w.tasks) in
       let q1 = rest_granted d (command.Poll s) (turns r s (suc j)) q in
       let eq = receiver_turn d1 k n (view d).next_ref v Recorded a t1 (λ z. let y : Recorded ≡ Acknowledge = z in (cc))
       (omega arith) (granted d1 (command.Poll r) (command.Poll s ∷ turns r s j) q1) in
       more_turns j d2 (k + n) (record {
         tasks = next_tasks p.receiver (step d1 (command.Poll r)) t1 (receiver_polled d1 t1);
-        waits = subst (λ (y : protocol.Desk). Waiting p y (k + n)) (sym eq) (took_full p (protocol.lost (view d1)) k n
+        waits = subst (λ (y : sight.Desk). Waiting p y (k + n)) (sym eq) (took_full p (sight.lost (view d1)) k n
             (view d).next_ref v Recorded a refl refl refl);
       }) (omega arith) (omega arith) (rest_granted d1 (command.Poll r) (command.Poll s ∷ turns r s j) q1)
     where
@@ -243,7 +245,8 @@ module _ (o : Offered) (e : Edits) (s r : List ℕ) (p : Pair) where
 -- ---- what is told at the end
 
 -- a record of a task
-has_sent : (d : Desk) (h : ℕ) (v : Out) → Has v ((view d).sending h) → (t : Task) × (task_at h d ≡ Some t) × Has v t.sending
+has_sent : (d : Desk) (h : ℕ) (v : Out) → Has v ((view d).sending h) →
+    (t : Task) × (task_at h d ≡ Some t) × Has v t.sending
 has_sent d h v = go (task_of h d.tasks) refl
   where
     go : (o : Option Task) → task_of h d.tasks ≡ o → Has v (of (λ (t : Task). t.sending) [] o) →
@@ -266,7 +269,7 @@ sender_done d h id source q =
     let w = has_sent d h (Out_done id (length source)) q in
     record { task = w.0; is = w.1; sends = contains_of w.0.sending (Out_done id (length source)) w.2 }
 
-receiver_done : (d : Desk) (p : Pair) → AllCame p (protocol.lost (view d)) → ReceiverDone d p.receiver p.id p.source
+receiver_done : (d : Desk) (p : Pair) → AllCame p (sight.lost (view d)) → ReceiverDone d p.receiver p.id p.source
 receiver_done d p a =
     let w = has_taken d p.receiver (In_done p.id p.document (length p.source)) a.takes in
     record {
@@ -290,7 +293,7 @@ none_seated h (seat ∷ seats) all = either (λ (o : Option Parcel). o ≡ None)
 -- both tasks are ready
 can_be_ready : {o : Offered} {e : Edits} (d : Desk) (s r : List ℕ) (k : ℕ) (t u : Task) (source : List ℕ) →
     Fits d → Good o e (view d) → CanAlternate d s r k t u source →
-    Ready (protocol.lost (view d)) t.handle u.handle k source
+    Ready (sight.lost (view d)) t.handle u.handle k source
 can_be_ready d s r k t u source f g c =
     let is_t : task_of t.handle d.tasks ≡ Some t = found_task (has_name s) d.tasks t f.handles c.sender_is in
     let is_u : task_of u.handle d.tasks ≡ Some u = found_task (has_name r) d.tasks u f.handles c.receiver_is in
@@ -307,7 +310,8 @@ can_be_ready d s r k t u source f g c =
     }
 
 -- a save that was accepted, and polls that are refused nothing
-record IsSavedFor (d : Desk) (s r : List ℕ) (k : ℕ) (leaf : List ℕ) (t u : Task) (source : List ℕ) (id : ℕ) : Type 0 where
+record IsSavedFor (d : Desk) (s r : List ℕ) (k : ℕ) (leaf : List ℕ) (t u : Task) (source : List ℕ)
+    (id : ℕ) : Type 0 where
   pub valid : in_range (command.Save s k r leaf) ≡ true
   pub can : CanAlternate d s r k t u source
   pub accepted : (step d (command.Save s k r leaf)).1 ≡ reply.Sent id
@@ -341,8 +345,8 @@ module _ (d : Desk) (w : IsReached d) (s r : List ℕ) (k : ℕ) (leaf : List �
   abbrev d0 : Desk
   d0 = (step d save).0
 
-  abbrev D : protocol.Desk
-  D = protocol.lost (view d)
+  abbrev D : sight.Desk
+  D = sight.lost (view d)
 
   abbrev o0 : Offered
   o0 = offers_next w.offers d save (step d save).1
@@ -356,8 +360,8 @@ module _ (d : Desk) (w : IsReached d) (s r : List ℕ) (k : ℕ) (leaf : List �
   saved_is : IsSaved d d0 hs hr k id
   saved_is = save_step d s k r leaf t u id fitting c.can.sender_is c.can.receiver_is c.accepted
 
-  seen0 : protocol.lost (view d0) ≡ protocol.saved D hs k hr
-  seen0 = ap protocol.lost saved_is.seen
+  seen0 : sight.lost (view d0) ≡ sight.saved D hs k hr
+  seen0 = ap sight.lost saved_is.seen
 
   tasks0 : Tasks o0 w.edits s r hs hr d0
   tasks0 = record {
@@ -378,13 +382,13 @@ module _ (d : Desk) (w : IsReached d) (s r : List ℕ) (k : ℕ) (leaf : List �
   d1 = (step d0 (command.Poll r)).0
 
   -- the offer is taken
-  began : Began (protocol.picked (protocol.saved D hs k hr) hr (offer D hs hr k) Recorded) hr (offer D hs hr k).letter
-      (protocol.lost (view d1))
+  began : Began (sight.picked (sight.saved D hs k hr) hr (offer D hs hr k) Recorded) hr (offer D hs hr k).letter
+      (sight.lost (view d1))
   began =
       let m = offer D hs hr k in
-      let none = ap (λ (y : protocol.Desk). y.held hr) seen0 ∙ none_held D hs hr k source ready hr in
-      let queue = ap (λ (y : protocol.Desk). y.queue) seen0 ∙ offer_queued D hs hr k source ready in
-      subst (λ (y : protocol.Desk). Began (protocol.picked y hr m Recorded) hr m.letter (protocol.lost (view d1))) seen0
+      let none = ap (λ (y : sight.Desk). y.held hr) seen0 ∙ none_held D hs hr k source ready hr in
+      let queue = ap (λ (y : sight.Desk). y.queue) seen0 ∙ offer_queued D hs hr k source ready in
+      subst (λ (y : sight.Desk). Began (sight.picked y hr m Recorded) hr m.letter (sight.lost (view d1))) seen0
       (save_turn d0 hr m (step d0 (command.Poll r)) (first.turn m none queue refl) (granted d0 (command.Poll r)
       (command.Poll s ∷ turns r s j) c.all) (λ z. let y : Recorded ≡ Acknowledge = z in (cc)) refl)
 
@@ -395,14 +399,15 @@ module _ (d : Desk) (w : IsReached d) (s r : List ℕ) (k : ℕ) (leaf : List �
   room_is = field_is (λ (y : Task). y.buffer) 1 hr d.tasks u (found_task (has_name r) d.tasks u fitting.handles
       c.can.receiver_is)
 
-  ends : Ends o0 w.edits s r p (after d1 (command.Poll s ∷ turns_before r s j)) (after d1 (command.Poll s ∷ turns r s j))
+  ends : Ends o0 w.edits s r p (after d1 (command.Poll s ∷ turns_before r s j))
+      (after d1 (command.Poll s ∷ turns r s j))
   ends =
       let some : 0 < u.buffer = subst (λ n. 0 < n) room_is ready.some in
       let size = room_is in
       let same : j * p.room ≡ j * u.buffer = ap (λ n. j * n) room_is in
       more_turns o0 w.edits s r p j d1 0 (record {
         tasks = next_tasks hr (step d0 (command.Poll r)) tasks0 first;
-        waits = took_first D hs hr k source ready (protocol.lost (view d1)) began;
+        waits = took_first D hs hr k source ready (sight.lost (view d1)) began;
       }) (omega arith) (omega arith) (rest_granted d0 (command.Poll r) (command.Poll s ∷ turns r s j) c.all)
 
   done : EndsDone d0 s r (suc j) hs hr id source
