@@ -6,6 +6,8 @@ mod calls;
 #[cfg(test)]
 mod lists;
 #[cfg(test)]
+mod numbers;
+#[cfg(test)]
 mod same;
 #[cfg(test)]
 mod stores;
