@@ -49,6 +49,7 @@ pub mod SeenRanges
 pub mod SeenBuffers
 pub mod RecordLaws
 pub mod CountLaws
+pub mod HeldCounts
 pub mod NameLaws
 pub mod ScrapLaws
 pub mod SafetyRows

@@ -5,6 +5,7 @@ pub mod Buffers
 pub mod Polls
 pub mod TaskRecords
 pub mod Names
+pub mod Counts
 pub mod ScrapFile
 pub mod Alternation
 pub mod Numbers

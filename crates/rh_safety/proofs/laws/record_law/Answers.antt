@@ -2,6 +2,7 @@ use Rattle.rh_safety.specs.Polls.{CountsFit, LosesNoBlock}
 use Rattle.rh_safety.specs.TaskRecords.{AreRecorded}
 use Rattle.rh_safety.proofs.RecordLaws.{are_recorded}
 use Rattle.rh_safety.proofs.CountLaws.{counts_fit}
+use Rattle.rh_safety.proofs.HeldCounts.{always_counts_held}
 use Rattle.rh_safety.proofs.NameLaws.{always_own_names}
 use Rattle.rh_safety.proofs.SeenDesks.{fits}
 use Rattle.rh_safety.proofs.SeenLaws.{always}
@@ -19,3 +20,6 @@ returns-clause-counts c = always CountsFit (λ d w. counts_fit d w.kept w.good)
 
 pub returns-clause-names : goal.returns-clause-names
 returns-clause-names c = always_own_names
+
+pub returns-clause-held : goal.returns-clause-held
+returns-clause-held c = always_counts_held
