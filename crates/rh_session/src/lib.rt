@@ -9,5 +9,5 @@ mod session;
 mod status;
 
 pub use desktop::Desktop;
-pub use running::{MOST_READS, run_script};
+pub use running::run_script;
 pub use status::{RunFault, Status};

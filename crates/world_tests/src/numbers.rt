@@ -43,22 +43,27 @@ fn saves<R: Abort, S: Store>(rt: &R, world: &mut World<S>, name: &Name) {
     );
 }
 
+/// Starts the task that gets the last handle; another one gets none.
+fn starts<R: Abort, S: Store>(rt: &R, world: &mut World<S>, first: &Name, second: &Name) {
+    same(
+        rt,
+        said(rt, world, &task(first)),
+        Reply::Started(Handle(LAST)),
+    );
+    same(
+        rt,
+        said(rt, world, &task(second)),
+        Reply::Refused(Refusal::NoHandles),
+    );
+}
+
 #[test]
 fn the_last_handle_and_ref_are_given_once(rt: HostRuntime) -> Result<(), Fail> {
     let store = paged_store(rt.alloc())?;
     let files = Files::new(rt.alloc());
     let mut world = World::with_next(rt.alloc(), store, files, Handle(LAST), Ref(LAST))?;
     let (first, second) = (name(b"a")?, name(b"b")?);
-    same(
-        &rt,
-        said(&rt, &mut world, &task(&first)),
-        Reply::Started(Handle(LAST)),
-    );
-    same(
-        &rt,
-        said(&rt, &mut world, &task(&second)),
-        Reply::Refused(Refusal::NoHandles),
-    );
+    starts(&rt, &mut world, &first, &second);
     saves(&rt, &mut world, &first);
     Ok(())
 }
