@@ -16,8 +16,8 @@ use Rattle.rh_safety.proofs.Basics.{length_more, put_same, put_other, same_value
 use Rattle.rh_safety.proofs.Basics.{and_left, and_right, is_equal, take_more, Ascend, with_puts, with_ascends}
 use Rattle.rh_safety.proofs.Basics.{more_keeps, more_puts, more_ascends}
 use Rattle.rh_safety.proofs.Invariant.{LetterAck, LetterFile, Offered, Knows, Below, Offers, LetterOut, LetterIn}
-use Rattle.rh_safety.proofs.Invariant.{LetterCarries, LetterOlder, LetterAhead, Carries, Begins, Whole, Untouched}
-use Rattle.rh_safety.proofs.Invariant.{IsGood, Unread, Inv, IsWaiting, PendingAt, Good}
+use Rattle.rh_safety.proofs.Invariant.{LetterCarries, LetterOlder, LetterAhead, Carries, Counted, AtMost, Begins, Whole, Untouched}
+use Rattle.rh_safety.proofs.Invariant.{at_most, IsGood, Unread, Inv, IsWaiting, PendingAt, Good}
 use Rattle.rh_safety.proofs.Moves.{Move, OutOk, BothOutOk, move_with, move_more, outs_move, boths_out}
 use Rattle.rh_safety.proofs.Sends.{few_put, few_here, few_with, sent_knows, put_ascends, order_out, one_active}
 use Rattle.rh_safety.proofs.Sends.{KeepsActive, Quiet, NewOut, out_inv, out_pending, NewFetch, fetch_inv}
@@ -221,6 +221,7 @@ grown_block d h t n = put d.block h (put (d.block h) t.anchor (Some (bytes_of (d
 record Grown (o : Offered) (e : ℕ → ℕ → Bool) (d : Desk) (h : ℕ) (t : Taking) (n : ℕ) : Type 0 where
   begins : Begins o t.id (t.count + n) (grown_block d h t n h t.anchor)
   short : n < d.buf h → Whole o t.id (grown_block d h t n h t.anchor)
+  last : n < d.buf h → Counted o t.id (t.count + n)
   sources : (s : ℕ) (x : Sending) → Has (Open x) (d.sending s) → grown_block d h t n s x.anchor ≡ d.block s x.anchor
   same : (r : ℕ) (w : In) → Has w (d.taking r) → (r ≡ h → in_id w ≢ t.id) → Untouched (e r) w →
       grown_block d h t n r (in_anchor w) ≡ d.block r (in_anchor w)
@@ -256,6 +257,7 @@ grown {o} {e} {d} h t l i is c =
         there = there ∙ ap (λ (x : List ℕ). Option.Some x)
             (eq ∙ take_whole (t.count + n) all (c.short less ∙ ap length same));
       };
+      last = λ less. record { all = all; offered = doc.offered; whole = c.short less ∙ ap length same };
       sources = λ s x q. put2_other d.block h t.anchor (Some new) s x.anchor (λ here. i.boths.apart h x (Fetching t)
           (subst (λ j. Has (Open x) (d.sending j)) here q) is refl);
       same = λ r w q ne u. put2_other d.block h t.anchor (Some new) r (in_anchor w) (λ here eq.
@@ -269,9 +271,9 @@ end_of : {o : Offered} {e : ℕ → ℕ → Bool} {d : Desk} (bl : ℕ → ℕ �
     ((s : ℕ) (x : Sending) → Has (Open x) (d.sending s) → bl s x.anchor ≡ d.block s x.anchor) →
     ((r : ℕ) (w : In) → Has w (d.taking r) → (r ≡ h → in_id w ≢ i) → Untouched (e r) w → bl r (in_anchor w) ≡ d.block
     r (in_anchor w)) →
-    (e h i ≡ false → Begins o i n (bl h a)) → ((u : In) → Has u (d.taking h) → is_growing u ≡ true → in_id u ≢ i →
+    (e h i ≡ false → Begins o i n (bl h a)) → AtMost o i n → ((u : In) → Has u (d.taking h) → is_growing u ≡ true → in_id u ≢ i →
     e h i ≡ false → a ≢ in_anchor u) → Ends o e d bl h i (In_failed i a n)
-end_of bl h i a n was has was_id inv sources same good beside = record {
+end_of bl h i a n was has was_id inv sources same good counted beside = record {
   same_id = refl;
   over = refl;
   was = was;
@@ -282,6 +284,7 @@ end_of bl h i a n was has was_id inv sources same good beside = record {
   sources = sources;
   same = same;
   good = good;
+  counted = counted;
   beside = beside;
 }
 
@@ -290,9 +293,9 @@ done_of : {o : Offered} {e : ℕ → ℕ → Bool} {d : Desk} (bl : ℕ → ℕ 
     ((s : ℕ) (x : Sending) → Has (Open x) (d.sending s) → bl s x.anchor ≡ d.block s x.anchor) →
     ((r : ℕ) (w : In) → Has w (d.taking r) → (r ≡ h → in_id w ≢ i) → Untouched (e r) w → bl r (in_anchor w) ≡ d.block
     r (in_anchor w)) →
-    Whole o i (bl h a) → ((u : In) → Has u (d.taking h) → is_growing u ≡ true → in_id u ≢ i → a ≢ in_anchor u) →
+    Whole o i (bl h a) → Counted o i n → ((u : In) → Has u (d.taking h) → is_growing u ≡ true → in_id u ≢ i → a ≢ in_anchor u) →
     Ends o e d bl h i (In_done i a n)
-done_of bl h i a n was has was_id inv sources same good beside = record {
+done_of bl h i a n was has was_id inv sources same good counted beside = record {
   same_id = refl;
   over = refl;
   was = was;
@@ -303,6 +306,7 @@ done_of bl h i a n was has was_id inv sources same good beside = record {
   sources = sources;
   same = same;
   good = λ u. good;
+  counted = counted;
   beside = λ u q y ne f. beside u q y ne;
 }
 
@@ -325,7 +329,7 @@ module _ {o : Offered} {e : ℕ → ℕ → Bool} {d : Desk} (h : ℕ) (t : Taki
       let w = grown {e = e} h t l g.inv is carries_here in
       ended_good (grown_block d h t l.amount) h t (In_failed t.id t.anchor (t.count + l.amount)) (inl is) here_quiet
       (end_of (grown_block d h t l.amount) h t.id t.anchor (t.count + l.amount) (Fetching t) is refl g.inv w.sources
-      w.same (λ u. w.begins) (λ u q y ne f. beside_growing h (Fetching t) g.inv is tt u q y ne)) g
+      w.same (λ u. w.begins) (at_most w.begins) (λ u q y ne f. beside_growing h (Fetching t) g.inv is tt u q y ne)) g
 
   -- the bytes are in the document, and the next fetch is sent
   pub fetched_good : Good o e (fetched (longer d h t l.amount) h t l.amount l.me)
@@ -384,7 +388,7 @@ module _ {o : Offered} {e : ℕ → ℕ → Bool} {d : Desk} (h : ℕ) (t : Taki
       let w = grown {e = e} h t l g.inv is carries_here in
       ended_good (grown_block d h t l.amount) h t (In_done t.id t.anchor (t.count + l.amount)) (inl is) here_quiet
       (done_of (grown_block d h t l.amount) h t.id t.anchor (t.count + l.amount) (Fetching t) is refl g.inv w.sources
-      w.same (w.short less) (beside_growing h (Fetching t) g.inv is tt)) g
+      w.same (w.short less) (w.last less) (beside_growing h (Fetching t) g.inv is tt)) g
 
 -- a Draining record, or one whose fetch is back, fails with the bytes that it has
 pub given_up_good : {o : Offered} {e : ℕ → ℕ → Bool} {d : Desk} (h : ℕ) (t : Taking) → Good o e d →
@@ -392,11 +396,11 @@ pub given_up_good : {o : Offered} {e : ℕ → ℕ → Bool} {d : Desk} (h : ℕ
 given_up_good {o} {e} {d} h t g (inl is) quiet =
     ended_good d.block h t (In_failed t.id t.anchor t.count) (inl is) quiet
     (end_of d.block h t.id t.anchor t.count (Fetching t) is refl g.inv (λ s x q. refl) (λ r w q ne u. refl) (λ u.
-    g.inv.ins.good h (Fetching t) is tt) (λ u q y ne f. beside_growing h (Fetching t) g.inv is tt u q y ne)) g
+    g.inv.ins.good h (Fetching t) is tt) (g.inv.ins.counted h (Fetching t) is) (λ u q y ne f. beside_growing h (Fetching t) g.inv is tt u q y ne)) g
 given_up_good {o} {e} {d} h t g (inr is) quiet =
     ended_good d.block h t (In_failed t.id t.anchor t.count) (inr is) quiet
     (end_of d.block h t.id t.anchor t.count (Draining t) is refl g.inv (λ s x q. refl) (λ r w q ne u. refl) (λ u.
-    g.inv.ins.good h (Draining t) is u) (λ u q y ne f. beside_growing h (Draining t) g.inv is f u q y ne)) g
+    g.inv.ins.good h (Draining t) is u) (g.inv.ins.counted h (Draining t) is) (λ u q y ne f. beside_growing h (Draining t) g.inv is f u q y ne)) g
 
 -- ---- messages that came back
 
@@ -448,7 +452,7 @@ pub unasked_good : {o : Offered} {e : ℕ → ℕ → Bool} {d : Desk} (h : ℕ)
 unasked_good {o} {e} {d} h q is g =
     asked_over d.block h q (In_failed q.id q.anchor 0) is
     (end_of d.block h q.id q.anchor 0 (Asking q) is refl g.inv (λ s x p. refl) (λ r w p ne u. refl) (λ u.
-    g.inv.ins.good h (Asking q) is tt) (λ u p y ne f. beside_growing h (Asking q) g.inv is tt u p y ne)) g
+    g.inv.ins.good h (Asking q) is tt) (g.inv.ins.counted h (Asking q) is) (λ u p y ne f. beside_growing h (Asking q) g.inv is tt u p y ne)) g
 
 -- the source becomes the scrap file
 pub filed_good : {o : Offered} {e : ℕ → ℕ → Bool} {d : Desk} (h : ℕ) (l : Letter) (x : Sending) (bytes : List ℕ) →
@@ -596,7 +600,7 @@ module _ {o : Offered} {e : ℕ → ℕ → Bool} {d : Desk} (h : ℕ) (l : Lett
       let handle = rd.handle in
       let g1 = lost_good (asked_over with_file h q (In_done q.id q.anchor (length bytes)) is
       (done_of with_file h q.id q.anchor (length bytes) (Asking q) is refl g.inv file_sources file_same
-      (record { all = bytes; offered = of; there = file_there }) (beside_growing h (Asking q) g.inv is tt)) g) in
+      (record { all = bytes; offered = of; there = file_there }) (record { all = bytes; offered = of; whole = refl }) (beside_growing h (Asking q) g.inv is tt)) g) in
       tell_good h (record {
         code = Plain;
         to = q.sender;
@@ -632,5 +636,5 @@ module _ {o : Offered} {e : ℕ → ℕ → Bool} {d : Desk} (h : ℕ) (l : Lett
         there = file_there ∙ ap (λ (b : List ℕ). Option.Some b)
             (sym (take_whole (length bytes) bytes refl));
         fits = omega arith;
-      }) (λ u p y ne f. beside_growing h (Asking q)
+      }) (record { all = bytes; offered = of; fits = omega arith }) (λ u p y ne f. beside_growing h (Asking q)
       g.inv is tt u p y ne)) g)

@@ -10,7 +10,7 @@ use Rattle.rh_safety.proofs.Sight.{Desk, sent, ended, asked}
 use Rattle.rh_safety.proofs.Basics.{put_same, put_other, same_value}
 use Rattle.rh_safety.proofs.Basics.{one_of_id, with_keeps, with_puts, with_ascends}
 use Rattle.rh_safety.proofs.Invariant.{Offered, Knows, known_by}
-use Rattle.rh_safety.proofs.Invariant.{Begins, Untouched, IsGood, Unread, Inv}
+use Rattle.rh_safety.proofs.Invariant.{Begins, Counts, Untouched, IsGood, Unread, Inv}
 use Rattle.rh_safety.proofs.Invariant.{Asks, Good}
 use Rattle.rh_safety.proofs.Moves.{letters_more, outs_more, ins_more, boths_more, letters_bump, outs_bump, ins_bump}
 use Rattle.rh_safety.proofs.Moves.{Move, outs_less, HoldOk, ins_move, move_active, move_with}
@@ -79,6 +79,7 @@ pub record Ends (o : Offered) (e : ℕ → ℕ → Bool) (d : Desk) (bl : ℕ �
     pub same : (r : ℕ) (w : In) → Has w (d.taking r) → (r ≡ h → in_id w ≢ in_id v) → Untouched (e r) w →
         bl r (in_anchor w) ≡ d.block r (in_anchor w)
     pub good : Untouched (e h) v → IsGood o v (bl h (in_anchor v))
+    pub counted : Counts o v
     pub beside : (u : In) → Has u (d.taking h) → is_growing u ≡ true → in_id u ≢ in_id v → Untouched (e h) v →
         in_anchor v ≢ in_anchor u
 
@@ -109,6 +110,7 @@ end_inv {o} {e} {d} bl h j v n i =
       ins = ins_move new bl h v mv n.same (record {
         holds = n.holds;
         good = n.good;
+        counted = n.counted;
         beside = n.beside;
         documents = λ y. absurd (going_on v v n.over refl (growing_goes v y));
       }) i.ins;
@@ -305,6 +307,7 @@ asked_good {o} {e} {d} h t is none handle quiet g =
                   ap (λ k. Option.Some (take k doc.all)) none;
               fits = omega arith;
             };
+            counted = record { all = doc.all; offered = doc.offered; fits = omega arith };
             beside = λ u y z ne w eq. ne (sym (i.ins.documents h u (Fetching t) y z is tt eq));
             documents = λ y w p u ne eq. ne (i.ins.documents h (Fetching t) w is refl p u eq);
           }) (ins_bump (omega arith) i.ins));
@@ -378,6 +381,7 @@ drained_good {o} {e} {d} h t here g =
                 buffers = λ u a ne eq. ne (i.ins.buffers h u t a act eq);
               };
               good = λ u. i.ins.good h (Fetching t) here tt;
+              counted = i.ins.counted h (Fetching t) here;
               beside = λ u q y ne w eq. ne (sym (i.ins.documents h u (Fetching t) q y here tt eq));
               documents = λ y. absurd (let z : Bool.false ≡ true = y in (cc));
             }) i.ins;
@@ -444,6 +448,7 @@ write_inv {o} {e} {d} r t old bytes act is same none i =
               };
         };
         good = n.good;
+        counted = n.counted;
         buffer = λ j u q.
             let w = n.buffer j u q in
             elim (eqb_tells j r) [

@@ -1,37 +1,47 @@
--- What is held has as many bytes as its record counts.
-use Rattle.std.proofs.Common.{◌≡◌, ℕ, ◌≤◌, Bool, true, false, List, [], length, take, Option, Some, None, refl, sym, ap, ◌∙◌, subst}
+-- What is held has as many bytes as its record counts, and a record counts no more than was offered.
+use Rattle.std.proofs.Common.{◌≡◌, ℕ, ◌≤◌, Bool, true, false, List, [], length, take, Option, Some, None, refl, sym, ap}
+use Rattle.std.proofs.Common.{◌∙◌, subst, arith}
 use Rattle.std.specs.Prelude.{◌==◌, find}
+use Rattle.std.specs.List.{Contains}
+use Rattle.rh_defs.specs.declared.command.Command.{Command}
 use Rattle.rh_defs.specs.declared.transfer.Incoming.{Incoming}
 use Rattle.rh_defs.specs.declared.transfer.Incoming.TheVariants as incoming
 use Rattle.rh_defs.specs.Records.{in_id}
 use Rattle.rh_defs.specs.Desk.{Desk, Task, task_at}
 use Rattle.rh_defs.specs.Runs.{start_with, after}
-use Rattle.rh_safety.specs.Offered.{bytes_of_block}
+use Rattle.rh_safety.specs.Offered.{bytes_of_block, offered}
 use Rattle.rh_safety.specs.Held.{in_anchor, document_of, held_of}
-use Rattle.rh_safety.specs.Counts.{counted_in, AlwaysCountsHeld}
+use Rattle.rh_safety.specs.Counts.{counted_in, AlwaysCounts, CountsHeld, CountsFile, CountsOffered}
 use Rattle.rh_safety.proofs.View.{view, blocks_of}
 use Rattle.rh_safety.proofs.Ends.{Has}
-use Rattle.rh_safety.proofs.Basics.{first_is, is_equal, length_take}
-use Rattle.rh_safety.proofs.Invariant.{Offered, Untouched, IsGood, Good}
+use Rattle.rh_safety.proofs.Basics.{first_is, has_of, is_equal, length_take, same_value}
+use Rattle.rh_safety.proofs.Invariant.{Offered, Counts, Untouched, IsGood, Good}
 use Rattle.rh_safety.proofs.SeenLaws.{block_is, good_after}
 use Rattle.rh_safety.proofs.SeenTasks.{field_is}
 
 -- a front of n bytes, of a file that has so many
-front_counts : (n m : ℕ) (all got : List ℕ) → n ≤ length all → Option.Some (take n all) ≡ Some got → Option.Some n ≡ Some m →
-    length got ≡ m
-front_counts n m all got fits same is =
+front_counts : (n : ℕ) (all got : List ℕ) → n ≤ length all → Option.Some (take n all) ≡ Some got → length got ≡ n
+front_counts n all got fits same =
     let bytes : take n all ≡ got = cc in
-    let count : n ≡ m = cc in
-    ap (λ (v : List ℕ). length v) (sym bytes) ∙ length_take n all fits ∙ count
+    ap (λ (v : List ℕ). length v) (sym bytes) ∙ length_take n all fits
+
+-- the whole of a file that has n bytes
+whole_counts : (o : Option (List ℕ)) (n : ℕ) (all file got : List ℕ) → o ≡ Some all → o ≡ Some file → n ≡ length file →
+    Option.Some all ≡ Some got → length got ≡ n
+whole_counts o n all file got p q is same =
+    let bytes : all ≡ got = cc in
+    let one : all ≡ file = same_value o p q in
+    ap (λ (v : List ℕ). length v) (sym bytes ∙ one) ∙ sym is
 
 -- the document of a record that no edit came to
-record_counts : (o : Offered) (w : Incoming) (bytes : Option (List ℕ)) (got : List ℕ) (n : ℕ) → IsGood o w bytes →
-    bytes ≡ Some got → counted_in w ≡ Some n → length got ≡ n
-record_counts o (incoming.Fetching f) bytes got n g q is = front_counts f.count n g.all got g.fits (sym g.there ∙ q) is
-record_counts o (incoming.Draining f) bytes got n g q is = front_counts f.count n g.all got g.fits (sym g.there ∙ q) is
-record_counts o (incoming.Asking a) bytes got n g q is = front_counts 0 n g.all got g.fits (sym g.there ∙ q) is
-record_counts o (incoming.Failed i a k) bytes got n g q is = front_counts k n g.all got g.fits (sym g.there ∙ q) is
-record_counts o (incoming.Done i a k) bytes got n g q is = absurd cc
+record_counts : (o : Offered) (w : Incoming) (bytes : Option (List ℕ)) (got : List ℕ) → IsGood o w bytes → Counts o w →
+    bytes ≡ Some got → length got ≡ counted_in w
+record_counts o (incoming.Fetching f) bytes got g c q = front_counts f.count g.all got g.fits (sym g.there ∙ q)
+record_counts o (incoming.Draining f) bytes got g c q = front_counts f.count g.all got g.fits (sym g.there ∙ q)
+record_counts o (incoming.Asking a) bytes got g c q = front_counts 0 g.all got g.fits (sym g.there ∙ q)
+record_counts o (incoming.Failed i a k) bytes got g c q = front_counts k g.all got g.fits (sym g.there ∙ q)
+record_counts o (incoming.Done i a k) bytes got g c q =
+    whole_counts (o i) k g.all c.all got g.offered c.offered c.whole (sym g.there ∙ q)
 
 untouched : (e : ℕ → Bool) (w : Incoming) → e (in_id w) ≡ false → Untouched e w
 untouched e (incoming.Fetching f) q = tt
@@ -50,23 +60,45 @@ shown_by : (t : Task) (w : Incoming) (edited : Bool) (got : List ℕ) → docume
 shown_by t w true got q = absurd (let z : None ≡ Some got = q in cc)
 shown_by t w false got q = record { clean = refl; there = q }
 
-module _ {o : Offered} {e : ℕ → ℕ → Bool} (d : Desk) (g : Good o e (view d)) (id h n : ℕ) (got : List ℕ) (t : Task)
-    (w : Incoming) where
-  held_counts : held_of (task_at h d) id (e h id) ≡ Some got → task_at h d ≡ Some t →
-      find (λ (r : Incoming). in_id r == id) t.taking ≡ Some w → counted_in w ≡ Some n → length got ≡ n
-  held_counts q at found is =
+module _ {o : Offered} {e : ℕ → ℕ → Bool} (d : Desk) (g : Good o e (view d)) (h : ℕ) (t : Task) (w : Incoming)
+    (at : task_at h d ≡ Some t) where
+  seen : Has w t.taking → Has w ((view d).taking h)
+  seen has = subst (λ (y : List Incoming). Has w y) (sym (field_is (λ y. y.taking) [] h d.tasks t at)) has
+
+  held_counts : (id : ℕ) (got : List ℕ) → held_of (task_at h d) id (e h id) ≡ Some got →
+      find (λ (r : Incoming). in_id r == id) t.taking ≡ Some w → length got ≡ counted_in w
+  held_counts id got q found =
       let one : document_of t (e h id) (find (λ (r : Incoming). in_id r == id) t.taking) ≡ Some got =
       ap (λ (v : Option Task). held_of v id (e h id)) (sym at) ∙ q in
       let s = shown_by t w (e h id) got (ap (document_of t (e h id)) (sym found) ∙ one) in
       let which = first_is (λ (r : Incoming). in_id r == id) t.taking w found in
-      let has : Has w ((view d).taking h) = subst (λ (y : List Incoming). Has w y)
-      (sym (field_is (λ y. y.taking) [] h d.tasks t at)) which.0 in
+      let has = seen which.0 in
       let clean : e h (in_id w) ≡ false = ap (e h) (is_equal _ _ which.1) ∙ s.clean in
       let there : (view d).block h (in_anchor w) ≡ Some got =
       ap (λ (f : ℕ → Option (List ℕ)). f (in_anchor w)) (field_is (λ y. blocks_of y.slot) (λ a. None) h d.tasks t at) ∙
       block_is t.slot (in_anchor w) ∙ s.there in
-      record_counts o w ((view d).block h (in_anchor w)) got n (g.inv.ins.good h w has (untouched (e h) w clean)) there is
+      record_counts o w ((view d).block h (in_anchor w)) got (g.inv.ins.good h w has (untouched (e h) w clean))
+      (g.inv.ins.counted h w has) there
 
-pub always_counts_held : AlwaysCountsHeld
-always_counts_held pool handle ref files cs from ranged id h n got t w q at found is =
-    held_counts (after (start_with pool files handle ref) cs) (good_after pool handle ref files cs from ranged) id h n got t w q at found is
+  offered_counts : Contains t.taking w → Counts o w
+  offered_counts has = g.inv.ins.counted h w (seen (has_of t.taking w has))
+
+pub always_counts_held : AlwaysCounts CountsHeld
+always_counts_held pool handle ref files cs from ranged id h got t w q at found =
+    held_counts (after (start_with pool files handle ref) cs) (good_after pool handle ref files cs from ranged) h t w at
+    id got q found
+
+-- ---- beside what was offered
+
+file_counts : (d : Desk) (cs : List Command) (w : Incoming) → Counts (offered d cs) w → CountsFile d cs w
+file_counts d cs (incoming.Fetching f) c = record { file = c.all; is = c.offered; most = c.fits; all = λ no. absurd cc }
+file_counts d cs (incoming.Draining f) c = record { file = c.all; is = c.offered; most = c.fits; all = λ no. absurd cc }
+file_counts d cs (incoming.Asking q) c = record { file = c.all; is = c.offered; most = c.fits; all = λ no. absurd cc }
+file_counts d cs (incoming.Failed i a k) c = record { file = c.all; is = c.offered; most = c.fits; all = λ no. absurd cc }
+file_counts d cs (incoming.Done i a k) c =
+    let whole = c.whole in record { file = c.all; is = c.offered; most = omega arith; all = λ yes. whole }
+
+pub always_counts_offered : AlwaysCounts CountsOffered
+always_counts_offered pool handle ref files cs from ranged h t w at has =
+    let d = start_with pool files handle ref in
+    file_counts d cs w (offered_counts (after d cs) (good_after pool handle ref files cs from ranged) h t w at has)

@@ -88,11 +88,29 @@ pub record Begins (o : Offered) (id n : ℕ) (bytes : Option (List ℕ)) : Type 
   pub there : bytes ≡ Some (take n all)
   pub fits : n ≤ length all
 
+-- a count of no more than what was offered
+pub record AtMost (o : Offered) (id n : ℕ) : Type 0 where
+  pub all : List ℕ
+  pub offered : o id ≡ Some all
+  pub fits : n ≤ length all
+
+-- what a record counts, whatever came to its document since
+abbrev pub Counts : Offered → In → Type 0
+Counts o (Fetching t) = AtMost o t.id t.count
+Counts o (Draining t) = AtMost o t.id t.count
+Counts o (Asking q) = AtMost o q.id 0
+Counts o (In_done i a n) = Counted o i n
+Counts o (In_failed i a n) = AtMost o i n
+
 -- the document is all of it
 pub record Whole (o : Offered) (id : ℕ) (bytes : Option (List ℕ)) : Type 0 where
   pub all : List ℕ
   pub offered : o id ≡ Some all
   pub there : bytes ≡ Some all
+
+-- the first n bytes of what was offered are no more than that
+pub at_most : {o : Offered} {id n : ℕ} {bytes : Option (List ℕ)} → Begins o id n bytes → AtMost o id n
+at_most b = record { all = b.all; offered = b.offered; fits = b.fits }
 
 -- no edit came to the document
 abbrev pub Untouched : (ℕ → Bool) → In → Type 0
@@ -136,6 +154,7 @@ pub record Ins (K : Letter → Type 0) (o : Offered) (e : ℕ → ℕ → Bool) 
   pub carries : (l : Letter) → K l → (r : ℕ) (t : Taking) → Has (Fetching t) (taking r) →
       LetterCarries o l t (heap r) (buf r)
   pub good : (r : ℕ) (w : In) → Has w (taking r) → Untouched (e r) w → IsGood o w (block r (in_anchor w))
+  pub counted : (r : ℕ) (w : In) → Has w (taking r) → Counts o w
   pub buffer : (r : ℕ) (t : Taking) → Active (taking r) t → HasBuffer t (heap r) (buf r) next
   pub buffers : (r : ℕ) (t u : Taking) → Active (taking r) t → Active (taking r) u → t.buffer ≡ u.buffer → t.id ≡ u.id
   pub documents : (r : ℕ) (v w : In) → Has v (taking r) → is_growing v ≡ true → Has w (taking r) → Untouched (e r) w →

@@ -8,7 +8,7 @@ use Rattle.rh_safety.proofs.Ends.{Active, put, with_id, one_more}
 use Rattle.rh_safety.proofs.Sight.{Scrap}
 use Rattle.rh_safety.proofs.Basics.{none_some, with_old, more_old}
 use Rattle.rh_safety.proofs.Invariant.{LetterAck, LetterFile, Loads, Offered, Below, Offers, LetterOut, LetterIn}
-use Rattle.rh_safety.proofs.Invariant.{LetterCarries, LetterOlder, LetterAhead, Source, Counted, Begins, Untouched}
+use Rattle.rh_safety.proofs.Invariant.{LetterCarries, LetterOlder, LetterAhead, Source, Counted, AtMost, Counts, Begins, Untouched}
 use Rattle.rh_safety.proofs.Invariant.{IsGood, HasBuffer, Letters, Outs, Ins, Boths}
 
 -- ---- which letters are known
@@ -54,6 +54,7 @@ ins_more {K} {L} {o} {e} {taking} {block} {heap} {buf} n f new1 new2 i = record 
         (buf r)) (sym a) (new2 r t q)
   ];
   good = i.good;
+  counted = i.counted;
   buffer = i.buffer;
   buffers = i.buffers;
   documents = i.documents;
@@ -95,6 +96,7 @@ ins_fewer f i = record {
   letter = λ l k. i.letter l (f l k);
   carries = λ l k. i.carries l (f l k);
   good = i.good;
+  counted = i.counted;
   buffer = i.buffer;
   buffers = i.buffers;
   documents = i.documents;
@@ -141,6 +143,7 @@ ins_bump le i = record {
   letter = i.letter;
   carries = i.carries;
   good = i.good;
+  counted = i.counted;
   buffer = λ r t q. let w = i.buffer r t q in record {
     bytes = w.bytes;
     there = w.there;
@@ -165,6 +168,16 @@ good_grow (Draining t) b g z = begins_grow g z
 good_grow (Asking q) b g z = begins_grow g z
 good_grow (In_done i a n) b g z = record { all = z.all; offered = g _ _ z.offered; there = z.there }
 good_grow (In_failed i a n) b g z = begins_grow g z
+
+at_most_grow : {o p : Offered} {id n : ℕ} → Grows o p → AtMost o id n → AtMost p id n
+at_most_grow g z = record { all = z.all; offered = g _ _ z.offered; fits = z.fits }
+
+counts_grow : {o p : Offered} (w : In) → Grows o p → Counts o w → Counts p w
+counts_grow (Fetching t) g z = at_most_grow g z
+counts_grow (Draining t) g z = at_most_grow g z
+counts_grow (Asking q) g z = at_most_grow g z
+counts_grow (In_done i a n) g z = record { all = z.all; offered = g _ _ z.offered; whole = z.whole }
+counts_grow (In_failed i a n) g z = at_most_grow g z
 
 pub letters_grow : {K : Lets} {o p : Offered} {next handle : ℕ} → Grows o p → Letters K o next handle →
     Letters K p next handle
@@ -208,6 +221,7 @@ ins_grow g i = record {
     };
   };
   good = λ r w q u. good_grow w _ g (i.good r w q u);
+  counted = λ r w q. counts_grow w g (i.counted r w q);
   buffer = i.buffer;
   buffers = i.buffers;
   documents = i.documents;
@@ -341,6 +355,7 @@ pub record InOk (K : Lets) (o : Offered) (e : ℕ → ℕ → Bool) (taking : �
     Option (List ℕ)) (buf : ℕ → ℕ) (next h : ℕ) (v : In) : Type 0 where
   pub holds : HoldOk K o taking heap buf next h v
   pub good : Untouched (e h) v → IsGood o v (block h (in_anchor v))
+  pub counted : Counts o v
   pub beside : (u : In) → Has u (taking h) → is_growing u ≡ true → in_id u ≢ in_id v → Untouched (e h) v →
       in_anchor v ≢ in_anchor u
   pub documents : is_growing v ≡ true → (w : In) → Has w (taking h) → Untouched (e h) w → in_id w ≢ in_id v →
@@ -395,6 +410,7 @@ ins_move {K} {o} {e} {taking} {block} {heap} {buf} {next} new bl h v m same ok i
         | inl a ↦ subst (λ z. IsGood o w z) (sym (same r w a.0 a.1 u)) (i.good r w a.0 u)
         | inr a ↦ (at r w a.0 a.1).good u
       ];
+      counted = λ r w q. elim (m r w q) [ inl a ↦ i.counted r w a.0 | inr a ↦ (at r w a.0 a.1).counted ];
       buffer = λ r t q. elim (move_active taking new h v m r t q) [
         | inl a ↦ i.buffer r t a.0
         | inr a ↦ (here r t a.0
@@ -451,6 +467,7 @@ ins_less {K} {o} {e} {taking} {block} {heap} {buf} {next} e' new bl hp f c i =
             };
       };
       good = λ r w q u. subst (λ z. IsGood o w z) (sym (c.blocks r w q u)) (i.good r w (f r w q) (c.before r w q u));
+      counted = λ r w q. i.counted r w (f r w q);
       buffer = λ r t q. let w = i.buffer r t (act r t q) in record {
         bytes = w.bytes;
         there = c.heaps r t q ∙ w.there;

@@ -453,6 +453,7 @@ blank_inv {o} {e} {d} h buf bl hp pos i =
         carries = λ l k r t q. subst (λ b. LetterCarries o l t (put d.heap h hp r) b) (same r t (inl q))
             (n.carries l k r t q);
         good = n.good;
+        counted = n.counted;
         buffer = λ r t q. subst (λ b. HasBuffer t (put d.heap h hp r) b d.next_ref) (same r t q) (n.buffer r t q);
         buffers = n.buffers;
         documents = n.documents;

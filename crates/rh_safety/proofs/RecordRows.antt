@@ -1,5 +1,5 @@
 -- Worked runs of what records name, and runs with one definition changed, on which record_law or scrap_law fails.
-use Rattle.std.specs.Prelude.{◌≡◌, refl, ℕ, ◌==◌, if◌then◌else◌, List, [], ◌∷◌, length, map, codes, Option, Some, None, Ok}
+use Rattle.std.specs.Prelude.{◌≡◌, refl, ℕ, Bool, true, false, ◌==◌, if◌then◌else◌, List, [], ◌∷◌, length, map, codes, Option, Some, None, Ok}
 use Rattle.std.specs.List.{filter_map}
 use Rattle.std.specs.Option.{option_map}
 use Rattle.hex.proofs.OnLiterals.{hex_on_literals}
@@ -10,6 +10,7 @@ use Rattle.rh_defs.specs.declared.command.Manner.TheVariants as manner
 use Rattle.rh_defs.specs.declared.command.Command.TheVariants as command
 use Rattle.rh_defs.specs.declared.reply.Outcome.TheVariants as outcome
 use Rattle.rh_defs.specs.declared.transfer.Sending.{Sending}
+use Rattle.rh_defs.specs.declared.transfer.Asked.{Asked}
 use Rattle.rh_defs.specs.declared.transfer.Outgoing.{Outgoing}
 use Rattle.rh_defs.specs.declared.transfer.Outgoing.TheVariants as outgoing
 use Rattle.rh_defs.specs.declared.transfer.Incoming.{Incoming}
@@ -21,17 +22,20 @@ use Rattle.rh_defs.specs.Messages.{Parcel}
 use Rattle.rh_defs.specs.Letters.{fetch_letter, load_letter}
 use Rattle.rh_defs.specs.Sender as sender
 use Rattle.rh_defs.specs.Receiver as receiver
+use Rattle.rh_defs.specs.Records.{in_id}
 use Rattle.rh_defs.specs.Places.{free_anchor}
 use Rattle.rh_defs.specs.Desk.{Desk, Task, Scrap, next_ref, free_pages, task_at, with_slot, with_sending, with_taking}
 use Rattle.rh_defs.specs.Desk.{send_letter}
 use Rattle.rh_defs.specs.Commands.{with_new_task}
 use Rattle.rh_defs.specs.OutgoingEvents.{Handled, ignored, refused, scrap_shortage, wider}
+use Rattle.rh_defs.specs.IncomingEvents.{appended, loaded}
 use Rattle.rh_defs.specs.Runs.{after}
 use Rattle.rh_defs.specs.Script
 use Rattle.rh_safety.specs.Offered.{bytes_of_block}
 use Rattle.rh_safety.specs.Buffers.{bytes_of_buffer, failed_by}
 use Rattle.rh_safety.proofs.SafetyRows.{fresh, script}
-use Rattle.rh_safety.proofs.WrongBodies.{Rules, landed, run_of, step_by}
+use Rattle.rh_safety.specs.Counts.{counted_in, is_done}
+use Rattle.rh_safety.proofs.WrongBodies.{Rules, Run, landed, run_of, step_by}
 
 -- a record that fetches: its count, the length of its document, and that of its buffer
 abbrev Measured : Type 0
@@ -98,6 +102,54 @@ wrong_poll = refl
 right_poll : poll_fails landed answered "b" ≡ None
 unfolding Script.computing hex_on_literals
 right_poll = refl
+
+-- ---- counts
+
+-- of each transfer that comes in: whether it is Done, what its record counts, and how many bytes were offered
+abbrev counts : Rules → List String → ℕ → List (Bool × ℕ × Option ℕ)
+counts rules lines h = let r = run_of rules lines in map (λ w. (is_done w, counted_in w, offered_length r (in_id w)))
+    (taking_of (task_at h r.desk))
+  where
+    taking_of : Option Task → List Incoming
+    taking_of None = []
+    taking_of (Some t) = t.taking
+
+    offered_length : Run → ℕ → Option ℕ
+    offered_length r id = option_map (λ (bytes : List ℕ). length bytes) (r.offers id)
+
+-- one transfer ends and its document grows; another is given up after four bytes
+abbrev done_and_failed : List String
+done_and_failed = "task a 4" ∷ "task b 4" ∷ "alloc a 0 6" ∷ "save a 0 b x" ∷ "poll b" ∷ "poll a" ∷ "poll b" ∷ "poll a"
+    ∷ "poll b" ∷ "extend b 0 9" ∷ "save a 0 b y" ∷ "poll b" ∷ "poll a" ∷ "poll b" ∷ "cancel b in" ∷ []
+
+right_counts : counts landed done_and_failed 2 ≡ (true, 6, Some 6) ∷ (false, 4, Some 6) ∷ []
+unfolding Script.computing hex_on_literals
+right_counts = refl
+
+-- a receiver that counts no byte of the file that it loads
+abbrev loads_uncounted : Desk → Task → Parcel → Option Asked → Option Scrap → Handled
+loads_uncounted d t m (Some q) (Some file) =
+    or_else
+    (appended d t q.anchor file.bytes >>= λ longer. Ok (loaded (record longer { scrap = None }) t m q 0))
+    (λ refusal. ignored d)
+loads_uncounted d t m _ _ = ignored d
+
+abbrev uncounted : Rules
+uncounted = record landed {
+  takes_file = λ d t m. loads_uncounted d t m (receiver.on_load m.message.from m.message.your_ref t.taking) d.scrap;
+}
+
+abbrev by_file : List String
+by_file = "task a 100 file" ∷ "task b 100" ∷ "alloc a 0 3" ∷ "save a 0 b x" ∷ "poll b" ∷ "poll a" ∷ "poll a" ∷ "poll b"
+    ∷ "poll a" ∷ "poll b" ∷ []
+
+right_file_count : counts landed by_file 2 ≡ (true, 3, Some 3) ∷ []
+unfolding Script.computing hex_on_literals
+right_file_count = refl
+
+wrong_file_count : counts uncounted by_file 2 ≡ (true, 0, Some 3) ∷ []
+unfolding Script.computing hex_on_literals
+wrong_file_count = refl
 
 -- ---- names
 

@@ -11,7 +11,7 @@ use Rattle.rh_safety.proofs.Basics.{length_with, put_all, put_same, put_other, H
 use Rattle.rh_safety.proofs.Basics.{pair_append, Ascend, one_of_id}
 use Rattle.rh_safety.proofs.Invariant.{Offered, queued, kept, latest, Knows, Offers, LetterIn, Carries, Source}
 use Rattle.rh_safety.proofs.Invariant.{known_by}
-use Rattle.rh_safety.proofs.Invariant.{Counted, Begins, Untouched, HasBuffer, Order, Unread, Inv, IsWaiting}
+use Rattle.rh_safety.proofs.Invariant.{Counted, at_most, Begins, Untouched, HasBuffer, Order, Unread, Inv, IsWaiting}
 use Rattle.rh_safety.proofs.Invariant.{Waits, Asks, PendingAt}
 use Rattle.rh_safety.proofs.Moves.{letters_more, outs_more, ins_more, boths_more, letters_bump, outs_bump, ins_bump}
 use Rattle.rh_safety.proofs.Moves.{Move, OutOk, outs_move, outs_less, ins_move, move_active}
@@ -450,6 +450,7 @@ fetch_inv {o} {e} {d} new bl h t answers n i =
               };
             };
             good = λ u. n.begins;
+            counted = at_most n.begins;
             beside = λ u q y ne w z. n.documents u q (growing_untouched (e h) u y) ne (sym z);
             documents = λ y. n.documents;
           }) (ins_bump (omega arith) i.ins));

@@ -3,7 +3,7 @@
 ghost use Rattle.rh_defs.specs.Laws.{Always};
 ghost use Rattle.rh_safety.specs.Alternation.{Alternates};
 ghost use Rattle.rh_safety.specs.Buffers.{HasBuffers, HasGoodRanges};
-ghost use Rattle.rh_safety.specs.Counts.{AlwaysCountsHeld};
+ghost use Rattle.rh_safety.specs.Counts.{AlwaysCounts, CountsHeld, CountsOffered};
 ghost use Rattle.rh_safety.specs.Names.{HaveOwnNames};
 ghost use Rattle.rh_safety.specs.Polls.{CountsFit, LosesNoBlock};
 ghost use Rattle.rh_safety.specs.Numbers.{NumbersGoUp};
@@ -35,13 +35,15 @@ pub fn alternation_law()
 /// After any commands: the records of a live task stand in order of id, at most eight each way; what
 /// they name is there and long enough, each buffer for one transfer; and each busy block is live. No
 /// poll answers NoBlock, and no count outgrows a 32-bit word. Live tasks have different names. What
-/// is held of a transfer has as many bytes as its record counts, but for Done.
+/// is held of a transfer has as many bytes as its record counts, and a record counts no more bytes than
+/// were offered: all of them where it says Done.
 pub fn record_law()
     ensures records { Always AreRecorded }
     ensures blocks { Always LosesNoBlock }
     ensures counts { Always CountsFit }
     ensures names { Always HaveOwnNames }
-    ensures held { AlwaysCountsHeld }
+    ensures held { AlwaysCounts CountsHeld }
+    ensures offered { AlwaysCounts CountsOffered }
 {}
 
 /// Along the replies to any commands: the handles that `task` answers go up strictly, and so do the refs of messages that

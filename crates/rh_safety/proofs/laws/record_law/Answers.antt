@@ -2,7 +2,7 @@ use Rattle.rh_safety.specs.Polls.{CountsFit, LosesNoBlock}
 use Rattle.rh_safety.specs.TaskRecords.{AreRecorded}
 use Rattle.rh_safety.proofs.RecordLaws.{are_recorded}
 use Rattle.rh_safety.proofs.CountLaws.{counts_fit}
-use Rattle.rh_safety.proofs.HeldCounts.{always_counts_held}
+use Rattle.rh_safety.proofs.HeldCounts.{always_counts_held, always_counts_offered}
 use Rattle.rh_safety.proofs.NameLaws.{always_own_names}
 use Rattle.rh_safety.proofs.SeenDesks.{fits}
 use Rattle.rh_safety.proofs.SeenLaws.{always}
@@ -23,3 +23,6 @@ returns-clause-names c = always_own_names
 
 pub returns-clause-held : goal.returns-clause-held
 returns-clause-held c = always_counts_held
+
+pub returns-clause-offered : goal.returns-clause-offered
+returns-clause-offered c = always_counts_offered
