@@ -600,7 +600,8 @@ module _ {o : Offered} {e : ℕ → ℕ → Bool} {d : Desk} (h : ℕ) (l : Lett
       let handle = rd.handle in
       let g1 = lost_good (asked_over with_file h q (In_done q.id q.anchor (length bytes)) is
       (done_of with_file h q.id q.anchor (length bytes) (Asking q) is refl g.inv file_sources file_same
-      (record { all = bytes; offered = of; there = file_there }) (record { all = bytes; offered = of; whole = refl }) (beside_growing h (Asking q) g.inv is tt)) g) in
+      (record { all = bytes; offered = of; there = file_there }) (record { all = bytes; offered = of; whole = refl })
+      (beside_growing h (Asking q) g.inv is tt)) g) in
       tell_good h (record {
         code = Plain;
         to = q.sender;

@@ -55,5 +55,6 @@ pub mod ScrapLaws
 pub mod SafetyRows
 pub mod WrongBodies
 pub mod RecordRows
+pub mod LiveRefs
 pub mod Numbers
 pub mod NumberRows

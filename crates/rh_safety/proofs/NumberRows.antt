@@ -1,6 +1,7 @@
--- Worked runs: the numbers that replies answer; and a run with one definition changed, on which they don't go up.
+-- Worked runs: the numbers that replies answer, and the refs of live messages; and runs with one definition changed, on
+-- which they don't go up, or are the same.
 use Rattle.std.proofs.Common.{arith}
-use Rattle.std.specs.Prelude.{◌≡◌, refl, ℕ, ◌+◌, List, [], ◌∷◌, ◌++◌, length, nat_le, Ok}
+use Rattle.std.specs.Prelude.{◌≡◌, refl, ℕ, ◌+◌, List, [], ◌∷◌, ◌++◌, length, nat_le, Option, Some, None, Ok}
 use Rattle.std.specs.List.{flat_map}
 use Rattle.hex.proofs.OnLiterals.{hex_on_literals}
 use Prim.Native.String.{String}
@@ -14,9 +15,12 @@ use Rattle.rh_defs.specs.Forms.{first_made}
 use Rattle.rh_defs.specs.Script
 use Rattle.rh_defs.specs.Desk.{Desk}
 use Rattle.rh_defs.specs.Commands.{Answer, most_made}
-use Rattle.rh_defs.specs.Runs.{replies}
+use Rattle.rh_defs.specs.Messages.{Parcel}
+use Rattle.rh_defs.specs.Post.{Post, bounced, held_by, taken}
+use Rattle.rh_defs.specs.Runs.{after, replies}
 use Rattle.rh_defs.specs.Step.{step}
 use Rattle.rh_safety.specs.Numbers.{GoUp, handles_in, refs_in, areas_in}
+use Rattle.rh_safety.specs.Refs.{AllDiffer, live_refs}
 use Rattle.rh_safety.proofs.SafetyRows.{fresh, script}
 
 -- a task dies and another comes under its name, messages go to and fro, and an area is made after one was removed
@@ -62,3 +66,39 @@ wrong_number = refl
 -- two equal numbers don't go up
 wrong_numbers : (least next : ℕ) → GoUp least next (256 ∷ 256 ∷ []) → ⊥
 wrong_numbers least next up = absurd (omega (arith, up.1.0))
+
+-- ---- refs of live messages
+
+-- a task that takes no offer holds the first one, while its copy is queued
+abbrev offered_twice : List String
+offered_twice = "task a 4" ∷ "task c 4 deaf" ∷ "alloc a 0 6" ∷ "save a 0 c doc" ∷ "poll c" ∷ "repeat a" ∷ []
+
+one_held : live_refs (after fresh (script offered_twice)).post ≡ 2 ∷ 1 ∷ []
+unfolding Script.computing hex_on_literals
+one_held = refl
+
+-- then that one goes back, and the copy is held
+one_back : live_refs (after fresh (script (offered_twice ++ "poll c" ∷ []))).post ≡ 1 ∷ 2 ∷ []
+unfolding Script.computing hex_on_literals
+one_back = refl
+
+-- a task that still holds what has gone back
+abbrev goes_back_held : ℕ → Option Parcel → Post → Post
+goes_back_held h None post = post
+goes_back_held h (Some p) post = bounced p post
+
+abbrev offered_once : List String
+offered_once = "task a 4" ∷ "task c 4 deaf" ∷ "alloc a 0 6" ∷ "save a 0 c doc" ∷ "poll c" ∷ []
+
+wrong_refs : live_refs (let post = (after fresh (script offered_once)).post in
+    taken 2 (goes_back_held 2 (held_by 2 post.seats) post)).0 ≡ 1 ∷ 1 ∷ []
+unfolding Script.computing hex_on_literals
+wrong_refs = refl
+
+right_refs : live_refs (after fresh (script (offered_once ++ "poll c" ∷ []))).post ≡ 1 ∷ []
+unfolding Script.computing hex_on_literals
+right_refs = refl
+
+-- two equal refs don't differ
+wrong_law : AllDiffer (1 ∷ 1 ∷ []) → ⊥
+wrong_law all = all.0.0 refl

@@ -21,17 +21,21 @@ use Rattle.rh_defs.specs.declared.transfer.Sending.{Sending}
 use Rattle.rh_defs.specs.declared.transfer.Taking.{Taking}
 use Rattle.rh_defs.specs.Chain.{Granted}
 use Rattle.rh_defs.specs.Pieces.{Split}
+use Rattle.rh_defs.specs.Heap.{Heap}
 use Rattle.rh_defs.specs.Slot.{Flex}
 use Rattle.rh_defs.specs.Messages.{Parcel, is_recorded}
 use Rattle.rh_defs.specs.Post.{Post, Seat, answers_held, held_by, has_seat, bounced, bounce_held, bounce_all, without_block, first_for, taken_from, queued_in, put_down, post_join, post_send, post_poll, post_death}
-use Rattle.rh_defs.specs.Desk.{Desk, Task, Scrap, next_ref, free_pages, with_task, with_delivered, send_letter}
+use Rattle.rh_defs.specs.Desk.{Desk, Task, Scrap, next_ref, free_pages, with_task, with_module, with_delivered, send_letter}
 use Rattle.rh_defs.specs.OutgoingEvents.{Handled, transmit, answer_fetch, fail_sending, save_scrap, answer_ack, finish_load, refused as failed_by}
 use Rattle.rh_defs.specs.IncomingEvents.{ended, accept, take_save, appended, fetch_more, took, take_bytes, ask, fetch_back, ack_back, loaded, load_file, take_file}
 use Rattle.rh_defs.specs.Transfer.{came, came_back, handled}
 use Rattle.rh_defs.specs.Commands.{Answer, start_task, kill, alloc, load, put, free, extend, mid, claim, release, resize, budge, module_area, change_module, change_pages, change_made, change_area, make, remove, rma_claim, rma_free, rma_resize, show, blocks, heap_sums, status}
 use Rattle.rh_defs.specs.Step.{save, repeat, poll, poll_taken, cancel_in, cancel_out, change, step}
-use Rattle.rh_defs.specs.Runs.{after}
+use Rattle.rh_defs.specs.Runs.{after, start_with}
+use Rattle.rh_defs.specs.Laws.{Always}
 use Rattle.rh_defs.proofs.Chains.{OnGrant, granted, refused, granted-then, granted-with, granted-both, granted-past, granted-unless, or_else-keeps, chosen}
+use Rattle.rh_safety.proofs.LiveRefs.{OneEach, live_with, own-refs, no_more-one, posted-one, join-one, poll-fewer, death-fewer}
+use Rattle.rh_safety.specs.Refs.{HaveOwnRefs}
 use Rattle.rh_safety.specs.Numbers.{GoUp, NumbersGoUp, handles_in, refs_in, refs_of_outcome, areas_in}
 
 -- ---- numbers that go up
@@ -90,9 +94,10 @@ any-grant : {A : Type 0} (r : Granted A) → OnGrant (λ (x : A). Unit {0}) r
 any-grant (Ok x) = granted tt
 any-grant (Err refusal) = refused
 
--- a letter that is sent gets the next ref
+-- a letter that is sent gets the next ref, and its message is the only live one of that ref
 record IsSent (post : Post) (sent : Post × ℕ) : Type 0 where
   next : sent.0.next_ref ≡ post.next_ref + 1
+  mail : OneEach post → OneEach sent.0
 
 post_send-ref : (room : ℕ) (l : Letter) (post : Post) → OnGrant (IsSent post) (post_send room l post)
 unfolding post_send
@@ -100,30 +105,48 @@ post_send-ref room l post =
     granted-both _ (any-grant _) λ x u. granted-then _ _ λ there e.
     granted (record {
       next = chosen (λ (x : Post). x.next_ref ≡ post.next_ref + 1) (answers_held l.your_ref (held_by l.from post.seats)) (put_down l.from (queued_in l there post)) (queued_in l there post) refl refl;
+      mail = posted-one l there post;
     })
 
 -- ---- desks
+
+-- where the live messages had different refs, they still have
+abbrev pub StillDiffer : Desk → Desk → Type 0
+StillDiffer d e = OneEach d.post → OneEach e.post
+
+same-mail : {post : Post} → OneEach post → OneEach post
+same-mail is = is
+
+less-mail : {old new : Post} → new.next_ref ≡ old.next_ref → ((ref : ℕ) → live_with ref new ≤ live_with ref old) →
+    OneEach old → OneEach new
+less-mail next fewer = no_more-one (record { fewer = fewer; next = next })
+
+module-mail : (h : Heap) (d : Desk) → StillDiffer d (with_module h d)
+module-mail h d = less-mail refl (λ ref. omega arith)
 
 -- nothing was given
 record Stands (d e : Desk) : Type 0 where
   handle : e.next_handle ≡ d.next_handle
   ref : next_ref e ≡ next_ref d
   area : e.next_area ≡ d.next_area
+  mail : StillDiffer d e
 
-stands : {d e : Desk} → e.next_handle ≡ d.next_handle → next_ref e ≡ next_ref d → e.next_area ≡ d.next_area → Stands d e
-stands h r a = record { handle = h; ref = r; area = a }
+stands : {d e : Desk} → e.next_handle ≡ d.next_handle → next_ref e ≡ next_ref d → e.next_area ≡ d.next_area → StillDiffer d e →
+    Stands d e
+stands h r a m = record { handle = h; ref = r; area = a; mail = m }
 
 -- one ref was given
 record SentOne (d e : Desk) : Type 0 where
   handle : e.next_handle ≡ d.next_handle
   ref : next_ref e ≡ next_ref d + 1
   area : e.next_area ≡ d.next_area
+  mail : StillDiffer d e
 
 send_letter-one : (l : Letter) (d : Desk) → OnGrant (SentOne d) (send_letter l d)
 unfolding send_letter with_task
 send_letter-one l d =
     granted-with _ (post_send-ref (free_pages d) l d.post) λ sent one.
-    granted (record { handle = refl; ref = one.next; area = refl })
+    granted (record { handle = refl; ref = one.next; area = refl; mail = one.mail })
 
 -- ---- messages
 
@@ -132,12 +155,14 @@ record Marks (d : Desk) (h : Handled) : Type 0 where
   handle : h.0.next_handle ≡ d.next_handle
   refs : GoUp (next_ref d) (next_ref h.0) (refs_of_outcome h.1)
   area : h.0.next_area ≡ d.next_area
+  mail : StillDiffer d h.0
 
 quiet : {d e : Desk} {o : Outcome} → Stands d e → refs_of_outcome o ≡ [] → Marks d (e, o)
 quiet {d} {e} {o} s none = record {
   handle = s.handle;
   refs = subst (GoUp (next_ref d) (next_ref e)) (sym none) (none-of (next_ref d) (next_ref e) s.ref);
   area = s.area;
+  mail = s.mail;
 }
 
 -- a message more, whose ref is told
@@ -146,6 +171,7 @@ tells {d} {sent} {e} {o} one s told = record {
   handle = s.handle ∙ one.handle;
   refs = subst (GoUp (next_ref d) (next_ref e)) (sym told) (one-of (next_ref d) (next_ref e) (s.ref ∙ one.ref));
   area = s.area ∙ one.area;
+  mail = λ is. s.mail (one.mail is);
 }
 
 -- a message more, whose ref isn't told
@@ -154,6 +180,7 @@ hides {d} {sent} {e} {o} one s none = record {
   handle = s.handle ∙ one.handle;
   refs = subst (GoUp (next_ref d) (next_ref e)) (sym none) (omega (arith, one.ref, s.ref));
   area = s.area ∙ one.area;
+  mail = λ is. s.mail (one.mail is);
 }
 
 past : {d e : Desk} {h : Handled} → Stands d e → Marks e h → Marks d h
@@ -161,21 +188,22 @@ past {d} {e} {h} s m = record {
   handle = m.handle ∙ s.handle;
   refs = subst (λ r. GoUp r (next_ref h.0) (refs_of_outcome h.1)) s.ref m.refs;
   area = m.area ∙ s.area;
+  mail = λ is. m.mail (s.mail is);
 }
 
 module _ (d : Desk) (t : Task) where
   ignored-marks : Marks d (d, outcome.Ignored)
-  ignored-marks = quiet (stands refl refl refl) refl
+  ignored-marks = quiet (stands refl refl refl same-mail) refl
 
   failed-marks : (x : Sending) (refusal : Refusal) → Marks d (failed_by d t x refusal)
   unfolding with_task
-  failed-marks x refusal = quiet (stands refl refl refl) refl
+  failed-marks x refusal = quiet (stands refl refl refl same-mail) refl
 
   transmit-marks : (m : Parcel) (buffer amount : ℕ) (x : Sending) (source : Split Flex) → OnGrant (Marks d) (transmit d t m buffer amount x source)
   unfolding transmit with_task
   transmit-marks m buffer amount x source =
       granted-then _ _ λ r live. granted-past _ _ _ λ reach. granted-with _ (send_letter-one _ d) λ sent one.
-      granted (tells one (stands refl refl refl) refl)
+      granted (tells one (stands refl refl refl same-mail) refl)
 
   answer_fetch-marks : (m : Parcel) (buffer amount : ℕ) (o : Option Sending) → Marks d (answer_fetch d t m buffer amount o)
   unfolding answer_fetch
@@ -186,13 +214,13 @@ module _ (d : Desk) (t : Task) where
   fail_sending-marks : (o : Option Sending) → Marks d (fail_sending d t o)
   unfolding fail_sending with_task
   fail_sending-marks None = ignored-marks
-  fail_sending-marks (Some x) = quiet (stands refl refl refl) refl
+  fail_sending-marks (Some x) = quiet (stands refl refl refl same-mail) refl
 
   save_scrap-marks : (m : Parcel) (x : Sending) (source : Split Flex) → OnGrant (Marks d) (save_scrap d t m x source)
   unfolding save_scrap with_task
   save_scrap-marks m x source =
       granted-past _ _ _ λ busy. granted-both _ (any-grant _) λ y u. granted-past _ _ _ λ room. granted-with _ (send_letter-one _ _) λ sent one.
-      granted (tells {sent = sent} (record { handle = one.handle; ref = one.ref; area = one.area }) (stands refl refl refl) refl)
+      granted (tells {sent = sent} (record { handle = one.handle; ref = one.ref; area = one.area; mail = one.mail }) (stands refl refl refl same-mail) refl)
 
   answer_ack-marks : (m : Parcel) (o : Option Sending) → Marks d (answer_ack d t m o)
   unfolding answer_ack
@@ -204,13 +232,13 @@ module _ (d : Desk) (t : Task) where
   unfolding finish_load with_task
   finish_load-marks None = ignored-marks
   finish_load-marks (Some x) =
-      or_else-keeps (Marks d) _ (granted-then _ _ λ source found. granted (quiet (stands refl refl refl) refl)) (failed-marks x)
+      or_else-keeps (Marks d) _ (granted-then _ _ λ source found. granted (quiet (stands refl refl refl same-mail) refl)) (failed-marks x)
 
   accept-marks : (m : Parcel) → OnGrant (Marks d) (accept d t m)
   unfolding accept with_task
   accept-marks m =
       granted-then _ _ λ k free. granted-then _ _ λ b claimed. granted-then _ _ λ p there. granted-with _ (send_letter-one _ _) λ sent one.
-      granted (tells {sent = sent} (record { handle = one.handle; ref = one.ref; area = one.area }) (stands refl refl refl) refl)
+      granted (tells {sent = sent} (record { handle = one.handle; ref = one.ref; area = one.area; mail = one.mail }) (stands refl refl refl same-mail) refl)
 
   take_save-marks : (m : Parcel) → Marks d (take_save d t m)
   unfolding take_save
@@ -219,16 +247,16 @@ module _ (d : Desk) (t : Task) where
   appended-stands : (k : ℕ) (bytes : List ℕ) → OnGrant (Stands d) (appended d t k bytes)
   unfolding appended with_task
   appended-stands k bytes =
-      granted-then _ _ λ document found. granted-then _ _ λ longer e. granted-then _ _ λ s f. granted (stands refl refl refl)
+      granted-then _ _ λ document found. granted-then _ _ λ longer e. granted-then _ _ λ s f. granted (stands refl refl refl same-mail)
 
   -- a transfer ended
   ended-marks : (f : Taking) (edit : List Incoming → List Incoming) (o : Outcome) → refs_of_outcome o ≡ [] → Marks d (ended t.handle f edit d, o)
   unfolding ended with_task
-  ended-marks f edit o none = quiet (stands refl refl refl) none
+  ended-marks f edit o none = quiet (stands refl refl refl same-mail) none
 
   fetch_more-marks : (m : Parcel) (f : Taking) (n : ℕ) → OnGrant (Marks d) (fetch_more d t m f n)
   unfolding fetch_more with_task
-  fetch_more-marks m f n = granted-with _ (send_letter-one _ d) λ sent one. granted (tells one (stands refl refl refl) refl)
+  fetch_more-marks m f n = granted-with _ (send_letter-one _ d) λ sent one. granted (tells one (stands refl refl refl same-mail) refl)
 
   took-marks : (m : Parcel) (f : Taking) (n : ℕ) → Marks d (took d t m f n)
   unfolding took
@@ -238,7 +266,7 @@ module _ (d : Desk) (t : Task) where
 
   ask-marks : (f : Taking) → OnGrant (Marks d) (ask d t f)
   unfolding ask ended with_task
-  ask-marks f = granted-with _ (send_letter-one _ d) λ sent one. granted (tells one (stands refl refl refl) refl)
+  ask-marks f = granted-with _ (send_letter-one _ d) λ sent one. granted (tells one (stands refl refl refl same-mail) refl)
 
   fetch_back-marks : (o : Option Incoming) → Marks d (fetch_back d t o)
   unfolding fetch_back
@@ -253,13 +281,13 @@ module _ (d : Desk) (t : Task) where
   ack_back-marks : (o : Option Asked) → Marks d (ack_back d t o)
   unfolding ack_back with_task
   ack_back-marks None = ignored-marks
-  ack_back-marks (Some q) = quiet (stands refl refl refl) refl
+  ack_back-marks (Some q) = quiet (stands refl refl refl same-mail) refl
 
   loaded-marks : (m : Parcel) (q : Asked) (n : ℕ) → Marks d (loaded d t m q n)
   unfolding loaded with_task
   loaded-marks m q n =
-      or_else-keeps (Marks d) _ (granted-with _ (send_letter-one _ d) λ sent one. granted (hides one (stands refl refl refl) refl))
-      (λ refusal. quiet (stands refl refl refl) refl)
+      or_else-keeps (Marks d) _ (granted-with _ (send_letter-one _ d) λ sent one. granted (hides one (stands refl refl refl same-mail) refl))
+      (λ refusal. quiet (stands refl refl refl same-mail) refl)
 
 module _ (d : Desk) (t : Task) where
   take_bytes-marks : (m : Parcel) (n : ℕ) (o : Option Incoming) → Marks d (take_bytes d t m n o)
@@ -281,8 +309,8 @@ module _ (d : Desk) (t : Task) where
       chosen (Marks d) _ _ _
       (or_else-keeps (Marks d) _
       (granted-with _ (appended-stands d t q.anchor file.bytes) λ longer s.
-      granted (past (stands s.handle s.ref s.area) (loaded-marks (record longer { scrap = None }) t m q (length file.bytes))))
-      (λ refusal. quiet (stands refl refl refl) refl))
+      granted (past (stands s.handle s.ref s.area s.mail) (loaded-marks (record longer { scrap = None }) t m q (length file.bytes))))
+      (λ refusal. quiet (stands refl refl refl same-mail) refl))
       (ignored-marks d t)
 
   take_file-marks : (m : Parcel) (o : Option Asked) → Marks d (take_file d t m o)
@@ -321,12 +349,14 @@ record Counts (d : Desk) (a : Answer) : Type 0 where
   handles : GoUp d.next_handle a.0.next_handle (handles_in a.1)
   refs : GoUp (next_ref d) (next_ref a.0) (refs_in a.1)
   areas : GoUp d.next_area a.0.next_area (areas_in a.1)
+  mail : StillDiffer d a.0
 
 silent : {d e : Desk} {said : Reply} → Stands d e → handles_in said ≡ [] → refs_in said ≡ [] → areas_in said ≡ [] → Counts d (e, said)
 silent {d} {e} {said} s h r a = record {
   handles = subst (GoUp d.next_handle e.next_handle) (sym h) (none-of d.next_handle e.next_handle s.handle);
   refs = subst (GoUp (next_ref d) (next_ref e)) (sym r) (none-of (next_ref d) (next_ref e) s.ref);
   areas = subst (GoUp d.next_area e.next_area) (sym a) (none-of d.next_area e.next_area s.area);
+  mail = s.mail;
 }
 
 -- a message that was sent
@@ -335,6 +365,7 @@ sent-counts {d} {sent} {e} one s = record {
   handles = none-of d.next_handle e.next_handle (s.handle ∙ one.handle);
   refs = one-of (next_ref d) (next_ref e) (s.ref ∙ one.ref);
   areas = none-of d.next_area e.next_area (s.area ∙ one.area);
+  mail = λ is. s.mail (one.mail is);
 }
 
 module _ (d : Desk) where
@@ -349,83 +380,84 @@ module _ (d : Desk) where
         handles = one-of d.next_handle (d.next_handle + 1) refl;
         refs = none-of (next_ref d) (next_ref d) refl;
         areas = none-of d.next_area d.next_area refl;
+        mail = join-one d.next_handle d.post;
       })
 
   kill-counts : (name : List ℕ) → OnGrant (Counts d) (kill d name)
   unfolding kill with_delivered
-  kill-counts name = granted-then _ _ λ t e. still (stands refl (post_death-ref t.handle d.post) refl) refl refl refl
+  kill-counts name = granted-then _ _ λ t e. still (stands refl (post_death-ref t.handle d.post) refl (less-mail (post_death-ref t.handle d.post) λ ref. death-fewer ref t.handle d.post)) refl refl refl
 
   alloc-counts : (name : List ℕ) (k n : ℕ) → OnGrant (Counts d) (alloc d name k n)
   unfolding alloc with_task
-  alloc-counts name k n = granted-then _ _ λ t e. granted-then _ _ λ p f. still (stands refl refl refl) refl refl refl
+  alloc-counts name k n = granted-then _ _ λ t e. granted-then _ _ λ p f. still (stands refl refl refl same-mail) refl refl refl
 
   load-counts : (name : List ℕ) (k : ℕ) (file : List ℕ) → OnGrant (Counts d) (load d name k file)
   unfolding load with_task
-  load-counts name k file = granted-then _ _ λ t e. granted-then _ _ λ entry f. granted-then _ _ λ p g. granted-then _ _ λ s h. still (stands refl refl refl) refl refl refl
+  load-counts name k file = granted-then _ _ λ t e. granted-then _ _ λ entry f. granted-then _ _ λ p g. granted-then _ _ λ s h. still (stands refl refl refl same-mail) refl refl refl
 
   put-counts : (name : List ℕ) (k offset : ℕ) (bytes : List ℕ) → OnGrant (Counts d) (put d name k offset bytes)
   unfolding put with_task
-  put-counts name k offset bytes = granted-then _ _ λ t e. granted-then _ _ λ b f. granted-then _ _ λ s g. still (stands refl refl refl) refl refl refl
+  put-counts name k offset bytes = granted-then _ _ λ t e. granted-then _ _ λ b f. granted-then _ _ λ s g. still (stands refl refl refl same-mail) refl refl refl
 
   free-counts : (name : List ℕ) (k : ℕ) → OnGrant (Counts d) (free d name k)
   unfolding free with_task
-  free-counts name k = granted-then _ _ λ t e. granted-then _ _ λ b f. granted-then _ _ λ s g. still (stands refl refl refl) refl refl refl
+  free-counts name k = granted-then _ _ λ t e. granted-then _ _ λ b f. granted-then _ _ λ s g. still (stands refl refl refl same-mail) refl refl refl
 
   extend-counts : (name : List ℕ) (k n : ℕ) → OnGrant (Counts d) (extend d name k n)
   unfolding extend with_task
-  extend-counts name k n = granted-then _ _ λ t e. granted-then _ _ λ b f. granted-then _ _ λ s g. still (stands refl refl refl) refl refl refl
+  extend-counts name k n = granted-then _ _ λ t e. granted-then _ _ λ b f. granted-then _ _ λ s g. still (stands refl refl refl same-mail) refl refl refl
 
   mid-counts : (name : List ℕ) (k offset : ℕ) (by : ℤ) → OnGrant (Counts d) (mid d name k offset by)
   unfolding mid with_task
-  mid-counts name k offset by = granted-then _ _ λ t e. granted-then _ _ λ b f. granted-then _ _ λ s g. still (stands refl refl refl) refl refl refl
+  mid-counts name k offset by = granted-then _ _ λ t e. granted-then _ _ λ b f. granted-then _ _ λ s g. still (stands refl refl refl same-mail) refl refl refl
 
   claim-counts : (name : List ℕ) (n : ℕ) → OnGrant (Counts d) (claim d name n)
   unfolding claim with_task
-  claim-counts name n = granted-then _ _ λ t e. granted-then _ _ λ p f. still (stands refl refl refl) refl refl refl
+  claim-counts name n = granted-then _ _ λ t e. granted-then _ _ λ p f. still (stands refl refl refl same-mail) refl refl refl
 
   release-counts : (name : List ℕ) (address : ℕ) → OnGrant (Counts d) (release d name address)
   unfolding release with_task
-  release-counts name address = granted-then _ _ λ t e. granted-then _ _ λ b f. granted-then _ _ λ s g. still (stands refl refl refl) refl refl refl
+  release-counts name address = granted-then _ _ λ t e. granted-then _ _ λ b f. granted-then _ _ λ s g. still (stands refl refl refl same-mail) refl refl refl
 
   resize-counts : (name : List ℕ) (address : ℕ) (delta : ℤ) → OnGrant (Counts d) (resize d name address delta)
   unfolding resize with_task
-  resize-counts name address delta = granted-then _ _ λ t e. granted-then _ _ λ b f. granted-then _ _ λ p g. still (stands refl refl refl) refl refl refl
+  resize-counts name address delta = granted-then _ _ λ t e. granted-then _ _ λ b f. granted-then _ _ λ p g. still (stands refl refl refl same-mail) refl refl refl
 
   budge-counts : (name : List ℕ) (on : Bool) → OnGrant (Counts d) (budge d name on)
   unfolding budge with_task
-  budge-counts name on = granted-then _ _ λ t e. still (stands refl refl refl) refl refl refl
+  budge-counts name on = granted-then _ _ λ t e. still (stands refl refl refl same-mail) refl refl refl
 
   save-counts : (name : List ℕ) (k : ℕ) (to leaf : List ℕ) → OnGrant (Counts d) (save d name k to leaf)
   unfolding save with_task
   save-counts name k to leaf =
       granted-then _ _ λ t e. granted-then _ _ λ b f. granted-past _ _ _ λ full. granted-then _ _ λ r g. granted-with _ (send_letter-one _ d) λ sent one.
-      granted (sent-counts one (stands refl refl refl))
+      granted (sent-counts one (stands refl refl refl same-mail))
 
   repeat-counts : (name : List ℕ) → OnGrant (Counts d) (repeat d name)
   unfolding repeat
   repeat-counts name =
       granted-then _ _ λ t e. granted-then _ _ λ last f. granted-with _ (send_letter-one _ d) λ sent one.
-      granted (sent-counts one (stands refl refl refl))
+      granted (sent-counts one (stands refl refl refl same-mail))
 
   cancel_in-counts : (name : List ℕ) (id : Option ℕ) → OnGrant (Counts d) (cancel_in d name id)
   unfolding cancel_in with_task
-  cancel_in-counts name id = granted-then _ _ λ t e. granted-then _ _ λ records f. still (stands refl refl refl) refl refl refl
+  cancel_in-counts name id = granted-then _ _ λ t e. granted-then _ _ λ records f. still (stands refl refl refl same-mail) refl refl refl
 
   cancel_out-counts : (name : List ℕ) (id : Option ℕ) → OnGrant (Counts d) (cancel_out d name id)
   unfolding cancel_out with_task
-  cancel_out-counts name id = granted-then _ _ λ t e. granted-then _ _ λ records f. still (stands refl refl refl) refl refl refl
+  cancel_out-counts name id = granted-then _ _ λ t e. granted-then _ _ λ records f. still (stands refl refl refl same-mail) refl refl refl
 
   change_module-counts : (delta : ℤ) → OnGrant (Counts d) (change_module d delta)
   unfolding change_module
-  change_module-counts delta = granted-then _ _ λ c e. still (stands refl refl refl) refl refl refl
+  change_module-counts delta = granted-then _ _ λ c e. still (stands refl refl refl (module-mail c.0 d)) refl refl refl
 
   change_pages-counts : (k : ℕ) (delta : ℤ) → OnGrant (Counts d) (change_pages d k delta)
   unfolding change_pages
-  change_pages-counts k delta = granted-then _ _ λ n e. still (stands refl refl refl) refl refl refl
+  change_pages-counts k delta = granted-then _ _ λ n e. still (stands refl refl refl same-mail) refl refl refl
 
   change_made-counts : (k : ℕ) (delta : ℤ) → OnGrant (Counts d) (change_made d k delta)
   unfolding change_made
-  change_made-counts k delta = granted-then _ _ λ m e. granted-then _ _ λ n f. granted-past _ _ _ λ big. still (stands refl refl refl) refl refl refl
+  change_made-counts k delta = granted-then _ _ λ m e. granted-then _ _ λ n f. granted-past _ _ _ λ big. still (stands refl refl refl same-mail) refl refl refl
 
   change_area-counts : (k : ℕ) (delta : ℤ) → OnGrant (Counts d) (change_area d k delta)
   change_area-counts k delta =
@@ -440,39 +472,40 @@ module _ (d : Desk) where
         handles = none-of d.next_handle d.next_handle refl;
         refs = none-of (next_ref d) (next_ref d) refl;
         areas = one-of d.next_area (d.next_area + 1) refl;
+        mail = same-mail;
       })
 
   remove-counts : (k : ℕ) → OnGrant (Counts d) (remove d k)
   unfolding remove
-  remove-counts k = granted-then _ _ λ m e. still (stands refl refl refl) refl refl refl
+  remove-counts k = granted-then _ _ λ m e. still (stands refl refl refl same-mail) refl refl refl
 
   rma_claim-counts : (n : ℕ) → OnGrant (Counts d) (rma_claim d n)
   unfolding rma_claim
-  rma_claim-counts n = granted-then _ _ λ c e. still (stands refl refl refl) refl refl refl
+  rma_claim-counts n = granted-then _ _ λ c e. still (stands refl refl refl (module-mail c.0 d)) refl refl refl
 
   rma_free-counts : (address : ℕ) → OnGrant (Counts d) (rma_free d address)
   unfolding rma_free
-  rma_free-counts address = granted-then _ _ λ b e. granted-then _ _ λ h f. still (stands refl refl refl) refl refl refl
+  rma_free-counts address = granted-then _ _ λ b e. granted-then _ _ λ h f. still (stands refl refl refl (module-mail h d)) refl refl refl
 
   rma_resize-counts : (address : ℕ) (delta : ℤ) → OnGrant (Counts d) (rma_resize d address delta)
   unfolding rma_resize
-  rma_resize-counts address delta = granted-then _ _ λ b e. granted-then _ _ λ c f. still (stands refl refl refl) refl refl refl
+  rma_resize-counts address delta = granted-then _ _ λ b e. granted-then _ _ λ c f. still (stands refl refl refl (module-mail c.0 d)) refl refl refl
 
   show-counts : (name : List ℕ) (k : ℕ) → OnGrant (Counts d) (show d name k)
   unfolding show
-  show-counts name k = granted-then _ _ λ t e. granted-then _ _ λ b f. still (stands refl refl refl) refl refl refl
+  show-counts name k = granted-then _ _ λ t e. granted-then _ _ λ b f. still (stands refl refl refl same-mail) refl refl refl
 
   blocks-counts : (name : List ℕ) → OnGrant (Counts d) (blocks d name)
   unfolding blocks
-  blocks-counts name = granted-then _ _ λ t e. still (stands refl refl refl) refl refl refl
+  blocks-counts name = granted-then _ _ λ t e. still (stands refl refl refl same-mail) refl refl refl
 
   heap_sums-counts : (name : List ℕ) → OnGrant (Counts d) (heap_sums d name)
   unfolding heap_sums
-  heap_sums-counts name = granted-then _ _ λ t e. still (stands refl refl refl) refl refl refl
+  heap_sums-counts name = granted-then _ _ λ t e. still (stands refl refl refl same-mail) refl refl refl
 
   status-counts : (name : List ℕ) → OnGrant (Counts d) (status d name)
   unfolding status
-  status-counts name = granted-then _ _ λ t e. still (stands refl refl refl) refl refl refl
+  status-counts name = granted-then _ _ λ t e. still (stands refl refl refl same-mail) refl refl refl
 
 -- ---- polls
 
@@ -484,18 +517,20 @@ poll_taken-counts d e t (Some m) s =
       handles = none-of d.next_handle (handled e t m m.code).0.next_handle marks.handle;
       refs = marks.refs;
       areas = none-of d.next_area (handled e t m m.code).0.next_area marks.area;
+      mail = marks.mail;
     }
 
-delivered-stands : (p : Post) (d : Desk) → p.next_ref ≡ next_ref d → Stands d (with_delivered p d)
+delivered-stands : (p : Post) (d : Desk) → p.next_ref ≡ next_ref d → ((ref : ℕ) → live_with ref p ≤ live_with ref d.post) →
+    Stands d (with_delivered p d)
 unfolding with_delivered
-delivered-stands p d e = stands refl e refl
+delivered-stands p d e less = stands refl e refl (less-mail e less)
 
 poll-counts : (d : Desk) (name : List ℕ) → OnGrant (Counts d) (poll d name)
 unfolding poll
 poll-counts d name =
     granted-then _ _ λ t e.
     let gone : Post × Option Parcel = post_poll t.handle d.post in
-    granted (poll_taken-counts d (with_delivered gone.0 d) t gone.1 (delivered-stands gone.0 d (post_poll-ref t.handle d.post)))
+    granted (poll_taken-counts d (with_delivered gone.0 d) t gone.1 (delivered-stands gone.0 d (post_poll-ref t.handle d.post) λ ref. poll-fewer ref t.handle d.post))
 
 -- ---- all commands
 
@@ -527,10 +562,10 @@ change-counts d (command.Show name k) = show-counts d name k
 change-counts d (command.Blocks name) = blocks-counts d name
 change-counts d (command.Heap name) = heap_sums-counts d name
 change-counts d (command.Status name) = status-counts d name
-change-counts d command.Areas = still d (stands refl refl refl) refl refl refl
+change-counts d command.Areas = still d (stands refl refl refl same-mail) refl refl refl
 
 step-counts : (d : Desk) (c : Command) → Counts d (step d c)
-step-counts d c = or_else-keeps (Counts d) _ (change-counts d c) (λ refusal. silent (stands refl refl refl) refl refl refl)
+step-counts d c = or_else-keeps (Counts d) _ (change-counts d c) (λ refusal. silent (stands refl refl refl same-mail) refl refl refl)
 
 pub numbers-go-up : NumbersGoUp
 numbers-go-up d [] = record {
@@ -546,3 +581,14 @@ numbers-go-up d (c ∷ commands) =
       refs = go-up-join (next_ref d) (next_ref e) (next_ref (after e commands)) (refs_in (step d c).1) _ here.refs rest.refs;
       areas = go-up-join d.next_area e.next_area (after e commands).next_area (areas_in (step d c).1) _ here.areas rest.areas;
     }
+
+-- ---- refs of live messages
+
+pub after-differ : (d : Desk) (commands : List Command) → StillDiffer d (after d commands)
+after-differ d [] is = is
+after-differ d (c ∷ commands) is = after-differ (step d c).0 commands ((step-counts d c).mail is)
+
+pub always-own-refs : Always HaveOwnRefs
+always-own-refs pool handle ref files commands from ranged =
+    let d = start_with pool files handle ref in
+    own-refs (after d commands) (after-differ d commands (record { one = λ n. omega arith; given = λ n up. refl }))

@@ -1,5 +1,6 @@
 pub mod Offered
 pub mod Held
+pub mod Refs
 pub mod Safe
 pub mod Buffers
 pub mod Polls

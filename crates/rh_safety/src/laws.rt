@@ -7,6 +7,7 @@ ghost use Rattle.rh_safety.specs.Counts.{AlwaysCounts, CountsHeld, CountsOffered
 ghost use Rattle.rh_safety.specs.Names.{HaveOwnNames};
 ghost use Rattle.rh_safety.specs.Polls.{CountsFit, LosesNoBlock};
 ghost use Rattle.rh_safety.specs.Numbers.{NumbersGoUp};
+ghost use Rattle.rh_safety.specs.Refs.{HaveOwnRefs};
 ghost use Rattle.rh_safety.specs.Safe.{AlwaysSafe, ScriptsAreSafe};
 ghost use Rattle.rh_safety.specs.ScrapFile.{OwnsScrapFile};
 ghost use Rattle.rh_safety.specs.TaskRecords.{AreRecorded};
@@ -46,10 +47,12 @@ pub fn record_law()
     ensures offered { AlwaysCounts CountsOffered }
 {}
 
-/// Along the replies to any commands: the handles that `task` answers go up strictly, and so do the refs of messages that
-/// were sent and the numbers of areas that were made. None is answered twice.
+/// Along the replies to any commands: the handles that `task` answers go up strictly, and so do the refs of
+/// messages that were sent and the numbers of areas that were made. None is answered twice. After any
+/// commands no two messages that are queued or held have one ref.
 pub fn numbers_law()
-    ensures { NumbersGoUp }
+    ensures numbers { NumbersGoUp }
+    ensures refs { Always HaveOwnRefs }
 {}
 
 /// After any commands: the scrap file's ref was given, and while the message of that ref is queued or
