@@ -19,6 +19,7 @@ use Rattle.rh_safety.proofs.Invariant.{LetterAck, LetterFile, Offered, Knows, Be
 use Rattle.rh_safety.proofs.Invariant.{LetterCarries, LetterOlder, LetterAhead, Carries, Counted, AtMost, Begins, Whole, Untouched}
 use Rattle.rh_safety.proofs.Invariant.{at_most, IsGood, Unread, Inv, IsWaiting, PendingAt, Good}
 use Rattle.rh_safety.proofs.Moves.{Move, OutOk, BothOutOk, move_with, move_more, outs_move, boths_out}
+use Rattle.rh_safety.proofs.Filings.{NotTheLoad, filed_new, none_apart, record_apart}
 use Rattle.rh_safety.proofs.Sends.{few_put, few_here, few_with, sent_knows, put_ascends, order_out, one_active}
 use Rattle.rh_safety.proofs.Sends.{KeepsActive, Quiet, NewOut, out_inv, out_pending, NewFetch, fetch_inv}
 use Rattle.rh_safety.proofs.Sends.{fetch_pending}
@@ -38,6 +39,7 @@ pub record LetterOk (o : Offered) (d : Desk) (l : Letter) : Type 0 where
       Has (Fetching t) (d.taking r) → LetterAhead l s x t
   pub ack : (r : ℕ) (q : Asked) → Has (Asking q) (d.taking r) → LetterAck l q
   pub file : (r : ℕ) (q : Asked) → Has (Asking q) (d.taking r) → LetterFile o d.scrap l q
+  pub loads : (f : Scrap) → d.scrap ≡ Some f → l.me ≡ f.load → l.kind ≡ DataLoad
 
 -- what a handler of task h is given: the letter, and where its ref stands
 pub record Read (o : Offered) (d : Desk) (h : ℕ) (l : Letter) : Type 0 where
@@ -45,6 +47,11 @@ pub record Read (o : Offered) (d : Desk) (h : ℕ) (l : Letter) : Type 0 where
   pub handle : h < d.next_handle
   pub past : (w : In) → Has w (d.taking h) → in_id w < l.me
   pub next_up : (m : Message) → Has m d.queue → Unread m → m.to ≡ h → l.me < m.letter.me
+
+-- another letter than a DataLoad has another ref than the scrap file's
+pub letter_apart : {o : Offered} {d : Desk} {h : ℕ} {l : Letter} → Read o d h l → (l.kind ≡ DataLoad → ⊥) →
+    NotTheLoad d.scrap l.me
+letter_apart rd other f s eq = other (rd.ok.loads f s eq)
 
 -- ---- quiet records
 
@@ -158,6 +165,8 @@ began_good {o} {e} {d} h l g rd kind after b =
       above = rd.next_up;
       fresh = refl;
       old = me;
+      apart_load = letter_apart rd (λ k. let z : DataSave ≡ DataLoad = sym kind ∙ k in (cc));
+      own_load = letter_apart rd (λ k. let z : DataSave ≡ DataLoad = sym kind ∙ k in (cc));
       handle = rd.handle;
       sources = λ s x q. put2_other d.block h anchor (Some []) s x.anchor (λ here. no_source x
           (subst (λ j. Has (Open x) (d.sending j)) here q));
@@ -361,6 +370,8 @@ module _ {o : Offered} {e : ℕ → ℕ → Bool} {d : Desk} (h : ℕ) (t : Taki
         above = id.1;
         fresh = refl;
         old = rd.ok.below.me;
+        apart_load = letter_apart rd (λ k. let z : RamTransmit ≡ DataLoad = sym kind ∙ k in (cc));
+        own_load = record_apart h (Fetching t) t.id is refl i.files;
         handle = rd.handle;
         sources = w.sources;
         same = w.same;
@@ -420,6 +431,7 @@ over_good {o} {e} {d} h x v same_id ok both never i others born is =
         ins = i.ins;
         boths = boths_out new h v mv both i.boths;
         loads = i.loads;
+        files = i.files;
         few = record {
           outs = few_put d.sending h (with_id out_id x.id v (d.sending h)) (few_with out_id (d.sending h)
               x.id v (i.few.outs h)) i.few.outs;
@@ -495,6 +507,7 @@ filed_good {o} {e} {d} h l x bytes g rd kind is answers there =
       from = refl;
       not_fetch = λ q. absurd (let z : DataLoad ≡ RamFetch = q in (cc));
       old = rd.ok.below.me;
+      apart_load = letter_apart rd (λ k. let z : DataSaveAck ≡ DataLoad = sym kind ∙ k in (cc));
       handle = rd.handle;
       offers = record { some = λ q. absurd (let z : DataLoad ≡ DataSave = q in (cc)) };
       carries = λ b u k. absurd (let z : DataLoad ≡ RamTransmit = k in (cc));
@@ -544,6 +557,8 @@ filed_good {o} {e} {d} h l x bytes g rd kind is answers there =
               (let z : Option.Some (record { load = d.next_ref; bytes = bytes }) ≡ Some f = s in ap (λ (j : Scrap).
               j.load) (sym (some_is z))) in omega arith;
         };
+        files = filed_new d.queue m (record { load = d.next_ref; bytes = bytes }) (sent_knows d1 h m refl) refl refl rd.ok.below.me
+            (λ n k. (i.letters.below n k).me) (λ n k. (i.letters.below n k).answers) (λ r v has. i.order.in_below r v has);
         few = step1.few;
         order = step1.order;
         alive = step1.alive;
@@ -624,6 +639,7 @@ module _ {o : Offered} {e : ℕ → ℕ → Bool} {d : Desk} (h : ℕ) (l : Lett
         not_fetch = λ k. let z : DataLoadAck ≡ RamFetch = k in (cc);
         not_transmit = λ k.
             let z : DataLoadAck ≡ RamTransmit = k in (cc);
+        apart = none_apart l.me;
       }) g1
 
   -- the same, where the sender could not be told

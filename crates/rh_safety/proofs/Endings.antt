@@ -15,6 +15,7 @@ use Rattle.rh_safety.proofs.Invariant.{Asks, Good}
 use Rattle.rh_safety.proofs.Moves.{letters_more, outs_more, ins_more, boths_more, letters_bump, outs_bump, ins_bump}
 use Rattle.rh_safety.proofs.Moves.{Move, outs_less, HoldOk, ins_move, move_active, move_with}
 use Rattle.rh_safety.proofs.Moves.{ins_less, BothInOk, boths_in, loads_more, loads_other}
+use Rattle.rh_safety.proofs.Filings.{NotTheLoad, filed_in, filed_none, filed_sent, record_apart}
 use Rattle.rh_safety.proofs.Moves.{loads_lost, loads_in, loads_end}
 use Rattle.rh_safety.proofs.Sends.{KeepsActive, Quiet, few_put, few_with, one_active, order_in, order_send}
 use Rattle.rh_safety.proofs.Sends.{put_ascends, queue_below, sent_knows, waits_kept, waits_sent}
@@ -59,6 +60,7 @@ heap_inv {o} {e} {d} h a v free i = record {
       }) i.ins;
   boths = i.boths;
   loads = i.loads;
+  files = i.files;
   few = i.few;
   order = i.order;
   alive = i.alive;
@@ -116,6 +118,7 @@ end_inv {o} {e} {d} bl h j v n i =
       }) i.ins;
       boths = boths_in new h v mv n.both (λ y. absurd (going_on v v n.over refl (growing_goes v y))) i.boths;
       loads = loads_end new h v mv (λ q u. going_on v (Asking q) n.over u refl) i.loads;
+      files = filed_in new h v mv (record_apart h n.was (in_id v) n.has (was_id ∙ sym same_id) i.files) i.files;
       few = record {
         outs = i.few.outs;
         ins = few_put d.taking h (with_id in_id j v (d.taking h)) (few_with in_id
@@ -192,6 +195,7 @@ pub record Tells (d : Desk) (h : ℕ) (n : Letter) : Type 0 where
   pub not_save : n.kind ≡ DataSave → ⊥
   pub not_fetch : n.kind ≡ RamFetch → ⊥
   pub not_transmit : n.kind ≡ RamTransmit → ⊥
+  pub apart : NotTheLoad d.scrap n.answers
 
 pub tell_good : {o : Offered} {e : ℕ → ℕ → Bool} {d : Desk} (h : ℕ) (m : Message) → Tells d h m.letter → Good o e d →
     Good o e (sent d h m)
@@ -228,6 +232,7 @@ tell_good {o} {e} {d} h m n g =
                   absurd (n.not_transmit a);
             }) i.boths;
         loads = loads_other nl (sent_knows d h m n.sender) n.fresh i.loads;
+        files = filed_sent h m (sent_knows d h m n.sender) n.fresh i.loads.load_below n.apart i.files;
         few = i.few;
         order = order_send m n.fresh (queue_below i) i.order;
         alive = i.alive;
@@ -334,6 +339,8 @@ asked_good {o} {e} {d} h t is none handle quiet g =
             answers = λ l k.
                 (i.letters.below l k).answers;
           }) i.loads);
+      files = let other = record_apart h (Fetching t) t.id is refl i.files in
+          filed_sent h m (sent_knows d1 h m refl) refl i.loads.load_below other (filed_in new h v mv other i.files);
       few = record {
         outs = i.few.outs;
         ins = few_put d.taking h (with_id in_id t.id v (d.taking h)) (few_with in_id
@@ -388,6 +395,7 @@ drained_good {o} {e} {d} h t here g =
         boths = boths_in new h v mv (record { older = λ l k s x q. i.boths.older l k s x q h t act }) (λ y.
             absurd (let z : Bool.false ≡ true = y in (cc))) i.boths;
         loads = loads_end new h v mv (λ q u. absurd (let z : Asking q ≡ Draining t = u in (cc))) i.loads;
+        files = filed_in new h v mv (record_apart h (Fetching t) t.id here refl i.files) i.files;
         few = record {
           outs = i.few.outs;
           ins = few_put d.taking h (with_id in_id t.id v (d.taking h)) (few_with in_id
@@ -485,6 +493,7 @@ write_inv {o} {e} {d} r t old bytes act is same none i =
       };
       boths = i.boths;
       loads = i.loads;
+      files = i.files;
       few = i.few;
       order = i.order;
       alive = i.alive;
@@ -512,6 +521,7 @@ block_inv {o} {e} {d} e' h a v n i = record {
       }) i.ins;
   boths = i.boths;
   loads = i.loads;
+  files = i.files;
   few = i.few;
   order = i.order;
   alive = i.alive;
@@ -528,6 +538,7 @@ lost_good g = record {
     ins = g.inv.ins;
     boths = g.inv.boths;
     loads = loads_lost g.inv.loads;
+    files = filed_none;
     few = g.inv.few;
     order = g.inv.order;
     alive = g.inv.alive;

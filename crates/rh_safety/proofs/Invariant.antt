@@ -185,6 +185,28 @@ pub record Loads (K : Letter → Type 0) (o : Offered) (taking : ℕ → List In
     pub ack_below : (r : ℕ) (q : Asked) → Has (Asking q) (taking r) → q.ack < next
     pub load_below : (f : Scrap) → scrap ≡ Some f → f.load < next
 
+-- a message that is queued or held has the ref
+pub data IsLive (q : List Message) (held : ℕ → Option Message) (ref : ℕ) : Type 0 where
+  waits : (m : Message) → Has m q → m.letter.me ≡ ref → IsLive q held ref
+  rests : (h : ℕ) (m : Message) → held h ≡ Some m → m.letter.me ≡ ref → IsLive q held ref
+
+-- the scrap file's DataLoad is queued or held, no other kind of letter has its ref, no letter answers it, and no record has
+-- its ref for an id
+pub record Filed (K : Letter → Type 0) (q : List Message) (held : ℕ → Option Message) (taking : ℕ → List In) (f : Scrap) :
+    Type 0 where
+  pub live : IsLive q held f.load
+  pub some : 0 < f.load
+  pub kinds : (l : Letter) → K l → l.me ≡ f.load → l.kind ≡ DataLoad
+  pub unanswered : (l : Letter) → K l → l.answers ≢ f.load
+  pub ids : (r : ℕ) (w : In) → Has w (taking r) → in_id w ≢ f.load
+
+abbrev pub Files : (Letter → Type 0) → List Message → (ℕ → Option Message) → (ℕ → List In) → Option Scrap → Type 0
+Files K q held taking scrap = (f : Scrap) → scrap ≡ Some f → Filed K q held taking f
+
+-- the DataLoad of the scrap file, where there is one, is queued or held
+abbrev pub LiveFile : Desk → Type 0
+LiveFile d = (f : Scrap) → d.scrap ≡ Some f → IsLive d.queue d.held f.load
+
 -- ---- the order of refs and ids
 
 abbrev pub Unread : Message → Type 0
@@ -212,6 +234,7 @@ pub record Inv (o : Offered) (e : ℕ → ℕ → Bool) (d : Desk) : Type 0 wher
   pub ins : Ins (Knows d) o e d.taking d.block d.heap d.buf d.next_ref
   pub boths : Boths (Knows d) d.sending d.taking
   pub loads : Loads (Knows d) o d.taking d.scrap d.next_ref
+  pub files : Files (Knows d) d.queue d.held d.taking d.scrap
   pub few : Few d.most d.sending d.taking
   pub order : Order d.queue d.sending d.taking d.next_ref
   pub alive : (h : ℕ) → d.live h ≡ true → h < d.next_handle

@@ -18,15 +18,15 @@ use Rattle.rh_safety.proofs.View.{view, seen_parcel, task_of}
 use Rattle.rh_safety.proofs.Ends.{Offers, Edits, first_for}
 use Rattle.rh_safety.proofs.Sight as sight
 use Rattle.rh_safety.proofs.Basics.{either}
-use Rattle.rh_safety.proofs.Invariant.{Good}
-use Rattle.rh_safety.proofs.Posts.{returned_good}
-use Rattle.rh_safety.proofs.Polls.{Taken, not_fetch_good, unanswered_good, came_taken, back_ready, lost_if_good}
+use Rattle.rh_safety.proofs.Invariant.{Good, LiveFile}
+use Rattle.rh_safety.proofs.Polls.{Taken, not_fetch_good, unanswered_good, came_taken, back_ready, left_good, unpicked_live}
 use Rattle.rh_safety.proofs.Polls.{lost_if_handle}
 use Rattle.rh_safety.proofs.Polls.{returned_handle}
 use Rattle.rh_safety.proofs.SeenTasks.{field_is, live_of}
-use Rattle.rh_safety.proofs.SeenFrames.{Fits, bind, done, instead_of, the_task}
+use Rattle.rh_safety.proofs.SeenFrames.{Fits, HaveOwnSeats, bind, done, instead_of, the_task}
 use Rattle.rh_safety.proofs.SeenTaking.{IsTaken, picked_by, poll_taken_is}
 use Rattle.rh_safety.proofs.SeenDocuments.{letter_of}
+use Rattle.rh_safety.proofs.SeenFiles.{delivered_live}
 use Rattle.rh_safety.proofs.Keeps.{Keeps, seen_good}
 use Rattle.rh_defs.specs.declared.transfer.Taking.{Taking}
 use Rattle.rh_safety.proofs.Ends.{Active}
@@ -79,13 +79,17 @@ handled_keeps d t m w Recorded q = came_keeps d t m w.is m.message.body (w.came 
 handled_keeps {o} {e} d t m w Acknowledge q = back_keeps o e d t m w.is (w.back q) w.handle (w.quiet q) m.message.body
 
 module _ {o : Offers} {e : Edits} (d : Desk) (t : Task) (f : Fits d) (is : task_of t.handle d.tasks ≡ Some t)
-    (g : Good o e (view d)) (p : Post × Option Parcel) (w : IsTaken d t.handle p) where
+    (g : Good o e (view d)) (p : Post × Option Parcel) (own : HaveOwnSeats p.0) (w : IsTaken d t.handle p) where
   -- the desk that the message is taken from
   abbrev left : sight.Desk
   left = sight.lost_if w.lost (sight.returned (view d) t.handle ((view d).held t.handle))
 
-  left_good : Good o e left
-  left_good = lost_if_good w.lost (returned_good t.handle ((view d).held t.handle) refl g)
+  left_is_good : LiveFile left → Good o e left
+  left_is_good live = left_good w.lost t.handle ((view d).held t.handle) refl live g
+
+  -- a scrap file that is still there has its DataLoad
+  safe : LiveFile (view (with_delivered p.0 d))
+  safe = delivered_live d p.0 own
 
   below : t.handle < left.next_handle
   below = lost_if_handle (sight.returned (view d) t.handle ((view d).held t.handle)) w.lost t.handle
@@ -100,25 +104,28 @@ module _ {o : Offers} {e : Edits} (d : Desk) (t : Task) (f : Fits d) (is : task_
       let first : first_for h left.queue ≡ Some x = w.first ∙ ap (option_map seen_parcel) q in
       let seen : view (with_delivered p.0 d) ≡ sight.picked left h x m.code = w.seen ∙ ap (λ (v : Option Parcel).
       picked_by h (option_map seen_parcel v) left) q in
+      let picked_safe : LiveFile (sight.picked left h x m.code) = subst LiveFile seen safe in
+      let left_ok : Good o e left = left_is_good (unpicked_live left h x m.code first picked_safe) in
       let back : m.code ≡ Acknowledge → Good o e (view (with_delivered p.0 d)) × ((k : Taking) → Active
       ((view (with_delivered p.0 d)).taking h) k → m.message.my_ref ≡ k.fetch → Quiet (view (with_delivered p.0 d)) h
       k.id) = λ code. subst (λ (y : sight.Desk). Good o e y × ((k : Taking) → Active (y.taking h) k →
       m.message.my_ref ≡ k.fetch → Quiet y h k.id)) (sym (seen ∙ ap (sight.picked left h x) code))
-      (back_ready h x left_good first below code) in
+      (back_ready h x left_ok first below code (subst (λ c. LiveFile (sight.picked left h x c)) code picked_safe)) in
       record {
         is = is;
         handle = g.inv.alive h (live_of d h t is);
-        came = λ ne. subst (λ (y : sight.Desk). Taken o e y h x.letter) (sym seen) (came_taken h x left_good first
-            below m.code refl ne);
+        came = λ ne. subst (λ (y : sight.Desk). Taken o e y h x.letter) (sym seen) (came_taken h x left_ok first
+            below m.code refl ne picked_safe);
         back = λ code. (back code).0;
         quiet = λ code. (back code).1;
       }
 
   by_message : (v : Option Parcel) → p.1 ≡ v → Good o e (view (poll_taken (with_delivered p.0 d) t v).0)
   unfolding poll_taken
-  by_message None q = seen_good (w.seen ∙ ap (λ (v : Option Parcel). picked_by t.handle (option_map seen_parcel v)
-      left) q)
-      left_good
+  by_message None q =
+      let seen : view (with_delivered p.0 d) ≡ left = w.seen ∙ ap (λ (v : Option Parcel). picked_by t.handle
+      (option_map seen_parcel v) left) q in
+      seen_good seen (left_is_good (subst LiveFile seen safe))
   by_message (Some m) q = handled_keeps (with_delivered p.0 d) t m (given m q) m.code refl
 
 pub poll_keeps : {o : Offers} {e : Edits} (d : Desk) (name : List ℕ) → Fits d → Good o e (view d) →
@@ -129,4 +136,4 @@ poll_keeps {o} {e} d name f g =
     bind P (named name d) _ (instead_of d) (λ r. g) (λ t q. done P _ (instead_of d) (
     let is = the_task d name t f q in
     let p = post_poll t.handle d.post in
-    by_message d t f is g p (poll_taken_is d t.handle f (live_of d t.handle t is)) p.1 refl))
+    by_message d t f is g p (f.polled t.handle) (poll_taken_is d t.handle f (live_of d t.handle t is)) p.1 refl))

@@ -6,6 +6,7 @@ pub mod View
 pub mod Basics
 pub mod Invariant
 pub mod Moves
+pub mod Filings
 pub mod Sends
 pub mod Endings
 pub mod Posts
@@ -39,6 +40,7 @@ pub mod SeenPosts
 pub mod SeenTaking
 pub mod SeenDocuments
 pub mod SeenWrites
+pub mod SeenFiles
 pub mod SeenDesks
 pub mod Lines
 pub mod SeenLaws

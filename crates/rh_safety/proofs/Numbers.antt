@@ -385,7 +385,10 @@ module _ (d : Desk) where
 
   kill-counts : (name : List ℕ) → OnGrant (Counts d) (kill d name)
   unfolding kill with_delivered
-  kill-counts name = granted-then _ _ λ t e. still (stands refl (post_death-ref t.handle d.post) refl (less-mail (post_death-ref t.handle d.post) λ ref. death-fewer ref t.handle d.post)) refl refl refl
+  kill-counts name =
+      granted-then _ _ λ t e.
+      let next = post_death-ref t.handle d.post in
+      still (stands refl next refl (less-mail next λ ref. death-fewer ref t.handle d.post)) refl refl refl
 
   alloc-counts : (name : List ℕ) (k n : ℕ) → OnGrant (Counts d) (alloc d name k n)
   unfolding alloc with_task
@@ -393,11 +396,13 @@ module _ (d : Desk) where
 
   load-counts : (name : List ℕ) (k : ℕ) (file : List ℕ) → OnGrant (Counts d) (load d name k file)
   unfolding load with_task
-  load-counts name k file = granted-then _ _ λ t e. granted-then _ _ λ entry f. granted-then _ _ λ p g. granted-then _ _ λ s h. still (stands refl refl refl same-mail) refl refl refl
+  load-counts name k file = granted-then _ _ λ t e. granted-then _ _ λ entry f. granted-then _ _ λ p g.
+      granted-then _ _ λ s h. still (stands refl refl refl same-mail) refl refl refl
 
   put-counts : (name : List ℕ) (k offset : ℕ) (bytes : List ℕ) → OnGrant (Counts d) (put d name k offset bytes)
   unfolding put with_task
-  put-counts name k offset bytes = granted-then _ _ λ t e. granted-then _ _ λ b f. granted-then _ _ λ s g. still (stands refl refl refl same-mail) refl refl refl
+  put-counts name k offset bytes =
+      granted-then _ _ λ t e. granted-then _ _ λ b f. granted-then _ _ λ s g. still (stands refl refl refl same-mail) refl refl refl
 
   free-counts : (name : List ℕ) (k : ℕ) → OnGrant (Counts d) (free d name k)
   unfolding free with_task
@@ -421,7 +426,8 @@ module _ (d : Desk) where
 
   resize-counts : (name : List ℕ) (address : ℕ) (delta : ℤ) → OnGrant (Counts d) (resize d name address delta)
   unfolding resize with_task
-  resize-counts name address delta = granted-then _ _ λ t e. granted-then _ _ λ b f. granted-then _ _ λ p g. still (stands refl refl refl same-mail) refl refl refl
+  resize-counts name address delta =
+      granted-then _ _ λ t e. granted-then _ _ λ b f. granted-then _ _ λ p g. still (stands refl refl refl same-mail) refl refl refl
 
   budge-counts : (name : List ℕ) (on : Bool) → OnGrant (Counts d) (budge d name on)
   unfolding budge with_task
@@ -530,7 +536,8 @@ unfolding poll
 poll-counts d name =
     granted-then _ _ λ t e.
     let gone : Post × Option Parcel = post_poll t.handle d.post in
-    granted (poll_taken-counts d (with_delivered gone.0 d) t gone.1 (delivered-stands gone.0 d (post_poll-ref t.handle d.post) λ ref. poll-fewer ref t.handle d.post))
+    granted (poll_taken-counts d (with_delivered gone.0 d) t gone.1
+    (delivered-stands gone.0 d (post_poll-ref t.handle d.post) λ ref. poll-fewer ref t.handle d.post))
 
 -- ---- all commands
 

@@ -4,20 +4,21 @@ use Rattle.std.proofs.Common.{drop, Option, Some, None, refl, sym, ap, ◌∙◌
 use Rattle.std.specs.Prelude.{if◌then◌else◌, nat_eq, nat_lt}
 use Rattle.std.proofs.lemmas.Bool.Decides.{leb_tells, nat_tests}
 use Rattle.std.proofs.lemmas.Bool.{eq-eqb}
-use Rattle.rh_safety.proofs.Ends.{Code, Plain, Recorded, Returned, DataSave, RamFetch, RamTransmit}
+use Rattle.rh_safety.proofs.Ends.{Code, Plain, Recorded, Returned, DataSave, DataLoad, RamFetch, RamTransmit}
 use Rattle.rh_safety.proofs.Ends.{Letter, Message, Sending, Taking, Out, Open, Out_done}
 use Rattle.rh_safety.proofs.Ends.{out_id, Has, Active, put, with_id, find_open, first_for}
 use Rattle.rh_safety.proofs.Ends.{without_first}
 use Rattle.rh_safety.proofs.Sight.{sent, Desk, returned, picked, failed}
 use Rattle.rh_safety.proofs.Sight.{portion, would_answer, lost_if}
-use Rattle.rh_safety.proofs.Basics.{put_all, put_same, put_other, and_left, and_right, is_equal, first_has}
+use Rattle.rh_safety.proofs.Basics.{put_all, put_same, put_other, and_left, and_right, is_equal, first_has, without_has}
 use Rattle.rh_safety.proofs.Basics.{length_take, front_written, length_written, Ascend, with_ascends, open_is}
-use Rattle.rh_safety.proofs.Invariant.{Offered, queued, Knows, Unread, Inv, PendingAt, Good, known_by}
+use Rattle.rh_safety.proofs.Invariant.{Offered, queued, Knows, Unread, Inv, PendingAt, Good, IsLive, waits, rests, LiveFile, known_by}
 use Rattle.rh_safety.proofs.Moves.{Move, move_with}
+use Rattle.rh_safety.proofs.Filings.{none_live}
 use Rattle.rh_safety.proofs.Sends.{few_here, few_with, one_active, Quiet, OutPart, NewOut, out_inv, out_pending}
 use Rattle.rh_safety.proofs.Endings.{lost_good, put2_same, write_inv}
-use Rattle.rh_safety.proofs.Posts.{OneMore, picked_known, picked_inv, picked_pending, first_below}
-use Rattle.rh_safety.proofs.Arrivals.{LetterOk, Read, shut_good}
+use Rattle.rh_safety.proofs.Posts.{OneMore, returned_good, picked_known, picked_inv, picked_pending, first_below}
+use Rattle.rh_safety.proofs.Arrivals.{LetterOk, Read, letter_apart, shut_good}
 
 -- ---- RAMFetch
 
@@ -135,6 +136,7 @@ module _ {o : Offered} {e : ℕ → ℕ → Bool} {d : Desk} (h : ℕ) (l : Lett
           from = refl;
           not_fetch = λ q. absurd (let z : RamTransmit ≡ RamFetch = q in (cc));
           old = g.read.ok.below.me;
+          apart_load = letter_apart g.read (λ k. let z : RamFetch ≡ DataLoad = sym g.kind ∙ k in (cc));
           handle = g.read.handle;
           offers = record { some = λ q. absurd (let z : RamTransmit ≡ DataSave = q in (cc)) };
           carries = λ b u k q f s.
@@ -238,6 +240,18 @@ would_tells x l q =
 
 -- ---- polls
 
+put_one : (d : Desk) (h : ℕ) (m : Message) → OneMore d.held (put d.held h (Some m)) m
+put_one d h m k y r = put_all (λ j z. z ≡ Some y → (d.held j ≡ Some y) ⊎ (m ≡ y)) d.held h (Some m)
+    (λ a. inr (let z : m ≡ y = cc in z)) (λ j ne a. inl a) k r
+
+unpicked : (d : Desk) (h : ℕ) (m : Message) (hd : ℕ → Option Message) {ref : ℕ} → first_for h d.queue ≡ Some m → OneMore d.held hd m →
+    IsLive (without_first h d.queue) hd ref → IsLive d.queue d.held ref
+unpicked d h m hd first one (waits y has same) = waits y (without_has h d.queue y has) same
+unpicked d h m hd first one (rests k y is same) = elim (one k y is) [
+  | inl a ↦ rests k y a same
+  | inr a ↦ waits m (first_has h d.queue m first).0 (ap (λ (z : Message). z.letter.me) a ∙ same)
+]
+
 -- what a handler is given: the desk after the taking, and the letter taken
 pub record Taken (o : Offered) (e : ℕ → ℕ → Bool) (d : Desk) (h : ℕ) (l : Letter) : Type 0 where
   pub inv : Inv o e d
@@ -309,14 +323,16 @@ module _ {o : Offered} {e : ℕ → ℕ → Bool} {d : Desk} (h : ℕ) (m : Mess
         ahead = i.boths.ahead m.letter k;
         ack = i.loads.ack m.letter k;
         file = i.loads.file m.letter k;
+        loads = λ f s. (i.files f s).kinds m.letter k;
       }
 
-  pub taken : Unread m → (hd : ℕ → Option Message) → OneMore d.held hd m → Taken o e (record d {
-    queue = without_first h d.queue;
-    held = hd;
-  }) h m.letter
-  taken un hd one = record {
-    inv = picked_inv h m hd here one g.inv;
+  pub taken : Unread m → (hd : ℕ → Option Message) → OneMore d.held hd m →
+      LiveFile (record d { queue = without_first h d.queue; held = hd }) → Taken o e (record d {
+        queue = without_first h d.queue;
+        held = hd;
+      }) h m.letter
+  taken un hd one live = record {
+    inv = picked_inv h m hd here one live g.inv;
     born = g.born;
     read = record {
       ok = record {
@@ -329,6 +345,7 @@ module _ {o : Offered} {e : ℕ → ℕ → Bool} {d : Desk} (h : ℕ) (m : Mess
         ahead = letter_ok.ahead;
         ack = letter_ok.ack;
         file = letter_ok.file;
+        loads = letter_ok.loads;
       };
       handle = handle;
       past = λ w q. g.inv.order.above h w m q here un to;
@@ -363,12 +380,12 @@ module _ {o : Offered} {e : ℕ → ℕ → Bool} {d : Desk} (h : ℕ) (m : Mess
   }
 
   -- a message that came back
-  pub back_ready : m.code ≡ Returned → Good o e (picked d h m Returned) × ((t : Taking) → Active (d.taking h) t →
+  pub back_ready : m.code ≡ Returned → LiveFile (picked d h m Returned) → Good o e (picked d h m Returned) × ((t : Taking) → Active (d.taking h) t →
       m.letter.me ≡ t.fetch → Quiet (picked d h m Returned) h t.id)
-  back_ready code =
+  back_ready code safe =
       let one : OneMore d.held d.held m = λ k y q. inl q in (
         record {
-          inv = picked_inv h m d.held here one g.inv;
+          inv = picked_inv h m d.held here one safe g.inv;
           pending = λ s x q. picked_pending h m d.held here one g.inv s x (λ l a f pos wait n file. let z : Returned ≡
               Recorded = sym code ∙ wait.code in (cc)) (g.pending s x q);
           born = g.born;
@@ -382,15 +399,23 @@ module _ {o : Offered} {e : ℕ → ℕ → Bool} {d : Desk} (h : ℕ) (m : Mess
       )
 
   -- a message that wants no answer, or is held
-  pub came_taken : (c : Code) → m.code ≡ c → (c ≡ Returned → ⊥) → Taken o e (picked d h m c) h m.letter
-  came_taken Plain q ne = taken (λ r. ne (sym q ∙ r)) d.held (λ k y r. inl r)
-  came_taken Recorded q ne = taken (λ r. ne (sym q ∙ r)) (put d.held h (Some m)) (λ k y r. put_all (λ j z. z ≡ Some y →
-      (d.held j ≡ Some y) ⊎ (m ≡ y)) d.held h (Some m) (λ a. inr (let z : m ≡ y = cc in z)) (λ j ne a. inl a) k r)
-  came_taken Returned q ne = absurd (ne refl)
+  pub came_taken : (c : Code) → m.code ≡ c → (c ≡ Returned → ⊥) → LiveFile (picked d h m c) → Taken o e (picked d h m c) h m.letter
+  came_taken Plain q ne live = taken (λ r. ne (sym q ∙ r)) d.held (λ k y r. inl r) live
+  came_taken Recorded q ne live = taken (λ r. ne (sym q ∙ r)) (put d.held h (Some m)) (put_one d h m) live
+  came_taken Returned q ne live = absurd (ne refl)
 
-pub lost_if_good : {o : Offered} {e : ℕ → ℕ → Bool} {d : Desk} (b : Bool) → Good o e d → Good o e (lost_if b d)
-lost_if_good true g = lost_good g
-lost_if_good false g = g
+-- what a task holds goes back, and with it the scrap file, or not
+pub left_good : {o : Offered} {e : ℕ → ℕ → Bool} {d : Desk} (b : Bool) (h : ℕ) (v : Option Message) → d.held h ≡ v →
+    LiveFile (lost_if b (returned d h v)) → Good o e d → Good o e (lost_if b (returned d h v))
+left_good true h None is live g = lost_good g
+left_good true h (Some m) is live g = returned_good h (Some m) is (λ f. none_live f) (lost_good g)
+left_good false h v is live g = returned_good h v is live g
+
+-- a message that is queued or held once another one was picked was so before
+pub unpicked_live : (d : Desk) (h : ℕ) (m : Message) (c : Code) → first_for h d.queue ≡ Some m → LiveFile (picked d h m c) → LiveFile d
+unpicked_live d h m Plain first live f s = unpicked d h m d.held first (λ k y r. inl r) (live f s)
+unpicked_live d h m Recorded first live f s = unpicked d h m (put d.held h (Some m)) first (put_one d h m) (live f s)
+unpicked_live d h m Returned first live f s = unpicked d h m d.held first (λ k y r. inl r) (live f s)
 
 pub lost_if_handle : (d : Desk) (b : Bool) (h : ℕ) → h < d.next_handle → h < (lost_if b d).next_handle
 lost_if_handle d true h lt = lt

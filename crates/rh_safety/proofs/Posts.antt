@@ -10,8 +10,9 @@ use Rattle.rh_safety.proofs.Sight.{Desk, sent, again, back, returned, for_others
 use Rattle.rh_safety.proofs.Sight.{back_held, killed, started}
 use Rattle.rh_safety.proofs.Basics.{put_all, put_same, put_other, Has-append, none_some, without_has, pair_append}
 use Rattle.rh_safety.proofs.Invariant.{Offered, Known, queued, kept, latest, Knows, Offers, Unread, Rises, Order, Inv}
-use Rattle.rh_safety.proofs.Invariant.{known_by}
+use Rattle.rh_safety.proofs.Invariant.{LiveFile, known_by}
 use Rattle.rh_safety.proofs.Invariant.{IsWaiting, Waits, PendingAt, Good, LetterCarries, HasBuffer}
+use Rattle.rh_safety.proofs.Filings.{filed_fewer, filed_less, filed_sent}
 use Rattle.rh_safety.proofs.Moves.{loads_other, loads_fewer, loads_less, letters_more, outs_more, ins_more}
 use Rattle.rh_safety.proofs.Moves.{boths_more, letters_fewer, outs_fewer, ins_fewer, boths_fewer, letters_bump}
 use Rattle.rh_safety.proofs.Moves.{outs_bump, ins_bump, at_put, none_left, outs_less, ins_less, boths_less}
@@ -63,6 +64,7 @@ copy_inv {o} {e} {d} h m own k of i =
             ahead = λ a c g y. absurd (let z = w.below in omega arith);
           }) i.boths;
       loads = loads_other n.letter (sent_knows d h n own) refl i.loads;
+      files = filed_sent h n (sent_knows d h n own) refl i.loads.load_below (λ f u. (i.files f u).unanswered m.letter k) i.files;
       few = i.few;
       order = order_send n refl (queue_below i) i.order;
       alive = i.alive;
@@ -166,13 +168,14 @@ first_below h (x ∷ q) m e up y k to u v =
 -- fewer letters are known
 pub fewer_inv : {o : Offered} {e : ℕ → ℕ → Bool} {d : Desk} (q : List Message) (hd la : ℕ → Option Message) →
     ((l : Letter) → Known q hd la l → Knows d l) → Rises q → ((y : Message) → Has y q → Unread y → Has y d.queue) →
-    Inv o e d → Inv o e (record d { queue = q; held = hd; last = la })
-fewer_inv q hd la f up un i = record {
+    LiveFile (record d { queue = q; held = hd; last = la }) → Inv o e d → Inv o e (record d { queue = q; held = hd; last = la })
+fewer_inv q hd la f up un live i = record {
   letters = letters_fewer f i.letters;
   outs = outs_fewer f i.outs;
   ins = ins_fewer f i.ins;
   boths = boths_fewer f i.boths;
   loads = loads_fewer f i.loads;
+  files = filed_fewer f live i.files;
   few = i.few;
   order = order_queue q up un i.order;
   alive = i.alive;
@@ -208,11 +211,11 @@ back_codes : (d : Desk) (m y : Message) → Has y (back d.live m) → y.code ≡
 back_codes d m y a = (back_has (d.live m.letter.from) m y a).0
 
 pub returned_inv : {o : Offered} {e : ℕ → ℕ → Bool} {d : Desk} (h : ℕ) (m : Option Message) → d.held h ≡ m →
-    Inv o e d → Inv o e (returned d h m)
-returned_inv h None is i = i
-returned_inv {o} {e} {d} h (Some m) is i =
+    LiveFile (returned d h m) → Inv o e d → Inv o e (returned d h m)
+returned_inv h None is live i = i
+returned_inv {o} {e} {d} h (Some m) is live i =
     fewer_inv (d.queue ++ back d.live m) (put d.held h None) d.last (returned_known d h m is) (rises_with d.queue
-    (back d.live m) (back_codes d m) i.order.rises) (unread_with d.queue (back d.live m) (back_codes d m)) i
+    (back d.live m) (back_codes d m) i.order.rises) (unread_with d.queue (back d.live m) (back_codes d m)) live i
 
 -- fewer messages queued and held
 pub waits_fewer : {q : List Message} {held : ℕ → Option Message} {s : ℕ} {l : Letter} {x : Sending} {ws : List In}
@@ -244,10 +247,10 @@ returned_pending d h (Some m) is p s x q l k =
     (λ b y r. w.free b y (unheld d h b y r))
 
 pub returned_good : {o : Offered} {e : ℕ → ℕ → Bool} {d : Desk} (h : ℕ) (m : Option Message) → d.held h ≡ m →
-    Good o e d → Good o e (returned d h m)
-returned_good h None is g = g
-returned_good {o} {e} {d} h (Some m) is g = record {
-  inv = returned_inv h (Some m) is g.inv;
+    LiveFile (returned d h m) → Good o e d → Good o e (returned d h m)
+returned_good h None is live g = g
+returned_good {o} {e} {d} h (Some m) is live g = record {
+  inv = returned_inv h (Some m) is live g.inv;
   pending = returned_pending d h (Some m) is g.pending;
   born = g.born;
 }
@@ -268,13 +271,11 @@ picked_known d h m hd here one l (kept k y q eq) = elim (one k y q) [
 picked_known d h m hd here one l (latest k y q eq) = latest k y q eq
 
 pub picked_inv : {o : Offered} {e : ℕ → ℕ → Bool} {d : Desk} (h : ℕ) (m : Message) (hd : ℕ → Option Message) →
-    Has m d.queue → OneMore d.held hd m → Inv o e d → Inv o e (record d {
-      queue = without_first h d.queue;
-      held = hd;
-    })
-picked_inv {o} {e} {d} h m hd here one i =
+    Has m d.queue → OneMore d.held hd m → LiveFile (record d { queue = without_first h d.queue; held = hd }) → Inv o e d →
+    Inv o e (record d { queue = without_first h d.queue; held = hd })
+picked_inv {o} {e} {d} h m hd here one live i =
     fewer_inv (without_first h d.queue) hd d.last (picked_known d h m hd here one) (rises_without h d.queue
-    i.order.rises) (λ y has u. without_has h d.queue y has) i
+    i.order.rises) (λ y has u. without_has h d.queue y has) live i
 
 -- the message taken is not one that record x of task s is to answer
 abbrev pub NotFor : Desk → Message → ℕ → Sending → Type 0
@@ -461,6 +462,7 @@ blank_inv {o} {e} {d} h buf bl hp pos i =
       };
       boths = boths_less sd tk (none_left d.sending h) (none_left d.taking h) i.boths;
       loads = loads_less tk (none_left d.taking h) i.loads;
+      files = filed_less tk (none_left d.taking h) i.files;
       few = record {
         outs = few_put d.sending h [] (omega arith) i.few.outs;
         ins = few_put d.taking h [] (omega arith) i.few.ins;
@@ -470,8 +472,8 @@ blank_inv {o} {e} {d} h buf bl hp pos i =
       positive = i.positive;
     }
 
-pub killed_inv : {o : Offered} {e : ℕ → ℕ → Bool} {d : Desk} (h : ℕ) → Inv o e d → Inv o e (killed d h)
-killed_inv {o} {e} {d} h i =
+pub killed_inv : {o : Offered} {e : ℕ → ℕ → Bool} {d : Desk} (h : ℕ) → LiveFile (killed d h) → Inv o e d → Inv o e (killed d h)
+killed_inv {o} {e} {d} h live i =
     let others = put d.live h false in
     let ys = back_held others (d.held h) ++ bounced_for others h d.queue in
     let codes : (y : Message) → Has y ys → y.code ≡ Returned = λ y a. elim (Has-append y (back_held others (d.held h))
@@ -483,13 +485,14 @@ killed_inv {o} {e} {d} h i =
     let step1 = blank_inv h 1 (λ a. None) (λ a. None) (omega arith) i in
     let step2 = fewer_inv (for_others h d.queue ++ ys) (put d.held h None) (put d.last h None) (killed_known d h)
     (rises_with (for_others h d.queue) ys codes (rises_others h d.queue i.order.rises))
-    (λ y has u. for_others_has h d.queue y (unread_with (for_others h d.queue) ys codes y has u)) step1 in
+    (λ y has u. for_others_has h d.queue y (unread_with (for_others h d.queue) ys codes y has u)) live step1 in
     record {
       letters = step2.letters;
       outs = step2.outs;
       ins = step2.ins;
       boths = step2.boths;
       loads = step2.loads;
+      files = step2.files;
       few = step2.few;
       order = step2.order;
       alive = λ k. put_all (λ j z. z ≡ true → j < d.next_handle) d.live h false (λ q. absurd (cc)) (λ j ne q.
@@ -539,13 +542,14 @@ started_inv {o} {e} {d} buf deaf file pos i =
     let h = d.next_handle in
     let step1 = blank_inv h buf (λ a. None) (λ a. None) pos i in
     let step2 = fewer_inv d.queue d.held (put d.last h None) (started_known d buf deaf file) i.order.rises (λ y has u.
-    has) step1 in
+    has) (λ f u. (i.files f u).live) step1 in
     record {
       letters = letters_bump (omega arith) (omega arith) step2.letters;
       outs = step2.outs;
       ins = step2.ins;
       boths = step2.boths;
       loads = step2.loads;
+      files = step2.files;
       few = step2.few;
       order = step2.order;
       alive = λ k. put_all (λ j z. z ≡ true → j < h + 1) d.live h true (λ q. omega arith) (λ j ne q. let u =

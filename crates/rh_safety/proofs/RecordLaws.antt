@@ -1,6 +1,6 @@
 -- Records of live tasks stand in order, and what they name is there.
-use Rattle.std.proofs.Common.{◌≡◌, ℕ, ◌+◌, ◌≤◌, ◌<◌, Bool, true, false, ◌||◌, List, [], ◌∷◌, length, take, Option, Some, None, refl, sym}
-use Rattle.std.proofs.Common.{ap, ◌∙◌, subst, ◌⊎◌, inl, inr, arith}
+use Rattle.std.proofs.Common.{◌≡◌, ℕ, ◌+◌, ◌≤◌, ◌<◌, Bool, true, List, [], ◌∷◌, length, take, Option, Some, None, refl, sym}
+use Rattle.std.proofs.Common.{ap, ◌∙◌, subst, inl, inr, arith}
 use Rattle.std.specs.List.{list_any}
 use Rattle.rh_defs.specs.declared.transfer.Sending.{Sending}
 use Rattle.rh_defs.specs.declared.transfer.Taking.{Taking}
@@ -20,6 +20,7 @@ use Rattle.rh_safety.proofs.Basics.{Ascend, has_of, is_equal, length_take}
 use Rattle.rh_safety.proofs.Invariant.{Good, Offered}
 use Rattle.rh_safety.proofs.SeenDocuments.{buffer_is}
 use Rattle.rh_safety.proofs.SeenLaws.{block_is}
+use Rattle.rh_safety.proofs.SeenFiles.{one_of, passes}
 use Rattle.rh_safety.proofs.SeenTasks.{field_is}
 use Rattle.rh_safety.proofs.View.{view, blocks_of, buffers_of}
 
@@ -38,19 +39,6 @@ rises number least next (x ∷ xs) room low high up = (
 -- ---- a test that some record passes
 
 -- the record that passes
-pub passes : {A : Type 0} (test : A → Bool) (xs : List A) → list_any test xs ≡ true → (x : A) × (Has x xs × (test x ≡ true))
-passes test [] some = absurd cc
-passes {A} test (x ∷ xs) some = go (test x) refl some (passes test xs)
-  where
-    go : (b : Bool) → test x ≡ b → (b || list_any test xs) ≡ true → (list_any test xs ≡ true → (y : A) × (Has y xs × (test y ≡ true)))
-        → (y : A) × (Has y (x ∷ xs) × (test y ≡ true))
-    go true e s rest = (x, (inl refl, e))
-    go false e s rest = let r = rest s in (r.0, (inr r.1.0, r.1.1))
-
-pub one_of : (a b : Bool) → (a || b) ≡ true → (a ≡ true) ⊎ (b ≡ true)
-one_of true b e = inl refl
-one_of false b e = inr e
-
 module _ {o : Offered} {e : ℕ → ℕ → Bool} (d : Desk) (g : Good o e (view d)) (h : ℕ) (t : Task) (at : task_at h d ≡ Some t) where
   -- what is seen of the task
   sends : (view d).sending h ≡ t.sending

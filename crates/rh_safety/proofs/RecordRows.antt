@@ -1,5 +1,5 @@
 -- Worked runs of what records name, and runs with one definition changed, on which record_law or scrap_law fails.
-use Rattle.std.specs.Prelude.{◌≡◌, refl, ℕ, Bool, true, false, ◌==◌, if◌then◌else◌, List, [], ◌∷◌, length, map, codes, Option, Some, None, Ok}
+use Rattle.std.specs.Prelude.{◌≡◌, refl, ℕ, Bool, true, false, ◌==◌, if◌then◌else◌, List, [], ◌∷◌, ◌++◌, length, map, codes, Option, Some, None, Ok}
 use Rattle.std.specs.List.{filter_map}
 use Rattle.std.specs.Option.{option_map}
 use Rattle.hex.proofs.OnLiterals.{hex_on_literals}
@@ -19,13 +19,14 @@ use Rattle.rh_defs.specs.Chain.{Granted, ◌>>=◌, found_or, or_else}
 use Rattle.rh_defs.specs.Pieces.{Split}
 use Rattle.rh_defs.specs.Slot.{Flex, new_slot, slot_block, slot_claim}
 use Rattle.rh_defs.specs.Messages.{Parcel}
+use Rattle.rh_defs.specs.Post.{post_is_live, post_poll}
 use Rattle.rh_defs.specs.Letters.{fetch_letter, load_letter}
 use Rattle.rh_defs.specs.Sender as sender
 use Rattle.rh_defs.specs.Receiver as receiver
 use Rattle.rh_defs.specs.Records.{in_id}
 use Rattle.rh_defs.specs.Places.{free_anchor}
 use Rattle.rh_defs.specs.Desk.{Desk, Task, Scrap, next_ref, free_pages, task_at, with_slot, with_sending, with_taking}
-use Rattle.rh_defs.specs.Desk.{send_letter}
+use Rattle.rh_defs.specs.Desk.{send_letter, with_post}
 use Rattle.rh_defs.specs.Commands.{with_new_task}
 use Rattle.rh_defs.specs.OutgoingEvents.{Handled, ignored, refused, scrap_shortage, wider}
 use Rattle.rh_defs.specs.IncomingEvents.{appended, loaded}
@@ -221,3 +222,36 @@ right_owner = refl
 wrong_owner : owners_at saved_for_all one_file 1 ≡ 1 ∷ 2 ∷ []
 unfolding Script.computing hex_on_literals
 wrong_owner = refl
+
+-- ---- its DataLoad
+
+-- of the scrap file, where there is one, whether its DataLoad is queued or held
+abbrev waits_for_load : Desk → Option Bool
+waits_for_load d = option_map (λ (file : Scrap). post_is_live file.load d.post) d.scrap
+
+-- a file that is saved, and its recipient's end
+abbrev saved_file : List String
+saved_file = "task a 100 file" ∷ "task b 100" ∷ "alloc a 0 1" ∷ "save a 0 b x" ∷ "poll b" ∷ "poll a" ∷ "poll a" ∷ "poll b"
+    ∷ "poll a" ∷ []
+
+right_load : waits_for_load (after fresh (script saved_file)) ≡ Some true
+unfolding Script.computing hex_on_literals
+right_load = refl
+
+-- the DataLoad is on its way back
+right_return : waits_for_load (after fresh (script (saved_file ++ "kill b" ∷ []))) ≡ Some true
+unfolding Script.computing hex_on_literals
+right_return = refl
+
+-- and then the file is given up
+right_end : waits_for_load (after fresh (script (saved_file ++ "kill b" ∷ "poll a" ∷ []))) ≡ None
+unfolding Script.computing hex_on_literals
+right_end = refl
+
+-- a poll that keeps the scrap file whatever message it takes
+abbrev polled_with_file : ℕ → Desk → Desk
+polled_with_file h d = with_post (post_poll h d.post).0 d
+
+wrong_load : waits_for_load (polled_with_file 1 (after fresh (script (saved_file ++ "kill b" ∷ [])))) ≡ Some false
+unfolding Script.computing hex_on_literals
+wrong_load = refl

@@ -1,7 +1,6 @@
 -- Queued fetches name buffers that are held.
-use Rattle.std.proofs.Common.{◌≡◌, ℕ, ◌≤◌, Bool, true, false, List, [], ◌∷◌, length, Option, None, sym, ap, ◌∙◌}
+use Rattle.std.proofs.Common.{◌≡◌, ℕ, ◌≤◌, Bool, true, false, List, [], length, Option, None, sym, ap, ◌∙◌}
 use Rattle.std.proofs.Common.{subst, inl, inr}
-use Rattle.std.specs.Prelude.{map}
 use Rattle.rh_defs.specs.declared.transfer.Incoming.{Incoming}
 use Rattle.rh_defs.specs.declared.transfer.Incoming.TheVariants as incoming
 use Rattle.rh_defs.specs.declared.transfer.Outgoing.{Outgoing}
@@ -16,16 +15,9 @@ use Rattle.rh_safety.proofs.Ends.{Has}
 use Rattle.rh_safety.proofs.Basics.{has_of, contains_of}
 use Rattle.rh_safety.proofs.Invariant.{Offered, Good}
 use Rattle.rh_safety.proofs.Runs.{holds_buffer}
+use Rattle.rh_safety.proofs.SeenFiles.{has_map}
 use Rattle.rh_safety.proofs.SeenTasks.{field_is}
 use Rattle.rh_safety.proofs.SeenDocuments.{buffer_is}
-
-pub has_map : {A B : Type 0} (f : A → B) (x : A) (xs : List A) → Has x xs → Has (f x) (map f xs)
-has_map f x [] q = absurd q
-has_map f x (y ∷ xs) q = elim q as (λ _. Has (f x) (map f (y ∷ xs))) [
-  | inl e ↦ inl (ap f e)
-  | inr r ↦ inr
-      (has_map f x xs r)
-]
 
 pub has_buffers : {o : Offered} {e : ℕ → ℕ → Bool} (d : Desk) → Good o e (view d) → HasBuffers d
 has_buffers d g m t u x address n a =

@@ -421,7 +421,7 @@ poll_fine d t f is g = go (post_poll t.handle d.post).1 refl
         is_bad_reply (poll_taken (with_delivered (post_poll t.handle d.post).0 d) t v).1 ≡ false
     go None q = refl
     go (Some m) q = handled_fine (with_delivered (post_poll t.handle d.post).0 d) t m (given d t f is g
-        (post_poll t.handle d.post) (poll_taken_is d t.handle f (live_of d t.handle t is)) m q) m.code refl
+        (post_poll t.handle d.post) (f.polled t.handle) (poll_taken_is d t.handle f (live_of d t.handle t is)) m q) m.code refl
 
 never_bad : {o : Offered} {e : ℕ → ℕ → Bool} (d : Desk) (name : List ℕ) → Fits d → Good o e (view d) →
     is_bad_reply (step d (command.Poll name)).1 ≡ false

@@ -17,6 +17,7 @@ use Rattle.rh_safety.proofs.Moves.{letters_more, outs_more, ins_more, boths_more
 use Rattle.rh_safety.proofs.Moves.{Move, OutOk, outs_move, outs_less, ins_move, move_active}
 use Rattle.rh_safety.proofs.Moves.{BothOutOk, boths_out, boths_in, loads_other}
 use Rattle.rh_safety.proofs.Moves.{loads_end}
+use Rattle.rh_safety.proofs.Filings.{NotTheLoad, filed_in, filed_sent}
 
 -- ---- what is known after a send
 
@@ -221,6 +222,7 @@ pub record NewOut (o : Offered) (d : Desk) (new : ℕ → List Out) (h : ℕ) (n
   pub from : n.from ≡ h
   pub not_fetch : n.kind ≡ RamFetch → ⊥
   pub old : n.answers < d.next_ref
+  pub apart_load : NotTheLoad d.scrap n.answers
   pub handle : h < d.next_handle
   pub offers : Offers o n
   pub carries : (r : ℕ) (t : Taking) → n.kind ≡ RamTransmit → Has (Fetching t) (d.taking r) → n.answers ≡ t.fetch →
@@ -320,6 +322,7 @@ out_inv {o} {e} {d} new h v m n i =
           ])
           (boths_out new h v n.move (both_ok {e = e} h nl v n.part i) i.boths);
       loads = loads_other nl (sent_knows d2 h m n.from) n.fresh i.loads;
+      files = filed_sent h m (sent_knows d2 h m n.from) n.fresh i.loads.load_below n.apart_load i.files;
       few = record { outs = few_at d.sending new h n.elsewhere n.few i.few.outs; ins = i.few.ins };
       order = order_out new h v n.move up n.born (order_send m n.fresh (queue_below i) i.order);
       alive = i.alive;
@@ -370,6 +373,8 @@ pub record NewFetch (o : Offered) (e : ℕ → ℕ → Bool) (d : Desk) (new : �
   pub above : (m : Message) → Has m d.queue → Unread m → m.to ≡ h → t.id < m.letter.me
   pub fresh : t.fetch ≡ d.next_ref
   pub old : answers < d.next_ref
+  pub apart_load : NotTheLoad d.scrap answers
+  pub own_load : NotTheLoad d.scrap t.id
   pub handle : h < d.next_handle
   pub sources : (s : ℕ) (x : Sending) → Has (Open x) (d.sending s) → bl s x.anchor ≡ d.block s x.anchor
   pub same : (r : ℕ) (w : In) → Has w (d.taking r) → (r ≡ h → in_id w ≢ t.id) → Untouched (e r) w →
@@ -475,6 +480,8 @@ fetch_inv {o} {e} {d} new bl h t answers n i =
           }) (λ y. n.apart) i.boths);
       loads = loads_other m.letter (sent_knows d2 h m refl) n.fresh (loads_end new h (Fetching t) n.move (λ q u.
           absurd (let z : Asking q ≡ Fetching t = u in (cc))) i.loads);
+      files = filed_sent h m (sent_knows d2 h m refl) n.fresh i.loads.load_below n.apart_load
+          (filed_in new h (Fetching t) n.move n.own_load i.files);
       few = record { outs = i.few.outs; ins = few_at d.taking new h n.elsewhere n.few i.few.ins };
       order = order_send m n.fresh (queue_below i) (order_in new h (Fetching t) n.move up n.born n.above i.order);
       alive = i.alive;

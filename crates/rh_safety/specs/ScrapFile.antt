@@ -1,9 +1,11 @@
 -- Whose the scrap file is.
-use Rattle.std.specs.Prelude.{◌≡◌, ℕ, ◌<◌, true, Some}
+use Rattle.std.specs.Prelude.{◌≡◌, ◌≢◌, ◌⊎◌, ℕ, ◌<◌, true, Some}
 use Rattle.std.specs.List.{Contains}
 use Rattle.rh_defs.specs.declared.transfer.Sending.{Sending}
 use Rattle.rh_defs.specs.declared.transfer.Outgoing.TheVariants as outgoing
-use Rattle.rh_defs.specs.Post.{post_is_live}
+use Rattle.rh_defs.specs.declared.message.Action.TheVariants as action
+use Rattle.rh_defs.specs.Messages.{Parcel, action_of}
+use Rattle.rh_defs.specs.Post.{Post, held_by, post_is_live}
 use Rattle.rh_defs.specs.Desk.{Desk, Task, Scrap, next_ref, task_at}
 
 -- the live task's open record, whose last message has the ref
@@ -13,13 +15,19 @@ pub record IsLast (d : Desk) (h : ℕ) (x : Sending) (ref : ℕ) : Type 0 where
   pub open_ : Contains task.sending (outgoing.Open x)
   pub last : x.last ≡ ref
 
--- The scrap file's ref was given. While the message of that ref, its DataLoad, is queued or held, at most one open record of
--- all live tasks sent it last.
+-- a message that is queued, or held by a task
+abbrev pub IsLiveMessage : Post → Parcel → Type 0
+IsLiveMessage post p = Contains post.queued p ⊎ ((h : ℕ) × (held_by h post.seats ≡ Some p))
+
+-- The scrap file's ref was given. A message of that ref is queued or held, which is a DataLoad; no live message answers
+-- it. At most one open record of all live tasks sent it last.
 pub record HasOneOwner (d : Desk) (file : Scrap) : Type 0 where
   pub given : file.load < next_ref d
-  pub one :
-      post_is_live file.load d.post ≡ true → (h k : ℕ) (x y : Sending) → IsLast d h x file.load → IsLast d k y file.load →
-      (h ≡ k) × (x.id ≡ y.id)
+  pub live : post_is_live file.load d.post ≡ true
+  pub loads :
+      (p : Parcel) → IsLiveMessage d.post p → p.message.my_ref ≡ file.load → action_of p.message.body ≡ action.DataLoad
+  pub unanswered : (p : Parcel) → IsLiveMessage d.post p → p.message.your_ref ≢ file.load
+  pub one : (h k : ℕ) (x y : Sending) → IsLast d h x file.load → IsLast d k y file.load → (h ≡ k) × (x.id ≡ y.id)
 
 -- so it is of the scrap file, where there is one
 abbrev pub OwnsScrapFile : Desk → Type 0

@@ -55,8 +55,8 @@ pub fn numbers_law()
     ensures refs { Always HaveOwnRefs }
 {}
 
-/// After any commands: the scrap file's ref was given, and while the message of that ref is queued or
-/// held, one open record at most sent it last.
+/// After any commands: the scrap file's ref was given, its DataLoad is queued or held and unanswered, and one open
+/// record at most sent it last.
 pub fn scrap_law()
     ensures { Always OwnsScrapFile }
 {}
