@@ -32,6 +32,7 @@ pub mod Runs
 pub mod Spans
 pub mod Laws
 pub mod Listing
+pub mod Grammar
 pub mod Line
 pub mod Text
 pub mod Script

@@ -1,78 +1,137 @@
 -- What a line means, by its first word and its first six words.
-use Rattle.std.proofs.Common.{◌≡◌, ℕ, ◌<◌, ◌≤◌, Bool, true, false, eqb, List, [], ◌∷◌, length, take, get_or, subst, Option, Some, None, refl, sym, ◌∙◌, ap, arith, rules, cond, ◌&&◌, ◌⊎◌, inl, inr}
-use Rattle.std.specs.Prelude.{find, IfSome, IfNone, map, nat_lt, Ok, Err, IsErr, IsErrAnd}
+use Rattle.std.proofs.Common.{◌≡◌, ℕ, ◌+◌, ◌<◌, ◌≤◌, Bool, true, false, eqb, List, [], ◌∷◌, length, take, get_or, subst, Option, Some, None, refl, sym, ◌∙◌, ap, arith, rules, cond, ◌&&◌, ◌||◌, ◌⊎◌, inl, inr}
+use Rattle.std.specs.Prelude.{find, IfSome, IfNone, map, nat_le, nat_lt, if◌then◌else◌, Ok, Err, IsErr, IsErrAnd}
 use Rattle.rh_defs.specs.declared.fault.LineFault.{LineFault}
 use Rattle.rh_lines.specs.Placed.{if_placed}
-use Rattle.std.specs.List.{list_all, filter}
+use Rattle.std.specs.List.{list_all, list_any, filter}
 use Rattle.std.specs.Option.{option_map}
 use Rattle.std.specs.Str.{bytes_eq}
 use Rattle.std.proofs.lemmas.List.{take_all, length-take}
 use borrow.Author.Tests.{tests}
-use Rattle.rh_defs.specs.declared.fault.LineFault.TheVariants.{Unknown}
-use Rattle.rh_defs.specs.Line.{words_of, word, is_skipped, line_means, command_of, rma_of}
-use Rattle.rh_defs.specs.Line.{Meaning, ◌>>=◌}
+use Rattle.rh_defs.specs.declared.fault.LineFault.TheVariants.{Unknown, Word}
+use Rattle.rh_defs.specs.Grammar.{Form, Maybe, Row, rows}
+use Rattle.rh_defs.specs.Line.{words_of, word, is_skipped, line_means, is_count, follow, row_of, row_means}
+use Rattle.rh_defs.specs.Line.{command_by, command_of, Meaning, ◌>>=◌}
 use Rattle.rh_defs.specs.declared.command.Command.{Command}
 use Rattle.rh_lines.specs.declared.keyword.Keyword.{Keyword}
-use Rattle.rh_lines.specs.declared.keyword.Keyword.TheVariants.{Task, Kill, Alloc, Load, Put, Free, Extend, Mid, Claim, Release, Resize, Budge, Save, Poll, Cancel, Repeat, Area, Make, Remove, Rma, Show, Blocks, Heap, Status, Areas}
-use Rattle.rh_lines.specs.Keywords.{spelled, names, SpellsNone, command_by}
+use Rattle.rh_lines.specs.Keywords.{spelled, firsts, SpellsNone}
 use Rattle.rh_lines.specs.Words.{first_words}
 
 -- ---- by the first word
 
+and_true : (a b : Bool) → (a && b) ≡ true → (a ≡ true) × (b ≡ true)
+and_true true b e = (refl, e)
+and_true false b e = absurd (cc)
+
 -- the line's command, where its first word is a keyword
-pub by_keyword : (k : Keyword) (words : List (List ℕ)) → word words 1 ≡ spelled k → command_by k words ≡ command_of words
-unfolding command_of
-by_keyword Task words e = rw e refl
-by_keyword Kill words e = rw e refl
-by_keyword Alloc words e = rw e refl
-by_keyword Load words e = rw e refl
-by_keyword Put words e = rw e refl
-by_keyword Free words e = rw e refl
-by_keyword Extend words e = rw e refl
-by_keyword Mid words e = rw e refl
-by_keyword Claim words e = rw e refl
-by_keyword Release words e = rw e refl
-by_keyword Resize words e = rw e refl
-by_keyword Budge words e = rw e refl
-by_keyword Save words e = rw e refl
-by_keyword Poll words e = rw e refl
-by_keyword Cancel words e = rw e refl
-by_keyword Repeat words e = rw e refl
-by_keyword Area words e = rw e refl
-by_keyword Make words e = rw e refl
-by_keyword Remove words e = rw e refl
-by_keyword Rma words e = rw e refl
-by_keyword Show words e = rw e refl
-by_keyword Blocks words e = rw e refl
-by_keyword Heap words e = rw e refl
-by_keyword Status words e = rw e refl
-by_keyword Areas words e = rw e refl
+pub by_keyword : (text : List ℕ) (words : List (List ℕ)) → word words 1 ≡ text → command_by text words ≡ command_of words
+by_keyword text words e = ap (λ w. command_by w words) (sym e)
+
+same_bytes : (a b : List ℕ) → bytes_eq a b ≡ true → a ≡ b
+same_bytes a b e = search (rules, tests)
+
+abbrev first_of : Row → List ℕ
+first_of row = row.first
+
+-- a word that no row begins with is none that a row begins with as this one does
+unlike : (w text : List ℕ) (rs : List Row) → list_any (λ row. bytes_eq text row.first) rs ≡ true →
+    SpellsNone w (map first_of rs) → bytes_eq w text ≡ false
+unlike w text [] e h = absurd (cc)
+unlike w text (row ∷ rs) e h = go (bytes_eq text row.first) refl e (λ found. unlike w text rs found h.1)
+  where
+    found : Bool
+    found = list_any (λ other. bytes_eq text other.first) rs
+
+    go : (same : Bool) → bytes_eq text row.first ≡ same → (same || found) ≡ true →
+        (found ≡ true → bytes_eq w text ≡ false) → bytes_eq w text ≡ false
+    go true is either rest = rw (same_bytes text row.first is) h.0
+    go false is either rest = rest either
+
+none_of_all : (w : List ℕ) (rs : List Row) → SpellsNone w (firsts rs) → SpellsNone w (map first_of rs)
+none_of_all w [] h = tt
+none_of_all w (row ∷ rs) h = go (list_any (λ other. bytes_eq row.first other.first) rs) refl (none_of_all w rs) h
+  where
+    go : (again : Bool) → list_any (λ other. bytes_eq row.first other.first) rs ≡ again →
+        (SpellsNone w (firsts rs) → SpellsNone w (map first_of rs)) →
+        SpellsNone w (cond again (firsts rs) (row.first ∷ firsts rs)) → SpellsNone w (map first_of (row ∷ rs))
+    go true is rest none = (unlike w row.first rs is (rest none), rest none)
+    go false is rest none = (none.0, rest none.1)
+
+no_row : (w : List ℕ) (words : List (List ℕ)) (fault : LineFault) (rs : List Row) → SpellsNone w (map first_of rs) →
+    row_of rs w words fault ≡ Err fault
+no_row w words fault [] h = refl
+no_row w words fault (row ∷ rs) h = rw h.0 (no_row w words fault rs h.1)
 
 -- a line whose first word is none
-pub by_none : (words : List (List ℕ)) → SpellsNone (word words 1) names → Err Unknown ≡ command_of words
-unfolding command_of
-by_none words h = rw (h.0, h.1.0, h.1.1.0, h.1.1.1.0, h.1.1.1.1.0, h.1.1.1.1.1.0, h.1.1.1.1.1.1.0, h.1.1.1.1.1.1.1.0, h.1.1.1.1.1.1.1.1.0, h.1.1.1.1.1.1.1.1.1.0, h.1.1.1.1.1.1.1.1.1.1.0, h.1.1.1.1.1.1.1.1.1.1.1.0, h.1.1.1.1.1.1.1.1.1.1.1.1.0, h.1.1.1.1.1.1.1.1.1.1.1.1.1.0, h.1.1.1.1.1.1.1.1.1.1.1.1.1.1.0, h.1.1.1.1.1.1.1.1.1.1.1.1.1.1.1.0, h.1.1.1.1.1.1.1.1.1.1.1.1.1.1.1.1.0, h.1.1.1.1.1.1.1.1.1.1.1.1.1.1.1.1.1.0, h.1.1.1.1.1.1.1.1.1.1.1.1.1.1.1.1.1.1.0, h.1.1.1.1.1.1.1.1.1.1.1.1.1.1.1.1.1.1.1.0, h.1.1.1.1.1.1.1.1.1.1.1.1.1.1.1.1.1.1.1.1.0, h.1.1.1.1.1.1.1.1.1.1.1.1.1.1.1.1.1.1.1.1.1.0, h.1.1.1.1.1.1.1.1.1.1.1.1.1.1.1.1.1.1.1.1.1.1.0, h.1.1.1.1.1.1.1.1.1.1.1.1.1.1.1.1.1.1.1.1.1.1.1.0, h.1.1.1.1.1.1.1.1.1.1.1.1.1.1.1.1.1.1.1.1.1.1.1.1.0) refl
+pub by_none : (words : List (List ℕ)) → SpellsNone (word words 1) (firsts rows) → Err Unknown ≡ command_of words
+unfolding command_by
+by_none words h =
+    rw (no_row (word words 1) words Unknown rows (none_of_all (word words 1) rows h)) refl
 
 -- ---- by the first six words
 
-is_not : (n k : ℕ) → k ≤ 5 → 5 < n → eqb n k ≡ false
-is_not n k few many = let differs : n ≡ k → ⊥ = λ e. omega arith in search (rules, tests)
+is_not : (n k : ℕ) → k < n → eqb n k ≡ false
+is_not n k more = let differs : n ≡ k → ⊥ = λ e. omega arith in search (rules, tests)
+
+neither : (a b : Bool) → a ≡ false → b ≡ false → (a || b) ≡ false
+neither true b e f = absurd (cc)
+neither false b e f = f
+
+-- a line with more words than forms
+not_counted : (forms : List Form) (n count : ℕ) → n + length forms < count → is_count forms n count ≡ false
+not_counted [] n count more = is_not count n (omega (arith, more))
+not_counted (Maybe form ∷ forms) n count more =
+    neither (eqb count n) _ (is_not count n (omega (arith, more))) (not_counted forms (n + 1) count (omega (arith, more)))
+not_counted (form ∷ forms) n count more = not_counted forms (n + 1) count (omega (arith, more))
+
+-- a row has at most one word behind its first, and five in all
+abbrev is_short : Row → Bool
+is_short row = nat_le (length row.further) 1 && nat_le (1 + length row.further + length row.forms) 5
+
+second_follows : (texts words others : List (List ℕ)) → nat_le (length texts) 1 ≡ true → word words 2 ≡ word others 2 →
+    follow texts words 1 ≡ follow texts others 1
+second_follows [] words others short e = refl
+second_follows (text ∷ []) words others short e = rw e refl
+second_follows (text ∷ other ∷ texts) words others short e = absurd (search (rules, tests, short))
 
 -- lines with too many words
-too_many : (words others : List (List ℕ)) → word words 1 ≡ word others 1 → word words 2 ≡ word others 2 → 5 < length words → 5 < length others → command_of words ≡ command_of others
-unfolding command_of rma_of
-too_many words others first second many more =
-    let a1 : eqb (length words) 1 ≡ false = is_not (length words) 1 (omega arith) many in
-    let a2 : eqb (length words) 2 ≡ false = is_not (length words) 2 (omega arith) many in
-    let a3 : eqb (length words) 3 ≡ false = is_not (length words) 3 (omega arith) many in
-    let a4 : eqb (length words) 4 ≡ false = is_not (length words) 4 (omega arith) many in
-    let a5 : eqb (length words) 5 ≡ false = is_not (length words) 5 (omega arith) many in
-    let b1 : eqb (length others) 1 ≡ false = is_not (length others) 1 (omega arith) more in
-    let b2 : eqb (length others) 2 ≡ false = is_not (length others) 2 (omega arith) more in
-    let b3 : eqb (length others) 3 ≡ false = is_not (length others) 3 (omega arith) more in
-    let b4 : eqb (length others) 4 ≡ false = is_not (length others) 4 (omega arith) more in
-    let b5 : eqb (length others) 5 ≡ false = is_not (length others) 5 (omega arith) more in
-    rw (a1, a2, a3, a4, a5, b1, b2, b3, b4, b5, first, second) refl
+module _ (words others : List (List ℕ)) (second : word words 2 ≡ word others 2) (many : 5 < length words) (more : 5 < length others) where
+  too_long : (row : Row) → is_short row ≡ true → row_means row words ≡ row_means row others
+  too_long row short =
+      let named : ℕ = 1 + length row.further in
+      let fits : nat_le (named + length row.forms) 5 ≡ true =
+      (and_true (nat_le (length row.further) 1) (nat_le (named + length row.forms) 5) short).1 in
+      let few : named + length row.forms ≤ 5 = search (rules, tests) in
+      rw (
+        not_counted row.forms named (length words) (omega (arith, few, many)),
+        not_counted row.forms named (length others) (omega (arith, few, more)),
+      ) refl
+
+  -- what a line means whose first word is w, by these rows
+  abbrev by_rows : List (List ℕ) → List ℕ → LineFault → List Row → Meaning Command
+  by_rows given w fault rs = row_of rs w given fault >>= λ row. row_means row given
+
+  one_row : (w : List ℕ) (fault : LineFault) (row : Row) (rs : List Row) (first follows : Bool) → is_short row ≡ true →
+      ((f : LineFault) → by_rows words w f rs ≡ by_rows others w f rs) →
+      ((if first && follows then Ok row else row_of rs w words (if first then Word 2 else fault)) >>= λ row. row_means row words)
+      ≡ ((if first && follows then Ok row else row_of rs w others (if first then Word 2 else fault)) >>= λ row. row_means row others)
+  one_row w fault row rs true true short rest = too_long row short
+  one_row w fault row rs true false short rest = rest (Word 2)
+  one_row w fault row rs false follows short rest = rest fault
+
+  too_many : (w : List ℕ) (rs : List Row) → list_all is_short rs ≡ true → (fault : LineFault) →
+      by_rows words w fault rs ≡ by_rows others w fault rs
+  too_many w [] short fault = refl
+  too_many w (row ∷ rs) short fault =
+      let now = and_true (is_short row) (list_all is_short rs) short in
+      let few : nat_le (length row.further) 1 ≡ true =
+      (and_true (nat_le (length row.further) 1) (nat_le (1 + length row.further + length row.forms) 5) now.0).0 in
+      rw (
+        is_not (length words) 1 (omega (arith, many)),
+        is_not (length others) 1 (omega (arith, more)),
+        second_follows row.further words others few second,
+      )
+      (one_row w fault row rs (bytes_eq w row.first) (follow row.further others 1) now.0 (too_many w rs now.1))
 
 first_same : (words : List (List ℕ)) → word (take 6 words) 1 ≡ word words 1
 first_same [] = refl
@@ -87,9 +146,11 @@ few_or_many : (n : ℕ) → (n ≤ 6) ⊎ (5 < n)
 few_or_many n = grind arith
 
 commands_same : (words : List (List ℕ)) → (length words ≤ 6) ⊎ (5 < length words) → command_of (take 6 words) ≡ command_of words
+unfolding command_by rows
 commands_same words (inl few) = ap command_of (take_all 6 words few)
 commands_same words (inr many) =
-    too_many (take 6 words) words (first_same words) (second_same words) (grind (arith, length-take)) many
+    ap (λ w. command_by w (take 6 words)) (first_same words)
+    ∙ too_many (take 6 words) words (second_same words) (grind (arith, length-take)) many (word words 1) rows refl Unknown
 
 pub command_of-first_words : (line : List ℕ) → command_of (first_words line) ≡ command_of (words_of line)
 unfolding first_words
@@ -104,13 +165,6 @@ unfolding first_words
 is_skipped-first_words line = skipped_same (words_of line)
 
 -- ---- keywords
-
-same_bytes : (a b : List ℕ) → bytes_eq a b ≡ true → a ≡ b
-same_bytes a b e = search (rules, tests)
-
-and_true : (a b : Bool) → (a && b) ≡ true → (a ≡ true) × (b ≡ true)
-and_true true b e = (refl, e)
-and_true false b e = absurd (cc)
 
 found_first : {X : Type 0} (of : X → Keyword) (w text : List ℕ) (x : X) (rest : Option X) (fits : Bool) → bytes_eq w text ≡ fits → text ≡ spelled (of x) → IfSome (option_map of rest) (λ k. w ≡ spelled k) → IfSome (option_map of (cond fits (Some x) rest)) (λ k. w ≡ spelled k)
 found_first of w text x rest true e same h = same_bytes w text e ∙ same

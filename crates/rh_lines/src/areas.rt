@@ -1,7 +1,7 @@
 //! Lines about areas of pages.
 
-ghost use Rattle.std.specs.Prelude.{◌≡◌, OnOk, OnErr, IsTrue};
-ghost use Rattle.rh_defs.specs.Line.{counted, area_of, make_of, remove_of};
+ghost use Rattle.std.specs.Prelude.{◌≡◌, codes, OnOk, OnErr, IsTrue};
+ghost use Rattle.rh_defs.specs.Line.{command_by};
 ghost use Rattle.rh_defs.specs.Range.{in_range};
 ghost use Rattle.rh_lines.specs.Placed.{placed};
 
@@ -12,9 +12,9 @@ use rh_defs::sizes::{FIRST_MADE, LAST_AREA, MAX_PAGES};
 use rh_defs::{Command, LineFault};
 
 /// `area K DELTA`.
-#[tactic(auto, unfolding(rh_defs::specs::Line::area_of, rh_defs::specs::Range::in_range))]
+#[tactic(auto, unfolding(rh_defs::specs::Line::command_by, rh_defs::specs::Grammar::rows, rh_defs::specs::Range::in_range))]
 pub fn area_of(words: &Words<'_>, command: &mut Command) -> Result<(), LineFault>
-    ensures means { placed result command.new ≡ counted 3 words.now (area_of words.now) }
+    ensures means { placed result command.new ≡ command_by (codes "area") words.now }
     ensures in_range { OnOk result (IsTrue (in_range command.new)) }
     ensures kept { OnErr result (command.new ≡ command.old) }
 {
@@ -26,9 +26,9 @@ pub fn area_of(words: &Words<'_>, command: &mut Command) -> Result<(), LineFault
 }
 
 /// `make MAX`.
-#[tactic(auto, unfolding(rh_defs::specs::Line::make_of, rh_defs::specs::Range::in_range))]
+#[tactic(auto, unfolding(rh_defs::specs::Line::command_by, rh_defs::specs::Grammar::rows, rh_defs::specs::Range::in_range))]
 pub fn make_of(words: &Words<'_>, command: &mut Command) -> Result<(), LineFault>
-    ensures means { placed result command.new ≡ counted 2 words.now (make_of words.now) }
+    ensures means { placed result command.new ≡ command_by (codes "make") words.now }
     ensures in_range { OnOk result (IsTrue (in_range command.new)) }
     ensures kept { OnErr result (command.new ≡ command.old) }
 {
@@ -39,9 +39,9 @@ pub fn make_of(words: &Words<'_>, command: &mut Command) -> Result<(), LineFault
 }
 
 /// `remove K`.
-#[tactic(auto, unfolding(rh_defs::specs::Line::remove_of, rh_defs::specs::Range::in_range))]
+#[tactic(auto, unfolding(rh_defs::specs::Line::command_by, rh_defs::specs::Grammar::rows, rh_defs::specs::Range::in_range))]
 pub fn remove_of(words: &Words<'_>, command: &mut Command) -> Result<(), LineFault>
-    ensures means { placed result command.new ≡ counted 2 words.now (remove_of words.now) }
+    ensures means { placed result command.new ≡ command_by (codes "remove") words.now }
     ensures in_range { OnOk result (IsTrue (in_range command.new)) }
     ensures kept { OnErr result (command.new ≡ command.old) }
 {
@@ -52,9 +52,9 @@ pub fn remove_of(words: &Words<'_>, command: &mut Command) -> Result<(), LineFau
 }
 
 /// `areas`.
-#[tactic(auto, unfolding(rh_defs::specs::Range::in_range))]
+#[tactic(auto, unfolding(rh_defs::specs::Line::command_by, rh_defs::specs::Grammar::rows, rh_defs::specs::Range::in_range))]
 pub fn areas_of(words: &Words<'_>, command: &mut Command) -> Result<(), LineFault>
-    ensures means { placed result command.new ≡ counted 1 words.now (Ok Command.Areas) }
+    ensures means { placed result command.new ≡ command_by (codes "areas") words.now }
     ensures in_range { OnOk result (IsTrue (in_range command.new)) }
     ensures kept { OnErr result (command.new ≡ command.old) }
 {

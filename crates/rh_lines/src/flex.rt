@@ -1,7 +1,7 @@
 //! Lines about flex blocks.
 
-ghost use Rattle.std.specs.Prelude.{◌≡◌, OnOk, OnErr, IsTrue};
-ghost use Rattle.rh_defs.specs.Line.{counted, alloc_of, load_of, put_of, free_of, extend_of, mid_of, show_of, blocks_of};
+ghost use Rattle.std.specs.Prelude.{◌≡◌, codes, OnOk, OnErr, IsTrue};
+ghost use Rattle.rh_defs.specs.Line.{command_by};
 ghost use Rattle.rh_defs.specs.Range.{in_range};
 ghost use Rattle.rh_lines.specs.Placed.{placed};
 
@@ -12,9 +12,9 @@ use arrayvec::ArrayVec;
 use rh_defs::{Bytes, Command, LineFault};
 
 /// `alloc NAME A N`.
-#[tactic(auto, unfolding(rh_defs::specs::Line::alloc_of, rh_defs::specs::Range::in_range))]
+#[tactic(auto, unfolding(rh_defs::specs::Line::command_by, rh_defs::specs::Grammar::rows, rh_defs::specs::Range::in_range))]
 pub fn alloc_of(words: &Words<'_>, command: &mut Command) -> Result<(), LineFault>
-    ensures means { placed result command.new ≡ counted 4 words.now (alloc_of words.now) }
+    ensures means { placed result command.new ≡ command_by (codes "alloc") words.now }
     ensures in_range { OnOk result (IsTrue (in_range command.new)) }
     ensures kept { OnErr result (command.new ≡ command.old) }
 {
@@ -27,9 +27,9 @@ pub fn alloc_of(words: &Words<'_>, command: &mut Command) -> Result<(), LineFaul
 }
 
 /// `load NAME A FILE`.
-#[tactic(auto, unfolding(rh_defs::specs::Line::load_of, rh_defs::specs::Range::in_range))]
+#[tactic(auto, unfolding(rh_defs::specs::Line::command_by, rh_defs::specs::Grammar::rows, rh_defs::specs::Range::in_range))]
 pub fn load_of(words: &Words<'_>, command: &mut Command) -> Result<(), LineFault>
-    ensures means { placed result command.new ≡ counted 4 words.now (load_of words.now) }
+    ensures means { placed result command.new ≡ command_by (codes "load") words.now }
     ensures in_range { OnOk result (IsTrue (in_range command.new)) }
     ensures kept { OnErr result (command.new ≡ command.old) }
 {
@@ -42,9 +42,9 @@ pub fn load_of(words: &Words<'_>, command: &mut Command) -> Result<(), LineFault
 }
 
 /// `put NAME A OFF HEX`.
-#[tactic(auto, unfolding(rh_defs::specs::Line::put_of, rh_defs::specs::Range::in_range))]
+#[tactic(auto, unfolding(rh_defs::specs::Line::command_by, rh_defs::specs::Grammar::rows, rh_defs::specs::Range::in_range))]
 pub fn put_of(words: &Words<'_>, command: &mut Command) -> Result<(), LineFault>
-    ensures means { placed result command.new ≡ counted 5 words.now (put_of words.now) }
+    ensures means { placed result command.new ≡ command_by (codes "put") words.now }
     ensures in_range { OnOk result (IsTrue (in_range command.new)) }
     ensures kept { OnErr result (command.new ≡ command.old) }
 {
@@ -64,9 +64,9 @@ pub fn put_of(words: &Words<'_>, command: &mut Command) -> Result<(), LineFault>
 }
 
 /// `free NAME A`.
-#[tactic(auto, unfolding(rh_defs::specs::Line::free_of, rh_defs::specs::Range::in_range))]
+#[tactic(auto, unfolding(rh_defs::specs::Line::command_by, rh_defs::specs::Grammar::rows, rh_defs::specs::Range::in_range))]
 pub fn free_of(words: &Words<'_>, command: &mut Command) -> Result<(), LineFault>
-    ensures means { placed result command.new ≡ counted 3 words.now (free_of words.now) }
+    ensures means { placed result command.new ≡ command_by (codes "free") words.now }
     ensures in_range { OnOk result (IsTrue (in_range command.new)) }
     ensures kept { OnErr result (command.new ≡ command.old) }
 {
@@ -78,9 +78,9 @@ pub fn free_of(words: &Words<'_>, command: &mut Command) -> Result<(), LineFault
 }
 
 /// `extend NAME A N`.
-#[tactic(auto, unfolding(rh_defs::specs::Line::extend_of, rh_defs::specs::Range::in_range))]
+#[tactic(auto, unfolding(rh_defs::specs::Line::command_by, rh_defs::specs::Grammar::rows, rh_defs::specs::Range::in_range))]
 pub fn extend_of(words: &Words<'_>, command: &mut Command) -> Result<(), LineFault>
-    ensures means { placed result command.new ≡ counted 4 words.now (extend_of words.now) }
+    ensures means { placed result command.new ≡ command_by (codes "extend") words.now }
     ensures in_range { OnOk result (IsTrue (in_range command.new)) }
     ensures kept { OnErr result (command.new ≡ command.old) }
 {
@@ -93,9 +93,9 @@ pub fn extend_of(words: &Words<'_>, command: &mut Command) -> Result<(), LineFau
 }
 
 /// `mid NAME A AT BY`.
-#[tactic(auto, unfolding(rh_defs::specs::Line::mid_of, rh_defs::specs::Range::in_range))]
+#[tactic(auto, unfolding(rh_defs::specs::Line::command_by, rh_defs::specs::Grammar::rows, rh_defs::specs::Range::in_range))]
 pub fn mid_of(words: &Words<'_>, command: &mut Command) -> Result<(), LineFault>
-    ensures means { placed result command.new ≡ counted 5 words.now (mid_of words.now) }
+    ensures means { placed result command.new ≡ command_by (codes "mid") words.now }
     ensures in_range { OnOk result (IsTrue (in_range command.new)) }
     ensures kept { OnErr result (command.new ≡ command.old) }
 {
@@ -114,9 +114,9 @@ pub fn mid_of(words: &Words<'_>, command: &mut Command) -> Result<(), LineFault>
 }
 
 /// `show NAME A`.
-#[tactic(auto, unfolding(rh_defs::specs::Line::show_of, rh_defs::specs::Range::in_range))]
+#[tactic(auto, unfolding(rh_defs::specs::Line::command_by, rh_defs::specs::Grammar::rows, rh_defs::specs::Range::in_range))]
 pub fn show_of(words: &Words<'_>, command: &mut Command) -> Result<(), LineFault>
-    ensures means { placed result command.new ≡ counted 3 words.now (show_of words.now) }
+    ensures means { placed result command.new ≡ command_by (codes "show") words.now }
     ensures in_range { OnOk result (IsTrue (in_range command.new)) }
     ensures kept { OnErr result (command.new ≡ command.old) }
 {
@@ -128,9 +128,9 @@ pub fn show_of(words: &Words<'_>, command: &mut Command) -> Result<(), LineFault
 }
 
 /// `blocks NAME`.
-#[tactic(auto, unfolding(rh_defs::specs::Line::blocks_of, rh_defs::specs::Range::in_range))]
+#[tactic(auto, unfolding(rh_defs::specs::Line::command_by, rh_defs::specs::Grammar::rows, rh_defs::specs::Range::in_range))]
 pub fn blocks_of(words: &Words<'_>, command: &mut Command) -> Result<(), LineFault>
-    ensures means { placed result command.new ≡ counted 2 words.now (blocks_of words.now) }
+    ensures means { placed result command.new ≡ command_by (codes "blocks") words.now }
     ensures in_range { OnOk result (IsTrue (in_range command.new)) }
     ensures kept { OnErr result (command.new ≡ command.old) }
 {

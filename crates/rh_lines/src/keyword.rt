@@ -4,7 +4,8 @@ ghost use Rattle.std.specs.Prelude.{◌≡◌, find, IfSome, IfNone, map, get_or
 ghost use Rattle.std.specs.List.{list_all, filter};
 ghost use Rattle.std.specs.Option.{option_map};
 ghost use Rattle.std.specs.Str.{bytes_eq};
-ghost use Rattle.rh_lines.specs.Keywords.{spelled, names, SpellsNone};
+ghost use Rattle.rh_lines.specs.Keywords.{spelled, firsts, SpellsNone};
+ghost use Rattle.rh_defs.specs.Grammar.{rows};
 
 /// The word that a command begins with.
 #[derive(Clone, Copy, Debug, PartialEq, Eq)]
@@ -37,9 +38,10 @@ pub enum Keyword {
 }
 
 /// The keyword that a word spells.
+#[tactic(auto, unfolding(rh_defs::specs::Grammar::rows))]
 pub fn keyword_of(word: &[u8]) -> Option<Keyword>
     ensures found { IfSome result (λ keyword. word.now ≡ spelled keyword) }
-    ensures none { IfNone result (SpellsNone word.now names) }
+    ensures none { IfNone result (SpellsNone word.now (firsts rows)) }
 {
     match word {
         [] => None,
@@ -48,9 +50,10 @@ pub fn keyword_of(word: &[u8]) -> Option<Keyword>
 }
 
 /// The keywords that begin with a byte, as they are spelled.
+#[tactic(auto, unfolding(rh_defs::specs::Grammar::rows))]
 fn keywords_from(first: u8) -> &'static [(&'static [u8], Keyword)]
     ensures right { list_all (λ entry. bytes_eq entry.0.now (spelled entry.1)) result.now ≡ true }
-    ensures all { map (λ entry. entry.0.now) result.now ≡ filter (λ name. eqb (get_or name 0 0) first) names }
+    ensures all { map (λ entry. entry.0.now) result.now ≡ filter (λ name. eqb (get_or name 0 0) first) (firsts rows) }
 {
     match first {
         b'a' => &[

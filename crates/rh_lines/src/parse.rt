@@ -2,9 +2,9 @@
 
 ghost use Rattle.std.specs.Prelude.{◌≡◌, IfOk, IfSome, OnOk, OnErr, IsTrue};
 ghost use Rattle.rh_defs.specs.Range.{in_range};
-ghost use Rattle.rh_defs.specs.Line.{is_skipped, line_means};
+ghost use Rattle.rh_defs.specs.Line.{command_by, is_skipped, line_means};
 ghost use Rattle.rh_lines.specs.Placed.{if_placed, placed, OnFound, OnNone};
-ghost use Rattle.rh_lines.specs.Keywords.{command_by};
+ghost use Rattle.rh_lines.specs.Keywords.{spelled};
 
 use crate::areas::{area_of, areas_of, make_of, remove_of};
 use crate::flex::{alloc_of, blocks_of, extend_of, free_of, load_of, mid_of, put_of, show_of};
@@ -66,7 +66,7 @@ fn is_skipped(words: &Words<'_>) -> bool
 
 /// Puts the command of a line that begins with the keyword in its place.
 fn command_by(keyword: Keyword, words: &Words<'_>, command: &mut Command) -> Result<(), LineFault>
-    ensures means { placed result command.new ≡ command_by keyword words.now }
+    ensures means { placed result command.new ≡ command_by (spelled keyword) words.now }
     ensures in_range { OnOk result (IsTrue (in_range command.new)) }
     ensures kept { OnErr result (command.new ≡ command.old) }
 {

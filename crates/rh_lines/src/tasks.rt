@@ -1,8 +1,9 @@
 //! Lines about tasks and their transfers.
 
-ghost use Rattle.std.specs.Prelude.{◌≡◌, IfOk, OnOk, OnErr, IsTrue};
-ghost use Rattle.rh_defs.specs.Forms.{is_id};
-ghost use Rattle.rh_defs.specs.Line.{counted, counted_from, kill_of, save_of, poll_of, repeat_of, status_of, task_of, manner_of, cancel_of, id_of};
+ghost use Rattle.std.specs.Prelude.{◌≡◌, codes, IfOk, OnOk, OnErr, IsTrue};
+ghost use Rattle.rh_defs.specs.Forms.{is_id, last_ref};
+ghost use Rattle.rh_defs.specs.Grammar.{Choice, Maybe, Number, manner_of};
+ghost use Rattle.rh_defs.specs.Line.{command_by, value_at};
 ghost use Rattle.rh_defs.specs.Range.{in_range};
 ghost use Rattle.rh_lines.specs.Placed.{placed};
 
@@ -13,43 +14,49 @@ use rh_defs::sizes::LONGEST_BUFFER;
 use rh_defs::{Command, LineFault, Manner, Ref};
 
 /// `task NAME BUF`, with `deaf` or `file` behind it or not.
-#[tactic(auto, unfolding(rh_defs::specs::Line::task_of, rh_defs::specs::Range::in_range))]
+#[tactic(auto, unfolding(rh_defs::specs::Line::command_by, rh_defs::specs::Grammar::rows, rh_defs::specs::Range::in_range))]
 pub fn task_of(words: &Words<'_>, command: &mut Command) -> Result<(), LineFault>
-    ensures means { placed result command.new ≡ counted_from 3 4 words.now (task_of words.now) }
+    ensures means { placed result command.new ≡ command_by (codes "task") words.now }
     ensures in_range { OnOk result (IsTrue (in_range command.new)) }
     ensures kept { OnErr result (command.new ≡ command.old) }
 {
     counted_from(words, 3, 4)?;
     let name = name_at(words, 2)?;
     let buffer = number_at(words, 3, 1, LONGEST_BUFFER)?;
-    let manner = manner_of(words)?;
+    let deaf = deaf_at(words)?;
     *command = Command::Task {
         name,
         buffer,
-        manner,
+        manner: manner_of(deaf),
     };
     Ok(())
 }
 
-/// The manner of a task, which a fourth word may give.
-#[tactic(auto, unfolding(rh_defs::specs::Line::manner_of))]
-fn manner_of(words: &Words<'_>) -> Result<Manner, LineFault>
-    ensures { result ≡ manner_of words.now }
+/// Whether a task is deaf, or one of files, where a fourth word says so.
+fn deaf_at(words: &Words<'_>) -> Result<Option<bool>, LineFault>
+    ensures { result ≡ value_at (Maybe (Choice (codes "deaf") (codes "file"))) words.now 4 }
 {
     if words.count() == 3 {
-        return Ok(Manner::Plain);
+        return Ok(None);
     }
-    if choice_at(words, 4, b"deaf", b"file")? {
-        Ok(Manner::Deaf)
-    } else {
-        Ok(Manner::File)
+    let deaf = choice_at(words, 4, b"deaf", b"file")?;
+    Ok(Some(deaf))
+}
+
+fn manner_of(deaf: Option<bool>) -> Manner
+    ensures { result ≡ manner_of deaf }
+{
+    match deaf {
+        None => Manner::Plain,
+        Some(true) => Manner::Deaf,
+        Some(false) => Manner::File,
     }
 }
 
 /// `kill NAME`.
-#[tactic(auto, unfolding(rh_defs::specs::Line::kill_of, rh_defs::specs::Range::in_range))]
+#[tactic(auto, unfolding(rh_defs::specs::Line::command_by, rh_defs::specs::Grammar::rows, rh_defs::specs::Range::in_range))]
 pub fn kill_of(words: &Words<'_>, command: &mut Command) -> Result<(), LineFault>
-    ensures means { placed result command.new ≡ counted 2 words.now (kill_of words.now) }
+    ensures means { placed result command.new ≡ command_by (codes "kill") words.now }
     ensures in_range { OnOk result (IsTrue (in_range command.new)) }
     ensures kept { OnErr result (command.new ≡ command.old) }
 {
@@ -60,9 +67,9 @@ pub fn kill_of(words: &Words<'_>, command: &mut Command) -> Result<(), LineFault
 }
 
 /// `save NAME A TO LEAF`.
-#[tactic(auto, unfolding(rh_defs::specs::Line::save_of, rh_defs::specs::Range::in_range))]
+#[tactic(auto, unfolding(rh_defs::specs::Line::command_by, rh_defs::specs::Grammar::rows, rh_defs::specs::Range::in_range))]
 pub fn save_of(words: &Words<'_>, command: &mut Command) -> Result<(), LineFault>
-    ensures means { placed result command.new ≡ counted 5 words.now (save_of words.now) }
+    ensures means { placed result command.new ≡ command_by (codes "save") words.now }
     ensures in_range { OnOk result (IsTrue (in_range command.new)) }
     ensures kept { OnErr result (command.new ≡ command.old) }
 {
@@ -81,9 +88,9 @@ pub fn save_of(words: &Words<'_>, command: &mut Command) -> Result<(), LineFault
 }
 
 /// `poll NAME`.
-#[tactic(auto, unfolding(rh_defs::specs::Line::poll_of, rh_defs::specs::Range::in_range))]
+#[tactic(auto, unfolding(rh_defs::specs::Line::command_by, rh_defs::specs::Grammar::rows, rh_defs::specs::Range::in_range))]
 pub fn poll_of(words: &Words<'_>, command: &mut Command) -> Result<(), LineFault>
-    ensures means { placed result command.new ≡ counted 2 words.now (poll_of words.now) }
+    ensures means { placed result command.new ≡ command_by (codes "poll") words.now }
     ensures in_range { OnOk result (IsTrue (in_range command.new)) }
     ensures kept { OnErr result (command.new ≡ command.old) }
 {
@@ -94,9 +101,9 @@ pub fn poll_of(words: &Words<'_>, command: &mut Command) -> Result<(), LineFault
 }
 
 /// `repeat NAME`.
-#[tactic(auto, unfolding(rh_defs::specs::Line::repeat_of, rh_defs::specs::Range::in_range))]
+#[tactic(auto, unfolding(rh_defs::specs::Line::command_by, rh_defs::specs::Grammar::rows, rh_defs::specs::Range::in_range))]
 pub fn repeat_of(words: &Words<'_>, command: &mut Command) -> Result<(), LineFault>
-    ensures means { placed result command.new ≡ counted 2 words.now (repeat_of words.now) }
+    ensures means { placed result command.new ≡ command_by (codes "repeat") words.now }
     ensures in_range { OnOk result (IsTrue (in_range command.new)) }
     ensures kept { OnErr result (command.new ≡ command.old) }
 {
@@ -107,9 +114,9 @@ pub fn repeat_of(words: &Words<'_>, command: &mut Command) -> Result<(), LineFau
 }
 
 /// `status NAME`.
-#[tactic(auto, unfolding(rh_defs::specs::Line::status_of, rh_defs::specs::Range::in_range))]
+#[tactic(auto, unfolding(rh_defs::specs::Line::command_by, rh_defs::specs::Grammar::rows, rh_defs::specs::Range::in_range))]
 pub fn status_of(words: &Words<'_>, command: &mut Command) -> Result<(), LineFault>
-    ensures means { placed result command.new ≡ counted 2 words.now (status_of words.now) }
+    ensures means { placed result command.new ≡ command_by (codes "status") words.now }
     ensures in_range { OnOk result (IsTrue (in_range command.new)) }
     ensures kept { OnErr result (command.new ≡ command.old) }
 {
@@ -120,9 +127,9 @@ pub fn status_of(words: &Words<'_>, command: &mut Command) -> Result<(), LineFau
 }
 
 /// `cancel NAME in`, or `out`, with an ID behind it or not.
-#[tactic(auto, unfolding(rh_defs::specs::Line::cancel_of, rh_defs::specs::Range::in_range))]
+#[tactic(auto, unfolding(rh_defs::specs::Line::command_by, rh_defs::specs::Grammar::rows, rh_defs::specs::Range::in_range))]
 pub fn cancel_of(words: &Words<'_>, command: &mut Command) -> Result<(), LineFault>
-    ensures means { placed result command.new ≡ counted_from 3 4 words.now (cancel_of words.now) }
+    ensures means { placed result command.new ≡ command_by (codes "cancel") words.now }
     ensures in_range { OnOk result (IsTrue (in_range command.new)) }
     ensures kept { OnErr result (command.new ≡ command.old) }
 {
@@ -140,9 +147,8 @@ pub fn cancel_of(words: &Words<'_>, command: &mut Command) -> Result<(), LineFau
 }
 
 /// The id of a cancel, which a fourth word may give.
-#[tactic(auto, unfolding(rh_defs::specs::Line::id_of))]
 fn id_of(words: &Words<'_>) -> Result<Option<Ref>, LineFault>
-    ensures means { result ≡ id_of words.now }
+    ensures means { result ≡ value_at (Maybe (Number 1 last_ref)) words.now 4 }
     ensures form { IfOk result (λ id. IsTrue (is_id id)) }
 {
     if words.count() == 3 {

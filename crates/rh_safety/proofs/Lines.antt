@@ -1,7 +1,7 @@
 -- Lines spell commands in range, and the desk after lines is that after their commands.
-use Rattle.std.proofs.Common.{◌≡◌, ℕ, zero, suc, ◌*◌, Bool, true, false, ◌&&◌, ◌||◌, List}
+use Rattle.std.proofs.Common.{◌≡◌, ℕ, zero, suc, ◌+◌, ◌-◌, ◌*◌, Bool, true, false, ◌&&◌, List}
 use Rattle.std.proofs.Common.{[], ◌∷◌, length, Option, Some, None, refl, subst, arith}
-use Rattle.std.specs.Prelude.{ℤ, Result, Ok, Err, IfSome, nat_le, nat_lt, ◌==◌, if◌then◌else◌, codes}
+use Rattle.std.specs.Prelude.{Result, Ok, Err, IfSome, nat_le, nat_lt, ◌==◌, if◌then◌else◌}
 use Rattle.std.specs.List.{list_all, filter_map, cons_option}
 use Rattle.std.specs.Str.{bytes_eq}
 use Rattle.std.specs.Result.{result_ok}
@@ -10,23 +10,20 @@ use Rattle.hex.specs.Hex.{decode_of}
 use Rattle.hex.specs.declared.error.FromHexError.{FromHexError}
 use Rattle.hex.proofs.HexLemmas.{decode_of-ok}
 use Rattle.rh_defs.specs.declared.command.Command.{Command}
-use Rattle.rh_defs.specs.declared.command.Command.TheVariants as command
 use Rattle.rh_defs.specs.declared.fault.LineFault.{LineFault}
-use Rattle.rh_defs.specs.declared.fault.LineFault.TheVariants.{TooLong, Count, Word}
-use Rattle.rh_defs.specs.Forms.{is_name, is_anchor, is_number, is_delta, is_decimal, is_leaf, is_id}
-use Rattle.rh_defs.specs.Forms.{number_of, greatest, longest_buffer, last_ref, first_made, last_made, most_pages}
+use Rattle.rh_defs.specs.declared.fault.LineFault.TheVariants.{TooLong, Unknown, Count, Word}
+use Rattle.rh_defs.specs.Forms.{is_name, is_anchor, is_number, is_buffer, is_delta, is_decimal, is_leaf, is_id, is_area}
+use Rattle.rh_defs.specs.Forms.{number_of, greatest, last_ref}
+use Rattle.rh_defs.specs.Grammar.{Form, Name, Leaf, Number, Delta, Address, Bytes, Choice, Maybe, Anchor, Size}
+use Rattle.rh_defs.specs.Grammar.{Value, Maker, Row, cancel_of, rows}
 use Rattle.rh_defs.specs.Range.{in_range, all_in_range}
 use Rattle.rh_defs.specs.Script.{commands_in, lines_desk, meaning_desk}
 use Rattle.rh_defs.specs.Desk.{Desk}
 use Rattle.rh_defs.specs.Step.{step}
 use Rattle.rh_defs.specs.Runs.{after}
 use Rattle.rh_defs.specs.Line.{Meaning, ◌>>=◌, longest_line, words_of, word, name_at, number_at, delta_at, signed}
-use Rattle.rh_defs.specs.Line.{is_negative, unsigned, address_at, leaf_at, choice_at}
-use Rattle.rh_defs.specs.Line.{bytes_at, anchor_at, size_at, manner_of, id_of, task_of, kill_of, alloc_of, load_of}
-use Rattle.rh_defs.specs.Line.{put_of, free_of, extend_of, mid_of, claim_of, release_of, resize_of, budge_of, save_of}
-use Rattle.rh_defs.specs.Line.{poll_of, cancel_of, repeat_of, area_of, make_of, remove_of, rma_claim_of, rma_free_of}
-use Rattle.rh_defs.specs.Line.{rma_resize_of, show_of, blocks_of, heap_of, status_of, counted, counted_from, rma_of}
-use Rattle.rh_defs.specs.Line.{command_of, is_skipped, line_means}
+use Rattle.rh_defs.specs.Line.{is_negative, unsigned, address_at, leaf_at, choice_at, bytes_at, value_at, command_from}
+use Rattle.rh_defs.specs.Line.{is_count, follow, row_of, command_by, command_of, is_skipped, line_means}
 use Rattle.rh_safety.proofs.Basics.{and_left, and_right}
 
 -- ---- what holds of a meaning, where there is one
@@ -92,16 +89,8 @@ number_means words n low high =
     where_true (Passes (λ k. nat_le low k && nat_le k high)) _ (number_of w) (Word n) (λ q. last_two (is_decimal w) _
     _ q)
 
-size_means : (words : List (List ℕ)) (n : ℕ) → Means (Passes is_number) (size_at words n)
-size_means words n = means_also _ (Passes is_number) (size_at words n) (λ k q. and_right (nat_le 0 k) _ q)
-    (number_means words n 0 greatest)
-
 below_64 : (k : ℕ) → nat_le k 63 ≡ true → is_anchor k ≡ true
 below_64 k q = grind (arith, nat_tests, q)
-
-anchor_means : (words : List (List ℕ)) (n : ℕ) → Means (Passes is_anchor) (anchor_at words n)
-anchor_means words n = means_also _ (Passes is_anchor) (anchor_at words n) (λ k q. below_64 k (and_right (nat_le 0 k)
-    (nat_le k 63) q)) (number_means words n 0 63)
 
 signed_delta : (negative : Bool) (n : ℕ) → nat_le n greatest ≡ true → is_delta (signed negative n) ≡ true
 signed_delta false n q = q
@@ -137,215 +126,133 @@ bytes_by words n false o q s = rw q tt
 bytes_means : (words : List (List ℕ)) (n : ℕ) → Means (Passes has_byte) (bytes_at words n)
 bytes_means words n = bytes_by words n (has_byte (word words n)) (result_ok (decode_of (word words n))) refl refl
 
-id_means : (words : List (List ℕ)) → Means (Passes is_id) (id_of words)
-unfolding id_of
-id_means words = one_of (Passes is_id) (length words == 3) (Ok None) _ refl
-    (then_means _ (Passes is_id) (number_at words 4 1 last_ref) _ (number_means words 4 1 last_ref) (λ id q.
-    and_left (nat_le 1 id) _ q))
+-- ---- forms
+
+-- whether a word's value is one that a form spells
+abbrev is_of : (form : Form) → Value form → Bool
+is_of Name name = is_name name
+is_of Leaf leaf = is_leaf leaf
+is_of (Number low high) n = nat_le low n && nat_le n high
+is_of Delta by = is_delta by
+is_of Address address = true
+is_of Bytes bytes = has_byte bytes
+is_of (Choice first second) is_first = true
+is_of (Maybe form) None = true
+is_of (Maybe form) (Some value) = is_of form value
+
+value_means : (form : Form) (words : List (List ℕ)) (n : ℕ) → Means (Passes (is_of form)) (value_at form words n)
+value_means Name words n = name_means words n
+value_means Leaf words n = leaf_means words n
+value_means (Number low high) words n = number_means words n low high
+value_means Delta words n = delta_means words n
+value_means Address words n = means_also Any _ (address_at words n) (λ x u. refl) (any_means (address_at words n))
+value_means Bytes words n = bytes_means words n
+value_means (Choice first second) words n =
+    means_also Any _ (choice_at words n first second) (λ x u. refl) (any_means (choice_at words n first second))
+value_means (Maybe form) words n =
+    one_of (Passes (is_of (Maybe form))) (length words == n - 1) (Ok None) _ refl
+    (then_means (Passes (is_of form)) (Passes (is_of (Maybe form))) (value_at form words n) _ (value_means form words n)
+    (λ value q. q))
 
 -- ---- commands
+
+-- of words of their forms a command in range is made
+abbrev Makes : (forms : List Form) → Maker forms → Type 0
+Makes [] command = in_range command ≡ true
+Makes (form ∷ forms) make = (value : Value form) → is_of form value ≡ true → Makes forms (make value)
 
 abbrev IsCommand : Meaning Command → Type 0
 IsCommand m = Means (Passes in_range) m
 
-module _ (words : List (List ℕ)) where
-  -- a word, and what follows
-  named : (next : List ℕ → Meaning Command) → ((name : List ℕ) → is_name name ≡ true → IsCommand (next name)) →
-      IsCommand (name_at words 2 >>= next)
-  named next f = then_means (Passes is_name) (Passes in_range) (name_at words 2) next (name_means words 2) f
+from_in : (forms : List Form) (make : Maker forms) (words : List (List ℕ)) (n : ℕ) → Makes forms make →
+    IsCommand (command_from forms make words n)
+from_in [] command words n h = h
+from_in (form ∷ forms) make words n h =
+    then_means (Passes (is_of form)) (Passes in_range) (value_at form words (n + 1)) _ (value_means form words (n + 1))
+    (λ value q. from_in forms (make value) words (n + 1) (h value q))
 
-  anchored : (next : ℕ → Meaning Command) → ((k : ℕ) → is_anchor k ≡ true → IsCommand (next k)) →
-      IsCommand (anchor_at words 3 >>= next)
-  anchored next f = then_means (Passes is_anchor) (Passes in_range) (anchor_at words 3) next (anchor_means words 3) f
+-- so does each row
+abbrev AllMake : List Row → Type 0
+AllMake [] = Unit {0}
+AllMake (row ∷ rows) = Makes row.forms row.make × AllMake rows
 
-  sized : (n : ℕ) (next : ℕ → Meaning Command) → ((k : ℕ) → is_number k ≡ true → IsCommand (next k)) →
-      IsCommand (size_at words n >>= next)
-  sized n next f = then_means (Passes is_number) (Passes in_range) (size_at words n) next (size_means words n) f
+row_found : (rs : List Row) (first : List ℕ) (words : List (List ℕ)) (fault : LineFault) → AllMake rs →
+    Means (λ row. Makes row.forms row.make) (row_of rs first words fault)
+row_found [] first words fault h = tt
+row_found (row ∷ rs) first words fault h =
+    one_of (λ r. Makes r.forms r.make) (bytes_eq first row.first && follow row.further words 1) (Ok row) _ h.0
+    (row_found rs first words _ h.1)
 
-  changed : (n : ℕ) (next : ℤ → Meaning Command) → ((by : ℤ) → is_delta by ≡ true → IsCommand (next by)) →
-      IsCommand (delta_at words n >>= next)
-  changed n next f = then_means (Passes is_delta) (Passes in_range) (delta_at words n) next (delta_means words n) f
+anchor_in : (k : ℕ) → is_of Anchor k ≡ true → is_anchor k ≡ true
+anchor_in k q = below_64 k (and_right (nat_le 0 k) (nat_le k 63) q)
 
-  numbered : (n low high : ℕ) (next : ℕ → Meaning Command) →
-      ((k : ℕ) → (nat_le low k && nat_le k high) ≡ true → IsCommand (next k)) →
-      IsCommand (number_at words n low high >>= next)
-  numbered n low high next f = then_means _ (Passes in_range) (number_at words n low high) next (number_means words n
-      low high) f
+size_in : (n : ℕ) → is_of Size n ≡ true → is_number n ≡ true
+size_in n q = and_right (nat_le 0 n) (nat_le n greatest) q
 
-  whatever : {A : Type 0} (m : Meaning A) (next : A → Meaning Command) → ((x : A) → IsCommand (next x)) →
-      IsCommand (m >>= next)
-  whatever m next f = then_means Any (Passes in_range) m next (any_means m) (λ x u. f x)
+id_in : (id : Option ℕ) → is_of (Maybe (Number 1 last_ref)) id ≡ true → is_id id ≡ true
+id_in None q = refl
+id_in (Some id) q = and_left (nat_le 1 id) (nat_le id last_ref) q
 
-  task_in : IsCommand (task_of words)
-  unfolding task_of in_range
-  task_in = named _ (λ name p. numbered 3 1 longest_buffer _ (λ buffer q. whatever (manner_of words) _ (λ manner.
-      both _ _ p q)))
+named_at : (name : List ℕ) (k : ℕ) → is_name name ≡ true → is_of Anchor k ≡ true → (is_name name && is_anchor k) ≡ true
+named_at name k p q = both (is_name name) (is_anchor k) p (anchor_in k q)
 
-  kill_in : IsCommand (kill_of words)
-  unfolding kill_of in_range
-  kill_in = named _ (λ name p. p)
+sized : (name : List ℕ) (k n : ℕ) → is_name name ≡ true → is_of Anchor k ≡ true → is_of Size n ≡ true →
+    (is_name name && is_anchor k && is_number n) ≡ true
+sized name k n p q r = both (is_name name && is_anchor k) (is_number n) (named_at name k p q) (size_in n r)
 
-  alloc_in : IsCommand (alloc_of words)
-  unfolding alloc_of in_range
-  alloc_in = named _ (λ name p. anchored _ (λ k q. sized 4 _ (λ n r. both _ _ (both _ _ p q) r)))
+canceled : (name : List ℕ) (comes_in : Bool) (id : Option ℕ) → (is_name name && is_id id) ≡ true →
+    in_range (cancel_of name comes_in id) ≡ true
+unfolding in_range
+canceled name true id q = q
+canceled name false id q = q
 
-  load_in : IsCommand (load_of words)
-  unfolding load_of in_range
-  load_in = named _ (λ name p. anchored _ (λ k q. then_means (Passes is_name) (Passes in_range) (name_at words 4) _
-      (name_means words 4) (λ file r. both _ _ (both _ _ p q) r)))
+infixr 4 ◌⊗◌
+-- one row, and the others
+abbrev ◌⊗◌ : {A B : Type 0} → A → B → A × B
+a ⊗ b = (a, b)
 
-  put_in : IsCommand (put_of words)
-  unfolding put_of in_range
-  put_in = named _ (λ name p. anchored _ (λ k q. sized 4 _ (λ offset r.
-      then_means (Passes has_byte) (Passes in_range) (bytes_at words 5) _ (bytes_means words 5) (λ bytes s.
-      both _ _ (both _ _ (both _ _ p q) r) s))))
+rows_make : AllMake rows
+unfolding rows in_range
+rows_make =
+    (λ name p buffer q deaf u. both (is_name name) (is_buffer buffer) p q)
+    ⊗ (λ name p. p)
+    ⊗ (λ name p k q n r. sized name k n p q r)
+    ⊗ (λ name p k q file r. both (is_name name && is_anchor k) (is_name file) (named_at name k p q) r)
+    ⊗ (λ name p k q offset r bytes s.
+    both (is_name name && is_anchor k && is_number offset) (has_byte bytes) (sized name k offset p q r) s)
+    ⊗ (λ name p k q. named_at name k p q)
+    ⊗ (λ name p k q n r. sized name k n p q r)
+    ⊗ (λ name p k q offset r by s.
+    both (is_name name && is_anchor k && is_number offset) (is_delta by) (sized name k offset p q r) s)
+    ⊗ (λ name p n q. both (is_name name) (is_number n) p (size_in n q))
+    ⊗ (λ name p address u. p)
+    ⊗ (λ name p address u by q. both (is_name name) (is_delta by) p q)
+    ⊗ (λ name p on u. p)
+    ⊗ (λ name p k q to r leaf s. both (is_name name && is_anchor k && is_name to) (is_leaf leaf)
+    (both (is_name name && is_anchor k) (is_name to) (named_at name k p q) r) s)
+    ⊗ (λ name p. p)
+    ⊗ (λ name p comes_in u id q. canceled name comes_in id (both (is_name name) (is_id id) p (id_in id q)))
+    ⊗ (λ name p. p)
+    ⊗ (λ k q by r. both (is_area k) (is_delta by) (and_right (nat_le 0 k) (is_area k) q) r)
+    ⊗ (λ most q. q)
+    ⊗ (λ k q. q)
+    ⊗ (λ n q. size_in n q)
+    ⊗ (λ address u. refl)
+    ⊗ (λ address u by q. q)
+    ⊗ (λ name p k q. named_at name k p q)
+    ⊗ (λ name p. p)
+    ⊗ (λ name p. p)
+    ⊗ (λ name p. p)
+    ⊗ refl
+    ⊗ tt
 
-  free_in : IsCommand (free_of words)
-  unfolding free_of in_range
-  free_in = named _ (λ name p. anchored _ (λ k q. both _ _ p q))
-
-  extend_in : IsCommand (extend_of words)
-  unfolding extend_of in_range
-  extend_in = named _ (λ name p. anchored _ (λ k q. sized 4 _ (λ n r. both _ _ (both _ _ p q) r)))
-
-  mid_in : IsCommand (mid_of words)
-  unfolding mid_of in_range
-  mid_in = named _ (λ name p. anchored _ (λ k q. sized 4 _ (λ offset r. changed 5 _ (λ by s.
-      both _ _ (both _ _ (both _ _ p q) r) s))))
-
-  claim_in : IsCommand (claim_of words)
-  unfolding claim_of in_range
-  claim_in = named _ (λ name p. sized 3 _ (λ n q. both _ _ p q))
-
-  release_in : IsCommand (release_of words)
-  unfolding release_of in_range
-  release_in = named _ (λ name p. whatever (address_at words 3) _ (λ address. p))
-
-  resize_in : IsCommand (resize_of words)
-  unfolding resize_of in_range
-  resize_in = named _ (λ name p. whatever (address_at words 3) _ (λ address. changed 4 _ (λ delta q. both _ _ p q)))
-
-  budge_in : IsCommand (budge_of words)
-  unfolding budge_of in_range
-  budge_in = named _ (λ name p. whatever (choice_at words 3 (codes "on") (codes "off")) _ (λ on. p))
-
-  save_in : IsCommand (save_of words)
-  unfolding save_of in_range
-  save_in = named _ (λ name p. anchored _ (λ k q. then_means (Passes is_name) (Passes in_range) (name_at words 4) _
-      (name_means words 4) (λ to r.
-      then_means (Passes is_leaf) (Passes in_range) (leaf_at words 5) _ (leaf_means words 5) (λ leaf s.
-      both _ _ (both _ _ (both _ _ p q) r) s))))
-
-  poll_in : IsCommand (poll_of words)
-  unfolding poll_of in_range
-  poll_in = named _ (λ name p. p)
-
-  cancel_in : IsCommand (cancel_of words)
-  unfolding cancel_of in_range
-  cancel_in = named _ (λ name p. whatever (choice_at words 3 (codes "in") (codes "out")) _ (λ comes_in.
-      then_means (Passes is_id) (Passes in_range) (id_of words) _ (id_means words) (λ id q. elim comes_in
-      as (λ c. in_range (if c then command.CancelIn name id else command.CancelOut name id) ≡ true) [
-        | true ↦ both
-            _ _ p q
-        | false ↦ both _ _ p q
-      ])))
-
-  repeat_in : IsCommand (repeat_of words)
-  unfolding repeat_of in_range
-  repeat_in = named _ (λ name p. p)
-
-  area_in : IsCommand (area_of words)
-  unfolding area_of in_range
-  area_in = numbered 2 0 last_made _ (λ k q. changed 3 _ (λ delta r. both _ _ (and_right (nat_le 0 k) _ q) r))
-
-  make_in : IsCommand (make_of words)
-  unfolding make_of in_range
-  make_in = numbered 2 1 most_pages _ (λ n q. q)
-
-  remove_in : IsCommand (remove_of words)
-  unfolding remove_of in_range
-  remove_in = numbered 2 first_made last_made _ (λ k q. q)
-
-  rma_claim_in : IsCommand (rma_claim_of words)
-  unfolding rma_claim_of in_range
-  rma_claim_in = sized 3 _ (λ n q. q)
-
-  rma_free_in : IsCommand (rma_free_of words)
-  unfolding rma_free_of in_range
-  rma_free_in = whatever (address_at words 3) _ (λ address. refl)
-
-  rma_resize_in : IsCommand (rma_resize_of words)
-  unfolding rma_resize_of in_range
-  rma_resize_in = whatever (address_at words 3) _ (λ address. changed 4 _ (λ delta q. q))
-
-  show_in : IsCommand (show_of words)
-  unfolding show_of in_range
-  show_in = named _ (λ name p. anchored _ (λ k q. both _ _ p q))
-
-  blocks_in : IsCommand (blocks_of words)
-  unfolding blocks_of in_range
-  blocks_in = named _ (λ name p. p)
-
-  heap_in : IsCommand (heap_of words)
-  unfolding heap_of in_range
-  heap_in = named _ (λ name p. p)
-
-  status_in : IsCommand (status_of words)
-  unfolding status_of in_range
-  status_in = named _ (λ name p. p)
-
-  areas_in : IsCommand (Ok command.Areas)
-  unfolding in_range
-  areas_in = refl
-
-  -- where the line has so many words
-  counts : (n : ℕ) (m : Meaning Command) → IsCommand m → IsCommand (counted n words m)
-  counts n m p = one_of (Passes in_range) (length words == n) m (Err Count) p tt
-
-  counts_from : (fewer more : ℕ) (m : Meaning Command) → IsCommand m → IsCommand (counted_from fewer more words m)
-  counts_from fewer more m p = one_of (Passes in_range) (length words == fewer || length words == more) m (Err Count)
-      p tt
-
-  or_else : (b : Bool) (m n : Meaning Command) → IsCommand m → IsCommand n → IsCommand (if b then m else n)
-  or_else b m n p q = one_of (Passes in_range) b m n p q
-
-  rma_in : IsCommand (rma_of words)
-  unfolding rma_of
-  rma_in =
-      or_else (length words == 1) (Err Count) _ tt
-      (or_else (bytes_eq (word words 2) (codes "claim")) _ _ (counts 3 _ rma_claim_in)
-      (or_else (bytes_eq (word words 2) (codes "free")) _ _ (counts 3 _ rma_free_in)
-      (or_else (bytes_eq (word words 2) (codes "resize")) _ _ (counts 4 _ rma_resize_in) tt)))
-
-  command_in : IsCommand (command_of words)
-  unfolding command_of
-  command_in =
-      let first : List ℕ = word words 1 in
-      or_else (bytes_eq first (codes "task")) _ _ (counts_from 3 4 _ task_in)
-      (or_else (bytes_eq first (codes "kill")) _ _ (counts 2 _ kill_in)
-      (or_else (bytes_eq first (codes "alloc")) _ _ (counts 4 _ alloc_in)
-      (or_else (bytes_eq first (codes "load")) _ _ (counts 4 _ load_in)
-      (or_else (bytes_eq first (codes "put")) _ _ (counts 5 _ put_in)
-      (or_else (bytes_eq first (codes "free")) _ _ (counts 3 _ free_in)
-      (or_else (bytes_eq first (codes "extend")) _ _ (counts 4 _ extend_in)
-      (or_else (bytes_eq first (codes "mid")) _ _ (counts 5 _ mid_in)
-      (or_else (bytes_eq first (codes "claim")) _ _ (counts 3 _ claim_in)
-      (or_else (bytes_eq first (codes "release")) _ _ (counts 3 _ release_in)
-      (or_else (bytes_eq first (codes "resize")) _ _ (counts 4 _ resize_in)
-      (or_else (bytes_eq first (codes "budge")) _ _ (counts 3 _ budge_in)
-      (or_else (bytes_eq first (codes "save")) _ _ (counts 5 _ save_in)
-      (or_else (bytes_eq first (codes "poll")) _ _ (counts 2 _ poll_in)
-      (or_else (bytes_eq first (codes "cancel")) _ _ (counts_from 3 4 _ cancel_in)
-      (or_else (bytes_eq first (codes "repeat")) _ _ (counts 2 _ repeat_in)
-      (or_else (bytes_eq first (codes "area")) _ _ (counts 3 _ area_in)
-      (or_else (bytes_eq first (codes "make")) _ _ (counts 2 _ make_in)
-      (or_else (bytes_eq first (codes "remove")) _ _ (counts 2 _ remove_in)
-      (or_else (bytes_eq first (codes "rma")) _ _ rma_in
-      (or_else (bytes_eq first (codes "show")) _ _ (counts 3 _ show_in)
-      (or_else (bytes_eq first (codes "blocks")) _ _ (counts 2 _ blocks_in)
-      (or_else (bytes_eq first (codes "heap")) _ _ (counts 2 _ heap_in)
-      (or_else (bytes_eq first (codes "status")) _ _ (counts 2 _ status_in)
-      (or_else (bytes_eq first (codes "areas")) _ _ (counts 1 _ areas_in) tt))))))))))))))))))))))))
+command_in : (words : List (List ℕ)) → IsCommand (command_of words)
+unfolding command_by
+command_in words =
+    then_means (λ row. Makes row.forms row.make) (Passes in_range) (row_of rows (word words 1) words Unknown) _
+    (row_found rows (word words 1) words Unknown rows_make) (λ row h.
+    one_of (Passes in_range) (is_count row.forms (1 + length row.further) (length words)) _ (Err Count)
+    (from_in row.forms row.make words (1 + length row.further) h) tt)
 
 -- ---- lines
 

@@ -1,6 +1,7 @@
 use Rattle.std.proofs.Common.{ℕ, List, Bor, get_or, refl}
 use Rattle.rh_lines.specs.declared.keyword.Keyword.{Keyword}
-use Rattle.rh_lines.specs.Keywords.{names}
+use Rattle.rh_defs.specs.Grammar.{rows}
+use Rattle.rh_lines.specs.Keywords.{firsts}
 use Rattle.rh_lines.proofs.LineLemmas.{found_keyword, no_keyword_from}
 use Rattle.rh_lines.proofs.keyword.keyword_of.Goals as goal
 
@@ -14,4 +15,4 @@ returns-in-len1-up-clause-found c =
 
 pub returns-in-len1-up-clause-none : goal.returns-in-len1-up-clause-none
 returns-in-len1-up-clause-none c =
-    rw c.find_keyword.ensures (no_keyword_from {X = Entry} (λ e. e.0.now) (λ e. e.1) c.args.word.now (get_or c.args.word.now 0 0) c.keywords_from.result.now names refl c.keywords_from.ensures.all)
+    rw c.find_keyword.ensures (no_keyword_from {X = Entry} (λ e. e.0.now) (λ e. e.1) c.args.word.now (get_or c.args.word.now 0 0) c.keywords_from.result.now (firsts rows) refl c.keywords_from.ensures.all)
