@@ -1,7 +1,9 @@
 -- What a line asks for, where its command or its bytes are put in a place that the caller gives.
 use Rattle.std.specs.Prelude.{Bool, true, false, Option, Some, None, Ok, Err}
 use Rattle.rh_defs.specs.declared.command.Command.{Command}
-use Rattle.rh_defs.specs.Line.{Meaning}
+use Rattle.rh_defs.specs.Grammar.{rows}
+use Rattle.rh_defs.specs.Line.{Meaning, command_by}
+use Rattle.rh_defs.specs.Range.{in_range}
 
 -- what is in the place, unless there is a fault
 abbrev pub placed : {A : Type 0} → Meaning Unit → A → Meaning A
@@ -25,3 +27,8 @@ abbrev pub OnNone : Meaning Bool → Type 0 → Type 0
 OnNone (Ok true) X = Unit {0}
 OnNone (Ok false) X = X
 OnNone (Err fault) X = X
+
+-- opens what a command's row asks of its line, for a proof of one command
+unfoldable pub reading : Unit {0}
+unfolding command_by rows in_range
+reading = tt

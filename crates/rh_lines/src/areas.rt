@@ -12,7 +12,7 @@ use rh_defs::sizes::{FIRST_MADE, LAST_AREA, MAX_PAGES};
 use rh_defs::{Command, LineFault};
 
 /// `area K DELTA`.
-#[tactic(auto, unfolding(rh_defs::specs::Line::command_by, rh_defs::specs::Grammar::rows, rh_defs::specs::Range::in_range))]
+#[tactic(auto, unfolding(crate::specs::Placed::reading))]
 pub fn area_of(words: &Words<'_>, command: &mut Command) -> Result<(), LineFault>
     ensures means { placed result command.new ≡ command_by (codes "area") words.now }
     ensures in_range { OnOk result (IsTrue (in_range command.new)) }
@@ -26,7 +26,7 @@ pub fn area_of(words: &Words<'_>, command: &mut Command) -> Result<(), LineFault
 }
 
 /// `make MAX`.
-#[tactic(auto, unfolding(rh_defs::specs::Line::command_by, rh_defs::specs::Grammar::rows, rh_defs::specs::Range::in_range))]
+#[tactic(auto, unfolding(crate::specs::Placed::reading))]
 pub fn make_of(words: &Words<'_>, command: &mut Command) -> Result<(), LineFault>
     ensures means { placed result command.new ≡ command_by (codes "make") words.now }
     ensures in_range { OnOk result (IsTrue (in_range command.new)) }
@@ -39,7 +39,7 @@ pub fn make_of(words: &Words<'_>, command: &mut Command) -> Result<(), LineFault
 }
 
 /// `remove K`.
-#[tactic(auto, unfolding(rh_defs::specs::Line::command_by, rh_defs::specs::Grammar::rows, rh_defs::specs::Range::in_range))]
+#[tactic(auto, unfolding(crate::specs::Placed::reading))]
 pub fn remove_of(words: &Words<'_>, command: &mut Command) -> Result<(), LineFault>
     ensures means { placed result command.new ≡ command_by (codes "remove") words.now }
     ensures in_range { OnOk result (IsTrue (in_range command.new)) }
@@ -52,7 +52,7 @@ pub fn remove_of(words: &Words<'_>, command: &mut Command) -> Result<(), LineFau
 }
 
 /// `areas`.
-#[tactic(auto, unfolding(rh_defs::specs::Line::command_by, rh_defs::specs::Grammar::rows, rh_defs::specs::Range::in_range))]
+#[tactic(auto, unfolding(crate::specs::Placed::reading))]
 pub fn areas_of(words: &Words<'_>, command: &mut Command) -> Result<(), LineFault>
     ensures means { placed result command.new ≡ command_by (codes "areas") words.now }
     ensures in_range { OnOk result (IsTrue (in_range command.new)) }

@@ -12,7 +12,7 @@ use arrayvec::ArrayVec;
 use rh_defs::{Bytes, Command, LineFault};
 
 /// `alloc NAME A N`.
-#[tactic(auto, unfolding(rh_defs::specs::Line::command_by, rh_defs::specs::Grammar::rows, rh_defs::specs::Range::in_range))]
+#[tactic(auto, unfolding(crate::specs::Placed::reading))]
 pub fn alloc_of(words: &Words<'_>, command: &mut Command) -> Result<(), LineFault>
     ensures means { placed result command.new ≡ command_by (codes "alloc") words.now }
     ensures in_range { OnOk result (IsTrue (in_range command.new)) }
@@ -27,7 +27,7 @@ pub fn alloc_of(words: &Words<'_>, command: &mut Command) -> Result<(), LineFaul
 }
 
 /// `load NAME A FILE`.
-#[tactic(auto, unfolding(rh_defs::specs::Line::command_by, rh_defs::specs::Grammar::rows, rh_defs::specs::Range::in_range))]
+#[tactic(auto, unfolding(crate::specs::Placed::reading))]
 pub fn load_of(words: &Words<'_>, command: &mut Command) -> Result<(), LineFault>
     ensures means { placed result command.new ≡ command_by (codes "load") words.now }
     ensures in_range { OnOk result (IsTrue (in_range command.new)) }
@@ -42,7 +42,7 @@ pub fn load_of(words: &Words<'_>, command: &mut Command) -> Result<(), LineFault
 }
 
 /// `put NAME A OFF HEX`.
-#[tactic(auto, unfolding(rh_defs::specs::Line::command_by, rh_defs::specs::Grammar::rows, rh_defs::specs::Range::in_range))]
+#[tactic(auto, unfolding(crate::specs::Placed::reading))]
 pub fn put_of(words: &Words<'_>, command: &mut Command) -> Result<(), LineFault>
     ensures means { placed result command.new ≡ command_by (codes "put") words.now }
     ensures in_range { OnOk result (IsTrue (in_range command.new)) }
@@ -64,7 +64,7 @@ pub fn put_of(words: &Words<'_>, command: &mut Command) -> Result<(), LineFault>
 }
 
 /// `free NAME A`.
-#[tactic(auto, unfolding(rh_defs::specs::Line::command_by, rh_defs::specs::Grammar::rows, rh_defs::specs::Range::in_range))]
+#[tactic(auto, unfolding(crate::specs::Placed::reading))]
 pub fn free_of(words: &Words<'_>, command: &mut Command) -> Result<(), LineFault>
     ensures means { placed result command.new ≡ command_by (codes "free") words.now }
     ensures in_range { OnOk result (IsTrue (in_range command.new)) }
@@ -78,7 +78,7 @@ pub fn free_of(words: &Words<'_>, command: &mut Command) -> Result<(), LineFault
 }
 
 /// `extend NAME A N`.
-#[tactic(auto, unfolding(rh_defs::specs::Line::command_by, rh_defs::specs::Grammar::rows, rh_defs::specs::Range::in_range))]
+#[tactic(auto, unfolding(crate::specs::Placed::reading))]
 pub fn extend_of(words: &Words<'_>, command: &mut Command) -> Result<(), LineFault>
     ensures means { placed result command.new ≡ command_by (codes "extend") words.now }
     ensures in_range { OnOk result (IsTrue (in_range command.new)) }
@@ -93,7 +93,7 @@ pub fn extend_of(words: &Words<'_>, command: &mut Command) -> Result<(), LineFau
 }
 
 /// `mid NAME A AT BY`.
-#[tactic(auto, unfolding(rh_defs::specs::Line::command_by, rh_defs::specs::Grammar::rows, rh_defs::specs::Range::in_range))]
+#[tactic(auto, unfolding(crate::specs::Placed::reading))]
 pub fn mid_of(words: &Words<'_>, command: &mut Command) -> Result<(), LineFault>
     ensures means { placed result command.new ≡ command_by (codes "mid") words.now }
     ensures in_range { OnOk result (IsTrue (in_range command.new)) }
@@ -114,7 +114,7 @@ pub fn mid_of(words: &Words<'_>, command: &mut Command) -> Result<(), LineFault>
 }
 
 /// `show NAME A`.
-#[tactic(auto, unfolding(rh_defs::specs::Line::command_by, rh_defs::specs::Grammar::rows, rh_defs::specs::Range::in_range))]
+#[tactic(auto, unfolding(crate::specs::Placed::reading))]
 pub fn show_of(words: &Words<'_>, command: &mut Command) -> Result<(), LineFault>
     ensures means { placed result command.new ≡ command_by (codes "show") words.now }
     ensures in_range { OnOk result (IsTrue (in_range command.new)) }
@@ -128,7 +128,7 @@ pub fn show_of(words: &Words<'_>, command: &mut Command) -> Result<(), LineFault
 }
 
 /// `blocks NAME`.
-#[tactic(auto, unfolding(rh_defs::specs::Line::command_by, rh_defs::specs::Grammar::rows, rh_defs::specs::Range::in_range))]
+#[tactic(auto, unfolding(crate::specs::Placed::reading))]
 pub fn blocks_of(words: &Words<'_>, command: &mut Command) -> Result<(), LineFault>
     ensures means { placed result command.new ≡ command_by (codes "blocks") words.now }
     ensures in_range { OnOk result (IsTrue (in_range command.new)) }

@@ -11,7 +11,7 @@ use crate::words::Words;
 use rh_defs::{Command, LineFault};
 
 /// `claim NAME N`.
-#[tactic(auto, unfolding(rh_defs::specs::Line::command_by, rh_defs::specs::Grammar::rows, rh_defs::specs::Range::in_range))]
+#[tactic(auto, unfolding(crate::specs::Placed::reading))]
 pub fn claim_of(words: &Words<'_>, command: &mut Command) -> Result<(), LineFault>
     ensures means { placed result command.new ≡ command_by (codes "claim") words.now }
     ensures in_range { OnOk result (IsTrue (in_range command.new)) }
@@ -25,7 +25,7 @@ pub fn claim_of(words: &Words<'_>, command: &mut Command) -> Result<(), LineFaul
 }
 
 /// `release NAME ADDR`.
-#[tactic(auto, unfolding(rh_defs::specs::Line::command_by, rh_defs::specs::Grammar::rows, rh_defs::specs::Range::in_range))]
+#[tactic(auto, unfolding(crate::specs::Placed::reading))]
 pub fn release_of(words: &Words<'_>, command: &mut Command) -> Result<(), LineFault>
     ensures means { placed result command.new ≡ command_by (codes "release") words.now }
     ensures in_range { OnOk result (IsTrue (in_range command.new)) }
@@ -39,7 +39,7 @@ pub fn release_of(words: &Words<'_>, command: &mut Command) -> Result<(), LineFa
 }
 
 /// `resize NAME ADDR DELTA`.
-#[tactic(auto, unfolding(rh_defs::specs::Line::command_by, rh_defs::specs::Grammar::rows, rh_defs::specs::Range::in_range))]
+#[tactic(auto, unfolding(crate::specs::Placed::reading))]
 pub fn resize_of(words: &Words<'_>, command: &mut Command) -> Result<(), LineFault>
     ensures means { placed result command.new ≡ command_by (codes "resize") words.now }
     ensures in_range { OnOk result (IsTrue (in_range command.new)) }
@@ -58,7 +58,7 @@ pub fn resize_of(words: &Words<'_>, command: &mut Command) -> Result<(), LineFau
 }
 
 /// `budge NAME on, or off`.
-#[tactic(auto, unfolding(rh_defs::specs::Line::command_by, rh_defs::specs::Grammar::rows, rh_defs::specs::Range::in_range))]
+#[tactic(auto, unfolding(crate::specs::Placed::reading))]
 pub fn budge_of(words: &Words<'_>, command: &mut Command) -> Result<(), LineFault>
     ensures means { placed result command.new ≡ command_by (codes "budge") words.now }
     ensures in_range { OnOk result (IsTrue (in_range command.new)) }
@@ -72,7 +72,7 @@ pub fn budge_of(words: &Words<'_>, command: &mut Command) -> Result<(), LineFaul
 }
 
 /// `heap NAME`.
-#[tactic(auto, unfolding(rh_defs::specs::Line::command_by, rh_defs::specs::Grammar::rows, rh_defs::specs::Range::in_range))]
+#[tactic(auto, unfolding(crate::specs::Placed::reading))]
 pub fn heap_of(words: &Words<'_>, command: &mut Command) -> Result<(), LineFault>
     ensures means { placed result command.new ≡ command_by (codes "heap") words.now }
     ensures in_range { OnOk result (IsTrue (in_range command.new)) }
@@ -85,7 +85,7 @@ pub fn heap_of(words: &Words<'_>, command: &mut Command) -> Result<(), LineFault
 }
 
 /// `rma claim N`, `rma free ADDR` or `rma resize ADDR DELTA`.
-#[tactic(auto, unfolding(rh_defs::specs::Line::command_by, rh_defs::specs::Grammar::rows, rh_defs::specs::Range::in_range))]
+#[tactic(auto, unfolding(crate::specs::Placed::reading))]
 pub fn rma_of(words: &Words<'_>, command: &mut Command) -> Result<(), LineFault>
     ensures means { placed result command.new ≡ command_by (codes "rma") words.now }
     ensures in_range { OnOk result (IsTrue (in_range command.new)) }

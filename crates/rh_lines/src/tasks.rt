@@ -14,7 +14,7 @@ use rh_defs::sizes::LONGEST_BUFFER;
 use rh_defs::{Command, LineFault, Manner, Ref};
 
 /// `task NAME BUF`, with `deaf` or `file` behind it or not.
-#[tactic(auto, unfolding(rh_defs::specs::Line::command_by, rh_defs::specs::Grammar::rows, rh_defs::specs::Range::in_range))]
+#[tactic(auto, unfolding(crate::specs::Placed::reading))]
 pub fn task_of(words: &Words<'_>, command: &mut Command) -> Result<(), LineFault>
     ensures means { placed result command.new ≡ command_by (codes "task") words.now }
     ensures in_range { OnOk result (IsTrue (in_range command.new)) }
@@ -54,7 +54,7 @@ fn manner_of(deaf: Option<bool>) -> Manner
 }
 
 /// `kill NAME`.
-#[tactic(auto, unfolding(rh_defs::specs::Line::command_by, rh_defs::specs::Grammar::rows, rh_defs::specs::Range::in_range))]
+#[tactic(auto, unfolding(crate::specs::Placed::reading))]
 pub fn kill_of(words: &Words<'_>, command: &mut Command) -> Result<(), LineFault>
     ensures means { placed result command.new ≡ command_by (codes "kill") words.now }
     ensures in_range { OnOk result (IsTrue (in_range command.new)) }
@@ -67,7 +67,7 @@ pub fn kill_of(words: &Words<'_>, command: &mut Command) -> Result<(), LineFault
 }
 
 /// `save NAME A TO LEAF`.
-#[tactic(auto, unfolding(rh_defs::specs::Line::command_by, rh_defs::specs::Grammar::rows, rh_defs::specs::Range::in_range))]
+#[tactic(auto, unfolding(crate::specs::Placed::reading))]
 pub fn save_of(words: &Words<'_>, command: &mut Command) -> Result<(), LineFault>
     ensures means { placed result command.new ≡ command_by (codes "save") words.now }
     ensures in_range { OnOk result (IsTrue (in_range command.new)) }
@@ -88,7 +88,7 @@ pub fn save_of(words: &Words<'_>, command: &mut Command) -> Result<(), LineFault
 }
 
 /// `poll NAME`.
-#[tactic(auto, unfolding(rh_defs::specs::Line::command_by, rh_defs::specs::Grammar::rows, rh_defs::specs::Range::in_range))]
+#[tactic(auto, unfolding(crate::specs::Placed::reading))]
 pub fn poll_of(words: &Words<'_>, command: &mut Command) -> Result<(), LineFault>
     ensures means { placed result command.new ≡ command_by (codes "poll") words.now }
     ensures in_range { OnOk result (IsTrue (in_range command.new)) }
@@ -101,7 +101,7 @@ pub fn poll_of(words: &Words<'_>, command: &mut Command) -> Result<(), LineFault
 }
 
 /// `repeat NAME`.
-#[tactic(auto, unfolding(rh_defs::specs::Line::command_by, rh_defs::specs::Grammar::rows, rh_defs::specs::Range::in_range))]
+#[tactic(auto, unfolding(crate::specs::Placed::reading))]
 pub fn repeat_of(words: &Words<'_>, command: &mut Command) -> Result<(), LineFault>
     ensures means { placed result command.new ≡ command_by (codes "repeat") words.now }
     ensures in_range { OnOk result (IsTrue (in_range command.new)) }
@@ -114,7 +114,7 @@ pub fn repeat_of(words: &Words<'_>, command: &mut Command) -> Result<(), LineFau
 }
 
 /// `status NAME`.
-#[tactic(auto, unfolding(rh_defs::specs::Line::command_by, rh_defs::specs::Grammar::rows, rh_defs::specs::Range::in_range))]
+#[tactic(auto, unfolding(crate::specs::Placed::reading))]
 pub fn status_of(words: &Words<'_>, command: &mut Command) -> Result<(), LineFault>
     ensures means { placed result command.new ≡ command_by (codes "status") words.now }
     ensures in_range { OnOk result (IsTrue (in_range command.new)) }
@@ -127,7 +127,7 @@ pub fn status_of(words: &Words<'_>, command: &mut Command) -> Result<(), LineFau
 }
 
 /// `cancel NAME in`, or `out`, with an ID behind it or not.
-#[tactic(auto, unfolding(rh_defs::specs::Line::command_by, rh_defs::specs::Grammar::rows, rh_defs::specs::Range::in_range))]
+#[tactic(auto, unfolding(crate::specs::Placed::reading))]
 pub fn cancel_of(words: &Words<'_>, command: &mut Command) -> Result<(), LineFault>
     ensures means { placed result command.new ≡ command_by (codes "cancel") words.now }
     ensures in_range { OnOk result (IsTrue (in_range command.new)) }
