@@ -3,11 +3,18 @@
 import dataclasses
 import difflib
 import os
+import re
 
 from kit import bodies, rt
 
-FOLDER = "wrong"
+WRONG, MUST_FAIL = "wrong", "must-fail"
 ENDING = ".edit"
+TELLS = "# "
+# How a constant, a type or a definition begins: its word and its name.
+DECLARED = re.compile(
+    r"^(?:pub(?:\(crate\))? )?(const|static|struct|enum|abbrev|unfoldable|record) (?:pub )?([\w-]+)", re.MULTILINE
+)
+KINDS = {"const": "constant", "static": "constant", "struct": "type", "enum": "type"}
 
 
 class BadEdit(Exception):
@@ -24,17 +31,27 @@ class Change:
     new: bytes
 
 
+@dataclasses.dataclass(frozen=True)
+class Place:
+    """What an edit changes: a function, a constant, a type or a definition, by its name."""
+
+    kind: str
+    name: str
+
+
 @dataclasses.dataclass
 class Edit:
-    """A wrong body: its name, what it changes, and the functions in which all of that lies.
+    """A wrong body: its name, what its first line says, what it changes, and the functions in which all of that lies.
 
-    There are none where it changes something outside of functions, as a constant, a type or a definition. Only
-    where it changes nothing but bodies (`is_inside`) can no other function see it.
+    There are none where it changes something outside of functions, as a constant, a type or a definition; `places`
+    names that too. Only where it changes nothing but bodies (`is_inside`) can no other function see it.
     """
 
     name: str
+    told: str
     changes: list
     functions: list
+    places: list
     is_inside: bool
 
 
@@ -69,37 +86,62 @@ def functions_of(folder):
     return [Function(it, source.declared) for it in source.functions if it.has_body]
 
 
-def names_of(crate):
-    """The files in the crate's folder of edits."""
-    folder = f"{crate.folder}/{FOLDER}"
+def names_of(crate, kind=WRONG):
+    """The files in one of the crate's folders of edits."""
+    folder = f"{crate.folder}/{kind}"
     return sorted(os.listdir(folder)) if os.path.isdir(folder) else []
 
 
-def read_edits(crate):
-    """Reads the crate's edits, and gives (the edits, why each other one can't be applied)."""
-    names = names_of(crate)
+def read_edits(crate, kind=WRONG):
+    """Reads the crate's edits of one folder, and gives (the edits, why each other one can't be applied)."""
+    names = names_of(crate, kind)
     functions = functions_of(crate.folder) if names else []
     edits, bad = [], []
     for name in names:
         try:
-            edits.append(_read(crate.folder, functions, name))
+            edits.append(_read(crate.folder, functions, f"{kind}/{name}"))
         except BadEdit as why:
             bad.append(f"{name.removesuffix(ENDING)}: BAD EDIT: {why}")
     return edits, bad
 
 
-def _read(folder, functions, name):
-    if not name.endswith(ENDING):
+def _read(folder, functions, file):
+    if not file.endswith(ENDING):
         raise BadEdit(f"the name of an edit ends in {ENDING}")
-    texts, why = rt.read_edit(f"{folder}/{FOLDER}/{name}", folder)
+    texts, why = rt.read_edit(f"{folder}/{file}", folder)
     if why:
         raise BadEdit(why)
     changes = [it for file, text in texts.items() for it in _changes(folder, file, text)]
     if not changes:
         raise BadEdit("it changes nothing")
     held = [_holding(functions, it) for it in changes]
-    is_inside = all(f and f.opens < it.start for f, it in zip(held, changes))
-    return Edit(name.removesuffix(ENDING), changes, [] if None in held else list(dict.fromkeys(held)), is_inside)
+    return Edit(
+        name=os.path.basename(file).removesuffix(ENDING),
+        told=_told(f"{folder}/{file}"),
+        changes=changes,
+        functions=[] if None in held else list(dict.fromkeys(held)),
+        places=list(dict.fromkeys(_place(folder, f, it) for f, it in zip(held, changes))),
+        is_inside=all(f and f.opens < it.start for f, it in zip(held, changes)),
+    )
+
+
+def _told(path):
+    """What the first line of an edit says, without the mark of a comment; nothing where it has none."""
+    first = _bytes_of(path).decode(errors="replace").partition("\n")[0]
+    return first.removeprefix(TELLS) if first.startswith(TELLS) else ""
+
+
+def _place(folder, function, change):
+    """What is changed: the function that holds the change, or else the last thing declared above it."""
+    if function:
+        return Place("function", f"{function.owner}::{function.name}" if function.owner else function.name)
+    text = _bytes_of(f"{folder}/{change.file}")
+    behind = text.find(b"\n", change.start)
+    found = DECLARED.findall(text[: len(text) if behind < 0 else behind].decode())
+    if not found:
+        return Place("file", change.file)
+    word, name = found[-1]
+    return Place(KINDS.get(word, "definition"), name)
 
 
 def _holding(functions, change):
