@@ -2,7 +2,7 @@
 
 use crate::same::{is_true, same};
 use arrayvec::ArrayVec;
-use rh_defs::{Anchor, Bytes, Command, Leaf, LineFault, Manner, Name, Ref};
+use rh_defs::{Anchor, Bytes, Command, Leaf, LineFault, Manner, Name, Question, Ref};
 use rh_lines::{parse_line, read_line};
 use std::process::Abort;
 
@@ -57,9 +57,9 @@ fn parses_lines_about_one_task(rt: HostRuntime) {
     expect(
         &rt,
         b"status a",
-        Command::Status {
+        Command::Ask(Question::Status {
             name: name(&rt, b"a"),
-        },
+        }),
     );
 }
 
@@ -192,17 +192,17 @@ fn parses_lines_that_list_blocks(rt: HostRuntime) {
     expect(
         &rt,
         b"show a 9",
-        Command::Show {
+        Command::Ask(Question::Show {
             name: name(&rt, b"a"),
             anchor,
-        },
+        }),
     );
     expect(
         &rt,
         b"blocks a",
-        Command::Blocks {
+        Command::Ask(Question::Blocks {
             name: name(&rt, b"a"),
-        },
+        }),
     );
 }
 
@@ -262,9 +262,9 @@ fn parses_lines_about_heaps_and_the_module_area(rt: HostRuntime) {
     expect(
         &rt,
         b"heap a",
-        Command::Heap {
+        Command::Ask(Question::Heap {
             name: name(&rt, b"a"),
-        },
+        }),
     );
     expect(&rt, b"rma claim 60", Command::RmaClaim { size: 60 });
     expect(&rt, b"rma free &0", Command::RmaFree { address: 0 });
@@ -298,7 +298,7 @@ fn parses_lines_about_areas(rt: HostRuntime) {
     );
     expect(&rt, b"make 1024", Command::Make { most: 1024 });
     expect(&rt, b"remove 256", Command::Remove { number: 256 });
-    expect(&rt, b"areas", Command::Areas);
+    expect(&rt, b"areas", Command::Ask(Question::Areas));
 }
 
 #[test]
@@ -311,7 +311,7 @@ fn skips_lines(rt: HostRuntime) {
 
 #[test]
 fn puts_a_command_in_a_place(rt: HostRuntime) {
-    let mut place = Command::Areas;
+    let mut place = Command::Ask(Question::Areas);
     same(&rt, read_line(b"make 7", &mut place), Ok(true));
     is_true(&rt, place == Command::Make { most: 7 });
     same(&rt, read_line(b"# make 8", &mut place), Ok(false));

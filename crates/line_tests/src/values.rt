@@ -4,7 +4,7 @@ use crate::same::{is_true, same};
 use arrayvec::ArrayVec;
 use rh_defs::{
     Anchor, Bytes, Command, Files, HeapFault, HeapRefusal, Leaf, LineFault, Manner, MessageFault,
-    Name, Refusal, block_law, image_law,
+    Name, Question, Refusal, block_law, image_law,
 };
 use rh_lines::{ReadFailed, WriteFailed};
 use std::alloc::{AllocError, Global};
@@ -69,7 +69,14 @@ fn commands_are_in_range(rt: HostRuntime) {
         };
         expect_range(&rt, &task, in_range);
     }
-    expect_range(&rt, &Command::Areas, true);
+    for anchor in [0, 63, 64, 255] {
+        let show = Command::Ask(Question::Show {
+            name: some_name(&rt, b"a"),
+            anchor: Anchor(anchor),
+        });
+        expect_range(&rt, &show, anchor < 64);
+    }
+    expect_range(&rt, &Command::Ask(Question::Areas), true);
 }
 
 fn some_leaf(rt: &impl Abort, bytes: &[u8]) -> Leaf {

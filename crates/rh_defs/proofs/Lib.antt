@@ -28,6 +28,7 @@ pub mod Steps
 pub mod Spaced
 pub mod Follows
 pub mod Orders
+pub mod QuestionLaws
 pub mod OrderSteps
 pub mod SlotImageLaws
 pub mod MessageRows

@@ -6,6 +6,7 @@ use Rattle.rh_defs.specs.declared.refusal.Refusal.TheVariants.{NotABlock, NotYou
 use Rattle.rh_defs.specs.declared.command.Command.{Command}
 use Rattle.rh_defs.specs.declared.command.Command.TheVariants as command
 use Rattle.rh_defs.specs.declared.command.Manner.{Manner}
+use Rattle.rh_defs.specs.declared.question.Question.{Question}
 use Rattle.rh_defs.specs.declared.message.EventCode.{EventCode}
 use Rattle.rh_defs.specs.declared.message.EventCode.TheVariants.{User, Recorded, Acknowledge}
 use Rattle.rh_defs.specs.declared.message.Letter.{Letter}
@@ -23,12 +24,14 @@ use Rattle.rh_defs.specs.Slot.{Flex}
 use Rattle.rh_defs.specs.Messages.{Parcel}
 use Rattle.rh_defs.specs.Post.{Post, post_join}
 use Rattle.rh_defs.specs.Desk.{Desk, Task, Scrap, free_pages, named, with_task, with_post, kept_scrap, with_delivered, send_letter}
-use Rattle.rh_defs.specs.Commands.{Answer, start_task, kill, alloc, load, put, free, extend, mid, claim, release, resize, budge, module_area, module_start, change_module, change_pages, change_made, change_area, make, remove, own_block, rma_claim, rma_free, rma_resize, show, blocks, heap_sums, status}
+use Rattle.rh_defs.specs.Commands.{Answer, start_task, kill, alloc, load, put, free, extend, mid, claim, release, resize, budge, module_area, module_start, change_module, change_pages, change_made, change_area, make, remove, own_block, rma_claim, rma_free, rma_resize}
+use Rattle.rh_defs.specs.Questions.{asked}
 use Rattle.rh_defs.specs.OutgoingEvents.{Handled, transmit, refused, answer_fetch, fail_sending, save_scrap, answer_ack, finish_load}
 use Rattle.rh_defs.specs.IncomingEvents.{ended, accept, take_save, appended, fetch_more, took, is_uncountable, take_bytes, ask, fetch_back, ack_back, loaded, load_file, take_file}
 use Rattle.rh_defs.specs.Transfer.{came, came_back, handled}
 use Rattle.rh_defs.specs.Step.{save, repeat, event, poll_taken, poll, cancel_in, cancel_out, change, step}
 use Rattle.rh_defs.specs.Order.{SameForEach, requeued, with_queue, IsReordered, StepsAlike, IgnoresOrder}
+use Rattle.rh_defs.proofs.QuestionLaws.{asked-requeued}
 use Rattle.rh_defs.proofs.Follows.{Follows, follows-same, follows-with, follows-then, follows-equal, follows-as, or_else-follows, chosen-both}
 use Rattle.rh_defs.proofs.Orders.{PostAlike, AnswerAlike, is_live-same, is_message-same, sendable-same, post_poll-alike, post_death-alike, post_send-alike}
 
@@ -364,21 +367,10 @@ module _ (d : Desk) (queue : List Parcel) (same : SameForEach d.post.queued queu
 
   -- ---- questions
 
-  show-alike : (name : List ℕ) (k : ℕ) → Follows Alike (show d name k) (show (with_queue queue d) name k)
-  unfolding show named
-  show-alike name k = follows-same _ _ _ λ t. follows-same _ _ _ λ b. Follows.both (Alike.alike _ queue _ same)
+  question-alike : (q : Question) → Follows Alike (change d (command.Ask q)) (change (with_queue queue d) (command.Ask q))
+  question-alike q = follows-equal (asked d q) _ _ _ (asked-requeued queue d q) λ told. Follows.both (Alike.alike _ queue _ same)
 
-  blocks-alike : (name : List ℕ) → Follows Alike (blocks d name) (blocks (with_queue queue d) name)
-  unfolding blocks named
-  blocks-alike name = follows-same _ _ _ λ t. Follows.both (Alike.alike _ queue _ same)
-
-  heap_sums-alike : (name : List ℕ) → Follows Alike (heap_sums d name) (heap_sums (with_queue queue d) name)
-  unfolding heap_sums named
-  heap_sums-alike name = follows-same _ _ _ λ t. Follows.both (Alike.alike _ queue _ same)
-
-  status-alike : (name : List ℕ) → Follows Alike (status d name) (status (with_queue queue d) name)
-  unfolding status named
-  status-alike name = follows-same _ _ _ λ t. Follows.both (Alike.alike _ queue _ same)
+  -- ---- one command
 
   change-alike : (c : Command) → Follows Alike (change d c) (change (with_queue queue d) c)
   change-alike (command.Task name buffer manner) = start_task-alike name buffer manner
@@ -404,11 +396,7 @@ module _ (d : Desk) (queue : List Parcel) (same : SameForEach d.post.queued queu
   change-alike (command.RmaClaim n) = rma_claim-alike n
   change-alike (command.RmaFree address) = rma_free-alike address
   change-alike (command.RmaResize address delta) = rma_resize-alike address delta
-  change-alike (command.Show name k) = show-alike name k
-  change-alike (command.Blocks name) = blocks-alike name
-  change-alike (command.Heap name) = heap_sums-alike name
-  change-alike (command.Status name) = status-alike name
-  change-alike command.Areas = Follows.both (Alike.alike d queue _ same)
+  change-alike (command.Ask q) = question-alike q
 
   step-alike : (c : Command) → Alike (step d c) (step (with_queue queue d) c)
   step-alike c = or_else-follows Alike _ _ (change-alike c) (λ refusal. Alike.alike d queue _ same)

@@ -16,7 +16,8 @@ use Rattle.rh_defs.specs.Module.{changed_length}
 use Rattle.rh_defs.specs.Messages.{Parcel}
 use Rattle.rh_defs.specs.Post.{Post, post_poll, post_death, post_join}
 use Rattle.rh_defs.specs.Desk.{Desk, Task, Made, most_tasks, task_pages, used_pages, free_pages, with_delivered}
-use Rattle.rh_defs.specs.Commands.{Answer, start_task, kill, alloc, load, put, free, extend, mid, claim, release, resize, budge, module_area, scrap_area, file_length, least_length, shrinks_below, pages_after, change_module, change_pages, is_numbered, with_pages, change_made, change_area, make, remove, rma_claim, rma_free, rma_resize, show, blocks, heap_sums, status}
+use Rattle.rh_defs.specs.Commands.{Answer, start_task, kill, alloc, load, put, free, extend, mid, claim, release, resize, budge, module_area, scrap_area, file_length, least_length, shrinks_below, pages_after, change_module, change_pages, is_numbered, with_pages, change_made, change_area, make, remove, rma_claim, rma_free, rma_resize}
+use Rattle.rh_defs.specs.Questions.{asked}
 use Rattle.rh_defs.specs.Step.{save, repeat, poll, poll_taken, cancel_in, cancel_out, change, step}
 use Rattle.rh_defs.specs.Transfer.{handled}
 use Rattle.rh_defs.specs.Runs.{start_with, after}
@@ -411,7 +412,6 @@ load-anchor name k file h = second (is_name name) (is_name file) (nat_lt k 64) r
     second false c b e h = absurd cc
 
 pub change-keeps : (d : Desk) (c : Command) → in_range c ≡ true → Keeps d (change d c)
-unfolding show blocks heap_sums status
 change-keeps d (command.Task name buffer manner) h is = start_task-keeps d name buffer manner is
 change-keeps d (command.Kill name) h is = kill-keeps d name is
 change-keeps d (command.Alloc name k n) h is = alloc-keeps d name k n (alloc-anchor name k n h) is
@@ -435,11 +435,7 @@ change-keeps d (command.Remove k) h is = remove-keeps d k is
 change-keeps d (command.RmaClaim n) h is = rma_claim-keeps d n is
 change-keeps d (command.RmaFree address) h is = rma_free-keeps d address is
 change-keeps d (command.RmaResize address delta) h is = rma_resize-keeps d address delta is
-change-keeps d (command.Show name k) h is = granted-then _ _ λ t e. granted-then _ _ λ b f. granted (answer-is is)
-change-keeps d (command.Blocks name) h is = granted-then _ _ λ t e. granted (answer-is is)
-change-keeps d (command.Heap name) h is = granted-then _ _ λ t e. granted (answer-is is)
-change-keeps d (command.Status name) h is = granted-then _ _ λ t e. granted (answer-is is)
-change-keeps d command.Areas h is = granted (answer-is is)
+change-keeps d (command.Ask q) h is = granted-then (asked d q) _ λ told e. granted (answer-is is)
 
 pub step-keeps : (d : Desk) (c : Command) → in_range c ≡ true → IsDesk d → IsDesk (step d c).0
 step-keeps d c h is =

@@ -1,4 +1,4 @@
--- The commands on memory: tasks, slots, areas, the module area's blocks, and what is asked of them.
+-- The commands on memory: tasks, slots, areas, and the module area's blocks.
 use Rattle.std.specs.Prelude.{ℕ, ◌+◌, ◌-◌, ◌*◌, ◌/◌, ◌^◌, ℤ, pos, negsuc, Bool, false, not, nat_lt, nat_le, ◌==◌, if◌then◌else◌, List, [], ◌∷◌, ◌++◌, length, filter, find, map, slice_index, slice_set, Option, Some, None, Ok}
 use Rattle.std.specs.List.{list_any}
 use Rattle.std.specs.Str.{bytes_eq}
@@ -9,9 +9,9 @@ use Rattle.rh_defs.specs.declared.reply.Reply.TheVariants as reply
 use Rattle.rh_defs.specs.Chain.{Granted, ◌>>=◌, ◌>>◌, refuse_if, found_or}
 use Rattle.rh_defs.specs.Forms.{last_made}
 use Rattle.rh_defs.specs.Pieces.{page, lacks_pages, Split}
-use Rattle.rh_defs.specs.Heap.{Segment, largest, free_bytes, block_at}
+use Rattle.rh_defs.specs.Heap.{Segment, block_at}
 use Rattle.rh_defs.specs.Module.{whole_pages, changed_length, module_claim, module_free, module_resize, module_change}
-use Rattle.rh_defs.specs.Slot.{Slot, slot_begin, slot_alloc, slot_free, slot_extend, slot_mid, slot_put, slot_claim, slot_release, slot_resize, slot_set_budge, slot_block}
+use Rattle.rh_defs.specs.Slot.{Slot, slot_begin, slot_alloc, slot_free, slot_extend, slot_mid, slot_put, slot_claim, slot_release, slot_resize, slot_set_budge}
 use Rattle.rh_defs.specs.Post.{post_join, post_is_message, post_death}
 use Rattle.rh_defs.specs.Desk.{Desk, Made, Scrap, most_tasks, free_pages, has_name, named, idle_block, idle_buffer, with_slot, with_module, with_delivered}
 
@@ -248,34 +248,7 @@ rma_resize d address delta = do
   c ← module_resize (free_pages d) (address - module_start) delta d.post.heap
   Ok (with_module c.0 d, reply.Block (module_start + c.1))
 
--- ---- questions
-
--- a block's size; its bytes are printed from the desk
-unfoldable pub show : Desk → List ℕ → ℕ → Granted Answer
-show d name k = do
-  t ← named name d
-  b ← slot_block k t.slot
-  Ok (d, reply.Shown (length b.here.bytes))
-
--- how many blocks the task has; they are printed from the desk, as the items of the next two are
-unfoldable pub blocks : Desk → List ℕ → Granted Answer
-blocks d name = do
-  t ← named name d
-  Ok (d, reply.BlockCount (length t.slot.blocks))
-
--- the sums over the C heap
-unfoldable pub heap_sums : Desk → List ℕ → Granted Answer
-heap_sums d name = do
-  t ← named name d
-  Ok (d, reply.HeapSums t.slot.heap.end (largest t.slot.heap) (free_bytes t.slot.heap))
-
--- whose records are listed
-unfoldable pub status : Desk → List ℕ → Granted Answer
-status d name = do
-  t ← named name d
-  Ok (d, reply.StatusOf t.handle)
-
 -- opens this file's words, for a proof that computes
 unfoldable pub computing : Unit {0}
-unfolding start_task kill alloc load put free extend mid claim release resize budge pages_after change_module change_pages change_made make remove own_block rma_claim rma_free rma_resize show blocks heap_sums status
+unfolding start_task kill alloc load put free extend mid claim release resize budge pages_after change_module change_pages change_made make remove own_block rma_claim rma_free rma_resize
 computing = tt

@@ -3,6 +3,7 @@
 use Rattle.std.specs.Prelude.{ℕ, ◌-◌, Bool, true, false, List, [], ◌∷◌, Option, Some, None, ℤ, codes}
 use Rattle.rh_defs.specs.declared.command.Command.{Command}
 use Rattle.rh_defs.specs.declared.command.Command.TheVariants as command
+use Rattle.rh_defs.specs.declared.question.Question.TheVariants as question
 use Rattle.rh_defs.specs.declared.command.Manner.{Manner}
 use Rattle.rh_defs.specs.declared.command.Manner.TheVariants as manner
 use Rattle.rh_defs.specs.Forms.{greatest, longest_buffer, last_ref, first_made, last_made, most_pages}
@@ -95,9 +96,9 @@ rows =
     ∷ rma_row (codes "claim") (Size ∷ []) command.RmaClaim
     ∷ rma_row (codes "free") (Address ∷ []) command.RmaFree
     ∷ rma_row (codes "resize") (Address ∷ Delta ∷ []) command.RmaResize
-    ∷ row (codes "show") (Name ∷ Anchor ∷ []) command.Show
-    ∷ row (codes "blocks") (Name ∷ []) command.Blocks
-    ∷ row (codes "heap") (Name ∷ []) command.Heap
-    ∷ row (codes "status") (Name ∷ []) command.Status
-    ∷ row (codes "areas") [] command.Areas
+    ∷ row (codes "show") (Name ∷ Anchor ∷ []) (λ name k. command.Ask (question.Show name k))
+    ∷ row (codes "blocks") (Name ∷ []) (λ name. command.Ask (question.Blocks name))
+    ∷ row (codes "heap") (Name ∷ []) (λ name. command.Ask (question.Heap name))
+    ∷ row (codes "status") (Name ∷ []) (λ name. command.Ask (question.Status name))
+    ∷ row (codes "areas") [] (command.Ask question.Areas)
     ∷ []

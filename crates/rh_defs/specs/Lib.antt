@@ -26,12 +26,13 @@ pub mod Commands
 pub mod OutgoingEvents
 pub mod IncomingEvents
 pub mod Transfer
+pub mod Listing
+pub mod Questions
 pub mod Step
 pub mod Order
 pub mod Runs
 pub mod Spans
 pub mod Laws
-pub mod Listing
 pub mod Grammar
 pub mod Line
 pub mod Text

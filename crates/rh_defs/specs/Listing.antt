@@ -1,5 +1,5 @@
--- What the commands that list and show things answer beside the first line's numbers, whole and item by item.
-use Rattle.std.specs.Prelude.{ℕ, ◌+◌, nat_lt, ◌==◌, if◌then◌else◌, List, [], ◌∷◌, ◌++◌, length, take, drop, map, slice_get, find, Option, Some, None, Ok}
+-- What is listed of a desk: the items, the lists of an answer, and what is asked item by item.
+use Rattle.std.specs.Prelude.{ℕ, ◌+◌, nat_lt, ◌==◌, if◌then◌else◌, List, [], ◌∷◌, ◌++◌, length, take, drop, map, slice_get, Option, Ok}
 use Rattle.std.specs.List.{enumerate_from}
 use Rattle.std.specs.Option.{option_map}
 use Rattle.rh_defs.specs.declared.listing.BlockItem.{BlockItem}
@@ -11,19 +11,14 @@ use Rattle.rh_defs.specs.declared.listing.State.{State}
 use Rattle.rh_defs.specs.declared.listing.State.TheVariants as state
 use Rattle.rh_defs.specs.declared.listing.RecordItem.{RecordItem}
 use Rattle.rh_defs.specs.declared.refusal.Refusal.TheVariants.{BadRange}
-use Rattle.rh_defs.specs.declared.command.Command.{Command}
-use Rattle.rh_defs.specs.declared.command.Command.TheVariants as command
-use Rattle.rh_defs.specs.declared.reply.Reply.{Reply}
-use Rattle.rh_defs.specs.declared.reply.Reply.TheVariants as reply
 use Rattle.rh_defs.specs.declared.transfer.Outgoing.{Outgoing}
 use Rattle.rh_defs.specs.declared.transfer.Outgoing.TheVariants as outgoing
 use Rattle.rh_defs.specs.declared.transfer.Incoming.{Incoming}
 use Rattle.rh_defs.specs.declared.transfer.Incoming.TheVariants as incoming
 use Rattle.rh_defs.specs.Chain.{Granted, ◌>>=◌, ◌>>◌, refuse_if}
-use Rattle.rh_defs.specs.Pieces.{Split}
 use Rattle.rh_defs.specs.Heap.{Segment, Used, Hole, size_of, first_place, segment_at, largest, free_bytes}
-use Rattle.rh_defs.specs.Slot.{Slot, Flex, weight, heap_start, flex_start, block_of, slot_block}
-use Rattle.rh_defs.specs.Desk.{Desk, Task, Made, task_pages, module_pages, has_name, free_pages, named}
+use Rattle.rh_defs.specs.Slot.{Slot, Flex, weight, heap_start, flex_start, slot_block}
+use Rattle.rh_defs.specs.Desk.{Desk, Task, Made, task_pages, module_pages, free_pages, named}
 use Rattle.rh_defs.specs.Commands.{module_area}
 
 -- flex blocks that lie one after the other from a place on
@@ -79,6 +74,15 @@ in_item (incoming.Asking q) = listed_as state.Asking q.id 0
 in_item (incoming.Done id anchor count) = listed_as state.Done id count
 in_item (incoming.Failed id anchor count) = listed_as state.Failed id count
 
+-- what an answer lists
+pub data Listed : Type 0 where
+  Nothing : Listed
+  Bytes : List ℕ → Listed
+  Blocks : List BlockItem → Listed
+  Segments : List SegmentItem → Listed
+  Records : (out in_ : List RecordItem) → Listed
+  Areas : List AreaItem → Listed
+
 -- ---- what is asked of a desk, item by item
 
 -- the free pages, and item i
@@ -113,44 +117,6 @@ shown_at d name k offset n = do
   b ← slot_block k t.slot
   refuse_if (nat_lt (length b.here.bytes) (offset + n)) BadRange
   Ok (length b.here.bytes, take n (drop offset b.here.bytes))
-
--- ---- the whole of it
-
--- the bytes of the block at a cut, none where there is no block
-abbrev pub bytes_in : Option (Split Flex) → List ℕ
-bytes_in None = []
-bytes_in (Some b) = b.here.bytes
-
--- what a reply lists
-pub data Listed : Type 0 where
-  Nothing : Listed
-  Bytes : List ℕ → Listed
-  Blocks : List BlockItem → Listed
-  Segments : List SegmentItem → Listed
-  Records : (out in_ : List RecordItem) → Listed
-  Areas : List AreaItem → Listed
-
--- what is listed of a task, where there is one
-abbrev pub listed_of : (Task → Listed) → Option Task → Listed
-listed_of list None = Nothing
-listed_of list (Some t) = list t
-
--- the same of the task with the name
-abbrev pub of_named : List ℕ → Desk → (Task → Listed) → Listed
-of_named name d list = listed_of list (find (has_name name) d.tasks)
-
--- a task's records
-abbrev pub records_of : Task → Listed
-records_of t = Records (map out_item t.sending) (map in_item t.taking)
-
--- what the desk after a command lists with its reply
-abbrev pub listed : Desk → Command → Reply → Listed
-listed d (command.Show name k) (reply.Shown size) = of_named name d (λ t. Bytes (bytes_in (block_of k t.slot)))
-listed d (command.Blocks name) (reply.BlockCount count) = of_named name d (λ t. Blocks (block_items t.slot))
-listed d (command.Heap name) (reply.HeapSums length largest free) = of_named name d (λ t. Segments (segment_items t.slot))
-listed d (command.Status name) (reply.StatusOf handle) = of_named name d records_of
-listed d command.Areas (reply.FreePages pages) = Areas (area_items d)
-listed d _ _ = Nothing
 
 -- opens this file's words, for a proof that computes
 unfoldable pub computing : Unit {0}

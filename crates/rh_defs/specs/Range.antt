@@ -3,7 +3,17 @@ use Rattle.std.specs.Prelude.{Bool, true, ◌&&◌, nat_le, List, length}
 use Rattle.std.specs.List.{list_all}
 use Rattle.rh_defs.specs.declared.command.Command.{Command}
 use Rattle.rh_defs.specs.declared.command.Command.TheVariants as command
+use Rattle.rh_defs.specs.declared.question.Question.{Question}
+use Rattle.rh_defs.specs.declared.question.Question.TheVariants as question
 use Rattle.rh_defs.specs.Forms.{is_name, is_anchor, is_number, is_delta, is_buffer, is_leaf, is_id, is_area, is_made, is_most}
+
+-- whether a question is one that a line can spell
+abbrev pub can_be_asked : Question → Bool
+can_be_asked (question.Show name k) = is_name name && is_anchor k
+can_be_asked (question.Blocks name) = is_name name
+can_be_asked (question.Heap name) = is_name name
+can_be_asked (question.Status name) = is_name name
+can_be_asked question.Areas = true
 
 -- whether a command is one that a line can spell
 unfoldable pub in_range : Command → Bool
@@ -30,11 +40,7 @@ in_range (command.Remove k) = is_made k
 in_range (command.RmaClaim n) = is_number n
 in_range (command.RmaFree address) = true
 in_range (command.RmaResize address delta) = is_delta delta
-in_range (command.Show name k) = is_name name && is_anchor k
-in_range (command.Blocks name) = is_name name
-in_range (command.Heap name) = is_name name
-in_range (command.Status name) = is_name name
-in_range command.Areas = true
+in_range (command.Ask q) = can_be_asked q
 
 -- the same of each command of a list
 abbrev pub all_in_range : List Command → Bool

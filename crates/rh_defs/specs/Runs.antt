@@ -18,6 +18,7 @@ use Rattle.rh_defs.specs.Sender as sender
 use Rattle.rh_defs.specs.Receiver as receiver
 use Rattle.rh_defs.specs.Desk as desk
 use Rattle.rh_defs.specs.Commands as commands
+use Rattle.rh_defs.specs.Questions as questions
 use Rattle.rh_defs.specs.OutgoingEvents as outgoing_events
 use Rattle.rh_defs.specs.IncomingEvents as incoming_events
 use Rattle.rh_defs.specs.Transfer as transfer
@@ -53,5 +54,5 @@ replies d (c ∷ commands) = (step d c).1 ∷ replies (step d c).0 commands
 
 -- opens all that a run computes with
 unfoldable pub computing : Unit {0}
-unfolding chain.computing slot.computing module_area.computing bytes.put messages.computing post.computing sender.computing receiver.computing desk.computing commands.computing outgoing_events.computing incoming_events.computing transfer.computing steps.computing
+unfolding chain.computing slot.computing module_area.computing bytes.put messages.computing post.computing sender.computing receiver.computing desk.computing commands.computing questions.computing outgoing_events.computing incoming_events.computing transfer.computing steps.computing
 computing = tt

@@ -11,8 +11,9 @@ use Rattle.rh_defs.specs.Records.{is_open, is_full}
 use Rattle.rh_defs.specs.Sender as sender
 use Rattle.rh_defs.specs.Receiver as receiver
 use Rattle.rh_defs.specs.Post.{post_poll}
-use Rattle.rh_defs.specs.Desk.{Desk, Task, next_ref, free_pages, has_name, named, idle_block, with_sending, with_taking, with_delivered, send_letter}
-use Rattle.rh_defs.specs.Commands.{Answer, start_task, kill, alloc, load, put, free, extend, mid, claim, release, resize, budge, change_area, make, remove, rma_claim, rma_free, rma_resize, show, blocks, heap_sums, status}
+use Rattle.rh_defs.specs.Desk.{Desk, Task, next_ref, has_name, named, idle_block, with_sending, with_taking, with_delivered, send_letter}
+use Rattle.rh_defs.specs.Commands.{Answer, start_task, kill, alloc, load, put, free, extend, mid, claim, release, resize, budge, change_area, make, remove, rma_claim, rma_free, rma_resize}
+use Rattle.rh_defs.specs.Questions.{asked}
 use Rattle.rh_defs.specs.OutgoingEvents.{Handled}
 use Rattle.rh_defs.specs.Transfer.{handled}
 
@@ -93,11 +94,7 @@ change d (command.Remove k) = remove d k
 change d (command.RmaClaim n) = rma_claim d n
 change d (command.RmaFree address) = rma_free d address
 change d (command.RmaResize address delta) = rma_resize d address delta
-change d (command.Show name k) = show d name k
-change d (command.Blocks name) = blocks d name
-change d (command.Heap name) = heap_sums d name
-change d (command.Status name) = status d name
-change d command.Areas = Ok (d, reply.FreePages (free_pages d))
+change d (command.Ask q) = asked d q >>= λ told. Ok (d, told.0)
 
 -- one command: a refusal leaves the desk as it was
 abbrev pub step : Desk → Command → Answer

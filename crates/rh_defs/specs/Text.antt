@@ -1,9 +1,10 @@
 -- The text of a reply: its words, one space between them, and its later lines behind two spaces.
-use Rattle.std.specs.Prelude.{true, false, Bool, ℕ, List, [], ◌∷◌, ◌++◌, codes}
+use Rattle.std.specs.Prelude.{true, false, Bool, ◌&&◌, if◌then◌else◌, ℕ, List, [], ◌∷◌, ◌++◌, codes, Ok, Err}
 use Rattle.std.specs.List.{flat_map}
 use Rattle.std.specs.Fmt.{decimal, digits}
 use Rattle.hex.specs.Hex.{encode_lower}
 use Rattle.rh_defs.specs.declared.command.Command.{Command}
+use Rattle.rh_defs.specs.declared.command.Command.TheVariants as command
 use Rattle.rh_defs.specs.declared.fault.LineFault.{LineFault}
 use Rattle.rh_defs.specs.declared.fault.LineFault.TheVariants.{TooLong, Unended, Unknown, Count, Word}
 use Rattle.rh_defs.specs.declared.refusal.Refusal.{Refusal}
@@ -24,7 +25,10 @@ use Rattle.rh_defs.specs.declared.listing.State.TheVariants as state
 use Rattle.rh_defs.specs.declared.listing.RecordItem.{RecordItem}
 use Rattle.rh_defs.specs.Messages.{code_number}
 use Rattle.rh_defs.specs.Desk.{Desk}
-use Rattle.rh_defs.specs.Listing.{Listed, Nothing, Bytes, Blocks, Segments, Records, Areas, listed}
+use Rattle.rh_defs.specs.Chain.{Granted}
+use Rattle.rh_defs.specs.Listing.{Listed, Nothing, Bytes, Blocks, Segments, Records, Areas}
+use Rattle.rh_defs.specs.Range.{can_be_asked}
+use Rattle.rh_defs.specs.Questions.{Told, asked, begins}
 
 -- ---- words and lines
 
@@ -197,15 +201,19 @@ later_lines (Areas areas) = flat_map area_line areas
 
 -- ---- whole replies
 
--- a reply with what it lists
-abbrev pub answer_text : Reply × Listed → List ℕ
-answer_text answer = first_line answer.0 answer.1 ++ later_lines answer.1
+-- the answer to a question, or its refusal
+unfoldable pub answer_text : Granted Told → List ℕ
+answer_text (Ok told) = first_line told.0 told.1 ++ later_lines told.1
+answer_text (Err refusal) = first_line (reply.Refused refusal) Nothing
 
--- what prints the reply to a command, on the desk after it
+-- what prints the reply to a command, on the desk after it: one that begins the desk's answer to a question that a line
+-- can spell comes with all that the answer lists, any other stands alone
 unfoldable pub reply_text : Desk → Command → Reply → List ℕ
-reply_text d c r = answer_text (r, listed d c r)
+reply_text d (command.Ask q) r =
+    if can_be_asked q && begins (asked d q) r then answer_text (asked d q) else first_line r Nothing
+reply_text d c r = first_line r Nothing
 
 -- opens this file's words, for a proof that computes
 unfoldable pub computing : Unit {0}
-unfolding digits address fault_text first_line later_lines reply_text
+unfolding digits address fault_text first_line later_lines answer_text reply_text
 computing = tt

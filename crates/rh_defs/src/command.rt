@@ -8,6 +8,7 @@ use crate::bytes::Bytes;
 use crate::ids::{Anchor, Ref};
 use crate::leaf::Leaf;
 use crate::name::Name;
+use crate::question::Question;
 use crate::sizes::{FIRST_MADE, GREATEST_NUMBER, LAST_AREA, LONGEST_BUFFER, MAX_PAGES};
 
 /// How a task takes part in transfers.
@@ -145,25 +146,8 @@ pub enum Command {
         address: u32,
         delta: i32,
     },
-    /// Shows a flex block's size and bytes (flex_size).
-    Show {
-        name: Name,
-        anchor: Anchor,
-    },
-    /// Lists a slot's flex blocks from below.
-    Blocks {
-        name: Name,
-    },
-    /// Describes the task's C heap (OS_Heap 1), and lists its segments from below.
-    Heap {
-        name: Name,
-    },
-    /// Lists the records of the task's transfers.
-    Status {
-        name: Name,
-    },
-    /// Lists the free pages, and those of each area and slot.
-    Areas,
+    /// Asks what leaves all as it is.
+    Ask(Question),
 }
 
 fn is_delta(n: i32) -> bool
@@ -210,9 +194,7 @@ impl Command {
                     && *offset <= GREATEST_NUMBER
                     && !bytes.as_slice().is_empty()
             }
-            Command::Free { name, anchor } | Command::Show { name, anchor } => {
-                name.is_valid() && anchor.is_valid()
-            }
+            Command::Free { name, anchor } => name.is_valid() && anchor.is_valid(),
             Command::Mid {
                 name,
                 anchor,
@@ -241,15 +223,13 @@ impl Command {
             Command::Remove { number } => *number >= FIRST_MADE && *number <= LAST_AREA,
             Command::RmaClaim { size } => *size <= GREATEST_NUMBER,
             Command::RmaResize { address: _, delta } => is_delta(*delta),
-            Command::RmaFree { address: _ } | Command::Areas => true,
+            Command::RmaFree { address: _ } => true,
             Command::Kill { name }
             | Command::Release { name, address: _ }
             | Command::Budge { name, on: _ }
             | Command::Poll { name }
-            | Command::Repeat { name }
-            | Command::Blocks { name }
-            | Command::Heap { name }
-            | Command::Status { name } => name.is_valid(),
+            | Command::Repeat { name } => name.is_valid(),
+            Command::Ask(question) => question.in_range(),
         }
     }
 }

@@ -9,7 +9,7 @@ use crate::counts::counted;
 use crate::forms::{delta_at, number_at};
 use crate::words::Words;
 use rh_defs::sizes::{FIRST_MADE, LAST_AREA, MAX_PAGES};
-use rh_defs::{Command, LineFault};
+use rh_defs::{Command, LineFault, Question};
 
 /// `area K DELTA`.
 #[tactic(auto, unfolding(crate::specs::Placed::reading))]
@@ -59,6 +59,6 @@ pub fn areas_of(words: &Words<'_>, command: &mut Command) -> Result<(), LineFaul
     ensures kept { OnErr result (command.new ≡ command.old) }
 {
     counted(words, 1)?;
-    *command = Command::Areas;
+    *command = Command::Ask(Question::Areas);
     Ok(())
 }

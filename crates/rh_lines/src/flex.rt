@@ -9,7 +9,7 @@ use crate::counts::counted;
 use crate::forms::{anchor_at, bytes_at, delta_at, name_at, size_at};
 use crate::words::Words;
 use arrayvec::ArrayVec;
-use rh_defs::{Bytes, Command, LineFault};
+use rh_defs::{Bytes, Command, LineFault, Question};
 
 /// `alloc NAME A N`.
 #[tactic(auto, unfolding(crate::specs::Placed::reading))]
@@ -123,7 +123,7 @@ pub fn show_of(words: &Words<'_>, command: &mut Command) -> Result<(), LineFault
     counted(words, 3)?;
     let name = name_at(words, 2)?;
     let anchor = anchor_at(words, 3)?;
-    *command = Command::Show { name, anchor };
+    *command = Command::Ask(Question::Show { name, anchor });
     Ok(())
 }
 
@@ -136,6 +136,6 @@ pub fn blocks_of(words: &Words<'_>, command: &mut Command) -> Result<(), LineFau
 {
     counted(words, 2)?;
     let name = name_at(words, 2)?;
-    *command = Command::Blocks { name };
+    *command = Command::Ask(Question::Blocks { name });
     Ok(())
 }

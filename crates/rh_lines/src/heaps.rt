@@ -8,7 +8,7 @@ ghost use Rattle.rh_lines.specs.Placed.{placed};
 use crate::counts::counted;
 use crate::forms::{address_at, choice_at, delta_at, name_at, size_at};
 use crate::words::Words;
-use rh_defs::{Command, LineFault};
+use rh_defs::{Command, LineFault, Question};
 
 /// `claim NAME N`.
 #[tactic(auto, unfolding(crate::specs::Placed::reading))]
@@ -80,7 +80,7 @@ pub fn heap_of(words: &Words<'_>, command: &mut Command) -> Result<(), LineFault
 {
     counted(words, 2)?;
     let name = name_at(words, 2)?;
-    *command = Command::Heap { name };
+    *command = Command::Ask(Question::Heap { name });
     Ok(())
 }
 

@@ -13,7 +13,7 @@ use crate::keyword::{Keyword, keyword_of};
 use crate::tasks::{cancel_of, kill_of, poll_of, repeat_of, save_of, status_of, task_of};
 use crate::words::Words;
 use rh_defs::sizes::LONGEST_LINE;
-use rh_defs::{Command, LineFault};
+use rh_defs::{Command, LineFault, Question};
 
 /// What a complete line, without its line feed, asks for: a command that is in range, nothing for
 /// a line without words or whose first word begins with `#`, or else its first fault. Never
@@ -22,7 +22,7 @@ pub fn parse_line(line: &[u8]) -> Result<Option<Command>, LineFault>
     ensures means { result ≡ line_means line.now }
     ensures in_range { IfOk result (λ found. IfSome found (λ command. IsTrue (in_range command))) }
 {
-    let mut command = Command::Areas;
+    let mut command = Command::Ask(Question::Areas);
     if read_line(line, &mut command)? {
         Ok(Some(command))
     } else {

@@ -11,7 +11,7 @@ use crate::counts::{counted, counted_from};
 use crate::forms::{anchor_at, choice_at, leaf_at, name_at, number_at};
 use crate::words::Words;
 use rh_defs::sizes::LONGEST_BUFFER;
-use rh_defs::{Command, LineFault, Manner, Ref};
+use rh_defs::{Command, LineFault, Manner, Question, Ref};
 
 /// `task NAME BUF`, with `deaf` or `file` behind it or not.
 #[tactic(auto, unfolding(crate::specs::Placed::reading))]
@@ -122,7 +122,7 @@ pub fn status_of(words: &Words<'_>, command: &mut Command) -> Result<(), LineFau
 {
     counted(words, 2)?;
     let name = name_at(words, 2)?;
-    *command = Command::Status { name };
+    *command = Command::Ask(Question::Status { name });
     Ok(())
 }
 

@@ -5,10 +5,10 @@ ghost use Rattle.rh_defs.specs.Order.{IsReordered};
 ghost use Rattle.rh_defs.specs.Runs.{start};
 ghost use Rattle.rh_defs.specs.declared.sizes.TheConstants.{MAX_PAGES, MIN_PAGES};
 
-use rh_defs::{Command, Files, Reply};
+use rh_defs::{Command, Files, Question, Reply};
 use rh_lines::{Sink, WriteFailed};
 use rh_pages::PagedStore;
-use rh_script::print_reply;
+use rh_script::print_answer;
 use rh_session::Desktop;
 use rh_tasks::World;
 use std::alloc::{AllocError, Global};
@@ -33,19 +33,18 @@ impl PagedWorld {
 }
 
 impl Desktop for PagedWorld {
-    // The world doesn't keep the order of messages to different tasks, and no reply shows it.
+    // The world doesn't keep the order of messages to different tasks, and no answer shows it.
     ghost spells = { λ w d. IsReordered d w.world.desk };
 
     fn apply(&mut self, command: &Command) -> Reply {
         self.world.apply(command)
     }
 
-    fn print_reply<W: Sink>(
+    fn print_answer<W: Sink>(
         &self,
-        command: &Command,
-        reply: &Reply,
+        question: &Question,
         writer: &mut W,
     ) -> Result<(), WriteFailed> {
-        print_reply(&self.world, command, reply, writer)
+        print_answer(&self.world, question, writer)
     }
 }

@@ -9,12 +9,14 @@ use Rattle.rh_defs.specs.declared.refusal.Refusal.{Refusal}
 use Rattle.rh_defs.specs.declared.refusal.Refusal.TheVariants.{NameInUse}
 use Rattle.rh_defs.specs.declared.command.Command.{Command}
 use Rattle.rh_defs.specs.declared.command.Command.TheVariants as command
+use Rattle.rh_defs.specs.declared.question.Question.{Question}
 use Rattle.rh_defs.specs.declared.command.Manner.{Manner}
 use Rattle.rh_defs.specs.Post.{post_poll}
 use Rattle.rh_defs.specs.Desk.{Desk, Task, has_name, named, task_at, with_delivered}
 use Rattle.rh_defs.specs.Commands.{Answer, start_task, kill, alloc, load, put, free, extend, mid, claim, release, resize}
 use Rattle.rh_defs.specs.Commands.{budge, module_area, change_module, change_pages, change_made, make, remove, rma_claim}
-use Rattle.rh_defs.specs.Commands.{rma_free, rma_resize, show, blocks, heap_sums, status}
+use Rattle.rh_defs.specs.Commands.{rma_free, rma_resize}
+use Rattle.rh_defs.specs.Questions.{asked}
 use Rattle.rh_defs.specs.Step.{save, repeat, poll, cancel_in, cancel_out, step}
 use Rattle.rh_defs.specs.Laws.{Always}
 use Rattle.rh_defs.specs.Runs.{start_with, after}
@@ -219,22 +221,8 @@ module _ (d : Desk) where
   rma_resize_stays address delta = bind Stays _ _ (instead_of d) no (λ b w. bind Stays _ _ (instead_of d) no (λ u v.
       done Stays _ (instead_of d) refl))
 
-  show_stays : (name : List ℕ) (k : ℕ) → Stays (step d (command.Show name k))
-  unfolding show
-  show_stays name k = bind Stays _ _ (instead_of d) no (λ t q. bind Stays _ _ (instead_of d) no (λ b w. done Stays _
-      (instead_of d) refl))
-
-  blocks_stays : (name : List ℕ) → Stays (step d (command.Blocks name))
-  unfolding blocks
-  blocks_stays name = bind Stays _ _ (instead_of d) no (λ t q. done Stays _ (instead_of d) refl)
-
-  heap_stays : (name : List ℕ) → Stays (step d (command.Heap name))
-  unfolding heap_sums
-  heap_stays name = bind Stays _ _ (instead_of d) no (λ t q. done Stays _ (instead_of d) refl)
-
-  status_stays : (name : List ℕ) → Stays (step d (command.Status name))
-  unfolding status
-  status_stays name = bind Stays _ _ (instead_of d) no (λ t q. done Stays _ (instead_of d) refl)
+  ask_stays : (q : Question) → Stays (step d (command.Ask q))
+  ask_stays q = bind Stays (asked d q) _ (instead_of d) no (λ told w. done Stays _ (instead_of d) refl)
 
   -- ---- tasks come and go
 
@@ -280,11 +268,7 @@ module _ (d : Desk) where
   step_apart (command.RmaClaim n) all = same_apart (command.RmaClaim n) (rma_claim_stays n) all
   step_apart (command.RmaFree address) all = same_apart (command.RmaFree address) (rma_free_stays address) all
   step_apart (command.RmaResize address delta) all = same_apart (command.RmaResize address delta) (rma_resize_stays address delta) all
-  step_apart (command.Show name k) all = same_apart (command.Show name k) (show_stays name k) all
-  step_apart (command.Blocks name) all = same_apart (command.Blocks name) (blocks_stays name) all
-  step_apart (command.Heap name) all = same_apart (command.Heap name) (heap_stays name) all
-  step_apart (command.Status name) all = same_apart (command.Status name) (status_stays name) all
-  step_apart command.Areas all = same_apart command.Areas (done Stays _ (instead_of d) refl) all
+  step_apart (command.Ask q) all = same_apart (command.Ask q) (ask_stays q) all
 
 -- ---- every run
 

@@ -3,6 +3,7 @@ use Rattle.std.proofs.Common.{◌≡◌, ℕ, ◌+◌, ◌≤◌, Bool, refl, sy
 use Rattle.std.specs.Prelude.{Option, Some, None, ℤ, Ok, Err, ◌==◌, nat_lt, not, filter}
 use Rattle.rh_defs.specs.declared.command.Command.{Command}
 use Rattle.rh_defs.specs.declared.command.Command.TheVariants as command
+use Rattle.rh_defs.specs.declared.question.Question.{Question}
 use Rattle.rh_defs.specs.declared.command.Manner.{Manner}
 use Rattle.rh_defs.specs.declared.message.Body.{Body}
 use Rattle.rh_defs.specs.declared.message.Body.TheVariants.{DataSave, DataSaveAck, DataLoad, DataLoadAck, RamFetch, RamTransmit}
@@ -29,7 +30,8 @@ use Rattle.rh_defs.specs.Desk.{Desk, Task, Scrap, next_ref, free_pages, with_tas
 use Rattle.rh_defs.specs.OutgoingEvents.{Handled, transmit, answer_fetch, fail_sending, save_scrap, answer_ack, finish_load, refused as failed_by}
 use Rattle.rh_defs.specs.IncomingEvents.{ended, accept, take_save, appended, fetch_more, took, take_bytes, ask, fetch_back, ack_back, loaded, load_file, take_file}
 use Rattle.rh_defs.specs.Transfer.{came, came_back, handled}
-use Rattle.rh_defs.specs.Commands.{Answer, start_task, kill, alloc, load, put, free, extend, mid, claim, release, resize, budge, module_area, change_module, change_pages, change_made, change_area, make, remove, rma_claim, rma_free, rma_resize, show, blocks, heap_sums, status}
+use Rattle.rh_defs.specs.Commands.{Answer, start_task, kill, alloc, load, put, free, extend, mid, claim, release, resize, budge, module_area, change_module, change_pages, change_made, change_area, make, remove, rma_claim, rma_free, rma_resize}
+use Rattle.rh_defs.proofs.QuestionLaws.{IsFirst, shown, block_count, heap_sums, status_of, free_page_count, first-is}
 use Rattle.rh_defs.specs.Step.{save, repeat, poll, poll_taken, cancel_in, cancel_out, change, step}
 use Rattle.rh_defs.specs.Runs.{after, start_with}
 use Rattle.rh_defs.specs.Laws.{Always}
@@ -497,21 +499,15 @@ module _ (d : Desk) where
   unfolding rma_resize
   rma_resize-counts address delta = granted-then _ _ λ b e. granted-then _ _ λ c f. still (stands refl refl refl (module-mail c.0 d)) refl refl refl
 
-  show-counts : (name : List ℕ) (k : ℕ) → OnGrant (Counts d) (show d name k)
-  unfolding show
-  show-counts name k = granted-then _ _ λ t e. granted-then _ _ λ b f. still (stands refl refl refl same-mail) refl refl refl
+  silent-first : {said : Reply} → IsFirst said → OnGrant (Counts d) (Ok (d, said))
+  silent-first shown = still (stands refl refl refl same-mail) refl refl refl
+  silent-first block_count = still (stands refl refl refl same-mail) refl refl refl
+  silent-first heap_sums = still (stands refl refl refl same-mail) refl refl refl
+  silent-first status_of = still (stands refl refl refl same-mail) refl refl refl
+  silent-first free_page_count = still (stands refl refl refl same-mail) refl refl refl
 
-  blocks-counts : (name : List ℕ) → OnGrant (Counts d) (blocks d name)
-  unfolding blocks
-  blocks-counts name = granted-then _ _ λ t e. still (stands refl refl refl same-mail) refl refl refl
-
-  heap_sums-counts : (name : List ℕ) → OnGrant (Counts d) (heap_sums d name)
-  unfolding heap_sums
-  heap_sums-counts name = granted-then _ _ λ t e. still (stands refl refl refl same-mail) refl refl refl
-
-  status-counts : (name : List ℕ) → OnGrant (Counts d) (status d name)
-  unfolding status
-  status-counts name = granted-then _ _ λ t e. still (stands refl refl refl same-mail) refl refl refl
+  ask-counts : (q : Question) → OnGrant (Counts d) (change d (command.Ask q))
+  ask-counts q = granted-with _ (first-is d q) λ told first. silent-first first
 
 -- ---- polls
 
@@ -565,11 +561,7 @@ change-counts d (command.Remove k) = remove-counts d k
 change-counts d (command.RmaClaim n) = rma_claim-counts d n
 change-counts d (command.RmaFree address) = rma_free-counts d address
 change-counts d (command.RmaResize address delta) = rma_resize-counts d address delta
-change-counts d (command.Show name k) = show-counts d name k
-change-counts d (command.Blocks name) = blocks-counts d name
-change-counts d (command.Heap name) = heap_sums-counts d name
-change-counts d (command.Status name) = status-counts d name
-change-counts d command.Areas = still d (stands refl refl refl same-mail) refl refl refl
+change-counts d (command.Ask q) = ask-counts d q
 
 step-counts : (d : Desk) (c : Command) → Counts d (step d c)
 step-counts d c = or_else-keeps (Counts d) _ (change-counts d c) (λ refusal. silent (stands refl refl refl same-mail) refl refl refl)

@@ -1,27 +1,36 @@
--- Bytes that are written part by part, records, and whole replies.
-use Rattle.std.proofs.Common.{◌≡◌, ◌≢◌, ℕ, ◌+◌, List, [], ◌∷◌, ◌++◌, length, take, drop, Some, None, Result, Ok, Err, get_or, ◌<◌, ◌≤◌, refl, sym, ◌∙◌, ap, append-nil, subst, arith, Option, find}
-use Rattle.std.specs.Prelude.{map}
+-- Bytes that are written part by part, records, and whole answers.
+use Rattle.std.proofs.Common.{◌≡◌, ◌≢◌, ℕ, suc, Bool, true, false, ◌+◌, List, [], ◌∷◌, ◌++◌, length, take, drop, Some, None, Result, Ok, Err, get_or, ◌<◌, ◌≤◌, refl, sym, ◌∙◌, ap, append-nil, subst, arith, Option, find}
+use Rattle.std.specs.Prelude.{map, codes, if◌then◌else◌}
+use Rattle.std.specs.Option.{option_map}
+use Rattle.rh_defs.specs.declared.listing.BlockItem.{BlockItem}
+use Rattle.rh_defs.specs.declared.listing.SegmentItem.{SegmentItem}
 use Rattle.rh_defs.specs.declared.listing.RecordItem.{RecordItem}
 use Rattle.rh_defs.specs.declared.transfer.Outgoing.{Outgoing}
 use Rattle.rh_defs.specs.declared.transfer.Incoming.{Incoming}
 use Rattle.rh_defs.specs.declared.refusal.Refusal.{Refusal}
 use Rattle.rh_defs.specs.declared.refusal.Refusal.TheVariants.{NoName}
-use Rattle.rh_defs.specs.declared.command.Command.{Command}
-use Rattle.rh_defs.specs.declared.command.Command.TheVariants as command
-use Rattle.rh_defs.specs.declared.reply.Reply.{Reply}
 use Rattle.rh_defs.specs.declared.reply.Reply.TheVariants as reply
-use Rattle.rh_defs.specs.Slot.{block_of}
-use Rattle.rh_script.specs.Named.{slot_in, blocks_of_named, bytes_of_named, segments_of_named}
+use Rattle.rh_defs.specs.Heap.{largest, free_bytes, first_place, segment_at}
+use Rattle.rh_defs.specs.Slot.{Flex, weight, flex_start, heap_start}
+use Rattle.rh_script.specs.Named.{slot_in, segments_of_named}
 use Rattle.std.specs.Fmt.{decimal}
 use Rattle.rh_defs.specs.Chain.{Granted, ◌>>=◌, found_or}
-use Rattle.rh_defs.specs.Desk.{Desk, Task, has_name, named}
-use Rattle.rh_defs.specs.Listing.{Listed, Nothing, Bytes, Blocks, Segments, bytes_in, block_items, segment_items, area_items, listed, out_item, in_item, listed_of, of_named, records_of, status_at}
+use Rattle.rh_defs.specs.Desk.{Desk, Task, has_name, named, free_pages}
+use Rattle.rh_defs.specs.Listing.{Nothing, Bytes, Blocks, Segments, Records, block_items, block_items_from, segment_item, segment_items, segment_items_from, area_items, out_item, in_item, heap_at, status_at}
+use Rattle.rh_defs.specs.declared.command.Command.{Command}
+use Rattle.rh_defs.specs.declared.command.Command.TheVariants as command
+use Rattle.rh_defs.specs.declared.question.Question.{Question}
+use Rattle.rh_defs.specs.declared.reply.Reply.{Reply}
+use Rattle.rh_defs.specs.Range.{can_be_asked, in_range}
+use Rattle.rh_defs.specs.Questions.{Told, asked, begins, is_same, show, blocks, heap, status, areas}
+use Rattle.rh_defs.proofs.QuestionLaws.{same-equal}
+use Rattle.rh_tasks.specs.Lists.{blocks_of}
 use Rattle.std.specs.List.{flat_map}
 use Rattle.std.specs.Result.{IsErr}
 use Rattle.std.proofs.Math.Seq.{take-add}
 use Rattle.std.proofs.lemmas.List.{take-append-drop, take_all}
 use Rattle.hex.specs.Hex.{encode_with, encode_lower, lower_digits}
-use Rattle.rh_defs.specs.Text.{ok, answer_text, area_line, block_line, first_line, hex_words, rest_of_line, later_lines, record_line, record_lines, reply_text, segment_line}
+use Rattle.rh_defs.specs.Text.{ok, answer_text, reply_text, area_line, block_line, first_line, hex_words, rest_of_line, later_lines, record_line, record_lines, segment_line}
 use Rattle.rh_lines.specs.Flow.{Output, Takes, Breaks, Puts}
 use Rattle.rh_lines.proofs.FlowLemmas.{takes_none, takes_each, puts_each, takes_more, takes_breaks, breaks_before, puts_stops}
 
@@ -69,11 +78,6 @@ pub spaced : (bytes : List ℕ) → length bytes ≢ 0 → rest_of_line (hex_wor
 spaced [] some = absurd (some refl)
 spaced (b ∷ bytes) some = refl
 
--- no bytes, and the line feed alone
-pub unspaced : (bytes : List ℕ) → length bytes ≡ 0 → 10 ∷ [] ≡ rest_of_line (hex_words bytes)
-unspaced [] none = refl
-unspaced (b ∷ bytes) none = absurd (omega arith)
-
 -- ---- the records of transfers
 
 each_map : {X : Type 0} (f : X → RecordItem) (way : List ℕ) (xs : List X) → flat_map (λ x. record_line way (f x)) xs ≡ flat_map (record_line way) (map f xs)
@@ -104,105 +108,121 @@ takes_records f way {s} {t} xs i some past p =
     let P : List ℕ → Type 0 = λ y. Takes s t y in
     subst P (ap (flat_map (λ y. record_line way (f y))) (take_all i xs past) ∙ some_records f way xs some) p
 
-sent_of : Granted (ℕ × List Outgoing × List Incoming) → List Outgoing
-sent_of (Ok p) = p.1
-sent_of (Err f) = []
+-- ---- whole answers
 
-taken_of : Granted (ℕ × List Outgoing × List Incoming) → List Incoming
-taken_of (Ok p) = p.2
-taken_of (Err f) = []
+-- a question that is refused
+pub refused_text : (answer : Granted Told) (refusal : Refusal) → answer ≡ Err refusal → first_line (reply.Refused refusal) Nothing ≡ answer_text answer
+unfolding answer_text
+refused_text answer refusal e = rw e refl
 
-records_found : (o : Option Task) (h : ℕ) (out : List Outgoing) (taken : List Incoming) → (found_or o NoName >>= (λ t. (let r : Granted (ℕ × List Outgoing × List Incoming) = Ok (t.handle, t.sending, t.taking) in r))) ≡ Ok (h, out, taken) → record_lines (111 ∷ 117 ∷ 116 ∷ []) (map out_item out) ++ record_lines (105 ∷ 110 ∷ []) (map in_item taken) ≡ later_lines (listed_of records_of o)
-unfolding found_or ◌>>=◌ later_lines sent_of taken_of
-records_found None h out taken e = absurd (cc)
-records_found (Some t) h out taken e =
-    let outs : out ≡ t.sending = sym (ap sent_of e) in
-    let ins : taken ≡ t.taking = sym (ap taken_of e) in
-    rw (outs, ins) refl
+-- where one question about a task has no task, no other has one
+refused_alike : {A B : Type 0} (g : Granted Task) (one : Task → A) (whole : Task → Granted B) (refusal : Refusal) → (g >>= λ t. Ok (one t)) ≡ Err refusal → (g >>= whole) ≡ Err refusal
+unfolding ◌>>=◌
+refused_alike (Ok t) one whole refusal e = absurd (cc)
+refused_alike (Err r) one whole refusal e = cc
 
--- the lines of the records that are answered
-pub records_listed : (d : Desk) (name : List ℕ) (h : ℕ) (out : List Outgoing) (taken : List Incoming) → status_at d name ≡ Ok (h, out, taken) → record_lines (111 ∷ 117 ∷ 116 ∷ []) (map out_item out) ++ record_lines (105 ∷ 110 ∷ []) (map in_item taken) ≡ later_lines (of_named name d records_of)
-unfolding status_at named
-records_listed d name h out taken e = records_found (find (has_name name) d.tasks) h out taken e
+items_length : (place : ℕ) (blocks : List Flex) → length (block_items_from place blocks) ≡ length blocks
+items_length place [] = refl
+items_length place (b ∷ blocks) = ap suc (items_length (place + weight b) blocks)
 
-nobody_found : (o : Option Task) (f : Refusal) → (found_or o NoName >>= (λ t. (let r : Granted (ℕ × List Outgoing × List Incoming) = Ok (t.handle, t.sending, t.taking) in r))) ≡ Err f → [] ≡ later_lines (listed_of records_of o)
-unfolding found_or ◌>>=◌ later_lines
-nobody_found None f e = refl
-nobody_found (Some t) f e = absurd (cc)
+counted_text : (g : Granted Task) (items : List BlockItem) → (g >>= λ t. Ok (block_items t.slot)) ≡ Ok items
+    → ok (decimal (length items) ∷ []) ++ flat_map block_line items ≡ answer_text (g >>= λ t. Ok (reply.BlockCount (length t.slot.blocks), Blocks (block_items t.slot)))
+unfolding ◌>>=◌ answer_text first_line later_lines
+counted_text (Ok t) items e =
+    let same : items ≡ block_items t.slot = cc in
+    let count : length (block_items t.slot) ≡ length t.slot.blocks = items_length (flex_start t.slot) t.slot.blocks in
+    rw same (ap (λ n. ok (decimal n ∷ []) ++ flat_map block_line (block_items t.slot)) count)
+counted_text (Err r) items e = absurd (cc)
 
--- no line where there is no such task
-pub records_of_nobody : (d : Desk) (name : List ℕ) (f : Refusal) → status_at d name ≡ Err f → [] ≡ later_lines (of_named name d records_of)
-unfolding status_at named
-records_of_nobody d name f e = nobody_found (find (has_name name) d.tasks) f e
+told_text : (g : Granted Task) (h : ℕ) (out : List Outgoing) (taken : List Incoming) → (g >>= λ t. (let r : Granted (ℕ × List Outgoing × List Incoming) = Ok (t.handle, t.sending, t.taking) in r)) ≡ Ok (h, out, taken)
+    → first_line (reply.StatusOf h) Nothing ++ (record_lines (codes "out") (map out_item out) ++ record_lines (codes "in") (map in_item taken))
+    ≡ answer_text (g >>= λ t. Ok (reply.StatusOf t.handle, Records (map out_item t.sending) (map in_item t.taking)))
+unfolding ◌>>=◌ answer_text first_line later_lines
+told_text (Ok t) h out taken e =
+    let handle : h ≡ t.handle = cc in
+    let outs : out ≡ t.sending = cc in
+    let ins : taken ≡ t.taking = cc in
+    rw (handle, outs, ins) refl
+told_text (Err r) h out taken e = absurd (cc)
 
--- ---- whole replies
+summed_text : (o : Option Task) (place : ℕ) (sums : ℕ × ℕ × ℕ) (item : Option SegmentItem)
+    → (found_or o NoName >>= λ t. (let r : Granted ((ℕ × ℕ × ℕ) × Option SegmentItem) = Ok ((t.slot.heap.end, largest t.slot.heap, free_bytes t.slot.heap), option_map (λ s. segment_item (heap_start + place) s.here) (segment_at place t.slot.heap)) in r)) ≡ Ok (sums, item)
+    → first_line (reply.HeapSums sums.0 sums.1 sums.2) Nothing ++ flat_map segment_line (segment_items_from (heap_start + first_place) (slot_in o).heap.segments)
+    ≡ answer_text (found_or o NoName >>= λ t. Ok (reply.HeapSums t.slot.heap.end (largest t.slot.heap) (free_bytes t.slot.heap), Segments (segment_items t.slot)))
+unfolding ◌>>=◌ found_or answer_text first_line later_lines
+summed_text None place sums item e = absurd (cc)
+summed_text (Some t) place sums item e =
+    let same : sums ≡ (t.slot.heap.end, largest t.slot.heap, free_bytes t.slot.heap) = cc in
+    rw same refl
 
-shown_of_task : (o : Option Task) (k size : ℕ) → ok (decimal size ∷ hex_words (bytes_in (block_of k (slot_in o)))) ≡ answer_text (reply.Shown size, listed_of (λ t. Bytes (bytes_in (block_of k t.slot))) o)
-unfolding first_line later_lines
-shown_of_task None k size = sym (append-nil (ok (decimal size ∷ [])))
-shown_of_task (Some t) k size = sym (append-nil (ok (decimal size ∷ hex_words (bytes_in (block_of k t.slot)))))
+module _ (d : Desk) (name : List ℕ) where
+  -- how many blocks a task has, and each of them
+  pub blocks_text : (items : List BlockItem) → blocks_of d name ≡ Ok items → ok (decimal (length items) ∷ []) ++ flat_map block_line items ≡ answer_text (blocks d name)
+  unfolding blocks_of blocks
+  blocks_text items e = counted_text (named name d) items e
 
--- a shown block's size and bytes
-pub shown_reply : (d : Desk) (name : List ℕ) (k size : ℕ) → ok (decimal size ∷ hex_words (bytes_of_named name k d)) ≡ reply_text d (command.Show name k) (reply.Shown size)
-unfolding reply_text
-shown_reply d name k size = shown_of_task (find (has_name name) d.tasks) k size
+  pub blocks_refused : (refusal : Refusal) → blocks_of d name ≡ Err refusal → blocks d name ≡ Err refusal
+  unfolding blocks_of blocks
+  blocks_refused refusal e = refused_alike (named name d) _ _ refusal e
 
-blocks_of_task : (o : Option Task) (count : ℕ) → ok (decimal count ∷ []) ++ flat_map block_line (block_items (slot_in o)) ≡ answer_text (reply.BlockCount count, listed_of (λ t. Blocks (block_items t.slot)) o)
-unfolding first_line later_lines
-blocks_of_task None count = refl
-blocks_of_task (Some t) count = refl
+  -- the sums over a C heap, and each of its segments
+  pub heap_text : (place : ℕ) (sums : ℕ × ℕ × ℕ) (item : Option SegmentItem) → heap_at d name place ≡ Ok (sums, item)
+      → first_line (reply.HeapSums sums.0 sums.1 sums.2) Nothing ++ flat_map segment_line (segments_of_named name d) ≡ answer_text (heap d name)
+  unfolding heap_at heap named
+  heap_text place sums item e = summed_text (find (has_name name) d.tasks) place sums item e
 
--- how many blocks a task has, and each of them
-pub blocks_reply : (d : Desk) (name : List ℕ) (count : ℕ) → ok (decimal count ∷ []) ++ flat_map block_line (blocks_of_named name d) ≡ reply_text d (command.Blocks name) (reply.BlockCount count)
-unfolding reply_text
-blocks_reply d name count = blocks_of_task (find (has_name name) d.tasks) count
+  pub heap_refused : (place : ℕ) (refusal : Refusal) → heap_at d name place ≡ Err refusal → heap d name ≡ Err refusal
+  unfolding heap_at heap
+  heap_refused place refusal e = refused_alike (named name d) _ _ refusal e
 
-segments_of_task : (o : Option Task) (r : Reply) → first_line r Nothing ≡ first_line r (listed_of (λ t. Segments (segment_items t.slot)) o) → first_line r Nothing ++ flat_map segment_line (segment_items (slot_in o)) ≡ answer_text (r, listed_of (λ t. Segments (segment_items t.slot)) o)
-unfolding later_lines
-segments_of_task None r e = ap (λ z. z ++ []) e
-segments_of_task (Some t) r e = ap (λ z. z ++ flat_map segment_line (segment_items t.slot)) e
+  -- a task's handle, and its records
+  pub status_text : (h : ℕ) (out : List Outgoing) (taken : List Incoming) → status_at d name ≡ Ok (h, out, taken)
+      → first_line (reply.StatusOf h) Nothing ++ (record_lines (codes "out") (map out_item out) ++ record_lines (codes "in") (map in_item taken)) ≡ answer_text (status d name)
+  unfolding status_at status
+  status_text h out taken e = told_text (named name d) h out taken e
 
--- the sums over a C heap, and each of its segments
-pub heap_reply : (d : Desk) (name : List ℕ) (length largest free : ℕ) → first_line (reply.HeapSums length largest free) Nothing ++ flat_map segment_line (segments_of_named name d) ≡ reply_text d (command.Heap name) (reply.HeapSums length largest free)
-unfolding reply_text first_line
-heap_reply d name length largest free =
-    segments_of_task (find (has_name name) d.tasks) (reply.HeapSums length largest free) refl
+  pub status_refused : (refusal : Refusal) → status_at d name ≡ Err refusal → status d name ≡ Err refusal
+  unfolding status_at status
+  status_refused refusal e = refused_alike (named name d) _ _ refusal e
 
--- a task's handle, and its records
-pub status_reply : (d : Desk) (name : List ℕ) (handle : ℕ) → first_line (reply.StatusOf handle) Nothing ++ later_lines (of_named name d records_of) ≡ reply_text d (command.Status name) (reply.StatusOf handle)
-unfolding reply_text first_line
-status_reply d name handle = refl
+  pub unnamed_shows : (k : ℕ) (refusal : Refusal) → status_at d name ≡ Err refusal → show d name k ≡ Err refusal
+  unfolding status_at show
+  unnamed_shows k refusal e = refused_alike (named name d) _ _ refusal e
+
+-- a block's size and bytes
+pub show_text : (answer : Granted Told) (size : ℕ) (bytes : List ℕ) → answer ≡ Ok (reply.Shown size, Bytes bytes) → ok (decimal size ∷ hex_words bytes) ≡ answer_text answer
+unfolding answer_text first_line later_lines
+show_text answer size bytes e = rw e (sym (append-nil (ok (decimal size ∷ hex_words bytes))))
 
 -- the free pages, and each area and slot
-pub areas_reply : (d : Desk) (free : ℕ) → ok (decimal free ∷ []) ++ flat_map area_line (area_items d) ≡ reply_text d command.Areas (reply.FreePages free)
-unfolding reply_text first_line later_lines
-areas_reply d free = refl
+pub areas_text : (d : Desk) → ok (decimal (free_pages d) ∷ []) ++ flat_map area_line (area_items d) ≡ answer_text (Ok (areas d))
+unfolding answer_text first_line later_lines
+areas_text d = refl
 
--- a reply that lists nothing has one line
-pub one_line : (d : Desk) (c : Command) (r : Reply) → listed d c r ≡ Nothing → first_line r Nothing ≡ reply_text d c r
-unfolding reply_text later_lines
-one_line d c r none =
-    let P : Listed → Type 0 = λ l. first_line r Nothing ≡ answer_text (r, l) in
-    subst P (sym none) (sym (append-nil (first_line r Nothing)))
+-- ---- the reply to a command
 
--- ---- replies that list nothing
+-- a command that no line spells
+pub unspelled_text : (d : Desk) (c : Command) (r : Reply) → in_range c ≡ false → reply_text d c r ≡ first_line r Nothing
+unfolding reply_text in_range
+unspelled_text d (command.Ask q) r e = rw e refl
+unspelled_text d c r e = refl
 
-pub not_shown : (d : Desk) (name : List ℕ) (k : ℕ) (r : Reply) → ((size : ℕ) → r ≡ reply.Shown size → ⊥) → listed d (command.Show name k) r ≡ Nothing
-not_shown d name k (reply.Shown size) other = absurd (other size refl)
-not_shown d name k r other = refl
+-- a question that a line spells
+pub asked_ranged : (q : Question) → in_range (command.Ask q) ≡ true → can_be_asked q ≡ true
+unfolding in_range
+asked_ranged q e = e
 
-pub not_counted : (d : Desk) (name : List ℕ) (r : Reply) → ((count : ℕ) → r ≡ reply.BlockCount count → ⊥) → listed d (command.Blocks name) r ≡ Nothing
-not_counted d name (reply.BlockCount count) other = absurd (other count refl)
-not_counted d name r other = refl
+-- its reply
+pub question_text : (d : Desk) (q : Question) (r : Reply) → can_be_asked q ≡ true
+    → reply_text d (command.Ask q) r ≡ (if begins (asked d q) r then answer_text (asked d q) else first_line r Nothing)
+unfolding reply_text
+question_text d q r e = rw e refl
 
-pub not_summed : (d : Desk) (name : List ℕ) (r : Reply) → ((length largest free : ℕ) → r ≡ reply.HeapSums length largest free → ⊥) → listed d (command.Heap name) r ≡ Nothing
-not_summed d name (reply.HeapSums length largest free) other = absurd (other length largest free refl)
-not_summed d name r other = refl
-
-pub not_told : (d : Desk) (name : List ℕ) (r : Reply) → ((handle : ℕ) → r ≡ reply.StatusOf handle → ⊥) → listed d (command.Status name) r ≡ Nothing
-not_told d name (reply.StatusOf handle) other = absurd (other handle refl)
-not_told d name r other = refl
-
-pub not_free : (d : Desk) (r : Reply) → ((pages : ℕ) → r ≡ reply.FreePages pages → ⊥) → listed d command.Areas r ≡ Nothing
-not_free d (reply.FreePages pages) other = absurd (other pages refl)
-not_free d r other = refl
+-- a reply that begins an answer is the answer's first line
+begins_by : (a b : Reply) (t : Bool) → (t ≡ true → a ≡ b) → (t ≡ false → a ≢ b) → is_same a a ≡ true → t ≡ is_same a b
+begins_by a b true same differ known = sym known ∙ ap (is_same a) (same refl)
+begins_by a b false same differ known = go (is_same a b) refl
+  where
+    go : (u : Bool) → is_same a b ≡ u → false ≡ u
+    go true e = absurd (differ refl (same-equal a b e))
+    go false e = refl

@@ -1,44 +1,24 @@
 -- What a desk's readers give, in terms of what is printed of a named task's slot.
-use Rattle.std.proofs.Common.{◌≡◌, ℕ, zero, suc, ◌+◌, ◌≤◌, ◌<◌, ◌^◌, Bool, true, false, cond, List, [], ◌∷◌, length, take, drop, Option, Some, None, Result, Ok, Err, refl, sym, ap, ◌∙◌, arith}
-use Rattle.std.proofs.lemmas.List.{take_all}
-use Rattle.std.specs.Prelude.{MatchResult, nat_lt, ◌==◌, find}
+use Rattle.std.proofs.Common.{◌≡◌, ℕ, ◌+◌, ◌≤◌, ◌<◌, ◌^◌, Bool, true, false, cond, List, [], ◌∷◌, length, take, drop, Option, Some, None, Result, Ok, Err, refl, sym, ap, ◌∙◌, arith}
+use Rattle.std.specs.Prelude.{MatchResult, IfOk, IfErr, nat_lt, ◌==◌, find}
 use Rattle.std.specs.List.{AllByRecursion}
 use Rattle.std.specs.Option.{option_map}
 use borrow.Author.Tests.{tests}
 use Rattle.rh_defs.specs.declared.refusal.Refusal.{Refusal}
 use Rattle.rh_defs.specs.declared.refusal.Refusal.TheVariants.{NoName, NoBlock, BadRange}
-use Rattle.rh_defs.specs.declared.listing.BlockItem.{BlockItem}
 use Rattle.rh_defs.specs.declared.listing.SegmentItem.{SegmentItem}
+use Rattle.rh_defs.specs.declared.reply.Reply.TheVariants as reply
+use Rattle.rh_defs.specs.declared.transfer.Outgoing.{Outgoing}
+use Rattle.rh_defs.specs.declared.transfer.Incoming.{Incoming}
 use Rattle.rh_defs.specs.Chain.{Granted, ◌>>=◌, ◌>>◌, refuse_if, found_or}
 use Rattle.rh_defs.specs.Pieces.{Split, behind, first_at, total}
 use Rattle.rh_defs.specs.Laws.{IsDesk}
 use Rattle.rh_defs.specs.Slot.{Slot, Flex, slot_pages, slot_length, IsSlot, HaveAnchors, weight, flex_start, block_of, slot_block}
 use Rattle.rh_defs.specs.Desk.{Desk, Task, task_pages, has_name, named}
-use Rattle.rh_defs.specs.Listing.{block_items, shown_at, bytes_in}
-use Rattle.rh_tasks.specs.Lists.{segment_items_at, blocks_of, segments_of}
-use Rattle.rh_script.specs.Named.{slot_in, slot_named, blocks_of_named, heap_of_named, bytes_of_named}
-
--- ---- flex blocks
-
-given_blocks : (found : Option Task) (items : List BlockItem) → (found_or found NoName >>= (λ t. (let r : Granted (List BlockItem) = Ok (block_items t.slot) in r))) ≡ Ok items → items ≡ block_items (slot_in found)
-unfolding found_or ◌>>=◌
-given_blocks None items e = absurd (cc)
-given_blocks (Some t) items e = cc
-
-refused_blocks : (found : Option Task) (f : Refusal) → (found_or found NoName >>= (λ t. (let r : Granted (List BlockItem) = Ok (block_items t.slot) in r))) ≡ Err f → [] ≡ block_items (slot_in found)
-unfolding found_or ◌>>=◌
-refused_blocks None f e = refl
-refused_blocks (Some t) f e = absurd (cc)
-
--- the items that are answered
-pub blocks_read : (d : Desk) (name : List ℕ) (items : List BlockItem) → blocks_of d name ≡ Ok items → items ≡ blocks_of_named name d
-unfolding blocks_of named
-blocks_read d name items e = given_blocks (find (has_name name) d.tasks) items e
-
--- a refusal says that there is none
-pub no_blocks : (d : Desk) (name : List ℕ) (f : Refusal) → blocks_of d name ≡ Err f → [] ≡ blocks_of_named name d
-unfolding blocks_of named
-no_blocks d name f e = refused_blocks (find (has_name name) d.tasks) f e
+use Rattle.rh_defs.specs.Listing.{Bytes, shown_at, status_at}
+use Rattle.rh_defs.specs.Questions.{Told, show}
+use Rattle.rh_tasks.specs.Lists.{segment_items_at, segments_of}
+use Rattle.rh_script.specs.Named.{slot_in, slot_named, heap_of_named, bytes_of_cut, bytes_of_named}
 
 -- ---- the C heap
 
@@ -100,12 +80,12 @@ unfolding ◌>>=◌ ◌>>◌ refuse_if
 of_test true bytes offset n short = λ room. absurd (grind (arith, tests))
 of_test false bytes offset n short = (refl, refl)
 
-of_block : (found : Option (Split Flex)) (offset n : ℕ) → ReadsPart (found_or found NoBlock >>= (λ b. refuse_if (nat_lt (length b.here.bytes) (offset + n)) BadRange >> Ok (length b.here.bytes, take n (drop offset b.here.bytes)))) (bytes_in found) offset n
+of_block : (found : Option (Split Flex)) (offset n : ℕ) → ReadsPart (found_or found NoBlock >>= (λ b. refuse_if (nat_lt (length b.here.bytes) (offset + n)) BadRange >> Ok (length b.here.bytes, take n (drop offset b.here.bytes)))) (bytes_of_cut found) offset n
 unfolding found_or ◌>>=◌
 of_block None offset n = λ room. refl
 of_block (Some b) offset n = of_test (nat_lt (length b.here.bytes) (offset + n)) b.here.bytes offset n refl
 
-of_owner : (found : Option Task) (k offset n : ℕ) → ReadsPart (found_or found NoName >>= (λ t. slot_block k t.slot >>= (λ b. refuse_if (nat_lt (length b.here.bytes) (offset + n)) BadRange >> Ok (length b.here.bytes, take n (drop offset b.here.bytes))))) (bytes_in (block_of k (slot_in found))) offset n
+of_owner : (found : Option Task) (k offset n : ℕ) → ReadsPart (found_or found NoName >>= (λ t. slot_block k t.slot >>= (λ b. refuse_if (nat_lt (length b.here.bytes) (offset + n)) BadRange >> Ok (length b.here.bytes, take n (drop offset b.here.bytes))))) (bytes_of_cut (block_of k (slot_in found))) offset n
 unfolding found_or ◌>>=◌ slot_block
 of_owner None k offset n = λ room. refl
 of_owner (Some t) k offset n = of_block (block_of k t.slot) offset n
@@ -119,15 +99,6 @@ abbrev pub Answers : Granted (ℕ × List ℕ) → Result ℕ Refusal → List �
 Answers given answer old new =
     MatchResult given (λ p. (answer ≡ Ok p.0) × (new ≡ p.1)) (λ e. (answer ≡ Err e) × (new ≡ old))
 
--- the size
-pub answered_size : (given : Granted (ℕ × List ℕ)) (size : ℕ) (bytes old new : List ℕ) (n : ℕ) → Answers given (Ok size) old new → ReadsPart given bytes 0 n → size ≡ length bytes
-answered_size (Ok p) size bytes old new n a r = cc
-answered_size (Err e) size bytes old new n a r = absurd (cc)
-
-pub refused_size : (given : Granted (ℕ × List ℕ)) (e : Refusal) (bytes old new : List ℕ) → Answers given (Err e) old new → ReadsPart given bytes 0 0 → 0 ≡ length bytes
-refused_size (Ok p) e bytes old new a r = absurd (cc)
-refused_size (Err f) e bytes old new a r = sym (r (omega arith))
-
 nothing_read : (old bytes : List ℕ) → length old ≡ 0 → old ≡ take (length old) bytes
 nothing_read [] bytes h = refl
 nothing_read (x ∷ old) bytes h = absurd (omega arith)
@@ -139,21 +110,6 @@ answered_part (Err e) answer bytes old new offset a r h =
     let none : length bytes ≡ 0 = r h in
     a.1 ∙ nothing_read old (drop offset bytes) (omega arith)
 
--- with room for all bytes, these
-pub answered_whole : (given : Granted (ℕ × List ℕ)) (answer : Result ℕ Refusal) (bytes old new : List ℕ) → Answers given answer old new → ReadsPart given bytes 0 (length old) → length bytes ≡ length old → new ≡ bytes
-answered_whole given answer bytes old new a r same =
-    answered_part given answer bytes old new 0 a r (omega (arith, same)) ∙ take_all (length old) bytes (omega (arith, same))
-
-no_elements : (old bytes : List ℕ) → length bytes ≡ 0 → 0 ≡ length old → old ≡ bytes
-no_elements [] [] e f = refl
-no_elements [] (b ∷ bytes) e f = absurd (omega arith)
-no_elements (x ∷ old) bytes e f = absurd (omega arith)
-
--- a buffer with no room holds the bytes of nothing
-pub nothing_whole : (n : ℕ) (old bytes : List ℕ) → n ≡ length bytes → (0 < n → ⊥) → n ≡ length old → old ≡ bytes
-nothing_whole zero old bytes e none same = no_elements old bytes (sym e) same
-nothing_whole (suc n) old bytes e none same = absurd (none (omega arith))
-
 -- ---- anchors that no slot has
 
 none_has : (k place : ℕ) (blocks : List Flex) → HaveAnchors blocks → 64 ≤ k → first_at weight (λ _ b. b.anchor == k) place blocks ≡ None
@@ -164,5 +120,55 @@ none_has k place (b ∷ blocks) all past = go (b.anchor == k) refl (none_has k (
     go true e h = let low : b.anchor < 64 = all.0 in absurd (grind (arith, tests))
     go false e h = ap (option_map (behind b)) h
 
-pub no_bytes : (k : ℕ) (s : Slot) → IsSlot s → 64 ≤ k → 0 ≡ length (bytes_in (block_of k s))
-no_bytes k s is past = ap (λ o. length (bytes_in o)) (sym (none_has k (flex_start s) s.blocks is.anchors past))
+no_block : (k : ℕ) (s : Slot) → IsSlot s → 64 ≤ k → slot_block k s ≡ Err NoBlock
+unfolding slot_block found_or
+no_block k s is past = ap (λ o. found_or o NoBlock) (none_has k (flex_start s) s.blocks is.anchors past)
+
+missed : {A : Type 0} (o : Option Task) (k : ℕ) (one : Task → A) (x : A) → IsSlot (slot_in o) → 64 ≤ k → (found_or o NoName >>= λ t. Ok (one t)) ≡ Ok x
+    → (found_or o NoName >>= λ t. slot_block k t.slot >>= λ b. (let r : Granted Told = Ok (reply.Shown (length b.here.bytes), Bytes b.here.bytes) in r)) ≡ Err NoBlock
+unfolding ◌>>=◌ found_or
+missed None k one x is past e = absurd (cc)
+missed (Some t) k one x is past e = rw (no_block k t.slot is past) refl
+
+-- a task has no block at such an anchor
+pub shows_none : (d : Desk) (name : List ℕ) (k h : ℕ) (out : List Outgoing) (taken : List Incoming) → IsSlot (slot_named name d) → 64 ≤ k → status_at d name ≡ Ok (h, out, taken) → show d name k ≡ Err NoBlock
+unfolding status_at show named
+shows_none d name k h out taken is past e = missed (find (has_name name) d.tasks) k _ _ is past e
+
+-- ---- a block's size
+
+-- the size that is read is that of the whole answer
+pub record IsSize (answer : Granted Told) (bytes : List ℕ) (r : Result ℕ Refusal) : Type 0 where
+  pub told : IfOk r (λ size. answer ≡ Ok (reply.Shown size, Bytes bytes))
+  pub size : IfOk r (λ size. size ≡ length bytes)
+  pub refused : IfErr r (λ refusal. answer ≡ Err refusal)
+
+size_refused : {answer : Granted Told} {bytes : List ℕ} {r : Result ℕ Refusal} (refusal : Refusal) → r ≡ Err refusal → answer ≡ Err refusal → IsSize answer bytes r
+size_refused refusal e a = record { told = rw e tt; size = rw e tt; refused = rw e a }
+
+size_told : {answer : Granted Told} {bytes : List ℕ} {r : Result ℕ Refusal} → r ≡ Ok (length bytes) → answer ≡ Ok (reply.Shown (length bytes), Bytes bytes) → IsSize answer bytes r
+size_told e a = record { told = rw e a; size = rw e refl; refused = rw e tt }
+
+size_by : (t : Bool) (bytes : List ℕ) (r : Result ℕ Refusal) (old new : List ℕ) → nat_lt (length bytes) (0 + 0) ≡ t
+    → Answers (refuse_if t BadRange >> Ok (length bytes, take 0 (drop 0 bytes))) r old new → IsSize (Ok (reply.Shown (length bytes), Bytes bytes)) bytes r
+unfolding ◌>>=◌ ◌>>◌ refuse_if
+size_by true bytes r old new short a = absurd (grind (arith, tests))
+size_by false bytes r old new short a = size_told a.0 refl
+
+size_in : (o : Option (Split Flex)) (r : Result ℕ Refusal) (old new : List ℕ)
+    → Answers (found_or o NoBlock >>= (λ b. refuse_if (nat_lt (length b.here.bytes) (0 + 0)) BadRange >> Ok (length b.here.bytes, take 0 (drop 0 b.here.bytes)))) r old new
+    → IsSize (found_or o NoBlock >>= λ b. Ok (reply.Shown (length b.here.bytes), Bytes b.here.bytes)) (bytes_of_cut o) r
+unfolding ◌>>=◌ found_or
+size_in None r old new a = size_refused NoBlock a.0 refl
+size_in (Some b) r old new a = size_by (nat_lt (length b.here.bytes) (0 + 0)) b.here.bytes r old new refl a
+
+size_named : (o : Option Task) (k : ℕ) (r : Result ℕ Refusal) (old new : List ℕ)
+    → Answers (found_or o NoName >>= (λ t. slot_block k t.slot >>= (λ b. refuse_if (nat_lt (length b.here.bytes) (0 + 0)) BadRange >> Ok (length b.here.bytes, take 0 (drop 0 b.here.bytes))))) r old new
+    → IsSize (found_or o NoName >>= λ t. slot_block k t.slot >>= λ b. Ok (reply.Shown (length b.here.bytes), Bytes b.here.bytes)) (bytes_of_cut (block_of k (slot_in o))) r
+unfolding ◌>>=◌ found_or slot_block
+size_named None k r old new a = size_refused NoName a.0 refl
+size_named (Some t) k r old new a = size_in (block_of k t.slot) r old new a
+
+pub size_read : (d : Desk) (name : List ℕ) (k : ℕ) (r : Result ℕ Refusal) (old new : List ℕ) → Answers (shown_at d name k 0 0) r old new → IsSize (show d name k) (bytes_of_named name k d) r
+unfolding shown_at show named
+size_read d name k r old new a = size_named (find (has_name name) d.tasks) k r old new a

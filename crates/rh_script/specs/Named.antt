@@ -1,12 +1,12 @@
 -- What the slot of a named task has, where a desk with no such task has a slot with nothing in it.
 use Rattle.std.specs.Prelude.{ℕ, ◌+◌, true, List, [], Option, Some, None, find}
-use Rattle.rh_defs.specs.declared.listing.BlockItem.{BlockItem}
 use Rattle.rh_defs.specs.declared.listing.SegmentItem.{SegmentItem}
 use Rattle.rh_defs.specs.declared.listing.SegmentItem.TheVariants as segment
 use Rattle.rh_defs.specs.Heap.{Heap, empty_heap, first_place}
-use Rattle.rh_defs.specs.Slot.{Slot, heap_start, block_of}
+use Rattle.rh_defs.specs.Pieces.{Split}
+use Rattle.rh_defs.specs.Slot.{Slot, Flex, heap_start, block_of}
 use Rattle.rh_defs.specs.Desk.{Desk, Task, has_name}
-use Rattle.rh_defs.specs.Listing.{block_items, segment_items_from, bytes_in}
+use Rattle.rh_defs.specs.Listing.{segment_items_from}
 
 -- the task's slot, or one with no block and an empty C heap
 abbrev pub slot_in : Option Task → Slot
@@ -17,10 +17,6 @@ slot_in (Some t) = t.slot
 abbrev pub slot_named : List ℕ → Desk → Slot
 slot_named name d = slot_in (find (has_name name) d.tasks)
 
--- its flex blocks from below
-abbrev pub blocks_of_named : List ℕ → Desk → List BlockItem
-blocks_of_named name d = block_items (slot_named name d)
-
 -- its C heap
 abbrev pub heap_of_named : List ℕ → Desk → Heap
 heap_of_named name d = (slot_named name d).heap
@@ -29,9 +25,14 @@ heap_of_named name d = (slot_named name d).heap
 abbrev pub segments_of_named : List ℕ → Desk → List SegmentItem
 segments_of_named name d = segment_items_from (heap_start + first_place) (heap_of_named name d).segments
 
--- the bytes of its flex block at an anchor, none where there is no block
+-- the bytes of a flex block, none where there is no block
+abbrev pub bytes_of_cut : Option (Split Flex) → List ℕ
+bytes_of_cut None = []
+bytes_of_cut (Some b) = b.here.bytes
+
+-- the bytes of the slot's flex block at an anchor, none where there is no block
 abbrev pub bytes_of_named : List ℕ → ℕ → Desk → List ℕ
-bytes_of_named name k d = bytes_in (block_of k (slot_named name d))
+bytes_of_named name k d = bytes_of_cut (block_of k (slot_named name d))
 
 -- the address behind a segment
 abbrev pub item_end : SegmentItem → ℕ

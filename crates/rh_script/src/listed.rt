@@ -1,36 +1,36 @@
 //! Flex blocks, and areas and slots, as lines of text.
 
-ghost use Rattle.std.specs.Prelude.{◌≡◌, ◌≤◌, ◌+◌, ◌∷◌, ◌++◌, [], codes, flat_map, length};
+ghost use Rattle.std.specs.Prelude.{◌≡◌, ◌≤◌, ◌+◌, ◌∷◌, ◌++◌, [], Ok, codes, flat_map, length};
 ghost use Rattle.std.specs.Fmt.{decimal};
 ghost use Rattle.rh_defs.specs.Listing.{area_items};
-ghost use Rattle.rh_defs.specs.Text.{area_line, block_line, later, ok};
+ghost use Rattle.rh_defs.specs.Questions.{areas, blocks};
+ghost use Rattle.rh_defs.specs.Text.{answer_text, area_line, block_line, later, ok};
 ghost use Rattle.rh_lines.specs.Flow.{Puts};
 ghost use Rattle.rh_lines.specs.declared.row.TheConstants.{ROW};
 ghost use Rattle.rh_tasks.specs.Items.{item_of};
 ghost use Rattle.rh_script.specs.declared.gathered.TheConstants.{LONGEST_ITEM};
-ghost use Rattle.rh_script.specs.Named.{blocks_of_named};
 
 use crate::gathered::make_room;
-use crate::read::blocks_of;
 use arrayvec::ArrayVec;
-use rh_defs::{BlockItem, Name};
-use rh_lines::{Row, Sink, WriteFailed, add_number, put};
+use rh_defs::{BlockItem, Name, Reply};
+use rh_lines::{Row, Sink, WriteFailed, add_number, print_first_line, put};
 use rh_store::Store;
 use rh_tasks::{AreaEntry, World};
 
-/// Writes how many flex blocks the task has, as the reply says, and a line for each, from below.
+/// Writes how many flex blocks the task has, and a line for each, from below.
 pub fn print_blocks<S: Store, W: Sink>(
     world: &World<S>,
     name: &Name,
-    count: u32,
     writer: &mut W,
 ) -> Result<(), WriteFailed>
     ensures { Puts (W.output writer.old) (W.output writer.new) result
-        (ok (decimal count ∷ []) ++ flat_map block_line (blocks_of_named name.now world.now.desk)) }
+        (answer_text (blocks world.now.desk name.now)) }
 {
     let mut items = ArrayVec::new();
-    blocks_of(world, name, &mut items);
-    print_items(count, &items, writer)
+    match world.blocks_of(name, &mut items) {
+        Ok(()) => print_items(items.len() as u32, &items, writer),
+        Err(refusal) => print_first_line(&Reply::Refused(refusal), writer),
+    }
 }
 
 /// Writes a number, and a line for each of these blocks.
@@ -61,9 +61,19 @@ fn add_block(row: &mut Row, item: &BlockItem)
     row.byte(b'\n');
 }
 
-/// Writes how many pages are free, as the reply says, and a line for each area, and then for each slot in order of
-/// handle.
+/// Writes how many pages are free, and a line for each area, and then for each slot in order of handle.
 pub fn print_areas<S: Store, W: Sink>(
+    world: &World<S>,
+    writer: &mut W,
+) -> Result<(), WriteFailed>
+    ensures { Puts (W.output writer.old) (W.output writer.new) result (answer_text (Ok (areas world.now.desk))) }
+{
+    let (free, _) = world.areas(0);
+    print_entries(world, free, writer)
+}
+
+/// Writes a number, and a line for each area, and then for each slot.
+fn print_entries<S: Store, W: Sink>(
     world: &World<S>,
     free: u32,
     writer: &mut W,

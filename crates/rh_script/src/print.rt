@@ -1,23 +1,24 @@
 //! Replies as text.
 
-ghost use Rattle.std.specs.Prelude.{◌≡◌, ◌++◌, flat_map};
-ghost use Rattle.rh_defs.specs.Listing.{Nothing, of_named, records_of};
-ghost use Rattle.rh_defs.specs.Text.{first_line, later_lines, reply_text, segment_line};
+ghost use Rattle.std.specs.Prelude.{◌≡◌, true, if◌then◌else◌};
+ghost use Rattle.rh_defs.specs.Listing.{Nothing};
+ghost use Rattle.rh_defs.specs.Questions.{asked, begins};
+ghost use Rattle.rh_defs.specs.Range.{can_be_asked};
+ghost use Rattle.rh_defs.specs.Text.{answer_text, first_line, reply_text};
 ghost use Rattle.rh_lines.specs.Flow.{Puts};
-ghost use Rattle.rh_script.specs.Named.{segments_of_named};
 
 use crate::listed::{print_areas, print_blocks};
-use crate::records::print_records;
-use crate::segments::print_segments;
+use crate::records::print_status;
+use crate::segments::print_heap;
 use crate::shown::print_shown;
-use rh_defs::{Command, Name, Reply};
+use rh_defs::{Command, Question, Reply};
 use rh_lines::{Sink, WriteFailed, print_first_line};
 use rh_store::Store;
 use rh_tasks::World;
 
-/// Writes the reply to a command that was just applied, all its lines, over the desk after it.
-/// Fails only where the writer failed or took none of what it was offered; a front of the text is
-/// then written.
+/// Writes the reply to a command that was just applied, all its lines, over the desk after it. Only a reply that is what
+/// the desk answers to a question has more than one. Fails only where the writer failed or took none of what it was
+/// offered; a front of the text is then written.
 pub fn print_reply<S: Store, W: Sink>(
     world: &World<S>,
     command: &Command,
@@ -27,44 +28,60 @@ pub fn print_reply<S: Store, W: Sink>(
     ensures { Puts (W.output writer.old) (W.output writer.new) result
         (reply_text world.now.desk command.now reply.now) }
 {
-    match (command, reply) {
-        (Command::Show { name, anchor }, Reply::Shown { size }) => {
-            print_shown(world, name, *anchor, *size, writer)
-        }
-        (Command::Blocks { name }, Reply::BlockCount(count)) => {
-            print_blocks(world, name, *count, writer)
-        }
-        (Command::Heap { name }, Reply::HeapSums { .. }) => print_heap(world, name, reply, writer),
-        (Command::Status { name }, Reply::StatusOf(_)) => print_status(world, name, reply, writer),
-        (Command::Areas, Reply::FreePages(free)) => print_areas(world, *free, writer),
+    if !command.in_range() {
+        return print_first_line(reply, writer);
+    }
+    match command {
+        Command::Ask(question) => print_told(world, question, reply, writer),
         _ => print_first_line(reply, writer),
     }
 }
 
-/// The reply to `heap`: the sums, and a line for each segment.
-fn print_heap<S: Store, W: Sink>(
+/// Writes the reply to a question: with all that the desk answers, where the reply is the first line of that.
+fn print_told<S: Store, W: Sink>(
     world: &World<S>,
-    name: &Name,
+    question: &Question,
     reply: &Reply,
     writer: &mut W,
 ) -> Result<(), WriteFailed>
+    requires { can_be_asked question.now ≡ true }
     ensures { Puts (W.output writer.old) (W.output writer.new) result
-        (first_line reply.now Nothing ++ flat_map segment_line (segments_of_named name.now world.now.desk)) }
+        (if begins (asked world.now.desk question.now) reply.now then answer_text (asked world.now.desk question.now)
+            else first_line reply.now Nothing) }
 {
-    print_first_line(reply, writer)?;
-    print_segments(world, name, writer)
+    if is_told(world, question, reply) {
+        print_answer(world, question, writer)
+    } else {
+        print_first_line(reply, writer)
+    }
 }
 
-/// The reply to `status`: the handle, and a line for each record.
-fn print_status<S: Store, W: Sink>(
+/// Whether the reply has the words and numbers of what the desk answers.
+fn is_told<S: Store>(world: &World<S>, question: &Question, reply: &Reply) -> bool
+    requires { can_be_asked question.now ≡ true }
+    ensures { result ≡ begins (asked world.now.desk question.now) reply.now }
+{
+    match world.told(question) {
+        Ok(first) => first == *reply,
+        Err(_) => false,
+    }
+}
+
+/// Writes what the desk answers to a question, all its lines, or why it is refused. Fails only where the writer failed
+/// or took none of what it was offered; a front of the text is then written.
+pub fn print_answer<S: Store, W: Sink>(
     world: &World<S>,
-    name: &Name,
-    reply: &Reply,
+    question: &Question,
     writer: &mut W,
 ) -> Result<(), WriteFailed>
     ensures { Puts (W.output writer.old) (W.output writer.new) result
-        (first_line reply.now Nothing ++ later_lines (of_named name.now world.now.desk records_of)) }
+        (answer_text (asked world.now.desk question.now)) }
 {
-    print_first_line(reply, writer)?;
-    print_records(world, name, writer)
+    match question {
+        Question::Show { name, anchor } => print_shown(world, name, *anchor, writer),
+        Question::Blocks { name } => print_blocks(world, name, writer),
+        Question::Heap { name } => print_heap(world, name, writer),
+        Question::Status { name } => print_status(world, name, writer),
+        Question::Areas => print_areas(world, writer),
+    }
 }

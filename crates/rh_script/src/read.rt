@@ -1,25 +1,18 @@
 //! What is read of a named task's slot, where a name that no task has stands for a slot with nothing in it.
 
-ghost use Rattle.std.specs.Prelude.{◌≡◌, ◌+◌, ◌≤◌, ◌<◌, ◌^◌, length, take, drop};
+ghost use Rattle.std.specs.Prelude.{◌≡◌, ◌+◌, ◌≤◌, ◌<◌, ◌^◌, Ok, Err, IfOk, IfErr, length, take, drop};
 ghost use Rattle.rh_defs.specs.Heap.{IsHeap};
 ghost use Rattle.rh_tasks.specs.Lists.{segment_items_at};
-ghost use Rattle.rh_script.specs.Named.{blocks_of_named, bytes_of_named, heap_of_named};
+ghost use Rattle.rh_defs.specs.Listing.{Bytes};
+ghost use Rattle.rh_defs.specs.Questions.{show};
+ghost use Rattle.rh_defs.specs.declared.reply.Reply.TheVariants as Reply;
+ghost use Rattle.rh_script.specs.Named.{bytes_of_named, heap_of_named};
 
 use arrayvec::ArrayVec;
-use rh_defs::sizes::ANCHORS;
-use rh_defs::{Anchor, BlockItem, Name, SegmentItem};
+use rh_defs::{Anchor, Name, Refusal, SegmentItem};
 use rh_heap::SEGMENTS_AT_ONCE;
 use rh_store::Store;
 use rh_tasks::World;
-
-/// Puts all flex blocks of the task, from below, into a list, in place of what it held.
-pub fn blocks_of<S: Store>(world: &World<S>, name: &Name, items: &mut ArrayVec<BlockItem, ANCHORS>)
-    ensures { items.new.items ≡ blocks_of_named name.now world.now.desk }
-{
-    if world.blocks_of(name, items).is_err() {
-        items.clear();
-    }
-}
 
 /// Up to 64 segments of the task's C heap in order of place, from the one that begins at a place on, in bytes from the
 /// heap's first one.
@@ -39,34 +32,25 @@ pub fn segments_of<S: Store>(
     }
 }
 
-/// The size in bytes of the task's block at the anchor, 0 where there is none. Where the buffer is as long, it then
-/// holds the block's bytes.
-pub fn read_whole<S: Store>(world: &World<S>, name: &Name, anchor: Anchor, to: &mut [u8]) -> u32
-    ensures size { result ≡ length (bytes_of_named name.now anchor world.now.desk) }
-    ensures anchor { 0 < result → anchor < 64 }
-    ensures bytes { result ≡ length to.old → to.new ≡ bytes_of_named name.now anchor world.now.desk }
-{
-    if !anchor.is_valid() {
-        return size_of_block(world, name, anchor);
-    }
-    match world.show(name, anchor, 0, to) {
-        Ok(size) => size,
-        Err(_) => size_of_block(world, name, anchor),
-    }
-}
-
-fn size_of_block<S: Store>(world: &World<S>, name: &Name, anchor: Anchor) -> u32
-    ensures size { result ≡ length (bytes_of_named name.now anchor world.now.desk) }
-    ensures anchor { 0 < result → anchor < 64 }
+/// The size in bytes of the task's block at the anchor; NoName, NoBlock.
+pub fn size_of_block<S: Store>(
+    world: &World<S>,
+    name: &Name,
+    anchor: Anchor,
+) -> Result<u32, Refusal>
+    ensures told { IfOk result (λ size. show world.now.desk name.now anchor ≡ Ok (Reply.Shown size, Bytes (bytes_of_named name.now anchor world.now.desk))) }
+    ensures size { IfOk result (λ size. size ≡ length (bytes_of_named name.now anchor world.now.desk)) }
+    ensures anchor { IfOk result (λ size. anchor < 64) }
+    ensures refused { IfErr result (λ refusal. show world.now.desk name.now anchor ≡ Err refusal) }
 {
     world.spelled();
     if !anchor.is_valid() {
-        return 0;
+        return match world.status(name) {
+            Ok(_) => Err(Refusal::NoBlock),
+            Err(refusal) => Err(refusal),
+        };
     }
-    match world.show(name, anchor, 0, &mut []) {
-        Ok(size) => size,
-        Err(_) => 0,
-    }
+    world.show(name, anchor, 0, &mut [])
 }
 
 /// Reads a part of that block's bytes, from an offset on.

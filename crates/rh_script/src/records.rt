@@ -1,30 +1,44 @@
 //! The records of transfers as lines of text.
 
-ghost use Rattle.std.specs.Prelude.{◌≡◌, ◌≤◌, ◌++◌, ◌∷◌, [], codes, find, length, map};
+ghost use Rattle.std.specs.Prelude.{◌≡◌, ◌≤◌, ◌++◌, ◌∷◌, [], codes, length, map};
 ghost use Rattle.std.specs.Fmt.{decimal};
-ghost use Rattle.rh_defs.specs.Desk.{has_name};
-ghost use Rattle.rh_defs.specs.Listing.{in_item as in_item_of, out_item as out_item_of, of_named, records_of};
-ghost use Rattle.rh_defs.specs.Text.{later_lines, record_line, record_lines, state_name as state_name_of};
+ghost use Rattle.rh_defs.specs.Listing.{Nothing, in_item as in_item_of, out_item as out_item_of};
+ghost use Rattle.rh_defs.specs.Questions.{status};
+ghost use Rattle.rh_defs.specs.Text.{answer_text, first_line, record_line, record_lines, state_name as state_name_of};
 ghost use Rattle.rh_lines.specs.Flow.{Puts};
 
-use rh_defs::{Incoming, Name, Outgoing, RecordItem, State};
-use rh_lines::{Row, Sink, WriteFailed, put};
+use rh_defs::{Handle, Incoming, Name, Outgoing, RecordItem, Reply, State};
+use rh_lines::{Row, Sink, WriteFailed, print_first_line, put};
 use rh_store::Store;
 use rh_tasks::World;
 
-/// Writes a line for each record of the task's transfers, those that go out before those that come in.
-pub fn print_records<S: Store, W: Sink>(
+/// Writes the task's handle, and a line for each record of its transfers, those that go out before those that come in.
+pub fn print_status<S: Store, W: Sink>(
     world: &World<S>,
     name: &Name,
     writer: &mut W,
 ) -> Result<(), WriteFailed>
     ensures { Puts (W.output writer.old) (W.output writer.new) result
-        (later_lines (of_named name.now world.now.desk records_of)) }
+        (answer_text (status world.now.desk name.now)) }
 {
     match world.status(name) {
-        Ok((_, outgoing, incoming)) => print_both(outgoing, incoming, writer),
-        Err(_) => Ok(()),
+        Ok((handle, outgoing, incoming)) => print_records(handle, outgoing, incoming, writer),
+        Err(refusal) => print_first_line(&Reply::Refused(refusal), writer),
     }
+}
+
+fn print_records<W: Sink>(
+    handle: Handle,
+    outgoing: &[Outgoing],
+    incoming: &[Incoming],
+    writer: &mut W,
+) -> Result<(), WriteFailed>
+    ensures { Puts (W.output writer.old) (W.output writer.new) result
+        (first_line (Reply.StatusOf handle) Nothing
+            ++ (record_lines (codes "out") (map out_item_of outgoing.now) ++ record_lines (codes "in") (map in_item_of incoming.now))) }
+{
+    print_first_line(&Reply::StatusOf(handle), writer)?;
+    print_both(outgoing, incoming, writer)
 }
 
 fn print_both<W: Sink>(

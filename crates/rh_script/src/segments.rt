@@ -2,7 +2,9 @@
 
 ghost use Rattle.std.specs.Prelude.{◌≡◌, ◌<◌, ◌≤◌, ◌+◌, ◌^◌, ◌++◌, codes, flat_map, length};
 ghost use Rattle.std.specs.Fmt.{decimal};
-ghost use Rattle.rh_defs.specs.Text.{address, segment_line};
+ghost use Rattle.rh_defs.specs.Listing.{Nothing};
+ghost use Rattle.rh_defs.specs.Questions.{heap};
+ghost use Rattle.rh_defs.specs.Text.{address, answer_text, first_line, segment_line};
 ghost use Rattle.rh_defs.specs.declared.sizes.TheConstants.{C_HEAP_START};
 ghost use Rattle.rh_lines.specs.Flow.{Puts};
 ghost use Rattle.rh_lines.specs.declared.row.TheConstants.{ROW};
@@ -12,13 +14,48 @@ ghost use Rattle.rh_script.specs.Named.{item_end, segments_of_named};
 use crate::gathered::make_room;
 use crate::read::segments_of;
 use rh_defs::sizes::{C_HEAP_START, HEAP_FIRST};
-use rh_defs::{Name, SegmentItem};
-use rh_lines::{Row, Sink, WriteFailed, put};
+use rh_defs::{Name, Reply, SegmentItem};
+use rh_lines::{Row, Sink, WriteFailed, print_first_line, put};
 use rh_store::Store;
-use rh_tasks::World;
+use rh_tasks::{HeapSums, World};
+
+/// Writes the sums over the task's C heap, and a line for each of its segments, from below.
+pub fn print_heap<S: Store, W: Sink>(
+    world: &World<S>,
+    name: &Name,
+    writer: &mut W,
+) -> Result<(), WriteFailed>
+    ensures { Puts (W.output writer.old) (W.output writer.new) result
+        (answer_text (heap world.now.desk name.now)) }
+{
+    match world.heap(name, HEAP_FIRST as u32) {
+        Ok((sums, _)) => print_sums(world, name, sums, writer),
+        Err(refusal) => print_first_line(&Reply::Refused(refusal), writer),
+    }
+}
+
+fn print_sums<S: Store, W: Sink>(
+    world: &World<S>,
+    name: &Name,
+    sums: HeapSums,
+    writer: &mut W,
+) -> Result<(), WriteFailed>
+    ensures { Puts (W.output writer.old) (W.output writer.new) result
+        (first_line (Reply.HeapSums sums.0 sums.1 sums.2) Nothing
+            ++ flat_map segment_line (segments_of_named name.now world.now.desk)) }
+{
+    let (length, largest, free) = sums;
+    let reply = Reply::HeapSums {
+        length,
+        largest,
+        free,
+    };
+    print_first_line(&reply, writer)?;
+    print_segments(world, name, writer)
+}
 
 /// Writes a line for each segment of the task's C heap, from below.
-pub fn print_segments<S: Store, W: Sink>(
+fn print_segments<S: Store, W: Sink>(
     world: &World<S>,
     name: &Name,
     writer: &mut W,

@@ -3,49 +3,65 @@
 ghost use Rattle.std.specs.Prelude.{◌≡◌, ◌+◌, ◌*◌, ◌≤◌, ◌<◌, ◌++◌, ◌∷◌, [], length, codes, take, drop};
 ghost use Rattle.std.specs.Fmt.{decimal};
 ghost use Rattle.hex.specs.Hex.{encode_lower};
-ghost use Rattle.rh_defs.specs.Text.{ok, hex_words, rest_of_line};
+ghost use Rattle.rh_defs.specs.Questions.{show};
+ghost use Rattle.rh_defs.specs.Text.{answer_text, ok, hex_words, rest_of_line};
 ghost use Rattle.rh_lines.specs.Flow.{Puts};
 ghost use Rattle.rh_lines.specs.declared.row.TheConstants.{ROW};
 ghost use Rattle.rh_script.specs.declared.shown.TheConstants.{PIECE};
 ghost use Rattle.rh_script.specs.Named.{bytes_of_named};
 
-use crate::read::{read_block, read_whole};
-use rh_defs::{Anchor, Name};
-use rh_lines::{Row, Sink, WriteFailed, put, write_hex_digits};
+use crate::read::{read_block, size_of_block};
+use rh_defs::{Anchor, Name, Reply};
+use rh_lines::{Row, Sink, WriteFailed, print_first_line, put, write_hex_digits};
 use rh_store::Store;
 use rh_tasks::World;
 
-/// A block of up to so many bytes is looked for once, and written together with its size.
+/// A block of up to so many bytes is written together with its size.
 const SHORT: usize = 64;
 
 /// So many bytes of a longer block are read and written at a time.
 const PIECE: usize = 512;
 
-/// Writes the first line of a reply that shows a block: its size, as the reply says, and the bytes that the task's
-/// block has on this desk, if there are any.
+/// Writes the size of the task's block at the anchor, and its bytes, if there are any.
 pub fn print_shown<S: Store, W: Sink>(
+    world: &World<S>,
+    name: &Name,
+    anchor: Anchor,
+    writer: &mut W,
+) -> Result<(), WriteFailed>
+    ensures { Puts (W.output writer.old) (W.output writer.new) result
+        (answer_text (show world.now.desk name.now anchor)) }
+{
+    match size_of_block(world, name, anchor) {
+        Ok(size) => print_block(world, name, anchor, size, writer),
+        Err(refusal) => print_first_line(&Reply::Refused(refusal), writer),
+    }
+}
+
+fn print_block<S: Store, W: Sink>(
     world: &World<S>,
     name: &Name,
     anchor: Anchor,
     size: u32,
     writer: &mut W,
 ) -> Result<(), WriteFailed>
+    requires anchor { anchor < 64 }
+    requires size { size ≡ length (bytes_of_named name.now anchor world.now.desk) }
     ensures { Puts (W.output writer.old) (W.output writer.new) result
         (ok (decimal size ∷ hex_words (bytes_of_named name.now anchor world.now.desk))) }
 {
     let mut row = Row::new();
     row.text(b"ok ");
     row.decimal(size);
-    let mut bytes = [0; SHORT];
-    let room = if size as usize <= SHORT { size } else { 0 };
-    let whole = &mut bytes[..room as usize];
-    let there = read_whole(world, name, anchor, whole);
-    if there as usize == whole.len() {
+    if size as usize <= SHORT {
+        let mut bytes = [0; SHORT];
+        let whole = &mut bytes[..size as usize];
+        read_block(world, name, anchor, 0, whole);
         add_bytes(&mut row, whole);
         return put(writer, row.as_slice());
     }
     put(writer, row.as_slice())?;
-    print_bytes(world, name, anchor, there, writer)
+    print_bytes(world, name, anchor, size, writer)
 }
 
 /// Ends the line with a block's bytes, behind a space where there are any.
@@ -61,7 +77,7 @@ fn add_bytes(row: &mut Row, bytes: &[u8])
     row.byte(b'\n');
 }
 
-/// The bytes of the task's block behind a space, where there are any, and the line's end.
+/// The bytes of the task's block behind a space, and the line's end.
 fn print_bytes<S: Store, W: Sink>(
     world: &World<S>,
     name: &Name,
@@ -69,14 +85,12 @@ fn print_bytes<S: Store, W: Sink>(
     size: u32,
     writer: &mut W,
 ) -> Result<(), WriteFailed>
-    requires anchor { 0 < size → anchor < 64 }
+    requires anchor { anchor < 64 }
+    requires some { 0 < size }
     requires size { size ≡ length (bytes_of_named name.now anchor world.now.desk) }
     ensures { Puts (W.output writer.old) (W.output writer.new) result
         (rest_of_line (hex_words (bytes_of_named name.now anchor world.now.desk))) }
 {
-    if size == 0 {
-        return put(writer, b"\n");
-    }
     put(writer, b" ")?;
     print_digits(world, name, anchor, size, writer)
 }

@@ -4,14 +4,17 @@ use Rattle.rh_defs.specs.declared.command.Command.{Command}
 use Rattle.rh_defs.specs.Desk.{Desk}
 use Rattle.rh_defs.specs.Line.{Meaning}
 use Rattle.rh_defs.specs.Script.{meaning_desk, line_desk, is_bad}
-use Rattle.rh_defs.specs.Text.{reply_text, fault_text}
+use Rattle.rh_defs.specs.Listing.{Nothing}
+use Rattle.rh_defs.specs.Questions.{asked}
+use Rattle.rh_defs.specs.Text.{answer_text, first_line, fault_text}
 use Rattle.rh_session.specs.declared.answer.Answer.{Answer}
-use Rattle.rh_session.specs.declared.answer.Answer.TheVariants.{Reply, Fault}
+use Rattle.rh_session.specs.declared.answer.Answer.TheVariants.{Told, Reply, Fault}
 use Rattle.rh_session.specs.Session.{State}
 
--- the bytes of an answer, on the desk after it
+-- the bytes of an answer, on the desk after the line
 abbrev pub answer_bytes : Desk → Answer → List ℕ
-answer_bytes d (Reply command reply) = reply_text d command.now reply.now
+answer_bytes d (Told question) = answer_text (asked d question.now)
+answer_bytes d (Reply reply) = first_line reply.now Nothing
 answer_bytes d (Fault fault) = fault_text fault.now
 
 -- the state after a line of this meaning

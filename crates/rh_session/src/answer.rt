@@ -7,13 +7,14 @@ ghost use Rattle.rh_lines.specs.Flow.{Breaks, Puts, Takes};
 ghost use Rattle.rh_session.specs.Holding.{Gathers};
 
 use crate::desktop::Desktop;
-use rh_defs::{Command, LineFault, Reply};
-use rh_lines::{Held, Sink, WriteFailed, print_fault, put};
+use rh_defs::{LineFault, Question, Reply};
+use rh_lines::{Held, Sink, WriteFailed, print_fault, print_first_line, put};
 
-/// What is written for a line: a command's reply, or what is wrong with the line.
+/// What is written for a line: what a question is answered, another command's reply, or what is wrong with the line.
 #[derive(Drop)]
 pub enum Answer<'a> {
-    Reply(&'a Command, &'a Reply),
+    Told(&'a Question),
+    Reply(&'a Reply),
     Fault(&'a LineFault),
 }
 
@@ -61,7 +62,8 @@ impl<'a> Answer<'a> {
             (answer_bytes d self.now) }
     {
         match self {
-            Answer::Reply(command, reply) => desktop.print_reply(command, reply, writer),
+            Answer::Told(question) => desktop.print_answer(question, writer),
+            Answer::Reply(reply) => print_first_line(reply, writer),
             Answer::Fault(fault) => print_fault(fault, writer),
         }
     }

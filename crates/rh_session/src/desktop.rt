@@ -2,15 +2,16 @@
 
 ghost use Rattle.std.specs.Prelude.{◌≡◌, IsTrue};
 ghost use Rattle.rh_defs.specs.Desk.{Desk};
+ghost use Rattle.rh_defs.specs.Questions.{asked};
 ghost use Rattle.rh_defs.specs.Range.{in_range};
 ghost use Rattle.rh_defs.specs.Step.{step};
-ghost use Rattle.rh_defs.specs.Text.{reply_text};
+ghost use Rattle.rh_defs.specs.Text.{answer_text};
 ghost use Rattle.rh_lines.specs.Flow.{Puts};
 
-use rh_defs::{Command, Reply};
+use rh_defs::{Command, Question, Reply};
 use rh_lines::{Sink, WriteFailed};
 
-/// What applies commands and prints their replies.
+/// What applies commands and answers questions.
 pub trait Desktop: Drop {
     // The desks that this may be seen as: one, up to what no reply shows.
     ghost spells: { Self → Desk → Type 0 };
@@ -21,14 +22,9 @@ pub trait Desktop: Drop {
         ensures reply { (d : Desk) → spells self.old d → result ≡ (step d command.now).1 }
         ensures desk { (d : Desk) → spells self.old d → spells self.new (step d command.now).0 };
 
-    /// Writes the reply to the command that was just applied. Fails only where the writer failed or took none of what
-    /// it was offered; a front of the text is then written.
-    fn print_reply<W: Sink>(
-        &self,
-        command: &Command,
-        reply: &Reply,
-        writer: &mut W,
-    ) -> Result<(), WriteFailed>
+    /// Writes what is answered to a question, all its lines, or why it is refused. Fails only where the writer failed
+    /// or took none of what it was offered; a front of the text is then written.
+    fn print_answer<W: Sink>(&self, question: &Question, writer: &mut W) -> Result<(), WriteFailed>
         ensures { (d : Desk) → spells self.now d → Puts (W.output writer.old) (W.output writer.new) result
-            (reply_text d command.now reply.now) };
+            (answer_text (asked d question.now)) };
 }

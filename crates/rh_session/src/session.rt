@@ -1,6 +1,6 @@
 //! A script in the middle of its run.
 
-ghost use Rattle.std.specs.Prelude.{◌≡◌, ◌++◌, [], not, ◌==◌, ◌||◌, length, IfOk, IsTrue, OnOk};
+ghost use Rattle.std.specs.Prelude.{◌≡◌, ◌++◌, [], not, ◌==◌, ◌||◌, length, Ok, Some, IfOk, IsTrue, OnOk};
 ghost use Rattle.rh_defs.specs.Desk.{Desk};
 ghost use Rattle.rh_defs.specs.Range.{in_range};
 ghost use Rattle.rh_defs.specs.Script.{line_text, meaning_text, rest_text};
@@ -17,7 +17,7 @@ use crate::line::LineBuffer;
 use crate::status::Status;
 use memchr::memchr;
 use rh_defs::sizes::LONGEST_LINE;
-use rh_defs::{Command, LineFault};
+use rh_defs::{Command, LineFault, Question};
 use rh_lines::{Held, Sink, WriteFailed, print_fault, read_line};
 use std::alloc::{AllocError, Global};
 
@@ -70,7 +70,7 @@ impl<D: Desktop> Session<D> {
         ensures text { (s : State) → IsState D.spells self.old s → Gathers (W.output writer.old) (W.output writer.new) result held.old.bytes held.new.bytes (text_of s bytes.now) }
         ensures state { (s : State) → IsState D.spells self.old s → OnOk result (IsState D.spells self.new (state_of s bytes.now)) }
     {
-        let mut command = Command::Areas;
+        let mut command = Command::Ask(Question::Areas);
         let mut rest = bytes;
         while let Some(end) = memchr(b'\n', rest) {
             self.take_line(&rest[..end], &mut command, held, writer)?;
@@ -110,13 +110,30 @@ impl<D: Desktop> Session<D> {
     {
         match found {
             Ok(false) => Ok(()),
-            Ok(true) => {
-                let reply = self.desktop.apply(command);
-                Answer::Reply(command, &reply).write(&self.desktop, held, writer)
-            }
+            Ok(true) => self.carry_out(command, held, writer),
             Err(fault) => {
                 self.has_bad_line = true;
                 Answer::Fault(&fault).write(&self.desktop, held, writer)
+            }
+        }
+    }
+
+    /// Does a command, and answers it. A question is asked of the desktop as it stands.
+    fn carry_out<W: Sink>(
+        &mut self,
+        command: &Command,
+        held: &mut Held,
+        writer: &mut W,
+    ) -> Result<(), WriteFailed>
+        requires in_range { IsTrue (in_range command.now) }
+        ensures text { (s : State) → IsState D.spells self.old s → Gathers (W.output writer.old) (W.output writer.new) result held.old.bytes held.new.bytes (meaning_text s.desk (Ok (Some command.now))) }
+        ensures state { (s : State) → IsState D.spells self.old s → IsState D.spells self.new (state_after_meaning s (Ok (Some command.now))) }
+    {
+        match command {
+            Command::Ask(question) => Answer::Told(question).write(&self.desktop, held, writer),
+            _ => {
+                let reply = self.desktop.apply(command);
+                Answer::Reply(&reply).write(&self.desktop, held, writer)
             }
         }
     }

@@ -39,6 +39,7 @@ pub mod Openings
 pub mod NewWorlds
 pub mod PageLaws
 pub mod Replies
+pub mod Told
 pub mod Steps
 pub mod AreaCommands
 pub mod ModuleCommands

@@ -6,7 +6,6 @@ use Rattle.rh_defs.specs.Memory.{Memory, bytes}
 use Rattle.rh_defs.specs.Files.{FileList}
 use Rattle.rh_defs.specs.declared.refusal.Refusal.{Refusal}
 use Rattle.rh_defs.specs.declared.refusal.Refusal.TheVariants.{BadRange}
-use Rattle.rh_defs.specs.declared.reply.Reply.TheVariants as reply
 use Rattle.rh_defs.specs.declared.listing.SegmentItem.TheVariants as segment
 use Rattle.std.proofs.lemmas.Bool.{eqb-true}
 use Rattle.rh_defs.specs.Chain.{Granted, ◌>>=◌, ◌>>◌, refuse_if, outcome_of, result_or}
@@ -15,7 +14,6 @@ use Rattle.rh_defs.specs.Heap.{Heap, Segment, Used, Hole, size_of, segment_at, f
 use Rattle.rh_defs.specs.Slot as plain
 use Rattle.rh_defs.proofs.Cuts.{IsCut, first_at-cuts, cut-total}
 use Rattle.rh_defs.specs.Desk.{Desk, named}
-use Rattle.rh_defs.specs.Commands.{Answer}
 use Rattle.rh_defs.specs.Listing.{segment_item}
 use Rattle.rh_heap.specs.declared.layout.Segment.{Segment as Piece}
 use Rattle.rh_heap.specs.Segments.{piece}
@@ -41,24 +39,15 @@ module _ {m : Memory} {seats : List Seat} {made : List MadeArea} {files : FileLi
   its-slot = ap (slot_in m) o.slot_is
 
   -- what is asked of the named task's slot alone
-  pub asked : {A : Type 0} (ask : plain.Slot → Granted A) → (named name d >>= (λ t. ask t.slot)) ≡ ask (slot_in m slot)
-  asked ask = begins _ (found-named w o) (ap ask its-slot)
+  pub of-slot : {A : Type 0} (ask : plain.Slot → Granted A) → (named name d >>= (λ t. ask t.slot)) ≡ ask (slot_in m slot)
+  of-slot ask = begins _ (found-named w o) (ap ask its-slot)
 
--- ---- a block's size and bytes
-
-sized-by : (e : Desk) (g : Granted (Split plain.Flex)) (n : ℕ) → Ok n ≡ (g >>= λ b. Ok (length b.here.bytes)) → (g >>= λ b. (let r : Granted Answer = Ok (e, reply.Shown (length b.here.bytes)) in r)) ≡ Ok (e, reply.Shown n)
-unfolding ◌>>=◌
-sized-by e (Ok b) n h = let q : n ≡ length b.here.bytes = cc in rw q refl
-sized-by e (Err r) n h = absurd (cc)
+-- ---- a block's bytes
 
 unsized-by : {A : Type 0} (g : Granted (Split plain.Flex)) (r : Refusal) (next : Split plain.Flex → Granted A) → Err r ≡ (g >>= λ b. Ok (length b.here.bytes)) → (g >>= next) ≡ Err r
 unfolding ◌>>=◌
 unsized-by (Ok b) r next h = absurd (cc)
 unsized-by (Err q) r next h = cc
-
-pub sized : (e : Desk) (k : ℕ) (s : plain.Slot) (n : ℕ) → Ok n ≡ plain.slot_size k s → (plain.slot_block k s >>= λ b. (let r : Granted Answer = Ok (e, reply.Shown (length b.here.bytes)) in r)) ≡ Ok (e, reply.Shown n)
-unfolding plain.slot_size
-sized e k s n h = sized-by e (plain.slot_block k s) n h
 
 pub unsized : {A : Type 0} (k : ℕ) (s : plain.Slot) (r : Refusal) (next : Split plain.Flex → Granted A) → Err r ≡ plain.slot_size k s → (plain.slot_block k s >>= next) ≡ Err r
 unfolding plain.slot_size

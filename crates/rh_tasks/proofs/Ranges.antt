@@ -6,7 +6,9 @@ use Rattle.std.proofs.lemmas.Int.{ints}
 use Rattle.rh_defs.specs.Forms.{is_delta, is_leaf}
 use Rattle.std.proofs.lemmas.Bool.Decides.{nat_tests}
 use Rattle.rh_defs.specs.declared.command.Command.TheVariants as command
-use Rattle.rh_defs.specs.Range.{in_range}
+use Rattle.rh_defs.specs.declared.question.Question.{Question}
+use Rattle.rh_defs.specs.declared.question.Question.TheVariants as question
+use Rattle.rh_defs.specs.Range.{in_range, can_be_asked}
 
 pub alloc-anchor : (name : List ℕ) (k n : ℕ) → in_range (command.Alloc name k n) ≡ true → k < 64
 unfolding in_range
@@ -32,8 +34,11 @@ pub mid-anchor : (name : List ℕ) (k offset : ℕ) (by : ℤ) → in_range (com
 unfolding in_range
 mid-anchor name k offset by h = grind (arith, nat_tests)
 
-pub show-anchor : (name : List ℕ) (k : ℕ) → in_range (command.Show name k) ≡ true → k < 64
+pub ask-ranged : (q : Question) → in_range (command.Ask q) ≡ true → can_be_asked q ≡ true
 unfolding in_range
+ask-ranged q h = h
+
+pub show-anchor : (name : List ℕ) (k : ℕ) → can_be_asked (question.Show name k) ≡ true → k < 64
 show-anchor name k h = grind (arith, nat_tests)
 
 pub save-anchor : (name : List ℕ) (k : ℕ) (to leaf : List ℕ) → in_range (command.Save name k to leaf) ≡ true → k < 64

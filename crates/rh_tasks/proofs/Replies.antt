@@ -5,11 +5,12 @@ use Rattle.rh_defs.specs.declared.command.Command.{Command}
 use Rattle.rh_defs.specs.declared.command.Command.TheVariants as command
 use Rattle.rh_defs.specs.declared.reply.Reply.{Reply}
 use Rattle.rh_defs.specs.declared.reply.Reply.TheVariants as reply
-use Rattle.rh_defs.specs.Commands.{Answer, start_task, kill, alloc, load, put, free, extend, mid, claim, release, resize, budge, module_area, change_module, change_pages, change_made, change_area, make, remove, rma_claim, rma_free, rma_resize, show, blocks, heap_sums, status}
+use Rattle.rh_defs.specs.Commands.{Answer, start_task, kill, alloc, load, put, free, extend, mid, claim, release, resize, budge, module_area, change_module, change_pages, change_made, change_area, make, remove, rma_claim, rma_free, rma_resize}
 use Rattle.rh_defs.specs.Desk.{Desk, Task}
 use Rattle.rh_defs.specs.Messages.{Parcel}
 use Rattle.rh_defs.specs.Step.{save, repeat, poll, poll_taken, cancel_in, cancel_out, change}
-use Rattle.rh_defs.proofs.Chains.{OnGrant, granted, granted-then, granted-past, grant-holds}
+use Rattle.rh_defs.proofs.Chains.{OnGrant, granted, granted-then, granted-with, granted-past, grant-holds}
+use Rattle.rh_defs.proofs.QuestionLaws.{IsFirst, shown, block_count, heap_sums, status_of, free_page_count, first-is}
 
 -- whether a reply is a refusal
 abbrev pub is_refused : Reply → Bool
@@ -29,6 +30,13 @@ unfolding poll_taken
 poll_taken-says d t None = record { is = refl }
 poll_taken-says d t (Some m) = record { is = refl }
 
+first-says : {said : Reply} → IsFirst said → is_refused said ≡ false
+first-says shown = refl
+first-says block_count = refl
+first-says heap_sums = refl
+first-says status_of = refl
+first-says free_page_count = refl
+
 change_area-says : (d : Desk) (k : ℕ) (delta : ℤ) → OnGrant IsSaid (change_area d k delta)
 unfolding change_module change_pages change_made
 change_area-says d k delta = go (k == module_area) (nat_lt k (length d.areas))
@@ -39,7 +47,7 @@ change_area-says d k delta = go (k == module_area) (nat_lt k (length d.areas))
     go false false = granted-then _ _ λ m e. granted-then _ _ λ n f. granted-past _ _ _ λ big. says refl
 
 pub change-says : (d : Desk) (c : Command) → OnGrant IsSaid (change d c)
-unfolding start_task kill alloc load put free extend mid claim release resize budge make remove rma_claim rma_free rma_resize show blocks heap_sums status save repeat poll cancel_in cancel_out
+unfolding start_task kill alloc load put free extend mid claim release resize budge make remove rma_claim rma_free rma_resize save repeat poll cancel_in cancel_out
 change-says d (command.Task name buffer manner) = granted-past _ _ _ λ new. granted-past _ _ _ λ few. granted-past _ _ _ λ more. granted-then _ _ λ s e. says refl
 change-says d (command.Kill name) = granted-then _ _ λ t e. says refl
 change-says d (command.Alloc name k n) = granted-then _ _ λ t e. granted-then _ _ λ p f. says refl
@@ -63,11 +71,7 @@ change-says d (command.Remove k) = granted-then _ _ λ m e. says refl
 change-says d (command.RmaClaim n) = granted-then _ _ λ c e. says refl
 change-says d (command.RmaFree address) = granted-then _ _ λ b e. granted-then _ _ λ h f. says refl
 change-says d (command.RmaResize address delta) = granted-then _ _ λ b e. granted-then _ _ λ c f. says refl
-change-says d (command.Show name k) = granted-then _ _ λ t e. granted-then _ _ λ b f. says refl
-change-says d (command.Blocks name) = granted-then _ _ λ t e. says refl
-change-says d (command.Heap name) = granted-then _ _ λ t e. says refl
-change-says d (command.Status name) = granted-then _ _ λ t e. says refl
-change-says d command.Areas = says refl
+change-says d (command.Ask q) = granted-with _ (first-is d q) λ told first. says (first-says first)
 
 -- what is granted is no refusal
 pub never-refuses : (d e : Desk) (c : Command) (said : Reply) → change d c ≡ Ok (e, said) → is_refused said ≡ false

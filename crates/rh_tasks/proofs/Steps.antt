@@ -2,6 +2,8 @@
 use Rattle.std.proofs.Common.{◌≡◌, Bool, true, false, refl, ap, sym, ◌∙◌, subst}
 use Rattle.std.specs.Prelude.{List, [], ◌∷◌, ◌++◌, Result, Ok, Err}
 use Rattle.rh_defs.specs.declared.command.Command.{Command}
+use Rattle.rh_defs.specs.declared.command.Command.TheVariants as command
+use Rattle.rh_defs.specs.declared.question.Question.{Question}
 use Rattle.rh_defs.specs.declared.refusal.Refusal.{Refusal}
 use Rattle.rh_defs.specs.declared.reply.Reply.{Reply}
 use Rattle.rh_defs.specs.declared.reply.Reply.TheVariants as reply
@@ -13,7 +15,7 @@ use Rattle.rh_defs.specs.Runs.{after}
 use Rattle.rh_defs.specs.Step.{change, step}
 use Rattle.rh_defs.proofs.OrderSteps.{order-ignored}
 use Rattle.rh_tasks.specs.Shown.{Shown}
-use Rattle.rh_tasks.specs.Answer.{Does, Gives, GivesAlike, RunsOn, StaysIfRefused, StepsTo, is_question, reply_of}
+use Rattle.rh_tasks.specs.Answer.{Does, Gives, GivesAlike, RunsOn, StaysIfRefused, StaysIfAsked, StepsTo, reply_of}
 use Rattle.rh_tasks.proofs.Reorders.{reordered-refl, reordered-trans}
 use Rattle.rh_tasks.proofs.Replies.{is_refused, never-refuses}
 
@@ -69,36 +71,40 @@ refused-alike c granted old new (Err refusal) said given h s = λ other is. h.1
 
 -- ---- a command's call
 
+-- whether a command is a question
+abbrev asks : Command → Bool
+asks (command.Ask q) = true
+asks c = false
+
+unasked : (c : Command) (old new : Shown) → asks c ≡ false → StaysIfAsked c old new
+unasked c old new changes q is = absurd (let both : ◌≡◌ {A = Bool} true false = sym (ap asks is) ∙ changes in (cc))
+
 -- a change
-pub stepped : (c : Command) (granted : Granted Answer) (old new : Shown) (result : Result Reply Refusal) (said : Reply) → change old.desk c ≡ granted → is_question c ≡ false
+pub stepped : (c : Command) (granted : Granted Answer) (old new : Shown) (result : Result Reply Refusal) (said : Reply) → change old.desk c ≡ granted → asks c ≡ false
     → Gives granted old new result → said ≡ reply_of result → Does c old new said
 stepped c granted old new result said given changes h s = record {
   steps = steps-so c granted old new result said given h s;
   refused = refused-stays c granted old new result said given h s;
-  asked = λ asks. absurd (let both : ◌≡◌ {A = Bool} true false = sym asks ∙ changes in (cc));
+  asked = unasked c old new changes;
 }
 
 -- the same, but for the order of messages to different tasks
-pub stepped-alike : (c : Command) (granted : Granted Answer) (old new : Shown) (result : Result Reply Refusal) (said : Reply) → change old.desk c ≡ granted → is_question c ≡ false
+pub stepped-alike : (c : Command) (granted : Granted Answer) (old new : Shown) (result : Result Reply Refusal) (said : Reply) → change old.desk c ≡ granted → asks c ≡ false
     → GivesAlike granted old new result → said ≡ reply_of result → Does c old new said
 stepped-alike c granted old new result said given changes h s = record {
   steps = steps-alike c granted old new result said given h s;
   refused = refused-alike c granted old new result said given h s;
-  asked = λ asks. absurd (let both : ◌≡◌ {A = Bool} true false = sym asks ∙ changes in (cc));
+  asked = unasked c old new changes;
 }
 
 -- a question
-pub asked : (c : Command) (granted : Granted Answer) (world : Shown) (result : Result Reply Refusal) (said : Reply) → change world.desk c ≡ granted
-    → Gives granted world world result → said ≡ reply_of result → Does c world world said
-asked c granted world result said given h s = record {
-  steps = steps-so c granted world world result said given h s;
+pub asked : (q : Question) (granted : Granted Answer) (world : Shown) (result : Result Reply Refusal) (said : Reply) → change world.desk (command.Ask q) ≡ granted
+    → Gives granted world world result → said ≡ reply_of result → Does (command.Ask q) world world said
+asked q granted world result said given h s = record {
+  steps = steps-so (command.Ask q) granted world world result said given h s;
   refused = λ refusal is. refl;
-  asked = λ asks. refl;
+  asked = λ other is. refl;
 }
-
--- the question that is never refused
-pub told : (c : Command) (world : Shown) (said : Reply) → change world.desk c ≡ Ok (world.desk, said) → Does c world world said
-told c world said given = asked c (Ok (world.desk, said)) world (Ok said) said given refl refl
 
 -- a run of one command more ends with that command's step
 after-more : (d : Desk) (commands : List Command) (c : Command) → after d (commands ++ c ∷ []) ≡ (step (after d commands) c).0

@@ -1,5 +1,5 @@
 -- What a command's call gives.
-use Rattle.std.specs.Prelude.{◌≡◌, Bool, true, false, List, [], ◌∷◌, ◌++◌, Result, Ok, Err}
+use Rattle.std.specs.Prelude.{◌≡◌, List, [], ◌∷◌, ◌++◌, Result, Ok, Err}
 use Rattle.std.specs.Result.{MatchResult}
 use Rattle.rh_defs.specs.declared.refusal.Refusal.{Refusal}
 use Rattle.rh_defs.specs.declared.reply.Reply.{Reply}
@@ -7,9 +7,11 @@ use Rattle.rh_defs.specs.declared.reply.Reply.TheVariants as reply
 use Rattle.rh_defs.specs.Chain.{Granted}
 use Rattle.rh_defs.specs.declared.command.Command.{Command}
 use Rattle.rh_defs.specs.declared.command.Command.TheVariants as command
+use Rattle.rh_defs.specs.declared.question.Question.{Question}
 use Rattle.rh_defs.specs.Desk.{Desk}
 use Rattle.rh_defs.specs.Commands.{Answer}
 use Rattle.rh_defs.specs.Order.{IsReordered}
+use Rattle.rh_defs.specs.Questions.{Told}
 use Rattle.rh_defs.specs.Step.{step}
 use Rattle.rh_defs.specs.Runs.{after}
 use Rattle.rh_tasks.specs.Shown.{Shown}
@@ -31,18 +33,9 @@ StepsTo c old new said = (d : Desk) → IsReordered d old → ((step d c).1 ≡ 
 abbrev pub StaysIfRefused : Shown → Shown → Reply → Type 0
 StaysIfRefused old new said = (refusal : Refusal) → said ≡ reply.Refused refusal → new ≡ old
 
--- whether a command only looks at the desk
-abbrev pub is_question : Command → Bool
-is_question (command.Show name k) = true
-is_question (command.Blocks name) = true
-is_question (command.Heap name) = true
-is_question (command.Status name) = true
-is_question command.Areas = true
-is_question c = false
-
 -- A question leaves all that is shown as it was, whatever it answers.
 abbrev pub StaysIfAsked : Command → Shown → Shown → Type 0
-StaysIfAsked c old new = is_question c ≡ true → new ≡ old
+StaysIfAsked c old new = (q : Question) → c ≡ command.Ask q → new ≡ old
 
 -- a command's step, and what it leaves as it was
 pub record Does (c : Command) (old new : Shown) (said : Reply) : Type 0 where
@@ -53,6 +46,11 @@ pub record Does (c : Command) (old new : Shown) (said : Reply) : Type 0 where
 -- Where the old desk is that after some commands, but for that order, the new one is that after them and this command.
 abbrev pub RunsOn : Command → Desk → Desk → Type 0
 RunsOn c old new = (d : Desk) (commands : List Command) → IsReordered (after d commands) old → IsReordered (after d (commands ++ c ∷ [])) new
+
+-- the words and numbers of an answer
+abbrev pub first_told : Granted Told → Granted Reply
+first_told (Ok told) = Ok told.0
+first_told (Err refusal) = Err refusal
 
 -- the reply that a call's result is
 abbrev pub reply_of : Result Reply Refusal → Reply

@@ -6,12 +6,11 @@ ghost use Rattle.std.specs.Option.{option_map};
 ghost use Rattle.std.specs.Result.{MatchResult};
 ghost use Rattle.rh_tasks.specs.declared.seat.Seat.{Seat};
 ghost use Rattle.rh_defs.specs.Memory.{Memory, IsOpen};
-ghost use Rattle.rh_defs.specs.declared.command.Command.TheVariants as Command;
-ghost use Rattle.rh_defs.specs.Range.{in_range};
-ghost use Rattle.rh_defs.specs.Commands.{show as show_on, blocks as blocks_on, heap_sums as heap_sums_on, status as status_on};
+ghost use Rattle.rh_defs.specs.Range.{can_be_asked};
+ghost use Rattle.rh_defs.specs.Questions.{asked};
 ghost use Rattle.rh_defs.specs.Desk.{free_pages as free_pages_on};
 ghost use Rattle.rh_defs.specs.Listing.{area_items, areas_at, blocks_at, heap_at, shown_at, status_at};
-ghost use Rattle.rh_tasks.specs.Answer.{Gives};
+ghost use Rattle.rh_tasks.specs.Answer.{first_told};
 ghost use Rattle.rh_tasks.specs.View.{pages_at, HasAreas};
 ghost use Rattle.rh_tasks.specs.Items.{item_of, items_in, slot_items, segment_item_of, placed_item, IsSmall};
 ghost use Rattle.rh_tasks.specs.Lists.{blocks_of, segments_of};
@@ -24,7 +23,8 @@ use crate::world::World;
 use arrayvec::ArrayVec;
 use rh_defs::sizes::{ANCHORS, C_HEAP_START, FIXED_AREAS, PAGE, WORD};
 use rh_defs::{
-    Anchor, AreaItem, BlockItem, Handle, Incoming, Name, Outgoing, Refusal, Reply, SegmentItem,
+    Anchor, AreaItem, BlockItem, Handle, Incoming, Name, Outgoing, Question, Refusal, Reply,
+    SegmentItem,
 };
 use rh_heap::{SEGMENTS_AT_ONCE, Segment};
 use rh_store::{AreaId, Store};
@@ -241,44 +241,31 @@ impl<S: Store> World<S> {
         Ok((seat.handle, seat.sending.records(), seat.taking.records()))
     }
 
-    /// The size of the task's block: NoName, NoBlock.
-    pub(crate) fn size_of(&self, name: &Name, anchor: Anchor) -> Result<Reply, Refusal>
-        requires { anchor < 64 }
-        ensures { Gives (show_on self.now.desk name.now anchor) self.now self.now result }
+    /// The words and numbers of a question's answer: NoName, NoBlock.
+    pub fn told(&self, question: &Question) -> Result<Reply, Refusal>
+        requires { can_be_asked question.now ≡ true }
+        ensures { result ≡ first_told (asked self.now.desk question.now) }
     {
-        let slot = slot_of(&self.seats, name)?;
-        let size = slot.size(&self.store, anchor)? as u32;
-        Ok(Reply::Shown { size })
-    }
-
-    /// How many blocks the task has: NoName.
-    pub(crate) fn block_count(&self, name: &Name) -> Result<Reply, Refusal>
-        ensures { Gives (blocks_on self.now.desk name.now) self.now self.now result }
-    {
-        let slot = slot_of(&self.seats, name)?;
-        Ok(Reply::BlockCount(slot.count(&self.store) as u32))
-    }
-
-    /// The sums over the task's C heap: NoName.
-    pub(crate) fn heap_sums(&self, name: &Name) -> Result<Reply, Refusal>
-        ensures { Gives (heap_sums_on self.now.desk name.now) self.now self.now result }
-    {
-        let slot = slot_of(&self.seats, name)?;
-        let (length, largest, free) = slot.describe(&self.store);
-        Ok(Reply::HeapSums {
-            length: length as u32,
-            largest: largest as u32,
-            free: free as u32,
-        })
-    }
-
-    /// The task's handle: NoName.
-    pub(crate) fn handle_of(&self, name: &Name) -> Result<Reply, Refusal>
-        ensures { Gives (status_on self.now.desk name.now) self.now self.now result }
-    {
-        let i = find(&self.seats, name)?;
-        let seat = &self.seats[i];
-        Ok(Reply::StatusOf(seat.handle))
+        match question {
+            Question::Show { name, anchor } => {
+                let size = self.show(name, *anchor, 0, &mut [])?;
+                Ok(Reply::Shown { size })
+            }
+            Question::Blocks { name } => Ok(Reply::BlockCount(self.blocks(name, 0)?.0)),
+            Question::Heap { name } => {
+                let ((length, largest, free), _) = self.heap(name, 0)?;
+                Ok(Reply::HeapSums {
+                    length,
+                    largest,
+                    free,
+                })
+            }
+            Question::Status { name } => match self.status(name) {
+                Ok(records) => Ok(Reply::StatusOf(records.0)),
+                Err(refusal) => Err(refusal),
+            },
+            Question::Areas => Ok(Reply::FreePages(self.free_pages())),
+        }
     }
 
     /// How many pages are free.

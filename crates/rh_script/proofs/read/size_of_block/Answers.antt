@@ -1,17 +1,22 @@
 use Rattle.std.proofs.Common.{arith}
 use borrow.Author.Tests.{tests}
-use Rattle.rh_script.specs.Named.{slot_named}
-use Rattle.rh_script.proofs.ReadLemmas.{reads_part, answered_size, refused_size, named_is_slot, no_bytes}
+use Rattle.rh_script.proofs.PrintLemmas.{unnamed_shows}
+use Rattle.rh_script.proofs.ReadLemmas.{named_is_slot, shows_none, size_read}
 use Rattle.rh_script.proofs.read.size_of_block.Goals as goal
 
-pub returns-then-not-is_valid-clause-size : goal.returns-then-not-is_valid-clause-size
-returns-then-not-is_valid-clause-size g c =
-    no_bytes c.args.anchor (slot_named c.args.name.now c.args.world.now.desk) (named_is_slot c.args.name.now c.args.world.now.desk c.spelled.ensures.desk.slots) (grind (arith, tests))
+pub returns-in-Err-clause-refused : goal.returns-in-Err-clause-refused
+returns-in-Err-clause-refused g c =
+    unnamed_shows c.args.world.now.desk c.args.name.now c.args.anchor _ c.in-Err.ensures.err
 
-pub returns-in-Ok-clause-size : goal.returns-in-Ok-clause-size
-returns-in-Ok-clause-size g c =
-    answered_size _ c.in-Ok.size _ _ _ 0 c.in-Ok.ensures (reads_part c.args.world.now.desk c.args.name.now c.args.anchor 0 0)
+pub returns-in-Ok-clause-refused : goal.returns-in-Ok-clause-refused
+returns-in-Ok-clause-refused g c =
+    shows_none c.args.world.now.desk c.args.name.now c.args.anchor _ _ _ (named_is_slot c.args.name.now c.args.world.now.desk c.spelled.ensures.desk.slots) (grind (arith, tests)) c.in-Ok.ensures.ok
 
-pub returns-in-Err-clause-size : goal.returns-in-Err-clause-size
-returns-in-Err-clause-size g c =
-    refused_size _ _ _ _ _ c.in-Err.ensures (reads_part c.args.world.now.desk c.args.name.now c.args.anchor 0 0)
+pub returns-clause-told : goal.returns-clause-told
+returns-clause-told g c = (size_read c.args.world.now.desk c.args.name.now c.args.anchor _ _ _ c.show.ensures).told
+
+pub returns-clause-size : goal.returns-clause-size
+returns-clause-size g c = (size_read c.args.world.now.desk c.args.name.now c.args.anchor _ _ _ c.show.ensures).size
+
+pub returns-clause-refused : goal.returns-clause-refused
+returns-clause-refused g c = (size_read c.args.world.now.desk c.args.name.now c.args.anchor _ _ _ c.show.ensures).refused

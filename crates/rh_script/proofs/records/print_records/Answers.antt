@@ -1,11 +1,10 @@
-use Rattle.rh_script.proofs.PrintLemmas.{records_listed, records_of_nobody}
-use Rattle.rh_lines.proofs.FlowLemmas.{takes_none}
+use Rattle.std.proofs.Common.{refl}
+use Rattle.rh_lines.proofs.FlowLemmas.{puts_before, puts_stops, puts_more}
 use Rattle.rh_script.proofs.records.print_records.Goals as goal
 
-pub returns-in-Ok : goal.returns-in-Ok
-returns-in-Ok g c =
-    rw (← records_listed c.args.world.now.desk c.args.name.now _ _ _ c.in-Ok.ensures.ok) c.print_both.ensures
+pub returns-in_err-print_first_line : goal.returns-in_err-print_first_line
+returns-in_err-print_first_line g c =
+    puts_stops _ (puts_before _ c.in_err-print_first_line.ensures refl) c.from_residual.ensures.0
 
-pub returns-in-Err : goal.returns-in-Err
-returns-in-Err g c =
-    rw (← records_of_nobody c.args.world.now.desk c.args.name.now _ c.in-Err.ensures.err) (record { ok = takes_none _; err = tt })
+pub returns : goal.returns
+returns g c = puts_more _ _ _ c.in_ok-print_first_line.ensures c.print_both.ensures

@@ -1,12 +1,8 @@
 use Rattle.std.proofs.Common.{◌≢◌, length, arith, refl}
 use Rattle.rh_script.specs.Named.{bytes_of_named}
 use Rattle.rh_lines.proofs.FlowLemmas.{puts_before, puts_stops, puts_more}
-use Rattle.rh_script.proofs.PrintLemmas.{spaced, unspaced}
+use Rattle.rh_script.proofs.PrintLemmas.{spaced}
 use Rattle.rh_script.proofs.shown.print_bytes.Goals as goal
-
-pub returns-then-size-eq0 : goal.returns-then-size-eq0
-returns-then-size-eq0 g c =
-    rw (← unspaced (bytes_of_named c.args.name.now c.args.anchor c.args.world.now.desk) (omega arith)) c.put.ensures
 
 pub returns-in_err-put : goal.returns-in_err-put
 returns-in_err-put g c =

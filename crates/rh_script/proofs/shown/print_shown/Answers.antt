@@ -1,23 +1,8 @@
-use Rattle.std.proofs.Common.{◌≡◌, ◌++◌, codes, arith, refl, ap, ◌∙◌}
-use Rattle.std.specs.Fmt.{decimal}
-use Rattle.rh_lines.proofs.FlowLemmas.{puts_before, puts_stops, puts_more}
+use Rattle.rh_script.proofs.PrintLemmas.{refused_text, show_text}
 use Rattle.rh_script.proofs.shown.print_shown.Goals as goal
 
-pub returns-then-there-whole : goal.returns-then-there-whole
-returns-then-there-whole g c =
-    let size_first : c.decimal.new.self ≡ codes "ok " ++ decimal c.args.size = c.decimal.ensures.value ∙ ap (λ z. z ++ decimal c.args.size) (c.text.ensures ∙ ap (λ z. z ++ codes "ok ") c.new-row.ensures) in
-    let whole = c.read_whole-there.ensures.bytes (omega arith) in
-    let text = c.put.ensures in
-    rw (c.as_slice.ensures, c.add_bytes.ensures, size_first, whole) at text
+pub returns-in-Ok : goal.returns-in-Ok
+returns-in-Ok g c = rw (← show_text _ _ _ c.in-Ok.ensures.told) c.print_block.ensures
 
-pub returns-in_err-put : goal.returns-in_err-put
-returns-in_err-put g c =
-    let size_first : c.as_slice-2.result.now ≡ codes "ok " ++ decimal c.args.size = c.as_slice-2.ensures ∙ (c.decimal.ensures.value ∙ ap (λ z. z ++ decimal c.args.size) (c.text.ensures ∙ ap (λ z. z ++ codes "ok ") c.new-row.ensures)) in
-    let text = c.in_err-put.ensures in
-    puts_stops _ (puts_before _ (rw size_first at text) refl) c.from_residual.ensures.0
-
-pub returns : goal.returns
-returns g c =
-    let size_first : c.as_slice-2.result.now ≡ codes "ok " ++ decimal c.args.size = c.as_slice-2.ensures ∙ (c.decimal.ensures.value ∙ ap (λ z. z ++ decimal c.args.size) (c.text.ensures ∙ ap (λ z. z ++ codes "ok ") c.new-row.ensures)) in
-    let text = c.in_ok-put.ensures in
-    puts_more _ _ _ (rw size_first at text) c.print_bytes.ensures
+pub returns-in-Err : goal.returns-in-Err
+returns-in-Err g c = rw (← refused_text _ _ c.in-Err.ensures.refused) c.print_first_line.ensures

@@ -7,7 +7,7 @@ use Rattle.rh_defs.specs.Listing.{block_items, blocks_at}
 use Rattle.rh_tasks.proofs.Chains.{ends}
 use Rattle.rh_tasks.proofs.Finding.{nobody}
 use Rattle.rh_tasks.proofs.Moves.{owned}
-use Rattle.rh_tasks.proofs.QuestionLaws.{asked}
+use Rattle.rh_tasks.proofs.QuestionLaws.{of-slot}
 use Rattle.rh_tasks.proofs.Readers.{few-blocks}
 use Rattle.rh_tasks.proofs.world.World.blocks.Goals as goal
 
@@ -25,4 +25,4 @@ pub returns : goal.returns
 unfolding blocks_at
 returns g c =
     rw (← c.self.view_is, c.count-count.ensures, c.block.ensures)
-    (sym (asked c.self.invariant.0 c.in_ok-slot.ensures.ok (λ s. let r : Granted (ℕ × Option BlockItem) = Ok (length s.blocks, slice_get (block_items s) c.args.i) in r)))
+    (sym (of-slot c.self.invariant.0 c.in_ok-slot.ensures.ok (λ s. let r : Granted (ℕ × Option BlockItem) = Ok (length s.blocks, slice_get (block_items s) c.args.i) in r)))

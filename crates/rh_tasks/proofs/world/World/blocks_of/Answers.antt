@@ -7,7 +7,7 @@ use Rattle.rh_defs.specs.Listing.{block_items}
 use Rattle.rh_tasks.specs.Lists.{blocks_of}
 use Rattle.rh_tasks.proofs.Chains.{ends}
 use Rattle.rh_tasks.proofs.Finding.{nobody}
-use Rattle.rh_tasks.proofs.QuestionLaws.{asked}
+use Rattle.rh_tasks.proofs.QuestionLaws.{of-slot}
 use Rattle.rh_tasks.proofs.world.World.blocks_of.Goals as goal
 
 pub returns-in_err-slot-clause-err : goal.returns-in_err-slot-clause-err
@@ -19,4 +19,4 @@ returns-in_err-slot-clause-err g c =
 pub returns-clause-ok : goal.returns-clause-ok
 unfolding blocks_of
 returns-clause-ok g c =
-    rw (← c.self.view_is, c.list.ensures) (asked c.self.invariant.0 c.in_ok-slot.ensures.ok (λ s. let r : Granted (List BlockItem) = Ok (block_items s) in r))
+    rw (← c.self.view_is, c.list.ensures) (of-slot c.self.invariant.0 c.in_ok-slot.ensures.ok (λ s. let r : Granted (List BlockItem) = Ok (block_items s) in r))

@@ -1,8 +1,9 @@
 use Rattle.std.proofs.Common.{refl, w32}
 use Rattle.std.proofs.lemmas.Int.{to_z-of_z}
 use Rattle.rh_defs.specs.declared.command.Command.TheVariants as command
-use Rattle.rh_tasks.proofs.Ranges.{show-anchor, mid-fits, resize-fits, area-fits, rma_resize-fits}
-use Rattle.rh_tasks.proofs.Steps.{asked, stepped, stepped-alike, told}
+use Rattle.rh_tasks.proofs.Ranges.{ask-ranged, mid-fits, resize-fits, area-fits, rma_resize-fits}
+use Rattle.rh_tasks.proofs.Told.{told-gives}
+use Rattle.rh_tasks.proofs.Steps.{asked, stepped, stepped-alike}
 use Rattle.rh_tasks.proofs.world.World.change.Goals as goal
 
 pub returns-in-Task : goal.returns-in-Task
@@ -59,23 +60,11 @@ returns-in-RmaFree g c = rw (c.in-RmaFree.is) (stepped (command.RmaFree c.in-Rma
 pub returns-in-RmaResize : goal.returns-in-RmaResize
 returns-in-RmaResize g c = rw (c.in-RmaResize.is) (stepped (command.RmaResize c.in-RmaResize.address c.in-RmaResize.delta) _ _ _ _ _ refl refl (rw (to_z-of_z w32 c.in-RmaResize.delta (rma_resize-fits _ _ (rw c.in-RmaResize.is at c.requires.ranged))) at c.rma_resize.ensures) c.answer-in-RmaResize.ensures)
 
-pub size_of-requires : goal.size_of-requires
-size_of-requires g c = show-anchor _ _ (rw c.in-Show.is at c.requires.ranged)
+pub told-requires : goal.told-requires
+told-requires g c = ask-ranged _ (rw c.in-Ask.is at c.requires.ranged)
 
-pub returns-in-Show : goal.returns-in-Show
-returns-in-Show g c = rw (c.in-Show.is) (asked (command.Show c.in-Show.name c.in-Show.anchor) _ _ _ _ refl c.size_of.ensures c.answer-in-Show.ensures)
-
-pub returns-in-Blocks : goal.returns-in-Blocks
-returns-in-Blocks g c = rw (c.in-Blocks.is) (asked (command.Blocks c.in-Blocks.name) _ _ _ _ refl c.block_count.ensures c.answer-in-Blocks.ensures)
-
-pub returns-in-Heap : goal.returns-in-Heap
-returns-in-Heap g c = rw (c.in-Heap.is) (asked (command.Heap c.in-Heap.name) _ _ _ _ refl c.heap_sums.ensures c.answer-in-Heap.ensures)
-
-pub returns-in-Status : goal.returns-in-Status
-returns-in-Status g c = rw (c.in-Status.is) (asked (command.Status c.in-Status.name) _ _ _ _ refl c.handle_of.ensures c.answer-in-Status.ensures)
-
-pub returns-in-Areas : goal.returns-in-Areas
-returns-in-Areas g c = rw (c.in-Areas.is, c.free_pages.ensures) (told command.Areas _ _ refl)
+pub returns-in-Ask : goal.returns-in-Ask
+returns-in-Ask g c = rw (c.in-Ask.is) (asked c.in-Ask.question _ _ _ _ refl (told-gives _ c.args.self.now _ c.told.ensures) c.answer-in-Ask.ensures)
 
 pub returns-in-CancelIn : goal.returns-in-CancelIn
 returns-in-CancelIn g c = rw (c.in-CancelIn.is) (stepped (command.CancelIn c.in-CancelIn.name c.in-CancelIn.id) _ _ _ _ _ refl refl c.cancel_in.ensures c.answer-in-CancelIn.ensures)

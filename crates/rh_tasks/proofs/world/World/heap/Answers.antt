@@ -4,7 +4,7 @@ use Rattle.rh_defs.specs.Listing.{heap_at}
 use Rattle.rh_tasks.proofs.Chains.{ends}
 use Rattle.rh_tasks.proofs.Finding.{nobody}
 use Rattle.rh_tasks.proofs.Moves.{owned}
-use Rattle.rh_tasks.proofs.QuestionLaws.{asked}
+use Rattle.rh_tasks.proofs.QuestionLaws.{of-slot}
 use Rattle.rh_tasks.proofs.Readers.{listed_heap, listed-none, listed-some, small-largest, small-free, small-place, small-piece}
 use Rattle.rh_tasks.proofs.world.World.heap.Goals as goal
 
@@ -26,7 +26,7 @@ pub returns-in_default : goal.returns-in_default
 unfolding heap_at
 returns-in_default g c =
     rw (← c.self.view_is, c.describe-length.ensures.end, c.describe-length.ensures.largest, c.describe-length.ensures.total)
-    (sym (asked c.self.invariant.0 c.in_ok-slot.ensures.ok (λ s. listed_heap c.args.place s.heap) ∙ listed-none c.args.place _ c.in_default.ensures))
+    (sym (of-slot c.self.invariant.0 c.in_ok-slot.ensures.ok (λ s. listed_heap c.args.place s.heap) ∙ listed-none c.args.place _ c.in_default.ensures))
 
 pub segment_item-requires-clause-low : goal.segment_item-requires-clause-low
 segment_item-requires-clause-low g c =
@@ -40,5 +40,5 @@ pub returns : goal.returns
 unfolding heap_at
 returns g c =
     rw (← c.self.view_is, c.describe-length.ensures.end, c.describe-length.ensures.largest, c.describe-length.ensures.total)
-    (sym (asked c.self.invariant.0 c.in_ok-slot.ensures.ok (λ s. listed_heap c.args.place s.heap)
+    (sym (of-slot c.self.invariant.0 c.in_ok-slot.ensures.ok (λ s. listed_heap c.args.place s.heap)
     ∙ listed-some c.args.place _ c.in-Some.segment c.segment_item.result c.in-Some.ensures c.segment_item.ensures))

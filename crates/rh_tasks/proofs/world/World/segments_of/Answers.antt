@@ -8,7 +8,7 @@ use Rattle.rh_tasks.specs.Lists.{segment_items_at, segments_of}
 use Rattle.rh_tasks.proofs.Chains.{ends}
 use Rattle.rh_tasks.proofs.Finding.{nobody}
 use Rattle.rh_tasks.proofs.Moves.{owned}
-use Rattle.rh_tasks.proofs.QuestionLaws.{asked}
+use Rattle.rh_tasks.proofs.QuestionLaws.{of-slot}
 use Rattle.rh_tasks.proofs.Readers.{small-end}
 use Rattle.rh_tasks.proofs.SegmentItems.{items_from, small_from}
 use Rattle.rh_tasks.proofs.world.World.segments_of.Goals as goal
@@ -29,5 +29,5 @@ pub returns-clause-ok : goal.returns-clause-ok
 unfolding segments_of
 returns-clause-ok g c =
     rw (← c.self.view_is, c.segment_items.ensures, c.deref.ensures.0, c.segments_from-segments.ensures)
-    (asked c.self.invariant.0 c.in_ok-slot.ensures.ok (λ s. let r : Granted (List SegmentItem) = Ok (segment_items_at c.args.place s.heap) in r)
+    (of-slot c.self.invariant.0 c.in_ok-slot.ensures.ok (λ s. let r : Granted (List SegmentItem) = Ok (segment_items_at c.args.place s.heap) in r)
     ∙ ap Ok (sym (items_from c.args.place (slot_in (g.S.Words.memory c.self.inside.store) c.in_ok-slot.slot).heap)))

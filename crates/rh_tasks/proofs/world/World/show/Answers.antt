@@ -5,7 +5,7 @@ use Rattle.rh_defs.specs.Listing.{shown_at}
 use Rattle.rh_tasks.proofs.Chains.{ends}
 use Rattle.rh_tasks.proofs.Finding.{nobody}
 use Rattle.rh_tasks.proofs.Moves.{owned}
-use Rattle.rh_tasks.proofs.QuestionLaws.{asked, shown_of_slot, unsized, unread, read-done}
+use Rattle.rh_tasks.proofs.QuestionLaws.{of-slot, shown_of_slot, unsized, unread, read-done}
 use Rattle.rh_tasks.proofs.Readers.{if-ok, if-err, kept, small-size}
 use Rattle.rh_tasks.proofs.world.World.show.Goals as goal
 
@@ -20,7 +20,7 @@ unfolding shown_at
 returns-in_err-size g c =
     let p = err_from_is_err_and c.from_residual-in_err-size.result c.from_residual-in_err-size.ensures.1 in
     rw (p.1, p.2, ← c.self.view_is)
-    (if-err _ _ (asked c.self.invariant.0 c.in_ok-slot.ensures.ok (shown_of_slot c.args.anchor c.args.offset (length c.args.to.now))
+    (if-err _ _ (of-slot c.self.invariant.0 c.in_ok-slot.ensures.ok (shown_of_slot c.args.anchor c.args.offset (length c.args.to.now))
     ∙ unsized c.args.anchor _ _ _ c.in_err-size.ensures) (refl, refl))
 
 pub returns-in_err-read : goal.returns-in_err-read
@@ -28,7 +28,7 @@ unfolding shown_at
 returns-in_err-read g c =
     let p = err_from_is_err_and c.from_residual-in_err-read.result c.from_residual-in_err-read.ensures.1 in
     rw (p.1, p.2, ← c.self.view_is)
-    (if-err _ _ (asked c.self.invariant.0 c.in_ok-slot.ensures.ok (shown_of_slot c.args.anchor c.args.offset (length c.args.to.now))
+    (if-err _ _ (of-slot c.self.invariant.0 c.in_ok-slot.ensures.ok (shown_of_slot c.args.anchor c.args.offset (length c.args.to.now))
     ∙ unread c.args.anchor c.args.offset _ _ _ c.in_err-read.ensures.answer) (refl, kept _ _ _ c.in_err-read.ensures.answer c.in_err-read.ensures.bytes))
 
 pub overflow_cast-result : goal.overflow_cast-result
@@ -39,5 +39,5 @@ pub returns : goal.returns
 unfolding shown_at
 returns g c =
     rw (← c.self.view_is)
-    (if-ok _ _ (asked c.self.invariant.0 c.in_ok-slot.ensures.ok (shown_of_slot c.args.anchor c.args.offset (length c.args.to.now))
+    (if-ok _ _ (of-slot c.self.invariant.0 c.in_ok-slot.ensures.ok (shown_of_slot c.args.anchor c.args.offset (length c.args.to.now))
     ∙ read-done c.args.anchor c.args.offset _ c.in_ok-size.size _ c.args.to.now c.read.new.to c.in_ok-size.ensures c.in_ok-read.ensures.answer c.in_ok-read.ensures.bytes) (refl, refl))

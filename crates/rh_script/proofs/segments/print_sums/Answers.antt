@@ -1,10 +1,10 @@
 use Rattle.std.proofs.Common.{refl}
 use Rattle.rh_lines.proofs.FlowLemmas.{puts_before, puts_stops, puts_more}
-use Rattle.rh_script.proofs.print.print_status.Goals as goal
+use Rattle.rh_script.proofs.segments.print_sums.Goals as goal
 
 pub returns-in_err-print_first_line : goal.returns-in_err-print_first_line
 returns-in_err-print_first_line g c =
     puts_stops _ (puts_before _ c.in_err-print_first_line.ensures refl) c.from_residual.ensures.0
 
 pub returns : goal.returns
-returns g c = puts_more _ _ _ c.in_ok-print_first_line.ensures c.print_records.ensures
+returns g c = puts_more _ _ _ c.in_ok-print_first_line.ensures c.print_segments.ensures

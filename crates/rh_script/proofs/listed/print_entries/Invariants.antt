@@ -4,7 +4,7 @@ use Rattle.std.specs.List.{flat_map}
 use Rattle.rh_defs.specs.Listing.{area_items}
 use Rattle.rh_defs.specs.Text.{area_line, ok}
 use Rattle.rh_script.specs.Gathered.{Gathered}
-use Rattle.rh_script.proofs.listed.print_areas.Given as goal
+use Rattle.rh_script.proofs.listed.print_entries.Given as goal
 
 -- the number and the areas and slots so far were written, or wait in the row
 abbrev pub invariant-items : goal.invariant-items
