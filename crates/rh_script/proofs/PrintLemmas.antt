@@ -22,8 +22,7 @@ use Rattle.rh_defs.specs.declared.command.Command.TheVariants as command
 use Rattle.rh_defs.specs.declared.question.Question.{Question}
 use Rattle.rh_defs.specs.declared.reply.Reply.{Reply}
 use Rattle.rh_defs.specs.Range.{can_be_asked, in_range}
-use Rattle.rh_defs.specs.Questions.{Told, asked, begins, is_same, show, blocks, heap, status, areas}
-use Rattle.rh_defs.proofs.QuestionLaws.{same-equal}
+use Rattle.rh_defs.specs.Questions.{Told, asked, begins, show, blocks, heap, status, areas}
 use Rattle.rh_tasks.specs.Lists.{blocks_of}
 use Rattle.std.specs.List.{flat_map}
 use Rattle.std.specs.Result.{IsErr}
@@ -121,6 +120,9 @@ unfolding ◌>>=◌
 refused_alike (Ok t) one whole refusal e = absurd (cc)
 refused_alike (Err r) one whole refusal e = cc
 
+ok_same : {A : Type 0} {x y : A} → ◌≡◌ {A = Granted A} (Ok x) (Ok y) → x ≡ y
+ok_same e = cc
+
 items_length : (place : ℕ) (blocks : List Flex) → length (block_items_from place blocks) ≡ length blocks
 items_length place [] = refl
 items_length place (b ∷ blocks) = ap suc (items_length (place + weight b) blocks)
@@ -139,9 +141,10 @@ told_text : (g : Granted Task) (h : ℕ) (out : List Outgoing) (taken : List Inc
     ≡ answer_text (g >>= λ t. Ok (reply.StatusOf t.handle, Records (map out_item t.sending) (map in_item t.taking)))
 unfolding ◌>>=◌ answer_text first_line later_lines
 told_text (Ok t) h out taken e =
-    let handle : h ≡ t.handle = cc in
-    let outs : out ≡ t.sending = cc in
-    let ins : taken ≡ t.taking = cc in
+    let same : ◌≡◌ {A = ℕ × List Outgoing × List Incoming} (t.handle, t.sending, t.taking) (h, out, taken) = ok_same e in
+    let handle : h ≡ t.handle = ap (λ (p : ℕ × List Outgoing × List Incoming). p.0) (sym same) in
+    let outs : out ≡ t.sending = ap (λ (p : ℕ × List Outgoing × List Incoming). p.1) (sym same) in
+    let ins : taken ≡ t.taking = ap (λ (p : ℕ × List Outgoing × List Incoming). p.2) (sym same) in
     rw (handle, outs, ins) refl
 told_text (Err r) h out taken e = absurd (cc)
 
@@ -152,7 +155,8 @@ summed_text : (o : Option Task) (place : ℕ) (sums : ℕ × ℕ × ℕ) (item :
 unfolding ◌>>=◌ found_or answer_text first_line later_lines
 summed_text None place sums item e = absurd (cc)
 summed_text (Some t) place sums item e =
-    let same : sums ≡ (t.slot.heap.end, largest t.slot.heap, free_bytes t.slot.heap) = cc in
+    let same : sums ≡ (t.slot.heap.end, largest t.slot.heap, free_bytes t.slot.heap) =
+    ap (λ (p : (ℕ × ℕ × ℕ) × Option SegmentItem). p.0) (sym (ok_same e)) in
     rw same refl
 
 module _ (d : Desk) (name : List ℕ) where
@@ -217,12 +221,3 @@ pub question_text : (d : Desk) (q : Question) (r : Reply) → can_be_asked q ≡
     → reply_text d (command.Ask q) r ≡ (if begins (asked d q) r then answer_text (asked d q) else first_line r Nothing)
 unfolding reply_text
 question_text d q r e = rw e refl
-
--- a reply that begins an answer is the answer's first line
-begins_by : (a b : Reply) (t : Bool) → (t ≡ true → a ≡ b) → (t ≡ false → a ≢ b) → is_same a a ≡ true → t ≡ is_same a b
-begins_by a b true same differ known = sym known ∙ ap (is_same a) (same refl)
-begins_by a b false same differ known = go (is_same a b) refl
-  where
-    go : (u : Bool) → is_same a b ≡ u → false ≡ u
-    go true e = absurd (differ refl (same-equal a b e))
-    go false e = refl

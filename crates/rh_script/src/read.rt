@@ -68,3 +68,12 @@ pub fn read_block<S: Store>(
     // Refused only where the task has no such block, and no byte is wanted.
     let _size = world.show(name, anchor, offset, to);
 }
+
+/// Reads all of that block's bytes.
+pub fn read_whole<S: Store>(world: &World<S>, name: &Name, anchor: Anchor, to: &mut [u8])
+    requires anchor { anchor < 64 }
+    requires whole { length to.old ≡ length (bytes_of_named name.now anchor world.now.desk) }
+    ensures { to.new ≡ bytes_of_named name.now anchor world.now.desk }
+{
+    read_block(world, name, anchor, 0, to);
+}

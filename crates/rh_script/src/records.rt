@@ -22,7 +22,7 @@ pub fn print_status<S: Store, W: Sink>(
         (answer_text (status world.now.desk name.now)) }
 {
     match world.status(name) {
-        Ok((handle, outgoing, incoming)) => print_records(handle, outgoing, incoming, writer),
+        Ok(records) => print_records(records.0, records.1, records.2, writer),
         Err(refusal) => print_first_line(&Reply::Refused(refusal), writer),
     }
 }

@@ -10,7 +10,7 @@ ghost use Rattle.rh_lines.specs.declared.row.TheConstants.{ROW};
 ghost use Rattle.rh_script.specs.declared.shown.TheConstants.{PIECE};
 ghost use Rattle.rh_script.specs.Named.{bytes_of_named};
 
-use crate::read::{read_block, size_of_block};
+use crate::read::{read_block, read_whole, size_of_block};
 use rh_defs::{Anchor, Name, Reply};
 use rh_lines::{Row, Sink, WriteFailed, print_first_line, put, write_hex_digits};
 use rh_store::Store;
@@ -56,7 +56,7 @@ fn print_block<S: Store, W: Sink>(
     if size as usize <= SHORT {
         let mut bytes = [0; SHORT];
         let whole = &mut bytes[..size as usize];
-        read_block(world, name, anchor, 0, whole);
+        read_whole(world, name, anchor, whole);
         add_bytes(&mut row, whole);
         return put(writer, row.as_slice());
     }

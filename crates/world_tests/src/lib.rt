@@ -8,6 +8,8 @@ mod lists;
 #[cfg(test)]
 mod numbers;
 #[cfg(test)]
+mod replies;
+#[cfg(test)]
 mod same;
 #[cfg(test)]
 mod stores;

@@ -1,0 +1,7 @@
+use Rattle.std.proofs.Common.{arith, ◌∙◌}
+use Rattle.std.proofs.lemmas.List.{take_all}
+use Rattle.rh_script.specs.Named.{bytes_of_named}
+use Rattle.rh_script.proofs.read.read_whole.Goals as goal
+
+pub returns : goal.returns
+returns g c = c.read_block.ensures ∙ take_all _ (bytes_of_named c.args.name.now c.args.anchor c.args.world.now.desk) (omega (arith, c.requires.whole))

@@ -1,0 +1,84 @@
+//! Replies that are printed over a world.
+
+use crate::calls::{fill, name, said, task};
+use crate::same::{is_true, same};
+use crate::stores::paged_store;
+use rh_defs::{Anchor, Command, Files, Handle, Name, Question, Refusal, Reply};
+use rh_lines::Held;
+use rh_script::{print_answer, print_reply};
+use rh_store::Store;
+use rh_tasks::World;
+use std::process::Abort;
+use std::test::Fail;
+
+fn show(name: &Name, anchor: u8) -> Question {
+    Question::Show {
+        name: name.copied(),
+        anchor: Anchor(anchor),
+    }
+}
+
+fn blocks(name: &Name) -> Question {
+    Question::Blocks {
+        name: name.copied(),
+    }
+}
+
+/// Prints the reply to a question, which is to be this text.
+fn prints<R: Abort, S: Store>(
+    rt: &R,
+    world: &World<S>,
+    held: &mut Held,
+    question: Question,
+    reply: Reply,
+    text: &[u8],
+) {
+    held.cut(0);
+    let command = Command::Ask(question);
+    is_true(rt, print_reply(world, &command, &reply, held).is_ok());
+    is_true(rt, held.as_slice() == text);
+}
+
+/// Asks a question: its answer is to be this text, and so is the print of its reply.
+fn answers<R: Abort, S: Store>(
+    rt: &R,
+    world: &mut World<S>,
+    held: &mut Held,
+    question: Question,
+    text: &[u8],
+) {
+    held.cut(0);
+    is_true(rt, print_answer(world, &question, held).is_ok());
+    is_true(rt, held.as_slice() == text);
+    held.cut(0);
+    let command = Command::Ask(question);
+    let reply = said(rt, world, &command);
+    is_true(rt, print_reply(world, &command, &reply, held).is_ok());
+    is_true(rt, held.as_slice() == text);
+}
+
+#[test]
+fn prints_replies(rt: HostRuntime) -> Result<(), Fail> {
+    let store = paged_store(rt.alloc())?;
+    let mut world = World::new(rt.alloc(), store, Files::new(rt.alloc()))?;
+    let mut held = Held::new(rt.alloc())?;
+    let a = name(b"a")?;
+    let nobody = name(b"c")?;
+    same(
+        &rt,
+        said(&rt, &mut world, &task(&a)),
+        Reply::Started(Handle(1)),
+    );
+    fill(&rt, &mut world, &a);
+    answers(&rt, &mut world, &mut held, show(&a, 0), b"ok 5 000aff0000\n");
+    answers(&rt, &mut world, &mut held, show(&a, 1), b"refused NoBlock\n");
+    answers(&rt, &mut world, &mut held, blocks(&a), b"ok 1\n  0 &9008 5\n");
+    answers(&rt, &mut world, &mut held, blocks(&nobody), b"refused NoName\n");
+    let seven = Reply::BlockCount(7);
+    prints(&rt, &world, &mut held, blocks(&a), seven, b"ok 7\n");
+    let refused = Reply::Refused(Refusal::NoBlock);
+    prints(&rt, &world, &mut held, show(&a, 0), refused, b"refused NoBlock\n");
+    prints(&rt, &world, &mut held, show(&a, 64), refused, b"refused NoBlock\n");
+    prints(&rt, &world, &mut held, show(&a, 0), Reply::Done, b"ok\n");
+    Ok(())
+}
