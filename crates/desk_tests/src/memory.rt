@@ -134,8 +134,8 @@ fn constructors_and_runs_are_refused_memory_in_turn(rt: HostRuntime) -> Result<(
             }
             refused = trial + 1;
         }
-        let in_turn = 0 < refused && refused < TRIALS;
-        same(&rt, (maker, in_turn || !is_short), (maker, true));
+        same(&rt, (maker, refused < TRIALS), (maker, true));
+        same(&rt, (maker, 0 < refused || !is_short), (maker, true));
     }
     Ok(())
 }
@@ -161,70 +161,160 @@ fn end_of<R: rt::Files + AllocGlobal>(runtime: &R, words: &[String]) -> Ended {
     }
 }
 
-/// What it writes, and how it ends, where memory is refused.
-fn no_memory() -> Ended {
-    let mut errors = ArrayVec::new();
-    let _fits = errors.try_extend_from_slice(b"rh_desk: no memory\n");
-    Ended {
+/// An ending with these texts. One that doesn't fit is left out, and no ending of the program equals it then.
+fn ending(output: &str, errors: &str, status: u8) -> Ended {
+    let mut ended = Ended {
         output: ArrayVec::new(),
-        errors,
-        status: 3,
-    }
+        errors: ArrayVec::new(),
+        status,
+    };
+    let _output_fits = ended.output.try_extend_from_slice(output.as_bytes());
+    let _errors_fit = ended.errors.try_extend_from_slice(errors.as_bytes());
+    ended
 }
 
-/// Tries the program on these words with more and more memory, until it ends as it does with plenty.
+/// Tries the program on these words with more and more memory, until it ends as it should. Before that it tells that
+/// memory was refused, and nothing else.
 fn try_program<R: Abort + rt::Files + AllocGlobal>(
     runtime: &R,
     words: &[&str],
+    wanted: &Ended,
 ) -> Result<(), Fail> {
     let alloc: Global = runtime.alloc();
     let mut all = Vec::new(alloc);
     for word in words {
         all.push(String::from_str(alloc, word)?)?;
     }
-    let wanted = end_of(runtime, all.as_slice());
+    let no_memory = ending("", "rh_desk: no memory\n", 3);
     let scarce = Scarce::new(alloc)?;
     let is_short = scarce.is_short(alloc);
     let mut refused = 0;
     for trial in 0..TRIALS {
         let _taken = scarce.leave(alloc, STEP * trial);
         let found = end_of(runtime, all.as_slice());
-        if found == wanted {
+        if found == *wanted {
             break;
         }
-        same(runtime, found, no_memory());
+        same(runtime, (words, &found), (words, &no_memory));
         refused = trial + 1;
     }
-    let in_turn = 0 < refused && refused < TRIALS;
-    same(runtime, (words, in_turn || !is_short), (words, true));
+    same(runtime, (words, refused < TRIALS), (words, true));
+    same(runtime, (words, 0 < refused || !is_short), (words, true));
     Ok(())
 }
 
+/// The answer to `areas` over 64 pages, of which the module area has one.
+const AREAS_OF_64: &str =
+    "ok 63\n  area 0 0\n  area 1 1\n  area 2 0\n  area 3 0\n  area 4 0\n  area 5 0\n";
+
+/// The same over 8 pages.
+const AREAS_OF_8: &str =
+    "ok 7\n  area 0 0\n  area 1 1\n  area 2 0\n  area 3 0\n  area 4 0\n  area 5 0\n";
+
 #[test]
-fn the_program_is_refused_memory_in_turn(rt: HostRuntime) -> Result<(), Fail> {
+fn runs_and_checks_are_refused_memory_in_turn(rt: HostRuntime) -> Result<(), Fail> {
     fs::write(&rt, "short.desk", "task a 100\nload a 0 f\nshow a 0\n")?;
     fs::write(&rt, "short.bin", "hello")?;
-    for words in [
-        ["vervainfile"].as_slice(),
-        ["vervainfile", "run", "short.desk", "f=short.bin"].as_slice(),
-        ["vervainfile", "run", "--pages", "8", "-"].as_slice(),
-        ["vervainfile", "check", "short.bin"].as_slice(),
-        ["vervainfile", "check", "lost.bin"].as_slice(),
-        [
-            "vervainfile",
-            "run",
-            "short.desk",
-            "f=short.bin",
-            "f=short.bin",
-        ]
-        .as_slice(),
-        ["vervainfile", "run", "--pages", "7", "-"].as_slice(),
-        ["vervainfile", "walk"].as_slice(),
-        ["vervainfile", "--help"].as_slice(),
+    for (words, output, errors, status) in [
+        (["vervainfile"].as_slice(), AREAS_OF_64, "", 0),
+        (
+            ["vervainfile", "run", "--pages", "8", "-"].as_slice(),
+            AREAS_OF_8,
+            "",
+            0,
+        ),
+        (
+            ["vervainfile", "run", "short.desk", "f=short.bin"].as_slice(),
+            "ok 1\nok &9008\nok 5 68656c6c6f\n",
+            "",
+            0,
+        ),
+        (
+            ["vervainfile", "check", "short.bin"].as_slice(),
+            "bad BadDescriptor\n",
+            "",
+            1,
+        ),
+        (
+            ["vervainfile", "check", "lost.bin"].as_slice(),
+            "",
+            "rh_desk: file lost.bin\n",
+            3,
+        ),
+        (
+            ["vervainfile", "run", "short.desk", "f=x", "f=x"].as_slice(),
+            "",
+            "rh_desk: bad file word f=x\n",
+            2,
+        ),
     ] {
-        try_program(&rt, words)?;
+        try_program(&rt, words, &ending(output, errors, status))?;
     }
     fs::remove_file(&rt, "short.desk")?;
     fs::remove_file(&rt, "short.bin")?;
+    Ok(())
+}
+
+/// What `clap` says of a subcommand that there isn't.
+const NO_SUBCOMMAND: &str = "\
+error: unrecognized subcommand 'walk'
+
+Usage: vervainfile run [--pages N] SCRIPT [NAME=PATH ...]
+       vervainfile check FILE
+       vervainfile                 (with no words: the script on standard input, over 64 pages)
+
+For more information, try '--help'.
+";
+
+/// What it says of a number below the range.
+const TOO_FEW_PAGES: &str = "\
+error: invalid value '7' for '--pages <N>': 7 is not in 8..=1024
+
+For more information, try '--help'.
+";
+
+/// Its help on the program.
+const HELP: &str = "\
+The memory of a desktop, shared by its tasks
+
+Usage: vervainfile run [--pages N] SCRIPT [NAME=PATH ...]
+       vervainfile check FILE
+       vervainfile                 (with no words: the script on standard input, over 64 pages)
+
+Commands:
+  run    Run a script and print its replies
+  check  Say whether the bytes of a file are a heap, and what it consists of
+  help   Print this message or the help of the given subcommand(s)
+
+Options:
+  -h, --help     Print help
+  -V, --version  Print version
+
+With no words at all the script on standard input is run, over 64 pages and without files.
+
+Example:
+  vervainfile run --pages 8 hello.desk picture=logo.spr
+
+Exit status:
+  0  each line was good, or the bytes are a heap
+  1  a line was bad, or the bytes are no heap
+  2  the words are wrong
+  3  a file, read, write, length or memory fault
+";
+
+#[test]
+fn help_and_wrong_words_are_refused_memory_in_turn(rt: HostRuntime) -> Result<(), Fail> {
+    for (words, output, errors, status) in [
+        (["vervainfile", "walk"].as_slice(), "", NO_SUBCOMMAND, 2),
+        (
+            ["vervainfile", "run", "--pages", "7", "-"].as_slice(),
+            "",
+            TOO_FEW_PAGES,
+            2,
+        ),
+        (["vervainfile", "--help"].as_slice(), HELP, "", 0),
+    ] {
+        try_program(&rt, words, &ending(output, errors, status))?;
+    }
     Ok(())
 }

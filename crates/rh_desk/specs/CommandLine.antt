@@ -1,18 +1,17 @@
 -- What the program's words may be: `run [--pages N] SCRIPT [NAME=PATH ...]`, and `check FILE`.
 use Rattle.std.specs.Prelude.{Some, codes, pos, true}
-use Rattle.rh_defs.specs.declared.sizes.TheConstants.{MAX_PAGES, MIN_PAGES}
 use Rattle.clap.specs.Lexer.{usize_max}
 use Rattle.clap.specs.Simple.{App, new_app, new_rule, on_top, with_rule, with_subcommand}
 use Rattle.clap.specs.Walk.{Rule, Text}
 use Rattle.clap.specs.declared.builder.action.ArgAction.TheVariants.{Append, Set}
 use Rattle.clap.specs.declared.builder.value_parser.ValueParser.TheVariants.{Signed}
 
--- `--pages N`, in its range
+-- `--pages N`, of 8 to 1,024
 abbrev pub pages_rule : Rule
 pages_rule = record (new_rule (codes "pages")) {
   long = Some (codes "pages");
   value_names = 1;
-  parser = Some (Signed (pos MIN_PAGES) (pos MAX_PAGES));
+  parser = Some (Signed (pos 8) (pos 1024));
 }
 
 -- one word that has to be there

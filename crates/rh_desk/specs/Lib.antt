@@ -1,4 +1,5 @@
 pub mod CommandLine
+pub mod Done
 pub mod Ending
 pub mod FileWords
 pub mod Requests

@@ -2,13 +2,12 @@
 use Rattle.std.specs.Prelude.{◌≡◌, ◌≢◌, ◌<◌, ◌^◌, ℕ, List, [], map, codes, Option, Some, None, unwrap_or}
 use Rattle.std.specs.Str.Parse.{IsNumeral, digits_value, without_leading_plus}
 use Rattle.clap.specs.Words.{Row, Text, all_of, first_of, one_of}
-use Rattle.rh_desk.specs.declared.command_line.TheConstants.{PAGES}
 use Rattle.rh_desk.specs.declared.request.Request.{Request}
 use Rattle.rh_desk.specs.declared.request.Request.TheVariants.{Check, Run}
 
 -- the number that is given, and else 64
 abbrev pub AsksPages : Option Text → ℕ → Type 0
-AsksPages None pages = pages ≡ PAGES
+AsksPages None pages = pages ≡ 64
 AsksPages (Some text) pages =
     let digits = without_leading_plus text in
     IsNumeral 10 digits → digits_value 10 digits < 2 ^ 32 → pages ≡ digits_value 10 digits
@@ -22,3 +21,7 @@ AsksFor (Some (name, rows)) (Run request) =
     × AsksPages (one_of (codes "pages") rows) request.pages
     × (first_of (codes "script") rows ≡ Some request.script.now)
     × (map (λ word. word.now) request.files.now ≡ unwrap_or (all_of (codes "files") rows) [])
+
+-- there is nothing that they ask for
+abbrev pub AsksNothing : Option (Text × List Row) → Type 0
+AsksNothing found = (request : Request) → AsksFor found request → ⊥

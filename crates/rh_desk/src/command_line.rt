@@ -3,7 +3,7 @@
 ghost use Rattle.std.specs.Prelude.{◌≡◌, IfOk, IfSome, map, string_bytes};
 ghost use Rattle.clap.specs.Words.{FailsBy, app_of, fault_of, subcommand_of, subcommand_rows_of};
 ghost use Rattle.rh_desk.specs.CommandLine.{check_words, program_words, run_words};
-ghost use Rattle.rh_desk.specs.Requests.{AsksFor};
+ghost use Rattle.rh_desk.specs.Requests.{AsksFor, AsksNothing};
 
 use crate::request::{Request, RunRequest};
 use clap::{Arg, ArgAction, ArgMatches, Command, Error, value_parser};
@@ -34,7 +34,8 @@ Exit status:
 
 /// What was asked for. `clap` let through nothing else, which its types don't say.
 pub fn request_of<'m, 'a>(matches: &'m ArgMatches<'a>) -> Option<Request<'m, 'a>>
-    ensures { IfSome result (AsksFor (subcommand_rows_of matches.now)) }
+    ensures asked { IfSome result (AsksFor (subcommand_rows_of matches.now)) }
+    ensures none { result ≡ None → AsksNothing (subcommand_rows_of matches.now) }
 {
     let (name, found) = matches.subcommand()?;
     if name == "check" {

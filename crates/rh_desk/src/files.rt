@@ -1,7 +1,8 @@
 //! The files that a run is given, and the one that is checked.
 
-ghost use Rattle.std.specs.Prelude.{◌≡◌, ◌⊎◌, ◌≤◌, ℕ, List, IfOk, IfErr, map, vec_len};
+ghost use Rattle.std.specs.Prelude.{◌≡◌, ◌⊎◌, ◌≤◌, ◌+◌, ◌++◌, ℕ, List, All, IfOk, IfErr, IfSome, map, take, vec_len, vec_items};
 ghost use Rattle.std.specs.Option.{option_map};
+ghost use Rattle.rh_desk.specs.Done.{IsWhole};
 ghost use Rattle.rh_desk.specs.Ending.{exit_status};
 ghost use Rattle.rh_desk.specs.FileWords.{AreGood, IsFirstBad, TellsBadFile, TellsBadWord, file_word, word_name};
 ghost use Rattle.rh_desk.specs.Telling.{Tells, lost_file_text, run_fault_text};
@@ -51,6 +52,7 @@ pub fn read_files<R: rt::Files, E: Sink>(
 ) -> Result<Files, Ending>
     ensures status { IfErr result (λ ending. 2 ≤ exit_status ending) }
     ensures named { IfOk result (λ files. map (λ file. file.0) files ≡ map (λ word. word_name word.now) words.now) }
+    ensures whole { IfOk result (λ files. All (λ file. IsWhole R.File.remaining file.1) files) }
     ensures wrong { IfErr result (λ ending. ending ≡ Ending.WrongWords → (word : List ℕ) × IsFirstBad (map (λ word. word.now) words.now) word) }
     ensures quiet { IfOk result (λ _. E.output errors.new ≡ E.output errors.old) }
     ensures told { IfErr result (TellsBadFile (E.output errors.old) (E.output errors.new) (map (λ word. word.now) words.now)) }
@@ -90,7 +92,8 @@ pub fn read_whole<R: rt::Files, E: Sink>(
     path: &str,
     errors: &mut E,
 ) -> Result<Vec<u8>, Ending>
-    ensures ok { IfOk result (λ bytes. vec_len bytes ≤ LONGEST_FILE) }
+    ensures ok { IfOk result (λ bytes. vec_len bytes ≤ 1048576) }
+    ensures whole { IfOk result (λ bytes. IsWhole R.File.remaining (vec_items bytes)) }
     ensures err { IfErr result (λ ending. ending ≡ Ending.Fault) }
     ensures told { IfErr result (λ ending. Tells (E.output errors.old) (E.output errors.new) (lost_file_text path.now)
         ⊎ Tells (E.output errors.old) (E.output errors.new) (run_fault_text RunFault.NoMemory)) }
@@ -107,7 +110,10 @@ pub fn read_whole<R: rt::Files, E: Sink>(
 }
 
 /// Reads a file up to one byte more than it may have.
-fn read_into<R: rt::Files>(runtime: &R, path: &str, bytes: &mut Vec<u8>) -> io::Result<()> {
+fn read_into<R: rt::Files>(runtime: &R, path: &str, bytes: &mut Vec<u8>) -> io::Result<()>
+    ensures { IfOk result (λ _. (file : R.File) × IfSome (R.File.remaining file)
+        (λ had. vec_items bytes.new ≡ vec_items bytes.old ++ take 1048577 had)) }
+{
     let file = File::open(runtime, path)?;
     file.take(LONGEST_FILE as u64 + 1).read_to_end(bytes)?;
     Ok(())

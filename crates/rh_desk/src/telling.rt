@@ -58,7 +58,8 @@ pub fn told<O: Sink, E: Sink>(
     ensures quiet { result ≡ Ending.Clean → E.output errors.new ≡ E.output errors.old }
     ensures fault { result ≡ Ending.Fault →
         (Tells (E.output errors.old) (E.output errors.new) (run_fault_text RunFault.NoMemory) × (O.output output.new ≡ O.output output.old))
-        ⊎ (Tells (E.output errors.old) (E.output errors.new) (run_fault_text RunFault.WriteFailed) × ((O.output output.new).failed ≡ true)) }
+        ⊎ (Tells (E.output errors.old) (E.output errors.new) (run_fault_text RunFault.WriteFailed) × ((O.output output.new).failed ≡ true)
+        × ((kind_of error.now ≡ ErrorKind.DisplayHelp) ⊎ (kind_of error.now ≡ ErrorKind.DisplayVersion))) }
 {
     let text = match error.to_string(alloc) {
         Ok(text) if error.kind() != ErrorKind::OutOfMemory => text,

@@ -1,9 +1,11 @@
 //! What the program does with its words.
 
-ghost use Rattle.std.specs.Prelude.{◌≡◌, ◌≢◌, ◌≤◌, [], codes, length};
+ghost use Rattle.std.specs.Prelude.{◌≡◌, ◌≢◌, ◌≤◌, ◌<◌, [], codes, length, map, string_bytes};
 ghost use Rattle.rh_defs.specs.Runs.{start};
+ghost use Rattle.rh_desk.specs.Done.{CheckEnds, RunEnds, RunOver, WordsEnd, streams};
 ghost use Rattle.rh_desk.specs.Ending.{ending_of, exit_status};
 ghost use Rattle.rh_desk.specs.Telling.{Tells, run_fault_text};
+ghost use Rattle.rh_lines.specs.Flow.{Input};
 ghost use Rattle.rh_session.specs.Outcome.{Finished};
 ghost use Rattle.std.specs.IoError.{error_kind};
 ghost use Rattle.std.specs.declared.io.ErrorKind.TheVariants.{OutOfMemory};
@@ -45,6 +47,12 @@ pub fn program<R: rt::Files, I: Source, O: Sink, E: Sink>(
     // With no words but its name, a run of the input over 64 pages that came to its end; nothing is told of it.
     ensures ran { length words.now ≤ 1 → (status : Status) → result ≡ exit_status (ending_of (Ok status)) → Finished (start 64 []) (I.input input.old) (I.input input.new) (O.output output.old) (O.output output.new) status }
     ensures quiet { length words.now ≤ 1 → result ≤ 1 → E.output errors.new ≡ E.output errors.old }
+
+    // It ends as a run over 64 pages without files does, and with more words as what they ask for does.
+    ensures alone { length words.now ≤ 1 → (ending : Ending) × (result ≡ exit_status ending)
+        × RunOver (start 64 []) (streams (I.input input.old) (I.input input.new) (O.output output.old) (O.output output.new) (E.output errors.old) (E.output errors.new)) ending }
+    ensures asked { 1 < length words.now → (ending : Ending) × (result ≡ exit_status ending)
+        × WordsEnd R.File.remaining (map string_bytes words.now) (streams (I.input input.old) (I.input input.new) (O.output output.old) (O.output output.new) (E.output errors.old) (E.output errors.new)) ending }
 {
     let ending = if words.len() <= 1 {
         run_told(alloc, Files::new(alloc), PAGES, input, output, errors)
@@ -92,6 +100,8 @@ fn run_told<I: Source, O: Sink, E: Sink>(
     ensures well { exit_status result ≤ 1 → (O.output output.new).failed ≡ (O.output output.old).failed }
     ensures run { result ≡ Ending.WrongWords → ⊥ }
     ensures quiet { exit_status result ≤ 1 → E.output errors.new ≡ E.output errors.old }
+    ensures over { RunOver (start pages files)
+        (streams (I.input script.old) (I.input script.new) (O.output output.old) (O.output output.new) (E.output errors.old) (E.output errors.new)) result }
 {
     ended(run(alloc, files, script, output, pages), errors)
 }
@@ -107,6 +117,8 @@ fn run_words<R: rt::Files, I: Source, O: Sink, E: Sink>(
     requires { (I.input input.old).reads ≡ 0 }
     ensures well { exit_status result ≤ 1 → (O.output output.new).failed ≡ (O.output output.old).failed }
     ensures wrong { result ≡ Ending.WrongWords → O.output output.new ≡ O.output output.old }
+    ensures ends { WordsEnd R.File.remaining (map string_bytes words.now)
+        (streams (I.input input.old) (I.input input.new) (O.output output.old) (O.output output.new) (E.output errors.old) (E.output errors.new)) result }
 {
     let matches = match parsed(alloc, words) {
         Ok(matches) => matches,
@@ -133,6 +145,8 @@ fn run_request<R: rt::Files, I: Source, O: Sink, E: Sink>(
     requires { (I.input input.old).reads ≡ 0 }
     ensures well { exit_status result ≤ 1 → (O.output output.new).failed ≡ (O.output output.old).failed }
     ensures wrong { result ≡ Ending.WrongWords → O.output output.new ≡ O.output output.old }
+    ensures ends { RunEnds R.File.remaining request.now.pages request.now.script.now (map (λ word. word.now) request.now.files.now)
+        (streams (I.input input.old) (I.input input.new) (O.output output.old) (O.output output.new) (E.output errors.old) (E.output errors.new)) result }
 {
     if let Err(ending) = check_words(alloc, request.files, errors) {
         return ending;
@@ -166,6 +180,8 @@ fn check_file<R: rt::Files, O: Sink, E: Sink>(
 ) -> Ending
     ensures well { exit_status result ≤ 1 → (O.output output.new).failed ≡ (O.output output.old).failed }
     ensures run { result ≡ Ending.WrongWords → ⊥ }
+    ensures ends { (before : Input) → CheckEnds R.File.remaining path.now
+        (streams before before (O.output output.old) (O.output output.new) (E.output errors.old) (E.output errors.new)) result }
 {
     match read_whole(runtime, alloc, path, errors) {
         Ok(bytes) => ended(check_image(bytes.as_slice(), output), errors),

@@ -1,6 +1,12 @@
-use Rattle.std.proofs.Common.{inr, refl}
+use Rattle.std.proofs.Common.{◌≤◌, ◌∙◌, inr, refl, subst}
 use Rattle.rh_session.specs.declared.status.RunFault.TheVariants.{NoMemory}
+use Rattle.rh_desk.proofs.DoneLemmas.{whole-is}
+use Rattle.rh_desk.specs.declared.files.TheConstants.{LONGEST_FILE}
 use Rattle.rh_desk.proofs.files.read_whole.Goals as goal
 
 pub returns-in-Err-clause-told : goal.returns-in-Err-clause-told
 returns-in-Err-clause-told g c = inr (c.ended.ensures.told NoMemory refl)
+
+pub returns-in-Ok-clause-whole : goal.returns-in-Ok-clause-whole
+returns-in-Ok-clause-whole g c =
+    whole-is g.R.File.Read.remaining _ _ c.new-bytes.ensures.items (subst (λ n. n ≤ LONGEST_FILE) (c.len.ensures ∙ c.read_into.new.bytes.ok.0) c.if-len-le-LONGEST_FILE.true) c.in-Ok.ensures

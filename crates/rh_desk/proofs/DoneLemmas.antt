@@ -1,0 +1,155 @@
+-- How a run, a check and the words end, from what their calls say.
+use Rattle.std.proofs.Common.{◌≡◌, ◌≢◌, ◌⊎◌, inl, inr, refl, sym, ap, subst, ◌∙◌, ℕ, ◌+◌, ◌≤◌, min, arith, true, false, Bool, Bor, List, [], ◌∷◌, ◌++◌, length, map, take, codes, Option, Some, None, Result, Ok, Err, IfOk, IfErr, IfSome, option_map}
+use Rattle.std.proofs.lemmas.List.{length-take, take_all}
+use Rattle.std.specs.Prelude.{All, IsErrOf}
+use Rattle.std.specs.Io.Take.{take_inner, take_limit, take_remaining}
+use Rattle.std.specs.declared.io.traits.Take.{Take}
+use Rattle.rh_defs.specs.Desk.{Desk}
+use Rattle.rh_defs.specs.Files.{FileList}
+use Rattle.rh_defs.specs.Runs.{start}
+use Rattle.rh_run.specs.Checked.{image_line, image_status}
+use Rattle.rh_lines.specs.Flow.{Breaks, Input, Takes}
+use Rattle.rh_session.specs.Outcome.{Answered, Finished, BrokeOff}
+use Rattle.rh_session.specs.declared.status.RunFault.{RunFault}
+use Rattle.rh_session.specs.declared.status.RunFault.TheVariants.{NoMemory, ReadFailed, WriteFailed, TooLong}
+use Rattle.rh_session.specs.declared.status.Status.{Status}
+use Rattle.rh_session.specs.declared.status.Status.TheVariants as status
+use Rattle.clap.specs.Words.{Row, Text, fault_of, subcommand_of}
+use Rattle.clap.specs.declared.error.kind.ErrorKind.{ErrorKind}
+use Rattle.clap.specs.declared.error.kind.ErrorKind.TheVariants as kind
+use Rattle.rh_desk.specs.CommandLine.{program_words}
+use Rattle.rh_desk.specs.Done.{CheckOver, ErrorEnds, FileOver, IsWhole, RequestEnds, RunEnds, RunOver, Streams, Untouched, WordsEnd}
+use Rattle.rh_desk.specs.Ending.{ending_of, exit_status}
+use Rattle.rh_desk.specs.FileWords.{AreGood, TellsBadFile, word_name}
+use Rattle.rh_desk.specs.Requests.{AsksFor, AsksNothing}
+use Rattle.rh_desk.specs.declared.ending.Ending.{Ending}
+use Rattle.rh_desk.specs.declared.ending.Ending.TheVariants.{Clean, BadLines, WrongWords, Fault}
+use Rattle.rh_desk.specs.declared.request.Request.{Request}
+use Rattle.rh_desk.specs.Telling.{Tells, run_fault_text}
+
+cut : (n : ℕ) (known : Option (List ℕ)) (old new : List ℕ) → IfSome (option_map (take n) known) (λ xs. new ≡ old ++ xs) → IfSome known (λ had. new ≡ old ++ take n had)
+cut n None old new is = is
+cut n (Some had) old new is = is
+
+-- what was read of a file through a reader that stops at a limit
+pub cut-file : {F : Type 0} (remaining : F → Option (List ℕ)) (t : Take F) (file : F) (limit : ℕ) (old new : List ℕ) → take_limit t ≡ limit → take_inner t ≡ file
+    → IfSome (take_remaining remaining t) (λ xs. new ≡ old ++ xs) → IfSome (remaining file) (λ had. new ≡ old ++ take limit had)
+cut-file remaining t file limit old new at of is =
+    subst (λ f. IfSome (remaining f) (λ had. new ≡ old ++ take limit had)) of
+    (subst (λ n. IfSome (remaining (take_inner t)) (λ had. new ≡ old ++ take n had)) at (cut (take_limit t) (remaining (take_inner t)) old new is))
+
+whole-of : (most : ℕ) (had : Option (List ℕ)) (bytes : List ℕ) → length bytes ≤ most → IfSome had (λ xs. bytes ≡ [] ++ take (most + 1) xs) → IfSome had (λ xs. bytes ≡ xs)
+whole-of most None bytes small is = is
+whole-of most (Some xs) bytes small is =
+    let size : length bytes ≡ min (most + 1) (length xs) = ap length is ∙ length-take (most + 1) xs in
+    let short : length xs ≤ most + 1 = omega arith in
+    is ∙ take_all (most + 1) xs short
+
+-- bytes that are no more than a file may have are all that it had
+pub whole-is : {F : Type 0} (remaining : F → Option (List ℕ)) (old bytes : List ℕ) → old ≡ [] → length bytes ≤ 1048576
+    → ((file : F) × IfSome (remaining file) (λ had. bytes ≡ old ++ take 1048577 had)) → IsWhole remaining bytes
+whole-is remaining old bytes none small found = (
+  small,
+  (
+    found.0,
+    whole-of 1048576 (remaining found.0) bytes small (subst (λ l. IfSome (remaining found.0) (λ had. bytes ≡ l ++ take 1048577 had)) none found.1),
+  ),
+)
+
+-- how a run ends the program
+pub run-over : (d : Desk) (s : Streams) (outcome : Result Status RunFault) → IfOk outcome (λ status. Finished d s.before s.after s.old s.new status)
+    → (IsErrOf outcome NoMemory → (s.after ≡ s.before) × (s.new ≡ s.old))
+    → (IsErrOf outcome ReadFailed → s.after.failed ≡ true)
+    → (IsErrOf outcome ReadFailed → Answered d s.before s.after s.old s.new)
+    → (IsErrOf outcome TooLong → (s.after.reads ≡ 1000000) × (s.after.failed ≡ s.before.failed))
+    → (IsErrOf outcome TooLong → Answered d s.before s.after s.old s.new)
+    → (IsErrOf outcome WriteFailed → BrokeOff d s.before s.old s.new)
+    → ((status : Status) → outcome ≡ Ok status → s.told ≡ s.quiet)
+    → ((fault : RunFault) → outcome ≡ Err fault → Tells s.quiet s.told (run_fault_text fault))
+    → RunOver d s (ending_of outcome)
+run-over d s (Ok status.Clean) ok memory read answered long so_far broke quiet told = (ok, quiet status.Clean refl)
+run-over d s (Ok status.BadLines) ok memory read answered long so_far broke quiet told = (ok, quiet status.BadLines refl)
+run-over d s (Err NoMemory) ok memory read answered long so_far broke quiet told = (NoMemory, memory refl, told NoMemory refl)
+run-over d s (Err ReadFailed) ok memory read answered long so_far broke quiet told = (ReadFailed, (read refl, answered refl), told ReadFailed refl)
+run-over d s (Err TooLong) ok memory read answered long so_far broke quiet told = (TooLong, ((long refl).0, (long refl).1, so_far refl), told TooLong refl)
+run-over d s (Err WriteFailed) ok memory read answered long so_far broke quiet told = (WriteFailed, broke refl, told WriteFailed refl)
+
+check-ends : (bytes : List ℕ) (s : Streams) (outcome : Result Status RunFault)
+    → IfOk outcome (λ status. Takes s.old s.new (image_line bytes))
+    → IfOk outcome (λ status. status ≡ image_status bytes)
+    → IfErr outcome (λ fault. (fault ≡ WriteFailed) × Breaks s.old s.new (image_line bytes))
+    → ((status : Status) → outcome ≡ Ok status → s.told ≡ s.quiet)
+    → ((fault : RunFault) → outcome ≡ Err fault → Tells s.quiet s.told (run_fault_text fault))
+    → CheckOver bytes s (ending_of outcome)
+check-ends bytes s (Ok status.Clean) takes is broke quiet told = (sym is, takes, quiet status.Clean refl)
+check-ends bytes s (Ok status.BadLines) takes is broke quiet told = (sym is, takes, quiet status.BadLines refl)
+check-ends bytes s (Err fault) takes is broke quiet told = (broke.1, subst (λ f. Tells s.quiet s.told (run_fault_text f)) broke.0 (told fault refl))
+
+-- how a check of bytes ends the program
+pub check-over : (image bytes : List ℕ) (s : Streams) (outcome : Result Status RunFault) → image ≡ bytes
+    → IfOk outcome (λ status. Takes s.old s.new (image_line image))
+    → IfOk outcome (λ status. status ≡ image_status image)
+    → IfErr outcome (λ fault. (fault ≡ WriteFailed) × Breaks s.old s.new (image_line image))
+    → ((status : Status) → outcome ≡ Ok status → s.told ≡ s.quiet)
+    → ((fault : RunFault) → outcome ≡ Err fault → Tells s.quiet s.told (run_fault_text fault))
+    → CheckOver bytes s (ending_of outcome)
+check-over image bytes s outcome same takes is broke quiet told = subst (λ b. CheckOver b s (ending_of outcome)) same (check-ends image s outcome takes is broke quiet told)
+
+-- what stops a run before its script
+pub files-fail : {F : Type 0} (remaining : F → Option (List ℕ)) (pages : ℕ) (script : List ℕ) (words : List (List ℕ)) (s : Streams) (ending : Ending) → AreGood words
+    → Untouched s → TellsBadFile s.quiet s.told words ending → RunEnds remaining pages script words s ending
+files-fail remaining pages script words s ending good still (inl bad) = inr (still, inl bad)
+files-fail remaining pages script words s ending good still (inr lost) = inr (still, inr (good, lost))
+
+names-of : (ws : List (Bor (List ℕ))) → map (λ w. word_name w.now) ws ≡ map word_name (map (λ w. w.now) ws)
+names-of [] = refl
+names-of (w ∷ ws) = ap (λ ns. word_name w.now ∷ ns) (names-of ws)
+
+-- a script over the files of good words
+pub script-over : {F : Type 0} (remaining : F → Option (List ℕ)) (pages : ℕ) (script : List ℕ) (ws : List (Bor (List ℕ))) (files : FileList) (s : Streams) (ending : Ending)
+    → AreGood (map (λ w. w.now) ws) → map (λ file. file.0) files ≡ map (λ w. word_name w.now) ws → All (λ file. IsWhole remaining file.1) files
+    → (script ≡ codes "-" → RunOver (start pages files) s ending) → (script ≢ codes "-" → FileOver remaining (start pages files) script s ending)
+    → RunEnds remaining pages script (map (λ w. w.now) ws) s ending
+script-over remaining pages script ws files s ending good named whole from_input from_file =
+    inl (record { files = files; good = good; named = named ∙ names-of ws; whole = whole; from_input = from_input; from_file = from_file })
+
+abbrev noted : {F : Type 0} → (F → Option (List ℕ)) → F → Bool → ℕ → Input → Streams → Streams
+noted remaining inner failed reads rest s = record s { before = record { left = remaining inner; failed = failed; reads = reads }; after = rest }
+
+-- a file of which nothing is noted yet
+pub file-over : {F : Type 0} (remaining : F → Option (List ℕ)) (d : Desk) (path : List ℕ) (s : Streams) (ending : Ending) (file inner : F) (failed : Bool) (reads : ℕ) (rest : Input)
+    → inner ≡ file → failed ≡ false → reads ≡ 0 → s.after ≡ s.before → RunOver d (noted remaining inner failed reads rest s) ending
+    → FileOver remaining d path s ending
+file-over remaining d path s ending file inner failed reads rest of well none same over =
+    let counted = subst (λ n. RunOver d (noted remaining inner failed n rest s) ending) none over in
+    let flagged = subst (λ b. RunOver d (noted remaining inner b 0 rest s) ending) well counted in
+    inl (same, (file, rest, subst (λ f. RunOver d (noted remaining f false 0 rest s) ending) of flagged))
+
+-- how an error in the words ends the program
+pub error-ends : (k : ErrorKind) (s : Streams) (ending : Ending) → (ending ≡ BadLines → ⊥)
+    → (k ≡ kind.OutOfMemory → ending ≡ Fault)
+    → (ending ≡ Clean → (k ≡ kind.DisplayHelp) ⊎ (k ≡ kind.DisplayVersion))
+    → (ending ≡ WrongWords → (k ≢ kind.DisplayHelp) × (k ≢ kind.DisplayVersion))
+    → (exit_status ending ≤ 1 → s.new.failed ≡ s.old.failed)
+    → (ending ≡ WrongWords → s.new ≡ s.old)
+    → (ending ≡ Clean → s.told ≡ s.quiet)
+    → (ending ≡ Fault → (Tells s.quiet s.told (run_fault_text NoMemory) × (s.new ≡ s.old))
+    ⊎ (Tells s.quiet s.told (run_fault_text WriteFailed) × (s.new.failed ≡ true) × ((k ≡ kind.DisplayHelp) ⊎ (k ≡ kind.DisplayVersion))))
+    → ErrorEnds k s ending
+error-ends k s Clean ran memory shown mistake well wrong quiet fault = (shown refl, well (omega arith), quiet refl)
+error-ends k s BadLines ran memory shown mistake well wrong quiet fault = ran refl
+error-ends k s WrongWords ran memory shown mistake well wrong quiet fault =
+    ((mistake refl).0, (mistake refl).1, (λ none. let other = memory none in cc), wrong refl)
+error-ends k s Fault ran memory shown mistake well wrong quiet fault = fault refl
+
+-- the words are `clap`'s, and ask for this
+pub words-ask : {F : Type 0} (remaining : F → Option (List ℕ)) (words : List (List ℕ)) (found : Option (Text × List Row)) (request : Request) (s : Streams) (ending : Ending)
+    → found ≡ subcommand_of program_words words → fault_of program_words words ≡ [] → AsksFor found request → RequestEnds remaining request s ending
+    → WordsEnd remaining words s ending
+words-ask remaining words found request s ending is none asks ends = inl (none, (request, subst (λ f. AsksFor f request) is asks, ends))
+
+-- they are, and ask for nothing
+pub words-rest : {F : Type 0} (remaining : F → Option (List ℕ)) (words : List (List ℕ)) (found : Option (Text × List Row)) (s : Streams) (ending : Ending)
+    → found ≡ subcommand_of program_words words → fault_of program_words words ≡ [] → AsksNothing found → ending ≡ WrongWords → Untouched s → s.told ≡ s.quiet
+    → WordsEnd remaining words s ending
+words-rest remaining words found s ending is none nothing wrong still quiet = inr (inr (none, subst AsksNothing is nothing, wrong, still, quiet))

@@ -1,0 +1,17 @@
+use Rattle.std.proofs.Common.{inl, inr, refl, vec_items}
+use Rattle.rh_desk.specs.Done.{streams}
+use Rattle.rh_desk.proofs.DoneLemmas.{check-over}
+use Rattle.rh_desk.proofs.words.check_file.Goals as goal
+
+pub returns-in-Ok-clause-ends : goal.returns-in-Ok-clause-ends
+returns-in-Ok-clause-ends g c = λ before.
+    rw (c.ended.ensures.ending, ← c.in-Ok.ensures.quiet)
+    (inl (
+      vec_items c.in-Ok.bytes,
+      c.in-Ok.ensures.whole,
+      check-over c.as_slice.result.now (vec_items c.in-Ok.bytes) (streams before before _ _ _ _) c.check_image.result c.as_slice.ensures.value c.check_image.ensures.ok c.check_image.ensures.status c.check_image.ensures.err
+          c.ended.ensures.quiet c.ended.ensures.told,
+    ))
+
+pub returns-in-Err-clause-ends : goal.returns-in-Err-clause-ends
+returns-in-Err-clause-ends g c = λ before. inr (refl, c.in-Err.ensures.err, c.in-Err.ensures.told)

@@ -1,0 +1,137 @@
+-- What the program has read, written and told when it did what its words ask for.
+use Rattle.std.specs.Prelude.{◌≡◌, ◌≢◌, ◌⊎◌, ◌≤◌, ℕ, List, [], map, codes, length, true, false, All, Contains, Option, IfSome}
+use Rattle.clap.specs.Words.{HasKind, fault_of, kind_of, subcommand_of}
+use Rattle.clap.specs.declared.error.Error.{Error}
+use Rattle.clap.specs.declared.error.kind.ErrorKind.{ErrorKind}
+use Rattle.clap.specs.declared.error.kind.ErrorKind.TheVariants as kind
+use Rattle.rh_defs.specs.Desk.{Desk}
+use Rattle.rh_defs.specs.Files.{FileList}
+use Rattle.rh_defs.specs.Runs.{start}
+use Rattle.rh_lines.specs.Flow.{Input, Output, Takes, Breaks}
+use Rattle.rh_run.specs.Checked.{image_line, image_status}
+use Rattle.rh_session.specs.Outcome.{Answered, Finished, BrokeOff}
+use Rattle.rh_session.specs.declared.status.RunFault.{RunFault}
+use Rattle.rh_session.specs.declared.status.RunFault.TheVariants.{NoMemory, ReadFailed, WriteFailed, TooLong}
+use Rattle.rh_session.specs.declared.status.Status.TheVariants as status
+use Rattle.rh_desk.specs.CommandLine.{program_words}
+use Rattle.rh_desk.specs.FileWords.{AreGood, TellsBadWord, word_name, word_path}
+use Rattle.rh_desk.specs.Requests.{AsksFor, AsksNothing}
+use Rattle.rh_desk.specs.Telling.{Tells, lost_file_text, run_fault_text}
+use Rattle.rh_desk.specs.declared.ending.Ending.{Ending}
+use Rattle.rh_desk.specs.declared.ending.Ending.TheVariants.{Clean, BadLines, WrongWords, Fault}
+use Rattle.rh_desk.specs.declared.request.Request.{Request}
+use Rattle.rh_desk.specs.declared.request.Request.TheVariants.{Check, Run}
+
+-- the input, the output and the errors before and after: what is read, written and told
+pub record Streams : Type 0 where
+  pub before : Input
+  pub after : Input
+  pub old : Output
+  pub new : Output
+  pub quiet : Output
+  pub told : Output
+
+abbrev pub streams : Input → Input → Output → Output → Output → Output → Streams
+streams before after old new quiet told =
+    record { before = before; after = after; old = old; new = new; quiet = quiet; told = told }
+
+-- nothing was read of the input, or written
+abbrev pub Untouched : Streams → Type 0
+Untouched s = (s.after ≡ s.before) × (s.new ≡ s.old)
+
+-- the bytes are all that some file had, where those are known, and no more than 1 MiB
+abbrev pub IsWhole : {F : Type 0} → (F → Option (List ℕ)) → List ℕ → Type 0
+IsWhole {F} remaining bytes = (length bytes ≤ 1048576) × ((file : F) × IfSome (remaining file) (λ had. bytes ≡ had))
+
+-- what was read and written where a fault stopped a run
+abbrev pub Stopped : Desk → Streams → RunFault → Type 0
+Stopped d s NoMemory = Untouched s
+Stopped d s ReadFailed = (s.after.failed ≡ true) × Answered d s.before s.after s.old s.new
+Stopped d s TooLong =
+    (s.after.reads ≡ 1000000) × (s.after.failed ≡ s.before.failed) × Answered d s.before s.after s.old s.new
+Stopped d s WriteFailed = BrokeOff d s.before s.old s.new
+
+-- how a run over a desk ends: all read and written and nothing told, or stopped by the fault that is told
+abbrev pub RunOver : Desk → Streams → Ending → Type 0
+RunOver d s Clean = Finished d s.before s.after s.old s.new status.Clean × (s.told ≡ s.quiet)
+RunOver d s BadLines = Finished d s.before s.after s.old s.new status.BadLines × (s.told ≡ s.quiet)
+RunOver d s WrongWords = ⊥
+RunOver d s Fault = (fault : RunFault) × Stopped d s fault × Tells s.quiet s.told (run_fault_text fault)
+
+-- the same streams, where some file of which nothing was read stands in the input's place
+abbrev pub instead : Option (List ℕ) → Input → Streams → Streams
+instead left rest s = record s { before = record { left = left; failed = false; reads = 0 }; after = rest }
+
+-- how the script of a file ends: its run, where the input stays, or the lost file, or want of memory, is told
+abbrev pub FileOver : {F : Type 0} → (F → Option (List ℕ)) → Desk → List ℕ → Streams → Ending → Type 0
+FileOver {F} remaining d path s ending =
+    ((s.after ≡ s.before) × ((file : F) × (rest : Input) × RunOver d (instead (remaining file) rest s) ending))
+    ⊎ (Untouched s × (ending ≡ Fault)
+    × (Tells s.quiet s.told (lost_file_text path) ⊎ Tells s.quiet s.told (run_fault_text NoMemory)))
+
+-- how a script over good words and their files ends: `-` is the input, and all else a file's path
+pub record ScriptOver {F : Type 0} (remaining : F → Option (List ℕ)) (pages : ℕ) (script : List ℕ) (words : List (List ℕ)) (s : Streams) (ending : Ending) : Type 0 where
+  pub files : FileList
+  pub good : AreGood words
+  pub named : map (λ file. file.0) files ≡ map word_name words
+  pub whole : All (λ file. IsWhole remaining file.1) files
+  pub from_input : script ≡ codes "-" → RunOver (start pages files) s ending
+  pub from_file : script ≢ codes "-" → FileOver remaining (start pages files) script s ending
+
+-- one of the words' files was lost, and its path told
+abbrev pub TellsLostFile : Output → Output → List (List ℕ) → Ending → Type 0
+TellsLostFile quiet told words ending =
+    (word : List ℕ) × (ending ≡ Fault) × Contains words word × Tells quiet told (lost_file_text (word_path word))
+
+-- how `run` ends: with its script, or before, where the first bad word is told, or want of memory, or of good words a
+-- lost file
+abbrev pub RunEnds : {F : Type 0} → (F → Option (List ℕ)) → ℕ → List ℕ → List (List ℕ) → Streams → Ending → Type 0
+RunEnds remaining pages script words s ending =
+    ScriptOver remaining pages script words s ending
+    ⊎ (Untouched s
+    × (TellsBadWord s.quiet s.told words ending ⊎ (AreGood words × TellsLostFile s.quiet s.told words ending)))
+
+-- how a check of some bytes ends: their line is written, and the status is theirs
+abbrev pub CheckOver : List ℕ → Streams → Ending → Type 0
+CheckOver bytes s Clean =
+    (image_status bytes ≡ status.Clean) × Takes s.old s.new (image_line bytes) × (s.told ≡ s.quiet)
+CheckOver bytes s BadLines =
+    (image_status bytes ≡ status.BadLines) × Takes s.old s.new (image_line bytes) × (s.told ≡ s.quiet)
+CheckOver bytes s WrongWords = ⊥
+CheckOver bytes s Fault =
+    Breaks s.old s.new (image_line bytes) × Tells s.quiet s.told (run_fault_text WriteFailed)
+
+-- how `check` ends: with the line of all bytes of a file, or nothing is written and the lost file, or want of memory, told
+abbrev pub CheckEnds : {F : Type 0} → (F → Option (List ℕ)) → List ℕ → Streams → Ending → Type 0
+CheckEnds remaining path s ending =
+    ((bytes : List ℕ) × IsWhole remaining bytes × CheckOver bytes s ending)
+    ⊎ ((s.new ≡ s.old) × (ending ≡ Fault)
+    × (Tells s.quiet s.told (lost_file_text path) ⊎ Tells s.quiet s.told (run_fault_text NoMemory)))
+
+-- how what is asked for ends
+abbrev pub RequestEnds : {F : Type 0} → (F → Option (List ℕ)) → Request → Streams → Ending → Type 0
+RequestEnds remaining (Run request) s ending =
+    RunEnds remaining request.pages request.script.now (map (λ word. word.now) request.files.now) s ending
+RequestEnds remaining (Check file) s ending = (s.after ≡ s.before) × CheckEnds remaining file.now s ending
+
+-- how an error of some kind in the words ends: help and the version are written, all else is told
+abbrev pub ErrorEnds : ErrorKind → Streams → Ending → Type 0
+ErrorEnds k s Clean =
+    ((k ≡ kind.DisplayHelp) ⊎ (k ≡ kind.DisplayVersion)) × (s.new.failed ≡ s.old.failed) × (s.told ≡ s.quiet)
+ErrorEnds k s BadLines = ⊥
+ErrorEnds k s WrongWords =
+    (k ≢ kind.DisplayHelp) × (k ≢ kind.DisplayVersion) × (k ≢ kind.OutOfMemory) × (s.new ≡ s.old)
+ErrorEnds k s Fault =
+    (Tells s.quiet s.told (run_fault_text NoMemory) × (s.new ≡ s.old))
+    ⊎ (Tells s.quiet s.told (run_fault_text WriteFailed) × (s.new.failed ≡ true)
+    × ((k ≡ kind.DisplayHelp) ⊎ (k ≡ kind.DisplayVersion)))
+
+-- how words end: as what they ask for where `clap` finds no fault in them, or as an error of a kind that it has for
+-- them; or it finds no fault, and yet they ask for nothing, and nothing is done
+abbrev pub WordsEnd : {F : Type 0} → (F → Option (List ℕ)) → List (List ℕ) → Streams → Ending → Type 0
+WordsEnd remaining words s ending =
+    ((fault_of program_words words ≡ [])
+    × ((request : Request) × AsksFor (subcommand_of program_words words) request × RequestEnds remaining request s ending))
+    ⊎ ((s.after ≡ s.before) × ((error : Error) × HasKind (fault_of program_words words) error × ErrorEnds (kind_of error) s ending))
+    ⊎ ((fault_of program_words words ≡ []) × AsksNothing (subcommand_of program_words words)
+    × (ending ≡ WrongWords) × Untouched s × (s.told ≡ s.quiet))
