@@ -19,6 +19,7 @@ use Rattle.rh_module.specs.declared.module.Module.{Module}
 use Rattle.rh_module.specs.Area.{IsModule, SpellsIn, heap_in}
 use Rattle.rh_module.specs.Lengths.{longer, shorter}
 use Rattle.rh_module.proofs.SpanLaws.{span_of, Begins, is_span, heap_there, old_heap, begins_there}
+use Rattle.rh_store.specs.Limits.{pool_limit}
 
 -- ---- longer
 
@@ -32,11 +33,11 @@ pub record MayMove (k : Memory) (rma : Module) (span : Span) (h : Heap) (pages :
   pub within : span.at + moved (spans.heap_in k span).end delta ≤ length (bytes k span.area.0)
   pub high : base (spans.heap_in k span) ≤ moved (spans.heap_in k span).end delta
 
-moved_up : (e pages : ℕ) → pages ≤ 2 ^ 10 → moved e (to_z w32 (pages * 4096)) ≡ e + 4096 * pages
+moved_up : (e pages : ℕ) → pages ≤ pool_limit → moved e (to_z w32 (pages * 4096)) ≡ e + 4096 * pages
 moved_up e pages l = ap (moved e) (to_z_pos w32 (pages * 4096) (omega arith)) ∙ omega arith
 
 -- an area that has grown
-pub grown_may_move : (m k : Memory) (rma : Module) (span : Span) (pages : ℕ) → IsModule m rma → k ≡ grown m rma.area.0 pages → span ≡ span_of rma → pages ≤ 2 ^ 10
+pub grown_may_move : (m k : Memory) (rma : Module) (span : Span) (pages : ℕ) → IsModule m rma → k ≡ grown m rma.area.0 pages → span ≡ span_of rma → pages ≤ pool_limit
     → MayMove k rma span (heap_in m rma) pages (to_z w32 (pages * 4096))
 grown_may_move m k rma span pages s e at l =
     let id = rma.area.0 in

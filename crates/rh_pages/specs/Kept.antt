@@ -1,5 +1,5 @@
 -- Why the laws of `Store` hold of areas that are made of pages.
-use Rattle.std.specs.Prelude.{◌≡◌, ℕ, ◌+◌, ◌*◌, ◌%◌, ◌^◌, ◌<◌, ◌≤◌, Bool, true, false, List, [], ◌∷◌, length, get_or, Some, None, IsSome, cond, unwrap_or, refl}
+use Rattle.std.specs.Prelude.{◌≡◌, ℕ, ◌+◌, ◌*◌, ◌%◌, ◌<◌, ◌≤◌, Bool, true, false, List, [], ◌∷◌, length, get_or, Some, None, IsSome, cond, unwrap_or, refl}
 use Rattle.std.proofs.Common.{inl, inr, sym, ◌∙◌, arith, length-append}
 use Rattle.std.proofs.lemmas.Bool.{cases_lt}
 use Rattle.std.proofs.lemmas.List.{get_or_past}
@@ -8,6 +8,7 @@ use Rattle.rh_defs.specs.Memory.{IsOpen, bytes}
 use Rattle.rh_defs.proofs.BytesLaws.{length-part}
 use Rattle.rh_defs.proofs.MemoryLaws.{pages_below-one}
 use Rattle.rh_pages.specs.Pages.{page, bytes_of, list_at, contents, memory_in, IsStore}
+use Rattle.rh_store.specs.Limits.{area_limit, pool_limit}
 
 pub length-bytes : (region ks : List ℕ) → length (bytes_of region ks) ≡ PAGE * length ks
 length-bytes region [] = refl
@@ -64,9 +65,9 @@ within_pool region lists opened free pages limit id k = elim (cases_lt id limit)
   | inr h ↦ let none = past region lists opened id (let t = k.flags in omega arith) in let sum = k.ledger in omega arith
 ]
 
-pub few_pages : (pages : ℕ) → pages ≤ MAX_PAGES → pages ≤ 2 ^ 10
+pub few_pages : (pages : ℕ) → pages ≤ MAX_PAGES → pages ≤ pool_limit
 few_pages pages few = omega arith
 
 pub small_areas : (region : List ℕ) (lists : List (List ℕ)) (opened : List Bool) (free : List ℕ) (pages limit id : ℕ) → pages ≤ MAX_PAGES → IsStore region lists opened free pages limit
-    → length (bytes (memory_in region lists opened free pages) id) ≤ 2 ^ 22
+    → length (bytes (memory_in region lists opened free pages) id) ≤ area_limit
 small_areas region lists opened free pages limit id few k = let h = within_pool region lists opened free pages limit id k in omega arith

@@ -1,10 +1,11 @@
 -- The memory of a paged store, where its pages stand, and why the laws of `Store` hold of it.
-use Rattle.std.specs.Prelude.{ℕ, ◌+◌, ◌*◌, ◌%◌, ◌^◌, ◌<◌, ◌≤◌, ◌≡◌, length, get_or}
+use Rattle.std.specs.Prelude.{ℕ, ◌+◌, ◌*◌, ◌%◌, ◌<◌, ◌≤◌, ◌≡◌, length, get_or}
 use Rattle.rh_defs.specs.declared.sizes.TheConstants.{MAX_AREAS, PAGE}
 use Rattle.rh_defs.specs.Memory.{Memory, IsOpen, Ledger, bytes}
 use Rattle.rh_pages.specs.declared.paged.PagedStore.{PagedStore}
 use Rattle.rh_pages.specs.Pages.{list_at, memory_in}
 use Rattle.rh_pages.specs.Kept.{whole_areas, within_pool, few_pages, small_areas, numbered_areas}
+use Rattle.rh_store.specs.Limits.{area_limit, pool_limit}
 
 -- what its areas contain, its free pages and all its pages
 unfoldable pub memory_of : PagedStore → Memory
@@ -26,11 +27,11 @@ pub within_law : (s : PagedStore) (id : ℕ) → PAGE * (memory_of s).free + len
 unfolding memory_of
 within_law s id = within_pool s.region s.areas.items s.opened.items s.free s.pages MAX_AREAS id s.kept
 
-pub few_law : (s : PagedStore) → (memory_of s).pages ≤ 2 ^ 10
+pub few_law : (s : PagedStore) → (memory_of s).pages ≤ pool_limit
 unfolding memory_of
 few_law s = few_pages s.pages s.few
 
-pub small_law : (s : PagedStore) (id : ℕ) → length (bytes (memory_of s) id) ≤ 2 ^ 22
+pub small_law : (s : PagedStore) (id : ℕ) → length (bytes (memory_of s) id) ≤ area_limit
 unfolding memory_of
 small_law s id = small_areas s.region s.areas.items s.opened.items s.free s.pages MAX_AREAS id s.few s.kept
 

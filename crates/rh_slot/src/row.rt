@@ -20,7 +20,7 @@ use rh_defs::sizes::{
 };
 use rh_defs::{Anchor, BlockItem};
 use rh_store::bytes::word_in;
-use rh_store::{AreaId, Words};
+use rh_store::{AreaId, Pages, Words};
 
 /// A walk over a slot's flex blocks from below: how many it has passed, and where the next one stands in the slot's
 /// area.
@@ -56,7 +56,7 @@ fn begins<S: Words>(store: &S, area: AreaId, place: usize) -> bool
 #[inline(always)]
 fn item_in(anchors: &[u8], page: &[u8], at: usize, place: usize) -> Option<BlockItem>
     requires anchors { C_HEAP_PLACE ≤ length anchors.now }
-    requires small { place < 2 ^ 30 }
+    requires small { place < 2 ^ 31 }
     requires low { at ≤ place }
     ensures { MatchOption result ((item : BlockItem) → Headed anchors.now page.now at place item → ⊥)
         (Headed anchors.now page.now at place) }
@@ -157,7 +157,7 @@ impl Slot {
     }
 
     /// Passes the flex blocks from a walk's place on whose headers lie whole in that place's page, all of them.
-    fn pass_in_page<S: Words>(self, store: &S, anchors: &[u8], start: FlexWalk) -> FlexWalk
+    fn pass_in_page<S: Pages>(self, store: &S, anchors: &[u8], start: FlexWalk) -> FlexWalk
         requires slot { IsSlot (S.memory store.now) self }
         requires anchors { anchors.now ≡ part (bytes (S.memory store.now) self.area.0) 0 PAGE }
         requires walked { Walked (slot_in (S.memory store.now) self) start.place }
@@ -182,7 +182,7 @@ impl Slot {
     }
 
     /// Where the flex blocks end, from a place to which a walk comes: the number of bytes that the slot takes.
-    pub(crate) fn top_from<S: Words>(self, store: &S, from: usize) -> usize
+    pub(crate) fn top_from<S: Pages>(self, store: &S, from: usize) -> usize
         requires slot { IsSlot (S.memory store.now) self }
         requires walked { Walked (slot_in (S.memory store.now) self) from }
         ensures { result ≡ slot_length (slot_in (S.memory store.now) self) }
@@ -197,7 +197,7 @@ impl Slot {
     }
 
     /// Where the flex blocks end: the number of bytes that the slot takes.
-    pub(crate) fn top<S: Words>(self, store: &S) -> usize
+    pub(crate) fn top<S: Pages>(self, store: &S) -> usize
         requires { IsSlot (S.memory store.now) self }
         ensures { result ≡ slot_length (slot_in (S.memory store.now) self) }
     {
@@ -238,7 +238,7 @@ impl Slot {
     }
 
     /// How many flex blocks the slot has.
-    pub fn count<S: Words>(self, store: &S) -> usize
+    pub fn count<S: Pages>(self, store: &S) -> usize
         requires slot { IsSlot (S.memory store.now) self }
         ensures { result ≡ length (slot_in (S.memory store.now) self).blocks }
     {
@@ -282,7 +282,7 @@ impl Slot {
     }
 
     /// Lists the flex blocks from a walk's place on whose headers lie whole in that place's page, all of them.
-    fn list_in_page<S: Words>(
+    fn list_in_page<S: Pages>(
         self,
         store: &S,
         anchors: &[u8],
@@ -314,7 +314,7 @@ impl Slot {
 
     /// Puts all flex blocks from below into a list, in place of what it held: the anchor, address and size in bytes of
     /// each.
-    pub fn list<S: Words>(self, store: &S, items: &mut ArrayVec<BlockItem, ANCHORS>)
+    pub fn list<S: Pages>(self, store: &S, items: &mut ArrayVec<BlockItem, ANCHORS>)
         requires slot { IsSlot (S.memory store.now) self }
         ensures { items.new.items ≡ block_items (slot_in (S.memory store.now) self) }
     {

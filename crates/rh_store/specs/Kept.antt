@@ -1,5 +1,5 @@
 -- Why the laws of `Store` hold of areas that are kept so.
-use Rattle.std.specs.Prelude.{◌≡◌, ℕ, zero, suc, ◌+◌, ◌*◌, ◌%◌, ◌^◌, ◌<◌, ◌≤◌, Bool, true, false, List, [], ◌∷◌, length, Option, Some, None, IsSome, All, cond, unwrap_or, refl}
+use Rattle.std.specs.Prelude.{◌≡◌, ℕ, zero, suc, ◌+◌, ◌*◌, ◌%◌, ◌<◌, ◌≤◌, Bool, true, false, List, [], ◌∷◌, length, Option, Some, None, IsSome, All, cond, unwrap_or, refl}
 use Rattle.std.proofs.Common.{inl, inr, ap, arith}
 use Rattle.std.proofs.lemmas.Bool.{cases_lt}
 use Rattle.rh_store.specs.declared.area.Area.{Area}
@@ -7,6 +7,7 @@ use Rattle.rh_defs.specs.declared.sizes.TheConstants.{MAX_PAGES, PAGE}
 use Rattle.rh_store.specs.Areas.{contents, memory_in, IsTidy, IsStore}
 use Rattle.rh_defs.specs.Memory.{IsOpen, bytes}
 use Rattle.rh_defs.proofs.MemoryLaws.{pages_below-one}
+use Rattle.rh_store.specs.Limits.{area_limit, pool_limit}
 
 -- past the list no area is open
 pub contents-past : (list : List Area) (i : ℕ) → length list ≤ i → contents list i ≡ None
@@ -46,8 +47,8 @@ within_pool list free pages limit id k = elim (cases_lt id limit) [
   | inr h ↦ let past : length (unwrap_or (contents list id) []) ≡ 0 = ap (λ (o : Option (List ℕ)). length (unwrap_or o [])) (contents-past list id (let t = k.table in omega arith)) in let sum = k.ledger in omega arith
 ]
 
-pub few_pages : (pages : ℕ) → pages ≤ MAX_PAGES → pages ≤ 2 ^ 10
+pub few_pages : (pages : ℕ) → pages ≤ MAX_PAGES → pages ≤ pool_limit
 few_pages pages few = omega arith
 
-pub small_areas : (list : List Area) (free pages limit id : ℕ) → pages ≤ MAX_PAGES → IsStore list free pages limit → length (bytes (memory_in list free pages) id) ≤ 2 ^ 22
+pub small_areas : (list : List Area) (free pages limit id : ℕ) → pages ≤ MAX_PAGES → IsStore list free pages limit → length (bytes (memory_in list free pages) id) ≤ area_limit
 small_areas list free pages limit id few k = let h = within_pool list free pages limit id k in omega arith

@@ -1,3 +1,4 @@
+pub mod Limits
 pub mod Areas
 pub mod Plain
 pub mod Kept

@@ -1,10 +1,11 @@
 -- The memory of a plain store, and why the laws of `Store` hold of it.
-use Rattle.std.specs.Prelude.{ℕ, ◌+◌, ◌*◌, ◌%◌, ◌^◌, ◌<◌, ◌≤◌, ◌≡◌, length}
+use Rattle.std.specs.Prelude.{ℕ, ◌+◌, ◌*◌, ◌%◌, ◌<◌, ◌≤◌, ◌≡◌, length}
 use Rattle.rh_store.specs.declared.plain.PlainStore.{PlainStore}
 use Rattle.rh_defs.specs.declared.sizes.TheConstants.{MAX_AREAS, PAGE}
 use Rattle.rh_store.specs.Areas.{memory_in}
 use Rattle.rh_store.specs.Kept.{whole_areas, within_pool, few_pages, small_areas, numbered_areas}
 use Rattle.rh_defs.specs.Memory.{Memory, IsOpen, Ledger, bytes}
+use Rattle.rh_store.specs.Limits.{area_limit, pool_limit}
 
 -- what its areas contain, its free pages and all its pages
 unfoldable pub memory_of : PlainStore → Memory
@@ -22,11 +23,11 @@ pub within_law : (s : PlainStore) (id : ℕ) → PAGE * (memory_of s).free + len
 unfolding memory_of
 within_law s id = within_pool s.areas.items s.free s.pages MAX_AREAS id s.kept
 
-pub few_law : (s : PlainStore) → (memory_of s).pages ≤ 2 ^ 10
+pub few_law : (s : PlainStore) → (memory_of s).pages ≤ pool_limit
 unfolding memory_of
 few_law s = few_pages s.pages s.few
 
-pub small_law : (s : PlainStore) (id : ℕ) → length (bytes (memory_of s) id) ≤ 2 ^ 22
+pub small_law : (s : PlainStore) (id : ℕ) → length (bytes (memory_of s) id) ≤ area_limit
 unfolding memory_of
 small_law s id = small_areas s.areas.items s.free s.pages MAX_AREAS id s.few s.kept
 

@@ -82,8 +82,9 @@ impl Words for PlainStore {
         copy_from(&self.areas[id.0 as usize].bytes, at, to);
     }
 
-    fn rest_of_page(&self, id: AreaId, at: usize) -> &[u8] {
-        part_of(&self.areas[id.0 as usize].bytes, at, PAGE - at % PAGE)
+    fn run(&self, id: AreaId, at: usize) -> &[u8] {
+        let bytes = &self.areas[id.0 as usize].bytes;
+        part_of(bytes, at, bytes.len() - at)
     }
 
     fn len(&self, id: AreaId) -> usize {
@@ -114,6 +115,10 @@ impl Pages for PlainStore {
         let n = self.len(id) - PAGE * pages;
         self.free += pages;
         shorten_at(&mut self.areas, id.0 as usize, n);
+    }
+
+    fn rest_of_page(&self, id: AreaId, at: usize) -> &[u8] {
+        part_of(&self.areas[id.0 as usize].bytes, at, PAGE - at % PAGE)
     }
 
     fn free_pages(&self) -> usize {

@@ -1,7 +1,8 @@
 //! Areas of bytes that are made of pages.
-ghost use Rattle.std.specs.Prelude.{◌≡◌, ℕ, ◌+◌, ◌-◌, ◌*◌, ◌%◌, ◌^◌, ◌<◌, ◌≤◌, ◌↔◌, ◌⊎◌, length, replicate, IsTrue, IsNone, IfOk, OnErr, OnOk, IsErr, IsErrOf};
+ghost use Rattle.std.specs.Prelude.{◌≡◌, ℕ, ◌+◌, ◌-◌, ◌*◌, ◌%◌, ◌<◌, ◌≤◌, ◌↔◌, ◌⊎◌, length, replicate, IsTrue, IsNone, IfOk, OnErr, OnOk, IsErr, IsErrOf};
 ghost use Rattle.rh_defs.specs.Bytes.{word, put, put_word, part};
 ghost use Rattle.rh_defs.specs.Memory.{Memory, IsOpen, Ledger, bytes, with_bytes, opened, closed, grown, shrunk, open_below};
+ghost use Rattle.rh_store.specs.Limits.{area_limit, pool_limit};
 ghost use Rattle.rh_defs.specs.declared.sizes.TheConstants.{MAX_AREAS, PAGE};
 
 use rh_defs::sizes::MAX_AREAS;
@@ -71,19 +72,20 @@ pub trait Words {
         requires within { at + length to.old ≤ length (bytes (memory self.now) id.0) }
         ensures { to.new ≡ part (bytes (memory self.now) id.0) at (length to.old) };
 
-    /// The bytes of an area from an offset on, up to the end of the offset's page.
-    fn rest_of_page(&self, id: AreaId, at: usize) -> &[u8]
+    /// Bytes of an area that lie side by side from an offset on, one at least.
+    fn run(&self, id: AreaId, at: usize) -> &[u8]
         requires opened { IsOpen (memory self.now) id.0 }
         requires within { at < length (bytes (memory self.now) id.0) }
-        ensures { result.now ≡ part (bytes (memory self.now) id.0) at (PAGE - at % PAGE) };
+        ensures bytes { result.now ≡ part (bytes (memory self.now) id.0) at (length result.now) }
+        ensures some { 0 < length result.now };
 
     /// An area's length in bytes.
     fn len(&self, id: AreaId) -> usize
         requires { IsOpen (memory self.now) id.0 }
         ensures { result ≡ length (bytes (memory self.now) id.0) };
 
-    /// An area has at most 4 MiB, so sums of a few offsets and lengths can't wrap.
-    ghost small: { (s : Self) (id : ℕ) → length (bytes (memory s) id) ≤ 2 ^ 22 };
+    /// An area has at most 1 GiB, so sums of a few offsets and lengths can't wrap.
+    ghost small: { (s : Self) (id : ℕ) → length (bytes (memory s) id) ≤ area_limit };
 }
 
 /// Areas that grow and shrink by whole pages of 4,096 bytes.
@@ -112,6 +114,12 @@ pub trait Pages: Words {
         requires within { PAGE * pages ≤ length (bytes (Self.memory self.old) id.0) }
         ensures { Self.memory self.new ≡ shrunk (Self.memory self.old) id.0 pages };
 
+    /// The bytes of an area from an offset on, up to the end of the offset's page.
+    fn rest_of_page(&self, id: AreaId, at: usize) -> &[u8]
+        requires opened { IsOpen (Self.memory self.now) id.0 }
+        requires within { at < length (bytes (Self.memory self.now) id.0) }
+        ensures { result.now ≡ part (bytes (Self.memory self.now) id.0) at (PAGE - at % PAGE) };
+
     /// How many pages are free.
     fn free_pages(&self) -> usize
         ensures { result ≡ (Self.memory self.now).free };
@@ -126,8 +134,8 @@ pub trait Pages: Words {
     ghost within: { (s : Self) (id : ℕ) →
         PAGE * (Self.memory s).free + length (bytes (Self.memory s) id) ≤ PAGE * (Self.memory s).pages };
 
-    /// A store has at most 1,024 pages.
-    ghost few: { (s : Self) → (Self.memory s).pages ≤ 2 ^ 10 };
+    /// A store has at most 262,144 pages: those of 1 GiB.
+    ghost few: { (s : Self) → (Self.memory s).pages ≤ pool_limit };
 }
 
 /// Areas that are opened and closed, and bytes that go from one to another.

@@ -1,5 +1,5 @@
 -- What the readers give of a slot, and that it is small.
-use Rattle.std.proofs.Common.{◌≡◌, ℕ, ◌+◌, ◌<◌, ◌≤◌, ◌^◌, ap, sym, ◌∙◌, arith, List, length}
+use Rattle.std.proofs.Common.{◌≡◌, ℕ, ◌+◌, ◌≤◌, ap, sym, ◌∙◌, arith, List, length}
 use Rattle.std.specs.Prelude.{Option, Some, None, Ok, Err, IfSome, Result, Bool, ◌==◌}
 use Rattle.std.specs.Option.{option_map}
 use Rattle.std.specs.Result.{MatchResult}
@@ -19,6 +19,7 @@ use Rattle.rh_slot.specs.Area.{IsSlot, slot_in}
 use Rattle.rh_tasks.specs.Items.{segment_item_of}
 use Rattle.rh_tasks.proofs.ItemLaws.{blocks-weigh, largest-small, free-small}
 use Rattle.rh_tasks.proofs.QuestionLaws.{IsPiece, piece-at, piece-none, segment-listed}
+use Rattle.rh_store.specs.Limits.{area_limit}
 
 -- ---- a result that is known
 
@@ -67,31 +68,31 @@ size-within : (k n : ℕ) (s : plain.Slot) → Ok n ≡ plain.slot_size k s → 
 unfolding plain.slot_size plain.slot_block
 size-within k n s e = size-by (λ _ b. b.anchor == k) (plain.flex_start s) s.blocks (plain.block_of k s) n (first_at-cuts plain.weight (λ _ b. b.anchor == k) (plain.flex_start s) s.blocks) e
 
-module _ {m : Memory} {slot : Slot} (is : IsSlot m slot) (small : length (bytes m slot.area.0) ≤ 2 ^ 22) where
+module _ {m : Memory} {slot : Slot} (is : IsSlot m slot) (small : length (bytes m slot.area.0) ≤ area_limit) where
   abbrev s : plain.Slot
   s = slot_in m slot
 
-  pub few-blocks : length s.blocks < 2 ^ 23
+  pub few-blocks : length s.blocks ≤ area_limit
   few-blocks = omega (arith, blocks-weigh s.blocks, is.spells.words.within, small)
 
-  pub small-size : (k n : ℕ) → Ok n ≡ plain.slot_size k s → n < 2 ^ 23
+  pub small-size : (k n : ℕ) → Ok n ≡ plain.slot_size k s → n ≤ area_limit
   small-size k n e = omega (arith, size-within k n s e, is.spells.words.within, small)
 
-  pub small-end : s.heap.end < 2 ^ 23
+  pub small-end : s.heap.end ≤ area_limit
   small-end = omega (arith, is.spells.words.within, small)
 
-  pub small-largest : largest s.heap < 2 ^ 23
+  pub small-largest : largest s.heap ≤ area_limit
   small-largest = omega (arith, largest-small s.heap is.spells.words.heap.heap.fits, small-end)
 
-  pub small-free : free_bytes s.heap < 2 ^ 23
+  pub small-free : free_bytes s.heap ≤ area_limit
   small-free = omega (arith, free-small s.heap is.spells.words.heap.heap.fits, small-end)
 
   module _ (place : ℕ) (p : Segment) (e : Some p ≡ option_map piece (segment_at place s.heap)) where
     at : IsPiece place s.heap p
     at = piece-at place s.heap p e
 
-    pub small-place : place < 2 ^ 23
+    pub small-place : place ≤ area_limit
     small-place = omega (arith, at.low, is.spells.words.heap.heap.fits, small-end)
 
-    pub small-piece : p.size < 2 ^ 23
+    pub small-piece : p.size ≤ area_limit
     small-piece = omega (arith, at.low, ap (λ (x : Segment). x.size) at.is, is.spells.words.heap.heap.fits, small-end)

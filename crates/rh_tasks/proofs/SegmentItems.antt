@@ -1,5 +1,5 @@
 -- Segments of a C heap as they are listed, many at once.
-use Rattle.std.proofs.Common.{◌≡◌, ℕ, zero, suc, ◌+◌, ◌-◌, ◌<◌, ◌≤◌, ◌^◌, List, [], ◌∷◌, ◌++◌, length, take, refl, sym, ap, ◌∙◌, arith, get_or}
+use Rattle.std.proofs.Common.{◌≡◌, ℕ, zero, suc, ◌+◌, ◌-◌, ◌<◌, ◌≤◌, List, [], ◌∷◌, ◌++◌, length, take, refl, sym, ap, ◌∙◌, arith, get_or}
 use Rattle.std.specs.Prelude.{Option, Some, None, IfSome, map, ◌==◌}
 use Rattle.std.specs.List.{AllByRecursion}
 use Rattle.std.proofs.lemmas.Bool.{eqb-true}
@@ -17,6 +17,7 @@ use Rattle.rh_heap.specs.Image.{listed}
 use Rattle.rh_heap.specs.Listed.{from_cut, segments_from}
 use Rattle.rh_tasks.specs.Items.{placed_item, IsSmall}
 use Rattle.rh_tasks.specs.Lists.{segment_items_at}
+use Rattle.rh_store.specs.Limits.{area_limit}
 
 items_listed : (place : ℕ) (gs : List heap.Segment) → map placed_item (listed place gs) ≡ segment_items_from (heap_start + place) gs
 items_listed place [] = refl
@@ -36,7 +37,7 @@ items_from place h =
 
 -- ---- they are small
 
-small_listed : (place : ℕ) (gs : List heap.Segment) → place + total size_of gs < 2 ^ 23 → AllByRecursion IsSmall (listed place gs)
+small_listed : (place : ℕ) (gs : List heap.Segment) → place + total size_of gs ≤ area_limit → AllByRecursion IsSmall (listed place gs)
 small_listed place [] l = tt
 small_listed place (Used bytes ∷ gs) l = ((omega arith, omega arith), small_listed (place + (4 + length bytes)) gs (omega arith))
 small_listed place (Hole n ∷ gs) l = ((omega arith, omega arith), small_listed (place + n) gs (omega arith))
@@ -46,13 +47,13 @@ small_taken zero xs all = tt
 small_taken (suc n) [] all = tt
 small_taken (suc n) (x ∷ xs) all = (all.0, small_taken n xs all.1)
 
-small_cut : (place : ℕ) (h : Heap) (o : Option (Split heap.Segment)) → IfSome o (IsCut size_of (λ q g. place == q) first_place h.segments) → base h < 2 ^ 23 → AllByRecursion IsSmall (listed place (from_cut o))
+small_cut : (place : ℕ) (h : Heap) (o : Option (Split heap.Segment)) → IfSome o (IsCut size_of (λ q g. place == q) first_place h.segments) → base h ≤ area_limit → AllByRecursion IsSmall (listed place (from_cut o))
 small_cut place h None c l = tt
 small_cut place h (Some cut) c l =
     let same : place ≡ first_place + total size_of cut.before = eqb-true _ _ c.passes in
     small_listed place (cut.here ∷ cut.after) (omega (arith, same, cut-total c))
 
-pub small_from : (place : ℕ) (h : Heap) → base h < 2 ^ 23 → AllByRecursion IsSmall (segments_from place h)
+pub small_from : (place : ℕ) (h : Heap) → base h ≤ area_limit → AllByRecursion IsSmall (segments_from place h)
 small_from place h l =
     small_taken 64 (listed place (from_cut (segment_at place h)))
     (small_cut place h (segment_at place h) (first_at-cuts size_of (λ q g. place == q) first_place h.segments) l)

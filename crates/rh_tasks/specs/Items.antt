@@ -1,5 +1,5 @@
 -- Items of lists, from what the world keeps.
-use Rattle.std.specs.Prelude.{ℕ, ◌+◌, ◌-◌, ◌<◌, ◌^◌, if◌then◌else◌, List, ◌++◌, map}
+use Rattle.std.specs.Prelude.{ℕ, ◌+◌, ◌-◌, ◌≤◌, if◌then◌else◌, List, ◌++◌, map}
 use Rattle.rh_defs.specs.Memory.{Memory}
 use Rattle.rh_defs.specs.Slot.{heap_start}
 use Rattle.rh_defs.specs.declared.listing.AreaItem.{AreaItem}
@@ -12,6 +12,7 @@ use Rattle.rh_tasks.specs.declared.listing.AreaEntry.TheVariants as entry
 use Rattle.rh_tasks.specs.declared.seat.Seat.{Seat}
 use Rattle.rh_tasks.specs.declared.made.MadeArea.{MadeArea}
 use Rattle.rh_tasks.specs.View.{fixed, pages_at}
+use Rattle.rh_store.specs.Limits.{area_limit}
 
 -- the item that an entry stands for
 abbrev pub item_of : AreaEntry → AreaItem
@@ -45,4 +46,4 @@ placed_item s = segment_item_of s.place s
 
 -- a segment whose place and size are small enough for an address
 abbrev pub IsSmall : Segment → Type 0
-IsSmall s = (s.place < 2 ^ 23) × (s.size < 2 ^ 23)
+IsSmall s = (s.place ≤ area_limit) × (s.size ≤ area_limit)

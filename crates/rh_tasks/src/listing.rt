@@ -1,9 +1,10 @@
 //! What is asked of the desk: sums, lists whole and item by item, and bytes.
 
-ghost use Rattle.std.specs.Prelude.{◌≡◌, ◌≤◌, ◌<◌, ◌^◌, true, Ok, Err, IfErr, IfOk, OnOk, length, map, slice_get};
+ghost use Rattle.std.specs.Prelude.{◌≡◌, ◌≤◌, ◌<◌, true, Ok, Err, IfErr, IfOk, OnOk, length, map, slice_get};
 ghost use Rattle.std.specs.List.{AllByRecursion};
 ghost use Rattle.std.specs.Option.{option_map};
 ghost use Rattle.std.specs.Result.{MatchResult};
+ghost use Rattle.rh_store.specs.Limits.{area_limit};
 ghost use Rattle.rh_tasks.specs.declared.seat.Seat.{Seat};
 ghost use Rattle.rh_defs.specs.Memory.{Memory, IsOpen};
 ghost use Rattle.rh_defs.specs.Range.{can_be_asked};
@@ -112,8 +113,8 @@ fn area_item<S: Store>(
 
 /// A segment that begins at a place of the C heap, as it is listed.
 fn segment_item(place: u32, segment: Segment) -> SegmentItem
-    requires low { place < 2 ^ 23 }
-    requires small { segment.size < 2 ^ 23 }
+    requires low { place ≤ area_limit }
+    requires small { segment.size ≤ area_limit }
     ensures { result ≡ segment_item_of place segment }
 {
     let address = C_HEAP_START as u32 + place;

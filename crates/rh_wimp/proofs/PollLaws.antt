@@ -27,6 +27,7 @@ use Rattle.rh_wimp.proofs.RowEdits.{lies-above}
 use Rattle.rh_wimp.proofs.SendLaws.{seated, named, as_many, last-has}
 use Rattle.rh_defs.proofs.ShapeLaws.{poked-shape}
 use Rattle.rh_wimp.proofs.TakeLaws.{FirstFor, first-some, ahead, none-ahead, taken-off, held-post, chain_to, rest_of}
+use Rattle.rh_store.specs.Limits.{area_limit}
 
 has-any : (a n b o : ℕ) (xs : List ℕ) (h : Heap) → HasBlock a n h → HasBlock a n (poked b o xs h)
 has-any a n b o xs h w = elim (cases_eq a b) [
@@ -219,7 +220,7 @@ module _ (m : Memory) (rma : Module) (block : ℕ) (p : Parcel) (w : LiesAt m rm
   lies-code code r = r (padded 0 p) lies-bytes ∙ code_read 0 p (omega arith) w.lies.fits
 
 -- the next one's place is small
-pub next-small : (m : Memory) (rma : Module) (next : ℕ) → IsModule m rma → length (bytes m rma.area.0) ≤ 2 ^ 22 → (next ≡ 0) ⊎ HasBlock next 24 (heap_in m rma) → next < 2 ^ 32
+pub next-small : (m : Memory) (rma : Module) (next : ℕ) → IsModule m rma → length (bytes m rma.area.0) ≤ area_limit → (next ≡ 0) ⊎ HasBlock next 24 (heap_in m rma) → next < 2 ^ 32
 next-small m rma next s l w = elim w [ inl z ↦ omega arith | inr b ↦ let f = block_within m rma next 24 s b in omega arith ]
 
 module _ (m : Memory) (rma : Module) (q : Chains) (post : Post) (x i : ℕ) (t : Parcel × List Parcel) (w : Heads m rma q post x i t) where

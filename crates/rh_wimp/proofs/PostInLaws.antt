@@ -29,6 +29,7 @@ use Rattle.rh_wimp.proofs.OrderLaws.{own_row, own-rows, own-linked, in_order-spe
 use Rattle.rh_wimp.proofs.PostLaws.{eq_of, row-at, seat_at}
 use Rattle.rh_wimp.proofs.RowEdits.{lies-above}
 use Rattle.rh_wimp.proofs.SearchLaws.{short-rows}
+use Rattle.rh_store.specs.Limits.{area_limit}
 
 -- ---- two heaps with the same blocks
 same-segments : (p : ℕ) (ss ts : List Segment) → blank ss ≡ blank ts → ((a : ℕ) → bytes_at a p ss ≡ bytes_at a p ts) → ss ≡ ts
@@ -240,5 +241,5 @@ pub post_of-spells : (h : Heap) (q : Chains) (post : Post) → IsLow h → IsPos
 post_of-spells h q post s w = subst (IsPost h q) (sym (post_of-is h q post s w)) (in_order-spells h q post w)
 
 -- the blocks of a module area lie in its bytes
-pub module-low : (m : Memory) (rma : Module) → IsModule m rma → length (bytes m rma.area.0) ≤ 2 ^ 22 → IsLow (heap_in m rma)
+pub module-low : (m : Memory) (rma : Module) → IsModule m rma → length (bytes m rma.area.0) ≤ area_limit → IsLow (heap_in m rma)
 module-low m rma s l = record { each = λ a bs e. let r = block_within m rma a 0 s (record { bytes = bs; found = e; room = omega arith }) in omega arith }

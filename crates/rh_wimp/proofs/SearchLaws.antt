@@ -20,6 +20,7 @@ use Rattle.rh_wimp.proofs.TakeLaws.{next-there}
 use Rattle.rh_wimp.specs.Chains.{Chain, Chains, Holds, Lies, Row, IsPost, AllLive, first_block, held_list, row_at, row_of, row_parcels, rows_of}
 use Rattle.rh_wimp.specs.Searches.{AreShort, rows_have}
 use Rattle.rh_wimp.proofs.PostLaws.{row-at, seat_at}
+use Rattle.rh_store.specs.Limits.{area_limit}
 
 -- what is left of a chain, from a block on
 pub record Ahead (h : Heap) (block turn : ℕ) (test : Parcel → Bool) (ps : List Parcel) : Type 0 where
@@ -200,7 +201,7 @@ ahead-none h block turn test ps a z = go a.rest a.block_is a.chain (sym a.same)
     go [] e c f = f
     go (p ∷ rest) e c f = let l = lies-above h (first_block rest 0) p c.0 in absurd (omega arith)
 
-pub ahead-some : (m : Memory) (rma : Module) (block turn : ℕ) (test : Parcel → Bool) (ps : List Parcel) → IsModule m rma → length (bytes m rma.area.0) ≤ 2 ^ 22 → Ahead (heap_in m rma) block turn test ps → block ≢ 0
+pub ahead-some : (m : Memory) (rma : Module) (block turn : ℕ) (test : Parcel → Bool) (ps : List Parcel) → IsModule m rma → length (bytes m rma.area.0) ≤ area_limit → Ahead (heap_in m rma) block turn test ps → block ≢ 0
     → Here m rma block turn test ps
 ahead-some m rma block turn test ps s l a ne = go a.rest a.block_is a.chain a.few a.same
   where

@@ -1,5 +1,5 @@
 -- What holds of every queue over every module area, and of every message block.
-use Rattle.std.specs.Prelude.{◌≡◌, ℕ, ◌≤◌, ◌^◌, List, length, take, Ok}
+use Rattle.std.specs.Prelude.{◌≡◌, ℕ, ◌≤◌, List, length, take, Ok}
 use Rattle.rh_defs.specs.Bytes.{put}
 use Rattle.rh_defs.specs.MessageImage.{decoded}
 use Rattle.rh_defs.specs.Messages.{Fits, encoded, encoded_length}
@@ -14,10 +14,11 @@ use Rattle.rh_module.specs.declared.module.Module.{Module}
 use Rattle.rh_wimp.specs.Chains.{Chains, SpellsPost}
 use Rattle.rh_wimp.specs.PostIn.{in_order, post_in}
 use Rattle.rh_wimp.specs.declared.layout.TheConstants.{MOST_LENGTH}
+use Rattle.rh_store.specs.Limits.{area_limit}
 
 -- the area is so small that its blocks have addresses that are words, as every store's areas are
 abbrev pub IsSmall : Memory → Module → Type 0
-IsSmall m rma = length (bytes m rma.area.0) ≤ 2 ^ 22
+IsSmall m rma = length (bytes m rma.area.0) ≤ area_limit
 
 -- the post that is read off the area's bytes and the queue's entries is spelled, and it is each one that is, in order of seats
 abbrev pub HaveOnePost : Type 0

@@ -51,6 +51,13 @@ fn pages_are_lent(rt: HostRuntime) -> Result<(), Fail> {
 }
 
 #[test]
+fn runs_are_lent(rt: HostRuntime) -> Result<(), Fail> {
+    let mut store = PlainStore::new(rt.alloc(), 8)?;
+    suite::runs_are_lent(&rt, &mut store)?;
+    Ok(())
+}
+
+#[test]
 fn nothing_changes_nothing(rt: HostRuntime) -> Result<(), Fail> {
     let mut store = PlainStore::new(rt.alloc(), 8)?;
     suite::nothing_changes_nothing(&rt, &mut store)?;

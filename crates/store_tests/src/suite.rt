@@ -167,6 +167,18 @@ pub(crate) fn pages_are_lent<R: Abort, S: Store>(rt: &R, store: &mut S) -> Resul
     Ok(())
 }
 
+/// Of 8 pages: the bytes that lie side by side from an offset on are the area's, and end before its end.
+#[tactic(auto, using(rh_defs::proofs::BytesLaws::word_laws, rh_defs::proofs::MemoryLaws::memory_laws, rh_defs::proofs::MemoryLaws::pool_laws))]
+pub(crate) fn runs_are_lent<R: Abort, S: Store>(rt: &R, store: &mut S) -> Result<(), StoreFault> {
+    let id = store.open()?;
+    store.grow(id, 2)?;
+    store.set_word(id, 8188, 0x44332211);
+    same(rt, store.run(id, 8188), &[0x11, 0x22, 0x33, 0x44]);
+    same(rt, store.run(id, 8190), &[0x33, 0x44]);
+    same(rt, store.run(id, 8191), &[0x44]);
+    Ok(())
+}
+
 /// Of 8 pages: calls for no page and no byte change nothing.
 #[tactic(auto, using(rh_defs::proofs::BytesLaws::word_laws, rh_defs::proofs::MemoryLaws::memory_laws, rh_defs::proofs::MemoryLaws::pool_laws))]
 pub(crate) fn nothing_changes_nothing<R: Abort, S: Store>(

@@ -38,8 +38,8 @@ struct Mark {
 }
 
 /// Passes used segments from a mark on, up to the one round a place: as far as the words of their sizes lie in the
-/// mark's page. No hole from the mark on begins below that place or at it.
-fn pass_in_page<S: Words>(store: &S, span: Span, mark: Mark, target: usize) -> Mark
+/// bytes that lie side by side from there on. No hole from the mark on begins below that place or at it.
+fn pass_in_run<S: Words>(store: &S, span: Span, mark: Mark, target: usize) -> Mark
     requires span { IsSpan (S.memory store.now) span }
     requires reached { Reached span.at (heap_in (S.memory store.now) span) mark.link mark.low mark.from mark.place }
     requires no_hole { NoHole (bytes_in (S.memory store.now) span) span.at mark.from target }
@@ -50,11 +50,11 @@ fn pass_in_page<S: Words>(store: &S, span: Span, mark: Mark, target: usize) -> M
     ensures on { mark.place ≤ result.place }
     ensures above { result.place ≤ target }
 {
-    let page = store.rest_of_page(span.area, span.at + mark.place);
+    let run = store.run(span.area, span.at + mark.place);
     let most = target - mark.place;
     let mut passed = 0;
-    'walk: while passed + WORD <= page.len() {
-        let next = passed + word_in(page, passed) as usize;
+    'walk: while passed + WORD <= run.len() {
+        let next = passed + word_in(run, passed) as usize;
         if most < next {
             break;
         }
@@ -102,7 +102,7 @@ fn used_around<S: Words>(store: &S, span: Span, start: Mark, target: usize) -> S
             low: end,
             link: mark.from,
         };
-        mark = pass_in_page(store, span, behind, target);
+        mark = pass_in_run(store, span, behind, target);
     }
 }
 

@@ -6,17 +6,18 @@ use rh_defs::sizes::PAGE;
 use rh_store::AreaId;
 
 impl PagedStore {
-    ghost use Rattle.std.specs.Prelude.{◌≡◌, ◌≢◌, ℕ, ◌+◌, ◌^◌, ◌≤◌, length};
+    ghost use Rattle.std.specs.Prelude.{◌≡◌, ◌≢◌, ℕ, ◌+◌, ◌≤◌, length};
     ghost use Rattle.rh_defs.specs.Bytes.{part, put};
     ghost use Rattle.rh_defs.specs.Memory.{IsOpen, bytes, with_bytes};
     ghost use Rattle.rh_pages.specs.Paged.{memory_of};
+    ghost use Rattle.rh_store.specs.Limits.{area_limit};
 
     /// Moves n bytes of an area to lower offsets, from their lower end on.
     pub(super) fn slide_down(&mut self, id: AreaId, from: usize, to: usize, n: usize)
         requires opened { IsOpen (memory_of self.old) id.0 }
         requires down { to ≤ from }
         requires source { from + n ≤ length (bytes (memory_of self.old) id.0) }
-        requires small { length (bytes (memory_of self.old) id.0) ≤ 2 ^ 22 }
+        requires small { length (bytes (memory_of self.old) id.0) ≤ area_limit }
         ensures { memory_of self.new ≡ with_bytes (memory_of self.old) id.0
             (put (bytes (memory_of self.old) id.0) to (part (bytes (memory_of self.old) id.0) from n)) }
     {
@@ -37,7 +38,7 @@ impl PagedStore {
         requires opened { IsOpen (memory_of self.old) id.0 }
         requires up { from ≤ to }
         requires target { to + n ≤ length (bytes (memory_of self.old) id.0) }
-        requires small { length (bytes (memory_of self.old) id.0) ≤ 2 ^ 22 }
+        requires small { length (bytes (memory_of self.old) id.0) ≤ area_limit }
         ensures { memory_of self.new ≡ with_bytes (memory_of self.old) id.0
             (put (bytes (memory_of self.old) id.0) to (part (bytes (memory_of self.old) id.0) from n)) }
     {
@@ -58,8 +59,8 @@ impl PagedStore {
         requires apart { id.0 ≢ id2.0 }
         requires source { at + n ≤ length (bytes (memory_of self.old) id.0) }
         requires target { at2 + n ≤ length (bytes (memory_of self.old) id2.0) }
-        requires small { length (bytes (memory_of self.old) id.0) ≤ 2 ^ 22 }
-        requires small2 { length (bytes (memory_of self.old) id2.0) ≤ 2 ^ 22 }
+        requires small { length (bytes (memory_of self.old) id.0) ≤ area_limit }
+        requires small2 { length (bytes (memory_of self.old) id2.0) ≤ area_limit }
         ensures { memory_of self.new ≡ with_bytes (memory_of self.old) id2.0
             (put (bytes (memory_of self.old) id2.0) at2 (part (bytes (memory_of self.old) id.0) at n)) }
     {

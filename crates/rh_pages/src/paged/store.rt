@@ -89,9 +89,9 @@ impl Words for PagedStore {
         }
     }
 
-    fn rest_of_page(&self, id: AreaId, at: usize) -> &[u8] {
-        let start = self.spot(id, at);
-        self.region.bytes(start, PAGE - at % PAGE)
+    fn run(&self, id: AreaId, at: usize) -> &[u8] {
+        let first = self.spot(id, at);
+        self.region.bytes(first, PAGE - at % PAGE)
     }
 
     fn len(&self, id: AreaId) -> usize {
@@ -122,6 +122,11 @@ impl Pages for PagedStore {
         for _page in 0..pages {
             self.shrink_page(id);
         }
+    }
+
+    fn rest_of_page(&self, id: AreaId, at: usize) -> &[u8] {
+        let start = self.spot(id, at);
+        self.region.bytes(start, PAGE - at % PAGE)
     }
 
     fn free_pages(&self) -> usize {

@@ -1,4 +1,4 @@
--- Each turn passes a used segment, and those behind it in its page.
+-- Each turn passes a used segment, and those behind it whose sizes lie side by side.
 use Rattle.std.proofs.Common.{arith}
 use Rattle.rh_heap.proofs.WalkLaws.{mark_turn}
 use Rattle.rh_heap.proofs.span.segments.used_around.Goals as goal
@@ -14,12 +14,12 @@ returns-then-target-end g c =
     let t = mark_turn _ _ _ _ _ _ c.requires.span.spells c.requires.no_hole c.requires.below c.walk.invariant in
     record { met = t.met _ c.read-size.ensures.value; from_on = c.walk.invariant.up_to; up_to = c.if-target-end.true }
 
-pub pass_in_page-mark-requires-clause-reached : goal.pass_in_page-mark-requires-clause-reached
-pass_in_page-mark-requires-clause-reached g c =
+pub pass_in_run-mark-requires-clause-reached : goal.pass_in_run-mark-requires-clause-reached
+pass_in_run-mark-requires-clause-reached g c =
     (mark_turn _ _ _ _ _ _ c.requires.span.spells c.requires.no_hole c.requires.below c.walk.invariant).on _ c.read-size.ensures.value
 
 pub walk-smaller : goal.walk-smaller
 walk-smaller g c =
     let t = mark_turn _ _ _ _ _ _ c.requires.span.spells c.requires.no_hole c.requires.below c.walk.invariant in
     let m = t.met _ c.read-size.ensures.value in
-    omega (arith, m.least, c.pass_in_page-mark.ensures.on, c.if-target-end.false)
+    omega (arith, m.least, c.pass_in_run-mark.ensures.on, c.if-target-end.false)

@@ -1,5 +1,5 @@
 -- The area has grown by zeros, and the heap's end moves up to the area's.
-use Rattle.std.proofs.Common.{◌≡◌, ◌*◌, ◌≤◌, ◌^◌, to_z, refl, subst, arith}
+use Rattle.std.proofs.Common.{◌≡◌, ◌*◌, ◌≤◌, to_z, refl, subst, arith}
 use Rattle.std.specs.Int.{w32}
 use Rattle.std.specs.Prelude.{Ok}
 use Rattle.rh_defs.specs.Chain.{left_of, no_answer}
@@ -11,10 +11,11 @@ use Rattle.rh_module.proofs.LengthLaws.{MayMove, grown_may_move, lengthened, onl
 use Rattle.rh_module.proofs.module.Module.lengthen.Goals as goal
 use Rattle.rh_module.proofs.module.Module.lengthen.Goals.{After-span}
 use Rattle.rh_module.proofs.module.Module.lengthen.Given as given
+use Rattle.rh_store.specs.Limits.{pool_limit}
 
 may_move : (g : given.Over) (c : After-span g) → MayMove (g.S.Words.memory c.grow.new.self) c.args.self c.span.result (heap_in (g.S.Words.memory c.args.store.now) c.args.self) c.args.pages (to_z w32 (c.args.pages * 4096))
 may_move g c =
-    let few : c.args.pages ≤ 2 ^ 10 = omega (arith, c.in-Ok.ensures.room, g.met.S.Pages.few c.args.store.now, g.met.S.Pages.within c.args.store.now c.args.self.area.0) in
+    let few : c.args.pages ≤ pool_limit = omega (arith, c.in-Ok.ensures.room, g.met.S.Pages.few c.args.store.now, g.met.S.Pages.within c.args.store.now c.args.self.area.0) in
     grown_may_move (g.S.Words.memory c.args.store.now) (g.S.Words.memory c.grow.new.self) c.args.self c.span.result c.args.pages c.requires c.in-Ok.ensures.ok c.span.ensures few
 
 -- the end is moved up, so it is not refused

@@ -1,7 +1,7 @@
 use Rattle.std.proofs.Common.{◌+◌, ◌-◌}
 use Rattle.rh_heap.specs.Spans.{heap_in}
 use Rattle.rh_heap.proofs.WalkLaws.{UsedWalk}
-use Rattle.rh_heap.proofs.span.segments.pass_in_page.Given as goal
+use Rattle.rh_heap.proofs.span.segments.pass_in_run.Given as goal
 
 abbrev pub invariant-walk : goal.invariant-walk
 invariant-walk g l = UsedWalk l.fn.span.at (heap_in (g.S.Words.memory l.store) l.fn.span) l.mark l.target (l.mark.place + l.passed)

@@ -2,7 +2,7 @@ use Rattle.std.proofs.Common.{◌-◌, ◌%◌, sym, ◌∙◌, arith}
 use Rattle.rh_defs.proofs.BytesLaws.{part-range}
 use Rattle.rh_pages.specs.Paged.{whole_law}
 use Rattle.rh_pages.proofs.Seats.{seat}
-use Rattle.rh_pages.proofs.paged.store.PagedStoreWords.rest_of_page.Goals as goal
+use Rattle.rh_pages.proofs.paged.store.PagedStorePages.rest_of_page.Goals as goal
 
 pub bytes-requires : goal.bytes-requires
 bytes-requires c =

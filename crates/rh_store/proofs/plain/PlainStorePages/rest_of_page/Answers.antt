@@ -4,7 +4,7 @@ use Rattle.rh_defs.specs.Memory.{bytes}
 use Rattle.rh_store.specs.Kept.{open_index}
 use Rattle.rh_store.proofs.AreasLaws.{open_read}
 use Rattle.rh_store.specs.Plain.{memory_of, whole_law}
-use Rattle.rh_store.proofs.plain.PlainStoreWords.rest_of_page.Goals as goal
+use Rattle.rh_store.proofs.plain.PlainStorePages.rest_of_page.Goals as goal
 
 pub index-requires : goal.index-requires
 unfolding memory_of

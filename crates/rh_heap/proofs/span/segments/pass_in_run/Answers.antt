@@ -1,18 +1,18 @@
--- Each turn passes a used segment, whose size is read in the page's bytes.
+-- Each turn passes a used segment, whose size is read in the bytes that lie side by side.
 use Rattle.std.proofs.Common.{◌≡◌, ◌+◌, inl, inr, arith}
 use Rattle.rh_heap.proofs.WalkLaws.{step_in}
-use Rattle.rh_heap.proofs.span.segments.pass_in_page.Goals as goal
+use Rattle.rh_heap.proofs.span.segments.pass_in_run.Goals as goal
 
 pub walk-smaller : goal.walk-smaller
 walk-smaller g c =
     let q = c.requires in
-    let t = step_in _ _ _ _ _ q.span.spells q.reached q.no_hole q.below _ _ _ _ c.rest_of_page-page.ensures c.walk-test.true c.word_in.ensures c.walk.invariant in
+    let t = step_in _ _ _ _ _ q.span.spells q.reached q.no_hole q.below _ _ _ _ c.run-run.ensures.bytes c.walk-test.true c.word_in.ensures c.walk.invariant in
     omega (arith, t.least, c.if-most-next.false)
 
 pub walk-preserved : goal.walk-preserved
 walk-preserved g c =
     let q = c.requires in
-    let t = step_in _ _ _ _ _ q.span.spells q.reached q.no_hole q.below _ _ _ _ c.rest_of_page-page.ensures c.walk-test.true c.word_in.ensures c.walk.invariant in
+    let t = step_in _ _ _ _ _ q.span.spells q.reached q.no_hole q.below _ _ _ _ c.run-run.ensures.bytes c.walk-test.true c.word_in.ensures c.walk.invariant in
     let above = q.above in
     let most = c.if-most-next.false in
     let w = t.passed (omega arith) in
