@@ -1,5 +1,5 @@
-//! Tests that cross crates: heaps in a plain store, slots and the module area over a plain store and over
-//! scattered pages, and the records of transfers.
+//! Tests that cross crates: heaps in a plain store and in lent bytes, slots and the module area over a plain store and
+//! over scattered pages, and the records of transfers.
 #![tactic(auto)]
 
 #[cfg(test)]
@@ -14,6 +14,8 @@ mod heap_blocks;
 mod heaps;
 #[cfg(test)]
 mod images;
+#[cfg(test)]
+mod lent_heaps;
 #[cfg(test)]
 mod lists;
 #[cfg(test)]

@@ -1,0 +1,54 @@
+-- The one area of lent bytes: what its bytes are, and what an edit of them makes of the memory.
+use Rattle.std.proofs.Common.{◌≡◌, ℕ, ◌==◌, cond, Bool, true, false, List, refl, sym, ap, ◌∙◌, arith}
+use Rattle.std.specs.Prelude.{Option, Some, None, IsSome}
+use Rattle.std.proofs.lemmas.Bool.Decides.{nat_tests}
+use Rattle.rh_defs.specs.Memory.{Memory, IsOpen, area_set, bytes, with_bytes}
+use Rattle.rh_defs.proofs.MemoryLaws.{area_set-area_set}
+use Rattle.rh_lent.specs.declared.lent.Lent.{Lent}
+use Rattle.rh_lent.specs.Lent.{memory_of, memory_over}
+
+only_true : (b : Bool) (bs : List ℕ) → IsSome (cond b (Some bs) None) → b ≡ true
+only_true true bs h = refl
+only_true false bs h = absurd cc
+
+is_zero : (id : ℕ) → (id == 0) ≡ true → id ≡ 0
+is_zero id h = grind (arith, nat_tests)
+
+-- the area of the bytes is open
+pub over-open : (bs : List ℕ) (loan : ℕ) → IsOpen (memory_over bs loan) 0
+unfolding memory_over area_set
+over-open bs loan = refl
+
+bytes_over : (bs : List ℕ) (loan id : ℕ) → IsOpen (memory_over bs loan) id → bytes (memory_over bs loan) id ≡ bs
+unfolding memory_over area_set bytes
+bytes_over bs loan id o = rw (only_true (id == 0) bs o) refl
+
+open_zero : (bs : List ℕ) (loan id : ℕ) → IsOpen (memory_over bs loan) id → id ≡ 0
+unfolding memory_over area_set
+open_zero bs loan id o = is_zero id (only_true (id == 0) bs o)
+
+over_of : List ℕ → ℕ → (ℕ → Option (List ℕ)) → Memory
+over_of bs loan area = record { area = area; free = 0; pages = 0; loan = loan }
+
+set_at_zero : (bs xs : List ℕ) (loan : ℕ) → memory_over xs loan ≡ with_bytes (memory_over bs loan) 0 xs
+unfolding memory_over with_bytes over_of
+set_at_zero bs xs loan = ap (over_of bs loan) (sym (area_set-area_set (λ k. None) 0 (Some bs) (Some xs)))
+
+set_over : (bs xs : List ℕ) (loan id : ℕ) → IsOpen (memory_over bs loan) id
+    → memory_over xs loan ≡ with_bytes (memory_over bs loan) id xs
+set_over bs xs loan id o =
+    set_at_zero bs xs loan ∙ ap (λ k. with_bytes (memory_over bs loan) k xs) (sym (open_zero bs loan id o))
+
+-- an open area's bytes are the lent ones
+pub lent_bytes : (s : Lent) (id : ℕ) → IsOpen (memory_of s) id → bytes (memory_of s) id ≡ s.bytes.now
+unfolding memory_of
+lent_bytes s id o = bytes_over s.bytes.now s.bytes.ghost_name id o
+
+-- an edit of the lent bytes is that edit of the area's
+pub edited : (s : Lent) (id : ℕ) (edit : List ℕ → List ℕ) (new : List ℕ) → IsOpen (memory_of s) id
+    → new ≡ edit s.bytes.now
+    → memory_over new s.bytes.ghost_name ≡ with_bytes (memory_of s) id (edit (bytes (memory_of s) id))
+unfolding memory_of
+edited s id edit new o e =
+    set_over s.bytes.now new s.bytes.ghost_name id o
+    ∙ ap (with_bytes (memory_of s) id) (e ∙ ap edit (sym (lent_bytes s id o)))

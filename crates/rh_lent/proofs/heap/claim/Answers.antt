@@ -1,0 +1,23 @@
+use Rattle.std.proofs.Common.{rules}
+use Rattle.rh_defs.specs.HeapImage.{heap_of}
+use Rattle.rh_defs.specs.Memory.{bytes, area_set}
+use Rattle.rh_lent.specs.Lent.{memory_of, memory_over}
+use Rattle.rh_defs.specs.Heap.{claim}
+use Rattle.rh_lent.specs.Heaps.{LeavesBytes}
+use Rattle.rh_lent.proofs.HeapBytes.{is_span, leaves_bytes}
+use Rattle.rh_lent.proofs.heap.claim.Goals as goal
+
+pub claim-requires : goal.claim-requires
+unfolding memory_of
+claim-requires c = is_span c.args.memory.now _ c.requires
+
+pub returns : goal.returns
+unfolding memory_of memory_over bytes area_set
+returns c =
+    let b = c.args.memory.now in
+    let new = c.claim.new.store.bytes.now in
+    let granted = claim c.args.n (heap_of b 0) in
+    let name = c.claim.ensures.only.loan in
+    let left : LeavesBytes b new granted c.claim.result =
+    leaves_bytes b new _ _ granted c.claim.result c.requires c.claim.ensures in
+    search rules

@@ -1,0 +1,24 @@
+use Rattle.std.proofs.Common.{rules}
+use Rattle.rh_defs.specs.HeapImage.{heap_of}
+use Rattle.rh_defs.specs.Memory.{bytes, area_set}
+use Rattle.rh_lent.specs.Lent.{memory_of, memory_over}
+use Rattle.rh_defs.specs.Chain.{no_answer}
+use Rattle.rh_defs.specs.Heap.{released_at}
+use Rattle.rh_lent.specs.Heaps.{LeavesBytes}
+use Rattle.rh_lent.proofs.HeapBytes.{is_span, leaves_bytes}
+use Rattle.rh_lent.proofs.heap.release.Goals as goal
+
+pub release-requires : goal.release-requires
+unfolding memory_of
+release-requires c = is_span c.args.memory.now _ c.requires
+
+pub returns : goal.returns
+unfolding memory_of memory_over bytes area_set
+returns c =
+    let b = c.args.memory.now in
+    let new = c.release.new.store.bytes.now in
+    let granted = no_answer (released_at c.args.address (heap_of b 0)) in
+    let name = c.release.ensures.only.loan in
+    let left : LeavesBytes b new granted c.release.result =
+    leaves_bytes b new _ _ granted c.release.result c.requires c.release.ensures in
+    search rules

@@ -1,0 +1,22 @@
+-- The memory of lent bytes.
+use Rattle.std.specs.Prelude.{ℕ, ◌≤◌, ◌==◌, cond, Bool, true, false, List, [], length, Some, None, unwrap_or}
+use Rattle.std.proofs.Common.{arith}
+use Rattle.rh_defs.specs.Memory.{Memory, area_set, bytes}
+use Rattle.rh_lent.specs.declared.lent.Lent.{Lent}
+use Rattle.rh_store.specs.Limits.{area_limit}
+
+-- one area of these bytes, under the name of the loan
+unfoldable pub memory_over : List ℕ → ℕ → Memory
+memory_over bs loan = record { area = area_set (λ k. None) 0 (Some bs); free = 0; pages = 0; loan = loan }
+
+-- the memory of the bytes as they are now
+unfoldable pub memory_of : Lent → Memory
+memory_of s = memory_over s.bytes.now s.bytes.ghost_name
+
+one_small : (b : Bool) (bs : List ℕ) → length bs ≤ area_limit → length (unwrap_or (cond b (Some bs) None) []) ≤ area_limit
+one_small true bs h = h
+one_small false bs h = omega arith
+
+pub small_law : (s : Lent) (id : ℕ) → length (bytes (memory_of s) id) ≤ area_limit
+unfolding memory_of memory_over area_set bytes
+small_law s id = one_small (id == 0) s.bytes.now s.few
