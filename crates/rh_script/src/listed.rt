@@ -62,10 +62,7 @@ fn add_block(row: &mut Row, item: &BlockItem)
 }
 
 /// Writes how many pages are free, and a line for each area, and then for each slot in order of handle.
-pub fn print_areas<S: Store, W: Sink>(
-    world: &World<S>,
-    writer: &mut W,
-) -> Result<(), WriteFailed>
+pub fn print_areas<S: Store, W: Sink>(world: &World<S>, writer: &mut W) -> Result<(), WriteFailed>
     ensures { Puts (W.output writer.old) (W.output writer.new) result (answer_text (Ok (areas world.now.desk))) }
 {
     let (free, _) = world.areas(0);

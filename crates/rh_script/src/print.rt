@@ -47,7 +47,7 @@ fn print_told<S: Store, W: Sink>(
     requires { can_be_asked question.now ≡ true }
     ensures { Puts (W.output writer.old) (W.output writer.new) result
         (if begins (asked world.now.desk question.now) reply.now then answer_text (asked world.now.desk question.now)
-            else first_line reply.now Nothing) }
+        else first_line reply.now Nothing) }
 {
     if is_told(world, question, reply) {
         print_answer(world, question, writer)

@@ -35,7 +35,7 @@ fn print_records<W: Sink>(
 ) -> Result<(), WriteFailed>
     ensures { Puts (W.output writer.old) (W.output writer.new) result
         (first_line (Reply.StatusOf handle) Nothing
-            ++ (record_lines (codes "out") (map out_item_of outgoing.now) ++ record_lines (codes "in") (map in_item_of incoming.now))) }
+        ++ (record_lines (codes "out") (map out_item_of outgoing.now) ++ record_lines (codes "in") (map in_item_of incoming.now))) }
 {
     print_first_line(&Reply::StatusOf(handle), writer)?;
     print_both(outgoing, incoming, writer)

@@ -42,7 +42,7 @@ fn print_sums<S: Store, W: Sink>(
 ) -> Result<(), WriteFailed>
     ensures { Puts (W.output writer.old) (W.output writer.new) result
         (first_line (Reply.HeapSums sums.0 sums.1 sums.2) Nothing
-            ++ flat_map segment_line (segments_of_named name.now world.now.desk)) }
+        ++ flat_map segment_line (segments_of_named name.now world.now.desk)) }
 {
     let (length, largest, free) = sums;
     let reply = Reply::HeapSums {

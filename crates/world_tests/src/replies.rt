@@ -70,15 +70,53 @@ fn prints_replies(rt: HostRuntime) -> Result<(), Fail> {
         Reply::Started(Handle(1)),
     );
     fill(&rt, &mut world, &a);
-    answers(&rt, &mut world, &mut held, show(&a, 0), b"ok 5 000aff0000\n");
-    answers(&rt, &mut world, &mut held, show(&a, 1), b"refused NoBlock\n");
-    answers(&rt, &mut world, &mut held, blocks(&a), b"ok 1\n  0 &9008 5\n");
-    answers(&rt, &mut world, &mut held, blocks(&nobody), b"refused NoName\n");
+    answers(
+        &rt,
+        &mut world,
+        &mut held,
+        show(&a, 0),
+        b"ok 5 000aff0000\n",
+    );
+    answers(
+        &rt,
+        &mut world,
+        &mut held,
+        show(&a, 1),
+        b"refused NoBlock\n",
+    );
+    answers(
+        &rt,
+        &mut world,
+        &mut held,
+        blocks(&a),
+        b"ok 1\n  0 &9008 5\n",
+    );
+    answers(
+        &rt,
+        &mut world,
+        &mut held,
+        blocks(&nobody),
+        b"refused NoName\n",
+    );
     let seven = Reply::BlockCount(7);
     prints(&rt, &world, &mut held, blocks(&a), seven, b"ok 7\n");
     let refused = Reply::Refused(Refusal::NoBlock);
-    prints(&rt, &world, &mut held, show(&a, 0), refused, b"refused NoBlock\n");
-    prints(&rt, &world, &mut held, show(&a, 64), refused, b"refused NoBlock\n");
+    prints(
+        &rt,
+        &world,
+        &mut held,
+        show(&a, 0),
+        refused,
+        b"refused NoBlock\n",
+    );
+    prints(
+        &rt,
+        &world,
+        &mut held,
+        show(&a, 64),
+        refused,
+        b"refused NoBlock\n",
+    );
     prints(&rt, &world, &mut held, show(&a, 0), Reply::Done, b"ok\n");
     Ok(())
 }
