@@ -57,66 +57,38 @@ fn answers<R: Abort, S: Store>(
     is_true(rt, held.as_slice() == text);
 }
 
+/// Replies of the desk come with what the desk lists.
+fn prints_answers<R: Abort, S: Store>(rt: &R, world: &mut World<S>, held: &mut Held, a: &Name) {
+    answers(rt, world, held, show(a, 0), b"ok 5 000aff0000\n");
+    answers(rt, world, held, show(a, 1), b"refused NoBlock\n");
+    answers(rt, world, held, blocks(a), b"ok 1\n  0 &9008 5\n");
+}
+
+/// Replies that the desk doesn't give stand alone.
+fn prints_others<R: Abort, S: Store>(rt: &R, world: &World<S>, held: &mut Held, a: &Name) {
+    let refused = Reply::Refused(Refusal::NoBlock);
+    let line = b"refused NoBlock\n";
+    prints(rt, world, held, blocks(a), Reply::BlockCount(7), b"ok 7\n");
+    prints(rt, world, held, show(a, 0), refused, line);
+    prints(rt, world, held, show(a, 64), refused, line);
+    prints(rt, world, held, show(a, 0), Reply::Done, b"ok\n");
+}
+
 #[test]
 fn prints_replies(rt: HostRuntime) -> Result<(), Fail> {
     let store = paged_store(rt.alloc())?;
     let mut world = World::new(rt.alloc(), store, Files::new(rt.alloc()))?;
     let mut held = Held::new(rt.alloc())?;
     let a = name(b"a")?;
-    let nobody = name(b"c")?;
+    let nobody = blocks(&name(b"c")?);
     same(
         &rt,
         said(&rt, &mut world, &task(&a)),
         Reply::Started(Handle(1)),
     );
     fill(&rt, &mut world, &a);
-    answers(
-        &rt,
-        &mut world,
-        &mut held,
-        show(&a, 0),
-        b"ok 5 000aff0000\n",
-    );
-    answers(
-        &rt,
-        &mut world,
-        &mut held,
-        show(&a, 1),
-        b"refused NoBlock\n",
-    );
-    answers(
-        &rt,
-        &mut world,
-        &mut held,
-        blocks(&a),
-        b"ok 1\n  0 &9008 5\n",
-    );
-    answers(
-        &rt,
-        &mut world,
-        &mut held,
-        blocks(&nobody),
-        b"refused NoName\n",
-    );
-    let seven = Reply::BlockCount(7);
-    prints(&rt, &world, &mut held, blocks(&a), seven, b"ok 7\n");
-    let refused = Reply::Refused(Refusal::NoBlock);
-    prints(
-        &rt,
-        &world,
-        &mut held,
-        show(&a, 0),
-        refused,
-        b"refused NoBlock\n",
-    );
-    prints(
-        &rt,
-        &world,
-        &mut held,
-        show(&a, 64),
-        refused,
-        b"refused NoBlock\n",
-    );
-    prints(&rt, &world, &mut held, show(&a, 0), Reply::Done, b"ok\n");
+    prints_answers(&rt, &mut world, &mut held, &a);
+    answers(&rt, &mut world, &mut held, nobody, b"refused NoName\n");
+    prints_others(&rt, &world, &mut held, &a);
     Ok(())
 }
