@@ -124,6 +124,7 @@ fn makes<R: Abort>(rt: &R, alloc: Global, maker: Maker) -> bool {
 fn constructors_and_runs_are_refused_memory_in_turn(rt: HostRuntime) -> Result<(), Fail> {
     let alloc = rt.alloc();
     for maker in MAKERS {
+        same(&rt, (maker, makes(&rt, alloc, maker)), (maker, true));
         let scarce = Scarce::new(alloc)?;
         let is_short = scarce.is_short(alloc);
         let mut refused = 0;
@@ -134,8 +135,8 @@ fn constructors_and_runs_are_refused_memory_in_turn(rt: HostRuntime) -> Result<(
             }
             refused = trial + 1;
         }
-        same(&rt, (maker, refused < TRIALS), (maker, true));
-        same(&rt, (maker, 0 < refused || !is_short), (maker, true));
+        let in_turn = 0 < refused && refused < TRIALS;
+        same(&rt, (maker, in_turn || !is_short), (maker, true));
     }
     Ok(())
 }
@@ -173,8 +174,8 @@ fn ending(output: &str, errors: &str, status: u8) -> Ended {
     ended
 }
 
-/// Tries the program on these words with more and more memory, until it ends as it should. Before that it tells that
-/// memory was refused, and nothing else.
+/// Tries the program on these words with all memory, and then with more and more, until it ends as it should. Before
+/// that it tells that memory was refused, and nothing else.
 fn try_program<R: Abort + rt::Files + AllocGlobal>(
     runtime: &R,
     words: &[&str],
@@ -185,6 +186,8 @@ fn try_program<R: Abort + rt::Files + AllocGlobal>(
     for word in words {
         all.push(String::from_str(alloc, word)?)?;
     }
+    let found = end_of(runtime, all.as_slice());
+    same(runtime, (words, &found), (words, wanted));
     let no_memory = ending("", "rh_desk: no memory\n", 3);
     let scarce = Scarce::new(alloc)?;
     let is_short = scarce.is_short(alloc);
@@ -198,8 +201,8 @@ fn try_program<R: Abort + rt::Files + AllocGlobal>(
         same(runtime, (words, &found), (words, &no_memory));
         refused = trial + 1;
     }
-    same(runtime, (words, refused < TRIALS), (words, true));
-    same(runtime, (words, 0 < refused || !is_short), (words, true));
+    let in_turn = 0 < refused && refused < TRIALS;
+    same(runtime, (words, in_turn || !is_short), (words, true));
     Ok(())
 }
 
