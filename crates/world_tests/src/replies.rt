@@ -11,6 +11,9 @@ use rh_tasks::World;
 use std::process::Abort;
 use std::test::Fail;
 
+/// How that refusal is printed.
+const REFUSED: &[u8] = b"refused NoBlock\n";
+
 fn show(name: &Name, anchor: u8) -> Question {
     Question::Show {
         name: name.copied(),
@@ -22,6 +25,11 @@ fn blocks(name: &Name) -> Question {
     Question::Blocks {
         name: name.copied(),
     }
+}
+
+/// The refusal of a block that isn't there.
+fn no_block() -> Reply {
+    Reply::Refused(Refusal::NoBlock)
 }
 
 /// Prints the reply to a question, which is to be this text.
@@ -60,18 +68,22 @@ fn answers<R: Abort, S: Store>(
 /// Replies of the desk come with what the desk lists.
 fn prints_answers<R: Abort, S: Store>(rt: &R, world: &mut World<S>, held: &mut Held, a: &Name) {
     answers(rt, world, held, show(a, 0), b"ok 5 000aff0000\n");
-    answers(rt, world, held, show(a, 1), b"refused NoBlock\n");
+    answers(rt, world, held, show(a, 1), REFUSED);
     answers(rt, world, held, blocks(a), b"ok 1\n  0 &9008 5\n");
 }
 
 /// Replies that the desk doesn't give stand alone.
 fn prints_others<R: Abort, S: Store>(rt: &R, world: &World<S>, held: &mut Held, a: &Name) {
-    let refused = Reply::Refused(Refusal::NoBlock);
-    let line = b"refused NoBlock\n";
     prints(rt, world, held, blocks(a), Reply::BlockCount(7), b"ok 7\n");
-    prints(rt, world, held, show(a, 0), refused, line);
-    prints(rt, world, held, show(a, 64), refused, line);
+    prints(rt, world, held, show(a, 0), no_block(), REFUSED);
+    prints(rt, world, held, show(a, 64), no_block(), REFUSED);
     prints(rt, world, held, show(a, 0), Reply::Done, b"ok\n");
+}
+
+/// Starts the task, and gives it a block.
+fn starts<R: Abort, S: Store>(rt: &R, world: &mut World<S>, a: &Name) {
+    same(rt, said(rt, world, &task(a)), Reply::Started(Handle(1)));
+    fill(rt, world, a);
 }
 
 #[test]
@@ -81,12 +93,7 @@ fn prints_replies(rt: HostRuntime) -> Result<(), Fail> {
     let mut held = Held::new(rt.alloc())?;
     let a = name(b"a")?;
     let nobody = blocks(&name(b"c")?);
-    same(
-        &rt,
-        said(&rt, &mut world, &task(&a)),
-        Reply::Started(Handle(1)),
-    );
-    fill(&rt, &mut world, &a);
+    starts(&rt, &mut world, &a);
     prints_answers(&rt, &mut world, &mut held, &a);
     answers(&rt, &mut world, &mut held, nobody, b"refused NoName\n");
     prints_others(&rt, &world, &mut held, &a);
