@@ -1,0 +1,6 @@
+//! Laws that nothing else stands on: what holds of the desk's definitions beside the laws of the transfers.
+#![tactic(auto)]
+
+mod lines;
+
+pub use lines::line_law;
