@@ -1,6 +1,7 @@
 -- What a printed number reads as.
-use Rattle.std.proofs.Common.{◌≡◌, ℕ, zero, suc, ◌+◌, ◌-◌, ◌*◌, ◌/◌, ◌%◌, ◌^◌, ◌<◌, ◌≤◌, Bool, true, false, ◌&&◌, cond, eqb-true, List, [], ◌∷◌, length, refl, sym, subst, ◌∙◌, ap, arith, inl, inr}
-use Rattle.std.specs.Prelude.{nat_le, nat_lt, fold, slice_index, ◌==◌, unwrap_or, Option, Some, None, is_some}
+use Rattle.std.proofs.Common.{◌≡◌, ℕ, zero, suc, ◌+◌, ◌-◌, ◌*◌, ◌/◌, ◌%◌, ◌^◌, ◌<◌, ◌≤◌, Bool, true, false, ◌&&◌}
+use Rattle.std.proofs.Common.{eqb-true, List, [], ◌∷◌, length, refl, subst, ◌∙◌, ap, arith, inl, inr}
+use Rattle.std.specs.Prelude.{fold, ◌==◌, unwrap_or}
 use Rattle.std.specs.List.{list_all}
 use Rattle.std.specs.Char.{is_ascii_digit, digit_value}
 use Rattle.std.specs.Fmt.{decimal, digits, digits_onto, digit_glyph}
@@ -28,7 +29,7 @@ all_digits : (ds : List ℕ) → AllDigits 10 ds → list_all is_ascii_digit ds 
 all_digits [] h = refl
 all_digits (c ∷ ds) h = rw (digit_passes c h.0) (all_digits ds h.1)
 
-value_tells : (n : ℕ) (ds : List ℕ) → AllDigits 10 ds →
+pub value_tells : (n : ℕ) (ds : List ℕ) → AllDigits 10 ds →
     fold (λ n c. 10 * n + (c - 48)) n ds ≡ digits_value_after 10 n ds
 value_tells n [] h = refl
 value_tells n (c ∷ ds) h =
@@ -67,7 +68,8 @@ pub test_at : (test : ℕ → Bool) (n k : ℕ) → all_below test n ≡ true �
 test_at test zero k h small = absurd (omega arith)
 test_at test (suc n) k h small = elim (cases_lt k n) [
   | inl below ↦ test_at test n k (and_right (test n) (all_below test n) h) below
-  | inr last ↦ let same : n ≡ k = omega arith in subst (λ m. test m ≡ true) same (and_left (test n) (all_below test n) h)
+  | inr last ↦ let same : n ≡ k = omega arith in subst (λ m. test m ≡ true) same (and_left (test n)
+      (all_below test n) h)
 ]
 
 abbrev glyph : ℕ → ℕ
@@ -86,7 +88,7 @@ is_positive : (n : ℕ) → 1 ≤ n → (n == 0) ≡ false
 is_positive n h = grind (arith, nat_tests, h)
 
 -- the last k digits of a number at most, before others
-abbrev onto : ℕ → ℕ → List ℕ → List ℕ
+abbrev pub onto : ℕ → ℕ → List ℕ → List ℕ
 onto k n behind = digits_onto k 16 true n behind
 
 -- the last digit of a number
@@ -104,7 +106,8 @@ more n c = 16 * n + unwrap_or (hex_digit_value c) 0
 
 last_more : (n q : ℕ) → q ≡ n / 16 → more q (last_glyph n) ≡ n
 last_more n q same =
-    let digit : unwrap_or (hex_digit_value (last_glyph n)) 0 ≡ n % 16 = eqb-true _ _ (glyph_tells (n % 16) (omega arith)) in
+    let digit : unwrap_or (hex_digit_value (last_glyph n)) 0 ≡ n % 16 = eqb-true _ _ (glyph_tells (n % 16)
+        (omega arith)) in
     omega (arith, digit, same)
 
 hex_after : (k n : ℕ) (behind : List ℕ) → n < 16 ^ k → fold more 0 (onto k n behind) ≡ fold more n behind
@@ -123,10 +126,11 @@ onto_all test each (suc k) n behind h =
     let first : list_all test (last_glyph n ∷ behind) ≡ true = rw (each (n % 16) (omega arith)) h in
     elim (cases_lt n 16) [
       | inl few ↦ ap (list_all test) (onto_last k n behind few) ∙ first
-      | inr many ↦ ap (list_all test) (onto_next k n behind many) ∙ onto_all test each k (n / 16) (last_glyph n ∷ behind) first
+      | inr many ↦ ap (list_all test) (onto_next k n behind many)
+          ∙ onto_all test each k (n / 16) (last_glyph n ∷ behind) first
     ]
 
-onto_most : (k j n : ℕ) (behind : List ℕ) → n < 16 ^ suc j → length (onto k n behind) ≤ suc j + length behind
+pub onto_most : (k j n : ℕ) (behind : List ℕ) → n < 16 ^ suc j → length (onto k n behind) ≤ suc j + length behind
 onto_most zero j n behind h = omega arith
 onto_most (suc k) zero n behind h = omega (arith, ap length (onto_last k n behind (omega (arith, h))))
 onto_most (suc k) (suc j) n behind h = elim (cases_lt n 16) [

@@ -1,19 +1,20 @@
 -- Each form of a word reads what is printed for it.
-use Rattle.std.proofs.Common.{◌≡◌, ℕ, zero, suc, ◌+◌, ◌-◌, ◌*◌, ◌/◌, ◌%◌, ◌^◌, ◌<◌, ◌≤◌, Bool, true, false, ◌&&◌, ◌||◌, not, List, [], ◌∷◌, ◌++◌, length, refl, sym, ◌∙◌, ap, arith, lit≤}
-use Rattle.std.specs.Prelude.{nat_le, nat_lt, slice_index, ◌==◌, ℤ, pos, negsuc, Option, Some, None, Result, Ok, Err, codes, drop}
+use Rattle.std.proofs.Common.{◌≡◌, ℕ, zero, suc, ◌/◌, ◌%◌, ◌^◌, ◌<◌, Bool, true, false, ◌&&◌, List, [], ◌∷◌, length}
+use Rattle.std.proofs.Common.{refl, arith, lit≤}
+use Rattle.std.specs.Prelude.{nat_le, nat_lt, slice_index, ◌==◌, ℤ, pos, negsuc, Ok}
 use Rattle.std.specs.List.{list_all}
 use Rattle.std.specs.Char.{is_ascii_digit, is_ascii_alphanumeric, is_ascii_alphabetic}
 use Rattle.std.specs.Fmt.{decimal, signed_decimal, digits}
-use Rattle.std.specs.Result.{result_ok}
 use Rattle.std.proofs.lemmas.Bool.Decides.{nat_tests}
-use Rattle.hex.specs.Hex.{decode_of, encode_lower, encode_with, lower_digits, is_hex_digit}
+use Rattle.hex.specs.Hex.{encode_lower, encode_with, lower_digits}
 use Rattle.hex.proofs.HexLemmas.{decode_of-encode_lower, length-encode_with}
-use Rattle.rh_defs.specs.Forms.{is_name, is_leaf, is_graphic, is_decimal, is_delta, number_of, greatest}
-use Rattle.rh_defs.specs.Line.{word, name_at, number_at, delta_at, signed, is_negative, unsigned, is_address, address_at, leaf_at, bytes_at}
+use Rattle.rh_defs.specs.Forms.{is_name, is_leaf, is_graphic, is_decimal, is_delta, greatest}
+use Rattle.rh_defs.specs.Line.{word, name_at, number_at, delta_at, is_negative, is_address, address_at, leaf_at}
+use Rattle.rh_defs.specs.Line.{bytes_at}
 use Rattle.rh_defs.specs.Text.{Words, address}
 use Rattle.rh_safety.proofs.Basics.{and_left, and_right}
 use Rattle.rh_laws.proofs.Words.{is_whole, is_inner, all_pass}
-use Rattle.rh_laws.proofs.Numbers.{number_of_decimal, decimal_is_decimal, HexDigits, hex_digits, decimal_is_whole, test_at}
+use Rattle.rh_laws.proofs.Numbers.{number_of_decimal, decimal_is_decimal, hex_digits, decimal_is_whole, test_at}
 
 -- ---- names and leafnames
 
@@ -26,7 +27,8 @@ graphic_is_inner b h = grind (arith, nat_tests, h)
 pub name_is_whole : (w : List ℕ) → is_name w ≡ true → is_whole w ≡ true
 name_is_whole w h =
     let all = and_right _ (list_all is_ascii_alphanumeric w) h in
-    let some = and_left (nat_le 1 (length w)) _ (and_left _ (is_ascii_alphabetic (slice_index w 0)) (and_left _ (list_all is_ascii_alphanumeric w) h)) in
+    let some = and_left (nat_le 1 (length w)) _ (and_left _ (is_ascii_alphabetic (slice_index w 0)) (and_left _
+        (list_all is_ascii_alphanumeric w) h)) in
     rw (some, all_pass is_ascii_alphanumeric is_inner w letter_is_inner all) refl
 
 pub name_read : (words : Words) (n : ℕ) → is_name (word words n) ≡ true → name_at words n ≡ Ok (word words n)
@@ -65,7 +67,8 @@ unfolding is_decimal
 decimal_has_no_sign n small =
     let is = decimal_is_decimal n small in
     let front = and_left _ (nat_le (length (decimal n)) 10) is in
-    first_digit (decimal n) (and_right (list_all is_ascii_digit (decimal n)) _ front) (and_left _ (nat_le 1 (length (decimal n))) front)
+    first_digit (decimal n) (and_right (list_all is_ascii_digit (decimal n)) _ front) (and_left _ (nat_le 1 (length
+        (decimal n))) front)
 
 pub delta_read : (words : Words) (n : ℕ) (by : ℤ) → word words n ≡ signed_decimal by → is_delta by ≡ true →
     delta_at words n ≡ Ok by
@@ -108,7 +111,8 @@ is_byte b = nat_lt b 256
 
 byte_at : (bytes : List ℕ) → list_all is_byte bytes ≡ true → (i : ℕ) → slice_index bytes i < 256
 byte_at [] h i = lit≤ tt
-byte_at (b ∷ bytes) h zero = let small = and_left (is_byte b) (list_all is_byte bytes) h in grind (arith, nat_tests, small)
+byte_at (b ∷ bytes) h zero = let small = and_left (is_byte b) (list_all is_byte bytes) h in grind (arith, nat_tests,
+    small)
 byte_at (b ∷ bytes) h (suc i) = byte_at bytes (and_right (is_byte b) (list_all is_byte bytes) h) i
 
 pub bytes_read : (words : Words) (n : ℕ) (bytes : List ℕ) → word words n ≡ encode_lower bytes →

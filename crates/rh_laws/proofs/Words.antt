@@ -1,12 +1,12 @@
 -- Words that are joined by spaces are found again.
-use Rattle.std.proofs.Common.{◌≡◌, ℕ, ◌≤◌, Bool, true, false, ◌&&◌, not, List, [], ◌∷◌, length, refl, ◌∙◌, ap, arith}
-use Rattle.std.specs.Prelude.{nat_le, nat_lt, ◌==◌, Option, Some, None, Ok}
+use Rattle.std.proofs.Common.{◌≡◌, ℕ, Bool, true, false, ◌&&◌, not, List, [], ◌∷◌, length, refl, ◌∙◌, ap, arith}
+use Rattle.std.specs.Prelude.{nat_le, nat_lt, ◌==◌, Some, Ok}
 use Rattle.std.specs.List.{list_all, slice_split, filter, join_with_byte}
 use Rattle.std.proofs.lemmas.List.Splits.{slice_split_none, slice_split_at}
 use Rattle.std.proofs.lemmas.Bool.Decides.{nat_tests}
 use Rattle.std.proofs.lemmas.List.Sums.{AllPass-from_list_all}
 use Rattle.rh_defs.specs.declared.command.Command.{Command}
-use Rattle.rh_defs.specs.Line.{words_of, longest_line, is_skipped, command_of, line_means, ◌>>=◌}
+use Rattle.rh_defs.specs.Line.{words_of, longest_line, is_skipped, command_of, line_means}
 use Rattle.rh_safety.proofs.Basics.{and_left, and_right}
 
 -- what passes one test passes another
@@ -33,10 +33,12 @@ not_true false h = refl
 split_joined : (w : List ℕ) (ws : List (List ℕ)) → list_all is_whole (w ∷ ws) ≡ true →
     slice_split (λ b. b == 32) (join_with_byte 32 (w ∷ ws)) ≡ w ∷ ws
 split_joined w [] h =
-    let inner = AllPass-from_list_all is_inner w (and_right (nat_le 1 (length w)) (list_all is_inner w) (and_left (is_whole w) true h)) in
+    let inner = AllPass-from_list_all is_inner w (and_right (nat_le 1 (length w)) (list_all is_inner w) (and_left
+        (is_whole w) true h)) in
     slice_split_none (λ b. b == 32) w (λ k d l. not_true _ (inner k d l))
 split_joined w (y ∷ ws) h =
-    let inner = AllPass-from_list_all is_inner w (and_right (nat_le 1 (length w)) (list_all is_inner w) (and_left (is_whole w) (list_all is_whole (y ∷ ws)) h)) in
+    let inner = AllPass-from_list_all is_inner w (and_right (nat_le 1 (length w)) (list_all is_inner w) (and_left
+        (is_whole w) (list_all is_whole (y ∷ ws)) h)) in
     slice_split_at (λ b. b == 32) w 32 (join_with_byte 32 (y ∷ ws)) (λ k d l. not_true _ (inner k d l)) refl
     ∙ ap (λ v. w ∷ v) (split_joined y ws (and_right (is_whole w) (list_all is_whole (y ∷ ws)) h))
 
@@ -47,7 +49,8 @@ has_one n h = grind (arith, nat_tests, h)
 all_kept : (ws : List (List ℕ)) → list_all is_whole ws ≡ true → filter (λ w. not (length w == 0)) ws ≡ ws
 all_kept [] h = refl
 all_kept (w ∷ ws) h =
-    let some : nat_le 1 (length w) ≡ true = and_left _ (list_all is_inner w) (and_left (is_whole w) (list_all is_whole ws) h) in
+    let some : nat_le 1 (length w) ≡ true = and_left _ (list_all is_inner w) (and_left (is_whole w)
+        (list_all is_whole ws) h) in
     rw (has_one (length w) some) (ap (λ v. w ∷ v) (all_kept ws (and_right (is_whole w) (list_all is_whole ws) h)))
 
 pub words_joined : (w : List ℕ) (ws : List (List ℕ)) → list_all is_whole (w ∷ ws) ≡ true →
