@@ -5,3 +5,10 @@ pub mod Printed
 pub mod Lengths
 pub mod Spelled
 pub mod PrinterRows
+pub mod RefusalSteps
+pub mod RefusalRoomLaws
+pub mod RefusalTable
+pub mod RefusalSends
+pub mod RefusalAreas
+pub mod RefusalLaw
+pub mod RefusalRows

@@ -1,1 +1,4 @@
 pub mod Printer
+pub mod RefusalOrder
+pub mod RefusalRooms
+pub mod Conditions

@@ -2,5 +2,7 @@
 #![tactic(auto)]
 
 mod lines;
+mod order;
 
 pub use lines::line_law;
+pub use order::refusal_order_law;
