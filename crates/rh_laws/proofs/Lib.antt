@@ -12,3 +12,6 @@ pub mod RefusalSends
 pub mod RefusalAreas
 pub mod RefusalLaw
 pub mod RefusalRows
+pub mod HonestHeapLaws
+pub mod HonestClaims
+pub mod HonestRows

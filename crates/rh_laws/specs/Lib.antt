@@ -2,3 +2,4 @@ pub mod Printer
 pub mod RefusalOrder
 pub mod RefusalRooms
 pub mod Conditions
+pub mod HonestHeaps
