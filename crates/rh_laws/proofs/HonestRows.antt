@@ -57,8 +57,8 @@ wrong_largest = (refl, refl)
 abbrev hole_bytes : Heap → ℕ
 hole_bytes h = total hole_size h.segments
 
-wrong_free : (first_place + used_bytes small + hole_bytes small ≡ 48) × (small.end ≡ 56)
-wrong_free = (refl, refl)
+wrong_total : (first_place + used_bytes small + hole_bytes small ≡ 48) × (small.end ≡ 56)
+wrong_total = (refl, refl)
 
 -- a claim that passes over holes
 abbrev claim_on_top : ℕ → Heap → Result (Heap × ℕ) HeapRefusal
