@@ -15,3 +15,6 @@ pub mod RefusalRows
 pub mod HonestHeapLaws
 pub mod HonestClaims
 pub mod HonestRows
+pub mod Frames
+pub mod FramePolls
+pub mod FrameRows

@@ -3,3 +3,4 @@ pub mod RefusalOrder
 pub mod RefusalRooms
 pub mod Conditions
 pub mod HonestHeaps
+pub mod Frame

@@ -1,10 +1,12 @@
 //! Laws that nothing else stands on: what holds of the desk's definitions beside the laws of the transfers.
 #![tactic(auto)]
 
+mod frame;
 mod heaps;
 mod lines;
 mod order;
 
+pub use frame::frame_law;
 pub use heaps::describe_law;
 pub use lines::line_law;
 pub use order::refusal_order_law;

@@ -1,0 +1,422 @@
+-- A poll leaves other tasks as they were, but for the first bytes of one buffer.
+use Rattle.std.proofs.Common.{◌≡◌, ◌≢◌, ℕ, Bool, true, false, List, [], length, take, drop, Option, Some, None}
+use Rattle.std.proofs.Common.{refl, sym, ap, ◌∙◌, subst, ◌⊎◌, inl, inr, arith}
+use Rattle.std.specs.Prelude.{◌-◌, ◌==◌, min, nat_lt, Ok}
+use Rattle.std.specs.Option.{option_map}
+use Rattle.std.proofs.lemmas.Bool.Decides.{eqb_tells}
+use Rattle.rh_defs.specs.declared.refusal.Refusal.{Refusal}
+use Rattle.rh_defs.specs.declared.refusal.Refusal.TheVariants.{NoTask}
+use Rattle.rh_defs.specs.declared.command.Command.{Command}
+use Rattle.rh_defs.specs.declared.command.Command.TheVariants as command
+use Rattle.rh_defs.specs.declared.message.Body.{Body}
+use Rattle.rh_defs.specs.declared.message.Body.TheVariants as body
+use Rattle.rh_defs.specs.declared.message.EventCode.{EventCode}
+use Rattle.rh_defs.specs.declared.message.EventCode.TheVariants.{User, Recorded, Acknowledge}
+use Rattle.rh_defs.specs.declared.reply.Outcome.TheVariants as outcome
+use Rattle.rh_defs.specs.declared.transfer.Asked.{Asked}
+use Rattle.rh_defs.specs.declared.transfer.Sending.{Sending}
+use Rattle.rh_defs.specs.declared.transfer.Taking.{Taking}
+use Rattle.rh_defs.specs.declared.transfer.Incoming.{Incoming}
+use Rattle.rh_defs.specs.declared.transfer.Incoming.TheVariants as incoming
+use Rattle.rh_defs.specs.declared.transfer.Outgoing.{Outgoing}
+use Rattle.rh_defs.specs.declared.transfer.Outgoing.TheVariants as outgoing
+use Rattle.rh_defs.specs.Chain.{found_or}
+use Rattle.rh_defs.specs.Pieces.{Split}
+use Rattle.rh_defs.specs.Heap.{bytes_of}
+use Rattle.rh_defs.specs.Slot.{Flex, heap_block_at, slot_block}
+use Rattle.rh_defs.specs.Places.{buffer_at, with_heap_bytes, written_in}
+use Rattle.rh_defs.specs.Messages.{Parcel}
+use Rattle.rh_defs.specs.Letters.{transmit_letter}
+use Rattle.rh_defs.specs.Post.{post_poll}
+use Rattle.rh_defs.specs.Sender as sender
+use Rattle.rh_defs.specs.Desk.{Desk, Task, Scrap, named, next_ref, send_letter, task_at, with_delivered, with_sending}
+use Rattle.rh_defs.specs.Desk.{with_taking, with_task}
+use Rattle.rh_defs.specs.OutgoingEvents.{Handled, answer_ack, answer_fetch, fail_sending, finish_load, ignored, portion, refused}
+use Rattle.rh_defs.specs.OutgoingEvents.{save_scrap, transmit}
+use Rattle.rh_defs.specs.IncomingEvents.{accept, ack_back, appended, ask, ended, fetch_back, fetch_more, load_file, loaded}
+use Rattle.rh_defs.specs.IncomingEvents.{take_bytes, take_file, take_save, took}
+use Rattle.rh_defs.specs.Transfer.{answers_none, came, came_back, handled}
+use Rattle.rh_defs.specs.Commands.{Answer}
+use Rattle.rh_defs.specs.Step.{event, poll, poll_taken, step}
+use Rattle.rh_defs.proofs.Chains.{OnGrant, granted, granted-both, granted-past, granted-then, granted-unless, granted-with}
+use Rattle.rh_defs.proofs.Chains.{chosen, grant-holds, or_else-keeps}
+use Rattle.rh_safety.proofs.Ends.{Active, Has}
+use Rattle.rh_safety.proofs.View.{buffers_of, task_of, view}
+use Rattle.rh_safety.proofs.Basics.{contains_of, either, first_is, is_equal, open_is}
+use Rattle.rh_safety.proofs.Invariant.{Good, Offered}
+use Rattle.rh_safety.proofs.KeptFetch.{Reaches, fetch_in, reaches}
+use Rattle.rh_safety.proofs.KeptPolls.{Given, given}
+use Rattle.rh_safety.proofs.Polls.{Taken, Waiter}
+use Rattle.rh_safety.proofs.SeenBlocks.{found_name, from_test, ok_is, the_block}
+use Rattle.rh_safety.proofs.SeenDocuments.{letter_of}
+use Rattle.rh_safety.proofs.SeenFrames.{Fits, bind, done, instead_of, is_found, the_task}
+use Rattle.rh_safety.proofs.SeenSends.{by_grant, with_step}
+use Rattle.rh_safety.proofs.SeenTaking.{poll_taken_is}
+use Rattle.rh_safety.proofs.SeenTasks.{field_is, live_of}
+use Rattle.rh_safety.proofs.SeenWrites.{buffer_found}
+use Rattle.rh_safety.specs.TaskRecords.{HoldsOne}
+use Rattle.rh_laws.specs.Frame.{FillsBuffer, KeepsBlocks, PollsFill, actor, flex_blocks, handle_of, is_poll}
+use Rattle.rh_laws.proofs.Frames.{Leaves, any-grant, both-leave, edit-own, ended-leaves, ins-leave, leaves-others}
+use Rattle.rh_laws.proofs.Frames.{letter-leaves, other-task, outs-leave, slot-leaves, task-leaves}
+
+-- ---- messages that leave another task
+
+-- after a message was handled, the task of the handle is as it was
+record Calm (k : ℕ) (d : Desk) (x : Handled) : Type 0 where
+  desk : Leaves k d x.0
+
+calm-after : {k : ℕ} {d e : Desk} {x : Handled} → Leaves k d e → Calm k e x → Calm k d x
+calm-after a b = record { desk = both-leave a b.desk }
+
+module _ (k : ℕ) (t : Task) (ne : t.handle ≢ k) (d : Desk) where
+  ignored-calm : Calm k d (ignored d)
+  ignored-calm = record { desk = record { same = refl } }
+
+  refused-calm : (x : Sending) (refusal : Refusal) → Calm k d (refused d t x refusal)
+  refused-calm x refusal = record { desk = outs-leave t.handle k ne _ d }
+
+  ended-calm : (f : Taking) (edit : List Incoming → List Incoming) (o : _) → Calm k d (ended t.handle f edit d, o)
+  ended-calm f edit o = record { desk = ended-leaves t.handle k ne f edit d }
+
+  ins-calm : (edit : List Incoming → List Incoming) (o : _) → Calm k d (with_taking t.handle edit d, o)
+  ins-calm edit o = record { desk = ins-leave t.handle k ne edit d }
+
+  fail_sending-calm : (v : Option Sending) → Calm k d (fail_sending d t v)
+  unfolding fail_sending
+  fail_sending-calm None = ignored-calm
+  fail_sending-calm (Some x) = record { desk = outs-leave t.handle k ne _ d }
+
+  save_scrap-calm : (m : Parcel) (x : Sending) (source : Split Flex) → OnGrant (Calm k d) (save_scrap d t m x source)
+  unfolding save_scrap
+  save_scrap-calm m x source =
+      granted-past _ _ _ λ busy. granted-both _ (any-grant _) λ y u. granted-past _ _ _ λ room.
+      granted-with _ (letter-leaves k _ _ ne) λ sent one.
+      granted (record { desk = record { same = (outs-leave t.handle k ne _ _).same ∙ one.same } })
+
+  answer_ack-calm : (m : Parcel) (v : Option Sending) → Calm k d (answer_ack d t m v)
+  unfolding answer_ack
+  answer_ack-calm m None = ignored-calm
+  answer_ack-calm m (Some x) =
+      or_else-keeps (Calm k d) _ (granted-then _ _ λ source found. save_scrap-calm m x source) (refused-calm x)
+
+  finish_load-calm : (v : Option Sending) → Calm k d (finish_load d t v)
+  unfolding finish_load
+  finish_load-calm None = ignored-calm
+  finish_load-calm (Some x) =
+      or_else-keeps (Calm k d) _
+      (granted-then _ _ λ source found. granted (record { desk = outs-leave t.handle k ne _ d })) (refused-calm x)
+
+  accept-calm : (m : Parcel) → OnGrant (Calm k d) (accept d t m)
+  unfolding accept
+  accept-calm m =
+      granted-then _ _ λ a free. granted-then _ _ λ b claimed. granted-then _ _ λ p there.
+      granted-with _ (letter-leaves k _ _ ne) λ sent one.
+      granted (record { desk = both-leave (slot-leaves t.handle k ne p.0 d) (both-leave one (ins-leave t.handle k ne _ sent)) })
+
+  take_save-calm : (m : Parcel) → Calm k d (take_save d t m)
+  unfolding take_save
+  take_save-calm m =
+      chosen (Calm k d) _ _ _ (or_else-keeps (Calm k d) _ (accept-calm m) (λ refusal. ignored-calm)) ignored-calm
+
+  appended-leaves : (a : ℕ) (bytes : List ℕ) → OnGrant (Leaves k d) (appended d t a bytes)
+  unfolding appended
+  appended-leaves a bytes =
+      granted-then _ _ λ document found. granted-then _ _ λ longer e. granted-then _ _ λ s f.
+      granted (slot-leaves t.handle k ne s d)
+
+  fetch_more-calm : (m : Parcel) (f : Taking) (n : ℕ) → OnGrant (Calm k d) (fetch_more d t m f n)
+  unfolding fetch_more
+  fetch_more-calm m f n =
+      granted-with _ (letter-leaves k _ d ne) λ sent one.
+      granted (record { desk = both-leave one (ins-leave t.handle k ne _ sent) })
+
+  took-calm : (m : Parcel) (f : Taking) (n : ℕ) → Calm k d (took d t m f n)
+  unfolding took
+  took-calm m f n =
+      chosen (Calm k d) _ _ _ (ended-calm f _ _)
+      (or_else-keeps (Calm k d) _ (fetch_more-calm m f n) (λ refusal. ended-calm f _ _))
+
+  ask-calm : (f : Taking) → OnGrant (Calm k d) (ask d t f)
+  unfolding ask
+  ask-calm f =
+      granted-with _ (letter-leaves k _ d ne) λ sent one.
+      granted (record { desk = both-leave one (ended-leaves t.handle k ne f _ sent) })
+
+  fetch_back-calm : (v : Option Incoming) → Calm k d (fetch_back d t v)
+  unfolding fetch_back
+  fetch_back-calm None = ignored-calm
+  fetch_back-calm (Some (incoming.Fetching f)) =
+      chosen (Calm k d) _ _ _ (or_else-keeps (Calm k d) _ (ask-calm f) (λ refusal. ended-calm f _ _)) (ended-calm f _ _)
+  fetch_back-calm (Some (incoming.Draining f)) = ended-calm f _ _
+  fetch_back-calm (Some (incoming.Asking q)) = ignored-calm
+  fetch_back-calm (Some (incoming.Done id anchor count)) = ignored-calm
+  fetch_back-calm (Some (incoming.Failed id anchor count)) = ignored-calm
+
+  ack_back-calm : (v : Option Asked) → Calm k d (ack_back d t v)
+  unfolding ack_back
+  ack_back-calm None = ignored-calm
+  ack_back-calm (Some q) = ins-calm _ _
+
+  loaded-calm : (m : Parcel) (q : Asked) (n : ℕ) → Calm k d (loaded d t m q n)
+  unfolding loaded
+  loaded-calm m q n =
+      or_else-keeps (Calm k d) _
+      (granted-with _ (letter-leaves k _ d ne) λ sent one. granted (record { desk = both-leave one (ins-leave t.handle k ne _ sent) }))
+      (λ refusal. ins-calm _ _)
+
+module _ (k : ℕ) (t : Task) (ne : t.handle ≢ k) (d : Desk) where
+  take_bytes-calm : (m : Parcel) (n : ℕ) (v : Option Incoming) → Calm k d (take_bytes d t m n v)
+  unfolding take_bytes
+  take_bytes-calm m n None = ignored-calm k t ne d
+  take_bytes-calm m n (Some (incoming.Fetching f)) =
+      or_else-keeps (Calm k d) _
+      (granted-unless _ _ _ λ small. granted-with _ (appended-leaves k t ne d f.anchor _) λ longer one.
+      granted (calm-after one (took-calm k t ne longer m f n)))
+      (λ refusal. ended-calm k t ne d f _ _)
+  take_bytes-calm m n (Some (incoming.Draining f)) = ended-calm k t ne d f _ _
+  take_bytes-calm m n (Some (incoming.Asking q)) = ignored-calm k t ne d
+  take_bytes-calm m n (Some (incoming.Done id anchor count)) = ignored-calm k t ne d
+  take_bytes-calm m n (Some (incoming.Failed id anchor count)) = ignored-calm k t ne d
+
+  load_file-calm : (m : Parcel) (q : Asked) (v : Option Scrap) → Calm k d (load_file d t m q v)
+  unfolding load_file
+  load_file-calm m q None = ignored-calm k t ne d
+  load_file-calm m q (Some file) =
+      chosen (Calm k d) _ _ _
+      (or_else-keeps (Calm k d) _
+      (granted-with _ (appended-leaves k t ne d q.anchor file.bytes) λ longer one.
+      granted (calm-after (record { same = one.same }) (loaded-calm k t ne (record longer { scrap = None }) m q (length file.bytes))))
+      (λ refusal. ins-calm k t ne d _ _))
+      (ignored-calm k t ne d)
+
+  take_file-calm : (m : Parcel) (v : Option Asked) → Calm k d (take_file d t m v)
+  unfolding take_file
+  take_file-calm m None = ignored-calm k t ne d
+  take_file-calm m (Some q) = load_file-calm m q d.scrap
+
+  came_back-calm : (m : Parcel) (b : Body) → Calm k d (came_back d t m b)
+  unfolding came_back
+  came_back-calm m (body.DataSave file) = fail_sending-calm k t ne d _
+  came_back-calm m (body.DataSaveAck file) = ack_back-calm k t ne d _
+  came_back-calm m (body.DataLoad file) = fail_sending-calm k t ne d _
+  came_back-calm m (body.DataLoadAck file) = ignored-calm k t ne d
+  came_back-calm m (body.RamFetch buffer amount) = fetch_back-calm k t ne d _
+  came_back-calm m (body.RamTransmit buffer n) = fail_sending-calm k t ne d _
+
+-- ---- a fetch
+
+-- the task of the handle, which an edit of it changes
+own-task : (h : ℕ) (f : Task → Task) → ((y : Task) → (f y).handle ≡ y.handle) → (d : Desk) (r : Task) → r.handle ≡ h →
+    task_at h d ≡ Some r → task_at h (with_task r.handle f d) ≡ Some (f r)
+unfolding with_task
+own-task h f kh d r same is =
+    subst (λ j. task_at h (with_task j f d) ≡ Some (f r)) (sym same) (edit-own h f kh d.tasks r is)
+
+-- a record that holds a buffer, as the task has it
+holds-one : (r : Task) (f : Taking) → Active r.taking f → HoldsOne r f
+holds-one r f (inl has) = inl (contains_of r.taking (incoming.Fetching f) has)
+holds-one r f (inr has) = inr (contains_of r.taking (incoming.Draining f) has)
+
+module _ (k : ℕ) (t : Task) (ne : t.handle ≢ k) (d : Desk) (m : Parcel) where
+  -- the other task is as it was, or one buffer of it is filled
+  abbrev Fills : Handled → Type 0
+  Fills x = Leaves k d x.0 ⊎ FillsBuffer t k (task_at k d) (task_at k x.0) (event m x).1
+
+  calm : {x : Handled} → Calm k d x → Fills x
+  calm c = inl c.desk
+
+  module _ (is : task_of t.handle d.tasks ≡ Some t) (buffer amount : ℕ) where
+    -- what goes out for a record: the next bytes of the source
+    abbrev bytes_out : Sending → Split Flex → List ℕ
+    bytes_out x source = take (portion x amount source) (drop x.count source.here.bytes)
+
+    -- the recipient with them in its buffer
+    abbrev poured_in : List ℕ → Task → Task
+    poured_in bytes r = record r { slot = written_in buffer bytes (buffer_at buffer amount r.slot) r.slot }
+
+    poured : (x : Sending) (source : Split Flex) (r : Task) (sent : Desk) → Has (outgoing.Open x) t.sending →
+        slot_block x.anchor t.slot ≡ Ok source → task_of x.recipient d.tasks ≡ Some r → Reaches d t m is buffer amount x →
+        Waiter (view d) t.handle x (fetch_in m buffer amount) → Leaves k d sent → Fills (
+          with_sending t.handle (sender.sent x (portion x amount source) amount (next_ref d))
+              (with_task r.handle (poured_in (bytes_out x source)) sent),
+          outcome.Sent (portion x amount source) (next_ref d),
+        )
+    poured x source r sent has found to reach w leaves =
+        let n : ℕ = portion x amount source in
+        let out : List ℕ = bytes_out x source in
+        let same : r.handle ≡ x.recipient = is_equal _ _ (first_is (λ (y : Task). y.handle == x.recipient) d.tasks r to).1 in
+        let written : Desk = with_task r.handle (poured_in out) sent in
+        let records : Leaves k written (with_sending t.handle (sender.sent x n amount (next_ref d)) written) =
+        outs-leave t.handle k ne _ written in
+        elim (eqb_tells x.recipient k) [
+          | inr away ↦ inl (both-leave leaves (both-leave (task-leaves r.handle k (λ e. away.1 (sym same ∙ e)) (poured_in out) (λ y.
+              refl) sent) records))
+          | inl here ↦
+              let was : task_at k d ≡ Some r = subst (λ j. task_of j d.tasks ≡ Some r) here.1 to in
+              let c = buffer_found buffer amount r.slot reach.old (ap (λ (g : ℕ → Option (List ℕ)). g buffer)
+              (sym (field_is (λ y. buffers_of y.slot) (λ a. None) x.recipient d.tasks r to)) ∙ reach.there) reach.fits
+              (heap_block_at buffer r.slot) refl in
+              let now : written_in buffer out (buffer_at buffer amount r.slot) r.slot ≡ with_heap_bytes c.cut 0 out r.slot =
+              ap (λ o. written_in buffer out o r.slot) c.found in
+              let own : task_at k written ≡ Some (poured_in out r) =
+              own-task k (poured_in out) (λ y. refl) sent r (same ∙ here.1) (leaves.same ∙ was) in
+              inr (record {
+                receiver = r;
+                was = was;
+                out = x;
+                sends = contains_of t.sending (outgoing.Open x) has;
+                recipient = here.1;
+                source = source.here.bytes;
+                source_is = ap (option_map (λ (b : Split Flex). b.here.bytes)) (the_block x.anchor t.slot source found);
+                into = w.taking;
+                holds = holds-one r w.taking (subst (λ (ws : List Incoming). Active ws w.taking)
+                    (field_is (λ y. y.taking) [] x.recipient d.tasks r to) w.is_active);
+                same_id = w.same_id;
+                from = w.sender;
+                buffer = c.cut;
+                buffer_is = ap (λ a. heap_block_at a r.slot) w.names ∙ c.is;
+                n = n;
+                portion = ap (λ a. min a (length source.here.bytes - x.count))
+                    (w.amount ∙ field_is (λ y. y.buffer) 1 x.recipient d.tasks r to);
+                room = let z = reach.fits in let y : length (bytes_of c.cut.here) ≡ length reach.old = ap (λ (v : List ℕ).
+                    length v) c.bytes in omega arith;
+                filled = records.same ∙ own ∙ ap (λ s. Some (record r { slot = s })) now;
+                answered = refl;
+              })
+        ]
+
+    fetch-fills : (v : Option Sending) → ((x : Sending) → v ≡ Some x → Has (outgoing.Open x) t.sending) →
+        ((x : Sending) → v ≡ Some x → (view d).live x.recipient ≡ true → Reaches d t m is buffer amount x) →
+        ((x : Sending) → v ≡ Some x → (view d).live x.recipient ≡ true →
+        Waiter (view d) t.handle x (fetch_in m buffer amount)) → Fills (answer_fetch d t m buffer amount v)
+    unfolding answer_fetch transmit
+    fetch-fills None has reach wait = calm (ignored-calm k t ne d)
+    fetch-fills (Some x) has reach wait =
+        by_grant Fills _ _
+        (λ y q. with_step (slot_block x.anchor t.slot) _ y q (λ source e1 q1.
+        with_step (found_or (task_at x.recipient d) NoTask) _ y q1 (λ r e2 q2.
+        with_step (send_letter (transmit_letter t.handle m (nat_lt (portion x amount source) amount) buffer (portion x
+        amount source)) d) _ y (from_test _ _ y q2) (λ sent e3 q3.
+        let to : task_of x.recipient d.tasks ≡ Some r = is_found (task_at x.recipient d) NoTask r e2 in
+        let lives = live_of d x.recipient r to in
+        let leaves : Leaves k d sent = grant-holds (letter-leaves k (transmit_letter t.handle m (nat_lt (portion x amount
+        source) amount) buffer (portion x amount source)) d ne) e3 in
+        subst Fills (ok_is _ y q3) (poured x source r sent (has x refl) e1 to (reach x refl lives) (wait x refl lives)
+        leaves)))))
+        (λ refusal q. calm (refused-calm k t ne d x refusal))
+
+  -- ---- all messages
+
+  module _ {o : Offered} {e : ℕ → ℕ → Bool} (is : task_of t.handle d.tasks ≡ Some t) where
+    -- a record that would answer a fetch has one that waits
+    waits : (buffer amount : ℕ) → Taken o e (view d) t.handle (fetch_in m buffer amount) → answers_none t.manner ≡ false →
+        (x : Sending) → sender.on_fetch m.message.from m.message.your_ref amount t.sending ≡ Some x →
+        (view d).live x.recipient ≡ true → Waiter (view d) t.handle x (fetch_in m buffer amount)
+    waits buffer amount tk file x q lives =
+        let found = open_is (sender.would_answer m.message.from m.message.your_ref amount) t.sending x q in
+        tk.waiter x (subst (λ (vs : List Outgoing). Has (outgoing.Open x) vs)
+        (sym (field_is (λ y. y.sending) [] t.handle d.tasks t is)) found.0) refl found.1
+        (field_is (λ y. answers_none y.manner) false t.handle d.tasks t is ∙ file) lives
+
+    came-fills : (b : Body) → Taken o e (view d) t.handle (letter_of m b) → Fills (came d t m b)
+    unfolding came
+    came-fills (body.DataSave file) tk = calm (take_save-calm k t ne d m)
+    came-fills (body.DataSaveAck file) tk = calm (answer_ack-calm k t ne d m _)
+    came-fills (body.DataLoad file) tk = calm (take_file-calm k t ne d m _)
+    came-fills (body.DataLoadAck file) tk = calm (finish_load-calm k t ne d _)
+    came-fills (body.RamFetch buffer amount) tk =
+        either Fills (answers_none t.manner) (ignored d) _ (λ y. calm (ignored-calm k t ne d)) (λ y.
+        fetch-fills is buffer amount _
+        (λ x q. (open_is (sender.would_answer m.message.from m.message.your_ref amount) t.sending x q).0)
+        (reaches d t m is buffer amount tk y) (waits buffer amount tk y))
+    came-fills (body.RamTransmit buffer n) tk = calm (take_bytes-calm k t ne d m n _)
+
+    handled-fills : Given o e d t m → (c : EventCode) → m.code ≡ c → Fills (handled d t m c)
+    unfolding handled
+    handled-fills w User q = came-fills m.message.body (w.came (λ z. let y : User ≡ Acknowledge = sym q ∙ z in cc))
+    handled-fills w Recorded q = came-fills m.message.body (w.came (λ z. let y : Recorded ≡ Acknowledge = sym q ∙ z in cc))
+    handled-fills w Acknowledge q = calm (came_back-calm k t ne d m m.message.body)
+
+-- ---- a poll
+
+-- the other task after an answer
+abbrev FillsAt : Desk → Task → ℕ → Answer → Type 0
+FillsAt d t h a = (task_at h a.0 ≡ task_at h d) ⊎ FillsBuffer t h (task_at h d) (task_at h a.0) a.1
+
+-- what the poll of a task answers and leaves
+abbrev polled : Desk → Task → Answer
+polled d t = poll_taken (with_delivered (post_poll t.handle d.post).0 d) t (post_poll t.handle d.post).1
+
+module _ {o : Offered} {e : ℕ → ℕ → Bool} (d : Desk) (f : Fits d) (g : Good o e (view d)) (h : ℕ) where
+  polled-fills : (t : Task) → t.handle ≢ h → task_of t.handle d.tasks ≡ Some t → FillsAt d t h (polled d t)
+  unfolding poll_taken with_delivered
+  polled-fills t ne is = go (post_poll t.handle d.post).1 refl
+    where
+      at_ : Desk
+      at_ = with_delivered (post_poll t.handle d.post).0 d
+
+      told : {a : Answer} → Leaves h at_ a.0 ⊎ FillsBuffer t h (task_at h at_) (task_at h a.0) a.1 → FillsAt d t h a
+      told (inl leaves) = inl leaves.same
+      told (inr fills) = inr fills
+
+      go : (v : Option Parcel) → (post_poll t.handle d.post).1 ≡ v → FillsAt d t h (poll_taken at_ t v)
+      go None q = inl refl
+      go (Some m) q = told (handled-fills h t ne at_ m is (given d t f is g (post_poll t.handle d.post) (f.polled t.handle)
+          (poll_taken_is d t.handle f (live_of d t.handle t is)) m q) m.code refl)
+
+-- a filled buffer leaves the flex blocks
+blocks-left : (d : Desk) (t : Task) (h : ℕ) (a : Answer) → FillsAt d t h a →
+    option_map flex_blocks (task_at h a.0) ≡ option_map flex_blocks (task_at h d)
+blocks-left d t h a (inl same) = ap (option_map flex_blocks) same
+blocks-left d t h a (inr w) = ap (option_map flex_blocks) w.filled ∙ sym (ap (option_map flex_blocks) w.was)
+
+-- what holds of the poll of each task that may have the name holds of the command
+by-name : (P : Answer → Type 0) (d : Desk) (name : List ℕ) → ((r : Refusal) → P (instead_of d r)) →
+    ((t : Task) → named name d ≡ Ok t → P (polled d t)) → P (step d (command.Poll name))
+unfolding poll
+by-name P d name none one = bind P (named name d) _ (instead_of d) none (λ t q. done P _ (instead_of d) (one t q))
+
+module _ {o : Offered} {e : ℕ → ℕ → Bool} (d : Desk) (f : Fits d) (g : Good o e (view d)) where
+  pub polls-fill : PollsFill d
+  polls-fill name sender h found ne =
+      by-name (FillsAt d sender h) d name (λ r. inl refl) (λ t q.
+      let one : Some t ≡ Some sender = sym (found_name d name t q) ∙ found in
+      let same : t ≡ sender = cc in
+      subst (λ u. FillsAt d sender h (polled d u)) (sym same)
+      (polled-fills d f g h sender ne (the_task d name sender f (subst (λ u. named name d ≡ Ok u) same q))))
+
+  poll-blocks : (name : List ℕ) (h : ℕ) → handle_of name d ≢ Some h →
+      option_map flex_blocks (task_at h (step d (command.Poll name)).0) ≡ option_map flex_blocks (task_at h d)
+  poll-blocks name h ne =
+      by-name (λ (a : Answer). option_map flex_blocks (task_at h a.0) ≡ option_map flex_blocks (task_at h d)) d name (λ r. refl)
+      (λ t q. blocks-left d t h (polled d t) (polled-fills d f g h t (other-task h name d t ne q) (the_task d name t f q)))
+
+  other-blocks : (c : Command) → is_poll c ≡ false → (h : ℕ) → actor c d ≢ Some h →
+      option_map flex_blocks (task_at h (step d c).0) ≡ option_map flex_blocks (task_at h d)
+  other-blocks c p h ne = ap (option_map flex_blocks) (leaves-others d c h p ne)
+
+  pub keeps-blocks : KeepsBlocks d
+  keeps-blocks (command.Task name buffer manner) h ne = other-blocks (command.Task name buffer manner) refl h ne
+  keeps-blocks (command.Kill name) h ne = other-blocks (command.Kill name) refl h ne
+  keeps-blocks (command.Alloc name k n) h ne = other-blocks (command.Alloc name k n) refl h ne
+  keeps-blocks (command.Load name k file) h ne = other-blocks (command.Load name k file) refl h ne
+  keeps-blocks (command.Put name k offset bytes) h ne = other-blocks (command.Put name k offset bytes) refl h ne
+  keeps-blocks (command.Free name k) h ne = other-blocks (command.Free name k) refl h ne
+  keeps-blocks (command.Extend name k n) h ne = other-blocks (command.Extend name k n) refl h ne
+  keeps-blocks (command.Mid name k offset by) h ne = other-blocks (command.Mid name k offset by) refl h ne
+  keeps-blocks (command.Claim name n) h ne = other-blocks (command.Claim name n) refl h ne
+  keeps-blocks (command.Release name address) h ne = other-blocks (command.Release name address) refl h ne
+  keeps-blocks (command.Resize name address delta) h ne = other-blocks (command.Resize name address delta) refl h ne
+  keeps-blocks (command.Budge name on) h ne = other-blocks (command.Budge name on) refl h ne
+  keeps-blocks (command.Save name k to leaf) h ne = other-blocks (command.Save name k to leaf) refl h ne
+  keeps-blocks (command.Poll name) h ne = poll-blocks name h ne
+  keeps-blocks (command.CancelIn name id) h ne = other-blocks (command.CancelIn name id) refl h ne
+  keeps-blocks (command.CancelOut name id) h ne = other-blocks (command.CancelOut name id) refl h ne
+  keeps-blocks (command.Repeat name) h ne = other-blocks (command.Repeat name) refl h ne
+  keeps-blocks (command.Area k delta) h ne = other-blocks (command.Area k delta) refl h ne
+  keeps-blocks (command.Make most) h ne = other-blocks (command.Make most) refl h ne
+  keeps-blocks (command.Remove k) h ne = other-blocks (command.Remove k) refl h ne
+  keeps-blocks (command.RmaClaim n) h ne = other-blocks (command.RmaClaim n) refl h ne
+  keeps-blocks (command.RmaFree address) h ne = other-blocks (command.RmaFree address) refl h ne
+  keeps-blocks (command.RmaResize address delta) h ne = other-blocks (command.RmaResize address delta) refl h ne
+  keeps-blocks (command.Ask q) h ne = other-blocks (command.Ask q) refl h ne

@@ -1,0 +1,282 @@
+-- Edits of one task leave the others, and so does each command that isn't of them and no poll.
+use Rattle.std.proofs.Common.{◌≡◌, ◌≢◌, ℕ, Bool, true, false, not, List, [], ◌∷◌, ◌++◌, length, Option, Some}
+use Rattle.std.proofs.Common.{refl, ap, ◌∙◌, inl, inr, arith}
+use Rattle.std.specs.Prelude.{nat_eq, nat_lt, ◌==◌, if◌then◌else◌, filter, ℤ, Ok, Err}
+use Rattle.std.specs.Option.{option_map}
+use Rattle.std.proofs.lemmas.Bool.Decides.{eqb_tells}
+use Rattle.rh_defs.specs.declared.command.Command.{Command}
+use Rattle.rh_defs.specs.declared.command.Command.TheVariants as command
+use Rattle.rh_defs.specs.declared.command.Manner.{Manner}
+use Rattle.rh_defs.specs.declared.message.Letter.{Letter}
+use Rattle.rh_defs.specs.declared.question.Question.{Question}
+use Rattle.rh_defs.specs.declared.transfer.Taking.{Taking}
+use Rattle.rh_defs.specs.declared.transfer.Outgoing.{Outgoing}
+use Rattle.rh_defs.specs.declared.transfer.Incoming.{Incoming}
+use Rattle.rh_defs.specs.Chain.{Granted}
+use Rattle.rh_defs.specs.Slot.{Slot}
+use Rattle.rh_defs.specs.Desk.{Desk, Task, edit_task, named, send_letter, task_at, with_delivered}
+use Rattle.rh_defs.specs.Desk.{with_sending, with_slot, with_taking, with_task}
+use Rattle.rh_defs.specs.Commands.{Answer, start_task, kill, alloc, load, put, free, extend, mid, claim, release, resize}
+use Rattle.rh_defs.specs.Commands.{budge, module_area, change_module, change_pages, change_made, change_area, make, remove}
+use Rattle.rh_defs.specs.Commands.{rma_claim, rma_free, rma_resize}
+use Rattle.rh_defs.specs.IncomingEvents.{ended}
+use Rattle.rh_defs.specs.Step.{save, repeat, cancel_in, cancel_out, change, step}
+use Rattle.rh_defs.proofs.Chains.{OnGrant, chosen, granted, granted-past, granted-then, granted-with, or_else-keeps, refused}
+use Rattle.rh_safety.proofs.SeenBlocks.{found_name}
+use Rattle.rh_safety.proofs.View.{task_of}
+use Rattle.rh_laws.specs.Frame.{actor, handle_of, is_poll, LeavesOthers}
+
+-- ---- lists of tasks
+
+-- an edit of one task leaves the others
+pub edit-other : (h k : ℕ) (f : Task → Task) → ((y : Task) → (f y).handle ≡ y.handle) → (ts : List Task) → h ≢ k →
+    task_of k (edit_task h f ts) ≡ task_of k ts
+edit-other h k f kh [] ne = refl
+edit-other h k f kh (t ∷ ts) ne = elim (eqb_tells t.handle h) [
+  | inl a ↦
+      let off : nat_eq t.handle k ≡ false = grind (arith, eqb_tells t.handle k) in
+      let new : nat_eq (f t).handle k ≡ false = rw kh off in
+      rw (a.0, off, new) refl
+  | inr a ↦ elim (eqb_tells t.handle k) [
+    | inl b ↦ rw (a.0, b.0) refl
+    | inr b ↦ rw (a.0, b.0) (edit-other h k f kh ts ne)
+  ]
+]
+
+-- the task that is edited
+pub edit-own : (h : ℕ) (f : Task → Task) → ((y : Task) → (f y).handle ≡ y.handle) → (ts : List Task) (t : Task) →
+    task_of h ts ≡ Some t → task_of h (edit_task h f ts) ≡ Some (f t)
+edit-own h f kh [] t q = absurd cc
+edit-own h f kh (x ∷ ts) t q = elim (eqb_tells x.handle h) [
+  | inl a ↦
+      let same : x ≡ t = let z = rw a.0 at q in cc in
+      let new : nat_eq (f x).handle h ≡ true = rw kh a.0 in
+      rw (a.0, new) (ap (λ (y : Task). Some (f y)) same)
+  | inr a ↦ rw (a.0, a.0) (edit-own h f kh ts t (rw a.0 at q))
+]
+
+-- one more task leaves those of other handles
+more-other : (k : ℕ) (new : Task) (ts : List Task) → new.handle ≢ k → task_of k (ts ++ new ∷ []) ≡ task_of k ts
+more-other k new [] ne =
+    let off : nat_eq new.handle k ≡ false = grind (arith, eqb_tells new.handle k) in rw off refl
+more-other k new (t ∷ ts) ne =
+    elim (t.handle == k) as (λ b. (if b then Some t else task_of k (ts ++ new ∷ [])) ≡ (if b then Some t else task_of k ts))
+    [ true ↦ refl | false ↦ more-other k new ts ne ]
+
+-- without the tasks of a handle the others are there
+less-other : (h k : ℕ) (ts : List Task) → h ≢ k → task_of k (filter (λ (t : Task). not (t.handle == h)) ts) ≡ task_of k ts
+less-other h k [] ne = refl
+less-other h k (t ∷ ts) ne = elim (eqb_tells t.handle h) [
+  | inl a ↦
+      let off : nat_eq t.handle k ≡ false = grind (arith, eqb_tells t.handle k) in
+      rw (a.0, off) (less-other h k ts ne)
+  | inr a ↦ elim (eqb_tells t.handle k) [
+    | inl b ↦ rw (a.0, b.0) refl
+    | inr b ↦ rw (a.0, b.0) (less-other h k ts ne)
+  ]
+]
+
+-- ---- desks
+
+-- a step of which nothing is known
+pub any-grant : {A : Type 0} (r : Granted A) → OnGrant (λ (x : A). Unit {0}) r
+any-grant (Ok x) = granted tt
+any-grant (Err refusal) = refused
+
+-- the task of the handle is as it was
+pub record Leaves (k : ℕ) (d e : Desk) : Type 0 where
+  pub same : task_at k e ≡ task_at k d
+
+pub both-leave : {k : ℕ} {d e f : Desk} → Leaves k d e → Leaves k e f → Leaves k d f
+both-leave a b = record { same = b.same ∙ a.same }
+
+module _ (h k : ℕ) (ne : h ≢ k) where
+  pub task-leaves : (f : Task → Task) → ((y : Task) → (f y).handle ≡ y.handle) → (d : Desk) → Leaves k d (with_task h f d)
+  unfolding with_task
+  task-leaves f kh d = record { same = edit-other h k f kh d.tasks ne }
+
+  pub slot-leaves : (s : Slot) (d : Desk) → Leaves k d (with_slot h s d)
+  slot-leaves s d = task-leaves (λ (t : Task). record t { slot = s }) (λ y. refl) d
+
+  pub outs-leave : (edit : List Outgoing → List Outgoing) (d : Desk) → Leaves k d (with_sending h edit d)
+  outs-leave edit d = task-leaves (λ (t : Task). record t { sending = edit t.sending }) (λ y. refl) d
+
+  pub ins-leave : (edit : List Incoming → List Incoming) (d : Desk) → Leaves k d (with_taking h edit d)
+  ins-leave edit d = task-leaves (λ (t : Task). record t { taking = edit t.taking }) (λ y. refl) d
+
+  pub ended-leaves : (f : Taking) (edit : List Incoming → List Incoming) (d : Desk) → Leaves k d (ended h f edit d)
+  unfolding ended
+  ended-leaves f edit d = both-leave (task-leaves _ (λ y. refl) d) (ins-leave edit _)
+
+pub letter-leaves : (k : ℕ) (l : Letter) (d : Desk) → l.from ≢ k → OnGrant (Leaves k d) (send_letter l d)
+unfolding send_letter with_task
+letter-leaves k l d ne =
+    granted-then _ _ λ sent e.
+    granted (record { same = edit-other l.from k (λ (t : Task). record t { last_sent = Some (l, sent.1) }) (λ y. refl) d.tasks ne })
+
+-- ---- commands
+
+-- a task of the name has another handle, where the name is of none with that one
+pub other-task : (k : ℕ) (name : List ℕ) (d : Desk) (t : Task) → handle_of name d ≢ Some k → named name d ≡ Ok t → t.handle ≢ k
+other-task k name d t not_own is same =
+    not_own (ap (option_map (λ (y : Task). y.handle)) (found_name d name t is) ∙ ap Some same)
+
+module _ (k : ℕ) (d : Desk) where
+  -- what a command leaves
+  pub record Kept (a : Answer) : Type 0 where
+    pub desk : Leaves k d a.0
+
+  still : {a : Answer} → Leaves k d a.0 → OnGrant Kept (Ok a)
+  still leaves = granted (record { desk = leaves })
+
+  all-stand : Leaves k d d
+  all-stand = record { same = refl }
+
+  start_task-kept : (name : List ℕ) (buffer : ℕ) (manner : Manner) → d.next_handle ≢ k → OnGrant Kept (start_task d name buffer manner)
+  unfolding start_task
+  start_task-kept name buffer manner ne =
+      granted-past _ _ _ λ a. granted-past _ _ _ λ b. granted-past _ _ _ λ c. granted-then _ _ λ s e.
+      still (record { same = more-other k _ d.tasks ne })
+
+  make-kept : (most : ℕ) → OnGrant Kept (make d most)
+  unfolding make
+  make-kept most = granted-past _ _ _ λ a. granted-past _ _ _ λ b. still (record { same = refl })
+
+  remove-kept : (n : ℕ) → OnGrant Kept (remove d n)
+  unfolding remove
+  remove-kept n = granted-then _ _ λ m e. still (record { same = refl })
+
+  change_area-kept : (n : ℕ) (delta : ℤ) → OnGrant Kept (change_area d n delta)
+  unfolding change_module change_pages change_made
+  change_area-kept n delta =
+      chosen (OnGrant Kept) (n == module_area) _ _ (granted-then _ _ λ c e. still (record { same = refl }))
+      (chosen (OnGrant Kept) (nat_lt n (length d.areas)) _ _ (granted-then _ _ λ c e. still (record { same = refl }))
+      (granted-then _ _ λ m e. granted-then _ _ λ c f. granted-past _ _ _ λ big. still (record { same = refl })))
+
+  rma_claim-kept : (n : ℕ) → OnGrant Kept (rma_claim d n)
+  unfolding rma_claim
+  rma_claim-kept n = granted-then _ _ λ c e. still (record { same = refl })
+
+  rma_free-kept : (address : ℕ) → OnGrant Kept (rma_free d address)
+  unfolding rma_free
+  rma_free-kept address = granted-then _ _ λ b e. granted-then _ _ λ h f. still (record { same = refl })
+
+  rma_resize-kept : (address : ℕ) (delta : ℤ) → OnGrant Kept (rma_resize d address delta)
+  unfolding rma_resize
+  rma_resize-kept address delta = granted-then _ _ λ b e. granted-then _ _ λ c f. still (record { same = refl })
+
+  ask-kept : (q : Question) → OnGrant Kept (change d (command.Ask q))
+  ask-kept q = granted-then _ _ λ told e. still all-stand
+
+  -- commands of a task with a name
+  module _ (name : List ℕ) (not_own : handle_of name d ≢ Some k) where
+    other : (t : Task) → named name d ≡ Ok t → t.handle ≢ k
+    other t e = other-task k name d t not_own e
+
+    kill-kept : OnGrant Kept (kill d name)
+    unfolding kill with_delivered
+    kill-kept = granted-then _ _ λ t e. still (record { same = less-other t.handle k d.tasks (other t e) })
+
+    alloc-kept : (a n : ℕ) → OnGrant Kept (alloc d name a n)
+    unfolding alloc
+    alloc-kept a n = granted-then _ _ λ t e. granted-then _ _ λ p f. still (slot-leaves t.handle k (other t e) p.0 d)
+
+    load-kept : (a : ℕ) (file : List ℕ) → OnGrant Kept (load d name a file)
+    unfolding load
+    load-kept a file = granted-then _ _ λ t e. granted-then _ _ λ entry f. granted-then _ _ λ p g. granted-then _ _ λ s i.
+        still (slot-leaves t.handle k (other t e) s d)
+
+    put-kept : (a offset : ℕ) (bytes : List ℕ) → OnGrant Kept (put d name a offset bytes)
+    unfolding put
+    put-kept a offset bytes = granted-then _ _ λ t e. granted-then _ _ λ b f. granted-then _ _ λ s g.
+        still (slot-leaves t.handle k (other t e) s d)
+
+    free-kept : (a : ℕ) → OnGrant Kept (free d name a)
+    unfolding free
+    free-kept a = granted-then _ _ λ t e. granted-then _ _ λ b f. granted-then _ _ λ s g.
+        still (slot-leaves t.handle k (other t e) s d)
+
+    extend-kept : (a n : ℕ) → OnGrant Kept (extend d name a n)
+    unfolding extend
+    extend-kept a n = granted-then _ _ λ t e. granted-then _ _ λ b f. granted-then _ _ λ s g.
+        still (slot-leaves t.handle k (other t e) s d)
+
+    mid-kept : (a offset : ℕ) (by : ℤ) → OnGrant Kept (mid d name a offset by)
+    unfolding mid
+    mid-kept a offset by = granted-then _ _ λ t e. granted-then _ _ λ b f. granted-then _ _ λ s g.
+        still (slot-leaves t.handle k (other t e) s d)
+
+    claim-kept : (n : ℕ) → OnGrant Kept (claim d name n)
+    unfolding claim
+    claim-kept n = granted-then _ _ λ t e. granted-then _ _ λ p f. still (slot-leaves t.handle k (other t e) p.0 d)
+
+    release-kept : (address : ℕ) → OnGrant Kept (release d name address)
+    unfolding release
+    release-kept address = granted-then _ _ λ t e. granted-then _ _ λ b f. granted-then _ _ λ s g.
+        still (slot-leaves t.handle k (other t e) s d)
+
+    resize-kept : (address : ℕ) (delta : ℤ) → OnGrant Kept (resize d name address delta)
+    unfolding resize
+    resize-kept address delta = granted-then _ _ λ t e. granted-then _ _ λ b f. granted-then _ _ λ p g.
+        still (slot-leaves t.handle k (other t e) p.0 d)
+
+    budge-kept : (on : Bool) → OnGrant Kept (budge d name on)
+    unfolding budge
+    budge-kept on = granted-then _ _ λ t e. still (slot-leaves t.handle k (other t e) _ d)
+
+    save-kept : (a : ℕ) (to leaf : List ℕ) → OnGrant Kept (save d name a to leaf)
+    unfolding save
+    save-kept a to leaf =
+        granted-then _ _ λ t e. granted-then _ _ λ b f. granted-past _ _ _ λ full. granted-then _ _ λ r g.
+        granted-with _ (letter-leaves k _ d (other t e)) λ sent one.
+        still (both-leave one (outs-leave t.handle k (other t e) _ sent))
+
+    repeat-kept : OnGrant Kept (repeat d name)
+    unfolding repeat
+    repeat-kept =
+        granted-then _ _ λ t e. granted-then _ _ λ last f. granted-with _ (letter-leaves k _ d (other t e)) λ sent one.
+        still one
+
+    cancel_in-kept : (id : Option ℕ) → OnGrant Kept (cancel_in d name id)
+    unfolding cancel_in
+    cancel_in-kept id = granted-then _ _ λ t e. granted-then _ _ λ records f.
+        still (ins-leave t.handle k (other t e) (λ old. records) d)
+
+    cancel_out-kept : (id : Option ℕ) → OnGrant Kept (cancel_out d name id)
+    unfolding cancel_out
+    cancel_out-kept id = granted-then _ _ λ t e. granted-then _ _ λ records f.
+        still (outs-leave t.handle k (other t e) (λ old. records) d)
+
+  -- ---- all of them
+
+  change-kept : (c : Command) → is_poll c ≡ false → actor c d ≢ Some k → OnGrant Kept (change d c)
+  change-kept (command.Task name buffer manner) p ne = start_task-kept name buffer manner (λ same. ne (ap Some same))
+  change-kept (command.Kill name) p ne = kill-kept name ne
+  change-kept (command.Alloc name a n) p ne = alloc-kept name ne a n
+  change-kept (command.Load name a file) p ne = load-kept name ne a file
+  change-kept (command.Put name a offset bytes) p ne = put-kept name ne a offset bytes
+  change-kept (command.Free name a) p ne = free-kept name ne a
+  change-kept (command.Extend name a n) p ne = extend-kept name ne a n
+  change-kept (command.Mid name a offset by) p ne = mid-kept name ne a offset by
+  change-kept (command.Claim name n) p ne = claim-kept name ne n
+  change-kept (command.Release name address) p ne = release-kept name ne address
+  change-kept (command.Resize name address delta) p ne = resize-kept name ne address delta
+  change-kept (command.Budge name on) p ne = budge-kept name ne on
+  change-kept (command.Save name a to leaf) p ne = save-kept name ne a to leaf
+  change-kept (command.Poll name) p ne = absurd cc
+  change-kept (command.CancelIn name id) p ne = cancel_in-kept name ne id
+  change-kept (command.CancelOut name id) p ne = cancel_out-kept name ne id
+  change-kept (command.Repeat name) p ne = repeat-kept name ne
+  change-kept (command.Area n delta) p ne = change_area-kept n delta
+  change-kept (command.Make most) p ne = make-kept most
+  change-kept (command.Remove n) p ne = remove-kept n
+  change-kept (command.RmaClaim n) p ne = rma_claim-kept n
+  change-kept (command.RmaFree address) p ne = rma_free-kept address
+  change-kept (command.RmaResize address delta) p ne = rma_resize-kept address delta
+  change-kept (command.Ask q) p ne = ask-kept q
+
+  step-kept : (c : Command) → is_poll c ≡ false → actor c d ≢ Some k → Kept (step d c)
+  step-kept c p ne = or_else-keeps Kept _ (change-kept c p ne) (λ refusal. record { desk = all-stand })
+
+pub leaves-others : LeavesOthers
+leaves-others d c h p ne = (step-kept h d c p ne).desk.same
