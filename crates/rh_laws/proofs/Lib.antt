@@ -15,6 +15,10 @@ pub mod RefusalRows
 pub mod HonestHeapLaws
 pub mod HonestClaims
 pub mod HonestRows
+pub mod Addresses
+pub mod AddressPolls
+pub mod AddressLaws
+pub mod AddressRows
 pub mod Frames
 pub mod FramePolls
 pub mod FrameRows

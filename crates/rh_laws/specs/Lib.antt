@@ -3,4 +3,5 @@ pub mod RefusalOrder
 pub mod RefusalRooms
 pub mod Conditions
 pub mod HonestHeaps
+pub mod Addressed
 pub mod Frame

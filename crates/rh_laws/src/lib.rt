@@ -1,11 +1,13 @@
 //! Laws that nothing else stands on: what holds of the desk's definitions beside the laws of the transfers.
 #![tactic(auto)]
 
+mod addressed;
 mod frame;
 mod heaps;
 mod lines;
 mod order;
 
+pub use addressed::addressed_law;
 pub use frame::frame_law;
 pub use heaps::describe_law;
 pub use lines::line_law;

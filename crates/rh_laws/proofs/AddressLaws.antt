@@ -1,0 +1,345 @@
+-- Each command keeps what agrees with what was offered, and records agree after every list of commands.
+use Rattle.std.proofs.Common.{◌≡◌, ℕ, ◌+◌, ◌≤◌, Bool, not, List, [], ◌∷◌, length, Option, Some, None}
+use Rattle.std.proofs.Common.{refl, sym, ap, ◌∙◌, subst, arith}
+use Rattle.std.specs.Prelude.{◌==◌, nat_lt, find, ℤ, Ok, IfSome}
+use Rattle.rh_defs.specs.declared.command.Command.{Command}
+use Rattle.rh_defs.specs.declared.command.Command.TheVariants as command
+use Rattle.rh_defs.specs.declared.command.Manner.{Manner}
+use Rattle.rh_defs.specs.declared.message.Body.{Body}
+use Rattle.rh_defs.specs.declared.message.Body.TheVariants as body
+use Rattle.rh_defs.specs.declared.question.Question.{Question}
+use Rattle.rh_defs.specs.declared.reply.Reply.TheVariants as reply
+use Rattle.rh_defs.specs.declared.transfer.Incoming.{Incoming}
+use Rattle.rh_defs.specs.declared.transfer.Incoming.TheVariants as incoming
+use Rattle.rh_defs.specs.declared.transfer.Outgoing.{Outgoing}
+use Rattle.rh_defs.specs.declared.transfer.Outgoing.TheVariants as outgoing
+use Rattle.rh_defs.specs.declared.refusal.Refusal.TheVariants.{NoTask, NothingSent, NotOpen}
+use Rattle.rh_defs.specs.Chain.{Granted, or_else}
+use Rattle.rh_defs.specs.Messages.{Parcel}
+use Rattle.rh_defs.specs.Post.{Post, post_join, post_poll}
+use Rattle.rh_defs.specs.Records.{in_id, is_open, out_id}
+use Rattle.rh_defs.specs.Sender as sender
+use Rattle.rh_defs.specs.Receiver as receiver
+use Rattle.rh_defs.specs.Desk.{Desk, Task, has_name, named, next_ref, task_at, with_delivered, with_sending}
+use Rattle.rh_defs.specs.Commands.{Answer, start_task, kill, alloc, load, put, free, extend, mid, claim, release, resize}
+use Rattle.rh_defs.specs.Commands.{budge, module_area, change_module, change_pages, change_made, change_area, make, remove}
+use Rattle.rh_defs.specs.Commands.{rma_claim, rma_free, rma_resize}
+use Rattle.rh_defs.specs.Runs.{after, start_with}
+use Rattle.rh_defs.specs.Step.{save, repeat, poll, poll_taken, cancel_in, cancel_out, change, step}
+use Rattle.rh_defs.proofs.Chains.{OnGrant, chosen, granted, granted-past, granted-then, granted-with, or_else-keeps}
+use Rattle.rh_defs.proofs.Lists.{append-all, filter-all, find-all}
+use Rattle.rh_safety.specs.Held.{document_of, held, held_of, is_edited}
+use Rattle.rh_safety.specs.Offered.{at_place, last_of}
+use Rattle.rh_safety.proofs.Ends.{Has}
+use Rattle.rh_safety.proofs.Basics.{first_is, has_of, is_equal, none_some, open_is}
+use Rattle.rh_safety.proofs.SeenBlocks.{found_name}
+use Rattle.rh_safety.proofs.SeenFrames.{is_found}
+use Rattle.rh_laws.specs.Addressed.{Addresses, AgreesIn, AlwaysAddressed, From, IsAddressed, Parties, addressed}
+use Rattle.rh_laws.specs.Addressed.{addressed_again, addressed_last, addresses_from, addresses_next, parties_of}
+use Rattle.rh_laws.proofs.Addresses.{Agrees, BodyAgrees, Extends, IsMine, InAgrees, InsAgree, LastAgrees, OutAgrees}
+use Rattle.rh_laws.proofs.Addresses.{OutsAgree, TaskAgrees, all-has, all-more, all-with, death-left, delivered-agrees, ins-agree}
+use Rattle.rh_laws.proofs.Addresses.{letter-agrees, new-born, new-extends, new-here, outs-agree, poll-taken}
+use Rattle.rh_laws.proofs.Addresses.{slot-agrees}
+use Rattle.rh_laws.proofs.AddressPolls.{mine-agrees}
+
+-- ---- a task that was found
+
+module _ {a : Addresses} (d : Desk) (g : Agrees a d) where
+  -- what the first task that passes a test has
+  found-agrees : (test : Task → Bool) (t : Task) → find test d.tasks ≡ Some t → TaskAgrees a t
+  found-agrees test t q = subst (λ (o : Option Task). IfSome o (TaskAgrees a)) q (find-all (TaskAgrees a) test d.tasks g.of_tasks)
+
+  named-agrees : (name : List ℕ) (t : Task) → named name d ≡ Ok t → TaskAgrees a t
+  named-agrees name t q = found-agrees (has_name name) t (found_name d name t q)
+
+-- ---- commands that offer nothing
+
+module _ (a : Addresses) (d : Desk) (g : Agrees a d) where
+  -- after an answer all agree
+  record Keeps (x : Answer) : Type 0 where
+    desk : Agrees a x.0
+
+  same : {x : Answer} → Agrees a x.0 → OnGrant Keeps (Ok x)
+  same is = granted (record { desk = is })
+
+  start_task-keeps : (name : List ℕ) (buffer : ℕ) (manner : Manner) → OnGrant Keeps (start_task d name buffer manner)
+  unfolding start_task post_join
+  start_task-keeps name buffer manner =
+      granted-past _ _ _ λ x. granted-past _ _ _ λ y. granted-past _ _ _ λ z. granted-then _ _ λ s e.
+      same (record {
+        born = g.born;
+        of_tasks = append-all (TaskAgrees a) d.tasks _ g.of_tasks (record { sent = tt; outs = tt; ins = tt });
+        mail = g.mail;
+      })
+
+  kill-keeps : (name : List ℕ) → OnGrant Keeps (kill d name)
+  unfolding kill with_delivered
+  kill-keeps name =
+      granted-then _ _ λ t e.
+      let left = death-left a t.handle d.post in
+      same (record {
+        born = λ i low. g.born i (subst (λ n. n ≤ i) left.next low);
+        of_tasks = filter-all (TaskAgrees a) (λ (other : Task). not (other.handle == t.handle)) d.tasks g.of_tasks;
+        mail = left.mail g.mail;
+      })
+
+  alloc-keeps : (name : List ℕ) (k n : ℕ) → OnGrant Keeps (alloc d name k n)
+  unfolding alloc
+  alloc-keeps name k n = granted-then _ _ λ t e. granted-then _ _ λ p f. same (slot-agrees t.handle p.0 d g)
+
+  load-keeps : (name : List ℕ) (k : ℕ) (file : List ℕ) → OnGrant Keeps (load d name k file)
+  unfolding load
+  load-keeps name k file = granted-then _ _ λ t e. granted-then _ _ λ entry f. granted-then _ _ λ p i. granted-then _ _ λ s j.
+      same (slot-agrees t.handle s d g)
+
+  put-keeps : (name : List ℕ) (k offset : ℕ) (bytes : List ℕ) → OnGrant Keeps (put d name k offset bytes)
+  unfolding put
+  put-keeps name k offset bytes = granted-then _ _ λ t e. granted-then _ _ λ b f. granted-then _ _ λ s i. same (slot-agrees t.handle s d g)
+
+  free-keeps : (name : List ℕ) (k : ℕ) → OnGrant Keeps (free d name k)
+  unfolding free
+  free-keeps name k = granted-then _ _ λ t e. granted-then _ _ λ b f. granted-then _ _ λ s i. same (slot-agrees t.handle s d g)
+
+  extend-keeps : (name : List ℕ) (k n : ℕ) → OnGrant Keeps (extend d name k n)
+  unfolding extend
+  extend-keeps name k n = granted-then _ _ λ t e. granted-then _ _ λ b f. granted-then _ _ λ s i. same (slot-agrees t.handle s d g)
+
+  mid-keeps : (name : List ℕ) (k offset : ℕ) (by : ℤ) → OnGrant Keeps (mid d name k offset by)
+  unfolding mid
+  mid-keeps name k offset by = granted-then _ _ λ t e. granted-then _ _ λ b f. granted-then _ _ λ s i. same (slot-agrees t.handle s d g)
+
+  claim-keeps : (name : List ℕ) (n : ℕ) → OnGrant Keeps (claim d name n)
+  unfolding claim
+  claim-keeps name n = granted-then _ _ λ t e. granted-then _ _ λ p f. same (slot-agrees t.handle p.0 d g)
+
+  release-keeps : (name : List ℕ) (address : ℕ) → OnGrant Keeps (release d name address)
+  unfolding release
+  release-keeps name address = granted-then _ _ λ t e. granted-then _ _ λ b f. granted-then _ _ λ s i. same (slot-agrees t.handle s d g)
+
+  resize-keeps : (name : List ℕ) (address : ℕ) (delta : ℤ) → OnGrant Keeps (resize d name address delta)
+  unfolding resize
+  resize-keeps name address delta = granted-then _ _ λ t e. granted-then _ _ λ b f. granted-then _ _ λ p i. same (slot-agrees t.handle p.0 d g)
+
+  budge-keeps : (name : List ℕ) (on : Bool) → OnGrant Keeps (budge d name on)
+  unfolding budge
+  budge-keeps name on = granted-then _ _ λ t e. same (slot-agrees t.handle _ d g)
+
+  -- the records of the task that was found, one of them written anew
+  cancel_in-keeps : (name : List ℕ) (id : Option ℕ) → OnGrant Keeps (cancel_in d name id)
+  unfolding cancel_in receiver.cancel
+  cancel_in-keeps name id =
+      granted-then _ _ λ t e. granted-with {Q = InsAgree a t.handle} _
+      (granted-then _ _ λ w f. granted (all-with (InAgrees a t.handle) in_id (in_id w) (receiver.cancelled w) t.taking
+      (cancelled-agrees t.handle w (all-has (InAgrees a t.handle) t.taking w (named-agrees d g name t e).ins
+      (first_is (receiver.is_wanted id) t.taking w (is_found _ NotOpen w f)).0)) (named-agrees d g name t e).ins)) λ records all.
+      same (ins-agree t.handle (λ old. records) (λ ws old. all) d g)
+    where
+      cancelled-agrees : (h : ℕ) (w : Incoming) → InAgrees a h w → InAgrees a h (receiver.cancelled w)
+      cancelled-agrees h (incoming.Fetching f) is = is
+      cancelled-agrees h (incoming.Draining f) is = is
+      cancelled-agrees h (incoming.Asking q) is = (q.sender, is)
+      cancelled-agrees h (incoming.Done i k n) is = is
+      cancelled-agrees h (incoming.Failed i k n) is = is
+
+  cancel_out-keeps : (name : List ℕ) (id : Option ℕ) → OnGrant Keeps (cancel_out d name id)
+  unfolding cancel_out sender.cancel
+  cancel_out-keeps name id =
+      granted-then _ _ λ t e. granted-with {Q = OutsAgree a t.handle} _
+      (granted-then _ _ λ x f. granted (all-with (OutAgrees a t.handle) out_id x.id (outgoing.Failed x.id x.count) t.sending (
+        x.recipient,
+        all-has (OutAgrees a t.handle) t.sending (outgoing.Open x) (named-agrees d g name t e).outs
+            (open_is _ t.sending x (is_found _ NotOpen x f)).0,
+      ) (named-agrees d g name t e).outs)) λ records all.
+      same (outs-agree t.handle (λ old. records) (λ vs old. all) d g)
+
+  make-keeps : (most : ℕ) → OnGrant Keeps (make d most)
+  unfolding make
+  make-keeps most = granted-past _ _ _ λ x. granted-past _ _ _ λ y. same g
+
+  remove-keeps : (n : ℕ) → OnGrant Keeps (remove d n)
+  unfolding remove
+  remove-keeps n = granted-then _ _ λ m e. same g
+
+  change_area-keeps : (n : ℕ) (delta : ℤ) → OnGrant Keeps (change_area d n delta)
+  unfolding change_module change_pages change_made
+  change_area-keeps n delta =
+      chosen (OnGrant Keeps) (n == module_area) _ _ (granted-then _ _ λ c e. same g)
+      (chosen (OnGrant Keeps) (nat_lt n (length d.areas)) _ _ (granted-then _ _ λ c e. same g)
+      (granted-then _ _ λ m e. granted-then _ _ λ c f. granted-past _ _ _ λ big. same g))
+
+  rma_claim-keeps : (n : ℕ) → OnGrant Keeps (rma_claim d n)
+  unfolding rma_claim
+  rma_claim-keeps n = granted-then _ _ λ c e. same g
+
+  rma_free-keeps : (address : ℕ) → OnGrant Keeps (rma_free d address)
+  unfolding rma_free
+  rma_free-keeps address = granted-then _ _ λ b e. granted-then _ _ λ h f. same g
+
+  rma_resize-keeps : (address : ℕ) (delta : ℤ) → OnGrant Keeps (rma_resize d address delta)
+  unfolding rma_resize
+  rma_resize-keeps address delta = granted-then _ _ λ b e. granted-then _ _ λ c f. same g
+
+  ask-keeps : (q : Question) → OnGrant Keeps (change d (command.Ask q))
+  ask-keeps q = granted-then _ _ λ told e. same g
+
+  -- the message that was taken, where there is one
+  taken-agrees : (t : Task) → TaskAgrees a t → (e : Desk) → Agrees a e → (o : Option Parcel) → IfSome o (IsMine a t.handle) →
+      Agrees a (poll_taken e t o).0
+  unfolding poll_taken
+  taken-agrees t own e all None mine = all
+  taken-agrees t own e all (Some m) mine = mine-agrees a t own e all m mine
+
+  poll-keeps : (name : List ℕ) → OnGrant Keeps (poll d name)
+  unfolding poll
+  poll-keeps name =
+      granted-then _ _ λ t e.
+      let w = poll-taken a t.handle d.post in
+      let polled : Post × Option Parcel = post_poll t.handle d.post in
+      same (taken-agrees t (named-agrees d g name t e) (with_delivered polled.0 d) (delivered-agrees polled.0 d w.left g) polled.1
+      (w.mine g.mail))
+
+-- ---- commands that offer
+
+module _ (a : Addresses) (d : Desk) (g : Agrees a d) where
+  -- after the answer to a command all agree with what is then offered
+  record Follows (c : Command) (x : Answer) : Type 0 where
+    desk : Agrees (addresses_next a d c x.1) x.0
+
+  module _ (v : Option Parties) where
+    more : Extends a (at_place a (next_ref d) v)
+    more = new-extends a (next_ref d) v (g.born (next_ref d) (omega arith))
+
+    later : (i : ℕ) → next_ref d + 1 ≤ i → at_place a (next_ref d) v i ≡ None
+    later = new-born a (next_ref d) v g.born
+
+  save-follows : (name : List ℕ) (k : ℕ) (to leaf : List ℕ) → OnGrant (Follows (command.Save name k to leaf)) (save d name k to leaf)
+  unfolding save
+  save-follows name k to leaf =
+      granted-then _ _ λ t e. granted-then _ _ λ b f. granted-past _ _ _ λ full. granted-then _ _ λ r i.
+      let v : Option Parties = Some (record { sender = t.handle; receiver = r.handle }) in
+      let new : Addresses = at_place a (next_ref d) v in
+      let here : new (next_ref d) ≡ v = new-here a (next_ref d) v in
+      let is : parties_of (find (has_name name) d.tasks) (find (has_name to) d.tasks) ≡ v =
+      ap (λ o. parties_of o (find (has_name to) d.tasks)) (found_name d name t e) ∙ ap (parties_of (Some t)) (is_found _ NoTask r i) in
+      granted-with _ (letter-agrees a new (more v) _ d (later v) here g) λ sent all.
+      let edit : List Outgoing → List Outgoing = sender.offered (next_ref d) r.handle k in
+      let opened : Outgoing = outgoing.Open (sender.opened (next_ref d) r.handle k) in
+      granted (record {
+        desk = subst (λ w. Agrees (at_place a (next_ref d) w) (with_sending t.handle edit sent)) (sym is)
+            (outs-agree t.handle edit (λ vs old. all-more (OutAgrees new t.handle) is_open opened vs here old) sent all);
+      })
+
+  -- a message once more, by what it says: what is then addressed, and that the new message agrees with it
+  again-agrees : (h r old : ℕ) (b : Body) → BodyAgrees a h r old b →
+      Extends a (addressed_again a (next_ref d) old b) × ((i : ℕ) → next_ref d + 1 ≤ i → addressed_again a (next_ref d) old b i ≡ None)
+      × BodyAgrees (addressed_again a (next_ref d) old b) h r (next_ref d) b
+  again-agrees h r old (body.DataSave file) is = (more (a old), later (a old), new-here a (next_ref d) (a old) ∙ is)
+  again-agrees h r old (body.DataSaveAck file) is = (λ i p q. q, λ i low. g.born i (omega (arith, low)), tt)
+  again-agrees h r old (body.DataLoad file) is = (λ i p q. q, λ i low. g.born i (omega (arith, low)), tt)
+  again-agrees h r old (body.DataLoadAck file) is = (λ i p q. q, λ i low. g.born i (omega (arith, low)), tt)
+  again-agrees h r old (body.RamFetch buffer n) is = (λ i p q. q, λ i low. g.born i (omega (arith, low)), tt)
+  again-agrees h r old (body.RamTransmit buffer n) is = (λ i p q. q, λ i low. g.born i (omega (arith, low)), tt)
+
+  repeat-follows : (name : List ℕ) → OnGrant (Follows (command.Repeat name)) (repeat d name)
+  unfolding repeat
+  repeat-follows name =
+      granted-then _ _ λ t e. granted-then _ _ λ last f.
+      let sent_last : t.last_sent ≡ Some last = is_found t.last_sent NothingSent last f in
+      let is : last_of (find (has_name name) d.tasks) ≡ Some last = ap last_of (found_name d name t e) ∙ sent_last in
+      let old : LastAgrees a t.handle (Some last) = subst (LastAgrees a t.handle) sent_last (named-agrees d g name t e).sent in
+      let w = again-agrees t.handle last.0.to last.1 last.0.body old in
+      granted-with _ (letter-agrees a (addressed_again a (next_ref d) last.1 last.0.body) w.0 (record last.0 { from = t.handle }) d
+      w.1 w.2 g) λ sent all.
+      granted (record { desk = subst (λ v. Agrees (addressed_last a (next_ref d) v) sent) (sym is) all })
+
+-- ---- all commands
+
+module _ (a : Addresses) (d : Desk) (g : Agrees a d) where
+  -- a command that offers nothing, or is refused
+  kept : {r : Granted Answer} → OnGrant (Keeps a d g) r → Agrees a (or_else r (λ refusal. (d, reply.Refused refusal))).0
+  kept all = (or_else-keeps (Keeps a d g) _ all (λ refusal. record { desk = g })).desk
+
+  step-agrees : (c : Command) → Agrees (addresses_next a d c (step d c).1) (step d c).0
+  step-agrees (command.Task name buffer manner) = kept (start_task-keeps a d g name buffer manner)
+  step-agrees (command.Kill name) = kept (kill-keeps a d g name)
+  step-agrees (command.Alloc name k n) = kept (alloc-keeps a d g name k n)
+  step-agrees (command.Load name k file) = kept (load-keeps a d g name k file)
+  step-agrees (command.Put name k offset bytes) = kept (put-keeps a d g name k offset bytes)
+  step-agrees (command.Free name k) = kept (free-keeps a d g name k)
+  step-agrees (command.Extend name k n) = kept (extend-keeps a d g name k n)
+  step-agrees (command.Mid name k offset by) = kept (mid-keeps a d g name k offset by)
+  step-agrees (command.Claim name n) = kept (claim-keeps a d g name n)
+  step-agrees (command.Release name address) = kept (release-keeps a d g name address)
+  step-agrees (command.Resize name address delta) = kept (resize-keeps a d g name address delta)
+  step-agrees (command.Budge name on) = kept (budge-keeps a d g name on)
+  step-agrees (command.Save name k to leaf) =
+      (or_else-keeps (Follows a d g (command.Save name k to leaf)) _ (save-follows a d g name k to leaf) (λ refusal. record { desk = g })).desk
+  step-agrees (command.Poll name) = kept (poll-keeps a d g name)
+  step-agrees (command.CancelIn name id) = kept (cancel_in-keeps a d g name id)
+  step-agrees (command.CancelOut name id) = kept (cancel_out-keeps a d g name id)
+  step-agrees (command.Repeat name) =
+      (or_else-keeps (Follows a d g (command.Repeat name)) _ (repeat-follows a d g name) (λ refusal. record { desk = g })).desk
+  step-agrees (command.Area k delta) = kept (change_area-keeps a d g k delta)
+  step-agrees (command.Make most) = kept (make-keeps a d g most)
+  step-agrees (command.Remove k) = kept (remove-keeps a d g k)
+  step-agrees (command.RmaClaim n) = kept (rma_claim-keeps a d g n)
+  step-agrees (command.RmaFree address) = kept (rma_free-keeps a d g address)
+  step-agrees (command.RmaResize address delta) = kept (rma_resize-keeps a d g address delta)
+  step-agrees (command.Ask q) = kept (ask-keeps a d g q)
+
+after-agrees : (a : Addresses) (d : Desk) (cs : List Command) → Agrees a d → Agrees (addresses_from a d cs) (after d cs)
+after-agrees a d [] g = g
+after-agrees a d (c ∷ cs) g = after-agrees (addresses_next a d c (step d c).1) (step d c).0 cs (step-agrees a d g c)
+
+-- ---- the law
+
+-- a record that agrees was offered by some task
+some-sender : (v : Option Parties) (h : ℕ) (w : Incoming) → AgreesIn v h w → (s : ℕ) × From v s h
+some-sender v h (incoming.Fetching f) is = (f.sender, is)
+some-sender v h (incoming.Draining f) is = (f.sender, is)
+some-sender v h (incoming.Asking q) is = (q.sender, is)
+some-sender v h (incoming.Done i k n) is = is
+some-sender v h (incoming.Failed i k n) is = is
+
+module _ (d : Desk) (cs : List Command) (g : Agrees (addressed d cs) (after d cs)) where
+  -- what the task of a handle has
+  own : (h : ℕ) (t : Task) → task_at h (after d cs) ≡ Some t → t.handle ≡ h
+  own h t at = is_equal _ _ (first_is (λ (y : Task). y.handle == h) (after d cs).tasks t at).1
+
+  taken : (h : ℕ) (t : Task) (w : Incoming) → task_at h (after d cs) ≡ Some t → Has w t.taking → InAgrees (addressed d cs) h w
+  taken h t w at has =
+      subst (λ j. InAgrees (addressed d cs) j w) (own h t at)
+      (all-has (InAgrees (addressed d cs) t.handle) t.taking w (found-agrees (after d cs) g (λ (y : Task). y.handle == h) t at).ins has)
+
+  given : (h : ℕ) (t : Task) (v : Outgoing) → task_at h (after d cs) ≡ Some t → Has v t.sending → OutAgrees (addressed d cs) h v
+  given h t v at has =
+      subst (λ j. OutAgrees (addressed d cs) j v) (own h t at)
+      (all-has (OutAgrees (addressed d cs) t.handle) t.sending v (found-agrees (after d cs) g (λ (y : Task). y.handle == h) t at).outs has)
+
+  holder : (id h : ℕ) (got : List ℕ) → held d cs id h ≡ Some got → (s : ℕ) × From (addressed d cs id) s h
+  holder id h got q = of_task (task_at h (after d cs)) refl q
+    where
+      of_record : (t : Task) → task_at h (after d cs) ≡ Some t → (o : Option Incoming) → find (λ w. in_id w == id) t.taking ≡ o →
+          document_of t (is_edited d cs h id) o ≡ Some got → (s : ℕ) × From (addressed d cs id) s h
+      of_record t at None e q = absurd (none_some None refl q)
+      of_record t at (Some w) e q =
+          let found = first_is (λ (y : Incoming). in_id y == id) t.taking w e in
+          subst (λ i. (s : ℕ) × From (addressed d cs i) s h) (is_equal _ _ found.1)
+          (some-sender (addressed d cs (in_id w)) h w (taken h t w at found.0))
+
+      of_task : (o : Option Task) → task_at h (after d cs) ≡ o → held_of o id (is_edited d cs h id) ≡ Some got →
+          (s : ℕ) × From (addressed d cs id) s h
+      of_task None e q = absurd (none_some None refl q)
+      of_task (Some t) e q = of_record t e (find (λ w. in_id w == id) t.taking) refl q
+
+  is-addressed : IsAddressed d cs
+  is-addressed = record {
+    holds = holder;
+    takes = λ h t w at has. taken h t w at (has_of t.taking w has);
+    sends = λ h t v at has. given h t v at (has_of t.sending v has);
+  }
+
+pub always-addressed : AlwaysAddressed
+always-addressed pool handle ref files cs =
+    let d : Desk = start_with pool files handle ref in
+    is-addressed d cs (after-agrees (λ i. None) d cs (record { born = λ i low. refl; of_tasks = tt; mail = tt }))
