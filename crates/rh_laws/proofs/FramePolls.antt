@@ -55,7 +55,7 @@ use Rattle.rh_safety.proofs.SeenTaking.{poll_taken_is}
 use Rattle.rh_safety.proofs.SeenTasks.{field_is, live_of}
 use Rattle.rh_safety.proofs.SeenWrites.{buffer_found}
 use Rattle.rh_safety.specs.TaskRecords.{HoldsOne}
-use Rattle.rh_laws.specs.Frame.{FillsBuffer, KeepsBlocks, PollsFill, actor, flex_blocks, handle_of, is_poll}
+use Rattle.rh_laws.specs.Frame.{FillsBuffer, KeepsBlocks, PollsFill, actor, flex_blocks, handle_of, poller}
 use Rattle.rh_laws.proofs.Frames.{Leaves, any-grant, both-leave, edit-own, ended-leaves, ins-leave, leaves-others}
 use Rattle.rh_laws.proofs.Frames.{letter-leaves, other-task, outs-leave, slot-leaves, task-leaves}
 
@@ -391,7 +391,7 @@ module _ {o : Offered} {e : ℕ → ℕ → Bool} (d : Desk) (f : Fits d) (g : G
       by-name (λ (a : Answer). option_map flex_blocks (task_at h a.0) ≡ option_map flex_blocks (task_at h d)) d name (λ r. refl)
       (λ t q. blocks-left d t h (polled d t) (polled-fills d f g h t (other-task h name d t ne q) (the_task d name t f q)))
 
-  other-blocks : (c : Command) → is_poll c ≡ false → (h : ℕ) → actor c d ≢ Some h →
+  other-blocks : (c : Command) → poller c d ≡ None → (h : ℕ) → actor c d ≢ Some h →
       option_map flex_blocks (task_at h (step d c).0) ≡ option_map flex_blocks (task_at h d)
   other-blocks c p h ne = ap (option_map flex_blocks) (leaves-others d c h p ne)
 

@@ -1,7 +1,7 @@
 -- Edits of one task leave the others, and so does each command that isn't of them and no poll.
-use Rattle.std.proofs.Common.{◌≡◌, ◌≢◌, ℕ, Bool, true, false, not, List, [], ◌∷◌, ◌++◌, length, Option, Some}
+use Rattle.std.proofs.Common.{◌≡◌, ◌≢◌, ℕ, Bool, true, false, not, List, [], ◌∷◌, ◌++◌, length, Option, Some, None}
 use Rattle.std.proofs.Common.{refl, ap, ◌∙◌, inl, inr, arith}
-use Rattle.std.specs.Prelude.{nat_eq, nat_lt, ◌==◌, if◌then◌else◌, filter, ℤ, Ok, Err}
+use Rattle.std.specs.Prelude.{nat_eq, nat_lt, ◌==◌, if◌then◌else◌, filter, find, ℤ, Ok, Err}
 use Rattle.std.specs.Option.{option_map}
 use Rattle.std.proofs.lemmas.Bool.Decides.{eqb_tells}
 use Rattle.rh_defs.specs.declared.command.Command.{Command}
@@ -14,17 +14,18 @@ use Rattle.rh_defs.specs.declared.transfer.Outgoing.{Outgoing}
 use Rattle.rh_defs.specs.declared.transfer.Incoming.{Incoming}
 use Rattle.rh_defs.specs.Chain.{Granted}
 use Rattle.rh_defs.specs.Slot.{Slot}
-use Rattle.rh_defs.specs.Desk.{Desk, Task, edit_task, named, send_letter, task_at, with_delivered}
+use Rattle.rh_defs.specs.Desk.{Desk, Task, edit_task, has_name, named, send_letter, task_at, with_delivered}
 use Rattle.rh_defs.specs.Desk.{with_sending, with_slot, with_taking, with_task}
 use Rattle.rh_defs.specs.Commands.{Answer, start_task, kill, alloc, load, put, free, extend, mid, claim, release, resize}
 use Rattle.rh_defs.specs.Commands.{budge, module_area, change_module, change_pages, change_made, change_area, make, remove}
 use Rattle.rh_defs.specs.Commands.{rma_claim, rma_free, rma_resize}
 use Rattle.rh_defs.specs.IncomingEvents.{ended}
-use Rattle.rh_defs.specs.Step.{save, repeat, cancel_in, cancel_out, change, step}
+use Rattle.rh_defs.specs.Step.{save, repeat, poll, cancel_in, cancel_out, change, step}
 use Rattle.rh_defs.proofs.Chains.{OnGrant, chosen, granted, granted-past, granted-then, granted-with, or_else-keeps, refused}
+use Rattle.rh_safety.proofs.Basics.{none_some}
 use Rattle.rh_safety.proofs.SeenBlocks.{found_name}
 use Rattle.rh_safety.proofs.View.{task_of}
-use Rattle.rh_laws.specs.Frame.{actor, handle_of, is_poll, LeavesOthers}
+use Rattle.rh_laws.specs.Frame.{actor, handle_of, poller, LeavesOthers}
 
 -- ---- lists of tasks
 
@@ -168,6 +169,11 @@ module _ (k : ℕ) (d : Desk) where
   ask-kept : (q : Question) → OnGrant Kept (change d (command.Ask q))
   ask-kept q = granted-then _ _ λ told e. still all-stand
 
+  -- no task polls
+  poll-kept : (name : List ℕ) → find (has_name name) d.tasks ≡ None → OnGrant Kept (poll d name)
+  unfolding poll
+  poll-kept name none = granted-then _ _ λ t e. absurd (none_some (find (has_name name) d.tasks) none (found_name d name t e))
+
   -- commands of a task with a name
   module _ (name : List ℕ) (not_own : handle_of name d ≢ Some k) where
     other : (t : Task) → named name d ≡ Ok t → t.handle ≢ k
@@ -249,7 +255,7 @@ module _ (k : ℕ) (d : Desk) where
 
   -- ---- all of them
 
-  change-kept : (c : Command) → is_poll c ≡ false → actor c d ≢ Some k → OnGrant Kept (change d c)
+  change-kept : (c : Command) → poller c d ≡ None → actor c d ≢ Some k → OnGrant Kept (change d c)
   change-kept (command.Task name buffer manner) p ne = start_task-kept name buffer manner (λ same. ne (ap Some same))
   change-kept (command.Kill name) p ne = kill-kept name ne
   change-kept (command.Alloc name a n) p ne = alloc-kept name ne a n
@@ -263,7 +269,7 @@ module _ (k : ℕ) (d : Desk) where
   change-kept (command.Resize name address delta) p ne = resize-kept name ne address delta
   change-kept (command.Budge name on) p ne = budge-kept name ne on
   change-kept (command.Save name a to leaf) p ne = save-kept name ne a to leaf
-  change-kept (command.Poll name) p ne = absurd cc
+  change-kept (command.Poll name) p ne = poll-kept name p
   change-kept (command.CancelIn name id) p ne = cancel_in-kept name ne id
   change-kept (command.CancelOut name id) p ne = cancel_out-kept name ne id
   change-kept (command.Repeat name) p ne = repeat-kept name ne
@@ -275,7 +281,7 @@ module _ (k : ℕ) (d : Desk) where
   change-kept (command.RmaResize address delta) p ne = rma_resize-kept address delta
   change-kept (command.Ask q) p ne = ask-kept q
 
-  step-kept : (c : Command) → is_poll c ≡ false → actor c d ≢ Some k → Kept (step d c)
+  step-kept : (c : Command) → poller c d ≡ None → actor c d ≢ Some k → Kept (step d c)
   step-kept c p ne = or_else-keeps Kept _ (change-kept c p ne) (λ refusal. record { desk = all-stand })
 
 pub leaves-others : LeavesOthers

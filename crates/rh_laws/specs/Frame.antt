@@ -1,5 +1,5 @@
 -- What a command leaves of the tasks that it isn't of.
-use Rattle.std.specs.Prelude.{◌≡◌, ◌≢◌, ◌⊎◌, ℕ, ◌-◌, ◌≤◌, min, Bool, true, false, List, length, take, drop, find}
+use Rattle.std.specs.Prelude.{◌≡◌, ◌≢◌, ◌⊎◌, ℕ, ◌-◌, ◌≤◌, min, List, length, take, drop, find}
 use Rattle.std.specs.Prelude.{Option, Some, None}
 use Rattle.std.specs.List.{Contains}
 use Rattle.std.specs.Option.{option_map}
@@ -49,17 +49,17 @@ actor (command.CancelOut name id) d = handle_of name d
 actor (command.Repeat name) d = handle_of name d
 actor _ d = None
 
--- whether a command is a poll
-abbrev pub is_poll : Command → Bool
-is_poll (command.Poll name) = true
-is_poll _ = false
+-- the live task that polls by the command, where one does
+abbrev pub poller : Command → Desk → Option Task
+poller (command.Poll name) d = find (has_name name) d.tasks
+poller _ d = None
 
 -- ---- commands
 
--- a command that is no poll leaves every task but its own as it was, whatever the desk
+-- a command by which no task polls leaves every task but its own as it was, whatever the desk
 abbrev pub LeavesOthers : Type 0
 LeavesOthers =
-    (d : Desk) (c : Command) (h : ℕ) → is_poll c ≡ false → actor c d ≢ Some h → task_at h (step d c).0 ≡ task_at h d
+    (d : Desk) (c : Command) (h : ℕ) → poller c d ≡ None → actor c d ≢ Some h → task_at h (step d c).0 ≡ task_at h d
 
 -- ---- polls
 
