@@ -1,9 +1,11 @@
 //! What several tests do, over slices, so that no test holds a long literal beside a store.
-ghost use Rattle.std.specs.Prelude.{◌≡◌, ◌+◌, ◌^◌, ◌≤◌, length, vec_len, IfOk};
-ghost use Rattle.rh_defs.specs.Memory.{IsOpen, bytes};
+ghost use Rattle.std.specs.Prelude.{◌≡◌, ℕ, ◌^◌, ◌≤◌, vec_len, IfOk};
+ghost use Rattle.rh_defs.specs.Memory.{IsOpen};
 
+use crate::careful;
 use rh_store::{AreaId, Words};
 use std::alloc::{AllocError, Global};
+use std::process::Abort;
 
 /// Bytes of which neighbours differ.
 pub(crate) fn pattern(alloc: Global, n: usize) -> Result<Vec<u8>, AllocError>
@@ -18,8 +20,8 @@ pub(crate) fn pattern(alloc: Global, n: usize) -> Result<Vec<u8>, AllocError>
 }
 
 /// Slides bytes in an area that begins with the model's, and in the model.
-#[tactic(auto, using(rh_defs::proofs::BytesLaws::word_laws, rh_defs::proofs::MemoryLaws::memory_laws))]
-pub(crate) fn slide_both<S: Words>(
+pub(crate) fn slide_both<R: Abort, S: Words>(
+    rt: &R,
     store: &mut S,
     id: AreaId,
     model: &mut [u8],
@@ -27,26 +29,26 @@ pub(crate) fn slide_both<S: Words>(
     to: usize,
     n: usize,
 )
-    requires opened { IsOpen (S.memory store.old) id.0 }
-    requires within { length model.old ≤ length (bytes (S.memory store.old) id.0) }
-    requires source { from + n ≤ length model.old }
-    requires target { to + n ≤ length model.old }
-    ensures opened { IsOpen (S.memory store.new) id.0 }
-    ensures len { length (bytes (S.memory store.new) id.0) ≡ length (bytes (S.memory store.old) id.0) }
-    ensures model_len { length model.new ≡ length model.old }
+    requires { IsOpen (S.memory store.old) id.0 }
+    ensures { (n : ℕ) → IsOpen (S.memory store.old) n → IsOpen (S.memory store.new) n }
 {
-    store.copy_in(id, 0, model);
-    store.slide(id, from, to, n);
+    careful::copy_in(rt, store, id, 0, model);
+    careful::slide(rt, store, id, from, to, n);
+    assert!(rt; n <= model.len() && from <= model.len() - n && to <= model.len() - n);
     model.copy_within(from..from + n, to);
 }
 
-/// Whether an area begins with these bytes, which are read into a buffer of their number.
-pub(crate) fn reads_as<S: Words>(store: &S, id: AreaId, want: &[u8], buffer: &mut [u8]) -> bool
-    requires opened { IsOpen (S.memory store.now) id.0 }
-    requires within { length want.now ≤ length (bytes (S.memory store.now) id.0) }
-    requires same { length buffer.old ≡ length want.now }
+/// Whether an area begins with these bytes, which are read into a buffer.
+pub(crate) fn reads_as<R: Abort, S: Words>(
+    rt: &R,
+    store: &S,
+    id: AreaId,
+    want: &[u8],
+    buffer: &mut [u8],
+) -> bool
+    requires { IsOpen (S.memory store.now) id.0 }
 {
-    store.copy_out(id, 0, buffer);
+    careful::copy_out(rt, store, id, 0, buffer);
     &*buffer == want
 }
 

@@ -6,6 +6,8 @@ mod buffers;
 #[cfg(test)]
 mod callers;
 #[cfg(test)]
+mod careful;
+#[cfg(test)]
 mod paged;
 #[cfg(test)]
 mod plain;
