@@ -1,0 +1,65 @@
+/* expect.h: what the tests share: what they expect, random numbers, and the calls on a heap in both forms. */
+#ifndef EXPECT_H
+#define EXPECT_H
+
+#include "vervainfile.h"
+
+#include <stdbool.h>
+#include <stdio.h>
+#include <string.h>
+
+enum { MOST_TOLD = 20 };
+
+static int failures;
+
+static inline void expect(bool holds, const char *what, const char *file, int line)
+{
+    if (!holds && failures++ < MOST_TOLD)
+        fprintf(stderr, "%s:%d: not so: %s\n", file, line, what);
+}
+
+#define EXPECT(holds) expect((holds), #holds, __FILE__, __LINE__)
+
+/* What a test's main ends with. */
+static inline int ended(const char *test)
+{
+    printf("%s: %s\n", test, failures ? "FAILED" : "passed");
+    return failures != 0;
+}
+
+/* A random number below a bound, from a sequence that is the same in each run. */
+static inline uint32_t below(uint32_t bound)
+{
+    static uint64_t state = 0x9e3779b97f4a7c15u;
+    state ^= state << 13;
+    state ^= state >> 7;
+    state ^= state << 17;
+    return (uint32_t)((state >> 32) * bound >> 32);
+}
+
+/* The calls that stand twice in the header. */
+struct heap_calls {
+    const char *name;
+    uint32_t (*describe)(uint8_t *memory, size_t len, size_t *most, size_t *free);
+    uint32_t (*claim)(uint8_t *memory, size_t len, size_t n, size_t *address);
+    uint32_t (*release)(uint8_t *memory, size_t len, size_t address);
+    uint32_t (*resize)(uint8_t *memory, size_t len, size_t address, int32_t delta, size_t *moved_to);
+    uint32_t (*extend)(uint8_t *memory, size_t len, int32_t delta);
+    uint32_t (*block_size)(uint8_t *memory, size_t len, size_t address, size_t *size);
+};
+
+static const struct heap_calls TRUSTING = {
+    "trusting", vf_heap_describe, vf_heap_claim, vf_heap_release, vf_heap_resize, vf_heap_extend, vf_heap_block_size,
+};
+
+static const struct heap_calls CHECKED = {
+    "checked",
+    vf_heap_checked_describe,
+    vf_heap_checked_claim,
+    vf_heap_checked_release,
+    vf_heap_checked_resize,
+    vf_heap_checked_extend,
+    vf_heap_checked_block_size,
+};
+
+#endif

@@ -1,0 +1,41 @@
+-- The status of moving a heap's end, by what its call tests.
+use Rattle.std.proofs.Common.{◌≡◌, ◌≢◌, ℕ, ◌≤◌, ◌<◌, ◌%◌, List, refl, sym, ap, ◌∙◌, arith}
+use Rattle.std.specs.Prelude.{ℤ, Result, Ok, Err}
+use Rattle.std.proofs.lemmas.Bool.Decides.{nat_tests}
+use Rattle.rh_defs.specs.Chain.{no_answer, answer_of}
+use Rattle.rh_defs.specs.Heap.{Heap, extend}
+use Rattle.rh_defs.specs.HeapImage.{heap_of}
+use Rattle.rh_defs.specs.Pieces.{moved}
+use Rattle.rh_defs.specs.declared.heap.HeapRefusal.{HeapRefusal}
+use Rattle.rh_lent.specs.Heaps.{LeavesBytes}
+use Rattle.vf_heap.specs.Status.{answer_status, bad_length, extend_status, short}
+
+-- the new end is no multiple of 8
+pub misfit : (n e : ℕ) (d : ℤ) (h : Heap) → e ≡ moved h.end d → e % 8 ≢ 0 → extend_status n d h ≡ bad_length
+unfolding extend_status
+misfit n e d h is m = grind (arith, nat_tests)
+
+-- it lies beyond the bytes
+pub beyond : (n e : ℕ) (d : ℤ) (h : Heap) → e ≡ moved h.end d → e % 8 ≡ 0 → n < e → extend_status n d h ≡ short
+unfolding extend_status
+beyond n e d h is m l = grind (arith, nat_tests)
+
+-- it lies in them, so that the heap answers
+pub within : (n e : ℕ) (d : ℤ) (h : Heap) → e ≡ moved h.end d → e % 8 ≡ 0 → e ≤ n
+    → extend_status n d h ≡ answer_status (extend d h)
+unfolding extend_status
+within n e d h is m l = grind (arith, nat_tests)
+
+same_status : (g : Result Heap HeapRefusal) → answer_status (answer_of (no_answer g)) ≡ answer_status g
+same_status (Ok h) = refl
+same_status (Err refusal) = refl
+
+-- what the call on the heap answered is the status, also where its arguments were spelled otherwise
+pub answered : (n e : ℕ) (d d' : ℤ) (b b' c : List ℕ) (r : Result (Unit {0}) HeapRefusal) → d' ≡ d → b' ≡ b
+    → LeavesBytes b' c (no_answer (extend d' (heap_of b' 0))) r → e ≡ moved (heap_of b 0).end d → e % 8 ≡ 0 → e ≤ n
+    → answer_status r ≡ extend_status n d (heap_of b 0)
+answered n e d d' b b' c r ed eb left is m l =
+    let there = λ (x : List ℕ). extend d (heap_of x 0) in
+    ap answer_status left.answer ∙ same_status (extend d' (heap_of b' 0))
+    ∙ ap (λ (x : ℤ). answer_status (extend x (heap_of b' 0))) ed ∙ ap (λ (x : List ℕ). answer_status (there x)) eb
+    ∙ sym (within n e d (heap_of b 0) is m l)

@@ -1,0 +1,149 @@
+"""The library for programs in C: the archive of what the static crates export, its header, and what pkg-config reads."""
+
+import copy
+import os
+import re
+import shutil
+import subprocess
+import sys
+import tempfile
+
+import header
+import kit
+import libraries
+from kit import rt, rtlib
+
+FOLDER = "lib"
+NAME = "vervainfile"
+PREFIX = "vf_"
+LOG = "clib.log"
+# What the archive may ask of the program that it is linked into.
+IMPORTS = {"memcmp", "memcpy", "memmove", "memset"}
+
+
+class Fault(Exception):
+    """Why the library can't be made, or isn't as it should be."""
+
+
+def compiler():
+    """The words of the C compiler."""
+    return os.environ.get("CC", "cc").split()
+
+
+def exporters(top):
+    """The crates whose exports make the library."""
+    return [it for it in kit.crates_of(top) if it.is_static and it.name.startswith(PREFIX)]
+
+
+def archive_of(crate):
+    """Where a crate's own archive is built."""
+    return f"{crate.folder}/out/lib{crate.name}.a"
+
+
+def is_new(crate):
+    """Whether the archive that was built last is newer than each source that it is built from."""
+    made = archive_of(crate)
+    sources = [it for low in [*crate.below(), crate] for it in rtlib.files_of(low.folder)]
+    return os.path.isfile(made) and os.path.getmtime(made) > max(map(os.path.getmtime, sources))
+
+
+def prove(crates, log):
+    """Proves each library below the crates that isn't yet, and then the crates, and builds their archives."""
+    held = rtlib.lock([*libraries.below(crates), *crates])
+    left = libraries.unbuilt(libraries.below(crates))
+    given = rt.in_lanes(libraries.tasks(left, lambda it, jobs: libraries.build(it, jobs, log)))
+    lost = [it.name for it in left if not given[it.name, "library"]]
+    lost = lost or [it.name for it in crates if not compiled(it, log)]
+    del held
+    if lost:
+        raise Fault(f"{lost[0]} is not proved, and no archive was built: {FOLDER}/{LOG} says why")
+
+
+def compiled(crate, log):
+    """Proves a crate over the libraries below it, and compiles its exports; gives whether that was done."""
+    crate = copy.copy(crate)
+    crate.out = log
+    os.makedirs(f"{crate.folder}/out", exist_ok=True)
+    words = crate.words(["--jobs", str(rt.processors())], keeps=False)
+    words += ["--toolchain", f"{rtlib.KIT}/toolchain", "--backend", "llvm"]
+    return not crate.prove(["build", *words, "-o", f"out/lib{crate.name}.a"])
+
+
+def archive(crates, made):
+    """Puts the objects of all crates into one archive."""
+    with tempfile.TemporaryDirectory(prefix="clib-") as work:
+        objects = []
+        for crate in crates:
+            folder = f"{work}/{crate.name}"
+            os.mkdir(folder)
+            subprocess.run(["ar", "x", os.path.abspath(archive_of(crate))], cwd=folder, check=True)
+            for it in sorted(os.listdir(folder)):
+                objects.append(f"{work}/{crate.name}-{it}")
+                os.rename(f"{folder}/{it}", objects[-1])
+        if os.path.exists(made):
+            os.remove(made)
+        subprocess.run(["ar", "rcsD", made, *objects], check=True)
+
+
+def symbols(made, *flags):
+    """The names that nm gives."""
+    ran = subprocess.run(["nm", "-P", *flags, made], capture_output=True, text=True, check=True)
+    return {line.split()[0] for line in ran.stdout.splitlines() if line.strip() and not line.endswith(":")}
+
+
+def look_at_symbols(top):
+    """Raises a fault where the archive gives or asks for anything but what it should."""
+    made = f"{top}/{FOLDER}/lib{NAME}.a"
+    given, wanted = symbols(made, "-g", "--defined-only"), set(header.exports(top))
+    if given != wanted:
+        raise Fault(f"the archive gives {sorted(given ^ wanted)[0]}, or the sources do, but not both")
+    asked = symbols(made, "-u") - IMPORTS
+    if asked:
+        raise Fault(f"the archive asks for {sorted(asked)[0]}")
+    alien = sorted(it for it in given if not it.startswith(PREFIX))
+    if alien:
+        raise Fault(f"the archive gives {alien[0]}, which doesn't begin with {PREFIX}")
+    return f"{len(given)} names are given, and {', '.join(sorted(symbols(made, '-u')))} asked for"
+
+
+def version(top):
+    """The version that the list of changes names last."""
+    with open(f"{top}/CHANGELOG.md", encoding="utf-8") as it:
+        return re.search(r"^## (\d+\.\d+\.\d+)", it.read(), re.MULTILINE)[1]
+
+
+def write_files(top):
+    """The header, and what pkg-config reads, beside the archive."""
+    shutil.copyfile(f"{top}/c/{NAME}.h", f"{top}/{FOLDER}/{NAME}.h")
+    with open(f"{top}/c/{NAME}.pc.in", encoding="utf-8") as it:
+        text = it.read().replace("@VERSION@", version(top))
+    with open(f"{top}/{FOLDER}/{NAME}.pc", "w", encoding="utf-8") as it:
+        it.write(text)
+
+
+def make_library(top):
+    """Makes lib/, and raises a fault where that can't be done or the header isn't that of the sources."""
+    faults = header.faults(top)
+    if faults:
+        raise Fault(f"the header and the sources differ: {faults[0]}")
+    os.makedirs(f"{top}/{FOLDER}", exist_ok=True)
+    crates = exporters(top)
+    stale = [it for it in crates if not is_new(it)]
+    if stale:
+        names = ", ".join(it.name for it in stale)
+        print(f"clib: proving {names}, and what is not proved below; {FOLDER}/{LOG} has what the prover says", flush=True)
+        with open(f"{top}/{FOLDER}/{LOG}", "w", encoding="utf-8", errors="replace") as log:
+            prove(stale, log)
+    archive(crates, f"{top}/{FOLDER}/lib{NAME}.a")
+    write_files(top)
+
+
+def make(top):
+    """Makes lib/, and gives the exit status."""
+    try:
+        make_library(top)
+        print(f"clib: {FOLDER}/lib{NAME}.a: {look_at_symbols(top)}")
+    except Fault as why:
+        print(f"clib: {why}", file=sys.stderr)
+        return 1
+    return 0

@@ -1,0 +1,144 @@
+"""The tests in C: compiled in several ways and run, the header by itself, the examples; and the bench."""
+
+import concurrent.futures
+import glob
+import os
+import shutil
+import subprocess
+import sys
+import tempfile
+
+import clib
+import header
+
+STRICT = ["-Wall", "-Wextra", "-Werror"]
+C11 = ["-std=c11", *STRICT]
+# Each way in which all tests are compiled and run. Fewer random calls are made where each costs more.
+WAYS = {
+    "as it is": ["-O2"],
+    "checked names": ["-O2", "-DVF_CHECKED", "-DCALLS=5000"],
+    "sanitizers": ["-O1", "-g", "-fsanitize=address,undefined", "-fno-sanitize-recover=all", "-DCALLS=4000"],
+}
+# A run that hangs is ended after so many seconds.
+LONGEST = 120
+SHIMMED = ["sort", "-r", "README.md"]
+
+
+class Suite:
+    """What was tried, and what of it was not as it should be."""
+
+    def __init__(self, top, work):
+        self.top, self.work, self.tried, self.wrong = top, work, 0, []
+
+    def ran(self, what, words, **how):
+        """Runs a command, counts it, and gives what it printed, or nothing where it failed."""
+        self.tried += 1
+        try:
+            ran = subprocess.run(words, capture_output=True, timeout=LONGEST, cwd=self.top, check=False, **how)
+        except (OSError, subprocess.TimeoutExpired) as why:
+            self.wrong.append(f"{what}: {why}")
+            return None
+        if ran.returncode:
+            self.wrong.append(f"{what}: status {ran.returncode}\n{(ran.stdout + ran.stderr).decode(errors='replace')}")
+            return None
+        return ran.stdout
+
+    def compiled(self, what, sources, flags, made):
+        """Compiles sources over the library, and gives whether that went well."""
+        library = [f"{clib.FOLDER}/lib{clib.NAME}.a"] * ("-fsyntax-only" not in flags)
+        words = [*clib.compiler(), *flags, f"-I{clib.FOLDER}", "-Ic/plain", *sources, *library, "-o", made]
+        return self.ran(f"compiling {what}", words) is not None
+
+    def is_true(self, what, holds):
+        """Counts something that was looked at."""
+        self.tried += 1
+        if not holds:
+            self.wrong.append(what)
+
+
+def try_test(suite, path, way):
+    """Compiles one test in one way, and runs it."""
+    name = os.path.splitext(os.path.basename(path))[0]
+    what, made = f"{name}, {way}", f"{suite.work}/{name}-{way.replace(' ', '-')}"
+    if suite.compiled(what, [path, "c/plain/os_heap.c"], [*C11, *WAYS[way]], made):
+        suite.ran(what, [made])
+
+
+def try_header(suite):
+    """The header is C99 and, where there is a compiler for it, C++, with nothing before it."""
+    alone = f"{suite.work}/alone.c"
+    with open(alone, "w", encoding="utf-8") as it:
+        it.write(f'#include "{clib.NAME}.h"\n')
+    suite.compiled("the header as C99", [alone], ["-std=c99", "-Wpedantic", *STRICT, "-fsyntax-only"], "/dev/null")
+    cpp = shutil.which("c++")
+    if cpp:
+        words = [cpp, *STRICT, "-fsyntax-only", "-x", "c++", f"-I{clib.FOLDER}", alone]
+        suite.ran("compiling the header as C++", words)
+
+
+def try_example(suite):
+    """The example of docs/C.md prints what stands beside it, compiled as pkg-config says where that is there."""
+    made, flags = f"{suite.work}/example", []
+    if shutil.which("pkg-config"):
+        where = dict(os.environ, PKG_CONFIG_PATH=f"{suite.top}/{clib.FOLDER}")
+        said = suite.ran("pkg-config", ["pkg-config", "--cflags", "--libs", clib.NAME], env=where)
+        flags = (said or b"").decode().split()
+        suite.is_true("pkg-config names the library", f"-l{clib.NAME}" in flags)
+    if suite.compiled("the example", ["c/examples/names.c"], [*C11, "-O2", *flags[:1]], made):
+        with open(f"{suite.top}/c/examples/names.out", "rb") as it:
+            suite.is_true("the example prints what stands beside it", suite.ran("the example", [made]) == it.read())
+
+
+def shim(suite, made, flags=()):
+    """Compiles the example that is a malloc; gives whether that went well."""
+    sources = ["c/examples/malloc_shim.c", "c/plain/os_heap.c"]
+    return suite.compiled("the shim", sources, ["-std=gnu11", *STRICT, "-O2", "-fPIC", "-shared", "-pthread", *flags], made)
+
+
+def try_shim(suite):
+    """A program prints the same with the library as its malloc."""
+    made = f"{suite.work}/shim.so"
+    if shim(suite, made):
+        wanted = suite.ran("sort", SHIMMED)
+        given = suite.ran("sort over the shim", SHIMMED, env=dict(os.environ, LD_PRELOAD=made))
+        suite.is_true("sort prints the same over the shim", wanted and given == wanted)
+
+
+def run_all(suite):
+    """All tests, as many side by side as there are processors."""
+    tests = sorted(glob.glob("c/tests/*.c", root_dir=suite.top))
+    with concurrent.futures.ThreadPoolExecutor(os.cpu_count()) as pool:
+        calls = [pool.submit(try_test, suite, path, way) for path in tests for way in WAYS]
+        calls += [pool.submit(it, suite) for it in (try_header, try_example, try_shim)]
+    for it in calls:
+        it.result()
+    return len(tests)
+
+
+def test(top):
+    """Builds the library and tests it, and gives the exit status."""
+    status = clib.make(top) or header.main(top)
+    if status:
+        return status
+    with tempfile.TemporaryDirectory(prefix="ctests-") as work:
+        suite = Suite(top, work)
+        tests = run_all(suite)
+    for it in suite.wrong:
+        print(it, file=sys.stderr)
+    print(f"clib: {tests} tests in {len(WAYS)} ways, header, example and shim: "
+          f"{suite.tried} steps, {len(suite.wrong)} not as they should be")
+    return 1 if suite.wrong else 0
+
+
+def bench(top):
+    """Builds the library, and prints what its calls take beside those of the plain heap; gives the exit status."""
+    status = clib.make(top)
+    if status:
+        return status
+    with tempfile.TemporaryDirectory(prefix="ctests-") as work:
+        suite, made = Suite(top, work), f"{work}/bench"
+        if suite.compiled("the bench", ["c/bench/heap_bench.c", "c/plain/os_heap.c"], [*C11, "-O2"], made):
+            return subprocess.run([made], check=False).returncode
+    for it in suite.wrong:
+        print(it, file=sys.stderr)
+    return 1

@@ -1,0 +1,182 @@
+"""The header for programs in C beside the sources of what it declares: where the two differ, and a test that it shows."""
+
+import glob
+import re
+import sys
+
+HEADER = "c/vervainfile.h"
+SOURCES = "crates/vf_*/src/*.rt"
+SUFFIX = "_unless_null"
+NULL = "VF_NULL"
+TYPES = {"u8": "uint8_t", "u16": "uint16_t", "u32": "uint32_t", "u64": "uint64_t", "i32": "int32_t", "i64": "int64_t",
+         "usize": "size_t", "isize": "ptrdiff_t", "bool": "bool"}
+EXPORT = re.compile(r'((?:^///[^\n]*\n)+)#\[unsafe\(no_mangle\)\]\npub extern "C" fn (\w+)\(([^)]*)\) -> (\w+)', re.MULTILINE)
+STATUS = re.compile(r"^pub const (\w+): u32 = (\d+);", re.MULTILINE)
+CALL_OF_SYSTEM = re.compile(r"OS_Heap \d")
+COMMENT = re.compile(r"/\*.*?\*/", re.DOTALL)
+PROTOTYPE = re.compile(r"^(\w+) (vf_\w+)\(([^)]*)\);", re.MULTILINE)
+NUMBER = re.compile(r"^    (VF_\w+) = (\d+)", re.MULTILINE)
+TESTED = re.compile(r"^VF_UNLESS_NULL\((\w+), \(([^)]*)\),\s+([^,]+),\s+\(([^)]*)\)\)", re.MULTILINE)
+TESTED_TWICE = re.compile(r"^VF_BOTH_UNLESS_NULL\((\w+), (\w+),\s+\(([^)]*)\),\s+([^,]+),\s+\(([^)]*)\)\)", re.MULTILINE)
+DEFINED = re.compile(r"^#define (vf_\w+) (vf_\w+)$", re.MULTILINE)
+
+
+class Unknown(Exception):
+    """A type that no header for C has."""
+
+
+def in_c(name, declared):
+    """The parameters of C for one of the source's: a slice is a pointer and a length."""
+    found = re.fullmatch(r"&(mut )?(\[?)(\w+)\]?", declared)
+    word = found[3] if found else declared
+    if word not in TYPES:
+        raise Unknown(declared)
+    if not found:
+        return [f"{TYPES[word]} {name}"]
+    pointer = f"{'' if found[1] else 'const '}{TYPES[word]} *{name}"
+    return [pointer, "size_t len"] if found[2] else [pointer]
+
+
+def sources(top):
+    """The texts of the sources, by path."""
+    texts = {}
+    for path in sorted(glob.glob(f"{top}/{SOURCES}")):
+        with open(path, encoding="utf-8") as it:
+            texts[path] = it.read()
+    return texts
+
+
+def prototypes(texts):
+    """What the sources export: for each name the prototype in C, and the call of OS_Heap that it is, if it is one."""
+    found = {}
+    for told, name, parameters, result in (it for text in texts.values() for it in EXPORT.findall(text)):
+        pairs = [it.split(":", 1) for it in parameters.split(",") if it.strip()]
+        words = [word for name_, declared in pairs for word in in_c(name_.strip(), declared.strip())]
+        found[name] = (f"{TYPES[result]} {name}({', '.join(words)});", CALL_OF_SYSTEM.findall(told))
+    return found
+
+
+def exports(top):
+    """The names that the sources export."""
+    return list(prototypes(sources(top)))
+
+
+def faults_of_prototypes(header, exported):
+    """Which prototypes the header lacks, or has otherwise than the sources."""
+    declared = {it[1]: f"{it[0]} {it[1]}({it[2]});" for it in PROTOTYPE.findall(COMMENT.sub("", header))}
+    for name in sorted(exported.keys() | declared.keys()):
+        there, here = exported.get(name, ("nothing",))[0], declared.get(name, "nothing")
+        if there != here:
+            yield f"{name}: the sources have {there} and the header has {here}"
+    for name, (prototype, calls) in exported.items():
+        before = header.split(prototype)[0].rpartition("/*")[2]
+        if calls and "_checked_" not in name and CALL_OF_SYSTEM.findall(before) != calls:
+            yield f"{name}: the sources say that it is {calls[0]}, and the header doesn't"
+
+
+def faults_of_statuses(header, texts):
+    """Which numbers differ. A null pointer is never seen by the sources."""
+    there = {f"VF_{name}": int(number) for text in texts.values() for name, number in STATUS.findall(text)}
+    here = {name: int(number) for name, number in NUMBER.findall(header)}
+    if here.pop(NULL, None) in (None, *here.values()):
+        yield f"{NULL} has no number of its own"
+    for name in sorted(there.keys() | here.keys()):
+        if there.get(name) != here.get(name):
+            yield f"{name}: the sources have {there.get(name)} and the header has {here.get(name)}"
+
+
+def tests_of_null(header):
+    """For each call that the header tests for null: its parameters, the pointers tested, and the arguments handed on."""
+    once = {it[0]: it[1:] for it in TESTED.findall(header)}
+    for family, name, *rest in TESTED_TWICE.findall(header):
+        once[f"{family}_{name}"] = once[f"{family}_checked_{name}"] = tuple(rest)
+    return {name: [" ".join(it.split()) for it in parts] for name, parts in once.items()}
+
+
+def wanted_test(prototype):
+    """What the test of a call with this prototype must be."""
+    parameters = PROTOTYPE.match(prototype)[3]
+    names = [re.search(r"\w+$", it)[0] for it in parameters.split(",")]
+    pointers = [name for name, it in zip(names, parameters.split(",")) if "*" in it]
+    return [parameters, " && ".join(pointers), ", ".join(names)]
+
+
+def faults_of_null(header, exported):
+    """Which calls aren't tested for each of their pointers, and which names don't lead to what is tested."""
+    tests, (checked, _, plain) = tests_of_null(header), header.partition("#ifdef VF_CHECKED")[2].partition("#else")
+    always = dict(DEFINED.findall(header.partition("#ifdef VF_CHECKED")[0]))
+    checked, plain = dict(DEFINED.findall(checked)), dict(DEFINED.findall(plain))
+    for name, (prototype, _) in exported.items():
+        if tests.get(name) != wanted_test(prototype):
+            yield f"{name}: its test for null has {tests.get(name)} in place of {wanted_test(prototype)}"
+        if (always | plain).get(name) != name + SUFFIX:
+            yield f"{name}: the name doesn't lead to its test for null"
+        twin = name.replace("vf_heap_", "vf_heap_checked_", 1)
+        if twin in exported and checked.get(name) != twin:
+            yield f"{name}: with VF_CHECKED the name doesn't lead to {twin}"
+
+
+def compared(header, texts):
+    """All that differs between the text of the header and those of the sources."""
+    try:
+        exported = prototypes(texts)
+    except Unknown as why:
+        return [f"no header has the type {why}"]
+    return [*faults_of_prototypes(header, exported), *faults_of_statuses(header, texts), *faults_of_null(header, exported)]
+
+
+def text_of(top):
+    """The text of the header."""
+    with open(f"{top}/{HEADER}", encoding="utf-8") as it:
+        return it.read()
+
+
+def faults(top):
+    """All that differs between the header and the sources."""
+    return compared(text_of(top), sources(top))
+
+
+# Slips of the header, each of which must be seen: what stands there, and what would stand there.
+SLIPS = [
+    ("uint32_t vf_heap_extend(uint8_t *memory, size_t len, int32_t delta);", ""),
+    ("uint32_t vf_heap_release(uint8_t *memory,", "uint32_t vf_heap_release(const uint8_t *memory,"),
+    ("size_t *most, size_t *free);", "size_t *free, size_t *most);"),
+    ("size_t n, size_t *address);", "uint32_t n, size_t *address);"),
+    ("uint32_t vf_heap_check(const uint8_t *memory, size_t len);", "int vf_heap_check(const uint8_t *memory, size_t len);"),
+    ("uint32_t vf_heap_init(uint8_t *memory, size_t len);",
+     "uint32_t vf_heap_init(uint8_t *memory, size_t len);\nuint32_t vf_heap_end(uint8_t *memory, size_t len);"),
+    ("VF_BAD_LINK = 36", "VF_BAD_LINK = 37"),
+    ("    VF_SHORT = 34,", "    VF_BRIEF = 34,"),
+    ("VF_NULL = 32", "VF_NULL = 33"),
+    ("OS_Heap 4:", "OS_Heap 5:"),
+    ("memory && most && free,", "memory && most,"),
+    ("VF_UNLESS_NULL(vf_heap_check,", "VF_UNLESS_NULL(vf_heap_chek,"),
+    ("(memory, len, address, delta, moved_to)", "(memory, len, address, -delta, moved_to)"),
+    ("#define vf_heap_resize vf_heap_resize_unless_null\n", ""),
+    ("#define vf_heap_claim vf_heap_checked_claim\n", ""),
+    ("#define vf_heap_checked_extend vf_heap_checked_extend_unless_null", "#define vf_heap_checked_extend vf_heap_extend"),
+]
+
+
+def unseen_slips(top):
+    """The slips that the comparison doesn't see, and those that can't be made."""
+    header, texts = text_of(top), sources(top)
+    for old, new in SLIPS:
+        if old not in header:
+            yield f"no slip can be made of: {old}"
+        elif not compared(header.replace(old, new, 1), texts):
+            yield f"unseen in place of '{old}': {new}"
+
+
+def main(top):
+    """Compares, tries the slips, and gives the exit status."""
+    found, unseen = faults(top), list(unseen_slips(top))
+    for it in [*found, *unseen]:
+        print(it)
+    print(f"header: {len(exports(top))} calls compared with the sources, {len(found)} faults; "
+          f"{len(SLIPS)} slips tried, {len(unseen)} unseen")
+    return 1 if found or unseen else 0
+
+
+if __name__ == "__main__":
+    sys.exit(main(sys.argv[1] if len(sys.argv) > 1 else "."))
