@@ -79,11 +79,11 @@ uint32_t vf_heap_release(uint8_t *memory, size_t len, size_t address);
 /* OS_Heap 4: gives the block at an address `delta` bytes more, or fewer, and tells where it is then: it may move. It
  * keeps its bytes, as far as it still has them; new ones are 0. VF_NOT_A_BLOCK, VF_BAD_SIZE where it would have fewer
  * than 1, VF_NO_ROOM. */
-uint32_t vf_heap_resize(uint8_t *memory, size_t len, size_t address, int32_t delta, size_t *moved_to);
+uint32_t vf_heap_resize(uint8_t *memory, size_t len, size_t address, ptrdiff_t delta, size_t *moved_to);
 
-/* OS_Heap 5: moves the heap's end by `delta` bytes, up or down. No block moves. VF_BAD_LENGTH where the heap's length
- * would be no multiple of 8, VF_SHORT where it would exceed `len`, VF_EXCESSIVE_SHRINK. */
-uint32_t vf_heap_extend(uint8_t *memory, size_t len, int32_t delta);
+/* OS_Heap 5: moves the heap's end by `delta` bytes, up or down. No block moves. VF_SHORT where the heap's length would
+ * exceed `len`, VF_BAD_LENGTH where it would be no multiple of 8, VF_EXCESSIVE_SHRINK. */
+uint32_t vf_heap_extend(uint8_t *memory, size_t len, ptrdiff_t delta);
 
 /* OS_Heap 6: tells how many bytes the block at an address has: what was asked for, or up to 7 more. VF_NOT_A_BLOCK. */
 uint32_t vf_heap_block_size(uint8_t *memory, size_t len, size_t address, size_t *size);
@@ -95,16 +95,16 @@ uint32_t vf_heap_block_size(uint8_t *memory, size_t len, size_t address, size_t 
  * name does. With VF_CHECKED defined before this header, the names above stand for these.
  */
 
-/* VF_OK where the first bytes are a heap, as many as its own length. Else what is wrong first: VF_BAD_LENGTH where `len`
- * is below 16 or above 1 GiB, VF_BAD_DESCRIPTOR where the bytes don't begin with the word of a heap, VF_SHORT, and then
- * the first fault of the heap, VF_BAD_DESCRIPTOR, VF_BAD_LINK or VF_BAD_SEGMENT. */
+/* VF_OK where the first bytes are a heap, as many as its own length. Else what is wrong first: VF_BAD_LENGTH where
+ * `len` is below 16 or above 1 GiB, VF_BAD_DESCRIPTOR where the bytes don't begin with the word of a heap, VF_SHORT,
+ * and then the heap's first fault, VF_BAD_DESCRIPTOR, VF_BAD_LINK or VF_BAD_SEGMENT. */
 uint32_t vf_heap_check(const uint8_t *memory, size_t len);
 
 uint32_t vf_heap_checked_describe(uint8_t *memory, size_t len, size_t *most, size_t *free);
 uint32_t vf_heap_checked_claim(uint8_t *memory, size_t len, size_t n, size_t *address);
 uint32_t vf_heap_checked_release(uint8_t *memory, size_t len, size_t address);
-uint32_t vf_heap_checked_resize(uint8_t *memory, size_t len, size_t address, int32_t delta, size_t *moved_to);
-uint32_t vf_heap_checked_extend(uint8_t *memory, size_t len, int32_t delta);
+uint32_t vf_heap_checked_resize(uint8_t *memory, size_t len, size_t address, ptrdiff_t delta, size_t *moved_to);
+uint32_t vf_heap_checked_extend(uint8_t *memory, size_t len, ptrdiff_t delta);
 uint32_t vf_heap_checked_block_size(uint8_t *memory, size_t len, size_t address, size_t *size);
 
 /* ---- Null pointers -------------------------------------------------------------------------------------------------
@@ -126,9 +126,9 @@ VF_BOTH_UNLESS_NULL(vf_heap, claim, (uint8_t *memory, size_t len, size_t n, size
                     (memory, len, n, address))
 VF_BOTH_UNLESS_NULL(vf_heap, release, (uint8_t *memory, size_t len, size_t address), memory, (memory, len, address))
 VF_BOTH_UNLESS_NULL(vf_heap, resize,
-                    (uint8_t *memory, size_t len, size_t address, int32_t delta, size_t *moved_to),
+                    (uint8_t *memory, size_t len, size_t address, ptrdiff_t delta, size_t *moved_to),
                     memory && moved_to, (memory, len, address, delta, moved_to))
-VF_BOTH_UNLESS_NULL(vf_heap, extend, (uint8_t *memory, size_t len, int32_t delta), memory, (memory, len, delta))
+VF_BOTH_UNLESS_NULL(vf_heap, extend, (uint8_t *memory, size_t len, ptrdiff_t delta), memory, (memory, len, delta))
 VF_BOTH_UNLESS_NULL(vf_heap, block_size, (uint8_t *memory, size_t len, size_t address, size_t *size),
                     memory && size, (memory, len, address, size))
 

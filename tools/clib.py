@@ -1,4 +1,4 @@
-"""The library for programs in C: the archive of what the static crates export, its header, and what pkg-config reads."""
+"""The library for programs in C: the archive of all exports, its header, and what pkg-config reads."""
 
 import copy
 import os
@@ -131,7 +131,7 @@ def make_library(top):
     stale = [it for it in crates if not is_new(it)]
     if stale:
         names = ", ".join(it.name for it in stale)
-        print(f"clib: proving {names}, and what is not proved below; {FOLDER}/{LOG} has what the prover says", flush=True)
+        print(f"clib: proving {names}, and what below isn't proved; {FOLDER}/{LOG} has what is said", flush=True)
         with open(f"{top}/{FOLDER}/{LOG}", "w", encoding="utf-8", errors="replace") as log:
             prove(stale, log)
     archive(crates, f"{top}/{FOLDER}/lib{NAME}.a")

@@ -29,7 +29,7 @@ table.sort(keys)
 print(#keys, table.concat(keys, " "))
 """
 PERL_COUNT = "for (split) { $n{$_}++ } END { print map { qq($_ $n{$_}\\n) } sort keys %n }"
-PERL_LINES = "push @l, join(q( ), reverse split); END { print map { qq($_\\n) } sort { length $a <=> length $b || $a cmp $b } @l }"
+PERL_LINES = "push @l, join(q( ), reverse split); END { print map { qq($_\\n) } sort @l }"
 PYTHON_JSON = """
 import json, sys
 rows = json.load(sys.stdin)
@@ -59,7 +59,7 @@ class Run:
 RUNS = [
     Run("sqlite3, a table in memory", ("sqlite3", ":memory:"), "script.sql"),
     Run("sqlite3, a table in a file", ("sqlite3", "rows.db"), "script.sql"),
-    Run("jq, objects grouped", ("jq", "-c", "group_by(.kind)|map({k:.[0].kind,n:length,s:(map(.size)|add)})"), "rows.json"),
+    Run("jq, objects grouped", ("jq", "-c", "group_by(.kind)|map({k:.[0].kind,n:length})"), "rows.json"),
     Run("jq, objects sorted", ("jq", "-c", "sort_by(.size)|map(.name)|unique"), "rows.json"),
     Run("bc, digits", ("bc", "-lq"), "digits.bc"),
     Run("mawk, words counted", ("mawk", AWK), "words.txt"),
@@ -106,7 +106,7 @@ def write_inputs(folder):
         "words.tcl": TCL,
         "script.ed": "\n".join(f"{i}m0" for i in range(2, 400)) + "\n1,200p\nQ\n",
         "rules.mk": "all: " + " ".join(f"t{i}" for i in range(300)) + "\n"
-                    + "".join(f"t{i}: t{i // 2}x\n\t@echo {words[i]}\nt{i // 2}x:\n" for i in range(1, 300)) + "t0:\n\t@echo 0\n",
+                    + "".join(f"t{i}: x{i}\n\t@echo {words[i]}\nx{i}:\n" for i in range(300)),
     }
     for name, text in texts.items():
         with open(f"{folder}/{name}", "w", encoding="utf-8") as it:
@@ -142,7 +142,8 @@ def ran(run, preloaded, folder):
         with open(f"{here}/{run.stdin}", "rb") as stdin:
             words = [installed(run.words[0]), *run.words[1:]]
             before, start = os.times().children_user, time.monotonic()
-            done = subprocess.run(words, stdin=stdin, capture_output=True, cwd=here, env=how, timeout=LONGEST, check=False)
+            done = subprocess.run(words, stdin=stdin, capture_output=True, cwd=here, env=how, timeout=LONGEST,
+                                  check=False)
             seconds = os.times().children_user - before
     told = TOLD.findall(done.stderr)
     errors = TOLD.sub(b"", done.stderr)
@@ -154,7 +155,8 @@ def row(run, shims, folder):
     """The table's row of one program, and whether its output was the same everywhere."""
     given = {heap: ran(run, made, folder) for heap, made in shims.items()}
     same = len({it.output for it in given.values()}) == 1
-    cells = [run.what, given["proved"].claims, *(f"{it.seconds:.2f}" for it in given.values()), "same" if same else "DIFFERS"]
+    seconds = [f"{it.seconds:.2f}" for it in given.values()]
+    cells = [run.what, given["proved"].claims, *seconds, "same" if same else "DIFFERS"]
     return f"| {' | '.join(cells)} |", same
 
 
@@ -167,7 +169,8 @@ def run(top):
     missing = sorted({it.words[0] for it in RUNS} - {it.words[0] for it in there})
     with tempfile.TemporaryDirectory(prefix="programs-") as folder:
         suite = ctests.Suite(top, folder)
-        shims = {heap: flags if flags is None else f"{folder}/{heap.replace(' ', '-')}.so" for heap, flags in HEAPS.items()}
+        shims = {heap: f"{folder}/{heap.replace(' ', '-')}.so" if flags is not None else None
+                 for heap, flags in HEAPS.items()}
         for heap, made in shims.items():
             if made and not ctests.shim(suite, made, HEAPS[heap]):
                 print("\n".join(suite.wrong), file=sys.stderr)

@@ -92,7 +92,8 @@ def try_example(suite):
 def shim(suite, made, flags=()):
     """Compiles the example that is a malloc; gives whether that went well."""
     sources = ["c/examples/malloc_shim.c", "c/plain/os_heap.c"]
-    return suite.compiled("the shim", sources, ["-std=gnu11", *STRICT, "-O2", "-fPIC", "-shared", "-pthread", *flags], made)
+    flags = ["-std=gnu11", *STRICT, "-O2", "-fPIC", "-shared", "-pthread", *flags]
+    return suite.compiled("the shim", sources, flags, made)
 
 
 def try_shim(suite):

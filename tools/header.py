@@ -1,4 +1,4 @@
-"""The header for programs in C beside the sources of what it declares: where the two differ, and a test that it shows."""
+"""The header for programs in C beside its sources: where the two differ, and a test that this is seen."""
 
 import glob
 import re
@@ -10,14 +10,18 @@ SUFFIX = "_unless_null"
 NULL = "VF_NULL"
 TYPES = {"u8": "uint8_t", "u16": "uint16_t", "u32": "uint32_t", "u64": "uint64_t", "i32": "int32_t", "i64": "int64_t",
          "usize": "size_t", "isize": "ptrdiff_t", "bool": "bool"}
-EXPORT = re.compile(r'((?:^///[^\n]*\n)+)#\[unsafe\(no_mangle\)\]\npub extern "C" fn (\w+)\(([^)]*)\) -> (\w+)', re.MULTILINE)
+EXPORT = re.compile(
+    r'((?:^///[^\n]*\n)+)#\[unsafe\(no_mangle\)\]\npub extern "C" fn (\w+)\(([^)]*)\) -> (\w+)', re.MULTILINE
+)
 STATUS = re.compile(r"^pub const (\w+): u32 = (\d+);", re.MULTILINE)
 CALL_OF_SYSTEM = re.compile(r"OS_Heap \d")
 COMMENT = re.compile(r"/\*.*?\*/", re.DOTALL)
 PROTOTYPE = re.compile(r"^(\w+) (vf_\w+)\(([^)]*)\);", re.MULTILINE)
 NUMBER = re.compile(r"^    (VF_\w+) = (\d+)", re.MULTILINE)
 TESTED = re.compile(r"^VF_UNLESS_NULL\((\w+), \(([^)]*)\),\s+([^,]+),\s+\(([^)]*)\)\)", re.MULTILINE)
-TESTED_TWICE = re.compile(r"^VF_BOTH_UNLESS_NULL\((\w+), (\w+),\s+\(([^)]*)\),\s+([^,]+),\s+\(([^)]*)\)\)", re.MULTILINE)
+TESTED_TWICE = re.compile(
+    r"^VF_BOTH_UNLESS_NULL\((\w+), (\w+),\s+\(([^)]*)\),\s+([^,]+),\s+\(([^)]*)\)\)", re.MULTILINE
+)
 DEFINED = re.compile(r"^#define (vf_\w+) (vf_\w+)$", re.MULTILINE)
 
 
@@ -86,7 +90,7 @@ def faults_of_statuses(header, texts):
 
 
 def tests_of_null(header):
-    """For each call that the header tests for null: its parameters, the pointers tested, and the arguments handed on."""
+    """For each call that is tested for null: its parameters, the pointers tested, and the arguments handed on."""
     once = {it[0]: it[1:] for it in TESTED.findall(header)}
     for family, name, *rest in TESTED_TWICE.findall(header):
         once[f"{family}_{name}"] = once[f"{family}_checked_{name}"] = tuple(rest)
@@ -102,7 +106,7 @@ def wanted_test(prototype):
 
 
 def faults_of_null(header, exported):
-    """Which calls aren't tested for each of their pointers, and which names don't lead to what is tested."""
+    """Which calls aren't tested for each pointer, and which names don't lead to what is tested."""
     tests, (checked, _, plain) = tests_of_null(header), header.partition("#ifdef VF_CHECKED")[2].partition("#else")
     always = dict(DEFINED.findall(header.partition("#ifdef VF_CHECKED")[0]))
     checked, plain = dict(DEFINED.findall(checked)), dict(DEFINED.findall(plain))
@@ -122,7 +126,8 @@ def compared(header, texts):
         exported = prototypes(texts)
     except Unknown as why:
         return [f"no header has the type {why}"]
-    return [*faults_of_prototypes(header, exported), *faults_of_statuses(header, texts), *faults_of_null(header, exported)]
+    parts = faults_of_prototypes(header, exported), faults_of_statuses(header, texts), faults_of_null(header, exported)
+    return [it for part in parts for it in part]
 
 
 def text_of(top):
@@ -138,11 +143,11 @@ def faults(top):
 
 # Slips of the header, each of which must be seen: what stands there, and what would stand there.
 SLIPS = [
-    ("uint32_t vf_heap_extend(uint8_t *memory, size_t len, int32_t delta);", ""),
+    ("uint32_t vf_heap_extend(uint8_t *memory, size_t len, ptrdiff_t delta);", ""),
     ("uint32_t vf_heap_release(uint8_t *memory,", "uint32_t vf_heap_release(const uint8_t *memory,"),
     ("size_t *most, size_t *free);", "size_t *free, size_t *most);"),
     ("size_t n, size_t *address);", "uint32_t n, size_t *address);"),
-    ("uint32_t vf_heap_check(const uint8_t *memory, size_t len);", "int vf_heap_check(const uint8_t *memory, size_t len);"),
+    ("uint32_t vf_heap_check(const uint8_t *memory,", "int vf_heap_check(const uint8_t *memory,"),
     ("uint32_t vf_heap_init(uint8_t *memory, size_t len);",
      "uint32_t vf_heap_init(uint8_t *memory, size_t len);\nuint32_t vf_heap_end(uint8_t *memory, size_t len);"),
     ("VF_BAD_LINK = 36", "VF_BAD_LINK = 37"),
@@ -154,7 +159,7 @@ SLIPS = [
     ("(memory, len, address, delta, moved_to)", "(memory, len, address, -delta, moved_to)"),
     ("#define vf_heap_resize vf_heap_resize_unless_null\n", ""),
     ("#define vf_heap_claim vf_heap_checked_claim\n", ""),
-    ("#define vf_heap_checked_extend vf_heap_checked_extend_unless_null", "#define vf_heap_checked_extend vf_heap_extend"),
+    ("#define vf_heap_checked_extend vf_heap_checked_extend_unless_null", "#define vf_heap_checked_extend vf_heap_end"),
 ]
 
 

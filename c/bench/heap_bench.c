@@ -1,6 +1,6 @@
 /*
- * heap_bench.c: what a claim and a release take, beside the plain heap of the same rules: with 100, 1,000 and 10,000 live
- * blocks of 100 bytes, none or every second one of them freed, and claims that fit the first hole or none.
+ * heap_bench.c: what a claim and a release take, beside the plain heap of the same rules: with 100, 1,000 and 10,000
+ * live blocks of 100 bytes, none or every second one of them freed, and claims that fit the first hole or none.
  */
 #define _POSIX_C_SOURCE 200809L
 #include "os_heap.h"

@@ -165,7 +165,7 @@ static void *resize_given(void *given, size_t n)
     if (n > length)
         return NULL;
     if (!*find_aligned(given)) {
-        int32_t delta = (int32_t)((int64_t)rounded(n) - (int64_t)old);
+        ptrdiff_t delta = (ptrdiff_t)rounded(n) - (ptrdiff_t)old;
         resizes++;
         uint32_t status = HEAP(resize)(heap, length, address_of(given), delta, &moved_to);
         return status == VF_OK ? heap + moved_to : NULL;
@@ -274,8 +274,8 @@ __attribute__((destructor)) static void tell(void)
         return;
     if (is_open)
         HEAP(describe)(heap, length, &most, &free_bytes);
-    int n = snprintf(line, sizeof line, "malloc_shim: %lu claims, %lu releases, %lu resizes, %zu bytes still used\n", claims,
-                     releases, resizes, is_open ? length - free_bytes : 0);
+    int n = snprintf(line, sizeof line, "malloc_shim: %lu claims, %lu releases, %lu resizes, %zu bytes still used\n",
+                     claims, releases, resizes, is_open ? length - free_bytes : 0);
     if (write(STDERR_FILENO, line, (size_t)n) < 0)
         return;
 }

@@ -1,6 +1,6 @@
 /*
- * names.c: a list of names in a heap of 4,096 bytes. The links between them are addresses of the heap, and not pointers:
- * the bytes may be copied to another place, or written to a file, and are the same list there.
+ * names.c: a list of names in a heap of 4,096 bytes. The links between them are addresses of the heap, and not
+ * pointers: the bytes may be copied to another place, or written to a file, and are the same list there.
  */
 #include "vervainfile.h"
 
@@ -39,7 +39,7 @@ static void print(uint8_t *heap, size_t first)
 
 int main(void)
 {
-    /* An address is 4 more than a multiple of 8: with the heap 4 bytes behind such a multiple, blocks are aligned to 8. */
+    /* An address is 4 more than a multiple of 8. So with the heap 4 bytes behind such a multiple blocks are aligned. */
     static _Alignas(8) uint8_t room[4 + LEN], copy[4 + LEN];
     uint8_t *heap = room + 4;
     size_t most, free, first = 0;

@@ -51,8 +51,8 @@ static inline size_t segment_size(size_t n)
     return (n + WORD + UNIT - 1) / UNIT * UNIT;
 }
 
-/* Makes the bytes from `low` up to `high` free, between the hole whose link is at `link`, which they don't touch, and the
- * hole `next`. */
+/* Makes the bytes from `low` up to `high` free, between the hole whose link is at `link`, which they don't touch, and
+ * the hole `next`. */
 static void set_free(uint8_t *heap, size_t link, size_t low, size_t high, size_t next)
 {
     if (high == word(heap, BASE)) {
@@ -221,16 +221,18 @@ uint32_t os_heap_release(uint8_t *heap, size_t len, size_t address)
     return VF_OK;
 }
 
-uint32_t os_heap_resize(uint8_t *heap, size_t len, size_t address, int32_t delta, size_t *moved_to)
+uint32_t os_heap_resize(uint8_t *heap, size_t len, size_t address, ptrdiff_t delta, size_t *moved_to)
 {
     (void)len;
     struct found it;
     if (!find(heap, address, &it))
         return VF_NOT_A_BLOCK;
-    int64_t n = (int64_t)(it.size - WORD) + delta;
-    if (n < 1)
+    size_t old = it.size - WORD;
+    if (delta <= -(ptrdiff_t)old)
         return VF_BAD_SIZE;
-    size_t size = segment_size((size_t)n), place = it.place;
+    if (delta > (ptrdiff_t)LONGEST)
+        return VF_NO_ROOM;
+    size_t size = segment_size(old + (size_t)delta), place = it.place;
     if (size < it.size) {
         set_word(heap, place, size);
         set_free(heap, it.below, place + size, place + it.size, it.above);
@@ -243,18 +245,19 @@ uint32_t os_heap_resize(uint8_t *heap, size_t len, size_t address, int32_t delta
     return VF_OK;
 }
 
-uint32_t os_heap_extend(uint8_t *heap, size_t len, int32_t delta)
+uint32_t os_heap_extend(uint8_t *heap, size_t len, ptrdiff_t delta)
 {
-    int64_t end = (int64_t)word(heap, END) + delta;
-    if (end < 0)
-        end = 0;
+    size_t old = word(heap, END);
+    if (delta < -(ptrdiff_t)old)
+        return VF_EXCESSIVE_SHRINK;
+    if (delta > (ptrdiff_t)(len - old))
+        return VF_SHORT;
+    size_t end = old + (size_t)delta;
     if (end % UNIT)
         return VF_BAD_LENGTH;
-    if ((uint64_t)end > len)
-        return VF_SHORT;
     if (end < word(heap, BASE))
         return VF_EXCESSIVE_SHRINK;
-    set_word(heap, END, (size_t)end);
+    set_word(heap, END, end);
     return VF_OK;
 }
 

@@ -43,8 +43,8 @@ struct heap_calls {
     uint32_t (*describe)(uint8_t *memory, size_t len, size_t *most, size_t *free);
     uint32_t (*claim)(uint8_t *memory, size_t len, size_t n, size_t *address);
     uint32_t (*release)(uint8_t *memory, size_t len, size_t address);
-    uint32_t (*resize)(uint8_t *memory, size_t len, size_t address, int32_t delta, size_t *moved_to);
-    uint32_t (*extend)(uint8_t *memory, size_t len, int32_t delta);
+    uint32_t (*resize)(uint8_t *memory, size_t len, size_t address, ptrdiff_t delta, size_t *moved_to);
+    uint32_t (*extend)(uint8_t *memory, size_t len, ptrdiff_t delta);
     uint32_t (*block_size)(uint8_t *memory, size_t len, size_t address, size_t *size);
 };
 

@@ -1,7 +1,7 @@
 /*
- * heap_calls.c: each call on a heap, and each status that it can answer on bytes that are one. A refused call leaves each
- * byte and each number as it was. The numbers follow from the rules: segments of 8, 16, 24 .. bytes from 16 on, a block 4
- * bytes behind its segment's first byte.
+ * heap_calls.c: each call on a heap, and each status that it can answer on bytes that are one. A refused call leaves
+ * each byte and each number as it was. The numbers follow from the rules: segments of 8, 16, 24 .. bytes from 16 on, a
+ * block 4 bytes behind its segment's first byte.
  */
 #include "expect.h"
 
@@ -106,6 +106,8 @@ static void blocks_are_resized(const struct heap_calls *heap)
     EXPECT(is_filled(memory + 64, 16, 0));
     REFUSES(VF_BAD_SIZE, heap->resize(memory, ROOM, 36, -12, &number));
     REFUSES(VF_BAD_SIZE, heap->resize(memory, ROOM, 36, INT32_MIN, &number));
+    REFUSES(VF_BAD_SIZE, heap->resize(memory, ROOM, 36, -((ptrdiff_t)1 << 32), &number));
+    REFUSES(VF_BAD_SIZE, heap->resize(memory, ROOM, 36, PTRDIFF_MIN, &number));
     TELLS(36, heap->resize(memory, ROOM, 36, -1, &number));
     TELLS(36, heap->resize(memory, ROOM, 36, -8, &number));
     TELLS(3756, heap->describe(memory, ROOM, &number, &other));
@@ -115,6 +117,10 @@ static void blocks_are_resized(const struct heap_calls *heap)
     TELLS(20, heap->claim(memory, ROOM, 28, &number));
     REFUSES(VF_NO_ROOM, heap->resize(memory, ROOM, 52, 4000, &number));
     REFUSES(VF_NO_ROOM, heap->resize(memory, ROOM, 52, INT32_MAX, &number));
+    REFUSES(VF_NO_ROOM, heap->resize(memory, ROOM, 52, ((ptrdiff_t)1 << 32) + 1, &number));
+    REFUSES(VF_NO_ROOM, heap->resize(memory, ROOM, 52, PTRDIFF_MAX, &number));
+    REFUSES(VF_NOT_A_BLOCK, heap->resize(memory, ROOM, 53, PTRDIFF_MAX, &number));
+    REFUSES(VF_NOT_A_BLOCK, heap->resize(memory, ROOM, 53, PTRDIFF_MIN, &number));
 }
 
 static void a_block_moves_to_a_hole(const struct heap_calls *heap)
@@ -143,13 +149,18 @@ static void the_end_is_moved(const struct heap_calls *heap)
     REFUSES(VF_BAD_LENGTH, heap->extend(memory, ROOM, 7));
     REFUSES(VF_BAD_LENGTH, heap->extend(memory, ROOM, -4));
     REFUSES(VF_SHORT, heap->extend(memory, ROOM, ROOM - 64 + 8));
-    REFUSES(VF_SHORT, heap->extend(memory, ROOM, INT32_MAX / 8 * 8));
+    REFUSES(VF_SHORT, heap->extend(memory, ROOM, ROOM - 64 + 1));
+    REFUSES(VF_SHORT, heap->extend(memory, ROOM, INT32_MAX));
+    REFUSES(VF_SHORT, heap->extend(memory, ROOM, (ptrdiff_t)1 << 32));
+    REFUSES(VF_SHORT, heap->extend(memory, ROOM, PTRDIFF_MAX));
     EXPECT(heap->extend(memory, ROOM, ROOM - 64) == VF_OK);
     EXPECT(vf_heap_check(memory, ROOM) == VF_OK);
     EXPECT(vf_heap_check(memory, ROOM - 1) == VF_SHORT);
     TELLS(36, heap->claim(memory, ROOM, 60, &number));
     REFUSES(VF_EXCESSIVE_SHRINK, heap->extend(memory, ROOM, 88 - ROOM));
     REFUSES(VF_EXCESSIVE_SHRINK, heap->extend(memory, ROOM, INT32_MIN));
+    REFUSES(VF_EXCESSIVE_SHRINK, heap->extend(memory, ROOM, -((ptrdiff_t)1 << 32)));
+    REFUSES(VF_EXCESSIVE_SHRINK, heap->extend(memory, ROOM, PTRDIFF_MIN));
     EXPECT(heap->extend(memory, ROOM, 96 - ROOM) == VF_OK);
     EXPECT(heap->extend(memory, ROOM, 0) == VF_OK);
     EXPECT(vf_heap_check(memory, 96) == VF_OK);

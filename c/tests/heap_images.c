@@ -1,6 +1,6 @@
 /*
- * heap_images.c: bytes from anywhere. Worked images and what is wrong with each, every byte of one heap at every value, and
- * random bytes; each answer is compared with that of the plain heap. Whatever the bytes, a checked call stays inside them.
+ * heap_images.c: bytes from anywhere. Worked images and what is wrong with each, every byte of one heap at every value,
+ * and random words; each answer is compared with that of the plain heap. A checked call stays inside its bytes.
  */
 #include "expect.h"
 #include "os_heap.h"
@@ -161,8 +161,8 @@ int main(void)
 {
     worked_images_have_their_faults();
     lengths_are_looked_at();
-    /* A byte of a block or of the top may have any value: 12, 4 and 8 of them. Of the other 32 each has but the value that
-     * it has, and one may have another: the heap may end at its base, 8 bytes sooner. */
+    /* A byte of a block or of the top may have any value: 12, 4 and 8 of them. Of the other 32 each has but the value
+     * that it has, and one may have another: the heap may end at its base, 8 bytes sooner. */
     EXPECT(each_byte_has_each_value() == 24 * 256 + 32 + 1);
     random_words_are_put_in();
 #ifdef VF_CHECKED

@@ -1,6 +1,6 @@
 /*
- * heap_mapped.c: a heap in a file that is mapped, closed, and mapped again elsewhere. Its blocks are where they were. A file
- * that was cut is seen to be too short, and one that somebody wrote over to be no heap.
+ * heap_mapped.c: a heap in a file that is mapped, closed, and mapped again. Its blocks are where they were. A file that
+ * was cut is seen to be too short, and one that somebody wrote over to be no heap. And a heap of 1 GiB.
  */
 #define _DEFAULT_SOURCE
 #include "expect.h"

@@ -1,6 +1,6 @@
 /*
- * heap_random.c: random calls on a heap and on the plain one beside it. After each the answers are the same, and so are all
- * bytes that mean something, in the blocks too.
+ * heap_random.c: random calls on a heap and on the plain one beside it. After each the answers are the same, and so are
+ * all bytes that mean something, in the blocks too.
  */
 #include "expect.h"
 #include "os_heap.h"
@@ -55,7 +55,7 @@ static bool releases(const struct heap_calls *heap, size_t len)
 static bool resizes(const struct heap_calls *heap, size_t len)
 {
     size_t address = some_address(), moved = UNSET, wanted = UNSET;
-    int32_t delta = (int32_t)below(400) - 200;
+    ptrdiff_t delta = (ptrdiff_t)below(400) - 200;
     uint32_t status = heap->resize(memory, len, address, delta, &moved);
     if (status == VF_OK) {
         forget(address);
@@ -67,7 +67,7 @@ static bool resizes(const struct heap_calls *heap, size_t len)
 
 static bool extends(const struct heap_calls *heap, size_t len)
 {
-    int32_t delta = 8 * ((int32_t)below(100) - 50) + (below(8) == 0);
+    ptrdiff_t delta = 8 * ((ptrdiff_t)below(100) - 50) + (below(8) == 0);
     return heap->extend(memory, len, delta) == os_heap_extend(plain, len, delta);
 }
 

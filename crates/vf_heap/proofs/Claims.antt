@@ -15,7 +15,7 @@ use Rattle.rh_lent.specs.Heaps.{IsHeapBytes, LeavesBytes}
 use Rattle.vf_heap.specs.Calls.{Leaves}
 
 -- no hole has more bytes than all segments together
-no_hole : (t p : ℕ) (ss : List Segment) → total size_of ss < t → first_at size_of (is_hole_for t) p ss ≡ None
+pub no_hole : (t p : ℕ) (ss : List Segment) → total size_of ss < t → first_at size_of (is_hole_for t) p ss ≡ None
 no_hole t p [] l = refl
 no_hole t p (Used bytes ∷ ss) l =
     ap (option_map (behind (Used bytes))) (no_hole t (p + (4 + length bytes)) ss (omega arith))

@@ -10,17 +10,17 @@ use Rattle.rh_defs.specs.declared.heap.HeapRefusal.{HeapRefusal}
 use Rattle.rh_lent.specs.Heaps.{LeavesBytes}
 use Rattle.vf_heap.specs.Status.{answer_status, bad_length, extend_status, short}
 
--- the new end is no multiple of 8
-pub misfit : (n e : ℕ) (d : ℤ) (h : Heap) → e ≡ moved h.end d → e % 8 ≢ 0 → extend_status n d h ≡ bad_length
+-- the new end lies beyond the bytes
+pub beyond : (n e : ℕ) (d : ℤ) (h : Heap) → e ≡ moved h.end d → n < e → extend_status n d h ≡ short
 unfolding extend_status
-misfit n e d h is m = grind (arith, nat_tests)
+beyond n e d h is l = grind (arith, nat_tests)
 
--- it lies beyond the bytes
-pub beyond : (n e : ℕ) (d : ℤ) (h : Heap) → e ≡ moved h.end d → e % 8 ≡ 0 → n < e → extend_status n d h ≡ short
+-- it is no multiple of 8
+pub misfit : (n e : ℕ) (d : ℤ) (h : Heap) → e ≡ moved h.end d → e ≤ n → e % 8 ≢ 0 → extend_status n d h ≡ bad_length
 unfolding extend_status
-beyond n e d h is m l = grind (arith, nat_tests)
+misfit n e d h is l m = grind (arith, nat_tests)
 
--- it lies in them, so that the heap answers
+-- it is one, and lies in them, so that the heap answers
 pub within : (n e : ℕ) (d : ℤ) (h : Heap) → e ≡ moved h.end d → e % 8 ≡ 0 → e ≤ n
     → extend_status n d h ≡ answer_status (extend d h)
 unfolding extend_status

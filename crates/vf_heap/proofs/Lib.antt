@@ -1,3 +1,4 @@
 pub mod Ends
 pub mod Images
 pub mod Claims
+pub mod Far

@@ -1,5 +1,5 @@
 -- What a call leaves of the bytes that it was lent, and what it leaves of those that are no heap's.
-use Rattle.std.specs.Prelude.{◌≡◌, ◌≢◌, ℕ, ℤ, List, Result, Ok, ok_or}
+use Rattle.std.specs.Prelude.{◌≡◌, ◌≢◌, ℕ, ◌≤◌, ◌^◌, ℤ, pos, negsuc, List, Result, Ok, ok_or}
 use Rattle.rh_defs.specs.Chain.{no_answer, answer_of}
 use Rattle.rh_defs.specs.Heap.{Heap, extend, block_size}
 use Rattle.rh_defs.specs.HeapImage.{heap_of}
@@ -23,3 +23,8 @@ size_at address h = ok_or (block_size address h) NotABlock
 -- bytes b that are no heap's stay, and why they are none is the status
 abbrev pub RefusesImage : List ℕ → List ℕ → ℕ → Type 0
 RefusesImage b c status = image_status b ≢ 0 → (status ≡ image_status b) × (c ≡ b)
+
+-- an amount for which 32 bits have no room: 2 GiB or more up, or more than 2 GiB down
+abbrev pub IsFar : ℤ → Type 0
+IsFar (pos k) = 2 ^ 31 ≤ k
+IsFar (negsuc k) = 2 ^ 31 ≤ k

@@ -71,6 +71,6 @@ image_status b =
 -- the status of moving a heap's end by delta bytes: it becomes a multiple of 8 that lies in n bytes, or it stays
 unfoldable pub extend_status : ℕ → ℤ → Heap → ℕ
 extend_status n delta h =
-    if is_multiple (moved h.end delta) then
-    (if nat_lt n (moved h.end delta) then short else answer_status (extend delta h))
+    if nat_lt n (moved h.end delta) then short
+    else if is_multiple (moved h.end delta) then answer_status (extend delta h)
     else bad_length

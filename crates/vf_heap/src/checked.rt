@@ -72,7 +72,7 @@ pub extern "C" fn vf_heap_checked_release(memory: &mut [u8], address: usize) -> 
 pub extern "C" fn vf_heap_checked_resize(
     memory: &mut [u8],
     address: usize,
-    delta: i32,
+    delta: isize,
     moved_to: &mut usize,
 ) -> u32
     ensures refused { RefusesImage memory.old memory.new result }
@@ -89,7 +89,7 @@ pub extern "C" fn vf_heap_checked_resize(
 
 /// Moves the heap's end by `delta` bytes, to one that lies in the bytes. (OS_Heap 5.)
 #[unsafe(no_mangle)]
-pub extern "C" fn vf_heap_checked_extend(memory: &mut [u8], delta: i32) -> u32
+pub extern "C" fn vf_heap_checked_extend(memory: &mut [u8], delta: isize) -> u32
     ensures image { RefusesImage memory.old memory.new result }
     ensures status { image_status memory.old ≡ 0 → result ≡ extend_status (length memory.old) delta (heap_of memory.old 0) }
     ensures done { result ≡ 0 → Extends memory.old memory.new delta }

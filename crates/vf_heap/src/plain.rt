@@ -1,14 +1,17 @@
 //! The calls on bytes that are as the last call left them.
-ghost use Rattle.std.specs.Prelude.{◌≡◌, ◌≢◌, length};
+ghost use Rattle.std.specs.Prelude.{◌≡◌, ◌≢◌, length, Err};
 ghost use Rattle.rh_defs.specs.Chain.{no_answer};
 ghost use Rattle.rh_defs.specs.Heap.{claim, released_at, resize, largest, free_bytes, empty_heap};
 ghost use Rattle.rh_defs.specs.HeapImage.{heap_of};
 ghost use Rattle.rh_lent.specs.Heaps.{IsHeapBytes};
 ghost use Rattle.vf_heap.specs.Status.{answer_or, answer_status, extend_status, length_status, number_or, status_of};
-ghost use Rattle.vf_heap.specs.Calls.{Leaves, Extends, size_at};
+ghost use Rattle.vf_heap.specs.Calls.{Leaves, Extends, IsFar, size_at};
 
 use crate::image::length_status;
-use crate::status::{BAD_LENGTH, NO_ROOM, OK, SHORT, outcome_status, told};
+use crate::status::{
+    BAD_LENGTH, EXCESSIVE_SHRINK, NO_ROOM, OK, SHORT, outcome_status, refusal_status, told,
+};
+use rh_defs::HeapRefusal;
 use rh_defs::sizes::{HEAP_UNIT, moved};
 use rh_lent::heap;
 
@@ -66,12 +69,26 @@ pub extern "C" fn vf_heap_release(memory: &mut [u8], address: usize) -> u32
     outcome_status(heap::release(memory, address))
 }
 
+/// Why a block can't have so many bytes more, or fewer.
+fn far_refusal(memory: &mut [u8], address: usize, delta: isize) -> HeapRefusal
+    requires heap { IsHeapBytes memory.old }
+    requires far { IsFar delta }
+    ensures refusal { resize address delta (heap_of memory.old 0) ≡ Err result }
+    ensures same { memory.new ≡ memory.old }
+{
+    match heap::block_size(memory, address) {
+        Err(refusal) => refusal,
+        Ok(_) if delta < 0 => HeapRefusal::BadSize,
+        Ok(_) => HeapRefusal::NoRoom,
+    }
+}
+
 /// Gives the block at an address `delta` bytes more, and tells where it is then. (OS_Heap 4.)
 #[unsafe(no_mangle)]
 pub extern "C" fn vf_heap_resize(
     memory: &mut [u8],
     address: usize,
-    delta: i32,
+    delta: isize,
     moved_to: &mut usize,
 ) -> u32
     requires { IsHeapBytes memory.old }
@@ -79,12 +96,29 @@ pub extern "C" fn vf_heap_resize(
     ensures address { moved_to.new ≡ number_or (resize address delta (heap_of memory.old 0)) moved_to.old }
     ensures left { Leaves memory.old memory.new (resize address delta (heap_of memory.old 0)) }
 {
-    told(heap::resize(memory, address, delta), moved_to)
+    match i32::try_from(delta) {
+        Ok(delta) => told(heap::resize(memory, address, delta), moved_to),
+        Err(_) => refusal_status(far_refusal(memory, address, delta)),
+    }
 }
 
 /// Moves the heap's end by `delta` bytes, to one that lies in the bytes. (OS_Heap 5.)
 #[unsafe(no_mangle)]
-pub extern "C" fn vf_heap_extend(memory: &mut [u8], delta: i32) -> u32
+pub extern "C" fn vf_heap_extend(memory: &mut [u8], delta: isize) -> u32
+    requires { IsHeapBytes memory.old }
+    ensures status { result ≡ extend_status (length memory.old) delta (heap_of memory.old 0) }
+    ensures done { result ≡ 0 → Extends memory.old memory.new delta }
+    ensures refused { result ≢ 0 → memory.new ≡ memory.old }
+{
+    match i32::try_from(delta) {
+        Ok(delta) => extend(memory, delta),
+        Err(_) if delta < 0 => EXCESSIVE_SHRINK,
+        Err(_) => SHORT,
+    }
+}
+
+/// The same, where fewer than 2 GiB are asked for.
+fn extend(memory: &mut [u8], delta: i32) -> u32
     requires { IsHeapBytes memory.old }
     ensures status { result ≡ extend_status (length memory.old) delta (heap_of memory.old 0) }
     ensures done { result ≡ 0 → Extends memory.old memory.new delta }
@@ -92,11 +126,11 @@ pub extern "C" fn vf_heap_extend(memory: &mut [u8], delta: i32) -> u32
 {
     let len = memory.len();
     let end = moved(heap::end(memory), delta);
-    if end % HEAP_UNIT != 0 {
-        return BAD_LENGTH;
-    }
     if len < end {
         return SHORT;
+    }
+    if end % HEAP_UNIT != 0 {
+        return BAD_LENGTH;
     }
     outcome_status(heap::extend_heap(memory, delta))
 }
