@@ -64,7 +64,7 @@ def compiled(crate, log):
     crate = copy.copy(crate)
     crate.out = log
     os.makedirs(f"{crate.folder}/out", exist_ok=True)
-    words = crate.words(["--jobs", str(rt.processors())], keeps=False)
+    words = crate.words(["--jobs", "1"], keeps=False)
     words += ["--toolchain", f"{rtlib.KIT}/toolchain", "--backend", "llvm"]
     return not crate.prove(["build", *words, "-o", f"out/lib{crate.name}.a"])
 

@@ -23,6 +23,7 @@ TESTED_TWICE = re.compile(
     r"^VF_BOTH_UNLESS_NULL\((\w+), (\w+),\s+\(([^)]*)\),\s+([^,]+),\s+\(([^)]*)\)\)", re.MULTILINE
 )
 DEFINED = re.compile(r"^#define (vf_\w+) (vf_\w+)$", re.MULTILINE)
+FAMILY = re.compile(r"^(vf_[a-z]+_)")
 
 
 class Unknown(Exception):
@@ -115,7 +116,7 @@ def faults_of_null(header, exported):
             yield f"{name}: its test for null has {tests.get(name)} in place of {wanted_test(prototype)}"
         if (always | plain).get(name) != name + SUFFIX:
             yield f"{name}: the name doesn't lead to its test for null"
-        twin = name.replace("vf_heap_", "vf_heap_checked_", 1)
+        twin = FAMILY.sub(r"\1checked_", name)
         if twin in exported and checked.get(name) != twin:
             yield f"{name}: with VF_CHECKED the name doesn't lead to {twin}"
 
