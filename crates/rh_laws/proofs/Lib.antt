@@ -22,3 +22,8 @@ pub mod AddressRows
 pub mod Frames
 pub mod FramePolls
 pub mod FrameRows
+pub mod ScrapStages
+pub mod ScrapViews
+pub mod ScrapPolls
+pub mod ScrapTurns
+pub mod ScrapRows

@@ -5,3 +5,4 @@ pub mod Conditions
 pub mod HonestHeaps
 pub mod Addressed
 pub mod Frame
+pub mod ScrapTurns

@@ -6,9 +6,11 @@ mod frame;
 mod heaps;
 mod lines;
 mod order;
+mod scrap;
 
 pub use addressed::addressed_law;
 pub use frame::frame_law;
 pub use heaps::describe_law;
 pub use lines::line_law;
 pub use order::refusal_order_law;
+pub use scrap::scrap_alternation_law;

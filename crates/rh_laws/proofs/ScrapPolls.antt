@@ -1,0 +1,339 @@
+-- A poll of a task by its name, where the post has one message at most: what is seen of the desk then.
+use Rattle.std.proofs.Common.{◌≡◌, ℕ, Bool, true, false, List, [], ◌∷◌, Option, Some, None, refl, sym, ap, ◌∙◌, subst}
+use Rattle.std.proofs.Common.{length}
+use Rattle.std.specs.Prelude.{if◌then◌else◌, find, Ok}
+use Rattle.std.specs.Option.{option_map}
+use Rattle.rh_defs.specs.declared.refusal.Refusal.TheVariants.{NoName}
+use Rattle.rh_defs.specs.declared.command.Command.TheVariants as command
+use Rattle.rh_defs.specs.declared.message.Action.{Action}
+use Rattle.rh_defs.specs.declared.message.Action.TheVariants as action
+use Rattle.rh_defs.specs.declared.message.EventCode.{EventCode}
+use Rattle.rh_defs.specs.declared.message.EventCode.TheVariants.{User, Recorded, Acknowledge}
+use Rattle.rh_defs.specs.declared.reply.Reply.TheVariants as reply
+use Rattle.rh_defs.specs.declared.transfer.Sending.{Sending}
+use Rattle.rh_defs.specs.declared.transfer.Taking.{Taking}
+use Rattle.rh_defs.specs.declared.transfer.Asked.{Asked}
+use Rattle.rh_defs.specs.declared.transfer.Outgoing.TheVariants as outgoing
+use Rattle.rh_defs.specs.declared.transfer.Incoming.TheVariants as incoming
+use Rattle.rh_defs.specs.Chain.{◌>>=◌, found_or, or_else}
+use Rattle.rh_defs.specs.Forms.{is_name}
+use Rattle.rh_defs.specs.Range.{in_range}
+use Rattle.rh_defs.specs.Laws.{IsDesk}
+use Rattle.rh_defs.specs.Messages.{Parcel, action_of}
+use Rattle.rh_defs.specs.Post.{Post, post_poll, post_is_live}
+use Rattle.rh_defs.specs.Sender as sender
+use Rattle.rh_defs.specs.Receiver as receiver
+use Rattle.rh_defs.specs.Desk.{Desk, Task, Scrap, has_name, named, kept_scrap, with_delivered}
+use Rattle.rh_defs.specs.OutgoingEvents.{Handled, ignored, answer_ack, finish_load}
+use Rattle.rh_defs.specs.IncomingEvents.{fetch_back, take_file}
+use Rattle.rh_defs.specs.Transfer as transfer
+use Rattle.rh_defs.specs.Transfer.{answers_none}
+use Rattle.rh_defs.specs.Commands.{Answer}
+use Rattle.rh_defs.specs.Step.{event, poll, poll_taken, step}
+use Rattle.rh_defs.proofs.Steps.{step-keeps}
+use Rattle.rh_safety.specs.Alternation.{is_refusal, is_refused_poll}
+use Rattle.rh_safety.proofs.View.{view, seen_parcel, seen_scrap, task_of}
+use Rattle.rh_safety.proofs.Ends.{Letter, Message, first_for}
+use Rattle.rh_safety.proofs.Sight as sight
+use Rattle.rh_safety.proofs.Basics.{none_some, put_same}
+use Rattle.rh_safety.proofs.Invariant.{rests}
+use Rattle.rh_safety.proofs.Turns.{first_one}
+use Rattle.rh_safety.proofs.PollTurns as other
+use Rattle.rh_safety.proofs.SeenTasks.{field_is, found_task, live_of}
+use Rattle.rh_safety.proofs.SeenKeys.{keys_of, named_in, handle_named, SameKeys}
+use Rattle.rh_safety.proofs.SeenNames.{handled_keys}
+use Rattle.rh_safety.proofs.SeenTaking.{IsTaken, lost_queue, picked_by, poll_taken_is}
+use Rattle.rh_safety.proofs.SeenDesks.{fits}
+use Rattle.rh_safety.proofs.SeenFiles.{seen_live}
+use Rattle.rh_laws.proofs.ScrapViews.{came_as, came_is, back_is, asked_view, filed_view, done_view, told_view}
+
+-- ---- the message that is taken
+
+-- the scrap file of a recorded message stays when that is taken
+abbrev KeepsFile : Desk → Desk → Parcel → Type 0
+KeepsFile d e p = (file : Scrap) → d.scrap ≡ Some file → p.code ≡ Recorded → file.load ≡ p.message.my_ref →
+    e.scrap ≡ Some file
+
+-- A task takes the message, which is the only one, and deals with it.
+pub data Turn (d : Desk) : ℕ → Message → Answer → Type 0 where
+  takes : (e : Desk) (t : Task) (p : Parcel) → task_of t.handle e.tasks ≡ Some t →
+      sight.lost (view e) ≡ sight.picked (sight.lost (view d)) t.handle (seen_parcel p) p.code → KeepsFile d e p →
+      Turn d t.handle (seen_parcel p) (event p (transfer.handled e t p p.code))
+
+one_of : (o : Option Parcel) (m : Message) → option_map seen_parcel o ≡ Some m →
+    (p : Parcel) × (o ≡ Some p) × (seen_parcel p ≡ m)
+one_of None m q = absurd (none_some None refl q)
+one_of (Some p) m q = (
+  p,
+  refl,
+  let z : Option.Some (seen_parcel p) ≡ Some m = q in (let y : seen_parcel p ≡ m = cc in y),
+)
+
+lost_twice : (b : Bool) (d : sight.Desk) → sight.lost (sight.lost_if b d) ≡ sight.lost d
+lost_twice true d = refl
+lost_twice false d = refl
+
+lost_picked : (d : sight.Desk) (h : ℕ) (m : Message) (c : EventCode) →
+    sight.lost (sight.picked d h m c) ≡ sight.picked (sight.lost d) h m c
+lost_picked d h m User = refl
+lost_picked d h m Recorded = refl
+lost_picked d h m Acknowledge = refl
+
+module _ (d : Desk) (t : Task) (p : Post × Option Parcel) (w : IsTaken d t.handle p)
+    (is : task_of t.handle d.tasks ≡ Some t) where
+  abbrev here : ℕ
+  here = t.handle
+
+  abbrev left : Desk
+  left = with_delivered p.0 d
+
+  -- the poll of a task that holds nothing, where the post has one message for it
+  turn_is : (m : Message) → (view d).held here ≡ None → (view d).queue ≡ m ∷ [] → m.to ≡ here →
+      Turn d here m (poll_taken left t p.1)
+  unfolding poll_taken with_delivered
+  turn_is m none queue to =
+      let back = sight.returned (view d) here ((view d).held here) in
+      let same : sight.lost_if w.lost back ≡ sight.lost_if w.lost (view d) = ap (λ (v : Option Message).
+      sight.lost_if w.lost (sight.returned (view d) here v)) none in
+      let first : option_map seen_parcel p.1 ≡ Some m = sym w.first ∙ ap (λ (y : sight.Desk). first_for here y.queue)
+      same ∙ ap (first_for here) (lost_queue w.lost (view d) ∙ queue) ∙ first_one here m to in
+      let o = one_of p.1 m first in
+      let q : Parcel = o.0 in
+      let seen : view left ≡ sight.picked (sight.lost_if w.lost (view d)) here (seen_parcel q) q.code = w.seen ∙
+      ap (λ (v : Option Parcel). picked_by here (option_map seen_parcel v) (sight.lost_if w.lost back)) o.1 ∙
+      ap (λ (y : sight.Desk). sight.picked y here (seen_parcel q) q.code) same in
+      let taken : sight.lost (view left) ≡ sight.picked (sight.lost (view d)) here (seen_parcel q) q.code =
+      ap sight.lost seen ∙ lost_picked (sight.lost_if w.lost (view d)) here (seen_parcel q) q.code ∙
+      ap (λ (y : sight.Desk). sight.picked y here (seen_parcel q) q.code) (lost_twice w.lost (view d)) in
+      let keeps : KeepsFile d left q = λ file there code load.
+      let held : (view left).held here ≡ Some (seen_parcel q) = ap (λ (y : sight.Desk). y.held here)
+      (taken ∙ ap (sight.picked (sight.lost (view d)) here (seen_parcel q)) code) ∙
+      put_same (view d).held here (Some (seen_parcel q)) in
+      let live : post_is_live file.load p.0 ≡ true = seen_live p.0 file.load (rests here (seen_parcel q) held
+      (sym load)) in
+      ap (kept_scrap p.0) there ∙ (rw live refl) in
+      subst (λ (v : Option Parcel). Turn d here m (poll_taken left t v)) (sym o.1)
+      (subst (λ (x : Message). Turn d here x (event q (transfer.handled left t q q.code))) o.2 (takes left t q is taken keeps))
+
+  -- the poll of a task for which there is no message, even where one has gone back
+  none_is : first_for here (sight.returned (view d) here ((view d).held here)).queue ≡ None →
+      sight.lost (view (poll_taken left t p.1).0) ≡ sight.lost (sight.returned (view d) here ((view d).held here))
+  unfolding poll_taken
+  none_is none =
+      let back = sight.returned (view d) here ((view d).held here) in
+      let nothing = empty p.1 (sym w.first ∙ ap (first_for here) (lost_queue w.lost back) ∙ none) in
+      let seen : view left ≡ sight.lost_if w.lost back = w.seen ∙ ap (λ (v : Option Parcel).
+      picked_by here (option_map seen_parcel v) (sight.lost_if w.lost back)) nothing in
+      subst (λ (v : Option Parcel). sight.lost (view (poll_taken left t v).0) ≡ sight.lost back) (sym nothing)
+      (ap sight.lost seen ∙ lost_twice w.lost back)
+    where
+      empty : (o : Option Parcel) → option_map seen_parcel o ≡ None → o ≡ None
+      empty None q = refl
+      empty (Some m) q = absurd (none_some None refl (sym q))
+
+-- ---- what each message leaves to see
+
+module _ (e : Desk) (t : Task) (p : Parcel) where
+  -- a message that came
+  came_handled : (c : EventCode) → (c ≡ Acknowledge → ⊥) → (x : Handled) →
+      came_as e t p (action_of p.message.body) ≡ Some x → transfer.handled e t p c ≡ x
+  unfolding transfer.handled
+  came_handled User ne x q = came_is e t p p.message.body x q
+  came_handled Recorded ne x q = came_is e t p p.message.body x q
+  came_handled Acknowledge ne x q = absurd (ne refl)
+
+  -- a fetch that came back
+  back_handled : (c : EventCode) → c ≡ Acknowledge → action_of p.message.body ≡ action.RamFetch →
+      transfer.handled e t p c ≡ fetch_back e t (receiver.on_bounce p.message.my_ref t.taking)
+  unfolding transfer.handled
+  back_handled User q kind = absurd (let z : User ≡ Acknowledge = q in (cc))
+  back_handled Recorded q kind = absurd (let z : Recorded ≡ Acknowledge = q in (cc))
+  back_handled Acknowledge q kind = back_is e t p p.message.body kind
+
+  -- the handler was refused nothing
+  granted_by : (x : Handled) (k : Action) → transfer.handled e t p p.code ≡ x → action_of p.message.body ≡ k →
+      is_refused_poll (event p (transfer.handled e t p p.code)).1 ≡ false → is_refusal k x.1 ≡ false
+  granted_by x k same kind granted = subst (λ (j : Action). is_refusal j x.1 ≡ false) kind
+      (ap (λ (z : Handled). is_refusal (action_of p.message.body) z.1) (sym same) ∙ granted)
+
+-- another code than that of a message that came back
+recorded_came : (c : EventCode) → c ≡ Recorded → c ≡ Acknowledge → ⊥
+recorded_came c q r = let z : Recorded ≡ Acknowledge = sym q ∙ r in (cc)
+
+user_came : (c : EventCode) → c ≡ User → c ≡ Acknowledge → ⊥
+user_came c q r = let z : User ≡ Acknowledge = sym q ∙ r in (cc)
+
+-- a fetch that the task doesn't answer
+pub ignored_turn : (d : Desk) (h : ℕ) (m : Message) (a : Answer) → Turn d h m a → m.code ≡ Recorded →
+    m.letter.kind ≡ action.RamFetch → (view d).file h ≡ true →
+    sight.lost (view a.0) ≡ sight.picked (sight.lost (view d)) h m Recorded
+ignored_turn d h m a (takes e t p is taken keeps) code kind file =
+    let seen = taken ∙ ap (sight.picked (sight.lost (view d)) t.handle (seen_parcel p)) code in
+    let none : answers_none t.manner ≡ true = sym (field_is (λ y. answers_none y.manner) false t.handle e.tasks t is) ∙
+    ap (λ (y : sight.Desk). y.file t.handle) seen ∙ file in
+    let same = came_handled e t p p.code (recorded_came p.code code) (ignored e) (ap (came_as e t p) kind ∙
+    ap (λ (b : Bool). if b then Some (ignored e) else None) none) in
+    ap (λ (z : Handled). sight.lost (view z.0)) same ∙ seen
+
+-- a first fetch that came back
+pub asked_turn : (d : Desk) (h : ℕ) (m : Message) (a : Answer) → Turn d h m a → is_refused_poll a.1 ≡ false →
+    m.code ≡ Acknowledge → m.letter.kind ≡ action.RamFetch → (f : Taking) → f.count ≡ 0 →
+    receiver.on_bounce m.letter.me ((view d).taking h) ≡ Some (incoming.Fetching f) →
+    sight.lost (view a.0) ≡ sight.asked (sight.picked (sight.lost (view d)) h m Acknowledge) h f
+asked_turn d h m a (takes e t p is taken keeps) granted code kind f none found =
+    let seen = taken ∙ ap (sight.picked (sight.lost (view d)) t.handle (seen_parcel p)) code in
+    let records : t.taking ≡ (view d).taking t.handle = sym (field_is (λ y. y.taking) [] t.handle e.tasks t is) ∙
+    ap (λ (y : sight.Desk). y.taking t.handle) seen in
+    let same = back_handled e t p p.code code kind ∙ ap (fetch_back e t) (ap (receiver.on_bounce p.message.my_ref)
+    records ∙ found) in
+    ap (λ (z : Handled). sight.lost (view z.0)) same ∙
+    ap sight.lost (asked_view e t p p.message.body is f none (granted_by e t p _ action.RamFetch same kind granted)) ∙
+    ap (λ (y : sight.Desk). sight.asked y t.handle f) seen
+
+-- a DataSaveAck
+pub record FileMade (d : Desk) (h : ℕ) (m : Message) (x : Sending) (bytes : List ℕ) (after : Desk) : Type 0 where
+  pub seen : sight.lost (view after) ≡ sight.lost (sight.filed (sight.picked (sight.lost (view d)) h m Recorded) h
+      m.letter x bytes)
+  pub file : Scrap
+  pub there : after.scrap ≡ Some file
+  pub load : file.load ≡ d.post.next_ref
+  pub bytes_are : file.bytes ≡ bytes
+
+file_of : (o : Option Scrap) (load : ℕ) (bytes : List ℕ) → option_map seen_scrap o ≡ Some (record {
+  load = load;
+  bytes = bytes;
+}) → (file : Scrap) × (o ≡ Some file) × (file.load ≡ load) × (file.bytes ≡ bytes)
+file_of None load bytes q = absurd (none_some None refl q)
+file_of (Some file) load bytes q =
+    let z : Option.Some (seen_scrap file) ≡ Some (record { load = load; bytes = bytes }) = q in
+    let y : seen_scrap file ≡ record { load = load; bytes = bytes } = cc in
+    (file, refl, ap (λ (f : sight.Scrap). f.load) y, ap (λ (f : sight.Scrap). f.bytes) y)
+
+pub filed_turn : (d : Desk) (h : ℕ) (m : Message) (a : Answer) → Turn d h m a → is_refused_poll a.1 ≡ false →
+    m.code ≡ Recorded → m.letter.kind ≡ action.DataSaveAck → (x : Sending) (bytes : List ℕ) →
+    sender.on_ack m.letter.from m.letter.answers ((view d).sending h) ≡ Some x → m.letter.from ≡ x.recipient →
+    (view d).block h x.anchor ≡ Some bytes → FileMade d h m x bytes a.0
+filed_turn d h m a (takes e t p is taken keeps) granted code kind x bytes found from there =
+    let l : Letter = (seen_parcel p).letter in
+    let seen = taken ∙ ap (sight.picked (sight.lost (view d)) t.handle (seen_parcel p)) code in
+    let records : t.sending ≡ (view d).sending t.handle = sym (field_is (λ y. y.sending) [] t.handle e.tasks t is) ∙
+    ap (λ (y : sight.Desk). y.sending t.handle) seen in
+    let same = came_handled e t p p.code (recorded_came p.code code) (answer_ack e t p (Some x)) (ap (came_as e t p)
+    kind ∙ ap (λ (o : Option Sending). Option.Some (answer_ack e t p o)) (ap (sender.on_ack p.message.from
+    p.message.your_ref) records ∙ found)) in
+    let block = ap (λ (y : sight.Desk). y.block t.handle x.anchor) seen ∙ there in
+    let v = filed_view e t p p.message.body is x bytes from block (granted_by e t p _ action.DataSaveAck same kind
+    granted) in
+    let after = ap (λ (z : Handled). view z.0) same ∙ v in
+    let file = file_of (transfer.handled e t p p.code).0.scrap (view e).next_ref bytes (ap (λ (y : sight.Desk).
+    y.scrap) after) in
+    record {
+      seen = ap sight.lost after ∙ ap (λ (y : sight.Desk). sight.lost (sight.filed y t.handle l x bytes)) seen;
+      file = file.0;
+      there = file.1;
+      load = file.2 ∙ ap (λ (y : sight.Desk). y.next_ref) seen;
+      bytes_are = file.3;
+    }
+
+-- a DataLoad of the scrap file
+pub told_turn : (d : Desk) (h : ℕ) (m : Message) (a : Answer) → Turn d h m a → is_refused_poll a.1 ≡ false →
+    m.code ≡ Recorded → m.letter.kind ≡ action.DataLoad → (q : Asked) (file : Scrap) → d.scrap ≡ Some file →
+    file.load ≡ m.letter.me → receiver.on_load m.letter.from m.letter.answers ((view d).taking h) ≡ Some q →
+    m.letter.from ≡ q.sender → sight.lost (view a.0) ≡ sight.lost (sight.told (sight.copied (sight.picked
+    (sight.lost (view d)) h m Recorded) h q file.bytes) h m.letter q (length file.bytes))
+told_turn d h m a (takes e t p is taken keeps) granted code kind q file there load found from =
+    let l : Letter = (seen_parcel p).letter in
+    let n = length file.bytes in
+    let seen = taken ∙ ap (sight.picked (sight.lost (view d)) t.handle (seen_parcel p)) code in
+    let records : t.taking ≡ (view d).taking t.handle = sym (field_is (λ y. y.taking) [] t.handle e.tasks t is) ∙
+    ap (λ (y : sight.Desk). y.taking t.handle) seen in
+    let same = came_handled e t p p.code (recorded_came p.code code) (take_file e t p (Some q)) (ap (came_as e t p)
+    kind ∙ ap (λ (o : Option Asked). Option.Some (take_file e t p o)) (ap (receiver.on_load p.message.from
+    p.message.your_ref) records ∙ found)) in
+    ap (λ (z : Handled). sight.lost (view z.0)) same ∙
+    ap sight.lost (told_view e t p p.message.body is q file (keeps file there code load) load from (granted_by e t p _
+    action.DataLoad same kind granted)) ∙
+    ap (λ (y : sight.Desk). sight.lost (sight.told (sight.copied y t.handle q file.bytes) t.handle l q n)) seen
+
+-- a DataLoadAck
+pub done_turn : (d : Desk) (h : ℕ) (m : Message) (a : Answer) → Turn d h m a → is_refused_poll a.1 ≡ false →
+    m.code ≡ User → m.letter.kind ≡ action.DataLoadAck → (x : Sending) (bytes : List ℕ) →
+    sender.on_load_ack m.letter.from m.letter.answers ((view d).sending h) ≡ Some x →
+    (view d).block h x.anchor ≡ Some bytes → sight.lost (view a.0) ≡ sight.with_out (sight.picked (sight.lost
+    (view d)) h m User) h x (outgoing.Done x.id (length bytes))
+done_turn d h m a (takes e t p is taken keeps) granted code kind x bytes found there =
+    let seen = taken ∙ ap (sight.picked (sight.lost (view d)) t.handle (seen_parcel p)) code in
+    let records : t.sending ≡ (view d).sending t.handle = sym (field_is (λ y. y.sending) [] t.handle e.tasks t is) ∙
+    ap (λ (y : sight.Desk). y.sending t.handle) seen in
+    let same = came_handled e t p p.code (user_came p.code code) (finish_load e t (Some x)) (ap (came_as e t p) kind ∙
+    ap (λ (o : Option Sending). Option.Some (finish_load e t o)) (ap (sender.on_load_ack p.message.from
+    p.message.your_ref) records ∙ found)) in
+    let block = ap (λ (y : sight.Desk). y.block t.handle x.anchor) seen ∙ there in
+    ap (λ (z : Handled). sight.lost (view z.0)) same ∙
+    ap sight.lost (done_view e t p p.message.body is x bytes block (granted_by e t p _ action.DataLoadAck same kind
+    granted)) ∙
+    ap (λ (y : sight.Desk). sight.with_out y t.handle x (outgoing.Done x.id (length bytes))) seen
+
+-- ---- a poll, by name
+
+-- a name's handle
+abbrev pub IsNamed : List ℕ → Desk → ℕ → Type 0
+IsNamed name d h = named_in name (keys_of d.tasks) ≡ Some h
+
+-- the desk after a poll of task h
+pub record IsPolled (d : Desk) (h : ℕ) (a : Answer) : Type 0 where
+  pub first : (m : Message) → (view d).held h ≡ None → (view d).queue ≡ m ∷ [] → m.to ≡ h → other.Turn d h m a
+  pub turn : (m : Message) → (view d).held h ≡ None → (view d).queue ≡ m ∷ [] → m.to ≡ h → Turn d h m a
+  pub none : first_for h (sight.returned (view d) h ((view d).held h)).queue ≡ None →
+      sight.lost (view a.0) ≡ sight.lost (sight.returned (view d) h ((view d).held h))
+  pub keys : SameKeys d a.0
+  pub kept : IsDesk a.0
+
+taken_keys : (d : Desk) (t : Task) (v : Option Parcel) → SameKeys d (poll_taken d t v).0
+unfolding poll_taken
+taken_keys d t None = refl
+taken_keys d t (Some m) = handled_keys d t m m.code
+
+delivered_keys : (p : Post) (d : Desk) → SameKeys d (with_delivered p d)
+unfolding with_delivered
+delivered_keys p d = refl
+
+found_of : (h : ℕ) (o : Option Task) → option_map (λ (t : Task). t.handle) o ≡ Some h →
+    (t : Task) × (o ≡ Some t) × (t.handle ≡ h)
+found_of h None q = absurd (none_some None refl q)
+found_of h (Some t) q = (t, refl, let z : Some t.handle ≡ Some h = q in (let y : t.handle ≡ h = cc in y))
+
+poll_step : (d : Desk) (name : List ℕ) (t : Task) → find (has_name name) d.tasks ≡ Some t →
+    step d (command.Poll name) ≡ poll_taken (with_delivered (post_poll t.handle d.post).0 d) t (post_poll t.handle
+    d.post).1
+unfolding poll named found_or or_else ◌>>=◌
+poll_step d name t q =
+    ap (λ (o : Option Task). or_else (found_or o NoName >>= (λ (u : Task).
+    Ok (poll_taken (with_delivered (post_poll u.handle d.post).0 d) u (post_poll u.handle d.post).1))) (λ refusal.
+    (d, reply.Refused refusal))) q
+
+poll_in_range : (name : List ℕ) → is_name name ≡ true → in_range (command.Poll name) ≡ true
+unfolding in_range
+poll_in_range name q = q
+
+pub is_polled : (d : Desk) (name : List ℕ) (h : ℕ) → IsDesk d → is_name name ≡ true → IsNamed name d h →
+    IsPolled d h (step d (command.Poll name))
+is_polled d name h kept valid is_named =
+    let f = fits d kept in
+    let w = found_of h (find (has_name name) d.tasks) (handle_named name d.tasks ∙ is_named) in
+    let t = w.0 in
+    let is : task_of t.handle d.tasks ≡ Some t = found_task (has_name name) d.tasks t f.handles w.1 in
+    let p = post_poll t.handle d.post in
+    let taken = poll_taken_is d t.handle f (live_of d t.handle t is) in
+    let same = poll_step d name t w.1 in
+    subst (λ (k : ℕ). IsPolled d k (step d (command.Poll name))) w.2 (record {
+      first = λ m none queue to. subst (λ (y : Answer). other.Turn d t.handle m y) (sym same) (other.turn_is d t m p
+          taken is none queue to);
+      turn = λ m none queue to. subst (λ (y : Answer). Turn d t.handle m y) (sym same) (turn_is d t p taken is m
+          none queue to);
+      none = λ nothing. subst (λ (y : Answer). sight.lost (view y.0) ≡ sight.lost (sight.returned (view d) t.handle
+          ((view d).held t.handle))) (sym same) (none_is d t p taken is nothing);
+      keys = subst (λ (y : Answer). SameKeys d y.0) (sym same) (taken_keys (with_delivered p.0 d) t p.1 ∙
+          delivered_keys p.0 d);
+      kept = step-keeps d (command.Poll name) (poll_in_range name valid) kept;
+    })
