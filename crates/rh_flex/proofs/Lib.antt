@@ -1,0 +1,4 @@
+pub mod Examples
+pub mod Over
+pub mod SlotBytes
+pub mod WriteLaws

@@ -1,0 +1,181 @@
+-- The one area of lent pages: what its bytes are, and what an edit of the lent bytes makes of the memory.
+use Rattle.std.proofs.Common.{◌≡◌, ℕ, ◌+◌, ◌-◌, ◌*◌, ◌/◌, ◌≤◌, ◌==◌, cond, Bool, true, false, List, ◌++◌, length, take, drop, replicate, refl, sym, ap, ◌∙◌, append_assoc, arith}
+use Rattle.std.specs.Prelude.{Option, Some, None, IsSome}
+use Rattle.std.specs.Int.{w32, to_le_bytes}
+use Rattle.std.proofs.Math.Seq.{take-append_seam}
+use Rattle.std.proofs.lemmas.Bool.Decides.{nat_tests}
+use Rattle.std.proofs.lemmas.List.{length-append, length-replicate, length-take-le, take-append-drop, take-take}
+use Rattle.rh_defs.specs.Bytes.{word, put, put_word, part}
+use Rattle.rh_defs.specs.Memory.{Memory, IsOpen, area_set, bytes, with_bytes, grown, shrunk}
+use Rattle.rh_defs.proofs.BytesLaws.{length-put, length-part, part-take, word-take, put-append_left, put-parts}
+use Rattle.rh_defs.proofs.MemoryLaws.{area_set-area_set}
+use Rattle.rh_flex.specs.Pages.{first_pages, pages_behind, memory_over, memory_in, memory_of}
+use Rattle.rh_flex.specs.declared.pages.LentPages.{LentPages}
+
+-- ---- the first bytes of a list
+
+seam : {A : Type 0} (n : ℕ) (xs ys : List A) → length xs ≡ n → take n (xs ++ ys) ≡ xs
+seam n xs ys e = ap (λ k. take k (xs ++ ys)) (sym e) ∙ take-append_seam xs ys
+
+-- a write among the first n bytes is a write to them
+pub take-put : (n : ℕ) (b : List ℕ) (at : ℕ) (xs : List ℕ) → n ≤ length b → at + length xs ≤ n
+    → take n (put b at xs) ≡ put (take n b) at xs
+take-put n b at xs l h =
+    let len = length-take-le n b l in
+    ap (λ x. take n (put x at xs)) (sym (take-append-drop n b))
+    ∙ ap (take n) (put-append_left (take n b) (drop n b) at xs (omega arith))
+    ∙ seam n (put (take n b) at xs) (drop n b) (length-put (take n b) at xs ∙ len)
+
+-- zeros written behind the first n bytes, and these taken with them
+pub take-zeros : (n k : ℕ) (b : List ℕ) → n + k ≤ length b
+    → take (n + k) (put b n (replicate k 0)) ≡ take n b ++ replicate k 0
+take-zeros n k b h =
+    let zs : List ℕ = replicate k 0 in
+    let some : length zs ≡ k = length-replicate {A = ℕ} k 0 in
+    let len = length-take-le n b (omega arith) in
+    ap (take (n + k)) (put-parts b n zs (omega arith) ∙ sym (append_assoc (take n b) zs (drop (n + length zs) b)))
+    ∙ seam (n + k) (take n b ++ zs) (drop (n + length zs) b) (length-append (take n b) zs ∙ omega arith)
+
+-- ---- one area of bytes
+
+only_true : (b : Bool) (bs : List ℕ) → IsSome (cond b (Some bs) None) → b ≡ true
+only_true true bs h = refl
+only_true false bs h = absurd cc
+
+is_zero : (id : ℕ) → (id == 0) ≡ true → id ≡ 0
+is_zero id h = grind (arith, nat_tests)
+
+memory_with : ℕ → ℕ → ℕ → (ℕ → Option (List ℕ)) → Memory
+memory_with free pages loan area = record { area = area; free = free; pages = pages; loan = loan }
+
+-- the area of the bytes is open
+pub over-open : (bs : List ℕ) (free pages loan : ℕ) → IsOpen (memory_over bs free pages loan) 0
+unfolding memory_over area_set
+over-open bs free pages loan = refl
+
+module _ (bs : List ℕ) (free pages loan id : ℕ) (o : IsOpen (memory_over bs free pages loan) id) where
+  open_zero : id ≡ 0
+  unfolding memory_over area_set
+  open_zero = is_zero id (only_true (id == 0) bs o)
+
+  bytes_over : bytes (memory_over bs free pages loan) id ≡ bs
+  unfolding memory_over area_set bytes
+  bytes_over = rw (only_true (id == 0) bs o) refl
+
+  set_zero : (xs : List ℕ) → memory_over xs free pages loan ≡ with_bytes (memory_over bs free pages loan) 0 xs
+  unfolding memory_over with_bytes memory_with
+  set_zero xs = ap (memory_with free pages loan) (sym (area_set-area_set (λ k. None) 0 (Some bs) (Some xs)))
+
+  set_over : (xs : List ℕ) → memory_over xs free pages loan ≡ with_bytes (memory_over bs free pages loan) id xs
+  set_over xs = set_zero xs ∙ ap (λ k. with_bytes (memory_over bs free pages loan) k xs) (sym open_zero)
+
+  grown_zero : (n : ℕ) → memory_over (bs ++ replicate (4096 * n) 0) (free - n) pages loan
+      ≡ grown (memory_over bs free pages loan) 0 n
+  unfolding memory_over grown area_set bytes memory_with
+  grown_zero n =
+      ap (memory_with (free - n) pages loan)
+      (sym (area_set-area_set (λ k. None) 0 (Some bs) (Some (bs ++ replicate (4096 * n) 0))))
+
+  grown_over : (n : ℕ) → memory_over (bs ++ replicate (4096 * n) 0) (free - n) pages loan
+      ≡ grown (memory_over bs free pages loan) id n
+  grown_over n = grown_zero n ∙ ap (λ k. grown (memory_over bs free pages loan) k n) (sym open_zero)
+
+  shrunk_zero : (n : ℕ) → memory_over (take (length bs - 4096 * n) bs) (free + n) pages loan
+      ≡ shrunk (memory_over bs free pages loan) 0 n
+  unfolding memory_over shrunk area_set bytes memory_with
+  shrunk_zero n =
+      ap (memory_with (free + n) pages loan)
+      (sym (area_set-area_set (λ k. None) 0 (Some bs) (Some (take (length bs - 4096 * n) bs))))
+
+  shrunk_over : (n : ℕ) → memory_over (take (length bs - 4096 * n) bs) (free + n) pages loan
+      ≡ shrunk (memory_over bs free pages loan) id n
+  shrunk_over n = shrunk_zero n ∙ ap (λ k. shrunk (memory_over bs free pages loan) k n) (sym open_zero)
+
+-- ---- the area of lent pages
+
+module _ (s : LentPages) (id : ℕ) (o : IsOpen (memory_of s) id) where
+  -- an open area's bytes are those of the first pages
+  pub lent_bytes : bytes (memory_of s) id ≡ first_pages s.pages s.bytes.now
+  unfolding memory_of
+  lent_bytes = bytes_over _ _ _ _ id o
+
+  pub lent_length : length (bytes (memory_of s) id) ≡ 4096 * s.pages
+  lent_length = ap length lent_bytes ∙ length-take-le (4096 * s.pages) s.bytes.now s.within
+
+  pub part_in : (at n : ℕ) → at + n ≤ length (bytes (memory_of s) id)
+      → part s.bytes.now at n ≡ part (bytes (memory_of s) id) at n
+  part_in at n h =
+      let long = lent_length in
+      sym (ap (λ (x : List ℕ). part x at n) lent_bytes ∙ part-take (4096 * s.pages) s.bytes.now at n (omega arith))
+
+  pub word_in : (at : ℕ) → at + 4 ≤ length (bytes (memory_of s) id)
+      → word s.bytes.now at ≡ word (bytes (memory_of s) id) at
+  word_in at h =
+      let long = lent_length in
+      sym (ap (λ (x : List ℕ). word x at) lent_bytes ∙ word-take (4096 * s.pages) s.bytes.now at (omega arith))
+
+  same_length : (new : List ℕ) → length new ≡ length s.bytes.now → memory_in new s.pages s.bytes.ghost_name
+      ≡ memory_over (first_pages s.pages new) (pages_behind s.pages s.bytes.now) (length s.bytes.now / 4096) s.bytes.ghost_name
+  same_length new e =
+      ap (λ n. memory_over (first_pages s.pages new) (n / 4096 - s.pages) (n / 4096) s.bytes.ghost_name) e
+
+  -- bytes written over those of the area
+  pub written : (new : List ℕ) (at : ℕ) (xs : List ℕ) → new ≡ put s.bytes.now at xs
+      → at + length xs ≤ length (bytes (memory_of s) id)
+      → memory_in new s.pages s.bytes.ghost_name ≡ with_bytes (memory_of s) id (put (bytes (memory_of s) id) at xs)
+  unfolding memory_of
+  written new at xs e h =
+      let long = lent_length in
+      same_length new (ap length e ∙ length-put s.bytes.now at xs)
+      ∙ set_over _ _ _ _ id o (first_pages s.pages new)
+      ∙ ap (with_bytes (memory_of s) id) (ap (first_pages s.pages) e
+      ∙ take-put (4096 * s.pages) s.bytes.now at xs s.within (omega arith) ∙ ap (λ (x : List ℕ). put x at xs) (sym lent_bytes))
+
+  -- a word written over one of the area
+  pub word_written : (new : List ℕ) (at w : ℕ) → new ≡ put_word s.bytes.now at w → at + 4 ≤ length (bytes (memory_of s) id)
+      → memory_in new s.pages s.bytes.ghost_name ≡ with_bytes (memory_of s) id (put_word (bytes (memory_of s) id) at w)
+  unfolding put_word
+  word_written new at w e h = written new at (to_le_bytes w32 w) e (omega arith)
+
+  -- bytes of the area moved within it
+  pub slid : (new : List ℕ) (from to n : ℕ) → new ≡ put s.bytes.now to (part s.bytes.now from n)
+      → from + n ≤ length (bytes (memory_of s) id) → to + n ≤ length (bytes (memory_of s) id)
+      → memory_in new s.pages s.bytes.ghost_name
+      ≡ with_bytes (memory_of s) id (put (bytes (memory_of s) id) to (part (bytes (memory_of s) id) from n))
+  slid new from to n e h i =
+      let moved = part (bytes (memory_of s) id) from n in
+      let some = length-part (bytes (memory_of s) id) from n in
+      written new to moved (e ∙ ap (put s.bytes.now to) (part_in from n h)) (omega arith)
+
+  -- pages of zeros taken from behind the area
+  pub grew : (new : List ℕ) (n : ℕ) → 4096 * (s.pages + n) ≤ length s.bytes.now
+      → new ≡ put s.bytes.now (4096 * s.pages) (replicate (4096 * n) 0)
+      → memory_in new (s.pages + n) s.bytes.ghost_name ≡ grown (memory_of s) id n
+  unfolding memory_of
+  grew new n h e =
+      let b = s.bytes.now in
+      let sum : 4096 * (s.pages + n) ≡ 4096 * s.pages + 4096 * n = omega arith in
+      let len : length new ≡ length b = ap length e ∙ length-put b (4096 * s.pages) (replicate (4096 * n) 0) in
+      let bs : first_pages (s.pages + n) new ≡ first_pages s.pages b ++ replicate (4096 * n) 0 =
+      ap (λ k. take k new) sum ∙ ap (take (4096 * s.pages + 4096 * n)) e ∙ take-zeros (4096 * s.pages) (4096 * n) b (omega arith) in
+      let free : length b / 4096 - (s.pages + n) ≡ (length b / 4096 - s.pages) - n = omega arith in
+      ap (λ k. memory_over (first_pages (s.pages + n) new) (k / 4096 - (s.pages + n)) (k / 4096) s.bytes.ghost_name) len
+      ∙ ap (λ (x : List ℕ). memory_over x (length b / 4096 - (s.pages + n)) (length b / 4096) s.bytes.ghost_name) bs
+      ∙ ap (λ f. memory_over (first_pages s.pages b ++ replicate (4096 * n) 0) f (length b / 4096) s.bytes.ghost_name) free
+      ∙ grown_over _ _ _ _ id o n
+
+  -- pages given back at the area's end
+  pub shrank : (n : ℕ) → 4096 * n ≤ length (bytes (memory_of s) id)
+      → memory_in s.bytes.now (s.pages - n) s.bytes.ghost_name ≡ shrunk (memory_of s) id n
+  unfolding memory_of
+  shrank n h =
+      let b = s.bytes.now in
+      let long = lent_length in
+      let len = length-take-le (4096 * s.pages) b s.within in
+      let less : 4096 * (s.pages - n) ≡ length (first_pages s.pages b) - 4096 * n = omega arith in
+      let bs : first_pages (s.pages - n) b ≡ take (length (first_pages s.pages b) - 4096 * n) (first_pages s.pages b) =
+      sym (take-take (4096 * (s.pages - n)) (4096 * s.pages) b (omega arith)) ∙ ap (λ k. take k (first_pages s.pages b)) less in
+      let free : length b / 4096 - (s.pages - n) ≡ (length b / 4096 - s.pages) + n = omega arith in
+      ap (λ (x : List ℕ). memory_over x (length b / 4096 - (s.pages - n)) (length b / 4096) s.bytes.ghost_name) bs
+      ∙ ap (λ f. memory_over (take (length (first_pages s.pages b) - 4096 * n) (first_pages s.pages b)) f (length b / 4096) s.bytes.ghost_name) free
+      ∙ shrunk_over _ _ _ _ id o n

@@ -1,0 +1,23 @@
+use Rattle.std.proofs.Common.{rules}
+use Rattle.rh_defs.specs.Memory.{area_set, bytes}
+use Rattle.rh_defs.specs.Slot.{slot_claim}
+use Rattle.rh_flex.specs.Pages.{memory_of, memory_over}
+use Rattle.rh_flex.specs.Slots.{LeavesSlot, free_in, slot_in}
+use Rattle.rh_flex.proofs.SlotBytes.{is_slot, leaves_slot}
+use Rattle.rh_flex.proofs.slot.LentSlot.claim.Goals as goal
+
+pub claim-result-requires : goal.claim-result-requires
+unfolding memory_of
+claim-result-requires c = record { slot = is_slot c.args.bytes.now c.args.self.now _ c.requires }
+
+pub returns : goal.returns
+unfolding memory_of memory_over bytes area_set
+returns c =
+    let b = c.args.bytes.now in
+    let s = c.args.self.now in
+    let store = c.claim-result.new.store in
+    let granted = slot_claim (free_in b s) c.args.n (slot_in b s) in
+    let name = c.claim-result.ensures.only.loan in
+    let left : LeavesSlot b store.bytes.now s (record { pages = store.pages; budge = s.budge }) granted c.claim-result.result =
+    leaves_slot b s _ store granted c.claim-result.result c.requires c.claim-result.ensures in
+    search rules

@@ -1,0 +1,66 @@
+-- The memory of lent bytes whose first pages are an area, and why the laws of `Pages` hold of it.
+use Rattle.std.specs.Prelude.{◌≡◌, ℕ, ◌+◌, ◌-◌, ◌*◌, ◌/◌, ◌%◌, ◌≤◌, ◌==◌, cond, Bool, true, false, List, [], length, take, Option, Some, None, unwrap_or, refl}
+use Rattle.std.proofs.Common.{arith}
+use Rattle.std.proofs.lemmas.List.{length-take-le}
+use Rattle.rh_defs.specs.Memory.{Memory, Ledger, area_set, bytes, pages_below}
+use Rattle.rh_defs.specs.declared.sizes.TheConstants.{MAX_AREAS, PAGE}
+use Rattle.rh_flex.specs.declared.pages.LentPages.{LentPages}
+use Rattle.rh_store.specs.Limits.{area_limit, pool_limit}
+
+-- the bytes of the first n pages
+abbrev pub first_pages : ℕ → List ℕ → List ℕ
+first_pages n b = take (PAGE * n) b
+
+-- how many whole pages are behind the first n
+abbrev pub pages_behind : ℕ → List ℕ → ℕ
+pages_behind n b = length b / PAGE - n
+
+-- one area of these bytes, so many pages free of so many, under the name of the loan
+unfoldable pub memory_over : List ℕ → ℕ → ℕ → ℕ → Memory
+memory_over bs free pages loan =
+    record { area = area_set (λ k. None) 0 (Some bs); free = free; pages = pages; loan = loan }
+
+-- the memory of lent bytes: the first n pages are the area, those behind are free
+abbrev pub memory_in : List ℕ → ℕ → ℕ → Memory
+memory_in b n loan = memory_over (first_pages n b) (pages_behind n b) (length b / PAGE) loan
+
+-- the memory of the bytes as they are now
+unfoldable pub memory_of : LentPages → Memory
+memory_of s = memory_in s.bytes.now s.pages s.bytes.ghost_name
+
+long : (s : LentPages) → length (first_pages s.pages s.bytes.now) ≡ PAGE * s.pages
+long s = length-take-le (PAGE * s.pages) s.bytes.now s.within
+
+one_short : (b : Bool) (bs : List ℕ) (n : ℕ) → length bs ≤ n → length (unwrap_or (cond b (Some bs) None) []) ≤ n
+one_short true bs n h = h
+one_short false bs n h = omega arith
+
+one_whole : (b : Bool) (bs : List ℕ) → length bs % PAGE ≡ 0
+    → length (unwrap_or (cond b (Some bs) None) []) % PAGE ≡ 0
+one_whole true bs h = h
+one_whole false bs h = refl
+
+pub small_law : (s : LentPages) (id : ℕ) → length (bytes (memory_of s) id) ≤ area_limit
+unfolding memory_of memory_over area_set bytes
+small_law s id =
+    one_short (id == 0) _ area_limit (let l = long s in let w = s.within in let f = s.few in omega arith)
+
+pub whole_law : (s : LentPages) (id : ℕ) → length (bytes (memory_of s) id) % PAGE ≡ 0
+unfolding memory_of memory_over area_set bytes
+whole_law s id = one_whole (id == 0) _ (let l = long s in omega arith)
+
+pub within_law : (s : LentPages) (id : ℕ)
+    → PAGE * (memory_of s).free + length (bytes (memory_of s) id) ≤ PAGE * (memory_of s).pages
+unfolding memory_of memory_over area_set bytes
+within_law s id =
+    let h = one_short (id == 0) (first_pages s.pages s.bytes.now) (PAGE * s.pages) (let l = long s in omega arith) in
+    let w = s.within in
+    omega arith
+
+pub few_law : (s : LentPages) → (memory_of s).pages ≤ pool_limit
+unfolding memory_of memory_over
+few_law s = let f = s.few in omega arith
+
+pub ledger_law : (s : LentPages) → Ledger (memory_of s) MAX_AREAS
+unfolding memory_of memory_over area_set pages_below
+ledger_law s = let l = long s in let w = s.within in omega arith
