@@ -50,12 +50,7 @@ impl LentSlot {
     /// Gives the block of the C heap at an address `delta` bytes more, or fewer where `delta` is negative, and answers
     /// its address. A heap that is too short grows. Refused: `NotABlock`, `BadSize` where fewer than 1 byte would be
     /// left, `NoBudge`, `NoRoom`. (OS_Heap 4.)
-    pub fn resize(
-        &mut self,
-        bytes: &mut [u8],
-        address: usize,
-        delta: i32,
-    ) -> Result<usize, Refusal>
+    pub fn resize(&mut self, bytes: &mut [u8], address: usize, delta: i32) -> Result<usize, Refusal>
         requires { IsSlotBytes bytes.old self.old }
         ensures { LeavesSlot bytes.old bytes.new self.old self.new
             (slot_resize (free_in bytes.old self.old) address delta (slot_in bytes.old self.old)) result }
