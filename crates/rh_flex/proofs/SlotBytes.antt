@@ -1,7 +1,7 @@
 -- What a call on a slot in lent bytes leaves, from what it leaves of their memory.
-use Rattle.std.proofs.Common.{◌≡◌, ℕ, ◌+◌, ◌*◌, ◌/◌, ◌<◌, ◌≤◌, Bool, true, List, length, take, replicate, refl, sym, ap, subst, ◌∙◌, arith}
+use Rattle.std.proofs.Common.{◌≡◌, ℕ, ◌*◌, ◌/◌, ◌≤◌, Bool, true, List, length, take, replicate, refl, sym, ap, subst, ◌∙◌, arith}
 use Rattle.std.proofs.lemmas.List.{length-replicate, length-take-le}
-use Rattle.std.specs.Prelude.{ℤ, Result, Ok, Err, OnErr}
+use Rattle.std.specs.Prelude.{ℤ, Ok, Err, OnErr}
 use Rattle.rh_defs.specs.Bytes.{put}
 use Rattle.rh_defs.specs.Chain.{Granted, answer_of, left_of}
 use Rattle.rh_defs.specs.Heap.{empty_heap}
@@ -9,7 +9,7 @@ use Rattle.rh_defs.specs.HeapImage.{Spells}
 use Rattle.rh_defs.specs.Memory.{Memory, IsOpen, Edited, area_set, bytes}
 use Rattle.rh_defs.specs.Slot as plain
 use Rattle.rh_defs.specs.Slot.{new_slot}
-use Rattle.rh_defs.specs.SlotImage.{SpellsSlot, slot_of}
+use Rattle.rh_defs.specs.SlotImage.{SpellsSlot}
 use Rattle.rh_defs.specs.declared.refusal.Refusal.{Refusal}
 use Rattle.rh_defs.proofs.MemoryLaws.{OnlyArea-self}
 use Rattle.rh_defs.proofs.SlotImageLaws.{slot_of-SlotWords, SpellsSlot-budging}

@@ -1,5 +1,5 @@
 -- Bytes written at an address of a slot: what is granted, and what they leave of the memory.
-use Rattle.std.proofs.Common.{◌≡◌, ℕ, ◌-◌, ◌≤◌, Bool, true, false, List, length, refl, sym, ap, ◌∙◌, arith}
+use Rattle.std.proofs.Common.{◌≡◌, ℕ, ◌-◌, Bool, true, false, List, length, refl, arith}
 use Rattle.std.specs.Prelude.{Ok, Err, ◌||◌, is_some}
 use Rattle.rh_defs.specs.Bytes.{put}
 use Rattle.rh_defs.specs.Chain.{◌>>=◌, refuse_if, no_answer}

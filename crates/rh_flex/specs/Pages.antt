@@ -1,5 +1,5 @@
 -- The memory of lent bytes whose first pages are an area, and why the laws of `Pages` hold of it.
-use Rattle.std.specs.Prelude.{◌≡◌, ℕ, ◌+◌, ◌-◌, ◌*◌, ◌/◌, ◌%◌, ◌≤◌, ◌==◌, cond, Bool, true, false, List, [], length, take, Option, Some, None, unwrap_or, refl}
+use Rattle.std.specs.Prelude.{◌≡◌, ℕ, ◌+◌, ◌-◌, ◌*◌, ◌/◌, ◌%◌, ◌≤◌, ◌==◌, cond, Bool, true, false, List, [], length, take, Some, None, unwrap_or, refl}
 use Rattle.std.proofs.Common.{arith}
 use Rattle.std.proofs.lemmas.List.{length-take-le}
 use Rattle.rh_defs.specs.Memory.{Memory, Ledger, area_set, bytes, pages_below}

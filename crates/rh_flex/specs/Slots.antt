@@ -1,5 +1,5 @@
 -- Slots in lent bytes, and what a call on one leaves.
-use Rattle.std.specs.Prelude.{◌≡◌, ℕ, ◌*◌, ◌≤◌, List, length, Result, OnErr}
+use Rattle.std.specs.Prelude.{◌≡◌, ℕ, ◌*◌, ◌≤◌, List, length, OnErr}
 use Rattle.rh_defs.specs.Chain.{Granted, answer_of, left_of}
 use Rattle.rh_defs.specs.Slot.{Slot}
 use Rattle.rh_defs.specs.SlotImage.{SpellsSlot, slot_of}

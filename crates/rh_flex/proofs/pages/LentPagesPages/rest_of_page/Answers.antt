@@ -1,5 +1,4 @@
 use Rattle.std.proofs.Common.{◌-◌, ◌%◌, ◌∙◌, arith}
-use Rattle.rh_flex.specs.Pages.{whole_law}
 use Rattle.rh_flex.proofs.Over.{lent_length, part_in}
 use Rattle.rh_flex.proofs.pages.LentPagesPages.rest_of_page.Goals as goal
 
