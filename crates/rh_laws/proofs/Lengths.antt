@@ -27,17 +27,21 @@ digit_is c h =
 
 digits_are : (ds : List ℕ) → list_all is_ascii_digit ds ≡ true → AllDigits 10 ds
 digits_are [] h = tt
-digits_are (c ∷ ds) h =
-    (digit_is c (and_left (is_ascii_digit c) (list_all is_ascii_digit ds) h),
-        digits_are ds (and_right (is_ascii_digit c) (list_all is_ascii_digit ds) h))
+digits_are (c ∷ ds) h = (
+  digit_is c (and_left (is_ascii_digit c) (list_all is_ascii_digit ds) h),
+  digits_are ds (and_right (is_ascii_digit c) (list_all is_ascii_digit ds) h),
+)
 
 -- digits of at most ten places
 pub decimal_short : (w : List ℕ) → is_decimal w ≡ true → length (decimal (number_of w)) ≤ length w
 unfolding is_decimal
 decimal_short w h =
     let front = and_left _ (nat_le (length w) 10) h in
-    let some : 0 < length w = let told = and_right (list_all is_ascii_digit w) _ front in grind (arith, nat_tests,
-        told) in
+    let some : 0 < length w = let told = and_right (list_all is_ascii_digit w) _ front in grind (
+      arith,
+      nat_tests,
+      told,
+    ) in
     let all = digits_are w (and_left _ (nat_le 1 (length w)) front) in
     let bound : digits_value 10 w < 10 ^ length w = digits_value-lt 10 w all in
     let few : length w ≤ 10 = let told = and_right _ (nat_le (length w) 10) h in grind (arith, nat_tests, told) in
@@ -73,8 +77,10 @@ hex_below : (ds : List ℕ) → fold more 0 ds < 16 ^ length ds
 hex_below [] = lit≤ tt
 hex_below (c ∷ ds) =
     let small = hex_digit_small c in
-    let most : more 0 c * 16 ^ length ds ≤ 15 * 16 ^ length ds = mul-le-mul_right (16 ^ length ds) (omega (arith,
-        small)) in
+    let most : more 0 c * 16 ^ length ds ≤ 15 * 16 ^ length ds = mul-le-mul_right (16 ^ length ds) (omega (
+      arith,
+      small,
+    )) in
     omega (arith, behind (more 0 c) ds, hex_below ds, most, pow-succ' 16 (length ds))
 
 hex_length : (k n : ℕ) → n < 16 ^ suc k → length (digits 16 true n) ≤ suc k

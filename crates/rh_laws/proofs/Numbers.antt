@@ -107,7 +107,7 @@ more n c = 16 * n + unwrap_or (hex_digit_value c) 0
 last_more : (n q : ℕ) → q ≡ n / 16 → more q (last_glyph n) ≡ n
 last_more n q same =
     let digit : unwrap_or (hex_digit_value (last_glyph n)) 0 ≡ n % 16 = eqb-true _ _ (glyph_tells (n % 16)
-        (omega arith)) in
+    (omega arith)) in
     omega (arith, digit, same)
 
 hex_after : (k n : ℕ) (behind : List ℕ) → n < 16 ^ k → fold more 0 (onto k n behind) ≡ fold more n behind

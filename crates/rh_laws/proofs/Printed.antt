@@ -105,8 +105,11 @@ alloc_spells name k n name_ok k_ok n_ok =
     let n_in = size_between n n_ok in
     record {
       whole = rw (name_is_whole name name_ok, decimal_is_whole k k_in.small, decimal_is_whole n n_in.small) refl;
-      means = rw (name_read words 2 name_ok, number_read words 3 0 63 k refl k_in.small k_in.range,
-          number_read words 4 0 greatest n refl n_in.small n_in.range) refl;
+      means = rw (
+        name_read words 2 name_ok,
+        number_read words 3 0 63 k refl k_in.small k_in.range,
+        number_read words 4 0 greatest n refl n_in.small n_in.range,
+      ) refl;
     }
 
 load_spells : (name : List ℕ) (k : ℕ) (file : List ℕ) → is_name name ≡ true → is_anchor k ≡ true →
@@ -117,8 +120,11 @@ load_spells name k file name_ok k_ok file_ok =
     let k_in = anchor_between k k_ok in
     record {
       whole = rw (name_is_whole name name_ok, decimal_is_whole k k_in.small, name_is_whole file file_ok) refl;
-      means = rw (name_read words 2 name_ok, number_read words 3 0 63 k refl k_in.small k_in.range,
-          name_read words 4 file_ok) refl;
+      means = rw (
+        name_read words 2 name_ok,
+        number_read words 3 0 63 k refl k_in.small k_in.range,
+        name_read words 4 file_ok,
+      ) refl;
     }
 
 put_spells : (name : List ℕ) (k : ℕ) (offset : ℕ) (bytes : List ℕ) → is_name name ≡ true → is_anchor k ≡ true →
@@ -131,11 +137,18 @@ put_spells name k offset bytes name_ok k_ok offset_ok bytes_ok bytes_are_bytes =
     let k_in = anchor_between k k_ok in
     let offset_in = size_between offset offset_ok in
     record {
-      whole = rw (name_is_whole name name_ok, decimal_is_whole k k_in.small, decimal_is_whole offset offset_in.small,
-          bytes_are_whole bytes bytes_ok bytes_are_bytes) refl;
-      means = rw (name_read words 2 name_ok, number_read words 3 0 63 k refl k_in.small k_in.range,
-          number_read words 4 0 greatest offset refl offset_in.small offset_in.range,
-          bytes_read words 5 bytes refl bytes_ok bytes_are_bytes) refl;
+      whole = rw (
+        name_is_whole name name_ok,
+        decimal_is_whole k k_in.small,
+        decimal_is_whole offset offset_in.small,
+        bytes_are_whole bytes bytes_ok bytes_are_bytes,
+      ) refl;
+      means = rw (
+        name_read words 2 name_ok,
+        number_read words 3 0 63 k refl k_in.small k_in.range,
+        number_read words 4 0 greatest offset refl offset_in.small offset_in.range,
+        bytes_read words 5 bytes refl bytes_ok bytes_are_bytes,
+      ) refl;
     }
 
 free_spells : (name : List ℕ) (k : ℕ) → is_name name ≡ true → is_anchor k ≡ true →
@@ -158,8 +171,11 @@ extend_spells name k n name_ok k_ok n_ok =
     let n_in = size_between n n_ok in
     record {
       whole = rw (name_is_whole name name_ok, decimal_is_whole k k_in.small, decimal_is_whole n n_in.small) refl;
-      means = rw (name_read words 2 name_ok, number_read words 3 0 63 k refl k_in.small k_in.range,
-          number_read words 4 0 greatest n refl n_in.small n_in.range) refl;
+      means = rw (
+        name_read words 2 name_ok,
+        number_read words 3 0 63 k refl k_in.small k_in.range,
+        number_read words 4 0 greatest n refl n_in.small n_in.range,
+      ) refl;
     }
 
 mid_spells : (name : List ℕ) (k : ℕ) (offset : ℕ) (by : ℤ) → is_name name ≡ true → is_anchor k ≡ true →
@@ -171,11 +187,18 @@ mid_spells name k offset by name_ok k_ok offset_ok by_ok =
     let k_in = anchor_between k k_ok in
     let offset_in = size_between offset offset_ok in
     record {
-      whole = rw (name_is_whole name name_ok, decimal_is_whole k k_in.small, decimal_is_whole offset offset_in.small,
-          delta_is_whole by by_ok) refl;
-      means = rw (name_read words 2 name_ok, number_read words 3 0 63 k refl k_in.small k_in.range,
-          number_read words 4 0 greatest offset refl offset_in.small offset_in.range,
-          delta_read words 5 by refl by_ok) refl;
+      whole = rw (
+        name_is_whole name name_ok,
+        decimal_is_whole k k_in.small,
+        decimal_is_whole offset offset_in.small,
+        delta_is_whole by by_ok,
+      ) refl;
+      means = rw (
+        name_read words 2 name_ok,
+        number_read words 3 0 63 k refl k_in.small k_in.range,
+        number_read words 4 0 greatest offset refl offset_in.small offset_in.range,
+        delta_read words 5 by refl by_ok,
+      ) refl;
     }
 
 claim_spells : (name : List ℕ) (n : ℕ) → is_name name ≡ true → is_number n ≡ true →
@@ -207,8 +230,11 @@ resize_spells name place by name_ok place_ok by_ok =
     let words : Words = codes "resize" ∷ name ∷ address place ∷ signed_decimal by ∷ [] in
     record {
       whole = rw (name_is_whole name name_ok, address_is_whole place place_ok, delta_is_whole by by_ok) refl;
-      means = rw (name_read words 2 name_ok, address_read words 3 place refl place_ok,
-          delta_read words 4 by refl by_ok) refl;
+      means = rw (
+        name_read words 2 name_ok,
+        address_read words 3 place refl place_ok,
+        delta_read words 4 by refl by_ok,
+      ) refl;
     }
 
 save_spells : (name : List ℕ) (k : ℕ) (to : List ℕ) (leaf : List ℕ) → is_name name ≡ true → is_anchor k ≡ true →
@@ -219,10 +245,18 @@ save_spells name k to leaf name_ok k_ok to_ok leaf_ok =
     let words : Words = codes "save" ∷ name ∷ decimal k ∷ to ∷ leaf ∷ [] in
     let k_in = anchor_between k k_ok in
     record {
-      whole = rw (name_is_whole name name_ok, decimal_is_whole k k_in.small, name_is_whole to to_ok,
-          leaf_is_whole leaf leaf_ok) refl;
-      means = rw (name_read words 2 name_ok, number_read words 3 0 63 k refl k_in.small k_in.range,
-          name_read words 4 to_ok, leaf_read words 5 leaf_ok) refl;
+      whole = rw (
+        name_is_whole name name_ok,
+        decimal_is_whole k k_in.small,
+        name_is_whole to to_ok,
+        leaf_is_whole leaf leaf_ok,
+      ) refl;
+      means = rw (
+        name_read words 2 name_ok,
+        number_read words 3 0 63 k refl k_in.small k_in.range,
+        name_read words 4 to_ok,
+        leaf_read words 5 leaf_ok,
+      ) refl;
     }
 
 poll_spells : (name : List ℕ) → is_name name ≡ true → Spells (codes "poll" ∷ name ∷ []) (command.Poll name)
@@ -251,8 +285,10 @@ area_spells k by k_ok by_ok =
     let k_in = area_between k k_ok in
     record {
       whole = rw (decimal_is_whole k k_in.small, delta_is_whole by by_ok) refl;
-      means = rw (number_read words 2 0 last_made k refl k_in.small k_in.range,
-          delta_read words 3 by refl by_ok) refl;
+      means = rw (
+        number_read words 2 0 last_made k refl k_in.small k_in.range,
+        delta_read words 3 by refl by_ok,
+      ) refl;
     }
 
 make_spells : (most : ℕ) → is_most most ≡ true → Spells (codes "make" ∷ decimal most ∷ []) (command.Make most)
@@ -355,8 +391,11 @@ task_plain_spells name buffer name_ok buffer_ok =
     let buffer_in = buffer_between buffer buffer_ok in
     record {
       whole = rw (name_is_whole name name_ok, decimal_is_whole buffer buffer_in.small) refl;
-      means = rw (name_read words 2 name_ok, number_read words 3 1 longest_buffer buffer refl buffer_in.small
-          buffer_in.range) refl;
+      means = rw (
+        name_read words 2 name_ok,
+        number_read words 3 1 longest_buffer buffer refl buffer_in.small
+            buffer_in.range,
+      ) refl;
     }
 
 task_deaf_spells : (name : List ℕ) (buffer : ℕ) → is_name name ≡ true → is_buffer buffer ≡ true →
@@ -367,8 +406,11 @@ task_deaf_spells name buffer name_ok buffer_ok =
     let buffer_in = buffer_between buffer buffer_ok in
     record {
       whole = rw (name_is_whole name name_ok, decimal_is_whole buffer buffer_in.small) refl;
-      means = rw (name_read words 2 name_ok, number_read words 3 1 longest_buffer buffer refl buffer_in.small
-          buffer_in.range) refl;
+      means = rw (
+        name_read words 2 name_ok,
+        number_read words 3 1 longest_buffer buffer refl buffer_in.small
+            buffer_in.range,
+      ) refl;
     }
 
 task_file_spells : (name : List ℕ) (buffer : ℕ) → is_name name ≡ true → is_buffer buffer ≡ true →
@@ -379,8 +421,11 @@ task_file_spells name buffer name_ok buffer_ok =
     let buffer_in = buffer_between buffer buffer_ok in
     record {
       whole = rw (name_is_whole name name_ok, decimal_is_whole buffer buffer_in.small) refl;
-      means = rw (name_read words 2 name_ok, number_read words 3 1 longest_buffer buffer refl buffer_in.small
-          buffer_in.range) refl;
+      means = rw (
+        name_read words 2 name_ok,
+        number_read words 3 1 longest_buffer buffer refl buffer_in.small
+            buffer_in.range,
+      ) refl;
     }
 
 budge_on_spells : (name : List ℕ) → is_name name ≡ true → Spells (codes "budge" ∷ name ∷ codes "on" ∷ [])
@@ -456,7 +501,7 @@ areas_spells = record { whole = refl; means = refl }
 -- a line of words that spell a command
 by_line : (w : List ℕ) (ws : Words) (c : Command) → is_skipped (w ∷ ws) ≡ false → Spells (w ∷ ws) c →
     nat_le (length (join_with_byte 32 (w ∷ ws))) longest_line ≡ true →
-        line_means (join_with_byte 32 (w ∷ ws)) ≡ Ok (Some c)
+    line_means (join_with_byte 32 (w ∷ ws)) ≡ Ok (Some c)
 by_line w ws c meant spells fits = line_joined w ws c spells.whole fits meant spells.means
 
 -- what a command that can be spelled passes, and that its line means the command
@@ -470,44 +515,44 @@ read (command.Kill name) range sizes fits =
 read (command.Alloc name k n) range sizes fits =
     let all = three (is_name name) (is_anchor k) (is_number n) range in
     by_line (codes "alloc") (name ∷ decimal k ∷ decimal n ∷ []) (command.Alloc name k n) refl
-        (alloc_spells name k n all.first all.second all.third) fits
+    (alloc_spells name k n all.first all.second all.third) fits
 read (command.Load name k file) range sizes fits =
     let all = three (is_name name) (is_anchor k) (is_name file) range in
     by_line (codes "load") (name ∷ decimal k ∷ file ∷ []) (command.Load name k file) refl
-        (load_spells name k file all.first all.second all.third) fits
+    (load_spells name k file all.first all.second all.third) fits
 read (command.Put name k offset bytes) range sizes fits =
     let all = four (is_name name) (is_anchor k) (is_number offset) (nat_le 1 (length bytes)) range in
     by_line (codes "put") (name ∷ decimal k ∷ decimal offset ∷ encode_lower bytes ∷ [])
-        (command.Put name k offset bytes) refl (put_spells name k offset bytes all.first all.second all.third
-        all.fourth sizes) fits
+    (command.Put name k offset bytes) refl (put_spells name k offset bytes all.first all.second all.third
+    all.fourth sizes) fits
 read (command.Free name k) range sizes fits =
     let all = two (is_name name) (is_anchor k) range in
     by_line (codes "free") (name ∷ decimal k ∷ []) (command.Free name k) refl
-        (free_spells name k all.first all.second) fits
+    (free_spells name k all.first all.second) fits
 read (command.Extend name k n) range sizes fits =
     let all = three (is_name name) (is_anchor k) (is_number n) range in
     by_line (codes "extend") (name ∷ decimal k ∷ decimal n ∷ []) (command.Extend name k n) refl
-        (extend_spells name k n all.first all.second all.third) fits
+    (extend_spells name k n all.first all.second all.third) fits
 read (command.Mid name k offset by) range sizes fits =
     let all = four (is_name name) (is_anchor k) (is_number offset) (is_delta by) range in
     by_line (codes "mid") (name ∷ decimal k ∷ decimal offset ∷ signed_decimal by ∷ [])
-        (command.Mid name k offset by) refl (mid_spells name k offset by all.first all.second all.third all.fourth)
-        fits
+    (command.Mid name k offset by) refl (mid_spells name k offset by all.first all.second all.third all.fourth)
+    fits
 read (command.Claim name n) range sizes fits =
     let all = two (is_name name) (is_number n) range in
     by_line (codes "claim") (name ∷ decimal n ∷ []) (command.Claim name n) refl
-        (claim_spells name n all.first all.second) fits
+    (claim_spells name n all.first all.second) fits
 read (command.Release name place) range sizes fits =
     by_line (codes "release") (name ∷ address place ∷ []) (command.Release name place) refl
-        (release_spells name place range sizes) fits
+    (release_spells name place range sizes) fits
 read (command.Resize name place by) range sizes fits =
     let all = two (is_name name) (is_delta by) range in
     by_line (codes "resize") (name ∷ address place ∷ signed_decimal by ∷ []) (command.Resize name place by) refl
-        (resize_spells name place by all.first sizes all.second) fits
+    (resize_spells name place by all.first sizes all.second) fits
 read (command.Save name k to leaf) range sizes fits =
     let all = four (is_name name) (is_anchor k) (is_name to) (is_leaf leaf) range in
     by_line (codes "save") (name ∷ decimal k ∷ to ∷ leaf ∷ []) (command.Save name k to leaf) refl
-        (save_spells name k to leaf all.first all.second all.third all.fourth) fits
+    (save_spells name k to leaf all.first all.second all.third all.fourth) fits
 read (command.Poll name) range sizes fits =
     by_line (codes "poll") (name ∷ []) (command.Poll name) refl (poll_spells name range) fits
 read (command.Repeat name) range sizes fits =
@@ -515,7 +560,7 @@ read (command.Repeat name) range sizes fits =
 read (command.Area k by) range sizes fits =
     let all = two (is_area k) (is_delta by) range in
     by_line (codes "area") (decimal k ∷ signed_decimal by ∷ []) (command.Area k by) refl
-        (area_spells k by all.first all.second) fits
+    (area_spells k by all.first all.second) fits
 read (command.Make most) range sizes fits =
     by_line (codes "make") (decimal most ∷ []) (command.Make most) refl (make_spells most range) fits
 read (command.Remove k) range sizes fits =
@@ -524,47 +569,47 @@ read (command.RmaClaim n) range sizes fits =
     by_line (codes "rma") (codes "claim" ∷ decimal n ∷ []) (command.RmaClaim n) refl (rma_claim_spells n range) fits
 read (command.RmaFree place) range sizes fits =
     by_line (codes "rma") (codes "free" ∷ address place ∷ []) (command.RmaFree place) refl
-        (rma_free_spells place sizes) fits
+    (rma_free_spells place sizes) fits
 read (command.RmaResize place by) range sizes fits =
     by_line (codes "rma") (codes "resize" ∷ address place ∷ signed_decimal by ∷ []) (command.RmaResize place by) refl
-        (rma_resize_spells place by sizes range) fits
+    (rma_resize_spells place by sizes range) fits
 read (command.Task name buffer manner.Plain) range sizes fits =
     let all = two (is_name name) (is_buffer buffer) range in
     by_line (codes "task") (name ∷ decimal buffer ∷ []) (command.Task name buffer manner.Plain) refl
-        (task_plain_spells name buffer all.first all.second) fits
+    (task_plain_spells name buffer all.first all.second) fits
 read (command.Task name buffer manner.Deaf) range sizes fits =
     let all = two (is_name name) (is_buffer buffer) range in
     by_line (codes "task") (name ∷ decimal buffer ∷ codes "deaf" ∷ []) (command.Task name buffer manner.Deaf) refl
-        (task_deaf_spells name buffer all.first all.second) fits
+    (task_deaf_spells name buffer all.first all.second) fits
 read (command.Task name buffer manner.File) range sizes fits =
     let all = two (is_name name) (is_buffer buffer) range in
     by_line (codes "task") (name ∷ decimal buffer ∷ codes "file" ∷ []) (command.Task name buffer manner.File) refl
-        (task_file_spells name buffer all.first all.second) fits
+    (task_file_spells name buffer all.first all.second) fits
 read (command.Budge name true) range sizes fits =
     by_line (codes "budge") (name ∷ codes "on" ∷ []) (command.Budge name true) refl (budge_on_spells name range) fits
 read (command.Budge name false) range sizes fits =
     by_line (codes "budge") (name ∷ codes "off" ∷ []) (command.Budge name false) refl
-        (budge_off_spells name range) fits
+    (budge_off_spells name range) fits
 read (command.CancelIn name None) range sizes fits =
     let all = two (is_name name) (true) range in
     by_line (codes "cancel") (name ∷ codes "in" ∷ []) (command.CancelIn name None) refl
-        (cancel_in_spells name all.first) fits
+    (cancel_in_spells name all.first) fits
 read (command.CancelIn name (Some id)) range sizes fits =
     let all = two (is_name name) (nat_le 1 id) range in
     by_line (codes "cancel") (name ∷ codes "in" ∷ decimal id ∷ []) (command.CancelIn name (Some id)) refl
-        (cancel_in_one_spells name id all.first all.second sizes) fits
+    (cancel_in_one_spells name id all.first all.second sizes) fits
 read (command.CancelOut name None) range sizes fits =
     let all = two (is_name name) (true) range in
     by_line (codes "cancel") (name ∷ codes "out" ∷ []) (command.CancelOut name None) refl
-        (cancel_out_spells name all.first) fits
+    (cancel_out_spells name all.first) fits
 read (command.CancelOut name (Some id)) range sizes fits =
     let all = two (is_name name) (nat_le 1 id) range in
     by_line (codes "cancel") (name ∷ codes "out" ∷ decimal id ∷ []) (command.CancelOut name (Some id)) refl
-        (cancel_out_one_spells name id all.first all.second sizes) fits
+    (cancel_out_one_spells name id all.first all.second sizes) fits
 read (command.Ask (question.Show name k)) range sizes fits =
     let all = two (is_name name) (is_anchor k) range in
     by_line (codes "show") (name ∷ decimal k ∷ []) (command.Ask (question.Show name k)) refl
-        (show_spells name k all.first all.second) fits
+    (show_spells name k all.first all.second) fits
 read (command.Ask (question.Blocks name)) range sizes fits =
     by_line (codes "blocks") (name ∷ []) (command.Ask (question.Blocks name)) refl (blocks_spells name range) fits
 read (command.Ask (question.Heap name)) range sizes fits =

@@ -28,7 +28,7 @@ pub name_is_whole : (w : List ℕ) → is_name w ≡ true → is_whole w ≡ tru
 name_is_whole w h =
     let all = and_right _ (list_all is_ascii_alphanumeric w) h in
     let some = and_left (nat_le 1 (length w)) _ (and_left _ (is_ascii_alphabetic (slice_index w 0)) (and_left _
-        (list_all is_ascii_alphanumeric w) h)) in
+    (list_all is_ascii_alphanumeric w) h)) in
     rw (some, all_pass is_ascii_alphanumeric is_inner w letter_is_inner all) refl
 
 pub name_read : (words : Words) (n : ℕ) → is_name (word words n) ≡ true → name_at words n ≡ Ok (word words n)
@@ -68,7 +68,7 @@ decimal_has_no_sign n small =
     let is = decimal_is_decimal n small in
     let front = and_left _ (nat_le (length (decimal n)) 10) is in
     first_digit (decimal n) (and_right (list_all is_ascii_digit (decimal n)) _ front) (and_left _ (nat_le 1 (length
-        (decimal n))) front)
+    (decimal n))) front)
 
 pub delta_read : (words : Words) (n : ℕ) (by : ℤ) → word words n ≡ signed_decimal by → is_delta by ≡ true →
     delta_at words n ≡ Ok by
@@ -111,8 +111,11 @@ is_byte b = nat_lt b 256
 
 byte_at : (bytes : List ℕ) → list_all is_byte bytes ≡ true → (i : ℕ) → slice_index bytes i < 256
 byte_at [] h i = lit≤ tt
-byte_at (b ∷ bytes) h zero = let small = and_left (is_byte b) (list_all is_byte bytes) h in grind (arith, nat_tests,
-    small)
+byte_at (b ∷ bytes) h zero = let small = and_left (is_byte b) (list_all is_byte bytes) h in grind (
+  arith,
+  nat_tests,
+  small,
+)
 byte_at (b ∷ bytes) h (suc i) = byte_at bytes (and_right (is_byte b) (list_all is_byte bytes) h) i
 
 pub bytes_read : (words : Words) (n : ℕ) (bytes : List ℕ) → word words n ≡ encode_lower bytes →

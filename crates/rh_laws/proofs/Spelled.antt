@@ -91,7 +91,7 @@ pub cost_next : (ws : Words) (n : ℕ) → 1 ≤ length (word ws (n + 1)) →
 cost_next ws n some =
     let same : n ≡ n + 1 - 1 = omega arith in
     subst (λ m. 1 ≤ length (word_at ws m) → cost (take (suc n) ws) ≡ cost (take n ws) + suc (length
-        (word_at ws m))) same
+    (word_at ws m))) same
     (cost_at ws n) some
 
 -- ---- what a form prints costs no more than the word that it read
@@ -161,7 +161,7 @@ name_printed words n name e =
     let w = word words (n + 1) in
     let told = if_ok (is_name w) w name (Word (n + 1)) e in
     let some = and_left (nat_le 1 (length w)) _ (and_left _ (is_ascii_alphabetic (slice_index w 0)) (and_left _
-        (list_all is_ascii_alphanumeric w) told.0)) in
+    (list_all is_ascii_alphanumeric w) told.0)) in
     record { sized = refl; short = itself words n name some told.1 }
 
 leaf_printed : (words : Words) (n : ℕ) (leaf : List ℕ) → leaf_at words (n + 1) ≡ Ok leaf → IsPrinted Leaf words n leaf
@@ -175,8 +175,11 @@ leaf_printed words n leaf e =
 decimal_some : (w : List ℕ) → is_decimal w ≡ true → 1 ≤ length w
 unfolding is_decimal
 decimal_some w h =
-    let some = and_right (list_all is_ascii_digit w) _ (and_left _ (nat_le (length w) 10) h) in grind (arith,
-        nat_tests, some)
+    let some = and_right (list_all is_ascii_digit w) _ (and_left _ (nat_le (length w) 10) h) in grind (
+      arith,
+      nat_tests,
+      some,
+    )
 
 number_printed : (words : Words) (n low high k : ℕ) → number_at words (n + 1) low high ≡ Ok k →
     IsPrinted (Number low high) words n k
@@ -184,10 +187,10 @@ unfolding number_at
 number_printed words n low high k e =
     let w = word words (n + 1) in
     let told = if_ok (is_decimal w && nat_le low (number_of w) && nat_le (number_of w) high) (number_of w) k (Word
-        (n + 1)) e in
+    (n + 1)) e in
     let digits_only = and_left (is_decimal w) _ (and_left _ (nat_le (number_of w) high) told.0) in
     let short : length (decimal k) ≤ length w = subst (λ m. length (decimal m) ≤ length w) told.1
-        (decimal_short w digits_only) in
+    (decimal_short w digits_only) in
     record {
       sized = subst (λ m. nat_le m high ≡ true) told.1 (and_right _ (nat_le (number_of w) high) told.0);
       short = one_word words n (decimal k) (decimal_some w digits_only) short;
@@ -198,14 +201,18 @@ signed_short : (w : List ℕ) (negative : Bool) → is_negative w ≡ negative �
     (1 ≤ length w) × (length (signed_decimal (signed negative (number_of (unsigned w)))) ≤ length w)
 signed_short [] negative e h = absurd (let some = decimal_some [] h in omega (arith, some))
 signed_short (b ∷ w) false e h =
-    let whole : unsigned (b ∷ w) ≡ b ∷ w = rw e refl in
-    (omega arith, subst (λ v. length (signed_decimal (pos (number_of v))) ≤ length (b ∷ w)) (sym whole) (decimal_short
-        (b ∷ w) (subst (λ v. is_decimal v ≡ true) whole h)))
+    let whole : unsigned (b ∷ w) ≡ b ∷ w = rw e refl in (
+      omega arith,
+      subst (λ v. length (signed_decimal (pos (number_of v))) ≤ length (b ∷ w)) (sym whole) (decimal_short
+          (b ∷ w) (subst (λ v. is_decimal v ≡ true) whole h)),
+    )
 signed_short (b ∷ w) true e h =
     let rest : unsigned (b ∷ w) ≡ w = rw e refl in
-    let short = decimal_short w (subst (λ v. is_decimal v ≡ true) rest h) in
-    (omega arith, subst (λ v. length (signed_decimal (signed true (number_of v))) ≤ length (b ∷ w)) (sym rest)
-        (behind_sign (number_of w) short))
+    let short = decimal_short w (subst (λ v. is_decimal v ≡ true) rest h) in (
+      omega arith,
+      subst (λ v. length (signed_decimal (signed true (number_of v))) ≤ length (b ∷ w)) (sym rest)
+          (behind_sign (number_of w) short),
+    )
   where
     behind_sign : (n : ℕ) → length (decimal n) ≤ length w → length (signed_decimal (signed true n)) ≤ suc (length w)
     behind_sign zero short = omega (arith, short)
@@ -216,7 +223,7 @@ unfolding delta_at
 delta_printed words n by e =
     let w = word words (n + 1) in
     let told = if_ok (is_decimal (unsigned w) && nat_le (number_of (unsigned w)) greatest) (signed (is_negative w)
-        (number_of (unsigned w))) by (Word (n + 1)) e in
+    (number_of (unsigned w))) by (Word (n + 1)) e in
     let parts = signed_short w (is_negative w) refl (and_left (is_decimal (unsigned w)) _ told.0) in
     record {
       sized = refl;
@@ -297,7 +304,7 @@ choice_by words n first second is_first true q e =
     subst (λ b. word words n ≡ cond b first second) same (same_word (word words n) first q)
 choice_by words n first second is_first false q e =
     let read : (if bytes_eq (word words n) second then Ok false else Err (Word n)) ≡ Ok is_first = subst
-        (λ m. m ≡ Ok is_first) (rw q refl) e in
+    (λ m. m ≡ Ok is_first) (rw q refl) e in
     let told = if_ok (bytes_eq (word words n) second) false is_first (Word n) read in
     subst (λ b. word words n ≡ cond b first second) told.1 (same_word (word words n) second told.0)
 
@@ -347,7 +354,7 @@ value_printed (Choice first second) words n value proper e = choice_printed word
 value_printed (Maybe form) words n None proper e = record { sized = refl; short = omega (arith, cost_more words n) }
 value_printed (Maybe form) words n (Some value) proper e =
     let printed = value_printed form words n value proper (maybe_by form words n value
-        (length words == n + 1 - 1) refl e) in
+    (length words == n + 1 - 1) refl e) in
     record { sized = printed.sized; short = printed.short }
 
 -- ---- a row's command
@@ -376,7 +383,7 @@ from_writes [] command words n front c proper writes so_far e =
 from_writes (form ∷ forms) make words n front c proper writes so_far e =
     let told = then_ok (value_at form words (n + 1)) (λ value. command_from forms (make value) words (n + 1)) c e in
     let printed = value_printed form words n told.0 (and_left (is_proper form)
-        (list_all is_proper forms) proper) told.1 in
+    (list_all is_proper forms) proper) told.1 in
     let next : suc n ≡ n + 1 = omega arith in
     let paid : front + cost (text form told.0) ≤ cost (take (n + 1) words) =
     subst (λ m. front + cost (text form told.0) ≤ cost (take m words)) next (omega (arith, so_far, printed.short)) in
@@ -422,13 +429,17 @@ follow_cost [] words n front some h so_far =
 follow_cost (w ∷ texts) words n front some h so_far =
     let here = same_word (word words (n + 1)) w (and_left _ (follow texts words (n + 1)) h) in
     let has : 1 ≤ length (word words (n + 1)) = let told = and_left (has_byte w)
-        (list_all has_byte texts) some in grind (arith, nat_tests, told, ap length here) in
+    (list_all has_byte texts) some in grind (arith, nat_tests, told, ap length here) in
     let next : suc n ≡ n + 1 = omega arith in
     let paid : front + cost (w ∷ []) ≤ cost (take (n + 1) words) =
-    subst (λ m. front + cost (w ∷ []) ≤ cost (take m words)) next (omega (arith, so_far, cost_next words n has,
-        ap length here)) in
+    subst (λ m. front + cost (w ∷ []) ≤ cost (take m words)) next (omega (
+      arith,
+      so_far,
+      cost_next words n has,
+      ap length here,
+    )) in
     let rest = follow_cost texts words (n + 1) (front + cost (w ∷ [])) (and_right (has_byte w)
-        (list_all has_byte texts) some) (and_right _ (follow texts words (n + 1)) h) paid in
+    (list_all has_byte texts) some) (and_right _ (follow texts words (n + 1)) h) paid in
     let end : n + 1 + length texts ≡ n + length (w ∷ texts) = omega arith in
     subst (λ m. front + cost (w ∷ texts) ≤ cost (take m words)) end (omega (arith, rest))
 
@@ -437,18 +448,21 @@ row_cost : (words : Words) (row : Row) → IsBegun words row →
 row_cost words row begun =
     let first = same_word (word words 1) row.first (and_left _ (follow row.further words 1) begun.begun) in
     let has : 1 ≤ length (word words 1) = let told = and_left (has_byte row.first)
-        (list_all has_byte row.further) begun.row_writes.named in grind (arith, nat_tests, told, ap length first) in
+    (list_all has_byte row.further) begun.row_writes.named in grind (arith, nat_tests, told, ap length first) in
     follow_cost row.further words 1 (suc (length row.first)) (and_right (has_byte row.first)
-        (list_all has_byte row.further) begun.row_writes.named)
-    (and_right (bytes_eq (word words 1) row.first) _ begun.begun) (omega (arith, cost_next words 0 has,
-        ap length first))
+    (list_all has_byte row.further) begun.row_writes.named)
+    (and_right (bytes_eq (word words 1) row.first) _ begun.begun) (omega (
+      arith,
+      cost_next words 0 has,
+      ap length first,
+    ))
 
 -- ---- the table
 
 task_writes : (name : List ℕ) (buffer : ℕ) (deaf : Option Bool) →
     Writes [] (command.Task name buffer (manner_of deaf))
     (cost (codes "task" ∷ name ∷ decimal buffer ∷ []) + cost (text (Maybe (Choice (codes "deaf")
-        (codes "file"))) deaf))
+    (codes "file"))) deaf))
 unfolding has_sizes command_words
 task_writes name buffer None = (refl, omega arith)
 task_writes name buffer (Some true) = (refl, omega arith)
@@ -457,7 +471,7 @@ task_writes name buffer (Some false) = (refl, omega arith)
 cancel_writes : (name : List ℕ) (comes_in : Bool) (id : Option ℕ) → is_sized (Maybe (Number 1 last_ref)) id ≡ true →
     Writes [] (cancel_of name comes_in id)
     (cost (codes "cancel" ∷ name ∷ []) + cost (text (Choice (codes "in") (codes "out")) comes_in) + cost (text (Maybe
-        (Number 1 last_ref)) id))
+    (Number 1 last_ref)) id))
 unfolding has_sizes command_words
 cancel_writes name true None h = (refl, omega arith)
 cancel_writes name true (Some id) h = (h, omega arith)
@@ -466,7 +480,7 @@ cancel_writes name false (Some id) h = (h, omega arith)
 
 budge_writes : (name : List ℕ) (on : Bool) →
     Writes [] (command.Budge name on) (cost (codes "budge" ∷ name ∷ []) + cost (text (Choice (codes "on")
-        (codes "off")) on))
+    (codes "off")) on))
 unfolding has_sizes command_words
 budge_writes name true = (refl, omega arith)
 budge_writes name false = (refl, omega arith)
@@ -483,8 +497,13 @@ this p n w = record { proper = p; named = n; writes = w }
 rows_write : AllWrite rows
 unfolding rows has_sizes command_words
 rows_write =
-    this refl refl (λ name p buffer q deaf r. let told = task_writes name buffer deaf in (told.0, omega (arith,
-        told.1)))
+    this refl refl (λ name p buffer q deaf r. let told = task_writes name buffer deaf in (
+      told.0,
+      omega (
+        arith,
+        told.1,
+      ),
+    ))
     ⊗ this refl refl (λ name p. (refl, omega arith))
     ⊗ this refl refl (λ name p k q n r. (refl, omega arith))
     ⊗ this refl refl (λ name p k q file r. (refl, omega arith))
@@ -498,8 +517,13 @@ rows_write =
     ⊗ this refl refl (λ name p on q. let told = budge_writes name on in (told.0, omega (arith, told.1)))
     ⊗ this refl refl (λ name p k q to r leaf s. (refl, omega arith))
     ⊗ this refl refl (λ name p. (refl, omega arith))
-    ⊗ this refl refl (λ name p comes_in q id r. let told = cancel_writes name comes_in id r in (told.0, omega (arith,
-        told.1)))
+    ⊗ this refl refl (λ name p comes_in q id r. let told = cancel_writes name comes_in id r in (
+      told.0,
+      omega (
+        arith,
+        told.1,
+      ),
+    ))
     ⊗ this refl refl (λ name p. (refl, omega arith))
     ⊗ this refl refl (λ k p by q. (refl, omega arith))
     ⊗ this refl refl (λ most p. (refl, omega arith))
@@ -523,7 +547,7 @@ command_short words c e =
     let row = found.0 in
     let begun = row_found rows words Unknown row rows_write found.1 in
     elim (either (is_count row.forms (1 + length row.further) (length words)) (command_from row.forms row.make words
-        (1 + length row.further)) (Err Count) c found.2) [
+    (1 + length row.further)) (Err Count) c found.2) [
       | inl counted ↦
           from_writes row.forms row.make words (1 + length row.further) (cost (row.first ∷ row.further)) c
           begun.row_writes.proper begun.row_writes.writes (row_cost words row begun) counted.1
@@ -546,7 +570,7 @@ means_one line c e = by (nat_lt longest_line (length line)) refl (is_skipped (wo
     by false l true s = absurd (let z : Ok None ≡ Ok (Some c) = subst (λ m. m ≡ Ok (Some c)) (rw (l, s) refl) e in cc)
     by false l false s =
         let read : (command_of (words_of line) >>= λ c. Ok (Some c)) ≡ Ok (Some c) = subst (λ m. m ≡ Ok (Some c)) (rw
-            (l, s) refl) e in
+        (l, s) refl) e in
         let told = then_ok (command_of (words_of line)) (λ c. Ok (Some c)) (Some c) read in
         let same : told.0 ≡ c = cc told.2 in
         record { fits = l; is_short = command_short (words_of line) c (told.1 ∙ ap Ok same) }

@@ -34,11 +34,11 @@ split_joined : (w : List ℕ) (ws : List (List ℕ)) → list_all is_whole (w �
     slice_split (λ b. b == 32) (join_with_byte 32 (w ∷ ws)) ≡ w ∷ ws
 split_joined w [] h =
     let inner = AllPass-from_list_all is_inner w (and_right (nat_le 1 (length w)) (list_all is_inner w) (and_left
-        (is_whole w) true h)) in
+    (is_whole w) true h)) in
     slice_split_none (λ b. b == 32) w (λ k d l. not_true _ (inner k d l))
 split_joined w (y ∷ ws) h =
     let inner = AllPass-from_list_all is_inner w (and_right (nat_le 1 (length w)) (list_all is_inner w) (and_left
-        (is_whole w) (list_all is_whole (y ∷ ws)) h)) in
+    (is_whole w) (list_all is_whole (y ∷ ws)) h)) in
     slice_split_at (λ b. b == 32) w 32 (join_with_byte 32 (y ∷ ws)) (λ k d l. not_true _ (inner k d l)) refl
     ∙ ap (λ v. w ∷ v) (split_joined y ws (and_right (is_whole w) (list_all is_whole (y ∷ ws)) h))
 
@@ -50,7 +50,7 @@ all_kept : (ws : List (List ℕ)) → list_all is_whole ws ≡ true → filter (
 all_kept [] h = refl
 all_kept (w ∷ ws) h =
     let some : nat_le 1 (length w) ≡ true = and_left _ (list_all is_inner w) (and_left (is_whole w)
-        (list_all is_whole ws) h) in
+    (list_all is_whole ws) h) in
     rw (has_one (length w) some) (ap (λ v. w ∷ v) (all_kept ws (and_right (is_whole w) (list_all is_whole ws) h)))
 
 pub words_joined : (w : List ℕ) (ws : List (List ℕ)) → list_all is_whole (w ∷ ws) ≡ true →
