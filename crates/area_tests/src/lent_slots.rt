@@ -337,23 +337,37 @@ fn blocks_and_segments_are_listed_in_lent_bytes(rt: HostRuntime) -> Result<(), F
     let mut bytes = two_pages(rt.alloc())?;
     let slot = fill(&rt, &mut bytes)?;
     let before = bytes.clone()?;
-    let (hello, world) = (item(0, 0x9008, 5), item(1, 0x9018, 5));
     same(&rt, slot.count(&mut bytes), 2);
-    same(&rt, slot.block(&mut bytes, 1), Some(world));
+    same(&rt, slot.block(&mut bytes, 1), Some(item(1, 0x9018, 5)));
     same(&rt, slot.block(&mut bytes, 2), None);
     let mut walk = slot.blocks(&mut bytes);
-    same(&rt, slot.next_block(&mut bytes, &mut walk), Some(hello));
-    same(&rt, slot.next_block(&mut bytes, &mut walk), Some(world));
+    same(
+        &rt,
+        slot.next_block(&mut bytes, &mut walk),
+        Some(item(0, 0x9008, 5)),
+    );
+    same(
+        &rt,
+        slot.next_block(&mut bytes, &mut walk),
+        Some(item(1, 0x9018, 5)),
+    );
     same(&rt, slot.next_block(&mut bytes, &mut walk), None);
     let mut items = ArrayVec::new();
-    items.push(world);
+    items.push(item(1, 0x9018, 5));
     slot.list(&mut bytes, &mut items);
-    same(&rt, items.as_slice(), &[hello, world]);
-    let block = listed(16, 16, true);
-    same(&rt, slot.segment(&mut bytes, 16), Some(block));
+    same(
+        &rt,
+        items.as_slice(),
+        &[item(0, 0x9008, 5), item(1, 0x9018, 5)],
+    );
+    same(
+        &rt,
+        slot.segment(&mut bytes, 16),
+        Some(listed(16, 16, true)),
+    );
     same(&rt, slot.segment(&mut bytes, 20), None);
     let segments = slot.segments_from(&mut bytes, 16);
-    same(&rt, segments.as_slice(), &[block]);
+    same(&rt, segments.as_slice(), &[listed(16, 16, true)]);
     same(&rt, bytes, before);
     Ok(())
 }
