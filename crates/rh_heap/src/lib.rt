@@ -7,10 +7,11 @@ mod span;
 
 pub use image::{SegmentIter, Summary, check, segments};
 pub use layout::Segment;
+pub use span::Span;
 pub use span::claim::{claim, need};
 pub use span::holes::describe;
 pub use span::list::{SEGMENTS_AT_ONCE, segments_from};
 pub use span::release::release;
 pub use span::resize::{resize, resize_need};
 pub use span::segments::{block_size, holds, segment};
-pub use span::{Span, end, extend_heap, init};
+pub use span::whole::{end, extend_heap, init};

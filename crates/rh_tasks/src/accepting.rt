@@ -12,7 +12,7 @@ ghost use Rattle.rh_defs.specs.Slot.{slot_claim};
 ghost use Rattle.rh_tasks.specs.Polls.{IsAt, IsFor, IsFreeAnchor, Becomes, Claims, Handles, with_document};
 
 use crate::letters::fetch_letter;
-use crate::module_blocks::MODULE;
+use crate::module_area::MODULE;
 use crate::world::World;
 use rh_defs::{Anchor, Manner, Message, Outcome, Ref, Refusal, Taking};
 use rh_slot::free_anchor;

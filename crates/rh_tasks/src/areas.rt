@@ -11,7 +11,7 @@ ghost use Rattle.rh_tasks.specs.View.{pages_at};
 ghost use Rattle.rh_defs.specs.declared.sizes.TheConstants.{PAGE};
 
 use crate::made::find_made;
-use crate::module_blocks::MODULE;
+use crate::module_area::MODULE;
 use crate::scrap::{SCRAP, scrap_size};
 use crate::world::World;
 use rh_defs::sizes::{FIXED_AREAS, PAGE};

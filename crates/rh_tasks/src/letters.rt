@@ -12,7 +12,7 @@ ghost use Rattle.rh_defs.specs.Desk.{Task};
 ghost use Rattle.rh_tasks.specs.Letters.{again, with_last};
 ghost use Rattle.rh_tasks.specs.Polls.{IsAt, Sends};
 
-use crate::module_blocks::MODULE;
+use crate::module_area::MODULE;
 use crate::seat::{Seat, SentLetter};
 use crate::world::World;
 use rh_defs::{Body, EventCode, FileData, Handle, Letter, Message, Pathname, Ref, Refusal};

@@ -9,6 +9,8 @@ mod documents;
 mod letters;
 mod listing;
 mod made;
+mod making;
+mod module_area;
 mod module_blocks;
 mod next;
 mod outgoing;

@@ -7,14 +7,11 @@ ghost use Rattle.rh_defs.specs.Commands.{module_start, own_block, rma_claim as r
 ghost use Rattle.rh_defs.specs.Post.{post_is_message};
 ghost use Rattle.rh_tasks.specs.Answer.{Gives};
 
+use crate::module_area::MODULE;
 use crate::world::World;
 use rh_defs::sizes::MODULE_START;
 use rh_defs::{Refusal, Reply};
-use rh_module::Module;
-use rh_store::{AreaId, Store};
-
-/// The module area.
-pub const MODULE: Module = Module { area: AreaId(1) };
+use rh_store::Store;
 
 impl<S: Store> World<S> {
     /// Claims a block of the module area (OS_Module 6): BadSize, NoRoom.

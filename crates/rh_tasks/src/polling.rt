@@ -14,7 +14,7 @@ ghost use Rattle.rh_wimp.specs.Chains.{event_of};
 ghost use Rattle.rh_tasks.specs.Answer.{GivesAlike};
 ghost use Rattle.rh_tasks.specs.Polls.{IsAt, IsFor, Handles};
 
-use crate::module_blocks::MODULE;
+use crate::module_area::MODULE;
 use crate::scrap::kept_scrap;
 use crate::seats::find;
 use crate::world::World;

@@ -7,7 +7,7 @@ ghost use Rattle.rh_wimp.specs.Calls.{IsQueue};
 ghost use Rattle.rh_wimp.specs.Chains.{SpellsPost};
 ghost use Rattle.rh_tasks.specs.View.{the_module, kept_file, scrap_size as scrap_size_of};
 
-use crate::module_blocks::MODULE;
+use crate::module_area::MODULE;
 use rh_defs::Ref;
 use rh_store::{AreaId, Words};
 use rh_wimp::Queue;

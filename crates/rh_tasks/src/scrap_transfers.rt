@@ -12,7 +12,7 @@ ghost use Rattle.rh_tasks.specs.Polls.{IsAt, IsFor, Attempts, Becomes, Handles, 
 
 use crate::documents::{append, document_size};
 use crate::letters::{load_ack_letter, load_letter};
-use crate::module_blocks::MODULE;
+use crate::module_area::MODULE;
 use crate::scrap::{SCRAP, ScrapFile, scrap_size};
 use crate::world::World;
 use rh_defs::sizes::{PAGE, SLOT_START, pages_for};

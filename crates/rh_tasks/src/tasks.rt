@@ -6,7 +6,7 @@ ghost use Rattle.rh_defs.specs.Range.{in_range};
 ghost use Rattle.rh_defs.specs.Commands.{start_task as start_on, kill as kill_on};
 ghost use Rattle.rh_tasks.specs.Answer.{Gives, GivesAlike};
 
-use crate::module_blocks::MODULE;
+use crate::module_area::MODULE;
 use crate::scrap::kept_scrap;
 use crate::seat::Seat;
 use crate::seats::{find, is_name_in_use};

@@ -11,7 +11,7 @@ ghost use Rattle.rh_tasks.specs.Start.{IsFurnished};
 ghost use Rattle.rh_defs.specs.declared.sizes.TheConstants.{MAX_PAGES, MIN_PAGES};
 
 use crate::made::MadeArea;
-use crate::module_blocks::MODULE;
+use crate::module_area::MODULE;
 use crate::next::Next;
 use crate::scrap::ScrapFile;
 use crate::seat::Seat;

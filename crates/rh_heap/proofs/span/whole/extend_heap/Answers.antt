@@ -8,9 +8,9 @@ use Rattle.rh_defs.proofs.MemoryLaws.{Edited-wider}
 use Rattle.rh_heap.specs.Spans.{heap_in}
 use Rattle.rh_heap.proofs.CallLaws.{leaves, refuses}
 use Rattle.rh_heap.proofs.SizeLaws.{extend_spells}
-use Rattle.rh_heap.proofs.span.extend_heap.Goals as goal
-use Rattle.rh_heap.proofs.span.extend_heap.Goals.{After-moved-end}
-use Rattle.rh_heap.proofs.span.extend_heap.Given as given
+use Rattle.rh_heap.proofs.span.whole.extend_heap.Goals as goal
+use Rattle.rh_heap.proofs.span.whole.extend_heap.Goals.{After-moved-end}
+use Rattle.rh_heap.proofs.span.whole.extend_heap.Given as given
 
 -- what the code has moved is the heap's end
 end_is : (g : given.Over) (c : After-moved-end g) → c.moved-end.result ≡ moved (heap_in (g.S.Words.memory c.args.store.now) c.args.span).end c.args.delta
