@@ -1,6 +1,6 @@
 //! Heaps in bytes that a test lends.
 
-ghost use Rattle.std.specs.Prelude.{◌≡◌, length};
+ghost use Rattle.std.specs.Prelude.{◌≡◌, length, vec_items, IfOk};
 ghost use Rattle.rh_lent.specs.Heaps.{IsHeapBytes};
 
 use crate::heaps::IMAGE;
@@ -9,6 +9,7 @@ use rh_defs::HeapRefusal;
 use rh_heap::Segment;
 use rh_lent::{LENT, Lent, heap};
 use rh_store::Words;
+use std::alloc::{AllocError, Global};
 use std::process::Abort;
 use std::test::Fail;
 
@@ -110,10 +111,18 @@ fn blocks_and_segments_are_found(rt: HostRuntime) -> Result<(), Fail> {
     Ok(())
 }
 
+/// An empty heap of more bytes than a desk has.
+fn long_heap(alloc: Global) -> Result<Vec<u8>, AllocError>
+    ensures { IfOk result (λ bytes. IsHeapBytes (vec_items bytes)) }
+{
+    let mut bytes = vec![in alloc; 0; 6_291_456]?;
+    heap::init(&mut bytes);
+    Ok(bytes)
+}
+
 #[test]
 fn a_heap_is_longer_than_a_desk(rt: HostRuntime) -> Result<(), Fail> {
-    let mut bytes = vec![in rt.alloc(); 0; 6_291_456]?;
-    heap::init(&mut bytes);
+    let mut bytes = long_heap(rt.alloc())?;
     same(&rt, claim(&mut bytes, 5_000_000), Ok(20));
     same(&rt, claim(&mut bytes, 8), Ok(5_000_028));
     same(&rt, resize(&mut bytes, 5_000_028, 8), Ok(5_000_028));

@@ -1,320 +1,181 @@
 //! Slots in bytes that a test lends.
 
-ghost use Rattle.std.specs.Prelude.{◌≡◌, ◌<◌, length, vec_len, IfOk};
+ghost use Rattle.std.specs.Prelude.{◌≡◌, vec_items, IfOk};
 ghost use Rattle.rh_defs.specs.Memory.{IsOpen};
-ghost use Rattle.rh_defs.specs.declared.sizes.TheConstants.{ANCHORS};
 ghost use Rattle.rh_flex.specs.Slots.{IsSlotBytes};
 
+use crate::lent_bench::LentBench;
 use crate::same::{is_true, same};
 use arrayvec::ArrayVec;
 use rh_defs::{Anchor, BlockItem, Refusal};
 use rh_flex::{LentPages, LentSlot};
 use rh_heap::Segment;
 use rh_lent::LENT;
-use rh_store::bytes::copy_from;
 use rh_store::{AreaId, Pages, StoreFault};
-use std::alloc::{AllocError, Global};
+use std::alloc::Global;
 use std::process::Abort;
 use std::test::Fail;
 
-/// An alloc, of which is said no more than that the bytes stay a slot.
-fn alloc(slot: &mut LentSlot, bytes: &mut [u8], anchor: Anchor, n: u32) -> Result<usize, Refusal>
-    requires slot { IsSlotBytes bytes.old slot.old }
-    requires anchor { anchor < ANCHORS }
-    ensures { IsSlotBytes bytes.new slot.new }
-{
-    slot.alloc(bytes, anchor, n)
-}
-
-/// A free, of which is said no more than that the bytes stay a slot.
-fn free(slot: &mut LentSlot, bytes: &mut [u8], anchor: Anchor) -> Result<(), Refusal>
-    requires slot { IsSlotBytes bytes.old slot.old }
-    requires anchor { anchor < ANCHORS }
-    ensures { IsSlotBytes bytes.new slot.new }
-{
-    slot.free(bytes, anchor)
-}
-
-/// An extend, of which is said no more than that the bytes stay a slot.
-fn extend(slot: &mut LentSlot, bytes: &mut [u8], anchor: Anchor, n: u32) -> Result<(), Refusal>
-    requires slot { IsSlotBytes bytes.old slot.old }
-    requires anchor { anchor < ANCHORS }
-    ensures { IsSlotBytes bytes.new slot.new }
-{
-    slot.extend(bytes, anchor, n)
-}
-
-/// A mid, of which is said no more than that the bytes stay a slot.
-fn mid(
-    slot: &mut LentSlot,
-    bytes: &mut [u8],
-    anchor: Anchor,
-    offset: usize,
-    by: i32,
-) -> Result<(), Refusal>
-    requires slot { IsSlotBytes bytes.old slot.old }
-    requires anchor { anchor < ANCHORS }
-    ensures { IsSlotBytes bytes.new slot.new }
-{
-    slot.mid(bytes, anchor, offset, by)
-}
-
-/// A put, of which is said no more than that the bytes stay a slot.
-fn put(
-    slot: &mut LentSlot,
-    bytes: &mut [u8],
-    anchor: Anchor,
-    offset: usize,
-    from: &[u8],
-) -> Result<(), Refusal>
-    requires slot { IsSlotBytes bytes.old slot.old }
-    requires anchor { anchor < ANCHORS }
-    ensures { IsSlotBytes bytes.new slot.new }
-{
-    slot.put(bytes, anchor, offset, from)
-}
-
-/// A claim, of which is said no more than that the bytes stay a slot.
-fn claim(slot: &mut LentSlot, bytes: &mut [u8], n: u32) -> Result<usize, Refusal>
-    requires { IsSlotBytes bytes.old slot.old }
-    ensures { IsSlotBytes bytes.new slot.new }
-{
-    slot.claim(bytes, n)
-}
-
-/// A release, of which is said no more than that the bytes stay a slot.
-fn release(slot: &mut LentSlot, bytes: &mut [u8], address: usize) -> Result<(), Refusal>
-    requires { IsSlotBytes bytes.old slot.old }
-    ensures { IsSlotBytes bytes.new slot.new }
-{
-    slot.release(bytes, address)
-}
-
-/// A resize, of which is said no more than that the bytes stay a slot.
-fn resize(
-    slot: &mut LentSlot,
-    bytes: &mut [u8],
-    address: usize,
-    delta: i32,
-) -> Result<usize, Refusal>
-    requires { IsSlotBytes bytes.old slot.old }
-    ensures { IsSlotBytes bytes.new slot.new }
-{
-    slot.resize(bytes, address, delta)
-}
-
-/// A write, of which is said no more than that the bytes stay a slot.
-fn write(slot: &mut LentSlot, bytes: &mut [u8], address: usize, from: &[u8]) -> Result<(), Refusal>
-    requires { IsSlotBytes bytes.old slot.old }
-    ensures { IsSlotBytes bytes.new slot.new }
-{
-    slot.write(bytes, address, from)
-}
-
-/// The bytes of a block from an offset on, as many as the array has.
-fn read<const N: usize>(
-    slot: LentSlot,
-    bytes: &mut [u8],
-    anchor: Anchor,
-    offset: usize,
-) -> Result<[u8; N], Refusal>
-    requires slot { IsSlotBytes bytes.old slot }
-    requires anchor { anchor < ANCHORS }
-    ensures { IsSlotBytes bytes.new slot }
-{
-    let mut found = [1; N];
-    slot.read(bytes, anchor, offset, &mut found)?;
-    Ok(found)
-}
-
-/// The 16 bytes from a place on, if they are there.
-fn bytes_at(bytes: &[u8], place: usize) -> Option<[u8; 16]> {
-    if bytes.len() < 16 || bytes.len() - 16 < place {
-        return None;
-    }
-    let mut found = [0; 16];
-    copy_from(bytes, place, &mut found);
-    Some(found)
-}
-
-/// Makes two pages a slot with the blocks `hello` and `world`, and 12 bytes of the C heap.
-fn fill<R: Abort>(rt: &R, bytes: &mut [u8]) -> Result<LentSlot, Refusal>
-    requires { length bytes.old ≡ 8192 }
-    ensures { IfOk result (λ slot. IsSlotBytes bytes.new slot) }
-{
-    let mut slot = LentSlot::start(bytes)?;
-    same(rt, alloc(&mut slot, bytes, Anchor(0), 5), Ok(0x9008));
-    same(rt, put(&mut slot, bytes, Anchor(0), 0, b"hello"), Ok(()));
-    same(rt, alloc(&mut slot, bytes, Anchor(1), 5), Ok(0x9018));
-    same(rt, put(&mut slot, bytes, Anchor(1), 0, b"world"), Ok(()));
-    same(rt, claim(&mut slot, bytes, 10), Ok(0x8114));
-    Ok(slot)
-}
-
 /// Two pages, which no call of a test outgrows where it doesn't mean to.
-fn two_pages(alloc: Global) -> Result<Vec<u8>, AllocError>
-    ensures { IfOk result (λ bytes. vec_len bytes ≡ 8192) }
+const TWO_PAGES: usize = 8192;
+
+/// A slot in two pages with the blocks `hello` and `world`, and 12 bytes of the C heap.
+fn filled<R: Abort>(rt: &R, alloc: Global) -> Result<LentBench, Fail>
+    ensures { IfOk result (λ bench. IsSlotBytes (vec_items bench.bytes) bench.slot) }
 {
-    let bytes = vec![in alloc; 9; 8192]?;
-    Ok(bytes)
+    let mut bench = LentBench::new(alloc, TWO_PAGES)?;
+    same(rt, bench.alloc(Anchor(0), 5), Ok(0x9008));
+    same(rt, bench.put(Anchor(0), 0, b"hello"), Ok(()));
+    same(rt, bench.alloc(Anchor(1), 5), Ok(0x9018));
+    same(rt, bench.put(Anchor(1), 0, b"world"), Ok(()));
+    same(rt, bench.claim(10), Ok(0x8114));
+    Ok(bench)
 }
 
 #[test]
 fn a_slot_begins_in_the_first_page(rt: HostRuntime) -> Result<(), Fail> {
-    let mut bytes = vec![in rt.alloc(); 9; 5000]?;
-    let slot = LentSlot::start(&mut bytes)?;
+    let mut bench = LentBench::new(rt.alloc(), 5000)?;
     let (pages, budge) = (1, true);
-    same(&rt, slot, LentSlot { pages, budge });
-    same(&rt, slot.count(&mut bytes), 0);
-    same(&rt, bytes_at(&bytes, 240), Some([0; 16]));
-    same(
-        &rt,
-        bytes_at(&bytes, 256),
-        Some([
-            0x48, 0x65, 0x61, 0x70, 0, 0, 0, 0, 0x10, 0, 0, 0, 0, 0x0f, 0, 0,
-        ]),
-    );
+    same(&rt, bench.slot, LentSlot { pages, budge });
+    same(&rt, bench.count(), 0);
+    same(&rt, bench.bytes_at(240), Some([0; 16]));
+    let descriptor = [
+        0x48, 0x65, 0x61, 0x70, 0, 0, 0, 0, 0x10, 0, 0, 0, 0, 0x0f, 0, 0,
+    ];
+    same(&rt, bench.bytes_at(256), Some(descriptor));
+    Ok(())
+}
+
+#[test]
+fn no_slot_begins_in_less_than_a_page(rt: HostRuntime) -> Result<(), Fail> {
     let mut short = vec![in rt.alloc(); 9; 4095]?;
+    let before = short.clone()?;
     same(&rt, LentSlot::start(&mut short), Err(Refusal::NoRoom));
-    same(&rt, bytes_at(&short, 4079), Some([9; 16]));
+    same(&rt, short, before);
     Ok(())
 }
 
 #[test]
 fn lent_bytes_have_the_blocks(rt: HostRuntime) -> Result<(), Fail> {
-    let mut bytes = two_pages(rt.alloc())?;
-    let slot = fill(&rt, &mut bytes)?;
-    same(
-        &rt,
-        bytes_at(&bytes, 0),
-        Some([8, 0x90, 0, 0, 0x18, 0x90, 0, 0, 0, 0, 0, 0, 0, 0, 0, 0]),
-    );
-    same(
-        &rt,
-        bytes_at(&bytes, 4096),
-        Some([
-            0, 0x80, 0, 0, 5, 0, 0, 0, 0x68, 0x65, 0x6c, 0x6c, 0x6f, 0, 0, 0,
-        ]),
-    );
-    same(&rt, slot.size(&mut bytes, Anchor(1)), Ok(5));
-    same(&rt, slot.address(&mut bytes, Anchor(1)), Ok(0x9018));
-    same(&rt, slot.free_anchor(&mut bytes), Some(Anchor(2)));
-    same(&rt, slot.pages, 2);
+    let mut bench = filled(&rt, rt.alloc())?;
+    let anchors = [8, 0x90, 0, 0, 0x18, 0x90, 0, 0, 0, 0, 0, 0, 0, 0, 0, 0];
+    same(&rt, bench.bytes_at(0), Some(anchors));
+    let block = [
+        0, 0x80, 0, 0, 5, 0, 0, 0, 0x68, 0x65, 0x6c, 0x6c, 0x6f, 0, 0, 0,
+    ];
+    same(&rt, bench.bytes_at(4096), Some(block));
+    same(&rt, bench.size(Anchor(1)), Ok(5));
+    same(&rt, bench.address(Anchor(1)), Ok(0x9018));
+    same(&rt, bench.free_anchor(), Some(Anchor(2)));
+    same(&rt, bench.slot.pages, 2);
     Ok(())
 }
 
 #[test]
 fn flex_blocks_slide_in_lent_bytes(rt: HostRuntime) -> Result<(), Fail> {
-    let mut bytes = two_pages(rt.alloc())?;
-    let mut slot = fill(&rt, &mut bytes)?;
-    same(&rt, extend(&mut slot, &mut bytes, Anchor(0), 9), Ok(()));
-    same(&rt, slot.address(&mut bytes, Anchor(1)), Ok(0x901c));
-    same(&rt, free(&mut slot, &mut bytes, Anchor(0)), Ok(()));
-    same(&rt, slot.address(&mut bytes, Anchor(1)), Ok(0x9008));
-    same(&rt, mid(&mut slot, &mut bytes, Anchor(1), 2, -2), Ok(()));
-    same(
-        &rt,
-        read(slot, &mut bytes, Anchor(1), 0),
-        Ok([0x72, 0x6c, 0x64]),
-    );
-    same(&rt, mid(&mut slot, &mut bytes, Anchor(1), 3, 2), Ok(()));
-    same(&rt, read(slot, &mut bytes, Anchor(1), 2), Ok([0x64, 0, 0]));
-    same(&rt, free(&mut slot, &mut bytes, Anchor(1)), Ok(()));
-    same(&rt, slot.pages, 1);
+    let mut bench = filled(&rt, rt.alloc())?;
+    same(&rt, bench.extend(Anchor(0), 9), Ok(()));
+    same(&rt, bench.address(Anchor(1)), Ok(0x901c));
+    same(&rt, bench.free(Anchor(0)), Ok(()));
+    same(&rt, bench.address(Anchor(1)), Ok(0x9008));
+    same(&rt, bench.mid(Anchor(1), 2, -2), Ok(()));
+    same(&rt, bench.read(Anchor(1), 0), Ok([0x72, 0x6c, 0x64]));
+    same(&rt, bench.mid(Anchor(1), 3, 2), Ok(()));
+    same(&rt, bench.read(Anchor(1), 2), Ok([0x64, 0, 0]));
+    same(&rt, bench.free(Anchor(1)), Ok(()));
+    same(&rt, bench.slot.pages, 1);
     Ok(())
 }
 
 #[test]
 fn a_refused_flex_call_leaves_the_bytes(rt: HostRuntime) -> Result<(), Fail> {
-    let mut bytes = two_pages(rt.alloc())?;
-    let mut slot = fill(&rt, &mut bytes)?;
-    let before = bytes.clone()?;
-    let in_use = alloc(&mut slot, &mut bytes, Anchor(1), 5);
-    same(&rt, in_use, Err(Refusal::AnchorInUse));
-    let no_room = Err(Refusal::NoRoom);
-    let too_long = alloc(&mut slot, &mut bytes, Anchor(2), 5000);
-    same(&rt, too_long, Err(Refusal::NoRoom));
-    same(&rt, extend(&mut slot, &mut bytes, Anchor(0), 5000), no_room);
-    same(&rt, mid(&mut slot, &mut bytes, Anchor(0), 5, 5000), no_room);
-    let bad_range = Err(Refusal::BadRange);
-    same(&rt, mid(&mut slot, &mut bytes, Anchor(1), 1, -2), bad_range);
-    same(&rt, mid(&mut slot, &mut bytes, Anchor(1), 6, 1), bad_range);
-    let beyond = put(&mut slot, &mut bytes, Anchor(1), 1, b"world");
-    same(&rt, beyond, bad_range);
-    same(&rt, bytes, before);
-    same(&rt, slot.pages, 2);
+    let mut bench = filled(&rt, rt.alloc())?;
+    let before = bench.bytes.clone()?;
+    same(&rt, bench.alloc(Anchor(1), 5), Err(Refusal::AnchorInUse));
+    same(&rt, bench.alloc(Anchor(2), 5000), Err(Refusal::NoRoom));
+    same(&rt, bench.extend(Anchor(0), 5000), Err(Refusal::NoRoom));
+    same(&rt, bench.mid(Anchor(0), 5, 5000), Err(Refusal::NoRoom));
+    same(&rt, bench.mid(Anchor(1), 1, -2), Err(Refusal::BadRange));
+    same(&rt, bench.mid(Anchor(1), 6, 1), Err(Refusal::BadRange));
+    let beyond = bench.put(Anchor(1), 1, b"world");
+    same(&rt, beyond, Err(Refusal::BadRange));
+    same(&rt, &bench.bytes, &before);
+    same(&rt, bench.slot.pages, 2);
     Ok(())
 }
 
 #[test]
 fn a_call_on_no_block_leaves_the_bytes(rt: HostRuntime) -> Result<(), Fail> {
-    let mut bytes = two_pages(rt.alloc())?;
-    let mut slot = fill(&rt, &mut bytes)?;
-    let before = bytes.clone()?;
-    let none = Err(Refusal::NoBlock);
-    same(&rt, free(&mut slot, &mut bytes, Anchor(2)), none);
-    same(&rt, extend(&mut slot, &mut bytes, Anchor(2), 1), none);
-    same(&rt, mid(&mut slot, &mut bytes, Anchor(2), 0, 1), none);
-    same(&rt, put(&mut slot, &mut bytes, Anchor(2), 0, b"x"), none);
-    let no_size = Err(Refusal::NoBlock);
-    same(&rt, slot.size(&mut bytes, Anchor(2)), no_size);
-    same(&rt, slot.address(&mut bytes, Anchor(2)), no_size);
+    let mut bench = filled(&rt, rt.alloc())?;
+    let before = bench.bytes.clone()?;
+    same(&rt, bench.free(Anchor(2)), Err(Refusal::NoBlock));
+    same(&rt, bench.extend(Anchor(2), 1), Err(Refusal::NoBlock));
+    same(&rt, bench.mid(Anchor(2), 0, 1), Err(Refusal::NoBlock));
+    same(&rt, bench.put(Anchor(2), 0, b"x"), Err(Refusal::NoBlock));
+    same(&rt, bench.size(Anchor(2)), Err(Refusal::NoBlock));
+    same(&rt, bench.address(Anchor(2)), Err(Refusal::NoBlock));
+    same(&rt, &bench.bytes, &before);
+    Ok(())
+}
+
+#[test]
+fn a_refused_read_leaves_the_buffer(rt: HostRuntime) -> Result<(), Fail> {
+    let mut bench = filled(&rt, rt.alloc())?;
+    let before = bench.bytes.clone()?;
     let mut buffer = [1; 6];
-    let read = slot.read(&mut bytes, Anchor(2), 0, &mut buffer);
-    same(&rt, read, none);
-    let read = slot.read(&mut bytes, Anchor(1), 0, &mut buffer);
+    let slot = bench.slot;
+    let read = slot.read(&mut bench.bytes, Anchor(2), 0, &mut buffer);
+    same(&rt, read, Err(Refusal::NoBlock));
+    let read = slot.read(&mut bench.bytes, Anchor(1), 0, &mut buffer);
     same(&rt, read, Err(Refusal::BadRange));
     same(&rt, buffer, [1; 6]);
-    same(&rt, bytes, before);
+    same(&rt, &bench.bytes, &before);
     Ok(())
 }
 
 #[test]
 fn the_c_heap_grows_in_lent_bytes(rt: HostRuntime) -> Result<(), Fail> {
-    let mut bytes = vec![in rt.alloc(); 9; 12_288]?;
-    let mut slot = LentSlot::start(&mut bytes)?;
-    same(&rt, alloc(&mut slot, &mut bytes, Anchor(0), 5), Ok(0x9008));
-    same(&rt, slot.take_pages(&mut bytes, 4000), Ok(1));
-    same(&rt, claim(&mut slot, &mut bytes, 4000), Ok(0x8114));
-    same(&rt, slot.address(&mut bytes, Anchor(0)), Ok(0xa008));
-    same(&rt, slot.describe(&mut bytes), (7936, 3908, 3912));
-    same(&rt, slot.block_size(&mut bytes, 0x8114), Ok(4004));
-    same(
-        &rt,
-        resize(&mut slot, &mut bytes, 0x8114, -3992),
-        Ok(0x8114),
-    );
-    same(&rt, slot.block_size(&mut bytes, 0x8114), Ok(12));
-    same(&rt, release(&mut slot, &mut bytes, 0x8114), Ok(()));
-    same(&rt, slot.describe(&mut bytes), (7936, 7916, 7920));
-    same(&rt, slot.pages, 3);
+    let mut bench = LentBench::new(rt.alloc(), 12_288)?;
+    same(&rt, bench.alloc(Anchor(0), 5), Ok(0x9008));
+    same(&rt, bench.take_pages(4000), Ok(1));
+    same(&rt, bench.claim(4000), Ok(0x8114));
+    same(&rt, bench.address(Anchor(0)), Ok(0xa008));
+    same(&rt, bench.describe(), (7936, 3908, 3912));
+    same(&rt, bench.block_size(0x8114), Ok(4004));
+    same(&rt, bench.resize(0x8114, -3992), Ok(0x8114));
+    same(&rt, bench.block_size(0x8114), Ok(12));
+    same(&rt, bench.release(0x8114), Ok(()));
+    same(&rt, bench.describe(), (7936, 7916, 7920));
+    same(&rt, bench.slot.pages, 3);
     Ok(())
 }
 
 #[test]
 fn a_refused_call_on_the_c_heap_leaves_the_bytes(rt: HostRuntime) -> Result<(), Fail> {
-    let mut bytes = two_pages(rt.alloc())?;
-    let mut slot = fill(&rt, &mut bytes)?;
-    let before = bytes.clone()?;
-    let no_size = Err(Refusal::BadSize);
-    same(&rt, claim(&mut slot, &mut bytes, 0), no_size);
-    same(&rt, resize(&mut slot, &mut bytes, 0x8114, -12), no_size);
-    same(&rt, slot.take_pages(&mut bytes, 0), no_size);
-    let no_room = Err(Refusal::NoRoom);
-    same(&rt, claim(&mut slot, &mut bytes, 4000), no_room);
-    same(&rt, resize(&mut slot, &mut bytes, 0x8114, 4000), no_room);
-    let no_block = Err(Refusal::NotABlock);
-    same(&rt, resize(&mut slot, &mut bytes, 0x8118, 1), no_block);
-    same(&rt, slot.block_size(&mut bytes, 0x8118), no_block);
-    let released = release(&mut slot, &mut bytes, 0x8118);
-    same(&rt, released, Err(Refusal::NotABlock));
-    same(&rt, slot.set_budge(false), true);
-    let no_budge = Err(Refusal::NoBudge);
-    same(&rt, claim(&mut slot, &mut bytes, 4000), no_budge);
-    same(&rt, resize(&mut slot, &mut bytes, 0x8114, 4000), no_budge);
-    same(&rt, slot.take_pages(&mut bytes, 4000), no_budge);
-    same(&rt, slot.set_budge(true), false);
-    same(&rt, bytes, before);
+    let mut bench = filled(&rt, rt.alloc())?;
+    let before = bench.bytes.clone()?;
+    same(&rt, bench.claim(0), Err(Refusal::BadSize));
+    same(&rt, bench.resize(0x8114, -12), Err(Refusal::BadSize));
+    same(&rt, bench.take_pages(0), Err(Refusal::BadSize));
+    same(&rt, bench.claim(4000), Err(Refusal::NoRoom));
+    same(&rt, bench.resize(0x8114, 4000), Err(Refusal::NoRoom));
+    same(&rt, bench.resize(0x8118, 1), Err(Refusal::NotABlock));
+    same(&rt, bench.block_size(0x8118), Err(Refusal::NotABlock));
+    same(&rt, bench.release(0x8118), Err(Refusal::NotABlock));
+    same(&rt, &bench.bytes, &before);
+    Ok(())
+}
+
+#[test]
+fn the_c_heap_needs_budging_to_grow(rt: HostRuntime) -> Result<(), Fail> {
+    let mut bench = filled(&rt, rt.alloc())?;
+    let before = bench.bytes.clone()?;
+    same(&rt, bench.set_budge(false), true);
+    same(&rt, bench.claim(4000), Err(Refusal::NoBudge));
+    same(&rt, bench.resize(0x8114, 4000), Err(Refusal::NoBudge));
+    same(&rt, bench.take_pages(4000), Err(Refusal::NoBudge));
+    same(&rt, bench.set_budge(true), false);
+    same(&rt, &bench.bytes, &before);
     Ok(())
 }
 
@@ -333,104 +194,87 @@ fn listed(place: usize, size: usize, used: bool) -> Segment {
 }
 
 #[test]
-fn blocks_and_segments_are_listed_in_lent_bytes(rt: HostRuntime) -> Result<(), Fail> {
-    let mut bytes = two_pages(rt.alloc())?;
-    let slot = fill(&rt, &mut bytes)?;
-    let before = bytes.clone()?;
-    same(&rt, slot.count(&mut bytes), 2);
-    same(&rt, slot.block(&mut bytes, 1), Some(item(1, 0x9018, 5)));
-    same(&rt, slot.block(&mut bytes, 2), None);
-    let mut walk = slot.blocks(&mut bytes);
-    same(
-        &rt,
-        slot.next_block(&mut bytes, &mut walk),
-        Some(item(0, 0x9008, 5)),
-    );
-    same(
-        &rt,
-        slot.next_block(&mut bytes, &mut walk),
-        Some(item(1, 0x9018, 5)),
-    );
-    same(&rt, slot.next_block(&mut bytes, &mut walk), None);
+fn blocks_are_listed_in_lent_bytes(rt: HostRuntime) -> Result<(), Fail> {
+    let mut bench = filled(&rt, rt.alloc())?;
+    let before = bench.bytes.clone()?;
+    let all = [item(0, 0x9008, 5), item(1, 0x9018, 5)];
+    same(&rt, bench.count(), 2);
+    same(&rt, bench.block(1), Some(item(1, 0x9018, 5)));
+    same(&rt, bench.block(2), None);
+    let [first, second] = all;
+    same(&rt, bench.walked(), [Some(first), Some(second), None]);
     let mut items = ArrayVec::new();
     items.push(item(1, 0x9018, 5));
-    slot.list(&mut bytes, &mut items);
-    same(
-        &rt,
-        items.as_slice(),
-        &[item(0, 0x9008, 5), item(1, 0x9018, 5)],
-    );
-    same(
-        &rt,
-        slot.segment(&mut bytes, 16),
-        Some(listed(16, 16, true)),
-    );
-    same(&rt, slot.segment(&mut bytes, 20), None);
-    let segments = slot.segments_from(&mut bytes, 16);
+    bench.list(&mut items);
+    same(&rt, items.as_slice(), &all);
+    same(&rt, &bench.bytes, &before);
+    Ok(())
+}
+
+#[test]
+fn segments_are_listed_in_lent_bytes(rt: HostRuntime) -> Result<(), Fail> {
+    let mut bench = filled(&rt, rt.alloc())?;
+    let before = bench.bytes.clone()?;
+    same(&rt, bench.segment(16), Some(listed(16, 16, true)));
+    same(&rt, bench.segment(20), None);
+    let segments = bench.segments_from(16);
     same(&rt, segments.as_slice(), &[listed(16, 16, true)]);
-    same(&rt, bytes, before);
+    same(&rt, &bench.bytes, &before);
     Ok(())
 }
 
 #[test]
 fn ranges_lie_inside_a_lent_slot(rt: HostRuntime) -> Result<(), Fail> {
-    let mut bytes = two_pages(rt.alloc())?;
-    let slot = fill(&rt, &mut bytes)?;
-    is_true(&rt, slot.inside(&mut bytes, 0x9008, 5));
-    is_true(&rt, !slot.inside(&mut bytes, 0x9008, 6));
-    is_true(&rt, slot.inside(&mut bytes, 0x8114, 12));
-    is_true(&rt, !slot.inside(&mut bytes, 0x8114, 13));
+    let mut bench = filled(&rt, rt.alloc())?;
+    is_true(&rt, bench.inside(0x9008, 5));
+    is_true(&rt, !bench.inside(0x9008, 6));
+    is_true(&rt, bench.inside(0x8114, 12));
+    is_true(&rt, !bench.inside(0x8114, 13));
     Ok(())
 }
 
 #[test]
 fn bytes_are_written_at_addresses(rt: HostRuntime) -> Result<(), Fail> {
-    let mut bytes = two_pages(rt.alloc())?;
-    let mut slot = fill(&rt, &mut bytes)?;
-    same(&rt, write(&mut slot, &mut bytes, 0x9009, b"ar"), Ok(()));
-    same(&rt, read(slot, &mut bytes, Anchor(0), 0), Ok(*b"harlo"));
-    same(&rt, write(&mut slot, &mut bytes, 0x811e, b"ab"), Ok(()));
+    let mut bench = filled(&rt, rt.alloc())?;
+    same(&rt, bench.write(0x9009, b"ar"), Ok(()));
+    same(&rt, bench.read(Anchor(0), 0), Ok(*b"harlo"));
+    same(&rt, bench.write(0x811e, b"ab"), Ok(()));
     let block = [0, 0, 0, 0, 0, 0, 0, 0, 0, 0, 0x61, 0x62, 0, 0, 0, 0];
-    same(&rt, bytes_at(&bytes, 276), Some(block));
-    let before = bytes.clone()?;
-    let bad_range = Err(Refusal::BadRange);
-    same(&rt, write(&mut slot, &mut bytes, 0x900c, b"ab"), bad_range);
-    same(&rt, write(&mut slot, &mut bytes, 0x811f, b"ab"), bad_range);
-    same(&rt, write(&mut slot, &mut bytes, 0, b"ab"), bad_range);
-    same(&rt, bytes, before);
+    same(&rt, bench.bytes_at(276), Some(block));
+    let before = bench.bytes.clone()?;
+    same(&rt, bench.write(0x900c, b"ab"), Err(Refusal::BadRange));
+    same(&rt, bench.write(0x811f, b"ab"), Err(Refusal::BadRange));
+    same(&rt, bench.write(0, b"ab"), Err(Refusal::BadRange));
+    same(&rt, &bench.bytes, &before);
     Ok(())
 }
 
 #[test]
 fn each_anchor_has_a_block(rt: HostRuntime) -> Result<(), Fail> {
-    let mut bytes = two_pages(rt.alloc())?;
-    let mut slot = LentSlot::start(&mut bytes)?;
+    let mut bench = LentBench::new(rt.alloc(), TWO_PAGES)?;
     for k in 0..64 {
-        same(&rt, slot.free_anchor(&mut bytes), Some(Anchor(k)));
+        same(&rt, bench.free_anchor(), Some(Anchor(k)));
         let address = 0x9008 + 8 * usize::from(k);
-        same(&rt, alloc(&mut slot, &mut bytes, Anchor(k), 0), Ok(address));
+        same(&rt, bench.alloc(Anchor(k), 0), Ok(address));
     }
-    same(&rt, slot.free_anchor(&mut bytes), None);
-    same(&rt, slot.count(&mut bytes), 64);
+    same(&rt, bench.free_anchor(), None);
+    same(&rt, bench.count(), 64);
     Ok(())
 }
 
 #[test]
 fn a_slot_has_all_of_application_space(rt: HostRuntime) -> Result<(), Fail> {
-    let mut bytes = vec![in rt.alloc(); 0; 29_360_128]?;
-    let mut slot = LentSlot::start(&mut bytes)?;
-    let first = alloc(&mut slot, &mut bytes, Anchor(0), 20_000_000);
-    same(&rt, first, Ok(0x9008));
+    let mut bench = LentBench::new(rt.alloc(), 29_360_128)?;
+    same(&rt, bench.alloc(Anchor(0), 20_000_000), Ok(0x9008));
     let end = [1, 2, 3];
-    let written = put(&mut slot, &mut bytes, Anchor(0), 19_999_997, &end);
-    same(&rt, written, Ok(()));
-    same(&rt, claim(&mut slot, &mut bytes, 8_000_000), Ok(0x8114));
-    same(&rt, slot.address(&mut bytes, Anchor(0)), Ok(8_036_360));
-    same(&rt, read(slot, &mut bytes, Anchor(0), 19_999_997), Ok(end));
-    same(&rt, slot.pages, 6837);
-    let second = alloc(&mut slot, &mut bytes, Anchor(1), 1_400_000);
+    same(&rt, bench.put(Anchor(0), 19_999_997, &end), Ok(()));
+    same(&rt, bench.claim(8_000_000), Ok(0x8114));
+    same(&rt, bench.address(Anchor(0)), Ok(8_036_360));
+    same(&rt, bench.read(Anchor(0), 19_999_997), Ok(end));
+    same(&rt, bench.slot.pages, 6837);
+    let second = bench.alloc(Anchor(1), 1_400_000);
     same(&rt, second, Err(Refusal::NoRoom));
-    let second = alloc(&mut slot, &mut bytes, Anchor(1), 1_300_000);
+    let second = bench.alloc(Anchor(1), 1_300_000);
     same(&rt, second, Ok(28_036_368));
     Ok(())
 }

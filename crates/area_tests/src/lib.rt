@@ -15,6 +15,8 @@ mod heaps;
 #[cfg(test)]
 mod images;
 #[cfg(test)]
+mod lent_bench;
+#[cfg(test)]
 mod lent_heaps;
 #[cfg(test)]
 mod lent_slots;
