@@ -214,42 +214,34 @@ const AREAS_OF_64: &str =
 const AREAS_OF_8: &str =
     "ok 7\n  area 0 0\n  area 1 1\n  area 2 0\n  area 3 0\n  area 4 0\n  area 5 0\n";
 
+/// The words of a run of the input over 8 pages.
+const RUN_OF_8_PAGES: [&str; 5] = ["vervainfile", "run", "--pages", "8", "-"];
+
+/// The words of a run of a script over a file.
+const RUN_OF_A_FILE: [&str; 4] = ["vervainfile", "run", "short.desk", "f=short.bin"];
+
+/// Words that give two files one name.
+const RUN_OF_TWO_NAMES: [&str; 5] = ["vervainfile", "run", "short.desk", "f=x", "f=x"];
+
+/// The words of a check of a file that is there, and of one that isn't.
+const CHECK: [&str; 3] = ["vervainfile", "check", "short.bin"];
+
+const CHECK_OF_NO_FILE: [&str; 3] = ["vervainfile", "check", "lost.bin"];
+
 #[test]
 fn runs_and_checks_are_refused_memory_in_turn(rt: HostRuntime) -> Result<(), Fail> {
     fs::write(&rt, "short.desk", "task a 100\nload a 0 f\nshow a 0\n")?;
     fs::write(&rt, "short.bin", "hello")?;
+    let shown = "ok 1\nok &9008\nok 5 68656c6c6f\n";
+    let lost = "rh_desk: file lost.bin\n";
+    let bad_word = "rh_desk: bad file word f=x\n";
     for (words, output, errors, status) in [
         (["vervainfile"].as_slice(), AREAS_OF_64, "", 0),
-        (
-            ["vervainfile", "run", "--pages", "8", "-"].as_slice(),
-            AREAS_OF_8,
-            "",
-            0,
-        ),
-        (
-            ["vervainfile", "run", "short.desk", "f=short.bin"].as_slice(),
-            "ok 1\nok &9008\nok 5 68656c6c6f\n",
-            "",
-            0,
-        ),
-        (
-            ["vervainfile", "check", "short.bin"].as_slice(),
-            "bad BadDescriptor\n",
-            "",
-            1,
-        ),
-        (
-            ["vervainfile", "check", "lost.bin"].as_slice(),
-            "",
-            "rh_desk: file lost.bin\n",
-            3,
-        ),
-        (
-            ["vervainfile", "run", "short.desk", "f=x", "f=x"].as_slice(),
-            "",
-            "rh_desk: bad file word f=x\n",
-            2,
-        ),
+        (RUN_OF_8_PAGES.as_slice(), AREAS_OF_8, "", 0),
+        (RUN_OF_A_FILE.as_slice(), shown, "", 0),
+        (CHECK.as_slice(), "bad BadDescriptor\n", "", 1),
+        (CHECK_OF_NO_FILE.as_slice(), "", lost, 3),
+        (RUN_OF_TWO_NAMES.as_slice(), "", bad_word, 2),
     ] {
         try_program(&rt, words, &ending(output, errors, status))?;
     }
