@@ -1,0 +1,4 @@
+mod Places
+mod Receipts
+mod Sessions
+mod ReceivedRows

@@ -1,0 +1,20 @@
+//! Laws over a world, each the contract of a function with nothing to do.
+
+ghost use Rattle.rh_received.specs.Received.{HoldsReceived, RunsBegin, RunsGoOn};
+
+use rh_store::Store;
+use rh_tasks::World;
+
+/// After any commands: what a task holds of a transfer stands in the store, in the task's slot, where the word of its
+/// record's anchor says. A file that was offered begins with it, and is no longer where the record says Done.
+pub fn received_law<S: Store>(world: &World<S>)
+    ensures { HoldsReceived world.now }
+{
+    world.spelled();
+}
+
+/// What is shown at first is a run of no commands, and each command that a world applies takes a run on.
+pub fn run_law()
+    ensures begins { RunsBegin }
+    ensures goes_on { RunsGoOn }
+{}

@@ -1,0 +1,38 @@
+//! A whole session over a fresh store.
+
+ghost use Rattle.std.specs.Prelude.{◌≡◌, ◌≤◌, true, IfOk};
+ghost use Rattle.rh_defs.specs.Memory.{Memory, fresh};
+ghost use Rattle.rh_defs.specs.Range.{all_in_range};
+ghost use Rattle.rh_defs.specs.Runs.{start};
+ghost use Rattle.rh_defs.specs.declared.sizes.TheConstants.{MAX_PAGES, MIN_PAGES};
+ghost use Rattle.rh_received.specs.Received.{HasRun, HoldsReceived};
+
+use crate::laws::{received_law, run_law};
+use rh_defs::{Command, Files};
+use rh_store::Store;
+use rh_tasks::World;
+use std::alloc::{AllocError, Global};
+
+/// The world after these commands, each in range, from a fresh store of 8 to 1,024 pages with these files. AllocError
+/// where memory is refused; store and files are dropped then.
+pub fn run_commands<S: Store + Drop>(
+    alloc: Global,
+    store: S,
+    files: Files,
+    commands: &[Command],
+) -> Result<World<S>, AllocError>
+    requires fresh { S.memory store ≡ fresh (S.memory store).pages }
+    requires least { MIN_PAGES ≤ (S.memory store).pages }
+    requires most { (S.memory store).pages ≤ MAX_PAGES }
+    requires ranged { all_in_range commands.now ≡ true }
+    ensures run { IfOk result (λ world. HasRun (start (S.memory store).pages files) commands.now world) }
+    ensures received { IfOk result (λ world. HoldsReceived world) }
+{
+    run_law();
+    let mut world = World::new(alloc, store, files)?;
+    for command in commands {
+        world.apply(command);
+    }
+    received_law(&world);
+    Ok(world)
+}
