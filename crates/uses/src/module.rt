@@ -1,0 +1,38 @@
+//! A block of the module area.
+ghost use Rattle.std.specs.Prelude.{◌≡◌, ◌^◌, ◌<◌, ℕ, List, Some, length, replicate, IfOk, OnErr};
+ghost use Rattle.rh_defs.specs.Blocks.{Frees, HasBlock, Puts, block_bytes};
+ghost use Rattle.rh_defs.specs.Bytes.{part, put};
+ghost use Rattle.rh_defs.specs.Heap.{block_room};
+ghost use Rattle.rh_module.specs.Area.{IsModule, heap_in};
+
+use rh_defs::Refusal;
+use rh_module::Module;
+use rh_store::Pages;
+
+/// Claims a block and writes bytes into it; the block's bytes behind them are 0. Answers its address. Refused, and
+/// nothing changed, as the claim is: `BadSize` for no bytes, `NoRoom`. (OS_Module 6.)
+pub fn keep_bytes<S: Pages>(store: &mut S, rma: Module, bytes: &[u8]) -> Result<usize, Refusal>
+    requires module { IsModule (S.memory store.old) rma }
+    requires fits { length bytes.now < 2 ^ 32 }
+    ensures module { IsModule (S.memory store.new) rma }
+    ensures kept { IfOk result (Puts (put (replicate (block_room (length bytes.now)) 0) 0 bytes.now)
+        (heap_in (S.memory store.old) rma) (heap_in (S.memory store.new) rma)) }
+    ensures err { OnErr result (S.memory store.new ≡ S.memory store.old) }
+{
+    let address = rma.claim(store, bytes.len() as u32)?;
+    rma.write_bytes(store, address, 0, bytes);
+    Ok(address)
+}
+
+/// Reads the first bytes of a block, and frees it. (OS_Module 7.)
+pub fn give_bytes<S: Pages>(store: &mut S, rma: Module, address: usize, to: &mut [u8])
+    requires module { IsModule (S.memory store.old) rma }
+    requires block { HasBlock address (length to.old) (heap_in (S.memory store.old) rma) }
+    ensures module { IsModule (S.memory store.new) rma }
+    ensures read { (bytes : List ℕ) → block_bytes address (heap_in (S.memory store.old) rma) ≡ Some bytes
+        → to.new ≡ part bytes 0 (length to.old) }
+    ensures freed { Frees address (heap_in (S.memory store.old) rma) (heap_in (S.memory store.new) rma) }
+{
+    rma.read_bytes(store, address, 0, to);
+    rma.free(store, address).unwrap();
+}

@@ -1,0 +1,46 @@
+//! A slot with one flex block.
+ghost use Rattle.std.specs.Prelude.{◌≡◌, ◌^◌, ◌<◌, ℕ, List, Ok, length, IfOk, IfErr, OnErr};
+ghost use Rattle.rh_defs.specs.Memory.{open_below};
+ghost use Rattle.rh_defs.specs.Slot.{new_slot, with_block};
+ghost use Rattle.rh_slot.specs.Area.{IsSlot, slot_in};
+ghost use Rattle.rh_defs.specs.declared.sizes.TheConstants.{MAX_AREAS};
+
+use rh_defs::{Anchor, Refusal};
+use rh_slot::Slot;
+use rh_store::Store;
+
+/// Starts a slot, and gives it a flex block of these bytes at anchor 0. Refused (`NoRoom`) where too few pages are free;
+/// the slot is ended then. (flex_alloc.)
+pub fn hold_bytes<S: Store>(store: &mut S, bytes: &[u8]) -> Result<Slot, Refusal>
+    requires areas { open_below (S.memory store.old).area MAX_AREAS < MAX_AREAS }
+    requires fits { length bytes.now < 2 ^ 32 }
+    ensures slot { IfOk result (IsSlot (S.memory store.new)) }
+    ensures held { IfOk result (λ slot. slot_in (S.memory store.new) slot ≡ with_block 0 bytes.now new_slot) }
+    ensures reason { IfErr result (λ refusal. refusal ≡ Refusal.NoRoom) }
+{
+    let slot = Slot::start(store)?;
+    match slot.alloc(store, Anchor(0), bytes.len() as u32) {
+        Ok(_address) => {
+            slot.put(store, Anchor(0), 0, bytes).unwrap();
+            Ok(slot)
+        }
+        Err(refusal) => {
+            slot.end(store);
+            Err(refusal)
+        }
+    }
+}
+
+/// Reads the first bytes of the block at anchor 0, and takes the block away. Refused, and nothing changed, as the read
+/// is: `NoBlock`, `BadRange`. (flex_free.)
+pub fn take_bytes<S: Store>(store: &mut S, slot: Slot, to: &mut [u8]) -> Result<(), Refusal>
+    requires { IsSlot (S.memory store.old) slot }
+    ensures slot { IsSlot (S.memory store.new) slot }
+    ensures back { (bytes : List ℕ) → slot_in (S.memory store.old) slot ≡ with_block 0 bytes new_slot → length to.old ≡ length bytes
+        → (result ≡ Ok tt) × (to.new ≡ bytes) × (slot_in (S.memory store.new) slot ≡ new_slot) }
+    ensures err { OnErr result ((S.memory store.new ≡ S.memory store.old) × (to.new ≡ to.old)) }
+{
+    slot.read(store, Anchor(0), 0, to)?;
+    slot.free(store, Anchor(0)).unwrap();
+    Ok(())
+}

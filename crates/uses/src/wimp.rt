@@ -1,0 +1,55 @@
+//! A message from one task to another.
+ghost use Rattle.std.specs.Prelude.{◌≡◌, Some, IfOk, OnErr};
+ghost use Rattle.rh_defs.specs.Memory.{Memory};
+ghost use Rattle.rh_defs.specs.declared.message.Body.TheVariants.{RamFetch};
+ghost use Rattle.rh_defs.specs.declared.message.EventCode.TheVariants.{User};
+ghost use Rattle.rh_module.specs.Area.{IsModule, heap_in};
+ghost use Rattle.rh_module.specs.declared.module.Module.{Module};
+ghost use Rattle.rh_wimp.specs.Calls.{IsQueue};
+ghost use Rattle.rh_wimp.specs.Chains.{SpellsPost};
+ghost use Rattle.uses.specs.Wimp.{two_idle};
+
+use rh_defs::{Body, Event, EventCode, Handle, Letter, Ref, Refusal};
+use rh_module::Module;
+use rh_store::Pages;
+use rh_wimp::Queue;
+use std::alloc::{AllocError, Global};
+
+/// A queue with tasks 1 and 2, and no message. AllocError where memory is refused.
+pub fn two_tasks(alloc: Global) -> Result<Queue, AllocError>
+    ensures queue { IfOk result (λ queue. (m : Memory) (rma : Module) → IsModule m rma → IsQueue m rma queue) }
+    ensures idle { IfOk result (λ queue. (m : Memory) (rma : Module) → IsModule m rma
+        → SpellsPost m rma queue (two_idle (heap_in m rma))) }
+{
+    let mut queue = Queue::new(alloc)?;
+    queue.join(Handle(1));
+    queue.join(Handle(2));
+    Ok(queue)
+}
+
+/// Task 1 asks task 2 for bytes, in a message that wants no answer, and task 2 polls. Refused (`NoRoom`), and nothing
+/// changed, where the module area can't grow. (Message_RAMFetch, Wimp_Poll.)
+pub fn ask_for_bytes<S: Pages>(
+    store: &mut S,
+    rma: Module,
+    queue: &mut Queue,
+    buffer: u32,
+    length: u32,
+) -> Result<Option<Event>, Refusal>
+    requires queue { IsQueue (S.memory store.old) rma queue.old }
+    requires idle { SpellsPost (S.memory store.old) rma queue.old (two_idle (heap_in (S.memory store.old) rma)) }
+    ensures queue { IsQueue (S.memory store.new) rma queue.new }
+    ensures event { IfOk result (λ event. event ≡ Some (record { code = User;
+        message = record { from = 1; my_ref = 1; your_ref = 0; body = RamFetch buffer length } })) }
+    ensures err { OnErr result ((S.memory store.new ≡ S.memory store.old) × (queue.new ≡ queue.old)) }
+{
+    let letter = Letter {
+        code: EventCode::User,
+        from: Handle(1),
+        to: Handle(2),
+        your_ref: Ref(0),
+        body: Body::RamFetch { buffer, length },
+    };
+    queue.send(store, rma, letter)?;
+    Ok(queue.poll(store, rma, Handle(2)))
+}
