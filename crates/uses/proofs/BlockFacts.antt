@@ -1,12 +1,12 @@
 -- What a claim, a write and a free make of a block of the module area.
 use Rattle.std.proofs.Common.{◌≡◌, ℕ, ◌≤◌, List, refl, ◌∙◌, ap, sym, subst}
-use Rattle.std.specs.Prelude.{Option, Some, None, Ok, Err, Result}
+use Rattle.std.specs.Prelude.{Ok, Err}
 use Rattle.rh_defs.specs.Chain.{Granted, answer_of, left_of, no_answer}
 use Rattle.rh_defs.specs.Bytes.{put}
 use Rattle.rh_defs.specs.Pieces.{zeros}
 use Rattle.rh_defs.specs.Heap.{Heap, block_room, release}
 use Rattle.rh_defs.specs.Module.{module_claim, module_free}
-use Rattle.rh_defs.specs.Blocks.{block_bytes, HasBlock, Puts, Frees, Pokes, poked}
+use Rattle.rh_defs.specs.Blocks.{HasBlock, Puts, Frees, Pokes, poked}
 use Rattle.rh_defs.proofs.BlockLaws.{has-less, poked-pokes, release-frees}
 use Rattle.rh_defs.proofs.BlockCalls.{module_claim-puts, module_claim-has, module_free-there}
 

@@ -1,2 +1,4 @@
 pub mod BlockFacts
+pub mod PostFacts
+pub mod RunFacts
 pub mod SlotFacts

@@ -1,12 +1,12 @@
 -- What the definitions answer for a slot with one flex block.
-use Rattle.std.proofs.Common.{◌≡◌, ℕ, ◌+◌, ◌≤◌, Bool, true, false, List, [], length, take, drop, ◌++◌, refl, sym, ap, subst, ◌∙◌, arith, ltb}
+use Rattle.std.proofs.Common.{◌≡◌, ℕ, ◌+◌, Bool, true, false, List, [], length, take, drop, refl, sym, ap, subst, ◌∙◌, arith, ltb}
 use Rattle.std.specs.Prelude.{Ok, Err, Option, Some, None, IsOk}
 use Rattle.std.proofs.Math.ListN.{drop_of_length-le}
 use Rattle.std.proofs.Math.Seq.{take-length}
 use Rattle.std.proofs.lemmas.Bool.{le-ltb}
 use Rattle.std.proofs.lemmas.List.{length-replicate, append-nil}
 use Rattle.rh_defs.specs.Chain.{Granted, ◌>>=◌, refuse_if, found_or, answer_of, left_of, no_answer, outcome_of}
-use Rattle.rh_defs.specs.Pieces.{Split, zeros, written}
+use Rattle.rh_defs.specs.Pieces.{Split, zeros}
 use Rattle.rh_defs.specs.Slot.{Slot, Flex, new_slot, with_block, without, block_of, lacks_room, slot_length, slot_pages, flex_weight, flex_address, slot_begin, slot_alloc, slot_block, slot_put, slot_read, slot_free}
 use Rattle.rh_defs.specs.declared.refusal.Refusal.{Refusal}
 use Rattle.rh_defs.specs.declared.refusal.Refusal.TheVariants.{NoBlock, NoRoom, BadRange}
@@ -84,7 +84,7 @@ pub put_after : (free n x : ℕ) (bytes : List ℕ) (s k : Slot) → s ≡ new_s
     → slot_put 0 0 bytes k ≡ Ok (with_block 0 bytes new_slot)
 put_after free n x bytes s k new e is many =
     let first : k ≡ with_block 0 (zeros n) new_slot =
-        subst (λ (y : Slot). ◌≡◌ {A = Granted ℕ} (Ok x) (answer_of (slot_alloc free 0 n y)) → k ≡ left_of y (slot_alloc free 0 n y) → k ≡ with_block 0 (zeros n) new_slot) (sym new) (λ f i. i ∙ alloc_new free n x f) e is in
+    subst (λ (y : Slot). ◌≡◌ {A = Granted ℕ} (Ok x) (answer_of (slot_alloc free 0 n y)) → k ≡ left_of y (slot_alloc free 0 n y) → k ≡ with_block 0 (zeros n) new_slot) (sym new) (λ f i. i ∙ alloc_new free n x f) e is in
     subst (λ (y : Slot). slot_put 0 0 bytes y ≡ Ok (with_block 0 bytes new_slot)) (sym first) (put_whole n bytes many)
 
 pub refused_after : (free n : ℕ) (refusal : Refusal) (s : Slot) → s ≡ new_slot → ◌≡◌ {A = Granted ℕ} (Err refusal) (answer_of (slot_alloc free 0 n s)) → refusal ≡ NoRoom

@@ -1,11 +1,11 @@
 //! A message from one task to another.
-ghost use Rattle.std.specs.Prelude.{◌≡◌, Some, IfOk, OnErr};
+ghost use Rattle.std.specs.Prelude.{◌≡◌, [], ◌∷◌, Some, IfOk, OnErr};
 ghost use Rattle.rh_defs.specs.Memory.{Memory};
 ghost use Rattle.rh_defs.specs.declared.message.Body.TheVariants.{RamFetch};
 ghost use Rattle.rh_defs.specs.declared.message.EventCode.TheVariants.{User};
 ghost use Rattle.rh_module.specs.Area.{IsModule, heap_in};
 ghost use Rattle.rh_module.specs.declared.module.Module.{Module};
-ghost use Rattle.rh_wimp.specs.Calls.{IsQueue};
+ghost use Rattle.rh_wimp.specs.Calls.{IsQueue, handles_of};
 ghost use Rattle.rh_wimp.specs.Chains.{SpellsPost};
 ghost use Rattle.uses.specs.Wimp.{two_idle};
 
@@ -18,6 +18,7 @@ use std::alloc::{AllocError, Global};
 /// A queue with tasks 1 and 2, and no message. AllocError where memory is refused.
 pub fn two_tasks(alloc: Global) -> Result<Queue, AllocError>
     ensures queue { IfOk result (λ queue. (m : Memory) (rma : Module) → IsModule m rma → IsQueue m rma queue) }
+    ensures handles { IfOk result (λ queue. handles_of queue ≡ 1 ∷ 2 ∷ []) }
     ensures idle { IfOk result (λ queue. (m : Memory) (rma : Module) → IsModule m rma
         → SpellsPost m rma queue (two_idle (heap_in m rma))) }
 {
@@ -27,8 +28,8 @@ pub fn two_tasks(alloc: Global) -> Result<Queue, AllocError>
     Ok(queue)
 }
 
-/// Task 1 asks task 2 for bytes, in a message that wants no answer, and task 2 polls. Refused (`NoRoom`), and nothing
-/// changed, where the module area can't grow. (Message_RAMFetch, Wimp_Poll.)
+/// Task 1 asks task 2 for bytes, in a message that wants no answer, and task 2 polls. Refused, and nothing changed, as
+/// the send is. (Message_RAMFetch, Wimp_Poll.)
 pub fn ask_for_bytes<S: Pages>(
     store: &mut S,
     rma: Module,
@@ -37,10 +38,13 @@ pub fn ask_for_bytes<S: Pages>(
     length: u32,
 ) -> Result<Option<Event>, Refusal>
     requires queue { IsQueue (S.memory store.old) rma queue.old }
+    requires handles { handles_of queue.old ≡ 1 ∷ 2 ∷ [] }
     requires idle { SpellsPost (S.memory store.old) rma queue.old (two_idle (heap_in (S.memory store.old) rma)) }
     ensures queue { IsQueue (S.memory store.new) rma queue.new }
-    ensures event { IfOk result (λ event. event ≡ Some (record { code = User;
-        message = record { from = 1; my_ref = 1; your_ref = 0; body = RamFetch buffer length } })) }
+    ensures event { IfOk result (λ event. event ≡ Some (record {
+      code = User;
+      message = record { from = 1; my_ref = 1; your_ref = 0; body = RamFetch buffer length };
+    })) }
     ensures err { OnErr result ((S.memory store.new ≡ S.memory store.old) × (queue.new ≡ queue.old)) }
 {
     let letter = Letter {
