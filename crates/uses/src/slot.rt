@@ -9,8 +9,8 @@ use rh_defs::{Anchor, Refusal};
 use rh_slot::Slot;
 use rh_store::Store;
 
-/// Starts a slot, and gives it a flex block of these bytes at anchor 0. Refused (`NoRoom`) where too few pages are free;
-/// the slot is ended then. (flex_alloc.)
+/// Starts a slot, and gives it a flex block of these bytes at anchor 0. Refused (`NoRoom`) where too few pages are
+/// free; the slot is ended then. (flex_alloc.)
 pub fn hold_bytes<S: Store>(store: &mut S, bytes: &[u8]) -> Result<Slot, Refusal>
     requires areas { open_below (S.memory store.old).area MAX_AREAS < MAX_AREAS }
     requires fits { length bytes.now < 2 ^ 32 }
@@ -36,7 +36,8 @@ pub fn hold_bytes<S: Store>(store: &mut S, bytes: &[u8]) -> Result<Slot, Refusal
 pub fn take_bytes<S: Store>(store: &mut S, slot: Slot, to: &mut [u8]) -> Result<(), Refusal>
     requires { IsSlot (S.memory store.old) slot }
     ensures slot { IsSlot (S.memory store.new) slot }
-    ensures back { (bytes : List ℕ) → slot_in (S.memory store.old) slot ≡ with_block 0 bytes new_slot → length to.old ≡ length bytes
+    ensures back { (bytes : List ℕ) → slot_in (S.memory store.old) slot ≡ with_block 0 bytes new_slot
+        → length to.old ≡ length bytes
         → (result ≡ Ok tt) × (to.new ≡ bytes) × (slot_in (S.memory store.new) slot ≡ new_slot) }
     ensures err { OnErr result ((S.memory store.new ≡ S.memory store.old) × (to.new ≡ to.old)) }
 {
