@@ -19,6 +19,10 @@ pub mod Addresses
 pub mod AddressPolls
 pub mod AddressLaws
 pub mod AddressRows
+pub mod Queues
+pub mod Deliveries
+pub mod DeliveryPolls
+pub mod DeliveryLaws
 pub mod Frames
 pub mod FramePolls
 pub mod FrameRows

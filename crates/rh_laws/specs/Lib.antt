@@ -4,5 +4,6 @@ pub mod RefusalRooms
 pub mod Conditions
 pub mod HonestHeaps
 pub mod Addressed
+pub mod Delivered
 pub mod Frame
 pub mod ScrapTurns

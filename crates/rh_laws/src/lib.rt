@@ -2,6 +2,7 @@
 #![tactic(auto)]
 
 mod addressed;
+mod delivered;
 mod frame;
 mod heaps;
 mod lines;
@@ -9,6 +10,7 @@ mod order;
 mod scrap;
 
 pub use addressed::addressed_law;
+pub use delivered::delivered_law;
 pub use frame::frame_law;
 pub use heaps::describe_law;
 pub use lines::line_law;

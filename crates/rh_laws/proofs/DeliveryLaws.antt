@@ -1,0 +1,591 @@
+-- Each command keeps what holds of transfers and of the files that were loaded, and what a sender may rely on follows.
+use Rattle.std.proofs.Common.{◌≡◌, ℕ, ◌≤◌, ◌<◌, Bool, true, false, not, List, [], ◌∷◌, ◌++◌, length, map, Option, Some, None}
+use Rattle.std.proofs.Common.{refl, sym, ap, ◌∙◌, subst, inl, inr, arith}
+use Rattle.std.specs.Prelude.{◌==◌, if◌then◌else◌, nat_eq, nat_lt, filter, find, ℤ, Ok, IfSome}
+use Rattle.std.specs.List.{AllByRecursion}
+use Rattle.std.specs.Option.{option_map}
+use Rattle.std.proofs.lemmas.Bool.Decides.{eqb_tells}
+use Rattle.rh_defs.specs.declared.command.Command.{Command}
+use Rattle.rh_defs.specs.declared.command.Command.TheVariants as command
+use Rattle.rh_defs.specs.declared.command.Manner.{Manner}
+use Rattle.rh_defs.specs.declared.message.Action.TheVariants as action
+use Rattle.rh_defs.specs.declared.message.Body.{Body}
+use Rattle.rh_defs.specs.declared.message.Body.TheVariants as body
+use Rattle.rh_defs.specs.declared.message.EventCode.{EventCode}
+use Rattle.rh_defs.specs.declared.message.EventCode.TheVariants.{User, Recorded, Acknowledge}
+use Rattle.rh_defs.specs.declared.question.Question.{Question}
+use Rattle.rh_defs.specs.declared.reply.Outcome.TheVariants as outcome
+use Rattle.rh_defs.specs.declared.reply.Reply.{Reply}
+use Rattle.rh_defs.specs.declared.reply.Reply.TheVariants as reply
+use Rattle.rh_defs.specs.declared.transfer.Incoming.{Incoming}
+use Rattle.rh_defs.specs.declared.transfer.Incoming.TheVariants as incoming
+use Rattle.rh_defs.specs.declared.transfer.Outgoing.{Outgoing}
+use Rattle.rh_defs.specs.declared.transfer.Outgoing.TheVariants as outgoing
+use Rattle.rh_defs.specs.declared.transfer.Sending.{Sending}
+use Rattle.rh_defs.specs.declared.refusal.Refusal.TheVariants.{NothingSent, NotOpen}
+use Rattle.rh_defs.specs.Chain.{Granted, or_else}
+use Rattle.rh_defs.specs.Files.{FileList}
+use Rattle.rh_defs.specs.Laws.{IsDesk, IsStart}
+use Rattle.rh_defs.specs.Messages.{Parcel, action_of}
+use Rattle.rh_defs.specs.Post.{Post, post_join, post_poll}
+use Rattle.rh_defs.specs.Range.{all_in_range, in_range}
+use Rattle.rh_defs.specs.Records.{in_id, is_open, most_records, out_id}
+use Rattle.rh_defs.specs.Sender as sender
+use Rattle.rh_defs.specs.Receiver as receiver
+use Rattle.rh_defs.specs.Desk.{Desk, Task, has_name, named, next_ref, task_at, with_delivered}
+use Rattle.rh_defs.specs.Commands.{Answer, start_task, kill, alloc, load, put, free, extend, mid, claim, release, resize}
+use Rattle.rh_defs.specs.Commands.{budge, module_area, change_module, change_pages, change_made, change_area, make, remove}
+use Rattle.rh_defs.specs.Commands.{rma_claim, rma_free, rma_resize}
+use Rattle.rh_defs.specs.OutgoingEvents.{finish_load}
+use Rattle.rh_defs.specs.Transfer.{came, handled}
+use Rattle.rh_defs.specs.Runs.{after, start_with}
+use Rattle.rh_defs.specs.Step.{save, repeat, poll, poll_taken, cancel_in, cancel_out, change, step}
+use Rattle.rh_defs.proofs.Chains.{OnGrant, chosen, granted, granted-past, granted-then, granted-with, or_else-keeps}
+use Rattle.rh_defs.proofs.Steps.{after-is, start-is, step-keeps}
+use Rattle.rh_safety.specs.Counts.{is_done}
+use Rattle.rh_safety.specs.Held.{Edits, document_of, held, held_of, is_edited}
+use Rattle.rh_safety.specs.Offered.{Offers, offered}
+use Rattle.rh_safety.proofs.Ends.{Has}
+use Rattle.rh_safety.proofs.Basics.{Ascend, and_left, and_right, contains_of, first_is, has_of, is_equal, none_some, one_of_id, open_is, same_value}
+use Rattle.rh_safety.proofs.HeldCounts.{always_counts_offered}
+use Rattle.rh_safety.proofs.Invariant.{Good}
+use Rattle.rh_safety.proofs.Runs.{start_good}
+use Rattle.rh_safety.proofs.SeenBlocks.{found_name}
+use Rattle.rh_safety.proofs.SeenDesks.{fits}
+use Rattle.rh_safety.proofs.SeenFrames.{Fits, is_found, the_task}
+use Rattle.rh_safety.proofs.SeenLaws.{always_safe, keeps, kept_good}
+use Rattle.rh_safety.proofs.SeenTasks.{field_is}
+use Rattle.rh_safety.proofs.View.{seen_parcel, view}
+use Rattle.rh_laws.specs.Delivered.{AlwaysDelivers, HasAll, IsTold}
+use Rattle.rh_laws.proofs.Addresses.{CodeAgrees, all-has, all-more, all-with}
+use Rattle.rh_laws.proofs.Queues.{IsMine, death-left, poll-taken}
+use Rattle.rh_laws.proofs.Deliveries.{Agrees, Comes, Grows, HandleAgrees, InAgrees, LastAgrees, Loaded, Marks, OutAgrees}
+use Rattle.rh_laws.proofs.Deliveries.{ParcelAgrees, Says, back-agrees, delivered-agrees, grows-both, grows-same, ins-agree, marked}
+use Rattle.rh_laws.proofs.Deliveries.{marked-agrees, marked-grows, marked-here, outs-agree, slot-agrees}
+use Rattle.rh_laws.proofs.DeliveryPolls.{IsPast, ParcelAbove, back-above, mine-keeps}
+
+-- ---- tasks by handle
+
+-- one more task, of which all that is asked holds under each handle
+added-at : (P : ℕ → Task → Type 0) (new : Task) → ((j : ℕ) → P j new) → (ts : List Task) (j : ℕ) →
+    IfSome (find (λ (t : Task). t.handle == j) ts) (P j) → IfSome (find (λ (t : Task). t.handle == j) (ts ++ new ∷ [])) (P j)
+added-at P new fresh [] j is = chosen (λ o. IfSome o (P j)) (new.handle == j) (Some new) None (fresh j) tt
+added-at P new fresh (t ∷ ts) j is = go (t.handle == j) is (added-at P new fresh ts j)
+  where
+    go : (b : Bool) → IfSome (if b then Some t else find (λ (t : Task). t.handle == j) ts) (P j) →
+        (IfSome (find (λ (t : Task). t.handle == j) ts) (P j) → IfSome (find (λ (t : Task). t.handle == j) (ts ++ new ∷ [])) (P j)) →
+        IfSome (if b then Some t else find (λ (t : Task). t.handle == j) (ts ++ new ∷ [])) (P j)
+    go true is rest = is
+    go false is rest = rest is
+
+-- the tasks but that of a handle
+module _ (P : ℕ → Task → Type 0) (h : ℕ) where
+  abbrev is_left : Task → Bool
+  is_left t = not (t.handle == h)
+
+  none-left : (ts : List Task) → find (λ (t : Task). t.handle == h) (filter is_left ts) ≡ None
+  none-left [] = refl
+  none-left (t ∷ ts) = elim (eqb_tells t.handle h) [
+    | inl w ↦ rw w.0 (none-left ts)
+    | inr w ↦ rw (w.0, w.0) (none-left ts)
+  ]
+
+  some-left : (j : ℕ) → (j ≡ h → ⊥) → (ts : List Task) → IfSome (find (λ (t : Task). t.handle == j) ts) (P j) →
+      IfSome (find (λ (t : Task). t.handle == j) (filter is_left ts)) (P j)
+  some-left j other [] is = tt
+  some-left j other (t ∷ ts) is = elim (eqb_tells t.handle h) [
+    | inl w ↦ rw w.0 (elim (eqb_tells t.handle j) [
+      | inl v ↦ absurd (other (sym v.1 ∙ w.1))
+      | inr v ↦ some-left j other ts (behind v.0)
+    ])
+    | inr w ↦ rw w.0 (elim (eqb_tells t.handle j) [
+      | inl v ↦ rw v.0 (subst (λ b. IfSome (if b then Some t else find (λ (t : Task). t.handle == j) ts) (P j)) v.0 is)
+      | inr v ↦ rw v.0 (some-left j other ts (behind v.0))
+    ])
+  ]
+    where
+      behind : (t.handle == j) ≡ false → IfSome (find (λ (t : Task). t.handle == j) ts) (P j)
+      behind e = subst (λ b. IfSome (if b then Some t else find (λ (t : Task). t.handle == j) ts) (P j)) e is
+
+  left-at : (ts : List Task) (j : ℕ) → IfSome (find (λ (t : Task). t.handle == j) ts) (P j) →
+      IfSome (find (λ (t : Task). t.handle == j) (filter is_left ts)) (P j)
+  left-at ts j is = elim (eqb_tells j h) [
+    | inl w ↦ subst (λ o. IfSome o (P j)) (sym (subst (λ k. find (λ (t : Task). t.handle == k) (filter is_left ts) ≡ None)
+        (sym w.1) (none-left ts))) tt
+    | inr w ↦ some-left j w.1 ts is
+  ]
+
+-- the task of a handle
+own-of : {a : Marks} (d : Desk) → Agrees a d → (h : ℕ) (t : Task) → task_at h d ≡ Some t → HandleAgrees a (InAgrees a) h t
+own-of {a} d g h t is = subst (λ (o : Option Task). IfSome o (HandleAgrees a (InAgrees a) h)) is (g.of_tasks h)
+
+-- after an answer all agree with what is then known
+record Keeps (a : Marks) (x : Answer) : Type 0 where
+  marks : Marks
+  more : Grows a marks
+  desk : Agrees marks x.0
+
+module _ (a : Marks) (d : Desk) (f : Fits d) (g : Agrees a d) where
+  same : {x : Answer} → Agrees a x.0 → OnGrant (Keeps a) (Ok x)
+  same is = granted (record { marks = a; more = grows-same a; desk = is })
+
+  own : (name : List ℕ) (t : Task) → named name d ≡ Ok t → HandleAgrees a (InAgrees a) t.handle t
+  own name t q = own-of d g t.handle t (the_task d name t f q)
+
+  start_task-keeps : (name : List ℕ) (buffer : ℕ) (manner : Manner) → OnGrant (Keeps a) (start_task d name buffer manner)
+  unfolding start_task post_join
+  start_task-keeps name buffer manner =
+      granted-past _ _ _ λ x. granted-past _ _ _ λ y. granted-past _ _ _ λ z. granted-then _ _ λ s e.
+      same (record {
+        born = g.born;
+        unloaded = g.unloaded;
+        of_tasks = λ j. added-at (HandleAgrees a (InAgrees a)) _ (λ k. record { sent = tt; outs = tt; ins = tt }) d.tasks j (g.of_tasks j);
+        mail = g.mail;
+      })
+
+  kill-keeps : (name : List ℕ) → OnGrant (Keeps a) (kill d name)
+  unfolding kill with_delivered
+  kill-keeps name =
+      granted-then _ _ λ t e.
+      let left = death-left (ParcelAgrees a) (back-agrees a) t.handle d.post in
+      same (record {
+        born = λ i low. g.born i (subst (λ n. n ≤ i) left.next low);
+        unloaded = λ r i low. g.unloaded r i (subst (λ n. n ≤ i) left.next low);
+        of_tasks = λ j. left-at (HandleAgrees a (InAgrees a)) t.handle d.tasks j (g.of_tasks j);
+        mail = left.mail g.mail;
+      })
+
+  alloc-keeps : (name : List ℕ) (k n : ℕ) → OnGrant (Keeps a) (alloc d name k n)
+  unfolding alloc
+  alloc-keeps name k n = granted-then _ _ λ t e. granted-then _ _ λ p f2. same (slot-agrees t.handle p.0 d g)
+
+  load-keeps : (name : List ℕ) (k : ℕ) (file : List ℕ) → OnGrant (Keeps a) (load d name k file)
+  unfolding load
+  load-keeps name k file = granted-then _ _ λ t e. granted-then _ _ λ entry f2. granted-then _ _ λ p i. granted-then _ _ λ s j.
+      same (slot-agrees t.handle s d g)
+
+  put-keeps : (name : List ℕ) (k offset : ℕ) (bytes : List ℕ) → OnGrant (Keeps a) (put d name k offset bytes)
+  unfolding put
+  put-keeps name k offset bytes = granted-then _ _ λ t e. granted-then _ _ λ b f2. granted-then _ _ λ s i. same (slot-agrees t.handle s d g)
+
+  free-keeps : (name : List ℕ) (k : ℕ) → OnGrant (Keeps a) (free d name k)
+  unfolding free
+  free-keeps name k = granted-then _ _ λ t e. granted-then _ _ λ b f2. granted-then _ _ λ s i. same (slot-agrees t.handle s d g)
+
+  extend-keeps : (name : List ℕ) (k n : ℕ) → OnGrant (Keeps a) (extend d name k n)
+  unfolding extend
+  extend-keeps name k n = granted-then _ _ λ t e. granted-then _ _ λ b f2. granted-then _ _ λ s i. same (slot-agrees t.handle s d g)
+
+  mid-keeps : (name : List ℕ) (k offset : ℕ) (by : ℤ) → OnGrant (Keeps a) (mid d name k offset by)
+  unfolding mid
+  mid-keeps name k offset by = granted-then _ _ λ t e. granted-then _ _ λ b f2. granted-then _ _ λ s i. same (slot-agrees t.handle s d g)
+
+  claim-keeps : (name : List ℕ) (n : ℕ) → OnGrant (Keeps a) (claim d name n)
+  unfolding claim
+  claim-keeps name n = granted-then _ _ λ t e. granted-then _ _ λ p f2. same (slot-agrees t.handle p.0 d g)
+
+  release-keeps : (name : List ℕ) (address : ℕ) → OnGrant (Keeps a) (release d name address)
+  unfolding release
+  release-keeps name address = granted-then _ _ λ t e. granted-then _ _ λ b f2. granted-then _ _ λ s i. same (slot-agrees t.handle s d g)
+
+  resize-keeps : (name : List ℕ) (address : ℕ) (delta : ℤ) → OnGrant (Keeps a) (resize d name address delta)
+  unfolding resize
+  resize-keeps name address delta = granted-then _ _ λ t e. granted-then _ _ λ b f2. granted-then _ _ λ p i. same (slot-agrees t.handle p.0 d g)
+
+  budge-keeps : (name : List ℕ) (on : Bool) → OnGrant (Keeps a) (budge d name on)
+  unfolding budge
+  budge-keeps name on = granted-then _ _ λ t e. same (slot-agrees t.handle _ d g)
+
+  -- the records of the task that was found, one of them written anew
+  cancel_in-keeps : (name : List ℕ) (id : Option ℕ) → OnGrant (Keeps a) (cancel_in d name id)
+  unfolding cancel_in receiver.cancel
+  cancel_in-keeps name id =
+      granted-then _ _ λ t e. granted-with {Q = AllByRecursion (InAgrees a t.handle)} _
+      (granted-then _ _ λ w f2. granted (all-with (InAgrees a t.handle) in_id (in_id w) (receiver.cancelled w) t.taking
+      (cancelled-agrees t.handle w (all-has (InAgrees a t.handle) t.taking w (own name t e).ins
+      (first_is (receiver.is_wanted id) t.taking w (is_found _ NotOpen w f2)).0)) (own name t e).ins)) λ records all.
+      same (ins-agree t.handle (λ old. records) (λ ws old. all) d g)
+    where
+      cancelled-agrees : (h : ℕ) (w : Incoming) → InAgrees a h w → InAgrees a h (receiver.cancelled w)
+      cancelled-agrees h (incoming.Fetching f) is = is
+      cancelled-agrees h (incoming.Draining f) is = is
+      cancelled-agrees h (incoming.Asking q) is = is.1
+      cancelled-agrees h (incoming.Done i k n) is = is
+      cancelled-agrees h (incoming.Failed i k n) is = is
+
+  cancel_out-keeps : (name : List ℕ) (id : Option ℕ) → OnGrant (Keeps a) (cancel_out d name id)
+  unfolding cancel_out sender.cancel
+  cancel_out-keeps name id =
+      granted-then _ _ λ t e. granted-with {Q = AllByRecursion (OutAgrees a)} _
+      (granted-then _ _ λ x f2. granted (all-with (OutAgrees a) out_id x.id (outgoing.Failed x.id x.count) t.sending tt
+      (own name t e).outs)) λ records all.
+      same (outs-agree t.handle (λ old. records) (λ vs old. all) d g)
+
+  make-keeps : (most : ℕ) → OnGrant (Keeps a) (make d most)
+  unfolding make
+  make-keeps most = granted-past _ _ _ λ x. granted-past _ _ _ λ y. same g
+
+  remove-keeps : (n : ℕ) → OnGrant (Keeps a) (remove d n)
+  unfolding remove
+  remove-keeps n = granted-then _ _ λ m e. same g
+
+  change_area-keeps : (n : ℕ) (delta : ℤ) → OnGrant (Keeps a) (change_area d n delta)
+  unfolding change_module change_pages change_made
+  change_area-keeps n delta =
+      chosen (OnGrant (Keeps a)) (n == module_area) _ _ (granted-then _ _ λ c e. same g)
+      (chosen (OnGrant (Keeps a)) (nat_lt n (length d.areas)) _ _ (granted-then _ _ λ c e. same g)
+      (granted-then _ _ λ m e. granted-then _ _ λ c f2. granted-past _ _ _ λ big. same g))
+
+  rma_claim-keeps : (n : ℕ) → OnGrant (Keeps a) (rma_claim d n)
+  unfolding rma_claim
+  rma_claim-keeps n = granted-then _ _ λ c e. same g
+
+  rma_free-keeps : (address : ℕ) → OnGrant (Keeps a) (rma_free d address)
+  unfolding rma_free
+  rma_free-keeps address = granted-then _ _ λ b e. granted-then _ _ λ h f2. same g
+
+  rma_resize-keeps : (address : ℕ) (delta : ℤ) → OnGrant (Keeps a) (rma_resize d address delta)
+  unfolding rma_resize
+  rma_resize-keeps address delta = granted-then _ _ λ b e. granted-then _ _ λ c f2. same g
+
+  ask-keeps : (q : Question) → OnGrant (Keeps a) (change d (command.Ask q))
+  ask-keeps q = granted-then _ _ λ told e. same g
+
+  -- ---- commands that send
+
+  -- where the next ref belongs to the transfer from then on
+  abbrev next_of : Option ℕ → Marks
+  next_of v = marked a (next_ref d) v
+
+  next-more : (v : Option ℕ) → Grows a (next_of v)
+  next-more v = marked-grows a (next_ref d) v (g.born (next_ref d) (omega arith))
+
+  next-is : (v : Option ℕ) → (next_of v).of_ref (next_ref d) ≡ v
+  next-is v = marked-here a (next_ref d) v
+
+  save-keeps : (name : List ℕ) (k : ℕ) (to leaf : List ℕ) → OnGrant (Keeps a) (save d name k to leaf)
+  unfolding save
+  save-keeps name k to leaf =
+      let v : Option ℕ = Some (next_ref d) in
+      granted-then _ _ λ t e. granted-then _ _ λ b f2. granted-past _ _ _ λ full. granted-then _ _ λ r i.
+      granted-with _ (marked-agrees a v _ d tt g) λ sent all.
+      granted (record {
+        marks = next_of v;
+        more = next-more v;
+        desk = outs-agree t.handle (sender.offered (next_ref d) r.handle k)
+            (λ vs old. all-more (OutAgrees (next_of v)) is_open _ vs (next-is v) old) sent all;
+      })
+
+  -- the transfer of a message, by what it says
+  belongs : (from my your : ℕ) (b : Body) → Says a from my your b → Option ℕ
+  belongs from my your (body.DataSave file) is = None
+  belongs from my your (body.DataSaveAck file) is = Some your
+  belongs from my your (body.DataLoad file) is = Some is.0
+  belongs from my your (body.DataLoadAck file) is = None
+  belongs from my your (body.RamFetch buffer n) is = None
+  belongs from my your (body.RamTransmit buffer n) is = None
+
+  -- a message once more says the same under the next ref
+  says-again : (from my your : ℕ) (b : Body) (is : Says a from my your b) →
+      Says (next_of (belongs from my your b is)) from (next_ref d) your b
+  unfolding belongs
+  says-again from my your (body.DataSave file) is = tt
+  says-again from my your (body.DataSaveAck file) is = next-is (Some your)
+  says-again from my your (body.DataLoad file) is = (is.0, next-is (Some is.0), (next-more (Some is.0)).refs your is.0 is.2)
+  says-again from my your (body.DataLoadAck file) is = (is.0, (next-more None).refs your is.0 is.1, is.2)
+  says-again from my your (body.RamFetch buffer n) is = tt
+  says-again from my your (body.RamTransmit buffer n) is = tt
+
+  repeat-keeps : (name : List ℕ) → OnGrant (Keeps a) (repeat d name)
+  unfolding repeat
+  repeat-keeps name =
+      granted-then _ _ λ t e. granted-then _ _ λ last f2.
+      let old : LastAgrees a t.handle (Some last) =
+      subst (LastAgrees a t.handle) (is_found t.last_sent NothingSent last f2) (own name t e).sent in
+      let v : Option ℕ = belongs t.handle last.1 last.0.your_ref last.0.body old in
+      granted-with _ (marked-agrees a v (record last.0 { from = t.handle }) d
+      (says-again t.handle last.1 last.0.your_ref last.0.body old) g) λ sent all.
+      granted (record { marks = next_of v; more = next-more v; desk = all })
+
+  -- ---- polls
+
+  module _ {o : Offers} {e : Edits} (ok : Good o e (view d)) where
+    seen-taking : (h : ℕ) (t : Task) → task_at h d ≡ Some t → (view d).taking h ≡ t.taking
+    seen-taking h t is = field_is (λ y. y.taking) [] h d.tasks t is
+
+    seen-has : (h : ℕ) (t : Task) → task_at h d ≡ Some t → (w : Incoming) → Has w t.taking → Has w ((view d).taking h)
+    seen-has h t is w has = subst (λ (ws : List Incoming). Has w ws) (sym (seen-taking h t is)) has
+
+    -- the unread messages for a task are above its records
+    all-above : (h id : ℕ) (ps : List Parcel) →
+        ((p : Parcel) → Has (seen_parcel p) (map seen_parcel ps) → (p.code ≡ Acknowledge → ⊥) → p.to ≡ h → id < p.message.my_ref) →
+        AllByRecursion (ParcelAbove h id) ps
+    all-above h id [] up = tt
+    all-above h id (p ∷ ps) up = (by_code p.code refl, all-above h id ps (λ q has. up q (inr has)))
+      where
+        by_code : (c : EventCode) → p.code ≡ c → CodeAgrees c (p.to ≡ h → id < p.message.my_ref)
+        by_code User is = up p (inl refl) (λ no. let z : User ≡ Acknowledge = sym is ∙ no in (cc))
+        by_code Recorded is = up p (inl refl) (λ no. let z : Recorded ≡ Acknowledge = sym is ∙ no in (cc))
+        by_code Acknowledge is = tt
+
+    past : (t : Task) → task_at t.handle d ≡ Some t → IsPast (with_delivered (post_poll t.handle d.post).0 d) t
+    unfolding with_delivered
+    past t is = record {
+      below = λ w has. let left = (poll-taken (ParcelAgrees a) (back-agrees a) t.handle d.post).left in
+          subst (λ n. in_id w < n) (sym left.next) (ok.inv.order.in_below t.handle w (seen-has t.handle t is w has));
+      above = λ w has.
+          (poll-taken (ParcelAbove t.handle (in_id w)) (back-above t.handle (in_id w)) t.handle d.post).left.mail
+          (all-above t.handle (in_id w) d.post.queued (λ p there unread to.
+          ok.inv.order.above t.handle w (seen_parcel p) (seen-has t.handle t is w has) there unread to));
+    }
+
+    taken-keeps : (t : Task) → HandleAgrees a (InAgrees a) t.handle t → (y : Desk) → Agrees a y → IsPast y t → (v : Option Parcel) →
+        IfSome v (IsMine (ParcelAgrees a) (back-agrees a) t.handle) → Keeps a (poll_taken y t v)
+    unfolding poll_taken
+    taken-keeps t mine y all up None is = record { marks = a; more = grows-same a; desk = all }
+    taken-keeps t mine y all up (Some m) is =
+        let w = mine-keeps a t mine y all up m is.own is.agrees in record { marks = w.marks; more = w.more; desk = w.desk }
+
+    poll-keeps : (name : List ℕ) → OnGrant (Keeps a) (poll d name)
+    unfolding poll
+    poll-keeps name =
+        granted-then _ _ λ t q.
+        let w = poll-taken (ParcelAgrees a) (back-agrees a) t.handle d.post in
+        let polled : Post × Option Parcel = post_poll t.handle d.post in
+        granted (taken-keeps t (own name t q) (with_delivered polled.0 d) (delivered-agrees polled.0 d w.left g)
+        (past t (the_task d name t f q)) polled.1 (w.mine g.mail))
+
+    kept : {r : Granted Answer} → OnGrant (Keeps a) r → Keeps a (or_else r (λ refusal. (d, reply.Refused refusal)))
+    kept all = or_else-keeps (Keeps a) _ all (λ refusal. record { marks = a; more = grows-same a; desk = g })
+
+    step-agrees : (c : Command) → Keeps a (step d c)
+    step-agrees (command.Task name buffer manner) = kept (start_task-keeps name buffer manner)
+    step-agrees (command.Kill name) = kept (kill-keeps name)
+    step-agrees (command.Alloc name k n) = kept (alloc-keeps name k n)
+    step-agrees (command.Load name k file) = kept (load-keeps name k file)
+    step-agrees (command.Put name k offset bytes) = kept (put-keeps name k offset bytes)
+    step-agrees (command.Free name k) = kept (free-keeps name k)
+    step-agrees (command.Extend name k n) = kept (extend-keeps name k n)
+    step-agrees (command.Mid name k offset by) = kept (mid-keeps name k offset by)
+    step-agrees (command.Claim name n) = kept (claim-keeps name n)
+    step-agrees (command.Release name address) = kept (release-keeps name address)
+    step-agrees (command.Resize name address delta) = kept (resize-keeps name address delta)
+    step-agrees (command.Budge name on) = kept (budge-keeps name on)
+    step-agrees (command.Save name k to leaf) = kept (save-keeps name k to leaf)
+    step-agrees (command.Poll name) = kept (poll-keeps name)
+    step-agrees (command.CancelIn name id) = kept (cancel_in-keeps name id)
+    step-agrees (command.CancelOut name id) = kept (cancel_out-keeps name id)
+    step-agrees (command.Repeat name) = kept (repeat-keeps name)
+    step-agrees (command.Area k delta) = kept (change_area-keeps k delta)
+    step-agrees (command.Make most) = kept (make-keeps most)
+    step-agrees (command.Remove k) = kept (remove-keeps k)
+    step-agrees (command.RmaClaim n) = kept (rma_claim-keeps n)
+    step-agrees (command.RmaFree address) = kept (rma_free-keeps address)
+    step-agrees (command.RmaResize address delta) = kept (rma_resize-keeps address delta)
+    step-agrees (command.Ask q) = kept (ask-keeps q)
+
+    -- ---- a sender that is told
+
+    module _ (t : Task) (is : task_at t.handle d ≡ Some t) (x : Sending) (has : Has (outgoing.Open x) t.sending) (y : Desk) (m : Parcel)
+        (ref : ℕ) where
+      abbrev told_by : Reply
+      told_by = reply.Event User action.DataLoadAck ref x.last outcome.Done
+
+      -- the record that the DataLoadAck is for
+      told-record : (i : ℕ) → a.of_ref m.message.your_ref ≡ Some i → Loaded a m.message.from i → m.message.your_ref ≡ x.last →
+          (v : Option Sending) → sender.on_load_ack m.message.from m.message.your_ref t.sending ≡ v →
+          (finish_load y t v).1 ≡ outcome.Done → Loaded a x.recipient x.id
+      unfolding finish_load
+      told-record i of_i loaded answers None q other = absurd cc
+      told-record i of_i loaded answers (Some z) q done =
+          let w = open_is (sender.is_loaded m.message.from m.message.your_ref) t.sending z q in
+          let outs = (own-of d g t.handle t is).outs in
+          let from : m.message.from ≡ z.recipient = is_equal _ _ (and_left (nat_eq m.message.from z.recipient) _ w.1) in
+          let last : m.message.your_ref ≡ z.last = is_equal _ _ (and_right (nat_eq m.message.from z.recipient) _ w.1) in
+          let of_x : a.of_ref x.last ≡ Some x.id = all-has (OutAgrees a) t.sending (outgoing.Open x) outs has in
+          let of_z : a.of_ref z.last ≡ Some z.id = all-has (OutAgrees a) t.sending (outgoing.Open z) outs w.0 in
+          let ids : x.id ≡ z.id = same_value (a.of_ref x.last) of_x (ap a.of_ref (sym answers ∙ last) ∙ of_z) in
+          let one : outgoing.Open x ≡ outgoing.Open z = one_of_id out_id t.sending (outgoing.Open x) (outgoing.Open z)
+          (subst (λ (vs : List Outgoing). Ascend out_id vs) (field_is (λ y. y.sending) [] t.handle d.tasks t is) (ok.inv.order.outs t.handle))
+          has w.0 ids in
+          let same_record : x ≡ z = cc in
+          let to : x.recipient ≡ z.recipient = ap (λ (u : Sending). u.recipient) same_record in
+          let mine : x.id ≡ i = same_value (a.of_ref x.last) of_x (ap a.of_ref (sym answers) ∙ of_i) in
+          subst (λ k. Loaded a k x.id) (from ∙ sym to) (subst (λ k. Loaded a m.message.from k) (sym mine) loaded)
+
+      told-body : (b : Body) → Says a m.message.from m.message.my_ref m.message.your_ref b →
+          reply.Event User (action_of b) m.message.my_ref m.message.your_ref (came y t m b).1 ≡ told_by → Loaded a x.recipient x.id
+      unfolding came
+      told-body (body.DataSave file) says q = absurd cc
+      told-body (body.DataSaveAck file) says q = absurd cc
+      told-body (body.DataLoad file) says q = absurd cc
+      told-body (body.DataLoadAck file) says q =
+          let v : Option Sending = sender.on_load_ack m.message.from m.message.your_ref t.sending in
+          let answers : m.message.your_ref ≡ x.last = cc in
+          let done : (finish_load y t v).1 ≡ outcome.Done = cc in
+          told-record says.0 says.1 says.2 answers v refl done
+      told-body (body.RamFetch buffer n) says q = absurd cc
+      told-body (body.RamTransmit buffer n) says q = absurd cc
+
+      told-code : (c : EventCode) → CodeAgrees c (Comes a m) →
+          reply.Event c (action_of m.message.body) m.message.my_ref m.message.your_ref (handled y t m c).1 ≡ told_by →
+          Loaded a x.recipient x.id
+      unfolding handled
+      told-code User is q = told-body m.message.body is.says q
+      told-code Recorded is q = absurd cc
+      told-code Acknowledge is q = absurd cc
+
+    told-taken : (t : Task) → task_at t.handle d ≡ Some t → (x : Sending) → Has (outgoing.Open x) t.sending → (y : Desk)
+        (v : Option Parcel) → IfSome v (IsMine (ParcelAgrees a) (back-agrees a) t.handle) → (ref : ℕ) →
+        (poll_taken y t v).1 ≡ reply.Event User action.DataLoadAck ref x.last outcome.Done → Loaded a x.recipient x.id
+    unfolding poll_taken
+    told-taken t is x has y None mine ref q = absurd cc
+    told-taken t is x has y (Some m) mine ref q = told-code t is x has y m ref m.code mine.agrees q
+
+    -- where the poll tells a record's task that it is done, its recipient loaded the file
+    record Tells (x : Sending) (y : Answer) : Type 0 where
+      loaded : (ref : ℕ) → y.1 ≡ reply.Event User action.DataLoadAck ref x.last outcome.Done → Loaded a x.recipient x.id
+
+    told-poll : (name : List ℕ) (x : Sending) (t : Task) → find (has_name name) d.tasks ≡ Some t → Has (outgoing.Open x) t.sending →
+        OnGrant (Tells x) (poll d name)
+    unfolding poll
+    told-poll name x s here has =
+        granted-then _ _ λ t q.
+        let one : s ≡ t = same_value (find (has_name name) d.tasks) here (found_name d name t q) in
+        let w = poll-taken (ParcelAgrees a) (back-agrees a) t.handle d.post in
+        let polled : Post × Option Parcel = post_poll t.handle d.post in
+        granted (record {
+          loaded = told-taken t (the_task d name t f q) x (subst (λ (u : Task). Has (outgoing.Open x) u.sending) one has)
+              (with_delivered polled.0 d) polled.1 (w.mine g.mail);
+        })
+
+    told-loaded : (name : List ℕ) (x : Sending) → IsTold d name x → Loaded a x.recipient x.id
+    told-loaded name x told =
+        (or_else-keeps (Tells x) (λ refusal. (d, reply.Refused refusal))
+        (told-poll name x told.sender told.is (has_of told.sender.sending (outgoing.Open x) told.open_))
+        (λ refusal. record { loaded = λ ref never. absurd cc })).loaded told.ref told.answer
+
+-- ---- runs
+
+-- after commands all agree with what is then known
+record Reaches (a : Marks) (d : Desk) : Type 0 where
+  marks : Marks
+  more : Grows a marks
+  desk : Agrees marks d
+
+after-agrees : (cs : List Command) → all_in_range cs ≡ true → (d : Desk) {o : Offers} {e : Edits} → Good o e (view d) →
+    IsDesk d → (a : Marks) → Agrees a d → Reaches a (after d cs)
+after-agrees [] p d ok is a g = record { marks = a; more = grows-same a; desk = g }
+after-agrees (c ∷ cs) p d ok is a g =
+    let in_c : in_range c ≡ true = and_left (in_range c) _ p in
+    let w = step-agrees a d (fits d is) g ok c in
+    let v = after-agrees cs (and_right (in_range c) _ p) (step d c).0 (keeps c in_c d ok (fits d is)) (step-keeps d c in_c is)
+    w.marks w.desk in
+    record { marks = v.marks; more = grows-both w.more v.more; desk = v.desk }
+
+range-left : (cs ds : List Command) → all_in_range (cs ++ ds) ≡ true → all_in_range cs ≡ true
+range-left [] ds p = refl
+range-left (c ∷ cs) ds p =
+    let here : in_range c ≡ true = and_left (in_range c) _ p in
+    let rest : all_in_range cs ≡ true = range-left cs ds (and_right (in_range c) _ p) in rw (here, rest) refl
+
+range-right : (cs ds : List Command) → all_in_range (cs ++ ds) ≡ true → all_in_range ds ≡ true
+range-right [] ds p = p
+range-right (c ∷ cs) ds p = range-right cs ds (and_right (in_range c) _ p)
+
+after-joined : (cs ds : List Command) (d : Desk) → after d (cs ++ ds) ≡ after (after d cs) ds
+after-joined [] ds d = refl
+after-joined (c ∷ cs) ds d = after-joined cs ds (step d c).0
+
+-- ---- the law
+
+-- a record of a loaded transfer says Done
+loaded-done : (a : Marks) (h id : ℕ) (w : Incoming) → InAgrees a h w → in_id w ≡ id → Loaded a h id → is_done w ≡ true
+loaded-done a h id (incoming.Fetching f) is q has = absurd (is (subst (λ i. Loaded a h i) (sym q) has))
+loaded-done a h id (incoming.Draining f) is q has = absurd (is (subst (λ i. Loaded a h i) (sym q) has))
+loaded-done a h id (incoming.Asking r) is q has = absurd (is.1 (subst (λ i. Loaded a h i) (sym q) has))
+loaded-done a h id (incoming.Done i k n) is q has = refl
+loaded-done a h id (incoming.Failed i k n) is q has = absurd (is (subst (λ i. Loaded a h i) (sym q) has))
+
+module _ (pool handle ref : ℕ) (files : FileList) (cs later : List Command) (from : IsStart pool handle ref) (name : List ℕ)
+    (x : Sending) (ranged : all_in_range (cs ++ command.Poll name ∷ later) ≡ true)
+    (told : IsTold (after (start_with pool files handle ref) cs) name x) where
+  abbrev d0 : Desk
+  d0 = start_with pool files handle ref
+
+  abbrev d : Desk
+  d = after d0 cs
+
+  abbrev all : List Command
+  all = cs ++ command.Poll name ∷ later
+
+  nothing : Marks
+  nothing = record { of_ref = λ i. None; loaded = [] }
+
+  first : Reaches nothing d
+  unfolding nothing
+  first =
+      let positive : 0 < ref = omega (arith, from.first_ref) in
+      after-agrees cs (range-left cs _ ranged) d0 (start_good most_records handle ref positive) (start-is pool handle ref files from)
+      nothing (record { born = λ i low. refl; unloaded = λ r i low has. has; of_tasks = λ h. tt; mail = tt })
+
+  is-desk : IsDesk d
+  is-desk = after-is d0 cs (range-left cs _ ranged) (start-is pool handle ref files from)
+
+  good : Good (offered d0 cs) (is_edited d0 cs) (view d)
+  good =
+      let positive : 0 < ref = omega (arith, from.first_ref) in
+      kept_good cs (range-left cs _ ranged) d0 (start_good most_records handle ref positive) (start-is pool handle ref files from)
+
+  last : Reaches first.marks (after d0 all)
+  last = subst (Reaches first.marks) (sym (after-joined cs (command.Poll name ∷ later) d0))
+      (after-agrees (command.Poll name ∷ later) (range-right cs _ ranged) d good is-desk first.marks first.desk)
+
+  loaded : Loaded last.marks x.recipient x.id
+  loaded = last.more.loads x.recipient x.id (told-loaded first.marks d (fits d is-desk) first.desk good name x told)
+
+  says-done : (t : Task) (w : Incoming) → task_at x.recipient (after d0 all) ≡ Some t → Has w t.taking → in_id w ≡ x.id →
+      is_done w ≡ true
+  says-done t w at has q =
+      loaded-done last.marks x.recipient x.id w
+      (all-has (InAgrees last.marks x.recipient) t.taking w (own-of (after d0 all) last.desk x.recipient t at).ins has) q loaded
+
+  -- what is held of a record that says Done
+  held-whole : (got : List ℕ) → held d0 all x.id x.recipient ≡ Some got → offered d0 all x.id ≡ Some got
+  held-whole got q = of_task (task_at x.recipient (after d0 all)) refl q
+    where
+      by_record : (t : Task) → task_at x.recipient (after d0 all) ≡ Some t → (w : Incoming) → Has w t.taking → in_id w ≡ x.id →
+          is_done w ≡ true → offered d0 all x.id ≡ Some got
+      by_record t at (incoming.Fetching f) has mine never = absurd cc
+      by_record t at (incoming.Draining f) has mine never = absurd cc
+      by_record t at (incoming.Asking r) has mine never = absurd cc
+      by_record t at (incoming.Failed i k n) has mine never = absurd cc
+      by_record t at (incoming.Done i k n) has mine says =
+          (always_safe pool handle ref files all from ranged x.id x.recipient).whole got k n t q at
+          (contains_of t.taking _ (subst (λ j. Has (incoming.Done j k n) t.taking) mine has))
+
+      of_record : (t : Task) → task_at x.recipient (after d0 all) ≡ Some t → (o : Option Incoming) →
+          find (λ w. in_id w == x.id) t.taking ≡ o → document_of t (is_edited d0 all x.recipient x.id) o ≡ Some got → offered d0 all x.id ≡ Some got
+      of_record t at None e never = absurd (none_some None refl never)
+      of_record t at (Some w) e there =
+          let found = first_is (λ (y : Incoming). in_id y == x.id) t.taking w e in
+          let same : in_id w ≡ x.id = is_equal _ _ found.1 in
+          by_record t at w found.0 same (says-done t w at found.0 same)
+
+      of_task : (o : Option Task) → task_at x.recipient (after d0 all) ≡ o → held_of o x.id (is_edited d0 all x.recipient x.id) ≡ Some got →
+          offered d0 all x.id ≡ Some got
+      of_task None e never = absurd (none_some None refl never)
+      of_task (Some t) e there = of_record t e (find (λ w. in_id w == x.id) t.taking) refl there
+
+  has-all : HasAll d0 all x.id x.recipient
+  has-all = record {
+    done = λ t w at has same. says-done t w at (has_of t.taking w has) same;
+    counts = λ t w at has same.
+        let c = always_counts_offered pool handle ref files all from ranged x.recipient t w at has in
+        let whole = c.all (says-done t w at (has_of t.taking w has) same) in
+        ap (λ i. option_map length (offered d0 all i)) (sym same) ∙ ap (option_map length) c.is ∙ ap Some (sym whole);
+    whole = held-whole;
+  }
+
+pub always-delivers : AlwaysDelivers
+always-delivers pool handle ref files cs later from name x ranged told = has-all pool handle ref files cs later from name x ranged told

@@ -1,0 +1,93 @@
+-- What holds of each queued message, where it holds of those that go back, holds of what a poll or a task's end leaves.
+use Rattle.std.proofs.Common.{◌≡◌, ℕ, not, List, [], ◌∷◌, Option, Some, None}
+use Rattle.std.proofs.Common.{refl, sym, subst, ◌∙◌, inl, inr}
+use Rattle.std.specs.Prelude.{◌==◌, filter, IfSome}
+use Rattle.std.specs.List.{AllByRecursion}
+use Rattle.std.proofs.lemmas.Bool.Decides.{eqb_tells}
+use Rattle.rh_defs.specs.Messages.{Parcel, is_recorded}
+use Rattle.rh_defs.specs.Post.{Post, Seat, as_returned, behind_first, bounce_all, bounce_held, bounced, first_for, has_seat, held_by}
+use Rattle.rh_defs.specs.Post.{post_death, post_poll, taken_from, with_held, without_block}
+use Rattle.rh_defs.proofs.Chains.{chosen}
+use Rattle.rh_defs.proofs.Lists.{append-all, filter-all}
+
+module _ (P : Parcel → Type 0) (back : (p : Parcel) → P (as_returned p)) where
+  -- where it held of the queue it still does, and no ref was given
+  pub record Left (old new : Post) : Type 0 where
+    pub mail : AllByRecursion P old.queued → AllByRecursion P new.queued
+    pub next : new.next_ref ≡ old.next_ref
+
+  left-same : {old new : Post} → new.queued ≡ old.queued → new.next_ref ≡ old.next_ref → Left old new
+  left-same q n = record { mail = λ all. subst (AllByRecursion P) (sym q) all; next = n }
+
+  left-both : {old between new : Post} → Left old between → Left between new → Left old new
+  left-both x y = record { mail = λ all. y.mail (x.mail all); next = y.next ∙ x.next }
+
+  bounced-left : (p : Parcel) (post : Post) → Left post (bounced p post)
+  bounced-left p post =
+      chosen (Left post) (has_seat p.message.from post.seats) _ (without_block p post)
+      (record { mail = λ all. append-all P post.queued _ all (back p); next = refl }) (left-same refl refl)
+
+  bounce_held-left : (h : ℕ) (o : Option Parcel) (post : Post) → Left post (bounce_held h o post)
+  bounce_held-left h None post = left-same refl refl
+  bounce_held-left h (Some p) post =
+      left-both (left-same {new = record post { seats = with_held h None post.seats }} refl refl) (bounced-left p _)
+
+  bounce_all-left : (ps : List Parcel) (post : Post) → Left post (bounce_all ps post)
+  bounce_all-left [] post = left-same refl refl
+  bounce_all-left (p ∷ ps) post =
+      left-both (chosen (Left post) (is_recorded p.code) (bounced p post) (without_block p post) (bounced-left p post)
+      (left-same refl refl)) (bounce_all-left ps _)
+
+  pub death-left : (h : ℕ) (post : Post) → Left post (post_death h post)
+  unfolding post_death
+  death-left h post =
+      let rest : Post = record post {
+        seats = filter (λ (s : Seat). not (s.handle == h)) post.seats;
+        queued = filter (λ (p : Parcel). not (p.to == h)) post.queued;
+      } in
+      left-both (record { mail = λ all. filter-all P (λ (p : Parcel). not (p.to == h)) post.queued all; next = refl })
+      (left-both (bounce_held-left h (held_by h post.seats) rest)
+      (bounce_all-left (filter (λ (p : Parcel). p.to == h) post.queued) (bounce_held h (held_by h post.seats) rest)))
+
+  -- a message that was taken is for the task, and it holds of it
+  pub record IsMine (h : ℕ) (p : Parcel) : Type 0 where
+    pub own : p.to ≡ h
+    pub agrees : P p
+
+  -- the first message for a handle, and the others
+  record IsCut (h : ℕ) (t : Parcel × List Parcel) : Type 0 where
+    first : IsMine h t.0
+    rest : AllByRecursion P t.1
+
+  first-cut : (h : ℕ) (ps : List Parcel) → AllByRecursion P ps → IfSome (first_for h ps) (IsCut h)
+  first-cut h [] all = tt
+  first-cut h (p ∷ ps) all = elim (eqb_tells p.to h) [
+    | inl w ↦ rw w.0 (record { first = record { own = w.1; agrees = all.0 }; rest = all.1 })
+    | inr w ↦ rw w.0 (behind (first_for h ps) (first-cut h ps all.1))
+  ]
+    where
+      behind : (o : Option (Parcel × List Parcel)) → IfSome o (IsCut h) → IfSome (behind_first p o) (IsCut h)
+      behind None is = tt
+      behind (Some t) is = record { first = is.first; rest = (all.0, is.rest) }
+
+  -- what a poll takes, and the post that it leaves
+  pub record IsTaken (h : ℕ) (old : Post) (x : Post × Option Parcel) : Type 0 where
+    pub left : Left old x.0
+    pub mine : AllByRecursion P old.queued → IfSome x.1 (IsMine h)
+
+  taken-is : (h : ℕ) (post : Post) (o : Option (Parcel × List Parcel)) → (AllByRecursion P post.queued → IfSome o (IsCut h)) →
+      IsTaken h post (taken_from h o post)
+  taken-is h post None cut = record { left = left-same refl refl; mine = λ all. tt }
+  taken-is h post (Some t) cut = record {
+    left = chosen (Left post) (is_recorded t.0.code) _ _ (record { mail = λ all. (cut all).rest; next = refl })
+        (record { mail = λ all. (cut all).rest; next = refl });
+    mine = λ all. (cut all).first;
+  }
+
+  pub poll-taken : (h : ℕ) (post : Post) → IsTaken h post (post_poll h post)
+  unfolding post_poll
+  poll-taken h post =
+      let between : Post = bounce_held h (held_by h post.seats) post in
+      let before = bounce_held-left h (held_by h post.seats) post in
+      let w = taken-is h between (first_for h between.queued) (first-cut h between.queued) in
+      record { left = left-both before w.left; mine = λ all. w.mine (before.mail all) }
