@@ -23,6 +23,7 @@ pub mod Queues
 pub mod Deliveries
 pub mod DeliveryPolls
 pub mod DeliveryLaws
+pub mod DeliveredRows
 pub mod Frames
 pub mod FramePolls
 pub mod FrameRows
