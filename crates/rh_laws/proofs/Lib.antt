@@ -32,3 +32,6 @@ pub mod ScrapViews
 pub mod ScrapPolls
 pub mod ScrapTurns
 pub mod ScrapRows
+pub mod WorkPosts
+pub mod WorkTasks
+pub mod WorkPolls

@@ -7,3 +7,4 @@ pub mod Addressed
 pub mod Delivered
 pub mod Frame
 pub mod ScrapTurns
+pub mod Progress
