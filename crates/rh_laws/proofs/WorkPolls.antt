@@ -41,7 +41,7 @@ use Rattle.rh_laws.specs.Progress.{held_work, source_work, work_ahead, work_back
 use Rattle.rh_laws.proofs.Frames.{any-grant}
 use Rattle.rh_laws.proofs.WorkPosts.{Lets, back-less}
 use Rattle.rh_laws.proofs.WorkTasks.{Here, ended-here, ins-here, letter-here, offered_work, outs-here, outs_work, slot-here, slots-here}
-use Rattle.rh_laws.proofs.WorkTasks.{total-with, work_offered}
+use Rattle.rh_laws.proofs.WorkTasks.{names_of, total-with, work_offered}
 
 -- the task's outgoing records stand in order of id, and the source of each open one is what was offered
 pub record Owns (o : Offers) (t : Task) : Type 0 where
@@ -50,22 +50,23 @@ pub record Owns (o : Offers) (t : Task) : Type 0 where
       (x : Sending) → Has (outgoing.Open x) t.sending → (s : Split Flex) → block_of x.anchor t.slot ≡ Some s →
       o x.id ≡ Some s.here.bytes
 
-module _ (o : Offers) (t : Task) (own : Owns o t) (w n : ℕ) (held : Option Parcel) where
+module _ (o : Offers) (t : Task) (own : Owns o t) (w n : ℕ) (held : Option Parcel) (live : List (List ℕ)) where
   abbrev h : ℕ
   h = t.handle
 
   -- the desk on which the message is handled
   abbrev On : Desk → Type 0
-  On d = Here o h t.sending 0 w n held d
+  On d = Here o h t.sending 0 w n held live d
 
   -- after it there is less to do than with the message, which left p
   pub record Falls (p : ℕ) (r : Handled) : Type 0 where
     pub work : work_offered o r.0 + held_work held + 1 ≤ w + p
     pub next : r.0.post.next_ref ≤ n + 1
+    pub names : names_of r.0.tasks ≡ live
 
   -- after a letter of so much work
   abbrev Sent : ℕ → Desk → Type 0
-  Sent more e = (k : Option Parcel) × Here o h t.sending (0 + held_work held) (w + more) (n + 1) k e
+  Sent more e = (k : Option Parcel) × Here o h t.sending (0 + held_work held) (w + more) (n + 1) k live e
 
   module _ {p : ℕ} (room : held_work held + 1 ≤ p) where
     -- no message was sent
@@ -73,6 +74,7 @@ module _ (o : Offers) (t : Task) (own : Owns o t) (w n : ℕ) (held : Option Par
     plain-falls d x is = record {
       work = let y = is.work in omega (arith, y, room);
       next = let y = is.next in omega (arith, y);
+      names = is.names;
     }
 
   -- a letter was sent, of less work than the message's
@@ -80,6 +82,7 @@ module _ (o : Offers) (t : Task) (own : Owns o t) (w n : ℕ) (held : Option Par
   sent-falls more less d x is = record {
     work = let y = is.1.work in omega (arith, y, less);
     next = let y = is.1.next in omega (arith, y);
+    names = is.1.names;
   }
 
   -- ---- outgoing records written anew
@@ -148,7 +151,7 @@ module _ (o : Offers) (t : Task) (own : Owns o t) (w n : ℕ) (held : Option Par
         let y = outs-here o edit 0 0 less d is in
         let work = y.0 in
         let next = y.1 in
-        record { work = omega (arith, work, room); next = omega (arith, next) }
+        record { work = omega (arith, work, room); next = omega (arith, next); names = y.2 }
 
     refused-falls : {p : ℕ} → held_work held + 1 ≤ p → (x : Sending) → Has (outgoing.Open x) t.sending → (r : Refusal) →
         Falls p (refused d t x r)
@@ -166,7 +169,7 @@ module _ (o : Offers) (t : Task) (own : Owns o t) (w n : ℕ) (held : Option Par
         (sent-outs x has amount (next_ref d) source offers some) _ here in
         let work = y.0 in
         let next = y.1 in
-        granted (record { work = omega (arith, work); next = omega (arith, next) })
+        granted (record { work = omega (arith, work); next = omega (arith, next); names = y.2 })
 
     answer_fetch-falls : held_work held + 1 ≤ 8 → (buffer amount : ℕ) (v : Option Sending) →
         ((x : Sending) → v ≡ Some x → Has (outgoing.Open x) t.sending × (1 ≤ amount)) → Falls 8 (answer_fetch d t m buffer amount v)
@@ -187,14 +190,14 @@ module _ (o : Offers) (t : Task) (own : Owns o t) (w n : ℕ) (held : Option Par
     unfolding save_scrap
     save_scrap-falls x has source =
         granted-past _ _ _ λ busy. granted-both _ (any-grant _) λ y u. granted-past _ _ _ λ room.
-        granted-with _ (letter-here o _ refl lets _ (record { work = is.work; sends = is.sends; holds = is.holds; next = is.next })) λ sent all.
+        granted-with _ (letter-here o _ refl lets _ (record { work = is.work; sends = is.sends; holds = is.holds; next = is.next; names = is.names })) λ sent all.
         let file : Scrap = record { load = next_ref d; bytes = source.here.bytes } in
-        let here : Here o h t.sending (0 + held_work held) (w + 4) (n + 1) all.0 (record sent { scrap = Some file }) =
-        record { work = all.1.work; sends = all.1.sends; holds = all.1.holds; next = all.1.next } in
+        let here : Here o h t.sending (0 + held_work held) (w + 4) (n + 1) all.0 live (record sent { scrap = Some file }) =
+        record { work = all.1.work; sends = all.1.sends; holds = all.1.holds; next = all.1.next; names = all.1.names } in
         let z = outs-here o (sender.saved x (next_ref d)) 0 0 (saved-outs x has (next_ref d)) _ here in
         let work = z.0 in
         let next = z.1 in
-        granted (record { work = omega (arith, work); next = omega (arith, next) })
+        granted (record { work = omega (arith, work); next = omega (arith, next); names = z.2 })
 
     answer_ack-falls : held_work held + 1 ≤ 5 → (v : Option Sending) →
         ((x : Sending) → v ≡ Some x → Has (outgoing.Open x) t.sending) → Falls 5 (answer_ack d t m v)
@@ -301,7 +304,7 @@ module _ (o : Offers) (t : Task) (own : Owns o t) (w n : ℕ) (held : Option Par
         chosen (Falls 4) _ _ _
         (or_else-keeps (Falls 4) _
         (granted-with _ (appended-here d is q.anchor file.bytes) λ longer all.
-        granted (loaded-falls m lets (record longer { scrap = None }) (record { work = all.work; sends = all.sends; holds = all.holds; next = all.next })
+        granted (loaded-falls m lets (record longer { scrap = None }) (record { work = all.work; sends = all.sends; holds = all.holds; next = all.next; names = all.names })
         room q (length file.bytes)))
         (λ refusal. ins-falls d is room _ _))
         (plain-falls room d _ is)

@@ -1,7 +1,7 @@
 -- What a desk leaves to do, by what was offered: what edits of tasks, and letters sent, make of it.
 use Rattle.std.proofs.Common.{◌≡◌, ◌≢◌, ℕ, ◌+◌, ◌≤◌, ◌<◌, true, List, [], ◌∷◌, length, Option, Some, None}
 use Rattle.std.proofs.Common.{refl, sym, ap, subst, ◌∙◌, inl, inr, arith}
-use Rattle.std.specs.Prelude.{◌==◌, if◌then◌else◌, nat_eq}
+use Rattle.std.specs.Prelude.{◌==◌, map, if◌then◌else◌, nat_eq}
 use Rattle.std.proofs.lemmas.Bool.{eq-eqb}
 use Rattle.std.proofs.lemmas.Bool.Decides.{eqb_tells}
 use Rattle.rh_defs.specs.declared.message.Letter.{Letter}
@@ -60,6 +60,17 @@ total-with size f x v (y ∷ xs) up (inr has) =
       | inr w ↦ rw w.0 (omega (arith, z))
     ]
 
+-- the names of the tasks
+abbrev pub names_of : List Task → List (List ℕ)
+names_of tasks = map (λ (t : Task). t.name) tasks
+
+same-names : (h : ℕ) (f : Task → Task) → ((t : Task) → (f t).name ≡ t.name) → (ts : List Task) → names_of (edit_task h f ts) ≡ names_of ts
+same-names h f same [] = refl
+same-names h f same (t ∷ ts) = elim (eqb_tells t.handle h) [
+  | inl w ↦ rw w.0 (ap (λ (name : List ℕ). name ∷ names_of ts) (same t))
+  | inr w ↦ rw w.0 (ap (λ (names : List (List ℕ)). t.name ∷ names) (same-names h f same ts))
+]
+
 module _ (o : Offers) where
   abbrev pub tasks_work : List Task → ℕ
   tasks_work tasks = total (λ (t : Task). outs_work o t.sending) tasks
@@ -95,42 +106,45 @@ module _ (o : Offers) where
   -- ---- desks on which a message is handled
 
   -- The work and c more is no more than w; the task of the handle has these transfers going out, and holds this.
-  pub record Here (h : ℕ) (outs : List Outgoing) (c w n : ℕ) (held : Option Parcel) (d : Desk) : Type 0 where
+  pub record Here (h : ℕ) (outs : List Outgoing) (c w n : ℕ) (held : Option Parcel) (live : List (List ℕ)) (d : Desk) : Type 0 where
     pub work : work_offered d + c ≤ w
     pub sends : sending_of h d.tasks ≡ outs
     pub holds : held_by h d.post.seats ≡ held
     pub next : d.post.next_ref ≡ n
+    pub names : names_of d.tasks ≡ live
 
-  module _ {h : ℕ} {outs : List Outgoing} {c w n : ℕ} {held : Option Parcel} where
+  module _ {h : ℕ} {outs : List Outgoing} {c w n : ℕ} {held : Option Parcel} {live : List (List ℕ)} where
     pub task-here : (k : ℕ) (f : Task → Task) → ((t : Task) → (f t).handle ≡ t.handle) → ((t : Task) → (f t).sending ≡ t.sending) →
-        (d : Desk) → Here h outs c w n held d → Here h outs c w n held (with_task k f d)
+        ((t : Task) → (f t).name ≡ t.name) → (d : Desk) → Here h outs c w n held live d → Here h outs c w n held live (with_task k f d)
     unfolding with_task
-    task-here k f same keeps d is = record {
+    task-here k f same keeps named d is = record {
       work = let z = same-work k f keeps d.tasks in let y = is.work in omega (arith, y, z);
       sends = change_other (λ t. t.sending) [] k f same keeps d.tasks h ∙ is.sends;
       holds = is.holds;
       next = is.next;
+      names = same-names k f named d.tasks ∙ is.names;
     }
 
-    pub slots-here : (k : ℕ) (f : Slot → Slot) (d : Desk) → Here h outs c w n held d →
-        Here h outs c w n held (with_task k (λ (t : Task). record t { slot = f t.slot }) d)
-    slots-here k f d is = task-here k (λ (t : Task). record t { slot = f t.slot }) (λ t. refl) (λ t. refl) d is
+    pub slots-here : (k : ℕ) (f : Slot → Slot) (d : Desk) → Here h outs c w n held live d →
+        Here h outs c w n held live (with_task k (λ (t : Task). record t { slot = f t.slot }) d)
+    slots-here k f d is = task-here k (λ (t : Task). record t { slot = f t.slot }) (λ t. refl) (λ t. refl) (λ t. refl) d is
 
-    pub slot-here : (k : ℕ) (s : Slot) (d : Desk) → Here h outs c w n held d → Here h outs c w n held (with_slot k s d)
+    pub slot-here : (k : ℕ) (s : Slot) (d : Desk) → Here h outs c w n held live d → Here h outs c w n held live (with_slot k s d)
     slot-here k s d is = slots-here k (λ old. s) d is
 
-    pub ins-here : (k : ℕ) (edit : List Incoming → List Incoming) (d : Desk) → Here h outs c w n held d →
-        Here h outs c w n held (with_taking k edit d)
-    ins-here k edit d is = task-here k (λ (t : Task). record t { taking = edit t.taking }) (λ t. refl) (λ t. refl) d is
+    pub ins-here : (k : ℕ) (edit : List Incoming → List Incoming) (d : Desk) → Here h outs c w n held live d →
+        Here h outs c w n held live (with_taking k edit d)
+    ins-here k edit d is = task-here k (λ (t : Task). record t { taking = edit t.taking }) (λ t. refl) (λ t. refl) (λ t. refl) d is
 
-    pub ended-here : (k : ℕ) (f : Taking) (edit : List Incoming → List Incoming) (d : Desk) → Here h outs c w n held d →
-        Here h outs c w n held (ended k f edit d)
+    pub ended-here : (k : ℕ) (f : Taking) (edit : List Incoming → List Incoming) (d : Desk) → Here h outs c w n held live d →
+        Here h outs c w n held live (ended k f edit d)
     unfolding ended
-    ended-here k f edit d is = ins-here k edit _ (task-here k _ (λ t. refl) (λ t. refl) d is)
+    ended-here k f edit d is = ins-here k edit _ (task-here k _ (λ t. refl) (λ t. refl) (λ t. refl) d is)
 
     -- other transfers going out
     pub outs-here : (edit : List Outgoing → List Outgoing) (a b : ℕ) → outs_work o (edit outs) + a ≤ outs_work o outs + b →
-        (d : Desk) → Here h outs c w n held d → (work_offered (with_sending h edit d) + (c + a) ≤ w + b) × ((with_sending h edit d).post.next_ref ≡ n)
+        (d : Desk) → Here h outs c w n held live d → (work_offered (with_sending h edit d) + (c + a) ≤ w + b) × ((with_sending h edit d).post.next_ref ≡ n)
+        × (names_of (with_sending h edit d).tasks ≡ live)
     unfolding with_task
     outs-here edit a b less d is = (
           let y = is.work in
@@ -139,23 +153,25 @@ module _ (o : Offers) where
           let q : outs_work o (edit (sending_of h d.tasks)) ≡ outs_work o (edit outs) = ap (λ vs. outs_work o (edit vs)) is.sends in
           omega (arith, y, z, p, q, less),
           is.next,
+          same-names h (λ (t : Task). record t { sending = edit t.sending }) (λ t. refl) d.tasks ∙ is.names,
     )
 
   -- a letter of the task that answers what it holds
-  pub letter-here : {h : ℕ} {outs : List Outgoing} {c w n : ℕ} {held : Option Parcel} (l : Letter) → l.from ≡ h → Lets l.your_ref held →
-      (d : Desk) → Here h outs c w n held d →
-      OnGrant (λ e. (k : Option Parcel) × Here h outs (c + held_work held) (w + work_ahead l.body) (n + 1) k e) (send_letter l d)
+  pub letter-here : {h : ℕ} {outs : List Outgoing} {c w n : ℕ} {held : Option Parcel} {live : List (List ℕ)} (l : Letter) → l.from ≡ h → Lets l.your_ref held →
+      (d : Desk) → Here h outs c w n held live d →
+      OnGrant (λ e. (k : Option Parcel) × Here h outs (c + held_work held) (w + work_ahead l.body) (n + 1) k live e) (send_letter l d)
   unfolding send_letter
-  letter-here {h} {outs} {c} {w} {n} {held} l from lets d is =
+  letter-here {h} {outs} {c} {w} {n} {held} {live} l from lets d is =
       granted-with _ (sent-is (free_pages d) l held d.post (ap (λ k. held_by k d.post.seats) from ∙ is.holds) lets) λ x z.
-      granted (held_by h x.0.seats, task-here l.from (λ (t : Task). record t { last_sent = Some (l, x.1) }) (λ t. refl) (λ t. refl)
+      granted (held_by h x.0.seats, task-here l.from (λ (t : Task). record t { last_sent = Some (l, x.1) }) (λ t. refl) (λ t. refl) (λ t. refl)
       (with_post x.0 d) (posted x.0 z.work z.next))
     where
       posted : (p : Post) → post_work p + held_work held ≤ post_work d.post + work_ahead l.body → p.next_ref ≡ d.post.next_ref + 1 →
-          Here h outs (c + held_work held) (w + work_ahead l.body) (n + 1) (held_by h p.seats) (with_post p d)
+          Here h outs (c + held_work held) (w + work_ahead l.body) (n + 1) (held_by h p.seats) live (with_post p d)
       posted p less next = record {
         work = let y = is.work in omega (arith, y, less);
         sends = is.sends;
         holds = refl;
         next = let y = is.next in omega (arith, next, y);
+        names = is.names;
       }
