@@ -35,3 +35,4 @@ pub mod ScrapRows
 pub mod WorkPosts
 pub mod WorkTasks
 pub mod WorkPolls
+pub mod WorkTurns
