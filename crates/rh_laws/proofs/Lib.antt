@@ -36,3 +36,4 @@ pub mod WorkPosts
 pub mod WorkTasks
 pub mod WorkPolls
 pub mod WorkTurns
+pub mod ProgressLaws

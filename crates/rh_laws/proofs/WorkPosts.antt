@@ -44,10 +44,15 @@ queued-most User b = omega arith
 queued-most Recorded b = omega arith
 queued-most Acknowledge b = let z = back-less b in omega (arith, z)
 
-queued-some : (c : EventCode) (b : Body) → 1 ≤ work_queued c b
+pub queued-some : (c : EventCode) (b : Body) → 1 ≤ work_queued c b
 queued-some User b = let z = back-less b in omega (arith, z)
 queued-some Recorded b = let z = back-less b in omega (arith, z)
 queued-some Acknowledge b = back-some b
+
+-- what is held leaves something to do
+pub held-some : (held : Option Parcel) → held_work held ≡ 0 → held ≡ None
+held-some None e = refl
+held-some (Some p) e = absurd (let z = back-some p.message.body in omega (arith, z, e))
 
 -- ---- seats
 
