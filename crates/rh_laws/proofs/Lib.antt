@@ -37,3 +37,4 @@ pub mod WorkTasks
 pub mod WorkPolls
 pub mod WorkTurns
 pub mod ProgressLaws
+pub mod ProgressRows

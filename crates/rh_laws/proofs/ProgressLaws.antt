@@ -1,11 +1,10 @@
 -- Polls alone: the messages that are taken, and rounds of all tasks, after which the post is at rest.
 use Rattle.std.proofs.Common.{◌≡◌, ℕ, ◌+◌, ◌≤◌, Bool, true, false, List, [], ◌∷◌, ◌++◌, length, Option, Some, None}
 use Rattle.std.proofs.Common.{refl, sym, ap, subst, ◌∙◌, ◌⊎◌, inl, inr, arith}
-use Rattle.std.specs.Prelude.{◌==◌, ◌&&◌, find, if◌then◌else◌, filter, map, nat_eq, Ok, Err}
+use Rattle.std.specs.Prelude.{◌==◌, ◌&&◌, find, if◌then◌else◌, filter, nat_eq, Ok, Err}
 use Rattle.std.specs.List.{AllByRecursion, Contains}
 use Rattle.std.proofs.lemmas.Bool.{eq-eqb}
 use Rattle.std.proofs.lemmas.Slice.Eq.{bytes_eq-Decides}
-use Rattle.std.specs.Str.{bytes_eq}
 use Rattle.rh_defs.specs.declared.command.Command.{Command}
 use Rattle.rh_defs.specs.declared.command.Command.TheVariants as command
 use Rattle.rh_defs.specs.declared.refusal.Refusal.TheVariants.{NoName}
@@ -13,8 +12,7 @@ use Rattle.rh_defs.specs.declared.reply.Reply.{Reply}
 use Rattle.rh_defs.specs.declared.reply.Reply.TheVariants as reply
 use Rattle.rh_defs.specs.Chain.{Granted, ◌>>=◌, found_or, or_else}
 use Rattle.rh_defs.specs.Pieces.{total}
-use Rattle.rh_defs.specs.Files.{FileList}
-use Rattle.rh_defs.specs.Laws.{Always, IsDesk, IsQueued, IsStart}
+use Rattle.rh_defs.specs.Laws.{IsDesk, IsQueued}
 use Rattle.rh_defs.specs.Messages.{Parcel}
 use Rattle.rh_defs.specs.Post.{Post, Seat, bounce_held, first_for, has_seat, held_by, post_poll, taken, taken_from}
 use Rattle.rh_defs.specs.Range.{all_in_range, in_range}
@@ -24,20 +22,20 @@ use Rattle.rh_defs.specs.Step.{poll, poll_taken, step}
 use Rattle.rh_defs.proofs.Steps.{after-is, start-is, step-keeps}
 use Rattle.rh_safety.specs.Names.{HaveOwnNames}
 use Rattle.rh_safety.proofs.Ends.{Edits, Has, Offers}
-use Rattle.rh_safety.proofs.Basics.{and_left, and_right, first_is, has_of, is_equal, none_some}
+use Rattle.rh_safety.proofs.Basics.{and_left, and_right, first_is, has_of, none_some}
 use Rattle.rh_safety.proofs.Invariant.{Good}
 use Rattle.rh_safety.proofs.NameLaws.{always_own_names}
 use Rattle.rh_safety.proofs.SeenDesks.{fits}
-use Rattle.rh_safety.proofs.SeenFrames.{Fits, HaveOwnSeats}
+use Rattle.rh_safety.proofs.SeenFrames.{HaveOwnSeats}
 use Rattle.rh_safety.proofs.SeenLaws.{good_after, keeps}
 use Rattle.rh_safety.proofs.SeenTasks.{found_task}
 use Rattle.rh_safety.proofs.View.{of, task_of, view}
-use Rattle.rh_laws.specs.Progress.{AlwaysProgresses, ComesToRest, IsAtRest, NamesAll, Progresses, WorksOff, events, held_work, is_event}
-use Rattle.rh_laws.specs.Progress.{parcel_work, polls, post_work, rounds_of, work}
+use Rattle.rh_laws.specs.Progress.{AlwaysProgresses, IsAtRest, NamesAll, events, held_work, is_event}
+use Rattle.rh_laws.specs.Progress.{parcel_work, polls, post_work, rounds_of}
 use Rattle.rh_laws.proofs.Addresses.{all-has}
 use Rattle.rh_laws.proofs.WorkPosts.{IsIdle, held-some, queued-some}
 use Rattle.rh_laws.proofs.WorkTasks.{names_of, tasks_work, work_offered}
-use Rattle.rh_laws.proofs.WorkTurns.{Busy, Idle, turn, work-is}
+use Rattle.rh_laws.proofs.WorkTurns.{turn, work-is}
 
 -- ---- replies
 

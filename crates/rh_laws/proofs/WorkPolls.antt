@@ -1,7 +1,7 @@
 -- Each message that a poll handles leaves less to do than before it was taken.
 use Rattle.std.proofs.Common.{◌≡◌, ℕ, suc, ◌+◌, ◌-◌, ◌*◌, ◌≤◌, Bool, true, false, List, length, take, drop, Option, Some, None}
-use Rattle.std.proofs.Common.{refl, sym, ap, subst, ◌∙◌, inl, inr, arith}
-use Rattle.std.specs.Prelude.{nat_lt, nat_le, ◌==◌, ◌&&◌, Ok, if◌then◌else◌, min}
+use Rattle.std.proofs.Common.{refl, sym, ap, subst, inl, inr, arith}
+use Rattle.std.specs.Prelude.{nat_lt, nat_le, Ok, if◌then◌else◌, min}
 use Rattle.std.proofs.lemmas.Bool.Decides.{leb_tells}
 use Rattle.rh_defs.specs.declared.refusal.Refusal.{Refusal}
 use Rattle.rh_defs.specs.declared.reply.Outcome.{Outcome}
@@ -9,7 +9,6 @@ use Rattle.rh_defs.specs.declared.message.Body.{Body}
 use Rattle.rh_defs.specs.declared.message.Body.TheVariants as body
 use Rattle.rh_defs.specs.declared.message.EventCode.{EventCode}
 use Rattle.rh_defs.specs.declared.message.EventCode.TheVariants.{User, Recorded, Acknowledge}
-use Rattle.rh_defs.specs.declared.message.Letter.{Letter}
 use Rattle.rh_defs.specs.declared.transfer.Asked.{Asked}
 use Rattle.rh_defs.specs.declared.transfer.Sending.{Sending}
 use Rattle.rh_defs.specs.declared.transfer.Taking.{Taking}
@@ -21,14 +20,12 @@ use Rattle.rh_defs.specs.declared.refusal.Refusal.TheVariants.{NoBlock}
 use Rattle.rh_defs.specs.Pieces.{Split}
 use Rattle.rh_defs.specs.Slot.{Flex, block_of, slot_block}
 use Rattle.rh_defs.specs.Messages.{Parcel}
-use Rattle.rh_defs.specs.Letters.{ack_letter, fetch_letter, load_ack_letter, load_letter, transmit_letter}
 use Rattle.rh_defs.specs.Records.{open_of, out_id}
 use Rattle.rh_defs.specs.Sender as sender
-use Rattle.rh_defs.specs.Receiver as receiver
 use Rattle.rh_defs.specs.Desk.{Desk, Scrap, Task, next_ref, with_sending, with_taking}
 use Rattle.rh_defs.specs.Places.{buffer_at, written_in}
-use Rattle.rh_defs.specs.OutgoingEvents.{Handled, answer_ack, answer_fetch, fail_sending, finish_load, ignored, portion, refused}
-use Rattle.rh_defs.specs.OutgoingEvents.{save_scrap, transmit, wider}
+use Rattle.rh_defs.specs.OutgoingEvents.{Handled, answer_ack, answer_fetch, fail_sending, finish_load, portion, refused}
+use Rattle.rh_defs.specs.OutgoingEvents.{save_scrap, transmit}
 use Rattle.rh_defs.specs.IncomingEvents.{accept, ack_back, appended, ask, ended, fetch_back, fetch_more, load_file, loaded}
 use Rattle.rh_defs.specs.IncomingEvents.{take_bytes, take_file, take_save, took}
 use Rattle.rh_defs.specs.Transfer.{came, came_back, handled}
@@ -39,7 +36,7 @@ use Rattle.rh_safety.proofs.Basics.{Ascend, and_right, open_is}
 use Rattle.rh_safety.proofs.SeenFrames.{is_found}
 use Rattle.rh_laws.specs.Progress.{held_work, source_work, work_ahead, work_back, work_queued}
 use Rattle.rh_laws.proofs.Frames.{any-grant}
-use Rattle.rh_laws.proofs.WorkPosts.{Lets, back-less}
+use Rattle.rh_laws.proofs.WorkPosts.{Lets}
 use Rattle.rh_laws.proofs.WorkTasks.{Here, ended-here, ins-here, letter-here, offered_work, outs-here, outs_work, slot-here, slots-here}
 use Rattle.rh_laws.proofs.WorkTasks.{names_of, total-with, work_offered}
 

@@ -1,7 +1,7 @@
 -- What the post leaves to do: with each letter sent, each bounce and each message taken.
-use Rattle.std.proofs.Common.{◌≡◌, ℕ, ◌+◌, ◌≤◌, Bool, true, List, [], ◌∷◌, ◌++◌, Option, Some, None}
+use Rattle.std.proofs.Common.{◌≡◌, ℕ, ◌+◌, ◌≤◌, true, List, [], ◌∷◌, ◌++◌, Option, Some, None}
 use Rattle.std.proofs.Common.{refl, sym, ap, subst, ◌∙◌, ◌⊎◌, inl, inr, arith}
-use Rattle.std.specs.Prelude.{◌==◌, if◌then◌else◌, nat_eq, IfSome}
+use Rattle.std.specs.Prelude.{if◌then◌else◌, nat_eq, IfSome}
 use Rattle.std.proofs.lemmas.Bool.{eq-eqb}
 use Rattle.std.proofs.lemmas.Bool.Decides.{eqb_tells}
 use Rattle.rh_defs.specs.declared.message.Body.{Body}
@@ -12,7 +12,7 @@ use Rattle.rh_defs.specs.declared.message.Letter.{Letter}
 use Rattle.rh_defs.specs.Heap.{Heap}
 use Rattle.rh_defs.specs.Pieces.{total}
 use Rattle.rh_defs.specs.Messages.{Parcel, is_recorded}
-use Rattle.rh_defs.specs.Post.{Post, Seat, answers_held, as_returned, behind_first, bounce_held, bounced, first_for, has_seat, held_by}
+use Rattle.rh_defs.specs.Post.{Post, Seat, answers_held, as_returned, behind_first, bounce_held, first_for, has_seat, held_by}
 use Rattle.rh_defs.specs.Post.{held_or_released, parcel_of, post_poll, post_send, put_down, queued_in, taken_from, with_held, without_block}
 use Rattle.rh_defs.proofs.Chains.{OnGrant, chosen, granted, granted-both, granted-then}
 use Rattle.rh_defs.proofs.Cuts.{total-append}

@@ -1,7 +1,7 @@
 -- What a desk leaves to do, by what was offered: what edits of tasks, and letters sent, make of it.
-use Rattle.std.proofs.Common.{◌≡◌, ◌≢◌, ℕ, ◌+◌, ◌≤◌, ◌<◌, true, List, [], ◌∷◌, length, Option, Some, None}
-use Rattle.std.proofs.Common.{refl, sym, ap, subst, ◌∙◌, inl, inr, arith}
-use Rattle.std.specs.Prelude.{◌==◌, map, if◌then◌else◌, nat_eq}
+use Rattle.std.proofs.Common.{◌≡◌, ◌≢◌, ℕ, ◌+◌, ◌≤◌, true, List, [], ◌∷◌, Option, Some}
+use Rattle.std.proofs.Common.{refl, ap, ◌∙◌, inl, inr, arith}
+use Rattle.std.specs.Prelude.{map, nat_eq}
 use Rattle.std.proofs.lemmas.Bool.{eq-eqb}
 use Rattle.std.proofs.lemmas.Bool.Decides.{eqb_tells}
 use Rattle.rh_defs.specs.declared.message.Letter.{Letter}
@@ -12,9 +12,9 @@ use Rattle.rh_defs.specs.declared.transfer.Taking.{Taking}
 use Rattle.rh_defs.specs.Pieces.{total}
 use Rattle.rh_defs.specs.Messages.{Parcel}
 use Rattle.rh_defs.specs.Post.{Post, held_by}
-use Rattle.rh_defs.specs.Records.{out_id, with_id}
+use Rattle.rh_defs.specs.Records.{with_id}
 use Rattle.rh_defs.specs.Slot.{Slot}
-use Rattle.rh_defs.specs.Desk.{Desk, Task, edit_task, free_pages, next_ref, send_letter, with_post, with_sending, with_slot}
+use Rattle.rh_defs.specs.Desk.{Desk, Task, edit_task, free_pages, send_letter, with_post, with_sending, with_slot}
 use Rattle.rh_defs.specs.Desk.{with_taking, with_task}
 use Rattle.rh_defs.specs.IncomingEvents.{ended}
 use Rattle.rh_defs.proofs.Chains.{OnGrant, granted, granted-with}

@@ -1,21 +1,16 @@
 -- A poll of a desk that a run reaches leaves less to do, or the post as it was.
-use Rattle.std.proofs.Common.{◌≡◌, ℕ, ◌+◌, ◌≤◌, Bool, true, false, List, [], ◌∷◌, length, Option, Some, None}
+use Rattle.std.proofs.Common.{◌≡◌, ℕ, ◌+◌, ◌≤◌, Bool, true, false, List, [], ◌∷◌, Option, Some, None}
 use Rattle.std.proofs.Common.{refl, sym, ap, subst, ◌∙◌, ◌⊎◌, inl, inr, arith}
-use Rattle.std.specs.Prelude.{◌==◌, find, if◌then◌else◌, filter, nat_eq, Ok, Err}
+use Rattle.std.specs.Prelude.{◌==◌, if◌then◌else◌, nat_eq, Ok, Err}
 use Rattle.std.specs.Option.{option_map}
 use Rattle.std.proofs.lemmas.Bool.{eq-eqb}
-use Rattle.rh_defs.specs.declared.command.Command.{Command}
 use Rattle.rh_defs.specs.declared.command.Command.TheVariants as command
-use Rattle.rh_defs.specs.declared.message.EventCode.{EventCode}
-use Rattle.rh_defs.specs.declared.refusal.Refusal.{Refusal}
-use Rattle.rh_defs.specs.declared.reply.Reply.{Reply}
 use Rattle.rh_defs.specs.declared.reply.Reply.TheVariants as reply
 use Rattle.rh_defs.specs.declared.transfer.Outgoing.{Outgoing}
 use Rattle.rh_defs.specs.declared.transfer.Outgoing.TheVariants as outgoing
-use Rattle.rh_defs.specs.declared.transfer.Sending.{Sending}
 use Rattle.rh_defs.specs.Chain.{Granted, ◌>>=◌, or_else}
 use Rattle.rh_defs.specs.Pieces.{Split, total}
-use Rattle.rh_defs.specs.Slot.{Flex, Slot, block_of}
+use Rattle.rh_defs.specs.Slot.{Flex}
 use Rattle.rh_defs.specs.Messages.{Parcel}
 use Rattle.rh_defs.specs.Post.{Post, held_by, post_poll}
 use Rattle.rh_defs.specs.Records.{out_id}
@@ -24,17 +19,16 @@ use Rattle.rh_defs.specs.Commands.{Answer}
 use Rattle.rh_defs.specs.Laws.{IsDesk}
 use Rattle.rh_defs.specs.Transfer.{handled}
 use Rattle.rh_defs.specs.Step.{poll, poll_taken, step}
-use Rattle.rh_safety.specs.Offered.{bytes_of_block}
 use Rattle.rh_safety.proofs.Ends.{Edits, Has, Offers}
 use Rattle.rh_safety.proofs.Basics.{Ascend, is_equal}
 use Rattle.rh_safety.proofs.Invariant.{Good}
 use Rattle.rh_safety.proofs.SeenDesks.{fits}
-use Rattle.rh_safety.proofs.SeenFrames.{Fits, the_task}
+use Rattle.rh_safety.proofs.SeenFrames.{the_task}
 use Rattle.rh_safety.proofs.SeenLaws.{block_is}
 use Rattle.rh_safety.proofs.SeenTasks.{Distinct, NotIn, field_is}
 use Rattle.rh_safety.proofs.View.{blocks_of, task_of, view}
-use Rattle.rh_laws.specs.Progress.{events, is_event, out_work, source_work, task_work, work, post_work, work_queued}
-use Rattle.rh_laws.proofs.WorkPosts.{IsIdle, OfTaken, polled-is, Took}
+use Rattle.rh_laws.specs.Progress.{events, out_work, source_work, task_work, work, work_queued}
+use Rattle.rh_laws.proofs.WorkPosts.{IsIdle, OfTaken, polled-is}
 use Rattle.rh_laws.proofs.WorkTasks.{Here, names_of, offered_work, outs_work, tasks_work, work_offered}
 use Rattle.rh_laws.proofs.WorkPolls.{Falls, Owns, handled-falls}
 

@@ -7,6 +7,7 @@ mod frame;
 mod heaps;
 mod lines;
 mod order;
+mod progress;
 mod scrap;
 
 pub use addressed::addressed_law;
@@ -15,4 +16,5 @@ pub use frame::frame_law;
 pub use heaps::describe_law;
 pub use lines::line_law;
 pub use order::refusal_order_law;
+pub use progress::progress_law;
 pub use scrap::scrap_alternation_law;
