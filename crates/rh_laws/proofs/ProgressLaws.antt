@@ -148,7 +148,8 @@ round {o} (name ∷ names) d ranged k =
     ]
   where
     both : (next : Desk) → next.post ≡ d.post → next.tasks ≡ d.tasks →
-        ((t : Task) → named name d ≡ Ok t → IsIdle t.handle d.post (post_poll t.handle d.post).0) → Still next names → (other : List ℕ) → Has other (name ∷ names) → (t : Task) →
+        ((t : Task) → named name d ≡ Ok t → IsIdle t.handle d.post (post_poll t.handle d.post).0) → Still next names →
+        (other : List ℕ) → Has other (name ∷ names) → (t : Task) →
         named other d ≡ Ok t → IsIdle t.handle d.post (post_poll t.handle d.post).0
     both next p q idle s other (inl here) t found = idle t (ap (λ n. named n d) here ∙ found)
     both next p q idle s other (inr has) t found =
@@ -289,7 +290,8 @@ ranged-both : (xs ys : List Command) → all_in_range xs ≡ true → all_in_ran
 ranged-both [] ys p q = q
 ranged-both (x ∷ xs) ys p q = go (in_range x) p (λ rest. ranged-both xs ys rest q)
   where
-    go : (b : Bool) → (b && all_in_range xs) ≡ true → (all_in_range xs ≡ true → all_in_range (xs ++ ys) ≡ true) → (b && all_in_range (xs ++ ys)) ≡ true
+    go : (b : Bool) → (b && all_in_range xs) ≡ true → (all_in_range xs ≡ true → all_in_range (xs ++ ys) ≡ true) →
+        (b && all_in_range (xs ++ ys)) ≡ true
     go true rest more = more rest
     go false rest more = rest
 

@@ -117,7 +117,8 @@ module _ (o : Offers) (t : Task) (own : Owns o t) (w n : ℕ) (held : Option Par
     sent-less : (amount ref : ℕ) (source : Split Flex) → o x.id ≡ Some source.here.bytes → 1 ≤ amount →
         offered_work o (sender.after_sent x (portion x amount source) amount ref) + 2 ≤ offered_work o (outgoing.Open x)
     sent-less amount ref source is some =
-        after-less (portion x amount source) amount ref source.here.bytes is refl some (nat_lt (portion x amount source) amount) (long (portion x amount source))
+        after-less (portion x amount source) amount ref source.here.bytes is refl some (nat_lt (portion x amount source) amount)
+        (long (portion x amount source))
       where
         long : (k : ℕ) → nat_lt k amount ≡ false → amount ≤ k
         long k e = elim (leb_tells (suc k) amount) [
@@ -187,7 +188,13 @@ module _ (o : Offers) (t : Task) (own : Owns o t) (w n : ℕ) (held : Option Par
     unfolding save_scrap
     save_scrap-falls x has source =
         granted-past _ _ _ λ busy. granted-both _ (any-grant _) λ y u. granted-past _ _ _ λ room.
-        granted-with _ (letter-here o _ refl lets _ (record { work = is.work; sends = is.sends; holds = is.holds; next = is.next; names = is.names })) λ sent all.
+        granted-with _ (letter-here o _ refl lets _ (record {
+          work = is.work;
+          sends = is.sends;
+          holds = is.holds;
+          next = is.next;
+          names = is.names;
+        })) λ sent all.
         let file : Scrap = record { load = next_ref d; bytes = source.here.bytes } in
         let here : Here o h t.sending (0 + held_work held) (w + 4) (n + 1) all.0 live (record sent { scrap = Some file }) =
         record { work = all.1.work; sends = all.1.sends; holds = all.1.holds; next = all.1.next; names = all.1.names } in
@@ -301,7 +308,13 @@ module _ (o : Offers) (t : Task) (own : Owns o t) (w n : ℕ) (held : Option Par
         chosen (Falls 4) _ _ _
         (or_else-keeps (Falls 4) _
         (granted-with _ (appended-here d is q.anchor file.bytes) λ longer all.
-        granted (loaded-falls m lets (record longer { scrap = None }) (record { work = all.work; sends = all.sends; holds = all.holds; next = all.next; names = all.names })
+        granted (loaded-falls m lets (record longer { scrap = None }) (record {
+          work = all.work;
+          sends = all.sends;
+          holds = all.holds;
+          next = all.next;
+          names = all.names;
+        })
         room q (length file.bytes)))
         (λ refusal. ins-falls d is room _ _))
         (plain-falls room d _ is)
@@ -319,10 +332,13 @@ module _ (o : Offers) (t : Task) (own : Owns o t) (w n : ℕ) (held : Option Par
     fetch-has : (from your_ref amount : ℕ) (x : Sending) → sender.on_fetch from your_ref amount t.sending ≡ Some x →
         Has (outgoing.Open x) t.sending × (1 ≤ amount)
     fetch-has from your_ref amount x q =
-        let z = open_is (sender.would_answer from your_ref amount) t.sending x q in (z.0, elim (leb_tells 1 amount) [
-          | inl y ↦ y.1
-          | inr y ↦ absurd (let a : nat_le 1 amount ≡ true = and_right _ (nat_le 1 amount) z.1 in let b = y.0 in cc)
-        ])
+        let z = open_is (sender.would_answer from your_ref amount) t.sending x q in (
+          z.0,
+          elim (leb_tells 1 amount) [
+            | inl y ↦ y.1
+            | inr y ↦ absurd (let a : nat_le 1 amount ≡ true = and_right _ (nat_le 1 amount) z.1 in let b = y.0 in cc)
+          ],
+        )
 
     came-falls : (b : Body) → held_work held + 1 ≤ work_ahead b → Falls (work_ahead b) (came d t m b)
     unfolding came

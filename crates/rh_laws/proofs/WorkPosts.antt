@@ -136,8 +136,11 @@ pub sent-is : (room : ℕ) (l : Letter) (held : Option Parcel) (post : Post) →
 unfolding post_send
 sent-is room l held post e lets =
     granted-both _ (any-grant _) λ x u. granted-then _ _ λ there f.
-    granted (subst (λ o. IsSent l held post (if answers_held l.your_ref o then put_down l.from (queued_in l there post)
-    else queued_in l there post, post.next_ref)) (sym e) (posted-is l there post held e lets))
+    granted (subst (λ o. IsSent l held post (
+      if answers_held l.your_ref o then put_down l.from (queued_in l there post)
+          else queued_in l there post,
+      post.next_ref,
+    )) (sym e) (posted-is l there post held e lets))
 
 -- ---- a bounce
 
@@ -230,7 +233,8 @@ took-is h m queue post is none = by_code m.code refl
         }
 
     by_code : (c : EventCode) → m.code ≡ c →
-        Took h m post (if is_recorded c then record post { queued = queue; seats = with_held h (Some m) post.seats } else without_block m (record post { queued = queue }))
+        Took h m post (if is_recorded c then record post { queued = queue; seats = with_held h (Some m) post.seats }
+        else without_block m (record post { queued = queue }))
     by_code User same = free (without_block m (record post { queued = queue })) refl refl refl
     by_code Recorded same = holding same
     by_code Acknowledge same = free (without_block m (record post { queued = queue })) refl refl refl
@@ -270,7 +274,7 @@ polled-is h post = go (held_by h post.seats) refl
 
     go : (held : Option Parcel) → held_by h post.seats ≡ held →
         OfTaken h post (taken_from h (first_for h (bounce_held h held post).queued) (bounce_held h held post)).0
-            (taken_from h (first_for h (bounce_held h held post).queued) (bounce_held h held post)).1
+        (taken_from h (first_for h (bounce_held h held post).queued) (bounce_held h held post)).1
     go held is = after held (bounce_held h held post) (bounced-is h held post is) (bare held) is _ refl
         (first-work h (bounce_held h held post).queued)
       where

@@ -147,13 +147,13 @@ module _ (o : Offers) where
         × (names_of (with_sending h edit d).tasks ≡ live)
     unfolding with_task
     outs-here edit a b less d is = (
-          let y = is.work in
+      let y = is.work in
           let z = edit-work h edit d.tasks in
           let p : outs_work o (sending_of h d.tasks) ≡ outs_work o outs = ap (outs_work o) is.sends in
           let q : outs_work o (edit (sending_of h d.tasks)) ≡ outs_work o (edit outs) = ap (λ vs. outs_work o (edit vs)) is.sends in
           omega (arith, y, z, p, q, less),
-          is.next,
-          same-names h (λ (t : Task). record t { sending = edit t.sending }) (λ t. refl) d.tasks ∙ is.names,
+      is.next,
+      same-names h (λ (t : Task). record t { sending = edit t.sending }) (λ t. refl) d.tasks ∙ is.names,
     )
 
   -- a letter of the task that answers what it holds
@@ -163,8 +163,11 @@ module _ (o : Offers) where
   unfolding send_letter
   letter-here {h} {outs} {c} {w} {n} {held} {live} l from lets d is =
       granted-with _ (sent-is (free_pages d) l held d.post (ap (λ k. held_by k d.post.seats) from ∙ is.holds) lets) λ x z.
-      granted (held_by h x.0.seats, task-here l.from (λ (t : Task). record t { last_sent = Some (l, x.1) }) (λ t. refl) (λ t. refl) (λ t. refl)
-      (with_post x.0 d) (posted x.0 z.work z.next))
+      granted (
+        held_by h x.0.seats,
+        task-here l.from (λ (t : Task). record t { last_sent = Some (l, x.1) }) (λ t. refl) (λ t. refl) (λ t. refl)
+            (with_post x.0 d) (posted x.0 z.work z.next),
+      )
     where
       posted : (p : Post) → post_work p + held_work held ≤ post_work d.post + work_ahead l.body → p.next_ref ≡ d.post.next_ref + 1 →
           Here h outs (c + held_work held) (w + work_ahead l.body) (n + 1) (held_by h p.seats) live (with_post p d)

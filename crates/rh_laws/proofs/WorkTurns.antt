@@ -142,7 +142,7 @@ module _ {o : Offers} {e : Edits} (d : Desk) (name : List ℕ) (is : IsDesk d) (
           names = refl;
         } in
         let z : Falls o t (good-owns d t at g) (work_offered o after) d.post.next_ref held (names_of d.tasks)
-            (work_queued m.code m.message.body) (handled after t m m.code) =
+        (work_queued m.code m.message.body) (handled after t m m.code) =
         handled-falls o t (good-owns d t at g) (work_offered o after) d.post.next_ref held (names_of d.tasks) m w.lets after on m.code w.back w.room in
         let falls = z.work in
         let taken = w.work in

@@ -1,5 +1,6 @@
 -- Polls alone come to rest: what is left to do at a desk, as a number, and that each message taken makes it less.
-use Rattle.std.specs.Prelude.{◌≡◌, ℕ, ◌+◌, ◌-◌, ◌*◌, ◌≤◌, Bool, true, false, List, [], length, map, filter, Option, Some, None}
+use Rattle.std.specs.Prelude.{◌≡◌, ℕ, ◌+◌, ◌-◌, ◌*◌, ◌≤◌, Bool, true, false}
+use Rattle.std.specs.Prelude.{List, [], length, map, filter, Option, Some, None}
 use Rattle.std.specs.List.{AllByRecursion, Contains, flat_map}
 use Rattle.rh_defs.specs.declared.command.Command.{Command}
 use Rattle.rh_defs.specs.declared.command.Command.TheVariants as command
@@ -93,7 +94,8 @@ is_event _ = false
 abbrev pub events : List Reply → ℕ
 events said = length (filter is_event said)
 
--- the messages that the commands take and the work after them are no more than the work before; no more are sent than taken
+-- The messages that the commands take, and the work after them, are no more than the work before; no more messages are
+-- sent than taken.
 pub record WorksOff (d : Desk) (commands : List Command) : Type 0 where
   pub falls : events (replies d commands) + work (after d commands) ≤ work d
   pub sends : next_ref (after d commands) ≤ next_ref d + events (replies d commands)
@@ -117,7 +119,7 @@ ComesToRest d =
     (rounds : List (List (List ℕ))) → all_in_range (rounds_of rounds) ≡ true → AllByRecursion (NamesAll d) rounds →
     work d ≤ length rounds → IsAtRest (after d (rounds_of rounds)).post
 
--- whatever tasks are polled from then on, each message taken leaves less to do; and in rounds of all tasks it comes to rest
+-- whatever tasks are polled from then on, each message taken leaves less to do; rounds of all tasks bring it to rest
 pub record Progresses (d : Desk) : Type 0 where
   pub falls : (names : List (List ℕ)) → all_in_range (polls names) ≡ true → WorksOff d (polls names)
   pub rests : ComesToRest d
