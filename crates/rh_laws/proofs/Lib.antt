@@ -38,3 +38,8 @@ pub mod WorkPolls
 pub mod WorkTurns
 pub mod ProgressLaws
 pub mod ProgressRows
+pub mod RenamedParts
+pub mod RenamedHeaps
+pub mod RenamedSlots
+pub mod RenamedDesks
+pub mod RenamedSteps

@@ -8,3 +8,4 @@ pub mod Delivered
 pub mod Frame
 pub mod ScrapTurns
 pub mod Progress
+pub mod Renaming
