@@ -43,3 +43,4 @@ pub mod RenamedHeaps
 pub mod RenamedSlots
 pub mod RenamedDesks
 pub mod RenamedSteps
+pub mod RenamedPolls
