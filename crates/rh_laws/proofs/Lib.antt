@@ -44,3 +44,5 @@ pub mod RenamedSlots
 pub mod RenamedDesks
 pub mod RenamedSteps
 pub mod RenamedPolls
+pub mod RenamedLaws
+pub mod RenamedRows

@@ -1,30 +1,28 @@
 -- Desks with their bytes renamed: what is found in them, what is edited, and what is asked of them.
 use Rattle.std.proofs.Common.{◌≡◌, ℕ, ◌+◌, ◌-◌, Bool, true, false, cond, List, [], ◌∷◌, ◌++◌, length, map, refl, sym, ap, subst, ◌∙◌}
-use Rattle.std.proofs.lemmas.List.{length-map, map-append}
-use Rattle.std.specs.Prelude.{Option, Some, None, Ok, ◌/◌, ◌==◌, ◌||◌, find}
+use Rattle.std.proofs.lemmas.List.{length-map}
+use Rattle.std.specs.Prelude.{Option, Some, None, ◌/◌, ◌==◌, ◌||◌, find}
 use Rattle.std.specs.List.{list_any, enumerate_from}
 use Rattle.std.specs.Option.{option_map}
 use Rattle.rh_defs.specs.declared.refusal.Refusal.TheVariants.{NoName, NotABlock}
 use Rattle.rh_defs.specs.declared.question.Question.{Question}
 use Rattle.rh_defs.specs.declared.question.Question.TheVariants as question
-use Rattle.rh_defs.specs.declared.reply.Reply.{Reply}
 use Rattle.rh_defs.specs.declared.reply.Reply.TheVariants as reply
 use Rattle.rh_defs.specs.declared.message.Letter.{Letter}
 use Rattle.rh_defs.specs.declared.listing.BlockItem.{BlockItem}
-use Rattle.rh_defs.specs.declared.listing.SegmentItem.{SegmentItem}
 use Rattle.rh_defs.specs.declared.listing.SegmentItem.TheVariants as segment
 use Rattle.rh_defs.specs.declared.listing.AreaItem.{AreaItem}
 use Rattle.rh_defs.specs.declared.listing.AreaItem.TheVariants as item
-use Rattle.rh_defs.specs.Chain.{Granted, ◌>>=◌, ◌>>◌, result_or}
+use Rattle.rh_defs.specs.Chain.{Granted, result_or}
 use Rattle.rh_defs.specs.Pieces.{page, total}
 use Rattle.rh_defs.specs.Heap.{Segment, Used, Hole, first_place, size_of, largest, free_bytes}
 use Rattle.rh_defs.specs.Slot.{Slot, Flex, weight, flex_weight, heap_start, flex_start}
 use Rattle.rh_defs.specs.Post.{Post, post_send, post_is_live}
-use Rattle.rh_defs.specs.Desk.{Desk, Task, Made, Scrap, task_pages, used_pages, free_pages, has_name, named, task_at, idle_block, idle_buffer, edit_task, with_task, with_slot, with_post, kept_scrap, with_delivered, send_letter}
-use Rattle.rh_defs.specs.Listing.{Listed, Bytes, Blocks, Segments, Areas, block_items_from, segment_item, segment_items_from, area_item, shown_at}
+use Rattle.rh_defs.specs.Desk.{Desk, Task, Made, Scrap, task_pages, free_pages, has_name, named, task_at, idle_block, idle_buffer, edit_task, with_task, with_slot, with_post, kept_scrap, with_delivered, send_letter}
+use Rattle.rh_defs.specs.Listing.{Bytes, Blocks, Segments, Areas, block_items_from, segment_item, segment_items_from, area_item}
 use Rattle.rh_defs.specs.Questions.{Told, show, blocks, heap, status, asked}
-use Rattle.rh_defs.proofs.Follows.{Follows, follows-then, follows-equal, follows-as}
-use Rattle.rh_laws.specs.Renaming.{renamed_block, renamed_segment, renamed_slot, renamed_task, renamed_scrap, renamed, renamed_listed, renamed_told, renamed_piece}
+use Rattle.rh_defs.proofs.Follows.{Follows, follows-then, follows-equal}
+use Rattle.rh_laws.specs.Renaming.{renamed_block, renamed_segment, renamed_slot, renamed_task, renamed_scrap, renamed, renamed_listed}
 use Rattle.rh_laws.proofs.RenamedParts.{By, follows-by, found-by, total-map, find-map}
 use Rattle.rh_laws.proofs.RenamedHeaps.{renamed_cut, size-renamed, largest-renamed, free_bytes-renamed}
 use Rattle.rh_laws.proofs.RenamedSlots.{renamed_here, pages-renamed, slot_block-renamed, heap_block_at-renamed}
@@ -152,8 +150,8 @@ module _ (f : ℕ → ℕ) where
   blocks-renamed d name =
       follows-by _ _ (named-renamed name d) λ t.
       Follows.both (
-        ap (λ n. (reply.BlockCount n, Blocks (block_items_from (flex_start t.slot) (map (renamed_block f) t.slot.blocks)))) (length-map t.slot.blocks (renamed_block f))
-        ∙ ap (λ l. (reply.BlockCount (length t.slot.blocks), Blocks l)) (block_items-renamed (flex_start t.slot) t.slot.blocks)
+      ap (λ n. (reply.BlockCount n, Blocks (block_items_from (flex_start t.slot) (map (renamed_block f) t.slot.blocks)))) (length-map t.slot.blocks (renamed_block f))
+      ∙ ap (λ l. (reply.BlockCount (length t.slot.blocks), Blocks l)) (block_items-renamed (flex_start t.slot) t.slot.blocks)
       )
 
   heap-renamed : (d : Desk) (name : List ℕ) → Follows (By retold) (heap d name) (heap (renamed f d) name)
@@ -161,9 +159,9 @@ module _ (f : ℕ → ℕ) where
   heap-renamed d name =
       follows-by _ _ (named-renamed name d) λ t.
       Follows.both (
-        ap (λ n. (reply.HeapSums t.slot.heap.end n (free_bytes (renamed_slot f t.slot).heap), Segments (segment_items_from (heap_start + first_place) (map (renamed_segment f) t.slot.heap.segments)))) (largest-renamed f t.slot.heap)
-        ∙ ap (λ n. (reply.HeapSums t.slot.heap.end (largest t.slot.heap) n, Segments (segment_items_from (heap_start + first_place) (map (renamed_segment f) t.slot.heap.segments)))) (free_bytes-renamed f t.slot.heap)
-        ∙ ap (λ l. (reply.HeapSums t.slot.heap.end (largest t.slot.heap) (free_bytes t.slot.heap), Segments l)) (segment_items-renamed (heap_start + first_place) t.slot.heap.segments)
+      ap (λ n. (reply.HeapSums t.slot.heap.end n (free_bytes (renamed_slot f t.slot).heap), Segments (segment_items_from (heap_start + first_place) (map (renamed_segment f) t.slot.heap.segments)))) (largest-renamed f t.slot.heap)
+      ∙ ap (λ n. (reply.HeapSums t.slot.heap.end (largest t.slot.heap) n, Segments (segment_items_from (heap_start + first_place) (map (renamed_segment f) t.slot.heap.segments)))) (free_bytes-renamed f t.slot.heap)
+      ∙ ap (λ l. (reply.HeapSums t.slot.heap.end (largest t.slot.heap) (free_bytes t.slot.heap), Segments l)) (segment_items-renamed (heap_start + first_place) t.slot.heap.segments)
       )
 
   status-renamed : (d : Desk) (name : List ℕ) → Follows (By retold) (status d name) (status (renamed f d) name)
@@ -177,9 +175,9 @@ module _ (f : ℕ → ℕ) where
   asked-renamed d (question.Status name) = status-renamed d name
   asked-renamed d question.Areas =
       Follows.both (
-        ap (λ n. (reply.FreePages n, Areas (fixed (renamed f d) ++ made ++ slots (map (renamed_task f) d.tasks)))) (free-renamed d)
-        ∙ ap (λ l. (reply.FreePages (free_pages d), Areas (fixed (renamed f d) ++ made ++ l))) (slot_items-renamed d.tasks)
-        ∙ ap (λ l. (reply.FreePages (free_pages d), Areas (l ++ made ++ slots d.tasks))) (same (enumerate_from 0 d.areas))
+      ap (λ n. (reply.FreePages n, Areas (fixed (renamed f d) ++ made ++ slots (map (renamed_task f) d.tasks)))) (free-renamed d)
+      ∙ ap (λ l. (reply.FreePages (free_pages d), Areas (fixed (renamed f d) ++ made ++ l))) (slot_items-renamed d.tasks)
+      ∙ ap (λ l. (reply.FreePages (free_pages d), Areas (l ++ made ++ slots d.tasks))) (same (enumerate_from 0 d.areas))
       )
     where
       fixed : Desk → List AreaItem

@@ -3,9 +3,9 @@ use Rattle.std.proofs.Common.{◌≡◌, ℕ, zero, suc, ◌+◌, ◌-◌, Bool,
 use Rattle.std.proofs.lemmas.List.{length-map, map-append}
 use Rattle.std.specs.Prelude.{Option, Some, None, ◌==◌, nat_le, nat_lt, ℤ, max}
 use Rattle.std.specs.Option.{option_map}
-use Rattle.rh_defs.specs.Pieces.{round_up, page, total, Split, first_at, with_here, zeros, moved, is_inside}
+use Rattle.rh_defs.specs.Pieces.{total, Split, zeros, moved, is_inside}
 use Rattle.rh_defs.specs.Heap.{Segment, Used, Hole, Heap, Placed, Way, Stays, Shrinks, GrowsIntoHole, GrowsAtTop, MovesToHole, MovesToTop}
-use Rattle.rh_defs.specs.Heap.{size_of, bytes_of, place_after, base, block_at, block_around, hole_for, is_hole_for, is_block_at, is_around, with_hole, joined, placed, placed_in, shortage_in, need, segment_size, block_room, raised, claim_growing, released, release, release_found, fitted, way_beyond, way_to_grow, way_to, resized_by, end_for, resize_need, resized, resize_growing, new_size, hole_size, largest_hole, largest, free_bytes}
+use Rattle.rh_defs.specs.Heap.{size_of, bytes_of, place_after, block_at, block_around, hole_for, is_hole_for, is_block_at, is_around, with_hole, joined, placed, placed_in, shortage_in, need, segment_size, block_room, raised, claim_growing, released, release, release_found, fitted, way_beyond, way_to_grow, way_to, resized_by, end_for, resize_need, resized, resize_growing, new_size, hole_size, largest_hole, largest, free_bytes}
 use Rattle.rh_laws.specs.Renaming.{renamed_segment, renamed_heap}
 use Rattle.rh_laws.proofs.RenamedParts.{total-map, cut_by, first_at-map, zeros-map, fitted-map}
 
@@ -178,8 +178,8 @@ module _ (f : ℕ → ℕ) where
 
   moved-renamed : (bytes : List ℕ) (s : Split Segment) (h : Heap) (o : Option (Split Segment)) →
       placed_at (release (place_after (map one s.before) + 4) (placed_in (map f bytes) (renamed_heap f h) (option_map (renamed_cut f) o)).heap).segments
-          (release (place_after (map one s.before) + 4) (placed_in (map f bytes) (renamed_heap f h) (option_map (renamed_cut f) o)).heap).end
-          (placed_in (map f bytes) (renamed_heap f h) (option_map (renamed_cut f) o)).address
+      (release (place_after (map one s.before) + 4) (placed_in (map f bytes) (renamed_heap f h) (option_map (renamed_cut f) o)).heap).end
+      (placed_in (map f bytes) (renamed_heap f h) (option_map (renamed_cut f) o)).address
       ≡ placed_at (map one (release (place_after s.before + 4) (placed_in bytes h o).heap).segments) (release (place_after s.before + 4) (placed_in bytes h o).heap).end (placed_in bytes h o).address
   moved-renamed bytes s h o =
       ap (λ (p : Placed). placed_at (release (place_after (map one s.before) + 4) p.heap).segments (release (place_after (map one s.before) + 4) p.heap).end p.address) (placed_in-renamed bytes h o)

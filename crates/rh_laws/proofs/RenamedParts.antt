@@ -1,15 +1,13 @@
 -- Lists, heaps and slots with their bytes renamed: each look-up finds the renamed thing, and each size stays.
-use Rattle.std.proofs.Common.{◌≡◌, ℕ, zero, suc, ◌+◌, ◌-◌, Bool, true, false, cond, List, [], ◌∷◌, ◌++◌, length, map, refl, sym, ap, subst, ◌∙◌, arith}
+use Rattle.std.proofs.Common.{◌≡◌, ℕ, zero, suc, ◌+◌, ◌-◌, Bool, true, false, cond, List, [], ◌∷◌, ◌++◌, length, map, refl, sym, ap, subst, ◌∙◌}
 use Rattle.std.proofs.lemmas.List.{length-map, map-append, take-map, drop-map}
-use Rattle.std.specs.Prelude.{Option, Some, None, Ok, Err, take, drop, replicate, ◌==◌, nat_le, nat_lt, ℤ, max, not, filter, find}
+use Rattle.std.specs.Prelude.{Option, Some, None, Ok, Err, take, drop, filter, find}
 use Rattle.std.specs.Option.{option_map}
 use Rattle.rh_defs.specs.declared.refusal.Refusal.{Refusal}
-use Rattle.rh_defs.specs.Chain.{Granted, ◌>>=◌, ◌>>◌, refuse_if, found_or}
-use Rattle.rh_defs.specs.Pieces.{total, Split, behind, first_at, with_here, zeros, written, is_inside}
-use Rattle.rh_defs.specs.Heap.{Segment, Used, Hole, Heap, Placed, Way, Stays, Shrinks, GrowsIntoHole, GrowsAtTop, MovesToHole, MovesToTop}
-use Rattle.rh_defs.specs.Heap.{size_of, bytes_of, place_after, base, block_at, block_around, hole_for, is_hole_for, is_block_at, is_around, with_hole, joined, placed, placed_in, shortage_in, need, segment_size, block_room, raised, claim_growing, released, release, release_found, fitted, way_beyond, way_to_grow, way_to, resized_by, end_for, resize_need, resized, resize_growing, new_size, hole_size, largest_hole, largest, free_bytes}
+use Rattle.rh_defs.specs.Chain.{Granted, ◌>>=◌, refuse_if, found_or}
+use Rattle.rh_defs.specs.Pieces.{total, Split, behind, first_at, zeros, written}
+use Rattle.rh_defs.specs.Heap.{fitted}
 use Rattle.rh_defs.proofs.Follows.{Follows}
-use Rattle.rh_laws.specs.Renaming.{renamed_segment, renamed_heap}
 
 -- ---- chains
 

@@ -1,7 +1,7 @@
 -- A poll does to a desk with its bytes renamed the same.
-use Rattle.std.proofs.Common.{◌≡◌, ℕ, ◌+◌, ◌-◌, Bool, true, false, cond, List, length, map, refl, sym, ap, subst, ◌∙◌}
+use Rattle.std.proofs.Common.{◌≡◌, ℕ, ◌+◌, ◌-◌, List, length, map, refl, sym, ap, subst, ◌∙◌}
 use Rattle.std.proofs.lemmas.List.{length-map, take-map, drop-map}
-use Rattle.std.specs.Prelude.{Option, Some, None, is_some, Ok, ◌==◌, ◌&&◌, ◌||◌, not, min, nat_lt, take, drop, slice_index}
+use Rattle.std.specs.Prelude.{Option, Some, None, is_some, Ok, ◌==◌, ◌&&◌, ◌||◌, not, min, nat_lt, take, drop}
 use Rattle.std.specs.Option.{option_map}
 use Rattle.rh_defs.specs.declared.refusal.Refusal.{Refusal}
 use Rattle.rh_defs.specs.declared.refusal.Refusal.TheVariants.{NoTask, BadRange, AnchorInUse, Busy, NoRoom}
@@ -19,22 +19,21 @@ use Rattle.rh_defs.specs.declared.transfer.Incoming.{Incoming}
 use Rattle.rh_defs.specs.declared.transfer.Incoming.TheVariants as incoming
 use Rattle.rh_defs.specs.Chain.{Granted, ◌>>=◌, ◌>>◌, refuse_if, found_or}
 use Rattle.rh_defs.specs.Pieces.{Split}
-use Rattle.rh_defs.specs.Heap.{Segment}
 use Rattle.rh_defs.specs.Slot.{Slot, Flex, flex_address, holds, heap_block_at, slot_alloc, slot_extend, slot_put, slot_claim, anchor_count}
 use Rattle.rh_defs.specs.Messages.{Parcel}
 use Rattle.rh_defs.specs.Letters.{fetch_letter, transmit_letter, load_letter}
-use Rattle.rh_defs.specs.Post.{Post, post_poll, sendable}
+use Rattle.rh_defs.specs.Post.{post_poll, sendable}
 use Rattle.rh_defs.specs.Sender as sender
 use Rattle.rh_defs.specs.Receiver as receiver
 use Rattle.rh_defs.specs.Desk.{Desk, Task, Scrap, next_ref, free_pages, task_at, with_task, with_slot, with_sending, with_taking, with_delivered, send_letter}
-use Rattle.rh_defs.specs.Places.{buffer_at, written_in, overlap, first_bytes, free_anchor}
-use Rattle.rh_defs.specs.OutgoingEvents.{Handled, ignored, portion, is_out_of_reach, transmit, refused, answer_fetch, fail_sending, scrap_shortage, wider, save_scrap, answer_ack, finish_load}
-use Rattle.rh_defs.specs.IncomingEvents.{without_buffer, ended, end_failed, accept, is_deaf, take_save, appended, fetch_more, took, is_uncountable, take_bytes, ask, fetch_back, ack_back, loaded, load_file, take_file}
+use Rattle.rh_defs.specs.Places.{buffer_at, written_in, overlap, first_bytes}
+use Rattle.rh_defs.specs.OutgoingEvents.{Handled, portion, is_out_of_reach, transmit, refused, answer_fetch, fail_sending, scrap_shortage, wider, save_scrap, answer_ack, finish_load}
+use Rattle.rh_defs.specs.IncomingEvents.{without_buffer, ended, accept, is_deaf, take_save, appended, fetch_more, took, take_bytes, ask, fetch_back, ack_back, loaded, load_file, take_file}
 use Rattle.rh_defs.specs.Transfer.{answers_none, came, came_back, handled}
 use Rattle.rh_defs.specs.Step.{event, poll_taken, poll}
 use Rattle.rh_defs.proofs.Follows.{Follows, follows-same, follows-then, follows-equal, follows-as, or_else-follows, chosen-both}
 use Rattle.rh_laws.specs.Renaming.{renamed_slot, renamed_task, renamed_scrap, renamed}
-use Rattle.rh_laws.proofs.RenamedParts.{By, follows-by, follows-test, found-by}
+use Rattle.rh_laws.proofs.RenamedParts.{By, follows-by, found-by}
 use Rattle.rh_laws.proofs.RenamedHeaps.{renamed_cut}
 use Rattle.rh_laws.proofs.RenamedSlots.{renamed_here, renamed_given, some-map, address-renamed, holds-renamed, free_from-renamed, heap_block_at-renamed, buffer_at-renamed, written_in-renamed, first_bytes-renamed, slot_block-renamed, slot_put-renamed, slot_release-renamed, slot_alloc-renamed, slot_extend-renamed, slot_claim-renamed}
 use Rattle.rh_laws.proofs.RenamedDesks.{renamed_with, result-by, free-renamed, where-free, named-renamed, task_at-renamed, with_task-renamed, with_slot-renamed, delivered-renamed, send_letter-renamed}
@@ -87,10 +86,10 @@ module _ (f : ℕ → ℕ) (zero-is : f 0 ≡ 0) where
       (renamed_task f (record t { slot = written_in buffer (take n (drop count bytes)) (buffer_at buffer amount t.slot) t.slot }))
   written-renamed buffer amount n count bytes t =
       ap (λ s. with_it s) (
-        ap (λ l. written_in buffer (take n l) (buffer_at buffer amount (renamed_slot f t.slot)) (renamed_slot f t.slot)) (drop-map f count bytes)
-        ∙ ap (λ l. written_in buffer l (buffer_at buffer amount (renamed_slot f t.slot)) (renamed_slot f t.slot)) (take-map f n (drop count bytes))
-        ∙ ap (λ o. written_in buffer (map f (take n (drop count bytes))) o (renamed_slot f t.slot)) (buffer_at-renamed f buffer amount t.slot)
-        ∙ written_in-renamed f buffer (take n (drop count bytes)) (buffer_at buffer amount t.slot) t.slot
+      ap (λ l. written_in buffer (take n l) (buffer_at buffer amount (renamed_slot f t.slot)) (renamed_slot f t.slot)) (drop-map f count bytes)
+      ∙ ap (λ l. written_in buffer l (buffer_at buffer amount (renamed_slot f t.slot)) (renamed_slot f t.slot)) (take-map f n (drop count bytes))
+      ∙ ap (λ o. written_in buffer (map f (take n (drop count bytes))) o (renamed_slot f t.slot)) (buffer_at-renamed f buffer amount t.slot)
+      ∙ written_in-renamed f buffer (take n (drop count bytes)) (buffer_at buffer amount t.slot) t.slot
       )
     where
       with_it : Slot → Task
@@ -102,9 +101,9 @@ module _ (f : ℕ → ℕ) (zero-is : f 0 ≡ 0) where
       follows-as _ _ _ _ (ap (λ b. refuse_if b BadRange) (reach-renamed t r buffer amount place n))
       (follows-by _ _ (send_letter-renamed f (transmit_letter t.handle m (nat_lt n amount) buffer n) d) λ sent.
       Follows.both (
-        ap (λ (e : Desk). (with_sending t.handle (sender.sent x n amount (next_ref d)) e, outcome.Sent n (next_ref d)))
-          (with_task-renamed f r.handle _ _ sent (written-renamed buffer amount n x.count bytes))
-        ∙ edited t.handle _ _ _ (outcome.Sent n (next_ref d)) (λ u. refl)
+      ap (λ (e : Desk). (with_sending t.handle (sender.sent x n amount (next_ref d)) e, outcome.Sent n (next_ref d)))
+      (with_task-renamed f r.handle _ _ sent (written-renamed buffer amount n x.count bytes))
+      ∙ edited t.handle _ _ _ (outcome.Sent n (next_ref d)) (λ u. refl)
       ))
 
   transmit-renamed : (d : Desk) (t : Task) (m : Parcel) (buffer amount : ℕ) (x : Sending) (source : Split Flex) → After (transmit d t m buffer amount x source) (transmit (renamed f d) (renamed_task f t) m buffer amount x (renamed_here f source))
@@ -162,8 +161,8 @@ module _ (f : ℕ → ℕ) (zero-is : f 0 ≡ 0) where
   finish_load-renamed d t (Some x) =
       or_else-follows (By (renamed_with f)) _ _ (follows-by _ _ (slot_block-renamed f x.anchor t.slot) λ source.
       Follows.both (
-        ap (λ (n : ℕ). (with_sending t.handle (sender.loaded x n) (renamed f d), outcome.Done)) (length-map source.here.bytes f)
-        ∙ edited t.handle _ _ d outcome.Done (λ u. refl)
+      ap (λ (n : ℕ). (with_sending t.handle (sender.loaded x n) (renamed f d), outcome.Done)) (length-map source.here.bytes f)
+      ∙ edited t.handle _ _ d outcome.Done (λ u. refl)
       )) (refused-renamed d t x)
 
   -- ---- the receiver
@@ -294,12 +293,12 @@ module _ (f : ℕ → ℕ) (zero-is : f 0 ≡ 0) where
   load_file-renamed d t m q (Some file) =
       chosen-both (By (renamed_with f)) (file.load == m.message.my_ref) _ _ _ _
       (or_else-follows (By (renamed_with f)) _ _
-        (follows-by _ _ (appended-renamed d t q.anchor file.bytes) λ longer.
-        Follows.both (
-          ap (λ n. loaded (record (renamed f longer) { scrap = None }) (renamed_task f t) m q n) (length-map file.bytes f)
-          ∙ loaded-renamed (record longer { scrap = None }) t m q (length file.bytes)
-        ))
-        (λ refusal. edited t.handle _ _ d _ (λ u. refl)))
+      (follows-by _ _ (appended-renamed d t q.anchor file.bytes) λ longer.
+      Follows.both (
+      ap (λ n. loaded (record (renamed f longer) { scrap = None }) (renamed_task f t) m q n) (length-map file.bytes f)
+      ∙ loaded-renamed (record longer { scrap = None }) t m q (length file.bytes)
+      ))
+      (λ refusal. edited t.handle _ _ d _ (λ u. refl)))
       refl
 
   take_file-renamed : (d : Desk) (t : Task) (m : Parcel) (o : Option Asked) → Same (take_file d t m o) (take_file (renamed f d) (renamed_task f t) m o)
@@ -344,6 +343,6 @@ module _ (f : ℕ → ℕ) (zero-is : f 0 ≡ 0) where
   poll-renamed d name =
       follows-by _ _ (named-renamed f name d) λ t.
       Follows.both (
-        ap (λ (e : Desk). poll_taken e (renamed_task f t) (post_poll t.handle d.post).1) (delivered-renamed f (post_poll t.handle d.post).0 d)
-        ∙ poll_taken-renamed (with_delivered (post_poll t.handle d.post).0 d) t (post_poll t.handle d.post).1
+      ap (λ (e : Desk). poll_taken e (renamed_task f t) (post_poll t.handle d.post).1) (delivered-renamed f (post_poll t.handle d.post).0 d)
+      ∙ poll_taken-renamed (with_delivered (post_poll t.handle d.post).0 d) t (post_poll t.handle d.post).1
       )

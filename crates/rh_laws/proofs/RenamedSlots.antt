@@ -1,19 +1,18 @@
 -- Slots with their bytes renamed: each call does to the renamed slot the same.
 use Rattle.std.proofs.Common.{◌≡◌, ℕ, zero, suc, ◌+◌, ◌-◌, Bool, true, false, cond, List, [], ◌∷◌, ◌++◌, length, map, refl, sym, ap, ◌∙◌}
 use Rattle.std.proofs.lemmas.List.{length-map, map-append, take-map, drop-map}
-use Rattle.std.specs.Prelude.{Option, Some, None, is_some, Ok, ◌==◌, ◌&&◌, ◌||◌, not, nat_le, nat_lt, ℤ, pos, negsuc, take, drop}
+use Rattle.std.specs.Prelude.{Option, Some, None, is_some, ◌==◌, ◌&&◌, ◌||◌, nat_le, nat_lt, ℤ, pos, negsuc, take, drop}
 use Rattle.std.specs.Option.{option_map}
 use Rattle.rh_defs.specs.declared.refusal.Refusal.TheVariants.{NoBlock, NotABlock}
-use Rattle.rh_defs.specs.Chain.{Granted, ◌>>=◌, ◌>>◌, refuse_if, found_or, result_or}
-use Rattle.rh_defs.specs.Pieces.{pages_for, lacks_pages, moved, total, Split, first_at, with_here, written, zeros, is_inside}
-use Rattle.rh_defs.specs.Heap.{Segment, Used, Heap, Placed, bytes_of, place_after, block_around, need, claim_growing, released, new_size, resize_need, resize_growing, fitted}
-use Rattle.rh_defs.specs.Slot.{Slot, Flex, weight, flex_weight, heap_start, slot_length, slot_pages, flex_start, flex_address, block_of, is_used, heap_block_at, flex_around, holds, with_block, with_bytes, without, with_heap, opened_at, taken_out, lacks_room, length_with, is_stuck, with_placed}
-use Rattle.rh_defs.specs.Slot.{slot_alloc, slot_block, slot_free, slot_extend, slot_mid, slot_put, slot_claim, slot_release, slot_resize, anchor_count}
-use Rattle.rh_defs.specs.Places.{with_heap_bytes, roomy_in, buffer_at, written_heap, written_around, written_in, first_bytes, free_from, free_anchor}
-use Rattle.rh_defs.proofs.Follows.{Follows, follows-then}
+use Rattle.rh_defs.specs.Pieces.{pages_for, lacks_pages, moved, total, Split, written, zeros, is_inside}
+use Rattle.rh_defs.specs.Heap.{Segment, Used, Heap, Placed, bytes_of, place_after, block_around, claim_growing, new_size, resize_need, resize_growing, fitted}
+use Rattle.rh_defs.specs.Slot.{Slot, Flex, weight, flex_weight, heap_start, slot_length, slot_pages, flex_start, flex_address, block_of, is_used, heap_block_at, flex_around, holds, with_bytes, without, with_heap, opened_at, taken_out, lacks_room, length_with, is_stuck, with_placed}
+use Rattle.rh_defs.specs.Slot.{slot_alloc, slot_block, slot_free, slot_extend, slot_mid, slot_put, slot_claim, slot_release, slot_resize}
+use Rattle.rh_defs.specs.Places.{with_heap_bytes, roomy_in, buffer_at, written_heap, written_around, written_in, first_bytes, free_from}
+use Rattle.rh_defs.proofs.Follows.{Follows}
 use Rattle.rh_laws.specs.Renaming.{renamed_block, renamed_segment, renamed_heap, renamed_slot}
 use Rattle.rh_laws.proofs.RenamedParts.{By, follows-by, follows-test, found-by, total-map, cut_by, first_at-map, zeros-map, fitted-map, written-map}
-use Rattle.rh_laws.proofs.RenamedHeaps.{renamed_cut, renamed_placed, size-renamed, room-renamed, bytes-renamed, place-renamed, block_at-renamed, block_around-renamed, need-renamed, released-renamed, resize_need-renamed, new_size-renamed, claim-renamed, resize-renamed}
+use Rattle.rh_laws.proofs.RenamedHeaps.{renamed_cut, renamed_placed, room-renamed, bytes-renamed, place-renamed, block_at-renamed, block_around-renamed, need-renamed, released-renamed, resize_need-renamed, new_size-renamed, claim-renamed, resize-renamed}
 
 -- a cut of a slot's blocks with their bytes renamed
 abbrev pub renamed_here : (ℕ → ℕ) → Split Flex → Split Flex
@@ -175,9 +174,9 @@ module _ (f : ℕ → ℕ) (zero-is : f 0 ≡ 0) where
       follows-test _ _ _ _ _ (used-renamed f k s)
       (follows-test _ _ _ _ _ (room-alike f free (flex_weight n) s)
       (Follows.both (
-        ap (λ bytes. given (map (renamed_block f) s.blocks ++ record { anchor = k; bytes = bytes } ∷ []) (flex_address (renamed_slot f s) (map (renamed_block f) s.blocks))) (sym (zeros-map f zero-is n))
-        ∙ ap (λ blocks. given blocks (flex_address (renamed_slot f s) (map (renamed_block f) s.blocks))) (sym (map-append (renamed_block f) s.blocks (record { anchor = k; bytes = zeros n } ∷ [])))
-        ∙ ap (given (map (renamed_block f) (s.blocks ++ record { anchor = k; bytes = zeros n } ∷ []))) (address-renamed f s s.blocks)
+      ap (λ bytes. given (map (renamed_block f) s.blocks ++ record { anchor = k; bytes = bytes } ∷ []) (flex_address (renamed_slot f s) (map (renamed_block f) s.blocks))) (sym (zeros-map f zero-is n))
+      ∙ ap (λ blocks. given blocks (flex_address (renamed_slot f s) (map (renamed_block f) s.blocks))) (sym (map-append (renamed_block f) s.blocks (record { anchor = k; bytes = zeros n } ∷ [])))
+      ∙ ap (given (map (renamed_block f) (s.blocks ++ record { anchor = k; bytes = zeros n } ∷ []))) (address-renamed f s s.blocks)
       )))
     where
       given : List Flex → ℕ → Slot × ℕ
@@ -229,7 +228,7 @@ module _ (f : ℕ → ℕ) (zero-is : f 0 ≡ 0) where
       (follows-test _ _ _ _ _ (ap (λ m. is_stuck m s) (short b))
       (follows-test _ _ _ _ _ (ap (lacks_pages free) (short b))
       (Follows.both (given-renamed (resize_growing (new_size delta b) b s.heap) _ s (
-        ap (λ n. resize_growing n (renamed_cut f b) (renamed_heap f s.heap)) (new_size-renamed f delta b) ∙ resize-renamed f zero-is (new_size delta b) b s.heap
+      ap (λ n. resize_growing n (renamed_cut f b) (renamed_heap f s.heap)) (new_size-renamed f delta b) ∙ resize-renamed f zero-is (new_size delta b) b s.heap
       )))))
     where
       short : (b : Split Segment) → resize_need (new_size delta (renamed_cut f b)) (renamed_cut f b) (renamed_heap f s.heap) ≡ resize_need (new_size delta b) b s.heap

@@ -1,25 +1,23 @@
 -- Each command but a poll does to a desk with its bytes renamed the same.
-use Rattle.std.proofs.Common.{◌≡◌, ℕ, ◌+◌, ◌-◌, Bool, true, false, cond, List, [], ◌∷◌, ◌++◌, length, map, refl, sym, ap, subst, ◌∙◌}
+use Rattle.std.proofs.Common.{◌≡◌, ℕ, ◌+◌, ◌-◌, Bool, cond, List, [], ◌∷◌, length, map, refl, sym, ap, subst, ◌∙◌}
 use Rattle.std.proofs.lemmas.List.{length-map, map-append}
-use Rattle.std.specs.Prelude.{Option, Some, None, Ok, ℤ, ◌==◌, nat_le, nat_lt, not, filter, find, slice_index, slice_set}
-use Rattle.std.specs.List.{list_any}
+use Rattle.std.specs.Prelude.{Option, Some, None, ℤ, ◌==◌, nat_le, nat_lt, not, filter, find, slice_index}
 use Rattle.std.specs.Option.{option_map}
 use Rattle.std.specs.Str.{bytes_eq}
 use Rattle.rh_defs.specs.declared.refusal.Refusal.TheVariants.{NoTask, NoFile, NameInUse, TooManyTasks}
 use Rattle.rh_defs.specs.declared.command.Manner.{Manner}
 use Rattle.rh_defs.specs.declared.reply.Reply.{Reply}
 use Rattle.rh_defs.specs.declared.reply.Reply.TheVariants as reply
-use Rattle.rh_defs.specs.Chain.{Granted, ◌>>=◌, ◌>>◌, refuse_if, found_or}
+use Rattle.rh_defs.specs.Chain.{Granted, refuse_if}
 use Rattle.rh_defs.specs.Slot.{Slot, slot_pages, slot_begin, slot_alloc, slot_extend, slot_mid, slot_claim, slot_resize, new_slot}
 use Rattle.rh_defs.specs.Module.{module_claim, module_resize, module_change}
 use Rattle.rh_defs.specs.Letters.{save_letter}
 use Rattle.rh_defs.specs.Post.{post_join, post_death}
-use Rattle.rh_defs.specs.Sender as sender
-use Rattle.rh_defs.specs.Desk.{Desk, Task, Scrap, most_tasks, free_pages, next_ref, has_name, named, with_slot, with_sending, with_taking, with_delivered, send_letter}
-use Rattle.rh_defs.specs.Commands.{Answer, start_task, kill, alloc, load, put, free, extend, mid, claim, release, resize, budge, scrap_area, module_area, module_start, file_length, least_length, pages_after, change_module, change_pages, change_made, change_area, make, remove, own_block, rma_claim, rma_free, rma_resize, with_new_task}
+use Rattle.rh_defs.specs.Desk.{Desk, Task, Scrap, most_tasks, free_pages, next_ref, has_name, with_slot, with_delivered, send_letter}
+use Rattle.rh_defs.specs.Commands.{Answer, start_task, kill, alloc, load, put, free, extend, mid, claim, release, resize, budge, scrap_area, module_area, module_start, file_length, least_length, pages_after, change_module, change_pages, change_made, change_area, make, remove, own_block, rma_claim, rma_free, rma_resize}
 use Rattle.rh_defs.specs.Step.{save, repeat, cancel_in, cancel_out}
-use Rattle.rh_defs.proofs.Follows.{Follows, follows-same, follows-with, follows-then, follows-equal, follows-as, chosen-both}
-use Rattle.rh_laws.specs.Renaming.{renamed_slot, renamed_task, renamed_scrap, renamed_files, renamed}
+use Rattle.rh_defs.proofs.Follows.{Follows, follows-same, follows-then, follows-equal, follows-as, chosen-both}
+use Rattle.rh_laws.specs.Renaming.{renamed_slot, renamed_task, renamed_scrap, renamed}
 use Rattle.rh_laws.proofs.RenamedParts.{By, follows-by, follows-test, found-by, find-map, filter-map}
 use Rattle.rh_laws.proofs.RenamedSlots.{renamed_given, slot_put-renamed, slot_free-renamed, slot_release-renamed, slot_alloc-renamed, slot_extend-renamed, slot_mid-renamed, slot_claim-renamed, slot_resize-renamed}
 use Rattle.rh_laws.proofs.RenamedDesks.{renamed_with, any-map, free-renamed, where-free, named-renamed, idle_block-renamed, idle_buffer-renamed, with_task-renamed, with_slot-renamed, delivered-renamed, send_letter-renamed}
@@ -60,8 +58,8 @@ module _ (f : ℕ → ℕ) (zero-is : f 0 ≡ 0) where
   kill-renamed d name =
       follows-by _ _ (named-renamed f name d) λ t.
       Follows.both (
-        ap (λ (e : Desk). (record e { tasks = filter (others t) (map (renamed_task f) d.tasks) }, reply.Done)) (delivered-renamed f (post_death t.handle d.post) d)
-        ∙ ap (λ (ts : List Task). (record (renamed f (with_delivered (post_death t.handle d.post) d)) { tasks = ts }, reply.Done)) (filter-map (others t) (renamed_task f) (λ u. refl) d.tasks)
+      ap (λ (e : Desk). (record e { tasks = filter (others t) (map (renamed_task f) d.tasks) }, reply.Done)) (delivered-renamed f (post_death t.handle d.post) d)
+      ∙ ap (λ (ts : List Task). (record (renamed f (with_delivered (post_death t.handle d.post) d)) { tasks = ts }, reply.Done)) (filter-map (others t) (renamed_task f) (λ u. refl) d.tasks)
       )
     where
       others : Task → Task → Bool
@@ -82,7 +80,7 @@ module _ (f : ℕ → ℕ) (zero-is : f 0 ≡ 0) where
       follows-by _ _ (named-renamed f name d) λ t.
       follows-by _ _ (found-by (renamed_file f) (find is_it d.files) _ NoFile (find-map is_it (renamed_file f) (λ entry. refl) d.files)) λ entry.
       follows-by _ _ (subst (λ n. Follows (By (renamed_given f)) (slot_alloc (free_pages d) k (length entry.1) t.slot) (slot_alloc (free_pages (renamed f d)) k n (renamed_slot f t.slot))) (sym (length-map entry.1 f))
-        (where-free f d (λ m. slot_alloc m k (length entry.1) (renamed_slot f t.slot)) (slot_alloc-renamed f zero-is (free_pages d) k (length entry.1) t.slot))) λ p.
+      (where-free f d (λ m. slot_alloc m k (length entry.1) (renamed_slot f t.slot)) (slot_alloc-renamed f zero-is (free_pages d) k (length entry.1) t.slot))) λ p.
       follows-by _ _ (slot_put-renamed f k 0 entry.1 p.0) λ s.
       Follows.both (slot-back t.handle s d (reply.Block p.1))
     where
@@ -151,7 +149,7 @@ module _ (f : ℕ → ℕ) (zero-is : f 0 ≡ 0) where
       follows-by _ _ (named-renamed f name d) λ t. follows-by _ _ (idle_block-renamed f k t) λ b. follows-then _ _ _ (
       follows-by _ _ (found-by (renamed_task f) (find (has_name to) d.tasks) _ NoTask (find-map (has_name to) (renamed_task f) (λ u. refl) d.tasks)) λ r.
       follows-by _ _ (subst (λ n. Follows (By (renamed f)) (send_letter (save_letter t.handle r.handle (length b.here.bytes) leaf) d) (send_letter (save_letter t.handle r.handle n leaf) (renamed f d))) (sym (length-map b.here.bytes f))
-        (send_letter-renamed f (save_letter t.handle r.handle (length b.here.bytes) leaf) d)) λ sent.
+      (send_letter-renamed f (save_letter t.handle r.handle (length b.here.bytes) leaf) d)) λ sent.
       Follows.both (ap (λ (e : Desk). (e, reply.Sent (next_ref d))) (with_task-renamed f t.handle _ _ sent (λ u. refl))))
 
   pub repeat-renamed : (d : Desk) (name : List ℕ) → After (repeat d name) (repeat (renamed f d) name)
@@ -187,8 +185,8 @@ module _ (f : ℕ → ℕ) (zero-is : f 0 ≡ 0) where
   unfolding change_pages
   change_pages-renamed d k delta =
       follows-equal _ _ _ _ (
-        ap (λ n. pages_after n (least_length k (renamed f d)) (slice_index d.areas k) delta) (free-renamed f d)
-        ∙ ap (λ n. pages_after (free_pages d) (cond (k == scrap_area) n 0) (slice_index d.areas k) delta) (file_length-renamed d.scrap)
+      ap (λ n. pages_after n (least_length k (renamed f d)) (slice_index d.areas k) delta) (free-renamed f d)
+      ∙ ap (λ n. pages_after (free_pages d) (cond (k == scrap_area) n 0) (slice_index d.areas k) delta) (file_length-renamed d.scrap)
       ) λ n. Follows.both refl
 
   change_made-renamed : (d : Desk) (k : ℕ) (delta : ℤ) → After (change_made d k delta) (change_made (renamed f d) k delta)

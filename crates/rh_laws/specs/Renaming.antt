@@ -1,5 +1,5 @@
 -- A desk, its files and its commands with each byte renamed by one function.
-use Rattle.std.specs.Prelude.{◌≡◌, ℕ, ◌&&◌, ◌||◌, ◌==◌, Bool, true, false, List, map, take, drop, Option, Some, None, Ok, Err}
+use Rattle.std.specs.Prelude.{◌≡◌, ℕ, ◌||◌, ◌==◌, Bool, true, false, List, map, Ok, Err}
 use Rattle.std.specs.List.{list_any, AllByRecursion}
 use Rattle.std.specs.Option.{option_map}
 use Rattle.rh_defs.specs.declared.command.Command.{Command}
@@ -12,8 +12,7 @@ use Rattle.rh_defs.specs.Heap.{Segment, Used, Hole, Heap}
 use Rattle.rh_defs.specs.Slot.{Slot, Flex}
 use Rattle.rh_defs.specs.Files.{FileList}
 use Rattle.rh_defs.specs.Desk.{Desk, Task, Scrap}
-use Rattle.rh_defs.specs.Commands.{Answer}
-use Rattle.rh_defs.specs.Listing.{Listed, Nothing, Bytes, Blocks, Segments, Records, Areas, shown_at}
+use Rattle.rh_defs.specs.Listing.{Listed, Bytes, shown_at}
 use Rattle.rh_defs.specs.Questions.{Told, asked}
 use Rattle.rh_defs.specs.Step.{step}
 use Rattle.rh_defs.specs.Runs.{start_with, after, replies}

@@ -8,6 +8,7 @@ mod heaps;
 mod lines;
 mod order;
 mod progress;
+mod renaming;
 mod scrap;
 
 pub use addressed::addressed_law;
@@ -17,4 +18,5 @@ pub use heaps::describe_law;
 pub use lines::line_law;
 pub use order::refusal_order_law;
 pub use progress::progress_law;
+pub use renaming::renaming_law;
 pub use scrap::scrap_alternation_law;
