@@ -18,7 +18,8 @@ use Rattle.rh_defs.specs.Pieces.{page, total}
 use Rattle.rh_defs.specs.Heap.{Segment, Used, Hole, first_place, size_of, largest, free_bytes}
 use Rattle.rh_defs.specs.Slot.{Slot, Flex, weight, flex_weight, heap_start, flex_start}
 use Rattle.rh_defs.specs.Post.{Post, post_send, post_is_live}
-use Rattle.rh_defs.specs.Desk.{Desk, Task, Made, Scrap, task_pages, free_pages, has_name, named, task_at, idle_block, idle_buffer, edit_task, with_task, with_slot, with_post, kept_scrap, with_delivered, send_letter}
+use Rattle.rh_defs.specs.Desk.{Desk, Task, Made, Scrap, task_pages, free_pages, has_name, named, task_at, idle_block, idle_buffer, edit_task}
+use Rattle.rh_defs.specs.Desk.{with_task, with_slot, with_post, kept_scrap, with_delivered, send_letter}
 use Rattle.rh_defs.specs.Listing.{Bytes, Blocks, Segments, Areas, block_items_from, segment_item, segment_items_from, area_item}
 use Rattle.rh_defs.specs.Questions.{Told, show, blocks, heap, status, asked}
 use Rattle.rh_defs.proofs.Follows.{Follows, follows-then, follows-equal}
@@ -49,7 +50,8 @@ module _ (f : ℕ → ℕ) where
       (total-map task_pages (renamed_task f) (λ t. pages-renamed f t.slot) d.tasks)
 
   -- a call where so many pages are free
-  pub where-free : {A : Type 0} {R : A → A → Type 0} {first : Granted A} (d : Desk) (call : ℕ → Granted A) → Follows R first (call (free_pages d)) → Follows R first (call (free_pages (renamed f d)))
+  pub where-free : {A : Type 0} {R : A → A → Type 0} {first : Granted A} (d : Desk) (call : ℕ → Granted A) → Follows R first (call (free_pages d)) →
+      Follows R first (call (free_pages (renamed f d)))
   where-free {R = R} {first = first} d call h = subst (λ n. Follows R first (call n)) (sym (free-renamed d)) h
 
   pub named-renamed : (name : List ℕ) (d : Desk) → Follows (By (renamed_task f)) (named name d) (named name (renamed f d))
@@ -70,16 +72,20 @@ module _ (f : ℕ → ℕ) where
 
   -- ---- edits
 
-  edit-renamed : (h : ℕ) (edit other : Task → Task) → ((t : Task) → other (renamed_task f t) ≡ renamed_task f (edit t)) → (ts : List Task) → edit_task h other (map (renamed_task f) ts) ≡ map (renamed_task f) (edit_task h edit ts)
+  edit-renamed : (h : ℕ) (edit other : Task → Task) → ((t : Task) → other (renamed_task f t) ≡ renamed_task f (edit t)) → (ts : List Task) →
+      edit_task h other (map (renamed_task f) ts) ≡ map (renamed_task f) (edit_task h edit ts)
   edit-renamed h edit other same [] = refl
   edit-renamed h edit other same (t ∷ ts) = go (t.handle == h) (same t) (edit-renamed h edit other same ts)
     where
-      go : (b : Bool) → other (renamed_task f t) ≡ renamed_task f (edit t) → edit_task h other (map (renamed_task f) ts) ≡ map (renamed_task f) (edit_task h edit ts)
-          → cond b (other (renamed_task f t) ∷ map (renamed_task f) ts) (renamed_task f t ∷ edit_task h other (map (renamed_task f) ts)) ≡ map (renamed_task f) (cond b (edit t ∷ ts) (t ∷ edit_task h edit ts))
+      go : (b : Bool) → other (renamed_task f t) ≡ renamed_task f (edit t) → edit_task h other (map (renamed_task f) ts)
+          ≡ map (renamed_task f) (edit_task h edit ts)
+          → cond b (other (renamed_task f t) ∷ map (renamed_task f) ts) (renamed_task f t ∷ edit_task h other (map (renamed_task f) ts))
+          ≡ map (renamed_task f) (cond b (edit t ∷ ts) (t ∷ edit_task h edit ts))
       go true e rest = ap (λ u. u ∷ map (renamed_task f) ts) e
       go false e rest = ap (λ l. renamed_task f t ∷ l) rest
 
-  pub with_task-renamed : (h : ℕ) (edit other : Task → Task) (d : Desk) → ((t : Task) → other (renamed_task f t) ≡ renamed_task f (edit t)) → with_task h other (renamed f d) ≡ renamed f (with_task h edit d)
+  pub with_task-renamed : (h : ℕ) (edit other : Task → Task) (d : Desk) → ((t : Task) → other (renamed_task f t) ≡ renamed_task f (edit t)) →
+      with_task h other (renamed f d) ≡ renamed f (with_task h edit d)
   unfolding with_task
   with_task-renamed h edit other d same = ap (λ (ts : List Task). record (renamed f d) { tasks = ts }) (edit-renamed h edit other same d.tasks)
 
@@ -129,7 +135,8 @@ module _ (f : ℕ → ℕ) where
       ∙ ap (λ n. segment_item place g ∷ segment_items_from (place + n) (map (renamed_segment f) ss)) (size-renamed f g)
       ∙ ap (λ l. segment_item place g ∷ l) (segment_items-renamed (place + size_of g) ss)
 
-  slot_items-renamed : (ts : List Task) → map (λ (t : Task). item.Slot t.name (task_pages t)) (map (renamed_task f) ts) ≡ map (λ (t : Task). item.Slot t.name (task_pages t)) ts
+  slot_items-renamed : (ts : List Task) → map (λ (t : Task). item.Slot t.name (task_pages t)) (map (renamed_task f) ts)
+      ≡ map (λ (t : Task). item.Slot t.name (task_pages t)) ts
   slot_items-renamed [] = refl
   slot_items-renamed (t ∷ ts) =
       ap (λ n. item.Slot t.name n ∷ map (λ (t : Task). item.Slot t.name (task_pages t)) (map (renamed_task f) ts)) (pages-renamed f t.slot)
@@ -150,7 +157,8 @@ module _ (f : ℕ → ℕ) where
   blocks-renamed d name =
       follows-by _ _ (named-renamed name d) λ t.
       Follows.both (
-      ap (λ n. (reply.BlockCount n, Blocks (block_items_from (flex_start t.slot) (map (renamed_block f) t.slot.blocks)))) (length-map t.slot.blocks (renamed_block f))
+      ap (λ n. (reply.BlockCount n, Blocks (block_items_from (flex_start t.slot) (map (renamed_block f) t.slot.blocks)))) (length-map t.slot.blocks
+      (renamed_block f))
       ∙ ap (λ l. (reply.BlockCount (length t.slot.blocks), Blocks l)) (block_items-renamed (flex_start t.slot) t.slot.blocks)
       )
 
@@ -159,9 +167,18 @@ module _ (f : ℕ → ℕ) where
   heap-renamed d name =
       follows-by _ _ (named-renamed name d) λ t.
       Follows.both (
-      ap (λ n. (reply.HeapSums t.slot.heap.end n (free_bytes (renamed_slot f t.slot).heap), Segments (segment_items_from (heap_start + first_place) (map (renamed_segment f) t.slot.heap.segments)))) (largest-renamed f t.slot.heap)
-      ∙ ap (λ n. (reply.HeapSums t.slot.heap.end (largest t.slot.heap) n, Segments (segment_items_from (heap_start + first_place) (map (renamed_segment f) t.slot.heap.segments)))) (free_bytes-renamed f t.slot.heap)
-      ∙ ap (λ l. (reply.HeapSums t.slot.heap.end (largest t.slot.heap) (free_bytes t.slot.heap), Segments l)) (segment_items-renamed (heap_start + first_place) t.slot.heap.segments)
+      ap (λ n. (
+        reply.HeapSums t.slot.heap.end n (free_bytes (renamed_slot f t.slot).heap),
+        Segments (segment_items_from (heap_start + first_place)
+            (map (renamed_segment f) t.slot.heap.segments)),
+      )) (largest-renamed f t.slot.heap)
+      ∙ ap (λ n. (
+        reply.HeapSums t.slot.heap.end (largest t.slot.heap) n,
+        Segments (segment_items_from (heap_start + first_place) (map
+            (renamed_segment f) t.slot.heap.segments)),
+      )) (free_bytes-renamed f t.slot.heap)
+      ∙ ap (λ l. (reply.HeapSums t.slot.heap.end (largest t.slot.heap) (free_bytes t.slot.heap), Segments l)) (segment_items-renamed
+      (heap_start + first_place) t.slot.heap.segments)
       )
 
   status-renamed : (d : Desk) (name : List ℕ) → Follows (By retold) (status d name) (status (renamed f d) name)

@@ -5,7 +5,10 @@ use Rattle.std.specs.Prelude.{Option, Some, None, ◌==◌, nat_le, nat_lt, ℤ,
 use Rattle.std.specs.Option.{option_map}
 use Rattle.rh_defs.specs.Pieces.{total, Split, zeros, moved, is_inside}
 use Rattle.rh_defs.specs.Heap.{Segment, Used, Hole, Heap, Placed, Way, Stays, Shrinks, GrowsIntoHole, GrowsAtTop, MovesToHole, MovesToTop}
-use Rattle.rh_defs.specs.Heap.{size_of, bytes_of, place_after, block_at, block_around, hole_for, is_hole_for, is_block_at, is_around, with_hole, joined, placed, placed_in, shortage_in, need, segment_size, block_room, raised, claim_growing, released, release, release_found, fitted, way_beyond, way_to_grow, way_to, resized_by, end_for, resize_need, resized, resize_growing, new_size, hole_size, largest_hole, largest, free_bytes}
+use Rattle.rh_defs.specs.Heap.{size_of, bytes_of, place_after, block_at, block_around, hole_for, is_hole_for, is_block_at, is_around, with_hole}
+use Rattle.rh_defs.specs.Heap.{joined, placed, placed_in, shortage_in, need, segment_size, block_room, raised, claim_growing, released, release}
+use Rattle.rh_defs.specs.Heap.{release_found, fitted, way_beyond, way_to_grow, way_to, resized_by, end_for, resize_need, resized, resize_growing}
+use Rattle.rh_defs.specs.Heap.{new_size, hole_size, largest_hole, largest, free_bytes}
 use Rattle.rh_laws.specs.Renaming.{renamed_segment, renamed_heap}
 use Rattle.rh_laws.proofs.RenamedParts.{total-map, cut_by, first_at-map, zeros-map, fitted-map}
 
@@ -86,16 +89,22 @@ module _ (f : ℕ → ℕ) where
 
   -- ---- claims
 
-  placed_in-renamed : (bytes : List ℕ) (h : Heap) (o : Option (Split Segment)) → placed_in (map f bytes) (renamed_heap f h) (option_map (renamed_cut f) o) ≡ renamed_placed f (placed_in bytes h o)
+  placed_in-renamed : (bytes : List ℕ) (h : Heap) (o : Option (Split Segment)) → placed_in (map f bytes) (renamed_heap f h) (option_map
+      (renamed_cut f) o) ≡ renamed_placed f (placed_in bytes h o)
   placed_in-renamed bytes h None =
       ap (λ ss. placed_at ss h.end (place_after (map one h.segments) + 4)) (sym (map-append one h.segments (Used bytes ∷ [])))
       ∙ ap (λ a. placed_at (map one (h.segments ++ Used bytes ∷ [])) h.end (a + 4)) (place-renamed h.segments)
   placed_in-renamed bytes h (Some s) =
-      ap (λ a. placed_at (map one s.before ++ Used (map f bytes) ∷ with_hole (size_of (one s.here) - (4 + length (map f bytes))) (map one s.after)) h.end (a + 4)) (place-renamed s.before)
-      ∙ ap (λ n. placed_at (map one s.before ++ Used (map f bytes) ∷ with_hole (n - (4 + length (map f bytes))) (map one s.after)) h.end (place_after s.before + 4)) (size-renamed s.here)
-      ∙ ap (λ n. placed_at (map one s.before ++ Used (map f bytes) ∷ with_hole (size_of s.here - (4 + n)) (map one s.after)) h.end (place_after s.before + 4)) (length-map bytes f)
-      ∙ ap (λ ss. placed_at (map one s.before ++ Used (map f bytes) ∷ ss) h.end (place_after s.before + 4)) (with_hole-renamed (size_of s.here - (4 + length bytes)) s.after)
-      ∙ ap (λ ss. placed_at ss h.end (place_after s.before + 4)) (sym (map-append one s.before (Used bytes ∷ with_hole (size_of s.here - (4 + length bytes)) s.after)))
+      ap (λ a. placed_at (map one s.before ++ Used (map f bytes) ∷ with_hole (size_of (one s.here) - (4 + length (map f bytes)))
+      (map one s.after)) h.end (a + 4)) (place-renamed s.before)
+      ∙ ap (λ n. placed_at (map one s.before ++ Used (map f bytes) ∷ with_hole (n - (4 + length (map f bytes))) (map one s.after)) h.end
+      (place_after s.before + 4)) (size-renamed s.here)
+      ∙ ap (λ n. placed_at (map one s.before ++ Used (map f bytes) ∷ with_hole (size_of s.here - (4 + n)) (map one s.after)) h.end
+      (place_after s.before + 4)) (length-map bytes f)
+      ∙ ap (λ ss. placed_at (map one s.before ++ Used (map f bytes) ∷ ss) h.end (place_after s.before + 4)) (with_hole-renamed (size_of s.here -
+      (4 + length bytes)) s.after)
+      ∙ ap (λ ss. placed_at ss h.end (place_after s.before + 4)) (sym (map-append one s.before (Used bytes ∷ with_hole (size_of s.here -
+      (4 + length bytes)) s.after)))
 
   placed-renamed : (bytes : List ℕ) (h : Heap) → placed (map f bytes) (renamed_heap f h) ≡ renamed_placed f (placed bytes h)
   placed-renamed bytes h =
@@ -152,7 +161,8 @@ module _ (f : ℕ → ℕ) where
 
   -- ---- resizes
 
-  way_beyond-renamed : (after : List Segment) (o : Option (Split Segment)) → way_beyond (map (renamed_segment f) after) (option_map (renamed_cut f) o) ≡ renamed_way f (way_beyond after o)
+  way_beyond-renamed : (after : List Segment) (o : Option (Split Segment)) → way_beyond (map (renamed_segment f) after) (option_map
+      (renamed_cut f) o) ≡ renamed_way f (way_beyond after o)
   way_beyond-renamed after (Some hole) = refl
   way_beyond-renamed [] None = refl
   way_beyond-renamed (g ∷ after) None = refl
@@ -161,15 +171,19 @@ module _ (f : ℕ → ℕ) where
   chosen-way true x y z w p q = p
   chosen-way false x y z w p q = q
 
-  way_to_grow-renamed : (t : ℕ) (s : Split Segment) (after : List Segment) (h : Heap) → way_to_grow t (renamed_cut f s) (map (renamed_segment f) after) (renamed_heap f h) ≡ renamed_way f (way_to_grow t s after h)
+  way_to_grow-renamed : (t : ℕ) (s : Split Segment) (after : List Segment) (h : Heap) → way_to_grow t (renamed_cut f s) (map
+      (renamed_segment f) after) (renamed_heap f h) ≡ renamed_way f (way_to_grow t s after h)
   way_to_grow-renamed t s [] h =
       ap (λ n. cond (nat_le (n + t) h.end) GrowsAtTop (way_beyond [] (hole_for t (map one h.segments)))) (place-renamed s.before)
-      ∙ chosen-way (nat_le (place_after s.before + t) h.end) _ _ _ _ refl (ap (way_beyond []) (hole_for-renamed t h.segments) ∙ way_beyond-renamed [] (hole_for t h.segments))
+      ∙ chosen-way (nat_le (place_after s.before + t) h.end) _ _ _ _ refl (ap (way_beyond [])
+      (hole_for-renamed t h.segments) ∙ way_beyond-renamed [] (hole_for t h.segments))
   way_to_grow-renamed t s (Used bytes ∷ after) h =
       ap (way_beyond (map one (Used bytes ∷ after))) (hole_for-renamed t h.segments) ∙ way_beyond-renamed (Used bytes ∷ after) (hole_for t h.segments)
   way_to_grow-renamed t s (Hole size ∷ after) h =
-      ap (λ n. cond (nat_le t (n + size)) (GrowsIntoHole size (map one after)) (way_beyond (map one (Hole size ∷ after)) (hole_for t (map one h.segments)))) (size-renamed s.here)
-      ∙ chosen-way (nat_le t (size_of s.here + size)) _ _ _ _ refl (ap (way_beyond (map one (Hole size ∷ after))) (hole_for-renamed t h.segments) ∙ way_beyond-renamed (Hole size ∷ after) (hole_for t h.segments))
+      ap (λ n. cond (nat_le t (n + size)) (GrowsIntoHole size (map one after)) (way_beyond (map one (Hole size ∷ after)) (hole_for t
+      (map one h.segments)))) (size-renamed s.here)
+      ∙ chosen-way (nat_le t (size_of s.here + size)) _ _ _ _ refl (ap (way_beyond (map one (Hole size ∷ after)))
+      (hole_for-renamed t h.segments) ∙ way_beyond-renamed (Hole size ∷ after) (hole_for t h.segments))
 
   way_to-renamed : (t : ℕ) (s : Split Segment) (h : Heap) → way_to t (renamed_cut f s) (renamed_heap f h) ≡ renamed_way f (way_to t s h)
   way_to-renamed t s h =
@@ -180,26 +194,40 @@ module _ (f : ℕ → ℕ) where
       placed_at (release (place_after (map one s.before) + 4) (placed_in (map f bytes) (renamed_heap f h) (option_map (renamed_cut f) o)).heap).segments
       (release (place_after (map one s.before) + 4) (placed_in (map f bytes) (renamed_heap f h) (option_map (renamed_cut f) o)).heap).end
       (placed_in (map f bytes) (renamed_heap f h) (option_map (renamed_cut f) o)).address
-      ≡ placed_at (map one (release (place_after s.before + 4) (placed_in bytes h o).heap).segments) (release (place_after s.before + 4) (placed_in bytes h o).heap).end (placed_in bytes h o).address
+      ≡ placed_at (map one (release (place_after s.before + 4) (placed_in bytes h o).heap).segments) (release (place_after s.before + 4)
+      (placed_in bytes h o).heap).end (placed_in bytes h o).address
   moved-renamed bytes s h o =
-      ap (λ (p : Placed). placed_at (release (place_after (map one s.before) + 4) p.heap).segments (release (place_after (map one s.before) + 4) p.heap).end p.address) (placed_in-renamed bytes h o)
-      ∙ ap (λ n. placed_at (release (n + 4) (renamed_heap f (placed_in bytes h o).heap)).segments (release (n + 4) (renamed_heap f (placed_in bytes h o).heap)).end (placed_in bytes h o).address) (place-renamed s.before)
+      ap (λ (p : Placed). placed_at (release (place_after (map one s.before) + 4) p.heap).segments (release (place_after
+      (map one s.before) + 4) p.heap).end p.address) (placed_in-renamed bytes h o)
+      ∙ ap (λ n. placed_at (release (n + 4) (renamed_heap f (placed_in bytes h o).heap)).segments (release (n + 4) (renamed_heap f
+      (placed_in bytes h o).heap)).end (placed_in bytes h o).address) (place-renamed s.before)
       ∙ ap (λ (k : Heap). placed_at k.segments k.end (placed_in bytes h o).address) (release-renamed (place_after s.before + 4) (placed_in bytes h o).heap)
 
-  resized_by-renamed : (w : Way) (bytes : List ℕ) (s : Split Segment) (h : Heap) → resized_by (renamed_way f w) (map f bytes) (renamed_cut f s) (renamed_heap f h) ≡ renamed_placed f (resized_by w bytes s h)
+  resized_by-renamed : (w : Way) (bytes : List ℕ) (s : Split Segment) (h : Heap) → resized_by (renamed_way f w) (map f bytes) (renamed_cut f s)
+      (renamed_heap f h) ≡ renamed_placed f (resized_by w bytes s h)
   resized_by-renamed Stays bytes s h = ap (λ n. placed_at (map one h.segments) h.end (n + 4)) (place-renamed s.before)
   resized_by-renamed Shrinks bytes s h =
-      ap (λ a. placed_at (joined (map one s.before ++ Used (map f bytes) ∷ Hole (size_of (one s.here) - (4 + length (map f bytes))) ∷ map one s.after)) h.end (a + 4)) (place-renamed s.before)
-      ∙ ap (λ n. placed_at (joined (map one s.before ++ Used (map f bytes) ∷ Hole (n - (4 + length (map f bytes))) ∷ map one s.after)) h.end (place_after s.before + 4)) (size-renamed s.here)
-      ∙ ap (λ n. placed_at (joined (map one s.before ++ Used (map f bytes) ∷ Hole (size_of s.here - (4 + n)) ∷ map one s.after)) h.end (place_after s.before + 4)) (length-map bytes f)
-      ∙ ap (λ ss. placed_at (joined ss) h.end (place_after s.before + 4)) (sym (map-append one s.before (Used bytes ∷ Hole (size_of s.here - (4 + length bytes)) ∷ s.after)))
-      ∙ ap (λ ss. placed_at ss h.end (place_after s.before + 4)) (joined-renamed (s.before ++ Used bytes ∷ Hole (size_of s.here - (4 + length bytes)) ∷ s.after))
+      ap (λ a. placed_at (joined (map one s.before ++ Used (map f bytes) ∷ Hole (size_of (one s.here) - (4 + length
+      (map f bytes))) ∷ map one s.after)) h.end (a + 4)) (place-renamed s.before)
+      ∙ ap (λ n. placed_at (joined (map one s.before ++ Used (map f bytes) ∷ Hole (n - (4 + length (map f bytes))) ∷ map one s.after)) h.end
+      (place_after s.before + 4)) (size-renamed s.here)
+      ∙ ap (λ n. placed_at (joined (map one s.before ++ Used (map f bytes) ∷ Hole (size_of s.here - (4 + n)) ∷ map one s.after)) h.end
+      (place_after s.before + 4)) (length-map bytes f)
+      ∙ ap (λ ss. placed_at (joined ss) h.end (place_after s.before + 4)) (sym (map-append one s.before (Used bytes ∷ Hole (size_of s.here -
+      (4 + length bytes)) ∷ s.after)))
+      ∙ ap (λ ss. placed_at ss h.end (place_after s.before + 4)) (joined-renamed (s.before ++ Used bytes ∷ Hole (size_of s.here -
+      (4 + length bytes)) ∷ s.after))
   resized_by-renamed (GrowsIntoHole size rest) bytes s h =
-      ap (λ a. placed_at (map one s.before ++ Used (map f bytes) ∷ with_hole ((size_of (one s.here) + size) - (4 + length (map f bytes))) (map one rest)) h.end (a + 4)) (place-renamed s.before)
-      ∙ ap (λ n. placed_at (map one s.before ++ Used (map f bytes) ∷ with_hole ((n + size) - (4 + length (map f bytes))) (map one rest)) h.end (place_after s.before + 4)) (size-renamed s.here)
-      ∙ ap (λ n. placed_at (map one s.before ++ Used (map f bytes) ∷ with_hole ((size_of s.here + size) - (4 + n)) (map one rest)) h.end (place_after s.before + 4)) (length-map bytes f)
-      ∙ ap (λ ss. placed_at (map one s.before ++ Used (map f bytes) ∷ ss) h.end (place_after s.before + 4)) (with_hole-renamed ((size_of s.here + size) - (4 + length bytes)) rest)
-      ∙ ap (λ ss. placed_at ss h.end (place_after s.before + 4)) (sym (map-append one s.before (Used bytes ∷ with_hole ((size_of s.here + size) - (4 + length bytes)) rest)))
+      ap (λ a. placed_at (map one s.before ++ Used (map f bytes) ∷ with_hole ((size_of (one s.here) + size) - (4 + length (map f bytes)))
+      (map one rest)) h.end (a + 4)) (place-renamed s.before)
+      ∙ ap (λ n. placed_at (map one s.before ++ Used (map f bytes) ∷ with_hole ((n + size) - (4 + length (map f bytes))) (map one rest)) h.end
+      (place_after s.before + 4)) (size-renamed s.here)
+      ∙ ap (λ n. placed_at (map one s.before ++ Used (map f bytes) ∷ with_hole ((size_of s.here + size) - (4 + n)) (map one rest)) h.end
+      (place_after s.before + 4)) (length-map bytes f)
+      ∙ ap (λ ss. placed_at (map one s.before ++ Used (map f bytes) ∷ ss) h.end (place_after s.before + 4)) (with_hole-renamed
+      ((size_of s.here + size) - (4 + length bytes)) rest)
+      ∙ ap (λ ss. placed_at ss h.end (place_after s.before + 4)) (sym (map-append one s.before (Used bytes ∷ with_hole ((size_of s.here + size) -
+      (4 + length bytes)) rest)))
   resized_by-renamed GrowsAtTop bytes s h =
       ap (λ a. placed_at (map one s.before ++ Used (map f bytes) ∷ []) h.end (a + 4)) (place-renamed s.before)
       ∙ ap (λ ss. placed_at ss h.end (place_after s.before + 4)) (sym (map-append one s.before (Used bytes ∷ [])))
@@ -234,9 +262,12 @@ module _ (f : ℕ → ℕ) (zero-is : f 0 ≡ 0) where
   pub resize-renamed : (n : ℕ) (s : Split Segment) (h : Heap) → resize_growing n (renamed_cut f s) (renamed_heap f h) ≡ renamed_placed f (resize_growing n s h)
   resize-renamed n s h =
       ap (λ m. resized n (renamed_cut f s) (renamed_heap f h) (raised m (renamed_heap f h))) (resize_need-renamed f n s h)
-      ∙ ap (λ w. resized_by w (fitted (block_room n) (bytes_of (renamed_segment f s.here))) (renamed_cut f s) (renamed_heap f longer)) (way_to-renamed f (segment_size n) s h)
-      ∙ ap (λ bytes. resized_by (renamed_way f (way_to (segment_size n) s h)) (fitted (block_room n) bytes) (renamed_cut f s) (renamed_heap f longer)) (bytes-renamed f s.here)
-      ∙ ap (λ bytes. resized_by (renamed_way f (way_to (segment_size n) s h)) bytes (renamed_cut f s) (renamed_heap f longer)) (fitted-map f zero-is (block_room n) (bytes_of s.here))
+      ∙ ap (λ w. resized_by w (fitted (block_room n) (bytes_of (renamed_segment f s.here))) (renamed_cut f s) (renamed_heap f longer))
+      (way_to-renamed f (segment_size n) s h)
+      ∙ ap (λ bytes. resized_by (renamed_way f (way_to (segment_size n) s h)) (fitted (block_room n) bytes) (renamed_cut f s)
+      (renamed_heap f longer)) (bytes-renamed f s.here)
+      ∙ ap (λ bytes. resized_by (renamed_way f (way_to (segment_size n) s h)) bytes (renamed_cut f s) (renamed_heap f longer)) (fitted-map f zero-is
+      (block_room n) (bytes_of s.here))
       ∙ resized_by-renamed f (way_to (segment_size n) s h) (fitted (block_room n) (bytes_of s.here)) s longer
     where
       longer : Heap

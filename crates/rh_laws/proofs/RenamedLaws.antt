@@ -16,7 +16,8 @@ use Rattle.rh_defs.specs.Questions.{Told, asked}
 use Rattle.rh_defs.specs.Step.{change, step}
 use Rattle.rh_defs.specs.Runs.{start_with, after, replies}
 use Rattle.rh_defs.proofs.Follows.{Follows, follows-as, or_else-follows}
-use Rattle.rh_laws.specs.Renaming.{renamed, renamed_files, renamed_command, renamed_listed, renamed_told, renamed_piece, StepsRenamed, ShowsRenamed, PiecesRenamed, AlwaysRenamed, has_byte, puts_byte, is_given, ShowsGiven}
+use Rattle.rh_laws.specs.Renaming.{renamed, renamed_files, renamed_command, renamed_listed, renamed_told, renamed_piece, StepsRenamed, ShowsRenamed}
+use Rattle.rh_laws.specs.Renaming.{PiecesRenamed, AlwaysRenamed, has_byte, puts_byte, is_given, ShowsGiven}
 use Rattle.rh_laws.proofs.RenamedParts.{By, follows-by}
 use Rattle.rh_laws.proofs.RenamedSlots.{slot_block-renamed}
 use Rattle.rh_laws.proofs.RenamedDesks.{renamed_with, named-renamed, asked-renamed}
@@ -80,7 +81,8 @@ pieces-renamed f e d name k offset n =
 
 -- ---- runs
 
-after-renamed : (f : ℕ → ℕ) → f 0 ≡ 0 → (commands : List Command) (d : Desk) → after (renamed f d) (map (renamed_command f) commands) ≡ renamed f (after d commands)
+after-renamed : (f : ℕ → ℕ) → f 0 ≡ 0 → (commands : List Command) (d : Desk) → after (renamed f d) (map (renamed_command f) commands)
+    ≡ renamed f (after d commands)
 after-renamed f e [] d = refl
 after-renamed f e (c ∷ commands) d =
     ap (λ (a : Answer). after a.0 (map (renamed_command f) commands)) (steps-renamed f e d c) ∙ after-renamed f e commands (step d c).0
@@ -128,7 +130,8 @@ stay test (x ∷ xs) all =
     same n = grind arith
 
 -- the commands stay whose bytes pass the test, and so do the files
-commands-stay : (test : ℕ → Bool) (commands : List Command) → ((b : ℕ) → list_any (puts_byte b) commands ≡ true → test b ≡ true) → map (renamed_command (λ b. cond (test b) b 0)) commands ≡ commands
+commands-stay : (test : ℕ → Bool) (commands : List Command) → ((b : ℕ) → list_any (puts_byte b) commands ≡ true → test b ≡ true) →
+    map (renamed_command (λ b. cond (test b) b 0)) commands ≡ commands
 commands-stay test [] all = refl
 commands-stay test (c ∷ commands) all =
     ap (λ d. d ∷ map (renamed_command (λ b. cond (test b) b 0)) commands) (one c (λ b e. all b (any-here (puts_byte b) c commands e)))
@@ -160,10 +163,12 @@ commands-stay test (c ∷ commands) all =
     one (command.RmaResize address delta) all = refl
     one (command.Ask q) all = refl
 
-files-stay : (test : ℕ → Bool) (files : FileList) → ((b : ℕ) → list_any (λ file. has_byte b file.1) files ≡ true → test b ≡ true) → renamed_files (λ b. cond (test b) b 0) files ≡ files
+files-stay : (test : ℕ → Bool) (files : FileList) → ((b : ℕ) → list_any (λ file. has_byte b file.1) files ≡ true → test b ≡ true) →
+    renamed_files (λ b. cond (test b) b 0) files ≡ files
 files-stay test [] all = refl
 files-stay test (file ∷ files) all =
-    ap (λ bytes. (file.0, bytes) ∷ renamed_files (λ b. cond (test b) b 0) files) (stay test file.1 (λ b e. all b (or-left (has_byte b file.1) (list_any (λ other. has_byte b other.1) files) e)))
+    ap (λ bytes. (file.0, bytes) ∷ renamed_files (λ b. cond (test b) b 0) files) (stay test file.1 (λ b e. all b (or-left (has_byte b file.1)
+    (list_any (λ other. has_byte b other.1) files) e)))
     ∙ ap (λ l. file ∷ l) (files-stay test files (λ b e. all b (or-right (has_byte b file.1) (list_any (λ other. has_byte b other.1) files) e)))
 
 -- bytes that stay pass the test, which 0 passes
@@ -191,7 +196,8 @@ bytes_of_told (Err refusal) = []
 
 pub shows-given : ShowsGiven
 shows-given pool handle ref files commands name k r bytes is =
-    pass given refl bytes (ap bytes_of_told (sym (ap (renamed_told f) is) ∙ sym (shows-renamed f (zero-stays (given 0)) d (question.Show name k)) ∙ ap (λ (e : Desk). asked e (question.Show name k)) same ∙ is))
+    pass given refl bytes (ap bytes_of_told (sym (ap (renamed_told f) is) ∙ sym (shows-renamed f (zero-stays (given 0)) d
+    (question.Show name k)) ∙ ap (λ (e : Desk). asked e (question.Show name k)) same ∙ is))
   where
     given : ℕ → Bool
     given b = is_given files commands b
@@ -205,5 +211,7 @@ shows-given pool handle ref files commands name k r bytes is =
     same : renamed f d ≡ d
     same =
         sym (after-renamed f (zero-stays (given 0)) commands (start_with pool files handle ref))
-        ∙ ap (λ l. after (start_with pool l handle ref) (map (renamed_command f) commands)) (files-stay given files λ b e. or-right (b == 0) _ (or-right (list_any (puts_byte b) commands) _ e))
-        ∙ ap (after (start_with pool files handle ref)) (commands-stay given commands λ b e. or-right (b == 0) _ (or-left (list_any (puts_byte b) commands) _ e))
+        ∙ ap (λ l. after (start_with pool l handle ref) (map (renamed_command f) commands)) (files-stay given files λ b e. or-right (b == 0) _
+        (or-right (list_any (puts_byte b) commands) _ e))
+        ∙ ap (after (start_with pool files handle ref)) (commands-stay given commands λ b e. or-right (b == 0) _ (or-left (list_any
+        (puts_byte b) commands) _ e))

@@ -42,8 +42,10 @@ found-by {A} g o p e same = subst (λ z. Follows (By g) (found_or o e) (found_or
     go (Some x) = Follows.both refl
 
 -- a chain whose answer is made into another
-pub by-is : {A : Type 0} {g : A → A} {first second : Granted A} (instead other : Refusal → A) → Follows (By g) first second → ((e : Refusal) → By g (instead e) (other e))
-    → (h : Granted A → (Refusal → A) → A) → ((x : A) (i : Refusal → A) → h (Ok x) i ≡ x) → ((e : Refusal) (i : Refusal → A) → h (Err e) i ≡ i e) → h second other ≡ g (h first instead)
+pub by-is : {A : Type 0} {g : A → A} {first second : Granted A} (instead other : Refusal → A) → Follows (By g) first second → ((e : Refusal) →
+    By g (instead e) (other e))
+    → (h : Granted A → (Refusal → A) → A) → ((x : A) (i : Refusal → A) → h (Ok x) i ≡ x) → ((e : Refusal) (i : Refusal → A) → h (Err e) i ≡ i e) →
+    h second other ≡ g (h first instead)
 by-is {g = g} instead other (Follows.both {x = x} {y = y} e) k h ok err = ok y other ∙ e ∙ ap g (sym (ok x instead))
 by-is {g = g} instead other (Follows.neither {refusal = e}) k h ok err = err e other ∙ k e ∙ ap g (sym (err e instead))
 
@@ -82,15 +84,18 @@ pub find-map : {A : Type 0} (test : A → Bool) (g : A → A) → ((x : A) → t
 find-map test g same [] = refl
 find-map {A} test g same (x ∷ xs) = ap (λ c. cond c (Some (g x)) (find test (map g xs))) (same x) ∙ go (test x) (find-map test g same xs)
   where
-    go : (b : Bool) → find test (map g xs) ≡ option_map g (find test xs) → cond b (Some (g x)) (find test (map g xs)) ≡ option_map g (cond b (Some x) (find test xs))
+    go : (b : Bool) → find test (map g xs) ≡ option_map g (find test xs) → cond b (Some (g x)) (find test (map g xs))
+        ≡ option_map g (cond b (Some x) (find test xs))
     go true e = refl
     go false e = e
 
 pub filter-map : {A : Type 0} (test : A → Bool) (g : A → A) → ((x : A) → test (g x) ≡ test x) → (xs : List A) → filter test (map g xs) ≡ map g (filter test xs)
 filter-map test g same [] = refl
-filter-map {A} test g same (x ∷ xs) = ap (λ c. cond c (g x ∷ filter test (map g xs)) (filter test (map g xs))) (same x) ∙ go (test x) (filter-map test g same xs)
+filter-map {A} test g same (x ∷ xs) = ap (λ c. cond c (g x ∷ filter test (map g xs)) (filter test (map g xs))) (same x) ∙ go (test x)
+    (filter-map test g same xs)
   where
-    go : (b : Bool) → filter test (map g xs) ≡ map g (filter test xs) → cond b (g x ∷ filter test (map g xs)) (filter test (map g xs)) ≡ map g (cond b (x ∷ filter test xs) (filter test xs))
+    go : (b : Bool) → filter test (map g xs) ≡ map g (filter test xs) → cond b (g x ∷ filter test (map g xs)) (filter test (map g xs))
+        ≡ map g (cond b (x ∷ filter test xs) (filter test xs))
     go true e = ap (λ l. g x ∷ l) e
     go false e = e
 

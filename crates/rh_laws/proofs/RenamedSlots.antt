@@ -6,13 +6,17 @@ use Rattle.std.specs.Option.{option_map}
 use Rattle.rh_defs.specs.declared.refusal.Refusal.TheVariants.{NoBlock, NotABlock}
 use Rattle.rh_defs.specs.Pieces.{pages_for, lacks_pages, moved, total, Split, written, zeros, is_inside}
 use Rattle.rh_defs.specs.Heap.{Segment, Used, Heap, Placed, bytes_of, place_after, block_around, claim_growing, new_size, resize_need, resize_growing, fitted}
-use Rattle.rh_defs.specs.Slot.{Slot, Flex, weight, flex_weight, heap_start, slot_length, slot_pages, flex_start, flex_address, block_of, is_used, heap_block_at, flex_around, holds, with_bytes, without, with_heap, opened_at, taken_out, lacks_room, length_with, is_stuck, with_placed}
+use Rattle.rh_defs.specs.Slot.{Slot, Flex, weight, flex_weight, heap_start, slot_length, slot_pages, flex_start, flex_address, block_of, is_used}
+use Rattle.rh_defs.specs.Slot.{heap_block_at, flex_around, holds, with_bytes, without, with_heap, opened_at, taken_out, lacks_room, length_with}
+use Rattle.rh_defs.specs.Slot.{is_stuck, with_placed}
 use Rattle.rh_defs.specs.Slot.{slot_alloc, slot_block, slot_free, slot_extend, slot_mid, slot_put, slot_claim, slot_release, slot_resize}
 use Rattle.rh_defs.specs.Places.{with_heap_bytes, roomy_in, buffer_at, written_heap, written_around, written_in, first_bytes, free_from}
 use Rattle.rh_defs.proofs.Follows.{Follows}
 use Rattle.rh_laws.specs.Renaming.{renamed_block, renamed_segment, renamed_heap, renamed_slot}
 use Rattle.rh_laws.proofs.RenamedParts.{By, follows-by, follows-test, found-by, total-map, cut_by, first_at-map, zeros-map, fitted-map, written-map}
-use Rattle.rh_laws.proofs.RenamedHeaps.{renamed_cut, renamed_placed, room-renamed, bytes-renamed, place-renamed, block_at-renamed, block_around-renamed, need-renamed, released-renamed, resize_need-renamed, new_size-renamed, claim-renamed, resize-renamed}
+use Rattle.rh_laws.proofs.RenamedHeaps.{renamed_cut, renamed_placed, room-renamed, bytes-renamed, place-renamed, block_at-renamed}
+use Rattle.rh_laws.proofs.RenamedHeaps.{block_around-renamed, need-renamed, released-renamed, resize_need-renamed, new_size-renamed, claim-renamed}
+use Rattle.rh_laws.proofs.RenamedHeaps.{resize-renamed}
 
 -- a cut of a slot's blocks with their bytes renamed
 abbrev pub renamed_here : (ℕ → ℕ) → Split Flex → Split Flex
@@ -57,7 +61,8 @@ module _ (f : ℕ → ℕ) where
   used-renamed k s = ap is_some (block_of-renamed k s) ∙ some-map (renamed_here f) (block_of k s)
 
   pub flex_around-renamed : (x n : ℕ) (s : Slot) → flex_around x n (renamed_slot f s) ≡ option_map (renamed_here f) (flex_around x n s)
-  flex_around-renamed x n s = first_at-map weight (λ place b. is_inside x n (place + 8) (length b.bytes)) one weight-renamed (λ p b. ap (is_inside x n (p + 8)) (length-map b.bytes f)) _ s.blocks
+  flex_around-renamed x n s = first_at-map weight (λ place b. is_inside x n (place + 8) (length b.bytes)) one weight-renamed (λ p b. ap
+      (is_inside x n (p + 8)) (length-map b.bytes f)) _ s.blocks
 
   pub heap_block_at-renamed : (address : ℕ) (s : Slot) → heap_block_at address (renamed_slot f s) ≡ option_map (renamed_cut f) (heap_block_at address s)
   heap_block_at-renamed address s = block_at-renamed f (address - heap_start) s.heap
@@ -65,7 +70,8 @@ module _ (f : ℕ → ℕ) where
   pub holds-renamed : (x n : ℕ) (s : Slot) → holds x n (renamed_slot f s) ≡ holds x n s
   holds-renamed x n s =
       ap (λ o. is_some o || (nat_le heap_start x && is_some (block_around (x - heap_start) n (renamed_heap f s.heap)))) (flex_around-renamed x n s)
-      ∙ ap (λ b. b || (nat_le heap_start x && is_some (block_around (x - heap_start) n (renamed_heap f s.heap)))) (some-map (renamed_here f) (flex_around x n s))
+      ∙ ap (λ b. b || (nat_le heap_start x && is_some (block_around (x - heap_start) n (renamed_heap f s.heap)))) (some-map (renamed_here f)
+      (flex_around x n s))
       ∙ ap (λ o. is_some (flex_around x n s) || (nat_le heap_start x && is_some o)) (block_around-renamed f (x - heap_start) n s.heap)
       ∙ ap (λ b. is_some (flex_around x n s) || (nat_le heap_start x && b)) (some-map (renamed_cut f) (block_around (x - heap_start) n s.heap))
 
@@ -77,7 +83,8 @@ module _ (f : ℕ → ℕ) where
 
   -- ---- edits
 
-  with_bytes-renamed : (b : Split Flex) (bytes : List ℕ) (s : Slot) → with_bytes (renamed_here f b) (map f bytes) (renamed_slot f s) ≡ renamed_slot f (with_bytes b bytes s)
+  with_bytes-renamed : (b : Split Flex) (bytes : List ℕ) (s : Slot) → with_bytes (renamed_here f b) (map f bytes) (renamed_slot f s)
+      ≡ renamed_slot f (with_bytes b bytes s)
   with_bytes-renamed b bytes s = ap (slot_of s) (sym (map-append one b.before (record { anchor = b.here.anchor; bytes = bytes } ∷ b.after)))
 
   without-renamed : (b : Split Flex) (s : Slot) → without (renamed_here f b) (renamed_slot f s) ≡ renamed_slot f (without b s)
@@ -88,7 +95,8 @@ module _ (f : ℕ → ℕ) where
   room-alike : (free w : ℕ) (s : Slot) → lacks_room free (slot_length (renamed_slot f s) + w) (renamed_slot f s) ≡ lacks_room free (slot_length s + w) s
   room-alike free w s = ap (λ l. nat_lt free (pages_for (l + w) - pages_for l)) (length-renamed s)
 
-  room-within : (free n : ℕ) (b : Split Flex) (s : Slot) → lacks_room free (length_with (renamed_here f b) n (renamed_slot f s)) (renamed_slot f s) ≡ lacks_room free (length_with b n s) s
+  room-within : (free n : ℕ) (b : Split Flex) (s : Slot) → lacks_room free (length_with (renamed_here f b) n (renamed_slot f s)) (renamed_slot f s)
+      ≡ lacks_room free (length_with b n s) s
   room-within free n b s =
       ap (λ l. nat_lt free (pages_for ((l + flex_weight n) - weight (one b.here)) - pages_for l)) (length-renamed s)
       ∙ ap (λ w. nat_lt free (pages_for ((slot_length s + flex_weight n) - w) - pages_for (slot_length s))) (weight-renamed b.here)
@@ -103,12 +111,15 @@ module _ (f : ℕ → ℕ) where
   unfolding slot_free
   slot_free-renamed k s = follows-by _ _ (slot_block-renamed k s) λ b. Follows.both (without-renamed b s)
 
-  pub slot_put-renamed : (k offset : ℕ) (bytes : List ℕ) (s : Slot) → Follows (By (renamed_slot f)) (slot_put k offset bytes s) (slot_put k offset (map f bytes) (renamed_slot f s))
+  pub slot_put-renamed : (k offset : ℕ) (bytes : List ℕ) (s : Slot) → Follows (By (renamed_slot f)) (slot_put k offset bytes s) (slot_put k offset
+      (map f bytes) (renamed_slot f s))
   unfolding slot_put
   slot_put-renamed k offset bytes s =
       follows-by _ _ (slot_block-renamed k s) λ b.
-      follows-test _ _ _ _ _ (ap (λ n. nat_lt n (offset + length (map f bytes))) (length-map b.here.bytes f) ∙ ap (λ n. nat_lt (length b.here.bytes) (offset + n)) (length-map bytes f))
-      (Follows.both (ap (λ l. with_bytes (renamed_here f b) l (renamed_slot f s)) (written-map f b.here.bytes offset bytes) ∙ with_bytes-renamed b (written b.here.bytes offset bytes) s))
+      follows-test _ _ _ _ _ (ap (λ n. nat_lt n (offset + length (map f bytes))) (length-map b.here.bytes f) ∙ ap (λ n. nat_lt (length b.here.bytes)
+      (offset + n)) (length-map bytes f))
+      (Follows.both (ap (λ l. with_bytes (renamed_here f b) l (renamed_slot f s)) (written-map f b.here.bytes offset bytes) ∙ with_bytes-renamed b
+      (written b.here.bytes offset bytes) s))
 
   pub slot_release-renamed : (address : ℕ) (s : Slot) → Follows (By (renamed_slot f)) (slot_release address s) (slot_release address (renamed_slot f s))
   unfolding slot_release
@@ -118,7 +129,8 @@ module _ (f : ℕ → ℕ) where
 
   -- ---- places
 
-  pub with_heap_bytes-renamed : (b : Split Segment) (offset : ℕ) (bytes : List ℕ) (s : Slot) → with_heap_bytes (renamed_cut f b) offset (map f bytes) (renamed_slot f s) ≡ renamed_slot f (with_heap_bytes b offset bytes s)
+  pub with_heap_bytes-renamed : (b : Split Segment) (offset : ℕ) (bytes : List ℕ) (s : Slot) → with_heap_bytes (renamed_cut f b) offset
+      (map f bytes) (renamed_slot f s) ≡ renamed_slot f (with_heap_bytes b offset bytes s)
   with_heap_bytes-renamed b offset bytes s =
       ap (λ l. heap_slot (map (renamed_segment f) b.before ++ Used (written l offset (map f bytes)) ∷ map (renamed_segment f) b.after)) (bytes-renamed f b.here)
       ∙ ap (λ l. heap_slot (map (renamed_segment f) b.before ++ Used l ∷ map (renamed_segment f) b.after)) (written-map f (bytes_of b.here) offset bytes)
@@ -138,13 +150,15 @@ module _ (f : ℕ → ℕ) where
       go None = refl
       go (Some b) = ap (λ m. cond (nat_le n m) (Some (renamed_cut f b)) None) (room-renamed f b.here) ∙ chosen (nat_le n (length (bytes_of b.here))) b
 
-  written_heap-renamed : (x : ℕ) (bytes : List ℕ) (o : Option (Split Segment)) (s : Slot) → written_heap x (map f bytes) (option_map (renamed_cut f) o) (renamed_slot f s) ≡ renamed_slot f (written_heap x bytes o s)
+  written_heap-renamed : (x : ℕ) (bytes : List ℕ) (o : Option (Split Segment)) (s : Slot) → written_heap x (map f bytes) (option_map
+      (renamed_cut f) o) (renamed_slot f s) ≡ renamed_slot f (written_heap x bytes o s)
   written_heap-renamed x bytes None s = refl
   written_heap-renamed x bytes (Some b) s =
       ap (λ p. with_heap_bytes (renamed_cut f b) (x - (heap_start + p + 4)) (map f bytes) (renamed_slot f s)) (place-renamed f b.before)
       ∙ with_heap_bytes-renamed b (x - (heap_start + place_after b.before + 4)) bytes s
 
-  written_around-renamed : (x : ℕ) (bytes : List ℕ) (o : Option (Split Flex)) (s : Slot) → written_around x (map f bytes) (option_map (renamed_here f) o) (renamed_slot f s) ≡ renamed_slot f (written_around x bytes o s)
+  written_around-renamed : (x : ℕ) (bytes : List ℕ) (o : Option (Split Flex)) (s : Slot) → written_around x (map f bytes) (option_map
+      (renamed_here f) o) (renamed_slot f s) ≡ renamed_slot f (written_around x bytes o s)
   written_around-renamed x bytes None s =
       ap (λ n. written_heap x (map f bytes) (block_around (x - heap_start) n (renamed_heap f s.heap)) (renamed_slot f s)) (length-map bytes f)
       ∙ ap (λ o. written_heap x (map f bytes) o (renamed_slot f s)) (block_around-renamed f (x - heap_start) (length bytes) s.heap)
@@ -154,7 +168,8 @@ module _ (f : ℕ → ℕ) where
       ∙ ap (λ l. with_bytes (renamed_here f b) l (renamed_slot f s)) (written-map f b.here.bytes (x - flex_address s b.before) bytes)
       ∙ with_bytes-renamed b (written b.here.bytes (x - flex_address s b.before) bytes) s
 
-  pub written_in-renamed : (x : ℕ) (bytes : List ℕ) (o : Option (Split Segment)) (s : Slot) → written_in x (map f bytes) (option_map (renamed_cut f) o) (renamed_slot f s) ≡ renamed_slot f (written_in x bytes o s)
+  pub written_in-renamed : (x : ℕ) (bytes : List ℕ) (o : Option (Split Segment)) (s : Slot) → written_in x (map f bytes) (option_map
+      (renamed_cut f) o) (renamed_slot f s) ≡ renamed_slot f (written_in x bytes o s)
   written_in-renamed x bytes (Some b) s = with_heap_bytes-renamed b 0 bytes s
   written_in-renamed x bytes None s =
       ap (λ n. written_around x (map f bytes) (flex_around x n (renamed_slot f s)) (renamed_slot f s)) (length-map bytes f)
@@ -174,8 +189,10 @@ module _ (f : ℕ → ℕ) (zero-is : f 0 ≡ 0) where
       follows-test _ _ _ _ _ (used-renamed f k s)
       (follows-test _ _ _ _ _ (room-alike f free (flex_weight n) s)
       (Follows.both (
-      ap (λ bytes. given (map (renamed_block f) s.blocks ++ record { anchor = k; bytes = bytes } ∷ []) (flex_address (renamed_slot f s) (map (renamed_block f) s.blocks))) (sym (zeros-map f zero-is n))
-      ∙ ap (λ blocks. given blocks (flex_address (renamed_slot f s) (map (renamed_block f) s.blocks))) (sym (map-append (renamed_block f) s.blocks (record { anchor = k; bytes = zeros n } ∷ [])))
+      ap (λ bytes. given (map (renamed_block f) s.blocks ++ record { anchor = k; bytes = bytes } ∷ []) (flex_address (renamed_slot f s) (map
+      (renamed_block f) s.blocks))) (sym (zeros-map f zero-is n))
+      ∙ ap (λ blocks. given blocks (flex_address (renamed_slot f s) (map (renamed_block f) s.blocks))) (sym (map-append (renamed_block f) s.blocks
+      (record { anchor = k; bytes = zeros n } ∷ [])))
       ∙ ap (given (map (renamed_block f) (s.blocks ++ record { anchor = k; bytes = zeros n } ∷ []))) (address-renamed f s s.blocks)
       )))
     where
@@ -187,7 +204,8 @@ module _ (f : ℕ → ℕ) (zero-is : f 0 ≡ 0) where
   slot_extend-renamed free k n s =
       follows-by _ _ (slot_block-renamed f k s) λ b.
       follows-test _ _ _ _ _ (room-within f free n b s)
-      (Follows.both (ap (λ l. with_bytes (renamed_here f b) l (renamed_slot f s)) (fitted-map f zero-is n b.here.bytes) ∙ with_bytes-renamed f b (fitted n b.here.bytes) s))
+      (Follows.both (ap (λ l. with_bytes (renamed_here f b) l (renamed_slot f s)) (fitted-map f zero-is n b.here.bytes) ∙ with_bytes-renamed f b
+      (fitted n b.here.bytes) s))
 
   opened-map : (offset : ℕ) (by : ℤ) (bytes : List ℕ) → opened_at offset by (map f bytes) ≡ map f (opened_at offset by bytes)
   opened-map offset (pos by) bytes =
@@ -201,13 +219,16 @@ module _ (f : ℕ → ℕ) (zero-is : f 0 ≡ 0) where
       ∙ ap (λ l. map f (take (offset - (by + 1)) bytes) ++ l) (drop-map f offset bytes)
       ∙ sym (map-append f (take (offset - (by + 1)) bytes) (drop offset bytes))
 
-  pub slot_mid-renamed : (free k offset : ℕ) (by : ℤ) (s : Slot) → Follows (By (renamed_slot f)) (slot_mid free k offset by s) (slot_mid free k offset by (renamed_slot f s))
+  pub slot_mid-renamed : (free k offset : ℕ) (by : ℤ) (s : Slot) → Follows (By (renamed_slot f)) (slot_mid free k offset by s)
+      (slot_mid free k offset by (renamed_slot f s))
   unfolding slot_mid
   slot_mid-renamed free k offset by s =
       follows-by _ _ (slot_block-renamed f k s) λ b.
       follows-test _ _ _ _ _ (ap (λ n. nat_lt n offset || nat_lt offset (taken_out by)) (length-map b.here.bytes f))
-      (follows-test _ _ _ _ _ (ap (λ n. lacks_room free (length_with (renamed_here f b) (moved n by) (renamed_slot f s)) (renamed_slot f s)) (length-map b.here.bytes f) ∙ room-within f free (moved (length b.here.bytes) by) b s)
-      (Follows.both (ap (λ l. with_bytes (renamed_here f b) l (renamed_slot f s)) (opened-map offset by b.here.bytes) ∙ with_bytes-renamed f b (opened_at offset by b.here.bytes) s)))
+      (follows-test _ _ _ _ _ (ap (λ n. lacks_room free (length_with (renamed_here f b) (moved n by) (renamed_slot f s)) (renamed_slot f s))
+      (length-map b.here.bytes f) ∙ room-within f free (moved (length b.here.bytes) by) b s)
+      (Follows.both (ap (λ l. with_bytes (renamed_here f b) l (renamed_slot f s)) (opened-map offset by b.here.bytes) ∙ with_bytes-renamed f b
+      (opened_at offset by b.here.bytes) s)))
 
   given-renamed : (p q : Placed) (s : Slot) → q ≡ renamed_placed f p → with_placed q (renamed_slot f s) ≡ renamed_given f (with_placed p s)
   given-renamed p q s e = ap (λ (r : Placed). with_placed r (renamed_slot f s)) e
@@ -220,7 +241,8 @@ module _ (f : ℕ → ℕ) (zero-is : f 0 ≡ 0) where
       (follows-test _ _ _ _ _ (ap (lacks_pages free) (need-renamed f n s.heap))
       (Follows.both (given-renamed (claim_growing n s.heap) _ s (claim-renamed f zero-is n s.heap)))))
 
-  pub slot_resize-renamed : (free address : ℕ) (delta : ℤ) (s : Slot) → Follows (By (renamed_given f)) (slot_resize free address delta s) (slot_resize free address delta (renamed_slot f s))
+  pub slot_resize-renamed : (free address : ℕ) (delta : ℤ) (s : Slot) → Follows (By (renamed_given f)) (slot_resize free address delta s)
+      (slot_resize free address delta (renamed_slot f s))
   unfolding slot_resize
   slot_resize-renamed free address delta s =
       follows-by _ _ (found-by (renamed_cut f) (heap_block_at address s) _ NotABlock (heap_block_at-renamed f address s)) λ b.
@@ -231,5 +253,7 @@ module _ (f : ℕ → ℕ) (zero-is : f 0 ≡ 0) where
       ap (λ n. resize_growing n (renamed_cut f b) (renamed_heap f s.heap)) (new_size-renamed f delta b) ∙ resize-renamed f zero-is (new_size delta b) b s.heap
       )))))
     where
-      short : (b : Split Segment) → resize_need (new_size delta (renamed_cut f b)) (renamed_cut f b) (renamed_heap f s.heap) ≡ resize_need (new_size delta b) b s.heap
-      short b = ap (λ n. resize_need n (renamed_cut f b) (renamed_heap f s.heap)) (new_size-renamed f delta b) ∙ resize_need-renamed f (new_size delta b) b s.heap
+      short : (b : Split Segment) → resize_need (new_size delta (renamed_cut f b)) (renamed_cut f b) (renamed_heap f s.heap)
+          ≡ resize_need (new_size delta b) b s.heap
+      short b = ap (λ n. resize_need n (renamed_cut f b) (renamed_heap f s.heap)) (new_size-renamed f delta b) ∙ resize_need-renamed f
+          (new_size delta b) b s.heap

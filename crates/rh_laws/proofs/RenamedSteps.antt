@@ -14,13 +14,17 @@ use Rattle.rh_defs.specs.Module.{module_claim, module_resize, module_change}
 use Rattle.rh_defs.specs.Letters.{save_letter}
 use Rattle.rh_defs.specs.Post.{post_join, post_death}
 use Rattle.rh_defs.specs.Desk.{Desk, Task, Scrap, most_tasks, free_pages, next_ref, has_name, with_slot, with_delivered, send_letter}
-use Rattle.rh_defs.specs.Commands.{Answer, start_task, kill, alloc, load, put, free, extend, mid, claim, release, resize, budge, scrap_area, module_area, module_start, file_length, least_length, pages_after, change_module, change_pages, change_made, change_area, make, remove, own_block, rma_claim, rma_free, rma_resize}
+use Rattle.rh_defs.specs.Commands.{Answer, start_task, kill, alloc, load, put, free, extend, mid, claim, release, resize, budge, scrap_area}
+use Rattle.rh_defs.specs.Commands.{module_area, module_start, file_length, least_length, pages_after, change_module, change_pages, change_made}
+use Rattle.rh_defs.specs.Commands.{change_area, make, remove, own_block, rma_claim, rma_free, rma_resize}
 use Rattle.rh_defs.specs.Step.{save, repeat, cancel_in, cancel_out}
 use Rattle.rh_defs.proofs.Follows.{Follows, follows-same, follows-then, follows-equal, follows-as, chosen-both}
 use Rattle.rh_laws.specs.Renaming.{renamed_slot, renamed_task, renamed_scrap, renamed}
 use Rattle.rh_laws.proofs.RenamedParts.{By, follows-by, follows-test, found-by, find-map, filter-map}
-use Rattle.rh_laws.proofs.RenamedSlots.{renamed_given, slot_put-renamed, slot_free-renamed, slot_release-renamed, slot_alloc-renamed, slot_extend-renamed, slot_mid-renamed, slot_claim-renamed, slot_resize-renamed}
-use Rattle.rh_laws.proofs.RenamedDesks.{renamed_with, any-map, free-renamed, where-free, named-renamed, idle_block-renamed, idle_buffer-renamed, with_task-renamed, with_slot-renamed, delivered-renamed, send_letter-renamed}
+use Rattle.rh_laws.proofs.RenamedSlots.{renamed_given, slot_put-renamed, slot_free-renamed, slot_release-renamed, slot_alloc-renamed}
+use Rattle.rh_laws.proofs.RenamedSlots.{slot_extend-renamed, slot_mid-renamed, slot_claim-renamed, slot_resize-renamed}
+use Rattle.rh_laws.proofs.RenamedDesks.{renamed_with, any-map, free-renamed, where-free, named-renamed, idle_block-renamed, idle_buffer-renamed}
+use Rattle.rh_laws.proofs.RenamedDesks.{with_task-renamed, with_slot-renamed, delivered-renamed, send_letter-renamed}
 
 -- a file with its bytes renamed
 abbrev renamed_file : (ℕ → ℕ) → List ℕ × List ℕ → List ℕ × List ℕ
@@ -36,7 +40,8 @@ module _ (f : ℕ → ℕ) (zero-is : f 0 ≡ 0) where
 
   -- ---- tasks
 
-  pub start_task-renamed : (d : Desk) (name : List ℕ) (buffer : ℕ) (manner : Manner) → After (start_task d name buffer manner) (start_task (renamed f d) name buffer manner)
+  pub start_task-renamed : (d : Desk) (name : List ℕ) (buffer : ℕ) (manner : Manner) → After (start_task d name buffer manner) (start_task
+      (renamed f d) name buffer manner)
   unfolding start_task slot_begin
   start_task-renamed d name buffer manner =
       follows-as _ _ _ _ (ap (λ b. refuse_if b NameInUse) (any-map (has_name name) (renamed_task f) (λ t. refl) d.tasks))
@@ -58,8 +63,10 @@ module _ (f : ℕ → ℕ) (zero-is : f 0 ≡ 0) where
   kill-renamed d name =
       follows-by _ _ (named-renamed f name d) λ t.
       Follows.both (
-      ap (λ (e : Desk). (record e { tasks = filter (others t) (map (renamed_task f) d.tasks) }, reply.Done)) (delivered-renamed f (post_death t.handle d.post) d)
-      ∙ ap (λ (ts : List Task). (record (renamed f (with_delivered (post_death t.handle d.post) d)) { tasks = ts }, reply.Done)) (filter-map (others t) (renamed_task f) (λ u. refl) d.tasks)
+      ap (λ (e : Desk). (record e { tasks = filter (others t) (map (renamed_task f) d.tasks) }, reply.Done)) (delivered-renamed f
+      (post_death t.handle d.post) d)
+      ∙ ap (λ (ts : List Task). (record (renamed f (with_delivered (post_death t.handle d.post) d)) { tasks = ts }, reply.Done)) (filter-map
+      (others t) (renamed_task f) (λ u. refl) d.tasks)
       )
     where
       others : Task → Task → Bool
@@ -79,15 +86,18 @@ module _ (f : ℕ → ℕ) (zero-is : f 0 ≡ 0) where
   load-renamed d name k file =
       follows-by _ _ (named-renamed f name d) λ t.
       follows-by _ _ (found-by (renamed_file f) (find is_it d.files) _ NoFile (find-map is_it (renamed_file f) (λ entry. refl) d.files)) λ entry.
-      follows-by _ _ (subst (λ n. Follows (By (renamed_given f)) (slot_alloc (free_pages d) k (length entry.1) t.slot) (slot_alloc (free_pages (renamed f d)) k n (renamed_slot f t.slot))) (sym (length-map entry.1 f))
-      (where-free f d (λ m. slot_alloc m k (length entry.1) (renamed_slot f t.slot)) (slot_alloc-renamed f zero-is (free_pages d) k (length entry.1) t.slot))) λ p.
+      follows-by _ _ (subst (λ n. Follows (By (renamed_given f)) (slot_alloc (free_pages d) k (length entry.1) t.slot) (slot_alloc (free_pages
+      (renamed f d)) k n (renamed_slot f t.slot))) (sym (length-map entry.1 f))
+      (where-free f d (λ m. slot_alloc m k (length entry.1) (renamed_slot f t.slot)) (slot_alloc-renamed f zero-is (free_pages d) k
+      (length entry.1) t.slot))) λ p.
       follows-by _ _ (slot_put-renamed f k 0 entry.1 p.0) λ s.
       Follows.both (slot-back t.handle s d (reply.Block p.1))
     where
       is_it : List ℕ × List ℕ → Bool
       is_it entry = bytes_eq entry.0 file
 
-  pub put-renamed : (d : Desk) (name : List ℕ) (k offset : ℕ) (bytes : List ℕ) → After (put d name k offset bytes) (put (renamed f d) name k offset (map f bytes))
+  pub put-renamed : (d : Desk) (name : List ℕ) (k offset : ℕ) (bytes : List ℕ) → After (put d name k offset bytes) (put (renamed f d) name k offset
+      (map f bytes))
   unfolding put
   put-renamed d name k offset bytes =
       follows-by _ _ (named-renamed f name d) λ t. follows-by _ _ (idle_block-renamed f k t) λ b.
@@ -132,7 +142,8 @@ module _ (f : ℕ → ℕ) (zero-is : f 0 ≡ 0) where
   unfolding resize
   resize-renamed d name address delta =
       follows-by _ _ (named-renamed f name d) λ t. follows-by _ _ (idle_buffer-renamed f address t) λ b.
-      follows-by _ _ (where-free f d (λ m. slot_resize m address delta (renamed_slot f t.slot)) (slot_resize-renamed f zero-is (free_pages d) address delta t.slot)) λ p.
+      follows-by _ _ (where-free f d (λ m. slot_resize m address delta (renamed_slot f t.slot)) (slot_resize-renamed f zero-is
+      (free_pages d) address delta t.slot)) λ p.
       Follows.both (slot-back t.handle p.0 d (reply.Block p.1))
 
   pub budge-renamed : (d : Desk) (name : List ℕ) (on : Bool) → After (budge d name on) (budge (renamed f d) name on)
@@ -148,7 +159,8 @@ module _ (f : ℕ → ℕ) (zero-is : f 0 ≡ 0) where
   save-renamed d name k to leaf =
       follows-by _ _ (named-renamed f name d) λ t. follows-by _ _ (idle_block-renamed f k t) λ b. follows-then _ _ _ (
       follows-by _ _ (found-by (renamed_task f) (find (has_name to) d.tasks) _ NoTask (find-map (has_name to) (renamed_task f) (λ u. refl) d.tasks)) λ r.
-      follows-by _ _ (subst (λ n. Follows (By (renamed f)) (send_letter (save_letter t.handle r.handle (length b.here.bytes) leaf) d) (send_letter (save_letter t.handle r.handle n leaf) (renamed f d))) (sym (length-map b.here.bytes f))
+      follows-by _ _ (subst (λ n. Follows (By (renamed f)) (send_letter (save_letter t.handle r.handle (length b.here.bytes) leaf) d) (send_letter
+      (save_letter t.handle r.handle n leaf) (renamed f d))) (sym (length-map b.here.bytes f))
       (send_letter-renamed f (save_letter t.handle r.handle (length b.here.bytes) leaf) d)) λ sent.
       Follows.both (ap (λ (e : Desk). (e, reply.Sent (next_ref d))) (with_task-renamed f t.handle _ _ sent (λ u. refl))))
 
@@ -220,4 +232,5 @@ module _ (f : ℕ → ℕ) (zero-is : f 0 ≡ 0) where
   pub rma_resize-renamed : (d : Desk) (address : ℕ) (delta : ℤ) → After (rma_resize d address delta) (rma_resize (renamed f d) address delta)
   unfolding rma_resize own_block
   rma_resize-renamed d address delta =
-      follows-same _ _ _ λ b. follows-equal _ _ _ _ (ap (λ m. module_resize m (address - module_start) delta d.post.heap) (free-renamed f d)) λ c. Follows.both refl
+      follows-same _ _ _ λ b. follows-equal _ _ _ _ (ap (λ m. module_resize m (address - module_start) delta d.post.heap)
+      (free-renamed f d)) λ c. Follows.both refl

@@ -48,7 +48,8 @@ renamed_scrap f file = record file { bytes = map f file.bytes }
 abbrev pub renamed_files : (ℕ → ℕ) → FileList → FileList
 renamed_files f files = map (λ file. (file.0, map f file.1)) files
 
--- a desk with the bytes of all slots, of the scrap file and of the files renamed; the module area's stay, which no command gives or shows
+-- A desk with the bytes of all slots, of the scrap file and of the files renamed. The module area's stay: no command puts
+-- bytes there, and none shows them.
 abbrev pub renamed : (ℕ → ℕ) → Desk → Desk
 renamed f d = record d {
   tasks = map (renamed_task f) d.tasks;
@@ -127,6 +128,7 @@ is_given files commands b = b == 0 || (list_any (puts_byte b) commands || list_a
 -- what is shown after a run has no byte that wasn't given to it
 abbrev pub ShowsGiven : Type 0
 ShowsGiven =
-    (pool handle ref : ℕ) (files : FileList) (commands : List Command) (name : List ℕ) (k : ℕ) (r : Reply) (bytes : List ℕ) →
+    (pool handle ref : ℕ) (files : FileList) (commands : List Command) (name : List ℕ) (k : ℕ) (r : Reply) →
+    (bytes : List ℕ) →
     asked (after (start_with pool files handle ref) commands) (question.Show name k) ≡ Ok (r, Bytes bytes) →
     AllByRecursion (λ b. is_given files commands b ≡ true) bytes
