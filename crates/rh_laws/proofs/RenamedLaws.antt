@@ -101,10 +101,7 @@ always-renamed f e pool handle ref files commands = record {
 
 -- ---- where shown bytes come from
 
--- each byte that was given stays, and any other becomes 0
-abbrev given_or_zero : FileList → List Command → ℕ → ℕ
-given_or_zero files commands b = cond (is_given files commands b) b 0
-
+-- 0 stays 0, whether it passes a test or not
 zero-stays : (b : Bool) → ◌≡◌ {A = ℕ} (cond b 0 0) 0
 zero-stays true = refl
 zero-stays false = refl

@@ -1,7 +1,7 @@
 -- Lists, heaps and slots with their bytes renamed: each look-up finds the renamed thing, and each size stays.
 use Rattle.std.proofs.Common.{◌≡◌, ℕ, zero, suc, ◌+◌, ◌-◌, Bool, true, false, cond, List, [], ◌∷◌, ◌++◌, length, map, refl, sym, ap, subst, ◌∙◌}
 use Rattle.std.proofs.lemmas.List.{length-map, map-append, take-map, drop-map}
-use Rattle.std.specs.Prelude.{Option, Some, None, Ok, Err, take, drop, filter, find}
+use Rattle.std.specs.Prelude.{Option, Some, None, take, drop, filter, find}
 use Rattle.std.specs.Option.{option_map}
 use Rattle.rh_defs.specs.declared.refusal.Refusal.{Refusal}
 use Rattle.rh_defs.specs.Chain.{Granted, ◌>>=◌, refuse_if, found_or}
@@ -40,14 +40,6 @@ found-by {A} g o p e same = subst (λ z. Follows (By g) (found_or o e) (found_or
     go : (o : Option A) → Follows (By g) (found_or o e) (found_or (option_map g o) e)
     go None = Follows.neither
     go (Some x) = Follows.both refl
-
--- a chain whose answer is made into another
-pub by-is : {A : Type 0} {g : A → A} {first second : Granted A} (instead other : Refusal → A) → Follows (By g) first second → ((e : Refusal) →
-    By g (instead e) (other e))
-    → (h : Granted A → (Refusal → A) → A) → ((x : A) (i : Refusal → A) → h (Ok x) i ≡ x) → ((e : Refusal) (i : Refusal → A) → h (Err e) i ≡ i e) →
-    h second other ≡ g (h first instead)
-by-is {g = g} instead other (Follows.both {x = x} {y = y} e) k h ok err = ok y other ∙ e ∙ ap g (sym (ok x instead))
-by-is {g = g} instead other (Follows.neither {refusal = e}) k h ok err = err e other ∙ k e ∙ ap g (sym (err e instead))
 
 -- ---- lists
 
