@@ -57,7 +57,7 @@ edit-own h f kh (x ∷ ts) t q = elim (eqb_tells x.handle h) [
 ]
 
 -- one more task leaves those of other handles
-more-other : (k : ℕ) (new : Task) (ts : List Task) → new.handle ≢ k → task_of k (ts ++ new ∷ []) ≡ task_of k ts
+pub more-other : (k : ℕ) (new : Task) (ts : List Task) → new.handle ≢ k → task_of k (ts ++ new ∷ []) ≡ task_of k ts
 more-other k new [] ne =
     let off : nat_eq new.handle k ≡ false = grind (arith, eqb_tells new.handle k) in rw off refl
 more-other k new (t ∷ ts) ne =
@@ -65,7 +65,7 @@ more-other k new (t ∷ ts) ne =
     [ true ↦ refl | false ↦ more-other k new ts ne ]
 
 -- without the tasks of a handle the others are there
-less-other : (h k : ℕ) (ts : List Task) → h ≢ k → task_of k (filter (λ (t : Task). not (t.handle == h)) ts) ≡ task_of k ts
+pub less-other : (h k : ℕ) (ts : List Task) → h ≢ k → task_of k (filter (λ (t : Task). not (t.handle == h)) ts) ≡ task_of k ts
 less-other h k [] ne = refl
 less-other h k (t ∷ ts) ne = elim (eqb_tells t.handle h) [
   | inl a ↦

@@ -46,3 +46,8 @@ pub mod RenamedSteps
 pub mod RenamedPolls
 pub mod RenamedLaws
 pub mod RenamedRows
+pub mod Accounts
+pub mod AccountSlots
+pub mod AccountPolls
+pub mod AccountLaws
+pub mod AccountRows

@@ -9,3 +9,4 @@ pub mod Frame
 pub mod ScrapTurns
 pub mod Progress
 pub mod Renaming
+pub mod Claimed

@@ -3,6 +3,7 @@
 
 mod addressed;
 mod delivered;
+mod claimed;
 mod frame;
 mod heaps;
 mod lines;
@@ -13,6 +14,7 @@ mod scrap;
 
 pub use addressed::addressed_law;
 pub use delivered::delivered_law;
+pub use claimed::claimed_law;
 pub use frame::frame_law;
 pub use heaps::describe_law;
 pub use lines::line_law;

@@ -1,0 +1,586 @@
+-- Each command leaves the blocks of every task accounted for, and so they are after every list of commands.
+use Rattle.std.proofs.Common.{◌≡◌, ◌≢◌, ℕ, ◌+◌, ◌<◌, ◌≤◌, Bool, true, false, not, ◌&&◌, List, [], ◌∷◌, ◌++◌, length, Option, Some, None}
+use Rattle.std.proofs.Common.{◌-◌, refl, sym, ap, ◌∙◌, subst, ◌⊎◌, inl, inr, arith, take, drop, length-take}
+use Rattle.std.specs.Prelude.{◌==◌, nat_eq, find, filter, if◌then◌else◌, ℤ, Ok}
+use Rattle.std.specs.Option.{option_map}
+use Rattle.std.proofs.lemmas.Bool.Decides.{eqb_tells}
+use Rattle.std.proofs.lemmas.List.{length-replicate}
+use Rattle.rh_defs.specs.declared.command.Command.{Command}
+use Rattle.rh_defs.specs.declared.command.Command.TheVariants as command
+use Rattle.rh_defs.specs.declared.command.Manner.{Manner}
+use Rattle.rh_defs.specs.declared.reply.Reply.{Reply}
+use Rattle.rh_defs.specs.declared.reply.Reply.TheVariants as reply
+use Rattle.rh_defs.specs.declared.transfer.Incoming.{Incoming}
+use Rattle.rh_defs.specs.declared.transfer.Incoming.TheVariants as incoming
+use Rattle.rh_defs.specs.declared.refusal.Refusal.{Refusal}
+use Rattle.rh_defs.specs.declared.refusal.Refusal.TheVariants.{NotOpen}
+use Rattle.rh_defs.specs.Chain.{Granted, or_else}
+use Rattle.rh_defs.specs.Blocks.{bytes_at}
+use Rattle.rh_defs.specs.Files.{FileList}
+use Rattle.rh_defs.specs.Places.{with_heap_bytes}
+use Rattle.rh_defs.specs.Laws.{Ascend, IsDesk, IsStart, Rise}
+use Rattle.rh_defs.specs.Pieces.{zeros}
+use Rattle.rh_defs.specs.Range.{all_in_range, in_range}
+use Rattle.rh_defs.specs.Heap.{Heap, IsTidy, Segment, Used, Hole, block_room, first_place}
+use Rattle.rh_defs.specs.Messages.{Parcel}
+use Rattle.rh_defs.specs.Post.{post_join, post_poll}
+use Rattle.rh_defs.specs.Records.{in_id, is_buffer_of, most_records, with_id}
+use Rattle.rh_defs.specs.Receiver as receiver
+use Rattle.rh_defs.specs.Slot.{IsSlot, Slot, heap_start, new_slot, slot_begin}
+use Rattle.rh_defs.specs.Desk.{Desk, Task, free_pages, has_name, named, next_ref, send_letter, task_at, with_delivered, with_slot, with_task}
+use Rattle.rh_defs.specs.Commands.{Answer, start_task, kill, alloc, load, put, free, extend, mid, claim, release, resize, budge}
+use Rattle.rh_defs.specs.Runs.{after, start_with}
+use Rattle.rh_defs.specs.Step.{save, repeat, poll, poll_taken, cancel_in, cancel_out, event, step}
+use Rattle.rh_defs.specs.Transfer.{handled}
+use Rattle.rh_defs.proofs.Chains.{OnGrant, granted, granted-past, granted-then, granted-unless, granted-with, or_else-keeps}
+use Rattle.rh_defs.proofs.Lists.{rise-below}
+use Rattle.rh_defs.proofs.Steps.{after-is, start-is, step-keeps}
+use Rattle.rh_safety.specs.Offered.{at_place}
+use Rattle.rh_safety.specs.TaskRecords.{IsRecorded}
+use Rattle.rh_safety.proofs.Ends.{Edits, Has, Offers}
+use Rattle.rh_safety.proofs.Basics.{and_left, and_right, first_is, is_equal, none_some, put_other, put_same}
+use Rattle.rh_safety.proofs.Invariant.{Good}
+use Rattle.rh_safety.proofs.Numbers.{numbers-go-up}
+use Rattle.rh_safety.proofs.RecordLaws.{are_recorded}
+use Rattle.rh_safety.proofs.Runs.{start_good}
+use Rattle.rh_safety.proofs.SeenBlocks.{added_still, alloc_is, changed_still, extend_is, found_name, free_is, mid_is, put_is}
+use Rattle.rh_safety.proofs.SeenDesks.{fits}
+use Rattle.rh_safety.proofs.SeenFrames.{Fits, is_found, the_task}
+use Rattle.rh_safety.proofs.SeenHeaps.{claim_is, claimed_free, claimed_map, gone_map, idle_is, release_is}
+use Rattle.rh_safety.proofs.SeenLaws.{keeps}
+use Rattle.rh_safety.proofs.SeenTasks.{Same}
+use Rattle.rh_safety.proofs.View.{buffers_of, task_of, view}
+use Rattle.rh_laws.specs.Claimed.{AlwaysLeaksNone, Claims, HoldsNone, LeaksNone, claimed, claimed_at, claims_from, claims_next}
+use Rattle.rh_laws.specs.Claimed.{IsAccounted, holders, noted, released_at, resized_at, size_after, size_at}
+use Rattle.rh_laws.specs.Frame.{FillsBuffer, actor, handle_of, poller}
+use Rattle.rh_laws.proofs.Frames.{leaves-others, less-other, more-other}
+use Rattle.rh_laws.proofs.FramePolls.{polls-fill}
+use Rattle.rh_laws.proofs.Accounts.{Accounts, claimed-accounts, is-vacant, none-hold, released-accounts, renewed-accounts, resized-accounts}
+use Rattle.rh_laws.proofs.Accounts.{same-accounts, size-is, size_in, sized-accounts}
+use Rattle.rh_laws.proofs.AccountSlots.{at-address, resize-is}
+use Rattle.rh_laws.proofs.AccountPolls.{Keeps, Kept, Stands, handled-keeps, stands-delivered, stands-letter, stands-sends, stands-slot, stands-takes}
+
+-- ---- lists of tasks
+
+-- a member's number is below the next one
+member-below : {A : Type 0} (number : A → ℕ) (least next : ℕ) (xs : List A) (x : A) → Rise number least next xs → Has x xs → number x < next
+member-below number least next [] x up has = absurd has
+member-below number least next (y ∷ ys) x up (inl same) =
+    let low = rise-below number (number y + 1) next ys up.1 in let e = ap number same in omega (arith, low, e)
+member-below number least next (y ∷ ys) x up (inr has) = member-below number (number y + 1) next ys x up.1 has
+
+-- no task has a handle that wasn't given
+none-later : (h next : ℕ) (ts : List Task) → Ascend 0 next ts → next ≤ h → (t : Task) → task_of h ts ≡ Some t → ⊥
+none-later h next ts up low t q =
+    let w = first_is (λ (y : Task). y.handle == h) ts t q in
+    let e : t.handle ≡ h = is_equal _ _ w.1 in
+    let b = member-below (λ (y : Task). y.handle) 0 next ts t up w.0 in
+    omega (arith, e, b, low)
+
+-- a new task is the one of its handle, where there was none
+more-own : (new u : Task) (ts : List Task) → ((t : Task) → task_of new.handle ts ≡ Some t → ⊥) →
+    task_of new.handle (ts ++ new ∷ []) ≡ Some u → new ≡ u
+more-own new u [] none q = elim (eqb_tells new.handle new.handle) [
+  | inl w ↦ let z = rw w.0 at q in cc
+  | inr w ↦ absurd (w.1 refl)
+]
+more-own new u (t ∷ ts) none q = elim (eqb_tells t.handle new.handle) [
+  | inl w ↦ absurd (none t (rw w.0 refl))
+  | inr w ↦ more-own new u ts (λ y z. none y (rw w.0 z)) (rw w.0 at q)
+]
+
+-- the tasks of a handle are gone
+less-own : (h : ℕ) (u : Task) (ts : List Task) → task_of h (filter (λ (t : Task). not (t.handle == h)) ts) ≡ Some u → ⊥
+less-own h u [] q = none_some None refl q
+less-own h u (t ∷ ts) q = elim (eqb_tells t.handle h) [
+  | inl w ↦ less-own h u ts (rw w.0 at q)
+  | inr w ↦ less-own h u ts (let z = rw (w.0, w.0) at q in z)
+]
+
+-- ---- what holds of a desk
+
+-- no task that isn't there yet has claimed, and the blocks of each live task are accounted for
+record Holds (c : Claims) (d : Desk) : Type 0 where
+  born : (h p : ℕ) → d.next_handle ≤ h → c h p ≡ None
+  each : (h : ℕ) (t : Task) → task_at h d ≡ Some t → Accounts (c h) (buffers_of t.slot) t.taking
+
+-- the blocks of a handle's task are accounted for after an answer
+record Own (claims : Reply → Claims) (k : Option ℕ) (a : Answer) : Type 0 where
+  own : (h : ℕ) (t : Task) → k ≡ Some h → task_at h a.0 ≡ Some t → Accounts (claims a.1 h) (buffers_of t.slot) t.taking
+
+-- claims of other handles are as they were
+noted-other : (c : Claims) (k a : ℕ) (v : Option ℕ) (h : ℕ) → h ≢ k → noted c k a v h ≡ c h
+noted-other c k a v h ne = put_other c k (at_place (c k) a v) h ne
+
+noted-own : (c : Claims) (k a : ℕ) (v : Option ℕ) → noted c k a v k ≡ at_place (c k) a v
+noted-own c k a v = put_same c k (at_place (c k) a v)
+
+module _ (c : Claims) (d : Desk) (h : ℕ) where
+  -- a handle that isn't the task's
+  abbrev IsOther : Option Task → Type 0
+  IsOther o = (t : Task) → o ≡ Some t → h ≢ t.handle
+
+  claimed-other : (o : Option Task) (n a : ℕ) → IsOther o → claimed_at c o n a h ≡ c h
+  claimed-other None n a ne = refl
+  claimed-other (Some t) n a ne = noted-other c t.handle a _ h (ne t refl)
+
+  released-other : (o : Option Task) (a : ℕ) → IsOther o → released_at c o a h ≡ c h
+  released-other None a ne = refl
+  released-other (Some t) a ne = noted-other c t.handle a None h (ne t refl)
+
+  resized-other : (o : Option Task) (a : ℕ) (by : ℤ) (b : ℕ) → IsOther o → resized_at c o a by b h ≡ c h
+  resized-other None a by b ne = refl
+  resized-other (Some t) a by b ne =
+      noted-other (noted c t.handle a None) t.handle b _ h (ne t refl) ∙ noted-other c t.handle a None h (ne t refl)
+
+  -- a handle that isn't the named task's
+  abbrev IsNotNamed : List ℕ → Type 0
+  IsNotNamed name = IsOther (find (has_name name) d.tasks)
+
+  after-claim : (name : List ℕ) (n : ℕ) → IsNotNamed name → (r : Reply) → claims_next c d (command.Claim name n) r h ≡ c h
+  after-claim name n ne (reply.Block a) = claimed-other (find (has_name name) d.tasks) n a ne
+  after-claim name n ne _ = refl
+
+  after-release : (name : List ℕ) (a : ℕ) → IsNotNamed name → (r : Reply) → claims_next c d (command.Release name a) r h ≡ c h
+  after-release name a ne reply.Done = released-other (find (has_name name) d.tasks) a ne
+  after-release name a ne _ = refl
+
+  after-resize : (name : List ℕ) (a : ℕ) (by : ℤ) → IsNotNamed name → (r : Reply) → claims_next c d (command.Resize name a by) r h ≡ c h
+  after-resize name a by ne (reply.Block b) = resized-other (find (has_name name) d.tasks) a by b ne
+  after-resize name a by ne _ = refl
+
+  -- the named task isn't that of the handle, where no command of it is
+  not-named : (name : List ℕ) → handle_of name d ≢ Some h → IsNotNamed name
+  not-named name ne t q same = ne (ap (option_map (λ (y : Task). y.handle)) q ∙ ap Some (sym same))
+
+  claims-other : (b : Command) → actor b d ≢ Some h → (r : Reply) → claims_next c d b r h ≡ c h
+  claims-other (command.Claim name n) ne r = after-claim name n (not-named name ne) r
+  claims-other (command.Release name a) ne r = after-release name a (not-named name ne) r
+  claims-other (command.Resize name a by) ne r = after-resize name a by (not-named name ne) r
+  claims-other _ ne r = refl
+
+  -- nor is it one that wasn't given
+  too-late : Ascend 0 d.next_handle d.tasks → d.next_handle ≤ h → (name : List ℕ) → IsNotNamed name
+  too-late up low name t q same =
+      let b = member-below (λ (y : Task). y.handle) 0 d.next_handle d.tasks t up (first_is (has_name name) d.tasks t q).0 in
+      omega (arith, b, low, same)
+
+  claims-late : (b : Command) → Ascend 0 d.next_handle d.tasks → d.next_handle ≤ h → (r : Reply) → claims_next c d b r h ≡ c h
+  claims-late (command.Claim name n) up low r = after-claim name n (too-late up low name) r
+  claims-late (command.Release name a) up low r = after-release name a (too-late up low name) r
+  claims-late (command.Resize name a by) up low r = after-resize name a by (too-late up low name) r
+  claims-late _ up low r = refl
+
+-- ---- commands of one task
+
+module _ (c : Claims) (d : Desk) {o : Offers} {e : Edits} (g : Good o e (view d)) (is : IsDesk d) (w : Holds c d) where
+  abbrev f : Fits d
+  f = fits d is
+
+  -- the task that was named
+  module _ (name : List ℕ) (t : Task) (q : named name d ≡ Ok t) where
+    there : task_at t.handle d ≡ Some t
+    there = the_task d name t f q
+
+    found : find (has_name name) d.tasks ≡ Some t
+    found = found_name d name t q
+
+    stand : Stands t.handle d t.slot t.taking
+    stand = record { task = t; there = there; slot = refl; taking = refl }
+
+    counted : Accounts (c t.handle) (buffers_of t.slot) t.taking
+    counted = w.each t.handle t there
+
+    ids : Rise in_id 0 (next_ref d) t.taking
+    ids = (are_recorded d g t.handle t there).ids_in
+
+    kept-own : (claims : Reply → Claims) (a : Answer) (ws : List Incoming) → Kept (claims a.1 t.handle) t.handle a.0 ws →
+        Own claims (handle_of name d) a
+    kept-own claims a ws k = record {
+      own = λ h u named_h at.
+          let one : Some t.handle ≡ Some h = sym (ap (option_map (λ (y : Task). y.handle)) found) ∙ named_h in
+          let same : t.handle ≡ h = cc in
+          let other : Some k.stands.task ≡ Some u = sym k.stands.there ∙ ap (λ j. task_at j a.0) same ∙ at in
+          let that : k.stands.task ≡ u = cc in
+          let slot : k.slot ≡ u.slot = sym k.stands.slot ∙ ap (λ (y : Task). y.slot) that in
+          let taking : ws ≡ u.taking = sym k.stands.taking ∙ ap (λ (y : Task). y.taking) that in
+          subst (λ j. Accounts (claims a.1 j) (buffers_of u.slot) u.taking) same
+          (subst (λ (s : Slot). Accounts (claims a.1 t.handle) (buffers_of s) u.taking) slot
+          (subst (λ vs. Accounts (claims a.1 t.handle) (buffers_of k.slot) vs) taking k.all));
+    }
+
+    -- another slot with the same blocks
+    slot-own : (s : Slot) → Same (buffers_of s) (buffers_of t.slot) → (r : Reply) →
+        OnGrant (Own (λ r. c) (handle_of name d)) (Ok (with_slot t.handle s d, r))
+    slot-own s same r =
+        granted (kept-own (λ r. c) (with_slot t.handle s d, r) t.taking (record {
+          slot = s;
+          stands = stands-slot s stand;
+          all = same-accounts same counted;
+        }))
+
+  abbrev Still : List ℕ → Answer → Type 0
+  Still name = Own (λ r. c) (handle_of name d)
+
+  alloc-own : (name : List ℕ) (k n : ℕ) → OnGrant (Still name) (alloc d name k n)
+  unfolding alloc
+  alloc-own name k n =
+      granted-then _ _ λ t q. granted-then _ _ λ p i.
+      slot-own name t q p.0 (added_still k (zeros n) t.slot p.0 (alloc_is _ k n t.slot p i)) _
+
+  load-own : (name : List ℕ) (k : ℕ) (file : List ℕ) → OnGrant (Still name) (load d name k file)
+  unfolding load
+  load-own name k file =
+      granted-then _ _ λ t q. granted-then _ _ λ entry i. granted-then _ _ λ p j. granted-then _ _ λ s l.
+      slot-own name t q s (λ a. changed_still (put_is k 0 entry.1 p.0 s l) a
+      ∙ added_still k (zeros (length entry.1)) t.slot p.0 (alloc_is _ k (length entry.1) t.slot p j) a) _
+
+  put-own : (name : List ℕ) (k offset : ℕ) (bytes : List ℕ) → OnGrant (Still name) (put d name k offset bytes)
+  unfolding put
+  put-own name k offset bytes =
+      granted-then _ _ λ t q. granted-then _ _ λ b i. granted-then _ _ λ s j.
+      slot-own name t q s (changed_still (put_is k offset bytes t.slot s j)) _
+
+  free-own : (name : List ℕ) (k : ℕ) → OnGrant (Still name) (free d name k)
+  unfolding free
+  free-own name k =
+      granted-then _ _ λ t q. granted-then _ _ λ b i. granted-then _ _ λ s j.
+      slot-own name t q s (λ a. ap (λ (y : Slot). buffers_of y a) (sym (free_is k t.slot s j).same)) _
+
+  extend-own : (name : List ℕ) (k n : ℕ) → OnGrant (Still name) (extend d name k n)
+  unfolding extend
+  extend-own name k n =
+      granted-then _ _ λ t q. granted-then _ _ λ b i. granted-then _ _ λ s j.
+      slot-own name t q s (changed_still (extend_is _ k n t.slot s j)) _
+
+  mid-own : (name : List ℕ) (k offset : ℕ) (by : ℤ) → OnGrant (Still name) (mid d name k offset by)
+  unfolding mid
+  mid-own name k offset by =
+      granted-then _ _ λ t q. granted-then _ _ λ b i. granted-then _ _ λ s j.
+      slot-own name t q s (changed_still (mid_is _ k offset by t.slot s j)) _
+
+  budge-own : (name : List ℕ) (on : Bool) → OnGrant (Still name) (budge d name on)
+  unfolding budge
+  budge-own name on = granted-then _ _ λ t q. slot-own name t q _ (λ a. refl) _
+
+  -- ---- the C heap
+
+  claim-own : (name : List ℕ) (n : ℕ) → OnGrant (Own (claims_next c d (command.Claim name n)) (handle_of name d)) (claim d name n)
+  unfolding claim
+  claim-own name n =
+      granted-then _ _ λ t q. granted-then _ _ λ p i.
+      let k = claim_is _ n t.slot p i in
+      let now : claims_next c d (command.Claim name n) (reply.Block p.1) t.handle ≡ at_place (c t.handle) p.1 (Some (block_room n)) =
+      ap (λ v. claimed_at c v n p.1 t.handle) (found name t q) ∙ noted-own c t.handle p.1 (Some (block_room n)) in
+      granted (kept-own name t q (claims_next c d (command.Claim name n)) (with_slot t.handle p.0 d, reply.Block p.1) t.taking (record {
+        slot = p.0;
+        stands = stands-slot p.0 (stand name t q);
+        all = subst (λ m. Accounts m (buffers_of p.0) t.taking) (sym now) (same-accounts (claimed_map k)
+            (claimed-accounts p.1 (zeros (block_room n)) (block_room n) (length-replicate (block_room n) 0) (claimed_free k)
+            (counted name t q)));
+      }))
+
+  release-own : (name : List ℕ) (a : ℕ) → OnGrant (Own (claims_next c d (command.Release name a)) (handle_of name d)) (release d name a)
+  unfolding release
+  release-own name a =
+      granted-then _ _ λ t q. granted-then _ _ λ b i. granted-then _ _ λ s j.
+      let now : claims_next c d (command.Release name a) reply.Done t.handle ≡ at_place (c t.handle) a None =
+      ap (λ v. released_at c v a t.handle) (found name t q) ∙ noted-own c t.handle a None in
+      granted (kept-own name t q (claims_next c d (command.Release name a)) (with_slot t.handle s d, reply.Done) t.taking (record {
+        slot = s;
+        stands = stands-slot s (stand name t q);
+        all = subst (λ m. Accounts m (buffers_of s) t.taking) (sym now) (same-accounts (gone_map (release_is a t.slot s j))
+            (released-accounts a (idle_is a t b i) (counted name t q)));
+      }))
+
+  resize-own : (name : List ℕ) (a : ℕ) (by : ℤ) → OnGrant (Own (claims_next c d (command.Resize name a by)) (handle_of name d)) (resize d name a by)
+  unfolding resize
+  resize-own name a by =
+      granted-then _ _ λ t q. granted-then _ _ λ b i. granted-then _ _ λ p j.
+      let r = resize-is _ a by t.slot p j in
+      let size : Option ℕ = size_after by (c t.handle a) in
+      let now : claims_next c d (command.Resize name a by) (reply.Block p.1) t.handle ≡ at_place (at_place (c t.handle) a None) p.1 size =
+      ap (λ v. resized_at c v a by p.1 t.handle) (found name t q) ∙ noted-own (noted c t.handle a None) t.handle p.1 size
+      ∙ ap (λ m. at_place m p.1 size) (noted-own c t.handle a None) in
+      granted (kept-own name t q (claims_next c d (command.Resize name a by)) (with_slot t.handle p.0 d, reply.Block p.1) t.taking (record {
+        slot = p.0;
+        stands = stands-slot p.0 (stand name t q);
+        all = subst (λ m. Accounts m (buffers_of p.0) t.taking) (sym now) (same-accounts r.moves
+            (resized-accounts a p.1 r.was r.bytes by (idle_is a t b i) r.was_is r.size r.free (counted name t q)));
+      }))
+
+  -- ---- messages and records
+
+  save-own : (name : List ℕ) (k : ℕ) (to leaf : List ℕ) → OnGrant (Still name) (save d name k to leaf)
+  unfolding save
+  save-own name k to leaf =
+      granted-then _ _ λ t q. granted-then _ _ λ b i. granted-past _ _ _ λ full. granted-then _ _ λ r j.
+      granted-with _ (stands-letter _ (stand name t q)) λ sent st.
+      granted (kept-own name t q (λ r. c) (_, reply.Sent (next_ref d)) t.taking (record {
+        slot = t.slot;
+        stands = stands-sends _ st;
+        all = counted name t q;
+      }))
+
+  repeat-own : (name : List ℕ) → OnGrant (Still name) (repeat d name)
+  unfolding repeat
+  repeat-own name =
+      granted-then _ _ λ t q. granted-then _ _ λ last i. granted-with _ (stands-letter _ (stand name t q)) λ sent st.
+      granted (kept-own name t q (λ r. c) (sent, reply.Sent (next_ref d)) t.taking (record { slot = t.slot; stands = st; all = counted name t q }))
+
+  cancel_in-own : (name : List ℕ) (id : Option ℕ) → OnGrant (Still name) (cancel_in d name id)
+  unfolding cancel_in receiver.cancel
+  cancel_in-own name id =
+      granted-then _ _ λ t q. granted-with {Q = λ ws. Accounts (c t.handle) (buffers_of t.slot) ws} _
+      (granted-then _ _ λ v i. granted (renewed-accounts (next_ref d) (ids name t q) v (receiver.cancelled v)
+      (first_is (receiver.is_wanted id) t.taking v (is_found _ NotOpen v i)).0 (λ p. same-buffer p v) (counted name t q))) λ records all.
+      granted (kept-own name t q (λ r. c) (_, reply.Done) records (record {
+        slot = t.slot;
+        stands = stands-takes (λ ws. records) (stand name t q);
+        all = all;
+      }))
+    where
+      same-buffer : (p : ℕ) (v : Incoming) → is_buffer_of p (receiver.cancelled v) ≡ is_buffer_of p v
+      same-buffer p (incoming.Fetching x) = refl
+      same-buffer p (incoming.Draining x) = refl
+      same-buffer p (incoming.Asking x) = refl
+      same-buffer p (incoming.Done i k n) = refl
+      same-buffer p (incoming.Failed i k n) = refl
+
+  cancel_out-own : (name : List ℕ) (id : Option ℕ) → OnGrant (Still name) (cancel_out d name id)
+  unfolding cancel_out
+  cancel_out-own name id =
+      granted-then _ _ λ t q. granted-then _ _ λ records i.
+      granted (kept-own name t q (λ r. c) (_, reply.Done) t.taking (record {
+        slot = t.slot;
+        stands = stands-sends (λ vs. records) (stand name t q);
+        all = counted name t q;
+      }))
+
+  -- the message that was taken, where there is one
+  taken-own : (name : List ℕ) (t : Task) → named name d ≡ Ok t → (v : Option Parcel) →
+      Still name (poll_taken (with_delivered (post_poll t.handle d.post).0 d) t v)
+  unfolding poll_taken
+  taken-own name t q None = kept-own name t q (λ r. c) (_, reply.NoEvent) t.taking (record {
+    slot = t.slot;
+    stands = stands-delivered _ (stand name t q);
+    all = counted name t q;
+  })
+  taken-own name t q (Some m) =
+      let k = handled-keeps (c t.handle) t (next_ref d) (ids name t q) (counted name t q)
+      (with_delivered (post_poll t.handle d.post).0 d) (record {
+        slot = t.slot;
+        stands = stands-delivered _ (stand name t q);
+        all = counted name t q;
+      }) m m.code in
+      kept-own name t q (λ r. c) (event m (handled (with_delivered (post_poll t.handle d.post).0 d) t m m.code)) k.records k.desk
+
+  poll-own : (name : List ℕ) → OnGrant (Still name) (poll d name)
+  unfolding poll
+  poll-own name = granted-then _ _ λ t q. granted (taken-own name t q (post_poll t.handle d.post).1)
+
+  -- ---- tasks
+
+  kill-own : (name : List ℕ) → OnGrant (Still name) (kill d name)
+  unfolding kill with_delivered
+  kill-own name =
+      granted-then _ _ λ t q. granted (record {
+        own = λ h u named_h at.
+            let one : Some t.handle ≡ Some h = sym (ap (option_map (λ (y : Task). y.handle)) (found name t q)) ∙ named_h in
+            let same : h ≡ t.handle = cc in
+            absurd (less-own t.handle u d.tasks (ap (λ j. task_of j (filter (λ (y : Task). not (y.handle == t.handle)) d.tasks)) (sym same) ∙ at));
+      })
+
+  start-own : (name : List ℕ) (buffer : ℕ) (manner : Manner) → OnGrant (Own (λ r. c) (Some d.next_handle)) (start_task d name buffer manner)
+  unfolding start_task slot_begin
+  start-own name buffer manner =
+      granted-past _ _ _ λ x. granted-past _ _ _ λ y. granted-past _ _ _ λ z.
+      granted-with {Q = λ s. s ≡ new_slot} _ (granted-unless _ _ _ λ room. granted refl) λ s fresh.
+      let new : Task = record {
+        handle = d.next_handle;
+        name = name;
+        buffer = buffer;
+        manner = manner;
+        slot = s;
+        sending = [];
+        taking = [];
+        last_sent = None;
+      } in
+      granted (record {
+        own = λ h u next_h at.
+            let same : h ≡ d.next_handle = cc in
+            let that : new ≡ u = more-own new u d.tasks (none-later d.next_handle d.next_handle d.tasks is.handles (omega arith))
+            (ap (λ j. task_of j (d.tasks ++ new ∷ [])) (sym same) ∙ at) in
+            subst (λ (v : Task). Accounts (c h) (buffers_of v.slot) v.taking) that
+            (subst (λ (v : Slot). Accounts (c h) (buffers_of v) []) (sym fresh)
+            (record { each = λ p. is-vacant (c h p) 0 (w.born h p (omega (arith, same))) refl }));
+      })
+
+  -- ---- all commands
+
+  -- a command that is refused, or granted
+  own-else : {claims : Reply → Claims} {k : Option ℕ} {r : Granted Answer} → ((refusal : Refusal) → claims (reply.Refused refusal) ≡ c) →
+      OnGrant (Own claims k) r → Own claims k (or_else r (λ refusal. (d, reply.Refused refusal)))
+  own-else {claims} {k} same all =
+      or_else-keeps (Own claims k) _ all (λ refusal. record {
+        own = λ h t named_h at. subst (λ (x : Claims). Accounts (x h) (buffers_of t.slot) t.taking) (sym (same refusal)) (w.each h t at);
+      })
+
+  abbrev Each : Command → Type 0
+  Each b = (h : ℕ) (t : Task) → task_at h (step d b).0 ≡ Some t →
+      Accounts (claims_next c d b (step d b).1 h) (buffers_of t.slot) t.taking
+
+  -- other tasks are as they were, and so are their claims
+  other-each : (b : Command) (h : ℕ) → poller b d ≡ None → actor b d ≢ Some h → (t : Task) → task_at h (step d b).0 ≡ Some t →
+      Accounts (claims_next c d b (step d b).1 h) (buffers_of t.slot) t.taking
+  other-each b h p ne t at =
+      subst (λ m. Accounts m (buffers_of t.slot) t.taking) (sym (claims-other c d h b ne (step d b).1))
+      (w.each h t (sym (leaves-others d b h p ne) ∙ at))
+
+  -- whose a handle is
+  whose : (k : Option ℕ) (h : ℕ) → (k ≡ Some h) ⊎ (k ≢ Some h)
+  whose None h = inr (λ q. none_some None refl q)
+  whose (Some k) h = elim (eqb_tells k h) [ inl a ↦ inl (ap Some a.1) | inr a ↦ inr (λ q. a.1 (let z : k ≡ h = cc in z)) ]
+
+  by-own : (b : Command) → poller b d ≡ None → Own (claims_next c d b) (actor b d) (step d b) → Each b
+  by-own b p all h t at = elim (whose (actor b d) h) [
+    | inl same ↦ all.own h t same at
+    | inr ne ↦ other-each b h p ne t at
+  ]
+
+  none-own : {claims : Reply → Claims} {a : Answer} → Own claims None a
+  none-own = record { own = λ h t q at. absurd (none_some None refl q) }
+
+  -- a poll fills a buffer of another task at most
+  filled : (s : Task) (h : ℕ) (before now : Option Task) (said : Reply) → FillsBuffer s h before now said → task_at h d ≡ before →
+      (t : Task) → now ≡ Some t → Accounts (c h) (buffers_of t.slot) t.taking
+  filled s h before now said fills was t at =
+      let new : List ℕ = take fills.n (drop fills.out.count fills.source) in
+      let few : length new ≤ fills.n = simp length-take (omega arith) in
+      let room = fills.room in
+      let old = w.each h fills.receiver (was ∙ fills.was) in
+      let that : Some (record fills.receiver { slot = with_heap_bytes fills.buffer 0 new fills.receiver.slot }) ≡ Some t = sym fills.filled ∙ at in
+      let same : (record fills.receiver { slot = with_heap_bytes fills.buffer 0 new fills.receiver.slot }) ≡ t = cc in
+      subst (λ (u : Task). Accounts (c h) (buffers_of u.slot) u.taking) same
+      (sized-accounts (λ p. at-address fills.into.buffer fills.receiver.slot fills.buffer new fills.buffer_is (omega (arith, few, room)) p) old)
+
+  poll-each : (name : List ℕ) → Each (command.Poll name)
+  poll-each name = go (find (has_name name) d.tasks) refl
+    where
+      go : (v : Option Task) → find (has_name name) d.tasks ≡ v → Each (command.Poll name)
+      go None q = by-own (command.Poll name) q (own-else (λ r. refl) (poll-own name))
+      go (Some s) q = λ h t at. elim (eqb_tells s.handle h) [
+        | inl a ↦ (own-else {claims = λ r. c} (λ r. refl) (poll-own name)).own h t (ap (option_map (λ (y : Task). y.handle)) q ∙ ap Some a.1) at
+        | inr a ↦ elim (polls-fill d f g name s h q a.1) [
+          | inl same ↦ w.each h t (sym same ∙ at)
+          | inr fills ↦ filled s h _ _ _ fills refl t at
+        ]
+      ]
+
+  step-each : (b : Command) → Each b
+  step-each (command.Task name buffer manner) =
+      by-own (command.Task name buffer manner) refl (own-else (λ r. refl) (start-own name buffer manner))
+  step-each (command.Kill name) = by-own (command.Kill name) refl (own-else (λ r. refl) (kill-own name))
+  step-each (command.Alloc name k n) = by-own (command.Alloc name k n) refl (own-else (λ r. refl) (alloc-own name k n))
+  step-each (command.Load name k file) = by-own (command.Load name k file) refl (own-else (λ r. refl) (load-own name k file))
+  step-each (command.Put name k offset bytes) =
+      by-own (command.Put name k offset bytes) refl (own-else (λ r. refl) (put-own name k offset bytes))
+  step-each (command.Free name k) = by-own (command.Free name k) refl (own-else (λ r. refl) (free-own name k))
+  step-each (command.Extend name k n) = by-own (command.Extend name k n) refl (own-else (λ r. refl) (extend-own name k n))
+  step-each (command.Mid name k offset by) = by-own (command.Mid name k offset by) refl (own-else (λ r. refl) (mid-own name k offset by))
+  step-each (command.Claim name n) = by-own (command.Claim name n) refl (own-else (λ r. refl) (claim-own name n))
+  step-each (command.Release name a) = by-own (command.Release name a) refl (own-else (λ r. refl) (release-own name a))
+  step-each (command.Resize name a by) = by-own (command.Resize name a by) refl (own-else (λ r. refl) (resize-own name a by))
+  step-each (command.Budge name on) = by-own (command.Budge name on) refl (own-else (λ r. refl) (budge-own name on))
+  step-each (command.Save name k to leaf) = by-own (command.Save name k to leaf) refl (own-else (λ r. refl) (save-own name k to leaf))
+  step-each (command.Poll name) = poll-each name
+  step-each (command.CancelIn name id) = by-own (command.CancelIn name id) refl (own-else (λ r. refl) (cancel_in-own name id))
+  step-each (command.CancelOut name id) = by-own (command.CancelOut name id) refl (own-else (λ r. refl) (cancel_out-own name id))
+  step-each (command.Repeat name) = by-own (command.Repeat name) refl (own-else (λ r. refl) (repeat-own name))
+  step-each (command.Area k delta) = by-own (command.Area k delta) refl none-own
+  step-each (command.Make most) = by-own (command.Make most) refl none-own
+  step-each (command.Remove k) = by-own (command.Remove k) refl none-own
+  step-each (command.RmaClaim n) = by-own (command.RmaClaim n) refl none-own
+  step-each (command.RmaFree a) = by-own (command.RmaFree a) refl none-own
+  step-each (command.RmaResize a delta) = by-own (command.RmaResize a delta) refl none-own
+  step-each (command.Ask q) = by-own (command.Ask q) refl none-own
+
+  -- handles go up
+  next-up : (b : Command) → d.next_handle ≤ (step d b).0.next_handle
+  next-up b = rise-below (λ (n : ℕ). n) d.next_handle (step d b).0.next_handle _ (numbers-go-up d (b ∷ [])).handles
+
+  step-holds : (b : Command) → Holds (claims_next c d b (step d b).1) (step d b).0
+  step-holds b = record {
+    born = λ h p low.
+        let late : d.next_handle ≤ h = let up = next-up b in omega (arith, up, low) in
+        ap (λ m. m p) (claims-late c d h b is.handles late (step d b).1) ∙ w.born h p late;
+    each = step-each b;
+  }
+
+-- ---- lists of commands
+
+run-holds : (cs : List Command) → all_in_range cs ≡ true → (c : Claims) (d : Desk) {o : Offers} {e : Edits} → Good o e (view d) → IsDesk d →
+    Holds c d → Holds (claims_from c d cs) (after d cs)
+run-holds [] ranged c d g is w = w
+run-holds (b ∷ cs) ranged c d g is w =
+    let one : in_range b ≡ true = and_left (in_range b) _ ranged in
+    run-holds cs (and_right (in_range b) _ ranged) (claims_next c d b (step d b).1) (step d b).0 (keeps b one d g (fits d is))
+    (step-keeps d b one is) (step-holds c d g is w b)
+
+-- ---- heaps without blocks
+
+-- tidy segments among which no block is are none
+no-segments : (place : ℕ) (hole : Bool) (ss : List Segment) → IsTidy hole ss → ((a : ℕ) → bytes_at a place ss ≡ None) → ss ≡ []
+no-segments place false [] tidy none = refl
+no-segments place true [] tidy none = refl
+no-segments place hole (Used bytes ∷ ss) tidy none = absurd (elim (eqb_tells (place + 4) (place + 4)) [
+  | inl w ↦ let z = rw w.0 at (none (place + 4)) in cc
+  | inr w ↦ w.1 refl
+])
+no-segments place true (Hole n ∷ ss) tidy none = absurd tidy
+no-segments place false (Hole n ∷ ss) tidy none = ends ss tidy.2 (no-segments (place + n) true ss tidy.2 none)
+  where
+    ends : (ss : List Segment) → IsTidy true ss → ss ≡ [] → Hole n ∷ ss ≡ []
+    ends [] tidy q = absurd tidy
+    ends (g ∷ ss) tidy q = absurd cc
+
+-- ---- the law
+
+size-none : (o : Option (List ℕ)) → size_in o ≡ None → o ≡ None
+size-none None q = refl
+size-none (Some b) q = absurd cc
+
+module _ (claims : ℕ → Option ℕ) (t : Task) (all : Accounts claims (buffers_of t.slot) t.taking) (slot : IsSlot t.slot) where
+  sizes : (p : ℕ) → IsAccounted (size_at t.slot p) (claims p) (holders p t.taking)
+  sizes p = subst (λ o. IsAccounted o (claims p) (holders p t.taking)) (sym (size-is t.slot p)) (all.each p)
+
+  settled : HoldsNone t → (p : ℕ) → size_at t.slot p ≡ claims p
+  settled idle p = alike (size_at t.slot p) (claims p) (subst (IsAccounted (size_at t.slot p) (claims p)) (none-hold p t.taking (idle p)) (sizes p))
+    where
+      alike : (block claim : Option ℕ) → IsAccounted block claim 0 → block ≡ claim
+      alike None None w = refl
+      alike None (Some n) w = absurd (let z = w.count in omega (arith, z))
+      alike (Some k) None w = absurd (let z = w.count in omega (arith, z))
+      alike (Some k) (Some n) w = w.size n refl
+
+  no-bytes : HoldsNone t → ((p : ℕ) → claims p ≡ None) → (a : ℕ) → bytes_at a first_place t.slot.heap.segments ≡ None
+  no-bytes idle none a =
+      let p : ℕ = heap_start + a in
+      let gone : buffers_of t.slot p ≡ None = size-none _ (sym (size-is t.slot p) ∙ settled idle p ∙ none p) in
+      let back : p - heap_start ≡ a = omega arith in
+      ap (λ j. bytes_at j first_place t.slot.heap.segments) (sym back) ∙ gone
+
+  leaks-none : LeaksNone claims t
+  leaks-none = record {
+    accounted = sizes;
+    settled = settled;
+    emptied = λ idle none. no-segments first_place false t.slot.heap.segments slot.heap.tidy (no-bytes idle none);
+  }
+
+pub always-leaks-none : AlwaysLeaksNone
+always-leaks-none pool handle ref files cs from ranged h t at =
+    let d : Desk = start_with pool files handle ref in
+    let is : IsDesk d = start-is pool handle ref files from in
+    let first : Good (λ i. None) (λ k i. false) (view d) = start_good most_records handle ref (omega (arith, from.first_ref)) in
+    let w = run-holds cs ranged (λ k p. None) d first is (record { born = λ k p low. refl; each = λ k u q. absurd (none_some None refl q) }) in
+    leaks-none (claimed d cs h) t (w.each h t at) ((fits (after d cs) (after-is d cs ranged is)).slots h t at)

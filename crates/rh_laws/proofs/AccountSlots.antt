@@ -1,0 +1,287 @@
+-- The calls on a slot that transfers and commands on the C heap make, as its map of blocks and their sizes.
+use Rattle.std.proofs.Common.{suc, length-append, length-drop, length-take, ◌≡◌, ℕ, ◌+◌, ◌-◌, ◌<◌, ◌≤◌, Bool, true, false}
+use Rattle.std.proofs.Common.{List, [], ◌∷◌, ◌++◌, length, take, drop, Option, Some, None, refl, sym, ap, ◌∙◌, subst, inl, inr}
+use Rattle.std.proofs.Common.{arith}
+use Rattle.std.specs.Prelude.{ℤ, nat_eq, nat_lt, nat_le, ◌&&◌, ◌==◌, if◌then◌else◌, Ok, Err}
+use Rattle.std.specs.Option.{option_map}
+use Rattle.std.proofs.lemmas.List.{length-replicate, take_all, append-nil}
+use Rattle.std.proofs.lemmas.Grind.{common_steps}
+use Rattle.std.proofs.lemmas.Bool.Decides.{eqb_tells, leb_tells}
+use Rattle.rh_defs.specs.declared.refusal.Refusal.TheVariants.{NotABlock, BadSize, NoBudge, NoRoom}
+use Rattle.rh_defs.specs.Chain.{Granted, ◌>>=◌, refuse_if, found_or, result_or}
+use Rattle.rh_defs.specs.Pieces.{Split, first_at, is_inside, lacks_pages, total, with_here, written, zeros, moved}
+use Rattle.rh_defs.specs.Heap.{Way, Stays, Shrinks, GrowsIntoHole, GrowsAtTop, MovesToHole, MovesToTop, Segment, Used}
+use Rattle.rh_defs.specs.Heap.{Hole, Heap, Placed, size_of, first_place, place_after, is_around, is_block_at, is_hole_for}
+use Rattle.rh_defs.specs.Heap.{hole_for, block_around, block_room, raised, released, bytes_of}
+use Rattle.rh_defs.specs.Heap.{fitted, segment_size, way_to, way_to_grow, way_beyond, new_size, resize_need}
+use Rattle.rh_defs.specs.Heap.{resize_growing, resized_by}
+use Rattle.rh_defs.specs.Slot.{Flex, Slot, heap_start, heap_block_at, with_heap, with_placed, is_stuck, slot_release, slot_resize}
+use Rattle.rh_defs.specs.Slot.{flex_around}
+use Rattle.rh_defs.specs.Places.{buffer_at, roomy_in, with_heap_bytes, written_around, written_heap, written_in}
+use Rattle.rh_defs.specs.IncomingEvents.{without_buffer}
+use Rattle.rh_safety.proofs.View.{buffers_of}
+use Rattle.rh_safety.proofs.HeapMap.{bytes_at, heap_map, CanGo, IsMoved, HoleFor}
+use Rattle.rh_safety.proofs.SeenTasks.{Same, unput}
+use Rattle.rh_safety.proofs.SeenFrames.{is_found}
+use Rattle.rh_safety.proofs.SeenBlocks.{from_bind, ok_is}
+use Rattle.rh_safety.proofs.SeenHeaps.{cut_is, gone_map, hole_is, length_fitted, release_is, shifted, used_is}
+use Rattle.rh_safety.proofs.SeenDocuments.{buffer_is}
+use Rattle.rh_safety.proofs.HeapMaps as heaps
+use Rattle.rh_safety.proofs.Ends as post
+use Rattle.rh_safety.proofs.Basics.{and_left, and_right, either, is_either, is_equal, none_some}
+use Rattle.rh_laws.proofs.Accounts.{size_in}
+
+-- ---- a buffer that goes
+
+rid-by : (a : ℕ) (s : Slot) (g : Granted Slot) → slot_release a s ≡ g → (o : Option (Split Segment)) → heap_block_at a s ≡ o →
+    Same (buffers_of (result_or s g)) (post.put (buffers_of s) a None)
+unfolding slot_release found_or ◌>>=◌
+rid-by a s (Ok n) e o q = gone_map (release_is a s n e)
+rid-by a s (Err r) e None q = λ k. unput (buffers_of s) a None (sym (buffer_is a s) ∙ ap (option_map (λ (b : Split Segment). bytes_of b.here)) q) k
+rid-by a s (Err r) e (Some b) q = absurd (let z : Ok (with_heap (released b s.heap) s) ≡ Err r = rw q at e in (cc))
+
+pub rid-map : (a : ℕ) (s : Slot) → Same (buffers_of (without_buffer a s)) (post.put (buffers_of s) a None)
+rid-map a s = rid-by a s (slot_release a s) refl (heap_block_at a s) refl
+
+-- ---- bytes written into a block
+
+written-length : (new old : List ℕ) (o : ℕ) → o + length new ≤ length old → length (written old o new) ≡ length old
+written-length new old o le = simp (length-append, length-drop, length-take) (omega arith)
+
+-- other bytes in the block at the cut, as many as before
+same-sizes : (s : Slot) (c : Split Segment) (old bytes : List ℕ) → with_here c c.here ≡ s.heap.segments → c.here ≡ Used old →
+    length bytes ≡ length old → (k : ℕ) →
+    size_in (buffers_of (with_heap (record s.heap { segments = with_here c (Used bytes) }) s) k) ≡ size_in (buffers_of s k)
+same-sizes s c old bytes whole here len k =
+    let at : ℕ = place_after c.before + 4 in
+    let m : IsMoved s.heap (record s.heap { segments = with_here c (Used bytes) }) at at bytes =
+    heaps.in_place old bytes s.heap c (with_here c (Used bytes)) c.after (record { cut = record { whole = whole }; here = here })
+    (λ b. refl) (λ b. ap (λ n. bytes_at (place_after c.before + (4 + n)) c.after b) len) in
+    let there : heap_map s.heap at ≡ Some old = heaps.there old s.heap c (record { cut = record { whole = whole }; here = here }) in
+    ap size_in (m.moved (k - heap_start) ∙ heaps.put_twice (heap_map s.heap) at None (Some bytes) (k - heap_start)) ∙
+    elim (eqb_tells (k - heap_start) at) [
+      | inl w ↦ rw w.0 (ap Some len ∙ sym (ap size_in there) ∙ ap (λ j. size_in (heap_map s.heap j)) (sym w.1))
+      | inr w ↦ rw w.0 refl
+    ]
+
+-- a write at the block's address
+pub at-address : (a : ℕ) (s : Slot) (c : Split Segment) (new : List ℕ) → heap_block_at a s ≡ Some c → length new ≤ length (bytes_of c.here) →
+    (k : ℕ) → size_in (buffers_of (with_heap_bytes c 0 new s) k) ≡ size_in (buffers_of s k)
+at-address a s c new q le k =
+    let cut = cut_is size_of (is_block_at (a - heap_start)) first_place s.heap.segments c q in
+    let u = used_is (a - heap_start) (first_place + total size_of c.before) c.here cut.passes in
+    same-sizes s c u.bytes (written (bytes_of c.here) 0 new) cut.whole u.here
+    (written-length new (bytes_of c.here) 0 (omega (arith, le)) ∙ ap (λ (g : Segment). length (bytes_of g)) u.here) k
+
+-- a block that holds n bytes at an address
+record IsAround (x n place : ℕ) (g : Segment) : Type 0 where
+  bytes : List ℕ
+  here : g ≡ Used bytes
+  from : place + 4 ≤ x
+  to : x + n ≤ (place + 4) + length bytes
+
+around-is : (x n place : ℕ) (g : Segment) → is_around x n place g ≡ true → IsAround x n place g
+around-is x n place (Used bytes) q =
+    let low = and_left (nat_le (place + 4) x) _ q in
+    let high = and_right (nat_le (place + 4) x) _ q in
+    record {
+      bytes = bytes;
+      here = refl;
+      from = grind (arith, leb_tells (place + 4) x, low);
+      to = grind (arith, leb_tells (x + n) ((place + 4) + length bytes), high);
+    }
+around-is x n place (Hole size) q = absurd cc
+
+-- a write into the block that holds its range
+in-block : (x : ℕ) (s : Slot) (new : List ℕ) (o : Option (Split Segment)) → block_around (x - heap_start) (length new) s.heap ≡ o →
+    (k : ℕ) → size_in (buffers_of (written_heap x new o s) k) ≡ size_in (buffers_of s k)
+in-block x s new None q k = refl
+in-block x s new (Some c) q k =
+    let cut = cut_is size_of (is_around (x - heap_start) (length new)) first_place s.heap.segments c q in
+    let u = around-is (x - heap_start) (length new) (first_place + total size_of c.before) c.here cut.passes in
+    let offset : ℕ = x - (heap_start + place_after c.before + 4) in
+    let size : length (bytes_of c.here) ≡ length u.bytes = ap (λ (g : Segment). length (bytes_of g)) u.here in
+    same-sizes s c u.bytes (written (bytes_of c.here) offset new) cut.whole u.here
+    (written-length new (bytes_of c.here) offset (let a = u.from in let b = u.to in omega (arith, a, b, size)) ∙ size) k
+
+-- a write wherever it goes
+pub written-sizes : (x amount : ℕ) (s : Slot) (new : List ℕ) → length new ≤ amount → (k : ℕ) →
+    size_in (buffers_of (written_in x new (buffer_at x amount s) s) k) ≡ size_in (buffers_of s k)
+written-sizes x amount s new le k = go (heap_block_at x s) refl
+  where
+    around : (o : Option (Split Flex)) → size_in (buffers_of (written_around x new o s) k) ≡ size_in (buffers_of s k)
+    around None = in-block x s new (block_around (x - heap_start) (length new) s.heap) refl k
+    around (Some b) = refl
+
+    roomy : (c : Split Segment) → heap_block_at x s ≡ Some c → (b : Bool) → nat_le amount (length (bytes_of c.here)) ≡ b →
+        size_in (buffers_of (written_in x new (if b then Some c else None) s) k) ≡ size_in (buffers_of s k)
+    roomy c q true e = at-address x s c new q (grind (arith, leb_tells amount (length (bytes_of c.here)), e, le)) k
+    roomy c q false e = around (flex_around x (length new) s)
+
+    go : (o : Option (Split Segment)) → heap_block_at x s ≡ o →
+        size_in (buffers_of (written_in x new (roomy_in amount o) s) k) ≡ size_in (buffers_of s k)
+    go None q = around (flex_around x (length new) s)
+    go (Some c) q = roomy c q (nat_le amount (length (bytes_of c.here))) refl
+
+-- ---- a resize
+
+-- a block that became one of another size, there or elsewhere
+pub record IsResized (delta : ℤ) (old new : Slot) (from to : ℕ) : Type 0 where
+  pub was : ℕ
+  pub was_is : size_in (buffers_of old from) ≡ Some was
+  pub bytes : List ℕ
+  pub size : length bytes ≡ block_room (moved was delta)
+  pub free : post.put (buffers_of old) from None to ≡ None
+  pub moves : Same (buffers_of new) (post.put (post.put (buffers_of old) from None) to (Some bytes))
+
+-- as many bytes as there are
+fitted_same : (bytes : List ℕ) → fitted (length bytes) bytes ≡ bytes
+fitted_same bytes = grind (arith, common_steps, take_all (length bytes) bytes, append-nil bytes)
+
+room_fits : (n : ℕ) → 4 + block_room n ≡ segment_size n
+room_fits n = omega arith
+
+-- the hole that was found for a block
+found_hole : (bytes : List ℕ) (h : Heap) (k : ℕ) (s : Split Segment) →
+    hole_for (4 + length bytes) h.segments ≡ Some s → HoleFor (length bytes) (raised k h) s
+found_hole bytes h k s q =
+    let c = cut_is size_of (is_hole_for (4 + length bytes)) first_place h.segments s q in
+    let hole = hole_is (4 + length bytes) (first_place + total size_of s.before) s.here c.passes in
+    record { size = hole.size; cut = record { whole = c.whole }; here = hole.here; room = hole.room }
+
+beyond_goes : (bytes old : List ℕ) (h : Heap) (k : ℕ) (s : Split Segment) (after : List Segment) → s.after ≡ after →
+    (o : Option (Split Segment)) → hole_for (4 + length bytes) h.segments ≡ o →
+    CanGo (way_beyond after o) old bytes (raised k h) s
+beyond_goes bytes old h k s [] e None q = e
+beyond_goes bytes old h k s [] e (Some hole) q = found_hole bytes h k hole q
+beyond_goes bytes old h k s (g ∷ after) e None q = tt
+beyond_goes bytes old h k s (g ∷ after) e (Some hole) q = found_hole bytes h k hole q
+
+grow_goes : (bytes old : List ℕ) (h : Heap) (k : ℕ) (s : Split Segment) (after : List Segment) → s.after ≡ after →
+    s.here ≡ Used old →
+    CanGo (way_to_grow (4 + length bytes) s after h) old bytes (raised k h) s
+grow_goes bytes old h k s [] e here =
+    either (λ w. CanGo w old bytes (raised k h) s) (nat_le (place_after s.before + (4 + length bytes)) h.end)
+    GrowsAtTop _
+    (λ b. e) (λ b. beyond_goes bytes old h k s [] e (hole_for (4 + length bytes) h.segments) refl)
+grow_goes bytes old h k s (Used b ∷ after) e here = beyond_goes bytes old h k s (Used b ∷ after) e
+    (hole_for (4 + length bytes) h.segments) refl
+grow_goes bytes old h k s (Hole size ∷ after) e here =
+    let same : size_of s.here ≡ 4 + length old = ap size_of here in
+    either (λ w. CanGo w old bytes (raised k h) s) (nat_le (4 + length bytes) (size_of s.here + size)) (GrowsIntoHole
+    size after) _
+    (λ b. (
+      e,
+      let z : 4 + length bytes ≤ size_of s.here + size = grind (
+        arith,
+        leb_tells (4 + length bytes)
+            (size_of s.here + size),
+      ) in omega arith,
+    ))
+    (λ b. beyond_goes bytes old h k s (Hole size ∷ after) e (hole_for (4 + length bytes) h.segments) refl)
+
+-- the way that is taken can be gone
+can_go : (bytes old : List ℕ) (h : Heap) (k : ℕ) (s : Split Segment) → (length bytes ≡ length old → bytes ≡ old) →
+    s.here ≡ Used old →
+    CanGo (way_to (4 + length bytes) s h) old bytes (raised k h) s
+can_go bytes old h k s stay here =
+    let same : size_of s.here ≡ 4 + length old = ap size_of here in
+    either (λ w. CanGo w old bytes (raised k h) s) (nat_eq (4 + length bytes) (size_of s.here)) Stays _
+    (λ b. stay (let z : 4 + length bytes ≡ size_of s.here = is_equal _ _ b in omega arith))
+    (λ b. either (λ w. CanGo w old bytes (raised k h) s) (nat_lt (4 + length bytes) (size_of s.here)) Shrinks _
+    (λ c. let z : 4 + length bytes < size_of s.here = grind (
+      arith,
+      leb_tells (suc (4 + length bytes))
+          (size_of s.here),
+    ) in omega arith)
+    (λ c. grow_goes bytes old h k s s.after refl here))
+
+-- two places of the maps of a slot
+shifted_twice : (m : ℕ → Option (List ℕ)) (x y : ℕ) (v w : Option (List ℕ)) (a : ℕ) → 0 < x → 0 < y →
+    post.put (post.put m x v) y w (a - heap_start) ≡ post.put (post.put (λ j. m (j - heap_start)) (heap_start + x) v)
+    (heap_start + y) w a
+shifted_twice m x y v w a px py =
+    shifted (post.put m x v) y w a py ∙
+    elim (eqb_tells a (heap_start + y)) [ inl b ↦ rw b.0 refl | inr b ↦ rw b.0 (shifted m x v a px) ]
+
+module _ (n k : ℕ) (s : Slot) (b : Split Segment) (old : List ℕ) (whole : with_here b b.here ≡ s.heap.segments)
+    (here : b.here ≡ Used old) where
+  abbrev longer : Heap
+  longer = raised k s.heap
+
+  abbrev new_bytes : List ℕ
+  new_bytes = fitted (block_room n) (bytes_of b.here)
+
+  abbrev there : Placed
+  there = resized_by (way_to (segment_size n) b s.heap) new_bytes b longer
+
+  has_bytes : bytes_of b.here ≡ old
+  has_bytes = ap bytes_of here
+
+  goes : CanGo (way_to (segment_size n) b s.heap) old new_bytes longer b
+  goes =
+      let len : length new_bytes ≡ block_room n = length_fitted (block_room n) (bytes_of b.here) in
+      let fit : 4 + length new_bytes ≡ segment_size n = ap (λ z. 4 + z) len ∙ room_fits n in
+      subst (λ z. CanGo (way_to z b s.heap) old new_bytes longer b) fit (can_go new_bytes old s.heap k b
+      (λ e. let z : block_room n ≡ length (bytes_of b.here) = sym len ∙ e ∙ ap (λ (y : List ℕ). length y)
+      (sym has_bytes) in
+      ap (λ m. fitted m (bytes_of b.here)) z ∙ fitted_same (bytes_of b.here) ∙ has_bytes) here)
+
+  moved_so : IsMoved longer there.heap (place_after b.before + 4) there.address new_bytes
+  moved_so = heaps.resizes (way_to (segment_size n) b s.heap) old new_bytes longer b (record {
+    cut = record {
+      whole = whole;
+    };
+    here = here;
+  }) goes
+
+
+-- a block never gets address 0
+placed_high : (w : Way) (bytes : List ℕ) (b : Split Segment) (h : Heap) → 0 < (resized_by w bytes b h).address
+placed_high Stays bytes b h = omega arith
+placed_high Shrinks bytes b h = omega arith
+placed_high (GrowsIntoHole size rest) bytes b h = omega arith
+placed_high GrowsAtTop bytes b h = omega arith
+placed_high (MovesToHole hole) bytes b h = omega arith
+placed_high MovesToTop bytes b h = omega arith
+
+-- past tests that were passed
+past : {A : Type 0} (g : Granted (Unit {0})) (next : Granted A) (y : A) → (g >>= (λ _. next)) ≡ Ok y → next ≡ Ok y
+unfolding ◌>>=◌
+past (Ok x) next y q = q
+past (Err r) next y q = absurd (let z : Err r ≡ Ok y = q in (cc))
+
+
+found-resize : (free address : ℕ) (delta : ℤ) (s : Slot) (p : Slot × ℕ) (b : Split Segment) → heap_block_at address s ≡ Some b →
+    with_placed (resize_growing (new_size delta b) b s.heap) s ≡ p → IsResized delta s p.0 address p.1
+found-resize free address delta s p b q same =
+    let c = cut_is size_of (is_block_at (address - heap_start)) first_place s.heap.segments b q in
+    let u = used_is (address - heap_start) (first_place + total size_of b.before) b.here c.passes in
+    let n : ℕ = new_size delta b in
+    let k : ℕ = resize_need n b s.heap in
+    let at : ℕ = place_after b.before + 4 in
+    let from : heap_start + at ≡ address = let y = u.at_ in omega arith in
+    let m = moved_so n k s b u.bytes c.whole u.here in
+    let to : Placed = there n k s b u.bytes c.whole u.here in
+    let pos : 0 < to.address = placed_high _ _ b _ in
+    subst (λ (y : Slot × ℕ). IsResized delta s y.0 address y.1) same (record {
+      was = length (bytes_of b.here);
+      was_is = ap size_in (sym (buffer_is address s) ∙ ap (option_map (λ (x : Split Segment). bytes_of x.here)) q);
+      bytes = new_bytes n k s b u.bytes c.whole u.here;
+      size = length_fitted (block_room n) (bytes_of b.here);
+      free =
+          ap (λ z. post.put (buffers_of s) z None (heap_start + to.address)) (sym from) ∙
+          sym (shifted (heap_map s.heap) at None (heap_start + to.address) (omega arith)) ∙
+          ap (λ j. post.put (heap_map s.heap) at None j) (omega arith) ∙ m.free;
+      moves = λ a. m.moved (a - heap_start) ∙
+          shifted_twice (heap_map s.heap) at to.address None (Some (new_bytes n k s b u.bytes c.whole u.here)) a (omega arith) pos ∙
+          ap (λ z. post.put (post.put (buffers_of s) z None) (heap_start + to.address) (Some (new_bytes n k s b u.bytes c.whole u.here)) a) from;
+    })
+
+pub resize-is : (free address : ℕ) (delta : ℤ) (s : Slot) (p : Slot × ℕ) → slot_resize free address delta s ≡ Ok p →
+    IsResized delta s p.0 address p.1
+unfolding slot_resize
+resize-is free address delta s p q =
+    let b = from_bind (found_or (heap_block_at address s) NotABlock) _ p q in
+    found-resize free address delta s p b.value (is_found (heap_block_at address s) NotABlock b.value b.first)
+    (ok_is _ p (past _ _ p (past _ _ p (past _ _ p b.rest))))
