@@ -1,7 +1,7 @@
 -- Each command leaves the blocks of every task accounted for, and so they are after every list of commands.
-use Rattle.std.proofs.Common.{◌≡◌, ◌≢◌, ℕ, ◌+◌, ◌<◌, ◌≤◌, Bool, true, false, not, ◌&&◌, List, [], ◌∷◌, ◌++◌, length, Option, Some, None}
+use Rattle.std.proofs.Common.{◌≡◌, ◌≢◌, ℕ, ◌+◌, ◌<◌, ◌≤◌, Bool, true, false, not, List, [], ◌∷◌, ◌++◌, length, Option, Some, None}
 use Rattle.std.proofs.Common.{◌-◌, refl, sym, ap, ◌∙◌, subst, ◌⊎◌, inl, inr, arith, take, drop, length-take}
-use Rattle.std.specs.Prelude.{◌==◌, nat_eq, find, filter, if◌then◌else◌, ℤ, Ok}
+use Rattle.std.specs.Prelude.{◌==◌, find, filter, ℤ, Ok}
 use Rattle.std.specs.Option.{option_map}
 use Rattle.std.proofs.lemmas.Bool.Decides.{eqb_tells}
 use Rattle.std.proofs.lemmas.List.{length-replicate}
@@ -16,18 +16,17 @@ use Rattle.rh_defs.specs.declared.refusal.Refusal.{Refusal}
 use Rattle.rh_defs.specs.declared.refusal.Refusal.TheVariants.{NotOpen}
 use Rattle.rh_defs.specs.Chain.{Granted, or_else}
 use Rattle.rh_defs.specs.Blocks.{bytes_at}
-use Rattle.rh_defs.specs.Files.{FileList}
 use Rattle.rh_defs.specs.Places.{with_heap_bytes}
-use Rattle.rh_defs.specs.Laws.{Ascend, IsDesk, IsStart, Rise}
+use Rattle.rh_defs.specs.Laws.{Ascend, IsDesk, Rise}
 use Rattle.rh_defs.specs.Pieces.{zeros}
 use Rattle.rh_defs.specs.Range.{all_in_range, in_range}
-use Rattle.rh_defs.specs.Heap.{Heap, IsTidy, Segment, Used, Hole, block_room, first_place}
+use Rattle.rh_defs.specs.Heap.{IsTidy, Segment, Used, Hole, block_room, first_place}
 use Rattle.rh_defs.specs.Messages.{Parcel}
-use Rattle.rh_defs.specs.Post.{post_join, post_poll}
-use Rattle.rh_defs.specs.Records.{in_id, is_buffer_of, most_records, with_id}
+use Rattle.rh_defs.specs.Post.{post_poll}
+use Rattle.rh_defs.specs.Records.{in_id, is_buffer_of, most_records}
 use Rattle.rh_defs.specs.Receiver as receiver
 use Rattle.rh_defs.specs.Slot.{IsSlot, Slot, heap_start, new_slot, slot_begin}
-use Rattle.rh_defs.specs.Desk.{Desk, Task, free_pages, has_name, named, next_ref, send_letter, task_at, with_delivered, with_slot, with_task}
+use Rattle.rh_defs.specs.Desk.{Desk, Task, has_name, named, next_ref, task_at, with_delivered, with_slot}
 use Rattle.rh_defs.specs.Commands.{Answer, start_task, kill, alloc, load, put, free, extend, mid, claim, release, resize, budge}
 use Rattle.rh_defs.specs.Runs.{after, start_with}
 use Rattle.rh_defs.specs.Step.{save, repeat, poll, poll_taken, cancel_in, cancel_out, event, step}
@@ -36,7 +35,6 @@ use Rattle.rh_defs.proofs.Chains.{OnGrant, granted, granted-past, granted-then, 
 use Rattle.rh_defs.proofs.Lists.{rise-below}
 use Rattle.rh_defs.proofs.Steps.{after-is, start-is, step-keeps}
 use Rattle.rh_safety.specs.Offered.{at_place}
-use Rattle.rh_safety.specs.TaskRecords.{IsRecorded}
 use Rattle.rh_safety.proofs.Ends.{Edits, Has, Offers}
 use Rattle.rh_safety.proofs.Basics.{and_left, and_right, first_is, is_equal, none_some, put_other, put_same}
 use Rattle.rh_safety.proofs.Invariant.{Good}
@@ -53,12 +51,12 @@ use Rattle.rh_safety.proofs.View.{buffers_of, task_of, view}
 use Rattle.rh_laws.specs.Claimed.{AlwaysLeaksNone, Claims, HoldsNone, LeaksNone, claimed, claimed_at, claims_from, claims_next}
 use Rattle.rh_laws.specs.Claimed.{IsAccounted, holders, noted, released_at, resized_at, size_after, size_at}
 use Rattle.rh_laws.specs.Frame.{FillsBuffer, actor, handle_of, poller}
-use Rattle.rh_laws.proofs.Frames.{leaves-others, less-other, more-other}
+use Rattle.rh_laws.proofs.Frames.{leaves-others}
 use Rattle.rh_laws.proofs.FramePolls.{polls-fill}
 use Rattle.rh_laws.proofs.Accounts.{Accounts, claimed-accounts, is-vacant, none-hold, released-accounts, renewed-accounts, resized-accounts}
 use Rattle.rh_laws.proofs.Accounts.{same-accounts, size-is, size_in, sized-accounts}
 use Rattle.rh_laws.proofs.AccountSlots.{at-address, resize-is}
-use Rattle.rh_laws.proofs.AccountPolls.{Keeps, Kept, Stands, handled-keeps, stands-delivered, stands-letter, stands-sends, stands-slot, stands-takes}
+use Rattle.rh_laws.proofs.AccountPolls.{Kept, Stands, handled-keeps, stands-delivered, stands-letter, stands-sends, stands-slot, stands-takes}
 
 -- ---- lists of tasks
 

@@ -1,9 +1,8 @@
 -- Each message that a poll handles leaves the blocks of the task that polls accounted for.
-use Rattle.std.proofs.Common.{◌≡◌, ◌≢◌, ℕ, ◌+◌, ◌-◌, ◌≤◌, Bool, List, [], ◌∷◌, length, take, drop, Option, Some, None}
+use Rattle.std.proofs.Common.{◌≡◌, ◌≢◌, ℕ, ◌+◌, ◌-◌, ◌≤◌, Bool, List, length, take, drop, Option, Some, None}
 use Rattle.std.proofs.Common.{refl, sym, ap, ◌∙◌, subst, ◌⊎◌, inl, inr, arith, length-take}
-use Rattle.std.specs.Prelude.{nat_lt, nat_eq, min, IfSome}
+use Rattle.std.specs.Prelude.{min, IfSome}
 use Rattle.std.proofs.lemmas.Bool.Decides.{eqb_tells}
-use Rattle.rh_defs.specs.declared.refusal.Refusal.{Refusal}
 use Rattle.rh_defs.specs.declared.message.Body.{Body}
 use Rattle.rh_defs.specs.declared.message.Body.TheVariants as body
 use Rattle.rh_defs.specs.declared.message.EventCode.{EventCode}
@@ -38,7 +37,6 @@ use Rattle.rh_safety.proofs.Ends.{Has}
 use Rattle.rh_safety.proofs.Basics.{FoundActive, active_is, asking_is, drains, fetches}
 use Rattle.rh_safety.proofs.SeenBlocks.{added_still, alloc_is, changed_still, extend_is, put_is}
 use Rattle.rh_safety.proofs.SeenHeaps.{claim_is, claimed_free, claimed_map}
-use Rattle.rh_safety.proofs.SeenTasks.{Same}
 use Rattle.rh_safety.proofs.View.{buffers_of, task_of}
 use Rattle.rh_laws.proofs.Frames.{any-grant, edit-other, edit-own}
 use Rattle.rh_laws.proofs.Accounts.{Accounts, begun-accounts, ended-accounts, one, renewed-accounts, same-accounts, size_in, sized-accounts}
@@ -120,6 +118,10 @@ grant-mono : {A : Type 0} {P Q : A → Type 0} {r : Granted A} → ((x : A) → 
 grant-mono f (granted {x = x} p) = granted (f x p)
 grant-mono f refused = refused
 
+-- no more bytes go out than were asked for
+portion-fits : (amount rest : ℕ) (bytes : List ℕ) → length (take (min amount rest) bytes) ≤ amount
+portion-fits amount rest bytes = simp length-take (omega arith)
+
 -- ---- its account
 
 -- the task of the handle has these records, and its blocks are accounted for
@@ -147,15 +149,15 @@ written-kept : {c : ℕ → Option ℕ} {h : ℕ} {d : Desk} {ws : List Incoming
     Kept c h (with_task k (λ (y : Task). record y { slot = g y.slot }) d) ws
 written-kept {c} {h} {d} {ws} k g same w = elim (eqb_tells k h) [
   | inl a ↦ subst (λ j. Kept c h (with_task j (λ (y : Task). record y { slot = g y.slot }) d) ws) (sym a.1) (record {
-      slot = g w.slot;
-      stands = stands-own (λ (y : Task). record y { slot = g y.slot }) (λ y. refl) (g w.slot) ws (λ y q. ap g q) (λ y q. q) w.stands;
-      all = sized-accounts (same w.slot) w.all;
-    })
+    slot = g w.slot;
+    stands = stands-own (λ (y : Task). record y { slot = g y.slot }) (λ y. refl) (g w.slot) ws (λ y q. ap g q) (λ y q. q) w.stands;
+    all = sized-accounts (same w.slot) w.all;
+  })
   | inr a ↦ record {
-      slot = w.slot;
-      stands = stands-other k (λ (y : Task). record y { slot = g y.slot }) (λ y. refl) a.1 w.stands;
-      all = w.all;
-    }
+    slot = w.slot;
+    stands = stands-other k (λ (y : Task). record y { slot = g y.slot }) (λ y. refl) a.1 w.stands;
+    all = w.all;
+  }
 ]
 
 module _ (c : ℕ → Option ℕ) (t : Task) (next : ℕ) (up : Rise in_id 0 next t.taking) (all : Accounts c (buffers_of t.slot) t.taking) where
@@ -229,7 +231,7 @@ module _ (c : ℕ → Option ℕ) (t : Task) (next : ℕ) (up : Rise in_id 0 nex
     transmit-keeps m buffer amount x source =
         granted-then _ _ λ r live. granted-past _ _ _ λ reach. granted-with _ (letter-kept _ g) λ sent w.
         let new : List ℕ = take (portion x amount source) (drop x.count source.here.bytes) in
-        let few : length new ≤ amount = simp length-take (omega arith) in
+        let few : length new ≤ amount = portion-fits amount (length source.here.bytes - x.count) (drop x.count source.here.bytes) in
         let k = written-kept r.handle (λ s. written_in buffer new (buffer_at buffer amount s) s)
         (λ s p. written-sizes buffer amount s new few p) w in
         granted (record {

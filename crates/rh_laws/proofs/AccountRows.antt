@@ -19,7 +19,7 @@ use Rattle.rh_laws.specs.Claimed.{IsAccounted, claimed, holders, size_at}
 
 -- ---- a block that is claimed beside a buffer
 
--- a claimed block of 20 bytes is made one of 30 while a transfer fetches
+-- a block of 20 bytes is claimed, and a transfer fetches by a buffer of 5
 abbrev fetching : List String
 fetching = "task a 4" ∷ "task b 5" ∷ "claim b 20" ∷ "alloc a 0 6" ∷ "save a 0 b doc" ∷ "poll b" ∷ []
 
@@ -46,7 +46,7 @@ block_and_buffer : rows fetching (0x8114 ∷ 0x812c ∷ 0x813c ∷ []) ≡
 unfolding Script.computing hex_on_literals
 block_and_buffer = refl
 
--- the block that is made larger moves above the buffer, and the transfer's end releases that
+-- the claimed block, made one of 30 bytes, moves above the buffer, and the transfer's end releases the buffer
 moved_block : rows (fetching ++ "resize b &8114 10" ∷ "poll a" ∷ "poll b" ∷ "poll a" ∷ "poll b" ∷ []) (0x8114 ∷ 0x812c ∷ 0x813c ∷ []) ≡
     (record { size = None; claim = None; holding = 0 })
     ∷ (record { size = None; claim = None; holding = 0 })

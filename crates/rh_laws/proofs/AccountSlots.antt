@@ -1,21 +1,21 @@
 -- The calls on a slot that transfers and commands on the C heap make, as its map of blocks and their sizes.
 use Rattle.std.proofs.Common.{suc, length-append, length-drop, length-take, ◌≡◌, ℕ, ◌+◌, ◌-◌, ◌<◌, ◌≤◌, Bool, true, false}
-use Rattle.std.proofs.Common.{List, [], ◌∷◌, ◌++◌, length, take, drop, Option, Some, None, refl, sym, ap, ◌∙◌, subst, inl, inr}
+use Rattle.std.proofs.Common.{List, [], ◌∷◌, length, Option, Some, None, refl, sym, ap, ◌∙◌, subst, inl, inr}
 use Rattle.std.proofs.Common.{arith}
-use Rattle.std.specs.Prelude.{ℤ, nat_eq, nat_lt, nat_le, ◌&&◌, ◌==◌, if◌then◌else◌, Ok, Err}
+use Rattle.std.specs.Prelude.{ℤ, nat_eq, nat_lt, nat_le, if◌then◌else◌, Ok, Err}
 use Rattle.std.specs.Option.{option_map}
-use Rattle.std.proofs.lemmas.List.{length-replicate, take_all, append-nil}
+use Rattle.std.proofs.lemmas.List.{take_all, append-nil}
 use Rattle.std.proofs.lemmas.Grind.{common_steps}
 use Rattle.std.proofs.lemmas.Bool.Decides.{eqb_tells, leb_tells}
-use Rattle.rh_defs.specs.declared.refusal.Refusal.TheVariants.{NotABlock, BadSize, NoBudge, NoRoom}
-use Rattle.rh_defs.specs.Chain.{Granted, ◌>>=◌, refuse_if, found_or, result_or}
-use Rattle.rh_defs.specs.Pieces.{Split, first_at, is_inside, lacks_pages, total, with_here, written, zeros, moved}
+use Rattle.rh_defs.specs.declared.refusal.Refusal.TheVariants.{NotABlock}
+use Rattle.rh_defs.specs.Chain.{Granted, ◌>>=◌, found_or, result_or}
+use Rattle.rh_defs.specs.Pieces.{Split, total, with_here, written, moved}
 use Rattle.rh_defs.specs.Heap.{Way, Stays, Shrinks, GrowsIntoHole, GrowsAtTop, MovesToHole, MovesToTop, Segment, Used}
 use Rattle.rh_defs.specs.Heap.{Hole, Heap, Placed, size_of, first_place, place_after, is_around, is_block_at, is_hole_for}
 use Rattle.rh_defs.specs.Heap.{hole_for, block_around, block_room, raised, released, bytes_of}
 use Rattle.rh_defs.specs.Heap.{fitted, segment_size, way_to, way_to_grow, way_beyond, new_size, resize_need}
 use Rattle.rh_defs.specs.Heap.{resize_growing, resized_by}
-use Rattle.rh_defs.specs.Slot.{Flex, Slot, heap_start, heap_block_at, with_heap, with_placed, is_stuck, slot_release, slot_resize}
+use Rattle.rh_defs.specs.Slot.{Flex, Slot, heap_start, heap_block_at, with_heap, with_placed, slot_release, slot_resize}
 use Rattle.rh_defs.specs.Slot.{flex_around}
 use Rattle.rh_defs.specs.Places.{buffer_at, roomy_in, with_heap_bytes, written_around, written_heap, written_in}
 use Rattle.rh_defs.specs.IncomingEvents.{without_buffer}
@@ -28,7 +28,7 @@ use Rattle.rh_safety.proofs.SeenHeaps.{cut_is, gone_map, hole_is, length_fitted,
 use Rattle.rh_safety.proofs.SeenDocuments.{buffer_is}
 use Rattle.rh_safety.proofs.HeapMaps as heaps
 use Rattle.rh_safety.proofs.Ends as post
-use Rattle.rh_safety.proofs.Basics.{and_left, and_right, either, is_either, is_equal, none_some}
+use Rattle.rh_safety.proofs.Basics.{and_left, and_right, either, is_equal}
 use Rattle.rh_laws.proofs.Accounts.{size_in}
 
 -- ---- a buffer that goes
@@ -235,7 +235,6 @@ module _ (n k : ℕ) (s : Slot) (b : Split Segment) (old : List ℕ) (whole : wi
     here = here;
   }) goes
 
-
 -- a block never gets address 0
 placed_high : (w : Way) (bytes : List ℕ) (b : Split Segment) (h : Heap) → 0 < (resized_by w bytes b h).address
 placed_high Stays bytes b h = omega arith
@@ -250,7 +249,6 @@ past : {A : Type 0} (g : Granted (Unit {0})) (next : Granted A) (y : A) → (g >
 unfolding ◌>>=◌
 past (Ok x) next y q = q
 past (Err r) next y q = absurd (let z : Err r ≡ Ok y = q in (cc))
-
 
 found-resize : (free address : ℕ) (delta : ℤ) (s : Slot) (p : Slot × ℕ) (b : Split Segment) → heap_block_at address s ≡ Some b →
     with_placed (resize_growing (new_size delta b) b s.heap) s ≡ p → IsResized delta s p.0 address p.1

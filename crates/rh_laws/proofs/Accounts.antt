@@ -1,7 +1,7 @@
 -- Blocks of a C heap as a map, the claims and the records with buffers: what each edit makes of their account.
-use Rattle.std.proofs.Common.{◌≡◌, ◌≢◌, ℕ, ◌+◌, ◌-◌, ◌<◌, ◌≤◌, Bool, true, false, List, [], ◌∷◌, ◌++◌, length, take, Option, Some, None}
-use Rattle.std.proofs.Common.{refl, sym, ap, ◌∙◌, subst, ◌⊎◌, inl, inr, arith}
-use Rattle.std.specs.Prelude.{ℤ, ◌==◌, nat_eq, nat_le, if◌then◌else◌, filter}
+use Rattle.std.proofs.Common.{◌≡◌, ◌≢◌, ℕ, ◌+◌, ◌<◌, ◌≤◌, Bool, true, false, List, [], ◌∷◌, ◌++◌, length, Option, Some, None}
+use Rattle.std.proofs.Common.{refl, sym, ap, ◌∙◌, subst, inl, inr, arith}
+use Rattle.std.specs.Prelude.{ℤ, nat_eq, nat_le, if◌then◌else◌, filter}
 use Rattle.std.specs.List.{list_any}
 use Rattle.std.specs.Option.{option_map}
 use Rattle.std.proofs.lemmas.Bool.Decides.{eqb_tells}
@@ -13,14 +13,13 @@ use Rattle.rh_defs.specs.Heap.{Segment, block_room, bytes_of}
 use Rattle.rh_defs.specs.Slot.{Slot, heap_block_at}
 use Rattle.rh_defs.specs.Laws.{Rise}
 use Rattle.rh_defs.specs.Records.{dropped, in_id, is_buffer_of, is_going, one_more, with_id}
-use Rattle.rh_defs.proofs.Lists.{rise-lower}
 use Rattle.rh_safety.specs.Offered.{at_place}
 use Rattle.rh_safety.proofs.Ends.{Has}
 use Rattle.rh_safety.proofs.Basics.{none_some, put_other, put_same}
 use Rattle.rh_safety.proofs.View.{buffers_of}
 use Rattle.rh_safety.proofs.SeenDocuments.{buffer_is}
 use Rattle.rh_safety.proofs.SeenTasks.{Same}
-use Rattle.rh_laws.specs.Claimed.{HoldsNone, IsAccounted, holders, one_if_some, size_after, size_at}
+use Rattle.rh_laws.specs.Claimed.{IsAccounted, holders, size_after, size_at}
 
 -- ---- records with buffers
 

@@ -1,5 +1,6 @@
 -- The blocks of a task's C heap: those that it claimed and hasn't released, and the buffers of its transfers.
-use Rattle.std.specs.Prelude.{◌≡◌, ℕ, ◌+◌, ℤ, true, false, List, [], ◌∷◌, length, filter, find, Option, Some, None}
+use Rattle.std.specs.Prelude.{◌≡◌, ℕ, ◌+◌, ℤ, true, false, List, [], ◌∷◌, length, filter, find}
+use Rattle.std.specs.Prelude.{Option, Some, None}
 use Rattle.std.specs.Option.{option_map}
 use Rattle.rh_defs.specs.declared.command.Command.{Command}
 use Rattle.rh_defs.specs.declared.command.Command.TheVariants as command
@@ -95,8 +96,8 @@ abbrev pub one_if_some : Option ℕ → ℕ
 one_if_some None = 0
 one_if_some (Some n) = 1
 
--- Of one address: there is a block just where one is claimed or one record has it as its buffer, of which only one is
--- so. A block that is claimed has the size that was granted.
+-- Of one address: there is a block just where one is claimed or a record has it as its buffer, never both, and never two
+-- records. A block that is claimed has the size that was granted.
 pub record IsAccounted (block claim : Option ℕ) (holding : ℕ) : Type 0 where
   pub count : one_if_some block ≡ one_if_some claim + holding
   pub size : (n : ℕ) → claim ≡ Some n → block ≡ Some n
