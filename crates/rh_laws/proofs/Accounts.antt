@@ -250,7 +250,8 @@ module _ {c : ℕ → Option ℕ} {m : ℕ → Option (List ℕ)} {ws : List Inc
         last (Some b) (Some n) k low w = absurd (let z = w.count in omega (arith, z, low))
 
 -- a block of another size, there or elsewhere, which no record has as its buffer
-pub resized-accounts : {c : ℕ → Option ℕ} {m : ℕ → Option (List ℕ)} {ws : List Incoming} (from to n : ℕ) (bytes : List ℕ) (size : ℤ) → list_any (is_buffer_of from) ws ≡ false →
+pub resized-accounts : {c : ℕ → Option ℕ} {m : ℕ → Option (List ℕ)} {ws : List Incoming} (from to n : ℕ) (bytes : List ℕ) (size : ℤ) →
+    list_any (is_buffer_of from) ws ≡ false →
     size_in (m from) ≡ Some n → length bytes ≡ block_room (moved n size) → at_place m from None to ≡ None → Accounts c m ws →
     Accounts (at_place (at_place c from None) to (size_after size (c from))) (at_place (at_place m from None) to (Some bytes)) ws
 resized-accounts {c} {m} {ws} from to n bytes size idle was len free all =
