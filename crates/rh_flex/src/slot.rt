@@ -28,6 +28,7 @@ const C_HEAP: Span = Span {
 ///
 /// The whole pages behind the slot's are free. A call may take some of them for the slot, and says nothing of what
 /// they hold then. Between calls they are the caller's. A slot ends where its bytes are used for something else.
+#[repr(C)]
 #[derive(Clone, Copy, Debug, PartialEq, Eq)]
 pub struct LentSlot {
     pub pages: usize,

@@ -1,0 +1,79 @@
+-- Statuses: how a call ended, as a number.
+use Rattle.std.specs.Prelude.{ℕ, ◌-◌, ◌*◌, ◌/◌, ◌^◌, ◌==◌, nat_le, nat_lt, ◌&&◌, if◌then◌else◌, Result, Ok, Err}
+use Rattle.rh_defs.specs.Chain.{Granted, answer_of}
+use Rattle.rh_defs.specs.Slot.{Slot, anchor_count, slot_start}
+use Rattle.rh_defs.specs.declared.refusal.Refusal.{Refusal}
+use Rattle.rh_defs.specs.declared.refusal.Refusal.TheVariants.{NoBlock, AnchorInUse, NotABlock, BadRange, BadSize, NoBudge, NoRoom}
+use Rattle.rh_defs.specs.declared.sizes.TheConstants.{PAGE}
+use Rattle.rh_flex.specs.declared.slot.LentSlot.{LentSlot}
+
+-- the status of a refusal: its number in the one order of all refusals; the last is for those that no slot has
+abbrev pub refusal_status : Refusal → ℕ
+refusal_status NoBlock = 6
+refusal_status AnchorInUse = 7
+refusal_status NotABlock = 8
+refusal_status BadRange = 13
+refusal_status BadSize = 14
+refusal_status NoBudge = 19
+refusal_status NoRoom = 20
+refusal_status _ = 63
+
+-- no slot has so many bytes
+abbrev pub bad_length : ℕ
+bad_length = 33
+
+-- the bytes are fewer than the slot's
+abbrev pub short : ℕ
+short = 34
+
+-- no slot has this anchor
+abbrev pub bad_anchor : ℕ
+bad_anchor = 38
+
+-- no slot was started
+abbrev pub no_slot : ℕ
+no_slot = 39
+
+-- the most bytes in which a slot may lie: the 28 MiB of application space
+abbrev pub longest : ℕ
+longest = 28 * 2 ^ 20
+
+-- the status of an answer
+abbrev pub answer_status : {A : Type 0} → Granted A → ℕ
+answer_status (Ok x) = 0
+answer_status (Err refusal) = refusal_status refusal
+
+-- the number that is answered, or the old one
+abbrev pub answer_or : Granted ℕ → ℕ → ℕ
+answer_or (Ok n) old = n
+answer_or (Err refusal) old = old
+
+-- the address that is answered as an offset from the slot's first byte, or the old offset
+abbrev pub offset_or : Granted ℕ → ℕ → ℕ
+offset_or (Ok address) old = address - slot_start
+offset_or (Err refusal) old = old
+
+-- the status of a call that is granted this
+abbrev pub status_of : {A : Type 0} → Granted (Slot × A) → ℕ
+status_of granted = answer_status (answer_of granted)
+
+-- 0 where so many bytes may have a slot: from a page up to 28 MiB
+unfoldable pub length_status : ℕ → ℕ
+length_status n = if nat_le PAGE n && nat_le n longest then 0 else bad_length
+
+-- 0 where the pages of a slot that was started lie in so many bytes
+unfoldable pub slot_status : ℕ → LentSlot → ℕ
+slot_status n s =
+    if nat_lt n PAGE then bad_length
+    else if nat_lt longest n then bad_length
+    else if s.pages == 0 then no_slot
+    else if nat_lt (n / PAGE) s.pages then short
+    else 0
+
+-- 0 where besides the slot has this anchor
+unfoldable pub anchor_status : ℕ → LentSlot → ℕ → ℕ
+anchor_status n s k = if slot_status n s == 0 then (if nat_lt k anchor_count then 0 else bad_anchor) else slot_status n s
+
+-- 0 where besides an offset lies in the bytes; no block begins elsewhere
+unfoldable pub offset_status : ℕ → LentSlot → ℕ → ℕ
+offset_status n s x = if slot_status n s == 0 then (if nat_lt x n then 0 else refusal_status NotABlock) else slot_status n s

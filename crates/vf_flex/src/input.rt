@@ -1,0 +1,61 @@
+//! Whether what a call is given can be looked at: how many bytes there are, and what is asked for by a number.
+ghost use Rattle.std.specs.Prelude.{◌≡◌, ◌<◌};
+ghost use Rattle.rh_defs.specs.declared.sizes.TheConstants.{ANCHORS};
+ghost use Rattle.vf_flex.specs.Status.{anchor_status, length_status, longest, offset_status, slot_status};
+
+use crate::status::{BAD_ANCHOR, BAD_LENGTH, NO_SLOT, NOT_A_BLOCK, OK, SHORT};
+use rh_defs::sizes::{ANCHORS, PAGE};
+use rh_flex::LentSlot;
+
+/// The most bytes in which a slot may lie: the 28 MiB of application space.
+const LONGEST: usize = 0x01C0_0000;
+
+/// Whether so many bytes may have a slot.
+pub fn length_status(len: usize) -> u32
+    ensures { result ≡ length_status len }
+{
+    if len < PAGE || LONGEST < len {
+        return BAD_LENGTH;
+    }
+    OK
+}
+
+/// Whether the pages of a slot that was started lie in so many bytes.
+pub fn slot_status(len: usize, slot: LentSlot) -> u32
+    ensures { result ≡ slot_status len slot }
+{
+    if len < PAGE || LONGEST < len {
+        return BAD_LENGTH;
+    }
+    if slot.pages == 0 {
+        return NO_SLOT;
+    }
+    if len / PAGE < slot.pages {
+        return SHORT;
+    }
+    OK
+}
+
+/// Whether besides the slot has this anchor.
+pub fn anchor_status(len: usize, slot: LentSlot, anchor: u32) -> u32
+    ensures status { result ≡ anchor_status len slot anchor }
+    ensures slot { result ≡ 0 → slot_status len slot ≡ 0 }
+    ensures anchor { result ≡ 0 → anchor < ANCHORS }
+{
+    match slot_status(len, slot) {
+        OK if anchor as usize >= ANCHORS => BAD_ANCHOR,
+        status => status,
+    }
+}
+
+/// Whether besides an offset lies in the bytes. No block begins elsewhere.
+pub fn offset_status(len: usize, slot: LentSlot, offset: usize) -> u32
+    ensures status { result ≡ offset_status len slot offset }
+    ensures slot { result ≡ 0 → slot_status len slot ≡ 0 }
+    ensures offset { result ≡ 0 → offset < longest }
+{
+    match slot_status(len, slot) {
+        OK if offset >= len => NOT_A_BLOCK,
+        status => status,
+    }
+}

@@ -1,0 +1,99 @@
+//! Statuses: how a call ended, as a number. The header for C has the same numbers.
+ghost use Rattle.std.specs.Prelude.{◌≡◌};
+ghost use Rattle.vf_flex.specs.Status.{answer_or, answer_status, offset_or, refusal_status};
+
+use rh_defs::Refusal;
+use rh_defs::sizes::SLOT_START;
+
+/// All was done.
+pub const OK: u32 = 0;
+
+/// The anchor has no block.
+pub const NO_BLOCK: u32 = 6;
+
+/// The anchor has a block.
+pub const ANCHOR_IN_USE: u32 = 7;
+
+/// No block of the C heap begins at the offset.
+pub const NOT_A_BLOCK: u32 = 8;
+
+/// Bytes lie outside the block.
+pub const BAD_RANGE: u32 = 13;
+
+/// The block would have fewer than 1 byte.
+pub const BAD_SIZE: u32 = 14;
+
+/// The C heap must grow, and budging is off.
+pub const NO_BUDGE: u32 = 19;
+
+/// Too few pages are free.
+pub const NO_ROOM: u32 = 20;
+
+/// No slot has so many bytes.
+pub const BAD_LENGTH: u32 = 33;
+
+/// The bytes are fewer than the slot's.
+pub const SHORT: u32 = 34;
+
+/// No slot has this anchor.
+pub const BAD_ANCHOR: u32 = 38;
+
+/// No slot was started.
+pub const NO_SLOT: u32 = 39;
+
+/// What no call on a slot answers.
+const OTHER: u32 = 63;
+
+/// The status of a refusal.
+pub fn refusal_status(refusal: Refusal) -> u32
+    ensures { result ≡ refusal_status refusal }
+{
+    match refusal {
+        Refusal::NoBlock => NO_BLOCK,
+        Refusal::AnchorInUse => ANCHOR_IN_USE,
+        Refusal::NotABlock => NOT_A_BLOCK,
+        Refusal::BadRange => BAD_RANGE,
+        Refusal::BadSize => BAD_SIZE,
+        Refusal::NoBudge => NO_BUDGE,
+        Refusal::NoRoom => NO_ROOM,
+        _ => OTHER,
+    }
+}
+
+/// The status of an answer that is nothing but done or refused.
+pub fn outcome_status(outcome: Result<(), Refusal>) -> u32
+    ensures { result ≡ answer_status outcome }
+{
+    match outcome {
+        Ok(()) => OK,
+        Err(refusal) => refusal_status(refusal),
+    }
+}
+
+/// The status of an answer. Its number is told, if it has one.
+pub fn told(answer: Result<usize, Refusal>, number: &mut usize) -> u32
+    ensures status { result ≡ answer_status answer }
+    ensures number { number.new ≡ answer_or answer number.old }
+{
+    match answer {
+        Ok(n) => {
+            *number = n;
+            OK
+        }
+        Err(refusal) => refusal_status(refusal),
+    }
+}
+
+/// The status of an answer. Its address is told as an offset from the slot's first byte, if it has one.
+pub fn told_offset(answer: Result<usize, Refusal>, offset: &mut usize) -> u32
+    ensures status { result ≡ answer_status answer }
+    ensures offset { offset.new ≡ offset_or answer offset.old }
+{
+    match answer {
+        Ok(address) => {
+            *offset = address.saturating_sub(SLOT_START);
+            OK
+        }
+        Err(refusal) => refusal_status(refusal),
+    }
+}
