@@ -60,7 +60,7 @@ def try_test(suite, path, way):
     """Compiles one test in one way, and runs it."""
     name = os.path.splitext(os.path.basename(path))[0]
     what, made = f"{name}, {way}", f"{suite.work}/{name}-{way.replace(' ', '-')}"
-    if suite.compiled(what, [path, "c/plain/os_heap.c"], [*C11, *WAYS[way]], made):
+    if suite.compiled(what, [path, *sorted(glob.glob("c/plain/*.c", root_dir=suite.top))], [*C11, *WAYS[way]], made):
         suite.ran(what, [made])
 
 
@@ -76,17 +76,20 @@ def try_header(suite):
         suite.ran("compiling the header as C++", words)
 
 
-def try_example(suite):
-    """The example of docs/C.md prints what stands beside it, compiled as pkg-config says where that is there."""
-    made, flags = f"{suite.work}/example", []
+def try_examples(suite):
+    """Each example prints what stands beside it, compiled as pkg-config says where that is there."""
+    flags = []
     if shutil.which("pkg-config"):
         where = dict(os.environ, PKG_CONFIG_PATH=f"{suite.top}/{clib.FOLDER}")
-        said = suite.ran("pkg-config", ["pkg-config", "--cflags", "--libs", clib.NAME], env=where)
-        flags = (said or b"").decode().split()
+        told = suite.ran("pkg-config", ["pkg-config", "--cflags", "--libs", clib.NAME], env=where)
+        flags = (told or b"").decode().split()
         suite.is_true("pkg-config names the library", f"-l{clib.NAME}" in flags)
-    if suite.compiled("the example", ["c/examples/names.c"], [*C11, "-O2", *flags[:1]], made):
-        with open(f"{suite.top}/c/examples/names.out", "rb") as it:
-            suite.is_true("the example prints what stands beside it", suite.ran("the example", [made]) == it.read())
+    for said in sorted(glob.glob(f"{suite.top}/c/examples/*.out")):
+        name = os.path.basename(said).removesuffix(".out")
+        made = f"{suite.work}/{name}"
+        if suite.compiled(f"the example {name}", [f"c/examples/{name}.c"], [*C11, "-O2", *flags[:1]], made):
+            with open(said, "rb") as it:
+                suite.is_true(f"{name} prints what stands beside it", suite.ran(name, [made]) == it.read())
 
 
 def shim(suite, made, flags=()):
@@ -110,7 +113,7 @@ def run_all(suite):
     tests = sorted(glob.glob("c/tests/*.c", root_dir=suite.top))
     with concurrent.futures.ThreadPoolExecutor(os.cpu_count()) as pool:
         calls = [pool.submit(try_test, suite, path, way) for path in tests for way in WAYS]
-        calls += [pool.submit(it, suite) for it in (try_header, try_example, try_shim)]
+        calls += [pool.submit(it, suite) for it in (try_header, try_examples, try_shim)]
     for it in calls:
         it.result()
     return len(tests)
@@ -126,7 +129,7 @@ def test(top):
         tests = run_all(suite)
     for it in suite.wrong:
         print(it, file=sys.stderr)
-    print(f"clib: {tests} tests in {len(WAYS)} ways, header, example and shim: "
+    print(f"clib: {tests} tests in {len(WAYS)} ways, header, examples and shim: "
           f"{suite.tried} steps, {len(suite.wrong)} not as they should be")
     return 1 if suite.wrong else 0
 

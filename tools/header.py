@@ -5,20 +5,24 @@ import re
 import sys
 
 HEADER = "c/vervainfile.h"
-SOURCES = "crates/vf_*/src/*.rt"
+SOURCES = ["crates/vf_*/src/*.rt", "crates/rh_flex/src/slot.rt"]
 SUFFIX = "_unless_null"
 NULL = "VF_NULL"
 TYPES = {"u8": "uint8_t", "u16": "uint16_t", "u32": "uint32_t", "u64": "uint64_t", "i32": "int32_t", "i64": "int64_t",
-         "usize": "size_t", "isize": "ptrdiff_t", "bool": "bool"}
+         "usize": "size_t", "isize": "ptrdiff_t", "bool": "bool", "LentSlot": "struct vf_slot"}
+# The slice that `len` counts; the length of any other has its name.
+MEMORY = "memory"
 EXPORT = re.compile(
     r'((?:^///[^\n]*\n)+)#\[unsafe\(no_mangle\)\]\npub extern "C" fn (\w+)\(([^)]*)\) -> (\w+)', re.MULTILINE
 )
 STATUS = re.compile(r"^pub const (\w+): u32 = (\d+);", re.MULTILINE)
-CALL_OF_SYSTEM = re.compile(r"OS_Heap \d")
+CALL_OF_SYSTEM = re.compile(r"OS_Heap \d|\bflex_[a-z_]+")
+STRUCT = re.compile(r"^#\[repr\(C\)\]\n(?:#[^\n]*\n)*pub struct (\w+) \{([^}]*)\}", re.MULTILINE)
+STRUCT_IN_C = re.compile(r"^(struct \w+) \{([^}]*)\};", re.MULTILINE)
 COMMENT = re.compile(r"/\*.*?\*/", re.DOTALL)
 PROTOTYPE = re.compile(r"^(\w+) (vf_\w+)\(([^)]*)\);", re.MULTILINE)
 NUMBER = re.compile(r"^    (VF_\w+) = (\d+)", re.MULTILINE)
-TESTED = re.compile(r"^VF_UNLESS_NULL\((\w+), \(([^)]*)\),\s+([^,]+),\s+\(([^)]*)\)\)", re.MULTILINE)
+TESTED = re.compile(r"^VF_UNLESS_NULL\((\w+),\s+\(([^)]*)\),\s+([^,]+),\s+\(([^)]*)\)\)", re.MULTILINE)
 TESTED_TWICE = re.compile(
     r"^VF_BOTH_UNLESS_NULL\((\w+), (\w+),\s+\(([^)]*)\),\s+([^,]+),\s+\(([^)]*)\)\)", re.MULTILINE
 )
@@ -39,13 +43,13 @@ def in_c(name, declared):
     if not found:
         return [f"{TYPES[word]} {name}"]
     pointer = f"{'' if found[1] else 'const '}{TYPES[word]} *{name}"
-    return [pointer, "size_t len"] if found[2] else [pointer]
+    return [pointer, f"size_t {'len' if name == MEMORY else name + '_len'}"] if found[2] else [pointer]
 
 
 def sources(top):
     """The texts of the sources, by path."""
     texts = {}
-    for path in sorted(glob.glob(f"{top}/{SOURCES}")):
+    for path in sorted(path for them in SOURCES for path in glob.glob(f"{top}/{them}")):
         with open(path, encoding="utf-8") as it:
             texts[path] = it.read()
     return texts
@@ -68,20 +72,35 @@ def exports(top):
 
 def faults_of_prototypes(header, exported):
     """Which prototypes the header lacks, or has otherwise than the sources."""
-    declared = {it[1]: f"{it[0]} {it[1]}({it[2]});" for it in PROTOTYPE.findall(COMMENT.sub("", header))}
+    found = PROTOTYPE.findall(COMMENT.sub("", header))
+    declared = {name: f"{result} {name}({' '.join(parameters.split())});" for result, name, parameters in found}
     for name in sorted(exported.keys() | declared.keys()):
         there, here = exported.get(name, ("nothing",))[0], declared.get(name, "nothing")
         if there != here:
             yield f"{name}: the sources have {there} and the header has {here}"
-    for name, (prototype, calls) in exported.items():
-        before = header.split(prototype)[0].rpartition("/*")[2]
+    for name, (_, calls) in exported.items():
+        before = re.split(rf"^\w+ {name}\(", header, maxsplit=1, flags=re.MULTILINE)[0].rpartition("/*")[2]
         if calls and "_checked_" not in name and CALL_OF_SYSTEM.findall(before) != calls:
             yield f"{name}: the sources say that it is {calls[0]}, and the header doesn't"
 
 
+def faults_of_structs(header, texts):
+    """Which structs that a call takes have other fields in the header."""
+    there = {TYPES.get(name): [" ".join(in_c(*it.split(": "))) for it in re.findall(r"pub (\w+: \w+),", fields)]
+             for text in texts.values() for name, fields in STRUCT.findall(text)}
+    here = {name: [" ".join(it.split()) for it in fields.split(";") if it.strip()]
+            for name, fields in STRUCT_IN_C.findall(COMMENT.sub("", header))}
+    for name in sorted(there.keys() | here.keys(), key=str):
+        if there.get(name) != here.get(name):
+            yield f"{name}: the sources have {there.get(name)} and the header has {here.get(name)}"
+
+
 def faults_of_statuses(header, texts):
-    """Which numbers differ. A null pointer is never seen by the sources."""
-    there = {f"VF_{name}": int(number) for text in texts.values() for name, number in STATUS.findall(text)}
+    """Which numbers differ, also among the sources. A null pointer is never seen by the sources."""
+    given = {(f"VF_{name}", int(number)) for text in texts.values() for name, number in STATUS.findall(text)}
+    there = dict(given)
+    for name, number in sorted(given - there.items()):
+        yield f"{name}: the sources have both {number} and {there[name]}"
     here = {name: int(number) for name, number in NUMBER.findall(header)}
     if here.pop(NULL, None) in (None, *here.values()):
         yield f"{NULL} has no number of its own"
@@ -127,7 +146,8 @@ def compared(header, texts):
         exported = prototypes(texts)
     except Unknown as why:
         return [f"no header has the type {why}"]
-    parts = faults_of_prototypes(header, exported), faults_of_statuses(header, texts), faults_of_null(header, exported)
+    parts = (faults_of_prototypes(header, exported), faults_of_structs(header, texts),
+             faults_of_statuses(header, texts), faults_of_null(header, exported))
     return [it for part in parts for it in part]
 
 
@@ -161,6 +181,13 @@ SLIPS = [
     ("#define vf_heap_resize vf_heap_resize_unless_null\n", ""),
     ("#define vf_heap_claim vf_heap_checked_claim\n", ""),
     ("#define vf_heap_checked_extend vf_heap_checked_extend_unless_null", "#define vf_heap_checked_extend vf_heap_end"),
+    ("    size_t pages;", "    uint32_t pages;"),
+    ("    bool budge;", "    bool budges;"),
+    ("flex_extend: cuts", "flex_cut: cuts"),
+    ("const uint8_t *from, size_t from_len);", "uint8_t *from, size_t from_len);"),
+    ("VF_NO_BUDGE = 19", "VF_NO_BUDGE = 18"),
+    ("memory && slot && from,", "memory && slot,"),
+    ("#define vf_flex_put vf_flex_put_unless_null\n", ""),
 ]
 
 

@@ -48,10 +48,10 @@ abbrev pub answer_or : Granted ℕ → ℕ → ℕ
 answer_or (Ok n) old = n
 answer_or (Err refusal) old = old
 
--- the address that is answered as an offset from the slot's first byte, or the old offset
-abbrev pub offset_or : Granted ℕ → ℕ → ℕ
-offset_or (Ok address) old = address - slot_start
-offset_or (Err refusal) old = old
+-- the address that is answered as a place, or the old place
+abbrev pub place_or : Granted ℕ → ℕ → ℕ
+place_or (Ok address) old = address - slot_start
+place_or (Err refusal) old = old
 
 -- the status of a call that is granted this
 abbrev pub status_of : {A : Type 0} → Granted (Slot × A) → ℕ
@@ -74,6 +74,6 @@ slot_status n s =
 unfoldable pub anchor_status : ℕ → LentSlot → ℕ → ℕ
 anchor_status n s k = if slot_status n s == 0 then (if nat_lt k anchor_count then 0 else bad_anchor) else slot_status n s
 
--- 0 where besides an offset lies in the bytes; no block begins elsewhere
-unfoldable pub offset_status : ℕ → LentSlot → ℕ → ℕ
-offset_status n s x = if slot_status n s == 0 then (if nat_lt x n then 0 else refusal_status NotABlock) else slot_status n s
+-- 0 where besides a place lies in the bytes; no block begins elsewhere
+unfoldable pub place_status : ℕ → LentSlot → ℕ → ℕ
+place_status n s x = if slot_status n s == 0 then (if nat_lt x n then 0 else refusal_status NotABlock) else slot_status n s

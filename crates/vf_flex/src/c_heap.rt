@@ -1,92 +1,109 @@
 //! The calls on the C heap of a slot. Where it is too short it grows, and the flex blocks slide up.
-ghost use Rattle.std.specs.Prelude.{◌≡◌, ◌≢◌, ◌+◌, ◌-◌, length, ok_or};
-ghost use Rattle.rh_defs.specs.Chain.{no_answer, answer_of};
-ghost use Rattle.rh_defs.specs.Heap.{block_size, free_bytes, largest};
-ghost use Rattle.rh_defs.specs.Slot.{heap_start, slot_claim, slot_release, slot_resize, slot_start};
-ghost use Rattle.rh_flex.specs.Slots.{IsSlotBytes, free_in, slot_in};
-ghost use Rattle.vf_flex.specs.Calls.{AreLeft, Leaves, nearest, nearest_amount, size_at};
-ghost use Rattle.vf_flex.specs.Status.{answer_or, answer_status, offset_or, offset_status, slot_status, status_of};
+ghost use Rattle.std.specs.Prelude.{◌≡◌, ◌≢◌, length};
+ghost use Rattle.rh_defs.specs.Chain.{answer_of};
+ghost use Rattle.rh_defs.specs.Heap.{free_bytes, largest};
+ghost use Rattle.rh_flex.specs.Slots.{slot_in};
+ghost use Rattle.vf_flex.specs.Calls.{AreLeft, Leaves, RefusesInput};
+ghost use Rattle.vf_flex.specs.Calls.{claim_granted, release_granted, resize_granted, size_at};
+ghost use Rattle.vf_flex.specs.Status.{answer_or, answer_status, place_or, place_status, slot_status, status_of};
 
 use crate::amount::{nearest, nearest_amount};
-use crate::input::{offset_status, slot_status};
-use crate::status::{OK, outcome_status, told, told_offset};
+use crate::input::{place_status, slot_status};
+use crate::status::{OK, outcome_status, told, told_place};
 use rh_defs::sizes::SLOT_START;
 use rh_flex::LentSlot;
 
-/// Claims a block of `n` bytes at least, all 0, and tells the offset of its first byte. (OS_Heap 2.)
+/// Claims a block of `n` bytes at least, all 0, and tells the place of its first byte. (OS_Heap 2.)
 #[unsafe(no_mangle)]
 pub extern "C" fn vf_flex_claim(
     memory: &mut [u8],
     slot: &mut LentSlot,
     n: usize,
-    offset: &mut usize,
+    place: &mut usize,
 ) -> u32
     requires { AreLeft memory.old slot.old }
-    ensures refused { slot_status (length memory.old) slot.old ≢ 0 → (result ≡ slot_status (length memory.old) slot.old) × (memory.new ≡ memory.old) × (slot.new ≡ slot.old) × (offset.new ≡ offset.old) }
-    ensures status { slot_status (length memory.old) slot.old ≡ 0 → result ≡ status_of (slot_claim (free_in memory.old slot.old) (nearest n) (slot_in memory.old slot.old)) }
-    ensures offset { slot_status (length memory.old) slot.old ≡ 0 → offset.new ≡ offset_or (answer_of (slot_claim (free_in memory.old slot.old) (nearest n) (slot_in memory.old slot.old))) offset.old }
-    ensures left { slot_status (length memory.old) slot.old ≡ 0 → Leaves memory.old memory.new slot.old slot.new (slot_claim (free_in memory.old slot.old) (nearest n) (slot_in memory.old slot.old)) }
+    ensures refused { RefusesInput memory.old memory.new slot.old slot.new
+        (slot_status (length memory.old) slot.old) result }
+    ensures kept { slot_status (length memory.old) slot.old ≢ 0 → place.new ≡ place.old }
+    ensures status { slot_status (length memory.old) slot.old ≡ 0 →
+        result ≡ status_of (claim_granted memory.old slot.old n) }
+    ensures place { slot_status (length memory.old) slot.old ≡ 0 →
+        place.new ≡ place_or (answer_of (claim_granted memory.old slot.old n)) place.old }
+    ensures left { slot_status (length memory.old) slot.old ≡ 0 →
+        Leaves memory.old memory.new slot.old slot.new (claim_granted memory.old slot.old n) }
 {
     match slot_status(memory.len(), *slot) {
-        OK => told_offset(slot.claim(memory, nearest(n)), offset),
+        OK => told_place(slot.claim(memory, nearest(n)), place),
         status => status,
     }
 }
 
-/// Releases the block at an offset. (OS_Heap 3.)
+/// Releases the block at a place. (OS_Heap 3.)
 #[unsafe(no_mangle)]
-pub extern "C" fn vf_flex_release(memory: &mut [u8], slot: &mut LentSlot, offset: usize) -> u32
+pub extern "C" fn vf_flex_release(memory: &mut [u8], slot: &mut LentSlot, place: usize) -> u32
     requires { AreLeft memory.old slot.old }
-    ensures refused { offset_status (length memory.old) slot.old offset ≢ 0 → (result ≡ offset_status (length memory.old) slot.old offset) × (memory.new ≡ memory.old) × (slot.new ≡ slot.old) }
-    ensures status { offset_status (length memory.old) slot.old offset ≡ 0 → result ≡ status_of (no_answer (slot_release (slot_start + offset) (slot_in memory.old slot.old))) }
-    ensures left { offset_status (length memory.old) slot.old offset ≡ 0 → Leaves memory.old memory.new slot.old slot.new (no_answer (slot_release (slot_start + offset) (slot_in memory.old slot.old))) }
+    ensures refused { RefusesInput memory.old memory.new slot.old slot.new
+        (place_status (length memory.old) slot.old place) result }
+    ensures status { place_status (length memory.old) slot.old place ≡ 0 →
+        result ≡ status_of (release_granted memory.old slot.old place) }
+    ensures left { place_status (length memory.old) slot.old place ≡ 0 →
+        Leaves memory.old memory.new slot.old slot.new (release_granted memory.old slot.old place) }
 {
-    match offset_status(memory.len(), *slot, offset) {
-        OK => outcome_status(slot.release(memory, SLOT_START + offset)),
+    match place_status(memory.len(), *slot, place) {
+        OK => outcome_status(slot.release(memory, SLOT_START + place)),
         status => status,
     }
 }
 
-/// Gives the block at an offset `delta` bytes more, and tells where it is then. (OS_Heap 4.)
+/// Gives the block at a place `delta` bytes more, and tells where it is then. (OS_Heap 4.)
 #[unsafe(no_mangle)]
 pub extern "C" fn vf_flex_resize(
     memory: &mut [u8],
     slot: &mut LentSlot,
-    offset: usize,
+    place: usize,
     delta: isize,
     moved_to: &mut usize,
 ) -> u32
     requires { AreLeft memory.old slot.old }
-    ensures refused { offset_status (length memory.old) slot.old offset ≢ 0 → (result ≡ offset_status (length memory.old) slot.old offset) × (memory.new ≡ memory.old) × (slot.new ≡ slot.old) × (moved_to.new ≡ moved_to.old) }
-    ensures status { offset_status (length memory.old) slot.old offset ≡ 0 → result ≡ status_of (slot_resize (free_in memory.old slot.old) (slot_start + offset) (nearest_amount delta) (slot_in memory.old slot.old)) }
-    ensures offset { offset_status (length memory.old) slot.old offset ≡ 0 → moved_to.new ≡ offset_or (answer_of (slot_resize (free_in memory.old slot.old) (slot_start + offset) (nearest_amount delta) (slot_in memory.old slot.old))) moved_to.old }
-    ensures left { offset_status (length memory.old) slot.old offset ≡ 0 → Leaves memory.old memory.new slot.old slot.new (slot_resize (free_in memory.old slot.old) (slot_start + offset) (nearest_amount delta) (slot_in memory.old slot.old)) }
+    ensures refused { RefusesInput memory.old memory.new slot.old slot.new
+        (place_status (length memory.old) slot.old place) result }
+    ensures kept { place_status (length memory.old) slot.old place ≢ 0 → moved_to.new ≡ moved_to.old }
+    ensures status { place_status (length memory.old) slot.old place ≡ 0 →
+        result ≡ status_of (resize_granted memory.old slot.old place delta) }
+    ensures place { place_status (length memory.old) slot.old place ≡ 0 →
+        moved_to.new ≡ place_or (answer_of (resize_granted memory.old slot.old place delta)) moved_to.old }
+    ensures left { place_status (length memory.old) slot.old place ≡ 0 →
+        Leaves memory.old memory.new slot.old slot.new (resize_granted memory.old slot.old place delta) }
 {
-    match offset_status(memory.len(), *slot, offset) {
-        OK => told_offset(
-            slot.resize(memory, SLOT_START + offset, nearest_amount(delta)),
+    match place_status(memory.len(), *slot, place) {
+        OK => told_place(
+            slot.resize(memory, SLOT_START + place, nearest_amount(delta)),
             moved_to,
         ),
         status => status,
     }
 }
 
-/// Tells the bytes of the block at an offset. (OS_Heap 6.)
+/// Tells the bytes of the block at a place. (OS_Heap 6.)
 #[unsafe(no_mangle)]
 pub extern "C" fn vf_flex_block_size(
     memory: &mut [u8],
     slot: &LentSlot,
-    offset: usize,
+    place: usize,
     size: &mut usize,
 ) -> u32
     requires { AreLeft memory.old slot.now }
-    ensures refused { offset_status (length memory.old) slot.now offset ≢ 0 → (result ≡ offset_status (length memory.old) slot.now offset) × (size.new ≡ size.old) }
-    ensures status { offset_status (length memory.old) slot.now offset ≡ 0 → result ≡ answer_status (size_at offset (slot_in memory.old slot.now)) }
-    ensures size { offset_status (length memory.old) slot.now offset ≡ 0 → size.new ≡ answer_or (size_at offset (slot_in memory.old slot.now)) size.old }
+    ensures refused { place_status (length memory.old) slot.now place ≢ 0 →
+        result ≡ place_status (length memory.old) slot.now place }
+    ensures kept { place_status (length memory.old) slot.now place ≢ 0 → size.new ≡ size.old }
+    ensures status { place_status (length memory.old) slot.now place ≡ 0 →
+        result ≡ answer_status (size_at place (slot_in memory.old slot.now)) }
+    ensures size { place_status (length memory.old) slot.now place ≡ 0 →
+        size.new ≡ answer_or (size_at place (slot_in memory.old slot.now)) size.old }
     ensures same { memory.new ≡ memory.old }
 {
-    match offset_status(memory.len(), *slot, offset) {
-        OK => told(slot.block_size(memory, SLOT_START + offset), size),
+    match place_status(memory.len(), *slot, place) {
+        OK => told(slot.block_size(memory, SLOT_START + place), size),
         status => status,
     }
 }

@@ -1,35 +1,40 @@
 //! The calls on flex blocks.
 ghost use Rattle.std.specs.Prelude.{◌≡◌, ◌≢◌, length};
-ghost use Rattle.rh_defs.specs.Chain.{no_answer, outcome_of, result_or, answer_of};
-ghost use Rattle.rh_defs.specs.Slot.{slot_address, slot_alloc, slot_extend, slot_free, slot_mid};
-ghost use Rattle.rh_defs.specs.Slot.{slot_put, slot_read, slot_size};
-ghost use Rattle.rh_flex.specs.Slots.{IsSlotBytes, free_in, slot_in};
-ghost use Rattle.vf_flex.specs.Calls.{AreLeft, Leaves, nearest, nearest_amount};
-ghost use Rattle.vf_flex.specs.Status.{anchor_status, answer_or, answer_status, offset_or, status_of};
+ghost use Rattle.rh_defs.specs.Chain.{answer_of, outcome_of, result_or};
+ghost use Rattle.rh_defs.specs.Slot.{slot_address, slot_read, slot_size};
+ghost use Rattle.rh_flex.specs.Slots.{slot_in};
+ghost use Rattle.vf_flex.specs.Calls.{AreLeft, Leaves, RefusesInput};
+ghost use Rattle.vf_flex.specs.Calls.{alloc_granted, extend_granted, free_granted, mid_granted, put_granted};
+ghost use Rattle.vf_flex.specs.Status.{anchor_status, answer_or, answer_status, place_or, status_of};
 
 use crate::amount::{nearest, nearest_amount};
 use crate::input::anchor_status;
-use crate::status::{OK, outcome_status, told, told_offset};
+use crate::status::{OK, outcome_status, told, told_place};
 use rh_defs::Anchor;
 use rh_flex::LentSlot;
 
-/// Puts a block of `n` zeros on top, and tells the offset of its first byte. (flex_alloc.)
+/// Puts a block of `n` zeros on top, and tells the place of its first byte. (flex_alloc.)
 #[unsafe(no_mangle)]
 pub extern "C" fn vf_flex_alloc(
     memory: &mut [u8],
     slot: &mut LentSlot,
     anchor: u32,
     n: usize,
-    offset: &mut usize,
+    place: &mut usize,
 ) -> u32
     requires { AreLeft memory.old slot.old }
-    ensures refused { anchor_status (length memory.old) slot.old anchor ≢ 0 → (result ≡ anchor_status (length memory.old) slot.old anchor) × (memory.new ≡ memory.old) × (slot.new ≡ slot.old) × (offset.new ≡ offset.old) }
-    ensures status { anchor_status (length memory.old) slot.old anchor ≡ 0 → result ≡ status_of (slot_alloc (free_in memory.old slot.old) anchor (nearest n) (slot_in memory.old slot.old)) }
-    ensures offset { anchor_status (length memory.old) slot.old anchor ≡ 0 → offset.new ≡ offset_or (answer_of (slot_alloc (free_in memory.old slot.old) anchor (nearest n) (slot_in memory.old slot.old))) offset.old }
-    ensures left { anchor_status (length memory.old) slot.old anchor ≡ 0 → Leaves memory.old memory.new slot.old slot.new (slot_alloc (free_in memory.old slot.old) anchor (nearest n) (slot_in memory.old slot.old)) }
+    ensures refused { RefusesInput memory.old memory.new slot.old slot.new
+        (anchor_status (length memory.old) slot.old anchor) result }
+    ensures kept { anchor_status (length memory.old) slot.old anchor ≢ 0 → place.new ≡ place.old }
+    ensures status { anchor_status (length memory.old) slot.old anchor ≡ 0 →
+        result ≡ status_of (alloc_granted memory.old slot.old anchor n) }
+    ensures place { anchor_status (length memory.old) slot.old anchor ≡ 0 →
+        place.new ≡ place_or (answer_of (alloc_granted memory.old slot.old anchor n)) place.old }
+    ensures left { anchor_status (length memory.old) slot.old anchor ≡ 0 →
+        Leaves memory.old memory.new slot.old slot.new (alloc_granted memory.old slot.old anchor n) }
 {
     match anchor_status(memory.len(), *slot, anchor) {
-        OK => told_offset(slot.alloc(memory, Anchor(anchor as u8), nearest(n)), offset),
+        OK => told_place(slot.alloc(memory, Anchor(anchor as u8), nearest(n)), place),
         status => status,
     }
 }
@@ -43,9 +48,13 @@ pub extern "C" fn vf_flex_size(
     size: &mut usize,
 ) -> u32
     requires { AreLeft memory.old slot.now }
-    ensures refused { anchor_status (length memory.old) slot.now anchor ≢ 0 → (result ≡ anchor_status (length memory.old) slot.now anchor) × (size.new ≡ size.old) }
-    ensures status { anchor_status (length memory.old) slot.now anchor ≡ 0 → result ≡ answer_status (slot_size anchor (slot_in memory.old slot.now)) }
-    ensures size { anchor_status (length memory.old) slot.now anchor ≡ 0 → size.new ≡ answer_or (slot_size anchor (slot_in memory.old slot.now)) size.old }
+    ensures refused { anchor_status (length memory.old) slot.now anchor ≢ 0 →
+        result ≡ anchor_status (length memory.old) slot.now anchor }
+    ensures kept { anchor_status (length memory.old) slot.now anchor ≢ 0 → size.new ≡ size.old }
+    ensures status { anchor_status (length memory.old) slot.now anchor ≡ 0 →
+        result ≡ answer_status (slot_size anchor (slot_in memory.old slot.now)) }
+    ensures size { anchor_status (length memory.old) slot.now anchor ≡ 0 →
+        size.new ≡ answer_or (slot_size anchor (slot_in memory.old slot.now)) size.old }
     ensures same { memory.new ≡ memory.old }
 {
     match anchor_status(memory.len(), *slot, anchor) {
@@ -58,9 +67,12 @@ pub extern "C" fn vf_flex_size(
 #[unsafe(no_mangle)]
 pub extern "C" fn vf_flex_free(memory: &mut [u8], slot: &mut LentSlot, anchor: u32) -> u32
     requires { AreLeft memory.old slot.old }
-    ensures refused { anchor_status (length memory.old) slot.old anchor ≢ 0 → (result ≡ anchor_status (length memory.old) slot.old anchor) × (memory.new ≡ memory.old) × (slot.new ≡ slot.old) }
-    ensures status { anchor_status (length memory.old) slot.old anchor ≡ 0 → result ≡ status_of (no_answer (slot_free anchor (slot_in memory.old slot.old))) }
-    ensures left { anchor_status (length memory.old) slot.old anchor ≡ 0 → Leaves memory.old memory.new slot.old slot.new (no_answer (slot_free anchor (slot_in memory.old slot.old))) }
+    ensures refused { RefusesInput memory.old memory.new slot.old slot.new
+        (anchor_status (length memory.old) slot.old anchor) result }
+    ensures status { anchor_status (length memory.old) slot.old anchor ≡ 0 →
+        result ≡ status_of (free_granted memory.old slot.old anchor) }
+    ensures left { anchor_status (length memory.old) slot.old anchor ≡ 0 →
+        Leaves memory.old memory.new slot.old slot.new (free_granted memory.old slot.old anchor) }
 {
     match anchor_status(memory.len(), *slot, anchor) {
         OK => outcome_status(slot.free(memory, Anchor(anchor as u8))),
@@ -77,9 +89,12 @@ pub extern "C" fn vf_flex_extend(
     n: usize,
 ) -> u32
     requires { AreLeft memory.old slot.old }
-    ensures refused { anchor_status (length memory.old) slot.old anchor ≢ 0 → (result ≡ anchor_status (length memory.old) slot.old anchor) × (memory.new ≡ memory.old) × (slot.new ≡ slot.old) }
-    ensures status { anchor_status (length memory.old) slot.old anchor ≡ 0 → result ≡ status_of (no_answer (slot_extend (free_in memory.old slot.old) anchor (nearest n) (slot_in memory.old slot.old))) }
-    ensures left { anchor_status (length memory.old) slot.old anchor ≡ 0 → Leaves memory.old memory.new slot.old slot.new (no_answer (slot_extend (free_in memory.old slot.old) anchor (nearest n) (slot_in memory.old slot.old))) }
+    ensures refused { RefusesInput memory.old memory.new slot.old slot.new
+        (anchor_status (length memory.old) slot.old anchor) result }
+    ensures status { anchor_status (length memory.old) slot.old anchor ≡ 0 →
+        result ≡ status_of (extend_granted memory.old slot.old anchor n) }
+    ensures left { anchor_status (length memory.old) slot.old anchor ≡ 0 →
+        Leaves memory.old memory.new slot.old slot.new (extend_granted memory.old slot.old anchor n) }
 {
     match anchor_status(memory.len(), *slot, anchor) {
         OK => outcome_status(slot.extend(memory, Anchor(anchor as u8), nearest(n))),
@@ -93,36 +108,43 @@ pub extern "C" fn vf_flex_midextend(
     memory: &mut [u8],
     slot: &mut LentSlot,
     anchor: u32,
-    at: usize,
+    offset: usize,
     by: isize,
 ) -> u32
     requires { AreLeft memory.old slot.old }
-    ensures refused { anchor_status (length memory.old) slot.old anchor ≢ 0 → (result ≡ anchor_status (length memory.old) slot.old anchor) × (memory.new ≡ memory.old) × (slot.new ≡ slot.old) }
-    ensures status { anchor_status (length memory.old) slot.old anchor ≡ 0 → result ≡ status_of (no_answer (slot_mid (free_in memory.old slot.old) anchor at (nearest_amount by) (slot_in memory.old slot.old))) }
-    ensures left { anchor_status (length memory.old) slot.old anchor ≡ 0 → Leaves memory.old memory.new slot.old slot.new (no_answer (slot_mid (free_in memory.old slot.old) anchor at (nearest_amount by) (slot_in memory.old slot.old))) }
+    ensures refused { RefusesInput memory.old memory.new slot.old slot.new
+        (anchor_status (length memory.old) slot.old anchor) result }
+    ensures status { anchor_status (length memory.old) slot.old anchor ≡ 0 →
+        result ≡ status_of (mid_granted memory.old slot.old anchor offset by) }
+    ensures left { anchor_status (length memory.old) slot.old anchor ≡ 0 →
+        Leaves memory.old memory.new slot.old slot.new (mid_granted memory.old slot.old anchor offset by) }
 {
     match anchor_status(memory.len(), *slot, anchor) {
-        OK => outcome_status(slot.mid(memory, Anchor(anchor as u8), at, nearest_amount(by))),
+        OK => outcome_status(slot.mid(memory, Anchor(anchor as u8), offset, nearest_amount(by))),
         status => status,
     }
 }
 
-/// Tells the offset of the first byte of the anchor's block, which is its address less &8000.
+/// Tells the place of the first byte of the anchor's block, which is its address less &8000.
 #[unsafe(no_mangle)]
-pub extern "C" fn vf_flex_offset(
+pub extern "C" fn vf_flex_place(
     memory: &mut [u8],
     slot: &LentSlot,
     anchor: u32,
-    offset: &mut usize,
+    place: &mut usize,
 ) -> u32
     requires { AreLeft memory.old slot.now }
-    ensures refused { anchor_status (length memory.old) slot.now anchor ≢ 0 → (result ≡ anchor_status (length memory.old) slot.now anchor) × (offset.new ≡ offset.old) }
-    ensures status { anchor_status (length memory.old) slot.now anchor ≡ 0 → result ≡ answer_status (slot_address anchor (slot_in memory.old slot.now)) }
-    ensures offset { anchor_status (length memory.old) slot.now anchor ≡ 0 → offset.new ≡ offset_or (slot_address anchor (slot_in memory.old slot.now)) offset.old }
+    ensures refused { anchor_status (length memory.old) slot.now anchor ≢ 0 →
+        result ≡ anchor_status (length memory.old) slot.now anchor }
+    ensures kept { anchor_status (length memory.old) slot.now anchor ≢ 0 → place.new ≡ place.old }
+    ensures status { anchor_status (length memory.old) slot.now anchor ≡ 0 →
+        result ≡ answer_status (slot_address anchor (slot_in memory.old slot.now)) }
+    ensures place { anchor_status (length memory.old) slot.now anchor ≡ 0 →
+        place.new ≡ place_or (slot_address anchor (slot_in memory.old slot.now)) place.old }
     ensures same { memory.new ≡ memory.old }
 {
     match anchor_status(memory.len(), *slot, anchor) {
-        OK => told_offset(slot.address(memory, Anchor(anchor as u8)), offset),
+        OK => told_place(slot.address(memory, Anchor(anchor as u8)), place),
         status => status,
     }
 }
@@ -133,16 +155,19 @@ pub extern "C" fn vf_flex_put(
     memory: &mut [u8],
     slot: &mut LentSlot,
     anchor: u32,
-    at: usize,
+    offset: usize,
     from: &[u8],
 ) -> u32
     requires { AreLeft memory.old slot.old }
-    ensures refused { anchor_status (length memory.old) slot.old anchor ≢ 0 → (result ≡ anchor_status (length memory.old) slot.old anchor) × (memory.new ≡ memory.old) × (slot.new ≡ slot.old) }
-    ensures status { anchor_status (length memory.old) slot.old anchor ≡ 0 → result ≡ status_of (no_answer (slot_put anchor at from.now (slot_in memory.old slot.old))) }
-    ensures left { anchor_status (length memory.old) slot.old anchor ≡ 0 → Leaves memory.old memory.new slot.old slot.new (no_answer (slot_put anchor at from.now (slot_in memory.old slot.old))) }
+    ensures refused { RefusesInput memory.old memory.new slot.old slot.new
+        (anchor_status (length memory.old) slot.old anchor) result }
+    ensures status { anchor_status (length memory.old) slot.old anchor ≡ 0 →
+        result ≡ status_of (put_granted memory.old slot.old anchor offset from.now) }
+    ensures left { anchor_status (length memory.old) slot.old anchor ≡ 0 →
+        Leaves memory.old memory.new slot.old slot.new (put_granted memory.old slot.old anchor offset from.now) }
 {
     match anchor_status(memory.len(), *slot, anchor) {
-        OK => outcome_status(slot.put(memory, Anchor(anchor as u8), at, from)),
+        OK => outcome_status(slot.put(memory, Anchor(anchor as u8), offset, from)),
         status => status,
     }
 }
@@ -153,17 +178,21 @@ pub extern "C" fn vf_flex_read(
     memory: &mut [u8],
     slot: &LentSlot,
     anchor: u32,
-    at: usize,
+    offset: usize,
     to: &mut [u8],
 ) -> u32
     requires { AreLeft memory.old slot.now }
-    ensures refused { anchor_status (length memory.old) slot.now anchor ≢ 0 → (result ≡ anchor_status (length memory.old) slot.now anchor) × (to.new ≡ to.old) }
-    ensures status { anchor_status (length memory.old) slot.now anchor ≡ 0 → result ≡ answer_status (outcome_of (slot_read anchor at (length to.old) (slot_in memory.old slot.now))) }
-    ensures buffer { anchor_status (length memory.old) slot.now anchor ≡ 0 → to.new ≡ result_or to.old (slot_read anchor at (length to.old) (slot_in memory.old slot.now)) }
+    ensures refused { anchor_status (length memory.old) slot.now anchor ≢ 0 →
+        result ≡ anchor_status (length memory.old) slot.now anchor }
+    ensures kept { anchor_status (length memory.old) slot.now anchor ≢ 0 → to.new ≡ to.old }
+    ensures status { anchor_status (length memory.old) slot.now anchor ≡ 0 →
+        result ≡ answer_status (outcome_of (slot_read anchor offset (length to.old) (slot_in memory.old slot.now))) }
+    ensures buffer { anchor_status (length memory.old) slot.now anchor ≡ 0 →
+        to.new ≡ result_or to.old (slot_read anchor offset (length to.old) (slot_in memory.old slot.now)) }
     ensures same { memory.new ≡ memory.old }
 {
     match anchor_status(memory.len(), *slot, anchor) {
-        OK => outcome_status(slot.read(memory, Anchor(anchor as u8), at, to)),
+        OK => outcome_status(slot.read(memory, Anchor(anchor as u8), offset, to)),
         status => status,
     }
 }

@@ -1,7 +1,7 @@
 //! Whether what a call is given can be looked at: how many bytes there are, and what is asked for by a number.
 ghost use Rattle.std.specs.Prelude.{◌≡◌, ◌<◌};
 ghost use Rattle.rh_defs.specs.declared.sizes.TheConstants.{ANCHORS};
-ghost use Rattle.vf_flex.specs.Status.{anchor_status, length_status, longest, offset_status, slot_status};
+ghost use Rattle.vf_flex.specs.Status.{anchor_status, length_status, longest, place_status, slot_status};
 
 use crate::status::{BAD_ANCHOR, BAD_LENGTH, NO_SLOT, NOT_A_BLOCK, OK, SHORT};
 use rh_defs::sizes::{ANCHORS, PAGE};
@@ -48,14 +48,14 @@ pub fn anchor_status(len: usize, slot: LentSlot, anchor: u32) -> u32
     }
 }
 
-/// Whether besides an offset lies in the bytes. No block begins elsewhere.
-pub fn offset_status(len: usize, slot: LentSlot, offset: usize) -> u32
-    ensures status { result ≡ offset_status len slot offset }
+/// Whether besides a place lies in the bytes. No block begins elsewhere.
+pub fn place_status(len: usize, slot: LentSlot, place: usize) -> u32
+    ensures status { result ≡ place_status len slot place }
     ensures slot { result ≡ 0 → slot_status len slot ≡ 0 }
-    ensures offset { result ≡ 0 → offset < longest }
+    ensures place { result ≡ 0 → place < longest }
 {
     match slot_status(len, slot) {
-        OK if offset >= len => NOT_A_BLOCK,
+        OK if place >= len => NOT_A_BLOCK,
         status => status,
     }
 }

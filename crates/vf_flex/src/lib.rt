@@ -3,8 +3,8 @@
 //!
 //! The bytes begin with the slot, and a `LentSlot` beside them says how many of their pages are the slot's. Each call
 //! looks at both numbers first. It takes the bytes of these pages as the last call left them, which its `requires` says
-//! and a caller in C has to see to. Where a block begins is told as an offset from the first byte: the address that
-//! the words of the slot have, less &8000.
+//! and a caller in C has to see to. Where a block begins is told as a place: the bytes from the first one, which is
+//! the address that the words of the slot have, less &8000.
 #![tactic(auto)]
 
 mod amount;

@@ -1,6 +1,6 @@
 //! Statuses: how a call ended, as a number. The header for C has the same numbers.
 ghost use Rattle.std.specs.Prelude.{◌≡◌};
-ghost use Rattle.vf_flex.specs.Status.{answer_or, answer_status, offset_or, refusal_status};
+ghost use Rattle.vf_flex.specs.Status.{answer_or, answer_status, place_or, refusal_status};
 
 use rh_defs::Refusal;
 use rh_defs::sizes::SLOT_START;
@@ -14,7 +14,7 @@ pub const NO_BLOCK: u32 = 6;
 /// The anchor has a block.
 pub const ANCHOR_IN_USE: u32 = 7;
 
-/// No block of the C heap begins at the offset.
+/// No block of the C heap begins at the place.
 pub const NOT_A_BLOCK: u32 = 8;
 
 /// Bytes lie outside the block.
@@ -84,14 +84,14 @@ pub fn told(answer: Result<usize, Refusal>, number: &mut usize) -> u32
     }
 }
 
-/// The status of an answer. Its address is told as an offset from the slot's first byte, if it has one.
-pub fn told_offset(answer: Result<usize, Refusal>, offset: &mut usize) -> u32
+/// The status of an answer. Its address is told as a place, if it has one.
+pub fn told_place(answer: Result<usize, Refusal>, place: &mut usize) -> u32
     ensures status { result ≡ answer_status answer }
-    ensures offset { offset.new ≡ offset_or answer offset.old }
+    ensures place { place.new ≡ place_or answer place.old }
 {
     match answer {
         Ok(address) => {
-            *offset = address.saturating_sub(SLOT_START);
+            *place = address.saturating_sub(SLOT_START);
             OK
         }
         Err(refusal) => refusal_status(refusal),
