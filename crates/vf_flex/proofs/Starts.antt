@@ -1,6 +1,6 @@
 -- A slot begins where there is a page.
 use Rattle.std.proofs.Common.{◌≡◌, ℕ, ◌≤◌, ◌/◌, ◌^◌, false, nat_lt, refl, ap, ◌∙◌, arith}
-use Rattle.std.specs.Prelude.{Result, Ok, Err}
+use Rattle.std.specs.Prelude.{Ok, Err}
 use Rattle.std.proofs.lemmas.Bool.Decides.{nat_tests}
 use Rattle.rh_defs.specs.Chain.{◌>>=◌, refuse_if, outcome_of}
 use Rattle.rh_defs.specs.Slot.{new_slot, slot_begin}
@@ -22,7 +22,8 @@ unfolding length_status
 most n e = grind (arith, nat_tests)
 
 -- so that no start is refused there
-pub granted : (n : ℕ) (refusal : Refusal) → length_status n ≡ 0 → Err refusal ≡ outcome_of (slot_begin (n / 4096)) → ⊥
+pub granted : (n : ℕ) (refusal : Refusal) → length_status n ≡ 0 → Err refusal ≡ outcome_of (slot_begin (n / 4096))
+    → ⊥
 granted n refusal e is =
     let l = least n e in
     let no : Err refusal ≡ Ok tt = is ∙ ap outcome_of (begins (n / 4096) (omega arith)) in
@@ -30,5 +31,5 @@ granted n refusal e is =
 
 -- no slot lies in more than 28 MiB
 pub within : (n : ℕ) (s : LentSlot) → slot_status n s ≡ 0 → n ≤ longest
-unfolding slot_status
+unfolding slot_status length_status
 within n s e = grind (arith, nat_tests)

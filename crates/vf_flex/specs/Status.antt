@@ -1,9 +1,10 @@
 -- Statuses: how a call ended, as a number.
-use Rattle.std.specs.Prelude.{ℕ, ◌-◌, ◌*◌, ◌/◌, ◌^◌, ◌==◌, nat_le, nat_lt, ◌&&◌, if◌then◌else◌, Result, Ok, Err}
+use Rattle.std.specs.Prelude.{ℕ, ◌-◌, ◌*◌, ◌/◌, ◌^◌, ◌==◌, nat_le, nat_lt, ◌&&◌, if◌then◌else◌, Ok, Err}
 use Rattle.rh_defs.specs.Chain.{Granted, answer_of}
 use Rattle.rh_defs.specs.Slot.{Slot, anchor_count, slot_start}
 use Rattle.rh_defs.specs.declared.refusal.Refusal.{Refusal}
-use Rattle.rh_defs.specs.declared.refusal.Refusal.TheVariants.{NoBlock, AnchorInUse, NotABlock, BadRange, BadSize, NoBudge, NoRoom}
+use Rattle.rh_defs.specs.declared.refusal.Refusal.TheVariants.{NoBlock, AnchorInUse, NotABlock, BadRange, BadSize}
+use Rattle.rh_defs.specs.declared.refusal.Refusal.TheVariants.{NoBudge, NoRoom}
 use Rattle.rh_defs.specs.declared.sizes.TheConstants.{PAGE}
 use Rattle.rh_flex.specs.declared.slot.LentSlot.{LentSlot}
 
@@ -64,16 +65,16 @@ length_status n = if nat_le PAGE n && nat_le n longest then 0 else bad_length
 -- 0 where the pages of a slot that was started lie in so many bytes
 unfoldable pub slot_status : ℕ → LentSlot → ℕ
 slot_status n s =
-    if nat_lt n PAGE then bad_length
-    else if nat_lt longest n then bad_length
-    else if s.pages == 0 then no_slot
-    else if nat_lt (n / PAGE) s.pages then short
-    else 0
+    if length_status n == 0 then
+    (if s.pages == 0 then no_slot else if nat_lt (n / PAGE) s.pages then short else 0)
+    else length_status n
 
 -- 0 where besides the slot has this anchor
 unfoldable pub anchor_status : ℕ → LentSlot → ℕ → ℕ
-anchor_status n s k = if slot_status n s == 0 then (if nat_lt k anchor_count then 0 else bad_anchor) else slot_status n s
+anchor_status n s k =
+    if slot_status n s == 0 then (if nat_lt k anchor_count then 0 else bad_anchor) else slot_status n s
 
 -- 0 where besides a place lies in the bytes; no block begins elsewhere
 unfoldable pub place_status : ℕ → LentSlot → ℕ → ℕ
-place_status n s x = if slot_status n s == 0 then (if nat_lt x n then 0 else refusal_status NotABlock) else slot_status n s
+place_status n s x =
+    if slot_status n s == 0 then (if nat_lt x n then 0 else refusal_status NotABlock) else slot_status n s

@@ -24,8 +24,9 @@ pub fn length_status(len: usize) -> u32
 pub fn slot_status(len: usize, slot: LentSlot) -> u32
     ensures { result ≡ slot_status len slot }
 {
-    if len < PAGE || LONGEST < len {
-        return BAD_LENGTH;
+    let status = length_status(len);
+    if status != OK {
+        return status;
     }
     if slot.pages == 0 {
         return NO_SLOT;

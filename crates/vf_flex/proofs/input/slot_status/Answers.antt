@@ -3,9 +3,9 @@ use Rattle.std.proofs.lemmas.Bool.Decides.{nat_tests}
 use Rattle.vf_flex.specs.Status.{slot_status}
 use Rattle.vf_flex.proofs.input.slot_status.Goals as goal
 
-pub returns-then-len-lt-PAGE : goal.returns-then-len-lt-PAGE
+pub returns-then-status-ne-OK : goal.returns-then-status-ne-OK
 unfolding slot_status
-returns-then-len-lt-PAGE c = grind (arith, nat_tests)
+returns-then-status-ne-OK c = grind (arith, nat_tests)
 
 pub returns-then-slot-eq0 : goal.returns-then-slot-eq0
 unfolding slot_status
