@@ -54,7 +54,7 @@ enum {
  *
  * What no call can see, and each relies on:
  *
- * 1. A pointer that is not null leads to what it says: `memory` to `len` bytes, `from` to `from_len` and `to` to `to_len`,
+ * 1. A pointer that is not null leads to what it says: `memory` to `len` bytes, `from` to `from_len`, `to` to `to_len`,
  *    any other to one value of its type, at an address that fits the type. What the pointers of one call lead to does
  *    not overlap.
  * 2. While a call runs nobody else reads or writes what it was lent: one call at a time on one heap or slot. Different

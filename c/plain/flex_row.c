@@ -178,9 +178,10 @@ uint32_t flex_row_midextend(struct flex_row *row, uint32_t anchor, size_t offset
     struct flex_row_block *block = &row->blocks[i];
     if (offset > block->size || by < -(ptrdiff_t)offset)
         return VF_BAD_RANGE;
-    if (by > 0 && ((size_t)by > row->most_pages * ROW_PAGE || !fits(row, weight(block->size), block->size + (size_t)by)))
+    size_t more = by > 0 ? (size_t)by : 0;
+    if (more > row->most_pages * ROW_PAGE || (more && !fits(row, weight(block->size), block->size + more)))
         return VF_NO_ROOM;
-    remake(block, by < 0 ? offset - (size_t)-by : offset, by < 0 ? 0 : (size_t)by, offset);
+    remake(block, by < 0 ? offset - (size_t)-by : offset, more, offset);
     return VF_OK;
 }
 
