@@ -2,8 +2,8 @@
 #![tactic(auto)]
 
 mod addressed;
-mod delivered;
 mod claimed;
+mod delivered;
 mod frame;
 mod heaps;
 mod lines;
@@ -13,8 +13,8 @@ mod renaming;
 mod scrap;
 
 pub use addressed::addressed_law;
-pub use delivered::delivered_law;
 pub use claimed::claimed_law;
+pub use delivered::delivered_law;
 pub use frame::frame_law;
 pub use heaps::describe_law;
 pub use lines::line_law;
