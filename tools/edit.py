@@ -181,6 +181,13 @@ def grouped(edits):
     return groups + [[it] for it in edits if not it.is_inside]
 
 
+def apart_from(group, edits):
+    """Those of the edits that change no function of the group's; none where the group is one that other functions see."""
+    if not all(it.is_inside for it in group):
+        return []
+    return [it for it in edits if it.is_inside and not _share_a_function(group, it)]
+
+
 def _share_a_function(group, edit):
     return any(it in other.functions for other in group for it in edit.functions)
 

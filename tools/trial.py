@@ -36,16 +36,31 @@ class Trial:
             ran = rt.checked(self.crate, texts, ["--allow-holes", "--jobs", "1"], self.kept)
         return Said(self.crate, ran, texts)
 
-    def judge(self, group):
-        """A verdict for each edit of the group, which is tried in halves where nothing can be told of the whole."""
-        said = self.check(group)
+    def judge_all(self, groups):
+        """A verdict for each edit of all groups. What was refused stays beside the groups that follow."""
+        verdicts = []
+        for group in groups:
+            refused = [it.edit for it in verdicts if it.is_well]
+            verdicts += self.judge(group, edits_of.apart_from(group, refused))
+        return verdicts
+
+    def judge(self, group, beside=()):
+        """A verdict for each edit of the group, which is tried in halves where nothing can be told of the whole.
+
+        The bodies of `beside` are wrong as well, as they were in the check before: to prove them as they stand would
+        take as long as a group does, and tells nothing.
+        """
+        said = self.check([*group, *beside])
         fault = said.fault()
+        is_alone = len(group) == 1 and not beside
         if not fault:
-            return [self.verdict(said, it, len(group) == 1) for it in group]
-        if len(group) == 1:
+            return [self.verdict(said, it, is_alone) for it in group]
+        if is_alone:
             return [Verdict(group[0], f"BAD EDIT: {fault}")]
+        if len(group) == 1:
+            return self.judge(group)
         half = len(group) // 2
-        return self.judge(group[:half]) + self.judge(group[half:])
+        return self.judge(group[:half], beside) + self.judge(group[half:], beside)
 
     def verdict(self, said, edit, is_alone):
         """What the check says of one edit of its group."""
@@ -72,7 +87,7 @@ def tried(crate, jobs):
     edits, bad = edits_of.read_edits(crate)
     with tempfile.TemporaryDirectory(prefix="wrong-bodies-") as kept:
         trial = Trial(crate, kept, jobs)
-        verdicts = [it for group in edits_of.grouped(edits) for it in trial.judge(group)]
+        verdicts = trial.judge_all(edits_of.grouped(edits))
     lines = [f"{crate.name}/{it}" for it in bad]
     lines += [f"{crate.name}/{it.edit.name}: {it.text}" for it in sorted(verdicts, key=lambda it: it.edit.name)]
     with PRINTING:
