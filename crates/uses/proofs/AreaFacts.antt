@@ -1,25 +1,28 @@
 -- Areas that are opened, and closed again.
-use Rattle.std.proofs.Common.{inl, inr, ◌≡◌, ◌≢◌, ℕ, ◌+◌, ◌*◌, ◌/◌, ◌<◌, List, length, refl, sym, ap, ◌∙◌, arith}
+use Rattle.std.proofs.Common.{inl, inr, ◌≡◌, ℕ, ◌+◌, ◌*◌, ◌/◌, ◌≤◌, List, length, refl, sym, ap, subst, ◌∙◌, arith}
 use Rattle.std.proofs.Math.Path.{fun_ext}
 use Rattle.std.proofs.lemmas.Bool.{cases_eq}
-use Rattle.std.specs.Prelude.{Ok, Err, Option, None, IsNone}
-use Rattle.rh_defs.specs.Memory.{Memory, IsOpen, OnlyArea, area_set, bytes, closed, open_below}
-use Rattle.rh_defs.specs.declared.sizes.TheConstants.{MAX_AREAS}
-use Rattle.rh_defs.proofs.HeapLists.{eqb_same, eqb_apart}
-use Rattle.rh_defs.proofs.MemoryLaws.{area_set-same, area_set-other, bytes-none}
+use Rattle.std.specs.Prelude.{Option, None, IsNone}
+use Rattle.rh_defs.specs.Memory.{Memory, Edited, OnlyArea, area_set, bytes, closed, grown, opened}
+use Rattle.rh_defs.proofs.MemoryLaws.{area_set-same, area_set-other, area-opened, bytes-none, bytes-opened, free-opened, loan-opened, pages-opened, IsOpen-opened, OnlyArea-both, OnlyArea-from_Edited, OnlyArea-grown}
 use Rattle.rh_store.proofs.AreasLaws.{none_is}
-use Rattle.rh_store.specs.declared.store.StoreFault.TheVariants.{TooManyAreas, NoPages}
-use Rattle.uses.specs.Areas.{one_page}
 
--- ---- a page in an area of its own
-pub page-full : (m : Memory) → open_below m.area MAX_AREAS ≡ MAX_AREAS → one_page m ≡ Err TooManyAreas
-page-full m all = rw (eqb_same (open_below m.area MAX_AREAS) MAX_AREAS all) refl
+-- ---- opened
+only_opened : (m : Memory) (id : ℕ) → IsNone (m.area id) → OnlyArea m (opened m id) id
+only_opened m id none = record {
+  opened = IsOpen-opened m id;
+  others = λ j ne. area-opened m id j ne;
+  ledger = let was = ap length (bytes-none m id (none_is (m.area id) none)) in let is = ap length (bytes-opened m id) in let free = free-opened m id in omega arith;
+  pages = pages-opened m id;
+  loan = loan-opened m id;
+}
 
-pub page-none : (m : Memory) → open_below m.area MAX_AREAS ≢ MAX_AREAS → m.free < 1 → one_page m ≡ Err NoPages
-page-none m some none = rw (eqb_apart (open_below m.area MAX_AREAS) MAX_AREAS some, eqb_same m.free 0 (omega arith)) refl
-
-pub page-there : (m : Memory) → open_below m.area MAX_AREAS ≢ MAX_AREAS → m.free ≢ 0 → one_page m ≡ Ok tt
-page-there m some free = rw (eqb_apart (open_below m.area MAX_AREAS) MAX_AREAS some, eqb_apart m.free 0 free) refl
+-- an area that was opened, was given a page and then had bytes changed is all that is new
+pub only_page : (m n k l : Memory) (id lo hi : ℕ) → IsNone (m.area id) → n ≡ opened m id → k ≡ grown n id 1 → 1 ≤ n.free → Edited k l id lo hi → OnlyArea m l id
+only_page m n k l id lo hi none opens grows room edits =
+    let first : OnlyArea m n id = subst (λ (x : Memory). OnlyArea m x id) (sym opens) (only_opened m id none) in
+    let second : OnlyArea n k id = subst (λ (x : Memory). OnlyArea n x id) (sym grows) (OnlyArea-grown n id 1 room) in
+    OnlyArea-both m k l id (OnlyArea-both m n k id first second) (OnlyArea-from_Edited k l id lo hi edits)
 
 -- ---- closed again
 abbrev made : (ℕ → Option (List ℕ)) → ℕ → ℕ → ℕ → Memory

@@ -32,14 +32,16 @@ last_left a h k at is left =
 
 -- ---- other bytes
 -- two calls one after the other change no byte outside the heap, which keeps its end
-pub only_both : (l m n : Memory) (span : Span) → OnlySpan l m span → OnlySpan m n span → (heap_in m span).end ≡ (heap_in l span).end → OnlySpan l n span
-only_both l m n span d e same =
+both_only : (l m n : Memory) (span : Span) → OnlySpan l m span → OnlySpan m n span → (heap_in m span).end ≡ (heap_in l span).end → OnlySpan l n span
+both_only l m n span d e same =
     Edited-both l m n span.area.0 span.at (span.at + (heap_in l span).end) d
     (subst (λ (k : ℕ). Edited m n span.area.0 span.at (span.at + k)) same e)
 
--- the end of a heap that is known
-pub end_is : (h k : Heap) → h ≡ k → h.end ≡ k.end
-end_is h k is = ap (λ (x : Heap). x.end) is
-
-pub same_end : (h k : Heap) → h.end ≡ PAGE → k.end ≡ PAGE → k.end ≡ h.end
-same_end h k is was = was ∙ sym is
+-- and so do all three
+pub three_only : (k l m n : Memory) (span : Span) → heap_in k span ≡ empty_heap PAGE → heap_in l span ≡ one_block → heap_in m span ≡ both_blocks
+    → OnlySpan k l span → OnlySpan l m span → OnlySpan m n span → OnlySpan k n span
+three_only k l m n span empty one both first second third =
+    let end : (heap_in k span).end ≡ PAGE = ap (λ (h : Heap). h.end) empty in
+    let after_one : (heap_in l span).end ≡ PAGE = ap (λ (h : Heap). h.end) one in
+    let after_both : (heap_in m span).end ≡ PAGE = ap (λ (h : Heap). h.end) both in
+    both_only k m n span (both_only k l m span first second (after_one ∙ sym end)) third (after_both ∙ sym end)

@@ -1,6 +1,8 @@
 use Rattle.std.proofs.Common.{List, ℕ, refl, ◌∙◌, ap}
 use Rattle.rh_defs.specs.Chain.{Granted, outcome_of, result_or}
+use Rattle.rh_defs.specs.Slot.{slot_free}
 use Rattle.rh_defs.proofs.MemoryLaws.{OnlyArea-self}
+use Rattle.rh_slot.specs.Area.{slot_in}
 use Rattle.uses.proofs.SlotFacts.{free_after_read, freed_by, left_by, read_after, free_after}
 use Rattle.uses.proofs.slot.take_bytes.Goals as goal
 
@@ -20,4 +22,6 @@ pub returns-in_err-read-clause-only : goal.returns-in_err-read-clause-only
 returns-in_err-read-clause-only g c = OnlyArea-self _ _ c.requires.opened
 
 pub returns-clause-freed : goal.returns-clause-freed
-returns-clause-freed g c = freed_by _ _ _ c.free.ensures.slot
+returns-clause-freed g c =
+    let s = slot_in (g.S.Words.memory c.args.store.now) c.args.slot in
+    freed_by s _ (slot_free 0 s) c.free.ensures.slot
