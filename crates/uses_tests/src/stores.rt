@@ -43,7 +43,7 @@ pub(crate) fn started<S: Store>(store: &mut S) -> Result<Module, StoreFault>
 }
 
 /// Gives so many pages to an area of their own.
-#[tactic(auto, using(rh_defs::proofs::MemoryLaws::memory_laws))]
+#[tactic(auto, using(rh_defs::proofs::MemoryLaws::memory_laws, rh_defs::proofs::MemoryLaws::pool_laws))]
 pub(crate) fn take_pages<S: Store>(store: &mut S, pages: usize) -> Result<(), StoreFault> {
     let area = store.open()?;
     store.grow(area, pages)
