@@ -1,4 +1,7 @@
-/* expect.h: what the tests share: what they expect, random numbers, and the calls on a heap in both forms. */
+/*
+ * expect.h: what the tests share: what they expect, random numbers, lists of addresses, and the calls on a heap in both
+ * forms.
+ */
 #ifndef EXPECT_H
 #define EXPECT_H
 
@@ -8,7 +11,8 @@
 #include <stdio.h>
 #include <string.h>
 
-enum { MOST_TOLD = 20 };
+/* How many failures are told, and what stands in a number that a call is to put before it has. */
+enum { MOST_TOLD = 20, UNSET = 77 };
 
 static int failures;
 
@@ -19,6 +23,14 @@ static inline void expect(bool holds, const char *what, const char *file, int li
 }
 
 #define EXPECT(holds) expect((holds), #holds, __FILE__, __LINE__)
+
+/* The call is done, and puts a number into the test's variable `number`. */
+#define TELLS(told, call)                                           \
+    do {                                                            \
+        number = UNSET;                                             \
+        EXPECT((call) == VF_OK);                                    \
+        EXPECT(number == (told));                                   \
+    } while (0)
 
 /* What a test's main ends with. */
 static inline int ended(const char *test)
@@ -35,6 +47,16 @@ static inline uint32_t below(uint32_t bound)
     state ^= state >> 7;
     state ^= state << 17;
     return (uint32_t)((state >> 32) * bound >> 32);
+}
+
+/* Takes an address out of a list, in which the last one then has its place. */
+static inline void forget(size_t *list, size_t *count, size_t address)
+{
+    for (size_t i = 0; i < *count; i++)
+        if (list[i] == address) {
+            list[i] = list[--*count];
+            return;
+        }
 }
 
 /* The calls that stand twice in the header. */

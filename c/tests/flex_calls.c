@@ -5,7 +5,7 @@
  */
 #include "expect.h"
 
-enum { PAGE = 4096, ROOM = 16 * PAGE, LONGEST = 28 << 20, UNSET = 77, FIRST = PAGE + 8, HEAP_FIRST = 256 + 16 + 4 };
+enum { PAGE = 4096, ROOM = 16 * PAGE, LONGEST = 28 << 20, FIRST = PAGE + 8, HEAP_FIRST = 256 + 16 + 4 };
 
 static uint8_t memory[ROOM], before[ROOM], buffer[8], buffer_before[8];
 static struct vf_slot slot;
@@ -22,13 +22,6 @@ static size_t number, other;
         EXPECT(memcmp(buffer_before, buffer, sizeof buffer) == 0);                     \
         EXPECT(slot.pages == was.pages && slot.budge == was.budge);                    \
         EXPECT(number == UNSET && other == UNSET);                                     \
-    } while (0)
-
-#define TELLS(told, call)                                                              \
-    do {                                                                               \
-        number = UNSET;                                                                \
-        EXPECT((call) == VF_OK);                                                       \
-        EXPECT(number == (told));                                                      \
     } while (0)
 
 /* Each call with these arguments answers the same status. */

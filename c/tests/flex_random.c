@@ -9,7 +9,7 @@
 #define CALLS 20000
 #endif
 
-enum { ROOM = 24 * ROW_PAGE, MOST_PLACES = 400, ROUNDS = 6, LONGEST_PUT = 64, UNSET = 77 };
+enum { ROOM = 24 * ROW_PAGE, MOST_PLACES = 400, ROUNDS = 6, LONGEST_PUT = 64 };
 
 static uint8_t memory[ROOM], before[ROOM];
 static struct vf_slot slot;
@@ -32,15 +32,6 @@ static uint32_t some_anchor(void)
 static size_t some_place(void)
 {
     return count && below(20) ? places[below((uint32_t)count)] : below(2 * ROOM);
-}
-
-static void forget(size_t place)
-{
-    for (size_t i = 0; i < count; i++)
-        if (places[i] == place) {
-            places[i] = places[--count];
-            return;
-        }
 }
 
 static void keep(size_t place)
@@ -141,7 +132,7 @@ static bool releases(void)
     size_t place = some_place();
     uint32_t status = vf_flex_release(memory, len, &slot, place);
     if (status == VF_OK)
-        forget(place);
+        forget(places, &count, place);
     return answers(status, flex_row_release(&row, place));
 }
 
@@ -151,7 +142,7 @@ static bool resizes(void)
     ptrdiff_t delta = below(20) ? (ptrdiff_t)below(200) - 100 : (ptrdiff_t)below(6000);
     uint32_t status = vf_flex_resize(memory, len, &slot, place, delta, &moved);
     if (status == VF_OK) {
-        forget(place);
+        forget(places, &count, place);
         keep(moved);
     }
     return answers(status, flex_row_resize(&row, place, delta, &wanted)) && moved == wanted;

@@ -5,7 +5,7 @@
  */
 #include "expect.h"
 
-enum { ROOM = 4096, UNSET = 77 };
+enum { ROOM = 4096 };
 
 static uint8_t memory[ROOM], before[ROOM];
 static size_t number, other;
@@ -17,13 +17,6 @@ static size_t number, other;
         EXPECT((call) == (status));                                 \
         EXPECT(memcmp(before, memory, ROOM) == 0);                  \
         EXPECT(number == UNSET && other == UNSET);                  \
-    } while (0)
-
-#define TELLS(told, call)                                           \
-    do {                                                            \
-        number = UNSET;                                             \
-        EXPECT((call) == VF_OK);                                    \
-        EXPECT(number == (told));                                   \
     } while (0)
 
 static bool is_filled(const uint8_t *bytes, size_t n, int value)

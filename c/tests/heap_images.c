@@ -5,7 +5,7 @@
 #include "expect.h"
 #include "os_heap.h"
 
-enum { LEN = 56, MARGIN = 64, UNSET = 77 };
+enum { LEN = 56, MARGIN = 64 };
 
 static const uint8_t HEAP[LEN] = {
     'H', 'e', 'a', 'p', 28, 0, 0, 0, 48, 0, 0, 0, 56, 0, 0, 0, 16, 0, 0, 0, 0, 0, 0, 0, 0, 0, 0, 0,

@@ -9,7 +9,7 @@
 #define CALLS 20000
 #endif
 
-enum { ROOM = 1 << 15, MOST_BLOCKS = 2000, ROUNDS = 30, UNSET = 77 };
+enum { ROOM = 1 << 15, MOST_BLOCKS = 2000, ROUNDS = 30 };
 
 static uint8_t memory[ROOM], plain[ROOM];
 static size_t blocks[MOST_BLOCKS], count;
@@ -17,15 +17,6 @@ static size_t blocks[MOST_BLOCKS], count;
 static size_t some_address(void)
 {
     return count && below(40) ? blocks[below((uint32_t)count)] : below(2 * ROOM);
-}
-
-static void forget(size_t address)
-{
-    for (size_t i = 0; i < count; i++)
-        if (blocks[i] == address) {
-            blocks[i] = blocks[--count];
-            return;
-        }
 }
 
 static bool claims(const struct heap_calls *heap, size_t len)
@@ -48,7 +39,7 @@ static bool releases(const struct heap_calls *heap, size_t len)
     size_t address = some_address();
     uint32_t status = heap->release(memory, len, address);
     if (status == VF_OK)
-        forget(address);
+        forget(blocks, &count, address);
     return status == os_heap_release(plain, len, address);
 }
 
@@ -58,7 +49,7 @@ static bool resizes(const struct heap_calls *heap, size_t len)
     ptrdiff_t delta = (ptrdiff_t)below(400) - 200;
     uint32_t status = heap->resize(memory, len, address, delta, &moved);
     if (status == VF_OK) {
-        forget(address);
+        forget(blocks, &count, address);
         if (count < MOST_BLOCKS)
             blocks[count++] = moved;
     }

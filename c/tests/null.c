@@ -1,7 +1,7 @@
 /* null.c: each call with each of its pointers null answers VF_NULL, whatever the length, and changes nothing. */
 #include "expect.h"
 
-enum { LEN = 56, UNSET = 77 };
+enum { LEN = 56 };
 
 static uint8_t memory[LEN], before[LEN];
 static size_t number = UNSET, other = UNSET;

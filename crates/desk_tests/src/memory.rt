@@ -13,6 +13,7 @@ use rh_defs::{Files, Handle, Ref};
 use rh_desk::{RunFault, Status, program, run};
 use rh_lines::Flagged;
 use rh_pages::PagedStore;
+use rh_received::run_commands;
 use rh_region::Region;
 use rh_store::PlainStore;
 use rh_tasks::World;
@@ -21,6 +22,7 @@ use std::alloc::{AllocError, Global};
 use std::process::Abort;
 use std::test::Fail;
 use std::{fs, rt};
+use uses::{start_world, two_tasks};
 
 /// The bytes that each trial has more than the one before.
 const STEP: usize = 64;
@@ -36,19 +38,23 @@ enum Maker {
     PagedStore,
     Queue,
     LaterQueue,
+    TwoTasks,
     PlainWorld,
     PagedWorld,
+    RunWorld,
     Run,
 }
 
-const MAKERS: [Maker; 8] = [
+const MAKERS: [Maker; 10] = [
     Maker::Region,
     Maker::PlainStore,
     Maker::PagedStore,
     Maker::Queue,
     Maker::LaterQueue,
+    Maker::TwoTasks,
     Maker::PlainWorld,
     Maker::PagedWorld,
+    Maker::RunWorld,
     Maker::Run,
 ];
 
@@ -78,6 +84,14 @@ fn makes_plain_world(alloc: Global) -> bool {
 fn makes_paged_world(alloc: Global) -> bool {
     match paged_store(alloc) {
         Ok(store) => World::with_next(alloc, store, Files::new(alloc), Handle(3), Ref(9)).is_ok(),
+        Err(AllocError) => false,
+    }
+}
+
+/// A world after no commands.
+fn makes_run_world(alloc: Global) -> bool {
+    match plain_store(alloc) {
+        Ok(store) => run_commands(alloc, store, Files::new(alloc), &[]).is_ok(),
         Err(AllocError) => false,
     }
 }
@@ -114,8 +128,10 @@ fn makes<R: Abort>(rt: &R, alloc: Global, maker: Maker) -> bool {
         Maker::PagedStore => paged_store(alloc).is_ok(),
         Maker::Queue => Queue::new(alloc).is_ok(),
         Maker::LaterQueue => Queue::with_next_ref(alloc, Ref(7)).is_ok(),
+        Maker::TwoTasks => two_tasks(alloc).is_ok(),
         Maker::PlainWorld => makes_plain_world(alloc),
         Maker::PagedWorld => makes_paged_world(alloc),
+        Maker::RunWorld => makes_run_world(alloc),
         Maker::Run => runs(rt, alloc),
     }
 }
@@ -137,6 +153,17 @@ fn constructors_and_runs_are_refused_memory_in_turn(rt: HostRuntime) -> Result<(
         }
         let in_turn = 0 < refused && refused < TRIALS;
         same(&rt, (maker, in_turn || !is_short), (maker, true));
+    }
+    Ok(())
+}
+
+/// It asks for some 18 MB, more than the piece that is left.
+#[test]
+fn a_first_world_is_refused_memory(rt: HostRuntime) -> Result<(), Fail> {
+    let alloc = rt.alloc();
+    let scarce = Scarce::new(alloc)?;
+    if scarce.is_short(alloc) {
+        is_true(&rt, start_world(alloc).is_err());
     }
     Ok(())
 }

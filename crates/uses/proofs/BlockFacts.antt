@@ -7,7 +7,7 @@ use Rattle.rh_defs.specs.Pieces.{zeros}
 use Rattle.rh_defs.specs.Heap.{Heap, block_room, release}
 use Rattle.rh_defs.specs.Module.{module_claim, module_free}
 use Rattle.rh_defs.specs.Blocks.{HasBlock, Puts, Frees, Pokes, poked}
-use Rattle.rh_defs.proofs.BlockLaws.{has-less, poked-pokes, release-frees}
+use Rattle.rh_defs.proofs.BlockLaws.{has-less, has-poked, poked-pokes, release-frees}
 use Rattle.rh_defs.proofs.BlockCalls.{module_claim-puts, module_claim-has, module_free-there}
 
 -- the heap and the address that a granted call gives
@@ -27,11 +27,16 @@ claimed-puts free n x bytes h k l e is wrote =
     let w : Pokes x (put (zeros (block_room n)) 0 bytes) k l = subst (λ (y : Heap). Pokes x (put (zeros (block_room n)) 0 bytes) k y) (sym wrote) (poked-pokes x 0 bytes k _ p.here) in
     record { fresh = p.fresh; here = w.here; others = λ a ne. w.others a ne ∙ p.others a ne }
 
+-- it is there, as long as it was claimed
+pub kept-has : (a n : ℕ) (bytes : List ℕ) (h k : Heap) → HasBlock a n h → k ≡ poked a 0 bytes h → HasBlock a n k
+kept-has a n bytes h k has is = subst (λ (y : Heap). HasBlock a n y) (sym is) (has-poked a n 0 bytes h has)
+
 -- a block that is there is freed, and no other changes
 pub free-done : (a n : ℕ) (h : Heap) → HasBlock a n h → module_free a h ≡ Ok (release a h)
 free-done a n h has = module_free-there a h has.bytes has.found
 
+pub free-left : (a n : ℕ) (h k : Heap) → HasBlock a n h → k ≡ left_of h (no_answer (module_free a h)) → k ≡ release a h
+free-left a n h k has is = is ∙ ap (λ (q : Granted Heap). left_of h (no_answer q)) (free-done a n h has)
+
 pub free-frees : (a n : ℕ) (h k : Heap) → HasBlock a n h → k ≡ left_of h (no_answer (module_free a h)) → Frees a h k
-free-frees a n h k has is =
-    let same : k ≡ release a h = is ∙ ap (λ (q : Granted Heap). left_of h (no_answer q)) (free-done a n h has) in
-    subst (λ (y : Heap). Frees a h y) (sym same) (release-frees a h)
+free-frees a n h k has is = subst (λ (y : Heap). Frees a h y) (sym (free-left a n h k has is)) (release-frees a h)

@@ -1,4 +1,6 @@
+pub mod AreaFacts
 pub mod BlockFacts
+pub mod HeapFacts
 pub mod PostFacts
 pub mod RunFacts
 pub mod SlotFacts

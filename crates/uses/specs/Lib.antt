@@ -1,1 +1,3 @@
+pub mod Areas
+pub mod Tasks
 pub mod Wimp

@@ -1,5 +1,7 @@
 //! A heap in bytes that a caller lends.
-ghost use Rattle.std.specs.Prelude.{◌≡◌, length};
+ghost use Rattle.std.specs.Prelude.{◌≡◌, [], ◌∷◌, length, replicate};
+ghost use Rattle.rh_defs.specs.Heap.{Used};
+ghost use Rattle.rh_defs.specs.HeapImage.{heap_of};
 ghost use Rattle.rh_lent.specs.Heaps.{IsHeapBytes};
 
 use rh_lent::heap;
@@ -8,7 +10,8 @@ use rh_lent::heap;
 /// (OS_Heap 0, 2, 4 and 6.)
 pub fn grow_block(memory: &mut [u8]) -> (usize, usize)
     requires { length memory.old ≡ 256 }
-    ensures heap { IsHeapBytes memory.new }
+    ensures bytes { IsHeapBytes memory.new }
+    ensures heap { heap_of memory.new 0 ≡ record { segments = Used (replicate 20 0) ∷ []; end = 256 } }
     ensures answer { result ≡ (20, 20) }
 {
     heap::init(memory);

@@ -1,8 +1,11 @@
 //! A block of the module area.
 ghost use Rattle.std.specs.Prelude.{◌≡◌, ◌^◌, ◌<◌, ℕ, List, Some, length, replicate, IfOk, OnErr};
-ghost use Rattle.rh_defs.specs.Blocks.{Frees, HasBlock, Puts, block_bytes};
+ghost use Rattle.rh_defs.specs.Blocks.{Frees, HasBlock, Puts, block_bytes, poked};
 ghost use Rattle.rh_defs.specs.Bytes.{part, put};
-ghost use Rattle.rh_defs.specs.Heap.{block_room};
+ghost use Rattle.rh_defs.specs.Chain.{answer_of, left_of};
+ghost use Rattle.rh_defs.specs.Heap.{block_room, release};
+ghost use Rattle.rh_defs.specs.Memory.{OnlyArea};
+ghost use Rattle.rh_defs.specs.Module.{module_claim};
 ghost use Rattle.rh_module.specs.Area.{IsModule, heap_in};
 
 use rh_defs::Refusal;
@@ -15,8 +18,15 @@ pub fn keep_bytes<S: Pages>(store: &mut S, rma: Module, bytes: &[u8]) -> Result<
     requires module { IsModule (S.memory store.old) rma }
     requires fits { length bytes.now < 2 ^ 32 }
     ensures module { IsModule (S.memory store.new) rma }
+    ensures answer { result ≡ answer_of
+        (module_claim (S.memory store.old).free (length bytes.now) (heap_in (S.memory store.old) rma)) }
+    ensures heap { IfOk result (λ address. heap_in (S.memory store.new) rma ≡ poked address 0 bytes.now
+        (left_of (heap_in (S.memory store.old) rma)
+        (module_claim (S.memory store.old).free (length bytes.now) (heap_in (S.memory store.old) rma)))) }
     ensures kept { IfOk result (Puts (put (replicate (block_room (length bytes.now)) 0) 0 bytes.now)
         (heap_in (S.memory store.old) rma) (heap_in (S.memory store.new) rma)) }
+    ensures block { IfOk result (λ address. HasBlock address (length bytes.now) (heap_in (S.memory store.new) rma)) }
+    ensures only { OnlyArea (S.memory store.old) (S.memory store.new) rma.area.0 }
     ensures err { OnErr result (S.memory store.new ≡ S.memory store.old) }
 {
     let address = rma.claim(store, bytes.len() as u32)?;
@@ -31,7 +41,9 @@ pub fn give_bytes<S: Pages>(store: &mut S, rma: Module, address: usize, to: &mut
     ensures module { IsModule (S.memory store.new) rma }
     ensures read { (bytes : List ℕ) → block_bytes address (heap_in (S.memory store.old) rma) ≡ Some bytes
         → to.new ≡ part bytes 0 (length to.old) }
+    ensures heap { heap_in (S.memory store.new) rma ≡ release address (heap_in (S.memory store.old) rma) }
     ensures freed { Frees address (heap_in (S.memory store.old) rma) (heap_in (S.memory store.new) rma) }
+    ensures only { OnlyArea (S.memory store.old) (S.memory store.new) rma.area.0 }
 {
     rma.read_bytes(store, address, 0, to);
     rma.free(store, address).unwrap();

@@ -1,6 +1,8 @@
 //! A world over a plain store.
 ghost use Rattle.std.specs.Prelude.{◌≡◌, [], Some, IfOk};
-ghost use Rattle.rh_defs.specs.Runs.{start};
+ghost use Rattle.rh_defs.specs.Order.{IsReordered};
+ghost use Rattle.rh_defs.specs.Runs.{after, start};
+ghost use Rattle.uses.specs.Tasks.{the_commands};
 
 use rh_defs::{Anchor, Command, Files, Manner, Name, Reply};
 use rh_store::{PlainStore, Store};
@@ -19,7 +21,8 @@ pub fn start_world(alloc: Global) -> Result<World<PlainStore>, AllocError>
 /// grows, and the flex block slides up. Answers the address of the claimed block.
 pub fn three_commands<S: Store>(world: &mut World<S>) -> Option<u32>
     requires { world.old.desk ≡ start 64 [] }
-    ensures { result ≡ Some 0x8114 }
+    ensures answer { result ≡ Some 0x8114 }
+    ensures desk { IsReordered (after (start 64 []) the_commands) world.new.desk }
 {
     let name = Name::new(b"a").unwrap();
     let task = Command::Task {

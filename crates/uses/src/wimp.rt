@@ -1,13 +1,16 @@
 //! A message from one task to another.
 ghost use Rattle.std.specs.Prelude.{◌≡◌, [], ◌∷◌, Some, IfOk, OnErr};
-ghost use Rattle.rh_defs.specs.Memory.{Memory};
+ghost use Rattle.rh_defs.specs.Chain.{outcome_of, refuse_if};
+ghost use Rattle.rh_defs.specs.Heap.{need};
+ghost use Rattle.rh_defs.specs.Memory.{Memory, OnlyArea};
+ghost use Rattle.rh_defs.specs.Pieces.{lacks_pages};
 ghost use Rattle.rh_defs.specs.declared.message.Body.TheVariants.{RamFetch};
 ghost use Rattle.rh_defs.specs.declared.message.EventCode.TheVariants.{User};
 ghost use Rattle.rh_module.specs.Area.{IsModule, heap_in};
 ghost use Rattle.rh_module.specs.declared.module.Module.{Module};
 ghost use Rattle.rh_wimp.specs.Calls.{IsQueue, handles_of};
 ghost use Rattle.rh_wimp.specs.Chains.{SpellsPost};
-ghost use Rattle.uses.specs.Wimp.{two_idle};
+ghost use Rattle.uses.specs.Wimp.{asked, fetch_size, two_idle};
 
 use rh_defs::{Body, Event, EventCode, Handle, Letter, Ref, Refusal};
 use rh_module::Module;
@@ -28,8 +31,8 @@ pub fn two_tasks(alloc: Global) -> Result<Queue, AllocError>
     Ok(queue)
 }
 
-/// Task 1 asks task 2 for bytes, in a message that wants no answer, and task 2 polls. Refused, and nothing changed, as
-/// the send is. (Message_RAMFetch, Wimp_Poll.)
+/// Task 1 asks task 2 for bytes, in a message that wants no answer, and task 2 polls. Refused (`NoRoom`), and nothing
+/// changed, where the module area has no room for it and too few pages are free. (Message_RAMFetch, Wimp_Poll.)
 pub fn ask_for_bytes<S: Pages>(
     store: &mut S,
     rma: Module,
@@ -40,11 +43,17 @@ pub fn ask_for_bytes<S: Pages>(
     requires queue { IsQueue (S.memory store.old) rma queue.old }
     requires handles { handles_of queue.old ≡ 1 ∷ 2 ∷ [] }
     requires idle { SpellsPost (S.memory store.old) rma queue.old (two_idle (heap_in (S.memory store.old) rma)) }
+    ensures answer { outcome_of result ≡ refuse_if
+        (lacks_pages (S.memory store.old).free (need fetch_size (heap_in (S.memory store.old) rma))) Refusal.NoRoom }
     ensures queue { IsQueue (S.memory store.new) rma queue.new }
+    ensures handles { handles_of queue.new ≡ 1 ∷ 2 ∷ [] }
     ensures event { IfOk result (λ event. event ≡ Some (record {
       code = User;
       message = record { from = 1; my_ref = 1; your_ref = 0; body = RamFetch buffer length };
     })) }
+    ensures post { IfOk result (λ event. SpellsPost (S.memory store.new) rma queue.new
+        (asked (S.memory store.old).free buffer length (heap_in (S.memory store.old) rma))) }
+    ensures only { OnlyArea (S.memory store.old) (S.memory store.new) rma.area.0 }
     ensures err { OnErr result ((S.memory store.new ≡ S.memory store.old) × (queue.new ≡ queue.old)) }
 {
     let letter = Letter {
