@@ -16,7 +16,7 @@ use Rattle.rh_defs.proofs.SlotLaws.{none_weigh}
 use Rattle.rh_defs.proofs.SlotImageLaws.{is_block-is}
 use Rattle.rh_heap.specs.Image.{summary_of}
 use Rattle.rh_heap.specs.declared.image.Summary.{Summary}
-use Rattle.rh_slot.specs.SlotImage.{IsSlotImage, IsRow, flex_size, has_length, heap_bytes, has_anchor, is_hung, are_hung, slot_fault_of, slot_summary}
+use Rattle.rh_slot.specs.Image.{IsSlotImage, IsRow, flex_size, has_length, heap_bytes, has_anchor, is_hung, are_hung, slot_fault_of, slot_summary}
 use Rattle.rh_slot.specs.declared.image.BlockSums.{BlockSums}
 use Rattle.rh_slot.specs.declared.image.SlotFault.TheVariants.{BadSize, BadAnchor, SparePage}
 use Rattle.rh_slot.specs.declared.image.SlotSummary.{SlotSummary}

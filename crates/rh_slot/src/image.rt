@@ -5,7 +5,7 @@ ghost use Rattle.rh_defs.specs.HeapImage.{IsImage, heap_of};
 ghost use Rattle.rh_defs.specs.Slot.{weight};
 ghost use Rattle.rh_defs.specs.SlotImage.{flex_in, is_block, slot_of};
 ghost use Rattle.rh_heap.specs.Image.{summary_of};
-ghost use Rattle.rh_slot.specs.SlotImage.{IsSlotImage, IsRow, has_length, heap_bytes, has_anchor, is_hung, are_hung, slot_summary, slot_fault_of, fault_in};
+ghost use Rattle.rh_slot.specs.Image.{IsSlotImage, IsRow, has_length, heap_bytes, has_anchor, is_hung, are_hung, slot_summary, slot_fault_of, fault_in};
 ghost use Rattle.rh_defs.specs.declared.sizes.TheConstants.{ANCHORS, C_HEAP_PLACE, PAGE, WORD};
 ghost use Rattle.rh_slot.specs.declared.image.TheConstants.{LONGEST_SLOT};
 
@@ -15,11 +15,12 @@ use rh_defs::sizes::{
 };
 use rh_heap::Summary;
 use rh_store::bytes::word_in;
+use thiserror::Error;
 
 /// The most bytes of a slot: application space has 28 MiB.
 pub const LONGEST_SLOT: usize = 29_360_128;
 
-/// What a slot consists of.
+/// What a slot in bytes consists of.
 #[derive(Clone, Copy, Debug, PartialEq, Eq)]
 pub struct SlotSummary {
     /// How many flex blocks there are.
@@ -33,21 +34,26 @@ pub struct SlotSummary {
 }
 
 /// Why bytes spell no slot.
-#[derive(Clone, Copy, Debug, PartialEq, Eq)]
+#[derive(Clone, Copy, Debug, PartialEq, Eq, Error)]
 pub enum SlotFault {
     /// There are no bytes, a page is cut, or there are more than 28 MiB.
+    #[error("the length is not that of a slot")]
     BadLength,
-    /// The C heap behind the anchor words has a fault.
+    /// The bytes behind the anchor words, as many as their own word says, are no heap.
+    #[error("the C heap is no heap: {0}")]
     BadHeap(HeapFault),
     /// A flex block goes past the end.
+    #[error("a flex block goes past the end")]
     BadSize,
     /// An anchor word isn't 0, and leads to no flex block whose header leads back to it.
+    #[error("an anchor word leads to no flex block")]
     BadAnchor,
     /// The last page holds nothing of the slot.
+    #[error("the last page holds nothing of the slot")]
     SparePage,
 }
 
-/// Flex blocks that stand one after the other: where they end, how many they are, and their bytes.
+/// Flex blocks that stand one after the other: the place above the last one, how many they are, and their bytes.
 #[derive(Clone, Copy)]
 struct BlockSums {
     top: usize,
@@ -81,7 +87,7 @@ fn has_length(image: &[u8]) -> bool
     PAGE <= len && len <= LONGEST_SLOT && len % PAGE == 0
 }
 
-/// The C heap's bytes, as many as its descriptor says, where there are so many.
+/// The C heap's bytes: as many as its descriptor says, or all behind the anchor words where these are fewer.
 fn heap_bytes(image: &[u8]) -> &[u8]
     requires least { PAGE ≤ length image.now }
     requires most { length image.now ≤ LONGEST_SLOT }
@@ -143,7 +149,7 @@ fn begins(image: &[u8], place: usize) -> bool
     word_in(image, anchor - SLOT_START) as usize == SLOT_START + place + FLEX_HEADER
 }
 
-/// The flex blocks that stand from a place on. `None` just where one of them goes past the end.
+/// Adds up the flex blocks that stand from a place on. `None` just where one of them goes past the end.
 fn row_from(image: &[u8], from: usize) -> Option<BlockSums>
     requires least { PAGE ≤ length image.now }
     requires most { length image.now ≤ LONGEST_SLOT }
@@ -194,7 +200,7 @@ fn are_hung(image: &[u8], from: usize, top: usize) -> bool
     true
 }
 
-/// The same of one anchor word.
+/// Whether an anchor word is 0, or a flex block from one place up to another has the anchor.
 fn is_hung(image: &[u8], from: usize, top: usize, anchor: usize) -> bool
     requires least { PAGE ≤ length image.now }
     requires most { length image.now ≤ LONGEST_SLOT }
