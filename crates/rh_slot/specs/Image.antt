@@ -28,7 +28,12 @@ flex_size f = length f.bytes
 
 -- what a slot in n bytes consists of
 abbrev pub slot_summary : ℕ → Slot → SlotSummary
-slot_summary n s = record { blocks = length s.blocks; bytes = total flex_size s.blocks; heap = summary_of s.heap; unused = n - slot_length s }
+slot_summary n s = record {
+  blocks = length s.blocks;
+  bytes = total flex_size s.blocks;
+  heap = summary_of s.heap;
+  unused = n - slot_length s;
+}
 
 -- the sums of the blocks that stand one after the other from a place on; none of them goes past the end
 pub record IsRow (b : List ℕ) (from : ℕ) (sums : BlockSums) : Type 0 where
@@ -74,7 +79,8 @@ first_fault true None true true true = None
 unfoldable pub slot_fault_of : List ℕ → Option SlotFault
 slot_fault_of b =
     let s = slot_of true b in
-    first_fault (has_length b) (fault_of (heap_bytes b)) (nat_le (slot_length s) (length b)) (are_hung b s.blocks anchor_count) (length b == page * slot_pages s)
+    first_fault (has_length b) (fault_of (heap_bytes b)) (nat_le (slot_length s) (length b))
+    (are_hung b s.blocks anchor_count) (length b == page * slot_pages s)
 
 -- the fault that a check answers
 abbrev pub fault_in : Result SlotSummary SlotFault → Option SlotFault
