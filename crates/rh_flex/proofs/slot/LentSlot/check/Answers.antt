@@ -1,4 +1,4 @@
-use Rattle.std.proofs.Common.{◌≡◌, ◌≤◌, ◌*◌, length, sym, ap, subst, ◌∙◌, arith}
+use Rattle.std.proofs.Common.{◌≡◌, ◌≤◌, ◌*◌, true, length, sym, ap, subst, ◌∙◌, arith}
 use Rattle.std.proofs.lemmas.Bool.Decides.{nat_tests}
 use Rattle.std.proofs.lemmas.List.{length-take-le}
 use Rattle.std.proofs.lemmas.Result.{IfOk-weaker}
@@ -7,7 +7,7 @@ use Rattle.rh_flex.specs.Image.{pages_fault_of}
 use Rattle.rh_flex.specs.Slots.{bytes_of}
 use Rattle.rh_slot.specs.Image.{slot_summary}
 use Rattle.rh_flex.proofs.ImageLaws.{fault_inside, same_sums, short_back, short_few, short_from, short_lies}
-use Rattle.rh_flex.proofs.image.LentSlot.check.Goals as goal
+use Rattle.rh_flex.proofs.slot.LentSlot.check.Goals as goal
 
 pub returns-then-len-gt-MOST_LENT-clause-ok : goal.returns-then-len-gt-MOST_LENT-clause-ok
 returns-then-len-gt-MOST_LENT-clause-ok c =
