@@ -150,7 +150,11 @@ fn a_worked_slot(rt: HostRuntime) {
 const FAULTS: [(usize, u32, SlotFault); 13] = [
     // a C heap that would go past the end
     (268, 3848, SlotFault::BadHeap(HeapFault::BadDescriptor)),
-    (256, 0x7061_6568, SlotFault::BadHeap(HeapFault::BadDescriptor)),
+    (
+        256,
+        0x7061_6568,
+        SlotFault::BadHeap(HeapFault::BadDescriptor),
+    ),
     (260, 36, SlotFault::BadHeap(HeapFault::BadLink)),
     (272, 12, SlotFault::BadHeap(HeapFault::BadSize)),
     // one byte more than the page has room for, and as many as a word holds
@@ -171,7 +175,11 @@ const FAULTS: [(usize, u32, SlotFault); 13] = [
 #[test]
 fn worked_slots_have_their_faults(rt: HostRuntime) {
     for (place, word, fault) in FAULTS {
-        same(&rt, (place, word, check(&changed(place, word))), (place, word, Err(fault)));
+        same(
+            &rt,
+            (place, word, check(&changed(place, word))),
+            (place, word, Err(fault)),
+        );
     }
 }
 

@@ -225,6 +225,7 @@ const RUN_OF_TWO_NAMES: [&str; 5] = ["vervainfile", "run", "short.desk", "f=x", 
 
 /// The words of a check of a file that is there, as a heap and as a slot, and of one that isn't.
 const CHECK: [&str; 3] = ["vervainfile", "check", "short.bin"];
+
 const CHECK_OF_A_SLOT: [&str; 4] = ["vervainfile", "check", "--slot", "short.bin"];
 
 const CHECK_OF_NO_FILE: [&str; 3] = ["vervainfile", "check", "lost.bin"];

@@ -81,7 +81,11 @@ fn slots_are_checked(rt: HostRuntime) -> Result<(), Fail> {
 
 #[test]
 fn a_slot_is_no_heap(rt: HostRuntime) -> Result<(), Fail> {
-    fs::write(&rt, "heap.bin", b"Heap\0\0\0\0\x10\0\0\0\x10\0\0\0".as_slice())?;
+    fs::write(
+        &rt,
+        "heap.bin",
+        b"Heap\0\0\0\0\x10\0\0\0\x10\0\0\0".as_slice(),
+    )?;
     let heap = ended(&rt, &["check", "heap.bin"], b"")?;
     let slot = ended(&rt, &["check", "--slot", "heap.bin"], b"")?;
     let behind = ended(&rt, &["check", "heap.bin", "--slot"], b"")?;

@@ -193,11 +193,7 @@ fn check_file<R: rt::Files, O: Sink, E: Sink>(
 }
 
 /// Writes what bytes of a kind consist of, or what is wrong with them.
-fn check_bytes<O: Sink>(
-    kind: ImageKind,
-    bytes: &[u8],
-    output: &mut O,
-) -> Result<Status, RunFault>
+fn check_bytes<O: Sink>(kind: ImageKind, bytes: &[u8], output: &mut O) -> Result<Status, RunFault>
     ensures ok { IfOk result (λ status. Takes (O.output output.old) (O.output output.new) (line_as kind bytes.now)) }
     ensures status { IfOk result (λ status. status ≡ status_as kind bytes.now) }
     ensures err { IfErr result (λ fault. (fault ≡ RunFault.WriteFailed) × Breaks (O.output output.old) (O.output output.new) (line_as kind bytes.now)) }

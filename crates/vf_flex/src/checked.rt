@@ -226,7 +226,11 @@ pub extern "C" fn vf_flex_checked_claim(
 
 /// Releases the block at a place. (OS_Heap 3.)
 #[unsafe(no_mangle)]
-pub extern "C" fn vf_flex_checked_release(memory: &mut [u8], slot: &mut LentSlot, place: usize) -> u32
+pub extern "C" fn vf_flex_checked_release(
+    memory: &mut [u8],
+    slot: &mut LentSlot,
+    place: usize,
+) -> u32
     ensures refused { RefusesInput memory.old memory.new slot.old slot.new
         (checked_place_status memory.old slot.old place) result }
     ensures status { checked_place_status memory.old slot.old place ≡ 0 →
