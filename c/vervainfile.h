@@ -7,8 +7,8 @@
  *     if (vf_heap_init(memory, sizeof memory) == VF_OK && vf_heap_claim(memory, sizeof memory, 100, &address) == VF_OK)
  *         memory[address] = 1;
  *
- * Statuses, your duties, the calls of OS_Heap, the same on any bytes, flex, the C heap below flex, and null pointers:
- * in this order.
+ * Statuses, your duties, the calls of OS_Heap, the same on any bytes, flex, the C heap below flex, a slot in any bytes,
+ * and null pointers: in this order.
  * docs/C.md says more: what each Acorn call becomes, what a call costs, and what of it is proved.
  */
 #ifndef VERVAINFILE_H
@@ -47,7 +47,10 @@ enum {
     VF_BAD_LINK = 36,          /* a link does not lead to a hole ahead */
     VF_BAD_SEGMENT = 37,       /* a size is not that of a segment */
     VF_BAD_ANCHOR = 38,        /* a slot has the anchors 0 to 63 */
-    VF_NO_SLOT = 39            /* the slot has no page: it was never started */
+    VF_NO_SLOT = 39,           /* the slot has no page: it was never started */
+    VF_BAD_FLEX_BLOCK = 40,    /* a flex block goes past the end of the slot's pages */
+    VF_BAD_ANCHOR_WORD = 41,   /* an anchor word is not 0, and leads to no flex block that names it */
+    VF_SPARE_PAGE = 42         /* the last page of the slot holds nothing of it */
 };
 
 /* ---- Duties of the caller -----------------------------------------------------------------------------------------
@@ -58,14 +61,16 @@ enum {
  *    any other to one value of its type, at an address that fits the type. What the pointers of one call lead to does
  *    not overlap.
  * 2. While a call runs nobody else reads or writes what it was lent: one call at a time on one heap or slot. Different
- *    ones may be used at the same time. Questions count as calls, since all but vf_heap_check take a pointer to bytes
- *    that may be written, though they write none. vf_heap_check only reads: any number of those may run at once.
+ *    ones may be used at the same time. Questions count as calls, since all but vf_heap_check and vf_flex_check take a
+ *    pointer to bytes that may be written, though they write none. These two only read: any number of those may run at
+ *    once.
  * 3. Of the calls on heaps without `checked` in their names, vf_heap_init aside: `memory` is a heap, so that
  *    vf_heap_check would answer VF_OK. It is one after vf_heap_init, and after each call, as long as you write to
  *    nothing but the bytes of your blocks. Where it is none they may read and write anywhere, as free() may.
- * 4. Of the calls on slots, vf_flex_start aside: `slot` and the bytes of its pages are as the last call left them, but
- *    for the bytes of your blocks. No call looks at all of a slot first, so that there are no checked ones. Where the
- *    bytes are no slot the calls may read and write anywhere. What `len` and `slot` alone can tell each call tests.
+ * 4. Of the calls on slots without `checked` in their names, vf_flex_start aside: `slot` and the bytes of its pages are
+ *    a slot, so that vf_flex_check would answer VF_OK. They are one after vf_flex_start, and after each call, as long
+ *    as you write to nothing but the bytes of your blocks. Where they are none the calls may read and write anywhere.
+ *    What `len` and `slot` alone can tell each call tests.
  */
 
 /* ---- OS_Heap -------------------------------------------------------------------------------------------------------
@@ -211,6 +216,39 @@ uint32_t vf_flex_resize(uint8_t *memory, size_t len, struct vf_slot *slot, size_
 /* OS_Heap 6: tells how many bytes the block at a place has: what was asked for, or up to 7 more. VF_NOT_A_BLOCK. */
 uint32_t vf_flex_block_size(uint8_t *memory, size_t len, const struct vf_slot *slot, size_t place, size_t *size);
 
+/* ---- A slot in any bytes --------------------------------------------------------------------------------------------
+ *
+ * These look at all of the slot first, so they have no fourth duty: `memory` may hold bytes that come from a file or
+ * from somebody else, and `slot` any number of pages; its flag must be a bool, true or false. Where they are no slot
+ * the calls answer what vf_flex_check answers, and else what the call of the same name does. With VF_CHECKED defined
+ * before this header, the names above stand for these.
+ */
+
+/* VF_OK where the pages lie in the bytes and are a slot. Else what is wrong first: VF_BAD_LENGTH, VF_NO_SLOT and
+ * VF_SHORT as above; what is wrong with the C heap, VF_BAD_DESCRIPTOR, VF_BAD_LINK or VF_BAD_SEGMENT; and then
+ * VF_BAD_FLEX_BLOCK, VF_BAD_ANCHOR_WORD, VF_SPARE_PAGE. */
+uint32_t vf_flex_check(const uint8_t *memory, size_t len, const struct vf_slot *slot);
+
+uint32_t vf_flex_checked_alloc(uint8_t *memory, size_t len, struct vf_slot *slot, uint32_t anchor, size_t n,
+                               size_t *place);
+uint32_t vf_flex_checked_free(uint8_t *memory, size_t len, struct vf_slot *slot, uint32_t anchor);
+uint32_t vf_flex_checked_size(uint8_t *memory, size_t len, const struct vf_slot *slot, uint32_t anchor, size_t *size);
+uint32_t vf_flex_checked_extend(uint8_t *memory, size_t len, struct vf_slot *slot, uint32_t anchor, size_t n);
+uint32_t vf_flex_checked_midextend(uint8_t *memory, size_t len, struct vf_slot *slot, uint32_t anchor, size_t offset,
+                                   ptrdiff_t by);
+uint32_t vf_flex_checked_place(uint8_t *memory, size_t len, const struct vf_slot *slot, uint32_t anchor, size_t *place);
+uint32_t vf_flex_checked_put(uint8_t *memory, size_t len, struct vf_slot *slot, uint32_t anchor, size_t offset,
+                             const uint8_t *from, size_t from_len);
+uint32_t vf_flex_checked_read(uint8_t *memory, size_t len, const struct vf_slot *slot, uint32_t anchor, size_t offset,
+                              uint8_t *to, size_t to_len);
+uint32_t vf_flex_checked_describe(uint8_t *memory, size_t len, const struct vf_slot *slot, size_t *most, size_t *free);
+uint32_t vf_flex_checked_claim(uint8_t *memory, size_t len, struct vf_slot *slot, size_t n, size_t *place);
+uint32_t vf_flex_checked_release(uint8_t *memory, size_t len, struct vf_slot *slot, size_t place);
+uint32_t vf_flex_checked_resize(uint8_t *memory, size_t len, struct vf_slot *slot, size_t place, ptrdiff_t delta,
+                                size_t *moved_to);
+uint32_t vf_flex_checked_block_size(uint8_t *memory, size_t len, const struct vf_slot *slot, size_t place,
+                                    size_t *size);
+
 /* ---- Null pointers -------------------------------------------------------------------------------------------------
  *
  * The functions of the library are never given one: each call goes by a function of the same name and `_unless_null`,
@@ -238,44 +276,48 @@ VF_BOTH_UNLESS_NULL(vf_heap, block_size, (uint8_t *memory, size_t len, size_t ad
 
 VF_UNLESS_NULL(vf_flex_start, (uint8_t *memory, size_t len, struct vf_slot *slot),
                memory && slot, (memory, len, slot))
-VF_UNLESS_NULL(vf_flex_alloc,
-               (uint8_t *memory, size_t len, struct vf_slot *slot, uint32_t anchor, size_t n, size_t *place),
-               memory && slot && place, (memory, len, slot, anchor, n, place))
-VF_UNLESS_NULL(vf_flex_free, (uint8_t *memory, size_t len, struct vf_slot *slot, uint32_t anchor),
-               memory && slot, (memory, len, slot, anchor))
-VF_UNLESS_NULL(vf_flex_size, (uint8_t *memory, size_t len, const struct vf_slot *slot, uint32_t anchor, size_t *size),
-               memory && slot && size, (memory, len, slot, anchor, size))
-VF_UNLESS_NULL(vf_flex_extend, (uint8_t *memory, size_t len, struct vf_slot *slot, uint32_t anchor, size_t n),
-               memory && slot, (memory, len, slot, anchor, n))
-VF_UNLESS_NULL(vf_flex_midextend,
-               (uint8_t *memory, size_t len, struct vf_slot *slot, uint32_t anchor, size_t offset, ptrdiff_t by),
-               memory && slot, (memory, len, slot, anchor, offset, by))
+VF_UNLESS_NULL(vf_flex_check, (const uint8_t *memory, size_t len, const struct vf_slot *slot),
+               memory && slot, (memory, len, slot))
 VF_UNLESS_NULL(vf_flex_set_budge, (struct vf_slot *slot, bool on, bool *was),
                slot && was, (slot, on, was))
-VF_UNLESS_NULL(vf_flex_place,
-               (uint8_t *memory, size_t len, const struct vf_slot *slot, uint32_t anchor, size_t *place),
-               memory && slot && place, (memory, len, slot, anchor, place))
-VF_UNLESS_NULL(vf_flex_put,
-               (uint8_t *memory, size_t len, struct vf_slot *slot, uint32_t anchor, size_t offset,
-                const uint8_t *from, size_t from_len),
-               memory && slot && from, (memory, len, slot, anchor, offset, from, from_len))
-VF_UNLESS_NULL(vf_flex_read,
-               (uint8_t *memory, size_t len, const struct vf_slot *slot, uint32_t anchor, size_t offset, uint8_t *to,
-                size_t to_len),
-               memory && slot && to, (memory, len, slot, anchor, offset, to, to_len))
-VF_UNLESS_NULL(vf_flex_describe,
-               (uint8_t *memory, size_t len, const struct vf_slot *slot, size_t *most, size_t *free),
-               memory && slot && most && free, (memory, len, slot, most, free))
-VF_UNLESS_NULL(vf_flex_claim, (uint8_t *memory, size_t len, struct vf_slot *slot, size_t n, size_t *place),
-               memory && slot && place, (memory, len, slot, n, place))
-VF_UNLESS_NULL(vf_flex_release, (uint8_t *memory, size_t len, struct vf_slot *slot, size_t place),
-               memory && slot, (memory, len, slot, place))
-VF_UNLESS_NULL(vf_flex_resize,
-               (uint8_t *memory, size_t len, struct vf_slot *slot, size_t place, ptrdiff_t delta, size_t *moved_to),
-               memory && slot && moved_to, (memory, len, slot, place, delta, moved_to))
-VF_UNLESS_NULL(vf_flex_block_size,
-               (uint8_t *memory, size_t len, const struct vf_slot *slot, size_t place, size_t *size),
-               memory && slot && size, (memory, len, slot, place, size))
+VF_BOTH_UNLESS_NULL(vf_flex, alloc,
+                    (uint8_t *memory, size_t len, struct vf_slot *slot, uint32_t anchor, size_t n, size_t *place),
+                    memory && slot && place, (memory, len, slot, anchor, n, place))
+VF_BOTH_UNLESS_NULL(vf_flex, free, (uint8_t *memory, size_t len, struct vf_slot *slot, uint32_t anchor),
+                    memory && slot, (memory, len, slot, anchor))
+VF_BOTH_UNLESS_NULL(vf_flex, size,
+                    (uint8_t *memory, size_t len, const struct vf_slot *slot, uint32_t anchor, size_t *size),
+                    memory && slot && size, (memory, len, slot, anchor, size))
+VF_BOTH_UNLESS_NULL(vf_flex, extend, (uint8_t *memory, size_t len, struct vf_slot *slot, uint32_t anchor, size_t n),
+                    memory && slot, (memory, len, slot, anchor, n))
+VF_BOTH_UNLESS_NULL(vf_flex, midextend,
+                    (uint8_t *memory, size_t len, struct vf_slot *slot, uint32_t anchor, size_t offset, ptrdiff_t by),
+                    memory && slot, (memory, len, slot, anchor, offset, by))
+VF_BOTH_UNLESS_NULL(vf_flex, place,
+                    (uint8_t *memory, size_t len, const struct vf_slot *slot, uint32_t anchor, size_t *place),
+                    memory && slot && place, (memory, len, slot, anchor, place))
+VF_BOTH_UNLESS_NULL(vf_flex, put,
+                    (uint8_t *memory, size_t len, struct vf_slot *slot, uint32_t anchor, size_t offset,
+                     const uint8_t *from, size_t from_len),
+                    memory && slot && from, (memory, len, slot, anchor, offset, from, from_len))
+VF_BOTH_UNLESS_NULL(vf_flex, read,
+                    (uint8_t *memory, size_t len, const struct vf_slot *slot, uint32_t anchor, size_t offset,
+                     uint8_t *to, size_t to_len),
+                    memory && slot && to, (memory, len, slot, anchor, offset, to, to_len))
+VF_BOTH_UNLESS_NULL(vf_flex, describe,
+                    (uint8_t *memory, size_t len, const struct vf_slot *slot, size_t *most, size_t *free),
+                    memory && slot && most && free, (memory, len, slot, most, free))
+VF_BOTH_UNLESS_NULL(vf_flex, claim, (uint8_t *memory, size_t len, struct vf_slot *slot, size_t n, size_t *place),
+                    memory && slot && place, (memory, len, slot, n, place))
+VF_BOTH_UNLESS_NULL(vf_flex, release, (uint8_t *memory, size_t len, struct vf_slot *slot, size_t place),
+                    memory && slot, (memory, len, slot, place))
+VF_BOTH_UNLESS_NULL(vf_flex, resize,
+                    (uint8_t *memory, size_t len, struct vf_slot *slot, size_t place, ptrdiff_t delta,
+                     size_t *moved_to),
+                    memory && slot && moved_to, (memory, len, slot, place, delta, moved_to))
+VF_BOTH_UNLESS_NULL(vf_flex, block_size,
+                    (uint8_t *memory, size_t len, const struct vf_slot *slot, size_t place, size_t *size),
+                    memory && slot && size, (memory, len, slot, place, size))
 
 #undef VF_BOTH_UNLESS_NULL
 #undef VF_UNLESS_NULL
@@ -289,20 +331,21 @@ VF_UNLESS_NULL(vf_flex_block_size,
 #define vf_heap_checked_extend vf_heap_checked_extend_unless_null
 #define vf_heap_checked_block_size vf_heap_checked_block_size_unless_null
 #define vf_flex_start vf_flex_start_unless_null
-#define vf_flex_alloc vf_flex_alloc_unless_null
-#define vf_flex_free vf_flex_free_unless_null
-#define vf_flex_size vf_flex_size_unless_null
-#define vf_flex_extend vf_flex_extend_unless_null
-#define vf_flex_midextend vf_flex_midextend_unless_null
+#define vf_flex_check vf_flex_check_unless_null
 #define vf_flex_set_budge vf_flex_set_budge_unless_null
-#define vf_flex_place vf_flex_place_unless_null
-#define vf_flex_put vf_flex_put_unless_null
-#define vf_flex_read vf_flex_read_unless_null
-#define vf_flex_describe vf_flex_describe_unless_null
-#define vf_flex_claim vf_flex_claim_unless_null
-#define vf_flex_release vf_flex_release_unless_null
-#define vf_flex_resize vf_flex_resize_unless_null
-#define vf_flex_block_size vf_flex_block_size_unless_null
+#define vf_flex_checked_alloc vf_flex_checked_alloc_unless_null
+#define vf_flex_checked_free vf_flex_checked_free_unless_null
+#define vf_flex_checked_size vf_flex_checked_size_unless_null
+#define vf_flex_checked_extend vf_flex_checked_extend_unless_null
+#define vf_flex_checked_midextend vf_flex_checked_midextend_unless_null
+#define vf_flex_checked_place vf_flex_checked_place_unless_null
+#define vf_flex_checked_put vf_flex_checked_put_unless_null
+#define vf_flex_checked_read vf_flex_checked_read_unless_null
+#define vf_flex_checked_describe vf_flex_checked_describe_unless_null
+#define vf_flex_checked_claim vf_flex_checked_claim_unless_null
+#define vf_flex_checked_release vf_flex_checked_release_unless_null
+#define vf_flex_checked_resize vf_flex_checked_resize_unless_null
+#define vf_flex_checked_block_size vf_flex_checked_block_size_unless_null
 
 #ifdef VF_CHECKED
 #define vf_heap_describe vf_heap_checked_describe
@@ -311,6 +354,19 @@ VF_UNLESS_NULL(vf_flex_block_size,
 #define vf_heap_resize vf_heap_checked_resize
 #define vf_heap_extend vf_heap_checked_extend
 #define vf_heap_block_size vf_heap_checked_block_size
+#define vf_flex_alloc vf_flex_checked_alloc
+#define vf_flex_free vf_flex_checked_free
+#define vf_flex_size vf_flex_checked_size
+#define vf_flex_extend vf_flex_checked_extend
+#define vf_flex_midextend vf_flex_checked_midextend
+#define vf_flex_place vf_flex_checked_place
+#define vf_flex_put vf_flex_checked_put
+#define vf_flex_read vf_flex_checked_read
+#define vf_flex_describe vf_flex_checked_describe
+#define vf_flex_claim vf_flex_checked_claim
+#define vf_flex_release vf_flex_checked_release
+#define vf_flex_resize vf_flex_checked_resize
+#define vf_flex_block_size vf_flex_checked_block_size
 #else
 #define vf_heap_describe vf_heap_describe_unless_null
 #define vf_heap_claim vf_heap_claim_unless_null
@@ -318,6 +374,19 @@ VF_UNLESS_NULL(vf_flex_block_size,
 #define vf_heap_resize vf_heap_resize_unless_null
 #define vf_heap_extend vf_heap_extend_unless_null
 #define vf_heap_block_size vf_heap_block_size_unless_null
+#define vf_flex_alloc vf_flex_alloc_unless_null
+#define vf_flex_free vf_flex_free_unless_null
+#define vf_flex_size vf_flex_size_unless_null
+#define vf_flex_extend vf_flex_extend_unless_null
+#define vf_flex_midextend vf_flex_midextend_unless_null
+#define vf_flex_place vf_flex_place_unless_null
+#define vf_flex_put vf_flex_put_unless_null
+#define vf_flex_read vf_flex_read_unless_null
+#define vf_flex_describe vf_flex_describe_unless_null
+#define vf_flex_claim vf_flex_claim_unless_null
+#define vf_flex_release vf_flex_release_unless_null
+#define vf_flex_resize vf_flex_resize_unless_null
+#define vf_flex_block_size vf_flex_block_size_unless_null
 #endif
 
 #ifdef __cplusplus

@@ -188,6 +188,10 @@ SLIPS = [
     ("VF_NO_BUDGE = 19", "VF_NO_BUDGE = 18"),
     ("memory && slot && from,", "memory && slot,"),
     ("#define vf_flex_put vf_flex_put_unless_null\n", ""),
+    ("#define vf_flex_put vf_flex_checked_put\n", ""),
+    ("VF_SPARE_PAGE = 42", "VF_SPARE_PAGE = 41"),
+    ("uint32_t vf_flex_check(const uint8_t *memory,", "uint32_t vf_flex_check(uint8_t *memory,"),
+    ("uint32_t vf_flex_checked_release(uint8_t *memory, size_t len, struct vf_slot *slot, size_t place);", ""),
 ]
 
 

@@ -1,5 +1,5 @@
 /*
- * expect.h: what the tests share: what they expect, random numbers, lists of addresses, and the calls on a heap in both
+ * expect.h: what the tests share: what they expect, random numbers, lists of addresses, and the calls that have two
  * forms.
  */
 #ifndef EXPECT_H
@@ -59,7 +59,7 @@ static inline void forget(size_t *list, size_t *count, size_t address)
         }
 }
 
-/* The calls that stand twice in the header. */
+/* The calls on a heap that stand twice in the header. */
 struct heap_calls {
     const char *name;
     uint32_t (*describe)(uint8_t *memory, size_t len, size_t *most, size_t *free);
@@ -82,6 +82,59 @@ static const struct heap_calls CHECKED = {
     vf_heap_checked_resize,
     vf_heap_checked_extend,
     vf_heap_checked_block_size,
+};
+
+/* The calls on a slot that stand twice. */
+struct flex_calls {
+    uint32_t (*alloc)(uint8_t *memory, size_t len, struct vf_slot *slot, uint32_t anchor, size_t n, size_t *place);
+    uint32_t (*free)(uint8_t *memory, size_t len, struct vf_slot *slot, uint32_t anchor);
+    uint32_t (*size)(uint8_t *memory, size_t len, const struct vf_slot *slot, uint32_t anchor, size_t *size);
+    uint32_t (*extend)(uint8_t *memory, size_t len, struct vf_slot *slot, uint32_t anchor, size_t n);
+    uint32_t (*midextend)(uint8_t *memory, size_t len, struct vf_slot *slot, uint32_t anchor, size_t offset,
+                          ptrdiff_t by);
+    uint32_t (*place)(uint8_t *memory, size_t len, const struct vf_slot *slot, uint32_t anchor, size_t *place);
+    uint32_t (*put)(uint8_t *memory, size_t len, struct vf_slot *slot, uint32_t anchor, size_t offset,
+                    const uint8_t *from, size_t from_len);
+    uint32_t (*read)(uint8_t *memory, size_t len, const struct vf_slot *slot, uint32_t anchor, size_t offset,
+                     uint8_t *to, size_t to_len);
+    uint32_t (*describe)(uint8_t *memory, size_t len, const struct vf_slot *slot, size_t *most, size_t *free);
+    uint32_t (*claim)(uint8_t *memory, size_t len, struct vf_slot *slot, size_t n, size_t *place);
+    uint32_t (*release)(uint8_t *memory, size_t len, struct vf_slot *slot, size_t place);
+    uint32_t (*resize)(uint8_t *memory, size_t len, struct vf_slot *slot, size_t place, ptrdiff_t delta,
+                       size_t *moved_to);
+    uint32_t (*block_size)(uint8_t *memory, size_t len, const struct vf_slot *slot, size_t place, size_t *size);
+};
+
+static const struct flex_calls TRUSTING_FLEX = {
+    vf_flex_alloc,
+    vf_flex_free,
+    vf_flex_size,
+    vf_flex_extend,
+    vf_flex_midextend,
+    vf_flex_place,
+    vf_flex_put,
+    vf_flex_read,
+    vf_flex_describe,
+    vf_flex_claim,
+    vf_flex_release,
+    vf_flex_resize,
+    vf_flex_block_size,
+};
+
+static const struct flex_calls CHECKED_FLEX = {
+    vf_flex_checked_alloc,
+    vf_flex_checked_free,
+    vf_flex_checked_size,
+    vf_flex_checked_extend,
+    vf_flex_checked_midextend,
+    vf_flex_checked_place,
+    vf_flex_checked_put,
+    vf_flex_checked_read,
+    vf_flex_checked_describe,
+    vf_flex_checked_claim,
+    vf_flex_checked_release,
+    vf_flex_checked_resize,
+    vf_flex_checked_block_size,
 };
 
 #endif

@@ -67,13 +67,18 @@ fn each_byte_of_an_image_changed(rt: HostRuntime) {
 
 /// Numbers that look random, the same in each run.
 #[derive(Drop)]
-struct Numbers {
+pub(crate) struct Numbers {
     last: u32,
 }
 
 impl Numbers {
+    /// The first of them is still to come.
+    pub(crate) fn new() -> Numbers {
+        Numbers { last: 1 }
+    }
+
     /// One of the numbers below a limit.
-    fn below(&mut self, limit: u32) -> u32
+    pub(crate) fn below(&mut self, limit: u32) -> u32
         requires { 0 < limit }
         ensures { result < limit }
     {
@@ -96,7 +101,7 @@ impl Numbers {
 }
 
 /// Writes a word at a place, so far as the image goes.
-fn put_word(image: &mut [u8], place: usize, word: u32) {
+pub(crate) fn put_word(image: &mut [u8], place: usize, word: u32) {
     for (byte, new) in image.iter_mut().skip(place).zip(word.to_le_bytes()) {
         *byte = new;
     }
@@ -116,7 +121,7 @@ fn scribble(numbers: &mut Numbers, image: &mut [u8]) {
 
 #[test]
 fn random_images(rt: HostRuntime) {
-    let mut numbers = Numbers { last: 1 };
+    let mut numbers = Numbers::new();
     let mut taken = 0u32;
     for _image in 0..IMAGES {
         let mut image = [0; 128];
@@ -168,7 +173,7 @@ fn bytes_of<S: Words>(store: &S, span: Span) -> [u8; 512]
 fn changed_words<R: Abort, S: Words>(rt: &R, store: &mut S, span: Span) -> u32
     requires { IsSpan (S.memory store.old) span }
 {
-    let mut numbers = Numbers { last: 1 };
+    let mut numbers = Numbers::new();
     let mut taken = 0u32;
     for _image in 0..IMAGES {
         change(store, span, &mut numbers);

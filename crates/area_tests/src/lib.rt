@@ -27,6 +27,8 @@ mod module_blocks;
 #[cfg(test)]
 mod same;
 #[cfg(test)]
+mod slot_images;
+#[cfg(test)]
 mod stores;
 #[cfg(test)]
 mod transfers;

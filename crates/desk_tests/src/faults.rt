@@ -109,6 +109,7 @@ fn want_of_memory_for_a_file_is_told(rt: HostRuntime) -> Result<(), Fail> {
         ["run", "a.desk"].as_slice(),
         ["run", "-", "a=a.bin"].as_slice(),
         ["check", "a.bin"].as_slice(),
+        ["check", "--slot", "a.bin"].as_slice(),
     ] {
         let none = ended_over(&NoMemory, &rt, words, b"areas\n".as_slice())?;
         is_told(&rt, &none, "rh_desk: no memory\n", 3);
@@ -162,6 +163,7 @@ fn a_full_output_is_a_fault(rt: HostRuntime) -> Result<(), Fail> {
         ["run", "-"].as_slice(),
         ["run", "full.desk"].as_slice(),
         ["check", "full.desk"].as_slice(),
+        ["check", "--slot", "full.desk"].as_slice(),
         ["--help"].as_slice(),
         ["run", "--help"].as_slice(),
         ["--version"].as_slice(),

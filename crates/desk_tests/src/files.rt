@@ -179,7 +179,7 @@ fn checked(rt: &HostRuntime, front: &str, length: usize) -> Result<Outcome, Fail
 }
 
 /// Compares what was said of a file, and how the program ended.
-fn said(rt: &impl Abort, checked: &Outcome, wanted: &str, status: u8) {
+pub(crate) fn said(rt: &impl Abort, checked: &Outcome, wanted: &str, status: u8) {
     same(rt, checked.output.as_slice(), wanted.as_bytes());
     is_true(rt, checked.errors.is_empty());
     same(rt, checked.status, status);

@@ -15,6 +15,8 @@ mod scarce;
 #[cfg(test)]
 mod scripts;
 #[cfg(test)]
+mod slot_files;
+#[cfg(test)]
 mod streams;
 #[cfg(test)]
 mod transfers;

@@ -250,8 +250,10 @@ const RUN_OF_A_FILE: [&str; 4] = ["vervainfile", "run", "short.desk", "f=short.b
 /// Words that give two files one name.
 const RUN_OF_TWO_NAMES: [&str; 5] = ["vervainfile", "run", "short.desk", "f=x", "f=x"];
 
-/// The words of a check of a file that is there, and of one that isn't.
+/// The words of a check of a file that is there, as a heap and as a slot, and of one that isn't.
 const CHECK: [&str; 3] = ["vervainfile", "check", "short.bin"];
+
+const CHECK_OF_A_SLOT: [&str; 4] = ["vervainfile", "check", "--slot", "short.bin"];
 
 const CHECK_OF_NO_FILE: [&str; 3] = ["vervainfile", "check", "lost.bin"];
 
@@ -267,6 +269,7 @@ fn runs_and_checks_are_refused_memory_in_turn(rt: HostRuntime) -> Result<(), Fai
         (RUN_OF_8_PAGES.as_slice(), AREAS_OF_8, "", 0),
         (RUN_OF_A_FILE.as_slice(), shown, "", 0),
         (CHECK.as_slice(), "bad BadDescriptor\n", "", 1),
+        (CHECK_OF_A_SLOT.as_slice(), "bad BadLength\n", "", 1),
         (CHECK_OF_NO_FILE.as_slice(), "", lost, 3),
         (RUN_OF_TWO_NAMES.as_slice(), "", bad_word, 2),
     ] {
@@ -282,7 +285,7 @@ const NO_SUBCOMMAND: &str = "\
 error: unrecognized subcommand 'walk'
 
 Usage: vervainfile run [--pages N] SCRIPT [NAME=PATH ...]
-       vervainfile check FILE
+       vervainfile check [--slot] FILE
        vervainfile                 (with no words: the script on standard input, over 64 pages)
 
 For more information, try '--help'.
@@ -300,12 +303,12 @@ const HELP: &str = "\
 The memory of a desktop, shared by its tasks
 
 Usage: vervainfile run [--pages N] SCRIPT [NAME=PATH ...]
-       vervainfile check FILE
+       vervainfile check [--slot] FILE
        vervainfile                 (with no words: the script on standard input, over 64 pages)
 
 Commands:
   run    Run a script and print its replies
-  check  Say whether the bytes of a file are a heap, and what it consists of
+  check  Say whether the bytes of a file are a heap or a slot, and what it consists of
   help   Print this message or the help of the given subcommand(s)
 
 Options:
@@ -318,8 +321,8 @@ Example:
   vervainfile run --pages 8 hello.desk picture=logo.spr
 
 Exit status:
-  0  each line was good, or the bytes are a heap
-  1  a line was bad, or the bytes are no heap
+  0  each line was good, or the bytes are a heap, or with --slot a slot
+  1  a line was bad, or the bytes are none
   2  the words are wrong
   3  a file, read, write, length or memory fault
 ";

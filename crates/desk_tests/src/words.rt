@@ -86,6 +86,12 @@ fn wrong_words_are_told(rt: HostRuntime) -> Result<(), Fail> {
         ["run", "--pages", "many", "x"].as_slice(),
         ["check"].as_slice(),
         ["check", "x", "y"].as_slice(),
+        ["check", "--slot"].as_slice(),
+        ["check", "--slot", "x", "y"].as_slice(),
+        ["check", "--slot", "--slot", "x"].as_slice(),
+        ["check", "--slot=x"].as_slice(),
+        ["check", "--slots", "x"].as_slice(),
+        ["run", "--slot", "x"].as_slice(),
         ["--"].as_slice(),
         ["ru", "-"].as_slice(),
         ["run", "-p", "9", "-"].as_slice(),
@@ -146,9 +152,9 @@ fn help_says_what_each_word_is(rt: HostRuntime) -> Result<(), Fail> {
     let program = [
         "The memory of a desktop, shared by its tasks",
         "vervainfile run [--pages N] SCRIPT [NAME=PATH ...]\n",
-        "vervainfile check FILE\n",
-        "  0  each line was good, or the bytes are a heap\n",
-        "  1  a line was bad, or the bytes are no heap\n",
+        "vervainfile check [--slot] FILE\n",
+        "  0  each line was good, or the bytes are a heap, or with --slot a slot\n",
+        "  1  a line was bad, or the bytes are none\n",
         "  2  the words are wrong\n",
         "  3  a file, read, write, length or memory fault\n",
     ];
@@ -159,7 +165,10 @@ fn help_says_what_each_word_is(rt: HostRuntime) -> Result<(), Fail> {
         "Files that the script may load, each by a name",
     ];
     helps(&rt, &ended(&rt, &["run", "--help"], b"")?, run.as_slice());
-    let check = ["The bytes of a heap, 1048576 at most"];
+    let check = [
+        "The bytes, 1048576 at most",
+        "Take the bytes for a slot, not for a heap",
+    ];
     helps(
         &rt,
         &ended(&rt, &["check", "--help"], b"")?,

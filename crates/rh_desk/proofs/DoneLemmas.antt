@@ -7,7 +7,6 @@ use Rattle.std.specs.declared.io.traits.Take.{Take}
 use Rattle.rh_defs.specs.Desk.{Desk}
 use Rattle.rh_defs.specs.Files.{FileList}
 use Rattle.rh_defs.specs.Runs.{start}
-use Rattle.rh_run.specs.Checked.{image_line, image_status}
 use Rattle.rh_lines.specs.Flow.{Breaks, Input, Takes}
 use Rattle.rh_session.specs.Outcome.{Answered, Finished, BrokeOff}
 use Rattle.rh_session.specs.declared.status.RunFault.{RunFault}
@@ -18,12 +17,13 @@ use Rattle.clap.specs.Words.{Row, Text, fault_of, subcommand_of}
 use Rattle.clap.specs.declared.error.kind.ErrorKind.{ErrorKind}
 use Rattle.clap.specs.declared.error.kind.ErrorKind.TheVariants as kind
 use Rattle.rh_desk.specs.CommandLine.{program_words}
-use Rattle.rh_desk.specs.Done.{CheckOver, ErrorEnds, FileOver, IsWhole, RequestEnds, RunEnds, RunOver, Streams, Untouched, WordsEnd}
+use Rattle.rh_desk.specs.Done.{CheckOver, ErrorEnds, FileOver, IsWhole, RequestEnds, RunEnds, RunOver, Streams, Untouched, WordsEnd, line_as, status_as}
 use Rattle.rh_desk.specs.Ending.{ending_of, exit_status}
 use Rattle.rh_desk.specs.FileWords.{AreGood, TellsBadFile, word_name}
 use Rattle.rh_desk.specs.Requests.{AsksFor, AsksNothing}
 use Rattle.rh_desk.specs.declared.ending.Ending.{Ending}
 use Rattle.rh_desk.specs.declared.ending.Ending.TheVariants.{Clean, BadLines, WrongWords, Fault}
+use Rattle.rh_desk.specs.declared.request.ImageKind.{ImageKind}
 use Rattle.rh_desk.specs.declared.request.Request.{Request}
 use Rattle.rh_desk.specs.Telling.{Tells, run_fault_text}
 
@@ -74,26 +74,26 @@ run-over d s (Err ReadFailed) ok memory read answered long so_far broke quiet to
 run-over d s (Err TooLong) ok memory read answered long so_far broke quiet told = (TooLong, ((long refl).0, (long refl).1, so_far refl), told TooLong refl)
 run-over d s (Err WriteFailed) ok memory read answered long so_far broke quiet told = (WriteFailed, broke refl, told WriteFailed refl)
 
-check-ends : (bytes : List ℕ) (s : Streams) (outcome : Result Status RunFault)
-    → IfOk outcome (λ status. Takes s.old s.new (image_line bytes))
-    → IfOk outcome (λ status. status ≡ image_status bytes)
-    → IfErr outcome (λ fault. (fault ≡ WriteFailed) × Breaks s.old s.new (image_line bytes))
+check-ends : (k : ImageKind) (bytes : List ℕ) (s : Streams) (outcome : Result Status RunFault)
+    → IfOk outcome (λ status. Takes s.old s.new (line_as k bytes))
+    → IfOk outcome (λ status. status ≡ status_as k bytes)
+    → IfErr outcome (λ fault. (fault ≡ WriteFailed) × Breaks s.old s.new (line_as k bytes))
     → ((status : Status) → outcome ≡ Ok status → s.told ≡ s.quiet)
     → ((fault : RunFault) → outcome ≡ Err fault → Tells s.quiet s.told (run_fault_text fault))
-    → CheckOver bytes s (ending_of outcome)
-check-ends bytes s (Ok status.Clean) takes is broke quiet told = (sym is, takes, quiet status.Clean refl)
-check-ends bytes s (Ok status.BadLines) takes is broke quiet told = (sym is, takes, quiet status.BadLines refl)
-check-ends bytes s (Err fault) takes is broke quiet told = (broke.1, subst (λ f. Tells s.quiet s.told (run_fault_text f)) broke.0 (told fault refl))
+    → CheckOver k bytes s (ending_of outcome)
+check-ends k bytes s (Ok status.Clean) takes is broke quiet told = (sym is, takes, quiet status.Clean refl)
+check-ends k bytes s (Ok status.BadLines) takes is broke quiet told = (sym is, takes, quiet status.BadLines refl)
+check-ends k bytes s (Err fault) takes is broke quiet told = (broke.1, subst (λ f. Tells s.quiet s.told (run_fault_text f)) broke.0 (told fault refl))
 
 -- how a check of bytes ends the program
-pub check-over : (image bytes : List ℕ) (s : Streams) (outcome : Result Status RunFault) → image ≡ bytes
-    → IfOk outcome (λ status. Takes s.old s.new (image_line image))
-    → IfOk outcome (λ status. status ≡ image_status image)
-    → IfErr outcome (λ fault. (fault ≡ WriteFailed) × Breaks s.old s.new (image_line image))
+pub check-over : (k : ImageKind) (image bytes : List ℕ) (s : Streams) (outcome : Result Status RunFault) → image ≡ bytes
+    → IfOk outcome (λ status. Takes s.old s.new (line_as k image))
+    → IfOk outcome (λ status. status ≡ status_as k image)
+    → IfErr outcome (λ fault. (fault ≡ WriteFailed) × Breaks s.old s.new (line_as k image))
     → ((status : Status) → outcome ≡ Ok status → s.told ≡ s.quiet)
     → ((fault : RunFault) → outcome ≡ Err fault → Tells s.quiet s.told (run_fault_text fault))
-    → CheckOver bytes s (ending_of outcome)
-check-over image bytes s outcome same takes is broke quiet told = subst (λ b. CheckOver b s (ending_of outcome)) same (check-ends image s outcome takes is broke quiet told)
+    → CheckOver k bytes s (ending_of outcome)
+check-over k image bytes s outcome same takes is broke quiet told = subst (λ b. CheckOver k b s (ending_of outcome)) same (check-ends k image s outcome takes is broke quiet told)
 
 -- what stops a run before its script
 pub files-fail : {F : Type 0} (remaining : F → Option (List ℕ)) (pages : ℕ) (script : List ℕ) (words : List (List ℕ)) (s : Streams) (ending : Ending) → AreGood words

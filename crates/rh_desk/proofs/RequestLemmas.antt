@@ -1,8 +1,9 @@
 -- What was found is what is asked for.
-use Rattle.std.proofs.Common.{◌≡◌, ◌≢◌, ◌≤◌, ap, arith, refl, subst, sym, ◌∙◌, ℕ, codes, List, [], map, Option, Some, None, Result, Ok, Err, Bor, option_map, unwrap_or}
+use Rattle.std.proofs.Common.{◌≡◌, ◌≢◌, ◌≤◌, ap, arith, refl, subst, sym, ◌∙◌, ℕ, codes, List, [], map, Bool, true, false, Option, Some, None, Result, Ok, Err, Bor, option_map, unwrap_or}
 use Rattle.std.specs.Str.Parse.{ParsesUnsigned}
 use Rattle.clap.specs.Words.{ReadsOne, Row, Text, first_of, one_of}
-use Rattle.rh_desk.specs.Requests.{AsksFor, AsksPages}
+use Rattle.rh_desk.specs.Requests.{AsksFor, AsksKind, AsksPages}
+use Rattle.rh_desk.specs.declared.request.ImageKind.TheVariants.{Heap, Slot}
 use Rattle.rh_desk.specs.declared.request.Request.{Request}
 use Rattle.rh_desk.specs.declared.request.Request.TheVariants.{Check, Run}
 
@@ -36,19 +37,29 @@ pub words-are : (found : Option (Bor (List (Bor Text)))) (others : Bor (List (Bo
 words-are (Some s) others all same none = ap (λ a. unwrap_or a []) same
 words-are None others all same none = ap (map (λ v. v.now)) none ∙ ap (λ a. unwrap_or a []) same
 
+-- a slot is asked for where the flag was found
+pub slot-asked : (text : Option Text) (flag : Bool) → (text ≡ None → flag ≡ false) → (text ≡ Some (codes "false") → flag ≡ false) → flag ≡ true → AsksKind text Slot
+slot-asked None flag none other is = absurd (let no = none refl in cc)
+slot-asked (Some t) flag none other is = (λ yes. refl, λ no. absurd (let is_false = other (ap Some no) in cc))
+
+-- and a heap where it wasn't
+pub heap-asked : (text : Option Text) (flag : Bool) → (text ≡ Some (codes "true") → flag ≡ true) → flag ≡ false → AsksKind text Heap
+heap-asked None flag value is = refl
+heap-asked (Some t) flag value is = (λ yes. absurd (let is_true = value (ap Some yes) in cc), λ no. refl)
+
 -- a check without a file asks for nothing
 pub asks-no-file : (name : Text) (rows : List Row) → name ≡ codes "check" → first_of (codes "file") rows ≡ None → (request : Request) → AsksFor (Some (name, rows)) request → ⊥
-asks-no-file name rows is none (Check file) asks = let some = asks.1 in cc
+asks-no-file name rows is none (Check k file) asks = let some = asks.2 in cc
 asks-no-file name rows is none (Run request) asks = asks.0 is
 
 -- neither does a run without a script
 pub asks-no-script : (name : Text) (rows : List Row) → name ≢ codes "check" → first_of (codes "script") rows ≡ None → (request : Request) → AsksFor (Some (name, rows)) request → ⊥
-asks-no-script name rows other none (Check file) asks = other asks.0
+asks-no-script name rows other none (Check k file) asks = other asks.0
 asks-no-script name rows other none (Run request) asks = let some = asks.2 in cc
 
 -- nor one over pages out of the range
 pub asks-no-pages : (name : Text) (rows : List Row) (pages : ℕ) → name ≢ codes "check"
     → ((asked : ℕ) → 8 ≤ asked → asked ≤ 1024 → AsksPages (one_of (codes "pages") rows) asked → (8 ≤ pages) × (pages ≤ 1024))
     → ((8 ≤ pages) × (pages ≤ 1024) → ⊥) → (request : Request) → AsksFor (Some (name, rows)) request → ⊥
-asks-no-pages name rows pages other fit out (Check file) asks = other asks.0
+asks-no-pages name rows pages other fit out (Check k file) asks = other asks.0
 asks-no-pages name rows pages other fit out (Run request) asks = out (fit request.pages request.fewest request.most asks.1)

@@ -1,9 +1,9 @@
--- What the program's words may be: `run [--pages N] SCRIPT [NAME=PATH ...]`, and `check FILE`.
+-- What the program's words may be: `run [--pages N] SCRIPT [NAME=PATH ...]`, and `check [--slot] FILE`.
 use Rattle.std.specs.Prelude.{Some, codes, pos, true}
 use Rattle.clap.specs.Lexer.{usize_max}
 use Rattle.clap.specs.Simple.{App, new_app, new_rule, on_top, with_rule, with_subcommand}
 use Rattle.clap.specs.Walk.{Rule, Text}
-use Rattle.clap.specs.declared.builder.action.ArgAction.TheVariants.{Append, Set}
+use Rattle.clap.specs.declared.builder.action.ArgAction.TheVariants.{Append, Set, SetTrue}
 use Rattle.clap.specs.declared.builder.value_parser.ValueParser.TheVariants.{Signed}
 
 -- `--pages N`, of 8 to 1,024
@@ -29,8 +29,12 @@ files_rule = record (new_rule (codes "files")) {
 abbrev pub run_words : App
 run_words = with_rule (with_rule (with_rule (new_app (codes "run")) pages_rule) (needed_rule (codes "script"))) files_rule
 
+-- `--slot`
+abbrev pub slot_rule : Rule
+slot_rule = record (new_rule (codes "slot")) { long = Some (codes "slot"); action = Some SetTrue }
+
 abbrev pub check_words : App
-check_words = with_rule (new_app (codes "check")) (needed_rule (codes "file"))
+check_words = with_rule (with_rule (new_app (codes "check")) slot_rule) (needed_rule (codes "file"))
 
 -- a subcommand is required, and the program has a version
 abbrev pub program_top : App

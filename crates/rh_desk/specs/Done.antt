@@ -9,9 +9,11 @@ use Rattle.rh_defs.specs.Files.{FileList}
 use Rattle.rh_defs.specs.Runs.{start}
 use Rattle.rh_lines.specs.Flow.{Input, Output, Takes, Breaks}
 use Rattle.rh_run.specs.Checked.{image_line, image_status}
+use Rattle.rh_run.specs.CheckedSlot.{slot_image_line, slot_image_status}
 use Rattle.rh_session.specs.Outcome.{Answered, Finished, BrokeOff}
 use Rattle.rh_session.specs.declared.status.RunFault.{RunFault}
 use Rattle.rh_session.specs.declared.status.RunFault.TheVariants.{NoMemory, ReadFailed, WriteFailed, TooLong}
+use Rattle.rh_session.specs.declared.status.Status.{Status}
 use Rattle.rh_session.specs.declared.status.Status.TheVariants as status
 use Rattle.rh_desk.specs.CommandLine.{program_words}
 use Rattle.rh_desk.specs.FileWords.{AreGood, TellsBadWord, word_name, word_path}
@@ -19,6 +21,8 @@ use Rattle.rh_desk.specs.Requests.{AsksFor, AsksNothing}
 use Rattle.rh_desk.specs.Telling.{Tells, lost_file_text, run_fault_text}
 use Rattle.rh_desk.specs.declared.ending.Ending.{Ending}
 use Rattle.rh_desk.specs.declared.ending.Ending.TheVariants.{Clean, BadLines, WrongWords, Fault}
+use Rattle.rh_desk.specs.declared.request.ImageKind.{ImageKind}
+use Rattle.rh_desk.specs.declared.request.ImageKind.TheVariants.{Heap, Slot}
 use Rattle.rh_desk.specs.declared.request.Request.{Request}
 use Rattle.rh_desk.specs.declared.request.Request.TheVariants.{Check, Run}
 
@@ -91,20 +95,30 @@ RunEnds remaining pages script words s ending =
     ⊎ (Untouched s
     × (TellsBadWord s.quiet s.told words ending ⊎ (AreGood words × TellsLostFile s.quiet s.told words ending)))
 
+-- the line of some bytes, taken for a heap or for a slot
+abbrev pub line_as : ImageKind → List ℕ → List ℕ
+line_as Heap bytes = image_line bytes
+line_as Slot bytes = slot_image_line bytes
+
+-- the status, clean exactly where they are one
+abbrev pub status_as : ImageKind → List ℕ → Status
+status_as Heap bytes = image_status bytes
+status_as Slot bytes = slot_image_status bytes
+
 -- how a check of some bytes ends: their line is written, and the status is theirs
-abbrev pub CheckOver : List ℕ → Streams → Ending → Type 0
-CheckOver bytes s Clean =
-    (image_status bytes ≡ status.Clean) × Takes s.old s.new (image_line bytes) × (s.told ≡ s.quiet)
-CheckOver bytes s BadLines =
-    (image_status bytes ≡ status.BadLines) × Takes s.old s.new (image_line bytes) × (s.told ≡ s.quiet)
-CheckOver bytes s WrongWords = ⊥
-CheckOver bytes s Fault =
-    Breaks s.old s.new (image_line bytes) × Tells s.quiet s.told (run_fault_text WriteFailed)
+abbrev pub CheckOver : ImageKind → List ℕ → Streams → Ending → Type 0
+CheckOver k bytes s Clean =
+    (status_as k bytes ≡ status.Clean) × Takes s.old s.new (line_as k bytes) × (s.told ≡ s.quiet)
+CheckOver k bytes s BadLines =
+    (status_as k bytes ≡ status.BadLines) × Takes s.old s.new (line_as k bytes) × (s.told ≡ s.quiet)
+CheckOver k bytes s WrongWords = ⊥
+CheckOver k bytes s Fault =
+    Breaks s.old s.new (line_as k bytes) × Tells s.quiet s.told (run_fault_text WriteFailed)
 
 -- how `check` ends: with the line of all bytes of a file, or nothing is written and the lost file, or want of memory, told
-abbrev pub CheckEnds : {F : Type 0} → (F → Option (List ℕ)) → List ℕ → Streams → Ending → Type 0
-CheckEnds remaining path s ending =
-    ((bytes : List ℕ) × IsWhole remaining bytes × CheckOver bytes s ending)
+abbrev pub CheckEnds : {F : Type 0} → (F → Option (List ℕ)) → ImageKind → List ℕ → Streams → Ending → Type 0
+CheckEnds remaining k path s ending =
+    ((bytes : List ℕ) × IsWhole remaining bytes × CheckOver k bytes s ending)
     ⊎ ((s.new ≡ s.old) × (ending ≡ Fault)
     × (Tells s.quiet s.told (lost_file_text path) ⊎ Tells s.quiet s.told (run_fault_text NoMemory)))
 
@@ -112,7 +126,7 @@ CheckEnds remaining path s ending =
 abbrev pub RequestEnds : {F : Type 0} → (F → Option (List ℕ)) → Request → Streams → Ending → Type 0
 RequestEnds remaining (Run request) s ending =
     RunEnds remaining request.pages request.script.now (map (λ word. word.now) request.files.now) s ending
-RequestEnds remaining (Check file) s ending = (s.after ≡ s.before) × CheckEnds remaining file.now s ending
+RequestEnds remaining (Check k file) s ending = (s.after ≡ s.before) × CheckEnds remaining k file.now s ending
 
 -- how an error of some kind in the words ends: help and the version are written, all else is told
 abbrev pub ErrorEnds : ErrorKind → Streams → Ending → Type 0

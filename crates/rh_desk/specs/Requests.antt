@@ -2,6 +2,8 @@
 use Rattle.std.specs.Prelude.{◌≡◌, ◌≢◌, ◌<◌, ◌^◌, ℕ, List, [], map, codes, Option, Some, None, unwrap_or}
 use Rattle.std.specs.Str.Parse.{IsNumeral, digits_value, without_leading_plus}
 use Rattle.clap.specs.Words.{Row, Text, all_of, first_of, one_of}
+use Rattle.rh_desk.specs.declared.request.ImageKind.{ImageKind}
+use Rattle.rh_desk.specs.declared.request.ImageKind.TheVariants.{Heap, Slot}
 use Rattle.rh_desk.specs.declared.request.Request.{Request}
 use Rattle.rh_desk.specs.declared.request.Request.TheVariants.{Check, Run}
 
@@ -12,10 +14,18 @@ AsksPages (Some text) pages =
     let digits = without_leading_plus text in
     IsNumeral 10 digits → digits_value 10 digits < 2 ^ 32 → pages ≡ digits_value 10 digits
 
+-- a slot where the flag was given, for which `clap` keeps `true`, and else a heap
+abbrev pub AsksKind : Option Text → ImageKind → Type 0
+AsksKind None k = k ≡ Heap
+AsksKind (Some text) k = (text ≡ codes "true" → k ≡ Slot) × (text ≡ codes "false" → k ≡ Heap)
+
 -- the subcommand's name and values ask for just this
 abbrev pub AsksFor : Option (Text × List Row) → Request → Type 0
 AsksFor None request = ⊥
-AsksFor (Some (name, rows)) (Check file) = (name ≡ codes "check") × (first_of (codes "file") rows ≡ Some file.now)
+AsksFor (Some (name, rows)) (Check k file) =
+    (name ≡ codes "check")
+    × AsksKind (one_of (codes "slot") rows) k
+    × (first_of (codes "file") rows ≡ Some file.now)
 AsksFor (Some (name, rows)) (Run request) =
     (name ≢ codes "check")
     × AsksPages (one_of (codes "pages") rows) request.pages

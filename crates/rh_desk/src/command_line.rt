@@ -1,11 +1,11 @@
 //! The program's words.
 
-ghost use Rattle.std.specs.Prelude.{◌≡◌, IfOk, IfSome, map, string_bytes};
-ghost use Rattle.clap.specs.Words.{FailsBy, app_of, fault_of, subcommand_of, subcommand_rows_of};
+ghost use Rattle.std.specs.Prelude.{◌≡◌, IfOk, IfSome, codes, map, string_bytes};
+ghost use Rattle.clap.specs.Words.{FailsBy, app_of, fault_of, found_of, one_of, rows_of, subcommand_of, subcommand_rows_of};
 ghost use Rattle.rh_desk.specs.CommandLine.{check_words, program_words, run_words};
-ghost use Rattle.rh_desk.specs.Requests.{AsksFor, AsksNothing};
+ghost use Rattle.rh_desk.specs.Requests.{AsksFor, AsksKind, AsksNothing};
 
-use crate::request::{Request, RunRequest};
+use crate::request::{ImageKind, Request, RunRequest};
 use clap::{Arg, ArgAction, ArgMatches, Command, Error, value_parser};
 use rh_defs::sizes::{MAX_PAGES, MIN_PAGES};
 use std::alloc::{AllocError, Global};
@@ -16,7 +16,7 @@ pub const PAGES: u32 = 64;
 /// How the program is called.
 const USAGE: &str = "\
 vervainfile run [--pages N] SCRIPT [NAME=PATH ...]
-       vervainfile check FILE
+       vervainfile check [--slot] FILE
        vervainfile                 (with no words: the script on standard input, over 64 pages)";
 
 /// What stands under the help.
@@ -27,8 +27,8 @@ Example:
   vervainfile run --pages 8 hello.desk picture=logo.spr
 
 Exit status:
-  0  each line was good, or the bytes are a heap
-  1  a line was bad, or the bytes are no heap
+  0  each line was good, or the bytes are a heap, or with --slot a slot
+  1  a line was bad, or the bytes are none
   2  the words are wrong
   3  a file, read, write, length or memory fault";
 
@@ -40,7 +40,8 @@ pub fn request_of<'m, 'a>(matches: &'m ArgMatches<'a>) -> Option<Request<'m, 'a>
     let (name, found) = matches.subcommand()?;
     if name == "check" {
         let file = found.get_str("file")?;
-        return Some(Request::Check { file });
+        let kind = image_kind(found);
+        return Some(Request::Check { kind, file });
     }
     let pages = found.get_one::<u32>("pages").unwrap_or(PAGES);
     let script = found.get_str("script")?;
@@ -53,6 +54,17 @@ pub fn request_of<'m, 'a>(matches: &'m ArgMatches<'a>) -> Option<Request<'m, 'a>
         script,
         files,
     }))
+}
+
+/// What the bytes are to be: a slot where `--slot` was given, else a heap.
+fn image_kind(found: &ArgMatches<'_>) -> ImageKind
+    ensures { AsksKind (one_of (codes "slot") (rows_of (found_of found.now))) result }
+{
+    if found.get_flag("slot") {
+        ImageKind::Slot
+    } else {
+        ImageKind::Heap
+    }
 }
 
 /// The words, as far as `clap` knows them.
@@ -100,13 +112,18 @@ fn running<'a>(alloc: Global) -> Result<Command<'a>, AllocError>
 fn checking<'a>(alloc: Global) -> Result<Command<'a>, AllocError>
     ensures { IfOk result (λ command. app_of command ≡ check_words) }
 {
+    let slot = Arg::new(alloc, "slot")
+        .long("slot")
+        .help("Take the bytes for a slot, not for a heap")
+        .action(ArgAction::SetTrue);
     let file = Arg::new(alloc, "file")
         .value_name("FILE")
-        .help("The bytes of a heap, 1048576 at most")
+        .help("The bytes, 1048576 at most")
         .required(true)
         .action(ArgAction::Set);
     Command::new(alloc, "check")
-        .about("Say whether the bytes of a file are a heap, and what it consists of")
+        .about("Say whether the bytes of a file are a heap or a slot, and what it consists of")
         .after_help(MORE)
+        .arg(slot)?
         .arg(file)
 }

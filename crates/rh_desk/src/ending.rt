@@ -5,9 +5,9 @@ ghost use Rattle.std.specs.Prelude.{◌≡◌};
 /// How the program ends.
 #[derive(Clone, Copy, Debug, PartialEq, Eq)]
 pub enum Ending {
-    /// A clean run, a good heap, help or the version.
+    /// A clean run, a good heap or slot, help or the version.
     Clean,
-    /// A run with a bad line, or bytes that are no heap.
+    /// A run with a bad line, or bytes that are no heap or slot.
     BadLines,
     /// The words are wrong.
     WrongWords,

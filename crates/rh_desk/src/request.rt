@@ -13,10 +13,17 @@ pub struct RunRequest<'m, 'a> {
     ghost most: { pages ≤ MAX_PAGES },
 }
 
+/// What the bytes of a file are to be.
+#[derive(Clone, Copy, Debug, PartialEq, Eq)]
+pub enum ImageKind {
+    Heap,
+    Slot,
+}
+
 /// What the words ask for.
 pub enum Request<'m, 'a> {
     /// To run a script.
     Run(RunRequest<'m, 'a>),
-    /// To say whether the bytes of a file are a heap.
-    Check { file: &'a str },
+    /// To say whether the bytes of a file are of this kind.
+    Check { kind: ImageKind, file: &'a str },
 }

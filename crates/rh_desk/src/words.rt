@@ -1,11 +1,11 @@
 //! What the program does with its words.
 
-ghost use Rattle.std.specs.Prelude.{◌≡◌, ◌≢◌, ◌≤◌, ◌<◌, [], codes, length, map, string_bytes};
+ghost use Rattle.std.specs.Prelude.{◌≡◌, ◌≢◌, ◌≤◌, ◌<◌, [], codes, length, map, string_bytes, IfOk, IfErr};
 ghost use Rattle.rh_defs.specs.Runs.{start};
-ghost use Rattle.rh_desk.specs.Done.{CheckEnds, RunEnds, RunOver, WordsEnd, streams};
+ghost use Rattle.rh_desk.specs.Done.{CheckEnds, RunEnds, RunOver, WordsEnd, line_as, status_as, streams};
 ghost use Rattle.rh_desk.specs.Ending.{ending_of, exit_status};
 ghost use Rattle.rh_desk.specs.Telling.{Tells, run_fault_text};
-ghost use Rattle.rh_lines.specs.Flow.{Input};
+ghost use Rattle.rh_lines.specs.Flow.{Breaks, Input, Takes};
 ghost use Rattle.rh_session.specs.Outcome.{Finished};
 ghost use Rattle.std.specs.IoError.{error_kind};
 ghost use Rattle.std.specs.declared.io.ErrorKind.TheVariants.{OutOfMemory};
@@ -14,11 +14,11 @@ ghost use Rattle.rh_defs.specs.declared.sizes.TheConstants.{MAX_PAGES, MIN_PAGES
 use crate::command_line::{PAGES, parsed, request_of};
 use crate::ending::Ending;
 use crate::files::{check_words, read_files, read_whole};
-use crate::request::{Request, RunRequest};
+use crate::request::{ImageKind, Request, RunRequest};
 use crate::telling::{ended, tell_file, told};
 use rh_defs::Files;
 use rh_lines::{Flagged, Sink, Source, put};
-use rh_run::{RunFault, Status, check_image, run};
+use rh_run::{RunFault, Status, check_image, check_slot_image, run};
 use std::alloc::Global;
 use std::fs::File;
 use std::{io, rt};
@@ -27,8 +27,8 @@ use std::{io, rt};
 const INPUT: &str = "-";
 
 /// Runs the program on its words, of which the first is its own name, and answers its exit status:
-/// 0 for a clean run, a good heap, help or the version, 1 for a bad line or a bad heap, 2 for wrong words, 3 for a file, read,
-/// write, length or memory fault.
+/// 0 for a clean run, a good heap or slot, help or the version, 1 for a bad line, heap or slot, 2 for wrong words, 3 for
+/// a file, read, write, length or memory fault.
 pub fn program<R: rt::Files, I: Source, O: Sink, E: Sink>(
     runtime: &R,
     alloc: Global,
@@ -125,7 +125,9 @@ fn run_words<R: rt::Files, I: Source, O: Sink, E: Sink>(
         Err(error) => return told(alloc, &error, output, errors),
     };
     match request_of(&matches) {
-        Some(Request::Check { file }) => check_file(runtime, alloc, file, output, errors),
+        Some(Request::Check { kind, file }) => {
+            check_file(runtime, alloc, kind, file, output, errors)
+        }
         Some(Request::Run(request)) => {
             run_request(runtime, alloc, &request, input, output, errors)
         }
@@ -170,21 +172,34 @@ fn run_request<R: rt::Files, I: Source, O: Sink, E: Sink>(
     }
 }
 
-/// Says whether the bytes of a file are a heap.
+/// Says whether the bytes of a file are of a kind.
 fn check_file<R: rt::Files, O: Sink, E: Sink>(
     runtime: &R,
     alloc: Global,
+    kind: ImageKind,
     path: &str,
     output: &mut O,
     errors: &mut E,
 ) -> Ending
     ensures well { exit_status result ≤ 1 → (O.output output.new).failed ≡ (O.output output.old).failed }
     ensures run { result ≡ Ending.WrongWords → ⊥ }
-    ensures ends { (before : Input) → CheckEnds R.File.remaining path.now
+    ensures ends { (before : Input) → CheckEnds R.File.remaining kind path.now
         (streams before before (O.output output.old) (O.output output.new) (E.output errors.old) (E.output errors.new)) result }
 {
     match read_whole(runtime, alloc, path, errors) {
-        Ok(bytes) => ended(check_image(bytes.as_slice(), output), errors),
+        Ok(bytes) => ended(check_bytes(kind, bytes.as_slice(), output), errors),
         Err(ending) => ending,
+    }
+}
+
+/// Writes what bytes of a kind consist of, or what is wrong with them.
+fn check_bytes<O: Sink>(kind: ImageKind, bytes: &[u8], output: &mut O) -> Result<Status, RunFault>
+    ensures ok { IfOk result (λ status. Takes (O.output output.old) (O.output output.new) (line_as kind bytes.now)) }
+    ensures status { IfOk result (λ status. status ≡ status_as kind bytes.now) }
+    ensures err { IfErr result (λ fault. (fault ≡ RunFault.WriteFailed) × Breaks (O.output output.old) (O.output output.new) (line_as kind bytes.now)) }
+{
+    match kind {
+        ImageKind::Heap => check_image(bytes, output),
+        ImageKind::Slot => check_slot_image(bytes, output),
     }
 }

@@ -1,4 +1,5 @@
 pub mod Examples
+pub mod ImageLaws
 pub mod Over
 pub mod SlotBytes
 pub mod WriteLaws

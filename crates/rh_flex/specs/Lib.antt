@@ -1,3 +1,4 @@
+pub mod Image
 pub mod Pages
 pub mod Slots
 pub mod Write

@@ -4,6 +4,7 @@
 
 mod c_heap;
 mod flex;
+mod image;
 mod pages;
 mod row;
 mod slot;

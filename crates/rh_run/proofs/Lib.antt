@@ -1,4 +1,5 @@
 mod SumLaws
+mod SlotSumLaws
 mod FreshLaws
 mod ReplyLaws
 mod SafeLaws

@@ -1,12 +1,13 @@
 //! Whether bytes are a heap, as a line of text.
 
-ghost use Rattle.std.specs.Prelude.{◌≡◌, ◌+◌, ◌<◌, ◌≤◌, ◌^◌, ◌++◌, codes, length, IfOk, IfErr};
+ghost use Rattle.std.specs.Prelude.{◌≡◌, ◌+◌, ◌<◌, ◌≤◌, ◌^◌, [], ◌∷◌, ◌++◌, codes, length, IfOk, IfErr};
 ghost use Rattle.std.specs.Fmt.{decimal};
 ghost use Rattle.rh_defs.specs.Bytes.{word};
+ghost use Rattle.rh_defs.specs.Text.{line};
 ghost use Rattle.rh_defs.specs.declared.sizes.TheConstants.{HEAP_END, HEAP_FIRST};
 ghost use Rattle.rh_lines.specs.Flow.{Breaks, Takes};
 ghost use Rattle.rh_lines.specs.declared.row.TheConstants.{ROW};
-ghost use Rattle.rh_run.specs.Checked.{AreWords, image_line, image_status, fault_name, fault_line, sums_line};
+ghost use Rattle.rh_run.specs.Checked.{AreWords, image_line, image_status, fault_name, sums_line};
 
 use rh_defs::HeapFault;
 use rh_heap::{Summary, check};
@@ -26,7 +27,7 @@ pub fn check_image<W: Sink>(image: &[u8], writer: &mut W) -> Result<Status, RunF
             has_small_end(image);
             (Status::Clean, sums_row(&sums))
         }
-        Err(fault) => (Status::BadLines, fault_row(fault)),
+        Err(fault) => (Status::BadLines, fault_row(fault_name(fault))),
     };
     match put(writer, row.as_slice()) {
         Ok(()) => Ok(status),
@@ -58,7 +59,7 @@ fn sums_row(sums: &Summary) -> Row
 }
 
 /// Adds a space and a sum.
-fn add_sum(row: &mut Row, sum: usize)
+pub fn add_sum(row: &mut Row, sum: usize)
     requires small { sum < 2 ^ 32 }
     requires room { length row.old + 12 ≤ ROW }
     ensures value { row.new ≡ row.old ++ (codes " " ++ decimal sum) }
@@ -68,13 +69,14 @@ fn add_sum(row: &mut Row, sum: usize)
     row.decimal(sum as u32);
 }
 
-/// The line of a fault.
-fn fault_row(fault: HeapFault) -> Row
-    ensures { result ≡ fault_line fault }
+/// The line of the fault of this name.
+pub fn fault_row(name: &[u8]) -> Row
+    requires { length name.now ≤ 21 }
+    ensures { result ≡ line (codes "bad") (name.now ∷ []) }
 {
     let mut row = Row::new();
     row.text(b"bad ");
-    row.text(fault_name(fault));
+    row.text(name);
     row.byte(b'\n');
     row
 }

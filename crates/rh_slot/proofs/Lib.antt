@@ -14,4 +14,6 @@ pub mod GrowLaws
 pub mod CHeapLaws
 pub mod ItemLaws
 pub mod PageLaws
+pub mod ImageLaws
+pub mod ImageWalks
 pub mod Examples

@@ -3,3 +3,4 @@ pub mod Calls
 pub mod Row
 pub mod Flex
 pub mod CHeap
+pub mod Image

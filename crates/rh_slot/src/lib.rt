@@ -5,9 +5,11 @@ mod area;
 mod bytes;
 mod c_heap;
 mod flex;
+mod image;
 mod row;
 mod slot;
 
 pub use bytes::{free_anchor, put_from, write_from};
+pub use image::{LONGEST_SLOT, SlotFault, SlotSummary, check};
 pub use row::FlexWalk;
 pub use slot::Slot;

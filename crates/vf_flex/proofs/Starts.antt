@@ -6,7 +6,8 @@ use Rattle.rh_defs.specs.Chain.{◌>>=◌, refuse_if, outcome_of}
 use Rattle.rh_defs.specs.Slot.{new_slot, slot_begin}
 use Rattle.rh_defs.specs.declared.refusal.Refusal.{Refusal}
 use Rattle.rh_flex.specs.declared.slot.LentSlot.{LentSlot}
-use Rattle.vf_flex.specs.Status.{length_status, longest, slot_status}
+use Rattle.rh_slot.specs.declared.image.TheConstants.{LONGEST_SLOT}
+use Rattle.vf_flex.specs.Status.{length_status, slot_status}
 
 begins : (n : ℕ) → 1 ≤ n → slot_begin n ≡ Ok new_slot
 unfolding slot_begin ◌>>=◌ refuse_if
@@ -30,6 +31,6 @@ granted n refusal e is =
     absurd cc
 
 -- no slot lies in more than 28 MiB
-pub within : (n : ℕ) (s : LentSlot) → slot_status n s ≡ 0 → n ≤ longest
+pub within : (n : ℕ) (s : LentSlot) → slot_status n s ≡ 0 → n ≤ LONGEST_SLOT
 unfolding slot_status length_status
 within n s e = grind (arith, nat_tests)

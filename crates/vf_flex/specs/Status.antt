@@ -1,12 +1,18 @@
 -- Statuses: how a call ended, as a number.
-use Rattle.std.specs.Prelude.{ℕ, ◌-◌, ◌*◌, ◌/◌, ◌^◌, ◌==◌, nat_le, nat_lt, ◌&&◌, if◌then◌else◌, Ok, Err}
+use Rattle.std.specs.Prelude.{ℕ, ◌-◌, ◌/◌, ◌==◌, nat_le, nat_lt, ◌&&◌, if◌then◌else◌, List, length, Option, Some, None, Ok, Err}
 use Rattle.rh_defs.specs.Chain.{Granted, answer_of}
 use Rattle.rh_defs.specs.Slot.{Slot, anchor_count, slot_start}
+use Rattle.rh_defs.specs.declared.heap.HeapFault.{HeapFault}
+use Rattle.rh_defs.specs.declared.heap.HeapFault.TheVariants as heap
 use Rattle.rh_defs.specs.declared.refusal.Refusal.{Refusal}
 use Rattle.rh_defs.specs.declared.refusal.Refusal.TheVariants.{NoBlock, AnchorInUse, NotABlock, BadRange, BadSize}
 use Rattle.rh_defs.specs.declared.refusal.Refusal.TheVariants.{NoBudge, NoRoom}
 use Rattle.rh_defs.specs.declared.sizes.TheConstants.{PAGE}
+use Rattle.rh_flex.specs.Image.{pages_fault_of}
 use Rattle.rh_flex.specs.declared.slot.LentSlot.{LentSlot}
+use Rattle.rh_slot.specs.declared.image.SlotFault.{SlotFault}
+use Rattle.rh_slot.specs.declared.image.SlotFault.TheVariants as fault
+use Rattle.rh_slot.specs.declared.image.TheConstants.{LONGEST_SLOT}
 
 -- the status of a refusal: its number in the one order of all refusals; the last is for those that no slot has
 abbrev pub refusal_status : Refusal → ℕ
@@ -35,9 +41,24 @@ bad_anchor = 38
 abbrev pub no_slot : ℕ
 no_slot = 39
 
--- the most bytes in which a slot may lie: the 28 MiB of application space
-abbrev pub longest : ℕ
-longest = 28 * 2 ^ 20
+-- the status of a fault of the C heap: that of a heap
+abbrev pub heap_fault_status : HeapFault → ℕ
+heap_fault_status heap.BadDescriptor = 35
+heap_fault_status heap.BadLink = 36
+heap_fault_status heap.BadSize = 37
+
+-- the status of a fault
+abbrev pub fault_status : SlotFault → ℕ
+fault_status fault.BadLength = bad_length
+fault_status (fault.BadHeap f) = heap_fault_status f
+fault_status fault.BadSize = 40
+fault_status fault.BadAnchor = 41
+fault_status fault.SparePage = 42
+
+-- the status of the first fault, 0 where there is none
+abbrev pub found_status : Option SlotFault → ℕ
+found_status None = 0
+found_status (Some f) = fault_status f
 
 -- the status of an answer
 abbrev pub answer_status : {A : Type 0} → Granted A → ℕ
@@ -60,7 +81,7 @@ status_of granted = answer_status (answer_of granted)
 
 -- 0 where so many bytes may have a slot: from a page up to 28 MiB
 unfoldable pub length_status : ℕ → ℕ
-length_status n = if nat_le PAGE n && nat_le n longest then 0 else bad_length
+length_status n = if nat_le PAGE n && nat_le n LONGEST_SLOT then 0 else bad_length
 
 -- 0 where the pages of a slot that was started lie in so many bytes
 unfoldable pub slot_status : ℕ → LentSlot → ℕ
@@ -78,3 +99,18 @@ anchor_status n s k =
 unfoldable pub place_status : ℕ → LentSlot → ℕ → ℕ
 place_status n s x =
     if slot_status n s == 0 then (if nat_lt x n then 0 else refusal_status NotABlock) else slot_status n s
+
+-- ---- what a call answers that trusts no bytes
+
+-- 0 where besides the pages of the slot spell one; else their first fault
+unfoldable pub image_status : List ℕ → LentSlot → ℕ
+image_status b s =
+    if slot_status (length b) s == 0 then found_status (pages_fault_of b s) else slot_status (length b) s
+
+-- 0 where besides the slot has this anchor
+unfoldable pub checked_anchor_status : List ℕ → LentSlot → ℕ → ℕ
+checked_anchor_status b s k = if image_status b s == 0 then anchor_status (length b) s k else image_status b s
+
+-- 0 where besides a place lies in the bytes
+unfoldable pub checked_place_status : List ℕ → LentSlot → ℕ → ℕ
+checked_place_status b s x = if image_status b s == 0 then place_status (length b) s x else image_status b s

@@ -1,20 +1,19 @@
 //! Whether what a call is given can be looked at: how many bytes there are, and what is asked for by a number.
 ghost use Rattle.std.specs.Prelude.{◌≡◌, ◌<◌};
 ghost use Rattle.rh_defs.specs.declared.sizes.TheConstants.{ANCHORS};
-ghost use Rattle.vf_flex.specs.Status.{anchor_status, length_status, longest, place_status, slot_status};
+ghost use Rattle.rh_slot.specs.declared.image.TheConstants.{LONGEST_SLOT};
+ghost use Rattle.vf_flex.specs.Status.{anchor_status, length_status, place_status, slot_status};
 
 use crate::status::{BAD_ANCHOR, BAD_LENGTH, NO_SLOT, NOT_A_BLOCK, OK, SHORT};
 use rh_defs::sizes::{ANCHORS, PAGE};
 use rh_flex::LentSlot;
-
-/// The most bytes in which a slot may lie: the 28 MiB of application space.
-const LONGEST: usize = 0x01C0_0000;
+use rh_slot::LONGEST_SLOT;
 
 /// Whether so many bytes may have a slot.
 pub fn length_status(len: usize) -> u32
     ensures { result ≡ length_status len }
 {
-    if len < PAGE || LONGEST < len {
+    if len < PAGE || LONGEST_SLOT < len {
         return BAD_LENGTH;
     }
     OK
@@ -53,7 +52,7 @@ pub fn anchor_status(len: usize, slot: LentSlot, anchor: u32) -> u32
 pub fn place_status(len: usize, slot: LentSlot, place: usize) -> u32
     ensures status { result ≡ place_status len slot place }
     ensures slot { result ≡ 0 → slot_status len slot ≡ 0 }
-    ensures place { result ≡ 0 → place < longest }
+    ensures place { result ≡ 0 → place < LONGEST_SLOT }
 {
     match slot_status(len, slot) {
         OK if place >= len => NOT_A_BLOCK,

@@ -1,9 +1,10 @@
 //! Statuses: how a call ended, as a number. The header for C has the same numbers.
 ghost use Rattle.std.specs.Prelude.{◌≡◌};
-ghost use Rattle.vf_flex.specs.Status.{answer_or, answer_status, place_or, refusal_status};
+ghost use Rattle.vf_flex.specs.Status.{answer_or, answer_status, fault_status, heap_fault_status, place_or, refusal_status};
 
-use rh_defs::Refusal;
 use rh_defs::sizes::SLOT_START;
+use rh_defs::{HeapFault, Refusal};
+use rh_slot::SlotFault;
 
 /// All was done.
 pub const OK: u32 = 0;
@@ -35,11 +36,29 @@ pub const BAD_LENGTH: u32 = 33;
 /// The bytes are fewer than the slot's.
 pub const SHORT: u32 = 34;
 
+/// The descriptor of the C heap isn't that of a heap.
+pub const BAD_DESCRIPTOR: u32 = 35;
+
+/// A link of the C heap doesn't lead to a hole ahead.
+pub const BAD_LINK: u32 = 36;
+
+/// A size in the C heap isn't that of a segment.
+pub const BAD_SEGMENT: u32 = 37;
+
 /// No slot has this anchor.
 pub const BAD_ANCHOR: u32 = 38;
 
 /// No slot was started.
 pub const NO_SLOT: u32 = 39;
+
+/// A flex block goes past the slot's end.
+pub const BAD_FLEX_BLOCK: u32 = 40;
+
+/// An anchor word leads to no flex block.
+pub const BAD_ANCHOR_WORD: u32 = 41;
+
+/// The last page holds nothing of the slot.
+pub const SPARE_PAGE: u32 = 42;
 
 /// What no call on a slot answers.
 const OTHER: u32 = 63;
@@ -57,6 +76,30 @@ pub fn refusal_status(refusal: Refusal) -> u32
         Refusal::NoBudge => NO_BUDGE,
         Refusal::NoRoom => NO_ROOM,
         _ => OTHER,
+    }
+}
+
+/// The status of a C heap that is none.
+fn heap_fault_status(fault: HeapFault) -> u32
+    ensures { result ≡ heap_fault_status fault }
+{
+    match fault {
+        HeapFault::BadDescriptor => BAD_DESCRIPTOR,
+        HeapFault::BadLink => BAD_LINK,
+        HeapFault::BadSize => BAD_SEGMENT,
+    }
+}
+
+/// The status of bytes that spell no slot.
+pub fn fault_status(fault: SlotFault) -> u32
+    ensures { result ≡ fault_status fault }
+{
+    match fault {
+        SlotFault::BadLength => BAD_LENGTH,
+        SlotFault::BadHeap(fault) => heap_fault_status(fault),
+        SlotFault::BadSize => BAD_FLEX_BLOCK,
+        SlotFault::BadAnchor => BAD_ANCHOR_WORD,
+        SlotFault::SparePage => SPARE_PAGE,
     }
 }
 

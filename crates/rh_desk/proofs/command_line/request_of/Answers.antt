@@ -12,7 +12,7 @@ returns-then-eq-clause-asked c =
     let row = both-are _ _ _ _ _ c.in_ok-name.ensures.name c.in_ok-name.ensures.rows in
     let check : c.in_ok-name.name.now ≡ codes "check" = search rules in
     let file : first_of (codes "file") (rows_of (found_of c.in_ok-name.found.now)) ≡ Some c.in_ok-file.file.now = sym (first_value-rows (found_of c.in_ok-name.found.now) (codes "file")) ∙ sym c.in_ok-file.ensures in
-    rw row (check, file)
+    rw row (check, c.image_kind-kind.ensures, file)
 
 pub returns-clause-asked : goal.returns-clause-asked
 returns-clause-asked c =

@@ -1,0 +1,12 @@
+use Rattle.std.proofs.Common.{arith}
+use Rattle.std.proofs.lemmas.Bool.Decides.{nat_tests}
+use Rattle.vf_flex.specs.Status.{checked_anchor_status}
+use Rattle.vf_flex.proofs.image.checked_anchor_status.Goals as goal
+
+pub returns-in-0-clause-status : goal.returns-in-0-clause-status
+unfolding checked_anchor_status
+returns-in-0-clause-status c = grind (arith, nat_tests)
+
+pub returns-in_default-clause-status : goal.returns-in_default-clause-status
+unfolding checked_anchor_status
+returns-in_default-clause-status c = grind (arith, nat_tests)
