@@ -1,7 +1,7 @@
 //! What is read of the desk beside what its questions answer: tasks, made areas and messages as they stand, and the bytes
 //! of blocks. Nothing changes, and no memory is taken.
 
-ghost use Rattle.std.specs.Prelude.{◌≡◌, ◌+◌, ◌≤◌, Ok, Err, IfErr, IfOk, IfSome, OnOk, length, slice_get};
+ghost use Rattle.std.specs.Prelude.{◌≡◌, ◌+◌, ◌≤◌, ◌↔◌, Ok, Err, IfErr, IfOk, IfSome, IsTrue, OnOk, length, slice_get};
 ghost use Rattle.std.specs.Option.{option_map};
 ghost use Rattle.std.specs.Result.{MatchResult};
 ghost use Rattle.rh_defs.specs.Commands.{module_start};
@@ -28,7 +28,7 @@ use rh_store::Store;
 use rh_wimp::{MOST_LENGTH, MOST_MESSAGES, MessageItem};
 
 /// A live task, lent where the world keeps it.
-#[derive(Clone, Copy, Debug)]
+#[derive(Clone, Copy)]
 pub struct TaskSight<'a> {
     pub handle: Handle,
     pub name: &'a Name,
@@ -58,6 +58,13 @@ pub struct MadeSight {
     pub most: u32,
     /// The pages that it has.
     pub pages: u32,
+}
+
+/// Whether `n` bytes from an offset on lie in a block of `size` bytes.
+fn fits(size: usize, offset: usize, n: usize) -> bool
+    ensures { IsTrue result ↔ (offset + n ≤ size) }
+{
+    offset <= size && n <= size - offset
 }
 
 impl<S: Store> World<S> {
@@ -129,7 +136,8 @@ impl<S: Store> World<S> {
         if !slot.inside(&self.store, address, to.len()) {
             return Err(Refusal::BadRange);
         }
-        self.store.copy_out(slot.area, address - SLOT_START, to);
+        let place = address - SLOT_START;
+        self.store.copy_out(slot.area, place, to);
         Ok(())
     }
 
@@ -157,7 +165,7 @@ impl<S: Store> World<S> {
         let place = self.own_place(address)?;
         let size = MODULE.block_size(&self.store, place)?;
         let offset = offset as usize;
-        if size < offset || size - offset < to.len() {
+        if !fits(size, offset, to.len()) {
             return Err(Refusal::BadRange);
         }
         MODULE.read_bytes(&self.store, place, offset, to);
