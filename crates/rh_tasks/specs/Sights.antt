@@ -1,7 +1,7 @@
 -- What is read of a desk beside what its questions answer: tasks and made areas by their places, a task's blocks by its
 -- handle, the module area, messages.
 use Rattle.std.specs.Prelude.{◌≡◌, ℕ, ◌+◌, not, nat_lt, List, length, take, drop, Option, Some, None, Ok}
-use Rattle.std.specs.Option.{option_map}
+use Rattle.std.specs.Option.{option_copied, option_map}
 use Rattle.rh_defs.specs.declared.refusal.Refusal.TheVariants.{NoTask, BadRange}
 use Rattle.rh_defs.specs.declared.listing.BlockItem.{BlockItem}
 use Rattle.rh_defs.specs.declared.listing.SegmentItem.{SegmentItem}
@@ -16,7 +16,6 @@ use Rattle.rh_defs.specs.Listing.{block_items}
 use Rattle.rh_tasks.specs.declared.sights.TaskSight.{TaskSight}
 use Rattle.rh_tasks.specs.declared.sights.MadeSight.{MadeSight}
 use Rattle.rh_tasks.specs.declared.scrap.ScrapFile.{ScrapFile}
-use Rattle.rh_tasks.specs.declared.seat.SentLetter.{SentLetter}
 use Rattle.rh_tasks.specs.Lists.{segment_items_at}
 use Rattle.rh_tasks.specs.TransferBlock.{bytes_held}
 use Rattle.rh_tasks.specs.View.{last_of}
@@ -34,7 +33,7 @@ pub record IsSightOf (s : TaskSight) (t : Task) : Type 0 where
   pub heap : s.heap ≡ (t.slot.heap.end, largest t.slot.heap, free_bytes t.slot.heap)
   pub sending : s.sending.now ≡ t.sending
   pub taking : s.taking.now ≡ t.taking
-  pub last_sent : option_map (λ l. last_of l.now) s.last_sent ≡ t.last_sent
+  pub last_sent : option_map last_of (option_copied s.last_sent) ≡ t.last_sent
 
 -- a task is seen where there is one
 abbrev pub IsSeen : Option TaskSight → Option Task → Type 0

@@ -79,6 +79,7 @@ impl<S: Store> World<S> {
         }
         let seat = &self.seats[i];
         let (length, largest, free) = seat.slot.describe(&self.store);
+        let heap = (length as u32, largest as u32, free as u32);
         Some(TaskSight {
             handle: seat.handle,
             name: &seat.name,
@@ -86,7 +87,7 @@ impl<S: Store> World<S> {
             manner: seat.manner,
             pages: pages_in(&self.store, seat.slot.area),
             budging: seat.slot.budge,
-            heap: (length as u32, largest as u32, free as u32),
+            heap,
             sending: seat.sending.records(),
             taking: seat.taking.records(),
             last_sent: seat.last_sent.as_ref(),

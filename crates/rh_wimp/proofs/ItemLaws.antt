@@ -48,13 +48,13 @@ module _ {m : Memory} {rma : Module} {block link : ℕ} {p : Parcel} (w : LinksA
   links-has = record { bytes = padded link p; found = links-bytes; room = padded-more link p w.lies.fits }
 
 -- what is read is an item
-pub same-item : {block block' to from from' ref ref' : ℕ} {held : Bool} {action action' : Action} {code code' : EventCode}
-    → block ≡ block' → from ≡ from' → ref ≡ ref' → action ≡ action' → code ≡ code'
-    → (let x : MessageItem = record { block = block; to = to; from = from; my_ref = ref; action = action; code = code; held = held } in x)
-    ≡ (let y : MessageItem = record { block = block'; to = to; from = from'; my_ref = ref'; action = action'; code = code'; held = held } in y)
+pub same-item : {block block' to from from' ref ref' : ℕ} {held : Bool} {act act' : Action} {code code' : EventCode}
+    → block ≡ block' → from ≡ from' → ref ≡ ref' → act ≡ act' → code ≡ code'
+    → (let x : MessageItem = record { block = block; to = to; from = from; my_ref = ref; action = act; code = code; held = held } in x)
+    ≡ (let y : MessageItem = record { block = block'; to = to; from = from'; my_ref = ref'; action = act'; code = code'; held = held } in y)
 same-item p q r s t = cc
 
-pub known : (action : Action) → action_at (action_number action) ≡ Some action
+pub known : (act : Action) → action_at (action_number act) ≡ Some act
 known action.DataSave = refl
 known action.DataSaveAck = refl
 known action.DataLoad = refl

@@ -1,9 +1,8 @@
-use Rattle.std.proofs.Common.{◌∙◌, ap, length, refl, sym, subst, arith}
+use Rattle.std.proofs.Common.{◌∙◌, ap, length, refl, sym, arith}
 use Rattle.std.proofs.lemmas.Result.{err_from_is_err_and}
-use Rattle.rh_defs.specs.Blocks.{HasBlock}
-use Rattle.rh_defs.specs.Commands.{module_start}
+use Rattle.std.specs.Prelude.{Ok}
 use Rattle.rh_defs.proofs.BytesLaws.{part-drop}
-use Rattle.rh_module.specs.Area.{heap_in}
+use Rattle.rh_module.proofs.BlockBytes.{block_within}
 use Rattle.rh_slot.proofs.EditLaws.{beyond}
 use Rattle.rh_tasks.specs.Sights.{module_shown}
 use Rattle.rh_tasks.specs.View.{the_module}
@@ -45,7 +44,8 @@ pub overflow_cast-result : goal.overflow_cast-result
 overflow_cast-result g c =
     let some = sized-bytes _ _ _ c.in_ok-size.ensures in
     let is = c.self.invariant.0.areas.module_area in
-    omega (arith, some.1.1, module-within is some.1.0, g.met.S.Words.small c.self.inside.store 1)
+    let room = block_within (g.S.Words.memory c.self.inside.store) the_module c.in_ok-place.place c.in_ok-size.size is (record { bytes = some.0; found = some.1.0; room = omega (arith, some.1.1) }) in
+    omega (arith, room, g.met.S.Words.small c.self.inside.store 1)
 
 pub returns : goal.returns
 returns g c =
