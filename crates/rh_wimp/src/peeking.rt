@@ -3,10 +3,10 @@ ghost use Rattle.std.specs.Prelude.{◌≡◌, ◌==◌, Option};
 ghost use Rattle.std.specs.Option.{option_map};
 ghost use Rattle.rh_defs.specs.Memory.{Memory};
 ghost use Rattle.rh_defs.specs.Messages.{Parcel};
-ghost use Rattle.rh_defs.specs.Post.{Post, holds_such, post_poll};
+ghost use Rattle.rh_defs.specs.Post.{holds_such, post_poll};
 ghost use Rattle.rh_module.specs.Area.{IsModule, heap_in};
 ghost use Rattle.rh_wimp.specs.Calls.{Answers, IsQueue};
-ghost use Rattle.rh_wimp.specs.Chains.{HasEntry, Holds, SpellsPost};
+ghost use Rattle.rh_wimp.specs.Chains.{HasEntry, Holds};
 ghost use Rattle.rh_wimp.specs.Items.{with_message};
 
 use crate::chain::{Entry, find};
