@@ -132,10 +132,13 @@ walk-on m rma block turn to next ps old items more item w e f r = record {
 }
 
 -- ---- task by task
-pub drop-at : {A : Type 0} (xs : List A) (i : ℕ) (d : A) → i < length xs → drop i xs ≡ get_or xs i d ∷ drop (i + 1) xs
-drop-at [] i d l = absurd (omega arith)
-drop-at (x ∷ xs) zero d l = refl
-drop-at (x ∷ xs) (suc i) d l = drop-at xs i d (omega arith)
+drop-here : {A : Type 0} (xs : List A) (i : ℕ) (d : A) → i < length xs → drop i xs ≡ get_or xs i d ∷ drop (suc i) xs
+drop-here [] i d l = absurd (omega arith)
+drop-here (x ∷ xs) zero d l = refl
+drop-here (x ∷ xs) (suc i) d l = drop-here xs i d (omega arith)
+
+drop-at : {A : Type 0} (xs : List A) (i : ℕ) (d : A) → i < length xs → drop i xs ≡ get_or xs i d ∷ drop (i + 1) xs
+drop-at xs i d l = drop-here xs i d l ∙ ap (λ k. get_or xs i d ∷ drop k xs) (let next : suc i ≡ i + 1 = omega arith in next)
 
 -- what is listed, and what the rows from a place on have, are all behind what the list had
 abbrev pub Goes : (List Row → List MessageItem) → ℕ → List Row → List MessageItem → List MessageItem → Type 0

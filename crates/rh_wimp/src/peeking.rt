@@ -9,7 +9,7 @@ ghost use Rattle.rh_wimp.specs.Calls.{Answers, IsQueue};
 ghost use Rattle.rh_wimp.specs.Chains.{HasEntry, Holds};
 ghost use Rattle.rh_wimp.specs.Items.{with_message};
 
-use crate::chain::{Entry, find};
+use crate::chain::find;
 use crate::layout::{MESSAGE, MOST_LENGTH, SENDER};
 use crate::queue::Queue;
 use crate::reading::{code_in, copy_block};
@@ -41,7 +41,7 @@ impl Queue {
             copy_block(store, rma, entry.first, block);
             return Some(code_in(store, rma, entry.first));
         }
-        if !holds_own(store, rma, entry) {
+        if !holds_own(store, rma, entry.held, handle) {
             return None;
         }
         // What the task holds would come back to itself.
@@ -50,14 +50,15 @@ impl Queue {
     }
 }
 
-/// Whether a task holds a message that it sent itself.
-fn holds_own<S: Words>(store: &S, rma: Module, entry: Entry) -> bool
+/// Whether the message that a task holds in a block, 0 for none, was sent by the task itself.
+fn holds_own<S: Words>(store: &S, rma: Module, held: usize, handle: Handle) -> bool
     requires module { IsModule (S.memory store.now) rma }
-    requires held { (o : Option Parcel) × Holds (heap_in (S.memory store.now) rma) entry.held o }
-    ensures { (o : Option Parcel) → Holds (heap_in (S.memory store.now) rma) entry.held o → result ≡ holds_such (λ (p : Parcel). p.message.from == entry.handle) o }
+    requires held { (o : Option Parcel) × Holds (heap_in (S.memory store.now) rma) held o }
+    ensures { (o : Option Parcel) → Holds (heap_in (S.memory store.now) rma) held o → result ≡ holds_such (λ (p : Parcel). p.message.from == handle) o }
 {
-    if entry.held == 0 {
+    if held == 0 {
         return false;
     }
-    rma.read_word(store, entry.held, MESSAGE + SENDER) == entry.handle.0
+    let from = Handle(rma.read_word(store, held, MESSAGE + SENDER));
+    from == handle
 }

@@ -1,9 +1,9 @@
-use Rattle.std.proofs.Common.{◌≡◌, ℕ, ◌+◌, ◌≤◌, List, length, take, refl, sym, ap, subst, ◌∙◌, arith}
+use Rattle.std.proofs.Common.{◌≡◌, ℕ, ◌≤◌, length, take, sym, ◌∙◌, arith}
 use Rattle.std.proofs.lemmas.List.{length-take}
 use Rattle.rh_defs.specs.Messages.{Parcel, encoded, encoded_length, padded}
 use Rattle.rh_defs.proofs.BlockLaws.{has-less}
 use Rattle.rh_defs.proofs.BlockCalls.{room_enough}
-use Rattle.rh_defs.proofs.MessageLaws.{encoded-most}
+use Rattle.rh_defs.proofs.MessageLaws.{encoded-most, length-encoded}
 use Rattle.rh_defs.proofs.ParcelLaws.{length_read, length-padded, message_read}
 use Rattle.rh_module.specs.Area.{heap_in}
 use Rattle.rh_store.proofs.Slices.{written}
@@ -65,4 +65,5 @@ returns g c = λ link p w.
     let n = c.requires.room in
     let t = length-take c.read_word-length.result c.args.to.now in
     let b = c.read_bytes.ensures (padded link p) (links-bytes w) ∙ message_read link p (length (take c.read_word-length.result c.args.to.now)) (omega arith) in
-    written 0 c.read_word-length.result c.args.to.now c.read_bytes.new.to (encoded p.message) b (omega arith) (omega arith)
+    let long = length-encoded p.message in
+    written 0 c.read_word-length.result c.args.to.now c.read_bytes.new.to (encoded p.message) b (is ∙ sym long) (omega (arith, is, few, long, n))
