@@ -63,6 +63,7 @@ pub mod TransferBlocks
 pub mod SightLaws
 pub mod FirstBytes
 pub mod StandingLaws
+pub mod ShareLaws
 pub mod AcceptSteps
 pub mod TakeSaves
 pub mod Examples
