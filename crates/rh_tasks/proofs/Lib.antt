@@ -60,6 +60,10 @@ pub mod Takings
 pub mod Scraps
 pub mod ScrapTransfers
 pub mod TransferBlocks
+pub mod SightLaws
+pub mod FirstBytes
+pub mod StandingLaws
+pub mod ShareLaws
 pub mod AcceptSteps
 pub mod TakeSaves
 pub mod Examples
