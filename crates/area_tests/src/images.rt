@@ -7,7 +7,7 @@ ghost use Rattle.rh_heap.specs.Spans.{IsSpan};
 use crate::heaps::IMAGE;
 use crate::same::{is_true, same};
 use rh_heap::{Span, Summary, check, claim, init, release, segments};
-use rh_store::{PlainStore, Store, StoreFault, Words};
+use rh_store::{PlainStore, Store, StoreFault, Words, WordsMut};
 use std::process::Abort;
 use std::test::Fail;
 
@@ -146,7 +146,7 @@ fn empty_heap<S: Store>(store: &mut S) -> Result<Span, StoreFault>
 }
 
 /// Claims a block, or releases one if it is where a block may be.
-fn change<S: Words>(store: &mut S, span: Span, numbers: &mut Numbers)
+fn change<S: WordsMut>(store: &mut S, span: Span, numbers: &mut Numbers)
     requires { IsSpan (S.memory store.old) span }
     ensures { IsSpan (S.memory store.new) span }
 {
@@ -170,7 +170,7 @@ fn bytes_of<S: Words>(store: &S, span: Span) -> [u8; 512]
 }
 
 /// How many images are taken for heaps that a heap spells, once one of their words is another.
-fn changed_words<R: Abort, S: Words>(rt: &R, store: &mut S, span: Span) -> u32
+fn changed_words<R: Abort, S: WordsMut>(rt: &R, store: &mut S, span: Span) -> u32
     requires { IsSpan (S.memory store.old) span }
 {
     let mut numbers = Numbers::new();

@@ -11,7 +11,7 @@ use crate::stores::{paged_store, plain_store};
 use arrayvec::ArrayVec;
 use rh_defs::{Anchor, BlockItem, Refusal};
 use rh_heap::{Segment, Span, claim, init, release, segments_from};
-use rh_store::{Store, StoreFault, Words};
+use rh_store::{Store, StoreFault, WordsMut};
 use std::process::Abort;
 use std::test::Fail;
 
@@ -58,7 +58,7 @@ fn empty_heap<S: Store>(store: &mut S) -> Result<Span, StoreFault>
     Ok(span)
 }
 
-fn segments_are_listed_from_a_place<R: Abort, S: Words>(rt: &R, store: &mut S, span: Span)
+fn segments_are_listed_from_a_place<R: Abort, S: WordsMut>(rt: &R, store: &mut S, span: Span)
     requires { IsSpan (S.memory store.old) span }
 {
     same(rt, segments_from(store, span, 16), list(&[]));
@@ -76,7 +76,7 @@ fn segments_are_listed_from_a_place<R: Abort, S: Words>(rt: &R, store: &mut S, s
 }
 
 /// Claims the least block, n times.
-fn claim_least<S: Words>(store: &mut S, span: Span, n: usize)
+fn claim_least<S: WordsMut>(store: &mut S, span: Span, n: usize)
     requires { IsSpan (S.memory store.old) span }
     ensures { IsSpan (S.memory store.new) span }
 {
@@ -85,7 +85,7 @@ fn claim_least<S: Words>(store: &mut S, span: Span, n: usize)
     }
 }
 
-fn no_more_than_64_segments_are_listed<R: Abort, S: Words>(rt: &R, store: &mut S, span: Span)
+fn no_more_than_64_segments_are_listed<R: Abort, S: WordsMut>(rt: &R, store: &mut S, span: Span)
     requires { IsSpan (S.memory store.old) span }
 {
     claim_least(store, span, 66);

@@ -10,7 +10,7 @@ ghost use Rattle.rh_heap.specs.Spans.{IsSpan};
 use rh_defs::HeapRefusal;
 use rh_defs::sizes::PAGE;
 use rh_heap::{Span, claim, describe, init, release};
-use rh_store::{PlainStore, Store, StoreFault, Words};
+use rh_store::{PlainStore, Store, StoreFault, WordsMut};
 use std::alloc::Global;
 use std::env;
 
@@ -57,7 +57,7 @@ fn size_wanted(rt: &HostRuntime, alloc: Global) -> anyhow::Result<u32> {
 }
 
 /// Claims the blocks.
-fn fill<S: Words>(store: &mut S, span: Span) -> Result<(), HeapRefusal>
+fn fill<S: WordsMut>(store: &mut S, span: Span) -> Result<(), HeapRefusal>
     requires { IsSpan (S.memory store.old) span }
     ensures { IsSpan (S.memory store.new) span }
 {
@@ -68,7 +68,7 @@ fn fill<S: Words>(store: &mut S, span: Span) -> Result<(), HeapRefusal>
 }
 
 /// Releases every second block.
-fn thin<S: Words>(store: &mut S, span: Span) -> Result<(), HeapRefusal>
+fn thin<S: WordsMut>(store: &mut S, span: Span) -> Result<(), HeapRefusal>
     requires { IsSpan (S.memory store.old) span }
     ensures { IsSpan (S.memory store.new) span }
 {
@@ -79,7 +79,7 @@ fn thin<S: Words>(store: &mut S, span: Span) -> Result<(), HeapRefusal>
 }
 
 /// Claims and releases blocks of this size.
-fn go_round<S: Words>(store: &mut S, span: Span, size: u32) -> Result<(), HeapRefusal>
+fn go_round<S: WordsMut>(store: &mut S, span: Span, size: u32) -> Result<(), HeapRefusal>
     requires { IsSpan (S.memory store.old) span }
     ensures { IsSpan (S.memory store.new) span }
 {

@@ -7,7 +7,7 @@ ghost use Rattle.rh_store.specs.Limits.{area_limit};
 
 use rh_defs::sizes::PAGE;
 use rh_store::bytes::{copy_from, part_of, put_in, put_word_in, slide_in, word_in, zero_in};
-use rh_store::{AreaId, Pages, StoreFault, Words};
+use rh_store::{AreaId, Paged, Pages, StoreFault, Words, WordsMut};
 
 /// Bytes that a caller lends, at most 1 GiB of them. Their first pages are the area 0, and the whole pages behind are
 /// free.
@@ -28,6 +28,23 @@ impl Words for LentPages<'_> {
         word_in(self.bytes, at)
     }
 
+    fn copy_out(&self, _id: AreaId, at: usize, to: &mut [u8]) {
+        copy_from(self.bytes, at, to);
+    }
+
+    fn run(&self, _id: AreaId, at: usize) -> &[u8] {
+        let n = PAGE * self.pages - at;
+        part_of(self.bytes, at, n)
+    }
+
+    fn len(&self, _id: AreaId) -> usize {
+        PAGE * self.pages
+    }
+
+    ghost small = { small_law };
+}
+
+impl WordsMut for LentPages<'_> {
     fn set_word(&mut self, _id: AreaId, at: usize, w: u32) {
         let bytes = &mut *self.bytes;
         put_word_in(bytes, at, w);
@@ -47,25 +64,20 @@ impl Words for LentPages<'_> {
         let bytes = &mut *self.bytes;
         put_in(bytes, at, from);
     }
+}
 
-    fn copy_out(&self, _id: AreaId, at: usize, to: &mut [u8]) {
-        copy_from(self.bytes, at, to);
+impl Paged for LentPages<'_> {
+    ghost use Rattle.rh_flex.specs.Pages.{whole_law};
+
+    fn rest_of_page(&self, _id: AreaId, at: usize) -> &[u8] {
+        part_of(self.bytes, at, PAGE - at % PAGE)
     }
 
-    fn run(&self, _id: AreaId, at: usize) -> &[u8] {
-        let n = PAGE * self.pages - at;
-        part_of(self.bytes, at, n)
-    }
-
-    fn len(&self, _id: AreaId) -> usize {
-        PAGE * self.pages
-    }
-
-    ghost small = { small_law };
+    ghost whole = { whole_law };
 }
 
 impl Pages for LentPages<'_> {
-    ghost use Rattle.rh_flex.specs.Pages.{ledger_law, whole_law, within_law, few_law};
+    ghost use Rattle.rh_flex.specs.Pages.{ledger_law, within_law, few_law};
 
     fn grow(&mut self, _id: AreaId, pages: usize) -> Result<(), StoreFault> {
         if self.free_pages() < pages {
@@ -86,17 +98,11 @@ impl Pages for LentPages<'_> {
         self.pages -= pages;
     }
 
-    fn rest_of_page(&self, _id: AreaId, at: usize) -> &[u8] {
-        part_of(self.bytes, at, PAGE - at % PAGE)
-    }
-
     fn free_pages(&self) -> usize {
         self.bytes.len() / PAGE - self.pages
     }
 
     ghost ledger = { ledger_law };
-
-    ghost whole = { whole_law };
 
     ghost within = { within_law };
 

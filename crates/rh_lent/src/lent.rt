@@ -5,7 +5,7 @@ ghost use Rattle.std.specs.Prelude.{◌≡◌, ◌≤◌, length};
 ghost use Rattle.rh_store.specs.Limits.{area_limit};
 
 use rh_store::bytes::{copy_from, part_of, put_in, put_word_in, slide_in, word_in, zero_in};
-use rh_store::{AreaId, Words};
+use rh_store::{AreaId, Words, WordsMut};
 
 /// The number of the one area.
 pub const LENT: AreaId = AreaId(0);
@@ -26,6 +26,23 @@ impl Words for Lent<'_> {
         word_in(self.bytes, at)
     }
 
+    fn copy_out(&self, _id: AreaId, at: usize, to: &mut [u8]) {
+        copy_from(self.bytes, at, to);
+    }
+
+    fn run(&self, _id: AreaId, at: usize) -> &[u8] {
+        let n = self.bytes.len() - at;
+        part_of(self.bytes, at, n)
+    }
+
+    fn len(&self, _id: AreaId) -> usize {
+        self.bytes.len()
+    }
+
+    ghost small = { small_law };
+}
+
+impl WordsMut for Lent<'_> {
     fn set_word(&mut self, _id: AreaId, at: usize, w: u32) {
         let bytes = &mut *self.bytes;
         put_word_in(bytes, at, w);
@@ -45,19 +62,4 @@ impl Words for Lent<'_> {
         let bytes = &mut *self.bytes;
         put_in(bytes, at, from);
     }
-
-    fn copy_out(&self, _id: AreaId, at: usize, to: &mut [u8]) {
-        copy_from(self.bytes, at, to);
-    }
-
-    fn run(&self, _id: AreaId, at: usize) -> &[u8] {
-        let n = self.bytes.len() - at;
-        part_of(self.bytes, at, n)
-    }
-
-    fn len(&self, _id: AreaId) -> usize {
-        self.bytes.len()
-    }
-
-    ghost small = { small_law };
 }

@@ -6,7 +6,7 @@ ghost use Rattle.rh_module.specs.Area.{IsModule, heap_in};
 ghost use Rattle.rh_module.specs.Writes.{Wrote};
 
 use crate::module::Module;
-use rh_store::Words;
+use rh_store::{Words, WordsMut};
 
 impl Module {
     /// The word at an offset of the block at an address.
@@ -28,7 +28,7 @@ impl Module {
     }
 
     /// Writes a word at an offset of the block at an address.
-    pub fn write_word<S: Words>(self, store: &mut S, address: usize, offset: usize, w: u32)
+    pub fn write_word<S: WordsMut>(self, store: &mut S, address: usize, offset: usize, w: u32)
         requires module { IsModule (S.memory store.old) self }
         requires block { HasBlock address (offset + 4) (heap_in (S.memory store.old) self) }
         ensures { Wrote (S.memory store.old) (S.memory store.new) self address offset (word_bytes w) }
@@ -37,7 +37,7 @@ impl Module {
     }
 
     /// Writes bytes into the block at an address, from an offset on.
-    pub fn write_bytes<S: Words>(self, store: &mut S, address: usize, offset: usize, from: &[u8])
+    pub fn write_bytes<S: WordsMut>(self, store: &mut S, address: usize, offset: usize, from: &[u8])
         requires module { IsModule (S.memory store.old) self }
         requires block { HasBlock address (offset + length from.now) (heap_in (S.memory store.old) self) }
         ensures { Wrote (S.memory store.old) (S.memory store.new) self address offset from.now }

@@ -6,7 +6,7 @@ ghost use Rattle.rh_defs.specs.Bytes.{word, part, put};
 ghost use Rattle.rh_defs.proofs.SlotLaws.{Carried};
 
 use rh_defs::sizes::{PAGE, WORD, pages_for};
-use rh_store::{AreaId, Pages, StoreFault, Words};
+use rh_store::{AreaId, Pages, StoreFault, Words, WordsMut};
 
 /// The word at a place.
 pub fn read<S: Words>(store: &S, area: AreaId, place: usize) -> usize
@@ -20,7 +20,7 @@ pub fn read<S: Words>(store: &S, area: AreaId, place: usize) -> usize
 
 /// Writes a word at a place.
 #[tactic(auto, using(rh_defs::proofs::BytesLaws::word_laws, rh_defs::proofs::MemoryLaws::memory_laws))]
-pub fn write<S: Words>(store: &mut S, area: AreaId, place: usize, w: usize)
+pub fn write<S: WordsMut>(store: &mut S, area: AreaId, place: usize, w: usize)
     requires opened { IsOpen (S.memory store.old) area.0 }
     requires within { place + WORD ≤ length (bytes (S.memory store.old) area.0) }
     requires fits { w < 2 ^ 32 }
@@ -32,7 +32,7 @@ pub fn write<S: Words>(store: &mut S, area: AreaId, place: usize, w: usize)
 
 /// Writes `n` zeros from a place on.
 #[tactic(auto, using(rh_defs::proofs::BytesLaws::word_laws, rh_defs::proofs::MemoryLaws::memory_laws))]
-pub fn clear<S: Words>(store: &mut S, area: AreaId, place: usize, n: usize)
+pub fn clear<S: WordsMut>(store: &mut S, area: AreaId, place: usize, n: usize)
     requires opened { IsOpen (S.memory store.old) area.0 }
     requires within { place + n ≤ length (bytes (S.memory store.old) area.0) }
     ensures block { part (bytes (S.memory store.new) area.0) place n ≡ replicate n 0 }
@@ -42,7 +42,7 @@ pub fn clear<S: Words>(store: &mut S, area: AreaId, place: usize, n: usize)
 }
 
 /// Moves `n` bytes. The two ranges may overlap.
-pub fn slide<S: Words>(store: &mut S, area: AreaId, from: usize, to: usize, n: usize)
+pub fn slide<S: WordsMut>(store: &mut S, area: AreaId, from: usize, to: usize, n: usize)
     requires opened { IsOpen (S.memory store.old) area.0 }
     requires source { from + n ≤ length (bytes (S.memory store.old) area.0) }
     requires target { to + n ≤ length (bytes (S.memory store.old) area.0) }
@@ -56,7 +56,7 @@ pub fn slide<S: Words>(store: &mut S, area: AreaId, from: usize, to: usize, n: u
 
 /// Writes bytes that were lent, from a place on.
 #[tactic(auto, using(rh_defs::proofs::MemoryLaws::memory_laws))]
-pub fn write_bytes<S: Words>(store: &mut S, area: AreaId, place: usize, from: &[u8])
+pub fn write_bytes<S: WordsMut>(store: &mut S, area: AreaId, place: usize, from: &[u8])
     requires opened { IsOpen (S.memory store.old) area.0 }
     requires within { place + length from.now ≤ length (bytes (S.memory store.old) area.0) }
     ensures value { bytes (S.memory store.new) area.0 ≡ put (bytes (S.memory store.old) area.0) place from.now }

@@ -19,7 +19,7 @@ use arrayvec::ArrayVec;
 use rh_defs::Refusal;
 use rh_defs::sizes::{C_HEAP_PLACE, C_HEAP_START, PAGE, flex_weight, pages_for};
 use rh_heap::{SEGMENTS_AT_ONCE, Segment, Span};
-use rh_store::{Pages, Words};
+use rh_store::{Paged, Pages, Words};
 
 impl Slot {
     /// Where the C heap stands.
@@ -159,7 +159,7 @@ impl Slot {
 
     /// By how many pages a claim of `n` bytes and then a flex block of no bytes would make the slot longer. Refused:
     /// `BadSize` for 0 bytes, `NoBudge` where the C heap is too short and budging is off.
-    pub fn take_pages<S: Pages>(self, store: &S, n: u32) -> Result<usize, Refusal>
+    pub fn take_pages<S: Paged>(self, store: &S, n: u32) -> Result<usize, Refusal>
         requires slot { IsSlot (S.memory store.now) self }
         ensures { result ≡ slot_take_pages n (slot_in (S.memory store.now) self) }
     {

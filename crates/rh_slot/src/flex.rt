@@ -12,7 +12,7 @@ use crate::row::shift;
 use crate::slot::Slot;
 use rh_defs::sizes::{ANCHORS, FLEX_HEADER, SLOT_START, WORD, flex_weight, moved};
 use rh_defs::{Anchor, Refusal};
-use rh_store::{Pages, Words};
+use rh_store::{Pages, Words, WordsMut};
 
 /// Where a flex block's header stands in the slot's area, and how many bytes the block has.
 #[derive(Clone, Copy)]
@@ -239,7 +239,7 @@ impl Slot {
 
     /// Writes bytes into the anchor's block, from an offset on. Refused: `NoBlock` where the anchor has none,
     /// `BadRange` where the bytes would go beyond the block's end.
-    pub fn put<S: Words>(
+    pub fn put<S: WordsMut>(
         self,
         store: &mut S,
         anchor: Anchor,

@@ -20,7 +20,7 @@ use rh_defs::sizes::{
 };
 use rh_defs::{Anchor, BlockItem};
 use rh_store::bytes::word_in;
-use rh_store::{AreaId, Pages, Words};
+use rh_store::{AreaId, Paged, Words, WordsMut};
 
 /// A walk over a slot's flex blocks from below: how many it has passed, and where the next one stands in the slot's
 /// area.
@@ -81,7 +81,7 @@ fn item_in(anchors: &[u8], page: &[u8], at: usize, place: usize) -> Option<Block
 }
 
 /// Writes the anchor words of the blocks that lie in `n` bytes.
-fn hang<S: Words>(store: &mut S, area: AreaId, from: usize, n: usize)
+fn hang<S: WordsMut>(store: &mut S, area: AreaId, from: usize, n: usize)
     requires opened { IsOpen (S.memory store.old) area.0 }
     requires within { from + n ≤ length (bytes (S.memory store.old) area.0) }
     requires low { C_HEAP_PLACE ≤ from }
@@ -102,7 +102,7 @@ fn hang<S: Words>(store: &mut S, area: AreaId, from: usize, n: usize)
 }
 
 /// Moves the blocks that lie in `n` bytes, and writes their anchor words.
-pub fn shift<S: Words>(store: &mut S, area: AreaId, from: usize, to: usize, n: usize)
+pub fn shift<S: WordsMut>(store: &mut S, area: AreaId, from: usize, to: usize, n: usize)
     requires opened { IsOpen (S.memory store.old) area.0 }
     requires source { from + n ≤ length (bytes (S.memory store.old) area.0) }
     requires target { to + n ≤ length (bytes (S.memory store.old) area.0) }
@@ -157,7 +157,7 @@ impl Slot {
     }
 
     /// Passes the flex blocks from a walk's place on whose headers lie whole in that place's page, all of them.
-    fn pass_in_page<S: Pages>(self, store: &S, anchors: &[u8], start: FlexWalk) -> FlexWalk
+    fn pass_in_page<S: Paged>(self, store: &S, anchors: &[u8], start: FlexWalk) -> FlexWalk
         requires slot { IsSlot (S.memory store.now) self }
         requires anchors { anchors.now ≡ part (bytes (S.memory store.now) self.area.0) 0 PAGE }
         requires walked { Walked (slot_in (S.memory store.now) self) start.place }
@@ -182,7 +182,7 @@ impl Slot {
     }
 
     /// Where the flex blocks end, from a place to which a walk comes: the number of bytes that the slot takes.
-    pub(crate) fn top_from<S: Pages>(self, store: &S, from: usize) -> usize
+    pub(crate) fn top_from<S: Paged>(self, store: &S, from: usize) -> usize
         requires slot { IsSlot (S.memory store.now) self }
         requires walked { Walked (slot_in (S.memory store.now) self) from }
         ensures { result ≡ slot_length (slot_in (S.memory store.now) self) }
@@ -197,7 +197,7 @@ impl Slot {
     }
 
     /// Where the flex blocks end: the number of bytes that the slot takes.
-    pub(crate) fn top<S: Pages>(self, store: &S) -> usize
+    pub(crate) fn top<S: Paged>(self, store: &S) -> usize
         requires { IsSlot (S.memory store.now) self }
         ensures { result ≡ slot_length (slot_in (S.memory store.now) self) }
     {
@@ -238,7 +238,7 @@ impl Slot {
     }
 
     /// How many flex blocks the slot has.
-    pub fn count<S: Pages>(self, store: &S) -> usize
+    pub fn count<S: Paged>(self, store: &S) -> usize
         requires slot { IsSlot (S.memory store.now) self }
         ensures { result ≡ length (slot_in (S.memory store.now) self).blocks }
     {
@@ -282,7 +282,7 @@ impl Slot {
     }
 
     /// Lists the flex blocks from a walk's place on whose headers lie whole in that place's page, all of them.
-    fn list_in_page<S: Pages>(
+    fn list_in_page<S: Paged>(
         self,
         store: &S,
         anchors: &[u8],
@@ -314,7 +314,7 @@ impl Slot {
 
     /// Puts all flex blocks from below into a list, in place of what it held: the anchor, address and size in bytes of
     /// each.
-    pub fn list<S: Pages>(self, store: &S, items: &mut ArrayVec<BlockItem, ANCHORS>)
+    pub fn list<S: Paged>(self, store: &S, items: &mut ArrayVec<BlockItem, ANCHORS>)
         requires slot { IsSlot (S.memory store.now) self }
         ensures { items.new.items ≡ block_items (slot_in (S.memory store.now) self) }
     {

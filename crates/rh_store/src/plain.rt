@@ -11,7 +11,7 @@ use crate::area::{
     slide_at, zero_at,
 };
 use crate::bytes::{copy_from, part_of, word_in};
-use crate::store::{AreaId, Pages, Store, StoreFault, Words};
+use crate::store::{AreaId, Paged, Pages, Store, StoreFault, Words, WordsMut};
 use rh_defs::sizes::{MAX_AREAS, MIN_PAGES, PAGE};
 use std::alloc::{AllocError, Global};
 
@@ -62,22 +62,6 @@ impl Words for PlainStore {
         word_in(&self.areas[id.0 as usize].bytes, at)
     }
 
-    fn set_word(&mut self, id: AreaId, at: usize, w: u32) {
-        set_word_at(&mut self.areas, id.0 as usize, at, w);
-    }
-
-    fn slide(&mut self, id: AreaId, from: usize, to: usize, n: usize) {
-        slide_at(&mut self.areas, id.0 as usize, from, to, n);
-    }
-
-    fn zero(&mut self, id: AreaId, at: usize, n: usize) {
-        zero_at(&mut self.areas, id.0 as usize, at, n);
-    }
-
-    fn copy_in(&mut self, id: AreaId, at: usize, from: &[u8]) {
-        put_at(&mut self.areas, id.0 as usize, at, from);
-    }
-
     fn copy_out(&self, id: AreaId, at: usize, to: &mut [u8]) {
         copy_from(&self.areas[id.0 as usize].bytes, at, to);
     }
@@ -94,8 +78,36 @@ impl Words for PlainStore {
     ghost small = { small_law };
 }
 
+impl WordsMut for PlainStore {
+    fn set_word(&mut self, id: AreaId, at: usize, w: u32) {
+        set_word_at(&mut self.areas, id.0 as usize, at, w);
+    }
+
+    fn slide(&mut self, id: AreaId, from: usize, to: usize, n: usize) {
+        slide_at(&mut self.areas, id.0 as usize, from, to, n);
+    }
+
+    fn zero(&mut self, id: AreaId, at: usize, n: usize) {
+        zero_at(&mut self.areas, id.0 as usize, at, n);
+    }
+
+    fn copy_in(&mut self, id: AreaId, at: usize, from: &[u8]) {
+        put_at(&mut self.areas, id.0 as usize, at, from);
+    }
+}
+
+impl Paged for PlainStore {
+    ghost use Rattle.rh_store.specs.Plain.{whole_law};
+
+    fn rest_of_page(&self, id: AreaId, at: usize) -> &[u8] {
+        part_of(&self.areas[id.0 as usize].bytes, at, PAGE - at % PAGE)
+    }
+
+    ghost whole = { whole_law };
+}
+
 impl Pages for PlainStore {
-    ghost use Rattle.rh_store.specs.Plain.{ledger_law, whole_law, within_law, few_law};
+    ghost use Rattle.rh_store.specs.Plain.{ledger_law, within_law, few_law};
 
     fn grow(&mut self, id: AreaId, pages: usize) -> Result<(), StoreFault> {
         if self.free < pages {
@@ -117,17 +129,11 @@ impl Pages for PlainStore {
         shorten_at(&mut self.areas, id.0 as usize, n);
     }
 
-    fn rest_of_page(&self, id: AreaId, at: usize) -> &[u8] {
-        part_of(&self.areas[id.0 as usize].bytes, at, PAGE - at % PAGE)
-    }
-
     fn free_pages(&self) -> usize {
         self.free
     }
 
     ghost ledger = { ledger_law };
-
-    ghost whole = { whole_law };
 
     ghost within = { within_law };
 

@@ -23,10 +23,9 @@ pub enum StoreFault {
     NoPages,
 }
 
-/// Areas of bytes that are there: what a heap needs of them.
+/// Areas of bytes that are there, to be read: what a look at a heap needs of them.
 ///
-/// Offsets and lengths are in bytes from the area's first one. No call changes an area's length, opens
-/// or closes one, or takes memory.
+/// Offsets and lengths are in bytes from the area's first one.
 pub trait Words {
     /// What each area contains, the free pages, and the pages given at start.
     ghost memory: { Self → Memory };
@@ -36,35 +35,6 @@ pub trait Words {
         requires opened { IsOpen (memory self.now) id.0 }
         requires within { at + 4 ≤ length (bytes (memory self.now) id.0) }
         ensures { result ≡ word (bytes (memory self.now) id.0) at };
-
-    /// Writes a word of four bytes in little-endian order at an offset, at any alignment.
-    fn set_word(&mut self, id: AreaId, at: usize, w: u32)
-        requires opened { IsOpen (memory self.old) id.0 }
-        requires within { at + 4 ≤ length (bytes (memory self.old) id.0) }
-        ensures { memory self.new ≡ with_bytes (memory self.old) id.0
-            (put_word (bytes (memory self.old) id.0) at w) };
-
-    /// Moves n bytes within an area, from one offset to another. The two ranges may overlap.
-    fn slide(&mut self, id: AreaId, from: usize, to: usize, n: usize)
-        requires opened { IsOpen (memory self.old) id.0 }
-        requires source { from + n ≤ length (bytes (memory self.old) id.0) }
-        requires target { to + n ≤ length (bytes (memory self.old) id.0) }
-        ensures { memory self.new ≡ with_bytes (memory self.old) id.0
-            (put (bytes (memory self.old) id.0) to (part (bytes (memory self.old) id.0) from n)) };
-
-    /// Writes n zeros from an offset on.
-    fn zero(&mut self, id: AreaId, at: usize, n: usize)
-        requires opened { IsOpen (memory self.old) id.0 }
-        requires within { at + n ≤ length (bytes (memory self.old) id.0) }
-        ensures { memory self.new ≡ with_bytes (memory self.old) id.0
-            (put (bytes (memory self.old) id.0) at (replicate n 0)) };
-
-    /// Writes bytes that were lent, from an offset on.
-    fn copy_in(&mut self, id: AreaId, at: usize, from: &[u8])
-        requires opened { IsOpen (memory self.old) id.0 }
-        requires within { at + length from.now ≤ length (bytes (memory self.old) id.0) }
-        ensures { memory self.new ≡ with_bytes (memory self.old) id.0
-            (put (bytes (memory self.old) id.0) at from.now) };
 
     /// Fills a buffer that was lent with the bytes from an offset on.
     fn copy_out(&self, id: AreaId, at: usize, to: &mut [u8])
@@ -88,10 +58,56 @@ pub trait Words {
     ghost small: { (s : Self) (id : ℕ) → length (bytes (memory s) id) ≤ area_limit };
 }
 
+/// Areas of bytes that are there, to be read and written: what a heap needs of them.
+///
+/// No call changes an area's length, opens or closes one, or takes memory.
+pub trait WordsMut: Words {
+    /// Writes a word of four bytes in little-endian order at an offset, at any alignment.
+    fn set_word(&mut self, id: AreaId, at: usize, w: u32)
+        requires opened { IsOpen (Self.memory self.old) id.0 }
+        requires within { at + 4 ≤ length (bytes (Self.memory self.old) id.0) }
+        ensures { Self.memory self.new ≡ with_bytes (Self.memory self.old) id.0
+            (put_word (bytes (Self.memory self.old) id.0) at w) };
+
+    /// Moves n bytes within an area, from one offset to another. The two ranges may overlap.
+    fn slide(&mut self, id: AreaId, from: usize, to: usize, n: usize)
+        requires opened { IsOpen (Self.memory self.old) id.0 }
+        requires source { from + n ≤ length (bytes (Self.memory self.old) id.0) }
+        requires target { to + n ≤ length (bytes (Self.memory self.old) id.0) }
+        ensures { Self.memory self.new ≡ with_bytes (Self.memory self.old) id.0
+            (put (bytes (Self.memory self.old) id.0) to (part (bytes (Self.memory self.old) id.0) from n)) };
+
+    /// Writes n zeros from an offset on.
+    fn zero(&mut self, id: AreaId, at: usize, n: usize)
+        requires opened { IsOpen (Self.memory self.old) id.0 }
+        requires within { at + n ≤ length (bytes (Self.memory self.old) id.0) }
+        ensures { Self.memory self.new ≡ with_bytes (Self.memory self.old) id.0
+            (put (bytes (Self.memory self.old) id.0) at (replicate n 0)) };
+
+    /// Writes bytes that were lent, from an offset on.
+    fn copy_in(&mut self, id: AreaId, at: usize, from: &[u8])
+        requires opened { IsOpen (Self.memory self.old) id.0 }
+        requires within { at + length from.now ≤ length (bytes (Self.memory self.old) id.0) }
+        ensures { Self.memory self.new ≡ with_bytes (Self.memory self.old) id.0
+            (put (bytes (Self.memory self.old) id.0) at from.now) };
+}
+
+/// Areas of whole pages of 4,096 bytes, to be read: what a look at a slot needs of them.
+pub trait Paged: Words {
+    /// The bytes of an area from an offset on, up to the end of the offset's page.
+    fn rest_of_page(&self, id: AreaId, at: usize) -> &[u8]
+        requires opened { IsOpen (Self.memory self.now) id.0 }
+        requires within { at < length (bytes (Self.memory self.now) id.0) }
+        ensures { result.now ≡ part (bytes (Self.memory self.now) id.0) at (PAGE - at % PAGE) };
+
+    /// Each area is a whole number of pages.
+    ghost whole: { (s : Self) (id : ℕ) → length (bytes (Self.memory s) id) % PAGE ≡ 0 };
+}
+
 /// Areas that grow and shrink by whole pages of 4,096 bytes.
 ///
 /// Pages come from those that the areas share from the start. A refused call changes nothing.
-pub trait Pages: Words {
+pub trait Pages: Paged + WordsMut {
     /// Appends this many pages of zeros to an area, whole or not at all, as OS_ChangeDynamicArea
     /// grows one. Refused (`NoPages`) exactly where fewer are free.
     fn grow(&mut self, id: AreaId, pages: usize) -> Result<(), StoreFault>
@@ -114,21 +130,12 @@ pub trait Pages: Words {
         requires within { PAGE * pages ≤ length (bytes (Self.memory self.old) id.0) }
         ensures { Self.memory self.new ≡ shrunk (Self.memory self.old) id.0 pages };
 
-    /// The bytes of an area from an offset on, up to the end of the offset's page.
-    fn rest_of_page(&self, id: AreaId, at: usize) -> &[u8]
-        requires opened { IsOpen (Self.memory self.now) id.0 }
-        requires within { at < length (bytes (Self.memory self.now) id.0) }
-        ensures { result.now ≡ part (bytes (Self.memory self.now) id.0) at (PAGE - at % PAGE) };
-
     /// How many pages are free.
     fn free_pages(&self) -> usize
         ensures { result ≡ (Self.memory self.now).free };
 
     /// Free pages and the pages of all areas are those given at start, which no call changes.
     ghost ledger: { (s : Self) → Ledger (Self.memory s) MAX_AREAS };
-
-    /// Each area is a whole number of pages.
-    ghost whole: { (s : Self) (id : ℕ) → length (bytes (Self.memory s) id) % PAGE ≡ 0 };
 
     /// The free pages and an area's pages together are at most all pages.
     ghost within: { (s : Self) (id : ℕ) →

@@ -11,7 +11,7 @@ ghost use Rattle.rh_defs.specs.declared.sizes.TheConstants.{WORD};
 use crate::layout::LINK;
 use rh_defs::Handle;
 use rh_module::Module;
-use rh_store::Words;
+use rh_store::WordsMut;
 
 /// A live handle, with the offsets in the module area of the first and last block of its chain and of the block that it
 /// holds, 0 for none.
@@ -42,7 +42,7 @@ pub fn shortened(entry: Entry, next: usize) -> Entry
 }
 
 /// Puts a block whose link is 0 at the end of a chain.
-pub fn append<S: Words>(
+pub fn append<S: WordsMut>(
     store: &mut S,
     rma: Module,
     entries: &mut Vec<Entry>,

@@ -3,7 +3,7 @@ ghost use Rattle.std.specs.Prelude.{◌≡◌, ℕ, ◌^◌, ◌≤◌, vec_len,
 ghost use Rattle.rh_defs.specs.Memory.{IsOpen};
 
 use crate::careful;
-use rh_store::{AreaId, Words};
+use rh_store::{AreaId, Words, WordsMut};
 use std::alloc::{AllocError, Global};
 use std::process::Abort;
 
@@ -20,7 +20,7 @@ pub(crate) fn pattern(alloc: Global, n: usize) -> Result<Vec<u8>, AllocError>
 }
 
 /// Slides bytes in an area that begins with the model's, and in the model.
-pub(crate) fn slide_both<R: Abort, S: Words>(
+pub(crate) fn slide_both<R: Abort, S: WordsMut>(
     rt: &R,
     store: &mut S,
     id: AreaId,

@@ -4,11 +4,11 @@ ghost use Rattle.rh_defs.specs.Bytes.{word, part};
 ghost use Rattle.rh_defs.specs.Memory.{IsOpen, bytes};
 
 use rh_defs::sizes::MAX_AREAS;
-use rh_store::{AreaId, Pages, Store, StoreFault, Words};
+use rh_store::{AreaId, Pages, Store, StoreFault, WordsMut};
 
 /// Exchanges the first two words of an area: the example of the crate's first page.
 #[tactic(auto, using(rh_defs::proofs::BytesLaws::word_laws, rh_defs::proofs::MemoryLaws::memory_laws))]
-pub(crate) fn swap_words<S: Words>(store: &mut S, id: AreaId)
+pub(crate) fn swap_words<S: WordsMut>(store: &mut S, id: AreaId)
     requires opened { IsOpen (S.memory store.old) id.0 }
     requires room { 8 ≤ length (bytes (S.memory store.old) id.0) }
     ensures first { word (bytes (S.memory store.new) id.0) 0 ≡ word (bytes (S.memory store.old) id.0) 4 }

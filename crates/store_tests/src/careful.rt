@@ -6,7 +6,7 @@
 ghost use Rattle.std.specs.Prelude.{ℕ, IfOk};
 ghost use Rattle.rh_defs.specs.Memory.{IsOpen};
 
-use rh_store::{AreaId, Pages, Store, StoreFault, Words};
+use rh_store::{AreaId, Pages, Store, StoreFault, Words, WordsMut};
 use std::process::Abort;
 
 /// The word at an offset.
@@ -19,7 +19,7 @@ pub(crate) fn word<R: Abort, S: Words>(rt: &R, store: &S, id: AreaId, at: usize)
 }
 
 /// Writes a word at an offset.
-pub(crate) fn set_word<R: Abort, S: Words>(rt: &R, store: &mut S, id: AreaId, at: usize, word: u32)
+pub(crate) fn set_word<R: Abort, S: WordsMut>(rt: &R, store: &mut S, id: AreaId, at: usize, word: u32)
     requires { IsOpen (S.memory store.old) id.0 }
     ensures { (n : ℕ) → IsOpen (S.memory store.old) n → IsOpen (S.memory store.new) n }
 {
@@ -29,7 +29,7 @@ pub(crate) fn set_word<R: Abort, S: Words>(rt: &R, store: &mut S, id: AreaId, at
 }
 
 /// Writes n zeros from an offset on.
-pub(crate) fn zero<R: Abort, S: Words>(rt: &R, store: &mut S, id: AreaId, at: usize, n: usize)
+pub(crate) fn zero<R: Abort, S: WordsMut>(rt: &R, store: &mut S, id: AreaId, at: usize, n: usize)
     requires { IsOpen (S.memory store.old) id.0 }
     ensures { (n : ℕ) → IsOpen (S.memory store.old) n → IsOpen (S.memory store.new) n }
 {
@@ -39,7 +39,7 @@ pub(crate) fn zero<R: Abort, S: Words>(rt: &R, store: &mut S, id: AreaId, at: us
 }
 
 /// Writes bytes from an offset on.
-pub(crate) fn copy_in<R: Abort, S: Words>(rt: &R, store: &mut S, id: AreaId, at: usize, from: &[u8])
+pub(crate) fn copy_in<R: Abort, S: WordsMut>(rt: &R, store: &mut S, id: AreaId, at: usize, from: &[u8])
     requires { IsOpen (S.memory store.old) id.0 }
     ensures { (n : ℕ) → IsOpen (S.memory store.old) n → IsOpen (S.memory store.new) n }
 {
@@ -58,7 +58,7 @@ pub(crate) fn copy_out<R: Abort, S: Words>(rt: &R, store: &S, id: AreaId, at: us
 }
 
 /// Moves n bytes within an area.
-pub(crate) fn slide<R: Abort, S: Words>(
+pub(crate) fn slide<R: Abort, S: WordsMut>(
     rt: &R,
     store: &mut S,
     id: AreaId,

@@ -8,7 +8,7 @@ use crate::buffers::{reads_as, slide_both};
 use crate::callers::{lengthen, make, stamp, swap_words};
 use crate::careful;
 use crate::same::{is_true, same};
-use rh_store::{AreaId, Pages, Store, StoreFault, Words};
+use rh_store::{AreaId, Pages, Store, StoreFault, WordsMut};
 use std::process::Abort;
 
 /// Of 8 pages: 70 areas can be open and no more, and one of them takes all pages and no more.
@@ -123,7 +123,7 @@ pub(crate) fn words_are_little_endian<R: Abort, S: Store>(
 }
 
 /// A word in an area of zeros, seen as its bytes, from the next byte on, and with its upper half cleared.
-fn word_is_little_endian<R: Abort, S: Words>(rt: &R, store: &mut S, id: AreaId, at: usize)
+fn word_is_little_endian<R: Abort, S: WordsMut>(rt: &R, store: &mut S, id: AreaId, at: usize)
     requires { IsOpen (S.memory store.old) id.0 }
     ensures { (n : ℕ) → IsOpen (S.memory store.old) n → IsOpen (S.memory store.new) n }
 {

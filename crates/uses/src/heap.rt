@@ -8,7 +8,7 @@ ghost use Rattle.uses.specs.Areas.{IsNewArea, one_page};
 
 use rh_defs::sizes::PAGE;
 use rh_heap::{Span, claim, describe, init, release};
-use rh_store::{Store, StoreFault, Words};
+use rh_store::{Store, StoreFault, WordsMut};
 
 /// Opens an area of one page, and makes it an empty heap. Refused, and nothing changed: `TooManyAreas` where 70 are
 /// open, `NoPages` where no page is free. (OS_Heap 0.)
@@ -33,7 +33,7 @@ pub fn start_heap<S: Store>(store: &mut S) -> Result<Span, StoreFault>
 
 /// Claims blocks of 20 and of 100 bytes in an empty heap of one page, and releases the first. Answers where the second
 /// is, the largest block that a claim would now be given, and all free bytes. (OS_Heap 2, 3 and 1.)
-pub fn two_blocks<S: Words>(store: &mut S, span: Span) -> (usize, usize, usize)
+pub fn two_blocks<S: WordsMut>(store: &mut S, span: Span) -> (usize, usize, usize)
     requires span { IsSpan (S.memory store.old) span }
     requires empty { heap_in (S.memory store.old) span ≡ empty_heap PAGE }
     ensures span { IsSpan (S.memory store.new) span }

@@ -17,10 +17,10 @@ use crate::span::stretch::{Stretch, settle};
 use crate::span::words::{clear, follow, read, write};
 use rh_defs::HeapRefusal;
 use rh_defs::sizes::{HEAP_BASE, HEAP_END, segment_size};
-use rh_store::Words;
+use rh_store::{Words, WordsMut};
 
 /// Writes a used segment of `size` bytes with a block of zeros.
-fn put_zeros<S: Words>(store: &mut S, span: Span, place: usize, size: usize)
+fn put_zeros<S: WordsMut>(store: &mut S, span: Span, place: usize, size: usize)
     requires opened { IsOpen (S.memory store.old) span.area.0 }
     requires within { span.at + place + size ≤ length (bytes_in (S.memory store.old) span) }
     requires least { HEAP_UNIT ≤ size }
@@ -33,7 +33,7 @@ fn put_zeros<S: Words>(store: &mut S, span: Span, place: usize, size: usize)
 }
 
 /// Puts a block of zeros into the lower bytes of a hole.
-fn fill<S: Words>(store: &mut S, span: Span, gap: Gap, size: usize)
+fn fill<S: WordsMut>(store: &mut S, span: Span, gap: Gap, size: usize)
     requires span { IsSpan (S.memory store.old) span }
     requires gap { FoundHole span.at (heap_in (S.memory store.old) span) size gap }
     requires least { HEAP_UNIT ≤ size }
@@ -56,7 +56,7 @@ fn fill<S: Words>(store: &mut S, span: Span, gap: Gap, size: usize)
 }
 
 /// Puts a block of zeros above all segments.
-fn append<S: Words>(store: &mut S, span: Span, top: usize, size: usize)
+fn append<S: WordsMut>(store: &mut S, span: Span, top: usize, size: usize)
     requires span { IsSpan (S.memory store.old) span }
     requires none { hole_for size (heap_in (S.memory store.old) span).segments ≡ None }
     requires top { top ≡ base (heap_in (S.memory store.old) span) }
@@ -71,7 +71,7 @@ fn append<S: Words>(store: &mut S, span: Span, top: usize, size: usize)
 }
 
 /// Puts a block of zeros into a segment of `size` bytes, in the first hole with room or above all segments.
-pub fn take<S: Words>(store: &mut S, span: Span, size: usize) -> Option<usize>
+pub fn take<S: WordsMut>(store: &mut S, span: Span, size: usize) -> Option<usize>
     requires span { IsSpan (S.memory store.old) span }
     requires least { HEAP_UNIT ≤ size }
     requires multiple { size % HEAP_UNIT ≡ 0 }
@@ -112,7 +112,7 @@ pub fn shortage<S: Words>(store: &S, span: Span, size: usize) -> usize
 
 /// Claims a block of `n` bytes at least, all 0, and answers its address: in the first hole with room, or above all
 /// segments. Refused: `BadSize` for 0 bytes, `NoRoom` where the heap is too short. (OS_Heap 2.)
-pub fn claim<S: Words>(store: &mut S, span: Span, n: u32) -> Result<usize, HeapRefusal>
+pub fn claim<S: WordsMut>(store: &mut S, span: Span, n: u32) -> Result<usize, HeapRefusal>
     requires { IsSpan (S.memory store.old) span }
     ensures { Leaves (S.memory store.old) (S.memory store.new) span
         (claim n (heap_in (S.memory store.old) span)) result }

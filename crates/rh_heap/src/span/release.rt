@@ -11,11 +11,11 @@ use crate::span::segments::locate;
 use crate::span::stretch::{Stretch, settle};
 use crate::span::words::follow;
 use rh_defs::HeapRefusal;
-use rh_store::Words;
+use rh_store::WordsMut;
 
 /// Releases the block at an address: its segment becomes a hole, which joins those beside it, and at the base a part
 /// of the top. Refused (`NotABlock`) exactly where no block begins there. (OS_Heap 3.)
-pub fn release<S: Words>(store: &mut S, span: Span, address: usize) -> Result<(), HeapRefusal>
+pub fn release<S: WordsMut>(store: &mut S, span: Span, address: usize) -> Result<(), HeapRefusal>
     requires { IsSpan (S.memory store.old) span }
     ensures { Leaves (S.memory store.old) (S.memory store.new) span
         (no_answer (released_at address (heap_in (S.memory store.old) span))) result }

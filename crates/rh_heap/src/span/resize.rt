@@ -20,7 +20,7 @@ use crate::span::stretch::{Stretch, settle};
 use crate::span::words::{clear, follow, move_bytes, read, write};
 use rh_defs::HeapRefusal;
 use rh_defs::sizes::{HEAP_BASE, HEAP_END, moved, segment_size};
-use rh_store::Words;
+use rh_store::{Words, WordsMut};
 
 /// How a block gets another size: it stays, its upper bytes become a hole, it grows into the hole of so many bytes
 /// that follows, or at the top, or it moves.
@@ -67,7 +67,7 @@ pub fn way_to<S: Words>(store: &S, span: Span, spot: Spot, size: usize) -> Way
 }
 
 /// Gives the segment at `spot` the size of `size` bytes, with zeros behind the old bytes.
-fn lengthen<S: Words>(store: &mut S, span: Span, spot: Spot, size: usize)
+fn lengthen<S: WordsMut>(store: &mut S, span: Span, spot: Spot, size: usize)
     requires opened { IsOpen (S.memory store.old) span.area.0 }
     requires within { span.at + spot.place + size ≤ length (bytes_in (S.memory store.old) span) }
     requires least { HEAP_UNIT ≤ spot.size }
@@ -82,7 +82,7 @@ fn lengthen<S: Words>(store: &mut S, span: Span, spot: Spot, size: usize)
 }
 
 /// Makes the upper bytes of a block a hole.
-fn shrink<S: Words>(store: &mut S, span: Span, spot: Spot, size: usize)
+fn shrink<S: WordsMut>(store: &mut S, span: Span, spot: Spot, size: usize)
     requires span { IsSpan (S.memory store.old) span }
     requires found { FoundBlock span.at (heap_in (S.memory store.old) span) (spot.place + BLOCK) spot }
     requires least { HEAP_UNIT ≤ size }
@@ -106,7 +106,7 @@ fn shrink<S: Words>(store: &mut S, span: Span, spot: Spot, size: usize)
 }
 
 /// Lets a block grow into the hole of `room` bytes that follows.
-fn widen<S: Words>(store: &mut S, span: Span, spot: Spot, size: usize, room: usize)
+fn widen<S: WordsMut>(store: &mut S, span: Span, spot: Spot, size: usize, room: usize)
     requires span { IsSpan (S.memory store.old) span }
     requires found { FoundBlock span.at (heap_in (S.memory store.old) span) (spot.place + BLOCK) spot }
     requires multiple { size % HEAP_UNIT ≡ 0 }
@@ -130,7 +130,7 @@ fn widen<S: Words>(store: &mut S, span: Span, spot: Spot, size: usize, room: usi
 }
 
 /// Lets the last block grow.
-fn raise<S: Words>(store: &mut S, span: Span, spot: Spot, size: usize)
+fn raise<S: WordsMut>(store: &mut S, span: Span, spot: Spot, size: usize)
     requires span { IsSpan (S.memory store.old) span }
     requires found { FoundBlock span.at (heap_in (S.memory store.old) span) (spot.place + BLOCK) spot }
     requires multiple { size % HEAP_UNIT ≡ 0 }
@@ -144,7 +144,7 @@ fn raise<S: Words>(store: &mut S, span: Span, spot: Spot, size: usize)
 }
 
 /// Moves a block to a segment of `size` bytes elsewhere, with zeros behind its bytes, and releases the old one.
-fn move_block<S: Words>(store: &mut S, span: Span, spot: Spot, size: usize) -> Option<usize>
+fn move_block<S: WordsMut>(store: &mut S, span: Span, spot: Spot, size: usize) -> Option<usize>
     requires span { IsSpan (S.memory store.old) span }
     requires found { FoundBlock span.at (heap_in (S.memory store.old) span) (spot.place + BLOCK) spot }
     requires multiple { size % HEAP_UNIT ≡ 0 }
@@ -167,7 +167,7 @@ fn move_block<S: Words>(store: &mut S, span: Span, spot: Spot, size: usize) -> O
 }
 
 /// Gives a block a segment of `size` bytes, and answers its address.
-fn change<S: Words>(
+fn change<S: WordsMut>(
     store: &mut S,
     span: Span,
     spot: Spot,
@@ -226,7 +226,7 @@ fn short_by<S: Words>(store: &S, span: Span, spot: Spot, size: usize) -> usize
 /// Gives the block at an address `delta` bytes more, or fewer where `delta` is negative, and answers its address. Bytes
 /// past the old ones are 0. Refused: `NotABlock`, `BadSize` where fewer than 1 byte would be left, `NoRoom` where the
 /// heap is too short. (OS_Heap 4.)
-pub fn resize<S: Words>(
+pub fn resize<S: WordsMut>(
     store: &mut S,
     span: Span,
     address: usize,

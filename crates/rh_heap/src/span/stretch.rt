@@ -9,7 +9,7 @@ use crate::layout::HOLE_SIZE;
 use crate::span::Span;
 use crate::span::words::{follow, read, write, write_link};
 use rh_defs::sizes::HEAP_BASE;
-use rh_store::Words;
+use rh_store::WordsMut;
 
 /// A stretch of a heap's bytes from `low` up to `upper` that belongs to no segment. The link before it is at
 /// `link`, and the next hole behind it is at `next`, or there is none and `next` is 0.
@@ -22,7 +22,7 @@ pub struct Stretch {
 }
 
 /// Makes a stretch a hole. The segment that follows is used.
-fn put_hole<S: Words>(store: &mut S, span: Span, stretch: Stretch)
+fn put_hole<S: WordsMut>(store: &mut S, span: Span, stretch: Stretch)
     requires opened { IsOpen (S.memory store.old) span.area.0 }
     requires stretch { IsStretch (bytes_in (S.memory store.old) span) span.at stretch }
     requires some { stretch.low + HOLE_HEADER ≤ stretch.upper }
@@ -40,7 +40,7 @@ fn put_hole<S: Words>(store: &mut S, span: Span, stretch: Stretch)
 }
 
 /// Makes a stretch a hole, which joins one that follows. At the base it becomes a part of the top.
-pub fn settle<S: Words>(store: &mut S, span: Span, stretch: Stretch)
+pub fn settle<S: WordsMut>(store: &mut S, span: Span, stretch: Stretch)
     requires opened { IsOpen (S.memory store.old) span.area.0 }
     requires stretch { IsStretch (bytes_in (S.memory store.old) span) span.at stretch }
     ensures settles { Settles (bytes_in (S.memory store.old) span) (bytes_in (S.memory store.new) span) span.at stretch }

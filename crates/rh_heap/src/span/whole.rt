@@ -12,10 +12,10 @@ use crate::span::Span;
 use crate::span::words::{read, write};
 use rh_defs::HeapRefusal;
 use rh_defs::sizes::{HEAP_BASE, HEAP_END, HEAP_FIRST, HEAP_FREE, HEAP_SPECIAL, HEAP_WORD, moved};
-use rh_store::Words;
+use rh_store::{Words, WordsMut};
 
 /// Makes the first `end` bytes of a span an empty heap. `end` is a multiple of 8, and at least 16. (OS_Heap 0.)
-pub fn init<S: Words>(store: &mut S, span: Span, end: usize)
+pub fn init<S: WordsMut>(store: &mut S, span: Span, end: usize)
     requires opened { IsOpen (S.memory store.old) span.area.0 }
     requires within { span.at + end ≤ length (bytes_in (S.memory store.old) span) }
     requires least { HEAP_FIRST ≤ end }
@@ -41,7 +41,7 @@ pub fn end<S: Words>(store: &S, span: Span) -> usize
 
 /// Moves a heap's end by `delta` bytes, a multiple of 8. The bytes up to the new end are in the area. Refused
 /// (`ExcessiveShrink`) exactly where the end would be below the last block. (OS_Heap 5.)
-pub fn extend_heap<S: Words>(store: &mut S, span: Span, delta: i32) -> Result<(), HeapRefusal>
+pub fn extend_heap<S: WordsMut>(store: &mut S, span: Span, delta: i32) -> Result<(), HeapRefusal>
     requires span { IsSpan (S.memory store.old) span }
     requires multiple { moved (heap_in (S.memory store.old) span).end delta % HEAP_UNIT ≡ 0 }
     requires within { span.at + moved (heap_in (S.memory store.old) span).end delta ≤ length (bytes_in (S.memory store.old) span) }

@@ -7,7 +7,7 @@ ghost use Rattle.rh_defs.specs.HeapParts.{LinksTo};
 ghost use Rattle.rh_defs.specs.declared.sizes.TheConstants.{WORD};
 
 use crate::span::Span;
-use rh_store::Words;
+use rh_store::{Words, WordsMut};
 
 /// The word at a place.
 pub fn read<S: Words>(store: &S, span: Span, place: usize) -> usize
@@ -21,7 +21,7 @@ pub fn read<S: Words>(store: &S, span: Span, place: usize) -> usize
 
 /// Writes a word at a place.
 #[tactic(auto, using(rh_defs::proofs::BytesLaws::word_laws, rh_defs::proofs::MemoryLaws::memory_laws))]
-pub fn write<S: Words>(store: &mut S, span: Span, place: usize, w: usize)
+pub fn write<S: WordsMut>(store: &mut S, span: Span, place: usize, w: usize)
     requires opened { IsOpen (S.memory store.old) span.area.0 }
     requires within { span.at + place + WORD ≤ length (bytes_in (S.memory store.old) span) }
     requires fits { w < 2 ^ 32 }
@@ -33,7 +33,7 @@ pub fn write<S: Words>(store: &mut S, span: Span, place: usize, w: usize)
 
 /// Writes `n` zeros from a place on.
 #[tactic(auto, using(rh_defs::proofs::BytesLaws::word_laws, rh_defs::proofs::MemoryLaws::memory_laws))]
-pub fn clear<S: Words>(store: &mut S, span: Span, place: usize, n: usize)
+pub fn clear<S: WordsMut>(store: &mut S, span: Span, place: usize, n: usize)
     requires opened { IsOpen (S.memory store.old) span.area.0 }
     requires within { span.at + place + n ≤ length (bytes_in (S.memory store.old) span) }
     ensures zeros { part (bytes_in (S.memory store.new) span) (span.at + place) n ≡ replicate n 0 }
@@ -53,7 +53,7 @@ pub fn follow<S: Words>(store: &S, span: Span, from: usize) -> usize
 }
 
 /// Makes the link at `from` lead to a hole further on, or nowhere where `to` is 0.
-pub fn write_link<S: Words>(store: &mut S, span: Span, from: usize, to: usize)
+pub fn write_link<S: WordsMut>(store: &mut S, span: Span, from: usize, to: usize)
     requires opened { IsOpen (S.memory store.old) span.area.0 }
     requires within { span.at + from + WORD ≤ length (bytes_in (S.memory store.old) span) }
     requires ahead { to ≢ 0 → from < to }
@@ -65,7 +65,7 @@ pub fn write_link<S: Words>(store: &mut S, span: Span, from: usize, to: usize)
 }
 
 /// Copies `n` bytes of a heap from one place to another.
-pub fn move_bytes<S: Words>(store: &mut S, span: Span, from: usize, to: usize, n: usize)
+pub fn move_bytes<S: WordsMut>(store: &mut S, span: Span, from: usize, to: usize, n: usize)
     requires opened { IsOpen (S.memory store.old) span.area.0 }
     requires source { span.at + from + n ≤ length (bytes_in (S.memory store.old) span) }
     requires target { span.at + to + n ≤ length (bytes_in (S.memory store.old) span) }

@@ -5,7 +5,7 @@ ghost use Rattle.std.specs.Prelude.{◌≡◌, ℕ, ◌<◌, true, false, get_or
 
 use super::PagedStore;
 use rh_defs::sizes::{PAGE, WORD};
-use rh_store::{AreaId, Pages, Sited, Store, StoreFault, Words};
+use rh_store::{AreaId, Paged, Pages, Sited, Store, StoreFault, Words, WordsMut};
 
 /// The number of the first area that isn't open.
 fn first_closed(opened: &[bool]) -> Option<usize>
@@ -38,6 +38,30 @@ impl Words for PagedStore {
         }
     }
 
+    fn copy_out(&self, id: AreaId, at: usize, to: &mut [u8]) {
+        let n = to.len();
+        let mut done = 0;
+        while done < n {
+            let source = at + done;
+            let run = (n - done).min(PAGE - source % PAGE);
+            self.get_part(id, source, &mut to[done..done + run]);
+            done += run;
+        }
+    }
+
+    fn run(&self, id: AreaId, at: usize) -> &[u8] {
+        let first = self.spot(id, at);
+        self.region.bytes(first, PAGE - at % PAGE)
+    }
+
+    fn len(&self, id: AreaId) -> usize {
+        PAGE * self.areas[id.0 as usize].len()
+    }
+
+    ghost small = { small_law };
+}
+
+impl WordsMut for PagedStore {
     fn set_word(&mut self, id: AreaId, at: usize, w: u32) {
         let page = at / PAGE;
         let offset = at - PAGE * page;
@@ -77,32 +101,21 @@ impl Words for PagedStore {
             done += run;
         }
     }
+}
 
-    fn copy_out(&self, id: AreaId, at: usize, to: &mut [u8]) {
-        let n = to.len();
-        let mut done = 0;
-        while done < n {
-            let source = at + done;
-            let run = (n - done).min(PAGE - source % PAGE);
-            self.get_part(id, source, &mut to[done..done + run]);
-            done += run;
-        }
+impl Paged for PagedStore {
+    ghost use Rattle.rh_pages.specs.Paged.{whole_law};
+
+    fn rest_of_page(&self, id: AreaId, at: usize) -> &[u8] {
+        let start = self.spot(id, at);
+        self.region.bytes(start, PAGE - at % PAGE)
     }
 
-    fn run(&self, id: AreaId, at: usize) -> &[u8] {
-        let first = self.spot(id, at);
-        self.region.bytes(first, PAGE - at % PAGE)
-    }
-
-    fn len(&self, id: AreaId) -> usize {
-        PAGE * self.areas[id.0 as usize].len()
-    }
-
-    ghost small = { small_law };
+    ghost whole = { whole_law };
 }
 
 impl Pages for PagedStore {
-    ghost use Rattle.rh_pages.specs.Paged.{ledger_law, whole_law, within_law, few_law};
+    ghost use Rattle.rh_pages.specs.Paged.{ledger_law, within_law, few_law};
 
     fn grow(&mut self, id: AreaId, pages: usize) -> Result<(), StoreFault> {
         if self.free.len() < pages {
@@ -124,18 +137,11 @@ impl Pages for PagedStore {
         }
     }
 
-    fn rest_of_page(&self, id: AreaId, at: usize) -> &[u8] {
-        let start = self.spot(id, at);
-        self.region.bytes(start, PAGE - at % PAGE)
-    }
-
     fn free_pages(&self) -> usize {
         self.free.len()
     }
 
     ghost ledger = { ledger_law };
-
-    ghost whole = { whole_law };
 
     ghost within = { within_law };
 

@@ -1,0 +1,22 @@
+use Rattle.std.proofs.Common.{◌-◌, ◌%◌, sym, ◌∙◌, arith}
+use Rattle.rh_defs.proofs.BytesLaws.{part-range}
+use Rattle.rh_pages.specs.Paged.{whole_law}
+use Rattle.rh_pages.proofs.Seats.{seat}
+use Rattle.rh_pages.proofs.paged.store.PagedStorePaged.rest_of_page.Goals as goal
+
+pub bytes-requires : goal.bytes-requires
+bytes-requires c =
+    let s = c.args.self.now in
+    let within = c.requires.within in
+    let whole = whole_law s c.args.id.0 in
+    (seat s c.args.id.0 c.args.at (4096 - c.args.at % 4096) c.spot-start.result c.requires.opened (omega arith) (omega arith) (omega arith) c.spot-start.ensures).within
+
+pub returns : goal.returns
+returns c =
+    let s = c.args.self.now in
+    let n = 4096 - c.args.at % 4096 in
+    let p = c.spot-start.result in
+    let within = c.requires.within in
+    let whole = whole_law s c.args.id.0 in
+    let there = seat s c.args.id.0 c.args.at n p c.requires.opened (omega arith) (omega arith) (omega arith) c.spot-start.ensures in
+    c.bytes.ensures ∙ sym (part-range s.region p n there.within) ∙ there.read
