@@ -7,7 +7,7 @@ use crate::heaps::IMAGE;
 use crate::same::{is_true, same};
 use rh_defs::HeapRefusal;
 use rh_heap::Segment;
-use rh_lent::{LENT, Lent, heap};
+use rh_lent::{LENT, LentMut, heap};
 use rh_store::Words;
 use std::alloc::{AllocError, Global};
 use std::process::Abort;
@@ -136,7 +136,7 @@ fn a_heap_is_longer_than_a_desk(rt: HostRuntime) -> Result<(), Fail> {
 #[tactic(auto, unfolding(rh_lent::specs::Lent::memory_of, rh_lent::specs::Lent::memory_over, rh_defs::specs::Memory::area_set, rh_defs::specs::Memory::bytes))]
 fn a_run_of_lent_bytes_goes_up_to_their_end(rt: HostRuntime) -> Result<(), Fail> {
     let mut bytes = [1, 2, 3, 4, 5, 6, 7];
-    let store = Lent { bytes: &mut bytes };
+    let store = LentMut { bytes: &mut bytes };
     same(&rt, store.run(LENT, 2), &[3, 4, 5, 6, 7]);
     same(&rt, store.run(LENT, 6), &[7]);
     same(&rt, store.len(LENT), 7);

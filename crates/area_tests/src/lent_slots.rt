@@ -8,7 +8,7 @@ use crate::lent_bench::LentBench;
 use crate::same::{is_true, same};
 use arrayvec::ArrayVec;
 use rh_defs::{Anchor, BlockItem, Refusal};
-use rh_flex::{LentPages, LentSlot};
+use rh_flex::{LentPagesMut, LentSlot};
 use rh_heap::Segment;
 use rh_lent::LENT;
 use rh_store::{AreaId, Pages, StoreFault};
@@ -307,7 +307,7 @@ fn a_page_comes_and_goes<R: Abort, S: Pages>(
 #[tactic(auto, unfolding(rh_flex::specs::Pages::memory_of, rh_flex::specs::Pages::memory_over, rh_defs::specs::Memory::area_set, rh_defs::specs::Memory::bytes))]
 fn a_lent_page_comes_and_goes(rt: HostRuntime) -> Result<(), Fail> {
     let mut bytes = vec![in rt.alloc(); 9; 9000]?;
-    let mut store = LentPages {
+    let mut store = LentPagesMut {
         bytes: &mut bytes,
         pages: 1,
     };

@@ -9,8 +9,9 @@ use Rattle.rh_defs.specs.Bytes.{word, put, put_word, part}
 use Rattle.rh_defs.specs.Memory.{Memory, IsOpen, area_set, bytes, with_bytes, grown, shrunk}
 use Rattle.rh_defs.proofs.BytesLaws.{length-put, length-part, part-take, word-take, put-append_left, put-parts}
 use Rattle.rh_defs.proofs.MemoryLaws.{area_set-area_set}
-use Rattle.rh_flex.specs.Pages.{first_pages, pages_behind, memory_over, memory_in, memory_of}
+use Rattle.rh_flex.specs.Pages.{first_pages, pages_behind, memory_over, memory_in, memory_of, memory_shown}
 use Rattle.rh_flex.specs.declared.pages.LentPages.{LentPages}
+use Rattle.rh_flex.specs.declared.pages_mut.LentPagesMut.{LentPagesMut}
 
 -- ---- the first bytes of a list
 
@@ -93,26 +94,62 @@ module _ (bs : List ℕ) (free pages loan id : ℕ) (o : IsOpen (memory_over bs 
 
 -- ---- the area of lent pages
 
-module _ (s : LentPages) (id : ℕ) (o : IsOpen (memory_of s) id) where
+-- the first n pages of bytes, under any name of a loan
+module _ (b : List ℕ) (n loan id : ℕ) (within : 4096 * n ≤ length b) (o : IsOpen (memory_in b n loan) id) where
+  pages_bytes : bytes (memory_in b n loan) id ≡ first_pages n b
+  pages_bytes = bytes_over _ _ _ _ id o
+
+  pages_length : length (bytes (memory_in b n loan) id) ≡ 4096 * n
+  pages_length = ap length pages_bytes ∙ length-take-le (4096 * n) b within
+
+  pages_part : (at k : ℕ) → at + k ≤ length (bytes (memory_in b n loan) id)
+      → part b at k ≡ part (bytes (memory_in b n loan) id) at k
+  pages_part at k h =
+      let long = pages_length in
+      sym (ap (λ (x : List ℕ). part x at k) pages_bytes ∙ part-take (4096 * n) b at k (omega arith))
+
+  pages_word : (at : ℕ) → at + 4 ≤ length (bytes (memory_in b n loan) id)
+      → word b at ≡ word (bytes (memory_in b n loan) id) at
+  pages_word at h =
+      let long = pages_length in
+      sym (ap (λ (x : List ℕ). word x at) pages_bytes ∙ word-take (4096 * n) b at (omega arith))
+
+-- bytes that are lent to be read
+module _ (s : LentPages) (id : ℕ) (o : IsOpen (memory_shown s) id) where
+  pub shown_length : length (bytes (memory_shown s) id) ≡ 4096 * s.pages
+  unfolding memory_shown
+  shown_length = pages_length s.bytes.now s.pages 0 id s.within o
+
+  pub shown_part : (at n : ℕ) → at + n ≤ length (bytes (memory_shown s) id)
+      → part s.bytes.now at n ≡ part (bytes (memory_shown s) id) at n
+  unfolding memory_shown
+  shown_part at n h = pages_part s.bytes.now s.pages 0 id s.within o at n h
+
+  pub shown_word : (at : ℕ) → at + 4 ≤ length (bytes (memory_shown s) id)
+      → word s.bytes.now at ≡ word (bytes (memory_shown s) id) at
+  unfolding memory_shown
+  shown_word at h = pages_word s.bytes.now s.pages 0 id s.within o at h
+
+-- bytes that are lent to be written
+module _ (s : LentPagesMut) (id : ℕ) (o : IsOpen (memory_of s) id) where
   -- an open area's bytes are those of the first pages
   pub lent_bytes : bytes (memory_of s) id ≡ first_pages s.pages s.bytes.now
   unfolding memory_of
-  lent_bytes = bytes_over _ _ _ _ id o
+  lent_bytes = pages_bytes s.bytes.now s.pages s.bytes.ghost_name id s.within o
 
   pub lent_length : length (bytes (memory_of s) id) ≡ 4096 * s.pages
-  lent_length = ap length lent_bytes ∙ length-take-le (4096 * s.pages) s.bytes.now s.within
+  unfolding memory_of
+  lent_length = pages_length s.bytes.now s.pages s.bytes.ghost_name id s.within o
 
   pub part_in : (at n : ℕ) → at + n ≤ length (bytes (memory_of s) id)
       → part s.bytes.now at n ≡ part (bytes (memory_of s) id) at n
-  part_in at n h =
-      let long = lent_length in
-      sym (ap (λ (x : List ℕ). part x at n) lent_bytes ∙ part-take (4096 * s.pages) s.bytes.now at n (omega arith))
+  unfolding memory_of
+  part_in at n h = pages_part s.bytes.now s.pages s.bytes.ghost_name id s.within o at n h
 
   pub word_in : (at : ℕ) → at + 4 ≤ length (bytes (memory_of s) id)
       → word s.bytes.now at ≡ word (bytes (memory_of s) id) at
-  word_in at h =
-      let long = lent_length in
-      sym (ap (λ (x : List ℕ). word x at) lent_bytes ∙ word-take (4096 * s.pages) s.bytes.now at (omega arith))
+  unfolding memory_of
+  word_in at h = pages_word s.bytes.now s.pages s.bytes.ghost_name id s.within o at h
 
   same_length : (new : List ℕ) → length new ≡ length s.bytes.now → memory_in new s.pages s.bytes.ghost_name
       ≡ memory_over (first_pages s.pages new) (pages_behind s.pages s.bytes.now) (length s.bytes.now / 4096) s.bytes.ghost_name

@@ -15,7 +15,7 @@ use Rattle.rh_defs.proofs.MemoryLaws.{OnlyArea-self}
 use Rattle.rh_defs.proofs.SlotImageLaws.{slot_of-SlotWords, SpellsSlot-budging}
 use Rattle.rh_flex.specs.Pages.{first_pages, pages_behind, memory_over, memory_in, memory_of}
 use Rattle.rh_flex.specs.Slots.{IsSlotBytes, LeavesSlot, bytes_of, slot_in}
-use Rattle.rh_flex.specs.declared.pages.LentPages.{LentPages}
+use Rattle.rh_flex.specs.declared.pages_mut.LentPagesMut.{LentPagesMut}
 use Rattle.rh_flex.specs.declared.slot.LentSlot.{LentSlot}
 use Rattle.rh_flex.proofs.Over.{over-open, take-zeros}
 use Rattle.rh_slot.specs.Area.{IsSlot}
@@ -37,7 +37,7 @@ is_slot b s l h = record {
 }
 
 -- a refused call leaves the slot's pages
-same_err : {A : Type 0} (b : List ℕ) (n l : ℕ) (store : LentPages) (result : Granted A) → 4096 * n ≤ length b
+same_err : {A : Type 0} (b : List ℕ) (n l : ℕ) (store : LentPagesMut) (result : Granted A) → 4096 * n ≤ length b
     → OnErr result (memory_of store ≡ memory_in b n l)
     → OnErr result ((store.pages ≡ n) × (first_pages store.pages store.bytes.now ≡ first_pages n b))
 unfolding memory_of memory_over area_set bytes
@@ -50,7 +50,7 @@ same_err b n l store (Err x) w e =
     (omega arith, is)
 
 -- what is left of the memory is left of the bytes
-pub leaves_slot : {A : Type 0} (b : List ℕ) (s : LentSlot) (l : ℕ) (store : LentPages) (granted : Granted (plain.Slot × A))
+pub leaves_slot : {A : Type 0} (b : List ℕ) (s : LentSlot) (l : ℕ) (store : LentPagesMut) (granted : Granted (plain.Slot × A))
     (result : Granted A) → IsSlotBytes b s → Leaves (memory_in b s.pages l) (memory_of store) (lent s.budge) granted result
     → LeavesSlot b store.bytes.now s (record { pages = store.pages; budge = s.budge }) granted result
 unfolding memory_of memory_over area_set bytes
@@ -63,7 +63,7 @@ leaves_slot b s l store granted result h e = record {
 }
 
 -- the same of a call with a signed argument, from what is said of the number that it is passed as
-pub leaves_signed : {A : Type 0} (b : List ℕ) (s : LentSlot) (l : ℕ) (store : LentPages)
+pub leaves_signed : {A : Type 0} (b : List ℕ) (s : LentSlot) (l : ℕ) (store : LentPagesMut)
     (granted : ℤ → Granted (plain.Slot × A)) (result : Granted A) (d e : ℤ) → d ≡ e → IsSlotBytes b s
     → Leaves (memory_in b s.pages l) (memory_of store) (lent s.budge) (granted d) result
     → LeavesSlot b store.bytes.now s (record { pages = store.pages; budge = s.budge }) (granted e) result
@@ -89,7 +89,7 @@ pub page_of_zeros : (b c : List ℕ) → 4096 ≤ length b → c ≡ put b 0 (re
 page_of_zeros b c h e = ap (take 4096) e ∙ take-zeros 0 4096 b h
 
 -- an empty heap behind the anchor words of a page of zeros
-pub begun : (b : List ℕ) (l : ℕ) (store : LentPages) → first_pages 1 b ≡ replicate 4096 0
+pub begun : (b : List ℕ) (l : ℕ) (store : LentPagesMut) → first_pages 1 b ≡ replicate 4096 0
     → Edited (memory_in b 1 l) (memory_of store) 0 256 4096 → Spells (bytes (memory_of store) 0) 256 (empty_heap 3840)
     → SpellsSlot (first_pages store.pages store.bytes.now) new_slot
 unfolding memory_of memory_over area_set bytes
@@ -105,12 +105,12 @@ begun b l store z e s =
     spells_new m m (memory_of store) 0 page e s
 
 -- so the bytes have a new slot
-pub begun_slot : (store : LentPages) → SpellsSlot (first_pages store.pages store.bytes.now) new_slot
+pub begun_slot : (store : LentPagesMut) → SpellsSlot (first_pages store.pages store.bytes.now) new_slot
     → slot_in store.bytes.now (record { pages = store.pages; budge = true }) ≡ new_slot
 unfolding memory_of memory_over area_set bytes
 begun_slot store s = slot_now (memory_of store) (lent true) new_slot s refl
 
-pub begun_bytes : (store : LentPages) → SpellsSlot (first_pages store.pages store.bytes.now) new_slot
+pub begun_bytes : (store : LentPagesMut) → SpellsSlot (first_pages store.pages store.bytes.now) new_slot
     → IsSlotBytes store.bytes.now (record { pages = store.pages; budge = true })
 begun_bytes store s = record {
   few = store.few;

@@ -5,6 +5,7 @@ use Rattle.std.proofs.lemmas.List.{length-take-le}
 use Rattle.rh_defs.specs.Memory.{Memory, Ledger, area_set, bytes, pages_below}
 use Rattle.rh_defs.specs.declared.sizes.TheConstants.{MAX_AREAS, PAGE}
 use Rattle.rh_flex.specs.declared.pages.LentPages.{LentPages}
+use Rattle.rh_flex.specs.declared.pages_mut.LentPagesMut.{LentPagesMut}
 use Rattle.rh_store.specs.Limits.{area_limit, pool_limit}
 
 -- the bytes of the first n pages
@@ -25,11 +26,15 @@ abbrev pub memory_in : List ℕ → ℕ → ℕ → Memory
 memory_in b n loan = memory_over (first_pages n b) (pages_behind n b) (length b / PAGE) loan
 
 -- the memory of the bytes as they are now
-unfoldable pub memory_of : LentPages → Memory
+unfoldable pub memory_of : LentPagesMut → Memory
 memory_of s = memory_in s.bytes.now s.pages s.bytes.ghost_name
 
-long : (s : LentPages) → length (first_pages s.pages s.bytes.now) ≡ PAGE * s.pages
-long s = length-take-le (PAGE * s.pages) s.bytes.now s.within
+-- the memory of bytes that are lent to be read: no edit needs the loan's name
+unfoldable pub memory_shown : LentPages → Memory
+memory_shown s = memory_in s.bytes.now s.pages 0
+
+long : (b : List ℕ) (n : ℕ) → PAGE * n ≤ length b → length (first_pages n b) ≡ PAGE * n
+long b n within = length-take-le (PAGE * n) b within
 
 one_short : (b : Bool) (bs : List ℕ) (n : ℕ) → length bs ≤ n → length (unwrap_or (cond b (Some bs) None) []) ≤ n
 one_short true bs n h = h
@@ -40,27 +45,37 @@ one_whole : (b : Bool) (bs : List ℕ) → length bs % PAGE ≡ 0
 one_whole true bs h = h
 one_whole false bs h = refl
 
-pub small_law : (s : LentPages) (id : ℕ) → length (bytes (memory_of s) id) ≤ area_limit
+pub small_law : (s : LentPagesMut) (id : ℕ) → length (bytes (memory_of s) id) ≤ area_limit
 unfolding memory_of memory_over area_set bytes
 small_law s id =
-    one_short (id == 0) _ area_limit (let l = long s in let w = s.within in let f = s.few in omega arith)
+    one_short (id == 0) _ area_limit (let l = long s.bytes.now s.pages s.within in let w = s.within in let f = s.few in omega arith)
 
-pub whole_law : (s : LentPages) (id : ℕ) → length (bytes (memory_of s) id) % PAGE ≡ 0
+pub whole_law : (s : LentPagesMut) (id : ℕ) → length (bytes (memory_of s) id) % PAGE ≡ 0
 unfolding memory_of memory_over area_set bytes
-whole_law s id = one_whole (id == 0) _ (let l = long s in omega arith)
+whole_law s id = one_whole (id == 0) _ (let l = long s.bytes.now s.pages s.within in omega arith)
 
-pub within_law : (s : LentPages) (id : ℕ)
+pub shown_small_law : (s : LentPages) (id : ℕ) → length (bytes (memory_shown s) id) ≤ area_limit
+unfolding memory_shown memory_over area_set bytes
+shown_small_law s id =
+    one_short (id == 0) _ area_limit
+    (let l = long s.bytes.now s.pages s.within in let w = s.within in let f = s.few in omega arith)
+
+pub shown_whole_law : (s : LentPages) (id : ℕ) → length (bytes (memory_shown s) id) % PAGE ≡ 0
+unfolding memory_shown memory_over area_set bytes
+shown_whole_law s id = one_whole (id == 0) _ (let l = long s.bytes.now s.pages s.within in omega arith)
+
+pub within_law : (s : LentPagesMut) (id : ℕ)
     → PAGE * (memory_of s).free + length (bytes (memory_of s) id) ≤ PAGE * (memory_of s).pages
 unfolding memory_of memory_over area_set bytes
 within_law s id =
-    let h = one_short (id == 0) (first_pages s.pages s.bytes.now) (PAGE * s.pages) (let l = long s in omega arith) in
+    let h = one_short (id == 0) (first_pages s.pages s.bytes.now) (PAGE * s.pages) (let l = long s.bytes.now s.pages s.within in omega arith) in
     let w = s.within in
     omega arith
 
-pub few_law : (s : LentPages) → (memory_of s).pages ≤ pool_limit
+pub few_law : (s : LentPagesMut) → (memory_of s).pages ≤ pool_limit
 unfolding memory_of memory_over
 few_law s = let f = s.few in omega arith
 
-pub ledger_law : (s : LentPages) → Ledger (memory_of s) MAX_AREAS
+pub ledger_law : (s : LentPagesMut) → Ledger (memory_of s) MAX_AREAS
 unfolding memory_of memory_over area_set pages_below
-ledger_law s = let l = long s in let w = s.within in omega arith
+ledger_law s = let l = long s.bytes.now s.pages s.within in let w = s.within in omega arith

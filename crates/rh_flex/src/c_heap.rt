@@ -9,6 +9,7 @@ ghost use Rattle.rh_heap.specs.Listed.{segments_from};
 ghost use Rattle.rh_heap.specs.Segments.{piece};
 
 use crate::pages::LentPages;
+use crate::pages_mut::LentPagesMut;
 use crate::slot::LentSlot;
 use arrayvec::ArrayVec;
 use rh_defs::Refusal;
@@ -26,7 +27,7 @@ impl LentSlot {
             (slot_claim (free_in bytes.old self.old) n (slot_in bytes.old self.old)) result }
     {
         let LentSlot { pages, budge } = *self;
-        let mut store = LentPages { bytes, pages };
+        let mut store = LentPagesMut { bytes, pages };
         let slot = Slot { area: LENT, budge };
         let result = slot.claim(&mut store, n);
         self.pages = store.pages;
@@ -40,7 +41,7 @@ impl LentSlot {
             (no_answer (slot_release address (slot_in bytes.old self.old))) result }
     {
         let LentSlot { pages, budge } = *self;
-        let mut store = LentPages { bytes, pages };
+        let mut store = LentPagesMut { bytes, pages };
         let slot = Slot { area: LENT, budge };
         let result = slot.release(&mut store, address);
         self.pages = store.pages;
@@ -56,7 +57,7 @@ impl LentSlot {
             (slot_resize (free_in bytes.old self.old) address delta (slot_in bytes.old self.old)) result }
     {
         let LentSlot { pages, budge } = *self;
-        let mut store = LentPages { bytes, pages };
+        let mut store = LentPagesMut { bytes, pages };
         let slot = Slot { area: LENT, budge };
         let result = slot.resize(&mut store, address, delta);
         self.pages = store.pages;
@@ -64,11 +65,10 @@ impl LentSlot {
     }
 
     /// By how many pages a claim of `n` bytes and then a flex block of no bytes would make the slot longer. Refused:
-    /// `BadSize` for 0 bytes, `NoBudge` where the C heap is too short and budging is off. All bytes stay.
-    pub fn take_pages(self, bytes: &mut [u8], n: u32) -> Result<usize, Refusal>
-        requires { IsSlotBytes bytes.old self }
-        ensures answer { result ≡ slot_take_pages n (slot_in bytes.old self) }
-        ensures same { bytes.new ≡ bytes.old }
+    /// `BadSize` for 0 bytes, `NoBudge` where the C heap is too short and budging is off.
+    pub fn take_pages(self, bytes: &[u8], n: u32) -> Result<usize, Refusal>
+        requires { IsSlotBytes bytes.now self }
+        ensures { result ≡ slot_take_pages n (slot_in bytes.now self) }
     {
         let LentSlot { pages, budge } = self;
         let store = LentPages { bytes, pages };
@@ -76,13 +76,12 @@ impl LentSlot {
         slot.take_pages(&store, n)
     }
 
-    /// The bytes of the C heap's block at an address. Refused (`NotABlock`) where none begins there. All bytes stay.
+    /// The bytes of the C heap's block at an address. Refused (`NotABlock`) where none begins there.
     /// (OS_Heap 6.)
-    pub fn block_size(self, bytes: &mut [u8], address: usize) -> Result<usize, Refusal>
-        requires { IsSlotBytes bytes.old self }
-        ensures answer { result ≡ ok_or (block_size (address - heap_start) (slot_in bytes.old self).heap)
+    pub fn block_size(self, bytes: &[u8], address: usize) -> Result<usize, Refusal>
+        requires { IsSlotBytes bytes.now self }
+        ensures { result ≡ ok_or (block_size (address - heap_start) (slot_in bytes.now self).heap)
             Refusal.NotABlock }
-        ensures same { bytes.new ≡ bytes.old }
     {
         let LentSlot { pages, budge } = self;
         let store = LentPages { bytes, pages };
@@ -90,11 +89,10 @@ impl LentSlot {
         slot.block_size(&store, address)
     }
 
-    /// The segment of the C heap that begins at a place, in bytes from the heap's first one. All bytes stay.
-    pub fn segment(self, bytes: &mut [u8], place: usize) -> Option<Segment>
-        requires { IsSlotBytes bytes.old self }
-        ensures answer { result ≡ option_map piece (segment_at place (slot_in bytes.old self).heap) }
-        ensures same { bytes.new ≡ bytes.old }
+    /// The segment of the C heap that begins at a place, in bytes from the heap's first one.
+    pub fn segment(self, bytes: &[u8], place: usize) -> Option<Segment>
+        requires { IsSlotBytes bytes.now self }
+        ensures { result ≡ option_map piece (segment_at place (slot_in bytes.now self).heap) }
     {
         let LentSlot { pages, budge } = self;
         let store = LentPages { bytes, pages };
@@ -103,15 +101,14 @@ impl LentSlot {
     }
 
     /// Up to 64 segments of the C heap in order of place, from the one that begins at `place` on; none where none
-    /// begins there. All bytes stay.
+    /// begins there.
     pub fn segments_from(
         self,
-        bytes: &mut [u8],
+        bytes: &[u8],
         place: usize,
     ) -> ArrayVec<Segment, SEGMENTS_AT_ONCE>
-        requires { IsSlotBytes bytes.old self }
-        ensures answer { result.items ≡ segments_from place (slot_in bytes.old self).heap }
-        ensures same { bytes.new ≡ bytes.old }
+        requires { IsSlotBytes bytes.now self }
+        ensures { result.items ≡ segments_from place (slot_in bytes.now self).heap }
     {
         let LentSlot { pages, budge } = self;
         let store = LentPages { bytes, pages };
@@ -119,14 +116,13 @@ impl LentSlot {
         slot.segments_from(&store, place)
     }
 
-    /// The C heap's end in bytes, its largest free block, and the bytes of all its holes and its top. All bytes stay.
+    /// The C heap's end in bytes, its largest free block, and the bytes of all its holes and its top.
     /// (OS_Heap 1.)
-    pub fn describe(self, bytes: &mut [u8]) -> (usize, usize, usize)
-        requires { IsSlotBytes bytes.old self }
-        ensures end { result.0 ≡ (slot_in bytes.old self).heap.end }
-        ensures largest { result.1 ≡ largest (slot_in bytes.old self).heap }
-        ensures free { result.2 ≡ free_bytes (slot_in bytes.old self).heap }
-        ensures same { bytes.new ≡ bytes.old }
+    pub fn describe(self, bytes: &[u8]) -> (usize, usize, usize)
+        requires { IsSlotBytes bytes.now self }
+        ensures end { result.0 ≡ (slot_in bytes.now self).heap.end }
+        ensures largest { result.1 ≡ largest (slot_in bytes.now self).heap }
+        ensures free { result.2 ≡ free_bytes (slot_in bytes.now self).heap }
     {
         let LentSlot { pages, budge } = self;
         let store = LentPages { bytes, pages };

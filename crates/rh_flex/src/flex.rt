@@ -8,18 +8,18 @@ ghost use Rattle.rh_defs.specs.declared.sizes.TheConstants.{ANCHORS};
 ghost use Rattle.rh_flex.specs.Slots.{IsSlotBytes, LeavesSlot, free_in, slot_in};
 
 use crate::pages::LentPages;
+use crate::pages_mut::LentPagesMut;
 use crate::slot::LentSlot;
 use rh_defs::{Anchor, Refusal};
 use rh_lent::LENT;
 use rh_slot::Slot;
 
 impl LentSlot {
-    /// How many bytes the anchor's block has. Refused (`NoBlock`) where it has none. All bytes stay. (flex_size.)
-    pub fn size(self, bytes: &mut [u8], anchor: Anchor) -> Result<usize, Refusal>
-        requires slot { IsSlotBytes bytes.old self }
+    /// How many bytes the anchor's block has. Refused (`NoBlock`) where it has none. (flex_size.)
+    pub fn size(self, bytes: &[u8], anchor: Anchor) -> Result<usize, Refusal>
+        requires slot { IsSlotBytes bytes.now self }
         requires anchor { anchor < ANCHORS }
-        ensures answer { result ≡ slot_size anchor (slot_in bytes.old self) }
-        ensures same { bytes.new ≡ bytes.old }
+        ensures { result ≡ slot_size anchor (slot_in bytes.now self) }
     {
         let LentSlot { pages, budge } = self;
         let store = LentPages { bytes, pages };
@@ -28,12 +28,11 @@ impl LentSlot {
     }
 
     /// The address of the block's first byte, from &8000 on, as the anchor word holds it. Refused (`NoBlock`) where
-    /// the anchor has none. All bytes stay.
-    pub fn address(self, bytes: &mut [u8], anchor: Anchor) -> Result<usize, Refusal>
-        requires slot { IsSlotBytes bytes.old self }
+    /// the anchor has none.
+    pub fn address(self, bytes: &[u8], anchor: Anchor) -> Result<usize, Refusal>
+        requires slot { IsSlotBytes bytes.now self }
         requires anchor { anchor < ANCHORS }
-        ensures answer { result ≡ slot_address anchor (slot_in bytes.old self) }
-        ensures same { bytes.new ≡ bytes.old }
+        ensures { result ≡ slot_address anchor (slot_in bytes.now self) }
     {
         let LentSlot { pages, budge } = self;
         let store = LentPages { bytes, pages };
@@ -41,11 +40,10 @@ impl LentSlot {
         slot.address(&store, anchor)
     }
 
-    /// The lowest anchor without a block, `None` where all 64 have one. All bytes stay.
-    pub fn free_anchor(self, bytes: &mut [u8]) -> Option<Anchor>
-        requires { IsSlotBytes bytes.old self }
-        ensures answer { result ≡ free_anchor (slot_in bytes.old self) }
-        ensures same { bytes.new ≡ bytes.old }
+    /// The lowest anchor without a block, `None` where all 64 have one.
+    pub fn free_anchor(self, bytes: &[u8]) -> Option<Anchor>
+        requires { IsSlotBytes bytes.now self }
+        ensures { result ≡ free_anchor (slot_in bytes.now self) }
     {
         let LentSlot { pages, budge } = self;
         let store = LentPages { bytes, pages };
@@ -62,7 +60,7 @@ impl LentSlot {
             (slot_alloc (free_in bytes.old self.old) anchor n (slot_in bytes.old self.old)) result }
     {
         let LentSlot { pages, budge } = *self;
-        let mut store = LentPages { bytes, pages };
+        let mut store = LentPagesMut { bytes, pages };
         let slot = Slot { area: LENT, budge };
         let result = slot.alloc(&mut store, anchor, n);
         self.pages = store.pages;
@@ -77,7 +75,7 @@ impl LentSlot {
             (no_answer (slot_free anchor (slot_in bytes.old self.old))) result }
     {
         let LentSlot { pages, budge } = *self;
-        let mut store = LentPages { bytes, pages };
+        let mut store = LentPagesMut { bytes, pages };
         let slot = Slot { area: LENT, budge };
         let result = slot.free(&mut store, anchor);
         self.pages = store.pages;
@@ -93,7 +91,7 @@ impl LentSlot {
             (no_answer (slot_extend (free_in bytes.old self.old) anchor n (slot_in bytes.old self.old))) result }
     {
         let LentSlot { pages, budge } = *self;
-        let mut store = LentPages { bytes, pages };
+        let mut store = LentPagesMut { bytes, pages };
         let slot = Slot { area: LENT, budge };
         let result = slot.extend(&mut store, anchor, n);
         self.pages = store.pages;
@@ -116,7 +114,7 @@ impl LentSlot {
             (no_answer (slot_mid (free_in bytes.old self.old) anchor offset by (slot_in bytes.old self.old))) result }
     {
         let LentSlot { pages, budge } = *self;
-        let mut store = LentPages { bytes, pages };
+        let mut store = LentPagesMut { bytes, pages };
         let slot = Slot { area: LENT, budge };
         let result = slot.mid(&mut store, anchor, offset, by);
         self.pages = store.pages;
@@ -138,7 +136,7 @@ impl LentSlot {
             (no_answer (slot_put anchor offset from.now (slot_in bytes.old self.old))) result }
     {
         let LentSlot { pages, budge } = *self;
-        let mut store = LentPages { bytes, pages };
+        let mut store = LentPagesMut { bytes, pages };
         let slot = Slot { area: LENT, budge };
         let result = slot.put(&mut store, anchor, offset, from);
         self.pages = store.pages;
@@ -146,20 +144,18 @@ impl LentSlot {
     }
 
     /// Fills a buffer with bytes of the anchor's block, from an offset on. Refused, and the buffer left as it is:
-    /// `NoBlock` where the anchor has none, `BadRange` where the bytes would go beyond the block's end. The slot's
-    /// bytes stay.
+    /// `NoBlock` where the anchor has none, `BadRange` where the bytes would go beyond the block's end.
     pub fn read(
         self,
-        bytes: &mut [u8],
+        bytes: &[u8],
         anchor: Anchor,
         offset: usize,
         to: &mut [u8],
     ) -> Result<(), Refusal>
-        requires slot { IsSlotBytes bytes.old self }
+        requires slot { IsSlotBytes bytes.now self }
         requires anchor { anchor < ANCHORS }
-        ensures answer { result ≡ outcome_of (slot_read anchor offset (length to.old) (slot_in bytes.old self)) }
-        ensures buffer { to.new ≡ result_or to.old (slot_read anchor offset (length to.old) (slot_in bytes.old self)) }
-        ensures same { bytes.new ≡ bytes.old }
+        ensures answer { result ≡ outcome_of (slot_read anchor offset (length to.old) (slot_in bytes.now self)) }
+        ensures buffer { to.new ≡ result_or to.old (slot_read anchor offset (length to.old) (slot_in bytes.now self)) }
     {
         let LentSlot { pages, budge } = self;
         let store = LentPages { bytes, pages };

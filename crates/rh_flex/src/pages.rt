@@ -1,28 +1,27 @@
-//! Bytes that a caller lends, whose first pages are the one area 0, and whose other whole pages are free.
-#![tactic(auto, unfolding(crate::specs::Pages::memory_of, crate::specs::Pages::memory_over))]
+//! Bytes that a caller lends to be read, whose first pages are the one area 0.
+#![tactic(auto, unfolding(crate::specs::Pages::memory_shown, crate::specs::Pages::memory_over))]
 
 ghost use Rattle.std.specs.Prelude.{◌≡◌, ◌*◌, ◌≤◌, length};
 ghost use Rattle.rh_defs.specs.declared.sizes.TheConstants.{PAGE};
 ghost use Rattle.rh_store.specs.Limits.{area_limit};
 
 use rh_defs::sizes::PAGE;
-use rh_store::bytes::{copy_from, part_of, put_in, put_word_in, slide_in, word_in, zero_in};
-use rh_store::{AreaId, Paged, Pages, StoreFault, Words, WordsMut};
+use rh_store::bytes::{copy_from, part_of, word_in};
+use rh_store::{AreaId, Paged, Words};
 
-/// Bytes that a caller lends, at most 1 GiB of them. Their first pages are the area 0, and the whole pages behind are
-/// free.
-#[derive(Drop)]
+/// Bytes that a caller lends to be read, at most 1 GiB of them. Their first pages are the area 0.
+#[derive(Clone, Copy)]
 pub struct LentPages<'a> {
-    pub bytes: &'a mut [u8],
+    pub bytes: &'a [u8],
     pub pages: usize,
     pub ghost few: { length bytes.now ≤ area_limit },
     pub ghost within: { PAGE * pages ≤ length bytes.now },
 }
 
 impl Words for LentPages<'_> {
-    ghost use Rattle.rh_flex.specs.Pages.{memory_of, small_law};
+    ghost use Rattle.rh_flex.specs.Pages.{memory_shown, shown_small_law};
 
-    ghost memory = { memory_of };
+    ghost memory = { memory_shown };
 
     fn word(&self, _id: AreaId, at: usize) -> u32 {
         word_in(self.bytes, at)
@@ -41,70 +40,15 @@ impl Words for LentPages<'_> {
         PAGE * self.pages
     }
 
-    ghost small = { small_law };
-}
-
-impl WordsMut for LentPages<'_> {
-    fn set_word(&mut self, _id: AreaId, at: usize, w: u32) {
-        let bytes = &mut *self.bytes;
-        put_word_in(bytes, at, w);
-    }
-
-    fn slide(&mut self, _id: AreaId, from: usize, to: usize, n: usize) {
-        let bytes = &mut *self.bytes;
-        slide_in(bytes, from, to, n);
-    }
-
-    fn zero(&mut self, _id: AreaId, at: usize, n: usize) {
-        let bytes = &mut *self.bytes;
-        zero_in(bytes, at, n);
-    }
-
-    fn copy_in(&mut self, _id: AreaId, at: usize, from: &[u8]) {
-        let bytes = &mut *self.bytes;
-        put_in(bytes, at, from);
-    }
+    ghost small = { shown_small_law };
 }
 
 impl Paged for LentPages<'_> {
-    ghost use Rattle.rh_flex.specs.Pages.{whole_law};
+    ghost use Rattle.rh_flex.specs.Pages.{shown_whole_law};
 
     fn rest_of_page(&self, _id: AreaId, at: usize) -> &[u8] {
         part_of(self.bytes, at, PAGE - at % PAGE)
     }
 
-    ghost whole = { whole_law };
-}
-
-impl Pages for LentPages<'_> {
-    ghost use Rattle.rh_flex.specs.Pages.{ledger_law, within_law, few_law};
-
-    fn grow(&mut self, _id: AreaId, pages: usize) -> Result<(), StoreFault> {
-        if self.free_pages() < pages {
-            return Err(StoreFault::NoPages);
-        }
-        let from = PAGE * self.pages;
-        let bytes = &mut *self.bytes;
-        zero_in(bytes, from, PAGE * pages);
-        self.pages += pages;
-        Ok(())
-    }
-
-    fn grow_check(&self, _id: AreaId, pages: usize) -> bool {
-        pages <= self.free_pages()
-    }
-
-    fn shrink(&mut self, _id: AreaId, pages: usize) {
-        self.pages -= pages;
-    }
-
-    fn free_pages(&self) -> usize {
-        self.bytes.len() / PAGE - self.pages
-    }
-
-    ghost ledger = { ledger_law };
-
-    ghost within = { within_law };
-
-    ghost few = { few_law };
+    ghost whole = { shown_whole_law };
 }

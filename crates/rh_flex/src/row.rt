@@ -13,11 +13,10 @@ use rh_lent::LENT;
 use rh_slot::{FlexWalk, Slot};
 
 impl LentSlot {
-    /// How many flex blocks the slot has. All bytes stay.
-    pub fn count(self, bytes: &mut [u8]) -> usize
-        requires { IsSlotBytes bytes.old self }
-        ensures answer { result ≡ length (slot_in bytes.old self).blocks }
-        ensures same { bytes.new ≡ bytes.old }
+    /// How many flex blocks the slot has.
+    pub fn count(self, bytes: &[u8]) -> usize
+        requires { IsSlotBytes bytes.now self }
+        ensures { result ≡ length (slot_in bytes.now self).blocks }
     {
         let LentSlot { pages, budge } = self;
         let store = LentPages { bytes, pages };
@@ -25,12 +24,11 @@ impl LentSlot {
         slot.count(&store)
     }
 
-    /// A walk that has passed none of the slot's flex blocks. All bytes stay.
-    pub fn blocks(self, bytes: &mut [u8]) -> FlexWalk
-        requires { IsSlotBytes bytes.old self }
+    /// A walk that has passed none of the slot's flex blocks.
+    pub fn blocks(self, bytes: &[u8]) -> FlexWalk
+        requires { IsSlotBytes bytes.now self }
         ensures passed { result.passed ≡ 0 }
-        ensures walk { WalksIn (slot_in bytes.old self) result }
-        ensures same { bytes.new ≡ bytes.old }
+        ensures walk { WalksIn (slot_in bytes.now self) result }
     {
         let LentSlot { pages, budge } = self;
         let store = LentPages { bytes, pages };
@@ -39,16 +37,15 @@ impl LentSlot {
     }
 
     /// The next flex block of a walk: its anchor, address and size in bytes. `None` above the last one, where the walk
-    /// stays. All bytes stay.
-    pub fn next_block(self, bytes: &mut [u8], walk: &mut FlexWalk) -> Option<BlockItem>
-        requires slot { IsSlotBytes bytes.old self }
-        requires walk { WalksIn (slot_in bytes.old self) walk.old }
-        ensures block { result ≡ slice_get (block_items (slot_in bytes.old self)) walk.old.passed }
-        ensures walk { WalksIn (slot_in bytes.old self) walk.new }
+    /// stays.
+    pub fn next_block(self, bytes: &[u8], walk: &mut FlexWalk) -> Option<BlockItem>
+        requires slot { IsSlotBytes bytes.now self }
+        requires walk { WalksIn (slot_in bytes.now self) walk.old }
+        ensures block { result ≡ slice_get (block_items (slot_in bytes.now self)) walk.old.passed }
+        ensures walk { WalksIn (slot_in bytes.now self) walk.new }
         ensures passed { OnSome result (walk.new.passed ≡ walk.old.passed + 1) }
         ensures stays { IfNone result (walk.new ≡ walk.old) }
-        ensures all { IfNone result (walk.new.passed ≡ length (slot_in bytes.old self).blocks) }
-        ensures same { bytes.new ≡ bytes.old }
+        ensures all { IfNone result (walk.new.passed ≡ length (slot_in bytes.now self).blocks) }
     {
         let LentSlot { pages, budge } = self;
         let store = LentPages { bytes, pages };
@@ -57,11 +54,10 @@ impl LentSlot {
     }
 
     /// Puts all flex blocks from below into a list, in place of what it held: the anchor, address and size in bytes of
-    /// each. All bytes stay.
-    pub fn list(self, bytes: &mut [u8], items: &mut ArrayVec<BlockItem, ANCHORS>)
-        requires { IsSlotBytes bytes.old self }
-        ensures items { items.new.items ≡ block_items (slot_in bytes.old self) }
-        ensures same { bytes.new ≡ bytes.old }
+    /// each.
+    pub fn list(self, bytes: &[u8], items: &mut ArrayVec<BlockItem, ANCHORS>)
+        requires { IsSlotBytes bytes.now self }
+        ensures { items.new.items ≡ block_items (slot_in bytes.now self) }
     {
         let LentSlot { pages, budge } = self;
         let store = LentPages { bytes, pages };
@@ -69,11 +65,10 @@ impl LentSlot {
         slot.list(&store, items);
     }
 
-    /// Flex block `i` from below, from 0 on: its anchor, address and size in bytes. All bytes stay.
-    pub fn block(self, bytes: &mut [u8], i: usize) -> Option<BlockItem>
-        requires { IsSlotBytes bytes.old self }
-        ensures answer { result ≡ slice_get (block_items (slot_in bytes.old self)) i }
-        ensures same { bytes.new ≡ bytes.old }
+    /// Flex block `i` from below, from 0 on: its anchor, address and size in bytes.
+    pub fn block(self, bytes: &[u8], i: usize) -> Option<BlockItem>
+        requires { IsSlotBytes bytes.now self }
+        ensures { result ≡ slice_get (block_items (slot_in bytes.now self)) i }
     {
         let LentSlot { pages, budge } = self;
         let store = LentPages { bytes, pages };

@@ -9,12 +9,13 @@ ghost use Rattle.rh_flex.specs.Write.{slot_write};
 ghost use Rattle.rh_store.specs.Limits.{area_limit};
 
 use crate::pages::LentPages;
+use crate::pages_mut::LentPagesMut;
 use rh_defs::Refusal;
 use rh_defs::sizes::{C_HEAP_LENGTH, C_HEAP_PLACE, PAGE, SLOT_START};
 use rh_heap::Span;
 use rh_lent::LENT;
 use rh_slot::Slot;
-use rh_store::Words;
+use rh_store::WordsMut;
 use rh_store::bytes::zero_in;
 
 /// Where the C heap stands.
@@ -50,7 +51,7 @@ impl LentSlot {
             return Err(Refusal::NoRoom);
         }
         zero_in(bytes, 0, PAGE);
-        let mut store = LentPages { bytes, pages: 1 };
+        let mut store = LentPagesMut { bytes, pages: 1 };
         rh_heap::init(&mut store, C_HEAP, C_HEAP_LENGTH);
         let pages = store.pages;
         Ok(LentSlot { pages, budge: true })
@@ -69,11 +70,10 @@ impl LentSlot {
     }
 
     /// Whether the `n` bytes at an address lie whole in one block of the C heap or in one flex block. Any address and
-    /// any `n` may be asked for. All bytes stay.
-    pub fn inside(self, bytes: &mut [u8], address: usize, n: usize) -> bool
-        requires { IsSlotBytes bytes.old self }
-        ensures answer { result ≡ holds address n (slot_in bytes.old self) }
-        ensures same { bytes.new ≡ bytes.old }
+    /// any `n` may be asked for.
+    pub fn inside(self, bytes: &[u8], address: usize, n: usize) -> bool
+        requires { IsSlotBytes bytes.now self }
+        ensures { result ≡ holds address n (slot_in bytes.now self) }
     {
         let LentSlot { pages, budge } = self;
         let store = LentPages { bytes, pages };
@@ -88,7 +88,7 @@ impl LentSlot {
             (no_answer (slot_write address from.now (slot_in bytes.old self.old))) result }
     {
         let LentSlot { pages, budge } = *self;
-        let mut store = LentPages { bytes, pages };
+        let mut store = LentPagesMut { bytes, pages };
         let slot = Slot { area: LENT, budge };
         if !slot.inside(&store, address, from.len()) {
             return Err(Refusal::BadRange);

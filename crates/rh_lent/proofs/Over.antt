@@ -5,7 +5,8 @@ use Rattle.std.proofs.lemmas.Bool.Decides.{nat_tests}
 use Rattle.rh_defs.specs.Memory.{Memory, IsOpen, area_set, bytes, with_bytes}
 use Rattle.rh_defs.proofs.MemoryLaws.{area_set-area_set}
 use Rattle.rh_lent.specs.declared.lent.Lent.{Lent}
-use Rattle.rh_lent.specs.Lent.{memory_of, memory_over}
+use Rattle.rh_lent.specs.declared.lent_mut.LentMut.{LentMut}
+use Rattle.rh_lent.specs.Lent.{memory_of, memory_over, memory_shown}
 
 only_true : (b : Bool) (bs : List ℕ) → IsSome (cond b (Some bs) None) → b ≡ true
 only_true true bs h = refl
@@ -40,12 +41,16 @@ set_over bs xs loan id o =
     set_at_zero bs xs loan ∙ ap (λ k. with_bytes (memory_over bs loan) k xs) (sym (open_zero bs loan id o))
 
 -- an open area's bytes are the lent ones
-pub lent_bytes : (s : Lent) (id : ℕ) → IsOpen (memory_of s) id → bytes (memory_of s) id ≡ s.bytes.now
+pub lent_bytes : (s : LentMut) (id : ℕ) → IsOpen (memory_of s) id → bytes (memory_of s) id ≡ s.bytes.now
 unfolding memory_of
 lent_bytes s id o = bytes_over s.bytes.now s.bytes.ghost_name id o
 
+pub shown_bytes : (s : Lent) (id : ℕ) → IsOpen (memory_shown s) id → bytes (memory_shown s) id ≡ s.bytes.now
+unfolding memory_shown
+shown_bytes s id o = bytes_over s.bytes.now 0 id o
+
 -- an edit of the lent bytes is that edit of the area's
-pub edited : (s : Lent) (id : ℕ) (edit : List ℕ → List ℕ) (new : List ℕ) → IsOpen (memory_of s) id
+pub edited : (s : LentMut) (id : ℕ) (edit : List ℕ → List ℕ) (new : List ℕ) → IsOpen (memory_of s) id
     → new ≡ edit s.bytes.now
     → memory_over new s.bytes.ghost_name ≡ with_bytes (memory_of s) id (edit (bytes (memory_of s) id))
 unfolding memory_of

@@ -3,6 +3,7 @@ use Rattle.std.specs.Prelude.{ℕ, ◌≤◌, ◌==◌, cond, Bool, true, false,
 use Rattle.std.proofs.Common.{arith}
 use Rattle.rh_defs.specs.Memory.{Memory, area_set, bytes}
 use Rattle.rh_lent.specs.declared.lent.Lent.{Lent}
+use Rattle.rh_lent.specs.declared.lent_mut.LentMut.{LentMut}
 use Rattle.rh_store.specs.Limits.{area_limit}
 
 -- one area of these bytes, under the name of the loan
@@ -10,13 +11,21 @@ unfoldable pub memory_over : List ℕ → ℕ → Memory
 memory_over bs loan = record { area = area_set (λ k. None) 0 (Some bs); free = 0; pages = 0; loan = loan }
 
 -- the memory of the bytes as they are now
-unfoldable pub memory_of : Lent → Memory
+unfoldable pub memory_of : LentMut → Memory
 memory_of s = memory_over s.bytes.now s.bytes.ghost_name
+
+-- the memory of bytes that are lent to be read: no edit needs the loan's name
+unfoldable pub memory_shown : Lent → Memory
+memory_shown s = memory_over s.bytes.now 0
 
 one_small : (b : Bool) (bs : List ℕ) → length bs ≤ area_limit → length (unwrap_or (cond b (Some bs) None) []) ≤ area_limit
 one_small true bs h = h
 one_small false bs h = omega arith
 
-pub small_law : (s : Lent) (id : ℕ) → length (bytes (memory_of s) id) ≤ area_limit
+pub small_law : (s : LentMut) (id : ℕ) → length (bytes (memory_of s) id) ≤ area_limit
 unfolding memory_of memory_over area_set bytes
 small_law s id = one_small (id == 0) s.bytes.now s.few
+
+pub shown_small_law : (s : Lent) (id : ℕ) → length (bytes (memory_shown s) id) ≤ area_limit
+unfolding memory_shown memory_over area_set bytes
+shown_small_law s id = one_small (id == 0) s.bytes.now s.few

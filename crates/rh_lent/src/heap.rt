@@ -13,6 +13,7 @@ ghost use Rattle.rh_store.specs.Limits.{area_limit};
 ghost use Rattle.rh_lent.specs.Heaps.{IsHeapBytes, LeavesBytes};
 
 use crate::lent::{LENT, Lent};
+use crate::lent_mut::LentMut;
 use arrayvec::ArrayVec;
 use rh_defs::HeapRefusal;
 use rh_heap::{SEGMENTS_AT_ONCE, Segment, Span};
@@ -29,16 +30,15 @@ pub fn init(memory: &mut [u8])
     ensures heap { heap_of memory.new 0 ≡ empty_heap (length memory.old) }
 {
     let len = memory.len();
-    let mut store = Lent { bytes: memory };
+    let mut store = LentMut { bytes: memory };
     rh_heap::init(&mut store, WHOLE, len);
 }
 
 /// The bytes of the largest block that fits, and all free bytes. (OS_Heap 1.)
-pub fn describe(memory: &mut [u8]) -> (usize, usize)
-    requires { IsHeapBytes memory.old }
-    ensures largest { result.0 ≡ largest (heap_of memory.old 0) }
-    ensures free { result.1 ≡ free_bytes (heap_of memory.old 0) }
-    ensures same { memory.new ≡ memory.old }
+pub fn describe(memory: &[u8]) -> (usize, usize)
+    requires { IsHeapBytes memory.now }
+    ensures largest { result.0 ≡ largest (heap_of memory.now 0) }
+    ensures free { result.1 ≡ free_bytes (heap_of memory.now 0) }
 {
     let store = Lent { bytes: memory };
     rh_heap::describe(&store, WHOLE)
@@ -49,7 +49,7 @@ pub fn claim(memory: &mut [u8], n: u32) -> Result<usize, HeapRefusal>
     requires { IsHeapBytes memory.old }
     ensures { LeavesBytes memory.old memory.new (claim n (heap_of memory.old 0)) result }
 {
-    let mut store = Lent { bytes: memory };
+    let mut store = LentMut { bytes: memory };
     rh_heap::claim(&mut store, WHOLE, n)
 }
 
@@ -58,7 +58,7 @@ pub fn release(memory: &mut [u8], address: usize) -> Result<(), HeapRefusal>
     requires { IsHeapBytes memory.old }
     ensures { LeavesBytes memory.old memory.new (no_answer (released_at address (heap_of memory.old 0))) result }
 {
-    let mut store = Lent { bytes: memory };
+    let mut store = LentMut { bytes: memory };
     rh_heap::release(&mut store, WHOLE, address)
 }
 
@@ -67,7 +67,7 @@ pub fn resize(memory: &mut [u8], address: usize, delta: i32) -> Result<usize, He
     requires { IsHeapBytes memory.old }
     ensures { LeavesBytes memory.old memory.new (resize address delta (heap_of memory.old 0)) result }
 {
-    let mut store = Lent { bytes: memory };
+    let mut store = LentMut { bytes: memory };
     rh_heap::resize(&mut store, WHOLE, address, delta)
 }
 
@@ -78,76 +78,69 @@ pub fn extend_heap(memory: &mut [u8], delta: i32) -> Result<(), HeapRefusal>
     requires within { moved (heap_of memory.old 0).end delta ≤ length memory.old }
     ensures { LeavesBytes memory.old memory.new (no_answer (extend delta (heap_of memory.old 0))) result }
 {
-    let mut store = Lent { bytes: memory };
+    let mut store = LentMut { bytes: memory };
     rh_heap::extend_heap(&mut store, WHOLE, delta)
 }
 
 /// The heap's end: its length in bytes.
-pub fn end(memory: &mut [u8]) -> usize
-    requires { IsHeapBytes memory.old }
-    ensures end { result ≡ (heap_of memory.old 0).end }
-    ensures within { result ≤ length memory.old }
-    ensures same { memory.new ≡ memory.old }
+pub fn end(memory: &[u8]) -> usize
+    requires { IsHeapBytes memory.now }
+    ensures end { result ≡ (heap_of memory.now 0).end }
+    ensures within { result ≤ length memory.now }
 {
     let store = Lent { bytes: memory };
     rh_heap::end(&store, WHOLE)
 }
 
 /// The bytes of the block at an address. (OS_Heap 6.)
-pub fn block_size(memory: &mut [u8], address: usize) -> Result<usize, HeapRefusal>
-    requires { IsHeapBytes memory.old }
-    ensures answer { result ≡ ok_or (block_size address (heap_of memory.old 0)) HeapRefusal.NotABlock }
-    ensures same { memory.new ≡ memory.old }
+pub fn block_size(memory: &[u8], address: usize) -> Result<usize, HeapRefusal>
+    requires { IsHeapBytes memory.now }
+    ensures { result ≡ ok_or (block_size address (heap_of memory.now 0)) HeapRefusal.NotABlock }
 {
     let store = Lent { bytes: memory };
     rh_heap::block_size(&store, WHOLE, address)
 }
 
 /// By how many bytes the heap is too short for a claim of `n` bytes, 0 where it has room.
-pub fn need(memory: &mut [u8], n: u32) -> Result<usize, HeapRefusal>
-    requires { IsHeapBytes memory.old }
-    ensures answer { result ≡ claim_need n (heap_of memory.old 0) }
-    ensures same { memory.new ≡ memory.old }
+pub fn need(memory: &[u8], n: u32) -> Result<usize, HeapRefusal>
+    requires { IsHeapBytes memory.now }
+    ensures { result ≡ claim_need n (heap_of memory.now 0) }
 {
     let store = Lent { bytes: memory };
     rh_heap::need(&store, WHOLE, n)
 }
 
 /// By how many bytes the heap is too short for a resize, 0 where it has room.
-pub fn resize_need(memory: &mut [u8], address: usize, delta: i32) -> Result<usize, HeapRefusal>
-    requires { IsHeapBytes memory.old }
-    ensures answer { result ≡ need_at address delta (heap_of memory.old 0) }
-    ensures same { memory.new ≡ memory.old }
+pub fn resize_need(memory: &[u8], address: usize, delta: i32) -> Result<usize, HeapRefusal>
+    requires { IsHeapBytes memory.now }
+    ensures { result ≡ need_at address delta (heap_of memory.now 0) }
 {
     let store = Lent { bytes: memory };
     rh_heap::resize_need(&store, WHOLE, address, delta)
 }
 
 /// Whether the `n` bytes at an address lie whole in one used block, also where `n` is 0.
-pub fn holds(memory: &mut [u8], address: usize, n: usize) -> bool
-    requires { IsHeapBytes memory.old }
-    ensures answer { result ≡ is_some (block_around address n (heap_of memory.old 0)) }
-    ensures same { memory.new ≡ memory.old }
+pub fn holds(memory: &[u8], address: usize, n: usize) -> bool
+    requires { IsHeapBytes memory.now }
+    ensures { result ≡ is_some (block_around address n (heap_of memory.now 0)) }
 {
     let store = Lent { bytes: memory };
     rh_heap::holds(&store, WHOLE, address, n)
 }
 
 /// The segment that begins at a place.
-pub fn segment(memory: &mut [u8], place: usize) -> Option<Segment>
-    requires { IsHeapBytes memory.old }
-    ensures answer { result ≡ option_map piece (segment_at place (heap_of memory.old 0)) }
-    ensures same { memory.new ≡ memory.old }
+pub fn segment(memory: &[u8], place: usize) -> Option<Segment>
+    requires { IsHeapBytes memory.now }
+    ensures { result ≡ option_map piece (segment_at place (heap_of memory.now 0)) }
 {
     let store = Lent { bytes: memory };
     rh_heap::segment(&store, WHOLE, place)
 }
 
 /// Up to 64 segments in order of place, from the one that begins at `place` on; none where none begins there.
-pub fn segments_from(memory: &mut [u8], place: usize) -> ArrayVec<Segment, SEGMENTS_AT_ONCE>
-    requires { IsHeapBytes memory.old }
-    ensures answer { result.items ≡ segments_from place (heap_of memory.old 0) }
-    ensures same { memory.new ≡ memory.old }
+pub fn segments_from(memory: &[u8], place: usize) -> ArrayVec<Segment, SEGMENTS_AT_ONCE>
+    requires { IsHeapBytes memory.now }
+    ensures { result.items ≡ segments_from place (heap_of memory.now 0) }
 {
     let store = Lent { bytes: memory };
     rh_heap::segments_from(&store, WHOLE, place)

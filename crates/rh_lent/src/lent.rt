@@ -1,26 +1,26 @@
-//! Bytes that a caller lends, as the one area 0.
-#![tactic(auto, unfolding(crate::specs::Lent::memory_of, crate::specs::Lent::memory_over))]
+//! Bytes that a caller lends to be read, as the one area 0.
+#![tactic(auto, unfolding(crate::specs::Lent::memory_shown, crate::specs::Lent::memory_over))]
 
 ghost use Rattle.std.specs.Prelude.{◌≡◌, ◌≤◌, length};
 ghost use Rattle.rh_store.specs.Limits.{area_limit};
 
-use rh_store::bytes::{copy_from, part_of, put_in, put_word_in, slide_in, word_in, zero_in};
-use rh_store::{AreaId, Words, WordsMut};
+use rh_store::bytes::{copy_from, part_of, word_in};
+use rh_store::{AreaId, Words};
 
 /// The number of the one area.
 pub const LENT: AreaId = AreaId(0);
 
-/// Bytes that a caller lends, at most 1 GiB of them: the area 0.
-#[derive(Drop)]
+/// Bytes that a caller lends to be read, at most 1 GiB of them: the area 0.
+#[derive(Clone, Copy)]
 pub struct Lent<'a> {
-    pub bytes: &'a mut [u8],
+    pub bytes: &'a [u8],
     pub ghost few: { length bytes.now ≤ area_limit },
 }
 
 impl Words for Lent<'_> {
-    ghost use Rattle.rh_lent.specs.Lent.{memory_of, small_law};
+    ghost use Rattle.rh_lent.specs.Lent.{memory_shown, shown_small_law};
 
-    ghost memory = { memory_of };
+    ghost memory = { memory_shown };
 
     fn word(&self, _id: AreaId, at: usize) -> u32 {
         word_in(self.bytes, at)
@@ -39,27 +39,5 @@ impl Words for Lent<'_> {
         self.bytes.len()
     }
 
-    ghost small = { small_law };
-}
-
-impl WordsMut for Lent<'_> {
-    fn set_word(&mut self, _id: AreaId, at: usize, w: u32) {
-        let bytes = &mut *self.bytes;
-        put_word_in(bytes, at, w);
-    }
-
-    fn slide(&mut self, _id: AreaId, from: usize, to: usize, n: usize) {
-        let bytes = &mut *self.bytes;
-        slide_in(bytes, from, to, n);
-    }
-
-    fn zero(&mut self, _id: AreaId, at: usize, n: usize) {
-        let bytes = &mut *self.bytes;
-        zero_in(bytes, at, n);
-    }
-
-    fn copy_in(&mut self, _id: AreaId, at: usize, from: &[u8]) {
-        let bytes = &mut *self.bytes;
-        put_in(bytes, at, from);
-    }
+    ghost small = { shown_small_law };
 }

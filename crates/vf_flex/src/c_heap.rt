@@ -87,20 +87,19 @@ pub extern "C" fn vf_flex_resize(
 /// Tells the bytes of the block at a place. (OS_Heap 6.)
 #[unsafe(no_mangle)]
 pub extern "C" fn vf_flex_block_size(
-    memory: &mut [u8],
+    memory: &[u8],
     slot: &LentSlot,
     place: usize,
     size: &mut usize,
 ) -> u32
-    requires { AreLeft memory.old slot.now }
-    ensures refused { place_status (length memory.old) slot.now place ≢ 0 →
-        result ≡ place_status (length memory.old) slot.now place }
-    ensures kept { place_status (length memory.old) slot.now place ≢ 0 → size.new ≡ size.old }
-    ensures status { place_status (length memory.old) slot.now place ≡ 0 →
-        result ≡ answer_status (size_at place (slot_in memory.old slot.now)) }
-    ensures size { place_status (length memory.old) slot.now place ≡ 0 →
-        size.new ≡ answer_or (size_at place (slot_in memory.old slot.now)) size.old }
-    ensures same { memory.new ≡ memory.old }
+    requires { AreLeft memory.now slot.now }
+    ensures refused { place_status (length memory.now) slot.now place ≢ 0 →
+        result ≡ place_status (length memory.now) slot.now place }
+    ensures kept { place_status (length memory.now) slot.now place ≢ 0 → size.new ≡ size.old }
+    ensures status { place_status (length memory.now) slot.now place ≡ 0 →
+        result ≡ answer_status (size_at place (slot_in memory.now slot.now)) }
+    ensures size { place_status (length memory.now) slot.now place ≡ 0 →
+        size.new ≡ answer_or (size_at place (slot_in memory.now slot.now)) size.old }
 {
     match place_status(memory.len(), *slot, place) {
         OK => told(slot.block_size(memory, SLOT_START + place), size),
@@ -111,17 +110,16 @@ pub extern "C" fn vf_flex_block_size(
 /// Tells the bytes of the largest block that could be claimed with no page more, and all free bytes. (OS_Heap 1.)
 #[unsafe(no_mangle)]
 pub extern "C" fn vf_flex_describe(
-    memory: &mut [u8],
+    memory: &[u8],
     slot: &LentSlot,
     most: &mut usize,
     free: &mut usize,
 ) -> u32
-    requires { AreLeft memory.old slot.now }
-    ensures status { result ≡ slot_status (length memory.old) slot.now }
+    requires { AreLeft memory.now slot.now }
+    ensures status { result ≡ slot_status (length memory.now) slot.now }
     ensures refused { result ≢ 0 → (most.new ≡ most.old) × (free.new ≡ free.old) }
-    ensures most { result ≡ 0 → most.new ≡ largest (slot_in memory.old slot.now).heap }
-    ensures free { result ≡ 0 → free.new ≡ free_bytes (slot_in memory.old slot.now).heap }
-    ensures same { memory.new ≡ memory.old }
+    ensures most { result ≡ 0 → most.new ≡ largest (slot_in memory.now slot.now).heap }
+    ensures free { result ≡ 0 → free.new ≡ free_bytes (slot_in memory.now slot.now).heap }
 {
     let status = slot_status(memory.len(), *slot);
     if status == OK {

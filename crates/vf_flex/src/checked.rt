@@ -52,19 +52,18 @@ pub extern "C" fn vf_flex_checked_alloc(
 /// Tells how many bytes the anchor's block has. (flex_size.)
 #[unsafe(no_mangle)]
 pub extern "C" fn vf_flex_checked_size(
-    memory: &mut [u8],
+    memory: &[u8],
     slot: &LentSlot,
     anchor: u32,
     size: &mut usize,
 ) -> u32
-    ensures refused { checked_anchor_status memory.old slot.now anchor ≢ 0 →
-        result ≡ checked_anchor_status memory.old slot.now anchor }
-    ensures kept { checked_anchor_status memory.old slot.now anchor ≢ 0 → size.new ≡ size.old }
-    ensures status { checked_anchor_status memory.old slot.now anchor ≡ 0 →
-        result ≡ answer_status (slot_size anchor (slot_in memory.old slot.now)) }
-    ensures size { checked_anchor_status memory.old slot.now anchor ≡ 0 →
-        size.new ≡ answer_or (slot_size anchor (slot_in memory.old slot.now)) size.old }
-    ensures same { memory.new ≡ memory.old }
+    ensures refused { checked_anchor_status memory.now slot.now anchor ≢ 0 →
+        result ≡ checked_anchor_status memory.now slot.now anchor }
+    ensures kept { checked_anchor_status memory.now slot.now anchor ≢ 0 → size.new ≡ size.old }
+    ensures status { checked_anchor_status memory.now slot.now anchor ≡ 0 →
+        result ≡ answer_status (slot_size anchor (slot_in memory.now slot.now)) }
+    ensures size { checked_anchor_status memory.now slot.now anchor ≡ 0 →
+        size.new ≡ answer_or (slot_size anchor (slot_in memory.now slot.now)) size.old }
 {
     match checked_anchor_status(memory, *slot, anchor) {
         OK => flex::vf_flex_size(memory, slot, anchor, size),
@@ -134,19 +133,18 @@ pub extern "C" fn vf_flex_checked_midextend(
 /// Tells the place of the first byte of the anchor's block, which is its address less &8000.
 #[unsafe(no_mangle)]
 pub extern "C" fn vf_flex_checked_place(
-    memory: &mut [u8],
+    memory: &[u8],
     slot: &LentSlot,
     anchor: u32,
     place: &mut usize,
 ) -> u32
-    ensures refused { checked_anchor_status memory.old slot.now anchor ≢ 0 →
-        result ≡ checked_anchor_status memory.old slot.now anchor }
-    ensures kept { checked_anchor_status memory.old slot.now anchor ≢ 0 → place.new ≡ place.old }
-    ensures status { checked_anchor_status memory.old slot.now anchor ≡ 0 →
-        result ≡ answer_status (slot_address anchor (slot_in memory.old slot.now)) }
-    ensures place { checked_anchor_status memory.old slot.now anchor ≡ 0 →
-        place.new ≡ place_or (slot_address anchor (slot_in memory.old slot.now)) place.old }
-    ensures same { memory.new ≡ memory.old }
+    ensures refused { checked_anchor_status memory.now slot.now anchor ≢ 0 →
+        result ≡ checked_anchor_status memory.now slot.now anchor }
+    ensures kept { checked_anchor_status memory.now slot.now anchor ≢ 0 → place.new ≡ place.old }
+    ensures status { checked_anchor_status memory.now slot.now anchor ≡ 0 →
+        result ≡ answer_status (slot_address anchor (slot_in memory.now slot.now)) }
+    ensures place { checked_anchor_status memory.now slot.now anchor ≡ 0 →
+        place.new ≡ place_or (slot_address anchor (slot_in memory.now slot.now)) place.old }
 {
     match checked_anchor_status(memory, *slot, anchor) {
         OK => flex::vf_flex_place(memory, slot, anchor, place),
@@ -179,20 +177,19 @@ pub extern "C" fn vf_flex_checked_put(
 /// Fills a buffer with bytes of the anchor's block, from an offset in it on.
 #[unsafe(no_mangle)]
 pub extern "C" fn vf_flex_checked_read(
-    memory: &mut [u8],
+    memory: &[u8],
     slot: &LentSlot,
     anchor: u32,
     offset: usize,
     to: &mut [u8],
 ) -> u32
-    ensures refused { checked_anchor_status memory.old slot.now anchor ≢ 0 →
-        result ≡ checked_anchor_status memory.old slot.now anchor }
-    ensures kept { checked_anchor_status memory.old slot.now anchor ≢ 0 → to.new ≡ to.old }
-    ensures status { checked_anchor_status memory.old slot.now anchor ≡ 0 →
-        result ≡ answer_status (outcome_of (slot_read anchor offset (length to.old) (slot_in memory.old slot.now))) }
-    ensures buffer { checked_anchor_status memory.old slot.now anchor ≡ 0 →
-        to.new ≡ result_or to.old (slot_read anchor offset (length to.old) (slot_in memory.old slot.now)) }
-    ensures same { memory.new ≡ memory.old }
+    ensures refused { checked_anchor_status memory.now slot.now anchor ≢ 0 →
+        result ≡ checked_anchor_status memory.now slot.now anchor }
+    ensures kept { checked_anchor_status memory.now slot.now anchor ≢ 0 → to.new ≡ to.old }
+    ensures status { checked_anchor_status memory.now slot.now anchor ≡ 0 →
+        result ≡ answer_status (outcome_of (slot_read anchor offset (length to.old) (slot_in memory.now slot.now))) }
+    ensures buffer { checked_anchor_status memory.now slot.now anchor ≡ 0 →
+        to.new ≡ result_or to.old (slot_read anchor offset (length to.old) (slot_in memory.now slot.now)) }
 {
     match checked_anchor_status(memory, *slot, anchor) {
         OK => flex::vf_flex_read(memory, slot, anchor, offset, to),
@@ -272,19 +269,18 @@ pub extern "C" fn vf_flex_checked_resize(
 /// Tells the bytes of the block at a place. (OS_Heap 6.)
 #[unsafe(no_mangle)]
 pub extern "C" fn vf_flex_checked_block_size(
-    memory: &mut [u8],
+    memory: &[u8],
     slot: &LentSlot,
     place: usize,
     size: &mut usize,
 ) -> u32
-    ensures refused { checked_place_status memory.old slot.now place ≢ 0 →
-        result ≡ checked_place_status memory.old slot.now place }
-    ensures kept { checked_place_status memory.old slot.now place ≢ 0 → size.new ≡ size.old }
-    ensures status { checked_place_status memory.old slot.now place ≡ 0 →
-        result ≡ answer_status (size_at place (slot_in memory.old slot.now)) }
-    ensures size { checked_place_status memory.old slot.now place ≡ 0 →
-        size.new ≡ answer_or (size_at place (slot_in memory.old slot.now)) size.old }
-    ensures same { memory.new ≡ memory.old }
+    ensures refused { checked_place_status memory.now slot.now place ≢ 0 →
+        result ≡ checked_place_status memory.now slot.now place }
+    ensures kept { checked_place_status memory.now slot.now place ≢ 0 → size.new ≡ size.old }
+    ensures status { checked_place_status memory.now slot.now place ≡ 0 →
+        result ≡ answer_status (size_at place (slot_in memory.now slot.now)) }
+    ensures size { checked_place_status memory.now slot.now place ≡ 0 →
+        size.new ≡ answer_or (size_at place (slot_in memory.now slot.now)) size.old }
 {
     match checked_place_status(memory, *slot, place) {
         OK => c_heap::vf_flex_block_size(memory, slot, place, size),
@@ -295,16 +291,15 @@ pub extern "C" fn vf_flex_checked_block_size(
 /// Tells the bytes of the largest block that could be claimed with no page more, and all free bytes. (OS_Heap 1.)
 #[unsafe(no_mangle)]
 pub extern "C" fn vf_flex_checked_describe(
-    memory: &mut [u8],
+    memory: &[u8],
     slot: &LentSlot,
     most: &mut usize,
     free: &mut usize,
 ) -> u32
-    ensures status { result ≡ image_status memory.old slot.now }
+    ensures status { result ≡ image_status memory.now slot.now }
     ensures refused { result ≢ 0 → (most.new ≡ most.old) × (free.new ≡ free.old) }
-    ensures most { result ≡ 0 → most.new ≡ largest (slot_in memory.old slot.now).heap }
-    ensures free { result ≡ 0 → free.new ≡ free_bytes (slot_in memory.old slot.now).heap }
-    ensures same { memory.new ≡ memory.old }
+    ensures most { result ≡ 0 → most.new ≡ largest (slot_in memory.now slot.now).heap }
+    ensures free { result ≡ 0 → free.new ≡ free_bytes (slot_in memory.now slot.now).heap }
 {
     match image_status(memory, *slot) {
         OK => c_heap::vf_flex_describe(memory, slot, most, free),

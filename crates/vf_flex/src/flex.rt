@@ -42,20 +42,19 @@ pub extern "C" fn vf_flex_alloc(
 /// Tells how many bytes the anchor's block has. (flex_size.)
 #[unsafe(no_mangle)]
 pub extern "C" fn vf_flex_size(
-    memory: &mut [u8],
+    memory: &[u8],
     slot: &LentSlot,
     anchor: u32,
     size: &mut usize,
 ) -> u32
-    requires { AreLeft memory.old slot.now }
-    ensures refused { anchor_status (length memory.old) slot.now anchor ≢ 0 →
-        result ≡ anchor_status (length memory.old) slot.now anchor }
-    ensures kept { anchor_status (length memory.old) slot.now anchor ≢ 0 → size.new ≡ size.old }
-    ensures status { anchor_status (length memory.old) slot.now anchor ≡ 0 →
-        result ≡ answer_status (slot_size anchor (slot_in memory.old slot.now)) }
-    ensures size { anchor_status (length memory.old) slot.now anchor ≡ 0 →
-        size.new ≡ answer_or (slot_size anchor (slot_in memory.old slot.now)) size.old }
-    ensures same { memory.new ≡ memory.old }
+    requires { AreLeft memory.now slot.now }
+    ensures refused { anchor_status (length memory.now) slot.now anchor ≢ 0 →
+        result ≡ anchor_status (length memory.now) slot.now anchor }
+    ensures kept { anchor_status (length memory.now) slot.now anchor ≢ 0 → size.new ≡ size.old }
+    ensures status { anchor_status (length memory.now) slot.now anchor ≡ 0 →
+        result ≡ answer_status (slot_size anchor (slot_in memory.now slot.now)) }
+    ensures size { anchor_status (length memory.now) slot.now anchor ≡ 0 →
+        size.new ≡ answer_or (slot_size anchor (slot_in memory.now slot.now)) size.old }
 {
     match anchor_status(memory.len(), *slot, anchor) {
         OK => told(slot.size(memory, Anchor(anchor as u8)), size),
@@ -128,20 +127,19 @@ pub extern "C" fn vf_flex_midextend(
 /// Tells the place of the first byte of the anchor's block, which is its address less &8000.
 #[unsafe(no_mangle)]
 pub extern "C" fn vf_flex_place(
-    memory: &mut [u8],
+    memory: &[u8],
     slot: &LentSlot,
     anchor: u32,
     place: &mut usize,
 ) -> u32
-    requires { AreLeft memory.old slot.now }
-    ensures refused { anchor_status (length memory.old) slot.now anchor ≢ 0 →
-        result ≡ anchor_status (length memory.old) slot.now anchor }
-    ensures kept { anchor_status (length memory.old) slot.now anchor ≢ 0 → place.new ≡ place.old }
-    ensures status { anchor_status (length memory.old) slot.now anchor ≡ 0 →
-        result ≡ answer_status (slot_address anchor (slot_in memory.old slot.now)) }
-    ensures place { anchor_status (length memory.old) slot.now anchor ≡ 0 →
-        place.new ≡ place_or (slot_address anchor (slot_in memory.old slot.now)) place.old }
-    ensures same { memory.new ≡ memory.old }
+    requires { AreLeft memory.now slot.now }
+    ensures refused { anchor_status (length memory.now) slot.now anchor ≢ 0 →
+        result ≡ anchor_status (length memory.now) slot.now anchor }
+    ensures kept { anchor_status (length memory.now) slot.now anchor ≢ 0 → place.new ≡ place.old }
+    ensures status { anchor_status (length memory.now) slot.now anchor ≡ 0 →
+        result ≡ answer_status (slot_address anchor (slot_in memory.now slot.now)) }
+    ensures place { anchor_status (length memory.now) slot.now anchor ≡ 0 →
+        place.new ≡ place_or (slot_address anchor (slot_in memory.now slot.now)) place.old }
 {
     match anchor_status(memory.len(), *slot, anchor) {
         OK => told_place(slot.address(memory, Anchor(anchor as u8)), place),
@@ -175,21 +173,20 @@ pub extern "C" fn vf_flex_put(
 /// Fills a buffer with bytes of the anchor's block, from an offset in it on.
 #[unsafe(no_mangle)]
 pub extern "C" fn vf_flex_read(
-    memory: &mut [u8],
+    memory: &[u8],
     slot: &LentSlot,
     anchor: u32,
     offset: usize,
     to: &mut [u8],
 ) -> u32
-    requires { AreLeft memory.old slot.now }
-    ensures refused { anchor_status (length memory.old) slot.now anchor ≢ 0 →
-        result ≡ anchor_status (length memory.old) slot.now anchor }
-    ensures kept { anchor_status (length memory.old) slot.now anchor ≢ 0 → to.new ≡ to.old }
-    ensures status { anchor_status (length memory.old) slot.now anchor ≡ 0 →
-        result ≡ answer_status (outcome_of (slot_read anchor offset (length to.old) (slot_in memory.old slot.now))) }
-    ensures buffer { anchor_status (length memory.old) slot.now anchor ≡ 0 →
-        to.new ≡ result_or to.old (slot_read anchor offset (length to.old) (slot_in memory.old slot.now)) }
-    ensures same { memory.new ≡ memory.old }
+    requires { AreLeft memory.now slot.now }
+    ensures refused { anchor_status (length memory.now) slot.now anchor ≢ 0 →
+        result ≡ anchor_status (length memory.now) slot.now anchor }
+    ensures kept { anchor_status (length memory.now) slot.now anchor ≢ 0 → to.new ≡ to.old }
+    ensures status { anchor_status (length memory.now) slot.now anchor ≡ 0 →
+        result ≡ answer_status (outcome_of (slot_read anchor offset (length to.old) (slot_in memory.now slot.now))) }
+    ensures buffer { anchor_status (length memory.now) slot.now anchor ≡ 0 →
+        to.new ≡ result_or to.old (slot_read anchor offset (length to.old) (slot_in memory.now slot.now)) }
 {
     match anchor_status(memory.len(), *slot, anchor) {
         OK => outcome_status(slot.read(memory, Anchor(anchor as u8), offset, to)),

@@ -30,12 +30,10 @@ same_status : (g : Result Heap HeapRefusal) → answer_status (answer_of (no_ans
 same_status (Ok h) = refl
 same_status (Err refusal) = refl
 
--- what the call on the heap answered is the status, also where its arguments were spelled otherwise
-pub answered : (n e : ℕ) (d d' : ℤ) (b b' c : List ℕ) (r : Result (Unit {0}) HeapRefusal) → d' ≡ d → b' ≡ b
-    → LeavesBytes b' c (no_answer (extend d' (heap_of b' 0))) r → e ≡ moved (heap_of b 0).end d → e % 8 ≡ 0 → e ≤ n
+-- what the call on the heap answered is the status, also where its argument was spelled otherwise
+pub answered : (n e : ℕ) (d d' : ℤ) (b c : List ℕ) (r : Result (Unit {0}) HeapRefusal) → d' ≡ d
+    → LeavesBytes b c (no_answer (extend d' (heap_of b 0))) r → e ≡ moved (heap_of b 0).end d → e % 8 ≡ 0 → e ≤ n
     → answer_status r ≡ extend_status n d (heap_of b 0)
-answered n e d d' b b' c r ed eb left is m l =
-    let there = λ (x : List ℕ). extend d (heap_of x 0) in
-    ap answer_status left.answer ∙ same_status (extend d' (heap_of b' 0))
-    ∙ ap (λ (x : ℤ). answer_status (extend x (heap_of b' 0))) ed ∙ ap (λ (x : List ℕ). answer_status (there x)) eb
-    ∙ sym (within n e d (heap_of b 0) is m l)
+answered n e d d' b c r ed left is m l =
+    ap answer_status left.answer ∙ same_status (extend d' (heap_of b 0))
+    ∙ ap (λ (x : ℤ). answer_status (extend x (heap_of b 0))) ed ∙ sym (within n e d (heap_of b 0) is m l)

@@ -23,15 +23,14 @@ pub extern "C" fn vf_heap_check(memory: &[u8]) -> u32
 /// The bytes of the largest block that could be claimed, and all free bytes. (OS_Heap 1.)
 #[unsafe(no_mangle)]
 pub extern "C" fn vf_heap_checked_describe(
-    memory: &mut [u8],
+    memory: &[u8],
     most: &mut usize,
     free: &mut usize,
 ) -> u32
-    ensures status { result ≡ image_status memory.old }
-    ensures same { memory.new ≡ memory.old }
-    ensures kept { image_status memory.old ≢ 0 → (most.new ≡ most.old) × (free.new ≡ free.old) }
-    ensures most { image_status memory.old ≡ 0 → most.new ≡ largest (heap_of memory.old 0) }
-    ensures free { image_status memory.old ≡ 0 → free.new ≡ free_bytes (heap_of memory.old 0) }
+    ensures status { result ≡ image_status memory.now }
+    ensures kept { image_status memory.now ≢ 0 → (most.new ≡ most.old) × (free.new ≡ free.old) }
+    ensures most { image_status memory.now ≡ 0 → most.new ≡ largest (heap_of memory.now 0) }
+    ensures free { image_status memory.now ≡ 0 → free.new ≡ free_bytes (heap_of memory.now 0) }
 {
     match image_status(memory) {
         OK => plain::vf_heap_describe(memory, most, free),
@@ -104,15 +103,14 @@ pub extern "C" fn vf_heap_checked_extend(memory: &mut [u8], delta: isize) -> u32
 /// Tells the bytes of the block at an address. (OS_Heap 6.)
 #[unsafe(no_mangle)]
 pub extern "C" fn vf_heap_checked_block_size(
-    memory: &mut [u8],
+    memory: &[u8],
     address: usize,
     size: &mut usize,
 ) -> u32
-    ensures refused { RefusesImage memory.old memory.new result }
-    ensures kept { image_status memory.old ≢ 0 → size.new ≡ size.old }
-    ensures status { image_status memory.old ≡ 0 → result ≡ answer_status (size_at address (heap_of memory.old 0)) }
-    ensures size { image_status memory.old ≡ 0 → size.new ≡ answer_or (size_at address (heap_of memory.old 0)) size.old }
-    ensures same { memory.new ≡ memory.old }
+    ensures refused { image_status memory.now ≢ 0 → result ≡ image_status memory.now }
+    ensures kept { image_status memory.now ≢ 0 → size.new ≡ size.old }
+    ensures status { image_status memory.now ≡ 0 → result ≡ answer_status (size_at address (heap_of memory.now 0)) }
+    ensures size { image_status memory.now ≡ 0 → size.new ≡ answer_or (size_at address (heap_of memory.now 0)) size.old }
 {
     match image_status(memory) {
         OK => plain::vf_heap_block_size(memory, address, size),

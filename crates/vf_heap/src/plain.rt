@@ -32,12 +32,11 @@ pub extern "C" fn vf_heap_init(memory: &mut [u8]) -> u32
 
 /// The bytes of the largest block that could be claimed, and all free bytes. (OS_Heap 1.)
 #[unsafe(no_mangle)]
-pub extern "C" fn vf_heap_describe(memory: &mut [u8], most: &mut usize, free: &mut usize) -> u32
-    requires { IsHeapBytes memory.old }
+pub extern "C" fn vf_heap_describe(memory: &[u8], most: &mut usize, free: &mut usize) -> u32
+    requires { IsHeapBytes memory.now }
     ensures status { result ≡ 0 }
-    ensures most { most.new ≡ largest (heap_of memory.old 0) }
-    ensures free { free.new ≡ free_bytes (heap_of memory.old 0) }
-    ensures same { memory.new ≡ memory.old }
+    ensures most { most.new ≡ largest (heap_of memory.now 0) }
+    ensures free { free.new ≡ free_bytes (heap_of memory.now 0) }
 {
     let (largest, total) = heap::describe(memory);
     *most = largest;
@@ -70,11 +69,10 @@ pub extern "C" fn vf_heap_release(memory: &mut [u8], address: usize) -> u32
 }
 
 /// Why a block can't have so many bytes more, or fewer.
-fn far_refusal(memory: &mut [u8], address: usize, delta: isize) -> HeapRefusal
-    requires heap { IsHeapBytes memory.old }
+fn far_refusal(memory: &[u8], address: usize, delta: isize) -> HeapRefusal
+    requires heap { IsHeapBytes memory.now }
     requires far { IsFar delta }
-    ensures refusal { resize address delta (heap_of memory.old 0) ≡ Err result }
-    ensures same { memory.new ≡ memory.old }
+    ensures { resize address delta (heap_of memory.now 0) ≡ Err result }
 {
     match heap::block_size(memory, address) {
         Err(refusal) => refusal,
@@ -137,11 +135,10 @@ fn extend(memory: &mut [u8], delta: i32) -> u32
 
 /// Tells the bytes of the block at an address. (OS_Heap 6.)
 #[unsafe(no_mangle)]
-pub extern "C" fn vf_heap_block_size(memory: &mut [u8], address: usize, size: &mut usize) -> u32
-    requires { IsHeapBytes memory.old }
-    ensures status { result ≡ answer_status (size_at address (heap_of memory.old 0)) }
-    ensures size { size.new ≡ answer_or (size_at address (heap_of memory.old 0)) size.old }
-    ensures same { memory.new ≡ memory.old }
+pub extern "C" fn vf_heap_block_size(memory: &[u8], address: usize, size: &mut usize) -> u32
+    requires { IsHeapBytes memory.now }
+    ensures status { result ≡ answer_status (size_at address (heap_of memory.now 0)) }
+    ensures size { size.new ≡ answer_or (size_at address (heap_of memory.now 0)) size.old }
 {
     told(heap::block_size(memory, address), size)
 }

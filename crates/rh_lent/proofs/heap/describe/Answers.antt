@@ -1,16 +1,16 @@
 use Rattle.rh_defs.specs.Memory.{bytes, area_set}
-use Rattle.rh_lent.specs.Lent.{memory_of, memory_over}
+use Rattle.rh_lent.specs.Lent.{memory_shown, memory_over}
 use Rattle.rh_lent.proofs.HeapBytes.{is_span}
 use Rattle.rh_lent.proofs.heap.describe.Goals as goal
 
 pub describe-requires : goal.describe-requires
-unfolding memory_of
+unfolding memory_shown
 describe-requires c = is_span c.args.memory.now _ c.requires
 
 pub returns-clause-largest : goal.returns-clause-largest
-unfolding memory_of memory_over bytes area_set
+unfolding memory_shown memory_over bytes area_set
 returns-clause-largest c = c.describe.ensures.largest
 
 pub returns-clause-free : goal.returns-clause-free
-unfolding memory_of memory_over bytes area_set
+unfolding memory_shown memory_over bytes area_set
 returns-clause-free c = c.describe.ensures.total

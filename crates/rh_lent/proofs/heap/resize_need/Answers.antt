@@ -5,15 +5,15 @@ use Rattle.std.proofs.lemmas.Int.{to_z-of_z}
 use Rattle.rh_defs.specs.Heap.{need_at}
 use Rattle.rh_defs.specs.HeapImage.{heap_of}
 use Rattle.rh_defs.specs.Memory.{bytes, area_set}
-use Rattle.rh_lent.specs.Lent.{memory_of, memory_over}
+use Rattle.rh_lent.specs.Lent.{memory_shown, memory_over}
 use Rattle.rh_lent.proofs.HeapBytes.{is_span}
 use Rattle.rh_lent.proofs.heap.resize_need.Goals as goal
 
 pub resize_need-requires : goal.resize_need-requires
-unfolding memory_of
+unfolding memory_shown
 resize_need-requires c = is_span c.args.memory.now _ c.requires
 
-pub returns-clause-answer : goal.returns-clause-answer
-unfolding memory_of memory_over bytes area_set
-returns-clause-answer c =
+pub returns : goal.returns
+unfolding memory_shown memory_over bytes area_set
+returns c =
     c.resize_need.ensures ∙ ap (λ (d : ℤ). need_at c.args.address d (heap_of c.args.memory.now 0)) (to_z-of_z w32 c.args.delta c.ranges.delta)

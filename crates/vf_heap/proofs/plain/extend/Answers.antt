@@ -33,5 +33,5 @@ returns-clause-status c =
     let back = to_z-of_z w32 d c.ranges.delta in
     let end : c.moved-end.result ≡ moved h.end d =
     c.moved-end.ensures.value ∙ ap (λ k. moved k (to_z w32 (of_z w32 d))) c.end.ensures.end ∙ ap (λ (x : ℤ). moved h.end x) back in
-    c.outcome_status.ensures ∙ answered (length b) _ d _ b c.end.new.memory c.extend_heap.new.memory c.extend_heap.result back
-    c.end.ensures.same c.extend_heap.ensures end c.if-end-ne0.false c.if-len-end.false
+    c.outcome_status.ensures ∙ answered (length b) _ d _ b c.extend_heap.new.memory c.extend_heap.result back
+    c.extend_heap.ensures end c.if-end-ne0.false c.if-len-end.false

@@ -1,13 +1,13 @@
 use Rattle.std.proofs.Common.{◌-◌, ◌%◌, ◌∙◌, arith}
-use Rattle.rh_flex.proofs.Over.{lent_length, part_in}
+use Rattle.rh_flex.proofs.Over.{shown_length, shown_part}
 use Rattle.rh_flex.proofs.pages.LentPagesPaged.rest_of_page.Goals as goal
 
 pub part_of-requires : goal.part_of-requires
 part_of-requires c =
-    omega (arith, lent_length c.args.self.now c.args._id.0 c.requires.opened, c.args.self.now.within, c.requires.within)
+    omega (arith, shown_length c.args.self.now c.args._id.0 c.requires.opened, c.args.self.now.within, c.requires.within)
 
 pub returns : goal.returns
 returns c =
     let s = c.args.self.now in
-    c.part_of.ensures ∙ part_in s c.args._id.0 c.requires.opened c.args.at (4096 - c.args.at % 4096)
-    (omega (arith, lent_length s c.args._id.0 c.requires.opened, c.requires.within))
+    c.part_of.ensures ∙ shown_part s c.args._id.0 c.requires.opened c.args.at (4096 - c.args.at % 4096)
+    (omega (arith, shown_length s c.args._id.0 c.requires.opened, c.requires.within))

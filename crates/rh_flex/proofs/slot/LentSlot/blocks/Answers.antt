@@ -1,16 +1,16 @@
 use Rattle.rh_defs.specs.Memory.{area_set, bytes}
-use Rattle.rh_flex.specs.Pages.{memory_of, memory_over}
+use Rattle.rh_flex.specs.Pages.{memory_shown, memory_over}
 use Rattle.rh_flex.proofs.SlotBytes.{is_slot}
 use Rattle.rh_flex.proofs.slot.LentSlot.blocks.Goals as goal
 
 pub blocks-requires : goal.blocks-requires
-unfolding memory_of
+unfolding memory_shown
 blocks-requires c = record { slot = is_slot c.args.bytes.now c.args.self _ c.requires }
 
 pub returns-clause-passed : goal.returns-clause-passed
-unfolding memory_of memory_over bytes area_set
+unfolding memory_shown memory_over bytes area_set
 returns-clause-passed c = c.blocks-2.ensures.passed
 
 pub returns-clause-walk : goal.returns-clause-walk
-unfolding memory_of memory_over bytes area_set
+unfolding memory_shown memory_over bytes area_set
 returns-clause-walk c = c.blocks-2.ensures.walk

@@ -1,16 +1,16 @@
 use Rattle.rh_defs.specs.Memory.{area_set, bytes}
-use Rattle.rh_flex.specs.Pages.{memory_of, memory_over}
+use Rattle.rh_flex.specs.Pages.{memory_shown, memory_over}
 use Rattle.rh_flex.proofs.SlotBytes.{is_slot}
 use Rattle.rh_flex.proofs.slot.LentSlot.read.Goals as goal
 
 pub read-requires-clause-slot : goal.read-requires-clause-slot
-unfolding memory_of
+unfolding memory_shown
 read-requires-clause-slot c = is_slot c.args.bytes.now c.args.self _ c.requires.slot
 
 pub returns-clause-answer : goal.returns-clause-answer
-unfolding memory_of memory_over bytes area_set
+unfolding memory_shown memory_over bytes area_set
 returns-clause-answer c = c.read.ensures.answer
 
 pub returns-clause-buffer : goal.returns-clause-buffer
-unfolding memory_of memory_over bytes area_set
+unfolding memory_shown memory_over bytes area_set
 returns-clause-buffer c = c.read.ensures.bytes

@@ -1,12 +1,12 @@
 use Rattle.rh_defs.specs.Memory.{area_set, bytes}
-use Rattle.rh_flex.specs.Pages.{memory_of, memory_over}
+use Rattle.rh_flex.specs.Pages.{memory_shown, memory_over}
 use Rattle.rh_flex.proofs.SlotBytes.{is_slot}
 use Rattle.rh_flex.proofs.slot.LentSlot.take_pages.Goals as goal
 
 pub take_pages-requires : goal.take_pages-requires
-unfolding memory_of
+unfolding memory_shown
 take_pages-requires c = record { slot = is_slot c.args.bytes.now c.args.self _ c.requires }
 
-pub returns-clause-answer : goal.returns-clause-answer
-unfolding memory_of memory_over bytes area_set
-returns-clause-answer c = c.take_pages.ensures
+pub returns : goal.returns
+unfolding memory_shown memory_over bytes area_set
+returns c = c.take_pages.ensures

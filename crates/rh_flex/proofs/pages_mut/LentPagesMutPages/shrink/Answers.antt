@@ -1,0 +1,12 @@
+use Rattle.std.proofs.Common.{arith}
+use Rattle.rh_flex.specs.Pages.{memory_of}
+use Rattle.rh_flex.proofs.Over.{lent_length, shrank}
+use Rattle.rh_flex.proofs.pages_mut.LentPagesMutPages.shrink.Goals as goal
+
+pub overflow_sub-self : goal.overflow_sub-self
+overflow_sub-self c =
+    omega (arith, lent_length c.args.self.now c.args._id.0 c.requires.opened, c.requires.within)
+
+pub returns : goal.returns
+unfolding memory_of
+returns c = shrank c.args.self.now c.args._id.0 c.requires.opened c.args.pages c.requires.within
