@@ -60,10 +60,10 @@ enum {
  * 1. A pointer that is not null leads to what it says: `memory` to `len` bytes, `from` to `from_len`, `to` to `to_len`,
  *    any other to one value of its type, at an address that fits the type. What the pointers of one call lead to does
  *    not overlap.
- * 2. While a call runs nobody else reads or writes what it was lent: one call at a time on one heap or slot. Different
- *    ones may be used at the same time. Questions count as calls, since all but vf_heap_check and vf_flex_check take a
- *    pointer to bytes that may be written, though they write none. These two only read: any number of those may run at
- *    once.
+ * 2. While a call runs nobody else writes what it was lent, and nobody else reads what it was lent without `const`. On
+ *    one heap or slot, the calls that take `memory` without `const` run one at a time, and alone; those that take it
+ *    with `const` only read, and any number of them may run at once. Different heaps and slots may be used at the same
+ *    time.
  * 3. Of the calls on heaps without `checked` in their names, vf_heap_init aside: `memory` is a heap, so that
  *    vf_heap_check would answer VF_OK. It is one after vf_heap_init, and after each call, as long as you write to
  *    nothing but the bytes of your blocks. Where it is none they may read and write anywhere, as free() may.
@@ -85,7 +85,7 @@ enum {
 uint32_t vf_heap_init(uint8_t *memory, size_t len);
 
 /* OS_Heap 1: tells the bytes of the largest block that could be claimed, and how many bytes are free in all. */
-uint32_t vf_heap_describe(uint8_t *memory, size_t len, size_t *most, size_t *free);
+uint32_t vf_heap_describe(const uint8_t *memory, size_t len, size_t *most, size_t *free);
 
 /* OS_Heap 2: claims a block of `n` bytes or up to 7 more, all of them 0, and tells its address. The first hole that is
  * large enough is taken, else bytes above all blocks. VF_BAD_SIZE where n is 0, VF_NO_ROOM. */
@@ -104,7 +104,7 @@ uint32_t vf_heap_resize(uint8_t *memory, size_t len, size_t address, ptrdiff_t d
 uint32_t vf_heap_extend(uint8_t *memory, size_t len, ptrdiff_t delta);
 
 /* OS_Heap 6: tells how many bytes the block at an address has: what was asked for, or up to 7 more. VF_NOT_A_BLOCK. */
-uint32_t vf_heap_block_size(uint8_t *memory, size_t len, size_t address, size_t *size);
+uint32_t vf_heap_block_size(const uint8_t *memory, size_t len, size_t address, size_t *size);
 
 /* ---- The same on any bytes -----------------------------------------------------------------------------------------
  *
@@ -118,12 +118,12 @@ uint32_t vf_heap_block_size(uint8_t *memory, size_t len, size_t address, size_t 
  * and then the heap's first fault, VF_BAD_DESCRIPTOR, VF_BAD_LINK or VF_BAD_SEGMENT. */
 uint32_t vf_heap_check(const uint8_t *memory, size_t len);
 
-uint32_t vf_heap_checked_describe(uint8_t *memory, size_t len, size_t *most, size_t *free);
+uint32_t vf_heap_checked_describe(const uint8_t *memory, size_t len, size_t *most, size_t *free);
 uint32_t vf_heap_checked_claim(uint8_t *memory, size_t len, size_t n, size_t *address);
 uint32_t vf_heap_checked_release(uint8_t *memory, size_t len, size_t address);
 uint32_t vf_heap_checked_resize(uint8_t *memory, size_t len, size_t address, ptrdiff_t delta, size_t *moved_to);
 uint32_t vf_heap_checked_extend(uint8_t *memory, size_t len, ptrdiff_t delta);
-uint32_t vf_heap_checked_block_size(uint8_t *memory, size_t len, size_t address, size_t *size);
+uint32_t vf_heap_checked_block_size(const uint8_t *memory, size_t len, size_t address, size_t *size);
 
 /* ---- flex ----------------------------------------------------------------------------------------------------------
  *
@@ -160,7 +160,7 @@ uint32_t vf_flex_alloc(uint8_t *memory, size_t len, struct vf_slot *slot, uint32
 uint32_t vf_flex_free(uint8_t *memory, size_t len, struct vf_slot *slot, uint32_t anchor);
 
 /* flex_size: tells how many bytes the anchor's block has, just what was asked for. VF_NO_BLOCK. */
-uint32_t vf_flex_size(uint8_t *memory, size_t len, const struct vf_slot *slot, uint32_t anchor, size_t *size);
+uint32_t vf_flex_size(const uint8_t *memory, size_t len, const struct vf_slot *slot, uint32_t anchor, size_t *size);
 
 /* flex_extend: cuts the anchor's block to `n` bytes, or gives it bytes up to `n`, which are 0. Those above it slide.
  * VF_NO_BLOCK, VF_NO_ROOM. */
@@ -177,7 +177,7 @@ uint32_t vf_flex_midextend(uint8_t *memory, size_t len, struct vf_slot *slot, ui
 uint32_t vf_flex_set_budge(struct vf_slot *slot, bool on, bool *was);
 
 /* Tells where the anchor's block stands, as what a flex_ptr pointed to did. VF_NO_BLOCK. */
-uint32_t vf_flex_place(uint8_t *memory, size_t len, const struct vf_slot *slot, uint32_t anchor, size_t *place);
+uint32_t vf_flex_place(const uint8_t *memory, size_t len, const struct vf_slot *slot, uint32_t anchor, size_t *place);
 
 /* Writes `from_len` bytes into the anchor's block, from an offset on. VF_NO_BLOCK, VF_BAD_RANGE where they would go
  * beyond its end. */
@@ -186,7 +186,7 @@ uint32_t vf_flex_put(uint8_t *memory, size_t len, struct vf_slot *slot, uint32_t
 
 /* Fills `to` with `to_len` bytes of the anchor's block, from an offset on. VF_NO_BLOCK, VF_BAD_RANGE where there are
  * fewer; then `to` stays. */
-uint32_t vf_flex_read(uint8_t *memory, size_t len, const struct vf_slot *slot, uint32_t anchor, size_t offset,
+uint32_t vf_flex_read(const uint8_t *memory, size_t len, const struct vf_slot *slot, uint32_t anchor, size_t offset,
                       uint8_t *to, size_t to_len);
 
 /* ---- The C heap below flex -----------------------------------------------------------------------------------------
@@ -198,7 +198,7 @@ uint32_t vf_flex_read(uint8_t *memory, size_t len, const struct vf_slot *slot, u
 
 /* OS_Heap 1: tells the bytes of the largest block that could be claimed with no page more, and how many bytes are free
  * in all, between the C heap's first byte and its end. */
-uint32_t vf_flex_describe(uint8_t *memory, size_t len, const struct vf_slot *slot, size_t *most, size_t *free);
+uint32_t vf_flex_describe(const uint8_t *memory, size_t len, const struct vf_slot *slot, size_t *most, size_t *free);
 
 /* OS_Heap 2: claims a block of `n` bytes or up to 7 more, all of them 0, and tells its place. VF_BAD_SIZE where n is 0,
  * VF_NO_BUDGE, VF_NO_ROOM. */
@@ -214,7 +214,7 @@ uint32_t vf_flex_resize(uint8_t *memory, size_t len, struct vf_slot *slot, size_
                         size_t *moved_to);
 
 /* OS_Heap 6: tells how many bytes the block at a place has: what was asked for, or up to 7 more. VF_NOT_A_BLOCK. */
-uint32_t vf_flex_block_size(uint8_t *memory, size_t len, const struct vf_slot *slot, size_t place, size_t *size);
+uint32_t vf_flex_block_size(const uint8_t *memory, size_t len, const struct vf_slot *slot, size_t place, size_t *size);
 
 /* ---- A slot in any bytes --------------------------------------------------------------------------------------------
  *
@@ -232,21 +232,24 @@ uint32_t vf_flex_check(const uint8_t *memory, size_t len, const struct vf_slot *
 uint32_t vf_flex_checked_alloc(uint8_t *memory, size_t len, struct vf_slot *slot, uint32_t anchor, size_t n,
                                size_t *place);
 uint32_t vf_flex_checked_free(uint8_t *memory, size_t len, struct vf_slot *slot, uint32_t anchor);
-uint32_t vf_flex_checked_size(uint8_t *memory, size_t len, const struct vf_slot *slot, uint32_t anchor, size_t *size);
+uint32_t vf_flex_checked_size(const uint8_t *memory, size_t len, const struct vf_slot *slot, uint32_t anchor,
+                              size_t *size);
 uint32_t vf_flex_checked_extend(uint8_t *memory, size_t len, struct vf_slot *slot, uint32_t anchor, size_t n);
 uint32_t vf_flex_checked_midextend(uint8_t *memory, size_t len, struct vf_slot *slot, uint32_t anchor, size_t offset,
                                    ptrdiff_t by);
-uint32_t vf_flex_checked_place(uint8_t *memory, size_t len, const struct vf_slot *slot, uint32_t anchor, size_t *place);
+uint32_t vf_flex_checked_place(const uint8_t *memory, size_t len, const struct vf_slot *slot, uint32_t anchor,
+                               size_t *place);
 uint32_t vf_flex_checked_put(uint8_t *memory, size_t len, struct vf_slot *slot, uint32_t anchor, size_t offset,
                              const uint8_t *from, size_t from_len);
-uint32_t vf_flex_checked_read(uint8_t *memory, size_t len, const struct vf_slot *slot, uint32_t anchor, size_t offset,
-                              uint8_t *to, size_t to_len);
-uint32_t vf_flex_checked_describe(uint8_t *memory, size_t len, const struct vf_slot *slot, size_t *most, size_t *free);
+uint32_t vf_flex_checked_read(const uint8_t *memory, size_t len, const struct vf_slot *slot, uint32_t anchor,
+                              size_t offset, uint8_t *to, size_t to_len);
+uint32_t vf_flex_checked_describe(const uint8_t *memory, size_t len, const struct vf_slot *slot, size_t *most,
+                                  size_t *free);
 uint32_t vf_flex_checked_claim(uint8_t *memory, size_t len, struct vf_slot *slot, size_t n, size_t *place);
 uint32_t vf_flex_checked_release(uint8_t *memory, size_t len, struct vf_slot *slot, size_t place);
 uint32_t vf_flex_checked_resize(uint8_t *memory, size_t len, struct vf_slot *slot, size_t place, ptrdiff_t delta,
                                 size_t *moved_to);
-uint32_t vf_flex_checked_block_size(uint8_t *memory, size_t len, const struct vf_slot *slot, size_t place,
+uint32_t vf_flex_checked_block_size(const uint8_t *memory, size_t len, const struct vf_slot *slot, size_t place,
                                     size_t *size);
 
 /* ---- Null pointers -------------------------------------------------------------------------------------------------
@@ -262,7 +265,7 @@ uint32_t vf_flex_checked_block_size(uint8_t *memory, size_t len, const struct vf
 
 VF_UNLESS_NULL(vf_heap_init, (uint8_t *memory, size_t len), memory, (memory, len))
 VF_UNLESS_NULL(vf_heap_check, (const uint8_t *memory, size_t len), memory, (memory, len))
-VF_BOTH_UNLESS_NULL(vf_heap, describe, (uint8_t *memory, size_t len, size_t *most, size_t *free),
+VF_BOTH_UNLESS_NULL(vf_heap, describe, (const uint8_t *memory, size_t len, size_t *most, size_t *free),
                     memory && most && free, (memory, len, most, free))
 VF_BOTH_UNLESS_NULL(vf_heap, claim, (uint8_t *memory, size_t len, size_t n, size_t *address), memory && address,
                     (memory, len, n, address))
@@ -271,7 +274,7 @@ VF_BOTH_UNLESS_NULL(vf_heap, resize,
                     (uint8_t *memory, size_t len, size_t address, ptrdiff_t delta, size_t *moved_to),
                     memory && moved_to, (memory, len, address, delta, moved_to))
 VF_BOTH_UNLESS_NULL(vf_heap, extend, (uint8_t *memory, size_t len, ptrdiff_t delta), memory, (memory, len, delta))
-VF_BOTH_UNLESS_NULL(vf_heap, block_size, (uint8_t *memory, size_t len, size_t address, size_t *size),
+VF_BOTH_UNLESS_NULL(vf_heap, block_size, (const uint8_t *memory, size_t len, size_t address, size_t *size),
                     memory && size, (memory, len, address, size))
 
 VF_UNLESS_NULL(vf_flex_start, (uint8_t *memory, size_t len, struct vf_slot *slot),
@@ -286,7 +289,7 @@ VF_BOTH_UNLESS_NULL(vf_flex, alloc,
 VF_BOTH_UNLESS_NULL(vf_flex, free, (uint8_t *memory, size_t len, struct vf_slot *slot, uint32_t anchor),
                     memory && slot, (memory, len, slot, anchor))
 VF_BOTH_UNLESS_NULL(vf_flex, size,
-                    (uint8_t *memory, size_t len, const struct vf_slot *slot, uint32_t anchor, size_t *size),
+                    (const uint8_t *memory, size_t len, const struct vf_slot *slot, uint32_t anchor, size_t *size),
                     memory && slot && size, (memory, len, slot, anchor, size))
 VF_BOTH_UNLESS_NULL(vf_flex, extend, (uint8_t *memory, size_t len, struct vf_slot *slot, uint32_t anchor, size_t n),
                     memory && slot, (memory, len, slot, anchor, n))
@@ -294,18 +297,18 @@ VF_BOTH_UNLESS_NULL(vf_flex, midextend,
                     (uint8_t *memory, size_t len, struct vf_slot *slot, uint32_t anchor, size_t offset, ptrdiff_t by),
                     memory && slot, (memory, len, slot, anchor, offset, by))
 VF_BOTH_UNLESS_NULL(vf_flex, place,
-                    (uint8_t *memory, size_t len, const struct vf_slot *slot, uint32_t anchor, size_t *place),
+                    (const uint8_t *memory, size_t len, const struct vf_slot *slot, uint32_t anchor, size_t *place),
                     memory && slot && place, (memory, len, slot, anchor, place))
 VF_BOTH_UNLESS_NULL(vf_flex, put,
                     (uint8_t *memory, size_t len, struct vf_slot *slot, uint32_t anchor, size_t offset,
                      const uint8_t *from, size_t from_len),
                     memory && slot && from, (memory, len, slot, anchor, offset, from, from_len))
 VF_BOTH_UNLESS_NULL(vf_flex, read,
-                    (uint8_t *memory, size_t len, const struct vf_slot *slot, uint32_t anchor, size_t offset,
+                    (const uint8_t *memory, size_t len, const struct vf_slot *slot, uint32_t anchor, size_t offset,
                      uint8_t *to, size_t to_len),
                     memory && slot && to, (memory, len, slot, anchor, offset, to, to_len))
 VF_BOTH_UNLESS_NULL(vf_flex, describe,
-                    (uint8_t *memory, size_t len, const struct vf_slot *slot, size_t *most, size_t *free),
+                    (const uint8_t *memory, size_t len, const struct vf_slot *slot, size_t *most, size_t *free),
                     memory && slot && most && free, (memory, len, slot, most, free))
 VF_BOTH_UNLESS_NULL(vf_flex, claim, (uint8_t *memory, size_t len, struct vf_slot *slot, size_t n, size_t *place),
                     memory && slot && place, (memory, len, slot, n, place))
@@ -316,7 +319,7 @@ VF_BOTH_UNLESS_NULL(vf_flex, resize,
                      size_t *moved_to),
                     memory && slot && moved_to, (memory, len, slot, place, delta, moved_to))
 VF_BOTH_UNLESS_NULL(vf_flex, block_size,
-                    (uint8_t *memory, size_t len, const struct vf_slot *slot, size_t place, size_t *size),
+                    (const uint8_t *memory, size_t len, const struct vf_slot *slot, size_t place, size_t *size),
                     memory && slot && size, (memory, len, slot, place, size))
 
 #undef VF_BOTH_UNLESS_NULL

@@ -166,6 +166,7 @@ def faults(top):
 SLIPS = [
     ("uint32_t vf_heap_extend(uint8_t *memory, size_t len, ptrdiff_t delta);", ""),
     ("uint32_t vf_heap_release(uint8_t *memory,", "uint32_t vf_heap_release(const uint8_t *memory,"),
+    ("uint32_t vf_heap_describe(const uint8_t *memory,", "uint32_t vf_heap_describe(uint8_t *memory,"),
     ("size_t *most, size_t *free);", "size_t *free, size_t *most);"),
     ("size_t n, size_t *address);", "uint32_t n, size_t *address);"),
     ("uint32_t vf_heap_check(const uint8_t *memory,", "int vf_heap_check(const uint8_t *memory,"),
