@@ -44,16 +44,15 @@ impl LentBench {
 
     /// The bytes of a block from an offset on, as many as the array has.
     pub(crate) fn read<const N: usize>(
-        &mut self,
+        &self,
         anchor: Anchor,
         offset: usize,
     ) -> Result<[u8; N], Refusal>
-        requires slot { IsSlotBytes (vec_items self.old.bytes) self.old.slot }
+        requires slot { IsSlotBytes (vec_items self.now.bytes) self.now.slot }
         requires anchor { anchor < ANCHORS }
-        ensures { IsSlotBytes (vec_items self.new.bytes) self.new.slot }
     {
         let mut found = [1; N];
-        self.slot.read(&mut self.bytes, anchor, offset, &mut found)?;
+        self.slot.read(&self.bytes, anchor, offset, &mut found)?;
         Ok(found)
     }
 
@@ -97,27 +96,24 @@ impl LentBench {
         self.slot.put(&mut self.bytes, anchor, offset, from)
     }
 
-    pub(crate) fn size(&mut self, anchor: Anchor) -> Result<usize, Refusal>
-        requires slot { IsSlotBytes (vec_items self.old.bytes) self.old.slot }
+    pub(crate) fn size(&self, anchor: Anchor) -> Result<usize, Refusal>
+        requires slot { IsSlotBytes (vec_items self.now.bytes) self.now.slot }
         requires anchor { anchor < ANCHORS }
-        ensures { IsSlotBytes (vec_items self.new.bytes) self.new.slot }
     {
-        self.slot.size(&mut self.bytes, anchor)
+        self.slot.size(&self.bytes, anchor)
     }
 
-    pub(crate) fn address(&mut self, anchor: Anchor) -> Result<usize, Refusal>
-        requires slot { IsSlotBytes (vec_items self.old.bytes) self.old.slot }
+    pub(crate) fn address(&self, anchor: Anchor) -> Result<usize, Refusal>
+        requires slot { IsSlotBytes (vec_items self.now.bytes) self.now.slot }
         requires anchor { anchor < ANCHORS }
-        ensures { IsSlotBytes (vec_items self.new.bytes) self.new.slot }
     {
-        self.slot.address(&mut self.bytes, anchor)
+        self.slot.address(&self.bytes, anchor)
     }
 
-    pub(crate) fn free_anchor(&mut self) -> Option<Anchor>
-        requires { IsSlotBytes (vec_items self.old.bytes) self.old.slot }
-        ensures { IsSlotBytes (vec_items self.new.bytes) self.new.slot }
+    pub(crate) fn free_anchor(&self) -> Option<Anchor>
+        requires { IsSlotBytes (vec_items self.now.bytes) self.now.slot }
     {
-        self.slot.free_anchor(&mut self.bytes)
+        self.slot.free_anchor(&self.bytes)
     }
 
     pub(crate) fn claim(&mut self, n: u32) -> Result<usize, Refusal>
@@ -148,67 +144,58 @@ impl LentBench {
         self.slot.write(&mut self.bytes, address, from)
     }
 
-    pub(crate) fn block_size(&mut self, address: usize) -> Result<usize, Refusal>
-        requires { IsSlotBytes (vec_items self.old.bytes) self.old.slot }
-        ensures { IsSlotBytes (vec_items self.new.bytes) self.new.slot }
+    pub(crate) fn block_size(&self, address: usize) -> Result<usize, Refusal>
+        requires { IsSlotBytes (vec_items self.now.bytes) self.now.slot }
     {
-        self.slot.block_size(&mut self.bytes, address)
+        self.slot.block_size(&self.bytes, address)
     }
 
-    pub(crate) fn take_pages(&mut self, n: u32) -> Result<usize, Refusal>
-        requires { IsSlotBytes (vec_items self.old.bytes) self.old.slot }
-        ensures { IsSlotBytes (vec_items self.new.bytes) self.new.slot }
+    pub(crate) fn take_pages(&self, n: u32) -> Result<usize, Refusal>
+        requires { IsSlotBytes (vec_items self.now.bytes) self.now.slot }
     {
-        self.slot.take_pages(&mut self.bytes, n)
+        self.slot.take_pages(&self.bytes, n)
     }
 
-    pub(crate) fn inside(&mut self, address: usize, n: usize) -> bool
-        requires { IsSlotBytes (vec_items self.old.bytes) self.old.slot }
-        ensures { IsSlotBytes (vec_items self.new.bytes) self.new.slot }
+    pub(crate) fn inside(&self, address: usize, n: usize) -> bool
+        requires { IsSlotBytes (vec_items self.now.bytes) self.now.slot }
     {
-        self.slot.inside(&mut self.bytes, address, n)
+        self.slot.inside(&self.bytes, address, n)
     }
 
-    pub(crate) fn describe(&mut self) -> (usize, usize, usize)
-        requires { IsSlotBytes (vec_items self.old.bytes) self.old.slot }
-        ensures { IsSlotBytes (vec_items self.new.bytes) self.new.slot }
+    pub(crate) fn describe(&self) -> (usize, usize, usize)
+        requires { IsSlotBytes (vec_items self.now.bytes) self.now.slot }
     {
-        self.slot.describe(&mut self.bytes)
+        self.slot.describe(&self.bytes)
     }
 
-    pub(crate) fn count(&mut self) -> usize
-        requires { IsSlotBytes (vec_items self.old.bytes) self.old.slot }
-        ensures { IsSlotBytes (vec_items self.new.bytes) self.new.slot }
+    pub(crate) fn count(&self) -> usize
+        requires { IsSlotBytes (vec_items self.now.bytes) self.now.slot }
     {
-        self.slot.count(&mut self.bytes)
+        self.slot.count(&self.bytes)
     }
 
-    pub(crate) fn block(&mut self, i: usize) -> Option<BlockItem>
-        requires { IsSlotBytes (vec_items self.old.bytes) self.old.slot }
-        ensures { IsSlotBytes (vec_items self.new.bytes) self.new.slot }
+    pub(crate) fn block(&self, i: usize) -> Option<BlockItem>
+        requires { IsSlotBytes (vec_items self.now.bytes) self.now.slot }
     {
-        self.slot.block(&mut self.bytes, i)
+        self.slot.block(&self.bytes, i)
     }
 
-    pub(crate) fn segment(&mut self, place: usize) -> Option<Segment>
-        requires { IsSlotBytes (vec_items self.old.bytes) self.old.slot }
-        ensures { IsSlotBytes (vec_items self.new.bytes) self.new.slot }
+    pub(crate) fn segment(&self, place: usize) -> Option<Segment>
+        requires { IsSlotBytes (vec_items self.now.bytes) self.now.slot }
     {
-        self.slot.segment(&mut self.bytes, place)
+        self.slot.segment(&self.bytes, place)
     }
 
-    pub(crate) fn segments_from(&mut self, place: usize) -> ArrayVec<Segment, SEGMENTS_AT_ONCE>
-        requires { IsSlotBytes (vec_items self.old.bytes) self.old.slot }
-        ensures { IsSlotBytes (vec_items self.new.bytes) self.new.slot }
+    pub(crate) fn segments_from(&self, place: usize) -> ArrayVec<Segment, SEGMENTS_AT_ONCE>
+        requires { IsSlotBytes (vec_items self.now.bytes) self.now.slot }
     {
-        self.slot.segments_from(&mut self.bytes, place)
+        self.slot.segments_from(&self.bytes, place)
     }
 
-    pub(crate) fn list(&mut self, items: &mut ArrayVec<BlockItem, ANCHORS>)
-        requires { IsSlotBytes (vec_items self.old.bytes) self.old.slot }
-        ensures { IsSlotBytes (vec_items self.new.bytes) self.new.slot }
+    pub(crate) fn list(&self, items: &mut ArrayVec<BlockItem, ANCHORS>)
+        requires { IsSlotBytes (vec_items self.now.bytes) self.now.slot }
     {
-        self.slot.list(&mut self.bytes, items);
+        self.slot.list(&self.bytes, items);
     }
 
     pub(crate) fn set_budge(&mut self, on: bool) -> bool
@@ -219,15 +206,14 @@ impl LentBench {
     }
 
     /// What the first three turns of a walk over the flex blocks give.
-    pub(crate) fn walked(&mut self) -> [Option<BlockItem>; 3]
-        requires { IsSlotBytes (vec_items self.old.bytes) self.old.slot }
-        ensures { IsSlotBytes (vec_items self.new.bytes) self.new.slot }
+    pub(crate) fn walked(&self) -> [Option<BlockItem>; 3]
+        requires { IsSlotBytes (vec_items self.now.bytes) self.now.slot }
     {
         let slot = self.slot;
-        let mut walk = slot.blocks(&mut self.bytes);
-        let first = slot.next_block(&mut self.bytes, &mut walk);
-        let second = slot.next_block(&mut self.bytes, &mut walk);
-        let third = slot.next_block(&mut self.bytes, &mut walk);
+        let mut walk = slot.blocks(&self.bytes);
+        let first = slot.next_block(&self.bytes, &mut walk);
+        let second = slot.next_block(&self.bytes, &mut walk);
+        let third = slot.next_block(&self.bytes, &mut walk);
         [first, second, third]
     }
 }

@@ -7,7 +7,7 @@ use crate::heaps::IMAGE;
 use crate::same::{is_true, same};
 use rh_defs::HeapRefusal;
 use rh_heap::Segment;
-use rh_lent::{LENT, LentMut, heap};
+use rh_lent::{LENT, Lent, LentMut, heap};
 use rh_store::Words;
 use std::alloc::{AllocError, Global};
 use std::process::Abort;
@@ -84,10 +84,10 @@ fn a_refused_call_leaves_the_bytes(rt: HostRuntime) -> Result<(), Fail> {
 fn sums_and_shortages_leave_the_bytes(rt: HostRuntime) -> Result<(), Fail> {
     let mut bytes = [0; 56];
     fill(&rt, &mut bytes);
-    same(&rt, heap::describe(&mut bytes), (4, 16));
-    same(&rt, heap::end(&mut bytes), 56);
-    same(&rt, heap::need(&mut bytes, 5), Ok(8));
-    same(&rt, heap::resize_need(&mut bytes, 20, 8), Ok(0));
+    same(&rt, heap::describe(&bytes), (4, 16));
+    same(&rt, heap::end(&bytes), 56);
+    same(&rt, heap::need(&bytes, 5), Ok(8));
+    same(&rt, heap::resize_need(&bytes, 20, 8), Ok(0));
     same(&rt, bytes, IMAGE);
     Ok(())
 }
@@ -96,12 +96,12 @@ fn sums_and_shortages_leave_the_bytes(rt: HostRuntime) -> Result<(), Fail> {
 fn blocks_and_segments_are_found(rt: HostRuntime) -> Result<(), Fail> {
     let mut bytes = [0; 56];
     fill(&rt, &mut bytes);
-    same(&rt, heap::block_size(&mut bytes, 20), Ok(12));
-    is_true(&rt, heap::holds(&mut bytes, 20, 12));
-    is_true(&rt, !heap::holds(&mut bytes, 20, 13));
-    let hole = heap::segment(&mut bytes, 32);
+    same(&rt, heap::block_size(&bytes, 20), Ok(12));
+    is_true(&rt, heap::holds(&bytes, 20, 12));
+    is_true(&rt, !heap::holds(&bytes, 20, 13));
+    let hole = heap::segment(&bytes, 32);
     same(&rt, hole, Some(of_eight(32, false)));
-    let listed = heap::segments_from(&mut bytes, 32);
+    let listed = heap::segments_from(&bytes, 32);
     same(
         &rt,
         listed.as_slice(),
@@ -126,15 +126,30 @@ fn a_heap_is_longer_than_a_desk(rt: HostRuntime) -> Result<(), Fail> {
     same(&rt, claim(&mut bytes, 5_000_000), Ok(20));
     same(&rt, claim(&mut bytes, 8), Ok(5_000_028));
     same(&rt, resize(&mut bytes, 5_000_028, 8), Ok(5_000_028));
-    same(&rt, heap::describe(&mut bytes), (1_291_404, 1_291_408));
+    same(&rt, heap::describe(&bytes), (1_291_404, 1_291_408));
     same(&rt, release(&mut bytes, 20), Ok(()));
     same(&rt, claim(&mut bytes, 4_999_996), Ok(20));
     Ok(())
 }
 
 #[test]
-#[tactic(auto, unfolding(rh_lent::specs::Lent::memory_of, rh_lent::specs::Lent::memory_over, rh_defs::specs::Memory::area_set, rh_defs::specs::Memory::bytes))]
+#[tactic(auto, unfolding(rh_lent::specs::Lent::memory_shown, rh_lent::specs::Lent::memory_over, rh_defs::specs::Memory::area_set, rh_defs::specs::Memory::bytes))]
 fn a_run_of_lent_bytes_goes_up_to_their_end(rt: HostRuntime) -> Result<(), Fail> {
+    let bytes = [1, 2, 3, 4, 5, 6, 7];
+    let store = Lent { bytes: &bytes };
+    same(&rt, store.run(LENT, 2), &[3, 4, 5, 6, 7]);
+    same(&rt, store.run(LENT, 6), &[7]);
+    same(&rt, store.len(LENT), 7);
+    same(&rt, store.word(LENT, 3), 0x07060504);
+    let mut part = [0; 2];
+    store.copy_out(LENT, 1, &mut part);
+    same(&rt, part, [2, 3]);
+    Ok(())
+}
+
+#[test]
+#[tactic(auto, unfolding(rh_lent::specs::Lent::memory_of, rh_lent::specs::Lent::memory_over, rh_defs::specs::Memory::area_set, rh_defs::specs::Memory::bytes))]
+fn a_run_of_bytes_to_be_written_goes_up_to_their_end(rt: HostRuntime) -> Result<(), Fail> {
     let mut bytes = [1, 2, 3, 4, 5, 6, 7];
     let store = LentMut { bytes: &mut bytes };
     same(&rt, store.run(LENT, 2), &[3, 4, 5, 6, 7]);

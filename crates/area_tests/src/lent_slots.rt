@@ -8,10 +8,10 @@ use crate::lent_bench::LentBench;
 use crate::same::{is_true, same};
 use arrayvec::ArrayVec;
 use rh_defs::{Anchor, BlockItem, Refusal};
-use rh_flex::{LentPagesMut, LentSlot};
+use rh_flex::{LentPages, LentPagesMut, LentSlot};
 use rh_heap::Segment;
 use rh_lent::LENT;
-use rh_store::{AreaId, Pages, StoreFault};
+use rh_store::{AreaId, Paged, Pages, StoreFault};
 use std::alloc::Global;
 use std::process::Abort;
 use std::test::Fail;
@@ -312,5 +312,32 @@ fn a_lent_page_comes_and_goes(rt: HostRuntime) -> Result<(), Fail> {
         pages: 1,
     };
     a_page_comes_and_goes(&rt, &mut store, LENT)?;
+    Ok(())
+}
+
+/// The same bytes are found in an area of two pages, whoever lends them.
+#[tactic(auto, using(rh_defs::proofs::MemoryLaws::memory_laws))]
+fn two_pages_are_read<R: Abort, S: Paged>(rt: &R, store: &S, id: AreaId)
+    requires { IsOpen (S.memory store.now) id.0 }
+{
+    assert!(rt; store.len(id) == 8192);
+    same(rt, store.word(id, 4094), 0x01010909);
+    same(rt, store.rest_of_page(id, 4090), &[9; 6]);
+    same(rt, store.run(id, 8190), &[1; 2]);
+    let mut part = [0; 2];
+    store.copy_out(id, 4095, &mut part);
+    same(rt, part, [9, 1]);
+}
+
+#[test]
+#[tactic(auto, unfolding(rh_flex::specs::Pages::memory_shown, rh_flex::specs::Pages::memory_over, rh_defs::specs::Memory::area_set, rh_defs::specs::Memory::bytes))]
+fn lent_pages_are_read(rt: HostRuntime) -> Result<(), Fail> {
+    let mut bytes = vec![in rt.alloc(); 9; 4096]?;
+    bytes.resize(9000, 1)?;
+    let store = LentPages {
+        bytes: &bytes,
+        pages: 2,
+    };
+    two_pages_are_read(&rt, &store, LENT);
     Ok(())
 }

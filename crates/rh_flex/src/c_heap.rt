@@ -102,11 +102,7 @@ impl LentSlot {
 
     /// Up to 64 segments of the C heap in order of place, from the one that begins at `place` on; none where none
     /// begins there.
-    pub fn segments_from(
-        self,
-        bytes: &[u8],
-        place: usize,
-    ) -> ArrayVec<Segment, SEGMENTS_AT_ONCE>
+    pub fn segments_from(self, bytes: &[u8], place: usize) -> ArrayVec<Segment, SEGMENTS_AT_ONCE>
         requires { IsSlotBytes bytes.now self }
         ensures { result.items ≡ segments_from place (slot_in bytes.now self).heap }
     {

@@ -19,7 +19,13 @@ pub(crate) fn word<R: Abort, S: Words>(rt: &R, store: &S, id: AreaId, at: usize)
 }
 
 /// Writes a word at an offset.
-pub(crate) fn set_word<R: Abort, S: WordsMut>(rt: &R, store: &mut S, id: AreaId, at: usize, word: u32)
+pub(crate) fn set_word<R: Abort, S: WordsMut>(
+    rt: &R,
+    store: &mut S,
+    id: AreaId,
+    at: usize,
+    word: u32,
+)
     requires { IsOpen (S.memory store.old) id.0 }
     ensures { (n : ℕ) → IsOpen (S.memory store.old) n → IsOpen (S.memory store.new) n }
 {
@@ -39,7 +45,13 @@ pub(crate) fn zero<R: Abort, S: WordsMut>(rt: &R, store: &mut S, id: AreaId, at:
 }
 
 /// Writes bytes from an offset on.
-pub(crate) fn copy_in<R: Abort, S: WordsMut>(rt: &R, store: &mut S, id: AreaId, at: usize, from: &[u8])
+pub(crate) fn copy_in<R: Abort, S: WordsMut>(
+    rt: &R,
+    store: &mut S,
+    id: AreaId,
+    at: usize,
+    from: &[u8],
+)
     requires { IsOpen (S.memory store.old) id.0 }
     ensures { (n : ℕ) → IsOpen (S.memory store.old) n → IsOpen (S.memory store.new) n }
 {

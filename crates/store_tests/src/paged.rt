@@ -5,7 +5,7 @@ use crate::buffers::pattern;
 use crate::same::{is_true, same};
 use crate::suite;
 use rh_pages::PagedStore;
-use rh_store::{Pages, Sited, Store, Words};
+use rh_store::{Pages, Sited, Store, WordsMut};
 use std::alloc::AllocError;
 use std::test::Fail;
 

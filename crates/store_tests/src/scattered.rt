@@ -6,7 +6,7 @@ ghost use Rattle.rh_defs.specs.Memory.{IsOpen};
 use crate::buffers::{alike, pattern, zero_from};
 use crate::same::{is_true, same};
 use rh_pages::PagedStore;
-use rh_store::{AreaId, Pages, PlainStore, Store, Words};
+use rh_store::{AreaId, Pages, PlainStore, Store, Words, WordsMut};
 use std::test::Fail;
 
 /// One call of nine, at a store with two areas open: both grow in turns, the first is filled and its

@@ -41,12 +41,7 @@ pub extern "C" fn vf_flex_alloc(
 
 /// Tells how many bytes the anchor's block has. (flex_size.)
 #[unsafe(no_mangle)]
-pub extern "C" fn vf_flex_size(
-    memory: &[u8],
-    slot: &LentSlot,
-    anchor: u32,
-    size: &mut usize,
-) -> u32
+pub extern "C" fn vf_flex_size(memory: &[u8], slot: &LentSlot, anchor: u32, size: &mut usize) -> u32
     requires { AreLeft memory.now slot.now }
     ensures refused { anchor_status (length memory.now) slot.now anchor ≢ 0 →
         result ≡ anchor_status (length memory.now) slot.now anchor }

@@ -22,11 +22,7 @@ pub extern "C" fn vf_heap_check(memory: &[u8]) -> u32
 
 /// The bytes of the largest block that could be claimed, and all free bytes. (OS_Heap 1.)
 #[unsafe(no_mangle)]
-pub extern "C" fn vf_heap_checked_describe(
-    memory: &[u8],
-    most: &mut usize,
-    free: &mut usize,
-) -> u32
+pub extern "C" fn vf_heap_checked_describe(memory: &[u8], most: &mut usize, free: &mut usize) -> u32
     ensures status { result ≡ image_status memory.now }
     ensures kept { image_status memory.now ≢ 0 → (most.new ≡ most.old) × (free.new ≡ free.old) }
     ensures most { image_status memory.now ≡ 0 → most.new ≡ largest (heap_of memory.now 0) }
@@ -102,11 +98,7 @@ pub extern "C" fn vf_heap_checked_extend(memory: &mut [u8], delta: isize) -> u32
 
 /// Tells the bytes of the block at an address. (OS_Heap 6.)
 #[unsafe(no_mangle)]
-pub extern "C" fn vf_heap_checked_block_size(
-    memory: &[u8],
-    address: usize,
-    size: &mut usize,
-) -> u32
+pub extern "C" fn vf_heap_checked_block_size(memory: &[u8], address: usize, size: &mut usize) -> u32
     ensures refused { image_status memory.now ≢ 0 → result ≡ image_status memory.now }
     ensures kept { image_status memory.now ≢ 0 → size.new ≡ size.old }
     ensures status { image_status memory.now ≡ 0 → result ≡ answer_status (size_at address (heap_of memory.now 0)) }

@@ -4,4 +4,4 @@ use Rattle.rh_slot.proofs.area.grow_to.Goals as goal
 
 pub returns-clause-ok : goal.returns-clause-ok
 returns-clause-ok g c = on_ok c.grow.result c.grow.ensures.ok c.grow.ensures.room (λ e r.
-    Resized-grown _ _ _ _ _ e r (omega (arith, c.len-pages.ensures, c.pages_for.ensures, c.requires.more, g.met.S.Pages.whole c.args.store.now c.args.area.0)))
+    Resized-grown _ _ _ _ _ e r (omega (arith, c.len-pages.ensures, c.pages_for.ensures, c.requires.more, g.met.S.Paged.whole c.args.store.now c.args.area.0)))

@@ -17,12 +17,12 @@ set_pages-requires-clause-room g c = room-if _ _ _ _ _ (sym c.in_ok-pages.ensure
 pub invariant_of-self : goal.invariant_of-self
 invariant_of-self g c =
     let e = rw (to_z-of_z w32 c.args.delta c.ranges.delta, c.least_length.ensures, ← c.self.view_is) at c.in_ok-pages.ensures in
-    let now = pages-of _ c.args.number (g.met.S.Pages.whole c.set_pages.new.store c.args.number) in
+    let now = pages-of _ c.args.number (g.met.S.Paged.whole c.set_pages.new.store c.args.number) in
     let keeps : KeepsFirst (g.S.Words.memory c.self.inside.store) (g.S.Words.memory c.set_pages.new.store) c.args.number = record {
       first = λ k had has. c.set_pages.ensures.first k had (omega (arith, has, now, c.set_pages.ensures.pages));
     } in (
       fixed-kept c.self.invariant.0 c.args.number c.args.delta c.requires.low c.requires.other (sym e) c.set_pages.ensures.pages c.set_pages.ensures.only keeps
-          (g.met.S.Pages.whole c.self.inside.store c.args.number) (g.met.S.Pages.whole c.set_pages.new.store c.args.number) c.requires.ranged,
+          (g.met.S.Paged.whole c.self.inside.store c.args.number) (g.met.S.Paged.whole c.set_pages.new.store c.args.number) c.requires.ranged,
       c.self.invariant.1,
       c.self.invariant.2,
     )
@@ -31,9 +31,9 @@ pub returns : goal.returns
 returns g c =
     let e = rw (to_z-of_z w32 c.args.delta c.ranges.delta, c.least_length.ensures, ← c.self.view_is) at c.in_ok-pages.ensures in
     let moved = rw (to_z-of_z w32 c.args.delta c.ranges.delta) at c.bytes_moved.ensures in
-    let now = pages-of _ c.args.number (g.met.S.Pages.whole c.set_pages.new.store c.args.number) in
+    let now = pages-of _ c.args.number (g.met.S.Paged.whole c.set_pages.new.store c.args.number) in
     let keeps : KeepsFirst (g.S.Words.memory c.self.inside.store) (g.S.Words.memory c.set_pages.new.store) c.args.number = record {
       first = λ k had has. c.set_pages.ensures.first k had (omega (arith, has, now, c.set_pages.ensures.pages));
     } in
     rw (← c.self.view_is, moved) (fixed-done c.self.invariant.0 c.args.number c.args.delta c.requires.low c.requires.other (sym e) c.set_pages.ensures.pages c.set_pages.ensures.only keeps
-    (g.met.S.Pages.whole c.self.inside.store c.args.number) (g.met.S.Pages.whole c.set_pages.new.store c.args.number))
+    (g.met.S.Paged.whole c.self.inside.store c.args.number) (g.met.S.Paged.whole c.set_pages.new.store c.args.number))

@@ -44,7 +44,7 @@ invariant_of-self g c =
       number = made-number c.args.number c.self.inside.made.items c.in_ok-i.i a c.in_ok-i.ensures.ok (sym c.index-made.ensures);
     } in (
       made-kept c.self.invariant.0 c.args.number c.args.delta a h c.requires.high (sym e) c.if-pages-made.false c.set_pages.ensures.pages c.set_pages.ensures.only
-          (g.met.S.Pages.whole c.self.inside.store a.area.0) (g.met.S.Pages.whole c.set_pages.new.store a.area.0) c.requires.ranged,
+          (g.met.S.Paged.whole c.self.inside.store a.area.0) (g.met.S.Paged.whole c.set_pages.new.store a.area.0) c.requires.ranged,
       c.self.invariant.1,
       c.self.invariant.2,
     )
@@ -59,4 +59,4 @@ returns g c =
       number = made-number c.args.number c.self.inside.made.items c.in_ok-i.i a c.in_ok-i.ensures.ok (sym c.index-made.ensures);
     } in
     rw (← c.self.view_is, moved) (made-done c.self.invariant.0 c.args.number c.args.delta a h c.requires.high (sym e) c.if-pages-made.false c.set_pages.ensures.pages c.set_pages.ensures.only
-    (g.met.S.Pages.whole c.self.inside.store a.area.0) (g.met.S.Pages.whole c.set_pages.new.store a.area.0))
+    (g.met.S.Paged.whole c.self.inside.store a.area.0) (g.met.S.Paged.whole c.set_pages.new.store a.area.0))

@@ -25,7 +25,7 @@ overflow_cast-result g c =
 pub invariant_of-self-2 : goal.invariant_of-self-2
 unfolding change_module
 invariant_of-self-2 g c = (
-  area-world c.self.invariant.0 (λ free. module_change free c.args.delta) (λ n. reply.Moved n) (changes c.self.invariant.0 c.args.delta) (rw (to_z-of_z w32 c.args.delta c.ranges.delta) at c.in_ok-moved.ensures) (command.Area 1 c.args.delta) refl c.requires (g.met.S.Pages.whole c.change.new.store 1),
+  area-world c.self.invariant.0 (λ free. module_change free c.args.delta) (λ n. reply.Moved n) (changes c.self.invariant.0 c.args.delta) (rw (to_z-of_z w32 c.args.delta c.ranges.delta) at c.in_ok-moved.ensures) (command.Area 1 c.args.delta) refl c.requires (g.met.S.Paged.whole c.change.new.store 1),
   c.self.invariant.1,
   c.self.invariant.2,
 )

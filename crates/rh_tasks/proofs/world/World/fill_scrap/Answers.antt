@@ -47,7 +47,7 @@ copy-requires-clause-source g c =
 pub copy-requires-clause-target : goal.copy-requires-clause-target
 copy-requires-clause-target g c =
     let m = g.S.Words.memory c.self.inside.store in
-    let whole = g.met.S.Pages.whole c.self.inside.store 5 in
+    let whole = g.met.S.Paged.whole c.self.inside.store 5 in
     let fits = rw (← c.self.view_is) at c.requires.room in
     let room : c.args.size ≤ length (bytes m 5) = omega (arith, fits, fixed-at m 5 (omega arith) (λ q. absurd (omega (arith, q))), pages-of m 5 whole) in
     omega (arith, room)
@@ -60,7 +60,7 @@ invariant_of-self g c =
     let task = seat-there c.self.invariant.0 c.self.view_is at in
     let given = ap (slot_size c.args.anchor) (seen-slot c.self.invariant.0 c.self.view_is at task) ∙ c.requires.block _ task in
     let there = rw c.unwrap-address.ensures at c.address.ensures in
-    let whole = g.met.S.Pages.whole c.self.inside.store 5 in
+    let whole = g.met.S.Paged.whole c.self.inside.store 5 in
     let fits = rw (← c.self.view_is) at c.requires.room in
     let room : c.args.size ≤ length (bytes m 5) = omega (arith, fits, fixed-at m 5 (omega arith) (λ q. absurd (omega (arith, q))), pages-of m 5 whole) in
     rw c.copy.ensures (filled-world c.self.invariant.0 at c.args.anchor c.args.size c.args.load given there room whole, c.self.invariant.1, c.self.invariant.2)
@@ -73,7 +73,7 @@ returns g c =
     let task = seat-there c.self.invariant.0 c.self.view_is at in
     let given = ap (slot_size c.args.anchor) (seen-slot c.self.invariant.0 c.self.view_is at task) ∙ c.requires.block _ task in
     let there = rw c.unwrap-address.ensures at c.address.ensures in
-    let whole = g.met.S.Pages.whole c.self.inside.store 5 in
+    let whole = g.met.S.Paged.whole c.self.inside.store 5 in
     let fits = rw (← c.self.view_is) at c.requires.room in
     let room : c.args.size ≤ length (bytes m 5) = omega (arith, fits, fixed-at m 5 (omega arith) (λ q. absurd (omega (arith, q))), pages-of m 5 whole) in
     rw c.copy.ensures (λ t b same is.

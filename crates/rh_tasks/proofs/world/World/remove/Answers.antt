@@ -22,7 +22,7 @@ invariant_of-self g c =
     } in
     let o = all-at (λ (x : MadeArea). IsOpen m x.area.0) c.self.inside.made.items c.in_ok-i.i a c.self.invariant.0.areas.made_open h.sits in
     rw (c.close.ensures, c.remove-made.ensures.items, c.remove-made.ensures.capacity)
-    (remove-world c.self.invariant.0 c.args.number a h (g.met.S.Pages.whole c.self.inside.store a.area.0) (g.met.S.Store.numbered c.self.inside.store a.area.0 o) c.requires, c.self.invariant.1, c.self.invariant.2)
+    (remove-world c.self.invariant.0 c.args.number a h (g.met.S.Paged.whole c.self.inside.store a.area.0) (g.met.S.Store.numbered c.self.inside.store a.area.0 o) c.requires, c.self.invariant.1, c.self.invariant.2)
 
 pub returns : goal.returns
 returns g c =
@@ -34,4 +34,4 @@ returns g c =
     } in
     let o = all-at (λ (x : MadeArea). IsOpen m x.area.0) c.self.inside.made.items c.in_ok-i.i a c.self.invariant.0.areas.made_open h.sits in
     rw (← c.self.view_is, c.close.ensures, c.remove-made.ensures.items)
-    (remove-done c.self.invariant.0 c.args.number a h (g.met.S.Pages.whole c.self.inside.store a.area.0) (g.met.S.Store.numbered c.self.inside.store a.area.0 o))
+    (remove-done c.self.invariant.0 c.args.number a h (g.met.S.Paged.whole c.self.inside.store a.area.0) (g.met.S.Store.numbered c.self.inside.store a.area.0 o))

@@ -32,7 +32,7 @@ overflow_cast-result g c =
 pub invariant_of-self-2 : goal.invariant_of-self-2
 unfolding rma_claim
 invariant_of-self-2 g c = (
-  area-world c.self.invariant.0 (λ free. module_claim free c.args.size) (λ a. reply.Block (module_start + a)) (claims c.self.invariant.0 c.args.size) c.in_ok-address.ensures (command.RmaClaim c.args.size) refl c.requires (g.met.S.Pages.whole c.claim.new.store 1),
+  area-world c.self.invariant.0 (λ free. module_claim free c.args.size) (λ a. reply.Block (module_start + a)) (claims c.self.invariant.0 c.args.size) c.in_ok-address.ensures (command.RmaClaim c.args.size) refl c.requires (g.met.S.Paged.whole c.claim.new.store 1),
   c.self.invariant.1,
   c.self.invariant.2,
 )

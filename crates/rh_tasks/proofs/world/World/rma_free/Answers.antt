@@ -26,7 +26,7 @@ returns-in_err-free g c =
 pub invariant_of-self-2 : goal.invariant_of-self-2
 unfolding rma_free
 invariant_of-self-2 g c = (
-  area-world c.self.invariant.0 (λ free h. no_answer (module_free (c.args.address - module_start) h)) (λ a. reply.Done) (frees c.self.invariant.0 c.args.address (rw (← c.self.view_is) at c.in_ok-place.ensures.ok.1)) (rw (c.in_ok-place.ensures.ok.0) at c.in_ok-free.ensures) (command.RmaFree c.args.address) (own-unanswered c.args.address (module_free (c.args.address - module_start)) reply.Done _ ∙ own-is c.self.invariant.0 (λ free h. no_answer (module_free (c.args.address - module_start) h)) (λ a. reply.Done) (frees c.self.invariant.0 c.args.address (rw (← c.self.view_is) at c.in_ok-place.ensures.ok.1)) c.args.address (rw (← c.self.view_is) at c.in_ok-place.ensures.ok.1) (free-none _ _)) c.requires (g.met.S.Pages.whole c.free.new.store 1),
+  area-world c.self.invariant.0 (λ free h. no_answer (module_free (c.args.address - module_start) h)) (λ a. reply.Done) (frees c.self.invariant.0 c.args.address (rw (← c.self.view_is) at c.in_ok-place.ensures.ok.1)) (rw (c.in_ok-place.ensures.ok.0) at c.in_ok-free.ensures) (command.RmaFree c.args.address) (own-unanswered c.args.address (module_free (c.args.address - module_start)) reply.Done _ ∙ own-is c.self.invariant.0 (λ free h. no_answer (module_free (c.args.address - module_start) h)) (λ a. reply.Done) (frees c.self.invariant.0 c.args.address (rw (← c.self.view_is) at c.in_ok-place.ensures.ok.1)) c.args.address (rw (← c.self.view_is) at c.in_ok-place.ensures.ok.1) (free-none _ _)) c.requires (g.met.S.Paged.whole c.free.new.store 1),
   c.self.invariant.1,
   c.self.invariant.2,
 )

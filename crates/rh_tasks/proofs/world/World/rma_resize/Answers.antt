@@ -40,7 +40,7 @@ overflow_cast-result g c =
 pub invariant_of-self-2 : goal.invariant_of-self-2
 unfolding rma_resize
 invariant_of-self-2 g c = (
-  area-world c.self.invariant.0 (λ free. module_resize free (c.args.address - module_start) c.args.delta) (λ a. reply.Block (module_start + a)) (resizes c.self.invariant.0 c.args.address (rw (← c.self.view_is) at c.in_ok-place.ensures.ok.1) c.args.delta) (rw (c.in_ok-place.ensures.ok.0) at (rw (to_z-of_z w32 c.args.delta c.ranges.delta) at c.in_ok-address.ensures)) (command.RmaResize c.args.address c.args.delta) (own-is c.self.invariant.0 (λ free. module_resize free (c.args.address - module_start) c.args.delta) (λ a. reply.Block (module_start + a)) (resizes c.self.invariant.0 c.args.address (rw (← c.self.view_is) at c.in_ok-place.ensures.ok.1) c.args.delta) c.args.address (rw (← c.self.view_is) at c.in_ok-place.ensures.ok.1) (resize-none _ _ _ _)) c.requires (g.met.S.Pages.whole c.resize.new.store 1),
+  area-world c.self.invariant.0 (λ free. module_resize free (c.args.address - module_start) c.args.delta) (λ a. reply.Block (module_start + a)) (resizes c.self.invariant.0 c.args.address (rw (← c.self.view_is) at c.in_ok-place.ensures.ok.1) c.args.delta) (rw (c.in_ok-place.ensures.ok.0) at (rw (to_z-of_z w32 c.args.delta c.ranges.delta) at c.in_ok-address.ensures)) (command.RmaResize c.args.address c.args.delta) (own-is c.self.invariant.0 (λ free. module_resize free (c.args.address - module_start) c.args.delta) (λ a. reply.Block (module_start + a)) (resizes c.self.invariant.0 c.args.address (rw (← c.self.view_is) at c.in_ok-place.ensures.ok.1) c.args.delta) c.args.address (rw (← c.self.view_is) at c.in_ok-place.ensures.ok.1) (resize-none _ _ _ _)) c.requires (g.met.S.Paged.whole c.resize.new.store 1),
   c.self.invariant.1,
   c.self.invariant.2,
 )
