@@ -62,12 +62,12 @@ static inline void forget(size_t *list, size_t *count, size_t address)
 /* The calls on a heap that stand twice in the header. */
 struct heap_calls {
     const char *name;
-    uint32_t (*describe)(uint8_t *memory, size_t len, size_t *most, size_t *free);
+    uint32_t (*describe)(const uint8_t *memory, size_t len, size_t *most, size_t *free);
     uint32_t (*claim)(uint8_t *memory, size_t len, size_t n, size_t *address);
     uint32_t (*release)(uint8_t *memory, size_t len, size_t address);
     uint32_t (*resize)(uint8_t *memory, size_t len, size_t address, ptrdiff_t delta, size_t *moved_to);
     uint32_t (*extend)(uint8_t *memory, size_t len, ptrdiff_t delta);
-    uint32_t (*block_size)(uint8_t *memory, size_t len, size_t address, size_t *size);
+    uint32_t (*block_size)(const uint8_t *memory, size_t len, size_t address, size_t *size);
 };
 
 static const struct heap_calls TRUSTING = {
@@ -88,21 +88,21 @@ static const struct heap_calls CHECKED = {
 struct flex_calls {
     uint32_t (*alloc)(uint8_t *memory, size_t len, struct vf_slot *slot, uint32_t anchor, size_t n, size_t *place);
     uint32_t (*free)(uint8_t *memory, size_t len, struct vf_slot *slot, uint32_t anchor);
-    uint32_t (*size)(uint8_t *memory, size_t len, const struct vf_slot *slot, uint32_t anchor, size_t *size);
+    uint32_t (*size)(const uint8_t *memory, size_t len, const struct vf_slot *slot, uint32_t anchor, size_t *size);
     uint32_t (*extend)(uint8_t *memory, size_t len, struct vf_slot *slot, uint32_t anchor, size_t n);
     uint32_t (*midextend)(uint8_t *memory, size_t len, struct vf_slot *slot, uint32_t anchor, size_t offset,
                           ptrdiff_t by);
-    uint32_t (*place)(uint8_t *memory, size_t len, const struct vf_slot *slot, uint32_t anchor, size_t *place);
+    uint32_t (*place)(const uint8_t *memory, size_t len, const struct vf_slot *slot, uint32_t anchor, size_t *place);
     uint32_t (*put)(uint8_t *memory, size_t len, struct vf_slot *slot, uint32_t anchor, size_t offset,
                     const uint8_t *from, size_t from_len);
-    uint32_t (*read)(uint8_t *memory, size_t len, const struct vf_slot *slot, uint32_t anchor, size_t offset,
+    uint32_t (*read)(const uint8_t *memory, size_t len, const struct vf_slot *slot, uint32_t anchor, size_t offset,
                      uint8_t *to, size_t to_len);
-    uint32_t (*describe)(uint8_t *memory, size_t len, const struct vf_slot *slot, size_t *most, size_t *free);
+    uint32_t (*describe)(const uint8_t *memory, size_t len, const struct vf_slot *slot, size_t *most, size_t *free);
     uint32_t (*claim)(uint8_t *memory, size_t len, struct vf_slot *slot, size_t n, size_t *place);
     uint32_t (*release)(uint8_t *memory, size_t len, struct vf_slot *slot, size_t place);
     uint32_t (*resize)(uint8_t *memory, size_t len, struct vf_slot *slot, size_t place, ptrdiff_t delta,
                        size_t *moved_to);
-    uint32_t (*block_size)(uint8_t *memory, size_t len, const struct vf_slot *slot, size_t place, size_t *size);
+    uint32_t (*block_size)(const uint8_t *memory, size_t len, const struct vf_slot *slot, size_t place, size_t *size);
 };
 
 static const struct flex_calls TRUSTING_FLEX = {

@@ -280,6 +280,28 @@ static void a_copy_is_the_same_slot(void)
     EXPECT(memcmp(copy + 1 + FIRST, "hello", 5) == 0 && is_filled(copy + 1 + FIRST + 5, PAGE - 5, 0));
 }
 
+/* A slot that no call may write: anchor 0 has a block of five bytes in the second page. */
+static void questions_take_constant_bytes(const struct flex_calls *flex)
+{
+    static const uint8_t constant[2 * PAGE] = {
+        [0] = 0x08, 0x90,
+        [256] = 'H', 'e', 'a', 'p', 0, 0, 0, 0, 16, 0, 0, 0, 0, 15, 0, 0,
+        [PAGE] = 0x00, 0x80, 0, 0, 5, 0, 0, 0, 'h', 'e', 'l', 'l', 'o',
+    };
+    static const struct vf_slot constant_slot = {2, true};
+    uint8_t read[5] = {0};
+    EXPECT(vf_flex_check(constant, sizeof constant, &constant_slot) == VF_OK);
+    TELLS(5, flex->size(constant, sizeof constant, &constant_slot, 0, &number));
+    TELLS(FIRST, flex->place(constant, sizeof constant, &constant_slot, 0, &number));
+    EXPECT(flex->read(constant, sizeof constant, &constant_slot, 0, 0, read, 5) == VF_OK);
+    EXPECT(memcmp(read, "hello", 5) == 0);
+    TELLS(3820, flex->describe(constant, sizeof constant, &constant_slot, &number, &other));
+    EXPECT(other == 3824);
+    number = UNSET;
+    EXPECT(flex->block_size(constant, sizeof constant, &constant_slot, HEAP_FIRST, &number) == VF_NOT_A_BLOCK);
+    EXPECT(flex->size(constant, sizeof constant, &constant_slot, 1, &number) == VF_NO_BLOCK && number == UNSET);
+}
+
 int main(void)
 {
     lengths_have_slots_or_not();
@@ -291,5 +313,7 @@ int main(void)
     the_c_heap_grows_below_blocks();
     the_c_heap_is_one_of_os_heap();
     a_copy_is_the_same_slot();
+    questions_take_constant_bytes(&TRUSTING_FLEX);
+    questions_take_constant_bytes(&CHECKED_FLEX);
     return ended("flex_calls");
 }

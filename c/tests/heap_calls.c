@@ -165,6 +165,18 @@ static void the_end_is_moved(const struct heap_calls *heap)
     EXPECT(is_filled(memory + 96, ROOM - 96, 0xa5));
 }
 
+/* A heap that no call may write: one block of 12 bytes, and no byte above it. */
+static void questions_take_constant_bytes(const struct heap_calls *heap)
+{
+    static const uint8_t constant[32] = {'H', 'e', 'a', 'p', 0, 0, 0, 0, 32, 0, 0, 0, 32, 0, 0, 0, 16};
+    EXPECT(vf_heap_check(constant, 32) == VF_OK);
+    TELLS(0, heap->describe(constant, 32, &number, &other));
+    EXPECT(other == 0);
+    TELLS(12, heap->block_size(constant, 32, 20, &number));
+    number = UNSET;
+    EXPECT(heap->block_size(constant, 32, 21, &number) == VF_NOT_A_BLOCK && number == UNSET);
+}
+
 int main(void)
 {
     static const struct heap_calls *const both[] = {&TRUSTING, &CHECKED};
@@ -172,6 +184,7 @@ int main(void)
     for (size_t i = 0; i < 2; i++) {
         blocks_are_claimed_and_released(both[i]);
         questions_leave_all_bytes(both[i]);
+        questions_take_constant_bytes(both[i]);
         blocks_are_resized(both[i]);
         a_block_moves_to_a_hole(both[i]);
         the_end_is_moved(both[i]);
