@@ -92,7 +92,7 @@ impl Module {
     }
 
     /// The pages that a claim of `n` bytes would take. Refused (`BadSize`) for 0 bytes.
-    pub fn need_pages<S: Pages>(self, store: &S, n: u32) -> Result<usize, Refusal>
+    pub fn need_pages<S: Words>(self, store: &S, n: u32) -> Result<usize, Refusal>
         requires { IsModule (S.memory store.now) self }
         ensures { result ≡ module_need_pages n (heap_in (S.memory store.now) self) }
     {

@@ -19,7 +19,7 @@ use crate::encoding::encode;
 use crate::layout::{CODE, LINK, MESSAGE, MOST_LENGTH, MY_REF};
 use rh_defs::{EventCode, Message, Ref, Refusal};
 use rh_module::Module;
-use rh_store::Pages;
+use rh_store::{Pages, Words};
 
 /// Claims a block and writes a message into it, with link 0. Refused (`NoRoom`), and nothing changed, where the module
 /// area can't grow.
@@ -46,7 +46,7 @@ pub fn place<S: Pages>(
 }
 
 /// Whether a task holds a message with this ref.
-pub fn holds_ref<S: Pages>(store: &S, rma: Module, entry: Entry, my_ref: Ref) -> bool
+pub fn holds_ref<S: Words>(store: &S, rma: Module, entry: Entry, my_ref: Ref) -> bool
     requires module { IsModule (S.memory store.now) rma }
     requires held { entry.held ≢ 0 → HasBlock entry.held (MESSAGE + MY_REF + WORD) (heap_in (S.memory store.now) rma) }
     ensures none { entry.held ≡ 0 → result ≡ false }

@@ -15,11 +15,11 @@ use crate::placing::{holds_ref, place, put_down};
 use crate::queue::{MOST_MESSAGES, Queue};
 use rh_defs::{Handle, Letter, Message, Ref, Refusal};
 use rh_module::Module;
-use rh_store::Pages;
+use rh_store::{Pages, Words};
 
 impl Queue {
     /// The pages that a send would take. Refused as the send is, but for `NoRoom`.
-    pub fn send_pages<S: Pages>(
+    pub fn send_pages<S: Words>(
         &self,
         store: &S,
         rma: Module,
