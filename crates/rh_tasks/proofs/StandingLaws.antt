@@ -93,8 +93,7 @@ module _ {m : Memory} {seats : List Seat} {made : List MadeArea} {files : FileLi
 
   fixed-distinct : AreDistinct fixed
   fixed-distinct =
-      let ne : (a b : ℕ) → a < b → b ≢ a = λ a b l q. absurd (omega arith) in
-      (
+      let ne : (a b : ℕ) → a < b → b ≢ a = λ a b l q. absurd (omega arith) in (
         (ne 0 1 (omega arith), ne 0 2 (omega arith), ne 0 3 (omega arith), ne 0 4 (omega arith), ne 0 5 (omega arith), tt),
         (ne 1 2 (omega arith), ne 1 3 (omega arith), ne 1 4 (omega arith), ne 1 5 (omega arith), tt),
         (ne 2 3 (omega arith), ne 2 4 (omega arith), ne 2 5 (omega arith), tt),
