@@ -83,8 +83,8 @@ all-with P Q [] f all = tt
 all-with P Q (id ∷ ids) f all = ((all.0, f id all.0), all-with P Q ids f all.1)
 
 none-here : (o : Option (List ℕ)) → (IsSome o → ⊥) → length (unwrap_or o []) ≡ 0
-none-here None no = refl
-none-here (Some x) no = absurd (no refl)
+none-here None shut = refl
+none-here (Some x) shut = absurd (shut refl)
 
 no-pages : (n : ℕ) (xs : List ℕ) → 4096 * length xs ≡ n → n ≡ 0 → xs ≡ []
 no-pages n [] e z = refl
