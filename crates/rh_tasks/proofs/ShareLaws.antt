@@ -31,7 +31,7 @@ emptied-other (x ∷ lists) (suc id) (suc j) ne = emptied-other lists id j (λ e
 -- a list is emptied
 times-emptied : (k : ℕ) (lists : List (List ℕ)) (id : ℕ) → times k (list_at lists id) + times_all k (set lists id []) ≡ times_all k lists
 times-emptied k [] id = refl
-times-emptied k (x ∷ lists) zero = refl
+times-emptied k (x ∷ lists) zero = omega arith
 times-emptied k (x ∷ lists) (suc id) = let rest = times-emptied k lists id in omega arith
 
 none-all : (k : ℕ) (lists : List (List ℕ)) → ((id : ℕ) → list_at lists id ≡ []) → times_all k lists ≡ 0
