@@ -13,7 +13,7 @@ enum { HEAP_CALLS = 6, FLEX_CALLS = 13 };
 _Static_assert(sizeof(struct heap_calls) == (1 + HEAP_CALLS) * sizeof(void *), "each call on a heap is made");
 _Static_assert(sizeof(struct flex_calls) == FLEX_CALLS * sizeof(void *), "each call on a slot is made");
 
-static unsigned taken;
+static volatile unsigned taken;
 
 #define COUNTED(name, parameters, arguments) \
     void *__real_##name parameters;          \
