@@ -14,7 +14,7 @@ use Rattle.rh_defs.proofs.HeapStretch.{opened}
 use Rattle.rh_heap.specs.Stretches.{StretchBetween, IsStretch, Settles}
 use Rattle.rh_heap.specs.Holes.{FoundHole}
 use Rattle.rh_heap.specs.declared.span.holes.Gap.{Gap}
-use Rattle.rh_heap.proofs.StretchLaws.{is_stretch}
+use Rattle.rh_heap.proofs.StretchLaws.{below_block, is_stretch}
 use Rattle.rh_heap.proofs.FillLaws.{filled_between, topped}
 use Rattle.rh_defs.specs.HeapParts.{HasRoom, last_link, LinksTo}
 
@@ -158,6 +158,13 @@ module _ (at : ℕ) (h : Heap) (t : ℕ) (gap : Gap) (f : FoundHole at h t gap) 
       → word c (at + gap.place) ≡ t → part c (at + gap.place + 4) (length bs) ≡ bs → t % 8 ≡ 0 → IsStretch c at (record { link = gap.from; low = gap.place + t; next = next; upper = gap.place + gap.size })
   fill_is_stretch b c next s k o sized block mult =
       is_stretch c at h.end (f.before ++ Used bs ∷ []) f.after (record { link = gap.from; low = gap.place + t; next = next; upper = gap.place + gap.size }) (fill_between b c next s k o sized block mult)
+
+  pub fill_edges : (b c : List ℕ) (next : ℕ) → Spells b at h → LinksTo b at (at + gap.place) next → SameOutside b c (at + gap.place) (at + gap.place + t)
+      → word c (at + gap.place) ≡ t → part c (at + gap.place + 4) (length bs) ≡ bs → t % 8 ≡ 0
+      → (gap.place + gap.size ≢ word c (at + 8)) × (next ≢ gap.place + gap.size)
+  fill_edges b c next s k o sized block mult =
+      below_block c at h.end (f.before ++ Used bs ∷ []) f.after (record { link = gap.from; low = gap.place + t; next = next; upper = gap.place + gap.size })
+      (fill_between b c next s k o sized block mult) (tidy_behind_hole false f.before gap.size f.after (subst (IsTidy false) f.is s.heap.tidy)).1
 
   pub fill_spells : (b c d : List ℕ) (next : ℕ) → Spells b at h → LinksTo b at (at + gap.place) next → SameOutside b c (at + gap.place) (at + gap.place + t)
       → word c (at + gap.place) ≡ t → part c (at + gap.place + 4) (length bs) ≡ bs → t % 8 ≡ 0

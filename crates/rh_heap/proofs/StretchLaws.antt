@@ -1,5 +1,5 @@
 -- How a stretch is closed.
-use Rattle.std.proofs.Common.{◌≡◌, ℕ, ◌+◌, ◌-◌, ◌≤◌, ◌≢◌, inl, inr, false, List, [], ◌∷◌, ◌++◌, length, refl, sym, ap, subst, ◌∙◌, append_assoc, arith}
+use Rattle.std.proofs.Common.{◌≡◌, ℕ, ◌+◌, ◌-◌, ◌≤◌, ◌≢◌, inl, inr, false, true, List, [], ◌∷◌, ◌++◌, length, refl, sym, ap, subst, ◌∙◌, append_assoc, arith}
 use Rattle.rh_defs.specs.Bytes.{word, SameOutside}
 use Rattle.rh_defs.specs.Pieces.{total}
 use Rattle.rh_defs.specs.Heap.{Segment, Used, Hole, size_of, IsTidy, with_hole}
@@ -220,3 +220,16 @@ settles_apart_at b c at stretch end xs (Used bs ∷ ys) nb nl nn k puts =
 
 pub settles_apart : (b c : List ℕ) (at : ℕ) (stretch : Stretch) → stretch.upper ≢ word b (at + 8) → stretch.low ≢ stretch.upper → stretch.next ≢ stretch.upper → PutsHole b c at stretch → Settles b c at stretch
 settles_apart b c at stretch nb nl nn puts end xs ys k = settles_apart_at b c at stretch end xs ys nb nl nn k puts
+
+-- a used segment follows: the stretch ends below the base, and no hole begins at its end
+pub below_block : (b : List ℕ) (at end : ℕ) (xs ys : List Segment) (stretch : Stretch) → StretchBetween b at end xs ys stretch → IsTidy true ys
+    → (stretch.upper ≢ word b (at + 8)) × (stretch.next ≢ stretch.upper)
+below_block b at end xs [] stretch k t = absurd t
+below_block b at end xs (Hole m ∷ ys) stretch k t = absurd t
+below_block b at end xs (Used bs ∷ ys) stretch k t =
+    let s = k.has in
+    let place = s.place in
+    let order = s.order in
+    let based = k.based in
+    let ahead = next_range b at stretch.next (at + stretch.upper + (4 + length bs)) ys s.room_behind s.tail.2 in
+    ((λ e. omega arith), (λ e. let h = ahead (omega arith) in omega arith))

@@ -13,7 +13,7 @@ ghost use Rattle.rh_heap.specs.declared.layout.TheConstants.{BLOCK};
 use crate::layout::BLOCK;
 use crate::span::Span;
 use crate::span::holes::{Gap, find};
-use crate::span::stretch::{Stretch, settle};
+use crate::span::stretch::{Stretch, settle_below_block};
 use crate::span::words::{clear, follow, read, write};
 use rh_defs::HeapRefusal;
 use rh_defs::sizes::{HEAP_BASE, HEAP_END, segment_size};
@@ -43,7 +43,7 @@ fn fill<S: WordsMut>(store: &mut S, span: Span, gap: Gap, size: usize)
 {
     let next = follow(store, span, gap.place);
     put_zeros(store, span, gap.place, size);
-    settle(
+    settle_below_block(
         store,
         span,
         Stretch {
@@ -71,6 +71,7 @@ fn append<S: WordsMut>(store: &mut S, span: Span, top: usize, size: usize)
 }
 
 /// Puts a block of zeros into a segment of `size` bytes, in the first hole with room or above all segments.
+#[inline(always)]
 pub fn take<S: WordsMut>(store: &mut S, span: Span, size: usize) -> Option<usize>
     requires span { IsSpan (S.memory store.old) span }
     requires least { HEAP_UNIT ≤ size }

@@ -15,6 +15,7 @@ use rh_store::WordsMut;
 
 /// Releases the block at an address: its segment becomes a hole, which joins those beside it, and at the base a part
 /// of the top. Refused (`NotABlock`) exactly where no block begins there. (OS_Heap 3.)
+#[inline(always)]
 pub fn release<S: WordsMut>(store: &mut S, span: Span, address: usize) -> Result<(), HeapRefusal>
     requires { IsSpan (S.memory store.old) span }
     ensures { Leaves (S.memory store.old) (S.memory store.new) span

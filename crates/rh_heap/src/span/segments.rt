@@ -160,6 +160,7 @@ pub fn find_segment<S: Words>(store: &S, span: Span, target: usize) -> Option<Sp
 }
 
 /// The segment of the block at an address.
+#[inline(always)]
 pub fn locate<S: Words>(store: &S, span: Span, address: usize) -> Option<Spot>
     requires { IsSpan (S.memory store.now) span }
     ensures { MatchOption result (block_at address (heap_in (S.memory store.now) span) ≡ None)

@@ -1,8 +1,10 @@
 //! Bytes between a heap's segments that stand open while it is changed, and how they become a hole.
-ghost use Rattle.std.specs.Prelude.{◌≡◌, ℕ, ◌+◌, ◌<◌, ◌≤◌, length};
+ghost use Rattle.std.specs.Prelude.{◌≡◌, ◌≢◌, ℕ, ◌+◌, ◌<◌, ◌≤◌, length};
+ghost use Rattle.rh_defs.specs.Bytes.{word};
 ghost use Rattle.rh_defs.specs.Memory.{Memory, IsOpen, Edited, bytes};
 ghost use Rattle.rh_heap.specs.Spans.{bytes_in};
 ghost use Rattle.rh_heap.specs.Stretches.{IsStretch, Settles, PutsHole};
+ghost use Rattle.rh_defs.specs.declared.sizes.TheConstants.{HEAP_BASE};
 ghost use Rattle.rh_heap.specs.declared.layout.TheConstants.{HOLE_HEADER};
 
 use crate::layout::HOLE_SIZE;
@@ -37,6 +39,22 @@ fn put_hole<S: WordsMut>(store: &mut S, span: Span, stretch: Stretch)
         stretch.low + HOLE_SIZE,
         stretch.upper - stretch.low,
     );
+}
+
+/// Makes a stretch that a used segment follows a hole, or nothing where it has no byte.
+pub fn settle_below_block<S: Words>(store: &mut S, span: Span, stretch: Stretch)
+    requires opened { IsOpen (S.memory store.old) span.area.0 }
+    requires stretch { IsStretch (bytes_in (S.memory store.old) span) span.at stretch }
+    requires below { stretch.upper ≢ word (bytes_in (S.memory store.old) span) (span.at + HEAP_BASE) }
+    requires apart { stretch.next ≢ stretch.upper }
+    ensures settles { Settles (bytes_in (S.memory store.old) span) (bytes_in (S.memory store.new) span) span.at stretch }
+    ensures only { Edited (S.memory store.old) (S.memory store.new) span.area.0 span.at (span.at + stretch.upper) }
+{
+    if stretch.low == stretch.upper {
+        write_link(store, span, stretch.link, stretch.next);
+    } else {
+        put_hole(store, span, stretch);
+    }
 }
 
 /// Makes a stretch a hole, which joins one that follows. At the base it becomes a part of the top.
