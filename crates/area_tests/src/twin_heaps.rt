@@ -1,0 +1,174 @@
+//! One heap twice: of one store each block is found by a walk, of the other by a map. Both do and answer the same.
+
+ghost use Rattle.std.specs.Prelude.{◌≡◌, ◌≤◌, ◌<◌, ℕ, length, IfOk};
+ghost use Rattle.rh_heap.specs.Spans.{IsSpan, heap_in};
+ghost use Rattle.rh_heap.specs.Starts.{IsIndex};
+
+use crate::images::Numbers;
+use crate::same::{is_true, same};
+use rh_defs::HeapRefusal;
+use rh_defs::sizes::PAGE;
+use rh_heap::{
+    Span, block_size, block_size_in, claim, claim_in, index, init, release, release_in, resize,
+    resize_in, resize_need, resize_need_in,
+};
+use rh_store::{Pages, PlainStore, Store, StoreFault, Words};
+use std::alloc::Global;
+use std::process::Abort;
+use std::test::Fail;
+
+/// The words of a map of a heap of one page: two for each 512 bytes.
+const MAP: usize = 16;
+
+/// How many addresses are kept.
+const KEPT: usize = 40;
+
+/// How many calls are made.
+const CALLS: u32 = 2000;
+
+/// The heap, twice, each in an area of a store of its own, and the map of the second.
+#[derive(Drop)]
+struct Twins<S: Words + Drop> {
+    walked: S,
+    mapped: S,
+    span: Span,
+    starts: [u64; MAP],
+}
+
+impl<S: Words + Drop> Twins<S> {
+    fn claim<R: Abort>(&mut self, rt: &R, n: u32) -> Result<usize, HeapRefusal>
+        requires walked { IsSpan (S.memory self.old.walked) self.old.span }
+        requires mapped { IsSpan (S.memory self.old.mapped) self.old.span }
+        requires starts { IsIndex self.old.starts (heap_in (S.memory self.old.mapped) self.old.span) }
+        ensures walked { IsSpan (S.memory self.new.walked) self.new.span }
+        ensures mapped { IsSpan (S.memory self.new.mapped) self.new.span }
+        ensures starts { IsIndex self.new.starts (heap_in (S.memory self.new.mapped) self.new.span) }
+    {
+        let wanted = claim(&mut self.walked, self.span, n);
+        let found = claim_in(&mut self.mapped, self.span, &mut self.starts, n);
+        same(rt, found, wanted);
+        found
+    }
+
+    fn release<R: Abort>(&mut self, rt: &R, address: usize) -> Result<(), HeapRefusal>
+        requires walked { IsSpan (S.memory self.old.walked) self.old.span }
+        requires mapped { IsSpan (S.memory self.old.mapped) self.old.span }
+        requires starts { IsIndex self.old.starts (heap_in (S.memory self.old.mapped) self.old.span) }
+        ensures walked { IsSpan (S.memory self.new.walked) self.new.span }
+        ensures mapped { IsSpan (S.memory self.new.mapped) self.new.span }
+        ensures starts { IsIndex self.new.starts (heap_in (S.memory self.new.mapped) self.new.span) }
+    {
+        let wanted = release(&mut self.walked, self.span, address);
+        let found = release_in(&mut self.mapped, self.span, &mut self.starts, address);
+        same(rt, found, wanted);
+        found
+    }
+
+    fn resize<R: Abort>(
+        &mut self,
+        rt: &R,
+        address: usize,
+        delta: i32,
+    ) -> Result<usize, HeapRefusal>
+        requires walked { IsSpan (S.memory self.old.walked) self.old.span }
+        requires mapped { IsSpan (S.memory self.old.mapped) self.old.span }
+        requires starts { IsIndex self.old.starts (heap_in (S.memory self.old.mapped) self.old.span) }
+        ensures walked { IsSpan (S.memory self.new.walked) self.new.span }
+        ensures mapped { IsSpan (S.memory self.new.mapped) self.new.span }
+        ensures starts { IsIndex self.new.starts (heap_in (S.memory self.new.mapped) self.new.span) }
+    {
+        same(
+            rt,
+            resize_need_in(&self.mapped, self.span, &self.starts, address, delta),
+            resize_need(&self.walked, self.span, address, delta),
+        );
+        let wanted = resize(&mut self.walked, self.span, address, delta);
+        let found = resize_in(
+            &mut self.mapped,
+            self.span,
+            &mut self.starts,
+            address,
+            delta,
+        );
+        same(rt, found, wanted);
+        found
+    }
+
+    /// Ends the test where the words of the two or the map and a fresh one differ, or the answers at an address.
+    fn compare<R: Abort>(&self, rt: &R, address: usize)
+        requires walked { IsSpan (S.memory self.now.walked) self.now.span }
+        requires mapped { IsSpan (S.memory self.now.mapped) self.now.span }
+        requires starts { IsIndex self.now.starts (heap_in (S.memory self.now.mapped) self.now.span) }
+    {
+        same(
+            rt,
+            block_size_in(&self.mapped, self.span, &self.starts, address),
+            block_size(&self.walked, self.span, address),
+        );
+        let mut fresh = [u64::MAX; MAP];
+        index(&self.mapped, self.span, &mut fresh);
+        same(rt, self.starts, fresh);
+        let len = self.walked.len(self.span.area);
+        same(rt, self.mapped.len(self.span.area), len);
+        for word in 0..len / 4 {
+            same(
+                rt,
+                (word, self.mapped.word(self.span.area, 4 * word)),
+                (word, self.walked.word(self.span.area, 4 * word)),
+            );
+        }
+    }
+}
+
+/// A store with an empty heap of a page.
+#[tactic(auto, using(rh_defs::proofs::BytesLaws::word_laws, rh_defs::proofs::MemoryLaws::memory_laws, rh_defs::proofs::MemoryLaws::pool_laws))]
+fn one_heap(alloc: Global) -> Result<(PlainStore, Span), Fail> {
+    let mut store = PlainStore::new(alloc, 8)?;
+    let area = store.open()?;
+    store.grow(area, 1)?;
+    let span = Span { area, at: 0 };
+    init(&mut store, span, PAGE);
+    Ok((store, span))
+}
+
+#[test]
+fn a_map_finds_what_a_walk_finds(rt: HostRuntime) -> Result<(), Fail> {
+    let (walked, span) = one_heap(rt.alloc())?;
+    let (mapped, _) = one_heap(rt.alloc())?;
+    let mut starts = [0; MAP];
+    index(&mapped, span, &mut starts);
+    let mut twins = Twins {
+        walked,
+        mapped,
+        span,
+        starts,
+    };
+    let mut numbers = Numbers::new();
+    let mut kept = [0usize; KEPT];
+    for _call in 0..CALLS {
+        let at = numbers.below(40) as usize;
+        let address = match numbers.below(12) {
+            0 => numbers.below(4200) as usize,
+            1 => kept[at] + 8,
+            _ => kept[at],
+        };
+        match numbers.below(8) {
+            0..=2 => {
+                if let Ok(found) = twins.claim(&rt, numbers.below(120)) {
+                    kept[at] = found;
+                }
+            }
+            3..=4 => {
+                let _done = twins.release(&rt, address);
+            }
+            _ => {
+                let delta = numbers.below(160) as i32 - 80;
+                if let Ok(found) = twins.resize(&rt, address, delta) {
+                    kept[at] = found;
+                }
+            }
+        }
+        twins.compare(&rt, address);
+    }
+    Ok(())
+}
