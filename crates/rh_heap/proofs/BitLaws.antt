@@ -5,7 +5,7 @@ use Rattle.std.specs.Int.RustNames.{bit_or}
 use Rattle.std.specs.Int.Count.{count_leading_zeros}
 use Rattle.std.specs.Prelude.{bit_and, ◌⊎◌}
 use Rattle.std.proofs.lemmas.Bool.{cases_eq, cases_lt}
-use Rattle.std.proofs.lemmas.List.{get_or-set_same, get_or-set_other}
+use Rattle.std.proofs.lemmas.List.{get_or-set_same, get_or-set_other, get_or_past}
 use Rattle.std.proofs.lemmas.Nat.{leading_top, le-div, div_below, pow_pos, one_shl}
 use Rattle.std.proofs.lemmas.Nat.Bits.{bit_at-zero, bit_at-lt, bit_at_above, bit_at_and, bit_at_ones, bit_at_ones_above}
 use Rattle.rh_heap.specs.Starts.{bit, Became, LastBit}
@@ -30,10 +30,7 @@ module _ (lane k v b : ℕ) (old new : List ℕ) (lt : lane < 2) (e : new ≡ se
 
 -- a bit past the map's end is clear
 pub past_end : (lane k : ℕ) (starts : List ℕ) → length starts ≤ 2 * (k / 64) + lane → bit lane starts k ≡ 0
-past_end lane k starts l = ap (λ w. bit_at w (k % 64)) (read_past starts (2 * (k / 64) + lane) l) ∙ bit_at-zero (k % 64)
-  where
-    read_past : (l : List ℕ) (i : ℕ) → length l ≤ i → get_or l i 0 ≡ 0
-    read_past l i h = grind arith
+past_end lane k starts l = ap (λ w. bit_at w (k % 64)) (get_or_past starts (2 * (k / 64) + lane) 0 l) ∙ bit_at-zero (k % 64)
 
 -- nothing is to be cleared there
 pub became_clear : (lane k : ℕ) (starts : List ℕ) → length starts ≤ 2 * (k / 64) + lane → Became lane k 0 starts starts
@@ -77,7 +74,7 @@ scan_start lane starts n word inside small e =
 
 -- the highest set bit of a word
 pub record Highest (word j : ℕ) : Type 0 where
-  pub set : bit_at word j ≡ 1
+  pub top : bit_at word j ≡ 1
   pub none : (i : ℕ) → j < i → bit_at word i ≡ 0
 
 highest : (word j : ℕ) → 2 ^ j ≤ word → word < 2 ^ suc j → Highest word j
@@ -86,7 +83,7 @@ highest word j lo hi =
     let one = le-div 1 word (2 ^ j) (pow_pos j) (omega arith) in
     let two = div_below word (2 ^ j) 2 (pow_pos j) (omega arith) in
     record {
-      set = ap (λ d. d % 2) (let e : word / 2 ^ j ≡ 1 = omega arith in e);
+      top = ap (λ d. d % 2) (let e : word / 2 ^ j ≡ 1 = omega arith in e);
       none = λ i l. bit_at_above word (suc j) i hi (omega arith);
     }
 
@@ -97,11 +94,11 @@ scan_found lane starts n line word zeros s ne e =
     let sum = top.1 in
     let at : 64 * line + (63 - zeros) ≡ 64 * line + j = omega arith in
     let high = highest word j top.2 top.3 in
-    let set = high.set in
+    let is_one = high.top in
     let less : 64 * line + j < n = elim (cases_lt (64 * line + j) n) [ inl l ↦ l | inr l ↦ absurd (let z = s.above j (omega arith) l in omega arith) ] in
     subst (LastBit lane starts n) (sym at) (record {
       below = less;
-      set = sym (s.here j (omega arith) less) ∙ set;
+      is_set = sym (s.here j (omega arith) less) ∙ is_one;
       none = λ i over below. elim (cases_lt i (64 * (line + 1))) [
         | inl l ↦
             let same : 64 * line + (i - 64 * line) ≡ i = omega arith in

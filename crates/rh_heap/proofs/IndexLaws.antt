@@ -79,7 +79,7 @@ module _ (starts : List ℕ) (h : Heap) (i : IsIndex starts h) (t : IsTidy false
         | a_hole n e l ↦
             let below = l.below in
             one_before (subst (λ p. LastOf p 16 xs) (sym e) (last_of (8 * n) 16 xs private_units refl
-            (omega (arith, holes_in n, l.set, hole_at-low (8 * n) (16 + total size_of xs) ys (omega arith)))
+            (omega (arith, holes_in n, l.is_set, hole_at-low (8 * n) (16 + total size_of xs) ys (omega arith)))
             (λ j over. none_in j (λ less. l.none j (omega arith) (omega arith)))))
       ]
 

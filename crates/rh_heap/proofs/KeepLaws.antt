@@ -3,17 +3,23 @@ use Rattle.std.proofs.Common.{◌≡◌, ◌≢◌, ℕ, ◌+◌, ◌-◌, ◌*�
 use Rattle.std.specs.Prelude.{None}
 use Rattle.std.proofs.lemmas.Bool.{cases_eq, cases_lt}
 use Rattle.rh_defs.specs.Pieces.{total}
-use Rattle.rh_defs.specs.Heap.{Segment, Used, Hole, Heap, IsTidy, size_of, base, with_hole, release, placed, hole_for}
+use Rattle.rh_defs.specs.Heap.{Segment, Used, Hole, Heap, Placed, IsTidy, size_of, base, with_hole, release, placed, hole_for, fitted, way_to, resized_by}
+use Rattle.rh_defs.specs.Heap as heap
+use Rattle.rh_defs.specs.HeapImage.{Spells}
 use Rattle.rh_defs.specs.HeapParts.{HasRoom}
 use Rattle.rh_defs.proofs.HeapLists.{HasRoom-from_tidy, HasRoom-append, HasRoom-join, total-append, tidy_behind_used, tidy_behind_hole}
 use Rattle.rh_heap.specs.Segments.{GapIs, no_gap, a_gap, FoundBlock}
 use Rattle.rh_heap.specs.Holes.{FoundHole}
+use Rattle.rh_heap.specs.Ways.{resized_in}
 use Rattle.rh_heap.specs.Starts.{bit, once, used_at, hole_at, IsIndex, Became, Noted}
 use Rattle.rh_heap.specs.declared.span.segments.Spot.{Spot}
 use Rattle.rh_heap.specs.declared.span.holes.Gap.{Gap}
 use Rattle.rh_heap.specs.declared.span.starts.TheConstants.{USED, HOLES}
 use Rattle.rh_heap.proofs.ReleaseLaws.{released_is}
 use Rattle.rh_heap.proofs.ClaimLaws.{placed_found, placed_none}
+use Rattle.rh_heap.proofs.ResizeLaws.{length-fitted, IntoOf, TopOf, shrunk_is, widened_is}
+use Rattle.rh_heap.proofs.WayLaws.{cut_of}
+use Rattle.rh_heap.proofs.MoveLaws.{placed_at}
 use Rattle.rh_heap.proofs.StartLaws.{once_same, once_apart, used_at-append, hole_at-append, used_at-low, hole_at-low, used_at-high, hole_at-high, HasUnits, units_of, units-append, units-total, used_with_hole, hole_noted}
 
 -- what a call has noted of a stretch: the marks that stood open before are in mid
@@ -149,7 +155,7 @@ module _ (at : ℕ) (h : Heap) (t : ℕ) (gap : Gap) (f : FoundHole at h t gap) 
       let even = hole_even in
       let done = placed_found at h t gap f bs et in
       let segments_are : (placed bs h).heap.segments ≡ front ++ with_hole (upper - low) f.after =
-          ap (λ p. p.heap.segments) done ∙ ap (λ n. f.before ++ Used bs ∷ with_hole n f.after) (let e : gap.size - (4 + length bs) ≡ upper - low = omega arith in e)
+          ap (λ (p : Placed). p.heap.segments) done ∙ ap (λ n. f.before ++ Used bs ∷ with_hole n f.after) (let e : gap.size - (4 + length bs) ≡ upper - low = omega arith in e)
           ∙ sym (append_assoc f.before (Used bs ∷ []) (with_hole (upper - low) f.after)) in
       let p8 : 8 * (gap.place / 8) ≡ gap.place = omega arith in
       let used_is : (p : ℕ) → used_at p 16 h.segments ≡ used_at p 16 f.before + used_at p upper f.after =
@@ -161,7 +167,7 @@ module _ (at : ℕ) (h : Heap) (t : ℕ) (gap : Gap) (f : FoundHole at h t gap) 
       let front_hole : (p : ℕ) → hole_at p 16 front ≡ hole_at p 16 f.before = λ p. omega (arith, hole_at-append p 16 f.before (Used bs ∷ [])) in
       let long = i.long in
       settled mid new (placed bs h).heap front f.after low upper base' segments_are (omega arith) (omega arith) (λ z. behind.1) (HasRoom-join f.before (Used bs ∷ []) rooms.0 tt) rooms.1.1 eb
-      (let en : (placed bs h).heap.end ≡ h.end = ap (λ p. p.heap.end) done in let half = ap (λ x. 512 * (x / 2)) el in omega arith)
+      (let en : (placed bs h).heap.end ≡ h.end = ap (λ (p : Placed). p.heap.end) done in let half = ap (λ x. 512 * (x / 2)) el in omega arith)
       (record {
         used = λ j. c.other USED j (omega arith) (omega arith) ∙ elim (cases_eq j (gap.place / 8)) [
           | inl same ↦
@@ -187,7 +193,7 @@ module _ (at : ℕ) (h : Heap) (t : ℕ) (none : hole_for t h.segments ≡ None)
   pub append_index : (old new : List ℕ) → IsIndex old h → Became USED (base h / 8) 1 old new → length new ≡ length old → IsIndex new (placed bs h).heap
   append_index old new i b el =
       let done = placed_none at h t none bs et in
-      let e : (placed bs h).heap.segments ≡ h.segments ++ Used bs ∷ [] = ap (λ p. p.heap.segments) done in
+      let e : (placed bs h).heap.segments ≡ h.segments ++ Used bs ∷ [] = ap (λ (p : Placed). p.heap.segments) done in
       let even = base_even in
       let used_is : (p : ℕ) → used_at p 16 (placed bs h).heap.segments ≡ used_at p 16 h.segments + once p (base h) =
           λ p. ap (used_at p 16) e ∙ used_at-append p 16 h.segments (Used bs ∷ []) ∙ omega arith in
@@ -195,7 +201,7 @@ module _ (at : ℕ) (h : Heap) (t : ℕ) (none : hole_for t h.segments ≡ None)
           λ p. ap (hole_at p 16) e ∙ hole_at-append p 16 h.segments (Used bs ∷ []) ∙ omega arith in
       let long = i.long in
       record {
-        long = (let en : (placed bs h).heap.end ≡ h.end = ap (λ p. p.heap.end) done in let half = ap (λ x. 512 * (x / 2)) el in omega arith);
+        long = (let en : (placed bs h).heap.end ≡ h.end = ap (λ (p : Placed). p.heap.end) done in let half = ap (λ x. 512 * (x / 2)) el in omega arith);
         used = λ j. elim (cases_eq j (base h / 8)) [
           | inl same ↦
               let p : 8 * j ≡ base h = omega arith in
@@ -204,3 +210,122 @@ module _ (at : ℕ) (h : Heap) (t : ℕ) (none : hole_for t h.segments ≡ None)
         ];
         holes = λ j. b.other HOLES j (omega arith) (omega arith) ∙ i.holes j ∙ sym (hole_is (8 * j));
       }
+
+-- ---- blocks that get another size in their place
+module _ (b : List ℕ) (at : ℕ) (h : Heap) (spot : Spot) (s : Spells b at h) (f : FoundBlock at h (spot.place + 4) spot) (t : ℕ) (least : 8 ≤ t) where
+  abbrev passed : List Segment
+  passed = f.reached.front ++ f.reached.gap
+
+  abbrev now : List ℕ
+  now = fitted (t - 4) f.bytes
+
+  here_is : h.segments ≡ passed ++ Used f.bytes ∷ f.after
+  here_is = f.reached.is ∙ ap (λ l. passed ++ l) f.rest_is
+
+  passed_room : HasRoom passed
+  passed_room = (HasRoom-append passed (Used f.bytes ∷ f.after) (HasRoom-from_tidy false (passed ++ Used f.bytes ∷ f.after) (subst (IsTidy false) here_is s.heap.tidy))).0
+
+  behind_is : IsTidy false f.after
+  behind_is = (tidy_behind_used false passed f.bytes f.after (subst (IsTidy false) here_is s.heap.tidy)).1
+
+  long_now : 4 + length now ≡ t
+  long_now = let n = length-fitted (t - 4) f.bytes in omega arith
+
+  front_total : 16 + total size_of (passed ++ Used now ∷ []) ≡ spot.place + t
+  front_total = let p = f.reached.place_is in let l = long_now in omega (arith, total-append passed (Used now ∷ []))
+
+  used_front : (p : ℕ) → used_at p 16 (passed ++ Used now ∷ []) ≡ used_at p 16 passed + once p spot.place
+  used_front p = used_at-append p 16 passed (Used now ∷ []) ∙ omega (arith, ap (once p) f.reached.place_is)
+
+  hole_front : (p : ℕ) → hole_at p 16 (passed ++ Used now ∷ []) ≡ hole_at p 16 passed
+  hole_front p = hole_at-append p 16 passed (Used now ∷ []) ∙ omega arith
+
+  used_whole : (p : ℕ) → used_at p 16 h.segments ≡ used_at p 16 passed + (once p spot.place + used_at p (spot.place + spot.size) f.after)
+  used_whole p = ap (used_at p 16) here_is ∙ used_at-append p 16 passed (Used f.bytes ∷ f.after)
+      ∙ ap (λ q. used_at p 16 passed + (once p q + used_at p (q + (4 + length f.bytes)) f.after)) (sym f.reached.place_is)
+      ∙ ap (λ n. used_at p 16 passed + (once p spot.place + used_at p (spot.place + n) f.after)) (sym f.size_is)
+
+  hole_whole : (p : ℕ) → hole_at p 16 h.segments ≡ hole_at p 16 passed + hole_at p (spot.place + spot.size) f.after
+  hole_whole p = ap (hole_at p 16) here_is ∙ hole_at-append p 16 passed (Used f.bytes ∷ f.after)
+      ∙ ap (λ q. hole_at p 16 passed + hole_at p (q + (4 + length f.bytes)) f.after) (sym f.reached.place_is)
+      ∙ ap (λ n. hole_at p 16 passed + hole_at p (spot.place + n) f.after) (sym f.size_is)
+
+  -- a block that gets shorter
+  pub shrink_index : (old new : List ℕ) (base' : ℕ) → t % 8 ≡ 0 → t < spot.size → IsIndex old h → Settled old new (spot.place + t) (spot.place + spot.size) base' → length new ≡ length old
+      → base' ≡ base (resized_in t (cut_of at h spot f) h).heap → IsIndex new (resized_in t (cut_of at h spot f) h).heap
+  shrink_index old new base' mult shorter i n el eb =
+      let done = shrunk_is b at h spot s f t least mult shorter in
+      let long = i.long in
+      settled old new (resized_in t (cut_of at h spot f) h).heap (passed ++ Used now ∷ []) f.after (spot.place + t) (spot.place + spot.size) base' (ap (λ (k : Heap). k.segments) done) (sym front_total) (omega arith) (λ z. absurd (omega arith))
+      (HasRoom-join passed (Used now ∷ []) passed_room tt) (HasRoom-from_tidy false f.after behind_is) eb
+      (let en : (resized_in t (cut_of at h spot f) h).heap.end ≡ h.end = ap (λ (k : Heap). k.end) done in let half = ap (λ x. 512 * (x / 2)) el in omega arith)
+      (record {
+        used = λ j. omega (arith, i.used j, used_whole (8 * j), used_front (8 * j));
+        holes = λ j off beside. omega (arith, i.holes j, hole_whole (8 * j), hole_front (8 * j));
+      }) n
+
+  -- a block that grows into the hole behind it
+  pub widen_index : (old mid new : List ℕ) (base' room : ℕ) → t % 8 ≡ 0 → (w : IntoOf at h spot f t room (way_to t (cut_of at h spot f) h)) → IsIndex old h → Became HOLES ((spot.place + spot.size) / 8) 0 old mid
+      → Settled mid new (spot.place + t) (spot.place + spot.size + room) base' → length new ≡ length old
+      → base' ≡ base (resized_in t (cut_of at h spot f) h).heap → IsIndex new (resized_in t (cut_of at h spot f) h).heap
+  widen_index old mid new base' room mult w i c n el eb =
+      let done = widened_is b at h spot s f t mult room w in
+      let size = f.size_is in
+      let longer = w.longer in
+      let fits = w.fits in
+      let long = i.long in
+      let even = place_even at h (spot.place + 4) spot s.heap.tidy f in
+      let fm = f.multiple in
+      let p = f.reached.place_is in
+      let upper = spot.place + spot.size + room in
+      let behind = tidy_behind_hole false [] room w.rest (subst (IsTidy false) w.after_is behind_is) in
+      let hole_there : (p : ℕ) → hole_at p (spot.place + spot.size) f.after ≡ once p (spot.place + spot.size) + hole_at p upper w.rest = λ p. ap (hole_at p (spot.place + spot.size)) w.after_is in
+      let used_there : (p : ℕ) → used_at p (spot.place + spot.size) f.after ≡ used_at p upper w.rest = λ p. ap (used_at p (spot.place + spot.size)) w.after_is in
+      let least' = f.least in
+      let room_is = (HasRoom-from_tidy false (Hole room ∷ w.rest) (subst (IsTidy false) w.after_is behind_is)) in
+      let big = room_is.0 in
+      settled mid new (resized_in t (cut_of at h spot f) h).heap (passed ++ Used now ∷ []) w.rest (spot.place + t) upper base' (ap (λ (k : Heap). k.segments) done) (sym front_total) (omega arith) (λ z. behind.1)
+      (HasRoom-join passed (Used now ∷ []) passed_room tt) room_is.1 eb
+      (let en : (resized_in t (cut_of at h spot f) h).heap.end ≡ h.end = ap (λ (k : Heap). k.end) done in let half = ap (λ x. 512 * (x / 2)) el in omega arith)
+      (record {
+        used = λ j. omega (arith, c.other USED j (omega arith) (omega arith), i.used j, used_whole (8 * j), used_front (8 * j), used_there (8 * j));
+        holes = λ j off beside. elim (cases_eq j ((spot.place + spot.size) / 8)) [
+          | inl same ↦
+              let at_it : 8 * j ≡ spot.place + spot.size = omega arith in
+              ap (bit HOLES mid) same ∙ c.here ∙ omega (arith, hole_front (8 * j), hole_at-high (8 * j) 16 passed passed_room (omega arith), hole_at-low (8 * j) upper w.rest (omega arith))
+          | inr apart ↦ omega (arith, c.same j apart, i.holes j, hole_whole (8 * j), hole_front (8 * j), hole_there (8 * j), once_apart (8 * j) (spot.place + spot.size) (omega arith))
+        ];
+      }) n
+
+  -- the last block grows
+  pub raise_index : (old : List ℕ) → (w : TopOf at h spot f t (way_to t (cut_of at h spot f) h)) → IsIndex old h → IsIndex old (resized_in t (cut_of at h spot f) h).heap
+  raise_index old w i =
+      let done : (resized_in t (cut_of at h spot f) h).heap ≡ record { segments = passed ++ Used now ∷ []; end = h.end } = ap (λ (v : heap.Way). (resized_by v now (cut_of at h spot f) h).heap) w.way_is in
+      let used_there : (p : ℕ) → used_at p (spot.place + spot.size) f.after ≡ 0 = λ p. ap (used_at p (spot.place + spot.size)) w.after_is in
+      let hole_there : (p : ℕ) → hole_at p (spot.place + spot.size) f.after ≡ 0 = λ p. ap (hole_at p (spot.place + spot.size)) w.after_is in
+      subst (IsIndex old) (sym done) (record {
+        long = i.long;
+        used = λ j. omega (arith, i.used j, used_whole (8 * j), used_front (8 * j), used_there (8 * j));
+        holes = λ j. omega (arith, i.holes j, hole_whole (8 * j), hole_front (8 * j), hole_there (8 * j));
+      })
+
+-- ---- a block's bytes don't matter
+pub other_bytes : (starts : List ℕ) (h : Heap) (t : ℕ) (bs cs : List ℕ) → t ≡ 4 + length bs → t ≡ 4 + length cs → IsIndex starts (placed bs h).heap → IsIndex starts (placed cs h).heap
+other_bytes starts h t bs cs eb ec i =
+    let p = placed_at h t in
+    let one = p.is bs eb in
+    let two = p.is cs ec in
+    let long = i.long in
+    let used_same : (k : ℕ) → used_at k 16 (p.front ++ Used bs ∷ p.rest) ≡ used_at k 16 (p.front ++ Used cs ∷ p.rest) =
+        λ k. used_at-append k 16 p.front (Used bs ∷ p.rest)
+        ∙ ap (λ n. used_at k 16 p.front + (once k (16 + total size_of p.front) + used_at k (16 + total size_of p.front + n) p.rest)) (let e : 4 + length bs ≡ 4 + length cs = omega arith in e)
+        ∙ sym (used_at-append k 16 p.front (Used cs ∷ p.rest)) in
+    let hole_same : (k : ℕ) → hole_at k 16 (p.front ++ Used bs ∷ p.rest) ≡ hole_at k 16 (p.front ++ Used cs ∷ p.rest) =
+        λ k. hole_at-append k 16 p.front (Used bs ∷ p.rest)
+        ∙ ap (λ n. hole_at k 16 p.front + hole_at k (16 + total size_of p.front + n) p.rest) (let e : 4 + length bs ≡ 4 + length cs = omega arith in e)
+        ∙ sym (hole_at-append k 16 p.front (Used cs ∷ p.rest)) in
+    record {
+      long = omega (arith, ap (λ (r : Placed). r.heap.end) one, ap (λ (r : Placed). r.heap.end) two);
+      used = λ j. i.used j ∙ ap (λ (r : Placed). used_at (8 * j) 16 r.heap.segments) one ∙ used_same (8 * j) ∙ sym (ap (λ (r : Placed). used_at (8 * j) 16 r.heap.segments) two);
+      holes = λ j. i.holes j ∙ ap (λ (r : Placed). hole_at (8 * j) 16 r.heap.segments) one ∙ hole_same (8 * j) ∙ sym (ap (λ (r : Placed). hole_at (8 * j) 16 r.heap.segments) two);
+    }

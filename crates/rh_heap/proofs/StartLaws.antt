@@ -1,5 +1,5 @@
 -- Where segments begin: in a list that is cut, and what a place tells of the segments before it.
-use Rattle.std.proofs.Common.{◌≡◌, ◌≢◌, ℕ, ◌+◌, ◌-◌, ◌*◌, ◌/◌, ◌%◌, ◌<◌, ◌≤◌, inl, inr, Bool, true, false, List, [], ◌∷◌, ◌++◌, length, refl, sym, ap, subst, ◌∙◌, eqb, cond, append_assoc, arith}
+use Rattle.std.proofs.Common.{◌≡◌, ◌≢◌, ℕ, zero, suc, ◌+◌, ◌-◌, ◌*◌, ◌/◌, ◌%◌, ◌<◌, ◌≤◌, inl, inr, Bool, true, false, List, [], ◌∷◌, ◌++◌, length, refl, sym, ap, subst, ◌∙◌, eqb, cond, append_assoc, arith}
 use Rattle.std.proofs.lemmas.Bool.{cases_eq, cases_lt}
 use Rattle.rh_defs.specs.Pieces.{total, NonePass}
 use Rattle.rh_defs.specs.Heap.{Segment, Used, Hole, IsTidy, size_of, is_block_at, with_hole}
@@ -48,7 +48,7 @@ hole_at-high p q (Used bs ∷ ss) r l = hole_at-high p (q + (4 + length bs)) ss 
 hole_at-high p q (Hole n ∷ ss) r l = let big = r.0 in omega (arith, once_apart p q (omega arith), hole_at-high p (q + n) ss r.1 (omega arith))
 
 -- ---- sizes that are multiples of 8
-pub HasUnits : List Segment → Type 0
+abbrev pub HasUnits : List Segment → Type 0
 HasUnits [] = Unit {0}
 HasUnits (Used bs ∷ ss) = ((4 + length bs) % 8 ≡ 0) × HasUnits ss
 HasUnits (Hole n ∷ ss) = (n % 8 ≡ 0) × HasUnits ss
@@ -154,7 +154,7 @@ last_of p q (Hole n ∷ ss) u m o z =
 
 -- ---- a hole before segments
 pub used_with_hole : (p low n : ℕ) (after : List Segment) → used_at p low (with_hole n after) ≡ used_at p (low + n) after
-used_with_hole p low 0 after = rw (let e : low + 0 ≡ low = omega arith in e) refl
+used_with_hole p low zero after = rw (let e : low + 0 ≡ low = omega arith in e) refl
 used_with_hole p low (suc n) [] = refl
 used_with_hole p low (suc n) (Used bs ∷ ss) = refl
 used_with_hole p low (suc n) (Hole m ∷ ss) = ap (λ q. used_at p q ss) (omega arith)
@@ -165,15 +165,15 @@ pub hole_noted : (p low upper : ℕ) (after : List Segment) → low ≤ upper �
 hole_noted p low upper after le closed room = go (upper - low) after refl closed room
   where
     go : (n : ℕ) (ss : List Segment) → n ≡ upper - low → (low ≡ upper → IsTidy true ss) → HasRoom ss → Noted p low upper (low + total size_of (with_hole n ss)) (hole_at p upper ss) (hole_at p low (with_hole n ss))
-    go 0 [] e t r = record {
+    go zero [] e t r = record {
       begins = λ here some more. absurd (t (omega arith));
       closed = λ here none. refl;
       top = λ here none. refl;
       joins = λ off here. refl;
       stays = λ off beside. refl;
     }
-    go 0 (Hole m ∷ ss) e t r = absurd (t (omega arith))
-    go 0 (Used bs ∷ ss) e t r = record {
+    go zero (Hole m ∷ ss) e t r = absurd (t (omega arith))
+    go zero (Used bs ∷ ss) e t r = record {
       begins = λ here some more. absurd (omega arith);
       closed = λ here none. hole_at-low p (low + (4 + length bs)) ss (omega arith);
       top = λ here none. absurd (omega arith);

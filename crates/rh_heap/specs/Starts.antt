@@ -40,7 +40,7 @@ pub record Became (lane k v : ℕ) (old new : List ℕ) : Type 0 where
 -- k is the last set bit of a lane below n
 pub record LastBit (lane : ℕ) (starts : List ℕ) (n k : ℕ) : Type 0 where
   pub below : k < n
-  pub set : bit lane starts k ≡ 1
+  pub is_set : bit lane starts k ≡ 1
   pub none : (j : ℕ) → k < j → j < n → bit lane starts j ≡ 0
 
 -- the last hole that begins below a place, or the descriptor's link where none does
