@@ -1,13 +1,15 @@
 -- The bits of a map: one that is set or cleared, and the search for the last one that is set.
-use Rattle.std.proofs.Common.{◌≡◌, ◌≢◌, ℕ, ◌+◌, ◌-◌, ◌*◌, ◌/◌, ◌%◌, ◌^◌, ◌<◌, ◌≤◌, inl, inr, List, length, get_or, set, suc, zero, refl, sym, ap, subst, ◌∙◌, arith}
+use Rattle.std.proofs.Common.{◌≡◌, ◌≢◌, ℕ, ◌+◌, ◌-◌, ◌*◌, ◌/◌, ◌%◌, ◌^◌, ◌<◌, ◌≤◌, inl, inr, Bool, true, false, eqb, List, length, get_or, set, suc, zero, refl, sym, ap, subst, ◌∙◌, arith}
 use Rattle.std.specs.Int.{bit_at, w64}
 use Rattle.std.specs.Int.RustNames.{bit_or}
 use Rattle.std.specs.Int.Count.{count_leading_zeros}
 use Rattle.std.specs.Prelude.{bit_and, ◌⊎◌}
 use Rattle.std.proofs.lemmas.Bool.{cases_eq, cases_lt}
 use Rattle.std.proofs.lemmas.List.{get_or-set_same, get_or-set_other, get_or_past}
-use Rattle.std.proofs.lemmas.Nat.{leading_top, le-div, div_below, pow_pos, one_shl}
+use Rattle.std.proofs.Math.Nat.{pow-suc}
+use Rattle.std.proofs.lemmas.Nat.{and_le_l, leading_top, le-div, div_below, pow_pos, one_shl}
 use Rattle.std.proofs.lemmas.Nat.Bits.{bit_at-zero, bit_at-lt, bit_at_above, bit_at_and, bit_at_ones, bit_at_ones_above}
+use Rattle.rh_defs.proofs.HeapLists.{eqb_same}
 use Rattle.rh_heap.specs.Starts.{bit, Became, LastBit}
 
 -- ---- one word of a map is changed
@@ -52,14 +54,14 @@ bit_of_line lane starts line i l =
     ap (λ d. bit_at (get_or starts (2 * d + lane) 0) ((64 * line + i) % 64)) (let e : (64 * line + i) / 64 ≡ line = omega arith in e)
     ∙ ap (bit_at (get_or starts (2 * line + lane) 0)) (let e : (64 * line + i) % 64 ≡ i = omega arith in e)
 
-pub scan_start : (lane : ℕ) (starts : List ℕ) (n word : ℕ) → 2 * (n / 64) + lane < length starts → word < 2 ^ 64
+pub scan_start : (lane : ℕ) (starts : List ℕ) (n word : ℕ) → 2 * (n / 64) + lane < length starts → get_or starts (2 * (n / 64) + lane) 0 < 2 ^ 64
     → word ≡ bit_and (get_or starts (2 * (n / 64) + lane) 0) (1 * 2 ^ (n % 64) % 2 ^ 64 - 1) → Scan lane starts n (n / 64) word
 scan_start lane starts n word inside small e =
     let w = get_or starts (2 * (n / 64) + lane) 0 in
     let k = n % 64 in
     let mask : word ≡ bit_and w (2 ^ k - 1) = e ∙ ap (λ m. bit_and w (m - 1)) (one_shl k 64 (omega arith)) in
     record {
-      small = small;
+      small = omega (arith, e, and_le_l w (1 * 2 ^ (n % 64) % 2 ^ 64 - 1));
       inside = inside;
       up_to = omega arith;
       here = λ i l below.
@@ -79,7 +81,7 @@ pub record Highest (word j : ℕ) : Type 0 where
 
 highest : (word j : ℕ) → 2 ^ j ≤ word → word < 2 ^ suc j → Highest word j
 highest word j lo hi =
-    let twice : 2 ^ suc j ≡ 2 * 2 ^ j = refl in
+    let twice : 2 ^ suc j ≡ 2 ^ j * 2 = pow-suc 2 j in
     let one = le-div 1 word (2 ^ j) (pow_pos j) (omega arith) in
     let two = div_below word (2 ^ j) 2 (pow_pos j) (omega arith) in
     record {
@@ -129,3 +131,7 @@ scan_next lane starts n line word line' word' s e next small read =
       above = λ i l past. absurd (omega arith);
       passed = λ j past below. none_from lane starts n line word s e j (omega arith) below;
     }
+
+-- what a test of a bit says
+pub not_set : (r : Bool) (n : ℕ) → r ≡ eqb n 1 → r ≡ false → n ≢ 1
+not_set r n e f one = let same = eqb_same n 1 one in let z : true ≡ false = sym same ∙ sym e ∙ f in absurd cc

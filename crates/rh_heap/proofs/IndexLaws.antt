@@ -106,7 +106,7 @@ none_tidy (Used bs ∷ us) ys n t = (t.0, none_tidy us ys n t.1)
 none_tidy (Hole m ∷ us) ys n t = absurd n
 
 some_tidy : (a : Bool) (f : List Segment) (m : ℕ) (bs : List ℕ) (us ys : List Segment) → HasNone us → IsTidy a (f ++ Hole m ∷ Used bs ∷ (us ++ ys)) → IsTidy a (f ++ Hole m ∷ Used bs ∷ us)
-some_tidy false [] m bs us ys n t = (t.0, t.1, t.2.0, none_tidy us ys n t.2.1)
+some_tidy false [] m bs us ys n t = (t.0, t.1, (t.2.0, none_tidy us ys n t.2.1))
 some_tidy true [] m bs us ys n t = absurd t
 some_tidy false (Used cs ∷ f) m bs us ys n t = (t.0, some_tidy false f m bs us ys n t.1)
 some_tidy true (Used cs ∷ f) m bs us ys n t = (t.0, some_tidy false f m bs us ys n t.1)
@@ -183,7 +183,7 @@ module _ (b : List ℕ) (at : ℕ) (h : Heap) (s : Spells b at h) (place : ℕ) 
       let rest = l.behind ++ Used u.bytes ∷ u.after in
       let is : h.segments ≡ l.front ++ Hole l.size ∷ rest = u.is ∙ ap (λ x. x ++ Used u.bytes ∷ u.after) l.is ∙ append_assoc l.front (Hole l.size ∷ l.behind) (Used u.bytes ∷ u.after) in
       let parts = Stand-split b (at + 4) (at + 16) l.front (Hole l.size ∷ rest) (subst (Stand b (at + 4) (at + 16)) is s.stand) in
-      ap (word b) (let e = l.place in omega arith) ∙ parts.1.1.0
+      ap (word b) (let e = l.place in omega arith) ∙ parts.1.1
 
   pub hole_room : (from : ℕ) → LastOf from 16 u.before → (from + 8 ≤ place) × (16 ≤ from) × (from % 8 ≡ 0)
   hole_room from l =
@@ -230,3 +230,41 @@ module _ (b : List ℕ) (at : ℕ) (h : Heap) (s : Spells b at h) (place : ℕ) 
       go [] n ne t = absurd (ne refl)
       go (Used bs ∷ us) n ne t = some_tidy false l.front l.size bs us (Used u.bytes ∷ u.after) n t
       go (Hole m ∷ us) n ne t = absurd n
+
+  -- the last link is below the block, and so is its hole
+  pub link_room : (link : ℕ) → LastLink link u.before → (link + 8 ≤ place) × (link ≢ 4 → link % 8 ≡ 0)
+  link_room link k =
+      let e = u.place in
+      elim k [
+        | none_before f n ↦ (omega arith, λ ne. absurd (ne f))
+        | one_before l ↦ let r = hole_room link l in (r.0, λ ne. r.2)
+      ]
+
+  pub link_fits : (link : ℕ) → LastLink link u.before → link ≢ 4 → link + word b (at + (link + 4)) ≤ place
+  link_fits link k ne = elim k [
+    | none_before f n ↦ absurd (ne f)
+    | one_before l ↦
+        let read = hole_read link l in
+        let sums = ap (total size_of) l.is ∙ total-append l.front (Hole l.size ∷ l.behind) in
+        let e = u.place in
+        let f = l.place in
+        omega arith
+  ]
+
+  -- the block by its last link, and where that is a hole that ends there by the link before it
+  pub found_touching : (starts : List ℕ) → IsIndex starts h → (size from link : ℕ) → LastLink from u.before → word b (at + place) ≡ size → (from ≢ 4) × (from + word b (at + (from + 4)) ≡ place) → LinkBelow starts from link
+      → FoundBlock at h (place + 4) (record { place = place; size = size; used = true; from = from; low = from; link = link })
+  found_touching starts i size from link k read (ne, touches) below = elim k [
+    | none_before f n ↦ absurd (ne f)
+    | one_before l ↦
+        let rest = l.behind ++ Used u.bytes ∷ u.after in
+        let is : h.segments ≡ l.front ++ Hole l.size ∷ rest = u.is ∙ ap (λ x. x ++ Used u.bytes ∷ u.after) l.is ∙ append_assoc l.front (Hole l.size ∷ l.behind) (Used u.bytes ∷ u.after) in
+        found_behind size from link l (sym read ∙ size_read) touches (link_of starts h i s.heap.tidy l.front (Hole l.size ∷ rest) is from l.place link below)
+  ]
+
+  pub found_clear : (size from : ℕ) → LastLink from u.before → word b (at + place) ≡ size → (from ≢ 4 → from + word b (at + (from + 4)) ≢ place)
+      → FoundBlock at h (place + 4) (record { place = place; size = size; used = true; from = from; low = place; link = from })
+  found_clear size from k read apart = elim k [
+    | none_before f n ↦ subst (λ i. FoundBlock at h (place + 4) (record { place = place; size = size; used = true; from = i; low = place; link = i })) (sym f) (found_alone size (sym read ∙ size_read) n)
+    | one_before l ↦ found_apart size from l (sym read ∙ size_read) (apart (let r = hole_room from l in let a = r.1 in omega arith))
+  ]

@@ -10,7 +10,8 @@ use Rattle.rh_defs.specs.HeapParts.{HasRoom}
 use Rattle.rh_defs.proofs.HeapLists.{HasRoom-from_tidy, HasRoom-append, HasRoom-join, total-append, tidy_behind_used, tidy_behind_hole}
 use Rattle.rh_heap.specs.Segments.{GapIs, no_gap, a_gap, FoundBlock}
 use Rattle.rh_heap.specs.Holes.{FoundHole}
-use Rattle.rh_heap.specs.Ways.{resized_in}
+use Rattle.rh_heap.specs.Ways.{WayIs, WithBlock, resized_in}
+use Rattle.rh_heap.specs.declared.span.resize.Way.TheVariants as way
 use Rattle.rh_heap.specs.Starts.{bit, once, used_at, hole_at, IsIndex, Became, Noted}
 use Rattle.rh_heap.specs.declared.span.segments.Spot.{Spot}
 use Rattle.rh_heap.specs.declared.span.holes.Gap.{Gap}
@@ -18,7 +19,7 @@ use Rattle.rh_heap.specs.declared.span.starts.TheConstants.{USED, HOLES}
 use Rattle.rh_heap.proofs.ReleaseLaws.{released_is}
 use Rattle.rh_heap.proofs.ClaimLaws.{placed_found, placed_none}
 use Rattle.rh_heap.proofs.ResizeLaws.{length-fitted, IntoOf, TopOf, shrunk_is, widened_is}
-use Rattle.rh_heap.proofs.WayLaws.{cut_of}
+use Rattle.rh_heap.proofs.WayLaws.{cut_of, from_cut, WayFacts, if_stays, if_shrinks, if_into, if_top, if_to_hole, if_to_top, way_facts}
 use Rattle.rh_heap.proofs.MoveLaws.{placed_at}
 use Rattle.rh_heap.proofs.StartLaws.{once_same, once_apart, used_at-append, hole_at-append, used_at-low, hole_at-low, used_at-high, hole_at-high, HasUnits, units_of, units-append, units-total, used_with_hole, hole_noted}
 
@@ -93,6 +94,12 @@ module _ (at : ℕ) (h : Heap) (address : ℕ) (spot : Spot) (t : IsTidy false h
       let p = r.place_is in
       omega (arith, units-total passed (units-append passed (Used f.bytes ∷ f.after) (subst HasUnits (r.is ∙ ap (λ l. passed ++ l) f.rest_is) (units_of false h.segments t))).0)
 
+  pub low_even : spot.low % 8 ≡ 0
+  low_even =
+      let r = f.reached in
+      let low = r.low_is in
+      omega (arith, units-total r.front (units-append r.front (r.gap ++ r.rest) (subst HasUnits (r.is ∙ append_assoc r.front r.gap r.rest) (units_of false h.segments t))).0)
+
   pub release_index : (old mid new : List ℕ) (base' : ℕ) → IsIndex old h → Became USED (spot.place / 8) 0 old mid → Settled mid new spot.low (spot.place + spot.size) base' → length new ≡ length old
       → base' ≡ base (release address h) → IsIndex new (release address h)
   release_index old mid new base' i b n el eb =
@@ -134,12 +141,12 @@ module _ (at : ℕ) (h : Heap) (address : ℕ) (spot : Spot) (t : IsTidy false h
       }) n
 
 -- ---- claims
-module _ (at : ℕ) (h : Heap) (t : ℕ) (gap : Gap) (f : FoundHole at h t gap) (bs : List ℕ) (et : t ≡ 4 + length bs) (tidy : IsTidy false h.segments) where
-  pub hole_even : gap.place % 8 ≡ 0
-  hole_even =
-      let p = f.place_is in
-      omega (arith, units-total f.before (units-append f.before (Hole gap.size ∷ f.after) (subst HasUnits f.is (units_of false h.segments tidy))).0)
+pub hole_even : (at : ℕ) (h : Heap) (t : ℕ) (gap : Gap) → FoundHole at h t gap → IsTidy false h.segments → gap.place % 8 ≡ 0
+hole_even at h t gap f tidy =
+    let p = f.place_is in
+    omega (arith, units-total f.before (units-append f.before (Hole gap.size ∷ f.after) (subst HasUnits f.is (units_of false h.segments tidy))).0)
 
+module _ (at : ℕ) (h : Heap) (t : ℕ) (gap : Gap) (f : FoundHole at h t gap) (bs : List ℕ) (et : t ≡ 4 + length bs) (tidy : IsTidy false h.segments) where
   pub fill_index : (old one mid new : List ℕ) (base' : ℕ) → IsIndex old h → Became USED (gap.place / 8) 1 old one → Became HOLES (gap.place / 8) 0 one mid → Settled mid new (gap.place + t) (gap.place + gap.size) base'
       → length new ≡ length old → base' ≡ base (placed bs h).heap → IsIndex new (placed bs h).heap
   fill_index old one mid new base' i b c n el eb =
@@ -152,7 +159,7 @@ module _ (at : ℕ) (h : Heap) (t : ℕ) (gap : Gap) (f : FoundHole at h t gap) 
       let behind = tidy_behind_hole false f.before gap.size f.after (subst (IsTidy false) f.is tidy) in
       let rooms = HasRoom-append f.before (Hole gap.size ∷ f.after) (HasRoom-from_tidy false (f.before ++ Hole gap.size ∷ f.after) (subst (IsTidy false) f.is tidy)) in
       let big = rooms.1.0 in
-      let even = hole_even in
+      let even = hole_even at h t gap f tidy in
       let done = placed_found at h t gap f bs et in
       let segments_are : (placed bs h).heap.segments ≡ front ++ with_hole (upper - low) f.after =
           ap (λ (p : Placed). p.heap.segments) done ∙ ap (λ n. f.before ++ Used bs ∷ with_hole n f.after) (let e : gap.size - (4 + length bs) ≡ upper - low = omega arith in e)
@@ -249,6 +256,21 @@ module _ (b : List ℕ) (at : ℕ) (h : Heap) (spot : Spot) (s : Spells b at h) 
   hole_whole p = ap (hole_at p 16) here_is ∙ hole_at-append p 16 passed (Used f.bytes ∷ f.after)
       ∙ ap (λ q. hole_at p 16 passed + hole_at p (q + (4 + length f.bytes)) f.after) (sym f.reached.place_is)
       ∙ ap (λ n. hole_at p 16 passed + hole_at p (spot.place + n) f.after) (sym f.size_is)
+
+  -- which way it is
+  shorter_of : (v : heap.Way) → WayFacts t (4 + length f.bytes) f.after h v → WayIs v way.Shrinks → t < 4 + length f.bytes
+  shorter_of heap.Stays (if_stays _) k = elim k [ ]
+  shorter_of heap.Shrinks (if_shrinks l) k = l
+  shorter_of (heap.GrowsIntoHole n rest) (if_into _ _ _ _ _) k = elim k [ ]
+  shorter_of heap.GrowsAtTop (if_top _ _) k = elim k [ ]
+  shorter_of (heap.MovesToHole hole) (if_to_hole _ _ _) k = elim k [ ]
+  shorter_of heap.MovesToTop (if_to_top _ _) k = elim k [ ]
+
+  pub shrinks_shorter : WithBlock spot h (λ q. WayIs (way_to t q h) way.Shrinks) → t < spot.size
+  shrinks_shorter w =
+      let z = f.size_is in
+      let l = shorter_of (way_to t (cut_of at h spot f) h) (way_facts t (cut_of at h spot f) h) (from_cut at h spot f (λ q. WayIs (way_to t q h) way.Shrinks) w) in
+      omega arith
 
   -- a block that gets shorter
   pub shrink_index : (old new : List ℕ) (base' : ℕ) → t % 8 ≡ 0 → t < spot.size → IsIndex old h → Settled old new (spot.place + t) (spot.place + spot.size) base' → length new ≡ length old

@@ -20,3 +20,4 @@ pub mod BitLaws
 pub mod StartLaws
 pub mod IndexLaws
 pub mod KeepLaws
+pub mod MapLaws

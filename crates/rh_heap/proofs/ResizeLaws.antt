@@ -148,6 +148,9 @@ module _ (b : List ℕ) (at : ℕ) (h : Heap) (spot : Spot) (s : Spells b at h) 
     tidy_rest : (room % 8 ≡ 0) × IsTidy true i.rest
     tidy_rest = tidy_behind_hole false (passed ++ Used f.bytes ∷ []) room i.rest (subst (IsTidy false) (whole ∙ sym (append_assoc passed (Used f.bytes ∷ []) (Hole room ∷ i.rest))) s.heap.tidy)
 
+    pub widen_even : room % 8 ≡ 0
+    widen_even = tidy_rest.0
+
     pub hole_inside : spot.place + spot.size + room ≤ base h
     hole_inside =
         let p = f.reached.place_is in

@@ -16,12 +16,12 @@ once_apart p q ne = cond_false (eqb p q) 1 0 (eqb_apart p q ne)
 
 -- ---- lists that are cut
 pub used_at-append : (p q : ℕ) (xs ys : List Segment) → used_at p q (xs ++ ys) ≡ used_at p q xs + used_at p (q + total size_of xs) ys
-used_at-append p q [] ys = rw (let e : q + 0 ≡ q = omega arith in e) refl
+used_at-append p q [] ys = omega (arith, ap (λ i. used_at p i ys) (let e : q + 0 ≡ q = omega arith in e))
 used_at-append p q (Used bs ∷ xs) ys = omega (arith, used_at-append p (q + (4 + length bs)) xs ys, ap (λ i. used_at p i ys) (let e : q + (4 + length bs) + total size_of xs ≡ q + (4 + length bs + total size_of xs) = omega arith in e))
 used_at-append p q (Hole n ∷ xs) ys = omega (arith, used_at-append p (q + n) xs ys, ap (λ i. used_at p i ys) (let e : q + n + total size_of xs ≡ q + (n + total size_of xs) = omega arith in e))
 
 pub hole_at-append : (p q : ℕ) (xs ys : List Segment) → hole_at p q (xs ++ ys) ≡ hole_at p q xs + hole_at p (q + total size_of xs) ys
-hole_at-append p q [] ys = rw (let e : q + 0 ≡ q = omega arith in e) refl
+hole_at-append p q [] ys = omega (arith, ap (λ i. hole_at p i ys) (let e : q + 0 ≡ q = omega arith in e))
 hole_at-append p q (Used bs ∷ xs) ys = omega (arith, hole_at-append p (q + (4 + length bs)) xs ys, ap (λ i. hole_at p i ys) (let e : q + (4 + length bs) + total size_of xs ≡ q + (4 + length bs + total size_of xs) = omega arith in e))
 hole_at-append p q (Hole n ∷ xs) ys = omega (arith, hole_at-append p (q + n) xs ys, ap (λ i. hole_at p i ys) (let e : q + n + total size_of xs ≡ q + (n + total size_of xs) = omega arith in e))
 

@@ -1,6 +1,7 @@
 //! Calls on a heap beside which a map of its segments' beginnings is kept: a block is found by one bit, and the hole
 //! before it by the bits below. Their answers and what they leave in the heap's bytes are those of the calls that walk.
-ghost use Rattle.std.specs.Prelude.{◌≡◌, ◌≢◌, ℕ, ◌+◌, ◌*◌, ◌/◌, ◌%◌, ◌^◌, ◌<◌, ◌≤◌, length, None, MatchOption, MatchResult, OnErr, ok_or};
+ghost use Rattle.std.specs.Prelude.{◌≡◌, ◌≢◌, ℕ, ◌+◌, ◌*◌, ◌/◌, ◌%◌, ◌^◌, ◌<◌, ◌≤◌, length, true, false, None, MatchOption, MatchResult, OnErr, ok_or};
+ghost use Rattle.rh_defs.specs.Bytes.{word};
 ghost use Rattle.rh_defs.specs.Memory.{Memory, IsOpen, bytes};
 ghost use Rattle.rh_defs.specs.Chain.{no_answer};
 ghost use Rattle.rh_defs.specs.Heap.{hole_for, shortage_in, block_at, block_size, base, claim, released_at, resize, need_at};
@@ -10,8 +11,8 @@ ghost use Rattle.rh_heap.specs.Claims.{Took};
 ghost use Rattle.rh_heap.specs.Segments.{FoundBlock};
 ghost use Rattle.rh_heap.specs.Starts.{bit, IsIndex, Noted};
 ghost use Rattle.rh_heap.specs.Ways.{Changed, NotChanged, WithBlock, Moved};
-ghost use Rattle.rh_defs.specs.declared.sizes.TheConstants.{HEAP_UNIT};
-ghost use Rattle.rh_heap.specs.declared.layout.TheConstants.{BLOCK};
+ghost use Rattle.rh_defs.specs.declared.sizes.TheConstants.{HEAP_FREE, HEAP_UNIT, WORD};
+ghost use Rattle.rh_heap.specs.declared.layout.TheConstants.{BLOCK, HOLE_SIZE};
 ghost use Rattle.rh_heap.specs.declared.span.starts.TheConstants.{HOLES, LINE_BYTES, USED};
 
 use crate::layout::{BLOCK, HOLE_SIZE};
@@ -52,6 +53,17 @@ pub fn index<S: Words>(store: &S, span: Span, starts: &mut [u64])
     }
 }
 
+/// Whether the hole to which the last link below a place leads ends at that place.
+fn ends_at<S: Words>(store: &S, span: Span, from: usize, place: usize) -> bool
+    requires opened { IsOpen (S.memory store.now) span.area.0 }
+    requires within { span.at + (from + HOLE_SIZE) + WORD ≤ length (bytes_in (S.memory store.now) span) }
+    requires below { from ≢ HEAP_FREE → from + word (bytes_in (S.memory store.now) span) (span.at + (from + HOLE_SIZE)) ≤ place }
+    ensures touches { result ≡ true → (from ≢ HEAP_FREE) × (from + word (bytes_in (S.memory store.now) span) (span.at + (from + HOLE_SIZE)) ≡ place) }
+    ensures apart { result ≡ false → from ≢ HEAP_FREE → from + word (bytes_in (S.memory store.now) span) (span.at + (from + HOLE_SIZE)) ≢ place }
+{
+    from != HEAP_FREE && from + read(store, span, from + HOLE_SIZE) == place
+}
+
 /// The segment of the block whose segment begins at a place where the map has a bit set for it.
 fn spot_at<S: Words>(store: &S, span: Span, starts: &[u64], place: usize) -> Spot
     requires span { IsSpan (S.memory store.now) span }
@@ -62,23 +74,25 @@ fn spot_at<S: Words>(store: &S, span: Span, starts: &[u64], place: usize) -> Spo
 {
     let size = read(store, span, place);
     let from = link_below(starts, place);
-    if from != HEAP_FREE && from + read(store, span, from + HOLE_SIZE) == place {
-        return Spot {
+    if ends_at(store, span, from, place) {
+        let link = link_below(starts, from);
+        Spot {
             place,
             size,
             used: true,
             from,
             low: from,
-            link: link_below(starts, from),
-        };
-    }
-    Spot {
-        place,
-        size,
-        used: true,
-        from,
-        low: place,
-        link: from,
+            link,
+        }
+    } else {
+        Spot {
+            place,
+            size,
+            used: true,
+            from,
+            low: place,
+            link: from,
+        }
     }
 }
 
