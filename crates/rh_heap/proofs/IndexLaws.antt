@@ -92,8 +92,7 @@ link_at at link xs r k = elim k [
       let p = l.place in
       let q = at + 16 + total size_of l.front in
       let big = (HasRoom-append l.front (Hole n ∷ l.behind) (subst HasRoom l.is r)).1.0 in
-      let sums = ap (total size_of) l.is ∙ total-append l.front (Hole n ∷ l.behind) in
-      (
+      let sums = ap (total size_of) l.is ∙ total-append l.front (Hole n ∷ l.behind) in (
         omega (arith, ap (last_link (at + 4) (at + 16)) l.is ∙ last_link-append (at + 4) (at + 16) l.front (Hole n ∷ l.behind) ∙ last_link-none q (q + n) l.behind l.none),
         omega arith,
       )
@@ -210,7 +209,7 @@ module _ (b : List ℕ) (at : ℕ) (h : Heap) (s : Spells b at h) (place : ℕ) 
       let cut : u.before ≡ l.front ++ Hole l.size ∷ [] = l.is ∙ ap (λ x. l.front ++ Hole l.size ∷ x) none in
       let links = link_at at link l.front rooms.0 k in
       let tidy = tidy_before false l.front l.size (l.behind ++ Used u.bytes ∷ u.after)
-          (subst (IsTidy false) (u.is ∙ ap (λ x. x ++ Used u.bytes ∷ u.after) l.is ∙ append_assoc l.front (Hole l.size ∷ l.behind) (Used u.bytes ∷ u.after)) s.heap.tidy) in
+      (subst (IsTidy false) (u.is ∙ ap (λ x. x ++ Used u.bytes ∷ u.after) l.is ∙ append_assoc l.front (Hole l.size ∷ l.behind) (Used u.bytes ∷ u.after)) s.heap.tidy) in
       found_from size link from from l.front (Hole l.size ∷ []) cut es (a_gap l.size (omega arith) refl) f links.0
       (omega (arith, last_link-append (at + 4) (at + 16) l.front (Hole l.size ∷ []))) tidy (omega (arith, links.1)) (let big = rooms.1.0 in omega arith)
 
@@ -254,12 +253,12 @@ module _ (b : List ℕ) (at : ℕ) (h : Heap) (s : Spells b at h) (place : ℕ) 
   -- the block by its last link, and where that is a hole that ends there by the link before it
   pub found_touching : (starts : List ℕ) → IsIndex starts h → (size from link : ℕ) → LastLink from u.before → word b (at + place) ≡ size → (from ≢ 4) × (from + word b (at + (from + 4)) ≡ place) → LinkBelow starts from link
       → FoundBlock at h (place + 4) (record { place = place; size = size; used = true; from = from; low = from; link = link })
-  found_touching starts i size from link k read (ne, touches) below = elim k [
-    | none_before f n ↦ absurd (ne f)
+  found_touching starts i size from link k read both below = elim k [
+    | none_before f n ↦ absurd (both.0 f)
     | one_before l ↦
         let rest = l.behind ++ Used u.bytes ∷ u.after in
         let is : h.segments ≡ l.front ++ Hole l.size ∷ rest = u.is ∙ ap (λ x. x ++ Used u.bytes ∷ u.after) l.is ∙ append_assoc l.front (Hole l.size ∷ l.behind) (Used u.bytes ∷ u.after) in
-        found_behind size from link l (sym read ∙ size_read) touches (link_of starts h i s.heap.tidy l.front (Hole l.size ∷ rest) is from l.place link below)
+        found_behind size from link l (sym read ∙ size_read) both.1 (link_of starts h i s.heap.tidy l.front (Hole l.size ∷ rest) is from l.place link below)
   ]
 
   pub found_clear : (size from : ℕ) → LastLink from u.before → word b (at + place) ≡ size → (from ≢ 4 → from + word b (at + (from + 4)) ≢ place)

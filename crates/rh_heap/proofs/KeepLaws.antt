@@ -36,16 +36,16 @@ pub record Open (mid : List ℕ) (front after : List Segment) (low upper : ℕ) 
 same_mark : (p low upper base v x w front y : ℕ) → Noted p low upper base v w → Noted p low upper base x y → (p ≡ low → front ≡ 0) → (p ≡ upper → front ≡ 0) → (p ≢ low → p ≢ upper → v ≡ front + x) → w ≡ front + y
 same_mark p low upper base v x w front y m n at_low at_upper beside = elim (cases_eq p low) [
   | inl here ↦ elim (cases_lt low upper) [
-      | inl some ↦ elim (cases_lt low base) [
-          | inl more ↦ omega (arith, m.begins here some more, n.begins here some more, at_low here)
-          | inr none ↦ omega (arith, m.top here none, n.top here none, at_low here)
-        ]
-      | inr none ↦ omega (arith, m.closed here none, n.closed here none, at_low here)
+    | inl some ↦ elim (cases_lt low base) [
+      | inl more ↦ omega (arith, m.begins here some more, n.begins here some more, at_low here)
+      | inr none ↦ omega (arith, m.top here none, n.top here none, at_low here)
     ]
+    | inr none ↦ omega (arith, m.closed here none, n.closed here none, at_low here)
+  ]
   | inr off ↦ elim (cases_eq p upper) [
-      | inl here ↦ omega (arith, m.joins off here, n.joins off here, at_upper here)
-      | inr apart ↦ omega (arith, m.stays off apart, n.stays off apart, beside off apart)
-    ]
+    | inl here ↦ omega (arith, m.joins off here, n.joins off here, at_upper here)
+    | inr apart ↦ omega (arith, m.stays off apart, n.stays off apart, beside off apart)
+  ]
 ]
 
 pub settled : (mid new : List ℕ) (k : Heap) (front after : List Segment) (low upper base' : ℕ) → k.segments ≡ front ++ with_hole (upper - low) after → low ≡ 16 + total size_of front → low ≤ upper → (low ≡ upper → IsTidy true after)
@@ -53,11 +53,11 @@ pub settled : (mid new : List ℕ) (k : Heap) (front after : List Segment) (low 
 settled mid new k front after low upper base' is at le closed room room' eb long o n =
     let rest = with_hole (upper - low) after in
     let used_is : (p : ℕ) → used_at p 16 k.segments ≡ used_at p 16 front + used_at p upper after =
-        λ p. ap (used_at p 16) is ∙ used_at-append p 16 front rest
-        ∙ ap (λ q. used_at p 16 front + used_at p q rest) (sym at)
-        ∙ ap (λ n. used_at p 16 front + n) (used_with_hole p low (upper - low) after ∙ ap (λ q. used_at p q after) (let e : low + (upper - low) ≡ upper = omega arith in e)) in
+    λ p. ap (used_at p 16) is ∙ used_at-append p 16 front rest
+    ∙ ap (λ q. used_at p 16 front + used_at p q rest) (sym at)
+    ∙ ap (λ n. used_at p 16 front + n) (used_with_hole p low (upper - low) after ∙ ap (λ q. used_at p q after) (let e : low + (upper - low) ≡ upper = omega arith in e)) in
     let hole_is : (p : ℕ) → hole_at p 16 k.segments ≡ hole_at p 16 front + hole_at p low rest =
-        λ p. ap (hole_at p 16) is ∙ hole_at-append p 16 front rest ∙ ap (λ q. hole_at p 16 front + hole_at p q rest) (sym at) in
+    λ p. ap (hole_at p 16) is ∙ hole_at-append p 16 front rest ∙ ap (λ q. hole_at p 16 front + hole_at p q rest) (sym at) in
     let based : low + total size_of rest ≡ base' = omega (arith, ap (total size_of) is, total-append front rest) in
     record {
       long = long;
@@ -121,11 +121,11 @@ module _ (at : ℕ) (h : Heap) (address : ℕ) (spot : Spot) (t : IsTidy false h
       let upper_is : spot.place + (4 + length bs) ≡ upper = ap (λ n. spot.place + n) (sym size) in
       let done = released_is at h address spot t f in
       let used_is : (p : ℕ) → used_at p 16 h.segments ≡ used_at p 16 r.front + (once p spot.place + used_at p upper f.after) =
-          λ p. ap (used_at p 16) is' ∙ used_at-append p 16 r.front (r.gap ++ Used bs ∷ f.after) ∙ ap (λ q. used_at p 16 r.front + used_at p q (r.gap ++ Used bs ∷ f.after)) (sym low)
-          ∙ ap (λ n. used_at p 16 r.front + n) (gap_used p spot.low spot.place spot.link spot.from r.gap bs f.after r.gap_is ∙ ap (λ q. once p spot.place + used_at p q f.after) upper_is) in
+      λ p. ap (used_at p 16) is' ∙ used_at-append p 16 r.front (r.gap ++ Used bs ∷ f.after) ∙ ap (λ q. used_at p 16 r.front + used_at p q (r.gap ++ Used bs ∷ f.after)) (sym low)
+      ∙ ap (λ n. used_at p 16 r.front + n) (gap_used p spot.low spot.place spot.link spot.from r.gap bs f.after r.gap_is ∙ ap (λ q. once p spot.place + used_at p q f.after) upper_is) in
       let hole_is : (p : ℕ) → p ≢ spot.low → hole_at p 16 h.segments ≡ hole_at p 16 r.front + hole_at p upper f.after =
-          λ p off. ap (hole_at p 16) is' ∙ hole_at-append p 16 r.front (r.gap ++ Used bs ∷ f.after) ∙ ap (λ q. hole_at p 16 r.front + hole_at p q (r.gap ++ Used bs ∷ f.after)) (sym low)
-          ∙ ap (λ n. hole_at p 16 r.front + n) (gap_holes p spot.low spot.place spot.link spot.from r.gap bs f.after r.gap_is off ∙ ap (λ q. hole_at p q f.after) upper_is) in
+      λ p off. ap (hole_at p 16) is' ∙ hole_at-append p 16 r.front (r.gap ++ Used bs ∷ f.after) ∙ ap (λ q. hole_at p 16 r.front + hole_at p q (r.gap ++ Used bs ∷ f.after)) (sym low)
+      ∙ ap (λ n. hole_at p 16 r.front + n) (gap_holes p spot.low spot.place spot.link spot.from r.gap bs f.after r.gap_is off ∙ ap (λ q. hole_at p q f.after) upper_is) in
       let long = i.long in
       settled mid new (release address h) r.front f.after spot.low upper base' (ap (λ (k : Heap). k.segments) done) low (omega arith) (λ z. absurd (omega arith)) room (HasRoom-from_tidy false f.after behind.1) eb
       (let en : (release address h).end ≡ h.end = ap (λ (k : Heap). k.end) done in let half = ap (λ x. 512 * (x / 2)) el in omega arith)
@@ -162,15 +162,15 @@ module _ (at : ℕ) (h : Heap) (t : ℕ) (gap : Gap) (f : FoundHole at h t gap) 
       let even = hole_even at h t gap f tidy in
       let done = placed_found at h t gap f bs et in
       let segments_are : (placed bs h).heap.segments ≡ front ++ with_hole (upper - low) f.after =
-          ap (λ (p : Placed). p.heap.segments) done ∙ ap (λ n. f.before ++ Used bs ∷ with_hole n f.after) (let e : gap.size - (4 + length bs) ≡ upper - low = omega arith in e)
-          ∙ sym (append_assoc f.before (Used bs ∷ []) (with_hole (upper - low) f.after)) in
+      ap (λ (p : Placed). p.heap.segments) done ∙ ap (λ n. f.before ++ Used bs ∷ with_hole n f.after) (let e : gap.size - (4 + length bs) ≡ upper - low = omega arith in e)
+      ∙ sym (append_assoc f.before (Used bs ∷ []) (with_hole (upper - low) f.after)) in
       let p8 : 8 * (gap.place / 8) ≡ gap.place = omega arith in
       let used_is : (p : ℕ) → used_at p 16 h.segments ≡ used_at p 16 f.before + used_at p upper f.after =
-          λ p. ap (used_at p 16) f.is ∙ used_at-append p 16 f.before (Hole gap.size ∷ f.after) ∙ ap (λ q. used_at p 16 f.before + used_at p (q + gap.size) f.after) (sym place) in
+      λ p. ap (used_at p 16) f.is ∙ used_at-append p 16 f.before (Hole gap.size ∷ f.after) ∙ ap (λ q. used_at p 16 f.before + used_at p (q + gap.size) f.after) (sym place) in
       let hole_is : (p : ℕ) → hole_at p 16 h.segments ≡ hole_at p 16 f.before + (once p gap.place + hole_at p upper f.after) =
-          λ p. ap (hole_at p 16) f.is ∙ hole_at-append p 16 f.before (Hole gap.size ∷ f.after) ∙ ap (λ q. hole_at p 16 f.before + (once p q + hole_at p (q + gap.size) f.after)) (sym place) in
+      λ p. ap (hole_at p 16) f.is ∙ hole_at-append p 16 f.before (Hole gap.size ∷ f.after) ∙ ap (λ q. hole_at p 16 f.before + (once p q + hole_at p (q + gap.size) f.after)) (sym place) in
       let front_used : (p : ℕ) → used_at p 16 front ≡ used_at p 16 f.before + once p gap.place =
-          λ p. used_at-append p 16 f.before (Used bs ∷ []) ∙ omega (arith, ap (once p) place) in
+      λ p. used_at-append p 16 f.before (Used bs ∷ []) ∙ omega (arith, ap (once p) place) in
       let front_hole : (p : ℕ) → hole_at p 16 front ≡ hole_at p 16 f.before = λ p. omega (arith, hole_at-append p 16 f.before (Used bs ∷ [])) in
       let long = i.long in
       settled mid new (placed bs h).heap front f.after low upper base' segments_are (omega arith) (omega arith) (λ z. behind.1) (HasRoom-join f.before (Used bs ∷ []) rooms.0 tt) rooms.1.1 eb
@@ -203,9 +203,9 @@ module _ (at : ℕ) (h : Heap) (t : ℕ) (none : hole_for t h.segments ≡ None)
       let e : (placed bs h).heap.segments ≡ h.segments ++ Used bs ∷ [] = ap (λ (p : Placed). p.heap.segments) done in
       let even = base_even in
       let used_is : (p : ℕ) → used_at p 16 (placed bs h).heap.segments ≡ used_at p 16 h.segments + once p (base h) =
-          λ p. ap (used_at p 16) e ∙ used_at-append p 16 h.segments (Used bs ∷ []) ∙ omega arith in
+      λ p. ap (used_at p 16) e ∙ used_at-append p 16 h.segments (Used bs ∷ []) ∙ omega arith in
       let hole_is : (p : ℕ) → hole_at p 16 (placed bs h).heap.segments ≡ hole_at p 16 h.segments =
-          λ p. ap (hole_at p 16) e ∙ hole_at-append p 16 h.segments (Used bs ∷ []) ∙ omega arith in
+      λ p. ap (hole_at p 16) e ∙ hole_at-append p 16 h.segments (Used bs ∷ []) ∙ omega arith in
       let long = i.long in
       record {
         long = (let en : (placed bs h).heap.end ≡ h.end = ap (λ (p : Placed). p.heap.end) done in let half = ap (λ x. 512 * (x / 2)) el in omega arith);
@@ -339,13 +339,13 @@ other_bytes starts h t bs cs eb ec i =
     let two = p.is cs ec in
     let long = i.long in
     let used_same : (k : ℕ) → used_at k 16 (p.front ++ Used bs ∷ p.rest) ≡ used_at k 16 (p.front ++ Used cs ∷ p.rest) =
-        λ k. used_at-append k 16 p.front (Used bs ∷ p.rest)
-        ∙ ap (λ n. used_at k 16 p.front + (once k (16 + total size_of p.front) + used_at k (16 + total size_of p.front + n) p.rest)) (let e : 4 + length bs ≡ 4 + length cs = omega arith in e)
-        ∙ sym (used_at-append k 16 p.front (Used cs ∷ p.rest)) in
+    λ k. used_at-append k 16 p.front (Used bs ∷ p.rest)
+    ∙ ap (λ n. used_at k 16 p.front + (once k (16 + total size_of p.front) + used_at k (16 + total size_of p.front + n) p.rest)) (let e : 4 + length bs ≡ 4 + length cs = omega arith in e)
+    ∙ sym (used_at-append k 16 p.front (Used cs ∷ p.rest)) in
     let hole_same : (k : ℕ) → hole_at k 16 (p.front ++ Used bs ∷ p.rest) ≡ hole_at k 16 (p.front ++ Used cs ∷ p.rest) =
-        λ k. hole_at-append k 16 p.front (Used bs ∷ p.rest)
-        ∙ ap (λ n. hole_at k 16 p.front + hole_at k (16 + total size_of p.front + n) p.rest) (let e : 4 + length bs ≡ 4 + length cs = omega arith in e)
-        ∙ sym (hole_at-append k 16 p.front (Used cs ∷ p.rest)) in
+    λ k. hole_at-append k 16 p.front (Used bs ∷ p.rest)
+    ∙ ap (λ n. hole_at k 16 p.front + hole_at k (16 + total size_of p.front + n) p.rest) (let e : 4 + length bs ≡ 4 + length cs = omega arith in e)
+    ∙ sym (hole_at-append k 16 p.front (Used cs ∷ p.rest)) in
     record {
       long = omega (arith, ap (λ (r : Placed). r.heap.end) one, ap (λ (r : Placed). r.heap.end) two);
       used = λ j. i.used j ∙ ap (λ (r : Placed). used_at (8 * j) 16 r.heap.segments) one ∙ used_same (8 * j) ∙ sym (ap (λ (r : Placed). used_at (8 * j) 16 r.heap.segments) two);

@@ -51,7 +51,7 @@ pub record MapTurn (b starts : List ℕ) (at : ℕ) (h : Heap) (from place next 
   pub used : next ≢ place → (size : ℕ) → size ≡ word b (at + place) → (new : List ℕ) → Became USED (place / 8) 1 starts new → Mapped new at h from (place + size) × (8 ≤ size)
 
 module _ (starts : List ℕ) (passed : List Segment) (place : ℕ) (at_place : place ≡ 16 + total size_of passed) (even : place % 8 ≡ 0)
-  (used : (j : ℕ) → bit USED starts j ≡ used_at (8 * j) 16 passed) (holes : (j : ℕ) → bit HOLES starts j ≡ hole_at (8 * j) 16 passed) (new : List ℕ) where
+    (used : (j : ℕ) → bit USED starts j ≡ used_at (8 * j) 16 passed) (holes : (j : ℕ) → bit HOLES starts j ≡ hole_at (8 * j) 16 passed) (new : List ℕ) where
   more_used : (bs : List ℕ) → Became USED (place / 8) 1 starts new → (j : ℕ) → (bit USED new j ≡ used_at (8 * j) 16 (passed ++ Used bs ∷ [])) × (bit HOLES new j ≡ hole_at (8 * j) 16 (passed ++ Used bs ∷ []))
   more_used bs b j =
       let here = ap (once (8 * j)) at_place in (
@@ -86,33 +86,33 @@ map_turn b starts at h from place next s m k lt =
     let even : place % 8 ≡ 0 = omega arith in
     elim (next_segment_at b at h m.link m.low from place next r r.rest refl s k lt) [
       | next_used bs ys off read fits least on cut ↦ record {
-          room = omega arith;
-          hole = λ e. absurd (off e);
-          used = λ ne size es new c. (
-            subst (λ i. Mapped new at h from (place + i)) (sym (es ∙ read)) (record {
-              link = from;
-              low = place + (4 + length bs);
-              reached = on;
-              used = λ j. (more_used starts passed place p even m.used m.holes new bs c j).0 ∙ ap (used_at (8 * j) 16) (sym cut);
-              holes = λ j. (more_used starts passed place p even m.used m.holes new bs c j).1 ∙ ap (hole_at (8 * j) 16) (sym cut);
-            }),
-            omega arith,
-          );
-        }
+        room = omega arith;
+        hole = λ e. absurd (off e);
+        used = λ ne size es new c. (
+          subst (λ i. Mapped new at h from (place + i)) (sym (es ∙ read)) (record {
+            link = from;
+            low = place + (4 + length bs);
+            reached = on;
+            used = λ j. (more_used starts passed place p even m.used m.holes new bs c j).0 ∙ ap (used_at (8 * j) 16) (sym cut);
+            holes = λ j. (more_used starts passed place p even m.used m.holes new bs c j).1 ∙ ap (hole_at (8 * j) 16) (sym cut);
+          }),
+          omega arith,
+        );
+      }
       | next_hole n ys on_it read fits least on cut ↦ record {
-          room = omega arith;
-          used = λ ne. absurd (ne on_it);
-          hole = λ e size es new c. (
-            subst (λ i. Mapped new at h place (place + i)) (sym (es ∙ read)) (record {
-              link = from;
-              low = place;
-              reached = on;
-              used = λ j. (more_hole starts passed place p even m.used m.holes new n room c j).0 ∙ ap (used_at (8 * j) 16) (sym cut);
-              holes = λ j. (more_hole starts passed place p even m.used m.holes new n room c j).1 ∙ ap (hole_at (8 * j) 16) (sym cut);
-            }),
-            omega arith,
-          );
-        }
+        room = omega arith;
+        used = λ ne. absurd (ne on_it);
+        hole = λ e size es new c. (
+          subst (λ i. Mapped new at h place (place + i)) (sym (es ∙ read)) (record {
+            link = from;
+            low = place;
+            reached = on;
+            used = λ j. (more_hole starts passed place p even m.used m.holes new n room c j).0 ∙ ap (used_at (8 * j) 16) (sym cut);
+            holes = λ j. (more_hole starts passed place p even m.used m.holes new n room c j).1 ∙ ap (hole_at (8 * j) 16) (sym cut);
+          }),
+          omega arith,
+        );
+      }
     ]
 
 -- at the base all are passed

@@ -132,19 +132,19 @@ last_of p q (Hole n ∷ ss) u m o z =
     let e = u.0 in
     elim (cases_eq p q) [
       | inl same ↦ record {
-          front = [];
-          size = n;
-          behind = ss;
-          is = refl;
-          place = omega arith;
-          none = no_holes (q + n) ss u.1 (omega arith) (λ j. elim (cases_lt p (8 * j)) [
-            | inl l ↦ let none = z j l in omega arith
-            | inr l ↦ elim (cases_lt (8 * j) (q + n)) [
-                | inl below ↦ hole_at-low (8 * j) (q + n) ss below
-                | inr on ↦ let alone = once_same p q same in let f = ap (λ i. hole_at i (q + n) ss) (let s : 8 * j ≡ p = omega arith in s) in omega arith
-              ]
-          ]);
-        }
+        front = [];
+        size = n;
+        behind = ss;
+        is = refl;
+        place = omega arith;
+        none = no_holes (q + n) ss u.1 (omega arith) (λ j. elim (cases_lt p (8 * j)) [
+          | inl l ↦ let none = z j l in omega arith
+          | inr l ↦ elim (cases_lt (8 * j) (q + n)) [
+            | inl below ↦ hole_at-low (8 * j) (q + n) ss below
+            | inr on ↦ let alone = once_same p q same in let f = ap (λ i. hole_at i (q + n) ss) (let s : 8 * j ≡ p = omega arith in s) in omega arith
+          ]
+        ]);
+      }
       | inr ne ↦
           let off = once_apart p q ne in
           let r = last_of p (q + n) ss u.1 (omega arith) (omega arith) (λ j l. let none = z j l in omega arith) in

@@ -174,12 +174,7 @@ pub fn release_in<S: Words>(
 }
 
 /// Puts a block of zeros into a segment of `size` bytes, in the first hole with room or above all segments.
-fn take_in<S: Words>(
-    store: &mut S,
-    span: Span,
-    starts: &mut [u64],
-    size: usize,
-) -> Option<usize>
+fn take_in<S: Words>(store: &mut S, span: Span, starts: &mut [u64], size: usize) -> Option<usize>
     requires span { IsSpan (S.memory store.old) span }
     requires starts { IsIndex starts.old (heap_in (S.memory store.old) span) }
     requires least { HEAP_UNIT ≤ size }
