@@ -41,15 +41,14 @@ pub fn index<S: Words>(store: &S, span: Span, starts: &mut [u64])
     let mut from = HEAP_FREE;
     let mut place = HEAP_FIRST;
     'walk: while place < base {
-        let size = if follow(store, span, from) == place {
+        if follow(store, span, from) == place {
             set(starts, HOLES, place / HEAP_UNIT);
             from = place;
-            read(store, span, place + HOLE_SIZE)
+            place += read(store, span, place + HOLE_SIZE);
         } else {
             set(starts, USED, place / HEAP_UNIT);
-            read(store, span, place)
-        };
-        place += size;
+            place += read(store, span, place);
+        }
     }
 }
 
