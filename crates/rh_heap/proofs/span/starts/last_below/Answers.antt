@@ -9,4 +9,4 @@ pub walk-preserved : goal.walk-preserved
 walk-preserved c = scan_next _ _ _ _ _ _ _ c.walk.invariant c.if-word-ne0.false (let ne = c.if-line-eq0.false in omega arith) (c.type_inv.starts _).fits refl
 
 pub returns-then-word-ne0 : goal.returns-then-word-ne0
-returns-then-word-ne0 c = scan_found _ _ _ _ _ _ c.walk.invariant c.if-word-ne0.true c.leading_zeros.ensures
+returns-then-word-ne0 c = scan_found _ _ _ _ _ _ c.walk.invariant c.if-word-ne0.true refl
