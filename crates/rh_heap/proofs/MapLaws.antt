@@ -76,44 +76,55 @@ module _ (starts : List ℕ) (passed : List Segment) (place : ℕ) (at_place : p
         ],
       )
 
+map_turn_at : (b starts : List ℕ) (at : ℕ) (h : Heap) (from place next : ℕ) (m : Mapped starts at h from place) → HasRoom (m.reached.front ++ m.reached.gap) → place % 8 ≡ 0 → (rest : List Segment)
+    → NextSegment b at h from place next (m.reached.front ++ m.reached.gap) rest → MapTurn b starts at h from place next
+map_turn_at b starts at h from place next m room even [] x = elim x [ ]
+map_turn_at b starts at h from place next m room even (Used bs ∷ ys) (next_used _ _ off read fits least on cut) =
+    let passed = m.reached.front ++ m.reached.gap in
+    let p = m.reached.place_is in
+    record {
+      room = omega arith;
+      hole = λ here. absurd (off here);
+      used = λ ne size es new c.
+          let more = more_used starts passed place p even m.used m.holes new bs c in (
+            subst (λ i. Mapped new at h from (place + i)) (sym (es ∙ read)) (record {
+              link = from;
+              low = place + (4 + length bs);
+              reached = on;
+              used = λ j. (more j).0 ∙ ap (used_at (8 * j) 16) (sym cut);
+              holes = λ j. (more j).1 ∙ ap (hole_at (8 * j) 16) (sym cut);
+            }),
+            omega arith,
+          );
+    }
+map_turn_at b starts at h from place next m room even (Hole n ∷ ys) (next_hole _ _ there read fits least on cut) =
+    let passed = m.reached.front ++ m.reached.gap in
+    let p = m.reached.place_is in
+    record {
+      room = omega arith;
+      used = λ off. absurd (off there);
+      hole = λ here size es new c.
+          let more = more_hole starts passed place p even m.used m.holes new n room c in (
+            subst (λ i. Mapped new at h place (place + i)) (sym (es ∙ read)) (record {
+              link = from;
+              low = place;
+              reached = on;
+              used = λ j. (more j).0 ∙ ap (used_at (8 * j) 16) (sym cut);
+              holes = λ j. (more j).1 ∙ ap (hole_at (8 * j) 16) (sym cut);
+            }),
+            omega arith,
+          );
+    }
+
 pub map_turn : (b starts : List ℕ) (at : ℕ) (h : Heap) (from place next : ℕ) → Spells b at h → Mapped starts at h from place → LinksTo b at (at + from) next → place < base h → MapTurn b starts at h from place next
 map_turn b starts at h from place next s m k lt =
     let r = m.reached in
     let passed = r.front ++ r.gap in
     let p = r.place_is in
-    let room = (HasRoom-append passed r.rest (HasRoom-from_tidy false (passed ++ r.rest) (subst (IsTidy false) r.is s.heap.tidy))).0 in
-    let units = units-total passed (units-append passed r.rest (units_of false (passed ++ r.rest) (subst (IsTidy false) r.is s.heap.tidy))).0 in
-    let even : place % 8 ≡ 0 = omega arith in
-    elim (next_segment_at b at h m.link m.low from place next r r.rest refl s k lt) [
-      | next_used bs ys off read fits least on cut ↦ record {
-        room = omega arith;
-        hole = λ e. absurd (off e);
-        used = λ ne size es new c. (
-          subst (λ i. Mapped new at h from (place + i)) (sym (es ∙ read)) (record {
-            link = from;
-            low = place + (4 + length bs);
-            reached = on;
-            used = λ j. (more_used starts passed place p even m.used m.holes new bs c j).0 ∙ ap (used_at (8 * j) 16) (sym cut);
-            holes = λ j. (more_used starts passed place p even m.used m.holes new bs c j).1 ∙ ap (hole_at (8 * j) 16) (sym cut);
-          }),
-          omega arith,
-        );
-      }
-      | next_hole n ys on_it read fits least on cut ↦ record {
-        room = omega arith;
-        used = λ ne. absurd (ne on_it);
-        hole = λ e size es new c. (
-          subst (λ i. Mapped new at h place (place + i)) (sym (es ∙ read)) (record {
-            link = from;
-            low = place;
-            reached = on;
-            used = λ j. (more_hole starts passed place p even m.used m.holes new n room c j).0 ∙ ap (used_at (8 * j) 16) (sym cut);
-            holes = λ j. (more_hole starts passed place p even m.used m.holes new n room c j).1 ∙ ap (hole_at (8 * j) 16) (sym cut);
-          }),
-          omega arith,
-        );
-      }
-    ]
+    let tidy = subst (IsTidy false) r.is s.heap.tidy in
+    let units = units-total passed (units-append passed r.rest (units_of false (passed ++ r.rest) tidy)).0 in
+    map_turn_at b starts at h from place next m (HasRoom-append passed r.rest (HasRoom-from_tidy false (passed ++ r.rest) tidy)).0 (omega arith) r.rest
+    (next_segment_at b at h m.link m.low from place next r r.rest refl s k lt)
 
 -- at the base all are passed
 pub mapped_all : (starts : List ℕ) (at : ℕ) (h : Heap) (from place : ℕ) → IsTidy false h.segments → Mapped starts at h from place → base h ≤ place → h.end ≤ 512 * (length starts / 2) → IsIndex starts h
