@@ -51,3 +51,33 @@ returns-clause-starts g c =
     let half = ap (λ n. 512 * (n / 2)) c.walk.invariant.long in
     let long = c.requires.long in
     mapped_all _ _ _ _ _ s.heap.tidy c.walk.invariant.mapped (omega arith) (omega arith)
+
+pub set-requires-clause-within : goal.set-requires-clause-within
+set-requires-clause-within g c =
+    let s = c.requires.span.spells in
+    let half = ap (λ n. 512 * (n / 2)) c.walk.invariant.long in
+    omega (arith, c.walk-test.true, c.read-base.ensures.value ∙ s.base, s.heap.fits, c.requires.long, half)
+
+pub set-requires-else-follow-place-clause-within : goal.set-requires-else-follow-place-clause-within
+set-requires-else-follow-place-clause-within g c =
+    let s = c.requires.span.spells in
+    let half = ap (λ n. 512 * (n / 2)) c.walk.invariant.long in
+    omega (arith, c.walk-test.true, c.read-base.ensures.value ∙ s.base, s.heap.fits, c.requires.long, half)
+
+pub walk-smaller-then-follow-place : goal.walk-smaller-then-follow-place
+walk-smaller-then-follow-place g c =
+    let s = c.requires.span.spells in
+    let lt = c.walk-test.true in
+    let based = c.read-base.ensures.value ∙ s.base in
+    let t = map_turn _ _ _ _ _ _ _ s c.walk.invariant.mapped c.follow.ensures (omega arith) in
+    let least = (t.hole c.if-follow-place.true _ c.read.ensures.value _ c.set.ensures.bits).1 in
+    omega arith
+
+pub walk-smaller : goal.walk-smaller
+walk-smaller g c =
+    let s = c.requires.span.spells in
+    let lt = c.walk-test.true in
+    let based = c.read-base.ensures.value ∙ s.base in
+    let t = map_turn _ _ _ _ _ _ _ s c.walk.invariant.mapped c.follow.ensures (omega arith) in
+    let least = (t.used c.if-follow-place.false _ c.read-else-follow-place.ensures.value _ c.set-else-follow-place.ensures.bits).1 in
+    omega arith
