@@ -29,9 +29,9 @@ pub record Mapped (starts : List ℕ) (at : ℕ) (h : Heap) (from place : ℕ) :
 pub no_bits : (lane n j : ℕ) → bit lane (replicate n 0) j ≡ 0
 no_bits lane n j = ap (λ w. bit_at w (j % 64)) (zero_at n (2 * (j / 64) + lane)) ∙ bit_at-zero (j % 64)
   where
-    zero_at : (n i : ℕ) → get_or (replicate n 0) i 0 ≡ 0
+    zero_at : (n i : ℕ) → get_or {A = ℕ} (replicate n 0) i 0 ≡ 0
     zero_at n i = elim (cases_lt i n) [
-      | inl l ↦ get_or-replicate n i 0 0 l
+      | inl l ↦ get_or-replicate {A = ℕ} n i 0 0 l
       | inr l ↦ get_or_past (replicate n 0) i 0 (omega (arith, length-replicate {A = ℕ} n 0))
     ]
 

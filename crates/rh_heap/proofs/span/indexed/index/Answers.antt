@@ -8,16 +8,16 @@ walk-init g c =
     let filled = c.fill.ensures.after (λ y e. e) in
     record { long = ap length filled ∙ length-replicate {A = ℕ} (length c.args.starts.now) 0; mapped = mapped_start _ _ _ _ filled }
 
-pub read-requires-clause-within : goal.read-requires-clause-within
-read-requires-clause-within g c =
+pub read-place-requires-clause-within : goal.read-place-requires-clause-within
+read-place-requires-clause-within g c =
     let s = c.requires.span.spells in
     let lt = c.walk-test.true in
     let based = c.read-base.ensures.value ∙ s.base in
     let t = map_turn _ _ _ _ _ _ _ s c.walk.invariant.mapped c.follow.ensures (omega arith) in
     omega (arith, t.room, s.heap.fits, s.within)
 
-pub read-requires-else-follow-place-clause-within : goal.read-requires-else-follow-place-clause-within
-read-requires-else-follow-place-clause-within g c =
+pub read-place-requires-else-follow-place-clause-within : goal.read-place-requires-else-follow-place-clause-within
+read-place-requires-else-follow-place-clause-within g c =
     let s = c.requires.span.spells in
     let lt = c.walk-test.true in
     let based = c.read-base.ensures.value ∙ s.base in
@@ -30,7 +30,7 @@ walk-preserved-then-follow-place g c =
     let lt = c.walk-test.true in
     let based = c.read-base.ensures.value ∙ s.base in
     let t = map_turn _ _ _ _ _ _ _ s c.walk.invariant.mapped c.follow.ensures (omega arith) in
-    record { long = c.set.ensures.long ∙ c.walk.invariant.long; mapped = (t.hole c.if-follow-place.true _ c.read.ensures.value _ c.set.ensures.bits).0 }
+    record { long = c.set.ensures.long ∙ c.walk.invariant.long; mapped = (t.hole c.if-follow-place.true _ c.read-place.ensures.value _ c.set.ensures.bits).0 }
 
 pub walk-preserved : goal.walk-preserved
 walk-preserved g c =
@@ -40,7 +40,7 @@ walk-preserved g c =
     let t = map_turn _ _ _ _ _ _ _ s c.walk.invariant.mapped c.follow.ensures (omega arith) in
     record {
       long = c.set-else-follow-place.ensures.long ∙ c.walk.invariant.long;
-      mapped = (t.used c.if-follow-place.false _ c.read-else-follow-place.ensures.value _ c.set-else-follow-place.ensures.bits).0;
+      mapped = (t.used c.if-follow-place.false _ c.read-place-else-follow-place.ensures.value _ c.set-else-follow-place.ensures.bits).0;
     }
 
 pub returns-clause-starts : goal.returns-clause-starts
@@ -70,7 +70,7 @@ walk-smaller-then-follow-place g c =
     let lt = c.walk-test.true in
     let based = c.read-base.ensures.value ∙ s.base in
     let t = map_turn _ _ _ _ _ _ _ s c.walk.invariant.mapped c.follow.ensures (omega arith) in
-    let least = (t.hole c.if-follow-place.true _ c.read.ensures.value _ c.set.ensures.bits).1 in
+    let least = (t.hole c.if-follow-place.true _ c.read-place.ensures.value _ c.set.ensures.bits).1 in
     omega arith
 
 pub walk-smaller : goal.walk-smaller
@@ -79,5 +79,5 @@ walk-smaller g c =
     let lt = c.walk-test.true in
     let based = c.read-base.ensures.value ∙ s.base in
     let t = map_turn _ _ _ _ _ _ _ s c.walk.invariant.mapped c.follow.ensures (omega arith) in
-    let least = (t.used c.if-follow-place.false _ c.read-else-follow-place.ensures.value _ c.set-else-follow-place.ensures.bits).1 in
+    let least = (t.used c.if-follow-place.false _ c.read-place-else-follow-place.ensures.value _ c.set-else-follow-place.ensures.bits).1 in
     omega arith
