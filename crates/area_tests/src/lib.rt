@@ -32,3 +32,5 @@ mod slot_images;
 mod stores;
 #[cfg(test)]
 mod transfers;
+#[cfg(test)]
+mod twin_heaps;

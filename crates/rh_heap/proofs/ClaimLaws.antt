@@ -133,7 +133,7 @@ walk_turn b at h t from place s w k =
 
 -- ---- a block in a hole
 module _ (at : ℕ) (h : Heap) (t : ℕ) (gap : Gap) (f : FoundHole at h t gap) (bs : List ℕ) (et : t ≡ 4 + length bs) where
-  placed_found : placed bs h ≡ record { heap = record { segments = f.before ++ Used bs ∷ with_hole (gap.size - (4 + length bs)) f.after; end = h.end }; address = 16 + total size_of f.before + 4 }
+  pub placed_found : placed bs h ≡ record { heap = record { segments = f.before ++ Used bs ∷ with_hole (gap.size - (4 + length bs)) f.after; end = h.end }; address = 16 + total size_of f.before + 4 }
   placed_found = ap (λ n. placed_in bs h (hole_for n h.segments)) (sym et) ∙ ap (placed_in bs h) f.found
 
   pub placed_there : gap.place + 4 ≡ (placed bs h).address
@@ -178,7 +178,7 @@ module _ (at : ℕ) (h : Heap) (t : ℕ) (gap : Gap) (f : FoundHole at h t gap) 
 
 -- ---- a block at the top
 module _ (at : ℕ) (h : Heap) (t : ℕ) (none : hole_for t h.segments ≡ None) (bs : List ℕ) (et : t ≡ 4 + length bs) where
-  placed_none : placed bs h ≡ record { heap = record { segments = h.segments ++ Used bs ∷ []; end = h.end }; address = base h + 4 }
+  pub placed_none : placed bs h ≡ record { heap = record { segments = h.segments ++ Used bs ∷ []; end = h.end }; address = base h + 4 }
   placed_none = ap (λ n. placed_in bs h (hole_for n h.segments)) (sym et) ∙ ap (placed_in bs h) none
 
   pub placed_top : (place : ℕ) → place ≡ base h → place + 4 ≡ (placed bs h).address

@@ -16,3 +16,8 @@ pub mod SpanLaws
 pub mod CallLaws
 pub mod ListLaws
 pub mod Examples
+pub mod BitLaws
+pub mod StartLaws
+pub mod IndexLaws
+pub mod KeepLaws
+pub mod MapLaws

@@ -27,13 +27,13 @@ lists_start at h target spot items f none = record {
 }
 
 -- the next segment
-data NextSegment (b : List ℕ) (at : ℕ) (h : Heap) (from place next : ℕ) (passed : List heap.Segment) : List heap.Segment → Type 0 where
+pub data NextSegment (b : List ℕ) (at : ℕ) (h : Heap) (from place next : ℕ) (passed : List heap.Segment) : List heap.Segment → Type 0 where
   next_used : (bytes : List ℕ) (ys : List heap.Segment) → next ≢ place → word b (at + place) ≡ 4 + length bytes → place + (4 + length bytes) ≤ base h → 8 ≤ 4 + length bytes
       → (r : Reached at h from (place + (4 + length bytes)) from (place + (4 + length bytes))) → r.front ++ r.gap ≡ passed ++ Used bytes ∷ [] → NextSegment b at h from place next passed (Used bytes ∷ ys)
   next_hole : (n : ℕ) (ys : List heap.Segment) → next ≡ place → word b (at + (place + 4)) ≡ n → place + n ≤ base h → 8 ≤ n
       → (r : Reached at h from place place (place + n)) → r.front ++ r.gap ≡ passed ++ Hole n ∷ [] → NextSegment b at h from place next passed (Hole n ∷ ys)
 
-next_segment_at : (b : List ℕ) (at : ℕ) (h : Heap) (link low from place next : ℕ) (r : Reached at h link low from place) → (rest : List heap.Segment) → r.rest ≡ rest → Spells b at h → LinksTo b at (at + from) next → place < base h
+pub next_segment_at : (b : List ℕ) (at : ℕ) (h : Heap) (link low from place next : ℕ) (r : Reached at h link low from place) → (rest : List heap.Segment) → r.rest ≡ rest → Spells b at h → LinksTo b at (at + from) next → place < base h
     → NextSegment b at h from place next (r.front ++ r.gap) rest
 next_segment_at b at h link low from place next r [] e s k lt =
     absurd (let p = r.place_is in omega (arith, ap (total size_of) r.is, ap (total size_of) e, total-append (r.front ++ r.gap) r.rest))

@@ -96,7 +96,7 @@ module _ (b : List ℕ) (at : ℕ) (h : Heap) (spot : Spot) (s : Spells b at h) 
         → IsStretch c at (record { link = spot.from; low = spot.place + t; next = next; upper = spot.place + spot.size })
     shrink_is_stretch c next k o sized = is_stretch c at h.end (passed ++ Used now ∷ []) f.after (record { link = spot.from; low = spot.place + t; next = next; upper = spot.place + spot.size }) (shrink_between c next k o sized)
 
-    shrunk_is : (resized_in t (cut_of at h spot f) h).heap ≡ record { segments = (passed ++ Used now ∷ []) ++ with_hole (spot.place + spot.size - (spot.place + t)) f.after; end = h.end }
+    pub shrunk_is : (resized_in t (cut_of at h spot f) h).heap ≡ record { segments = (passed ++ Used now ∷ []) ++ with_hole (spot.place + spot.size - (spot.place + t)) f.after; end = h.end }
     shrunk_is =
         let z = f.size_is in
         let n = now_long least in
@@ -148,6 +148,9 @@ module _ (b : List ℕ) (at : ℕ) (h : Heap) (spot : Spot) (s : Spells b at h) 
     tidy_rest : (room % 8 ≡ 0) × IsTidy true i.rest
     tidy_rest = tidy_behind_hole false (passed ++ Used f.bytes ∷ []) room i.rest (subst (IsTidy false) (whole ∙ sym (append_assoc passed (Used f.bytes ∷ []) (Hole room ∷ i.rest))) s.heap.tidy)
 
+    pub widen_even : room % 8 ≡ 0
+    widen_even = tidy_rest.0
+
     pub hole_inside : spot.place + spot.size + room ≤ base h
     hole_inside =
         let p = f.reached.place_is in
@@ -184,7 +187,7 @@ module _ (b : List ℕ) (at : ℕ) (h : Heap) (spot : Spot) (s : Spells b at h) 
         → part c (at + spot.place + 4) (t - 4) ≡ part b (at + spot.place + 4) (spot.size - 4) ++ replicate (t - spot.size) 0 → IsStretch c at (grown_up next)
     widen_is_stretch c next k o sized block = is_stretch c at h.end (passed ++ Used now ∷ []) i.rest (grown_up next) (widen_between c next k o sized block)
 
-    widened_is : (resized_in t (cut_of at h spot f) h).heap ≡ record { segments = (passed ++ Used now ∷ []) ++ with_hole (spot.place + spot.size + room - (spot.place + t)) i.rest; end = h.end }
+    pub widened_is : (resized_in t (cut_of at h spot f) h).heap ≡ record { segments = (passed ++ Used now ∷ []) ++ with_hole (spot.place + spot.size + room - (spot.place + t)) i.rest; end = h.end }
     widened_is =
         let z = f.size_is in
         let least = f.least in

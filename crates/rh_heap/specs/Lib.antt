@@ -5,5 +5,6 @@ pub mod Image
 pub mod Listed
 pub mod Segments
 pub mod Spans
+pub mod Starts
 pub mod Stretches
 pub mod Ways

@@ -10,6 +10,7 @@ pub use layout::Segment;
 pub use span::Span;
 pub use span::claim::{claim, need};
 pub use span::holes::describe;
+pub use span::indexed::{block_size_in, claim_in, index, release_in, resize_in, resize_need_in};
 pub use span::list::{SEGMENTS_AT_ONCE, segments_from};
 pub use span::release::release;
 pub use span::resize::{resize, resize_need};

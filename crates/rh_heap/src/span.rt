@@ -2,10 +2,12 @@
 
 pub mod claim;
 pub mod holes;
+pub mod indexed;
 pub mod list;
 pub mod release;
 pub mod resize;
 pub mod segments;
+pub mod starts;
 mod stretch;
 pub mod whole;
 mod words;

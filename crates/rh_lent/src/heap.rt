@@ -19,7 +19,7 @@ use rh_defs::HeapRefusal;
 use rh_heap::{SEGMENTS_AT_ONCE, Segment, Span};
 
 /// All of the lent bytes.
-const WHOLE: Span = Span { area: LENT, at: 0 };
+pub(crate) const WHOLE: Span = Span { area: LENT, at: 0 };
 
 /// Makes all of the bytes an empty heap. (OS_Heap 0.)
 pub fn init(memory: &mut [u8])

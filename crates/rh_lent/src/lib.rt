@@ -3,6 +3,7 @@
 #![tactic(auto)]
 
 pub mod heap;
+pub mod indexed;
 mod lent;
 mod lent_mut;
 

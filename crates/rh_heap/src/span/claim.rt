@@ -33,7 +33,7 @@ fn put_zeros<S: WordsMut>(store: &mut S, span: Span, place: usize, size: usize)
 }
 
 /// Puts a block of zeros into the lower bytes of a hole.
-fn fill<S: WordsMut>(store: &mut S, span: Span, gap: Gap, size: usize)
+pub fn fill<S: WordsMut>(store: &mut S, span: Span, gap: Gap, size: usize)
     requires span { IsSpan (S.memory store.old) span }
     requires gap { FoundHole span.at (heap_in (S.memory store.old) span) size gap }
     requires least { HEAP_UNIT ≤ size }
@@ -56,7 +56,7 @@ fn fill<S: WordsMut>(store: &mut S, span: Span, gap: Gap, size: usize)
 }
 
 /// Puts a block of zeros above all segments.
-fn append<S: WordsMut>(store: &mut S, span: Span, top: usize, size: usize)
+pub fn append<S: WordsMut>(store: &mut S, span: Span, top: usize, size: usize)
     requires span { IsSpan (S.memory store.old) span }
     requires none { hole_for size (heap_in (S.memory store.old) span).segments ≡ None }
     requires top { top ≡ base (heap_in (S.memory store.old) span) }

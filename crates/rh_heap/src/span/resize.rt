@@ -82,7 +82,7 @@ fn lengthen<S: WordsMut>(store: &mut S, span: Span, spot: Spot, size: usize)
 }
 
 /// Makes the upper bytes of a block a hole.
-fn shrink<S: WordsMut>(store: &mut S, span: Span, spot: Spot, size: usize)
+pub fn shrink<S: WordsMut>(store: &mut S, span: Span, spot: Spot, size: usize)
     requires span { IsSpan (S.memory store.old) span }
     requires found { FoundBlock span.at (heap_in (S.memory store.old) span) (spot.place + BLOCK) spot }
     requires least { HEAP_UNIT ≤ size }
@@ -106,7 +106,7 @@ fn shrink<S: WordsMut>(store: &mut S, span: Span, spot: Spot, size: usize)
 }
 
 /// Lets a block grow into the hole of `room` bytes that follows.
-fn widen<S: WordsMut>(store: &mut S, span: Span, spot: Spot, size: usize, room: usize)
+pub fn widen<S: WordsMut>(store: &mut S, span: Span, spot: Spot, size: usize, room: usize)
     requires span { IsSpan (S.memory store.old) span }
     requires found { FoundBlock span.at (heap_in (S.memory store.old) span) (spot.place + BLOCK) spot }
     requires multiple { size % HEAP_UNIT ≡ 0 }
@@ -130,7 +130,7 @@ fn widen<S: WordsMut>(store: &mut S, span: Span, spot: Spot, size: usize, room: 
 }
 
 /// Lets the last block grow.
-fn raise<S: WordsMut>(store: &mut S, span: Span, spot: Spot, size: usize)
+pub fn raise<S: WordsMut>(store: &mut S, span: Span, spot: Spot, size: usize)
     requires span { IsSpan (S.memory store.old) span }
     requires found { FoundBlock span.at (heap_in (S.memory store.old) span) (spot.place + BLOCK) spot }
     requires multiple { size % HEAP_UNIT ≡ 0 }
@@ -208,7 +208,7 @@ fn change<S: WordsMut>(
 }
 
 /// By how many bytes the heap is too short for a block to get a segment of `size` bytes.
-fn short_by<S: Words>(store: &S, span: Span, spot: Spot, size: usize) -> usize
+pub fn short_by<S: Words>(store: &S, span: Span, spot: Spot, size: usize) -> usize
     requires span { IsSpan (S.memory store.now) span }
     requires found { FoundBlock span.at (heap_in (S.memory store.now) span) (spot.place + BLOCK) spot }
     requires small { size < 2 ^ 40 }

@@ -42,7 +42,7 @@ fn put_hole<S: WordsMut>(store: &mut S, span: Span, stretch: Stretch)
 }
 
 /// Makes a stretch that a used segment follows a hole, or nothing where it has no byte.
-pub fn settle_below_block<S: Words>(store: &mut S, span: Span, stretch: Stretch)
+pub fn settle_below_block<S: WordsMut>(store: &mut S, span: Span, stretch: Stretch)
     requires opened { IsOpen (S.memory store.old) span.area.0 }
     requires stretch { IsStretch (bytes_in (S.memory store.old) span) span.at stretch }
     requires below { stretch.upper ≢ word (bytes_in (S.memory store.old) span) (span.at + HEAP_BASE) }

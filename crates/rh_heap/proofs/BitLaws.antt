@@ -1,0 +1,137 @@
+-- The bits of a map: one that is set or cleared, and the search for the last one that is set.
+use Rattle.std.proofs.Common.{◌≡◌, ◌≢◌, ℕ, ◌+◌, ◌-◌, ◌*◌, ◌/◌, ◌%◌, ◌^◌, ◌<◌, ◌≤◌, inl, inr, Bool, true, false, eqb, List, length, get_or, set, suc, zero, refl, sym, ap, subst, ◌∙◌, arith}
+use Rattle.std.specs.Int.{bit_at, w64}
+use Rattle.std.specs.Int.RustNames.{bit_or}
+use Rattle.std.specs.Int.Count.{count_leading_zeros}
+use Rattle.std.specs.Prelude.{bit_and, ◌⊎◌}
+use Rattle.std.proofs.lemmas.Bool.{cases_eq, cases_lt}
+use Rattle.std.proofs.lemmas.List.{get_or-set_same, get_or-set_other, get_or_past}
+use Rattle.std.proofs.Math.Nat.{pow-suc}
+use Rattle.std.proofs.lemmas.Nat.{and_le_l, leading_top, le-div, div_below, pow_pos, one_shl}
+use Rattle.std.proofs.lemmas.Nat.Bits.{bit_at-zero, bit_at-lt, bit_at_above, bit_at_and, bit_at_ones, bit_at_ones_above}
+use Rattle.rh_defs.proofs.HeapLists.{eqb_same}
+use Rattle.rh_heap.specs.Starts.{bit, Became, LastBit}
+
+-- ---- one word of a map is changed
+module _ (lane k v b : ℕ) (old new : List ℕ) (lt : lane < 2) (e : new ≡ set old (2 * (k / 64) + lane) v) (inside : 2 * (k / 64) + lane < length old) where
+  word_now : (j lane' : ℕ) → 2 * (j / 64) + lane' ≡ 2 * (k / 64) + lane → get_or new (2 * (j / 64) + lane') 0 ≡ v
+  word_now j lane' q = ap (λ l. get_or l (2 * (j / 64) + lane') 0) e ∙ ap (λ i. get_or (set old (2 * (k / 64) + lane) v) i 0) q ∙ get_or-set_same old (2 * (k / 64) + lane) v 0 inside
+
+  word_still : (j lane' : ℕ) → 2 * (j / 64) + lane' ≢ 2 * (k / 64) + lane → get_or new (2 * (j / 64) + lane') 0 ≡ get_or old (2 * (j / 64) + lane') 0
+  word_still j lane' q = ap (λ l. get_or l (2 * (j / 64) + lane') 0) e ∙ get_or-set_other old (2 * (k / 64) + lane) (2 * (j / 64) + lane') v 0 q
+
+  pub became : bit_at v (k % 64) ≡ b → ((m : ℕ) → m < 64 → m ≢ k % 64 → bit_at v m ≡ bit_at (get_or old (2 * (k / 64) + lane) 0) m) → Became lane k b old new
+  became here others = record {
+    here = ap (λ w. bit_at w (k % 64)) (word_now k lane refl) ∙ here;
+    same = λ j ne. elim (cases_eq (2 * (j / 64) + lane) (2 * (k / 64) + lane)) [
+      | inl q ↦ ap (λ w. bit_at w (j % 64)) (word_now j lane q) ∙ others (j % 64) (omega arith) (omega arith) ∙ ap (λ i. bit_at (get_or old i 0) (j % 64)) (sym q)
+      | inr q ↦ ap (λ w. bit_at w (j % 64)) (word_still j lane q)
+    ];
+    other = λ lane' j small ne. ap (λ w. bit_at w (j % 64)) (word_still j lane' (omega arith));
+  }
+
+-- a bit past the map's end is clear
+pub past_end : (lane k : ℕ) (starts : List ℕ) → length starts ≤ 2 * (k / 64) + lane → bit lane starts k ≡ 0
+past_end lane k starts l = ap (λ w. bit_at w (k % 64)) (get_or_past starts (2 * (k / 64) + lane) 0 l) ∙ bit_at-zero (k % 64)
+
+-- nothing is to be cleared there
+pub became_clear : (lane k : ℕ) (starts : List ℕ) → length starts ≤ 2 * (k / 64) + lane → Became lane k 0 starts starts
+became_clear lane k starts l = record { here = past_end lane k starts l; same = λ j ne. refl; other = λ lane' j small ne. refl }
+
+-- ---- the search
+-- A search below n has come to a line, and what is left of it is in a word.
+pub record Scan (lane : ℕ) (starts : List ℕ) (n line word : ℕ) : Type 0 where
+  pub small : word < 2 ^ 64
+  pub inside : 2 * line + lane < length starts
+  pub up_to : 64 * line ≤ n
+  pub here : (i : ℕ) → i < 64 → 64 * line + i < n → bit_at word i ≡ bit lane starts (64 * line + i)
+  pub above : (i : ℕ) → i < 64 → n ≤ 64 * line + i → bit_at word i ≡ 0
+  pub passed : (j : ℕ) → 64 * (line + 1) ≤ j → j < n → bit lane starts j ≡ 0
+
+-- a bit of a line
+bit_of_line : (lane : ℕ) (starts : List ℕ) (line i : ℕ) → i < 64 → bit lane starts (64 * line + i) ≡ bit_at (get_or starts (2 * line + lane) 0) i
+bit_of_line lane starts line i l =
+    ap (λ d. bit_at (get_or starts (2 * d + lane) 0) ((64 * line + i) % 64)) (let e : (64 * line + i) / 64 ≡ line = omega arith in e)
+    ∙ ap (bit_at (get_or starts (2 * line + lane) 0)) (let e : (64 * line + i) % 64 ≡ i = omega arith in e)
+
+pub scan_start : (lane : ℕ) (starts : List ℕ) (n word : ℕ) → 2 * (n / 64) + lane < length starts → get_or starts (2 * (n / 64) + lane) 0 < 2 ^ 64
+    → word ≡ bit_and (get_or starts (2 * (n / 64) + lane) 0) (1 * 2 ^ (n % 64) % 2 ^ 64 - 1) → Scan lane starts n (n / 64) word
+scan_start lane starts n word inside small e =
+    let w = get_or starts (2 * (n / 64) + lane) 0 in
+    let k = n % 64 in
+    let mask : word ≡ bit_and w (2 ^ k - 1) = e ∙ ap (λ m. bit_and w (m - 1)) (one_shl k 64 (omega arith)) in
+    record {
+      small = omega (arith, e, and_le_l w (1 * 2 ^ (n % 64) % 2 ^ 64 - 1));
+      inside = inside;
+      up_to = omega arith;
+      here = λ i l below.
+          let one = bit_at_ones k i (omega arith) in
+          let few = bit_at-lt w i in
+          ap (λ m. bit_at m i) mask ∙ bit_at_and w (2 ^ k - 1) i ∙ omega arith ∙ sym (bit_of_line lane starts (n / 64) i l);
+      above = λ i l past.
+          let none = bit_at_ones_above k i (omega arith) in
+          ap (λ m. bit_at m i) mask ∙ bit_at_and w (2 ^ k - 1) i ∙ omega arith;
+      passed = λ j past below. absurd (omega arith);
+    }
+
+-- the highest set bit of a word
+pub record Highest (word j : ℕ) : Type 0 where
+  pub top : bit_at word j ≡ 1
+  pub none : (i : ℕ) → j < i → bit_at word i ≡ 0
+
+highest : (word j : ℕ) → 2 ^ j ≤ word → word < 2 ^ suc j → Highest word j
+highest word j lo hi =
+    let twice : 2 ^ suc j ≡ 2 ^ j * 2 = pow-suc 2 j in
+    let one = le-div 1 word (2 ^ j) (pow_pos j) (omega arith) in
+    let two = div_below word (2 ^ j) 2 (pow_pos j) (omega arith) in
+    record {
+      top = ap (λ d. d % 2) (let e : word / 2 ^ j ≡ 1 = omega arith in e);
+      none = λ i l. bit_at_above word (suc j) i hi (omega arith);
+    }
+
+pub scan_found : (lane : ℕ) (starts : List ℕ) (n line word zeros : ℕ) → Scan lane starts n line word → word ≢ 0 → zeros ≡ count_leading_zeros 64 word → LastBit lane starts n (64 * line + (63 - zeros))
+scan_found lane starts n line word zeros s ne e =
+    let top = leading_top 64 word (omega arith) s.small in
+    let j = top.0 in
+    let sum = top.1 in
+    let at : 64 * line + (63 - zeros) ≡ 64 * line + j = omega arith in
+    let high = highest word j top.2 top.3 in
+    let is_one = high.top in
+    let less : 64 * line + j < n = elim (cases_lt (64 * line + j) n) [ inl l ↦ l | inr l ↦ absurd (let z = s.above j (omega arith) l in omega arith) ] in
+    subst (LastBit lane starts n) (sym at) (record {
+      below = less;
+      is_set = sym (s.here j (omega arith) less) ∙ is_one;
+      none = λ i over below. elim (cases_lt i (64 * (line + 1))) [
+        | inl l ↦
+            let same : 64 * line + (i - 64 * line) ≡ i = omega arith in
+            subst (λ q. bit lane starts q ≡ 0) same (sym (s.here (i - 64 * line) (omega arith) (omega arith)) ∙ high.none (i - 64 * line) (omega arith))
+        | inr l ↦ s.passed i l below
+      ];
+    })
+
+-- a line without a set bit is passed
+pub none_from : (lane : ℕ) (starts : List ℕ) (n line word : ℕ) → Scan lane starts n line word → word ≡ 0 → (j : ℕ) → 64 * line ≤ j → j < n → bit lane starts j ≡ 0
+none_from lane starts n line word s e j from below = elim (cases_lt j (64 * (line + 1))) [
+  | inl l ↦
+      let same : 64 * line + (j - 64 * line) ≡ j = omega arith in
+      subst (λ q. bit lane starts q ≡ 0) same (sym (s.here (j - 64 * line) (omega arith) (omega arith)) ∙ ap (λ w. bit_at w (j - 64 * line)) e ∙ bit_at-zero (j - 64 * line))
+  | inr l ↦ s.passed j l below
+]
+
+pub scan_next : (lane : ℕ) (starts : List ℕ) (n line word line' word' : ℕ) → Scan lane starts n line word → word ≡ 0 → line ≡ line' + 1 → word' < 2 ^ 64 → word' ≡ get_or starts (2 * line' + lane) 0
+    → Scan lane starts n line' word'
+scan_next lane starts n line word line' word' s e next small read =
+    let up = s.up_to in
+    let room = s.inside in
+    record {
+      small = small;
+      inside = omega arith;
+      up_to = omega arith;
+      here = λ i l below. ap (λ w. bit_at w i) read ∙ sym (bit_of_line lane starts line' i l);
+      above = λ i l past. absurd (omega arith);
+      passed = λ j past below. none_from lane starts n line word s e j (omega arith) below;
+    }
+
+-- what a test of a bit says
+pub not_set : (r : Bool) (n : ℕ) → r ≡ eqb n 1 → r ≡ false → n ≢ 1
+not_set r n e f one = let same = eqb_same n 1 one in let z : true ≡ false = sym same ∙ sym e ∙ f in absurd cc

@@ -1,0 +1,69 @@
+use Rattle.std.proofs.Common.{◌≡◌, ◌+◌, ◌-◌, refl, sym, subst, arith}
+use Rattle.rh_defs.specs.Pieces.{zeros}
+use Rattle.rh_heap.specs.Starts.{IsIndex}
+use Rattle.rh_heap.proofs.BlockLaws.{zeros_long}
+use Rattle.rh_heap.proofs.KeepLaws.{other_bytes}
+use Rattle.rh_heap.proofs.ResizeLaws.{length-fitted}
+use Rattle.std.specs.Prelude.{Ok}
+use Rattle.rh_defs.specs.Chain.{left_of, no_answer}
+use Rattle.rh_defs.specs.Heap.{placed, fitted, release, released_at}
+use Rattle.rh_defs.proofs.MemoryLaws.{Edited-both, Edited-wider}
+use Rattle.rh_heap.specs.Spans.{SpellsIn, heap_in}
+use Rattle.rh_heap.proofs.SpanLaws.{heap_now, is_span}
+use Rattle.rh_heap.proofs.MoveLaws.{new_inside, moved_spells, moved_done, moved_released, moved_end}
+use Rattle.rh_heap.proofs.span.indexed.move_in.Goals as goal
+use Rattle.rh_heap.proofs.span.indexed.move_in.Goals.{After-move_bytes}
+use Rattle.rh_heap.proofs.span.indexed.move_in.Given as given
+
+pub move_bytes-requires-clause-target : goal.move_bytes-requires-clause-target
+move_bytes-requires-clause-target g c =
+    let s = c.requires.span.spells in
+    let o = c.in-Some.ensures.only in
+    let t = c.in-Some.ensures.took in
+    let i = new_inside _ _ _ _ c.requires.span.spells c.requires.found _ c.requires.longer _ _ t.spells t.address_is in
+    let l = c.requires.longer in
+    omega (arith, i, s.within, o.outside.len)
+
+copied : (g : given.Over) (c : After-move_bytes g) → SpellsIn (g.S.Words.memory c.move_bytes.new.store) c.args.span (placed (fitted (c.args.size - 4) c.requires.found.bytes) (heap_in (g.S.Words.memory c.args.store.now) c.args.span)).heap
+copied g c =
+    let t = c.in-Some.ensures.took in
+    moved_spells _ _ _ _ c.requires.span.spells c.requires.found _ c.requires.longer _ _ _ t.spells t.address_is c.move_bytes.ensures.bytes c.move_bytes.ensures.only.outside
+
+done : (g : given.Over) (c : After-move_bytes g)
+    → let h = heap_in (g.S.Words.memory c.move_bytes.new.store) c.args.span in released_at (c.args.spot.place + 4) h ≡ Ok (release (c.args.spot.place + 4) h)
+done g c = moved_released (g.S.Words.memory c.args.store.now) _ _ _ _ c.requires.span.spells c.requires.found c.requires.longer (copied g c)
+
+pub release_in-requires-clause-span : goal.release_in-requires-clause-span
+release_in-requires-clause-span g c = is_span _ _ _ c.move_bytes.ensures.only.opened (copied g (goal.at.release_in-requires-clause-span g c).After-move_bytes)
+
+pub unwrap-requires : goal.unwrap-requires
+unwrap-requires g c = let d = done g (goal.at.unwrap-requires g c).After-move_bytes in rw (c.release_in.ensures.leaves.answer, d) refl
+
+pub returns-in-Some-clause-moved : goal.returns-in-Some-clause-moved
+returns-in-Some-clause-moved g c =
+    let k = (goal.at.returns-in-Some-clause-moved g c).After-move_bytes in
+    let t = c.in-Some.ensures.took in
+    let h = heap_in (g.S.Words.memory c.move_bytes.new.store) c.args.span in
+    moved_done _ _ _ _ _ _ _ c.requires.span.spells c.requires.found c.requires.longer t.room t.address_is (copied g k)
+    (subst (λ r. SpellsIn (g.S.Words.memory c.release_in.new.store) c.args.span (left_of h (no_answer r))) (done g k) c.release_in.ensures.leaves.spells)
+
+pub returns-in-Some-clause-only : goal.returns-in-Some-clause-only
+returns-in-Some-clause-only g c =
+    let t = c.in-Some.ensures.took in
+    let l = c.requires.longer in
+    let i = new_inside _ _ _ _ c.requires.span.spells c.requires.found _ c.requires.longer _ _ t.spells t.address_is in
+    let e = moved_end (g.S.Words.memory c.args.store.now) (g.S.Words.memory c.move_bytes.new.store) c.args.span c.args.spot c.args.size c.requires.span.spells c.requires.found c.requires.longer (copied g (goal.at.returns-in-Some-clause-only g c).After-move_bytes) in
+    Edited-both _ _ _ _ _ _ c.in-Some.ensures.only
+    (Edited-both _ _ _ _ _ _ (Edited-wider _ _ _ _ _ _ _ c.move_bytes.ensures.only (omega arith) (omega arith)) (Edited-wider _ _ _ _ _ _ _ c.release_in.ensures.leaves.only (omega arith) (omega arith)))
+
+pub release_in-requires-clause-starts : goal.release_in-requires-clause-starts
+release_in-requires-clause-starts g c =
+    let h = heap_in (g.S.Words.memory c.args.store.now) c.args.span in
+    let f = c.requires.found in
+    let t = c.in-Some.ensures.took in
+    let l = c.requires.longer in
+    let least = f.least in
+    let long = length-fitted (c.args.size - 4) f.bytes in
+    let one = subst (IsIndex c.take_in.new.starts) (heap_now (g.S.Words.memory c.take_in.new.store) c.args.span _ t.spells) c.in-Some.ensures.starts in
+    subst (IsIndex c.take_in.new.starts) (sym (heap_now (g.S.Words.memory c.move_bytes.new.store) c.args.span _ (copied g (goal.at.release_in-requires-clause-starts g c).After-move_bytes)))
+    (other_bytes _ h c.args.size (zeros (c.args.size - 4)) (fitted (c.args.size - 4) f.bytes) (zeros_long _ (omega arith)) (omega arith) one)

@@ -1,0 +1,31 @@
+use Rattle.std.proofs.Common.{◌+◌, ◌∙◌, ap, subst, sym, arith}
+use Rattle.rh_defs.specs.Chain.{no_answer}
+use Rattle.rh_defs.specs.Heap.{release}
+use Rattle.rh_defs.proofs.HeapCalls.{released_at-some}
+use Rattle.rh_heap.specs.Spans.{SpellsIn, heap_in}
+use Rattle.rh_heap.specs.Starts.{IsIndex}
+use Rattle.rh_heap.proofs.CallLaws.{leaves}
+use Rattle.rh_heap.proofs.KeepLaws.{place_even, low_even, release_index}
+use Rattle.rh_heap.proofs.SpanLaws.{heap_now}
+use Rattle.rh_heap.proofs.WayLaws.{at_place}
+use Rattle.rh_heap.proofs.span.indexed.release_in.Goals as goal
+
+pub note_hole-requires-clause-low : goal.note_hole-requires-clause-low
+note_hole-requires-clause-low g c = low_even _ _ _ _ c.requires.span.spells.heap.tidy c.in-Some.ensures
+
+pub note_hole-requires-clause-upper : goal.note_hole-requires-clause-upper
+note_hole-requires-clause-upper g c = let m = c.in-Some.ensures.multiple in omega (arith, place_even _ _ _ _ c.requires.span.spells.heap.tidy c.in-Some.ensures)
+
+pub returns-clause-leaves : goal.returns-clause-leaves
+returns-clause-leaves g c =
+    let h = heap_in (g.S.Words.memory c.args.store.now) c.args.span in
+    let f = c.in-Some.ensures in
+    leaves _ _ _ _ _ tt (ap no_answer (released_at-some c.args.address h _ f.found))
+    (subst (λ a. SpellsIn (g.S.Words.memory c.free_segment.new.store) c.args.span (release a h)) f.address_is c.free_segment.ensures.spells) c.free_segment.ensures.only
+
+pub returns-clause-starts : goal.returns-clause-starts
+returns-clause-starts g c =
+    let k = c.free_segment.ensures.spells in
+    subst (IsIndex c.note_hole.new.starts) (sym (heap_now (g.S.Words.memory c.free_segment.new.store) c.args.span _ k))
+    (release_index _ (heap_in (g.S.Words.memory c.args.store.now) c.args.span) _ _ c.requires.span.spells.heap.tidy (at_place c.in-Some.ensures) _ _ _ _ c.requires.starts c.clear.ensures.bits
+    (record { used = c.note_hole.ensures.used; holes = c.note_hole.ensures.holes }) (c.note_hole.ensures.long ∙ c.clear.ensures.long) (c.read-base.ensures.value ∙ k.base))

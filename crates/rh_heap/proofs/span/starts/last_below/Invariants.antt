@@ -1,0 +1,9 @@
+-- The lines above are passed, and what is left of this one is in the word.
+use Rattle.rh_heap.proofs.BitLaws.{Scan}
+use Rattle.rh_heap.proofs.span.starts.last_below.Given as goal
+
+abbrev pub invariant-walk : goal.invariant-walk
+invariant-walk l = Scan l.lane l.starts l.n l.line l.word
+
+abbrev pub decreases-walk : goal.decreases-walk
+decreases-walk l = l.line

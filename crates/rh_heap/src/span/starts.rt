@@ -1,0 +1,98 @@
+//! A map of where a heap's segments begin, beside the heap's bytes. It consists of lines of two words, each for 512 bytes
+//! of the heap: a bit for each 8 bytes, in one word for used segments and in the other for holes.
+ghost use Rattle.std.specs.Prelude.{◌≡◌, ℕ, ◌+◌, ◌*◌, ◌/◌, ◌%◌, ◌^◌, ◌<◌, ◌≤◌, ◌==◌, length, true, MatchOption, if◌then◌else◌};
+ghost use Rattle.rh_heap.specs.Starts.{bit, Became, LastBit, LinkBelow};
+ghost use Rattle.rh_defs.specs.declared.sizes.TheConstants.{HEAP_UNIT};
+ghost use Rattle.rh_heap.specs.declared.span.starts.TheConstants.{HOLES};
+
+use rh_defs::sizes::{HEAP_FREE, HEAP_UNIT};
+
+/// The bits of a word of a map.
+const BITS: usize = 64;
+
+/// The bytes of a heap for which a map has one line, of two words.
+pub const LINE_BYTES: usize = BITS * HEAP_UNIT;
+
+/// The lane of a map that has the places of used segments.
+pub const USED: usize = 0;
+
+/// The lane of a map that has the places of holes.
+pub const HOLES: usize = 1;
+
+/// Whether a bit of a lane is set. None is set past the map's end.
+pub fn is_set(starts: &[u64], lane: usize, k: usize) -> bool
+    requires { lane < 2 }
+    ensures { result ≡ (bit lane starts.now k == 1) }
+{
+    let at = 2 * (k / BITS) + lane;
+    at < starts.len() && starts[at] >> (k % BITS) & 1 == 1
+}
+
+/// Sets a bit of a lane.
+pub fn set(starts: &mut [u64], lane: usize, k: usize)
+    requires lane { lane < 2 }
+    requires within { 2 * (k / 64) + lane < length starts.old }
+    ensures bits { Became lane k 1 starts.old starts.new }
+    ensures long { length starts.new ≡ length starts.old }
+{
+    let at = 2 * (k / BITS) + lane;
+    starts[at] |= 1 << (k % BITS);
+}
+
+/// Clears a bit of a lane. Past the map's end it is clear already.
+pub fn clear(starts: &mut [u64], lane: usize, k: usize)
+    requires lane { lane < 2 }
+    ensures bits { Became lane k 0 starts.old starts.new }
+    ensures long { length starts.new ≡ length starts.old }
+{
+    let at = 2 * (k / BITS) + lane;
+    if at < starts.len() {
+        starts[at] &= !(1 << (k % BITS));
+    }
+}
+
+/// Sets or clears a bit of a lane.
+pub fn put(starts: &mut [u64], lane: usize, k: usize, on: bool)
+    requires lane { lane < 2 }
+    requires within { on ≡ true → 2 * (k / 64) + lane < length starts.old }
+    ensures bits { Became lane k (if on then 1 else 0) starts.old starts.new }
+    ensures long { length starts.new ≡ length starts.old }
+{
+    if on {
+        set(starts, lane, k);
+    } else {
+        clear(starts, lane, k);
+    }
+}
+
+/// The last set bit of a lane below `n`.
+pub fn last_below(starts: &[u64], lane: usize, n: usize) -> Option<usize>
+    requires lane { lane < 2 }
+    requires within { 2 * (n / 64) + lane < length starts.now }
+    ensures { MatchOption result ((j : ℕ) → j < n → bit lane starts.now j ≡ 0) (λ k. LastBit lane starts.now n k) }
+{
+    let mut line = n / BITS;
+    let mut word = starts[2 * line + lane] & ((1 << (n % BITS)) - 1);
+    'walk: loop {
+        if word != 0 {
+            return Some(BITS * line + (BITS - 1 - word.leading_zeros() as usize));
+        }
+        if line == 0 {
+            return None;
+        }
+        line -= 1;
+        word = starts[2 * line + lane];
+    }
+}
+
+/// Where the last link below a place is: the last hole that begins there, or the descriptor's link where none does.
+pub fn link_below(starts: &[u64], place: usize) -> usize
+    requires multiple { place % HEAP_UNIT ≡ 0 }
+    requires within { 2 * (place / HEAP_UNIT / 64) + HOLES < length starts.now }
+    ensures { LinkBelow starts.now place result }
+{
+    match last_below(starts, HOLES, place / HEAP_UNIT) {
+        Some(k) => HEAP_UNIT * k,
+        None => HEAP_FREE,
+    }
+}

@@ -1,0 +1,35 @@
+use Rattle.std.proofs.Common.{rules}
+use Rattle.rh_defs.specs.HeapImage.{heap_of}
+use Rattle.rh_defs.specs.Memory.{bytes, area_set}
+use Rattle.rh_defs.specs.Heap.{claim}
+use Rattle.rh_heap.specs.Starts.{IsIndex}
+use Rattle.rh_lent.specs.Lent.{memory_of, memory_over}
+use Rattle.rh_lent.specs.Heaps.{LeavesBytes}
+use Rattle.rh_lent.proofs.HeapBytes.{is_span, leaves_bytes}
+use Rattle.rh_lent.proofs.indexed.claim.Goals as goal
+
+pub claim_in-requires-clause-span : goal.claim_in-requires-clause-span
+unfolding memory_of
+claim_in-requires-clause-span c = is_span c.args.memory.now _ c.requires.heap
+
+pub claim_in-requires-clause-starts : goal.claim_in-requires-clause-starts
+unfolding memory_of memory_over bytes area_set
+claim_in-requires-clause-starts c = c.requires.starts
+
+pub returns-clause-leaves : goal.returns-clause-leaves
+unfolding memory_of memory_over bytes area_set
+returns-clause-leaves c =
+    let b = c.args.memory.now in
+    let new = c.claim_in.new.store.bytes.now in
+    let granted = claim c.args.n (heap_of b 0) in
+    let name = c.claim_in.ensures.leaves.only.loan in
+    let left : LeavesBytes b new granted c.claim_in.result =
+    leaves_bytes b new _ _ granted c.claim_in.result c.requires.heap c.claim_in.ensures.leaves in
+    search rules
+
+pub returns-clause-starts : goal.returns-clause-starts
+unfolding memory_of memory_over bytes area_set
+returns-clause-starts c =
+    let name = c.claim_in.ensures.leaves.only.loan in
+    let made : IsIndex c.claim_in.new.starts (heap_of c.claim_in.new.store.bytes.now 0) = c.claim_in.ensures.starts in
+    search rules
