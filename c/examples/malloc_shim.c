@@ -4,10 +4,12 @@
  *     cc -O2 -fPIC -shared -pthread malloc_shim.c libvervainfile.a -o malloc_shim.so
  *     LD_PRELOAD=./malloc_shim.so PROGRAM
  *
- * OS_Heap finds a block by a walk, so that a program with tens of thousands of live blocks is slow here.
+ * A map beside the heap finds the blocks. A claim still walks over the holes that are too small, which takes long where
+ * there are thousands.
  *
- * -DSHIM_PLAIN takes the heap of os_heap.h in its place, to compare with; -DSHIM_BYTES=N gives the heap N bytes. With
- * SHIM_TELLS in the environment it says at the end on standard error how often it was called.
+ * -DSHIM_WALKS keeps no map, and neither do checked calls (-DVF_CHECKED); -DSHIM_PLAIN takes the heap of os_heap.h, to
+ * compare with; -DSHIM_BYTES=N gives the heap N bytes. With SHIM_TELLS in the environment it says at the end on
+ * standard error how often it was called.
  */
 #define _GNU_SOURCE
 #include "vervainfile.h"
@@ -17,6 +19,16 @@
 #define HEAP(call) os_heap_##call
 #else
 #define HEAP(call) vf_heap_##call
+#endif
+
+/* What finds blocks, and what it is given first. */
+#if defined SHIM_PLAIN || defined SHIM_WALKS || defined VF_CHECKED
+#define FINDING(call) HEAP(call)
+#define GIVEN heap, length
+#else
+#define KEEPS_MAP
+#define FINDING(call) vf_heap_indexed_##call
+#define GIVEN heap, length, map, MAP_WORDS
 #endif
 
 #include <errno.h>
@@ -32,13 +44,18 @@
 #endif
 
 enum {
-    WORD = 4,      /* the bytes of a block's size word */
-    ALIGNMENT = 16 /* of every block: the heap begins 12 behind a multiple of 16, and segments are multiples of 16 */
+    WORD = 4,       /* the bytes of a block's size word */
+    ALIGNMENT = 16, /* of every block: the heap begins 12 behind a multiple of 16, and segments are multiples of 16 */
+    LINE = 512      /* the bytes of a heap for which a map has two words */
 };
 
 static _Alignas(ALIGNMENT) uint8_t room[ALIGNMENT + SHIM_BYTES];
 static uint8_t *const heap = room + ALIGNMENT - WORD;
 static const size_t length = SHIM_BYTES;
+#ifdef KEEPS_MAP
+enum { MAP_WORDS = 2 * ((SHIM_BYTES + LINE - 1) / LINE) };
+static uint64_t map[MAP_WORDS];
+#endif
 static bool is_open;
 static unsigned long claims, releases, resizes;
 static pthread_mutex_t lock = PTHREAD_MUTEX_INITIALIZER;
@@ -78,22 +95,32 @@ static size_t address_of(const void *block)
     return (size_t)((const uint8_t *)block - heap);
 }
 
+static void open_heap(void)
+{
+    if (HEAP(init)(heap, length) != VF_OK)
+        give_up("malloc_shim: the region can't be a heap\n");
+#ifdef KEEPS_MAP
+    if (vf_heap_index(heap, length, map, MAP_WORDS) != VF_OK)
+        give_up("malloc_shim: the map is too short\n");
+#endif
+    is_open = true;
+}
+
 static void *claim(size_t n)
 {
     size_t address;
     if (n > length)
         return NULL;
-    if (!is_open && HEAP(init)(heap, length) != VF_OK)
-        give_up("malloc_shim: the region can't be a heap\n");
-    is_open = true;
+    if (!is_open)
+        open_heap();
     claims++;
-    return HEAP(claim)(heap, length, rounded(n ? n : 1), &address) == VF_OK ? heap + address : NULL;
+    return FINDING(claim)(GIVEN, rounded(n ? n : 1), &address) == VF_OK ? heap + address : NULL;
 }
 
 static size_t size_of(const void *block)
 {
     size_t size;
-    if (HEAP(block_size)(heap, length, address_of(block), &size) != VF_OK)
+    if (FINDING(block_size)(GIVEN, address_of(block), &size) != VF_OK)
         give_up("malloc_shim: no block is there\n");
     return size;
 }
@@ -101,7 +128,7 @@ static size_t size_of(const void *block)
 static void release(void *block)
 {
     releases++;
-    if (HEAP(release)(heap, length, address_of(block)) != VF_OK)
+    if (FINDING(release)(GIVEN, address_of(block)) != VF_OK)
         give_up("malloc_shim: what is freed is no block\n");
 }
 
@@ -167,7 +194,7 @@ static void *resize_given(void *given, size_t n)
     if (!*find_aligned(given)) {
         ptrdiff_t delta = (ptrdiff_t)rounded(n) - (ptrdiff_t)old;
         resizes++;
-        uint32_t status = HEAP(resize)(heap, length, address_of(given), delta, &moved_to);
+        uint32_t status = FINDING(resize)(GIVEN, address_of(given), delta, &moved_to);
         return status == VF_OK ? heap + moved_to : NULL;
     }
     void *new = claim(n);
