@@ -1,6 +1,9 @@
 //! Words, writes and moves in slices of bytes, by whole runs.
-ghost use Rattle.std.specs.Prelude.{◌≡◌, ◌+◌, ◌≤◌, length, replicate};
+ghost use Rattle.std.specs.Prelude.{◌≡◌, ◌+◌, ◌<◌, ◌≤◌, length, replicate};
 ghost use Rattle.rh_defs.specs.Bytes.{word, put, put_word, part};
+
+/// From this distance on bytes move in pieces, each by one copy.
+const FAR: usize = 512;
 
 /// The word of four bytes in little-endian order at an offset.
 #[tactic(auto, unfolding(rh_defs::specs::Bytes::word))]
@@ -36,13 +39,67 @@ pub fn zero_in(b: &mut [u8], at: usize, n: usize)
     b[at..at + n].fill(0);
 }
 
+/// Copies n bytes down to where none of them lies.
+fn copy_down(b: &mut [u8], from: usize, to: usize, n: usize)
+    requires source { from + n ≤ length b.old }
+    requires apart { to + n ≤ from }
+    ensures { b.new ≡ put b.old to (part b.old from n) }
+{
+    let (low, high) = b.split_at_mut(from);
+    put_in(low, to, part_of(high, 0, n));
+}
+
+/// Copies n bytes up to where none of them lies.
+fn copy_up(b: &mut [u8], from: usize, to: usize, n: usize)
+    requires target { to + n ≤ length b.old }
+    requires apart { from + n ≤ to }
+    ensures { b.new ≡ put b.old to (part b.old from n) }
+{
+    let (low, high) = b.split_at_mut(to);
+    put_in(high, 0, part_of(low, from, n));
+}
+
+/// Moves n bytes down from the lowest on, in pieces that are no longer than the way that they go.
+fn slide_down(b: &mut [u8], from: usize, to: usize, n: usize)
+    requires source { from + n ≤ length b.old }
+    requires down { to < from }
+    ensures { b.new ≡ put b.old to (part b.old from n) }
+{
+    let mut moved = 0;
+    'walk: while moved < n {
+        let size = (n - moved).min(from - to);
+        copy_down(b, from + moved, to + moved, size);
+        moved += size;
+    }
+}
+
+/// Moves n bytes up from the highest on, in pieces that are no longer than the way that they go.
+fn slide_up(b: &mut [u8], from: usize, to: usize, n: usize)
+    requires target { to + n ≤ length b.old }
+    requires up { from < to }
+    ensures { b.new ≡ put b.old to (part b.old from n) }
+{
+    let mut left = n;
+    'walk: while 0 < left {
+        let size = left.min(to - from);
+        left -= size;
+        copy_up(b, from + left, to + left, size);
+    }
+}
+
 /// Moves n bytes from one offset to another. The two ranges may overlap.
 pub fn slide_in(b: &mut [u8], from: usize, to: usize, n: usize)
     requires source { from + n ≤ length b.old }
     requires target { to + n ≤ length b.old }
     ensures { b.new ≡ put b.old to (part b.old from n) }
 {
-    b.copy_within(from..from + n, to);
+    if from.abs_diff(to) < FAR {
+        b.copy_within(from..from + n, to);
+    } else if to < from {
+        slide_down(b, from, to, n);
+    } else {
+        slide_up(b, from, to, n);
+    }
 }
 
 /// Fills a buffer with the bytes from an offset on.
