@@ -87,7 +87,9 @@ fn slide_up(b: &mut [u8], from: usize, to: usize, n: usize)
     }
 }
 
-/// Moves n bytes from one offset to another. The two ranges may overlap.
+/// Moves n bytes from one offset to another. The two ranges may overlap. Out of line, so that its loops are no part of
+/// callers that move nothing.
+#[inline(never)]
 pub fn slide_in(b: &mut [u8], from: usize, to: usize, n: usize)
     requires source { from + n ≤ length b.old }
     requires target { to + n ≤ length b.old }
