@@ -184,11 +184,11 @@ no_block b p h = go (is_block b p) refl
 
 -- ---- anchor words
 
-and_left : (x y : Bool) → (x && y) ≡ true → x ≡ true
+pub and_left : (x y : Bool) → (x && y) ≡ true → x ≡ true
 and_left true y e = refl
 and_left false y e = absurd cc
 
-and_right : (x y : Bool) → (x && y) ≡ true → y ≡ true
+pub and_right : (x y : Bool) → (x && y) ≡ true → y ≡ true
 and_right true y e = e
 and_right false y e = absurd cc
 
@@ -205,11 +205,11 @@ or_left false false e f = absurd cc
 leb_yes : (x y : ℕ) → x ≤ y → leb x y ≡ true
 leb_yes x y h = grind (arith, nat_tests)
 
-not_true : (a : Bool) → (a ≡ true → ⊥) → a ≡ false
+pub not_true : (a : Bool) → (a ≡ true → ⊥) → a ≡ false
 not_true true f = absurd (f refl)
 not_true false f = refl
 
-no_anchor : (k : ℕ) (fs : List Flex) → IsFree k fs → has_anchor fs k ≡ false
+pub no_anchor : (k : ℕ) (fs : List Flex) → IsFree k fs → has_anchor fs k ≡ false
 no_anchor k [] u = refl
 no_anchor k (f ∷ fs) u = rw (eqb_apart f.anchor k u.0) (no_anchor k fs u.1)
 
@@ -233,10 +233,6 @@ hung_all : (b : List ℕ) (fs : List Flex) (n : ℕ) → ((k : ℕ) → k < n �
 unfolding are_hung
 hung_all b fs zero f = refl
 hung_all b fs (suc n) f = and_both (are_hung b fs n) (is_hung b fs n) (hung_all b fs n (λ k l. f k (omega arith))) (f n (omega arith))
-
--- an anchor that isn't so
-pub unhung : (b : List ℕ) (fs : List Flex) (n k : ℕ) → is_hung b fs k ≡ false → k < n → are_hung b fs n ≡ false
-unhung b fs n k e l = not_true (are_hung b fs n) (λ t. let s : true ≡ false = sym (hung_at b fs n k t l) ∙ e in absurd cc)
 
 none_from : (b : List ℕ) (fs : List Flex) (k : ℕ) → are_hung b fs 64 ≡ true → k < 64 → IsFree k fs → word b (4 * k) ≡ 0
 none_from b fs k e l u = eq_from (word b (4 * k)) 0 (or_left (eqb (word b (4 * k)) 0) (has_anchor fs k) (hung_at b fs 64 k e l) (no_anchor k fs u))

@@ -1,26 +1,24 @@
 -- How far a check of a slot's bytes has come.
-use Rattle.std.proofs.Common.{◌≡◌, ℕ, zero, suc, ◌+◌, ◌-◌, ◌*◌, ◌/◌, ◌%◌, ◌<◌, ◌≤◌, Bool, true, false, eqb, leb, List, [], ◌∷◌, ◌++◌, length, refl, sym, ap, subst, ◌∙◌, append_assoc, length-append, arith}
+use Rattle.std.proofs.Common.{◌≡◌, ℕ, zero, suc, ◌+◌, ◌-◌, ◌*◌, ◌%◌, ◌<◌, ◌≤◌, true, false, leb, List, [], ◌∷◌, ◌++◌, length, refl, sym, ap, ◌∙◌, append_assoc, length-append, arith}
 use Rattle.std.specs.Prelude.{Some, None, nat_le}
 use Rattle.std.proofs.lemmas.Bool.Decides.{nat_tests}
 use Rattle.std.proofs.lemmas.List.{append-nil}
-use Rattle.std.proofs.lemmas.List.Folds.{list_any-append}
 use Rattle.rh_defs.specs.Bytes.{word}
 use Rattle.rh_defs.specs.Pieces.{total}
 use Rattle.rh_defs.specs.HeapImage.{IsImage, heap_of, fault_of}
-use Rattle.rh_defs.specs.Slot.{Flex, weight, flex_weight, slot_start, slot_length, slot_pages}
+use Rattle.rh_defs.specs.Slot.{Flex, weight, flex_weight, slot_length, slot_pages}
 use Rattle.rh_defs.specs.SlotImage.{is_block, flex_in}
 use Rattle.rh_defs.proofs.BytesLaws.{length-part}
-use Rattle.rh_defs.proofs.HeapLists.{eqb_same, eqb_apart}
+use Rattle.rh_defs.proofs.HeapLists.{eqb_apart}
 use Rattle.rh_defs.proofs.HeapFaults.{image_clean}
-use Rattle.rh_defs.proofs.SlotLaws.{none_weigh}
-use Rattle.rh_defs.proofs.SlotImageLaws.{is_block-is}
 use Rattle.rh_heap.specs.Image.{summary_of}
 use Rattle.rh_heap.specs.declared.image.Summary.{Summary}
-use Rattle.rh_slot.specs.Image.{IsSlotImage, IsRow, flex_size, has_length, heap_bytes, has_anchor, is_hung, are_hung, slot_fault_of, slot_summary}
+use Rattle.rh_slot.specs.Image.{IsSlotImage, IsRow, flex_size, has_length, heap_bytes, are_hung, words_in_use, slot_fault_of, slot_summary}
 use Rattle.rh_slot.specs.declared.image.BlockSums.{BlockSums}
 use Rattle.rh_slot.specs.declared.image.SlotFault.TheVariants.{BadSize, BadAnchor, SparePage}
 use Rattle.rh_slot.specs.declared.image.SlotSummary.{SlotSummary}
-use Rattle.rh_slot.proofs.ImageLaws.{block_at, after, flex_in-yes, flex_in-no, weight-block_at, and_both, Length, length_from, read, blocks_from, long, heap_is, heap_from, is_slot, fault-size, fault-anchor, fault-page, slot_clean}
+use Rattle.rh_slot.proofs.ImageLaws.{block_at, after, flex_in-yes, flex_in-no, weight-block_at, Length, length_from, read, blocks_from, long, heap_is, heap_from, is_slot, fault-size, fault-anchor, fault-page, not_true, slot_clean}
+use Rattle.rh_slot.proofs.AnchorCounts.{as_many, hung_by}
 
 sum_both : (size : Flex → ℕ) (xs ys : List Flex) → total size (xs ++ ys) ≡ total size xs + total size ys
 sum_both size [] ys = omega arith
@@ -120,88 +118,6 @@ row_end b from sums w t =
       bytes = w.bytes ∙ ap (total flex_size) all;
     }
 
--- ---- the walk that looks for an anchor's block
-
-pub record Seeking (b : List ℕ) (from p k : ℕ) : Type 0 where
-  pub walk : Passing b from p
-  pub none : has_anchor walk.passed k ≡ false
-
-pub seek_start : (b : List ℕ) (from k : ℕ) → Seeking b from from k
-unfolding passing_start
-seek_start b from k = record { walk = passing_start b from; none = refl }
-
-no_fuel : (b : List ℕ) (p : ℕ) → flex_in 0 b p ≡ []
-unfolding flex_in
-no_fuel b p = refl
-
--- a block stands at the walk's place
-pub record Next (b : List ℕ) (from p top : ℕ) (w : Passing b from p) : Type 0 where
-  pub more : More w.fuel
-  pub block : is_block b p ≡ true
-  pub fits : after b p ≤ top
-
-next : (b : List ℕ) (from p top : ℕ) (w : Passing b from p) → top ≡ from + total weight (flex_in (length b) b from) → p < top → Next b from p top w
-next b from p top w e h = go (is_block b p) w.fuel refl refl
-  where
-    left : (l : List Flex) → flex_in w.fuel b p ≡ l → p + total weight l ≡ top
-    left l s = omega (arith, w.place, ap (total weight) (w.is ∙ ap (λ x. w.passed ++ x) s), sum_both weight w.passed l)
-
-    go : (t : Bool) (n : ℕ) → is_block b p ≡ t → w.fuel ≡ n → Next b from p top w
-    go false n s f = let x = left [] (flex_in-no w.fuel b p s) in absurd (omega arith)
-    go true zero s f = let x = left [] (ap (λ i. flex_in i b p) f ∙ no_fuel b p) in absurd (omega arith)
-    go true (suc k) s f =
-        let x = left (block_at b p ∷ flex_in k b (after b p)) (ap (λ i. flex_in i b p) f ∙ flex_in-yes k b p s) in
-        record { more = record { left = k; is = f }; block = s; fits = omega (arith, weight-block_at b p) }
-
-module _ (b : List ℕ) (from p k top : ℕ) (w : Seeking b from p k) (e : top ≡ from + total weight (flex_in (length b) b from)) (h : p < top) where
-  pub seek_room : top ≤ length b → p + 8 ≤ length b
-  seek_room l = let n = next b from p top w.walk e h in let f = n.fits in omega arith
-
-  pub seek_found : word b p ≡ slot_start + 4 * k → true ≡ has_anchor (flex_in (length b) b from) k
-  seek_found s =
-      let n = next b from p top w.walk e h in
-      let rest = flex_in n.more.left b (after b p) in
-      let here : eqb ((word b p - slot_start) / 4) k ≡ true = eqb_same ((word b p - slot_start) / 4) k (omega arith) in
-      sym (ap (λ l. has_anchor l k) (is_now b from p w.walk n.more n.block) ∙ list_any-append (λ (f : Flex). eqb f.anchor k) w.walk.passed (block_at b p ∷ rest) ∙ rw (w.none, here) refl)
-
-  pub seek_on : (size step : ℕ) → (word b p ≡ slot_start + 4 * k → ⊥) → size ≡ word b (p + 4) → step ≡ flex_weight size → Seeking b from (p + step) k
-  unfolding passing_on
-  seek_on size step ne es est =
-      let n = next b from p top w.walk e h in
-      let i = is_block-is b p n.block in
-      let least = i.least in
-      let mult = i.multiple in
-      let apart : eqb ((word b p - slot_start) / 4) k ≡ false = eqb_apart ((word b p - slot_start) / 4) k (λ x. ne (omega arith)) in
-      record {
-        walk = passing_on b from p (p + step) w.walk n.more n.block (ap (λ n. p + n) (est ∙ ap flex_weight es));
-        none = list_any-append (λ (f : Flex). eqb f.anchor k) w.walk.passed (block_at b p ∷ []) ∙ rw (w.none, apart) refl;
-      }
-
-pub seek_end : (b : List ℕ) (from p k top : ℕ) → Seeking b from p k → top ≡ from + total weight (flex_in (length b) b from) → top ≤ p → false ≡ has_anchor (flex_in (length b) b from) k
-seek_end b from p k top w e h =
-    let none : total weight (flex_in w.walk.fuel b p) ≡ 0 = omega (arith, w.walk.place, ap (total weight) w.walk.is, sum_both weight w.walk.passed (flex_in w.walk.fuel b p)) in
-    sym (ap (λ l. has_anchor l k) (passing_end b from p w.walk (none_weigh (flex_in w.walk.fuel b p) none)) ∙ w.none)
-
--- ---- the walk over the anchors
-
-pub record HungTo (b : List ℕ) (blocks : List Flex) (n : ℕ) : Type 0 where
-  pub hung : are_hung b blocks n ≡ true
-  pub most : n ≤ 64
-
-pub hung_start : (b : List ℕ) (blocks : List Flex) → HungTo b blocks 0
-unfolding are_hung
-hung_start b blocks = record { hung = refl; most = omega arith }
-
-pub hung_on : (b : List ℕ) (blocks : List Flex) (n : ℕ) → HungTo b blocks n → n < 64 → is_hung b blocks n ≡ true → HungTo b blocks (n + 1)
-unfolding are_hung
-hung_on b blocks n w l e = record {
-  hung = subst (λ i. are_hung b blocks i ≡ true) (let x : suc n ≡ n + 1 = omega arith in x) (and_both (are_hung b blocks n) (is_hung b blocks n) w.hung e);
-  most = omega arith;
-}
-
-pub hung_end : (b : List ℕ) (blocks : List Flex) (n : ℕ) → HungTo b blocks n → 64 ≤ n → true ≡ are_hung b blocks 64
-hung_end b blocks n w h = let m = w.most in subst (λ i. true ≡ are_hung b blocks i) (let x : n ≡ 64 = omega arith in x) (sym w.hung)
-
 -- ---- what all of it finds
 
 pub record Ready (b : List ℕ) (from : ℕ) : Type 0 where
@@ -252,20 +168,24 @@ module _ (b : List ℕ) (from : ℕ) (r : Ready b from) where
     inside : nat_le (slot_length (read b)) (length b) ≡ true
     inside = leb_yes (slot_length (read b)) (length b) (omega (arith, length_here, i.within))
 
-    pub bad_anchor : are_hung b (flex_in (length b) b from) 64 ≡ false → slot_fault_of b ≡ Some BadAnchor
-    bad_anchor e = fault-anchor b r.right r.clean inside (ap (λ l. are_hung b l 64) row_is ∙ e)
+    -- each anchor word leads to a block
+    hung : words_in_use b 64 ≡ row.blocks → are_hung b (read b).blocks 64 ≡ true
+    hung e = ap (λ l. are_hung b l 64) row_is ∙ hung_by b (length b) from (e ∙ i.blocks)
 
-    pub spare : are_hung b (flex_in (length b) b from) 64 ≡ true → 4096 ≤ length b - row.top → slot_fault_of b ≡ Some SparePage
-    spare e h = fault-page b r.right r.clean inside (ap (λ l. are_hung b l 64) row_is ∙ e)
+    pub bad_anchor : (words_in_use b 64 ≡ row.blocks → ⊥) → slot_fault_of b ≡ Some BadAnchor
+    bad_anchor d = fault-anchor b r.right r.clean inside (not_true (are_hung b (read b).blocks 64) (λ e. d (as_many b (length b) from (ap (λ l. are_hung b l 64) (sym row_is) ∙ e) ∙ sym i.blocks)))
+
+    pub spare : words_in_use b 64 ≡ row.blocks → 4096 ≤ length b - row.top → slot_fault_of b ≡ Some SparePage
+    spare e h = fault-page b r.right r.clean inside (hung e)
         (eqb_apart (length b) (4096 * slot_pages (read b)) (λ x. let w = i.within in absurd (omega (arith, length_here))))
 
-    pub all_right : are_hung b (flex_in (length b) b from) 64 ≡ true → length b - row.top < 4096 → IsSlotImage b (read b)
+    pub all_right : words_in_use b 64 ≡ row.blocks → length b - row.top < 4096 → IsSlotImage b (read b)
     all_right e h =
         let w = i.within in
         let l = r.length_is.whole in
-        is_slot b (heap_of (heap_bytes b) 0) r.image r.length_is (omega (arith, length_here)) (ap (λ l. are_hung b l 64) row_is ∙ e) (omega (arith, length_here))
+        is_slot b (heap_of (heap_bytes b) 0) r.image r.length_is (omega (arith, length_here)) (hung e) (omega (arith, length_here))
 
-    pub no_fault : are_hung b (flex_in (length b) b from) 64 ≡ true → length b - row.top < 4096 → slot_fault_of b ≡ None
+    pub no_fault : words_in_use b 64 ≡ row.blocks → length b - row.top < 4096 → slot_fault_of b ≡ None
     no_fault e h = slot_clean b (read b) (all_right e h) refl
 
     pub sums_are : (heap : Summary) → heap ≡ summary_of (heap_of (heap_bytes b) 0) → (let s : SlotSummary = record { blocks = row.blocks; bytes = row.bytes; heap = heap; unused = length b - row.top } in s) ≡ slot_summary (length b) (read b)

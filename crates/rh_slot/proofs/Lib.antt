@@ -16,4 +16,5 @@ pub mod ItemLaws
 pub mod PageLaws
 pub mod ImageLaws
 pub mod ImageWalks
+pub mod AnchorCounts
 pub mod Examples

@@ -1,6 +1,6 @@
 -- Slots in bytes from anywhere: when bytes are a slot's and no more, a slot's sums, and the first fault of bytes that
 -- are no slot's.
-use Rattle.std.specs.Prelude.{◌≡◌, ℕ, zero, suc, ◌+◌, ◌-◌, ◌*◌, ◌%◌, ◌≤◌, ◌==◌, Bool, true, false, nat_le, ◌&&◌, ◌||◌, List, length, take, drop, Option, Some, None, Result, Ok, Err}
+use Rattle.std.specs.Prelude.{◌≡◌, ℕ, zero, suc, ◌+◌, ◌-◌, ◌*◌, ◌%◌, ◌≤◌, ◌==◌, Bool, true, false, nat_le, ◌&&◌, ◌||◌, if◌then◌else◌, List, length, take, drop, Option, Some, None, Result, Ok, Err}
 use Rattle.std.specs.List.{list_any}
 use Rattle.rh_defs.specs.Bytes.{word}
 use Rattle.rh_defs.specs.Pieces.{page, total}
@@ -64,6 +64,11 @@ is_hung b blocks k = word b (4 * k) == 0 || has_anchor blocks k
 unfoldable pub are_hung : List ℕ → List Flex → ℕ → Bool
 are_hung b blocks zero = true
 are_hung b blocks (suc n) = are_hung b blocks n && is_hung b blocks n
+
+-- how many of the first n anchor words aren't 0
+unfoldable pub words_in_use : List ℕ → ℕ → ℕ
+words_in_use b zero = 0
+words_in_use b (suc n) = words_in_use b n + (if word b (4 * n) == 0 then 0 else 1)
 
 -- The first fault by five tests, of which one counts only where those before it pass: that the length is right, the C
 -- heap's own first fault, that the blocks end inside, that each anchor word is 0 or has a block, that no page is spare.

@@ -49,6 +49,9 @@ pub fn slide<S: WordsMut>(store: &mut S, area: AreaId, from: usize, to: usize, n
     ensures carried { Carried (bytes (S.memory store.old) area.0) (bytes (S.memory store.new) area.0) from to n }
     ensures only { Edited (S.memory store.old) (S.memory store.new) area.0 to (to + n) }
 {
+    if n == 0 {
+        return;
+    }
     if from != to {
         store.slide(area, from, to, n);
     }

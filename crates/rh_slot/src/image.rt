@@ -1,11 +1,11 @@
 //! Images of slots: whether bytes from anywhere spell a slot, and what it consists of.
-ghost use Rattle.std.specs.Prelude.{◌≡◌, ◌↔◌, ◌+◌, ◌*◌, ◌%◌, ◌<◌, ◌≤◌, length, true, IsOk, IfOk, MatchOption};
+ghost use Rattle.std.specs.Prelude.{◌≡◌, ◌↔◌, ◌+◌, ◌%◌, ◌<◌, ◌≤◌, length, true, IsOk, IfOk, MatchOption};
 ghost use Rattle.rh_defs.specs.Pieces.{total};
 ghost use Rattle.rh_defs.specs.HeapImage.{IsImage, heap_of};
 ghost use Rattle.rh_defs.specs.Slot.{weight};
 ghost use Rattle.rh_defs.specs.SlotImage.{flex_in, is_block, slot_of};
 ghost use Rattle.rh_heap.specs.Image.{summary_of};
-ghost use Rattle.rh_slot.specs.Image.{IsSlotImage, IsRow, has_length, heap_bytes, has_anchor, is_hung, are_hung, slot_summary, slot_fault_of, fault_in};
+ghost use Rattle.rh_slot.specs.Image.{IsSlotImage, IsRow, has_length, heap_bytes, words_in_use, slot_summary, slot_fault_of, fault_in};
 ghost use Rattle.rh_defs.specs.declared.sizes.TheConstants.{ANCHORS, C_HEAP_PLACE, PAGE, WORD};
 ghost use Rattle.rh_slot.specs.declared.image.TheConstants.{LONGEST_SLOT};
 
@@ -115,7 +115,8 @@ fn check_blocks(image: &[u8], heap: Summary) -> Result<SlotSummary, SlotFault>
     let Some(row) = row_from(image, from) else {
         return Err(SlotFault::BadSize);
     };
-    if !are_hung(image, from, row.top) {
+    // Each block's anchor word leads to it alone. Words that lead to no block are those beyond the count of blocks.
+    if anchors_in_use(image) != row.blocks {
         return Err(SlotFault::BadAnchor);
     }
     let unused = image.len() - row.top;
@@ -182,50 +183,18 @@ fn row_from(image: &[u8], from: usize) -> Option<BlockSums>
     Some(row)
 }
 
-/// Whether each anchor word is 0, or a flex block from one place up to another has the anchor.
-fn are_hung(image: &[u8], from: usize, top: usize) -> bool
-    requires least { PAGE ≤ length image.now }
-    requires most { length image.now ≤ LONGEST_SLOT }
-    requires within { top ≤ length image.now }
-    requires row { top ≡ from + total weight (flex_in (length image.now) image.now from) }
-    ensures { result ≡ are_hung image.now (flex_in (length image.now) image.now from) ANCHORS }
+/// How many anchor words aren't 0.
+fn anchors_in_use(image: &[u8]) -> usize
+    requires { PAGE ≤ length image.now }
+    ensures { result ≡ words_in_use image.now ANCHORS }
 {
+    let mut used = 0;
     let mut anchor = 0;
     'walk: while anchor < ANCHORS {
-        if !is_hung(image, from, top, anchor) {
-            return false;
+        if word_in(image, WORD * anchor) != 0 {
+            used += 1;
         }
         anchor += 1;
     }
-    true
-}
-
-/// Whether an anchor word is 0, or a flex block from one place up to another has the anchor.
-fn is_hung(image: &[u8], from: usize, top: usize, anchor: usize) -> bool
-    requires least { PAGE ≤ length image.now }
-    requires most { length image.now ≤ LONGEST_SLOT }
-    requires within { top ≤ length image.now }
-    requires row { top ≡ from + total weight (flex_in (length image.now) image.now from) }
-    requires anchor { anchor < ANCHORS }
-    ensures { result ≡ is_hung image.now (flex_in (length image.now) image.now from) anchor }
-{
-    word_in(image, WORD * anchor) == 0 || has_anchor(image, from, top, anchor)
-}
-
-/// Whether a flex block from one place up to another has the anchor.
-fn has_anchor(image: &[u8], from: usize, top: usize, anchor: usize) -> bool
-    requires most { length image.now ≤ LONGEST_SLOT }
-    requires within { top ≤ length image.now }
-    requires row { top ≡ from + total weight (flex_in (length image.now) image.now from) }
-    requires anchor { anchor < ANCHORS }
-    ensures { result ≡ has_anchor (flex_in (length image.now) image.now from) anchor }
-{
-    let mut place = from;
-    'walk: while place < top {
-        if word_in(image, place) as usize == SLOT_START + WORD * anchor {
-            return true;
-        }
-        place += flex_weight(word_in(image, place + WORD) as usize);
-    }
-    false
+    used
 }
