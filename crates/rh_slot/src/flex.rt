@@ -148,6 +148,7 @@ impl Slot {
     }
 
     /// Takes bytes out of a block and puts zeros in. Refused (`NoRoom`) where too few pages are free.
+    #[inline(always)]
     fn splice<S: Pages>(
         self,
         store: &mut S,
