@@ -7,8 +7,8 @@
  *     if (vf_heap_init(memory, sizeof memory) == VF_OK && vf_heap_claim(memory, sizeof memory, 100, &address) == VF_OK)
  *         memory[address] = 1;
  *
- * Statuses, your duties, the calls of OS_Heap, the same on any bytes, flex, the C heap below flex, a slot in any bytes,
- * and null pointers: in this order.
+ * Statuses, your duties, the calls of OS_Heap, the same with a map beside the heap, the same on any bytes, flex, the C
+ * heap below flex, a slot in any bytes, and null pointers: in this order.
  * docs/C.md says more: what each Acorn call becomes, what a call costs, and what of it is proved.
  */
 #ifndef VERVAINFILE_H
@@ -42,7 +42,7 @@ enum {
 
     VF_NULL = 32,              /* a pointer is null */
     VF_BAD_LENGTH = 33,        /* no heap has so many bytes: a multiple of 8, 16 to 1 GiB; or no slot */
-    VF_SHORT = 34,             /* the memory is shorter than what is in it, or than the heap would become */
+    VF_SHORT = 34,             /* the memory is shorter than what is in it, or than the heap would become; or the map */
     VF_BAD_DESCRIPTOR = 35,    /* the first 16 bytes are not those of a heap */
     VF_BAD_LINK = 36,          /* a link does not lead to a hole ahead */
     VF_BAD_SEGMENT = 37,       /* a size is not that of a segment */
@@ -58,8 +58,8 @@ enum {
  * What no call can see, and each relies on:
  *
  * 1. A pointer that is not null leads to what it says: `memory` to `len` bytes, `from` to `from_len`, `to` to `to_len`,
- *    any other to one value of its type, at an address that fits the type. What the pointers of one call lead to does
- *    not overlap.
+ *    `map` to `map_len` words, any other to one value of its type, at an address that fits the type. What the pointers
+ *    of one call lead to does not overlap.
  * 2. While a call runs nobody else writes what it was lent, and nobody else reads what it was lent without `const`. On
  *    one heap or slot, the calls that take `memory` without `const` run one at a time, and alone; those that take it
  *    with `const` only read, and any number of them may run at once. Different heaps and slots may be used at the same
@@ -71,6 +71,9 @@ enum {
  *    a slot, so that vf_flex_check would answer VF_OK. They are one after vf_flex_start, and after each call, as long
  *    as you write to nothing but the bytes of your blocks. Where they are none the calls may read and write anywhere.
  *    What `len` and `slot` alone can tell each call tests.
+ * 5. Of the calls on heaps with `indexed` in their names: `map` is a map of the heap, with the bits that vf_heap_index
+ *    would set. It is one after vf_heap_index, and after each of these calls, as long as nothing else writes to it or
+ *    changes the heap. Where it is none they may read and write anywhere.
  */
 
 /* ---- OS_Heap -------------------------------------------------------------------------------------------------------
@@ -105,6 +108,41 @@ uint32_t vf_heap_extend(uint8_t *memory, size_t len, ptrdiff_t delta);
 
 /* OS_Heap 6: tells how many bytes the block at an address has: what was asked for, or up to 7 more. VF_NOT_A_BLOCK. */
 uint32_t vf_heap_block_size(const uint8_t *memory, size_t len, size_t address, size_t *size);
+
+/* ---- A map beside a heap -------------------------------------------------------------------------------------------
+ *
+ * The calls above find a block by a walk, which is long where thousands of blocks live. Who keeps a map of the heap
+ * beside it spares the walk: `map` is vf_heap_map_words(n) words or more, where n is the heap's length, and holds
+ * whatever it may before vf_heap_index. Each call here does with the heap's bytes just what the call above does, and
+ * keeps the map. After a call without a map that has changed the heap, make the map anew.
+ *
+ * A claim still walks from hole to hole: the first one that is large enough is taken.
+ */
+
+/* How many words a map has for a heap of `length` bytes: two for each 512 bytes, and for those that are left. */
+size_t vf_heap_map_words(size_t length);
+
+/* Makes a map of the heap, in one walk over it. VF_SHORT where it has fewer words than vf_heap_map_words says. */
+uint32_t vf_heap_index(const uint8_t *memory, size_t len, uint64_t *map, size_t map_len);
+
+/* OS_Heap 2: as vf_heap_claim. */
+uint32_t vf_heap_indexed_claim(uint8_t *memory, size_t len, uint64_t *map, size_t map_len, size_t n, size_t *address);
+
+/* OS_Heap 3: as vf_heap_release. */
+uint32_t vf_heap_indexed_release(uint8_t *memory, size_t len, uint64_t *map, size_t map_len, size_t address);
+
+/* OS_Heap 4: as vf_heap_resize. */
+uint32_t vf_heap_indexed_resize(uint8_t *memory, size_t len, uint64_t *map, size_t map_len, size_t address,
+                                ptrdiff_t delta, size_t *moved_to);
+
+/* OS_Heap 6: as vf_heap_block_size. */
+uint32_t vf_heap_indexed_block_size(const uint8_t *memory, size_t len, const uint64_t *map, size_t map_len,
+                                    size_t address, size_t *size);
+
+/* Tells by how many bytes the heap is too short for a resize by `delta`, 0 where it has room: as many more make it be
+ * done. VF_NOT_A_BLOCK, VF_BAD_SIZE; VF_NO_ROOM where `delta` has more than 32 bits. */
+uint32_t vf_heap_indexed_resize_need(const uint8_t *memory, size_t len, const uint64_t *map, size_t map_len,
+                                     size_t address, ptrdiff_t delta, size_t *need);
 
 /* ---- The same on any bytes -----------------------------------------------------------------------------------------
  *
@@ -276,6 +314,25 @@ VF_BOTH_UNLESS_NULL(vf_heap, resize,
 VF_BOTH_UNLESS_NULL(vf_heap, extend, (uint8_t *memory, size_t len, ptrdiff_t delta), memory, (memory, len, delta))
 VF_BOTH_UNLESS_NULL(vf_heap, block_size, (const uint8_t *memory, size_t len, size_t address, size_t *size),
                     memory && size, (memory, len, address, size))
+VF_UNLESS_NULL(vf_heap_index, (const uint8_t *memory, size_t len, uint64_t *map, size_t map_len),
+               memory && map, (memory, len, map, map_len))
+VF_UNLESS_NULL(vf_heap_indexed_claim,
+               (uint8_t *memory, size_t len, uint64_t *map, size_t map_len, size_t n, size_t *address),
+               memory && map && address, (memory, len, map, map_len, n, address))
+VF_UNLESS_NULL(vf_heap_indexed_release,
+               (uint8_t *memory, size_t len, uint64_t *map, size_t map_len, size_t address),
+               memory && map, (memory, len, map, map_len, address))
+VF_UNLESS_NULL(vf_heap_indexed_resize,
+               (uint8_t *memory, size_t len, uint64_t *map, size_t map_len, size_t address, ptrdiff_t delta,
+                size_t *moved_to),
+               memory && map && moved_to, (memory, len, map, map_len, address, delta, moved_to))
+VF_UNLESS_NULL(vf_heap_indexed_block_size,
+               (const uint8_t *memory, size_t len, const uint64_t *map, size_t map_len, size_t address, size_t *size),
+               memory && map && size, (memory, len, map, map_len, address, size))
+VF_UNLESS_NULL(vf_heap_indexed_resize_need,
+               (const uint8_t *memory, size_t len, const uint64_t *map, size_t map_len, size_t address,
+                ptrdiff_t delta, size_t *need),
+               memory && map && need, (memory, len, map, map_len, address, delta, need))
 
 VF_UNLESS_NULL(vf_flex_start, (uint8_t *memory, size_t len, struct vf_slot *slot),
                memory && slot, (memory, len, slot))
@@ -327,6 +384,12 @@ VF_BOTH_UNLESS_NULL(vf_flex, block_size,
 
 #define vf_heap_init vf_heap_init_unless_null
 #define vf_heap_check vf_heap_check_unless_null
+#define vf_heap_index vf_heap_index_unless_null
+#define vf_heap_indexed_claim vf_heap_indexed_claim_unless_null
+#define vf_heap_indexed_release vf_heap_indexed_release_unless_null
+#define vf_heap_indexed_resize vf_heap_indexed_resize_unless_null
+#define vf_heap_indexed_block_size vf_heap_indexed_block_size_unless_null
+#define vf_heap_indexed_resize_need vf_heap_indexed_resize_need_unless_null
 #define vf_heap_checked_describe vf_heap_checked_describe_unless_null
 #define vf_heap_checked_claim vf_heap_checked_claim_unless_null
 #define vf_heap_checked_release vf_heap_checked_release_unless_null

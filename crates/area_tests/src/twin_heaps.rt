@@ -13,7 +13,7 @@ use rh_heap::{
     Span, block_size, block_size_in, claim, claim_in, end, index, init, release, release_in,
     resize, resize_in, resize_need, resize_need_in,
 };
-use rh_store::{Pages, PlainStore, Store, Words};
+use rh_store::{Pages, PlainStore, Store, Words, WordsMut};
 use std::alloc::Global;
 use std::process::Abort;
 use std::test::Fail;
@@ -32,7 +32,7 @@ const CALLS: u32 = 1000;
 
 /// The heap, twice, each in an area of a store of its own, and the map of the second.
 #[derive(Drop)]
-struct Twins<S: Words + Drop> {
+struct Twins<S: WordsMut + Drop> {
     walked: S,
     walked_at: Span,
     mapped: S,
@@ -40,7 +40,7 @@ struct Twins<S: Words + Drop> {
     starts: [u64; MAP],
 }
 
-impl<S: Words + Drop> Twins<S> {
+impl<S: WordsMut + Drop> Twins<S> {
     fn claim<R: Abort>(&mut self, rt: &R, n: u32) -> Result<usize, HeapRefusal>
         requires walked { IsSpan (S.memory self.old.walked) self.old.walked_at }
         requires mapped { IsSpan (S.memory self.old.mapped) self.old.mapped_at }

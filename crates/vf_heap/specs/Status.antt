@@ -1,5 +1,5 @@
 -- Statuses: how a call ended, as a number.
-use Rattle.std.specs.Prelude.{ℕ, ◌==◌, nat_le, nat_lt, ◌&&◌, ◌||◌, if◌then◌else◌, ℤ, List, length, take, Option, Some, None, Result, Ok, Err}
+use Rattle.std.specs.Prelude.{ℕ, ◌==◌, ◌+◌, ◌*◌, ◌/◌, nat_le, nat_lt, ◌&&◌, ◌||◌, if◌then◌else◌, ℤ, List, length, take, Option, Some, None, Result, Ok, Err}
 use Rattle.rh_defs.specs.Bytes.{word}
 use Rattle.rh_defs.specs.Chain.{answer_of}
 use Rattle.rh_defs.specs.Heap.{Heap, first_place, extend}
@@ -74,3 +74,11 @@ extend_status n delta h =
     if nat_lt n (moved h.end delta) then short
     else if is_multiple (moved h.end delta) then answer_status (extend delta h)
     else bad_length
+
+-- the words of a map for a heap of n bytes: two for each 512 of them, and for those that are left
+abbrev pub map_words : ℕ → ℕ
+map_words n = 2 * ((n + 511) / 512)
+
+-- 0 where a map of so many words has enough of them for the heap
+abbrev pub map_status : ℕ → Heap → ℕ
+map_status words h = if nat_lt words (map_words h.end) then short else 0

@@ -69,7 +69,7 @@ pub extern "C" fn vf_heap_release(memory: &mut [u8], address: usize) -> u32
 }
 
 /// Why a block can't have so many bytes more, or fewer.
-fn far_refusal(memory: &[u8], address: usize, delta: isize) -> HeapRefusal
+pub(crate) fn far_refusal(memory: &[u8], address: usize, delta: isize) -> HeapRefusal
     requires heap { IsHeapBytes memory.now }
     requires far { IsFar delta }
     ensures { resize address delta (heap_of memory.now 0) ≡ Err result }

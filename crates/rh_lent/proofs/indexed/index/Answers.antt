@@ -1,16 +1,16 @@
 use Rattle.rh_defs.specs.Memory.{bytes, area_set}
-use Rattle.rh_lent.specs.Lent.{memory_of, memory_over}
+use Rattle.rh_lent.specs.Lent.{memory_shown, memory_over}
 use Rattle.rh_lent.proofs.HeapBytes.{is_span}
 use Rattle.rh_lent.proofs.indexed.index.Goals as goal
 
 pub index-requires-clause-span : goal.index-requires-clause-span
-unfolding memory_of
+unfolding memory_shown
 index-requires-clause-span c = is_span c.args.memory.now _ c.requires.heap
 
 pub index-requires-clause-long : goal.index-requires-clause-long
-unfolding memory_of memory_over bytes area_set
+unfolding memory_shown memory_over bytes area_set
 index-requires-clause-long c = c.requires.long
 
 pub returns-clause-starts : goal.returns-clause-starts
-unfolding memory_of memory_over bytes area_set
+unfolding memory_shown memory_over bytes area_set
 returns-clause-starts c = c.index.ensures.starts

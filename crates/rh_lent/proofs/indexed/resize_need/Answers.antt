@@ -5,19 +5,19 @@ use Rattle.std.proofs.lemmas.Int.{to_z-of_z}
 use Rattle.rh_defs.specs.Heap.{need_at}
 use Rattle.rh_defs.specs.HeapImage.{heap_of}
 use Rattle.rh_defs.specs.Memory.{bytes, area_set}
-use Rattle.rh_lent.specs.Lent.{memory_of, memory_over}
+use Rattle.rh_lent.specs.Lent.{memory_shown, memory_over}
 use Rattle.rh_lent.proofs.HeapBytes.{is_span}
 use Rattle.rh_lent.proofs.indexed.resize_need.Goals as goal
 
 pub resize_need_in-requires-clause-span : goal.resize_need_in-requires-clause-span
-unfolding memory_of
+unfolding memory_shown
 resize_need_in-requires-clause-span c = is_span c.args.memory.now _ c.requires.heap
 
 pub resize_need_in-requires-clause-starts : goal.resize_need_in-requires-clause-starts
-unfolding memory_of memory_over bytes area_set
+unfolding memory_shown memory_over bytes area_set
 resize_need_in-requires-clause-starts c = c.requires.starts
 
-pub returns-clause-answer : goal.returns-clause-answer
-unfolding memory_of memory_over bytes area_set
-returns-clause-answer c =
+pub returns : goal.returns
+unfolding memory_shown memory_over bytes area_set
+returns c =
     c.resize_need_in.ensures ∙ ap (λ (d : ℤ). need_at c.args.address d (heap_of c.args.memory.now 0)) (to_z-of_z w32 c.args.delta c.ranges.delta)
