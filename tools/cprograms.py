@@ -20,7 +20,8 @@ LONGEST = 600
 TOLD = re.compile(rb"malloc_shim: (\d+) claims[^\n]*\n")
 # What stands in for malloc in each column. Nothing does in the first.
 CHECKED = "checked"
-HEAPS = {"glibc": None, "proved": [], "plain C": ["-DSHIM_PLAIN"], CHECKED: ["-DVF_CHECKED"]}
+HEAPS = {"glibc": None, "with a map": [], "proved": ["-DSHIM_WALKS"], "plain C": ["-DSHIM_PLAIN"],
+         CHECKED: ["-DVF_CHECKED"]}
 
 LUA = """
 local words, keys = {}, {}

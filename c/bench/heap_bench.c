@@ -1,12 +1,13 @@
 /*
  * heap_bench.c: what a claim and a release take, beside the plain heap of the same rules: with 100, 1,000 and 10,000
- * live blocks of 100 bytes, none or every second one of them freed, and claims that fit the first hole or none.
+ * live blocks of 100 bytes, none or every second one of them freed, and claims that fit the first hole or none. Then the
+ * same with a map beside the heap.
  */
 #define _POSIX_C_SOURCE 200809L
 #include "bench.h"
 #include "os_heap.h"
 
-enum { LEN = 4 << 20, MOST = 10000, BLOCK = 100, FITS = 50, FITS_NONE = 300, CALLS = 400000 };
+enum { LEN = 4 << 20, WORDS = 2 * LEN / 512, MOST = 10000, BLOCK = 100, FITS = 50, FITS_NONE = 300, CALLS = 400000 };
 
 struct heap {
     uint32_t (*init)(uint8_t *memory, size_t len);
@@ -14,6 +15,28 @@ struct heap {
     uint32_t (*claim)(uint8_t *memory, size_t len, size_t n, size_t *address);
     uint32_t (*release)(uint8_t *memory, size_t len, size_t address);
 };
+
+static uint8_t memory[LEN];
+static uint64_t map[WORDS];
+static size_t blocks[MOST];
+
+static uint32_t mapped_init(uint8_t *bytes, size_t len)
+{
+    must(vf_heap_init(bytes, len));
+    return vf_heap_index(bytes, len, map, WORDS);
+}
+
+static uint32_t mapped_claim(uint8_t *bytes, size_t len, size_t n, size_t *address)
+{
+    return vf_heap_indexed_claim(bytes, len, map, WORDS, n, address);
+}
+
+static uint32_t mapped_release(uint8_t *bytes, size_t len, size_t address)
+{
+    return vf_heap_indexed_release(bytes, len, map, WORDS, address);
+}
+
+static const struct heap MAPPED = {mapped_init, NULL, mapped_claim, mapped_release};
 
 static const struct heap HEAPS[WAYS] = {
     [PROVED] = {vf_heap_init, NULL, vf_heap_claim, vf_heap_release},
@@ -33,9 +56,6 @@ static const struct shape SHAPES[] = {
     {"every second freed, claims that fit", true, FITS},
     {"every second freed, claims at the top", true, FITS_NONE},
 };
-
-static uint8_t memory[LEN];
-static size_t blocks[MOST];
 
 static void set_up(const struct heap *heap, const struct shape *shape, int live)
 {
@@ -62,24 +82,49 @@ static double timed(const struct heap *heap, size_t claimed, int pairs)
     return (seconds() - start) / pairs / 2 * 1e6;
 }
 
+static double once(const struct heap *heap, const struct shape *shape, int live)
+{
+    set_up(heap, shape, live);
+    return timed(heap, shape->claimed, CALLS / 2 / live);
+}
+
 static void compare(const struct shape *shape, int live)
 {
     double least[WAYS];
     for (int round = 0; round < ROUNDS; round++)
         for (int way = 0; way < WAYS; way++) {
-            set_up(&HEAPS[way], shape, live);
-            double time = timed(&HEAPS[way], shape->claimed, CALLS / 2 / live);
+            double time = once(&HEAPS[way], shape, live);
             least[way] = round == 0 || time < least[way] ? time : least[way];
         }
     printf("| %d, %s |", live, shape->name);
     print_times(least);
 }
 
+static void compare_mapped(const struct shape *shape, int live)
+{
+    double least[] = {1e9, 1e9};
+    const struct heap *const both[] = {&MAPPED, &HEAPS[PROVED]};
+    for (int round = 0; round < ROUNDS; round++)
+        for (int i = 0; i < 2; i++) {
+            double time = once(both[i], shape, live);
+            least[i] = time < least[i] ? time : least[i];
+        }
+    printf("| %d, %s | %.3f | %.3f | %.2f |\n", live, shape->name, least[0], least[1], least[0] / least[1]);
+    fflush(stdout);
+}
+
+static void for_each_shape(void (*row)(const struct shape *shape, int live))
+{
+    for (int live = 100; live <= MOST; live *= 10)
+        for (size_t i = 0; i < sizeof SHAPES / sizeof *SHAPES; i++)
+            row(&SHAPES[i], live);
+}
+
 int main(void)
 {
     print_head("a claim or a release", "Live blocks");
-    for (int live = 100; live <= MOST; live *= 10)
-        for (size_t i = 0; i < sizeof SHAPES / sizeof *SHAPES; i++)
-            compare(&SHAPES[i], live);
+    for_each_shape(compare);
+    printf("\n| Live blocks | with a map | without | with / without |\n|---|---|---|---|\n");
+    for_each_shape(compare_mapped);
     return 0;
 }

@@ -1,13 +1,15 @@
 /*
- * malloc_shim.c: malloc, free and their company over one heap of the library, for a program that was never told:
+ * malloc_shim.c: malloc, free and their company over heaps of the library, for a program that was never told:
  *
  *     cc -O2 -fPIC -shared -pthread malloc_shim.c libvervainfile.a -o malloc_shim.so
  *     LD_PRELOAD=./malloc_shim.so PROGRAM
  *
- * OS_Heap finds a block by a walk, so that a program with tens of thousands of live blocks is slow here.
+ * Blocks of up to 508 bytes have a heap for each size, so that a claim's first hole is large enough; all others, and
+ * those for which their heap has no room, lie in one more heap. A map beside each heap finds the blocks.
  *
- * -DSHIM_PLAIN takes the heap of os_heap.h in its place, to compare with; -DSHIM_BYTES=N gives the heap N bytes. With
- * SHIM_TELLS in the environment it says at the end on standard error how often it was called.
+ * -DSHIM_WALKS takes one heap and no map, as checked calls (-DVF_CHECKED) do too; -DSHIM_PLAIN takes the heap of
+ * os_heap.h, to compare with; -DSHIM_BYTES=N gives the largest heap N bytes. With SHIM_TELLS in the environment it says
+ * at the end on standard error how often it was called.
  */
 #define _GNU_SOURCE
 #include "vervainfile.h"
@@ -17,6 +19,18 @@
 #define HEAP(call) os_heap_##call
 #else
 #define HEAP(call) vf_heap_##call
+#endif
+
+/* What finds blocks, what it is given first, and the number of the heap for all that has none for its size. */
+#if defined SHIM_PLAIN || defined SHIM_WALKS || defined VF_CHECKED
+#define FINDING(call) HEAP(call)
+#define GIVEN(it) it.heap, it.length
+#define LARGE 0
+#else
+#define KEEPS_MAP
+#define FINDING(call) vf_heap_indexed_##call
+#define GIVEN(it) it.heap, it.length, it.map, it.words
+#define LARGE 32
 #endif
 
 #include <errno.h>
@@ -32,14 +46,25 @@
 #endif
 
 enum {
-    WORD = 4,      /* the bytes of a block's size word */
-    ALIGNMENT = 16 /* of every block: the heap begins 12 behind a multiple of 16, and segments are multiples of 16 */
+    WORD = 4,       /* the bytes of a block's size word */
+    ALIGNMENT = 16, /* of every block: a heap begins 12 behind a multiple of 16, and segments are multiples of 16 */
+    LINE = 512,     /* the bytes of a heap for which a map has two words */
+    SMALL = 8 << 20 /* the bytes of a heap for blocks of one size */
 };
 
-static _Alignas(ALIGNMENT) uint8_t room[ALIGNMENT + SHIM_BYTES];
-static uint8_t *const heap = room + ALIGNMENT - WORD;
-static const size_t length = SHIM_BYTES;
-static bool is_open;
+/* A heap: where it is, and its map where one is kept. */
+struct pool {
+    uint8_t *heap;
+    size_t length;
+    uint64_t *map;
+    size_t words;
+};
+
+static _Alignas(ALIGNMENT) uint8_t room[(size_t)LARGE * SMALL + ALIGNMENT + SHIM_BYTES];
+#ifdef KEEPS_MAP
+static uint64_t map[2 * ((LARGE * (size_t)SMALL + SHIM_BYTES + LINE - 1) / LINE)];
+#endif
+static bool is_open[LARGE + 1];
 static unsigned long claims, releases, resizes;
 static pthread_mutex_t lock = PTHREAD_MUTEX_INITIALIZER;
 
@@ -73,36 +98,91 @@ static size_t rounded(size_t n)
     return (n + WORD + ALIGNMENT - 1) / ALIGNMENT * ALIGNMENT - WORD;
 }
 
-static size_t address_of(const void *block)
+/* The heap of a number: below LARGE one for blocks of one size. */
+static struct pool pool(size_t number)
 {
-    return (size_t)((const uint8_t *)block - heap);
+    size_t at = number * SMALL, length = number == LARGE ? SHIM_BYTES : (size_t)SMALL - ALIGNMENT;
+    struct pool it = {room + at + ALIGNMENT - WORD, length, NULL, 0};
+#ifdef KEEPS_MAP
+    it.map = map + 2 * (at / LINE);
+    it.words = vf_heap_map_words(length);
+#endif
+    return it;
+}
+
+static size_t number_for(size_t rounded_size)
+{
+    size_t number = rounded_size / ALIGNMENT;
+    return number > LARGE ? LARGE : number;
+}
+
+static size_t number_of(const void *block)
+{
+    size_t number = (size_t)((const uint8_t *)block - room) / SMALL;
+    return number > LARGE ? LARGE : number;
+}
+
+static size_t address_of(const struct pool *it, const void *block)
+{
+    return (size_t)((const uint8_t *)block - it->heap);
+}
+
+static void open_pool(size_t number)
+{
+    struct pool it = pool(number);
+    if (HEAP(init)(it.heap, it.length) != VF_OK)
+        give_up("malloc_shim: the region can't be a heap\n");
+#ifdef KEEPS_MAP
+    if (vf_heap_index(it.heap, it.length, it.map, it.words) != VF_OK)
+        give_up("malloc_shim: the map is too short\n");
+#endif
+    is_open[number] = true;
+}
+
+static void *claim_in(size_t number, size_t rounded_size)
+{
+    size_t address;
+    struct pool it = pool(number);
+    if (!is_open[number])
+        open_pool(number);
+    return FINDING(claim)(GIVEN(it), rounded_size, &address) == VF_OK ? it.heap + address : NULL;
 }
 
 static void *claim(size_t n)
 {
-    size_t address;
-    if (n > length)
+    if (n > SHIM_BYTES)
         return NULL;
-    if (!is_open && HEAP(init)(heap, length) != VF_OK)
-        give_up("malloc_shim: the region can't be a heap\n");
-    is_open = true;
+    size_t size = rounded(n ? n : 1), number = number_for(size);
     claims++;
-    return HEAP(claim)(heap, length, rounded(n ? n : 1), &address) == VF_OK ? heap + address : NULL;
+    void *block = claim_in(number, size);
+    return block || number == LARGE ? block : claim_in(LARGE, size);
 }
 
 static size_t size_of(const void *block)
 {
     size_t size;
-    if (HEAP(block_size)(heap, length, address_of(block), &size) != VF_OK)
+    struct pool it = pool(number_of(block));
+    if (FINDING(block_size)(GIVEN(it), address_of(&it, block), &size) != VF_OK)
         give_up("malloc_shim: no block is there\n");
     return size;
 }
 
 static void release(void *block)
 {
+    struct pool it = pool(number_of(block));
     releases++;
-    if (HEAP(release)(heap, length, address_of(block)) != VF_OK)
+    if (FINDING(release)(GIVEN(it), address_of(&it, block)) != VF_OK)
         give_up("malloc_shim: what is freed is no block\n");
+}
+
+/* Gives a block that stays in its heap another size. */
+static void *resize(void *block, size_t old, size_t rounded_size)
+{
+    size_t moved_to;
+    struct pool it = pool(number_of(block));
+    ptrdiff_t delta = (ptrdiff_t)rounded_size - (ptrdiff_t)old;
+    resizes++;
+    return FINDING(resize)(GIVEN(it), address_of(&it, block), delta, &moved_to) == VF_OK ? it.heap + moved_to : NULL;
 }
 
 /* A block with a coarser alignment begins somewhere in a longer one: which one is kept in a list, in blocks too. */
@@ -125,7 +205,7 @@ static void *claim_aligned(size_t alignment, size_t n)
 {
     if (alignment <= ALIGNMENT)
         return claim(n);
-    if (alignment > length || n > length)
+    if (alignment > SHIM_BYTES || n > SHIM_BYTES)
         return NULL;
     struct aligned *it = claim(sizeof *it);
     uint8_t *block = it ? claim(n + alignment) : NULL;
@@ -161,15 +241,11 @@ static size_t size_of_given(const void *given)
 
 static void *resize_given(void *given, size_t n)
 {
-    size_t moved_to, old = size_of_given(given);
-    if (n > length)
+    size_t old = size_of_given(given);
+    if (n > SHIM_BYTES)
         return NULL;
-    if (!*find_aligned(given)) {
-        ptrdiff_t delta = (ptrdiff_t)rounded(n) - (ptrdiff_t)old;
-        resizes++;
-        uint32_t status = HEAP(resize)(heap, length, address_of(given), delta, &moved_to);
-        return status == VF_OK ? heap + moved_to : NULL;
-    }
+    if (!*find_aligned(given) && number_for(rounded(n)) == number_of(given))
+        return resize(given, old, rounded(n));
     void *new = claim(n);
     if (new) {
         memcpy(new, given, old < n ? old : n);
@@ -266,16 +342,25 @@ size_t malloc_usable_size(void *given)
     return n;
 }
 
+/* The bytes of all heaps that aren't free. */
+static size_t used_bytes(void)
+{
+    size_t used = 0, most, free_bytes;
+    for (size_t number = 0; number <= LARGE; number++) {
+        struct pool it = pool(number);
+        if (is_open[number] && HEAP(describe)(it.heap, it.length, &most, &free_bytes) == VF_OK)
+            used += it.length - free_bytes;
+    }
+    return used;
+}
+
 __attribute__((destructor)) static void tell(void)
 {
     static char line[200];
-    size_t most = 0, free_bytes = 0;
     if (!getenv("SHIM_TELLS"))
         return;
-    if (is_open)
-        HEAP(describe)(heap, length, &most, &free_bytes);
     int n = snprintf(line, sizeof line, "malloc_shim: %lu claims, %lu releases, %lu resizes, %zu bytes still used\n",
-                     claims, releases, resizes, is_open ? length - free_bytes : 0);
+                     claims, releases, resizes, used_bytes());
     if (write(STDERR_FILENO, line, (size_t)n) < 0)
         return;
 }

@@ -23,6 +23,27 @@ static void calls_see_null(const struct heap_calls *heap, size_t len)
     IS_NULL(heap->block_size(memory, len, 20, NULL));
 }
 
+/* The calls on a heap with a map. */
+static void mapped_calls_see_null(size_t len)
+{
+    static uint64_t map[2];
+    for (int i = 0; i < 2; i++) {
+        uint8_t *at = i ? memory : NULL;
+        uint64_t *map_or_null = i ? NULL : map;
+        IS_NULL(vf_heap_index(at, len, map_or_null, 2));
+        IS_NULL(vf_heap_indexed_claim(at, len, map_or_null, 2, 1, &number));
+        IS_NULL(vf_heap_indexed_release(at, len, map_or_null, 2, 20));
+        IS_NULL(vf_heap_indexed_resize(at, len, map_or_null, 2, 20, 1, &number));
+        IS_NULL(vf_heap_indexed_block_size(at, len, map_or_null, 2, 20, &number));
+        IS_NULL(vf_heap_indexed_resize_need(at, len, map_or_null, 2, 20, 1, &number));
+    }
+    IS_NULL(vf_heap_indexed_claim(memory, len, map, 2, 1, NULL));
+    IS_NULL(vf_heap_indexed_resize(memory, len, map, 2, 20, 1, NULL));
+    IS_NULL(vf_heap_indexed_block_size(memory, len, map, 2, 20, NULL));
+    IS_NULL(vf_heap_indexed_resize_need(memory, len, map, 2, 20, 1, NULL));
+    EXPECT(!map[0] && !map[1]);
+}
+
 /* The calls on a slot that stand once. */
 static void slots_see_null(size_t len)
 {
@@ -83,6 +104,7 @@ int main(void)
         IS_NULL(vf_heap_check(NULL, lengths[i]));
         calls_see_null(&TRUSTING, lengths[i]);
         calls_see_null(&CHECKED, lengths[i]);
+        mapped_calls_see_null(lengths[i]);
         slots_see_null(lengths[i]);
         calls_on_slots_see_null(&TRUSTING_FLEX, lengths[i]);
         calls_on_slots_see_null(&CHECKED_FLEX, lengths[i]);

@@ -8,7 +8,7 @@
 #include <stdlib.h>
 
 enum { PAGE = 4096, LEN = 8 * PAGE, FIRST_LEN = LEN / 2, TURNS = 4000, ANCHORS = 8, NO_ANCHOR = 64 };
-enum { HEAP_CALLS = 6, FLEX_CALLS = 13 };
+enum { HEAP_CALLS = 6, MAPPED_CALLS = 6, FLEX_CALLS = 13, WORDS = 2 * LEN / 512 };
 
 _Static_assert(sizeof(struct heap_calls) == (1 + HEAP_CALLS) * sizeof(void *), "each call on a heap is made");
 _Static_assert(sizeof(struct flex_calls) == FLEX_CALLS * sizeof(void *), "each call on a slot is made");
@@ -30,6 +30,7 @@ COUNTED(realloc, (void *old, size_t n), (old, n))
 COUNTED(aligned_alloc, (size_t alignment, size_t n), (alignment, n))
 
 static uint8_t memory[LEN], buffer[64];
+static uint64_t map[WORDS];
 static struct vf_slot slot;
 /* What a call tells, and the block that was claimed last. */
 static size_t number, other, block;
@@ -77,6 +78,25 @@ static uint32_t call_heap(const struct heap_calls *heap, uint8_t *bytes, uint32_
         return heap->extend(bytes, LEN, some_amount(20));
     default:
         return heap->block_size(bytes, LEN, some_block(), &number);
+    }
+}
+
+/* The calls on a heap with a map. One that is one word short is refused, and the map stays. */
+static uint32_t call_mapped(uint32_t call)
+{
+    switch (call) {
+    case 0:
+        return vf_heap_index(memory, LEN, map, vf_heap_map_words(FIRST_LEN) - below(2));
+    case 1:
+        return claimed(vf_heap_indexed_claim(memory, LEN, map, WORDS, below(300), &number));
+    case 2:
+        return vf_heap_indexed_release(memory, LEN, map, WORDS, some_block());
+    case 3:
+        return claimed(vf_heap_indexed_resize(memory, LEN, map, WORDS, some_block(), some_amount(100), &number));
+    case 4:
+        return vf_heap_indexed_block_size(memory, LEN, map, WORDS, some_block(), &number);
+    default:
+        return vf_heap_indexed_resize_need(memory, LEN, map, WORDS, some_block(), some_amount(100), &number);
     }
 }
 
@@ -145,6 +165,21 @@ static void heaps_take_none(const struct heap_calls *heap)
     expect_both(takes_any ? 0 : 1, HEAP_CALLS);
 }
 
+static void mapped_heaps_take_none(void)
+{
+    start_counting();
+    for (int turn = 0; turn < TURNS; turn++) {
+        uint32_t call = below(MAPPED_CALLS);
+        if (turn % 200 == 0) {
+            EXPECT(vf_heap_init(memory, FIRST_LEN) == VF_OK);
+            EXPECT(vf_heap_index(memory, LEN, map, WORDS) == VF_OK);
+        }
+        count(call, call_mapped(call));
+        EXPECT(vf_heap_check(memory, LEN) == VF_OK);
+    }
+    expect_both(0, MAPPED_CALLS);
+}
+
 static void slots_take_none(const struct flex_calls *flex)
 {
     bool was;
@@ -182,6 +217,7 @@ int main(void)
 {
     heaps_take_none(&TRUSTING);
     heaps_take_none(&CHECKED);
+    mapped_heaps_take_none();
     slots_take_none(&TRUSTING_FLEX);
     slots_take_none(&CHECKED_FLEX);
     EXPECT(taken == 0);

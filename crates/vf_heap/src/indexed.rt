@@ -65,11 +65,7 @@ pub extern "C" fn vf_heap_indexed_claim(
 
 /// Releases the block at an address. (OS_Heap 3.)
 #[unsafe(no_mangle)]
-pub extern "C" fn vf_heap_indexed_release(
-    memory: &mut [u8],
-    map: &mut [u64],
-    address: usize,
-) -> u32
+pub extern "C" fn vf_heap_indexed_release(memory: &mut [u8], map: &mut [u64], address: usize) -> u32
     requires heap { IsHeapBytes memory.old }
     requires map { IsIndex map.old (heap_of memory.old 0) }
     ensures status { result ≡ status_of (no_answer (released_at address (heap_of memory.old 0))) }
