@@ -18,6 +18,9 @@ FOLDER = "lib"
 NAME = "vervainfile"
 PREFIX = "vf_"
 LOG = "clib.log"
+# What lib/ has, and what it is made of beside crates.
+FILES = (f"lib{NAME}.a", f"{NAME}.h", f"{NAME}.pc")
+SOURCES = (header.HEADER, f"c/{NAME}.pc.in")
 # What the archive may ask of the program that it is linked into.
 IMPORTS = {"memcmp", "memcpy", "memmove", "memset"}
 
@@ -31,9 +34,9 @@ def compiler():
     return os.environ.get("CC", "cc").split()
 
 
-def exporters(top):
-    """The crates whose exports make the library."""
-    return [it for it in kit.crates_of(top) if it.is_static and it.name.startswith(PREFIX)]
+def exporters(crates):
+    """Those of the crates whose exports make the library."""
+    return [it for it in crates if it.is_static and it.name.startswith(PREFIX)]
 
 
 def archive_of(crate):
@@ -123,7 +126,7 @@ def version(top):
 
 def write_files(top):
     """The header, and what pkg-config reads, beside the archive."""
-    shutil.copyfile(f"{top}/c/{NAME}.h", f"{top}/{FOLDER}/{NAME}.h")
+    shutil.copyfile(f"{top}/{header.HEADER}", f"{top}/{FOLDER}/{NAME}.h")
     with open(f"{top}/c/{NAME}.pc.in", encoding="utf-8") as it:
         text = it.read().replace("@VERSION@", version(top))
     with open(f"{top}/{FOLDER}/{NAME}.pc", "w", encoding="utf-8") as it:
@@ -136,7 +139,7 @@ def make_library(top):
     if faults:
         raise Fault(f"the header and the sources differ: {faults[0]}")
     os.makedirs(f"{top}/{FOLDER}", exist_ok=True)
-    crates = exporters(top)
+    crates = exporters(kit.crates_of(top))
     stale = [it for it in crates if not is_new(it)]
     if stale:
         names = ", ".join(it.name for it in stale)

@@ -1,4 +1,4 @@
-"""dist/: the program as it was built, the kit's line, and the sum of each source that it was built from."""
+"""dist/: what is built of the sources, with the kit's line: the program, and the library for programs in C."""
 
 import filecmp
 import hashlib
@@ -6,6 +6,7 @@ import os
 import shutil
 import sys
 
+import clib
 import kit
 import program
 from kit import rtlib
@@ -19,12 +20,68 @@ class Stale(Exception):
     """Why dist/ isn't what the sources make."""
 
 
-def sums(top):
-    """A line for each source of the program, as sha256sum writes them: its sum and its path."""
-    crate = program.named(kit.crates_of(top))
-    files = [it for crate in [*crate.below(), crate] for it in rtlib.files_of(crate.folder)]
-    paths = sorted(os.path.relpath(it, top) for it in [*files, f"{top}/crates.txt"])
-    return [f"{_sum(f'{top}/{it}')}  {it}" for it in paths]
+class Part:
+    """What is built together of one list of sources: files beside which dist/ has the sum of each source."""
+
+    def __init__(self, top, folder, crates, others, files, build):
+        self.top, self.folder, self.crates, self.others = top, f"{top}/{folder}", crates, others
+        # Where dist/ has a file, and where it is built.
+        self.files = {f"{folder}/{name}": made for name, made in files.items()}
+        self.build = build
+
+    def sources(self):
+        """The paths of all sources, from the top."""
+        files = [file for it in self.crates for file in rtlib.files_of(it.folder)]
+        return sorted({os.path.relpath(it, self.top) for it in files} | set(self.others))
+
+    def sums(self):
+        """A line for each source, as sha256sum writes them: its sum and its path."""
+        return [f"{_sum(f'{self.top}/{it}')}  {it}" for it in self.sources()]
+
+    def is_new(self):
+        """Whether each file that was built last is newer than each source."""
+        made = [f"{self.top}/{it}" for it in self.files.values()]
+        if not all(map(os.path.isfile, made)):
+            return False
+        sources = [f"{self.top}/{it}" for it in self.sources()]
+        return min(map(os.path.getmtime, made)) > max(map(os.path.getmtime, sources))
+
+    def make(self):
+        """Puts the files into dist/, built first where that is due, and gives the exit status."""
+        if not self.is_new():
+            status = self.build(self.top)
+            if status:
+                return status
+        os.makedirs(self.folder, exist_ok=True)
+        for name, made in self.files.items():
+            shutil.copy(f"{self.top}/{made}", f"{self.top}/{name}")
+        _write(f"{self.folder}/{SOURCES}", self.sums())
+        return 0
+
+    def compare(self):
+        """Raises Stale where a source or a file isn't as it is in dist/."""
+        then, now = set(_lines(f"{self.folder}/{SOURCES}")), set(self.sums())
+        changed = sorted(it.split("  ", 1)[1] for it in then ^ now)
+        if changed:
+            raise Stale(f"{changed[0]} is not as it was: run bin/dist")
+        if not self.is_new():
+            raise Stale(f"{next(iter(self.files))} has not been built of these sources: run bin/dist, or the gate")
+        for name, made in self.files.items():
+            if not os.path.isfile(f"{self.top}/{name}") or not _is_same(f"{self.top}/{name}", f"{self.top}/{made}"):
+                raise Stale(f"{name} is not what was built: run bin/dist")
+
+
+def parts_of(top):
+    """The program, and the library for programs in C."""
+    crates = kit.crates_of(top)
+    main = program.named(crates)
+    made = {program.NAME: f"crates/{program.NAME}/out/{program.NAME}"}
+    below = {low.name: low for it in clib.exporters(crates) for low in [*it.below(), it]}
+    archive = {it: f"{clib.FOLDER}/{it}" for it in clib.FILES}
+    return [
+        Part(top, FOLDER, [*main.below(), main], ["crates.txt"], made, program.main),
+        Part(top, f"{FOLDER}/{clib.FOLDER}", list(below.values()), ["crates.txt", *clib.SOURCES], archive, clib.make),
+    ]
 
 
 def _sum(path):
@@ -32,24 +89,8 @@ def _sum(path):
         return hashlib.sha256(it.read()).hexdigest()
 
 
-def built(top):
-    """Where a build leaves the program."""
-    return f"{top}/crates/{program.NAME}/out/{program.NAME}"
-
-
-def make(top):
-    """Makes dist/ anew of the program that is built of the sources as they are, and gives the exit status."""
-    if not is_new(top):
-        status = program.main(top)
-        if status:
-            return status
-    folder = f"{top}/{FOLDER}"
-    os.makedirs(folder, exist_ok=True)
-    shutil.copyfile(built(top), f"{folder}/{program.NAME}")
-    os.chmod(f"{folder}/{program.NAME}", 0o755)
-    _write(f"{folder}/{KIT}", [kit.version()])
-    _write(f"{folder}/{SOURCES}", sums(top))
-    return 0
+def _is_same(one, other):
+    return filecmp.cmp(one, other, shallow=False)
 
 
 def _write(path, lines):
@@ -65,16 +106,18 @@ def _lines(path):
         raise Stale(f"{path} can't be read: run bin/dist") from why
 
 
-def is_new(top):
-    """Whether the program that was built last is newer than each source."""
-    if not os.path.isfile(built(top)):
-        return False
-    files = [f"{top}/{it.split('  ', 1)[1]}" for it in sums(top)]
-    return os.path.getmtime(built(top)) > max(map(os.path.getmtime, files))
+def make(top):
+    """Makes dist/ anew of what is built of the sources as they are, and gives the exit status."""
+    for part in parts_of(top):
+        status = part.make()
+        if status:
+            return status
+    _write(f"{top}/{FOLDER}/{KIT}", [kit.version()])
+    return 0
 
 
 def check(top):
-    """Compares dist/ with the sources and the program just built, and gives the exit status."""
+    """Compares dist/ with the sources and what was just built of them, and gives the exit status."""
     try:
         print(compared(top))
     except Stale as why:
@@ -85,16 +128,9 @@ def check(top):
 
 def compared(top):
     """What the comparison found, where nothing differs; raises Stale where something does."""
-    folder = f"{top}/{FOLDER}"
-    said = _lines(f"{folder}/{KIT}")
+    said = _lines(f"{top}/{FOLDER}/{KIT}")
     if said != [kit.version()]:
         return f"dist: made with another kit ({' '.join(said)}): nothing is compared"
-    then, now = set(_lines(f"{folder}/{SOURCES}")), set(sums(top))
-    changed = sorted(it.split("  ", 1)[1] for it in then ^ now)
-    if changed:
-        raise Stale(f"{changed[0]} is not as it was: run bin/dist")
-    if not is_new(top):
-        raise Stale(f"no program has been built of these sources: run bin/{program.NAME} --build, or the gate")
-    if not filecmp.cmp(built(top), f"{folder}/{program.NAME}", shallow=False):
-        raise Stale(f"{FOLDER}/{program.NAME} is not the program that was built: run bin/dist")
-    return "dist: the program and its sources are those of dist/"
+    for part in parts_of(top):
+        part.compare()
+    return "dist: the program, the library and their sources are those of dist/"

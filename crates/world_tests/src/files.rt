@@ -50,6 +50,7 @@ fn files_are_taken_out_of_where_they_are(rt: HostRuntime) -> Result<(), Fail> {
 }
 
 /// What `put` answers of bytes that it takes.
+#[tactic(auto, unfolding(rh_defs::specs::Range::in_range))]
 fn puts<R: Abort, S: Store>(
     rt: &R,
     world: &mut World<S>,
