@@ -5,7 +5,7 @@ use Rattle.area_tests.proofs.twin_heaps.a_map_finds_what_a_walk_finds.Given as g
 
 -- both are heaps, and the map is one of the second
 abbrev pub invariant-loop-call : goal.invariant-loop-call
-invariant-loop-call l = record {
+invariant-loop-call g l = record {
   walked : IsSpan (memory_of l.twins.walked) l.twins.walked_at;
   mapped : IsSpan (memory_of l.twins.mapped) l.twins.mapped_at;
   starts : IsIndex l.twins.starts (heap_in (memory_of l.twins.mapped) l.twins.mapped_at);
