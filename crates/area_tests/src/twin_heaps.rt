@@ -127,6 +127,36 @@ impl<S: WordsMut + Drop> Twins<S> {
             );
         }
     }
+
+    /// Makes a call that is drawn: a claim, or a release or resize at an address. The block's address is kept.
+    fn draw<R: Abort>(&mut self, rt: &R, numbers: &mut Numbers, kept: &mut usize, address: usize)
+        requires walked { IsSpan (S.memory self.old.walked) self.old.walked_at }
+        requires mapped { IsSpan (S.memory self.old.mapped) self.old.mapped_at }
+        requires starts { IsIndex self.old.starts (heap_in (S.memory self.old.mapped) self.old.mapped_at) }
+        ensures walked { IsSpan (S.memory self.new.walked) self.new.walked_at }
+        ensures mapped { IsSpan (S.memory self.new.mapped) self.new.mapped_at }
+        ensures starts { IsIndex self.new.starts (heap_in (S.memory self.new.mapped) self.new.mapped_at) }
+    {
+        let which = numbers.below(8);
+        if which < 3 {
+            let found = self.claim(rt, numbers.below(120));
+            return keep(found, kept);
+        }
+        if which < 5 {
+            let _done = self.release(rt, address);
+            return;
+        }
+        let delta = numbers.below(160) as i32 - 80;
+        let found = self.resize(rt, address, delta);
+        keep(found, kept);
+    }
+}
+
+/// Keeps the address of a block that a call gave.
+fn keep(found: Result<usize, HeapRefusal>, kept: &mut usize) {
+    if let Ok(address) = found {
+        *kept = address;
+    }
 }
 
 /// A store with an empty heap in an area of a page.
@@ -162,25 +192,10 @@ fn a_map_finds_what_a_walk_finds(rt: HostRuntime) -> Result<(), Fail> {
         let at = numbers.below(KEPT) as usize;
         let address = match numbers.below(12) {
             0 => numbers.below(2100) as usize,
-            1 => kept[at] + 8,
+            1 => kept[at].wrapping_add(8),
             _ => kept[at],
         };
-        match numbers.below(8) {
-            0..=2 => {
-                if let Ok(found) = twins.claim(&rt, numbers.below(120)) {
-                    kept[at] = found;
-                }
-            }
-            3..=4 => {
-                let _done = twins.release(&rt, address);
-            }
-            _ => {
-                let delta = numbers.below(160) as i32 - 80;
-                if let Ok(found) = twins.resize(&rt, address, delta) {
-                    kept[at] = found;
-                }
-            }
-        }
+        twins.draw(&rt, &mut numbers, &mut kept[at], address);
         twins.compare(&rt, address);
     }
     Ok(())
