@@ -1,4 +1,6 @@
 //! Commands of the arguments that a program in C gives: none where one of them isn't of its form.
+#![tactic(auto, unfolding(rh_defs::specs::Range::in_range))]
+
 ghost use Rattle.std.specs.Prelude.{◌≡◌, true, IfSome};
 ghost use Rattle.rh_defs.specs.Range.{in_range};
 ghost use Rattle.rh_defs.specs.declared.command.Command.TheVariants as Command;
@@ -7,6 +9,7 @@ ghost use Rattle.vf_desk.specs.Called.{in_form};
 ghost use Rattle.vf_desk.specs.Forms.{anchor_in, id_in, manner_at, name_in, put_form, task_form};
 
 use arrayvec::ArrayVec;
+use rh_defs::sizes::ANCHORS;
 use rh_defs::{Anchor, Bytes, Command, Leaf, Manner, Name, Question, Ref};
 
 /// The number of a task that sends and receives.
@@ -22,19 +25,20 @@ pub const TASK_FILE: u32 = 2;
 pub fn name_of(bytes: &[u8]) -> Option<Name>
     ensures { result ≡ name_in bytes.now }
 {
-    let name = Name::new(bytes)?;
-    if name.is_valid() { Some(name) } else { None }
+    match Name::new(bytes) {
+        Some(name) if name.is_valid() => Some(name),
+        _ => None,
+    }
 }
 
 /// An anchor, if a slot has it.
 pub fn anchor_of(anchor: u32) -> Option<Anchor>
     ensures { result ≡ anchor_in anchor }
 {
-    let Ok(number) = u8::try_from(anchor) else {
-        return None;
-    };
-    let anchor = Anchor(number);
-    if anchor.is_valid() { Some(anchor) } else { None }
+    if (anchor as usize) < ANCHORS {
+        return Some(Anchor(anchor as u8));
+    }
+    None
 }
 
 fn manner_of(manner: u32) -> Option<Manner>

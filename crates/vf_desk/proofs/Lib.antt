@@ -1,0 +1,3 @@
+pub mod Pairs
+pub mod SeenLaws
+pub mod CallLaws
