@@ -2,6 +2,7 @@
 ghost use Rattle.std.specs.Prelude.{◌≡◌, ◌≤◌, ◌+◌, ◌&&◌, false, nat_le, length};
 
 use rh_lines::{Sink, WriteFailed};
+use rh_store::bytes::put_in;
 
 /// Lent bytes that are filled from the first one on. It takes one byte more than has room, so that it is known whether
 /// a text is longer, and counts as failed from when it took none of some bytes.
@@ -27,9 +28,9 @@ impl Sink for LentText<'_> {
         let all = self.bytes.len();
         if self.taken < all {
             let count = bytes.len().min(all - self.taken);
-            let end = self.taken + count;
-            self.bytes[self.taken..end].copy_from_slice(&bytes[..count]);
-            self.taken = end;
+            let lent = &mut *self.bytes;
+            put_in(lent, self.taken, &bytes[..count]);
+            self.taken += count;
             return Ok(count);
         }
         if bytes.is_empty() {

@@ -52,7 +52,7 @@ pub const DID_FINISH: u32 = 13;
 
 /// What a poll took and did. A field that the deed says nothing of is 0, and all are where there was no message.
 #[repr(C)]
-#[derive(Clone, Copy, Debug, PartialEq, Eq)]
+#[derive(Clone, Copy)]
 pub struct VfEvent {
     /// The reason code: 0, 17, 18 or 19.
     pub code: u32,
@@ -73,7 +73,7 @@ pub struct VfEvent {
 }
 
 /// What was done with a message, as the last four fields of an event.
-#[derive(Clone, Copy, Debug, PartialEq, Eq)]
+#[derive(Clone, Copy)]
 pub struct Deed {
     pub did: u32,
     pub count: u32,

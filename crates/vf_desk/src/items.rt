@@ -30,7 +30,7 @@ pub const NAME_ROOM: usize = 13;
 
 /// A flex block.
 #[repr(C)]
-#[derive(Clone, Copy, Debug, PartialEq, Eq)]
+#[derive(Clone, Copy)]
 pub struct VfBlock {
     pub anchor: u32,
     pub address: u32,
@@ -39,7 +39,7 @@ pub struct VfBlock {
 
 /// A segment of a C heap: a block, whose address is that of its first byte, or a hole.
 #[repr(C)]
-#[derive(Clone, Copy, Debug, PartialEq, Eq)]
+#[derive(Clone, Copy)]
 pub struct VfSegment {
     pub address: u32,
     pub size: u32,
@@ -48,7 +48,7 @@ pub struct VfSegment {
 
 /// The sums over a C heap: its length, the largest block that could be claimed, and all free bytes.
 #[repr(C)]
-#[derive(Clone, Copy, Debug, PartialEq, Eq)]
+#[derive(Clone, Copy)]
 pub struct VfHeapSums {
     pub length: u32,
     pub largest: u32,
@@ -57,7 +57,7 @@ pub struct VfHeapSums {
 
 /// A record of a transfer: its state, the ref of its DataSave, and the bytes that were handed over so far.
 #[repr(C)]
-#[derive(Clone, Copy, Debug, PartialEq, Eq)]
+#[derive(Clone, Copy)]
 pub struct VfRecord {
     pub state: u32,
     pub id: u32,
@@ -66,7 +66,7 @@ pub struct VfRecord {
 
 /// An area or a slot. A slot has its task's name and the number 0; an area has no name.
 #[repr(C)]
-#[derive(Clone, Copy, Debug, PartialEq, Eq)]
+#[derive(Clone, Copy)]
 pub struct VfArea {
     pub number: u32,
     pub pages: u32,
@@ -141,7 +141,7 @@ fn listed_record(state: State, id: u32, count: u32) -> VfRecord
 impl Listed<Outgoing> for VfRecord {
     ghost use Rattle.rh_defs.specs.declared.transfer.Outgoing.{Outgoing};
 
-    ghost shown = { λ (record_out : Outgoing). record_of (out_item record_out) };
+    ghost shown = { λ (r : Outgoing). record_of (out_item r) };
 
     fn of(item: &Outgoing) -> VfRecord {
         match item {
@@ -155,7 +155,7 @@ impl Listed<Outgoing> for VfRecord {
 impl Listed<Incoming> for VfRecord {
     ghost use Rattle.rh_defs.specs.declared.transfer.Incoming.{Incoming};
 
-    ghost shown = { λ (record_in : Incoming). record_of (in_item record_in) };
+    ghost shown = { λ (r : Incoming). record_of (in_item r) };
 
     fn of(item: &Incoming) -> VfRecord {
         match item {

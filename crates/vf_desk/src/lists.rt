@@ -84,7 +84,7 @@ pub fn list_segments(world: &PagedWorld, name: &Name, to: &mut [VfSegment]) -> u
 }
 
 /// How many records there are each way.
-#[derive(Clone, Copy, Debug, PartialEq, Eq)]
+#[derive(Clone, Copy)]
 pub struct RecordCounts {
     pub outgoing: usize,
     pub incoming: usize,
