@@ -255,8 +255,8 @@ uint32_t vf_flex_block_size(uint8_t *memory, size_t len, const struct vf_slot *s
  *     }
  *
  * A task and a file are told by name: a letter, and up to 11 letters or digits. An address is one that a task on RISC
- * OS would see: a slot begins at &8000, the module area at &1800000. Numbers and sizes are at most 2,147,483,647, and so
- * is the magnitude of an amount.
+ * OS would see: a slot begins at &8000, the module area at &1800000. Numbers and sizes are at most 2,147,483,647, and
+ * so is the magnitude of an amount.
  *
  * Each call tests first, and has changed nothing then: VF_NULL; VF_CLOSED, but for vf_desk_file, vf_desk_open and
  * vf_desk_close; VF_BAD_ARGUMENT. Then come the refusals of the rules, of which each call's comment names those that it
