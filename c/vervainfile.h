@@ -417,7 +417,7 @@ uint32_t vf_desk_alloc(struct vf_desk *desk, const uint8_t *name, size_t name_le
 uint32_t vf_desk_load(struct vf_desk *desk, const uint8_t *name, size_t name_len, uint32_t anchor, const uint8_t *file,
                       size_t file_len, uint32_t *address);
 
-/* Writes 1 to 512 bytes into the anchor's block, from an offset on. VF_NO_NAME, VF_NO_BLOCK, VF_BUSY, VF_BAD_RANGE. */
+/* Writes bytes, one at least, into the anchor's block, from an offset on. VF_NO_NAME, VF_NO_BLOCK, VF_BUSY, VF_BAD_RANGE. */
 uint32_t vf_desk_put(struct vf_desk *desk, const uint8_t *name, size_t name_len, uint32_t anchor, uint32_t offset,
                      const uint8_t *from, size_t from_len);
 

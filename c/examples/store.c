@@ -8,7 +8,7 @@
 #include <stdio.h>
 #include <string.h>
 
-enum { PAGES = 32, DOCUMENTS = 8, PUT_AT_ONCE = 512, LINE = 60, MOST_POLLS = 40 };
+enum { PAGES = 32, DOCUMENTS = 8, LINE = 60, MOST_POLLS = 40 };
 
 #define EDITOR VF_TEXT("Editor")
 #define PRINTER VF_TEXT("Printer")
@@ -54,14 +54,9 @@ static uint32_t create(const char *name)
 /* Types a text into a document: opens it at an offset, and writes there. */
 static uint32_t type(const char *name, uint32_t offset, const char *text)
 {
-    uint32_t anchor = anchor_of(name), n = (uint32_t)strlen(text), done = 0;
+    uint32_t anchor = anchor_of(name), n = (uint32_t)strlen(text);
     uint32_t status = vf_desk_mid(&desk, EDITOR, anchor, offset, (int32_t)n);
-    while (status == VF_OK && done < n) {
-        uint32_t piece = n - done < PUT_AT_ONCE ? n - done : PUT_AT_ONCE;
-        status = vf_desk_put(&desk, EDITOR, anchor, offset + done, (const uint8_t *)text + done, piece);
-        done += piece;
-    }
-    return status;
+    return status ? status : vf_desk_put(&desk, EDITOR, anchor, offset, (const uint8_t *)text, n);
 }
 
 /* Cuts `n` bytes out of a document, from an offset on. */

@@ -152,7 +152,7 @@ static void closed_desks_answer_so(void)
 static void arguments_have_forms(void)
 {
     static const uint32_t big = 0x80000000u;
-    static uint8_t many[513];
+    static uint8_t many[1];
     REFUSES(VF_BAD_ARGUMENT, vf_desk_task(&desk, NO_FORM, 1, VF_TASK_PLAIN, &number_told));
     REFUSES(VF_BAD_ARGUMENT, vf_desk_task(&desk, VF_TEXT(""), 1, VF_TASK_PLAIN, &number_told));
     REFUSES(VF_BAD_ARGUMENT, vf_desk_task(&desk, VF_TEXT("abcdefghijklm"), 1, VF_TASK_PLAIN, &number_told));
@@ -175,7 +175,6 @@ static void arguments_have_forms(void)
     REFUSES(VF_BAD_ARGUMENT, vf_desk_alloc(&desk, A, 0, big, &number_told));
     REFUSES(VF_BAD_ARGUMENT, vf_desk_load(&desk, A, 0, NO_FORM, &number_told));
     REFUSES(VF_BAD_ARGUMENT, vf_desk_put(&desk, A, 0, 0, many, 0));
-    REFUSES(VF_BAD_ARGUMENT, vf_desk_put(&desk, A, 0, 0, many, sizeof many));
     REFUSES(VF_BAD_ARGUMENT, vf_desk_put(&desk, A, 0, big, many, 1));
     REFUSES(VF_BAD_ARGUMENT, vf_desk_free(&desk, A, 64));
     REFUSES(VF_BAD_ARGUMENT, vf_desk_extend(&desk, A, 0, big));
@@ -226,6 +225,7 @@ static void opening(void)
 
 static void flex_calls(void)
 {
+    static uint8_t long_bytes[3000];
     TELLS(FIRST_FLEX, vf_desk_alloc(&desk, A, 0, 10, &number_told));
     REFUSES(VF_NO_NAME, vf_desk_alloc(&desk, NONE, 1, 10, &number_told));
     REFUSES(VF_ANCHOR_IN_USE, vf_desk_alloc(&desk, A, 0, 10, &number_told));
@@ -260,6 +260,12 @@ static void flex_calls(void)
     REFUSES(VF_NO_NAME, vf_desk_blocks(&desk, NONE, blocks, 4, &count));
     DOES(vf_desk_free(&desk, A, 0));
     REFUSES(VF_NO_BLOCK, vf_desk_free(&desk, A, 0));
+    memset(long_bytes, 9, sizeof long_bytes);
+    DOES(vf_desk_extend(&desk, A, 1, sizeof long_bytes + 1));
+    DOES(vf_desk_put(&desk, A, 1, 1, long_bytes, sizeof long_bytes));
+    REFUSES(VF_BAD_RANGE, vf_desk_put(&desk, A, 1, 2, long_bytes, sizeof long_bytes));
+    TELLS(sizeof long_bytes + 1, vf_desk_show(&desk, A, 1, bytes, 3, &number_told));
+    EXPECT(memcmp(bytes, "a\x09\x09M", 4) == 0);
     DOES(vf_desk_free(&desk, A, 1));
 }
 

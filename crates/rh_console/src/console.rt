@@ -16,7 +16,6 @@ use rh_lines::parse_line;
 use rh_pages::PagedStore;
 use rh_tasks::World;
 use std::alloc::{AllocError, Global};
-use std::mem;
 
 /// A world over scattered pages.
 pub type PagedWorld = World<PagedStore>;
@@ -48,7 +47,7 @@ impl Console {
         ensures err { OnErr result (files.new ≡ files.old) }
     {
         let store = PagedStore::new(alloc, pages as usize)?;
-        let world = World::with_next(alloc, store, mem::replace(files, Files::new(alloc)), handle, r)?;
+        let world = World::with_files_of(alloc, store, files, handle, r)?;
         Ok(Console {
             world,
             said: Said::Nothing,

@@ -45,8 +45,9 @@ impl<S: Store> World<S> {
         })
     }
 
-    /// Writes bytes into a block, from an offset on: NoName, NoBlock, Busy, BadRange.
-    pub(crate) fn put(
+    /// Writes bytes into a block, from an offset on: NoName, NoBlock, Busy, BadRange. A `put` that comes as a command has
+    /// at most 512 bytes, this any number.
+    pub fn put(
         &mut self,
         name: &Name,
         anchor: Anchor,

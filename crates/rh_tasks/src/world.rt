@@ -1,6 +1,6 @@
 //! The world: a desk over a store.
 
-ghost use Rattle.std.specs.Prelude.{◌≡◌, ◌≤◌, ℕ, ◌+◌, ◌<◌, true, Ok, Err, IfOk, IsSome};
+ghost use Rattle.std.specs.Prelude.{◌≡◌, ◌≤◌, ℕ, ◌+◌, ◌<◌, [], true, Ok, Err, IfOk, OnErr, IsSome};
 ghost use Rattle.rh_defs.specs.Memory.{Memory, fresh, bytes};
 ghost use Rattle.rh_defs.specs.Range.{in_range};
 ghost use Rattle.rh_defs.specs.Runs.{start, start_with};
@@ -22,6 +22,7 @@ use rh_store::Store;
 use rh_wimp::Queue;
 use std::alloc::{AllocError, Global};
 use std::marker::Model;
+use std::mem;
 
 /// A desk over a store, whose areas hold the slots, the module area and the pages. Areas 0 to 5 are the store's areas of
 /// these numbers; each slot and each made area has an area of its own. No call but the constructors takes memory.
@@ -81,8 +82,8 @@ impl<S: Store + Drop> World<S> {
     /// and files are dropped then.
     pub fn with_next(
         alloc: Global,
-        mut store: S,
-        files: Files,
+        store: S,
+        mut files: Files,
         handle: Handle,
         r: Ref,
     ) -> Result<World<S>, AllocError>
@@ -93,6 +94,27 @@ impl<S: Store + Drop> World<S> {
         requires message { 1 ≤ r }
         ensures { IfOk result (λ world. world.desk ≡ start_with (S.memory store).pages files handle r) }
     {
+        World::with_files_of(alloc, store, &mut files, handle, r)
+    }
+
+    /// The same, which takes the files out of where they are and leaves none there. AllocError where memory is refused;
+    /// the store is dropped then, and the files stay.
+    pub fn with_files_of(
+        alloc: Global,
+        mut store: S,
+        files: &mut Files,
+        handle: Handle,
+        r: Ref,
+    ) -> Result<World<S>, AllocError>
+        requires fresh { S.memory store ≡ fresh (S.memory store).pages }
+        requires least { MIN_PAGES ≤ (S.memory store).pages }
+        requires most { (S.memory store).pages ≤ MAX_PAGES }
+        requires handle { 1 ≤ handle }
+        requires message { 1 ≤ r }
+        ensures desk { IfOk result (λ world. world.desk ≡ start_with (S.memory store).pages files.old handle r) }
+        ensures taken { IfOk result (λ world. files.new ≡ []) }
+        ensures err { OnErr result (files.new ≡ files.old) }
+    {
         let seats = Vec::with_capacity(alloc, MAX_TASKS)?;
         let made = Vec::with_capacity(alloc, MADE_AREAS)?;
         let queue = Queue::with_next_ref(alloc, r)?;
@@ -101,7 +123,7 @@ impl<S: Store + Drop> World<S> {
             store,
             seats,
             made,
-            files,
+            files: mem::replace(files, Files::new(alloc)),
             next: Next::first(handle.0),
             queue,
             scrap: None,

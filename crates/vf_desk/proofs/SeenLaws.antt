@@ -1,6 +1,6 @@
 -- What follows for each desk that a handle may be seen as.
 use Rattle.std.proofs.Common.{◌≡◌, ℕ, refl, sym, ap, subst, ◌∙◌}
-use Rattle.std.specs.Prelude.{◌≢◌, Option, Some, None}
+use Rattle.std.specs.Prelude.{◌≢◌, Option, Some, None, Result, Ok, Err}
 use Rattle.rh_defs.specs.declared.command.Command.{Command}
 use Rattle.rh_defs.specs.declared.command.Command.TheVariants as command
 use Rattle.rh_defs.specs.declared.question.Question.{Question}
@@ -8,7 +8,12 @@ use Rattle.rh_defs.specs.declared.reply.Reply.{Reply}
 use Rattle.rh_defs.specs.declared.reply.Reply.TheVariants as reply
 use Rattle.rh_defs.specs.Desk.{Desk}
 use Rattle.rh_console.specs.declared.console.Console.{Console}
-use Rattle.rh_tasks.specs.Answer.{StaysIfAsked, StaysIfRefused, StepsTo}
+use Rattle.rh_defs.specs.declared.refusal.Refusal.{Refusal}
+use Rattle.rh_defs.specs.Chain.{or_else}
+use Rattle.rh_defs.specs.Order.{IsReordered}
+use Rattle.rh_defs.specs.Step.{change, step}
+use Rattle.rh_defs.proofs.OrderSteps.{order-ignored}
+use Rattle.rh_tasks.specs.Answer.{Gives, StaysIfAsked, StaysIfRefused, StepsTo, reply_of}
 use Rattle.rh_tasks.specs.Shown.{Shown}
 use Rattle.vf_desk.specs.declared.called.Called.{Called}
 use Rattle.vf_desk.specs.declared.called.Called.TheVariants.{Closed, BadArgument, Said}
@@ -46,6 +51,19 @@ module _ (old new : Console) (c : Command) (r : Reply) (steps : StepsTo c old.wo
   pub step-desk : (s : Option Desk) → SeenBy (Some old) s → SeenBy (Some new) (desk_by s (Some c))
   step-desk None seen = absurd seen
   step-desk (Some d) seen = (steps d seen).1
+
+-- A call of the world's own gives what the definitions grant on its desk. So does the step on each desk that it may be
+-- seen as.
+pub gives-steps : (c : Command) (old new : Shown) (r : Result Reply Refusal) → Gives (change old.desk c) old new r → StepsTo c old.desk new.desk (reply_of r)
+unfolding or_else
+gives-steps c old new (Ok said) gives = λ d seen.
+    let alike = order-ignored d old.desk c seen in
+    let is : step old.desk c ≡ (new.desk, said) = ap (λ g. or_else g (λ refusal. (old.desk, reply.Refused refusal))) gives in
+    (sym alike.reply ∙ ap (λ a. a.1) is, subst (λ a. IsReordered (step d c).0 a.0) is alike.desks)
+gives-steps c old new (Err refusal) gives = λ d seen.
+    let alike = order-ignored d old.desk c seen in
+    let is : step old.desk c ≡ (old.desk, reply.Refused refusal) = ap (λ g. or_else g (λ e. (old.desk, reply.Refused e))) gives.0 in
+    (sym alike.reply ∙ ap (λ a. a.1) is, subst (λ (x : Shown). IsReordered (step d c).0 x.desk) (sym gives.1) (subst (λ a. IsReordered (step d c).0 a.0) is alike.desks))
 
 -- a reply whose status isn't 0 is a refusal
 pub refused-stays : (old new : Shown) (r : Reply) → StaysIfRefused old new r → status_of (Said r) ≢ 0 → new ≡ old

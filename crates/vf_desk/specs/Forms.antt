@@ -1,10 +1,9 @@
 -- The arguments of C as parts of commands.
-use Rattle.std.specs.Prelude.{ℕ, ℤ, zero, suc, nat_le, ◌==◌, if◌then◌else◌, List, length, Option, Some, None}
+use Rattle.std.specs.Prelude.{ℕ, ◌==◌, if◌then◌else◌, List, Option, Some, None}
 use Rattle.rh_defs.specs.declared.command.Command.{Command}
 use Rattle.rh_defs.specs.declared.command.Command.TheVariants as command
 use Rattle.rh_defs.specs.declared.command.Manner.{Manner}
 use Rattle.rh_defs.specs.declared.command.Manner.TheVariants.{Plain, Deaf, File}
-use Rattle.rh_defs.specs.declared.sizes.TheConstants.{MOST_BYTES}
 use Rattle.rh_defs.specs.Forms.{is_name, is_anchor}
 use Rattle.vf_desk.specs.Called.{in_form}
 
@@ -28,8 +27,3 @@ id_in n = if n == 0 then None else Some n
 abbrev pub task_form : List ℕ → ℕ → Option Manner → Option Command
 task_form name buffer None = None
 task_form name buffer (Some manner) = in_form (command.Task name buffer manner)
-
--- the command that writes bytes, of which there are at most 512
-abbrev pub put_form : List ℕ → ℕ → ℕ → List ℕ → Option Command
-put_form name k offset bytes =
-    if nat_le (length bytes) MOST_BYTES then in_form (command.Put name k offset bytes) else None

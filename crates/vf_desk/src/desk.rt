@@ -3,7 +3,8 @@ ghost use Rattle.std.specs.Prelude.{◌≡◌, ◌≢◌, true, Option, Some, No
 ghost use Rattle.std.specs.Option.{option_map};
 ghost use Rattle.rh_defs.specs.Desk.{Desk};
 ghost use Rattle.rh_defs.specs.Range.{in_range};
-ghost use Rattle.vf_desk.specs.Called.{IsAsked, called, desk_by, status_of};
+ghost use Rattle.rh_defs.specs.declared.command.Command.TheVariants as Command;
+ghost use Rattle.vf_desk.specs.Called.{IsAsked, called, desk_by, in_form, status_of};
 ghost use Rattle.vf_desk.specs.Seen.{IsSeen};
 
 use crate::called::Called;
@@ -69,6 +70,29 @@ impl VfDesk {
             return Called::Closed;
         };
         let called = station.step(command);
+        self.put(station);
+        called
+    }
+
+    /// Writes bytes into a flex block, as a `put` of as many bytes does: a line has room for 512 alone.
+    pub fn write(
+        &mut self,
+        alloc: Global,
+        name: &[u8],
+        anchor: u32,
+        offset: u32,
+        from: &[u8],
+    ) -> Called
+        ensures said { (s : Option Desk) → IsSeen self.old s →
+            result ≡ called s (in_form (Command.Put name.now anchor offset from.now)) }
+        ensures desk { (s : Option Desk) → IsSeen self.old s →
+            IsSeen self.new (desk_by s (in_form (Command.Put name.now anchor offset from.now))) }
+        ensures refused { status_of result ≢ 0 → self.new.handle.station ≡ self.old.handle.station }
+    {
+        let Some(mut station) = self.take(alloc) else {
+            return Called::Closed;
+        };
+        let called = station.write(name, anchor, offset, from);
         self.put(station);
         called
     }

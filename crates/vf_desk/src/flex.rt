@@ -3,7 +3,6 @@ ghost use Rattle.std.specs.Prelude.{◌≡◌, Option};
 ghost use Rattle.rh_defs.specs.Desk.{Desk};
 ghost use Rattle.rh_defs.specs.declared.command.Command.TheVariants as Command;
 ghost use Rattle.vf_desk.specs.Called.{Does, called, in_form, number_or};
-ghost use Rattle.vf_desk.specs.Forms.{put_form};
 ghost use Rattle.vf_desk.specs.Seen.{IsSeen};
 
 use crate::desk::VfDesk;
@@ -44,7 +43,7 @@ pub extern "C" fn vf_desk_load(
     desk.step(alloc, forms::load(name, anchor, file)).told(address)
 }
 
-/// Writes 1 to 512 bytes into the anchor's block, from an offset in it on.
+/// Writes bytes, one at least, into the anchor's block, from an offset in it on.
 #[unsafe(no_mangle)]
 pub extern "C" fn vf_desk_put(
     alloc: Global,
@@ -54,9 +53,9 @@ pub extern "C" fn vf_desk_put(
     offset: u32,
     from: &[u8],
 ) -> u32
-    ensures { Does (put_form name.now anchor offset from.now) desk.old desk.new result }
+    ensures { Does (in_form (Command.Put name.now anchor offset from.now)) desk.old desk.new result }
 {
-    desk.step(alloc, forms::put(name, anchor, offset, from)).status()
+    desk.write(alloc, name, anchor, offset, from).status()
 }
 
 /// Takes the anchor's block away; those above it come down. (flex_free.)

@@ -6,11 +6,11 @@ ghost use Rattle.rh_defs.specs.Range.{in_range};
 ghost use Rattle.rh_defs.specs.declared.command.Command.TheVariants as Command;
 ghost use Rattle.rh_defs.specs.declared.question.Question.TheVariants as Question;
 ghost use Rattle.vf_desk.specs.Called.{in_form};
-ghost use Rattle.vf_desk.specs.Forms.{anchor_in, id_in, manner_at, name_in, put_form, task_form};
+ghost use Rattle.vf_desk.specs.Forms.{anchor_in, id_in, manner_at, name_in, task_form};
 
 use arrayvec::ArrayVec;
 use rh_defs::sizes::ANCHORS;
-use rh_defs::{Anchor, Bytes, Command, Leaf, Manner, Name, Question, Ref};
+use rh_defs::{Anchor, Command, Leaf, Manner, Name, Question, Ref};
 
 /// The number of a task that sends and receives.
 pub const TASK_PLAIN: u32 = 0;
@@ -112,25 +112,6 @@ pub fn load(name: &[u8], anchor: u32, file: &[u8]) -> Option<Command>
     let anchor = anchor_of(anchor)?;
     let file = name_of(file)?;
     checked(Command::Load { name, anchor, file })
-}
-
-/// The command that writes bytes into a flex block.
-pub fn put(name: &[u8], anchor: u32, offset: u32, from: &[u8]) -> Option<Command>
-    ensures form { result ≡ put_form name.now anchor offset from.now }
-    ensures ranged { IfSome result (λ c. in_range c ≡ true) }
-{
-    let mut bytes = ArrayVec::new();
-    if bytes.try_extend_from_slice(from).is_err() {
-        return None;
-    }
-    let name = name_of(name)?;
-    let anchor = anchor_of(anchor)?;
-    checked(Command::Put {
-        name,
-        anchor,
-        offset,
-        bytes: Bytes::new(bytes),
-    })
 }
 
 /// The command that frees a flex block.

@@ -2,12 +2,15 @@
 ghost use Rattle.std.specs.Prelude.{◌≡◌, ◌≢◌, true, Option, None, IfSome};
 ghost use Rattle.rh_defs.specs.Desk.{Desk};
 ghost use Rattle.rh_defs.specs.Range.{in_range};
-ghost use Rattle.vf_desk.specs.Called.{IsAsked, called, desk_by, status_of};
+ghost use Rattle.rh_defs.specs.declared.command.Command.TheVariants as Command;
+ghost use Rattle.vf_desk.specs.Called.{IsAsked, called, desk_by, in_form, status_of};
 ghost use Rattle.vf_desk.specs.Seen.{SeenBy};
 
 use crate::called::Called;
+use crate::forms::{anchor_of, name_of};
 use rh_console::Console;
-use rh_defs::{Command, Files};
+use rh_defs::sizes::GREATEST_NUMBER;
+use rh_defs::{Command, Files, Reply};
 
 /// The files that wait for a desk to be opened, and the desk from then on.
 #[derive(Drop)]
@@ -31,6 +34,30 @@ impl Station {
         match command {
             Some(command) => Called::Said(console.world.apply(&command)),
             None => Called::BadArgument,
+        }
+    }
+
+    /// Writes bytes into a flex block of the desk, if it is open and they can be written by a line that has room.
+    #[tactic(auto, unfolding(rh_defs::specs::Range::in_range))]
+    pub fn write(&mut self, name: &[u8], anchor: u32, offset: u32, from: &[u8]) -> Called
+        ensures said { (s : Option Desk) → SeenBy self.old.console s →
+            result ≡ called s (in_form (Command.Put name.now anchor offset from.now)) }
+        ensures desk { (s : Option Desk) → SeenBy self.old.console s →
+            SeenBy self.new.console (desk_by s (in_form (Command.Put name.now anchor offset from.now))) }
+        ensures refused { status_of result ≢ 0 → self.new ≡ self.old }
+    {
+        let Some(console) = &mut self.console else {
+            return Called::Closed;
+        };
+        let (Some(name), Some(anchor)) = (name_of(name), anchor_of(anchor)) else {
+            return Called::BadArgument;
+        };
+        if offset > GREATEST_NUMBER || from.is_empty() {
+            return Called::BadArgument;
+        }
+        match console.world.put(&name, anchor, offset, from) {
+            Ok(reply) => Called::Said(reply),
+            Err(refusal) => Called::Said(Reply::Refused(refusal)),
         }
     }
 }

@@ -1,5 +1,6 @@
+use Rattle.std.proofs.Common.{refl}
 use Rattle.vf_desk.proofs.CallLaws.{does}
 use Rattle.vf_desk.proofs.flex.vf_desk_put.Goals as goal
 
 pub returns : goal.returns
-returns c = does c.put.ensures.form c.step.ensures.said c.step.ensures.desk c.step.ensures.refused c.status.ensures
+returns c = does refl c.write.ensures.said c.write.ensures.desk c.write.ensures.refused c.status.ensures

@@ -2,7 +2,7 @@ use Rattle.std.proofs.Common.{◌∙◌, arith}
 use Rattle.rh_defs.specs.Laws.{IsStart}
 use Rattle.rh_tasks.specs.View.{the_module}
 use Rattle.rh_tasks.proofs.NewWorlds.{first-desk, first-world, first-next}
-use Rattle.rh_tasks.proofs.world.World.with_next.Goals as goal
+use Rattle.rh_tasks.proofs.world.World.with_files_of.Goals as goal
 
 pub invariant_of-result : goal.invariant_of-result
 invariant_of-result g c =
@@ -20,10 +20,10 @@ invariant_of-result g c =
     } in
     let starts = rw q.value at q.starts _ the_module f.module_area in
     rw (is, q.value, c.in_ok-seats.ensures.items, c.in_ok-made.ensures.items)
-    (first-world f c.args.files c.args.handle c.args.r s starts, c.in_ok-seats.ensures.exact, c.in_ok-made.ensures.exact)
+    (first-world f c.args.files.now c.args.handle c.args.r s starts, c.in_ok-seats.ensures.exact, c.in_ok-made.ensures.exact)
 
-pub returns : goal.returns
-returns g c =
+pub returns-clause-desk : goal.returns-clause-desk
+returns-clause-desk g c =
     let n = c.first.ensures in
     let is = first-next c.first.result c.args.handle (n.handle ∙ c.handle.view_is) n.area in
-    rw (is, c.in_ok-queue.ensures.value, c.in_ok-seats.ensures.items, c.in_ok-made.ensures.items) (first-desk c.furnish.ensures c.args.files c.args.handle c.args.r)
+    rw (is, c.in_ok-queue.ensures.value, c.in_ok-seats.ensures.items, c.in_ok-made.ensures.items) (first-desk c.furnish.ensures c.args.files.now c.args.handle c.args.r)
