@@ -41,7 +41,10 @@ static int words;
 
 static void find_words(const char *line)
 {
-    snprintf(line_copy, sizeof line_copy, "%s", line);
+    size_t n = strlen(line);
+    n = n < sizeof line_copy ? n : sizeof line_copy - 1;
+    memcpy(line_copy, line, n);
+    line_copy[n] = 0;
     words = 0;
     for (char *it = strtok(line_copy, " "); it && words < MOST_WORDS; it = strtok(NULL, " "))
         word[words++] = it;
