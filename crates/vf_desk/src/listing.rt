@@ -9,7 +9,7 @@ ghost use Rattle.vf_desk.specs.Seen.{SeenBy};
 use crate::forms::{anchor_of, name_of};
 use crate::items::{VfArea, VfBlock, VfRecord, VfSegment};
 use crate::lists::{
-    RecordCounts, list_areas, list_blocks, list_bytes, list_records, list_segments,
+    NO_RECORDS, RecordCounts, list_areas, list_blocks, list_bytes, list_records, list_segments,
 };
 use crate::station::Station;
 
@@ -19,11 +19,16 @@ impl Station {
         ensures { (s : Option Desk) → SeenBy self.now.console s →
             to.new ≡ filled (bytes_in (listed s (Question.Show name.now anchor))) to.old }
     {
-        if let (Some(console), Some(name), Some(anchor)) =
-            (&self.console, name_of(name), anchor_of(anchor))
-        {
-            list_bytes(&console.world, &name, anchor, to);
-        }
+        let Some(console) = &self.console else {
+            return;
+        };
+        let Some(name) = name_of(name) else {
+            return;
+        };
+        let Some(anchor) = anchor_of(anchor) else {
+            return;
+        };
+        list_bytes(&console.world, &name, anchor, to);
     }
 
     /// Puts the task's flex blocks into a slice, and answers how many there are.
@@ -33,10 +38,13 @@ impl Station {
         ensures count { (s : Option Desk) → SeenBy self.now.console s →
             result ≡ length (blocks_in (listed s (Question.Blocks name.now))) }
     {
-        match (&self.console, name_of(name)) {
-            (Some(console), Some(name)) => list_blocks(&console.world, &name, to),
-            _ => 0,
-        }
+        let Some(console) = &self.console else {
+            return 0;
+        };
+        let Some(name) = name_of(name) else {
+            return 0;
+        };
+        list_blocks(&console.world, &name, to)
     }
 
     /// Puts the segments of the task's C heap into a slice, and answers how many there are.
@@ -46,10 +54,13 @@ impl Station {
         ensures count { (s : Option Desk) → SeenBy self.now.console s →
             result ≡ length (segments_in (listed s (Question.Heap name.now))) }
     {
-        match (&self.console, name_of(name)) {
-            (Some(console), Some(name)) => list_segments(&console.world, &name, to),
-            _ => 0,
-        }
+        let Some(console) = &self.console else {
+            return 0;
+        };
+        let Some(name) = name_of(name) else {
+            return 0;
+        };
+        list_segments(&console.world, &name, to)
     }
 
     /// Puts the records of the task's transfers into two slices, and answers how many there are each way.
@@ -68,15 +79,13 @@ impl Station {
         ensures ins { (s : Option Desk) → SeenBy self.now.console s →
             result.incoming ≡ length (incoming_in (listed s (Question.Status name.now))) }
     {
-        match (&self.console, name_of(name)) {
-            (Some(console), Some(name)) => {
-                list_records(&console.world, &name, outgoing, incoming)
-            }
-            _ => RecordCounts {
-                outgoing: 0,
-                incoming: 0,
-            },
-        }
+        let Some(console) = &self.console else {
+            return NO_RECORDS;
+        };
+        let Some(name) = name_of(name) else {
+            return NO_RECORDS;
+        };
+        list_records(&console.world, &name, outgoing, incoming)
     }
 
     /// Puts areas and slots into a slice, and answers how many there are.

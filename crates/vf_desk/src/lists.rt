@@ -1,5 +1,5 @@
 //! Lists that a question is answered with, put into slices: as many items as there is room for.
-ghost use Rattle.std.specs.Prelude.{◌≡◌, ◌+◌, ◌≤◌, ◌<◌, ◌^◌, Ok, length, map};
+ghost use Rattle.std.specs.Prelude.{◌≡◌, ◌+◌, ◌≤◌, ◌<◌, ◌^◌, length, map};
 ghost use Rattle.rh_console.specs.Console.{filled};
 ghost use Rattle.rh_defs.specs.Listing.{area_items};
 ghost use Rattle.rh_defs.specs.Questions.{blocks as blocks_on, heap as heap_on, show as show_on, status as status_on};
@@ -90,6 +90,12 @@ pub struct RecordCounts {
     pub incoming: usize,
 }
 
+/// The counts of no record.
+pub const NO_RECORDS: RecordCounts = RecordCounts {
+    outgoing: 0,
+    incoming: 0,
+};
+
 /// Puts the records of the task's transfers into two slices, and answers how many there are each way.
 pub fn list_records(
     world: &PagedWorld,
@@ -111,10 +117,7 @@ pub fn list_records(
                 incoming: taking.len(),
             }
         }
-        Err(_) => RecordCounts {
-            outgoing: 0,
-            incoming: 0,
-        },
+        Err(_) => NO_RECORDS,
     }
 }
 

@@ -3,7 +3,7 @@ ghost use Rattle.std.specs.Prelude.{◌≡◌, ◌≤◌, ◌⊎◌, ◌++◌, �
 ghost use Rattle.rh_defs.specs.Files.{has_file};
 ghost use Rattle.vf_desk.specs.Opening.{Adds, Opens, opening_status};
 ghost use Rattle.vf_desk.specs.declared.opening.TheConstants.{LONGEST_FILE};
-ghost use Rattle.vf_desk.specs.declared.status.TheConstants.{NO_MEMORY};
+ghost use Rattle.vf_desk.specs.Status.{no_memory};
 
 use crate::desk::VfDesk;
 use crate::forms::name_of;
@@ -99,7 +99,8 @@ pub extern "C" fn vf_desk_close(alloc: Global, desk: &mut VfDesk) -> u32
 /// Puts a station into a handle that has nothing, or answers that memory is refused.
 fn put_new(alloc: Global, desk: &mut VfDesk, station: Station) -> u32
     requires { desk.old.handle.station ≡ None }
-    ensures { ((result ≡ 0) × (desk.new.handle.station ≡ Some station)) ⊎ ((result ≡ NO_MEMORY) × (desk.new.handle.station ≡ None)) }
+    ensures { ((result ≡ 0) × (desk.new.handle.station ≡ Some station)) ⊎
+        ((result ≡ no_memory) × (desk.new.handle.station ≡ None)) }
 {
     match Box::new(alloc, station) {
         Ok(boxed) => {

@@ -49,7 +49,10 @@ impl Station {
         let Some(console) = &mut self.console else {
             return Called::Closed;
         };
-        let (Some(name), Some(anchor)) = (name_of(name), anchor_of(anchor)) else {
+        let Some(name) = name_of(name) else {
+            return Called::BadArgument;
+        };
+        let Some(anchor) = anchor_of(anchor) else {
             return Called::BadArgument;
         };
         if offset > GREATEST_NUMBER || from.is_empty() {
