@@ -1,3 +1,4 @@
 pub mod Pairs
 pub mod SeenLaws
 pub mod CallLaws
+pub mod FillLaws
