@@ -1,6 +1,6 @@
 -- Texts of what lines are answered, over desks that a world may be seen as.
 use Rattle.std.proofs.Common.{◌≡◌, ℕ, List, refl, sym, ap, subst, ◌∙◌}
-use Rattle.std.specs.Prelude.{true, ⊥, Option, Some, None, Ok, Err}
+use Rattle.std.specs.Prelude.{true, Option, Some, None, Ok, Err}
 use Rattle.rh_defs.specs.declared.command.Command.{Command}
 use Rattle.rh_defs.specs.declared.command.Command.TheVariants as command
 use Rattle.rh_defs.specs.declared.fault.LineFault.{LineFault}

@@ -35,3 +35,8 @@ taken-beyond b x y =
 pub first-of : (xs : List ℕ) → 0 < length xs → take 1 xs ≡ slice_index xs 0 ∷ []
 first-of [] some = absurd (omega arith)
 first-of (x ∷ xs) some = refl
+
+-- bytes that aren't none are some
+pub some-of : (xs : List ℕ) → (length xs ≡ 0 → ⊥) → 0 < length xs
+some-of [] some = absurd (some refl)
+some-of (x ∷ xs) some = omega arith

@@ -19,7 +19,7 @@ use denote.Param.Laws.{Laws}
 use denote.RattleType.{RattleType, Valss}
 use denote.RawPtr.{Ptr, block_ptr, null_ptr, ptr_val, in_a_block}
 use denote.Steps.{nothing}
-use denote.Struct.Owning.{shape}
+use denote.Struct.Owning.{shape, to}
 use denote.Struct.Struct.{within}
 use Rattle.core.specs.declared.alloc.Allocator.{Ghosts}
 use Rattle.core.proofs.alloc.Calls.{Al, handle_tells}
@@ -97,7 +97,9 @@ module _ {M : Type 1} {𝓤 : Ura M} {𝓛 : Logic 𝓤} {K : Type 0} {Γ : List
   pub handle_in : K → (p : Ptr) (h : Val) (a : heap.the_row.Denot) (x : Option Station.the_row.Denot)
       → Step K 𝓛 (‵ (Handle.the_row.own_val (record { at = p; alloc = a; station = x }) (pair (ptr_val p) h ∷ [])) ∷ Γ) G
       (‵ (owned a p x) ∷ ‵ (heap.the_row.own_val a (h ∷ [])) ∷ Γ) G
-  handle_in t p h a x = step (λ s. let v : Val = pair (ptr_val p) h in
+  handle_in t p h a x = step (λ s.
+      let v : Val = pair (ptr_val p) h in
+      let made : Handle.the_row.Denot = record { at = p; alloc = a; station = x } in
       nothing t $ move t (2 ∷ 0 ∷ []) $ fjoin t $ feq_i t (List Val) (ptr_val p ∷ []) (ptr_val p ∷ []) refl $ fjoin t $
       feq_i t (List Val) (v ∷ []) (v ∷ []) refl $ fjoin t $
-      fpack t (Valss (RawPtr ∷ heap.the_row ∷ [])) (within (shape Handle.the_type) (p, (a, tt)) (v ∷ [])) (ptr_val p ∷ [], (h ∷ [], tt)) $ fjoin t $ s)
+      fpack t (Valss ((shape Handle.the_type).fields)) (within (shape Handle.the_type) (to Handle.the_type made) (v ∷ [])) (ptr_val p ∷ [], (h ∷ [], tt)) $ fjoin t $ s)

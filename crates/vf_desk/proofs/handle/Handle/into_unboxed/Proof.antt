@@ -22,6 +22,7 @@ use denote.Steps.{nothing, heard}
 use denote.Triple.Walked.{Stays, stay_dropped, walk_of, Goes-dropped}
 use Rattle.core.proofs.alloc.Calls.{Goes-blank}
 use Rattle.std.proofs.raw_atomic.Walks.{proved_at, leaves}
+use Rattle.std.proofs.lemmas.Bool.{false≢true}
 use Rattle.std.specs.Box.Ownership.{box_owns}
 use Rattle.std.specs.Prelude.{Option, Some, None, IsSome}
 use Rattle.std.specs.contracts.alloc.Global as heap
@@ -43,7 +44,7 @@ kept = (stay_dropped From yes, tt)
 -- a station that is there
 station_in : (s : Option Station.the_row.Denot) → IsSome s → (x : Station.the_row.Denot) × (s ≡ Some x)
 station_in (Some x) there = (x, refl)
-station_in None there = absurd there
+station_in None there = absurd (false≢true there)
 
 pub into_unboxed_spec : {M : Type 1} → statement M
 into_unboxed_spec 𝓤 𝓛 𝓜 𝓡 wired =
