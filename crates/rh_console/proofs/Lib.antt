@@ -1,0 +1,3 @@
+mod FreshLaws
+mod TextLaws
+mod SaidLaws

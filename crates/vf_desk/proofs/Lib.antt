@@ -1,0 +1,4 @@
+pub mod Pairs
+pub mod SeenLaws
+pub mod CallLaws
+pub mod FillLaws
