@@ -351,6 +351,12 @@ struct vf_event {
     uint32_t refusal;  /* a status, 1 to 24 */
 };
 
+/* A message block: words in little-endian order, as the Wimp has them. The first says how many bytes there are, 20 to
+ * 256; then come the sender's handle, my_ref, your_ref, the action, and what belongs to it. */
+struct vf_message {
+    uint8_t bytes[256];
+};
+
 /* A flex block. */
 struct vf_block {
     uint32_t anchor;
@@ -430,6 +436,11 @@ uint32_t vf_desk_save(struct vf_desk *desk, const uint8_t *name, size_t name_len
 /* Wimp_Poll: takes the task's next message, does what it asks for, and tells both. With no message the code is 0.
  * VF_NO_NAME. */
 uint32_t vf_desk_poll(struct vf_desk *desk, const uint8_t *name, size_t name_len, struct vf_event *event);
+
+/* Wimp_Poll: tells the message that the task's next poll would take, as its block, and its reason code, 0 where there
+ * is none. Nothing is taken, and the bytes behind the message stay. VF_NO_NAME. */
+uint32_t vf_desk_next(struct vf_desk *desk, const uint8_t *name, size_t name_len, struct vf_message *message,
+                      uint32_t *code);
 
 /* Gives up the transfer with this id that comes in; with the id 0 the first one that can be given up. VF_NO_NAME,
  * VF_NOT_OPEN. */
@@ -641,6 +652,10 @@ VF_UNLESS_NULL(vf_desk_save,
 VF_UNLESS_NULL(vf_desk_poll,
                (struct vf_desk *desk, const uint8_t *name, size_t name_len, struct vf_event *event),
                desk && name && event, (desk, name, name_len, event))
+VF_UNLESS_NULL(vf_desk_next,
+               (struct vf_desk *desk, const uint8_t *name, size_t name_len, struct vf_message *message,
+               uint32_t *code),
+               desk && name && message && code, (desk, name, name_len, message, code))
 VF_UNLESS_NULL(vf_desk_cancel_in,
                (struct vf_desk *desk, const uint8_t *name, size_t name_len, uint32_t id),
                desk && name, (desk, name, name_len, id))
@@ -762,6 +777,7 @@ VF_UNLESS_NULL(vf_desk_reply,
 #define vf_desk_kill vf_desk_kill_unless_null
 #define vf_desk_save vf_desk_save_unless_null
 #define vf_desk_poll vf_desk_poll_unless_null
+#define vf_desk_next vf_desk_next_unless_null
 #define vf_desk_cancel_in vf_desk_cancel_in_unless_null
 #define vf_desk_cancel_out vf_desk_cancel_out_unless_null
 #define vf_desk_repeat vf_desk_repeat_unless_null

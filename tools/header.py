@@ -12,7 +12,7 @@ TYPES = {"u8": "uint8_t", "u16": "uint16_t", "u32": "uint32_t", "u64": "uint64_t
          "usize": "size_t", "isize": "ptrdiff_t", "bool": "bool", "LentSlot": "struct vf_slot",
          "VfDesk": "struct vf_desk", "VfEvent": "struct vf_event", "VfBlock": "struct vf_block",
          "VfSegment": "struct vf_segment", "VfHeapSums": "struct vf_heap_sums", "VfRecord": "struct vf_record",
-         "VfArea": "struct vf_area"}
+         "VfArea": "struct vf_area", "VfMessage": "struct vf_message"}
 # What takes no bytes, so that C neither hands it over nor has room for it.
 UNSEEN = "Global"
 # The slice that `len` counts; the length of any other has its name.

@@ -16,6 +16,7 @@ static uint32_t number_told;
 static size_t count, other_count;
 static bool was;
 static struct vf_event event;
+static struct vf_message message;
 static struct vf_heap_sums sums;
 static struct vf_block blocks[4];
 static struct vf_segment segments[4];
@@ -60,6 +61,7 @@ static void unset(void)
     count = other_count = UNSET;
     was = true;
     memset(&event, UNSET, sizeof event);
+    memset(&message, UNSET, sizeof message);
     memset(&sums, UNSET, sizeof sums);
     memset(blocks, UNSET, sizeof blocks);
     memset(segments, UNSET, sizeof segments);
@@ -80,6 +82,7 @@ static bool is_set(const void *at, size_t n)
 static bool is_unset(void)
 {
     return number_told == UNSET && count == UNSET && other_count == UNSET && was && !is_set(&event, sizeof event) &&
+           !is_set(&message, sizeof message) &&
            !is_set(&sums, sizeof sums) && !is_set(blocks, sizeof blocks) && !is_set(segments, sizeof segments) &&
            !is_set(records, sizeof records) && !is_set(other_records, sizeof other_records) &&
            !is_set(areas, sizeof areas) && !is_set(bytes, sizeof bytes);
@@ -120,6 +123,7 @@ static void closed_desks_answer_so(void)
     REFUSES(VF_CLOSED, vf_desk_kill(&desk, A));
     REFUSES(VF_CLOSED, vf_desk_save(&desk, A, 0, B, VF_TEXT("l"), &number_told));
     REFUSES(VF_CLOSED, vf_desk_poll(&desk, A, &event));
+    REFUSES(VF_CLOSED, vf_desk_next(&desk, A, &message, &number_told));
     REFUSES(VF_CLOSED, vf_desk_cancel_in(&desk, A, 0));
     REFUSES(VF_CLOSED, vf_desk_cancel_out(&desk, A, 0));
     REFUSES(VF_CLOSED, vf_desk_repeat(&desk, A, &number_told));
@@ -167,6 +171,7 @@ static void arguments_have_forms(void)
     REFUSES(VF_BAD_ARGUMENT, vf_desk_save(&desk, A, 0, B, VF_TEXT("elevenbytes"), &number_told));
     REFUSES(VF_BAD_ARGUMENT, vf_desk_save(&desk, A, 0, B, VF_TEXT("a b"), &number_told));
     REFUSES(VF_BAD_ARGUMENT, vf_desk_poll(&desk, NO_FORM, &event));
+    REFUSES(VF_BAD_ARGUMENT, vf_desk_next(&desk, NO_FORM, &message, &number_told));
     REFUSES(VF_BAD_ARGUMENT, vf_desk_cancel_in(&desk, NO_FORM, 0));
     REFUSES(VF_BAD_ARGUMENT, vf_desk_cancel_out(&desk, NO_FORM, 0));
     REFUSES(VF_BAD_ARGUMENT, vf_desk_repeat(&desk, NO_FORM, &number_told));
@@ -325,6 +330,22 @@ static void area_calls(void)
     TELLS(4096, vf_desk_area(&desk, 0, -4096, &number_told));
 }
 
+/* The block of a Message_DataSave of 5 bytes, the Wimp's words and the leafname; the bytes behind it stay. */
+static void next_is_a_data_save(void)
+{
+    static const uint8_t wanted[] = {
+        52, 0, 0, 0, 1, 0, 0, 0, 1, 0, 0, 0, 0, 0, 0, 0, 1, 0, 0, 0, /* length, sender, my_ref, your_ref, action */
+        0, 0, 0, 0, 0, 0, 0, 0, 0, 0, 0, 0, 0, 0, 0, 0,             /* window, icon, x, y */
+        5, 0, 0, 0, 0xfd, 0x0f, 0, 0, 'L', 'e', 'a', 'f', 0, 0, 0, 0, /* size, type &FFD, name */
+    };
+    TELLS(18, vf_desk_next(&desk, B, &message, &number_told));
+    EXPECT(memcmp(message.bytes, wanted, sizeof wanted) == 0);
+    EXPECT(!is_set(message.bytes + sizeof wanted, sizeof message.bytes - sizeof wanted));
+    TELLS(0, vf_desk_next(&desk, A, &message, &number_told));
+    EXPECT(!is_set(&message, sizeof message));
+    REFUSES(VF_NO_NAME, vf_desk_next(&desk, NONE, &message, &number_told));
+}
+
 /* A file of 5 bytes goes from a to b, whose buffer has 4: what each poll tells. */
 static void transfer(void)
 {
@@ -344,6 +365,7 @@ static void transfer(void)
     REFUSES(VF_BUSY, vf_desk_save(&desk, A, 0, B, VF_TEXT("Leaf"), &number_told));
     REFUSES(VF_NOT_YOURS, vf_desk_rma_free(&desk, FIRST_RMA));
     REFUSES(VF_NOT_YOURS, vf_desk_rma_resize(&desk, FIRST_RMA, 1, &number_told));
+    next_is_a_data_save();
     DOES(vf_desk_poll(&desk, B, &event));
     EXPECT(event.code == 18 && event.action == 1 && event.my_ref == 1 && event.your_ref == 0);
     EXPECT(event.did == VF_DID_FETCH && event.sent == 2 && event.count == 0 && event.refusal == 0);

@@ -13,6 +13,7 @@ static uint32_t number = UNSET;
 static size_t count = UNSET;
 static bool was = true;
 static struct vf_event event;
+static struct vf_message message;
 static struct vf_block block;
 static struct vf_segment segment;
 static struct vf_heap_sums sums;
@@ -41,6 +42,10 @@ static void calls_see_null(struct vf_desk *it, size_t n)
     IS_NULL(vf_desk_poll(NULL, name, n, &event));
     IS_NULL(vf_desk_poll(it, NULL, n, &event));
     IS_NULL(vf_desk_poll(it, name, n, NULL));
+    IS_NULL(vf_desk_next(NULL, name, n, &message, &number));
+    IS_NULL(vf_desk_next(it, NULL, n, &message, &number));
+    IS_NULL(vf_desk_next(it, name, n, NULL, &number));
+    IS_NULL(vf_desk_next(it, name, n, &message, NULL));
     IS_NULL(vf_desk_cancel_in(NULL, name, n, 1));
     IS_NULL(vf_desk_cancel_in(it, NULL, n, 1));
     IS_NULL(vf_desk_cancel_out(NULL, name, n, 1));

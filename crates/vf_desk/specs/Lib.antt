@@ -8,3 +8,4 @@ pub mod Event
 pub mod Items
 pub mod Lists
 pub mod Lines
+pub mod Next

@@ -16,6 +16,7 @@ mod items;
 mod lines;
 mod listing;
 mod lists;
+mod next;
 mod opening;
 mod questions;
 mod station;
