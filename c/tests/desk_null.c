@@ -4,8 +4,6 @@
  */
 #include "expect.h"
 
-enum { UNSET = 77 };
-
 static struct vf_desk desk = VF_DESK_CLOSED;
 static uint8_t bytes[4] = {UNSET, UNSET, UNSET, UNSET};
 static const uint8_t name[] = "a";

@@ -35,10 +35,24 @@ impl Called {
         ensures status { result ≡ status_of self }
         ensures number { number.new ≡ number_or self number.old }
     {
-        if let Called::Said(reply) = self {
-            tell_number(reply, number);
-        }
+        self.tell_number(number);
         self.status()
+    }
+
+    fn tell_number(self, number: &mut u32)
+        ensures { number.new ≡ number_or self number.old }
+    {
+        match self {
+            Called::Said(Reply::Started(handle) | Reply::StatusOf(handle)) => *number = handle.0,
+            Called::Said(Reply::Sent(r)) => *number = r.0,
+            Called::Said(Reply::Block { address }) => *number = address,
+            Called::Said(Reply::Moved { bytes }) => *number = bytes,
+            Called::Said(Reply::Made { number: made }) => *number = made,
+            Called::Said(Reply::Shown { size }) => *number = size,
+            Called::Said(Reply::BlockCount(count)) => *number = count,
+            Called::Said(Reply::FreePages(pages)) => *number = pages,
+            _ => {}
+        }
     }
 
     /// Its status. A count is told, if the command was done.
@@ -73,21 +87,5 @@ impl Called {
             *sums = VfHeapSums { length, largest, free };
         }
         self.status()
-    }
-}
-
-fn tell_number(reply: Reply, number: &mut u32)
-    ensures { number.new ≡ number_or (Called.Said reply) number.old }
-{
-    match reply {
-        Reply::Started(handle) | Reply::StatusOf(handle) => *number = handle.0,
-        Reply::Sent(r) => *number = r.0,
-        Reply::Block { address } => *number = address,
-        Reply::Moved { bytes } => *number = bytes,
-        Reply::Made { number: made } => *number = made,
-        Reply::Shown { size } => *number = size,
-        Reply::BlockCount(count) => *number = count,
-        Reply::FreePages(pages) => *number = pages,
-        _ => {}
     }
 }

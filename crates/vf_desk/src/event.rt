@@ -2,7 +2,7 @@
 ghost use Rattle.std.specs.Prelude.{◌≡◌};
 ghost use Rattle.vf_desk.specs.Called.{status_of};
 ghost use Rattle.vf_desk.specs.Status.{refusal_number};
-ghost use Rattle.vf_desk.specs.Event.{deed_of, deed_with, event_of, event_or};
+ghost use Rattle.vf_desk.specs.Event.{deed_of, deed_with, event_or};
 
 use crate::called::Called;
 use crate::status::refusal_number;
@@ -115,7 +115,7 @@ impl Deed {
 }
 
 /// An outcome's deed.
-fn deed(outcome: Outcome) -> Deed
+fn done_with(outcome: Outcome) -> Deed
     ensures { result ≡ deed_of outcome }
 {
     match outcome {
@@ -150,25 +150,25 @@ const NONE: VfEvent = VfEvent {
     refusal: 0,
 };
 
-/// A poll's reply as an event.
-fn event(reply: Reply, old: VfEvent) -> VfEvent
-    ensures { result ≡ event_of reply old }
+/// What a poll came to as an event, or the old one where it wasn't done.
+fn event(called: Called, old: VfEvent) -> VfEvent
+    ensures { result ≡ event_or called old }
 {
-    match reply {
-        Reply::NoEvent => NONE,
-        Reply::Event {
+    match called {
+        Called::Said(Reply::NoEvent) => NONE,
+        Called::Said(Reply::Event {
             code,
             action,
             my_ref,
             your_ref,
             outcome,
-        } => {
+        }) => {
             let Deed {
                 did,
                 count,
                 sent,
                 refusal,
-            } = deed(outcome);
+            } = done_with(outcome);
             VfEvent {
                 code: code.number(),
                 action: action.number(),
@@ -189,8 +189,6 @@ pub fn told_event(called: Called, to: &mut VfEvent) -> u32
     ensures status { result ≡ status_of called }
     ensures event { to.new ≡ event_or called to.old }
 {
-    if let Called::Said(reply) = called {
-        *to = event(reply, *to);
-    }
+    *to = event(called, *to);
     called.status()
 }
