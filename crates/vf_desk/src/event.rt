@@ -115,24 +115,26 @@ impl Deed {
 }
 
 /// An outcome's deed.
-fn done_with(outcome: Outcome) -> Deed
-    ensures { result ≡ deed_of outcome }
+fn done_with(outcome: &Outcome) -> Deed
+    ensures { result ≡ deed_of outcome.now }
 {
     match outcome {
         Outcome::Ignored => Deed::plain(DID_NOTHING),
         Outcome::Fetch(fetch) => Deed::moved(DID_FETCH, 0, fetch.0),
-        Outcome::Sent { count, transmit } => Deed::moved(DID_SEND, count, transmit.0),
-        Outcome::Refused(refusal) => Deed::refused(DID_REFUSE, 0, refusal),
+        Outcome::Sent { count, transmit } => Deed::moved(DID_SEND, *count, transmit.0),
+        Outcome::Refused(refusal) => Deed::refused(DID_REFUSE, 0, *refusal),
         Outcome::Failed => Deed::plain(DID_FAIL),
         Outcome::Drained => Deed::plain(DID_DRAIN),
-        Outcome::TookLast { count } => Deed::moved(DID_TAKE_LAST, count, 0),
-        Outcome::TookFull { count, fetch } => Deed::moved(DID_TAKE, count, fetch.0),
-        Outcome::TookFailed { count, refusal } => Deed::refused(DID_TAKE_AND_FAIL, count, refusal),
+        Outcome::TookLast { count } => Deed::moved(DID_TAKE_LAST, *count, 0),
+        Outcome::TookFull { count, fetch } => Deed::moved(DID_TAKE, *count, fetch.0),
+        Outcome::TookFailed { count, refusal } => {
+            Deed::refused(DID_TAKE_AND_FAIL, *count, *refusal)
+        }
         Outcome::Asked(ack) => Deed::moved(DID_ASK, 0, ack.0),
-        Outcome::Saved { count, load } => Deed::moved(DID_SAVE, count, load.0),
-        Outcome::Loaded { count } => Deed::moved(DID_LOAD, count, 0),
+        Outcome::Saved { count, load } => Deed::moved(DID_SAVE, *count, load.0),
+        Outcome::Loaded { count } => Deed::moved(DID_LOAD, *count, 0),
         Outcome::LoadedFailed { count, refusal } => {
-            Deed::refused(DID_LOAD_AND_FAIL, count, refusal)
+            Deed::refused(DID_LOAD_AND_FAIL, *count, *refusal)
         }
         Outcome::Done => Deed::plain(DID_FINISH),
     }
@@ -151,8 +153,8 @@ const NONE: VfEvent = VfEvent {
 };
 
 /// What a poll came to as an event, or the old one where it wasn't done.
-fn event(called: Called, old: VfEvent) -> VfEvent
-    ensures { result ≡ event_or called old }
+fn event(called: &Called, old: VfEvent) -> VfEvent
+    ensures { result ≡ event_or called.now old }
 {
     match called {
         Called::Said(Reply::NoEvent) => NONE,
@@ -185,9 +187,9 @@ fn event(called: Called, old: VfEvent) -> VfEvent
 }
 
 /// The status of a poll. What it took and did is told, if it was done.
-pub fn told_event(called: Called, to: &mut VfEvent) -> u32
-    ensures status { result ≡ status_of called }
-    ensures event { to.new ≡ event_or called to.old }
+pub fn told_event(called: &Called, to: &mut VfEvent) -> u32
+    ensures status { result ≡ status_of called.now }
+    ensures event { to.new ≡ event_or called.now to.old }
 {
     *to = event(called, *to);
     called.status()

@@ -188,7 +188,7 @@ fn name_array(name: &Name) -> [u8; 13]
 
 /// An item of the list of areas, as a struct.
 pub fn listed_area(entry: AreaEntry<'_>) -> VfArea
-    ensures { result ≡ area_of (item_of entry) }
+    ensures { result ≡ area_of (item_of entry.entry) }
 {
     match entry {
         AreaEntry::Area { number, pages } => VfArea {

@@ -68,7 +68,7 @@ pub extern "C" fn vf_desk_poll(
     ensures event { (s : Option Desk) → IsSeen desk.old s →
         event.new ≡ event_or (called s (in_form (Command.Poll name.now))) event.old }
 {
-    told_event(desk.step(alloc, forms::poll(name)), event)
+    told_event(&desk.step(alloc, forms::poll(name)), event)
 }
 
 /// Gives up the transfer with the id that comes in; with the id 0 the first one that can be given up.
