@@ -1,4 +1,5 @@
 pub mod Pairs
 pub mod SeenLaws
 pub mod CallLaws
+pub mod FormLaws
 pub mod FillLaws

@@ -29,12 +29,7 @@ pub extern "C" fn vf_desk_area(
 
 /// Makes an area of no page, and of at most `most` pages, and tells its number. (OS_DynamicArea 0.)
 #[unsafe(no_mangle)]
-pub extern "C" fn vf_desk_make(
-    alloc: Global,
-    desk: &mut VfDesk,
-    most: u32,
-    number: &mut u32,
-) -> u32
+pub extern "C" fn vf_desk_make(alloc: Global, desk: &mut VfDesk, most: u32, number: &mut u32) -> u32
     ensures does { Does (in_form (Command.Make most)) desk.old desk.new result }
     ensures number { (s : Option Desk) → IsSeen desk.old s →
         number.new ≡ number_or (called s (in_form (Command.Make most))) number.old }

@@ -52,7 +52,8 @@ pub extern "C" fn vf_desk_resize(
     ensures address { (s : Option Desk) → IsSeen desk.old s →
         moved_to.new ≡ number_or (called s (in_form (Command.Resize name.now address delta))) moved_to.old }
 {
-    desk.step(alloc, forms::resize(name, address, delta)).told(moved_to)
+    desk.step(alloc, forms::resize(name, address, delta))
+        .told(moved_to)
 }
 
 /// Turns budging on or off, and tells whether it was on. (flex_set_budge.)

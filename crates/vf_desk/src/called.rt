@@ -77,7 +77,14 @@ impl Called {
         ensures status { result ≡ status_of self.now }
         ensures sums { sums.new ≡ sums_or self.now sums.old }
     {
-        if let Called::Said(Reply::HeapSums { length, largest, free }) = self {
+        if let Called::Said(
+            Reply::HeapSums {
+                length,
+                largest,
+                free,
+            },
+        ) = self
+        {
             *sums = VfHeapSums {
                 length: *length,
                 largest: *largest,

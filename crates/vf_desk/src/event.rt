@@ -158,13 +158,15 @@ fn event(called: &Called, old: VfEvent) -> VfEvent
 {
     match called {
         Called::Said(Reply::NoEvent) => NONE,
-        Called::Said(Reply::Event {
-            code,
-            action,
-            my_ref,
-            your_ref,
-            outcome,
-        }) => {
+        Called::Said(
+            Reply::Event {
+                code,
+                action,
+                my_ref,
+                your_ref,
+                outcome,
+            },
+        ) => {
             let Deed {
                 did,
                 count,

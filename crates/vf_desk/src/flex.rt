@@ -23,7 +23,8 @@ pub extern "C" fn vf_desk_alloc(
     ensures address { (s : Option Desk) → IsSeen desk.old s →
         address.new ≡ number_or (called s (in_form (Command.Alloc name.now anchor size))) address.old }
 {
-    desk.step(alloc, forms::alloc(name, anchor, size)).told(address)
+    desk.step(alloc, forms::alloc(name, anchor, size))
+        .told(address)
 }
 
 /// Puts a block with a file's bytes on top of the task's slot, and tells its address. (flex_alloc, OS_File 16.)
@@ -40,7 +41,8 @@ pub extern "C" fn vf_desk_load(
     ensures address { (s : Option Desk) → IsSeen desk.old s →
         address.new ≡ number_or (called s (in_form (Command.Load name.now anchor file.now))) address.old }
 {
-    desk.step(alloc, forms::load(name, anchor, file)).told(address)
+    desk.step(alloc, forms::load(name, anchor, file))
+        .told(address)
 }
 
 /// Writes bytes, one at least, into the anchor's block, from an offset in it on.
@@ -92,5 +94,6 @@ pub extern "C" fn vf_desk_mid(
 ) -> u32
     ensures { Does (in_form (Command.Mid name.now anchor offset by)) desk.old desk.new result }
 {
-    desk.step(alloc, forms::mid(name, anchor, offset, by)).status()
+    desk.step(alloc, forms::mid(name, anchor, offset, by))
+        .status()
 }

@@ -63,7 +63,11 @@ pub fn checked(command: Command) -> Option<Command>
     ensures form { result ≡ in_form command }
     ensures ranged { IfSome result (λ c. in_range c ≡ true) }
 {
-    if command.in_range() { Some(command) } else { None }
+    if command.in_range() {
+        Some(command)
+    } else {
+        None
+    }
 }
 
 /// The question as a command, if it can be asked.
@@ -81,7 +85,11 @@ pub fn task(name: &[u8], buffer: u32, manner: u32) -> Option<Command>
 {
     let manner = manner_of(manner)?;
     let name = name_of(name)?;
-    checked(Command::Task { name, buffer, manner })
+    checked(Command::Task {
+        name,
+        buffer,
+        manner,
+    })
 }
 
 /// The command that ends a task.
@@ -141,7 +149,12 @@ pub fn mid(name: &[u8], anchor: u32, offset: u32, by: i32) -> Option<Command>
 {
     let name = name_of(name)?;
     let anchor = anchor_of(anchor)?;
-    checked(Command::Mid { name, anchor, offset, by })
+    checked(Command::Mid {
+        name,
+        anchor,
+        offset,
+        by,
+    })
 }
 
 /// The command that claims a block of a C heap.
@@ -168,7 +181,11 @@ pub fn resize(name: &[u8], address: u32, delta: i32) -> Option<Command>
     ensures ranged { IfSome result (λ c. in_range c ≡ true) }
 {
     let name = name_of(name)?;
-    checked(Command::Resize { name, address, delta })
+    checked(Command::Resize {
+        name,
+        address,
+        delta,
+    })
 }
 
 /// The command that turns budging on or off.
@@ -215,7 +232,10 @@ pub fn cancel_in(name: &[u8], id: u32) -> Option<Command>
     ensures ranged { IfSome result (λ c. in_range c ≡ true) }
 {
     let name = name_of(name)?;
-    checked(Command::CancelIn { name, id: id_of(id) })
+    checked(Command::CancelIn {
+        name,
+        id: id_of(id),
+    })
 }
 
 /// The command that gives up a transfer that goes out, the first one where the id is 0.
@@ -224,7 +244,10 @@ pub fn cancel_out(name: &[u8], id: u32) -> Option<Command>
     ensures ranged { IfSome result (λ c. in_range c ≡ true) }
 {
     let name = name_of(name)?;
-    checked(Command::CancelOut { name, id: id_of(id) })
+    checked(Command::CancelOut {
+        name,
+        id: id_of(id),
+    })
 }
 
 /// The command that sends the last message once more.

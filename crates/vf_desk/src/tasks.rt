@@ -26,7 +26,8 @@ pub extern "C" fn vf_desk_task(
     ensures handle { (s : Option Desk) → IsSeen desk.old s →
         handle.new ≡ number_or (called s (task_form name.now buffer (manner_at manner))) handle.old }
 {
-    desk.step(alloc, forms::task(name, buffer, manner)).told(handle)
+    desk.step(alloc, forms::task(name, buffer, manner))
+        .told(handle)
 }
 
 /// Ends a task: its messages bounce or vanish, and its pages are free. (Wimp_CloseDown.)
@@ -53,7 +54,8 @@ pub extern "C" fn vf_desk_save(
     ensures my_ref { (s : Option Desk) → IsSeen desk.old s →
         my_ref.new ≡ number_or (called s (in_form (Command.Save name.now anchor to.now leaf.now))) my_ref.old }
 {
-    desk.step(alloc, forms::save(name, anchor, to, leaf)).told(my_ref)
+    desk.step(alloc, forms::save(name, anchor, to, leaf))
+        .told(my_ref)
 }
 
 /// Takes the task's next message, does what it asks for, and tells both. (Wimp_Poll.)
