@@ -17,4 +17,4 @@ no-name bytes none = go (is_name bytes) none
   where
     go : (b : Bool) → None ≡ (if b then Some bytes else None) → b ≡ false
     go false none = refl
-    go true ()
+    go true none = absurd (let bad : None ≡ Some bytes = none in cc)
