@@ -83,12 +83,13 @@ impl Console {
         }
     }
 
-    /// Fills lent bytes with the text of what the last line was answered, over the desk as it is now, and answers how
-    /// many bytes it has. None where the text is longer, and then they are filled with its first ones.
+    /// Puts the text of what the last line was answered into lent bytes, over the desk as it is now, with zeros behind
+    /// it, and answers how many bytes it has. None where the text is longer, and then they have its first ones.
     pub fn print(&self, to: &mut [u8]) -> Option<usize>
         ensures { (d : Desk) → IsReordered d self.now.world.desk →
-            Prints (said_text d self.now.said) to.old to.new result }
+            Prints (said_text d self.now.said) (length to.old) to.new result }
     {
+        to.fill(0);
         let room = to.len();
         let mut text = LentText {
             bytes: to,
