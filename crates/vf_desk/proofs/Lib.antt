@@ -2,3 +2,6 @@ pub mod Pairs
 pub mod SeenLaws
 pub mod CallLaws
 pub mod FillLaws
+pub mod ListLaws
+pub mod OpeningLaws
+pub mod LineLaws
