@@ -6,7 +6,7 @@
  */
 #include "expect.h"
 
-enum { PAGES = 16, FIRST_FLEX = 0x9008, FIRST_HEAP = 0x8114, FIRST_RMA = 0x1800014, UNSET = 77 };
+enum { PAGES = 16, FIRST_FLEX = 0x9008, FIRST_HEAP = 0x8114, FIRST_RMA = 0x1800014 };
 enum { LONGEST_FILE = 1 << 20, ROOM_OF_TEXT = 1 << 20 };
 
 #define LAST UINT32_MAX
@@ -30,7 +30,8 @@ static char picture[ROOM_OF_TEXT], picture_before[ROOM_OF_TEXT];
 static void add_line(char *to, const char *asked)
 {
     size_t n = 0, at = strlen(to);
-    EXPECT(vf_desk_line(&desk, VF_TEXT(asked), (uint8_t *)to + at, ROOM_OF_TEXT - 1 - at, &n) != VF_SHORT);
+    vf_desk_line(&desk, VF_TEXT(asked));
+    EXPECT(vf_desk_reply(&desk, (uint8_t *)to + at, ROOM_OF_TEXT - 1 - at, &n) != VF_SHORT);
     to[at + n] = 0;
 }
 
@@ -148,7 +149,7 @@ static void closed_desks_answer_so(void)
     REFUSES(VF_CLOSED, vf_desk_heap(&desk, A, &sums, segments, 4, &count));
     REFUSES(VF_CLOSED, vf_desk_status(&desk, A, &number_told, records, 2, &count, other_records, 2, &other_count));
     REFUSES(VF_CLOSED, vf_desk_areas(&desk, &number_told, areas, 12, &count));
-    REFUSES(VF_CLOSED, vf_desk_line(&desk, VF_TEXT("areas"), bytes, sizeof bytes, &count));
+    REFUSES(VF_CLOSED, vf_desk_line(&desk, VF_TEXT("areas")));
     REFUSES(VF_CLOSED, vf_desk_reply(&desk, bytes, sizeof bytes, &count));
 }
 
@@ -434,32 +435,37 @@ static void limits(void)
     DOES(vf_desk_close(&desk));
 }
 
-/* A text that finds no room: its first bytes, and the whole of it once more. */
+/* A text that finds no room: its first bytes, and the whole of it once more, with zeros behind it. */
 static void short_texts(void)
 {
     static const char areas_told[] = "ok 14\n  area 0 0\n";
     uint8_t text[64];
     memset(text, UNSET, sizeof text);
     count = UNSET;
-    EXPECT(vf_desk_line(&desk, VF_TEXT("areas"), text, 6, &count) == VF_SHORT);
+    DOES(vf_desk_line(&desk, VF_TEXT("areas")));
+    EXPECT(vf_desk_reply(&desk, text, 6, &count) == VF_SHORT);
     EXPECT(count == UNSET && memcmp(text, areas_told, 6) == 0 && text[6] == UNSET);
     EXPECT(vf_desk_reply(&desk, text, 0, &count) == VF_SHORT);
     EXPECT(vf_desk_reply(&desk, text, 16, &count) == VF_SHORT);
     EXPECT(memcmp(text, areas_told, 16) == 0 && text[16] == UNSET);
-    DOES(vf_desk_line(&desk, VF_TEXT("make 3"), text, 7, &count));
-    EXPECT(count == 7 && memcmp(text, "ok 257\n", 7) == 0);
-    EXPECT(vf_desk_line(&desk, VF_TEXT("make 3"), text, 6, &count) == VF_SHORT);
+    DOES(vf_desk_line(&desk, VF_TEXT("make 3")));
+    EXPECT(vf_desk_reply(&desk, text, 6, &count) == VF_SHORT);
+    DOES(vf_desk_reply(&desk, text, 7, &count));
+    EXPECT(count == 7 && memcmp(text, "ok 257\n", 7) == 0 && text[7] != 0);
+    DOES(vf_desk_reply(&desk, text, 10, &count));
+    EXPECT(count == 7 && memcmp(text, "ok 257\n\0\0\0", 10) == 0);
+    DOES(vf_desk_line(&desk, VF_TEXT("make 3")));
     DOES(vf_desk_reply(&desk, text, sizeof text, &count));
-    EXPECT(count == 7 && memcmp(text, "ok 258\n", 7) == 0);
+    EXPECT(count == 7 && memcmp(text, "ok 258\n", 8) == 0);
     DOES(vf_desk_remove(&desk, 257));
     DOES(vf_desk_remove(&desk, 258));
     DOES(vf_desk_reply(&desk, text, sizeof text, &count));
     EXPECT(count == 7 && memcmp(text, "ok 258\n", 7) == 0);
-    DOES(vf_desk_line(&desk, VF_TEXT("# a remark"), text, 0, &count));
-    EXPECT(count == 0);
+    DOES(vf_desk_line(&desk, VF_TEXT("# a remark")));
     DOES(vf_desk_reply(&desk, text, 0, &count));
     EXPECT(count == 0);
-    DOES(vf_desk_line(&desk, VF_TEXT("arears"), text, sizeof text, &count));
+    DOES(vf_desk_line(&desk, VF_TEXT("arears")));
+    DOES(vf_desk_reply(&desk, text, sizeof text, &count));
     EXPECT(count == 12 && memcmp(text, "bad Unknown\n", 12) == 0);
 }
 
