@@ -25,9 +25,9 @@ extern "C" {
 /* ---- Statuses ----------------------------------------------------------------------------------------------------
  *
  * Each call answers one. With any but VF_OK it has changed nothing: no byte of the memory, and none of the numbers that
- * it would have told (vf_desk_line alone has done its line with VF_SHORT too). Refusals have the numbers that they have
- * everywhere in vervainfile, 1 to 24: where several hold, the first is answered. What is wrong with what a call was
- * lent begins at 32.
+ * it would have told (but vf_desk_reply has put the first bytes of a text that has no room). Refusals have the numbers
+ * that they have everywhere in vervainfile, 1 to 24: where several hold, the first is answered. What is wrong with what
+ * a call was lent begins at 32.
  */
 enum {
     VF_OK = 0,                 /* all was done */
@@ -552,13 +552,13 @@ uint32_t vf_desk_areas(struct vf_desk *desk, uint32_t *free, struct vf_area *are
 
 /* -- lines -- */
 
-/* Takes a line of a script, without its line feed, fills `text` with the text of its reply, and tells how many bytes
- * that has. A line that the desk does not understand is answered in the text too. VF_SHORT where the text has more
- * bytes than there is room for: the line was taken, `text` has the first bytes, and `length` stays. */
-uint32_t vf_desk_line(struct vf_desk *desk, const uint8_t *line, size_t line_len, uint8_t *text, size_t text_len,
-                      size_t *length);
+/* Takes a line of a script without its line feed, and keeps its reply. A line that the desk does not understand is
+ * answered in the reply too. */
+uint32_t vf_desk_line(struct vf_desk *desk, const uint8_t *line, size_t line_len);
 
-/* Fills `text` with the text of the last line's reply once more; what a question lists is looked up anew. VF_SHORT. */
+/* Puts the text of the last line's reply into `text` with zeros behind it, and tells how many bytes it has, as often as it
+ * is asked; what a question lists is looked up anew. VF_SHORT where the text has more bytes than there is room for:
+ * `text` has the first ones then, and `length` stays. */
 uint32_t vf_desk_reply(struct vf_desk *desk, uint8_t *text, size_t text_len, size_t *length);
 
 /* ---- Null pointers -------------------------------------------------------------------------------------------------
@@ -736,9 +736,8 @@ VF_UNLESS_NULL(vf_desk_areas,
                (struct vf_desk *desk, uint32_t *free, struct vf_area *areas, size_t areas_len, size_t *count),
                desk && free && areas && count, (desk, free, areas, areas_len, count))
 VF_UNLESS_NULL(vf_desk_line,
-               (struct vf_desk *desk, const uint8_t *line, size_t line_len, uint8_t *text, size_t text_len,
-               size_t *length),
-               desk && line && text && length, (desk, line, line_len, text, text_len, length))
+               (struct vf_desk *desk, const uint8_t *line, size_t line_len),
+               desk && line, (desk, line, line_len))
 VF_UNLESS_NULL(vf_desk_reply,
                (struct vf_desk *desk, uint8_t *text, size_t text_len, size_t *length),
                desk && text && length, (desk, text, text_len, length))

@@ -42,17 +42,13 @@ static bool answer(struct vf_desk *desk, const uint8_t *line, size_t len)
 {
     static struct bytes text;
     size_t n = 0;
-    uint32_t status = VF_SHORT;
-    if (text.at)
-        status = vf_desk_line(desk, line, len, text.at, text.len, &n);
-    else if ((text.at = malloc(text.len = FIRST_ROOM)))
-        status = vf_desk_line(desk, line, len, text.at, text.len, &n);
-    while (status == VF_SHORT) {
+    if (!text.at)
+        text.at = malloc(text.len = FIRST_ROOM);
+    vf_desk_line(desk, line, len);
+    while (text.at && vf_desk_reply(desk, text.at, text.len, &n) == VF_SHORT)
         text.at = realloc(text.at, text.len *= 2);
-        if (!text.at)
-            exit(2);
-        status = vf_desk_reply(desk, text.at, text.len, &n);
-    }
+    if (!text.at)
+        exit(2);
     fwrite(text.at, 1, n, stdout);
     return n > 3 && memcmp(text.at, "bad", 3) == 0;
 }

@@ -30,7 +30,8 @@ static char picture[ROOM_OF_TEXT], picture_before[ROOM_OF_TEXT];
 static void add_line(char *to, const char *asked)
 {
     size_t n = 0, at = strlen(to);
-    EXPECT(vf_desk_line(&desk, VF_TEXT(asked), (uint8_t *)to + at, ROOM_OF_TEXT - 1 - at, &n) != VF_SHORT);
+    vf_desk_line(&desk, VF_TEXT(asked));
+    EXPECT(vf_desk_reply(&desk, (uint8_t *)to + at, ROOM_OF_TEXT - 1 - at, &n) != VF_SHORT);
     to[at + n] = 0;
 }
 
@@ -98,7 +99,7 @@ static bool is_unset(void)
         EXPECT(strcmp(picture_before, picture) == 0);                                  \
     } while (0)
 
-#define TELLS_NUMBER(told_number, call)                                                \
+#define GIVES(told_number, call)                                                       \
     do {                                                                               \
         unset();                                                                       \
         EXPECT((call) == VF_OK);                                                       \
@@ -148,7 +149,7 @@ static void closed_desks_answer_so(void)
     REFUSES(VF_CLOSED, vf_desk_heap(&desk, A, &sums, segments, 4, &count));
     REFUSES(VF_CLOSED, vf_desk_status(&desk, A, &number_told, records, 2, &count, other_records, 2, &other_count));
     REFUSES(VF_CLOSED, vf_desk_areas(&desk, &number_told, areas, 12, &count));
-    REFUSES(VF_CLOSED, vf_desk_line(&desk, VF_TEXT("areas"), bytes, sizeof bytes, &count));
+    REFUSES(VF_CLOSED, vf_desk_line(&desk, VF_TEXT("areas")));
     REFUSES(VF_CLOSED, vf_desk_reply(&desk, bytes, sizeof bytes, &count));
 }
 
@@ -220,8 +221,8 @@ static void opening(void)
     DOES(vf_desk_open(&desk, 300, 5, 9));
     REFUSES(VF_OPEN, vf_desk_open(&desk, 8, 1, 1));
     REFUSES(VF_OPEN, vf_desk_file(&desk, VF_TEXT("late"), bytes, 1));
-    TELLS_NUMBER(5, vf_desk_task(&desk, A, 1, VF_TASK_PLAIN, &number_told));
-    TELLS_NUMBER(FIRST_FLEX, vf_desk_load(&desk, A, 0, VF_TEXT("long"), &number_told));
+    GIVES(5, vf_desk_task(&desk, A, 1, VF_TASK_PLAIN, &number_told));
+    GIVES(FIRST_FLEX, vf_desk_load(&desk, A, 0, VF_TEXT("long"), &number_told));
     DOES(vf_desk_load(&desk, A, 1, VF_TEXT("empty"), &number_told));
     DOES(vf_desk_close(&desk));
     EXPECT(!desk.live && !desk.at);
@@ -231,11 +232,11 @@ static void opening(void)
 static void flex_calls(void)
 {
     static uint8_t long_bytes[3000];
-    TELLS_NUMBER(FIRST_FLEX, vf_desk_alloc(&desk, A, 0, 10, &number_told));
+    GIVES(FIRST_FLEX, vf_desk_alloc(&desk, A, 0, 10, &number_told));
     REFUSES(VF_NO_NAME, vf_desk_alloc(&desk, NONE, 1, 10, &number_told));
     REFUSES(VF_ANCHOR_IN_USE, vf_desk_alloc(&desk, A, 0, 10, &number_told));
     REFUSES(VF_NO_ROOM, vf_desk_alloc(&desk, A, 1, PAGES * 4096, &number_told));
-    TELLS_NUMBER(FIRST_FLEX + 20, vf_desk_load(&desk, A, 1, VF_TEXT("notes"), &number_told));
+    GIVES(FIRST_FLEX + 20, vf_desk_load(&desk, A, 1, VF_TEXT("notes"), &number_told));
     REFUSES(VF_NO_FILE, vf_desk_load(&desk, A, 2, NONE, &number_told));
     REFUSES(VF_ANCHOR_IN_USE, vf_desk_load(&desk, A, 1, VF_TEXT("notes"), &number_told));
     DOES(vf_desk_put(&desk, A, 0, 7, (const uint8_t *)"xyz", 3));
@@ -250,11 +251,11 @@ static void flex_calls(void)
     DOES(vf_desk_extend(&desk, A, 0, 12));
     REFUSES(VF_NO_BLOCK, vf_desk_extend(&desk, A, 2, 1));
     REFUSES(VF_NO_ROOM, vf_desk_extend(&desk, A, 0, PAGES * 4096));
-    TELLS_NUMBER(12, vf_desk_show(&desk, A, 0, bytes, 4, &number_told));
+    GIVES(12, vf_desk_show(&desk, A, 0, bytes, 4, &number_told));
     EXPECT(memcmp(bytes, "\0\0\0\0MMMM", 8) == 0);
-    TELLS_NUMBER(3, vf_desk_show(&desk, A, 1, bytes, sizeof bytes, &number_told));
+    GIVES(3, vf_desk_show(&desk, A, 1, bytes, sizeof bytes, &number_told));
     EXPECT(memcmp(bytes, "abcM", 4) == 0);
-    TELLS_NUMBER(3, vf_desk_show(&desk, A, 1, bytes, 0, &number_told));
+    GIVES(3, vf_desk_show(&desk, A, 1, bytes, 0, &number_told));
     REFUSES(VF_NO_BLOCK, vf_desk_show(&desk, A, 2, bytes, sizeof bytes, &number_told));
     unset();
     DOES(vf_desk_blocks(&desk, A, blocks, 1, &count));
@@ -269,18 +270,18 @@ static void flex_calls(void)
     DOES(vf_desk_extend(&desk, A, 1, sizeof long_bytes + 1));
     DOES(vf_desk_put(&desk, A, 1, 1, long_bytes, sizeof long_bytes));
     REFUSES(VF_BAD_RANGE, vf_desk_put(&desk, A, 1, 2, long_bytes, sizeof long_bytes));
-    TELLS_NUMBER(sizeof long_bytes + 1, vf_desk_show(&desk, A, 1, bytes, 3, &number_told));
+    GIVES(sizeof long_bytes + 1, vf_desk_show(&desk, A, 1, bytes, 3, &number_told));
     EXPECT(memcmp(bytes, "a\x09\x09M", 4) == 0);
     DOES(vf_desk_free(&desk, A, 1));
 }
 
 static void heap_calls(void)
 {
-    TELLS_NUMBER(FIRST_HEAP, vf_desk_claim(&desk, A, 20, &number_told));
+    GIVES(FIRST_HEAP, vf_desk_claim(&desk, A, 20, &number_told));
     REFUSES(VF_NO_NAME, vf_desk_claim(&desk, NONE, 1, &number_told));
     REFUSES(VF_BAD_SIZE, vf_desk_claim(&desk, A, 0, &number_told));
     REFUSES(VF_NO_ROOM, vf_desk_claim(&desk, A, PAGES * 4096, &number_told));
-    TELLS_NUMBER(FIRST_HEAP, vf_desk_resize(&desk, A, FIRST_HEAP, 8, &number_told));
+    GIVES(FIRST_HEAP, vf_desk_resize(&desk, A, FIRST_HEAP, 8, &number_told));
     REFUSES(VF_NOT_A_BLOCK, vf_desk_resize(&desk, A, FIRST_HEAP + 8, 8, &number_told));
     REFUSES(VF_BAD_SIZE, vf_desk_resize(&desk, A, FIRST_HEAP, -28, &number_told));
     REFUSES(VF_NO_ROOM, vf_desk_resize(&desk, A, FIRST_HEAP, PAGES * 4096, &number_told));
@@ -302,11 +303,11 @@ static void heap_calls(void)
 
 static void area_calls(void)
 {
-    TELLS_NUMBER(4096, vf_desk_area(&desk, 0, 1, &number_told));
+    GIVES(4096, vf_desk_area(&desk, 0, 1, &number_told));
     REFUSES(VF_NO_AREA, vf_desk_area(&desk, 6, 1, &number_told));
     REFUSES(VF_EXCESSIVE_SHRINK, vf_desk_area(&desk, 0, -4097, &number_told));
     REFUSES(VF_NO_ROOM, vf_desk_area(&desk, 2, PAGES * 4096, &number_told));
-    TELLS_NUMBER(256, vf_desk_make(&desk, 1, &number_told));
+    GIVES(256, vf_desk_make(&desk, 1, &number_told));
     REFUSES(VF_TOO_BIG, vf_desk_area(&desk, 256, 4097, &number_told));
     unset();
     DOES(vf_desk_areas(&desk, &number_told, areas, 2, &count));
@@ -318,16 +319,16 @@ static void area_calls(void)
     EXPECT(areas[7].number == 0 && areas[7].pages == 1 && strcmp((const char *)areas[7].name, "a") == 0);
     DOES(vf_desk_remove(&desk, 256));
     REFUSES(VF_NO_AREA, vf_desk_remove(&desk, 256));
-    TELLS_NUMBER(FIRST_RMA, vf_desk_rma_claim(&desk, 20, &number_told));
+    GIVES(FIRST_RMA, vf_desk_rma_claim(&desk, 20, &number_told));
     REFUSES(VF_BAD_SIZE, vf_desk_rma_claim(&desk, 0, &number_told));
     REFUSES(VF_NO_ROOM, vf_desk_rma_claim(&desk, PAGES * 4096, &number_told));
-    TELLS_NUMBER(FIRST_RMA, vf_desk_rma_resize(&desk, FIRST_RMA, -8, &number_told));
+    GIVES(FIRST_RMA, vf_desk_rma_resize(&desk, FIRST_RMA, -8, &number_told));
     REFUSES(VF_BAD_SIZE, vf_desk_rma_resize(&desk, FIRST_RMA, -20, &number_told));
     REFUSES(VF_NOT_A_BLOCK, vf_desk_rma_resize(&desk, FIRST_RMA + 8, 1, &number_told));
     REFUSES(VF_NO_ROOM, vf_desk_rma_resize(&desk, FIRST_RMA, PAGES * 4096, &number_told));
     DOES(vf_desk_rma_free(&desk, FIRST_RMA));
     REFUSES(VF_NOT_A_BLOCK, vf_desk_rma_free(&desk, FIRST_RMA));
-    TELLS_NUMBER(4096, vf_desk_area(&desk, 0, -4096, &number_told));
+    GIVES(4096, vf_desk_area(&desk, 0, -4096, &number_told));
 }
 
 /* The block of a Message_DataSave of 5 bytes, the Wimp's words and the leafname; the bytes behind it stay. */
@@ -338,10 +339,10 @@ static void next_is_a_data_save(void)
         0, 0, 0, 0, 0, 0, 0, 0, 0, 0, 0, 0, 0, 0, 0, 0,             /* window, icon, x, y */
         5, 0, 0, 0, 0xfd, 0x0f, 0, 0, 'L', 'e', 'a', 'f', 0, 0, 0, 0, /* size, type &FFD, name */
     };
-    TELLS_NUMBER(18, vf_desk_next(&desk, B, &message, &number_told));
+    GIVES(18, vf_desk_next(&desk, B, &message, &number_told));
     EXPECT(memcmp(message.bytes, wanted, sizeof wanted) == 0);
     EXPECT(!is_set(message.bytes + sizeof wanted, sizeof message.bytes - sizeof wanted));
-    TELLS_NUMBER(0, vf_desk_next(&desk, A, &message, &number_told));
+    GIVES(0, vf_desk_next(&desk, A, &message, &number_told));
     EXPECT(!is_set(&message, sizeof message));
     REFUSES(VF_NO_NAME, vf_desk_next(&desk, NONE, &message, &number_told));
 }
@@ -349,7 +350,7 @@ static void next_is_a_data_save(void)
 /* A file of 5 bytes goes from a to b, whose buffer has 4: what each poll tells. */
 static void transfer(void)
 {
-    TELLS_NUMBER(2, vf_desk_task(&desk, B, 4, VF_TASK_PLAIN, &number_told));
+    GIVES(2, vf_desk_task(&desk, B, 4, VF_TASK_PLAIN, &number_told));
     REFUSES(VF_NAME_IN_USE, vf_desk_task(&desk, B, 4, VF_TASK_PLAIN, &number_told));
     REFUSES(VF_NOTHING_SENT, vf_desk_repeat(&desk, A, &number_told));
     DOES(vf_desk_alloc(&desk, A, 0, 5, &number_told));
@@ -357,7 +358,7 @@ static void transfer(void)
     REFUSES(VF_NO_BLOCK, vf_desk_save(&desk, A, 1, B, VF_TEXT("Leaf"), &number_told));
     REFUSES(VF_NO_TASK, vf_desk_save(&desk, A, 0, NONE, VF_TEXT("Leaf"), &number_told));
     REFUSES(VF_NOT_OPEN, vf_desk_cancel_out(&desk, A, 0));
-    TELLS_NUMBER(1, vf_desk_save(&desk, A, 0, B, VF_TEXT("Leaf"), &number_told));
+    GIVES(1, vf_desk_save(&desk, A, 0, B, VF_TEXT("Leaf"), &number_told));
     REFUSES(VF_BUSY, vf_desk_put(&desk, A, 0, 0, (const uint8_t *)"j", 1));
     REFUSES(VF_BUSY, vf_desk_free(&desk, A, 0));
     REFUSES(VF_BUSY, vf_desk_extend(&desk, A, 0, 1));
@@ -384,11 +385,11 @@ static void transfer(void)
     EXPECT(event.code == 17 && event.did == VF_DID_TAKE_LAST && event.count == 1 && event.sent == 0);
     DOES(vf_desk_poll(&desk, B, &event));
     EXPECT(event.code == 0 && event.action == 0 && event.my_ref == 0 && event.did == 0);
-    TELLS_NUMBER(5, vf_desk_show(&desk, B, 0, bytes, sizeof bytes, &number_told));
+    GIVES(5, vf_desk_show(&desk, B, 0, bytes, sizeof bytes, &number_told));
     EXPECT(memcmp(bytes, "hello", 5) == 0);
     DOES(vf_desk_status(&desk, B, &number_told, records, 2, &count, other_records, 2, &other_count));
     EXPECT(number_told == 2 && count == 0 && other_count == 1 && other_records[0].state == VF_RECORD_DONE);
-    TELLS_NUMBER(6, vf_desk_repeat(&desk, A, &number_told));
+    GIVES(6, vf_desk_repeat(&desk, A, &number_told));
     REFUSES(VF_NOT_OPEN, vf_desk_cancel_in(&desk, B, 1));
     REFUSES(VF_NO_NAME, vf_desk_status(&desk, NONE, &number_told, records, 2, &count, other_records, 2, &other_count));
     REFUSES(VF_NO_NAME, vf_desk_poll(&desk, NONE, &event));
@@ -403,24 +404,24 @@ static void limits(void)
     open_desk(64, LAST - 31, 1);
     for (unsigned i = 0; i < 32; i++) {
         snprintf(name_of_task, sizeof name_of_task, "t%u", i);
-        TELLS_NUMBER(LAST - 31 + i, vf_desk_task(&desk, VF_TEXT(name_of_task), 1, VF_TASK_DEAF, &number_told));
+        GIVES(LAST - 31 + i, vf_desk_task(&desk, VF_TEXT(name_of_task), 1, VF_TASK_DEAF, &number_told));
     }
     REFUSES(VF_TOO_MANY_TASKS, vf_desk_task(&desk, A, 1, VF_TASK_PLAIN, &number_told));
     DOES(vf_desk_kill(&desk, VF_TEXT("t0")));
     REFUSES(VF_NO_HANDLES, vf_desk_task(&desk, A, 1, VF_TASK_PLAIN, &number_told));
     DOES(vf_desk_alloc(&desk, VF_TEXT("t1"), 0, 1, &number_told));
     for (uint32_t i = 1; i <= 256; i++) {
-        TELLS_NUMBER(i, vf_desk_save(&desk, VF_TEXT("t1"), 0, VF_TEXT("t2"), VF_TEXT("l"), &number_told));
+        GIVES(i, vf_desk_save(&desk, VF_TEXT("t1"), 0, VF_TEXT("t2"), VF_TEXT("l"), &number_told));
         DOES(vf_desk_cancel_out(&desk, VF_TEXT("t1"), i));
     }
     REFUSES(VF_QUEUE_FULL, vf_desk_save(&desk, VF_TEXT("t1"), 0, VF_TEXT("t2"), VF_TEXT("l"), &number_told));
     REFUSES(VF_QUEUE_FULL, vf_desk_repeat(&desk, VF_TEXT("t1"), &number_told));
     for (unsigned i = 0; i < 32; i++)
-        TELLS_NUMBER(256 + i, vf_desk_make(&desk, 1, &number_told));
+        GIVES(256 + i, vf_desk_make(&desk, 1, &number_told));
     REFUSES(VF_TOO_MANY_AREAS, vf_desk_make(&desk, 1, &number_told));
     DOES(vf_desk_remove(&desk, 256));
     for (unsigned i = 256 + 32; i <= 65535; i++) {
-        TELLS_NUMBER(i, vf_desk_make(&desk, 1, &number_told));
+        GIVES(i, vf_desk_make(&desk, 1, &number_told));
         DOES(vf_desk_remove(&desk, i));
     }
     REFUSES(VF_NO_NUMBERS, vf_desk_make(&desk, 1, &number_told));
@@ -428,38 +429,43 @@ static void limits(void)
     open_desk(8, 1, LAST);
     DOES(vf_desk_task(&desk, A, 1, VF_TASK_PLAIN, &number_told));
     DOES(vf_desk_alloc(&desk, A, 0, 1, &number_told));
-    TELLS_NUMBER(LAST, vf_desk_save(&desk, A, 0, A, VF_TEXT("l"), &number_told));
+    GIVES(LAST, vf_desk_save(&desk, A, 0, A, VF_TEXT("l"), &number_told));
     DOES(vf_desk_cancel_out(&desk, A, 0));
     REFUSES(VF_NO_REFS, vf_desk_save(&desk, A, 0, A, VF_TEXT("l"), &number_told));
     DOES(vf_desk_close(&desk));
 }
 
-/* A text that finds no room: its first bytes, and the whole of it once more. */
+/* A text that finds no room: its first bytes, and the whole of it once more, with zeros behind it. */
 static void short_texts(void)
 {
     static const char areas_told[] = "ok 14\n  area 0 0\n";
     uint8_t text[64];
     memset(text, UNSET, sizeof text);
     count = UNSET;
-    EXPECT(vf_desk_line(&desk, VF_TEXT("areas"), text, 6, &count) == VF_SHORT);
+    DOES(vf_desk_line(&desk, VF_TEXT("areas")));
+    EXPECT(vf_desk_reply(&desk, text, 6, &count) == VF_SHORT);
     EXPECT(count == UNSET && memcmp(text, areas_told, 6) == 0 && text[6] == UNSET);
     EXPECT(vf_desk_reply(&desk, text, 0, &count) == VF_SHORT);
     EXPECT(vf_desk_reply(&desk, text, 16, &count) == VF_SHORT);
     EXPECT(memcmp(text, areas_told, 16) == 0 && text[16] == UNSET);
-    DOES(vf_desk_line(&desk, VF_TEXT("make 3"), text, 7, &count));
-    EXPECT(count == 7 && memcmp(text, "ok 257\n", 7) == 0);
-    EXPECT(vf_desk_line(&desk, VF_TEXT("make 3"), text, 6, &count) == VF_SHORT);
+    DOES(vf_desk_line(&desk, VF_TEXT("make 3")));
+    EXPECT(vf_desk_reply(&desk, text, 6, &count) == VF_SHORT);
+    DOES(vf_desk_reply(&desk, text, 7, &count));
+    EXPECT(count == 7 && memcmp(text, "ok 257\n", 7) == 0 && text[7] != 0);
+    DOES(vf_desk_reply(&desk, text, 10, &count));
+    EXPECT(count == 7 && memcmp(text, "ok 257\n\0\0\0", 10) == 0);
+    DOES(vf_desk_line(&desk, VF_TEXT("make 3")));
     DOES(vf_desk_reply(&desk, text, sizeof text, &count));
-    EXPECT(count == 7 && memcmp(text, "ok 258\n", 7) == 0);
+    EXPECT(count == 7 && memcmp(text, "ok 258\n", 8) == 0);
     DOES(vf_desk_remove(&desk, 257));
     DOES(vf_desk_remove(&desk, 258));
     DOES(vf_desk_reply(&desk, text, sizeof text, &count));
     EXPECT(count == 7 && memcmp(text, "ok 258\n", 7) == 0);
-    DOES(vf_desk_line(&desk, VF_TEXT("# a remark"), text, 0, &count));
-    EXPECT(count == 0);
+    DOES(vf_desk_line(&desk, VF_TEXT("# a remark")));
     DOES(vf_desk_reply(&desk, text, 0, &count));
     EXPECT(count == 0);
-    DOES(vf_desk_line(&desk, VF_TEXT("arears"), text, sizeof text, &count));
+    DOES(vf_desk_line(&desk, VF_TEXT("arears")));
+    DOES(vf_desk_reply(&desk, text, sizeof text, &count));
     EXPECT(count == 12 && memcmp(text, "bad Unknown\n", 12) == 0);
 }
 
@@ -471,7 +477,7 @@ int main(void)
     open_desk(PAGES, 1, 1);
     DOES(vf_desk_reply(&desk, bytes, 0, &count));
     EXPECT(count == 0);
-    TELLS_NUMBER(1, vf_desk_task(&desk, A, 100, VF_TASK_PLAIN, &number_told));
+    GIVES(1, vf_desk_task(&desk, A, 100, VF_TASK_PLAIN, &number_told));
     arguments_have_forms();
     flex_calls();
     heap_calls();

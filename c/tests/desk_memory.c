@@ -71,7 +71,8 @@ static size_t length;
 
 static void say(const char *line)
 {
-    EXPECT(vf_desk_line(&desk, VF_TEXT(line), text, sizeof text, &length) == VF_OK);
+    EXPECT(vf_desk_line(&desk, VF_TEXT(line)) == VF_OK);
+    EXPECT(vf_desk_reply(&desk, text, sizeof text, &length) == VF_OK);
 }
 
 /* Transfers one after the other, with all lists looked up between, by calls and by lines. */

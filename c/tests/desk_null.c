@@ -4,6 +4,7 @@
  */
 #include "expect.h"
 
+
 static struct vf_desk desk = VF_DESK_CLOSED;
 static uint8_t bytes[4] = {UNSET, UNSET, UNSET, UNSET};
 static const uint8_t name[] = "a";
@@ -112,10 +113,8 @@ static void calls_see_null(struct vf_desk *it, size_t n)
     IS_NULL(vf_desk_areas(it, NULL, &area, n, &count));
     IS_NULL(vf_desk_areas(it, &number, NULL, n, &count));
     IS_NULL(vf_desk_areas(it, &number, &area, n, NULL));
-    IS_NULL(vf_desk_line(NULL, name, n, bytes, n, &count));
-    IS_NULL(vf_desk_line(it, NULL, n, bytes, n, &count));
-    IS_NULL(vf_desk_line(it, name, n, NULL, n, &count));
-    IS_NULL(vf_desk_line(it, name, n, bytes, n, NULL));
+    IS_NULL(vf_desk_line(NULL, name, n));
+    IS_NULL(vf_desk_line(it, NULL, n));
     IS_NULL(vf_desk_reply(NULL, bytes, n, &count));
     IS_NULL(vf_desk_reply(it, NULL, n, &count));
     IS_NULL(vf_desk_reply(it, bytes, n, NULL));

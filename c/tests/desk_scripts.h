@@ -13,7 +13,8 @@ static size_t answered_len;
 static void both_answer_alike(struct vf_desk *by_lines, struct vf_desk *by_calls, const char *line)
 {
     size_t len = strlen(line);
-    EXPECT(vf_desk_line(by_lines, (const uint8_t *)line, len, answered, sizeof answered, &answered_len) == VF_OK);
+    EXPECT(vf_desk_line(by_lines, (const uint8_t *)line, len) == VF_OK);
+    EXPECT(vf_desk_reply(by_lines, answered, sizeof answered, &answered_len) == VF_OK);
     if (answered_len == 0 || memcmp(answered, "bad", 3) == 0)
         return;
     do_by_call(by_calls, line);

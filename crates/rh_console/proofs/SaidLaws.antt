@@ -46,6 +46,13 @@ answers-command old new c r other steps = record {
   ap (λ (s : Reply). said_text (step d c).0 (said.Reply s)) (sym (steps d seen).0) ∙ sym (one-line (step d c).0 c (step d c).1 other);
 }
 
+-- the same of what is equal
+pub answers-is : {r m : Meaning (Option Command)} {old new new2 : Desk} {kept kept2 : Said} → r ≡ m → new ≡ new2 → kept ≡ kept2
+    → Answers m old new2 kept2 → Answers r old new kept
+answers-is {r} {m} {old} {new} {new2} {kept} {kept2} means desks said answers =
+    subst (λ x. Answers x old new kept) (sym means)
+    (subst (λ x. Answers m old x kept) (sym desks) (subst (λ x. Answers m old new2 x) (sym said) answers))
+
 -- of a line that means this
 pub line-desk : (line : List ℕ) (meaning : Meaning (Option Command)) (old new : Desk) (kept : Said) → meaning ≡ line_means line
     → Answers meaning old new kept → (d : Desk) → IsReordered d old → IsReordered (line_desk d line) new

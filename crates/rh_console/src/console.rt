@@ -1,9 +1,10 @@
 //! A desk that takes lines.
-ghost use Rattle.std.specs.Prelude.{◌≡◌, ◌≤◌, [], length, IfOk, OnErr};
+ghost use Rattle.std.specs.Prelude.{◌≡◌, ◌≤◌, [], true, Some, Ok, length, IfOk, OnErr};
 ghost use Rattle.rh_defs.specs.Desk.{Desk};
 ghost use Rattle.rh_defs.specs.Order.{IsReordered};
 ghost use Rattle.rh_defs.specs.Runs.{start_with};
-ghost use Rattle.rh_defs.specs.Script.{line_desk, line_text};
+ghost use Rattle.rh_defs.specs.Range.{in_range};
+ghost use Rattle.rh_defs.specs.Script.{line_desk, line_text, meaning_desk, meaning_text};
 ghost use Rattle.rh_defs.specs.declared.sizes.TheConstants.{MAX_PAGES, MIN_PAGES};
 ghost use Rattle.rh_console.specs.declared.said.Said.TheVariants as Said;
 ghost use Rattle.rh_console.specs.Said.{said_text};
@@ -54,7 +55,7 @@ impl Console {
         })
     }
 
-    /// Takes a line, without its line feed, and keeps what it is answered.
+    /// Takes a line without its line feed, and keeps what it is answered.
     pub fn take_line(&mut self, line: &[u8])
         ensures desk { (d : Desk) → IsReordered d self.old.world.desk →
             IsReordered (line_desk d line.now) self.new.world.desk }
@@ -63,18 +64,32 @@ impl Console {
     {
         self.said = match parse_line(line) {
             Ok(None) => Said::Nothing,
-            Ok(Some(Command::Ask(question))) => Said::Told(question),
-            Ok(Some(command)) => Said::Reply(self.world.apply(&command)),
+            Ok(Some(command)) => self.carry_out(command),
             Err(fault) => Said::Fault(fault),
         };
     }
 
-    /// Fills lent bytes with the text of what the last line was answered, over the desk as it is now, and answers how
-    /// many bytes it has. None where the text is longer, and then they are filled with its first ones.
+    /// Does a command, and answers what is kept of its reply. A question changes nothing, and is kept as it is.
+    fn carry_out(&mut self, command: Command) -> Said
+        requires { in_range command ≡ true }
+        ensures desk { (d : Desk) → IsReordered d self.old.world.desk →
+            IsReordered (meaning_desk d (Ok (Some command))) self.new.world.desk }
+        ensures text { (d : Desk) → IsReordered d self.old.world.desk →
+            said_text (meaning_desk d (Ok (Some command))) result ≡ meaning_text d (Ok (Some command)) }
+    {
+        match command {
+            Command::Ask(question) => Said::Told(question),
+            _ => Said::Reply(self.world.apply(&command)),
+        }
+    }
+
+    /// Puts the text of what the last line was answered into lent bytes, over the desk as it is now, with zeros behind
+    /// it, and answers how many bytes it has. None where the text is longer, and then they have its first ones.
     pub fn print(&self, to: &mut [u8]) -> Option<usize>
         ensures { (d : Desk) → IsReordered d self.now.world.desk →
-            Prints (said_text d self.now.said) to.old to.new result }
+            Prints (said_text d self.now.said) (length to.old) to.new result }
     {
+        to.fill(0);
         let room = to.len();
         let mut text = LentText {
             bytes: to,

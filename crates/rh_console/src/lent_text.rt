@@ -1,10 +1,10 @@
 //! Text in bytes that a caller lends.
-ghost use Rattle.std.specs.Prelude.{◌≡◌, ◌≤◌, ◌+◌, ◌&&◌, false, nat_le, length};
+ghost use Rattle.std.specs.Prelude.{◌≡◌, ◌≤◌, ◌+◌, ◌-◌, ◌&&◌, false, nat_le, length, drop, replicate};
 
 use rh_lines::{Sink, WriteFailed};
 use rh_store::bytes::put_in;
 
-/// Lent bytes that are filled from the first one on. It takes one byte more than has room, so that it is known whether
+/// Lent bytes, all 0 at first, that are filled from the first one on. It takes one byte more than has room, so that it is known whether
 /// a text is longer, and counts as failed from when it took none of some bytes.
 #[derive(Drop)]
 pub struct LentText<'a> {
@@ -17,6 +17,8 @@ pub struct LentText<'a> {
     pub ghost fits: { taken ≤ length bytes.now + 1 },
     // it has failed only where it has taken the one byte more
     pub ghost full: { (failed && nat_le taken (length bytes.now)) ≡ false },
+    // what wasn't written yet is 0
+    pub ghost clear: { drop taken bytes.now ≡ replicate (length bytes.now - taken) 0 },
 }
 
 impl Sink for LentText<'_> {

@@ -3,3 +3,6 @@ pub mod SeenLaws
 pub mod CallLaws
 pub mod FormLaws
 pub mod FillLaws
+pub mod ListLaws
+pub mod OpeningLaws
+pub mod LineLaws
