@@ -19,12 +19,7 @@ const LONGEST_FILE: usize = 1_048_576;
 
 /// Adds a named file, which `load` finds once the desk is open.
 #[unsafe(no_mangle)]
-pub extern "C" fn vf_desk_file(
-    alloc: Global,
-    desk: &mut VfDesk,
-    name: &[u8],
-    bytes: &[u8],
-) -> u32
+pub extern "C" fn vf_desk_file(alloc: Global, desk: &mut VfDesk, name: &[u8], bytes: &[u8]) -> u32
     ensures { Adds name.now bytes.now desk.old.handle.station desk.new.handle.station result }
 {
     let Some(mut station) = desk.take(alloc) else {
@@ -68,13 +63,7 @@ pub extern "C" fn vf_desk_open(
 }
 
 /// The same, where the handle has nothing yet.
-fn open_new(
-    alloc: Global,
-    desk: &mut VfDesk,
-    pages: u32,
-    first_handle: u32,
-    first_ref: u32,
-) -> u32
+fn open_new(alloc: Global, desk: &mut VfDesk, pages: u32, first_handle: u32, first_ref: u32) -> u32
     requires { desk.old.handle.station ≡ None }
     ensures { Opens pages first_handle first_ref desk.old.handle.station desk.new.handle.station result }
 {
