@@ -43,16 +43,20 @@ whole old new text name taken true low =
     }
 whole old new text name taken false low = beyond old new [] text name low (append-nil (taken_in new) ∙ taken)
 
+same_parts : {x y : ℕ} {xs ys : List ℕ} → x ∷ xs ≡ y ∷ ys → (x ≡ y) × (xs ≡ ys)
+same_parts e = (cc, cc)
+
 -- a text that was printed into lent bytes that had nothing yet
 pub printed : {E : Type 0} (old new : LentText) (r : Result Unit E) (text : List ℕ) → old.taken ≡ 0 → Puts (output_of old) (output_of new) r text → Printed old new text
 unfolding output_of
 printed old new (Ok u) text none puts =
-    let taken : new.bytes.ghost_name ∷ taken_in new ≡ (old.bytes.ghost_name ∷ taken_in old) ++ text = puts.ok.taken in
     let empty : taken_in old ≡ [] = ap (λ t. take t (old.bytes.now ++ old.beyond ∷ [])) none in
-    whole old new text (cc) (cc) (nat_le new.taken (length new.bytes.now)) refl
+    let parts : (new.bytes.ghost_name ≡ old.bytes.ghost_name) × (taken_in new ≡ taken_in old ++ text) = same_parts puts.ok.taken in
+    whole old new text parts.0 (parts.1 ∙ ap (λ l. l ++ text) empty) (nat_le new.taken (length new.bytes.now)) refl
 printed old new (Err e) text none puts =
-    let taken : new.bytes.ghost_name ∷ taken_in new ≡ (old.bytes.ghost_name ∷ taken_in old) ++ puts.err.front = puts.err.taken in
+    let front = puts.err.front in
+    let back = puts.err.back in
     let empty : taken_in old ≡ [] = ap (λ t. take t (old.bytes.now ++ old.beyond ∷ [])) none in
-    let front : taken_in new ≡ puts.err.front = cc in
+    let parts : (new.bytes.ghost_name ≡ old.bytes.ghost_name) × (taken_in new ≡ taken_in old ++ front) = same_parts puts.err.taken in
     let low : nat_le new.taken (length new.bytes.now) ≡ false = sym (ap (λ b. b && nat_le new.taken (length new.bytes.now)) puts.err.failed) ∙ new.full in
-    beyond old new puts.err.back text (cc) low (ap (λ l. l ++ puts.err.back) front ∙ sym puts.err.whole)
+    beyond old new back text parts.0 low (ap (λ l. l ++ back) (parts.1 ∙ ap (λ l. l ++ front) empty) ∙ sym puts.err.whole)
