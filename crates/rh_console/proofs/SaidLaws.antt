@@ -43,7 +43,7 @@ pub answers-command : (old new : Desk) (c : Command) (r : Reply) → ((q : Quest
 answers-command old new c r other steps = record {
   desk = λ d seen. (steps d seen).1;
   text = λ d seen.
-  ap (λ (s : Reply). said_text (step d c).0 (said.Reply s)) (sym (steps d seen).0) ∙ sym (one-line (step d c).0 c (step d c).1 other);
+      ap (λ (s : Reply). said_text (step d c).0 (said.Reply s)) (sym (steps d seen).0) ∙ sym (one-line (step d c).0 c (step d c).1 other);
 }
 
 -- the same of what is equal

@@ -36,6 +36,10 @@ pub filled-next : {A : Type 0} (xs old : List A) (x : A) → length xs < length 
 filled-next xs old x low =
     filled-is (xs ++ x ∷ []) old ∙ overlaid-next xs old x low ∙ ap (λ l. set l (length xs) x) (sym (filled-is xs old))
 
+-- no items
+pub filled-none : {A : Type 0} (old : List A) → filled [] old ≡ old
+filled-none old = filled-is [] old
+
 -- items that find no room
 pub filled-full : {A : Type 0} (xs more old : List A) → length old ≤ length xs → filled (xs ++ more) old ≡ filled xs old
 filled-full xs more old all = filled-is (xs ++ more) old ∙ overlaid-full xs more old all ∙ sym (filled-is xs old)

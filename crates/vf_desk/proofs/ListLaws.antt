@@ -15,7 +15,7 @@ use Rattle.rh_tasks.specs.Lists.{blocks_of}
 use Rattle.rh_script.proofs.PrintLemmas.{blocks_refused, status_refused}
 use Rattle.vf_desk.specs.Items.{blocks_in, incoming_in, listed_with, outgoing_in}
 
-map-map : {A B C : Type 0} (f : B → C) (g : A → B) (xs : List A) → map f (map g xs) ≡ map (λ x. f (g x)) xs
+pub map-map : {A B C : Type 0} (f : B → C) (g : A → B) (xs : List A) → map f (map g xs) ≡ map (λ x. f (g x)) xs
 map-map f g [] = refl
 map-map f g (x ∷ xs) = ap (λ l. f (g x) ∷ l) (map-map f g xs)
 
