@@ -30,9 +30,10 @@ impl Sink for LentText<'_> {
         let all = self.bytes.len();
         if self.taken < all {
             let count = bytes.len().min(all - self.taken);
-            let lent = &mut *self.bytes;
-            put_in(lent, self.taken, &bytes[..count]);
+            let at = self.taken;
             self.taken += count;
+            let lent = &mut *self.bytes;
+            put_in(lent, at, &bytes[..count]);
             return Ok(count);
         }
         if bytes.is_empty() {
