@@ -3,7 +3,7 @@ use Rattle.std.proofs.Common.{◌≡◌, ℕ, ◌+◌, ◌<◌, ◌≤◌, Bool,
 use Rattle.std.specs.Prelude.{nat_le, ◌&&◌, if◌then◌else◌}
 use borrow.Author.Tests.{tests}
 use Rattle.rh_lines.specs.Flow.{Breaks, Puts, Takes}
-use Rattle.rh_console.specs.Console.{fitting, padded}
+use Rattle.rh_console.specs.Console.{Prints, fitting, padded}
 use Rattle.rh_console.specs.LentText.{output_of, taken_in}
 use Rattle.rh_console.specs.declared.lent_text.LentText.{LentText}
 use Rattle.rh_console.proofs.TextLaws.{padded-inside, padded-beyond}
@@ -60,3 +60,22 @@ printed old new (Err e) text none puts =
     let parts : (new.bytes.ghost_name ≡ old.bytes.ghost_name) × (taken_in new ≡ taken_in old ++ front) = same_parts puts.err.taken in
     let low : nat_le new.taken (length new.bytes.now) ≡ false = sym (ap (λ b. b && nat_le new.taken (length new.bytes.now)) puts.err.failed) ∙ new.full in
     beyond old new back text parts.0 low (ap (λ l. l ++ back) (parts.1 ∙ ap (λ l. l ++ front) empty) ∙ sym puts.err.whole)
+
+-- what is answered of it: nothing where the text has no room, and else how much was taken
+pub answers-none : {old new : LentText} {text now : List ℕ} {room : ℕ} → Printed old new text → now ≡ new.bytes.now
+    → length new.bytes.now ≡ room → room < new.taken → Prints text room now None
+answers-none {old} {new} {text} {now} {room} printed is long more =
+    let low : nat_le new.taken (length new.bytes.now) ≡ false = grind (arith, tests) in
+    record {
+      bytes = is ∙ printed.bytes ∙ ap (λ k. padded k text) long;
+      told = sym (ap (λ k. fitting text k) (sym long) ∙ printed.told ∙ ap (λ b. if b then Some new.taken else None) low);
+    }
+
+pub answers-some : {old new : LentText} {text now : List ℕ} {room : ℕ} → Printed old new text → now ≡ new.bytes.now
+    → length new.bytes.now ≡ room → new.taken ≤ room → Prints text room now (Some new.taken)
+answers-some {old} {new} {text} {now} {room} printed is long few =
+    let low : nat_le new.taken (length new.bytes.now) ≡ true = grind (arith, tests) in
+    record {
+      bytes = is ∙ printed.bytes ∙ ap (λ k. padded k text) long;
+      told = sym (ap (λ k. fitting text k) (sym long) ∙ printed.told ∙ ap (λ b. if b then Some new.taken else None) low);
+    }

@@ -1,6 +1,6 @@
 -- What a text in lent bytes has taken after a write, and what the bytes are in the end.
 use Rattle.std.proofs.Common.{◌≡◌, ℕ, zero, suc, ◌+◌, ◌<◌, ◌≤◌, List, [], ◌∷◌, ◌++◌, length, take, drop, refl, sym, ap, ◌∙◌, subst, arith, append_assoc, append-nil, length-take-le, length-append, take_at, take-append-drop, take_all}
-use Rattle.std.proofs.lemmas.List.{take-append-le, drop-replicate}
+use Rattle.std.proofs.lemmas.List.{take-append-le, drop-drop, drop-replicate, length-replicate}
 use Rattle.std.proofs.Math.Seq.{take-append-add, drop-append-add, drop-append_seam}
 use Rattle.std.specs.Prelude.{slice_index, ◌-◌, replicate}
 use Rattle.rh_defs.specs.Bytes.{put}
@@ -43,6 +43,17 @@ some-of [] some = absurd (some refl)
 some-of (x ∷ xs) some = omega arith
 
 -- ---- what wasn't written
+
+-- lent bytes that are all 0
+pub clear-zeros : (b : List ℕ) (n : ℕ) → b ≡ replicate n 0 → drop 0 b ≡ replicate (length b - 0) 0
+clear-zeros b n zeros =
+    let long : length b ≡ n = ap length zeros ∙ length-replicate {A = ℕ} n 0 in
+    zeros ∙ ap (λ k. replicate k 0) (omega arith)
+
+-- what is 0 is 0 from a later byte on
+pub clear-later : (b : List ℕ) (t n : ℕ) → drop t b ≡ replicate (length b - t) 0 → drop (t + n) b ≡ replicate (length b - (t + n)) 0
+clear-later b t n clear =
+    sym (drop-drop n t b) ∙ ap (drop n) clear ∙ drop-replicate n (length b - t) 0 ∙ ap (λ k. replicate k 0) (omega arith)
 
 -- it is 0, and so is what isn't written after one more write
 pub clear-after : (b xs : List ℕ) (t n : ℕ) → t + n ≤ length b → n ≤ length xs → drop t b ≡ replicate (length b - t) 0

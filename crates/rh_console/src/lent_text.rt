@@ -4,8 +4,8 @@ ghost use Rattle.std.specs.Prelude.{◌≡◌, ◌≤◌, ◌+◌, ◌-◌, ◌&
 use rh_lines::{Sink, WriteFailed};
 use rh_store::bytes::put_in;
 
-/// Lent bytes, all 0 at first, that are filled from the first one on. It takes one byte more than has room, so that it is known whether
-/// a text is longer, and counts as failed from when it took none of some bytes.
+/// Lent bytes, all 0 at first, that are filled from the first one on. It takes one byte more than has room, so that
+/// it is known whether a text is longer, and counts as failed from when it took none of some bytes.
 #[derive(Drop)]
 pub struct LentText<'a> {
     pub bytes: &'a mut [u8],
@@ -30,9 +30,10 @@ impl Sink for LentText<'_> {
         let all = self.bytes.len();
         if self.taken < all {
             let count = bytes.len().min(all - self.taken);
-            let lent = &mut *self.bytes;
-            put_in(lent, self.taken, &bytes[..count]);
+            let at = self.taken;
             self.taken += count;
+            let lent = &mut *self.bytes;
+            put_in(lent, at, &bytes[..count]);
             return Ok(count);
         }
         if bytes.is_empty() {

@@ -1,14 +1,16 @@
 -- Lines on a desk that is open, and on one that isn't.
-use Rattle.std.proofs.Common.{◌≡◌, ℕ, List, Option, Some, None, refl, sym, ap, subst, ◌∙◌}
+use Rattle.std.proofs.Common.{◌≡◌, ℕ, Bool, true, false, List, length, Option, Some, None, refl, sym, ap, subst, ◌∙◌}
+use Rattle.std.specs.Prelude.{nat_le, if◌then◌else◌}
+use Rattle.rh_console.specs.Console.{Prints}
 use Rattle.rh_console.specs.Said.{said_text}
 use Rattle.rh_console.specs.declared.console.Console.{Console}
 use Rattle.rh_defs.specs.Desk.{Desk}
 use Rattle.rh_defs.specs.Order.{IsReordered}
 use Rattle.rh_defs.specs.Script.{line_desk, line_text}
 use Rattle.vf_desk.specs.declared.station.Station.{Station}
-use Rattle.vf_desk.specs.Lines.{Takes, desk_after, kept_text, line_status}
+use Rattle.vf_desk.specs.Lines.{Fills, Takes, desk_after, kept_text, line_status}
 use Rattle.vf_desk.specs.Seen.{SeenBy, console_in, files_in}
-use Rattle.vf_desk.specs.Status.{closed}
+use Rattle.vf_desk.specs.Status.{closed, short}
 
 -- a line on a desk that isn't open
 takes_none : (line : List ℕ) (console : Option Console) → console ≡ None → (held : Option Station) → console_in held ≡ console → Takes line held held closed
@@ -58,3 +60,36 @@ takes-open {line} old new console now open after files desk said = record {
     seen_after : (s : Option Desk) → SeenBy (Some console) s → SeenBy (Some now) (desk_after s line)
     seen_after None seen = absurd seen
     seen_after (Some d) seen = desk d seen
+
+-- ---- a text in lent bytes
+
+-- a text that had room, and its length
+pub fills-some : {text bytes : List ℕ} {room was n : ℕ} → Prints text room bytes (Some n) → Fills text room bytes was n 0
+fills-some {text} {bytes} {room} {was} {n} prints = go (nat_le (length text) room) refl
+  where
+    same : {x y : ℕ} → ◌≡◌ {A = Option ℕ} (Some x) (Some y) → x ≡ y
+    same e = cc
+
+    go : (b : Bool) → nat_le (length text) room ≡ b → Fills text room bytes was n 0
+    go true low = record {
+      bytes_are = prints.bytes;
+      length_is = same (prints.told ∙ ap (λ b. if b then Some (length text) else None) low) ∙ sym (ap (λ b. if b then length text else was) low);
+      status_is = sym (ap (λ b. if b then 0 else short) low);
+    }
+    go false low =
+        let none : ◌≡◌ {A = Option ℕ} (Some n) None = prints.told ∙ ap (λ b. if b then Some (length text) else None) low in
+        absurd (cc)
+
+-- a text that had none
+pub fills-none : {text bytes : List ℕ} {room was : ℕ} → Prints text room bytes None → Fills text room bytes was was short
+fills-none {text} {bytes} {room} {was} prints = go (nat_le (length text) room) refl
+  where
+    go : (b : Bool) → nat_le (length text) room ≡ b → Fills text room bytes was was short
+    go true low =
+        let some : ◌≡◌ {A = Option ℕ} None (Some (length text)) = prints.told ∙ ap (λ b. if b then Some (length text) else None) low in
+        absurd (cc)
+    go false low = record {
+      bytes_are = prints.bytes;
+      length_is = sym (ap (λ b. if b then length text else was) low);
+      status_is = sym (ap (λ b. if b then 0 else short) low);
+    }
