@@ -3,6 +3,7 @@
 use crate::calls::{name, said, task};
 use crate::same::{is_true, same};
 use crate::stores::{paged_store, plain_store};
+use rh_defs::sizes::GREATEST_NUMBER;
 use rh_defs::{Anchor, Command, Files, Handle, Name, Ref, Refusal, Reply};
 use rh_store::Store;
 use rh_tasks::World;
@@ -58,6 +59,7 @@ fn puts<R: Abort, S: Store>(
 ) -> Result<Reply, Refusal> {
     assert!(rt; name.is_valid());
     assert!(rt; !bytes.is_empty());
+    assert!(rt; offset <= GREATEST_NUMBER);
     world.put(name, Anchor(0), offset, bytes)
 }
 

@@ -206,16 +206,28 @@ fn the_answer_waits<R: Abort, S: Store>(rt: &R, world: &World<S>, a: &Name, nobo
     let refused = world.next_message(nobody, &mut block);
     same(rt, refused, Err(Refusal::NoName));
     same(rt, world.next_ref(), 3);
-    let sending = world.task(0).map(|t| t.sending.len());
-    same(rt, sending, Some(1));
-    let taking = world.task(1).map(|t| t.taking.len());
-    same(rt, taking, Some(1));
-    let sent = world.task(0).and_then(|t| t.last_sent);
-    same(
-        rt,
-        sent.map(|l| (l.letter.to, l.my_ref)),
-        Some((Handle(2), Ref(1))),
-    );
+    one_sends_and_one_takes(rt, world);
+}
+
+/// Task 1 sends what it sent under reference 1 to task 2, which takes.
+fn one_sends_and_one_takes<R: Abort, S: Store>(rt: &R, world: &World<S>) {
+    match world.task(0) {
+        Some(task) => {
+            same(rt, task.sending.len(), 1);
+            match task.last_sent {
+                Some(sent) => {
+                    same(rt, sent.letter.to, Handle(2));
+                    same(rt, sent.my_ref, Ref(1));
+                }
+                None => panic!(rt; "a message was sent"),
+            }
+        }
+        None => panic!(rt; "task 1 is there"),
+    }
+    match world.task(1) {
+        Some(task) => same(rt, task.taking.len(), 1),
+        None => panic!(rt; "task 2 is there"),
+    }
 }
 
 /// Reads a fresh world after some commands.
