@@ -2,7 +2,7 @@ use Rattle.std.proofs.Common.{◌≡◌, ◌+◌, ◌∷◌, [], ◌++◌, take,
 use Rattle.std.proofs.lemmas.Grind.{common_steps}
 use borrow.Author.Tests.{tests}
 use Rattle.rh_console.specs.LentText.{output_of}
-use Rattle.rh_console.proofs.TextLaws.{taken-inside, taken-beyond, first-of, some-of}
+use Rattle.rh_console.proofs.TextLaws.{taken-inside, taken-beyond, first-of, some-of, clear-after, clear-later}
 use Rattle.rh_console.proofs.lent_text.LentTextSink.write.Goals as goal
 
 pub returns-then-self-all-clause-taken : goal.returns-then-self-all-clause-taken
@@ -40,3 +40,16 @@ returns-clause-taken c =
 pub returns-clause-failed : goal.returns-clause-failed
 unfolding output_of
 returns-clause-failed c = grind (arith, common_steps, tests)
+
+-- what is counted as taken is 0 until its bytes are put there
+pub invariant_of-self-clause-clear : goal.invariant_of-self-clause-clear
+invariant_of-self-clause-clear c =
+    let s = c.args.self.now in
+    clear-later s.bytes.now s.taken c.min-count.result s.clear
+
+pub invariant_of-self-then-self-all-clause-clear : goal.invariant_of-self-then-self-all-clause-clear
+invariant_of-self-then-self-all-clause-clear c =
+    let s = c.args.self.now in
+    let n = c.min-count.result in
+    rw c.put_in.ensures
+    (clear-after s.bytes.now c.args.bytes.now s.taken n (omega (arith, c.min-count.ensures, c.if-self-all.true)) (omega (arith, c.min-count.ensures)) s.clear)
