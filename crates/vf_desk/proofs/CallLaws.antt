@@ -9,7 +9,7 @@ use Rattle.rh_defs.specs.Range.{in_range}
 use Rattle.vf_desk.specs.declared.called.Called.{Called}
 use Rattle.vf_desk.specs.declared.desk.VfDesk.{VfDesk}
 use Rattle.vf_desk.specs.Called.{Asks, Does, IsAsked, called, desk_by, in_form, status_of}
-use Rattle.vf_desk.specs.Seen.{IsSeen}
+use Rattle.vf_desk.specs.Seen.{IsSeen, KeepsRest}
 
 module _ {command form : Option Command} {old new : VfDesk} {said : Called} (same : form ≡ command)
     (says : (s : Option Desk) → IsSeen old s → said ≡ called s form) where
@@ -19,11 +19,12 @@ module _ {command form : Option Command} {old new : VfDesk} {said : Called} (sam
   told_by tell told s seen = told ∙ ap tell (says s seen ∙ ap (called s) same)
 
   pub does : ((s : Option Desk) → IsSeen old s → IsSeen new (desk_by s form))
-      → (status_of said ≢ 0 → new.handle.station ≡ old.handle.station) → {status : ℕ} → status ≡ status_of said
-      → Does command old new status
-  does desk refused {status} told = record {
+      → KeepsRest old.handle.station new.handle.station → (status_of said ≢ 0 → new.handle.station ≡ old.handle.station)
+      → {status : ℕ} → status ≡ status_of said → Does command old new status
+  does desk rest refused {status} told = record {
     status_is = told_by status_of told;
     desk = λ s seen. subst (λ f. IsSeen new (desk_by s f)) same (desk s seen);
+    rest = rest;
     refused = λ bad. refused (λ zero. bad (told ∙ zero));
   }
 

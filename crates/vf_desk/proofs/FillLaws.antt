@@ -1,5 +1,6 @@
 -- Lists with items in place of their first ones, or of those from an index on.
-use Rattle.std.proofs.Common.{◌≡◌, ℕ, zero, suc, ◌+◌, ◌<◌, ◌≤◌, List, [], ◌∷◌, ◌++◌, length, take, drop, refl, sym, ap, ◌∙◌, arith, set, append_assoc, length-append, take-append-drop}
+use Rattle.std.proofs.Common.{◌≡◌, ℕ, zero, suc, ◌+◌, ◌<◌, ◌≤◌, List, [], ◌∷◌, ◌++◌, length, take, drop, get_or, Some, None, inl, inr, refl, sym, ap, ◌∙◌, arith, set, append-nil, take-append-drop, take_all}
+use Rattle.std.specs.Prelude.{◌-◌, ◌⊎◌, map, min, slice_get}
 use Rattle.rh_console.specs.Console.{filled}
 use Rattle.vf_desk.specs.Lists.{filled_from}
 
@@ -71,3 +72,85 @@ pub from-full : {A : Type 0} (at : ℕ) (xs more old : List A) → length old �
 from-full zero xs more old all = filled-full xs more old all
 from-full (suc at) xs more [] all = refl
 from-full (suc at) xs more (y ∷ old) all = ap (λ l. y ∷ l) (from-full at xs more old (omega arith))
+
+-- one item, at an index
+pub one-item : {A : Type 0} (at : ℕ) (old : List A) (x : A) → at < length old → set old at x ≡ filled_from at (x ∷ []) old
+one-item at old x low =
+    sym (from-next at [] old x (omega arith) ∙ ap (λ l. set l (at + 0) x) (from-none at old) ∙ ap (λ n. set old n x) (omega arith))
+
+pub no-room : {A : Type 0} (at : ℕ) (old : List A) (x : A) → length old ≤ at → old ≡ filled_from at (x ∷ []) old
+no-room at old x all = sym (from-full at [] (x ∷ []) old (omega arith) ∙ from-none at old)
+
+-- ---- items that are shown as others
+
+-- one more of them
+pub next-item : {A B : Type 0} (f : A → B) (items : List A) (i : ℕ) (x : A) → Some x ≡ slice_get items i
+    → (map f (take (i + 1) items) ≡ map f (take i items) ++ f x ∷ []) × (length (map f (take i items)) ≡ i)
+next-item {A} {B} f items i x e = (ap (λ n. map f (take n items)) (let one : i + 1 ≡ suc i = omega arith in one) ∙ (go items i e).0, (go items i e).1)
+  where
+    go : (items : List A) (i : ℕ) → Some x ≡ slice_get items i
+        → (map f (take (suc i) items) ≡ map f (take i items) ++ f x ∷ []) × (length (map f (take i items)) ≡ i)
+    go [] zero e = absurd (cc)
+    go [] (suc i) e = absurd (cc)
+    go (y ∷ items) zero e = (let same : y ≡ x = cc in ap (λ z. f z ∷ []) same, refl)
+    go (y ∷ items) (suc i) e = (ap (λ l. f y ∷ l) (go items i e).0, ap suc (go items i e).1)
+
+-- there is none behind the last
+no-more-items : {A : Type 0} (items : List A) (i : ℕ) → None ≡ slice_get items i → length items ≤ i
+no-more-items [] i e = omega arith
+no-more-items (y ∷ items) zero e = absurd (cc)
+no-more-items (y ∷ items) (suc i) e = omega (arith, no-more-items items i e)
+
+got-item : {A : Type 0} (items : List A) (i : ℕ) (x : A) → i < length items → x ≡ get_or items i x → Some x ≡ slice_get items i
+got-item [] i x low e = absurd (omega arith)
+got-item (y ∷ items) zero x low e = ap Some e
+got-item (y ∷ items) (suc i) x low e = got-item items i x (omega arith) e
+
+-- one more, at its index
+pub items-more : {A B : Type 0} (f : A → B) (items : List A) (i : ℕ) (x : A) (y : B) (old to later : List B) → y ≡ f x → Some x ≡ slice_get items i
+    → to ≡ filled (map f (take i items)) old → later ≡ filled_from i (y ∷ []) to → later ≡ filled (map f (take (i + 1) items)) old
+items-more f items i x y old to later is at same puts =
+    let next = next-item f items i x at in
+    puts ∙ ap (λ z. filled_from i (z ∷ []) to) is ∙ ap (filled_from i (f x ∷ [])) same
+    ∙ ap (λ n. filled_from n (f x ∷ []) (filled (map f (take i items)) old)) (sym next.1)
+    ∙ filled-behind (map f (take i items)) (f x ∷ []) old ∙ ap (λ l. filled l old) (sym next.0)
+
+-- all of them
+pub items-all : {A B : Type 0} (f : A → B) (items : List A) (i : ℕ) (old to : List B) → i ≤ length items → None ≡ slice_get items i
+    → to ≡ filled (map f (take i items)) old → (to ≡ filled (map f items) old) × (i ≡ length items)
+items-all f items i old to few at same =
+    let past = no-more-items items i at in
+    (same ∙ ap (λ l. filled (map f l) old) (take_all i items past), omega arith)
+
+-- the same from an index on
+pub fill-more : {A B : Type 0} (f : A → B) (items : List A) (at i : ℕ) (x : A) (y : B) (old to : List B) → i < length items → x ≡ get_or items i x → y ≡ f x
+    → at + i < length old → to ≡ filled_from at (map f (take i items)) old → set to (at + i) y ≡ filled_from at (map f (take (i + 1) items)) old
+fill-more f items at i x y old to low is shown room same =
+    let next = next-item f items i x (got-item items i x low is) in
+    let xs = map f (take i items) in
+    ap (λ l. set l (at + i) y) same ∙ ap (set (filled_from at xs old) (at + i)) shown ∙ ap (λ n. set (filled_from at xs old) (at + n) (f x)) (sym next.1)
+    ∙ sym (from-next at xs old (f x) (omega (arith, next.1))) ∙ ap (λ l. filled_from at l old) (sym next.0)
+
+map-append : {A B : Type 0} (f : A → B) (xs ys : List A) → map f (xs ++ ys) ≡ map f xs ++ map f ys
+map-append f [] ys = refl
+map-append f (x ∷ xs) ys = ap (λ l. f x ∷ l) (map-append f xs ys)
+
+length-taken : {A B : Type 0} (f : A → B) (items : List A) (n : ℕ) → n ≤ length items → length (map f (take n items)) ≡ n
+length-taken f items zero few = refl
+length-taken f [] (suc n) few = absurd (omega arith)
+length-taken f (x ∷ items) (suc n) few = ap suc (length-taken f items n (omega arith))
+
+pub fill-all : {A B : Type 0} (f : A → B) (items : List A) (at n : ℕ) (old to : List B) → n ≡ min (length items) (length old - at)
+    → to ≡ filled_from at (map f (take n items)) old → to ≡ filled_from at (map f items) old
+fill-all {A} {B} f items at n old to is same =
+    same ∙ go (omega arith) ∙ ap (λ l. filled_from at l old) (sym (map-append f (take n items) (drop n items)) ∙ ap (map f) (take-append-drop n items))
+  where
+    drop-past : (n : ℕ) (items : List A) → length items ≤ n → drop n items ≡ []
+    drop-past zero [] all = refl
+    drop-past zero (x ∷ items) all = absurd (omega arith)
+    drop-past (suc n) [] all = refl
+    drop-past (suc n) (x ∷ items) all = drop-past n items (omega arith)
+
+    go : (length items ≤ n) ⊎ (length old ≤ at + n) → filled_from at (map f (take n items)) old ≡ filled_from at (map f (take n items) ++ map f (drop n items)) old
+    go (inl all) = ap (λ l. filled_from at l old) (sym (append-nil (map f (take n items))) ∙ ap (λ l. map f (take n items) ++ map f l) (sym (drop-past n items all)))
+    go (inr all) = sym (from-full at (map f (take n items)) (map f (drop n items)) old (let long = length-taken f items n (omega arith) in omega arith))

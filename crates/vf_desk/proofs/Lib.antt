@@ -4,5 +4,6 @@ pub mod CallLaws
 pub mod FormLaws
 pub mod FillLaws
 pub mod ListLaws
+pub mod SegmentLaws
 pub mod OpeningLaws
 pub mod LineLaws

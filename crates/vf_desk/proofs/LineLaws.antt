@@ -8,7 +8,7 @@ use Rattle.rh_defs.specs.Desk.{Desk}
 use Rattle.rh_defs.specs.Order.{IsReordered}
 use Rattle.rh_defs.specs.Script.{line_desk, line_text}
 use Rattle.vf_desk.specs.declared.station.Station.{Station}
-use Rattle.vf_desk.specs.Lines.{Fills, Takes, desk_after, kept_text, line_status}
+use Rattle.vf_desk.specs.Lines.{Fills, Replies, Stays, Takes, desk_after, kept_text, line_status}
 use Rattle.vf_desk.specs.Seen.{SeenBy, console_in, files_in}
 use Rattle.vf_desk.specs.Status.{closed, short}
 
@@ -93,3 +93,19 @@ fills-none {text} {bytes} {room} {was} prints = go (nat_le (length text) room) r
       length_is = sym (ap (λ b. if b then length text else was) low);
       status_is = sym (ap (λ b. if b then 0 else short) low);
     }
+
+-- ---- the reply that is kept
+
+pub replies-open : {held : Option Station} {console : Console} {before after : List ℕ} {was now status : ℕ} → console_in held ≡ Some console
+    → ((d : Desk) → IsReordered d console.world.desk → Fills (said_text d console.said) (length before) after was now status)
+    → Replies held before after was now status
+replies-open {held} {console} {before} {after} {was} {now} {status} is fills = record {
+  fills = λ d seen. subst (λ h. Fills (kept_text h d) (length before) after was now status) (sym is) (fills d (subst (λ h. SeenBy h (Some d)) is seen));
+  stays = λ seen. absurd (subst (λ h. SeenBy h None) is seen);
+}
+
+pub replies-closed : {held : Option Station} {before : List ℕ} {was : ℕ} → console_in held ≡ None → Replies held before before was was closed
+replies-closed is = record {
+  fills = λ d seen. absurd (subst (λ h. SeenBy h (Some d)) is seen);
+  stays = λ _. record { status_is = refl; bytes = refl; length_is = refl };
+}

@@ -1,19 +1,24 @@
 -- What is listed of a desk, from what its readers give.
-use Rattle.std.proofs.Common.{◌≡◌, ℕ, zero, suc, ◌+◌, ◌<◌, ◌≤◌, List, [], ◌∷◌, ◌++◌, length, take, drop, refl, sym, ap, ◌∙◌, arith, Ok, Err, Some, None, Option, find}
-use Rattle.std.specs.Prelude.{map}
+use Rattle.std.proofs.Common.{◌≡◌, ℕ, zero, suc, ◌+◌, ◌<◌, ◌≤◌, List, [], ◌∷◌, ◌++◌, length, take, drop, min, refl, sym, ap, ◌∙◌, arith, subst, cond, Ok, Err, Some, None, Option, find}
+use Rattle.std.specs.Prelude.{false, true, if◌then◌else◌, map}
 use Rattle.rh_console.specs.Console.{filled}
+use Rattle.rh_console.specs.declared.console.Console.{Console}
 use Rattle.rh_defs.specs.declared.listing.BlockItem.{BlockItem}
+use Rattle.rh_defs.specs.declared.question.Question.{Question}
 use Rattle.rh_defs.specs.declared.refusal.Refusal.{Refusal}
 use Rattle.rh_defs.specs.declared.transfer.Incoming.{Incoming}
 use Rattle.rh_defs.specs.declared.transfer.Outgoing.{Outgoing}
 use Rattle.rh_defs.specs.declared.reply.Reply.TheVariants as reply
 use Rattle.rh_defs.specs.Chain.{Granted, ◌>>=◌}
 use Rattle.rh_defs.specs.Desk.{Desk, Task, named}
-use Rattle.rh_defs.specs.Listing.{Blocks, Records, block_items, in_item, out_item, status_at}
-use Rattle.rh_defs.specs.Questions.{Told, blocks, status}
+use Rattle.rh_defs.specs.Listing.{Blocks, Bytes, Nothing, Records, block_items, in_item, out_item, status_at}
+use Rattle.rh_defs.specs.Questions.{Told, asked, blocks, show, status}
+use Rattle.rh_defs.specs.Range.{can_be_asked}
+use Rattle.rh_defs.proofs.QuestionLaws.{asked-alike}
 use Rattle.rh_tasks.specs.Lists.{blocks_of}
 use Rattle.rh_script.proofs.PrintLemmas.{blocks_refused, status_refused}
-use Rattle.vf_desk.specs.Items.{blocks_in, incoming_in, listed_with, outgoing_in}
+use Rattle.vf_desk.specs.Items.{blocks_in, bytes_in, incoming_in, listed, listed_with, outgoing_in}
+use Rattle.vf_desk.specs.Seen.{SeenBy}
 
 pub map-map : {A B C : Type 0} (f : B → C) (g : A → B) (xs : List A) → map f (map g xs) ≡ map (λ x. f (g x)) xs
 map-map f g [] = refl
@@ -62,3 +67,46 @@ pub no-records-listed : (d : Desk) (name : List ℕ) (refusal : Refusal) → sta
 no-records-listed d name refusal e =
     let is = status_refused d name refusal e in
     record { out = ap (λ a. outgoing_in (listed_with a)) is; taken = ap (λ a. incoming_in (listed_with a)) is }
+
+-- ---- a block's bytes
+
+-- the bytes that have room, and those that were there behind them
+pub bytes-filled : (bytes old part : List ℕ) (n : ℕ) → n ≡ min (length old) (length bytes) → part ≡ take n bytes → part ++ drop n old ≡ filled bytes old
+bytes-filled bytes old part n is read = ap (λ l. l ++ drop n old) read ∙ go bytes old n is
+  where
+    go : (bytes old : List ℕ) (n : ℕ) → n ≡ min (length old) (length bytes) → take n bytes ++ drop n old ≡ filled bytes old
+    go [] old zero is = refl
+    go [] [] (suc n) is = refl
+    go [] (y ∷ old) (suc n) is = absurd (omega arith)
+    go (x ∷ bytes) [] zero is = refl
+    go (x ∷ bytes) [] (suc n) is = absurd (omega arith)
+    go (x ∷ bytes) (y ∷ old) zero is = absurd (omega arith)
+    go (x ∷ bytes) (y ∷ old) (suc n) is = ap (λ l. x ∷ l) (go bytes old n (omega arith))
+
+pub shown-bytes : (answer : Granted Told) (size : ℕ) (bytes : List ℕ) → answer ≡ Ok (reply.Shown size, Bytes bytes) → bytes_in (listed_with answer) ≡ bytes
+shown-bytes answer size bytes e = ap (λ a. bytes_in (listed_with a)) e
+
+pub no-shown-bytes : (answer : Granted Told) (refusal : Refusal) → answer ≡ Err refusal → bytes_in (listed_with answer) ≡ []
+no-shown-bytes answer refusal e = ap (λ a. bytes_in (listed_with a)) e
+
+-- ---- what is listed of a desk that a handle may be seen as
+
+pub listed-open : {held : Option Console} {console : Console} → held ≡ Some console → (s : Option Desk) (q : Question) → SeenBy held s → can_be_asked q ≡ true
+    → listed s q ≡ listed_with (asked console.world.desk q)
+listed-open {held} {console} is s q seen ranged = go s (subst (λ h. SeenBy h s) is seen)
+  where
+    go : (s : Option Desk) → SeenBy (Some console) s → listed s q ≡ listed_with (asked console.world.desk q)
+    go None seen = absurd seen
+    go (Some d) seen = ap (λ b. if b then listed_with (asked d q) else Nothing) ranged ∙ ap listed_with (sym (asked-alike seen q))
+
+-- a question that can't be asked
+pub listed-bad : (s : Option Desk) (q : Question) → can_be_asked q ≡ false → listed s q ≡ Nothing
+listed-bad None q bad = refl
+listed-bad (Some d) q bad = ap (λ b. if b then listed_with (asked d q) else Nothing) bad
+
+pub listed-closed : {held : Option Console} → held ≡ None → (s : Option Desk) (q : Question) → SeenBy held s → listed s q ≡ Nothing
+listed-closed {held} is s q seen = go s (subst (λ h. SeenBy h s) is seen)
+  where
+    go : (s : Option Desk) → SeenBy None s → listed s q ≡ Nothing
+    go None seen = refl
+    go (Some d) seen = absurd seen

@@ -1,13 +1,22 @@
 -- How a desk begins: calls that are refused, want of memory, and calls that are done.
-use Rattle.std.proofs.Common.{◌≡◌, ℕ, List, [], ◌∷◌, ◌++◌, Option, Some, None, refl, sym}
-use Rattle.std.specs.Prelude.{◌≢◌, ◌⊎◌, inl, inr}
+use Rattle.std.proofs.Common.{◌≡◌, ℕ, Bool, List, [], ◌∷◌, ◌++◌, length, Option, Some, None, inl, inr, refl, sym}
+use Rattle.std.specs.Prelude.{◌≢◌, ◌⊎◌, ◌==◌, ◌||◌, nat_lt, not, is_some, if◌then◌else◌}
 use Rattle.rh_console.specs.declared.console.Console.{Console}
 use Rattle.vf_desk.specs.declared.station.Station.{Station}
 use Rattle.vf_desk.specs.Opening.{Adds, IsFresh, Opens, file_status, opening_status}
 use Rattle.vf_desk.specs.Seen.{console_in, files_in}
-use Rattle.vf_desk.specs.Status.{no_memory}
+use Rattle.vf_desk.specs.Status.{already_open, bad_argument, bad_length, file_exists, no_memory}
+use Rattle.vf_desk.specs.declared.opening.TheConstants.{LONGEST_FILE}
+use Rattle.rh_defs.specs.Files.{has_file}
+use Rattle.rh_defs.specs.Forms.{is_name}
 
 -- ---- a file
+
+-- whether one can be added, by the tests
+pub file-status : (held : Option Station) (name bytes : List ℕ) {open named long there : Bool} → is_some (console_in held) ≡ open → is_name name ≡ named
+    → nat_lt LONGEST_FILE (length bytes) ≡ long → has_file name (files_in held) ≡ there
+    → file_status held name bytes ≡ (if open then already_open else if not named then bad_argument else if long then bad_length else if there then file_exists else 0)
+file-status held name bytes a b c d = rw (a, b, c, d) refl
 
 pub adds-refused : {name bytes : List ℕ} {held : Option Station} {status : ℕ} → status ≡ file_status held name bytes → status ≢ 0
     → Adds name bytes held held status

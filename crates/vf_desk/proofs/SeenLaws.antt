@@ -19,7 +19,7 @@ use Rattle.vf_desk.specs.declared.called.Called.{Called}
 use Rattle.vf_desk.specs.declared.called.Called.TheVariants.{Closed, BadArgument, Said}
 use Rattle.vf_desk.specs.declared.station.Station.{Station}
 use Rattle.vf_desk.specs.Called.{IsAsked, called, desk_by, status_of}
-use Rattle.vf_desk.specs.Seen.{SeenBy, console_in}
+use Rattle.vf_desk.specs.Seen.{KeepsRest, SeenBy, console_in, said_in}
 
 -- ---- a closed desk
 
@@ -84,3 +84,77 @@ in-handle is holds s seen = holds s (subst (λ h. SeenBy (console_in h) s) (sym 
 -- an empty handle is seen as a closed desk
 pub empty-seen : {held : Option Station} → held ≡ None → (s : Option Desk) → SeenBy (console_in held) s → SeenBy None s
 empty-seen is s seen = subst (λ h. SeenBy (console_in h) s) is seen
+
+-- ---- a station on whose desk something was done
+
+module _ {station : Station} {old : Console} (open : station.console ≡ Some old) where
+  seen-open : (s : Option Desk) → SeenBy station.console s → SeenBy (Some old) s
+  seen-open s seen = subst (λ h. SeenBy h s) open seen
+
+  -- there was no command
+  pub bad-said-of : (s : Option Desk) → SeenBy station.console s → BadArgument ≡ called s None
+  bad-said-of s seen = bad-said old s (seen-open s seen)
+
+  pub bad-desk-of : (s : Option Desk) → SeenBy station.console s → SeenBy station.console (desk_by s None)
+  bad-desk-of s seen = subst (λ h. SeenBy h (desk_by s None)) (sym open) (bad-desk old s (seen-open s seen))
+
+  -- there was one, and the world is this one now
+  module _ (world : Shown) where
+    abbrev pub console_now : Console
+    console_now = record { world = world; said = old.said }
+
+    abbrev pub station_now : Station
+    station_now = record { files = station.files; console = Some console_now }
+
+    pub done-said : {c : Command} {r : Reply} → StepsTo c old.world.desk world.desk r → (s : Option Desk) → SeenBy station.console s → Said r ≡ called s (Some c)
+    done-said {c} {r} steps s seen = step-said old console_now c r steps s (seen-open s seen)
+
+    pub done-desk : {c : Command} {r : Reply} → StepsTo c old.world.desk world.desk r → (s : Option Desk) → SeenBy station.console s → SeenBy (Some console_now) (desk_by s (Some c))
+    done-desk {c} {r} steps s seen = step-desk old console_now c r steps s (seen-open s seen)
+
+    pub done-rest : KeepsRest (Some station) (Some station_now)
+    done-rest = record { files = refl; said = sym (ap said_in open) }
+
+    pub done-same : world ≡ old.world → station_now ≡ station
+    done-same same =
+        let with_world : Shown → Station = λ w. record { files = station.files; console = Some (record { world = w; said = old.said }) } in
+        let with_console : Option Console → Station = λ h. record { files = station.files; console = h } in
+        ap with_world same ∙ ap with_console (sym open)
+
+-- nothing was done
+pub stays-rest : (held : Option Station) → KeepsRest held held
+stays-rest held = record { files = refl; said = refl }
+
+-- a closed station
+pub closed-said-of : {held : Option Console} → held ≡ None → (command : Option Command) (s : Option Desk) → SeenBy held s → Closed ≡ called s command
+closed-said-of is command s seen = closed-said s command (subst (λ h. SeenBy h s) is seen)
+
+pub closed-desk-of : {held : Option Console} → held ≡ None → (command : Option Command) (s : Option Desk) → SeenBy held s → SeenBy held (desk_by s command)
+closed-desk-of is command s seen =
+    subst (λ h. SeenBy h (desk_by s command)) (sym is) (closed-desk s command (subst (λ h. SeenBy h s) is seen))
+
+-- ---- a handle whose station was taken out, changed, and put back
+
+module _ {held now : Option Station} {old new : Station} (is : Some old ≡ held) (put : now ≡ Some new) where
+  -- what is said of the stations is said of the handles
+  pub held-by : (R : Option Station → Option Station → Type 0) → R (Some old) (Some new) → R held now
+  held-by R r = subst (λ h. R h now) is (subst (λ h. R (Some old) h) (sym put) r)
+
+  pub held-desk : (f : Option Desk → Option Desk) → ((s : Option Desk) → SeenBy old.console s → SeenBy new.console (f s))
+      → (s : Option Desk) → SeenBy (console_in held) s → SeenBy (console_in now) (f s)
+  held-desk f desk s seen = subst (λ h. SeenBy (console_in h) (f s)) (sym put) (desk s (subst (λ h. SeenBy (console_in h) s) (sym is) seen))
+
+  pub held-same : new ≡ old → now ≡ held
+  held-same same = put ∙ ap Some same ∙ is
+
+-- one that had none
+module _ {held now : Option Station} (is : None ≡ held) (left : now ≡ None) where
+  pub none-by : (R : Option Station → Option Station → Type 0) → R None None → R held now
+  none-by R r = subst (λ h. R h now) is (subst (λ h. R None h) (sym left) r)
+
+  pub none-said : (command : Option Command) (s : Option Desk) → SeenBy (console_in held) s → Closed ≡ called s command
+  none-said command s seen = closed-said s command (empty-seen (sym is) s seen)
+
+  pub none-desk : (command : Option Command) (s : Option Desk) → SeenBy (console_in held) s → SeenBy (console_in now) (desk_by s command)
+  none-desk command s seen =
+      subst (λ h. SeenBy (console_in h) (desk_by s command)) (sym left) (closed-desk s command (empty-seen (sym is) s seen))

@@ -11,7 +11,7 @@ use Rattle.vf_desk.specs.declared.called.Called.{Called}
 use Rattle.vf_desk.specs.declared.called.Called.TheVariants.{Closed, BadArgument, Said}
 use Rattle.vf_desk.specs.declared.desk.VfDesk.{VfDesk}
 use Rattle.vf_desk.specs.declared.items.VfHeapSums.{VfHeapSums}
-use Rattle.vf_desk.specs.Seen.{IsSeen}
+use Rattle.vf_desk.specs.Seen.{IsSeen, KeepsRest}
 use Rattle.vf_desk.specs.Status.{bad_argument, closed, refusal_number}
 
 -- a command whose numbers, names and bytes are of their forms, or none
@@ -38,10 +38,11 @@ status_of (Said (reply.Refused refusal)) = refusal_number refusal
 status_of (Said _) = 0
 
 -- A call does a command: its status is that of the step on each desk that the handle may be seen as, and so is the desk
--- afterwards. With any status but 0 all that the handle has stays: the desk, its bytes and areas, and the last reply.
+-- afterwards. The last reply stays, and with any status but 0 all that the handle has: the desk, its bytes and areas.
 pub record Does (command : Option Command) (old new : VfDesk) (status : ℕ) : Type 0 where
   pub status_is : (s : Option Desk) → IsSeen old s → status ≡ status_of (called s command)
   pub desk : (s : Option Desk) → IsSeen old s → IsSeen new (desk_by s command)
+  pub rest : KeepsRest old.handle.station new.handle.station
   pub refused : status ≢ 0 → new.handle.station ≡ old.handle.station
 
 -- a question, or no command

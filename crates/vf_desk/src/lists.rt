@@ -1,5 +1,5 @@
 //! Lists that a question is answered with, put into slices: as many items as there is room for.
-ghost use Rattle.std.specs.Prelude.{◌≡◌, ◌+◌, ◌≤◌, ◌<◌, ◌^◌, length, map};
+ghost use Rattle.std.specs.Prelude.{◌≡◌, ◌+◌, ◌≤◌, ◌<◌, ◌^◌, ◌∷◌, [], length, map};
 ghost use Rattle.rh_console.specs.Console.{filled};
 ghost use Rattle.rh_defs.specs.Listing.{area_items};
 ghost use Rattle.rh_defs.specs.Questions.{blocks as blocks_on, heap as heap_on, show as show_on, status as status_on};
@@ -121,6 +121,15 @@ pub fn list_records(
     }
 }
 
+/// Puts an area into a slice at an index, if there is room.
+fn put_at(to: &mut [VfArea], i: usize, item: VfArea)
+    ensures { to.new ≡ filled_from i (item ∷ []) to.old }
+{
+    if i < to.len() {
+        to[i] = item;
+    }
+}
+
 /// Puts areas 0 to 5, the made ones and the slots into a slice, and answers how many there are.
 pub fn list_areas(world: &PagedWorld, to: &mut [VfArea]) -> usize
     ensures list { to.new ≡ filled (map area_of (area_items world.now.desk)) to.old }
@@ -128,9 +137,7 @@ pub fn list_areas(world: &PagedWorld, to: &mut [VfArea]) -> usize
 {
     let mut i = 0;
     'items: while let Some(entry) = world.area_entry(i) {
-        if i < to.len() {
-            to[i] = listed_area(entry);
-        }
+        put_at(to, i, listed_area(entry));
         i += 1;
     }
     i

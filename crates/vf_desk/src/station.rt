@@ -1,10 +1,10 @@
 //! What a handle has: files, and the desk where it is open.
-ghost use Rattle.std.specs.Prelude.{◌≡◌, ◌≢◌, true, Option, None, IfSome};
+ghost use Rattle.std.specs.Prelude.{◌≡◌, ◌≢◌, true, Option, Some, None, IfSome};
 ghost use Rattle.rh_defs.specs.Desk.{Desk};
 ghost use Rattle.rh_defs.specs.Range.{in_range};
 ghost use Rattle.rh_defs.specs.declared.command.Command.TheVariants as Command;
 ghost use Rattle.vf_desk.specs.Called.{IsAsked, called, desk_by, in_form, status_of};
-ghost use Rattle.vf_desk.specs.Seen.{SeenBy};
+ghost use Rattle.vf_desk.specs.Seen.{KeepsRest, SeenBy};
 
 use crate::called::Called;
 use crate::forms::{anchor_of, name_of};
@@ -25,6 +25,7 @@ impl Station {
         requires { IfSome command (λ c. in_range c ≡ true) }
         ensures said { (s : Option Desk) → SeenBy self.old.console s → result ≡ called s command }
         ensures desk { (s : Option Desk) → SeenBy self.old.console s → SeenBy self.new.console (desk_by s command) }
+        ensures rest { KeepsRest (Some self.old) (Some self.new) }
         ensures refused { status_of result ≢ 0 → self.new ≡ self.old }
         ensures asked { IsAsked command → self.new ≡ self.old }
     {
@@ -44,6 +45,7 @@ impl Station {
             result ≡ called s (in_form (Command.Put name.now anchor offset from.now)) }
         ensures desk { (s : Option Desk) → SeenBy self.old.console s →
             SeenBy self.new.console (desk_by s (in_form (Command.Put name.now anchor offset from.now))) }
+        ensures rest { KeepsRest (Some self.old) (Some self.new) }
         ensures refused { status_of result ≢ 0 → self.new ≡ self.old }
     {
         let Some(console) = &mut self.console else {
