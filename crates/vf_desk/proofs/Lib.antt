@@ -7,3 +7,5 @@ pub mod ListLaws
 pub mod SegmentLaws
 pub mod OpeningLaws
 pub mod LineLaws
+pub mod AskLaws
+pub mod NextLaws

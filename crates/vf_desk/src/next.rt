@@ -61,10 +61,15 @@ impl Station {
             return BAD_ARGUMENT;
         };
         match console.world.next_message(&name, &mut message.bytes) {
-            Ok(Some(found)) => *code = found.number(),
-            Ok(None) => *code = NO_MESSAGE,
-            Err(refusal) => return refusal_number(refusal),
+            Ok(Some(found)) => {
+                *code = found.number();
+                OK
+            }
+            Ok(None) => {
+                *code = NO_MESSAGE;
+                OK
+            }
+            Err(refusal) => refusal_number(refusal),
         }
-        OK
     }
 }

@@ -31,10 +31,11 @@ pub extern "C" fn vf_desk_show(
         to.new ≡ filled (bytes_in (listed s (Question.Show name.now anchor))) to.old }
 {
     let called = desk.step(alloc, forms::show(name, anchor));
-    if let Some(station) = desk.take(alloc) {
-        station.bytes(name, anchor, to);
-        desk.put(station);
-    }
+    let Some(station) = desk.take(alloc) else {
+        return called.status();
+    };
+    station.bytes(name, anchor, to);
+    desk.put(station);
     called.told(size)
 }
 

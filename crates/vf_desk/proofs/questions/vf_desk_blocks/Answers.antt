@@ -1,0 +1,28 @@
+use Rattle.std.proofs.Common.{length, sym, ap, ◌∙◌}
+use Rattle.std.specs.Prelude.{map}
+use Rattle.rh_console.specs.Console.{filled}
+use Rattle.rh_defs.specs.declared.question.Question.TheVariants as question
+use Rattle.vf_desk.specs.Items.{block_of, blocks_in, listed}
+use Rattle.vf_desk.proofs.AskLaws.{ask-counted, open-asks, open-list, shut-asks, shut-counted, shut-list}
+use Rattle.vf_desk.proofs.FillLaws.{filled-none}
+use Rattle.vf_desk.proofs.questions.vf_desk_blocks.Goals as goal
+
+pub returns-in_default-clause-asks : goal.returns-in_default-clause-asks
+returns-in_default-clause-asks c = shut-asks c.blocks.ensures.form c.step-called.ensures.said c.step-called.ensures.asked c.in_default.ensures.taken c.in_default.ensures.left c.status.ensures
+
+pub returns-in_default-clause-list : goal.returns-in_default-clause-list
+returns-in_default-clause-list c = λ s seen.
+    sym (filled-none c.args.blocks.now) ∙ sym (ap (λ l. filled (map block_of (blocks_in l)) c.args.blocks.now) (shut-list c.blocks.ensures.form c.step-called.ensures.said c.step-called.ensures.asked c.in_default.ensures.taken c.in_default.ensures.left s seen))
+
+pub returns-in_default-clause-count : goal.returns-in_default-clause-count
+returns-in_default-clause-count c = λ s seen. shut-counted c.blocks.ensures.form c.step-called.ensures.said c.step-called.ensures.asked c.in_default.ensures.taken c.in_default.ensures.left c.args.count.now (length (blocks_in (listed s (question.Blocks c.args.name.now)))) s seen
+
+pub returns-clause-asks : goal.returns-clause-asks
+returns-clause-asks c = open-asks c.blocks.ensures.form c.step-called.ensures.said c.step-called.ensures.asked c.in-Some.ensures.taken c.put.ensures c.told_count.ensures.status
+
+pub returns-clause-list : goal.returns-clause-list
+returns-clause-list c = open-list c.blocks.ensures.form c.step-called.ensures.said c.step-called.ensures.asked c.in-Some.ensures.taken c.put.ensures c.blocks-n.ensures.list
+
+pub returns-clause-count : goal.returns-clause-count
+returns-clause-count c = ask-counted c.blocks.ensures.form c.step-called.ensures.said c.step-called.ensures.asked (λ s. length (blocks_in (listed s (question.Blocks c.args.name.now)))) c.told_count.ensures.count
+    (open-list c.blocks.ensures.form c.step-called.ensures.said c.step-called.ensures.asked c.in-Some.ensures.taken c.put.ensures c.blocks-n.ensures.count)
