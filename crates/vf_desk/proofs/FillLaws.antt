@@ -131,7 +131,7 @@ fill-more f items at i x y old to low is shown room same =
     ap (λ l. set l (at + i) y) same ∙ ap (set (filled_from at xs old) (at + i)) shown ∙ ap (λ n. set (filled_from at xs old) (at + n) (f x)) (sym next.1)
     ∙ sym (from-next at xs old (f x) (omega (arith, next.1))) ∙ ap (λ l. filled_from at l old) (sym next.0)
 
-map-append : {A B : Type 0} (f : A → B) (xs ys : List A) → map f (xs ++ ys) ≡ map f xs ++ map f ys
+pub map-append : {A B : Type 0} (f : A → B) (xs ys : List A) → map f (xs ++ ys) ≡ map f xs ++ map f ys
 map-append f [] ys = refl
 map-append f (x ∷ xs) ys = ap (λ l. f x ∷ l) (map-append f xs ys)
 

@@ -24,6 +24,10 @@ pub map-map : {A B C : Type 0} (f : B → C) (g : A → B) (xs : List A) → map
 map-map f g [] = refl
 map-map f g (x ∷ xs) = ap (λ l. f (g x) ∷ l) (map-map f g xs)
 
+pub map-length : {A B : Type 0} (f : A → B) (xs : List A) → length (map f xs) ≡ length xs
+map-length f [] = refl
+map-length f (x ∷ xs) = ap suc (map-length f xs)
+
 -- ---- flex blocks
 
 listed_blocks : (g : Granted Task) (items : List BlockItem) → (g >>= λ t. Ok (block_items t.slot)) ≡ Ok items

@@ -24,7 +24,8 @@ use Rattle.rh_script.proofs.SegmentLemmas.{AllSized, sized}
 use Rattle.vf_desk.specs.Items.{listed_with, segment_of, segments_in}
 use Rattle.vf_desk.specs.Lists.{filled_from}
 use Rattle.vf_desk.specs.declared.items.VfSegment.{VfSegment}
-use Rattle.vf_desk.proofs.FillLaws.{filled-behind, filled-none}
+use Rattle.vf_desk.proofs.FillLaws.{filled-behind, filled-none, map-append}
+use Rattle.vf_desk.proofs.ListLaws.{map-length}
 
 -- ---- the segments from a place on
 
@@ -99,14 +100,6 @@ none-last (x ∷ xs) e = absurd (no-last x xs (e ∙ ap (slice_get (x ∷ xs)) (
 few-sized : (gs : List Segment) → AllSized gs → length gs ≤ total size_of gs
 few-sized [] all = omega arith
 few-sized (g ∷ gs) all = omega (arith, few-sized gs all.1, all.0)
-
-map-append : {A B : Type 0} (f : A → B) (xs ys : List A) → map f (xs ++ ys) ≡ map f xs ++ map f ys
-map-append f [] ys = refl
-map-append f (x ∷ xs) ys = ap (λ l. f x ∷ l) (map-append f xs ys)
-
-map-length : {A B : Type 0} (f : A → B) (xs : List A) → length (map f xs) ≡ length xs
-map-length f [] = refl
-map-length f (x ∷ xs) = ap suc (map-length f xs)
 
 -- ---- the walk
 

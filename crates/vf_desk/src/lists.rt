@@ -4,7 +4,9 @@ ghost use Rattle.rh_console.specs.Console.{filled};
 ghost use Rattle.rh_defs.specs.Listing.{area_items};
 ghost use Rattle.rh_defs.specs.Questions.{blocks as blocks_on, heap as heap_on, show as show_on, status as status_on};
 ghost use Rattle.rh_defs.specs.declared.sizes.TheConstants.{C_HEAP_START};
-ghost use Rattle.rh_script.specs.Named.{item_end};
+ghost use Rattle.rh_defs.specs.Heap.{IsHeap};
+ghost use Rattle.rh_script.specs.Named.{heap_of_named, item_end};
+ghost use Rattle.rh_tasks.specs.Lists.{segment_items_at};
 ghost use Rattle.vf_desk.specs.Items.{area_of, block_of, blocks_in, bytes_in, incoming_in, listed_with, outgoing_in, record_of, segment_of, segments_in};
 ghost use Rattle.vf_desk.specs.Lists.{filled_from};
 
@@ -13,6 +15,7 @@ use arrayvec::ArrayVec;
 use rh_console::PagedWorld;
 use rh_defs::sizes::{C_HEAP_START, HEAP_FIRST};
 use rh_defs::{Anchor, Name, SegmentItem};
+use rh_heap::SEGMENTS_AT_ONCE;
 
 /// Puts items into a slice from an index on, as many as there is room for.
 fn fill<T, B: Listed<T>>(items: &[T], to: &mut [B], at: usize)
@@ -30,10 +33,11 @@ pub fn list_bytes(world: &PagedWorld, name: &Name, anchor: Anchor, to: &mut [u8]
     requires { anchor < 64 }
     ensures { to.new ≡ filled (bytes_in (listed_with (show_on world.now.desk name.now anchor))) to.old }
 {
-    if let Ok(size) = world.show(name, anchor, 0, &mut []) {
-        let count = to.len().min(size as usize);
-        let _size = world.show(name, anchor, 0, &mut to[..count]);
-    }
+    let Ok(size) = world.show(name, anchor, 0, &mut []) else {
+        return;
+    };
+    let count = to.len().min(size as usize);
+    let _read = world.show(name, anchor, 0, &mut to[..count]);
 }
 
 /// Puts the task's flex blocks into a slice, and answers how many there are.
@@ -48,6 +52,23 @@ pub fn list_blocks(world: &PagedWorld, name: &Name, to: &mut [VfBlock]) -> usize
             items.len()
         }
         Err(_) => 0,
+    }
+}
+
+/// Up to 64 segments of the task's C heap, from the one that begins at a place on; none where no task has the name.
+fn segments_from(
+    world: &PagedWorld,
+    name: &Name,
+    place: u32,
+) -> ArrayVec<SegmentItem, SEGMENTS_AT_ONCE>
+    ensures items { result.items ≡ segment_items_at place (heap_of_named name.now world.now.desk) }
+    ensures heap { IsHeap (heap_of_named name.now world.now.desk) }
+    ensures short { (heap_of_named name.now world.now.desk).end < 2 ^ 23 }
+{
+    world.spelled();
+    match world.segments_of(name, place) {
+        Ok(items) => items,
+        Err(_) => ArrayVec::new(),
     }
 }
 
@@ -69,16 +90,14 @@ pub fn list_segments(world: &PagedWorld, name: &Name, to: &mut [VfSegment]) -> u
     ensures list { to.new ≡ filled (map segment_of (segments_in (listed_with (heap_on world.now.desk name.now)))) to.old }
     ensures count { result ≡ length (segments_in (listed_with (heap_on world.now.desk name.now))) }
 {
-    world.spelled();
     let mut place = HEAP_FIRST as u32;
     let mut count = 0;
-    'places: while let Ok(items) = world.segments_of(name, place) {
-        let Some(last) = items.last() else {
-            break 'places;
-        };
+    let mut items = segments_from(world, name, place);
+    'places: while let Some(last) = items.last() {
         place = place_behind(last);
         fill(&items, to, count);
         count += items.len();
+        items = segments_from(world, name, place);
     }
     count
 }
