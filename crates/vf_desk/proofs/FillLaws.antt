@@ -5,12 +5,12 @@ use Rattle.rh_console.specs.Console.{filled}
 use Rattle.vf_desk.specs.Lists.{filled_from}
 
 -- the same, item by item
-overlaid : {A : Type 0} → List A → List A → List A
+abbrev overlaid : {A : Type 0} → List A → List A → List A
 overlaid [] old = old
 overlaid (x ∷ xs) [] = []
 overlaid (x ∷ xs) (y ∷ old) = x ∷ overlaid xs old
 
-take-none : {A : Type 0} (n : ℕ) → take n ([] {A}) ≡ []
+take-none : {A : Type 0} (n : ℕ) → take n ([] {A = A}) ≡ []
 take-none zero = refl
 take-none (suc n) = refl
 

@@ -2,7 +2,7 @@ use Rattle.std.proofs.Common.{refl, sym}
 use Rattle.rh_defs.specs.declared.question.Question.TheVariants as question
 use Rattle.vf_desk.proofs.FillLaws.{filled-none}
 use Rattle.vf_desk.proofs.ListLaws.{listed-closed, listed-open}
-use Rattle.vf_desk.proofs.listing.Station.areas.Goals as goal
+use Rattle.vf_desk.proofs.station.Station.areas.Goals as goal
 
 pub returns-in-Some-clause-list : goal.returns-in-Some-clause-list
 returns-in-Some-clause-list c = λ s seen. rw (listed-open c.in-Some.is s question.Areas seen refl) c.list_areas.ensures.list

@@ -4,7 +4,7 @@ use Rattle.rh_defs.specs.declared.question.Question.TheVariants as question
 use Rattle.vf_desk.proofs.FillLaws.{filled-none}
 use Rattle.vf_desk.proofs.FormLaws.{a-name, an-anchor, both-are, first-fails, no-anchor, no-name}
 use Rattle.vf_desk.proofs.ListLaws.{listed-bad, listed-closed, listed-open}
-use Rattle.vf_desk.proofs.listing.Station.bytes.Goals as goal
+use Rattle.vf_desk.proofs.station.Station.bytes.Goals as goal
 
 pub returns-in_default : goal.returns-in_default
 returns-in_default c = λ s seen. rw (listed-closed c.in_default.is s (question.Show c.args.name.now c.args.anchor) seen) (sym (filled-none c.args.to.now))

@@ -1,5 +1,5 @@
 use Rattle.vf_desk.proofs.LineLaws.{replies-closed, replies-open}
-use Rattle.vf_desk.proofs.lines.Station.reply.Goals as goal
+use Rattle.vf_desk.proofs.station.Station.reply.Goals as goal
 
 pub returns-in-Some : goal.returns-in-Some
 returns-in-Some c = replies-open c.in-Some.is c.fill.ensures

@@ -3,7 +3,7 @@ use Rattle.rh_defs.specs.declared.command.Command.TheVariants as command
 use Rattle.vf_desk.specs.Called.{called, desk_by, in_form}
 use Rattle.vf_desk.specs.Seen.{KeepsRest}
 use Rattle.vf_desk.proofs.SeenLaws.{held-by, held-desk, held-same, in-handle, none-by, none-desk, none-said, stays-rest}
-use Rattle.vf_desk.proofs.desk.steps.VfDesk.write.Goals as goal
+use Rattle.vf_desk.proofs.desk.VfDesk.write.Goals as goal
 
 pub returns-in_default-clause-said : goal.returns-in_default-clause-said
 returns-in_default-clause-said c = none-said c.in_default.ensures.taken c.in_default.ensures.left (in_form (command.Put c.args.name.now c.args.anchor c.args.offset c.args.from.now))

@@ -1,6 +1,6 @@
 use Rattle.std.proofs.Common.{Some, refl}
 use Rattle.vf_desk.proofs.LineLaws.{takes-closed, takes-open}
-use Rattle.vf_desk.proofs.lines.Station.take_line.Goals as goal
+use Rattle.vf_desk.proofs.station.Station.take_line.Goals as goal
 
 pub returns-in_default : goal.returns-in_default
 returns-in_default c = takes-closed c.in_default.is

@@ -3,7 +3,7 @@ use Rattle.rh_defs.specs.declared.question.Question.TheVariants as question
 use Rattle.vf_desk.proofs.FillLaws.{filled-none}
 use Rattle.vf_desk.proofs.FormLaws.{a-name, no-name}
 use Rattle.vf_desk.proofs.ListLaws.{listed-bad, listed-closed, listed-open}
-use Rattle.vf_desk.proofs.listing.Station.segments.Goals as goal
+use Rattle.vf_desk.proofs.station.Station.segments.Goals as goal
 
 pub returns-in_default-clause-list : goal.returns-in_default-clause-list
 returns-in_default-clause-list c = λ s seen. rw (listed-closed c.in_default.is s (question.Heap c.args.name.now) seen) (sym (filled-none c.args.to.now))

@@ -2,7 +2,7 @@ use Rattle.std.proofs.Common.{refl}
 use Rattle.rh_tasks.specs.Sights.{next_message}
 use Rattle.vf_desk.proofs.FormLaws.{a-name, no-name}
 use Rattle.vf_desk.proofs.NextLaws.{next-bad, next-closed, next-open, told-none, told-refused, told-some}
-use Rattle.vf_desk.proofs.next.Station.next.Goals as goal
+use Rattle.vf_desk.proofs.station.Station.next.Goals as goal
 
 pub returns-in_default-clause-status : goal.returns-in_default-clause-status
 returns-in_default-clause-status c = λ s seen. rw (next-closed c.in_default.is s c.args.name.now seen) refl
