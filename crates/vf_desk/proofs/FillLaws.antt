@@ -10,7 +10,7 @@ overlaid [] old = old
 overlaid (x ∷ xs) [] = []
 overlaid (x ∷ xs) (y ∷ old) = x ∷ overlaid xs old
 
-take-none : {A : Type 0} (n : ℕ) → take n ([] {A = A}) ≡ []
+take-none : {A : Type 0} (n : ℕ) → take {A = A} n [] ≡ []
 take-none zero = refl
 take-none (suc n) = refl
 

@@ -1,8 +1,9 @@
 -- Commands of arguments that may not be of their forms.
 use Rattle.std.proofs.Common.{◌≡◌, ℕ, Bool, true, false, List, refl, sym, ap, ◌∙◌}
-use Rattle.std.specs.Prelude.{◌&&◌, if◌then◌else◌, Option, Some, None}
+use Rattle.std.specs.Prelude.{◌&&◌, nat_le, if◌then◌else◌, length, Option, Some, None}
 use Rattle.rh_defs.specs.declared.command.Command.{Command}
-use Rattle.rh_defs.specs.Forms.{is_anchor, is_name}
+use Rattle.rh_defs.specs.declared.command.Command.TheVariants as command
+use Rattle.rh_defs.specs.Forms.{is_anchor, is_name, is_number}
 use Rattle.rh_defs.specs.Range.{in_range}
 use Rattle.vf_desk.specs.Called.{in_form}
 use Rattle.vf_desk.specs.Forms.{anchor_in, name_in}
@@ -51,5 +52,30 @@ an-anchor k anchor some = go (is_anchor k) refl some
 pub both-are : {a b c : Bool} → a ≡ true → b ≡ c → (a && b) ≡ c
 both-are {a} {b} first second = ap (λ x. x && b) first ∙ second
 
-pub first-fails : {a b : Bool} → a ≡ false → (a && b) ≡ false
-first-fails {a} {b} first = ap (λ x. x && b) first
+pub first-fails : {a : Bool} (b : Bool) → a ≡ false → (a && b) ≡ false
+first-fails {a} b first = ap (λ x. x && b) first
+
+-- ---- whether bytes can be put, by what holds of the arguments
+
+module _ {name bytes : List ℕ} {anchor offset : ℕ} where
+  pub put-name : is_name name ≡ false → in_range (command.Put name anchor offset bytes) ≡ false
+  unfolding in_range
+  put-name a = rw a refl
+
+  pub put-anchor : is_name name ≡ true → is_anchor anchor ≡ false → in_range (command.Put name anchor offset bytes) ≡ false
+  unfolding in_range
+  put-anchor a b = rw (a, b) refl
+
+  pub put-number : is_name name ≡ true → is_anchor anchor ≡ true → is_number offset ≡ false → in_range (command.Put name anchor offset bytes) ≡ false
+  unfolding in_range
+  put-number a b c = rw (a, b, c) refl
+
+  pub put-bytes : is_name name ≡ true → is_anchor anchor ≡ true → is_number offset ≡ true → nat_le 1 (length bytes) ≡ false
+      → in_range (command.Put name anchor offset bytes) ≡ false
+  unfolding in_range
+  put-bytes a b c d = rw (a, b, c, d) refl
+
+  pub put-good : is_name name ≡ true → is_anchor anchor ≡ true → is_number offset ≡ true → nat_le 1 (length bytes) ≡ true
+      → in_range (command.Put name anchor offset bytes) ≡ true
+  unfolding in_range
+  put-good a b c d = rw (a, b, c, d) refl

@@ -42,7 +42,7 @@ pub takes-open : {line : List ℕ} (old new : Option Station) (console now : Con
     → ((d : Desk) → IsReordered d console.world.desk → IsReordered (line_desk d line) now.world.desk)
     → ((d : Desk) → IsReordered d console.world.desk → said_text (line_desk d line) now.said ≡ line_text d line)
     → Takes line old new 0
-takes-open {line} old new console now open after files desk said = record {
+takes-open {line} old new console now was_open after files desk said = record {
   status_is = λ s seen. status s (was s seen);
   desk = λ s seen. subst (λ c. SeenBy c (desk_after s line)) (sym after) (seen_after s (was s seen));
   kept = λ d seen. ap (λ c. kept_text c (line_desk d line)) after ∙ said d (was (Some d) seen);
@@ -51,7 +51,7 @@ takes-open {line} old new console now open after files desk said = record {
 }
   where
     was : (s : Option Desk) → SeenBy (console_in old) s → SeenBy (Some console) s
-    was s seen = subst (λ c. SeenBy c s) open seen
+    was s seen = subst (λ c. SeenBy c s) was_open seen
 
     status : (s : Option Desk) → SeenBy (Some console) s → 0 ≡ line_status s
     status None seen = absurd seen

@@ -46,9 +46,9 @@ no-blocks-listed d name refusal e = ap (λ a. blocks_in (listed_with a)) (blocks
 -- ---- records of transfers
 
 -- what is listed of a task with these records
-pub record Lists (answer : Granted Told) (out : List Outgoing) (taken : List Incoming) : Type 0 where
-  pub out : outgoing_in (listed_with answer) ≡ map out_item out
-  pub taken : incoming_in (listed_with answer) ≡ map in_item taken
+pub record Lists (answer : Granted Told) (sent : List Outgoing) (got : List Incoming) : Type 0 where
+  pub out : outgoing_in (listed_with answer) ≡ map out_item sent
+  pub taken : incoming_in (listed_with answer) ≡ map in_item got
 
 listed_records : (g : Granted Task) (h : ℕ) (out : List Outgoing) (taken : List Incoming)
     → (g >>= λ t. (let r : Granted (ℕ × List Outgoing × List Incoming) = Ok (t.handle, t.sending, t.taking) in r)) ≡ Ok (h, out, taken)
@@ -79,7 +79,8 @@ pub bytes-filled : (bytes old part : List ℕ) (n : ℕ) → n ≡ min (length o
 bytes-filled bytes old part n is read = ap (λ l. l ++ drop n old) read ∙ go bytes old n is
   where
     go : (bytes old : List ℕ) (n : ℕ) → n ≡ min (length old) (length bytes) → take n bytes ++ drop n old ≡ filled bytes old
-    go [] old zero is = refl
+    go [] [] zero is = refl
+    go [] (y ∷ old) zero is = refl
     go [] [] (suc n) is = refl
     go [] (y ∷ old) (suc n) is = absurd (omega arith)
     go (x ∷ bytes) [] zero is = refl

@@ -1,6 +1,6 @@
 -- What follows for each desk that a handle may be seen as.
 use Rattle.std.proofs.Common.{◌≡◌, ℕ, refl, sym, ap, subst, ◌∙◌}
-use Rattle.std.specs.Prelude.{◌≢◌, Option, Some, None, Result, Ok, Err}
+use Rattle.std.specs.Prelude.{◌≢◌, true, false, Option, Some, None}
 use Rattle.rh_defs.specs.declared.command.Command.{Command}
 use Rattle.rh_defs.specs.declared.command.Command.TheVariants as command
 use Rattle.rh_defs.specs.declared.question.Question.{Question}
@@ -9,16 +9,15 @@ use Rattle.rh_defs.specs.declared.reply.Reply.TheVariants as reply
 use Rattle.rh_defs.specs.Desk.{Desk}
 use Rattle.rh_console.specs.declared.console.Console.{Console}
 use Rattle.rh_defs.specs.declared.refusal.Refusal.{Refusal}
-use Rattle.rh_defs.specs.Chain.{or_else}
 use Rattle.rh_defs.specs.Order.{IsReordered}
-use Rattle.rh_defs.specs.Step.{change, step}
-use Rattle.rh_defs.proofs.OrderSteps.{order-ignored}
-use Rattle.rh_tasks.specs.Answer.{Gives, StaysIfAsked, StaysIfRefused, StepsTo, reply_of}
+use Rattle.rh_defs.specs.Range.{in_range}
+use Rattle.rh_tasks.specs.Answer.{Does, StaysIfAsked, StaysIfRefused, StepsTo}
 use Rattle.rh_tasks.specs.Shown.{Shown}
 use Rattle.vf_desk.specs.declared.called.Called.{Called}
 use Rattle.vf_desk.specs.declared.called.Called.TheVariants.{Closed, BadArgument, Said}
 use Rattle.vf_desk.specs.declared.station.Station.{Station}
-use Rattle.vf_desk.specs.Called.{IsAsked, called, desk_by, status_of}
+use Rattle.vf_desk.specs.Called.{IsAsked, Steps, called, desk_by, in_form, status_of}
+use Rattle.vf_desk.proofs.FormLaws.{in-its-form, out-of-form}
 use Rattle.vf_desk.specs.Seen.{KeepsRest, SeenBy, console_in, said_in}
 
 -- ---- a closed desk
@@ -31,39 +30,7 @@ pub closed-desk : (s : Option Desk) (command : Option Command) → SeenBy None s
 closed-desk None command seen = tt
 closed-desk (Some d) command seen = absurd seen
 
--- ---- no command
-
-pub bad-said : (console : Console) (s : Option Desk) → SeenBy (Some console) s → BadArgument ≡ called s None
-bad-said console None seen = absurd seen
-bad-said console (Some d) seen = refl
-
-pub bad-desk : (console : Console) (s : Option Desk) → SeenBy (Some console) s → SeenBy (Some console) (desk_by s None)
-bad-desk console None seen = absurd seen
-bad-desk console (Some d) seen = seen
-
 -- ---- a command that the world has done
-
-module _ (old new : Console) (c : Command) (r : Reply) (steps : StepsTo c old.world.desk new.world.desk r) where
-  pub step-said : (s : Option Desk) → SeenBy (Some old) s → Said r ≡ called s (Some c)
-  step-said None seen = absurd seen
-  step-said (Some d) seen = ap Said (sym (steps d seen).0)
-
-  pub step-desk : (s : Option Desk) → SeenBy (Some old) s → SeenBy (Some new) (desk_by s (Some c))
-  step-desk None seen = absurd seen
-  step-desk (Some d) seen = (steps d seen).1
-
--- A call of the world's own gives what the definitions grant on its desk. So does the step on each desk that it may be
--- seen as.
-pub gives-steps : (c : Command) (old new : Shown) (r : Result Reply Refusal) → Gives (change old.desk c) old new r → StepsTo c old.desk new.desk (reply_of r)
-unfolding or_else
-gives-steps c old new (Ok said) gives = λ d seen.
-    let alike = order-ignored d old.desk c seen in
-    let is : step old.desk c ≡ (new.desk, said) = ap (λ g. or_else g (λ refusal. (old.desk, reply.Refused refusal))) gives in
-    (sym alike.reply ∙ ap (λ a. a.1) is, subst (λ a. IsReordered (step d c).0 a.0) is alike.desks)
-gives-steps c old new (Err refusal) gives = λ d seen.
-    let alike = order-ignored d old.desk c seen in
-    let is : step old.desk c ≡ (old.desk, reply.Refused refusal) = ap (λ g. or_else g (λ e. (old.desk, reply.Refused e))) gives.0 in
-    (sym alike.reply ∙ ap (λ a. a.1) is, subst (λ (x : Shown). IsReordered (step d c).0 x.desk) (sym gives.1) (subst (λ a. IsReordered (step d c).0 a.0) is alike.desks))
 
 -- a reply whose status isn't 0 is a refusal
 pub refused-stays : (old new : Shown) (r : Reply) → StaysIfRefused old new r → status_of (Said r) ≢ 0 → new ≡ old
@@ -85,53 +52,90 @@ in-handle is holds s seen = holds s (subst (λ h. SeenBy (console_in h) s) (sym 
 pub empty-seen : {held : Option Station} → held ≡ None → (s : Option Desk) → SeenBy (console_in held) s → SeenBy None s
 empty-seen is s seen = subst (λ h. SeenBy (console_in h) s) is seen
 
--- ---- a station on whose desk something was done
+-- ---- what is done on a world
 
-module _ {station : Station} {old : Console} (open : station.console ≡ Some old) where
-  seen-open : (s : Option Desk) → SeenBy station.console s → SeenBy (Some old) s
-  seen-open s seen = subst (λ h. SeenBy h s) open seen
+pub steps-none : (world : Shown) → Steps None world world BadArgument
+steps-none world = record { said_is = λ d seen. refl; desk = λ d seen. seen; refused = λ _. refl; asked = λ _. refl }
 
-  -- there was no command
-  pub bad-said-of : (s : Option Desk) → SeenBy station.console s → BadArgument ≡ called s None
-  bad-said-of s seen = bad-said old s (seen-open s seen)
+pub steps-done : (c : Command) {old new : Shown} {r : Reply} → StepsTo c old.desk new.desk r → StaysIfRefused old new r → StaysIfAsked c old new
+    → Steps (Some c) old new (Said r)
+steps-done c {old} {new} {r} steps refused asked = record {
+  said_is = λ d seen. ap Said (sym (steps d seen).0);
+  desk = λ d seen. (steps d seen).1;
+  refused = refused-stays old new r refused;
+  asked = asked-stays old new c asked;
+}
 
-  pub bad-desk-of : (s : Option Desk) → SeenBy station.console s → SeenBy station.console (desk_by s None)
-  bad-desk-of s seen = subst (λ h. SeenBy h (desk_by s None)) (sym open) (bad-desk old s (seen-open s seen))
+pub steps-bad : (c : Command) (world : Shown) → in_range c ≡ false → Steps (in_form c) world world BadArgument
+steps-bad c world bad = subst (λ f. Steps f world world BadArgument) (out-of-form c bad) (steps-none world)
 
-  -- there was one, and the world is this one now
-  module _ (world : Shown) where
-    abbrev pub console_now : Console
-    console_now = record { world = world; said = old.said }
+pub steps-good : (c : Command) {old new : Shown} {r : Reply} → in_range c ≡ true → Does c old new r → Steps (in_form c) old new (Said r)
+steps-good c {old} {new} {r} good does =
+    subst (λ f. Steps f old new (Said r)) (in-its-form c good) (steps-done c does.steps does.refused does.asked)
 
-    abbrev pub station_now : Station
-    station_now = record { files = station.files; console = Some console_now }
+-- ---- a station that has been left as it was
 
-    pub done-said : {c : Command} {r : Reply} → StepsTo c old.world.desk world.desk r → (s : Option Desk) → SeenBy station.console s → Said r ≡ called s (Some c)
-    done-said {c} {r} steps s seen = step-said old console_now c r steps s (seen-open s seen)
-
-    pub done-desk : {c : Command} {r : Reply} → StepsTo c old.world.desk world.desk r → (s : Option Desk) → SeenBy station.console s → SeenBy (Some console_now) (desk_by s (Some c))
-    done-desk {c} {r} steps s seen = step-desk old console_now c r steps s (seen-open s seen)
-
-    pub done-rest : KeepsRest (Some station) (Some station_now)
-    done-rest = record { files = refl; said = sym (ap said_in open) }
-
-    pub done-same : world ≡ old.world → station_now ≡ station
-    done-same same =
-        let with_world : Shown → Station = λ w. record { files = station.files; console = Some (record { world = w; said = old.said }) } in
-        let with_console : Option Console → Station = λ h. record { files = station.files; console = h } in
-        ap with_world same ∙ ap with_console (sym open)
-
--- nothing was done
 pub stays-rest : (held : Option Station) → KeepsRest held held
 stays-rest held = record { files = refl; said = refl }
 
--- a closed station
-pub closed-said-of : {held : Option Console} → held ≡ None → (command : Option Command) (s : Option Desk) → SeenBy held s → Closed ≡ called s command
-closed-said-of is command s seen = closed-said s command (subst (λ h. SeenBy h s) is seen)
+-- ---- a station whose desk was taken out, changed, and put back
 
-pub closed-desk-of : {held : Option Console} → held ≡ None → (command : Option Command) (s : Option Desk) → SeenBy held s → SeenBy held (desk_by s command)
-closed-desk-of is command s seen =
-    subst (λ h. SeenBy h (desk_by s command)) (sym is) (closed-desk s command (subst (λ h. SeenBy h s) is seen))
+module _ {station : Station} {old : Console} (is : Some old ≡ station.console) {command : Option Command} {world : Shown} {said : Called}
+    (steps : Steps command old.world world said) where
+  abbrev pub console_now : Console
+  console_now = record { world = world; said = old.said }
+
+  abbrev pub station_now : Station
+  station_now = record { files = station.files; console = Some console_now }
+
+  pub done-said : (s : Option Desk) → SeenBy station.console s → said ≡ called s command
+  done-said s seen = go s (subst (λ h. SeenBy h s) (sym is) seen)
+    where
+      go : (s : Option Desk) → SeenBy (Some old) s → said ≡ called s command
+      go None seen = absurd seen
+      go (Some d) seen = steps.said_is d seen
+
+  pub done-desk : (s : Option Desk) → SeenBy station.console s → SeenBy (Some console_now) (desk_by s command)
+  done-desk s seen = go s (subst (λ h. SeenBy h s) (sym is) seen)
+    where
+      go : (s : Option Desk) → SeenBy (Some old) s → SeenBy (Some console_now) (desk_by s command)
+      go None seen = absurd seen
+      go (Some d) seen = steps.desk d seen
+
+  pub done-rest : KeepsRest (Some station) (Some station_now)
+  done-rest = record { files = refl; said = ap said_in is }
+
+  done-same : world ≡ old.world → station_now ≡ station
+  done-same same =
+      let with_world : Shown → Station = λ w. record { files = station.files; console = Some (record { world = w; said = old.said }) } in
+      let with_console : Option Console → Station = λ h. record { files = station.files; console = h } in
+      ap with_world same ∙ ap with_console is
+
+  pub done-refused : status_of said ≢ 0 → station_now ≡ station
+  done-refused bad = done-same (steps.refused bad)
+
+  pub done-asked : IsAsked command → station_now ≡ station
+  done-asked asked = done-same (steps.asked asked)
+
+-- one that had none
+module _ {station : Station} {now : Option Console} (is : None ≡ station.console) (after : now ≡ None) where
+  abbrev pub station_shut : Station
+  station_shut = record { files = station.files; console = now }
+
+  pub shut-said : (command : Option Command) (s : Option Desk) → SeenBy station.console s → Closed ≡ called s command
+  shut-said command s seen = closed-said s command (subst (λ h. SeenBy h s) (sym is) seen)
+
+  pub shut-desk : (command : Option Command) (s : Option Desk) → SeenBy station.console s → SeenBy now (desk_by s command)
+  shut-desk command s seen =
+      subst (λ h. SeenBy h (desk_by s command)) (sym after) (closed-desk s command (subst (λ h. SeenBy h s) (sym is) seen))
+
+  pub shut-rest : KeepsRest (Some station) (Some station_shut)
+  shut-rest = record { files = refl; said = ap said_in (after ∙ is) }
+
+  pub shut-same : station_shut ≡ station
+  shut-same =
+      let with_console : Option Console → Station = λ h. record { files = station.files; console = h } in
+      ap with_console (after ∙ is)
 
 -- ---- a handle whose station was taken out, changed, and put back
 

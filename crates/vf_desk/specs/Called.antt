@@ -6,7 +6,9 @@ use Rattle.rh_defs.specs.declared.question.Question.{Question}
 use Rattle.rh_defs.specs.declared.reply.Reply.TheVariants as reply
 use Rattle.rh_defs.specs.Range.{in_range}
 use Rattle.rh_defs.specs.Desk.{Desk}
+use Rattle.rh_defs.specs.Order.{IsReordered}
 use Rattle.rh_defs.specs.Step.{step}
+use Rattle.rh_tasks.specs.Shown.{Shown}
 use Rattle.vf_desk.specs.declared.called.Called.{Called}
 use Rattle.vf_desk.specs.declared.called.Called.TheVariants.{Closed, BadArgument, Said}
 use Rattle.vf_desk.specs.declared.desk.VfDesk.{VfDesk}
@@ -24,11 +26,15 @@ called None command = Closed
 called (Some d) None = BadArgument
 called (Some d) (Some c) = Said (step d c).1
 
--- the desk after it
+-- a desk after it
+abbrev pub desk_with : Option Command → Desk → Desk
+desk_with None d = d
+desk_with (Some c) d = (step d c).0
+
+-- the same, where the desk is open or closed
 abbrev pub desk_by : Option Desk → Option Command → Option Desk
 desk_by None command = None
-desk_by (Some d) None = Some d
-desk_by (Some d) (Some c) = Some (step d c).0
+desk_by (Some d) command = Some (desk_with command d)
 
 -- its status
 abbrev pub status_of : Called → ℕ
@@ -50,6 +56,14 @@ abbrev pub IsAsked : Option Command → Type 0
 IsAsked None = Unit {0}
 IsAsked (Some (command.Ask q)) = Unit {0}
 IsAsked (Some _) = ⊥
+
+-- What a command, or none, comes to on a world, of each desk that it may be seen as. With any status but 0 all of the world
+-- stays, and where it is a question.
+pub record Steps (command : Option Command) (old new : Shown) (said : Called) : Type 0 where
+  pub said_is : (d : Desk) → IsReordered d old.desk → said ≡ called (Some d) command
+  pub desk : (d : Desk) → IsReordered d old.desk → IsReordered (desk_with command d) new.desk
+  pub refused : status_of said ≢ 0 → new ≡ old
+  pub asked : IsAsked command → new ≡ old
 
 -- A call asks a question: its status is that of the answer on each desk that the handle may be seen as, and all that the
 -- handle has stays.

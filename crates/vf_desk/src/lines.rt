@@ -49,10 +49,11 @@ impl Station {
     fn take_line(&mut self, line: &[u8]) -> u32
         ensures { Takes line.now (Some self.old) (Some self.new) result }
     {
-        let Some(console) = &mut self.console else {
+        let Some(mut console) = self.console.take() else {
             return CLOSED;
         };
         console.take_line(line);
+        self.console = Some(console);
         OK
     }
 
@@ -68,13 +69,13 @@ impl Station {
 }
 
 /// Puts the text of the reply that is kept into lent bytes, and tells its length if there is room for it.
-fn fill(console: &Console, text: &mut [u8], length: &mut usize) -> u32
+fn fill(console: &Console, text: &mut [u8], told: &mut usize) -> u32
     ensures { (d : Desk) → IsReordered d console.now.world.desk →
-        Fills (said_text d console.now.said) (length text.old) text.new length.old length.new result }
+        Fills (said_text d console.now.said) (length text.old) text.new told.old told.new result }
 {
     match console.print(text) {
         Some(n) => {
-            *length = n;
+            *told = n;
             OK
         }
         None => SHORT,

@@ -27,11 +27,11 @@ places-smaller c =
 pub overflow_add-count : goal.overflow_add-count
 overflow_add-count c = 
     let few = walked-few (heap_of_named c.args.name.now c.args.world.now.desk) c.places.place c.places.count c.args.to.now c.places.to c.segments_from-items.ensures.heap c.places.invariant.walked in
-    omega (arith, few, c.segments_from-items.ensures.short, c.len.ensures)
+    omega (arith, few, c.segments_from-items.ensures.short, c.len-count.ensures)
 
 pub places-preserved : goal.places-preserved
 places-preserved c = record {
-  walked = rw (c.len.ensures.value, ← c.deref.ensures.0)
+  walked = rw (c.len-count.ensures.value, ← c.deref.ensures.0)
       (batch-more (heap_of_named c.args.name.now c.args.world.now.desk) c.places.place c.places.count c.args.to.now c.places.to c.segments_from-items.ensures.heap c.places.invariant.walked
       c.deref.result.now c.in-Some.last.now (c.deref.ensures.0 ∙ c.places.invariant.items_are) c.in-Some.ensures.value
       c.place_behind-place.result c.fill.new.to c.place_behind-place.ensures (rw (c.deref-in-Some.ensures.0, ← c.deref.ensures.0) at c.fill.ensures));

@@ -10,7 +10,7 @@ pub returns-in_default : goal.returns-in_default
 returns-in_default c = λ s seen. rw (listed-closed c.in_default.is s (question.Show c.args.name.now c.args.anchor) seen) (sym (filled-none c.args.to.now))
 
 pub returns-in_default-name_of : goal.returns-in_default-name_of
-returns-in_default-name_of c = λ s seen. rw (listed-bad s (question.Show c.args.name.now c.args.anchor) (first-fails (no-name c.args.name.now c.in_default-name_of.ensures))) (sym (filled-none c.args.to.now))
+returns-in_default-name_of c = λ s seen. rw (listed-bad s (question.Show c.args.name.now c.args.anchor) (first-fails _ (no-name c.args.name.now c.in_default-name_of.ensures))) (sym (filled-none c.args.to.now))
 
 pub returns-in_default-anchor_of : goal.returns-in_default-anchor_of
 returns-in_default-anchor_of c = λ s seen.
