@@ -56,5 +56,8 @@ module _ {q : Question} {form : Option Command} {old after new : VfDesk} {said :
     pub open-asks : {status : ℕ} → status ≡ status_of said → Asks q old new status
     open-asks told = asks same says (λ _. put ∙ taken ∙ kept) told
 
-    pub open-list : {P : Option Desk → Type 0} → ((s : Option Desk) → SeenBy station.console s → P s) → (s : Option Desk) → IsSeen old s → P s
-    open-list holds s seen = in-handle (taken ∙ kept) holds s seen
+
+  -- what is listed of a station is listed of the handle
+  pub open-list : {station : Station} → Some station ≡ after.handle.station → {P : Option Desk → Type 0} → ((s : Option Desk) → SeenBy station.console s → P s)
+      → (s : Option Desk) → IsSeen old s → P s
+  open-list taken holds s seen = in-handle (taken ∙ kept) holds s seen

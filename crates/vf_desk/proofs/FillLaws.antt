@@ -1,6 +1,7 @@
 -- Lists with items in place of their first ones, or of those from an index on.
-use Rattle.std.proofs.Common.{◌≡◌, ℕ, zero, suc, ◌+◌, ◌<◌, ◌≤◌, List, [], ◌∷◌, ◌++◌, length, take, drop, get_or, Some, None, inl, inr, refl, sym, ap, ◌∙◌, arith, set, append-nil, take-append-drop, take_all}
-use Rattle.std.specs.Prelude.{◌-◌, ◌⊎◌, map, min, slice_get}
+use Rattle.std.proofs.Common.{◌≡◌, ℕ, Bool, true, false, zero, suc, ◌+◌, ◌<◌, ◌≤◌, List, [], ◌∷◌, ◌++◌, length, take, drop, get_or, Some, None, refl, sym, ap, ◌∙◌, arith, set, append-nil, take-append-drop, take_all}
+use Rattle.std.specs.Prelude.{◌-◌, nat_le, map, min, slice_get}
+use borrow.Author.Tests.{tests}
 use Rattle.rh_console.specs.Console.{filled}
 use Rattle.vf_desk.specs.Lists.{filled_from}
 
@@ -58,9 +59,12 @@ filled-behind (x ∷ xs) ys (y ∷ old) = ap (λ l. x ∷ l) (filled-behind xs y
 -- one item more, from an index on
 pub from-next : {A : Type 0} (at : ℕ) (xs old : List A) (x : A) → at + length xs < length old
     → filled_from at (xs ++ x ∷ []) old ≡ set (filled_from at xs old) (at + length xs) x
-from-next zero xs old x low = filled-next xs old x low
+from-next zero xs old x low =
+    filled-next xs old x (omega arith) ∙ ap (λ n. set (filled xs old) n x) (omega arith)
 from-next (suc at) xs [] x low = absurd (omega arith)
-from-next (suc at) xs (y ∷ old) x low = ap (λ l. y ∷ l) (from-next at xs old x (omega arith))
+from-next (suc at) xs (y ∷ old) x low =
+    let one : suc (at + length xs) ≡ suc at + length xs = omega arith in
+    ap (λ l. y ∷ l) (from-next at xs old x (omega arith)) ∙ ap (λ n. set (y ∷ filled_from at xs old) n x) one
 
 -- no item, or no room
 pub from-none : {A : Type 0} (at : ℕ) (old : List A) → filled_from at [] old ≡ old
@@ -69,7 +73,7 @@ from-none (suc at) [] = refl
 from-none (suc at) (y ∷ old) = ap (λ l. y ∷ l) (from-none at old)
 
 pub from-full : {A : Type 0} (at : ℕ) (xs more old : List A) → length old ≤ at + length xs → filled_from at (xs ++ more) old ≡ filled_from at xs old
-from-full zero xs more old all = filled-full xs more old all
+from-full zero xs more old all = filled-full xs more old (omega arith)
 from-full (suc at) xs more [] all = refl
 from-full (suc at) xs more (y ∷ old) all = ap (λ l. y ∷ l) (from-full at xs more old (omega arith))
 
@@ -143,7 +147,7 @@ length-taken f (x ∷ items) (suc n) few = ap suc (length-taken f items n (omega
 pub fill-all : {A B : Type 0} (f : A → B) (items : List A) (at n : ℕ) (old to : List B) → n ≡ min (length items) (length old - at)
     → to ≡ filled_from at (map f (take n items)) old → to ≡ filled_from at (map f items) old
 fill-all {A} {B} f items at n old to is same =
-    same ∙ go (omega arith) ∙ ap (λ l. filled_from at l old) (sym (map-append f (take n items) (drop n items)) ∙ ap (map f) (take-append-drop n items))
+    same ∙ go (nat_le (length items) n) refl ∙ ap (λ l. filled_from at l old) (sym (map-append f (take n items) (drop n items)) ∙ ap (map f) (take-append-drop n items))
   where
     drop-past : (n : ℕ) (items : List A) → length items ≤ n → drop n items ≡ []
     drop-past zero [] all = refl
@@ -151,6 +155,11 @@ fill-all {A} {B} f items at n old to is same =
     drop-past (suc n) [] all = refl
     drop-past (suc n) (x ∷ items) all = drop-past n items (omega arith)
 
-    go : (length items ≤ n) ⊎ (length old ≤ at + n) → filled_from at (map f (take n items)) old ≡ filled_from at (map f (take n items) ++ map f (drop n items)) old
-    go (inl all) = ap (λ l. filled_from at l old) (sym (append-nil (map f (take n items))) ∙ ap (λ l. map f (take n items) ++ map f l) (sym (drop-past n items all)))
-    go (inr all) = sym (from-full at (map f (take n items)) (map f (drop n items)) old (let long = length-taken f items n (omega arith) in omega arith))
+    go : (b : Bool) → nat_le (length items) n ≡ b → filled_from at (map f (take n items)) old ≡ filled_from at (map f (take n items) ++ map f (drop n items)) old
+    go true low =
+        let all : length items ≤ n = grind (arith, tests) in
+        ap (λ l. filled_from at l old) (sym (append-nil (map f (take n items))) ∙ ap (λ l. map f (take n items) ++ map f l) (sym (drop-past n items all)))
+    go false low =
+        let more : n < length items = grind (arith, tests) in
+        let long = length-taken f items n (omega arith) in
+        sym (from-full at (map f (take n items)) (map f (drop n items)) old (omega arith))

@@ -57,7 +57,7 @@ first-fails {a} b first = ap (λ x. x && b) first
 
 -- ---- whether bytes can be put, by what holds of the arguments
 
-module _ {name bytes : List ℕ} {anchor offset : ℕ} where
+module _ (name bytes : List ℕ) (anchor offset : ℕ) where
   pub put-name : is_name name ≡ false → in_range (command.Put name anchor offset bytes) ≡ false
   unfolding in_range
   put-name a = rw a refl

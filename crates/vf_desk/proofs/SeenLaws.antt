@@ -80,7 +80,7 @@ stays-rest held = record { files = refl; said = refl }
 
 -- ---- a station whose desk was taken out, changed, and put back
 
-module _ {station : Station} {old : Console} (is : Some old ≡ station.console) {command : Option Command} {world : Shown} {said : Called}
+module _ (station : Station) {old : Console} (is : Some old ≡ station.console) {command : Option Command} {world : Shown} {said : Called}
     (steps : Steps command old.world world said) where
   abbrev pub console_now : Console
   console_now = record { world = world; said = old.said }
@@ -118,7 +118,7 @@ module _ {station : Station} {old : Console} (is : Some old ≡ station.console)
   done-asked asked = done-same (steps.asked asked)
 
 -- one that had none
-module _ {station : Station} {now : Option Console} (is : None ≡ station.console) (after : now ≡ None) where
+module _ (station : Station) {now : Option Console} (is : None ≡ station.console) (after : now ≡ None) where
   abbrev pub station_shut : Station
   station_shut = record { files = station.files; console = now }
 

@@ -1,4 +1,4 @@
-use Rattle.std.proofs.Common.{length, sym, ap, ◌∙◌}
+use Rattle.std.proofs.Common.{length, Some, sym, ap, ◌∙◌}
 use Rattle.std.specs.Prelude.{map}
 use Rattle.rh_console.specs.Console.{filled}
 use Rattle.rh_defs.specs.declared.question.Question.TheVariants as question
@@ -25,11 +25,11 @@ pub returns-clause-asks : goal.returns-clause-asks
 returns-clause-asks c = open-asks c.asked.ensures.form c.step-called.ensures.said c.step-called.ensures.asked c.in-Some.ensures.taken c.put.ensures c.told.ensures.status
 
 pub returns-clause-list : goal.returns-clause-list
-returns-clause-list c = open-list c.asked.ensures.form c.step-called.ensures.said c.step-called.ensures.asked c.in-Some.ensures.taken c.put.ensures c.areas-n.ensures.list
+returns-clause-list c = open-list c.asked.ensures.form c.step-called.ensures.said c.step-called.ensures.asked (ap Some c.deref.ensures ∙ c.in-Some.ensures.taken) c.areas-n.ensures.list
 
 pub returns-clause-count : goal.returns-clause-count
 returns-clause-count c = ask-counted c.asked.ensures.form c.step-called.ensures.said c.step-called.ensures.asked (λ s. length (areas_in (listed s question.Areas))) c.told_count.ensures.count
-    (open-list c.asked.ensures.form c.step-called.ensures.said c.step-called.ensures.asked c.in-Some.ensures.taken c.put.ensures c.areas-n.ensures.count)
+    (open-list c.asked.ensures.form c.step-called.ensures.said c.step-called.ensures.asked (ap Some c.deref.ensures ∙ c.in-Some.ensures.taken) c.areas-n.ensures.count)
 
 pub returns-clause-free : goal.returns-clause-free
 returns-clause-free c = ask-told c.asked.ensures.form c.step-called.ensures.said c.step-called.ensures.asked (λ said. number_or said c.args.free.now) c.told.ensures.number

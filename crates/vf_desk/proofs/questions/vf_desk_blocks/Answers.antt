@@ -1,4 +1,4 @@
-use Rattle.std.proofs.Common.{length, sym, ap, ◌∙◌}
+use Rattle.std.proofs.Common.{length, Some, sym, ap, ◌∙◌}
 use Rattle.std.specs.Prelude.{map}
 use Rattle.rh_console.specs.Console.{filled}
 use Rattle.rh_defs.specs.declared.question.Question.TheVariants as question
@@ -21,8 +21,8 @@ pub returns-clause-asks : goal.returns-clause-asks
 returns-clause-asks c = open-asks c.blocks.ensures.form c.step-called.ensures.said c.step-called.ensures.asked c.in-Some.ensures.taken c.put.ensures c.told_count.ensures.status
 
 pub returns-clause-list : goal.returns-clause-list
-returns-clause-list c = open-list c.blocks.ensures.form c.step-called.ensures.said c.step-called.ensures.asked c.in-Some.ensures.taken c.put.ensures c.blocks-n.ensures.list
+returns-clause-list c = open-list c.blocks.ensures.form c.step-called.ensures.said c.step-called.ensures.asked (ap Some c.deref.ensures ∙ c.in-Some.ensures.taken) c.blocks-n.ensures.list
 
 pub returns-clause-count : goal.returns-clause-count
 returns-clause-count c = ask-counted c.blocks.ensures.form c.step-called.ensures.said c.step-called.ensures.asked (λ s. length (blocks_in (listed s (question.Blocks c.args.name.now)))) c.told_count.ensures.count
-    (open-list c.blocks.ensures.form c.step-called.ensures.said c.step-called.ensures.asked c.in-Some.ensures.taken c.put.ensures c.blocks-n.ensures.count)
+    (open-list c.blocks.ensures.form c.step-called.ensures.said c.step-called.ensures.asked (ap Some c.deref.ensures ∙ c.in-Some.ensures.taken) c.blocks-n.ensures.count)

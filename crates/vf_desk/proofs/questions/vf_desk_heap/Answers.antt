@@ -1,4 +1,4 @@
-use Rattle.std.proofs.Common.{length, sym, ap, ◌∙◌}
+use Rattle.std.proofs.Common.{length, Some, sym, ap, ◌∙◌}
 use Rattle.std.specs.Prelude.{map}
 use Rattle.rh_console.specs.Console.{filled}
 use Rattle.rh_defs.specs.declared.question.Question.TheVariants as question
@@ -25,11 +25,11 @@ pub returns-clause-asks : goal.returns-clause-asks
 returns-clause-asks c = open-asks c.heap.ensures.form c.step-called.ensures.said c.step-called.ensures.asked c.in-Some.ensures.taken c.put.ensures c.told_sums.ensures.status
 
 pub returns-clause-list : goal.returns-clause-list
-returns-clause-list c = open-list c.heap.ensures.form c.step-called.ensures.said c.step-called.ensures.asked c.in-Some.ensures.taken c.put.ensures c.segments-n.ensures.list
+returns-clause-list c = open-list c.heap.ensures.form c.step-called.ensures.said c.step-called.ensures.asked (ap Some c.deref.ensures ∙ c.in-Some.ensures.taken) c.segments-n.ensures.list
 
 pub returns-clause-count : goal.returns-clause-count
 returns-clause-count c = ask-counted c.heap.ensures.form c.step-called.ensures.said c.step-called.ensures.asked (λ s. length (segments_in (listed s (question.Heap c.args.name.now)))) c.told_count.ensures.count
-    (open-list c.heap.ensures.form c.step-called.ensures.said c.step-called.ensures.asked c.in-Some.ensures.taken c.put.ensures c.segments-n.ensures.count)
+    (open-list c.heap.ensures.form c.step-called.ensures.said c.step-called.ensures.asked (ap Some c.deref.ensures ∙ c.in-Some.ensures.taken) c.segments-n.ensures.count)
 
 pub returns-clause-sums : goal.returns-clause-sums
 returns-clause-sums c = ask-told c.heap.ensures.form c.step-called.ensures.said c.step-called.ensures.asked (λ said. sums_or said c.args.sums.now) c.told_sums.ensures.sums

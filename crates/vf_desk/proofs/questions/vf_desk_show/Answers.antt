@@ -1,4 +1,4 @@
-use Rattle.std.proofs.Common.{sym, ap, ◌∙◌}
+use Rattle.std.proofs.Common.{Some, sym, ap, ◌∙◌}
 use Rattle.rh_console.specs.Console.{filled}
 use Rattle.rh_defs.specs.declared.question.Question.TheVariants as question
 use Rattle.vf_desk.specs.Called.{number_or}
@@ -21,7 +21,7 @@ pub returns-clause-asks : goal.returns-clause-asks
 returns-clause-asks c = open-asks c.show.ensures.form c.step-called.ensures.said c.step-called.ensures.asked c.in-Some.ensures.taken c.put.ensures c.told.ensures.status
 
 pub returns-clause-bytes : goal.returns-clause-bytes
-returns-clause-bytes c = open-list c.show.ensures.form c.step-called.ensures.said c.step-called.ensures.asked c.in-Some.ensures.taken c.put.ensures c.bytes.ensures
+returns-clause-bytes c = open-list c.show.ensures.form c.step-called.ensures.said c.step-called.ensures.asked (ap Some c.deref.ensures ∙ c.in-Some.ensures.taken) c.bytes.ensures
 
 pub returns-clause-size : goal.returns-clause-size
 returns-clause-size c = ask-told c.show.ensures.form c.step-called.ensures.said c.step-called.ensures.asked (λ said. number_or said c.args.size.now) c.told.ensures.number

@@ -1,4 +1,4 @@
-use Rattle.std.proofs.Common.{length, sym, ap, ◌∙◌}
+use Rattle.std.proofs.Common.{length, Some, sym, ap, ◌∙◌}
 use Rattle.std.specs.Prelude.{map}
 use Rattle.rh_console.specs.Console.{filled}
 use Rattle.rh_defs.specs.declared.question.Question.TheVariants as question
@@ -32,18 +32,18 @@ pub returns-clause-asks : goal.returns-clause-asks
 returns-clause-asks c = open-asks c.status.ensures.form c.step-called.ensures.said c.step-called.ensures.asked c.in-Some.ensures.taken c.put.ensures c.told.ensures.status
 
 pub returns-clause-out : goal.returns-clause-out
-returns-clause-out c = open-list c.status.ensures.form c.step-called.ensures.said c.step-called.ensures.asked c.in-Some.ensures.taken c.put.ensures c.records-counts.ensures.out
+returns-clause-out c = open-list c.status.ensures.form c.step-called.ensures.said c.step-called.ensures.asked (ap Some c.deref.ensures ∙ c.in-Some.ensures.taken) c.records-counts.ensures.out
 
 pub returns-clause-taken : goal.returns-clause-taken
-returns-clause-taken c = open-list c.status.ensures.form c.step-called.ensures.said c.step-called.ensures.asked c.in-Some.ensures.taken c.put.ensures c.records-counts.ensures.taken
+returns-clause-taken c = open-list c.status.ensures.form c.step-called.ensures.said c.step-called.ensures.asked (ap Some c.deref.ensures ∙ c.in-Some.ensures.taken) c.records-counts.ensures.taken
 
 pub returns-clause-outs : goal.returns-clause-outs
 returns-clause-outs c = ask-counted c.status.ensures.form c.step-called.ensures.said c.step-called.ensures.asked (λ s. length (outgoing_in (listed s (question.Status c.args.name.now)))) c.told_count.ensures.count
-    (open-list c.status.ensures.form c.step-called.ensures.said c.step-called.ensures.asked c.in-Some.ensures.taken c.put.ensures c.records-counts.ensures.outs)
+    (open-list c.status.ensures.form c.step-called.ensures.said c.step-called.ensures.asked (ap Some c.deref.ensures ∙ c.in-Some.ensures.taken) c.records-counts.ensures.outs)
 
 pub returns-clause-ins : goal.returns-clause-ins
 returns-clause-ins c = ask-counted c.status.ensures.form c.step-called.ensures.said c.step-called.ensures.asked (λ s. length (incoming_in (listed s (question.Status c.args.name.now)))) c.told_count-2.ensures.count
-    (open-list c.status.ensures.form c.step-called.ensures.said c.step-called.ensures.asked c.in-Some.ensures.taken c.put.ensures c.records-counts.ensures.ins)
+    (open-list c.status.ensures.form c.step-called.ensures.said c.step-called.ensures.asked (ap Some c.deref.ensures ∙ c.in-Some.ensures.taken) c.records-counts.ensures.ins)
 
 pub returns-clause-handle : goal.returns-clause-handle
 returns-clause-handle c = ask-told c.status.ensures.form c.step-called.ensures.said c.step-called.ensures.asked (λ said. number_or said c.args.handle.now) c.told.ensures.number

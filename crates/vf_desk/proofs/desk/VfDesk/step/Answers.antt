@@ -1,4 +1,4 @@
-use Rattle.std.proofs.Common.{None, ◌∙◌}
+use Rattle.std.proofs.Common.{Some, None, ap, ◌∙◌}
 use Rattle.rh_defs.specs.declared.command.Command.TheVariants as command
 use Rattle.vf_desk.specs.Called.{called, desk_by, in_form}
 use Rattle.vf_desk.specs.Seen.{KeepsRest}
@@ -21,16 +21,16 @@ pub returns-in_default-clause-asked : goal.returns-in_default-clause-asked
 returns-in_default-clause-asked c = λ _. c.in_default.ensures.left ∙ c.in_default.ensures.taken
 
 pub returns-clause-said : goal.returns-clause-said
-returns-clause-said c = in-handle c.in-Some.ensures.taken c.step-called.ensures.said
+returns-clause-said c = in-handle (ap Some c.deref_mut.ensures.value ∙ c.in-Some.ensures.taken) c.step-called.ensures.said
 
 pub returns-clause-desk : goal.returns-clause-desk
-returns-clause-desk c = held-desk c.in-Some.ensures.taken c.put.ensures (λ s. desk_by s c.args.command) c.step-called.ensures.desk
+returns-clause-desk c = held-desk (ap Some c.deref_mut.ensures.value ∙ c.in-Some.ensures.taken) c.put.ensures (λ s. desk_by s c.args.command) c.step-called.ensures.desk
 
 pub returns-clause-rest : goal.returns-clause-rest
-returns-clause-rest c = held-by c.in-Some.ensures.taken c.put.ensures KeepsRest c.step-called.ensures.rest
+returns-clause-rest c = held-by (ap Some c.deref_mut.ensures.value ∙ c.in-Some.ensures.taken) c.put.ensures KeepsRest c.step-called.ensures.rest
 
 pub returns-clause-refused : goal.returns-clause-refused
-returns-clause-refused c = λ bad. held-same c.in-Some.ensures.taken c.put.ensures (c.step-called.ensures.refused bad)
+returns-clause-refused c = λ bad. held-same (ap Some c.deref_mut.ensures.value ∙ c.in-Some.ensures.taken) c.put.ensures (c.step-called.ensures.refused bad)
 
 pub returns-clause-asked : goal.returns-clause-asked
-returns-clause-asked c = λ asked. held-same c.in-Some.ensures.taken c.put.ensures (c.step-called.ensures.asked asked)
+returns-clause-asked c = λ asked. held-same (ap Some c.deref_mut.ensures.value ∙ c.in-Some.ensures.taken) c.put.ensures (c.step-called.ensures.asked asked)
