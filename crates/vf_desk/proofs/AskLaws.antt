@@ -17,26 +17,26 @@ use Rattle.vf_desk.proofs.CallLaws.{asks, question-asked, told_by}
 use Rattle.vf_desk.proofs.ListLaws.{listed-closed}
 use Rattle.vf_desk.proofs.SeenLaws.{closed-said, empty-seen, in-handle}
 
-module _ {q : Question} {form : Option Command} {old after new : VfDesk} {said : Called} (same : form ≡ in_form (command.Ask q))
+module _ (q : Question) (old after : VfDesk) {form : Option Command} {said : Called} (same : form ≡ in_form (command.Ask q))
     (says : (s : Option Desk) → IsSeen old s → said ≡ called s form) (stays : IsAsked form → after.handle.station ≡ old.handle.station) where
   -- the step has changed nothing
-  pub kept : after.handle.station ≡ old.handle.station
+  kept : after.handle.station ≡ old.handle.station
   kept = stays (subst IsAsked (sym same) (question-asked q))
 
   -- what is told of the reply
   pub ask-told : {A : Type 0} (tell : Called → A) {now : A} → now ≡ tell said → (s : Option Desk) → IsSeen old s → now ≡ tell (called s (in_form (command.Ask q)))
-  ask-told tell told s seen = told_by same says tell told s seen
+  ask-told tell told s seen = told_by old same says tell told s seen
 
   -- how many there are is told
-  pub ask-counted : {n was now : ℕ} (count : Option Desk → ℕ) → now ≡ done_or said n was → ((s : Option Desk) → IsSeen old s → n ≡ count s)
+  pub ask-counted : (was : ℕ) {n now : ℕ} (count : Option Desk → ℕ) → now ≡ done_or said n was → ((s : Option Desk) → IsSeen old s → n ≡ count s)
       → (s : Option Desk) → IsSeen old s → now ≡ done_or (called s (in_form (command.Ask q))) (count s) was
-  ask-counted {n} {was} count told counted s seen =
-      told_by same says (λ c. done_or c n was) told s seen ∙ ap (λ k. done_or (called s (in_form (command.Ask q))) k was) (counted s seen)
+  ask-counted was {n} count told counted s seen =
+      told_by old same says (λ c. done_or c n was) told s seen ∙ ap (λ k. done_or (called s (in_form (command.Ask q))) k was) (counted s seen)
 
   -- where the handle had nothing
-  module _ (taken : None ≡ after.handle.station) (left : new.handle.station ≡ None) where
-    pub shut-asks : {status : ℕ} → status ≡ status_of said → Asks q old new status
-    shut-asks told = asks same says (λ _. left ∙ taken ∙ kept) told
+  module _ (taken : None ≡ after.handle.station) where
+    pub shut-asks : {new : VfDesk} → new.handle.station ≡ None → {status : ℕ} → status ≡ status_of said → Asks q old new status
+    shut-asks left told = asks same says (λ _. left ∙ taken ∙ kept) told
 
     shut-seen : (s : Option Desk) → IsSeen old s → SeenBy None s
     shut-seen s seen = empty-seen (sym kept ∙ sym taken) s seen
@@ -52,10 +52,9 @@ module _ {q : Question} {form : Option Command} {old after new : VfDesk} {said :
     shut-counted was n s seen = shut-told (λ c. done_or c n was) s seen
 
   -- where it had a station
-  module _ {station : Station} (taken : Some station ≡ after.handle.station) (put : new.handle.station ≡ Some station) where
-    pub open-asks : {status : ℕ} → status ≡ status_of said → Asks q old new status
-    open-asks told = asks same says (λ _. put ∙ taken ∙ kept) told
-
+  pub open-asks : {station : Station} → Some station ≡ after.handle.station → {new : VfDesk} → new.handle.station ≡ Some station
+      → {status : ℕ} → status ≡ status_of said → Asks q old new status
+  open-asks taken put told = asks same says (λ _. put ∙ taken ∙ kept) told
 
   -- what is listed of a station is listed of the handle
   pub open-list : {station : Station} → Some station ≡ after.handle.station → {P : Option Desk → Type 0} → ((s : Option Desk) → SeenBy station.console s → P s)

@@ -33,6 +33,14 @@ overlaid-full [] more (y ∷ old) all = absurd (omega arith)
 overlaid-full (x ∷ xs) more [] all = refl
 overlaid-full (x ∷ xs) more (y ∷ old) all = ap (λ l. x ∷ l) (overlaid-full xs more old (omega arith))
 
+-- a list that has no room
+overlaid-nothing : {A : Type 0} (xs : List A) → overlaid {A = A} xs [] ≡ []
+overlaid-nothing [] = refl
+overlaid-nothing (x ∷ xs) = refl
+
+filled-nothing : {A : Type 0} (xs : List A) → filled {A = A} xs [] ≡ []
+filled-nothing xs = filled-is xs [] ∙ overlaid-nothing xs
+
 -- one item more
 pub filled-next : {A : Type 0} (xs old : List A) (x : A) → length xs < length old → filled (xs ++ x ∷ []) old ≡ set (filled xs old) (length xs) x
 filled-next xs old x low =
@@ -49,11 +57,7 @@ filled-full xs more old all = filled-is (xs ++ more) old ∙ overlaid-full xs mo
 -- items behind those that are there already
 pub filled-behind : {A : Type 0} (xs ys old : List A) → filled_from (length xs) ys (filled xs old) ≡ filled (xs ++ ys) old
 filled-behind [] ys old = ap (λ l. filled ys l) (filled-is [] old) ∙ refl
-filled-behind (x ∷ xs) ys [] = filled-is ys [] ∙ none ys
-  where
-    none : {A : Type 0} (l : List A) → overlaid l [] ≡ []
-    none [] = refl
-    none (z ∷ l) = refl
+filled-behind (x ∷ xs) ys [] = filled-nothing ys
 filled-behind (x ∷ xs) ys (y ∷ old) = ap (λ l. x ∷ l) (filled-behind xs ys old)
 
 -- one item more, from an index on
@@ -74,7 +78,7 @@ from-none (suc at) (y ∷ old) = ap (λ l. y ∷ l) (from-none at old)
 
 pub from-full : {A : Type 0} (at : ℕ) (xs more old : List A) → length old ≤ at + length xs → filled_from at (xs ++ more) old ≡ filled_from at xs old
 from-full zero xs more old all = filled-full xs more old (omega arith)
-from-full (suc at) xs more [] all = refl
+from-full (suc at) xs more [] all = filled-nothing (xs ++ more) ∙ sym (filled-nothing xs)
 from-full (suc at) xs more (y ∷ old) all = ap (λ l. y ∷ l) (from-full at xs more old (omega arith))
 
 -- one item, at an index
