@@ -1,6 +1,7 @@
 -- Commands of arguments that may not be of their forms.
 use Rattle.std.proofs.Common.{◌≡◌, ℕ, Bool, true, false, List, refl, sym, ap, ◌∙◌}
-use Rattle.std.specs.Prelude.{◌&&◌, nat_le, if◌then◌else◌, length, Option, Some, None}
+use Rattle.std.specs.Prelude.{◌&&◌, nat_le, if◌then◌else◌, length, OnOk, Option, Some, None, Result, Ok, Err}
+use Rattle.std.specs.Result.{is_err}
 use Rattle.rh_defs.specs.declared.command.Command.{Command}
 use Rattle.rh_defs.specs.declared.command.Command.TheVariants as command
 use Rattle.rh_defs.specs.Forms.{is_anchor, is_name, is_number}
@@ -47,6 +48,11 @@ an-anchor k anchor some = go (is_anchor k) refl some
     go : (b : Bool) → is_anchor k ≡ b → Some anchor ≡ (if b then Some k else None) → (anchor ≡ k) × (is_anchor k ≡ true)
     go false test some = absurd (let bad : Some anchor ≡ None = some in cc)
     go true test some = (cc, test)
+
+-- what holds where a call was done, of one that was
+pub was-ok : {A E P : Type 0} (r : Result A E) → is_err r ≡ false → OnOk r P → P
+was-ok (Ok x) done holds = holds
+was-ok (Err e) done holds = absurd (cc)
 
 -- tests of two parts
 pub both-are : {a b c : Bool} → a ≡ true → b ≡ c → (a && b) ≡ c

@@ -9,7 +9,7 @@ use Rattle.vf_desk.proofs.FillLaws.{filled-none}
 use Rattle.vf_desk.proofs.questions.vf_desk_status.Goals as goal
 
 pub returns-in_default-clause-asks : goal.returns-in_default-clause-asks
-returns-in_default-clause-asks c = shut-asks (question.Status c.args.name.now) c.args.desk.now c.step-called.new.self c.status.ensures.form c.step-called.ensures.said c.step-called.ensures.asked c.in_default.ensures.taken c.in_default.ensures.left c.status.ensures
+returns-in_default-clause-asks c = shut-asks (question.Status c.args.name.now) c.args.desk.now c.step-called.new.self c.status.ensures.form c.step-called.ensures.said c.step-called.ensures.asked c.in_default.ensures.taken c.in_default.ensures.left c.status-in_default.ensures
 
 pub returns-in_default-clause-out : goal.returns-in_default-clause-out
 returns-in_default-clause-out c = λ s seen.
