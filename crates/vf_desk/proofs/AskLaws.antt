@@ -12,7 +12,7 @@ use Rattle.vf_desk.specs.declared.desk.VfDesk.{VfDesk}
 use Rattle.vf_desk.specs.declared.station.Station.{Station}
 use Rattle.vf_desk.specs.Called.{Asks, IsAsked, called, done_or, in_form, status_of}
 use Rattle.vf_desk.specs.Items.{listed}
-use Rattle.vf_desk.specs.Seen.{IsSeen, SeenBy, console_in}
+use Rattle.vf_desk.specs.Seen.{IsSeen, SeenBy}
 use Rattle.vf_desk.proofs.CallLaws.{asks, question-asked, told_by}
 use Rattle.vf_desk.proofs.ListLaws.{listed-closed}
 use Rattle.vf_desk.proofs.SeenLaws.{closed-said, empty-seen, in-handle}

@@ -1,6 +1,6 @@
 -- Commands of arguments that may not be of their forms.
 use Rattle.std.proofs.Common.{◌≡◌, ℕ, Bool, true, false, List, refl, sym, ap, ◌∙◌}
-use Rattle.std.specs.Prelude.{◌&&◌, nat_le, if◌then◌else◌, length, OnOk, Option, Some, None, Result, Ok, Err}
+use Rattle.std.specs.Prelude.{◌&&◌, nat_le, if◌then◌else◌, length, OnOk, Some, None, Result, Ok, Err}
 use Rattle.std.specs.Result.{is_err}
 use Rattle.rh_defs.specs.declared.command.Command.{Command}
 use Rattle.rh_defs.specs.declared.command.Command.TheVariants as command

@@ -8,7 +8,7 @@ use Rattle.rh_defs.specs.Desk.{Desk}
 use Rattle.rh_defs.specs.Order.{IsReordered}
 use Rattle.rh_defs.specs.Script.{line_desk, line_text}
 use Rattle.vf_desk.specs.declared.station.Station.{Station}
-use Rattle.vf_desk.specs.Lines.{Fills, Replies, Stays, Takes, desk_after, kept_text, line_status}
+use Rattle.vf_desk.specs.Lines.{Fills, Replies, Takes, desk_after, kept_text, line_status}
 use Rattle.vf_desk.specs.Seen.{SeenBy, console_in, files_in}
 use Rattle.vf_desk.specs.Status.{closed, short}
 

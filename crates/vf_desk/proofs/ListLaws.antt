@@ -1,5 +1,5 @@
 -- What is listed of a desk, from what its readers give.
-use Rattle.std.proofs.Common.{◌≡◌, ℕ, zero, suc, ◌+◌, ◌<◌, ◌≤◌, List, [], ◌∷◌, ◌++◌, length, take, drop, min, refl, sym, ap, ◌∙◌, arith, subst, cond, Ok, Err, Some, None, Option, find}
+use Rattle.std.proofs.Common.{◌≡◌, ℕ, zero, suc, List, [], ◌∷◌, ◌++◌, length, take, drop, min, refl, sym, ap, ◌∙◌, arith, subst, Ok, Err, Some, None, Option}
 use Rattle.std.specs.Prelude.{false, true, if◌then◌else◌, map}
 use Rattle.rh_console.specs.Console.{filled}
 use Rattle.rh_console.specs.declared.console.Console.{Console}
@@ -12,7 +12,7 @@ use Rattle.rh_defs.specs.declared.reply.Reply.TheVariants as reply
 use Rattle.rh_defs.specs.Chain.{Granted, ◌>>=◌}
 use Rattle.rh_defs.specs.Desk.{Desk, Task, named}
 use Rattle.rh_defs.specs.Listing.{Blocks, Bytes, Nothing, Records, block_items, in_item, out_item, status_at}
-use Rattle.rh_defs.specs.Questions.{Told, asked, blocks, show, status}
+use Rattle.rh_defs.specs.Questions.{Told, asked, blocks, status}
 use Rattle.rh_defs.specs.Range.{can_be_asked}
 use Rattle.rh_defs.proofs.QuestionLaws.{asked-alike}
 use Rattle.rh_tasks.specs.Lists.{blocks_of}

@@ -1,5 +1,5 @@
 -- How a desk begins: calls that are refused, want of memory, and calls that are done.
-use Rattle.std.proofs.Common.{◌≡◌, ℕ, Bool, List, [], ◌∷◌, ◌++◌, length, Option, Some, None, inl, inr, refl, sym, ap, subst, ◌∙◌, arith}
+use Rattle.std.proofs.Common.{◌≡◌, ℕ, List, [], ◌∷◌, ◌++◌, length, Option, Some, None, inl, inr, refl, sym, ap, subst, ◌∙◌}
 use Rattle.std.specs.Prelude.{◌≢◌, ◌⊎◌, ◌==◌, ◌||◌, nat_lt, not, is_some, if◌then◌else◌}
 use Rattle.rh_console.specs.declared.console.Console.{Console}
 use Rattle.vf_desk.specs.declared.station.Station.{Station}

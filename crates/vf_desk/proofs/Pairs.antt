@@ -1,7 +1,7 @@
 -- A pointer beside a heap's handle in memory. So lie an `Unboxed` and a `Handle`, and what either owns is what a box has
 -- at the same types, or nothing.
-use mathlib.Core.Bool.{Bool, true, ◌&&◌}
-use mathlib.Core.Path.{◌≡◌, refl, subst, sym}
+use mathlib.Core.Bool.{true, ◌&&◌}
+use mathlib.Core.Path.{◌≡◌, refl, subst}
 use mathlib.Core.List.{List, [], ◌∷◌, ◌++◌}
 use Prim.Native.Nat.{ℕ}
 use lib.Dec.{T}
@@ -11,7 +11,7 @@ use mir.Syntax.{impl, tnil, dnil}
 use mir.Val.{Val, vptr, vstruct, vcons, vnil, of_list, has_ty, WT}
 use base.Logic.{never, fst∗}
 use types.Logic.{Logic, sem}
-use types.Kit.{Item, Goal, Seq, Step, step, ‵, ◌$◌, move, drop, fsplit, fjoin, fpick, fpack, rewrite, feq_i, feq_l}
+use types.Kit.{Item, Goal, Seq, Step, step, ‵, ◌$◌, move, drop, fsplit, fjoin, fpick, fpack, feq_i, feq_l}
 use denote.Builtin.{RawPtr}
 use denote.Memory.{lone}
 use denote.Param.{layout}
@@ -25,7 +25,7 @@ use Rattle.core.specs.declared.alloc.Allocator.{Ghosts}
 use Rattle.core.proofs.alloc.Calls.{Al, handle_tells}
 use Rattle.core.proofs.cell.Inside.{Good}
 use Rattle.std.specs.Box.Ownership.{box_owns}
-use Rattle.std.specs.Prelude.{Option, Some, None}
+use Rattle.std.specs.Prelude.{Option}
 use Rattle.std.specs.contracts.alloc.Global as heap
 use Rattle.std.specs.contracts.impls.GlobalAllocator.TheImpl.{ghosts}
 use Rattle.std.proofs.alloc.Global.TheLaws as heap_laws

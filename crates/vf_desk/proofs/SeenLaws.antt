@@ -1,15 +1,12 @@
 -- What follows for each desk that a handle may be seen as.
-use Rattle.std.proofs.Common.{◌≡◌, ℕ, refl, sym, ap, subst, ◌∙◌}
+use Rattle.std.proofs.Common.{◌≡◌, refl, sym, ap, subst, ◌∙◌}
 use Rattle.std.specs.Prelude.{◌≢◌, true, false, Option, Some, None}
 use Rattle.rh_defs.specs.declared.command.Command.{Command}
 use Rattle.rh_defs.specs.declared.command.Command.TheVariants as command
-use Rattle.rh_defs.specs.declared.question.Question.{Question}
 use Rattle.rh_defs.specs.declared.reply.Reply.{Reply}
 use Rattle.rh_defs.specs.declared.reply.Reply.TheVariants as reply
 use Rattle.rh_defs.specs.Desk.{Desk}
 use Rattle.rh_console.specs.declared.console.Console.{Console}
-use Rattle.rh_defs.specs.declared.refusal.Refusal.{Refusal}
-use Rattle.rh_defs.specs.Order.{IsReordered}
 use Rattle.rh_defs.specs.Range.{in_range}
 use Rattle.rh_tasks.specs.Answer.{Does, StaysIfAsked, StaysIfRefused, StepsTo}
 use Rattle.rh_tasks.specs.Shown.{Shown}

@@ -1,15 +1,14 @@
 -- The segments of a C heap in a slice, some at a time.
-use Rattle.std.proofs.Common.{◌≡◌, ℕ, zero, suc, ◌+◌, ◌-◌, ◌*◌, ◌≤◌, ◌<◌, Bool, true, false, cond, List, [], ◌∷◌, ◌++◌, length, take, drop, Option, Some, None, Ok, Err, refl, sym, ap, subst, ◌∙◌, arith, append_assoc, append-nil, length-append}
+use Rattle.std.proofs.Common.{◌≡◌, ℕ, zero, suc, ◌+◌, ◌-◌, ◌≤◌, ◌<◌, Bool, true, false, cond, List, [], ◌∷◌, ◌++◌, length, take, drop, Option, Some, None, Ok, refl, sym, ap, subst, ◌∙◌, arith, append_assoc, append-nil, length-append}
 use Rattle.std.specs.Prelude.{◌==◌, slice_get, map, find}
 use Rattle.std.proofs.lemmas.List.{take-append-drop}
-use Rattle.std.specs.List.{AllByRecursion}
 use Rattle.std.specs.Option.{option_map}
 use borrow.Author.Tests.{tests}
 use Rattle.rh_console.specs.Console.{filled}
 use Rattle.rh_defs.specs.declared.listing.SegmentItem.{SegmentItem}
 use Rattle.rh_defs.specs.declared.refusal.Refusal.TheVariants.{NoName}
 use Rattle.rh_defs.specs.declared.reply.Reply.TheVariants as reply
-use Rattle.rh_defs.specs.Chain.{Granted, ◌>>=◌, found_or}
+use Rattle.rh_defs.specs.Chain.{◌>>=◌, found_or}
 use Rattle.rh_defs.specs.Desk.{Desk, Task, has_name, named}
 use Rattle.rh_defs.specs.Pieces.{Split, behind, first_at, total}
 use Rattle.rh_defs.specs.Heap.{Segment, Used, Hole, Heap, IsHeap, size_of, first_place, place_after, segment_at, largest, free_bytes}

@@ -1,5 +1,5 @@
 -- The items of lists as structs of C, and which list a question is answered with.
-use Rattle.std.specs.Prelude.{ℕ, ◌-◌, Bool, true, false, if◌then◌else◌, List, [], ◌++◌, length, replicate, Option, Some, None, Ok, Err}
+use Rattle.std.specs.Prelude.{ℕ, ◌-◌, true, false, if◌then◌else◌, List, [], ◌++◌, length, replicate, Option, Some, None, Ok, Err}
 use Rattle.rh_defs.specs.declared.listing.AreaItem.{AreaItem}
 use Rattle.rh_defs.specs.declared.listing.AreaItem.TheVariants as item
 use Rattle.rh_defs.specs.declared.listing.BlockItem.{BlockItem}

@@ -68,13 +68,7 @@ fn step_world(world: &mut PagedWorld, command: Option<Command>) -> Called
 
 /// Writes bytes into a flex block of a world, if they can be written by a line that has room.
 #[tactic(auto, unfolding(rh_defs::specs::Range::in_range))]
-fn write_world(
-    world: &mut PagedWorld,
-    name: &[u8],
-    anchor: u32,
-    offset: u32,
-    from: &[u8],
-) -> Called
+fn write_world(world: &mut PagedWorld, name: &[u8], anchor: u32, offset: u32, from: &[u8]) -> Called
     ensures { Steps (in_form (Command.Put name.now anchor offset from.now)) world.old world.new result }
 {
     let Some(name) = name_of(name) else {

@@ -19,6 +19,6 @@ returns c =
     let long : length (take count to) ≡ count = length-take-le count to (omega (arith, c.min-count.ensures)) in
     let read : c.show-read.new.to ≡ take (length (take count to)) (drop 0 bytes) =
     answered_part _ _ bytes (take count to) c.show-read.new.to 0 c.show-read.ensures
-        (reads_part c.args.world.now.desk c.args.name.now c.args.anchor 0 (length (take count to))) (omega (arith, long, of_size, c.min-count.ensures)) in
+    (reads_part c.args.world.now.desk c.args.name.now c.args.anchor 0 (length (take count to))) (omega (arith, long, of_size, c.min-count.ensures)) in
     bytes-filled bytes to c.show-read.new.to count (c.min-count.ensures ∙ ap (min (length to)) of_size) (read ∙ ap (λ n. take n bytes) long)
     ∙ sym (ap (λ l. filled l to) (shown-bytes _ _ _ size.told))

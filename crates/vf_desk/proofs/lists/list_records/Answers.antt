@@ -1,4 +1,4 @@
-use Rattle.std.proofs.Common.{refl, sym, ap, ◌∙◌}
+use Rattle.std.proofs.Common.{refl, sym}
 use Rattle.rh_defs.specs.Listing.{in_item, out_item}
 use Rattle.vf_desk.specs.Items.{record_of}
 use Rattle.vf_desk.proofs.FillLaws.{filled-none}

@@ -1,4 +1,4 @@
-use Rattle.std.proofs.Common.{◌∙◌, ap, arith, length, sym}
+use Rattle.std.proofs.Common.{◌∙◌, arith}
 use Rattle.rh_script.specs.Named.{heap_of_named}
 use Rattle.vf_desk.proofs.SegmentLaws.{batch-ends, batch-more, batch-none, none-last, segments-listed, walk-none, walked-few}
 use Rattle.vf_desk.proofs.lists.list_segments.Goals as goal
@@ -7,25 +7,25 @@ pub places-init : goal.places-init
 places-init c = record { walked = walk-none _ _; items_are = c.segments_from-items.ensures.items }
 
 pub place_behind-place-requires-clause-low : goal.place_behind-place-requires-clause-low
-place_behind-place-requires-clause-low c = 
+place_behind-place-requires-clause-low c =
     let e = batch-ends (heap_of_named c.args.name.now c.args.world.now.desk) c.places.place c.places.count c.args.to.now c.places.to c.segments_from-items.ensures.heap c.places.invariant.walked
-        c.deref.result.now c.in-Some.last.now (c.deref.ensures.0 ∙ c.places.invariant.items_are) c.in-Some.ensures.value in
+    c.deref.result.now c.in-Some.last.now (c.deref.ensures.0 ∙ c.places.invariant.items_are) c.in-Some.ensures.value in
     omega (arith, e.low)
 
 pub place_behind-place-requires-clause-small : goal.place_behind-place-requires-clause-small
-place_behind-place-requires-clause-small c = 
+place_behind-place-requires-clause-small c =
     let e = batch-ends (heap_of_named c.args.name.now c.args.world.now.desk) c.places.place c.places.count c.args.to.now c.places.to c.segments_from-items.ensures.heap c.places.invariant.walked
-        c.deref.result.now c.in-Some.last.now (c.deref.ensures.0 ∙ c.places.invariant.items_are) c.in-Some.ensures.value in
+    c.deref.result.now c.in-Some.last.now (c.deref.ensures.0 ∙ c.places.invariant.items_are) c.in-Some.ensures.value in
     omega (arith, e.within, c.segments_from-items.ensures.short)
 
 pub places-smaller : goal.places-smaller
-places-smaller c = 
+places-smaller c =
     let e = batch-ends (heap_of_named c.args.name.now c.args.world.now.desk) c.places.place c.places.count c.args.to.now c.places.to c.segments_from-items.ensures.heap c.places.invariant.walked
-        c.deref.result.now c.in-Some.last.now (c.deref.ensures.0 ∙ c.places.invariant.items_are) c.in-Some.ensures.value in
+    c.deref.result.now c.in-Some.last.now (c.deref.ensures.0 ∙ c.places.invariant.items_are) c.in-Some.ensures.value in
     omega (arith, e.low, e.within, c.place_behind-place.ensures)
 
 pub overflow_add-count : goal.overflow_add-count
-overflow_add-count c = 
+overflow_add-count c =
     let few = walked-few (heap_of_named c.args.name.now c.args.world.now.desk) c.places.place c.places.count c.args.to.now c.places.to c.segments_from-items.ensures.heap c.places.invariant.walked in
     omega (arith, few, c.segments_from-items.ensures.short, c.len-count.ensures)
 

@@ -1,4 +1,4 @@
-use Rattle.vf_desk.proofs.OpeningLaws.{IsNew, adds-first-done, adds-first-refused}
+use Rattle.vf_desk.proofs.OpeningLaws.{adds-first-done, adds-first-refused}
 use Rattle.vf_desk.proofs.opening.first_file.Goals as goal
 
 pub returns-then-status-ne-OK : goal.returns-then-status-ne-OK

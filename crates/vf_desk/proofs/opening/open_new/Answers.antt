@@ -1,4 +1,4 @@
-use Rattle.vf_desk.proofs.OpeningLaws.{IsNew, opens-first-done, opens-first-refused}
+use Rattle.vf_desk.proofs.OpeningLaws.{opens-first-done, opens-first-refused}
 use Rattle.vf_desk.proofs.opening.open_new.Goals as goal
 
 pub returns-then-status-ne-OK : goal.returns-then-status-ne-OK

@@ -1,6 +1,5 @@
 use Rattle.std.proofs.Common.{Some, None, ap, ◌∙◌}
-use Rattle.rh_defs.specs.declared.command.Command.TheVariants as command
-use Rattle.vf_desk.specs.Called.{called, desk_by, in_form}
+use Rattle.vf_desk.specs.Called.{desk_by}
 use Rattle.vf_desk.specs.Seen.{KeepsRest}
 use Rattle.vf_desk.proofs.SeenLaws.{held-by, held-desk, held-same, in-handle, none-by, none-desk, none-said, stays-rest}
 use Rattle.vf_desk.proofs.desk.VfDesk.step.Goals as goal

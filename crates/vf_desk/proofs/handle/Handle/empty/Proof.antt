@@ -8,7 +8,7 @@ use base.Logic.{SProp, ent, emp, id⊢}
 use contract.Monad.{fact, fact_i}
 use contract.Running.{tables}
 use prog.Wp.{WpFn}
-use types.Kit.{‵, raw, ◌⊛◌, ◌$◌, ◌∵◌, !, qed, by, move, keep, drop, use0, split, fsplit, fjoin, suffices}
+use types.Kit.{‵, raw, ◌⊛◌, ◌$◌, ◌∵◌, !, qed, by, move, keep, use0, split, fsplit, fjoin, suffices}
 use types.Part.{agg}
 use types.Run.{no_more, and_then, lit, returns, enter}
 use types.ByLocal.{alloc_all, pass_all, free_all, look_at, get, sets}

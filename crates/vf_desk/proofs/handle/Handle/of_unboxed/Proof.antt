@@ -1,5 +1,5 @@
 -- `of_unboxed` moves two fields, the address as one of another type; what they own stays.
-use mathlib.Core.Path.{refl, sym, subst, ap, ◌∙◌}
+use mathlib.Core.Path.{refl, sym, subst}
 use mathlib.Core.List.{List, [], ◌∷◌, ◌++◌}
 use mir.Val.{Val, vptr}
 use base.Fml.{ftrue, fsep}
@@ -7,7 +7,7 @@ use base.Logic.{SProp, ent, emp, id⊢}
 use contract.Monad.{fact, fact_i}
 use contract.Running.{tables}
 use prog.Wp.{WpFn}
-use types.Kit.{‵, raw, ◌⊛◌, ◌$◌, ◌∵◌, !, qed, by, move, keep, drop, use0, split, fsplit, fjoin, suffices}
+use types.Kit.{‵, raw, ◌⊛◌, ◌$◌, ◌∵◌, !, qed, by, move, keep, use0, split, fsplit, fjoin, suffices}
 use types.Part.{agg, sub, whole}
 use types.Run.{stop, fld, of_opd, no_more, and_then, returns, enter}
 use types.ByLocal.{alloc_all, pass_all, free_all, look_at, get, get_in, sets}
@@ -15,7 +15,7 @@ use denote.Exit.{yes}
 use denote.RawPtr.{block_ptr}
 use denote.Signature.{plain, Slot}
 use denote.Steps.{nothing}
-use denote.Triple.Walked.{Stays, stay_dropped, walk_of, Goes-dropped}
+use denote.Triple.Walked.{Stays, stay_dropped, walk_of}
 use Rattle.core.proofs.alloc.Calls.{Goes-blank}
 use Rattle.std.proofs.raw_atomic.Walks.{proved_at, leaves}
 use Rattle.std.specs.Prelude.{Some, ◌≡◌}
