@@ -57,16 +57,16 @@ IsAsked None = Unit {0}
 IsAsked (Some (command.Ask q)) = Unit {0}
 IsAsked (Some _) = ⊥
 
--- What a command, or none, comes to on a world, of each desk that it may be seen as. With any status but 0 all of the world
--- stays, and where it is a question.
+-- What a command, or none, comes to on a world, of each desk that it may be seen as. With any status but 0 all of the
+-- world stays, and where it is a question.
 pub record Steps (command : Option Command) (old new : Shown) (said : Called) : Type 0 where
   pub said_is : (d : Desk) → IsReordered d old.desk → said ≡ called (Some d) command
   pub desk : (d : Desk) → IsReordered d old.desk → IsReordered (desk_with command d) new.desk
   pub refused : status_of said ≢ 0 → new ≡ old
   pub asked : IsAsked command → new ≡ old
 
--- A call asks a question: its status is that of the answer on each desk that the handle may be seen as, and all that the
--- handle has stays.
+-- A call asks a question: its status is that of the answer on each desk that the handle may be seen as, and all that
+-- the handle has stays.
 pub record Asks (q : Question) (old new : VfDesk) (status : ℕ) : Type 0 where
   pub status_is : (s : Option Desk) → IsSeen old s → status ≡ status_of (called s (in_form (command.Ask q)))
   pub same : new.handle.station ≡ old.handle.station

@@ -33,8 +33,8 @@ pub record Takes (line : List ℕ) (old new : Option Station) (status : ℕ) : T
   pub files : files_in new ≡ files_in old
   pub refused : status ≢ 0 → new ≡ old
 
--- So many lent bytes have a text with zeros behind it, and its length is told. Where they have no room for it the status
--- says so, they have its first bytes, and the number that was told before stays.
+-- So many lent bytes have a text with zeros behind it, and its length is told. Where they have no room for it the
+-- status says so, they have its first bytes, and the number that was told before stays.
 pub record Fills (text : List ℕ) (room : ℕ) (bytes : List ℕ) (was now status : ℕ) : Type 0 where
   pub bytes_are : bytes ≡ padded room text
   pub length_is : now ≡ (if nat_le (length text) room then length text else was)

@@ -1,5 +1,5 @@
-//! The desk that a program in C holds. What it does stands in `steps`: a struct with a ghost field sees all that its file
-//! names, and the definitions of what is done name the struct.
+//! The desk that a program in C holds. What it does stands in `steps`: a struct with a ghost field sees all that its
+//! file names, and the definitions of what is done name the struct.
 ghost use Rattle.std.specs.Prelude.{◌≡◌, is_some};
 
 mod steps;

@@ -87,7 +87,8 @@ fn place_behind(item: &SegmentItem) -> u32
 
 /// Puts the segments of the task's C heap into a slice, and answers how many there are.
 pub fn list_segments(world: &PagedWorld, name: &Name, to: &mut [VfSegment]) -> usize
-    ensures list { to.new ≡ filled (map segment_of (segments_in (listed_with (heap_on world.now.desk name.now)))) to.old }
+    ensures list { to.new ≡
+        filled (map segment_of (segments_in (listed_with (heap_on world.now.desk name.now)))) to.old }
     ensures count { result ≡ length (segments_in (listed_with (heap_on world.now.desk name.now))) }
 {
     let mut place = HEAP_FIRST as u32;
@@ -122,8 +123,10 @@ pub fn list_records(
     outgoing: &mut [VfRecord],
     incoming: &mut [VfRecord],
 ) -> RecordCounts
-    ensures out { outgoing.new ≡ filled (map record_of (outgoing_in (listed_with (status_on world.now.desk name.now)))) outgoing.old }
-    ensures taken { incoming.new ≡ filled (map record_of (incoming_in (listed_with (status_on world.now.desk name.now)))) incoming.old }
+    ensures out { outgoing.new ≡
+        filled (map record_of (outgoing_in (listed_with (status_on world.now.desk name.now)))) outgoing.old }
+    ensures taken { incoming.new ≡
+        filled (map record_of (incoming_in (listed_with (status_on world.now.desk name.now)))) incoming.old }
     ensures outs { result.outgoing ≡ length (outgoing_in (listed_with (status_on world.now.desk name.now))) }
     ensures ins { result.incoming ≡ length (incoming_in (listed_with (status_on world.now.desk name.now))) }
 {

@@ -21,8 +21,8 @@ pub struct VfMessage {
     pub bytes: [u8; 256],
 }
 
-/// Tells the message that the task's next poll would take, as its block, and its reason code, 0 where there is none. The
-/// bytes behind the message stay. Nothing is taken. (Wimp_Poll.)
+/// Tells the message that the task's next poll would take, as its block, and its reason code, 0 where there is none.
+/// The bytes behind the message stay. Nothing is taken. (Wimp_Poll.)
 #[unsafe(no_mangle)]
 pub extern "C" fn vf_desk_next(
     alloc: Global,
