@@ -22,7 +22,11 @@ LOG = "clib.log"
 FILES = (f"lib{NAME}.a", f"{NAME}.h", f"{NAME}.pc")
 SOURCES = (header.HEADER, f"c/{NAME}.pc.in")
 # What the archive may ask of the program that it is linked into.
-IMPORTS = {"memcmp", "memcpy", "memmove", "memset"}
+IMPORTS = {"free", "malloc", "memcmp", "memcpy", "memmove", "memset", "realloc"}
+# The kit's object with the functions by which the desk takes memory and gives it back. It lies in the archive as a
+# member of its own, so that a program which defines them itself is linked without it.
+ALLOCATION = "heap.pic.o"
+MEMORY_CALLS = {"rattle_alloc", "rattle_realloc", "rattle_dealloc"}
 
 
 class Fault(Exception):
@@ -92,9 +96,10 @@ def archive(crates, made):
             for it in sorted(os.listdir(folder)):
                 objects.append(f"{work}/{crate.name}-{it}")
                 os.rename(f"{folder}/{it}", objects[-1])
+        subprocess.run(["ar", "x", f"{rtlib.KIT}/c/liblibc_c.a", ALLOCATION], cwd=work, check=True)
         if os.path.exists(made):
             os.remove(made)
-        subprocess.run(["ar", "rcsD", made, *objects], check=True)
+        subprocess.run(["ar", "rcsD", made, *objects, f"{work}/{ALLOCATION}"], check=True)
 
 
 def symbols(made, *flags):
@@ -107,15 +112,18 @@ def look_at_symbols(top):
     """Raises a fault where the archive gives or asks for anything but what it should."""
     made = f"{top}/{FOLDER}/lib{NAME}.a"
     given, wanted = symbols(made, "-g", "--defined-only"), set(header.exports(top))
+    if not MEMORY_CALLS <= given:
+        raise Fault(f"the archive lacks {sorted(MEMORY_CALLS - given)[0]}")
+    given -= MEMORY_CALLS
     if given != wanted:
         raise Fault(f"the archive gives {sorted(given ^ wanted)[0]}, or the sources do, but not both")
-    asked = symbols(made, "-u") - IMPORTS
+    asked = symbols(made, "-u") - IMPORTS - MEMORY_CALLS
     if asked:
         raise Fault(f"the archive asks for {sorted(asked)[0]}")
     alien = sorted(it for it in given if not it.startswith(PREFIX))
     if alien:
         raise Fault(f"the archive gives {alien[0]}, which doesn't begin with {PREFIX}")
-    return f"{len(given)} names are given, and {', '.join(sorted(symbols(made, '-u')))} asked for"
+    return f"{len(given)} names are given, and {', '.join(sorted(symbols(made, '-u') - MEMORY_CALLS))} asked for"
 
 
 def version(top):

@@ -113,6 +113,13 @@ def try_examples(suite):
                 suite.is_true(f"{name} prints what stands beside it", suite.ran(name, [made]) == it.read())
 
 
+def try_rows(suite):
+    """The worked rows are answered as they must be, by the example that runs a script."""
+    made = f"{suite.work}/run_desk"
+    if suite.compiled("the example run_desk", ["c/examples/run_desk.c"], [*C11, "-O2"], made):
+        suite.ran("the worked rows by run_desk", ["tools/test-rows", made, "--scripts"])
+
+
 def shim(suite, made, flags=()):
     """Compiles the example that is a malloc; gives whether that went well."""
     sources = ["c/examples/malloc_shim.c", "c/plain/os_heap.c"]
@@ -134,7 +141,7 @@ def run_all(suite):
     tests = sorted(glob.glob("c/tests/*.c", root_dir=suite.top))
     with concurrent.futures.ThreadPoolExecutor(os.cpu_count()) as pool:
         calls = [pool.submit(try_test, suite, path, way) for path in tests for way in WAYS]
-        calls += [pool.submit(it, suite) for it in (try_calls, try_header, try_examples, try_shim)]
+        calls += [pool.submit(it, suite) for it in (try_calls, try_header, try_examples, try_rows, try_shim)]
     for it in calls:
         it.result()
     return len(tests)

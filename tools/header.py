@@ -9,15 +9,21 @@ SOURCES = ["crates/vf_*/src/*.rt", "crates/rh_flex/src/slot.rt"]
 SUFFIX = "_unless_null"
 NULL = "VF_NULL"
 TYPES = {"u8": "uint8_t", "u16": "uint16_t", "u32": "uint32_t", "u64": "uint64_t", "i32": "int32_t", "i64": "int64_t",
-         "usize": "size_t", "isize": "ptrdiff_t", "bool": "bool", "LentSlot": "struct vf_slot"}
+         "usize": "size_t", "isize": "ptrdiff_t", "bool": "bool", "LentSlot": "struct vf_slot",
+         "VfDesk": "struct vf_desk", "VfEvent": "struct vf_event", "VfBlock": "struct vf_block",
+         "VfSegment": "struct vf_segment", "VfHeapSums": "struct vf_heap_sums", "VfRecord": "struct vf_record",
+         "VfArea": "struct vf_area", "VfMessage": "struct vf_message"}
+# What takes no bytes, so that C neither hands it over nor has room for it.
+UNSEEN = "Global"
 # The slice that `len` counts; the length of any other has its name.
 MEMORY = "memory"
 EXPORT = re.compile(
     r'((?:^///[^\n]*\n)+)#\[unsafe\(no_mangle\)\]\npub extern "C" fn (\w+)\(([^)]*)\) -> (\w+)', re.MULTILINE
 )
 STATUS = re.compile(r"^pub const (\w+): u32 = (\d+);", re.MULTILINE)
-CALL_OF_SYSTEM = re.compile(r"OS_Heap \d|\bflex_[a-z_]+")
+CALL_OF_SYSTEM = re.compile(r"OS_[A-Z]\w+(?: \d+)?|\bflex_[a-z_]+|\b(?:Wimp|Message)_\w+")
 STRUCT = re.compile(r"^#\[repr\(C\)\]\n(?:#[^\n]*\n)*pub struct (\w+) \{([^}]*)\}", re.MULTILINE)
+FIELD = re.compile(r"^ +(?:pub )?(\w+): ([^{\n]+),$", re.MULTILINE)
 STRUCT_IN_C = re.compile(r"^(struct \w+) \{([^}]*)\};", re.MULTILINE)
 COMMENT = re.compile(r"/\*.*?\*/", re.DOTALL)
 PROTOTYPE = re.compile(r"^(\w+) (vf_\w+)\(([^)]*)\);", re.MULTILINE)
@@ -36,6 +42,8 @@ class Unknown(Exception):
 
 def in_c(name, declared):
     """The parameters of C for one of the source's: a slice is a pointer and a length."""
+    if declared == UNSEEN:
+        return []
     found = re.fullmatch(r"&(mut )?(\[?)(\w+)\]?", declared)
     word = found[3] if found else declared
     if word not in TYPES:
@@ -84,13 +92,27 @@ def faults_of_prototypes(header, exported):
             yield f"{name}: the sources say that it is {calls[0]}, and the header doesn't"
 
 
+def fields_in_c(fields, structs):
+    """The fields of C for a struct's: those of a struct of the source's own stand in its place."""
+    for name, declared in FIELD.findall(fields):
+        array = re.fullmatch(r"\[(\w+); (\d+)\]", declared)
+        if declared in structs and declared not in TYPES:
+            yield from fields_in_c(structs[declared], structs)
+        elif declared.startswith("*mut "):
+            yield f"void *{name}"
+        elif array:
+            yield f"{TYPES[array[1]]} {name}[{array[2]}]"
+        else:
+            yield from in_c(name, declared)
+
+
 def faults_of_structs(header, texts):
     """Which structs that a call takes have other fields in the header."""
-    there = {TYPES.get(name): [" ".join(in_c(*it.split(": "))) for it in re.findall(r"pub (\w+: \w+),", fields)]
-             for text in texts.values() for name, fields in STRUCT.findall(text)}
+    structs = {name: fields for text in texts.values() for name, fields in STRUCT.findall(text)}
+    there = {TYPES[name]: list(fields_in_c(fields, structs)) for name, fields in structs.items() if name in TYPES}
     here = {name: [" ".join(it.split()) for it in fields.split(";") if it.strip()]
             for name, fields in STRUCT_IN_C.findall(COMMENT.sub("", header))}
-    for name in sorted(there.keys() | here.keys(), key=str):
+    for name in sorted(there.keys() | here.keys()):
         if there.get(name) != here.get(name):
             yield f"{name}: the sources have {there.get(name)} and the header has {here.get(name)}"
 
@@ -202,6 +224,15 @@ SLIPS = [
     ("VF_SPARE_PAGE = 42", "VF_SPARE_PAGE = 41"),
     ("uint32_t vf_flex_check(const uint8_t *memory,", "uint32_t vf_flex_check(uint8_t *memory,"),
     ("uint32_t vf_flex_checked_release(uint8_t *memory, size_t len, struct vf_slot *slot, size_t place);", ""),
+    ("    void *at;", "    void *place;"),
+    ("    bool live;", "    uint32_t live;"),
+    ("    uint8_t name[13];", "    uint8_t name[12];"),
+    ("uint32_t vf_desk_close(struct vf_desk *desk);", "void vf_desk_close(struct vf_desk *desk);"),
+    ("OS_Module 13: gives", "OS_Module 12: gives"),
+    ("Wimp_Poll: takes", "Wimp_PollIdle: takes"),
+    ("VF_DID_SAVE = 10", "VF_DID_SAVE = 11"),
+    ("desk && name && event,", "desk && event,"),
+    ("#define vf_desk_poll vf_desk_poll_unless_null\n", ""),
 ]
 
 

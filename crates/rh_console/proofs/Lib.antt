@@ -1,0 +1,4 @@
+mod FreshLaws
+mod TextLaws
+mod PrintLaws
+mod SaidLaws

@@ -1,0 +1,106 @@
+//! A desk that takes lines.
+ghost use Rattle.std.specs.Prelude.{◌≡◌, ◌≤◌, [], true, Some, Ok, length, IfOk, OnErr};
+ghost use Rattle.rh_defs.specs.Desk.{Desk};
+ghost use Rattle.rh_defs.specs.Order.{IsReordered};
+ghost use Rattle.rh_defs.specs.Runs.{start_with};
+ghost use Rattle.rh_defs.specs.Range.{in_range};
+ghost use Rattle.rh_defs.specs.Script.{line_desk, line_text, meaning_desk, meaning_text};
+ghost use Rattle.rh_defs.specs.declared.sizes.TheConstants.{MAX_PAGES, MIN_PAGES};
+ghost use Rattle.rh_console.specs.declared.said.Said.TheVariants as Said;
+ghost use Rattle.rh_console.specs.Said.{said_text};
+ghost use Rattle.rh_console.specs.Console.{Prints};
+
+use crate::lent_text::LentText;
+use crate::said::Said;
+use rh_defs::{Command, Files, Handle, Ref};
+use rh_lines::parse_line;
+use rh_pages::PagedStore;
+use rh_tasks::World;
+use std::alloc::{AllocError, Global};
+
+/// A world over scattered pages.
+pub type PagedWorld = World<PagedStore>;
+
+/// A world, and what the last line was answered.
+#[derive(Drop)]
+pub struct Console {
+    pub world: PagedWorld,
+    pub said: Said,
+}
+
+impl Console {
+    /// The first desk of 8 to 1,024 pages with these files, which it takes; its next handle and ref, each from 1 on.
+    /// AllocError where memory is refused, and then the files stay where they are. No other call takes memory.
+    pub fn new(
+        alloc: Global,
+        files: &mut Files,
+        pages: u32,
+        handle: Handle,
+        r: Ref,
+    ) -> Result<Console, AllocError>
+        requires least { MIN_PAGES ≤ pages }
+        requires most { pages ≤ MAX_PAGES }
+        requires handle { 1 ≤ handle }
+        requires message { 1 ≤ r }
+        ensures desk { IfOk result (λ console. console.world.desk ≡ start_with pages files.old handle r) }
+        ensures said { IfOk result (λ console. console.said ≡ Said.Nothing) }
+        ensures taken { IfOk result (λ console. files.new ≡ []) }
+        ensures err { OnErr result (files.new ≡ files.old) }
+    {
+        let store = PagedStore::new(alloc, pages as usize)?;
+        let world = World::with_files_of(alloc, store, files, handle, r)?;
+        Ok(Console {
+            world,
+            said: Said::Nothing,
+        })
+    }
+
+    /// Takes a line without its line feed, and keeps what it is answered.
+    pub fn take_line(&mut self, line: &[u8])
+        ensures desk { (d : Desk) → IsReordered d self.old.world.desk →
+            IsReordered (line_desk d line.now) self.new.world.desk }
+        ensures said { (d : Desk) → IsReordered d self.old.world.desk →
+            said_text (line_desk d line.now) self.new.said ≡ line_text d line.now }
+    {
+        self.said = match parse_line(line) {
+            Ok(None) => Said::Nothing,
+            Ok(Some(command)) => self.carry_out(command),
+            Err(fault) => Said::Fault(fault),
+        };
+    }
+
+    /// Does a command, and answers what is kept of its reply. A question changes nothing, and is kept as it is.
+    fn carry_out(&mut self, command: Command) -> Said
+        requires { in_range command ≡ true }
+        ensures desk { (d : Desk) → IsReordered d self.old.world.desk →
+            IsReordered (meaning_desk d (Ok (Some command))) self.new.world.desk }
+        ensures text { (d : Desk) → IsReordered d self.old.world.desk →
+            said_text (meaning_desk d (Ok (Some command))) result ≡ meaning_text d (Ok (Some command)) }
+    {
+        match command {
+            Command::Ask(question) => Said::Told(question),
+            _ => Said::Reply(self.world.apply(&command)),
+        }
+    }
+
+    /// Puts the text of what the last line was answered into lent bytes, over the desk as it is now, with zeros behind
+    /// it, and answers how many bytes it has. None where the text is longer, and then they have its first ones.
+    pub fn print(&self, to: &mut [u8]) -> Option<usize>
+        ensures { (d : Desk) → IsReordered d self.now.world.desk →
+            Prints (said_text d self.now.said) (length to.old) to.new result }
+    {
+        to.fill(0);
+        let room = to.len();
+        let mut text = LentText {
+            bytes: to,
+            taken: 0,
+            beyond: 0,
+            failed: false,
+        };
+        let _done = self.said.print(&self.world, &mut text);
+        if text.taken > room {
+            return None;
+        }
+        Some(text.taken)
+    }
+}

@@ -1,0 +1,62 @@
+-- A call that asks a question, from what its step says and what is listed of the station.
+use Rattle.std.proofs.Common.{◌≡◌, ℕ, refl, sym, ap, subst, ◌∙◌}
+use Rattle.std.specs.Prelude.{Option, Some, None}
+use Rattle.rh_defs.specs.declared.command.Command.TheVariants as command
+use Rattle.rh_defs.specs.declared.command.Command.{Command}
+use Rattle.rh_defs.specs.declared.question.Question.{Question}
+use Rattle.rh_defs.specs.Desk.{Desk}
+use Rattle.rh_defs.specs.Listing.{Nothing}
+use Rattle.vf_desk.specs.declared.called.Called.{Called}
+use Rattle.vf_desk.specs.declared.called.Called.TheVariants.{Closed}
+use Rattle.vf_desk.specs.declared.desk.VfDesk.{VfDesk}
+use Rattle.vf_desk.specs.declared.station.Station.{Station}
+use Rattle.vf_desk.specs.Called.{Asks, IsAsked, called, done_or, in_form, status_of}
+use Rattle.vf_desk.specs.Items.{listed}
+use Rattle.vf_desk.specs.Seen.{IsSeen, SeenBy}
+use Rattle.vf_desk.proofs.CallLaws.{asks, question-asked, told_by}
+use Rattle.vf_desk.proofs.ListLaws.{listed-closed}
+use Rattle.vf_desk.proofs.SeenLaws.{closed-said, empty-seen, in-handle}
+
+module _ (q : Question) (old after : VfDesk) {form : Option Command} {said : Called} (same : form ≡ in_form (command.Ask q))
+    (says : (s : Option Desk) → IsSeen old s → said ≡ called s form) (stays : IsAsked form → after.handle.station ≡ old.handle.station) where
+  -- the step has changed nothing
+  kept : after.handle.station ≡ old.handle.station
+  kept = stays (subst IsAsked (sym same) (question-asked q))
+
+  -- what is told of the reply
+  pub ask-told : {A : Type 0} (tell : Called → A) {now : A} → now ≡ tell said → (s : Option Desk) → IsSeen old s → now ≡ tell (called s (in_form (command.Ask q)))
+  ask-told tell told s seen = told_by old same says tell told s seen
+
+  -- how many there are is told
+  pub ask-counted : (was : ℕ) {n now : ℕ} (count : Option Desk → ℕ) → now ≡ done_or said n was → ((s : Option Desk) → IsSeen old s → n ≡ count s)
+      → (s : Option Desk) → IsSeen old s → now ≡ done_or (called s (in_form (command.Ask q))) (count s) was
+  ask-counted was {n} count told counted s seen =
+      told_by old same says (λ c. done_or c n was) told s seen ∙ ap (λ k. done_or (called s (in_form (command.Ask q))) k was) (counted s seen)
+
+  -- where the handle had nothing
+  module _ (taken : None ≡ after.handle.station) where
+    pub shut-asks : {new : VfDesk} → new.handle.station ≡ None → {status : ℕ} → status ≡ status_of said → Asks q old new status
+    shut-asks left told = asks same says (λ _. left ∙ taken ∙ kept) told
+
+    shut-seen : (s : Option Desk) → IsSeen old s → SeenBy None s
+    shut-seen s seen = empty-seen (sym kept ∙ sym taken) s seen
+
+    pub shut-list : (s : Option Desk) → IsSeen old s → listed s q ≡ Nothing
+    shut-list s seen = listed-closed refl s q (shut-seen s seen)
+
+    -- what was told before stays
+    pub shut-told : {A : Type 0} (tell : Called → A) (s : Option Desk) → IsSeen old s → tell Closed ≡ tell (called s (in_form (command.Ask q)))
+    shut-told tell s seen = ap tell (closed-said s (in_form (command.Ask q)) (shut-seen s seen))
+
+    pub shut-counted : (was n : ℕ) (s : Option Desk) → IsSeen old s → was ≡ done_or (called s (in_form (command.Ask q))) n was
+    shut-counted was n s seen = shut-told (λ c. done_or c n was) s seen
+
+  -- where it had a station
+  pub open-asks : {station : Station} → Some station ≡ after.handle.station → {new : VfDesk} → new.handle.station ≡ Some station
+      → {status : ℕ} → status ≡ status_of said → Asks q old new status
+  open-asks taken put told = asks same says (λ _. put ∙ taken ∙ kept) told
+
+  -- what is listed of a station is listed of the handle
+  pub open-list : {station : Station} → Some station ≡ after.handle.station → {P : Option Desk → Type 0} → ((s : Option Desk) → SeenBy station.console s → P s)
+      → (s : Option Desk) → IsSeen old s → P s
+  open-list taken holds s seen = in-handle (taken ∙ kept) holds s seen

@@ -1,0 +1,45 @@
+-- A call with a command, from what the step under it says.
+use Rattle.std.proofs.Common.{◌≡◌, ℕ, Bool, true, false, sym, ap, subst, ◌∙◌}
+use Rattle.std.specs.Prelude.{◌≢◌, if◌then◌else◌, Option, Some, None}
+use Rattle.rh_defs.specs.declared.command.Command.{Command}
+use Rattle.rh_defs.specs.declared.command.Command.TheVariants as command
+use Rattle.rh_defs.specs.declared.question.Question.{Question}
+use Rattle.rh_defs.specs.Desk.{Desk}
+use Rattle.rh_defs.specs.Range.{in_range}
+use Rattle.vf_desk.specs.declared.called.Called.{Called}
+use Rattle.vf_desk.specs.declared.desk.VfDesk.{VfDesk}
+use Rattle.vf_desk.specs.Called.{Asks, Does, IsAsked, called, desk_by, in_form, status_of}
+use Rattle.vf_desk.specs.Seen.{IsSeen, KeepsRest}
+
+module _ {command form : Option Command} (old : VfDesk) {said : Called} (same : form ≡ command)
+    (says : (s : Option Desk) → IsSeen old s → said ≡ called s form) where
+  -- what is told of what was said
+  pub told_by : {A : Type 0} (tell : Called → A) {now : A} → now ≡ tell said
+      → (s : Option Desk) → IsSeen old s → now ≡ tell (called s command)
+  told_by tell told s seen = told ∙ ap tell (says s seen ∙ ap (called s) same)
+
+  pub does : {new : VfDesk} → ((s : Option Desk) → IsSeen old s → IsSeen new (desk_by s form))
+      → KeepsRest old.handle.station new.handle.station → (status_of said ≢ 0 → new.handle.station ≡ old.handle.station)
+      → {status : ℕ} → status ≡ status_of said → Does command old new status
+  does {new} desk rest refused {status} told = record {
+    status_is = told_by status_of told;
+    desk = λ s seen. subst (λ f. IsSeen new (desk_by s f)) same (desk s seen);
+    rest = rest;
+    refused = λ bad. refused (λ zero. bad (told ∙ zero));
+  }
+
+-- a question that has its form is one, and else there is no command
+pub question-asked : (q : Question) → IsAsked (in_form (command.Ask q))
+question-asked q = go (in_range (command.Ask q))
+  where
+    go : (b : Bool) → IsAsked (if b then Some (command.Ask q) else None)
+    go true = tt
+    go false = tt
+
+pub asks : {q : Question} {form : Option Command} {old new : VfDesk} {said : Called} {status : ℕ}
+    → form ≡ in_form (command.Ask q) → ((s : Option Desk) → IsSeen old s → said ≡ called s form)
+    → (IsAsked form → new.handle.station ≡ old.handle.station) → status ≡ status_of said → Asks q old new status
+asks {q} {old = old} same says stays told = record {
+  status_is = told_by old same says status_of told;
+  same = stays (subst IsAsked (sym same) (question-asked q));
+}

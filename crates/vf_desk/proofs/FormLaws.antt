@@ -1,0 +1,87 @@
+-- Commands of arguments that may not be of their forms.
+use Rattle.std.proofs.Common.{◌≡◌, ℕ, Bool, true, false, List, refl, sym, ap, ◌∙◌}
+use Rattle.std.specs.Prelude.{◌&&◌, nat_le, if◌then◌else◌, length, OnOk, Some, None, Result, Ok, Err}
+use Rattle.std.specs.Result.{is_err}
+use Rattle.rh_defs.specs.declared.command.Command.{Command}
+use Rattle.rh_defs.specs.declared.command.Command.TheVariants as command
+use Rattle.rh_defs.specs.Forms.{is_anchor, is_name, is_number}
+use Rattle.rh_defs.specs.Range.{in_range}
+use Rattle.vf_desk.specs.Called.{in_form}
+use Rattle.vf_desk.specs.Forms.{anchor_in, name_in}
+
+-- what isn't in range is no command
+pub out-of-form : (c : Command) → in_range c ≡ false → None ≡ in_form c
+out-of-form c bad = ap (λ (b : Bool). if b then Some c else None) (sym bad)
+
+-- what is in range is one
+pub in-its-form : (c : Command) → in_range c ≡ true → Some c ≡ in_form c
+in-its-form c good = ap (λ (b : Bool). if b then Some c else None) (sym good)
+
+-- bytes that are no name
+pub no-name : (bytes : List ℕ) → None ≡ name_in bytes → is_name bytes ≡ false
+no-name bytes none = go (is_name bytes) none
+  where
+    go : (b : Bool) → None ≡ (if b then Some bytes else None) → b ≡ false
+    go false none = refl
+    go true none = absurd (let bad : None ≡ Some bytes = none in cc)
+
+-- bytes that are a name
+pub a-name : (bytes name : List ℕ) → Some name ≡ name_in bytes → (name ≡ bytes) × (is_name bytes ≡ true)
+a-name bytes name some = go (is_name bytes) refl some
+  where
+    go : (b : Bool) → is_name bytes ≡ b → Some name ≡ (if b then Some bytes else None) → (name ≡ bytes) × (is_name bytes ≡ true)
+    go false test some = absurd (let bad : Some name ≡ None = some in cc)
+    go true test some = (cc, test)
+
+-- a number that is no anchor
+pub no-anchor : (k : ℕ) → None ≡ anchor_in k → is_anchor k ≡ false
+no-anchor k none = go (is_anchor k) none
+  where
+    go : (b : Bool) → None ≡ (if b then Some k else None) → b ≡ false
+    go false none = refl
+    go true none = absurd (let bad : None ≡ Some k = none in cc)
+
+-- a number that is one
+pub an-anchor : (k anchor : ℕ) → Some anchor ≡ anchor_in k → (anchor ≡ k) × (is_anchor k ≡ true)
+an-anchor k anchor some = go (is_anchor k) refl some
+  where
+    go : (b : Bool) → is_anchor k ≡ b → Some anchor ≡ (if b then Some k else None) → (anchor ≡ k) × (is_anchor k ≡ true)
+    go false test some = absurd (let bad : Some anchor ≡ None = some in cc)
+    go true test some = (cc, test)
+
+-- what holds where a call was done, of one that was
+pub was-ok : {A E P : Type 0} (r : Result A E) → is_err r ≡ false → OnOk r P → P
+was-ok (Ok x) done holds = holds
+was-ok (Err e) done holds = absurd (cc)
+
+-- tests of two parts
+pub both-are : {a b c : Bool} → a ≡ true → b ≡ c → (a && b) ≡ c
+both-are {a} {b} first second = ap (λ x. x && b) first ∙ second
+
+pub first-fails : {a : Bool} (b : Bool) → a ≡ false → (a && b) ≡ false
+first-fails {a} b first = ap (λ x. x && b) first
+
+-- ---- whether bytes can be put, by what holds of the arguments
+
+module _ (name bytes : List ℕ) (anchor offset : ℕ) where
+  pub put-name : is_name name ≡ false → in_range (command.Put name anchor offset bytes) ≡ false
+  unfolding in_range
+  put-name a = rw a refl
+
+  pub put-anchor : is_name name ≡ true → is_anchor anchor ≡ false → in_range (command.Put name anchor offset bytes) ≡ false
+  unfolding in_range
+  put-anchor a b = rw (a, b) refl
+
+  pub put-number : is_name name ≡ true → is_anchor anchor ≡ true → is_number offset ≡ false → in_range (command.Put name anchor offset bytes) ≡ false
+  unfolding in_range
+  put-number a b c = rw (a, b, c) refl
+
+  pub put-bytes : is_name name ≡ true → is_anchor anchor ≡ true → is_number offset ≡ true → nat_le 1 (length bytes) ≡ false
+      → in_range (command.Put name anchor offset bytes) ≡ false
+  unfolding in_range
+  put-bytes a b c d = rw (a, b, c, d) refl
+
+  pub put-good : is_name name ≡ true → is_anchor anchor ≡ true → is_number offset ≡ true → nat_le 1 (length bytes) ≡ true
+      → in_range (command.Put name anchor offset bytes) ≡ true
+  unfolding in_range
+  put-good a b c d = rw (a, b, c, d) refl

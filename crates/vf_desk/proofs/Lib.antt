@@ -1,0 +1,11 @@
+pub mod Pairs
+pub mod SeenLaws
+pub mod CallLaws
+pub mod FormLaws
+pub mod FillLaws
+pub mod ListLaws
+pub mod SegmentLaws
+pub mod OpeningLaws
+pub mod LineLaws
+pub mod AskLaws
+pub mod NextLaws

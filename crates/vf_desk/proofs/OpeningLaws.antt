@@ -1,0 +1,96 @@
+-- How a desk begins: calls that are refused, want of memory, and calls that are done.
+use Rattle.std.proofs.Common.{◌≡◌, ℕ, List, [], ◌∷◌, ◌++◌, length, Option, Some, None, inl, inr, refl, sym, ap, subst, ◌∙◌}
+use Rattle.std.specs.Prelude.{◌≢◌, ◌⊎◌, ◌==◌, ◌||◌, nat_lt, not, is_some, if◌then◌else◌}
+use Rattle.rh_console.specs.declared.console.Console.{Console}
+use Rattle.vf_desk.specs.declared.station.Station.{Station}
+use Rattle.vf_desk.specs.Opening.{Adds, IsFresh, Opens, Tries, file_status, opening_status}
+use Rattle.vf_desk.specs.Seen.{console_in, files_in}
+use Rattle.vf_desk.specs.Status.{already_open, bad_argument, bad_length, file_exists, no_memory}
+use Rattle.vf_desk.specs.declared.opening.TheConstants.{LONGEST_FILE}
+use Rattle.rh_defs.specs.declared.sizes.TheConstants.{MAX_PAGES, MIN_PAGES}
+use Rattle.rh_defs.specs.Files.{FileList, has_file}
+use Rattle.rh_defs.specs.Forms.{is_name}
+
+-- ---- a station that is new
+
+-- a handle that has nothing, and a station that has nothing
+pub record IsNew (held : Option Station) (fresh : Station) : Type 0 where
+  pub files : fresh.files ≡ []
+  pub console : fresh.console ≡ None
+  pub empty : held ≡ None
+
+-- what was put into the handle: the station, or nothing for want of memory
+abbrev pub Puts : Option Station → Station → ℕ → Type 0
+Puts now station result = ((result ≡ 0) × (now ≡ Some station)) ⊎ ((result ≡ no_memory) × (now ≡ None))
+
+-- what could be tried could
+tried-zero : {tried status : ℕ} → Tries tried status → status ≡ 0 → tried ≡ 0
+tried-zero (inl is) zero = sym is ∙ zero
+tried-zero (inr both) zero = both.0
+
+no_memory-some : no_memory ≢ 0
+no_memory-some e = cc
+
+-- what a call on the new station came to, of one on the handle
+module _ {held : Option Station} {fresh : Station} (is : IsNew held fresh) where
+  same-console : console_in (Some fresh) ≡ console_in held
+  same-console = is.console ∙ sym (ap console_in is.empty)
+
+  same-files : files_in (Some fresh) ≡ files_in held
+  same-files = is.files ∙ sym (ap files_in is.empty)
+
+  module _ {name bytes : List ℕ} {new : Station} {status : ℕ} (adds : Adds name bytes (Some fresh) (Some new) status) where
+    file-tried : Tries (file_status held name bytes) status
+    file-tried =
+        let of : Option Console → FileList → ℕ = λ c files.
+        (if is_some c then already_open else if not (is_name name) then bad_argument
+        else if nat_lt LONGEST_FILE (length bytes) then bad_length else if has_file name files then file_exists else 0) in
+        let same : file_status (Some fresh) name bytes ≡ file_status held name bytes =
+        ap (λ c. of c (files_in (Some fresh))) same-console ∙ ap (of (console_in held)) same-files in
+        subst (λ n. Tries n status) same adds.tried
+
+    pub adds-first-refused : status ≢ 0 → Adds name bytes held held status
+    adds-first-refused bad =
+        record { tried = file-tried; files = λ zero. absurd (bad zero); closed = λ zero. absurd (bad zero); refused = λ _. refl }
+
+    pub adds-first-done : {now : Option Station} {result : ℕ} → status ≡ 0 → Puts now new result → Adds name bytes held now result
+    adds-first-done {now} {result} zero (inl (done, put)) = record {
+      tried = inl (done ∙ sym (tried-zero file-tried zero));
+      files = λ _. ap files_in put ∙ adds.files zero ∙ ap (λ l. l ++ (name, bytes) ∷ []) same-files;
+      closed = λ _. ap console_in put ∙ adds.closed zero;
+      refused = λ bad. absurd (bad done);
+    }
+    adds-first-done {now} {result} zero (inr (full, left)) = record {
+      tried = inr (tried-zero file-tried zero, full);
+      files = λ done. absurd (no_memory-some (sym full ∙ done));
+      closed = λ done. absurd (no_memory-some (sym full ∙ done));
+      refused = λ _. left ∙ sym is.empty;
+    }
+
+  module _ {pages handle ref : ℕ} {new : Station} {status : ℕ} (opens : Opens pages handle ref (Some fresh) (Some new) status) where
+    open-tried : Tries (opening_status held pages handle ref) status
+    open-tried =
+        let of : Option Console → ℕ = λ c.
+        (if is_some c then already_open
+        else if nat_lt pages MIN_PAGES || nat_lt MAX_PAGES pages || handle == 0 || ref == 0 then bad_argument else 0) in
+        subst (λ n. Tries n status) (ap of same-console) opens.tried
+
+    pub opens-first-refused : status ≢ 0 → Opens pages handle ref held held status
+    opens-first-refused bad =
+        record { tried = open-tried; console = λ zero. absurd (bad zero); files = λ zero. absurd (bad zero); refused = λ _. refl }
+
+    pub opens-first-done : {now : Option Station} {result : ℕ} → status ≡ 0 → Puts now new result → Opens pages handle ref held now result
+    opens-first-done {now} {result} zero (inl (done, put)) =
+        let opened = opens.console zero in
+        record {
+          tried = inl (done ∙ sym (tried-zero open-tried zero));
+          console = λ _. (opened.0, (ap console_in put ∙ opened.1.0, subst (λ l. IsFresh pages l handle ref opened.0) same-files opened.1.1));
+          files = λ _. ap files_in put ∙ opens.files zero;
+          refused = λ bad. absurd (bad done);
+        }
+    opens-first-done {now} {result} zero (inr (full, left)) = record {
+      tried = inr (tried-zero open-tried zero, full);
+      console = λ done. absurd (no_memory-some (sym full ∙ done));
+      files = λ done. absurd (no_memory-some (sym full ∙ done));
+      refused = λ _. left ∙ sym is.empty;
+    }

@@ -1,0 +1,161 @@
+-- What follows for each desk that a handle may be seen as.
+use Rattle.std.proofs.Common.{◌≡◌, refl, sym, ap, subst, ◌∙◌}
+use Rattle.std.specs.Prelude.{◌≢◌, true, false, Option, Some, None}
+use Rattle.rh_defs.specs.declared.command.Command.{Command}
+use Rattle.rh_defs.specs.declared.command.Command.TheVariants as command
+use Rattle.rh_defs.specs.declared.reply.Reply.{Reply}
+use Rattle.rh_defs.specs.declared.reply.Reply.TheVariants as reply
+use Rattle.rh_defs.specs.Desk.{Desk}
+use Rattle.rh_console.specs.declared.console.Console.{Console}
+use Rattle.rh_defs.specs.Range.{in_range}
+use Rattle.rh_tasks.specs.Answer.{Does, StaysIfAsked, StaysIfRefused, StepsTo}
+use Rattle.rh_tasks.specs.Shown.{Shown}
+use Rattle.vf_desk.specs.declared.called.Called.{Called}
+use Rattle.vf_desk.specs.declared.called.Called.TheVariants.{Closed, BadArgument, Said}
+use Rattle.vf_desk.specs.declared.station.Station.{Station}
+use Rattle.vf_desk.specs.Called.{IsAsked, Steps, called, desk_by, in_form, status_of}
+use Rattle.vf_desk.proofs.FormLaws.{in-its-form, out-of-form}
+use Rattle.vf_desk.specs.Seen.{KeepsRest, SeenBy, console_in, said_in}
+
+-- ---- a closed desk
+
+pub closed-said : (s : Option Desk) (command : Option Command) → SeenBy None s → Closed ≡ called s command
+closed-said None command seen = refl
+closed-said (Some d) command seen = absurd seen
+
+pub closed-desk : (s : Option Desk) (command : Option Command) → SeenBy None s → SeenBy None (desk_by s command)
+closed-desk None command seen = tt
+closed-desk (Some d) command seen = absurd seen
+
+-- ---- a command that the world has done
+
+-- a reply whose status isn't 0 is a refusal
+pub refused-stays : (old new : Shown) (r : Reply) → StaysIfRefused old new r → status_of (Said r) ≢ 0 → new ≡ old
+refused-stays old new (reply.Refused refusal) stays bad = stays refusal refl
+refused-stays old new _ stays bad = absurd (bad refl)
+
+pub asked-stays : (old new : Shown) (c : Command) → StaysIfAsked c old new → IsAsked (Some c) → new ≡ old
+asked-stays old new (command.Ask q) stays asked = stays q refl
+asked-stays old new _ stays asked = absurd asked
+
+-- ---- what a handle has
+
+-- what is said of the station in a handle is said of the handle
+pub in-handle : {held : Option Station} {station : Station} {P : Option Desk → Type 0} → Some station ≡ held
+    → ((s : Option Desk) → SeenBy station.console s → P s) → (s : Option Desk) → SeenBy (console_in held) s → P s
+in-handle is holds s seen = holds s (subst (λ h. SeenBy (console_in h) s) (sym is) seen)
+
+-- an empty handle is seen as a closed desk
+pub empty-seen : {held : Option Station} → held ≡ None → (s : Option Desk) → SeenBy (console_in held) s → SeenBy None s
+empty-seen is s seen = subst (λ h. SeenBy (console_in h) s) is seen
+
+-- ---- what is done on a world
+
+pub steps-none : (world : Shown) → Steps None world world BadArgument
+steps-none world = record { said_is = λ d seen. refl; desk = λ d seen. seen; refused = λ _. refl; asked = λ _. refl }
+
+pub steps-done : (c : Command) {old new : Shown} {r : Reply} → StepsTo c old.desk new.desk r → StaysIfRefused old new r → StaysIfAsked c old new
+    → Steps (Some c) old new (Said r)
+steps-done c {old} {new} {r} steps refused asked = record {
+  said_is = λ d seen. ap Said (sym (steps d seen).0);
+  desk = λ d seen. (steps d seen).1;
+  refused = refused-stays old new r refused;
+  asked = asked-stays old new c asked;
+}
+
+pub steps-bad : (c : Command) (world : Shown) → in_range c ≡ false → Steps (in_form c) world world BadArgument
+steps-bad c world bad = subst (λ f. Steps f world world BadArgument) (out-of-form c bad) (steps-none world)
+
+pub steps-good : (c : Command) {old new : Shown} {r : Reply} → in_range c ≡ true → Does c old new r → Steps (in_form c) old new (Said r)
+steps-good c {old} {new} {r} good does =
+    subst (λ f. Steps f old new (Said r)) (in-its-form c good) (steps-done c does.steps does.refused does.asked)
+
+-- ---- a station that has been left as it was
+
+pub stays-rest : (held : Option Station) → KeepsRest held held
+stays-rest held = record { files = refl; said = refl }
+
+-- ---- a station whose desk was taken out, changed, and put back
+
+module _ (station : Station) {old : Console} (is : Some old ≡ station.console) {command : Option Command} {world : Shown} {said : Called}
+    (steps : Steps command old.world world said) where
+  abbrev pub console_now : Console
+  console_now = record { world = world; said = old.said }
+
+  abbrev pub station_now : Station
+  station_now = record { files = station.files; console = Some console_now }
+
+  pub done-said : (s : Option Desk) → SeenBy station.console s → said ≡ called s command
+  done-said s seen = go s (subst (λ h. SeenBy h s) (sym is) seen)
+    where
+      go : (s : Option Desk) → SeenBy (Some old) s → said ≡ called s command
+      go None seen = absurd seen
+      go (Some d) seen = steps.said_is d seen
+
+  pub done-desk : (s : Option Desk) → SeenBy station.console s → SeenBy (Some console_now) (desk_by s command)
+  done-desk s seen = go s (subst (λ h. SeenBy h s) (sym is) seen)
+    where
+      go : (s : Option Desk) → SeenBy (Some old) s → SeenBy (Some console_now) (desk_by s command)
+      go None seen = absurd seen
+      go (Some d) seen = steps.desk d seen
+
+  pub done-rest : KeepsRest (Some station) (Some station_now)
+  done-rest = record { files = refl; said = ap said_in is }
+
+  done-same : world ≡ old.world → station_now ≡ station
+  done-same same =
+      let with_world : Shown → Station = λ w. record { files = station.files; console = Some (record { world = w; said = old.said }) } in
+      let with_console : Option Console → Station = λ h. record { files = station.files; console = h } in
+      ap with_world same ∙ ap with_console is
+
+  pub done-refused : status_of said ≢ 0 → station_now ≡ station
+  done-refused bad = done-same (steps.refused bad)
+
+  pub done-asked : IsAsked command → station_now ≡ station
+  done-asked asked = done-same (steps.asked asked)
+
+-- one that had none
+module _ (station : Station) {now : Option Console} (is : None ≡ station.console) (after : now ≡ None) where
+  abbrev pub station_shut : Station
+  station_shut = record { files = station.files; console = now }
+
+  pub shut-said : (command : Option Command) (s : Option Desk) → SeenBy station.console s → Closed ≡ called s command
+  shut-said command s seen = closed-said s command (subst (λ h. SeenBy h s) (sym is) seen)
+
+  pub shut-desk : (command : Option Command) (s : Option Desk) → SeenBy station.console s → SeenBy now (desk_by s command)
+  shut-desk command s seen =
+      subst (λ h. SeenBy h (desk_by s command)) (sym after) (closed-desk s command (subst (λ h. SeenBy h s) (sym is) seen))
+
+  pub shut-rest : KeepsRest (Some station) (Some station_shut)
+  shut-rest = record { files = refl; said = ap said_in (after ∙ is) }
+
+  pub shut-same : station_shut ≡ station
+  shut-same =
+      let with_console : Option Console → Station = λ h. record { files = station.files; console = h } in
+      ap with_console (after ∙ is)
+
+-- ---- a handle whose station was taken out, changed, and put back
+
+module _ {held now : Option Station} {old new : Station} (is : Some old ≡ held) (put : now ≡ Some new) where
+  -- what is said of the stations is said of the handles
+  pub held-by : (R : Option Station → Option Station → Type 0) → R (Some old) (Some new) → R held now
+  held-by R r = subst (λ h. R h now) is (subst (λ h. R (Some old) h) (sym put) r)
+
+  pub held-desk : (f : Option Desk → Option Desk) → ((s : Option Desk) → SeenBy old.console s → SeenBy new.console (f s))
+      → (s : Option Desk) → SeenBy (console_in held) s → SeenBy (console_in now) (f s)
+  held-desk f desk s seen = subst (λ h. SeenBy (console_in h) (f s)) (sym put) (desk s (subst (λ h. SeenBy (console_in h) s) (sym is) seen))
+
+  pub held-same : new ≡ old → now ≡ held
+  held-same same = put ∙ ap Some same ∙ is
+
+-- one that had none
+module _ {held now : Option Station} (is : None ≡ held) (left : now ≡ None) where
+  pub none-by : (R : Option Station → Option Station → Type 0) → R None None → R held now
+  none-by R r = subst (λ h. R h now) is (subst (λ h. R None h) (sym left) r)
+
+  pub none-said : (command : Option Command) (s : Option Desk) → SeenBy (console_in held) s → Closed ≡ called s command
+  none-said command s seen = closed-said s command (empty-seen (sym is) s seen)
+
+  pub none-desk : (command : Option Command) (s : Option Desk) → SeenBy (console_in held) s → SeenBy (console_in now) (desk_by s command)
+  none-desk command s seen =
+      subst (λ h. SeenBy (console_in h) (desk_by s command)) (sym left) (closed-desk s command (empty-seen (sym is) s seen))

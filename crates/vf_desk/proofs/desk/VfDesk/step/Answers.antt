@@ -1,0 +1,35 @@
+use Rattle.std.proofs.Common.{Some, None, ap, ◌∙◌}
+use Rattle.vf_desk.specs.Called.{desk_by}
+use Rattle.vf_desk.specs.Seen.{KeepsRest}
+use Rattle.vf_desk.proofs.SeenLaws.{held-by, held-desk, held-same, in-handle, none-by, none-desk, none-said, stays-rest}
+use Rattle.vf_desk.proofs.desk.VfDesk.step.Goals as goal
+
+pub returns-in_default-clause-said : goal.returns-in_default-clause-said
+returns-in_default-clause-said c = none-said c.in_default.ensures.taken c.in_default.ensures.left c.args.command
+
+pub returns-in_default-clause-desk : goal.returns-in_default-clause-desk
+returns-in_default-clause-desk c = none-desk c.in_default.ensures.taken c.in_default.ensures.left c.args.command
+
+pub returns-in_default-clause-rest : goal.returns-in_default-clause-rest
+returns-in_default-clause-rest c = none-by c.in_default.ensures.taken c.in_default.ensures.left KeepsRest (stays-rest None)
+
+pub returns-in_default-clause-refused : goal.returns-in_default-clause-refused
+returns-in_default-clause-refused c = λ _. c.in_default.ensures.left ∙ c.in_default.ensures.taken
+
+pub returns-in_default-clause-asked : goal.returns-in_default-clause-asked
+returns-in_default-clause-asked c = λ _. c.in_default.ensures.left ∙ c.in_default.ensures.taken
+
+pub returns-clause-said : goal.returns-clause-said
+returns-clause-said c = in-handle (ap Some c.deref_mut.ensures.value ∙ c.in-Some.ensures.taken) c.step-called.ensures.said
+
+pub returns-clause-desk : goal.returns-clause-desk
+returns-clause-desk c = held-desk (ap Some c.deref_mut.ensures.value ∙ c.in-Some.ensures.taken) c.put.ensures (λ s. desk_by s c.args.command) c.step-called.ensures.desk
+
+pub returns-clause-rest : goal.returns-clause-rest
+returns-clause-rest c = held-by (ap Some c.deref_mut.ensures.value ∙ c.in-Some.ensures.taken) c.put.ensures KeepsRest c.step-called.ensures.rest
+
+pub returns-clause-refused : goal.returns-clause-refused
+returns-clause-refused c = λ bad. held-same (ap Some c.deref_mut.ensures.value ∙ c.in-Some.ensures.taken) c.put.ensures (c.step-called.ensures.refused bad)
+
+pub returns-clause-asked : goal.returns-clause-asked
+returns-clause-asked c = λ asked. held-same (ap Some c.deref_mut.ensures.value ∙ c.in-Some.ensures.taken) c.put.ensures (c.step-called.ensures.asked asked)

@@ -1,0 +1,14 @@
+use Rattle.std.proofs.Common.{ap, ◌∙◌}
+use Rattle.std.specs.Prelude.{ℤ}
+use Rattle.std.specs.Int.{w32}
+use Rattle.std.proofs.lemmas.Int.{to_z-of_z}
+use Rattle.rh_defs.specs.declared.command.Command.TheVariants as command
+use Rattle.vf_desk.specs.Called.{in_form}
+use Rattle.vf_desk.proofs.FormLaws.{a-name, an-anchor}
+use Rattle.vf_desk.proofs.forms.mid.Goals as goal
+
+pub returns-clause-form : goal.returns-clause-form
+returns-clause-form c =
+    let name_is = a-name c.args.name.now c.in_ok-name.name c.in_ok-name.ensures in
+    let anchor_is = an-anchor c.args.anchor c.in_ok-anchor.anchor c.in_ok-anchor.ensures in
+    (let form = rw (name_is.0, anchor_is.0) at c.checked.ensures.form in form) ∙ ap (λ (x : ℤ). in_form (command.Mid c.args.name.now c.args.anchor c.args.offset x)) (to_z-of_z w32 c.args.by c.ranges.by)

@@ -1,0 +1,12 @@
+use Rattle.std.proofs.Common.{Some, refl, ap, ◌∙◌}
+use Rattle.vf_desk.specs.Lines.{Takes}
+use Rattle.vf_desk.specs.Status.{closed}
+use Rattle.vf_desk.proofs.LineLaws.{takes-closed}
+use Rattle.vf_desk.proofs.SeenLaws.{held-by, none-by}
+use Rattle.vf_desk.proofs.lines.vf_desk_line.Goals as goal
+
+pub returns-in_default : goal.returns-in_default
+returns-in_default c = none-by c.in_default.ensures.taken c.in_default.ensures.left (λ a b. Takes c.args.line.now a b closed) (takes-closed refl)
+
+pub returns : goal.returns
+returns c = held-by (ap Some c.deref_mut.ensures.value ∙ c.in-Some.ensures.taken) c.put.ensures (λ a b. Takes c.args.line.now a b c.take_line-status.result) c.take_line-status.ensures

@@ -1,0 +1,8 @@
+use Rattle.std.proofs.Common.{◌≡◌, take}
+use Rattle.std.specs.Prelude.{map}
+use Rattle.vf_desk.specs.Lists.{filled_from}
+use Rattle.vf_desk.proofs.lists.fill.Given as goal
+
+-- the items so far were put into the slice
+abbrev pub invariant-loop-i : goal.invariant-loop-i
+invariant-loop-i g l = l.to ≡ filled_from l.at (map g.B.Listed.shown (take l.i l.items)) l.initial.to

@@ -1,0 +1,16 @@
+use Rattle.std.proofs.Common.{◌≡◌, ◌-◌, ◌≤◌, length, take}
+use Rattle.std.specs.Prelude.{map}
+use Rattle.rh_console.specs.Console.{filled}
+use Rattle.rh_defs.specs.Listing.{area_items}
+use Rattle.vf_desk.specs.Items.{area_of}
+use Rattle.vf_desk.proofs.lists.list_areas.Given as goal
+
+-- the areas and slots so far were put into the slice
+abbrev pub invariant-items : goal.invariant-items
+invariant-items l = record {
+  few : l.i ≤ length (area_items l.world.desk);
+  filled_is : l.to ≡ filled (map area_of (take l.i (area_items l.world.desk))) l.initial.to;
+}
+
+abbrev pub decreases-items : goal.decreases-items
+decreases-items l = length (area_items l.world.desk) - l.i

@@ -1,0 +1,104 @@
+-- What a call with a command comes to, and what it tells.
+use Rattle.std.specs.Prelude.{◌≡◌, ◌≢◌, ℕ, Bool, if◌then◌else◌, Option, Some, None}
+use Rattle.rh_defs.specs.declared.command.Command.{Command}
+use Rattle.rh_defs.specs.declared.command.Command.TheVariants as command
+use Rattle.rh_defs.specs.declared.question.Question.{Question}
+use Rattle.rh_defs.specs.declared.reply.Reply.TheVariants as reply
+use Rattle.rh_defs.specs.Range.{in_range}
+use Rattle.rh_defs.specs.Desk.{Desk}
+use Rattle.rh_defs.specs.Order.{IsReordered}
+use Rattle.rh_defs.specs.Step.{step}
+use Rattle.rh_tasks.specs.Shown.{Shown}
+use Rattle.vf_desk.specs.declared.called.Called.{Called}
+use Rattle.vf_desk.specs.declared.called.Called.TheVariants.{Closed, BadArgument, Said}
+use Rattle.vf_desk.specs.declared.desk.VfDesk.{VfDesk}
+use Rattle.vf_desk.specs.declared.items.VfHeapSums.{VfHeapSums}
+use Rattle.vf_desk.specs.Seen.{IsSeen, KeepsRest}
+use Rattle.vf_desk.specs.Status.{bad_argument, closed, refusal_number}
+
+-- a command whose numbers, names and bytes are of their forms, or none
+abbrev pub in_form : Command → Option Command
+in_form c = if in_range c then Some c else None
+
+-- what a call with this command comes to, where the desk is open and seen as this one, or closed
+abbrev pub called : Option Desk → Option Command → Called
+called None command = Closed
+called (Some d) None = BadArgument
+called (Some d) (Some c) = Said (step d c).1
+
+-- a desk after it
+abbrev pub desk_with : Option Command → Desk → Desk
+desk_with None d = d
+desk_with (Some c) d = (step d c).0
+
+-- the same, where the desk is open or closed
+abbrev pub desk_by : Option Desk → Option Command → Option Desk
+desk_by None command = None
+desk_by (Some d) command = Some (desk_with command d)
+
+-- its status
+abbrev pub status_of : Called → ℕ
+status_of Closed = closed
+status_of BadArgument = bad_argument
+status_of (Said (reply.Refused refusal)) = refusal_number refusal
+status_of (Said _) = 0
+
+-- A call does a command: its status is that of the step on each desk that the handle may be seen as, and so is the desk
+-- afterwards. The last reply stays, and with any status but 0 all that the handle has: the desk, its bytes and areas.
+pub record Does (command : Option Command) (old new : VfDesk) (status : ℕ) : Type 0 where
+  pub status_is : (s : Option Desk) → IsSeen old s → status ≡ status_of (called s command)
+  pub desk : (s : Option Desk) → IsSeen old s → IsSeen new (desk_by s command)
+  pub rest : KeepsRest old.handle.station new.handle.station
+  pub refused : status ≢ 0 → new.handle.station ≡ old.handle.station
+
+-- a question, or no command
+abbrev pub IsAsked : Option Command → Type 0
+IsAsked None = Unit {0}
+IsAsked (Some (command.Ask q)) = Unit {0}
+IsAsked (Some _) = ⊥
+
+-- What a command, or none, comes to on a world, of each desk that it may be seen as. With any status but 0 all of the
+-- world stays, and where it is a question.
+pub record Steps (command : Option Command) (old new : Shown) (said : Called) : Type 0 where
+  pub said_is : (d : Desk) → IsReordered d old.desk → said ≡ called (Some d) command
+  pub desk : (d : Desk) → IsReordered d old.desk → IsReordered (desk_with command d) new.desk
+  pub refused : status_of said ≢ 0 → new ≡ old
+  pub asked : IsAsked command → new ≡ old
+
+-- A call asks a question: its status is that of the answer on each desk that the handle may be seen as, and all that
+-- the handle has stays.
+pub record Asks (q : Question) (old new : VfDesk) (status : ℕ) : Type 0 where
+  pub status_is : (s : Option Desk) → IsSeen old s → status ≡ status_of (called s (in_form (command.Ask q)))
+  pub same : new.handle.station ≡ old.handle.station
+
+-- ---- words and numbers of a reply, or what was there before
+
+-- the one number of a reply
+abbrev pub number_or : Called → ℕ → ℕ
+number_or (Said (reply.Started handle)) old = handle
+number_or (Said (reply.StatusOf handle)) old = handle
+number_or (Said (reply.Sent ref)) old = ref
+number_or (Said (reply.Block address)) old = address
+number_or (Said (reply.Moved bytes)) old = bytes
+number_or (Said (reply.Made number)) old = number
+number_or (Said (reply.Shown size)) old = size
+number_or (Said (reply.BlockCount count)) old = count
+number_or (Said (reply.FreePages pages)) old = pages
+number_or _ old = old
+
+-- whether budging was on
+abbrev pub was_or : Called → Bool → Bool
+was_or (Said (reply.WasBudging on)) old = on
+was_or _ old = old
+
+-- the sums over a C heap
+abbrev pub sums_or : Called → VfHeapSums → VfHeapSums
+sums_or (Said (reply.HeapSums length largest free)) old = record { length = length; largest = largest; free = free }
+sums_or _ old = old
+
+-- a number that is told where the call is done
+abbrev pub done_or : Called → ℕ → ℕ → ℕ
+done_or Closed n old = old
+done_or BadArgument n old = old
+done_or (Said (reply.Refused refusal)) n old = old
+done_or (Said _) n old = n

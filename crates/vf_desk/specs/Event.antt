@@ -1,0 +1,56 @@
+-- What a poll took and did, as a struct of numbers.
+use Rattle.std.specs.Prelude.{ℕ}
+use Rattle.rh_defs.specs.declared.reply.Outcome.{Outcome}
+use Rattle.rh_defs.specs.declared.reply.Outcome.TheVariants as outcome
+use Rattle.rh_defs.specs.declared.reply.Reply.{Reply}
+use Rattle.rh_defs.specs.declared.reply.Reply.TheVariants as reply
+use Rattle.rh_defs.specs.Messages.{action_number, code_number}
+use Rattle.vf_desk.specs.declared.called.Called.{Called}
+use Rattle.vf_desk.specs.declared.called.Called.TheVariants.{Said}
+use Rattle.vf_desk.specs.declared.event.Deed.{Deed}
+use Rattle.vf_desk.specs.declared.event.VfEvent.{VfEvent}
+use Rattle.vf_desk.specs.Status.{refusal_number}
+
+-- what was done with a message: the deed, the bytes that were moved, the ref of the message that was sent, the refusal
+abbrev pub deed_with : ℕ → ℕ → ℕ → ℕ → Deed
+deed_with did count sent refusal = record { did = did; count = count; sent = sent; refusal = refusal }
+
+abbrev pub deed_of : Outcome → Deed
+deed_of outcome.Ignored = deed_with 0 0 0 0
+deed_of (outcome.Fetch fetch) = deed_with 1 0 fetch 0
+deed_of (outcome.Sent count transmit) = deed_with 2 count transmit 0
+deed_of (outcome.Refused refusal) = deed_with 3 0 0 (refusal_number refusal)
+deed_of outcome.Failed = deed_with 4 0 0 0
+deed_of outcome.Drained = deed_with 5 0 0 0
+deed_of (outcome.TookLast count) = deed_with 6 count 0 0
+deed_of (outcome.TookFull count fetch) = deed_with 7 count fetch 0
+deed_of (outcome.TookFailed count refusal) = deed_with 8 count 0 (refusal_number refusal)
+deed_of (outcome.Asked ack) = deed_with 9 0 ack 0
+deed_of (outcome.Saved count load) = deed_with 10 count load 0
+deed_of (outcome.Loaded count) = deed_with 11 count 0 0
+deed_of (outcome.LoadedFailed count refusal) = deed_with 12 count 0 (refusal_number refusal)
+deed_of outcome.Done = deed_with 13 0 0 0
+
+-- the event of these first words, and of a deed
+abbrev pub event_with : ℕ → ℕ → ℕ → ℕ → Deed → VfEvent
+event_with code action mine yours deed = record {
+  code = code;
+  action = action;
+  my_ref = mine;
+  your_ref = yours;
+  did = deed.did;
+  count = deed.count;
+  sent = deed.sent;
+  refusal = deed.refusal;
+}
+
+-- a poll's reply as an event, or what was there before
+abbrev pub event_of : Reply → VfEvent → VfEvent
+event_of reply.NoEvent old = event_with 0 0 0 0 (deed_with 0 0 0 0)
+event_of (reply.Event code action mine yours out) old =
+    event_with (code_number code) (action_number action) mine yours (deed_of out)
+event_of _ old = old
+
+abbrev pub event_or : Called → VfEvent → VfEvent
+event_or (Said r) old = event_of r old
+event_or _ old = old

@@ -1,0 +1,85 @@
+-- The items of lists as structs of C, and which list a question is answered with.
+use Rattle.std.specs.Prelude.{ℕ, ◌-◌, true, false, if◌then◌else◌, List, [], ◌++◌, length, replicate, Option, Some, None, Ok, Err}
+use Rattle.rh_defs.specs.declared.listing.AreaItem.{AreaItem}
+use Rattle.rh_defs.specs.declared.listing.AreaItem.TheVariants as item
+use Rattle.rh_defs.specs.declared.listing.BlockItem.{BlockItem}
+use Rattle.rh_defs.specs.declared.listing.RecordItem.{RecordItem}
+use Rattle.rh_defs.specs.declared.listing.SegmentItem.{SegmentItem}
+use Rattle.rh_defs.specs.declared.listing.SegmentItem.TheVariants as segment
+use Rattle.rh_defs.specs.declared.listing.State.{State}
+use Rattle.rh_defs.specs.declared.listing.State.TheVariants as state
+use Rattle.rh_defs.specs.declared.question.Question.{Question}
+use Rattle.rh_defs.specs.Chain.{Granted}
+use Rattle.rh_defs.specs.Desk.{Desk}
+use Rattle.rh_defs.specs.Listing.{Listed, Nothing, Bytes, Blocks, Segments, Records, Areas}
+use Rattle.rh_defs.specs.Questions.{Told, asked}
+use Rattle.rh_defs.specs.Range.{can_be_asked}
+use Rattle.vf_desk.specs.declared.items.VfArea.{VfArea}
+use Rattle.vf_desk.specs.declared.items.VfBlock.{VfBlock}
+use Rattle.vf_desk.specs.declared.items.VfRecord.{VfRecord}
+use Rattle.vf_desk.specs.declared.items.VfSegment.{VfSegment}
+
+-- ---- items
+
+abbrev pub block_of : BlockItem → VfBlock
+block_of b = record { anchor = b.anchor; address = b.address; size = b.size }
+
+abbrev pub segment_of : SegmentItem → VfSegment
+segment_of (segment.Used address size) = record { address = address; size = size; used = true }
+segment_of (segment.Hole address size) = record { address = address; size = size; used = false }
+
+abbrev pub state_number : State → ℕ
+state_number state.Open = 0
+state_number state.Fetching = 1
+state_number state.Draining = 2
+state_number state.Asking = 3
+state_number state.Done = 4
+state_number state.Failed = 5
+
+abbrev pub record_of : RecordItem → VfRecord
+record_of r = record { state = state_number r.state; id = r.id; count = r.count }
+
+-- a name with zeros behind it, 13 bytes in all
+abbrev pub name_bytes : List ℕ → List ℕ
+name_bytes name = name ++ replicate (13 - length name) 0
+
+abbrev pub area_of : AreaItem → VfArea
+area_of (item.Area number pages) = record { number = number; pages = pages; name = name_bytes [] }
+area_of (item.Slot name pages) = record { number = 0; pages = pages; name = name_bytes name }
+
+-- ---- the list that a question is answered with
+
+-- what an answer lists; a refusal lists nothing
+abbrev pub listed_with : Granted Told → Listed
+listed_with (Ok told) = told.1
+listed_with (Err refusal) = Nothing
+
+-- what is listed for a question, where the desk is open and seen as this one, or closed
+abbrev pub listed : Option Desk → Question → Listed
+listed None q = Nothing
+listed (Some d) q = if can_be_asked q then listed_with (asked d q) else Nothing
+
+-- the list of each kind, empty where an answer has another
+abbrev pub bytes_in : Listed → List ℕ
+bytes_in (Bytes bytes) = bytes
+bytes_in _ = []
+
+abbrev pub blocks_in : Listed → List BlockItem
+blocks_in (Blocks blocks) = blocks
+blocks_in _ = []
+
+abbrev pub segments_in : Listed → List SegmentItem
+segments_in (Segments segments) = segments
+segments_in _ = []
+
+abbrev pub outgoing_in : Listed → List RecordItem
+outgoing_in (Records outgoing incoming) = outgoing
+outgoing_in _ = []
+
+abbrev pub incoming_in : Listed → List RecordItem
+incoming_in (Records outgoing incoming) = incoming
+incoming_in _ = []
+
+abbrev pub areas_in : Listed → List AreaItem
+areas_in (Areas areas) = areas
+areas_in _ = []

@@ -1,0 +1,11 @@
+pub mod Status
+pub mod Ownership
+pub mod Seen
+pub mod Called
+pub mod Forms
+pub mod Opening
+pub mod Event
+pub mod Items
+pub mod Lists
+pub mod Lines
+pub mod Next

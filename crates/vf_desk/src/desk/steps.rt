@@ -1,0 +1,94 @@
+//! What is done on a desk that a program in C holds: its station is taken out, and put back.
+ghost use Rattle.std.specs.Prelude.{◌≡◌, ◌≢◌, true, Option, Some, None, IfSome};
+ghost use Rattle.std.specs.Option.{option_map};
+ghost use Rattle.rh_defs.specs.Desk.{Desk};
+ghost use Rattle.rh_defs.specs.Range.{in_range};
+ghost use Rattle.rh_defs.specs.declared.command.Command.TheVariants as Command;
+ghost use Rattle.vf_desk.specs.Called.{IsAsked, called, desk_by, in_form, status_of};
+ghost use Rattle.vf_desk.specs.Seen.{IsSeen, KeepsRest};
+
+use crate::called::Called;
+use crate::desk::VfDesk;
+use crate::handle::Handle;
+use crate::station::Station;
+use rh_defs::Command;
+use std::alloc::Global;
+use std::mem;
+
+impl VfDesk {
+    fn closed(alloc: Global) -> VfDesk
+        ensures { result.handle.station ≡ None }
+    {
+        VfDesk {
+            handle: Handle::empty(alloc),
+            live: false,
+        }
+    }
+
+    /// Takes out what the handle has, so that nothing is left.
+    pub fn take(&mut self, alloc: Global) -> Option<Box<Station>>
+        ensures taken { option_map (λ station. station.value) result ≡ self.old.handle.station }
+        ensures left { self.new.handle.station ≡ None }
+    {
+        let VfDesk { handle, live } = mem::replace(self, VfDesk::closed(alloc));
+        if live {
+            return Some(handle.into_box());
+        }
+        handle.end();
+        None
+    }
+
+    /// Puts it into a handle that has nothing.
+    pub fn put(&mut self, station: Box<Station>)
+        requires { self.old.handle.station ≡ None }
+        ensures { self.new.handle.station ≡ Some station.value }
+    {
+        let live = VfDesk {
+            handle: Handle::of(station),
+            live: true,
+        };
+        let VfDesk { handle, live: _ } = mem::replace(self, live);
+        handle.end();
+    }
+
+    /// Does a command on the desk, if it is open and there is one; else nothing changes.
+    pub fn step(&mut self, alloc: Global, command: Option<Command>) -> Called
+        requires { IfSome command (λ c. in_range c ≡ true) }
+        ensures said { (s : Option Desk) → IsSeen self.old s → result ≡ called s command }
+        ensures desk { (s : Option Desk) → IsSeen self.old s → IsSeen self.new (desk_by s command) }
+        ensures rest { KeepsRest self.old.handle.station self.new.handle.station }
+        ensures refused { status_of result ≢ 0 → self.new.handle.station ≡ self.old.handle.station }
+        ensures asked { IsAsked command → self.new.handle.station ≡ self.old.handle.station }
+    {
+        let Some(mut station) = self.take(alloc) else {
+            return Called::Closed;
+        };
+        let called = station.step(command);
+        self.put(station);
+        called
+    }
+
+    /// Writes bytes into a flex block, as a `put` of as many bytes does: a line has room for 512 alone.
+    pub fn write(
+        &mut self,
+        alloc: Global,
+        name: &[u8],
+        anchor: u32,
+        offset: u32,
+        from: &[u8],
+    ) -> Called
+        ensures said { (s : Option Desk) → IsSeen self.old s →
+            result ≡ called s (in_form (Command.Put name.now anchor offset from.now)) }
+        ensures desk { (s : Option Desk) → IsSeen self.old s →
+            IsSeen self.new (desk_by s (in_form (Command.Put name.now anchor offset from.now))) }
+        ensures rest { KeepsRest self.old.handle.station self.new.handle.station }
+        ensures refused { status_of result ≢ 0 → self.new.handle.station ≡ self.old.handle.station }
+    {
+        let Some(mut station) = self.take(alloc) else {
+            return Called::Closed;
+        };
+        let called = station.write(name, anchor, offset, from);
+        self.put(station);
+        called
+    }
+}

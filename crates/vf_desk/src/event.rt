@@ -1,0 +1,198 @@
+//! What a poll took and did, as a struct of numbers.
+ghost use Rattle.std.specs.Prelude.{◌≡◌};
+ghost use Rattle.vf_desk.specs.Called.{status_of};
+ghost use Rattle.vf_desk.specs.Status.{refusal_number};
+ghost use Rattle.vf_desk.specs.Event.{deed_of, deed_with, event_or};
+
+use crate::called::Called;
+use crate::status::refusal_number;
+use rh_defs::{Outcome, Refusal, Reply};
+
+/// Nothing was done: the message is for no record, or a DataSave that wasn't taken.
+pub const DID_NOTHING: u32 = 0;
+
+/// A transfer was begun, and the fetch was sent.
+pub const DID_FETCH: u32 = 1;
+
+/// Bytes went into the receiver's buffer, and the transmit was sent.
+pub const DID_SEND: u32 = 2;
+
+/// The transfer failed by a refusal.
+pub const DID_REFUSE: u32 = 3;
+
+/// The transfer failed as its message came back.
+pub const DID_FAIL: u32 = 4;
+
+/// The buffer of a transfer that was given up was released.
+pub const DID_DRAIN: u32 = 5;
+
+/// The last bytes were taken: the document is whole.
+pub const DID_TAKE_LAST: u32 = 6;
+
+/// Bytes were taken, and the next fetch was sent.
+pub const DID_TAKE: u32 = 7;
+
+/// Bytes were taken, and the next fetch was refused.
+pub const DID_TAKE_AND_FAIL: u32 = 8;
+
+/// The sender was asked for a file.
+pub const DID_ASK: u32 = 9;
+
+/// The source became the scrap file, and the DataLoad was sent.
+pub const DID_SAVE: u32 = 10;
+
+/// The scrap file became the document, and the sender was told.
+pub const DID_LOAD: u32 = 11;
+
+/// The scrap file became the document, and the answer was refused.
+pub const DID_LOAD_AND_FAIL: u32 = 12;
+
+/// The recipient has loaded the file: the transfer that went out is done.
+pub const DID_FINISH: u32 = 13;
+
+/// What a poll took and did. A field that the deed says nothing of is 0, and all are where there was no message.
+#[repr(C)]
+#[derive(Clone, Copy)]
+pub struct VfEvent {
+    /// The reason code: 0, 17, 18 or 19.
+    pub code: u32,
+    /// The message's action.
+    pub action: u32,
+    /// Its own ref.
+    pub my_ref: u32,
+    /// The ref of the message that it answers, 0 for an original.
+    pub your_ref: u32,
+    /// What was done with it.
+    pub did: u32,
+    /// The bytes that were moved.
+    pub count: u32,
+    /// The ref of the message that was sent.
+    pub sent: u32,
+    /// The number of the refusal by which it failed.
+    pub refusal: u32,
+}
+
+/// What was done with a message, as the last four fields of an event.
+#[derive(Clone, Copy)]
+pub struct Deed {
+    pub did: u32,
+    pub count: u32,
+    pub sent: u32,
+    pub refusal: u32,
+}
+
+impl Deed {
+    /// What was done with nothing moved, sent or refused.
+    fn plain(did: u32) -> Deed
+        ensures { result ≡ deed_with did 0 0 0 }
+    {
+        Deed::moved(did, 0, 0)
+    }
+
+    /// What was done with bytes moved, and a message sent where its ref isn't 0.
+    fn moved(did: u32, count: u32, sent: u32) -> Deed
+        ensures { result ≡ deed_with did count sent 0 }
+    {
+        Deed {
+            did,
+            count,
+            sent,
+            refusal: 0,
+        }
+    }
+
+    /// What was done up to a refusal.
+    fn refused(did: u32, count: u32, refusal: Refusal) -> Deed
+        ensures { result ≡ deed_with did count 0 (refusal_number refusal) }
+    {
+        Deed {
+            did,
+            count,
+            sent: 0,
+            refusal: refusal_number(refusal),
+        }
+    }
+}
+
+/// An outcome's deed.
+fn done_with(outcome: &Outcome) -> Deed
+    ensures { result ≡ deed_of outcome.now }
+{
+    match outcome {
+        Outcome::Ignored => Deed::plain(DID_NOTHING),
+        Outcome::Fetch(fetch) => Deed::moved(DID_FETCH, 0, fetch.0),
+        Outcome::Sent { count, transmit } => Deed::moved(DID_SEND, *count, transmit.0),
+        Outcome::Refused(refusal) => Deed::refused(DID_REFUSE, 0, *refusal),
+        Outcome::Failed => Deed::plain(DID_FAIL),
+        Outcome::Drained => Deed::plain(DID_DRAIN),
+        Outcome::TookLast { count } => Deed::moved(DID_TAKE_LAST, *count, 0),
+        Outcome::TookFull { count, fetch } => Deed::moved(DID_TAKE, *count, fetch.0),
+        Outcome::TookFailed { count, refusal } => {
+            Deed::refused(DID_TAKE_AND_FAIL, *count, *refusal)
+        }
+        Outcome::Asked(ack) => Deed::moved(DID_ASK, 0, ack.0),
+        Outcome::Saved { count, load } => Deed::moved(DID_SAVE, *count, load.0),
+        Outcome::Loaded { count } => Deed::moved(DID_LOAD, *count, 0),
+        Outcome::LoadedFailed { count, refusal } => {
+            Deed::refused(DID_LOAD_AND_FAIL, *count, *refusal)
+        }
+        Outcome::Done => Deed::plain(DID_FINISH),
+    }
+}
+
+/// The event of no message.
+const NONE: VfEvent = VfEvent {
+    code: 0,
+    action: 0,
+    my_ref: 0,
+    your_ref: 0,
+    did: DID_NOTHING,
+    count: 0,
+    sent: 0,
+    refusal: 0,
+};
+
+/// What a poll came to as an event, or the old one where it wasn't done.
+fn event(called: &Called, old: VfEvent) -> VfEvent
+    ensures { result ≡ event_or called.now old }
+{
+    match called {
+        Called::Said(Reply::NoEvent) => NONE,
+        Called::Said(
+            Reply::Event {
+                code,
+                action,
+                my_ref,
+                your_ref,
+                outcome,
+            },
+        ) => {
+            let Deed {
+                did,
+                count,
+                sent,
+                refusal,
+            } = done_with(outcome);
+            VfEvent {
+                code: code.number(),
+                action: action.number(),
+                my_ref: my_ref.0,
+                your_ref: your_ref.0,
+                did,
+                count,
+                sent,
+                refusal,
+            }
+        }
+        _ => old,
+    }
+}
+
+/// The status of a poll. What it took and did is told, if it was done.
+pub fn told_event(called: &Called, to: &mut VfEvent) -> u32
+    ensures status { result ≡ status_of called.now }
+    ensures event { to.new ≡ event_or called.now to.old }
+{
+    *to = event(called, *to);
+    called.status()
+}

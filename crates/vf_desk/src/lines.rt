@@ -1,0 +1,83 @@
+//! Lines of text, and their replies.
+ghost use Rattle.std.specs.Prelude.{◌≡◌, Some, length};
+ghost use Rattle.rh_defs.specs.Desk.{Desk};
+ghost use Rattle.rh_defs.specs.Order.{IsReordered};
+ghost use Rattle.rh_console.specs.Said.{said_text};
+ghost use Rattle.vf_desk.specs.Lines.{Fills, Replies, Takes};
+
+use crate::desk::VfDesk;
+use crate::station::Station;
+use crate::status::{CLOSED, OK, SHORT};
+use rh_console::Console;
+use std::alloc::Global;
+
+/// Takes a line without its line feed, and keeps its reply.
+#[unsafe(no_mangle)]
+pub extern "C" fn vf_desk_line(alloc: Global, desk: &mut VfDesk, line: &[u8]) -> u32
+    ensures { Takes line.now desk.old.handle.station desk.new.handle.station result }
+{
+    let Some(mut station) = desk.take(alloc) else {
+        return CLOSED;
+    };
+    let status = station.take_line(line);
+    desk.put(station);
+    status
+}
+
+/// Puts the text of the last line's reply into `text` with zeros behind it, and tells how many bytes it has. SHORT
+/// where it has more than there is room for, and then `text` has its first ones.
+#[unsafe(no_mangle)]
+pub extern "C" fn vf_desk_reply(
+    alloc: Global,
+    desk: &mut VfDesk,
+    text: &mut [u8],
+    length: &mut usize,
+) -> u32
+    ensures replies { Replies desk.old.handle.station text.old text.new length.old length.new result }
+    ensures same { desk.new.handle.station ≡ desk.old.handle.station }
+{
+    let Some(station) = desk.take(alloc) else {
+        return CLOSED;
+    };
+    let status = station.reply(text, length);
+    desk.put(station);
+    status
+}
+
+impl Station {
+    /// Takes a line, and keeps its reply: CLOSED.
+    fn take_line(&mut self, line: &[u8]) -> u32
+        ensures { Takes line.now (Some self.old) (Some self.new) result }
+    {
+        let Some(mut console) = self.console.take() else {
+            return CLOSED;
+        };
+        console.take_line(line);
+        self.console = Some(console);
+        OK
+    }
+
+    /// Puts the text of the reply that is kept into lent bytes, and tells its length: CLOSED, SHORT.
+    fn reply(&self, text: &mut [u8], length: &mut usize) -> u32
+        ensures { Replies (Some self.now) text.old text.new length.old length.new result }
+    {
+        match &self.console {
+            Some(console) => fill(console, text, length),
+            None => CLOSED,
+        }
+    }
+}
+
+/// Puts the text of the reply that is kept into lent bytes, and tells its length if there is room for it.
+fn fill(console: &Console, text: &mut [u8], told: &mut usize) -> u32
+    ensures { (d : Desk) → IsReordered d console.now.world.desk →
+        Fills (said_text d console.now.said) (length text.old) text.new told.old told.new result }
+{
+    match console.print(text) {
+        Some(n) => {
+            *told = n;
+            OK
+        }
+        None => SHORT,
+    }
+}

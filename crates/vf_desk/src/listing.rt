@@ -1,0 +1,103 @@
+//! The lists of a desk that may be closed: none where it is, or where a name or an anchor isn't of its form.
+ghost use Rattle.std.specs.Prelude.{◌≡◌, Option, length, map};
+ghost use Rattle.rh_console.specs.Console.{filled};
+ghost use Rattle.rh_defs.specs.Desk.{Desk};
+ghost use Rattle.rh_defs.specs.declared.question.Question.TheVariants as Question;
+ghost use Rattle.vf_desk.specs.Items.{area_of, areas_in, block_of, blocks_in, bytes_in, incoming_in, listed, outgoing_in, record_of, segment_of, segments_in};
+ghost use Rattle.vf_desk.specs.Seen.{SeenBy};
+
+use crate::forms::{anchor_of, name_of};
+use crate::items::{VfArea, VfBlock, VfRecord, VfSegment};
+use crate::lists::{
+    NO_RECORDS, RecordCounts, list_areas, list_blocks, list_bytes, list_records, list_segments,
+};
+use crate::station::Station;
+
+impl Station {
+    /// Fills a slice with the first bytes of the task's block at the anchor.
+    pub fn bytes(&self, name: &[u8], anchor: u32, to: &mut [u8])
+        ensures { (s : Option Desk) → SeenBy self.now.console s →
+            to.new ≡ filled (bytes_in (listed s (Question.Show name.now anchor))) to.old }
+    {
+        let Some(console) = &self.console else {
+            return;
+        };
+        let Some(name) = name_of(name) else {
+            return;
+        };
+        let Some(anchor) = anchor_of(anchor) else {
+            return;
+        };
+        list_bytes(&console.world, &name, anchor, to);
+    }
+
+    /// Puts the task's flex blocks into a slice, and answers how many there are.
+    pub fn blocks(&self, name: &[u8], to: &mut [VfBlock]) -> usize
+        ensures list { (s : Option Desk) → SeenBy self.now.console s →
+            to.new ≡ filled (map block_of (blocks_in (listed s (Question.Blocks name.now)))) to.old }
+        ensures count { (s : Option Desk) → SeenBy self.now.console s →
+            result ≡ length (blocks_in (listed s (Question.Blocks name.now))) }
+    {
+        let Some(console) = &self.console else {
+            return 0;
+        };
+        let Some(name) = name_of(name) else {
+            return 0;
+        };
+        list_blocks(&console.world, &name, to)
+    }
+
+    /// Puts the segments of the task's C heap into a slice, and answers how many there are.
+    pub fn segments(&self, name: &[u8], to: &mut [VfSegment]) -> usize
+        ensures list { (s : Option Desk) → SeenBy self.now.console s →
+            to.new ≡ filled (map segment_of (segments_in (listed s (Question.Heap name.now)))) to.old }
+        ensures count { (s : Option Desk) → SeenBy self.now.console s →
+            result ≡ length (segments_in (listed s (Question.Heap name.now))) }
+    {
+        let Some(console) = &self.console else {
+            return 0;
+        };
+        let Some(name) = name_of(name) else {
+            return 0;
+        };
+        list_segments(&console.world, &name, to)
+    }
+
+    /// Puts the records of the task's transfers into two slices, and answers how many there are each way.
+    pub fn records(
+        &self,
+        name: &[u8],
+        outgoing: &mut [VfRecord],
+        incoming: &mut [VfRecord],
+    ) -> RecordCounts
+        ensures out { (s : Option Desk) → SeenBy self.now.console s →
+            outgoing.new ≡ filled (map record_of (outgoing_in (listed s (Question.Status name.now)))) outgoing.old }
+        ensures taken { (s : Option Desk) → SeenBy self.now.console s →
+            incoming.new ≡ filled (map record_of (incoming_in (listed s (Question.Status name.now)))) incoming.old }
+        ensures outs { (s : Option Desk) → SeenBy self.now.console s →
+            result.outgoing ≡ length (outgoing_in (listed s (Question.Status name.now))) }
+        ensures ins { (s : Option Desk) → SeenBy self.now.console s →
+            result.incoming ≡ length (incoming_in (listed s (Question.Status name.now))) }
+    {
+        let Some(console) = &self.console else {
+            return NO_RECORDS;
+        };
+        let Some(name) = name_of(name) else {
+            return NO_RECORDS;
+        };
+        list_records(&console.world, &name, outgoing, incoming)
+    }
+
+    /// Puts areas and slots into a slice, and answers how many there are.
+    pub fn areas(&self, to: &mut [VfArea]) -> usize
+        ensures list { (s : Option Desk) → SeenBy self.now.console s →
+            to.new ≡ filled (map area_of (areas_in (listed s Question.Areas))) to.old }
+        ensures count { (s : Option Desk) → SeenBy self.now.console s →
+            result ≡ length (areas_in (listed s Question.Areas)) }
+    {
+        match &self.console {
+            Some(console) => list_areas(&console.world, to),
+            None => 0,
+        }
+    }
+}

@@ -1,0 +1,180 @@
+//! How a desk begins and ends.
+ghost use Rattle.std.specs.Prelude.{◌≡◌, ◌≤◌, ◌⊎◌, ◌++◌, ◌∷◌, [], false, None, Some, length, OnOk, OnErr};
+ghost use Rattle.rh_defs.specs.Files.{has_file};
+ghost use Rattle.vf_desk.specs.Opening.{Adds, Opens, opening_status};
+ghost use Rattle.vf_desk.specs.declared.opening.TheConstants.{LONGEST_FILE};
+ghost use Rattle.vf_desk.specs.Status.{no_memory};
+
+use crate::desk::VfDesk;
+use crate::forms::name_of;
+use crate::station::Station;
+use crate::status::{BAD_ARGUMENT, BAD_LENGTH, FILE_EXISTS, NO_MEMORY, OK, OPEN};
+use rh_console::Console;
+use rh_defs::sizes::{MAX_PAGES, MIN_PAGES};
+use rh_defs::{Files, Handle, Name, Ref};
+use std::alloc::{AllocError, Global};
+
+/// The most bytes of a file.
+const LONGEST_FILE: usize = 1_048_576;
+
+/// Adds a named file, which `load` finds once the desk is open.
+#[unsafe(no_mangle)]
+pub extern "C" fn vf_desk_file(alloc: Global, desk: &mut VfDesk, name: &[u8], bytes: &[u8]) -> u32
+    ensures { Adds name.now bytes.now desk.old.handle.station desk.new.handle.station result }
+{
+    let Some(mut station) = desk.take(alloc) else {
+        return first_file(alloc, desk, name, bytes);
+    };
+    let status = station.add_file(alloc, name, bytes);
+    desk.put(station);
+    status
+}
+
+/// The same, where the handle has nothing yet.
+fn first_file(alloc: Global, desk: &mut VfDesk, name: &[u8], bytes: &[u8]) -> u32
+    requires { desk.old.handle.station ≡ None }
+    ensures { Adds name.now bytes.now desk.old.handle.station desk.new.handle.station result }
+{
+    let mut station = Station::new(alloc);
+    let status = station.add_file(alloc, name, bytes);
+    if status != OK {
+        return status;
+    }
+    put_new(alloc, desk, station)
+}
+
+/// Opens a desk of 8 to 1,024 pages with the files that were added, whose first handle and ref are these, from 1 on.
+#[unsafe(no_mangle)]
+pub extern "C" fn vf_desk_open(
+    alloc: Global,
+    desk: &mut VfDesk,
+    pages: u32,
+    first_handle: u32,
+    first_ref: u32,
+) -> u32
+    ensures { Opens pages first_handle first_ref desk.old.handle.station desk.new.handle.station result }
+{
+    let Some(mut station) = desk.take(alloc) else {
+        return open_new(alloc, desk, pages, first_handle, first_ref);
+    };
+    let status = station.open(alloc, pages, first_handle, first_ref);
+    desk.put(station);
+    status
+}
+
+/// The same, where the handle has nothing yet.
+fn open_new(alloc: Global, desk: &mut VfDesk, pages: u32, first_handle: u32, first_ref: u32) -> u32
+    requires { desk.old.handle.station ≡ None }
+    ensures { Opens pages first_handle first_ref desk.old.handle.station desk.new.handle.station result }
+{
+    let mut station = Station::new(alloc);
+    let status = station.open(alloc, pages, first_handle, first_ref);
+    if status != OK {
+        return status;
+    }
+    put_new(alloc, desk, station)
+}
+
+/// Closes a desk, and gives back all that it took. A closed one with no file stays as it is.
+#[unsafe(no_mangle)]
+pub extern "C" fn vf_desk_close(alloc: Global, desk: &mut VfDesk) -> u32
+    ensures status { result ≡ 0 }
+    ensures closed { desk.new.handle.station ≡ None }
+{
+    let _station = desk.take(alloc);
+    OK
+}
+
+/// Puts a station into a handle that has nothing, or answers that memory is refused.
+fn put_new(alloc: Global, desk: &mut VfDesk, station: Station) -> u32
+    requires { desk.old.handle.station ≡ None }
+    ensures { ((result ≡ 0) × (desk.new.handle.station ≡ Some station)) ⊎
+        ((result ≡ no_memory) × (desk.new.handle.station ≡ None)) }
+{
+    match Box::new(alloc, station) {
+        Ok(boxed) => {
+            desk.put(boxed);
+            OK
+        }
+        Err(_) => NO_MEMORY,
+    }
+}
+
+impl Station {
+    /// No file, and no desk that is open.
+    pub fn new(alloc: Global) -> Station
+        ensures files { result.files ≡ [] }
+        ensures console { result.console ≡ None }
+    {
+        Station {
+            files: Files::new(alloc),
+            console: None,
+        }
+    }
+
+    /// Adds a named file: OPEN, BAD_ARGUMENT, BAD_LENGTH, FILE_EXISTS, NO_MEMORY.
+    fn add_file(&mut self, alloc: Global, name: &[u8], bytes: &[u8]) -> u32
+        ensures { Adds name.now bytes.now (Some self.old) (Some self.new) result }
+    {
+        if self.console.is_some() {
+            return OPEN;
+        }
+        let Some(name) = name_of(name) else {
+            return BAD_ARGUMENT;
+        };
+        if bytes.len() > LONGEST_FILE {
+            return BAD_LENGTH;
+        }
+        if self.files.contains(&name) {
+            return FILE_EXISTS;
+        }
+        match insert(alloc, &mut self.files, name, bytes) {
+            Ok(()) => OK,
+            Err(_) => NO_MEMORY,
+        }
+    }
+
+    /// Opens the desk: OPEN, BAD_ARGUMENT, NO_MEMORY.
+    fn open(&mut self, alloc: Global, pages: u32, first_handle: u32, first_ref: u32) -> u32
+        ensures { Opens pages first_handle first_ref (Some self.old) (Some self.new) result }
+    {
+        let status = opening_status(self, pages, first_handle, first_ref);
+        if status != OK {
+            return status;
+        }
+        let (handle, r) = (Handle(first_handle), Ref(first_ref));
+        match Console::new(alloc, &mut self.files, pages, handle, r) {
+            Ok(console) => {
+                self.console = Some(console);
+                OK
+            }
+            Err(_) => NO_MEMORY,
+        }
+    }
+}
+
+/// Whether a desk can be opened so, if memory is granted.
+fn opening_status(station: &Station, pages: u32, first_handle: u32, first_ref: u32) -> u32
+    ensures { result ≡ opening_status (Some station.now) pages first_handle first_ref }
+{
+    if station.console.is_some() {
+        return OPEN;
+    }
+    let pages = pages as usize;
+    if pages < MIN_PAGES || MAX_PAGES < pages || first_handle == 0 || first_ref == 0 {
+        return BAD_ARGUMENT;
+    }
+    OK
+}
+
+/// Adds a copy of the bytes behind the other files.
+fn insert(alloc: Global, files: &mut Files, name: Name, bytes: &[u8]) -> Result<(), AllocError>
+    requires new_name { has_file name files.old ≡ false }
+    requires small { length bytes.now ≤ LONGEST_FILE }
+    ensures ok { OnOk result (files.new ≡ files.old ++ (name, bytes.now) ∷ []) }
+    ensures err { OnErr result (files.new ≡ files.old) }
+{
+    let mut copy = Vec::with_capacity(alloc, bytes.len())?;
+    copy.extend_from_slice(bytes)?;
+    files.insert(name, copy)
+}

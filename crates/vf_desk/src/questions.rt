@@ -1,0 +1,160 @@
+//! The questions: they leave the desk as it is, and list what they are asked for.
+ghost use Rattle.std.specs.Prelude.{◌≡◌, Option, length, map};
+ghost use Rattle.rh_console.specs.Console.{filled};
+ghost use Rattle.rh_defs.specs.Desk.{Desk};
+ghost use Rattle.rh_defs.specs.declared.command.Command.TheVariants as Command;
+ghost use Rattle.rh_defs.specs.declared.question.Question.TheVariants as Question;
+ghost use Rattle.vf_desk.specs.Called.{Asks, called, done_or, in_form, number_or, sums_or};
+ghost use Rattle.vf_desk.specs.Items.{area_of, areas_in, block_of, blocks_in, bytes_in, incoming_in, listed, outgoing_in, record_of, segment_of, segments_in};
+ghost use Rattle.vf_desk.specs.Seen.{IsSeen};
+
+use crate::desk::VfDesk;
+use crate::forms;
+use crate::items::{VfArea, VfBlock, VfHeapSums, VfRecord, VfSegment};
+use rh_defs::Question;
+use std::alloc::Global;
+
+/// Tells the size of the anchor's block, and fills `to` with its first bytes. (flex_size.)
+#[unsafe(no_mangle)]
+pub extern "C" fn vf_desk_show(
+    alloc: Global,
+    desk: &mut VfDesk,
+    name: &[u8],
+    anchor: u32,
+    to: &mut [u8],
+    size: &mut u32,
+) -> u32
+    ensures asks { Asks (Question.Show name.now anchor) desk.old desk.new result }
+    ensures size { (s : Option Desk) → IsSeen desk.old s →
+        size.new ≡ number_or (called s (in_form (Command.Ask (Question.Show name.now anchor)))) size.old }
+    ensures bytes { (s : Option Desk) → IsSeen desk.old s →
+        to.new ≡ filled (bytes_in (listed s (Question.Show name.now anchor))) to.old }
+{
+    let called = desk.step(alloc, forms::show(name, anchor));
+    let Some(station) = desk.take(alloc) else {
+        return called.status();
+    };
+    station.bytes(name, anchor, to);
+    desk.put(station);
+    called.told(size)
+}
+
+/// Lists the task's flex blocks from below, and tells how many there are.
+#[unsafe(no_mangle)]
+pub extern "C" fn vf_desk_blocks(
+    alloc: Global,
+    desk: &mut VfDesk,
+    name: &[u8],
+    blocks: &mut [VfBlock],
+    count: &mut usize,
+) -> u32
+    ensures asks { Asks (Question.Blocks name.now) desk.old desk.new result }
+    ensures list { (s : Option Desk) → IsSeen desk.old s →
+        blocks.new ≡ filled (map block_of (blocks_in (listed s (Question.Blocks name.now)))) blocks.old }
+    ensures count { (s : Option Desk) → IsSeen desk.old s →
+        count.new ≡ done_or (called s (in_form (Command.Ask (Question.Blocks name.now))))
+        (length (blocks_in (listed s (Question.Blocks name.now)))) count.old }
+{
+    let called = desk.step(alloc, forms::blocks(name));
+    let Some(station) = desk.take(alloc) else {
+        return called.status();
+    };
+    let n = station.blocks(name, blocks);
+    desk.put(station);
+    called.told_count(n, count)
+}
+
+/// Tells the sums over the task's C heap, lists its segments from below, and tells how many there are. (OS_Heap 1.)
+#[unsafe(no_mangle)]
+pub extern "C" fn vf_desk_heap(
+    alloc: Global,
+    desk: &mut VfDesk,
+    name: &[u8],
+    sums: &mut VfHeapSums,
+    segments: &mut [VfSegment],
+    count: &mut usize,
+) -> u32
+    ensures asks { Asks (Question.Heap name.now) desk.old desk.new result }
+    ensures sums { (s : Option Desk) → IsSeen desk.old s →
+        sums.new ≡ sums_or (called s (in_form (Command.Ask (Question.Heap name.now)))) sums.old }
+    ensures list { (s : Option Desk) → IsSeen desk.old s →
+        segments.new ≡ filled (map segment_of (segments_in (listed s (Question.Heap name.now)))) segments.old }
+    ensures count { (s : Option Desk) → IsSeen desk.old s →
+        count.new ≡ done_or (called s (in_form (Command.Ask (Question.Heap name.now))))
+        (length (segments_in (listed s (Question.Heap name.now)))) count.old }
+{
+    let called = desk.step(alloc, forms::heap(name));
+    let Some(station) = desk.take(alloc) else {
+        return called.status();
+    };
+    let n = station.segments(name, segments);
+    desk.put(station);
+    called.told_count(n, count);
+    called.told_sums(sums)
+}
+
+/// Tells the task's handle, lists the records of its transfers each way, and tells how many there are.
+#[unsafe(no_mangle)]
+pub extern "C" fn vf_desk_status(
+    alloc: Global,
+    desk: &mut VfDesk,
+    name: &[u8],
+    handle: &mut u32,
+    outgoing: &mut [VfRecord],
+    outs: &mut usize,
+    incoming: &mut [VfRecord],
+    ins: &mut usize,
+) -> u32
+    ensures asks { Asks (Question.Status name.now) desk.old desk.new result }
+    ensures handle { (s : Option Desk) → IsSeen desk.old s →
+        handle.new ≡ number_or (called s (in_form (Command.Ask (Question.Status name.now)))) handle.old }
+    ensures out { (s : Option Desk) → IsSeen desk.old s →
+        outgoing.new ≡ filled (map record_of (outgoing_in (listed s (Question.Status name.now)))) outgoing.old }
+    ensures outs { (s : Option Desk) → IsSeen desk.old s →
+        outs.new ≡ done_or (called s (in_form (Command.Ask (Question.Status name.now))))
+        (length (outgoing_in (listed s (Question.Status name.now)))) outs.old }
+    ensures taken { (s : Option Desk) → IsSeen desk.old s →
+        incoming.new ≡ filled (map record_of (incoming_in (listed s (Question.Status name.now)))) incoming.old }
+    ensures ins { (s : Option Desk) → IsSeen desk.old s →
+        ins.new ≡ done_or (called s (in_form (Command.Ask (Question.Status name.now))))
+        (length (incoming_in (listed s (Question.Status name.now)))) ins.old }
+{
+    let called = desk.step(alloc, forms::status(name));
+    let Some(station) = desk.take(alloc) else {
+        return called.status();
+    };
+    let counts = station.records(name, outgoing, incoming);
+    desk.put(station);
+    called.told_count(counts.outgoing, outs);
+    called.told_count(counts.incoming, ins);
+    called.told(handle)
+}
+
+/// Tells the free pages, lists areas 0 to 5, the made ones and the slots, and tells how many there are.
+/// (OS_ReadDynamicArea, Wimp_SlotSize.)
+#[unsafe(no_mangle)]
+pub extern "C" fn vf_desk_areas(
+    alloc: Global,
+    desk: &mut VfDesk,
+    free: &mut u32,
+    areas: &mut [VfArea],
+    count: &mut usize,
+) -> u32
+    ensures asks { Asks Question.Areas desk.old desk.new result }
+    ensures free { (s : Option Desk) → IsSeen desk.old s →
+        free.new ≡ number_or (called s (in_form (Command.Ask Question.Areas))) free.old }
+    ensures list { (s : Option Desk) → IsSeen desk.old s →
+        areas.new ≡ filled (map area_of (areas_in (listed s Question.Areas))) areas.old }
+    ensures count { (s : Option Desk) → IsSeen desk.old s →
+        count.new ≡ done_or (called s (in_form (Command.Ask Question.Areas)))
+        (length (areas_in (listed s Question.Areas))) count.old }
+{
+    let called = desk.step(alloc, forms::asked(Question::Areas));
+    let Some(station) = desk.take(alloc) else {
+        return called.status();
+    };
+    let n = station.areas(areas);
+    desk.put(station);
+    called.told_count(n, count);
+    called.told(free)
+}

@@ -1,0 +1,90 @@
+//! What a handle has: files, and the desk where it is open.
+ghost use Rattle.std.specs.Prelude.{◌≡◌, ◌≢◌, true, Option, Some, None, IfSome};
+ghost use Rattle.rh_defs.specs.Desk.{Desk};
+ghost use Rattle.rh_defs.specs.Range.{in_range};
+ghost use Rattle.rh_defs.specs.declared.command.Command.TheVariants as Command;
+ghost use Rattle.vf_desk.specs.Called.{IsAsked, Steps, called, desk_by, in_form, status_of};
+ghost use Rattle.vf_desk.specs.Seen.{KeepsRest, SeenBy};
+
+use crate::called::Called;
+use crate::forms::{anchor_of, name_of};
+use rh_console::{Console, PagedWorld};
+use rh_defs::sizes::GREATEST_NUMBER;
+use rh_defs::{Command, Files, Reply};
+
+/// The files that wait for a desk to be opened, and the desk from then on.
+#[derive(Drop)]
+pub struct Station {
+    pub files: Files,
+    pub console: Option<Console>,
+}
+
+impl Station {
+    /// Does a command on the desk, if it is open and there is one; else nothing changes.
+    pub fn step(&mut self, command: Option<Command>) -> Called
+        requires { IfSome command (λ c. in_range c ≡ true) }
+        ensures said { (s : Option Desk) → SeenBy self.old.console s → result ≡ called s command }
+        ensures desk { (s : Option Desk) → SeenBy self.old.console s → SeenBy self.new.console (desk_by s command) }
+        ensures rest { KeepsRest (Some self.old) (Some self.new) }
+        ensures refused { status_of result ≢ 0 → self.new ≡ self.old }
+        ensures asked { IsAsked command → self.new ≡ self.old }
+    {
+        let Some(mut console) = self.console.take() else {
+            return Called::Closed;
+        };
+        let called = step_world(&mut console.world, command);
+        self.console = Some(console);
+        called
+    }
+
+    /// Writes bytes into a flex block of the desk, if it is open and they can be written by a line that has room.
+    pub fn write(&mut self, name: &[u8], anchor: u32, offset: u32, from: &[u8]) -> Called
+        ensures said { (s : Option Desk) → SeenBy self.old.console s →
+            result ≡ called s (in_form (Command.Put name.now anchor offset from.now)) }
+        ensures desk { (s : Option Desk) → SeenBy self.old.console s →
+            SeenBy self.new.console (desk_by s (in_form (Command.Put name.now anchor offset from.now))) }
+        ensures rest { KeepsRest (Some self.old) (Some self.new) }
+        ensures refused { status_of result ≢ 0 → self.new ≡ self.old }
+    {
+        let Some(mut console) = self.console.take() else {
+            return Called::Closed;
+        };
+        let called = write_world(&mut console.world, name, anchor, offset, from);
+        self.console = Some(console);
+        called
+    }
+}
+
+/// Does a command on a world, if there is one.
+fn step_world(world: &mut PagedWorld, command: Option<Command>) -> Called
+    requires { IfSome command (λ c. in_range c ≡ true) }
+    ensures { Steps command world.old world.new result }
+{
+    match command {
+        Some(command) => Called::Said(world.apply(&command)),
+        None => Called::BadArgument,
+    }
+}
+
+/// Writes bytes into a flex block of a world, if they can be written by a line that has room.
+#[tactic(auto, unfolding(rh_defs::specs::Range::in_range))]
+fn write_world(world: &mut PagedWorld, name: &[u8], anchor: u32, offset: u32, from: &[u8]) -> Called
+    ensures { Steps (in_form (Command.Put name.now anchor offset from.now)) world.old world.new result }
+{
+    let Some(name) = name_of(name) else {
+        return Called::BadArgument;
+    };
+    let Some(anchor) = anchor_of(anchor) else {
+        return Called::BadArgument;
+    };
+    if offset > GREATEST_NUMBER {
+        return Called::BadArgument;
+    }
+    if from.is_empty() {
+        return Called::BadArgument;
+    }
+    match world.put(&name, anchor, offset, from) {
+        Ok(reply) => Called::Said(reply),
+        Err(refusal) => Called::Said(Reply::Refused(refusal)),
+    }
+}
