@@ -507,7 +507,8 @@ uint32_t vf_desk_alloc(struct vf_desk *desk, const uint8_t *name, size_t name_le
 uint32_t vf_desk_load(struct vf_desk *desk, const uint8_t *name, size_t name_len, uint32_t anchor, const uint8_t *file,
                       size_t file_len, uint32_t *address);
 
-/* Writes bytes, one at least, into the anchor's block, from an offset on. VF_NO_NAME, VF_NO_BLOCK, VF_BUSY, VF_BAD_RANGE. */
+/* Writes bytes, one at least, into the anchor's block, from an offset on. VF_NO_NAME, VF_NO_BLOCK, VF_BUSY,
+ * VF_BAD_RANGE. */
 uint32_t vf_desk_put(struct vf_desk *desk, const uint8_t *name, size_t name_len, uint32_t anchor, uint32_t offset,
                      const uint8_t *from, size_t from_len);
 
@@ -597,9 +598,9 @@ uint32_t vf_desk_areas(struct vf_desk *desk, uint32_t *free, struct vf_area *are
  * answered in the reply too. */
 uint32_t vf_desk_line(struct vf_desk *desk, const uint8_t *line, size_t line_len);
 
-/* Puts the text of the last line's reply into `text` with zeros behind it, and tells how many bytes it has, as often as it
- * is asked; what a question lists is looked up anew. VF_SHORT where the text has more bytes than there is room for:
- * `text` has the first ones then, and `length` stays. */
+/* Puts the text of the last line's reply into `text` with zeros behind it, and tells how many bytes it has, as often
+ * as it is asked; what a question lists is looked up anew. VF_SHORT where the text has more bytes than there is room
+ * for: `text` has the first ones then, and `length` stays. */
 uint32_t vf_desk_reply(struct vf_desk *desk, uint8_t *text, size_t text_len, size_t *length);
 
 /* ---- Null pointers -------------------------------------------------------------------------------------------------
