@@ -1,7 +1,7 @@
 /*
  * heap_bench.c: what a claim and a release take, beside the plain heap of the same rules: with 100, 1,000 and 10,000
- * live blocks of 100 bytes, none or every second one of them freed, and claims that fit the first hole or none. Then the
- * same with a map beside the heap.
+ * live blocks of 100 bytes, none or every second one of them freed, and claims that fit the first hole or none. Then
+ * the same with a map beside the heap.
  */
 #define _POSIX_C_SOURCE 200809L
 #include "bench.h"
