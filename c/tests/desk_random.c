@@ -5,7 +5,7 @@
 #include "desk_scripts.h"
 
 #ifndef CALLS
-#define CALLS 200000
+#define CALLS 10000
 #endif
 
 enum { RUN = 400, PAGES = 40, ROOM = 200 };
