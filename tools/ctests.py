@@ -22,8 +22,9 @@ WAYS = {
 }
 # A run that hangs is ended after so many seconds.
 LONGEST = 120
-# The test that no call takes memory, the functions that it counts, and where the calls that it makes by a list stand.
-NO_MEMORY, LISTS = "c/tests/takes_no_memory.c", "c/tests/expect.h"
+# The test that no call takes memory, the functions that it counts, and where the calls that it makes by a list stand;
+# and the same test of an open desk.
+NO_MEMORY, LISTS, DESK_MEMORY = "c/tests/takes_no_memory.c", "c/tests/expect.h", "c/tests/desk_memory.c"
 GIVERS = ["malloc", "calloc", "realloc", "aligned_alloc"]
 BENCHES = ["heap_bench", "flex_bench"]
 SHIMMED = ["sort", "-r", "README.md"]
@@ -78,11 +79,11 @@ def try_test(suite, path, way):
 def try_calls(suite):
     """Each call that the archive gives is one of those of which it is tested that they take no memory."""
     made = set()
-    for path in (NO_MEMORY, LISTS):
+    for path in (NO_MEMORY, LISTS, DESK_MEMORY):
         with open(f"{suite.top}/{path}", encoding="utf-8") as it:
             made |= set(re.findall(r"\bvf_\w+", it.read()))
     left = sorted(set(header.exports(suite.top)) - made)
-    suite.is_true(f"{NO_MEMORY} doesn't call {', '.join(left)}", not left)
+    suite.is_true(f"{NO_MEMORY} and {DESK_MEMORY} don't call {', '.join(left)}", not left)
 
 
 def try_header(suite):

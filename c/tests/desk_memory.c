@@ -1,6 +1,7 @@
 /*
  * desk_memory.c: a desk that takes its memory from functions of this program. Each request is refused in turn: the call
- * answers so, and the files that were added stay. No call asks for memory once the desk is open, and all is given back.
+ * answers so, and the files that were added stay. No call asks for memory once the desk is open, done or refused, and
+ * all is given back.
  */
 #include "expect.h"
 
@@ -92,6 +93,86 @@ static void work(void)
     }
 }
 
+/* A call that is done, and one of the same name that is refused. */
+#define BOTH(done, refused)          \
+    do {                             \
+        EXPECT((done) == VF_OK);     \
+        EXPECT((refused) != VF_OK);  \
+    } while (0)
+
+static const uint8_t abc[] = "abc";
+static uint32_t address, made;
+static size_t count, other;
+
+/* Tasks c and d, and c's flex blocks and C heap. */
+static void calls_on_memory(void)
+{
+    bool was;
+    BOTH(vf_desk_task(&desk, VF_TEXT("c"), 10, VF_TASK_PLAIN, &number),
+         vf_desk_task(&desk, VF_TEXT("c"), 10, VF_TASK_PLAIN, &number));
+    EXPECT(vf_desk_task(&desk, VF_TEXT("d"), 10, VF_TASK_PLAIN, &number) == VF_OK);
+    BOTH(vf_desk_load(&desk, VF_TEXT("c"), 0, VF_TEXT("notes"), &number),
+         vf_desk_load(&desk, VF_TEXT("c"), 2, VF_TEXT("none"), &number));
+    BOTH(vf_desk_alloc(&desk, VF_TEXT("c"), 1, 20, &number), vf_desk_alloc(&desk, VF_TEXT("c"), 1, 20, &number));
+    BOTH(vf_desk_put(&desk, VF_TEXT("c"), 1, 0, abc, 3), vf_desk_put(&desk, VF_TEXT("c"), 1, 18, abc, 3));
+    BOTH(vf_desk_extend(&desk, VF_TEXT("c"), 1, 40), vf_desk_extend(&desk, VF_TEXT("c"), 5, 40));
+    BOTH(vf_desk_mid(&desk, VF_TEXT("c"), 1, 2, 5), vf_desk_mid(&desk, VF_TEXT("c"), 1, 99, 5));
+    BOTH(vf_desk_free(&desk, VF_TEXT("c"), 1), vf_desk_free(&desk, VF_TEXT("c"), 1));
+    BOTH(vf_desk_claim(&desk, VF_TEXT("c"), 30, &address), vf_desk_claim(&desk, VF_TEXT("c"), 0, &number));
+    BOTH(vf_desk_resize(&desk, VF_TEXT("c"), address, 8, &address),
+         vf_desk_resize(&desk, VF_TEXT("c"), address + 1, 8, &number));
+    BOTH(vf_desk_release(&desk, VF_TEXT("c"), address), vf_desk_release(&desk, VF_TEXT("c"), address));
+    BOTH(vf_desk_budge(&desk, VF_TEXT("c"), true, &was), vf_desk_budge(&desk, VF_TEXT("nobody"), true, &was));
+}
+
+/* A transfer from c to d, which both give up. */
+static void calls_on_transfers(void)
+{
+    struct vf_event event;
+    struct vf_message message;
+    BOTH(vf_desk_save(&desk, VF_TEXT("c"), 0, VF_TEXT("d"), VF_TEXT("Leaf"), &number),
+         vf_desk_save(&desk, VF_TEXT("c"), 5, VF_TEXT("d"), VF_TEXT("Leaf"), &number));
+    BOTH(vf_desk_repeat(&desk, VF_TEXT("c"), &number), vf_desk_repeat(&desk, VF_TEXT("d"), &number));
+    BOTH(vf_desk_next(&desk, VF_TEXT("d"), &message, &number),
+         vf_desk_next(&desk, VF_TEXT("nobody"), &message, &number));
+    BOTH(vf_desk_poll(&desk, VF_TEXT("d"), &event), vf_desk_poll(&desk, VF_TEXT("nobody"), &event));
+    BOTH(vf_desk_cancel_in(&desk, VF_TEXT("d"), 0), vf_desk_cancel_in(&desk, VF_TEXT("d"), 99));
+    BOTH(vf_desk_cancel_out(&desk, VF_TEXT("c"), 0), vf_desk_cancel_out(&desk, VF_TEXT("c"), 99));
+}
+
+static void calls_on_areas(void)
+{
+    BOTH(vf_desk_make(&desk, 3, &made), vf_desk_make(&desk, 0, &number));
+    BOTH(vf_desk_area(&desk, made, 4096, &number), vf_desk_area(&desk, made + 1, 4096, &number));
+    BOTH(vf_desk_remove(&desk, made), vf_desk_remove(&desk, made));
+    BOTH(vf_desk_rma_claim(&desk, 50, &address), vf_desk_rma_claim(&desk, 0, &number));
+    BOTH(vf_desk_rma_resize(&desk, address, 8, &address), vf_desk_rma_resize(&desk, address + 1, 8, &number));
+    BOTH(vf_desk_rma_free(&desk, address), vf_desk_rma_free(&desk, address));
+}
+
+/* The questions, of which none on areas is refused; and the end of both tasks. */
+static void questions(void)
+{
+    struct vf_block blocks[4];
+    struct vf_segment segments[4];
+    struct vf_heap_sums sums;
+    struct vf_record outgoing[8], incoming[8];
+    struct vf_area areas[8];
+    BOTH(vf_desk_show(&desk, VF_TEXT("c"), 0, text, sizeof text, &number),
+         vf_desk_show(&desk, VF_TEXT("c"), 7, text, sizeof text, &number));
+    BOTH(vf_desk_blocks(&desk, VF_TEXT("c"), blocks, 4, &count),
+         vf_desk_blocks(&desk, VF_TEXT("nobody"), blocks, 4, &count));
+    BOTH(vf_desk_heap(&desk, VF_TEXT("c"), &sums, segments, 4, &count),
+         vf_desk_heap(&desk, VF_TEXT("nobody"), &sums, segments, 4, &count));
+    BOTH(vf_desk_status(&desk, VF_TEXT("c"), &number, outgoing, 8, &count, incoming, 8, &other),
+         vf_desk_status(&desk, VF_TEXT("nobody"), &number, outgoing, 8, &count, incoming, 8, &other));
+    EXPECT(vf_desk_areas(&desk, &number, areas, 8, &count) == VF_OK);
+    say("areas");
+    EXPECT(vf_desk_reply(&desk, text, 1, &length) == VF_SHORT);
+    BOTH(vf_desk_kill(&desk, VF_TEXT("c")), vf_desk_kill(&desk, VF_TEXT("c")));
+    EXPECT(vf_desk_kill(&desk, VF_TEXT("d")) == VF_OK);
+}
+
 int main(void)
 {
     DOES_AT_LAST(vf_desk_file(&desk, VF_TEXT("notes"), (const uint8_t *)"notes that are handed over", 26));
@@ -99,6 +180,10 @@ int main(void)
     DOES_AT_LAST(vf_desk_open(&desk, PAGES, 1, 1));
     long held = live;
     requests = 0;
+    calls_on_memory();
+    calls_on_transfers();
+    calls_on_areas();
+    questions();
     work();
     EXPECT(requests == 0 && live == held);
     EXPECT(vf_desk_load(&desk, VF_TEXT("a"), 9, VF_TEXT("more"), &number) == VF_OK);
