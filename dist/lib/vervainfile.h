@@ -1,14 +1,14 @@
 /*
- * vervainfile.h: heaps by the rules of OS_Heap, and flex blocks that slide, in memory of your own. Link with
- * libvervainfile.a.
+ * vervainfile.h: heaps by the rules of OS_Heap and flex blocks that slide, in memory of your own; and a desk, whose
+ * tasks hand each other files. Link with libvervainfile.a.
  *
  *     static uint8_t memory[65536];
  *     size_t address;
  *     if (vf_heap_init(memory, sizeof memory) == VF_OK && vf_heap_claim(memory, sizeof memory, 100, &address) == VF_OK)
  *         memory[address] = 1;
  *
- * Statuses, your duties, the calls of OS_Heap, the same on any bytes, flex, the C heap below flex, a slot in any bytes,
- * and null pointers: in this order.
+ * Statuses, your duties, the calls of OS_Heap, the same with a map beside the heap, the same on any bytes, flex, the C
+ * heap below flex, a slot in any bytes, the desk, and null pointers: in this order.
  * docs/C.md says more: what each Acorn call becomes, what a call costs, and what of it is proved.
  */
 #ifndef VERVAINFILE_H
@@ -25,24 +25,41 @@ extern "C" {
 /* ---- Statuses ----------------------------------------------------------------------------------------------------
  *
  * Each call answers one. With any but VF_OK it has changed nothing: no byte of the memory, and none of the numbers that
- * it would have told. Refusals have the numbers that they have everywhere in vervainfile, 1 to 24. What is wrong with
- * the memory that a call was lent begins at 32.
+ * it would have told (but vf_desk_reply has put the first bytes of a text that has no room). Refusals have the numbers
+ * that they have everywhere in vervainfile, 1 to 24: where several hold, the first is answered. What is wrong with what
+ * a call was lent begins at 32.
  */
 enum {
     VF_OK = 0,                 /* all was done */
 
+    VF_NAME_IN_USE = 1,        /* a live task has the name */
+    VF_NO_NAME = 2,            /* no live task has the name */
+    VF_TOO_MANY_TASKS = 3,     /* 32 tasks are live */
+    VF_NO_HANDLES = 4,         /* the last handle, 4294967295, was given */
+    VF_NO_FILE = 5,            /* no file has the name */
     VF_NO_BLOCK = 6,           /* the anchor has no block */
     VF_ANCHOR_IN_USE = 7,      /* the anchor has a block */
     VF_NOT_A_BLOCK = 8,        /* no block begins at the address */
+    VF_NOT_YOURS = 9,          /* the block of the module area holds a message */
+    VF_BUSY = 10,              /* a transfer uses the block, eight that go out are open, or there is a scrap file */
+    VF_NOT_OPEN = 11,          /* no transfer that is meant can be given up */
+    VF_NOTHING_SENT = 12,      /* the task has sent no message */
     VF_BAD_RANGE = 13,         /* bytes lie outside the block */
     VF_BAD_SIZE = 14,          /* a block of a heap has at least 1 byte */
-    VF_EXCESSIVE_SHRINK = 15,  /* the heap would end below its last block */
+    VF_EXCESSIVE_SHRINK = 15,  /* the heap would end below its last block, or an area lose more than it can */
+    VF_NO_TASK = 16,           /* the task at the other end is not live */
+    VF_NO_REFS = 17,           /* the last ref, 4294967295, was given */
+    VF_QUEUE_FULL = 18,        /* 256 messages are live */
     VF_NO_BUDGE = 19,          /* the C heap of a slot must grow, and budging is off */
     VF_NO_ROOM = 20,           /* no hole is large enough, nor the top; or too few pages are free */
+    VF_NO_AREA = 21,           /* no area has the number */
+    VF_TOO_MANY_AREAS = 22,    /* 32 made areas are live */
+    VF_NO_NUMBERS = 23,        /* the last number of a made area, 65535, was given */
+    VF_TOO_BIG = 24,           /* a made area would have more pages than it may */
 
     VF_NULL = 32,              /* a pointer is null */
-    VF_BAD_LENGTH = 33,        /* no heap has so many bytes: a multiple of 8, 16 to 1 GiB; or no slot */
-    VF_SHORT = 34,             /* the memory is shorter than what is in it, or than the heap would become */
+    VF_BAD_LENGTH = 33,        /* no heap has so many bytes: a multiple of 8, 16 to 1 GiB; or no slot; or no file */
+    VF_SHORT = 34,             /* the memory is shorter than what is in it, or than heap, map or text would be */
     VF_BAD_DESCRIPTOR = 35,    /* the first 16 bytes are not those of a heap */
     VF_BAD_LINK = 36,          /* a link does not lead to a hole ahead */
     VF_BAD_SEGMENT = 37,       /* a size is not that of a segment */
@@ -50,7 +67,12 @@ enum {
     VF_NO_SLOT = 39,           /* the slot has no page: it was never started */
     VF_BAD_FLEX_BLOCK = 40,    /* a flex block goes past the end of the slot's pages */
     VF_BAD_ANCHOR_WORD = 41,   /* an anchor word is not 0, and leads to no flex block that names it */
-    VF_SPARE_PAGE = 42         /* the last page of the slot holds nothing of it */
+    VF_SPARE_PAGE = 42,        /* the last page of the slot holds nothing of it */
+    VF_CLOSED = 43,            /* the desk is not open */
+    VF_OPEN = 44,              /* the desk is open already */
+    VF_BAD_ARGUMENT = 45,      /* a name, an anchor, a number or a leafname is none that a line could have */
+    VF_NO_MEMORY = 46,         /* memory was refused */
+    VF_FILE_EXISTS = 47        /* a file with the name was added before */
 };
 
 /* ---- Duties of the caller -----------------------------------------------------------------------------------------
@@ -58,12 +80,12 @@ enum {
  * What no call can see, and each relies on:
  *
  * 1. A pointer that is not null leads to what it says: `memory` to `len` bytes, `from` to `from_len`, `to` to `to_len`,
- *    any other to one value of its type, at an address that fits the type. What the pointers of one call lead to does
- *    not overlap.
- * 2. While a call runs nobody else reads or writes what it was lent: one call at a time on one heap or slot. Different
- *    ones may be used at the same time. Questions count as calls, since all but vf_heap_check and vf_flex_check take a
- *    pointer to bytes that may be written, though they write none. These two only read: any number of those may run at
- *    once.
+ *    `map` to `map_len` words, any other to one value of its type, at an address that fits the type. What the pointers
+ *    of one call lead to does not overlap.
+ * 2. While a call runs nobody else writes what it was lent, and nobody else reads what it was lent without `const`. On
+ *    one heap or slot, the calls that take `memory` without `const` run one at a time, and alone; those that take it
+ *    with `const` only read, and any number of them may run at once. Different heaps and slots may be used at the same
+ *    time.
  * 3. Of the calls on heaps without `checked` in their names, vf_heap_init aside: `memory` is a heap, so that
  *    vf_heap_check would answer VF_OK. It is one after vf_heap_init, and after each call, as long as you write to
  *    nothing but the bytes of your blocks. Where it is none they may read and write anywhere, as free() may.
@@ -71,6 +93,15 @@ enum {
  *    a slot, so that vf_flex_check would answer VF_OK. They are one after vf_flex_start, and after each call, as long
  *    as you write to nothing but the bytes of your blocks. Where they are none the calls may read and write anywhere.
  *    What `len` and `slot` alone can tell each call tests.
+ * 5. Of the calls on heaps with `indexed` in their names: `map` is a map of the heap, with the bits that vf_heap_index
+ *    would set. It is one after vf_heap_index, and after each of these calls, as long as nothing else writes to it or
+ *    changes the heap. Where it is none they may read and write anywhere.
+ * 6. Of the calls on desks: the struct is zeros, or as the last call left it. It may be moved, but a copy of an open
+ *    one is not used beside it, nor after it was closed. An open desk is closed at last, or its memory is never given
+ *    back. A desk is used by the thread that opened it.
+ * 7. What the library asks for memory, malloc(), realloc() and free() or your own, are one allocator, which aligns to
+ *    16. Of all calls vf_desk_file and vf_desk_open alone ask for some, and vf_desk_close gives it back; these three
+ *    are not called from a signal handler, nor from the forked child of a process with threads.
  */
 
 /* ---- OS_Heap -------------------------------------------------------------------------------------------------------
@@ -85,7 +116,7 @@ enum {
 uint32_t vf_heap_init(uint8_t *memory, size_t len);
 
 /* OS_Heap 1: tells the bytes of the largest block that could be claimed, and how many bytes are free in all. */
-uint32_t vf_heap_describe(uint8_t *memory, size_t len, size_t *most, size_t *free);
+uint32_t vf_heap_describe(const uint8_t *memory, size_t len, size_t *most, size_t *free);
 
 /* OS_Heap 2: claims a block of `n` bytes or up to 7 more, all of them 0, and tells its address. The first hole that is
  * large enough is taken, else bytes above all blocks. VF_BAD_SIZE where n is 0, VF_NO_ROOM. */
@@ -104,7 +135,42 @@ uint32_t vf_heap_resize(uint8_t *memory, size_t len, size_t address, ptrdiff_t d
 uint32_t vf_heap_extend(uint8_t *memory, size_t len, ptrdiff_t delta);
 
 /* OS_Heap 6: tells how many bytes the block at an address has: what was asked for, or up to 7 more. VF_NOT_A_BLOCK. */
-uint32_t vf_heap_block_size(uint8_t *memory, size_t len, size_t address, size_t *size);
+uint32_t vf_heap_block_size(const uint8_t *memory, size_t len, size_t address, size_t *size);
+
+/* ---- A map beside a heap -------------------------------------------------------------------------------------------
+ *
+ * The calls above find a block by a walk, which is long where thousands of blocks live. Who keeps a map of the heap
+ * beside it spares the walk: `map` is vf_heap_map_words(n) words or more, where n is the heap's length, and holds
+ * whatever it may before vf_heap_index. Each call here does with the heap's bytes just what the call above does, and
+ * keeps the map. After a call without a map that has changed the heap, make the map anew.
+ *
+ * A claim still walks from hole to hole: the first one that is large enough is taken.
+ */
+
+/* How many words a map has for a heap of `length` bytes: two for each 512 bytes, and for those that are left. */
+size_t vf_heap_map_words(size_t length);
+
+/* Makes a map of the heap, in one walk over it. VF_SHORT where it has fewer words than vf_heap_map_words says. */
+uint32_t vf_heap_index(const uint8_t *memory, size_t len, uint64_t *map, size_t map_len);
+
+/* OS_Heap 2: as vf_heap_claim. */
+uint32_t vf_heap_indexed_claim(uint8_t *memory, size_t len, uint64_t *map, size_t map_len, size_t n, size_t *address);
+
+/* OS_Heap 3: as vf_heap_release. */
+uint32_t vf_heap_indexed_release(uint8_t *memory, size_t len, uint64_t *map, size_t map_len, size_t address);
+
+/* OS_Heap 4: as vf_heap_resize. */
+uint32_t vf_heap_indexed_resize(uint8_t *memory, size_t len, uint64_t *map, size_t map_len, size_t address,
+                                ptrdiff_t delta, size_t *moved_to);
+
+/* OS_Heap 6: as vf_heap_block_size. */
+uint32_t vf_heap_indexed_block_size(const uint8_t *memory, size_t len, const uint64_t *map, size_t map_len,
+                                    size_t address, size_t *size);
+
+/* Tells by how many bytes the heap is too short for a resize by `delta`, 0 where it has room: as many more make it be
+ * done. VF_NOT_A_BLOCK, VF_BAD_SIZE; VF_NO_ROOM where `delta` has more than 32 bits. */
+uint32_t vf_heap_indexed_resize_need(const uint8_t *memory, size_t len, const uint64_t *map, size_t map_len,
+                                     size_t address, ptrdiff_t delta, size_t *need);
 
 /* ---- The same on any bytes -----------------------------------------------------------------------------------------
  *
@@ -118,12 +184,12 @@ uint32_t vf_heap_block_size(uint8_t *memory, size_t len, size_t address, size_t 
  * and then the heap's first fault, VF_BAD_DESCRIPTOR, VF_BAD_LINK or VF_BAD_SEGMENT. */
 uint32_t vf_heap_check(const uint8_t *memory, size_t len);
 
-uint32_t vf_heap_checked_describe(uint8_t *memory, size_t len, size_t *most, size_t *free);
+uint32_t vf_heap_checked_describe(const uint8_t *memory, size_t len, size_t *most, size_t *free);
 uint32_t vf_heap_checked_claim(uint8_t *memory, size_t len, size_t n, size_t *address);
 uint32_t vf_heap_checked_release(uint8_t *memory, size_t len, size_t address);
 uint32_t vf_heap_checked_resize(uint8_t *memory, size_t len, size_t address, ptrdiff_t delta, size_t *moved_to);
 uint32_t vf_heap_checked_extend(uint8_t *memory, size_t len, ptrdiff_t delta);
-uint32_t vf_heap_checked_block_size(uint8_t *memory, size_t len, size_t address, size_t *size);
+uint32_t vf_heap_checked_block_size(const uint8_t *memory, size_t len, size_t address, size_t *size);
 
 /* ---- flex ----------------------------------------------------------------------------------------------------------
  *
@@ -160,7 +226,7 @@ uint32_t vf_flex_alloc(uint8_t *memory, size_t len, struct vf_slot *slot, uint32
 uint32_t vf_flex_free(uint8_t *memory, size_t len, struct vf_slot *slot, uint32_t anchor);
 
 /* flex_size: tells how many bytes the anchor's block has, just what was asked for. VF_NO_BLOCK. */
-uint32_t vf_flex_size(uint8_t *memory, size_t len, const struct vf_slot *slot, uint32_t anchor, size_t *size);
+uint32_t vf_flex_size(const uint8_t *memory, size_t len, const struct vf_slot *slot, uint32_t anchor, size_t *size);
 
 /* flex_extend: cuts the anchor's block to `n` bytes, or gives it bytes up to `n`, which are 0. Those above it slide.
  * VF_NO_BLOCK, VF_NO_ROOM. */
@@ -177,7 +243,7 @@ uint32_t vf_flex_midextend(uint8_t *memory, size_t len, struct vf_slot *slot, ui
 uint32_t vf_flex_set_budge(struct vf_slot *slot, bool on, bool *was);
 
 /* Tells where the anchor's block stands, as what a flex_ptr pointed to did. VF_NO_BLOCK. */
-uint32_t vf_flex_place(uint8_t *memory, size_t len, const struct vf_slot *slot, uint32_t anchor, size_t *place);
+uint32_t vf_flex_place(const uint8_t *memory, size_t len, const struct vf_slot *slot, uint32_t anchor, size_t *place);
 
 /* Writes `from_len` bytes into the anchor's block, from an offset on. VF_NO_BLOCK, VF_BAD_RANGE where they would go
  * beyond its end. */
@@ -186,7 +252,7 @@ uint32_t vf_flex_put(uint8_t *memory, size_t len, struct vf_slot *slot, uint32_t
 
 /* Fills `to` with `to_len` bytes of the anchor's block, from an offset on. VF_NO_BLOCK, VF_BAD_RANGE where there are
  * fewer; then `to` stays. */
-uint32_t vf_flex_read(uint8_t *memory, size_t len, const struct vf_slot *slot, uint32_t anchor, size_t offset,
+uint32_t vf_flex_read(const uint8_t *memory, size_t len, const struct vf_slot *slot, uint32_t anchor, size_t offset,
                       uint8_t *to, size_t to_len);
 
 /* ---- The C heap below flex -----------------------------------------------------------------------------------------
@@ -198,7 +264,7 @@ uint32_t vf_flex_read(uint8_t *memory, size_t len, const struct vf_slot *slot, u
 
 /* OS_Heap 1: tells the bytes of the largest block that could be claimed with no page more, and how many bytes are free
  * in all, between the C heap's first byte and its end. */
-uint32_t vf_flex_describe(uint8_t *memory, size_t len, const struct vf_slot *slot, size_t *most, size_t *free);
+uint32_t vf_flex_describe(const uint8_t *memory, size_t len, const struct vf_slot *slot, size_t *most, size_t *free);
 
 /* OS_Heap 2: claims a block of `n` bytes or up to 7 more, all of them 0, and tells its place. VF_BAD_SIZE where n is 0,
  * VF_NO_BUDGE, VF_NO_ROOM. */
@@ -214,7 +280,7 @@ uint32_t vf_flex_resize(uint8_t *memory, size_t len, struct vf_slot *slot, size_
                         size_t *moved_to);
 
 /* OS_Heap 6: tells how many bytes the block at a place has: what was asked for, or up to 7 more. VF_NOT_A_BLOCK. */
-uint32_t vf_flex_block_size(uint8_t *memory, size_t len, const struct vf_slot *slot, size_t place, size_t *size);
+uint32_t vf_flex_block_size(const uint8_t *memory, size_t len, const struct vf_slot *slot, size_t place, size_t *size);
 
 /* ---- A slot in any bytes --------------------------------------------------------------------------------------------
  *
@@ -232,22 +298,310 @@ uint32_t vf_flex_check(const uint8_t *memory, size_t len, const struct vf_slot *
 uint32_t vf_flex_checked_alloc(uint8_t *memory, size_t len, struct vf_slot *slot, uint32_t anchor, size_t n,
                                size_t *place);
 uint32_t vf_flex_checked_free(uint8_t *memory, size_t len, struct vf_slot *slot, uint32_t anchor);
-uint32_t vf_flex_checked_size(uint8_t *memory, size_t len, const struct vf_slot *slot, uint32_t anchor, size_t *size);
+uint32_t vf_flex_checked_size(const uint8_t *memory, size_t len, const struct vf_slot *slot, uint32_t anchor,
+                              size_t *size);
 uint32_t vf_flex_checked_extend(uint8_t *memory, size_t len, struct vf_slot *slot, uint32_t anchor, size_t n);
 uint32_t vf_flex_checked_midextend(uint8_t *memory, size_t len, struct vf_slot *slot, uint32_t anchor, size_t offset,
                                    ptrdiff_t by);
-uint32_t vf_flex_checked_place(uint8_t *memory, size_t len, const struct vf_slot *slot, uint32_t anchor, size_t *place);
+uint32_t vf_flex_checked_place(const uint8_t *memory, size_t len, const struct vf_slot *slot, uint32_t anchor,
+                               size_t *place);
 uint32_t vf_flex_checked_put(uint8_t *memory, size_t len, struct vf_slot *slot, uint32_t anchor, size_t offset,
                              const uint8_t *from, size_t from_len);
-uint32_t vf_flex_checked_read(uint8_t *memory, size_t len, const struct vf_slot *slot, uint32_t anchor, size_t offset,
-                              uint8_t *to, size_t to_len);
-uint32_t vf_flex_checked_describe(uint8_t *memory, size_t len, const struct vf_slot *slot, size_t *most, size_t *free);
+uint32_t vf_flex_checked_read(const uint8_t *memory, size_t len, const struct vf_slot *slot, uint32_t anchor,
+                              size_t offset, uint8_t *to, size_t to_len);
+uint32_t vf_flex_checked_describe(const uint8_t *memory, size_t len, const struct vf_slot *slot, size_t *most,
+                                  size_t *free);
 uint32_t vf_flex_checked_claim(uint8_t *memory, size_t len, struct vf_slot *slot, size_t n, size_t *place);
 uint32_t vf_flex_checked_release(uint8_t *memory, size_t len, struct vf_slot *slot, size_t place);
 uint32_t vf_flex_checked_resize(uint8_t *memory, size_t len, struct vf_slot *slot, size_t place, ptrdiff_t delta,
                                 size_t *moved_to);
-uint32_t vf_flex_checked_block_size(uint8_t *memory, size_t len, const struct vf_slot *slot, size_t place,
+uint32_t vf_flex_checked_block_size(const uint8_t *memory, size_t len, const struct vf_slot *slot, size_t place,
                                     size_t *size);
+
+/* ---- The desk ------------------------------------------------------------------------------------------------------
+ *
+ * A small desktop: up to 32 tasks, each with a slot of its own (64 anchors, a C heap, flex blocks), a module area,
+ * messages that wait in blocks of it, areas, and files that tasks hand each other in memory. All of it lies in pages of
+ * one pool. docs/DESK.md says what each command does; each has a call here, and vf_desk_line takes the commands as
+ * lines of text.
+ *
+ *     struct vf_desk desk = VF_DESK_CLOSED;
+ *     uint32_t handle, address;
+ *     if (vf_desk_open(&desk, 64, 1, 1) == VF_OK) {
+ *         vf_desk_task(&desk, VF_TEXT("Edit"), 4096, VF_TASK_PLAIN, &handle);
+ *         vf_desk_alloc(&desk, VF_TEXT("Edit"), 0, 100, &address);
+ *         vf_desk_close(&desk);
+ *     }
+ *
+ * A task and a file are told by name: a letter, and up to 11 letters or digits. An address is one that a task on RISC
+ * OS would see: a slot begins at &8000, the module area at &1800000. Numbers and sizes are at most 2,147,483,647, and
+ * so is the magnitude of an amount.
+ *
+ * Each call tests first, and has changed nothing then: VF_NULL; VF_CLOSED, but for vf_desk_file, vf_desk_open and
+ * vf_desk_close; VF_BAD_ARGUMENT. Then come the refusals of the rules, of which each call's comment names those that it
+ * can have.
+ *
+ * A list is put into an array of yours: as many items as it has room for. How many there are in all is told by the
+ * count, so that an array of length 0 asks for the count alone; its pointer is not null even then.
+ */
+
+/* A desk. Keep it as VF_DESK_CLOSED makes it, or as the last call left it. */
+struct vf_desk {
+    void *at;
+    bool live;
+};
+#define VF_DESK_CLOSED { 0, false }
+
+/* A string as the two arguments that a name, a leafname or a line takes. It needs <string.h>. */
+#define VF_TEXT(string) (const uint8_t *)(string), strlen(string)
+
+/* How a task takes part in transfers. */
+enum {
+    VF_TASK_PLAIN = 0, /* it sends and receives */
+    VF_TASK_DEAF = 1,  /* it takes no DataSave */
+    VF_TASK_FILE = 2   /* it answers no RAMFetch, so that its receivers ask for a file */
+};
+
+/* What a poll did with its message. */
+enum {
+    VF_DID_NOTHING = 0,        /* the message is for no record, or a DataSave that was not taken */
+    VF_DID_FETCH = 1,          /* a transfer was begun: `sent` is the fetch */
+    VF_DID_SEND = 2,           /* `count` bytes went into the receiver's buffer: `sent` is the transmit */
+    VF_DID_REFUSE = 3,         /* the transfer failed by `refusal` */
+    VF_DID_FAIL = 4,           /* the transfer failed as its message came back */
+    VF_DID_DRAIN = 5,          /* the buffer of a transfer that was given up was released */
+    VF_DID_TAKE_LAST = 6,      /* the last `count` bytes were taken: the document is whole */
+    VF_DID_TAKE = 7,           /* `count` bytes were taken: `sent` is the next fetch */
+    VF_DID_TAKE_AND_FAIL = 8,  /* `count` bytes were taken, and the next fetch failed by `refusal` */
+    VF_DID_ASK = 9,            /* the sender was asked for a file: `sent` is the DataSaveAck */
+    VF_DID_SAVE = 10,          /* the `count` bytes of the source became the scrap file: `sent` is the DataLoad */
+    VF_DID_LOAD = 11,          /* the scrap file of `count` bytes became the document, and the sender was told */
+    VF_DID_LOAD_AND_FAIL = 12, /* the same, but the answer failed by `refusal` */
+    VF_DID_FINISH = 13         /* the recipient has loaded the file */
+};
+
+/* What a poll took and did. What does not apply is 0. */
+struct vf_event {
+    uint32_t code;     /* Null_Reason_Code 0, User_Message 17, User_Message_Recorded 18, User_Message_Acknowledge 19 */
+    uint32_t action;   /* DataSave 1, DataSaveAck 2, DataLoad 3, DataLoadAck 4, RAMFetch 6, RAMTransmit 7 */
+    uint32_t my_ref;
+    uint32_t your_ref; /* the ref of the message that it answers */
+    uint32_t did;      /* VF_DID_.. */
+    uint32_t count;    /* bytes */
+    uint32_t sent;     /* the ref of a message */
+    uint32_t refusal;  /* a status, 1 to 24 */
+};
+
+/* A message block: words in little-endian order, as the Wimp has them. The first says how many bytes there are, 20 to
+ * 256; then come the sender's handle, my_ref, your_ref, the action, and what belongs to it. */
+struct vf_message {
+    uint8_t bytes[256];
+};
+
+/* A flex block. */
+struct vf_block {
+    uint32_t anchor;
+    uint32_t address;
+    uint32_t size;
+};
+
+/* A segment of a C heap: a block, by its first byte's address and its size, or a hole, by that of its first byte. */
+struct vf_segment {
+    uint32_t address;
+    uint32_t size;
+    bool used;
+};
+
+/* The sums over a C heap: its length, the largest block that could be claimed, and all free bytes. */
+struct vf_heap_sums {
+    uint32_t length;
+    uint32_t largest;
+    uint32_t free;
+};
+
+/* The state of a transfer's record. */
+enum {
+    VF_RECORD_OPEN = 0,     /* it goes out, and has not ended */
+    VF_RECORD_FETCHING = 1, /* it comes in through its buffer */
+    VF_RECORD_DRAINING = 2, /* it was given up, and its buffer is not back yet */
+    VF_RECORD_ASKING = 3,   /* it waits for a file */
+    VF_RECORD_DONE = 4,     /* it ended, and all bytes were handed over */
+    VF_RECORD_FAILED = 5    /* it ended early */
+};
+
+/* A record of a transfer: its state, the ref of its DataSave, and the bytes that were handed over so far. */
+struct vf_record {
+    uint32_t state;
+    uint32_t id;
+    uint32_t count;
+};
+
+/* An area by its number, with no name; or a slot by its task's name, with the number 0. A zero ends the name. */
+struct vf_area {
+    uint32_t number;
+    uint32_t pages;
+    uint8_t name[13];
+};
+
+/* Adds a file, which vf_desk_load finds by its name once the desk is open. The bytes are copied. VF_OPEN,
+ * VF_BAD_ARGUMENT, VF_BAD_LENGTH where there are more than 1,048,576, VF_FILE_EXISTS, VF_NO_MEMORY. */
+uint32_t vf_desk_file(struct vf_desk *desk, const uint8_t *name, size_t name_len, const uint8_t *bytes,
+                      size_t bytes_len);
+
+/* Opens a desk of 8 to 1,024 pages with the files that were added. Its first task gets `first_handle`, its first
+ * message `first_ref`; both count up from there, and may not be 0. VF_OPEN, VF_BAD_ARGUMENT, VF_NO_MEMORY: then the
+ * files stay added. */
+uint32_t vf_desk_open(struct vf_desk *desk, uint32_t pages, uint32_t first_handle, uint32_t first_ref);
+
+/* Closes the desk, and gives back all memory that it took. The struct is all zeros then, and may be opened again. A
+ * desk that is closed already stays so. */
+uint32_t vf_desk_close(struct vf_desk *desk);
+
+/* -- tasks, and what they hand each other -- */
+
+/* Wimp_Initialise: starts a task with a receive buffer of 1 to 65,536 bytes, and tells its handle. `manner` is
+ * VF_TASK_PLAIN, VF_TASK_DEAF or VF_TASK_FILE. VF_NAME_IN_USE, VF_TOO_MANY_TASKS, VF_NO_HANDLES, VF_NO_ROOM. */
+uint32_t vf_desk_task(struct vf_desk *desk, const uint8_t *name, size_t name_len, uint32_t buffer, uint32_t manner,
+                      uint32_t *handle);
+
+/* Wimp_CloseDown: ends a task. The messages that wait for it come back to their senders or vanish, and its pages are
+ * free. VF_NO_NAME. */
+uint32_t vf_desk_kill(struct vf_desk *desk, const uint8_t *name, size_t name_len);
+
+/* Wimp_SendMessage with Message_DataSave: offers the anchor's block to the task `to` under a leafname of 1 to 10
+ * bytes, and tells the message's ref, which is the id of the transfer. VF_NO_NAME, VF_NO_BLOCK, VF_BUSY, VF_NO_TASK,
+ * VF_NO_REFS, VF_QUEUE_FULL, VF_NO_ROOM. */
+uint32_t vf_desk_save(struct vf_desk *desk, const uint8_t *name, size_t name_len, uint32_t anchor, const uint8_t *to,
+                      size_t to_len, const uint8_t *leaf, size_t leaf_len, uint32_t *my_ref);
+
+/* Wimp_Poll: takes the task's next message, does what it asks for, and tells both. With no message the code is 0.
+ * VF_NO_NAME. */
+uint32_t vf_desk_poll(struct vf_desk *desk, const uint8_t *name, size_t name_len, struct vf_event *event);
+
+/* Wimp_Poll: tells the message that the task's next poll would take, as its block, and its reason code, 0 where there
+ * is none. Nothing is taken, and the bytes behind the message stay. VF_NO_NAME. */
+uint32_t vf_desk_next(struct vf_desk *desk, const uint8_t *name, size_t name_len, struct vf_message *message,
+                      uint32_t *code);
+
+/* Gives up the transfer with this id that comes in; with the id 0 the first one that can be given up. VF_NO_NAME,
+ * VF_NOT_OPEN. */
+uint32_t vf_desk_cancel_in(struct vf_desk *desk, const uint8_t *name, size_t name_len, uint32_t id);
+
+/* Gives up the transfer with this id that goes out and is open; with the id 0 the first one. VF_NO_NAME,
+ * VF_NOT_OPEN. */
+uint32_t vf_desk_cancel_out(struct vf_desk *desk, const uint8_t *name, size_t name_len, uint32_t id);
+
+/* Wimp_SendMessage: sends the message that the task sent last once more, and tells its new ref. VF_NO_NAME,
+ * VF_NOTHING_SENT, VF_NO_TASK, VF_NO_REFS, VF_QUEUE_FULL, VF_NO_ROOM. */
+uint32_t vf_desk_repeat(struct vf_desk *desk, const uint8_t *name, size_t name_len, uint32_t *my_ref);
+
+/* -- flex blocks -- */
+
+/* flex_alloc: puts a block of `size` bytes on top of the slot, all of them 0, and tells its address. VF_NO_NAME,
+ * VF_ANCHOR_IN_USE, VF_NO_ROOM. */
+uint32_t vf_desk_alloc(struct vf_desk *desk, const uint8_t *name, size_t name_len, uint32_t anchor, uint32_t size,
+                       uint32_t *address);
+
+/* flex_alloc and OS_File 16: puts a block with a file's bytes on top of the slot, and tells its address. VF_NO_NAME,
+ * VF_NO_FILE, VF_ANCHOR_IN_USE, VF_NO_ROOM. */
+uint32_t vf_desk_load(struct vf_desk *desk, const uint8_t *name, size_t name_len, uint32_t anchor, const uint8_t *file,
+                      size_t file_len, uint32_t *address);
+
+/* Writes bytes, one at least, into the anchor's block, from an offset on. VF_NO_NAME, VF_NO_BLOCK, VF_BUSY,
+ * VF_BAD_RANGE. */
+uint32_t vf_desk_put(struct vf_desk *desk, const uint8_t *name, size_t name_len, uint32_t anchor, uint32_t offset,
+                     const uint8_t *from, size_t from_len);
+
+/* flex_free: takes the anchor's block away. Those above it come down. VF_NO_NAME, VF_NO_BLOCK, VF_BUSY. */
+uint32_t vf_desk_free(struct vf_desk *desk, const uint8_t *name, size_t name_len, uint32_t anchor);
+
+/* flex_extend: cuts the anchor's block to `size` bytes, or gives it bytes up to `size`, which are 0. VF_NO_NAME,
+ * VF_NO_BLOCK, VF_BUSY, VF_NO_ROOM. */
+uint32_t vf_desk_extend(struct vf_desk *desk, const uint8_t *name, size_t name_len, uint32_t anchor, uint32_t size);
+
+/* flex_midextend: puts `by` bytes, which are 0, into the anchor's block at an offset, or where `by` is below 0 takes
+ * as many before the offset out. VF_NO_NAME, VF_NO_BLOCK, VF_BUSY, VF_BAD_RANGE, VF_NO_ROOM. */
+uint32_t vf_desk_mid(struct vf_desk *desk, const uint8_t *name, size_t name_len, uint32_t anchor, uint32_t offset,
+                     int32_t by);
+
+/* -- the C heap of a task -- */
+
+/* OS_Heap 2: claims a block of `size` bytes or up to 7 more of the task's C heap, all of them 0, and tells its
+ * address. VF_NO_NAME, VF_BAD_SIZE, VF_NO_BUDGE, VF_NO_ROOM. */
+uint32_t vf_desk_claim(struct vf_desk *desk, const uint8_t *name, size_t name_len, uint32_t size, uint32_t *address);
+
+/* OS_Heap 3: releases the block at an address. VF_NO_NAME, VF_NOT_A_BLOCK, VF_BUSY. */
+uint32_t vf_desk_release(struct vf_desk *desk, const uint8_t *name, size_t name_len, uint32_t address);
+
+/* OS_Heap 4: gives the block at an address `delta` bytes more, or fewer, and tells where it is then. VF_NO_NAME,
+ * VF_NOT_A_BLOCK, VF_BUSY, VF_BAD_SIZE, VF_NO_BUDGE, VF_NO_ROOM. */
+uint32_t vf_desk_resize(struct vf_desk *desk, const uint8_t *name, size_t name_len, uint32_t address, int32_t delta,
+                        uint32_t *moved_to);
+
+/* flex_set_budge: says whether the flex blocks slide up where the C heap must grow, and tells whether they did.
+ * VF_NO_NAME. */
+uint32_t vf_desk_budge(struct vf_desk *desk, const uint8_t *name, size_t name_len, bool on, bool *was);
+
+/* -- areas, and the module area -- */
+
+/* OS_ChangeDynamicArea: moves the length of an area by `delta` bytes in whole pages, and tells how many bytes were
+ * moved. VF_NO_AREA, VF_EXCESSIVE_SHRINK, VF_TOO_BIG, VF_NO_ROOM. */
+uint32_t vf_desk_area(struct vf_desk *desk, uint32_t number, int32_t delta, uint32_t *bytes);
+
+/* OS_DynamicArea 0: makes an area of no page, and of at most `most` pages, 1 to 1,024, and tells its number.
+ * VF_TOO_MANY_AREAS, VF_NO_NUMBERS. */
+uint32_t vf_desk_make(struct vf_desk *desk, uint32_t most, uint32_t *number);
+
+/* OS_DynamicArea 1: takes a made area away, whose number is from 256 on. VF_NO_AREA. */
+uint32_t vf_desk_remove(struct vf_desk *desk, uint32_t number);
+
+/* OS_Module 6: claims a block of `size` bytes or up to 7 more of the module area, all of them 0, and tells its
+ * address. VF_BAD_SIZE, VF_NO_ROOM. */
+uint32_t vf_desk_rma_claim(struct vf_desk *desk, uint32_t size, uint32_t *address);
+
+/* OS_Module 7: frees the block at an address of the module area. VF_NOT_A_BLOCK, VF_NOT_YOURS where it has a
+ * message. */
+uint32_t vf_desk_rma_free(struct vf_desk *desk, uint32_t address);
+
+/* OS_Module 13: gives the block at an address of the module area `delta` bytes more, or fewer, and tells where it is
+ * then. VF_NOT_A_BLOCK, VF_NOT_YOURS, VF_BAD_SIZE, VF_NO_ROOM. */
+uint32_t vf_desk_rma_resize(struct vf_desk *desk, uint32_t address, int32_t delta, uint32_t *moved_to);
+
+/* -- questions -- */
+
+/* flex_size: tells how many bytes the anchor's block has, and fills `to` with its first ones. VF_NO_NAME,
+ * VF_NO_BLOCK. */
+uint32_t vf_desk_show(struct vf_desk *desk, const uint8_t *name, size_t name_len, uint32_t anchor, uint8_t *to,
+                      size_t to_len, uint32_t *size);
+
+/* Lists the task's flex blocks from below. VF_NO_NAME. */
+uint32_t vf_desk_blocks(struct vf_desk *desk, const uint8_t *name, size_t name_len, struct vf_block *blocks,
+                        size_t blocks_len, size_t *count);
+
+/* OS_Heap 1: tells the sums over the task's C heap, and lists its segments from below. VF_NO_NAME. */
+uint32_t vf_desk_heap(struct vf_desk *desk, const uint8_t *name, size_t name_len, struct vf_heap_sums *sums,
+                      struct vf_segment *segments, size_t segments_len, size_t *count);
+
+/* Tells the task's handle, and lists the records of its transfers, those that go out and those that come in, at most
+ * 8 each. VF_NO_NAME. */
+uint32_t vf_desk_status(struct vf_desk *desk, const uint8_t *name, size_t name_len, uint32_t *handle,
+                        struct vf_record *outgoing, size_t outgoing_len, size_t *outs, struct vf_record *incoming,
+                        size_t incoming_len, size_t *ins);
+
+/* OS_ReadDynamicArea and Wimp_SlotSize: tells how many pages are free, and lists areas 0 to 5, the made areas in
+ * order of number, and the slots in order of handle, at most 70. */
+uint32_t vf_desk_areas(struct vf_desk *desk, uint32_t *free, struct vf_area *areas, size_t areas_len, size_t *count);
+
+/* -- lines -- */
+
+/* Takes a line of a script without its line feed, and keeps its reply. A line that the desk does not understand is
+ * answered in the reply too. */
+uint32_t vf_desk_line(struct vf_desk *desk, const uint8_t *line, size_t line_len);
+
+/* Puts the text of the last line's reply into `text` with zeros behind it, and tells how many bytes it has, as often
+ * as it is asked; what a question lists is looked up anew. VF_SHORT where the text has more bytes than there is room
+ * for: `text` has the first ones then, and `length` stays. */
+uint32_t vf_desk_reply(struct vf_desk *desk, uint8_t *text, size_t text_len, size_t *length);
 
 /* ---- Null pointers -------------------------------------------------------------------------------------------------
  *
@@ -262,7 +616,7 @@ uint32_t vf_flex_checked_block_size(uint8_t *memory, size_t len, const struct vf
 
 VF_UNLESS_NULL(vf_heap_init, (uint8_t *memory, size_t len), memory, (memory, len))
 VF_UNLESS_NULL(vf_heap_check, (const uint8_t *memory, size_t len), memory, (memory, len))
-VF_BOTH_UNLESS_NULL(vf_heap, describe, (uint8_t *memory, size_t len, size_t *most, size_t *free),
+VF_BOTH_UNLESS_NULL(vf_heap, describe, (const uint8_t *memory, size_t len, size_t *most, size_t *free),
                     memory && most && free, (memory, len, most, free))
 VF_BOTH_UNLESS_NULL(vf_heap, claim, (uint8_t *memory, size_t len, size_t n, size_t *address), memory && address,
                     (memory, len, n, address))
@@ -271,8 +625,27 @@ VF_BOTH_UNLESS_NULL(vf_heap, resize,
                     (uint8_t *memory, size_t len, size_t address, ptrdiff_t delta, size_t *moved_to),
                     memory && moved_to, (memory, len, address, delta, moved_to))
 VF_BOTH_UNLESS_NULL(vf_heap, extend, (uint8_t *memory, size_t len, ptrdiff_t delta), memory, (memory, len, delta))
-VF_BOTH_UNLESS_NULL(vf_heap, block_size, (uint8_t *memory, size_t len, size_t address, size_t *size),
+VF_BOTH_UNLESS_NULL(vf_heap, block_size, (const uint8_t *memory, size_t len, size_t address, size_t *size),
                     memory && size, (memory, len, address, size))
+VF_UNLESS_NULL(vf_heap_index, (const uint8_t *memory, size_t len, uint64_t *map, size_t map_len),
+               memory && map, (memory, len, map, map_len))
+VF_UNLESS_NULL(vf_heap_indexed_claim,
+               (uint8_t *memory, size_t len, uint64_t *map, size_t map_len, size_t n, size_t *address),
+               memory && map && address, (memory, len, map, map_len, n, address))
+VF_UNLESS_NULL(vf_heap_indexed_release,
+               (uint8_t *memory, size_t len, uint64_t *map, size_t map_len, size_t address),
+               memory && map, (memory, len, map, map_len, address))
+VF_UNLESS_NULL(vf_heap_indexed_resize,
+               (uint8_t *memory, size_t len, uint64_t *map, size_t map_len, size_t address, ptrdiff_t delta,
+                size_t *moved_to),
+               memory && map && moved_to, (memory, len, map, map_len, address, delta, moved_to))
+VF_UNLESS_NULL(vf_heap_indexed_block_size,
+               (const uint8_t *memory, size_t len, const uint64_t *map, size_t map_len, size_t address, size_t *size),
+               memory && map && size, (memory, len, map, map_len, address, size))
+VF_UNLESS_NULL(vf_heap_indexed_resize_need,
+               (const uint8_t *memory, size_t len, const uint64_t *map, size_t map_len, size_t address,
+                ptrdiff_t delta, size_t *need),
+               memory && map && need, (memory, len, map, map_len, address, delta, need))
 
 VF_UNLESS_NULL(vf_flex_start, (uint8_t *memory, size_t len, struct vf_slot *slot),
                memory && slot, (memory, len, slot))
@@ -286,7 +659,7 @@ VF_BOTH_UNLESS_NULL(vf_flex, alloc,
 VF_BOTH_UNLESS_NULL(vf_flex, free, (uint8_t *memory, size_t len, struct vf_slot *slot, uint32_t anchor),
                     memory && slot, (memory, len, slot, anchor))
 VF_BOTH_UNLESS_NULL(vf_flex, size,
-                    (uint8_t *memory, size_t len, const struct vf_slot *slot, uint32_t anchor, size_t *size),
+                    (const uint8_t *memory, size_t len, const struct vf_slot *slot, uint32_t anchor, size_t *size),
                     memory && slot && size, (memory, len, slot, anchor, size))
 VF_BOTH_UNLESS_NULL(vf_flex, extend, (uint8_t *memory, size_t len, struct vf_slot *slot, uint32_t anchor, size_t n),
                     memory && slot, (memory, len, slot, anchor, n))
@@ -294,18 +667,18 @@ VF_BOTH_UNLESS_NULL(vf_flex, midextend,
                     (uint8_t *memory, size_t len, struct vf_slot *slot, uint32_t anchor, size_t offset, ptrdiff_t by),
                     memory && slot, (memory, len, slot, anchor, offset, by))
 VF_BOTH_UNLESS_NULL(vf_flex, place,
-                    (uint8_t *memory, size_t len, const struct vf_slot *slot, uint32_t anchor, size_t *place),
+                    (const uint8_t *memory, size_t len, const struct vf_slot *slot, uint32_t anchor, size_t *place),
                     memory && slot && place, (memory, len, slot, anchor, place))
 VF_BOTH_UNLESS_NULL(vf_flex, put,
                     (uint8_t *memory, size_t len, struct vf_slot *slot, uint32_t anchor, size_t offset,
                      const uint8_t *from, size_t from_len),
                     memory && slot && from, (memory, len, slot, anchor, offset, from, from_len))
 VF_BOTH_UNLESS_NULL(vf_flex, read,
-                    (uint8_t *memory, size_t len, const struct vf_slot *slot, uint32_t anchor, size_t offset,
+                    (const uint8_t *memory, size_t len, const struct vf_slot *slot, uint32_t anchor, size_t offset,
                      uint8_t *to, size_t to_len),
                     memory && slot && to, (memory, len, slot, anchor, offset, to, to_len))
 VF_BOTH_UNLESS_NULL(vf_flex, describe,
-                    (uint8_t *memory, size_t len, const struct vf_slot *slot, size_t *most, size_t *free),
+                    (const uint8_t *memory, size_t len, const struct vf_slot *slot, size_t *most, size_t *free),
                     memory && slot && most && free, (memory, len, slot, most, free))
 VF_BOTH_UNLESS_NULL(vf_flex, claim, (uint8_t *memory, size_t len, struct vf_slot *slot, size_t n, size_t *place),
                     memory && slot && place, (memory, len, slot, n, place))
@@ -316,14 +689,131 @@ VF_BOTH_UNLESS_NULL(vf_flex, resize,
                      size_t *moved_to),
                     memory && slot && moved_to, (memory, len, slot, place, delta, moved_to))
 VF_BOTH_UNLESS_NULL(vf_flex, block_size,
-                    (uint8_t *memory, size_t len, const struct vf_slot *slot, size_t place, size_t *size),
+                    (const uint8_t *memory, size_t len, const struct vf_slot *slot, size_t place, size_t *size),
                     memory && slot && size, (memory, len, slot, place, size))
+
+VF_UNLESS_NULL(vf_desk_file,
+               (struct vf_desk *desk, const uint8_t *name, size_t name_len, const uint8_t *bytes, size_t bytes_len),
+               desk && name && bytes, (desk, name, name_len, bytes, bytes_len))
+VF_UNLESS_NULL(vf_desk_open,
+               (struct vf_desk *desk, uint32_t pages, uint32_t first_handle, uint32_t first_ref),
+               desk, (desk, pages, first_handle, first_ref))
+VF_UNLESS_NULL(vf_desk_close, (struct vf_desk *desk), desk, (desk))
+VF_UNLESS_NULL(vf_desk_task,
+               (struct vf_desk *desk, const uint8_t *name, size_t name_len, uint32_t buffer, uint32_t manner,
+               uint32_t *handle),
+               desk && name && handle, (desk, name, name_len, buffer, manner, handle))
+VF_UNLESS_NULL(vf_desk_kill,
+               (struct vf_desk *desk, const uint8_t *name, size_t name_len),
+               desk && name, (desk, name, name_len))
+VF_UNLESS_NULL(vf_desk_save,
+               (struct vf_desk *desk, const uint8_t *name, size_t name_len, uint32_t anchor, const uint8_t *to,
+               size_t to_len, const uint8_t *leaf, size_t leaf_len, uint32_t *my_ref),
+               desk && name && to && leaf && my_ref, (desk, name, name_len, anchor, to, to_len, leaf, leaf_len, my_ref))
+VF_UNLESS_NULL(vf_desk_poll,
+               (struct vf_desk *desk, const uint8_t *name, size_t name_len, struct vf_event *event),
+               desk && name && event, (desk, name, name_len, event))
+VF_UNLESS_NULL(vf_desk_next,
+               (struct vf_desk *desk, const uint8_t *name, size_t name_len, struct vf_message *message,
+               uint32_t *code),
+               desk && name && message && code, (desk, name, name_len, message, code))
+VF_UNLESS_NULL(vf_desk_cancel_in,
+               (struct vf_desk *desk, const uint8_t *name, size_t name_len, uint32_t id),
+               desk && name, (desk, name, name_len, id))
+VF_UNLESS_NULL(vf_desk_cancel_out,
+               (struct vf_desk *desk, const uint8_t *name, size_t name_len, uint32_t id),
+               desk && name, (desk, name, name_len, id))
+VF_UNLESS_NULL(vf_desk_repeat,
+               (struct vf_desk *desk, const uint8_t *name, size_t name_len, uint32_t *my_ref),
+               desk && name && my_ref, (desk, name, name_len, my_ref))
+VF_UNLESS_NULL(vf_desk_alloc,
+               (struct vf_desk *desk, const uint8_t *name, size_t name_len, uint32_t anchor, uint32_t size,
+               uint32_t *address),
+               desk && name && address, (desk, name, name_len, anchor, size, address))
+VF_UNLESS_NULL(vf_desk_load,
+               (struct vf_desk *desk, const uint8_t *name, size_t name_len, uint32_t anchor, const uint8_t *file,
+               size_t file_len, uint32_t *address),
+               desk && name && file && address, (desk, name, name_len, anchor, file, file_len, address))
+VF_UNLESS_NULL(vf_desk_put,
+               (struct vf_desk *desk, const uint8_t *name, size_t name_len, uint32_t anchor, uint32_t offset,
+               const uint8_t *from, size_t from_len),
+               desk && name && from, (desk, name, name_len, anchor, offset, from, from_len))
+VF_UNLESS_NULL(vf_desk_free,
+               (struct vf_desk *desk, const uint8_t *name, size_t name_len, uint32_t anchor),
+               desk && name, (desk, name, name_len, anchor))
+VF_UNLESS_NULL(vf_desk_extend,
+               (struct vf_desk *desk, const uint8_t *name, size_t name_len, uint32_t anchor, uint32_t size),
+               desk && name, (desk, name, name_len, anchor, size))
+VF_UNLESS_NULL(vf_desk_mid,
+               (struct vf_desk *desk, const uint8_t *name, size_t name_len, uint32_t anchor, uint32_t offset,
+               int32_t by),
+               desk && name, (desk, name, name_len, anchor, offset, by))
+VF_UNLESS_NULL(vf_desk_claim,
+               (struct vf_desk *desk, const uint8_t *name, size_t name_len, uint32_t size, uint32_t *address),
+               desk && name && address, (desk, name, name_len, size, address))
+VF_UNLESS_NULL(vf_desk_release,
+               (struct vf_desk *desk, const uint8_t *name, size_t name_len, uint32_t address),
+               desk && name, (desk, name, name_len, address))
+VF_UNLESS_NULL(vf_desk_resize,
+               (struct vf_desk *desk, const uint8_t *name, size_t name_len, uint32_t address, int32_t delta,
+               uint32_t *moved_to),
+               desk && name && moved_to, (desk, name, name_len, address, delta, moved_to))
+VF_UNLESS_NULL(vf_desk_budge,
+               (struct vf_desk *desk, const uint8_t *name, size_t name_len, bool on, bool *was),
+               desk && name && was, (desk, name, name_len, on, was))
+VF_UNLESS_NULL(vf_desk_area,
+               (struct vf_desk *desk, uint32_t number, int32_t delta, uint32_t *bytes),
+               desk && bytes, (desk, number, delta, bytes))
+VF_UNLESS_NULL(vf_desk_make,
+               (struct vf_desk *desk, uint32_t most, uint32_t *number),
+               desk && number, (desk, most, number))
+VF_UNLESS_NULL(vf_desk_remove, (struct vf_desk *desk, uint32_t number), desk, (desk, number))
+VF_UNLESS_NULL(vf_desk_rma_claim,
+               (struct vf_desk *desk, uint32_t size, uint32_t *address),
+               desk && address, (desk, size, address))
+VF_UNLESS_NULL(vf_desk_rma_free, (struct vf_desk *desk, uint32_t address), desk, (desk, address))
+VF_UNLESS_NULL(vf_desk_rma_resize,
+               (struct vf_desk *desk, uint32_t address, int32_t delta, uint32_t *moved_to),
+               desk && moved_to, (desk, address, delta, moved_to))
+VF_UNLESS_NULL(vf_desk_show,
+               (struct vf_desk *desk, const uint8_t *name, size_t name_len, uint32_t anchor, uint8_t *to,
+               size_t to_len, uint32_t *size),
+               desk && name && to && size, (desk, name, name_len, anchor, to, to_len, size))
+VF_UNLESS_NULL(vf_desk_blocks,
+               (struct vf_desk *desk, const uint8_t *name, size_t name_len, struct vf_block *blocks, size_t blocks_len,
+               size_t *count),
+               desk && name && blocks && count, (desk, name, name_len, blocks, blocks_len, count))
+VF_UNLESS_NULL(vf_desk_heap,
+               (struct vf_desk *desk, const uint8_t *name, size_t name_len, struct vf_heap_sums *sums,
+               struct vf_segment *segments, size_t segments_len, size_t *count),
+               desk && name && sums && segments && count, (desk, name, name_len, sums, segments, segments_len, count))
+VF_UNLESS_NULL(vf_desk_status,
+               (struct vf_desk *desk, const uint8_t *name, size_t name_len, uint32_t *handle,
+               struct vf_record *outgoing, size_t outgoing_len, size_t *outs, struct vf_record *incoming,
+               size_t incoming_len, size_t *ins),
+               desk && name && handle && outgoing && outs && incoming && ins,
+               (desk, name, name_len, handle, outgoing, outgoing_len, outs, incoming, incoming_len, ins))
+VF_UNLESS_NULL(vf_desk_areas,
+               (struct vf_desk *desk, uint32_t *free, struct vf_area *areas, size_t areas_len, size_t *count),
+               desk && free && areas && count, (desk, free, areas, areas_len, count))
+VF_UNLESS_NULL(vf_desk_line,
+               (struct vf_desk *desk, const uint8_t *line, size_t line_len),
+               desk && line, (desk, line, line_len))
+VF_UNLESS_NULL(vf_desk_reply,
+               (struct vf_desk *desk, uint8_t *text, size_t text_len, size_t *length),
+               desk && text && length, (desk, text, text_len, length))
 
 #undef VF_BOTH_UNLESS_NULL
 #undef VF_UNLESS_NULL
 
 #define vf_heap_init vf_heap_init_unless_null
 #define vf_heap_check vf_heap_check_unless_null
+#define vf_heap_index vf_heap_index_unless_null
+#define vf_heap_indexed_claim vf_heap_indexed_claim_unless_null
+#define vf_heap_indexed_release vf_heap_indexed_release_unless_null
+#define vf_heap_indexed_resize vf_heap_indexed_resize_unless_null
+#define vf_heap_indexed_block_size vf_heap_indexed_block_size_unless_null
+#define vf_heap_indexed_resize_need vf_heap_indexed_resize_need_unless_null
 #define vf_heap_checked_describe vf_heap_checked_describe_unless_null
 #define vf_heap_checked_claim vf_heap_checked_claim_unless_null
 #define vf_heap_checked_release vf_heap_checked_release_unless_null
@@ -346,6 +836,40 @@ VF_BOTH_UNLESS_NULL(vf_flex, block_size,
 #define vf_flex_checked_release vf_flex_checked_release_unless_null
 #define vf_flex_checked_resize vf_flex_checked_resize_unless_null
 #define vf_flex_checked_block_size vf_flex_checked_block_size_unless_null
+#define vf_desk_file vf_desk_file_unless_null
+#define vf_desk_open vf_desk_open_unless_null
+#define vf_desk_close vf_desk_close_unless_null
+#define vf_desk_task vf_desk_task_unless_null
+#define vf_desk_kill vf_desk_kill_unless_null
+#define vf_desk_save vf_desk_save_unless_null
+#define vf_desk_poll vf_desk_poll_unless_null
+#define vf_desk_next vf_desk_next_unless_null
+#define vf_desk_cancel_in vf_desk_cancel_in_unless_null
+#define vf_desk_cancel_out vf_desk_cancel_out_unless_null
+#define vf_desk_repeat vf_desk_repeat_unless_null
+#define vf_desk_alloc vf_desk_alloc_unless_null
+#define vf_desk_load vf_desk_load_unless_null
+#define vf_desk_put vf_desk_put_unless_null
+#define vf_desk_free vf_desk_free_unless_null
+#define vf_desk_extend vf_desk_extend_unless_null
+#define vf_desk_mid vf_desk_mid_unless_null
+#define vf_desk_claim vf_desk_claim_unless_null
+#define vf_desk_release vf_desk_release_unless_null
+#define vf_desk_resize vf_desk_resize_unless_null
+#define vf_desk_budge vf_desk_budge_unless_null
+#define vf_desk_area vf_desk_area_unless_null
+#define vf_desk_make vf_desk_make_unless_null
+#define vf_desk_remove vf_desk_remove_unless_null
+#define vf_desk_rma_claim vf_desk_rma_claim_unless_null
+#define vf_desk_rma_free vf_desk_rma_free_unless_null
+#define vf_desk_rma_resize vf_desk_rma_resize_unless_null
+#define vf_desk_show vf_desk_show_unless_null
+#define vf_desk_blocks vf_desk_blocks_unless_null
+#define vf_desk_heap vf_desk_heap_unless_null
+#define vf_desk_status vf_desk_status_unless_null
+#define vf_desk_areas vf_desk_areas_unless_null
+#define vf_desk_line vf_desk_line_unless_null
+#define vf_desk_reply vf_desk_reply_unless_null
 
 #ifdef VF_CHECKED
 #define vf_heap_describe vf_heap_checked_describe
