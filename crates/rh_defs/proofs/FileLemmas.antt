@@ -8,6 +8,7 @@ use Rattle.std.specs.Str.{bytes_eq}
 use Rattle.std.specs.Map.{lookup}
 use Rattle.std.specs.declared.alloc.Global.{Global}
 use Rattle.rh_defs.specs.Files.{FileList, contents_of, has_file, file_bytes, AreShort}
+use Rattle.rh_defs.specs.declared.sizes.TheConstants.{LONGEST_FILE}
 
 -- a file has the name exactly where a look-up finds one
 pub has_file-lookup : (name : List ℕ) (entries : List (List ℕ × Vec ℕ Global)) → has_file name (contents_of entries) ≡ is_some (lookup (bytes_eq name) entries)
@@ -39,14 +40,14 @@ file_bytes-lookup name (e ∷ entries) =
     [ true ↦ refl | false ↦ file_bytes-lookup name entries ])
 
 -- a file that is found is short
-pub found-short : (name : List ℕ) (files : FileList) (bytes : List ℕ) → AreShort files → file_bytes name files ≡ Some bytes → length bytes ≤ 1048576
+pub found-short : (name : List ℕ) (files : FileList) (bytes : List ℕ) → AreShort files → file_bytes name files ≡ Some bytes → length bytes ≤ LONGEST_FILE
 found-short name [] bytes all e = absurd (cc)
 found-short name (file ∷ files) bytes all e =
-    elim (bytes_eq file.0 name) as (λ b. option_map (λ (f : List ℕ × List ℕ). f.1) (cond b (Some file) (find (λ (f : List ℕ × List ℕ). bytes_eq f.0 name) files)) ≡ Some bytes → length bytes ≤ 1048576) [
-      | true ↦ λ (q : Some file.1 ≡ Some bytes). (let r : file.1 ≡ bytes = cc in let P : List ℕ → Type 0 = λ l. length l ≤ 1048576 in subst P r all.0)
+    elim (bytes_eq file.0 name) as (λ b. option_map (λ (f : List ℕ × List ℕ). f.1) (cond b (Some file) (find (λ (f : List ℕ × List ℕ). bytes_eq f.0 name) files)) ≡ Some bytes → length bytes ≤ LONGEST_FILE) [
+      | true ↦ λ (q : Some file.1 ≡ Some bytes). (let r : file.1 ≡ bytes = cc in let P : List ℕ → Type 0 = λ l. length l ≤ LONGEST_FILE in subst P r all.0)
       | false ↦ λ (q : file_bytes name files ≡ Some bytes). found-short name files bytes all.1 q
     ] e
 
-pub AreShort-append : (files : FileList) (file : List ℕ × List ℕ) → AreShort files → length file.1 ≤ 1048576 → AreShort (files ++ file ∷ [])
+pub AreShort-append : (files : FileList) (file : List ℕ × List ℕ) → AreShort files → length file.1 ≤ LONGEST_FILE → AreShort (files ++ file ∷ [])
 AreShort-append [] file all h = (h, tt)
 AreShort-append (x ∷ files) file all h = (all.0, AreShort-append files file all.1 h)

@@ -4,6 +4,7 @@ use Rattle.std.specs.List.{list_any}
 use Rattle.std.specs.Option.{option_map}
 use Rattle.std.specs.Str.{bytes_eq}
 use Rattle.std.specs.declared.alloc.Global.{Global}
+use Rattle.rh_defs.specs.declared.sizes.TheConstants.{LONGEST_FILE}
 
 abbrev pub FileList : Type 0
 FileList = List (List ℕ × List ℕ)
@@ -20,7 +21,7 @@ has_file name files = list_any (λ file. bytes_eq name file.0) files
 abbrev pub file_bytes : List ℕ → FileList → Option (List ℕ)
 file_bytes name files = option_map (λ file. file.1) (find (λ file. bytes_eq file.0 name) files)
 
--- each file has at most 1,048,576 bytes
+-- no file is longer than any may be
 abbrev pub AreShort : FileList → Type 0
 AreShort [] = Unit {0}
-AreShort (file ∷ files) = (length file.1 ≤ 1048576) × AreShort files
+AreShort (file ∷ files) = (length file.1 ≤ LONGEST_FILE) × AreShort files

@@ -2,13 +2,14 @@
 
 ghost use Rattle.std.specs.Prelude.{◌≡◌, ◌≤◌, [], ◌∷◌, ◌++◌, false, OnOk, OnErr, Some, None, MatchOption, IfSome, length, vec_len};
 ghost use Rattle.rh_defs.specs.Files.{has_file, file_bytes};
+ghost use Rattle.rh_defs.specs.declared.sizes.TheConstants.{LONGEST_FILE};
 
 use crate::name::Name;
 use indexmap::IndexMap;
 use std::alloc::{AllocError, Global};
 use std::marker::Model;
 
-/// Named files in the order given, each of at most 1,048,576 bytes. No two have one name.
+/// Named files in the order given, each of at most `LONGEST_FILE` bytes. No two have one name.
 #[derive(Drop)]
 pub struct Files {
     contents: IndexMap<Name, Vec<u8>>,
@@ -38,7 +39,7 @@ impl Files {
     /// Adds a file behind the others. AllocError where memory is refused, and then the files are as before.
     pub fn insert(&mut self, name: Name, bytes: Vec<u8>) -> Result<(), AllocError>
         requires new_name { has_file name self.old ≡ false }
-        requires small { vec_len bytes ≤ 1048576 }
+        requires small { vec_len bytes ≤ LONGEST_FILE }
         ensures ok { OnOk result (self.new ≡ self.old ++ (name, bytes.items) ∷ []) }
         ensures err { OnErr result (self.new ≡ self.old) }
     {
@@ -56,7 +57,7 @@ impl Files {
     /// The bytes of the file with the name, None where there is none.
     pub fn get(&self, name: &Name) -> Option<&[u8]>
         ensures value { MatchOption result (file_bytes name.now self.now ≡ None) (λ bytes. file_bytes name.now self.now ≡ Some bytes.now) }
-        ensures short { IfSome result (λ bytes. length bytes.now ≤ 1048576) }
+        ensures short { IfSome result (λ bytes. length bytes.now ≤ LONGEST_FILE) }
     {
         let Some(bytes) = self.contents.get(name) else {
             return None;

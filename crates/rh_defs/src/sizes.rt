@@ -85,6 +85,9 @@ pub const LONGEST_NAME: usize = 12;
 /// The most bytes of a leafname.
 pub const LONGEST_LEAF: usize = 10;
 
+/// The most bytes of a file.
+pub const LONGEST_FILE: usize = 1_048_576;
+
 /// The most bytes that a `put` writes: two digits stand for each.
 pub const MOST_BYTES: usize = LONGEST_LINE / 2;
 

@@ -7,6 +7,7 @@ use Rattle.std.specs.declared.io.traits.Take.{Take}
 use Rattle.rh_defs.specs.Desk.{Desk}
 use Rattle.rh_defs.specs.Files.{FileList}
 use Rattle.rh_defs.specs.Runs.{start}
+use Rattle.rh_defs.specs.declared.sizes.TheConstants.{LONGEST_FILE}
 use Rattle.rh_lines.specs.Flow.{Breaks, Input, Takes}
 use Rattle.rh_session.specs.Outcome.{Answered, Finished, BrokeOff}
 use Rattle.rh_session.specs.declared.status.RunFault.{RunFault}
@@ -46,13 +47,13 @@ whole-of most (Some xs) bytes small is =
     is ∙ take_all (most + 1) xs short
 
 -- bytes that are no more than a file may have are all that it had
-pub whole-is : {F : Type 0} (remaining : F → Option (List ℕ)) (old bytes : List ℕ) → old ≡ [] → length bytes ≤ 1048576
-    → ((file : F) × IfSome (remaining file) (λ had. bytes ≡ old ++ take 1048577 had)) → IsWhole remaining bytes
+pub whole-is : {F : Type 0} (remaining : F → Option (List ℕ)) (old bytes : List ℕ) → old ≡ [] → length bytes ≤ LONGEST_FILE
+    → ((file : F) × IfSome (remaining file) (λ had. bytes ≡ old ++ take (LONGEST_FILE + 1) had)) → IsWhole remaining bytes
 whole-is remaining old bytes none small found = (
   small,
   (
     found.0,
-    whole-of 1048576 (remaining found.0) bytes small (subst (λ l. IfSome (remaining found.0) (λ had. bytes ≡ l ++ take 1048577 had)) none found.1),
+    whole-of LONGEST_FILE (remaining found.0) bytes small (subst (λ l. IfSome (remaining found.0) (λ had. bytes ≡ l ++ take (LONGEST_FILE + 1) had)) none found.1),
   ),
 )
 

@@ -7,6 +7,7 @@ use Rattle.clap.specs.declared.error.kind.ErrorKind.TheVariants as kind
 use Rattle.rh_defs.specs.Desk.{Desk}
 use Rattle.rh_defs.specs.Files.{FileList}
 use Rattle.rh_defs.specs.Runs.{start}
+use Rattle.rh_defs.specs.declared.sizes.TheConstants.{LONGEST_FILE}
 use Rattle.rh_lines.specs.Flow.{Input, Output, Takes, Breaks}
 use Rattle.rh_run.specs.Checked.{image_line, image_status}
 use Rattle.rh_run.specs.CheckedSlot.{slot_image_line, slot_image_status}
@@ -43,9 +44,9 @@ streams before after old new quiet told =
 abbrev pub Untouched : Streams → Type 0
 Untouched s = (s.after ≡ s.before) × (s.new ≡ s.old)
 
--- the bytes are all that some file had, where those are known, and no more than 1 MiB
+-- the bytes are all that some file had, where those are known, and no more than a file may have
 abbrev pub IsWhole : {F : Type 0} → (F → Option (List ℕ)) → List ℕ → Type 0
-IsWhole {F} remaining bytes = (length bytes ≤ 1048576) × ((file : F) × IfSome (remaining file) (λ had. bytes ≡ had))
+IsWhole {F} remaining bytes = (length bytes ≤ LONGEST_FILE) × ((file : F) × IfSome (remaining file) (λ had. bytes ≡ had))
 
 -- what was read and written where a fault stopped a run
 abbrev pub Stopped : Desk → Streams → RunFault → Type 0

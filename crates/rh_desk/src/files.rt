@@ -2,6 +2,7 @@
 
 ghost use Rattle.std.specs.Prelude.{◌≡◌, ◌⊎◌, ◌≤◌, ◌+◌, ◌++◌, ℕ, List, All, IfOk, IfErr, IfSome, map, take, vec_len, vec_items};
 ghost use Rattle.std.specs.Option.{option_map};
+ghost use Rattle.rh_defs.specs.declared.sizes.TheConstants.{LONGEST_FILE};
 ghost use Rattle.rh_desk.specs.Done.{IsWhole};
 ghost use Rattle.rh_desk.specs.Ending.{exit_status};
 ghost use Rattle.rh_desk.specs.FileWords.{AreGood, IsFirstBad, TellsBadFile, TellsBadWord, file_word, word_name};
@@ -9,6 +10,7 @@ ghost use Rattle.rh_desk.specs.Telling.{Tells, lost_file_text, run_fault_text};
 
 use crate::ending::Ending;
 use crate::telling::{ended, tell_bad_word, tell_file};
+use rh_defs::sizes::LONGEST_FILE;
 use rh_defs::{Files, Name};
 use rh_lines::Sink;
 use rh_run::RunFault;
@@ -16,9 +18,6 @@ use std::alloc::Global;
 use std::fs::File;
 use std::io::{self, Read};
 use std::rt;
-
-/// A file has at most so many bytes.
-const LONGEST_FILE: usize = 1_048_576;
 
 /// Looks over all the NAME=PATH words before any file is read. The first bad one is told: one that isn't a name, `=` and
 /// a path of at least one byte, or whose name was given before.
@@ -92,7 +91,7 @@ pub fn read_whole<R: rt::Files, E: Sink>(
     path: &str,
     errors: &mut E,
 ) -> Result<Vec<u8>, Ending>
-    ensures ok { IfOk result (λ bytes. vec_len bytes ≤ 1048576) }
+    ensures ok { IfOk result (λ bytes. vec_len bytes ≤ LONGEST_FILE) }
     ensures whole { IfOk result (λ bytes. IsWhole R.File.remaining (vec_items bytes)) }
     ensures err { IfErr result (λ ending. ending ≡ Ending.Fault) }
     ensures told { IfErr result (λ ending. Tells (E.output errors.old) (E.output errors.new) (lost_file_text path.now)

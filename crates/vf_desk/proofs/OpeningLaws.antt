@@ -6,7 +6,7 @@ use Rattle.vf_desk.specs.declared.station.Station.{Station}
 use Rattle.vf_desk.specs.Opening.{Adds, IsFresh, Opens, Tries, file_status, opening_status}
 use Rattle.vf_desk.specs.Seen.{console_in, files_in}
 use Rattle.vf_desk.specs.Status.{already_open, bad_argument, bad_length, file_exists, no_memory}
-use Rattle.vf_desk.specs.declared.opening.TheConstants.{LONGEST_FILE}
+use Rattle.rh_defs.specs.declared.sizes.TheConstants.{LONGEST_FILE}
 use Rattle.rh_defs.specs.declared.sizes.TheConstants.{MAX_PAGES, MIN_PAGES}
 use Rattle.rh_defs.specs.Files.{FileList, has_file}
 use Rattle.rh_defs.specs.Forms.{is_name}

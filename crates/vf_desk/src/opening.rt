@@ -2,7 +2,7 @@
 ghost use Rattle.std.specs.Prelude.{◌≡◌, ◌≤◌, ◌⊎◌, ◌++◌, ◌∷◌, [], false, None, Some, length, OnOk, OnErr};
 ghost use Rattle.rh_defs.specs.Files.{has_file};
 ghost use Rattle.vf_desk.specs.Opening.{Adds, Opens, opening_status};
-ghost use Rattle.vf_desk.specs.declared.opening.TheConstants.{LONGEST_FILE};
+ghost use Rattle.rh_defs.specs.declared.sizes.TheConstants.{LONGEST_FILE};
 ghost use Rattle.vf_desk.specs.Status.{no_memory};
 
 use crate::desk::VfDesk;
@@ -10,12 +10,9 @@ use crate::forms::name_of;
 use crate::station::Station;
 use crate::status::{BAD_ARGUMENT, BAD_LENGTH, FILE_EXISTS, NO_MEMORY, OK, OPEN};
 use rh_console::Console;
-use rh_defs::sizes::{MAX_PAGES, MIN_PAGES};
+use rh_defs::sizes::{LONGEST_FILE, MAX_PAGES, MIN_PAGES};
 use rh_defs::{Files, Handle, Name, Ref};
 use std::alloc::{AllocError, Global};
-
-/// The most bytes of a file.
-const LONGEST_FILE: usize = 1_048_576;
 
 /// Adds a named file, which `load` finds once the desk is open.
 #[unsafe(no_mangle)]

@@ -1,5 +1,5 @@
 -- Statuses: how a call ended, as a number.
-use Rattle.std.specs.Prelude.{ℕ, ◌==◌, ◌+◌, ◌*◌, ◌/◌, nat_le, nat_lt, ◌&&◌, ◌||◌, if◌then◌else◌, ℤ, List, length, take, Option, Some, None, Result, Ok, Err}
+use Rattle.std.specs.Prelude.{ℕ, ◌==◌, ◌+◌, ◌-◌, ◌*◌, ◌/◌, nat_le, nat_lt, ◌&&◌, ◌||◌, if◌then◌else◌, ℤ, List, length, take, Option, Some, None, Result, Ok, Err}
 use Rattle.rh_defs.specs.Bytes.{word}
 use Rattle.rh_defs.specs.Chain.{answer_of}
 use Rattle.rh_defs.specs.Heap.{Heap, first_place, extend}
@@ -9,6 +9,7 @@ use Rattle.rh_defs.specs.declared.heap.HeapFault.{HeapFault}
 use Rattle.rh_defs.specs.declared.heap.HeapFault.TheVariants as fault
 use Rattle.rh_defs.specs.declared.heap.HeapRefusal.{HeapRefusal}
 use Rattle.rh_defs.specs.declared.heap.HeapRefusal.TheVariants.{NotABlock, BadSize, NoRoom, ExcessiveShrink}
+use Rattle.rh_heap.specs.declared.span.starts.TheConstants.{LINE_BYTES}
 use Rattle.rh_store.specs.Limits.{area_limit}
 
 -- the status of a refusal: its number in the one order of all refusals
@@ -75,9 +76,9 @@ extend_status n delta h =
     else if is_multiple (moved h.end delta) then answer_status (extend delta h)
     else bad_length
 
--- the words of a map for a heap of n bytes: two for each 512 of them, and for those that are left
+-- the words of a map for a heap of n bytes: two for each line of it, and for the bytes that are left
 abbrev pub map_words : ℕ → ℕ
-map_words n = 2 * ((n + 511) / 512)
+map_words n = 2 * ((n + (LINE_BYTES - 1)) / LINE_BYTES)
 
 -- 0 where a map of so many words has enough of them for the heap
 abbrev pub map_status : ℕ → Heap → ℕ

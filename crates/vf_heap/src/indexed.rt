@@ -5,24 +5,23 @@ ghost use Rattle.rh_defs.specs.Chain.{no_answer};
 ghost use Rattle.rh_defs.specs.Heap.{claim, released_at, resize, need_at};
 ghost use Rattle.rh_defs.specs.HeapImage.{heap_of};
 ghost use Rattle.rh_heap.specs.Starts.{IsIndex};
+ghost use Rattle.rh_heap.specs.declared.span.starts.TheConstants.{LINE_BYTES};
 ghost use Rattle.rh_lent.specs.Heaps.{IsHeapBytes};
 ghost use Rattle.vf_heap.specs.Status.{answer_or, answer_status, map_status, map_words, number_or, status_of};
 ghost use Rattle.vf_heap.specs.Calls.{Leaves, IsFar, size_at};
 
 use crate::plain::far_refusal;
 use crate::status::{NO_ROOM, OK, SHORT, outcome_status, refusal_status, told};
+use rh_heap::LINE_BYTES;
 use rh_lent::{heap, indexed};
 
-/// The bytes of a heap for which a map has two words.
-const LINE: usize = 512;
-
-/// The words that a map has for a heap of so many bytes: two for each 512 of them, and for those that are left.
+/// The words that a map has for a heap of so many bytes: two for each `LINE_BYTES`, and for those that are left.
 #[unsafe(no_mangle)]
 pub extern "C" fn vf_heap_map_words(length: usize) -> usize
     ensures words { result ≡ map_words length }
-    ensures long { length ≤ 512 * (result / 2) }
+    ensures long { length ≤ LINE_BYTES * (result / 2) }
 {
-    2 * length.div_ceil(LINE)
+    2 * length.div_ceil(LINE_BYTES)
 }
 
 /// Makes a map of where the heap's segments begin.

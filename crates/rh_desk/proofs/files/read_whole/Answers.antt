@@ -1,7 +1,7 @@
 use Rattle.std.proofs.Common.{◌≤◌, ◌∙◌, inr, refl, subst}
 use Rattle.rh_session.specs.declared.status.RunFault.TheVariants.{NoMemory}
 use Rattle.rh_desk.proofs.DoneLemmas.{whole-is}
-use Rattle.rh_desk.specs.declared.files.TheConstants.{LONGEST_FILE}
+use Rattle.rh_defs.specs.declared.sizes.TheConstants.{LONGEST_FILE}
 use Rattle.rh_desk.proofs.files.read_whole.Goals as goal
 
 pub returns-in-Err-clause-told : goal.returns-in-Err-clause-told
