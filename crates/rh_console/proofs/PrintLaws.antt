@@ -1,53 +1,56 @@
 -- How long a text is, and what lent bytes have of one that was printed into them.
 use Rattle.std.proofs.Common.{◌≡◌, ℕ, ◌+◌, ◌-◌, ◌<◌, ◌≤◌, Bool, true, false, List, [], ◌∷◌, ◌++◌, length, take, replicate, Option, Some, None, Result, Ok, Err, refl, sym, ap, ◌∙◌, arith, append-nil, length-append}
-use Rattle.std.specs.Prelude.{nat_le, ◌&&◌, if◌then◌else◌}
+use Rattle.std.specs.Prelude.{nat_le, nat_lt, ◌&&◌, if◌then◌else◌}
 use borrow.Author.Tests.{tests}
 use Rattle.rh_lines.specs.Flow.{Output, Puts, count_after}
 use Rattle.rh_console.specs.Console.{Prints, fitting, with_text}
 use Rattle.rh_console.specs.LentText.{output_of, taken_in}
 use Rattle.rh_console.specs.declared.lent_text.LentText.{LentText}
 use Rattle.rh_console.specs.declared.tally.Tally.{Tally}
+use Rattle.rh_console.specs.declared.tally.TheConstants.{LIMIT}
 use Rattle.rh_console.proofs.TextLaws.{padded-inside, longer-beyond}
 
 -- ---- how long a text is
 
--- what a tally shows of itself
-abbrev tally_output : Tally → Output
-tally_output t = record { taken = None; count = Some t.taken; failed = t.failed }
+-- what a tally shows of itself that takes so many more bytes
+abbrev tally_output : ℕ → Bool → Output
+tally_output left failed = record { taken = None; count = Some (LIMIT - left); failed = failed }
 
-counted : {n m k : ℕ} → ◌≡◌ {A = Option ℕ} (Some n) (count_after (Some m) k) → n ≡ m + k
-counted e = cc
+counted : (n m k : ℕ) → ◌≡◌ {A = Option ℕ} (Some n) (count_after (Some m) k) → n ≡ m + k
+counted n m k e = cc
 
--- a tally that began with nothing has counted the text, or one byte more than has room, which the text has
-pub tallied : {E : Type 0} (old new : Tally) (r : Result Unit E) (text : List ℕ) → old.taken ≡ 0
-    → Puts (tally_output old) (tally_output new) r text → fitting text new.room ≡ (if nat_le new.taken new.room then Some new.taken else None)
-tallied old new (Ok u) text none puts =
-    let all : new.taken ≡ length text = counted puts.ok.counted ∙ ap (λ n. n + length text) none in
-    ap (λ n. if nat_le n new.room then Some n else None) (sym all)
-tallied old new (Err e) text none puts =
+-- what a tally takes no more of is the text, or so many of its bytes that it takes none at all
+pub tallied : {E : Type 0} (most : ℕ) (new : Tally) (r : Result Unit E) (text : List ℕ) → most ≤ LIMIT
+    → Puts (tally_output most false) (tally_output new.left new.failed) r text
+    → (new.left ≡ 0 → most ≤ length text) × (0 < new.left → most ≡ new.left + length text)
+tallied most new (Ok u) text small puts =
+    let fits : new.left ≤ LIMIT = new.small in
+    let all : LIMIT - new.left ≡ (LIMIT - most) + length text = counted (LIMIT - new.left) (LIMIT - most) (length text) puts.ok.counted in
+    let same : most ≡ new.left + length text = omega arith in (λ none. omega arith, λ some. same)
+tallied most new (Err e) text small puts =
     let front = puts.err.front in
-    let some : new.taken ≡ length front = counted puts.err.counted ∙ ap (λ n. n + length front) none in
-    let low : nat_le new.taken new.room ≡ false = sym (ap (λ b. b && nat_le new.taken new.room) puts.err.failed) ∙ new.full in
+    let fits : new.left ≤ LIMIT = new.small in
+    let some : LIMIT - new.left ≡ (LIMIT - most) + length front = counted (LIMIT - new.left) (LIMIT - most) (length front) puts.err.counted in
+    let same : most ≡ new.left + length front = omega arith in
     let long : length text ≡ length front + length puts.err.back = ap length puts.err.whole ∙ length-append front puts.err.back in
-    let more : nat_le (length text) new.room ≡ false = grind (arith, tests) in
-    ap (λ b. if b then Some (length text) else None) more ∙ sym (ap (λ b. if b then Some new.taken else None) low)
+    let none : nat_lt 0 new.left ≡ false = sym (ap (λ b. b && nat_lt 0 new.left) puts.err.failed) ∙ new.full in
+    let full : new.left ≡ 0 = grind (arith, tests) in (λ _. omega arith, λ left. absurd (omega arith))
 
--- what is answered of it: nothing where the text has no room, and else how much was counted
-pub length-none : {t : Tally} {text : List ℕ} {room : ℕ} → fitting text t.room ≡ (if nat_le t.taken t.room then Some t.taken else None)
-    → t.room ≡ room → room < t.taken → None ≡ fitting text room
-length-none {t} {text} {room} told is more =
-    let low : nat_le t.taken t.room ≡ false = grind (arith, tests) in
-    sym (ap (fitting text) (sym is) ∙ told ∙ ap (λ b. if b then Some t.taken else None) low)
+-- what is answered of a text that has so many bytes, or more
+pub length-none : (text : List ℕ) (room : ℕ) → room + 1 ≤ length text → None ≡ fitting text room
+length-none text room more =
+    let low : nat_le (length text) room ≡ false = grind (arith, tests) in
+    sym (ap (λ b. if b then Some (length text) else None) low)
 
-pub length-some : {t : Tally} {text : List ℕ} {room : ℕ} → fitting text t.room ≡ (if nat_le t.taken t.room then Some t.taken else None)
-    → t.room ≡ room → t.taken ≤ room → Some t.taken ≡ fitting text room
-length-some {t} {text} {room} told is few =
-    let low : nat_le t.taken t.room ≡ true = grind (arith, tests) in
-    sym (ap (fitting text) (sym is) ∙ told ∙ ap (λ b. if b then Some t.taken else None) low)
+pub length-some : (text : List ℕ) (room n left : ℕ) → 0 < left → room + 1 ≡ left + length text → n ≡ room + 1 - left → Some n ≡ fitting text room
+length-some text room n left some all is =
+    let same : n ≡ length text = omega arith in
+    let low : nat_le (length text) room ≡ true = grind (arith, tests) in
+    ap Some same ∙ sym (ap (λ b. if b then Some (length text) else None) low)
 
 -- a length is told only of a text that has room
-pub has-room : {text : List ℕ} {room n : ℕ} → Some n ≡ fitting text room → length text ≤ room
-has-room {text} {room} {n} told = go (nat_le (length text) room) refl
+pub has-room : (text : List ℕ) (room n : ℕ) → Some n ≡ fitting text room → length text ≤ room
+has-room text room n told = go (nat_le (length text) room) refl
   where
     go : (b : Bool) → nat_le (length text) room ≡ b → length text ≤ room
     go true low = grind (arith, tests)
@@ -103,7 +106,7 @@ printed old new (Err e) text none puts =
 pub prints-some : {old new : LentText} {text lent now : List ℕ} {n : ℕ} → Printed old new text → now ≡ new.bytes.now
     → length new.bytes.now ≡ length lent → Some n ≡ fitting text (length lent) → Prints text lent now (Some n)
 prints-some {old} {new} {text} {lent} {now} {n} printed is long told =
-    let fit : length text ≤ length lent = has-room told in
+    let fit : length text ≤ length lent = has-room text (length lent) n told in
     let low : nat_le (length text) (length lent) ≡ true = grind (arith, tests) in
     record {
       bytes = is ∙ printed.bytes (omega arith) ∙ ap (λ k. text ++ replicate (k - length text) 0) long

@@ -1,5 +1,5 @@
 //! A desk that takes lines.
-ghost use Rattle.std.specs.Prelude.{◌≡◌, ◌≤◌, ◌<◌, ◌^◌, [], true, Some, Ok, IfOk, OnErr};
+ghost use Rattle.std.specs.Prelude.{◌≡◌, ◌≤◌, ◌<◌, [], true, Some, Ok, IfOk, OnErr};
 ghost use Rattle.rh_defs.specs.Desk.{Desk};
 ghost use Rattle.rh_defs.specs.Order.{IsReordered};
 ghost use Rattle.rh_defs.specs.Runs.{start_with};
@@ -8,6 +8,7 @@ ghost use Rattle.rh_defs.specs.Script.{line_desk, line_text, meaning_desk, meani
 ghost use Rattle.rh_defs.specs.declared.sizes.TheConstants.{MAX_PAGES, MIN_PAGES};
 ghost use Rattle.rh_console.specs.declared.said.Said.TheVariants as Said;
 ghost use Rattle.rh_console.specs.Said.{said_text};
+ghost use Rattle.rh_console.specs.declared.tally.TheConstants.{LIMIT};
 ghost use Rattle.rh_console.specs.Console.{Prints, fitting};
 
 use crate::lent_text::LentText;
@@ -87,19 +88,18 @@ impl Console {
     /// How many bytes the text has of what the last line was answered, over the desk as it is now. None where there are
     /// more than so many.
     fn length(&self, room: usize) -> Option<usize>
-        requires { room < 2 ^ 63 }
+        requires { room < LIMIT }
         ensures { (d : Desk) → IsReordered d self.now.world.desk → result ≡ fitting (said_text d self.now.said) room }
     {
         let mut tally = Tally {
-            room,
-            taken: 0,
+            left: room + 1,
             failed: false,
         };
         let _done = self.said.print(&self.world, &mut tally);
-        if tally.taken > room {
+        if tally.left == 0 {
             return None;
         }
-        Some(tally.taken)
+        Some(room + 1 - tally.left)
     }
 
     /// Puts the text of what the last line was answered into lent bytes, over the desk as it is now, with zeros behind

@@ -1,10 +1,7 @@
-use Rattle.std.proofs.Common.{refl, rules, arith, sym, ap, ◌∙◌}
+use Rattle.std.proofs.Common.{refl, rules}
 use Rattle.rh_console.specs.Said.{said_text}
-use Rattle.rh_console.proofs.PrintLaws.{prints-none, prints-some, printed}
+use Rattle.rh_console.proofs.PrintLaws.{prints-some, printed}
 use Rattle.rh_console.proofs.console.Console.print.Goals as goal
-
-pub returns-in-None : goal.returns-in-None
-returns-in-None c = λ d seen. prints-none (search rules)
 
 pub returns : goal.returns
 returns c = λ d seen.

@@ -1,4 +1,4 @@
-use Rattle.std.proofs.Common.{◌≡◌, ◌+◌, ◌∷◌, [], ◌++◌, take, length, slice_index_or, sym, ap, ◌∙◌, arith, rules, append-nil}
+use Rattle.std.proofs.Common.{◌≡◌, refl, ◌+◌, ◌∷◌, [], ◌++◌, take, length, slice_index_or, sym, ap, ◌∙◌, arith, rules, append-nil}
 use Rattle.std.proofs.lemmas.Grind.{common_steps}
 use borrow.Author.Tests.{tests}
 use Rattle.rh_console.specs.LentText.{output_of}
@@ -14,6 +14,10 @@ returns-then-self-all-clause-taken c =
     (ap (λ l. take (s.taken + n) (l ++ s.beyond ∷ [])) c.put_in.ensures
     ∙ taken-inside s.bytes.now c.args.bytes.now s.beyond s.taken n (omega (arith, c.min-count.ensures, c.if-self-all.true)) (omega (arith, c.min-count.ensures)))
 
+pub returns-then-self-all-clause-counted : goal.returns-then-self-all-clause-counted
+unfolding output_of
+returns-then-self-all-clause-counted c = refl
+
 pub returns-then-self-all-clause-failed : goal.returns-then-self-all-clause-failed
 unfolding output_of
 returns-then-self-all-clause-failed c = grind (arith, common_steps, tests)
@@ -21,6 +25,10 @@ returns-then-self-all-clause-failed c = grind (arith, common_steps, tests)
 pub returns-then-self-all-2-clause-taken : goal.returns-then-self-all-2-clause-taken
 unfolding output_of
 returns-then-self-all-2-clause-taken c = sym (append-nil _)
+
+pub returns-then-self-all-2-clause-counted : goal.returns-then-self-all-2-clause-counted
+unfolding output_of
+returns-then-self-all-2-clause-counted c = refl
 
 pub returns-then-self-all-2-clause-failed : goal.returns-then-self-all-2-clause-failed
 unfolding output_of
@@ -36,6 +44,10 @@ returns-clause-taken c =
     (ap (λ t. take (t + 1) (s.bytes.now ++ y ∷ [])) all ∙ taken-beyond s.bytes.now s.beyond y
     ∙ ap (λ t. take t (s.bytes.now ++ s.beyond ∷ []) ++ y ∷ []) (sym all)
     ∙ ap (λ l. take s.taken (s.bytes.now ++ s.beyond ∷ []) ++ l) (sym (first-of c.args.bytes.now (some-of c.args.bytes.now (grind (arith, common_steps, tests))))))
+
+pub returns-clause-counted : goal.returns-clause-counted
+unfolding output_of
+returns-clause-counted c = refl
 
 pub returns-clause-failed : goal.returns-clause-failed
 unfolding output_of
