@@ -10,7 +10,8 @@ use Rattle.std.proofs.Math.Nat.{pow-suc}
 use Rattle.std.proofs.lemmas.Nat.{and_le_l, leading_top, le-div, div_below, pow_pos, one_shl}
 use Rattle.std.proofs.lemmas.Nat.Bits.{bit_at-zero, bit_at-lt, bit_at_above, bit_at_and, bit_at_ones, bit_at_ones_above}
 use Rattle.rh_defs.proofs.HeapLists.{eqb_same}
-use Rattle.rh_heap.specs.Starts.{bit, Became, LastBit}
+use Rattle.rh_store.specs.Starts.{bit}
+use Rattle.rh_heap.specs.Starts.{Became, LastBit}
 
 -- ---- one word of a map is changed
 module _ (lane k v b : ℕ) (old new : List ℕ) (lt : lane < 2) (e : new ≡ set old (2 * (k / 64) + lane) v) (inside : 2 * (k / 64) + lane < length old) where

@@ -13,10 +13,11 @@ use Rattle.rh_defs.proofs.HeapLists.{HasRoom-from_tidy, HasRoom-append, total-ap
 use Rattle.rh_defs.proofs.HeapLaws.{HasNone, last_link-append, last_link-none, Stand-split}
 use Rattle.rh_heap.specs.Segments.{GapIs, no_gap, a_gap, FoundBlock}
 use Rattle.rh_heap.specs.Holes.{FoundHole}
-use Rattle.rh_heap.specs.Starts.{bit, once, used_at, hole_at, IsIndex, Became, LastBit, LinkBelow, no_hole, a_hole, Noted}
+use Rattle.rh_store.specs.Starts.{bit, once, used_at, hole_at, IsIndex}
+use Rattle.rh_heap.specs.Starts.{Became, LastBit, LinkBelow, no_hole, a_hole, Noted}
 use Rattle.rh_heap.specs.declared.span.segments.Spot.{Spot}
 use Rattle.rh_heap.specs.declared.span.holes.Gap.{Gap}
-use Rattle.rh_heap.specs.declared.span.starts.TheConstants.{USED, HOLES}
+use Rattle.rh_store.specs.declared.starts.TheConstants.{USED, HOLES}
 use Rattle.rh_heap.proofs.ReleaseLaws.{released_is}
 use Rattle.rh_heap.proofs.ClaimLaws.{placed_found, placed_none}
 use Rattle.rh_heap.proofs.StartLaws.{once_same, once_apart, used_at-append, hole_at-append, used_at-low, hole_at-low, used_at-high, hole_at-high, HasUnits, units_of, units-append, units-total, unmarked, off_units, UsedHere, used_here, no_holes, LastOf, last_of, used_with_hole, hole_noted}

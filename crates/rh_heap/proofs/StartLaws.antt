@@ -6,7 +6,8 @@ use Rattle.rh_defs.specs.Heap.{Segment, Used, Hole, IsTidy, size_of, is_block_at
 use Rattle.rh_defs.specs.HeapParts.{HasRoom}
 use Rattle.rh_defs.proofs.HeapLists.{cond_true, cond_false, eqb_same, eqb_apart, with_hole-nil, with_hole-more, with_hole-used, with_hole-hole}
 use Rattle.rh_defs.proofs.HeapLaws.{HasNone}
-use Rattle.rh_heap.specs.Starts.{once, used_at, hole_at, Noted}
+use Rattle.rh_store.specs.Starts.{once, used_at, hole_at}
+use Rattle.rh_heap.specs.Starts.{Noted}
 
 pub once_same : (p q : ℕ) → p ≡ q → once p q ≡ 1
 once_same p q e = cond_true (eqb p q) 1 0 (eqb_same p q e)

@@ -15,5 +15,5 @@ pub use span::list::{SEGMENTS_AT_ONCE, segments_from};
 pub use span::release::release;
 pub use span::resize::{resize, resize_need};
 pub use span::segments::{block_size, holds, segment};
-pub use span::starts::LINE_BYTES;
+pub use rh_store::LINE_BYTES;
 pub use span::whole::{end, extend_heap, init};
