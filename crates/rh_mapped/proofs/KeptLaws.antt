@@ -1,6 +1,6 @@
 -- What keeps a map that of its area's heap.
-use Rattle.std.proofs.Common.{◌≡◌, ◌≢◌, ℕ, ◌+◌, ◌-◌, ◌*◌, ◌≤◌, inl, inr, true, false, List, [], length, refl, sym, ap, subst, ◌∙◌, arith}
-use Rattle.std.specs.Prelude.{Option, Some, None, IfSome, ◌⊎◌, replicate, get_or, IsNone, unwrap_or}
+use Rattle.std.proofs.Common.{◌≡◌, ◌≢◌, ℕ, zero, suc, ◌+◌, ◌-◌, ◌*◌, ◌≤◌, inl, inr, true, false, List, [], ◌∷◌, ◌++◌, length, refl, sym, ap, subst, ◌∙◌, arith}
+use Rattle.std.specs.Prelude.{Option, Some, None, IfSome, Result, Ok, Err, IfOk, OnOk, OnErr, ◌⊎◌, IsNone}
 use Rattle.std.proofs.lemmas.Bool.{cases_eq}
 use Rattle.rh_defs.specs.Bytes.{SameIn, SameOutside}
 use Rattle.rh_defs.specs.Memory.{Memory, bytes, with_bytes, opened, closed, grown, shrunk, IsOpen}
@@ -11,6 +11,8 @@ use Rattle.rh_defs.proofs.MemoryLaws.{bytes-with_bytes, bytes-with_other, bytes-
 use Rattle.rh_defs.proofs.SlotLaws.{Spells-same}
 use Rattle.rh_store.specs.Starts.{IsIndex, IsMapOf, IsKept}
 use Rattle.rh_store.specs.declared.starts.Starts.{Starts}
+use Rattle.rh_store.specs.declared.store.AreaId.{AreaId}
+use Rattle.rh_store.specs.declared.store.StoreFault.{StoreFault}
 use Rattle.rh_mapped.specs.Maps.{map_of, AreKept, IsOff, Forgot, Spoilt}
 
 -- a map stays that of bytes in which its heap's bytes stay
@@ -98,3 +100,33 @@ kept_opened m maps id closed k =
 pub kept_closed : (m : Memory) (old new : List (Option Starts)) (id : ℕ) → AreKept m old → Spoilt old new id → AreKept (closed m id) new
 kept_closed m old new id k s =
     each m (closed m id) old new id k s.others (bytes-closed_other m id) (kept_unknown (bytes (closed m id) id) (map_of new id) s.off)
+
+-- ---- calls that may be refused
+pub kept_grow : (m n : Memory) (maps : List (Option Starts)) (id pages : ℕ) (result : Result (Unit {0}) StoreFault) → AreKept m maps → OnOk result (n ≡ grown m id pages) → OnErr result (n ≡ m) → AreKept n maps
+kept_grow m n maps id pages (Ok x) k ok err = rw ok (kept_grown m maps id pages k)
+kept_grow m n maps id pages (Err e) k ok err = rw err k
+
+none_is : (o : Option (List ℕ)) → IsNone o → o ≡ None
+none_is None h = refl
+none_is (Some x) h = absurd cc
+
+pub kept_open : (m n : Memory) (maps : List (Option Starts)) (result : Result AreaId StoreFault) → AreKept m maps → IfOk result (λ id. IsNone (m.area id.0) × (n ≡ opened m id.0)) → OnErr result (n ≡ m) → AreKept n maps
+kept_open m n maps (Ok id) k ok err = rw ok.1 (kept_opened m maps id.0 (none_is (m.area id.0) ok.0) k)
+kept_open m n maps (Err e) k ok err = rw err k
+
+-- ---- maps of no heap yet
+abbrev pub AreUnknown : List (Option Starts) → Type 0
+AreUnknown maps = (id : ℕ) → IfSome (map_of maps id) (λ s. s.known ≡ false)
+
+pub unknown_none : AreUnknown []
+unknown_none zero = tt
+unknown_none (suc id) = tt
+
+pub unknown_pushed : (maps : List (Option Starts)) (s : Starts) → s.known ≡ false → AreUnknown maps → AreUnknown (maps ++ Some s ∷ [])
+unknown_pushed [] s u k zero = u
+unknown_pushed [] s u k (suc id) = tt
+unknown_pushed (m ∷ ms) s u k zero = k zero
+unknown_pushed (m ∷ ms) s u k (suc id) = unknown_pushed ms s u (λ j. k (suc j)) id
+
+pub all_unknown : (m : Memory) (maps : List (Option Starts)) → AreUnknown maps → AreKept m maps
+all_unknown m maps k id = kept_unknown (bytes m id) (map_of maps id) (k id)

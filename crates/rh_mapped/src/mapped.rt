@@ -1,19 +1,28 @@
 //! The store with its maps.
 ghost use Rattle.std.specs.Prelude.{◌≡◌, false, IfOk};
-ghost use Rattle.rh_mapped.specs.Maps.{AreKept};
 
 use crate::maps::{forget, spoil};
 use rh_defs::sizes::{MAX_AREAS, PAGE, WORD};
 use rh_store::{AreaId, LINE_BYTES, Paged, Pages, Sited, Starts, Store, StoreFault, Words, WordsMut};
 use std::alloc::{AllocError, Global};
+use std::marker::Model;
 
-/// A store, and for each area a map of its heap. A write that meets the heap makes the map stale; whoever changes a heap
+/// A store, and for each area a map of its heap; seen as the store. A write that meets the heap makes the map stale; whoever changes a heap
 /// takes the map before, and gives it back as it is then.
 #[derive(Drop)]
 pub struct Mapped<S: Store> {
     store: S,
     maps: Vec<Option<Starts>>,
-    ghost kept: { AreKept (S.memory store) maps.items },
+}
+
+impl<S: Store> Model for Mapped<S> {
+    ghost use Rattle.rh_mapped.specs.Maps.{AreKept};
+
+    ghost Value = { S };
+
+    ghost view = { λ s. s.store };
+
+    ghost invariant = { λ s. AreKept (S.memory s.store) s.maps.items };
 }
 
 /// A map of so many words, of no heap yet.
@@ -35,7 +44,7 @@ impl<S: Store + Drop> Mapped<S> {
     /// A store with room for a map of each area. All memory is taken here: AllocError where it is refused, and then the
     /// store is dropped.
     pub fn new(alloc: Global, store: S) -> Result<Mapped<S>, AllocError>
-        ensures { IfOk result (λ mapped. ⟦<Mapped<S> as Words>⟧.memory mapped ≡ S.memory store) }
+        ensures { IfOk result (λ mapped. mapped ≡ store) }
     {
         let words = 2 * (PAGE / LINE_BYTES) * store.free_pages();
         let mut maps = Vec::with_capacity(alloc, MAX_AREAS)?;
@@ -48,7 +57,7 @@ impl<S: Store + Drop> Mapped<S> {
 }
 
 impl<S: Store> Words for Mapped<S> {
-    ghost memory = { λ s. S.memory s.store };
+    ghost memory = { S.memory };
 
     fn word(&self, id: AreaId, at: usize) -> u32 {
         self.store.word(id, at)
@@ -83,7 +92,7 @@ impl<S: Store> Words for Mapped<S> {
         }
     }
 
-    ghost small = { λ s id. S.small s.store id };
+    ghost small = { S.small };
 }
 
 impl<S: Store> WordsMut for Mapped<S> {
@@ -134,7 +143,7 @@ impl<S: Store> Paged for Mapped<S> {
         self.store.rest_of_page(id, at)
     }
 
-    ghost whole = { λ s id. S.whole s.store id };
+    ghost whole = { S.whole };
 }
 
 impl<S: Store> Pages for Mapped<S> {
@@ -156,11 +165,11 @@ impl<S: Store> Pages for Mapped<S> {
         self.store.free_pages()
     }
 
-    ghost ledger = { λ s. S.ledger s.store };
+    ghost ledger = { S.ledger };
 
-    ghost within = { λ s id. S.within s.store id };
+    ghost within = { S.within };
 
-    ghost few = { λ s. S.few s.store };
+    ghost few = { S.few };
 }
 
 impl<S: Store> Store for Mapped<S> {
@@ -178,13 +187,13 @@ impl<S: Store> Store for Mapped<S> {
         self.store.copy(id, at, id2, at2, n);
     }
 
-    ghost numbered = { λ s id o. S.numbered s.store id o };
+    ghost numbered = { S.numbered };
 }
 
 impl<S: Sited> Sited for Mapped<S> {
-    ghost pages_of = { λ s. S.pages_of s.store };
+    ghost pages_of = { S.pages_of };
 
-    ghost free_of = { λ s. S.free_of s.store };
+    ghost free_of = { S.free_of };
 
     fn page(&self, id: AreaId, i: usize) -> usize {
         self.store.page(id, i)
@@ -194,5 +203,5 @@ impl<S: Sited> Sited for Mapped<S> {
         self.store.free_page(i)
     }
 
-    ghost shared = { λ s. S.shared s.store };
+    ghost shared = { S.shared };
 }

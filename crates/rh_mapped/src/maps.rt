@@ -7,7 +7,7 @@ use rh_store::Starts;
 /// Says of an area's map that it isn't up to date, where its heap meets the bytes from `low` up to `upper`.
 #[inline(always)]
 pub fn forget(maps: &mut Vec<Option<Starts>>, id: usize, low: usize, upper: usize)
-    ensures forgot { Forgot maps.old.items maps.new.items id low upper }
+    ensures { Forgot maps.old.items maps.new.items id low upper }
 {
     if id < maps.len() {
         if let Some(starts) = &mut maps[id] {
@@ -20,7 +20,7 @@ pub fn forget(maps: &mut Vec<Option<Starts>>, id: usize, low: usize, upper: usiz
 
 /// Says of an area's map that it isn't up to date.
 pub fn spoil(maps: &mut Vec<Option<Starts>>, id: usize)
-    ensures spoilt { Spoilt maps.old.items maps.new.items id }
+    ensures { Spoilt maps.old.items maps.new.items id }
 {
     if id < maps.len() {
         if let Some(starts) = &mut maps[id] {
