@@ -3,7 +3,9 @@ ghost use Rattle.std.specs.Prelude.{◌≡◌, false, IfOk};
 
 use crate::maps::{forget, spoil};
 use rh_defs::sizes::{MAX_AREAS, PAGE, WORD};
-use rh_store::{AreaId, LINE_BYTES, Paged, Pages, Sited, Starts, Store, StoreFault, Words, WordsMut};
+use rh_store::{
+    AreaId, LINE_BYTES, Paged, Pages, Sited, Starts, Store, StoreFault, Words, WordsMut,
+};
 use std::alloc::{AllocError, Global};
 use std::marker::Model;
 

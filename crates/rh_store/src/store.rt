@@ -117,8 +117,7 @@ pub trait WordsMut: Words {
     fn keep_starts(&mut self, _id: AreaId, _starts: Option<Starts>)
         requires { IfSome _starts (IsKept (bytes (Self.memory self.old) _id.0)) }
         ensures { Self.memory self.new ≡ Self.memory self.old }
-    {
-    }
+    {}
 }
 
 /// Areas of whole pages of 4,096 bytes, to be read: what a look at a slot needs of them.

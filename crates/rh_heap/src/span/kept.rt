@@ -11,16 +11,9 @@ ghost use Rattle.rh_store.specs.Starts.{IsIndex};
 ghost use Rattle.rh_defs.specs.declared.sizes.TheConstants.{HEAP_UNIT};
 ghost use Rattle.rh_store.specs.declared.starts.TheConstants.{LINE_BYTES};
 
-use crate::span::Span;
-use crate::span::claim;
-use crate::span::indexed::{
-    block_size_in, claim_in, index, release_in, resize_in, resize_need_in,
-};
-use crate::span::release;
-use crate::span::resize;
-use crate::span::segments;
-use crate::span::whole;
+use crate::span::indexed::{block_size_in, claim_in, index, release_in, resize_in, resize_need_in};
 use crate::span::words::read;
+use crate::span::{Span, claim, release, resize, segments, whole};
 use rh_defs::HeapRefusal;
 use rh_defs::sizes::HEAP_END;
 use rh_store::{Starts, Words, WordsMut};
