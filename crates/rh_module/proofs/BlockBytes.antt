@@ -1,12 +1,12 @@
 -- Blocks of the module area, by the bytes of the area.
-use Rattle.std.proofs.Common.{◌≡◌, ℕ, ◌+◌, ◌≤◌, inl, inr, eqb, List, [], ◌∷◌, length, sym, ap, subst, ◌∙◌, arith}
+use Rattle.std.proofs.Common.{◌≡◌, ℕ, ◌+◌, ◌≤◌, inl, inr, eqb, List, [], ◌∷◌, length, take, sym, ap, subst, ◌∙◌, arith}
 use Rattle.std.proofs.lemmas.Bool.{cases_eq}
 use Rattle.std.specs.Prelude.{Option, Some}
 use Rattle.rh_defs.specs.Bytes.{word, part, put, put_word, word_bytes}
 use Rattle.rh_defs.specs.Memory.{Memory, IsOpen, bytes, with_bytes}
 use Rattle.rh_defs.specs.Heap.{Segment, Used, Hole, Heap}
 use Rattle.rh_defs.specs.HeapImage.{Stand, IsImage}
-use Rattle.rh_defs.proofs.BytesLaws.{length-put, word-part, part-part}
+use Rattle.rh_defs.proofs.BytesLaws.{length-put, length-part, word-part, part-part, part-drop}
 use Rattle.rh_defs.proofs.MemoryLaws.{bytes-with_bytes, IsOpen-with_bytes, OnlyArea-with_bytes, free-with_bytes}
 use Rattle.rh_defs.proofs.HeapLists.{cond_true, cond_false, eqb_same, eqb_apart}
 use Rattle.rh_defs.proofs.HeapLaws.{heap_of-Spells}
@@ -93,3 +93,8 @@ pub wrote_word : (m n : Memory) (rma : Module) (a o w : ℕ) → IsModule m rma 
     → n ≡ with_bytes m rma.area.0 (put_word (bytes m rma.area.0) (a + o) w) → Wrote m n rma a o (word_bytes w)
 unfolding put_word word_bytes
 wrote_word m n rma a o w s b e = wrote m n rma a o (word_bytes w) s b e
+
+-- the first bytes of some that stand side by side
+pub front : (run b : List ℕ) (at m n : ℕ) → run ≡ part b at m → n ≤ m → take n run ≡ part b at n
+front run b at m n e h =
+    ap (take n) e ∙ sym (part-drop (part b at m) 0 n (omega (arith, h, length-part b at m))) ∙ part-part b at m 0 n (omega (arith, h)) ∙ ap (λ i. part b i n) (omega arith)

@@ -1,5 +1,5 @@
 //! The bytes of blocks in the module area.
-ghost use Rattle.std.specs.Prelude.{◌≡◌, ℕ, ◌+◌, List, Some, length};
+ghost use Rattle.std.specs.Prelude.{◌≡◌, ℕ, ◌+◌, ◌<◌, ◌≤◌, List, Some, length, take};
 ghost use Rattle.rh_defs.specs.Blocks.{HasBlock, block_bytes};
 ghost use Rattle.rh_defs.specs.Bytes.{part, word, word_bytes};
 ghost use Rattle.rh_module.specs.Area.{IsModule, heap_in};
@@ -25,6 +25,18 @@ impl Module {
         ensures { (bytes : List ℕ) → block_bytes address (heap_in (S.memory store.now) self) ≡ Some bytes → to.new ≡ part bytes offset (length to.old) }
     {
         store.copy_out(self.area, address + offset, to);
+    }
+
+    /// Bytes that lie side by side from an offset of the block at an address on, one at least; behind those of the block
+    /// others may follow.
+    pub fn run<S: Words>(self, store: &S, address: usize, offset: usize) -> &[u8]
+        requires module { IsModule (S.memory store.now) self }
+        requires block { HasBlock address (offset + 1) (heap_in (S.memory store.now) self) }
+        ensures bytes { (bytes : List ℕ) (n : ℕ) → block_bytes address (heap_in (S.memory store.now) self) ≡ Some bytes → offset + n ≤ length bytes → n ≤ length result.now
+            → take n result.now ≡ part bytes offset n }
+        ensures some { 0 < length result.now }
+    {
+        store.run(self.area, address + offset)
     }
 
     /// Writes a word at an offset of the block at an address.
