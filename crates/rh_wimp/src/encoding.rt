@@ -2,13 +2,14 @@
 ghost use Rattle.std.specs.Prelude.{◌≡◌, ◌+◌, ◌^◌, ◌<◌, ◌≤◌, ◌++◌, [], ◌∷◌, true, length};
 ghost use Rattle.rh_defs.specs.Bytes.{put};
 ghost use Rattle.rh_defs.specs.Messages.{AreWords, Fits, HasName, body_bytes, data_words, encoded, encoded_length, file_words, name_bytes, words};
+ghost use Rattle.rh_defs.specs.Post.{message_of};
 ghost use Rattle.rh_defs.specs.Pathnames.{is_pathname};
 ghost use Rattle.rh_wimp.specs.declared.layout.TheConstants.{ACTION, DATA, FILE_LENGTH, MOST_LENGTH, NAME, RAM_LENGTH};
 
 use crate::bytes::{put_bytes, put_word, put_words, put_zeros};
 use crate::layout::{ACTION, DATA, FILE_LENGTH, MOST_LENGTH, NAME, RAM_LENGTH};
 use rh_defs::sizes::WORD;
-use rh_defs::{Body, FileData, Message};
+use rh_defs::{Body, FileData, Letter, Message, Ref};
 
 /// The bytes that a name takes with its zero byte, in whole words.
 fn name_room(name: &[u8]) -> usize
@@ -134,6 +135,22 @@ pub fn encode(message: &Message, out: &mut [u8; MOST_LENGTH]) -> usize
         message.my_ref.0,
         message.your_ref.0,
         &message.body,
+        out,
+    )
+}
+
+/// Writes the message block of a letter with its ref, and answers its length; the bytes beyond it stay as they were.
+pub fn encode_letter(letter: &Letter, my_ref: Ref, out: &mut [u8; MOST_LENGTH]) -> usize
+    ensures length { result ≡ encoded_length (message_of letter.now my_ref) }
+    ensures bytes { out.new ≡ put out.old 0 (encoded (message_of letter.now my_ref)) }
+    ensures short { result ≤ MOST_LENGTH }
+    ensures fits { Fits (message_of letter.now my_ref) }
+{
+    encode_parts(
+        letter.from.0,
+        my_ref.0,
+        letter.your_ref.0,
+        &letter.body,
         out,
     )
 }

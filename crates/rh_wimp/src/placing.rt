@@ -5,6 +5,7 @@ ghost use Rattle.rh_defs.specs.Chain.{answer_of};
 ghost use Rattle.rh_defs.specs.Heap.{Heap, release};
 ghost use Rattle.rh_defs.specs.Memory.{Memory, OnlyArea};
 ghost use Rattle.rh_defs.specs.Module.{module_claim};
+ghost use Rattle.rh_defs.specs.Post.{message_of};
 ghost use Rattle.rh_module.specs.Area.{IsModule, heap_in};
 ghost use Rattle.rh_wimp.specs.Moves.{Turns};
 ghost use Rattle.rh_defs.specs.Blocks.{HasBlock, block_bytes, poked};
@@ -15,32 +16,32 @@ ghost use Rattle.rh_defs.specs.declared.sizes.TheConstants.{WORD};
 ghost use Rattle.rh_wimp.specs.declared.layout.TheConstants.{MESSAGE, MY_REF};
 
 use crate::chain::Entry;
-use crate::encoding::encode;
+use crate::encoding::encode_letter;
 use crate::layout::{CODE, LINK, MESSAGE, MOST_LENGTH, MY_REF};
-use rh_defs::{EventCode, Message, Ref, Refusal};
+use rh_defs::{Letter, Ref, Refusal};
 use rh_module::Module;
 use rh_store::{Pages, Words};
 
-/// Claims a block and writes a message into it, with link 0. Refused (`NoRoom`), and nothing changed, where the module
+/// Claims a block and writes the message of a letter into it, with link 0. Refused (`NoRoom`), and nothing changed, where the module
 /// area can't grow.
 pub fn place<S: Pages>(
     store: &mut S,
     rma: Module,
-    code: EventCode,
-    message: &Message,
+    letter: &Letter,
+    my_ref: Ref,
 ) -> Result<usize, Refusal>
     requires { IsModule (S.memory store.old) rma }
-    ensures answer { result ≡ answer_of (module_claim (S.memory store.old).free (parcel_size message.now) (heap_in (S.memory store.old) rma)) }
-    ensures placed { (there : Heap × ℕ) → module_claim (S.memory store.old).free (parcel_size message.now) (heap_in (S.memory store.old) rma) ≡ Ok there
-        → Turns (S.memory store.old) (S.memory store.new) rma (poked there.1 0 (word_bytes 0 ++ (word_bytes (code_number code) ++ encoded message.now)) there.0) }
-    ensures fits { Fits message.now }
+    ensures answer { result ≡ answer_of (module_claim (S.memory store.old).free (parcel_size (message_of letter.now my_ref)) (heap_in (S.memory store.old) rma)) }
+    ensures placed { (there : Heap × ℕ) → module_claim (S.memory store.old).free (parcel_size (message_of letter.now my_ref)) (heap_in (S.memory store.old) rma) ≡ Ok there
+        → Turns (S.memory store.old) (S.memory store.new) rma (poked there.1 0 (word_bytes 0 ++ (word_bytes (code_number letter.now.code) ++ encoded (message_of letter.now my_ref))) there.0) }
+    ensures fits { Fits (message_of letter.now my_ref) }
     ensures err { OnErr result (S.memory store.new ≡ S.memory store.old) }
 {
     let mut bytes = [0u8; MOST_LENGTH];
-    let length = encode(message, &mut bytes);
+    let length = encode_letter(letter, my_ref, &mut bytes);
     let block = rma.claim(store, (MESSAGE + length) as u32)?;
     rma.write_word(store, block, LINK, 0);
-    rma.write_word(store, block, CODE, code.number());
+    rma.write_word(store, block, CODE, letter.code.number());
     rma.write_bytes(store, block, MESSAGE, &bytes[..length]);
     Ok(block)
 }

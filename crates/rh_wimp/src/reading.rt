@@ -27,12 +27,17 @@ fn read_into<S: Words>(store: &S, rma: Module, block: usize, buffer: &mut [u8]) 
     decode(bytes).unwrap()
 }
 
-/// The message that lies in a block.
+/// The message that lies in a block, read where it lies unless its bytes are scattered.
 pub fn read_message<S: Words>(store: &S, rma: Module, block: usize) -> Message
     requires module { IsModule (S.memory store.now) rma }
     requires lies { (p : Parcel) × LiesAt (S.memory store.now) rma block p }
     ensures { (p : Parcel) → LiesAt (S.memory store.now) rma block p → result ≡ p.message }
 {
+    let length = rma.read_word(store, block, MESSAGE) as usize;
+    let run = rma.run(store, block, MESSAGE);
+    if length <= run.len() {
+        return decode(&run[..length]).unwrap();
+    }
     let mut buffer = [0u8; MOST_LENGTH];
     read_into(store, rma, block, &mut buffer)
 }

@@ -13,7 +13,7 @@ use crate::encoding::body_length;
 use crate::layout::{ACTION, MESSAGE};
 use crate::placing::{holds_ref, place, put_down};
 use crate::queue::{MOST_MESSAGES, Queue};
-use rh_defs::{Handle, Letter, Message, Ref, Refusal};
+use rh_defs::{Handle, Letter, Ref, Refusal};
 use rh_module::Module;
 use rh_store::{Pages, Words};
 
@@ -51,20 +51,29 @@ impl Queue {
         ensures handles { handles_of self.new ≡ handles_of self.old }
         ensures err { OnErr result ((S.memory store.new ≡ S.memory store.old) × (self.new ≡ self.old)) }
     {
+        self.send_lent(store, rma, &letter)
+    }
+
+    /// The same for a letter that stays the caller's.
+    pub fn send_lent<S: Pages>(
+        &mut self,
+        store: &mut S,
+        rma: Module,
+        letter: &Letter,
+    ) -> Result<Ref, Refusal>
+        requires queue { IsQueue (S.memory store.old) rma self.old }
+        requires from { HasEntry letter.now.from self.old }
+        ensures answer { Answers (S.memory store.old) rma self.old (λ post. answer_of (post_send (S.memory store.old).free letter.now post)) result }
+        ensures leaves { Leaves (S.memory store.old) (S.memory store.new) rma self.old self.new
+            (λ post. left_of post (post_send (S.memory store.old).free letter.now post)) }
+        ensures handles { handles_of self.new ≡ handles_of self.old }
+        ensures err { OnErr result ((S.memory store.new ≡ S.memory store.old) × (self.new ≡ self.old)) }
+    {
         let to = self.admit(letter.to)?;
         let my_ref = Ref(self.next_ref as u32);
-        let from = letter.from;
-        let your_ref = letter.your_ref;
-        let code = letter.code;
-        let message = Message {
-            from,
-            my_ref,
-            your_ref,
-            body: letter.body,
-        };
-        let block = place(store, rma, code, &message)?;
+        let block = place(store, rma, letter, my_ref)?;
         append(store, rma, &mut self.entries, to, block);
-        let freed = answer(store, rma, &mut self.entries, from, your_ref);
+        let freed = answer(store, rma, &mut self.entries, letter.from, letter.your_ref);
         self.live = self.live + 1 - freed;
         self.next_ref += 1;
         Ok(my_ref)
