@@ -43,12 +43,8 @@ pub fn send<S: Pages>(
     ensures ok { IfOk result (λ my_ref. seat.new ≡ with_last letter my_ref seat.old) }
     ensures err { OnErr result ((S.memory store.new ≡ S.memory store.old) × ((queue.new ≡ queue.old) × (seat.new ≡ seat.old))) }
 {
-    let sent = letter.copied();
-    let my_ref = queue.send(store, MODULE, letter)?;
-    seat.last_sent = Some(SentLetter {
-        letter: sent,
-        my_ref,
-    });
+    let my_ref = queue.send_lent(store, MODULE, &letter)?;
+    seat.last_sent = Some(SentLetter { letter, my_ref });
     Ok(my_ref)
 }
 
