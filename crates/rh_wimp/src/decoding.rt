@@ -112,6 +112,7 @@ fn has_length(bytes: &[u8]) -> bool
 /// Reads a message. Bytes past its length, and past what its kind needs, are ignored. Refused with the first fault:
 /// `BadLength` where the length word isn't a multiple of 4 from 20 to 256 or bytes are missing, `BadAction`, and
 /// `BadLength` where the length is too small for the action or no zero byte ends the name.
+#[inline(always)]
 pub fn decode(bytes: &[u8]) -> Result<Message, MessageFault>
     ensures answer { result ≡ decoded bytes.now }
     ensures spelled { IfOk result (SpellsMessage bytes.now) }

@@ -15,6 +15,7 @@ use rh_module::Module;
 use rh_store::Words;
 
 /// The message that lies in a block, by a buffer with room for it.
+#[inline(never)]
 fn read_into<S: Words>(store: &S, rma: Module, block: usize, buffer: &mut [u8]) -> Message
     requires module { IsModule (S.memory store.now) rma }
     requires room { length buffer.old ≡ MOST_LENGTH }
