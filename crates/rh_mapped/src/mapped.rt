@@ -61,6 +61,7 @@ impl<S: Store + Drop> Mapped<S> {
 impl<S: Store> Words for Mapped<S> {
     ghost memory = { S.memory };
 
+    #[inline(always)]
     fn word(&self, id: AreaId, at: usize) -> u32 {
         self.store.word(id, at)
     }
@@ -69,14 +70,17 @@ impl<S: Store> Words for Mapped<S> {
         self.store.copy_out(id, at, to);
     }
 
+    #[inline(always)]
     fn run(&self, id: AreaId, at: usize) -> &[u8] {
         self.store.run(id, at)
     }
 
+    #[inline(always)]
     fn len(&self, id: AreaId) -> usize {
         self.store.len(id)
     }
 
+    #[inline(always)]
     fn starts(&self, id: AreaId, at: usize) -> Option<&[u64]> {
         let k = id.0 as usize;
         if k >= self.maps.len() {
@@ -98,6 +102,7 @@ impl<S: Store> Words for Mapped<S> {
 }
 
 impl<S: Store> WordsMut for Mapped<S> {
+    #[inline(always)]
     fn set_word(&mut self, id: AreaId, at: usize, w: u32) {
         forget(&mut self.maps, id.0 as usize, at, at + WORD);
         self.store.set_word(id, at, w);
@@ -141,6 +146,7 @@ impl<S: Store> WordsMut for Mapped<S> {
 }
 
 impl<S: Store> Paged for Mapped<S> {
+    #[inline(always)]
     fn rest_of_page(&self, id: AreaId, at: usize) -> &[u8] {
         self.store.rest_of_page(id, at)
     }

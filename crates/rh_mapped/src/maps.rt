@@ -11,7 +11,7 @@ pub fn forget(maps: &mut Vec<Option<Starts>>, id: usize, low: usize, upper: usiz
 {
     if id < maps.len() {
         if let Some(starts) = &mut maps[id] {
-            if starts.at < upper && low < starts.upper {
+            if low < starts.upper && starts.at < upper {
                 starts.known = false;
             }
         }
