@@ -152,8 +152,8 @@ fn hang_in_page<S: Paged>(
     place
 }
 
-/// Writes the anchor words of the blocks that lie in `n` bytes, all together in the end. Out of line, since few rows are
-/// so long.
+/// Writes the anchor words of the blocks that lie in `n` bytes, all at the end. Out of line, so that its buffer is no
+/// part of callers whose rows are short.
 #[inline(never)]
 fn hang_long<S: Pages>(store: &mut S, area: AreaId, from: usize, n: usize)
     requires opened { IsOpen (S.memory store.old) area.0 }
