@@ -9,7 +9,7 @@ ghost use Rattle.rh_defs.specs.SlotImage.{Lie, is_block, flex_place};
 ghost use Rattle.rh_defs.specs.declared.listing.BlockItem.{BlockItem};
 ghost use Rattle.rh_slot.specs.Area.{IsSlot, slot_in};
 ghost use Rattle.rh_slot.specs.Row.{Row, Hung, HangsApart, Shifted, Walked, WalksIn, Headed, item_of};
-ghost use Rattle.rh_defs.specs.declared.sizes.TheConstants.{FLEX_HEADER, PAGE};
+ghost use Rattle.rh_defs.specs.declared.sizes.TheConstants.{ANCHORS, C_HEAP_PLACE, FLEX_HEADER, PAGE};
 
 use crate::area::{read, slide, write, write_bytes};
 use crate::slot::Slot;
@@ -24,6 +24,12 @@ use rh_store::{AreaId, Paged, Pages, Words, WordsMut};
 
 /// Blocks of so many bytes or more together have their anchor words written all at once.
 const SHORT_ROW: usize = 128;
+
+/// So many blocks are passed sooner than the highest anchor word is found.
+const FEW_BLOCKS: usize = 3;
+
+/// By so many bits an anchor word goes up to make room for its anchor's number: it is a multiple of 4 below 2^28.
+const NUMBER_BITS: u32 = 4;
 
 /// A walk over a slot's flex blocks from below: how many it has passed, and where the next one stands in the slot's
 /// area.
@@ -81,6 +87,18 @@ fn item_in(anchors: &[u8], page: &[u8], at: usize, place: usize) -> Option<Block
         address: address as u32,
         size: word_in(page, at + WORD),
     })
+}
+
+/// The anchor whose word is the highest. Only speed stands on that: where no more is known of the words, it is any.
+fn highest(anchors: &[u8]) -> Anchor
+    requires { C_HEAP_PLACE ≤ length anchors.now }
+    ensures { result < ANCHORS }
+{
+    let mut best = 0;
+    for k in 0..ANCHORS {
+        best = best.max(word_in(anchors, WORD * k) << NUMBER_BITS | k as u32);
+    }
+    Anchor((best % ANCHORS as u32) as u8)
 }
 
 /// Writes the anchor words of the blocks that lie in `n` bytes, each by itself.
@@ -273,17 +291,41 @@ impl Slot {
         walk
     }
 
-    /// Where the flex blocks end, from a place to which a walk comes: the number of bytes that the slot takes.
+    /// Where the block of the highest anchor word ends, or a place to which a walk comes, whichever is higher. A walk
+    /// comes there too.
+    fn end_of_highest<S: Paged>(self, store: &S, least: usize) -> usize
+        requires slot { IsSlot (S.memory store.now) self }
+        requires walked { Walked (slot_in (S.memory store.now) self) least }
+        ensures walked { Walked (slot_in (S.memory store.now) self) result }
+        ensures least { least ≤ result }
+    {
+        let anchors = store.rest_of_page(self.area, 0);
+        let Some(spot) = self.locate(store, highest(anchors)) else {
+            return least;
+        };
+        let end = spot.place + flex_weight(spot.size);
+        if end < least {
+            return least;
+        }
+        end
+    }
+
+    /// Where the flex blocks end, from a place to which a walk comes: the number of bytes that the slot takes. A few
+    /// blocks are passed one by one, and of more the highest is asked for its end.
     pub(crate) fn top_from<S: Paged>(self, store: &S, from: usize) -> usize
         requires slot { IsSlot (S.memory store.now) self }
         requires walked { Walked (slot_in (S.memory store.now) self) from }
         ensures { result ≡ slot_length (slot_in (S.memory store.now) self) }
     {
-        let anchors = store.rest_of_page(self.area, 0);
         let mut place = from;
+        let mut few = FEW_BLOCKS;
         'walk: while let Some(size) = self.size_at(store, place) {
-            let behind = place + flex_weight(size);
-            place = self.pass_in_page(store, anchors, walk_from(behind)).place;
+            place += flex_weight(size);
+            if few == 0 {
+                place = self.end_of_highest(store, place);
+            } else {
+                few -= 1;
+            }
         }
         place
     }
