@@ -1,12 +1,33 @@
 //! The maps that are kept, by the numbers of their areas.
 ghost use Rattle.std.specs.Prelude.{◌≡◌, length};
-ghost use Rattle.rh_mapped.specs.Maps.{Forgot, Spoilt};
+ghost use Rattle.rh_mapped.specs.Maps.{AreReached, Forgot, Spoilt};
 
-use rh_store::Starts;
+use rh_store::{AreaId, Starts};
 
-/// Says of an area's map that it isn't up to date, where its heap meets the bytes from `low` up to `upper`.
+/// How many numbers an area may have.
+pub const AREA_NUMBERS: usize = u8::MAX as usize + 1;
+
+/// Says of an area's map that it isn't up to date, where its heap meets the bytes from `low` up to `upper`. Most writes
+/// lie above all that the area's map reaches to, and cost no more than to see that.
 #[inline(always)]
-pub fn forget(maps: &mut Vec<Option<Starts>>, id: usize, low: usize, upper: usize)
+pub fn forget(
+    maps: &mut Vec<Option<Starts>>,
+    reach: &[usize; AREA_NUMBERS],
+    id: AreaId,
+    low: usize,
+    upper: usize,
+)
+    requires { AreReached maps.old.items reach.now }
+    ensures { Forgot maps.old.items maps.new.items id.0 low upper }
+{
+    if low < reach[id.0 as usize] {
+        forget_met(maps, id.0 as usize, low, upper);
+    }
+}
+
+/// The same where the area's map may reach so far.
+#[inline(never)]
+fn forget_met(maps: &mut Vec<Option<Starts>>, id: usize, low: usize, upper: usize)
     ensures { Forgot maps.old.items maps.new.items id low upper }
 {
     if id < maps.len() {
