@@ -2,7 +2,7 @@
 ghost use Rattle.std.specs.Prelude.{◌≡◌, false, IfOk, IfSome};
 ghost use Rattle.rh_mapped.specs.Maps.{EndsBy};
 
-use crate::maps::{AREA_NUMBERS, forget, spoil};
+use crate::maps::{AREA_NUMBERS, forget, lengthened, spoil};
 use rh_defs::sizes::{MAX_AREAS, PAGE, WORD};
 use rh_store::{
     AreaId, LINE_BYTES, Paged, Pages, Sited, Starts, Store, StoreFault, Words, WordsMut,
@@ -30,11 +30,11 @@ impl<S: Store> Model for Mapped<S> {
     ghost invariant = { λ s. AreTied (S.memory s.store) s.maps.items s.reach };
 }
 
-/// A map of so many words, of no heap yet.
+/// A map of no heap yet, with room for so many words.
 fn blank(alloc: Global, words: usize) -> Result<Starts, AllocError>
     ensures { IfOk result (λ starts. starts.known ≡ false) }
 {
-    let lines = vec![in alloc; 0; words]?;
+    let lines = Vec::with_capacity(alloc, words)?;
     Ok(Starts {
         lines,
         known: false,
@@ -149,10 +149,11 @@ impl<S: Store> WordsMut for Mapped<S> {
         let Some(starts) = self.maps[k].take() else {
             return None;
         };
-        if starts.lines.len() / 2 < self.store.len(id).div_ceil(LINE_BYTES) {
-            return None;
+        let words = 2 * self.store.len(id).div_ceil(LINE_BYTES);
+        if words <= starts.lines.len() {
+            return Some(starts);
         }
-        Some(starts)
+        lengthened(starts, words)
     }
 
     fn keep_starts(&mut self, id: AreaId, starts: Option<Starts>) {

@@ -1,5 +1,5 @@
 //! The maps that are kept, by the numbers of their areas.
-ghost use Rattle.std.specs.Prelude.{◌≡◌, length};
+ghost use Rattle.std.specs.Prelude.{◌≡◌, ◌≤◌, length, false, IfSome};
 ghost use Rattle.rh_mapped.specs.Maps.{AreReached, Forgot, Spoilt};
 
 use rh_store::{AreaId, Starts};
@@ -37,6 +37,26 @@ fn forget_met(maps: &mut Vec<Option<Starts>>, id: usize, low: usize, upper: usiz
             }
         }
     }
+}
+
+/// The map with as many words as an area has by now. It isn't up to date then. None where there is no room for them, which
+/// a map has from the start.
+pub fn lengthened(starts: Starts, words: usize) -> Option<Starts>
+    ensures long { IfSome result (λ starts. words ≤ length starts.lines.items) }
+    ensures unknown { IfSome result (λ starts. starts.known ≡ false) }
+{
+    let Starts { mut lines, .. } = starts;
+    'fill: while lines.len() < words {
+        if lines.push(0).is_err() {
+            return None;
+        }
+    }
+    Some(Starts {
+        lines,
+        known: false,
+        at: 0,
+        upper: 0,
+    })
 }
 
 /// Says of an area's map that it isn't up to date.
