@@ -39,14 +39,16 @@ fn forget_met(maps: &mut Vec<Option<Starts>>, id: usize, low: usize, upper: usiz
     }
 }
 
-/// The map with as many words as an area has by now. It isn't up to date then. None where there is no room for them, which
-/// a map has from the start.
+/// The map with as many words as an area has by now, or twice as many as it had where there is room. It isn't up to date
+/// then. None where there is no room for the area's words, which a map has from the start.
 pub fn lengthened(starts: Starts, words: usize) -> Option<Starts>
     ensures long { IfSome result (λ starts. words ≤ length starts.lines.items) }
     ensures unknown { IfSome result (λ starts. starts.known ≡ false) }
 {
     let Starts { mut lines, .. } = starts;
-    'fill: while lines.len() < words {
+    let twice = lines.len().saturating_mul(2).min(lines.capacity());
+    let target = words.max(twice);
+    'fill: while lines.len() < target {
         if lines.push(0).is_err() {
             return None;
         }

@@ -3,4 +3,4 @@ use Rattle.std.proofs.Common.{◌-◌, length}
 use Rattle.rh_mapped.proofs.maps.lengthened.Given as goal
 
 abbrev pub decreases-fill : goal.decreases-fill
-decreases-fill l = l.words - length l.lines.items
+decreases-fill l = l.target - length l.lines.items
