@@ -14,7 +14,7 @@ use Rattle.rh_defs.proofs.HeapLaws.{HasNone, last_link-append, last_link-none, S
 use Rattle.rh_defs.proofs.HeapStretch.{Await-from_link}
 use Rattle.rh_heap.specs.Segments.{GapIs, no_gap, a_gap, FoundBlock}
 use Rattle.rh_store.specs.Starts.{bit, used_at, hole_at, IsIndex}
-use Rattle.rh_heap.specs.Starts.{LinkBelow, no_hole, a_hole}
+use Rattle.rh_heap.specs.Starts.{LastBit, LinkBelow, no_hole, a_hole}
 use Rattle.rh_store.specs.declared.starts.TheConstants.{USED, HOLES}
 use Rattle.rh_heap.proofs.StartLaws.{hole_at-append, hole_at-low, hole_at-before_first, used_at-high, hole_at-high, HasUnits, units_of, units-append, units-total, unmarked, off_units, UsedHere, used_here, no_holes, LastOf, last_of}
 
@@ -53,6 +53,10 @@ pub marked : (starts : List ℕ) (h : Heap) (place : ℕ) → IsIndex starts h �
 marked starts h place i m o =
     let e : 8 * (place / 8) ≡ place = omega arith in
     used_here place 16 h.segments (ap (λ q. used_at q 16 h.segments) (sym e) ∙ sym (i.used (place / 8)) ∙ o)
+
+-- the segments round the block that the last mark below a bound stands for
+pub last_used : (starts : List ℕ) (h : Heap) (n k : ℕ) → IsIndex starts h → LastBit USED starts n k → UsedHere (8 * k) 16 h.segments
+last_used starts h n k i l = used_here (8 * k) 16 h.segments (sym (i.used k) ∙ l.is_set)
 
 -- the last link in segments
 pub data LastLink (link : ℕ) (xs : List Segment) : Type 0 where

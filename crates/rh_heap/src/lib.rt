@@ -11,10 +11,12 @@ pub use rh_store::LINE_BYTES;
 pub use span::Span;
 pub use span::claim::need;
 pub use span::holes::describe;
-pub use span::indexed::{block_size_in, claim_in, index, release_in, resize_in, resize_need_in};
+pub use span::indexed::{
+    block_size_in, claim_in, holds_in, index, release_in, resize_in, resize_need_in,
+};
 pub use span::kept::{
-    block_size, claim, extend_heap, keep_map, release, resize, resize_need, take_map,
+    block_size, claim, extend_heap, holds, keep_map, release, resize, resize_need, take_map,
 };
 pub use span::list::{SEGMENTS_AT_ONCE, segments_from};
-pub use span::segments::{holds, segment};
+pub use span::segments::segment;
 pub use span::whole::{end, init};

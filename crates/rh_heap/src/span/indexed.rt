@@ -1,10 +1,10 @@
 //! Calls on a heap beside which a map of its segments' beginnings is kept: a block is found by one bit, and the hole
 //! before it by the bits below. Their answers and what they leave in the heap's bytes are those of the calls that walk.
-ghost use Rattle.std.specs.Prelude.{◌≡◌, ◌≢◌, ℕ, ◌+◌, ◌*◌, ◌/◌, ◌%◌, ◌^◌, ◌<◌, ◌≤◌, length, true, false, None, MatchOption, MatchResult, OnErr, ok_or};
+ghost use Rattle.std.specs.Prelude.{◌≡◌, ◌≢◌, ℕ, ◌+◌, ◌*◌, ◌/◌, ◌%◌, ◌^◌, ◌<◌, ◌≤◌, length, true, false, None, MatchOption, MatchResult, OnErr, is_some, ok_or};
 ghost use Rattle.rh_defs.specs.Bytes.{word};
 ghost use Rattle.rh_defs.specs.Memory.{Memory, IsOpen, bytes};
 ghost use Rattle.rh_defs.specs.Chain.{no_answer};
-ghost use Rattle.rh_defs.specs.Heap.{hole_for, shortage_in, block_at, block_size, base, claim, released_at, resize, need_at};
+ghost use Rattle.rh_defs.specs.Heap.{hole_for, shortage_in, block_at, block_around, block_size, base, claim, released_at, resize, need_at};
 ghost use Rattle.rh_heap.specs.Spans.{IsSpan, OnlySpan, bytes_in, heap_in};
 ghost use Rattle.rh_heap.specs.Calls.{Leaves};
 ghost use Rattle.rh_heap.specs.Claims.{Took};
@@ -23,10 +23,12 @@ use crate::span::holes::find;
 use crate::span::release::free_segment;
 use crate::span::resize::{Way, raise, short_by, shrink, way_to, widen};
 use crate::span::segments::Spot;
-use crate::span::starts::{clear, is_set, link_below, put, set};
+use crate::span::starts::{clear, is_set, last_up_to, link_below, put, set};
 use crate::span::words::{follow, move_bytes, read};
 use rh_defs::HeapRefusal;
-use rh_defs::sizes::{HEAP_BASE, HEAP_END, HEAP_FIRST, HEAP_FREE, HEAP_UNIT, moved, segment_size};
+use rh_defs::sizes::{
+    HEAP_BASE, HEAP_END, HEAP_FIRST, HEAP_FREE, HEAP_UNIT, is_inside, moved, segment_size,
+};
 use rh_store::{HOLES, USED, Words, WordsMut};
 
 /// Makes a map of where a heap's segments begin. The map has a line of two words for each 512 bytes of the heap, up to
@@ -147,6 +149,24 @@ pub fn block_size_in<S: Words>(
         Some(spot) => Ok(spot.size - BLOCK),
         None => Err(HeapRefusal::NotABlock),
     }
+}
+
+/// Whether the `n` bytes at an address lie whole in one used block, also where `n` is 0. Any address and any `n` may
+/// be asked for.
+pub fn holds_in<S: Words>(store: &S, span: Span, starts: &[u64], address: usize, n: usize) -> bool
+    requires span { IsSpan (S.memory store.now) span }
+    requires starts { IsIndex starts.now (heap_in (S.memory store.now) span) }
+    ensures { result ≡ is_some (block_around address n (heap_in (S.memory store.now) span)) }
+{
+    if address < HEAP_FIRST + BLOCK || read(store, span, HEAP_BASE) + BLOCK <= address {
+        return false;
+    }
+    let Some(k) = last_up_to(starts, USED, (address - BLOCK) / HEAP_UNIT) else {
+        return false;
+    };
+    let place = HEAP_UNIT * k;
+    let size = read(store, span, place);
+    is_inside(address, n, place + BLOCK, size - BLOCK)
 }
 
 /// Notes what became of the bytes from `low` up to `upper`, which stood open before the segments that follow: a hole

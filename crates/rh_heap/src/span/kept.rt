@@ -1,17 +1,19 @@
 //! Calls on a heap for callers: where the store keeps a map of the heap's beginnings, a block is found by it, and else by
 //! a walk. A map that isn't up to date is made anew by the first call that changes the heap.
-ghost use Rattle.std.specs.Prelude.{◌≡◌, ◌+◌, ◌*◌, ◌/◌, ◌%◌, ◌≤◌, length, IfSome, ok_or};
+ghost use Rattle.std.specs.Prelude.{◌≡◌, ◌+◌, ◌*◌, ◌/◌, ◌%◌, ◌≤◌, length, IfSome, is_some, ok_or};
 ghost use Rattle.rh_defs.specs.Memory.{Memory, bytes};
 ghost use Rattle.rh_defs.specs.Pieces.{moved};
 ghost use Rattle.rh_defs.specs.Chain.{no_answer};
-ghost use Rattle.rh_defs.specs.Heap.{block_size, claim, extend, need_at, released_at, resize};
+ghost use Rattle.rh_defs.specs.Heap.{block_around, block_size, claim, extend, need_at, released_at, resize};
 ghost use Rattle.rh_heap.specs.Spans.{IsSpan, bytes_in, heap_in};
 ghost use Rattle.rh_heap.specs.Calls.{Leaves};
 ghost use Rattle.rh_store.specs.Starts.{IsIndex};
 ghost use Rattle.rh_defs.specs.declared.sizes.TheConstants.{HEAP_UNIT};
 ghost use Rattle.rh_store.specs.declared.starts.TheConstants.{LINE_BYTES};
 
-use crate::span::indexed::{block_size_in, claim_in, index, release_in, resize_in, resize_need_in};
+use crate::span::indexed::{
+    block_size_in, claim_in, holds_in, index, release_in, resize_in, resize_need_in,
+};
 use crate::span::words::read;
 use crate::span::{Span, claim, release, resize, segments, whole};
 use rh_defs::HeapRefusal;
@@ -168,6 +170,18 @@ pub fn block_size<S: Words>(store: &S, span: Span, address: usize) -> Result<usi
     match store.starts(span.area, span.at) {
         Some(lines) => block_size_in(store, span, lines, address),
         None => segments::block_size(store, span, address),
+    }
+}
+
+/// Whether the `n` bytes at an address lie whole in one used block, also where `n` is 0. Any address and any `n` may
+/// be asked for.
+pub fn holds<S: Words>(store: &S, span: Span, address: usize, n: usize) -> bool
+    requires { IsSpan (S.memory store.now) span }
+    ensures { result ≡ is_some (block_around address n (heap_in (S.memory store.now) span)) }
+{
+    match store.starts(span.area, span.at) {
+        Some(lines) => holds_in(store, span, lines, address, n),
+        None => segments::holds(store, span, address, n),
     }
 }
 

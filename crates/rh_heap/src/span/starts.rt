@@ -75,6 +75,19 @@ pub fn last_below(starts: &[u64], lane: usize, n: usize) -> Option<usize>
     }
 }
 
+/// The last set bit of a lane at `n` or below it.
+pub fn last_up_to(starts: &[u64], lane: usize, n: usize) -> Option<usize>
+    requires lane { lane < 2 }
+    requires within { 2 * (n / 64) + lane < length starts.now }
+    ensures { MatchOption result ((j : ℕ) → j < n + 1 → bit lane starts.now j ≡ 0)
+        (λ k. LastBit lane starts.now (n + 1) k) }
+{
+    if is_set(starts, lane, n) {
+        return Some(n);
+    }
+    last_below(starts, lane, n)
+}
+
 /// Where the last link below a place is: the last hole that begins there, or the descriptor's link where none does.
 pub fn link_below(starts: &[u64], place: usize) -> usize
     requires multiple { place % HEAP_UNIT ≡ 0 }
