@@ -16,12 +16,13 @@ use crate::said::Said;
 use crate::tally::Tally;
 use rh_defs::{Command, Files, Handle, Ref};
 use rh_lines::parse_line;
+use rh_mapped::Mapped;
 use rh_pages::PagedStore;
 use rh_tasks::World;
 use std::alloc::{AllocError, Global};
 
-/// A world over scattered pages.
-pub type PagedWorld = World<PagedStore>;
+/// A world over scattered pages, with a map beside each heap.
+pub type PagedWorld = World<Mapped<PagedStore>>;
 
 /// A world, and what the last line was answered.
 #[derive(Drop)]
@@ -50,6 +51,7 @@ impl Console {
         ensures err { OnErr result (files.new ≡ files.old) }
     {
         let store = PagedStore::new(alloc, pages as usize)?;
+        let store = Mapped::new(alloc, store)?;
         let world = World::with_files_of(alloc, store, files, handle, r)?;
         Ok(Console {
             world,

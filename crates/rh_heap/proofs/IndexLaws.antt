@@ -1,25 +1,21 @@
 -- What a map tells of a heap, and what keeps it the heap's map.
 use Rattle.std.proofs.Common.{◌≡◌, ◌≢◌, ℕ, ◌+◌, ◌-◌, ◌*◌, ◌/◌, ◌%◌, ◌<◌, ◌≤◌, inl, inr, Bool, true, false, List, [], ◌∷◌, ◌++◌, length, get_or, refl, sym, ap, subst, ◌∙◌, append_assoc, arith}
 use Rattle.std.specs.Prelude.{None}
-use Rattle.std.proofs.lemmas.Bool.{cases_eq, cases_lt}
+use Rattle.std.proofs.lemmas.Bool.{cases_lt}
 use Rattle.std.proofs.lemmas.List.{append-nil}
 use Rattle.std.proofs.lemmas.Nat.Bits.{bit_at-lt}
 use Rattle.rh_defs.specs.Bytes.{word}
 use Rattle.rh_defs.specs.Pieces.{total, first_at, NonePass}
-use Rattle.rh_defs.specs.Heap.{Segment, Used, Hole, Heap, IsTidy, size_of, base, is_block_at, block_at, with_hole, release, placed}
+use Rattle.rh_defs.specs.Heap.{Segment, Used, Hole, Heap, IsTidy, size_of, base, is_block_at, block_at}
 use Rattle.rh_defs.specs.HeapImage.{Stand, Spells}
 use Rattle.rh_defs.specs.HeapParts.{HasRoom, last_link}
-use Rattle.rh_defs.proofs.HeapLists.{HasRoom-from_tidy, HasRoom-append, total-append, tidy_before, tidy_behind_used, tidy_behind_hole, first_at-none, first_at-found, eqb_same, no_segments}
+use Rattle.rh_defs.proofs.HeapLists.{HasRoom-from_tidy, HasRoom-append, total-append, tidy_before, tidy_behind_used, first_at-none, first_at-found, eqb_same, no_segments}
 use Rattle.rh_defs.proofs.HeapLaws.{HasNone, last_link-append, last_link-none, Stand-split}
 use Rattle.rh_heap.specs.Segments.{GapIs, no_gap, a_gap, FoundBlock}
-use Rattle.rh_heap.specs.Holes.{FoundHole}
-use Rattle.rh_heap.specs.Starts.{bit, once, used_at, hole_at, IsIndex, Became, LastBit, LinkBelow, no_hole, a_hole, Noted}
-use Rattle.rh_heap.specs.declared.span.segments.Spot.{Spot}
-use Rattle.rh_heap.specs.declared.span.holes.Gap.{Gap}
-use Rattle.rh_heap.specs.declared.span.starts.TheConstants.{USED, HOLES}
-use Rattle.rh_heap.proofs.ReleaseLaws.{released_is}
-use Rattle.rh_heap.proofs.ClaimLaws.{placed_found, placed_none}
-use Rattle.rh_heap.proofs.StartLaws.{once_same, once_apart, used_at-append, hole_at-append, used_at-low, hole_at-low, used_at-high, hole_at-high, HasUnits, units_of, units-append, units-total, unmarked, off_units, UsedHere, used_here, no_holes, LastOf, last_of, used_with_hole, hole_noted}
+use Rattle.rh_store.specs.Starts.{bit, used_at, hole_at, IsIndex}
+use Rattle.rh_heap.specs.Starts.{LinkBelow, no_hole, a_hole}
+use Rattle.rh_store.specs.declared.starts.TheConstants.{USED, HOLES}
+use Rattle.rh_heap.proofs.StartLaws.{hole_at-append, hole_at-low, used_at-high, hole_at-high, HasUnits, units_of, units-append, units-total, unmarked, off_units, UsedHere, used_here, no_holes, LastOf, last_of}
 
 -- ---- what the map tells
 

@@ -12,10 +12,11 @@ use Rattle.rh_heap.specs.Segments.{GapIs, no_gap, a_gap, FoundBlock}
 use Rattle.rh_heap.specs.Holes.{FoundHole}
 use Rattle.rh_heap.specs.Ways.{WayIs, WithBlock, resized_in}
 use Rattle.rh_heap.specs.declared.span.resize.Way.TheVariants as way
-use Rattle.rh_heap.specs.Starts.{bit, once, used_at, hole_at, IsIndex, Became, Noted}
+use Rattle.rh_store.specs.Starts.{bit, once, used_at, hole_at, IsIndex}
+use Rattle.rh_heap.specs.Starts.{Became, Noted}
 use Rattle.rh_heap.specs.declared.span.segments.Spot.{Spot}
 use Rattle.rh_heap.specs.declared.span.holes.Gap.{Gap}
-use Rattle.rh_heap.specs.declared.span.starts.TheConstants.{USED, HOLES}
+use Rattle.rh_store.specs.declared.starts.TheConstants.{USED, HOLES}
 use Rattle.rh_heap.proofs.ReleaseLaws.{released_is}
 use Rattle.rh_heap.proofs.ClaimLaws.{placed_found, placed_none}
 use Rattle.rh_heap.proofs.ResizeLaws.{length-fitted, IntoOf, TopOf, shrunk_is, widened_is}

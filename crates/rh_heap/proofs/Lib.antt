@@ -21,3 +21,4 @@ pub mod StartLaws
 pub mod IndexLaws
 pub mod KeepLaws
 pub mod MapLaws
+pub mod MapShapes

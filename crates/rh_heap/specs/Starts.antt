@@ -1,35 +1,8 @@
--- The map of where a heap's segments begin, and how its bits are read and changed.
-use Rattle.std.specs.Prelude.{◌≡◌, ◌≢◌, ℕ, ◌+◌, ◌*◌, ◌/◌, ◌%◌, ◌<◌, ◌≤◌, ◌==◌, if◌then◌else◌, List, [], ◌∷◌, length, slice_index}
-use Rattle.std.specs.Int.{bit_at}
-use Rattle.rh_defs.specs.Heap.{Segment, Used, Hole, Heap, first_place}
+-- How the bits of a map of where a heap's segments begin are read and changed.
+use Rattle.std.specs.Prelude.{◌≡◌, ◌≢◌, ℕ, ◌*◌, ◌/◌, ◌<◌, ◌≤◌, List}
 use Rattle.rh_defs.specs.declared.sizes.TheConstants.{HEAP_FREE, HEAP_UNIT}
-use Rattle.rh_heap.specs.declared.span.starts.TheConstants.{USED, HOLES, LINE_BYTES}
-
--- bit k of a lane: each line of a map has a word of 64 bits for each of the two lanes
-abbrev pub bit : ℕ → List ℕ → ℕ → ℕ
-bit lane starts k = bit_at (slice_index starts (2 * (k / 64) + lane)) (k % 64)
-
--- 1 where these are one place, else 0
-abbrev pub once : ℕ → ℕ → ℕ
-once p q = if p == q then 1 else 0
-
--- how many used segments begin at place p, of those that stand from place q on: 1 or 0
-abbrev pub used_at : ℕ → ℕ → List Segment → ℕ
-used_at p q [] = 0
-used_at p q (Used bytes ∷ segments) = once p q + used_at p (q + (4 + length bytes)) segments
-used_at p q (Hole size ∷ segments) = used_at p (q + size) segments
-
--- how many holes begin there
-abbrev pub hole_at : ℕ → ℕ → List Segment → ℕ
-hole_at p q [] = 0
-hole_at p q (Used bytes ∷ segments) = hole_at p (q + (4 + length bytes)) segments
-hole_at p q (Hole size ∷ segments) = once p q + hole_at p (q + size) segments
-
--- A map has lines for all of the heap. Bit k is set in one lane just where a used segment begins at place 8k, and in the other just where a hole does.
-pub record IsIndex (starts : List ℕ) (h : Heap) : Type 0 where
-  pub long : h.end ≤ LINE_BYTES * (length starts / 2)
-  pub used : (k : ℕ) → bit USED starts k ≡ used_at (HEAP_UNIT * k) first_place h.segments
-  pub holes : (k : ℕ) → bit HOLES starts k ≡ hole_at (HEAP_UNIT * k) first_place h.segments
+use Rattle.rh_store.specs.Starts.{bit}
+use Rattle.rh_store.specs.declared.starts.TheConstants.{HOLES}
 
 -- bit k of a lane has become v, and no other bit has changed
 pub record Became (lane k v : ℕ) (old new : List ℕ) : Type 0 where

@@ -7,13 +7,14 @@ mod span;
 
 pub use image::{SegmentIter, Summary, check, segments};
 pub use layout::Segment;
+pub use rh_store::LINE_BYTES;
 pub use span::Span;
-pub use span::claim::{claim, need};
+pub use span::claim::need;
 pub use span::holes::describe;
 pub use span::indexed::{block_size_in, claim_in, index, release_in, resize_in, resize_need_in};
+pub use span::kept::{
+    block_size, claim, extend_heap, keep_map, release, resize, resize_need, take_map,
+};
 pub use span::list::{SEGMENTS_AT_ONCE, segments_from};
-pub use span::release::release;
-pub use span::resize::{resize, resize_need};
-pub use span::segments::{block_size, holds, segment};
-pub use span::starts::LINE_BYTES;
-pub use span::whole::{end, extend_heap, init};
+pub use span::segments::{holds, segment};
+pub use span::whole::{end, init};

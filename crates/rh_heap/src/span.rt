@@ -3,6 +3,7 @@
 pub mod claim;
 pub mod holes;
 pub mod indexed;
+pub mod kept;
 pub mod list;
 pub mod release;
 pub mod resize;

@@ -1,7 +1,7 @@
 -- Blocks of the module area, by the bytes of the area.
 use Rattle.std.proofs.Common.{◌≡◌, ℕ, ◌+◌, ◌≤◌, inl, inr, eqb, List, [], ◌∷◌, length, sym, ap, subst, ◌∙◌, arith}
 use Rattle.std.proofs.lemmas.Bool.{cases_eq}
-use Rattle.std.specs.Prelude.{Option, Some}
+use Rattle.std.specs.Prelude.{Option, Some, None, IfSome}
 use Rattle.rh_defs.specs.Bytes.{word, part, put, put_word, word_bytes}
 use Rattle.rh_defs.specs.Memory.{Memory, IsOpen, bytes, with_bytes}
 use Rattle.rh_defs.specs.Heap.{Segment, Used, Hole, Heap}
@@ -12,8 +12,14 @@ use Rattle.rh_defs.proofs.HeapLists.{cond_true, cond_false, eqb_same, eqb_apart}
 use Rattle.rh_defs.proofs.HeapLaws.{heap_of-Spells}
 use Rattle.rh_module.specs.Area.{IsModule, SpellsIn, heap_in}
 use Rattle.rh_module.specs.declared.module.Module.{Module}
-use Rattle.rh_defs.specs.Blocks.{bytes_at, block_bytes, poked, HasBlock}
+use Rattle.rh_defs.specs.Blocks.{bytes_at, block_bytes, poked, HasBlock, SameShape}
 use Rattle.rh_module.specs.Writes.{Wrote}
+use Rattle.rh_heap.specs.Spans as spans
+use Rattle.rh_heap.specs.declared.span.Span.{Span}
+use Rattle.rh_heap.proofs.MapShapes.{index_shape}
+use Rattle.rh_store.specs.Starts.{IsIndex}
+use Rattle.rh_defs.proofs.ShapeLaws.{poked-shape}
+use Rattle.rh_module.proofs.SpanLaws.{span_of, is_span, old_heap}
 use Rattle.rh_defs.proofs.BlockLaws.{range_at, IsImage-written}
 
 standing : (b : List ℕ) (a f p : ℕ) (ss : List Segment) (bs : List ℕ) → bytes_at a p ss ≡ Some bs → Stand b f p ss → part b a (length bs) ≡ bs
@@ -93,3 +99,17 @@ pub wrote_word : (m n : Memory) (rma : Module) (a o w : ℕ) → IsModule m rma 
     → n ≡ with_bytes m rma.area.0 (put_word (bytes m rma.area.0) (a + o) w) → Wrote m n rma a o (word_bytes w)
 unfolding put_word word_bytes
 wrote_word m n rma a o w s b e = wrote m n rma a o (word_bytes w) s b e
+
+-- ---- the map that is kept beside the area
+
+pub maps_on : {A : Type 0} (items : A → List ℕ) (h d : Heap) → SameShape d h → (o : Option A) → IfSome o (λ x. IsIndex (items x) h) → IfSome o (λ x. IsIndex (items x) d)
+maps_on items h d s None i = tt
+maps_on items h d s (Some x) i = index_shape (items x) d h s i
+
+-- what was written in a block left the heap its shape
+pub same_shape : (m n : Memory) (rma : Module) (a o : ℕ) (xs : List ℕ) (before behind : Span) → Wrote m n rma a o xs → IsModule m rma → before ≡ span_of rma → behind ≡ span_of rma
+    → SameShape (spans.heap_in n behind) (spans.heap_in m before)
+same_shape m n rma a o xs before behind w s e f = rw (old_heap f w.still, w.heap, old_heap e s) (poked-shape a o xs (heap_in m rma))
+
+pub span_after : (m n : Memory) (rma : Module) (a o : ℕ) (xs : List ℕ) (span : Span) → Wrote m n rma a o xs → span ≡ span_of rma → spans.IsSpan n span
+span_after m n rma a o xs span w e = is_span n rma span (heap_in n rma) e w.still.opened w.still.spells.spells

@@ -6,6 +6,7 @@ ghost use Rattle.rh_module.specs.Area.{IsModule, heap_in};
 ghost use Rattle.rh_module.specs.Writes.{Wrote};
 
 use crate::module::Module;
+use rh_heap::{keep_map, take_map};
 use rh_store::{Words, WordsMut};
 
 impl Module {
@@ -33,7 +34,9 @@ impl Module {
         requires block { HasBlock address (offset + 4) (heap_in (S.memory store.old) self) }
         ensures { Wrote (S.memory store.old) (S.memory store.new) self address offset (word_bytes w) }
     {
+        let map = take_map(store, self.span());
         store.set_word(self.area, address + offset, w);
+        keep_map(store, self.span(), map);
     }
 
     /// Writes bytes into the block at an address, from an offset on.
@@ -42,6 +45,8 @@ impl Module {
         requires block { HasBlock address (offset + length from.now) (heap_in (S.memory store.old) self) }
         ensures { Wrote (S.memory store.old) (S.memory store.new) self address offset from.now }
     {
+        let map = take_map(store, self.span());
         store.copy_in(self.area, address + offset, from);
+        keep_map(store, self.span(), map);
     }
 }

@@ -7,16 +7,17 @@ ghost use Rattle.rh_defs.specs.declared.sizes.TheConstants.{MAX_PAGES, MIN_PAGES
 
 use rh_defs::{Command, Files, Question, Reply};
 use rh_lines::{Sink, WriteFailed};
+use rh_mapped::Mapped;
 use rh_pages::PagedStore;
 use rh_script::print_answer;
 use rh_session::Desktop;
 use rh_tasks::World;
 use std::alloc::{AllocError, Global};
 
-/// A world over scattered pages.
+/// A world over scattered pages, with a map beside each heap.
 #[derive(Drop)]
 pub struct PagedWorld {
-    world: World<PagedStore>,
+    world: World<Mapped<PagedStore>>,
 }
 
 impl PagedWorld {
@@ -27,6 +28,7 @@ impl PagedWorld {
         ensures { IfOk result (λ found. found.world.desk ≡ start pages files) }
     {
         let store = PagedStore::new(alloc, pages as usize)?;
+        let store = Mapped::new(alloc, store)?;
         let world = World::new(alloc, store, files)?;
         Ok(PagedWorld { world })
     }

@@ -3,19 +3,22 @@ use Rattle.std.proofs.Common.{◌≡◌, ℕ, ◌+◌, ◌-◌, ◌%◌, ◌<◌
 use Rattle.std.proofs.lemmas.Bool.Decides.{nat_tests}
 use Rattle.std.specs.Prelude.{◌&&◌, ◌||◌, Option, Some, None, IfSome, is_some, nat_le}
 use Rattle.rh_defs.specs.Bytes.{part, put, SameOutside}
-use Rattle.rh_defs.specs.Pieces.{Split, total, first_at, with_here, written, is_inside, NonePass}
+use Rattle.rh_defs.specs.Pieces.{Split, zeros, total, first_at, with_here, written, is_inside, NonePass}
 use Rattle.rh_defs.specs.Heap.{Segment, Used, Hole, Heap, IsTidy, size_of, bytes_of, base, is_around, block_around}
 use Rattle.rh_defs.specs.HeapImage.{Stand, Spells}
 use Rattle.rh_defs.specs.HeapParts.{HasRoom, last_link}
 use Rattle.rh_defs.specs.Places.{with_heap_bytes, roomy_in, buffer_at, written_in, written_around, written_heap}
 use Rattle.rh_defs.specs.Slot.{Slot, Flex, weight, flex_start, flex_address, flex_around, heap_block_at, holds, with_bytes, HaveAnchors}
 use Rattle.rh_defs.specs.SlotImage.{SpellsSlot, flex_place}
+use Rattle.rh_defs.specs.Blocks.{blank, SameShape}
 use Rattle.rh_defs.proofs.BlockLaws.{part-written}
 use Rattle.rh_defs.proofs.BytesLaws.{word_same, put-parts, put_outside, length-put, length-part}
 use Rattle.rh_defs.proofs.HeapLaws.{Open-kept, Stand-split, Stand-join}
 use Rattle.rh_defs.proofs.HeapLists.{leb_no, total-append, HasRoom-append, HasRoom-from_tidy, IsCut, first_at-cuts, first_at-none, first_at-found}
 use Rattle.rh_defs.proofs.HeapStretch.{Stand-kept, link_place}
+use Rattle.rh_defs.proofs.ShapeLaws.{blank-append}
 use Rattle.rh_defs.proofs.SlotImageLaws.{SpellsSlot-with_heap}
+use Rattle.rh_defs.proofs.SlotKeeps.{length-written}
 use Rattle.rh_defs.proofs.SlotLaws.{in_below, in_above, wider, HaveAnchors-cut}
 use Rattle.rh_slot.proofs.EditLaws.{put_words}
 use Rattle.rh_slot.proofs.FlexLaws.{paged}
@@ -253,3 +256,14 @@ reached_spells b s x room xs k (in_flex cut offset is e h q) =
 pub reached_budging : (s : Slot) (x room : ℕ) (xs : List ℕ) → Reached s x room xs → (written_in x xs (buffer_at x room s) s).budging ≡ s.budging
 reached_budging s x room xs (in_heap cut y offset c e h q) = ap (λ (t : Slot). t.budging) q
 reached_budging s x room xs (in_flex cut offset is e h q) = ap (λ (t : Slot). t.budging) q
+
+-- what is written leaves the C heap its shape
+pub reached_shape : (s : Slot) (x room : ℕ) (xs : List ℕ) → Reached s x room xs → SameShape (written_in x xs (buffer_at x room s) s).heap s.heap
+reached_shape s x room xs (in_heap cut y offset c e h q) =
+    let new = written (bytes_of cut.here) offset xs in
+    subst (λ (t : Slot). SameShape t.heap s.heap) (sym q) (record {
+      blank = blank-append cut.before (Used new ∷ cut.after) ∙ ap (λ n. blank cut.before ++ Used (zeros n) ∷ blank cut.after) (length-written (bytes_of cut.here) offset xs h)
+          ∙ sym (ap blank c.is ∙ blank-append cut.before (Used (bytes_of cut.here) ∷ cut.after));
+      end = refl;
+    })
+reached_shape s x room xs (in_flex cut offset is e h q) = subst (λ (t : Slot). SameShape t.heap s.heap) (sym q) (record { blank = refl; end = refl })

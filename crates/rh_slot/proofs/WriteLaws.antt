@@ -1,8 +1,10 @@
 -- Bytes of the store are copied into a slot's block.
 use Rattle.std.proofs.Common.{◌≡◌, ℕ, ◌+◌, ◌≤◌, List, length, refl, sym, ap, subst, ◌∙◌, arith}
-use Rattle.std.specs.Prelude.{Ok}
+use Rattle.std.specs.Prelude.{Ok, Option, Some, None, IfSome}
+use Rattle.rh_defs.specs.Blocks.{SameShape}
 use Rattle.rh_defs.specs.Bytes.{put}
 use Rattle.rh_defs.specs.Chain.{Granted, no_answer}
+use Rattle.rh_defs.specs.Heap.{Heap}
 use Rattle.rh_defs.specs.Memory.{Memory, bytes, with_bytes}
 use Rattle.rh_defs.specs.Pieces.{Split}
 use Rattle.rh_defs.specs.Slot as plain
@@ -10,6 +12,10 @@ use Rattle.rh_defs.specs.Slot.{Flex, slot_put}
 use Rattle.rh_defs.specs.SlotImage.{SpellsSlot}
 use Rattle.rh_defs.proofs.BytesLaws.{length-put}
 use Rattle.rh_defs.proofs.MemoryLaws.{bytes-with_bytes, OnlyArea-from_Edited}
+use Rattle.rh_heap.specs.Spans.{heap_in}
+use Rattle.rh_heap.specs.declared.span.Span.{Span}
+use Rattle.rh_heap.proofs.MapShapes.{index_shape}
+use Rattle.rh_store.specs.Starts.{IsIndex}
 use Rattle.rh_slot.specs.declared.slot.Slot.{Slot}
 use Rattle.rh_slot.specs.Area.{IsSlot, slot_in}
 use Rattle.rh_slot.specs.Calls.{Leaves}
@@ -18,7 +24,7 @@ use Rattle.rh_slot.proofs.AreaLaws.{Edited-put}
 use Rattle.rh_slot.proofs.EditLaws.{put_words, put_at}
 use Rattle.rh_slot.proofs.FlexLaws.{paged}
 use Rattle.rh_slot.proofs.LeaveLaws.{leaves}
-use Rattle.rh_slot.proofs.SpanLaws.{budging_same}
+use Rattle.rh_slot.proofs.SpanLaws.{span_of, heap_at, budging_same}
 
 -- bytes are put into a slot's area, where they spell the slot that is granted
 pub copied : (m n : Memory) (slot : Slot) (granted : Granted (plain.Slot × Unit {0})) (s : plain.Slot) (at : ℕ) (xs : List ℕ) → granted ≡ Ok (s, tt) → s.budging ≡ (slot_in m slot).budging
@@ -37,3 +43,15 @@ put_copied m n slot k offset place size cut xs s f h e =
     let w = put_words b (put b (place + 8 + offset) xs) (slot_in m slot) k place size offset cut xs s.spells.words f h refl in
     copied m n slot _ _ (place + 8 + offset) xs (ap no_answer (put_at k offset xs (slot_in m slot) place size cut f h)) refl e
     (paged _ _ _ w.0 w.1 (length-put b (place + 8 + offset) xs ∙ s.spells.pages))
+
+-- ---- the map that is kept beside the slot
+
+maps_on : {A : Type 0} (items : A → List ℕ) (h d : Heap) → SameShape d h → (o : Option A) → IfSome o (λ x. IsIndex (items x) h) → IfSome o (λ x. IsIndex (items x) d)
+maps_on items h d s None i = tt
+maps_on items h d s (Some x) i = index_shape (items x) d h s i
+
+-- what was written in the slot left its C heap the shape
+pub map_after : {A : Type 0} (items : A → List ℕ) (m n : Memory) (slot : Slot) (s : plain.Slot) (before behind : Span) → slot_in n slot ≡ s → SameShape s.heap (slot_in m slot).heap → before ≡ span_of slot
+    → behind ≡ span_of slot → (o : Option A) → IfSome o (λ x. IsIndex (items x) (heap_in m before)) → IfSome o (λ x. IsIndex (items x) (heap_in n behind))
+map_after items m n slot s before behind is shape e f =
+    maps_on items (heap_in m before) (heap_in n behind) (rw (heap_at n slot behind f, is, heap_at m slot before e) shape)

@@ -14,6 +14,7 @@ use crate::flex::fits;
 use crate::slot::Slot;
 use rh_defs::sizes::{ANCHORS, FLEX_HEADER, SLOT_START};
 use rh_defs::{Anchor, Refusal};
+use rh_heap::{keep_map, take_map};
 use rh_store::{AreaId, Store, Words};
 
 /// The lowest anchor without a block, `None` where all 64 have one.
@@ -81,5 +82,7 @@ pub fn write_from<S: Store>(
         (no_answer (Ok (written_in address (part (bytes (S.memory store.old) from.0) place n)
         (buffer_at address room (slot_in (S.memory store.old) slot)) (slot_in (S.memory store.old) slot)))) (Ok tt) }
 {
+    let map = take_map(store, slot.span());
     store.copy(from, place, slot.area, address - SLOT_START, n);
+    keep_map(store, slot.span(), map);
 }

@@ -3,3 +3,4 @@ pub mod Shares
 pub mod Areas
 pub mod Plain
 pub mod Kept
+pub mod Starts

@@ -25,8 +25,10 @@ mod area;
 pub mod bytes;
 mod plain;
 mod sited;
+mod starts;
 mod store;
 
 pub use plain::PlainStore;
 pub use sited::Sited;
+pub use starts::{BITS, HOLES, LINE_BYTES, Starts, USED};
 pub use store::{AreaId, Paged, Pages, Store, StoreFault, Words, WordsMut};

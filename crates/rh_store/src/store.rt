@@ -1,10 +1,14 @@
 //! Areas of bytes that are made of pages.
-ghost use Rattle.std.specs.Prelude.{◌≡◌, ℕ, ◌+◌, ◌-◌, ◌*◌, ◌%◌, ◌<◌, ◌≤◌, ◌↔◌, ◌⊎◌, length, replicate, IsTrue, IsNone, IfOk, OnErr, OnOk, IsErr, IsErrOf};
+ghost use Rattle.std.specs.Prelude.{◌≡◌, ℕ, ◌+◌, ◌-◌, ◌*◌, ◌/◌, ◌%◌, ◌<◌, ◌≤◌, ◌↔◌, ◌⊎◌, length, replicate, IsTrue, IsNone, IfOk, IfSome, OnErr, OnOk, IsErr, IsErrOf};
 ghost use Rattle.rh_defs.specs.Bytes.{word, put, put_word, part};
 ghost use Rattle.rh_defs.specs.Memory.{Memory, IsOpen, Ledger, bytes, with_bytes, opened, closed, grown, shrunk, open_below};
+ghost use Rattle.rh_defs.specs.HeapImage.{heap_of};
 ghost use Rattle.rh_store.specs.Limits.{area_limit, pool_limit};
+ghost use Rattle.rh_store.specs.Starts.{IsIndex, IsKept};
+ghost use Rattle.rh_store.specs.declared.starts.TheConstants.{LINE_BYTES};
 ghost use Rattle.rh_defs.specs.declared.sizes.TheConstants.{MAX_AREAS, PAGE};
 
+use crate::starts::Starts;
 use rh_defs::sizes::MAX_AREAS;
 use thiserror::Error;
 
@@ -54,6 +58,14 @@ pub trait Words {
         requires { IsOpen (memory self.now) id.0 }
         ensures { result ≡ length (bytes (memory self.now) id.0) };
 
+    /// The map of where the segments of the heap at an offset of an area begin, where the store keeps one that is up to
+    /// date.
+    fn starts(&self, _id: AreaId, _at: usize) -> Option<&[u64]>
+        ensures { IfSome result (λ starts. IsIndex starts.now (heap_of (bytes (memory self.now) _id.0) _at)) }
+    {
+        None
+    }
+
     /// An area has at most 1 GiB, so sums of a few offsets and lengths can't wrap.
     ghost small: { (s : Self) (id : ℕ) → length (bytes (memory s) id) ≤ area_limit };
 }
@@ -90,6 +102,22 @@ pub trait WordsMut: Words {
         requires within { at + length from.now ≤ length (bytes (Self.memory self.old) id.0) }
         ensures { Self.memory self.new ≡ with_bytes (Self.memory self.old) id.0
             (put (bytes (Self.memory self.old) id.0) at from.now) };
+
+    /// Takes the map that the store keeps of an area, if it keeps one. It has lines for all of the area.
+    fn take_starts(&mut self, _id: AreaId) -> Option<Starts>
+        requires opened { IsOpen (Self.memory self.old) _id.0 }
+        ensures same { Self.memory self.new ≡ Self.memory self.old }
+        ensures kept { IfSome result (IsKept (bytes (Self.memory self.old) _id.0)) }
+        ensures long { IfSome result (λ starts. length (bytes (Self.memory self.old) _id.0) ≤ LINE_BYTES * (length starts.lines.items / 2)) }
+    {
+        None
+    }
+
+    /// Keeps a map of an area that was taken.
+    fn keep_starts(&mut self, _id: AreaId, _starts: Option<Starts>)
+        requires { IfSome _starts (IsKept (bytes (Self.memory self.old) _id.0)) }
+        ensures { Self.memory self.new ≡ Self.memory self.old }
+    {}
 }
 
 /// Areas of whole pages of 4,096 bytes, to be read: what a look at a slot needs of them.

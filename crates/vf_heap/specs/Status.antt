@@ -9,7 +9,7 @@ use Rattle.rh_defs.specs.declared.heap.HeapFault.{HeapFault}
 use Rattle.rh_defs.specs.declared.heap.HeapFault.TheVariants as fault
 use Rattle.rh_defs.specs.declared.heap.HeapRefusal.{HeapRefusal}
 use Rattle.rh_defs.specs.declared.heap.HeapRefusal.TheVariants.{NotABlock, BadSize, NoRoom, ExcessiveShrink}
-use Rattle.rh_heap.specs.declared.span.starts.TheConstants.{LINE_BYTES}
+use Rattle.rh_store.specs.declared.starts.TheConstants.{LINE_BYTES}
 use Rattle.rh_store.specs.Limits.{area_limit}
 
 -- the status of a refusal: its number in the one order of all refusals

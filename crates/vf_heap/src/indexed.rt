@@ -4,8 +4,8 @@ ghost use Rattle.std.specs.Prelude.{◌≡◌, ◌≢◌, ◌*◌, ◌/◌, ◌�
 ghost use Rattle.rh_defs.specs.Chain.{no_answer};
 ghost use Rattle.rh_defs.specs.Heap.{claim, released_at, resize, need_at};
 ghost use Rattle.rh_defs.specs.HeapImage.{heap_of};
-ghost use Rattle.rh_heap.specs.Starts.{IsIndex};
-ghost use Rattle.rh_heap.specs.declared.span.starts.TheConstants.{LINE_BYTES};
+ghost use Rattle.rh_store.specs.Starts.{IsIndex};
+ghost use Rattle.rh_store.specs.declared.starts.TheConstants.{LINE_BYTES};
 ghost use Rattle.rh_lent.specs.Heaps.{IsHeapBytes};
 ghost use Rattle.vf_heap.specs.Status.{answer_or, answer_status, map_status, map_words, number_or, status_of};
 ghost use Rattle.vf_heap.specs.Calls.{Leaves, IsFar, size_at};

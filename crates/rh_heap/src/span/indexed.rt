@@ -9,11 +9,12 @@ ghost use Rattle.rh_heap.specs.Spans.{IsSpan, OnlySpan, bytes_in, heap_in};
 ghost use Rattle.rh_heap.specs.Calls.{Leaves};
 ghost use Rattle.rh_heap.specs.Claims.{Took};
 ghost use Rattle.rh_heap.specs.Segments.{FoundBlock};
-ghost use Rattle.rh_heap.specs.Starts.{bit, IsIndex, Noted};
+ghost use Rattle.rh_store.specs.Starts.{bit, IsIndex};
+ghost use Rattle.rh_heap.specs.Starts.{Noted};
 ghost use Rattle.rh_heap.specs.Ways.{Changed, NotChanged, WithBlock, Moved};
 ghost use Rattle.rh_defs.specs.declared.sizes.TheConstants.{HEAP_FREE, HEAP_UNIT, WORD};
 ghost use Rattle.rh_heap.specs.declared.layout.TheConstants.{BLOCK, HOLE_SIZE};
-ghost use Rattle.rh_heap.specs.declared.span.starts.TheConstants.{HOLES, LINE_BYTES, USED};
+ghost use Rattle.rh_store.specs.declared.starts.TheConstants.{HOLES, LINE_BYTES, USED};
 
 use crate::layout::{BLOCK, HOLE_SIZE};
 use crate::span::Span;
@@ -22,11 +23,11 @@ use crate::span::holes::find;
 use crate::span::release::free_segment;
 use crate::span::resize::{Way, raise, short_by, shrink, way_to, widen};
 use crate::span::segments::Spot;
-use crate::span::starts::{HOLES, USED, clear, is_set, link_below, put, set};
+use crate::span::starts::{clear, is_set, link_below, put, set};
 use crate::span::words::{follow, move_bytes, read};
 use rh_defs::HeapRefusal;
 use rh_defs::sizes::{HEAP_BASE, HEAP_END, HEAP_FIRST, HEAP_FREE, HEAP_UNIT, moved, segment_size};
-use rh_store::{Words, WordsMut};
+use rh_store::{HOLES, USED, Words, WordsMut};
 
 /// Makes a map of where a heap's segments begin. The map has a line of two words for each 512 bytes of the heap, up to
 /// its end, and may have more.

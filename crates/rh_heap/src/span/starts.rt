@@ -1,23 +1,13 @@
 //! A map of where a heap's segments begin, beside the heap's bytes. It consists of lines of two words, each for 512 bytes
 //! of the heap: a bit for each 8 bytes, in one word for used segments and in the other for holes.
 ghost use Rattle.std.specs.Prelude.{◌≡◌, ℕ, ◌+◌, ◌*◌, ◌/◌, ◌%◌, ◌^◌, ◌<◌, ◌≤◌, ◌==◌, length, true, MatchOption, if◌then◌else◌};
-ghost use Rattle.rh_heap.specs.Starts.{bit, Became, LastBit, LinkBelow};
+ghost use Rattle.rh_store.specs.Starts.{bit};
+ghost use Rattle.rh_heap.specs.Starts.{Became, LastBit, LinkBelow};
 ghost use Rattle.rh_defs.specs.declared.sizes.TheConstants.{HEAP_UNIT};
-ghost use Rattle.rh_heap.specs.declared.span.starts.TheConstants.{HOLES};
+ghost use Rattle.rh_store.specs.declared.starts.TheConstants.{HOLES};
 
 use rh_defs::sizes::{HEAP_FREE, HEAP_UNIT};
-
-/// The bits of a word of a map.
-const BITS: usize = 64;
-
-/// The bytes of a heap for which a map has one line, of two words.
-pub const LINE_BYTES: usize = BITS * HEAP_UNIT;
-
-/// The lane of a map that has the places of used segments.
-pub const USED: usize = 0;
-
-/// The lane of a map that has the places of holes.
-pub const HOLES: usize = 1;
+use rh_store::{BITS, HOLES};
 
 /// Whether a bit of a lane is set. None is set past the map's end.
 pub fn is_set(starts: &[u64], lane: usize, k: usize) -> bool

@@ -3,7 +3,7 @@ use Rattle.rh_defs.specs.HeapImage.{heap_of}
 use Rattle.rh_defs.specs.Memory.{bytes, area_set}
 use Rattle.rh_defs.specs.Chain.{no_answer}
 use Rattle.rh_defs.specs.Heap.{released_at}
-use Rattle.rh_heap.specs.Starts.{IsIndex}
+use Rattle.rh_store.specs.Starts.{IsIndex}
 use Rattle.rh_lent.specs.Lent.{memory_of, memory_over}
 use Rattle.rh_lent.specs.Heaps.{LeavesBytes}
 use Rattle.rh_lent.proofs.HeapBytes.{is_span, leaves_bytes}

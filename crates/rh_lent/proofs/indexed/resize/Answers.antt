@@ -6,7 +6,7 @@ use Rattle.rh_defs.specs.HeapImage.{heap_of}
 use Rattle.rh_defs.specs.Memory.{bytes, area_set}
 use Rattle.rh_defs.specs.Heap.{resize}
 use Rattle.rh_heap.specs.Calls.{Leaves}
-use Rattle.rh_heap.specs.Starts.{IsIndex}
+use Rattle.rh_store.specs.Starts.{IsIndex}
 use Rattle.rh_lent.specs.Lent.{memory_of, memory_over}
 use Rattle.rh_lent.specs.Heaps.{LeavesBytes}
 use Rattle.rh_lent.proofs.HeapBytes.{whole, is_span, leaves_bytes}

@@ -1,12 +1,12 @@
-use Rattle.std.proofs.Common.{◌+◌, ◌-◌, ◌∙◌, subst, sym, arith}
+use Rattle.std.proofs.Common.{◌∙◌, subst, sym, arith}
 use Rattle.rh_heap.specs.Spans.{SpellsIn, heap_in}
-use Rattle.rh_heap.specs.Starts.{IsIndex}
+use Rattle.rh_store.specs.Starts.{IsIndex}
 use Rattle.rh_heap.specs.Ways.{resized_in}
 use Rattle.rh_heap.proofs.ChangeLaws.{changed_stays, changed_shrinks, changed_into, changed_top, changed_moves}
 use Rattle.rh_heap.proofs.KeepLaws.{place_even, shrinks_shorter, shrink_index, widen_index, raise_index}
 use Rattle.rh_heap.proofs.ResizeLaws.{into, top, widen_bounds, widen_even}
 use Rattle.rh_heap.proofs.SpanLaws.{heap_now}
-use Rattle.rh_heap.proofs.WayLaws.{cut_of, from_cut}
+use Rattle.rh_heap.proofs.WayLaws.{from_cut}
 use Rattle.rh_heap.proofs.span.indexed.change_in.Goals as goal
 
 pub note_hole-requires-clause-low : goal.note_hole-requires-clause-low

@@ -1,6 +1,6 @@
 use Rattle.std.proofs.Common.{◌≡◌, ◌+◌, ◌-◌, refl, sym, subst, arith}
 use Rattle.rh_defs.specs.Pieces.{zeros}
-use Rattle.rh_heap.specs.Starts.{IsIndex}
+use Rattle.rh_store.specs.Starts.{IsIndex}
 use Rattle.rh_heap.proofs.BlockLaws.{zeros_long}
 use Rattle.rh_heap.proofs.KeepLaws.{other_bytes}
 use Rattle.rh_heap.proofs.ResizeLaws.{length-fitted}

@@ -1,6 +1,4 @@
-use Rattle.std.proofs.Common.{◌*◌, ◌/◌, sym, arith}
-use Rattle.rh_defs.specs.HeapImage.{heap_of}
-use Rattle.rh_heap.specs.Spans.{bytes_in, heap_in}
+use Rattle.std.proofs.Common.{sym, arith}
 use Rattle.rh_heap.proofs.IndexLaws.{marked, size_room, link_of, link_room, link_fits, found_touching, found_clear}
 use Rattle.rh_heap.proofs.span.indexed.spot_at.Goals as goal
 

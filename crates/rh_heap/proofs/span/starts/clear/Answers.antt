@@ -1,7 +1,7 @@
 use Rattle.std.proofs.Common.{refl, arith}
 use Rattle.std.specs.Int.{w64}
 use Rattle.std.proofs.lemmas.Nat.Bits.{bit_at_clear_same, bit_at_clear_other}
-use Rattle.rh_heap.proofs.BitLaws.{became, became_clear}
+use Rattle.rh_heap.proofs.BitLaws.{became}
 use Rattle.rh_heap.proofs.span.starts.clear.Goals as goal
 
 pub returns-then-at-starts-clause-bits : goal.returns-then-at-starts-clause-bits

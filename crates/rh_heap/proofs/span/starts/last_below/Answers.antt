@@ -1,4 +1,4 @@
-use Rattle.std.proofs.Common.{◌-◌, refl, arith}
+use Rattle.std.proofs.Common.{refl, arith}
 use Rattle.rh_heap.proofs.BitLaws.{scan_start, scan_found, scan_next}
 use Rattle.rh_heap.proofs.span.starts.last_below.Goals as goal
 

@@ -1,0 +1,157 @@
+//! Calls on a heap for callers: where the store keeps a map of the heap's beginnings, a block is found by it, and else by
+//! a walk. A map that isn't up to date is made anew by the first call that changes the heap.
+ghost use Rattle.std.specs.Prelude.{◌≡◌, ◌+◌, ◌*◌, ◌/◌, ◌%◌, ◌≤◌, length, IfSome, ok_or};
+ghost use Rattle.rh_defs.specs.Memory.{Memory, bytes};
+ghost use Rattle.rh_defs.specs.Pieces.{moved};
+ghost use Rattle.rh_defs.specs.Chain.{no_answer};
+ghost use Rattle.rh_defs.specs.Heap.{block_size, claim, extend, need_at, released_at, resize};
+ghost use Rattle.rh_heap.specs.Spans.{IsSpan, bytes_in, heap_in};
+ghost use Rattle.rh_heap.specs.Calls.{Leaves};
+ghost use Rattle.rh_store.specs.Starts.{IsIndex};
+ghost use Rattle.rh_defs.specs.declared.sizes.TheConstants.{HEAP_UNIT};
+ghost use Rattle.rh_store.specs.declared.starts.TheConstants.{LINE_BYTES};
+
+use crate::span::indexed::{block_size_in, claim_in, index, release_in, resize_in, resize_need_in};
+use crate::span::words::read;
+use crate::span::{Span, claim, release, resize, segments, whole};
+use rh_defs::HeapRefusal;
+use rh_defs::sizes::HEAP_END;
+use rh_store::{Starts, Words, WordsMut};
+
+/// Takes the map that the store keeps of the heap, and makes it anew where it isn't up to date. No call finds it until
+/// it is kept again.
+pub fn take_map<S: WordsMut>(store: &mut S, span: Span) -> Option<Vec<u64>>
+    requires { IsSpan (S.memory store.old) span }
+    ensures same { S.memory store.new ≡ S.memory store.old }
+    ensures index { IfSome result (λ lines. IsIndex lines.items (heap_in (S.memory store.old) span)) }
+    ensures long { IfSome result (λ lines. length (bytes_in (S.memory store.old) span) ≤ LINE_BYTES * (length lines.items / 2)) }
+{
+    let Some(starts) = store.take_starts(span.area) else {
+        return None;
+    };
+    let Starts {
+        mut lines,
+        known,
+        at,
+        upper: _,
+    } = starts;
+    if known && at == span.at {
+        return Some(lines);
+    }
+    index(store, span, &mut lines);
+    Some(lines)
+}
+
+/// Lets the store keep a map of the heap that was taken from it, as the heap is now.
+pub fn keep_map<S: WordsMut>(store: &mut S, span: Span, map: Option<Vec<u64>>)
+    requires span { IsSpan (S.memory store.old) span }
+    requires index { IfSome map (λ lines. IsIndex lines.items (heap_in (S.memory store.old) span)) }
+    ensures { S.memory store.new ≡ S.memory store.old }
+{
+    let Some(lines) = map else {
+        return;
+    };
+    let upper = span.at + read(store, span, HEAP_END);
+    let starts = Starts {
+        lines,
+        known: true,
+        at: span.at,
+        upper,
+    };
+    store.keep_starts(span.area, Some(starts));
+}
+
+/// Claims a block of `n` bytes at least, all 0, and answers its address: in the first hole with room, or above all
+/// segments. Refused: `BadSize` for 0 bytes, `NoRoom` where the heap is too short. (OS_Heap 2.)
+pub fn claim<S: WordsMut>(store: &mut S, span: Span, n: u32) -> Result<usize, HeapRefusal>
+    requires { IsSpan (S.memory store.old) span }
+    ensures { Leaves (S.memory store.old) (S.memory store.new) span
+        (claim n (heap_in (S.memory store.old) span)) result }
+{
+    let Some(mut lines) = take_map(store, span) else {
+        return claim::claim(store, span, n);
+    };
+    let result = claim_in(store, span, &mut lines, n);
+    keep_map(store, span, Some(lines));
+    result
+}
+
+/// Releases the block at an address: its segment becomes a hole, which joins those beside it, and at the base a part
+/// of the top. Refused (`NotABlock`) exactly where no block begins there. (OS_Heap 3.)
+pub fn release<S: WordsMut>(store: &mut S, span: Span, address: usize) -> Result<(), HeapRefusal>
+    requires { IsSpan (S.memory store.old) span }
+    ensures { Leaves (S.memory store.old) (S.memory store.new) span
+        (no_answer (released_at address (heap_in (S.memory store.old) span))) result }
+{
+    let Some(mut lines) = take_map(store, span) else {
+        return release::release(store, span, address);
+    };
+    let result = release_in(store, span, &mut lines, address);
+    keep_map(store, span, Some(lines));
+    result
+}
+
+/// Gives the block at an address `delta` bytes more, or fewer where `delta` is negative, and answers its address. Bytes
+/// past the old ones are 0. Refused: `NotABlock`, `BadSize` where fewer than 1 byte would be left, `NoRoom` where the
+/// heap is too short. (OS_Heap 4.)
+pub fn resize<S: WordsMut>(
+    store: &mut S,
+    span: Span,
+    address: usize,
+    delta: i32,
+) -> Result<usize, HeapRefusal>
+    requires { IsSpan (S.memory store.old) span }
+    ensures { Leaves (S.memory store.old) (S.memory store.new) span
+        (resize address delta (heap_in (S.memory store.old) span)) result }
+{
+    let Some(mut lines) = take_map(store, span) else {
+        return resize::resize(store, span, address, delta);
+    };
+    let result = resize_in(store, span, &mut lines, address, delta);
+    keep_map(store, span, Some(lines));
+    result
+}
+
+/// Moves a heap's end by `delta` bytes, a multiple of 8. The bytes up to the new end are in the area. Refused
+/// (`ExcessiveShrink`) exactly where the end would be below the last block. (OS_Heap 5.)
+pub fn extend_heap<S: WordsMut>(store: &mut S, span: Span, delta: i32) -> Result<(), HeapRefusal>
+    requires span { IsSpan (S.memory store.old) span }
+    requires multiple { moved (heap_in (S.memory store.old) span).end delta % HEAP_UNIT ≡ 0 }
+    requires within { span.at + moved (heap_in (S.memory store.old) span).end delta ≤ length (bytes_in (S.memory store.old) span) }
+    ensures { Leaves (S.memory store.old) (S.memory store.new) span
+        (no_answer (extend delta (heap_in (S.memory store.old) span))) result }
+{
+    let Some(lines) = take_map(store, span) else {
+        return whole::extend_heap(store, span, delta);
+    };
+    let result = whole::extend_heap(store, span, delta);
+    keep_map(store, span, Some(lines));
+    result
+}
+
+/// The bytes of the block at an address. Refused (`NotABlock`) exactly where no block begins there. (OS_Heap 6.)
+pub fn block_size<S: Words>(store: &S, span: Span, address: usize) -> Result<usize, HeapRefusal>
+    requires { IsSpan (S.memory store.now) span }
+    ensures { result ≡ ok_or (block_size address (heap_in (S.memory store.now) span)) HeapRefusal.NotABlock }
+{
+    match store.starts(span.area, span.at) {
+        Some(lines) => block_size_in(store, span, lines, address),
+        None => segments::block_size(store, span, address),
+    }
+}
+
+/// By how many bytes the heap is too short for a resize, 0 where it has room. Refused: `NotABlock`, `BadSize`.
+pub fn resize_need<S: Words>(
+    store: &S,
+    span: Span,
+    address: usize,
+    delta: i32,
+) -> Result<usize, HeapRefusal>
+    requires { IsSpan (S.memory store.now) span }
+    ensures { result ≡ need_at address delta (heap_in (S.memory store.now) span) }
+{
+    match store.starts(span.area, span.at) {
+        Some(lines) => resize_need_in(store, span, lines, address, delta),
+        None => resize::resize_need(store, span, address, delta),
+    }
+}

@@ -1,0 +1,132 @@
+-- What keeps a map that of its area's heap.
+use Rattle.std.proofs.Common.{◌≡◌, ◌≢◌, ℕ, zero, suc, ◌+◌, ◌-◌, ◌*◌, ◌≤◌, inl, inr, true, false, List, [], ◌∷◌, ◌++◌, length, refl, sym, ap, subst, ◌∙◌, arith}
+use Rattle.std.specs.Prelude.{Option, Some, None, IfSome, Result, Ok, Err, IfOk, OnOk, OnErr, ◌⊎◌, IsNone}
+use Rattle.std.proofs.lemmas.Bool.{cases_eq}
+use Rattle.rh_defs.specs.Bytes.{SameIn, SameOutside}
+use Rattle.rh_defs.specs.Memory.{Memory, bytes, with_bytes, opened, closed, grown, shrunk, IsOpen}
+use Rattle.rh_defs.specs.HeapImage.{Spells, heap_of}
+use Rattle.rh_defs.proofs.BytesLaws.{SameIn-below, SameIn-above}
+use Rattle.rh_defs.proofs.HeapLaws.{heap_of-Spells}
+use Rattle.rh_defs.proofs.MemoryLaws.{bytes-with_bytes, bytes-with_other, bytes-none, bytes-opened, bytes-opened_other, bytes-closed_other, bytes-grown_other, bytes-shrunk_other, length-grown, length-shrunk, SameIn-grown, SameIn-shrunk}
+use Rattle.rh_defs.proofs.SlotLaws.{Spells-same}
+use Rattle.rh_store.specs.Starts.{IsIndex, IsMapOf, IsKept}
+use Rattle.rh_store.specs.declared.starts.Starts.{Starts}
+use Rattle.rh_store.specs.declared.store.AreaId.{AreaId}
+use Rattle.rh_store.specs.declared.store.StoreFault.{StoreFault}
+use Rattle.rh_mapped.specs.Maps.{map_of, AreKept, IsOff, Forgot, Spoilt}
+
+-- a map stays that of bytes in which its heap's bytes stay
+pub map_same : (b c : List ℕ) (s : Starts) → SameIn b c s.at s.upper → s.upper ≤ length c → IsMapOf b s → IsMapOf c s
+map_same b c s same within k =
+    let h = heap_of b s.at in
+    let spells : Spells c s.at h = Spells-same b c s.at h (subst (λ u. SameIn b c s.at u) k.upper same) (omega (arith, k.upper)) k.spells in
+    let is : heap_of c s.at ≡ h = heap_of-Spells c s.at h spells in
+    record {
+      spells = subst (Spells c s.at) (sym is) spells;
+      upper = k.upper ∙ ap (λ g. s.at + g.end) (sym is);
+      index = subst (IsIndex s.lines.items) (sym is) k.index;
+    }
+
+-- the heap's bytes lie in the area's
+pub map_within : (b : List ℕ) (s : Starts) → IsMapOf b s → s.upper ≤ length b
+map_within b s k = let w = k.spells.within in omega (arith, k.upper)
+
+-- one that is off the bytes that change stays
+pub kept_off : (b c : List ℕ) (low upper : ℕ) → SameOutside b c low upper → (o : Option Starts) → IfSome o (IsOff low upper) → IfSome o (IsKept b) → IfSome o (IsKept c)
+kept_off b c low upper out None off k = tt
+kept_off b c low upper out (Some s) off k = λ known.
+    let m = k known in
+    let within : s.upper ≤ length c = omega (arith, map_within b s m, out.len) in
+    elim (off known) [
+      | inl above ↦ map_same b c s (SameIn-above b c low upper s.at s.upper out above) within m
+      | inr below ↦ map_same b c s (SameIn-below b c low upper s.at s.upper out below) within m
+    ]
+
+-- one that isn't said to be up to date is kept of any bytes
+pub kept_unknown : (c : List ℕ) (o : Option Starts) → IfSome o (λ s. s.known ≡ false) → IfSome o (IsKept c)
+kept_unknown c None off = tt
+kept_unknown c (Some s) off = λ known. absurd (let bad : false ≡ true = sym off ∙ known in cc)
+
+module _ (m n : Memory) (old new : List (Option Starts)) (id : ℕ) where
+  -- what is known of one area and of the others
+  pub each : AreKept m old → ((j : ℕ) → j ≢ id → map_of new j ≡ map_of old j) → ((j : ℕ) → j ≢ id → bytes n j ≡ bytes m j) → IfSome (map_of new id) (IsKept (bytes n id)) → AreKept n new
+  each k others stay here j = elim (cases_eq j id) [
+    | inl same ↦ subst (λ i. IfSome (map_of new i) (IsKept (bytes n i))) (sym same) here
+    | inr apart ↦ rw (others j apart, stay j apart) (k j)
+  ]
+
+-- bytes of an area are written
+pub kept_written : (m : Memory) (old new : List (Option Starts)) (id low upper : ℕ) (bs : List ℕ) → AreKept m old → Forgot old new id low upper → SameOutside (bytes m id) bs low upper
+    → AreKept (with_bytes m id bs) new
+kept_written m old new id low upper bs k f out =
+    each m (with_bytes m id bs) old new id k f.others (bytes-with_other m id bs)
+    (rw (bytes-with_bytes m id bs) (kept_off (bytes m id) bs low upper out (map_of new id) f.off (f.still (bytes m id) (k id))))
+
+-- an area gets pages
+grown_here : (m : Memory) (id n : ℕ) (o : Option Starts) → IfSome o (IsKept (bytes m id)) → IfSome o (IsKept (bytes (grown m id n) id))
+grown_here m id n None k = tt
+grown_here m id n (Some s) k = λ known.
+    let at = k known in
+    let within = map_within (bytes m id) s at in
+    map_same (bytes m id) (bytes (grown m id n) id) s (SameIn-grown m id n s.at s.upper within) (omega (arith, length-grown m id n)) at
+
+pub kept_grown : (m : Memory) (maps : List (Option Starts)) (id n : ℕ) → AreKept m maps → AreKept (grown m id n) maps
+kept_grown m maps id n k = each m (grown m id n) maps maps id k (λ j apart. refl) (bytes-grown_other m id n) (grown_here m id n (map_of maps id) (k id))
+
+-- an area loses its last pages
+shrunk_here : (m : Memory) (id n : ℕ) → 4096 * n ≤ length (bytes m id) → (o : Option Starts) → IfSome o (IsOff (length (bytes m id) - 4096 * n) (length (bytes m id))) → IfSome o (IsKept (bytes m id))
+    → IfSome o (IsKept (bytes (shrunk m id n) id))
+shrunk_here m id n room None off k = tt
+shrunk_here m id n room (Some s) off k = λ known.
+    let at = k known in
+    let within = map_within (bytes m id) s at in
+    let fits = at.spells.heap.fits in
+    elim (off known) [
+      | inl above ↦ absurd (let up = at.upper in let least : 16 ≤ (heap_of (bytes m id) s.at).end = omega arith in omega arith)
+      | inr below ↦ map_same (bytes m id) (bytes (shrunk m id n) id) s (SameIn-shrunk m id n s.at s.upper (omega arith)) (omega (arith, length-shrunk m id n)) at
+    ]
+
+pub kept_shrunk : (m : Memory) (old new : List (Option Starts)) (id n : ℕ) → 4096 * n ≤ length (bytes m id) → AreKept m old → Forgot old new id (length (bytes m id) - 4096 * n) (length (bytes m id))
+    → AreKept (shrunk m id n) new
+kept_shrunk m old new id n room k f =
+    each m (shrunk m id n) old new id k f.others (bytes-shrunk_other m id n) (shrunk_here m id n room (map_of new id) f.off (f.still (bytes m id) (k id)))
+
+-- an area is opened, which had no bytes before
+pub kept_opened : (m : Memory) (maps : List (Option Starts)) (id : ℕ) → m.area id ≡ None → AreKept m maps → AreKept (opened m id) maps
+kept_opened m maps id closed k =
+    each m (opened m id) maps maps id k (λ j apart. refl) (bytes-opened_other m id) (rw (bytes-opened m id, ← bytes-none m id closed) (k id))
+
+-- an area is closed
+pub kept_closed : (m : Memory) (old new : List (Option Starts)) (id : ℕ) → AreKept m old → Spoilt old new id → AreKept (closed m id) new
+kept_closed m old new id k s =
+    each m (closed m id) old new id k s.others (bytes-closed_other m id) (kept_unknown (bytes (closed m id) id) (map_of new id) s.off)
+
+-- ---- calls that may be refused
+pub kept_grow : (m n : Memory) (maps : List (Option Starts)) (id pages : ℕ) (result : Result (Unit {0}) StoreFault) → AreKept m maps → OnOk result (n ≡ grown m id pages) → OnErr result (n ≡ m) → AreKept n maps
+kept_grow m n maps id pages (Ok x) k ok err = rw ok (kept_grown m maps id pages k)
+kept_grow m n maps id pages (Err e) k ok err = rw err k
+
+none_is : (o : Option (List ℕ)) → IsNone o → o ≡ None
+none_is None h = refl
+none_is (Some x) h = absurd cc
+
+pub kept_open : (m n : Memory) (maps : List (Option Starts)) (result : Result AreaId StoreFault) → AreKept m maps → IfOk result (λ id. IsNone (m.area id.0) × (n ≡ opened m id.0)) → OnErr result (n ≡ m) → AreKept n maps
+kept_open m n maps (Ok id) k ok err = rw ok.1 (kept_opened m maps id.0 (none_is (m.area id.0) ok.0) k)
+kept_open m n maps (Err e) k ok err = rw err k
+
+-- ---- maps of no heap yet
+abbrev pub AreUnknown : List (Option Starts) → Type 0
+AreUnknown maps = (id : ℕ) → IfSome (map_of maps id) (λ s. s.known ≡ false)
+
+pub unknown_none : AreUnknown []
+unknown_none zero = tt
+unknown_none (suc id) = tt
+
+pub unknown_pushed : (maps : List (Option Starts)) (s : Starts) → s.known ≡ false → AreUnknown maps → AreUnknown (maps ++ Some s ∷ [])
+unknown_pushed [] s u k zero = u
+unknown_pushed [] s u k (suc id) = tt
+unknown_pushed (m ∷ ms) s u k zero = k zero
+unknown_pushed (m ∷ ms) s u k (suc id) = unknown_pushed ms s u (λ j. k (suc j)) id
+
+pub all_unknown : (m : Memory) (maps : List (Option Starts)) → AreUnknown maps → AreKept m maps
+all_unknown m maps k id = kept_unknown (bytes m id) (map_of maps id) (k id)

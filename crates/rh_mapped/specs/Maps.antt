@@ -1,0 +1,28 @@
+-- The maps that are kept beside the areas of a store, and what a write makes of them.
+use Rattle.std.specs.Prelude.{◌≡◌, ◌≢◌, ℕ, ◌≤◌, ◌⊎◌, true, false, List, length, get_or, Option, None, IfSome}
+use Rattle.rh_defs.specs.Memory.{Memory, bytes}
+use Rattle.rh_store.specs.Starts.{IsKept}
+use Rattle.rh_store.specs.declared.starts.Starts.{Starts}
+
+-- the map of an area, none where there is none or it was taken
+abbrev pub map_of : List (Option Starts) → ℕ → Option Starts
+map_of maps id = get_or maps id None
+
+-- each map that is said to be up to date is that of the heap in its area's bytes
+abbrev pub AreKept : Memory → List (Option Starts) → Type 0
+AreKept m maps = (id : ℕ) → IfSome (map_of maps id) (IsKept (bytes m id))
+
+-- a map that is said to be up to date is of bytes that lie outside these
+abbrev pub IsOff : ℕ → ℕ → Starts → Type 0
+IsOff low upper s = s.known ≡ true → (upper ≤ s.at) ⊎ (s.upper ≤ low)
+
+-- The map of one area isn't said to be up to date any more where its heap meets the bytes from low up to upper. Nothing else changes.
+pub record Forgot (old new : List (Option Starts)) (id low upper : ℕ) : Type 0 where
+  pub off : IfSome (map_of new id) (IsOff low upper)
+  pub still : (b : List ℕ) → IfSome (map_of old id) (IsKept b) → IfSome (map_of new id) (IsKept b)
+  pub others : (j : ℕ) → j ≢ id → map_of new j ≡ map_of old j
+
+-- the map of one area isn't said to be up to date, and nothing else changes
+pub record Spoilt (old new : List (Option Starts)) (id : ℕ) : Type 0 where
+  pub off : IfSome (map_of new id) (λ s. s.known ≡ false)
+  pub others : (j : ℕ) → j ≢ id → map_of new j ≡ map_of old j

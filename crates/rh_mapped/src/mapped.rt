@@ -1,0 +1,209 @@
+//! The store with its maps.
+ghost use Rattle.std.specs.Prelude.{◌≡◌, false, IfOk};
+
+use crate::maps::{forget, spoil};
+use rh_defs::sizes::{MAX_AREAS, PAGE, WORD};
+use rh_store::{
+    AreaId, LINE_BYTES, Paged, Pages, Sited, Starts, Store, StoreFault, Words, WordsMut,
+};
+use std::alloc::{AllocError, Global};
+use std::marker::Model;
+
+/// A store, and for each area a map of its heap; seen as the store. A write that meets the heap makes the map stale; whoever changes a heap
+/// takes the map before, and gives it back as it is then.
+#[derive(Drop)]
+pub struct Mapped<S: Store> {
+    store: S,
+    maps: Vec<Option<Starts>>,
+}
+
+impl<S: Store> Model for Mapped<S> {
+    ghost use Rattle.rh_mapped.specs.Maps.{AreKept};
+
+    ghost Value = { S };
+
+    ghost view = { λ s. s.store };
+
+    ghost invariant = { λ s. AreKept (S.memory s.store) s.maps.items };
+}
+
+/// A map of so many words, of no heap yet.
+fn blank(alloc: Global, words: usize) -> Result<Starts, AllocError>
+    ensures { IfOk result (λ starts. starts.known ≡ false) }
+{
+    let lines = vec![in alloc; 0; words]?;
+    Ok(Starts {
+        lines,
+        known: false,
+        at: 0,
+        upper: 0,
+    })
+}
+
+impl<S: Store + Drop> Mapped<S> {
+    ghost use Rattle.std.specs.Prelude.{◌≡◌, IfOk};
+
+    /// A store with room for a map of each area. All memory is taken here: AllocError where it is refused, and then the
+    /// store is dropped.
+    pub fn new(alloc: Global, store: S) -> Result<Mapped<S>, AllocError>
+        ensures { IfOk result (λ mapped. mapped ≡ store) }
+    {
+        let words = 2 * (PAGE / LINE_BYTES) * store.free_pages();
+        let mut maps = Vec::with_capacity(alloc, MAX_AREAS)?;
+        for _area in 0..MAX_AREAS {
+            let starts = blank(alloc, words)?;
+            maps.push(Some(starts))?;
+        }
+        Ok(Mapped { store, maps })
+    }
+}
+
+impl<S: Store> Words for Mapped<S> {
+    ghost memory = { S.memory };
+
+    fn word(&self, id: AreaId, at: usize) -> u32 {
+        self.store.word(id, at)
+    }
+
+    fn copy_out(&self, id: AreaId, at: usize, to: &mut [u8]) {
+        self.store.copy_out(id, at, to);
+    }
+
+    fn run(&self, id: AreaId, at: usize) -> &[u8] {
+        self.store.run(id, at)
+    }
+
+    fn len(&self, id: AreaId) -> usize {
+        self.store.len(id)
+    }
+
+    fn starts(&self, id: AreaId, at: usize) -> Option<&[u64]> {
+        let k = id.0 as usize;
+        if k >= self.maps.len() {
+            return None;
+        }
+        match &self.maps[k] {
+            Some(starts) => {
+                if starts.known && starts.at == at {
+                    Some(starts.lines.as_slice())
+                } else {
+                    None
+                }
+            }
+            None => None,
+        }
+    }
+
+    ghost small = { S.small };
+}
+
+impl<S: Store> WordsMut for Mapped<S> {
+    fn set_word(&mut self, id: AreaId, at: usize, w: u32) {
+        forget(&mut self.maps, id.0 as usize, at, at + WORD);
+        self.store.set_word(id, at, w);
+    }
+
+    fn slide(&mut self, id: AreaId, from: usize, to: usize, n: usize) {
+        forget(&mut self.maps, id.0 as usize, to, to + n);
+        self.store.slide(id, from, to, n);
+    }
+
+    fn zero(&mut self, id: AreaId, at: usize, n: usize) {
+        forget(&mut self.maps, id.0 as usize, at, at + n);
+        self.store.zero(id, at, n);
+    }
+
+    fn copy_in(&mut self, id: AreaId, at: usize, from: &[u8]) {
+        forget(&mut self.maps, id.0 as usize, at, at + from.len());
+        self.store.copy_in(id, at, from);
+    }
+
+    fn take_starts(&mut self, id: AreaId) -> Option<Starts> {
+        let k = id.0 as usize;
+        if k >= self.maps.len() {
+            return None;
+        }
+        let Some(starts) = self.maps[k].take() else {
+            return None;
+        };
+        if starts.lines.len() / 2 < self.store.len(id).div_ceil(LINE_BYTES) {
+            return None;
+        }
+        Some(starts)
+    }
+
+    fn keep_starts(&mut self, id: AreaId, starts: Option<Starts>) {
+        let k = id.0 as usize;
+        if k < self.maps.len() {
+            self.maps[k] = starts;
+        }
+    }
+}
+
+impl<S: Store> Paged for Mapped<S> {
+    fn rest_of_page(&self, id: AreaId, at: usize) -> &[u8] {
+        self.store.rest_of_page(id, at)
+    }
+
+    ghost whole = { S.whole };
+}
+
+impl<S: Store> Pages for Mapped<S> {
+    fn grow(&mut self, id: AreaId, pages: usize) -> Result<(), StoreFault> {
+        self.store.grow(id, pages)
+    }
+
+    fn grow_check(&self, id: AreaId, pages: usize) -> bool {
+        self.store.grow_check(id, pages)
+    }
+
+    fn shrink(&mut self, id: AreaId, pages: usize) {
+        let end = self.store.len(id);
+        forget(&mut self.maps, id.0 as usize, end - PAGE * pages, end);
+        self.store.shrink(id, pages);
+    }
+
+    fn free_pages(&self) -> usize {
+        self.store.free_pages()
+    }
+
+    ghost ledger = { S.ledger };
+
+    ghost within = { S.within };
+
+    ghost few = { S.few };
+}
+
+impl<S: Store> Store for Mapped<S> {
+    fn open(&mut self) -> Result<AreaId, StoreFault> {
+        self.store.open()
+    }
+
+    fn close(&mut self, id: AreaId) {
+        spoil(&mut self.maps, id.0 as usize);
+        self.store.close(id);
+    }
+
+    fn copy(&mut self, id: AreaId, at: usize, id2: AreaId, at2: usize, n: usize) {
+        forget(&mut self.maps, id2.0 as usize, at2, at2 + n);
+        self.store.copy(id, at, id2, at2, n);
+    }
+
+    ghost numbered = { S.numbered };
+}
+
+impl<S: Sited> Sited for Mapped<S> {
+    ghost pages_of = { S.pages_of };
+
+    ghost free_of = { S.free_of };
+
+    fn page(&self, id: AreaId, i: usize) -> usize {
+        self.store.page(id, i)
+    }
+
+    fn free_page(&self, i: usize) -> usize {
+        self.store.free_page(i)
+    }
+
+    ghost shared = { S.shared };
+}

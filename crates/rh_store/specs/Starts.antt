@@ -1,0 +1,44 @@
+-- The map of where a heap's segments begin, and when the map that a store keeps is that of the heap in the bytes.
+use Rattle.std.specs.Prelude.{◌≡◌, ℕ, ◌+◌, ◌*◌, ◌/◌, ◌%◌, ◌≤◌, ◌==◌, if◌then◌else◌, true, List, [], ◌∷◌, length, slice_index}
+use Rattle.std.specs.Int.{bit_at}
+use Rattle.rh_defs.specs.Heap.{Segment, Used, Hole, Heap, first_place}
+use Rattle.rh_defs.specs.HeapImage.{Spells, heap_of}
+use Rattle.rh_defs.specs.declared.sizes.TheConstants.{HEAP_UNIT}
+use Rattle.rh_store.specs.declared.starts.Starts.{Starts}
+use Rattle.rh_store.specs.declared.starts.TheConstants.{USED, HOLES, LINE_BYTES}
+
+-- bit k of a lane: each line of a map has a word of 64 bits for each of the two lanes
+abbrev pub bit : ℕ → List ℕ → ℕ → ℕ
+bit lane starts k = bit_at (slice_index starts (2 * (k / 64) + lane)) (k % 64)
+
+-- 1 where these are one place, else 0
+abbrev pub once : ℕ → ℕ → ℕ
+once p q = if p == q then 1 else 0
+
+-- how many used segments begin at place p, of those that stand from place q on: 1 or 0
+abbrev pub used_at : ℕ → ℕ → List Segment → ℕ
+used_at p q [] = 0
+used_at p q (Used bytes ∷ segments) = once p q + used_at p (q + (4 + length bytes)) segments
+used_at p q (Hole size ∷ segments) = used_at p (q + size) segments
+
+-- how many holes begin there
+abbrev pub hole_at : ℕ → ℕ → List Segment → ℕ
+hole_at p q [] = 0
+hole_at p q (Used bytes ∷ segments) = hole_at p (q + (4 + length bytes)) segments
+hole_at p q (Hole size ∷ segments) = once p q + hole_at p (q + size) segments
+
+-- A map has lines for all of the heap. Bit k is set in one lane just where a used segment begins at place 8k, and in the other just where a hole does.
+pub record IsIndex (starts : List ℕ) (h : Heap) : Type 0 where
+  pub long : h.end ≤ LINE_BYTES * (length starts / 2)
+  pub used : (k : ℕ) → bit USED starts k ≡ used_at (HEAP_UNIT * k) first_place h.segments
+  pub holes : (k : ℕ) → bit HOLES starts k ≡ hole_at (HEAP_UNIT * k) first_place h.segments
+
+-- the bytes from the map's offset on spell a heap up to its upper end, and the map is that heap's
+pub record IsMapOf (b : List ℕ) (s : Starts) : Type 0 where
+  pub spells : Spells b s.at (heap_of b s.at)
+  pub upper : s.upper ≡ s.at + (heap_of b s.at).end
+  pub index : IsIndex s.lines.items (heap_of b s.at)
+
+-- where it is said to be up to date, it is
+abbrev pub IsKept : List ℕ → Starts → Type 0
+IsKept b s = s.known ≡ true → IsMapOf b s
