@@ -108,7 +108,7 @@ three_parts d p n a m r xs ys zs e ex ey ez =
     ∙ ap (λ l. xs ++ l) (part_more d (p + a) m r ∙ ap (λ l. l ++ part d (p + a + m) r) ey ∙ ap (λ l. ys ++ l) ez)
 
 -- a block's own bytes
-block_bytes : (b : List ℕ) (s : Slot) (k place size : ℕ) (cut : Split Flex) → SlotWords b s → FoundAt k s place size cut → part b (place + 8) size ≡ cut.here.bytes
+pub block_bytes : (b : List ℕ) (s : Slot) (k place size : ℕ) (cut : Split Flex) → SlotWords b s → FoundAt k s place size cut → part b (place + 8) size ≡ cut.here.bytes
 block_bytes b s k place size cut w t =
     let lf = (Lie-split b (flex_place s) cut.before (cut.here ∷ cut.after) (subst (Lie b (flex_place s)) t.is w.lie)).1 in
     ap (part b (place + 8)) t.long ∙ ap (λ q. part b (q + 8) (length cut.here.bytes)) t.stands ∙ lf.2

@@ -1,4 +1,5 @@
 pub mod AreaLaws
+pub mod AppendLaws
 pub mod ShiftLaws
 pub mod FlexLaws
 pub mod EditLaws

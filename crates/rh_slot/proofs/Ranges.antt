@@ -7,7 +7,7 @@ use Rattle.rh_defs.specs.Pieces.{Split, total}
 use Rattle.rh_defs.specs.Heap.{Segment, Used, Heap, size_of, bytes_of, base, is_block_at, block_at}
 use Rattle.rh_defs.specs.HeapImage.{Stand, Spells}
 use Rattle.rh_defs.specs.Slot as plain
-use Rattle.rh_defs.specs.Slot.{Flex, weight, flex_address, heap_block_at, slot_block, slot_start, IsFree}
+use Rattle.rh_defs.specs.Slot.{Flex, weight, flex_address, heap_block_at, slot_block, heap_start, slot_start, IsFree}
 use Rattle.rh_defs.specs.SlotImage.{flex_place}
 use Rattle.rh_defs.proofs.BytesLaws.{part-part, part-drop}
 use Rattle.rh_defs.proofs.BlockLaws.{block_cut}
@@ -85,6 +85,13 @@ pub cut_bytes : (b : List ℕ) (at : ℕ) (h : Heap) (x : ℕ) (cut : Split Segm
 cut_bytes b at h x cut s c =
     let t = Stand-split b (at + 4) (at + 16) cut.before (Used (bytes_of cut.here) ∷ cut.after) (subst (Stand b (at + 4) (at + 16)) c.is s.stand) in
     ap (λ p. part b p (length (bytes_of cut.here))) (let e = c.stands in omega arith) ∙ t.1.1
+
+-- a block of the C heap is above the anchor words
+pub heap-low : (m : Memory) (self : Slot) (a : ℕ) (b : Split Segment) → IsSlot m self → heap_block_at a (slot_in m self) ≡ Some b → heap_start ≤ a
+heap-low m self a b s e =
+    let c = heap_cut (slot_in m self).heap (a - 33024) b e in
+    let stands = c.stands in
+    omega arith
 
 -- the first bytes of a block of the C heap
 pub heap-part : (m : Memory) (self : Slot) (a n : ℕ) (b : Split Segment) → IsSlot m self → heap_block_at a (slot_in m self) ≡ Some b → n ≤ length (bytes_of b.here)

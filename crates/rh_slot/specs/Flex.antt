@@ -2,7 +2,7 @@
 use Rattle.std.specs.Prelude.{◌≡◌, ℕ, ◌+◌, ◌-◌, ◌≤◌, List, ◌∷◌, ◌++◌, length, take, drop, Ok}
 use Rattle.rh_defs.specs.Chain.{Granted, ◌>>=◌, refuse_if}
 use Rattle.rh_defs.specs.Pieces.{total, zeros, Split}
-use Rattle.rh_defs.specs.Slot.{Flex, Slot, weight, flex_weight, slot_length, lacks_room, length_with, with_bytes, IsFree}
+use Rattle.rh_defs.specs.Slot.{Flex, Slot, weight, flex_weight, slot_length, lacks_room, length_with, with_bytes, IsFree, slot_block, slot_extend, slot_put}
 use Rattle.rh_defs.specs.SlotImage.{flex_place}
 use Rattle.rh_defs.specs.declared.refusal.Refusal.TheVariants.{NoRoom}
 
@@ -30,3 +30,10 @@ unfoldable pub splice : ℕ → ℕ → ℕ → ℕ → Split Flex → Slot → 
 splice free offset out put b s = do
   _ ← refuse_if (lacks_room free (length_with b (length b.here.bytes - out + put) s) s) NoRoom
   Ok (with_bytes b (spliced offset out put b.here.bytes) s)
+
+-- a slot with bytes at the end of the anchor's block, where so many pages are free
+unfoldable pub slot_append : ℕ → ℕ → List ℕ → Slot → Granted Slot
+slot_append free k bytes s = do
+  b ← slot_block k s
+  longer ← slot_extend free k (length b.here.bytes + length bytes) s
+  slot_put k (length b.here.bytes) bytes longer

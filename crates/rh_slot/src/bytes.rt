@@ -6,13 +6,16 @@ ghost use Rattle.rh_defs.specs.Memory.{IsOpen, bytes};
 ghost use Rattle.rh_defs.specs.Places.{buffer_at, free_anchor as free_anchor_on, written_in};
 ghost use Rattle.rh_defs.specs.Slot.{holds, slot_put, slot_start};
 ghost use Rattle.rh_defs.specs.SlotImage.{flex_place};
-ghost use Rattle.rh_defs.specs.declared.sizes.TheConstants.{ANCHORS};
+ghost use Rattle.rh_defs.specs.declared.sizes.TheConstants.{ANCHORS, C_HEAP_PLACE};
 ghost use Rattle.rh_slot.specs.Area.{IsSlot, slot_in};
 ghost use Rattle.rh_slot.specs.Calls.{Leaves};
+ghost use Rattle.rh_slot.specs.Flex.{slot_append};
 
+use crate::area::{room_for, write};
 use crate::flex::fits;
+use crate::row::shift;
 use crate::slot::Slot;
-use rh_defs::sizes::{ANCHORS, FLEX_HEADER, SLOT_START};
+use rh_defs::sizes::{ANCHORS, FLEX_HEADER, SLOT_START, WORD, flex_weight};
 use rh_defs::{Anchor, Refusal};
 use rh_heap::{keep_map, take_map};
 use rh_store::{AreaId, Store, Words};
@@ -58,6 +61,42 @@ pub fn put_from<S: Store>(
         return Err(Refusal::BadRange);
     }
     store.copy(from, place, slot.area, spot.place + FLEX_HEADER + offset, n);
+    Ok(())
+}
+
+/// Puts `n` bytes of an area at the end of the anchor's block, none of them among the slot's anchor words and flex blocks;
+/// those above it slide. Refused: `NoBlock` where the anchor has none, `NoRoom` where too few pages are free.
+pub fn append_from<S: Store>(
+    store: &mut S,
+    slot: Slot,
+    anchor: Anchor,
+    from: AreaId,
+    place: usize,
+    n: usize,
+) -> Result<(), Refusal>
+    requires slot { IsSlot (S.memory store.old) slot }
+    requires anchor { anchor < ANCHORS }
+    requires opened { IsOpen (S.memory store.old) from.0 }
+    requires source { place + n ≤ length (bytes (S.memory store.old) from.0) }
+    requires above { from.0 ≡ slot.area.0 → 0 < n → C_HEAP_PLACE ≤ place }
+    requires below { from.0 ≡ slot.area.0 → place + n ≤ flex_place (slot_in (S.memory store.old) slot) }
+    ensures { Leaves (S.memory store.old) (S.memory store.new) slot
+        (no_answer (slot_append (S.memory store.old).free anchor (part (bytes (S.memory store.old) from.0) place n) (slot_in (S.memory store.old) slot))) result }
+{
+    let Some(spot) = slot.locate(store, anchor) else {
+        return Err(Refusal::NoBlock);
+    };
+    let end = spot.place + flex_weight(spot.size);
+    let size = spot.size + n;
+    let to = spot.place + flex_weight(size);
+    let over = slot.top_from(store, end) - end;
+    let Ok(()) = room_for(store, slot.area, to + over) else {
+        return Err(Refusal::NoRoom);
+    };
+    shift(store, slot.area, end, to, over);
+    write(store, slot.area, spot.place + WORD, size);
+    let tail = spot.place + FLEX_HEADER + spot.size;
+    store.copy(from, place, slot.area, tail, n);
     Ok(())
 }
 

@@ -22,7 +22,8 @@ use Rattle.rh_tasks.specs.declared.seat.Seat.{Seat}
 use Rattle.rh_tasks.specs.declared.made.MadeArea.{MadeArea}
 use Rattle.rh_tasks.specs.Shown.{Shown}
 use Rattle.rh_tasks.specs.View.{Kept, HasSlot, task_of, desk_of, shown_of, IsWorld}
-use Rattle.rh_tasks.specs.Polls.{IsAt, Becomes, slot_append}
+use Rattle.rh_slot.specs.Flex.{slot_append}
+use Rattle.rh_tasks.specs.Polls.{IsAt, Becomes}
 use Rattle.rh_tasks.proofs.Lists.{Sits, set_same, all-at}
 use Rattle.rh_tasks.proofs.Addresses.{grant-of}
 use Rattle.rh_tasks.proofs.Places.{mapped-at, mapped-is, task-found}

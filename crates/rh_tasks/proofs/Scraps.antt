@@ -28,7 +28,8 @@ use Rattle.rh_tasks.specs.declared.made.MadeArea.{MadeArea}
 use Rattle.rh_tasks.specs.declared.scrap.ScrapFile.{ScrapFile}
 use Rattle.rh_tasks.specs.View.{Kept, the_module, HasSlot, pages_at, fixed_pages, scrap_from, scrap_size, scrap_of, slot_area, made_area, task_of, desk_of, shown_of, IsWorld}
 use Rattle.rh_tasks.specs.Shown.{Shown}
-use Rattle.rh_tasks.specs.Polls.{IsAt, Becomes, slot_append}
+use Rattle.rh_slot.specs.Flex.{slot_append}
+use Rattle.rh_tasks.specs.Polls.{IsAt, Becomes}
 use Rattle.rh_tasks.proofs.Lists.{Sits, cons, all-at, avoids-below}
 use Rattle.rh_tasks.proofs.Frames.{Stay, pages-stay, tasks-stay, mades-stay, module-stays, post-stays, queue-stays}
 use Rattle.rh_tasks.proofs.Worlds.{free-is, same-desk}

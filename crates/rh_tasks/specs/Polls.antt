@@ -6,7 +6,7 @@ use Rattle.rh_defs.specs.declared.message.Message.{Message}
 use Rattle.rh_defs.specs.declared.refusal.Refusal.{Refusal}
 use Rattle.rh_defs.specs.declared.reply.Outcome.{Outcome}
 use Rattle.rh_defs.specs.Chain.{Granted, ◌>>=◌}
-use Rattle.rh_defs.specs.Slot.{Slot, Flex, slot_start, flex_address, heap_block_at, slot_block, slot_alloc, slot_extend, slot_put}
+use Rattle.rh_defs.specs.Slot.{Slot, Flex, slot_start, flex_address, heap_block_at, slot_block, slot_alloc}
 use Rattle.rh_defs.specs.Places.{free_anchor}
 use Rattle.rh_defs.specs.Messages.{Parcel}
 use Rattle.rh_defs.specs.Desk.{Desk, Task, next_ref, free_pages, send_letter, with_slot}
@@ -59,13 +59,6 @@ Claims h granted old new result =
     MatchResult result
     (λ a. (s : Slot) × ((granted ≡ Ok (s, a)) × (new.desk ≡ with_slot h s old.desk)))
     (λ refusal. (granted ≡ Err refusal) × (new ≡ old))
-
--- a slot with bytes at the end of the anchor's block, where so many pages are free
-unfoldable pub slot_append : ℕ → ℕ → List ℕ → Slot → Granted Slot
-slot_append free k bytes s = do
-  b ← slot_block k s
-  longer ← slot_extend free k (length b.here.bytes + length bytes) s
-  slot_put k (length b.here.bytes) bytes longer
 
 -- n bytes at a place of a slot's area are the first ones of a block of its C heap, or there are none
 pub record AreFirst (place n : ℕ) (s : Slot) : Type 0 where

@@ -13,13 +13,14 @@ ghost use Rattle.rh_defs.specs.Receiver as receiver;
 ghost use Rattle.rh_defs.specs.Slot.{slot_size, heap_block_at};
 ghost use Rattle.rh_slot.specs.Area.{IsSlot, slot_in};
 ghost use Rattle.rh_slot.specs.Calls.{Leaves};
-ghost use Rattle.rh_tasks.specs.Polls.{IsAt, IsFor, Attempts, Becomes, Handles, AreFirst, slot_append};
+ghost use Rattle.rh_slot.specs.Flex.{slot_append};
+ghost use Rattle.rh_tasks.specs.Polls.{IsAt, IsFor, Attempts, Becomes, Handles, AreFirst};
 
 use crate::letters::{ack_letter, fetch_letter};
 use crate::world::World;
 use rh_defs::sizes::{ANCHORS, SLOT_START};
 use rh_defs::{Anchor, Asked, Incoming, Message, Outcome, Refusal, Taking};
-use rh_slot::{Slot, put_from};
+use rh_slot::{Slot, append_from};
 use rh_store::{AreaId, Store, Words};
 
 /// How many bytes the anchor's block has: NoBlock where it has none, also for an anchor that no slot has.
@@ -51,10 +52,10 @@ pub fn append<S: Store>(
     ensures { Leaves (S.memory store.old) (S.memory store.new) slot
         (no_answer (slot_append (S.memory store.old).free anchor (part (bytes (S.memory store.old) from.0) place n) (slot_in (S.memory store.old) slot))) result }
 {
-    let size = document_size(store, slot, anchor)?;
-    slot.extend(store, anchor, size + n as u32)?;
-    put_from(store, slot, anchor, size as usize, from, place, n).unwrap();
-    Ok(())
+    if usize::from(anchor.0) >= ANCHORS {
+        return Err(Refusal::NoBlock);
+    }
+    append_from(store, slot, anchor, from, place, n)
 }
 
 /// The first bytes of a buffer, n of them where it has so many: where they stand in the slot's area, and how many there are.
