@@ -6,18 +6,18 @@ use Rattle.rh_console.proofs.console.Console.new.Goals as goal
 
 pub with_files_of-requires-clause-fresh : goal.with_files_of-requires-clause-fresh
 with_files_of-requires-clause-fresh c =
-    fresh_by_pages (memory_of c.in_ok-store.store) c.args.pages c.in_ok-store.ensures
+    fresh_by_pages (memory_of c.in_ok-store-2.store) c.args.pages (ap memory_of c.in_ok-store-2.ensures ∙ c.in_ok-store.ensures)
 
 pub with_files_of-requires-clause-least : goal.with_files_of-requires-clause-least
 with_files_of-requires-clause-least c =
-    let given = pages_are (memory_of c.in_ok-store.store) c.args.pages c.in_ok-store.ensures in
+    let given = pages_are (memory_of c.in_ok-store-2.store) c.args.pages (ap memory_of c.in_ok-store-2.ensures ∙ c.in_ok-store.ensures) in
     let least = c.requires.least in omega arith
 
 pub with_files_of-requires-clause-most : goal.with_files_of-requires-clause-most
 with_files_of-requires-clause-most c =
-    let given = pages_are (memory_of c.in_ok-store.store) c.args.pages c.in_ok-store.ensures in
+    let given = pages_are (memory_of c.in_ok-store-2.store) c.args.pages (ap memory_of c.in_ok-store-2.ensures ∙ c.in_ok-store.ensures) in
     let most = c.requires.most in omega arith
 
 pub returns-clause-desk : goal.returns-clause-desk
 returns-clause-desk c =
-    c.in_ok-world.ensures.desk ∙ ap (λ n. start_with n c.args.files.now c.args.handle c.args.r) (pages_are (memory_of c.in_ok-store.store) c.args.pages c.in_ok-store.ensures)
+    c.in_ok-world.ensures.desk ∙ ap (λ n. start_with n c.args.files.now c.args.handle c.args.r) (pages_are (memory_of c.in_ok-store-2.store) c.args.pages (ap memory_of c.in_ok-store-2.ensures ∙ c.in_ok-store.ensures))

@@ -4,20 +4,21 @@ use Rattle.rh_pages.specs.Paged.{memory_of}
 use Rattle.rh_run.proofs.FreshLaws.{pages_are, fresh_by_pages}
 use Rattle.rh_run.proofs.world.PagedWorld.new.Goals as goal
 
-pub new-requires-2-clause-fresh : goal.new-requires-2-clause-fresh
-new-requires-2-clause-fresh c =
-    fresh_by_pages (memory_of c.in_ok-store.store) c.args.pages c.in_ok-store.ensures
+pub new-requires-3-clause-fresh : goal.new-requires-3-clause-fresh
+new-requires-3-clause-fresh c =
+    fresh_by_pages (memory_of c.in_ok-store-2.store) c.args.pages (ap memory_of c.in_ok-store-2.ensures ∙ c.in_ok-store.ensures)
 
-pub new-requires-2-clause-least : goal.new-requires-2-clause-least
-new-requires-2-clause-least c =
-    let given = pages_are (memory_of c.in_ok-store.store) c.args.pages c.in_ok-store.ensures in
+pub new-requires-3-clause-least : goal.new-requires-3-clause-least
+new-requires-3-clause-least c =
+    let given = pages_are (memory_of c.in_ok-store-2.store) c.args.pages (ap memory_of c.in_ok-store-2.ensures ∙ c.in_ok-store.ensures) in
     let least = c.requires.least in omega arith
 
-pub new-requires-2-clause-most : goal.new-requires-2-clause-most
-new-requires-2-clause-most c =
-    let given = pages_are (memory_of c.in_ok-store.store) c.args.pages c.in_ok-store.ensures in
+pub new-requires-3-clause-most : goal.new-requires-3-clause-most
+new-requires-3-clause-most c =
+    let given = pages_are (memory_of c.in_ok-store-2.store) c.args.pages (ap memory_of c.in_ok-store-2.ensures ∙ c.in_ok-store.ensures) in
     let most = c.requires.most in omega arith
 
 pub returns : goal.returns
 returns c =
-    c.in_ok-world.ensures ∙ ap (λ n. start n c.args.files) (pages_are (memory_of c.in_ok-store.store) c.args.pages c.in_ok-store.ensures)
+    c.in_ok-world.ensures
+    ∙ ap (λ n. start n c.args.files) (pages_are (memory_of c.in_ok-store-2.store) c.args.pages (ap memory_of c.in_ok-store-2.ensures ∙ c.in_ok-store.ensures))
