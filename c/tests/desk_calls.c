@@ -442,7 +442,8 @@ static bool has_no_room(size_t room)
     memset(text, UNSET, sizeof text);
     memcpy(before, text, sizeof text);
     count = UNSET;
-    return vf_desk_reply(&desk, text, room, &count) == VF_SHORT && count == UNSET && memcmp(text, before, sizeof text) == 0;
+    return vf_desk_reply(&desk, text, room, &count) == VF_SHORT && count == UNSET &&
+           memcmp(text, before, sizeof text) == 0;
 }
 
 /* A text that finds no room, and the whole of it once more, with zeros behind it. */
