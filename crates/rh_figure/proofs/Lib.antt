@@ -1,0 +1,6 @@
+mod Settled
+mod Tiles
+mod Columns
+mod Alike
+mod Still
+mod WorkedMaps

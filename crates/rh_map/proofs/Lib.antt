@@ -1,0 +1,5 @@
+mod LineLemmas
+pub mod TextLemmas
+pub mod Left
+pub mod RowLemmas
+pub mod CardLemmas

@@ -1,0 +1,4 @@
+pub mod Written
+pub mod Cards
+pub mod Sides
+pub mod Areas
