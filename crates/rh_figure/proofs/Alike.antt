@@ -4,14 +4,16 @@ use Rattle.std.specs.Prelude.{Option, Some, None, Ok, Err, ◌&&◌, ◌||◌, n
 use Rattle.rh_defs.specs.declared.command.Command.{Command}
 use Rattle.rh_defs.specs.declared.command.Command.TheVariants as command
 use Rattle.rh_defs.specs.declared.reply.Reply.{Reply}
-use Rattle.rh_defs.specs.declared.reply.Reply.TheVariants as reply
 use Rattle.rh_defs.specs.declared.fault.LineFault.{LineFault}
 use Rattle.rh_defs.specs.Messages.{Parcel}
 use Rattle.rh_defs.specs.Desk.{Desk, Task}
-use Rattle.rh_defs.specs.Listing.{listed}
+use Rattle.rh_defs.specs.Listing.{Nothing}
+use Rattle.rh_defs.specs.Range.{can_be_asked}
+use Rattle.rh_defs.specs.Questions.{begins}
 use Rattle.rh_defs.specs.Order.{with_queue, IsReordered}
 use Rattle.rh_defs.specs.Step.{step}
-use Rattle.rh_defs.specs.Text.{answer_text, reply_text, fault_text}
+use Rattle.rh_defs.specs.Text.{answer_text, first_line, reply_text, fault_text}
+use Rattle.rh_defs.proofs.QuestionLaws.{asked-requeued}
 use Rattle.rh_defs.proofs.OrderSteps.{order-ignored}
 use Rattle.rh_figure.specs.Share.{Share}
 use Rattle.rh_figure.specs.Scene.{Before, Marks, no_marks, is_still, before_of, before_task, task_in, marks_of, scene_of}
@@ -52,20 +54,17 @@ pub marks-alike : {a b : Desk} → IsReordered a b → (f : Before) (c : Option 
     → marks_of b f c r ≡ marks_of a f c r
 marks-alike {a} {b} is f c r = ap (λ d. marks_of d f c r) is.rest ∙ marks-requeued b.post.queued a f c r
 
--- no list has the queue in it
-listed-requeued : (queue : List Parcel) (d : Desk) (c : Command) (r : Reply)
-    → listed (with_queue queue d) c r ≡ listed d c r
-listed-requeued queue d (command.Show name k) (reply.Shown size) = refl
-listed-requeued queue d (command.Blocks name) (reply.BlockCount count) = refl
-listed-requeued queue d (command.Heap name) (reply.HeapSums length largest free) = refl
-listed-requeued queue d (command.Status name) (reply.StatusOf handle) = refl
-listed-requeued queue d command.Areas (reply.FreePages pages) = refl
-listed-requeued queue d c r = refl
+-- no reply shows the queue
+text-requeued : (queue : List Parcel) (d : Desk) (c : Command) (r : Reply)
+    → reply_text (with_queue queue d) c r ≡ reply_text d c r
+unfolding reply_text
+text-requeued queue d (command.Ask q) r =
+    ap (λ told. if can_be_asked q && begins told r then answer_text told else first_line r Nothing)
+    (asked-requeued queue d q)
+text-requeued queue d c r = refl
 
 pub text-alike : {a b : Desk} → IsReordered a b → (c : Command) (r : Reply) → reply_text b c r ≡ reply_text a c r
-unfolding reply_text
-text-alike {a} {b} is c r =
-    ap (λ d. answer_text (r, listed d c r)) is.rest ∙ ap (λ l. answer_text (r, l)) (listed-requeued b.post.queued a c r)
+text-alike {a} {b} is c r = ap (λ d. reply_text d c r) is.rest ∙ text-requeued b.post.queued a c r
 
 -- ---- lines
 

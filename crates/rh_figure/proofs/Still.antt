@@ -3,12 +3,16 @@ use Rattle.std.proofs.Common.{ℕ, ℤ, ◌≡◌, refl, sym, ◌∙◌, true≢
 use Rattle.std.specs.Prelude.{Option, Some, None, Ok, Err, ◌||◌, ◌==◌, nat_lt, length, if◌then◌else◌}
 use Rattle.rh_defs.specs.declared.command.Command.{Command}
 use Rattle.rh_defs.specs.declared.command.Command.TheVariants as command
+use Rattle.rh_defs.specs.declared.reply.Reply.{Reply}
 use Rattle.rh_defs.specs.declared.reply.Reply.TheVariants as reply
 use Rattle.rh_defs.specs.Chain.{Granted, ◌>>=◌, ◌>>◌, or_else}
 use Rattle.rh_defs.specs.Messages.{Parcel}
 use Rattle.rh_defs.specs.Desk.{Desk, Task}
-use Rattle.rh_defs.specs.Commands.{Answer, start_task, kill, alloc, load, put, free, extend, mid, claim, release, resize, budge, change_module, change_pages, change_made, module_area, make, remove, rma_claim, rma_free, rma_resize, show, blocks, heap_sums, status}
+use Rattle.rh_defs.specs.Commands.{Answer, start_task, kill, alloc, load, put, free, extend, mid, claim, release, resize, budge, change_module, change_pages, change_made, module_area, make, remove, rma_claim, rma_free, rma_resize}
+use Rattle.rh_defs.specs.Questions.{Told}
 use Rattle.rh_defs.specs.Step.{save, repeat, poll, poll_taken, cancel_in, cancel_out, change, step}
+use Rattle.rh_defs.proofs.Chains.{OnGrant, grant-holds}
+use Rattle.rh_defs.proofs.QuestionLaws.{IsFirst, shown, block_count, heap_sums, status_of, free_page_count, first-is, asked-stays}
 use Rattle.rh_figure.specs.Scene.{is_question, is_refusal}
 use Rattle.rh_figure.specs.Laws.{KeepsStill}
 
@@ -40,9 +44,23 @@ change-replies true u d k delta = behind _ _ _ (λ x. refl)
 change-replies false true d k delta = behind _ _ _ (λ x. refl)
 change-replies false false d k delta = behind _ _ _ (λ x. behind _ _ _ (λ y. behind _ _ _ (λ z. refl)))
 
+-- no answer begins with a refusal
+first-replies : {r : Reply} → IsFirst r → is_refusal r ≡ false
+first-replies shown = refl
+first-replies block_count = refl
+first-replies heap_sums = refl
+first-replies status_of = refl
+first-replies free_page_count = refl
+
+asked-replies : (d : Desk) (g : Granted Told) → OnGrant (λ (told : Told). IsFirst told.0) g
+    → Grants Replies (g >>= λ told. Ok (d, told.0))
+unfolding ◌>>=◌
+asked-replies d (Err refusal) is = tt
+asked-replies d (Ok told) is = first-replies (grant-holds is refl)
+
 replies : (d : Desk) (c : Command) → Grants Replies (change d c)
 unfolding ◌>>◌ start_task kill alloc load put free extend mid claim release resize budge make remove rma_claim
-    rma_free rma_resize show blocks heap_sums status save repeat poll cancel_in cancel_out
+    rma_free rma_resize save repeat poll cancel_in cancel_out
 replies d (command.Task name buffer manner) =
     behind _ _ _ (λ x1. behind _ _ _ (λ x2. behind _ _ _ (λ x3. behind _ _ _ (λ x4. refl))))
 replies d (command.Kill name) = behind _ _ _ (λ x1. refl)
@@ -68,20 +86,10 @@ replies d (command.Remove k) = behind _ _ _ (λ x1. refl)
 replies d (command.RmaClaim n) = behind _ _ _ (λ x1. refl)
 replies d (command.RmaFree address) = behind _ _ _ (λ x1. behind _ _ _ (λ x2. refl))
 replies d (command.RmaResize address delta) = behind _ _ _ (λ x1. behind _ _ _ (λ x2. refl))
-replies d (command.Show name k) = behind _ _ _ (λ x1. behind _ _ _ (λ x2. refl))
-replies d (command.Blocks name) = behind _ _ _ (λ x1. refl)
-replies d (command.Heap name) = behind _ _ _ (λ x1. refl)
-replies d (command.Status name) = behind _ _ _ (λ x1. refl)
 replies d (command.Area k delta) = change-replies (k == module_area) (nat_lt k (length d.areas)) d k delta
-replies d command.Areas = refl
+replies d (command.Ask q) = asked-replies d _ (first-is d q)
 
 -- ---- steps
-
-granted-stays : (d : Desk) (g : Granted Answer) → Grants (λ answer. answer.0 ≡ d) g
-    → (or_else g (λ refusal. (d, reply.Refused refusal))).0 ≡ d
-unfolding or_else
-granted-stays d (Err refusal) all = refl
-granted-stays d (Ok answer) same = same
 
 refused-stays : (d : Desk) (g : Granted Answer) → Grants Replies g
     → is_refusal (or_else g (λ refusal. (d, reply.Refused refusal))).1
@@ -90,18 +98,13 @@ unfolding or_else
 refused-stays d (Err refusal) all is = refl
 refused-stays d (Ok answer) all is = absurd (true≢false (sym is ∙ all))
 
-show-stays : (d : Desk) (c : Command) → is_question c ≡ true → Grants (λ answer. answer.0 ≡ d) (change d c)
-unfolding ◌>>◌ show blocks heap_sums status
-show-stays d (command.Show name k) is = behind _ _ _ (λ t. behind _ _ _ (λ b. refl))
-show-stays d (command.Blocks name) is = behind _ _ _ (λ t. refl)
-show-stays d (command.Heap name) is = behind _ _ _ (λ t. refl)
-show-stays d (command.Status name) is = behind _ _ _ (λ t. refl)
-show-stays d command.Areas is = refl
-show-stays d c is = absurd (true≢false (sym is))
+question-stays : (d : Desk) (c : Command) → is_question c ≡ true → (step d c).0 ≡ d
+question-stays d (command.Ask q) is = asked-stays d q
+question-stays d c is = absurd (true≢false (sym is))
 
 stays : (d : Desk) (c : Command) (t : Bool) → is_question c ≡ t → (t || is_refusal (step d c).1) ≡ true
     → (step d c).0 ≡ d
-stays d c true is e = granted-stays d (change d c) (show-stays d c is)
+stays d c true is e = question-stays d c is
 stays d c false is e = refused-stays d (change d c) (replies d c) e
 
 pub keeps-still : KeepsStill

@@ -51,8 +51,7 @@ pub record Transfer : Type 0 where
   pub comes_in : Option Side
 
 -- the changes in words; the owner of each page of the pool, and how many are free; areas, slots and the module area;
--- messages
--- and transfers
+-- messages and transfers
 pub record Figure : Type 0 where
   pub changes : List Text
   pub pool : List (Option Owner)

@@ -144,9 +144,8 @@ is_mark line = bytes_eq (word (words_of line) 1) (codes "#picture")
 abbrev pub remark_lines : Text → List Text
 remark_lines line = if length (words_of line) == 0 then [] else cut LINE_COLUMNS line ∷ []
 
--- The lines of a map from a desk on, behind n steps: of all commands, or of marked ones alone. A mark was seen
--- before, if
--- `wanted` says so. After step n the pool is shared out as `shares n` says.
+-- The lines of a map from a desk on, behind n steps: of all commands, or of marked ones alone. A mark was seen before,
+-- if `wanted` says so. After step n the pool is shared out as `shares n` says.
 abbrev pub map_lines : Bool → (ℕ → Share) → Desk → ℕ → Bool → List Read → List Text
 map_lines marked shares d n wanted [] = []
 map_lines marked shares d n wanted ((line, Ok None) ∷ rest) =

@@ -109,8 +109,7 @@ page_row g k = map_row
     (map (λ c. cell_mark g.pieces (page * k + CELL_BYTES * c)) (range_with_len 0 MAP_CELLS))
 
 -- Row i from below of an area of n pages: its page i, or where there are too many the row that counts those between,
--- and
--- above it the last pages.
+-- and above it the last pages.
 abbrev pub area_row : Drawing → ℕ → ℕ → Text
 area_row g n i =
     if nat_le n MOST_ROWS || nat_lt i EDGE_ROWS then page_row g i

@@ -3,6 +3,8 @@ use Rattle.std.specs.Prelude.{ℕ, ◌==◌, nat_lt, ◌||◌, Bool, true, false
 use Rattle.std.specs.List.{flat_map}
 use Rattle.rh_defs.specs.declared.command.Command.{Command}
 use Rattle.rh_defs.specs.declared.command.Command.TheVariants as command
+use Rattle.rh_defs.specs.declared.question.Question.{Question}
+use Rattle.rh_defs.specs.declared.question.Question.TheVariants as question
 use Rattle.rh_defs.specs.declared.reply.Reply.{Reply}
 use Rattle.rh_defs.specs.declared.reply.Reply.TheVariants as reply
 use Rattle.rh_defs.specs.declared.listing.BlockItem.{BlockItem}
@@ -29,6 +31,14 @@ pub record Before : Type 0 where
   pub free : ℕ
   pub next_ref : ℕ
 
+-- the name of the task that a question is about
+abbrev pub name_asked : Question → Option (List ℕ)
+name_asked (question.Show name k) = Some name
+name_asked (question.Blocks name) = Some name
+name_asked (question.Heap name) = Some name
+name_asked (question.Status name) = Some name
+name_asked question.Areas = None
+
 -- the name of the task that a command is about
 abbrev pub name_in : Command → Option (List ℕ)
 name_in (command.Task name buffer manner) = Some name
@@ -48,10 +58,7 @@ name_in (command.Poll name) = Some name
 name_in (command.CancelIn name id) = Some name
 name_in (command.CancelOut name id) = Some name
 name_in (command.Repeat name) = Some name
-name_in (command.Show name k) = Some name
-name_in (command.Blocks name) = Some name
-name_in (command.Heap name) = Some name
-name_in (command.Status name) = Some name
+name_in (command.Ask q) = name_asked q
 name_in _ = None
 
 abbrev pub task_in : Option Command → Desk → Option Task
@@ -92,9 +99,8 @@ before_of d c = before_task d (task_in c d)
 -- ---- what the command did
 
 -- The task that it names, the anchor of the block that it wrote to, the task and address of a block of a C heap, the
--- address
--- of a block of the module area, the letter that was sent with its ref, and the ref and action of the message that
--- was taken.
+-- address of a block of the module area, the letter that was sent with its ref, and the ref and action of the message
+-- that was taken.
 pub record Marks : Type 0 where
   pub handle : ℕ
   pub put : Option ℕ
@@ -106,13 +112,9 @@ pub record Marks : Type 0 where
 abbrev pub no_marks : Marks
 no_marks = record { handle = 0; put = None; heap = (0, 0); module_block = 0; sent = None; taken = None }
 
--- the commands that ask and change nothing
+-- whether a command asks, and changes nothing
 abbrev pub is_question : Command → Bool
-is_question (command.Show name k) = true
-is_question (command.Blocks name) = true
-is_question (command.Heap name) = true
-is_question (command.Status name) = true
-is_question command.Areas = true
+is_question (command.Ask q) = true
 is_question _ = false
 
 abbrev pub is_refusal : Reply → Bool
@@ -179,8 +181,7 @@ marks_of d b (Some c) r = if is_still (Some c) r then no_marks else marks_for d 
 -- ---- the scene
 
 -- A desk without its queue, and of the queue the messages that wait for each handle, in their order. The order of
--- messages to
--- different tasks is seen by nobody.
+-- messages to different tasks is seen by nobody.
 pub record Scene : Type 0 where
   pub desk : Desk
   pub waits : ℕ → List Parcel

@@ -4,8 +4,7 @@ ghost use Rattle.rh_defs.specs.Laws.{Always};
 ghost use Rattle.rh_figure.specs.Laws.{AreMaps, HasTiledAreas, KeepsStill, ShowsNoOrder};
 
 /// After any commands the pieces of each slot and of the module area lie one after the other, from the area's first
-/// byte
-/// to the end of its last page, whatever is marked as changed.
+/// byte to the end of its last page, whatever is marked as changed.
 pub fn tiles_law()
     ensures { Always HasTiledAreas }
 {}
