@@ -2,6 +2,8 @@
 use Rattle.std.specs.Prelude.{ℕ, ◌+◌, ◌-◌, ◌==◌, nat_le, Bool, false, if◌then◌else◌, List, [], ◌∷◌, ◌++◌, length, take, drop, filter, find, codes, Option, Some, None}
 use Rattle.std.specs.List.{concat}
 use Rattle.std.specs.Fmt.{decimal}
+use Rattle.rh_defs.specs.declared.message.Action.{Action}
+use Rattle.rh_defs.specs.declared.message.EventCode.{EventCode}
 use Rattle.rh_defs.specs.declared.transfer.Outgoing.{Outgoing}
 use Rattle.rh_defs.specs.declared.transfer.Incoming.{Incoming}
 use Rattle.rh_defs.specs.Records.{out_id, in_id, is_source, is_document, is_buffer_of}
@@ -122,19 +124,25 @@ chain_text x p =
     if ref_of (held_by p.to x.desk.post.seats) == p.message.my_ref then codes "held"
     else next_text (after_ref p.message.my_ref (x.waits p.to))
 
-abbrev pub way_of : Scene → Parcel → Text
-way_of x p =
-    if is_returned p.code then codes "back to " ++ task_name x.desk p.to
-    else concat (task_name x.desk p.message.from ∷ codes " to " ∷ task_name x.desk p.to ∷ [])
+-- the tasks between which a message goes; one that comes back is for its sender
+abbrev pub between_text : EventCode → Text → Text → Text
+between_text code from to =
+    if is_returned code then codes "back to " ++ to else concat (from ∷ codes " to " ∷ to ∷ [])
+
+-- a message by its ref, action, event code, tasks and place in its chain
+abbrev pub message_card : ℕ → Action → EventCode → Text → Text → Text → Bool → Card
+message_card ref action code from to place fresh = record {
+  kind = PostCard;
+  first = concat (decimal ref ∷ codes " " ∷ action_name action ∷ []);
+  second = between_text code from to;
+  third = concat (decimal (code_number code) ∷ codes ", " ∷ place ∷ []);
+  fresh = fresh;
+}
 
 abbrev pub post_card : Scene → Parcel → Card
-post_card x p = record {
-  kind = PostCard;
-  first = concat (decimal p.message.my_ref ∷ codes " " ∷ action_name (action_of p.message.body) ∷ []);
-  second = way_of x p;
-  third = concat (decimal (code_number p.code) ∷ codes ", " ∷ chain_text x p ∷ []);
-  fresh = is_new_message x (Some p);
-}
+post_card x p = message_card
+    p.message.my_ref (action_of p.message.body) p.code
+    (task_name x.desk p.message.from) (task_name x.desk p.to) (chain_text x p) (is_new_message x (Some p))
 
 abbrev pub post_or_used_card : Scene → ℕ → List ℕ → Option Parcel → Card
 post_or_used_card x at bytes (Some p) = post_card x p

@@ -57,21 +57,27 @@ abbrev pub blocks_now : Option Task → List BlockItem
 blocks_now None = []
 blocks_now (Some t) = block_items t.slot
 
-abbrev pub gone_text : BlockItem → Text
-gone_text b = concat (codes "Flex block " ∷ decimal b.anchor ∷ codes " is gone" ∷ [])
+abbrev pub gone_line : ℕ → Text
+gone_line k = concat (codes "Flex block " ∷ decimal k ∷ codes " is gone" ∷ [])
+
+abbrev pub new_line : ℕ → Text
+new_line k = concat (codes "Flex block " ∷ decimal k ∷ codes " is new" ∷ [])
+
+-- a block that had so many bytes, and has another number now
+abbrev pub resized_line : ℕ → ℕ → ℕ → Text
+resized_line k had has =
+    concat (codes "Flex block " ∷ decimal k ∷ codes " had " ∷ size_text had ∷ codes ", now " ∷ decimal has ∷ [])
 
 abbrev pub block_change : BlockItem → Option BlockItem → List Text
-block_change b None = concat (codes "Flex block " ∷ decimal b.anchor ∷ codes " is new" ∷ []) ∷ []
-block_change b (Some old) =
-    if old.size == b.size then []
-    else concat (codes "Flex block " ∷ decimal b.anchor ∷ codes " had " ∷ size_text old.size ∷ codes ", now "
-    ∷ decimal b.size ∷ []) ∷ []
+block_change b None = new_line b.anchor ∷ []
+block_change b (Some old) = if old.size == b.size then [] else resized_line b.anchor old.size b.size ∷ []
 
 -- the blocks of the named task, while it lives, against those before
 abbrev pub block_changes : Scene → Option Task → List Text
 block_changes x None = []
 block_changes x (Some t) =
-    map gone_text (filter (λ (b : BlockItem). not (has_anchor b.anchor (block_items t.slot))) x.before.blocks)
+    map (λ (b : BlockItem). gone_line b.anchor)
+    (filter (λ (b : BlockItem). not (has_anchor b.anchor (block_items t.slot))) x.before.blocks)
     ++ flat_map (λ (b : BlockItem). block_change b (item_of b.anchor x.before.blocks)) (block_items t.slot)
 
 -- a block that lies elsewhere now: where it lay, and where it lies
@@ -92,43 +98,53 @@ slides x =
 abbrev pub who_slides : ℕ → Text
 who_slides n = if n == 1 then codes "1 block slides" else decimal n ++ codes " blocks slide"
 
-abbrev pub way_text : Slide → Text
-way_text s =
-    if nat_lt s.from s.to then codes " up by " ++ size_text (s.to - s.from) else codes " down by "
-    ++ size_text (s.from - s.to)
+-- from one address to another
+abbrev pub way_text : ℕ → ℕ → Text
+way_text from to =
+    if nat_lt from to then codes " up by " ++ size_text (to - from) else codes " down by " ++ size_text (from - to)
+
+-- so many blocks, of which the lowest slid from one address to another
+abbrev pub slide_line : ℕ → ℕ → ℕ → Text
+slide_line n from to = who_slides n ++ way_text from to
 
 -- all blocks that slide in one command slide equally far
 abbrev pub slide_change : List Slide → List Text
 slide_change [] = []
-slide_change (s ∷ ss) = (who_slides (length (s ∷ ss)) ++ way_text s) ∷ []
+slide_change (s ∷ ss) = slide_line (length (s ∷ ss)) s.from s.to ∷ []
 
 -- ---- messages
 
+abbrev pub returns_line : Action → ℕ → Text → Text
+returns_line action ref who =
+    concat (action_name action ∷ codes " " ∷ decimal ref ∷ codes " goes back to " ∷ who ∷ [])
+
 abbrev pub returns_text : Scene → Parcel → Text
-returns_text x p =
-    concat (action_name (action_of p.message.body) ∷ codes " " ∷ decimal p.message.my_ref ∷ codes " goes back to "
-    ∷ task_name x.desk p.to ∷ [])
+returns_text x p = returns_line (action_of p.message.body) p.message.my_ref (task_name x.desk p.to)
+
+abbrev pub takes_line : Text → Action → ℕ → Text
+takes_line who action ref = concat (who ∷ codes " takes " ∷ action_name action ∷ codes " " ∷ decimal ref ∷ [])
 
 abbrev pub taken_text : Scene → Option (ℕ × Action) → List Text
 taken_text x None = []
-taken_text x (Some taken) =
-    concat (task_name x.desk x.marks.handle ∷ codes " takes " ∷ action_name taken.1 ∷ codes " " ∷ decimal taken.0
-    ∷ []) ∷ []
+taken_text x (Some taken) = takes_line (task_name x.desk x.marks.handle) taken.1 taken.0 ∷ []
+
+abbrev pub bytes_line : ℕ → Text → ℕ → Text
+bytes_line n who buffer =
+    concat (size_text n ∷ codes " into the buffer of " ∷ who ∷ codes " at " ∷ address buffer ∷ [])
 
 abbrev pub bytes_sent_text : Scene → Letter → Body → List Text
-bytes_sent_text x l (RamTransmit buffer n) =
-    concat (size_text n ∷ codes " into the buffer of " ∷ task_name x.desk l.to ∷ codes " at " ∷ address buffer
-    ∷ []) ∷ []
+bytes_sent_text x l (RamTransmit buffer n) = bytes_line n (task_name x.desk l.to) buffer ∷ []
 bytes_sent_text x l _ = []
+
+abbrev pub sends_line : Text → Action → ℕ → Text → Text
+sends_line who action ref to =
+    concat (who ∷ codes " sends " ∷ action_name action ∷ codes " " ∷ decimal ref ∷ codes " to " ∷ to ∷ [])
 
 abbrev pub sent_text : Scene → Option (Letter × ℕ) → List Text
 sent_text x None = []
 sent_text x (Some sent) =
     bytes_sent_text x sent.0 sent.0.body
-    ++ concat (
-    task_name x.desk sent.0.from ∷ codes " sends " ∷ action_name (action_of sent.0.body) ∷ codes " " ∷ decimal sent.1
-    ∷ codes " to " ∷ task_name x.desk sent.0.to ∷ []
-    ) ∷ []
+    ++ sends_line (task_name x.desk sent.0.from) (action_of sent.0.body) sent.1 (task_name x.desk sent.0.to) ∷ []
 
 -- the message that the task held, if it goes back; the one that it took, and the one that it sent
 abbrev pub post_changes : Scene → List Text

@@ -95,20 +95,23 @@ figure_lines f =
 
 -- ---- a step
 
+abbrev pub more_lines : ℕ → Text
+more_lines n = concat (codes "  and " ∷ decimal n ∷ codes " lines more" ∷ [])
+
 -- the first lines of a reply, and how many more there are
 abbrev pub reply_lines : List Text → List Text
 reply_lines ls =
     map (cut REPLY_COLUMNS) (take MOST_REPLY_LINES ls)
-    ++ (
-    if nat_lt MOST_REPLY_LINES (length ls)
-    then concat (codes "  and " ∷ decimal (length ls - MOST_REPLY_LINES) ∷ codes " lines more" ∷ []) ∷ []
-    else []
-    )
+    ++ (if nat_lt MOST_REPLY_LINES (length ls) then more_lines (length ls - MOST_REPLY_LINES) ∷ [] else [])
 
--- the step's number and its line, the reply, and the figure, or that there is none
+-- a step's number and its line
+abbrev pub step_line : ℕ → Text → Text
+step_line n line = concat (decimal n ∷ codes "  " ∷ cut LINE_COLUMNS line ∷ [])
+
+-- the step, its reply, and the figure, or that there is none
 abbrev pub step_lines : Bool → ℕ → Text → Text → Scene → List Text
 step_lines still n line reply x =
-    concat (decimal n ∷ codes "  " ∷ cut LINE_COLUMNS line ∷ [])
+    step_line n line
     ∷ (reply_lines (ended reply) ++ (if still then codes "  (memory stays)" ∷ [] ∷ [] else figure_lines (figure x)))
 
 -- a line's command with its reply and the desk after it

@@ -3,6 +3,7 @@ use Rattle.std.specs.Prelude.{ℕ, ◌-◌, ◌==◌, nat_le, nat_lt, Bool, true
 use Rattle.std.specs.List.{concat, join_by}
 use Rattle.std.specs.Fmt.{decimal}
 use Rattle.hex.specs.Hex.{encode_lower}
+use Rattle.rh_defs.specs.declared.message.Action.{Action}
 use Rattle.rh_defs.specs.declared.message.EventCode.{EventCode}
 use Rattle.rh_defs.specs.declared.message.EventCode.TheVariants.{Acknowledge}
 use Rattle.rh_defs.specs.Messages.{Parcel, action_of}
@@ -75,8 +76,10 @@ abbrev pub is_returned : EventCode → Bool
 is_returned Acknowledge = true
 is_returned _ = false
 
--- a message: its ref and action, and whether it comes back
+-- a message by its ref, action and event code: whether it comes back is told
+abbrev pub entry_text : ℕ → Action → EventCode → Text
+entry_text ref action code =
+    concat (decimal ref ∷ codes " " ∷ action_name action ∷ where_so (is_returned code) (codes " back") ∷ [])
+
 abbrev pub message_text : Parcel → Text
-message_text p =
-    concat (decimal p.message.my_ref ∷ codes " " ∷ action_name (action_of p.message.body)
-    ∷ where_so (is_returned p.code) (codes " back") ∷ [])
+message_text p = entry_text p.message.my_ref (action_of p.message.body) p.code
