@@ -3,3 +3,7 @@ pub mod TextLemmas
 pub mod Left
 pub mod RowLemmas
 pub mod CardLemmas
+mod FillLemmas
+mod WordLemmas
+mod LetterLemmas
+pub mod SeamLemmas

@@ -169,7 +169,7 @@ fn add_front(row: &mut Row, size: u32, front: &[u8])
 }
 
 /// Writes the line of a card.
-fn print_card<W: Sink>(
+pub(crate) fn print_card<W: Sink>(
     first: &Row,
     second: &Row,
     third: &Row,
