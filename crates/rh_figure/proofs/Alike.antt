@@ -97,15 +97,15 @@ fault-alike {a} {b} is wanted s n line fault =
     ∙ ap (step_lines (not wanted) n line (fault_text fault)) (scene-alike is s (before_of a None) no_marks)
 
 pub no-order : ShowsNoOrder
-no-order marked shares a b n wanted [] is = refl
-no-order marked shares a b n wanted ((line, Ok None) ∷ rest) is =
+no-order marked a b n wanted [] is = refl
+no-order marked a b n wanted (((line, Ok None), s) ∷ rest) is =
     ap (λ ls. (if not marked || wanted || is_mark line then remark_lines line else []) ++ ls)
-    (no-order marked shares a b n (wanted || is_mark line) rest is)
-no-order marked shares a b n wanted ((line, Ok (Some c)) ∷ rest) is =
+    (no-order marked a b n (wanted || is_mark line) rest is)
+no-order marked a b n wanted (((line, Ok (Some c)), s) ∷ rest) is =
     ap₂ (λ here ls. (if not marked || wanted then here else []) ++ ls)
-    (command-alike is wanted (shares (n + 1)) (n + 1) line c)
-    (no-order marked shares (step a c).0 (step b c).0 (n + 1) false rest (order-ignored a b c is).desks)
-no-order marked shares a b n wanted ((line, Err fault) ∷ rest) is =
+    (command-alike is wanted s (n + 1) line c)
+    (no-order marked (step a c).0 (step b c).0 (n + 1) false rest (order-ignored a b c is).desks)
+no-order marked a b n wanted (((line, Err fault), s) ∷ rest) is =
     ap₂ (λ here ls. (if not marked || wanted then here else []) ++ ls)
-    (fault-alike is wanted (shares (n + 1)) (n + 1) line fault)
-    (no-order marked shares a b (n + 1) false rest is)
+    (fault-alike is wanted s (n + 1) line fault)
+    (no-order marked a b (n + 1) false rest is)

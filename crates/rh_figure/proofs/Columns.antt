@@ -1,12 +1,11 @@
 -- The lines of a map are short, and of bytes that a terminal shows.
 use Rattle.std.proofs.Common.{ℕ, ◌<◌, ◌≤◌, ◌≡◌, refl, subst, sym, ap, ◌∙◌, append_assoc, length-append, length-take, zero, suc, arith, Bool, true, false, List, [], ◌∷◌, ◌++◌, length, take, map}
 use Rattle.std.specs.Prelude.{nat_le, nat_lt, ◌==◌, ◌&&◌, if◌then◌else◌, codes}
-use Rattle.std.specs.List.{AllByRecursion, flat_map}
+use Rattle.std.specs.List.{AllByRecursion}
 use Rattle.rh_defs.specs.Script.{ended, unended, onto_line, unended_after}
 use Rattle.std.proofs.lemmas.Bool.Decides.{nat_tests}
 use Rattle.rh_defs.proofs.HeapLists.{cond_false, eqb_apart}
-use Rattle.rh_defs.specs.Runs.{start}
-use Rattle.rh_figure.specs.Map.{shown_byte, shown_line, map_lines, read_lines}
+use Rattle.rh_figure.specs.Map.{shown_byte, shown_line, written_lines, first_place, map_lines}
 use Rattle.rh_figure.specs.Laws.{IsShownByte, IsMapLine, HasMapLines, AreMaps}
 use Rattle.rh_figure.specs.declared.limits.TheConstants.{MAP_COLUMNS}
 
@@ -62,11 +61,11 @@ unended-line (b ∷ l) rest all =
     ap (λ lines. unended_after b (l ++ 10 ∷ rest) lines (unended (l ++ 10 ∷ rest))) (ended-line (b ∷ l) rest all)
     ∙ unended-line l rest all.1
 
-pub lines-are : (ls : List (List ℕ)) → HasMapLines (flat_map (λ line. shown_line line ++ codes "\n") ls)
+pub lines-are : (ls : List (List ℕ)) → HasMapLines (written_lines ls)
 lines-are [] = record { lines = tt; whole = refl }
 lines-are (l ∷ ls) =
     let line = shown-line l in
-    let rest = flat_map (λ line. shown_line line ++ codes "\n") ls in
+    let rest = written_lines ls in
     let others = lines-are ls in
     let seam : (shown_line l ++ codes "\n") ++ rest ≡ shown_line l ++ 10
     ∷ rest = append_assoc (shown_line l) (codes "\n") rest in
@@ -77,5 +76,4 @@ lines-are (l ∷ ls) =
     }
 
 pub are-maps : AreMaps
-are-maps marked shares script pages files =
-    lines-are (map_lines marked shares (start pages files) 0 false (read_lines script))
+are-maps marked stages pages files = lines-are (map_lines marked (first_place pages files) stages)

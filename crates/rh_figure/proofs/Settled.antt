@@ -1,5 +1,5 @@
 -- One way to share out the pool: the free pages are a stack, an area grows by its top, and gives its last page back.
-use Rattle.std.specs.Prelude.{ℕ, zero, suc, ◌-◌, not, if◌then◌else◌, List, [], ◌∷◌, ◌++◌, length, take, drop, filter, None, Ok}
+use Rattle.std.specs.Prelude.{ℕ, ◌-◌, not, if◌then◌else◌, List, [], ◌∷◌, ◌++◌, length, take, drop, filter}
 use Rattle.std.specs.List.{range_with_len}
 use Rattle.rh_defs.specs.Files.{FileList}
 use Rattle.rh_defs.specs.Desk.{Desk}
@@ -7,7 +7,7 @@ use Rattle.rh_defs.specs.Commands.{module_area}
 use Rattle.rh_defs.specs.Script.{meaning_desk}
 use Rattle.rh_defs.specs.Runs.{start}
 use Rattle.rh_figure.specs.Share.{Owner, AreaOf, is_owner, Holding, holdings, count_of, Share}
-use Rattle.rh_figure.specs.Map.{Read, read_lines}
+use Rattle.rh_figure.specs.Map.{Read, Stage, read_lines}
 
 -- an owner and its pages from below
 abbrev pub Kept : Type 0
@@ -54,24 +54,14 @@ settled s d =
 abbrev pub share_of : Shares → Share
 share_of s = record { free = s.free; pages_of = pages_in s.kept }
 
--- the shares after each step of a script
-abbrev pub steps_settled : Shares → Desk → List Read → List Share
-steps_settled s d [] = []
-steps_settled s d ((line, Ok None) ∷ rest) = steps_settled s d rest
-steps_settled s d ((line, meaning) ∷ rest) =
-    share_of (settled s (meaning_desk d meaning))
-    ∷ steps_settled (settled s (meaning_desk d meaning)) (meaning_desk d meaning) rest
+-- lines of a script, each with the share behind it
+abbrev pub stages_settled : Shares → Desk → List Read → List Stage
+stages_settled s d [] = []
+stages_settled s d ((line, meaning) ∷ rest) =
+    ((line, meaning), share_of (settled s (meaning_desk d meaning)))
+    ∷ stages_settled (settled s (meaning_desk d meaning)) (meaning_desk d meaning) rest
 
-abbrev pub nth_share : List Share → ℕ → Share
-nth_share [] n = record { free = []; pages_of = λ o. [] }
-nth_share (s ∷ ss) zero = s
-nth_share (s ∷ ss) (suc n) = nth_share ss n
-
-abbrev pub all_settled : List ℕ → ℕ → FileList → List Share
+abbrev pub all_settled : List ℕ → ℕ → FileList → List Stage
 all_settled script pages files =
-    steps_settled (settled (record { free = range_with_len 0 pages; kept = [] }) (start pages files))
+    stages_settled (settled (record { free = range_with_len 0 pages; kept = [] }) (start pages files))
     (start pages files) (read_lines script)
-
--- the share after step n, counted from 1
-abbrev pub settled_shares : List ℕ → ℕ → FileList → ℕ → Share
-settled_shares script pages files n = nth_share (all_settled script pages files) (n - 1)

@@ -4,7 +4,7 @@ use Rattle.std.specs.List.{flat_map}
 use Rattle.hex.proofs.OnLiterals.{hex_on_literals}
 use Rattle.rh_figure.specs.Map.{map_text}
 use Rattle.rh_figure.specs.Map as Map
-use Rattle.rh_figure.proofs.Settled.{settled_shares}
+use Rattle.rh_figure.proofs.Settled.{all_settled}
 
 -- lines with their line feeds
 abbrev text_of : List (List ℕ) → List ℕ
@@ -12,7 +12,7 @@ text_of lines = flat_map (λ line. line ++ codes "\n") lines
 
 -- the map of a script over so many pages
 abbrev map_of : List (List ℕ) → ℕ → List ℕ
-map_of script pages = map_text false (settled_shares (text_of script) pages []) (text_of script) pages []
+map_of script pages = map_text false (all_settled (text_of script) pages []) pages []
 
 abbrev hello_script : List (List ℕ)
 hello_script =

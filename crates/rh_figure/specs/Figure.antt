@@ -199,12 +199,14 @@ abbrev pub has_id : ℕ → Side → Bool
 has_id id s = s.1.id == id
 
 -- the transfers that go out, each with the first side that comes in, and those that only come in
-abbrev pub transfers : Scene → List Transfer
-transfers x =
-    map (λ (s : Side). record { id = s.1.id; goes_out = Some s; comes_in = find (has_id s.1.id) (in_sides x) })
-    (out_sides x)
+abbrev pub transfers_of : List Side → List Side → List Transfer
+transfers_of out in_ =
+    map (λ (s : Side). record { id = s.1.id; goes_out = Some s; comes_in = find (has_id s.1.id) in_ }) out
     ++ map (λ (s : Side). record { id = s.1.id; goes_out = None; comes_in = Some s })
-    (filter (λ (s : Side). not (list_any (has_id s.1.id) (out_sides x))) (in_sides x))
+    (filter (λ (s : Side). not (list_any (has_id s.1.id) out)) in_)
+
+abbrev pub transfers : Scene → List Transfer
+transfers x = transfers_of (out_sides x) (in_sides x)
 
 -- ---- all of it
 unfoldable pub figure : Scene → Figure

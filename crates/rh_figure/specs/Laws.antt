@@ -12,7 +12,7 @@ use Rattle.rh_defs.specs.Script.{ended, unended}
 use Rattle.rh_figure.specs.Share.{Share}
 use Rattle.rh_figure.specs.Scene.{Scene, Before, Marks, is_still, scene_of}
 use Rattle.rh_figure.specs.Layout.{Tile, slot_pieces, module_pieces}
-use Rattle.rh_figure.specs.Map.{Read, map_lines, map_text}
+use Rattle.rh_figure.specs.Map.{Stage, place, map_lines, map_text}
 use Rattle.rh_figure.specs.declared.limits.TheConstants.{MAP_COLUMNS}
 
 -- whatever is marked, the pieces of a task's slot are its bytes from the first to the last one
@@ -40,16 +40,16 @@ pub record HasMapLines (text : List ℕ) : Type 0 where
   pub lines : AllByRecursion IsMapLine (ended text)
   pub whole : unended text ≡ []
 
--- each map is such a text, of whatever script, files and shares
+-- each map is such a text, of whatever lines, shares and files
 abbrev pub AreMaps : Type 0
-AreMaps = (marked : Bool) (shares : ℕ → Share) (script : List ℕ) (pages : ℕ) (files : FileList) →
-    HasMapLines (map_text marked shares script pages files)
+AreMaps = (marked : Bool) (stages : List Stage) (pages : ℕ) (files : FileList) →
+    HasMapLines (map_text marked stages pages files)
 
 -- no map shows the order of messages to different tasks
 abbrev pub ShowsNoOrder : Type 0
 ShowsNoOrder =
-    (marked : Bool) (shares : ℕ → Share) (a b : Desk) (n : ℕ) (wanted : Bool) (lines : List Read) → IsReordered a b →
-    map_lines marked shares b n wanted lines ≡ map_lines marked shares a n wanted lines
+    (marked : Bool) (a b : Desk) (n : ℕ) (wanted : Bool) (stages : List Stage) → IsReordered a b →
+    map_lines marked (place b n wanted) stages ≡ map_lines marked (place a n wanted) stages
 
 -- a step whose picture is left out as still has left the desk as it was
 abbrev pub KeepsStill : Type 0

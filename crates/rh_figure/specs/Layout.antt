@@ -5,7 +5,7 @@ use Rattle.rh_defs.specs.declared.listing.BlockItem.{BlockItem}
 use Rattle.rh_defs.specs.declared.sizes.TheConstants.{C_HEAP_PLACE}
 use Rattle.rh_defs.specs.Pieces.{page, total}
 use Rattle.rh_defs.specs.Heap.{Segment, Used, Hole, Heap, size_of, first_place, base}
-use Rattle.rh_defs.specs.Slot.{Slot, Flex, weight, slot_start, slot_length, slot_pages}
+use Rattle.rh_defs.specs.Slot.{Slot, Flex, flex_weight, weight, slot_start, slot_length, slot_pages}
 use Rattle.rh_defs.specs.Messages.{Parcel}
 use Rattle.rh_defs.specs.Commands.{module_start}
 use Rattle.rh_figure.specs.Scene.{Scene, message_in}
@@ -67,25 +67,29 @@ abbrev pub is_put : ℕ → Option ℕ → Bool
 is_put k None = false
 is_put k (Some j) = j == k
 
--- whether a block of the named task is new, has another size, or other bytes
+-- whether a block of so many bytes was written to, or none of that anchor and size was there before
+abbrev pub is_changed_block : Option ℕ → List BlockItem → ℕ → ℕ → Bool
+is_changed_block put before k n =
+    is_put k put || not (list_any (λ (b : BlockItem). b.anchor == k && b.size == n) before)
+
+-- the same of a block of the named task
 abbrev pub is_fresh_flex : Scene → ℕ → ℕ → ℕ → Bool
-is_fresh_flex x h k n =
-    h == x.marks.handle
-    && (is_put k x.marks.put || not (list_any (λ (b : BlockItem). b.anchor == k && b.size == n) x.before.blocks))
+is_fresh_flex x h k n = h == x.marks.handle && is_changed_block x.marks.put x.before.blocks k n
 
 -- whether the command made or changed the block of the C heap
 abbrev pub is_fresh_block : Scene → ℕ → ℕ → Bool
 is_fresh_block x h address = x.marks.heap.0 == h && x.marks.heap.1 == address
 
+-- a flex block of so many bytes at an offset
+abbrev pub flex_piece : ℕ → ℕ → ℕ → Bool → Piece
+flex_piece p k n fresh = record { kind = FlexBlock k n; at = p; size = flex_weight n; fresh = fresh }
+
 -- flex blocks that lie from an offset on
 abbrev pub flex_pieces : Scene → ℕ → ℕ → List Flex → List Piece
 flex_pieces x h p [] = []
-flex_pieces x h p (b ∷ blocks) = record {
-  kind = FlexBlock b.anchor (length b.bytes);
-  at = p;
-  size = weight b;
-  fresh = is_fresh_flex x h b.anchor (length b.bytes);
-} ∷ flex_pieces x h (p + weight b) blocks
+flex_pieces x h p (b ∷ blocks) =
+    flex_piece p b.anchor (length b.bytes) (is_fresh_flex x h b.anchor (length b.bytes))
+    ∷ flex_pieces x h (p + weight b) blocks
 
 abbrev pub slot_legend : Scene → ℕ → Legend
 slot_legend x h = record { start = slot_start; kind_of = λ _ n. Claimed n; is_fresh = is_fresh_block x h }

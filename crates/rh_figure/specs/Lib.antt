@@ -7,4 +7,5 @@ pub mod Cards
 pub mod Figure
 pub mod Rows
 pub mod Map
+pub mod Whole
 pub mod Laws

@@ -147,20 +147,39 @@ is_mark line = bytes_eq (word (words_of line) 1) (codes "#picture")
 abbrev pub remark_lines : Text → List Text
 remark_lines line = if length (words_of line) == 0 then [] else cut LINE_COLUMNS line ∷ []
 
--- The lines of a map from a desk on, behind n steps: of all commands, or of marked ones alone. A mark was seen before,
--- if `wanted` says so. After step n the pool is shared out as `shares n` says.
-abbrev pub map_lines : Bool → (ℕ → Share) → Desk → ℕ → Bool → List Read → List Text
-map_lines marked shares d n wanted [] = []
-map_lines marked shares d n wanted ((line, Ok None) ∷ rest) =
-    (if not marked || wanted || is_mark line then remark_lines line else [])
-    ++ map_lines marked shares d n (wanted || is_mark line) rest
-map_lines marked shares d n wanted ((line, Ok (Some c)) ∷ rest) =
-    (if not marked || wanted then command_lines wanted (shares (n + 1)) (n + 1) line c (before_of d (Some c))
-    (step d c) else [])
-    ++ map_lines marked shares (step d c).0 (n + 1) false rest
-map_lines marked shares d n wanted ((line, Err fault) ∷ rest) =
-    (if not marked || wanted then fault_lines wanted (shares (n + 1)) (n + 1) line fault d else [])
-    ++ map_lines marked shares d (n + 1) false rest
+-- where a map stands between two lines: the desk, how many steps are behind it, and whether a mark was seen since
+pub record Place : Type 0 where
+  pub desk : Desk
+  pub steps : ℕ
+  pub wanted : Bool
+
+abbrev pub place : Desk → ℕ → Bool → Place
+place d n wanted = record { desk = d; steps = n; wanted = wanted }
+
+-- where it stands behind a line
+abbrev pub after_read : Place → Read → Place
+after_read p (line, Ok None) = place p.desk p.steps (p.wanted || is_mark line)
+after_read p (line, Ok (Some c)) = place (step p.desk c).0 (p.steps + 1) false
+after_read p (line, Err fault) = place p.desk (p.steps + 1) false
+
+-- the lines of one line of a script, where all are shown or marked ones alone, and the pool is shared out so behind it
+abbrev pub lines_of_read : Bool → Share → Place → Read → List Text
+lines_of_read marked s p (line, Ok None) = if not marked || p.wanted || is_mark line then remark_lines line else []
+lines_of_read marked s p (line, Ok (Some c)) =
+    if not marked || p.wanted
+    then command_lines p.wanted s (p.steps + 1) line c (before_of p.desk (Some c)) (step p.desk c)
+    else []
+lines_of_read marked s p (line, Err fault) =
+    if not marked || p.wanted then fault_lines p.wanted s (p.steps + 1) line fault p.desk else []
+
+-- a line of a script, and which page is whose behind it
+abbrev pub Stage : Type 0
+Stage = Read × Share
+
+-- the lines of a map from a place on
+abbrev pub map_lines : Bool → Place → List Stage → List Text
+map_lines marked p [] = []
+map_lines marked p ((r, s) ∷ rest) = lines_of_read marked s p r ++ map_lines marked (after_read p r) rest
 
 -- a byte that a terminal shows, else a question mark
 abbrev pub shown_byte : ℕ → ℕ
@@ -170,11 +189,17 @@ shown_byte b = if nat_le 32 b && nat_lt b 127 then b else 63
 abbrev pub shown_line : Text → Text
 shown_line line = cut MAP_COLUMNS (map shown_byte line)
 
--- all that `map` writes of a script over a fresh desk of so many pages with these files
-abbrev pub map_text : Bool → (ℕ → Share) → List ℕ → ℕ → FileList → List ℕ
-map_text marked shares script pages files =
-    flat_map (λ line. shown_line line ++ codes "\n") (map_lines marked shares (start pages files) 0 false
-    (read_lines script))
+-- before the first line, over a fresh desk of so many pages with these files
+abbrev pub first_place : ℕ → FileList → Place
+first_place pages files = place (start pages files) 0 false
+
+-- lines as they are written, each with its line feed
+abbrev pub written_lines : List Text → List ℕ
+written_lines lines = flat_map (λ line. shown_line line ++ codes "\n") lines
+
+-- all that `map` writes of the lines of a script
+abbrev pub map_text : Bool → List Stage → ℕ → FileList → List ℕ
+map_text marked stages pages files = written_lines (map_lines marked (first_place pages files) stages)
 
 -- opens all that a map computes with
 unfoldable pub computing : Unit {0}
