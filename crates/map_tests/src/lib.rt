@@ -7,3 +7,5 @@ mod lines;
 mod rows;
 #[cfg(test)]
 mod same;
+#[cfg(test)]
+mod steps;
