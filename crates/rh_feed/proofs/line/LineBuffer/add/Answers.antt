@@ -1,8 +1,8 @@
 use Rattle.std.proofs.Common.{◌≡◌, ℕ, ◌+◌, ◌-◌, List, ◌++◌, length, take, min, ap, sym, ◌∙◌, arith, length-take}
 use Rattle.std.proofs.Math.Seq.{take-append-add}
 use Rattle.std.proofs.lemmas.List.{take_min}
-use Rattle.rh_session.specs.Session.{kept}
-use Rattle.rh_session.proofs.line.LineBuffer.add.Goals as goal
+use Rattle.rh_feed.specs.Lines.{kept}
+use Rattle.rh_feed.proofs.line.LineBuffer.add.Goals as goal
 
 -- as much as there is room for
 fits_kept : (line bytes new : List ℕ) (room n : ℕ) → length line + room ≡ 1025 → n ≡ min room (length bytes) → new ≡ line ++ take n bytes → new ≡ kept (line ++ bytes)
