@@ -32,3 +32,15 @@ pub struct Piece {
     pub size: usize,
     pub fresh: bool,
 }
+
+impl Default for Piece {
+    /// Nothing, at an area's first byte.
+    fn default() -> Piece {
+        Piece {
+            kind: Kind::Unused,
+            at: 0,
+            size: 0,
+            fresh: false,
+        }
+    }
+}

@@ -1,0 +1,5 @@
+pub mod Seen
+pub mod Messages
+pub mod Owners
+pub mod Steps
+pub mod Walks
