@@ -13,8 +13,8 @@ use memchr::memchr;
 use rh_lines::{Sink, Source, WriteFailed};
 use std::alloc::Global;
 
-/// So many bytes are read at a time.
-const PIECE: usize = 65_536;
+/// So many bytes are read at a time. A script has less than 2^32 bytes then, and so many lines at most.
+const PIECE: usize = 4_096;
 
 /// So many reads that give bytes make a script too long.
 const MOST_READS: u32 = 1_000_000;

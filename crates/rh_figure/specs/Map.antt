@@ -136,8 +136,16 @@ abbrev pub read_rest : Text → List Read
 read_rest [] = []
 read_rest (b ∷ bs) = (b ∷ bs, if nat_lt longest_line (length (b ∷ bs)) then Err TooLong else Err Unended) ∷ []
 
+-- a complete line with its meaning
+abbrev pub read_line : Text → Read
+read_line line = (line, line_means line)
+
+-- the complete lines of a script, and all that it has
+abbrev pub read_ended : List ℕ → List Read
+read_ended script = map read_line (ended script)
+
 abbrev pub read_lines : List ℕ → List Read
-read_lines script = map (λ line. (line, line_means line)) (ended script) ++ read_rest (unended script)
+read_lines script = read_ended script ++ read_rest (unended script)
 
 -- whether a line asks for a picture of the next command
 abbrev pub is_mark : Text → Bool

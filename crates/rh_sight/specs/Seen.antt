@@ -10,7 +10,7 @@ use Rattle.rh_defs.specs.Commands.{module_area, module_start}
 use Rattle.rh_figure.specs.Share.{Owner, AreaOf, SlotOf}
 use Rattle.rh_sight.specs.declared.sight.TaskSight.{TaskSight}
 use Rattle.rh_sight.specs.declared.sight.HeapOf.{HeapOf}
-use Rattle.rh_sight.specs.declared.sight.HeapOf.TheVariants as heap
+use Rattle.rh_sight.specs.declared.sight.HeapOf.TheVariants as heap_of
 use Rattle.rh_sight.specs.declared.sight.PagesOf.{PagesOf}
 use Rattle.rh_sight.specs.declared.sight.PagesOf.TheVariants as pages
 
@@ -33,13 +33,13 @@ pub record IsTaskSeen (s : TaskSight) (t : Task) : Type 0 where
 
 -- the heap that is looked at, where there is one
 abbrev pub heap_seen : HeapOf → Desk → Option Heap
-heap_seen (heap.Task i) d = option_map (λ (t : Task). t.slot.heap) (slice_get d.tasks i)
-heap_seen heap.Module d = Some d.post.heap
+heap_seen (heap_of.Task i) d = option_map (λ (t : Task). t.slot.heap) (slice_get d.tasks i)
+heap_seen heap_of.Module d = Some d.post.heap
 
 -- where it begins
 abbrev pub heap_start_of : HeapOf → ℕ
-heap_start_of (heap.Task i) = heap_start
-heap_start_of heap.Module = module_start
+heap_start_of (heap_of.Task i) = heap_start
+heap_start_of heap_of.Module = module_start
 
 -- a segment begins at the place, and is a block with these bytes
 pub record IsBlockAt (h : Heap) (place : ℕ) (bytes : List ℕ) : Type 0 where
@@ -55,8 +55,8 @@ HasBlock (Some h) place bytes = IsBlockAt h place bytes
 
 -- no message lies in the block whose segment begins at the place
 abbrev pub IsFree : HeapOf → ℕ → Desk → Type 0
-IsFree (heap.Task i) place d = Unit {0}
-IsFree heap.Module place d = post_is_message (place + 4) d.post ≡ false
+IsFree (heap_of.Task i) place d = Unit {0}
+IsFree heap_of.Module place d = post_is_message (place + 4) d.post ≡ false
 
 -- the area with the number has so many pages, those of the module area being told by its heap
 abbrev pub IsAreaSeen : ℕ → ℕ → Desk → Type 0

@@ -10,7 +10,7 @@ use Rattle.rh_defs.specs.Commands.{module_start}
 use Rattle.rh_figure.specs.Scene.{Scene}
 use Rattle.rh_figure.specs.Layout.{Kind, Piece, Legend, slot_legend, module_legend, flex_piece, is_fresh_flex}
 use Rattle.rh_sight.specs.declared.sight.HeapOf.{HeapOf}
-use Rattle.rh_sight.specs.declared.sight.HeapOf.TheVariants as heap
+use Rattle.rh_sight.specs.declared.sight.HeapOf.TheVariants as heap_of
 use Rattle.rh_sight.specs.declared.walk.Census.{Census}
 
 -- of a heap that may be there, these segments lie from the place on
@@ -32,13 +32,13 @@ item_end (segment.Hole address size) = address + size
 
 -- the first address of the area that has the heap
 abbrev pub area_start_of : HeapOf → ℕ
-area_start_of (heap.Task i) = slot_start
-area_start_of heap.Module = module_start
+area_start_of (heap_of.Task i) = slot_start
+area_start_of heap_of.Module = module_start
 
 -- what the segments of a heap are, for the task with the handle or for the module area
 abbrev pub legend_of : Scene → HeapOf → ℕ → Legend
-legend_of x (heap.Task i) handle = slot_legend x handle
-legend_of x heap.Module handle = module_legend x
+legend_of x (heap_of.Task i) handle = slot_legend x handle
+legend_of x heap_of.Module handle = module_legend x
 
 -- what a block at an address is, and whether it has changed
 abbrev pub kind_and_freshness : Legend → ℕ → ℕ → Kind × Bool

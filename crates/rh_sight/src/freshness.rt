@@ -48,12 +48,9 @@ fn is_put(put: Option<Anchor>, anchor: Anchor) -> bool
 fn had_block(before: &[BlockItem], anchor: Anchor, size: u32) -> bool
     ensures { result ≡ list_any (λ (b : BlockItem). b.anchor == anchor && b.size == size) before.now }
 {
-    for block in before {
-        if block.anchor == anchor && block.size == size {
-            return true;
-        }
-    }
-    false
+    before
+        .iter()
+        .any(|block| block.anchor == anchor && block.size == size)
 }
 
 /// Whether the command made or changed the block of a task's C heap.

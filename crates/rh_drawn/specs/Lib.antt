@@ -1,0 +1,10 @@
+pub mod Parts
+pub mod Marked
+pub mod Slides
+pub mod Cards
+pub mod Bands
+pub mod Letters
+pub mod Sides
+pub mod Replies
+pub mod Places
+pub mod Mapped
