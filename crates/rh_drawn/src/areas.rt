@@ -3,15 +3,15 @@
 ghost use Rattle.std.specs.Prelude.{◌≡◌, ◌<◌, ◌==◌, [], if◌then◌else◌, map, slice_index};
 ghost use Rattle.rh_drawn.specs.Parts.{area_part, panel_part};
 ghost use Rattle.rh_figure.specs.Figure.{fixed_panel, made_panel, scrap_text};
-ghost use Rattle.rh_figure.specs.Scene.{Before, Marks, scene_of};
 ghost use Rattle.rh_lines.specs.Flow.{Puts};
 ghost use Rattle.rh_map.specs.Areas.{scrap_note_of};
 ghost use Rattle.rh_map.specs.Written.{shown_lines};
+ghost use Rattle.rh_sight.specs.Steps.{IsStepOf, scene_at};
 
 use rh_defs::sizes::FIXED_AREAS;
 use rh_lines::{Sink, WriteFailed};
 use rh_map::{ScrapFile, print_fixed_area, print_made_area};
-use rh_sight::{PageList, PagesOf, Sight};
+use rh_sight::{PagesOf, Sight, Step, pages_of};
 
 /// The module area, whose line stands above its own rows.
 const MODULE_AREA: u32 = 1;
@@ -23,33 +23,35 @@ const SCRAP_AREA: u32 = 5;
 /// writer failed or took none of what it was offered; a front of the lines is then written.
 pub fn print_area_part<S: Sight, W: Sink>(
     sight: &S,
-    pages: &mut PageList,
+    step: &Step<'_>,
     writer: &mut W,
 ) -> Result<(), WriteFailed>
-    ensures { (b : Before) (m : Marks) → Puts (W.output writer.old) (W.output writer.new) result
-        (shown_lines (area_part (scene_of (S.desk sight.now) (S.share sight.now) b m))) }
+    requires { IsStepOf (S.desk sight.now) step.now }
+    ensures { Puts (W.output writer.old) (W.output writer.new) result
+        (shown_lines (area_part (scene_at (S.desk sight.now) step.now))) }
 {
     for number in 0..FIXED_AREAS as u32 {
-        print_fixed(sight, number, pages, writer)?;
+        print_fixed(sight, step, number, writer)?;
     }
-    print_made(sight, pages, writer)
+    print_made(sight, step, writer)
 }
 
 /// Writes the line of one of areas 0 to 5, where it has pages and isn't the module area.
 fn print_fixed<S: Sight, W: Sink>(
     sight: &S,
+    step: &Step<'_>,
     number: u32,
-    pages: &mut PageList,
     writer: &mut W,
 ) -> Result<(), WriteFailed>
-    requires { number < 6 }
-    ensures { (b : Before) (m : Marks) → Puts (W.output writer.old) (W.output writer.new) result
-        (shown_lines (panel_part (fixed_panel (scene_of (S.desk sight.now) (S.share sight.now) b m) (number, slice_index (S.desk sight.now).areas number)))) }
+    requires step { IsStepOf (S.desk sight.now) step.now }
+    requires number { number < 6 }
+    ensures { Puts (W.output writer.old) (W.output writer.new) result
+        (shown_lines (panel_part (fixed_panel (scene_at (S.desk sight.now) step.now) (number, slice_index (S.desk sight.now).areas number)))) }
 {
     if number == MODULE_AREA || sight.fixed_pages(number) == 0 {
         return Ok(());
     }
-    sight.pages(PagesOf::Fixed(number), pages);
+    let pages = pages_of(sight, step.pages, PagesOf::Fixed(number));
     print_fixed_area(number, pages, scrap_in(sight, number), writer)
 }
 
@@ -70,15 +72,16 @@ fn scrap_in<S: Sight>(sight: &S, number: u32) -> Option<ScrapFile>
 /// Writes the lines of the made areas.
 fn print_made<S: Sight, W: Sink>(
     sight: &S,
-    pages: &mut PageList,
+    step: &Step<'_>,
     writer: &mut W,
 ) -> Result<(), WriteFailed>
-    ensures { (b : Before) (m : Marks) → Puts (W.output writer.old) (W.output writer.new) result
-        (shown_lines (panel_part (map (made_panel (scene_of (S.desk sight.now) (S.share sight.now) b m)) (S.desk sight.now).made))) }
+    requires { IsStepOf (S.desk sight.now) step.now }
+    ensures { Puts (W.output writer.old) (W.output writer.new) result
+        (shown_lines (panel_part (map (made_panel (scene_at (S.desk sight.now) step.now)) (S.desk sight.now).made))) }
 {
     let mut i = 0;
     'areas: while let Some(area) = sight.made(i) {
-        sight.pages(PagesOf::Made(i), pages);
+        let pages = pages_of(sight, step.pages, PagesOf::Made(i));
         print_made_area(area.number, area.most, pages, writer)?;
         i += 1;
     }

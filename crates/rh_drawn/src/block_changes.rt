@@ -26,7 +26,7 @@ pub fn print_block_part<S: Sight, W: Sink>(
     blocks: &mut ArrayVec<BlockItem, ANCHORS>,
     writer: &mut W,
 ) -> Result<(), WriteFailed>
-    ensures { let x = scene_at (S.desk sight.now) (S.share sight.now) step.now in
+    ensures { let x = scene_at (S.desk sight.now) step.now in
         Puts (W.output writer.old) (W.output writer.new) result (shown_lines (block_part x (task_at x.before.handle x.desk) ++ slide_part x)) }
 {
     let Some(i) = task_with(sight, step.kept.handle()) else {

@@ -6,7 +6,7 @@ ghost use Rattle.rh_figure.specs.Figure.{figure};
 ghost use Rattle.rh_figure.specs.Map.{figure_lines};
 ghost use Rattle.rh_lines.specs.Flow.{Puts};
 ghost use Rattle.rh_map.specs.Written.{shown_lines};
-ghost use Rattle.rh_sight.specs.Steps.{HasMessages, scene_at};
+ghost use Rattle.rh_sight.specs.Steps.{IsStepOf, scene_at};
 
 use crate::areas::print_area_part;
 use crate::block_changes::print_block_part;
@@ -30,18 +30,18 @@ pub fn print_figure<S: Sight, W: Sink>(
     lists: &mut Lists,
     writer: &mut W,
 ) -> Result<(), WriteFailed>
-    requires messages { HasMessages (S.desk sight.now) step.now }
+    requires step { IsStepOf (S.desk sight.now) step.now }
     requires few { length step.now.messages.now ≤ 256 }
     ensures { Puts (W.output writer.old) (W.output writer.new) result
-        (shown_lines (figure_lines (figure (scene_at (S.desk sight.now) (S.share sight.now) step.now)))) }
+        (shown_lines (figure_lines (figure (scene_at (S.desk sight.now) step.now)))) }
 {
     print_changes(sight, step, lists, writer)?;
     put_line(b"", writer)?;
-    print_pool_part(sight, lists, writer)?;
-    print_area_part(sight, &mut lists.pages, writer)?;
+    print_pool_part(sight, step, lists, writer)?;
+    print_area_part(sight, step, writer)?;
     print_slot_part(sight, step, lists, writer)?;
     print_module_part(sight, step, lists, writer)?;
-    print_letter_part(sight, step.messages, writer)?;
+    print_letter_part(sight, step, writer)?;
     print_transfer_part(sight, writer)?;
     put_line(b"", writer)
 }
@@ -53,11 +53,11 @@ fn print_changes<S: Sight, W: Sink>(
     lists: &mut Lists,
     writer: &mut W,
 ) -> Result<(), WriteFailed>
-    requires { HasMessages (S.desk sight.now) step.now }
+    requires { IsStepOf (S.desk sight.now) step.now }
     ensures { Puts (W.output writer.old) (W.output writer.new) result
-        (shown_lines (change_part (scene_at (S.desk sight.now) (S.share sight.now) step.now))) }
+        (shown_lines (change_part (scene_at (S.desk sight.now) step.now))) }
 {
-    print_page_part(sight, step, &mut lists.pages, writer)?;
+    print_page_part(sight, step, writer)?;
     print_block_part(sight, step, &mut lists.blocks, writer)?;
     print_post_part(sight, step, writer)
 }

@@ -11,13 +11,12 @@ ghost use Rattle.rh_drawn.specs.Bands.{HasSegment, IsBandOf, IsItemOf, IsSurvey,
 ghost use Rattle.rh_drawn.specs.Cards.{card_lines};
 ghost use Rattle.rh_figure.specs.Cards.{in_use_text, post_card, shown_cards, used_card};
 ghost use Rattle.rh_figure.specs.Scene.{live};
-ghost use Rattle.rh_figure.specs.Share.{Share};
 ghost use Rattle.rh_lines.specs.Flow.{Puts};
 ghost use Rattle.rh_map.specs.Messages.{place_text};
 ghost use Rattle.rh_map.specs.Written.{shown_lines};
 ghost use Rattle.rh_sight.specs.Messages.{lies_in};
 ghost use Rattle.rh_sight.specs.Seen.{HasBlock, IsFree, heap_seen, heap_start_of};
-ghost use Rattle.rh_sight.specs.Steps.{HasMessages, scene_at};
+ghost use Rattle.rh_sight.specs.Steps.{IsStepOf, scene_at};
 
 use crate::cards::{front_length, print_others, shown_count};
 use crate::usage::use_of_buffer;
@@ -59,10 +58,10 @@ pub fn print_heap_cards<S: Sight, W: Sink>(
     band: &Band<'_>,
     writer: &mut W,
 ) -> Result<(), WriteFailed>
-    requires messages { HasMessages (S.desk sight.now) step.now }
+    requires step { IsStepOf (S.desk sight.now) step.now }
     requires band { IsBandOf (S.desk sight.now) band.now }
     ensures { IfSome (heap_seen band.now.heap (S.desk sight.now)) (λ h. Puts (W.output writer.old) (W.output writer.new) result
-        (shown_lines (card_lines (shown_cards (band_cards (scene_at (S.desk sight.now) (S.share sight.now) step.now) (S.desk sight.now) band.now h))))) }
+        (shown_lines (card_lines (shown_cards (band_cards (scene_at (S.desk sight.now) step.now) (S.desk sight.now) band.now h))))) }
 {
     let survey = survey(sight, step, band);
     let count = survey.count as usize;
@@ -82,9 +81,9 @@ pub fn print_heap_cards<S: Sight, W: Sink>(
 
 /// Counts the segments of a heap, and finds the first changed one that isn't shown anyway where there are too many.
 fn survey<S: Sight>(sight: &S, step: &Step<'_>, band: &Band<'_>) -> Survey
-    requires messages { HasMessages (S.desk sight.now) step.now }
+    requires step { IsStepOf (S.desk sight.now) step.now }
     requires band { IsBandOf (S.desk sight.now) band.now }
-    ensures { IfSome (heap_seen band.now.heap (S.desk sight.now)) (λ h. IsSurvey (scene_at (S.desk sight.now) (S.share sight.now) step.now) band.now h result) }
+    ensures { IfSome (heap_seen band.now.heap (S.desk sight.now)) (λ h. IsSurvey (scene_at (S.desk sight.now) step.now) band.now h result) }
 {
     let mut place = HEAP_FIRST as u32;
     let mut survey = Survey {
@@ -108,7 +107,7 @@ fn surveyed(
     survey: Survey,
 ) -> Survey
     requires { survey.count + length items.now < 2 ^ 32 }
-    ensures { (d : Desk) (s : Share) → HasMessages d step.now → result ≡ with_items (is_fresh_card (scene_at d s step.now) band.now) items.now survey }
+    ensures { (d : Desk) → IsStepOf d step.now → result ≡ with_items (is_fresh_card (scene_at d step.now) band.now) items.now survey }
 {
     let mut count = survey.count;
     let mut fresh = survey.fresh;
@@ -123,7 +122,7 @@ fn surveyed(
 
 /// Whether the command has changed the block that a segment is.
 fn is_fresh(step: &Step<'_>, band: &Band<'_>, item: &SegmentItem) -> bool
-    ensures { (d : Desk) (s : Share) → HasMessages d step.now → result ≡ is_fresh_card (scene_at d s step.now) band.now item.now }
+    ensures { (d : Desk) → IsStepOf d step.now → result ≡ is_fresh_card (scene_at d step.now) band.now item.now }
 {
     let SegmentItem::Used { address, .. } = item else {
         return false;
@@ -153,12 +152,12 @@ fn print_segment<S: Sight, W: Sink>(
     item: &SegmentItem,
     writer: &mut W,
 ) -> Result<(), WriteFailed>
-    requires messages { HasMessages (S.desk sight.now) step.now }
+    requires step { IsStepOf (S.desk sight.now) step.now }
     requires band { IsBandOf (S.desk sight.now) band.now }
     requires segment { (place : ℕ) × (segment : Segment) × HasSegment (heap_seen band.now.heap (S.desk sight.now)) place segment × (item.now ≡ segment_item (heap_start_of band.now.heap + place) segment) }
     ensures { (place : ℕ) (segment : Segment) → HasSegment (heap_seen band.now.heap (S.desk sight.now)) place segment → item.now ≡ segment_item (heap_start_of band.now.heap + place) segment →
         Puts (W.output writer.old) (W.output writer.new) result
-        (shown_lines (card_lines (band_card (scene_at (S.desk sight.now) (S.share sight.now) step.now) (S.desk sight.now) band.now (heap_start_of band.now.heap + place) segment ∷ []))) }
+        (shown_lines (card_lines (band_card (scene_at (S.desk sight.now) step.now) (S.desk sight.now) band.now (heap_start_of band.now.heap + place) segment ∷ []))) }
 {
     match item {
         SegmentItem::Hole { address, size } => print_hole_card(*address, *size, writer),
@@ -184,9 +183,9 @@ fn print_used<S: Sight, W: Sink>(
     requires start { heap_start_of band.now.heap + 4 ≤ address }
     requires block { (bytes : List ℕ) × HasBlock (heap_seen band.now.heap (S.desk sight.now)) (address - heap_start_of band.now.heap - 4) bytes × (length bytes ≡ size) }
     requires free { IsFree band.now.heap (address - heap_start_of band.now.heap - 4) (S.desk sight.now) }
-    ensures { (d : Desk) (s : Share) (bytes : List ℕ) → HasMessages d step.now → HasBlock (heap_seen band.now.heap (S.desk sight.now)) (address - heap_start_of band.now.heap - 4) bytes → length bytes ≡ size →
+    ensures { (d : Desk) (bytes : List ℕ) → IsStepOf d step.now → HasBlock (heap_seen band.now.heap (S.desk sight.now)) (address - heap_start_of band.now.heap - 4) bytes → length bytes ≡ size →
         Puts (W.output writer.old) (W.output writer.new) result
-        (shown_lines (card_lines (used_card address bytes (in_use_text (find (is_buffer_of address) band.now.taking.now)) (is_fresh_used (scene_at d s step.now) band.now address) ∷ []))) }
+        (shown_lines (card_lines (used_card address bytes (in_use_text (find (is_buffer_of address) band.now.taking.now)) (is_fresh_used (scene_at d step.now) band.now address) ∷ []))) }
 {
     let mut front = [0; CARD_BYTES];
     let bytes = &mut front[..front_length(size)];
@@ -213,10 +212,10 @@ fn print_message<S: Sight, W: Sink>(
     message: MessageItem,
     writer: &mut W,
 ) -> Result<(), WriteFailed>
-    requires { HasMessages (S.desk sight.now) step.now }
-    ensures { (p : Parcel) → find (λ (q : Parcel). q.block == p.block) (live (scene_at (S.desk sight.now) (S.share sight.now) step.now)) ≡ Some p → IsItemOf message p →
+    requires { IsStepOf (S.desk sight.now) step.now }
+    ensures { (p : Parcel) → find (λ (q : Parcel). q.block == p.block) (live (scene_at (S.desk sight.now) step.now)) ≡ Some p → IsItemOf message p →
         Puts (W.output writer.old) (W.output writer.new) result
-        (shown_lines (card_lines (post_card (scene_at (S.desk sight.now) (S.share sight.now) step.now) p ∷ []))) }
+        (shown_lines (card_lines (post_card (scene_at (S.desk sight.now) step.now) p ∷ []))) }
 {
     let card = CardMessage {
         my_ref: message.my_ref,

@@ -7,17 +7,17 @@ ghost use Rattle.rh_drawn.specs.Letters.{entry_seen, has_letters_in, letterbox_i
 ghost use Rattle.rh_drawn.specs.Parts.{letter_part};
 ghost use Rattle.rh_figure.specs.Figure.{letterboxes};
 ghost use Rattle.rh_figure.specs.Map.{letterbox_line};
-ghost use Rattle.rh_figure.specs.Scene.{Before, Marks, scene_of};
 ghost use Rattle.rh_figure.specs.declared.limits.TheConstants.{MOST_LISTED};
 ghost use Rattle.rh_lines.specs.Flow.{Puts};
 ghost use Rattle.rh_map.specs.Written.{shown_lines};
-ghost use Rattle.rh_sight.specs.Messages.{message_items, waits_for};
+ghost use Rattle.rh_sight.specs.Messages.{waits_for};
+ghost use Rattle.rh_sight.specs.Steps.{IsStepOf, scene_at};
 
 use rh_defs::{Action, EventCode, Handle, Name, Ref};
 use rh_figure::limits::MOST_LISTED;
 use rh_lines::{Sink, WriteFailed};
 use rh_map::{MessageEntry, print_letterbox, put_line};
-use rh_sight::{MessageItem, Sight, held_by};
+use rh_sight::{MessageItem, Sight, Step, held_by};
 
 /// No message, in a place for one.
 const NO_ENTRY: MessageEntry = MessageEntry {
@@ -37,19 +37,19 @@ struct Waits {
 /// it was offered; a front of the lines is then written.
 pub fn print_letter_part<S: Sight, W: Sink>(
     sight: &S,
-    messages: &[MessageItem],
+    step: &Step<'_>,
     writer: &mut W,
 ) -> Result<(), WriteFailed>
-    requires messages { messages.now ≡ message_items (S.desk sight.now) }
-    requires few { length messages.now ≤ 256 }
-    ensures { (b : Before) (m : Marks) → Puts (W.output writer.old) (W.output writer.new) result
-        (shown_lines (letter_part (scene_of (S.desk sight.now) (S.share sight.now) b m))) }
+    requires step { IsStepOf (S.desk sight.now) step.now }
+    requires few { length step.now.messages.now ≤ 256 }
+    ensures { Puts (W.output writer.old) (W.output writer.new) result
+        (shown_lines (letter_part (scene_at (S.desk sight.now) step.now))) }
 {
-    if !has_letterboxes(sight, messages) {
+    if !has_letterboxes(sight, step.messages) {
         return Ok(());
     }
     put_line(b"Messages", writer)?;
-    print_letterboxes(sight, messages, writer)
+    print_letterboxes(sight, step, writer)
 }
 
 /// Whether some task has a message.
@@ -76,18 +76,18 @@ fn has_letters(messages: &[MessageItem], handle: Handle) -> bool
 /// Writes the messages of each task that has some.
 fn print_letterboxes<S: Sight, W: Sink>(
     sight: &S,
-    messages: &[MessageItem],
+    step: &Step<'_>,
     writer: &mut W,
 ) -> Result<(), WriteFailed>
-    requires messages { messages.now ≡ message_items (S.desk sight.now) }
-    requires few { length messages.now ≤ 256 }
-    ensures { (b : Before) (m : Marks) → Puts (W.output writer.old) (W.output writer.new) result
-        (shown_lines (map letterbox_line (letterboxes (scene_of (S.desk sight.now) (S.share sight.now) b m)))) }
+    requires step { IsStepOf (S.desk sight.now) step.now }
+    requires few { length step.now.messages.now ≤ 256 }
+    ensures { Puts (W.output writer.old) (W.output writer.new) result
+        (shown_lines (map letterbox_line (letterboxes (scene_at (S.desk sight.now) step.now)))) }
 {
     let mut i = 0;
     'tasks: while let Some(task) = sight.task(i) {
-        if has_letters(messages, task.handle) {
-            print_letters(task.name, task.handle, messages, writer)?;
+        if has_letters(step.messages, task.handle) {
+            print_letters(task.name, task.handle, step.messages, writer)?;
         }
         i += 1;
     }

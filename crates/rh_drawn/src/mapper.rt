@@ -8,8 +8,10 @@ ghost use Rattle.rh_defs.specs.Step.{step};
 ghost use Rattle.rh_drawn.specs.Places.{Broke, Drew, IsFirst, IsLikeReply, IsSamePlace, reply_to, shown_step};
 ghost use Rattle.rh_drawn.specs.Replies.{Excerpts};
 ghost use Rattle.rh_lines.specs.Flow.{Puts};
+ghost use Rattle.rh_figure.specs.Share.{IsShared};
 ghost use Rattle.rh_map.specs.Written.{shown_lines};
 ghost use Rattle.rh_session.specs.Outcome.{status_of};
+ghost use Rattle.rh_sight.specs.Pages.{share_of};
 
 use crate::drawn::Drawn;
 use crate::excerpt::{excerpt_answer, excerpt_fault, excerpt_reply};
@@ -22,7 +24,7 @@ use rh_feed::LineTaker;
 use rh_lines::{Sink, WriteFailed, read_line};
 use rh_map::{Front, is_mark, print_remark};
 use rh_session::Status;
-use rh_sight::{Kept, Marks, Messages, Step, is_still};
+use rh_sight::{Kept, Marks, Messages, PageList, Step, is_still};
 use std::alloc::{AllocError, Global};
 
 /// A map in the middle of its script: what is drawn, whether marked steps alone are shown, how many steps are behind it,
@@ -35,6 +37,7 @@ pub struct Mapper<D> {
     wanted: bool,
     has_bad_line: bool,
     messages: Messages,
+    pages: PageList,
     lists: Lists,
     front: Front,
 }
@@ -63,6 +66,7 @@ impl<D: Drawn> Mapper<D> {
             wanted: false,
             has_bad_line: false,
             messages: ArrayVec::new(),
+            pages: ArrayVec::new(),
             lists: Lists::new(),
             front,
         })
@@ -192,14 +196,17 @@ impl<D: Drawn> Mapper<D> {
         writer: &mut W,
     ) -> Result<(), WriteFailed>
         ensures text { (text : List ℕ) → Excerpts self.old.front.bytes deed.now.count text → Puts (W.output writer.old) (W.output writer.new) result
-            (shown_lines (shown_step deed.now.wanted self.old.steps line.now text (D.desk self.old.drawn) (D.share self.old.drawn) deed.now.kept.now (option_map (λ c. c.now) deed.now.command) deed.now.reply.now)) }
+            (shown_lines (shown_step deed.now.wanted self.old.steps line.now text (D.desk self.old.drawn) (share_of self.new.pages.items (D.desk self.old.drawn)) deed.now.kept.now (option_map (λ c. c.now) deed.now.command) deed.now.reply.now)) }
+        ensures shared { IsShared (share_of self.new.pages.items (D.desk self.old.drawn)) (D.desk self.old.drawn) }
         ensures same { IsSamePlace self.old self.new }
     {
         self.drawn.messages(&mut self.messages);
+        self.drawn.page_list(&mut self.pages);
         let step = Step {
             kept: deed.kept,
             marks: Marks::new(&self.drawn, deed.kept, deed.command, deed.reply),
             messages: &self.messages,
+            pages: &self.pages,
         };
         let above = Above {
             number: self.steps,

@@ -4,7 +4,7 @@ ghost use Rattle.std.specs.Prelude.{◌≡◌};
 ghost use Rattle.rh_drawn.specs.Parts.{module_part};
 ghost use Rattle.rh_lines.specs.Flow.{Puts};
 ghost use Rattle.rh_map.specs.Written.{shown_lines};
-ghost use Rattle.rh_sight.specs.Steps.{HasMessages, scene_at};
+ghost use Rattle.rh_sight.specs.Steps.{IsStepOf, scene_at};
 
 use crate::heap_cards::{Band, print_heap_cards};
 use crate::lists::Lists;
@@ -12,7 +12,7 @@ use rh_defs::Handle;
 use rh_defs::sizes::MODULE_START;
 use rh_lines::{Sink, WriteFailed};
 use rh_map::{Area, print_area, print_module_heading};
-use rh_sight::{HeapOf, PagesOf, Sight, Step, module_pieces};
+use rh_sight::{HeapOf, PagesOf, Sight, Step, module_pieces, pages_of};
 
 /// The number of the module area.
 const MODULE_AREA: u32 = 1;
@@ -25,16 +25,15 @@ pub fn print_module_part<S: Sight, W: Sink>(
     lists: &mut Lists,
     writer: &mut W,
 ) -> Result<(), WriteFailed>
-    requires { HasMessages (S.desk sight.now) step.now }
+    requires { IsStepOf (S.desk sight.now) step.now }
     ensures { Puts (W.output writer.old) (W.output writer.new) result
-        (shown_lines (module_part (scene_at (S.desk sight.now) (S.share sight.now) step.now))) }
+        (shown_lines (module_part (scene_at (S.desk sight.now) step.now))) }
 {
     print_module_heading(sight.fixed_pages(MODULE_AREA), writer)?;
     module_pieces(sight, step, &mut lists.pieces);
-    sight.pages(PagesOf::Fixed(MODULE_AREA), &mut lists.pages);
     let area = Area {
         start: MODULE_START as u32,
-        pages: &lists.pages,
+        pages: pages_of(sight, step.pages, PagesOf::Fixed(MODULE_AREA)),
         pieces: &lists.pieces,
     };
     print_area(&area, writer)?;

@@ -6,15 +6,16 @@ ghost use Rattle.rh_drawn.specs.Parts.{pool_part, slot_panels};
 ghost use Rattle.rh_drawn.specs.Marked.{made_pages, marked, marked_all, slot_pages_from};
 ghost use Rattle.rh_figure.specs.Figure.{owner_of};
 ghost use Rattle.rh_figure.specs.Rows.{page_mark};
-ghost use Rattle.rh_figure.specs.Scene.{Before, Marks, scene_of};
 ghost use Rattle.rh_lines.specs.Flow.{Puts};
 ghost use Rattle.rh_map.specs.Written.{shown_lines};
+ghost use Rattle.rh_sight.specs.Pages.{share_of};
+ghost use Rattle.rh_sight.specs.Steps.{IsStepOf, scene_at};
 
 use crate::lists::Lists;
 use rh_defs::sizes::FIXED_AREAS;
 use rh_lines::{Sink, WriteFailed};
 use rh_map::{area_mark, print_pool, print_pool_heading, slot_mark};
-use rh_sight::{PageList, PagesOf, Sight};
+use rh_sight::{PagesOf, Sight, Step, pages_of};
 
 /// The character of a free page.
 const FREE: u8 = b'.';
@@ -23,32 +24,35 @@ const FREE: u8 = b'.';
 /// offered; a front of the lines is then written.
 pub fn print_pool_part<S: Sight, W: Sink>(
     sight: &S,
+    step: &Step<'_>,
     lists: &mut Lists,
     writer: &mut W,
 ) -> Result<(), WriteFailed>
-    ensures { (b : Before) (m : Marks) → Puts (W.output writer.old) (W.output writer.new) result
-        (shown_lines (pool_part (scene_of (S.desk sight.now) (S.share sight.now) b m))) }
+    requires { IsStepOf (S.desk sight.now) step.now }
+    ensures { Puts (W.output writer.old) (W.output writer.new) result
+        (shown_lines (pool_part (scene_at (S.desk sight.now) step.now))) }
 {
-    let pool = sight.pool() as usize;
-    print_pool_heading(sight.free_pages(), sight.pool(), writer)?;
-    let marks = &mut lists.marks[..pool];
-    mark_pool(sight, &mut lists.pages, marks);
+    let pool = sight.pool();
+    print_pool_heading(sight.free_pages(), pool, writer)?;
+    let marks = &mut lists.marks[..pool as usize];
+    mark_pool(sight, step, marks);
     print_pool(marks, writer)
 }
 
 /// Writes the character of each page's owner over a row of as many characters as the pool has pages.
-fn mark_pool<S: Sight>(sight: &S, pages: &mut PageList, marks: &mut [u8])
-    requires { length marks.old ≡ (S.desk sight.now).pool }
-    ensures { (b : Before) (m : Marks) → let x = scene_of (S.desk sight.now) (S.share sight.now) b m in
+fn mark_pool<S: Sight>(sight: &S, step: &Step<'_>, marks: &mut [u8])
+    requires step { IsStepOf (S.desk sight.now) step.now }
+    requires pool { length marks.old ≡ (S.desk sight.now).pool }
+    ensures { let x = scene_at (S.desk sight.now) step.now in
         marks.new ≡ map (λ k. page_mark (slot_panels x) (owner_of x k)) (range_with_len 0 (S.desk sight.now).pool) }
 {
     clear(marks);
     for number in 0..FIXED_AREAS as u32 {
-        sight.pages(PagesOf::Fixed(number), pages);
+        let pages = pages_of(sight, step.pages, PagesOf::Fixed(number));
         mark_pages(marks, pages, area_mark(number));
     }
-    mark_made(sight, pages, marks);
-    mark_slots(sight, pages, marks);
+    mark_made(sight, step, marks);
+    mark_slots(sight, step, marks);
 }
 
 /// Marks all pages as free.
@@ -61,24 +65,26 @@ fn clear(marks: &mut [u8])
 }
 
 /// Marks the pages of the made areas.
-fn mark_made<S: Sight>(sight: &S, pages: &mut PageList, marks: &mut [u8])
-    ensures { marks.new ≡ marked_all (map (made_pages (S.share sight.now)) (S.desk sight.now).made) marks.old }
+fn mark_made<S: Sight>(sight: &S, step: &Step<'_>, marks: &mut [u8])
+    requires { IsStepOf (S.desk sight.now) step.now }
+    ensures { marks.new ≡ marked_all (map (made_pages (share_of step.now.pages.now (S.desk sight.now))) (S.desk sight.now).made) marks.old }
 {
     let mut i = 0;
     'areas: while let Some(area) = sight.made(i) {
-        sight.pages(PagesOf::Made(i), pages);
+        let pages = pages_of(sight, step.pages, PagesOf::Made(i));
         mark_pages(marks, pages, area_mark(area.number));
         i += 1;
     }
 }
 
 /// Marks the pages of the slots.
-fn mark_slots<S: Sight>(sight: &S, pages: &mut PageList, marks: &mut [u8])
-    ensures { marks.new ≡ marked_all (slot_pages_from (S.share sight.now) 0 (S.desk sight.now).tasks) marks.old }
+fn mark_slots<S: Sight>(sight: &S, step: &Step<'_>, marks: &mut [u8])
+    requires { IsStepOf (S.desk sight.now) step.now }
+    ensures { marks.new ≡ marked_all (slot_pages_from (share_of step.now.pages.now (S.desk sight.now)) 0 (S.desk sight.now).tasks) marks.old }
 {
     let mut i = 0;
     'tasks: while sight.task(i).is_some() {
-        sight.pages(PagesOf::Slot(i), pages);
+        let pages = pages_of(sight, step.pages, PagesOf::Slot(i));
         mark_pages(marks, pages, slot_mark(i));
         i += 1;
     }

@@ -6,9 +6,10 @@ ghost use Rattle.rh_drawn.specs.Parts.{indented, post_part};
 ghost use Rattle.rh_figure.specs.Changes.{bytes_sent_text, returns_text, sent_text, taken_text};
 ghost use Rattle.rh_figure.specs.Phrases.{is_returned as is_returned_as};
 ghost use Rattle.rh_figure.specs.Scene.{Before, Marks, scene_of, waiting};
+ghost use Rattle.rh_figure.specs.Share.{Share};
 ghost use Rattle.rh_lines.specs.Flow.{Puts};
 ghost use Rattle.rh_map.specs.Written.{shown_lines};
-ghost use Rattle.rh_sight.specs.Steps.{HasMessages, scene_at};
+ghost use Rattle.rh_sight.specs.Steps.{IsStepOf, scene_at};
 
 use crate::who::who_of;
 use rh_defs::{Body, EventCode, Letter, Ref};
@@ -23,9 +24,9 @@ pub fn print_post_part<S: Sight, W: Sink>(
     step: &Step<'_>,
     writer: &mut W,
 ) -> Result<(), WriteFailed>
-    requires { HasMessages (S.desk sight.now) step.now }
+    requires { IsStepOf (S.desk sight.now) step.now }
     ensures { Puts (W.output writer.old) (W.output writer.new) result
-        (shown_lines (post_part (scene_at (S.desk sight.now) (S.share sight.now) step.now))) }
+        (shown_lines (post_part (scene_at (S.desk sight.now) step.now))) }
 {
     print_returned(sight, step, writer)?;
     print_taken(sight, step, writer)?;
@@ -41,8 +42,8 @@ fn print_returned<S: Sight, W: Sink>(
     step: &Step<'_>,
     writer: &mut W,
 ) -> Result<(), WriteFailed>
-    requires { HasMessages (S.desk sight.now) step.now }
-    ensures { let x = scene_at (S.desk sight.now) (S.share sight.now) step.now in
+    requires { IsStepOf (S.desk sight.now) step.now }
+    ensures { let x = scene_at (S.desk sight.now) step.now in
         Puts (W.output writer.old) (W.output writer.new) result
         (shown_lines (indented (map (returns_text x) (filter (λ (p : Parcel). p.message.my_ref == x.before.held && is_returned_as p.code) (waiting x))))) }
 {
@@ -74,7 +75,7 @@ fn print_taken<S: Sight, W: Sink>(
     step: &Step<'_>,
     writer: &mut W,
 ) -> Result<(), WriteFailed>
-    ensures { let x = scene_at (S.desk sight.now) (S.share sight.now) step.now in
+    ensures { let x = scene_at (S.desk sight.now) step.now in
         Puts (W.output writer.old) (W.output writer.new) result (shown_lines (indented (taken_text x x.marks.taken))) }
 {
     match step.marks.taken {
@@ -93,8 +94,8 @@ fn print_sent<S: Sight, W: Sink>(
     my_ref: Ref,
     writer: &mut W,
 ) -> Result<(), WriteFailed>
-    ensures { (b : Before) (m : Marks) → Puts (W.output writer.old) (W.output writer.new) result
-        (shown_lines (indented (sent_text (scene_of (S.desk sight.now) (S.share sight.now) b m) (Some (letter.now, my_ref))))) }
+    ensures { (s : Share) (b : Before) (m : Marks) → Puts (W.output writer.old) (W.output writer.new) result
+        (shown_lines (indented (sent_text (scene_of (S.desk sight.now) s b m) (Some (letter.now, my_ref))))) }
 {
     print_bytes(sight, letter, writer)?;
     let from = who_of(sight, letter.from);
@@ -108,8 +109,8 @@ fn print_bytes<S: Sight, W: Sink>(
     letter: &Letter,
     writer: &mut W,
 ) -> Result<(), WriteFailed>
-    ensures { (b : Before) (m : Marks) → Puts (W.output writer.old) (W.output writer.new) result
-        (shown_lines (indented (bytes_sent_text (scene_of (S.desk sight.now) (S.share sight.now) b m) letter.now letter.now.body))) }
+    ensures { (s : Share) (b : Before) (m : Marks) → Puts (W.output writer.old) (W.output writer.new) result
+        (shown_lines (indented (bytes_sent_text (scene_of (S.desk sight.now) s b m) letter.now letter.now.body))) }
 {
     match &letter.body {
         Body::RamTransmit { buffer, written } => {

@@ -12,7 +12,7 @@ ghost use Rattle.rh_figure.specs.Share.{SlotOf, is_owner};
 ghost use Rattle.rh_lines.specs.Flow.{Puts};
 ghost use Rattle.rh_map.specs.Written.{shown_lines};
 ghost use Rattle.rh_sight.specs.Seen.{IsTaskSeen};
-ghost use Rattle.rh_sight.specs.Steps.{HasMessages, scene_at};
+ghost use Rattle.rh_sight.specs.Steps.{IsStepOf, scene_at};
 
 use crate::flex_cards::print_flex_cards;
 use crate::heap_cards::{Band, print_heap_cards};
@@ -20,7 +20,7 @@ use crate::lists::Lists;
 use rh_defs::sizes::SLOT_START;
 use rh_lines::{Sink, WriteFailed};
 use rh_map::{Area, SlotHeading, print_area, print_slot_heading, slot_mark};
-use rh_sight::{HeapOf, PagesOf, Sight, Step, TaskSight, is_drawn, slot_pieces};
+use rh_sight::{HeapOf, PagesOf, Sight, Step, TaskSight, is_drawn, pages_of, slot_pieces};
 
 /// Writes all slots, in order of handle. Fails only where the writer failed or took none of what it was offered; a front of
 /// the lines is then written.
@@ -30,9 +30,9 @@ pub fn print_slot_part<S: Sight, W: Sink>(
     lists: &mut Lists,
     writer: &mut W,
 ) -> Result<(), WriteFailed>
-    requires { HasMessages (S.desk sight.now) step.now }
+    requires { IsStepOf (S.desk sight.now) step.now }
     ensures { Puts (W.output writer.old) (W.output writer.new) result
-        (shown_lines (slot_part (scene_at (S.desk sight.now) (S.share sight.now) step.now))) }
+        (shown_lines (slot_part (scene_at (S.desk sight.now) step.now))) }
 {
     let tasks = count_tasks(sight);
     let mut i = 0;
@@ -88,17 +88,16 @@ fn print_slot<S: Sight, W: Sink>(
     lists: &mut Lists,
     writer: &mut W,
 ) -> Result<(), WriteFailed>
-    requires messages { HasMessages (S.desk sight.now) step.now }
+    requires step { IsStepOf (S.desk sight.now) step.now }
     requires task { (t : Task) × (slice_get (S.desk sight.now).tasks i ≡ Some t) × IsTaskSeen task.now t }
     ensures { (t : Task) → slice_get (S.desk sight.now).tasks i ≡ Some t → Puts (W.output writer.old) (W.output writer.new) result
-        (shown_lines (drawing_lines (Some (slot_drawing (scene_at (S.desk sight.now) (S.share sight.now) step.now) t)))) }
+        (shown_lines (drawing_lines (Some (slot_drawing (scene_at (S.desk sight.now) step.now) t)))) }
 {
     sight.blocks(i, &mut lists.blocks);
     slot_pieces(sight, step, i, task, &lists.blocks, &mut lists.pieces);
-    sight.pages(PagesOf::Slot(i), &mut lists.pages);
     let area = Area {
         start: SLOT_START as u32,
-        pages: &lists.pages,
+        pages: pages_of(sight, step.pages, PagesOf::Slot(i)),
         pieces: &lists.pieces,
     };
     print_area(&area, writer)?;

@@ -5,7 +5,7 @@ ghost use Rattle.rh_drawn.specs.Replies.{Excerpts};
 ghost use Rattle.rh_figure.specs.Map.{step_lines};
 ghost use Rattle.rh_lines.specs.Flow.{Puts};
 ghost use Rattle.rh_map.specs.Written.{shown_lines};
-ghost use Rattle.rh_sight.specs.Steps.{HasMessages, scene_at};
+ghost use Rattle.rh_sight.specs.Steps.{IsStepOf, scene_at};
 
 use crate::figure::print_figure;
 use crate::lists::Lists;
@@ -33,10 +33,10 @@ pub fn print_step<S: Sight, W: Sink>(
     lists: &mut Lists,
     writer: &mut W,
 ) -> Result<(), WriteFailed>
-    requires messages { HasMessages (S.desk sight.now) step.now }
+    requires step { IsStepOf (S.desk sight.now) step.now }
     requires few { length step.now.messages.now ≤ 256 }
     ensures { (reply : List ℕ) → Excerpts above.now.front.now above.now.count reply → Puts (W.output writer.old) (W.output writer.new) result
-        (shown_lines (step_lines above.now.is_still above.now.number above.now.line.now reply (scene_at (S.desk sight.now) (S.share sight.now) step.now))) }
+        (shown_lines (step_lines above.now.is_still above.now.number above.now.line.now reply (scene_at (S.desk sight.now) step.now))) }
 {
     print_step_line(above.number, above.line, writer)?;
     print_reply_lines(above.front, above.count, writer)?;

@@ -10,6 +10,7 @@ ghost use Rattle.rh_drawn.specs.Sides.{comes_alone, goes_out, ins_of, outs_of};
 ghost use Rattle.rh_figure.specs.Figure.{has_id as has_id_of};
 ghost use Rattle.rh_figure.specs.Map.{transfer_line};
 ghost use Rattle.rh_figure.specs.Scene.{Before, Marks, scene_of};
+ghost use Rattle.rh_figure.specs.Share.{Share};
 ghost use Rattle.rh_lines.specs.Flow.{Puts};
 ghost use Rattle.rh_map.specs.Sides.{side_of};
 ghost use Rattle.rh_map.specs.Written.{shown_lines};
@@ -26,8 +27,8 @@ pub fn print_transfer_part<S: Sight, W: Sink>(
     sight: &S,
     writer: &mut W,
 ) -> Result<(), WriteFailed>
-    ensures { (b : Before) (m : Marks) → Puts (W.output writer.old) (W.output writer.new) result
-        (shown_lines (transfer_part (scene_of (S.desk sight.now) (S.share sight.now) b m))) }
+    ensures { (s : Share) (b : Before) (m : Marks) → Puts (W.output writer.old) (W.output writer.new) result
+        (shown_lines (transfer_part (scene_of (S.desk sight.now) s b m))) }
 {
     if !has_transfers(sight) {
         return Ok(());

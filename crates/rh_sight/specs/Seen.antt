@@ -1,9 +1,11 @@
 -- What is seen of a desk.
 use Rattle.std.specs.Prelude.{◌≡◌, ℕ, ◌+◌, List, ◌∷◌, ◌++◌, length, slice_get, slice_index, Option, Some, None, false, if◌then◌else◌, ◌==◌}
 use Rattle.std.specs.Option.{option_map}
+use Rattle.rh_defs.specs.declared.listing.BlockItem.{BlockItem}
 use Rattle.rh_defs.specs.declared.message.Letter.{Letter}
 use Rattle.rh_defs.specs.Heap.{Segment, Used, Heap, place_after}
-use Rattle.rh_defs.specs.Slot.{heap_start}
+use Rattle.rh_defs.specs.Listing.{block_items}
+use Rattle.rh_defs.specs.Slot.{Flex, heap_start}
 use Rattle.rh_defs.specs.Post.{post_is_message}
 use Rattle.rh_defs.specs.Desk.{Desk, Task, Made, Scrap, task_pages, module_pages}
 use Rattle.rh_defs.specs.Commands.{module_area, module_start}
@@ -52,6 +54,16 @@ pub record IsBlockAt (h : Heap) (place : ℕ) (bytes : List ℕ) : Type 0 where
 abbrev pub HasBlock : Option Heap → ℕ → List ℕ → Type 0
 HasBlock None place bytes = ⊥
 HasBlock (Some h) place bytes = IsBlockAt h place bytes
+
+-- a flex block of a task that may be there, as it is listed, has these bytes
+pub record HasFlex (t : Option Task) (item : BlockItem) (bytes : List ℕ) : Type 0 where
+  pub task : Task
+  pub is : t ≡ Some task
+  pub place : ℕ
+  pub listed : slice_get (block_items task.slot) place ≡ Some item
+  pub block : Flex
+  pub stands : slice_get task.slot.blocks place ≡ Some block
+  pub bytes_are : bytes ≡ block.bytes
 
 -- no message lies in the block whose segment begins at the place
 abbrev pub IsFree : HeapOf → ℕ → Desk → Type 0

@@ -1,14 +1,15 @@
 -- What a step's picture is drawn from.
 use Rattle.std.specs.Prelude.{◌≡◌, ℕ}
 use Rattle.std.specs.Option.{option_map}
-use Rattle.rh_defs.specs.Desk.{Desk, Task}
-use Rattle.rh_figure.specs.Share.{Share}
+use Rattle.rh_defs.specs.Desk.{Desk}
+use Rattle.rh_figure.specs.Share.{IsShared}
 use Rattle.rh_figure.specs.Scene as scene
 use Rattle.rh_figure.specs.Scene.{Scene, scene_of}
 use Rattle.rh_sight.specs.declared.marks.HeapBlock.{HeapBlock}
 use Rattle.rh_sight.specs.declared.marks.Marks.{Marks}
 use Rattle.rh_sight.specs.declared.step.Step.{Step}
 use Rattle.rh_sight.specs.Messages.{message_items}
+use Rattle.rh_sight.specs.Pages.{share_of}
 use Rattle.rh_sight.specs.Seen.{letter_seen}
 
 -- a block of a C heap by its task's handle and its address
@@ -26,10 +27,11 @@ marks_seen m = record {
   taken = m.taken;
 }
 
--- the scene that a step has on a desk whose pool is shared out so
-abbrev pub scene_at : Desk → Share → Step → Scene
-scene_at d s step = scene_of d s step.kept.now (marks_seen step.marks)
+-- the scene that a step has on a desk
+abbrev pub scene_at : Desk → Step → Scene
+scene_at d step = scene_of d (share_of step.pages.now d) step.kept.now (marks_seen step.marks)
 
--- the step has the desk's messages
-abbrev pub HasMessages : Desk → Step → Type 0
-HasMessages d step = step.messages.now ≡ message_items d
+-- the step has the desk's messages, and its pages
+pub record IsStepOf (d : Desk) (step : Step) : Type 0 where
+  pub messages : step.messages.now ≡ message_items d
+  pub pages : IsShared (share_of step.pages.now d) d

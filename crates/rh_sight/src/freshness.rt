@@ -7,7 +7,6 @@ ghost use Rattle.rh_defs.specs.declared.listing.BlockItem.{BlockItem};
 ghost use Rattle.rh_defs.specs.Desk.{Desk, Task};
 ghost use Rattle.rh_figure.specs.Figure.{is_drawn as is_drawn_in, is_recipient as is_recipient_of};
 ghost use Rattle.rh_figure.specs.Layout.{is_changed_block as is_changed_of, is_fresh_block as is_fresh_block_in, is_fresh_flex as is_fresh_flex_in, is_put as is_put_of};
-ghost use Rattle.rh_figure.specs.Share.{Share};
 ghost use Rattle.rh_sight.specs.Seen.{letter_seen};
 ghost use Rattle.rh_sight.specs.Steps.{scene_at};
 
@@ -17,7 +16,7 @@ use rh_figure::limits::MOST_SLOTS;
 
 /// Whether the command has changed the flex block of a task: wrote to it, or none of that anchor and size was there before.
 pub fn is_fresh_flex(step: &Step<'_>, handle: Handle, anchor: Anchor, size: u32) -> bool
-    ensures { (d : Desk) (s : Share) → result ≡ is_fresh_flex_in (scene_at d s step.now) handle anchor size }
+    ensures { (d : Desk) → result ≡ is_fresh_flex_in (scene_at d step.now) handle anchor size }
 {
     handle == step.marks.handle
         && is_changed_block(step.marks.put, step.kept.blocks(), anchor, size)
@@ -55,7 +54,7 @@ fn had_block(before: &[BlockItem], anchor: Anchor, size: u32) -> bool
 
 /// Whether the command made or changed the block of a task's C heap.
 pub fn is_fresh_block(step: &Step<'_>, handle: Handle, address: u32) -> bool
-    ensures { (d : Desk) (s : Share) → result ≡ is_fresh_block_in (scene_at d s step.now) handle address }
+    ensures { (d : Desk) → result ≡ is_fresh_block_in (scene_at d step.now) handle address }
 {
     step.marks.heap.handle == handle && step.marks.heap.address == address
 }
@@ -70,7 +69,7 @@ pub fn is_new_ref(step: &Step<'_>, my_ref: Ref) -> bool
 /// Whether the slot of a task is drawn, where so many tasks are live: all slots of few tasks are, and of many those that
 /// the command is about.
 pub fn is_drawn(step: &Step<'_>, tasks: usize, handle: Handle) -> bool
-    ensures { (d : Desk) (s : Share) (t : Task) → tasks ≡ length d.tasks → handle ≡ t.handle → result ≡ is_drawn_in (scene_at d s step.now) t }
+    ensures { (d : Desk) (t : Task) → tasks ≡ length d.tasks → handle ≡ t.handle → result ≡ is_drawn_in (scene_at d step.now) t }
 {
     tasks <= MOST_SLOTS
         || handle == step.marks.handle

@@ -6,6 +6,7 @@ mod freshness;
 mod kept;
 mod marks;
 mod message_list;
+mod pages;
 mod pieces;
 mod sight;
 mod step;
@@ -16,6 +17,7 @@ pub use freshness::{is_drawn, is_fresh_block, is_fresh_flex, is_new_ref};
 pub use kept::{Holding, Kept, Owner};
 pub use marks::{HeapBlock, Marks, is_still};
 pub use message_list::{Place, held_by, message_in, place_of};
+pub use pages::{free_of, pages_of};
 pub use pieces::{MOST_PIECES, Pieces, module_pieces, slot_pieces};
 pub use sight::{
     AreaSight, HeapOf, MOST_AT_ONCE, MOST_MESSAGES, MessageItem, Messages, PageList, PagesOf,

@@ -7,10 +7,9 @@ ghost use Rattle.rh_defs.specs.Desk.{Desk, Task};
 ghost use Rattle.rh_defs.specs.Listing.{block_items, segment_item, segment_items_from};
 ghost use Rattle.rh_defs.specs.declared.sizes.TheConstants.{MODULE_START};
 ghost use Rattle.rh_figure.specs.Layout.{heap_pieces, module_legend, module_pieces as module_pieces_of, segment_piece, segment_pieces, slot_pieces as slot_pieces_of};
-ghost use Rattle.rh_figure.specs.Share.{Share};
 ghost use Rattle.rh_figure.specs.declared.limits.TheConstants.{MOST_SEGMENTS};
 ghost use Rattle.rh_sight.specs.Seen.{IsTaskSeen, heap_seen, heap_start_of};
-ghost use Rattle.rh_sight.specs.Steps.{HasMessages, scene_at};
+ghost use Rattle.rh_sight.specs.Steps.{IsStepOf, scene_at};
 ghost use Rattle.rh_sight.specs.Walks.{area_start_of, IsInArea, item_pieces, item_weight, kind_and_freshness, legend_of};
 ghost use Rattle.rh_sight.specs.declared.pieces.TheConstants.{MOST_PIECES};
 
@@ -50,10 +49,10 @@ pub fn slot_pieces<S: Sight>(
     blocks: &[BlockItem],
     pieces: &mut Pieces,
 )
-    requires messages { HasMessages (S.desk sight.now) step.now }
+    requires step { IsStepOf (S.desk sight.now) step.now }
     requires task { (t : Task) × (slice_get (S.desk sight.now).tasks i ≡ Some t) × IsTaskSeen task.now t × (blocks.now ≡ block_items t.slot) }
     ensures { (t : Task) → slice_get (S.desk sight.now).tasks i ≡ Some t →
-        pieces.new.items ≡ slot_pieces_of (scene_at (S.desk sight.now) (S.share sight.now) step.now) t.handle t.slot }
+        pieces.new.items ≡ slot_pieces_of (scene_at (S.desk sight.now) step.now) t.handle t.slot }
 {
     pieces.clear();
     pieces.push(plain(Kind::AnchorWords, 0, C_HEAP_PLACE));
@@ -75,8 +74,8 @@ pub fn slot_pieces<S: Sight>(
 
 /// Puts the pieces of the module area into a list in place of what it held.
 pub fn module_pieces<S: Sight>(sight: &S, step: &Step<'_>, pieces: &mut Pieces)
-    requires { HasMessages (S.desk sight.now) step.now }
-    ensures { pieces.new.items ≡ module_pieces_of (scene_at (S.desk sight.now) (S.share sight.now) step.now) }
+    requires { IsStepOf (S.desk sight.now) step.now }
+    ensures { pieces.new.items ≡ module_pieces_of (scene_at (S.desk sight.now) step.now) }
 {
     pieces.clear();
     let drawn = Drawn {
@@ -108,7 +107,7 @@ fn push_blocks(
 ) -> usize
     requires few { length pieces.old.items + length blocks.now ≤ MOST_PIECES }
     requires small { at + total item_weight blocks.now < 2 ^ 40 }
-    ensures pieces { (d : Desk) (s : Share) → pieces.new.items ≡ pieces.old.items ++ item_pieces (scene_at d s step.now) handle at blocks.now }
+    ensures pieces { (d : Desk) → pieces.new.items ≡ pieces.old.items ++ item_pieces (scene_at d step.now) handle at blocks.now }
     ensures end { result ≡ at + total item_weight blocks.now }
 {
     let mut end = at;
@@ -130,11 +129,11 @@ fn push_blocks(
 
 /// Appends the pieces of a heap.
 fn push_heap<S: Sight>(sight: &S, step: &Step<'_>, drawn: Drawn, pieces: &mut Pieces)
-    requires messages { HasMessages (S.desk sight.now) step.now }
+    requires step { IsStepOf (S.desk sight.now) step.now }
     requires few { length pieces.old.items + MOST_SEGMENTS + 3 ≤ MOST_PIECES }
     requires heap { IsSome (heap_seen drawn.heap (S.desk sight.now)) }
     ensures { IfSome (heap_seen drawn.heap (S.desk sight.now)) (λ h. pieces.new.items ≡ pieces.old.items
-        ++ heap_pieces (legend_of (scene_at (S.desk sight.now) (S.share sight.now) step.now) drawn.heap drawn.handle) (heap_start_of drawn.heap - area_start_of drawn.heap) h) }
+        ++ heap_pieces (legend_of (scene_at (S.desk sight.now) step.now) drawn.heap drawn.handle) (heap_start_of drawn.heap - area_start_of drawn.heap) h) }
 {
     let at = (heap_address(drawn.heap) - area_address(drawn.heap)) as usize;
     pieces.push(plain(Kind::Descriptor, at, HEAP_FIRST));
@@ -157,11 +156,11 @@ fn push_segments<S: Sight>(
     drawn: Drawn,
     pieces: &mut Pieces,
 ) -> u32
-    requires messages { HasMessages (S.desk sight.now) step.now }
+    requires step { IsStepOf (S.desk sight.now) step.now }
     requires few { length pieces.old.items + MOST_SEGMENTS ≤ MOST_PIECES }
     requires heap { IsSome (heap_seen drawn.heap (S.desk sight.now)) }
     ensures pieces { IfSome (heap_seen drawn.heap (S.desk sight.now)) (λ h. pieces.new.items ≡ pieces.old.items
-        ++ segment_pieces (legend_of (scene_at (S.desk sight.now) (S.share sight.now) step.now) drawn.heap drawn.handle) (heap_start_of drawn.heap - area_start_of drawn.heap + first_place) (take MOST_SEGMENTS h.segments)) }
+        ++ segment_pieces (legend_of (scene_at (S.desk sight.now) step.now) drawn.heap drawn.handle) (heap_start_of drawn.heap - area_start_of drawn.heap + first_place) (take MOST_SEGMENTS h.segments)) }
     ensures place { IfSome (heap_seen drawn.heap (S.desk sight.now)) (λ h. result ≡ place_after (take MOST_SEGMENTS h.segments)) }
 {
     let mut place = HEAP_FIRST as u32;
@@ -178,8 +177,8 @@ fn push_segments<S: Sight>(
 /// Appends segments.
 fn push_items(step: &Step<'_>, drawn: Drawn, items: &[SegmentItem], pieces: &mut Pieces)
     requires few { length pieces.old.items + length items.now ≤ MOST_PIECES }
-    ensures { (d : Desk) (s : Share) (place : ℕ) (segments : List Segment) → HasMessages d step.now → items.now ≡ segment_items_from (heap_start_of drawn.heap + place) segments →
-        pieces.new.items ≡ pieces.old.items ++ segment_pieces (legend_of (scene_at d s step.now) drawn.heap drawn.handle) (heap_start_of drawn.heap - area_start_of drawn.heap + place) segments }
+    ensures { (d : Desk) (place : ℕ) (segments : List Segment) → IsStepOf d step.now → items.now ≡ segment_items_from (heap_start_of drawn.heap + place) segments →
+        pieces.new.items ≡ pieces.old.items ++ segment_pieces (legend_of (scene_at d step.now) drawn.heap drawn.handle) (heap_start_of drawn.heap - area_start_of drawn.heap + place) segments }
 {
     for item in items {
         pieces.push(piece_of(step, drawn, item));
@@ -189,8 +188,8 @@ fn push_items(step: &Step<'_>, drawn: Drawn, items: &[SegmentItem], pieces: &mut
 /// The piece of a segment.
 fn piece_of(step: &Step<'_>, drawn: Drawn, item: &SegmentItem) -> Piece
     requires { IsInArea drawn.heap item.now }
-    ensures { (d : Desk) (s : Share) (place : ℕ) (segment : Segment) → HasMessages d step.now → item.now ≡ segment_item (heap_start_of drawn.heap + place) segment →
-        result ≡ segment_piece (legend_of (scene_at d s step.now) drawn.heap drawn.handle) (heap_start_of drawn.heap - area_start_of drawn.heap + place) segment }
+    ensures { (d : Desk) (place : ℕ) (segment : Segment) → IsStepOf d step.now → item.now ≡ segment_item (heap_start_of drawn.heap + place) segment →
+        result ≡ segment_piece (legend_of (scene_at d step.now) drawn.heap drawn.handle) (heap_start_of drawn.heap - area_start_of drawn.heap + place) segment }
 {
     let start = area_address(drawn.heap);
     match item {
@@ -214,8 +213,8 @@ fn piece_of(step: &Step<'_>, drawn: Drawn, item: &SegmentItem) -> Piece
 /// What the block of a heap at an address is, and whether the command has changed it.
 fn block_kind(step: &Step<'_>, drawn: Drawn, address: u32, size: u32) -> (Kind, bool)
     requires { area_start_of drawn.heap ≤ address }
-    ensures { (d : Desk) (s : Share) → HasMessages d step.now →
-        result ≡ kind_and_freshness (legend_of (scene_at d s step.now) drawn.heap drawn.handle) address size }
+    ensures { (d : Desk) → IsStepOf d step.now →
+        result ≡ kind_and_freshness (legend_of (scene_at d step.now) drawn.heap drawn.handle) address size }
 {
     match drawn.heap {
         HeapOf::Task(_) => (
@@ -229,8 +228,8 @@ fn block_kind(step: &Step<'_>, drawn: Drawn, address: u32, size: u32) -> (Kind, 
 /// What the block of the module area at an address is, and whether the command has changed it.
 fn module_kind(step: &Step<'_>, address: u32, size: u32) -> (Kind, bool)
     requires { MODULE_START ≤ address }
-    ensures { (d : Desk) (s : Share) → HasMessages d step.now →
-        result ≡ kind_and_freshness (module_legend (scene_at d s step.now)) address size }
+    ensures { (d : Desk) → IsStepOf d step.now →
+        result ≡ kind_and_freshness (module_legend (scene_at d step.now)) address size }
 {
     let changed = step.marks.module_block == address;
     match message_in(step.messages, address - MODULE_START as u32) {

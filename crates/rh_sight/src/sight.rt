@@ -5,9 +5,8 @@ ghost use Rattle.std.specs.Option.{option_map};
 ghost use Rattle.rh_defs.specs.Heap.{Segment, place_after};
 ghost use Rattle.rh_defs.specs.Laws.{IsDesk};
 ghost use Rattle.rh_defs.specs.Listing.{block_items, segment_items_from};
-ghost use Rattle.rh_defs.specs.Slot.{Flex};
 ghost use Rattle.rh_defs.specs.Desk.{Desk, Made, Task, free_pages as free_pages_on, next_ref as next_ref_on};
-ghost use Rattle.rh_figure.specs.Share.{IsShared, Owner, Share};
+ghost use Rattle.rh_figure.specs.Share.{IsShared};
 ghost use Rattle.rh_sight.specs.declared.sight.TheConstants.{MOST_AT_ONCE};
 
 use arrayvec::ArrayVec;
@@ -106,14 +105,14 @@ pub enum PagesOf {
     Slot(usize),
 }
 
-/// A desk that can be looked at, and how its pool is shared out. Nothing here changes it, or takes memory.
+/// A desk that can be looked at. Nothing here changes it, or takes memory.
 pub trait Sight {
-    ghost use Rattle.rh_sight.specs.Seen.{HasBlock, IsAreaSeen, IsFree, IsTaskSeen, heap_seen, heap_start_of, owner_seen, scrap_seen};
+    ghost use Rattle.rh_sight.specs.Seen.{HasBlock, HasFlex, IsAreaSeen, IsFree, IsTaskSeen, heap_seen, heap_start_of, scrap_seen};
     ghost use Rattle.rh_sight.specs.Messages.{message_items};
+    ghost use Rattle.rh_sight.specs.Pages.{share_of};
 
-    // The desk that is seen, and which page of the pool is whose.
+    // The desk that is seen.
     ghost desk: { Self → Desk };
-    ghost share: { Self → Share };
 
     /// The task at a place in order of handle; None past the last.
     fn task(&self, i: usize) -> Option<TaskSight<'_>>
@@ -125,10 +124,10 @@ pub trait Sight {
         requires { i < length (desk self.now).tasks }
         ensures { (t : Task) → slice_get (desk self.now).tasks i ≡ Some t → items.new.items ≡ block_items t.slot };
 
-    /// Writes the first bytes of block k from below of a task, as many as there is room for.
-    fn read_block(&self, i: usize, k: usize, to: &mut [u8])
-        requires { (t : Task) × (b : Flex) × (slice_get (desk self.now).tasks i ≡ Some t) × (slice_get t.slot.blocks k ≡ Some b) × (length to.old ≤ length b.bytes) }
-        ensures { (t : Task) (b : Flex) → slice_get (desk self.now).tasks i ≡ Some t → slice_get t.slot.blocks k ≡ Some b → to.new ≡ take (length to.old) b.bytes };
+    /// Writes the first bytes of a flex block of a task, as many as there is room for.
+    fn read_block(&self, i: usize, item: &BlockItem, to: &mut [u8])
+        requires { (bytes : List ℕ) × HasFlex (slice_get (desk self.now).tasks i) item.now bytes × (length to.old ≤ length bytes) }
+        ensures { (bytes : List ℕ) → HasFlex (slice_get (desk self.now).tasks i) item.now bytes → to.new ≡ take (length to.old) bytes };
 
     /// The length of a heap.
     fn heap_end(&self, heap: HeapOf) -> u32
@@ -178,16 +177,12 @@ pub trait Sight {
     fn next_ref(&self) -> u64
         ensures { result ≡ next_ref_on (desk self.now) };
 
-    /// Puts the numbers of an owner's pages from below into a list, in place of what it held.
-    fn pages(&self, owner: PagesOf, list: &mut PageList)
-        requires { IsSome (owner_seen owner (desk self.now)) }
-        ensures { IfSome (owner_seen owner (desk self.now)) (λ o. list.new.items ≡ (share self.now).pages_of o) };
+    /// Puts the numbers of all pages of the pool into a list, in place of what it held: the free ones in the order in which
+    /// they were given back, and then those of each owner from below: areas 0 to 5, the made ones in order of number, and the
+    /// slots in order of handle.
+    fn page_list(&self, list: &mut PageList)
+        ensures { IsShared (share_of list.new.items (desk self.now)) (desk self.now) };
 
-    /// Puts the numbers of the free pages into a list, in place of what it held, in the order in which they were given back.
-    fn free_list(&self, list: &mut PageList)
-        ensures { list.new.items ≡ (share self.now).free };
-
-    // The desk is one of a run, and the pool is shared out as it says.
+    // The desk is one of a run.
     ghost is: { (s : Self) → IsDesk (desk s) };
-    ghost shared: { (s : Self) → IsShared (share s) (desk s) };
 }
