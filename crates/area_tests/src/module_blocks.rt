@@ -4,9 +4,10 @@ ghost use Rattle.std.specs.Prelude.{IfOk};
 ghost use Rattle.rh_module.specs.Area.{IsModule};
 
 use crate::same::{is_true, same};
+use arrayvec::ArrayVec;
 use rh_defs::Refusal;
 use rh_defs::sizes::PAGE;
-use rh_heap::Segment;
+use rh_heap::{SEGMENTS_AT_ONCE, Segment};
 use rh_module::Module;
 use rh_pages::PagedStore;
 use rh_store::{PlainStore, Store, StoreFault};
@@ -77,6 +78,12 @@ impl<S: Store + Drop> Bench<S> {
         requires { IsModule (S.memory self.now.store) self.now.rma }
     {
         self.rma.segment(&self.store, place)
+    }
+
+    fn segments_from(&self, place: usize) -> ArrayVec<Segment, SEGMENTS_AT_ONCE>
+        requires { IsModule (S.memory self.now.store) self.now.rma }
+    {
+        self.rma.segments_from(&self.store, place)
     }
 
     fn holds(&self, address: usize, n: usize) -> bool
@@ -151,6 +158,27 @@ fn blocks_are_listed<R: Abort, S: Store + Drop>(rt: &R, store: S) -> Result<(), 
     Ok(())
 }
 
+fn segments_are_listed<R: Abort, S: Store + Drop>(rt: &R, store: S) -> Result<(), StoreFault> {
+    let mut bench = Bench::new(store)?;
+    same(rt, bench.segments_from(16), ArrayVec::new());
+    same(rt, bench.claim(12), Ok(20));
+    same(rt, bench.claim(5), Ok(36));
+    same(rt, bench.free(20), Ok(()));
+    let mut all = ArrayVec::new();
+    for (place, used) in [(16, false), (32, true)] {
+        let _fits = all.try_push(Segment {
+            place,
+            size: 16,
+            used,
+        });
+    }
+    same(rt, bench.segments_from(16), all);
+    same(rt, bench.segments_from(32).len(), 1);
+    same(rt, bench.segments_from(20), ArrayVec::new());
+    same(rt, bench.segments_from(48), ArrayVec::new());
+    Ok(())
+}
+
 fn amounts_are_rounded_up_to_pages<R: Abort, S: Store + Drop>(
     rt: &R,
     store: S,
@@ -170,6 +198,8 @@ fn the_area_grows_and_shrinks_in_a_plain_store(rt: HostRuntime) -> Result<(), Fa
     let store = PlainStore::new(rt.alloc(), 8)?;
     blocks_are_listed(&rt, store)?;
     let store = PlainStore::new(rt.alloc(), 8)?;
+    segments_are_listed(&rt, store)?;
+    let store = PlainStore::new(rt.alloc(), 8)?;
     Ok(amounts_are_rounded_up_to_pages(&rt, store)?)
 }
 
@@ -179,6 +209,8 @@ fn the_area_grows_and_shrinks_in_scattered_pages(rt: HostRuntime) -> Result<(), 
     the_area_grows_and_shrinks(&rt, store)?;
     let store = PagedStore::new(rt.alloc(), 8)?;
     blocks_are_listed(&rt, store)?;
+    let store = PagedStore::new(rt.alloc(), 8)?;
+    segments_are_listed(&rt, store)?;
     let store = PagedStore::new(rt.alloc(), 8)?;
     Ok(amounts_are_rounded_up_to_pages(&rt, store)?)
 }

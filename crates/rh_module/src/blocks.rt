@@ -4,14 +4,16 @@ ghost use Rattle.std.specs.Option.{option_map};
 ghost use Rattle.rh_defs.specs.Chain.{no_answer};
 ghost use Rattle.rh_defs.specs.Heap.{block_around, block_size, segment_at};
 ghost use Rattle.rh_defs.specs.Module.{module_claim, module_free, module_resize, module_need_pages};
+ghost use Rattle.rh_heap.specs.Listed.{segments_from};
 ghost use Rattle.rh_heap.specs.Segments.{piece};
 ghost use Rattle.rh_module.specs.Area.{IsModule, heap_in};
 ghost use Rattle.rh_module.specs.Calls.{Leaves};
 
 use crate::module::Module;
+use arrayvec::ArrayVec;
 use rh_defs::Refusal;
 use rh_defs::sizes::pages_for;
-use rh_heap::{Segment, claim, need, release, resize, resize_need};
+use rh_heap::{SEGMENTS_AT_ONCE, Segment, claim, need, release, resize, resize_need};
 use rh_store::{Pages, Words};
 
 impl Module {
@@ -113,6 +115,18 @@ impl Module {
         ensures { result ≡ option_map piece (segment_at place (heap_in (S.memory store.now) self)) }
     {
         rh_heap::segment(store, self.span(), place)
+    }
+
+    /// Up to 64 segments in order of place, from the one that begins at `place` on; none where none begins there.
+    pub fn segments_from<S: Words>(
+        self,
+        store: &S,
+        place: usize,
+    ) -> ArrayVec<Segment, SEGMENTS_AT_ONCE>
+        requires { IsModule (S.memory store.now) self }
+        ensures { result.items ≡ segments_from place (heap_in (S.memory store.now) self) }
+    {
+        rh_heap::segments_from(store, self.span(), place)
     }
 
     /// Whether the `n` bytes at an address lie whole in one block, also where `n` is 0. Any address and any `n` may be

@@ -46,7 +46,7 @@ unfolding made_of
 made-listed m [] = refl
 made-listed m (a ∷ made) = ap (λ l. item.Area a.number (pages_at m a.area.0) ∷ l) (made-listed m made)
 
-pages-slot : (m : Memory) (s : Seat) → HasSlot m s → plain.slot_pages (slot_in m s.slot) ≡ pages_at m s.slot.area.0
+pub pages-slot : (m : Memory) (s : Seat) → HasSlot m s → plain.slot_pages (slot_in m s.slot) ≡ pages_at m s.slot.area.0
 unfolding pages_at
 pages-slot m s has = omega (arith, has.spells.pages)
 

@@ -60,6 +60,7 @@ pub mod Takings
 pub mod Scraps
 pub mod ScrapTransfers
 pub mod TransferBlocks
+pub mod SightLaws
 pub mod AcceptSteps
 pub mod TakeSaves
 pub mod Examples

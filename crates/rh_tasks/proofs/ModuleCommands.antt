@@ -81,7 +81,7 @@ unmarked (Ok x) b e = rw e refl
 unmarked (Err r) b e = refl
 
 -- where no message lies, the look is refused only where no block is there
-unmarked-is : (address : ℕ) (d : Desk) → post_is_message (address - module_start) d.post ≡ false → own_block address d ≡ found_or (block_at (address - module_start) d.post.heap) NotABlock
+pub unmarked-is : (address : ℕ) (d : Desk) → post_is_message (address - module_start) d.post ≡ false → own_block address d ≡ found_or (block_at (address - module_start) d.post.heap) NotABlock
 unfolding own_block
 unmarked-is address d e = unmarked (found_or (block_at (address - module_start) d.post.heap) NotABlock) (post_is_message (address - module_start) d.post) e
 

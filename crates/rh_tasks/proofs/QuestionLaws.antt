@@ -119,6 +119,6 @@ piece-none place h e = go (segment_at place h) e
     go (Some cut) e = absurd (cc)
 
 -- a segment as it is listed
-pub segment-listed : (place : ℕ) (g : Segment) (before after : List Segment) → segment_item_of place (piece (record { before = before; here = g; after = after })) ≡ segment_item (plain.heap_start + place) g
+pub segment-listed : (place : ℕ) (g : Segment) (before after : List Segment) → segment_item_of plain.heap_start place (piece (record { before = before; here = g; after = after })) ≡ segment_item (plain.heap_start + place) g
 segment-listed place (Used bytes) before after = ap (λ n. segment.Used (plain.heap_start + place + 4) n) (omega arith)
 segment-listed place (Hole size) before after = refl

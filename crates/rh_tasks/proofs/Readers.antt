@@ -49,12 +49,12 @@ pub listed-none : (place : ℕ) (h : Heap) → None ≡ option_map piece (segmen
 listed-none place h e =
     ap (λ o. with_sums h (option_map (λ c. segment_item (plain.heap_start + place) c.here) o)) (piece-none place h e)
 
-pub listed-some : (place : ℕ) (h : Heap) (p : Segment) (i : SegmentItem) → Some p ≡ option_map piece (segment_at place h) → i ≡ segment_item_of place p
+pub listed-some : (place : ℕ) (h : Heap) (p : Segment) (i : SegmentItem) → Some p ≡ option_map piece (segment_at place h) → i ≡ segment_item_of plain.heap_start place p
     → listed_heap place h ≡ with_sums h (Some i)
 listed-some place h p i e is =
     let at = piece-at place h p e in
     ap (λ o. with_sums h (option_map (λ c. segment_item (plain.heap_start + place) c.here) o)) at.found
-    ∙ ap (λ x. with_sums h (Some x)) (sym (is ∙ ap (segment_item_of place) (sym at.is) ∙ segment-listed place at.cut.here at.cut.before at.cut.after))
+    ∙ ap (λ x. with_sums h (Some x)) (sym (is ∙ ap (segment_item_of plain.heap_start place) (sym at.is) ∙ segment-listed place at.cut.here at.cut.before at.cut.after))
 
 -- ---- all that is told of a slot fits a word
 

@@ -1,4 +1,4 @@
--- Segments of a C heap as they are listed, many at once.
+-- Segments of a heap as they are listed, many at once.
 use Rattle.std.proofs.Common.{◌≡◌, ℕ, zero, suc, ◌+◌, ◌-◌, ◌<◌, ◌≤◌, List, [], ◌∷◌, ◌++◌, length, take, refl, sym, ap, ◌∙◌, arith, get_or}
 use Rattle.std.specs.Prelude.{Option, Some, None, IfSome, map, ◌==◌}
 use Rattle.std.specs.List.{AllByRecursion}
@@ -9,31 +9,30 @@ use Rattle.rh_defs.specs.declared.listing.SegmentItem.TheVariants as segment
 use Rattle.rh_defs.specs.Pieces.{Split, total}
 use Rattle.rh_defs.specs.Heap as heap
 use Rattle.rh_defs.specs.Heap.{Heap, Used, Hole, size_of, segment_at, first_place, base}
-use Rattle.rh_defs.specs.Slot.{heap_start}
 use Rattle.rh_defs.specs.Listing.{segment_item, segment_items_from}
 use Rattle.rh_defs.proofs.Cuts.{IsCut, first_at-cuts, cut-total}
 use Rattle.rh_heap.specs.declared.layout.Segment.{Segment}
 use Rattle.rh_heap.specs.Image.{listed}
 use Rattle.rh_heap.specs.Listed.{from_cut, segments_from}
 use Rattle.rh_tasks.specs.Items.{placed_item, IsSmall}
-use Rattle.rh_tasks.specs.Lists.{segment_items_at}
+use Rattle.rh_tasks.specs.Lists.{items_at}
 use Rattle.rh_store.specs.Limits.{area_limit}
 
-items_listed : (place : ℕ) (gs : List heap.Segment) → map placed_item (listed place gs) ≡ segment_items_from (heap_start + place) gs
-items_listed place [] = refl
-items_listed place (Used bytes ∷ gs) =
-    let next : heap_start + (place + (4 + length bytes)) ≡ heap_start + place + (4 + length bytes) = omega arith in
+items_listed : (start place : ℕ) (gs : List heap.Segment) → map (placed_item start) (listed place gs) ≡ segment_items_from (start + place) gs
+items_listed start place [] = refl
+items_listed start place (Used bytes ∷ gs) =
+    let next : start + (place + (4 + length bytes)) ≡ start + place + (4 + length bytes) = omega arith in
     let size : 4 + length bytes - 4 ≡ length bytes = omega arith in
-    ap (λ n. segment.Used (heap_start + place + 4) n ∷ map placed_item (listed (place + (4 + length bytes)) gs)) size
-    ∙ ap (λ l. segment_item (heap_start + place) (Used bytes) ∷ l) (items_listed (place + (4 + length bytes)) gs ∙ ap (λ p. segment_items_from p gs) next)
-items_listed place (Hole n ∷ gs) =
-    let next : heap_start + (place + n) ≡ heap_start + place + n = omega arith in
-    ap (λ l. segment_item (heap_start + place) (Hole n) ∷ l) (items_listed (place + n) gs ∙ ap (λ p. segment_items_from p gs) next)
+    ap (λ n. segment.Used (start + place + 4) n ∷ map (placed_item start) (listed (place + (4 + length bytes)) gs)) size
+    ∙ ap (λ l. segment_item (start + place) (Used bytes) ∷ l) (items_listed start (place + (4 + length bytes)) gs ∙ ap (λ p. segment_items_from p gs) next)
+items_listed start place (Hole n ∷ gs) =
+    let next : start + (place + n) ≡ start + place + n = omega arith in
+    ap (λ l. segment_item (start + place) (Hole n) ∷ l) (items_listed start (place + n) gs ∙ ap (λ p. segment_items_from p gs) next)
 
 -- the segments that a heap gives, as they are listed
-pub items_from : (place : ℕ) (h : Heap) → map placed_item (segments_from place h) ≡ segment_items_at place h
-items_from place h =
-    sym (take-map placed_item 64 (listed place (from_cut (segment_at place h)))) ∙ ap (take 64) (items_listed place (from_cut (segment_at place h)))
+pub items_from : (start place : ℕ) (h : Heap) → map (placed_item start) (segments_from place h) ≡ items_at start place h
+items_from start place h =
+    sym (take-map (placed_item start) 64 (listed place (from_cut (segment_at place h)))) ∙ ap (take 64) (items_listed start place (from_cut (segment_at place h)))
 
 -- ---- they are small
 
@@ -65,13 +64,14 @@ is_small [] i d all l = absurd (omega arith)
 is_small (y ∷ xs) zero d all l = all.0
 is_small (y ∷ xs) (suc i) d all l = is_small xs i d all.1 (omega arith)
 
-pub listed_more : (xs : List Segment) (i : ℕ) (d : Segment) (items : List SegmentItem) → items ≡ map placed_item (take i xs) → i < length xs → items ++ placed_item (get_or xs i d) ∷ [] ≡ map placed_item (take (i + 1) xs)
-listed_more xs i d items is l =
-    ap (λ z. z ++ placed_item (get_or xs i d) ∷ []) is
-    ∙ (sym (map-append placed_item (take i xs) (get_or xs i d ∷ [])) ∙ ap (map placed_item) (sym (take_more xs i d l)))
+pub listed_more : (start : ℕ) (xs : List Segment) (i : ℕ) (d : Segment) (items : List SegmentItem) → items ≡ map (placed_item start) (take i xs) → i < length xs
+    → items ++ placed_item start (get_or xs i d) ∷ [] ≡ map (placed_item start) (take (i + 1) xs)
+listed_more start xs i d items is l =
+    ap (λ z. z ++ placed_item start (get_or xs i d) ∷ []) is
+    ∙ (sym (map-append (placed_item start) (take i xs) (get_or xs i d ∷ [])) ∙ ap (map (placed_item start)) (sym (take_more xs i d l)))
 
-pub listed_few : (xs : List Segment) (i : ℕ) (items : List SegmentItem) → items ≡ map placed_item (take i xs) → i < length xs → length xs ≤ 64 → length items < 64
-listed_few xs i items is l few = omega (arith, ap length is, length-map (take i xs) placed_item, length-take i xs)
+pub listed_few : (start : ℕ) (xs : List Segment) (i : ℕ) (items : List SegmentItem) → items ≡ map (placed_item start) (take i xs) → i < length xs → length xs ≤ 64 → length items < 64
+listed_few start xs i items is l few = omega (arith, ap length is, length-map (take i xs) (placed_item start), length-take i xs)
 
-pub listed_all : (xs : List Segment) (i : ℕ) (items : List SegmentItem) → items ≡ map placed_item (take i xs) → length xs ≤ i → items ≡ map placed_item xs
-listed_all xs i items is l = is ∙ ap (map placed_item) (take_all i xs l)
+pub listed_all : (start : ℕ) (xs : List Segment) (i : ℕ) (items : List SegmentItem) → items ≡ map (placed_item start) (take i xs) → length xs ≤ i → items ≡ map (placed_item start) xs
+listed_all start xs i items is l = is ∙ ap (map (placed_item start)) (take_all i xs l)

@@ -149,11 +149,11 @@ module _ {m : Memory} {seats : List Seat} {made : List MadeArea} {files : FileLi
   abbrev pub d : Desk
   d = desk_of m seats made files kept
 
-  no-task : (h : ℕ) → position (λ (s : Seat). s.handle == h) seats ≡ None → task_at h d ≡ None
+  pub no-task : (h : ℕ) → position (λ (s : Seat). s.handle == h) seats ≡ None → task_at h d ≡ None
   unfolding task_of
   no-task h e = find-map (task_of m) (λ (t : Task). t.handle == h) seats (find-none (λ (s : Seat). s.handle == h) seats e)
 
-  a-task : {h i : ℕ} {s : Seat} → SeatOf seats h i s → task_at h d ≡ Some (task_of m s)
+  pub a-task : {h i : ℕ} {s : Seat} → SeatOf seats h i s → task_at h d ≡ Some (task_of m s)
   unfolding task_of
   a-task {s = s} a =
       let P : ℕ → Type 0 = λ k. task_at k d ≡ Some (task_of m s) in

@@ -1,7 +1,6 @@
 -- Items of lists, from what the world keeps.
 use Rattle.std.specs.Prelude.{ℕ, ◌+◌, ◌-◌, ◌≤◌, if◌then◌else◌, List, ◌++◌, map}
 use Rattle.rh_defs.specs.Memory.{Memory}
-use Rattle.rh_defs.specs.Slot.{heap_start}
 use Rattle.rh_defs.specs.declared.listing.AreaItem.{AreaItem}
 use Rattle.rh_defs.specs.declared.listing.AreaItem.TheVariants as item
 use Rattle.rh_defs.specs.declared.listing.SegmentItem.{SegmentItem}
@@ -35,14 +34,14 @@ slot_items m seats = map (λ (s : Seat). item.Slot s.name (pages_at m s.slot.are
 abbrev pub items_in : Memory → List Seat → List MadeArea → List AreaItem
 items_in m seats made = fixed_items m ++ made_items m made ++ slot_items m seats
 
--- a segment that begins at a place of a C heap
-abbrev pub segment_item_of : ℕ → Segment → SegmentItem
-segment_item_of place s =
-    if s.used then segment.Used (heap_start + place + 4) (s.size - 4) else segment.Hole (heap_start + place) s.size
+-- a segment that begins at a place of a heap, by the heap's address
+abbrev pub segment_item_of : ℕ → ℕ → Segment → SegmentItem
+segment_item_of start place s =
+    if s.used then segment.Used (start + place + 4) (s.size - 4) else segment.Hole (start + place) s.size
 
 -- the same of a segment that knows its place
-abbrev pub placed_item : Segment → SegmentItem
-placed_item s = segment_item_of s.place s
+abbrev pub placed_item : ℕ → Segment → SegmentItem
+placed_item start s = segment_item_of start s.place s
 
 -- a segment whose place and size are small enough for an address
 abbrev pub IsSmall : Segment → Type 0

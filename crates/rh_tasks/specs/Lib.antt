@@ -9,3 +9,4 @@ pub mod Letters
 pub mod Saves
 pub mod Polls
 pub mod TransferBlock
+pub mod Sights

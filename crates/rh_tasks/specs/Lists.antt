@@ -10,9 +10,13 @@ use Rattle.rh_defs.specs.Listing.{block_items, segment_items_from}
 use Rattle.rh_heap.specs.Listed.{from_cut}
 use Rattle.rh_heap.specs.declared.span.list.TheConstants.{SEGMENTS_AT_ONCE}
 
--- up to 64 segments of a C heap, from the one that begins at a place on
+-- up to 64 segments of the heap at an address, from the one that begins at a place on
+abbrev pub items_at : ℕ → ℕ → Heap → List SegmentItem
+items_at start place h = take SEGMENTS_AT_ONCE (segment_items_from (start + place) (from_cut (segment_at place h)))
+
+-- the same of a C heap
 abbrev pub segment_items_at : ℕ → Heap → List SegmentItem
-segment_items_at place h = take SEGMENTS_AT_ONCE (segment_items_from (heap_start + place) (from_cut (segment_at place h)))
+segment_items_at place h = items_at heap_start place h
 
 -- the task's blocks from below
 unfoldable pub blocks_of : Desk → List ℕ → Granted (List BlockItem)

@@ -21,10 +21,14 @@ mod scrap;
 mod scrap_transfers;
 mod seat;
 mod seats;
+mod sights;
 mod tasks;
 mod transfer_block;
 mod transfers;
 mod world;
 
 pub use listing::{AreaEntry, HeapSums};
+pub use scrap::ScrapFile;
+pub use seat::SentLetter;
+pub use sights::{MadeSight, TaskSight};
 pub use world::World;

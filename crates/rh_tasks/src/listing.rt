@@ -35,7 +35,7 @@ pub type HeapSums = (u32, u32, u32);
 
 /// How many pages an area has.
 #[tactic(auto, unfolding(crate::specs::View::pages_at))]
-fn pages_in<S: Store>(store: &S, area: AreaId) -> u32
+pub fn pages_in<S: Store>(store: &S, area: AreaId) -> u32
     requires { IsOpen (S.memory store.now) area.0 }
     ensures { result ≡ pages_at (S.memory store.now) area.0 }
 {
@@ -111,13 +111,14 @@ fn area_item<S: Store>(
     }
 }
 
-/// A segment that begins at a place of the C heap, as it is listed.
-fn segment_item(place: u32, segment: Segment) -> SegmentItem
+/// A segment that begins at a place of a heap, as it is listed, by the heap's address.
+fn segment_item(start: u32, place: u32, segment: Segment) -> SegmentItem
+    requires start { start ≤ area_limit }
     requires low { place ≤ area_limit }
     requires small { segment.size ≤ area_limit }
-    ensures { result ≡ segment_item_of place segment }
+    ensures { result ≡ segment_item_of start place segment }
 {
-    let address = C_HEAP_START as u32 + place;
+    let address = start + place;
     let size = segment.size as u32;
     if segment.used {
         return SegmentItem::Used {
@@ -128,15 +129,16 @@ fn segment_item(place: u32, segment: Segment) -> SegmentItem
     SegmentItem::Hole { address, size }
 }
 
-/// Segments of a C heap, as they are listed.
-fn segment_items(segments: &[Segment]) -> ArrayVec<SegmentItem, SEGMENTS_AT_ONCE>
+/// Segments of a heap, as they are listed, by the heap's address.
+pub fn segment_items(start: u32, segments: &[Segment]) -> ArrayVec<SegmentItem, SEGMENTS_AT_ONCE>
+    requires start { start ≤ area_limit }
     requires few { length segments.now ≤ SEGMENTS_AT_ONCE }
     requires small { AllByRecursion IsSmall segments.now }
-    ensures { result.items ≡ map placed_item segments.now }
+    ensures { result.items ≡ map (placed_item start) segments.now }
 {
     let mut items = ArrayVec::new();
     for segment in segments {
-        items.push(segment_item(segment.place as u32, *segment));
+        items.push(segment_item(start, segment.place as u32, *segment));
     }
     items
 }
@@ -195,7 +197,7 @@ impl<S: Store> World<S> {
         let Some(segment) = slot.segment(&self.store, place as usize) else {
             return Ok((sums, None));
         };
-        Ok((sums, Some(segment_item(place, segment))))
+        Ok((sums, Some(segment_item(C_HEAP_START as u32, place, segment))))
     }
 
     /// Up to 64 segments of the task's C heap in order of place, from the one that begins at `place` on, in bytes from
@@ -210,7 +212,7 @@ impl<S: Store> World<S> {
     {
         let slot = slot_of(&self.seats, name)?;
         let segments = slot.segments_from(&self.store, place as usize);
-        Ok(segment_items(&segments))
+        Ok(segment_items(C_HEAP_START as u32, &segments))
     }
 
     /// The size in bytes of the task's block at the anchor (flex_size), and its bytes from an offset on; NoName,
@@ -270,7 +272,7 @@ impl<S: Store> World<S> {
     }
 
     /// How many pages are free.
-    pub(crate) fn free_pages(&self) -> u32
+    pub fn free_pages(&self) -> u32
         ensures { result ≡ free_pages_on self.now.desk }
     {
         self.store.free_pages() as u32

@@ -27,7 +27,7 @@ impl<S: Store> World<S> {
 
     /// The place of the address in the module area, where no message lies: NotABlock, NotYours. Whether a block is there,
     /// the module area's own call finds out.
-    fn own_place(&self, address: u32) -> Result<usize, Refusal>
+    pub(crate) fn own_place(&self, address: u32) -> Result<usize, Refusal>
         ensures ok { IfOk result (λ place. (place ≡ address - module_start) × (post_is_message (address - module_start) self.now.desk.post ≡ false)) }
         ensures err { IfErr result (λ e. own_block address self.now.desk ≡ Err e) }
     {

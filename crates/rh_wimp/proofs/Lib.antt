@@ -22,3 +22,5 @@ pub mod OrderLaws
 pub mod PostInLaws
 pub mod PostCalls
 pub mod BesideLaws
+pub mod ItemLaws
+pub mod PeekLaws

@@ -4,4 +4,5 @@ pub mod Searches
 pub mod Deaths
 pub mod Calls
 pub mod PostIn
+pub mod Items
 pub mod Laws

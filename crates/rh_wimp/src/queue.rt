@@ -15,7 +15,7 @@ use std::alloc::{AllocError, Global};
 use std::marker::Model;
 
 /// At most so many messages are live: queued, or held.
-pub(crate) const MOST_MESSAGES: usize = 256;
+pub const MOST_MESSAGES: usize = 256;
 
 /// For each live task a chain of messages in blocks of the module area, and the message that it holds.
 #[derive(Drop)]
@@ -61,6 +61,13 @@ impl Queue {
             live: 0,
             next_ref: u64::from(next_ref.0),
         })
+    }
+
+    /// The ref that is given next; 2^32 where all were given.
+    pub fn next_ref(&self) -> u64
+        ensures { result ≡ self.now.next_ref }
+    {
+        self.next_ref
     }
 
     /// Makes a handle live.

@@ -1,9 +1,11 @@
 //! Messages out of blocks.
-ghost use Rattle.std.specs.Prelude.{◌≡◌, length};
+ghost use Rattle.std.specs.Prelude.{◌≡◌, ℕ, length};
 ghost use Rattle.rh_defs.specs.Memory.{Memory};
 ghost use Rattle.rh_module.specs.Area.{IsModule};
 ghost use Rattle.rh_wimp.specs.Chains.{LiesAt};
-ghost use Rattle.rh_defs.specs.Messages.{Parcel};
+ghost use Rattle.rh_wimp.specs.Items.{LinksAt};
+ghost use Rattle.rh_defs.specs.Bytes.{put};
+ghost use Rattle.rh_defs.specs.Messages.{Parcel, encoded};
 ghost use Rattle.rh_wimp.specs.declared.layout.TheConstants.{MOST_LENGTH};
 
 use crate::decoding::decode;
@@ -41,5 +43,27 @@ pub fn read_code<S: Words>(store: &S, rma: Module, block: usize) -> EventCode
     requires lies { (p : Parcel) × LiesAt (S.memory store.now) rma block p }
     ensures { (p : Parcel) → LiesAt (S.memory store.now) rma block p → result ≡ p.code }
 {
+    code_in(store, rma, block)
+}
+
+/// The event code of the message that lies in a block, whatever it links to.
+pub fn code_in<S: Words>(store: &S, rma: Module, block: usize) -> EventCode
+    requires module { IsModule (S.memory store.now) rma }
+    requires lies { (link : ℕ) × ((p : Parcel) × LinksAt (S.memory store.now) rma block link p) }
+    ensures { (link : ℕ) (p : Parcel) → LinksAt (S.memory store.now) rma block link p → result ≡ p.code }
+{
     EventCode::from_number(rma.read_word(store, block, CODE)).unwrap()
+}
+
+/// Writes the message block of the message that lies in a block, whatever it links to, to the start of a buffer with
+/// room for it.
+pub fn copy_block<S: Words>(store: &S, rma: Module, block: usize, to: &mut [u8])
+    requires module { IsModule (S.memory store.now) rma }
+    requires room { length to.old ≡ MOST_LENGTH }
+    requires lies { (link : ℕ) × ((p : Parcel) × LinksAt (S.memory store.now) rma block link p) }
+    ensures { (link : ℕ) (p : Parcel) → LinksAt (S.memory store.now) rma block link p → to.new ≡ put to.old 0 (encoded p.message) }
+{
+    let length = rma.read_word(store, block, MESSAGE) as usize;
+    let bytes = &mut to[..length];
+    rma.read_bytes(store, block, MESSAGE, bytes);
 }

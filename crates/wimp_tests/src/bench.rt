@@ -2,6 +2,7 @@
 
 ghost use Rattle.std.specs.Prelude.{◌≡◌, [], ◌∷◌, IfOk};
 ghost use Rattle.rh_wimp.specs.Calls.{handles_of, IsQueue};
+ghost use Rattle.rh_wimp.specs.Chains.{HasEntry};
 ghost use Rattle.rh_defs.specs.Memory.{Memory};
 ghost use Rattle.rh_module.specs.Area.{IsModule};
 ghost use Rattle.rh_module.specs.declared.module.Module.{Module as SpecModule};
@@ -9,10 +10,11 @@ ghost use Rattle.wimp_tests.specs.Runs.{Runs};
 
 use crate::lists::{Lists, Sent};
 use crate::same::same;
-use rh_defs::{Body, EventCode, FileData, Handle, Letter, Pathname, Ref, Refusal};
+use arrayvec::ArrayVec;
+use rh_defs::{Body, EventCode, FileData, Handle, Letter, Message, Pathname, Ref, Refusal};
 use rh_module::Module;
 use rh_store::{Store, StoreFault};
-use rh_wimp::Queue;
+use rh_wimp::{MOST_LENGTH, MessageItem, Queue, decode};
 use std::alloc::{AllocError, Global};
 use std::process::Abort;
 use std::test::Fail;
@@ -61,6 +63,25 @@ pub(crate) fn recorded(from: u32, to: u32) -> Sent
     }
 }
 
+/// What is told of a message in a list: its code, who sent it, whom it is for, its ref, and whether it is held.
+type Told = (EventCode, u32, u32, u32, bool);
+
+fn listed(item: &MessageItem) -> Told {
+    let MessageItem {
+        to,
+        from,
+        my_ref,
+        code,
+        held,
+        ..
+    } = *item;
+    (code, from.0, to.0, my_ref.0, held)
+}
+
+fn expected(sent: &Sent, held: bool) -> Told {
+    (sent.code, sent.from, sent.to, sent.my_ref, held)
+}
+
 /// Joins tasks 1, 2 and 3 to an empty queue.
 pub(crate) fn three(queue: &mut Queue)
     requires { handles_of queue.old ≡ [] }
@@ -80,6 +101,41 @@ fn started<S: Store>(store: &mut S) -> Result<Module, StoreFault>
     let area = store.open()?;
     store.grow(area, 1)?;
     Ok(Module::start(store, area))
+}
+
+/// Compares items from a place on with the messages for tasks 1 to 3, task by task, and answers the place behind them.
+fn compare_tasks(
+    rt: &impl Abort,
+    items: &[MessageItem],
+    sent: &Vec<Sent>,
+    held: bool,
+    from: usize,
+) -> usize {
+    let mut at = from;
+    for task in 1..4 {
+        at = compare_task(rt, items, sent, held, task, at);
+    }
+    at
+}
+
+/// Compares items from a place on with the messages for a task, and answers the place behind them.
+fn compare_task(
+    rt: &impl Abort,
+    items: &[MessageItem],
+    sent: &Vec<Sent>,
+    held: bool,
+    task: u32,
+    from: usize,
+) -> usize {
+    let mut at = from;
+    for one in sent {
+        if one.to == task {
+            let found = items.get(at).map(|item| listed(item));
+            same(rt, found, Some(expected(one, held)));
+            at = at.saturating_add(1);
+        }
+    }
+    at
 }
 
 impl<S: Store + Drop> Bench<S> {
@@ -134,8 +190,12 @@ impl<S: Store + Drop> Bench<S> {
             return Ok(());
         }
         let expected = self.lists.poll(task)?;
+        let peeked = self.peek(task);
         match self.queue.poll(&mut self.store, self.rma, Handle(task)) {
-            None => same(rt, expected, None),
+            None => {
+                same(rt, peeked, None);
+                same(rt, expected, None);
+            }
             Some(event) => {
                 let taken = Sent {
                     code: event.code,
@@ -145,9 +205,22 @@ impl<S: Store + Drop> Bench<S> {
                     your_ref: event.message.your_ref.0,
                 };
                 same(rt, expected, Some(taken));
+                same(rt, peeked, Some((event.code, Some(event.message))));
             }
         }
         Ok(())
+    }
+
+    /// What the next poll of a live task would hand out, read off the block that is lent for it.
+    fn peek(&self, task: u32) -> Option<(EventCode, Option<Message>)>
+        requires runs { Runs (S.memory self.now.store) self.now.rma self.now.queue self.now.lists.live.items }
+        requires live { HasEntry task self.now.queue }
+    {
+        let mut block = [0xff; MOST_LENGTH];
+        let code = self
+            .queue
+            .peek(&self.store, self.rma, Handle(task), &mut block)?;
+        Some((code, decode(&block).ok()))
     }
 
     /// Ends a task, if it is live.
@@ -168,6 +241,17 @@ impl<S: Store + Drop> Bench<S> {
         requires { Runs (S.memory self.now.store) self.now.rma self.now.queue self.now.lists.live.items }
     {
         self.queue.is_message(&self.store, self.rma, block)
+    }
+
+    /// Compares the list of all messages.
+    pub(crate) fn compare_listed(&self, rt: &impl Abort)
+        requires { Runs (S.memory self.now.store) self.now.rma self.now.queue self.now.lists.live.items }
+    {
+        let mut items = ArrayVec::new();
+        self.queue.list(&self.store, self.rma, &mut items);
+        let waiting = compare_tasks(rt, &items, &self.lists.queued, false, 0);
+        let all = compare_tasks(rt, &items, &self.lists.held, true, waiting);
+        same(rt, items.len(), all);
     }
 
     /// Compares what is live, for refs from 1 on.

@@ -137,6 +137,7 @@ fn steps<S: Store + Drop>(
             bench.poll(rt, choice(next(number), 3) + 1)?;
         }
         bench.compare(rt, 100);
+        bench.compare_listed(rt);
     }
     Ok(())
 }

@@ -12,6 +12,8 @@ mod replies;
 #[cfg(test)]
 mod same;
 #[cfg(test)]
+mod sights;
+#[cfg(test)]
 mod stores;
 #[cfg(test)]
 mod transfers;

@@ -6,12 +6,12 @@ pub segment_item-requires-clause-low : goal.segment_item-requires-clause-low
 segment_item-requires-clause-low c = (is_small _ c.loop-segment.segment-index _ c.requires.small c.loop-segment-test.true).0
 
 pub push-requires : goal.push-requires
-push-requires c = (omega arith, listed_few _ c.loop-segment.segment-index _ c.loop-segment.invariant c.loop-segment-test.true c.requires.few)
+push-requires c = (omega arith, listed_few _ _ c.loop-segment.segment-index _ c.loop-segment.invariant c.loop-segment-test.true c.requires.few)
 
 pub loop-segment-preserved : goal.loop-segment-preserved
 loop-segment-preserved c =
     c.push.ensures.items
-    ∙ (ap (λ x. c.loop-segment.items.items ++ x ∷ []) c.segment_item.ensures ∙ listed_more _ c.loop-segment.segment-index _ _ c.loop-segment.invariant c.loop-segment-test.true)
+    ∙ (ap (λ x. c.loop-segment.items.items ++ x ∷ []) c.segment_item.ensures ∙ listed_more _ _ c.loop-segment.segment-index _ _ c.loop-segment.invariant c.loop-segment-test.true)
 
 pub returns : goal.returns
-returns c = listed_all _ c.loop-segment.segment-index _ c.loop-segment.invariant c.loop-segment-test.false
+returns c = listed_all _ _ c.loop-segment.segment-index _ c.loop-segment.invariant c.loop-segment-test.false

@@ -1,33 +1,8 @@
-use Rattle.std.proofs.Common.{◌≡◌, refl, sym, ap, subst, ◌∙◌, arith}
-use Rattle.std.specs.Prelude.{Option, Some, IsSome}
-use Rattle.rh_defs.specs.Messages.{Parcel, code_at, code_number}
-use Rattle.rh_defs.specs.declared.message.EventCode.{EventCode}
-use Rattle.rh_defs.specs.declared.message.EventCode.TheVariants.{User, Recorded, Acknowledge}
-use Rattle.rh_defs.proofs.BlockLaws.{has-less}
-use Rattle.rh_module.specs.Area.{heap_in}
-use Rattle.rh_wimp.specs.Chains.{LiesAt}
-use Rattle.rh_wimp.proofs.PollLaws.{lies-code, lies-has}
+use Rattle.std.proofs.Common.{refl, arith}
 use Rattle.rh_wimp.proofs.reading.read_code.Goals as goal
-use Rattle.rh_wimp.proofs.reading.read_code.Goals.{After-from_number}
-use Rattle.rh_wimp.proofs.reading.read_code.Given as given
 
-pub read_word-requires-clause-block : goal.read_word-requires-clause-block
-read_word-requires-clause-block g c =
-    let m = g.S.Words.memory c.args.store.now in
-    let l = c.requires.lies in
-    has-less c.args.block 24 8 (heap_in m c.args.rma) (omega arith) (lies-has m c.args.rma c.args.block l.0 l.1)
-
-known : (code : EventCode) → code_at (code_number code) ≡ Some code
-known User = refl
-known Recorded = refl
-known Acknowledge = refl
-
--- the code that is read
-found : (g : given.Over) (c : After-from_number g) (p : Parcel) → LiesAt (g.S.Words.memory c.args.store.now) c.args.rma c.args.block p → c.from_number.result ≡ Some p.code
-found g c p w = c.from_number.ensures ∙ ap code_at (lies-code (g.S.Words.memory c.args.store.now) c.args.rma c.args.block p w c.read_word.result c.read_word.ensures) ∙ known p.code
-
-pub unwrap-requires : goal.unwrap-requires
-unwrap-requires g c = let l = c.requires.lies in subst IsSome (sym (found g (goal.at.unwrap-requires g c).After-from_number l.0 l.1)) refl
+pub code_in-requires-clause-lies : goal.code_in-requires-clause-lies
+code_in-requires-clause-lies g c = let l = c.requires.lies in (0, (l.0, record { lies = l.1.lies; block_is = l.1.block_is; small = omega arith }))
 
 pub returns : goal.returns
-returns g c = λ p w. let e : ◌≡◌ {A = Option EventCode} (Some c.unwrap.result) (Some p.code) = sym c.unwrap.ensures ∙ found g (goal.at.returns g c).After-from_number p w in cc
+returns g c = λ p w. c.code_in.ensures 0 p (record { lies = w.lies; block_is = w.block_is; small = omega arith })

@@ -3,6 +3,7 @@ use Rattle.std.specs.Prelude.{Ok}
 use Rattle.std.proofs.lemmas.Result.{err_from_is_err_and}
 use Rattle.rh_defs.specs.declared.listing.SegmentItem.{SegmentItem}
 use Rattle.rh_defs.specs.Chain.{Granted}
+use Rattle.rh_defs.specs.Slot.{heap_start}
 use Rattle.rh_slot.specs.Area.{slot_in}
 use Rattle.rh_tasks.specs.Lists.{segment_items_at, segments_of}
 use Rattle.rh_tasks.proofs.Chains.{ends}
@@ -30,4 +31,4 @@ unfolding segments_of
 returns-clause-ok g c =
     rw (← c.self.view_is, c.segment_items.ensures, c.deref.ensures.0, c.segments_from-segments.ensures)
     (of-slot c.self.invariant.0 c.in_ok-slot.ensures.ok (λ s. let r : Granted (List SegmentItem) = Ok (segment_items_at c.args.place s.heap) in r)
-    ∙ ap Ok (sym (items_from c.args.place (slot_in (g.S.Words.memory c.self.inside.store) c.in_ok-slot.slot).heap)))
+    ∙ ap Ok (sym (items_from heap_start c.args.place (slot_in (g.S.Words.memory c.self.inside.store) c.in_ok-slot.slot).heap)))

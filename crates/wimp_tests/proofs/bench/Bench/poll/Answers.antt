@@ -6,3 +6,7 @@ use Rattle.wimp_tests.proofs.bench.Bench.poll.Goals as goal
 pub poll-requires-2-clause-live : goal.poll-requires-2-clause-live
 poll-requires-2-clause-live g c =
     HasEntry-from_handles c.args.task c.args.self.now.queue (ap (list_any (λ h. h == c.args.task)) c.requires.handles ∙ sym c.if-not-is_live.ensures)
+
+pub peek-peeked-requires-clause-live : goal.peek-peeked-requires-clause-live
+peek-peeked-requires-clause-live g c =
+    HasEntry-from_handles c.args.task c.args.self.now.queue (ap (list_any (λ h. h == c.args.task)) c.requires.handles ∙ sym c.if-not-is_live.ensures)

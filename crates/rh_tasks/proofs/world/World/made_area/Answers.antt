@@ -1,0 +1,27 @@
+use Rattle.std.proofs.Common.{refl, sym, ap, ◌∙◌, arith}
+use Rattle.std.specs.Prelude.{Some}
+use Rattle.rh_tasks.specs.View.{made_of}
+use Rattle.rh_tasks.proofs.Lists.{Sits}
+use Rattle.rh_tasks.proofs.SightLaws.{made-there, no-made-there}
+use Rattle.rh_tasks.proofs.world.World.made_area.Goals as goal
+use Rattle.rh_tasks.proofs.world.World.made_area.Goals.{After-index-area}
+use Rattle.rh_tasks.proofs.world.World.made_area.Given as given
+
+pub returns-then-i-len-clause-area : goal.returns-then-i-len-clause-area
+returns-then-i-len-clause-area g c =
+    rw (← c.self.view_is) (sym (no-made-there c.self.invariant.0 c.args.i (omega (arith, c.if-i-len.true, c.len.ensures, c.self.inside.made.ok))))
+
+pub returns-then-i-len-clause-few : goal.returns-then-i-len-clause-few
+returns-then-i-len-clause-few g c = rw (← c.self.view_is) c.self.invariant.0.desk.made.few
+
+-- the made area that is looked at
+at : (g : given.Over) (c : After-index-area g) → Sits c.self.inside.made.items c.args.i c.index-area.result.now
+at g c = record { inside = omega (arith, c.if-i-len.false, c.len.ensures, c.self.inside.made.ok); is = sym c.index-area.ensures }
+
+pub returns-clause-area : goal.returns-clause-area
+unfolding made_of
+returns-clause-area g c =
+    rw (← c.self.view_is, c.pages_in.ensures) (sym (made-there c.self.invariant.0 (at g (goal.at.returns-clause-area g c).After-index-area)))
+
+pub returns-clause-few : goal.returns-clause-few
+returns-clause-few g c = rw (← c.self.view_is) c.self.invariant.0.desk.made.few

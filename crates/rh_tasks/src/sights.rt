@@ -1,0 +1,229 @@
+//! What is read of the desk beside what its questions answer: tasks, made areas and messages as they stand, and the bytes
+//! of blocks. Nothing changes, and no memory is taken.
+
+ghost use Rattle.std.specs.Prelude.{◌≡◌, ◌+◌, ◌≤◌, ◌↔◌, Ok, Err, IfErr, IfOk, IfSome, IsTrue, OnOk, length, slice_get};
+ghost use Rattle.std.specs.Option.{option_map};
+ghost use Rattle.std.specs.Result.{MatchResult};
+ghost use Rattle.rh_defs.specs.Commands.{module_start};
+ghost use Rattle.rh_defs.specs.Desk.{next_ref as next_ref_on, task_at};
+ghost use Rattle.rh_defs.specs.Messages.{Parcel};
+ghost use Rattle.rh_wimp.specs.Items.{message_items, with_message};
+ghost use Rattle.rh_tasks.specs.Lists.{items_at};
+ghost use Rattle.rh_tasks.specs.Sights.{IsSeen, blocks_in, file_of, made_of_sight, module_shown, next_message as next_message_on, segments_in, slot_bytes};
+
+use crate::listing::{HeapSums, pages_in, segment_items};
+use crate::module_area::MODULE;
+use crate::outgoing::with_handle;
+use crate::scrap::ScrapFile;
+use crate::seat::SentLetter;
+use crate::seats::find;
+use crate::world::World;
+use arrayvec::ArrayVec;
+use rh_defs::sizes::{ANCHORS, C_HEAP_START, MODULE_START, SLOT_START};
+use rh_defs::{
+    BlockItem, EventCode, Handle, Incoming, Manner, Name, Outgoing, Refusal, SegmentItem,
+};
+use rh_heap::SEGMENTS_AT_ONCE;
+use rh_store::Store;
+use rh_wimp::{MOST_LENGTH, MOST_MESSAGES, MessageItem};
+
+/// A live task, lent where the world keeps it.
+#[derive(Clone, Copy)]
+pub struct TaskSight<'a> {
+    pub handle: Handle,
+    pub name: &'a Name,
+    /// The bytes of its receive buffer.
+    pub buffer: u32,
+    pub manner: Manner,
+    /// The pages of its slot.
+    pub pages: u32,
+    /// Whether its flex blocks give way to its C heap.
+    pub budging: bool,
+    /// Its C heap's length, largest free block and free bytes (OS_Heap 1).
+    pub heap: HeapSums,
+    /// The records of its transfers that go out, in the order made.
+    pub sending: &'a [Outgoing],
+    /// The records of its transfers that come in, in the order made.
+    pub taking: &'a [Incoming],
+    /// The last letter that it sent.
+    pub last_sent: Option<&'a SentLetter>,
+}
+
+/// An area that was made at run.
+#[derive(Clone, Copy, Debug, PartialEq, Eq)]
+pub struct MadeSight {
+    /// The number that commands name it by, from 256 on.
+    pub number: u32,
+    /// The most pages that it may have.
+    pub most: u32,
+    /// The pages that it has.
+    pub pages: u32,
+}
+
+/// Whether `n` bytes from an offset on lie in a block of `size` bytes.
+fn fits(size: usize, offset: usize, n: usize) -> bool
+    ensures { IsTrue result ↔ (offset + n ≤ size) }
+{
+    offset <= size && n <= size - offset
+}
+
+impl<S: Store> World<S> {
+    /// Live task i in order of handle; None past the last of at most 32.
+    pub fn task(&self, i: usize) -> Option<TaskSight<'_>>
+        ensures task { IsSeen result (slice_get self.now.desk.tasks i) }
+        ensures live { IfSome result (λ s. task_at s.handle self.now.desk ≡ slice_get self.now.desk.tasks i) }
+        ensures few { length self.now.desk.tasks ≤ 32 }
+    {
+        if i >= self.seats.len() {
+            return None;
+        }
+        let seat = &self.seats[i];
+        let (length, largest, free) = seat.slot.describe(&self.store);
+        let heap = (length as u32, largest as u32, free as u32);
+        Some(TaskSight {
+            handle: seat.handle,
+            name: &seat.name,
+            buffer: seat.buffer,
+            manner: seat.manner,
+            pages: pages_in(&self.store, seat.slot.area),
+            budging: seat.slot.budge,
+            heap,
+            sending: seat.sending.records(),
+            taking: seat.taking.records(),
+            last_sent: seat.last_sent.as_ref(),
+        })
+    }
+
+    /// Puts all flex blocks of a live task from below into a list, in place of what it held; NoTask where the task isn't
+    /// live, which leaves the list as it was.
+    pub fn blocks_in(
+        &self,
+        handle: Handle,
+        items: &mut ArrayVec<BlockItem, ANCHORS>,
+    ) -> Result<(), Refusal>
+        ensures ok { OnOk result (blocks_in self.now.desk handle ≡ Ok items.new.items) }
+        ensures err { IfErr result (λ e. (blocks_in self.now.desk handle ≡ Err e) × (items.new ≡ items.old)) }
+    {
+        let i = with_handle(&self.seats, handle).ok_or(Refusal::NoTask)?;
+        let slot = self.seats[i].slot;
+        slot.list(&self.store, items);
+        Ok(())
+    }
+
+    /// Up to 64 segments of a live task's C heap in order of place, from the one that begins at `place` on, in bytes from
+    /// the heap's first one, none where none begins there; NoTask.
+    pub fn segments_in(
+        &self,
+        handle: Handle,
+        place: u32,
+    ) -> Result<ArrayVec<SegmentItem, SEGMENTS_AT_ONCE>, Refusal>
+        ensures ok { IfOk result (λ items. segments_in self.now.desk handle place ≡ Ok items.items) }
+        ensures err { IfErr result (λ e. segments_in self.now.desk handle place ≡ Err e) }
+    {
+        let i = with_handle(&self.seats, handle).ok_or(Refusal::NoTask)?;
+        let slot = self.seats[i].slot;
+        let segments = slot.segments_from(&self.store, place as usize);
+        Ok(segment_items(C_HEAP_START as u32, &segments))
+    }
+
+    /// Fills a buffer that was lent with the bytes at an address of a live task's slot; NoTask, or BadRange where they
+    /// aren't whole inside one live block of the C heap or one flex block. (Wimp_TransferBlock reads so.)
+    pub fn read_slot(&self, handle: Handle, address: u32, to: &mut [u8]) -> Result<(), Refusal>
+        ensures { MatchResult (slot_bytes self.now.desk handle address (length to.old)) (λ bytes. (result ≡ Ok tt) × (to.new ≡ bytes)) (λ e. (result ≡ Err e) × (to.new ≡ to.old)) }
+    {
+        let i = with_handle(&self.seats, handle).ok_or(Refusal::NoTask)?;
+        let slot = self.seats[i].slot;
+        let address = address as usize;
+        if !slot.inside(&self.store, address, to.len()) {
+            return Err(Refusal::BadRange);
+        }
+        let place = address - SLOT_START;
+        self.store.copy_out(slot.area, place, to);
+        Ok(())
+    }
+
+    /// The length of the module area's heap in bytes, which is the area's.
+    pub fn module_end(&self) -> u32
+        ensures { result ≡ self.now.desk.post.heap.end }
+    {
+        MODULE.end(&self.store) as u32
+    }
+
+    /// Up to 64 segments of the module area in order of place, from the one that begins at `place` on, in bytes from the
+    /// area's first one; none where none begins there.
+    pub fn module_segments(&self, place: u32) -> ArrayVec<SegmentItem, SEGMENTS_AT_ONCE>
+        ensures { result.items ≡ items_at module_start place self.now.desk.post.heap }
+    {
+        let segments = MODULE.segments_from(&self.store, place as usize);
+        segment_items(MODULE_START as u32, &segments)
+    }
+
+    /// The size in bytes of a block of the module area that a command claimed, and its bytes from an offset on; NotABlock,
+    /// NotYours where a message lies in it, or BadRange where the bytes wanted don't lie in the block.
+    pub fn read_module(&self, address: u32, offset: u32, to: &mut [u8]) -> Result<u32, Refusal>
+        ensures { MatchResult (module_shown self.now.desk address offset (length to.old)) (λ p. (result ≡ Ok p.0) × (to.new ≡ p.1)) (λ e. (result ≡ Err e) × (to.new ≡ to.old)) }
+    {
+        let place = self.own_place(address)?;
+        let size = MODULE.block_size(&self.store, place)?;
+        let offset = offset as usize;
+        if !fits(size, offset, to.len()) {
+            return Err(Refusal::BadRange);
+        }
+        MODULE.read_bytes(&self.store, place, offset, to);
+        Ok(size as u32)
+    }
+
+    /// Puts all live messages into a list, in place of what it held: those that wait, task by task in order of handle and
+    /// each task's as polls hand them out; then those that are held, in order of handle.
+    pub fn messages(&self, items: &mut ArrayVec<MessageItem, MOST_MESSAGES>)
+        ensures { items.new.items ≡ message_items self.now.desk.post }
+    {
+        self.queue.list(&self.store, MODULE, items);
+    }
+
+    /// Writes the message block that a poll of the task would hand out now to the start of a lent block, and answers its
+    /// event code; None, and the block left as it is, where the poll would answer that there is no event, and NoName where
+    /// no task has the name. The rest of the block stays too. (Wimp_Poll.)
+    pub fn next_message(
+        &self,
+        name: &Name,
+        block: &mut [u8; MOST_LENGTH],
+    ) -> Result<Option<EventCode>, Refusal>
+        ensures { MatchResult (next_message_on self.now.desk name.now) (λ o. (result ≡ Ok (option_map (λ (p : Parcel). p.code) o)) × (block.new ≡ with_message o block.old)) (λ e. (result ≡ Err e) × (block.new ≡ block.old)) }
+    {
+        let i = find(&self.seats, name)?;
+        let seat = &self.seats[i];
+        let code = self.queue.peek(&self.store, MODULE, seat.handle, block);
+        Ok(code)
+    }
+
+    /// The ref of the next message; 2^32 where all were given.
+    pub fn next_ref(&self) -> u64
+        ensures { result ≡ next_ref_on self.now.desk }
+    {
+        self.queue.next_ref()
+    }
+
+    /// The scrap file, while there is one.
+    pub fn scrap(&self) -> Option<ScrapFile>
+        ensures { result ≡ option_map file_of self.now.desk.scrap }
+    {
+        self.scrap
+    }
+
+    /// Made area i in order of number; None past the last of at most 32.
+    pub fn made_area(&self, i: usize) -> Option<MadeSight>
+        ensures area { option_map made_of_sight result ≡ slice_get self.now.desk.made i }
+        ensures few { length self.now.desk.made ≤ 32 }
+    {
+        if i >= self.made.len() {
+            return None;
+        }
+        let area = &self.made[i];
+        Some(MadeSight {
+            number: area.number,
+            most: area.most,
+            pages: pages_in(&self.store, area.area),
+        })
+    }
+}

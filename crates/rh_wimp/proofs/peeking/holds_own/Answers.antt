@@ -1,0 +1,29 @@
+use Rattle.std.proofs.Common.{◌≡◌, ℕ, eqb, sym, ap, ◌∙◌, arith}
+use Rattle.std.specs.Prelude.{◌==◌}
+use Rattle.rh_defs.specs.Messages.{Parcel, padded}
+use Rattle.rh_defs.specs.Blocks.{block_bytes}
+use Rattle.rh_defs.specs.Post.{holds_such}
+use Rattle.rh_defs.proofs.BlockLaws.{has-less}
+use Rattle.rh_defs.proofs.ParcelLaws.{from_read}
+use Rattle.rh_module.specs.Area.{heap_in}
+use Rattle.rh_wimp.proofs.AnswerLaws.{held-has}
+use Rattle.rh_wimp.proofs.ItemLaws.{nothing-held}
+use Rattle.rh_wimp.proofs.SearchLaws.{held-some}
+use Rattle.rh_wimp.proofs.peeking.holds_own.Goals as goal
+
+pub returns-then-entry-eq0 : goal.returns-then-entry-eq0
+returns-then-entry-eq0 g c = λ o s.
+    sym (ap (holds_such (λ (p : Parcel). p.message.from == c.args.entry.handle)) (nothing-held (heap_in (g.S.Words.memory c.args.store.now) c.args.rma) o c.args.entry.held s c.if-entry-eq0.true))
+
+pub read_word-requires-clause-block : goal.read_word-requires-clause-block
+read_word-requires-clause-block g c =
+    let h = heap_in (g.S.Words.memory c.args.store.now) c.args.rma in
+    let r = c.requires.held in
+    has-less c.args.entry.held 24 16 h (omega arith) (held-has h c.args.entry.held r.0 r.1 c.if-entry-eq0.false)
+
+pub returns : goal.returns
+returns g c = λ o s.
+    let h = heap_in (g.S.Words.memory c.args.store.now) c.args.rma in
+    let w = held-some h c.args.entry.held o s c.if-entry-eq0.false in
+    ap (λ n. eqb n c.args.entry.handle) (c.read_word.ensures (padded 0 w.parcel) (ap (λ a. block_bytes a h) w.block ∙ w.lies.block) ∙ from_read 0 w.parcel (omega arith) w.lies.fits)
+    ∙ sym (ap (holds_such (λ (p : Parcel). p.message.from == c.args.entry.handle)) w.is)

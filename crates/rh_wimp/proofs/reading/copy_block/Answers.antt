@@ -1,0 +1,68 @@
+use Rattle.std.proofs.Common.{◌≡◌, ℕ, ◌+◌, ◌≤◌, List, length, take, refl, sym, ap, subst, ◌∙◌, arith}
+use Rattle.std.proofs.lemmas.List.{length-take}
+use Rattle.rh_defs.specs.Messages.{Parcel, encoded, encoded_length, padded}
+use Rattle.rh_defs.proofs.BlockLaws.{has-less}
+use Rattle.rh_defs.proofs.BlockCalls.{room_enough}
+use Rattle.rh_defs.proofs.MessageLaws.{encoded-most}
+use Rattle.rh_defs.proofs.ParcelLaws.{length_read, length-padded, message_read}
+use Rattle.rh_module.specs.Area.{heap_in}
+use Rattle.rh_store.proofs.Slices.{written}
+use Rattle.rh_wimp.specs.Items.{LinksAt}
+use Rattle.rh_wimp.proofs.ItemLaws.{links-bytes, links-has}
+use Rattle.rh_wimp.proofs.reading.copy_block.Goals as goal
+use Rattle.rh_wimp.proofs.reading.copy_block.Goals.{After-read_word-length}
+use Rattle.rh_wimp.proofs.reading.copy_block.Given as given
+
+pub read_word-length-requires-clause-block : goal.read_word-length-requires-clause-block
+read_word-length-requires-clause-block g c =
+    let m = g.S.Words.memory c.args.store.now in
+    has-less c.args.block 36 12 (heap_in m c.args.rma) (omega arith) (links-has c.requires.lies.1.1)
+
+-- the length that is read
+measured : (g : given.Over) (c : After-read_word-length g) (link : ℕ) (p : Parcel) → LinksAt (g.S.Words.memory c.args.store.now) c.args.rma c.args.block link p
+    → (c.read_word-length.result ≡ encoded_length p.message) × (c.read_word-length.result ≤ 256)
+measured g c link p w =
+    let k = encoded-most p.message w.lies.fits.name in
+    let most = k.1 in
+    let e = c.read_word-length.ensures (padded link p) (links-bytes w) ∙ length_read link p w.small w.lies.fits in
+    (e, omega arith)
+
+pub slice_bounds-bytes-end : goal.slice_bounds-bytes-end
+slice_bounds-bytes-end g c =
+    let l = c.requires.lies in
+    let m = measured g (goal.at.slice_bounds-bytes-end g c).After-read_word-length l.0 l.1.0 l.1.1 in
+    let few = m.1 in
+    let n = c.requires.room in
+    omega arith
+
+pub slice_bounds-bytes-end-2 : goal.slice_bounds-bytes-end-2
+slice_bounds-bytes-end-2 g c =
+    let l = c.requires.lies in
+    let m = measured g (goal.at.slice_bounds-bytes-end-2 g c).After-read_word-length l.0 l.1.0 l.1.1 in
+    let few = m.1 in
+    let n = c.requires.room in
+    let t = length-take c.read_word-length.result c.args.to.now in
+    omega arith
+
+pub read_bytes-requires-clause-block : goal.read_bytes-requires-clause-block
+read_bytes-requires-clause-block g c =
+    let l = c.requires.lies in
+    let m = measured g (goal.at.read_bytes-requires-clause-block g c).After-read_word-length l.0 l.1.0 l.1.1 in
+    let is = m.0 in
+    let few = m.1 in
+    let t = length-take c.read_word-length.result c.args.to.now in
+    record {
+      bytes = padded l.0 l.1.0;
+      found = links-bytes l.1.1;
+      room = omega (arith, length-padded l.0 l.1.0, room_enough (8 + encoded_length l.1.0.message));
+    }
+
+pub returns : goal.returns
+returns g c = λ link p w.
+    let m = measured g (goal.at.returns g c).After-read_word-length link p w in
+    let is = m.0 in
+    let few = m.1 in
+    let n = c.requires.room in
+    let t = length-take c.read_word-length.result c.args.to.now in
+    let b = c.read_bytes.ensures (padded link p) (links-bytes w) ∙ message_read link p (length (take c.read_word-length.result c.args.to.now)) (omega arith) in
+    written 0 c.read_word-length.result c.args.to.now c.read_bytes.new.to (encoded p.message) b (omega arith) (omega arith)

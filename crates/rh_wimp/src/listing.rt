@@ -1,0 +1,170 @@
+//! The live messages, all at once.
+ghost use Rattle.std.specs.Prelude.{◌≡◌, ◌+◌, ◌≤◌, ◌++◌, ℕ, List, Option, map, length, false, true};
+ghost use Rattle.rh_defs.specs.Memory.{Memory};
+ghost use Rattle.rh_defs.specs.Messages.{Parcel};
+ghost use Rattle.rh_module.specs.Area.{IsModule, heap_in};
+ghost use Rattle.rh_wimp.specs.Calls.{Answers, IsQueue};
+ghost use Rattle.rh_wimp.specs.Chains.{Chain, Holds, Row, RowsLie, first_block, held_list};
+ghost use Rattle.rh_wimp.specs.Items.{LinksAt, held_items, item_of, message_items, waiting_items};
+ghost use Rattle.rh_wimp.specs.declared.queue.TheConstants.{MOST_MESSAGES};
+
+use crate::chain::Entry;
+use crate::layout::{ACTION, LINK, MESSAGE, MY_REF, SENDER};
+use crate::queue::{MOST_MESSAGES, Queue};
+use crate::reading::code_in;
+use arrayvec::ArrayVec;
+use rh_defs::{Action, EventCode, Handle, Ref};
+use rh_module::Module;
+use rh_store::Words;
+
+/// A live message as it is listed.
+#[derive(Clone, Copy, Debug, PartialEq, Eq)]
+pub struct MessageItem {
+    /// Where its block begins, in bytes from the module area's first one.
+    pub block: u32,
+    /// The task that it is for.
+    pub to: Handle,
+    /// The task that sent it.
+    pub from: Handle,
+    /// Its own ref.
+    pub my_ref: Ref,
+    /// What it asks for.
+    pub action: Action,
+    /// The event as which it is handed out.
+    pub code: EventCode,
+    /// Whether its task holds it; else it waits for a poll.
+    pub held: bool,
+}
+
+impl Default for MessageItem {
+    /// No message, as refs count up from 1.
+    fn default() -> MessageItem {
+        MessageItem {
+            block: 0,
+            to: Handle(0),
+            from: Handle(0),
+            my_ref: Ref(0),
+            action: Action::DataSave,
+            code: EventCode::User,
+            held: false,
+        }
+    }
+}
+
+impl Queue {
+    /// Puts all live messages into a list, in place of what it held: those that wait, task by task in the order in which
+    /// the handles joined and each task's as polls hand them out; then those that are held.
+    pub fn list<S: Words>(
+        &self,
+        store: &S,
+        rma: Module,
+        items: &mut ArrayVec<MessageItem, MOST_MESSAGES>,
+    )
+        requires { IsQueue (S.memory store.now) rma self.now }
+        ensures { Answers (S.memory store.now) rma self.now message_items items.new.items }
+    {
+        items.clear();
+        push_waiting(store, rma, &self.entries, items);
+        push_held(store, rma, &self.entries, items);
+    }
+}
+
+/// Appends the messages that wait, task by task.
+fn push_waiting<S: Words>(
+    store: &S,
+    rma: Module,
+    entries: &Vec<Entry>,
+    items: &mut ArrayVec<MessageItem, MOST_MESSAGES>,
+)
+    requires module { IsModule (S.memory store.now) rma }
+    requires rows { (rows : List Row) × (RowsLie (heap_in (S.memory store.now) rma) entries.now.items rows × (length items.old.items + length (waiting_items rows) ≤ MOST_MESSAGES)) }
+    ensures { (rows : List Row) → RowsLie (heap_in (S.memory store.now) rma) entries.now.items rows → length items.old.items + length (waiting_items rows) ≤ MOST_MESSAGES
+        → items.new.items ≡ items.old.items ++ waiting_items rows }
+{
+    for entry in entries {
+        push_chain(store, rma, entry.first, entry.handle, items);
+    }
+}
+
+/// Appends the messages of a chain, which wait for a task.
+fn push_chain<S: Words>(
+    store: &S,
+    rma: Module,
+    first: usize,
+    to: Handle,
+    items: &mut ArrayVec<MessageItem, MOST_MESSAGES>,
+)
+    requires module { IsModule (S.memory store.now) rma }
+    requires chain { (ps : List Parcel) × ((first ≡ first_block ps 0) × Chain (heap_in (S.memory store.now) rma) ps 0 × (length items.old.items + length ps ≤ MOST_MESSAGES)) }
+    ensures { (ps : List Parcel) → first ≡ first_block ps 0 → Chain (heap_in (S.memory store.now) rma) ps 0 → length items.old.items + length ps ≤ MOST_MESSAGES
+        → items.new.items ≡ items.old.items ++ map (item_of to false) ps }
+{
+    let mut block = first;
+    for _turn in 0..MOST_MESSAGES {
+        if block == 0 {
+            return;
+        }
+        items.push(read_item(store, rma, block, to, false));
+        block = rma.read_word(store, block, LINK) as usize;
+    }
+}
+
+/// Appends the messages that are held, task by task.
+fn push_held<S: Words>(
+    store: &S,
+    rma: Module,
+    entries: &Vec<Entry>,
+    items: &mut ArrayVec<MessageItem, MOST_MESSAGES>,
+)
+    requires module { IsModule (S.memory store.now) rma }
+    requires rows { (rows : List Row) × (RowsLie (heap_in (S.memory store.now) rma) entries.now.items rows × (length items.old.items + length (held_items rows) ≤ MOST_MESSAGES)) }
+    ensures { (rows : List Row) → RowsLie (heap_in (S.memory store.now) rma) entries.now.items rows → length items.old.items + length (held_items rows) ≤ MOST_MESSAGES
+        → items.new.items ≡ items.old.items ++ held_items rows }
+{
+    for entry in entries {
+        push_block(store, rma, entry.held, entry.handle, items);
+    }
+}
+
+/// Appends the message that a task holds in a block, 0 for none.
+fn push_block<S: Words>(
+    store: &S,
+    rma: Module,
+    held: usize,
+    to: Handle,
+    items: &mut ArrayVec<MessageItem, MOST_MESSAGES>,
+)
+    requires module { IsModule (S.memory store.now) rma }
+    requires held { (o : Option Parcel) × (Holds (heap_in (S.memory store.now) rma) held o × (length items.old.items + length (held_list o) ≤ MOST_MESSAGES)) }
+    ensures { (o : Option Parcel) → Holds (heap_in (S.memory store.now) rma) held o → length items.old.items + length (held_list o) ≤ MOST_MESSAGES
+        → items.new.items ≡ items.old.items ++ map (item_of to true) (held_list o) }
+{
+    if held == 0 {
+        return;
+    }
+    items.push(read_item(store, rma, held, to, true));
+}
+
+/// What is listed of the message that lies in a block.
+fn read_item<S: Words>(
+    store: &S,
+    rma: Module,
+    block: usize,
+    to: Handle,
+    held: bool,
+) -> MessageItem
+    requires module { IsModule (S.memory store.now) rma }
+    requires lies { (link : ℕ) × ((p : Parcel) × LinksAt (S.memory store.now) rma block link p) }
+    ensures { (link : ℕ) (p : Parcel) → LinksAt (S.memory store.now) rma block link p → result ≡ item_of to held p }
+{
+    let action = rma.read_word(store, block, MESSAGE + ACTION);
+    MessageItem {
+        block: block as u32,
+        to,
+        from: Handle(rma.read_word(store, block, MESSAGE + SENDER)),
+        my_ref: Ref(rma.read_word(store, block, MESSAGE + MY_REF)),
+        action: Action::from_number(action).unwrap(),
+        code: code_in(store, rma, block),
+        held,
+    }
+}

@@ -1,0 +1,63 @@
+//! What a poll would hand out, while nothing changes.
+ghost use Rattle.std.specs.Prelude.{◌≡◌, ◌==◌, Option};
+ghost use Rattle.std.specs.Option.{option_map};
+ghost use Rattle.rh_defs.specs.Memory.{Memory};
+ghost use Rattle.rh_defs.specs.Messages.{Parcel};
+ghost use Rattle.rh_defs.specs.Post.{Post, holds_such, post_poll};
+ghost use Rattle.rh_module.specs.Area.{IsModule, heap_in};
+ghost use Rattle.rh_wimp.specs.Calls.{Answers, IsQueue};
+ghost use Rattle.rh_wimp.specs.Chains.{HasEntry, Holds, SpellsPost};
+ghost use Rattle.rh_wimp.specs.Items.{with_message};
+
+use crate::chain::{Entry, find};
+use crate::layout::{MESSAGE, MOST_LENGTH, SENDER};
+use crate::queue::Queue;
+use crate::reading::{code_in, copy_block};
+use rh_defs::{EventCode, Handle};
+use rh_module::Module;
+use rh_store::Words;
+
+impl Queue {
+    /// Writes the message block that the next poll of a live task would hand out to the start of a lent block, and
+    /// answers its event code; none, and the block left as it is, where that poll would hand out nothing. The rest of
+    /// the block stays too.
+    pub fn peek<S: Words>(
+        &self,
+        store: &S,
+        rma: Module,
+        handle: Handle,
+        block: &mut [u8; MOST_LENGTH],
+    ) -> Option<EventCode>
+        requires queue { IsQueue (S.memory store.now) rma self.now }
+        requires live { HasEntry handle self.now }
+        ensures code { Answers (S.memory store.now) rma self.now (λ post. option_map (λ (p : Parcel). p.code) (post_poll handle post).1) result }
+        ensures message { Answers (S.memory store.now) rma self.now (λ post. with_message (post_poll handle post).1 block.old) block.new }
+    {
+        let Some(at) = find(&self.entries, handle) else {
+            return None;
+        };
+        let entry = self.entries[at];
+        if entry.first != 0 {
+            copy_block(store, rma, entry.first, block);
+            return Some(code_in(store, rma, entry.first));
+        }
+        if !holds_own(store, rma, entry) {
+            return None;
+        }
+        // What the task holds would come back to itself.
+        copy_block(store, rma, entry.held, block);
+        Some(EventCode::Acknowledge)
+    }
+}
+
+/// Whether a task holds a message that it sent itself.
+fn holds_own<S: Words>(store: &S, rma: Module, entry: Entry) -> bool
+    requires module { IsModule (S.memory store.now) rma }
+    requires held { (o : Option Parcel) × Holds (heap_in (S.memory store.now) rma) entry.held o }
+    ensures { (o : Option Parcel) → Holds (heap_in (S.memory store.now) rma) entry.held o → result ≡ holds_such (λ (p : Parcel). p.message.from == entry.handle) o }
+{
+    if entry.held == 0 {
+        return false;
+    }
+    rma.read_word(store, entry.held, MESSAGE + SENDER) == entry.handle.0
+}
