@@ -1,10 +1,13 @@
-//! Runs a script over a world of scattered pages, and says whether bytes are a heap.
+//! Runs a script over a world of scattered pages or draws its map, and says whether bytes are a heap.
 #![tactic(auto)]
 
 mod checking;
+mod mapping;
 mod running;
+mod sight;
 mod world;
 
 pub use checking::check_image;
+pub use mapping::map;
 pub use rh_session::{RunFault, Status};
 pub use running::run;

@@ -1,5 +1,5 @@
 -- What a step's picture is drawn from.
-use Rattle.std.specs.Prelude.{◌≡◌, ℕ}
+use Rattle.std.specs.Prelude.{◌≡◌, ℕ, length}
 use Rattle.std.specs.Option.{option_map}
 use Rattle.rh_defs.specs.Desk.{Desk}
 use Rattle.rh_figure.specs.Share.{IsShared}
@@ -34,4 +34,5 @@ scene_at d step = scene_of d (share_of step.pages.now d) step.kept.now (marks_se
 -- the step has the desk's messages, and its pages
 pub record IsStepOf (d : Desk) (step : Step) : Type 0 where
   pub messages : step.messages.now ≡ message_items d
-  pub pages : IsShared (share_of step.pages.now d) d
+  pub all : length step.pages.now ≡ d.pool
+  pub shared : IsShared (share_of step.pages.now d) d

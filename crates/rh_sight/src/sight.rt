@@ -1,18 +1,18 @@
 //! A desk that can be looked at.
 
-ghost use Rattle.std.specs.Prelude.{◌≡◌, ◌≤◌, ◌<◌, ◌+◌, ◌++◌, ℕ, List, IfNone, IfSome, IsSome, length, slice_get, take};
+ghost use Rattle.std.specs.Prelude.{◌≡◌, ◌≤◌, ◌<◌, ◌+◌, ◌++◌, ℕ, List, IfNone, IfSome, IsSome, None, Some, length, slice_get, take};
 ghost use Rattle.std.specs.Option.{option_map};
 ghost use Rattle.rh_defs.specs.Heap.{Segment, place_after};
 ghost use Rattle.rh_defs.specs.Laws.{IsDesk};
 ghost use Rattle.rh_defs.specs.Listing.{block_items, segment_items_from};
-ghost use Rattle.rh_defs.specs.Desk.{Desk, Made, Task, free_pages as free_pages_on, next_ref as next_ref_on};
+ghost use Rattle.rh_defs.specs.Desk.{Desk, Task, free_pages as free_pages_on, next_ref as next_ref_on};
 ghost use Rattle.rh_figure.specs.Share.{IsShared};
 ghost use Rattle.rh_sight.specs.declared.sight.TheConstants.{MOST_AT_ONCE};
 
 use arrayvec::ArrayVec;
 use rh_defs::sizes::{ANCHORS, MAX_PAGES};
 use rh_defs::{
-    Action, Anchor, BlockItem, EventCode, Handle, Incoming, Letter, Manner, Name, Outgoing, Ref,
+    Action, BlockItem, EventCode, Handle, Incoming, Letter, Manner, Name, Outgoing, Ref,
     SegmentItem,
 };
 
@@ -114,10 +114,15 @@ pub trait Sight {
     // The desk that is seen.
     ghost desk: { Self → Desk };
 
+    /// The desk is one of a run.
+    fn spelled(&self)
+        ensures { IsDesk (desk self.now) };
+
     /// The task at a place in order of handle; None past the last.
     fn task(&self, i: usize) -> Option<TaskSight<'_>>
         ensures some { IfSome result (λ s. (t : Task) × (slice_get (desk self.now).tasks i ≡ Some t) × IsTaskSeen s t) }
-        ensures none { IfNone result (slice_get (desk self.now).tasks i ≡ None) };
+        ensures none { IfNone result (slice_get (desk self.now).tasks i ≡ None) }
+        ensures few { length (desk self.now).tasks ≤ 32 };
 
     /// Puts the flex blocks of a task from below into a list, in place of what it held.
     fn blocks(&self, i: usize, items: &mut ArrayVec<BlockItem, ANCHORS>)
@@ -161,15 +166,14 @@ pub trait Sight {
     /// The made area at a place in order of number; None past the last.
     fn made(&self, i: usize) -> Option<AreaSight>
         ensures some { IfSome result (λ a. slice_get (desk self.now).made i ≡ Some (record { number = a.number; most = a.most; pages = a.pages })) }
-        ensures none { IfNone result (slice_get (desk self.now).made i ≡ None) };
+        ensures none { IfNone result (slice_get (desk self.now).made i ≡ None) }
+        ensures few { length (desk self.now).made ≤ 32 };
 
     /// The scrap file, if there is one.
     fn scrap(&self) -> Option<ScrapSight>
         ensures { option_map (λ s. (s.size, s.load)) result ≡ scrap_seen (desk self.now) };
 
-    /// How many pages the pool has, and how many of them are free.
-    fn pool(&self) -> u32
-        ensures { result ≡ (desk self.now).pool };
+    /// How many pages are free.
     fn free_pages(&self) -> u32
         ensures { result ≡ free_pages_on (desk self.now) };
 
@@ -181,8 +185,6 @@ pub trait Sight {
     /// they were given back, and then those of each owner from below: areas 0 to 5, the made ones in order of number, and the
     /// slots in order of handle.
     fn page_list(&self, list: &mut PageList)
-        ensures { IsShared (share_of list.new.items (desk self.now)) (desk self.now) };
-
-    // The desk is one of a run.
-    ghost is: { (s : Self) → IsDesk (desk s) };
+        ensures all { length list.new.items ≡ (desk self.now).pool }
+        ensures shared { IsShared (share_of list.new.items (desk self.now)) (desk self.now) };
 }
