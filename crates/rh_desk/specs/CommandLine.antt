@@ -1,9 +1,10 @@
--- What the program's words may be: `run [--pages N] SCRIPT [NAME=PATH ...]`, and `check FILE`.
+-- What the program's words may be: `run [--pages N] SCRIPT [NAME=PATH ...]`, `map` with the same words and `--marked`, and
+-- `check FILE`.
 use Rattle.std.specs.Prelude.{Some, codes, pos, true}
 use Rattle.clap.specs.Lexer.{usize_max}
 use Rattle.clap.specs.Simple.{App, new_app, new_rule, on_top, with_rule, with_subcommand}
 use Rattle.clap.specs.Walk.{Rule, Text}
-use Rattle.clap.specs.declared.builder.action.ArgAction.TheVariants.{Append, Set}
+use Rattle.clap.specs.declared.builder.action.ArgAction.TheVariants.{Append, Set, SetTrue}
 use Rattle.clap.specs.declared.builder.value_parser.ValueParser.TheVariants.{Signed}
 
 -- `--pages N`, of 8 to 1,024
@@ -29,6 +30,14 @@ files_rule = record (new_rule (codes "files")) {
 abbrev pub run_words : App
 run_words = with_rule (with_rule (with_rule (new_app (codes "run")) pages_rule) (needed_rule (codes "script"))) files_rule
 
+-- `--marked`, with no word behind it
+abbrev pub marked_rule : Rule
+marked_rule = record (new_rule (codes "marked")) { long = Some (codes "marked"); action = Some SetTrue }
+
+abbrev pub map_words : App
+map_words =
+    with_rule (with_rule (with_rule (with_rule (new_app (codes "map")) pages_rule) marked_rule) (needed_rule (codes "script"))) files_rule
+
 abbrev pub check_words : App
 check_words = with_rule (new_app (codes "check")) (needed_rule (codes "file"))
 
@@ -37,4 +46,4 @@ abbrev pub program_top : App
 program_top = on_top (λ shape. record shape { has_version = true; subcommand_required = true }) (new_app (codes "vervainfile"))
 
 abbrev pub program_words : App
-program_words = with_subcommand (with_subcommand program_top run_words.top) check_words.top
+program_words = with_subcommand (with_subcommand (with_subcommand program_top run_words.top) map_words.top) check_words.top

@@ -8,6 +8,6 @@ mod sight;
 mod world;
 
 pub use checking::check_image;
-pub use mapping::map;
+pub use mapping::draw_map;
 pub use rh_session::{RunFault, Status};
 pub use running::run;

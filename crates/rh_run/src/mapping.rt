@@ -15,7 +15,7 @@ use std::alloc::Global;
 
 /// Runs a script over a fresh desk of 8 to 1,024 pages, and writes its map: each step, or marked steps alone, each before it
 /// reads on. It takes memory before its first read only, and gives up after 1,000,000 reads that gave bytes.
-pub fn map<R: Source, W: Sink>(
+pub fn draw_map<R: Source, W: Sink>(
     alloc: Global,
     files: Files,
     reader: &mut R,
