@@ -1,5 +1,5 @@
 -- Lines that are taken, one after the other.
-use Rattle.std.proofs.Common.{◌≡◌, ℕ, ◌+◌, ◌-◌, ◌*◌, ◌<◌, ◌≤◌, ◌≢◌, List, [], ◌∷◌, ◌++◌, length, take, drop, eqb, true, map, Option, Some, None, Result, Ok, Err, inl, inr, append_assoc, append-nil, refl, sym, ◌∙◌, ap, subst, arith}
+use Rattle.std.proofs.Common.{◌≡◌, ℕ, ◌+◌, ◌-◌, ◌*◌, ◌<◌, ◌≤◌, ◌≢◌, List, [], ◌∷◌, ◌++◌, length, take, drop, eqb, Bool, true, false, ◌||◌, map, Option, Some, None, Result, Ok, Err, inl, inr, append_assoc, append-nil, refl, sym, ◌∙◌, ap, subst, arith}
 use Rattle.std.specs.Prelude.{slice_index}
 use Rattle.std.proofs.lemmas.Bool.Decides.{nat_tests}
 use Rattle.std.proofs.lemmas.List.{length-drop}
@@ -247,6 +247,10 @@ fed_until_rest {S} {step} {broke} {broke_rest} {before} {now} {s} {t} {line} {ol
       read = subst P (append-nil g.bytes) (Consumes-more before.left now.left after.left g.bytes [] g.read c);
       broken = inr (e, record { taker = t; written = new; taken = g.taken; broken = subst Q (kept_of rest line g.bytes same g.line_is) one });
     }
+
+pub or_false : (b : Bool) → (b || false) ≡ b
+or_false true = refl
+or_false false = refl
 
 -- a read that gave no bytes
 pub none_given : (a b : Option (List ℕ)) (n : ℕ) (buffer : List ℕ) → n ≡ 0 → Consumes a b (take n buffer) → Consumes a b []

@@ -84,10 +84,10 @@ fn read_all<T: LineTaker, R: Source, W: Sink>(
             Err(_) => return Err(FeedFault::ReadFailed),
         };
         if count == 0 {
-            return match taker.take_rest(line.as_slice(), writer) {
-                Ok(()) => Ok(()),
-                Err(_) => Err(FeedFault::WriteFailed),
-            };
+            match taker.take_rest(line.as_slice(), writer) {
+                Ok(()) => return Ok(()),
+                Err(_) => return Err(FeedFault::WriteFailed),
+            }
         }
         match feed(taker, line, &piece[..count], writer) {
             Ok(()) => {}
