@@ -11,7 +11,7 @@ ghost use Rattle.rh_lines.specs.Flow.{Puts};
 ghost use Rattle.rh_figure.specs.Share.{IsShared};
 ghost use Rattle.rh_map.specs.Written.{shown_lines};
 ghost use Rattle.rh_session.specs.Outcome.{status_of};
-ghost use Rattle.rh_sight.specs.Pages.{share_of};
+ghost use Rattle.rh_sight.specs.Pages.{share_in};
 
 use crate::drawn::Drawn;
 use crate::excerpt::{excerpt_answer, excerpt_fault, excerpt_reply};
@@ -196,8 +196,8 @@ impl<D: Drawn> Mapper<D> {
         writer: &mut W,
     ) -> Result<(), WriteFailed>
         ensures text { (text : List ℕ) → Excerpts self.old.front.bytes deed.now.count text → Puts (W.output writer.old) (W.output writer.new) result
-            (shown_lines (shown_step deed.now.wanted self.old.steps line.now text (D.desk self.old.drawn) (share_of self.new.pages.items (D.desk self.old.drawn)) deed.now.kept.now (option_map (λ c. c.now) deed.now.command) deed.now.reply.now)) }
-        ensures shared { IsShared (share_of self.new.pages.items (D.desk self.old.drawn)) (D.desk self.old.drawn) }
+            (shown_lines (shown_step deed.now.wanted self.old.steps line.now text (D.desk self.old.drawn) (share_in self.new.pages.items (D.desk self.old.drawn)) deed.now.kept.now (option_map (λ c. c.now) deed.now.command) deed.now.reply.now)) }
+        ensures shared { IsShared (share_in self.new.pages.items (D.desk self.old.drawn)) (D.desk self.old.drawn) }
         ensures same { IsSamePlace self.old self.new }
     {
         self.drawn.messages(&mut self.messages);

@@ -8,7 +8,7 @@ ghost use Rattle.rh_figure.specs.Figure.{owner_of};
 ghost use Rattle.rh_figure.specs.Rows.{page_mark};
 ghost use Rattle.rh_lines.specs.Flow.{Puts};
 ghost use Rattle.rh_map.specs.Written.{shown_lines};
-ghost use Rattle.rh_sight.specs.Pages.{share_of};
+ghost use Rattle.rh_sight.specs.Pages.{share_in};
 ghost use Rattle.rh_sight.specs.Steps.{IsStepOf, scene_at};
 
 use crate::lists::Lists;
@@ -67,7 +67,7 @@ fn clear(marks: &mut [u8])
 /// Marks the pages of the made areas.
 fn mark_made<S: Sight>(sight: &S, step: &Step<'_>, marks: &mut [u8])
     requires { IsStepOf (S.desk sight.now) step.now }
-    ensures { marks.new ≡ marked_all (map (made_pages (share_of step.now.pages.now (S.desk sight.now))) (S.desk sight.now).made) marks.old }
+    ensures { marks.new ≡ marked_all (map (made_pages (share_in step.now.pages.now (S.desk sight.now))) (S.desk sight.now).made) marks.old }
 {
     let mut i = 0;
     'areas: while let Some(area) = sight.made(i) {
@@ -80,7 +80,7 @@ fn mark_made<S: Sight>(sight: &S, step: &Step<'_>, marks: &mut [u8])
 /// Marks the pages of the slots.
 fn mark_slots<S: Sight>(sight: &S, step: &Step<'_>, marks: &mut [u8])
     requires { IsStepOf (S.desk sight.now) step.now }
-    ensures { marks.new ≡ marked_all (slot_pages_from (share_of step.now.pages.now (S.desk sight.now)) 0 (S.desk sight.now).tasks) marks.old }
+    ensures { marks.new ≡ marked_all (slot_pages_from (share_in step.now.pages.now (S.desk sight.now)) 0 (S.desk sight.now).tasks) marks.old }
 {
     let mut i = 0;
     'tasks: while sight.task(i).is_some() {

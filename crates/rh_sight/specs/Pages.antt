@@ -12,8 +12,8 @@ pages_among o [] pages = []
 pages_among o (x ∷ xs) pages = if is_owner o x.0 then take x.1 pages else pages_among o xs (drop x.1 pages)
 
 -- the free pages stand first, and then those of each owner
-abbrev pub share_of : List ℕ → Desk → Share
-share_of pages d = record {
+abbrev pub share_in : List ℕ → Desk → Share
+share_in pages d = record {
   free = take (free_pages d) pages;
   pages_of = λ o. pages_among o (holdings d) (drop (free_pages d) pages);
 }

@@ -9,7 +9,7 @@ use Rattle.rh_sight.specs.declared.marks.HeapBlock.{HeapBlock}
 use Rattle.rh_sight.specs.declared.marks.Marks.{Marks}
 use Rattle.rh_sight.specs.declared.step.Step.{Step}
 use Rattle.rh_sight.specs.Messages.{message_items}
-use Rattle.rh_sight.specs.Pages.{share_of}
+use Rattle.rh_sight.specs.Pages.{share_in}
 use Rattle.rh_sight.specs.Seen.{letter_seen}
 
 -- a block of a C heap by its task's handle and its address
@@ -29,10 +29,10 @@ marks_seen m = record {
 
 -- the scene that a step has on a desk
 abbrev pub scene_at : Desk → Step → Scene
-scene_at d step = scene_of d (share_of step.pages.now d) step.kept.now (marks_seen step.marks)
+scene_at d step = scene_of d (share_in step.pages.now d) step.kept.now (marks_seen step.marks)
 
 -- the step has the desk's messages, and its pages
 pub record IsStepOf (d : Desk) (step : Step) : Type 0 where
   pub messages : step.messages.now ≡ message_items d
   pub all : length step.pages.now ≡ d.pool
-  pub shared : IsShared (share_of step.pages.now d) d
+  pub shared : IsShared (share_in step.pages.now d) d

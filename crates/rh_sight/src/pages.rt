@@ -5,7 +5,7 @@ ghost use Rattle.std.specs.List.{enumerate_from};
 ghost use Rattle.rh_defs.specs.Desk.{Made, free_pages as free_pages_on, task_pages};
 ghost use Rattle.rh_defs.specs.Pieces.{total};
 ghost use Rattle.rh_figure.specs.Share.{Holding, IsShared, count_of, fixed_holding, holdings};
-ghost use Rattle.rh_sight.specs.Pages.{pages_before, share_of};
+ghost use Rattle.rh_sight.specs.Pages.{pages_before, share_in};
 ghost use Rattle.rh_sight.specs.Seen.{owner_seen};
 
 use crate::sight::{PagesOf, Sight};
@@ -13,17 +13,17 @@ use rh_defs::sizes::{FIXED_AREAS, MADE_AREAS};
 
 /// The numbers of the free pages, in the order in which they were given back.
 pub fn free_of<'a, S: Sight>(sight: &S, pages: &'a [u16]) -> &'a [u16]
-    requires { IsShared (share_of pages.now (S.desk sight.now)) (S.desk sight.now) }
-    ensures { result.now ≡ (share_of pages.now (S.desk sight.now)).free }
+    requires { IsShared (share_in pages.now (S.desk sight.now)) (S.desk sight.now) }
+    ensures { result.now ≡ (share_in pages.now (S.desk sight.now)).free }
 {
     &pages[..sight.free_pages() as usize]
 }
 
 /// The numbers of an owner's pages, from below.
 pub fn pages_of<'a, S: Sight>(sight: &S, pages: &'a [u16], owner: PagesOf) -> &'a [u16]
-    requires shared { IsShared (share_of pages.now (S.desk sight.now)) (S.desk sight.now) }
+    requires shared { IsShared (share_in pages.now (S.desk sight.now)) (S.desk sight.now) }
     requires owner { IsSome (owner_seen owner (S.desk sight.now)) }
-    ensures { IfSome (owner_seen owner (S.desk sight.now)) (λ o. result.now ≡ (share_of pages.now (S.desk sight.now)).pages_of o) }
+    ensures { IfSome (owner_seen owner (S.desk sight.now)) (λ o. result.now ≡ (share_in pages.now (S.desk sight.now)).pages_of o) }
 {
     let first = first_page(sight, owner);
     &pages[first..][..page_count(sight, owner)]

@@ -109,7 +109,7 @@ pub enum PagesOf {
 pub trait Sight {
     ghost use Rattle.rh_sight.specs.Seen.{HasBlock, HasFlex, IsAreaSeen, IsFree, IsTaskSeen, heap_seen, heap_start_of, scrap_seen};
     ghost use Rattle.rh_sight.specs.Messages.{message_items};
-    ghost use Rattle.rh_sight.specs.Pages.{share_of};
+    ghost use Rattle.rh_sight.specs.Pages.{share_in};
 
     // The desk that is seen.
     ghost desk: { Self → Desk };
@@ -186,5 +186,5 @@ pub trait Sight {
     /// slots in order of handle.
     fn page_list(&self, list: &mut PageList)
         ensures all { length list.new.items ≡ (desk self.now).pool }
-        ensures shared { IsShared (share_of list.new.items (desk self.now)) (desk self.now) };
+        ensures shared { IsShared (share_in list.new.items (desk self.now)) (desk self.now) };
 }
