@@ -9,8 +9,9 @@ use Rattle.rh_store.specs.declared.store.AreaId.{AreaId}
 use Rattle.rh_tasks.specs.declared.seat.Seat.{Seat}
 use Rattle.rh_tasks.specs.declared.made.MadeArea.{MadeArea}
 use Rattle.rh_tasks.specs.Standing.{StandsIn, numbers}
-use Rattle.rh_tasks.specs.View.{Kept, Avoids, AreDistinct, IsAbove, fixed, made_area, slot_area, shown_of, IsWorld}
+use Rattle.rh_tasks.specs.View.{Kept, Avoids, AreDistinct, HasSlot, fixed, made_area, slot_area, shown_of, IsWorld}
 use Rattle.rh_tasks.proofs.Lists.{Sits, all-map, avoids-back, avoids-below}
+use Rattle.rh_tasks.proofs.Worlds.{few-made, few-seats}
 
 -- ---- a list that is filled
 module _ {A : Type 0} (f : A → AreaId) (xs : List A) (i : ℕ) (old items : List AreaId) (so_far : items ≡ old ++ map f (take i xs)) where
@@ -83,7 +84,7 @@ module _ {m : Memory} {seats : List Seat} {made : List MadeArea} {files : FileLi
   all-opened =
       all-both (IsOpen m) (fixed ++ mades) slots
       (all-both (IsOpen m) fixed mades w.areas.fixed_open (all-mapped (IsOpen m) made_area made w.areas.made_open))
-      (all-mapped (IsOpen m) slot_area seats (all-map (λ (s : Seat). _) (λ (s : Seat). IsOpen m s.slot.area.0) seats (λ s has. has.opened) w.areas.slots))
+      (all-mapped (IsOpen m) slot_area seats (all-map (HasSlot m) (λ (s : Seat). IsOpen m s.slot.area.0) seats (λ s has. has.opened) w.areas.slots))
 
   -- no area below 6 is a made one or a slot's
   low : (k : ℕ) → k < 6 → Avoids k (mades ++ slots)
@@ -142,3 +143,20 @@ module _ {m : Memory} {seats : List Seat} {made : List MadeArea} {files : FileLi
       ∙ ap (λ l. l ++ numbers (map (λ (s : Seat). s.slot.area) seats))
       (ap numbers f ∙ map-append number first (map (λ (a : MadeArea). a.area) made) ∙ ap (λ l. l ++ numbers (map (λ (a : MadeArea). a.area) made)) e ∙ ap (λ l. fixed ++ l) (map-twice number (λ (a : MadeArea). a.area) made))
       ∙ ap (λ l. (fixed ++ mades) ++ l) (map-twice number (λ (s : Seat). s.slot.area) seats)
+
+  -- there is room for all
+  pub room-made : (first : List AreaId) → numbers first ≡ fixed → length first + length made ≤ 70
+  room-made first e = omega (arith, ap length e, length-map first (λ (a : AreaId). a.0), few-made w)
+
+  pub room-slots : (first second : List AreaId) → numbers first ≡ fixed → second ≡ first ++ map (λ (a : MadeArea). a.area) made → length second + length seats ≤ 70
+  room-slots first second e f =
+      omega (
+        arith,
+        ap length e,
+        length-map first (λ (a : AreaId). a.0),
+        ap length f,
+        length-append first (map (λ (a : MadeArea). a.area) made),
+        length-map made (λ (a : MadeArea). a.area),
+        few-made w,
+        few-seats w,
+      )
