@@ -17,17 +17,19 @@ abbrev sum_below : (ℕ → ℕ) → ℕ → ℕ
 sum_below f zero = 0
 sum_below f (suc n) = f n + sum_below f n
 
+turned : (a b c : ℕ) → a + (b + c) ≡ b + (a + c)
+turned a b c = omega arith
+
+paired : (a b c d : ℕ) → (a + b) + (c + d) ≡ (a + c) + (b + d)
+paired a b c d = omega arith
+
 sum-both : (f g : ℕ → ℕ) (n : ℕ) → sum_below (λ k. f k + g k) n ≡ sum_below f n + sum_below g n
 sum-both f g zero = refl
-sum-both f g (suc n) = let rest = sum-both f g n in omega arith
+sum-both f g (suc n) = ap (λ k. (f n + g n) + k) (sum-both f g n) ∙ paired (f n) (g n) (sum_below f n) (sum_below g n)
 
 sum-first : (f : ℕ → ℕ) (n : ℕ) → sum_below f (suc n) ≡ f 0 + sum_below (λ k. f (suc k)) n
 sum-first f zero = refl
-sum-first f (suc n) = let rest = sum-first f n in omega arith
-
-sum-same : (f g : ℕ → ℕ) (n : ℕ) → ((k : ℕ) → f k ≡ g k) → sum_below f n ≡ sum_below g n
-sum-same f g zero e = refl
-sum-same f g (suc n) e = let here = e n in let rest = sum-same f g n e in omega arith
+sum-first f (suc n) = ap (λ k. f (suc n) + k) (sum-first f n) ∙ turned (f (suc n)) (f 0) (sum_below (λ k. f (suc k)) n)
 
 sum-none : (f : ℕ → ℕ) (n : ℕ) → ((k : ℕ) → k < n → f k ≡ 0) → sum_below f n ≡ 0
 sum-none f zero e = refl
@@ -73,8 +75,7 @@ times-sum (x ∷ xs) n none = elim (cases_lt x n) [
   | inl l ↦
       let one = hit-once x n l in
       let rest = times-sum xs n (λ k h. let all = none k h in omega arith) in
-      let both = sum-both (hit x) (λ k. times k xs) n in
-      omega arith
+      sum-both (hit x) (λ k. times k xs) n ∙ omega (arith, one, rest)
   | inr h ↦ let one = hit-same x x refl in let all = none x h in absurd (omega arith)
 ]
 
@@ -83,16 +84,12 @@ all-sum [] n none = sum-none (λ k. 0) n (λ k l. refl)
 all-sum (xs ∷ lists) n none =
     let here = times-sum xs n (λ k h. let all = none k h in omega arith) in
     let rest = all-sum lists n (λ k h. let all = none k h in omega arith) in
-    let both = sum-both (λ k. times k xs) (λ k. times_all k lists) n in
-    omega arith
+    sum-both (λ k. times k xs) (λ k. times_all k lists) n ∙ omega (arith, here, rest)
 
 -- lists, counted by their places
 lengths-sum : (lists : List (List ℕ)) → sum_below (λ id. length (list_at lists id)) (length lists) ≡ total length lists
 lengths-sum [] = refl
-lengths-sum (xs ∷ lists) =
-    let first = sum-first (λ id. length (list_at (xs ∷ lists) id)) (length lists) in
-    let rest = lengths-sum lists in
-    omega arith
+lengths-sum (xs ∷ lists) = sum-first (λ id. length (list_at (xs ∷ lists) id)) (length lists) ∙ ap (λ n. length xs + n) (lengths-sum lists)
 
 -- ---- a store
 
@@ -112,14 +109,13 @@ module _ (region : List ℕ) (lists : List (List ℕ)) (opened : List Bool) (fre
 
   counted : sum_below (λ j. times_all j lists + times j free) pages ≡ pages
   counted =
-      let both = sum-both (λ j. times_all j lists) (λ j. times j free) pages in
       let taken = all-sum lists pages (λ j h. let none = k.below j h in omega arith) in
       let given = times-sum free pages (λ j h. let none = k.below j h in omega arith) in
       let by_place = pages-are limit in
       let long = lengths-sum lists in
       let table = ap (sum_below (λ id. length (list_at lists id))) k.table in
       let sum = k.ledger in
-      omega arith
+      sum-both (λ j. times_all j lists) (λ j. times j free) pages ∙ omega (arith, taken, given, by_place, long, table, sum)
 
   pub shared_out : SharesOut (memory_in region lists opened free pages) lists free
   unfolding bytes
