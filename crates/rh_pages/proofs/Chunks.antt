@@ -5,7 +5,8 @@ use Rattle.std.proofs.lemmas.Bool.Decides.{nat_tests}
 use Rattle.std.proofs.lemmas.Grind.{same_number_lists}
 use Rattle.rh_defs.specs.Bytes.{part, put}
 use Rattle.rh_defs.proofs.BytesLaws.{length-part, length-put, get-part, put_below, put_above, put_inside, part-part, part-put_below, part-put_above, part-append_left, part-append_right, put-append_left, put-append_right}
-use Rattle.rh_pages.specs.Pages.{page, bytes_of, times}
+use Rattle.rh_pages.specs.Pages.{page, bytes_of}
+use Rattle.rh_store.specs.Shares.{times}
 use Rattle.rh_pages.specs.Kept.{length-bytes}
 
 -- how often a page stands in a list of one

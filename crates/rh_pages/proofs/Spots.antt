@@ -5,7 +5,8 @@ use Rattle.std.proofs.lemmas.Bool.{cases_lt}
 use Rattle.rh_defs.specs.Bytes.{part, put}
 use Rattle.rh_defs.specs.Memory.{area_set, bytes, with_bytes}
 use Rattle.rh_defs.proofs.BytesLaws.{length-put}
-use Rattle.rh_pages.specs.Pages.{bytes_of, list_at, contents, memory_in, spot_in, times, IsStore}
+use Rattle.rh_pages.specs.Pages.{bytes_of, list_at, contents, memory_in, spot_in, IsStore}
+use Rattle.rh_store.specs.Shares.{times}
 use Rattle.rh_pages.specs.Kept.{length-bytes, numbered_areas}
 use Rattle.rh_pages.proofs.Areas.{bytes_open, rewritten, ledger_set, memory_set}
 use Rattle.rh_pages.proofs.Chunks.{bytes_read, bytes_other, bytes_same, stands}

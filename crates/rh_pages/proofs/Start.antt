@@ -6,7 +6,8 @@ use Rattle.std.proofs.lemmas.Bool.{cases_eq}
 use Rattle.std.proofs.lemmas.List.{length-replicate, length_push, length-set, get_or-set_other}
 use Rattle.rh_defs.specs.Memory.{area_set, opened, fresh}
 use Rattle.rh_defs.proofs.MemoryLaws.{pages_below-none}
-use Rattle.rh_pages.specs.Pages.{bytes_of, list_at, contents, memory_in, times, times_all, IsStore}
+use Rattle.rh_pages.specs.Pages.{bytes_of, list_at, contents, memory_in, IsStore}
+use Rattle.rh_store.specs.Shares.{times, times_all}
 use Rattle.rh_pages.proofs.Areas.{contents_marked, flagged, ledger_set, memory_set}
 use Rattle.rh_pages.proofs.Chunks.{head_tells}
 use Rattle.rh_pages.proofs.Counts.{times-push}

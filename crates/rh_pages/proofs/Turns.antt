@@ -7,7 +7,8 @@ use Rattle.rh_defs.specs.Bytes.{put}
 use Rattle.rh_defs.specs.Memory.{area_set, bytes, grown, shrunk}
 use Rattle.rh_defs.proofs.BytesLaws.{length-put, length-part, part-put}
 use Rattle.rh_defs.proofs.MemoryLaws.{pages_below-one}
-use Rattle.rh_pages.specs.Pages.{page, bytes_of, list_at, contents, memory_in, times, times_all, IsStore}
+use Rattle.rh_pages.specs.Pages.{page, bytes_of, list_at, contents, memory_in, IsStore}
+use Rattle.rh_store.specs.Shares.{times, times_all}
 use Rattle.rh_pages.specs.Kept.{length-bytes, open_flag, numbered_areas}
 use Rattle.rh_pages.proofs.Areas.{rewritten, ledger_set, memory_set}
 use Rattle.rh_pages.proofs.Chunks.{bytes_other}

@@ -1,3 +1,4 @@
 pub mod Kept
+pub mod Sited
 pub mod Pages
 pub mod Paged

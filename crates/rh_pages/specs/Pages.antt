@@ -1,8 +1,9 @@
 -- Areas that are made of pages of a region.
-use Rattle.std.specs.Prelude.{◌≡◌, ℕ, ◌+◌, ◌*◌, ◌/◌, ◌%◌, ◌≤◌, ◌==◌, if◌then◌else◌, Bool, false, List, [], ◌∷◌, ◌++◌, length, get_or, Option, Some, None}
+use Rattle.std.specs.Prelude.{◌≡◌, ℕ, ◌+◌, ◌*◌, ◌/◌, ◌%◌, ◌≤◌, if◌then◌else◌, Bool, false, List, [], ◌∷◌, ◌++◌, length, get_or, Option, Some, None}
 use Rattle.rh_defs.specs.Bytes.{part}
 use Rattle.rh_defs.specs.declared.sizes.TheConstants.{PAGE}
 use Rattle.rh_defs.specs.Memory.{Memory, Ledger}
+use Rattle.rh_store.specs.Shares.{times, times_all}
 
 -- the bytes of a page of the region
 abbrev pub page : List ℕ → ℕ → List ℕ
@@ -28,16 +29,6 @@ memory_in region lists opened free pages = record { area = contents region lists
 -- where the byte at an offset of an area stands in the region
 abbrev pub spot_in : List (List ℕ) → ℕ → ℕ → ℕ
 spot_in lists id at = PAGE * get_or (list_at lists id) (at / PAGE) 0 + at % PAGE
-
--- how often a page stands in a list
-abbrev pub times : ℕ → List ℕ → ℕ
-times k [] = 0
-times k (x ∷ xs) = (if x == k then 1 else 0) + times k xs
-
--- how often it stands in all lists
-abbrev pub times_all : ℕ → List (List ℕ) → ℕ
-times_all k [] = 0
-times_all k (x ∷ xs) = times k x + times_all k xs
 
 -- page lists and a free list that share out the pages of a region
 pub record IsStore (region : List ℕ) (lists : List (List ℕ)) (opened : List Bool) (free : List ℕ) (pages limit : ℕ) : Type 0 where

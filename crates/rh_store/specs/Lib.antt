@@ -1,4 +1,5 @@
 pub mod Limits
+pub mod Shares
 pub mod Areas
 pub mod Plain
 pub mod Kept

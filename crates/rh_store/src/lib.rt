@@ -1,5 +1,6 @@
 //! Memory that areas share in whole pages: the traits [`Words`], [`Pages`] and
-//! [`Store`], each over the one before, and [`PlainStore`], which keeps a vector for each area.
+//! [`Store`], each over the one before, [`PlainStore`], which keeps a vector for each area, and the trait [`Sited`] of stores
+//! whose pages have numbers.
 //!
 //! A caller over any store names the laws of bytes and memories, and then often needs no proof file:
 //!
@@ -22,7 +23,9 @@
 mod area;
 pub mod bytes;
 mod plain;
+mod sited;
 mod store;
 
 pub use plain::PlainStore;
+pub use sited::Sited;
 pub use store::{AreaId, Pages, Store, StoreFault, Words};

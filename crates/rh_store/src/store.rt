@@ -9,7 +9,7 @@ use rh_defs::sizes::MAX_AREAS;
 use thiserror::Error;
 
 /// The number of an open area, below `MAX_AREAS`.
-#[derive(Clone, Copy, Debug, PartialEq, Eq)]
+#[derive(Clone, Copy, Debug, Default, PartialEq, Eq)]
 pub struct AreaId(pub u8);
 
 /// Why an area could not be opened or grown.

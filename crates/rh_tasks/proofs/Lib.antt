@@ -61,6 +61,7 @@ pub mod Scraps
 pub mod ScrapTransfers
 pub mod TransferBlocks
 pub mod SightLaws
+pub mod StandingLaws
 pub mod AcceptSteps
 pub mod TakeSaves
 pub mod Examples

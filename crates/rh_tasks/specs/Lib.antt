@@ -10,3 +10,4 @@ pub mod Saves
 pub mod Polls
 pub mod TransferBlock
 pub mod Sights
+pub mod Standing

@@ -22,6 +22,7 @@ mod scrap_transfers;
 mod seat;
 mod seats;
 mod sights;
+mod standing;
 mod tasks;
 mod transfer_block;
 mod transfers;

@@ -5,7 +5,7 @@ use crate::buffers::pattern;
 use crate::same::{is_true, same};
 use crate::suite;
 use rh_pages::PagedStore;
-use rh_store::{Pages, Store, Words};
+use rh_store::{Pages, Sited, Store, Words};
 use std::alloc::AllocError;
 use std::test::Fail;
 
@@ -106,5 +106,22 @@ fn a_page_stands_at_its_place(rt: HostRuntime) -> Result<(), Fail> {
     same(&rt, store.region().word(place + 8), 0x44332211);
     is_true(&rt, place != store.place(x, 0));
     is_true(&rt, place != store.place(y, 0));
+    Ok(())
+}
+
+#[test]
+#[tactic(auto, using(rh_defs::proofs::BytesLaws::word_laws, rh_defs::proofs::MemoryLaws::memory_laws, rh_defs::proofs::MemoryLaws::pool_laws))]
+fn a_page_has_the_number_of_its_place(rt: HostRuntime) -> Result<(), Fail> {
+    let mut store = PagedStore::new(rt.alloc(), 8)?;
+    let x = store.open()?;
+    store.grow(x, 2)?;
+    let number = store.page(x, 1);
+    same(&rt, number.wrapping_mul(4096), store.place(x, 1));
+    is_true(&rt, number != store.page(x, 0));
+    assert!(rt; 0 < store.free_pages());
+    let free = store.free_page(0);
+    is_true(&rt, free < 8);
+    is_true(&rt, free != number);
+    is_true(&rt, free != store.page(x, 0));
     Ok(())
 }

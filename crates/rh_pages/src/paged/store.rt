@@ -5,7 +5,7 @@ ghost use Rattle.std.specs.Prelude.{◌≡◌, ℕ, ◌<◌, true, false, get_or
 
 use super::PagedStore;
 use rh_defs::sizes::{PAGE, WORD};
-use rh_store::{AreaId, Pages, Store, StoreFault, Words};
+use rh_store::{AreaId, Pages, Sited, Store, StoreFault, Words};
 
 /// The number of the first area that isn't open.
 fn first_closed(opened: &[bool]) -> Option<usize>
@@ -170,4 +170,22 @@ impl Store for PagedStore {
     }
 
     ghost numbered = { numbered_law };
+}
+
+impl Sited for PagedStore {
+    ghost use Rattle.rh_pages.specs.Paged.{pages_of, free_of, shared_law};
+
+    ghost pages_of = { pages_of };
+
+    ghost free_of = { free_of };
+
+    fn page(&self, id: AreaId, i: usize) -> usize {
+        self.areas[id.0 as usize].at(i)
+    }
+
+    fn free_page(&self, i: usize) -> usize {
+        self.free.at(i)
+    }
+
+    ghost shared = { shared_law };
 }

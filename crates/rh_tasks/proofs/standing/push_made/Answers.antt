@@ -1,0 +1,14 @@
+use Rattle.std.proofs.Common.{length, get_or, take, subst, sym, ap, ◌∙◌, ◌++◌, arith}
+use Rattle.rh_tasks.specs.declared.made.MadeArea.{MadeArea}
+use Rattle.rh_tasks.proofs.StandingLaws.{filled-all, filled-few, filled-more}
+use Rattle.rh_tasks.proofs.standing.push_made.Goals as goal
+
+pub push-requires : goal.push-requires
+push-requires c = (omega arith, filled-few (λ (a : MadeArea). a.area) c.args.made.now.items c.loop-area.area-index c.args.areas.now.items _ c.loop-area.invariant (omega (arith, c.loop-area-test.true, ap length c.deref-area-items.ensures.value)) c.requires)
+
+pub loop-area-preserved : goal.loop-area-preserved
+loop-area-preserved c =
+    c.push.ensures.items ∙ filled-more (λ (a : MadeArea). a.area) c.args.made.now.items c.loop-area.area-index c.args.areas.now.items _ c.loop-area.invariant _ (omega (arith, c.loop-area-test.true, ap length c.deref-area-items.ensures.value))
+
+pub returns : goal.returns
+returns c = filled-all (λ (a : MadeArea). a.area) c.args.made.now.items c.loop-area.area-index c.args.areas.now.items _ c.loop-area.invariant (omega (arith, c.loop-area-test.false, ap length c.deref-area-items.ensures.value))

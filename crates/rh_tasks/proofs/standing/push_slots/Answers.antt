@@ -1,0 +1,14 @@
+use Rattle.std.proofs.Common.{length, get_or, take, subst, sym, ap, ◌∙◌, ◌++◌, arith}
+use Rattle.rh_tasks.specs.declared.seat.Seat.{Seat}
+use Rattle.rh_tasks.proofs.StandingLaws.{filled-all, filled-few, filled-more}
+use Rattle.rh_tasks.proofs.standing.push_slots.Goals as goal
+
+pub push-requires : goal.push-requires
+push-requires c = (omega arith, filled-few (λ (s : Seat). s.slot.area) c.args.seats.now.items c.loop-seat.seat-index c.args.areas.now.items _ c.loop-seat.invariant (omega (arith, c.loop-seat-test.true, ap length c.deref-seat-items.ensures.value)) c.requires)
+
+pub loop-seat-preserved : goal.loop-seat-preserved
+loop-seat-preserved c =
+    c.push.ensures.items ∙ filled-more (λ (s : Seat). s.slot.area) c.args.seats.now.items c.loop-seat.seat-index c.args.areas.now.items _ c.loop-seat.invariant _ (omega (arith, c.loop-seat-test.true, ap length c.deref-seat-items.ensures.value))
+
+pub returns : goal.returns
+returns c = filled-all (λ (s : Seat). s.slot.area) c.args.seats.now.items c.loop-seat.seat-index c.args.areas.now.items _ c.loop-seat.invariant (omega (arith, c.loop-seat-test.false, ap length c.deref-seat-items.ensures.value))

@@ -1,0 +1,8 @@
+use Rattle.std.proofs.Common.{◌≡◌, ◌++◌, take}
+use Rattle.std.specs.Prelude.{map}
+use Rattle.rh_tasks.specs.declared.seat.Seat.{Seat}
+use Rattle.rh_tasks.proofs.standing.push_slots.Given as goal
+
+-- the slots so far are listed
+abbrev pub invariant-loop-seat : goal.invariant-loop-seat
+invariant-loop-seat l = l.areas.items ≡ l.initial.areas.items ++ map (λ (s : Seat). s.slot.area) (take l.seat-index l.seats.items)

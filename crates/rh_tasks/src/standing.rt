@@ -1,0 +1,59 @@
+//! The store below the world, and whose its areas are.
+
+ghost use Rattle.std.specs.Prelude.{◌≡◌, ◌+◌, ◌≤◌, [], ◌++◌, length, map};
+ghost use Rattle.rh_defs.specs.declared.sizes.TheConstants.{MAX_AREAS};
+ghost use Rattle.rh_tasks.specs.declared.made.MadeArea.{MadeArea};
+ghost use Rattle.rh_tasks.specs.declared.seat.Seat.{Seat};
+ghost use Rattle.rh_tasks.specs.Standing.{StandsIn, numbers};
+ghost use Rattle.rh_tasks.specs.View.{fixed};
+
+use crate::made::MadeArea;
+use crate::seat::Seat;
+use crate::world::World;
+use arrayvec::ArrayVec;
+use rh_defs::sizes::{FIXED_AREAS, MAX_AREAS};
+use rh_store::{AreaId, Store};
+
+/// Puts areas 0 to 5 into an empty list.
+fn push_fixed(areas: &mut ArrayVec<AreaId, MAX_AREAS>)
+    requires { areas.old.items ≡ [] }
+    ensures { numbers areas.new.items ≡ fixed }
+{
+    for number in 0..FIXED_AREAS {
+        areas.push(AreaId(number as u8));
+    }
+}
+
+/// Appends the areas of made areas.
+fn push_made(made: &Vec<MadeArea>, areas: &mut ArrayVec<AreaId, MAX_AREAS>)
+    requires { length areas.old.items + length made.now.items ≤ MAX_AREAS }
+    ensures { areas.new.items ≡ areas.old.items ++ map (λ (a : MadeArea). a.area) made.now.items }
+{
+    for area in made {
+        areas.push(area.area);
+    }
+}
+
+/// Appends the areas of slots.
+fn push_slots(seats: &Vec<Seat>, areas: &mut ArrayVec<AreaId, MAX_AREAS>)
+    requires { length areas.old.items + length seats.now.items ≤ MAX_AREAS }
+    ensures { areas.new.items ≡ areas.old.items ++ map (λ (s : Seat). s.slot.area) seats.now.items }
+{
+    for seat in seats {
+        areas.push(seat.slot.area);
+    }
+}
+
+impl<S: Store> World<S> {
+    /// Lends the store, and puts its open areas into a list, in place of what it held, in the order of `areas`: areas 0 to
+    /// 5, the made areas in order of number, and the slots in order of handle.
+    pub fn store(&self, areas: &mut ArrayVec<AreaId, MAX_AREAS>) -> &S
+        ensures { StandsIn (S.memory result.now) (numbers areas.new.items) self.now }
+    {
+        areas.clear();
+        push_fixed(areas);
+        push_made(&self.made, areas);
+        push_slots(&self.seats, areas);
+        &self.store
+    }
+}
