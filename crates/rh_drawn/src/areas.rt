@@ -19,8 +19,8 @@ const MODULE_AREA: u32 = 1;
 /// The area that has the scrap file.
 const SCRAP_AREA: u32 = 5;
 
-/// Writes a line for each of areas 0 to 5 that has pages, but the module area, and for each made area. Fails only where the
-/// writer failed or took none of what it was offered; a front of the lines is then written.
+/// Writes a line for each of areas 0 to 5 that has pages, but the module area, and for each made area. Fails only
+/// where the writer failed or took none of what it was offered; a front of the lines is then written.
 pub fn print_area_part<S: Sight, W: Sink>(
     sight: &S,
     step: &Step<'_>,

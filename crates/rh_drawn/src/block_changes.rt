@@ -18,8 +18,8 @@ use rh_lines::{Sink, WriteFailed};
 use rh_map::{print_block_gone, print_block_new, print_block_resized, print_slide};
 use rh_sight::{Kept, Sight, Step, task_with};
 
-/// Writes which blocks of the named task are gone, are new or have another size, and how those that lie elsewhere slid.
-/// Fails only where the writer failed or took none of what it was offered; a front of the lines is then written.
+/// Writes which blocks of the named task are gone, are new or have another size, and how those that lie elsewhere
+/// slid. Fails only where the writer failed or took none of what it was offered; a front of the lines is then written.
 pub fn print_block_part<S: Sight, W: Sink>(
     sight: &S,
     step: &Step<'_>,

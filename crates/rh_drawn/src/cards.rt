@@ -11,8 +11,8 @@ use rh_figure::limits::{CARD_BYTES, MOST_CARDS};
 use rh_lines::{Sink, WriteFailed};
 use rh_map::print_more_card;
 
-/// Of so many cards this many are shown from the first on: all, or where there are too many all but two of those that a band
-/// has room for.
+/// Of so many cards this many are shown from the first on: all, or where there are too many all but two of those that
+/// a band has room for.
 pub fn shown_count(cards: usize) -> usize
     ensures { result ≡ count_shown cards }
 {

@@ -46,8 +46,8 @@ pub fn excerpt_fault(fault: &LineFault, front: &mut Front) -> u32
     count_lines(front.as_slice())
 }
 
-/// How many lines the answer to a question has that is too long for a front: one for a block's bytes, one for each segment
-/// of a heap and one above them.
+/// How many lines the answer to a question has that is too long for a front: one for a block's bytes, one for each
+/// segment of a heap and one above them.
 fn count_answer<S: Sight>(sight: &S, question: &Question, front: &Front) -> u32
     requires { Overflows front.now (answer_text (asked (S.desk sight.now) question.now)) }
     ensures { result ≡ length (ended (answer_text (asked (S.desk sight.now) question.now))) }

@@ -22,8 +22,8 @@ use rh_lines::{Sink, WriteFailed};
 use rh_map::put_line;
 use rh_sight::{Sight, Step};
 
-/// Writes what a step has changed, and the figure of the desk behind it. Fails only where the writer failed or took none of
-/// what it was offered; a front of the lines is then written.
+/// Writes what a step has changed, and the figure of the desk behind it. Fails only where the writer failed or took
+/// none of what it was offered; a front of the lines is then written.
 pub fn print_figure<S: Sight, W: Sink>(
     sight: &S,
     step: &Step<'_>,

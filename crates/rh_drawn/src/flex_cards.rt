@@ -20,8 +20,8 @@ use rh_lines::{Sink, WriteFailed};
 use rh_map::{CardBlock, print_flex_card};
 use rh_sight::{Sight, Step, TaskSight, is_fresh_flex};
 
-/// Writes the cards of a task's flex blocks, from below. Fails only where the writer failed or took none of what it was
-/// offered; a front of the lines is then written.
+/// Writes the cards of a task's flex blocks, from below. Fails only where the writer failed or took none of what it
+/// was offered; a front of the lines is then written.
 pub fn print_flex_cards<S: Sight, W: Sink>(
     sight: &S,
     step: &Step<'_>,

@@ -33,8 +33,8 @@ use rh_sight::{
     place_behind, place_of,
 };
 
-/// A heap whose blocks have cards, with the handle of its task and the records of its transfers that come in; 0 and none for
-/// the module area's.
+/// A heap whose blocks have cards, with the handle of its task and the records of its transfers that come in; 0 and
+/// none for the module area's.
 #[derive(Clone, Copy)]
 pub struct Band<'a> {
     pub heap: HeapOf,
@@ -42,8 +42,8 @@ pub struct Band<'a> {
     pub taking: &'a [Incoming],
 }
 
-/// What a first walk over a heap finds: how many segments there are, and which is the first changed one behind those that
-/// are shown anyway.
+/// What a first walk over a heap finds: how many segments there are, and which is the first changed one behind those
+/// that are shown anyway.
 #[derive(Clone, Copy)]
 struct Survey {
     count: u32,

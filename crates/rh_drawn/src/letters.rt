@@ -33,8 +33,8 @@ struct Waits {
     count: usize,
 }
 
-/// Writes the messages of each task that has some, below a heading. Fails only where the writer failed or took none of what
-/// it was offered; a front of the lines is then written.
+/// Writes the messages of each task that has some, below a heading. Fails only where the writer failed or took none of
+/// what it was offered; a front of the lines is then written.
 pub fn print_letter_part<S: Sight, W: Sink>(
     sight: &S,
     step: &Step<'_>,

@@ -1,5 +1,5 @@
-//! The map of a script: after each command its reply, what has changed, and the figure of memory, over any desk that takes
-//! commands and can be looked at.
+//! The map of a script: after each command its reply, what has changed, and the figure of memory, over any desk that
+//! takes commands and can be looked at.
 #![tactic(auto)]
 
 mod areas;

@@ -27,8 +27,8 @@ use rh_session::Status;
 use rh_sight::{Kept, Marks, Messages, PageList, Step, is_still};
 use std::alloc::{AllocError, Global};
 
-/// A map in the middle of its script: what is drawn, whether marked steps alone are shown, how many steps are behind it,
-/// whether a mark was seen since the last, whether a line was bad; and what a step is drawn with.
+/// A map in the middle of its script: what is drawn, whether marked steps alone are shown, how many steps are behind
+/// it, whether a mark was seen since the last, whether a line was bad; and what a step is drawn with.
 #[derive(Drop)]
 pub struct Mapper<D> {
     drawn: D,
@@ -42,8 +42,8 @@ pub struct Mapper<D> {
     front: Front,
 }
 
-/// What was done at a step: what was kept before, the command with its reply, None for a bad line, how many lines the reply
-/// has, and whether a mark asked for the step.
+/// What was done at a step: what was kept before, the command with its reply, None for a bad line, how many lines the
+/// reply has, and whether a mark asked for the step.
 #[derive(Clone, Copy)]
 struct Deed<'a> {
     kept: &'a Kept,
@@ -170,8 +170,8 @@ impl<D: Drawn> Mapper<D> {
         self.drawn.apply(command);
     }
 
-    /// Does a command, puts the front of its reply in its place, and answers the reply and how many lines it has. A question
-    /// changes nothing, and its answer's words and numbers aren't needed: Done stands in their place.
+    /// Does a command, puts the front of its reply in its place, and answers the reply and how many lines it has. A
+    /// question changes nothing, and its answer's words and numbers aren't needed: Done stands in their place.
     fn answer(&mut self, command: &Command) -> (Reply, u32)
         requires { IsTrue (in_range command.now) }
         ensures desk { IsReordered (step (D.desk self.old.drawn) command.now).0 (D.desk self.new.drawn) }

@@ -17,8 +17,8 @@ use rh_sight::{HeapOf, PagesOf, Sight, Step, module_pieces, pages_of};
 /// The number of the module area.
 const MODULE_AREA: u32 = 1;
 
-/// Writes the module area. Fails only where the writer failed or took none of what it was offered; a front of the lines is
-/// then written.
+/// Writes the module area. Fails only where the writer failed or took none of what it was offered; a front of the
+/// lines is then written.
 pub fn print_module_part<S: Sight, W: Sink>(
     sight: &S,
     step: &Step<'_>,

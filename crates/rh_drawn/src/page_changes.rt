@@ -17,8 +17,8 @@ use rh_lines::{Sink, WriteFailed};
 use rh_map::{print_area_takes, print_freed, print_slot_takes};
 use rh_sight::{AreaSight, Owner, PagesOf, Sight, Step, TaskSight, free_of, pages_of};
 
-/// Writes which pages each owner has taken, and which were given back. Fails only where the writer failed or took none of
-/// what it was offered; a front of the lines is then written.
+/// Writes which pages each owner has taken, and which were given back. Fails only where the writer failed or took none
+/// of what it was offered; a front of the lines is then written.
 pub fn print_page_part<S: Sight, W: Sink>(
     sight: &S,
     step: &Step<'_>,

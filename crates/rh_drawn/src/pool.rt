@@ -20,8 +20,8 @@ use rh_sight::{PagesOf, Sight, Step, pages_of};
 /// The character of a free page.
 const FREE: u8 = b'.';
 
-/// Writes how many pages are free, and the rows of the pool. Fails only where the writer failed or took none of what it was
-/// offered; a front of the lines is then written.
+/// Writes how many pages are free, and the rows of the pool. Fails only where the writer failed or took none of what
+/// it was offered; a front of the lines is then written.
 pub fn print_pool_part<S: Sight, W: Sink>(
     sight: &S,
     step: &Step<'_>,

@@ -17,8 +17,8 @@ use rh_lines::{Sink, WriteFailed};
 use rh_map::{print_bytes_sent, print_returns, print_sends, print_takes};
 use rh_sight::{MessageItem, Sight, Step};
 
-/// Writes which message goes back, which was taken and which was sent. Fails only where the writer failed or took none of
-/// what it was offered; a front of the lines is then written.
+/// Writes which message goes back, which was taken and which was sent. Fails only where the writer failed or took none
+/// of what it was offered; a front of the lines is then written.
 pub fn print_post_part<S: Sight, W: Sink>(
     sight: &S,
     step: &Step<'_>,

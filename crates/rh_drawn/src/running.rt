@@ -13,8 +13,8 @@ use rh_lines::{Sink, Source};
 use rh_session::{RunFault, Status};
 use std::alloc::Global;
 
-/// Runs a script over what can be drawn, and writes its map: each step, or marked steps alone, each before it reads on.
-/// It takes memory before its first read only, and gives up after 1,000,000 reads that gave bytes.
+/// Runs a script over what can be drawn, and writes its map: each step, or marked steps alone, each before it reads
+/// on. It takes memory before its first read only, and gives up after 1,000,000 reads that gave bytes.
 pub fn map_script<D: Drawn, R: Source, W: Sink>(
     alloc: Global,
     drawn: D,

@@ -22,8 +22,8 @@ use rh_lines::{Sink, WriteFailed};
 use rh_map::{Area, SlotHeading, print_area, print_slot_heading, slot_mark};
 use rh_sight::{HeapOf, PagesOf, Sight, Step, TaskSight, is_drawn, pages_of, slot_pieces};
 
-/// Writes all slots, in order of handle. Fails only where the writer failed or took none of what it was offered; a front of
-/// the lines is then written.
+/// Writes all slots, in order of handle. Fails only where the writer failed or took none of what it was offered; a
+/// front of the lines is then written.
 pub fn print_slot_part<S: Sight, W: Sink>(
     sight: &S,
     step: &Step<'_>,

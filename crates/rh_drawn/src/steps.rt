@@ -13,8 +13,8 @@ use rh_lines::{Sink, WriteFailed};
 use rh_map::{print_reply_lines, print_step_line, print_still};
 use rh_sight::{Sight, Step};
 
-/// What stands above a figure: the step's number, its line of the script, the front of its reply and how many lines that
-/// has; and whether there is no figure, since memory stays as it is.
+/// What stands above a figure: the step's number, its line of the script, the front of its reply and how many lines
+/// that has; and whether there is no figure, since memory stays as it is.
 #[derive(Clone, Copy)]
 pub struct Above<'a> {
     pub number: u32,

@@ -21,8 +21,8 @@ use rh_lines::{Sink, WriteFailed};
 use rh_map::{Side, print_transfer, put_line};
 use rh_sight::{Sight, TaskSight};
 
-/// Writes the transfers that go out, each with the side that comes in, and those that only come in, below a heading. Fails
-/// only where the writer failed or took none of what it was offered; a front of the lines is then written.
+/// Writes the transfers that go out, each with the side that comes in, and those that only come in, below a heading.
+/// Fails only where the writer failed or took none of what it was offered; a front of the lines is then written.
 pub fn print_transfer_part<S: Sight, W: Sink>(
     sight: &S,
     writer: &mut W,

@@ -19,8 +19,8 @@ const PIECE: usize = 4_096;
 /// So many reads that give bytes make a script too long.
 const MOST_READS: u32 = 1_000_000;
 
-/// Reads a script to its end, and hands each of its lines to the taker before it reads on; at last what stands behind the
-/// last line feed. It takes memory before its first read only, and gives up after 1,000,000 reads that gave bytes.
+/// Reads a script to its end, and hands each of its lines to the taker before it reads on; at last what stands behind
+/// the last line feed. It takes memory before its first read only, and gives up after 1,000,000 reads that gave bytes.
 pub fn feed_all<T: LineTaker, R: Source, W: Sink>(
     alloc: Global,
     taker: &mut T,
@@ -97,8 +97,8 @@ fn read_all<T: LineTaker, R: Source, W: Sink>(
     Err(FeedFault::TooLong)
 }
 
-/// Hands on each line that ends in these bytes, and keeps the rest of them. Before them stood a front of a line, of which
-/// `line` has what counts.
+/// Hands on each line that ends in these bytes, and keeps the rest of them. Before them stood a front of a line, of
+/// which `line` has what counts.
 fn feed<T: LineTaker, W: Sink>(
     taker: &mut T,
     line: &mut LineBuffer,

@@ -13,8 +13,8 @@ use rh_lines::{Sink, Source};
 use rh_session::{RunFault, Status};
 use std::alloc::Global;
 
-/// Runs a script over a fresh desk of 8 to 1,024 pages, and writes its map: each step, or marked steps alone, each before it
-/// reads on. It takes memory before its first read only, and gives up after 1,000,000 reads that gave bytes.
+/// Runs a script over a fresh desk of 8 to 1,024 pages, and writes its map: each step, or marked steps alone, each
+/// before it reads on. It takes memory before its first read only, and gives up after 1,000,000 reads that gave bytes.
 pub fn draw_map<R: Source, W: Sink>(
     alloc: Global,
     files: Files,

@@ -14,7 +14,8 @@ use crate::step::Step;
 use rh_defs::{Anchor, BlockItem, Handle, Letter, Ref};
 use rh_figure::limits::MOST_SLOTS;
 
-/// Whether the command has changed the flex block of a task: wrote to it, or none of that anchor and size was there before.
+/// Whether the command has changed the flex block of a task: wrote to it, or none of that anchor and size was there
+/// before.
 pub fn is_fresh_flex(step: &Step<'_>, handle: Handle, anchor: Anchor, size: u32) -> bool
     ensures { (d : Desk) → result ≡ is_fresh_flex_in (scene_at d step.now) handle anchor size }
 {
@@ -66,8 +67,8 @@ pub fn is_new_ref(step: &Step<'_>, my_ref: Ref) -> bool
     u64::from(my_ref.0) == step.kept.next_ref()
 }
 
-/// Whether the slot of a task is drawn, where so many tasks are live: all slots of few tasks are, and of many those that
-/// the command is about.
+/// Whether the slot of a task is drawn, where so many tasks are live: all slots of few tasks are, and of many those
+/// that the command is about.
 pub fn is_drawn(step: &Step<'_>, tasks: usize, handle: Handle) -> bool
     ensures { (d : Desk) (t : Task) → tasks ≡ length d.tasks → handle ≡ t.handle → result ≡ is_drawn_in (scene_at d step.now) t }
 {

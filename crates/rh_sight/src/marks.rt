@@ -25,8 +25,9 @@ const NO_BLOCK: HeapBlock = HeapBlock {
     address: 0,
 };
 
-/// What a command did: the task that it names, the anchor of the block that it wrote to, the block of a C heap and that
-/// of the module area (0 for none) that it made or changed, the letter that was sent, and the message that was taken.
+/// What a command did: the task that it names, the anchor of the block that it wrote to, the block of a C heap and
+/// that of the module area (0 for none) that it made or changed, the letter that was sent, and the message that was
+/// taken.
 #[derive(Clone, Copy)]
 pub struct Marks<'a> {
     pub handle: Handle,

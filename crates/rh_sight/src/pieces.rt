@@ -26,8 +26,8 @@ use rh_defs::{BlockItem, Handle, SegmentItem};
 use rh_figure::limits::MOST_SEGMENTS;
 use rh_figure::{Kind, Piece};
 
-/// A slot has at most so many pieces: anchor words, a heap's descriptor, segments, a piece for more segments, the heap's
-/// top, flex blocks, and what is unused.
+/// A slot has at most so many pieces: anchor words, a heap's descriptor, segments, a piece for more segments, the
+/// heap's top, flex blocks, and what is unused.
 pub const MOST_PIECES: usize = MOST_SEGMENTS + ANCHORS + 5;
 
 /// The pieces of an area.
@@ -149,7 +149,8 @@ fn push_heap<S: Sight>(sight: &S, step: &Step<'_>, drawn: Drawn, pieces: &mut Pi
     pieces.push(plain(Kind::FreeTop, at + others.end as usize, top));
 }
 
-/// Appends the segments that are drawn one by one, and answers where the last ends, in bytes from the heap's first one.
+/// Appends the segments that are drawn one by one, and answers where the last ends, in bytes from the heap's first
+/// one.
 fn push_segments<S: Sight>(
     sight: &S,
     step: &Step<'_>,

@@ -96,8 +96,8 @@ pub enum HeapOf {
     Module,
 }
 
-/// Who has pages: one of areas 0 to 5, the made area at a place in order of number, or the slot of the task at a place in
-/// order of handle.
+/// Who has pages: one of areas 0 to 5, the made area at a place in order of number, or the slot of the task at a place
+/// in order of handle.
 #[derive(Clone, Copy, Debug, PartialEq, Eq)]
 pub enum PagesOf {
     Fixed(u32),
@@ -139,22 +139,22 @@ pub trait Sight {
         requires { IsSome (heap_seen heap (desk self.now)) }
         ensures { IfSome (heap_seen heap (desk self.now)) (λ h. result ≡ h.end) };
 
-    /// Up to 64 segments of a heap, of which the first begins at a place in bytes from the heap's first one; none at the end of
-    /// the last.
+    /// Up to 64 segments of a heap, of which the first begins at a place in bytes from the heap's first one; none at
+    /// the end of the last.
     fn segments(&self, heap: HeapOf, place: u32) -> Segments
         requires { IfSome (heap_seen heap (desk self.now)) (λ h. (below : List Segment) × (rest : List Segment) × (h.segments ≡ below ++ rest) × (place ≡ place_after below)) }
         ensures { IfSome (heap_seen heap (desk self.now)) (λ h. (below : List Segment) (rest : List Segment) → h.segments ≡ below ++ rest → place ≡ place_after below →
             result.items ≡ take MOST_AT_ONCE (segment_items_from (heap_start_of heap + place) rest)) };
 
-    /// Writes the first bytes of the block of a heap whose segment begins at a place, as many as there is room for. No message
-    /// lies in the block.
+    /// Writes the first bytes of the block of a heap whose segment begins at a place, as many as there is room for. No
+    /// message lies in the block.
     fn read_heap(&self, heap: HeapOf, place: u32, to: &mut [u8])
         requires block { (bytes : List ℕ) × HasBlock (heap_seen heap (desk self.now)) place bytes × (length to.old ≤ length bytes) }
         requires free { IsFree heap place (desk self.now) }
         ensures { (bytes : List ℕ) → HasBlock (heap_seen heap (desk self.now)) place bytes → to.new ≡ take (length to.old) bytes };
 
-    /// Puts all messages into a list, in place of what it held: those that wait, task by task in order of handle and as polls
-    /// hand them out, and then those that are held.
+    /// Puts all messages into a list, in place of what it held: those that wait, task by task in order of handle and
+    /// as polls hand them out, and then those that are held.
     fn messages(&self, list: &mut Messages)
         ensures { list.new.items ≡ message_items (desk self.now) };
 
@@ -181,9 +181,9 @@ pub trait Sight {
     fn next_ref(&self) -> u64
         ensures { result ≡ next_ref_on (desk self.now) };
 
-    /// Puts the numbers of all pages of the pool into a list, in place of what it held: the free ones in the order in which
-    /// they were given back, and then those of each owner from below: areas 0 to 5, the made ones in order of number, and the
-    /// slots in order of handle.
+    /// Puts the numbers of all pages of the pool into a list, in place of what it held: the free ones in the order in
+    /// which they were given back, and then those of each owner from below: areas 0 to 5, the made ones in order of
+    /// number, and the slots in order of handle.
     fn page_list(&self, list: &mut PageList)
         ensures all { length list.new.items ≡ (desk self.now).pool }
         ensures shared { IsShared (share_in list.new.items (desk self.now)) (desk self.now) };
