@@ -14,8 +14,8 @@ use rh_lines::{Row, Sink, put};
 use rh_session::{RunFault, Status};
 
 /// Writes what a heap of these bytes consists of, `ok USED USEDBYTES HOLES HOLEBYTES TOP`, or `bad FAULT` where they
-/// spell none, which is BadLines. WriteFailed only where the writer failed or took none of what it was offered; a
-/// front of the line is then written.
+/// spell none, which is BadLines. WriteFailed only where the writer failed or took none of what it was offered; a front
+/// of the line is then written.
 pub fn check_image<W: Sink>(image: &[u8], writer: &mut W) -> Result<Status, RunFault>
     ensures ok { IfOk result (λ status. Takes (W.output writer.old) (W.output writer.new) (image_line image.now)) }
     ensures status { IfOk result (λ status. status ≡ image_status image.now) }
