@@ -30,6 +30,7 @@ pub fn print_area_part<S: Sight, W: Sink>(
     ensures { Puts (W.output writer.old) (W.output writer.new) result
         (shown_lines (area_part (scene_at (S.desk sight.now) step.now))) }
 {
+    sight.spelled();
     for number in 0..FIXED_AREAS as u32 {
         print_fixed(sight, step, number, writer)?;
     }
@@ -48,6 +49,7 @@ fn print_fixed<S: Sight, W: Sink>(
     ensures { Puts (W.output writer.old) (W.output writer.new) result
         (shown_lines (panel_part (fixed_panel (scene_at (S.desk sight.now) step.now) (number, slice_index (S.desk sight.now).areas number)))) }
 {
+    sight.spelled();
     if number == MODULE_AREA || sight.fixed_pages(number) == 0 {
         return Ok(());
     }

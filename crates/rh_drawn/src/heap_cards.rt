@@ -63,6 +63,7 @@ pub fn print_heap_cards<S: Sight, W: Sink>(
     ensures { IfSome (heap_seen band.now.heap (S.desk sight.now)) (λ h. Puts (W.output writer.old) (W.output writer.new) result
         (shown_lines (card_lines (shown_cards (band_cards (scene_at (S.desk sight.now) step.now) (S.desk sight.now) band.now h))))) }
 {
+    sight.spelled();
     let survey = survey(sight, step, band);
     let count = survey.count as usize;
     let shown = shown_count(count);
@@ -85,6 +86,7 @@ fn survey<S: Sight>(sight: &S, step: &Step<'_>, band: &Band<'_>) -> Survey
     requires band { IsBandOf (S.desk sight.now) band.now }
     ensures { IfSome (heap_seen band.now.heap (S.desk sight.now)) (λ h. IsSurvey (scene_at (S.desk sight.now) step.now) band.now h result) }
 {
+    sight.spelled();
     let mut place = HEAP_FIRST as u32;
     let mut survey = Survey {
         count: 0,
@@ -159,6 +161,7 @@ fn print_segment<S: Sight, W: Sink>(
         Puts (W.output writer.old) (W.output writer.new) result
         (shown_lines (card_lines (band_card (scene_at (S.desk sight.now) step.now) (S.desk sight.now) band.now (heap_start_of band.now.heap + place) segment ∷ []))) }
 {
+    sight.spelled();
     match item {
         SegmentItem::Hole { address, size } => print_hole_card(*address, *size, writer),
         SegmentItem::Used { address, size } => match band.heap {
@@ -217,6 +220,7 @@ fn print_message<S: Sight, W: Sink>(
         Puts (W.output writer.old) (W.output writer.new) result
         (shown_lines (card_lines (post_card (scene_at (S.desk sight.now) step.now) p ∷ []))) }
 {
+    sight.spelled();
     let card = CardMessage {
         my_ref: message.my_ref,
         action: message.action,

@@ -45,6 +45,7 @@ pub fn print_letter_part<S: Sight, W: Sink>(
     ensures { Puts (W.output writer.old) (W.output writer.new) result
         (shown_lines (letter_part (scene_at (S.desk sight.now) step.now))) }
 {
+    sight.spelled();
     if !has_letterboxes(sight, step.messages) {
         return Ok(());
     }
@@ -84,6 +85,7 @@ fn print_letterboxes<S: Sight, W: Sink>(
     ensures { Puts (W.output writer.old) (W.output writer.new) result
         (shown_lines (map letterbox_line (letterboxes (scene_at (S.desk sight.now) step.now)))) }
 {
+    sight.spelled();
     let mut i = 0;
     'tasks: while let Some(task) = sight.task(i) {
         if has_letters(step.messages, task.handle) {

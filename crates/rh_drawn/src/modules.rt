@@ -29,6 +29,7 @@ pub fn print_module_part<S: Sight, W: Sink>(
     ensures { Puts (W.output writer.old) (W.output writer.new) result
         (shown_lines (module_part (scene_at (S.desk sight.now) step.now))) }
 {
+    sight.spelled();
     print_module_heading(sight.fixed_pages(MODULE_AREA), writer)?;
     module_pieces(sight, step, &mut lists.pieces);
     let area = Area {

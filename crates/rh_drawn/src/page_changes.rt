@@ -44,6 +44,7 @@ fn print_fixed_takes<S: Sight, W: Sink>(
     ensures { Puts (W.output writer.old) (W.output writer.new) result
         (shown_lines (flat_map (takes_part (scene_at (S.desk sight.now) step.now)) (map (fixed_holding (S.desk sight.now)) (enumerate_from 0 (S.desk sight.now).areas)))) }
 {
+    sight.spelled();
     for number in 0..FIXED_AREAS as u32 {
         let has = sight.fixed_pages(number);
         print_area_part(sight, step, PagesOf::Fixed(number), number, has, writer)?;
@@ -61,6 +62,7 @@ fn print_made_takes<S: Sight, W: Sink>(
     ensures { Puts (W.output writer.old) (W.output writer.new) result
         (shown_lines (flat_map (takes_part (scene_at (S.desk sight.now) step.now)) (map made_holding (S.desk sight.now).made))) }
 {
+    sight.spelled();
     let mut i = 0;
     'areas: while let Some(area) = sight.made(i) {
         let AreaSight { number, pages: has, .. } = area;
@@ -124,6 +126,7 @@ fn print_slot_part<S: Sight, W: Sink>(
     ensures { (t : Task) → slice_get (S.desk sight.now).tasks i ≡ Some t → Puts (W.output writer.old) (W.output writer.new) result
         (shown_lines (takes_part (scene_at (S.desk sight.now) step.now) (slot_holding t))) }
 {
+    sight.spelled();
     let had = step.kept.count(Owner::Slot(task.handle));
     if had >= task.pages {
         return Ok(());

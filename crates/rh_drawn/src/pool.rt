@@ -46,6 +46,7 @@ fn mark_pool<S: Sight>(sight: &S, step: &Step<'_>, marks: &mut [u8])
     ensures { let x = scene_at (S.desk sight.now) step.now in
         marks.new ≡ map (λ k. page_mark (slot_panels x) (owner_of x k)) (range_with_len 0 (S.desk sight.now).pool) }
 {
+    sight.spelled();
     clear(marks);
     for number in 0..FIXED_AREAS as u32 {
         let pages = pages_of(sight, step.pages, PagesOf::Fixed(number));

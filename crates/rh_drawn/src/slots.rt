@@ -34,6 +34,7 @@ pub fn print_slot_part<S: Sight, W: Sink>(
     ensures { Puts (W.output writer.old) (W.output writer.new) result
         (shown_lines (slot_part (scene_at (S.desk sight.now) step.now))) }
 {
+    sight.spelled();
     let tasks = count_tasks(sight);
     let mut i = 0;
     'tasks: while let Some(task) = sight.task(i) {

@@ -76,6 +76,7 @@ impl Kept {
         requires { messages.now ≡ message_items (S.desk sight.now) }
         ensures { result ≡ before_of (S.desk sight.now) (option_map (λ c. c.now) command) }
     {
+        sight.spelled();
         let mut kept = Kept {
             handle: Handle(0),
             blocks: ArrayVec::new(),
@@ -98,6 +99,7 @@ impl Kept {
         requires before { self.old ≡ before_task (S.desk sight.now) None }
         ensures { (t : Task) → slice_get (S.desk sight.now).tasks i ≡ Some t → self.new ≡ before_task (S.desk sight.now) (Some t) }
     {
+        sight.spelled();
         if let Some(task) = sight.task(i) {
             self.handle = task.handle;
             self.held = held_ref(messages, task.handle);
@@ -192,6 +194,7 @@ fn push_holdings<S: Sight>(sight: &S, list: &mut ArrayVec<Holding, MAX_AREAS>)
     requires { list.old.items ≡ [] }
     ensures { holdings_of list.new.items ≡ holdings (S.desk sight.now) }
 {
+    sight.spelled();
     for number in 0..FIXED_AREAS as u32 {
         list.push(Holding {
             owner: Owner::Area(number),

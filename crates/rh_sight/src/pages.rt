@@ -16,6 +16,7 @@ pub fn free_of<'a, S: Sight>(sight: &S, pages: &'a [u16]) -> &'a [u16]
     requires { IsShared (share_in pages.now (S.desk sight.now)) (S.desk sight.now) }
     ensures { result.now ≡ (share_in pages.now (S.desk sight.now)).free }
 {
+    sight.spelled();
     &pages[..sight.free_pages() as usize]
 }
 
@@ -25,6 +26,7 @@ pub fn pages_of<'a, S: Sight>(sight: &S, pages: &'a [u16], owner: PagesOf) -> &'
     requires owner { IsSome (owner_seen owner (S.desk sight.now)) }
     ensures { IfSome (owner_seen owner (S.desk sight.now)) (λ o. result.now ≡ (share_in pages.now (S.desk sight.now)).pages_of o) }
 {
+    sight.spelled();
     let first = first_page(sight, owner);
     &pages[first..][..page_count(sight, owner)]
 }
@@ -34,6 +36,7 @@ fn page_count<S: Sight>(sight: &S, owner: PagesOf) -> usize
     requires { IsSome (owner_seen owner (S.desk sight.now)) }
     ensures { IfSome (owner_seen owner (S.desk sight.now)) (λ o. result ≡ count_of o (holdings (S.desk sight.now))) }
 {
+    sight.spelled();
     let count = match owner {
         PagesOf::Fixed(number) => sight.fixed_pages(number),
         PagesOf::Made(i) => match sight.made(i) {
@@ -53,6 +56,7 @@ fn first_page<S: Sight>(sight: &S, owner: PagesOf) -> usize
     requires { IsSome (owner_seen owner (S.desk sight.now)) }
     ensures { result ≡ free_pages_on (S.desk sight.now) + pages_before owner (S.desk sight.now) }
 {
+    sight.spelled();
     let free = sight.free_pages() as usize;
     let fixed = FIXED_AREAS as u32;
     match owner {
@@ -71,6 +75,7 @@ fn fixed_before<S: Sight>(sight: &S, number: u32) -> usize
     requires { number ≤ 6 }
     ensures { result ≡ total (λ (h : Holding). h.1) (take number (map (fixed_holding (S.desk sight.now)) (enumerate_from 0 (S.desk sight.now).areas))) }
 {
+    sight.spelled();
     let mut count = 0;
     for below in 0..number {
         count += sight.fixed_pages(below) as usize;

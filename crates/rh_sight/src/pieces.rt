@@ -54,6 +54,7 @@ pub fn slot_pieces<S: Sight>(
     ensures { (t : Task) → slice_get (S.desk sight.now).tasks i ≡ Some t →
         pieces.new.items ≡ slot_pieces_of (scene_at (S.desk sight.now) step.now) t.handle t.slot }
 {
+    sight.spelled();
     pieces.clear();
     pieces.push(plain(Kind::AnchorWords, 0, C_HEAP_PLACE));
     let drawn = Drawn {
@@ -135,6 +136,7 @@ fn push_heap<S: Sight>(sight: &S, step: &Step<'_>, drawn: Drawn, pieces: &mut Pi
     ensures { IfSome (heap_seen drawn.heap (S.desk sight.now)) (λ h. pieces.new.items ≡ pieces.old.items
         ++ heap_pieces (legend_of (scene_at (S.desk sight.now) step.now) drawn.heap drawn.handle) (heap_start_of drawn.heap - area_start_of drawn.heap) h) }
 {
+    sight.spelled();
     let at = (heap_address(drawn.heap) - area_address(drawn.heap)) as usize;
     pieces.push(plain(Kind::Descriptor, at, HEAP_FIRST));
     let place = push_segments(sight, step, drawn, pieces);
@@ -164,6 +166,7 @@ fn push_segments<S: Sight>(
         ++ segment_pieces (legend_of (scene_at (S.desk sight.now) step.now) drawn.heap drawn.handle) (heap_start_of drawn.heap - area_start_of drawn.heap + first_place) (take MOST_SEGMENTS h.segments)) }
     ensures place { IfSome (heap_seen drawn.heap (S.desk sight.now)) (λ h. result ≡ place_after (take MOST_SEGMENTS h.segments)) }
 {
+    sight.spelled();
     let mut place = HEAP_FIRST as u32;
     for _turn in 0..MOST_SEGMENTS / MOST_AT_ONCE {
         let items = sight.segments(drawn.heap, place);

@@ -44,6 +44,7 @@ pub fn census<S: Sight>(sight: &S, heap: HeapOf, place: u32) -> Census
     requires { (rest : List Segment) × ComesTo (heap_seen heap (S.desk sight.now)) place rest }
     ensures { (rest : List Segment) → ComesTo (heap_seen heap (S.desk sight.now)) place rest → result ≡ census_of place rest }
 {
+    sight.spelled();
     let mut end = place;
     let mut count = 0;
     let mut items = sight.segments(heap, end);
