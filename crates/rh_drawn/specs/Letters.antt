@@ -1,5 +1,5 @@
 -- Letterboxes by the list of messages.
-use Rattle.std.specs.Prelude.{ℕ, ◌==◌, Bool, List, filter, find, length, map, take}
+use Rattle.std.specs.Prelude.{ℕ, ◌==◌, Bool, if◌then◌else◌, List, [], ◌∷◌, filter, find, length, map, take}
 use Rattle.std.specs.List.{list_any}
 use Rattle.std.specs.Option.{option_map}
 use Rattle.rh_figure.specs.Figure.{Letterbox}
@@ -22,3 +22,7 @@ abbrev pub letterbox_in : List ℕ → ℕ → List MessageItem → Letterbox
 letterbox_in name h messages =
     let waits = map entry_seen (filter (waits_for h) messages) in
     letterbox_of name (option_map entry_seen (find (is_held_by h) messages)) (take MOST_LISTED waits) (length waits)
+
+-- the same, where a message is for it
+abbrev pub letterboxes_in : List ℕ → ℕ → List MessageItem → List Letterbox
+letterboxes_in name h messages = if has_letters_in h messages then letterbox_in name h messages ∷ [] else []

@@ -4,6 +4,7 @@ pub mod Slides
 pub mod Cards
 pub mod Bands
 pub mod Letters
+pub mod Returns
 pub mod Sides
 pub mod Replies
 pub mod Places

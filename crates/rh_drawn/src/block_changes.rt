@@ -1,6 +1,6 @@
 //! What has changed of the flex blocks of the task that the command names.
 
-ghost use Rattle.std.specs.Prelude.{◌≡◌, ◌≤◌, ◌<◌, ◌++◌, IfSome, filter, flat_map, length, map, not};
+ghost use Rattle.std.specs.Prelude.{◌≡◌, ◌≤◌, ◌<◌, [], ◌∷◌, ◌++◌, IfSome, filter, flat_map, if◌then◌else◌, length, map, not};
 ghost use Rattle.rh_defs.specs.Desk.{task_at};
 ghost use Rattle.rh_defs.specs.declared.listing.BlockItem.{BlockItem};
 ghost use Rattle.rh_defs.specs.declared.sizes.TheConstants.{ANCHORS};
@@ -48,11 +48,24 @@ fn print_gone<W: Sink>(
         (shown_lines (indented (map (λ (b : BlockItem). gone_line b.anchor) (filter (λ (b : BlockItem). not (has_anchor_in b.anchor now.now)) before.now)))) }
 {
     for block in before {
-        if !has_anchor(now, block) {
-            print_block_gone(block.anchor, writer)?;
-        }
+        print_if_gone(now, block, writer)?;
     }
     Ok(())
+}
+
+/// Writes that a block is gone, if none of those now has its anchor.
+fn print_if_gone<W: Sink>(
+    now: &[BlockItem],
+    block: &BlockItem,
+    writer: &mut W,
+) -> Result<(), WriteFailed>
+    ensures { Puts (W.output writer.old) (W.output writer.new) result
+        (shown_lines (indented (if has_anchor_in block.now.anchor now.now then [] else gone_line block.now.anchor ∷ []))) }
+{
+    if has_anchor(now, block) {
+        return Ok(());
+    }
+    print_block_gone(block.anchor, writer)
 }
 
 /// Whether one of the blocks has the anchor of this one.

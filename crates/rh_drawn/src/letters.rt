@@ -1,9 +1,9 @@
 //! Letterboxes: what each task holds, and what waits for it.
 
-ghost use Rattle.std.specs.Prelude.{◌≡◌, ◌≤◌, ◌∷◌, [], filter, length, map, min, take};
+ghost use Rattle.std.specs.Prelude.{◌≡◌, ◌≤◌, filter, length, map, min, take};
 ghost use Rattle.std.specs.List.{list_any};
 ghost use Rattle.rh_defs.specs.Desk.{Task};
-ghost use Rattle.rh_drawn.specs.Letters.{entry_seen, has_letters_in, letterbox_in};
+ghost use Rattle.rh_drawn.specs.Letters.{entry_seen, has_letters_in, letterboxes_in};
 ghost use Rattle.rh_drawn.specs.Parts.{letter_part};
 ghost use Rattle.rh_figure.specs.Figure.{letterboxes};
 ghost use Rattle.rh_figure.specs.Map.{letterbox_line};
@@ -88,15 +88,13 @@ fn print_letterboxes<S: Sight, W: Sink>(
     sight.spelled();
     let mut i = 0;
     'tasks: while let Some(task) = sight.task(i) {
-        if has_letters(step.messages, task.handle) {
-            print_letters(task.name, task.handle, step.messages, writer)?;
-        }
+        print_letters(task.name, task.handle, step.messages, writer)?;
         i += 1;
     }
     Ok(())
 }
 
-/// Writes what a task holds, and what waits for it.
+/// Writes what a task holds, and what waits for it, if a message is for it.
 fn print_letters<W: Sink>(
     name: &Name,
     handle: Handle,
@@ -105,8 +103,11 @@ fn print_letters<W: Sink>(
 ) -> Result<(), WriteFailed>
     requires { length messages.now ≤ 256 }
     ensures { Puts (W.output writer.old) (W.output writer.new) result
-        (shown_lines (letterbox_line (letterbox_in name.now handle messages.now) ∷ [])) }
+        (shown_lines (map letterbox_line (letterboxes_in name.now handle messages.now))) }
 {
+    if !has_letters(messages, handle) {
+        return Ok(());
+    }
     let held = match held_by(messages, handle) {
         Some(message) => Some(entry(&message)),
         None => None,

@@ -1,8 +1,9 @@
 //! What has changed of the messages.
 
-ghost use Rattle.std.specs.Prelude.{◌≡◌, ◌==◌, ◌&&◌, filter, map, not, Some};
+ghost use Rattle.std.specs.Prelude.{◌≡◌, ◌==◌, ◌&&◌, filter, map, Some};
 ghost use Rattle.rh_defs.specs.Messages.{Parcel};
 ghost use Rattle.rh_drawn.specs.Parts.{indented, post_part};
+ghost use Rattle.rh_drawn.specs.Returns.{return_lines, returns};
 ghost use Rattle.rh_figure.specs.Changes.{bytes_sent_text, returns_text, sent_text, taken_text};
 ghost use Rattle.rh_figure.specs.Phrases.{is_returned as is_returned_as};
 ghost use Rattle.rh_figure.specs.Scene.{Before, Marks, scene_of, waiting};
@@ -48,17 +49,31 @@ fn print_returned<S: Sight, W: Sink>(
         (shown_lines (indented (map (returns_text x) (filter (λ (p : Parcel). p.message.my_ref == x.before.held && is_returned_as p.code) (waiting x))))) }
 {
     for message in step.messages {
-        if goes_back(step, message) {
-            let to = who_of(sight, message.to);
-            print_returns(message.action, message.my_ref, &to, writer)?;
-        }
+        print_return(sight, step, message, writer)?;
     }
     Ok(())
 }
 
+/// Writes that a message goes back, if it does.
+fn print_return<S: Sight, W: Sink>(
+    sight: &S,
+    step: &Step<'_>,
+    message: &MessageItem,
+    writer: &mut W,
+) -> Result<(), WriteFailed>
+    ensures { Puts (W.output writer.old) (W.output writer.new) result
+        (shown_lines (indented (return_lines (S.desk sight.now) step.now.kept.now.held message.now))) }
+{
+    if !goes_back(step, message) {
+        return Ok(());
+    }
+    let to = who_of(sight, message.to);
+    print_returns(message.action, message.my_ref, &to, writer)
+}
+
 /// Whether a message that waits is the one that the named task held, on its way back.
 fn goes_back(step: &Step<'_>, message: &MessageItem) -> bool
-    ensures { result ≡ (not message.now.held && (message.now.my_ref == step.now.kept.now.held && is_returned_as message.now.code)) }
+    ensures { result ≡ returns step.now.kept.now.held message.now }
 {
     !message.held && message.my_ref == step.kept.held() && is_returned(message.code)
 }

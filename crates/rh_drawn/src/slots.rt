@@ -3,7 +3,7 @@
 ghost use Rattle.std.specs.Prelude.{◌≡◌, ◌<◌, ◌∷◌, [], length, slice_get, Some};
 ghost use Rattle.std.specs.List.{position};
 ghost use Rattle.rh_defs.specs.Desk.{Task};
-ghost use Rattle.rh_drawn.specs.Parts.{slot_heading, slot_panels, slot_part};
+ghost use Rattle.rh_drawn.specs.Parts.{slot_heading, slot_lines, slot_panels, slot_part};
 ghost use Rattle.rh_figure.specs.Figure.{slot_drawing};
 ghost use Rattle.rh_figure.specs.Figure.{Panel};
 ghost use Rattle.rh_figure.specs.Map.{drawing_lines};
@@ -38,13 +38,34 @@ pub fn print_slot_part<S: Sight, W: Sink>(
     let tasks = count_tasks(sight);
     let mut i = 0;
     'tasks: while let Some(task) = sight.task(i) {
-        print_heading(i, &task, writer)?;
-        if is_drawn(step, tasks, task.handle) {
-            print_slot(sight, step, i, &task, lists, writer)?;
-        }
+        print_one(sight, step, tasks, i, &task, lists, writer)?;
         i += 1;
     }
     Ok(())
+}
+
+/// Writes the slot of a task, where so many tasks are live.
+fn print_one<S: Sight, W: Sink>(
+    sight: &S,
+    step: &Step<'_>,
+    tasks: usize,
+    i: usize,
+    task: &TaskSight<'_>,
+    lists: &mut Lists,
+    writer: &mut W,
+) -> Result<(), WriteFailed>
+    requires step { IsStepOf (S.desk sight.now) step.now }
+    requires tasks { tasks ≡ length (S.desk sight.now).tasks }
+    requires task { (t : Task) × (slice_get (S.desk sight.now).tasks i ≡ Some t) × IsTaskSeen task.now t }
+    ensures { (t : Task) → slice_get (S.desk sight.now).tasks i ≡ Some t → Puts (W.output writer.old) (W.output writer.new) result
+        (shown_lines (slot_lines (scene_at (S.desk sight.now) step.now) t)) }
+{
+    sight.spelled();
+    print_heading(i, task, writer)?;
+    if !is_drawn(step, tasks, task.handle) {
+        return Ok(());
+    }
+    print_slot(sight, step, i, task, lists, writer)
 }
 
 /// How many tasks are live.

@@ -1,6 +1,6 @@
 //! Transfers: a line for each, with the record of either side.
 
-ghost use Rattle.std.specs.Prelude.{◌≡◌, ◌==◌, ◌||◌, filter, find, length, map, not};
+ghost use Rattle.std.specs.Prelude.{◌≡◌, ◌==◌, ◌||◌, [], ◌∷◌, filter, find, if◌then◌else◌, length, map, not};
 ghost use Rattle.std.specs.List.{list_any};
 ghost use Rattle.std.specs.Option.{option_map};
 ghost use Rattle.rh_defs.specs.Listing.{in_item as in_item_of, out_item as out_item_of};
@@ -16,7 +16,7 @@ ghost use Rattle.rh_map.specs.Sides.{side_of};
 ghost use Rattle.rh_map.specs.Written.{shown_lines};
 
 use crate::usage::{in_id, out_id};
-use rh_defs::{Incoming, Outgoing, RecordItem, Ref, State};
+use rh_defs::{Incoming, Name, Outgoing, RecordItem, Ref, State};
 use rh_lines::{Sink, WriteFailed};
 use rh_map::{Side, print_transfer, put_line};
 use rh_sight::{Sight, TaskSight};
@@ -137,16 +137,30 @@ fn print_task_ins<S: Sight, W: Sink>(
         (shown_lines (map transfer_line (map comes_alone (filter (λ s. not (list_any (has_id_of s.1.id) (outs_of (S.desk sight.now)))) (map (λ r. (task.now.name.now, in_item_of r)) task.now.taking.now))))) }
 {
     for record in task.taking {
-        let id = in_id(record);
-        if !has_out(sight, id) {
-            let side = Some(Side {
-                name: task.name,
-                record: in_item(record),
-            });
-            print_transfer(id, &None, &side, writer)?;
-        }
+        print_if_alone(sight, task.name, record, writer)?;
     }
     Ok(())
+}
+
+/// Writes the transfer of a record of one that comes in, if it only comes in.
+fn print_if_alone<S: Sight, W: Sink>(
+    sight: &S,
+    name: &Name,
+    record: &Incoming,
+    writer: &mut W,
+) -> Result<(), WriteFailed>
+    ensures { Puts (W.output writer.old) (W.output writer.new) result
+        (shown_lines (map transfer_line (if list_any (has_id_of (in_id_of record.now)) (outs_of (S.desk sight.now)) then [] else comes_alone (name.now, in_item_of record.now) ∷ []))) }
+{
+    let id = in_id(record);
+    if has_out(sight, id) {
+        return Ok(());
+    }
+    let side = Some(Side {
+        name,
+        record: in_item(record),
+    });
+    print_transfer(id, &None, &side, writer)
 }
 
 /// Whether a transfer with the id goes out.
