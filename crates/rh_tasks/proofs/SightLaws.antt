@@ -136,7 +136,7 @@ module _ {m : Memory} {seats : List Seat} {made : List MadeArea} {files : FileLi
   task-there {i} {s} at = mapped-at (task_of m) seats i s at
 
   pub no-task-there : (i : ℕ) → length seats ≤ i → slice_get d.tasks i ≡ None
-  no-task-there i past = slice_get_past (map (task_of m) seats) i (omega (arith, past, length-map seats (task_of m)))
+  no-task-there i beyond = slice_get_past (map (task_of m) seats) i (omega (arith, beyond, length-map seats (task_of m)))
 
   pub task-live : {i : ℕ} {s : Seat} → Sits seats i s → task_at s.handle d ≡ slice_get d.tasks i
   task-live at = a-task w (record { at = at; handle = refl }) ∙ sym (task-there at)
@@ -146,7 +146,7 @@ module _ {m : Memory} {seats : List Seat} {made : List MadeArea} {files : FileLi
   made-there {i} {a} at = mapped-at (made_of m) made i a at
 
   pub no-made-there : (i : ℕ) → length made ≤ i → slice_get d.made i ≡ None
-  no-made-there i past = slice_get_past (map (made_of m) made) i (omega (arith, past, length-map made (made_of m)))
+  no-made-there i beyond = slice_get_past (map (made_of m) made) i (omega (arith, beyond, length-map made (made_of m)))
 
   -- ---- a task's blocks, by its handle
 

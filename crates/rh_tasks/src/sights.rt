@@ -1,5 +1,5 @@
-//! What is read of the desk beside what its questions answer: tasks, made areas and messages as they stand, and the bytes
-//! of blocks. Nothing changes, and no memory is taken.
+//! What is read of the desk beside what its questions answer: tasks, made areas and messages as they stand, and
+//! bytes of blocks. Nothing changes, and no memory is taken.
 
 ghost use Rattle.std.specs.Prelude.{◌≡◌, ◌+◌, ◌≤◌, ◌↔◌, Ok, Err, IfErr, IfOk, IfSome, IsTrue, OnOk, length, slice_get};
 ghost use Rattle.std.specs.Option.{option_map};
@@ -94,8 +94,8 @@ impl<S: Store> World<S> {
         })
     }
 
-    /// Puts all flex blocks of a live task from below into a list, in place of what it held; NoTask where the task isn't
-    /// live, which leaves the list as it was.
+    /// Puts all flex blocks of a live task from below into a list, in place of what it held; NoTask where the task
+    /// isn't live, which leaves the list as it was.
     pub fn blocks_in(
         &self,
         handle: Handle,
@@ -110,8 +110,8 @@ impl<S: Store> World<S> {
         Ok(())
     }
 
-    /// Up to 64 segments of a live task's C heap in order of place, from the one that begins at `place` on, in bytes from
-    /// the heap's first one, none where none begins there; NoTask.
+    /// Up to 64 segments of a live task's C heap in order of place, from the one that begins at `place` on, in bytes
+    /// from the heap's first one, none where none begins there; NoTask.
     pub fn segments_in(
         &self,
         handle: Handle,
@@ -149,8 +149,8 @@ impl<S: Store> World<S> {
         MODULE.end(&self.store) as u32
     }
 
-    /// Up to 64 segments of the module area in order of place, from the one that begins at `place` on, in bytes from the
-    /// area's first one; none where none begins there.
+    /// Up to 64 segments of the module area in order of place, from the one that begins at `place` on, in bytes from
+    /// the area's first one; none where none begins there.
     pub fn module_segments(&self, place: u32) -> ArrayVec<SegmentItem, SEGMENTS_AT_ONCE>
         ensures { result.items ≡ items_at module_start place self.now.desk.post.heap }
     {
@@ -158,8 +158,8 @@ impl<S: Store> World<S> {
         segment_items(MODULE_START as u32, &segments)
     }
 
-    /// The size in bytes of a block of the module area that a command claimed, and its bytes from an offset on; NotABlock,
-    /// NotYours where a message lies in it, or BadRange where the bytes wanted don't lie in the block.
+    /// The size in bytes of a block of the module area that a command claimed, and its bytes from an offset on;
+    /// NotABlock, NotYours where a message lies in it, or BadRange where the bytes wanted don't lie in the block.
     pub fn read_module(&self, address: u32, offset: u32, to: &mut [u8]) -> Result<u32, Refusal>
         ensures { MatchResult (module_shown self.now.desk address offset (length to.old)) (λ p. (result ≡ Ok p.0) × (to.new ≡ p.1)) (λ e. (result ≡ Err e) × (to.new ≡ to.old)) }
     {
@@ -173,7 +173,7 @@ impl<S: Store> World<S> {
         Ok(size as u32)
     }
 
-    /// Puts all live messages into a list, in place of what it held: those that wait, task by task in order of handle and
+    /// Puts all live messages into a list, in place of what it held: those that wait, task by task in order of handle,
     /// each task's as polls hand them out; then those that are held, in order of handle.
     pub fn messages(&self, items: &mut ArrayVec<MessageItem, MOST_MESSAGES>)
         ensures { items.new.items ≡ message_items self.now.desk.post }
@@ -181,9 +181,9 @@ impl<S: Store> World<S> {
         self.queue.list(&self.store, MODULE, items);
     }
 
-    /// Writes the message block that a poll of the task would hand out now to the start of a lent block, and answers its
-    /// event code; None, and the block left as it is, where the poll would answer that there is no event, and NoName where
-    /// no task has the name. The rest of the block stays too. (Wimp_Poll.)
+    /// Writes the message block that a poll of the task would hand out now to the start of a lent block, and answers
+    /// its event code; the rest of the block stays. None for no event, or NoName where no task has the name, which
+    /// leave the whole block as it was. (Wimp_Poll.)
     pub fn next_message(
         &self,
         name: &Name,

@@ -52,8 +52,8 @@ impl Default for MessageItem {
 }
 
 impl Queue {
-    /// Puts all live messages into a list, in place of what it held: those that wait, task by task in the order in which
-    /// the handles joined and each task's as polls hand them out; then those that are held.
+    /// Puts all live messages into a list, in place of what it held: those that wait, task by task in the order in
+    /// which the handles joined, each task's as polls hand them out; then those that are held.
     pub fn list<S: Words>(
         &self,
         store: &S,

@@ -26,8 +26,8 @@ pub read_word-requires-clause-block : goal.read_word-requires-clause-block
 read_word-requires-clause-block g c =
     has-less c.args.block 36 16 (heap_in (g.S.Words.memory c.args.store.now) c.args.rma) (omega arith) (links-has c.requires.lies.1.1)
 
-pub read_word-2-requires-clause-block : goal.read_word-2-requires-clause-block
-read_word-2-requires-clause-block g c =
+pub read_word-requires-2-clause-block : goal.read_word-2-requires-clause-block
+read_word-requires-2-clause-block g c =
     has-less c.args.block 36 20 (heap_in (g.S.Words.memory c.args.store.now) c.args.rma) (omega arith) (links-has c.requires.lies.1.1)
 
 -- the action that is read

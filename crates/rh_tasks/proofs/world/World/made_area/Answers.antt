@@ -1,7 +1,9 @@
 use Rattle.std.proofs.Common.{refl, sym, ap, ◌∙◌, arith}
 use Rattle.std.specs.Prelude.{Some}
+use Rattle.rh_defs.specs.Memory.{IsOpen}
+use Rattle.rh_tasks.specs.declared.made.MadeArea.{MadeArea}
 use Rattle.rh_tasks.specs.View.{made_of}
-use Rattle.rh_tasks.proofs.Lists.{Sits}
+use Rattle.rh_tasks.proofs.Lists.{Sits, all-at}
 use Rattle.rh_tasks.proofs.SightLaws.{made-there, no-made-there}
 use Rattle.rh_tasks.proofs.world.World.made_area.Goals as goal
 use Rattle.rh_tasks.proofs.world.World.made_area.Goals.{After-index-area}
@@ -17,6 +19,11 @@ returns-then-i-len-clause-few g c = rw (← c.self.view_is) c.self.invariant.0.d
 -- the made area that is looked at
 at : (g : given.Over) (c : After-index-area g) → Sits c.self.inside.made.items c.args.i c.index-area.result.now
 at g c = record { inside = omega (arith, c.if-i-len.false, c.len.ensures, c.self.inside.made.ok); is = sym c.index-area.ensures }
+
+pub pages_in-requires : goal.pages_in-requires
+pages_in-requires g c =
+    let m = g.S.Words.memory c.self.inside.store in
+    all-at (λ (a : MadeArea). IsOpen m a.area.0) c.self.inside.made.items c.args.i c.index-area.result.now c.self.invariant.0.areas.made_open (at g (goal.at.pages_in-requires g c).After-index-area)
 
 pub returns-clause-area : goal.returns-clause-area
 unfolding made_of

@@ -1,6 +1,8 @@
 use Rattle.std.proofs.Common.{ap, refl, sym}
-use Rattle.std.specs.Prelude.{Ok}
+use Rattle.std.specs.Prelude.{Option, Ok}
 use Rattle.std.proofs.lemmas.Result.{err_from_is_err_and}
+use Rattle.rh_defs.specs.Chain.{Granted}
+use Rattle.rh_defs.specs.declared.message.EventCode.{EventCode}
 use Rattle.rh_tasks.specs.Finding.{Found}
 use Rattle.rh_tasks.specs.Sights.{next_message}
 use Rattle.rh_tasks.proofs.Chains.{ends}
@@ -26,4 +28,4 @@ returns g c =
     let f : Found c.args.name.now c.self.inside.seats.items c.in_ok-i.i c.index-seat.result.now = record { at = c.in_ok-i.ensures.ok; is = sym c.index-seat.ensures } in
     let post = is-post c.self.invariant.0 in
     rw (← c.self.view_is)
-    (if-ok _ _ (next-is c.self.invariant.0 f) (ap (λ o. Ok o) (c.peek-code.ensures.code _ post), c.peek-code.ensures.message _ post))
+    (if-ok _ _ (next-is c.self.invariant.0 f) (ap (λ (o : Option EventCode). let r : Granted (Option EventCode) = Ok o in r) (c.peek-code.ensures.code _ post), c.peek-code.ensures.message _ post))

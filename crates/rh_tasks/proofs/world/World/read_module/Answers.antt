@@ -1,6 +1,7 @@
-use Rattle.std.proofs.Common.{◌∙◌, ap, length, refl, sym, arith}
+use Rattle.std.proofs.Common.{ℕ, ◌∙◌, ap, length, refl, sym, arith}
 use Rattle.std.proofs.lemmas.Result.{err_from_is_err_and}
 use Rattle.std.specs.Prelude.{Ok}
+use Rattle.rh_defs.specs.Chain.{Granted}
 use Rattle.rh_defs.proofs.BytesLaws.{part-drop}
 use Rattle.rh_module.proofs.BlockBytes.{block_within}
 use Rattle.rh_slot.proofs.EditLaws.{beyond}
@@ -56,4 +57,4 @@ returns g c =
     let n = length c.args.to.now in
     rw (← c.self.view_is)
     (if-ok _ _ (module-given c.self.invariant.0 c.args.address none c.args.offset n some.0 e (omega (arith, inside, some.1.1)))
-    (ap (λ k. Ok k) (sym some.1.1), c.read_bytes.ensures some.0 some.1.0 ∙ part-drop some.0 c.args.offset n (omega (arith, inside, some.1.1))))
+    (ap (λ (k : ℕ). let r : Granted ℕ = Ok k in r) (sym some.1.1), c.read_bytes.ensures some.0 some.1.0 ∙ part-drop some.0 c.args.offset n (omega (arith, inside, some.1.1))))

@@ -37,6 +37,9 @@ overflow_cast-heap-3 g c =
     let is = seat-slot c.self.invariant.0 (at g (goal.at.overflow_cast-heap-3 g c).After-index-seat) in
     omega (arith, c.describe-length.ensures.total, small-free is (g.met.S.Words.small c.self.inside.store c.index-seat.result.now.slot.area.0))
 
+pub pages_in-requires : goal.pages_in-requires
+pages_in-requires g c = (seat-slot c.self.invariant.0 (at g (goal.at.pages_in-requires g c).After-index-seat)).opened
+
 pub returns-clause-task : goal.returns-clause-task
 unfolding task_of slot_of
 returns-clause-task g c =

@@ -1,15 +1,14 @@
-use Rattle.std.proofs.Common.{◌≡◌, ◌≢◌, ◌<◌, ℕ, List, true, length, refl, sym, ap, subst, ◌∙◌, arith}
+use Rattle.std.proofs.Common.{◌≡◌, ◌≢◌, ◌<◌, Bool, List, true, length, sym, ap, subst, ◌∙◌, arith}
 use Rattle.std.specs.Prelude.{Option, Some, None, ◌==◌}
 use Rattle.std.specs.Option.{option_map}
 use Rattle.rh_defs.specs.Messages.{Parcel}
-use Rattle.rh_defs.specs.Post.{Post, has_seat, held_by, holds_such, as_returned, first_for, post_poll}
-use Rattle.rh_defs.specs.declared.message.EventCode.{EventCode}
+use Rattle.rh_defs.specs.Post.{Post, has_seat, held_by, holds_such, post_poll}
 use Rattle.rh_module.specs.Area.{heap_in}
-use Rattle.rh_wimp.specs.Chains.{Chains, HasEntry, Holds, Row, SpellsPost, entry_at, rows_of}
+use Rattle.rh_wimp.specs.Chains.{Chains, HasEntry, Holds, SpellsPost, entry_at}
 use Rattle.rh_wimp.specs.Items.{LinksAt, with_message}
 use Rattle.rh_wimp.specs.declared.chain.Entry.{Entry}
 use Rattle.rh_wimp.proofs.AnswerLaws.{read_entry}
-use Rattle.rh_wimp.proofs.PeekLaws.{front, front-is, first_of, held-there, own-held, poll-none, poll-own, poll-waiting}
+use Rattle.rh_wimp.proofs.PeekLaws.{HoldsOwn, front, front-is, first_of, held-there, is_own, own-held, poll-none, poll-own, poll-waiting}
 use Rattle.rh_wimp.proofs.PollLaws.{Heads, heads, next-small, no-head}
 use Rattle.rh_wimp.proofs.PostLaws.{found-at, live-yes, not-found}
 use Rattle.rh_wimp.proofs.SendLaws.{seated}
@@ -88,3 +87,83 @@ held g c post s =
       (held-there h (seen g c) post c.args.handle c.in-Some.at k w.0 w.1),
       live-yes post.seats c.in-Some.at c.args.handle t.seat (sym t.handle ∙ w.1),
     )
+
+pub copy_block-requires-clause-lies : goal.copy_block-requires-clause-lies
+copy_block-requires-clause-lies g c =
+    let o = (goal.at.copy_block-requires-clause-lies g c).After-index-entry in
+    let w = head g o c.requires.queue.post c.requires.queue.spells c.if-entry-ne0.true in
+    (w.1.next, (w.0.0, links g o c.requires.queue.post c.requires.queue.spells c.if-entry-ne0.true))
+
+pub code_in-requires-clause-lies : goal.code_in-requires-clause-lies
+code_in-requires-clause-lies g c =
+    let o = (goal.at.code_in-requires-clause-lies g c).After-index-entry in
+    let w = head g o c.requires.queue.post c.requires.queue.spells c.if-entry-ne0.true in
+    (w.1.next, (w.0.0, links g o c.requires.queue.post c.requires.queue.spells c.if-entry-ne0.true))
+
+pub returns-then-entry-ne0-clause-code : goal.returns-then-entry-ne0-clause-code
+returns-then-entry-ne0-clause-code g c = λ post s.
+    let o = (goal.at.returns-then-entry-ne0-clause-code g c).After-index-entry in
+    let w = head g o post s c.if-entry-ne0.true in
+    ap (λ k. Some k) (c.code_in.ensures w.1.next w.0.0 (links g o post s c.if-entry-ne0.true))
+    ∙ sym (ap (option_map (λ (p : Parcel). p.code)) (waits g o post s c.if-entry-ne0.true))
+
+pub returns-then-entry-ne0-clause-message : goal.returns-then-entry-ne0-clause-message
+returns-then-entry-ne0-clause-message g c = λ post s.
+    let o = (goal.at.returns-then-entry-ne0-clause-message g c).After-index-entry in
+    let w = head g o post s c.if-entry-ne0.true in
+    c.copy_block.ensures w.1.next w.0.0 (links g o post s c.if-entry-ne0.true) ∙ sym (ap (λ m. with_message m c.args.block.now) (waits g o post s c.if-entry-ne0.true))
+
+pub holds_own-requires-clause-held : goal.holds_own-requires-clause-held
+holds_own-requires-clause-held g c =
+    let o = (goal.at.holds_own-requires-clause-held g c).After-index-entry in
+    (held_by c.args.handle c.requires.queue.post.seats, (held g o c.requires.queue.post c.requires.queue.spells).0)
+
+-- whether the task holds a message of its own
+own : (g : given.Over) (c : After-index-entry g) (post : Post) (s : SpellsPost (g.S.Words.memory c.args.store.now) c.args.rma c.args.self.now post) (t : Bool)
+    → ((o : Option Parcel) → Holds (heap_in (g.S.Words.memory c.args.store.now) c.args.rma) c.index-entry.result.now.held o → t ≡ holds_such (λ (p : Parcel). p.message.from == c.index-entry.result.now.handle) o)
+    → t ≡ holds_such (is_own c.args.handle) (held_by c.args.handle post.seats)
+own g c post s t e =
+    let w = place g c in
+    e (held_by c.args.handle post.seats) (held g c post s).0
+    ∙ ap (λ h. holds_such (is_own h) (held_by c.args.handle post.seats)) (ap (λ (x : Entry). x.handle) w.2 ∙ w.1)
+
+pub returns-then-not-holds_own-clause-code : goal.returns-then-not-holds_own-clause-code
+returns-then-not-holds_own-clause-code g c = λ post s.
+    let o = (goal.at.returns-then-not-holds_own-clause-code g c).After-index-entry in
+    let none = poll-none c.args.handle post c.holds_own.result (empty g o post s c.if-entry-ne0.false) (own g o post s c.holds_own.result c.holds_own.ensures) c.if-not-holds_own.true in
+    sym (ap (option_map (λ (p : Parcel). p.code)) none)
+
+pub returns-then-not-holds_own-clause-message : goal.returns-then-not-holds_own-clause-message
+returns-then-not-holds_own-clause-message g c = λ post s.
+    let o = (goal.at.returns-then-not-holds_own-clause-message g c).After-index-entry in
+    let none = poll-none c.args.handle post c.holds_own.result (empty g o post s c.if-entry-ne0.false) (own g o post s c.holds_own.result c.holds_own.ensures) c.if-not-holds_own.true in
+    sym (ap (λ m. with_message m c.args.block.now) none)
+
+-- the message that would come back
+back : (g : given.Over) (c : After-index-entry g) (post : Post) (s : SpellsPost (g.S.Words.memory c.args.store.now) c.args.rma c.args.self.now post) (w : HoldsOwn c.args.handle post.seats)
+    → LinksAt (g.S.Words.memory c.args.store.now) c.args.rma c.index-entry.result.now.held 0 w.parcel
+back g c post s w =
+    let h = heap_in (g.S.Words.memory c.args.store.now) c.args.rma in
+    let there : Holds h c.index-entry.result.now.held (Some w.parcel) = subst (Holds h c.index-entry.result.now.held) w.held (held g c post s).0 in
+    record { lies = there.1; block_is = there.0; small = omega arith }
+
+pub copy_block-requires-2-clause-lies : goal.copy_block-requires-2-clause-lies
+copy_block-requires-2-clause-lies g c =
+    let o = (goal.at.copy_block-requires-2-clause-lies g c).After-index-entry in
+    let post = c.requires.queue.post in
+    let s = c.requires.queue.spells in
+    let w = own-held c.args.handle post.seats c.holds_own.result (own g o post s c.holds_own.result c.holds_own.ensures) c.if-not-holds_own.false in
+    (0, (w.parcel, back g o post s w))
+
+pub returns-clause-code : goal.returns-clause-code
+returns-clause-code g c = λ post s.
+    let o = (goal.at.returns-clause-code g c).After-index-entry in
+    let w = own-held c.args.handle post.seats c.holds_own.result (own g o post s c.holds_own.result c.holds_own.ensures) c.if-not-holds_own.false in
+    sym (ap (option_map (λ (p : Parcel). p.code)) (poll-own c.args.handle post w.parcel (empty g o post s c.if-entry-ne0.false) w.held w.own (held g o post s).1))
+
+pub returns-clause-message : goal.returns-clause-message
+returns-clause-message g c = λ post s.
+    let o = (goal.at.returns-clause-message g c).After-index-entry in
+    let w = own-held c.args.handle post.seats c.holds_own.result (own g o post s c.holds_own.result c.holds_own.ensures) c.if-not-holds_own.false in
+    c.copy_block-2.ensures 0 w.parcel (back g o post s w)
+    ∙ sym (ap (λ m. with_message m c.args.block.now) (poll-own c.args.handle post w.parcel (empty g o post s c.if-entry-ne0.false) w.held w.own (held g o post s).1))
