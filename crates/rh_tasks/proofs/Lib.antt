@@ -62,6 +62,7 @@ pub mod ScrapTransfers
 pub mod TransferBlocks
 pub mod SightLaws
 pub mod StandingLaws
+pub mod ShareLaws
 pub mod AcceptSteps
 pub mod TakeSaves
 pub mod Examples
