@@ -44,7 +44,7 @@ pub record Went {S : Type 0} (step : Step S) (first now : S) (old new : Output) 
   pub begun : List ℕ
   pub whole : front ++ bytes ≡ done ++ (begun ++ rest)
   pub closed : unended done ≡ []
-  pub open : ended begun ≡ []
+  pub begun_open : ended begun ≡ []
   pub line_is : line ≡ kept begun
   pub taken : TookAll step first old (kept_lines done) now new
 
@@ -54,7 +54,7 @@ went_nowhere front bytes e is = record {
   begun = front;
   whole = refl;
   closed = refl;
-  open = e;
+  begun_open = e;
   line_is = is;
   taken = (refl, refl);
 }
@@ -83,14 +83,14 @@ closed_more done line closed none =
     ∙ (ap (λ z. unended (z ++ (line ++ 10 ∷ []))) closed ∙ unended_first line [] none)
 
 line_open : (begun rest : List ℕ) (n : ℕ) → ended begun ≡ [] → n < length rest → NoneBelow rest n → NoFeed (begun ++ take n rest)
-line_open begun rest n open lt none =
-    no_feed_join begun (take n rest) (no_feed_open begun open) (no_feed_below rest n (omega arith) none)
+line_open begun rest n begun_open lt none =
+    no_feed_join begun (take n rest) (no_feed_open begun begun_open) (no_feed_below rest n (omega arith) none)
 
 -- one more line was taken
 pub went_on : {S : Type 0} {step : Step S} {first now : S} {old new : Output} {line front bytes rest : List ℕ} (next : S) (last : Output) (cleared given : List ℕ) (n : ℕ) → Went step first now old new line front bytes rest → n < length rest → NoneBelow rest n → eqb (slice_index rest n) 10 ≡ true → kept given ≡ kept (line ++ take n rest) → step now new (kept given) next last → cleared ≡ [] → Went step first next old last cleared front bytes (behind rest n)
 went_on {S} {step} {first} {now} {old} {new} {line} {front} {bytes} {rest} next last cleared given n w lt none at e one empty =
     let read : List ℕ = w.begun ++ take n rest in
-    let no_feed : NoFeed read = line_open w.begun rest n w.open lt none in
+    let no_feed : NoFeed read = line_open w.begun rest n w.begun_open lt none in
     let P : List ℕ → Type 0 = λ z. step now new z next last in
     let Q : List (List ℕ) → Type 0 = λ z. TookAll step first old z next last in
     record {
@@ -98,7 +98,7 @@ went_on {S} {step} {first} {now} {old} {new} {line} {front} {bytes} {rest} next 
       begun = [];
       whole = next_whole front bytes w.done w.begun rest n w.whole lt at;
       closed = closed_more w.done read w.closed no_feed;
-      open = refl;
+      begun_open = refl;
       line_is = empty ∙ sym kept_nil;
       taken = subst Q (sym (lines_more w.done read w.closed no_feed)) (took_one (kept_lines w.done) (kept read) w.taken (subst P (taken_line w.begun (take n rest) line given w.line_is e) one));
     }
@@ -107,7 +107,7 @@ went_on {S} {step} {first} {now} {old} {new} {line} {front} {bytes} {rest} next 
 pub went_wrong : {S : Type 0} {step : Step S} {broke : Break S} {first now : S} {old new : Output} {line front bytes rest : List ℕ} (last : Output) (given : List ℕ) (n : ℕ) → Went step first now old new line front bytes rest → n < length rest → NoneBelow rest n → eqb (slice_index rest n) 10 ≡ true → kept given ≡ kept (line ++ take n rest) → broke now new (kept given) last → BrokeAmong step broke first old (kept_lines (front ++ bytes)) last
 went_wrong {S} {step} {broke} {first} {now} {old} {new} {line} {front} {bytes} {rest} last given n w lt none at e one =
     let read : List ℕ = w.begun ++ take n rest in
-    let no_feed : NoFeed read = line_open w.begun rest n w.open lt none in
+    let no_feed : NoFeed read = line_open w.begun rest n w.begun_open lt none in
     let closed : unended (w.done ++ (read ++ 10 ∷ [])) ≡ [] = closed_more w.done read w.closed no_feed in
     let P : List ℕ → Type 0 = λ z. broke now new z last in
     record {
@@ -134,13 +134,13 @@ all_lines done read closed none =
 -- what is left ends no line
 pub went_through : {S : Type 0} {step : Step S} {first now : S} {old new : Output} {line front bytes rest : List ℕ} → Went step first now old new line front bytes rest → NoneBelow rest (length rest) → TookAll step first old (kept_lines (front ++ bytes)) now new
 went_through {S} {step} {first} {now} {old} {new} {line} {front} {bytes} {rest} w none =
-    let no_feed : NoFeed (w.begun ++ rest) = no_feed_join w.begun rest (no_feed_open w.begun w.open) (no_feed_all rest none) in
+    let no_feed : NoFeed (w.begun ++ rest) = no_feed_join w.begun rest (no_feed_open w.begun w.begun_open) (no_feed_all rest none) in
     let P : List (List ℕ) → Type 0 = λ z. TookAll step first old z now new in
     subst P (sym (ap kept_lines w.whole ∙ all_lines w.done (w.begun ++ rest) w.closed no_feed)) w.taken
 
 pub rest_through : {S : Type 0} {step : Step S} {first now : S} {old new : Output} {line front bytes rest : List ℕ} (after : List ℕ) → Went step first now old new line front bytes rest → NoneBelow rest (length rest) → after ≡ kept (line ++ rest) → after ≡ kept_rest (front ++ bytes)
 rest_through {line = line} {front = front} {bytes = bytes} {rest = rest} after w none is =
-    let no_feed : NoFeed (w.begun ++ rest) = no_feed_join w.begun rest (no_feed_open w.begun w.open) (no_feed_all rest none) in
+    let no_feed : NoFeed (w.begun ++ rest) = no_feed_join w.begun rest (no_feed_open w.begun w.begun_open) (no_feed_all rest none) in
     let read : unended (front ++ bytes) ≡ w.begun ++ rest =
     ap unended w.whole ∙ (unended-append w.done (w.begun ++ rest)
     ∙ (ap (λ z. unended (z ++ (w.begun ++ rest))) w.closed ∙ unended_all (w.begun ++ rest) no_feed)) in
@@ -187,12 +187,12 @@ lines_on bytes more = kept_lines-append bytes more
 pub going_on : {S : Type 0} {step : Step S} {before now : Input} {s t : S} {line : List ℕ} {old new : Output} (after : Input) (next : S) (last : Output) (kept_line more : List ℕ) → Going step before now s t line old new → Consumes now.left after.left more → ((front : List ℕ) → ended front ≡ [] → line ≡ kept front → TookAll step t new (kept_lines (front ++ more)) next last) → ((front : List ℕ) → ended front ≡ [] → line ≡ kept front → kept_line ≡ kept_rest (front ++ more)) → Going step before after s next kept_line old last
 going_on {S} {step} {before} {now} {s} {t} {line} {old} {new} after next last kept_line more g c took rest =
     let P : List (List ℕ) → Type 0 = λ z. TookAll step s old z next last in
-    let open : ended (unended g.bytes) ≡ [] = ended-unended g.bytes in
+    let begun_open : ended (unended g.bytes) ≡ [] = ended-unended g.bytes in
     record {
       bytes = g.bytes ++ more;
       read = Consumes-more before.left now.left after.left g.bytes more g.read c;
-      taken = subst P (sym (lines_on g.bytes more)) (took_more (kept_lines g.bytes) (kept_lines (unended g.bytes ++ more)) g.taken (took (unended g.bytes) open g.line_is));
-      line_is = rest (unended g.bytes) open g.line_is ∙ sym (ap kept (unended-append g.bytes more));
+      taken = subst P (sym (lines_on g.bytes more)) (took_more (kept_lines g.bytes) (kept_lines (unended g.bytes ++ more)) g.taken (took (unended g.bytes) begun_open g.line_is));
+      line_is = rest (unended g.bytes) begun_open g.line_is ∙ sym (ap kept (unended-append g.bytes more));
     }
 
 -- a read failed, or there were too many

@@ -44,6 +44,10 @@ split_at n = grind arith
 pub kept_means : (line : List ℕ) → line_means (kept line) ≡ line_means line
 kept_means line = means_same (length line) line (split_at (length line)) refl
 
+-- lines that are the same as far as they are kept mean the same
+pub means_as_kept : (line other : List ℕ) → kept line ≡ kept other → line_means line ≡ line_means other
+means_as_kept line other e = sym (kept_means line) ∙ (ap line_means e ∙ kept_means other)
+
 pub means_front : (line xs : List ℕ) → line_means (kept line ++ xs) ≡ line_means (line ++ xs)
 means_front line xs =
     sym (kept_means (kept line ++ xs)) ∙ (ap line_means (kept_front line xs) ∙ kept_means (line ++ xs))

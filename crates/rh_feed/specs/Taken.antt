@@ -9,11 +9,11 @@ abbrev pub too_many_reads : ℕ
 too_many_reads = 1000000
 
 -- what taking one line does: from a taker and what was written, to those behind the line
-abbrev pub Step : Type 0 → Type 0
+abbrev pub Step : Type 0 → Type 1
 Step S = S → Output → List ℕ → S → Output → Type 0
 
 -- what was written of a line where the writer failed
-abbrev pub Break : Type 0 → Type 0
+abbrev pub Break : Type 0 → Type 1
 Break S = S → Output → List ℕ → Output → Type 0
 
 -- lines were taken, one after the other

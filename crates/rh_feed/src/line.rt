@@ -1,7 +1,6 @@
 //! The line that is being read.
 
 ghost use Rattle.std.specs.Prelude.{◌≡◌, ◌+◌, ◌≤◌, [], ◌++◌, length, IfOk};
-ghost use Rattle.rh_defs.specs.Line.{line_means};
 ghost use Rattle.rh_feed.specs.Lines.{kept};
 ghost use Rattle.rh_defs.specs.declared.sizes.TheConstants.{LONGEST_LINE};
 
@@ -58,8 +57,7 @@ impl LineBuffer {
 
     /// The line that ends with these bytes, as far as its meaning goes: gathered, unless it lies whole in them.
     pub fn whole<'b>(&'b mut self, bytes: &'b [u8]) -> &'b [u8]
-        ensures value { kept result.now ≡ kept (self.old ++ bytes.now) }
-        ensures means { line_means result.now ≡ line_means (self.old ++ bytes.now) }
+        ensures { kept result.now ≡ kept (self.old ++ bytes.now) }
     {
         if self.as_slice().is_empty() {
             return bytes;
