@@ -1,6 +1,6 @@
 -- Lines that are taken, one after the other.
 use Rattle.std.proofs.Common.{◌≡◌, ℕ, ◌+◌, ◌-◌, ◌*◌, ◌<◌, ◌≤◌, ◌≢◌, List, [], ◌∷◌, ◌++◌, length, take, drop, eqb, Bool, true, false, ◌||◌, map, Option, Some, None, Result, Ok, Err, inl, inr, append_assoc, append-nil, refl, sym, ◌∙◌, ap, subst, arith}
-use Rattle.std.specs.Prelude.{slice_index}
+use Rattle.std.specs.Prelude.{OnErr, slice_index}
 use Rattle.std.proofs.lemmas.Bool.Decides.{nat_tests}
 use Rattle.std.proofs.lemmas.List.{length-drop}
 use Rattle.std.specs.Io.KnownBytes.{Consumes, Keeps, IsAtEnd}
@@ -10,29 +10,35 @@ use Rattle.rh_feed.specs.Lines.{kept, kept_lines, kept_rest}
 use Rattle.rh_feed.specs.Taken.{Step, Break, TookAll, BrokeAmong, BrokeAtRest, Fed, FedAll, FedUntil}
 use Rattle.rh_feed.proofs.LineLemmas.{NoFeed, NoneBelow, behind, behind_is, cut_at, ended_none, ended_first, unended_first, unended_all, ended-append, ended-unended, kept_front, kept_kept, kept_nil, kept_lines-append, no_feed_all, no_feed_below, no_feed_join, no_feed_open, unended-append}
 
+-- what holds anyway holds where a result is an error
+pub on_err : {E : Type 0} {P : Type 0} (r : Result Unit E) → P → OnErr r P
+on_err (Ok x) p = tt
+on_err (Err e) p = p
+
 -- ---- lists of lines
 
-pub took_more : {S : Type 0} {step : Step S} {s t u : S} {o p q : Output} (xs ys : List (List ℕ)) → TookAll step s o xs t p → TookAll step t p ys u q → TookAll step s o (xs ++ ys) u q
-took_more {S} {step} {s} {t} {u} {o} {p} {q} [] ys a b =
+pub took_more : {S : Type 0} (step : Step S) (s t u : S) (o p q : Output) (xs ys : List (List ℕ)) → TookAll step s o xs t p → TookAll step t p ys u q → TookAll step s o (xs ++ ys) u q
+took_more {S} step s t u o p q [] ys a b =
     let P : S → Type 0 = λ z. TookAll step z p ys u q in
     let Q : Output → Type 0 = λ z. TookAll step s z ys u q in
     subst Q (sym a.1) (subst P (sym a.0) b)
-took_more (l ∷ xs) ys (v, r, one, a) b = (v, r, one, took_more xs ys a b)
+took_more step s t u o p q (l ∷ ls) ys (v, r, one, a) b = (v, r, one, took_more step v t u r p q ls ys a b)
 
 -- one more line
-pub took_one : {S : Type 0} {step : Step S} {s t u : S} {o p q : Output} (lines : List (List ℕ)) (line : List ℕ) → TookAll step s o lines t p → step t p line u q → TookAll step s o (lines ++ line ∷ []) u q
-took_one {u = u} {q = q} lines line a b = took_more lines (line ∷ []) a (u, q, b, (refl, refl))
+pub took_one : {S : Type 0} (step : Step S) (s t u : S) (o p q : Output) (lines : List (List ℕ)) (line : List ℕ) → TookAll step s o lines t p → step t p line u q → TookAll step s o (lines ++ line ∷ []) u q
+took_one step s t u o p q lines line a b =
+    took_more step s t u o p q lines (line ∷ []) a (u, q, b, (refl, refl))
 
 -- lines were taken before
 pub broke_later : {S : Type 0} {step : Step S} {broke : Break S} {s t : S} {o p q : Output} {ys : List (List ℕ)} (xs : List (List ℕ)) → TookAll step s o xs t p → BrokeAmong step broke t p ys q → BrokeAmong step broke s o (xs ++ ys) q
-broke_later xs a b = record {
+broke_later {step = step} {s = s} {t = t} {o = o} {p = p} xs a b = record {
   before = xs ++ b.before;
   line = b.line;
   behind = b.behind;
   whole = ap (λ z. xs ++ z) b.whole ∙ sym (append_assoc xs b.before (b.line ∷ b.behind));
   taker = b.taker;
   written = b.written;
-  taken = took_more xs b.before a b.taken;
+  taken = took_more step s t b.taker o p b.written xs b.before a b.taken;
   broken = b.broken;
 }
 
@@ -100,7 +106,7 @@ went_on {S} {step} {first} {now} {old} {new} {line} {front} {bytes} {rest} next 
       closed = closed_more w.done read w.closed no_feed;
       begun_open = refl;
       line_is = empty ∙ sym kept_nil;
-      taken = subst Q (sym (lines_more w.done read w.closed no_feed)) (took_one (kept_lines w.done) (kept read) w.taken (subst P (taken_line w.begun (take n rest) line given w.line_is e) one));
+      taken = subst Q (sym (lines_more w.done read w.closed no_feed)) (took_one step first now next old new last (kept_lines w.done) (kept read) w.taken (subst P (taken_line w.begun (take n rest) line given w.line_is e) one));
     }
 
 -- at the next line the writer failed
@@ -191,7 +197,7 @@ going_on {S} {step} {before} {now} {s} {t} {line} {old} {new} after next last ke
     record {
       bytes = g.bytes ++ more;
       read = Consumes-more before.left now.left after.left g.bytes more g.read c;
-      taken = subst P (sym (lines_on g.bytes more)) (took_more (kept_lines g.bytes) (kept_lines (unended g.bytes ++ more)) g.taken (took (unended g.bytes) begun_open g.line_is));
+      taken = subst P (sym (lines_on g.bytes more)) (took_more step s t next old new last (kept_lines g.bytes) (kept_lines (unended g.bytes ++ more)) g.taken (took (unended g.bytes) begun_open g.line_is));
       line_is = rest (unended g.bytes) begun_open g.line_is ∙ sym (ap kept (unended-append g.bytes more));
     }
 

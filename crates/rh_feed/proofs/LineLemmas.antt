@@ -117,7 +117,7 @@ no_feed_all xs h =
 is_ten : (x : ℕ) → eqb x 10 ≡ true → x ≡ 10
 is_ten x e = search (rules, tests)
 
-pub cut_at : (xs : List ℕ) (n : ℕ) → n < length xs → eqb (slice_index xs n) 10 ≡ true → xs ≡ take n xs ++ (10 ∷ []) ++ drop (suc n) xs
+pub cut_at : (xs : List ℕ) (n : ℕ) → n < length xs → eqb (slice_index xs n) 10 ≡ true → xs ≡ take n xs ++ (10 ∷ drop (suc n) xs)
 cut_at [] n lt e = absurd (omega arith)
 cut_at (x ∷ xs) zero lt e = ap (λ z. z ∷ xs) (is_ten x e)
 cut_at (x ∷ xs) (suc n) lt e = ap (λ z. x ∷ z) (cut_at xs n (omega arith) e)

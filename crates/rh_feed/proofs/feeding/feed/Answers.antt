@@ -1,5 +1,5 @@
 use Rattle.std.proofs.Common.{refl, arith}
-use Rattle.rh_feed.proofs.FeedLemmas.{behind_less, rest_through, went_nowhere, went_on, went_through, went_wrong}
+use Rattle.rh_feed.proofs.FeedLemmas.{behind_less, on_err, rest_through, went_nowhere, went_on, went_through, went_wrong}
 use Rattle.rh_feed.proofs.feeding.feed.Goals as goal
 
 pub loop-end-init : goal.loop-end-init
@@ -12,7 +12,7 @@ loop-end-init g c = record {
 pub returns-in_err-take_line-clause-broken : goal.returns-in_err-take_line-clause-broken
 returns-in_err-take_line-clause-broken g c = λ front begun_open is.
     let at = c.in-Some.ensures in
-    went_wrong (g.W.Sink.output c.take_line.new.writer) c.whole.result.now c.in-Some.end (c.loop-end.invariant.went front begun_open is) at.0.high (λ k lt. at.0.before k (omega arith) lt) at.1 c.whole.ensures c.in_err-take_line.ensures.err
+    on_err c.from_residual.result (went_wrong (g.W.Sink.output c.take_line.new.writer) c.whole.result.now c.in-Some.end (c.loop-end.invariant.went front begun_open is) at.0.high (λ k lt. at.0.before k (omega arith) lt) at.1 c.whole.ensures c.in_err-take_line.ensures.err)
 
 pub loop-end-preserved : goal.loop-end-preserved
 loop-end-preserved g c =
