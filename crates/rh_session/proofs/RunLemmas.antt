@@ -7,7 +7,9 @@ use Rattle.rh_lines.proofs.FlowLemmas.{takes_none, takes_more, takes_breaks, bre
 use Rattle.rh_defs.specs.Script.{ended, unended, script_text, rest_text}
 use Rattle.rh_session.specs.declared.session.Session.{Session}
 use Rattle.rh_session.specs.Kept.{IsState}
-use Rattle.rh_session.specs.Session.{State, begin, state_of, text_of, kept}
+use Rattle.rh_feed.specs.Lines.{kept}
+use Rattle.rh_feed.proofs.FeedLemmas.{Consumes-keeps, Consumes-more, Consumes-none, keeps_same}
+use Rattle.rh_session.specs.Session.{State, begin, state_of, text_of}
 use Rattle.std.specs.List.{list_any}
 use borrow.Author.Tests.{tests}
 use Rattle.std.proofs.lemmas.List.{take_all}
@@ -19,23 +21,8 @@ use Rattle.std.proofs.Common.{◌≢◌}
 use Rattle.rh_lines.specs.Flow.{reads_after}
 use Rattle.std.proofs.lemmas.Bool.Decides.{nat_tests}
 use Rattle.rh_session.specs.Outcome.{Answered, Finished, BrokeOff, status_of}
-use Rattle.rh_session.proofs.SessionLemmas.{still_long, is_above, split_at, reached, state_of-append, text_of-append}
-
-Consumes-more : (a b c : Option (List ℕ)) (x y : List ℕ) → Consumes a b x → Consumes b c y → Consumes a c (x ++ y)
-Consumes-more None b c x y p q = tt
-Consumes-more (Some a) None c x y p q = absurd p
-Consumes-more (Some a) (Some b) None x y p q = absurd q
-Consumes-more (Some a) (Some b) (Some c) x y p q = p ∙ (ap (λ z. x ++ z) q ∙ sym (append_assoc x y c))
-
-Consumes-none : (a : Option (List ℕ)) → Consumes a a []
-Consumes-none None = tt
-Consumes-none (Some a) = refl
-
-Consumes-keeps : (a b c : Option (List ℕ)) (x : List ℕ) → Consumes a b x → Keeps b c → Consumes a c x
-Consumes-keeps None b c x p q = tt
-Consumes-keeps (Some a) None c x p q = absurd p
-Consumes-keeps (Some a) (Some b) None x p q = absurd q
-Consumes-keeps (Some a) (Some b) (Some c) x p q = p ∙ ap (λ z. x ++ z) (sym q)
+use Rattle.rh_feed.proofs.LineLemmas.{is_above, split_at, still_long}
+use Rattle.rh_session.proofs.SessionLemmas.{reached, state_of-append, text_of-append}
 
 -- what was read so far has been run
 pub record Going {D : Type 0} (spells : D → Desk → Type 0) (d : Desk) (before now : Input) (old new : Output) (session : Session D) : Type 0 where
@@ -131,10 +118,6 @@ broke {d = d} {before = before} {now = now} after last more g c w = record {
   written = broke_left d before.left now.left after.left g.bytes more refl g.written (w (state_of (begin d) g.bytes) g.state_is) g.read c;
 }
 
-keeps_same : (a : Option (List ℕ)) → Keeps a a
-keeps_same None = tt
-keeps_same (Some a) = refl
-
 pub answered_here : {D : Type 0} {spells : D → Desk → Type 0} {session : Session D} {d : Desk} {before now : Input} {old new : Output} → Going spells d before now old new session → Answered d before now old new
 answered_here {now = now} g = answered now g (keeps_same now.left)
 
@@ -155,10 +138,3 @@ broke_last {d = d} {before = before} {now = now} after last g c e w = record {
   failed = (w (state_of (begin d) g.bytes) g.state_is).failed;
   written = broke_end d before.left now.left after.left g.bytes refl g.written (w (state_of (begin d) g.bytes) g.state_is) g.read c e;
 }
-
--- a read that gave no bytes
-pub none_given : (a b : Option (List ℕ)) (n : ℕ) (buffer : List ℕ) → n ≡ 0 → Consumes a b (take n buffer) → Consumes a b []
-none_given a b n buffer e h = rw e at h
-
-pub counted : (before after n turn : ℕ) → n ≢ 0 → before ≡ turn → turn < 1000000 → after ≡ reads_after before n → after ≡ turn + 1
-counted before after n turn p e l s = grind (arith, nat_tests)

@@ -1,14 +1,13 @@
 -- A session over several bytes.
-use Rattle.std.proofs.Common.{◌≡◌, ℕ, zero, suc, ◌<◌, ◌≤◌, List, [], ◌∷◌, ◌++◌, length, take, append_assoc, refl, sym, ◌∙◌, ap, subst, arith, rules}
-use Rattle.std.proofs.Common.{append-nil}
-use Rattle.std.proofs.lemmas.List.{take_all, length-take}
-use Rattle.std.proofs.Common.{Bool, true, false, eqb, ◌||◌, nat_lt, ◌⊎◌, inl, inr}
+use Rattle.std.proofs.Common.{◌≡◌, ℕ, List, [], ◌∷◌, ◌++◌, append_assoc, append-nil, refl, sym, ◌∙◌, ap, subst, rules}
+use Rattle.std.proofs.Common.{Bool, true, false, eqb, ◌||◌, ◌⊎◌, inl, inr}
 use borrow.Author.Tests.{tests}
 use Rattle.std.specs.List.{list_any}
 use Rattle.rh_defs.specs.Desk.{Desk}
-use Rattle.rh_defs.specs.Line.{line_means}
 use Rattle.rh_defs.specs.Script.{ended, unended, meaning_text, line_text, line_desk, lines_text, lines_desk, is_bad}
-use Rattle.rh_session.specs.Session.{State, state_after, text_after, state_of, text_of, kept, begin}
+use Rattle.rh_feed.specs.Lines.{kept}
+use Rattle.rh_feed.proofs.LineLemmas.{NoFeed, bool_cases, ended_first, ended_none, kept_front, kept_means, kept_nil, no_feed_more, unended_all, unended_first}
+use Rattle.rh_session.specs.Session.{State, state_after, text_after, state_of, text_of, begin}
 
 pub state_of-append : (s : State) (xs ys : List ℕ) → state_of s (xs ++ ys) ≡ state_of (state_of s xs) ys
 state_of-append s [] ys = refl
@@ -23,78 +22,21 @@ text_of-append s (x ∷ xs) ys =
 abbrev pub at_line : Desk → List ℕ → Bool → State
 at_line desk line bad = record { desk = desk; line = kept line; bad = bad }
 
--- no line feed is here
-abbrev pub NoFeed : List ℕ → Type 0
-NoFeed [] = Unit {0}
-NoFeed (b ∷ bs) = (eqb b 10 ≡ false) × NoFeed bs
-
-no_feed_more : (xs : List ℕ) (b : ℕ) → NoFeed xs → eqb b 10 ≡ false → NoFeed (xs ++ b ∷ [])
-no_feed_more [] b h e = (e, tt)
-no_feed_more (x ∷ xs) b h e = (h.0, no_feed_more xs b h.1 e)
-
-ended_none : (xs : List ℕ) → NoFeed xs → ended xs ≡ []
-ended_none [] h = refl
-ended_none (x ∷ xs) h = rw (h.0, ended_none xs h.1) refl
-
-unended_all : (xs : List ℕ) → NoFeed xs → unended xs ≡ xs
-unended_all [] h = refl
-unended_all (x ∷ xs) h = rw (h.0, ended_none xs h.1) refl
-
-ended_first : (xs ys : List ℕ) → NoFeed xs → ended (xs ++ 10 ∷ ys) ≡ xs ∷ ended ys
-ended_first [] ys h = refl
-ended_first (x ∷ xs) ys h = rw (h.0, ended_first xs ys h.1) refl
-
-unended_first : (xs ys : List ℕ) → NoFeed xs → unended (xs ++ 10 ∷ ys) ≡ unended ys
-unended_first [] ys h = refl
-unended_first (x ∷ xs) ys h = rw (h.0, ended_first xs ys h.1) (unended_first xs ys h.1)
-
-pub take_front : (m : ℕ) (xs ys : List ℕ) → take m (take m xs ++ ys) ≡ take m (xs ++ ys)
-take_front zero xs ys = refl
-take_front (suc m) [] ys = refl
-take_front (suc m) (x ∷ xs) ys = ap (λ z. x ∷ z) (take_front m xs ys)
-
 kept_again : (line : List ℕ) (b : ℕ) → kept (kept line ++ b ∷ []) ≡ kept (line ++ b ∷ [])
-unfolding kept
-kept_again line b = take_front 1025 line (b ∷ [])
+kept_again line b = kept_front line (b ∷ [])
 
 pub or_false : (b : Bool) → (b || false) ≡ b
 or_false true = refl
 or_false false = refl
 
-bool_cases : (b : Bool) → (b ≡ true) ⊎ (b ≡ false)
-bool_cases true = inl refl
-bool_cases false = inr refl
-
 one_bool : (b c d : Bool) → ((b || c) || d) ≡ (b || (c || d))
 one_bool true c d = refl
 one_bool false c d = refl
-
-pub still_long : (k m : ℕ) (xs : List ℕ) → k < m → k < length xs → k < length (take m xs)
-still_long k m xs p q = grind (arith, length-take)
-
-pub is_above : (k n : ℕ) → k < n → nat_lt k n ≡ true
-is_above k n h = search (rules, tests)
-
-means_same : (n : ℕ) (line : List ℕ) → (n ≤ 1024) ⊎ (1024 < n) → n ≡ length line → line_means (kept line) ≡ line_means line
-unfolding kept line_means
-means_same n line (inl h) e = ap line_means (take_all 1025 line (omega arith))
-means_same n line (inr h) e =
-    rw (is_above 1024 (length line) (omega arith), is_above 1024 (length (take 1025 line)) (still_long 1024 1025 line (omega arith) (omega arith))) refl
-
-pub split_at : (n : ℕ) → (n ≤ 1024) ⊎ (1024 < n)
-split_at n = grind arith
-
-pub kept_means : (line : List ℕ) → line_means (kept line) ≡ line_means line
-kept_means line = means_same (length line) line (split_at (length line)) refl
 
 -- where a session stands after these bytes
 pub record Reaches (desk : Desk) (bad : Bool) (all bs : List ℕ) (s : State) : Type 0 where
   pub state : state_of s bs ≡ at_line (lines_desk desk (ended all)) (unended all) (bad || list_any is_bad (ended all))
   pub text : text_of s bs ≡ lines_text desk (ended all)
-
-kept_nil : kept [] ≡ []
-unfolding kept
-kept_nil = refl
 
 -- one more byte: a line feed, or one that goes on with the line
 reach_feed : (desk : Desk) (bad : Bool) (line bs : List ℕ) → NoFeed line → Reaches (line_desk desk line) (bad || is_bad line) bs bs (at_line (line_desk desk line) [] (bad || is_bad line)) → Reaches desk bad (line ++ 10 ∷ bs) (10 ∷ bs) (at_line desk line bad)

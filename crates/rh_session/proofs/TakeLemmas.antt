@@ -1,9 +1,7 @@
 -- A session over several lines.
-use Rattle.std.proofs.Common.{◌≡◌, ℕ, zero, suc, ◌-◌, ◌<◌, ◌≤◌, Bool, true, false, eqb, List, [], ◌∷◌, ◌++◌, length, take, drop, Result, Ok, Err, append_assoc, append-nil, refl, sym, ◌∙◌, ap, subst, arith, rules, ◌||◌}
+use Rattle.std.proofs.Common.{◌≡◌, ℕ, ◌<◌, ◌≤◌, true, false, eqb, List, [], ◌∷◌, ◌++◌, length, take, Result, Ok, Err, append_assoc, append-nil, refl, sym, ◌∙◌, ap, subst, arith, ◌||◌}
 use Rattle.std.specs.Prelude.{slice_index}
 use Rattle.std.specs.Result.{IsErr, is_err}
-use Rattle.std.proofs.lemmas.List.{take_all, take_rest, length-take}
-use borrow.Author.Tests.{tests}
 use Rattle.rh_defs.specs.Desk.{Desk}
 use Rattle.rh_defs.specs.Line.{line_means}
 use Rattle.rh_defs.specs.Script.{meaning_text, meaning_desk, line_text}
@@ -11,22 +9,16 @@ use Rattle.rh_lines.specs.declared.sink.WriteFailed.{WriteFailed}
 use Rattle.rh_lines.specs.Flow.{Output, Breaks}
 use Rattle.rh_lines.proofs.FlowLemmas.{breaks_before}
 use Rattle.rh_session.specs.declared.session.Session.{Session}
-use Rattle.rh_session.specs.Session.{State, state_after, text_after, state_of, text_of, kept}
+use Rattle.rh_session.specs.Session.{State, state_after, text_after, state_of, text_of}
 use Rattle.rh_session.specs.Answer.{state_after_line}
 use Rattle.rh_session.specs.Kept.{IsState}
 use Rattle.rh_session.specs.Holding.{Holds, Gathers}
-use Rattle.rh_session.proofs.SessionLemmas.{NoFeed, kept_means, take_front, state_of-append, text_of-append}
+use Rattle.rh_feed.specs.Lines.{kept}
+use Rattle.rh_feed.proofs.LineLemmas.{NoFeed, NoneBelow, behind, behind_is, cut_at, kept_front, kept_short, means_front, no_feed_all, no_feed_below, short_kept}
+use Rattle.rh_session.proofs.SessionLemmas.{state_of-append, text_of-append}
 use Rattle.rh_session.proofs.HoldLemmas.{holds_none, holds_more, holds_breaks}
 
 -- ---- lines, byte by byte
-
-kept_front : (line xs : List ℕ) → kept (kept line ++ xs) ≡ kept (line ++ xs)
-unfolding kept
-kept_front line xs = take_front 1025 line xs
-
-means_front : (line xs : List ℕ) → line_means (kept line ++ xs) ≡ line_means (line ++ xs)
-means_front line xs =
-    sym (kept_means (kept line ++ xs)) ∙ (ap line_means (kept_front line xs) ∙ kept_means (line ++ xs))
 
 line_same : (s : State) (line xs : List ℕ) → line_text s.desk (kept line ++ xs) ≡ line_text s.desk (line ++ xs)
 line_same s line xs = ap (meaning_text s.desk) (means_front line xs)
@@ -60,21 +52,10 @@ line_state_of (x ∷ xs) s h =
     let next : State = record { desk = s.desk; line = kept (s.line ++ x ∷ []); bad = s.bad } in
     ap (λ z. state_of z (xs ++ 10 ∷ [])) (after_byte s x h.0) ∙ (line_state_of xs next h.1 ∙ line_state s (kept (s.line ++ x ∷ []) ++ xs) (s.line ++ x ∷ xs) (means_front (s.line ++ x ∷ []) xs ∙ ap line_means (append_assoc s.line (x ∷ []) xs)))
 
-shorter : (n : ℕ) (line : List ℕ) → length (take n line) ≤ n
-shorter n line = grind (arith, length-take)
-
 -- bytes that end no line
 rest_text_of : (xs : List ℕ) (s : State) → NoFeed xs → text_of s xs ≡ []
 rest_text_of [] s h = refl
 rest_text_of (x ∷ xs) s h = ap (λ z. z ++ text_of (state_after s x) xs) (no_text s x h.0) ∙ rest_text_of xs (state_after s x) h.1
-
-kept_short : (line : List ℕ) → length line ≤ 1025 → line ≡ kept line
-unfolding kept
-kept_short line h = sym (take_all 1025 line h)
-
-short_kept : (line : List ℕ) → length (kept line) ≤ 1025
-unfolding kept
-short_kept line = shorter 1025 line
 
 rest_state_of : (xs : List ℕ) (s : State) → NoFeed xs → length s.line ≤ 1025 → state_of s xs ≡ record { desk = s.desk; line = kept (s.line ++ xs); bad = s.bad }
 rest_state_of [] s h few =
@@ -82,48 +63,6 @@ rest_state_of [] s h few =
 rest_state_of (x ∷ xs) s h few =
     let next : State = record { desk = s.desk; line = kept (s.line ++ x ∷ []); bad = s.bad } in
     ap (λ z. state_of z xs) (after_byte s x h.0) ∙ (rest_state_of xs next h.1 (short_kept (s.line ++ x ∷ [])) ∙ ap (λ l. let after : State = record { desk = s.desk; line = l; bad = s.bad } in after) (kept_front (s.line ++ x ∷ []) xs ∙ ap kept (append_assoc s.line (x ∷ []) xs)))
-
--- ---- where a line ends
-
--- no line feed stands below n
-abbrev NoneBelow : List ℕ → ℕ → Type 0
-NoneBelow xs n = (k : ℕ) → k < n → eqb (slice_index xs k) 10 ≡ true → ⊥
-
-not_feed : (x : ℕ) (b : Bool) → eqb x 10 ≡ b → (eqb x 10 ≡ true → ⊥) → eqb x 10 ≡ false
-not_feed x true e h = absurd (h e)
-not_feed x false e h = e
-
-no_feed_below : (xs : List ℕ) (n : ℕ) → n ≤ length xs → NoneBelow xs n → NoFeed (take n xs)
-no_feed_below xs zero few h = tt
-no_feed_below [] (suc n) few h = absurd (omega arith)
-no_feed_below (x ∷ xs) (suc n) few h =
-    (not_feed x (eqb x 10) refl (h 0 (omega arith)), no_feed_below xs n (omega arith) (λ k lt. h (suc k) (omega arith)))
-
-no_feed_all : (xs : List ℕ) → NoneBelow xs (length xs) → NoFeed xs
-no_feed_all xs h =
-    let P : List ℕ → Type 0 = λ z. NoFeed z in subst P (take_all (length xs) xs (omega arith)) (no_feed_below xs (length xs) (omega arith) h)
-
-is_ten : (x : ℕ) → eqb x 10 ≡ true → x ≡ 10
-is_ten x e = search (rules, tests)
-
-cut_at : (xs : List ℕ) (n : ℕ) → n < length xs → eqb (slice_index xs n) 10 ≡ true → xs ≡ take n xs ++ (10 ∷ []) ++ drop (suc n) xs
-cut_at [] n lt e = absurd (omega arith)
-cut_at (x ∷ xs) zero lt e = ap (λ z. z ∷ xs) (is_ten x e)
-cut_at (x ∷ xs) (suc n) lt e = ap (λ z. x ∷ z) (cut_at xs n (omega arith) e)
-
-drop_drop : (xs : List ℕ) (n : ℕ) → drop 1 (drop n xs) ≡ drop (suc n) xs
-drop_drop [] zero = refl
-drop_drop [] (suc n) = refl
-drop_drop (x ∷ xs) zero = refl
-drop_drop (x ∷ xs) (suc n) = drop_drop xs n
-
--- what stands behind the line feed at n, as it is cut
-abbrev pub behind : List ℕ → ℕ → List ℕ
-behind xs n = let tail = take (length xs - n) (drop n xs) in take (length tail - 1) (drop 1 tail)
-
-behind_is : (xs : List ℕ) (n : ℕ) → behind xs n ≡ drop (suc n) xs
-behind_is xs n =
-    take_rest (take (length xs - n) (drop n xs)) 1 ∙ (ap (drop 1) (take_rest xs n) ∙ drop_drop xs n)
 
 -- ---- one line after another
 

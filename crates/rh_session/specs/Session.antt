@@ -1,18 +1,14 @@
 -- A run of a script, byte by byte.
-use Rattle.std.specs.Prelude.{ℕ, ◌+◌, Bool, false, ◌||◌, List, [], ◌∷◌, ◌++◌, take, ◌==◌, if◌then◌else◌}
+use Rattle.std.specs.Prelude.{ℕ, Bool, false, ◌||◌, List, [], ◌∷◌, ◌++◌, ◌==◌, if◌then◌else◌}
 use Rattle.rh_defs.specs.Desk.{Desk}
-use Rattle.rh_defs.specs.declared.sizes.TheConstants.{LONGEST_LINE}
 use Rattle.rh_defs.specs.Script.{line_text, line_desk, is_bad}
+use Rattle.rh_feed.specs.Lines.{kept}
 
 -- the desk, the line so far as far as it is kept, and whether a line was bad
 pub record State : Type 0 where
   pub desk : Desk
   pub line : List ℕ
   pub bad : Bool
-
--- one byte more than a line may have shows that it has too many
-unfoldable pub kept : List ℕ → List ℕ
-kept line = take (LONGEST_LINE + 1) line
 
 abbrev pub begin : Desk → State
 begin d = record { desk = d; line = []; bad = false }

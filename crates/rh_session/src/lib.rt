@@ -3,7 +3,6 @@
 
 mod answer;
 mod desktop;
-mod line;
 mod running;
 mod session;
 mod status;

@@ -13,11 +13,11 @@ ghost use Rattle.rh_session.specs.Session.{State, begin, state_of, text_of};
 
 use crate::answer::{Answer, flush};
 use crate::desktop::Desktop;
-use crate::line::LineBuffer;
 use crate::status::Status;
 use memchr::memchr;
 use rh_defs::sizes::LONGEST_LINE;
 use rh_defs::{Command, LineFault, Question};
+use rh_feed::LineBuffer;
 use rh_lines::{Held, Sink, WriteFailed, print_fault, read_line};
 use std::alloc::{AllocError, Global};
 

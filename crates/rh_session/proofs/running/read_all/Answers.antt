@@ -1,6 +1,7 @@
 use Rattle.std.proofs.Common.{arith, refl, ◌∙◌}
 use Rattle.rh_session.proofs.SessionLemmas.{or_false}
-use Rattle.rh_session.proofs.RunLemmas.{answered, answered_here, finished, broke, broke_last, going_starts, going_on, none_given, counted}
+use Rattle.rh_feed.proofs.FeedLemmas.{counted, none_given}
+use Rattle.rh_session.proofs.RunLemmas.{answered, answered_here, finished, broke, broke_last, going_starts, going_on}
 use Rattle.rh_session.proofs.running.read_all.Goals as goal
 
 pub returns-in-Err-clause-read_answered : goal.returns-in-Err-clause-read_answered

@@ -1,0 +1,125 @@
+//! A script read to its end, and its lines handed on.
+
+ghost use Rattle.std.specs.Prelude.{◌≡◌, ◌<◌, ◌≤◌, ◌*◌, ◌+◌, [], ◌++◌, ℕ, List, length, true, IsErrOf, OnErr, OnOk};
+ghost use Rattle.rh_defs.specs.Script.{ended, unended};
+ghost use Rattle.rh_feed.specs.Lines.{kept, kept_lines, kept_rest};
+ghost use Rattle.rh_feed.specs.Taken.{BrokeAmong, Fed, FedAll, FedUntil, TookAll, too_many_reads};
+ghost use Rattle.rh_feed.specs.declared.feeding.TheConstants.{MOST_READS, PIECE};
+
+use crate::fault::FeedFault;
+use crate::line::LineBuffer;
+use crate::taker::LineTaker;
+use memchr::memchr;
+use rh_lines::{Sink, Source, WriteFailed};
+use std::alloc::Global;
+
+/// So many bytes are read at a time. A script has less than 2^32 bytes then, and so many lines at most.
+const PIECE: usize = 4_096;
+
+/// So many reads that give bytes make a script too long.
+const MOST_READS: u32 = 1_000_000;
+
+/// Reads a script to its end, and hands each of its lines to the taker before it reads on; at last what stands behind
+/// the last line feed. It takes memory before its first read only, and gives up after 1,000,000 reads that gave bytes.
+pub fn feed_all<T: LineTaker, R: Source, W: Sink>(
+    alloc: Global,
+    taker: &mut T,
+    reader: &mut R,
+    writer: &mut W,
+) -> Result<(), FeedFault>
+    requires fresh { (R.input reader.old).reads ≡ 0 }
+    requires room { MOST_READS * PIECE < T.room taker.old }
+
+    // The whole script was read, and each of its lines was taken.
+    ensures ok { OnOk result (FedAll T.took T.took_rest (R.input reader.old) (R.input reader.new) taker.old taker.new (W.output writer.old) (W.output writer.new)) }
+
+    // Nothing was read, and no line was taken.
+    ensures no_memory { IsErrOf result FeedFault.NoMemory → (R.input reader.new ≡ R.input reader.old) × (taker.new ≡ taker.old) × (W.output writer.new ≡ W.output writer.old) }
+
+    // The complete lines that were read have been taken.
+    ensures read_failed { IsErrOf result FeedFault.ReadFailed → (R.input reader.new).failed ≡ true }
+    ensures read_taken { IsErrOf result FeedFault.ReadFailed → Fed T.took (R.input reader.old) (R.input reader.new) taker.old taker.new (W.output writer.old) (W.output writer.new) }
+    ensures too_long { IsErrOf result FeedFault.TooLong → ((R.input reader.new).reads ≡ too_many_reads) × ((R.input reader.new).failed ≡ (R.input reader.old).failed) }
+    ensures long_taken { IsErrOf result FeedFault.TooLong → Fed T.took (R.input reader.old) (R.input reader.new) taker.old taker.new (W.output writer.old) (W.output writer.new) }
+
+    // The writer failed at one of the lines.
+    ensures write_failed { IsErrOf result FeedFault.WriteFailed → FedUntil T.took T.broke T.broke_rest (R.input reader.old) (R.input reader.new) taker.old (W.output writer.old) (W.output writer.new) }
+
+    // However it ends, at most so many reads gave bytes.
+    ensures reads { (R.input reader.new).reads ≤ too_many_reads }
+{
+    let Ok(mut line) = LineBuffer::new(alloc) else {
+        return Err(FeedFault::NoMemory);
+    };
+    let Ok(mut piece) = vec![in alloc; 0; PIECE] else {
+        return Err(FeedFault::NoMemory);
+    };
+    read_all(taker, &mut line, &mut piece, reader, writer)
+}
+
+/// Reads piece by piece, and hands on the lines of each before the next.
+fn read_all<T: LineTaker, R: Source, W: Sink>(
+    taker: &mut T,
+    line: &mut LineBuffer,
+    piece: &mut [u8],
+    reader: &mut R,
+    writer: &mut W,
+) -> Result<(), FeedFault>
+    requires piece { length piece.old ≡ PIECE }
+    requires begun { line.old ≡ [] }
+    requires fresh { (R.input reader.old).reads ≡ 0 }
+    requires room { MOST_READS * PIECE < T.room taker.old }
+    ensures ok { OnOk result (FedAll T.took T.took_rest (R.input reader.old) (R.input reader.new) taker.old taker.new (W.output writer.old) (W.output writer.new)) }
+    ensures had_memory { IsErrOf result FeedFault.NoMemory → ⊥ }
+    ensures read_failed { IsErrOf result FeedFault.ReadFailed → (R.input reader.new).failed ≡ true }
+    ensures read_taken { IsErrOf result FeedFault.ReadFailed → Fed T.took (R.input reader.old) (R.input reader.new) taker.old taker.new (W.output writer.old) (W.output writer.new) }
+    ensures too_long { IsErrOf result FeedFault.TooLong → ((R.input reader.new).reads ≡ too_many_reads) × ((R.input reader.new).failed ≡ (R.input reader.old).failed) }
+    ensures long_taken { IsErrOf result FeedFault.TooLong → Fed T.took (R.input reader.old) (R.input reader.new) taker.old taker.new (W.output writer.old) (W.output writer.new) }
+    ensures write_failed { IsErrOf result FeedFault.WriteFailed → FedUntil T.took T.broke T.broke_rest (R.input reader.old) (R.input reader.new) taker.old (W.output writer.old) (W.output writer.new) }
+    ensures reads { (R.input reader.new).reads ≤ too_many_reads }
+{
+    for _turn in 0..MOST_READS {
+        let count = match reader.read(piece) {
+            Ok(count) => count,
+            Err(_) => return Err(FeedFault::ReadFailed),
+        };
+        if count == 0 {
+            match taker.take_rest(line.as_slice(), writer) {
+                Ok(()) => return Ok(()),
+                Err(_) => return Err(FeedFault::WriteFailed),
+            }
+        }
+        match feed(taker, line, &piece[..count], writer) {
+            Ok(()) => {}
+            Err(_) => return Err(FeedFault::WriteFailed),
+        }
+    }
+    Err(FeedFault::TooLong)
+}
+
+/// Hands on each line that ends in these bytes, and keeps the rest of them. Before them stood a front of a line, of
+/// which `line` has what counts.
+fn feed<T: LineTaker, W: Sink>(
+    taker: &mut T,
+    line: &mut LineBuffer,
+    bytes: &[u8],
+    writer: &mut W,
+) -> Result<(), WriteFailed>
+    requires { length bytes.now ≤ T.room taker.old }
+    ensures taken { (front : List ℕ) → ended front ≡ [] → line.old ≡ kept front → OnOk result
+        (TookAll T.took taker.old (W.output writer.old) (kept_lines (front ++ bytes.now)) taker.new (W.output writer.new)) }
+    ensures rest { (front : List ℕ) → ended front ≡ [] → line.old ≡ kept front → OnOk result
+        (line.new ≡ kept_rest (front ++ bytes.now)) }
+    ensures broken { (front : List ℕ) → ended front ≡ [] → line.old ≡ kept front → OnErr result
+        (BrokeAmong T.took T.broke taker.old (W.output writer.old) (kept_lines (front ++ bytes.now)) (W.output writer.new)) }
+    ensures room { OnOk result (T.room taker.old ≤ T.room taker.new + length bytes.now) }
+{
+    let mut rest = bytes;
+    while let Some(end) = memchr(b'\n', rest) {
+        taker.take_line(line.whole(&rest[..end]), writer)?;
+        line.clear();
+        rest = &rest[end..][1..];
+    }
+    line.add(rest);
+    Ok(())
+}

@@ -1,0 +1,12 @@
+//! The lines of a script as they are read, piece by piece, and handed to what takes them.
+#![tactic(auto)]
+
+mod fault;
+mod feeding;
+mod line;
+mod taker;
+
+pub use fault::FeedFault;
+pub use feeding::feed_all;
+pub use line::LineBuffer;
+pub use taker::LineTaker;

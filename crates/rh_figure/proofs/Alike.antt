@@ -1,0 +1,111 @@
+-- Desks that differ in the order of messages to different tasks alone have the same pictures.
+use Rattle.std.proofs.Common.{ℕ, ◌+◌, ◌≡◌, refl, sym, ap, ap₂, ◌∙◌, Bool, false, List, [], ◌∷◌, ◌++◌}
+use Rattle.std.specs.Prelude.{Option, Some, None, Ok, Err, ◌&&◌, ◌||◌, not, if◌then◌else◌}
+use Rattle.rh_defs.specs.declared.command.Command.{Command}
+use Rattle.rh_defs.specs.declared.command.Command.TheVariants as command
+use Rattle.rh_defs.specs.declared.reply.Reply.{Reply}
+use Rattle.rh_defs.specs.declared.fault.LineFault.{LineFault}
+use Rattle.rh_defs.specs.Messages.{Parcel}
+use Rattle.rh_defs.specs.Desk.{Desk, Task}
+use Rattle.rh_defs.specs.Listing.{Nothing}
+use Rattle.rh_defs.specs.Range.{can_be_asked}
+use Rattle.rh_defs.specs.Questions.{begins}
+use Rattle.rh_defs.specs.Order.{with_queue, IsReordered}
+use Rattle.rh_defs.specs.Step.{step}
+use Rattle.rh_defs.specs.Text.{answer_text, first_line, reply_text, fault_text}
+use Rattle.rh_defs.proofs.QuestionLaws.{asked-requeued}
+use Rattle.rh_defs.proofs.OrderSteps.{order-ignored}
+use Rattle.rh_figure.specs.Share.{Share}
+use Rattle.rh_figure.specs.Scene.{Before, Marks, no_marks, is_still, before_of, before_task, task_in, marks_of, scene_of}
+use Rattle.rh_figure.specs.Map.{step_lines, command_lines, fault_lines, is_mark, remark_lines}
+use Rattle.rh_figure.specs.Laws.{ShowsNoOrder}
+
+-- a function by its values
+same-values : {A : Type 0} {f g : ℕ → A} → ((n : ℕ) → f n ≡ g n) → f ≡ g
+same-values e = λ i n. e n i
+
+pub scene-alike : {a b : Desk} → IsReordered a b → (s : Share) (f : Before) (m : Marks)
+    → scene_of b s f m ≡ scene_of a s f m
+scene-alike {a} {b} is s f m =
+    ap (λ d. scene_of d s f m) is.rest
+    ∙ ap (λ waits. record { desk = with_queue [] a; waits = waits; share = s; before = f; marks = m }) (same-values
+    (λ h. sym (is.same.each h)))
+
+before-requeued : (queue : List Parcel) (d : Desk) (t : Option Task)
+    → before_task (with_queue queue d) t ≡ before_task d t
+before-requeued queue d None = refl
+before-requeued queue d (Some t) = refl
+
+task_in-requeued : (queue : List Parcel) (d : Desk) (c : Option Command) → task_in c (with_queue queue d) ≡ task_in c d
+task_in-requeued queue d None = refl
+task_in-requeued queue d (Some c) = refl
+
+pub before-alike : {a b : Desk} → IsReordered a b → (c : Option Command) → before_of b c ≡ before_of a c
+before-alike {a} {b} is c =
+    ap (λ d. before_of d c) is.rest ∙ (ap (before_task (with_queue b.post.queued a))
+    (task_in-requeued b.post.queued a c) ∙ before-requeued b.post.queued a (task_in c a))
+
+marks-requeued : (queue : List Parcel) (d : Desk) (f : Before) (c : Option Command) (r : Reply)
+    → marks_of (with_queue queue d) f c r ≡ marks_of d f c r
+marks-requeued queue d f None r = refl
+marks-requeued queue d f (Some c) r = refl
+
+pub marks-alike : {a b : Desk} → IsReordered a b → (f : Before) (c : Option Command) (r : Reply)
+    → marks_of b f c r ≡ marks_of a f c r
+marks-alike {a} {b} is f c r = ap (λ d. marks_of d f c r) is.rest ∙ marks-requeued b.post.queued a f c r
+
+-- no reply shows the queue
+text-requeued : (queue : List Parcel) (d : Desk) (c : Command) (r : Reply)
+    → reply_text (with_queue queue d) c r ≡ reply_text d c r
+unfolding reply_text
+text-requeued queue d (command.Ask q) r =
+    ap (λ told. if can_be_asked q && begins told r then answer_text told else first_line r Nothing)
+    (asked-requeued queue d q)
+text-requeued queue d c r = refl
+
+pub text-alike : {a b : Desk} → IsReordered a b → (c : Command) (r : Reply) → reply_text b c r ≡ reply_text a c r
+text-alike {a} {b} is c r = ap (λ d. reply_text d c r) is.rest ∙ text-requeued b.post.queued a c r
+
+-- ---- lines
+
+-- the lines of one reply on the desk after it
+lines-alike : {x y : Desk} → IsReordered x y
+    → (wanted : Bool) (s : Share) (n : ℕ) (line : List ℕ) (c : Command) (f : Before) (r : Reply)
+    → command_lines wanted s n line c f (y, r) ≡ command_lines wanted s n line c f (x, r)
+lines-alike {x} {y} is wanted s n line c f r =
+    ap₂ (step_lines (is_still (Some c) r && not wanted) n line) (text-alike is c r)
+    (ap (scene_of y s f) (marks-alike is f (Some c) r) ∙ scene-alike is s f (marks_of x f (Some c) r))
+
+-- those of a command
+pub command-alike : {a b : Desk} → IsReordered a b → (wanted : Bool) (s : Share) (n : ℕ) (line : List ℕ) (c : Command)
+    → command_lines wanted s n line c (before_of b (Some c)) (step b c)
+    ≡ command_lines wanted s n line c (before_of a (Some c)) (step a c)
+command-alike {a} {b} is wanted s n line c =
+    let steps = order-ignored a b c is in
+    ap (λ f. command_lines wanted s n line c f (step b c)) (before-alike is (Some c))
+    ∙ (
+    ap (λ r. command_lines wanted s n line c (before_of a (Some c)) ((step b c).0, r)) steps.reply
+    ∙ lines-alike steps.desks wanted s n line c (before_of a (Some c)) (step a c).1
+    )
+
+-- those of a bad line
+pub fault-alike : {a b : Desk} → IsReordered a b
+    → (wanted : Bool) (s : Share) (n : ℕ) (line : List ℕ) (fault : LineFault)
+    → fault_lines wanted s n line fault b ≡ fault_lines wanted s n line fault a
+fault-alike {a} {b} is wanted s n line fault =
+    ap (λ f. step_lines (not wanted) n line (fault_text fault) (scene_of b s f no_marks)) (before-alike is None)
+    ∙ ap (step_lines (not wanted) n line (fault_text fault)) (scene-alike is s (before_of a None) no_marks)
+
+pub no-order : ShowsNoOrder
+no-order marked a b n wanted [] is = refl
+no-order marked a b n wanted (((line, Ok None), s) ∷ rest) is =
+    ap (λ ls. (if not marked || wanted || is_mark line then remark_lines line else []) ++ ls)
+    (no-order marked a b n (wanted || is_mark line) rest is)
+no-order marked a b n wanted (((line, Ok (Some c)), s) ∷ rest) is =
+    ap₂ (λ here ls. (if not marked || wanted then here else []) ++ ls)
+    (command-alike is wanted s (n + 1) line c)
+    (no-order marked (step a c).0 (step b c).0 (n + 1) false rest (order-ignored a b c is).desks)
+no-order marked a b n wanted (((line, Err fault), s) ∷ rest) is =
+    ap₂ (λ here ls. (if not marked || wanted then here else []) ++ ls)
+    (fault-alike is wanted s (n + 1) line fault)
+    (no-order marked a b (n + 1) false rest is)

@@ -1,0 +1,6 @@
+mod Settled
+mod Tiles
+mod Columns
+pub mod Alike
+mod Still
+mod WorkedMaps

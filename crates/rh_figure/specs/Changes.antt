@@ -1,0 +1,162 @@
+-- What a command has changed, in words.
+use Rattle.std.specs.Prelude.{ℕ, ◌-◌, ◌==◌, nat_lt, ◌&&◌, not, Bool, if◌then◌else◌, List, [], ◌∷◌, ◌++◌, length, drop, map, filter, find, codes, Option, Some, None}
+use Rattle.std.specs.List.{list_any, flat_map, concat}
+use Rattle.std.specs.Fmt.{decimal}
+use Rattle.rh_defs.specs.declared.listing.BlockItem.{BlockItem}
+use Rattle.rh_defs.specs.declared.message.Action.{Action}
+use Rattle.rh_defs.specs.declared.message.Body.{Body}
+use Rattle.rh_defs.specs.declared.message.Body.TheVariants.{RamTransmit}
+use Rattle.rh_defs.specs.declared.message.Letter.{Letter}
+use Rattle.rh_defs.specs.Messages.{Parcel, action_of}
+use Rattle.rh_defs.specs.Desk.{Task, task_at}
+use Rattle.rh_defs.specs.Listing.{block_items}
+use Rattle.rh_defs.specs.Text.{action_name, address}
+use Rattle.rh_figure.specs.Share.{Holding, count_of, holdings}
+use Rattle.rh_figure.specs.Scene.{Scene, waiting}
+use Rattle.rh_figure.specs.Phrases.{Text, size_text, listed_numbers, task_name, owner_name, is_returned}
+
+-- ---- pages
+
+-- the pages that an owner has got, from those that it has now
+abbrev pub taken_pages : Scene → Holding → List ℕ
+taken_pages x o = drop (count_of o.0 x.before.holdings) (x.share.pages_of o.0)
+
+-- the pages that were given back
+abbrev pub freed_pages : Scene → List ℕ
+freed_pages x = drop x.before.free x.share.free
+
+abbrev pub taken_line : Text → List ℕ → Text
+taken_line name numbers = name ++ codes " takes page " ++ listed_numbers numbers
+
+abbrev pub takes_text : Scene → Holding → List Text
+takes_text x o =
+    if nat_lt (count_of o.0 x.before.holdings) o.1 then taken_line (owner_name x.desk o.0) (taken_pages x o) ∷ []
+    else []
+
+abbrev pub freed_line : List ℕ → Text
+freed_line numbers = codes "Free again: page " ++ listed_numbers numbers
+
+abbrev pub freed_text : List ℕ → List Text
+freed_text [] = []
+freed_text (n ∷ ns) = freed_line (n ∷ ns) ∷ []
+
+abbrev pub page_changes : Scene → List Text
+page_changes x = flat_map (takes_text x) (holdings x.desk) ++ freed_text (freed_pages x)
+
+-- ---- flex blocks
+
+-- the block of an anchor in a list
+abbrev pub item_of : ℕ → List BlockItem → Option BlockItem
+item_of k blocks = find (λ (b : BlockItem). b.anchor == k) blocks
+
+abbrev pub has_anchor : ℕ → List BlockItem → Bool
+has_anchor k blocks = list_any (λ (b : BlockItem). b.anchor == k) blocks
+
+-- the blocks of the named task now
+abbrev pub blocks_now : Option Task → List BlockItem
+blocks_now None = []
+blocks_now (Some t) = block_items t.slot
+
+abbrev pub gone_line : ℕ → Text
+gone_line k = concat (codes "Flex block " ∷ decimal k ∷ codes " is gone" ∷ [])
+
+abbrev pub new_line : ℕ → Text
+new_line k = concat (codes "Flex block " ∷ decimal k ∷ codes " is new" ∷ [])
+
+-- a block that had so many bytes, and has another number now
+abbrev pub resized_line : ℕ → ℕ → ℕ → Text
+resized_line k had has =
+    concat (codes "Flex block " ∷ decimal k ∷ codes " had " ∷ size_text had ∷ codes ", now " ∷ decimal has ∷ [])
+
+abbrev pub block_change : BlockItem → Option BlockItem → List Text
+block_change b None = new_line b.anchor ∷ []
+block_change b (Some old) = if old.size == b.size then [] else resized_line b.anchor old.size b.size ∷ []
+
+-- the blocks of the named task, while it lives, against those before
+abbrev pub block_changes : Scene → Option Task → List Text
+block_changes x None = []
+block_changes x (Some t) =
+    map (λ (b : BlockItem). gone_line b.anchor)
+    (filter (λ (b : BlockItem). not (has_anchor b.anchor (block_items t.slot))) x.before.blocks)
+    ++ flat_map (λ (b : BlockItem). block_change b (item_of b.anchor x.before.blocks)) (block_items t.slot)
+
+-- a block that lies elsewhere now: where it lay, and where it lies
+pub record Slide : Type 0 where
+  pub from : ℕ
+  pub to : ℕ
+
+abbrev pub slide_of : BlockItem → Option BlockItem → List Slide
+slide_of b None = []
+slide_of b (Some old) = if old.address == b.address then [] else record { from = old.address; to = b.address } ∷ []
+
+-- the blocks of the named task that slid, from below
+abbrev pub slides : Scene → List Slide
+slides x =
+    flat_map (λ (b : BlockItem). slide_of b (item_of b.anchor x.before.blocks)) (blocks_now
+    (task_at x.before.handle x.desk))
+
+abbrev pub who_slides : ℕ → Text
+who_slides n = if n == 1 then codes "1 block slides" else decimal n ++ codes " blocks slide"
+
+-- from one address to another
+abbrev pub way_text : ℕ → ℕ → Text
+way_text from to =
+    if nat_lt from to then codes " up by " ++ size_text (to - from) else codes " down by " ++ size_text (from - to)
+
+-- so many blocks, of which the lowest slid from one address to another
+abbrev pub slide_line : ℕ → ℕ → ℕ → Text
+slide_line n from to = who_slides n ++ way_text from to
+
+-- all blocks that slide in one command slide equally far
+abbrev pub slide_change : List Slide → List Text
+slide_change [] = []
+slide_change (s ∷ ss) = slide_line (length (s ∷ ss)) s.from s.to ∷ []
+
+-- ---- messages
+
+abbrev pub returns_line : Action → ℕ → Text → Text
+returns_line action ref who =
+    concat (action_name action ∷ codes " " ∷ decimal ref ∷ codes " goes back to " ∷ who ∷ [])
+
+abbrev pub returns_text : Scene → Parcel → Text
+returns_text x p = returns_line (action_of p.message.body) p.message.my_ref (task_name x.desk p.to)
+
+abbrev pub takes_line : Text → Action → ℕ → Text
+takes_line who action ref = concat (who ∷ codes " takes " ∷ action_name action ∷ codes " " ∷ decimal ref ∷ [])
+
+abbrev pub taken_text : Scene → Option (ℕ × Action) → List Text
+taken_text x None = []
+taken_text x (Some taken) = takes_line (task_name x.desk x.marks.handle) taken.1 taken.0 ∷ []
+
+abbrev pub bytes_line : ℕ → Text → ℕ → Text
+bytes_line n who buffer =
+    concat (size_text n ∷ codes " into the buffer of " ∷ who ∷ codes " at " ∷ address buffer ∷ [])
+
+abbrev pub bytes_sent_text : Scene → Letter → Body → List Text
+bytes_sent_text x l (RamTransmit buffer n) = bytes_line n (task_name x.desk l.to) buffer ∷ []
+bytes_sent_text x l _ = []
+
+abbrev pub sends_line : Text → Action → ℕ → Text → Text
+sends_line who action ref to =
+    concat (who ∷ codes " sends " ∷ action_name action ∷ codes " " ∷ decimal ref ∷ codes " to " ∷ to ∷ [])
+
+abbrev pub sent_text : Scene → Option (Letter × ℕ) → List Text
+sent_text x None = []
+sent_text x (Some sent) =
+    bytes_sent_text x sent.0 sent.0.body
+    ++ sends_line (task_name x.desk sent.0.from) (action_of sent.0.body) sent.1 (task_name x.desk sent.0.to) ∷ []
+
+-- the message that the task held, if it goes back; the one that it took, and the one that it sent
+abbrev pub post_changes : Scene → List Text
+post_changes x =
+    map (returns_text x) (filter (λ (p : Parcel). p.message.my_ref == x.before.held && is_returned p.code) (waiting x))
+    ++ taken_text x x.marks.taken
+    ++ sent_text x x.marks.sent
+
+-- ---- all of it
+abbrev pub changes : Scene → List Text
+changes x =
+    page_changes x
+    ++ block_changes x (task_at x.before.handle x.desk)
+    ++ slide_change (slides x)
+    ++ post_changes x

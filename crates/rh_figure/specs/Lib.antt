@@ -1,0 +1,11 @@
+pub mod Share
+pub mod Scene
+pub mod Phrases
+pub mod Changes
+pub mod Layout
+pub mod Cards
+pub mod Figure
+pub mod Rows
+pub mod Map
+pub mod Whole
+pub mod Laws

@@ -1,0 +1,215 @@
+-- What a picture is drawn from: a desk after a command, and what is kept of the desk before it.
+use Rattle.std.specs.Prelude.{ℕ, ◌==◌, nat_lt, ◌||◌, Bool, true, false, if◌then◌else◌, List, [], ◌∷◌, ◌++◌, filter, find, Option, Some, None}
+use Rattle.std.specs.List.{flat_map}
+use Rattle.rh_defs.specs.declared.command.Command.{Command}
+use Rattle.rh_defs.specs.declared.command.Command.TheVariants as command
+use Rattle.rh_defs.specs.declared.question.Question.{Question}
+use Rattle.rh_defs.specs.declared.question.Question.TheVariants as question
+use Rattle.rh_defs.specs.declared.reply.Reply.{Reply}
+use Rattle.rh_defs.specs.declared.reply.Reply.TheVariants as reply
+use Rattle.rh_defs.specs.declared.listing.BlockItem.{BlockItem}
+use Rattle.rh_defs.specs.declared.message.Action.{Action}
+use Rattle.rh_defs.specs.declared.message.Body.{Body}
+use Rattle.rh_defs.specs.declared.message.Body.TheVariants.{RamFetch, RamTransmit}
+use Rattle.rh_defs.specs.declared.message.Letter.{Letter}
+use Rattle.rh_defs.specs.Messages.{Parcel}
+use Rattle.rh_defs.specs.Post.{Seat, held_by}
+use Rattle.rh_defs.specs.Desk.{Desk, Task, has_name, task_at, free_pages, next_ref}
+use Rattle.rh_defs.specs.Listing.{block_items}
+use Rattle.rh_defs.specs.Order.{is_to, with_queue}
+use Rattle.rh_figure.specs.Share.{Holding, Share, holdings}
+
+-- ---- before the command
+
+-- The handle, blocks and held ref are those of the task that the command names; all are 0 or none where it names no
+-- live one.
+pub record Before : Type 0 where
+  pub handle : ℕ
+  pub blocks : List BlockItem
+  pub held : ℕ
+  pub holdings : List Holding
+  pub free : ℕ
+  pub next_ref : ℕ
+
+-- the name of the task that a question is about
+abbrev pub name_asked : Question → Option (List ℕ)
+name_asked (question.Show name k) = Some name
+name_asked (question.Blocks name) = Some name
+name_asked (question.Heap name) = Some name
+name_asked (question.Status name) = Some name
+name_asked question.Areas = None
+
+-- the name of the task that a command is about
+abbrev pub name_in : Command → Option (List ℕ)
+name_in (command.Task name buffer manner) = Some name
+name_in (command.Kill name) = Some name
+name_in (command.Alloc name k n) = Some name
+name_in (command.Load name k file) = Some name
+name_in (command.Put name k offset bytes) = Some name
+name_in (command.Free name k) = Some name
+name_in (command.Extend name k n) = Some name
+name_in (command.Mid name k offset by) = Some name
+name_in (command.Claim name n) = Some name
+name_in (command.Release name address) = Some name
+name_in (command.Resize name address delta) = Some name
+name_in (command.Budge name on) = Some name
+name_in (command.Save name k to leaf) = Some name
+name_in (command.Poll name) = Some name
+name_in (command.CancelIn name id) = Some name
+name_in (command.CancelOut name id) = Some name
+name_in (command.Repeat name) = Some name
+name_in (command.Ask q) = name_asked q
+name_in _ = None
+
+abbrev pub task_in : Option Command → Desk → Option Task
+task_in None d = None
+task_in (Some c) d = named_in (name_in c)
+  where
+    named_in : Option (List ℕ) → Option Task
+    named_in None = None
+    named_in (Some name) = find (has_name name) d.tasks
+
+-- the ref of a message that may be there, else 0
+abbrev pub ref_of : Option Parcel → ℕ
+ref_of None = 0
+ref_of (Some p) = p.message.my_ref
+
+abbrev pub before_task : Desk → Option Task → Before
+before_task d None = record {
+  handle = 0;
+  blocks = [];
+  held = 0;
+  holdings = holdings d;
+  free = free_pages d;
+  next_ref = next_ref d;
+}
+before_task d (Some t) = record {
+  handle = t.handle;
+  blocks = block_items t.slot;
+  held = ref_of (held_by t.handle d.post.seats);
+  holdings = holdings d;
+  free = free_pages d;
+  next_ref = next_ref d;
+}
+
+-- what is kept of a desk before a command, or before a bad line
+abbrev pub before_of : Desk → Option Command → Before
+before_of d c = before_task d (task_in c d)
+
+-- ---- what the command did
+
+-- The task that it names, the anchor of the block that it wrote to, the task and address of a block of a C heap, the
+-- address of a block of the module area, the letter that was sent with its ref, and the ref and action of the message
+-- that was taken.
+pub record Marks : Type 0 where
+  pub handle : ℕ
+  pub put : Option ℕ
+  pub heap : ℕ × ℕ
+  pub module_block : ℕ
+  pub sent : Option (Letter × ℕ)
+  pub taken : Option (ℕ × Action)
+
+abbrev pub no_marks : Marks
+no_marks = record { handle = 0; put = None; heap = (0, 0); module_block = 0; sent = None; taken = None }
+
+-- whether a command asks, and changes nothing
+abbrev pub is_question : Command → Bool
+is_question (command.Ask q) = true
+is_question _ = false
+
+abbrev pub is_refusal : Reply → Bool
+is_refusal (reply.Refused refusal) = true
+is_refusal _ = false
+
+-- whether the step can't have changed the desk: a bad line, a question, a refusal
+abbrev pub is_still : Option Command → Reply → Bool
+is_still None r = true
+is_still (Some c) r = is_question c || is_refusal r
+
+-- the last letter of the task, if the command sent it
+abbrev pub sent_by : Before → Option Task → Option (Letter × ℕ)
+sent_by b None = None
+sent_by b (Some t) = if_new t.last_sent
+  where
+    if_new : Option (Letter × ℕ) → Option (Letter × ℕ)
+    if_new None = None
+    if_new (Some sent) = if sent.1 == b.next_ref then Some sent else None
+
+-- the block of a C heap that a letter's bytes go into, else another one
+abbrev pub buffer_of : Option (Letter × ℕ) → ℕ × ℕ → ℕ × ℕ
+buffer_of None other = other
+buffer_of (Some sent) other = in_body sent.0.body
+  where
+    in_body : Body → ℕ × ℕ
+    in_body (RamFetch buffer n) = (sent.0.from, buffer)
+    in_body (RamTransmit buffer n) = if nat_lt 0 n then (sent.0.to, buffer) else other
+    in_body _ = other
+
+abbrev pub heap_mark : ℕ → Command → Reply → ℕ × ℕ
+heap_mark h (command.Claim name n) (reply.Block address) = (h, address)
+heap_mark h (command.Resize name a delta) (reply.Block address) = (h, address)
+heap_mark h _ _ = (0, 0)
+
+abbrev pub module_mark : Command → Reply → ℕ
+module_mark (command.RmaClaim n) (reply.Block address) = address
+module_mark (command.RmaResize a delta) (reply.Block address) = address
+module_mark _ _ = 0
+
+abbrev pub put_mark : Command → Option ℕ
+put_mark (command.Put name k offset bytes) = Some k
+put_mark _ = None
+
+abbrev pub taken_mark : Reply → Option (ℕ × Action)
+taken_mark (reply.Event code action mine yours outcome) = Some (mine, action)
+taken_mark _ = None
+
+abbrev pub marks_for : Desk → Before → Command → Reply → Marks
+marks_for d b c r = record {
+  handle = b.handle;
+  put = put_mark c;
+  heap = buffer_of (sent_by b (task_at b.handle d)) (heap_mark b.handle c r);
+  module_block = module_mark c r;
+  sent = sent_by b (task_at b.handle d);
+  taken = taken_mark r;
+}
+
+-- what a command did, by its reply and the desk after it
+abbrev pub marks_of : Desk → Before → Option Command → Reply → Marks
+marks_of d b None r = no_marks
+marks_of d b (Some c) r = if is_still (Some c) r then no_marks else marks_for d b c r
+
+-- ---- the scene
+
+-- A desk without its queue, and of the queue the messages that wait for each handle, in their order. The order of
+-- messages to different tasks is seen by nobody.
+pub record Scene : Type 0 where
+  pub desk : Desk
+  pub waits : ℕ → List Parcel
+  pub share : Share
+  pub before : Before
+  pub marks : Marks
+
+abbrev pub scene_of : Desk → Share → Before → Marks → Scene
+scene_of d s b m = record {
+  desk = with_queue [] d;
+  waits = λ h. filter (is_to h) d.post.queued;
+  share = s;
+  before = b;
+  marks = m;
+}
+
+-- all messages that wait, task by task
+abbrev pub waiting : Scene → List Parcel
+waiting x = flat_map (λ (s : Seat). x.waits s.handle) x.desk.post.seats
+
+abbrev pub held_list : Option Parcel → List Parcel
+held_list None = []
+held_list (Some p) = p ∷ []
+
+-- all messages that wait or are held
+abbrev pub live : Scene → List Parcel
+live x = waiting x ++ flat_map (λ (s : Seat). held_list s.holds) x.desk.post.seats
+
+-- the message in a block of the module area
+abbrev pub message_in : Scene → ℕ → Option Parcel
+message_in x block = find (λ (p : Parcel). p.block == block) (live x)

@@ -1,0 +1,84 @@
+-- A text that is written as far as a line shows it.
+use Rattle.std.proofs.Common.{◌≡◌, ℕ, ◌<◌, ◌≤◌, Bool, true, false, List, [], ◌∷◌, ◌++◌, length, map, take, refl, sym, ap, ◌∙◌, subst, append_assoc, append-nil, length-append, arith}
+use Rattle.std.specs.Prelude.{codes, nat_le, not, ◌==◌}
+use Rattle.std.proofs.lemmas.Bool.Decides.{nat_tests}
+use Rattle.std.proofs.lemmas.List.{take-append-le}
+use Rattle.rh_defs.proofs.HeapLists.{eqb_apart}
+use Rattle.rh_figure.specs.Phrases.{where_so}
+use Rattle.rh_figure.specs.Map.{shown_byte, shown_line}
+use Rattle.rh_map.specs.Written.{Fills}
+use Rattle.rh_map.proofs.LineLemmas.{cut-long}
+
+-- all of a text is written
+pub fills-all : (row : List ℕ) → Fills row row
+fills-all row = record { rest = []; whole = sym (append-nil row); full = λ short. refl }
+
+-- a text of which all is written
+fills-is : {row text : List ℕ} → Fills row text → length row ≤ 79 → text ≡ row
+fills-is {row} p short = p.whole ∙ ap (λ r. row ++ r) (p.full short) ∙ append-nil row
+
+-- one more part, where a line shows more
+pub fills-more : {row new text : List ℕ} (part : List ℕ) → Fills row text → length row ≤ 79 → new ≡ row ++ part
+    → Fills new (text ++ part)
+fills-more {new = new} part p short e = record {
+  rest = [];
+  whole = ap (λ t. t ++ part) (fills-is p short) ∙ sym e ∙ sym (append-nil new);
+  full = λ fits. refl;
+}
+
+-- one more part, of which a line shows nothing
+pub fills-past : {row text : List ℕ} (part : List ℕ) → Fills row text → 79 < length row → Fills row (text ++ part)
+fills-past {row} part p long = record {
+  rest = p.rest ++ part;
+  whole = ap (λ t. t ++ part) p.whole ∙ append_assoc row p.rest part;
+  full = λ short. absurd (omega (arith, short, long));
+}
+
+-- a line shows the same of both
+pub fills-shown : {row text : List ℕ} → Fills row text → shown_line row ≡ shown_line text
+fills-shown {row} {text} p = by_test (nat_le (length row) 79) refl
+  where
+    long_text : 79 < length row → 79 < length text
+    long_text long = omega (arith, ap length p.whole, length-append row p.rest, long)
+
+    same_front : 79 < length row → take 77 text ≡ take 77 row
+    same_front long = ap (take 77) p.whole ∙ take-append-le 77 row p.rest (omega (arith, long))
+
+    by_test : (t : Bool) → nat_le (length row) 79 ≡ t → shown_line row ≡ shown_line text
+    by_test true e = ap shown_line (sym (fills-is p (grind (arith, nat_tests))))
+    by_test false e =
+        let long : 79 < length row = grind (arith, nat_tests) in
+        cut-long row long
+        ∙ (ap (λ front. map shown_byte front ++ codes "..") (sym (same_front long)) ∙ sym (cut-long text (long_text long)))
+
+-- ---- texts that are written part by part
+
+-- what is written fills what was to be written so far, and this is left
+pub record FillsLeft (row whole left : List ℕ) : Type 0 where
+  pub so_far : List ℕ
+  pub fills : Fills row so_far
+  pub is : whole ≡ so_far ++ left
+
+-- nothing of the rest is written yet
+pub left_all : {row text : List ℕ} (rest : List ℕ) → Fills row text → FillsLeft row (text ++ rest) rest
+left_all {text = text} rest p = record { so_far = text; fills = p; is = refl }
+
+-- one more part is written
+pub left_fewer : {row new whole left : List ℕ} (part behind : List ℕ) → FillsLeft row whole left → left ≡ part ++ behind
+    → ((text : List ℕ) → Fills row text → Fills new (text ++ part)) → FillsLeft new whole behind
+left_fewer part behind p e step = record {
+  so_far = p.so_far ++ part;
+  fills = step p.so_far p.fills;
+  is = p.is ∙ (ap (λ z. p.so_far ++ z) e ∙ sym (append_assoc p.so_far part behind));
+}
+
+-- nothing is left
+pub left_nothing : {row whole left : List ℕ} → FillsLeft row whole left → left ≡ [] → Fills row whole
+left_nothing {row} p e =
+    subst (Fills row) (sym (p.is ∙ (ap (λ z. p.so_far ++ z) e ∙ append-nil p.so_far))) p.fills
+
+-- ---- texts that aren't empty
+
+-- what stands where a text isn't empty
+pub some-text : (t u : List ℕ) → 0 < length t → where_so (not (length t == 0)) u ≡ u
+some-text t u some = ap (λ b. where_so (not b) u) (eqb_apart (length t) 0 (λ e. omega (arith, e, some)))

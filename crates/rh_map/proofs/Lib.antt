@@ -1,0 +1,9 @@
+mod LineLemmas
+pub mod TextLemmas
+pub mod Left
+pub mod RowLemmas
+pub mod CardLemmas
+mod FillLemmas
+mod WordLemmas
+mod LetterLemmas
+pub mod SeamLemmas

@@ -1,0 +1,68 @@
+-- The first word of a line.
+use Rattle.std.proofs.Common.{◌≡◌, ◌≢◌, ℕ, zero, suc, ◌<◌, ◌≤◌, Bool, true, false, eqb, List, [], ◌∷◌, ◌++◌, length, take, drop, refl, sym, ap, ◌∙◌, append-nil, arith}
+use Rattle.std.specs.Prelude.{slice_index, codes, ◌==◌}
+use Rattle.rh_defs.specs.Line.{words_of, word}
+use Rattle.std.proofs.lemmas.Bool.Decides.{nat_tests}
+use Rattle.rh_defs.proofs.HeapLists.{cond_true, cond_false, eqb_apart}
+use Rattle.rh_figure.specs.Phrases.{cut}
+use Rattle.rh_figure.specs.Map.{shown_line, remark_lines}
+use Rattle.rh_figure.specs.declared.limits.TheConstants.{LINE_COLUMNS}
+use Rattle.rh_lines.specs.Words.{piece_words}
+use Rattle.rh_lines.proofs.SplitLemmas.{words_last, words_next}
+use Rattle.rh_map.specs.Script.{BeginsWord}
+use Rattle.rh_map.specs.Written.{shown_lines}
+
+-- a space before a line is no part of a word
+pub space-skipped : (bs : List ℕ) → words_of (32 ∷ bs) ≡ words_of bs
+space-skipped bs = words_next (32 ∷ bs) 0 (omega arith) (λ k lt e. omega (arith, lt)) refl
+
+-- what stands between two spaces is a word, if it isn't empty
+piece-some : (b : ℕ) (bs : List ℕ) → piece_words (b ∷ bs) ≡ (b ∷ bs) ∷ []
+piece-some b bs = rw (eqb_apart (length (b ∷ bs)) 0 (λ z. omega (arith, z))) refl
+
+-- the words of a line whose first word is known
+pub record FirstWord (line w : List ℕ) : Type 0 where
+  pub is : w ≡ word (words_of line) 1
+  pub none : (length w == 0) ≡ (length (words_of line) == 0)
+
+first-of : (line : List ℕ) (b : ℕ) (bs : List ℕ) (ws : List (List ℕ)) → words_of line ≡ (b ∷ bs) ∷ ws
+    → FirstWord line (b ∷ bs)
+first-of line b bs ws e = record {
+  is = sym (ap (λ words. word words 1) e);
+  none = eqb_apart (suc (length bs)) 0 (λ z. omega (arith, z))
+      ∙ sym (ap (λ words. length words == 0) e ∙ eqb_apart (suc (length ws)) 0 (λ z. omega (arith, z)));
+}
+
+-- no space stands in the line
+pub first-whole : (line : List ℕ) → BeginsWord line
+    → ((k : ℕ) → 0 ≤ k → k < length line → eqb (slice_index line k) 32 ≡ true → ⊥) → FirstWord line line
+first-whole [] begins none = record { is = refl; none = refl }
+first-whole (b ∷ bs) begins none =
+    first-of (b ∷ bs) b bs [] (words_last (b ∷ bs) (λ k lt. none k (omega arith) lt) ∙ piece-some b bs)
+
+-- the word before the first space
+pub first-cut : (line : List ℕ) (n : ℕ) → BeginsWord line → n < length line
+    → ((k : ℕ) → 0 ≤ k → k < n → eqb (slice_index line k) 32 ≡ true → ⊥) → eqb (slice_index line n) 32 ≡ true
+    → FirstWord line (take n line)
+first-cut [] n begins lt none e = absurd (omega (arith, lt))
+first-cut (b ∷ bs) zero begins lt none e = absurd (begins (equal e))
+  where
+    equal : eqb b 32 ≡ true → b ≡ 32
+    equal e = grind (arith, nat_tests)
+first-cut (b ∷ bs) (suc n) begins lt none e =
+    first-of (b ∷ bs) b (take n bs) (words_of (drop (suc n) bs))
+    (words_next (b ∷ bs) (suc n) lt (λ k less. none k (omega arith) less) e
+    ∙ ap (λ ws. ws ++ words_of (drop (suc n) bs)) (piece-some b (take n bs)))
+
+-- ---- remarks
+
+-- a line without words is no remark
+pub remark-none : (line : List ℕ) → (length (words_of line) == 0) ≡ true → shown_lines (remark_lines line) ≡ []
+remark-none line e = ap shown_lines (cond_true (length (words_of line) == 0) [] (cut LINE_COLUMNS line ∷ []) e)
+
+-- a line with words is one
+pub remark-some : (line : List ℕ) → (length (words_of line) == 0) ≡ false
+    → shown_lines (remark_lines line) ≡ shown_line (cut LINE_COLUMNS line) ++ codes "\n"
+remark-some line e =
+    ap shown_lines (cond_false (length (words_of line) == 0) [] (cut LINE_COLUMNS line ∷ []) e)
+    ∙ append-nil (shown_line (cut LINE_COLUMNS line) ++ codes "\n")

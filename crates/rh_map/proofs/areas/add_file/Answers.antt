@@ -1,0 +1,12 @@
+use Rattle.std.proofs.Common.{◌++◌, append_assoc, ap, ◌∙◌}
+use Rattle.std.specs.Prelude.{codes}
+use Rattle.std.specs.Fmt.{decimal}
+use Rattle.rh_figure.specs.Phrases.{size_text}
+use Rattle.rh_map.proofs.areas.add_file.Goals as goal
+
+pub returns : goal.returns
+returns c =
+    c.add_load.ensures
+    ∙ (ap (λ z. z ++ (codes " for DataLoad " ++ decimal c.args.load)) (c.add_size.ensures.value
+    ∙ ap (λ z. z ++ size_text c.args.size) c.text.ensures)
+    ∙ simp append_assoc)

@@ -1,0 +1,19 @@
+use Rattle.std.proofs.Common.{ℕ, ◌≤◌, List, ◌++◌, length}
+use Rattle.std.specs.Prelude.{codes}
+use Rattle.std.specs.List.{flat_map}
+use Rattle.rh_map.specs.Messages.{text_of}
+use Rattle.rh_map.specs.Written.{Fills}
+use Rattle.rh_map.proofs.FillLemmas.{FillsLeft}
+use Rattle.rh_map.proofs.letterboxes.add_others.Given as goal
+
+-- the messages of the rest are left
+abbrev pub invariant-loop-entry : goal.invariant-loop-entry
+invariant-loop-entry l = record {
+  left : (text : List ℕ) → Fills l.initial.row text
+      → FillsLeft l.row (text ++ flat_map (λ e. codes ", " ++ text_of e) l.others)
+      (flat_map (λ e. codes ", " ++ text_of e) l.rest);
+  few : length l.row ≤ 120;
+}
+
+abbrev pub decreases-loop-entry : goal.decreases-loop-entry
+decreases-loop-entry l = length l.rest

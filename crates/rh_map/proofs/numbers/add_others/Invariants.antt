@@ -1,0 +1,12 @@
+use Rattle.std.proofs.Common.{◌≡◌, ◌≤◌, ◌+◌, ◌*◌, ◌++◌, take, length}
+use Rattle.std.specs.Prelude.{codes}
+use Rattle.std.specs.List.{flat_map}
+use Rattle.std.specs.Fmt.{decimal}
+use Rattle.rh_map.proofs.numbers.add_others.Given as goal
+
+-- the numbers so far were added
+abbrev pub invariant-loop-number : goal.invariant-loop-number
+invariant-loop-number l = record {
+  value : l.row ≡ l.initial.row ++ flat_map (λ n. codes " " ++ decimal n) (take l.number-index l.numbers);
+  short : length l.row ≤ length l.initial.row + 12 * l.number-index;
+}

@@ -1,0 +1,12 @@
+use Rattle.std.proofs.Common.{◌+◌, ◌-◌, ◌/◌, length, map}
+use Rattle.std.specs.List.{range_with_len}
+use Rattle.rh_figure.specs.Rows.{marks_row, marks_rows}
+use Rattle.rh_map.specs.Written.{shown_lines}
+use Rattle.rh_map.proofs.Left.{Left}
+use Rattle.rh_map.proofs.pool.print_pool.Given as goal
+
+-- the rows from the index on are left
+abbrev pub invariant-loop-i : goal.invariant-loop-i
+invariant-loop-i g l =
+    Left (g.W.Sink.output l.initial.writer) (g.W.Sink.output l.writer) (shown_lines (marks_rows l.marks))
+    (shown_lines (map (marks_row l.marks) (range_with_len l.i ((length l.marks + 63) / 64 - l.i))))

@@ -1,0 +1,7 @@
+-- Lines of a script.
+use Rattle.std.specs.Prelude.{◌≢◌, ℕ, List, [], ◌∷◌}
+
+-- a line is empty, or begins with a byte of a word
+abbrev pub BeginsWord : List ℕ → Type 0
+BeginsWord [] = Unit {0}
+BeginsWord (b ∷ bs) = b ≢ 32

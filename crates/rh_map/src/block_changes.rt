@@ -1,0 +1,109 @@
+//! What a command has changed of a task's flex blocks.
+
+ghost use Rattle.std.specs.Prelude.{◌≡◌, ◌≤◌, ◌≢◌, ◌+◌, ◌++◌, codes, length};
+ghost use Rattle.rh_figure.specs.Changes.{gone_line, new_line, resized_line, slide_line, way_text, who_slides};
+ghost use Rattle.rh_figure.specs.Map.{shown_line};
+ghost use Rattle.rh_lines.specs.Flow.{Puts};
+ghost use Rattle.rh_lines.specs.declared.row.TheConstants.{ROW};
+
+use crate::line::put_line;
+use crate::phrases::add_size;
+use rh_defs::Anchor;
+use rh_lines::{Row, Sink, WriteFailed};
+
+/// A block's name behind two spaces.
+const BLOCK: &[u8; 13] = b"  Flex block ";
+
+/// Writes that a flex block is gone. Fails only where the writer failed or took none of what it was offered; a front of
+/// the line is then written.
+pub fn print_block_gone<W: Sink>(anchor: Anchor, writer: &mut W) -> Result<(), WriteFailed>
+    ensures { Puts (W.output writer.old) (W.output writer.new) result
+        (shown_line (codes "  " ++ gone_line anchor) ++ codes "\n") }
+{
+    let mut row = Row::new();
+    row.text(BLOCK);
+    row.decimal(u32::from(anchor.0));
+    row.text(b" is gone");
+    put_line(row.as_slice(), writer)
+}
+
+/// Writes that a flex block is new. Fails only where the writer failed or took none of what it was offered; a front of
+/// the line is then written.
+pub fn print_block_new<W: Sink>(anchor: Anchor, writer: &mut W) -> Result<(), WriteFailed>
+    ensures { Puts (W.output writer.old) (W.output writer.new) result
+        (shown_line (codes "  " ++ new_line anchor) ++ codes "\n") }
+{
+    let mut row = Row::new();
+    row.text(BLOCK);
+    row.decimal(u32::from(anchor.0));
+    row.text(b" is new");
+    put_line(row.as_slice(), writer)
+}
+
+/// Writes that a flex block of so many bytes has another number of them now. Fails only where the writer failed or took
+/// none of what it was offered; a front of the line is then written.
+pub fn print_block_resized<W: Sink>(
+    anchor: Anchor,
+    had: u32,
+    has: u32,
+    writer: &mut W,
+) -> Result<(), WriteFailed>
+    ensures { Puts (W.output writer.old) (W.output writer.new) result
+        (shown_line (codes "  " ++ resized_line anchor had has) ++ codes "\n") }
+{
+    let mut row = Row::new();
+    row.text(BLOCK);
+    row.decimal(u32::from(anchor.0));
+    row.text(b" had ");
+    add_size(&mut row, had);
+    row.text(b", now ");
+    row.decimal(has);
+    put_line(row.as_slice(), writer)
+}
+
+/// Writes that so many flex blocks slide, of which the lowest lay at one address, and lies at another. Fails only where
+/// the writer failed or took none of what it was offered; a front of the line is then written.
+pub fn print_slide<W: Sink>(
+    count: u32,
+    from: u32,
+    to: u32,
+    writer: &mut W,
+) -> Result<(), WriteFailed>
+    ensures { Puts (W.output writer.old) (W.output writer.new) result
+        (shown_line (codes "  " ++ slide_line count from to) ++ codes "\n") }
+{
+    let mut row = Row::new();
+    row.text(b"  ");
+    add_sliding(&mut row, count);
+    add_way(&mut row, from, to);
+    put_line(row.as_slice(), writer)
+}
+
+/// Adds how many blocks slide.
+fn add_sliding(row: &mut Row, count: u32)
+    requires { length row.old + 24 ≤ ROW }
+    ensures value { row.new ≡ row.old ++ who_slides count }
+    ensures few { length row.new ≤ length row.old + 24 }
+{
+    if count == 1 {
+        row.text(b"1 block slides");
+    } else {
+        row.decimal(count);
+        row.text(b" blocks slide");
+    }
+}
+
+/// Adds which way and how far it is from one address to another.
+fn add_way(row: &mut Row, from: u32, to: u32)
+    requires { length row.old + 26 ≤ ROW }
+    ensures value { row.new ≡ row.old ++ way_text from to }
+    ensures few { length row.new ≤ length row.old + 26 }
+{
+    if from < to {
+        row.text(b" up by ");
+        add_size(row, to - from);
+    } else {
+        row.text(b" down by ");
+        add_size(row, from - to);
+    }
+}

@@ -1,0 +1,85 @@
+//! What a command has changed of the pool: who takes pages, and which are free again.
+
+ghost use Rattle.std.specs.Prelude.{◌≡◌, ◌≤◌, ◌<◌, ◌+◌, ◌++◌, codes, length};
+ghost use Rattle.rh_defs.specs.declared.sizes.TheConstants.{MAX_PAGES};
+ghost use Rattle.rh_figure.specs.Changes.{freed_line, taken_line};
+ghost use Rattle.rh_figure.specs.Map.{shown_line};
+ghost use Rattle.rh_figure.specs.Phrases.{area_name, listed_numbers};
+ghost use Rattle.rh_lines.specs.Flow.{Puts};
+ghost use Rattle.rh_lines.specs.declared.row.TheConstants.{ROW};
+
+use crate::areas::add_area_name;
+use crate::line::put_line;
+use crate::numbers::add_numbers;
+use rh_defs::Name;
+use rh_lines::{Row, Sink, WriteFailed};
+
+/// Writes which pages an area has taken. Fails only where the writer failed or took none of what it was offered; a
+/// front of the line is then written.
+pub fn print_area_takes<W: Sink>(
+    number: u32,
+    pages: &[u16],
+    writer: &mut W,
+) -> Result<(), WriteFailed>
+    requires { length pages.now ≤ MAX_PAGES }
+    ensures { Puts (W.output writer.old) (W.output writer.new) result
+        (shown_line (codes "  " ++ taken_line (area_name number) pages.now) ++ codes "\n") }
+{
+    let mut row = Row::new();
+    row.text(b"  ");
+    add_area_name(&mut row, number);
+    add_taken(&mut row, pages);
+    put_line(row.as_slice(), writer)
+}
+
+/// Writes which pages the slot of the task with the name has taken. Fails only where the writer failed or took none of
+/// what it was offered; a front of the line is then written.
+pub fn print_slot_takes<W: Sink>(
+    name: &Name,
+    pages: &[u16],
+    writer: &mut W,
+) -> Result<(), WriteFailed>
+    requires { length pages.now ≤ MAX_PAGES }
+    ensures { Puts (W.output writer.old) (W.output writer.new) result
+        (shown_line (codes "  " ++ taken_line (codes "Slot " ++ name.now) pages.now) ++ codes "\n") }
+{
+    let mut row = Row::new();
+    row.text(b"  ");
+    add_slot_name(&mut row, name);
+    add_taken(&mut row, pages);
+    put_line(row.as_slice(), writer)
+}
+
+/// Writes which pages were given back. Fails only where the writer failed or took none of what it was offered; a front
+/// of the line is then written.
+pub fn print_freed<W: Sink>(pages: &[u16], writer: &mut W) -> Result<(), WriteFailed>
+    requires { length pages.now ≤ MAX_PAGES }
+    ensures { Puts (W.output writer.old) (W.output writer.new) result
+        (shown_line (codes "  " ++ freed_line pages.now) ++ codes "\n") }
+{
+    let mut row = Row::new();
+    row.text(b"  ");
+    row.text(b"Free again: page ");
+    add_numbers(&mut row, pages);
+    put_line(row.as_slice(), writer)
+}
+
+/// Adds the name of a task's slot.
+fn add_slot_name(row: &mut Row, name: &Name)
+    requires { length row.old + 17 ≤ ROW }
+    ensures value { row.new ≡ row.old ++ (codes "Slot " ++ name.now) }
+    ensures few { length row.new ≤ length row.old + 17 }
+{
+    row.text(b"Slot ");
+    row.text(name.as_bytes());
+}
+
+/// Adds that pages were taken.
+fn add_taken(row: &mut Row, pages: &[u16])
+    requires few { length pages.now ≤ MAX_PAGES }
+    requires room { length row.old + 176 ≤ ROW }
+    ensures { row.new ≡ row.old ++ (codes " takes page " ++ listed_numbers pages.now) }
+{
+    row.text(b" takes page ");
+    add_numbers(row, pages);
+}

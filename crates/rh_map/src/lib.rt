@@ -1,0 +1,47 @@
+//! Pictures of memory as lines for a terminal.
+#![tactic(auto)]
+
+mod areas;
+mod block_changes;
+mod cards;
+mod cells;
+mod changes;
+mod front;
+mod headings;
+mod letterboxes;
+mod line;
+mod messages;
+mod numbers;
+mod phrases;
+mod pool;
+mod post_changes;
+mod reply;
+mod rows;
+mod script_lines;
+mod steps;
+mod text;
+mod transfers;
+mod who;
+
+pub use areas::{ScrapFile, print_fixed_area, print_made_area};
+pub use block_changes::{print_block_gone, print_block_new, print_block_resized, print_slide};
+pub use cards::{
+    CardBlock, Usage, print_flex_card, print_hole_card, print_more_card, print_used_card,
+};
+pub use cells::cell_mark;
+pub use changes::{print_area_takes, print_freed, print_slot_takes};
+pub use front::Front;
+pub use headings::{
+    SlotHeading, area_mark, print_module_heading, print_pool_heading, print_slot_heading, slot_mark,
+};
+pub use letterboxes::{MessageEntry, print_letterbox};
+pub use line::put_line;
+pub use messages::{CardMessage, ChainPlace, print_message_card};
+pub use pool::print_pool;
+pub use post_changes::{print_bytes_sent, print_returns, print_sends, print_takes};
+pub use reply::print_reply_lines;
+pub use rows::{Area, print_area};
+pub use script_lines::{is_mark, print_remark};
+pub use steps::{print_more_lines, print_reply_line, print_step_line, print_still};
+pub use transfers::{Side, print_transfer};
+pub use who::Who;

@@ -1,0 +1,74 @@
+//! Lines of a script that ask for nothing: remarks, and marks of the next command.
+
+ghost use Rattle.std.specs.Prelude.{◌≡◌, ◌==◌, ◌++◌, codes, length};
+ghost use Rattle.rh_defs.specs.Line.{word, words_of};
+ghost use Rattle.rh_figure.specs.Map.{is_mark as is_mark_of, remark_lines, shown_line};
+ghost use Rattle.rh_figure.specs.Phrases.{cut};
+ghost use Rattle.rh_figure.specs.declared.limits.TheConstants.{LINE_COLUMNS};
+ghost use Rattle.rh_lines.specs.Flow.{Puts};
+ghost use Rattle.rh_map.specs.Script.{BeginsWord};
+ghost use Rattle.rh_map.specs.Written.{shown_lines};
+
+use crate::line::put_line;
+use crate::steps::add_cut;
+use memchr::memchr;
+use rh_figure::limits::LINE_COLUMNS;
+use rh_lines::{Row, Sink, WriteFailed};
+
+/// The first word of a mark.
+const MARK: &[u8] = b"#picture";
+
+/// Whether a line asks for a picture of the next command: its first word is `#picture`.
+pub fn is_mark(line: &[u8]) -> bool
+    ensures { result ≡ is_mark_of line.now }
+{
+    first_word(line) == MARK
+}
+
+/// Writes a line that is skipped, if it has words. Fails only where the writer failed or took none of what it was
+/// offered; a front of the line is then written.
+pub fn print_remark<W: Sink>(line: &[u8], writer: &mut W) -> Result<(), WriteFailed>
+    ensures { Puts (W.output writer.old) (W.output writer.new) result (shown_lines (remark_lines line.now)) }
+{
+    if first_word(line).is_empty() {
+        return Ok(());
+    }
+    print_cut(line, writer)
+}
+
+/// Writes a line of a script.
+fn print_cut<W: Sink>(line: &[u8], writer: &mut W) -> Result<(), WriteFailed>
+    ensures { Puts (W.output writer.old) (W.output writer.new) result
+        (shown_line (cut LINE_COLUMNS line.now) ++ codes "\n") }
+{
+    let mut row = Row::new();
+    add_cut(&mut row, LINE_COLUMNS, line);
+    put_line(row.as_slice(), writer)
+}
+
+/// The first word of a line, or no bytes where it has no words.
+fn first_word(line: &[u8]) -> &[u8]
+    ensures value { result.now ≡ word (words_of line.now) 1 }
+    ensures none { (length result.now == 0) ≡ (length (words_of line.now) == 0) }
+{
+    let rest = unspaced(line);
+    match memchr(b' ', rest) {
+        Some(end) => &rest[..end],
+        None => rest,
+    }
+}
+
+/// The line without spaces before its first word.
+fn unspaced(line: &[u8]) -> &[u8]
+    ensures words { words_of result.now ≡ words_of line.now }
+    ensures begins { BeginsWord result.now }
+{
+    let mut rest = line;
+    while let Some((first, behind)) = rest.split_first() {
+        if *first != b' ' {
+            return rest;
+        }
+        rest = behind;
+    }
+    rest
+}

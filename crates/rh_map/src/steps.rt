@@ -1,0 +1,74 @@
+//! The lines of a step: its number and command, its reply, and that memory stays.
+
+ghost use Rattle.std.specs.Prelude.{◌≡◌, ◌≤◌, ◌+◌, [], ◌∷◌, ◌++◌, codes, length};
+ghost use Rattle.rh_figure.specs.Map.{more_lines, shown_line, step_line};
+ghost use Rattle.rh_figure.specs.Phrases.{cut};
+ghost use Rattle.rh_figure.specs.declared.limits.TheConstants.{REPLY_COLUMNS};
+ghost use Rattle.rh_lines.specs.Flow.{Puts};
+ghost use Rattle.rh_lines.specs.declared.row.TheConstants.{ROW};
+ghost use Rattle.rh_map.specs.Written.{shown_lines};
+
+use crate::line::put_line;
+use rh_figure::limits::{LINE_COLUMNS, REPLY_COLUMNS};
+use rh_lines::{Row, Sink, WriteFailed};
+
+/// Writes the number of a step and its line of the script. Fails only where the writer failed or took none of what it
+/// was offered; a front of the line is then written.
+pub fn print_step_line<W: Sink>(number: u32, line: &[u8], writer: &mut W) -> Result<(), WriteFailed>
+    ensures { Puts (W.output writer.old) (W.output writer.new) result
+        (shown_line (step_line number line.now) ++ codes "\n") }
+{
+    let mut row = Row::new();
+    row.decimal(number);
+    row.text(b"  ");
+    add_cut(&mut row, LINE_COLUMNS, line);
+    put_line(row.as_slice(), writer)
+}
+
+/// Writes a line of a reply. Fails only where the writer failed or took none of what it was offered; a front of the line
+/// is then written.
+pub fn print_reply_line<W: Sink>(line: &[u8], writer: &mut W) -> Result<(), WriteFailed>
+    ensures { Puts (W.output writer.old) (W.output writer.new) result
+        (shown_line (cut REPLY_COLUMNS line.now) ++ codes "\n") }
+{
+    let mut row = Row::new();
+    add_cut(&mut row, REPLY_COLUMNS, line);
+    put_line(row.as_slice(), writer)
+}
+
+/// Writes how many lines of a reply are left out. Fails only where the writer failed or took none of what it was
+/// offered; a front of the line is then written.
+pub fn print_more_lines<W: Sink>(count: u32, writer: &mut W) -> Result<(), WriteFailed>
+    ensures { Puts (W.output writer.old) (W.output writer.new) result (shown_line (more_lines count) ++ codes "\n") }
+{
+    let mut row = Row::new();
+    row.text(b"  and ");
+    row.decimal(count);
+    row.text(b" lines more");
+    put_line(row.as_slice(), writer)
+}
+
+/// Writes that memory stays as it was, and an empty line. Fails only where the writer failed or took none of what it was
+/// offered; a front of the lines is then written.
+pub fn print_still<W: Sink>(writer: &mut W) -> Result<(), WriteFailed>
+    ensures { Puts (W.output writer.old) (W.output writer.new) result
+        (shown_lines (codes "  (memory stays)" ∷ [] ∷ [])) }
+{
+    put_line(b"  (memory stays)", writer)?;
+    put_line(b"", writer)
+}
+
+/// Adds a text, cut with two dots behind it where it is longer than `most` bytes.
+pub(crate) fn add_cut(row: &mut Row, most: usize, text: &[u8])
+    requires least { 2 ≤ most }
+    requires room { length row.old + most ≤ ROW }
+    ensures value { row.new ≡ row.old ++ cut most text.now }
+    ensures few { length row.new ≤ length row.old + most }
+{
+    if text.len() <= most {
+        row.text(text);
+    } else {
+        row.text(&text[..most - 2]);
+        row.text(b"..");
+    }
+}

@@ -1,0 +1,28 @@
+//! What a picture of memory is drawn from: a desk that can be looked at, what is kept of it before a command, and what
+//! the command did; of these the pieces of areas.
+#![tactic(auto)]
+
+mod freshness;
+mod kept;
+mod marks;
+mod message_list;
+mod pages;
+mod pieces;
+mod sight;
+mod step;
+mod tasks;
+mod walk;
+
+pub use freshness::{is_drawn, is_fresh_block, is_fresh_flex, is_new_ref};
+pub use kept::{Holding, Kept, Owner};
+pub use marks::{HeapBlock, Marks, is_still};
+pub use message_list::{Place, held_by, message_in, place_of};
+pub use pages::{free_of, pages_of};
+pub use pieces::{MOST_PIECES, Pieces, module_pieces, slot_pieces};
+pub use sight::{
+    AreaSight, HeapOf, MOST_AT_ONCE, MOST_MESSAGES, MessageItem, Messages, PageList, PagesOf,
+    ScrapSight, Segments, Sight, TaskSight,
+};
+pub use step::Step;
+pub use tasks::{name_in, task_named, task_with};
+pub use walk::{Census, census, heap_address, place_behind};

@@ -1,0 +1,185 @@
+//! What a command did.
+
+ghost use Rattle.std.specs.Prelude.{◌≡◌};
+ghost use Rattle.std.specs.Option.{option_map};
+ghost use Rattle.rh_defs.specs.Desk.{task_at};
+ghost use Rattle.rh_figure.specs.Scene.{buffer_of as buffer_of_sent, heap_mark as heap_mark_of, is_question as is_question_of, is_refusal as is_refusal_of, is_still as is_still_of, marks_for, marks_of as marks_of_desk, module_mark as module_mark_of, no_marks, put_mark as put_mark_of, sent_by as sent_by_task, taken_mark as taken_mark_of};
+ghost use Rattle.rh_sight.specs.Seen.{letter_seen};
+ghost use Rattle.rh_sight.specs.Steps.{block_seen, marks_seen};
+
+use crate::kept::Kept;
+use crate::sight::Sight;
+use crate::tasks::task_with;
+use rh_defs::{Action, Anchor, Body, Command, Handle, Letter, Ref, Reply};
+
+/// A block of a C heap: its task and its address, 0 and 0 for none.
+#[derive(Clone, Copy, Debug, PartialEq, Eq)]
+pub struct HeapBlock {
+    pub handle: Handle,
+    pub address: u32,
+}
+
+/// No block.
+const NO_BLOCK: HeapBlock = HeapBlock {
+    handle: Handle(0),
+    address: 0,
+};
+
+/// What a command did: the task that it names, the anchor of the block that it wrote to, the block of a C heap and
+/// that of the module area (0 for none) that it made or changed, the letter that was sent, and the message that was
+/// taken.
+#[derive(Clone, Copy)]
+pub struct Marks<'a> {
+    pub handle: Handle,
+    pub put: Option<Anchor>,
+    pub heap: HeapBlock,
+    pub module_block: u32,
+    pub sent: Option<(&'a Letter, Ref)>,
+    pub taken: Option<(Ref, Action)>,
+}
+
+impl<'a> Marks<'a> {
+    /// What a command did, by its reply and the desk behind it; nothing for a bad line, a question or a refusal.
+    pub fn new<S: Sight>(
+        sight: &'a S,
+        kept: &Kept,
+        command: Option<&Command>,
+        reply: &Reply,
+    ) -> Marks<'a>
+        ensures { marks_seen result ≡ marks_of_desk (S.desk sight.now) kept.now (option_map (λ c. c.now) command) reply.now }
+    {
+        match command {
+            Some(command) if !is_still(Some(command), reply) => {
+                Marks::of_change(sight, kept, command, reply)
+            }
+            _ => Marks::none(),
+        }
+    }
+
+    /// Nothing was done.
+    fn none() -> Marks<'a>
+        ensures { marks_seen result ≡ no_marks }
+    {
+        Marks {
+            handle: Handle(0),
+            put: None,
+            heap: NO_BLOCK,
+            module_block: 0,
+            sent: None,
+            taken: None,
+        }
+    }
+
+    /// What a command that was granted did.
+    fn of_change<S: Sight>(sight: &'a S, kept: &Kept, command: &Command, reply: &Reply) -> Marks<'a>
+        ensures { marks_seen result ≡ marks_for (S.desk sight.now) kept.now command.now reply.now }
+    {
+        let sent = sent_by(sight, kept);
+        Marks {
+            handle: kept.handle(),
+            put: put_mark(command),
+            heap: buffer_of(sent, heap_mark(kept.handle(), command, reply)),
+            module_block: module_mark(command, reply),
+            sent,
+            taken: taken_mark(reply),
+        }
+    }
+}
+
+/// Whether a step can't have changed the desk: a bad line, a question, a refusal.
+pub fn is_still(command: Option<&Command>, reply: &Reply) -> bool
+    ensures { result ≡ is_still_of (option_map (λ c. c.now) command) reply.now }
+{
+    match command {
+        None => true,
+        Some(command) => is_question(command) || is_refusal(reply),
+    }
+}
+
+fn is_question(command: &Command) -> bool
+    ensures { result ≡ is_question_of command.now }
+{
+    matches!(command, Command::Ask(_))
+}
+
+fn is_refusal(reply: &Reply) -> bool
+    ensures { result ≡ is_refusal_of reply.now }
+{
+    matches!(reply, Reply::Refused(_))
+}
+
+/// The last letter of the task that the command named, if the command sent it.
+fn sent_by<'a, S: Sight>(sight: &'a S, kept: &Kept) -> Option<(&'a Letter, Ref)>
+    ensures { option_map letter_seen result ≡ sent_by_task kept.now (task_at kept.now.handle (S.desk sight.now)) }
+{
+    let task = sight.task(task_with(sight, kept.handle())?)?;
+    let (letter, my_ref) = task.last_sent?;
+    if u64::from(my_ref.0) == kept.next_ref() {
+        Some((letter, my_ref))
+    } else {
+        None
+    }
+}
+
+/// The block of a C heap that a letter's bytes go into, else another one.
+fn buffer_of(sent: Option<(&Letter, Ref)>, other: HeapBlock) -> HeapBlock
+    ensures { block_seen result ≡ buffer_of_sent (option_map letter_seen sent) (block_seen other) }
+{
+    let Some((letter, _)) = sent else {
+        return other;
+    };
+    match &letter.body {
+        Body::RamFetch { buffer, .. } => HeapBlock {
+            handle: letter.from,
+            address: *buffer,
+        },
+        Body::RamTransmit { buffer, written } if *written > 0 => HeapBlock {
+            handle: letter.to,
+            address: *buffer,
+        },
+        _ => other,
+    }
+}
+
+/// The block of the task's C heap that a command made or changed.
+fn heap_mark(handle: Handle, command: &Command, reply: &Reply) -> HeapBlock
+    ensures { block_seen result ≡ heap_mark_of handle command.now reply.now }
+{
+    match (command, reply) {
+        (Command::Claim { .. } | Command::Resize { .. }, Reply::Block { address }) => HeapBlock {
+            handle,
+            address: *address,
+        },
+        _ => NO_BLOCK,
+    }
+}
+
+/// The block of the module area that a command made or changed, 0 for none.
+fn module_mark(command: &Command, reply: &Reply) -> u32
+    ensures { result ≡ module_mark_of command.now reply.now }
+{
+    match (command, reply) {
+        (Command::RmaClaim { .. } | Command::RmaResize { .. }, Reply::Block { address }) => *address,
+        _ => 0,
+    }
+}
+
+/// The anchor of the block that a command wrote to.
+fn put_mark(command: &Command) -> Option<Anchor>
+    ensures { result ≡ put_mark_of command.now }
+{
+    match command {
+        Command::Put { anchor, .. } => Some(*anchor),
+        _ => None,
+    }
+}
+
+/// The message that a poll took.
+fn taken_mark(reply: &Reply) -> Option<(Ref, Action)>
+    ensures { result ≡ taken_mark_of reply.now }
+{
+    match reply {
+        Reply::Event { my_ref, action, .. } => Some((*my_ref, *action)),
+        _ => None,
+    }
+}
