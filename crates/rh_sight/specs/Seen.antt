@@ -74,9 +74,9 @@ IsFree heap_of.Module place d = post_is_message (place + 4) d.post ≡ false
 abbrev pub IsAreaSeen : ℕ → ℕ → Desk → Type 0
 IsAreaSeen number count d = count ≡ (if number == module_area then module_pages d else slice_index d.areas number)
 
--- who has the pages that are looked at
+-- who has the pages that are looked at, where there is such an owner
 abbrev pub owner_seen : PagesOf → Desk → Option Owner
-owner_seen (pages.Fixed number) d = Some (AreaOf number)
+owner_seen (pages.Fixed number) d = option_map (λ _. AreaOf number) (slice_get d.areas number)
 owner_seen (pages.Made i) d = option_map (λ (m : Made). AreaOf m.number) (slice_get d.made i)
 owner_seen (pages.Slot i) d = option_map (λ (t : Task). SlotOf t.handle) (slice_get d.tasks i)
 

@@ -87,6 +87,7 @@ fn fixed_before<S: Sight>(sight: &S, number: u32) -> usize
 fn made_before<S: Sight>(sight: &S, most: usize) -> usize
     ensures { result ≡ total (λ (m : Made). m.pages) (take most (S.desk sight.now).made) }
 {
+    sight.spelled();
     let mut count = 0;
     for i in 0..most {
         if let Some(area) = sight.made(i) {
@@ -100,6 +101,7 @@ fn made_before<S: Sight>(sight: &S, most: usize) -> usize
 fn slots_before<S: Sight>(sight: &S, most: usize) -> usize
     ensures { result ≡ total task_pages (take most (S.desk sight.now).tasks) }
 {
+    sight.spelled();
     let mut count = 0;
     for i in 0..most {
         if let Some(task) = sight.task(i) {

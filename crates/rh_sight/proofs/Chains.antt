@@ -1,0 +1,9 @@
+-- The message behind another one in the list of all messages.
+use Rattle.std.proofs.Common.{ℕ, Bool, true, false, List}
+use Rattle.rh_sight.specs.declared.sight.MessageItem.{MessageItem}
+use Rattle.rh_sight.specs.Messages.{behind}
+
+-- the messages behind one that was seen, or that is still to be seen
+abbrev pub rest_behind : Bool → ℕ → List MessageItem → List MessageItem
+rest_behind true ref messages = messages
+rest_behind false ref messages = behind ref messages

@@ -1,0 +1,241 @@
+-- Whose pages stand where in the list of all pages: no two owners are one, so each owner's pages stand behind those of
+-- the owners before it.
+use Rattle.std.proofs.Common.{◌≡◌, ℕ, zero, suc, ◌+◌, ◌-◌, ◌<◌, ◌≤◌, Bool, true, false, refl, ap, sym, subst, ◌∙◌, arith, eq-eqb, List, [], ◌∷◌, ◌++◌, length, take, drop}
+use Rattle.std.specs.Prelude.{Option, Some, None, slice_get, map, min}
+use Rattle.std.specs.List.{AllByRecursion, enumerate_from}
+use Rattle.std.specs.Option.{option_map}
+use Rattle.std.proofs.Math.Seq.{take-append-add}
+use Rattle.std.proofs.lemmas.Bool.{ne_eqb, eqb-true}
+use Rattle.std.proofs.lemmas.List.{drop-drop, length-append, length-drop, length-map, length-take, take-append-le, take-map}
+use Rattle.std.proofs.lemmas.List.FromFn.{length-enumerate_from}
+use Rattle.std.proofs.lemmas.Option.{slice_get_within, slice_get-map}
+use Rattle.rh_defs.specs.Pieces.{total}
+use Rattle.rh_defs.specs.Laws.{IsDesk, Rise}
+use Rattle.rh_defs.specs.Desk.{Desk, Task, Made, task_pages, free_pages}
+use Rattle.rh_defs.proofs.Cuts.{total-append}
+use Rattle.rh_figure.specs.Share.{Owner, AreaOf, SlotOf, Holding, IsShared, count_of, fixed_holding, holdings, is_owner}
+use Rattle.rh_sight.specs.declared.sight.PagesOf.{PagesOf}
+use Rattle.rh_sight.specs.declared.sight.PagesOf.TheVariants as pages
+use Rattle.rh_sight.specs.Owners.{made_holding, slot_holding}
+use Rattle.rh_sight.specs.Pages.{pages_among, pages_before, place_among, share_in}
+use Rattle.rh_sight.specs.Seen.{owner_seen}
+
+abbrev pub counted : Holding → ℕ
+counted h = h.1
+
+-- ---- owners
+
+owner-refl : (o : Owner) → is_owner o o ≡ true
+owner-refl (AreaOf k) = eq-eqb k k refl
+owner-refl (SlotOf h) = eq-eqb h h refl
+
+owner-same : (a b : Owner) → is_owner a b ≡ true → a ≡ b
+owner-same (AreaOf k) (AreaOf n) e = ap AreaOf (eqb-true k n e)
+owner-same (AreaOf k) (SlotOf n) e = cc
+owner-same (SlotOf k) (AreaOf n) e = cc
+owner-same (SlotOf k) (SlotOf n) e = ap SlotOf (eqb-true k n e)
+
+other-way : (a b : Owner) → is_owner a b ≡ false → is_owner b a ≡ false
+other-way (AreaOf k) (AreaOf n) e = ne_eqb n k (λ q. let t : false ≡ true = sym e ∙ eq-eqb k n (sym q) in cc)
+other-way (AreaOf k) (SlotOf n) e = refl
+other-way (SlotOf k) (AreaOf n) e = refl
+other-way (SlotOf k) (SlotOf n) e = ne_eqb n k (λ q. let t : false ≡ true = sym e ∙ eq-eqb k n (sym q) in cc)
+
+-- it is none of these
+abbrev IsOther : Owner → Holding → Type 0
+IsOther o y = is_owner y.0 o ≡ false
+
+-- no later one is an earlier one
+abbrev AreApart : List Holding → Type 0
+AreApart [] = Unit {0}
+AreApart (x ∷ xs) = AllByRecursion (IsOther x.0) xs × AreApart xs
+
+all-both : {A : Type 0} (P : A → Type 0) (xs ys : List A) → AllByRecursion P xs → AllByRecursion P ys → AllByRecursion P (xs ++ ys)
+all-both P [] ys a b = b
+all-both P (x ∷ xs) ys a b = (a.0, all-both P xs ys a.1 b)
+
+all-get : {A : Type 0} (P : A → Type 0) (xs : List A) (k : ℕ) (x : A) → AllByRecursion P xs → slice_get xs k ≡ Some x → P x
+all-get P [] k x all e = cc
+all-get P (y ∷ xs) zero x all e = let same : y ≡ x = cc in subst P same all.0
+all-get P (y ∷ xs) (suc k) x all e = all-get P xs k x all.1 e
+
+apart-both : (xs ys : List Holding) → AreApart xs → AreApart ys → AllByRecursion (λ (x : Holding). AllByRecursion (IsOther x.0) ys) xs → AreApart (xs ++ ys)
+apart-both [] ys a b c = b
+apart-both (x ∷ xs) ys a b c = (all-both (IsOther x.0) xs ys a.0 c.0, apart-both xs ys a.1 b c.1)
+
+-- ---- the owners of a desk
+
+fixed-above : (d : Desk) (least n : ℕ) (areas : List ℕ) → n < least → AllByRecursion (IsOther (AreaOf n)) (map (fixed_holding d) (enumerate_from least areas))
+fixed-above d least n [] l = tt
+fixed-above d least n (a ∷ areas) l = (ne_eqb least n (λ q. omega arith), fixed-above d (least + 1) n areas (omega arith))
+
+fixed-apart : (d : Desk) (n : ℕ) (areas : List ℕ) → AreApart (map (fixed_holding d) (enumerate_from n areas))
+fixed-apart d n [] = tt
+fixed-apart d n (a ∷ areas) = (fixed-above d (n + 1) n areas (omega arith), fixed-apart d (n + 1) areas)
+
+made-above : (least next n : ℕ) (made : List Made) → Rise (λ (m : Made). m.number) least next made → n < least → AllByRecursion (IsOther (AreaOf n)) (map made_holding made)
+made-above least next n [] r l = tt
+made-above least next n (m ∷ made) r l =
+    let low : least ≤ m.number = r.0 in
+    (ne_eqb m.number n (λ q. omega arith), made-above (m.number + 1) next n made r.1 (omega arith))
+
+made-apart : (least next : ℕ) (made : List Made) → Rise (λ (m : Made). m.number) least next made → AreApart (map made_holding made)
+made-apart least next [] r = tt
+made-apart least next (m ∷ made) r = (made-above (m.number + 1) next m.number made r.1 (omega arith), made-apart (m.number + 1) next made r.1)
+
+slots-above : (least next n : ℕ) (tasks : List Task) → Rise (λ (t : Task). t.handle) least next tasks → n < least → AllByRecursion (IsOther (SlotOf n)) (map slot_holding tasks)
+slots-above least next n [] r l = tt
+slots-above least next n (t ∷ tasks) r l =
+    let low : least ≤ t.handle = r.0 in
+    (ne_eqb t.handle n (λ q. omega arith), slots-above (t.handle + 1) next n tasks r.1 (omega arith))
+
+slots-apart : (least next : ℕ) (tasks : List Task) → Rise (λ (t : Task). t.handle) least next tasks → AreApart (map slot_holding tasks)
+slots-apart least next [] r = tt
+slots-apart least next (t ∷ tasks) r = (slots-above (t.handle + 1) next t.handle tasks r.1 (omega arith), slots-apart (t.handle + 1) next tasks r.1)
+
+-- no slot is an area
+slots-other : (n : ℕ) (tasks : List Task) → AllByRecursion (IsOther (AreaOf n)) (map slot_holding tasks)
+slots-other n [] = tt
+slots-other n (t ∷ tasks) = (refl, slots-other n tasks)
+
+fixed-beside : (d : Desk) (n : ℕ) (areas : List ℕ) (others : List Holding) → n + length areas ≤ 6 → ((k : ℕ) → k < 6 → AllByRecursion (IsOther (AreaOf k)) others)
+    → AllByRecursion (λ (x : Holding). AllByRecursion (IsOther x.0) others) (map (fixed_holding d) (enumerate_from n areas))
+fixed-beside d n [] others l f = tt
+fixed-beside d n (a ∷ areas) others l f = (f n (omega arith), fixed-beside d (n + 1) areas others (omega arith) f)
+
+made-beside : (made : List Made) (tasks : List Task) → AllByRecursion (λ (x : Holding). AllByRecursion (IsOther x.0) (map slot_holding tasks)) (map made_holding made)
+made-beside [] tasks = tt
+made-beside (m ∷ made) tasks = (slots-other m.number tasks, made-beside made tasks)
+
+module _ {d : Desk} (is : IsDesk d) where
+  abbrev fixed : List Holding
+  fixed = map (fixed_holding d) (enumerate_from 0 d.areas)
+
+  abbrev mades : List Holding
+  mades = map made_holding d.made
+
+  abbrev slots : List Holding
+  slots = map slot_holding d.tasks
+
+  six : length d.areas ≡ 6
+  six = is.areas.six
+
+  pub desk-apart : AreApart (holdings d)
+  desk-apart =
+      let rise = is.made.numbers in
+      apart-both (fixed ++ mades) slots
+      (apart-both fixed mades (fixed-apart d 0 d.areas) (made-apart 256 d.next_area d.made rise)
+      (fixed-beside d 0 d.areas mades (omega (arith, six)) (λ k l. made-above 256 d.next_area k d.made rise (omega arith))))
+      (slots-apart 0 d.next_handle d.tasks is.handles)
+      (all-both (λ (x : Holding). AllByRecursion (IsOther x.0) slots) fixed mades
+      (fixed-beside d 0 d.areas slots (omega (arith, six)) (λ k l. slots-other k d.tasks))
+      (made-beside d.made d.tasks))
+
+-- ---- an owner's pages among all
+
+none-among : (o : Owner) (xs : List Holding) (numbers : List ℕ) → AllByRecursion (IsOther o) xs → (pages_among o xs numbers ≡ []) × (count_of o xs ≡ 0)
+none-among o [] numbers all = (refl, refl)
+none-among o (x ∷ xs) numbers all =
+    let off : is_owner o x.0 ≡ false = other-way x.0 o all.0 in
+    let rest = none-among o xs (drop x.1 numbers) all.1 in
+    (rw off rest.0, rw off rest.1)
+
+pub among-at : (xs : List Holding) (k : ℕ) (x : Holding) (numbers : List ℕ) → AreApart xs → slice_get xs k ≡ Some x
+    → (pages_among x.0 xs numbers ≡ take x.1 (drop (total counted (take k xs)) numbers)) × (count_of x.0 xs ≡ x.1)
+among-at [] k x numbers apart e = cc
+among-at (y ∷ xs) zero x numbers apart e =
+    let same : y ≡ x = cc in
+    let P : Holding → Type 0 = λ z. (pages_among x.0 (z ∷ xs) numbers ≡ take x.1 numbers) × (count_of x.0 (z ∷ xs) ≡ x.1) in
+    subst P (sym same) (rw (owner-refl x.0) refl, rw (owner-refl x.0) refl)
+among-at (y ∷ xs) (suc k) x numbers apart e =
+    let off : is_owner x.0 y.0 ≡ false = all-get (IsOther y.0) xs k x apart.0 e in
+    let rest = among-at xs k x (drop y.1 numbers) apart.1 e in
+    (rw off (rest.0 ∙ ap (take x.1) (drop-drop (total counted (take k xs)) y.1 numbers)), rw off rest.1)
+
+later-each : (x : Holding) (xs : List Holding) (numbers : List ℕ) → AreApart (x ∷ xs) → ((o : Owner) → length (pages_among o (x ∷ xs) numbers) ≡ count_of o (x ∷ xs))
+    → (o : Owner) (b : Bool) → is_owner o x.0 ≡ b → length (pages_among o xs (drop x.1 numbers)) ≡ count_of o xs
+later-each x xs numbers apart each o false e = rw e at (each o)
+later-each x xs numbers apart each o true e =
+    let none = none-among x.0 xs (drop x.1 numbers) apart.0 in
+    let P : Owner → Type 0 = λ z. length (pages_among z xs (drop x.1 numbers)) ≡ count_of z xs in
+    subst P (sym (owner-same o x.0 e)) (ap length none.0 ∙ sym none.1)
+
+-- where each owner has its pages, there are so many
+pub all-among : (xs : List Holding) (numbers : List ℕ) → AreApart xs → ((o : Owner) → length (pages_among o xs numbers) ≡ count_of o xs) → total counted xs ≤ length numbers
+all-among [] numbers apart each = omega arith
+all-among (x ∷ xs) numbers apart each =
+    let own : length (take x.1 numbers) ≡ x.1 = rw (owner-refl x.0) at (each x.0) in
+    let rest : total counted xs ≤ length (drop x.1 numbers) = all-among xs (drop x.1 numbers) apart.1 (λ o. later-each x xs numbers apart each o (is_owner o x.0) refl) in
+    omega (arith, length-take x.1 numbers, length-drop x.1 numbers)
+
+pub total-at : (xs : List Holding) (k : ℕ) (x : Holding) → slice_get xs k ≡ Some x → total counted (take k xs) + x.1 ≤ total counted xs
+total-at [] k x e = cc
+total-at (y ∷ xs) zero x e = let same : y.1 ≡ x.1 = cc in omega arith
+total-at (y ∷ xs) (suc k) x e = let rest : total counted (take k xs) + x.1 ≤ total counted xs = total-at xs k x e in omega arith
+
+-- ---- where an owner stands
+
+get-front : {A : Type 0} (xs ys : List A) (i : ℕ) (x : A) → slice_get xs i ≡ Some x → slice_get (xs ++ ys) i ≡ Some x
+get-front [] ys i x e = cc
+get-front (y ∷ xs) ys zero x e = e
+get-front (y ∷ xs) ys (suc i) x e = get-front xs ys i x e
+
+get-behind : {A : Type 0} (xs ys : List A) (n i : ℕ) → length xs ≡ n → slice_get (xs ++ ys) (n + i) ≡ slice_get ys i
+get-behind [] ys n i e = ap (slice_get ys) (omega arith)
+get-behind (x ∷ xs) ys zero i e = absurd (omega arith)
+get-behind (x ∷ xs) ys (suc n) i e =
+    let more : suc n + i ≡ suc (n + i) = omega arith in rw more (get-behind xs ys n i (omega arith))
+
+get-numbered : (n : ℕ) (areas : List ℕ) (i : ℕ) → slice_get (enumerate_from n areas) i ≡ option_map (λ a. (n + i, a)) (slice_get areas i)
+get-numbered n [] i = refl
+get-numbered n (a ∷ areas) zero = let same : n ≡ n + 0 = omega arith in ap (λ z. Some (z, a)) same
+get-numbered n (a ∷ areas) (suc i) =
+    let same : (n + 1) + i ≡ n + suc i = omega arith in
+    get-numbered (n + 1) areas i ∙ ap (λ z. option_map (λ b. (z, b)) (slice_get areas i)) same
+
+-- the owner stands at its place, with so many pages
+pub record Stands (d : Desk) (owner : PagesOf) (o : Owner) (n : ℕ) : Type 0 where
+  pub is : slice_get (holdings d) (place_among owner d) ≡ Some (o, n)
+
+module _ {d : Desk} (is : IsDesk d) where
+  pub stands-fixed : (number a : ℕ) → slice_get d.areas number ≡ Some a → Stands d (pages.Fixed number) (AreaOf number) (fixed_holding d (number, a)).1
+  stands-fixed number a e =
+      let here : slice_get (map (fixed_holding d) (enumerate_from 0 d.areas)) number ≡ Some (fixed_holding d (number, a)) =
+          slice_get-map (fixed_holding d) (enumerate_from 0 d.areas) number ∙ ap (option_map (fixed_holding d)) (get-numbered 0 d.areas number ∙ ap (option_map (λ (b : ℕ). (0 + number, b))) e ∙ ap (λ z. Some (z, a)) (omega arith)) in
+      record { is = get-front (fixed is ++ mades is) (slots is) number _ (get-front (fixed is) (mades is) number _ here) }
+
+  long : length (fixed is) ≡ length d.areas
+  long = length-map (enumerate_from 0 d.areas) (fixed_holding d) ∙ length-enumerate_from 0 d.areas
+
+  pub stands-made : (i : ℕ) (m : Made) → slice_get d.made i ≡ Some m → Stands d (pages.Made i) (AreaOf m.number) m.pages
+  stands-made i m e =
+      let here : slice_get (mades is) i ≡ Some (made_holding m) = slice_get-map made_holding d.made i ∙ ap (option_map made_holding) e in
+      record { is = get-front (fixed is ++ mades is) (slots is) (length d.areas + i) _ (get-behind (fixed is) (mades is) (length d.areas) i long ∙ here) }
+
+  pub stands-slot : (i : ℕ) (t : Task) → slice_get d.tasks i ≡ Some t → Stands d (pages.Slot i) (SlotOf t.handle) (task_pages t)
+  stands-slot i t e =
+      let here : slice_get (slots is) i ≡ Some (slot_holding t) = slice_get-map slot_holding d.tasks i ∙ ap (option_map slot_holding) e in
+      record { is = get-behind (fixed is ++ mades is) (slots is) (length d.areas + length d.made) i (length-append (fixed is) (mades is) ∙ omega (arith, long, length-map d.made made_holding)) ∙ here }
+
+  -- how many pages the owner has
+  pub stands-count : (owner : PagesOf) (o : Owner) (n : ℕ) → Stands d owner o n → count_of o (holdings d) ≡ n
+  stands-count owner o n at = (among-at (holdings d) (place_among owner d) (o, n) [] (desk-apart is) at.is).1
+
+  module _ {numbers : List ℕ} (shared : IsShared (share_in numbers d) d) where
+    pub room-free : free_pages d ≤ length numbers
+    room-free = omega (arith, shared.free, length-take (free_pages d) numbers)
+
+    pub room-all : free_pages d + total counted (holdings d) ≤ length numbers
+    room-all =
+        let rest : total counted (holdings d) ≤ length (drop (free_pages d) numbers) = all-among (holdings d) (drop (free_pages d) numbers) (desk-apart is) shared.each in
+        omega (arith, length-drop (free_pages d) numbers, room-free)
+
+    pub stands-room : (owner : PagesOf) (o : Owner) (n : ℕ) → Stands d owner o n → free_pages d + pages_before owner d + n ≤ length numbers
+    stands-room owner o n at =
+        let front : total counted (take (place_among owner d) (holdings d)) + n ≤ total counted (holdings d) = total-at (holdings d) (place_among owner d) (o, n) at.is in
+        omega (arith, room-all)
+
+    pub stands-pages : (owner : PagesOf) (o : Owner) (n : ℕ) → Stands d owner o n → take n (drop (free_pages d + pages_before owner d) numbers) ≡ (share_in numbers d).pages_of o
+    stands-pages owner o n at =
+        sym ((among-at (holdings d) (place_among owner d) (o, n) (drop (free_pages d) numbers) (desk-apart is) at.is).0
+        ∙ ap (take n) (drop-drop (pages_before owner d) (free_pages d) numbers))

@@ -1,0 +1,10 @@
+use Rattle.std.proofs.Common.{◌≡◌, drop}
+use Rattle.rh_figure.specs.Share.{count_of}
+use Rattle.rh_sight.specs.Owners.{holdings_of, owner_of}
+use Rattle.rh_sight.proofs.kept.count_among.Given as goal
+
+-- none so far is of the owner
+abbrev pub invariant-loop-holding : goal.invariant-loop-holding
+invariant-loop-holding l =
+    count_of (owner_of l.owner) (holdings_of (drop l.holding-index l.holdings))
+    ≡ count_of (owner_of l.owner) (holdings_of l.holdings)

@@ -1,0 +1,12 @@
+use Rattle.std.proofs.Common.{◌≡◌, take}
+use Rattle.std.specs.Prelude.{map}
+use Rattle.std.specs.List.{enumerate_from}
+use Rattle.rh_figure.specs.Share.{fixed_holding}
+use Rattle.rh_sight.specs.Owners.{holdings_of}
+use Rattle.rh_sight.proofs.kept.push_holdings.Given as goal
+
+-- the areas so far are listed
+abbrev pub invariant-loop-number : goal.invariant-loop-number
+invariant-loop-number g l =
+    let d = g.S.Sight.desk l.sight in
+    holdings_of l.list.items ≡ map (fixed_holding d) (take l.number (enumerate_from 0 d.areas))

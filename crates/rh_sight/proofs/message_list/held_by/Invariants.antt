@@ -1,0 +1,9 @@
+use Rattle.std.proofs.Common.{◌≡◌, drop}
+use Rattle.std.specs.Prelude.{find}
+use Rattle.rh_sight.specs.Messages.{is_held_by}
+use Rattle.rh_sight.proofs.message_list.held_by.Given as goal
+
+-- the task holds none so far
+abbrev pub invariant-loop-message : goal.invariant-loop-message
+invariant-loop-message l =
+    find (is_held_by l.handle) (drop l.message-index l.messages) ≡ find (is_held_by l.handle) l.messages

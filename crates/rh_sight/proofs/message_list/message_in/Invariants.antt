@@ -1,0 +1,9 @@
+use Rattle.std.proofs.Common.{◌≡◌, drop}
+use Rattle.std.specs.Prelude.{find}
+use Rattle.rh_sight.specs.Messages.{lies_in}
+use Rattle.rh_sight.proofs.message_list.message_in.Given as goal
+
+-- none so far lies in the block
+abbrev pub invariant-loop-message : goal.invariant-loop-message
+invariant-loop-message l =
+    find (lies_in l.block) (drop l.message-index l.messages) ≡ find (lies_in l.block) l.messages

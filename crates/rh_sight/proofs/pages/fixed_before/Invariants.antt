@@ -1,0 +1,12 @@
+use Rattle.std.proofs.Common.{◌≡◌, take}
+use Rattle.std.specs.Prelude.{map}
+use Rattle.std.specs.List.{enumerate_from}
+use Rattle.rh_defs.specs.Pieces.{total}
+use Rattle.rh_figure.specs.Share.{Holding, fixed_holding}
+use Rattle.rh_sight.proofs.pages.fixed_before.Given as goal
+
+-- the pages of the areas so far
+abbrev pub invariant-loop-below : goal.invariant-loop-below
+invariant-loop-below g l =
+    let d = g.S.Sight.desk l.sight in
+    l.count ≡ total (λ (h : Holding). h.1) (take l.below (map (fixed_holding d) (enumerate_from 0 d.areas)))

@@ -1,0 +1,12 @@
+use Rattle.std.proofs.Common.{◌≡◌, ◌-◌, length, drop}
+use Rattle.std.specs.Prelude.{find}
+use Rattle.rh_defs.specs.Desk.{has_name}
+use Rattle.rh_sight.proofs.tasks.task_named.Given as goal
+
+-- none so far has the name
+abbrev pub invariant-loop-tasks : goal.invariant-loop-tasks
+invariant-loop-tasks g l =
+    find (has_name l.name) (drop l.i (g.S.Sight.desk l.sight).tasks) ≡ find (has_name l.name) (g.S.Sight.desk l.sight).tasks
+
+abbrev pub decreases-loop-tasks : goal.decreases-loop-tasks
+decreases-loop-tasks g l = length (g.S.Sight.desk l.sight).tasks - l.i

@@ -1,0 +1,13 @@
+use Rattle.std.proofs.Common.{◌≡◌, ◌-◌, length, drop}
+use Rattle.std.specs.Prelude.{◌==◌, find}
+use Rattle.rh_defs.specs.Desk.{Task}
+use Rattle.rh_sight.proofs.tasks.task_with.Given as goal
+
+-- none so far has the handle
+abbrev pub invariant-loop-tasks : goal.invariant-loop-tasks
+invariant-loop-tasks g l =
+    find (λ (t : Task). t.handle == l.handle) (drop l.i (g.S.Sight.desk l.sight).tasks)
+    ≡ find (λ (t : Task). t.handle == l.handle) (g.S.Sight.desk l.sight).tasks
+
+abbrev pub decreases-loop-tasks : goal.decreases-loop-tasks
+decreases-loop-tasks g l = length (g.S.Sight.desk l.sight).tasks - l.i
