@@ -1,24 +1,25 @@
 -- Whose pages stand where in the list of all pages: no two owners are one, so each owner's pages stand behind those of
 -- the owners before it.
 use Rattle.std.proofs.Common.{◌≡◌, ℕ, zero, suc, ◌+◌, ◌-◌, ◌<◌, ◌≤◌, Bool, true, false, refl, ap, sym, subst, ◌∙◌, arith, eq-eqb, List, [], ◌∷◌, ◌++◌, length, take, drop}
-use Rattle.std.specs.Prelude.{Option, Some, None, slice_get, map, min}
+use Rattle.std.specs.Prelude.{Option, Some, None, if◌then◌else◌, ◌==◌, slice_get, slice_index, map}
 use Rattle.std.specs.List.{AllByRecursion, enumerate_from}
 use Rattle.std.specs.Option.{option_map}
 use Rattle.std.proofs.Math.Seq.{take-append-add}
 use Rattle.std.proofs.lemmas.Bool.{ne_eqb, eqb-true}
-use Rattle.std.proofs.lemmas.List.{drop-drop, length-append, length-drop, length-map, length-take, take-append-le, take-map}
+use Rattle.std.proofs.lemmas.List.{drop-drop, length-append, length-drop, length-map, length-take, take-append-le, take-map, take_all}
 use Rattle.std.proofs.lemmas.List.FromFn.{length-enumerate_from}
-use Rattle.std.proofs.lemmas.Option.{slice_get_within, slice_get-map}
+use Rattle.std.proofs.lemmas.Option.{slice_get-get_or, slice_get-map}
 use Rattle.rh_defs.specs.Pieces.{total}
+use Rattle.rh_defs.specs.Commands.{module_area}
 use Rattle.rh_defs.specs.Laws.{IsDesk, Rise}
-use Rattle.rh_defs.specs.Desk.{Desk, Task, Made, task_pages, free_pages}
+use Rattle.rh_defs.specs.Desk.{Desk, Task, Made, free_pages, module_pages, task_pages, used_pages}
 use Rattle.rh_defs.proofs.Cuts.{total-append}
 use Rattle.rh_figure.specs.Share.{Owner, AreaOf, SlotOf, Holding, IsShared, count_of, fixed_holding, holdings, is_owner}
 use Rattle.rh_sight.specs.declared.sight.PagesOf.{PagesOf}
 use Rattle.rh_sight.specs.declared.sight.PagesOf.TheVariants as pages
 use Rattle.rh_sight.specs.Owners.{made_holding, slot_holding}
 use Rattle.rh_sight.specs.Pages.{pages_among, pages_before, place_among, share_in}
-use Rattle.rh_sight.specs.Seen.{owner_seen}
+use Rattle.rh_sight.proofs.Places.{total-more}
 
 abbrev pub counted : Holding → ℕ
 counted h = h.1
@@ -239,3 +240,97 @@ module _ {d : Desk} (is : IsDesk d) where
     stands-pages owner o n at =
         sym ((among-at (holdings d) (place_among owner d) (o, n) (drop (free_pages d) numbers) (desk-apart is) at.is).0
         ∙ ap (take n) (drop-drop (pages_before owner d) (free_pages d) numbers))
+
+-- ---- how many pages the owners before have
+
+total-map : {A B : Type 0} (f : B → ℕ) (g : A → B) (xs : List A) → total f (map g xs) ≡ total (λ x. f (g x)) xs
+total-map f g [] = refl
+total-map f g (x ∷ xs) = ap (λ n. f (g x) + n) (total-map f g xs)
+
+pub total-take : {A : Type 0} (f : A → ℕ) (n : ℕ) (xs : List A) → total f (take n xs) ≤ total f xs
+total-take f zero xs = omega arith
+total-take f (suc n) [] = omega arith
+total-take f (suc n) (x ∷ xs) = let rest : total f (take n xs) ≤ total f xs = total-take f n xs in omega arith
+
+-- areas 0 to 5, of which the list has 0 for the module area
+fixed-used : (d : Desk) (areas : List ℕ) → length areas ≡ 6 → slice_index areas 1 ≡ 0 → total counted (map (fixed_holding d) (enumerate_from 0 areas)) ≡ total (λ (n : ℕ). n) areas + module_pages d
+fixed-used d [] six none = absurd (omega arith)
+fixed-used d (a ∷ []) six none = absurd (omega arith)
+fixed-used d (a ∷ b ∷ []) six none = absurd (omega arith)
+fixed-used d (a ∷ b ∷ e ∷ []) six none = absurd (omega arith)
+fixed-used d (a ∷ b ∷ e ∷ f ∷ []) six none = absurd (omega arith)
+fixed-used d (a ∷ b ∷ e ∷ f ∷ g ∷ []) six none = absurd (omega arith)
+fixed-used d (a ∷ b ∷ e ∷ f ∷ g ∷ h ∷ []) six none = let zero-pages : b ≡ 0 = none in omega arith
+fixed-used d (a ∷ b ∷ e ∷ f ∷ g ∷ h ∷ i ∷ areas) six none = absurd (omega arith)
+
+module _ {d : Desk} (is : IsDesk d) where
+  pub holdings-used : total counted (holdings d) ≡ used_pages d
+  holdings-used =
+      let fixed-all = fixed-used d d.areas is.areas.six is.areas.module_area in
+      let made-all : total counted (mades is) ≡ total (λ (m : Made). m.pages) d.made = total-map counted made_holding d.made in
+      let slots-all : total counted (slots is) ≡ total task_pages d.tasks = total-map counted slot_holding d.tasks in
+      omega (arith, total-append counted (fixed is ++ mades is) (slots is), total-append counted (fixed is) (mades is))
+
+  pub holdings-few : total counted (holdings d) ≤ 1024
+  holdings-few = let used = is.pages in let pool = is.pool in omega (arith, holdings-used)
+
+  fixed-at : (number a : ℕ) → slice_get d.areas number ≡ Some a → slice_get (fixed is) number ≡ Some (fixed_holding d (number, a))
+  fixed-at number a e =
+      slice_get-map (fixed_holding d) (enumerate_from 0 d.areas) number ∙ ap (option_map (fixed_holding d)) (get-numbered 0 d.areas number ∙ ap (option_map (λ (b : ℕ). (0 + number, b))) e ∙ ap (λ z. Some (z, a)) (omega arith))
+
+  pub area-at : (number : ℕ) → number < 6 → slice_get d.areas number ≡ Some (slice_index d.areas number)
+  area-at number l = slice_get-get_or d.areas number 0 (omega (arith, is.areas.six))
+
+  pub fixed-more : (number n count : ℕ) → number < 6 → n ≡ (if number == module_area then module_pages d else slice_index d.areas number)
+      → count ≡ total counted (take number (fixed is)) → count + n ≡ total counted (take (number + 1) (fixed is))
+  fixed-more number n count l e so_far =
+      let more = total-more counted (fixed is) number (fixed_holding d (number, slice_index d.areas number)) (fixed-at number _ (area-at number l)) in
+      omega arith
+
+  fixed-long : length (fixed is) ≡ 6
+  fixed-long = omega (arith, length-map (enumerate_from 0 d.areas) (fixed_holding d), length-enumerate_from 0 d.areas, is.areas.six)
+
+  pub fixed-room : (number : ℕ) → number ≤ 6 → total counted (take number (fixed is)) ≤ 1024
+  fixed-room number l =
+      let some = total-take counted number (fixed is) in
+      omega (arith, holdings-few, total-append counted (fixed is ++ mades is) (slots is), total-append counted (fixed is) (mades is))
+
+  pub before-fixed : (number : ℕ) → number ≤ 6 → total counted (take number (fixed is)) ≡ pages_before (pages.Fixed number) d
+  before-fixed number l =
+      ap (total counted) (sym (take-append-le number (fixed is) (mades is) (omega (arith, fixed-long)))
+      ∙ sym (take-append-le number (fixed is ++ mades is) (slots is) (omega (arith, fixed-long, length-append (fixed is) (mades is)))))
+
+  front-all : total counted (take 6 (fixed is)) ≡ total counted (fixed is)
+  front-all = ap (total counted) (take_all 6 (fixed is) (omega (arith, fixed-long)))
+
+  pub before-made : (i : ℕ) → i ≤ length d.made → total counted (take 6 (fixed is)) + total (λ (m : Made). m.pages) (take i d.made) ≡ pages_before (pages.Made i) d
+  before-made i l =
+      let long-both = length-append (fixed is) (mades is) in
+      let long-made = length-map d.made made_holding in
+      let same : length d.areas + i ≡ length (fixed is) + i = omega (arith, fixed-long, is.areas.six) in
+      let made-part : total counted (take i (mades is)) ≡ total (λ (m : Made). m.pages) (take i d.made) = ap (total counted) (take-map made_holding i d.made) ∙ total-map counted made_holding (take i d.made) in
+      let whole : total counted (take (length d.areas + i) (holdings d)) ≡ total counted (fixed is) + total counted (take i (mades is)) =
+          ap (total counted) (ap (λ n. take n (holdings d)) same
+          ∙ take-append-le (length (fixed is) + i) (fixed is ++ mades is) (slots is) (omega arith)
+          ∙ take-append-add (fixed is) (mades is) i)
+          ∙ total-append counted (fixed is) (take i (mades is)) in
+      omega (arith, front-all)
+
+  pub before-slot : (i : ℕ) → total counted (take 6 (fixed is)) + total (λ (m : Made). m.pages) d.made + total task_pages (take i d.tasks) ≡ pages_before (pages.Slot i) d
+  before-slot i =
+      let long-both = length-append (fixed is) (mades is) in
+      let long-made = length-map d.made made_holding in
+      let same : length d.areas + length d.made + i ≡ length (fixed is ++ mades is) + i = omega (arith, fixed-long, is.areas.six) in
+      let made-part : total counted (mades is) ≡ total (λ (m : Made). m.pages) d.made = total-map counted made_holding d.made in
+      let slot-part : total counted (take i (slots is)) ≡ total task_pages (take i d.tasks) = ap (total counted) (take-map slot_holding i d.tasks) ∙ total-map counted slot_holding (take i d.tasks) in
+      let whole : total counted (take (length d.areas + length d.made + i) (holdings d)) ≡ total counted (fixed is ++ mades is) + total counted (take i (slots is)) =
+          ap (total counted) (ap (λ n. take n (holdings d)) same ∙ take-append-add (fixed is ++ mades is) (slots is) i)
+          ∙ total-append counted (fixed is ++ mades is) (take i (slots is)) in
+      omega (arith, front-all, total-append counted (fixed is) (mades is))
+
+  -- how many pages areas and slots before have
+  pub made-few : (i : ℕ) → total (λ (m : Made). m.pages) (take i d.made) ≤ 1024
+  made-few i = let some = total-take (λ (m : Made). m.pages) i d.made in let used = is.pages in let pool = is.pool in omega arith
+
+  pub slots-few : (i : ℕ) → total task_pages (take i d.tasks) ≤ 1024
+  slots-few i = let some = total-take task_pages i d.tasks in let used = is.pages in let pool = is.pool in omega arith

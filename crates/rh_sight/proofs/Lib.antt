@@ -1,3 +1,5 @@
 pub mod Places
 pub mod Chains
 pub mod Holders
+pub mod SegmentWalks
+pub mod Heaps

@@ -1,5 +1,5 @@
 -- Lists that are walked through by place.
-use Rattle.std.proofs.Common.{◌≡◌, ℕ, zero, suc, ◌+◌, ◌<◌, ◌≤◌, Bool, true, false, ap, sym, ◌∙◌, arith, List, [], ◌∷◌, ◌++◌, length, take, drop}
+use Rattle.std.proofs.Common.{◌≡◌, ℕ, zero, suc, ◌+◌, ◌<◌, ◌≤◌, Bool, true, false, ap, sym, ◌∙◌, arith, List, [], ◌∷◌, ◌++◌, length, take, drop, get_or}
 use Rattle.std.specs.Prelude.{Option, Some, None, slice_get, find, map}
 use Rattle.rh_defs.specs.Pieces.{total}
 use Rattle.rh_defs.proofs.Cuts.{total-append}
@@ -51,3 +51,14 @@ module _ {A B : Type 0} (f : A → B) (xs : List A) (i : ℕ) (old items : List 
 -- ---- a sum
 pub total-more : {A : Type 0} (f : A → ℕ) (xs : List A) (i : ℕ) (x : A) → slice_get xs i ≡ Some x → total f (take (i + 1) xs) ≡ total f (take i xs) + f x
 total-more f xs i x e = ap (total f) (front-some xs i x e) ∙ (total-append f (take i xs) (x ∷ []) ∙ omega arith)
+
+-- ---- a walk over a slice that is at a member, which it leaves or takes
+module _ {A B : Type 0} (first : List A → B) (xs : List A) (i : ℕ) (x : A) (inside : i < length xs) (is : x ≡ get_or xs i x) (so_far : first (drop i xs) ≡ first xs) where
+  here : first (x ∷ drop (i + 1) xs) ≡ first xs
+  here = ap (λ y. first (y ∷ drop (i + 1) xs)) is ∙ ap first (sym (drop_more xs i x inside)) ∙ so_far
+
+  pub walked-past : first (x ∷ drop (i + 1) xs) ≡ first (drop (i + 1) xs) → first (drop (i + 1) xs) ≡ first xs
+  walked-past past = sym past ∙ here
+
+  pub walked-to : (y : B) → first (x ∷ drop (i + 1) xs) ≡ y → y ≡ first xs
+  walked-to y found = sym found ∙ here

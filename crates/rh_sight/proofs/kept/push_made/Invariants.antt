@@ -4,10 +4,10 @@ use Rattle.rh_sight.specs.Owners.{holdings_of, made_holding}
 use Rattle.rh_sight.proofs.kept.push_made.Given as goal
 
 -- the areas so far are listed
-abbrev pub invariant-loop-areas : goal.invariant-loop-areas
-invariant-loop-areas g l =
+abbrev pub invariant-areas : goal.invariant-areas
+invariant-areas g l =
     holdings_of l.list.items
     ≡ holdings_of l.initial.list.items ++ map made_holding (take l.i (g.S.Sight.desk l.sight).made)
 
-abbrev pub decreases-loop-areas : goal.decreases-loop-areas
-decreases-loop-areas g l = length (g.S.Sight.desk l.sight).made - l.i
+abbrev pub decreases-areas : goal.decreases-areas
+decreases-areas g l = length (g.S.Sight.desk l.sight).made - l.i

@@ -4,10 +4,10 @@ use Rattle.rh_sight.specs.Owners.{holdings_of, slot_holding}
 use Rattle.rh_sight.proofs.kept.push_slots.Given as goal
 
 -- the slots so far are listed
-abbrev pub invariant-loop-tasks : goal.invariant-loop-tasks
-invariant-loop-tasks g l =
+abbrev pub invariant-tasks : goal.invariant-tasks
+invariant-tasks g l =
     holdings_of l.list.items
     ≡ holdings_of l.initial.list.items ++ map slot_holding (take l.i (g.S.Sight.desk l.sight).tasks)
 
-abbrev pub decreases-loop-tasks : goal.decreases-loop-tasks
-decreases-loop-tasks g l = length (g.S.Sight.desk l.sight).tasks - l.i
+abbrev pub decreases-tasks : goal.decreases-tasks
+decreases-tasks g l = length (g.S.Sight.desk l.sight).tasks - l.i

@@ -4,10 +4,10 @@ use Rattle.rh_defs.specs.Desk.{Task}
 use Rattle.rh_sight.proofs.tasks.task_with.Given as goal
 
 -- none so far has the handle
-abbrev pub invariant-loop-tasks : goal.invariant-loop-tasks
-invariant-loop-tasks g l =
+abbrev pub invariant-tasks : goal.invariant-tasks
+invariant-tasks g l =
     find (λ (t : Task). t.handle == l.handle) (drop l.i (g.S.Sight.desk l.sight).tasks)
     ≡ find (λ (t : Task). t.handle == l.handle) (g.S.Sight.desk l.sight).tasks
 
-abbrev pub decreases-loop-tasks : goal.decreases-loop-tasks
-decreases-loop-tasks g l = length (g.S.Sight.desk l.sight).tasks - l.i
+abbrev pub decreases-tasks : goal.decreases-tasks
+decreases-tasks g l = length (g.S.Sight.desk l.sight).tasks - l.i

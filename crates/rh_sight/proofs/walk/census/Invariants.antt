@@ -1,0 +1,15 @@
+use Rattle.std.proofs.Common.{◌-◌, List}
+use Rattle.rh_defs.specs.Heap.{Segment}
+use Rattle.rh_sight.specs.Seen.{heap_seen, heap_start_of}
+use Rattle.rh_sight.specs.Walks.{ComesTo}
+use Rattle.rh_sight.proofs.Heaps.{Counted, end_of}
+use Rattle.rh_sight.proofs.walk.census.Given as goal
+
+-- the segments so far are counted, and the items are the next ones
+abbrev pub invariant-places : goal.invariant-places
+invariant-places g l =
+    (rest : List Segment) → ComesTo (heap_seen l.heap (g.S.Sight.desk l.sight)) l.place rest →
+    Counted (heap_start_of l.heap) l.place l.end l.count l.items.items rest
+
+abbrev pub decreases-places : goal.decreases-places
+decreases-places g l = end_of (heap_seen l.heap (g.S.Sight.desk l.sight)) - l.end
