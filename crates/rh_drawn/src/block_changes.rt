@@ -126,14 +126,14 @@ fn print_slides<W: Sink>(
     ensures { Puts (W.output writer.old) (W.output writer.new) result
         (shown_lines (indented (slide_change (flat_map (λ (b : BlockItem). slide_of b (item_of b.anchor kept.now.blocks)) blocks.now)))) }
 {
-    match slid(kept, blocks) {
+    match find_slid(kept, blocks) {
         Some(slid) => print_slide(slid.count, slid.from, slid.to, writer),
         None => Ok(()),
     }
 }
 
 /// The blocks that lie elsewhere now, if there are some.
-fn slid(kept: &Kept, blocks: &[BlockItem]) -> Option<Slid>
+fn find_slid(kept: &Kept, blocks: &[BlockItem]) -> Option<Slid>
     requires { length blocks.now ≤ ANCHORS }
     ensures { result ≡ summary_of (flat_map (λ (b : BlockItem). slide_of b (item_of b.anchor kept.now.blocks)) blocks.now) }
 {

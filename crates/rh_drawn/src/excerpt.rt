@@ -14,7 +14,7 @@ use rh_defs::sizes::HEAP_FIRST;
 use rh_defs::{LineFault, Name, Question, Reply};
 use rh_lines::{print_fault, print_first_line};
 use rh_map::Front;
-use rh_sight::{HeapOf, Sight, census, task_named};
+use rh_sight::{HeapOf, Sight, take_census, task_named};
 
 /// Puts the front of the answer to a question in place of what was there, and answers how many lines the whole has.
 pub fn excerpt_answer<D: Drawn>(drawn: &D, question: &Question, front: &mut Front) -> u32
@@ -65,7 +65,7 @@ fn count_segments<S: Sight>(sight: &S, name: &Name) -> u32
     ensures few { result < 2 ^ 31 }
 {
     match task_named(sight, name) {
-        Some(i) => census(sight, HeapOf::Task(i), HEAP_FIRST as u32).count,
+        Some(i) => take_census(sight, HeapOf::Task(i), HEAP_FIRST as u32).count,
         None => 0,
     }
 }

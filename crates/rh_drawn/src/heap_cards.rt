@@ -64,7 +64,7 @@ pub fn print_heap_cards<S: Sight, W: Sink>(
         (shown_lines (card_lines (shown_cards (band_cards (scene_at (S.desk sight.now) step.now) (S.desk sight.now) band.now h))))) }
 {
     sight.spelled();
-    let survey = survey(sight, step, band);
+    let survey = take_survey(sight, step, band);
     let count = survey.count as usize;
     let shown = shown_count(count);
     let items = sight.segments(band.heap, HEAP_FIRST as u32);
@@ -81,7 +81,7 @@ pub fn print_heap_cards<S: Sight, W: Sink>(
 }
 
 /// Counts the segments of a heap, and finds the first changed one that isn't shown anyway where there are too many.
-fn survey<S: Sight>(sight: &S, step: &Step<'_>, band: &Band<'_>) -> Survey
+fn take_survey<S: Sight>(sight: &S, step: &Step<'_>, band: &Band<'_>) -> Survey
     requires step { IsStepOf (S.desk sight.now) step.now }
     requires band { IsBandOf (S.desk sight.now) band.now }
     ensures { IfSome (heap_seen band.now.heap (S.desk sight.now)) (λ h. IsSurvey (scene_at (S.desk sight.now) step.now) band.now h result) }

@@ -25,4 +25,4 @@ pub use sight::{
 };
 pub use step::Step;
 pub use tasks::{name_in, task_named, task_with};
-pub use walk::{Census, census, heap_address, place_behind};
+pub use walk::{Census, heap_address, place_behind, take_census};

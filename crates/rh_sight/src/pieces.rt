@@ -17,7 +17,7 @@ use crate::freshness::{is_fresh_block, is_fresh_flex, is_new_ref};
 use crate::message_list::message_in;
 use crate::sight::{HeapOf, MOST_AT_ONCE, Sight, TaskSight};
 use crate::step::Step;
-use crate::walk::{census, heap_address, place_behind};
+use crate::walk::{heap_address, place_behind, take_census};
 use arrayvec::ArrayVec;
 use rh_defs::sizes::{
     ANCHORS, C_HEAP_PLACE, HEAP_FIRST, MODULE_START, PAGE, SLOT_START, WORD, flex_weight,
@@ -140,7 +140,7 @@ fn push_heap<S: Sight>(sight: &S, step: &Step<'_>, drawn: Drawn, pieces: &mut Pi
     let at = (heap_address(drawn.heap) - area_address(drawn.heap)) as usize;
     pieces.push(plain(Kind::Descriptor, at, HEAP_FIRST));
     let place = push_segments(sight, step, drawn, pieces);
-    let others = census(sight, drawn.heap, place);
+    let others = take_census(sight, drawn.heap, place);
     if others.count > 0 {
         let kind = Kind::MoreSegments {
             count: others.count,

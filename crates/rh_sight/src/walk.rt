@@ -40,7 +40,7 @@ pub fn place_behind(heap: HeapOf, item: &SegmentItem) -> u32
 }
 
 /// Counts the segments of a heap from the one that begins at a place on.
-pub fn census<S: Sight>(sight: &S, heap: HeapOf, place: u32) -> Census
+pub fn take_census<S: Sight>(sight: &S, heap: HeapOf, place: u32) -> Census
     requires { (rest : List Segment) × ComesTo (heap_seen heap (S.desk sight.now)) place rest }
     ensures { (rest : List Segment) → ComesTo (heap_seen heap (S.desk sight.now)) place rest → result ≡ census_of place rest }
 {

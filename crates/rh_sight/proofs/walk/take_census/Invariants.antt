@@ -3,7 +3,7 @@ use Rattle.rh_defs.specs.Heap.{Segment}
 use Rattle.rh_sight.specs.Seen.{heap_seen, heap_start_of}
 use Rattle.rh_sight.specs.Walks.{ComesTo}
 use Rattle.rh_sight.proofs.Heaps.{Counted, end_of}
-use Rattle.rh_sight.proofs.walk.census.Given as goal
+use Rattle.rh_sight.proofs.walk.take_census.Given as goal
 
 -- the segments so far are counted, and the items are the next ones
 abbrev pub invariant-places : goal.invariant-places
