@@ -1,5 +1,5 @@
 -- Lines that are taken, one after the other.
-use Rattle.std.proofs.Common.{◌≡◌, ℕ, ◌+◌, ◌-◌, ◌*◌, ◌<◌, ◌≤◌, ◌≢◌, List, [], ◌∷◌, ◌++◌, length, take, drop, eqb, Bool, true, false, ◌||◌, map, Option, Some, None, Result, Ok, Err, inl, inr, append_assoc, append-nil, refl, sym, ◌∙◌, ap, subst, arith}
+use Rattle.std.proofs.Common.{◌≡◌, ℕ, ◌+◌, ◌<◌, ◌≢◌, List, [], ◌∷◌, ◌++◌, length, take, eqb, Bool, true, false, ◌||◌, map, Option, Some, None, Result, Ok, Err, inl, inr, append_assoc, append-nil, refl, sym, ◌∙◌, ap, subst, arith}
 use Rattle.std.specs.Prelude.{OnErr, slice_index}
 use Rattle.std.proofs.lemmas.Bool.Decides.{nat_tests}
 use Rattle.std.proofs.lemmas.List.{length-drop}
@@ -7,8 +7,8 @@ use Rattle.std.specs.Io.KnownBytes.{Consumes, Keeps, IsAtEnd}
 use Rattle.rh_defs.specs.Script.{ended, unended}
 use Rattle.rh_lines.specs.Flow.{Input, Output, reads_after}
 use Rattle.rh_feed.specs.Lines.{kept, kept_lines, kept_rest}
-use Rattle.rh_feed.specs.Taken.{Step, Break, TookAll, BrokeAmong, BrokeAtRest, Fed, FedAll, FedUntil}
-use Rattle.rh_feed.proofs.LineLemmas.{NoFeed, NoneBelow, behind, behind_is, cut_at, ended_none, ended_first, unended_first, unended_all, ended-append, ended-unended, kept_front, kept_kept, kept_nil, kept_lines-append, no_feed_all, no_feed_below, no_feed_join, no_feed_open, unended-append}
+use Rattle.rh_feed.specs.Taken.{Step, Break, TookAll, BrokeAmong, Fed, FedAll, FedUntil}
+use Rattle.rh_feed.proofs.LineLemmas.{NoFeed, NoneBelow, behind, behind_is, cut_at, ended_none, ended_first, unended_first, unended_all, ended-unended, kept_front, kept_kept, kept_nil, kept_lines-append, no_feed_all, no_feed_below, no_feed_join, no_feed_open, unended-append}
 
 -- what holds anyway holds where a result is an error
 pub on_err : {E : Type 0} {P : Type 0} (r : Result Unit E) → P → OnErr r P

@@ -1,11 +1,11 @@
 -- Lines of a script: where they end, and as far as they are kept.
-use Rattle.std.proofs.Common.{◌≡◌, ℕ, zero, suc, ◌-◌, ◌<◌, ◌≤◌, Bool, true, false, eqb, nat_lt, ◌⊎◌, inl, inr, List, [], ◌∷◌, ◌++◌, length, take, drop, map, append_assoc, append-nil, refl, sym, ◌∙◌, ap, subst, arith, rules}
+use Rattle.std.proofs.Common.{◌≡◌, ℕ, zero, suc, ◌-◌, ◌<◌, ◌≤◌, Bool, true, false, eqb, nat_lt, ◌⊎◌, inl, inr, List, [], ◌∷◌, ◌++◌, length, take, drop, map, append-nil, refl, sym, ◌∙◌, ap, subst, arith, rules}
 use Rattle.std.specs.Prelude.{slice_index}
 use Rattle.std.proofs.lemmas.List.{take_all, take_rest, length-take, map-append}
 use borrow.Author.Tests.{tests}
 use Rattle.rh_defs.specs.Line.{line_means}
 use Rattle.rh_defs.specs.Script.{ended, unended, onto_line, unended_after}
-use Rattle.rh_feed.specs.Lines.{kept, kept_lines, kept_rest}
+use Rattle.rh_feed.specs.Lines.{kept, kept_lines}
 
 -- ---- lines that are kept
 

@@ -1,7 +1,7 @@
 -- Letterboxes, part by part.
-use Rattle.std.proofs.Common.{◌≡◌, ℕ, ◌+◌, ◌<◌, List, [], ◌∷◌, ◌++◌, length, refl, sym, ap, ◌∙◌, length-append, append_assoc, arith}
+use Rattle.std.proofs.Common.{◌≡◌, ℕ, ◌+◌, ◌<◌, List, [], ◌∷◌, ◌++◌, length, sym, ap, ◌∙◌, length-append, append_assoc, arith}
 use Rattle.std.specs.Prelude.{codes, not, ◌==◌}
-use Rattle.std.specs.List.{flat_map, concat}
+use Rattle.std.specs.List.{flat_map}
 use Rattle.std.specs.Fmt.{decimal}
 use Rattle.rh_defs.specs.Text.{action_name}
 use Rattle.rh_figure.specs.Phrases.{and_more, is_returned, where_so}

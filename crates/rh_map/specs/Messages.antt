@@ -1,5 +1,5 @@
 -- Messages as cards and letterboxes have them.
-use Rattle.std.specs.Prelude.{ℕ, List, [], ◌++◌, codes, length, Option, Some, None}
+use Rattle.std.specs.Prelude.{ℕ, List, [], ◌++◌, codes, Option, Some, None}
 use Rattle.std.specs.List.{join_by}
 use Rattle.std.specs.Fmt.{decimal}
 use Rattle.rh_figure.specs.Phrases.{Text, and_more, entry_text}

@@ -3,3 +3,4 @@ pub mod Chains
 pub mod Holders
 pub mod SegmentWalks
 pub mod Heaps
+pub mod PieceWalks

@@ -181,6 +181,7 @@ fn push_segments<S: Sight>(
 /// Appends segments.
 fn push_items(step: &Step<'_>, drawn: Drawn, items: &[SegmentItem], pieces: &mut Pieces)
     requires few { length pieces.old.items + length items.now ≤ MOST_PIECES }
+    requires items { (place : ℕ) × (segments : List Segment) × (items.now ≡ segment_items_from (heap_start_of drawn.heap + place) segments) }
     ensures { (d : Desk) (place : ℕ) (segments : List Segment) → IsStepOf d step.now → items.now ≡ segment_items_from (heap_start_of drawn.heap + place) segments →
         pieces.new.items ≡ pieces.old.items ++ segment_pieces (legend_of (scene_at d step.now) drawn.heap drawn.handle) (heap_start_of drawn.heap - area_start_of drawn.heap + place) segments }
 {

@@ -1,4 +1,4 @@
-use Rattle.std.proofs.Common.{refl, arith}
+use Rattle.std.proofs.Common.{arith}
 use Rattle.rh_feed.proofs.FeedLemmas.{behind_less, on_err, rest_through, went_nowhere, went_on, went_through, went_wrong}
 use Rattle.rh_feed.proofs.feeding.feed.Goals as goal
 

@@ -1,4 +1,4 @@
-use Rattle.std.proofs.Common.{◌≡◌, ◌<◌, ◌+◌, ◌-◌, ◌*◌, length}
+use Rattle.std.proofs.Common.{◌≡◌, ◌<◌, ◌-◌, ◌*◌, length}
 use Rattle.rh_feed.specs.declared.feeding.TheConstants.{MOST_READS, PIECE}
 use Rattle.rh_feed.proofs.FeedLemmas.{Going}
 use Rattle.rh_feed.proofs.feeding.read_all.Given as goal

@@ -1,4 +1,3 @@
-use Rattle.std.proofs.Common.{arith}
 use Rattle.rh_map.proofs.SeamLemmas.{lines-cut, lines-whole, some-left}
 use Rattle.rh_map.proofs.reply.next_line.Goals as goal
 

@@ -1,7 +1,7 @@
 use Rattle.std.proofs.Common.{◌-◌, arith}
 use Rattle.rh_map.specs.Replies.{lines_in}
-use Rattle.rh_map.proofs.Left.{left_less, left_breaks, left_none}
-use Rattle.rh_map.proofs.SeamLemmas.{first-next, first-none}
+use Rattle.rh_map.proofs.Left.{left_less, left_breaks}
+use Rattle.rh_map.proofs.SeamLemmas.{first-next}
 use Rattle.rh_map.proofs.reply.print_first_lines.Goals as goal
 
 pub loop-left-preserved : goal.loop-left-preserved

@@ -1,0 +1,114 @@
+-- The pieces of segments and of flex blocks, some at a time.
+use Rattle.std.proofs.Common.{◌≡◌, ℕ, zero, suc, ◌+◌, ◌-◌, ◌*◌, ◌<◌, ◌≤◌, refl, ap, sym, subst, ◌∙◌, arith, List, [], ◌∷◌, ◌++◌, length, take, drop, get_or, Option, Some, None}
+use Rattle.std.specs.Prelude.{slice_get, IfSome}
+use Rattle.std.proofs.lemmas.List.{append_assoc, append-nil, drop-take, drop_all, drop_more, length-append, length-take, take-append-drop, take-take, take_more}
+use Rattle.rh_defs.specs.declared.listing.BlockItem.{BlockItem}
+use Rattle.rh_defs.specs.declared.listing.SegmentItem.{SegmentItem}
+use Rattle.rh_defs.specs.Pieces.{total}
+use Rattle.rh_defs.specs.Heap.{Heap, Segment, Used, Hole, first_place, place_after, size_of}
+use Rattle.rh_defs.specs.Slot.{Flex, flex_weight, weight}
+use Rattle.rh_defs.specs.Listing.{block_items_from, segment_item, segment_items_from}
+use Rattle.rh_defs.proofs.Cuts.{total-append}
+use Rattle.rh_figure.specs.Layout.{Legend, Piece, flex_piece, flex_pieces, is_fresh_flex, segment_piece, segment_pieces}
+use Rattle.rh_figure.specs.Scene.{Scene}
+use Rattle.rh_sight.specs.Walks.{ComesTo, item_end, item_pieces, item_weight}
+use Rattle.rh_sight.proofs.SegmentWalks.{last-ends, length-items, none-last, pieces-append}
+
+take-add : {A : Type 0} (n m : ℕ) (xs : List A) → take (n + m) xs ≡ take n xs ++ take m (drop n xs)
+take-add n m xs =
+    sym (take-append-drop n (take (n + m) xs))
+    ∙ (ap (λ z. z ++ drop n (take (n + m) xs)) (take-take n (n + m) xs (omega arith)) ∙ ap (λ z. take n xs ++ z) (drop-take n m xs))
+
+-- ---- segments
+
+-- the segments from a place on, where so many were passed
+pub comes-at : {o : Option Heap} (h : Heap) (n place : ℕ) → o ≡ Some h → place ≡ place_after (take n h.segments) → ComesTo o place (drop n h.segments)
+comes-at h n place e at = record { heap = h; is = e; below = take n h.segments; whole = sym (take-append-drop n h.segments); at = at }
+
+-- 64 more pieces
+pub pieces-on : (g : Legend) (off n place : ℕ) (segments : List Segment) (old now new : List Piece) → place ≡ place_after (take n segments)
+    → now ≡ old ++ segment_pieces g (off + first_place) (take n segments)
+    → new ≡ now ++ segment_pieces g (off + place) (take 64 (drop n segments))
+    → new ≡ old ++ segment_pieces g (off + first_place) (take (n + 64) segments)
+pieces-on g off n place segments old now new at p q =
+    let same : (off + first_place) + total size_of (take n segments) ≡ off + place = omega arith in
+    let front = segment_pieces g (off + first_place) (take n segments) in
+    q ∙ (ap (λ z. z ++ segment_pieces g (off + place) (take 64 (drop n segments))) p
+    ∙ (append_assoc old front (segment_pieces g (off + place) (take 64 (drop n segments)))
+    ∙ ap (λ z. old ++ z) (sym (ap (segment_pieces g (off + first_place)) (take-add n 64 segments)
+    ∙ (pieces-append g (off + first_place) (take n segments) (take 64 (drop n segments))
+    ∙ ap (λ k. front ++ segment_pieces g k (take 64 (drop n segments))) same)))))
+
+after-add : (n : ℕ) (segments : List Segment) → place_after (take (n + 64) segments) ≡ place_after (take n segments) + total size_of (take 64 (drop n segments))
+after-add n segments =
+    let more : total size_of (take (n + 64) segments) ≡ total size_of (take n segments) + total size_of (take 64 (drop n segments)) =
+        ap (total size_of) (take-add n 64 segments) ∙ total-append size_of (take n segments) (take 64 (drop n segments)) in
+    omega arith
+
+-- where the last of them ends
+pub place-on : (start n place next : ℕ) (segments : List Segment) (items : List SegmentItem) (last : SegmentItem) → place ≡ place_after (take n segments)
+    → items ≡ segment_items_from (start + place) (take 64 (drop n segments)) → Some last ≡ slice_get items (length items - 1)
+    → next + start ≡ item_end last → next ≡ place_after (take (n + 64) segments)
+place-on start n place next segments items last at e l q =
+    let front = take 64 (drop n segments) in
+    let here : Some last ≡ slice_get (segment_items_from (start + place) front) (length (segment_items_from (start + place) front) - 1) = l ∙ ap (λ xs. slice_get xs (length xs - 1)) e in
+    let ends : item_end last ≡ (start + place) + total size_of front = last-ends (start + place) front last here in
+    omega (arith, after-add n segments)
+
+-- where there is none
+pub place-same : (start n place : ℕ) (segments : List Segment) (items : List SegmentItem) → place ≡ place_after (take n segments)
+    → items ≡ segment_items_from (start + place) (take 64 (drop n segments)) → None ≡ slice_get items (length items - 1)
+    → place ≡ place_after (take (n + 64) segments)
+place-same start n place segments items at e l =
+    let none : items ≡ [] = none-last items l in
+    let long : length items ≡ length (take 64 (drop n segments)) = ap length e ∙ length-items (start + place) (take 64 (drop n segments)) in
+    let zero-items : length items ≡ 0 = ap length none in
+    let no-bytes : total size_of (take 64 (drop n segments)) ≡ 0 = empty-total (take 64 (drop n segments)) (omega arith) in
+    omega (arith, after-add n segments)
+  where
+    empty-total : (xs : List Segment) → length xs ≡ 0 → total size_of xs ≡ 0
+    empty-total [] z = refl
+    empty-total (x ∷ xs) z = absurd (omega arith)
+
+-- one more segment
+pub item-at : (p : ℕ) (segments : List Segment) (items : List SegmentItem) (i : ℕ) (d : SegmentItem) (s : Segment) → items ≡ segment_items_from p segments → i < length items
+    → get_or items i d ≡ segment_item (p + total size_of (take i segments)) (get_or segments i s)
+item-at p segments items i d s e inside =
+    let long : length items ≡ length segments = ap length e ∙ length-items p segments in
+    ap (λ z. get_or z i d) e ∙ go p segments i (omega arith)
+  where
+    go : (p : ℕ) (segments : List Segment) (i : ℕ) → i < length segments → get_or (segment_items_from p segments) i d ≡ segment_item (p + total size_of (take i segments)) (get_or segments i s)
+    go p [] i l = absurd (omega arith)
+    go p (x ∷ xs) zero l = let same : p ≡ p + 0 = omega arith in ap (λ k. segment_item k x) same
+    go p (x ∷ xs) (suc i) l =
+        let same : (p + size_of x) + total size_of (take i xs) ≡ p + (size_of x + total size_of (take i xs)) = omega arith in
+        go (p + size_of x) xs i (omega arith) ∙ ap (λ k. segment_item k (get_or xs i s)) same
+
+pub piece-more : (g : Legend) (p i : ℕ) (segments : List Segment) (s : Segment) → i < length segments
+    → segment_pieces g p (take (i + 1) segments) ≡ segment_pieces g p (take i segments) ++ segment_piece g (p + total size_of (take i segments)) (get_or segments i s) ∷ []
+piece-more g p i segments s l = ap (segment_pieces g p) (take_more segments i s l) ∙ pieces-append g p (take i segments) (get_or segments i s ∷ [])
+
+-- ---- flex blocks
+
+pub blocks-more : (x : Scene) (h end i : ℕ) (blocks : List BlockItem) (b : BlockItem) → i < length blocks → b ≡ get_or blocks i b
+    → item_pieces x h end (drop i blocks) ≡ flex_piece end b.anchor b.size (is_fresh_flex x h b.anchor b.size) ∷ item_pieces x h (end + item_weight b) (drop (i + 1) blocks)
+blocks-more x h end i blocks b l e =
+    ap (item_pieces x h end) (drop_more blocks i b l ∙ ap (λ z. z ∷ drop (i + 1) blocks) (sym e))
+
+pub weights-more : (i : ℕ) (blocks : List BlockItem) (b : BlockItem) → i < length blocks → b ≡ get_or blocks i b
+    → total item_weight (drop i blocks) ≡ item_weight b + total item_weight (drop (i + 1) blocks)
+weights-more i blocks b l e = ap (total item_weight) (drop_more blocks i b l ∙ ap (λ z. z ∷ drop (i + 1) blocks) (sym e))
+
+-- the pieces of blocks as they are listed are the scene's
+pub items-pieces : (x : Scene) (h place at : ℕ) (blocks : List Flex) → item_pieces x h at (block_items_from place blocks) ≡ flex_pieces x h at blocks
+items-pieces x h place at [] = refl
+items-pieces x h place at (b ∷ blocks) =
+    ap (λ l. flex_piece at b.anchor (length b.bytes) (is_fresh_flex x h b.anchor (length b.bytes)) ∷ l) (items-pieces x h (place + weight b) (at + weight b) blocks)
+
+pub items-weight : (place : ℕ) (blocks : List Flex) → total item_weight (block_items_from place blocks) ≡ total weight blocks
+items-weight place [] = refl
+items-weight place (b ∷ blocks) = ap (λ n. weight b + n) (items-weight (place + weight b) blocks)
+
+pub items-long : (place : ℕ) (blocks : List Flex) → length (block_items_from place blocks) ≡ length blocks
+items-long place [] = refl
+items-long place (b ∷ blocks) = ap suc (items-long (place + weight b) blocks)

@@ -1,0 +1,21 @@
+use Rattle.std.proofs.Common.{◌≡◌, ◌≤◌, ◌+◌, ◌-◌, ◌*◌, ◌++◌, length, take}
+use Rattle.std.specs.Prelude.{IfSome}
+use Rattle.rh_defs.specs.Heap.{first_place, place_after}
+use Rattle.rh_figure.specs.Layout.{segment_pieces}
+use Rattle.rh_sight.specs.Seen.{heap_seen, heap_start_of}
+use Rattle.rh_sight.specs.Steps.{scene_at}
+use Rattle.rh_sight.specs.Walks.{area_start_of, legend_of}
+use Rattle.rh_sight.proofs.pieces.push_segments.Given as goal
+
+-- the pieces of so many segments are listed, and the place is where these end
+abbrev pub invariant-loop-turn : goal.invariant-loop-turn
+invariant-loop-turn g l =
+    let d = g.S.Sight.desk l.sight in
+    record {
+      pieces : IfSome (heap_seen l.drawn.heap d) (λ h.
+          l.pieces.items
+          ≡ l.initial.pieces.items
+          ++ segment_pieces (legend_of (scene_at d l.step) l.drawn.heap l.drawn.handle) (heap_start_of l.drawn.heap - area_start_of l.drawn.heap + first_place) (take (64 * l._turn) h.segments));
+      place : IfSome (heap_seen l.drawn.heap d) (λ h. l.place ≡ place_after (take (64 * l._turn) h.segments));
+      few : length l.pieces.items ≤ length l.initial.pieces.items + 64 * l._turn;
+    }
