@@ -1,5 +1,5 @@
 -- A session over several lines.
-use Rattle.std.proofs.Common.{◌≡◌, ℕ, ◌<◌, ◌≤◌, true, false, eqb, List, [], ◌∷◌, ◌++◌, length, take, Result, Ok, Err, append_assoc, append-nil, refl, sym, ◌∙◌, ap, subst, arith, ◌||◌}
+use Rattle.std.proofs.Common.{◌≡◌, ℕ, suc, ◌<◌, ◌≤◌, true, false, eqb, List, [], ◌∷◌, ◌++◌, length, take, drop, Result, Ok, Err, append_assoc, append-nil, refl, sym, ◌∙◌, ap, subst, arith, ◌||◌}
 use Rattle.std.specs.Prelude.{slice_index}
 use Rattle.std.specs.Result.{IsErr, is_err}
 use Rattle.rh_defs.specs.Desk.{Desk}
@@ -92,7 +92,7 @@ state_more s front line h = state_of-append s front (line ++ 10 ∷ []) ∙ line
 
 next_whole : (bytes front rest : List ℕ) (n : ℕ) → bytes ≡ front ++ rest → n < length rest → eqb (slice_index rest n) 10 ≡ true → bytes ≡ (front ++ (take n rest ++ 10 ∷ [])) ++ behind rest n
 next_whole bytes front rest n e lt at =
-    e ∙ (ap (λ z. front ++ z) (cut_at rest n lt at ∙ ap (λ z. (take n rest ++ 10 ∷ []) ++ z) (sym (behind_is rest n))) ∙ sym (append_assoc front (take n rest ++ 10 ∷ []) (behind rest n)))
+    e ∙ (ap (λ z. front ++ z) (cut_at rest n lt at ∙ (sym (append_assoc (take n rest) (10 ∷ []) (drop (suc n) rest)) ∙ ap (λ z. (take n rest ++ 10 ∷ []) ++ z) (sym (behind_is rest n)))) ∙ sym (append_assoc front (take n rest ++ 10 ∷ []) (behind rest n)))
 
 -- one more line
 pub went_on : {D : Type 0} {spells : D → Desk → Type 0} {bytes : List ℕ} {first now : Session D} {old new : Output} {before after rest : List ℕ} {v : Unit {0}} (next : Session D) (last : Output) (held : List ℕ) (n : ℕ) → Went spells bytes first now old new before after rest → n < length rest → NoneBelow rest n → eqb (slice_index rest n) 10 ≡ true → Answers spells now new last (Ok v) after held (take n rest) → ((s : State) → IsState spells now s → IsState spells next (state_after_line s (take n rest))) → Went spells bytes first next old last before held (behind rest n)

@@ -106,10 +106,10 @@ room {rest = rest} w s =
     record { sized = sized-back w.below rest all; fits = omega arith }
 
 -- the items that are told there
-pub told : {o : Option Heap} {place start : ℕ} {rest : List Segment} {items : List SegmentItem} (w : ComesTo o place rest)
+pub told : {o : Option Heap} {place : ℕ} (start : ℕ) {rest : List Segment} {items : List SegmentItem} (w : ComesTo o place rest)
     → IfSome o (λ h. (below : List Segment) (rest : List Segment) → h.segments ≡ below ++ rest → place ≡ place_after below → items ≡ take 64 (segment_items_from (start + place) rest))
     → items ≡ segment_items_from (start + place) (take 64 rest)
-told {place = place} {start = start} {rest = rest} {items = items} w f =
+told {place = place} start {rest = rest} {items = items} w f =
     let P : Option Heap → Type 0 = λ o. IfSome o (λ h. (below : List Segment) (rest : List Segment) → h.segments ≡ below ++ rest → place ≡ place_after below → items ≡ take 64 (segment_items_from (start + place) rest)) in
     let g = subst P w.is f in
     g w.below rest w.whole w.at ∙ take-items 64 (start + place) rest
@@ -175,14 +175,14 @@ module _ {o : Option Heap} {start place end count : ℕ} {items : List SegmentIt
       let here : Some last ≡ slice_get (segment_items_from (start + end) front) (length (segment_items_from (start + end) front) - 1) = e ∙ ap (λ xs. slice_get xs (length xs - 1)) k.items_are in
       let long : length items ≡ length front = ap length k.items_are ∙ length-items (start + end) front in
       let some = some-last items last e in
-      (last-ends (start + end) front last here, (omega arith, long))
+      (last-ends (start + end) front last here, omega arith, long)
 
   pub stepped : (next : ℕ) (last : SegmentItem) → IsSeen w.heap → Some last ≡ slice_get items (length items - 1) → Stepped o start end next count items last
   stepped next last s e =
       let h = last-here last e in
       let ends = h.0 in
-      let some = h.1.0 in
-      let long = h.1.1 in
+      let some = h.1 in
+      let long = h.2 in
       let all = room w s in
       let whole : total size_of rest ≡ total size_of k.passed + total size_of k.left = ap (total size_of) k.whole ∙ total-append size_of k.passed k.left in
       let halves : total size_of k.left ≡ total size_of front + total size_of back = ap (total size_of) (sym parts) ∙ total-append size_of front back in
@@ -203,7 +203,7 @@ module _ {o : Option Heap} {start place end count : ℕ} {items : List SegmentIt
   counted-more next last items2 e q f =
       let h = last-here last e in
       let ends = h.0 in
-      let long = h.1.1 in
+      let long = h.2 in
       let count_is = k.count_is in
       let at = k.at in
       let moved : next ≡ end + total size_of front = omega arith in
@@ -215,7 +215,7 @@ module _ {o : Option Heap} {start place end count : ℕ} {items : List SegmentIt
         whole = k.whole ∙ (ap (λ z. k.passed ++ z) (sym parts) ∙ sym (append_assoc k.passed front back));
         at = omega (arith, total-append size_of k.passed front);
         count_is = omega (arith, length-append k.passed front);
-        items_are = told (subst Q (sym moved) (comes-on front back (subst P (sym parts) comes))) f;
+        items_are = told start (subst Q (sym moved) (comes-on front back (subst P (sym parts) comes))) f;
       }
 
   pub comes-next : (next : ℕ) (last : SegmentItem) → Some last ≡ slice_get items (length items - 1) → next + start ≡ item_end last → ComesTo o next back

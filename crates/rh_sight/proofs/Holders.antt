@@ -222,7 +222,7 @@ module _ {d : Desk} (is : IsDesk d) where
   pub stands-count : (owner : PagesOf) (o : Owner) (n : ℕ) → Stands d owner o n → count_of o (holdings d) ≡ n
   stands-count owner o n at = (among-at (holdings d) (place_among owner d) (o, n) [] (desk-apart is) at.is).1
 
-  module _ {numbers : List ℕ} (shared : IsShared (share_in numbers d) d) where
+  module _ (numbers : List ℕ) (shared : IsShared (share_in numbers d) d) where
     pub room-free : free_pages d ≤ length numbers
     room-free = omega (arith, shared.free, length-take (free_pages d) numbers)
 

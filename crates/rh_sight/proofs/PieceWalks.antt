@@ -9,7 +9,8 @@ use Rattle.rh_defs.specs.Heap.{Heap, Segment, Used, Hole, first_place, place_aft
 use Rattle.rh_defs.specs.Slot.{Flex, flex_weight, weight}
 use Rattle.rh_defs.specs.Listing.{block_items_from, segment_item, segment_items_from}
 use Rattle.rh_defs.proofs.Cuts.{total-append}
-use Rattle.rh_figure.specs.Layout.{Legend, Piece, flex_piece, flex_pieces, is_fresh_flex, segment_piece, segment_pieces}
+use Rattle.rh_figure.specs.declared.piece.Piece.{Piece}
+use Rattle.rh_figure.specs.Layout.{Legend, flex_piece, flex_pieces, is_fresh_flex, segment_piece, segment_pieces}
 use Rattle.rh_figure.specs.Scene.{Scene}
 use Rattle.rh_sight.specs.Walks.{ComesTo, item_end, item_pieces, item_weight}
 use Rattle.rh_sight.proofs.SegmentWalks.{last-ends, length-items, none-last, pieces-append}

@@ -30,10 +30,10 @@ module _ {A : Type 0} (xs : List A) (i : ℕ) where
 -- ---- the first that a test takes
 module _ {A : Type 0} (p : A → Bool) (xs : List A) (i : ℕ) (so_far : find p (drop i xs) ≡ find p xs) where
   pub find-here : (x : A) → slice_get xs i ≡ Some x → p x ≡ true → find p xs ≡ Some x
-  find-here x e yes = sym so_far ∙ rw (rest-some xs i x e, yes) refl
+  find-here x e taken = sym so_far ∙ rw (rest-some xs i x e, taken) refl
 
   pub find-on : (x : A) → slice_get xs i ≡ Some x → p x ≡ false → find p (drop (i + 1) xs) ≡ find p xs
-  find-on x e no = let k : find p (drop i xs) ≡ find p (drop (i + 1) xs) = rw (rest-some xs i x e, no) refl in sym k ∙ so_far
+  find-on x e left = let k : find p (drop i xs) ≡ find p (drop (i + 1) xs) = rw (rest-some xs i x e, left) refl in sym k ∙ so_far
 
   pub find-none : slice_get xs i ≡ None → find p xs ≡ None
   find-none e = sym so_far ∙ ap (find p) (rest-none xs i e)

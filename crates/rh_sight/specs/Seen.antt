@@ -1,6 +1,7 @@
 -- What is seen of a desk.
 use Rattle.std.specs.Prelude.{◌≡◌, ℕ, ◌+◌, List, ◌∷◌, ◌++◌, length, slice_get, slice_index, Option, Some, None, false, if◌then◌else◌, ◌==◌}
 use Rattle.std.specs.Option.{option_map}
+use Rattle.std.specs.Borrow.{Bor}
 use Rattle.rh_defs.specs.declared.listing.BlockItem.{BlockItem}
 use Rattle.rh_defs.specs.declared.message.Letter.{Letter}
 use Rattle.rh_defs.specs.Heap.{Segment, Used, Heap, place_after}
@@ -17,7 +18,7 @@ use Rattle.rh_sight.specs.declared.sight.PagesOf.{PagesOf}
 use Rattle.rh_sight.specs.declared.sight.PagesOf.TheVariants as pages
 
 -- a letter that was sent, with its ref
-abbrev pub letter_seen : (letter : _) × ℕ → Letter × ℕ
+abbrev pub letter_seen : Bor Letter × ℕ → Letter × ℕ
 letter_seen sent = (sent.0.now, sent.1)
 
 -- what is seen of a task is so

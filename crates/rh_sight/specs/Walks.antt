@@ -8,7 +8,9 @@ use Rattle.rh_defs.specs.Heap.{Segment, Heap, size_of, place_after}
 use Rattle.rh_defs.specs.Slot.{slot_start, flex_weight}
 use Rattle.rh_defs.specs.Commands.{module_start}
 use Rattle.rh_figure.specs.Scene.{Scene}
-use Rattle.rh_figure.specs.Layout.{Kind, Piece, Legend, slot_legend, module_legend, flex_piece, is_fresh_flex}
+use Rattle.rh_figure.specs.declared.piece.Kind.{Kind}
+use Rattle.rh_figure.specs.declared.piece.Piece.{Piece}
+use Rattle.rh_figure.specs.Layout.{Legend, slot_legend, module_legend, flex_piece, is_fresh_flex}
 use Rattle.rh_sight.specs.declared.sight.HeapOf.{HeapOf}
 use Rattle.rh_sight.specs.declared.sight.HeapOf.TheVariants as heap_of
 use Rattle.rh_sight.specs.declared.walk.Census.{Census}

@@ -10,8 +10,9 @@ ghost use Rattle.rh_figure.specs.Layout.{is_changed_block as is_changed_of, is_f
 ghost use Rattle.rh_sight.specs.Seen.{letter_seen};
 ghost use Rattle.rh_sight.specs.Steps.{scene_at};
 
+use crate::marks::Marks;
 use crate::step::Step;
-use rh_defs::{Anchor, BlockItem, Handle, Letter, Ref};
+use rh_defs::{Anchor, BlockItem, Handle, Ref};
 use rh_figure::limits::MOST_SLOTS;
 
 /// Whether the command has changed the flex block of a task: wrote to it, or none of that anchor and size was there
@@ -75,14 +76,14 @@ pub fn is_drawn(step: &Step<'_>, tasks: usize, handle: Handle) -> bool
     tasks <= MOST_SLOTS
         || handle == step.marks.handle
         || handle == step.marks.heap.handle
-        || is_recipient(step.marks.sent, handle)
+        || is_recipient(&step.marks, handle)
 }
 
-/// Whether the letter that was sent is for the task.
-fn is_recipient(sent: Option<(&Letter, Ref)>, handle: Handle) -> bool
-    ensures { result ≡ is_recipient_of handle (option_map letter_seen sent) }
+/// Whether the letter that the command sent is for the task.
+fn is_recipient(marks: &Marks<'_>, handle: Handle) -> bool
+    ensures { result ≡ is_recipient_of handle (option_map letter_seen marks.now.sent) }
 {
-    match sent {
+    match marks.sent {
         Some((letter, _)) => letter.to == handle,
         None => false,
     }

@@ -74,7 +74,7 @@ impl Kept {
     /// What is kept of the desk before a command, or before a bad line.
     pub fn new<S: Sight>(sight: &S, command: Option<&Command>, messages: &[MessageItem]) -> Kept
         requires { messages.now ≡ message_items (S.desk sight.now) }
-        ensures { result ≡ before_of (S.desk sight.now) (option_map (λ c. c.now) command) }
+        ensures { result ≡ before_of (S.desk sight.now) (option_map (λ c. c.now) command.entry) }
     {
         sight.spelled();
         let mut kept = Kept {
@@ -183,8 +183,8 @@ pub(crate) fn item_at(blocks: &[BlockItem], anchor: Anchor) -> Option<BlockItem>
 
 /// Where the task that a command is about stands in order of handle.
 fn task_about<S: Sight>(sight: &S, command: Option<&Command>) -> Option<usize>
-    ensures some { IfSome result (λ i. (t : Task) × (slice_get (S.desk sight.now).tasks i ≡ Some t) × (task_in (option_map (λ c. c.now) command) (S.desk sight.now) ≡ Some t)) }
-    ensures none { IfNone result (task_in (option_map (λ c. c.now) command) (S.desk sight.now) ≡ None) }
+    ensures some { IfSome result (λ i. (t : Task) × (slice_get (S.desk sight.now).tasks i ≡ Some t) × (task_in (option_map (λ c. c.now) command.entry) (S.desk sight.now) ≡ Some t)) }
+    ensures none { IfNone result (task_in (option_map (λ c. c.now) command.entry) (S.desk sight.now) ≡ None) }
 {
     task_named(sight, name_in(command?)?)
 }

@@ -1,6 +1,6 @@
 //! What a command did.
 
-ghost use Rattle.std.specs.Prelude.{◌≡◌};
+ghost use Rattle.std.specs.Prelude.{◌≡◌, ℕ, Some};
 ghost use Rattle.std.specs.Option.{option_map};
 ghost use Rattle.rh_defs.specs.Desk.{task_at};
 ghost use Rattle.rh_figure.specs.Scene.{buffer_of as buffer_of_sent, heap_mark as heap_mark_of, is_question as is_question_of, is_refusal as is_refusal_of, is_still as is_still_of, marks_for, marks_of as marks_of_desk, module_mark as module_mark_of, no_marks, put_mark as put_mark_of, sent_by as sent_by_task, taken_mark as taken_mark_of};
@@ -46,7 +46,7 @@ impl<'a> Marks<'a> {
         command: Option<&Command>,
         reply: &Reply,
     ) -> Marks<'a>
-        ensures { marks_seen result ≡ marks_of_desk (S.desk sight.now) kept.now (option_map (λ c. c.now) command) reply.now }
+        ensures { marks_seen result ≡ marks_of_desk (S.desk sight.now) kept.now (option_map (λ c. c.now) command.entry) reply.now }
     {
         match command {
             Some(command) if !is_still(Some(command), reply) => {
@@ -75,10 +75,15 @@ impl<'a> Marks<'a> {
         ensures { marks_seen result ≡ marks_for (S.desk sight.now) kept.now command.now reply.now }
     {
         let sent = sent_by(sight, kept);
+        let other = heap_mark(kept.handle(), command, reply);
+        let heap = match sent {
+            Some((letter, _)) => buffer_in(letter, other),
+            None => other,
+        };
         Marks {
             handle: kept.handle(),
             put: put_mark(command),
-            heap: buffer_of(sent, heap_mark(kept.handle(), command, reply)),
+            heap,
             module_block: module_mark(command, reply),
             sent,
             taken: taken_mark(reply),
@@ -88,7 +93,7 @@ impl<'a> Marks<'a> {
 
 /// Whether a step can't have changed the desk: a bad line, a question, a refusal.
 pub fn is_still(command: Option<&Command>, reply: &Reply) -> bool
-    ensures { result ≡ is_still_of (option_map (λ c. c.now) command) reply.now }
+    ensures { result ≡ is_still_of (option_map (λ c. c.now) command.entry) reply.now }
 {
     match command {
         None => true,
@@ -113,7 +118,9 @@ fn sent_by<'a, S: Sight>(sight: &'a S, kept: &Kept) -> Option<(&'a Letter, Ref)>
     ensures { option_map letter_seen result ≡ sent_by_task kept.now (task_at kept.now.handle (S.desk sight.now)) }
 {
     let task = sight.task(task_with(sight, kept.handle())?)?;
-    let (letter, my_ref) = task.last_sent?;
+    let Some((letter, my_ref)) = task.last_sent else {
+        return None;
+    };
     if u64::from(my_ref.0) == kept.next_ref() {
         Some((letter, my_ref))
     } else {
@@ -122,12 +129,9 @@ fn sent_by<'a, S: Sight>(sight: &'a S, kept: &Kept) -> Option<(&'a Letter, Ref)>
 }
 
 /// The block of a C heap that a letter's bytes go into, else another one.
-fn buffer_of(sent: Option<(&Letter, Ref)>, other: HeapBlock) -> HeapBlock
-    ensures { block_seen result ≡ buffer_of_sent (option_map letter_seen sent) (block_seen other) }
+fn buffer_in(letter: &Letter, other: HeapBlock) -> HeapBlock
+    ensures { (ref : ℕ) → block_seen result ≡ buffer_of_sent (Some (letter.now, ref)) (block_seen other) }
 {
-    let Some((letter, _)) = sent else {
-        return other;
-    };
     match &letter.body {
         Body::RamFetch { buffer, .. } => HeapBlock {
             handle: letter.from,

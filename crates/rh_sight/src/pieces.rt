@@ -61,7 +61,7 @@ pub fn slot_pieces<S: Sight>(
         heap: HeapOf::Task(i),
         handle: task.handle,
     };
-    push_heap(sight, step, drawn, pieces);
+    push_heap(sight, step, &drawn, pieces);
     let end = push_blocks(
         step,
         task.handle,
@@ -83,7 +83,7 @@ pub fn module_pieces<S: Sight>(sight: &S, step: &Step<'_>, pieces: &mut Pieces)
         heap: HeapOf::Module,
         handle: Handle(0),
     };
-    push_heap(sight, step, drawn, pieces);
+    push_heap(sight, step, &drawn, pieces);
 }
 
 /// A piece that no command changes.
@@ -129,12 +129,12 @@ fn push_blocks(
 }
 
 /// Appends the pieces of a heap.
-fn push_heap<S: Sight>(sight: &S, step: &Step<'_>, drawn: Drawn, pieces: &mut Pieces)
+fn push_heap<S: Sight>(sight: &S, step: &Step<'_>, drawn: &Drawn, pieces: &mut Pieces)
     requires step { IsStepOf (S.desk sight.now) step.now }
     requires few { length pieces.old.items + MOST_SEGMENTS + 3 ≤ MOST_PIECES }
-    requires heap { IsSome (heap_seen drawn.heap (S.desk sight.now)) }
-    ensures { IfSome (heap_seen drawn.heap (S.desk sight.now)) (λ h. pieces.new.items ≡ pieces.old.items
-        ++ heap_pieces (legend_of (scene_at (S.desk sight.now) step.now) drawn.heap drawn.handle) (heap_start_of drawn.heap - area_start_of drawn.heap) h) }
+    requires heap { IsSome (heap_seen drawn.now.heap (S.desk sight.now)) }
+    ensures { IfSome (heap_seen drawn.now.heap (S.desk sight.now)) (λ h. pieces.new.items ≡ pieces.old.items
+        ++ heap_pieces (legend_of (scene_at (S.desk sight.now) step.now) drawn.now.heap drawn.now.handle) (heap_start_of drawn.now.heap - area_start_of drawn.now.heap) h) }
 {
     sight.spelled();
     let at = (heap_address(drawn.heap) - area_address(drawn.heap)) as usize;
@@ -156,15 +156,15 @@ fn push_heap<S: Sight>(sight: &S, step: &Step<'_>, drawn: Drawn, pieces: &mut Pi
 fn push_segments<S: Sight>(
     sight: &S,
     step: &Step<'_>,
-    drawn: Drawn,
+    drawn: &Drawn,
     pieces: &mut Pieces,
 ) -> u32
     requires step { IsStepOf (S.desk sight.now) step.now }
     requires few { length pieces.old.items + MOST_SEGMENTS ≤ MOST_PIECES }
-    requires heap { IsSome (heap_seen drawn.heap (S.desk sight.now)) }
-    ensures pieces { IfSome (heap_seen drawn.heap (S.desk sight.now)) (λ h. pieces.new.items ≡ pieces.old.items
-        ++ segment_pieces (legend_of (scene_at (S.desk sight.now) step.now) drawn.heap drawn.handle) (heap_start_of drawn.heap - area_start_of drawn.heap + first_place) (take MOST_SEGMENTS h.segments)) }
-    ensures place { IfSome (heap_seen drawn.heap (S.desk sight.now)) (λ h. result ≡ place_after (take MOST_SEGMENTS h.segments)) }
+    requires heap { IsSome (heap_seen drawn.now.heap (S.desk sight.now)) }
+    ensures pieces { IfSome (heap_seen drawn.now.heap (S.desk sight.now)) (λ h. pieces.new.items ≡ pieces.old.items
+        ++ segment_pieces (legend_of (scene_at (S.desk sight.now) step.now) drawn.now.heap drawn.now.handle) (heap_start_of drawn.now.heap - area_start_of drawn.now.heap + first_place) (take MOST_SEGMENTS h.segments)) }
+    ensures place { IfSome (heap_seen drawn.now.heap (S.desk sight.now)) (λ h. result ≡ place_after (take MOST_SEGMENTS h.segments)) }
 {
     sight.spelled();
     let mut place = HEAP_FIRST as u32;
@@ -179,11 +179,11 @@ fn push_segments<S: Sight>(
 }
 
 /// Appends segments.
-fn push_items(step: &Step<'_>, drawn: Drawn, items: &[SegmentItem], pieces: &mut Pieces)
+fn push_items(step: &Step<'_>, drawn: &Drawn, items: &[SegmentItem], pieces: &mut Pieces)
     requires few { length pieces.old.items + length items.now ≤ MOST_PIECES }
-    requires items { (place : ℕ) × (segments : List Segment) × (items.now ≡ segment_items_from (heap_start_of drawn.heap + place) segments) }
-    ensures { (d : Desk) (place : ℕ) (segments : List Segment) → IsStepOf d step.now → items.now ≡ segment_items_from (heap_start_of drawn.heap + place) segments →
-        pieces.new.items ≡ pieces.old.items ++ segment_pieces (legend_of (scene_at d step.now) drawn.heap drawn.handle) (heap_start_of drawn.heap - area_start_of drawn.heap + place) segments }
+    requires items { (place : ℕ) × (segments : List Segment) × (items.now ≡ segment_items_from (heap_start_of drawn.now.heap + place) segments) }
+    ensures { (d : Desk) (place : ℕ) (segments : List Segment) → IsStepOf d step.now → items.now ≡ segment_items_from (heap_start_of drawn.now.heap + place) segments →
+        pieces.new.items ≡ pieces.old.items ++ segment_pieces (legend_of (scene_at d step.now) drawn.now.heap drawn.now.handle) (heap_start_of drawn.now.heap - area_start_of drawn.now.heap + place) segments }
 {
     for item in items {
         pieces.push(piece_of(step, drawn, item));
@@ -191,10 +191,10 @@ fn push_items(step: &Step<'_>, drawn: Drawn, items: &[SegmentItem], pieces: &mut
 }
 
 /// The piece of a segment.
-fn piece_of(step: &Step<'_>, drawn: Drawn, item: &SegmentItem) -> Piece
-    requires { IsInArea drawn.heap item.now }
-    ensures { (d : Desk) (place : ℕ) (segment : Segment) → IsStepOf d step.now → item.now ≡ segment_item (heap_start_of drawn.heap + place) segment →
-        result ≡ segment_piece (legend_of (scene_at d step.now) drawn.heap drawn.handle) (heap_start_of drawn.heap - area_start_of drawn.heap + place) segment }
+fn piece_of(step: &Step<'_>, drawn: &Drawn, item: &SegmentItem) -> Piece
+    requires { IsInArea drawn.now.heap item.now }
+    ensures { (d : Desk) (place : ℕ) (segment : Segment) → IsStepOf d step.now → item.now ≡ segment_item (heap_start_of drawn.now.heap + place) segment →
+        result ≡ segment_piece (legend_of (scene_at d step.now) drawn.now.heap drawn.now.handle) (heap_start_of drawn.now.heap - area_start_of drawn.now.heap + place) segment }
 {
     let start = area_address(drawn.heap);
     match item {
@@ -216,10 +216,10 @@ fn piece_of(step: &Step<'_>, drawn: Drawn, item: &SegmentItem) -> Piece
 }
 
 /// What the block of a heap at an address is, and whether the command has changed it.
-fn block_kind(step: &Step<'_>, drawn: Drawn, address: u32, size: u32) -> (Kind, bool)
-    requires { area_start_of drawn.heap ≤ address }
+fn block_kind(step: &Step<'_>, drawn: &Drawn, address: u32, size: u32) -> (Kind, bool)
+    requires { area_start_of drawn.now.heap ≤ address }
     ensures { (d : Desk) → IsStepOf d step.now →
-        result ≡ kind_and_freshness (legend_of (scene_at d step.now) drawn.heap drawn.handle) address size }
+        result ≡ kind_and_freshness (legend_of (scene_at d step.now) drawn.now.heap drawn.now.handle) address size }
 {
     match drawn.heap {
         HeapOf::Task(_) => (
