@@ -1,6 +1,7 @@
 //! The cards of a heap's blocks and holes, and of messages.
 
 ghost use Rattle.std.specs.Prelude.{◌≡◌, ◌≤◌, ◌<◌, ◌+◌, ◌-◌, ◌^◌, ◌==◌, ◌∷◌, [], ℕ, IfSome, List, find, length, Some};
+ghost use Rattle.std.specs.List.{AllByRecursion};
 ghost use Rattle.rh_defs.specs.Desk.{Desk};
 ghost use Rattle.rh_defs.specs.Heap.{Segment};
 ghost use Rattle.rh_defs.specs.Listing.{segment_item};
@@ -17,6 +18,7 @@ ghost use Rattle.rh_map.specs.Written.{shown_lines};
 ghost use Rattle.rh_sight.specs.Messages.{lies_in};
 ghost use Rattle.rh_sight.specs.Seen.{HasBlock, IsFree, heap_seen, heap_start_of};
 ghost use Rattle.rh_sight.specs.Steps.{IsStepOf, scene_at};
+ghost use Rattle.rh_sight.specs.Walks.{IsInArea};
 
 use crate::cards::{front_length, print_others, shown_count};
 use crate::usage::use_of_buffer;
@@ -108,7 +110,8 @@ fn surveyed(
     items: &[SegmentItem],
     survey: Survey,
 ) -> Survey
-    requires { survey.count + length items.now < 2 ^ 32 }
+    requires few { survey.count + length items.now < 2 ^ 32 }
+    requires items { AllByRecursion (IsInArea band.now.heap) items.now }
     ensures { (d : Desk) → IsStepOf d step.now → result ≡ with_items (is_fresh_card (scene_at d step.now) band.now) items.now survey }
 {
     let mut count = survey.count;
@@ -124,6 +127,7 @@ fn surveyed(
 
 /// Whether the command has changed the block that a segment is.
 fn is_fresh(step: &Step<'_>, band: &Band<'_>, item: &SegmentItem) -> bool
+    requires { IsInArea band.now.heap item.now }
     ensures { (d : Desk) → IsStepOf d step.now → result ≡ is_fresh_card (scene_at d step.now) band.now item.now }
 {
     let SegmentItem::Used { address, .. } = item else {

@@ -32,6 +32,7 @@ pub fn print_pool_part<S: Sight, W: Sink>(
     ensures { Puts (W.output writer.old) (W.output writer.new) result
         (shown_lines (pool_part (scene_at (S.desk sight.now) step.now))) }
 {
+    sight.spelled();
     let pool = step.pages.len();
     print_pool_heading(sight.free_pages(), pool as u32, writer)?;
     let marks = &mut lists.marks[..pool];

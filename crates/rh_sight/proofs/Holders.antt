@@ -1,7 +1,7 @@
 -- Whose pages stand where in the list of all pages: no two owners are one, so each owner's pages stand behind those of
 -- the owners before it.
 use Rattle.std.proofs.Common.{◌≡◌, ℕ, zero, suc, ◌+◌, ◌-◌, ◌<◌, ◌≤◌, Bool, true, false, refl, ap, sym, subst, ◌∙◌, arith, eq-eqb, List, [], ◌∷◌, ◌++◌, length, take, drop}
-use Rattle.std.specs.Prelude.{Option, Some, None, if◌then◌else◌, ◌==◌, slice_get, slice_index, map}
+use Rattle.std.specs.Prelude.{Option, Some, None, if◌then◌else◌, ◌==◌, slice_get, slice_index, map, IfSome, IsSome}
 use Rattle.std.specs.List.{AllByRecursion, enumerate_from}
 use Rattle.std.specs.Option.{option_map}
 use Rattle.std.proofs.Math.Seq.{take-append-add}
@@ -19,6 +19,7 @@ use Rattle.rh_sight.specs.declared.sight.PagesOf.{PagesOf}
 use Rattle.rh_sight.specs.declared.sight.PagesOf.TheVariants as pages
 use Rattle.rh_sight.specs.Owners.{made_holding, slot_holding}
 use Rattle.rh_sight.specs.Pages.{pages_among, pages_before, place_among, share_in}
+use Rattle.rh_sight.specs.Seen.{owner_seen}
 use Rattle.rh_sight.proofs.Places.{total-more}
 
 abbrev pub counted : Holding → ℕ
@@ -334,3 +335,42 @@ module _ {d : Desk} (is : IsDesk d) where
 
   pub slots-few : (i : ℕ) → total task_pages (take i d.tasks) ≤ 1024
   slots-few i = let some = total-take task_pages i d.tasks in let used = is.pages in let pool = is.pool in omega arith
+
+-- ---- the owner that is looked at
+
+pub if-some : {A : Type 0} (o : Option A) (P : A → Type 0) → ((x : A) → o ≡ Some x → P x) → IfSome o P
+if-some None P f = tt
+if-some (Some x) P f = f x refl
+
+pub some-of : {A : Type 0} (o : Option A) → IsSome o → (x : A) × (o ≡ Some x)
+some-of None s = absurd (cc)
+some-of (Some x) s = (x, refl)
+
+module _ {d : Desk} (is : IsDesk d) where
+  -- the owner at its place, with its pages
+  pub record Found (owner : PagesOf) (o : Owner) : Type 0 where
+    pub pages : ℕ
+    pub stands : Stands d owner o pages
+
+  pub found : (owner : PagesOf) (o : Owner) → owner_seen owner d ≡ Some o → Found owner o
+  found (pages.Fixed number) o e = go (slice_get d.areas number) refl e
+    where
+      go : (a : Option ℕ) → slice_get d.areas number ≡ a → option_map (λ (b : ℕ). AreaOf number) a ≡ Some o → Found (pages.Fixed number) o
+      go None q k = absurd (cc)
+      go (Some a) q k =
+          let same : AreaOf number ≡ o = cc in
+          subst (Found (pages.Fixed number)) same (record { pages = (fixed_holding d (number, a)).1; stands = stands-fixed is number a q })
+  found (pages.Made i) o e = go (slice_get d.made i) refl e
+    where
+      go : (a : Option Made) → slice_get d.made i ≡ a → option_map (λ (m : Made). AreaOf m.number) a ≡ Some o → Found (pages.Made i) o
+      go None q k = absurd (cc)
+      go (Some m) q k =
+          let same : AreaOf m.number ≡ o = cc in
+          subst (Found (pages.Made i)) same (record { pages = m.pages; stands = stands-made is i m q })
+  found (pages.Slot i) o e = go (slice_get d.tasks i) refl e
+    where
+      go : (a : Option Task) → slice_get d.tasks i ≡ a → option_map (λ (t : Task). SlotOf t.handle) a ≡ Some o → Found (pages.Slot i) o
+      go None q k = absurd (cc)
+      go (Some t) q k =
+          let same : SlotOf t.handle ≡ o = cc in
+          subst (Found (pages.Slot i)) same (record { pages = task_pages t; stands = stands-slot is i t q })

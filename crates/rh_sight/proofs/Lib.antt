@@ -4,3 +4,4 @@ pub mod Holders
 pub mod SegmentWalks
 pub mod Heaps
 pub mod PieceWalks
+pub mod Posts

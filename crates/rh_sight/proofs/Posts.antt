@@ -1,0 +1,104 @@
+-- The list of messages, and the post that it lists.
+use Rattle.std.proofs.Common.{◌≡◌, ℕ, ◌+◌, ◌<◌, ◌≤◌, Bool, true, false, refl, ap, sym, subst, ◌∙◌, arith, eq-eqb, List, [], ◌∷◌, ◌++◌, map, Option, Some, None}
+use Rattle.std.specs.Prelude.{◌==◌, ◌&&◌, IfSome, filter, find, if◌then◌else◌}
+use Rattle.std.specs.List.{AllByRecursion, flat_map}
+use Rattle.std.specs.Option.{option_map}
+use Rattle.std.proofs.lemmas.Bool.{ne_eqb, eqb-true}
+use Rattle.rh_defs.specs.Laws.{HoldsOwn, IsDesk, IsHeld, Rise, seat_handles, task_handles}
+use Rattle.rh_defs.specs.Messages.{Parcel}
+use Rattle.rh_defs.specs.Post.{Seat, held_by}
+use Rattle.rh_defs.specs.Desk.{Desk, Task}
+use Rattle.rh_figure.specs.Scene.{held_list, ref_of}
+use Rattle.rh_sight.specs.declared.sight.MessageItem.{MessageItem}
+use Rattle.rh_sight.specs.Messages.{held_on, held_ref, is_held_by, item_of, lies_in, message_items, ref_or_none, waiting_on}
+
+-- ---- the message in a block
+
+-- what is told of a message is told of the first parcel in the block
+module _ (b : ℕ) where
+  abbrev stands : Parcel → Bool
+  stands p = p.block == b
+
+  abbrev told : Option MessageItem → Option ℕ
+  told o = option_map (λ (m : MessageItem). m.my_ref) o
+
+  abbrev known : Option Parcel → Option ℕ
+  known o = option_map (λ (p : Parcel). p.message.my_ref) o
+
+  listed-part : (h : Bool) (ps : List Parcel) (ms : List MessageItem) (qs : List Parcel) → told (find (lies_in b) ms) ≡ known (find stands qs)
+      → told (find (lies_in b) (map (item_of h) ps ++ ms)) ≡ known (find stands (ps ++ qs))
+  listed-part h [] ms qs e = e
+  listed-part h (p ∷ ps) ms qs e = go (p.block == b) refl
+    where
+      go : (t : Bool) → (p.block == b) ≡ t → told (find (lies_in b) (map (item_of h) (p ∷ ps) ++ ms)) ≡ known (find stands ((p ∷ ps) ++ qs))
+      go true k = rw k refl
+      go false k = rw k (listed-part h ps ms qs e)
+
+  held-part : (h : Bool) (ps : List Parcel) → told (find (lies_in b) (map (item_of h) ps)) ≡ known (find stands ps)
+  held-part h [] = refl
+  held-part h (p ∷ ps) = go (p.block == b) refl
+    where
+      go : (t : Bool) → (p.block == b) ≡ t → told (find (lies_in b) (map (item_of h) (p ∷ ps))) ≡ known (find stands (p ∷ ps))
+      go true k = rw k refl
+      go false k = rw k (held-part h ps)
+
+  pub ref-in-block : (d : Desk) → told (find (lies_in b) (message_items d)) ≡ known (find stands (waiting_on d ++ held_on d))
+  ref-in-block d = listed-part false (waiting_on d) (map (item_of true) (held_on d)) (held_on d) (held-part true (held_on d))
+
+-- ---- what a task holds
+
+none-waits : (h : ℕ) (ps : List Parcel) (ms : List MessageItem) → find (is_held_by h) (map (item_of false) ps ++ ms) ≡ find (is_held_by h) ms
+none-waits h [] ms = refl
+none-waits h (p ∷ ps) ms = none-waits h ps ms
+
+-- seats of other handles
+abbrev Others : ℕ → List Seat → Type 0
+Others h seats = AllByRecursion (λ (s : Seat). (s.handle == h) ≡ false) seats
+
+others-above : (least next h : ℕ) (tasks : List Task) (seats : List Seat) → seat_handles seats ≡ task_handles tasks → Rise (λ (t : Task). t.handle) least next tasks → h < least → Others h seats
+others-above least next h tasks [] e r l = tt
+others-above least next h [] (s ∷ seats) e r l = absurd (cc)
+others-above least next h (t ∷ tasks) (s ∷ seats) e r l =
+    let here : s.handle ≡ t.handle = cc in
+    let rest : seat_handles seats ≡ task_handles tasks = cc in
+    let low : least ≤ t.handle = r.0 in
+    (ne_eqb s.handle h (λ q. omega arith), others-above (t.handle + 1) next h tasks seats rest r.1 (omega arith))
+
+held-other : (next h : ℕ) (seats : List Seat) → AllByRecursion (HoldsOwn next) seats → Others h seats → find (is_held_by h) (map (item_of true) (flat_map (λ (s : Seat). held_list s.holds) seats)) ≡ None
+held-other next h [] own off = refl
+held-other next h (s ∷ seats) own off = go s.holds refl own.0
+  where
+    go : (o : Option Parcel) → s.holds ≡ o → IfSome o (IsHeld next s.handle) → find (is_held_by h) (map (item_of true) (held_list o ++ flat_map (λ (x : Seat). held_list x.holds) seats)) ≡ None
+    go None q is = held-other next h seats own.1 off.1
+    go (Some p) q is =
+        let mine : (p.to == h) ≡ false = ap (λ n. n == h) is.own ∙ off.0 in
+        rw mine (held-other next h seats own.1 off.1)
+
+held-first : (least next given h : ℕ) (tasks : List Task) (seats : List Seat) → seat_handles seats ≡ task_handles tasks → Rise (λ (t : Task). t.handle) least next tasks → AllByRecursion (HoldsOwn given) seats
+    → ref_or_none (find (is_held_by h) (map (item_of true) (flat_map (λ (s : Seat). held_list s.holds) seats))) ≡ ref_of (held_by h seats)
+held-first least next given h tasks [] e r own = refl
+held-first least next given h [] (s ∷ seats) e r own = absurd (cc)
+held-first least next given h (t ∷ tasks) (s ∷ seats) e r own = go (s.handle == h) refl s.holds refl own.0
+  where
+    here : s.handle ≡ t.handle
+    here = cc
+    rest : seat_handles seats ≡ task_handles tasks
+    rest = cc
+    go : (b : Bool) → (s.handle == h) ≡ b → (o : Option Parcel) → s.holds ≡ o → IfSome o (IsHeld given s.handle)
+        → ref_or_none (find (is_held_by h) (map (item_of true) (held_list o ++ flat_map (λ (x : Seat). held_list x.holds) seats))) ≡ ref_of (if b then o else held_by h seats)
+    go true k None q is =
+        let same : s.handle ≡ h = eqb-true s.handle h k in
+        ap ref_or_none (held-other given h seats own.1 (others-above (t.handle + 1) next h tasks seats rest r.1 (omega arith)))
+    go true k (Some p) q is =
+        let mine : (p.to == h) ≡ true = ap (λ n. n == h) is.own ∙ k in
+        rw mine refl
+    go false k None q is = held-first (t.handle + 1) next given h tasks seats rest r.1 own.1
+    go false k (Some p) q is =
+        let mine : (p.to == h) ≡ false = ap (λ n. n == h) is.own ∙ k in
+        rw mine (held-first (t.handle + 1) next given h tasks seats rest r.1 own.1)
+
+-- the list has the message that a task holds
+pub held-is : (d : Desk) → IsDesk d → (h : ℕ) → held_ref h (message_items d) ≡ ref_of (held_by h d.post.seats)
+held-is d is h =
+    ap ref_or_none (none-waits h (waiting_on d) (map (item_of true) (held_on d)))
+    ∙ held-first 0 d.next_handle d.post.next_ref h d.tasks d.post.seats is.seats is.handles is.post.held
