@@ -121,10 +121,10 @@ went_wrong {S} {step} {broke} {first} {now} {old} {new} {line} {front} {bytes} {
       line = kept read;
       behind = kept_lines (behind rest n);
       whole = ap kept_lines (next_whole front bytes w.done w.begun rest n w.whole lt at)
-      ∙ (kept_lines-append (w.done ++ (read ++ 10 ∷ [])) (behind rest n)
-      ∙ (ap (λ z. kept_lines (w.done ++ (read ++ 10 ∷ [])) ++ kept_lines (z ++ behind rest n)) closed
-      ∙ (ap (λ z. z ++ kept_lines (behind rest n)) (lines_more w.done read w.closed no_feed)
-      ∙ append_assoc (kept_lines w.done) (kept read ∷ []) (kept_lines (behind rest n)))));
+          ∙ (kept_lines-append (w.done ++ (read ++ 10 ∷ [])) (behind rest n)
+          ∙ (ap (λ z. kept_lines (w.done ++ (read ++ 10 ∷ [])) ++ kept_lines (z ++ behind rest n)) closed
+          ∙ (ap (λ z. z ++ kept_lines (behind rest n)) (lines_more w.done read w.closed no_feed)
+          ∙ append_assoc (kept_lines w.done) (kept read ∷ []) (kept_lines (behind rest n)))));
       taker = now;
       written = new;
       taken = w.taken;

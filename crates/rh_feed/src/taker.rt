@@ -17,6 +17,7 @@ pub trait LineTaker: Drop {
 
     // The same of what stands behind the last line feed, which may be nothing.
     ghost took_rest: { Self → Output → List ℕ → Self → Output → Type 0 };
+
     ghost broke_rest: { Self → Output → List ℕ → Output → Type 0 };
 
     // How many more lines there is room for.

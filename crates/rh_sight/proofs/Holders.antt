@@ -203,7 +203,7 @@ module _ {d : Desk} (is : IsDesk d) where
   pub stands-fixed : (number a : ℕ) → slice_get d.areas number ≡ Some a → Stands d (pages.Fixed number) (AreaOf number) (fixed_holding d (number, a)).1
   stands-fixed number a e =
       let here : slice_get (map (fixed_holding d) (enumerate_from 0 d.areas)) number ≡ Some (fixed_holding d (number, a)) =
-          slice_get-map (fixed_holding d) (enumerate_from 0 d.areas) number ∙ ap (option_map (fixed_holding d)) (get-numbered 0 d.areas number ∙ ap (option_map (λ (b : ℕ). (0 + number, b))) e ∙ ap (λ z. Some (z, a)) (omega arith)) in
+      slice_get-map (fixed_holding d) (enumerate_from 0 d.areas) number ∙ ap (option_map (fixed_holding d)) (get-numbered 0 d.areas number ∙ ap (option_map (λ (b : ℕ). (0 + number, b))) e ∙ ap (λ z. Some (z, a)) (omega arith)) in
       record { is = get-front (fixed is ++ mades is) (slots is) number _ (get-front (fixed is) (mades is) number _ here) }
 
   long : length (fixed is) ≡ length d.areas
@@ -311,10 +311,10 @@ module _ {d : Desk} (is : IsDesk d) where
       let same : length d.areas + i ≡ length (fixed is) + i = omega (arith, fixed-long, is.areas.six) in
       let made-part : total counted (take i (mades is)) ≡ total (λ (m : Made). m.pages) (take i d.made) = ap (total counted) (take-map made_holding i d.made) ∙ total-map counted made_holding (take i d.made) in
       let whole : total counted (take (length d.areas + i) (holdings d)) ≡ total counted (fixed is) + total counted (take i (mades is)) =
-          ap (total counted) (ap (λ n. take n (holdings d)) same
-          ∙ take-append-le (length (fixed is) + i) (fixed is ++ mades is) (slots is) (omega arith)
-          ∙ take-append-add (fixed is) (mades is) i)
-          ∙ total-append counted (fixed is) (take i (mades is)) in
+      ap (total counted) (ap (λ n. take n (holdings d)) same
+      ∙ take-append-le (length (fixed is) + i) (fixed is ++ mades is) (slots is) (omega arith)
+      ∙ take-append-add (fixed is) (mades is) i)
+      ∙ total-append counted (fixed is) (take i (mades is)) in
       omega (arith, front-all)
 
   pub before-slot : (i : ℕ) → total counted (take 6 (fixed is)) + total (λ (m : Made). m.pages) d.made + total task_pages (take i d.tasks) ≡ pages_before (pages.Slot i) d
@@ -325,8 +325,8 @@ module _ {d : Desk} (is : IsDesk d) where
       let made-part : total counted (mades is) ≡ total (λ (m : Made). m.pages) d.made = total-map counted made_holding d.made in
       let slot-part : total counted (take i (slots is)) ≡ total task_pages (take i d.tasks) = ap (total counted) (take-map slot_holding i d.tasks) ∙ total-map counted slot_holding (take i d.tasks) in
       let whole : total counted (take (length d.areas + length d.made + i) (holdings d)) ≡ total counted (fixed is ++ mades is) + total counted (take i (slots is)) =
-          ap (total counted) (ap (λ n. take n (holdings d)) same ∙ take-append-add (fixed is ++ mades is) (slots is) i)
-          ∙ total-append counted (fixed is ++ mades is) (take i (slots is)) in
+      ap (total counted) (ap (λ n. take n (holdings d)) same ∙ take-append-add (fixed is ++ mades is) (slots is) i)
+      ∙ total-append counted (fixed is ++ mades is) (take i (slots is)) in
       omega (arith, front-all, total-append counted (fixed is) (mades is))
 
   -- how many pages areas and slots before have

@@ -43,7 +43,7 @@ pieces-on g off n place segments old now new at p q =
 after-add : (n : ℕ) (segments : List Segment) → place_after (take (n + 64) segments) ≡ place_after (take n segments) + total size_of (take 64 (drop n segments))
 after-add n segments =
     let more : total size_of (take (n + 64) segments) ≡ total size_of (take n segments) + total size_of (take 64 (drop n segments)) =
-        ap (total size_of) (take-add n 64 segments) ∙ total-append size_of (take n segments) (take 64 (drop n segments)) in
+    ap (total size_of) (take-add n 64 segments) ∙ total-append size_of (take n segments) (take 64 (drop n segments)) in
     omega arith
 
 -- where the last of them ends

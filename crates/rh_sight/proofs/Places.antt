@@ -11,7 +11,6 @@ past-end [] i e = omega arith
 past-end (x ∷ xs) zero e = cc
 past-end (x ∷ xs) (suc i) e = let k : length xs ≤ i = past-end xs i e in omega arith
 
-
 module _ {A : Type 0} (xs : List A) (i : ℕ) where
   pub rest-some : (x : A) → slice_get xs i ≡ Some x → drop i xs ≡ x ∷ drop (i + 1) xs
   rest-some x e =

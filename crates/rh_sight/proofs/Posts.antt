@@ -82,8 +82,10 @@ held-first least next given h (t ∷ tasks) (s ∷ seats) e r own = go (s.handle
   where
     here : s.handle ≡ t.handle
     here = cc
+
     rest : seat_handles seats ≡ task_handles tasks
     rest = cc
+
     go : (b : Bool) → (s.handle == h) ≡ b → (o : Option Parcel) → s.holds ≡ o → IfSome o (IsHeld given s.handle)
         → ref_or_none (find (is_held_by h) (map (item_of true) (held_list o ++ flat_map (λ (x : Seat). held_list x.holds) seats))) ≡ ref_of (if b then o else held_by h seats)
     go true k None q is =

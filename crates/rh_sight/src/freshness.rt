@@ -25,12 +25,7 @@ pub fn is_fresh_flex(step: &Step<'_>, handle: Handle, anchor: Anchor, size: u32)
 }
 
 /// Whether the block was written to, or none of that anchor and size was there before.
-fn is_changed_block(
-    put: Option<Anchor>,
-    before: &[BlockItem],
-    anchor: Anchor,
-    size: u32,
-) -> bool
+fn is_changed_block(put: Option<Anchor>, before: &[BlockItem], anchor: Anchor, size: u32) -> bool
     ensures { result ≡ is_changed_of put before.now anchor size }
 {
     is_put(put, anchor) || !had_block(before, anchor, size)

@@ -61,12 +61,12 @@ impl Model for Kept {
     ghost Value = { Before };
 
     ghost view = { λ s. record {
-        handle = s.handle;
-        blocks = s.blocks.items;
-        held = s.held;
-        holdings = holdings_of s.holdings.items;
-        free = s.free;
-        next_ref = s.next_ref;
+      handle = s.handle;
+      blocks = s.blocks.items;
+      held = s.held;
+      holdings = holdings_of s.holdings.items;
+      free = s.free;
+      next_ref = s.next_ref;
     } };
 }
 

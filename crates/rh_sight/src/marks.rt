@@ -117,14 +117,13 @@ fn is_refusal(reply: &Reply) -> bool
 fn sent_by<'a, S: Sight>(sight: &'a S, kept: &Kept) -> Option<(&'a Letter, Ref)>
     ensures { option_map letter_seen result ≡ sent_by_task kept.now (task_at kept.now.handle (S.desk sight.now)) }
 {
-    let task = sight.task(task_with(sight, kept.handle())?)?;
-    let Some((letter, my_ref)) = task.last_sent else {
+    let i = task_with(sight, kept.handle())?;
+    let Some(task) = sight.task(i) else {
         return None;
     };
-    if u64::from(my_ref.0) == kept.next_ref() {
-        Some((letter, my_ref))
-    } else {
-        None
+    match task.last_sent {
+        Some((letter, my_ref)) if u64::from(my_ref.0) == kept.next_ref() => Some((letter, my_ref)),
+        _ => None,
     }
 }
 
@@ -163,7 +162,8 @@ fn module_mark(command: &Command, reply: &Reply) -> u32
     ensures { result ≡ module_mark_of command.now reply.now }
 {
     match (command, reply) {
-        (Command::RmaClaim { .. } | Command::RmaResize { .. }, Reply::Block { address }) => *address,
+        (Command::RmaClaim { .. } | Command::RmaResize { .. }, Reply::Block { address }) =>
+            *address,
         _ => 0,
     }
 }

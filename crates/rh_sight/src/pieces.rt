@@ -153,12 +153,7 @@ fn push_heap<S: Sight>(sight: &S, step: &Step<'_>, drawn: &Drawn, pieces: &mut P
 
 /// Appends the segments that are drawn one by one, and answers where the last ends, in bytes from the heap's first
 /// one.
-fn push_segments<S: Sight>(
-    sight: &S,
-    step: &Step<'_>,
-    drawn: &Drawn,
-    pieces: &mut Pieces,
-) -> u32
+fn push_segments<S: Sight>(sight: &S, step: &Step<'_>, drawn: &Drawn, pieces: &mut Pieces) -> u32
     requires step { IsStepOf (S.desk sight.now) step.now }
     requires few { length pieces.old.items + MOST_SEGMENTS ≤ MOST_PIECES }
     requires heap { IsSome (heap_seen drawn.now.heap (S.desk sight.now)) }
