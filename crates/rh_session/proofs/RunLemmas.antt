@@ -1,5 +1,5 @@
 -- A run, read by read.
-use Rattle.std.proofs.Common.{◌≡◌, ℕ, ◌+◌, ◌≤◌, ◌<◌, false, Bool, ◌||◌, not, ◌==◌, List, [], ◌∷◌, ◌++◌, length, take, Option, Some, None, IfSome, append_assoc, append-nil, ◌⊎◌, inl, inr, refl, sym, ◌∙◌, ap, subst, arith, rules}
+use Rattle.std.proofs.Common.{◌≡◌, ℕ, ◌≤◌, ◌<◌, false, Bool, ◌||◌, not, ◌==◌, List, [], ◌∷◌, ◌++◌, length, take, Option, Some, None, IfSome, append_assoc, append-nil, ◌⊎◌, inl, inr, refl, sym, ◌∙◌, ap, subst, arith, rules}
 use Rattle.std.specs.Io.KnownBytes.{Consumes, Keeps, IsAtEnd}
 use Rattle.rh_defs.specs.Desk.{Desk}
 use Rattle.rh_lines.specs.Flow.{Input, Output, Takes, Breaks}
@@ -17,9 +17,6 @@ use Rattle.rh_defs.specs.Text.{fault_text}
 use Rattle.rh_defs.specs.declared.fault.LineFault.TheVariants.{TooLong}
 use Rattle.rh_defs.specs.Script.{is_bad}
 use Rattle.rh_session.specs.declared.status.Status.{Status}
-use Rattle.std.proofs.Common.{◌≢◌}
-use Rattle.rh_lines.specs.Flow.{reads_after}
-use Rattle.std.proofs.lemmas.Bool.Decides.{nat_tests}
 use Rattle.rh_session.specs.Outcome.{Answered, Finished, BrokeOff, status_of}
 use Rattle.rh_feed.proofs.LineLemmas.{is_above, split_at, still_long}
 use Rattle.rh_session.proofs.SessionLemmas.{reached, state_of-append, text_of-append}

@@ -28,19 +28,21 @@ module _ (b : ℕ) where
   listed-part : (h : Bool) (ps : List Parcel) (ms : List MessageItem) (qs : List Parcel) → told (find (lies_in b) ms) ≡ known (find stands qs)
       → told (find (lies_in b) (map (item_of h) ps ++ ms)) ≡ known (find stands (ps ++ qs))
   listed-part h [] ms qs e = e
-  listed-part h (p ∷ ps) ms qs e = go (p.block == b) refl
+  listed-part h (p ∷ ps) ms qs e = go (p.block == b) refl (listed-part h ps ms qs e)
     where
-      go : (t : Bool) → (p.block == b) ≡ t → told (find (lies_in b) (map (item_of h) (p ∷ ps) ++ ms)) ≡ known (find stands ((p ∷ ps) ++ qs))
-      go true k = rw k refl
-      go false k = rw k (listed-part h ps ms qs e)
+      go : (t : Bool) → (p.block == b) ≡ t → told (find (lies_in b) (map (item_of h) ps ++ ms)) ≡ known (find stands (ps ++ qs))
+          → told (find (lies_in b) (map (item_of h) (p ∷ ps) ++ ms)) ≡ known (find stands ((p ∷ ps) ++ qs))
+      go true k rest = rw k refl
+      go false k rest = rw k rest
 
   held-part : (h : Bool) (ps : List Parcel) → told (find (lies_in b) (map (item_of h) ps)) ≡ known (find stands ps)
   held-part h [] = refl
-  held-part h (p ∷ ps) = go (p.block == b) refl
+  held-part h (p ∷ ps) = go (p.block == b) refl (held-part h ps)
     where
-      go : (t : Bool) → (p.block == b) ≡ t → told (find (lies_in b) (map (item_of h) (p ∷ ps))) ≡ known (find stands (p ∷ ps))
-      go true k = rw k refl
-      go false k = rw k (held-part h ps)
+      go : (t : Bool) → (p.block == b) ≡ t → told (find (lies_in b) (map (item_of h) ps)) ≡ known (find stands ps)
+          → told (find (lies_in b) (map (item_of h) (p ∷ ps))) ≡ known (find stands (p ∷ ps))
+      go true k rest = rw k refl
+      go false k rest = rw k rest
 
   pub ref-in-block : (d : Desk) → told (find (lies_in b) (message_items d)) ≡ known (find stands (waiting_on d ++ held_on d))
   ref-in-block d = listed-part false (waiting_on d) (map (item_of true) (held_on d)) (held_on d) (held-part true (held_on d))
@@ -66,38 +68,37 @@ others-above least next h (t ∷ tasks) (s ∷ seats) e r l =
 
 held-other : (next h : ℕ) (seats : List Seat) → AllByRecursion (HoldsOwn next) seats → Others h seats → find (is_held_by h) (map (item_of true) (flat_map (λ (s : Seat). held_list s.holds) seats)) ≡ None
 held-other next h [] own off = refl
-held-other next h (s ∷ seats) own off = go s.holds refl own.0
+held-other next h (s ∷ seats) own off = go s.holds own.0 (held-other next h seats own.1 off.1)
   where
-    go : (o : Option Parcel) → s.holds ≡ o → IfSome o (IsHeld next s.handle) → find (is_held_by h) (map (item_of true) (held_list o ++ flat_map (λ (x : Seat). held_list x.holds) seats)) ≡ None
-    go None q is = held-other next h seats own.1 off.1
-    go (Some p) q is =
+    go : (o : Option Parcel) → IfSome o (IsHeld next s.handle) → find (is_held_by h) (map (item_of true) (flat_map (λ (x : Seat). held_list x.holds) seats)) ≡ None
+        → find (is_held_by h) (map (item_of true) (held_list o ++ flat_map (λ (x : Seat). held_list x.holds) seats)) ≡ None
+    go None is rest = rest
+    go (Some p) is rest =
         let mine : (p.to == h) ≡ false = ap (λ n. n == h) is.own ∙ off.0 in
-        rw mine (held-other next h seats own.1 off.1)
+        rw mine rest
 
 held-first : (least next given h : ℕ) (tasks : List Task) (seats : List Seat) → seat_handles seats ≡ task_handles tasks → Rise (λ (t : Task). t.handle) least next tasks → AllByRecursion (HoldsOwn given) seats
     → ref_or_none (find (is_held_by h) (map (item_of true) (flat_map (λ (s : Seat). held_list s.holds) seats))) ≡ ref_of (held_by h seats)
 held-first least next given h tasks [] e r own = refl
 held-first least next given h [] (s ∷ seats) e r own = absurd (cc)
-held-first least next given h (t ∷ tasks) (s ∷ seats) e r own = go (s.handle == h) refl s.holds refl own.0
+held-first least next given h (t ∷ tasks) (s ∷ seats) e r own =
+    let here : s.handle ≡ t.handle = cc in
+    let rest : seat_handles seats ≡ task_handles tasks = cc in
+    go here rest (s.handle == h) refl s.holds own.0 (held-first (t.handle + 1) next given h tasks seats rest r.1 own.1)
   where
-    here : s.handle ≡ t.handle
-    here = cc
-
-    rest : seat_handles seats ≡ task_handles tasks
-    rest = cc
-
-    go : (b : Bool) → (s.handle == h) ≡ b → (o : Option Parcel) → s.holds ≡ o → IfSome o (IsHeld given s.handle)
+    go : s.handle ≡ t.handle → seat_handles seats ≡ task_handles tasks → (b : Bool) → (s.handle == h) ≡ b → (o : Option Parcel) → IfSome o (IsHeld given s.handle)
+        → ref_or_none (find (is_held_by h) (map (item_of true) (flat_map (λ (x : Seat). held_list x.holds) seats))) ≡ ref_of (held_by h seats)
         → ref_or_none (find (is_held_by h) (map (item_of true) (held_list o ++ flat_map (λ (x : Seat). held_list x.holds) seats))) ≡ ref_of (if b then o else held_by h seats)
-    go true k None q is =
+    go here rest true k None is more =
         let same : s.handle ≡ h = eqb-true s.handle h k in
         ap ref_or_none (held-other given h seats own.1 (others-above (t.handle + 1) next h tasks seats rest r.1 (omega arith)))
-    go true k (Some p) q is =
+    go here rest true k (Some p) is more =
         let mine : (p.to == h) ≡ true = ap (λ n. n == h) is.own ∙ k in
         rw mine refl
-    go false k None q is = held-first (t.handle + 1) next given h tasks seats rest r.1 own.1
-    go false k (Some p) q is =
+    go here rest false k None is more = more
+    go here rest false k (Some p) is more =
         let mine : (p.to == h) ≡ false = ap (λ n. n == h) is.own ∙ k in
-        rw mine (held-first (t.handle + 1) next given h tasks seats rest r.1 own.1)
+        rw mine more
 
 -- the list has the message that a task holds
 pub held-is : (d : Desk) → IsDesk d → (h : ℕ) → held_ref h (message_items d) ≡ ref_of (held_by h d.post.seats)
