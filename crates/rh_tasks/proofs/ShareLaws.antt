@@ -31,7 +31,7 @@ emptied-other (x ∷ lists) (suc id) (suc j) ne = emptied-other lists id j (λ e
 -- a list is emptied
 times-emptied : (k : ℕ) (lists : List (List ℕ)) (id : ℕ) → times k (list_at lists id) + times_all k (set lists id []) ≡ times_all k lists
 times-emptied k [] id = refl
-times-emptied k (x ∷ lists) zero = refl
+times-emptied k (x ∷ lists) zero = omega arith
 times-emptied k (x ∷ lists) (suc id) = let rest = times-emptied k lists id in omega arith
 
 none-all : (k : ℕ) (lists : List (List ℕ)) → ((id : ℕ) → list_at lists id ≡ []) → times_all k lists ≡ 0
@@ -83,8 +83,8 @@ all-with P Q [] f all = tt
 all-with P Q (id ∷ ids) f all = ((all.0, f id all.0), all-with P Q ids f all.1)
 
 none-here : (o : Option (List ℕ)) → (IsSome o → ⊥) → length (unwrap_or o []) ≡ 0
-none-here None no = refl
-none-here (Some x) no = absurd (no refl)
+none-here None shut = refl
+none-here (Some x) shut = absurd (shut refl)
 
 no-pages : (n : ℕ) (xs : List ℕ) → 4096 * length xs ≡ n → n ≡ 0 → xs ≡ []
 no-pages n [] e z = refl

@@ -94,22 +94,18 @@ module _ {m : Memory} {seats : List Seat} {made : List MadeArea} {files : FileLi
   fixed-distinct : AreDistinct fixed
   fixed-distinct =
       let ne : (a b : ℕ) → a < b → b ≢ a = λ a b l q. absurd (omega arith) in
-      (
-        (ne 0 1 (omega arith), ne 0 2 (omega arith), ne 0 3 (omega arith), ne 0 4 (omega arith), ne 0 5 (omega arith), tt),
-        (ne 1 2 (omega arith), ne 1 3 (omega arith), ne 1 4 (omega arith), ne 1 5 (omega arith), tt),
-        (ne 2 3 (omega arith), ne 2 4 (omega arith), ne 2 5 (omega arith), tt),
-        (ne 3 4 (omega arith), ne 3 5 (omega arith), tt),
-        (ne 4 5 (omega arith), tt),
-        tt,
-        tt,
-      )
+      let four : AreDistinct (4 ∷ 5 ∷ []) = ((ne 4 5 (omega arith), tt), (tt, tt)) in
+      let three : AreDistinct (3 ∷ 4 ∷ 5 ∷ []) = ((ne 3 4 (omega arith), (ne 3 5 (omega arith), tt)), four) in
+      let two : AreDistinct (2 ∷ 3 ∷ 4 ∷ 5 ∷ []) = ((ne 2 3 (omega arith), (ne 2 4 (omega arith), (ne 2 5 (omega arith), tt))), three) in
+      let one : AreDistinct (1 ∷ 2 ∷ 3 ∷ 4 ∷ 5 ∷ []) = ((ne 1 2 (omega arith), (ne 1 3 (omega arith), (ne 1 4 (omega arith), (ne 1 5 (omega arith), tt)))), two) in
+      ((ne 0 1 (omega arith), (ne 0 2 (omega arith), (ne 0 3 (omega arith), (ne 0 4 (omega arith), (ne 0 5 (omega arith), tt))))), one)
 
   all-distinct : AreDistinct ids
   all-distinct =
       subst AreDistinct (sym (append_assoc fixed mades slots))
       (distinct-both fixed (mades ++ slots) fixed-distinct
       (distinct-both mades slots w.areas.made_apart w.areas.slots_apart (all-placed (λ id. Avoids id slots) mades (λ i id at. avoids-back slot_area mades seats w.areas.beside i id at)))
-      (low 0 (omega arith), low 1 (omega arith), low 2 (omega arith), low 3 (omega arith), low 4 (omega arith), low 5 (omega arith), tt))
+      (low 0 (omega arith), (low 1 (omega arith), (low 2 (omega arith), (low 3 (omega arith), (low 4 (omega arith), (low 5 (omega arith), tt)))))))
 
   long : length (fixed ++ mades) ≡ 6 + length made
   long = omega (arith, length-append fixed mades, length-map made made_area)
@@ -119,6 +115,7 @@ module _ {m : Memory} {seats : List Seat} {made : List MadeArea} {files : FileLi
       let f : ℕ → ℕ = λ id. length (bytes m id) in
       let made_bytes : MadeArea → ℕ = λ a. length (bytes m a.area.0) in
       let slot_bytes : Seat → List ℕ = λ s. bytes m s.slot.area.0 in
+      let behind : 6 + length (map made_bytes made) ≡ length (fixed ++ mades) = omega (arith, long, length-map made made_bytes) in
       record {
         apart = all-distinct;
         opened = all-opened;
@@ -128,7 +125,7 @@ module _ {m : Memory} {seats : List Seat} {made : List MadeArea} {files : FileLi
             ∙ ap (λ l. map f fixed ++ l) (map-append f mades slots ∙ ap (λ l. l ++ map f slots) (map-twice f made_area made)
             ∙ ap (λ l. map made_bytes made ++ l) (map-twice f slot_area seats ∙ sym (map-twice length slot_bytes seats)));
         slots =
-            ap (λ n. map (bytes m) (drop n ids)) (omega (arith, long, length-map made made_bytes))
+            ap (λ n. map (bytes m) (drop n ids)) behind
             ∙ ap (map (bytes m)) (dropped (fixed ++ mades) slots) ∙ map-twice (bytes m) slot_area seats;
         module_bytes = refl;
         free = refl;

@@ -1,10 +1,12 @@
 -- The store that a world stands on, by the areas that are open in it.
-use Rattle.std.specs.Prelude.{◌≡◌, ℕ, ◌+◌, List, ◌++◌, length, map, drop}
+use Rattle.std.specs.Prelude.{◌≡◌, ℕ, ◌+◌, ◌<◌, List, [], ◌++◌, length, map, drop, get_or}
 use Rattle.std.specs.List.{AllByRecursion}
 use Rattle.rh_defs.specs.Memory.{Memory, IsOpen, bytes, open_below}
 use Rattle.rh_defs.specs.Commands.{module_area}
+use Rattle.rh_defs.specs.Pieces.{total}
 use Rattle.rh_defs.specs.declared.sizes.TheConstants.{FIXED_AREAS, MAX_AREAS}
 use Rattle.rh_store.specs.declared.store.AreaId.{AreaId}
+use Rattle.rh_store.specs.Shares.{times}
 use Rattle.rh_tasks.specs.Shown.{Shown}
 use Rattle.rh_tasks.specs.View.{AreDistinct}
 
@@ -23,3 +25,7 @@ pub record StandsIn (m : Memory) (ids : List ℕ) (s : Shown) : Type 0 where
   pub module_bytes : bytes m module_area ≡ s.module_bytes
   pub free : m.free ≡ s.free
   pub pool : m.pages ≡ s.desk.pool
+
+-- each page of the pool is a page of one of these areas, or free, just once
+abbrev pub HaveEachPage : List (List ℕ) → List ℕ → List ℕ → ℕ → Type 0
+HaveEachPage pages free ids pool = (k : ℕ) → k < pool → total (λ id. times k (get_or pages id [])) ids + times k free ≡ 1

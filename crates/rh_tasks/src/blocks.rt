@@ -45,8 +45,8 @@ impl<S: Store> World<S> {
         })
     }
 
-    /// Writes bytes into a block, from an offset on: NoName, NoBlock, Busy, BadRange. A `put` that comes as a command has
-    /// at most 512 bytes, this any number.
+    /// Writes one or more bytes into a block, from an offset on: NoName, NoBlock, Busy, BadRange. A `put` that comes as a
+    /// command has at most 512 bytes, this any number.
     pub fn put(
         &mut self,
         name: &Name,

@@ -32,4 +32,5 @@ pub use listing::{AreaEntry, HeapSums};
 pub use scrap::ScrapFile;
 pub use seat::SentLetter;
 pub use sights::{MadeSight, TaskSight};
+pub use standing::share_law;
 pub use world::World;

@@ -197,7 +197,10 @@ impl<S: Store> World<S> {
         let Some(segment) = slot.segment(&self.store, place as usize) else {
             return Ok((sums, None));
         };
-        Ok((sums, Some(segment_item(C_HEAP_START as u32, place, segment))))
+        Ok((
+            sums,
+            Some(segment_item(C_HEAP_START as u32, place, segment)),
+        ))
     }
 
     /// Up to 64 segments of the task's C heap in order of place, from the one that begins at `place` on, in bytes from

@@ -1,10 +1,11 @@
 //! The store below the world, and whose its areas are.
 
-ghost use Rattle.std.specs.Prelude.{◌≡◌, ◌+◌, ◌≤◌, [], ◌++◌, length, map};
+ghost use Rattle.std.specs.Prelude.{◌≡◌, ℕ, ◌+◌, ◌≤◌, List, [], ◌++◌, length, map};
 ghost use Rattle.rh_defs.specs.declared.sizes.TheConstants.{MAX_AREAS};
 ghost use Rattle.rh_tasks.specs.declared.made.MadeArea.{MadeArea};
 ghost use Rattle.rh_tasks.specs.declared.seat.Seat.{Seat};
-ghost use Rattle.rh_tasks.specs.Standing.{StandsIn, numbers};
+ghost use Rattle.rh_tasks.specs.Shown.{Shown};
+ghost use Rattle.rh_tasks.specs.Standing.{HaveEachPage, StandsIn, numbers};
 ghost use Rattle.rh_tasks.specs.View.{fixed};
 
 use crate::made::MadeArea;
@@ -12,7 +13,7 @@ use crate::seat::Seat;
 use crate::world::World;
 use arrayvec::ArrayVec;
 use rh_defs::sizes::{FIXED_AREAS, MAX_AREAS};
-use rh_store::{AreaId, Store};
+use rh_store::{AreaId, Sited, Store};
 
 /// Puts areas 0 to 5 into an empty list.
 fn push_fixed(areas: &mut ArrayVec<AreaId, MAX_AREAS>)
@@ -56,4 +57,12 @@ impl<S: Store> World<S> {
         push_slots(&self.seats, areas);
         &self.store
     }
+}
+
+/// Where the pages of a store have numbers, each page of the pool is a page of one of the areas that `World::store` lists,
+/// or free, just once. Nothing is done.
+pub fn share_law<S: Sited>(store: &S)
+    ensures { (ids : List ℕ) (s : Shown) → StandsIn (S.memory store.now) ids s → HaveEachPage (S.pages_of store.now) (S.free_of store.now) ids (S.memory store.now).pages }
+{
+    let _ = store;
 }

@@ -1,7 +1,7 @@
 -- What a poll would hand out.
 use Rattle.std.proofs.Common.{◌≡◌, ◌≢◌, ℕ, ◌<◌, inl, inr, Bool, true, false, cond, eqb, List, [], ◌∷◌, ◌++◌, length, refl, sym, ap, subst, ◌∙◌, arith}
 use Rattle.std.proofs.lemmas.Bool.Decides.{eqb_tells}
-use Rattle.std.specs.Prelude.{Option, Some, None, ◌==◌}
+use Rattle.std.specs.Prelude.{Option, Some, None, ◌==◌, if◌then◌else◌}
 use Rattle.rh_defs.specs.Blocks.{poked}
 use Rattle.rh_defs.specs.Heap.{Heap, release}
 use Rattle.rh_defs.specs.Messages.{Parcel, parcel_bytes}
@@ -134,7 +134,7 @@ pub record HoldsOwn (h : ℕ) (seats : List Seat) : Type 0 where
   pub own : parcel.message.from ≡ h
 
 pub own-held : (h : ℕ) (seats : List Seat) (t : Bool) → t ≡ holds_such (is_own h) (held_by h seats) → t ≡ true → HoldsOwn h seats
-own-held h seats t e yes = go (held_by h seats) refl (sym e ∙ yes)
+own-held h seats t e holds = go (held_by h seats) refl (sym e ∙ holds)
   where
     go : (o : Option Parcel) → held_by h seats ≡ o → holds_such (is_own h) o ≡ true → HoldsOwn h seats
     go None f own = absurd cc
@@ -145,7 +145,7 @@ own-held h seats t e yes = go (held_by h seats) refl (sym e ∙ yes)
 
 -- where nothing waits and the task holds none of its own, a poll hands out nothing
 pub poll-none : (h : ℕ) (post : Post) (t : Bool) → front h post.queued ≡ None → t ≡ holds_such (is_own h) (held_by h post.seats) → t ≡ false → (post_poll h post).1 ≡ None
-poll-none h post t e own no = go (held_by h post.seats) refl (sym own ∙ no)
+poll-none h post t e own lacks = go (held_by h post.seats) refl (sym own ∙ lacks)
   where
     go : (o : Option Parcel) → held_by h post.seats ≡ o → holds_such (is_own h) o ≡ false → (post_poll h post).1 ≡ None
     go None f own = poll-nothing h post e f

@@ -181,7 +181,9 @@ fn a_message_waits<R: Abort, S: Store>(rt: &R, world: &World<S>, a: &Name, b: &N
     same(rt, code, Ok(Some(EventCode::Recorded)));
     let head = [48, 0, 0, 0, 1, 0, 0, 0, 1, 0, 0, 0, 0, 0, 0, 0, 1, 0, 0, 0];
     is_true(rt, block[..20] == head[..]);
-    let file = [5, 0, 0, 0, 0xfd, 0x0f, 0, 0, b'd', b'o', b'c', 0, 0xff, 0xff];
+    let file = [
+        5, 0, 0, 0, 0xfd, 0x0f, 0, 0, b'd', b'o', b'c', 0, 0xff, 0xff,
+    ];
     is_true(rt, block[36..50] == file[..]);
     let mut byte = [0];
     let refused = world.read_module(0x1800024, 0, &mut byte);
@@ -209,7 +211,11 @@ fn the_answer_waits<R: Abort, S: Store>(rt: &R, world: &World<S>, a: &Name, nobo
     let taking = world.task(1).map(|t| t.taking.len());
     same(rt, taking, Some(1));
     let sent = world.task(0).and_then(|t| t.last_sent);
-    same(rt, sent.map(|l| (l.letter.to, l.my_ref)), Some((Handle(2), Ref(1))));
+    same(
+        rt,
+        sent.map(|l| (l.letter.to, l.my_ref)),
+        Some((Handle(2), Ref(1))),
+    );
 }
 
 /// Reads a fresh world after some commands.

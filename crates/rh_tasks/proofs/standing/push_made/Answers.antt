@@ -1,4 +1,4 @@
-use Rattle.std.proofs.Common.{length, get_or, take, subst, sym, ap, ◌∙◌, ◌++◌, arith}
+use Rattle.std.proofs.Common.{List, [], ◌∷◌, length, get_or, ap, ◌∙◌, ◌++◌, arith}
 use Rattle.rh_tasks.specs.declared.made.MadeArea.{MadeArea}
 use Rattle.rh_tasks.proofs.StandingLaws.{filled-all, filled-few, filled-more}
 use Rattle.rh_tasks.proofs.standing.push_made.Goals as goal
@@ -8,7 +8,11 @@ push-requires c = (omega arith, filled-few (λ (a : MadeArea). a.area) c.args.ma
 
 pub loop-area-preserved : goal.loop-area-preserved
 loop-area-preserved c =
-    c.push.ensures.items ∙ filled-more (λ (a : MadeArea). a.area) c.args.made.now.items c.loop-area.area-index c.args.areas.now.items _ c.loop-area.invariant _ (omega (arith, c.loop-area-test.true, ap length c.deref-area-items.ensures.value))
+    let none : MadeArea = record { number = 0; most = 0; area = record { 0 = 0 } } in
+    let at = c.loop-area.area-index in
+    c.push.ensures.items
+    ∙ ap (λ (xs : List MadeArea). c.loop-area.areas.items ++ (get_or xs at none).area ∷ []) c.deref-area-items.ensures.value
+    ∙ filled-more (λ (a : MadeArea). a.area) c.args.made.now.items at c.args.areas.now.items _ c.loop-area.invariant none (omega (arith, c.loop-area-test.true, ap length c.deref-area-items.ensures.value))
 
 pub returns : goal.returns
 returns c = filled-all (λ (a : MadeArea). a.area) c.args.made.now.items c.loop-area.area-index c.args.areas.now.items _ c.loop-area.invariant (omega (arith, c.loop-area-test.false, ap length c.deref-area-items.ensures.value))

@@ -1,8 +1,10 @@
-use Rattle.std.proofs.Common.{ℕ, ◌∙◌, ap, length, refl, sym, arith}
+use Rattle.std.proofs.Common.{◌≡◌, ℕ, ◌∙◌, ap, length, refl, subst, sym, arith}
 use Rattle.std.proofs.lemmas.Result.{err_from_is_err_and}
-use Rattle.std.specs.Prelude.{Ok}
+use Rattle.std.specs.Prelude.{Some, None, Ok}
+use Rattle.rh_defs.specs.Blocks.{block_bytes}
 use Rattle.rh_defs.specs.Chain.{Granted}
 use Rattle.rh_defs.proofs.BytesLaws.{part-drop}
+use Rattle.rh_module.specs.Area.{heap_in}
 use Rattle.rh_module.proofs.BlockBytes.{block_within}
 use Rattle.rh_slot.proofs.EditLaws.{beyond}
 use Rattle.rh_tasks.specs.Sights.{module_shown}
@@ -20,41 +22,45 @@ returns-in_err-place g c =
 
 pub returns-in_err-size : goal.returns-in_err-size
 returns-in_err-size g c =
+    let h = heap_in (g.S.Words.memory c.self.inside.store) the_module in
     let p = err_from_is_err_and c.from_residual-in_err-size.result c.from_residual-in_err-size.ensures.1 in
-    let e = rw (c.in_ok-place.ensures.ok.0) at c.in_err-size.ensures in
-    let no = unsized-block _ _ _ e in
+    let absent = unsized-block c.in_ok-place.place h _ c.in_err-size.ensures in
+    let away = subst (λ (a : ℕ). block_bytes a h ≡ None) c.in_ok-place.ensures.ok.0 absent.0 in
     let none = rw (← c.self.view_is) at c.in_ok-place.ensures.ok.1 in
-    rw (p.1, p.2, no.1, ← c.self.view_is)
-    (if-err _ _ (module-unsized c.self.invariant.0 c.args.address none c.args.offset (length c.args.to.now) no.0) (refl, refl))
+    rw (p.1, p.2, absent.1, ← c.self.view_is)
+    (if-err _ _ (module-unsized c.self.invariant.0 c.args.address none c.args.offset (length c.args.to.now) away) (refl, refl))
 
 pub returns-then-not-fits : goal.returns-then-not-fits
 returns-then-not-fits g c =
-    let e = rw (c.in_ok-place.ensures.ok.0) at c.in_ok-size.ensures in
-    let some = sized-bytes _ _ _ e in
+    let h = heap_in (g.S.Words.memory c.self.inside.store) the_module in
+    let some = sized-bytes c.in_ok-place.place h c.in_ok-size.size c.in_ok-size.ensures in
+    let here = subst (λ (a : ℕ). block_bytes a h ≡ Some some.0) c.in_ok-place.ensures.ok.0 some.1.0 in
     let none = rw (← c.self.view_is) at c.in_ok-place.ensures.ok.1 in
     let short = beyond _ _ _ c.fits.ensures c.if-not-fits.true in
     rw (← c.self.view_is)
-    (if-err _ _ (module-short c.self.invariant.0 c.args.address none c.args.offset (length c.args.to.now) some.0 some.1.0 (omega (arith, short, some.1.1))) (refl, refl))
+    (if-err _ _ (module-short c.self.invariant.0 c.args.address none c.args.offset (length c.args.to.now) some.0 here (omega (arith, short, some.1.1))) (refl, refl))
 
 pub read_bytes-requires-clause-block : goal.read_bytes-requires-clause-block
 read_bytes-requires-clause-block g c =
-    let some = sized-bytes _ _ _ c.in_ok-size.ensures in
+    let some = sized-bytes c.in_ok-place.place (heap_in (g.S.Words.memory c.self.inside.store) the_module) c.in_ok-size.size c.in_ok-size.ensures in
     record { bytes = some.0; found = some.1.0; room = omega (arith, c.fits.ensures.0 c.if-not-fits.false, some.1.1) }
 
 pub overflow_cast-result : goal.overflow_cast-result
 overflow_cast-result g c =
-    let some = sized-bytes _ _ _ c.in_ok-size.ensures in
+    let m = g.S.Words.memory c.self.inside.store in
+    let some = sized-bytes c.in_ok-place.place (heap_in m the_module) c.in_ok-size.size c.in_ok-size.ensures in
     let is = c.self.invariant.0.areas.module_area in
-    let room = block_within (g.S.Words.memory c.self.inside.store) the_module c.in_ok-place.place c.in_ok-size.size is (record { bytes = some.0; found = some.1.0; room = omega (arith, some.1.1) }) in
+    let room = block_within m the_module c.in_ok-place.place c.in_ok-size.size is (record { bytes = some.0; found = some.1.0; room = omega (arith, some.1.1) }) in
     omega (arith, room, g.met.S.Words.small c.self.inside.store 1)
 
 pub returns : goal.returns
 returns g c =
-    let some = sized-bytes _ _ _ c.in_ok-size.ensures in
-    let e = rw (c.in_ok-place.ensures.ok.0) at some.1.0 in
+    let h = heap_in (g.S.Words.memory c.self.inside.store) the_module in
+    let some = sized-bytes c.in_ok-place.place h c.in_ok-size.size c.in_ok-size.ensures in
+    let here = subst (λ (a : ℕ). block_bytes a h ≡ Some some.0) c.in_ok-place.ensures.ok.0 some.1.0 in
     let none = rw (← c.self.view_is) at c.in_ok-place.ensures.ok.1 in
     let inside = c.fits.ensures.0 c.if-not-fits.false in
     let n = length c.args.to.now in
     rw (← c.self.view_is)
-    (if-ok _ _ (module-given c.self.invariant.0 c.args.address none c.args.offset n some.0 e (omega (arith, inside, some.1.1)))
+    (if-ok _ _ (module-given c.self.invariant.0 c.args.address none c.args.offset n some.0 here (omega (arith, inside, some.1.1)))
     (ap (λ (k : ℕ). let r : Granted ℕ = Ok k in r) (sym some.1.1), c.read_bytes.ensures some.0 some.1.0 ∙ part-drop some.0 c.args.offset n (omega (arith, inside, some.1.1))))

@@ -19,11 +19,11 @@ invariant_of-result g c =
       last_ref = c.in_ok-queue.ensures.word;
     } in
     let starts = rw q.value at q.starts _ the_module f.module_area in
-    rw (is, q.value, c.in_ok-seats.ensures.items, c.in_ok-made.ensures.items)
+    rw (is, q.value, c.in_ok-seats.ensures.items, c.in_ok-made.ensures.items, c.replace.ensures.value)
     (first-world f c.args.files.now c.args.handle c.args.r s starts, c.in_ok-seats.ensures.exact, c.in_ok-made.ensures.exact)
 
 pub returns-clause-desk : goal.returns-clause-desk
 returns-clause-desk g c =
     let n = c.first.ensures in
     let is = first-next c.first.result c.args.handle (n.handle ∙ c.handle.view_is) n.area in
-    rw (is, c.in_ok-queue.ensures.value, c.in_ok-seats.ensures.items, c.in_ok-made.ensures.items) (first-desk c.furnish.ensures c.args.files.now c.args.handle c.args.r)
+    rw (is, c.in_ok-queue.ensures.value, c.in_ok-seats.ensures.items, c.in_ok-made.ensures.items, c.replace.ensures.value) (first-desk c.furnish.ensures c.args.files.now c.args.handle c.args.r)

@@ -120,12 +120,9 @@ holds_own-requires-clause-held g c =
 
 -- whether the task holds a message of its own
 own : (g : given.Over) (c : After-index-entry g) (post : Post) (s : SpellsPost (g.S.Words.memory c.args.store.now) c.args.rma c.args.self.now post) (t : Bool)
-    → ((o : Option Parcel) → Holds (heap_in (g.S.Words.memory c.args.store.now) c.args.rma) c.index-entry.result.now.held o → t ≡ holds_such (λ (p : Parcel). p.message.from == c.index-entry.result.now.handle) o)
+    → ((o : Option Parcel) → Holds (heap_in (g.S.Words.memory c.args.store.now) c.args.rma) c.index-entry.result.now.held o → t ≡ holds_such (is_own c.args.handle) o)
     → t ≡ holds_such (is_own c.args.handle) (held_by c.args.handle post.seats)
-own g c post s t e =
-    let w = place g c in
-    e (held_by c.args.handle post.seats) (held g c post s).0
-    ∙ ap (λ h. holds_such (is_own h) (held_by c.args.handle post.seats)) (ap (λ (x : Entry). x.handle) w.2 ∙ w.1)
+own g c post s t e = e (held_by c.args.handle post.seats) (held g c post s).0
 
 pub returns-then-not-holds_own-clause-code : goal.returns-then-not-holds_own-clause-code
 returns-then-not-holds_own-clause-code g c = λ post s.

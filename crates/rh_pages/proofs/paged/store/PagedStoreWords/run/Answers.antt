@@ -1,4 +1,4 @@
-use Rattle.std.proofs.Common.{◌-◌, ◌%◌, ◌<◌, length, sym, ap, ◌∙◌, arith}
+use Rattle.std.proofs.Common.{◌-◌, ◌%◌, length, sym, ap, ◌∙◌, arith}
 use Rattle.rh_defs.proofs.BytesLaws.{part-range, length-part}
 use Rattle.rh_pages.specs.Paged.{whole_law, memory_of}
 use Rattle.rh_defs.specs.Bytes.{part}
