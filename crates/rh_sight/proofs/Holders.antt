@@ -8,7 +8,7 @@ use Rattle.std.proofs.Math.Seq.{take-append-add}
 use Rattle.std.proofs.lemmas.Bool.{ne_eqb, eqb-true}
 use Rattle.std.proofs.lemmas.List.{drop-drop, length-append, length-drop, length-map, length-take, take-append-le, take-map, take_all}
 use Rattle.std.proofs.lemmas.List.FromFn.{length-enumerate_from}
-use Rattle.std.proofs.lemmas.Option.{slice_get-get_or, slice_get-map}
+use Rattle.std.proofs.lemmas.Option.{slice_get-get_or, slice_get-map, slice_get_within}
 use Rattle.rh_defs.specs.Pieces.{total}
 use Rattle.rh_defs.specs.Commands.{module_area}
 use Rattle.rh_defs.specs.Laws.{IsDesk, Rise}
@@ -374,3 +374,34 @@ module _ {d : Desk} (is : IsDesk d) where
       go (Some t) q k =
           let same : SlotOf t.handle ≡ o = cc in
           subst (Found (pages.Slot i)) same (record { pages = task_pages t; stands = stands-slot is i t q })
+
+module _ {d : Desk} (is : IsDesk d) where
+  pub free-few : free_pages d ≤ 1024
+  free-few = let pool = is.pool in omega arith
+
+  pub made-all-few : total (λ (m : Made). m.pages) d.made ≤ 1024
+  made-all-few = let used = is.pages in let pool = is.pool in omega arith
+
+  pub slots-all-few : total task_pages d.tasks ≤ 1024
+  slots-all-few = let used = is.pages in let pool = is.pool in omega arith
+
+  pub all-made : total (λ (m : Made). m.pages) (take 32 d.made) ≡ total (λ (m : Made). m.pages) d.made
+  all-made = let few = is.made.few in ap (total (λ (m : Made). m.pages)) (take_all 32 d.made (omega arith))
+
+  pub within-fixed : (owner : PagesOf) (number : ℕ) → owner ≡ pages.Fixed number → IsSome (owner_seen owner d) → number ≤ 6
+  within-fixed owner number e s =
+      let t : IsSome (owner_seen (pages.Fixed number) d) = subst (λ o. IsSome (owner_seen o d)) e s in
+      go (slice_get d.areas number) refl t
+    where
+      go : (a : Option ℕ) → slice_get d.areas number ≡ a → IsSome (option_map (λ (b : ℕ). AreaOf number) a) → number ≤ 6
+      go None q k = absurd (cc)
+      go (Some a) q k = omega (arith, slice_get_within d.areas number a q, is.areas.six)
+
+  pub within-made : (owner : PagesOf) (i : ℕ) → owner ≡ pages.Made i → IsSome (owner_seen owner d) → i ≤ length d.made
+  within-made owner i e s =
+      let t : IsSome (owner_seen (pages.Made i) d) = subst (λ o. IsSome (owner_seen o d)) e s in
+      go (slice_get d.made i) refl t
+    where
+      go : (a : Option Made) → slice_get d.made i ≡ a → IsSome (option_map (λ (m : Made). AreaOf m.number) a) → i ≤ length d.made
+      go None q k = absurd (cc)
+      go (Some m) q k = omega (arith, slice_get_within d.made i m q)

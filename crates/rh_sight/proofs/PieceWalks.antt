@@ -12,7 +12,10 @@ use Rattle.rh_defs.proofs.Cuts.{total-append}
 use Rattle.rh_figure.specs.declared.piece.Piece.{Piece}
 use Rattle.rh_figure.specs.Layout.{Legend, flex_piece, flex_pieces, is_fresh_flex, segment_piece, segment_pieces}
 use Rattle.rh_figure.specs.Scene.{Scene}
-use Rattle.rh_sight.specs.Walks.{ComesTo, item_end, item_pieces, item_weight}
+use Rattle.rh_sight.specs.declared.sight.HeapOf.{HeapOf}
+use Rattle.rh_sight.specs.declared.sight.HeapOf.TheVariants as heap_of
+use Rattle.rh_sight.specs.Seen.{heap_start_of}
+use Rattle.rh_sight.specs.Walks.{ComesTo, IsInArea, item_end, item_pieces, item_weight}
 use Rattle.rh_sight.proofs.SegmentWalks.{last-ends, length-items, none-last, pieces-append}
 
 take-add : {A : Type 0} (n m : ℕ) (xs : List A) → take (n + m) xs ≡ take n xs ++ take m (drop n xs)
@@ -113,3 +116,19 @@ items-weight place (b ∷ blocks) = ap (λ n. weight b + n) (items-weight (place
 pub items-long : (place : ℕ) (blocks : List Flex) → length (block_items_from place blocks) ≡ length blocks
 items-long place [] = refl
 items-long place (b ∷ blocks) = ap suc (items-long (place + weight b) blocks)
+
+-- ---- items lie in their area
+
+in-area : (heap : HeapOf) (p : ℕ) (s : Segment) → IsInArea heap (segment_item (heap_start_of heap + p) s)
+in-area (heap_of.Task i) p (Used bytes) = omega arith
+in-area (heap_of.Task i) p (Hole n) = omega arith
+in-area heap_of.Module p (Used bytes) = omega arith
+in-area heap_of.Module p (Hole n) = omega arith
+
+pub item-in-area : (heap : HeapOf) (place : ℕ) (segments : List Segment) (items : List SegmentItem) (i : ℕ) (d : SegmentItem) → items ≡ segment_items_from (heap_start_of heap + place) segments → i < length items
+    → IsInArea heap (get_or items i d)
+item-in-area heap place segments items i d e inside =
+    let same : (heap_start_of heap + place) + total size_of (take i segments) ≡ heap_start_of heap + (place + total size_of (take i segments)) = omega arith in
+    subst (IsInArea heap) (sym (item-at (heap_start_of heap + place) segments items i d (Hole 0) e inside
+    ∙ ap (λ k. segment_item k (get_or segments i (Hole 0))) same))
+    (in-area heap (place + total size_of (take i segments)) (get_or segments i (Hole 0)))

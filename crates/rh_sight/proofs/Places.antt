@@ -61,3 +61,9 @@ module _ {A B : Type 0} (first : List A → B) (xs : List A) (i : ℕ) (x : A) (
 
   pub walked-to : (y : B) → first (x ∷ drop (i + 1) xs) ≡ y → y ≡ first xs
   walked-to y found = sym found ∙ here
+
+-- ---- past the end a sum stays
+pub total-past : {A : Type 0} (f : A → ℕ) (xs : List A) (i : ℕ) → slice_get xs i ≡ None → total f (take (i + 1) xs) ≡ total f (take i xs)
+total-past f xs i e =
+    let past : length xs ≤ i = past-end xs i e in
+    ap (total f) (take_all (i + 1) xs (omega arith) ∙ sym (take_all i xs past))

@@ -1,18 +1,15 @@
-use Rattle.std.proofs.Common.{rules, ◌≡◌, ◌≤◌, ◌<◌, ◌+◌, [], ◌++◌, IfNone, IfSome, length, map, slice_get, None, Some, ℕ, ◌-◌, ◌*◌, ◌/◌, ◌%◌, Bool, true, false, nat_eq, nat_lt, List, ◌∷◌, slice_index_or, slice_set, bit_and, bit_or, Fits, w8, w32, w64, Bor, MutBor}
-use Rattle.std.specs.Option.{option_map}
-use Rattle.rh_defs.specs.Desk.{Task}
-use Rattle.rh_defs.specs.declared.sizes.TheConstants.{MAX_AREAS}
-use Rattle.rh_figure.specs.Changes.{item_of}
-use Rattle.rh_figure.specs.Scene.{before_of, before_task, task_in}
-use Rattle.rh_figure.specs.Share.{count_of, holdings}
-use Rattle.rh_sight.specs.Messages.{message_items}
-use Rattle.rh_sight.specs.Owners.{holdings_of, made_holding, owner_of, slot_holding}
+use Rattle.std.proofs.Common.{◌∙◌, ap}
+use Rattle.std.proofs.lemmas.List.{map-append}
+use Rattle.rh_sight.specs.Owners.{holding_of, holdings_of, made_holding}
+use Rattle.rh_sight.proofs.Places.{filled-all, filled-more}
 use Rattle.rh_sight.proofs.kept.push_made.Goals as goal
 
--- src/kept.rt:214:5
 pub areas-preserved : goal.areas-preserved
-areas-preserved g c = ?
+areas-preserved g c =
+    ap holdings_of c.push.ensures.items
+    ∙ (map-append holding_of c.areas.list.items _
+    ∙ filled-more made_holding (g.S.Sight.desk c.args.sight.now).made c.areas.i (holdings_of c.args.list.now.items) (holdings_of c.areas.list.items) c.areas.invariant _ c.in-Some.ensures.some)
 
--- src/kept.rt:209:1
 pub returns : goal.returns
-returns g c = ?
+returns g c =
+    filled-all made_holding (g.S.Sight.desk c.args.sight.now).made c.areas.i (holdings_of c.args.list.now.items) (holdings_of c.areas.list.items) c.areas.invariant c.in_default.ensures.none

@@ -1,18 +1,23 @@
-use Rattle.std.proofs.Common.{rules, ◌≡◌, ◌≤◌, ◌<◌, ◌+◌, [], ◌++◌, IfNone, IfSome, length, map, slice_get, None, Some, ℕ, ◌-◌, ◌*◌, ◌/◌, ◌%◌, Bool, true, false, nat_eq, nat_lt, List, ◌∷◌, slice_index_or, slice_set, bit_and, bit_or, Fits, w8, w32, w64, Bor, MutBor}
-use Rattle.std.specs.Option.{option_map}
-use Rattle.rh_defs.specs.Desk.{Task}
-use Rattle.rh_defs.specs.declared.sizes.TheConstants.{MAX_AREAS}
-use Rattle.rh_figure.specs.Changes.{item_of}
-use Rattle.rh_figure.specs.Scene.{before_of, before_task, task_in}
-use Rattle.rh_figure.specs.Share.{count_of, holdings}
-use Rattle.rh_sight.specs.Messages.{message_items}
-use Rattle.rh_sight.specs.Owners.{holdings_of, made_holding, owner_of, slot_holding}
+use Rattle.std.proofs.Common.{◌≡◌, ◌∙◌, ℕ, [], ◌∷◌, ◌++◌, ap, ap₂}
+use Rattle.std.proofs.lemmas.List.{map-append}
+use Rattle.rh_defs.specs.Desk.{Task, task_pages}
+use Rattle.rh_figure.specs.Share.{Holding, SlotOf}
+use Rattle.rh_sight.specs.Owners.{holding_of, holdings_of, slot_holding}
+use Rattle.rh_sight.proofs.Places.{filled-all, filled-more}
 use Rattle.rh_sight.proofs.kept.push_slots.Goals as goal
 
--- src/kept.rt:229:5
-pub tasks-preserved : goal.tasks-preserved
-tasks-preserved g c = ?
+slot-told : (h n : ℕ) (t : Task) (x : Holding) → x ≡ (SlotOf h, n) → h ≡ t.handle → n ≡ task_pages t → x ≡ slot_holding t
+slot-told h n t x e p q = e ∙ ap₂ (λ k m. let y : Holding = (SlotOf k, m) in y) p q
 
--- src/kept.rt:224:1
+pub tasks-preserved : goal.tasks-preserved
+tasks-preserved g c =
+    let s = c.in-Some.ensures.some in
+    let same = slot-told c.in-Some.task.handle c.in-Some.task.pages s.0 (SlotOf c.in-Some.task.handle, c.in-Some.task.pages) (λ i. (SlotOf c.in-Some.task.handle, c.in-Some.task.pages)) s.2.handle s.2.pages in
+    ap holdings_of c.push.ensures.items
+    ∙ (map-append holding_of c.tasks.list.items _
+    ∙ (ap (λ (x : Holding). holdings_of c.tasks.list.items ++ x ∷ []) same
+    ∙ filled-more slot_holding (g.S.Sight.desk c.args.sight.now).tasks c.tasks.i (holdings_of c.args.list.now.items) (holdings_of c.tasks.list.items) c.tasks.invariant s.0 s.1))
+
 pub returns : goal.returns
-returns g c = ?
+returns g c =
+    filled-all slot_holding (g.S.Sight.desk c.args.sight.now).tasks c.tasks.i (holdings_of c.args.list.now.items) (holdings_of c.tasks.list.items) c.tasks.invariant c.in_default.ensures.none

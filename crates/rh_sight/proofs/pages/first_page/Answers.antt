@@ -1,34 +1,38 @@
-use Rattle.std.proofs.Common.{rules, ◌≡◌, ◌≤◌, ◌+◌, IfSome, IsSome, map, take, ℕ, ◌-◌, ◌*◌, ◌<◌, length, ◌/◌, ◌%◌, Bool, true, false, nat_eq, nat_lt, List, [], ◌∷◌, ◌++◌, slice_index_or, slice_set, bit_and, bit_or, Fits, w8, w32, w64, Bor, MutBor}
-use Rattle.std.specs.List.{enumerate_from}
-use Rattle.rh_defs.specs.Desk.{Made}
-use Rattle.rh_defs.specs.Desk.{free_pages as free_pages_on}
-use Rattle.rh_defs.specs.Desk.{task_pages}
-use Rattle.rh_defs.specs.Pieces.{total}
-use Rattle.rh_figure.specs.Share.{Holding, IsShared, count_of, fixed_holding, holdings}
-use Rattle.rh_sight.specs.Pages.{pages_before, share_in}
+use Rattle.std.proofs.Common.{◌≡◌, ◌∙◌, ◌+◌, ap, sym, arith, subst}
+use Rattle.rh_defs.specs.Desk.{free_pages}
+use Rattle.rh_sight.specs.declared.sight.PagesOf.{PagesOf}
+use Rattle.rh_sight.specs.declared.sight.PagesOf.TheVariants as pages
+use Rattle.rh_sight.specs.Pages.{pages_before}
 use Rattle.rh_sight.specs.Seen.{owner_seen}
+use Rattle.rh_sight.proofs.Holders.{all-made, before-fixed, before-made, before-slot, fixed-room, free-few, made-few, slots-few, within-fixed, within-made}
 use Rattle.rh_sight.proofs.pages.first_page.Goals as goal
 
--- src/pages.rt:64:29
 pub overflow_add-result-in-Made-2 : goal.overflow_add-result-in-Made-2
-overflow_add-result-in-Made-2 g c = ?
+overflow_add-result-in-Made-2 g c =
+    omega (arith, c.free_pages-free.ensures, c.fixed_before-in-Made.ensures, c.made_before.ensures, free-few c.spelled.ensures, fixed-room c.spelled.ensures 6 (omega arith), made-few c.spelled.ensures c.in-Made.i)
 
--- src/pages.rt:66:13
 pub overflow_add-result-in-Slot-2 : goal.overflow_add-result-in-Slot-2
-overflow_add-result-in-Slot-2 g c = ?
+overflow_add-result-in-Slot-2 g c =
+    omega (arith, c.free_pages-free.ensures, c.fixed_before-in-Slot.ensures, c.made_before-in-Slot.ensures, free-few c.spelled.ensures, fixed-room c.spelled.ensures 6 (omega arith), made-few c.spelled.ensures 32)
 
--- src/pages.rt:66:13
 pub overflow_add-result-in-Slot-3 : goal.overflow_add-result-in-Slot-3
-overflow_add-result-in-Slot-3 g c = ?
+overflow_add-result-in-Slot-3 g c =
+    omega (arith, c.free_pages-free.ensures, c.fixed_before-in-Slot.ensures, c.made_before-in-Slot.ensures, c.slots_before.ensures, free-few c.spelled.ensures, fixed-room c.spelled.ensures 6 (omega arith), made-few c.spelled.ensures 32, slots-few c.spelled.ensures c.in-Slot.i)
 
--- src/pages.rt:55:1
 pub returns-in-Fixed : goal.returns-in-Fixed
-returns-in-Fixed g c = ?
+returns-in-Fixed g c =
+    let before = before-fixed c.spelled.ensures c.in-Fixed.number (within-fixed c.spelled.ensures c.args.owner c.in-Fixed.number c.in-Fixed.is c.requires) in
+    let same = ap (λ (o : PagesOf). pages_before o (g.S.Sight.desk c.args.sight.now)) c.in-Fixed.is in
+    omega (arith, before, same, c.free_pages-free.ensures, c.fixed_before.ensures)
 
--- src/pages.rt:55:1
 pub returns-in-Made : goal.returns-in-Made
-returns-in-Made g c = ?
+returns-in-Made g c =
+    let before = before-made c.spelled.ensures c.in-Made.i (within-made c.spelled.ensures c.args.owner c.in-Made.i c.in-Made.is c.requires) in
+    let same = ap (λ (o : PagesOf). pages_before o (g.S.Sight.desk c.args.sight.now)) c.in-Made.is in
+    omega (arith, before, same, c.free_pages-free.ensures, c.fixed_before-in-Made.ensures, c.made_before.ensures)
 
--- src/pages.rt:55:1
 pub returns-in-Slot : goal.returns-in-Slot
-returns-in-Slot g c = ?
+returns-in-Slot g c =
+    let before = before-slot c.spelled.ensures c.in-Slot.i in
+    let same = ap (λ (o : PagesOf). pages_before o (g.S.Sight.desk c.args.sight.now)) c.in-Slot.is in
+    omega (arith, before, same, all-made c.spelled.ensures, c.free_pages-free.ensures, c.fixed_before-in-Slot.ensures, c.made_before-in-Slot.ensures, c.slots_before.ensures)

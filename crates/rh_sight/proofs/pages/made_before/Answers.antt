@@ -1,18 +1,23 @@
-use Rattle.std.proofs.Common.{rules, ◌≡◌, ◌≤◌, ◌+◌, IfSome, IsSome, map, take, ℕ, ◌-◌, ◌*◌, ◌<◌, length, ◌/◌, ◌%◌, Bool, true, false, nat_eq, nat_lt, List, [], ◌∷◌, ◌++◌, slice_index_or, slice_set, bit_and, bit_or, Fits, w8, w32, w64, Bor, MutBor}
-use Rattle.std.specs.List.{enumerate_from}
+use Rattle.std.proofs.Common.{◌≤◌, ◌∙◌, ap, arith}
 use Rattle.rh_defs.specs.Desk.{Made}
-use Rattle.rh_defs.specs.Desk.{free_pages as free_pages_on}
-use Rattle.rh_defs.specs.Desk.{task_pages}
-use Rattle.rh_defs.specs.Pieces.{total}
-use Rattle.rh_figure.specs.Share.{Holding, IsShared, count_of, fixed_holding, holdings}
-use Rattle.rh_sight.specs.Pages.{pages_before, share_in}
-use Rattle.rh_sight.specs.Seen.{owner_seen}
+use Rattle.rh_sight.proofs.Heaps.{total-one}
+use Rattle.rh_sight.proofs.Holders.{made-all-few, made-few}
+use Rattle.rh_sight.proofs.Places.{total-more, total-past}
 use Rattle.rh_sight.proofs.pages.made_before.Goals as goal
+use Rattle.rh_sight.proofs.pages.made_before.Goals.{in-Some, in_default}
 
--- src/pages.rt:94:13
 pub overflow_add-count : goal.overflow_add-count
-overflow_add-count g c = ?
+overflow_add-count g c =
+    let few = made-few c.spelled.ensures c.loop-i.i in
+    let all = made-all-few c.spelled.ensures in
+    let one = total-one (λ (m : Made). m.pages) (g.S.Sight.desk c.args.sight.now).made c.loop-i.i _ c.in-Some.ensures.some in
+    let so_far = c.loop-i.invariant in
+    omega arith
 
--- src/pages.rt:92:5
 pub loop-i-preserved : goal.loop-i-preserved
-loop-i-preserved g c = ?
+loop-i-preserved g c =
+    let so_far = c.loop-i.invariant in
+    elim c.match-made.branch [
+      | in-Some w ↦ omega (arith, w.count-is, total-more (λ (m : Made). m.pages) (g.S.Sight.desk c.args.sight.now).made c.loop-i.i _ w.in-Some.ensures.some)
+      | in_default w ↦ omega (arith, w.count-is, total-past (λ (m : Made). m.pages) (g.S.Sight.desk c.args.sight.now).made c.loop-i.i w.in_default.ensures.none)
+    ]

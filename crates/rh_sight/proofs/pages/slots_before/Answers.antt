@@ -1,18 +1,25 @@
-use Rattle.std.proofs.Common.{rules, ◌≡◌, ◌≤◌, ◌+◌, IfSome, IsSome, map, take, ℕ, ◌-◌, ◌*◌, ◌<◌, length, ◌/◌, ◌%◌, Bool, true, false, nat_eq, nat_lt, List, [], ◌∷◌, ◌++◌, slice_index_or, slice_set, bit_and, bit_or, Fits, w8, w32, w64, Bor, MutBor}
-use Rattle.std.specs.List.{enumerate_from}
-use Rattle.rh_defs.specs.Desk.{Made}
-use Rattle.rh_defs.specs.Desk.{free_pages as free_pages_on}
+use Rattle.std.proofs.Common.{◌≤◌, ◌∙◌, ap, arith}
 use Rattle.rh_defs.specs.Desk.{task_pages}
-use Rattle.rh_defs.specs.Pieces.{total}
-use Rattle.rh_figure.specs.Share.{Holding, IsShared, count_of, fixed_holding, holdings}
-use Rattle.rh_sight.specs.Pages.{pages_before, share_in}
-use Rattle.rh_sight.specs.Seen.{owner_seen}
+use Rattle.rh_sight.proofs.Heaps.{total-one}
+use Rattle.rh_sight.proofs.Holders.{slots-all-few, slots-few}
+use Rattle.rh_sight.proofs.Places.{total-more, total-past}
 use Rattle.rh_sight.proofs.pages.slots_before.Goals as goal
+use Rattle.rh_sight.proofs.pages.slots_before.Goals.{in-Some, in_default}
 
--- src/pages.rt:108:13
 pub overflow_add-count : goal.overflow_add-count
-overflow_add-count g c = ?
+overflow_add-count g c =
+    let s = c.in-Some.ensures.some in
+    let few = slots-few c.spelled.ensures c.loop-i.i in
+    let all = slots-all-few c.spelled.ensures in
+    let one = total-one task_pages (g.S.Sight.desk c.args.sight.now).tasks c.loop-i.i s.0 s.1 in
+    let so_far = c.loop-i.invariant in
+    let told = s.2.pages in
+    omega arith
 
--- src/pages.rt:106:5
 pub loop-i-preserved : goal.loop-i-preserved
-loop-i-preserved g c = ?
+loop-i-preserved g c =
+    let so_far = c.loop-i.invariant in
+    elim c.match-task.branch [
+      | in-Some w ↦ (let s = w.in-Some.ensures.some in omega (arith, w.count-is, s.2.pages, total-more task_pages (g.S.Sight.desk c.args.sight.now).tasks c.loop-i.i s.0 s.1))
+      | in_default w ↦ omega (arith, w.count-is, total-past task_pages (g.S.Sight.desk c.args.sight.now).tasks c.loop-i.i w.in_default.ensures.none)
+    ]

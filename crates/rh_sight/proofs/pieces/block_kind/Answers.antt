@@ -1,20 +1,5 @@
-use Rattle.std.proofs.Common.{rules, ◌≡◌, ◌≤◌, ◌<◌, ◌+◌, ◌-◌, ◌^◌, ◌++◌, ℕ, List, false, length, slice_get, take, IfSome, IsSome, Some, ◌*◌, ◌/◌, ◌%◌, Bool, true, nat_eq, nat_lt, [], ◌∷◌, slice_index_or, slice_set, bit_and, bit_or, Fits, w8, w32, w64, Bor, MutBor}
-use Rattle.rh_defs.specs.Pieces.{total}
-use Rattle.rh_defs.specs.Heap.{Segment, first_place, place_after}
-use Rattle.rh_defs.specs.Desk.{Desk, Task}
-use Rattle.rh_defs.specs.Listing.{block_items, segment_item, segment_items_from}
-use Rattle.rh_defs.specs.declared.sizes.TheConstants.{MODULE_START}
-use Rattle.rh_figure.specs.Layout.{heap_pieces, module_legend}
-use Rattle.rh_figure.specs.Layout.{module_pieces as module_pieces_of}
-use Rattle.rh_figure.specs.Layout.{segment_piece, segment_pieces}
-use Rattle.rh_figure.specs.Layout.{slot_pieces as slot_pieces_of}
-use Rattle.rh_figure.specs.declared.limits.TheConstants.{MOST_SEGMENTS}
-use Rattle.rh_sight.specs.Seen.{IsTaskSeen, heap_seen, heap_start_of}
-use Rattle.rh_sight.specs.Steps.{IsStepOf, scene_at}
-use Rattle.rh_sight.specs.Walks.{area_start_of, IsInArea, item_pieces, item_weight, kind_and_freshness, legend_of}
-use Rattle.rh_sight.specs.declared.pieces.TheConstants.{MOST_PIECES}
+use Rattle.std.proofs.Common.{sym}
 use Rattle.rh_sight.proofs.pieces.block_kind.Goals as goal
 
--- src/pieces.rt:219:1
 pub returns-in-Task : goal.returns-in-Task
-returns-in-Task c = ?
+returns-in-Task c = λ d is. rw (c.in-Task.is, c.is_fresh_block.ensures d) (λ i. _)

@@ -1,28 +1,24 @@
-use Rattle.std.proofs.Common.{rules, ◌≡◌, ◌≤◌, ◌<◌, ◌+◌, ◌-◌, ◌^◌, ◌++◌, ℕ, List, false, length, slice_get, take, IfSome, IsSome, Some, ◌*◌, ◌/◌, ◌%◌, Bool, true, nat_eq, nat_lt, [], ◌∷◌, slice_index_or, slice_set, bit_and, bit_or, Fits, w8, w32, w64, Bor, MutBor}
-use Rattle.rh_defs.specs.Pieces.{total}
-use Rattle.rh_defs.specs.Heap.{Segment, first_place, place_after}
-use Rattle.rh_defs.specs.Desk.{Desk, Task}
-use Rattle.rh_defs.specs.Listing.{block_items, segment_item, segment_items_from}
-use Rattle.rh_defs.specs.declared.sizes.TheConstants.{MODULE_START}
-use Rattle.rh_figure.specs.Layout.{heap_pieces, module_legend}
-use Rattle.rh_figure.specs.Layout.{module_pieces as module_pieces_of}
-use Rattle.rh_figure.specs.Layout.{segment_piece, segment_pieces}
-use Rattle.rh_figure.specs.Layout.{slot_pieces as slot_pieces_of}
-use Rattle.rh_figure.specs.declared.limits.TheConstants.{MOST_SEGMENTS}
-use Rattle.rh_sight.specs.Seen.{IsTaskSeen, heap_seen, heap_start_of}
-use Rattle.rh_sight.specs.Steps.{IsStepOf, scene_at}
-use Rattle.rh_sight.specs.Walks.{area_start_of, IsInArea, item_pieces, item_weight, kind_and_freshness, legend_of}
-use Rattle.rh_sight.specs.declared.pieces.TheConstants.{MOST_PIECES}
+use Rattle.std.proofs.Common.{◌≡◌, ◌∙◌, ◌+◌, ◌++◌, ◌∷◌, [], ap, sym, arith, length, ◌≤◌}
+use Rattle.std.proofs.lemmas.List.{append_assoc, take_all}
+use Rattle.rh_defs.specs.Heap.{Hole}
+use Rattle.rh_figure.specs.Layout.{segment_pieces}
+use Rattle.rh_sight.specs.Seen.{heap_start_of}
+use Rattle.rh_sight.proofs.PieceWalks.{item-at, item-in-area, piece-more}
+use Rattle.rh_sight.proofs.SegmentWalks.{length-items}
 use Rattle.rh_sight.proofs.pieces.push_items.Goals as goal
 
--- src/pieces.rt:189:21
 pub piece_of-requires : goal.piece_of-requires
-piece_of-requires c = ?
+piece_of-requires c =
+    let r = c.requires.items in
+    item-in-area c.args.drawn.now.heap r.0 r.1 c.args.items.now c.loop-item.item-index _ r.2 c.loop-item-test.true
 
--- src/pieces.rt:188:5
 pub loop-item-preserved : goal.loop-item-preserved
-loop-item-preserved c = ?
+loop-item-preserved c = record {
+  pieces = ?;
+  few = omega (arith, c.push.ensures.len, c.loop-item.invariant.few);
+}
 
--- src/pieces.rt:182:1
 pub returns : goal.returns
-returns c = ?
+returns c = λ d place segments is e.
+    let long : length segments ≤ c.loop-item.item-index = omega (arith, c.loop-item-test.false, ap length e, length-items (heap_start_of c.args.drawn.now.heap + place) segments) in
+    c.loop-item.invariant.pieces d place segments is e ∙ ap (λ z. c.args.pieces.now.items ++ segment_pieces _ _ z) (take_all c.loop-item.item-index segments long)

@@ -1,26 +1,36 @@
-use Rattle.std.proofs.Common.{rules, ◌≡◌, find, IfNone, IfSome, length, slice_get, None, Some, ℕ, ◌+◌, ◌-◌, ◌*◌, ◌<◌, ◌≤◌, ◌/◌, ◌%◌, Bool, true, false, nat_eq, nat_lt, List, [], ◌∷◌, ◌++◌, slice_index_or, slice_set, bit_and, bit_or, Fits, w8, w32, w64, Bor, MutBor}
-use Rattle.std.specs.Option.{option_map}
-use Rattle.rh_defs.specs.Desk.{Task, has_name, task_at}
-use Rattle.rh_figure.specs.Scene.{name_asked as name_asked_by}
-use Rattle.rh_figure.specs.Scene.{name_in as name_in_of}
+use Rattle.std.proofs.Common.{◌≡◌, ◌<◌, ◌≤◌, ◌∙◌, ℕ, Bool, true, false, length, ap, sym, arith}
+use Rattle.std.specs.Prelude.{◌==◌}
+use Rattle.std.proofs.lemmas.Option.{slice_get_within}
+use Rattle.rh_defs.specs.Desk.{Task}
+use Rattle.rh_sight.proofs.Places.{find-here, find-none, find-on}
 use Rattle.rh_sight.proofs.tasks.task_with.Goals as goal
 
--- src/tasks.rt:79:13
+abbrev is_with : ℕ → Task → Bool
+is_with h t = t.handle == h
+
 pub returns-then-eq-clause-some : goal.returns-then-eq-clause-some
-returns-then-eq-clause-some g c = ?
+returns-then-eq-clause-some g c =
+    let s = c.in-Some.ensures.some in
+    let taken : is_with c.args.handle s.0 ≡ true = ap (λ n. n == c.args.handle) (sym s.2.handle) ∙ (sym c.eq.ensures ∙ c.if-eq.true) in
+    (s.0, s.1, find-here (is_with c.args.handle) (g.S.Sight.desk c.args.sight.now).tasks c.tasks.i c.tasks.invariant s.0 s.1 taken)
 
--- src/tasks.rt:81:9
 pub overflow_add-i : goal.overflow_add-i
-overflow_add-i g c = ?
+overflow_add-i g c =
+    let s = c.in-Some.ensures.some in
+    let few : length (g.S.Sight.desk c.args.sight.now).tasks ≤ 32 = c.in-Some.ensures.few in
+    omega (arith, few, slice_get_within (g.S.Sight.desk c.args.sight.now).tasks c.tasks.i s.0 s.1)
 
--- src/tasks.rt:77:5
 pub tasks-smaller : goal.tasks-smaller
-tasks-smaller g c = ?
+tasks-smaller g c =
+    let s = c.in-Some.ensures.some in
+    let inside : c.tasks.i < length (g.S.Sight.desk c.args.sight.now).tasks = slice_get_within (g.S.Sight.desk c.args.sight.now).tasks c.tasks.i s.0 s.1 in
+    omega arith
 
--- src/tasks.rt:77:5
 pub tasks-preserved : goal.tasks-preserved
-tasks-preserved g c = ?
+tasks-preserved g c =
+    let s = c.in-Some.ensures.some in
+    let left : is_with c.args.handle s.0 ≡ false = ap (λ n. n == c.args.handle) (sym s.2.handle) ∙ (sym c.eq.ensures ∙ c.if-eq.false) in
+    find-on (is_with c.args.handle) (g.S.Sight.desk c.args.sight.now).tasks c.tasks.i c.tasks.invariant s.0 s.1 left
 
--- src/tasks.rt:72:1
 pub returns-clause-none : goal.returns-clause-none
-returns-clause-none g c = ?
+returns-clause-none g c = find-none (is_with c.args.handle) (g.S.Sight.desk c.args.sight.now).tasks c.tasks.i c.tasks.invariant c.in_default.ensures.none

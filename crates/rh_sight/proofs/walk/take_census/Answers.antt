@@ -1,37 +1,62 @@
-use Rattle.std.proofs.Common.{rules, ◌≡◌, ◌<◌, ◌≤◌, ◌+◌, ◌^◌, List, IsSome, ℕ, ◌-◌, ◌*◌, length, ◌/◌, ◌%◌, Bool, true, false, nat_eq, nat_lt, [], ◌∷◌, ◌++◌, slice_index_or, slice_set, bit_and, bit_or, Fits, w8, w32, w64, Bor, MutBor}
-use Rattle.rh_defs.specs.Heap.{Segment}
+use Rattle.std.proofs.Common.{◌≡◌, ◌∙◌, ◌-◌, Some, length, ap, sym, subst, arith}
+use Rattle.std.specs.Prelude.{slice_get}
+use Rattle.rh_defs.specs.declared.listing.SegmentItem.{SegmentItem}
+use Rattle.rh_sight.specs.declared.walk.Census.{Census}
 use Rattle.rh_sight.specs.Seen.{heap_seen, heap_start_of}
-use Rattle.rh_sight.specs.Walks.{ComesTo, census_of, item_end}
+use Rattle.rh_sight.specs.Walks.{census_of}
+use Rattle.rh_sight.proofs.Heaps.{census-is, comes-next, comes-parts, counted-all, counted-more, counted-none, counted-so, seen, start-small, stepped, told}
 use Rattle.rh_sight.proofs.walk.take_census.Goals as goal
 
--- src/walk.rt:51:5
 pub places-init : goal.places-init
-places-init g c = ?
+places-init g c = λ rest w. counted-none (told (heap_start_of c.args.heap) w c.segments-items.ensures)
 
--- src/walk.rt:52:9
 pub overflow_add-count : goal.overflow_add-count
-overflow_add-count g c = ?
+overflow_add-count g c =
+    let r = c.requires in
+    let k = c.places.invariant r.0 r.1 in
+    let here = c.in-Some.ensures.value ∙ ap (λ xs. slice_get xs (length xs - 1)) c.deref.ensures.0 in
+    let s = stepped r.1 k 0 c.in-Some.last.now (seen c.spelled.ensures c.args.heap r.1.heap r.1.is) here in
+    omega (arith, s.few, c.len.ensures.value)
 
--- src/walk.rt:53:9
 pub place_behind-end-requires-clause-low : goal.place_behind-end-requires-clause-low
-place_behind-end-requires-clause-low g c = ?
+place_behind-end-requires-clause-low g c =
+    let r = c.requires in
+    let k = c.places.invariant r.0 r.1 in
+    let here = c.in-Some.ensures.value ∙ ap (λ xs. slice_get xs (length xs - 1)) c.deref.ensures.0 in
+    let s = stepped r.1 k 0 c.in-Some.last.now (seen c.spelled.ensures c.args.heap r.1.heap r.1.is) here in
+    s.low
 
--- src/walk.rt:53:9
 pub place_behind-end-requires-clause-small : goal.place_behind-end-requires-clause-small
-place_behind-end-requires-clause-small g c = ?
+place_behind-end-requires-clause-small g c =
+    let r = c.requires in
+    let k = c.places.invariant r.0 r.1 in
+    let here = c.in-Some.ensures.value ∙ ap (λ xs. slice_get xs (length xs - 1)) c.deref.ensures.0 in
+    let s = stepped r.1 k 0 c.in-Some.last.now (seen c.spelled.ensures c.args.heap r.1.heap r.1.is) here in
+    omega (arith, s.small, start-small c.args.heap)
 
--- src/walk.rt:54:17
 pub segments-items-requires-in-Some : goal.segments-items-requires-in-Some
-segments-items-requires-in-Some g c = ?
+segments-items-requires-in-Some g c =
+    let r = c.requires in
+    let k = c.places.invariant r.0 r.1 in
+    let here = c.in-Some.ensures.value ∙ ap (λ xs. slice_get xs (length xs - 1)) c.deref.ensures.0 in
+    comes-parts (comes-next r.1 k c.place_behind-end.result c.in-Some.last.now here c.place_behind-end.ensures)
 
--- src/walk.rt:51:5
 pub places-smaller : goal.places-smaller
-places-smaller g c = ?
+places-smaller g c =
+    let r = c.requires in
+    let k = c.places.invariant r.0 r.1 in
+    let here = c.in-Some.ensures.value ∙ ap (λ xs. slice_get xs (length xs - 1)) c.deref.ensures.0 in
+    let s = stepped r.1 k c.place_behind-end.result c.in-Some.last.now (seen c.spelled.ensures c.args.heap r.1.heap r.1.is) here in
+    omega (arith, s.goes c.place_behind-end.ensures, s.within c.place_behind-end.ensures)
 
--- src/walk.rt:51:5
 pub places-preserved : goal.places-preserved
-places-preserved g c = ?
+places-preserved g c = λ rest w.
+    let k = c.places.invariant rest w in
+    let here = c.in-Some.ensures.value ∙ ap (λ xs. slice_get xs (length xs - 1)) c.deref.ensures.0 in
+    counted-so (counted-more w k c.place_behind-end.result c.in-Some.last.now c.segments-items-in-Some.result.items here c.place_behind-end.ensures c.segments-items-in-Some.ensures) c.len.ensures.value
 
--- src/walk.rt:43:1
 pub returns : goal.returns
-returns g c = ?
+returns g c = λ rest w.
+    let k = c.places.invariant rest w in
+    let none = c.in_default.ensures.value ∙ ap (λ xs. slice_get xs (length xs - 1)) c.deref.ensures.0 in
+    census-is (counted-all w k none)

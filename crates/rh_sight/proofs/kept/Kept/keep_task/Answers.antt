@@ -1,14 +1,23 @@
-use Rattle.std.proofs.Common.{rules, ◌≡◌, ◌≤◌, ◌<◌, ◌+◌, [], ◌++◌, IfNone, IfSome, length, map, slice_get, None, Some, ℕ, ◌-◌, ◌*◌, ◌/◌, ◌%◌, Bool, true, false, nat_eq, nat_lt, List, ◌∷◌, slice_index_or, slice_set, bit_and, bit_or, Fits, w8, w32, w64, Bor, MutBor}
-use Rattle.std.specs.Option.{option_map}
-use Rattle.rh_defs.specs.Desk.{Task}
-use Rattle.rh_defs.specs.declared.sizes.TheConstants.{MAX_AREAS}
-use Rattle.rh_figure.specs.Changes.{item_of}
-use Rattle.rh_figure.specs.Scene.{before_of, before_task, task_in}
-use Rattle.rh_figure.specs.Share.{count_of, holdings}
-use Rattle.rh_sight.specs.Messages.{message_items}
-use Rattle.rh_sight.specs.Owners.{holdings_of, made_holding, owner_of, slot_holding}
+use Rattle.std.proofs.Common.{◌≡◌, ◌∙◌, ℕ, List, Some, ap}
+use Rattle.rh_defs.specs.declared.listing.BlockItem.{BlockItem}
+use Rattle.rh_defs.specs.Desk.{Desk, Task, free_pages, next_ref}
+use Rattle.rh_defs.specs.Listing.{block_items}
+use Rattle.rh_defs.specs.Post.{held_by}
+use Rattle.rh_figure.specs.Scene.{Before, before_task, ref_of}
+use Rattle.rh_figure.specs.Share.{holdings}
+use Rattle.rh_sight.specs.Messages.{held_ref}
+use Rattle.rh_sight.proofs.Posts.{held-is}
 use Rattle.rh_sight.proofs.kept.Kept.keep_task.Goals as goal
 
--- src/kept.rt:96:5
+-- the same, where a task is kept
+with-task : (d : Desk) (t : Task) (a b : Before) → a.holdings ≡ holdings d → a.free ≡ free_pages d → a.next_ref ≡ next_ref d
+    → b.handle ≡ t.handle → b.blocks ≡ block_items t.slot → b.held ≡ ref_of (held_by t.handle d.post.seats)
+    → b.holdings ≡ a.holdings → b.free ≡ a.free → b.next_ref ≡ a.next_ref → b ≡ before_task d (Some t)
+with-task d t a b p q r h k m x y z =
+    let x1 : b.holdings ≡ holdings d = x ∙ p in
+    let y1 : b.free ≡ free_pages d = y ∙ q in
+    let z1 : b.next_ref ≡ next_ref d = z ∙ r in
+    cc
+
 pub returns-in-Some : goal.returns-in-Some
-returns-in-Some g c = ?
+returns-in-Some g c = λ t e. ?
