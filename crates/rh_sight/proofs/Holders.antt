@@ -6,9 +6,9 @@ use Rattle.std.specs.List.{AllByRecursion, enumerate_from}
 use Rattle.std.specs.Option.{option_map}
 use Rattle.std.proofs.Math.Seq.{take-append-add}
 use Rattle.std.proofs.lemmas.Bool.{ne_eqb, eqb-true}
-use Rattle.std.proofs.lemmas.List.{drop-drop, length-append, length-drop, length-map, length-take, take-append-le, take-map, take_all}
+use Rattle.std.proofs.lemmas.List.{drop-drop, length-append, length-drop, length-map, length-take, take-append-le, take-map, take_all, take_rest}
 use Rattle.std.proofs.lemmas.List.FromFn.{length-enumerate_from}
-use Rattle.std.proofs.lemmas.Option.{slice_get-get_or, slice_get-map, slice_get_within}
+use Rattle.std.proofs.lemmas.Option.{get_or_from_slice_get, slice_get-get_or, slice_get-map, slice_get_within}
 use Rattle.rh_defs.specs.Pieces.{total}
 use Rattle.rh_defs.specs.Commands.{module_area}
 use Rattle.rh_defs.specs.Laws.{IsDesk, Rise}
@@ -405,3 +405,67 @@ module _ {d : Desk} (is : IsDesk d) where
       go : (a : Option Made) → slice_get d.made i ≡ a → IsSome (option_map (λ (m : Made). AreaOf m.number) a) → i ≤ length d.made
       go None q k = absurd (cc)
       go (Some m) q k = omega (arith, slice_get_within d.made i m q)
+
+pub at-some : {A : Type 0} (o : Option A) (P : A → Type 0) (x : A) → o ≡ Some x → IfSome o P → P x
+at-some o P x e h = let Q : Option A → Type 0 = λ z. IfSome z P in subst Q e h
+
+module _ {d : Desk} (is : IsDesk d) where
+  pub before-few : (owner : PagesOf) → pages_before owner d ≤ 1024
+  before-few owner = let some = total-take counted (place_among owner d) (holdings d) in omega (arith, holdings-few is)
+
+  -- where an owner's pages begin and end in the list
+  pub room-of : (numbers : List ℕ) (owner : PagesOf) (o : Owner) → IsShared (share_in numbers d) d → owner_seen owner d ≡ Some o → free_pages d + pages_before owner d + count_of o (holdings d) ≤ length numbers
+  room-of numbers owner o shared e =
+      let f = found is owner o e in
+      omega (arith, stands-room is numbers shared owner o f.pages f.stands, stands-count is owner o f.pages f.stands)
+
+  pub pages-are : (numbers : List ℕ) (owner : PagesOf) (o : Owner) (first count : ℕ) → IsShared (share_in numbers d) d → owner_seen owner d ≡ Some o
+      → first ≡ free_pages d + pages_before owner d → count ≡ count_of o (holdings d)
+      → take count (take (length numbers - first) (drop first numbers)) ≡ (share_in numbers d).pages_of o
+  pages-are numbers owner o first count shared e p q =
+      let f = found is owner o e in
+      ap (take count) (take_rest numbers first)
+      ∙ (ap (λ n. take count (drop n numbers)) p
+      ∙ (ap (λ n. take n (drop (free_pages d + pages_before owner d) numbers)) (q ∙ stands-count is owner o f.pages f.stands)
+      ∙ stands-pages is numbers shared owner o f.pages f.stands))
+
+  -- how many pages an owner has, as its area or slot tells
+  pub count-fixed : (owner : PagesOf) (o : Owner) (number n : ℕ) → owner ≡ pages.Fixed number → owner_seen owner d ≡ Some o
+      → n ≡ (if number == module_area then module_pages d else slice_index d.areas number) → n ≡ count_of o (holdings d)
+  count-fixed owner o number n k e told =
+      let t : owner_seen (pages.Fixed number) d ≡ Some o = subst (λ z. owner_seen z d ≡ Some o) k e in
+      go (slice_get d.areas number) refl t
+    where
+      go : (a : Option ℕ) → slice_get d.areas number ≡ a → option_map (λ (b : ℕ). AreaOf number) a ≡ Some o → n ≡ count_of o (holdings d)
+      go None q t = absurd (cc)
+      go (Some a) q t =
+          let same : AreaOf number ≡ o = cc in
+          let is_a : slice_index d.areas number ≡ a = get_or_from_slice_get d.areas number a 0 q in
+          told ∙ (ap (λ m. if number == module_area then module_pages d else m) is_a
+          ∙ sym (ap (λ z. count_of z (holdings d)) (sym same) ∙ stands-count is (pages.Fixed number) (AreaOf number) _ (stands-fixed is number a q)))
+
+  pub count-made : (owner : PagesOf) (o : Owner) (i : ℕ) (m : Made) → owner ≡ pages.Made i → owner_seen owner d ≡ Some o → slice_get d.made i ≡ Some m → m.pages ≡ count_of o (holdings d)
+  count-made owner o i m k e q =
+      let t : owner_seen (pages.Made i) d ≡ Some o = subst (λ z. owner_seen z d ≡ Some o) k e in
+      let u : option_map (λ (x : Made). AreaOf x.number) (Some m) ≡ Some o = subst (λ z. option_map (λ (x : Made). AreaOf x.number) z ≡ Some o) q t in
+      let same : AreaOf m.number ≡ o = cc in
+      sym (ap (λ z. count_of z (holdings d)) (sym same) ∙ stands-count is (pages.Made i) (AreaOf m.number) m.pages (stands-made is i m q))
+
+  pub none-made : (owner : PagesOf) (o : Owner) (i : ℕ) → owner ≡ pages.Made i → owner_seen owner d ≡ Some o → slice_get d.made i ≡ None → ⊥
+  none-made owner o i k e q =
+      let t : owner_seen (pages.Made i) d ≡ Some o = subst (λ z. owner_seen z d ≡ Some o) k e in
+      let u : option_map (λ (x : Made). AreaOf x.number) None ≡ Some o = subst (λ z. option_map (λ (x : Made). AreaOf x.number) z ≡ Some o) q t in
+      cc
+
+  pub count-slot : (owner : PagesOf) (o : Owner) (i : ℕ) (t : Task) → owner ≡ pages.Slot i → owner_seen owner d ≡ Some o → slice_get d.tasks i ≡ Some t → task_pages t ≡ count_of o (holdings d)
+  count-slot owner o i t k e q =
+      let r : owner_seen (pages.Slot i) d ≡ Some o = subst (λ z. owner_seen z d ≡ Some o) k e in
+      let u : option_map (λ (x : Task). SlotOf x.handle) (Some t) ≡ Some o = subst (λ z. option_map (λ (x : Task). SlotOf x.handle) z ≡ Some o) q r in
+      let same : SlotOf t.handle ≡ o = cc in
+      sym (ap (λ z. count_of z (holdings d)) (sym same) ∙ stands-count is (pages.Slot i) (SlotOf t.handle) (task_pages t) (stands-slot is i t q))
+
+  pub none-slot : (owner : PagesOf) (o : Owner) (i : ℕ) → owner ≡ pages.Slot i → owner_seen owner d ≡ Some o → slice_get d.tasks i ≡ None → ⊥
+  none-slot owner o i k e q =
+      let t : owner_seen (pages.Slot i) d ≡ Some o = subst (λ z. owner_seen z d ≡ Some o) k e in
+      let u : option_map (λ (x : Task). SlotOf x.handle) None ≡ Some o = subst (λ z. option_map (λ (x : Task). SlotOf x.handle) z ≡ Some o) q t in
+      cc

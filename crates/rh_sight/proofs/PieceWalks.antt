@@ -1,5 +1,5 @@
 -- The pieces of segments and of flex blocks, some at a time.
-use Rattle.std.proofs.Common.{◌≡◌, ℕ, zero, suc, ◌+◌, ◌-◌, ◌*◌, ◌<◌, ◌≤◌, refl, ap, sym, subst, ◌∙◌, arith, List, [], ◌∷◌, ◌++◌, length, take, drop, get_or, Option, Some, None}
+use Rattle.std.proofs.Common.{◌≡◌, ℕ, zero, suc, ◌+◌, ◌-◌, ◌*◌, ◌<◌, ◌≤◌, Bool, refl, ap, sym, subst, ◌∙◌, arith, List, [], ◌∷◌, ◌++◌, length, take, drop, get_or, Option, Some, None}
 use Rattle.std.specs.Prelude.{slice_get, IfSome}
 use Rattle.std.proofs.lemmas.List.{append_assoc, append-nil, drop-take, drop_all, drop_more, length-append, length-take, take-append-drop, take-take, take_more}
 use Rattle.rh_defs.specs.declared.listing.BlockItem.{BlockItem}
@@ -9,6 +9,7 @@ use Rattle.rh_defs.specs.Heap.{Heap, Segment, Used, Hole, first_place, place_aft
 use Rattle.rh_defs.specs.Slot.{Flex, flex_weight, weight}
 use Rattle.rh_defs.specs.Listing.{block_items_from, segment_item, segment_items_from}
 use Rattle.rh_defs.proofs.Cuts.{total-append}
+use Rattle.rh_figure.specs.declared.piece.Kind.TheVariants.{FlexBlock}
 use Rattle.rh_figure.specs.declared.piece.Piece.{Piece}
 use Rattle.rh_figure.specs.Layout.{Legend, flex_piece, flex_pieces, is_fresh_flex, segment_piece, segment_pieces}
 use Rattle.rh_figure.specs.Scene.{Scene}
@@ -16,7 +17,9 @@ use Rattle.rh_sight.specs.declared.sight.HeapOf.{HeapOf}
 use Rattle.rh_sight.specs.declared.sight.HeapOf.TheVariants as heap_of
 use Rattle.rh_sight.specs.Seen.{heap_start_of}
 use Rattle.rh_sight.specs.Walks.{ComesTo, IsInArea, item_end, item_pieces, item_weight}
-use Rattle.rh_sight.proofs.SegmentWalks.{last-ends, length-items, none-last, pieces-append}
+use Rattle.rh_sight.proofs.Heaps.{IsSeen}
+use Rattle.rh_sight.proofs.Holders.{total-take}
+use Rattle.rh_sight.proofs.SegmentWalks.{last-ends, length-items, none-last, pieces-append, take-items}
 
 take-add : {A : Type 0} (n m : ℕ) (xs : List A) → take (n + m) xs ≡ take n xs ++ take m (drop n xs)
 take-add n m xs =
@@ -103,6 +106,10 @@ pub weights-more : (i : ℕ) (blocks : List BlockItem) (b : BlockItem) → i < l
     → total item_weight (drop i blocks) ≡ item_weight b + total item_weight (drop (i + 1) blocks)
 weights-more i blocks b l e = ap (total item_weight) (drop_more blocks i b l ∙ ap (λ z. z ∷ drop (i + 1) blocks) (sym e))
 
+pub block-piece : (x : Scene) (h end : ℕ) (b : BlockItem) (k n w : ℕ) (f : Bool) (p : Piece) → p ≡ record { kind = FlexBlock k n; at = end; size = w; fresh = f }
+    → k ≡ b.anchor → n ≡ b.size → w ≡ flex_weight b.size → f ≡ is_fresh_flex x h b.anchor b.size → p ≡ flex_piece end b.anchor b.size (is_fresh_flex x h b.anchor b.size)
+block-piece x h end b k n w f p e a c d g = cc
+
 -- the pieces of blocks as they are listed are the scene's
 pub items-pieces : (x : Scene) (h place at : ℕ) (blocks : List Flex) → item_pieces x h at (block_items_from place blocks) ≡ flex_pieces x h at blocks
 items-pieces x h place at [] = refl
@@ -116,6 +123,41 @@ items-weight place (b ∷ blocks) = ap (λ n. weight b + n) (items-weight (place
 pub items-long : (place : ℕ) (blocks : List Flex) → length (block_items_from place blocks) ≡ length blocks
 items-long place [] = refl
 items-long place (b ∷ blocks) = ap suc (items-long (place + weight b) blocks)
+
+-- ---- a turn of 64 segments
+
+module _ {o : Option Heap} (h : Heap) (e : o ≡ Some h) where
+  at-heap : (P : Heap → Type 0) → IfSome o P → P h
+  at-heap P f = let Q : Option Heap → Type 0 = λ z. IfSome z P in subst Q e f
+
+  pub for-heap : (P : Heap → Type 0) → P h → IfSome o P
+  for-heap P f = let Q : Option Heap → Type 0 = λ z. IfSome z P in subst Q (sym e) f
+
+  -- the items that are told there
+  pub turn-items : (start n place : ℕ) (items : List SegmentItem) → IfSome o (λ k. place ≡ place_after (take n k.segments))
+      → IfSome o (λ k. (below : List Segment) (rest : List Segment) → k.segments ≡ below ++ rest → place ≡ place_after below → items ≡ take 64 (segment_items_from (start + place) rest))
+      → items ≡ segment_items_from (start + place) (take 64 (drop n h.segments))
+  turn-items start n place items at f =
+      let here : place ≡ place_after (take n h.segments) = at-heap (λ k. place ≡ place_after (take n k.segments)) at in
+      let told = at-heap (λ k. (below : List Segment) (rest : List Segment) → k.segments ≡ below ++ rest → place ≡ place_after below → items ≡ take 64 (segment_items_from (start + place) rest)) f in
+      told (take n h.segments) (drop n h.segments) (sym (take-append-drop n h.segments)) here ∙ take-items 64 (start + place) (drop n h.segments)
+
+  pub turn-place : (n place : ℕ) → IfSome o (λ k. place ≡ place_after (take n k.segments)) → place ≡ place_after (take n h.segments)
+  turn-place n place at = at-heap (λ k. place ≡ place_after (take n k.segments)) at
+
+-- where the last of them ends
+pub turn-ends : (start n place : ℕ) (h : Heap) (items : List SegmentItem) (last : SegmentItem) → place ≡ place_after (take n h.segments)
+    → items ≡ segment_items_from (start + place) (take 64 (drop n h.segments)) → Some last ≡ slice_get items (length items - 1) → IsSeen h
+    → (start ≤ item_end last) × (item_end last ≤ start + 4194304)
+turn-ends start n place h items last at e l s =
+    let front = take 64 (drop n h.segments) in
+    let here : Some last ≡ slice_get (segment_items_from (start + place) front) (length (segment_items_from (start + place) front) - 1) = l ∙ ap (λ xs. slice_get xs (length xs - 1)) e in
+    let ends : item_end last ≡ (start + place) + total size_of front = last-ends (start + place) front last here in
+    let after = after-add n h.segments in
+    let some = total-take size_of (n + 64) h.segments in
+    let fits = s.is.fits in
+    let few = s.few in
+    (omega arith, omega arith)
 
 -- ---- items lie in their area
 

@@ -8,7 +8,9 @@ use Rattle.rh_defs.specs.Laws.{HoldsOwn, IsDesk, IsHeld, Rise, seat_handles, tas
 use Rattle.rh_defs.specs.Messages.{Parcel}
 use Rattle.rh_defs.specs.Post.{Seat, held_by}
 use Rattle.rh_defs.specs.Desk.{Desk, Task}
-use Rattle.rh_figure.specs.Scene.{held_list, ref_of}
+use Rattle.rh_figure.specs.declared.piece.Kind.TheVariants.{Claimed, Posted}
+use Rattle.rh_figure.specs.Layout.{is_new_message, posted_or}
+use Rattle.rh_figure.specs.Scene.{Scene, held_list, ref_of}
 use Rattle.rh_sight.specs.declared.sight.MessageItem.{MessageItem}
 use Rattle.rh_sight.specs.Messages.{held_on, held_ref, is_held_by, item_of, lies_in, message_items, ref_or_none, waiting_on}
 
@@ -105,3 +107,25 @@ pub held-is : (d : Desk) → IsDesk d → (h : ℕ) → held_ref h (message_item
 held-is d is h =
     ap ref_or_none (none-waits h (waiting_on d) (map (item_of true) (held_on d)))
     ∙ held-first 0 d.next_handle d.post.next_ref h d.tasks d.post.seats is.seats is.handles is.post.held
+
+-- ---- what the block is
+
+-- a message by its ref, if one lies in the block
+abbrev pub ref_told : Option Parcel → Option ℕ
+ref_told o = option_map (λ (p : Parcel). p.message.my_ref) o
+
+pub posted-kind : (n r : ℕ) (o : Option Parcel) → Some r ≡ ref_told o → Posted r ≡ posted_or n o
+posted-kind n r None e = absurd (cc)
+posted-kind n r (Some p) e = let same : r ≡ p.message.my_ref = cc in ap Posted same
+
+pub posted-new : (x : Scene) (r : ℕ) (o : Option Parcel) → Some r ≡ ref_told o → (r == x.before.next_ref) ≡ is_new_message x o
+posted-new x r None e = absurd (cc)
+posted-new x r (Some p) e = let same : r ≡ p.message.my_ref = cc in ap (λ n. n == x.before.next_ref) same
+
+pub claimed-kind : (n : ℕ) (o : Option Parcel) → None ≡ ref_told o → Claimed n ≡ posted_or n o
+claimed-kind n None e = refl
+claimed-kind n (Some p) e = absurd (cc)
+
+pub claimed-new : (x : Scene) (o : Option Parcel) → None ≡ ref_told o → false ≡ is_new_message x o
+claimed-new x None e = refl
+claimed-new x (Some p) e = absurd (cc)

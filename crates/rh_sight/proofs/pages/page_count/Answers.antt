@@ -1,14 +1,14 @@
-use Rattle.std.proofs.Common.{rules, ◌≡◌, ◌≤◌, ◌+◌, IfSome, IsSome, map, take, ℕ, ◌-◌, ◌*◌, ◌<◌, length, ◌/◌, ◌%◌, Bool, true, false, nat_eq, nat_lt, List, [], ◌∷◌, ◌++◌, slice_index_or, slice_set, bit_and, bit_or, Fits, w8, w32, w64, Bor, MutBor}
-use Rattle.std.specs.List.{enumerate_from}
-use Rattle.rh_defs.specs.Desk.{Made}
-use Rattle.rh_defs.specs.Desk.{free_pages as free_pages_on}
-use Rattle.rh_defs.specs.Desk.{task_pages}
-use Rattle.rh_defs.specs.Pieces.{total}
-use Rattle.rh_figure.specs.Share.{Holding, IsShared, count_of, fixed_holding, holdings}
-use Rattle.rh_sight.specs.Pages.{pages_before, share_in}
+use Rattle.std.proofs.Common.{◌∙◌, sym}
 use Rattle.rh_sight.specs.Seen.{owner_seen}
+use Rattle.rh_sight.proofs.Holders.{count-fixed, count-made, count-slot, if-some, none-made, none-slot}
 use Rattle.rh_sight.proofs.pages.page_count.Goals as goal
+use Rattle.rh_sight.proofs.pages.page_count.Goals.{in-Fixed, in-Made+in-Some, in-Made+in-None, in-Slot+in-Some-task, in-Slot+in-None-task}
 
--- src/pages.rt:35:1
 pub returns : goal.returns
-returns g c = ?
+returns g c = if-some (owner_seen c.args.owner (g.S.Sight.desk c.args.sight.now)) _ (λ o e. elim c.match-owner.branch [
+  | in-Fixed w ↦ w.count-is ∙ count-fixed c.spelled.ensures c.args.owner o w.in-Fixed.number w.fixed_pages-count.result w.in-Fixed.is e w.fixed_pages-count.ensures
+  | in-Made+in-Some w ↦ w.count-is ∙ count-made c.spelled.ensures c.args.owner o w.in-Made.i _ w.in-Made.is e w.in-Some.ensures.some
+  | in-Made+in-None w ↦ absurd (none-made c.spelled.ensures c.args.owner o w.in-Made.i w.in-Made.is e w.in-None.ensures.none)
+  | in-Slot+in-Some-task w ↦ (let s = w.in-Some-task.ensures.some in w.count-is ∙ (s.2.pages ∙ count-slot c.spelled.ensures c.args.owner o w.in-Slot.i s.0 w.in-Slot.is e s.1))
+  | in-Slot+in-None-task w ↦ absurd (none-slot c.spelled.ensures c.args.owner o w.in-Slot.i w.in-Slot.is e w.in-None-task.ensures.none)
+])

@@ -1,30 +1,35 @@
-use Rattle.std.proofs.Common.{rules, ◌≡◌, ◌≤◌, ◌+◌, IfSome, IsSome, map, take, ℕ, ◌-◌, ◌*◌, ◌<◌, length, ◌/◌, ◌%◌, Bool, true, false, nat_eq, nat_lt, List, [], ◌∷◌, ◌++◌, slice_index_or, slice_set, bit_and, bit_or, Fits, w8, w32, w64, Bor, MutBor}
-use Rattle.std.specs.List.{enumerate_from}
-use Rattle.rh_defs.specs.Desk.{Made}
-use Rattle.rh_defs.specs.Desk.{free_pages as free_pages_on}
-use Rattle.rh_defs.specs.Desk.{task_pages}
-use Rattle.rh_defs.specs.Pieces.{total}
-use Rattle.rh_figure.specs.Share.{Holding, IsShared, count_of, fixed_holding, holdings}
-use Rattle.rh_sight.specs.Pages.{pages_before, share_in}
+use Rattle.std.proofs.Common.{◌≡◌, ◌≤◌, ◌-◌, ℕ, List, length, take, drop, rules, arith}
+use Rattle.std.proofs.lemmas.List.{length-drop, length-take}
+use Rattle.rh_figure.specs.Share.{count_of, holdings}
 use Rattle.rh_sight.specs.Seen.{owner_seen}
+use Rattle.rh_sight.proofs.Holders.{at-some, before-few, free-few, if-some, pages-are, room-of, some-of}
 use Rattle.rh_sight.proofs.pages.pages_of.Goals as goal
 
--- src/pages.rt:31:6
 pub offset_bounds-pages-first : goal.offset_bounds-pages-first
-offset_bounds-pages-first g c = ?
+offset_bounds-pages-first g c = omega (arith, c.first_page-first.ensures, before-few c.spelled.ensures c.args.owner, free-few c.spelled.ensures)
 
--- src/pages.rt:31:6
 pub slice_bounds-result-count : goal.slice_bounds-result-count
-slice_bounds-result-count g c = ?
+slice_bounds-result-count g c =
+    let o = some-of (owner_seen c.args.owner (g.S.Sight.desk c.args.sight.now)) c.requires.owner in
+    let room = room-of c.spelled.ensures c.args.pages.now c.args.owner o.0 c.requires.shared o.1 in
+    omega (arith, c.first_page-first.ensures)
 
--- src/pages.rt:31:6
 pub slice_bounds-result-start : goal.slice_bounds-result-start
-slice_bounds-result-start g c = ?
+slice_bounds-result-start g c =
+    let o = some-of (owner_seen c.args.owner (g.S.Sight.desk c.args.sight.now)) c.requires.owner in
+    let room = room-of c.spelled.ensures c.args.pages.now c.args.owner o.0 c.requires.shared o.1 in
+    let few : c.first_page-first.result ≤ length c.args.pages.now = omega (arith, c.first_page-first.ensures) in
+    search rules
 
--- src/pages.rt:31:5
 pub slice_bounds-result-end-2 : goal.slice_bounds-result-end-2
-slice_bounds-result-end-2 g c = ?
+slice_bounds-result-end-2 g c =
+    let o = some-of (owner_seen c.args.owner (g.S.Sight.desk c.args.sight.now)) c.requires.owner in
+    let room = room-of c.spelled.ensures c.args.pages.now c.args.owner o.0 c.requires.shared o.1 in
+    let count = at-some (owner_seen c.args.owner (g.S.Sight.desk c.args.sight.now)) (λ x. c.page_count.result ≡ count_of x (holdings (g.S.Sight.desk c.args.sight.now))) o.0 o.1 c.page_count.ensures in
+    let rest : List ℕ = drop c.first_page-first.result c.args.pages.now in
+    omega (arith, c.first_page-first.ensures, length-take c.page_count.result (take (length c.args.pages.now - c.first_page-first.result) rest), length-take (length c.args.pages.now - c.first_page-first.result) rest, length-drop c.first_page-first.result c.args.pages.now)
 
--- src/pages.rt:24:1
 pub returns : goal.returns
-returns g c = ?
+returns g c = if-some (owner_seen c.args.owner (g.S.Sight.desk c.args.sight.now)) _ (λ o e.
+    pages-are c.spelled.ensures c.args.pages.now c.args.owner o c.first_page-first.result c.page_count.result c.requires.shared e c.first_page-first.ensures
+    (at-some (owner_seen c.args.owner (g.S.Sight.desk c.args.sight.now)) (λ x. c.page_count.result ≡ count_of x (holdings (g.S.Sight.desk c.args.sight.now))) o e c.page_count.ensures))

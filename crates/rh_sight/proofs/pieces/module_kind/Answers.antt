@@ -1,28 +1,49 @@
-use Rattle.std.proofs.Common.{rules, ◌≡◌, ◌≤◌, ◌<◌, ◌+◌, ◌-◌, ◌^◌, ◌++◌, ℕ, List, false, length, slice_get, take, IfSome, IsSome, Some, ◌*◌, ◌/◌, ◌%◌, Bool, true, nat_eq, nat_lt, [], ◌∷◌, slice_index_or, slice_set, bit_and, bit_or, Fits, w8, w32, w64, Bor, MutBor}
-use Rattle.rh_defs.specs.Pieces.{total}
-use Rattle.rh_defs.specs.Heap.{Segment, first_place, place_after}
-use Rattle.rh_defs.specs.Desk.{Desk, Task}
-use Rattle.rh_defs.specs.Listing.{block_items, segment_item, segment_items_from}
-use Rattle.rh_defs.specs.declared.sizes.TheConstants.{MODULE_START}
-use Rattle.rh_figure.specs.Layout.{heap_pieces, module_legend}
-use Rattle.rh_figure.specs.Layout.{module_pieces as module_pieces_of}
-use Rattle.rh_figure.specs.Layout.{segment_piece, segment_pieces}
-use Rattle.rh_figure.specs.Layout.{slot_pieces as slot_pieces_of}
-use Rattle.rh_figure.specs.declared.limits.TheConstants.{MOST_SEGMENTS}
-use Rattle.rh_sight.specs.Seen.{IsTaskSeen, heap_seen, heap_start_of}
-use Rattle.rh_sight.specs.Steps.{IsStepOf, scene_at}
-use Rattle.rh_sight.specs.Walks.{area_start_of, IsInArea, item_pieces, item_weight, kind_and_freshness, legend_of}
-use Rattle.rh_sight.specs.declared.pieces.TheConstants.{MOST_PIECES}
+use Rattle.std.proofs.Common.{◌≡◌, ◌∙◌, ◌-◌, ℕ, Bool, true, false, Option, Some, None, ap, ap₂, sym, refl, eq-eqb}
+use Rattle.std.specs.Prelude.{◌||◌, ◌==◌, find}
+use Rattle.std.specs.Option.{option_map}
+use Rattle.std.proofs.lemmas.Bool.{ne_eqb}
+use Rattle.rh_defs.specs.Desk.{Desk}
+use Rattle.rh_figure.specs.declared.piece.Kind.{Kind}
+use Rattle.rh_figure.specs.declared.piece.Kind.TheVariants.{Posted}
+use Rattle.rh_figure.specs.Layout.{is_new_message, posted_or}
+use Rattle.rh_figure.specs.Scene.{Scene, message_in}
+use Rattle.rh_sight.specs.declared.sight.MessageItem.{MessageItem}
+use Rattle.rh_sight.specs.Messages.{lies_in}
+use Rattle.rh_sight.specs.Steps.{scene_at}
+use Rattle.rh_sight.proofs.Posts.{claimed-kind, claimed-new, posted-kind, posted-new, ref-in-block}
 use Rattle.rh_sight.proofs.pieces.module_kind.Goals as goal
 
--- src/pieces.rt:234:1
+-- a kind and whether it has changed
+both : {k j : Kind} {a b : Bool} → k ≡ j → a ≡ b → (let p : Kind × Bool = (k, a) in p) ≡ (j, b)
+both p q = ap₂ (λ (k : Kind) (a : Bool). let r : Kind × Bool = (k, a) in r) p q
+
+or-none : (b : Bool) → (b || false) ≡ b
+or-none true = refl
+or-none false = refl
+
 pub returns-then-changed : goal.returns-then-changed
-returns-then-changed c = ?
+returns-then-changed c = λ d is.
+    let b = c.args.address - 25165824 in
+    let x = scene_at d c.args.step.now in
+    let mine = ap (λ (m : MessageItem). m.my_ref) c.message.view_is in
+    let known = ap (option_map (λ (m : MessageItem). m.my_ref)) (sym c.in-Some.is ∙ c.message_in.ensures) ∙ (ap (λ ms. option_map (λ (m : MessageItem). m.my_ref) (find (lies_in b) ms)) is.messages ∙ ref-in-block b d) in
+    let t = eq-eqb c.args.step.now.marks.module_block c.args.address c.if-changed.true in
+    both (ap Posted mine ∙ posted-kind c.args.size c.in-Some.message.my_ref (message_in x b) known) (t ∙ sym (ap (λ (z : Bool). z || is_new_message x (message_in x b)) t))
 
--- src/pieces.rt:234:1
 pub returns-else-changed : goal.returns-else-changed
-returns-else-changed c = ?
+returns-else-changed c = λ d is.
+    let b = c.args.address - 25165824 in
+    let x = scene_at d c.args.step.now in
+    let mine = ap (λ (m : MessageItem). m.my_ref) c.message.view_is in
+    let known = ap (option_map (λ (m : MessageItem). m.my_ref)) (sym c.in-Some.is ∙ c.message_in.ensures) ∙ (ap (λ ms. option_map (λ (m : MessageItem). m.my_ref) (find (lies_in b) ms)) is.messages ∙ ref-in-block b d) in
+    let f = ne_eqb c.args.step.now.marks.module_block c.args.address c.if-changed.false in
+    both (ap Posted mine ∙ posted-kind c.args.size c.in-Some.message.my_ref (message_in x b) known)
+    (c.is_new_ref.ensures ∙ (posted-new x c.in-Some.message.my_ref (message_in x b) known ∙ sym (ap (λ (z : Bool). z || is_new_message x (message_in x b)) f)))
 
--- src/pieces.rt:234:1
 pub returns-in-None : goal.returns-in-None
-returns-in-None c = ?
+returns-in-None c = λ d is.
+    let b = c.args.address - 25165824 in
+    let x = scene_at d c.args.step.now in
+    let known = ap (option_map (λ (m : MessageItem). m.my_ref)) (sym c.in-None.is ∙ c.message_in.ensures) ∙ (ap (λ ms. option_map (λ (m : MessageItem). m.my_ref) (find (lies_in b) ms)) is.messages ∙ ref-in-block b d) in
+    let changed : Bool = c.args.step.now.marks.module_block == c.args.address in
+    both (claimed-kind c.args.size (message_in x b) known) (sym (or-none changed) ∙ ap (λ (z : Bool). changed || z) (claimed-new x (message_in x b) known))

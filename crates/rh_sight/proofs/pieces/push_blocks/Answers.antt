@@ -1,20 +1,13 @@
-use Rattle.std.proofs.Common.{rules, ◌≡◌, ◌≤◌, ◌<◌, ◌+◌, ◌-◌, ◌^◌, ◌++◌, ℕ, List, false, length, slice_get, take, IfSome, IsSome, Some, ◌*◌, ◌/◌, ◌%◌, Bool, true, nat_eq, nat_lt, [], ◌∷◌, slice_index_or, slice_set, bit_and, bit_or, Fits, w8, w32, w64, Bor, MutBor}
-use Rattle.rh_defs.specs.Pieces.{total}
-use Rattle.rh_defs.specs.Heap.{Segment, first_place, place_after}
-use Rattle.rh_defs.specs.Desk.{Desk, Task}
-use Rattle.rh_defs.specs.Listing.{block_items, segment_item, segment_items_from}
-use Rattle.rh_defs.specs.declared.sizes.TheConstants.{MODULE_START}
-use Rattle.rh_figure.specs.Layout.{heap_pieces, module_legend}
-use Rattle.rh_figure.specs.Layout.{module_pieces as module_pieces_of}
-use Rattle.rh_figure.specs.Layout.{segment_piece, segment_pieces}
-use Rattle.rh_figure.specs.Layout.{slot_pieces as slot_pieces_of}
-use Rattle.rh_figure.specs.declared.limits.TheConstants.{MOST_SEGMENTS}
-use Rattle.rh_sight.specs.Seen.{IsTaskSeen, heap_seen, heap_start_of}
-use Rattle.rh_sight.specs.Steps.{IsStepOf, scene_at}
-use Rattle.rh_sight.specs.Walks.{area_start_of, IsInArea, item_pieces, item_weight, kind_and_freshness, legend_of}
-use Rattle.rh_sight.specs.declared.pieces.TheConstants.{MOST_PIECES}
+use Rattle.std.proofs.Common.{◌≡◌, ◌∙◌, ◌+◌, ◌++◌, ◌∷◌, [], ℕ, ap, sym, arith}
+use Rattle.std.proofs.lemmas.List.{append_assoc}
+use Rattle.rh_sight.specs.Walks.{item_pieces, item_weight}
+use Rattle.rh_sight.specs.Steps.{scene_at}
+use Rattle.rh_sight.proofs.PieceWalks.{blocks-more, weights-more}
 use Rattle.rh_sight.proofs.pieces.push_blocks.Goals as goal
 
--- src/pieces.rt:115:5
 pub loop-block-preserved : goal.loop-block-preserved
-loop-block-preserved c = ?
+loop-block-preserved c = record {
+  pieces = λ d. ?;
+  end = omega (arith, c.loop-block.invariant.end, c.flex_weight-size.ensures, weights-more c.loop-block.block-index c.args.blocks.now c.block-item.result c.loop-block-test.true c.block-item.is);
+  few = omega (arith, c.push.ensures.len, c.loop-block.invariant.few);
+}

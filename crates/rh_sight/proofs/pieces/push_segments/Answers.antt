@@ -1,36 +1,49 @@
-use Rattle.std.proofs.Common.{rules, ◌≡◌, ◌≤◌, ◌<◌, ◌+◌, ◌-◌, ◌^◌, ◌++◌, ℕ, List, false, length, slice_get, take, IfSome, IsSome, Some, ◌*◌, ◌/◌, ◌%◌, Bool, true, nat_eq, nat_lt, [], ◌∷◌, slice_index_or, slice_set, bit_and, bit_or, Fits, w8, w32, w64, Bor, MutBor}
-use Rattle.rh_defs.specs.Pieces.{total}
-use Rattle.rh_defs.specs.Heap.{Segment, first_place, place_after}
-use Rattle.rh_defs.specs.Desk.{Desk, Task}
-use Rattle.rh_defs.specs.Listing.{block_items, segment_item, segment_items_from}
-use Rattle.rh_defs.specs.declared.sizes.TheConstants.{MODULE_START}
-use Rattle.rh_figure.specs.Layout.{heap_pieces, module_legend}
-use Rattle.rh_figure.specs.Layout.{module_pieces as module_pieces_of}
-use Rattle.rh_figure.specs.Layout.{segment_piece, segment_pieces}
-use Rattle.rh_figure.specs.Layout.{slot_pieces as slot_pieces_of}
-use Rattle.rh_figure.specs.declared.limits.TheConstants.{MOST_SEGMENTS}
-use Rattle.rh_sight.specs.Seen.{IsTaskSeen, heap_seen, heap_start_of}
-use Rattle.rh_sight.specs.Steps.{IsStepOf, scene_at}
-use Rattle.rh_sight.specs.Walks.{area_start_of, IsInArea, item_pieces, item_weight, kind_and_freshness, legend_of}
-use Rattle.rh_sight.specs.declared.pieces.TheConstants.{MOST_PIECES}
+use Rattle.std.proofs.Common.{◌≡◌, ◌∙◌, ◌+◌, ◌-◌, ◌*◌, ◌++◌, ℕ, List, Some, length, take, drop, ap, sym, subst, arith}
+use Rattle.std.specs.Prelude.{slice_get, IfSome}
+use Rattle.std.proofs.lemmas.List.{length-take, take-append-drop}
+use Rattle.rh_defs.specs.Heap.{first_place, place_after}
+use Rattle.rh_figure.specs.Layout.{segment_pieces}
+use Rattle.rh_sight.specs.Seen.{heap_seen, heap_start_of}
+use Rattle.rh_sight.specs.Steps.{scene_at}
+use Rattle.rh_sight.specs.Walks.{area_start_of, legend_of}
+use Rattle.rh_sight.proofs.Heaps.{seen, start-small}
+use Rattle.rh_sight.proofs.Holders.{some-of}
+use Rattle.rh_sight.proofs.PieceWalks.{at-heap, for-heap, pieces-on, place-on, place-same, turn-ends, turn-items, turn-place}
+use Rattle.rh_sight.proofs.SegmentWalks.{length-items}
 use Rattle.rh_sight.proofs.pieces.push_segments.Goals as goal
+use Rattle.rh_sight.proofs.pieces.push_segments.Goals.{in-Some, in_default}
 
--- src/pieces.rt:172:21
 pub segments-items-requires : goal.segments-items-requires
-segments-items-requires g c = ?
+segments-items-requires g c =
+    let r = some-of (heap_seen c.args.drawn.now.heap (g.S.Sight.desk c.args.sight.now)) c.requires.heap in
+    let n = 64 * c.loop-turn._turn in
+    for-heap r.0 r.1 _ (take n r.0.segments, drop n r.0.segments, sym (take-append-drop n r.0.segments), turn-place r.0 r.1 n c.loop-turn.place c.loop-turn.invariant.place)
 
--- src/pieces.rt:173:9
 pub push_items-requires-clause-items : goal.push_items-requires-clause-items
-push_items-requires-clause-items g c = ?
+push_items-requires-clause-items g c =
+    let r = some-of (heap_seen c.args.drawn.now.heap (g.S.Sight.desk c.args.sight.now)) c.requires.heap in
+    let n = 64 * c.loop-turn._turn in
+    (c.loop-turn.place, take 64 (drop n r.0.segments),
+    c.deref.ensures.0 ∙ turn-items r.0 r.1 (heap_start_of c.args.drawn.now.heap) n c.loop-turn.place c.segments-items.result.items c.loop-turn.invariant.place c.segments-items.ensures)
 
--- src/pieces.rt:175:13
 pub place_behind-place-requires-clause-low : goal.place_behind-place-requires-clause-low
-place_behind-place-requires-clause-low g c = ?
+place_behind-place-requires-clause-low g c =
+    let r = some-of (heap_seen c.args.drawn.now.heap (g.S.Sight.desk c.args.sight.now)) c.requires.heap in
+    let n = 64 * c.loop-turn._turn in
+    let start = heap_start_of c.args.drawn.now.heap in
+    let items = turn-items r.0 r.1 start n c.loop-turn.place c.segments-items.result.items c.loop-turn.invariant.place c.segments-items.ensures in
+    let here = c.in-Some.ensures.value ∙ ap (λ xs. slice_get xs (length xs - 1)) c.deref-in-loop-turn.ensures.0 in
+    (turn-ends start n c.loop-turn.place r.0 c.segments-items.result.items c.in-Some.last.now (turn-place r.0 r.1 n c.loop-turn.place c.loop-turn.invariant.place) items here (seen c.spelled.ensures c.args.drawn.now.heap r.0 r.1)).0
 
--- src/pieces.rt:175:13
 pub place_behind-place-requires-clause-small : goal.place_behind-place-requires-clause-small
-place_behind-place-requires-clause-small g c = ?
+place_behind-place-requires-clause-small g c =
+    let r = some-of (heap_seen c.args.drawn.now.heap (g.S.Sight.desk c.args.sight.now)) c.requires.heap in
+    let n = 64 * c.loop-turn._turn in
+    let start = heap_start_of c.args.drawn.now.heap in
+    let items = turn-items r.0 r.1 start n c.loop-turn.place c.segments-items.result.items c.loop-turn.invariant.place c.segments-items.ensures in
+    let here = c.in-Some.ensures.value ∙ ap (λ xs. slice_get xs (length xs - 1)) c.deref-in-loop-turn.ensures.0 in
+    let ends = turn-ends start n c.loop-turn.place r.0 c.segments-items.result.items c.in-Some.last.now (turn-place r.0 r.1 n c.loop-turn.place c.loop-turn.invariant.place) items here (seen c.spelled.ensures c.args.drawn.now.heap r.0 r.1) in
+    omega (arith, ends.1, start-small c.args.drawn.now.heap)
 
--- src/pieces.rt:171:5
 pub loop-turn-preserved : goal.loop-turn-preserved
 loop-turn-preserved g c = ?

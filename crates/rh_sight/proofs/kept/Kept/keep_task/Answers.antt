@@ -1,5 +1,4 @@
-use Rattle.std.proofs.Common.{◌≡◌, ◌∙◌, ℕ, List, Some, ap}
-use Rattle.rh_defs.specs.declared.listing.BlockItem.{BlockItem}
+use Rattle.std.proofs.Common.{◌≡◌, ◌∙◌, ℕ, List, Some, ap, sym}
 use Rattle.rh_defs.specs.Desk.{Desk, Task, free_pages, next_ref}
 use Rattle.rh_defs.specs.Listing.{block_items}
 use Rattle.rh_defs.specs.Post.{held_by}
@@ -9,15 +8,19 @@ use Rattle.rh_sight.specs.Messages.{held_ref}
 use Rattle.rh_sight.proofs.Posts.{held-is}
 use Rattle.rh_sight.proofs.kept.Kept.keep_task.Goals as goal
 
--- the same, where a task is kept
-with-task : (d : Desk) (t : Task) (a b : Before) → a.holdings ≡ holdings d → a.free ≡ free_pages d → a.next_ref ≡ next_ref d
-    → b.handle ≡ t.handle → b.blocks ≡ block_items t.slot → b.held ≡ ref_of (held_by t.handle d.post.seats)
-    → b.holdings ≡ a.holdings → b.free ≡ a.free → b.next_ref ≡ a.next_ref → b ≡ before_task d (Some t)
-with-task d t a b p q r h k m x y z =
-    let x1 : b.holdings ≡ holdings d = x ∙ p in
-    let y1 : b.free ≡ free_pages d = y ∙ q in
-    let z1 : b.next_ref ≡ next_ref d = z ∙ r in
-    cc
+-- what is kept of a desk and a task
+with-task : (d : Desk) (t : Task) (b : Before) → b.handle ≡ t.handle → b.blocks ≡ block_items t.slot → b.held ≡ ref_of (held_by t.handle d.post.seats)
+    → b.holdings ≡ holdings d → b.free ≡ free_pages d → b.next_ref ≡ next_ref d → b ≡ before_task d (Some t)
+with-task d t b h k m x y z = cc
 
 pub returns-in-Some : goal.returns-in-Some
-returns-in-Some g c = λ t e. ?
+returns-in-Some g c = λ t e.
+    let s = c.in-Some.ensures.some in
+    let q : Some s.0 ≡ Some t = sym s.1 ∙ e in
+    let same : s.0 ≡ t = cc in
+    let handle : c.in-Some.task.handle ≡ t.handle = s.2.handle ∙ ap (λ (x : Task). x.handle) same in
+    let had = c.self.view_is ∙ c.requires.before in
+    with-task (g.S.Sight.desk c.args.sight.now) t _ handle (c.blocks-in-Some.ensures t e)
+    (c.held_ref-self-inside.ensures ∙ (ap (held_ref c.in-Some.task.handle) c.requires.messages
+    ∙ (held-is (g.S.Sight.desk c.args.sight.now) c.spelled.ensures c.in-Some.task.handle ∙ ap (λ h. ref_of (held_by h (g.S.Sight.desk c.args.sight.now).post.seats)) handle)))
+    (ap (λ (x : Before). x.holdings) had) (ap (λ (x : Before). x.free) had) (ap (λ (x : Before). x.next_ref) had)
