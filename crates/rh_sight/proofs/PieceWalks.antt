@@ -95,6 +95,25 @@ pub piece-more : (g : Legend) (p i : ℕ) (segments : List Segment) (s : Segment
     → segment_pieces g p (take (i + 1) segments) ≡ segment_pieces g p (take i segments) ++ segment_piece g (p + total size_of (take i segments)) (get_or segments i s) ∷ []
 piece-more g p i segments s l = ap (segment_pieces g p) (take_more segments i s l) ∙ pieces-append g p (take i segments) (get_or segments i s ∷ [])
 
+pub item-here : (start place : ℕ) (segments : List Segment) (items : List SegmentItem) (i : ℕ) (d : SegmentItem) → items ≡ segment_items_from (start + place) segments → i < length items
+    → get_or items i d ≡ segment_item (start + (place + total size_of (take i segments))) (get_or segments i (Hole 0))
+item-here start place segments items i d e inside =
+    let same : (start + place) + total size_of (take i segments) ≡ start + (place + total size_of (take i segments)) = omega arith in
+    item-at (start + place) segments items i d (Hole 0) e inside ∙ ap (λ k. segment_item k (get_or segments i (Hole 0))) same
+
+pub items-on : (g : Legend) (off start place i : ℕ) (segments : List Segment) (items : List SegmentItem) (old now new : List Piece) (x : Piece) → items ≡ segment_items_from (start + place) segments → i < length items
+    → now ≡ old ++ segment_pieces g (off + place) (take i segments) → new ≡ now ++ x ∷ []
+    → x ≡ segment_piece g (off + (place + total size_of (take i segments))) (get_or segments i (Hole 0))
+    → new ≡ old ++ segment_pieces g (off + place) (take (i + 1) segments)
+items-on g off start place i segments items old now new x e inside p q r =
+    let long : length items ≡ length segments = ap length e ∙ length-items (start + place) segments in
+    let l : i < length segments = omega arith in
+    let same : off + (place + total size_of (take i segments)) ≡ (off + place) + total size_of (take i segments) = omega arith in
+    let here : x ≡ segment_piece g ((off + place) + total size_of (take i segments)) (get_or segments i (Hole 0)) = r ∙ ap (λ k. segment_piece g k (get_or segments i (Hole 0))) same in
+    q ∙ (ap (λ z. z ++ x ∷ []) p
+    ∙ (append_assoc old (segment_pieces g (off + place) (take i segments)) (x ∷ [])
+    ∙ ap (λ z. old ++ z) (ap (λ y. segment_pieces g (off + place) (take i segments) ++ y ∷ []) here ∙ sym (piece-more g (off + place) i segments (Hole 0) l))))
+
 -- ---- flex blocks
 
 pub blocks-more : (x : Scene) (h end i : ℕ) (blocks : List BlockItem) (b : BlockItem) → i < length blocks → b ≡ get_or blocks i b

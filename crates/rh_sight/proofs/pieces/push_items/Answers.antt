@@ -1,9 +1,12 @@
-use Rattle.std.proofs.Common.{◌≡◌, ◌∙◌, ◌+◌, ◌++◌, ◌∷◌, [], ap, sym, arith, length, ◌≤◌}
-use Rattle.std.proofs.lemmas.List.{append_assoc, take_all}
-use Rattle.rh_defs.specs.Heap.{Hole}
+use Rattle.std.proofs.Common.{◌≡◌, ◌≤◌, ◌∙◌, ◌+◌, ◌-◌, ◌++◌, ◌∷◌, [], ap, sym, arith, length, take, get_or}
+use Rattle.std.proofs.lemmas.List.{take_all}
+use Rattle.rh_defs.specs.Pieces.{total}
+use Rattle.rh_defs.specs.Heap.{Hole, size_of}
 use Rattle.rh_figure.specs.Layout.{segment_pieces}
 use Rattle.rh_sight.specs.Seen.{heap_start_of}
-use Rattle.rh_sight.proofs.PieceWalks.{item-at, item-in-area, piece-more}
+use Rattle.rh_sight.specs.Steps.{scene_at}
+use Rattle.rh_sight.specs.Walks.{area_start_of, legend_of}
+use Rattle.rh_sight.proofs.PieceWalks.{item-here, item-in-area, items-on}
 use Rattle.rh_sight.proofs.SegmentWalks.{length-items}
 use Rattle.rh_sight.proofs.pieces.push_items.Goals as goal
 
@@ -14,11 +17,18 @@ piece_of-requires c =
 
 pub loop-item-preserved : goal.loop-item-preserved
 loop-item-preserved c = record {
-  pieces = ?;
+  pieces = λ d place segments is e.
+      let heap = c.args.drawn.now.heap in
+      let i = c.loop-item.item-index in
+      items-on (legend_of (scene_at d c.args.step.now) heap c.args.drawn.now.handle) (heap_start_of heap - area_start_of heap) (heap_start_of heap) place i segments c.args.items.now
+      c.args.pieces.now.items c.loop-item.pieces.items c.push.new.self.items c.piece_of.result e c.loop-item-test.true (c.loop-item.invariant.pieces d place segments is e) c.push.ensures.items
+      (c.piece_of.ensures d (place + total size_of (take i segments)) (get_or segments i (Hole 0)) is (item-here (heap_start_of heap) place segments c.args.items.now i _ e c.loop-item-test.true));
   few = omega (arith, c.push.ensures.len, c.loop-item.invariant.few);
 }
 
 pub returns : goal.returns
 returns c = λ d place segments is e.
-    let long : length segments ≤ c.loop-item.item-index = omega (arith, c.loop-item-test.false, ap length e, length-items (heap_start_of c.args.drawn.now.heap + place) segments) in
-    c.loop-item.invariant.pieces d place segments is e ∙ ap (λ z. c.args.pieces.now.items ++ segment_pieces _ _ z) (take_all c.loop-item.item-index segments long)
+    let heap = c.args.drawn.now.heap in
+    let long : length segments ≤ c.loop-item.item-index = omega (arith, c.loop-item-test.false, ap length e, length-items (heap_start_of heap + place) segments) in
+    c.loop-item.invariant.pieces d place segments is e
+    ∙ ap (λ z. c.args.pieces.now.items ++ segment_pieces (legend_of (scene_at d c.args.step.now) heap c.args.drawn.now.handle) (heap_start_of heap - area_start_of heap + place) z) (take_all c.loop-item.item-index segments long)
