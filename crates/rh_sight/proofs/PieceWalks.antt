@@ -1,5 +1,5 @@
 -- The pieces of segments and of flex blocks, some at a time.
-use Rattle.std.proofs.Common.{◌≡◌, ℕ, zero, suc, ◌+◌, ◌-◌, ◌*◌, ◌<◌, ◌≤◌, Bool, refl, ap, sym, subst, ◌∙◌, arith, List, [], ◌∷◌, ◌++◌, length, take, drop, get_or, Option, Some, None}
+use Rattle.std.proofs.Common.{◌≡◌, ℕ, zero, suc, ◌+◌, ◌-◌, ◌*◌, ◌<◌, ◌≤◌, Bool, false, refl, ap, sym, subst, ◌∙◌, arith, List, [], ◌∷◌, ◌++◌, length, take, drop, get_or, Option, Some, None}
 use Rattle.std.specs.Prelude.{slice_get, IfSome}
 use Rattle.std.proofs.lemmas.List.{append_assoc, append-nil, drop-take, drop_all, drop_more, length-append, length-take, take-append-drop, take-take, take_more}
 use Rattle.rh_defs.specs.declared.listing.BlockItem.{BlockItem}
@@ -9,9 +9,9 @@ use Rattle.rh_defs.specs.Heap.{Heap, Segment, Used, Hole, first_place, place_aft
 use Rattle.rh_defs.specs.Slot.{Flex, flex_weight, weight}
 use Rattle.rh_defs.specs.Listing.{block_items_from, segment_item, segment_items_from}
 use Rattle.rh_defs.proofs.Cuts.{total-append}
-use Rattle.rh_figure.specs.declared.piece.Kind.TheVariants.{FlexBlock}
+use Rattle.rh_figure.specs.declared.piece.Kind.TheVariants.{FlexBlock, MoreSegments}
 use Rattle.rh_figure.specs.declared.piece.Piece.{Piece}
-use Rattle.rh_figure.specs.Layout.{Legend, flex_piece, flex_pieces, is_fresh_flex, segment_piece, segment_pieces}
+use Rattle.rh_figure.specs.Layout.{Legend, flex_piece, flex_pieces, is_fresh_flex, more_pieces, segment_piece, segment_pieces}
 use Rattle.rh_figure.specs.Scene.{Scene}
 use Rattle.rh_sight.specs.declared.sight.HeapOf.{HeapOf}
 use Rattle.rh_sight.specs.declared.sight.HeapOf.TheVariants as heap_of
@@ -177,6 +177,27 @@ turn-ends start n place h items last at e l s =
     let fits = s.is.fits in
     let few = s.few in
     (omega arith, omega arith)
+
+-- ---- a heap's pieces
+
+pub pieces-long : (g : Legend) (p : ℕ) (xs : List Segment) → length (segment_pieces g p xs) ≡ length xs
+pieces-long g p [] = refl
+pieces-long g p (x ∷ xs) = ap suc (pieces-long g (p + size_of x) xs)
+
+pub more-some : (p : ℕ) (rest : List Segment) → 0 < length rest → more_pieces p rest ≡ record { kind = MoreSegments (length rest); at = p; size = total size_of rest; fresh = false } ∷ []
+more-some p [] l = absurd (omega arith)
+more-some p (x ∷ rest) l = refl
+
+pub more-none : (p : ℕ) (rest : List Segment) → length rest ≤ 0 → more_pieces p rest ≡ []
+more-none p [] l = refl
+more-none p (x ∷ rest) l = absurd (omega arith)
+
+-- a first piece, segments, more of them, and a last piece
+pub heap-join : (old segs more a b c e : List Piece) (desc top : Piece) → a ≡ old ++ desc ∷ [] → b ≡ a ++ segs → c ≡ b ++ more → e ≡ c ++ top ∷ [] → e ≡ old ++ desc ∷ ((segs ++ more) ++ top ∷ [])
+heap-join old segs more a b c e desc top p q r s =
+    s ∙ (ap (λ z. z ++ top ∷ []) (r ∙ ap (λ z. z ++ more) (q ∙ ap (λ z. z ++ segs) p))
+    ∙ (ap (λ z. z ++ top ∷ []) (append_assoc (old ++ desc ∷ []) segs more)
+    ∙ (append_assoc (old ++ desc ∷ []) (segs ++ more) (top ∷ []) ∙ append_assoc old (desc ∷ []) ((segs ++ more) ++ top ∷ []))))
 
 -- ---- items lie in their area
 

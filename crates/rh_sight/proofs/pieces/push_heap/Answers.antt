@@ -1,40 +1,43 @@
-use Rattle.std.proofs.Common.{rules, ◌≡◌, ◌≤◌, ◌<◌, ◌+◌, ◌-◌, ◌^◌, ◌++◌, ℕ, List, false, length, slice_get, take, IfSome, IsSome, Some, ◌*◌, ◌/◌, ◌%◌, Bool, true, nat_eq, nat_lt, [], ◌∷◌, slice_index_or, slice_set, bit_and, bit_or, Fits, w8, w32, w64, Bor, MutBor}
+use Rattle.std.proofs.Common.{◌≡◌, ◌≤◌, ◌∙◌, ◌+◌, ◌-◌, ◌++◌, ◌∷◌, [], ℕ, length, take, drop, ap, sym, arith}
+use Rattle.std.proofs.lemmas.List.{length-append, length-take}
 use Rattle.rh_defs.specs.Pieces.{total}
-use Rattle.rh_defs.specs.Heap.{Segment, first_place, place_after}
-use Rattle.rh_defs.specs.Desk.{Desk, Task}
-use Rattle.rh_defs.specs.Listing.{block_items, segment_item, segment_items_from}
-use Rattle.rh_defs.specs.declared.sizes.TheConstants.{MODULE_START}
-use Rattle.rh_figure.specs.Layout.{heap_pieces, module_legend}
-use Rattle.rh_figure.specs.Layout.{module_pieces as module_pieces_of}
-use Rattle.rh_figure.specs.Layout.{segment_piece, segment_pieces}
-use Rattle.rh_figure.specs.Layout.{slot_pieces as slot_pieces_of}
-use Rattle.rh_figure.specs.declared.limits.TheConstants.{MOST_SEGMENTS}
-use Rattle.rh_sight.specs.Seen.{IsTaskSeen, heap_seen, heap_start_of}
-use Rattle.rh_sight.specs.Steps.{IsStepOf, scene_at}
-use Rattle.rh_sight.specs.Walks.{area_start_of, IsInArea, item_pieces, item_weight, kind_and_freshness, legend_of}
-use Rattle.rh_sight.specs.declared.pieces.TheConstants.{MOST_PIECES}
+use Rattle.rh_defs.specs.Heap.{place_after, size_of}
+use Rattle.rh_figure.specs.Layout.{segment_pieces}
+use Rattle.rh_sight.specs.declared.walk.Census.{Census}
+use Rattle.rh_sight.specs.Seen.{heap_seen}
+use Rattle.rh_sight.proofs.Heaps.{room, seen}
+use Rattle.rh_sight.proofs.Holders.{some-of}
+use Rattle.rh_sight.proofs.PieceWalks.{at-heap, comes-at, pieces-long}
 use Rattle.rh_sight.proofs.pieces.push_heap.Goals as goal
 
--- src/pieces.rt:143:9
 pub take_census-others-requires : goal.take_census-others-requires
-take_census-others-requires g c = ?
+take_census-others-requires g c =
+    let r = some-of (heap_seen c.args.drawn.now.heap (g.S.Sight.desk c.args.sight.now)) c.requires.heap in
+    let at = at-heap r.0 r.1 (λ k. c.push_segments-place.result ≡ place_after (take 512 k.segments)) c.push_segments-place.ensures.place in
+    (drop 512 r.0.segments, comes-at r.0 512 c.push_segments-place.result r.1 at)
 
--- src/pieces.rt:148:55
 pub overflow_sub-others : goal.overflow_sub-others
-overflow_sub-others g c = ?
+overflow_sub-others g c =
+    let r = some-of (heap_seen c.args.drawn.now.heap (g.S.Sight.desk c.args.sight.now)) c.requires.heap in
+    let at = at-heap r.0 r.1 (λ k. c.push_segments-place.result ≡ place_after (take 512 k.segments)) c.push_segments-place.ensures.place in
+    let census = c.take_census-others.ensures (drop 512 r.0.segments) (comes-at r.0 512 c.push_segments-place.result r.1 at) in
+    omega (arith, ap (λ (x : Census). x.end) census)
 
--- src/pieces.rt:148:9
 pub push-requires-then-others-gt0 : goal.push-requires-then-others-gt0
 push-requires-then-others-gt0 g c = ?
 
--- src/pieces.rt:150:16
 pub overflow_sub-top : goal.overflow_sub-top
-overflow_sub-top g c = ?
+overflow_sub-top g c =
+    let r = some-of (heap_seen c.args.drawn.now.heap (g.S.Sight.desk c.args.sight.now)) c.requires.heap in
+    let at = at-heap r.0 r.1 (λ k. c.push_segments-place.result ≡ place_after (take 512 k.segments)) c.push_segments-place.ensures.place in
+    let w = comes-at r.0 512 c.push_segments-place.result r.1 at in
+    let census = c.take_census-others.ensures (drop 512 r.0.segments) w in
+    let fits = (room w (seen c.spelled.ensures c.args.drawn.now.heap r.0 r.1)).fits in
+    let end = at-heap r.0 r.1 (λ k. c.heap_end.result ≡ k.end) c.heap_end.ensures in
+    omega (arith, ap (λ (x : Census). x.end) census)
 
--- src/pieces.rt:151:5
 pub push-requires-2 : goal.push-requires-2
 push-requires-2 g c = ?
 
--- src/pieces.rt:132:1
 pub returns : goal.returns
 returns g c = ?
