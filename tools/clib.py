@@ -1,5 +1,6 @@
 """The library for programs in C: the archive of all exports, its header, and what pkg-config reads."""
 
+import contextlib
 import copy
 import os
 import re
@@ -60,13 +61,21 @@ def prove(crates, log):
 
 
 def compiled(crate, log):
-    """Proves a crate over the libraries below it, and compiles its exports; gives whether that was done."""
+    """Proves a crate over the libraries below it, and compiles its exports; gives whether that was done.
+
+    No archive stays of a crate that isn't proved, or whose proof stands on work that no verdict may rest on: `is_new`
+    would take it for a proved one.
+    """
     crate = copy.copy(crate)
     crate.out = log
     os.makedirs(f"{crate.folder}/out", exist_ok=True)
     words = crate.words(["--jobs", "1"], keeps=False)
     words += ["--toolchain", f"{rtlib.KIT}/toolchain", "--backend", "llvm"]
-    return not crate.prove(["build", *words, "-o", f"out/lib{crate.name}.a"])
+    if not crate.prove(["build", *words, "-o", f"out/lib{crate.name}.a"]):
+        return True
+    with contextlib.suppress(FileNotFoundError):
+        os.remove(archive_of(crate))
+    return False
 
 
 def archive(crates, made):

@@ -3,6 +3,7 @@
 import concurrent.futures
 import glob
 import os
+import re
 import shutil
 import subprocess
 import sys
@@ -21,6 +22,10 @@ WAYS = {
 }
 # A run that hangs is ended after so many seconds.
 LONGEST = 120
+# The test that no call takes memory, the functions that it counts, and where the calls that it makes by a list stand.
+NO_MEMORY, LISTS = "c/tests/takes_no_memory.c", "c/tests/expect.h"
+GIVERS = ["malloc", "calloc", "realloc", "aligned_alloc"]
+BENCHES = ["heap_bench", "flex_bench"]
 SHIMMED = ["sort", "-r", "README.md"]
 
 
@@ -56,12 +61,28 @@ class Suite:
             self.wrong.append(what)
 
 
+def plain(suite):
+    """The sources in plain C that the tests and the benches compare with."""
+    return sorted(glob.glob("c/plain/*.c", root_dir=suite.top))
+
+
 def try_test(suite, path, way):
     """Compiles one test in one way, and runs it."""
     name = os.path.splitext(os.path.basename(path))[0]
     what, made = f"{name}, {way}", f"{suite.work}/{name}-{way.replace(' ', '-')}"
-    if suite.compiled(what, [path, *sorted(glob.glob("c/plain/*.c", root_dir=suite.top))], [*C11, *WAYS[way]], made):
+    counted = [f"-Wl,--wrap={it}" for it in GIVERS] * (path == NO_MEMORY)
+    if suite.compiled(what, [path, *plain(suite)], [*C11, *WAYS[way], *counted], made):
         suite.ran(what, [made])
+
+
+def try_calls(suite):
+    """Each call that the archive gives is one of those of which it is tested that they take no memory."""
+    made = set()
+    for path in (NO_MEMORY, LISTS):
+        with open(f"{suite.top}/{path}", encoding="utf-8") as it:
+            made |= set(re.findall(r"\bvf_\w+", it.read()))
+    left = sorted(set(header.exports(suite.top)) - made)
+    suite.is_true(f"{NO_MEMORY} doesn't call {', '.join(left)}", not left)
 
 
 def try_header(suite):
@@ -113,7 +134,7 @@ def run_all(suite):
     tests = sorted(glob.glob("c/tests/*.c", root_dir=suite.top))
     with concurrent.futures.ThreadPoolExecutor(os.cpu_count()) as pool:
         calls = [pool.submit(try_test, suite, path, way) for path in tests for way in WAYS]
-        calls += [pool.submit(it, suite) for it in (try_header, try_examples, try_shim)]
+        calls += [pool.submit(it, suite) for it in (try_calls, try_header, try_examples, try_shim)]
     for it in calls:
         it.result()
     return len(tests)
@@ -135,14 +156,16 @@ def test(top):
 
 
 def bench(top):
-    """Builds the library, and prints what its calls take beside those of the plain heap; gives the exit status."""
+    """Builds the library, prints what its calls take beside those in plain C, and gives the exit status."""
     status = clib.make(top)
     if status:
         return status
     with tempfile.TemporaryDirectory(prefix="ctests-") as work:
-        suite, made = Suite(top, work), f"{work}/bench"
-        if suite.compiled("the bench", ["c/bench/heap_bench.c", "c/plain/os_heap.c"], [*C11, "-O2"], made):
-            return subprocess.run([made], check=False).returncode
+        suite, statuses = Suite(top, work), []
+        for name in BENCHES:
+            made = f"{work}/{name}"
+            if suite.compiled(name, [f"c/bench/{name}.c", *plain(suite)], [*C11, "-O2", "-Ic/bench"], made):
+                statuses.append(subprocess.run([made], check=False).returncode)
     for it in suite.wrong:
         print(it, file=sys.stderr)
-    return 1
+    return 1 if suite.wrong or any(statuses) else 0

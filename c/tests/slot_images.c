@@ -6,7 +6,7 @@
 #include "expect.h"
 #include "slot_check.h"
 
-enum { PAGE = 4096, LEN = 2 * PAGE, MARGIN = 64, TOP = 344, LONGEST = 28 << 20, UNSET = 77 };
+enum { PAGE = 4096, LEN = 2 * PAGE, MARGIN = 64, TOP = 344, LONGEST = 28 << 20 };
 
 /* The words of a slot of one page that aren't 0: those of the anchors 0, 3 and 63; a C heap of 48 bytes with a hole
  * between two blocks; flex blocks of 5, 0 and 8 bytes at 304, 320 and 328 for the anchors 3, 0 and 63. */

@@ -11,6 +11,7 @@ use rh_defs::{Anchor, BlockItem, Refusal};
 use rh_flex::{LentPages, LentSlot};
 use rh_heap::Segment;
 use rh_lent::LENT;
+use rh_slot::LONGEST_SLOT;
 use rh_store::{AreaId, Pages, StoreFault};
 use std::alloc::Global;
 use std::process::Abort;
@@ -264,7 +265,7 @@ fn each_anchor_has_a_block(rt: HostRuntime) -> Result<(), Fail> {
 
 #[test]
 fn a_slot_has_all_of_application_space(rt: HostRuntime) -> Result<(), Fail> {
-    let mut bench = LentBench::new(rt.alloc(), 29_360_128)?;
+    let mut bench = LentBench::new(rt.alloc(), LONGEST_SLOT)?;
     same(&rt, bench.alloc(Anchor(0), 20_000_000), Ok(0x9008));
     let end = [1, 2, 3];
     same(&rt, bench.put(Anchor(0), 19_999_997, &end), Ok(()));

@@ -6,6 +6,7 @@ use crate::same::same;
 use rh_defs::HeapFault;
 use rh_heap::Summary;
 use rh_slot::{LONGEST_SLOT, SlotFault, SlotSummary, check};
+use std::process::Abort;
 use std::test::Fail;
 
 /// The bytes of a page.
@@ -80,20 +81,13 @@ fn word(image: &[u8], place: usize) -> usize {
     ]) as usize
 }
 
-/// The anchor whose word leads to a flex block at a place, and how many anchor words aren't 0.
-fn anchor_at(image: &[u8], place: usize) -> (Option<usize>, usize) {
-    let mut found = None;
-    let mut used = 0usize;
-    for anchor in 0..64usize {
-        let there = word(image, anchor.wrapping_mul(4));
-        if there != 0 {
-            used = used.wrapping_add(1);
-        }
-        if there == place.wrapping_add(0x8008) {
-            found = Some(anchor);
-        }
+/// The anchor words.
+fn anchors_of(image: &[u8]) -> [usize; 64] {
+    let mut anchors = [0; 64];
+    for (anchor, there) in anchors.iter_mut().enumerate() {
+        *there = word(image, anchor.wrapping_mul(4));
     }
-    (found, used)
+    anchors
 }
 
 /// What a slot consists of, or `None` where the bytes are none's: its blocks are those that the anchor words lead to,
@@ -105,12 +99,13 @@ fn modelled(image: &[u8]) -> Option<SlotSummary> {
         return None;
     }
     let heap = rh_heap::check(image.get(256..end.wrapping_add(256))?).ok()?;
+    let anchors = anchors_of(image);
+    let used = anchors.iter().filter(|there| **there != 0).count();
     let mut place = end.wrapping_add(256);
-    let mut blocks = 0usize;
     let mut bytes = 0usize;
-    for _block in 0..65 {
-        let (found, used) = anchor_at(image, place);
-        let Some(anchor) = found else {
+    for blocks in 0..65 {
+        let address = place.wrapping_add(0x8008);
+        let Some(anchor) = anchors.iter().position(|there| *there == address) else {
             let unused = length.wrapping_sub(place);
             return (blocks == used && unused < PAGE).then_some(SlotSummary {
                 blocks,
@@ -119,17 +114,16 @@ fn modelled(image: &[u8]) -> Option<SlotSummary> {
                 unused,
             });
         };
-        let size = word(image, place.wrapping_add(4));
         if word(image, place) != anchor.wrapping_mul(4).wrapping_add(0x8000) {
             return None;
         }
+        let size = word(image, place.wrapping_add(4));
         place = place
             .wrapping_add(8)
             .wrapping_add(size.wrapping_add(3) / 4 * 4);
         if place > length {
             return None;
         }
-        blocks = blocks.wrapping_add(1);
         bytes = bytes.wrapping_add(size);
     }
     None
@@ -239,26 +233,57 @@ fn faults_of_slots_read_as_sentences(rt: HostRuntime) -> Result<(), Fail> {
     Ok(())
 }
 
-/// How many of the images with one byte changed, or left, are slots. 33 bytes may have any value: those of the blocks,
-/// with what rounds the first one up, of the C heap's top, and the lowest of the last block's size. The size of the
-/// first may be 5 to 8, and the second byte of the last one's 0 to 14. All 309 others have one value.
-const SLOTS: u32 = 33 * 256 + 4 + 15 + 309;
-
-#[test]
-fn each_byte_of_a_slot_changed(rt: HostRuntime) {
+/// Gives the byte of the worked slot at a place every value, and counts the images that are slots.
+fn slots_at<R: Abort>(rt: &R, place: usize) -> u32 {
     let mut image = worked();
     let mut slots = 0u32;
-    for place in 0..TOP {
-        let was = image[place];
-        for value in 0..=255u8 {
-            image[place] = value;
-            let found = check(&image).ok();
-            same(&rt, found, modelled(&image));
-            slots = slots.wrapping_add(u32::from(found.is_some()));
+    for value in 0..=255u8 {
+        if let Some(byte) = image.get_mut(place) {
+            *byte = value;
         }
-        image[place] = was;
+        let found = check(&image).ok();
+        same(rt, (place, value, found), (place, value, modelled(&image)));
+        slots = slots.wrapping_add(u32::from(found.is_some()));
     }
-    same(&rt, slots, SLOTS);
+    slots
+}
+
+/// The same of all places from one up to another.
+fn slots_among<R: Abort>(rt: &R, from: usize, to: usize) -> u32 {
+    let mut slots = 0u32;
+    for place in from..to {
+        slots = slots.wrapping_add(slots_at(rt, place));
+    }
+    slots
+}
+
+#[test]
+fn each_byte_of_the_lower_anchor_words_changed(rt: HostRuntime) {
+    same(&rt, slots_among(&rt, 0, 128), 128);
+}
+
+#[test]
+fn each_byte_of_the_upper_anchor_words_changed(rt: HostRuntime) {
+    same(&rt, slots_among(&rt, 128, 256), 128);
+}
+
+/// How many images with one byte of the C heap changed, or left, are slots: the bytes of its two blocks and of its top
+/// may have any value, each of the 32 others has one.
+const HEAP_SLOTS: u32 = 16 * 256 + 32;
+
+#[test]
+fn each_byte_of_the_c_heap_changed(rt: HostRuntime) {
+    same(&rt, slots_among(&rt, 256, 304), HEAP_SLOTS);
+}
+
+/// The same of the flex blocks. The bytes of the blocks, with what rounds the first one up, and the lowest of the last
+/// block's size may have any value. The size of the first may be 5 to 8, and the second byte of the last one's 0 to 14.
+/// Each of the 21 others has one value.
+const BLOCK_SLOTS: u32 = 17 * 256 + 4 + 15 + 21;
+
+#[test]
+fn each_byte_of_the_flex_blocks_changed(rt: HostRuntime) {
+    same(&rt, slots_among(&rt, 304, TOP), BLOCK_SLOTS);
 }
 
 /// A word as it may stand in a slot: 0, an address, a small number, or anything.

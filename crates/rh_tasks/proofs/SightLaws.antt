@@ -16,8 +16,8 @@ use Rattle.rh_defs.specs.Pieces.{Split, behind, first_at, zeros}
 use Rattle.rh_defs.specs.Heap.{Heap, Segment, Used, Hole, bytes_of, block_at, block_size, size_of}
 use Rattle.rh_defs.specs.Slot.{holds}
 use Rattle.rh_defs.specs.Post.{Post, post_is_message, post_poll}
-use Rattle.rh_defs.specs.Desk.{Desk, Scrap, next_ref, task_at}
-use Rattle.rh_defs.specs.Commands.{module_start, own_block}
+use Rattle.rh_defs.specs.Desk.{Desk, next_ref, task_at}
+use Rattle.rh_defs.specs.Commands.{module_start}
 use Rattle.rh_defs.specs.Listing.{block_items, segment_items_from}
 use Rattle.rh_defs.proofs.BlockLaws.{block_at-bytes, bytes_here}
 use Rattle.rh_defs.proofs.ShapeLaws.{len0}

@@ -71,8 +71,8 @@ with_back t p queue = cond t (queue ++ as_returned p ∷ []) queue
 bounced-queue : (h : ℕ) (p : Parcel) (post : Post) → (bounce_held h (Some p) post).queued ≡ with_back (has_seat p.message.from post.seats) p post.queued
 bounced-queue h p post =
     (elim (has_seat p.message.from (with_held h None post.seats)) as (λ t. (cond t
-        (record post { seats = with_held h None post.seats; queued = post.queued ++ as_returned p ∷ []; heap = poked p.block 0 (parcel_bytes 0 (as_returned p)) post.heap })
-        (record post { seats = with_held h None post.seats; heap = release p.block post.heap })).queued ≡ with_back t p post.queued) [ true ↦ refl | false ↦ refl ])
+    (record post { seats = with_held h None post.seats; queued = post.queued ++ as_returned p ∷ []; heap = poked p.block 0 (parcel_bytes 0 (as_returned p)) post.heap })
+    (record post { seats = with_held h None post.seats; heap = release p.block post.heap })).queued ≡ with_back t p post.queued) [ true ↦ refl | false ↦ refl ])
     ∙ ap (λ t. with_back t p post.queued) (seat-stays p.message.from h None post.seats)
 
 module _ (h : ℕ) (post : Post) where

@@ -146,13 +146,7 @@ fn push_block<S: Words>(
 }
 
 /// What is listed of the message that lies in a block.
-fn read_item<S: Words>(
-    store: &S,
-    rma: Module,
-    block: usize,
-    to: Handle,
-    held: bool,
-) -> MessageItem
+fn read_item<S: Words>(store: &S, rma: Module, block: usize, to: Handle, held: bool) -> MessageItem
     requires module { IsModule (S.memory store.now) rma }
     requires lies { (link : ℕ) × ((p : Parcel) × LinksAt (S.memory store.now) rma block link p) }
     ensures { (link : ℕ) (p : Parcel) → LinksAt (S.memory store.now) rma block link p → result ≡ item_of to held p }

@@ -1,7 +1,5 @@
 use Rattle.std.proofs.Common.{sym}
-use Rattle.std.specs.Prelude.{Ok, Err}
 use Rattle.std.proofs.lemmas.Result.{err_from_is_err_and}
-use Rattle.rh_tasks.proofs.Ranges.{show-anchor}
 use Rattle.rh_tasks.proofs.Told.{show-said, blocks-said, heap-said, status-said}
 use Rattle.rh_tasks.proofs.world.World.told.Goals as goal
 

@@ -81,10 +81,9 @@ held g c post s =
     let h = heap_in (g.S.Words.memory c.args.store.now) c.args.rma in
     let w = place g c in
     let k = spelled g c post s in
-    let t = seated h (seen g c) post c.in-Some.at k w.0 in
-    (
+    let t = seated h (seen g c) post c.in-Some.at k w.0 in (
       subst (λ (e : Entry). Holds h e.held (held_by c.args.handle post.seats)) (sym w.2)
-      (held-there h (seen g c) post c.args.handle c.in-Some.at k w.0 w.1),
+          (held-there h (seen g c) post c.args.handle c.in-Some.at k w.0 w.1),
       live-yes post.seats c.in-Some.at c.args.handle t.seat (sym t.handle ∙ w.1),
     )
 

@@ -1,0 +1,191 @@
+/*
+ * takes_no_memory.c: no call takes memory of its own. The linker puts counters in the place of the functions that give
+ * memory (tools/ctests.py names them), each call of the library is made again and again, done and refused, and nothing is
+ * counted.
+ */
+#include "expect.h"
+
+#include <stdlib.h>
+
+enum { PAGE = 4096, LEN = 8 * PAGE, FIRST_LEN = LEN / 2, TURNS = 4000, ANCHORS = 8, NO_ANCHOR = 64 };
+enum { HEAP_CALLS = 6, FLEX_CALLS = 13 };
+
+_Static_assert(sizeof(struct heap_calls) == (1 + HEAP_CALLS) * sizeof(void *), "each call on a heap is made");
+_Static_assert(sizeof(struct flex_calls) == FLEX_CALLS * sizeof(void *), "each call on a slot is made");
+
+static volatile unsigned taken;
+
+#define COUNTED(name, parameters, arguments) \
+    void *__real_##name parameters;          \
+    void *__wrap_##name parameters;          \
+    void *__wrap_##name parameters           \
+    {                                        \
+        taken++;                             \
+        return __real_##name arguments;      \
+    }
+
+COUNTED(malloc, (size_t n), (n))
+COUNTED(calloc, (size_t count, size_t n), (count, n))
+COUNTED(realloc, (void *old, size_t n), (old, n))
+COUNTED(aligned_alloc, (size_t alignment, size_t n), (alignment, n))
+
+static uint8_t memory[LEN], buffer[64];
+static struct vf_slot slot;
+/* What a call tells, and the block that was claimed last. */
+static size_t number, other, block;
+/* How often a call was done, and how often it was refused. */
+static unsigned done[FLEX_CALLS], refused[FLEX_CALLS];
+
+static void count(uint32_t call, uint32_t status)
+{
+    if (status == VF_OK)
+        done[call]++;
+    else
+        refused[call]++;
+}
+
+/* The block that was claimed last, or a place where none begins. */
+static size_t some_block(void)
+{
+    return below(4) ? block : block + 1;
+}
+
+static ptrdiff_t some_amount(ptrdiff_t most)
+{
+    return (ptrdiff_t)below((uint32_t)(2 * most)) - most;
+}
+
+static uint32_t claimed(uint32_t status)
+{
+    if (status == VF_OK)
+        block = number;
+    return status;
+}
+
+static uint32_t call_heap(const struct heap_calls *heap, uint8_t *bytes, uint32_t call)
+{
+    switch (call) {
+    case 0:
+        return heap->describe(bytes, LEN, &number, &other);
+    case 1:
+        return claimed(heap->claim(bytes, LEN, below(300), &number));
+    case 2:
+        return heap->release(bytes, LEN, some_block());
+    case 3:
+        return claimed(heap->resize(bytes, LEN, some_block(), some_amount(100), &number));
+    case 4:
+        return heap->extend(bytes, LEN, some_amount(20));
+    default:
+        return heap->block_size(bytes, LEN, some_block(), &number);
+    }
+}
+
+static uint32_t call_flex(const struct flex_calls *flex, size_t len, uint32_t anchor, uint32_t call)
+{
+    switch (call) {
+    case 0:
+        return flex->alloc(memory, len, &slot, anchor, below(2000), &number);
+    case 1:
+        return flex->free(memory, len, &slot, anchor);
+    case 2:
+        return flex->size(memory, len, &slot, anchor, &number);
+    case 3:
+        return flex->extend(memory, len, &slot, anchor, below(2000));
+    case 4:
+        return flex->midextend(memory, len, &slot, anchor, below(100), some_amount(100));
+    case 5:
+        return flex->place(memory, len, &slot, anchor, &number);
+    case 6:
+        return flex->put(memory, len, &slot, anchor, below(100), buffer, sizeof buffer);
+    case 7:
+        return flex->read(memory, len, &slot, anchor, below(100), buffer, sizeof buffer);
+    case 8:
+        return flex->describe(memory, len, &slot, &number, &other);
+    case 9:
+        return claimed(flex->claim(memory, len, &slot, below(900), &number));
+    case 10:
+        return flex->release(memory, len, &slot, some_block());
+    case 11:
+        return claimed(flex->resize(memory, len, &slot, some_block(), some_amount(900), &number));
+    default:
+        return flex->block_size(memory, len, &slot, some_block(), &number);
+    }
+}
+
+static void start_counting(void)
+{
+    memset(done, 0, sizeof done);
+    memset(refused, 0, sizeof refused);
+    block = 0;
+}
+
+/* Each call was done, and but for those before `first` it was refused too. */
+static void expect_both(uint32_t first, uint32_t calls)
+{
+    for (uint32_t call = 0; call < calls; call++) {
+        EXPECT(done[call]);
+        EXPECT(call < first || refused[call]);
+    }
+}
+
+/* The checked calls are also given bytes that are no heap. Nothing refuses to describe a heap. */
+static void heaps_take_none(const struct heap_calls *heap)
+{
+    bool takes_any = heap == &CHECKED;
+    start_counting();
+    EXPECT(vf_heap_init(memory, LEN + 1) == VF_BAD_LENGTH);
+    for (int turn = 0; turn < TURNS; turn++) {
+        uint32_t call = below(HEAP_CALLS);
+        if (turn % 200 == 0)
+            EXPECT(vf_heap_init(memory, FIRST_LEN) == VF_OK);
+        count(call, call_heap(heap, takes_any && !below(8) ? buffer : memory, call));
+        EXPECT(vf_heap_check(memory, LEN) == VF_OK);
+    }
+    EXPECT(vf_heap_check(buffer, sizeof buffer) == VF_BAD_DESCRIPTOR);
+    expect_both(takes_any ? 0 : 1, HEAP_CALLS);
+}
+
+static void slots_take_none(const struct flex_calls *flex)
+{
+    bool was;
+    start_counting();
+    EXPECT(vf_flex_start(memory, PAGE - 1, &slot) == VF_BAD_LENGTH);
+    for (int turn = 0; turn < TURNS; turn++) {
+        uint32_t call = below(FLEX_CALLS);
+        if (turn % 200 == 0)
+            EXPECT(vf_flex_start(memory, LEN, &slot) == VF_OK);
+        EXPECT(vf_flex_set_budge(&slot, below(4) != 0, &was) == VF_OK);
+        count(call, call_flex(flex, below(20) ? LEN : PAGE - 1, below(20) ? below(ANCHORS) : NO_ANCHOR, call));
+        EXPECT(vf_flex_check(memory, LEN, &slot) == VF_OK);
+    }
+    EXPECT(vf_flex_check(memory, PAGE - 1, &slot) == VF_BAD_LENGTH);
+    expect_both(0, FLEX_CALLS);
+}
+
+/* The counters count. */
+static void what_is_taken_is_counted(void)
+{
+    void *volatile some = malloc(1);
+    EXPECT(taken == 1);
+    some = realloc(some, 2);
+    EXPECT(taken == 2);
+    free(some);
+    some = calloc(1, 1);
+    EXPECT(taken == 3);
+    free(some);
+    some = aligned_alloc(8, 8);
+    EXPECT(taken == 4);
+    free(some);
+}
+
+int main(void)
+{
+    heaps_take_none(&TRUSTING);
+    heaps_take_none(&CHECKED);
+    slots_take_none(&TRUSTING_FLEX);
+    slots_take_none(&CHECKED_FLEX);
+    EXPECT(taken == 0);
+    taken = 0;
+    what_is_taken_is_counted();
+    return ended("takes_no_memory");
+}
