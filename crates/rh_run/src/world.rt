@@ -16,7 +16,7 @@ use std::alloc::{AllocError, Global};
 /// A world over scattered pages.
 #[derive(Drop)]
 pub struct PagedWorld {
-    world: World<PagedStore>,
+    pub(crate) world: World<PagedStore>,
 }
 
 impl PagedWorld {
