@@ -244,9 +244,9 @@ comes-parts {o = o} {place = place} {rest = rest} w =
     let P : Option Heap → Type 0 = λ z. IfSome z (λ h. (x : List Segment) × (y : List Segment) × (h.segments ≡ x ++ y) × (place ≡ place_after x)) in
     subst P (sym w.is) (w.below, rest, w.whole, w.at)
 
-pub counted-so : {start place end count n : ℕ} {items next : List SegmentItem} {rest : List Segment} → Counted start place end (count + length next) items rest → n ≡ length next → Counted start place end (count + n) items rest
-counted-so {start = start} {place = place} {end = end} {count = count} {items = items} {rest = rest} k e =
+pub counted-so : {start place end n : ℕ} {items : List SegmentItem} {rest : List Segment} (count : ℕ) (next : List SegmentItem) → Counted start place end (count + length next) items rest → n ≡ length next → Counted start place end (count + n) items rest
+counted-so {start = start} {place = place} {end = end} {items = items} {rest = rest} count next k e =
     let P : ℕ → Type 0 = λ m. Counted start place end (count + m) items rest in subst P (sym e) k
 
-pub census-is : {place count end : ℕ} {rest : List Segment} → (count ≡ length rest) × (end ≡ place + total size_of rest) → (let x : Census = record { count = count; end = end } in x) ≡ census_of place rest
-census-is {place = place} e = let a = e.0 in let b = e.1 in cc
+pub census-is : {count end : ℕ} (place : ℕ) (rest : List Segment) → (count ≡ length rest) × (end ≡ place + total size_of rest) → (let x : Census = record { count = count; end = end } in x) ≡ census_of place rest
+census-is place rest e = let a = e.0 in let b = e.1 in cc

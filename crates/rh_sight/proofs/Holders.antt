@@ -407,7 +407,7 @@ module _ {d : Desk} (is : IsDesk d) where
       go (Some m) q k = omega (arith, slice_get_within d.made i m q)
 
 pub at-some : {A : Type 0} (o : Option A) (P : A → Type 0) (x : A) → o ≡ Some x → IfSome o P → P x
-at-some o P x e h = let Q : Option A → Type 0 = λ z. IfSome z P in subst Q e h
+at-some {A = A} o P x e h = let Q : Option A → Type 0 = λ z. IfSome z P in subst Q e h
 
 module _ {d : Desk} (is : IsDesk d) where
   pub before-few : (owner : PagesOf) → pages_before owner d ≤ 1024

@@ -5,3 +5,4 @@ pub mod SegmentWalks
 pub mod Heaps
 pub mod PieceWalks
 pub mod Posts
+pub mod SlotPieces

@@ -125,9 +125,19 @@ pub weights-more : (i : ℕ) (blocks : List BlockItem) (b : BlockItem) → i < l
     → total item_weight (drop i blocks) ≡ item_weight b + total item_weight (drop (i + 1) blocks)
 weights-more i blocks b l e = ap (total item_weight) (drop_more blocks i b l ∙ ap (λ z. z ∷ drop (i + 1) blocks) (sym e))
 
-pub block-piece : (x : Scene) (h end : ℕ) (b : BlockItem) (k n w : ℕ) (f : Bool) (p : Piece) → p ≡ record { kind = FlexBlock k n; at = end; size = w; fresh = f }
-    → k ≡ b.anchor → n ≡ b.size → w ≡ flex_weight b.size → f ≡ is_fresh_flex x h b.anchor b.size → p ≡ flex_piece end b.anchor b.size (is_fresh_flex x h b.anchor b.size)
-block-piece x h end b k n w f p e a c d g = cc
+-- one more block
+pub blocks-step : (x : Scene) (h end i : ℕ) (blocks : List BlockItem) (b : BlockItem) (k n w : ℕ) (f : Bool) (now new all : List Piece) → i < length blocks → b ≡ get_or blocks i b
+    → new ≡ now ++ record { kind = FlexBlock k n; at = end; size = w; fresh = f } ∷ [] → k ≡ b.anchor → n ≡ b.size → w ≡ flex_weight b.size → f ≡ is_fresh_flex x h b.anchor b.size
+    → now ++ item_pieces x h end (drop i blocks) ≡ all → new ++ item_pieces x h (end + w) (drop (i + 1) blocks) ≡ all
+blocks-step x h end i blocks b k n w f now new all l is e ek en ew ef so_far =
+    let p : Piece = record { kind = FlexBlock k n; at = end; size = w; fresh = f } in
+    let q : Piece = flex_piece end b.anchor b.size (is_fresh_flex x h b.anchor b.size) in
+    let same : p ≡ q = cc in
+    let rest = item_pieces x h (end + w) (drop (i + 1) blocks) in
+    ap (λ z. z ++ rest) e
+    ∙ (append_assoc now (p ∷ []) rest
+    ∙ (ap (λ z. now ++ z) (ap (λ y. y ∷ rest) same ∙ (ap (λ m. q ∷ item_pieces x h (end + m) (drop (i + 1) blocks)) ew ∙ sym (blocks-more x h end i blocks b l is)))
+    ∙ so_far))
 
 -- the pieces of blocks as they are listed are the scene's
 pub items-pieces : (x : Scene) (h place at : ℕ) (blocks : List Flex) → item_pieces x h at (block_items_from place blocks) ≡ flex_pieces x h at blocks
@@ -146,7 +156,7 @@ items-long place (b ∷ blocks) = ap suc (items-long (place + weight b) blocks)
 -- ---- a turn of 64 segments
 
 module _ {o : Option Heap} (h : Heap) (e : o ≡ Some h) where
-  at-heap : (P : Heap → Type 0) → IfSome o P → P h
+  pub at-heap : (P : Heap → Type 0) → IfSome o P → P h
   at-heap P f = let Q : Option Heap → Type 0 = λ z. IfSome z P in subst Q e f
 
   pub for-heap : (P : Heap → Type 0) → P h → IfSome o P
@@ -183,6 +193,10 @@ turn-ends start n place h items last at e l s =
 pub pieces-long : (g : Legend) (p : ℕ) (xs : List Segment) → length (segment_pieces g p xs) ≡ length xs
 pieces-long g p [] = refl
 pieces-long g p (x ∷ xs) = ap suc (pieces-long g (p + size_of x) xs)
+
+-- at most 64 pieces more
+pub pieces-64 : (g : Legend) (p : ℕ) (xs : List Segment) (now new : List Piece) → new ≡ now ++ segment_pieces g p (take 64 xs) → length new ≤ length now + 64
+pieces-64 g p xs now new e = omega (arith, ap length e, length-append now (segment_pieces g p (take 64 xs)), pieces-long g p (take 64 xs), length-take 64 xs)
 
 pub more-some : (p : ℕ) (rest : List Segment) → 0 < length rest → more_pieces p rest ≡ record { kind = MoreSegments (length rest); at = p; size = total size_of rest; fresh = false } ∷ []
 more-some p [] l = absurd (omega arith)

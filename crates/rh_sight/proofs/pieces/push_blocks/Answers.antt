@@ -1,8 +1,10 @@
-use Rattle.std.proofs.Common.{◌≡◌, ◌∙◌, ◌+◌, ◌++◌, ◌∷◌, [], ℕ, ap, sym, arith, drop}
-use Rattle.std.proofs.lemmas.List.{append_assoc}
-use Rattle.rh_sight.specs.Walks.{item_pieces, item_weight}
+use Rattle.std.proofs.Common.{◌≡◌, ◌∙◌, ◌+◌, ◌++◌, ap, arith}
+use Rattle.rh_defs.specs.Slot.{flex_weight}
+use Rattle.rh_defs.specs.declared.listing.BlockItem.{BlockItem}
+use Rattle.rh_figure.specs.Layout.{is_fresh_flex}
+use Rattle.rh_sight.specs.Walks.{item_pieces}
 use Rattle.rh_sight.specs.Steps.{scene_at}
-use Rattle.rh_sight.proofs.PieceWalks.{block-piece, blocks-more, weights-more}
+use Rattle.rh_sight.proofs.PieceWalks.{blocks-step, weights-more}
 use Rattle.rh_sight.proofs.pieces.push_blocks.Goals as goal
 
 pub loop-block-preserved : goal.loop-block-preserved
@@ -11,13 +13,17 @@ loop-block-preserved c = record {
       let x = scene_at d c.args.step.now in
       let i = c.loop-block.block-index in
       let b = c.block-item.result in
-      let rest = item_pieces x c.args.handle (c.loop-block.end + c.flex_weight-size.result) (drop (i + 1) c.args.blocks.now) in
-      let piece = block-piece x c.args.handle c.loop-block.end b c.from.result b.size c.flex_weight-size.result c.is_fresh_flex.result _ (λ j. _) c.from.ensures (λ j. b.size) c.flex_weight-size.ensures (c.is_fresh_flex.ensures d) in
-      let weight = ap (λ w. item_pieces x c.args.handle (c.loop-block.end + w) (drop (i + 1) c.args.blocks.now)) c.flex_weight-size.ensures in
-      ap (λ z. z ++ rest) c.push.ensures.items
-      ∙ (append_assoc c.loop-block.pieces.items (_ ∷ []) rest
-      ∙ (ap (λ z. c.loop-block.pieces.items ++ z) (ap (λ p. p ∷ rest) piece ∙ (ap (λ r. _ ∷ r) weight ∙ sym (blocks-more x c.args.handle c.loop-block.end i c.args.blocks.now b c.loop-block-test.true c.block-item.is)))
-      ∙ c.loop-block.invariant.pieces d));
-  end = omega (arith, c.loop-block.invariant.end, c.flex_weight-size.ensures, weights-more c.loop-block.block-index c.args.blocks.now c.block-item.result c.loop-block-test.true c.block-item.is);
+      let v = c.block.view_is in
+      let sized : c.flex_weight-size.result ≡ flex_weight b.size = c.flex_weight-size.ensures ∙ ap (λ (z : BlockItem). flex_weight z.size) v in
+      let fresh : c.is_fresh_flex.result ≡ is_fresh_flex x c.args.handle b.anchor b.size = c.is_fresh_flex.ensures d ∙ ap (λ n. is_fresh_flex x c.args.handle b.anchor n) (ap (λ (z : BlockItem). z.size) v) in
+      let anchor : c.from.result ≡ b.anchor = c.from.ensures ∙ ap (λ (z : BlockItem). z.anchor) v in
+      blocks-step x c.args.handle c.loop-block.end i c.args.blocks.now b c.from.result _ c.flex_weight-size.result c.is_fresh_flex.result c.loop-block.pieces.items c.push.new.self.items
+      (c.args.pieces.now.items ++ item_pieces x c.args.handle c.args.at c.args.blocks.now) c.loop-block-test.true c.block-item.is c.push.ensures.items anchor
+      (ap (λ (z : BlockItem). z.size) v) sized fresh (c.loop-block.invariant.pieces d);
+  end =
+      let sized : c.flex_weight-size.result ≡ flex_weight c.block-item.result.size = c.flex_weight-size.ensures ∙ ap (λ (z : BlockItem). flex_weight z.size) c.block.view_is in
+      let more = weights-more c.loop-block.block-index c.args.blocks.now c.block-item.result c.loop-block-test.true c.block-item.is in
+      let before = c.loop-block.invariant.end in
+      omega arith;
   few = omega (arith, c.push.ensures.len, c.loop-block.invariant.few);
 }

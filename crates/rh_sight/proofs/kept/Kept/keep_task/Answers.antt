@@ -11,7 +11,10 @@ use Rattle.rh_sight.proofs.kept.Kept.keep_task.Goals as goal
 -- what is kept of a desk and a task
 with-task : (d : Desk) (t : Task) (b : Before) → b.handle ≡ t.handle → b.blocks ≡ block_items t.slot → b.held ≡ ref_of (held_by t.handle d.post.seats)
     → b.holdings ≡ holdings d → b.free ≡ free_pages d → b.next_ref ≡ next_ref d → b ≡ before_task d (Some t)
-with-task d t b h k m x y z = cc
+with-task d t b h k m x y z =
+    let same : Before = record { handle = b.handle; blocks = b.blocks; held = b.held; holdings = b.holdings; free = b.free; next_ref = b.next_ref } in
+    let made : same ≡ before_task d (Some t) = cc in
+    made
 
 pub returns-in-Some : goal.returns-in-Some
 returns-in-Some g c = λ t e.
