@@ -144,8 +144,8 @@ slot-whole x h end most pages s blocks none a b c e first last en ef p q eb em r
     let up : end ≡ slot_length s = omega arith in
     let same_last : last ≡ rest = cc in
     let drawn : item_pieces x h (256 + most) blocks ≡ flex =
-        ap (item_pieces x h (256 + most)) eb
-        ∙ (ap (λ n. item_pieces x h (256 + n) (block_items s)) em ∙ items-pieces x h (flex_start s) (256 + s.heap.end) s.blocks) in
+    ap (item_pieces x h (256 + most)) eb
+    ∙ (ap (λ n. item_pieces x h (256 + n) (block_items s)) em ∙ items-pieces x h (flex_start s) (256 + s.heap.end) s.blocks) in
     let low : a ≡ bottom ∷ [] = p ∙ (ap (λ z. z ++ first ∷ []) en ∙ ap (λ y. y ∷ []) ef) in
     let mid : b ≡ bottom ∷ heap = q ∙ ap (λ z. z ++ heap) low in
     let high : c ≡ bottom ∷ (heap ++ flex) = r ∙ (ap (λ z. z ++ item_pieces x h (256 + most) blocks) mid ∙ ap (λ z. bottom ∷ (heap ++ z)) drawn) in

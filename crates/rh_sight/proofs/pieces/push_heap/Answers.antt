@@ -62,10 +62,10 @@ push-requires-2 g c =
     let segs = at-heap r.0 r.1 (λ h. mid ≡ low ++ segment_pieces legend (off + first_place) (take 512 h.segments)) c.push_segments-place.ensures.pieces in
     let few : length mid ≤ length low + 512 = front-few legend (off + first_place) r.0.segments low mid segs in
     let more : length c.if-others-gt0.pieces.items ≤ length mid + 1 =
-        elim c.if-others-gt0.branch [
-          then-others-gt0 w ↦ omega (arith, ap (λ v. length v.items) w.pieces-is, w.push-then-others-gt0.ensures.len)
-        | else-others-gt0 w ↦ omega (arith, ap (λ v. length v.items) w.pieces-is)
-        ] in
+    elim c.if-others-gt0.branch [
+      | then-others-gt0 w ↦ omega (arith, ap (λ v. length v.items) w.pieces-is, w.push-then-others-gt0.ensures.len)
+      | else-others-gt0 w ↦ omega (arith, ap (λ v. length v.items) w.pieces-is)
+    ] in
     let all : length c.if-others-gt0.pieces.items < 581 = omega (arith, c.push.ensures.len, c.requires.few) in
     (omega arith, all)
 
@@ -88,12 +88,12 @@ returns g c =
     let most = at-heap h e (λ k. c.heap_end.result ≡ k.end) c.heap_end.ensures in
     let begins : c.heap_address.result - c.area_address.result ≡ off = omega (arith, c.heap_address.ensures, c.area_address.ensures) in
     let more : high ≡ mid ++ more_pieces (off + first_place + total size_of (take 512 h.segments)) (drop 512 h.segments) =
-        elim c.if-others-gt0.branch [
-          then-others-gt0 w ↦ more-then off (total size_of (take 512 h.segments)) c.take_census-others.result.count c.take_census-others.result.end place
-              (c.heap_address.result - c.area_address.result) (drop 512 h.segments) mid high w.plain-then-others-gt0.result begins at count end w.if-others-gt0.true
-              w.plain-then-others-gt0.ensures (ap (λ v. v.items) w.pieces-is ∙ w.push-then-others-gt0.ensures.items)
-        | else-others-gt0 w ↦ more-else (off + first_place + total size_of (take 512 h.segments)) c.take_census-others.result.count (drop 512 h.segments) mid high count
-              w.if-others-gt0.false (ap (λ v. v.items) w.pieces-is)
-        ] in
+    elim c.if-others-gt0.branch [
+      | then-others-gt0 w ↦ more-then off (total size_of (take 512 h.segments)) c.take_census-others.result.count c.take_census-others.result.end place
+          (c.heap_address.result - c.area_address.result) (drop 512 h.segments) mid high w.plain-then-others-gt0.result begins at count end w.if-others-gt0.true
+          w.plain-then-others-gt0.ensures (ap (λ v. v.items) w.pieces-is ∙ w.push-then-others-gt0.ensures.items)
+      | else-others-gt0 w ↦ more-else (off + first_place + total size_of (take 512 h.segments)) c.take_census-others.result.count (drop 512 h.segments) mid high count
+          w.if-others-gt0.false (ap (λ v. v.items) w.pieces-is)
+    ] in
     heap-whole legend off (c.heap_address.result - c.area_address.result) place c.take_census-others.result.end c.heap_end.result h c.args.pieces.now.items low mid high
     c.push-2.new.self.items c.plain.result c.plain-2.result begins c.plain.ensures at end most c.plain-2.ensures c.push.ensures.items segs more c.push-2.ensures.items)

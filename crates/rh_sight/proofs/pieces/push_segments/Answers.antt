@@ -22,9 +22,11 @@ segments-items-requires g c =
 pub push_items-requires-clause-items : goal.push_items-requires-clause-items
 push_items-requires-clause-items g c =
     let r = some-of (heap_seen c.args.drawn.now.heap (g.S.Sight.desk c.args.sight.now)) c.requires.heap in
-    let n = 64 * c.loop-turn._turn in
-    (c.loop-turn.place, take 64 (drop n r.0.segments),
-    c.deref.ensures.0 ∙ turn-items r.0 r.1 (heap_start_of c.args.drawn.now.heap) n c.loop-turn.place c.segments-items.result.items c.loop-turn.invariant.place c.segments-items.ensures)
+    let n = 64 * c.loop-turn._turn in (
+      c.loop-turn.place,
+      take 64 (drop n r.0.segments),
+      c.deref.ensures.0 ∙ turn-items r.0 r.1 (heap_start_of c.args.drawn.now.heap) n c.loop-turn.place c.segments-items.result.items c.loop-turn.invariant.place c.segments-items.ensures,
+    )
 
 pub place_behind-place-requires-clause-low : goal.place_behind-place-requires-clause-low
 place_behind-place-requires-clause-low g c =
@@ -64,12 +66,12 @@ loop-turn-preserved g c =
     let turn : n + 64 ≡ 64 * (c.loop-turn._turn + 1) = omega arith in
     let pieces = pieces-on legend off n c.loop-turn.place r.0.segments old now new at so_far more in
     let next : c.match-last.place ≡ place_after (take (n + 64) r.0.segments) =
-        elim c.match-last.branch [
-          in-Some w ↦ w.place-is ∙ place-on start n c.loop-turn.place w.place_behind-place.result r.0.segments c.segments-items.result.items w.in-Some.last.now at items
-              (w.in-Some.ensures.value ∙ ap (λ xs. slice_get xs (length xs - 1)) c.deref-in-loop-turn.ensures.0) w.place_behind-place.ensures
-        | in_default w ↦ w.place-is ∙ place-same start n c.loop-turn.place r.0.segments c.segments-items.result.items at items
-              (w.in_default.ensures.value ∙ ap (λ xs. slice_get xs (length xs - 1)) c.deref-in-loop-turn.ensures.0)
-        ] in
+    elim c.match-last.branch [
+      | in-Some w ↦ w.place-is ∙ place-on start n c.loop-turn.place w.place_behind-place.result r.0.segments c.segments-items.result.items w.in-Some.last.now at items
+          (w.in-Some.ensures.value ∙ ap (λ xs. slice_get xs (length xs - 1)) c.deref-in-loop-turn.ensures.0) w.place_behind-place.ensures
+      | in_default w ↦ w.place-is ∙ place-same start n c.loop-turn.place r.0.segments c.segments-items.result.items at items
+          (w.in_default.ensures.value ∙ ap (λ xs. slice_get xs (length xs - 1)) c.deref-in-loop-turn.ensures.0)
+    ] in
     let P : ℕ → Type 0 = λ k. new ≡ old ++ segment_pieces legend (off + first_place) (take k r.0.segments) in
     let Q : ℕ → Type 0 = λ k. c.match-last.place ≡ place_after (take k r.0.segments) in
     let few = c.loop-turn.invariant.few in

@@ -71,20 +71,20 @@ push-requires-2 g c =
     let heap = ap (option_map (λ (x : Task). x.slot.heap)) r.1 in
     let joined = at-some (option_map (λ (x : Task). x.slot.heap) (slice_get d.tasks c.args.i)) (λ (h : Heap). c.push_heap.new.pieces.items ≡ c.push.new.self.items ++ heap_pieces legend 256 h) t.slot.heap heap c.push_heap.ensures in
     let few : length c.push_blocks-end.new.pieces.items < 581 =
-        omega (
-          arith,
-          ap length joined,
-          length-append c.push.new.self.items (heap_pieces legend 256 t.slot.heap),
-          heap-few legend 256 t.slot.heap,
-          c.push.ensures.len,
-          ap length c.clear.ensures,
-          ap length r.3,
-          items-long (flex_start t.slot) t.slot.blocks,
-          few-blocks t.slot.blocks (task-slot c.spelled.ensures c.args.i t r.1).anchors,
-          ap length (c.push_blocks-end.ensures.pieces d),
-          length-append c.push_heap.new.pieces.items (item_pieces x c.args.task.now.handle (256 + c.args.task.now.heap_end) c.args.blocks.now),
-          items-few x c.args.task.now.handle (256 + c.args.task.now.heap_end) c.args.blocks.now,
-        ) in
+    omega (
+      arith,
+      ap length joined,
+      length-append c.push.new.self.items (heap_pieces legend 256 t.slot.heap),
+      heap-few legend 256 t.slot.heap,
+      c.push.ensures.len,
+      ap length c.clear.ensures,
+      ap length r.3,
+      items-long (flex_start t.slot) t.slot.blocks,
+      few-blocks t.slot.blocks (task-slot c.spelled.ensures c.args.i t r.1).anchors,
+      ap length (c.push_blocks-end.ensures.pieces d),
+      length-append c.push_heap.new.pieces.items (item_pieces x c.args.task.now.handle (256 + c.args.task.now.heap_end) c.args.blocks.now),
+      items-few x c.args.task.now.handle (256 + c.args.task.now.heap_end) c.args.blocks.now,
+    ) in
     (omega arith, few)
 
 pub returns : goal.returns
