@@ -25,9 +25,8 @@ extern "C" {
 /* ---- Statuses ----------------------------------------------------------------------------------------------------
  *
  * Each call answers one. With any but VF_OK it has changed nothing: no byte of the memory, and none of the numbers that
- * it would have told (but vf_desk_reply has put the first bytes of a text that has no room). Refusals have the numbers
- * that they have everywhere in vervainfile, 1 to 24: where several hold, the first is answered. What is wrong with what
- * a call was lent begins at 32.
+ * it would have told. Refusals have the numbers that they have everywhere in vervainfile, 1 to 24: where several hold,
+ * the first is answered. What is wrong with what a call was lent begins at 32.
  */
 enum {
     VF_OK = 0,                 /* all was done */
@@ -600,7 +599,7 @@ uint32_t vf_desk_line(struct vf_desk *desk, const uint8_t *line, size_t line_len
 
 /* Puts the text of the last line's reply into `text` with zeros behind it, and tells how many bytes it has, as often
  * as it is asked; what a question lists is looked up anew. VF_SHORT where the text has more bytes than there is room
- * for: `text` has the first ones then, and `length` stays. */
+ * for: `text` and `length` stay then. */
 uint32_t vf_desk_reply(struct vf_desk *desk, uint8_t *text, size_t text_len, size_t *length);
 
 /* ---- Null pointers -------------------------------------------------------------------------------------------------

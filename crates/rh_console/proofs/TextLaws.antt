@@ -5,7 +5,6 @@ use Rattle.std.proofs.Math.Seq.{take-append-add, drop-append-add, drop-append_se
 use Rattle.std.specs.Prelude.{slice_index, ◌-◌, replicate}
 use Rattle.rh_defs.specs.Bytes.{put}
 use Rattle.rh_defs.proofs.BytesLaws.{put-parts, length-put}
-use Rattle.rh_console.specs.Console.{padded}
 
 -- ---- a write
 
@@ -80,28 +79,20 @@ clear-after b xs t n room few clear =
 
 -- ---- in the end
 
--- a text that has room
+-- a text of which all was taken
 pub padded-inside : (b : List ℕ) (y t : ℕ) (text : List ℕ) → t ≤ length b → drop t b ≡ replicate (length b - t) 0
-    → take t (b ++ y ∷ []) ≡ text → (length text ≡ t) × (b ≡ padded (length b) text)
+    → take t (b ++ y ∷ []) ≡ text → b ≡ text ++ replicate (length b - length text) 0
 padded-inside b y t text room clear taken =
     let front : take t b ≡ text = sym (take-append-le t b (y ∷ []) room) ∙ taken in
-    let long : length text ≡ t = ap length (sym front) ∙ length-take-le t b room in (
-      long,
-      sym (take-append-drop t b) ∙ ap (λ l. l ++ drop t b) (front ∙ sym (take_all (length b) text (omega arith)))
-          ∙ ap (λ l. take (length b) text ++ l) (clear ∙ ap (λ k. replicate (length b - k) 0) (sym long)),
-    )
+    let long : length text ≡ t = ap length (sym front) ∙ length-take-le t b room in
+    sym (take-append-drop t b) ∙ ap (λ l. l ++ drop t b) front
+    ∙ ap (λ l. text ++ l) (clear ∙ ap (λ k. replicate (length b - k) 0) (sym long))
 
--- a text that has none, of which all bytes that have were taken, and one more
-pub padded-beyond : (b : List ℕ) (y : ℕ) (back text : List ℕ) → take (length b + 1) (b ++ y ∷ []) ++ back ≡ text
-    → (length b < length text) × (b ≡ padded (length b) text)
-padded-beyond b y back text taken =
+-- a text of which one byte more was taken than there are is longer
+pub longer-beyond : (b : List ℕ) (y : ℕ) (back text : List ℕ) → take (length b + 1) (b ++ y ∷ []) ++ back ≡ text → length b < length text
+longer-beyond b y back text taken =
     let all : take (length b + 1) (b ++ y ∷ []) ≡ b ++ y ∷ [] =
     take_all (length b + 1) (b ++ y ∷ []) (let long = length-append b (y ∷ []) in omega arith) in
     let is : text ≡ b ++ (y ∷ back) = sym taken ∙ ap (λ l. l ++ back) all ∙ append_assoc b (y ∷ []) back in
     let long : length text ≡ length b + length (y ∷ back) = ap length is ∙ length-append b (y ∷ back) in
-    let more : length b < length text = omega arith in
-    let none : length b - length text ≡ 0 = omega arith in (
-      more,
-      sym (ap (take (length b)) is ∙ take_at b (y ∷ back) (length b) refl) ∙ sym (append-nil (take (length b) text))
-          ∙ ap (λ k. take (length b) text ++ replicate k 0) (sym none),
-    )
+    omega arith

@@ -5,15 +5,16 @@ use Rattle.std.specs.Prelude.{◌≡◌, ℕ, ◌-◌, nat_le, if◌then◌else�
 abbrev pub filled : {A : Type 0} → List A → List A → List A
 filled items old = take (length old) items ++ drop (length items) old
 
--- so many bytes that begin with a text, as far as it has room, with zeros behind it
-abbrev pub padded : ℕ → List ℕ → List ℕ
-padded room text = take room text ++ replicate (room - length text) 0
+-- the lent bytes with a text and zeros behind it, or as they are where they have no room for it
+abbrev pub with_text : List ℕ → List ℕ → List ℕ
+with_text text lent =
+    if nat_le (length text) (length lent) then text ++ replicate (length lent - length text) 0 else lent
 
 -- the length of a text, if so many bytes have room for it
 abbrev pub fitting : List ℕ → ℕ → Option ℕ
 fitting text room = if nat_le (length text) room then Some (length text) else None
 
--- so many lent bytes have a text, and its length is answered if they have room for it
-pub record Prints (text : List ℕ) (room : ℕ) (now : List ℕ) (result : Option ℕ) : Type 0 where
-  pub bytes : now ≡ padded room text
-  pub told : result ≡ fitting text room
+-- lent bytes have a text, and its length is answered, if they have room for it; if not they stay
+pub record Prints (text old now : List ℕ) (result : Option ℕ) : Type 0 where
+  pub bytes : now ≡ with_text text old
+  pub told : result ≡ fitting text (length old)

@@ -1,5 +1,5 @@
 //! A desk that takes lines.
-ghost use Rattle.std.specs.Prelude.{◌≡◌, ◌≤◌, [], true, Some, Ok, length, IfOk, OnErr};
+ghost use Rattle.std.specs.Prelude.{◌≡◌, ◌≤◌, ◌<◌, ◌^◌, [], true, Some, Ok, IfOk, OnErr};
 ghost use Rattle.rh_defs.specs.Desk.{Desk};
 ghost use Rattle.rh_defs.specs.Order.{IsReordered};
 ghost use Rattle.rh_defs.specs.Runs.{start_with};
@@ -8,10 +8,11 @@ ghost use Rattle.rh_defs.specs.Script.{line_desk, line_text, meaning_desk, meani
 ghost use Rattle.rh_defs.specs.declared.sizes.TheConstants.{MAX_PAGES, MIN_PAGES};
 ghost use Rattle.rh_console.specs.declared.said.Said.TheVariants as Said;
 ghost use Rattle.rh_console.specs.Said.{said_text};
-ghost use Rattle.rh_console.specs.Console.{Prints};
+ghost use Rattle.rh_console.specs.Console.{Prints, fitting};
 
 use crate::lent_text::LentText;
 use crate::said::Said;
+use crate::tally::Tally;
 use rh_defs::{Command, Files, Handle, Ref};
 use rh_lines::parse_line;
 use rh_pages::PagedStore;
@@ -83,14 +84,32 @@ impl Console {
         }
     }
 
+    /// How many bytes the text has of what the last line was answered, over the desk as it is now. None where there are
+    /// more than so many.
+    fn length(&self, room: usize) -> Option<usize>
+        requires { room < 2 ^ 63 }
+        ensures { (d : Desk) → IsReordered d self.now.world.desk → result ≡ fitting (said_text d self.now.said) room }
+    {
+        let mut tally = Tally {
+            room,
+            taken: 0,
+            failed: false,
+        };
+        let _done = self.said.print(&self.world, &mut tally);
+        if tally.taken > room {
+            return None;
+        }
+        Some(tally.taken)
+    }
+
     /// Puts the text of what the last line was answered into lent bytes, over the desk as it is now, with zeros behind
-    /// it, and answers how many bytes it has. None where the text is longer, and then they have its first ones.
+    /// it, and answers how many bytes it has. None where the text is longer, and then they stay as they were.
     pub fn print(&self, to: &mut [u8]) -> Option<usize>
         ensures { (d : Desk) → IsReordered d self.now.world.desk →
-            Prints (said_text d self.now.said) (length to.old) to.new result }
+            Prints (said_text d self.now.said) to.old to.new result }
     {
+        let length = self.length(to.len())?;
         to.fill(0);
-        let room = to.len();
         let mut text = LentText {
             bytes: to,
             taken: 0,
@@ -98,9 +117,6 @@ impl Console {
             failed: false,
         };
         let _done = self.said.print(&self.world, &mut text);
-        if text.taken > room {
-            return None;
-        }
-        Some(text.taken)
+        Some(length)
     }
 }

@@ -4,6 +4,7 @@
 mod console;
 mod lent_text;
 mod said;
+mod tally;
 
 pub use console::{Console, PagedWorld};
 pub use said::Said;

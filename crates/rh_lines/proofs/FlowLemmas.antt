@@ -1,13 +1,13 @@
 -- Writes, one after another.
 use Rattle.std.proofs.Common.{◌≡◌, ℕ, List, [], ◌∷◌, ◌++◌, take, drop, Option, Some, None, Result, Ok, Err, append_assoc, sym, ◌∙◌, ap, refl, rules, arith}
-use Rattle.std.proofs.Common.{length, ◌-◌, ◌+◌, ◌<◌, zero, suc, get_or, append-nil, subst}
+use Rattle.std.proofs.Common.{length, ◌-◌, ◌+◌, ◌<◌, zero, suc, get_or, append-nil, length-append, subst}
 use Rattle.std.specs.List.{flat_map}
 use Rattle.std.proofs.lemmas.List.{take_more}
 use Rattle.std.proofs.lemmas.Grind.{flat_map-append}
 use Rattle.std.proofs.lemmas.List.{take-append-drop, take_rest}
 use Rattle.std.specs.Result.{IsErr}
 use Rattle.std.specs.Io.KnownBytes.{Appends}
-use Rattle.rh_lines.specs.Flow.{Output, Takes, Breaks, Puts}
+use Rattle.rh_lines.specs.Flow.{Output, Takes, Breaks, Puts, count_after}
 
 pub Appends-more : (a b c : Option (List ℕ)) (x y : List ℕ) → Appends a b x → Appends b c y → Appends a c (x ++ y)
 Appends-more None b c x y p q = tt
@@ -19,14 +19,31 @@ pub Appends-none : (a : Option (List ℕ)) → Appends a a []
 Appends-none None = tt
 Appends-none (Some a) = search rules
 
+-- no more bytes leave the count
+pub count_after-none : (count : Option ℕ) → count ≡ count_after count 0
+count_after-none None = refl
+count_after-none (Some k) = ap Some (omega arith)
+
+-- the count after some bytes, and then more
+pub count_after-more : (a b c : Option ℕ) (x y : List ℕ) → b ≡ count_after a (length x) → c ≡ count_after b (length y)
+    → c ≡ count_after a (length (x ++ y))
+count_after-more None b c x y first then = then ∙ ap (λ d. count_after d (length y)) first
+count_after-more (Some k) b c x y first then =
+    let long = length-append x y in
+    then ∙ ap (λ d. count_after d (length y)) first ∙ ap Some (omega arith)
+
 -- nothing was written yet
 pub takes_none : (s : Output) → Takes s s []
-takes_none s = record { taken = Appends-none s.taken; failed = refl }
+takes_none s = record { taken = Appends-none s.taken; counted = count_after-none s.count; failed = refl }
 
 -- one write after another
 pub takes_more : {s t u : Output} {x y : List ℕ} → Takes s t x → Takes t u y → Takes s u (x ++ y)
 takes_more {s} {t} {u} {x} {y} p q =
-    record { taken = Appends-more s.taken t.taken u.taken x y p.taken q.taken; failed = q.failed ∙ p.failed }
+    record {
+      taken = Appends-more s.taken t.taken u.taken x y p.taken q.taken;
+      counted = count_after-more s.count t.count u.count x y p.counted q.counted;
+      failed = q.failed ∙ p.failed;
+    }
 
 -- a write that fails after others
 pub takes_breaks : {s t u : Output} {x y : List ℕ} → Takes s t x → Breaks t u y → Breaks s u (x ++ y)
@@ -35,6 +52,7 @@ takes_breaks {s} {t} {u} {x} {y} p q = record {
   back = q.back;
   whole = ap (λ z. x ++ z) q.whole ∙ sym (append_assoc x q.front q.back);
   taken = Appends-more s.taken t.taken u.taken x q.front p.taken q.taken;
+  counted = count_after-more s.count t.count u.count x q.front p.counted q.counted;
   failed = q.failed;
 }
 
@@ -45,6 +63,7 @@ breaks_before {s} {t} {x} y q = record {
   back = q.back ++ y;
   whole = ap (λ z. z ++ y) q.whole ∙ append_assoc q.front q.back y;
   taken = q.taken;
+  counted = q.counted;
   failed = q.failed;
 }
 

@@ -1,10 +1,13 @@
 -- What a reader has left and what a writer has taken, and what writing some bytes does.
-use Rattle.std.specs.Prelude.{◌≡◌, ℕ, ◌+◌, min, Bool, true, ◌==◌, ◌&&◌, not, List, ◌++◌, Option, Result, Ok, Err, OnOk, OnErr, if◌then◌else◌}
+use Rattle.std.specs.Prelude.{◌≡◌, ℕ, ◌+◌, min, Bool, true, ◌==◌, ◌&&◌, not, List, ◌++◌, length, Option, Result, Ok, Err, OnOk, OnErr, if◌then◌else◌}
 use Rattle.std.specs.Io.KnownBytes.{Appends}
+use Rattle.std.specs.Option.{option_map}
 
--- a writer: the bytes that it has taken, where they are known, and whether a call ever failed
+-- a writer: the bytes that it has taken, where they are known, how many they are, where it counts them, and whether a
+-- call ever failed
 pub record Output : Type 0 where
   pub taken : Option (List ℕ)
+  pub count : Option ℕ
   pub failed : Bool
 
 -- a reader: the bytes that it has left, where they are known, whether a call ever failed, and how many reads
@@ -26,9 +29,19 @@ abbrev pub write_failed : {E : Type 0} → Result ℕ E → ℕ → Bool
 write_failed (Ok k) n = (k == 0) && not (n == 0)
 write_failed (Err e) n = true
 
+-- how many bytes a write took
+abbrev pub bytes_taken : {E : Type 0} → Result ℕ E → ℕ
+bytes_taken (Ok k) = k
+bytes_taken (Err e) = 0
+
+-- the count after n more bytes, where there is one
+abbrev pub count_after : Option ℕ → ℕ → Option ℕ
+count_after count n = option_map (λ k. k + n) count
+
 -- the writer took just these bytes, and no call failed
 pub record Takes (old new : Output) (bytes : List ℕ) : Type 0 where
   pub taken : Appends old.taken new.taken bytes
+  pub counted : new.count ≡ count_after old.count (length bytes)
   pub failed : new.failed ≡ old.failed
 
 -- a call failed, and the writer took only a front of these bytes
@@ -37,6 +50,7 @@ pub record Breaks (old new : Output) (bytes : List ℕ) : Type 0 where
   pub back : List ℕ
   pub whole : bytes ≡ front ++ back
   pub taken : Appends old.taken new.taken front
+  pub counted : new.count ≡ count_after old.count (length front)
   pub failed : new.failed ≡ true
 
 -- all of the bytes at Ok, and a front of them at Err, which comes only where the writer failed

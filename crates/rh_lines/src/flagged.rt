@@ -68,9 +68,10 @@ impl<R: Read> Source for Flagged<R> {
 }
 
 impl<W: Write> Sink for Flagged<W> {
+    ghost use Rattle.std.specs.Prelude.{None};
     ghost use Rattle.rh_lines.specs.Flow.{Output};
 
-    ghost output = { λ s. record { taken = W.contents s.inner; failed = s.failed } };
+    ghost output = { λ s. record { taken = W.contents s.inner; count = None; failed = s.failed } };
 
     fn write(&mut self, bytes: &[u8]) -> Result<usize, WriteFailed> {
         match self.inner.write(bytes) {

@@ -60,9 +60,9 @@ impl Held {
 }
 
 impl Sink for Held {
-    ghost use Rattle.std.specs.Prelude.{Some};
+    ghost use Rattle.std.specs.Prelude.{None, Some};
 
-    ghost output = { λ s. record { taken = Some s.bytes; failed = s.failed } };
+    ghost output = { λ s. record { taken = Some s.bytes; count = None; failed = s.failed } };
 
     fn write(&mut self, bytes: &[u8]) -> Result<usize, WriteFailed> {
         if bytes.len() > ROOM - self.bytes.len() {

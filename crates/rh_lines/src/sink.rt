@@ -3,7 +3,7 @@
 ghost use Rattle.std.specs.Prelude.{◌≡◌, length, ◌||◌};
 ghost use Rattle.std.specs.Io.{WritesAtMost};
 ghost use Rattle.std.specs.Io.KnownBytes.{WriteAppends};
-ghost use Rattle.rh_lines.specs.Flow.{Output, write_failed, Puts};
+ghost use Rattle.rh_lines.specs.Flow.{Output, bytes_taken, count_after, write_failed, Puts};
 
 use thiserror::Error;
 
@@ -14,7 +14,7 @@ pub struct WriteFailed;
 
 /// What bytes are written to.
 pub trait Sink {
-    // The bytes taken so far, and whether a call failed.
+    // The bytes taken so far, their count, and whether a call failed.
     ghost output: { Self → Output };
 
     /// Takes some of the bytes from the front, and says how many. Fails only where the writer
@@ -22,6 +22,7 @@ pub trait Sink {
     fn write(&mut self, bytes: &[u8]) -> Result<usize, WriteFailed>
         ensures bound { WritesAtMost result bytes.now }
         ensures taken { WriteAppends (output self.old).taken (output self.new).taken result bytes.now }
+        ensures counted { (output self.new).count ≡ count_after (output self.old).count (bytes_taken result) }
         ensures failed { (output self.new).failed ≡ ((output self.old).failed || write_failed result (length bytes.now)) };
 }
 

@@ -39,6 +39,7 @@ left_breaks {s = s} {u = u} {whole = whole} {part = part} {e = e} behind r p k q
         whole = p.is ∙ (ap (λ z. p.written ++ z) k ∙ (sym (append_assoc p.written part behind)
             ∙ (ap (λ z. z ++ behind) broken.whole ∙ append_assoc broken.front broken.back behind)));
         taken = broken.taken;
+        counted = broken.counted;
         failed = broken.failed;
       };
     }) h

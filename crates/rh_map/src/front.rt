@@ -61,9 +61,9 @@ impl Front {
 }
 
 impl Sink for Front {
-    ghost use Rattle.std.specs.Prelude.{Some};
+    ghost use Rattle.std.specs.Prelude.{None, Some};
 
-    ghost output = { λ s. record { taken = Some s.bytes; failed = s.failed } };
+    ghost output = { λ s. record { taken = Some s.bytes; count = None; failed = s.failed } };
 
     fn write(&mut self, bytes: &[u8]) -> Result<usize, WriteFailed> {
         let count = bytes.len().min(ROOM - self.bytes.len());

@@ -64,13 +64,13 @@ takes-open {line} old new console now was_open after files desk said = record {
 -- ---- a text in lent bytes
 
 -- a text that had room, and its length
-pub fills-some : {text bytes : List ℕ} {room was n : ℕ} → Prints text room bytes (Some n) → Fills text room bytes was n 0
-fills-some {text} {bytes} {room} {was} {n} prints = go (nat_le (length text) room) refl
+pub fills-some : {text lent bytes : List ℕ} {was n : ℕ} → Prints text lent bytes (Some n) → Fills text lent bytes was n 0
+fills-some {text} {lent} {bytes} {was} {n} prints = go (nat_le (length text) (length lent)) refl
   where
     same : {x y : ℕ} → ◌≡◌ {A = Option ℕ} (Some x) (Some y) → x ≡ y
     same e = cc
 
-    go : (b : Bool) → nat_le (length text) room ≡ b → Fills text room bytes was n 0
+    go : (b : Bool) → nat_le (length text) (length lent) ≡ b → Fills text lent bytes was n 0
     go true low = record {
       bytes_are = prints.bytes;
       length_is = same (prints.told ∙ ap (λ b. if b then Some (length text) else None) low) ∙ sym (ap (λ b. if b then length text else was) low);
@@ -81,10 +81,10 @@ fills-some {text} {bytes} {room} {was} {n} prints = go (nat_le (length text) roo
         absurd (cc)
 
 -- a text that had none
-pub fills-none : {text bytes : List ℕ} {room was : ℕ} → Prints text room bytes None → Fills text room bytes was was short
-fills-none {text} {bytes} {room} {was} prints = go (nat_le (length text) room) refl
+pub fills-none : {text lent bytes : List ℕ} {was : ℕ} → Prints text lent bytes None → Fills text lent bytes was was short
+fills-none {text} {lent} {bytes} {was} prints = go (nat_le (length text) (length lent)) refl
   where
-    go : (b : Bool) → nat_le (length text) room ≡ b → Fills text room bytes was was short
+    go : (b : Bool) → nat_le (length text) (length lent) ≡ b → Fills text lent bytes was was short
     go true low =
         let some : ◌≡◌ {A = Option ℕ} None (Some (length text)) = prints.told ∙ ap (λ b. if b then Some (length text) else None) low in
         absurd (cc)
@@ -97,10 +97,10 @@ fills-none {text} {bytes} {room} {was} prints = go (nat_le (length text) room) r
 -- ---- the reply that is kept
 
 pub replies-open : {held : Option Station} {console : Console} {before after : List ℕ} {was now status : ℕ} → console_in held ≡ Some console
-    → ((d : Desk) → IsReordered d console.world.desk → Fills (said_text d console.said) (length before) after was now status)
+    → ((d : Desk) → IsReordered d console.world.desk → Fills (said_text d console.said) before after was now status)
     → Replies held before after was now status
 replies-open {held} {console} {before} {after} {was} {now} {status} is fills = record {
-  fills = λ d seen. subst (λ h. Fills (kept_text h d) (length before) after was now status) (sym is) (fills d (subst (λ h. SeenBy h (Some d)) is seen));
+  fills = λ d seen. subst (λ h. Fills (kept_text h d) before after was now status) (sym is) (fills d (subst (λ h. SeenBy h (Some d)) is seen));
   stays = λ seen. absurd (subst (λ h. SeenBy h None) is seen);
 }
 

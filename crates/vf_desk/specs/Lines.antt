@@ -1,6 +1,6 @@
 -- Lines, and the texts of their replies in lent bytes.
 use Rattle.std.specs.Prelude.{◌≡◌, ◌≢◌, ℕ, nat_le, if◌then◌else◌, List, [], length, Option, Some, None}
-use Rattle.rh_console.specs.Console.{padded}
+use Rattle.rh_console.specs.Console.{with_text}
 use Rattle.rh_console.specs.Said.{said_text}
 use Rattle.rh_console.specs.declared.console.Console.{Console}
 use Rattle.rh_defs.specs.Desk.{Desk}
@@ -33,12 +33,12 @@ pub record Takes (line : List ℕ) (old new : Option Station) (status : ℕ) : T
   pub files : files_in new ≡ files_in old
   pub refused : status ≢ 0 → new ≡ old
 
--- So many lent bytes have a text with zeros behind it, and its length is told. Where they have no room for it the
--- status says so, they have its first bytes, and the number that was told before stays.
-pub record Fills (text : List ℕ) (room : ℕ) (bytes : List ℕ) (was now status : ℕ) : Type 0 where
-  pub bytes_are : bytes ≡ padded room text
-  pub length_is : now ≡ (if nat_le (length text) room then length text else was)
-  pub status_is : status ≡ (if nat_le (length text) room then 0 else short)
+-- Lent bytes have a text with zeros behind it, and its length is told. Where they have no room for it the status says
+-- so, and they and the number that was told before stay.
+pub record Fills (text before after : List ℕ) (was now status : ℕ) : Type 0 where
+  pub bytes_are : after ≡ with_text text before
+  pub length_is : now ≡ (if nat_le (length text) (length before) then length text else was)
+  pub status_is : status ≡ (if nat_le (length text) (length before) then 0 else short)
 
 -- nothing is told of a desk that isn't open
 pub record Stays (before after : List ℕ) (was now status : ℕ) : Type 0 where
@@ -49,5 +49,5 @@ pub record Stays (before after : List ℕ) (was now status : ℕ) : Type 0 where
 -- Lent bytes have the text of the reply that is kept, over the desk as it is.
 pub record Replies (held : Option Station) (before after : List ℕ) (was now status : ℕ) : Type 0 where
   pub fills : (d : Desk) → SeenBy (console_in held) (Some d) →
-      Fills (kept_text (console_in held) d) (length before) after was now status
+      Fills (kept_text (console_in held) d) before after was now status
   pub stays : SeenBy (console_in held) None → Stays before after was now status

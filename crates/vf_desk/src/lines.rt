@@ -1,5 +1,5 @@
 //! Lines of text, and their replies.
-ghost use Rattle.std.specs.Prelude.{◌≡◌, Some, length};
+ghost use Rattle.std.specs.Prelude.{◌≡◌, Some};
 ghost use Rattle.rh_defs.specs.Desk.{Desk};
 ghost use Rattle.rh_defs.specs.Order.{IsReordered};
 ghost use Rattle.rh_console.specs.Said.{said_text};
@@ -25,7 +25,7 @@ pub extern "C" fn vf_desk_line(alloc: Global, desk: &mut VfDesk, line: &[u8]) ->
 }
 
 /// Puts the text of the last line's reply into `text` with zeros behind it, and tells how many bytes it has. SHORT
-/// where it has more than there is room for, and then `text` has its first ones.
+/// where it has more than there is room for, and then `text` and `length` stay.
 #[unsafe(no_mangle)]
 pub extern "C" fn vf_desk_reply(
     alloc: Global,
@@ -71,7 +71,7 @@ impl Station {
 /// Puts the text of the reply that is kept into lent bytes, and tells its length if there is room for it.
 fn fill(console: &Console, text: &mut [u8], told: &mut usize) -> u32
     ensures { (d : Desk) → IsReordered d console.now.world.desk →
-        Fills (said_text d console.now.said) (length text.old) text.new told.old told.new result }
+        Fills (said_text d console.now.said) text.old text.new told.old told.new result }
 {
     match console.print(text) {
         Some(n) => {

@@ -8,5 +8,5 @@ loop-rest-preserved g c =
     let i = c.loop-rest.invariant in (
       i.0 ++ take c.in_ok-taken.taken c.loop-rest.rest.now,
       next_front _ i.0 c.loop-rest.rest.now c.in_ok-taken.taken i.1,
-      takes_more i.2 (record { taken = search rules; failed = grind (arith, common_steps) }),
+      takes_more i.2 (record { taken = search rules; counted = search rules; failed = grind (arith, common_steps) }),
     )
