@@ -1,0 +1,3 @@
+mod ReadLemmas
+mod MapLemmas
+mod Walks
