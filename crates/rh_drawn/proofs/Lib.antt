@@ -1,3 +1,4 @@
 mod ReadLemmas
 mod MapLemmas
 mod Walks
+mod PageLemmas

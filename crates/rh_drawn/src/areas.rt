@@ -81,6 +81,7 @@ fn print_made<S: Sight, W: Sink>(
     ensures { Puts (W.output writer.old) (W.output writer.new) result
         (shown_lines (panel_part (map (made_panel (scene_at (S.desk sight.now) step.now)) (S.desk sight.now).made))) }
 {
+    sight.spelled();
     let mut i = 0;
     'areas: while let Some(area) = sight.made(i) {
         let pages = pages_of(sight, step.pages, PagesOf::Made(i));

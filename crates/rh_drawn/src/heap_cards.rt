@@ -225,14 +225,18 @@ fn print_message<S: Sight, W: Sink>(
         (shown_lines (card_lines (post_card (scene_at (S.desk sight.now) step.now) p ∷ []))) }
 {
     sight.spelled();
+    let from = who_of(sight, message.from);
+    let to = who_of(sight, message.to);
+    let place = chain_place(place_of(step.messages, message));
+    let fresh = is_new_ref(step, message.my_ref);
     let card = CardMessage {
         my_ref: message.my_ref,
         action: message.action,
         code: message.code,
-        from: who_of(sight, message.from),
-        to: who_of(sight, message.to),
-        place: chain_place(place_of(step.messages, message)),
-        fresh: is_new_ref(step, message.my_ref),
+        from,
+        to,
+        place,
+        fresh,
     };
     print_message_card(&card, writer)
 }

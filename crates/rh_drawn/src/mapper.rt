@@ -136,10 +136,12 @@ impl<D: Drawn> Mapper<D> {
         self.drawn.messages(&mut self.messages);
         let kept = Kept::new(&self.drawn, None, &self.messages);
         let count = excerpt_fault(fault, &mut self.front);
+        let command = None;
+        let reply = Reply::Done;
         let deed = Deed {
             kept: &kept,
-            command: None,
-            reply: &Reply::Done,
+            command,
+            reply: &reply,
             count,
             wanted,
         };
@@ -189,10 +191,10 @@ impl<D: Drawn> Mapper<D> {
     }
 
     /// Writes a step, of which the reply's front stands in its place.
-    fn show<W: Sink>(
-        &mut self,
+    fn show<'a, W: Sink>(
+        &'a mut self,
         line: &[u8],
-        deed: &Deed<'_>,
+        deed: &Deed<'a>,
         writer: &mut W,
     ) -> Result<(), WriteFailed>
         ensures text { (text : List ℕ) → Excerpts self.old.front.bytes deed.now.count text → Puts (W.output writer.old) (W.output writer.new) result
