@@ -36,6 +36,19 @@ module _ {A : Type 0} (lines : List A → List Text) (none : lines [] ≡ []) (x
   pub walk-end : length xs ≤ i → shown_lines (lines (drop i xs)) ≡ []
   walk-end e = ap (λ z. shown_lines (lines z)) (drop_all i xs e) ∙ ap shown_lines none
 
+-- ---- what is found first
+
+-- a walk that is at a member, which it leaves or takes, or at the end
+module _ {A B : Type 0} (first : List A → B) (xs : List A) (i : ℕ) (so_far : first (drop i xs) ≡ first xs) where
+  pub walk-on : (x : A) → slice_get xs i ≡ Some x → first (x ∷ drop (i + 1) xs) ≡ first (drop (i + 1) xs) → first (drop (i + 1) xs) ≡ first xs
+  walk-on x e past = sym past ∙ (ap first (sym (rest-some xs i x e)) ∙ so_far)
+
+  pub walk-to : (x : A) (y : B) → slice_get xs i ≡ Some x → first (x ∷ drop (i + 1) xs) ≡ y → y ≡ first xs
+  walk-to x y e found = sym found ∙ (ap first (sym (rest-some xs i x e)) ∙ so_far)
+
+  pub walk-off : (y : B) → slice_get xs i ≡ None → first [] ≡ y → y ≡ first xs
+  walk-off y e found = sym found ∙ (ap first (sym (rest-none xs i e)) ∙ so_far)
+
 -- ---- lines behind two spaces
 
 pub indented-append : (xs ys : List Text) → indented (xs ++ ys) ≡ indented xs ++ indented ys

@@ -40,13 +40,14 @@ IsBandFor d b heap_of.Module = b.taking.now ≡ []
 abbrev pub IsBandOf : Desk → Band → Type 0
 IsBandOf d b = IsBandFor d b b.heap
 
--- the card of a segment at an address, a hole's where the task isn't there
+-- the card of a segment of a task's heap at an address, a hole's where the task isn't there
+abbrev pub card_of_task : Scene → Option Task → ℕ → Segment → Card
+card_of_task x None address segment = hole_card address 0
+card_of_task x (Some t) address segment = heap_card x t address segment
+
+-- the same of either heap
 abbrev pub card_for : Scene → Desk → HeapOf → ℕ → Segment → Card
-card_for x d (heap_of.Task i) = of_task (slice_get d.tasks i)
-  where
-    of_task : Option Task → ℕ → Segment → Card
-    of_task None address segment = hole_card address 0
-    of_task (Some t) address segment = heap_card x t address segment
+card_for x d (heap_of.Task i) = card_of_task x (slice_get d.tasks i)
 card_for x d heap_of.Module = module_card x
 
 abbrev pub band_card : Scene → Desk → Band → ℕ → Segment → Card

@@ -1,12 +1,12 @@
 //! What has changed of the flex blocks of the task that the command names.
 
-ghost use Rattle.std.specs.Prelude.{◌≡◌, ◌≤◌, ◌<◌, [], ◌∷◌, ◌++◌, IfSome, filter, flat_map, if◌then◌else◌, length, map, not};
+ghost use Rattle.std.specs.Prelude.{◌≡◌, ◌≤◌, ◌<◌, [], ◌∷◌, ◌++◌, IfSome, List, filter, flat_map, if◌then◌else◌, length, map, not};
 ghost use Rattle.rh_defs.specs.Desk.{task_at};
 ghost use Rattle.rh_defs.specs.declared.listing.BlockItem.{BlockItem};
 ghost use Rattle.rh_defs.specs.declared.sizes.TheConstants.{ANCHORS};
 ghost use Rattle.rh_drawn.specs.Parts.{block_part, indented, slide_part};
 ghost use Rattle.rh_drawn.specs.Slides.{from_seen, summary_of, with_one};
-ghost use Rattle.rh_figure.specs.Changes.{block_change, gone_line, has_anchor as has_anchor_in, item_of, slide_change, slide_of};
+ghost use Rattle.rh_figure.specs.Changes.{Slide, block_change, gone_line, has_anchor as has_anchor_in, item_of, slide_change, slide_of};
 ghost use Rattle.rh_lines.specs.Flow.{Puts};
 ghost use Rattle.rh_map.specs.Written.{shown_lines};
 ghost use Rattle.rh_sight.specs.Steps.{scene_at};
@@ -139,11 +139,20 @@ fn find_slid(kept: &Kept, blocks: &[BlockItem]) -> Option<Slid>
 {
     let mut found = None;
     for block in blocks {
-        if let Some(from) = slid_from(kept, block) {
-            found = Some(one_more(found, from, block.address));
-        }
+        found = with_block(found, kept, block);
     }
     found
+}
+
+/// The same blocks, and this one if it lies elsewhere now.
+fn with_block(found: Option<Slid>, kept: &Kept, block: &BlockItem) -> Option<Slid>
+    requires { IfSome found (λ slid. slid.count < ANCHORS) }
+    ensures { (slides : List Slide) → found ≡ summary_of slides → result ≡ summary_of (slides ++ slide_of block.now (item_of block.now.anchor kept.now.blocks)) }
+{
+    match slid_from(kept, block) {
+        Some(from) => Some(one_more(found, from, block.address)),
+        None => found,
+    }
 }
 
 /// Where a block lay that lies elsewhere now.

@@ -1,7 +1,8 @@
 //! Letterboxes: what each task holds, and what waits for it.
 
-ghost use Rattle.std.specs.Prelude.{◌≡◌, ◌≤◌, filter, length, map, min, take};
+ghost use Rattle.std.specs.Prelude.{◌≡◌, ◌≤◌, ◌<◌, ◌+◌, ◌∷◌, ◌++◌, [], List, filter, find, length, map, min, take};
 ghost use Rattle.std.specs.List.{list_any};
+ghost use Rattle.std.specs.Option.{option_map};
 ghost use Rattle.rh_defs.specs.Desk.{Task};
 ghost use Rattle.rh_drawn.specs.Letters.{entry_seen, has_letters_in, letterboxes_in};
 ghost use Rattle.rh_drawn.specs.Parts.{letter_part};
@@ -10,7 +11,8 @@ ghost use Rattle.rh_figure.specs.Map.{letterbox_line};
 ghost use Rattle.rh_figure.specs.declared.limits.TheConstants.{MOST_LISTED};
 ghost use Rattle.rh_lines.specs.Flow.{Puts};
 ghost use Rattle.rh_map.specs.Written.{shown_lines};
-ghost use Rattle.rh_sight.specs.Messages.{waits_for};
+ghost use Rattle.rh_map.specs.declared.letterboxes.MessageEntry.{MessageEntry};
+ghost use Rattle.rh_sight.specs.Messages.{is_held_by, waits_for};
 ghost use Rattle.rh_sight.specs.Steps.{IsStepOf, scene_at};
 
 use rh_defs::{Action, EventCode, Handle, Name, Ref};
@@ -108,34 +110,63 @@ fn print_letters<W: Sink>(
     if !has_letters(messages, handle) {
         return Ok(());
     }
-    let held = match held_by(messages, handle) {
-        Some(message) => Some(entry(&message)),
-        None => None,
-    };
+    let held = held_entry(messages, handle);
     let waits = waits_of(messages, handle);
     let first = &waits.first[..waits.count.min(MOST_LISTED)];
     print_letterbox(name, held, first, waits.count, writer)
 }
 
+/// The message that a task holds.
+fn held_entry(messages: &[MessageItem], handle: Handle) -> Option<MessageEntry>
+    ensures { result ≡ option_map entry_seen (find (is_held_by handle) messages.now) }
+{
+    match held_by(messages, handle) {
+        Some(message) => Some(entry(&message)),
+        None => None,
+    }
+}
+
 /// The messages that wait for a task.
 fn waits_of(messages: &[MessageItem], handle: Handle) -> Waits
     requires { length messages.now ≤ 256 }
-    ensures count { result.count ≡ length (filter (waits_for handle) messages.now) }
-    ensures first { take (min result.count MOST_LISTED) result.first ≡ map entry_seen (take MOST_LISTED (filter (waits_for handle) messages.now)) }
+    ensures count { result.count ≡ length (map entry_seen (filter (waits_for handle) messages.now)) }
+    ensures first { take (min result.count MOST_LISTED) result.first ≡ take MOST_LISTED (map entry_seen (filter (waits_for handle) messages.now)) }
 {
     let mut waits = Waits {
         first: [NO_ENTRY; MOST_LISTED],
         count: 0,
     };
     for message in messages {
-        if !message.held && message.to == handle {
-            if waits.count < MOST_LISTED {
-                waits.first[waits.count] = entry(message);
-            }
-            waits.count += 1;
+        if is_waiting(message, handle) {
+            waits.note(entry(message));
         }
     }
     waits
+}
+
+/// Whether a message waits for the task.
+fn is_waiting(message: &MessageItem, handle: Handle) -> bool
+    ensures { result ≡ waits_for handle message.now }
+{
+    !message.held && message.to == handle
+}
+
+impl Waits {
+    /// Counts one more, and keeps it if it is one of the first.
+    fn note(&mut self, entry: MessageEntry)
+        requires few { self.old.count < 256 }
+        requires room { length self.old.first ≡ MOST_LISTED }
+        ensures room { length self.new.first ≡ MOST_LISTED }
+        ensures count { self.new.count ≡ self.old.count + 1 }
+        ensures first { (ws : List MessageEntry) → length ws ≡ self.old.count → take (min self.old.count MOST_LISTED) self.old.first ≡ take MOST_LISTED ws →
+            take (min self.new.count MOST_LISTED) self.new.first ≡ take MOST_LISTED (ws ++ entry ∷ []) }
+    {
+        let place = self.count;
+        self.count += 1;
+        if place < MOST_LISTED {
+            self.first[place] = entry;
+        }
+    }
 }
 
 /// A message as a letterbox has it.

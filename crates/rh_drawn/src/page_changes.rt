@@ -87,6 +87,7 @@ fn print_area_part<S: Sight, W: Sink>(
     ensures { Puts (W.output writer.old) (W.output writer.new) result
         (shown_lines (takes_part (scene_at (S.desk sight.now) step.now) (AreaOf number, has))) }
 {
+    sight.spelled();
     let had = step.kept.count(Owner::Area(number));
     if had >= has {
         return Ok(());
@@ -145,6 +146,7 @@ fn print_freed_part<S: Sight, W: Sink>(
     ensures { Puts (W.output writer.old) (W.output writer.new) result
         (shown_lines (indented (freed_text (freed_pages (scene_at (S.desk sight.now) step.now))))) }
 {
+    sight.spelled();
     let had = step.kept.free() as usize;
     let free = free_of(sight, step.pages);
     if had >= free.len() {

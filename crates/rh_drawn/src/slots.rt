@@ -115,6 +115,7 @@ fn print_slot<S: Sight, W: Sink>(
     ensures { (t : Task) → slice_get (S.desk sight.now).tasks i ≡ Some t → Puts (W.output writer.old) (W.output writer.new) result
         (shown_lines (drawing_lines (Some (slot_drawing (scene_at (S.desk sight.now) step.now) t)))) }
 {
+    sight.spelled();
     sight.blocks(i, &mut lists.blocks);
     slot_pieces(sight, step, i, task, &lists.blocks, &mut lists.pieces);
     let area = Area {

@@ -44,12 +44,19 @@ fn has_transfers<S: Sight>(sight: &S) -> bool
 {
     let mut i = 0;
     'tasks: while let Some(task) = sight.task(i) {
-        if !task.sending.is_empty() || !task.taking.is_empty() {
+        if has_records(&task) {
             return true;
         }
         i += 1;
     }
     false
+}
+
+/// Whether a task has a record of a transfer.
+fn has_records(task: &TaskSight<'_>) -> bool
+    ensures { result ≡ (not (length task.now.sending.now == 0) || not (length task.now.taking.now == 0)) }
+{
+    !task.sending.is_empty() || !task.taking.is_empty()
 }
 
 /// Writes the transfers that go out, task by task.
@@ -72,17 +79,31 @@ fn print_task_outs<S: Sight, W: Sink>(
     writer: &mut W,
 ) -> Result<(), WriteFailed>
     ensures { Puts (W.output writer.old) (W.output writer.new) result
-        (shown_lines (map transfer_line (map (λ r. goes_out (ins_of (S.desk sight.now)) (task.now.name.now, out_item_of r)) task.now.sending.now))) }
+        (shown_lines (map transfer_line (map (goes_out (ins_of (S.desk sight.now))) (map (λ r. (task.now.name.now, out_item_of r)) task.now.sending.now)))) }
 {
     for record in task.sending {
-        let out = Some(Side {
-            name: task.name,
-            record: out_item(record),
-        });
-        let id = out_id(record);
-        print_transfer(id, &out, &in_side(sight, id), writer)?;
+        print_out(sight, task.name, record, writer)?;
     }
     Ok(())
+}
+
+/// Writes the transfer of a record of one that goes out.
+fn print_out<S: Sight, W: Sink>(
+    sight: &S,
+    name: &Name,
+    record: &Outgoing,
+    writer: &mut W,
+) -> Result<(), WriteFailed>
+    ensures { Puts (W.output writer.old) (W.output writer.new) result
+        (shown_lines (transfer_line (goes_out (ins_of (S.desk sight.now)) (name.now, out_item_of record.now)) ∷ [])) }
+{
+    let id = out_id(record);
+    let side = Some(Side {
+        name,
+        record: out_item(record),
+    });
+    let other = in_side(sight, id);
+    print_transfer(id, &side, &other, writer)
 }
 
 /// The first side with the id that comes in.

@@ -1,6 +1,7 @@
-use Rattle.std.proofs.Common.{List, ap, map, refl}
+use Rattle.std.proofs.Common.{◌<◌, List, length, ap, map, refl, arith}
 use Rattle.std.specs.List.{flat_map}
 use Rattle.std.specs.Option.{option_map}
+use Rattle.std.proofs.lemmas.Option.{slice_get_within}
 use Rattle.rh_defs.specs.Desk.{Made}
 use Rattle.rh_figure.specs.Share.{AreaOf}
 use Rattle.rh_map.proofs.Left.{left_breaks, left_less, left_none}
@@ -38,3 +39,12 @@ returns g c =
     let d = g.S.Sight.desk c.args.sight.now in
     let x = scene_at d c.args.step.now in
     record { ok = left_none c.areas.invariant (walk-none (λ (ms : List Made). flat_map (takes_part x) (map made_holding ms)) refl d.made c.areas.i c.in_default.ensures.none); err = tt }
+
+pub overflow_add-i : goal.overflow_add-i
+overflow_add-i g c =
+    omega (arith, c.in-Some.ensures.few, slice_get_within (g.S.Sight.desk c.args.sight.now).made c.areas.i _ c.in-Some.ensures.some)
+
+pub areas-smaller : goal.areas-smaller
+areas-smaller g c =
+    let inside : c.areas.i < length (g.S.Sight.desk c.args.sight.now).made = slice_get_within (g.S.Sight.desk c.args.sight.now).made c.areas.i _ c.in-Some.ensures.some in
+    omega arith

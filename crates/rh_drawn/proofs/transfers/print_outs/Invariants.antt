@@ -14,7 +14,7 @@ abbrev pub invariant-tasks : goal.invariant-tasks
 invariant-tasks g l =
     let d = g.S.Sight.desk l.sight in
     Left (g.W.Sink.output l.initial.writer) (g.W.Sink.output l.writer) (shown_lines (map transfer_line (map (goes_out (ins_of d)) (outs_of d))))
-    (shown_lines (flat_map (λ (t : Task). map transfer_line (map (λ r. goes_out (ins_of d) (t.name, out_item r)) t.sending)) (drop l.i d.tasks)))
+    (shown_lines (flat_map (λ (t : Task). map transfer_line (map (goes_out (ins_of d)) (map (λ r. (t.name, out_item r)) t.sending))) (drop l.i d.tasks)))
 
 abbrev pub decreases-tasks : goal.decreases-tasks
 decreases-tasks g l = length (g.S.Sight.desk l.sight).tasks - l.i

@@ -1,0 +1,39 @@
+-- The parts of a figure, one after the other.
+use Rattle.std.proofs.Common.{◌≡◌, refl, ap, sym, ◌∙◌, List, [], ◌∷◌, ◌++◌, map, append_assoc}
+use Rattle.std.specs.Prelude.{codes}
+use Rattle.std.specs.List.{flat_map}
+use Rattle.std.proofs.lemmas.List.Folds.{flat_map-map}
+use Rattle.rh_defs.specs.Desk.{task_at}
+use Rattle.rh_figure.specs.Changes.{block_changes, page_changes, post_changes, slide_change, slides}
+use Rattle.rh_figure.specs.Figure.{Panel, figure, slot_panel}
+use Rattle.rh_figure.specs.Map.{figure_lines, marked_heading, panel_lines}
+use Rattle.rh_figure.specs.Phrases.{Text}
+use Rattle.rh_figure.specs.Scene.{Scene}
+use Rattle.rh_drawn.specs.Parts.{area_part, block_part, change_part, letter_part, module_part, page_part, pool_part, post_part, slide_part, slot_panels, slot_part, transfer_part}
+use Rattle.rh_drawn.proofs.Walks.{indented-append}
+
+-- what has changed
+pub change-parts : (x : Scene) → change_part x ≡ page_part x ++ ((block_part x (task_at x.before.handle x.desk) ++ slide_part x) ++ post_part x)
+change-parts x =
+    let b = block_changes x (task_at x.before.handle x.desk) in
+    let s = slide_change (slides x) in
+    indented-append (page_changes x) (b ++ (s ++ post_changes x))
+    ∙ ap (λ z. page_part x ++ z) (indented-append b (s ++ post_changes x)
+    ∙ (ap (λ z. block_part x (task_at x.before.handle x.desk) ++ z) (indented-append s (post_changes x))
+    ∙ sym (append_assoc (block_part x (task_at x.before.handle x.desk)) (slide_part x) (post_part x))))
+
+abbrev pub behind_module : Scene → List Text
+behind_module x = letter_part x ++ (transfer_part x ++ [] ∷ [])
+
+abbrev pub behind_areas : Scene → List Text
+behind_areas x = slot_part x ++ (module_part x ++ behind_module x)
+
+abbrev pub behind_changes : Scene → List Text
+behind_changes x = ([] ∷ []) ++ (pool_part x ++ (area_part x ++ behind_areas x))
+
+-- all of it
+pub figure-parts : (x : Scene) → figure_lines (figure x) ≡ change_part x ++ behind_changes x
+unfolding figure
+figure-parts x =
+    ap (λ z. change_part x ++ (([] ∷ []) ++ (pool_part x ++ (area_part x ++ (z ++ (module_part x ++ behind_module x))))))
+    (flat_map-map (λ (p : Panel). panel_lines (marked_heading (slot_panels x) (codes "Slot ") p) p) (slot_panel x) x.desk.tasks)
