@@ -1,12 +1,12 @@
 -- The rows of an area, and the letter of a slot.
 use Rattle.std.proofs.Common.{◌≡◌, ℕ, zero, suc, ◌+◌, ◌<◌, ◌≤◌, Bool, true, false, refl, ap, sym, subst, ◌∙◌, arith, eq-eqb, List, [], ◌∷◌, length, map, Option, Some, None}
-use Rattle.std.specs.Prelude.{◌==◌, not, slice_get}
+use Rattle.std.specs.Prelude.{◌==◌, find, not, slice_get}
 use Rattle.std.specs.List.{position, position_or_len}
 use Rattle.std.proofs.lemmas.Bool.{ne_eqb}
 use Rattle.std.proofs.lemmas.Bool.Decides.{nat_tests}
 use Rattle.std.proofs.lemmas.List.{length-map}
 use Rattle.std.proofs.lemmas.Option.{slice_get_within}
-use Rattle.rh_defs.specs.Desk.{Desk, Task}
+use Rattle.rh_defs.specs.Desk.{Desk, Task, task_at}
 use Rattle.rh_defs.specs.Laws.{IsDesk, Rise}
 use Rattle.rh_defs.proofs.HeapLists.{cond_true}
 use Rattle.rh_figure.specs.declared.piece.Piece.{Piece}
@@ -65,3 +65,19 @@ slot-stands {d} is x i t e =
 -- one task stands at a place
 pub seen-same : {A : Type 0} (P : A → Type 0) (xs : List A) (i : ℕ) (a b : A) → slice_get xs i ≡ Some a → slice_get xs i ≡ Some b → P a → P b
 seen-same P xs i a b e f h = let k : a ≡ b = cc in subst P k h
+
+-- the task with a handle
+task-found : (least next : ℕ) (tasks : List Task) (i : ℕ) (t : Task) → Rise (λ (u : Task). u.handle) least next tasks → slice_get tasks i ≡ Some t → find (λ (u : Task). u.handle == t.handle) tasks ≡ Some t
+task-found least next [] i t r e = absurd (cc)
+task-found least next (u ∷ us) zero t r e =
+    let k : u ≡ t = cc in
+    let same : (u.handle == t.handle) ≡ true = eq-eqb u.handle t.handle (ap (λ (z : Task). z.handle) k) in
+    rw same e
+task-found least next (u ∷ us) (suc i) t r e =
+    let above : u.handle + 1 ≤ t.handle = later-handle (u.handle + 1) next us i t r.1 e in
+    let other : (u.handle == t.handle) ≡ false = ne_eqb u.handle t.handle (λ q. omega arith) in
+    let rest : find (λ (v : Task). v.handle == t.handle) us ≡ Some t = task-found (u.handle + 1) next us i t r.1 e in
+    rw other rest
+
+pub task-stands : {d : Desk} (is : IsDesk d) (i : ℕ) (t : Task) → slice_get d.tasks i ≡ Some t → task_at t.handle d ≡ Some t
+task-stands {d} is i t e = task-found 0 d.next_handle d.tasks i t is.handles e

@@ -1,17 +1,22 @@
 -- Owners of pages, and the pages that they have.
-use Rattle.std.proofs.Common.{◌≡◌, ℕ, zero, suc, ◌+◌, ◌<◌, ◌≤◌, arith, refl, ap, sym, subst, ◌∙◌, List, [], ◌∷◌, length, drop, Option, Some, None}
-use Rattle.std.specs.Prelude.{IfSome, IsSome, slice_get, slice_index, if◌then◌else◌, ◌==◌}
+use Rattle.std.proofs.Common.{◌≡◌, ℕ, zero, suc, ◌+◌, ◌<◌, ◌≤◌, ◌++◌, true, false, arith, refl, ap, sym, subst, ◌∙◌, List, [], ◌∷◌, length, drop, Option, Some, None}
+use Rattle.std.specs.Prelude.{IfSome, IsSome, slice_get, slice_index, if◌then◌else◌, ◌==◌, codes, nat_lt}
 use Rattle.std.specs.List.{enumerate_from}
 use Rattle.std.specs.Option.{option_map}
-use Rattle.std.proofs.lemmas.List.{drop_more}
+use Rattle.std.proofs.lemmas.Bool.Decides.{nat_tests}
+use Rattle.std.proofs.lemmas.List.{drop_all, drop_more, length-drop}
 use Rattle.rh_defs.specs.Commands.{module_area}
 use Rattle.rh_defs.specs.Desk.{Desk, Made, Task, module_pages, task_pages}
 use Rattle.rh_defs.specs.Laws.{IsDesk, Rise}
+use Rattle.rh_figure.specs.Changes.{freed_line, freed_pages, freed_text, taken_line, taken_pages}
+use Rattle.rh_figure.specs.Phrases.{owner_name}
+use Rattle.rh_figure.specs.Scene.{Scene}
 use Rattle.rh_figure.specs.Share.{AreaOf, IsShared, Owner, SlotOf, count_of, holdings}
 use Rattle.rh_sight.specs.declared.sight.PagesOf.{PagesOf}
 use Rattle.rh_sight.specs.declared.sight.PagesOf.TheVariants as pages
 use Rattle.rh_sight.specs.Pages.{share_in}
 use Rattle.rh_sight.specs.Seen.{owner_seen}
+use Rattle.rh_drawn.specs.Parts.{indented, takes_part}
 use Rattle.rh_sight.proofs.Holders.{area-at, at-some, count-fixed, count-made, count-slot, room-of}
 
 pub is-some : {A : Type 0} {o : Option A} {x : A} → o ≡ Some x → IsSome o
@@ -61,3 +66,25 @@ module _ {d : Desk} (is : IsDesk d) where
 pub numbered-next : (i : ℕ) (xs : List ℕ) → i < length xs → enumerate_from i (drop i xs) ≡ (i, slice_index xs i) ∷ enumerate_from (i + 1) (drop (i + 1) xs)
 numbered-next i xs low =
     ap (enumerate_from i) (drop_more xs i 0 low)
+
+-- ---- what an owner has taken
+
+pub takes-none : (x : Scene) (o : Owner) (n : ℕ) → n ≤ count_of o x.before.holdings → takes_part x (o, n) ≡ []
+takes-none x o n low =
+    let off : nat_lt (count_of o x.before.holdings) n ≡ false = grind (arith, nat_tests) in
+    ap (λ b. indented (if b then taken_line (owner_name x.desk o) (taken_pages x (o, n)) ∷ [] else [])) off
+
+pub takes-some : (x : Scene) (o : Owner) (n : ℕ) → count_of o x.before.holdings < n → takes_part x (o, n) ≡ (codes "  " ++ taken_line (owner_name x.desk o) (taken_pages x (o, n))) ∷ []
+takes-some x o n low =
+    let on : nat_lt (count_of o x.before.holdings) n ≡ true = grind (arith, nat_tests) in
+    ap (λ b. indented (if b then taken_line (owner_name x.desk o) (taken_pages x (o, n)) ∷ [] else [])) on
+
+pub freed-none : (x : Scene) → length x.share.free ≤ x.before.free → indented (freed_text (freed_pages x)) ≡ []
+freed-none x past = ap (λ z. indented (freed_text z)) (drop_all x.before.free x.share.free past)
+
+some-freed : (numbers : List ℕ) → 0 < length numbers → freed_text numbers ≡ freed_line numbers ∷ []
+some-freed [] some = absurd (omega (arith, some))
+some-freed (n ∷ ns) some = refl
+
+pub freed-some : (x : Scene) → x.before.free < length x.share.free → indented (freed_text (freed_pages x)) ≡ (codes "  " ++ freed_line (freed_pages x)) ∷ []
+freed-some x some = ap indented (some-freed (freed_pages x) (omega (arith, length-drop x.before.free x.share.free)))

@@ -33,7 +33,7 @@ returns-then-is_still g c = λ reply front.
     let a = c.args.above.now in
     lines_then (step_line a.number a.line.now ∷ []) (reply_lines (ended reply) ++ below a.is_still x) (puts_line {x = step_line a.number a.line.now} refl c.in_ok-print_step_line.ensures)
     (lines_then (reply_lines (ended reply)) (below a.is_still x) (puts_same (ap shown_lines front) c.in_ok-print_reply_lines.ensures)
-    (puts_same (ap (λ b. shown_lines (below b x)) (sym ?still)) c.print_still.ensures))
+    (puts_same (ap (λ b. shown_lines (below b x)) (sym c.if-above.true)) c.print_still.ensures))
 
 pub returns : goal.returns
 returns g c = λ reply front.
@@ -41,4 +41,4 @@ returns g c = λ reply front.
     let a = c.args.above.now in
     lines_then (step_line a.number a.line.now ∷ []) (reply_lines (ended reply) ++ below a.is_still x) (puts_line {x = step_line a.number a.line.now} refl c.in_ok-print_step_line.ensures)
     (lines_then (reply_lines (ended reply)) (below a.is_still x) (puts_same (ap shown_lines front) c.in_ok-print_reply_lines.ensures)
-    (puts_same (ap (λ b. shown_lines (below b x)) (sym ?moves)) c.print_figure.ensures))
+    (puts_same (ap (λ b. shown_lines (below b x)) (sym c.if-above.false)) c.print_figure.ensures))

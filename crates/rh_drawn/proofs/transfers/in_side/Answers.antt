@@ -39,7 +39,7 @@ pub tasks-preserved : goal.tasks-preserved
 tasks-preserved g c =
     let s = c.in-Some.ensures.some in
     let xs = (g.S.Sight.desk c.args.sight.now).tasks in
-    let told : None ≡ option_map in_item (find (λ q. in_id q == c.args.id) s.0.taking) = ?none ∙ ap (λ rs. option_map in_item (find (λ q. in_id q == c.args.id) rs)) s.2.taking in
+    let told : None ≡ option_map in_item (find (λ q. in_id q == c.args.id) s.0.taking) = sym c.in_default-in_record.is ∙ c.in_record.ensures ∙ ap (λ rs. option_map in_item (find (λ q. in_id q == c.args.id) rs)) s.2.taking in
     walk-on (in_of c.args.id) xs c.tasks.i c.tasks.invariant s.0 s.1 (side-untold c.args.id s.0 (drop (c.tasks.i + 1) xs) told)
 
 pub returns : goal.returns
