@@ -1,14 +1,17 @@
 -- The parts of a figure, one after the other.
 use Rattle.std.proofs.Common.{◌≡◌, refl, ap, sym, ◌∙◌, List, [], ◌∷◌, ◌++◌, map, append_assoc}
 use Rattle.std.specs.Prelude.{codes}
-use Rattle.std.specs.List.{flat_map}
+use Rattle.std.specs.List.{flat_map, range_with_len}
+use Rattle.std.proofs.lemmas.List.FromFn.{length-map-range_with_len}
 use Rattle.std.proofs.lemmas.List.Folds.{flat_map-map}
-use Rattle.rh_defs.specs.Desk.{task_at}
+use Rattle.rh_defs.specs.Desk.{free_pages, task_at}
 use Rattle.rh_figure.specs.Changes.{block_changes, page_changes, post_changes, slide_change, slides}
-use Rattle.rh_figure.specs.Figure.{Panel, figure, slot_panel}
-use Rattle.rh_figure.specs.Map.{figure_lines, marked_heading, panel_lines}
+use Rattle.rh_figure.specs.Figure.{Panel, figure, owner_of, slot_panel}
+use Rattle.rh_figure.specs.Map.{figure_lines, marked_heading, panel_lines, pool_heading, pool_line}
 use Rattle.rh_figure.specs.Phrases.{Text}
+use Rattle.rh_figure.specs.Rows.{marks_rows, page_mark, pool_rows}
 use Rattle.rh_figure.specs.Scene.{Scene}
+use Rattle.rh_drawn.proofs.MarkLemmas.{map-twice}
 use Rattle.rh_drawn.specs.Parts.{area_part, block_part, change_part, letter_part, module_part, page_part, pool_part, post_part, slide_part, slot_panels, slot_part, transfer_part}
 use Rattle.rh_drawn.proofs.Walks.{indented-append}
 
@@ -37,3 +40,13 @@ unfolding figure
 figure-parts x =
     ap (λ z. change_part x ++ (([] ∷ []) ++ (pool_part x ++ (area_part x ++ (z ++ (module_part x ++ behind_module x))))))
     (flat_map-map (λ (p : Panel). panel_lines (marked_heading (slot_panels x) (codes "Slot ") p) p) (slot_panel x) x.desk.tasks)
+
+-- ---- the pool
+
+pub pool-heading : (x : Scene) → pool_heading (figure x) ≡ pool_line (free_pages x.desk) x.desk.pool
+unfolding figure
+pool-heading x = ap (pool_line (free_pages x.desk)) (length-map-range_with_len (owner_of x) 0 x.desk.pool)
+
+pub pool-rows : (x : Scene) → pool_rows (figure x) ≡ marks_rows (map (λ k. page_mark (slot_panels x) (owner_of x k)) (range_with_len 0 x.desk.pool))
+unfolding figure
+pool-rows x = ap marks_rows (map-twice (page_mark (slot_panels x)) (owner_of x) (range_with_len 0 x.desk.pool))

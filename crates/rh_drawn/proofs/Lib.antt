@@ -6,3 +6,6 @@ mod PostLemmas
 mod DrawingLemmas
 mod TransferLemmas
 mod FigureLemmas
+mod MarkLemmas
+mod RunLemmas
+mod CardLemmas

@@ -17,12 +17,17 @@ use Rattle.rh_figure.specs.Figure as figure
 use Rattle.rh_figure.specs.Figure.{Letterbox, messages_text}
 use Rattle.rh_figure.specs.Map.{letterbox_line, under}
 use Rattle.rh_figure.specs.Phrases.{Text, and_more, message_text}
-use Rattle.rh_figure.specs.Scene.{held_list}
+use Rattle.rh_figure.specs.Cards.{after_ref, next_text}
+use Rattle.rh_figure.specs.Scene.{held_list, ref_of}
 use Rattle.rh_map.specs.Messages.{held_text, text_of, waits_text}
 use Rattle.rh_map.specs.Messages as lines
 use Rattle.rh_map.specs.declared.letterboxes.MessageEntry.{MessageEntry}
 use Rattle.rh_sight.specs.declared.sight.MessageItem.{MessageItem}
-use Rattle.rh_sight.specs.Messages.{held_on, is_held_by, item_of, message_items, waiting_on, waits_for}
+use Rattle.rh_sight.specs.declared.message_list.Place.{Place}
+use Rattle.rh_sight.specs.declared.message_list.Place.TheVariants.{Held}
+use Rattle.rh_sight.specs.Messages.{before_next, behind, first_ref, held_on, held_ref, is_held_by, item_of, lies_in, message_items, place_among, waiting_on, waits_for}
+use Rattle.rh_sight.proofs.Posts.{held-is}
+use Rattle.rh_drawn.specs.Bands.{IsItemOf, place_seen}
 use Rattle.rh_drawn.specs.Letters.{entry_seen, has_letters_in, letterbox_in, letterboxes_in}
 
 -- ---- what waits for a task
@@ -298,3 +303,62 @@ boxes-some heading ms (t ∷ ts) e = go (boxes-some heading ms ts) (has_letters_
     go : (list_any (λ (u : Task). has_letters_in u.handle ms) ts ≡ true → under heading (flat_map (boxes ms) ts) ≡ heading ∷ flat_map (boxes ms) ts) → (b : Bool) → has_letters_in t.handle ms ≡ b → under heading (flat_map (boxes ms) (t ∷ ts)) ≡ heading ∷ flat_map (boxes ms) (t ∷ ts)
     go before true k = rw k refl
     go before false k = let q : list_any (λ (u : Task). has_letters_in u.handle ms) ts ≡ true = rw k at e in rw k (before q)
+
+-- ---- where a message stands in its chain
+
+behind-are : (held : Bool) (ref : ℕ) (ps : List Parcel) → behind ref (map (item_of held) ps) ≡ map (item_of held) (after_ref ref ps)
+behind-are held ref [] = refl
+behind-are held ref (p ∷ ps) = go (p.message.my_ref == ref) refl (behind-are held ref ps)
+  where
+    go : (b : Bool) → (p.message.my_ref == ref) ≡ b → behind ref (map (item_of held) ps) ≡ map (item_of held) (after_ref ref ps) → behind ref (map (item_of held) (p ∷ ps)) ≡ map (item_of held) (after_ref ref (p ∷ ps))
+    go true e rest = rw (e, e) refl
+    go false e rest = rw (e, e) rest
+
+next-is : (ps : List Parcel) → place_seen (before_next (first_ref (map (item_of false) ps))) ≡ next_text ps
+next-is [] = refl
+next-is (p ∷ ps) = refl
+
+if-seen : (b : Bool) (p q : Place) → place_seen (if b then p else q) ≡ (if b then place_seen p else place_seen q)
+if-seen true p q = refl
+if-seen false p q = refl
+
+pub chain-is : {d : Desk} (is : IsDesk d) (h ref : ℕ) (m : MessageItem) → m.to ≡ h → m.my_ref ≡ ref
+    → place_seen (place_among (message_items d) m)
+    ≡ (if ref_of (held_by h d.post.seats) == ref then codes "held" else next_text (after_ref ref (filter (is_to h) d.post.queued)))
+chain-is {d} is h ref m to mine =
+    ap₂ (λ k r. place_seen (if held_ref k (message_items d) == r then Held else before_next (first_ref (behind r (filter (waits_for k) (message_items d)))))) to mine
+    ∙ (if-seen (held_ref h (message_items d) == ref) Held (before_next (first_ref (behind ref (filter (waits_for h) (message_items d)))))
+    ∙ ap₂ (λ k z. if k == ref then codes "held" else z) (held-is d is h)
+    (ap (λ z. place_seen (before_next (first_ref (behind ref z)))) (waits-are is h)
+    ∙ (ap (λ z. place_seen (before_next (first_ref z))) (behind-are false ref (filter (is_to h) d.post.queued)) ∙ next-is (after_ref ref (filter (is_to h) d.post.queued)))))
+
+-- ---- the message in a block
+
+abbrev pub stands_in : ℕ → Parcel → Bool
+stands_in b p = p.block == b
+
+-- what is told of a block: no message, or the one of a parcel that lies there
+abbrev pub Told : ℕ → Option MessageItem → Option Parcel → Type 0
+Told b None None = Unit {0}
+Told b None (Some p) = ⊥
+Told b (Some m) None = ⊥
+Told b (Some m) (Some p) = IsItemOf m p × (p.block ≡ b)
+
+told-more : (b : ℕ) (held : Bool) (ps : List Parcel) (ms : List MessageItem) (qs : List Parcel) → Told b (find (lies_in b) ms) (find (stands_in b) qs)
+    → Told b (find (lies_in b) (map (item_of held) ps ++ ms)) (find (stands_in b) (ps ++ qs))
+told-more b held [] ms qs t = t
+told-more b held (p ∷ ps) ms qs t = go (p.block == b) refl (told-more b held ps ms qs t)
+  where
+    go : (k : Bool) → (p.block == b) ≡ k → Told b (find (lies_in b) (map (item_of held) ps ++ ms)) (find (stands_in b) (ps ++ qs))
+        → Told b (find (lies_in b) (map (item_of held) (p ∷ ps) ++ ms)) (find (stands_in b) ((p ∷ ps) ++ qs))
+    go true k rest =
+        let is : IsItemOf (item_of held p) p = record { block = refl; to = refl; from = refl; my_ref = refl; action = refl; code = refl } in
+        rw (k, k) (is, eqb-true p.block b k)
+    go false k rest = rw (k, k) rest
+
+pub message-told : (b : ℕ) (d : Desk) → Told b (find (lies_in b) (message_items d)) (find (stands_in b) (waiting_on d ++ held_on d))
+message-told b d =
+    let P : List MessageItem → Type 0 = λ z. Told b (find (lies_in b) z) (find (stands_in b) (held_on d ++ [])) in
+    let Q : List Parcel → Type 0 = λ z. Told b (find (lies_in b) (map (item_of true) (held_on d))) (find (stands_in b) z) in
+    told-more b false (waiting_on d) (map (item_of true) (held_on d)) (held_on d)
+    (subst Q (append-nil (held_on d)) (subst P (append-nil (map (item_of true) (held_on d))) (told-more b true (held_on d) [] [] tt)))

@@ -1,10 +1,10 @@
 //! The cards of a task's flex blocks.
 
-ghost use Rattle.std.specs.Prelude.{◌≡◌, ◌≤◌, ◌∷◌, [], ℕ, length, slice_get, Some};
+ghost use Rattle.std.specs.Prelude.{◌≡◌, ◌≤◌, ◌<◌, ◌∷◌, [], ℕ, length, slice_get, take, Some};
 ghost use Rattle.rh_defs.specs.Desk.{Desk, Task};
 ghost use Rattle.rh_defs.specs.Listing.{block_items};
 ghost use Rattle.rh_defs.specs.declared.listing.BlockItem.{BlockItem};
-ghost use Rattle.rh_drawn.specs.Cards.{card_lines, place_behind};
+ghost use Rattle.rh_drawn.specs.Cards.{card_lines, cards_behind, place_behind};
 ghost use Rattle.rh_figure.specs.Cards.{Card, flex_cards, shown_cards};
 ghost use Rattle.rh_figure.specs.Layout.{is_fresh_flex as is_fresh_flex_in};
 ghost use Rattle.rh_lines.specs.Flow.{Puts};
@@ -15,7 +15,7 @@ ghost use Rattle.rh_sight.specs.Steps.{scene_at};
 use crate::cards::{front_length, print_others, shown_count};
 use crate::usage::use_of_block;
 use rh_defs::BlockItem;
-use rh_figure::limits::CARD_BYTES;
+use rh_figure::limits::{CARD_BYTES, MOST_CARDS};
 use rh_lines::{Sink, WriteFailed};
 use rh_map::{CardBlock, print_flex_card};
 use rh_sight::{Sight, Step, TaskSight, is_fresh_flex};
@@ -30,22 +30,63 @@ pub fn print_flex_cards<S: Sight, W: Sink>(
     blocks: &[BlockItem],
     writer: &mut W,
 ) -> Result<(), WriteFailed>
-    requires { (t : Task) × (slice_get (S.desk sight.now).tasks i ≡ Some t) × IsTaskSeen task.now t × (blocks.now ≡ block_items t.slot) }
+    requires task { (t : Task) × (slice_get (S.desk sight.now).tasks i ≡ Some t) × IsTaskSeen task.now t × (blocks.now ≡ block_items t.slot) }
+    requires few { length blocks.now ≤ 64 }
     ensures { (t : Task) → slice_get (S.desk sight.now).tasks i ≡ Some t → Puts (W.output writer.old) (W.output writer.new) result
         (shown_lines (card_lines (shown_cards (flex_cards (scene_at (S.desk sight.now) step.now) t)))) }
 {
     let shown = shown_count(blocks.len());
-    for k in 0..shown {
-        print_flex(sight, step, i, task, &blocks[k], writer)?;
-    }
+    print_first(sight, step, i, task, blocks, shown, writer)?;
     if shown == blocks.len() {
         return Ok(());
     }
-    let fresh = next_fresh(step, task, blocks, shown);
-    if let Some(k) = fresh {
+    print_behind(sight, step, i, task, blocks, writer)
+}
+
+/// Writes the cards of the first blocks.
+fn print_first<S: Sight, W: Sink>(
+    sight: &S,
+    step: &Step<'_>,
+    i: usize,
+    task: &TaskSight<'_>,
+    blocks: &[BlockItem],
+    shown: usize,
+    writer: &mut W,
+) -> Result<(), WriteFailed>
+    requires task { (t : Task) × (slice_get (S.desk sight.now).tasks i ≡ Some t) × IsTaskSeen task.now t × (blocks.now ≡ block_items t.slot) }
+    requires few { shown ≤ length blocks.now }
+    ensures { (t : Task) → slice_get (S.desk sight.now).tasks i ≡ Some t → Puts (W.output writer.old) (W.output writer.new) result
+        (shown_lines (card_lines (take shown (flex_cards (scene_at (S.desk sight.now) step.now) t)))) }
+{
+    for k in 0..shown {
         print_flex(sight, step, i, task, &blocks[k], writer)?;
     }
-    print_others(blocks.len() - shown, fresh.is_some(), writer)
+    Ok(())
+}
+
+/// Writes the card of the first changed block of those behind the first 22, and how many are left out.
+fn print_behind<S: Sight, W: Sink>(
+    sight: &S,
+    step: &Step<'_>,
+    i: usize,
+    task: &TaskSight<'_>,
+    blocks: &[BlockItem],
+    writer: &mut W,
+) -> Result<(), WriteFailed>
+    requires task { (t : Task) × (slice_get (S.desk sight.now).tasks i ≡ Some t) × IsTaskSeen task.now t × (blocks.now ≡ block_items t.slot) }
+    requires many { 24 < length blocks.now }
+    requires few { length blocks.now ≤ 64 }
+    ensures { (t : Task) → slice_get (S.desk sight.now).tasks i ≡ Some t → Puts (W.output writer.old) (W.output writer.new) result
+        (shown_lines (card_lines (cards_behind (flex_cards (scene_at (S.desk sight.now) step.now) t)))) }
+{
+    let shown = MOST_CARDS - 2;
+    match next_fresh(step, task, blocks, shown) {
+        Some(k) => {
+            print_flex(sight, step, i, task, &blocks[k], writer)?;
+            print_others(blocks.len() - shown, true, writer)
+        }
+        None => print_others(blocks.len() - shown, false, writer),
+    }
 }
 
 /// The first block from the kth on that the command has changed.

@@ -1,6 +1,6 @@
 //! The cards of a heap's blocks and holes, and of messages.
 
-ghost use Rattle.std.specs.Prelude.{◌≡◌, ◌≤◌, ◌<◌, ◌+◌, ◌-◌, ◌^◌, ◌==◌, ◌∷◌, [], ℕ, IfSome, List, find, length, Some};
+ghost use Rattle.std.specs.Prelude.{◌≡◌, ◌≤◌, ◌<◌, ◌+◌, ◌-◌, ◌^◌, ◌==◌, ◌&&◌, ◌∷◌, [], ℕ, IfSome, List, find, if◌then◌else◌, length, nat_le, None, Some};
 ghost use Rattle.std.specs.List.{AllByRecursion};
 ghost use Rattle.rh_defs.specs.Desk.{Desk};
 ghost use Rattle.rh_defs.specs.Heap.{Segment};
@@ -8,10 +8,11 @@ ghost use Rattle.rh_defs.specs.Listing.{segment_item};
 ghost use Rattle.rh_defs.specs.Messages.{Parcel};
 ghost use Rattle.rh_defs.specs.Records.{is_buffer_of};
 ghost use Rattle.rh_defs.specs.declared.sizes.TheConstants.{MODULE_START};
-ghost use Rattle.rh_drawn.specs.Bands.{HasSegment, IsBandOf, IsItemOf, IsSurvey, band_card, band_cards, is_fresh_card, is_fresh_used, place_seen, with_items};
+ghost use Rattle.rh_drawn.specs.Bands.{HasSegment, IsBandOf, IsItemOf, IsSurvey, band_card, band_cards, is_fresh_card, is_fresh_used, place_seen, with_item, with_items};
 ghost use Rattle.rh_drawn.specs.Cards.{card_lines};
 ghost use Rattle.rh_figure.specs.Cards.{in_use_text, post_card, shown_cards, used_card};
 ghost use Rattle.rh_figure.specs.Scene.{live};
+ghost use Rattle.rh_figure.specs.declared.limits.TheConstants.{MOST_CARDS};
 ghost use Rattle.rh_lines.specs.Flow.{Puts};
 ghost use Rattle.rh_map.specs.Messages.{place_text};
 ghost use Rattle.rh_map.specs.Written.{shown_lines};
@@ -108,21 +109,51 @@ fn surveyed(
     step: &Step<'_>,
     band: &Band<'_>,
     items: &[SegmentItem],
-    survey: Survey,
+    mut survey: Survey,
 ) -> Survey
     requires few { survey.count + length items.now < 2 ^ 32 }
     requires items { AllByRecursion (IsInArea band.now.heap) items.now }
     ensures { (d : Desk) → IsStepOf d step.now → result ≡ with_items (is_fresh_card (scene_at d step.now) band.now) items.now survey }
 {
-    let mut count = survey.count;
-    let mut fresh = survey.fresh;
     for item in items {
-        if fresh.is_none() && count as usize >= MOST_CARDS - 2 && is_fresh(step, band, item) {
-            fresh = Some(*item);
-        }
-        count += 1;
+        survey = noted(step, band, item, survey);
     }
-    Survey { count, fresh }
+    survey
+}
+
+/// The survey with one more segment.
+fn noted(step: &Step<'_>, band: &Band<'_>, item: &SegmentItem, survey: Survey) -> Survey
+    requires few { survey.count + 1 < 2 ^ 32 }
+    requires item { IsInArea band.now.heap item.now }
+    ensures { (d : Desk) → IsStepOf d step.now → result ≡ with_item item.now (is_fresh_card (scene_at d step.now) band.now item.now) survey }
+{
+    let count = survey.count + 1;
+    match survey.fresh {
+        Some(found) => Survey {
+            count,
+            fresh: Some(found),
+        },
+        None => Survey {
+            count,
+            fresh: first_fresh(step, band, item, survey.count),
+        },
+    }
+}
+
+/// The segment, if the command has changed it and so many are below it that it isn't shown anyway.
+fn first_fresh(
+    step: &Step<'_>,
+    band: &Band<'_>,
+    item: &SegmentItem,
+    below: u32,
+) -> Option<SegmentItem>
+    requires { IsInArea band.now.heap item.now }
+    ensures { (d : Desk) → IsStepOf d step.now → result ≡ (if nat_le (MOST_CARDS - 2) below && is_fresh_card (scene_at d step.now) band.now item.now then Some item.now else None) }
+{
+    if (below as usize) < MOST_CARDS - 2 || !is_fresh(step, band, item) {
+        return None;
+    }
+    Some(*item)
 }
 
 /// Whether the command has changed the block that a segment is.
@@ -198,18 +229,24 @@ fn print_used<S: Sight, W: Sink>(
     let bytes = &mut front[..front_length(size)];
     let place = address - WORD as u32 - heap_address(band.heap);
     sight.read_heap(band.heap, place, bytes);
-    let fresh = match band.heap {
-        HeapOf::Task(_) => is_fresh_block(step, band.handle, address),
-        HeapOf::Module => step.marks.module_block == address,
-    };
     let card = CardBlock {
         address,
         size,
         front: bytes,
         usage: use_of_buffer(band.taking, address),
-        fresh,
+        fresh: is_changed(step, band, address),
     };
     print_used_card(&card, writer)
+}
+
+/// Whether the command has changed a block that is no message.
+fn is_changed(step: &Step<'_>, band: &Band<'_>, address: u32) -> bool
+    ensures { (d : Desk) → result ≡ is_fresh_used (scene_at d step.now) band.now address }
+{
+    match band.heap {
+        HeapOf::Task(_) => is_fresh_block(step, band.handle, address),
+        HeapOf::Module => step.marks.module_block == address,
+    }
 }
 
 /// Writes the card of a message.

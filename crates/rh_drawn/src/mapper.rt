@@ -78,6 +78,7 @@ impl<D: Drawn> Mapper<D> {
         ensures err { OnErr result (Broke D.desk self.old (W.output writer.old) line.now (Ok None) (W.output writer.new)) }
         ensures same { self.new.steps ≡ self.old.steps }
     {
+        self.drawn.page_list(&mut self.pages);
         self.wanted = self.wanted || is_mark(line);
         if self.marked && !self.wanted {
             return Ok(());
@@ -101,6 +102,7 @@ impl<D: Drawn> Mapper<D> {
         let wanted = self.begin_step();
         if self.marked && !wanted {
             self.change(command);
+            self.drawn.page_list(&mut self.pages);
             return Ok(());
         }
         self.drawn.messages(&mut self.messages);
@@ -130,6 +132,7 @@ impl<D: Drawn> Mapper<D> {
     {
         self.has_bad_line = true;
         let wanted = self.begin_step();
+        self.drawn.page_list(&mut self.pages);
         if self.marked && !wanted {
             return Ok(());
         }

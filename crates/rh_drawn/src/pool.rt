@@ -1,6 +1,6 @@
 //! The pool: a character for each page, that of its owner.
 
-ghost use Rattle.std.specs.Prelude.{◌≡◌, length, map};
+ghost use Rattle.std.specs.Prelude.{◌≡◌, ◌∷◌, [], length, map, replicate};
 ghost use Rattle.std.specs.List.{range_with_len};
 ghost use Rattle.rh_drawn.specs.Parts.{pool_part, slot_panels};
 ghost use Rattle.rh_drawn.specs.Marked.{made_pages, marked, marked_all, slot_pages_from};
@@ -59,7 +59,7 @@ fn mark_pool<S: Sight>(sight: &S, step: &Step<'_>, marks: &mut [u8])
 
 /// Marks all pages as free.
 fn clear(marks: &mut [u8])
-    ensures { marks.new ≡ map (λ _. 46) marks.old }
+    ensures { marks.new ≡ replicate (length marks.old) 46 }
 {
     for mark in marks.iter_mut() {
         *mark = FREE;
@@ -71,6 +71,7 @@ fn mark_made<S: Sight>(sight: &S, step: &Step<'_>, marks: &mut [u8])
     requires { IsStepOf (S.desk sight.now) step.now }
     ensures { marks.new ≡ marked_all (map (made_pages (share_in step.now.pages.now (S.desk sight.now))) (S.desk sight.now).made) marks.old }
 {
+    sight.spelled();
     let mut i = 0;
     'areas: while let Some(area) = sight.made(i) {
         let pages = pages_of(sight, step.pages, PagesOf::Made(i));
@@ -84,8 +85,9 @@ fn mark_slots<S: Sight>(sight: &S, step: &Step<'_>, marks: &mut [u8])
     requires { IsStepOf (S.desk sight.now) step.now }
     ensures { marks.new ≡ marked_all (slot_pages_from (share_in step.now.pages.now (S.desk sight.now)) 0 (S.desk sight.now).tasks) marks.old }
 {
+    sight.spelled();
     let mut i = 0;
-    'tasks: while sight.task(i).is_some() {
+    'tasks: while let Some(_task) = sight.task(i) {
         let pages = pages_of(sight, step.pages, PagesOf::Slot(i));
         mark_pages(marks, pages, slot_mark(i));
         i += 1;
@@ -97,9 +99,16 @@ fn mark_pages(marks: &mut [u8], pages: &[u16], mark: u8)
     ensures { marks.new ≡ marked pages.now mark marks.old }
 {
     for page in pages {
-        let k = usize::from(*page);
-        if k < marks.len() && marks[k] == FREE {
-            marks[k] = mark;
-        }
+        mark_page(marks, *page, mark);
+    }
+}
+
+/// Writes a character over a page that is still free.
+fn mark_page(marks: &mut [u8], page: u16, mark: u8)
+    ensures { marks.new ≡ marked (page ∷ []) mark marks.old }
+{
+    let k = usize::from(page);
+    if k < marks.len() && marks[k] == FREE {
+        marks[k] = mark;
     }
 }

@@ -73,7 +73,7 @@ fn count_tasks<S: Sight>(sight: &S) -> usize
     ensures { result ≡ length (S.desk sight.now).tasks }
 {
     let mut i = 0;
-    'tasks: while sight.task(i).is_some() {
+    'tasks: while let Some(_task) = sight.task(i) {
         i += 1;
     }
     i

@@ -27,8 +27,8 @@ count-few : (n : ℕ) (slides : List Slide) → length slides < n → IfSome (su
 count-few n [] few = tt
 count-few n (s ∷ slides) few = omega (arith, few)
 
-pub with_block-requires : goal.with_block-requires
-with_block-requires c =
+pub with_block-found-requires : goal.with_block-found-requires
+with_block-found-requires c =
     let before = c.args.kept.now.blocks in
     let i = c.loop-block.block-index in
     let bs = c.args.blocks.now in
@@ -41,6 +41,6 @@ loop-block-preserved c =
     let i = c.loop-block.block-index in
     let bs = c.args.blocks.now in
     let b = c.block-item.result in
-    c.with_block.ensures (flat_map (of before) (take i bs)) c.loop-block.invariant
+    c.with_block-found.ensures (flat_map (of before) (take i bs)) c.loop-block.invariant
     ∙ ap summary_of (ap (λ z. flat_map (of before) (take i bs) ++ z) (ap (of before) c.block-item.is ∙ sym (append-nil (of before (get_or bs i b))))
     ∙ (sym (flat_map-append (of before) (take i bs) (get_or bs i b ∷ [])) ∙ ap (flat_map (of before)) (sym (take_more bs i b c.loop-block-test.true))))

@@ -2,11 +2,11 @@ use Rattle.std.proofs.Common.{◌≡◌, ℕ, ◌<◌, ◌≤◌, ◌+◌, ◌-�
 use Rattle.std.specs.Prelude.{codes}
 use Rattle.std.specs.List.{enumerate_from, flat_map}
 use Rattle.std.proofs.lemmas.Grind.{flat_map-append}
-use Rattle.rh_defs.specs.Desk.{Desk}
+use Rattle.rh_defs.specs.Desk.{Desk, Made, Task, task_pages}
 use Rattle.rh_figure.specs.Changes.{freed_pages, freed_text, takes_text}
 use Rattle.rh_figure.specs.Phrases.{Text}
 use Rattle.rh_figure.specs.Scene.{Scene}
-use Rattle.rh_figure.specs.Share.{Holding, fixed_holding, holdings}
+use Rattle.rh_figure.specs.Share.{AreaOf, Holding, SlotOf, fixed_holding, holdings}
 use Rattle.rh_map.specs.Written.{shown_lines}
 use Rattle.rh_sight.specs.Owners.{made_holding, slot_holding}
 use Rattle.rh_sight.specs.Steps.{scene_at}
@@ -27,6 +27,14 @@ slots x d = flat_map (takes_part x) (map slot_holding d.tasks)
 abbrev freed : Scene → List Text
 freed x = indented (freed_text (freed_pages x))
 
+made-same : (ms : List Made) → map (λ (m : Made). let h : Holding = (AreaOf m.number, m.pages) in h) ms ≡ map made_holding ms
+made-same [] = refl
+made-same (m ∷ ms) = ap (λ z. made_holding m ∷ z) (made-same ms)
+
+slots-same : (ts : List Task) → map (λ (t : Task). let h : Holding = (SlotOf t.handle, task_pages t) in h) ts ≡ map slot_holding ts
+slots-same [] = refl
+slots-same (t ∷ ts) = ap (λ z. slot_holding t ∷ z) (slots-same ts)
+
 -- the parts of what has changed of the pages
 page-parts : (x : Scene) → page_part x ≡ fixed x x.desk ++ (made x x.desk ++ (slots x x.desk ++ freed x))
 page-parts x =
@@ -34,7 +42,7 @@ page-parts x =
     let b = map made_holding x.desk.made in
     let e = map slot_holding x.desk.tasks in
     let each : indented (flat_map (takes_text x) (holdings x.desk)) ≡ flat_map (takes_part x) (holdings x.desk) = map-flat (λ (line : Text). codes "  " ++ line) (takes_text x) (holdings x.desk) in
-    let all : holdings x.desk ≡ a ++ (b ++ e) = refl in
+    let all : holdings x.desk ≡ a ++ (b ++ e) = ap₂ (λ u v. a ++ (u ++ v)) (made-same x.desk.made) (slots-same x.desk.tasks) in
     let parts : flat_map (takes_part x) (a ++ (b ++ e)) ≡ fixed x x.desk ++ (made x x.desk ++ slots x x.desk) = flat_map-append (takes_part x) a (b ++ e) ∙ ap (λ z. fixed x x.desk ++ z) (flat_map-append (takes_part x) b e) in
     indented-append (flat_map (takes_text x) (holdings x.desk)) (freed_text (freed_pages x))
     ∙ (ap (λ z. z ++ freed x) (each ∙ (ap (flat_map (takes_part x)) all ∙ parts))

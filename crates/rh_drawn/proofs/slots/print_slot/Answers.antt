@@ -38,8 +38,11 @@ print_area-requires-clause-few g c =
     let is = owned c.spelled.ensures ps c.requires.step.shared (pages.Slot c.args.i) (SlotOf r.0.handle) c.pages_of.result.now seen c.pages_of.ensures in
     omega (arith, ap length is, owned-few c.spelled.ensures ps c.requires.step.shared (pages.Slot c.args.i) (SlotOf r.0.handle) seen c.requires.step.all)
 
-pub print_flex_cards-requires : goal.print_flex_cards-requires
-print_flex_cards-requires g c = let r = c.requires.task in (r.0, r.1, r.2, ?items)
+pub print_flex_cards-requires-clause-task : goal.print_flex_cards-requires-clause-task
+print_flex_cards-requires-clause-task g c = let r = c.requires.task in (r.0, r.1, r.2, ?items)
+
+pub print_flex_cards-requires-clause-few : goal.print_flex_cards-requires-clause-few
+print_flex_cards-requires-clause-few g c = ?few
 
 pub print_heap_cards-requires-clause-band : goal.print_heap_cards-requires-clause-band
 print_heap_cards-requires-clause-band g c = let r = c.requires.task in (r.0, r.1, r.2.handle, r.2.taking)

@@ -1,0 +1,103 @@
+-- Bands of cards: which cards of a list are shown.
+use Rattle.std.proofs.Common.{◌≡◌, ℕ, zero, suc, ◌+◌, ◌-◌, ◌<◌, ◌≤◌, Bool, true, false, refl, ap, ap₂, sym, subst, ◌∙◌, arith, List, [], ◌∷◌, ◌++◌, length, take, drop, Option, Some, None}
+use Rattle.std.specs.Prelude.{filter, if◌then◌else◌, nat_le, slice_get}
+use Rattle.std.proofs.lemmas.Bool.Decides.{nat_tests}
+use Rattle.rh_defs.specs.declared.listing.BlockItem.{BlockItem}
+use Rattle.rh_defs.specs.Desk.{Task}
+use Rattle.rh_defs.specs.Listing.{block_items_from}
+use Rattle.rh_defs.specs.Slot.{Flex, weight}
+use Rattle.rh_figure.specs.Cards.{Card, flex_cards_from, more_card, shown_cards}
+use Rattle.rh_figure.specs.Layout.{is_fresh_flex}
+use Rattle.rh_figure.specs.Scene.{Scene}
+use Rattle.rh_drawn.specs.Cards.{cards_behind, count_left, count_shown, place_from}
+
+-- ---- how many are shown
+
+pub all-count : (n : ℕ) → n ≤ 24 → count_shown n ≡ n
+all-count n few = let e : nat_le n 24 ≡ true = grind (arith, nat_tests) in ap (λ b. if b then n else 22) e
+
+pub some-count : (n : ℕ) → 24 < n → count_shown n ≡ 22
+some-count n many = let e : nat_le n 24 ≡ false = grind (arith, nat_tests) in ap (λ b. if b then n else 22) e
+
+pub shown-few : (cards : List Card) → length cards ≤ 24 → shown_cards cards ≡ cards
+shown-few cards few = let e : nat_le (length cards) 24 ≡ true = grind (arith, nat_tests) in rw e refl
+
+pub shown-many : (cards : List Card) → 24 < length cards → (fresh : List Card) → take 1 (filter (λ (c : Card). c.fresh) (drop 22 cards)) ≡ fresh
+    → shown_cards cards ≡ take 22 cards ++ (fresh ++ more_card (length cards - 22 - length fresh) ∷ [])
+shown-many cards many fresh e = let k : nat_le (length cards) 24 ≡ false = grind (arith, nat_tests) in rw (k, e) refl
+
+pub shown-parts : (cards : List Card) → 24 < length cards → shown_cards cards ≡ take 22 cards ++ cards_behind cards
+shown-parts cards many = let k : nat_le (length cards) 24 ≡ false = grind (arith, nat_tests) in rw k refl
+
+pub behind-are : (cards : List Card) (fresh : List Card) → take 1 (filter (λ (c : Card). c.fresh) (drop 22 cards)) ≡ fresh → cards_behind cards ≡ fresh ++ more_card (length cards - 22 - length fresh) ∷ []
+behind-are cards fresh e = rw e refl
+
+-- ---- the first changed one
+
+-- cards of items, of which a test says whether they have changed
+abbrev pub Alike : {A : Type 0} → (A → Bool) → List A → List Card → Type 0
+Alike test [] [] = Unit {0}
+Alike test [] (c ∷ cards) = ⊥
+Alike test (x ∷ items) [] = ⊥
+Alike test (x ∷ items) (c ∷ cards) = (test x ≡ c.fresh) × Alike test items cards
+
+pub alike-drop : {A : Type 0} (test : A → Bool) (n : ℕ) (items : List A) (cards : List Card) → Alike test items cards → Alike test (drop n items) (drop n cards)
+alike-drop test zero items cards a = a
+alike-drop test (suc n) [] [] a = tt
+alike-drop test (suc n) [] (c ∷ cards) a = absurd a
+alike-drop test (suc n) (x ∷ items) [] a = absurd a
+alike-drop test (suc n) (x ∷ items) (c ∷ cards) a = alike-drop test n items cards a.1
+
+pub alike-long : {A : Type 0} (test : A → Bool) (items : List A) (cards : List Card) → Alike test items cards → length items ≡ length cards
+alike-long test [] [] a = refl
+alike-long test [] (c ∷ cards) a = absurd a
+alike-long test (x ∷ items) [] a = absurd a
+alike-long test (x ∷ items) (c ∷ cards) a = ap suc (alike-long test items cards a.1)
+
+pub pick-none : {A : Type 0} (test : A → Bool) (n : ℕ) (items : List A) (cards : List Card) → Alike test items cards → place_from test n items ≡ None → take 1 (filter (λ (c : Card). c.fresh) cards) ≡ []
+pick-none test n [] [] a e = refl
+pick-none test n [] (c ∷ cards) a e = absurd a
+pick-none test n (x ∷ items) [] a e = absurd a
+pick-none test n (x ∷ items) (c ∷ cards) a e = go (pick-none test (suc n) items cards a.1) (test x) refl
+  where
+    go : (place_from test (suc n) items ≡ None → take 1 (filter (λ (d : Card). d.fresh) cards) ≡ []) → (b : Bool) → test x ≡ b → take 1 (filter (λ (d : Card). d.fresh) (c ∷ cards)) ≡ []
+    go before true k = let q : Some n ≡ None = rw k at e in absurd (cc)
+    go before false k =
+        let q : place_from test (suc n) items ≡ None = rw k at e in
+        let f : c.fresh ≡ false = sym a.0 ∙ k in
+        rw f (before q)
+
+-- the first changed card stands at the place
+pub record Picked (n k : ℕ) (cards : List Card) : Type 0 where
+  pub card : Card
+  pub above : n ≤ k
+  pub at : slice_get cards (k - n) ≡ Some card
+  pub first : take 1 (filter (λ (c : Card). c.fresh) cards) ≡ card ∷ []
+
+picked-on : (n k : ℕ) (c : Card) (cards : List Card) → c.fresh ≡ false → Picked (suc n) k cards → Picked n k (c ∷ cards)
+picked-on n k c cards off p =
+    let low : suc n ≤ k = p.above in
+    let here : k - n ≡ suc (k - suc n) = omega arith in
+    record { card = p.card; above = omega arith; at = ap (slice_get (c ∷ cards)) here ∙ p.at; first = rw off p.first }
+
+pub pick-some : {A : Type 0} (test : A → Bool) (n k : ℕ) (items : List A) (cards : List Card) → Alike test items cards → place_from test n items ≡ Some k → Picked n k cards
+pick-some test n k [] cards a e = absurd (cc)
+pick-some test n k (x ∷ items) [] a e = absurd a
+pick-some test n k (x ∷ items) (c ∷ cards) a e = go (pick-some test (suc n) k items cards a.1) (test x) refl
+  where
+    go : (place_from test (suc n) items ≡ Some k → Picked (suc n) k cards) → (b : Bool) → test x ≡ b → Picked n k (c ∷ cards)
+    go before true t =
+        let q : Some n ≡ Some k = rw t at e in
+        let same : n ≡ k = cc in
+        let f : c.fresh ≡ true = sym a.0 ∙ t in
+        let zero_at : k - n ≡ 0 = omega arith in
+        record { card = c; above = omega arith; at = ap (slice_get (c ∷ cards)) zero_at; first = rw f refl }
+    go before false t =
+        let q : place_from test (suc n) items ≡ Some k = rw t at e in
+        picked-on n k c cards (sym a.0 ∙ t) (before q)
+
+-- ---- flex blocks
+
+pub flex-alike : (x : Scene) (t : Task) (place : ℕ) (blocks : List Flex) → Alike (λ (b : BlockItem). is_fresh_flex x t.handle b.anchor b.size) (block_items_from place blocks) (flex_cards_from x t place blocks)
+flex-alike x t place [] = tt
+flex-alike x t place (b ∷ blocks) = (refl, flex-alike x t (place + weight b) blocks)
