@@ -1,7 +1,8 @@
 -- Bands of cards: which cards of a list are shown.
-use Rattle.std.proofs.Common.{◌≡◌, ℕ, zero, suc, ◌+◌, ◌-◌, ◌<◌, ◌≤◌, Bool, true, false, refl, ap, ap₂, sym, subst, ◌∙◌, arith, List, [], ◌∷◌, ◌++◌, length, take, drop, Option, Some, None}
+use Rattle.std.proofs.Common.{◌≡◌, ℕ, zero, suc, ◌+◌, ◌-◌, ◌<◌, ◌≤◌, Bool, true, false, refl, ap, ap₂, sym, subst, ◌∙◌, arith, List, [], ◌∷◌, ◌++◌, length, take, drop, get_or, Option, Some, None}
 use Rattle.std.specs.Prelude.{filter, if◌then◌else◌, nat_le, slice_get}
 use Rattle.std.proofs.lemmas.Bool.Decides.{nat_tests}
+use Rattle.std.proofs.lemmas.Option.{slice_get-get_or}
 use Rattle.rh_defs.specs.declared.listing.BlockItem.{BlockItem}
 use Rattle.rh_defs.specs.Desk.{Task}
 use Rattle.rh_defs.specs.Listing.{block_items_from}
@@ -101,3 +102,23 @@ pick-some test n k (x ∷ items) (c ∷ cards) a e = go (pick-some test (suc n) 
 pub flex-alike : (x : Scene) (t : Task) (place : ℕ) (blocks : List Flex) → Alike (λ (b : BlockItem). is_fresh_flex x t.handle b.anchor b.size) (block_items_from place blocks) (flex_cards_from x t place blocks)
 flex-alike x t place [] = tt
 flex-alike x t place (b ∷ blocks) = (refl, flex-alike x t (place + weight b) blocks)
+
+pub flex-long : (x : Scene) (t : Task) (place : ℕ) (blocks : List Flex) → length (flex_cards_from x t place blocks) ≡ length (block_items_from place blocks)
+flex-long x t place [] = refl
+flex-long x t place (b ∷ blocks) = ap suc (flex-long x t (place + weight b) blocks)
+
+-- ---- the first cards, one by one
+
+pub get-front : {A : Type 0} (n k : ℕ) (xs : List A) → k < n → slice_get (take n xs) k ≡ slice_get xs k
+get-front zero k xs low = absurd (omega arith)
+get-front (suc n) k [] low = refl
+get-front (suc n) zero (x ∷ xs) low = refl
+get-front (suc n) (suc k) (x ∷ xs) low = get-front n k xs (omega arith)
+
+-- the card at a place
+pub record CardAt (k : ℕ) (cards : List Card) : Type 0 where
+  pub card : Card
+  pub is : slice_get cards k ≡ Some card
+
+pub card-at : (k : ℕ) (cards : List Card) → k < length cards → CardAt k cards
+card-at k cards low = record { card = get_or cards k (more_card 0); is = slice_get-get_or cards k (more_card 0) low }

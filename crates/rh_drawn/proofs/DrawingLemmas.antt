@@ -1,6 +1,6 @@
 -- The rows of an area, and the letter of a slot.
 use Rattle.std.proofs.Common.{◌≡◌, ℕ, zero, suc, ◌+◌, ◌<◌, ◌≤◌, Bool, true, false, refl, ap, sym, subst, ◌∙◌, arith, eq-eqb, List, [], ◌∷◌, length, map, Option, Some, None}
-use Rattle.std.specs.Prelude.{◌==◌, find, not, slice_get}
+use Rattle.std.specs.Prelude.{◌==◌, find, if◌then◌else◌, nat_lt, not, slice_get}
 use Rattle.std.specs.List.{position, position_or_len}
 use Rattle.std.proofs.lemmas.Bool.{ne_eqb}
 use Rattle.std.proofs.lemmas.Bool.Decides.{nat_tests}
@@ -54,13 +54,14 @@ slot-place x least next (u ∷ us) (suc i) t r e =
     let above : u.handle + 1 ≤ t.handle = later-handle (u.handle + 1) next us i t r.1 e in
     let other : (u.handle == t.handle) ≡ false = ne_eqb u.handle t.handle (λ q. omega arith) in
     let rest : position_or_len (is_slot_of t.handle) (map (slot_panel x) us) ≡ i = slot-place x (u.handle + 1) next us i t r.1 e in
-    rw other ?more
+    rw other (ap (λ n. 1 + n) rest ∙ omega arith)
 
 pub slot-stands : {d : Desk} (is : IsDesk d) (x : Scene) (i : ℕ) (t : Task) → slice_get d.tasks i ≡ Some t → position (is_slot_of t.handle) (map (slot_panel x) d.tasks) ≡ Some i
 slot-stands {d} is x i t e =
     let at = slot-place x 0 d.next_handle d.tasks i t is.handles e in
     let low : i < length (map (slot_panel x) d.tasks) = omega (arith, slice_get_within d.tasks i t e, length-map d.tasks (slot_panel x)) in
-    rw at ?low
+    let inside : nat_lt i (length (map (slot_panel x) d.tasks)) ≡ true = grind (arith, nat_tests) in
+    ap (λ n. if nat_lt n (length (map (slot_panel x) d.tasks)) then Some n else None) at ∙ ap (λ b. if b then Some i else None) inside
 
 -- one task stands at a place
 pub seen-same : {A : Type 0} (P : A → Type 0) (xs : List A) (i : ℕ) (a b : A) → slice_get xs i ≡ Some a → slice_get xs i ≡ Some b → P a → P b

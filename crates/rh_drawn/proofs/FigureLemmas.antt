@@ -18,12 +18,15 @@ use Rattle.rh_drawn.proofs.Walks.{indented-append}
 -- what has changed
 pub change-parts : (x : Scene) → change_part x ≡ page_part x ++ ((block_part x (task_at x.before.handle x.desk) ++ slide_part x) ++ post_part x)
 change-parts x =
+    let p = page_changes x in
     let b = block_changes x (task_at x.before.handle x.desk) in
     let s = slide_change (slides x) in
-    indented-append (page_changes x) (b ++ (s ++ post_changes x))
-    ∙ ap (λ z. page_part x ++ z) (indented-append b (s ++ post_changes x)
-    ∙ (ap (λ z. block_part x (task_at x.before.handle x.desk) ++ z) (indented-append s (post_changes x))
-    ∙ sym (append_assoc (block_part x (task_at x.before.handle x.desk)) (slide_part x) (post_part x))))
+    let q = post_changes x in
+    let blocks = block_part x (task_at x.before.handle x.desk) in
+    indented-append ((p ++ b) ++ s) q
+    ∙ (ap (λ z. z ++ post_part x) (indented-append (p ++ b) s
+    ∙ (ap (λ z. z ++ slide_part x) (indented-append p b) ∙ append_assoc (page_part x) blocks (slide_part x)))
+    ∙ append_assoc (page_part x) (blocks ++ slide_part x) (post_part x))
 
 abbrev pub behind_module : Scene → List Text
 behind_module x = letter_part x ++ (transfer_part x ++ [] ∷ [])
@@ -34,12 +37,19 @@ behind_areas x = slot_part x ++ (module_part x ++ behind_module x)
 abbrev pub behind_changes : Scene → List Text
 behind_changes x = ([] ∷ []) ++ (pool_part x ++ (area_part x ++ behind_areas x))
 
+six : (a b c d e f g : List Text) → ((((((a ++ b) ++ c) ++ d) ++ e) ++ f) ++ g) ≡ a ++ (b ++ (c ++ (d ++ (e ++ (f ++ g)))))
+six a b c d e f g = simp append_assoc
+
 -- all of it
 pub figure-parts : (x : Scene) → figure_lines (figure x) ≡ change_part x ++ behind_changes x
 unfolding figure
 figure-parts x =
-    ap (λ z. change_part x ++ (([] ∷ []) ++ (pool_part x ++ (area_part x ++ (z ++ (module_part x ++ behind_module x))))))
+    let rows = pool_rows (figure x) in
+    let heading = pool_heading (figure x) in
+    ap (λ z. change_part x ++ (([] ∷ []) ++ (heading ∷ z)))
+    (ap (λ z. ((((((rows ++ area_part x) ++ z) ++ module_part x) ++ letter_part x) ++ transfer_part x) ++ [] ∷ []))
     (flat_map-map (λ (p : Panel). panel_lines (marked_heading (slot_panels x) (codes "Slot ") p) p) (slot_panel x) x.desk.tasks)
+    ∙ six rows (area_part x) (slot_part x) (module_part x) (letter_part x) (transfer_part x) ([] ∷ []))
 
 -- ---- the pool
 

@@ -1,5 +1,5 @@
 -- Characters of pages, owner by owner.
-use Rattle.std.proofs.Common.{◌≡◌, ℕ, zero, suc, ◌+◌, ◌<◌, ◌≤◌, Bool, true, false, eq-eqb, refl, ap, ap₂, sym, subst, ◌∙◌, arith, List, [], ◌∷◌, ◌++◌, length, map, set, get_or, Option, Some, None}
+use Rattle.std.proofs.Common.{◌≡◌, ℕ, zero, suc, ◌+◌, ◌<◌, ◌≤◌, Bool, true, false, eq-eqb, refl, ap, ap₂, sym, subst, ◌∙◌, append_assoc, arith, List, [], ◌∷◌, ◌++◌, length, map, set, get_or, Option, Some, None}
 use Rattle.std.specs.Prelude.{◌==◌, ◌&&◌, ◌||◌, find, replicate, if◌then◌else◌, nat_lt, slice_get, slice_index}
 use Rattle.std.specs.List.{enumerate_from, list_any, position, range_with_len}
 use Rattle.std.proofs.lemmas.Bool.{ne_eqb}
@@ -188,9 +188,9 @@ map-twice f g (x ∷ xs) = ap (λ z. f (g x) ∷ z) (map-twice f g xs)
 abbrev pub fixed_pages : Share → ℕ × ℕ → List ℕ × ℕ
 fixed_pages s a = (s.pages_of (AreaOf a.0), owner_mark [] (AreaOf a.0))
 
-fixed-same : (d : Desk) (s : Share) (slots : List Panel) (as : List (ℕ × ℕ)) → map (fixed_pages s) as ≡ map (λ (a : ℕ × ℕ). of_holding s slots (fixed_holding d a)) as
+fixed-same : (d : Desk) (s : Share) (slots : List Panel) (areas : List (ℕ × ℕ)) → map (fixed_pages s) areas ≡ map (λ (a : ℕ × ℕ). of_holding s slots (fixed_holding d a)) areas
 fixed-same d s slots [] = refl
-fixed-same d s slots (a ∷ as) = ap (λ z. fixed_pages s a ∷ z) (fixed-same d s slots as)
+fixed-same d s slots (a ∷ areas) = ap (λ z. fixed_pages s a ∷ z) (fixed-same d s slots areas)
 
 made-same : (s : Share) (slots : List Panel) (ms : List Made) → map (made_pages s) ms ≡ map (λ (m : Made). let h : Holding = (AreaOf m.number, m.pages) in of_holding s slots h) ms
 made-same s slots [] = refl
@@ -219,7 +219,7 @@ module _ {d : Desk} (is : IsDesk d) (x : Scene) (tasks : x.desk.tasks ≡ d.task
       ap₂ (λ u v. u ++ v) (fixed-same d x.share (map (slot_panel x) d.tasks) (enumerate_from 0 d.areas) ∙ sym (map-twice of (fixed_holding d) (enumerate_from 0 d.areas)))
       (ap₂ (λ u v. u ++ v) (made-same x.share (map (slot_panel x) d.tasks) d.made ∙ sym (map-twice of (λ (m : Made). let h : Holding = (AreaOf m.number, m.pages) in h) d.made))
       (slots-are is x x.share 0 d.tasks (λ k t e. ap (slice_get d.tasks) (omega arith) ∙ e) ∙ sym (map-twice of (λ (t : Task). let h : Holding = (SlotOf t.handle, task_pages t) in h) d.tasks)))
-      ∙ (ap (λ z. map of a ++ z) (sym (map-append of b c)) ∙ sym (map-append of a (b ++ c)))
+      ∙ (sym (append_assoc (map of a) (map of b) (map of c)) ∙ (ap (λ z. z ++ map of c) (sym (map-append of a b)) ∙ sym (map-append of (a ++ b) c)))
 
   pub pool-marked : (ms : List ℕ) → marked_all (slot_pages_from x.share 0 d.tasks) (marked_all (map (made_pages x.share) d.made) (marked_all (map (fixed_pages x.share) (enumerate_from 0 d.areas)) (replicate (length ms) 46)))
       ≡ map (λ k. page_mark (slot_panels x) (owner_of x k)) (range_with_len 0 (length ms))

@@ -1,4 +1,4 @@
-use Rattle.std.proofs.Common.{◌≡◌, ◌++◌, List, Option, Some, map, ap, sym, refl, ◌∙◌, append_assoc}
+use Rattle.std.proofs.Common.{◌≡◌, ◌++◌, List, Option, Some, map, ap, ap₂, sym, refl, ◌∙◌, append_assoc}
 use Rattle.std.specs.Prelude.{filter, not}
 use Rattle.std.specs.List.{flat_map}
 use Rattle.rh_defs.specs.declared.listing.BlockItem.{BlockItem}
@@ -40,7 +40,7 @@ returns-in_err-print_gone g c =
     let now = block_items r.0.slot in
     let before = x.before.blocks in
     puts_same (ap shown_lines (sym (block-parts x r.0 at)))
-    (lines_stop _ (gone before now) (changed before now ++ slid before now) ?gone c.from_residual.ensures.0)
+    (lines_stop _ (gone before now) (changed before now ++ slid before now) (puts_same (ap₂ (λ b n. shown_lines (gone b n)) c.blocks-3.ensures (c.deref.ensures.0 ∙ c.blocks-2.ensures r.0 r.1)) c.in_err-print_gone.ensures) c.from_residual.ensures.0)
 
 pub returns-in_err-print_now : goal.returns-in_err-print_now
 returns-in_err-print_now g c =
@@ -50,7 +50,7 @@ returns-in_err-print_now g c =
     let now = block_items r.0.slot in
     let before = x.before.blocks in
     puts_same (ap shown_lines (sym (block-parts x r.0 at)))
-    (lines_then (gone before now) (changed before now ++ slid before now) ?gone (lines_stop _ (changed before now) (slid before now) ?now c.from_residual-in_err-print_now.ensures.0))
+    (lines_then (gone before now) (changed before now ++ slid before now) (puts_same (ap₂ (λ b n. shown_lines (gone b n)) c.blocks-3.ensures (c.deref.ensures.0 ∙ c.blocks-2.ensures r.0 r.1)) c.in_ok-print_gone.ensures) (lines_stop _ (changed before now) (slid before now) (puts_same (ap (λ n. shown_lines (changed before n)) (c.deref-2.ensures.0 ∙ c.blocks-2.ensures r.0 r.1)) c.in_err-print_now.ensures) c.from_residual-in_err-print_now.ensures.0))
 
 pub returns : goal.returns
 returns g c =
@@ -60,4 +60,4 @@ returns g c =
     let now = block_items r.0.slot in
     let before = x.before.blocks in
     puts_same (ap shown_lines (sym (block-parts x r.0 at)))
-    (lines_then (gone before now) (changed before now ++ slid before now) ?gone (lines_then (changed before now) (slid before now) ?now ?slides))
+    (lines_then (gone before now) (changed before now ++ slid before now) (puts_same (ap₂ (λ b n. shown_lines (gone b n)) c.blocks-3.ensures (c.deref.ensures.0 ∙ c.blocks-2.ensures r.0 r.1)) c.in_ok-print_gone.ensures) (lines_then (changed before now) (slid before now) (puts_same (ap (λ n. shown_lines (changed before n)) (c.deref-2.ensures.0 ∙ c.blocks-2.ensures r.0 r.1)) c.in_ok-print_now.ensures) (puts_same (ap (λ n. shown_lines (slid before n)) (c.deref-3.ensures.0 ∙ c.blocks-2.ensures r.0 r.1)) c.print_slides.ensures)))

@@ -41,7 +41,7 @@ returns-in_err-print_area g c =
     lines_then (heading (module_pages d) ∷ []) (area_rows (module_drawing x) ++ card_lines (shown_cards (module_cards x)))
     (puts_line (ap heading c.fixed_pages.ensures) c.in_ok-print_module_heading.ensures)
     (lines_stop _ (area_rows (module_drawing x)) (card_lines (shown_cards (module_cards x)))
-    (puts_same (ap shown_lines (rows-are (module_drawing x) _ _ _ refl is ?pieces)) c.in_err-print_area.ensures) c.from_residual-in_err-print_area.ensures.0)
+    (puts_same (ap shown_lines (rows-are (module_drawing x) _ _ _ refl is (c.deref.ensures.0 ∙ c.module_pieces.ensures))) c.in_err-print_area.ensures) c.from_residual-in_err-print_area.ensures.0)
 
 pub returns : goal.returns
 returns g c =
@@ -51,4 +51,4 @@ returns g c =
     lines_then (heading (module_pages d) ∷ []) (area_rows (module_drawing x) ++ card_lines (shown_cards (module_cards x)))
     (puts_line (ap heading c.fixed_pages.ensures) c.in_ok-print_module_heading.ensures)
     (lines_then (area_rows (module_drawing x)) (card_lines (shown_cards (module_cards x)))
-    (puts_same (ap shown_lines (rows-are (module_drawing x) _ _ _ refl is ?pieces)) c.in_ok-print_area.ensures) c.print_heap_cards.ensures)
+    (puts_same (ap shown_lines (rows-are (module_drawing x) _ _ _ refl is (c.deref.ensures.0 ∙ c.module_pieces.ensures))) c.in_ok-print_area.ensures) c.print_heap_cards.ensures)

@@ -11,4 +11,4 @@ pub returns-in-RamTransmit : goal.returns-in-RamTransmit
 returns-in-RamTransmit g c = λ s b m.
     let x = scene_of (g.S.Sight.desk c.args.sight.now) s b m in
     puts_same (ap (λ body. shown_lines (indented (bytes_sent_text x c.args.letter.now body))) (sym c.in-RamTransmit.is))
-    (puts_line (ap (λ w. codes "  " ++ bytes_line c.in-RamTransmit.written.now w c.in-RamTransmit.buffer.now) c.who_of-to.ensures) c.print_bytes_sent.ensures)
+    (puts_line (ap (λ w. codes "  " ++ bytes_line c.in-RamTransmit.written w c.in-RamTransmit.buffer) c.who_of-to.ensures) c.print_bytes_sent.ensures)

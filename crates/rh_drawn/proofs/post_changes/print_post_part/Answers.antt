@@ -1,4 +1,4 @@
-use Rattle.std.proofs.Common.{◌≡◌, ℕ, ◌<◌, ◌≤◌, ◌+◌, ◌-◌, ◌++◌, Bool, true, false, List, [], ◌∷◌, Option, Some, None, length, map, ap, ap₂, sym, subst, refl, ◌∙◌, arith}
+use Rattle.std.proofs.Common.{◌≡◌, ℕ, ◌<◌, ◌≤◌, ◌+◌, ◌-◌, ◌++◌, Bool, true, false, List, [], ◌∷◌, Option, Some, None, length, map, ap, ap₂, sym, subst, refl, ◌∙◌, append_assoc, arith}
 use Rattle.std.specs.Prelude.{◌==◌, ◌&&◌, filter}
 use Rattle.std.specs.Option.{option_map}
 use Rattle.rh_defs.specs.Messages.{Parcel}
@@ -18,8 +18,9 @@ returned x = map (returns_text x) (filter (λ (p : Parcel). p.message.my_ref == 
 
 post-parts : (x : Scene) → post_part x ≡ indented (returned x) ++ (indented (taken_text x x.marks.taken) ++ indented (sent_text x x.marks.sent))
 post-parts x =
-    indented-append (returned x) (taken_text x x.marks.taken ++ sent_text x x.marks.sent)
-    ∙ ap (λ z. indented (returned x) ++ z) (indented-append (taken_text x x.marks.taken) (sent_text x x.marks.sent))
+    indented-append (returned x ++ taken_text x x.marks.taken) (sent_text x x.marks.sent)
+    ∙ (ap (λ z. z ++ indented (sent_text x x.marks.sent)) (indented-append (returned x) (taken_text x x.marks.taken))
+    ∙ append_assoc (indented (returned x)) (indented (taken_text x x.marks.taken)) (indented (sent_text x x.marks.sent)))
 
 pub returns-in_err-print_returned : goal.returns-in_err-print_returned
 returns-in_err-print_returned g c =

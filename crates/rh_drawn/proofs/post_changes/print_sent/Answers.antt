@@ -4,6 +4,7 @@ use Rattle.rh_defs.specs.Messages.{action_of}
 use Rattle.rh_figure.specs.Changes.{bytes_sent_text, sends_line}
 use Rattle.rh_figure.specs.Phrases.{Text, task_name}
 use Rattle.rh_figure.specs.Scene.{scene_of}
+use Rattle.rh_map.specs.Tasks.{who_text}
 use Rattle.rh_map.specs.Written.{shown_lines}
 use Rattle.rh_drawn.specs.Parts.{indented}
 use Rattle.rh_drawn.proofs.Walks.{indented-append, lines_stop, lines_then, puts_line, puts_same}
@@ -26,6 +27,6 @@ returns g c = λ s b m.
     let line = sends_line (task_name d l.from) (action_of l.body) c.args.my_ref (task_name d l.to) in
     puts_same (ap shown_lines (sym (indented-append bytes (line ∷ []))))
     (lines_then (indented bytes) (indented (line ∷ [])) (c.in_ok-print_bytes.ensures s b m)
-    (puts_line (ap (λ w. codes "  " ++ sends_line w c.action.result c.args.my_ref _) c.who_of-from.ensures
-    ∙ (ap (λ w. codes "  " ++ sends_line (task_name d l.from) w c.args.my_ref _) c.action.ensures
+    (puts_line (ap (λ w. codes "  " ++ sends_line w c.action.result c.args.my_ref (who_text c.who_of-to.result)) c.who_of-from.ensures
+    ∙ (ap (λ w. codes "  " ++ sends_line (task_name d l.from) w c.args.my_ref (who_text c.who_of-to.result)) c.action.ensures
     ∙ ap (λ w. codes "  " ++ sends_line (task_name d l.from) (action_of l.body) c.args.my_ref w) c.who_of-to.ensures)) c.print_sends.ensures))
