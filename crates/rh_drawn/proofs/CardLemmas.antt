@@ -1,16 +1,18 @@
 -- Bands of cards: which cards of a list are shown.
-use Rattle.std.proofs.Common.{◌≡◌, ℕ, zero, suc, ◌+◌, ◌-◌, ◌<◌, ◌≤◌, Bool, true, false, refl, ap, ap₂, sym, subst, ◌∙◌, arith, List, [], ◌∷◌, ◌++◌, length, take, drop, get_or, Option, Some, None}
+use Rattle.std.proofs.Common.{◌≡◌, ◌⊎◌, inl, inr, add-one, append-nil, append_assoc, ℕ, zero, suc, ◌+◌, ◌-◌, ◌<◌, ◌≤◌, Bool, true, false, refl, ap, ap₂, sym, subst, ◌∙◌, arith, List, [], ◌∷◌, ◌++◌, length, take, drop, get_or, Option, Some, None}
 use Rattle.std.specs.Prelude.{filter, if◌then◌else◌, nat_le, slice_get}
 use Rattle.std.proofs.lemmas.Bool.Decides.{nat_tests}
+use Rattle.std.proofs.lemmas.List.{drop_all, drop_more, map-append, take_all}
 use Rattle.std.proofs.lemmas.Option.{slice_get-get_or}
 use Rattle.rh_defs.specs.declared.listing.BlockItem.{BlockItem}
 use Rattle.rh_defs.specs.Desk.{Task}
 use Rattle.rh_defs.specs.Listing.{block_items_from}
 use Rattle.rh_defs.specs.Slot.{Flex, weight}
-use Rattle.rh_figure.specs.Cards.{Card, flex_cards_from, more_card, shown_cards}
+use Rattle.rh_figure.specs.Cards.{Card, flex_card, flex_cards_from, more_card, shown_cards, use_of_block}
+use Rattle.rh_figure.specs.Map.{card_line}
 use Rattle.rh_figure.specs.Layout.{is_fresh_flex}
 use Rattle.rh_figure.specs.Scene.{Scene}
-use Rattle.rh_drawn.specs.Cards.{cards_behind, count_left, count_shown, place_from}
+use Rattle.rh_drawn.specs.Cards.{card_lines, cards_behind, count_left, count_shown, place_behind, place_from}
 
 -- ---- how many are shown
 
@@ -25,10 +27,13 @@ shown-few cards few = let e : nat_le (length cards) 24 ≡ true = grind (arith, 
 
 pub shown-many : (cards : List Card) → 24 < length cards → (fresh : List Card) → take 1 (filter (λ (c : Card). c.fresh) (drop 22 cards)) ≡ fresh
     → shown_cards cards ≡ take 22 cards ++ (fresh ++ more_card (length cards - 22 - length fresh) ∷ [])
-shown-many cards many fresh e = let k : nat_le (length cards) 24 ≡ false = grind (arith, nat_tests) in rw (k, e) refl
+shown-many cards many fresh e = let k : nat_le (length cards) 24 ≡ false = grind (arith, nat_tests) in rw (k, e) (append_assoc (take 22 cards) fresh (more_card (length cards - 22 - length fresh) ∷ []))
 
 pub shown-parts : (cards : List Card) → 24 < length cards → shown_cards cards ≡ take 22 cards ++ cards_behind cards
-shown-parts cards many = let k : nat_le (length cards) 24 ≡ false = grind (arith, nat_tests) in rw k refl
+shown-parts cards many =
+    let k : nat_le (length cards) 24 ≡ false = grind (arith, nat_tests) in
+    let fresh = take 1 (filter (λ (c : Card). c.fresh) (drop 22 cards)) in
+    rw k (append_assoc (take 22 cards) fresh (more_card (length cards - 22 - length fresh) ∷ []))
 
 pub behind-are : (cards : List Card) (fresh : List Card) → take 1 (filter (λ (c : Card). c.fresh) (drop 22 cards)) ≡ fresh → cards_behind cards ≡ fresh ++ more_card (length cards - 22 - length fresh) ∷ []
 behind-are cards fresh e = rw e refl
@@ -122,3 +127,98 @@ pub record CardAt (k : ℕ) (cards : List Card) : Type 0 where
 
 pub card-at : (k : ℕ) (cards : List Card) → k < length cards → CardAt k cards
 card-at k cards low = record { card = get_or cards k (more_card 0); is = slice_get-get_or cards k (more_card 0) low }
+
+-- ---- the first cards, and what stands behind them
+
+pub le-or : (n : ℕ) → (n ≤ 24) ⊎ (24 < n)
+le-or n = go (nat_le n 24) refl
+  where
+    go : (b : Bool) → nat_le n 24 ≡ b → (n ≤ 24) ⊎ (24 < n)
+    go true e = inl (grind (arith, nat_tests))
+    go false e = inr (grind (arith, nat_tests))
+
+pub count-few : (n : ℕ) → count_shown n ≡ n → n ≤ 24
+count-few n e = go (le-or n)
+  where
+    go : (n ≤ 24) ⊎ (24 < n) → n ≤ 24
+    go (inl few) = few
+    go (inr many) = let k = some-count n many in absurd (omega arith)
+
+pub count-many : (n : ℕ) → (count_shown n ≡ n → ⊥) → 24 < n
+count-many n e = go (le-or n)
+  where
+    go : (n ≤ 24) ⊎ (24 < n) → 24 < n
+    go (inl few) = absurd (e (all-count n few))
+    go (inr many) = many
+
+pub count-within : (n : ℕ) → count_shown n ≤ n
+count-within n = go (le-or n)
+  where
+    go : (n ≤ 24) ⊎ (24 < n) → count_shown n ≤ n
+    go (inl few) = let k = all-count n few in omega arith
+    go (inr many) = let k = some-count n many in omega arith
+
+pub record ShownSplit (cards : List Card) : Type 0 where
+  pub behind : List Card
+  pub is : shown_cards cards ≡ take (count_shown (length cards)) cards ++ behind
+
+pub shown-split : (cards : List Card) → ShownSplit cards
+shown-split cards = go (le-or (length cards))
+  where
+    go : (length cards ≤ 24) ⊎ (24 < length cards) → ShownSplit cards
+    go (inl few) = record { behind = []; is = shown-few cards few ∙ (sym (take_all (count_shown (length cards)) cards (omega (arith, all-count (length cards) few))) ∙ sym (append-nil (take (count_shown (length cards)) cards))) }
+    go (inr many) = record { behind = cards_behind cards; is = shown-parts cards many ∙ ap (λ n. take n cards ++ cards_behind cards) (sym (some-count (length cards) many)) }
+
+pub cards-append : (xs ys : List Card) → card_lines (xs ++ ys) ≡ card_lines xs ++ card_lines ys
+cards-append xs ys = map-append card_line xs ys
+
+-- ---- a flex block as it is listed
+
+pub record FlexHere (x : Scene) (t : Task) (blocks : List Flex) (k : ℕ) (item : BlockItem) (card : Card) : Type 0 where
+  pub block : Flex
+  pub stands : slice_get blocks k ≡ Some block
+  pub size : length block.bytes ≡ item.size
+  pub card_is : card ≡ flex_card item.address item.anchor block.bytes (use_of_block t item.anchor) (is_fresh_flex x t.handle item.anchor item.size)
+
+pub flex-here : (x : Scene) (t : Task) (place : ℕ) (blocks : List Flex) (k : ℕ) (item : BlockItem) (card : Card) → slice_get (block_items_from place blocks) k ≡ Some item → slice_get (flex_cards_from x t place blocks) k ≡ Some card → FlexHere x t blocks k item card
+flex-here x t place [] k item card e f = absurd (cc)
+flex-here x t place (b ∷ blocks) zero item card e f =
+    let i : record { anchor = b.anchor; address = place + 8; size = length b.bytes } ≡ item = cc in
+    let c : flex_card (place + 8) b.anchor b.bytes (use_of_block t b.anchor) (is_fresh_flex x t.handle b.anchor (length b.bytes)) ≡ card = cc in
+    let P : BlockItem → Type 0 = λ z. FlexHere x t (b ∷ blocks) zero z card in
+    subst P i (record { block = b; stands = refl; size = refl; card_is = sym c })
+flex-here x t place (b ∷ blocks) (suc k) item card e f =
+    let rest = flex-here x t (place + weight b) blocks k item card e f in
+    record { block = rest.block; stands = rest.stands; size = rest.size; card_is = rest.card_is }
+
+-- ---- a walk to the first that passes a test
+
+module _ {A : Type 0} (test : A → Bool) (k : ℕ) (xs : List A) (x : A) (low : k < length xs) (is : x ≡ get_or xs k x) where
+  here-is : (b : Bool) → test x ≡ b → place_behind test k xs ≡ (if b then Some k else place_from test (suc k) (drop (k + 1) xs))
+  here-is b e =
+      let t : test (get_or xs k x) ≡ b = ap test (sym is) ∙ e in
+      ap (place_from test k) (drop_more xs k x low) ∙ ap (λ z. if z then Some k else place_from test (suc k) (drop (k + 1) xs)) t
+
+  pub behind-here : test x ≡ true → Some k ≡ place_behind test k xs
+  behind-here e = sym (here-is true e)
+
+  pub behind-on : test x ≡ false → place_behind test (k + 1) xs ≡ place_behind test k xs
+  behind-on e = ap (λ n. place_from test n (drop (k + 1) xs)) (add-one k) ∙ sym (here-is false e)
+
+pub behind-none : {A : Type 0} (test : A → Bool) (k : ℕ) (xs : List A) → length xs ≤ k → None ≡ place_behind test k xs
+behind-none test k xs past = sym (ap (place_from test k) (drop_all k xs past))
+
+-- the block of an item
+pub record ItemBlock (blocks : List Flex) (k : ℕ) (item : BlockItem) : Type 0 where
+  pub block : Flex
+  pub stands : slice_get blocks k ≡ Some block
+  pub size : length block.bytes ≡ item.size
+
+pub item-block : (place : ℕ) (blocks : List Flex) (k : ℕ) (item : BlockItem) → slice_get (block_items_from place blocks) k ≡ Some item → ItemBlock blocks k item
+item-block place [] k item e = absurd (cc)
+item-block place (b ∷ blocks) zero item e =
+    let size : length b.bytes ≡ item.size = cc in
+    record { block = b; stands = refl; size = size }
+item-block place (b ∷ blocks) (suc k) item e =
+    let rest = item-block (place + weight b) blocks k item e in
+    record { block = rest.block; stands = rest.stands; size = rest.size }

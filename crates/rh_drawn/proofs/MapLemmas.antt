@@ -45,7 +45,7 @@ reordered_more {a} {b} {c} p q = record {
 }
 
 -- a line leads on from both
-after_alike : (p q : Place) (r : Read) → SamePlaces p q → SamePlaces (after_read p r) (after_read q r)
+pub after_alike : (p q : Place) (r : Read) → SamePlaces p q → SamePlaces (after_read p r) (after_read q r)
 after_alike p q (line, Ok None) is = record {
   desks = is.desks;
   steps = is.steps;
@@ -59,7 +59,7 @@ after_alike p q (line, Ok (Some c)) is = record {
 after_alike p q (line, Err fault) is = record { desks = is.desks; steps = ap (λ n. n + 1) is.steps; wanted = refl }
 
 -- a line is shown the same
-lines_alike : (marked : Bool) (s : Share) (p q : Place) (r : Read) → SamePlaces p q → lines_of_read marked s q r ≡ lines_of_read marked s p r
+pub lines_alike : (marked : Bool) (s : Share) (p q : Place) (r : Read) → SamePlaces p q → lines_of_read marked s q r ≡ lines_of_read marked s p r
 lines_alike marked s p q r is =
     ap₂ (λ n w. lines_of_read marked s (place q.desk n w) r) is.steps is.wanted
     ∙ (sym (append-nil (lines_of_read marked s (place q.desk p.steps p.wanted) r))
@@ -67,18 +67,18 @@ lines_alike marked s p q r is =
     ∙ append-nil (lines_of_read marked s (place p.desk p.steps p.wanted) r)))
 
 -- a desk's queue has no pages
-shared_alike : (s : Share) {a b : Desk} → IsReordered a b → IsShared s b → IsShared s a
+pub shared_alike : (s : Share) {a b : Desk} → IsReordered a b → IsShared s b → IsShared s a
 shared_alike s {a} {b} is shared =
     let k : IsShared s (with_queue b.post.queued a) = subst (IsShared s) is.rest shared in
     record { each = k.each; free = k.free; once = k.once }
 
 -- ---- one line
 
-stands_place : {D : Type 0} {desk : D → Desk} {marked : Bool} {p : Place} {m : Mapper D} → Stands desk marked p m → SamePlaces p (place_in desk m)
+pub stands_place : {D : Type 0} {desk : D → Desk} {marked : Bool} {p : Place} {m : Mapper D} → Stands desk marked p m → SamePlaces p (place_in desk m)
 stands_place is = record { desks = is.desk_is; steps = is.steps; wanted = is.wanted }
 
 -- behind a line a mapper stands where the map does
-stands_on : {D : Type 0} {desk : D → Desk} {marked : Bool} {p : Place} {m n : Mapper D} (r : Read) → Stands desk marked p m → Follows desk m r n → Stands desk marked (after_read p r) n
+pub stands_on : {D : Type 0} {desk : D → Desk} {marked : Bool} {p : Place} {m n : Mapper D} (r : Read) → Stands desk marked p m → Follows desk m r n → Stands desk marked (after_read p r) n
 stands_on {desk = desk} {p = p} {m = m} r is f =
     let same = after_alike p (place_in desk m) r (stands_place is) in
     record {
@@ -94,7 +94,7 @@ pub record Shows (marked : Bool) (p : Place) (r : Read) (o q : Output) : Type 0 
   pub shared : IsShared share (after_read p r).desk
   pub written : Takes o q (written_lines (lines_of_read marked share p r))
 
-shows : {D : Type 0} {desk : D → Desk} {marked : Bool} {p : Place} {m n : Mapper D} {o q : Output} (line : Text) (meaning : Meaning (Option Command)) → Stands desk marked p m → Drew desk m o line meaning n q → Shows marked p (line, meaning) o q
+pub shows : {D : Type 0} {desk : D → Desk} {marked : Bool} {p : Place} {m n : Mapper D} {o q : Output} (line : Text) (meaning : Meaning (Option Command)) → Stands desk marked p m → Drew desk m o line meaning n q → Shows marked p (line, meaning) o q
 shows {D} {desk} {marked} {p} {m} {n} {o} {q} line meaning is drew =
     let r : Read = (line, meaning) in
     let P : List Text → Type 0 = λ z. Takes o q (written_lines z) in
@@ -106,7 +106,7 @@ shows {D} {desk} {marked} {p} {m} {n} {o} {q} line meaning is drew =
 
 -- ---- lines one after the other
 
-written_more : (xs ys : List Text) → written_lines (xs ++ ys) ≡ written_lines xs ++ written_lines ys
+pub written_more : (xs ys : List Text) → written_lines (xs ++ ys) ≡ written_lines xs ++ written_lines ys
 written_more xs ys = flat_map-append _ xs ys
 
 -- where a map stands behind some lines
@@ -165,9 +165,9 @@ took_map {D} {desk} {marked} {p} {m} {n} {o} {q} [] is (a, b) =
     let P : Mapper D → Type 0 = λ z. Drawn desk marked p [] m.has_bad_line z o q in
     let Q : Output → Type 0 = λ z. Drawn desk marked p [] m.has_bad_line m o z in
     subst P a (subst Q b (drawn_none o is))
-took_map (line ∷ lines) is (k, u, one, rest) =
+took_map {D} {desk} {marked} {p} {m} {n} {o} {q} (line ∷ lines) is (k, u, one, rest) =
     drawn_more line (line_means line) (map read_line lines) is one
-    (took_map lines (stands_on (read_line line) is one.follows) rest)
+    (took_map {p = after_read p (read_line line)} lines (stands_on (read_line line) is one.follows) rest)
 
 -- ---- the lines themselves, not only as far as they are kept
 

@@ -174,8 +174,13 @@ first-mark s slots k (h ∷ hs) = go (has_page s k h) refl (first-mark s slots k
   where
     go : (b : Bool) → has_page s k h ≡ b → mark_at (map (of_holding s slots) hs) k 46 ≡ page_mark slots (owner_in (find (has_page s k) hs))
         → mark_at (map (of_holding s slots) (h ∷ hs)) k 46 ≡ page_mark slots (owner_in (find (has_page s k) (h ∷ hs)))
-    go true e rest = simp e (settled (map (of_holding s slots) hs) k (owner_mark slots h.0) (no-dot slots h.0))
-    go false e rest = simp e rest
+    go true e rest =
+        ap (λ z. mark_at (map (of_holding s slots) hs) k (if z then owner_mark slots h.0 else 46)) e
+        ∙ (settled (map (of_holding s slots) hs) k (owner_mark slots h.0) (no-dot slots h.0)
+        ∙ ap (λ z. page_mark slots (owner_in (if z then Some h else find (has_page s k) hs))) (sym e))
+    go false e rest =
+        ap (λ z. mark_at (map (of_holding s slots) hs) k (if z then owner_mark slots h.0 else 46)) e
+        ∙ (rest ∙ ap (λ z. page_mark slots (owner_in (if z then Some h else find (has_page s k) hs))) (sym e))
 
 map-all : {A : Type 0} (f g : ℕ → A) (ks : List ℕ) → ((k : ℕ) → f k ≡ g k) → map f ks ≡ map g ks
 map-all f g [] each = refl

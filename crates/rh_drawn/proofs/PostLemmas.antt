@@ -311,8 +311,8 @@ behind-are held ref [] = refl
 behind-are held ref (p ∷ ps) = go (p.message.my_ref == ref) refl (behind-are held ref ps)
   where
     go : (b : Bool) → (p.message.my_ref == ref) ≡ b → behind ref (map (item_of held) ps) ≡ map (item_of held) (after_ref ref ps) → behind ref (map (item_of held) (p ∷ ps)) ≡ map (item_of held) (after_ref ref (p ∷ ps))
-    go true e rest = rw (e, e) refl
-    go false e rest = rw (e, e) rest
+    go true e rest = rw e refl
+    go false e rest = rw e rest
 
 next-is : (ps : List Parcel) → place_seen (before_next (first_ref (map (item_of false) ps))) ≡ next_text ps
 next-is [] = refl
@@ -353,8 +353,8 @@ told-more b held (p ∷ ps) ms qs t = go (p.block == b) refl (told-more b held p
         → Told b (find (lies_in b) (map (item_of held) (p ∷ ps) ++ ms)) (find (stands_in b) ((p ∷ ps) ++ qs))
     go true k rest =
         let is : IsItemOf (item_of held p) p = record { block = refl; to = refl; from = refl; my_ref = refl; action = refl; code = refl } in
-        rw (k, k) (is, eqb-true p.block b k)
-    go false k rest = rw (k, k) rest
+        rw k (is, eqb-true p.block b k)
+    go false k rest = rw k rest
 
 pub message-told : (b : ℕ) (d : Desk) → Told b (find (lies_in b) (message_items d)) (find (stands_in b) (waiting_on d ++ held_on d))
 message-told b d =

@@ -29,8 +29,11 @@ same_short line e = record {
 front_twice : (m n : ℕ) (xs : List ℕ) → m ≤ n → take m (take n xs) ≡ take m xs
 front_twice m n xs le = take-take m n xs le
   where
+    take_nil : (n : ℕ) → take {A = ℕ} n [] ≡ []
+    take_nil zero = refl
+    take_nil (suc n) = refl
     take-take : (m n : ℕ) (xs : List ℕ) → m ≤ n → take m (take n xs) ≡ take m xs
-    take-take m n [] le = grind arith
+    take-take m n [] le = ap (take m) (take_nil n)
     take-take zero n (x ∷ xs) le = refl
     take-take (suc m) zero (x ∷ xs) le = absurd (omega arith)
     take-take (suc m) (suc n) (x ∷ xs) le = ap (λ z. x ∷ z) (take-take m n xs (omega arith))
@@ -58,10 +61,12 @@ fault_with wanted n shown d s fault =
 
 fault_shown : (wanted : Bool) (s : Share) (n : ℕ) (line : Text) (fault : LineFault) (d : Desk)
     → fault_lines wanted s n line fault d ≡ fault_with wanted n (cut LINE_COLUMNS line) d s fault
+unfolding fault_with
 fault_shown wanted s n line fault d = refl
 
-long_lines : (line : List ℕ) → 1024 < length line → (marked : Bool) (s : Share) (p : Place)
+pub long_lines : (line : List ℕ) → 1024 < length line → (marked : Bool) (s : Share) (p : Place)
     → lines_of_read marked s p (kept line, Err TooLong) ≡ lines_of_read marked s p (line, Err TooLong)
+unfolding fault_with kept
 long_lines line long marked s p =
     ap (λ text. if not marked || p.wanted then fault_with p.wanted (p.steps + 1) text p.desk s TooLong else [])
     (cut_kept line long)

@@ -38,7 +38,7 @@ lines_last : (marked : Bool) (p : Place) (xs : List Stage) (r : Read) (s : Share
 lines_last marked p [] r s = append-nil (lines_of_read marked s p r)
 lines_last marked p ((q, u) ∷ xs) r s =
     ap (λ z. lines_of_read marked u p q ++ z) (lines_last marked (after_read p q) xs r s)
-    ∙ sym (append_assoc (lines_of_read marked u p q) (map_lines marked (after_read p q) xs) (lines_of_read marked s (after_reads p (map read_of xs)) r))
+    ∙ sym (append_assoc (lines_of_read marked u p q) (map_lines marked (after_read p q) xs) (lines_of_read marked s (after_reads (after_read p q) (map read_of xs)) r))
 
 map_last : {marked : Bool} {p : Place} {reads : List Read} (stages : List Stage) → map read_of stages ≡ reads → AreShared p stages → (r : Read) (s : Share) → IsShared s (after_read (after_reads p reads) r).desk
     → IsMap marked p (reads ++ r ∷ []) (written_lines (map_lines marked p stages) ++ written_lines (lines_of_read marked s (after_reads p reads) r))

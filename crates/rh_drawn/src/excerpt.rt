@@ -64,6 +64,7 @@ fn count_segments<S: Sight>(sight: &S, name: &Name) -> u32
     ensures count { result ≡ segments_named name.now (S.desk sight.now) }
     ensures few { result < 2 ^ 31 }
 {
+    sight.spelled();
     match task_named(sight, name) {
         Some(i) => take_census(sight, HeapOf::Task(i), HEAP_FIRST as u32).count,
         None => 0,

@@ -125,7 +125,8 @@ fn surveyed(
 fn noted(step: &Step<'_>, band: &Band<'_>, item: &SegmentItem, survey: Survey) -> Survey
     requires few { survey.count + 1 < 2 ^ 32 }
     requires item { IsInArea band.now.heap item.now }
-    ensures { (d : Desk) → IsStepOf d step.now → result ≡ with_item item.now (is_fresh_card (scene_at d step.now) band.now item.now) survey }
+    ensures count { result.count ≡ survey.count + 1 }
+    ensures survey { (d : Desk) → IsStepOf d step.now → result ≡ with_item item.now (is_fresh_card (scene_at d step.now) band.now item.now) survey }
 {
     let count = survey.count + 1;
     match survey.fresh {
@@ -262,10 +263,10 @@ fn print_message<S: Sight, W: Sink>(
         (shown_lines (card_lines (post_card (scene_at (S.desk sight.now) step.now) p ∷ []))) }
 {
     sight.spelled();
-    let from = who_of(sight, message.from);
-    let to = who_of(sight, message.to);
     let place = chain_place(place_of(step.messages, message));
     let fresh = is_new_ref(step, message.my_ref);
+    let from = who_of(sight, message.from);
+    let to = who_of(sight, message.to);
     let card = CardMessage {
         my_ref: message.my_ref,
         action: message.action,

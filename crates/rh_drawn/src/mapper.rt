@@ -115,7 +115,7 @@ impl<D: Drawn> Mapper<D> {
             count,
             wanted,
         };
-        self.show(line, &deed, writer)
+        self.show(line, deed, writer)
     }
 
     /// Shows a line that is bad, where it is to be shown.
@@ -139,7 +139,7 @@ impl<D: Drawn> Mapper<D> {
         self.drawn.messages(&mut self.messages);
         let kept = Kept::new(&self.drawn, None, &self.messages);
         let count = excerpt_fault(fault, &mut self.front);
-        let command = None;
+        let command: Option<&Command> = None;
         let reply = Reply::Done;
         let deed = Deed {
             kept: &kept,
@@ -148,7 +148,7 @@ impl<D: Drawn> Mapper<D> {
             count,
             wanted,
         };
-        self.show(line, &deed, writer)
+        self.show(line, deed, writer)
     }
 
     /// Counts one more step, and answers whether a mark asked for it.
@@ -197,11 +197,11 @@ impl<D: Drawn> Mapper<D> {
     fn show<'a, W: Sink>(
         &'a mut self,
         line: &[u8],
-        deed: &Deed<'a>,
+        deed: Deed<'a>,
         writer: &mut W,
     ) -> Result<(), WriteFailed>
-        ensures text { (text : List ℕ) → Excerpts self.old.front.bytes deed.now.count text → Puts (W.output writer.old) (W.output writer.new) result
-            (shown_lines (shown_step deed.now.wanted self.old.steps line.now text (D.desk self.old.drawn) (share_in self.new.pages.items (D.desk self.old.drawn)) deed.now.kept.now (option_map (λ c. c.now) deed.now.command) deed.now.reply.now)) }
+        ensures text { (text : List ℕ) → Excerpts self.old.front.bytes deed.entry.count text → Puts (W.output writer.old) (W.output writer.new) result
+            (shown_lines (shown_step deed.entry.wanted self.old.steps line.now text (D.desk self.old.drawn) (share_in self.new.pages.items (D.desk self.old.drawn)) deed.entry.kept.now (option_map (λ c. c.now) deed.entry.command) deed.entry.reply.now)) }
         ensures shared { IsShared (share_in self.new.pages.items (D.desk self.old.drawn)) (D.desk self.old.drawn) }
         ensures same { IsSamePlace self.old self.new }
     {
