@@ -1,6 +1,6 @@
 -- Bands of cards: which cards of a list are shown.
 use Rattle.std.proofs.Common.{◌≡◌, ◌⊎◌, inl, inr, add-one, append-nil, append_assoc, ℕ, zero, suc, ◌+◌, ◌-◌, ◌<◌, ◌≤◌, Bool, true, false, refl, ap, ap₂, sym, subst, ◌∙◌, arith, List, [], ◌∷◌, ◌++◌, length, take, drop, get_or, Option, Some, None}
-use Rattle.std.specs.Prelude.{filter, if◌then◌else◌, nat_le, slice_get}
+use Rattle.std.specs.Prelude.{min, filter, if◌then◌else◌, nat_le, slice_get}
 use Rattle.std.proofs.lemmas.Bool.Decides.{nat_tests}
 use Rattle.std.proofs.lemmas.List.{drop_all, drop_more, map-append, take_all}
 use Rattle.std.proofs.lemmas.Option.{slice_get-get_or}
@@ -222,3 +222,16 @@ item-block place (b ∷ blocks) zero item e =
 item-block place (b ∷ blocks) (suc k) item e =
     let rest = item-block (place + weight b) blocks k item e in
     record { block = rest.block; stands = rest.stands; size = rest.size }
+
+-- the first bytes of a block are those that are shown
+pub front-is : (size n : ℕ) (bytes : List ℕ) → length bytes ≡ size → n ≡ min size 7 → take 7 bytes ≡ take n bytes
+front-is size n bytes whole e = go (nat_le size 7) refl
+  where
+    go : (b : Bool) → nat_le size 7 ≡ b → take 7 bytes ≡ take n bytes
+    go true k =
+        let few : size ≤ 7 = grind (arith, nat_tests) in
+        take_all 7 bytes (omega arith) ∙ sym (take_all n bytes (omega arith))
+    go false k =
+        let many : 7 < size = grind (arith, nat_tests) in
+        let seven : 7 ≡ n = omega arith in
+        ap (λ m. take m bytes) seven

@@ -264,15 +264,23 @@ fn print_message<S: Sight, W: Sink>(
 {
     sight.spelled();
     let place = chain_place(place_of(step.messages, message));
-    let fresh = is_new_ref(step, message.my_ref);
-    let from = who_of(sight, message.from);
-    let to = who_of(sight, message.to);
-    let card = CardMessage {
-        my_ref: message.my_ref,
-        action: message.action,
-        code: message.code,
-        from,
+    let MessageItem {
         to,
+        from,
+        my_ref,
+        action,
+        code,
+        ..
+    } = message;
+    let fresh = is_new_ref(step, my_ref);
+    let sender = who_of(sight, from);
+    let receiver = who_of(sight, to);
+    let card = CardMessage {
+        my_ref,
+        action,
+        code,
+        from: sender,
+        to: receiver,
         place,
         fresh,
     };

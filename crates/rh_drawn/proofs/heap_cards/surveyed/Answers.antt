@@ -8,12 +8,10 @@ pub loop-item-preserved : goal.loop-item-preserved
 loop-item-preserved c =
     let i = c.loop-item.item-index in
     let items = c.args.items.now in
-    let v = c.item-item.result in
     record {
       few = omega (arith, c.noted-survey.ensures.count, c.loop-item.invariant.few, length-drop i items, length-drop (i + 1) items, c.loop-item-test.true);
       survey = λ d step.
           let test = is_fresh_card (scene_at d c.args.step.now) c.args.band.now in
           ap (with_items test (drop (i + 1) items)) (c.noted-survey.ensures.survey d step)
-          ∙ (ap (λ z. with_items test (z ∷ drop (i + 1) items) c.loop-item.survey) c.item-item.is
-          ∙ (ap (λ xs. with_items test xs c.loop-item.survey) (sym (drop_more items i v c.loop-item-test.true)) ∙ c.loop-item.invariant.survey d step));
+          ∙ (ap (λ xs. with_items test xs c.loop-item.survey) (sym (drop_more items i _ c.loop-item-test.true)) ∙ c.loop-item.invariant.survey d step);
     }
