@@ -203,7 +203,7 @@ fn print_segment<S: Sight, W: Sink>(
         SegmentItem::Used { address, size } => match band.heap {
             HeapOf::Task(_) => print_used(sight, step, band, *address, *size, writer),
             HeapOf::Module => match message_at(step, *address) {
-                Some(message) => print_message(sight, step, message, writer),
+                Some(message) => print_message(sight, step, &message, writer),
                 None => print_used(sight, step, band, *address, *size, writer),
             },
         },
@@ -254,31 +254,23 @@ fn is_changed(step: &Step<'_>, band: &Band<'_>, address: u32) -> bool
 fn print_message<S: Sight, W: Sink>(
     sight: &S,
     step: &Step<'_>,
-    message: MessageItem,
+    message: &MessageItem,
     writer: &mut W,
 ) -> Result<(), WriteFailed>
     requires { IsStepOf (S.desk sight.now) step.now }
-    ensures { (p : Parcel) → find (λ (q : Parcel). q.block == p.block) (live (scene_at (S.desk sight.now) step.now)) ≡ Some p → IsItemOf message p →
+    ensures { (p : Parcel) → find (λ (q : Parcel). q.block == p.block) (live (scene_at (S.desk sight.now) step.now)) ≡ Some p → IsItemOf message.now p →
         Puts (W.output writer.old) (W.output writer.new) result
         (shown_lines (card_lines (post_card (scene_at (S.desk sight.now) step.now) p ∷ []))) }
 {
     sight.spelled();
-    let place = chain_place(place_of(step.messages, message));
-    let MessageItem {
-        to,
-        from,
-        my_ref,
-        action,
-        code,
-        ..
-    } = message;
-    let fresh = is_new_ref(step, my_ref);
-    let sender = who_of(sight, from);
-    let receiver = who_of(sight, to);
+    let place = chain_place(place_of(step.messages, *message));
+    let fresh = is_new_ref(step, message.my_ref);
+    let sender = who_of(sight, message.from);
+    let receiver = who_of(sight, message.to);
     let card = CardMessage {
-        my_ref,
-        action,
-        code,
+        my_ref: message.my_ref,
+        action: message.action,
+        code: message.code,
         from: sender,
         to: receiver,
         place,

@@ -19,7 +19,7 @@ returns-in-Some-clause-few g c =
     let s = c.in-Some.ensures.some in
     let h = s.0.slot.heap in
     let e = ap (option_map (λ (t : Task). t.slot.heap)) s.1 in
-    let w : ComesTo (heap_seen (heap_of.Task c.in-Some.i) d) 4 h.segments = record { heap = h; is = e; below = []; whole = refl; at = refl } in
+    let w : ComesTo (heap_seen (heap_of.Task c.in-Some.i) d) 16 h.segments = record { heap = h; is = e; below = []; whole = refl; at = refl } in
     let small = seen c.spelled.ensures (heap_of.Task c.in-Some.i) h e in
     let k = room w small in
     omega (arith, k.fits, small.few, sized-many h.segments k.sized, ap (λ (z : Census). z.count) (c.take_census.ensures h.segments w))
