@@ -3,12 +3,12 @@ use Rattle.std.proofs.Common.{◌≡◌, ◌⊎◌, inl, inr, add-one, append-ni
 use Rattle.std.specs.Prelude.{min, filter, if◌then◌else◌, nat_le, slice_get}
 use Rattle.std.proofs.lemmas.Bool.Decides.{nat_tests}
 use Rattle.std.proofs.lemmas.List.{drop_all, drop_more, map-append, take_all}
-use Rattle.std.proofs.lemmas.Option.{slice_get-get_or}
+use Rattle.std.proofs.lemmas.Option.{slice_get-get_or, slice_get_within}
 use Rattle.rh_defs.specs.declared.listing.BlockItem.{BlockItem}
 use Rattle.rh_defs.specs.Desk.{Task}
-use Rattle.rh_defs.specs.Listing.{block_items_from}
-use Rattle.rh_defs.specs.Slot.{Flex, weight}
-use Rattle.rh_figure.specs.Cards.{Card, flex_card, flex_cards_from, more_card, shown_cards, use_of_block}
+use Rattle.rh_defs.specs.Listing.{block_items, block_items_from}
+use Rattle.rh_defs.specs.Slot.{Flex, flex_start, weight}
+use Rattle.rh_figure.specs.Cards.{Card, flex_card, flex_cards, flex_cards_from, more_card, shown_cards, use_of_block}
 use Rattle.rh_figure.specs.Map.{card_line}
 use Rattle.rh_figure.specs.Layout.{is_fresh_flex}
 use Rattle.rh_figure.specs.Scene.{Scene}
@@ -235,3 +235,31 @@ front-is size n bytes whole e = go (nat_le size 7) refl
         let many : 7 < size = grind (arith, nat_tests) in
         let seven : 7 ≡ n = omega arith in
         ap (λ m. take m bytes) seven
+
+-- ---- the first changed block behind the first 22
+
+get-drop : {A : Type 0} (n j : ℕ) (xs : List A) → slice_get (drop n xs) j ≡ slice_get xs (n + j)
+get-drop zero j xs = ap (slice_get xs) (omega arith)
+get-drop (suc n) j [] = refl
+get-drop (suc n) j (x ∷ xs) = get-drop n j xs ∙ ap (slice_get (x ∷ xs)) (omega arith)
+
+pub record FlexPicked (x : Scene) (t : Task) (k : ℕ) : Type 0 where
+  pub card : Card
+  pub at : slice_get (flex_cards x t) k ≡ Some card
+  pub low : k < length (flex_cards x t)
+  pub first : take 1 (filter (λ (c : Card). c.fresh) (drop 22 (flex_cards x t))) ≡ card ∷ []
+
+pub flex-picked : (x : Scene) (t : Task) (k : ℕ) → place_behind (λ (b : BlockItem). is_fresh_flex x t.handle b.anchor b.size) 22 (block_items t.slot) ≡ Some k → FlexPicked x t k
+flex-picked x t k e =
+    let test = λ (b : BlockItem). is_fresh_flex x t.handle b.anchor b.size in
+    let all = flex-alike x t (flex_start t.slot) t.slot.blocks in
+    let p = pick-some test 22 k (drop 22 (block_items t.slot)) (drop 22 (flex_cards x t)) (alike-drop test 22 (block_items t.slot) (flex_cards x t) all) e in
+    let above = p.above in
+    let same : 22 + (k - 22) ≡ k = omega arith in
+    let at = ap (slice_get (flex_cards x t)) (sym same) ∙ (sym (get-drop 22 (k - 22) (flex_cards x t)) ∙ p.at) in
+    record { card = p.card; at = at; low = slice_get_within (flex_cards x t) k p.card at; first = p.first }
+
+pub flex-unpicked : (x : Scene) (t : Task) → place_behind (λ (b : BlockItem). is_fresh_flex x t.handle b.anchor b.size) 22 (block_items t.slot) ≡ None → take 1 (filter (λ (c : Card). c.fresh) (drop 22 (flex_cards x t))) ≡ []
+flex-unpicked x t e =
+    let test = λ (b : BlockItem). is_fresh_flex x t.handle b.anchor b.size in
+    pick-none test 22 (drop 22 (block_items t.slot)) (drop 22 (flex_cards x t)) (alike-drop test 22 (block_items t.slot) (flex_cards x t) (flex-alike x t (flex_start t.slot) t.slot.blocks)) e

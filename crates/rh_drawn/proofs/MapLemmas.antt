@@ -189,6 +189,7 @@ stage_is r q s stages reads e = (ap first_read e, ap rest_reads e)
     first_read : List Read → Read
     first_read [] = r
     first_read (x ∷ xs) = x
+
     rest_reads : List Read → List Read
     rest_reads [] = []
     rest_reads (x ∷ xs) = xs

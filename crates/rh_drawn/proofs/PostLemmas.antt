@@ -200,6 +200,7 @@ module _ (h : ℕ) where
       and_false : (b : Bool) → (b && false) ≡ false
       and_false true = refl
       and_false false = refl
+
       go : (filter (waits_for h) ms ≡ [] → find (is_held_by h) ms ≡ None → has_letters_in h ms ≡ false) → (a : Bool) → m.held ≡ a → (b : Bool) → (m.to == h) ≡ b → has_letters_in h (m ∷ ms) ≡ false
       go before a x false y =
           let u : waits_for h m ≡ false = ap₂ (λ p q. not p && q) x y ∙ and_false (not a) in
@@ -223,6 +224,7 @@ module _ (h : ℕ) where
       and_none : (a : Bool) → (a && false) ≡ false
       and_none true = refl
       and_none false = refl
+
       go : (has_letters_in h ms ≡ false → (filter (waits_for h) ms ≡ []) × (find (is_held_by h) ms ≡ None)) → (b : Bool) → (m.to == h) ≡ b → (filter (waits_for h) (m ∷ ms) ≡ []) × (find (is_held_by h) (m ∷ ms) ≡ None)
       go before true y = let k : true ≡ false = rw y at e in absurd (cc)
       go before false y =
@@ -262,6 +264,7 @@ letters-are name h ms o ws held waits = go (has_letters_in h ms) refl o ws held 
     here : (o : Option Parcel) (ws : List Parcel) → find (is_held_by h) ms ≡ option_map (item_of true) o → filter (waits_for h) ms ≡ map (item_of false) ws → letterbox_in name h ms ≡ box name o ws
     here o ws held waits =
         ap₂ (λ a b. lines.letterbox_of name (option_map entry_seen a) (take MOST_LISTED (map entry_seen b)) (length (map entry_seen b))) held waits ∙ box-is name o ws
+
     go : (b : Bool) → has_letters_in h ms ≡ b → (o : Option Parcel) (ws : List Parcel) → find (is_held_by h) ms ≡ option_map (item_of true) o → filter (waits_for h) ms ≡ map (item_of false) ws
         → (if b then letterbox_in name h ms ∷ [] else []) ≡ figure.letterbox_of name (held_list o) ws
     go false e None [] held waits = refl

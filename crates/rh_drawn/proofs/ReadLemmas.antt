@@ -32,6 +32,7 @@ front_twice m n xs le = take-take m n xs le
     take_nil : (n : ℕ) → take {A = ℕ} n [] ≡ []
     take_nil zero = refl
     take_nil (suc n) = refl
+
     take-take : (m n : ℕ) (xs : List ℕ) → m ≤ n → take m (take n xs) ≡ take m xs
     take-take m n [] le = ap (take m) (take_nil n)
     take-take zero n (x ∷ xs) le = refl

@@ -76,11 +76,7 @@ fn has_anchor(blocks: &[BlockItem], block: &BlockItem) -> bool
 }
 
 /// Writes which of the blocks are new, and which had another size.
-fn print_now<W: Sink>(
-    kept: &Kept,
-    blocks: &[BlockItem],
-    writer: &mut W,
-) -> Result<(), WriteFailed>
+fn print_now<W: Sink>(kept: &Kept, blocks: &[BlockItem], writer: &mut W) -> Result<(), WriteFailed>
     ensures { Puts (W.output writer.old) (W.output writer.new) result
         (shown_lines (indented (flat_map (λ (b : BlockItem). block_change b (item_of b.anchor kept.now.blocks)) blocks.now))) }
 {
@@ -91,11 +87,7 @@ fn print_now<W: Sink>(
 }
 
 /// Writes that a block is new, or had another size, where it is so.
-fn print_change<W: Sink>(
-    kept: &Kept,
-    block: &BlockItem,
-    writer: &mut W,
-) -> Result<(), WriteFailed>
+fn print_change<W: Sink>(kept: &Kept, block: &BlockItem, writer: &mut W) -> Result<(), WriteFailed>
     ensures { Puts (W.output writer.old) (W.output writer.new) result
         (shown_lines (indented (block_change block.now (item_of block.now.anchor kept.now.blocks)))) }
 {

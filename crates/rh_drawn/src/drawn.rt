@@ -10,5 +10,6 @@ use rh_sight::Sight;
 /// the order of messages to different tasks alone, which no figure shows.
 pub trait Drawn: Desktop + Sight {
     ghost seen: { (s : Self) → Self.spells s (Self.desk s) };
+
     ghost alike: { (s : Self) (d : Desk) → Self.spells s d → IsReordered d (Self.desk s) };
 }

@@ -105,12 +105,7 @@ fn take_survey<S: Sight>(sight: &S, step: &Step<'_>, band: &Band<'_>) -> Survey
 }
 
 /// The survey with more segments.
-fn surveyed(
-    step: &Step<'_>,
-    band: &Band<'_>,
-    items: &[SegmentItem],
-    mut survey: Survey,
-) -> Survey
+fn surveyed(step: &Step<'_>, band: &Band<'_>, items: &[SegmentItem], mut survey: Survey) -> Survey
     requires few { survey.count + length items.now < 2 ^ 32 }
     requires items { AllByRecursion (IsInArea band.now.heap) items.now }
     ensures { (d : Desk) → IsStepOf d step.now → result ≡ with_items (is_fresh_card (scene_at d step.now) band.now) items.now survey }

@@ -65,7 +65,11 @@ fn print_made_takes<S: Sight, W: Sink>(
     sight.spelled();
     let mut i = 0;
     'areas: while let Some(area) = sight.made(i) {
-        let AreaSight { number, pages: has, .. } = area;
+        let AreaSight {
+            number,
+            pages: has,
+            ..
+        } = area;
         print_area_part(sight, step, PagesOf::Made(i), number, has, writer)?;
         i += 1;
     }

@@ -80,11 +80,7 @@ fn count_tasks<S: Sight>(sight: &S) -> usize
 }
 
 /// Writes the heading of the slot of a task, which stands at a place in order of handle.
-fn print_heading<W: Sink>(
-    i: usize,
-    task: &TaskSight<'_>,
-    writer: &mut W,
-) -> Result<(), WriteFailed>
+fn print_heading<W: Sink>(i: usize, task: &TaskSight<'_>, writer: &mut W) -> Result<(), WriteFailed>
     requires { i < 32 }
     ensures { (x : Scene) (t : Task) → IsTaskSeen task.now t → slice_get x.desk.tasks i ≡ Some t → position (λ (p : Panel). is_owner p.owner (SlotOf t.handle)) (slot_panels x) ≡ Some i → Puts (W.output writer.old) (W.output writer.new) result
         (shown_lines (slot_heading x t ∷ [])) }

@@ -23,10 +23,7 @@ use rh_sight::{Sight, TaskSight};
 
 /// Writes the transfers that go out, each with the side that comes in, and those that only come in, below a heading.
 /// Fails only where the writer failed or took none of what it was offered; a front of the lines is then written.
-pub fn print_transfer_part<S: Sight, W: Sink>(
-    sight: &S,
-    writer: &mut W,
-) -> Result<(), WriteFailed>
+pub fn print_transfer_part<S: Sight, W: Sink>(sight: &S, writer: &mut W) -> Result<(), WriteFailed>
     ensures { (s : Share) (b : Before) (m : Marks) → Puts (W.output writer.old) (W.output writer.new) result
         (shown_lines (transfer_part (scene_of (S.desk sight.now) s b m))) }
 {

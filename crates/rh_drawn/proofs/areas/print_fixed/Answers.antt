@@ -44,7 +44,7 @@ returns g c =
     let long = owned-fixed c.spelled.ensures c.args.step.now.pages.now c.requires.step.shared c.args.number c.fixed_pages.result c.requires.number c.fixed_pages.ensures in
     let other : (c.args.number == 1) ≡ false = ne_eqb _ _ c.if-number-eq-MODULE_AREA.false in
     let count : c.fixed_pages.result ≡ slice_index d.areas c.args.number =
-        c.fixed_pages.ensures ∙ ap (λ b. if b then module_pages d else slice_index d.areas c.args.number) other in
+    c.fixed_pages.ensures ∙ ap (λ b. if b then module_pages d else slice_index d.areas c.args.number) other in
     let some : (slice_index d.areas c.args.number == 0) ≡ false = ap (λ n. n == 0) (sym count) ∙ ne_eqb _ _ c.if-fixed_pages-eq0.false in
     puts_same (ap shown_lines (sym (fixed-line x c.args.number (slice_index d.areas c.args.number) other some)))
     (puts_line (fixed-text c.args.number c.fixed_pages.result (slice_index d.areas c.args.number) c.pages_of-pages.result.now _ _ _ (ap length is ∙ long) (sym count) is c.scrap_in.ensures) c.print_fixed_area.ensures)

@@ -17,9 +17,11 @@ pub read_block-requires : goal.read_block-requires
 read_block-requires g c =
     let r = c.requires in
     let zeros : List ℕ = (0 ∷ 0 ∷ 0 ∷ 0 ∷ 0 ∷ 0 ∷ 0 ∷ []) in
-    let b = item-block (flex_start r.0.slot) r.0.slot.blocks r.1 c.args.block.now r.4 in
-    (b.block.bytes, record { task = r.0; is = r.2; place = r.1; listed = r.4; block = b.block; stands = b.stands; bytes_are = refl },
-    omega (arith, b.size, c.front_length.ensures, length-take c.front_length.result zeros))
+    let b = item-block (flex_start r.0.slot) r.0.slot.blocks r.1 c.args.block.now r.4 in (
+      b.block.bytes,
+      record { task = r.0; is = r.2; place = r.1; listed = r.4; block = b.block; stands = b.stands; bytes_are = refl },
+      omega (arith, b.size, c.front_length.ensures, length-take c.front_length.result zeros),
+    )
 
 pub returns : goal.returns
 returns g c = λ t k card e listed shown.
@@ -33,7 +35,7 @@ returns g c = λ t k card e listed shown.
     let bytes = here.block.bytes in
     let seen = seen-same (IsTaskSeen c.args.task.now) d.tasks c.args.i r.0 t r.2 e r.3 in
     let first = front-is b.size (length (take n zeros)) bytes here.size (omega (arith, c.front_length.ensures, length-take n zeros))
-        ∙ sym (c.read_block.ensures bytes (record { task = t; is = e; place = k; listed = listed; block = here.block; stands = here.stands; bytes_are = refl })) in
+    ∙ sym (c.read_block.ensures bytes (record { task = t; is = e; place = k; listed = listed; block = here.block; stands = here.stands; bytes_are = refl })) in
     let fresh = c.is_fresh_flex.ensures d ∙ ap (λ h. is_fresh_flex x h b.anchor b.size) seen.handle in
     let used = c.use_of_block.ensures ∙ ap₂ (λ out in_. out_use_text (find (is_source b.anchor) out) (in_use_text (find (is_document b.anchor) in_))) seen.sending seen.taking in
     puts_line (ap₂ (λ u f. card_line (flex_card b.address b.anchor bytes u f)) used fresh ∙ ap card_line (sym here.card_is)) (c.print_flex_card.ensures bytes (record { whole = here.size; first = first }))

@@ -60,4 +60,3 @@ tasks-smaller g c =
     let s = c.in-Some.ensures.some in
     let inside : c.tasks.i < length (g.S.Sight.desk c.args.sight.now).tasks = slice_get_within (g.S.Sight.desk c.args.sight.now).tasks c.tasks.i s.0 s.1 in
     omega arith
-

@@ -37,7 +37,7 @@ returns g c =
     let s = share_in c.args.step.now.pages.now d in
     let past : length d.areas ≤ c.loop-number.number = omega (arith, c.spelled.ensures.areas.six, c.loop-number-test.false) in
     let fixed : c.loop-number.marks ≡ marked_all (map (fixed_pages s) (enumerate_from 0 d.areas)) (replicate d.pool 46) =
-        ap (λ z. marked_all (map (fixed_pages s) (enumerate_from c.loop-number.number z)) c.loop-number.marks) (sym (drop_all c.loop-number.number d.areas past)) ∙ c.loop-number.invariant in
+    ap (λ z. marked_all (map (fixed_pages s) (enumerate_from c.loop-number.number z)) c.loop-number.marks) (sym (drop_all c.loop-number.number d.areas past)) ∙ c.loop-number.invariant in
     c.mark_slots.ensures
     ∙ (ap (marked_all (slot_pages_from s 0 d.tasks)) (c.mark_made.ensures ∙ ap (marked_all (map (made_pages s) d.made)) (fixed ∙ ap (λ n. marked_all (map (fixed_pages s) (enumerate_from 0 d.areas)) (replicate n 46)) (sym c.requires.pool)))
     ∙ (pool-marked c.spelled.ensures x refl refl c.args.marks.now ∙ ap (λ n. map (λ k. page_mark (slot_panels x) (owner_of x k)) (range_with_len 0 n)) c.requires.pool))

@@ -12,7 +12,6 @@ use Rattle.rh_drawn.specs.Parts.{indented, post_part}
 use Rattle.rh_drawn.proofs.Walks.{indented-append, lines_stop, lines_then, puts_none, puts_same}
 use Rattle.rh_drawn.proofs.post_changes.print_post_part.Goals as goal
 
-
 abbrev returned : Scene → List Text
 returned x = map (returns_text x) (filter (λ (p : Parcel). p.message.my_ref == x.before.held && is_returned p.code) (waiting x))
 

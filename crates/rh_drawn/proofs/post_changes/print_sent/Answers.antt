@@ -10,7 +10,6 @@ use Rattle.rh_drawn.specs.Parts.{indented}
 use Rattle.rh_drawn.proofs.Walks.{indented-append, lines_stop, lines_then, puts_line, puts_same}
 use Rattle.rh_drawn.proofs.post_changes.print_sent.Goals as goal
 
-
 pub returns-in_err-print_bytes : goal.returns-in_err-print_bytes
 returns-in_err-print_bytes g c = λ s b m.
     let d = g.S.Sight.desk c.args.sight.now in

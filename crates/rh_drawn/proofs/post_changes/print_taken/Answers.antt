@@ -7,7 +7,6 @@ use Rattle.rh_drawn.specs.Parts.{indented}
 use Rattle.rh_drawn.proofs.Walks.{puts_line, puts_none, puts_same}
 use Rattle.rh_drawn.proofs.post_changes.print_taken.Goals as goal
 
-
 pub returns-in-Some : goal.returns-in-Some
 returns-in-Some g c =
     let x = scene_at (g.S.Sight.desk c.args.sight.now) c.args.step.now in
