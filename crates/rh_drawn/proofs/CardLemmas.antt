@@ -239,9 +239,9 @@ front-is size n bytes whole e = go (nat_le size 7) refl
 -- ---- the first changed block behind the first 22
 
 get-drop : {A : Type 0} (n j : ℕ) (xs : List A) → slice_get (drop n xs) j ≡ slice_get xs (n + j)
-get-drop zero j xs = ap (slice_get xs) (omega arith)
+get-drop zero j xs = let e : j ≡ 0 + j = omega arith in ap (slice_get xs) e
 get-drop (suc n) j [] = refl
-get-drop (suc n) j (x ∷ xs) = get-drop n j xs ∙ ap (slice_get (x ∷ xs)) (omega arith)
+get-drop (suc n) j (x ∷ xs) = let e : suc (n + j) ≡ suc n + j = omega arith in get-drop n j xs ∙ ap (slice_get (x ∷ xs)) e
 
 pub record FlexPicked (x : Scene) (t : Task) (k : ℕ) : Type 0 where
   pub card : Card

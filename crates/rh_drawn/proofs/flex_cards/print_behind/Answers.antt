@@ -76,7 +76,7 @@ returns-in_err-print_flex-in-Some g c = λ t e.
     let listed = ap (λ bs. slice_get bs k) (sym are) ∙ (slice_get-get_or c.args.blocks.now k c.index-blocks-k.result low ∙ ap (λ z. Some z) (sym c.index-blocks-k.is)) in
     let more = more_card (length cs - 22 - 1) ∷ [] in
     puts_same (ap (λ z. shown_lines (card_lines z)) (sym (behind-are cs (p.card ∷ []) p.first)))
-    (lines_stop _ (card_lines (p.card ∷ [])) (card_lines more) (c.in_err-print_flex.ensures t k p.card e listed p.at) c.from_residual.ensures.0)
+    (lines_stop _ (card_lines (p.card ∷ [])) (card_lines more) (c.in_err-print_flex-in-Some.ensures t k p.card e listed p.at) c.from_residual.ensures.0)
 
 pub returns-in_ok-print_flex-in-Some : goal.returns-in_ok-print_flex-in-Some
 returns-in_ok-print_flex-in-Some g c = λ t e.
@@ -94,5 +94,5 @@ returns-in_ok-print_flex-in-Some g c = λ t e.
     let listed = ap (λ bs. slice_get bs k) (sym are) ∙ (slice_get-get_or c.args.blocks.now k c.index-blocks-k.result low ∙ ap (λ z. Some z) (sym c.index-blocks-k.is)) in
     let more = more_card (length cs - 22 - 1) ∷ [] in
     puts_same (ap (λ z. shown_lines (card_lines z)) (sym (behind-are cs (p.card ∷ []) p.first)))
-    (lines_then (card_lines (p.card ∷ [])) (card_lines more) (c.in_ok-print_flex.ensures t k p.card e listed p.at)
+    (lines_then (card_lines (p.card ∷ [])) (card_lines more) (c.in_ok-print_flex-in-Some.ensures t k p.card e listed p.at)
     (puts_same (ap (λ m. shown_lines (card_lines (more_card (m - 22 - 1) ∷ []))) (sym long)) c.print_others.ensures))
