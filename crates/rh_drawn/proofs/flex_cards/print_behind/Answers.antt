@@ -10,7 +10,7 @@ use Rattle.rh_map.specs.Written.{shown_lines}
 use Rattle.rh_sight.specs.Seen.{IsTaskSeen}
 use Rattle.rh_sight.specs.Steps.{scene_at}
 use Rattle.rh_drawn.specs.Cards.{card_lines, place_behind}
-use Rattle.rh_drawn.proofs.CardLemmas.{behind-are, flex-long, flex-picked}
+use Rattle.rh_drawn.proofs.CardLemmas.{behind-are, flex-long, flex-picked, flex-unpicked}
 use Rattle.rh_drawn.proofs.DrawingLemmas.{seen-same}
 use Rattle.rh_drawn.proofs.Walks.{lines_stop, lines_then, puts_same}
 use Rattle.rh_drawn.proofs.flex_cards.print_behind.Goals as goal
@@ -96,3 +96,16 @@ returns-in_ok-print_flex-in-Some g c = λ t e.
     puts_same (ap (λ z. shown_lines (card_lines z)) (sym (behind-are cs (p.card ∷ []) p.first)))
     (lines_then (card_lines (p.card ∷ [])) (card_lines more) (c.in_ok-print_flex-in-Some.ensures t k p.card e listed p.at)
     (puts_same (ap (λ m. shown_lines (card_lines (more_card (m - 22 - 1) ∷ []))) (sym long)) c.print_others.ensures))
+
+pub returns-in-None : goal.returns-in-None
+returns-in-None g c = λ t e.
+    let d = g.S.Sight.desk c.args.sight.now in
+    let x = scene_at d c.args.step.now in
+    let r = c.requires.task in
+    let are : c.args.blocks.now ≡ block_items t.slot = seen-same (λ u. c.args.blocks.now ≡ block_items u.slot) d.tasks c.args.i r.0 t r.1 e r.3 in
+    let seen = seen-same (IsTaskSeen c.args.task.now) d.tasks c.args.i r.0 t r.1 e r.2 in
+    let cs = flex_cards x t in
+    let long : length cs ≡ length c.args.blocks.now = flex-long x t (flex_start t.slot) t.slot.blocks ∙ ap length (sym are) in
+    let found = ap₂ (λ h bs. place_behind (λ (b : BlockItem). is_fresh_flex x h b.anchor b.size) 22 bs) (sym seen.handle) (sym are) ∙ (sym (c.next_fresh.ensures d) ∙ c.in-None.is) in
+    let none = flex-unpicked x t found in
+    puts_same (ap (λ z. shown_lines (card_lines z)) (ap (λ m. more_card (m - 22) ∷ []) (sym long) ∙ sym (behind-are cs [] none))) c.print_others.ensures
