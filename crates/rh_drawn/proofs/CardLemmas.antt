@@ -158,6 +158,13 @@ count-within n = go (le-or n)
     go (inl few) = let k = all-count n few in omega arith
     go (inr many) = let k = some-count n many in omega arith
 
+pub count-most : (n : ℕ) → count_shown n ≤ 24
+count-most n = go (le-or n)
+  where
+    go : (n ≤ 24) ⊎ (24 < n) → count_shown n ≤ 24
+    go (inl few) = let k = all-count n few in omega arith
+    go (inr many) = let k = some-count n many in omega arith
+
 pub record ShownSplit (cards : List Card) : Type 0 where
   pub behind : List Card
   pub is : shown_cards cards ≡ take (count_shown (length cards)) cards ++ behind

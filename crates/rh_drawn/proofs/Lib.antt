@@ -9,3 +9,6 @@ mod FigureLemmas
 mod MarkLemmas
 mod RunLemmas
 mod CardLemmas
+mod HeapLemmas
+mod ExcerptLemmas
+mod StepLemmas

@@ -55,12 +55,12 @@ map_last {marked} {p} {reads} stages lines shared r s here =
 -- ---- what stands behind the last line feed
 
 -- what is done with it is the same by what is kept of it
-record SameRest (line : List ℕ) : Type 0 where
-  lines : (marked : Bool) (s : Share) (p : Place) → lines_of_read marked s p (kept line, rest_means (kept line)) ≡ lines_of_read marked s p (line, rest_means line)
-  after : (p : Place) → after_read p (kept line, rest_means (kept line)) ≡ after_read p (line, rest_means line)
-  bad : is_err (rest_means (kept line)) ≡ true
+pub record SameRest (line : List ℕ) : Type 0 where
+  pub lines : (marked : Bool) (s : Share) (p : Place) → lines_of_read marked s p (kept line, rest_means (kept line)) ≡ lines_of_read marked s p (line, rest_means line)
+  pub after : (p : Place) → after_read p (kept line, rest_means (kept line)) ≡ after_read p (line, rest_means line)
+  pub bad : is_err (rest_means (kept line)) ≡ true
 
-rest_bad : (line : List ℕ) → is_err (rest_means line) ≡ true
+pub rest_bad : (line : List ℕ) → is_err (rest_means line) ≡ true
 rest_bad line = go (nat_lt longest_line (length line))
   where
     go : (b : Bool) → is_err (let m : Meaning (Option Command) = if b then Err TooLong else Err Unended in m) ≡ true
@@ -74,7 +74,7 @@ kept_long : (line : List ℕ) → 1024 < length line → 1024 < length (kept lin
 unfolding kept
 kept_long line long = omega (arith, length-take 1025 line)
 
-same_rest : (line : List ℕ) → SameRest line
+pub same_rest : (line : List ℕ) → SameRest line
 same_rest line = go (split_at (length line))
   where
     go : (length line ≤ 1024) ⊎ (1024 < length line) → SameRest line
@@ -94,7 +94,7 @@ same_rest line = go (split_at (length line))
           bad = rest_bad (kept line);
         }
 
-kept_some : (b : ℕ) (bs : List ℕ) → kept (b ∷ bs) ≡ b ∷ take 1024 bs
+pub kept_some : (b : ℕ) (bs : List ℕ) → kept (b ∷ bs) ≡ b ∷ take 1024 bs
 unfolding kept
 kept_some b bs = refl
 

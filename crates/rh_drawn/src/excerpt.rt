@@ -34,7 +34,7 @@ pub fn excerpt_reply(reply: &Reply, front: &mut Front) -> u32
 {
     front.clear();
     let _whole = print_first_line(reply, front);
-    count_lines(front.as_slice())
+    count_lines(front.as_slice()).max(1)
 }
 
 /// Puts the reply of a bad line in place of what was there, and answers how many lines it has.
@@ -43,7 +43,7 @@ pub fn excerpt_fault(fault: &LineFault, front: &mut Front) -> u32
 {
     front.clear();
     let _whole = print_fault(fault, front);
-    count_lines(front.as_slice())
+    count_lines(front.as_slice()).max(1)
 }
 
 /// How many lines the answer to a question has that is too long for a front: one for a block's bytes, one for each

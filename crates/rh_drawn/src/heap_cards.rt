@@ -1,6 +1,6 @@
 //! The cards of a heap's blocks and holes, and of messages.
 
-ghost use Rattle.std.specs.Prelude.{◌≡◌, ◌≤◌, ◌<◌, ◌+◌, ◌-◌, ◌^◌, ◌==◌, ◌&&◌, ◌∷◌, [], ℕ, IfSome, List, find, if◌then◌else◌, length, nat_le, None, Some};
+ghost use Rattle.std.specs.Prelude.{◌≡◌, ◌≤◌, ◌<◌, ◌+◌, ◌-◌, ◌^◌, ◌==◌, ◌&&◌, ◌∷◌, [], ℕ, IfSome, List, find, if◌then◌else◌, length, nat_le, take, None, Some};
 ghost use Rattle.std.specs.List.{AllByRecursion};
 ghost use Rattle.rh_defs.specs.Desk.{Desk};
 ghost use Rattle.rh_defs.specs.Heap.{Segment};
@@ -9,7 +9,7 @@ ghost use Rattle.rh_defs.specs.Messages.{Parcel};
 ghost use Rattle.rh_defs.specs.Records.{is_buffer_of};
 ghost use Rattle.rh_defs.specs.declared.sizes.TheConstants.{MODULE_START};
 ghost use Rattle.rh_drawn.specs.Bands.{HasSegment, IsBandOf, IsItemOf, IsSurvey, band_card, band_cards, is_fresh_card, is_fresh_used, place_seen, with_item, with_items};
-ghost use Rattle.rh_drawn.specs.Cards.{card_lines};
+ghost use Rattle.rh_drawn.specs.Cards.{card_lines, cards_behind};
 ghost use Rattle.rh_figure.specs.Cards.{in_use_text, post_card, shown_cards, used_card};
 ghost use Rattle.rh_figure.specs.Scene.{live};
 ghost use Rattle.rh_figure.specs.declared.limits.TheConstants.{MOST_CARDS};
@@ -68,19 +68,61 @@ pub fn print_heap_cards<S: Sight, W: Sink>(
 {
     sight.spelled();
     let survey = take_survey(sight, step, band);
-    let count = survey.count as usize;
-    let shown = shown_count(count);
-    let items = sight.segments(band.heap, HEAP_FIRST as u32);
-    for item in &items.as_slice()[..shown] {
-        print_segment(sight, step, band, item, writer)?;
-    }
-    if shown == count {
+    let shown = shown_count(survey.count as usize);
+    print_first(sight, step, band, shown, writer)?;
+    if shown == survey.count as usize {
         return Ok(());
     }
-    if let Some(item) = survey.fresh {
-        print_segment(sight, step, band, &item, writer)?;
+    print_behind(sight, step, band, &survey, writer)
+}
+
+/// Writes the cards of the first segments.
+fn print_first<S: Sight, W: Sink>(
+    sight: &S,
+    step: &Step<'_>,
+    band: &Band<'_>,
+    shown: usize,
+    writer: &mut W,
+) -> Result<(), WriteFailed>
+    requires step { IsStepOf (S.desk sight.now) step.now }
+    requires band { IsBandOf (S.desk sight.now) band.now }
+    requires few { shown ≤ MOST_CARDS }
+    requires there { IfSome (heap_seen band.now.heap (S.desk sight.now)) (λ h. shown ≤ length h.segments) }
+    ensures { IfSome (heap_seen band.now.heap (S.desk sight.now)) (λ h. Puts (W.output writer.old) (W.output writer.new) result
+        (shown_lines (card_lines (take shown (band_cards (scene_at (S.desk sight.now) step.now) (S.desk sight.now) band.now h))))) }
+{
+    let items = sight.segments(band.heap, HEAP_FIRST as u32);
+    let first = items.as_slice();
+    for k in 0..shown {
+        print_segment(sight, step, band, &first[k], writer)?;
     }
-    print_others(count - shown, survey.fresh.is_some(), writer)
+    Ok(())
+}
+
+/// Writes the card of the first changed segment of those behind the first 22, and how many are left out.
+fn print_behind<S: Sight, W: Sink>(
+    sight: &S,
+    step: &Step<'_>,
+    band: &Band<'_>,
+    survey: &Survey,
+    writer: &mut W,
+) -> Result<(), WriteFailed>
+    requires step { IsStepOf (S.desk sight.now) step.now }
+    requires band { IsBandOf (S.desk sight.now) band.now }
+    requires many { MOST_CARDS < survey.now.count }
+    requires few { survey.now.count < 2 ^ 32 }
+    requires survey { IfSome (heap_seen band.now.heap (S.desk sight.now)) (λ h. IsSurvey (scene_at (S.desk sight.now) step.now) band.now h survey.now) }
+    ensures { IfSome (heap_seen band.now.heap (S.desk sight.now)) (λ h. Puts (W.output writer.old) (W.output writer.new) result
+        (shown_lines (card_lines (cards_behind (band_cards (scene_at (S.desk sight.now) step.now) (S.desk sight.now) band.now h))))) }
+{
+    let behind = survey.count as usize - (MOST_CARDS - 2);
+    match survey.fresh {
+        Some(item) => {
+            print_segment(sight, step, band, &item, writer)?;
+            print_others(behind, true, writer)
+        }
+        None => print_others(behind, false, writer),
+    }
 }
 
 /// Counts the segments of a heap, and finds the first changed one that isn't shown anyway where there are too many.

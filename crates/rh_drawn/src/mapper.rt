@@ -1,6 +1,6 @@
 //! A map in the middle of its script.
 
-ghost use Rattle.std.specs.Prelude.{◌≡◌, ◌<◌, ◌+◌, ◌^◌, ℕ, List, None, Some, Ok, Err, IfOk, IsTrue, OnErr, OnOk, false};
+ghost use Rattle.std.specs.Prelude.{◌≡◌, ◌<◌, ◌+◌, ◌^◌, ◌||◌, ◌&&◌, not, ℕ, List, None, Some, Ok, Err, IfOk, IsTrue, OnErr, OnOk, false};
 ghost use Rattle.std.specs.Option.{option_map};
 ghost use Rattle.rh_defs.specs.Order.{IsReordered};
 ghost use Rattle.rh_defs.specs.Range.{in_range};
@@ -8,6 +8,7 @@ ghost use Rattle.rh_defs.specs.Step.{step};
 ghost use Rattle.rh_drawn.specs.Places.{Broke, Drew, IsFirst, IsLikeReply, IsSamePlace, reply_to, shown_step};
 ghost use Rattle.rh_drawn.specs.Replies.{Excerpts};
 ghost use Rattle.rh_lines.specs.Flow.{Puts};
+ghost use Rattle.rh_figure.specs.Map.{is_mark as is_mark_of};
 ghost use Rattle.rh_figure.specs.Share.{IsShared};
 ghost use Rattle.rh_map.specs.Written.{shown_lines};
 ghost use Rattle.rh_session.specs.Outcome.{status_of};
@@ -79,8 +80,8 @@ impl<D: Drawn> Mapper<D> {
         ensures same { self.new.steps ≡ self.old.steps }
     {
         self.drawn.page_list(&mut self.pages);
-        self.wanted = self.wanted || is_mark(line);
-        if self.marked && !self.wanted {
+        self.wanted = is_wanted(self.wanted, line);
+        if holds_unless(self.marked, self.wanted) {
             return Ok(());
         }
         print_remark(line, writer)
@@ -100,7 +101,7 @@ impl<D: Drawn> Mapper<D> {
         ensures steps { self.new.steps ≡ self.old.steps + 1 }
     {
         let wanted = self.begin_step();
-        if self.marked && !wanted {
+        if holds_unless(self.marked, wanted) {
             self.change(command);
             self.drawn.page_list(&mut self.pages);
             return Ok(());
@@ -133,7 +134,7 @@ impl<D: Drawn> Mapper<D> {
         self.has_bad_line = true;
         let wanted = self.begin_step();
         self.drawn.page_list(&mut self.pages);
-        if self.marked && !wanted {
+        if holds_unless(self.marked, wanted) {
             return Ok(());
         }
         self.drawn.messages(&mut self.messages);
@@ -194,10 +195,10 @@ impl<D: Drawn> Mapper<D> {
     }
 
     /// Writes a step, of which the reply's front stands in its place.
-    fn show<'a, W: Sink>(
-        &'a mut self,
+    fn show<W: Sink>(
+        &mut self,
         line: &[u8],
-        deed: Deed<'a>,
+        deed: Deed<'_>,
         writer: &mut W,
     ) -> Result<(), WriteFailed>
         ensures text { (text : List ℕ) → Excerpts self.old.front.bytes deed.entry.count text → Puts (W.output writer.old) (W.output writer.new) result
@@ -207,9 +208,10 @@ impl<D: Drawn> Mapper<D> {
     {
         self.drawn.messages(&mut self.messages);
         self.drawn.page_list(&mut self.pages);
+        let marks = Marks::new(&self.drawn, deed.kept, deed.command, deed.reply);
         let step = Step {
             kept: deed.kept,
-            marks: Marks::new(&self.drawn, deed.kept, deed.command, deed.reply),
+            marks,
             messages: &self.messages,
             pages: &self.pages,
         };
@@ -218,7 +220,7 @@ impl<D: Drawn> Mapper<D> {
             line,
             front: self.front.as_slice(),
             count: deed.count,
-            is_still: is_still(deed.command, deed.reply) && !deed.wanted,
+            is_still: holds_unless(is_still(deed.command, deed.reply), deed.wanted),
         };
         print_step(&self.drawn, &step, &above, &mut self.lists, writer)
     }
@@ -233,6 +235,20 @@ impl<D: Drawn> Mapper<D> {
             Status::Clean
         }
     }
+}
+
+/// Whether the next command is wanted, behind one more line that asks for nothing.
+fn is_wanted(wanted: bool, line: &[u8]) -> bool
+    ensures { result ≡ (wanted || is_mark_of line.now) }
+{
+    wanted || is_mark(line)
+}
+
+/// Whether this holds, unless that does.
+fn holds_unless(this: bool, that: bool) -> bool
+    ensures { result ≡ (this && not that) }
+{
+    this && !that
 }
 
 impl<D: Drawn> LineTaker for Mapper<D> {

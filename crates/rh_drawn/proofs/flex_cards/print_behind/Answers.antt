@@ -108,4 +108,5 @@ returns-in-None g c = λ t e.
     let long : length cs ≡ length c.args.blocks.now = flex-long x t (flex_start t.slot) t.slot.blocks ∙ ap length (sym are) in
     let found = ap₂ (λ h bs. place_behind (λ (b : BlockItem). is_fresh_flex x h b.anchor b.size) 22 bs) (sym seen.handle) (sym are) ∙ (sym (c.next_fresh.ensures d) ∙ c.in-None.is) in
     let none = flex-unpicked x t found in
-    puts_same (ap (λ z. shown_lines (card_lines z)) (ap (λ m. more_card (m - 22) ∷ []) (sym long) ∙ sym (behind-are cs [] none))) c.print_others.ensures
+    let all : length cs - 22 ≡ length cs - 22 - 0 = omega arith in
+    puts_same (ap (λ z. shown_lines (card_lines z)) (ap (λ m. more_card (m - 22) ∷ []) (sym long) ∙ (ap (λ m. more_card m ∷ []) all ∙ sym (behind-are cs [] none)))) c.print_others-in-None.ensures

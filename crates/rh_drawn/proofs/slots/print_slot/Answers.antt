@@ -31,7 +31,7 @@ pub blocks-requires : goal.blocks-requires
 blocks-requires g c = let r = c.requires.task in slice_get_within (g.S.Sight.desk c.args.sight.now).tasks c.args.i r.0 r.1
 
 pub slot_pieces-requires-clause-task : goal.slot_pieces-requires-clause-task
-slot_pieces-requires-clause-task g c = let r = c.requires.task in (r.0, r.1, r.2, c.deref.ensures.0 ∙ c.blocks.ensures r.0 r.1)
+slot_pieces-requires-clause-task g c = let r = c.requires.task in (r.0, r.1, r.2, c.deref.ensures.0 ∙ c.blocks-2.ensures r.0 r.1)
 
 pub print_area-requires-clause-few : goal.print_area-requires-clause-few
 print_area-requires-clause-few g c =
@@ -42,13 +42,13 @@ print_area-requires-clause-few g c =
     omega (arith, ap length is, owned-few c.spelled.ensures ps c.requires.step.shared (pages.Slot c.args.i) (SlotOf r.0.handle) seen c.requires.step.all)
 
 pub print_flex_cards-requires-clause-task : goal.print_flex_cards-requires-clause-task
-print_flex_cards-requires-clause-task g c = let r = c.requires.task in (r.0, r.1, r.2, c.deref-3.ensures.0 ∙ c.blocks.ensures r.0 r.1)
+print_flex_cards-requires-clause-task g c = let r = c.requires.task in (r.0, r.1, r.2, c.deref-3.ensures.0 ∙ c.blocks-2.ensures r.0 r.1)
 
 pub print_flex_cards-requires-clause-few : goal.print_flex_cards-requires-clause-few
 print_flex_cards-requires-clause-few g c =
     let r = c.requires.task in
     let few = few-blocks r.0.slot.blocks (task-slot c.spelled.ensures c.args.i r.0 r.1).anchors in
-    omega (arith, few, items-long (flex_start r.0.slot) r.0.slot.blocks, ap length (c.deref-3.ensures.0 ∙ c.blocks.ensures r.0 r.1))
+    omega (arith, few, items-long (flex_start r.0.slot) r.0.slot.blocks, ap length (c.deref-3.ensures.0 ∙ c.blocks-2.ensures r.0 r.1))
 
 pub print_heap_cards-requires-clause-band : goal.print_heap_cards-requires-clause-band
 print_heap_cards-requires-clause-band g c = let r = c.requires.task in (r.0, r.1, r.2.handle, r.2.taking)

@@ -27,8 +27,8 @@ returns-in_err-print_reply_lines g c = λ reply front.
     lines_then (step_line a.number a.line.now ∷ []) (reply_lines (ended reply) ++ below a.is_still x) (puts_line {x = step_line a.number a.line.now} refl c.in_ok-print_step_line.ensures)
     (lines_stop _ (reply_lines (ended reply)) (below a.is_still x) (puts_same (ap shown_lines front) c.in_err-print_reply_lines.ensures) c.from_residual-in_err-print_reply_lines.ensures.0)
 
-pub returns-then-is_still : goal.returns-then-is_still
-returns-then-is_still g c = λ reply front.
+pub returns-then-above : goal.returns-then-above
+returns-then-above g c = λ reply front.
     let x = scene_at (g.S.Sight.desk c.args.sight.now) c.args.step.now in
     let a = c.args.above.now in
     lines_then (step_line a.number a.line.now ∷ []) (reply_lines (ended reply) ++ below a.is_still x) (puts_line {x = step_line a.number a.line.now} refl c.in_ok-print_step_line.ensures)

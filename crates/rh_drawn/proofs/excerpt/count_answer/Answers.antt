@@ -1,0 +1,1 @@
+use Rattle.rh_drawn.proofs.excerpt.count_answer.Goals as goal

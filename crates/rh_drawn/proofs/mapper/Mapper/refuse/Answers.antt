@@ -1,0 +1,1 @@
+use Rattle.rh_drawn.proofs.mapper.Mapper.refuse.Goals as goal
