@@ -236,7 +236,7 @@ cut-part front rest long =
 
 open-lines : (front : List ℕ) → 0 < length front → NoFeed front → lines_in front ≡ front ∷ []
 open-lines [] some clear = absurd (omega arith)
-open-lines (b ∷ bs) some clear = rw (ended_none (b ∷ bs) clear, unended_all (b ∷ bs) clear) refl
+open-lines (b ∷ bs) some clear = rw (ended_none (b ∷ bs) clear) refl
 
 -- how many lines are counted in what is kept of a line
 pub record OneKept (bytes text : List ℕ) : Type 0 where

@@ -463,10 +463,10 @@ block-free {d} is b e =
     ap₂ (λ u v. u || v) q s
 
 -- an item that was read is the one that stands there
-pub got-is : (items : List SegmentItem) (k : ℕ) (item got : SegmentItem) → slice_get items k ≡ Some item → got ≡ get_or items k got → got ≡ item
-got-is items k item got e f =
+pub got-is : (items : List SegmentItem) (k : ℕ) (item none : SegmentItem) → slice_get items k ≡ Some item → get_or items k none ≡ item
+got-is items k item none e =
     let low = slice_get_within items k item e in
-    let there = slice_get-get_or items k got low in
+    let there = slice_get-get_or items k none low in
     cc
 
 pub band-long : (x : Scene) (d : Desk) (b : Band) (h : Heap) (r : IsBandOf d b) (s : Survey) → s ≡ with_items (is_fresh_card x b) (segment_items_from (heap_start_of b.heap + 16) h.segments) (none_at 0) → s.count ≡ length (band_cards x d b h)

@@ -317,3 +317,21 @@ module _ {D : Type 0} (desk : D → Desk) (m b : Mapper D) (o : Output) (line : 
             (same.wanted ∙ (wanted ∙ ap (λ (z : Mapper D). z.wanted) counts))
             (same.bad ∙ bad) takes) puts.ok,
          on-err r (λ breaks. broke-fault desk m o line f n p s there now breaks) puts.err)
+
+-- a line is bad, whatever was before it
+pub fault-from : {D : Type 0} {desk : D → Desk} {m n : Mapper D} {o p : Output} {line : Text} {f : LineFault} → Drew desk (record m { has_bad_line = true }) o line (Err f) n p → Drew desk m o line (Err f) n p
+fault-from {m = m} drew = record {
+  share = drew.share;
+  shared = drew.shared;
+  written = drew.written;
+  follows = record {
+    desk_is = drew.follows.desk_is;
+    marked_is = drew.follows.marked_is;
+    steps = drew.follows.steps;
+    wanted = drew.follows.wanted;
+    bad = drew.follows.bad ∙ or-on m.has_bad_line;
+  };
+}
+
+pub fault-stops : {D : Type 0} {desk : D → Desk} {m : Mapper D} {o p : Output} {line : Text} {f : LineFault} → Broke desk (record m { has_bad_line = true }) o line (Err f) p → Broke desk m o line (Err f) p
+fault-stops broke = record { share = broke.share; shared = broke.shared; broken = broke.broken }

@@ -48,7 +48,7 @@ print_segment-requires-clause-segment g c =
     let few = at-some (heap_seen b.heap d) (λ h. c.args.shown ≤ length h.segments) there.heap there.is c.requires.there in
     let q = in-band (scene_at d c.args.step.now) d b there.heap k there.is (omega (arith, few, c.loop-k-test.true)) in
     let here = told-here (heap_start_of b.heap) there.heap _ k there.is c.segments-items.ensures (omega (arith, c.requires.few, c.loop-k-test.true)) in
-    (q.place, q.segment, q.has, got-is _ k _ _ (ap (λ xs. slice_get xs k) c.as_slice-first.ensures.value ∙ (here ∙ q.item_at)) c.index-first-k.is)
+    (q.place, q.segment, q.has, got-is _ k _ _ (ap (λ xs. slice_get xs k) c.as_slice-first.ensures.value ∙ (here ∙ q.item_at)))
 
 pub loop-k-preserved : goal.loop-k-preserved
 loop-k-preserved g c = λ h e.
@@ -62,7 +62,7 @@ loop-k-preserved g c = λ h e.
     let here = told-here (heap_start_of b.heap) h _ k e c.segments-items.ensures (omega (arith, c.requires.few, c.loop-k-test.true)) in
     let at = get-front c.args.shown k cs c.loop-k-test.true ∙ q.card_at in
     left_less (c.loop-k.invariant h e) (walk-some card_lines (λ (z : Card). card_lines (z ∷ [])) (λ z rest. refl) (take c.args.shown cs) k _ at)
-    (c.in_ok-print_segment.ensures q.place q.segment q.has (got-is _ k _ _ (ap (λ xs. slice_get xs k) c.as_slice-first.ensures.value ∙ (here ∙ q.item_at)) c.index-first-k.is)).ok
+    (c.in_ok-print_segment.ensures q.place q.segment q.has (got-is _ k _ _ (ap (λ xs. slice_get xs k) c.as_slice-first.ensures.value ∙ (here ∙ q.item_at)))).ok
 
 pub returns-in_err-print_segment : goal.returns-in_err-print_segment
 returns-in_err-print_segment g c =
@@ -77,7 +77,7 @@ returns-in_err-print_segment g c =
         let here = told-here (heap_start_of b.heap) h _ k e c.segments-items.ensures (omega (arith, c.requires.few, c.loop-k-test.true)) in
         let at = get-front c.args.shown k cs c.loop-k-test.true ∙ q.card_at in
         left_breaks _ _ (c.loop-k.invariant h e) (walk-some card_lines (λ (z : Card). card_lines (z ∷ [])) (λ z rest. refl) (take c.args.shown cs) k _ at)
-        (c.in_err-print_segment.ensures q.place q.segment q.has (got-is _ k _ _ (ap (λ xs. slice_get xs k) c.as_slice-first.ensures.value ∙ (here ∙ q.item_at)) c.index-first-k.is)) c.from_residual.ensures.0)
+        (c.in_err-print_segment.ensures q.place q.segment q.has (got-is _ k _ _ (ap (λ xs. slice_get xs k) c.as_slice-first.ensures.value ∙ (here ∙ q.item_at)))) c.from_residual.ensures.0)
 
 pub returns : goal.returns
 returns g c =
