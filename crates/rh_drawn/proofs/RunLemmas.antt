@@ -162,7 +162,7 @@ record Ended {D : Type 0} (marked : Bool) (p : Place) (t : Mapper D) (old new : 
   took : Takes old new text
   bad : t.has_bad_line ≡ has_bad_line bytes
 
-module _ {D : Type 0} {desk : D → Desk} {marked : Bool} {p : Place} {s taker t : Mapper D} {old written new : Output} where
+module _ {D : Type 0} {desk : D → Desk} {marked : Bool} {p : Place} (s taker : Mapper D) {t : Mapper D} {old : Output} (written : Output) {new : Output} where
   ended_none : (bytes : List ℕ) → unended bytes ≡ [] → s.has_bad_line ≡ false → TookRest desk taker written (kept_rest bytes) t new → Drawn desk marked p (map read_line (ended bytes)) s.has_bad_line taker old written → Ended marked p t old new bytes
   ended_none bytes e well last d =
       let none : kept_rest bytes ≡ [] = ap kept e ∙ kept_nil in
@@ -208,8 +208,8 @@ module _ {D : Type 0} {desk : D → Desk} {marked : Bool} {p : Place} {s taker t
 -- the map of a script that was read to its end
 pub mapped : {D : Type 0} {desk : D → Desk} {marked : Bool} {p : Place} {s t : Mapper D} {before after : Input} {old new : Output} (status : Status) → Stands desk marked p s → s.has_bad_line ≡ false
     → FedAll (TookLine desk) (TookRest desk) before after s t old new → status ≡ status_of t.has_bad_line → Mapped marked p before after old new status
-mapped status is well fed told =
-    let all = map_ended fed.bytes is well fed.taken fed.ended in
+mapped {s = s} status is well fed told =
+    let all = map_ended s fed.taker fed.written fed.bytes is well fed.taken fed.ended in
     record {
       bytes = fed.bytes;
       read = fed.read;

@@ -174,18 +174,6 @@ module _ {D : Type 0} {desk : D → Desk} {m n : Mapper D} {o p : Output} where
         };
       }
 
-  pub broke-kept : (line : Text) → Broke desk m o line (line_means line) p → BrokeLine desk m o (kept line) p
-  broke-kept line broke =
-      let same = same_read line in
-      let at = place_in desk m in
-      let S : Place → Type 0 = λ z. IsShared broke.share z.desk in
-      let W : List Text → Type 0 = λ z. Breaks o p (written_lines z) in
-      record {
-        share = broke.share;
-        shared = subst S (sym (same.after at)) broke.shared;
-        broken = subst W (sym (same.lines m.marked broke.share at)) broke.broken;
-      }
-
   pub drew-rest : (rest : Text) → 0 < length rest → Drew desk m o rest (rest_means rest) n p → TookRest desk m o (kept rest) n p
   drew-rest [] some drew = absurd (omega arith)
   drew-rest (b ∷ bs) some drew =
@@ -210,6 +198,20 @@ module _ {D : Type 0} {desk : D → Desk} {m n : Mapper D} {o p : Output} where
       let K : Text → Type 0 = λ z. Drew desk m o z (rest_means z) n p in
       let T : Text → Type 0 = λ z. TookRest desk m o z n p in
       subst T (sym (kept_some b bs)) (subst K (kept_some b bs) here)
+
+-- the same where the writer failed
+module _ {D : Type 0} {desk : D → Desk} {m : Mapper D} {o p : Output} where
+  pub broke-kept : (line : Text) → Broke desk m o line (line_means line) p → BrokeLine desk m o (kept line) p
+  broke-kept line broke =
+      let same = same_read line in
+      let at = place_in desk m in
+      let S : Place → Type 0 = λ z. IsShared broke.share z.desk in
+      let W : List Text → Type 0 = λ z. Breaks o p (written_lines z) in
+      record {
+        share = broke.share;
+        shared = subst S (sym (same.after at)) broke.shared;
+        broken = subst W (sym (same.lines m.marked broke.share at)) broke.broken;
+      }
 
   pub broke-rest : (rest : Text) → 0 < length rest → Broke desk m o rest (rest_means rest) p → BrokeRest desk m o (kept rest) p
   broke-rest [] some broke = absurd (omega arith)

@@ -210,14 +210,14 @@ impl<D: Drawn> Mapper<D> {
         self.drawn.page_list(&mut self.pages);
         let marks = Marks::new(&self.drawn, deed.kept, deed.command, deed.reply);
         let step = Step {
-            kept: &*deed.kept,
+            kept: deed.kept,
             marks,
             messages: &self.messages,
             pages: &self.pages,
         };
         let above = Above {
             number: self.steps,
-            line: &*line,
+            line,
             front: self.front.as_slice(),
             count: deed.count,
             is_still: holds_unless(is_still(deed.command, deed.reply), deed.wanted),
