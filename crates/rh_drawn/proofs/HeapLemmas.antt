@@ -126,8 +126,8 @@ surveyed-more {test} {start} {end} {next} {s} {items} {items2} {all} t v e k =
     record {
       counted = subst P many k;
       so_far = e ∙ (ap (with_items test items) v.so_far
-      ∙ (sym (with-append test (take s.count list) items (none_at 0))
-      ∙ ap (λ z. with_items test z (none_at 0)) (sym (taken-more v.counted) ∙ ap (λ n. take n list) many)));
+          ∙ (sym (with-append test (take s.count list) items (none_at 0))
+          ∙ ap (λ z. with_items test z (none_at 0)) (sym (taken-more v.counted) ∙ ap (λ n. take n list) many)));
     }
 
 pub surveyed-all : {test : SegmentItem → Bool} {start end : ℕ} {s : Survey} {items : List SegmentItem} {all : List Segment} → Surveyed test start end s items all → s.count ≡ length all

@@ -299,26 +299,28 @@ module _ {D : Type 0} (desk : D → Desk) (m b : Mapper D) (o : Output) (line : 
     told-command c is rest puts =
         let P : D → Type 0 = λ z. IsReordered (step (desk z) c).0 (desk a.drawn) in
         let Q : D → Type 0 = λ z. IsReordered (step (desk m.drawn) c).0 (desk z) in
-        let now = subst Q (sym same.drawn_is) (subst P (ap (λ (z : Mapper D). z.drawn) counts) is) in
-        (on-ok r (λ takes. drew-command desk m o line c n p s now there
-            (same.marked_is ∙ (rest.marked ∙ ap (λ (z : Mapper D). z.marked) counts))
-            (same.steps ∙ (rest.steps ∙ ap (λ (z : Mapper D). z.steps) counts))
-            (same.wanted ∙ (rest.wanted ∙ ap (λ (z : Mapper D). z.wanted) counts))
-            (same.bad ∙ (rest.bad ∙ ap (λ (z : Mapper D). z.has_bad_line) counts)) takes) puts.ok,
-         on-err r (λ breaks. broke-command desk m o line c n p s now there breaks) puts.err)
+        let now = subst Q (sym same.drawn_is) (subst P (ap (λ (z : Mapper D). z.drawn) counts) is) in (
+          on-ok r (λ takes. drew-command desk m o line c n p s now there
+              (same.marked_is ∙ (rest.marked ∙ ap (λ (z : Mapper D). z.marked) counts))
+              (same.steps ∙ (rest.steps ∙ ap (λ (z : Mapper D). z.steps) counts))
+              (same.wanted ∙ (rest.wanted ∙ ap (λ (z : Mapper D). z.wanted) counts))
+              (same.bad ∙ (rest.bad ∙ ap (λ (z : Mapper D). z.has_bad_line) counts)) takes) puts.ok,
+          on-err r (λ breaks. broke-command desk m o line c n p s now there breaks) puts.err,
+        )
 
     -- a bad line was shown, or the writer failed
     pub told-fault : (f : LineFault) → a.drawn ≡ b.drawn → a.marked ≡ b.marked → a.steps ≡ b.steps → a.wanted ≡ b.wanted → a.has_bad_line ≡ true
         → Puts o p r (written_lines (if not m.marked || m.wanted then fault_lines m.wanted s (m.steps + 1) line f (desk m.drawn) else []))
         → OnOk r (Drew desk m o line (Err f) n p) × OnErr r (Broke desk m o line (Err f) p)
     told-fault f drawn marked steps wanted bad puts =
-        let now = same.drawn_is ∙ (drawn ∙ ap (λ (z : Mapper D). z.drawn) counts) in
-        (on-ok r (λ takes. drew-fault desk m o line f n p s there now
-            (same.marked_is ∙ (marked ∙ ap (λ (z : Mapper D). z.marked) counts))
-            (same.steps ∙ (steps ∙ ap (λ (z : Mapper D). z.steps) counts))
-            (same.wanted ∙ (wanted ∙ ap (λ (z : Mapper D). z.wanted) counts))
-            (same.bad ∙ bad) takes) puts.ok,
-         on-err r (λ breaks. broke-fault desk m o line f n p s there now breaks) puts.err)
+        let now = same.drawn_is ∙ (drawn ∙ ap (λ (z : Mapper D). z.drawn) counts) in (
+          on-ok r (λ takes. drew-fault desk m o line f n p s there now
+              (same.marked_is ∙ (marked ∙ ap (λ (z : Mapper D). z.marked) counts))
+              (same.steps ∙ (steps ∙ ap (λ (z : Mapper D). z.steps) counts))
+              (same.wanted ∙ (wanted ∙ ap (λ (z : Mapper D). z.wanted) counts))
+              (same.bad ∙ bad) takes) puts.ok,
+          on-err r (λ breaks. broke-fault desk m o line f n p s there now breaks) puts.err,
+        )
 
 -- a line is bad, whatever was before it
 pub fault-from : {D : Type 0} {desk : D → Desk} {m n : Mapper D} {o p : Output} {line : Text} {f : LineFault} → Drew desk (record m { has_bad_line = true }) o line (Err f) n p → Drew desk m o line (Err f) n p

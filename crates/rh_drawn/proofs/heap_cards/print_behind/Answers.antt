@@ -30,13 +30,13 @@ returns-in_err-print_segment-in-Some g c =
     let b = c.args.band.now in
     let s = c.args.survey.now in
     if-heap (heap_seen b.heap d) _ (λ h e.
-        let cs = band_cards x d b h in
-        let is = at-some (heap_seen b.heap d) (λ z. IsSurvey x b z s) h e c.requires.survey in
-        let p = band-some x d b h c.requires.band s is c.in-Some.item c.in-Some.is e in
-        let card = band_card x d b (heap_start_of b.heap + p.place) p.segment in
-        let more = more_card (length cs - 22 - 1) ∷ [] in
-        puts_same (ap (λ z. shown_lines (card_lines z)) (sym (behind-are cs (card ∷ []) p.first)))
-        (lines_stop _ (card_lines (card ∷ [])) (card_lines more) (c.in_err-print_segment-in-Some.ensures p.place p.segment p.has p.item_is) c.from_residual.ensures.0))
+    let cs = band_cards x d b h in
+    let is = at-some (heap_seen b.heap d) (λ z. IsSurvey x b z s) h e c.requires.survey in
+    let p = band-some x d b h c.requires.band s is c.in-Some.item c.in-Some.is e in
+    let card = band_card x d b (heap_start_of b.heap + p.place) p.segment in
+    let more = more_card (length cs - 22 - 1) ∷ [] in
+    puts_same (ap (λ z. shown_lines (card_lines z)) (sym (behind-are cs (card ∷ []) p.first)))
+    (lines_stop _ (card_lines (card ∷ [])) (card_lines more) (c.in_err-print_segment-in-Some.ensures p.place p.segment p.has p.item_is) c.from_residual.ensures.0))
 
 pub returns-in_ok-print_segment-in-Some : goal.returns-in_ok-print_segment-in-Some
 returns-in_ok-print_segment-in-Some g c =
@@ -45,15 +45,15 @@ returns-in_ok-print_segment-in-Some g c =
     let b = c.args.band.now in
     let s = c.args.survey.now in
     if-heap (heap_seen b.heap d) _ (λ h e.
-        let cs = band_cards x d b h in
-        let is = at-some (heap_seen b.heap d) (λ z. IsSurvey x b z s) h e c.requires.survey in
-        let p = band-some x d b h c.requires.band s is c.in-Some.item c.in-Some.is e in
-        let long = band-long x d b h c.requires.band s is in
-        let card = band_card x d b (heap_start_of b.heap + p.place) p.segment in
-        let more = more_card (length cs - 22 - 1) ∷ [] in
-        puts_same (ap (λ z. shown_lines (card_lines z)) (sym (behind-are cs (card ∷ []) p.first)))
-        (lines_then (card_lines (card ∷ [])) (card_lines more) (c.in_ok-print_segment-in-Some.ensures p.place p.segment p.has p.item_is)
-        (puts_same (ap (λ m. shown_lines (card_lines (more_card (m - 22 - 1) ∷ []))) long) c.print_others.ensures)))
+    let cs = band_cards x d b h in
+    let is = at-some (heap_seen b.heap d) (λ z. IsSurvey x b z s) h e c.requires.survey in
+    let p = band-some x d b h c.requires.band s is c.in-Some.item c.in-Some.is e in
+    let long = band-long x d b h c.requires.band s is in
+    let card = band_card x d b (heap_start_of b.heap + p.place) p.segment in
+    let more = more_card (length cs - 22 - 1) ∷ [] in
+    puts_same (ap (λ z. shown_lines (card_lines z)) (sym (behind-are cs (card ∷ []) p.first)))
+    (lines_then (card_lines (card ∷ [])) (card_lines more) (c.in_ok-print_segment-in-Some.ensures p.place p.segment p.has p.item_is)
+    (puts_same (ap (λ m. shown_lines (card_lines (more_card (m - 22 - 1) ∷ []))) long) c.print_others.ensures)))
 
 pub returns-in-None : goal.returns-in-None
 returns-in-None g c =
@@ -62,9 +62,9 @@ returns-in-None g c =
     let b = c.args.band.now in
     let s = c.args.survey.now in
     if-heap (heap_seen b.heap d) _ (λ h e.
-        let cs = band_cards x d b h in
-        let is = at-some (heap_seen b.heap d) (λ z. IsSurvey x b z s) h e c.requires.survey in
-        let none = band-none x d b h c.requires.band s is c.in-None.is in
-        let long = band-long x d b h c.requires.band s is in
-        let all : length cs - 22 ≡ length cs - 22 - 0 = omega arith in
-        puts_same (ap (λ z. shown_lines (card_lines z)) (ap (λ m. more_card (m - 22) ∷ []) long ∙ (ap (λ m. more_card m ∷ []) all ∙ sym (behind-are cs [] none)))) c.print_others-in-None.ensures)
+    let cs = band_cards x d b h in
+    let is = at-some (heap_seen b.heap d) (λ z. IsSurvey x b z s) h e c.requires.survey in
+    let none = band-none x d b h c.requires.band s is c.in-None.is in
+    let long = band-long x d b h c.requires.band s is in
+    let all : length cs - 22 ≡ length cs - 22 - 0 = omega arith in
+    puts_same (ap (λ z. shown_lines (card_lines z)) (ap (λ m. more_card (m - 22) ∷ []) long ∙ (ap (λ m. more_card m ∷ []) all ∙ sym (behind-are cs [] none)))) c.print_others-in-None.ensures)

@@ -15,10 +15,10 @@ returns-then-holds_unless-clause-ok g c =
     hidden-command desk c.args.self.now b (g.W.Sink.output c.args.writer.now) c.args.line.now c.begin_step-wanted.result c.begin_step-wanted.ensures.wanted c.begin_step-wanted.ensures.next
     c.args.command.now _ (share_in c.page_list.new.list.items (desk c.change.new.self.drawn)) (sym c.holds_unless.ensures ∙ c.if-holds_unless.true) c.change.ensures.desk
     (record {
-        marked = ap (λ (z : Mapper g.row.D.Denot). z.marked) e;
-        steps = ap (λ (z : Mapper g.row.D.Denot). z.steps) e;
-        wanted = ap (λ (z : Mapper g.row.D.Denot). z.wanted) e;
-        bad = ap (λ (z : Mapper g.row.D.Denot). z.has_bad_line) e;
+      marked = ap (λ (z : Mapper g.row.D.Denot). z.marked) e;
+      steps = ap (λ (z : Mapper g.row.D.Denot). z.steps) e;
+      wanted = ap (λ (z : Mapper g.row.D.Denot). z.wanted) e;
+      bad = ap (λ (z : Mapper g.row.D.Denot). z.has_bad_line) e;
     }) c.page_list.ensures.shared
 
 pub returns-clause-ok : goal.returns-clause-ok
@@ -34,8 +34,8 @@ returns-clause-ok g c =
     (told-command desk c.args.self.now b (g.W.Sink.output c.args.writer.now) c.args.line.now c.begin_step-wanted.result c.begin_step-wanted.ensures.wanted c.begin_step-wanted.ensures.next
     a _ (g.W.Sink.output c.show.new.writer) c.show.result s c.show.ensures.same c.show.ensures.shared c.args.command.now c.answer.ensures.desk
     (record {
-        marked = ap (λ (z : Mapper g.row.D.Denot). z.marked) e;
-        steps = ap (λ (z : Mapper g.row.D.Denot). z.steps) e;
-        wanted = ap (λ (z : Mapper g.row.D.Denot). z.wanted) e;
-        bad = ap (λ (z : Mapper g.row.D.Denot). z.has_bad_line) e;
+      marked = ap (λ (z : Mapper g.row.D.Denot). z.marked) e;
+      steps = ap (λ (z : Mapper g.row.D.Denot). z.steps) e;
+      wanted = ap (λ (z : Mapper g.row.D.Denot). z.wanted) e;
+      bad = ap (λ (z : Mapper g.row.D.Denot). z.has_bad_line) e;
     }) (puts_same (ap shown_lines text) (c.show.ensures.text (reply_to (desk b.drawn) c.args.command.now) c.answer.ensures.excerpt))).0
