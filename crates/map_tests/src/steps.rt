@@ -1,4 +1,6 @@
 //! Lines of a step: its command and reply, and what it has changed of blocks and messages.
+ghost use Rattle.std.specs.Prelude.{◌≡◌, ◌≤◌, length, min};
+ghost use Rattle.rh_figure.specs.declared.limits.TheConstants.{MOST_LISTED};
 
 use crate::same::same;
 use rh_defs::{Action, Anchor, EventCode, Handle, Name, Ref};
@@ -69,9 +71,15 @@ fn letters(rt: HostRuntime) {
     same(&rt, written.as_slice(), wanted.as_slice());
 }
 
+/// The line of a message's card is this one.
+fn is_card<R: Abort>(rt: &R, message: &CardMessage, mut writer: Flagged<Vec<u8>>, wanted: &[u8]) {
+    same(rt, print_message_card(message, &mut writer), Ok(()));
+    let written = writer.into_inner();
+    same(rt, written.as_slice(), wanted);
+}
+
 #[test]
-fn message_cards(rt: HostRuntime) {
-    let mut writer = Flagged::new(Vec::<u8>::new(rt.alloc()));
+fn card_of_the_last_message(rt: HostRuntime) {
     let (a, b) = (some_name(&rt, b"a"), some_name(&rt, b"b"));
     let save = CardMessage {
         my_ref: Ref(1),
@@ -82,6 +90,17 @@ fn message_cards(rt: HostRuntime) {
         place: ChainPlace::Last,
         fresh: true,
     };
+    is_card(
+        &rt,
+        &save,
+        Flagged::new(Vec::<u8>::new(rt.alloc())),
+        b"  * 1 DataSave, a to b, 18, last\n",
+    );
+}
+
+#[test]
+fn card_of_a_message_before_another(rt: HostRuntime) {
+    let (a, b) = (some_name(&rt, b"a"), some_name(&rt, b"b"));
     let fetch = CardMessage {
         my_ref: Ref(9),
         action: Action::RamFetch,
@@ -91,6 +110,17 @@ fn message_cards(rt: HostRuntime) {
         place: ChainPlace::Before(Ref(10)),
         fresh: false,
     };
+    is_card(
+        &rt,
+        &fetch,
+        Flagged::new(Vec::<u8>::new(rt.alloc())),
+        b"    9 RAMFetch, b to a, 18, then 10\n",
+    );
+}
+
+#[test]
+fn card_of_a_message_that_is_back(rt: HostRuntime) {
+    let a = some_name(&rt, b"a");
     let back = CardMessage {
         my_ref: Ref(3),
         action: Action::DataSave,
@@ -100,13 +130,12 @@ fn message_cards(rt: HostRuntime) {
         place: ChainPlace::Held,
         fresh: false,
     };
-    same(&rt, print_message_card(&save, &mut writer), Ok(()));
-    same(&rt, print_message_card(&fetch, &mut writer), Ok(()));
-    same(&rt, print_message_card(&back, &mut writer), Ok(()));
-    let wanted =
-        b"  * 1 DataSave, a to b, 18, last\n    9 RAMFetch, b to a, 18, then 10\n    3 DataSave, back to task 4, 19, held\n";
-    let written = writer.into_inner();
-    same(&rt, written.as_slice(), wanted.as_slice());
+    is_card(
+        &rt,
+        &back,
+        Flagged::new(Vec::<u8>::new(rt.alloc())),
+        b"    3 DataSave, back to task 4, 19, held\n",
+    );
 }
 
 fn entry(my_ref: u32, action: Action, code: EventCode) -> MessageEntry {
@@ -117,31 +146,73 @@ fn entry(my_ref: u32, action: Action, code: EventCode) -> MessageEntry {
     }
 }
 
-#[test]
-fn letterboxes(rt: HostRuntime) {
-    let mut writer = Flagged::new(Vec::<u8>::new(rt.alloc()));
-    let b = some_name(&rt, b"b");
-    let save = entry(1, Action::DataSave, EventCode::Recorded);
-    let back = entry(2, Action::DataSave, EventCode::Acknowledge);
+/// The line of task b's letterbox is this one.
+fn is_letterbox<R: Abort>(
+    rt: &R,
+    held: Option<MessageEntry>,
+    waiting: &[MessageEntry],
+    count: usize,
+    mut writer: Flagged<Vec<u8>>,
+    wanted: &[u8],
+)
+    requires few { count ≤ 256 }
+    requires first { length waiting.now ≡ min count MOST_LISTED }
+{
+    let b = some_name(rt, b"b");
     same(
-        &rt,
-        print_letterbox(&b, Some(save), &[], 0, &mut writer),
+        rt,
+        print_letterbox(&b, held, waiting, count, &mut writer),
         Ok(()),
     );
-    same(
-        &rt,
-        print_letterbox(&b, Some(save), &[back, save], 2, &mut writer),
-        Ok(()),
-    );
-    same(
-        &rt,
-        print_letterbox(&b, None, &[save; 12], 14, &mut writer),
-        Ok(()),
-    );
-    let wanted =
-        b"  for b: holds 1 DataSave;\n  for b: holds 1 DataSave; waiting 2 DataSave back, 1 DataSave\n  for b: waiting 1 DataSave, 1 DataSave, 1 DataSave, 1 DataSave, 1 DataSave, ..\n";
     let written = writer.into_inner();
-    same(&rt, written.as_slice(), wanted.as_slice());
+    same(rt, written.as_slice(), wanted);
+}
+
+fn save() -> MessageEntry {
+    entry(1, Action::DataSave, EventCode::Recorded)
+}
+
+#[test]
+fn letterbox_of_one_message(rt: HostRuntime) {
+    let writer = Flagged::new(Vec::<u8>::new(rt.alloc()));
+    is_letterbox(
+        &rt,
+        Some(save()),
+        &[],
+        0,
+        writer,
+        b"  for b: holds 1 DataSave;\n",
+    );
+}
+
+#[test]
+fn letterbox_of_messages_that_wait(rt: HostRuntime) {
+    let writer = Flagged::new(Vec::<u8>::new(rt.alloc()));
+    let back = entry(2, Action::DataSave, EventCode::Acknowledge);
+    let wanted = b"  for b: holds 1 DataSave; waiting 2 DataSave back, 1 DataSave\n";
+    is_letterbox(&rt, Some(save()), &[back, save()], 2, writer, wanted);
+}
+
+#[test]
+fn letterbox_of_many_messages(rt: HostRuntime) {
+    let writer = Flagged::new(Vec::<u8>::new(rt.alloc()));
+    let twelve = [
+        save(),
+        save(),
+        save(),
+        save(),
+        save(),
+        save(),
+        save(),
+        save(),
+        save(),
+        save(),
+        save(),
+        save(),
+    ];
+    let wanted =
+        b"  for b: waiting 1 DataSave, 1 DataSave, 1 DataSave, 1 DataSave, 1 DataSave, ..\n";
+    is_letterbox(&rt, None, &twelve, 14, writer, wanted);
 }
 
 #[test]

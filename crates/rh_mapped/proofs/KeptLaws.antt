@@ -1,6 +1,6 @@
 -- What keeps a map that of its area's heap.
 use Rattle.std.proofs.Common.{◌≡◌, ◌≢◌, ℕ, zero, suc, ◌+◌, ◌-◌, ◌*◌, ◌≤◌, inl, inr, true, false, List, [], ◌∷◌, ◌++◌, length, refl, sym, ap, subst, ◌∙◌, arith}
-use Rattle.std.specs.Prelude.{Option, Some, None, IfSome, Result, Ok, Err, IfOk, OnOk, OnErr, ◌⊎◌, IsNone}
+use Rattle.std.specs.Prelude.{slice_index, Option, Some, None, IfSome, Result, Ok, Err, IfOk, OnOk, OnErr, ◌⊎◌, IsNone}
 use Rattle.std.proofs.lemmas.Bool.{cases_eq}
 use Rattle.rh_defs.specs.Bytes.{SameIn, SameOutside}
 use Rattle.rh_defs.specs.Memory.{Memory, bytes, with_bytes, opened, closed, grown, shrunk, IsOpen}
@@ -13,7 +13,7 @@ use Rattle.rh_store.specs.Starts.{IsIndex, IsMapOf, IsKept}
 use Rattle.rh_store.specs.declared.starts.Starts.{Starts}
 use Rattle.rh_store.specs.declared.store.AreaId.{AreaId}
 use Rattle.rh_store.specs.declared.store.StoreFault.{StoreFault}
-use Rattle.rh_mapped.specs.Maps.{map_of, AreKept, IsOff, Forgot, Spoilt}
+use Rattle.rh_mapped.specs.Maps.{map_of, AreKept, AreReached, AreTied, EndsBy, IsOff, Forgot, Spoilt}
 
 -- a map stays that of bytes in which its heap's bytes stay
 pub map_same : (b c : List ℕ) (s : Starts) → SameIn b c s.at s.upper → s.upper ≤ length c → IsMapOf b s → IsMapOf c s
@@ -55,12 +55,34 @@ module _ (m n : Memory) (old new : List (Option Starts)) (id : ℕ) where
     | inr apart ↦ rw (others j apart, stay j apart) (k j)
   ]
 
+-- a map that isn't said to be up to date ends wherever one likes
+ends_unknown : (reach : ℕ) (o : Option Starts) → IfSome o (λ s. s.known ≡ false) → IfSome o (EndsBy reach)
+ends_unknown reach None off = tt
+ends_unknown reach (Some s) off = λ known. absurd (let bad : false ≡ true = sym off ∙ known in cc)
+
+module _ (old new : List (Option Starts)) (reach : List ℕ) (id : ℕ) where
+  reached_each : AreReached old reach → ((j : ℕ) → j ≢ id → map_of new j ≡ map_of old j) → IfSome (map_of new id) (EndsBy (slice_index reach id)) → AreReached new reach
+  reached_each r others here j = elim (cases_eq j id) [
+    | inl same ↦ subst (λ i. IfSome (map_of new i) (EndsBy (slice_index reach i))) (sym same) here
+    | inr apart ↦ rw (others j apart) (r j)
+  ]
+
+  pub reached_forgot : (low upper : ℕ) → AreReached old reach → Forgot old new id low upper → AreReached new reach
+  reached_forgot low upper r f = reached_each r f.others (f.ends (slice_index reach id) (r id))
+
+  pub reached_spoilt : AreReached old reach → Spoilt old new id → AreReached new reach
+  reached_spoilt r s = reached_each r s.others (ends_unknown (slice_index reach id) (map_of new id) s.off)
+
 -- bytes of an area are written
-pub kept_written : (m : Memory) (old new : List (Option Starts)) (id low upper : ℕ) (bs : List ℕ) → AreKept m old → Forgot old new id low upper → SameOutside (bytes m id) bs low upper
+written : (m : Memory) (old new : List (Option Starts)) (id low upper : ℕ) (bs : List ℕ) → AreKept m old → Forgot old new id low upper → SameOutside (bytes m id) bs low upper
     → AreKept (with_bytes m id bs) new
-kept_written m old new id low upper bs k f out =
+written m old new id low upper bs k f out =
     each m (with_bytes m id bs) old new id k f.others (bytes-with_other m id bs)
     (rw (bytes-with_bytes m id bs) (kept_off (bytes m id) bs low upper out (map_of new id) f.off (f.still (bytes m id) (k id))))
+
+pub kept_written : (m : Memory) (old new : List (Option Starts)) (reach : List ℕ) (id low upper : ℕ) (bs : List ℕ) → AreTied m old reach → Forgot old new id low upper → SameOutside (bytes m id) bs low upper
+    → AreTied (with_bytes m id bs) new reach
+kept_written m old new reach id low upper bs t f out = record { kept = written m old new id low upper bs t.kept f out; reached = reached_forgot old new reach id low upper t.reached f }
 
 -- an area gets pages
 grown_here : (m : Memory) (id n : ℕ) (o : Option Starts) → IfSome o (IsKept (bytes m id)) → IfSome o (IsKept (bytes (grown m id n) id))
@@ -86,10 +108,12 @@ shrunk_here m id n room (Some s) off k = λ known.
       | inr below ↦ map_same (bytes m id) (bytes (shrunk m id n) id) s (SameIn-shrunk m id n s.at s.upper (omega arith)) (omega (arith, length-shrunk m id n)) at
     ]
 
-pub kept_shrunk : (m : Memory) (old new : List (Option Starts)) (id n : ℕ) → 4096 * n ≤ length (bytes m id) → AreKept m old → Forgot old new id (length (bytes m id) - 4096 * n) (length (bytes m id))
-    → AreKept (shrunk m id n) new
-kept_shrunk m old new id n room k f =
-    each m (shrunk m id n) old new id k f.others (bytes-shrunk_other m id n) (shrunk_here m id n room (map_of new id) f.off (f.still (bytes m id) (k id)))
+pub kept_shrunk : (m : Memory) (old new : List (Option Starts)) (reach : List ℕ) (id n : ℕ) → 4096 * n ≤ length (bytes m id) → AreTied m old reach
+    → Forgot old new id (length (bytes m id) - 4096 * n) (length (bytes m id)) → AreTied (shrunk m id n) new reach
+kept_shrunk m old new reach id n room t f = record {
+  kept = each m (shrunk m id n) old new id t.kept f.others (bytes-shrunk_other m id n) (shrunk_here m id n room (map_of new id) f.off (f.still (bytes m id) (t.kept id)));
+  reached = reached_forgot old new reach id _ _ t.reached f;
+}
 
 -- an area is opened, which had no bytes before
 pub kept_opened : (m : Memory) (maps : List (Option Starts)) (id : ℕ) → m.area id ≡ None → AreKept m maps → AreKept (opened m id) maps
@@ -97,9 +121,11 @@ kept_opened m maps id closed k =
     each m (opened m id) maps maps id k (λ j apart. refl) (bytes-opened_other m id) (rw (bytes-opened m id, ← bytes-none m id closed) (k id))
 
 -- an area is closed
-pub kept_closed : (m : Memory) (old new : List (Option Starts)) (id : ℕ) → AreKept m old → Spoilt old new id → AreKept (closed m id) new
-kept_closed m old new id k s =
-    each m (closed m id) old new id k s.others (bytes-closed_other m id) (kept_unknown (bytes (closed m id) id) (map_of new id) s.off)
+pub kept_closed : (m : Memory) (old new : List (Option Starts)) (reach : List ℕ) (id : ℕ) → AreTied m old reach → Spoilt old new id → AreTied (closed m id) new reach
+kept_closed m old new reach id t s = record {
+  kept = each m (closed m id) old new id t.kept s.others (bytes-closed_other m id) (kept_unknown (bytes (closed m id) id) (map_of new id) s.off);
+  reached = reached_spoilt old new reach id t.reached s;
+}
 
 -- ---- calls that may be refused
 pub kept_grow : (m n : Memory) (maps : List (Option Starts)) (id pages : ℕ) (result : Result (Unit {0}) StoreFault) → AreKept m maps → OnOk result (n ≡ grown m id pages) → OnErr result (n ≡ m) → AreKept n maps

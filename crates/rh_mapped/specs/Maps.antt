@@ -1,5 +1,5 @@
 -- The maps that are kept beside the areas of a store, and what a write makes of them.
-use Rattle.std.specs.Prelude.{◌≡◌, ◌≢◌, ℕ, ◌≤◌, ◌⊎◌, true, false, List, length, get_or, Option, None, IfSome}
+use Rattle.std.specs.Prelude.{◌≡◌, ◌≢◌, ℕ, ◌≤◌, ◌⊎◌, true, false, List, length, get_or, slice_index, Option, None, IfSome}
 use Rattle.rh_defs.specs.Memory.{Memory, bytes}
 use Rattle.rh_store.specs.Starts.{IsKept}
 use Rattle.rh_store.specs.declared.starts.Starts.{Starts}
@@ -12,6 +12,19 @@ map_of maps id = get_or maps id None
 abbrev pub AreKept : Memory → List (Option Starts) → Type 0
 AreKept m maps = (id : ℕ) → IfSome (map_of maps id) (IsKept (bytes m id))
 
+-- a map that is said to be up to date is of a heap that ends at this offset or below
+abbrev pub EndsBy : ℕ → Starts → Type 0
+EndsBy reach s = s.known ≡ true → s.upper ≤ reach
+
+-- so it is for each area with the number that stands for it
+abbrev pub AreReached : List (Option Starts) → List ℕ → Type 0
+AreReached maps reach = (id : ℕ) → IfSome (map_of maps id) (EndsBy (slice_index reach id))
+
+-- the maps are those of the areas' heaps, none of which reaches further than said
+pub record AreTied (m : Memory) (maps : List (Option Starts)) (reach : List ℕ) : Type 0 where
+  pub kept : AreKept m maps
+  pub reached : AreReached maps reach
+
 -- a map that is said to be up to date is of bytes that lie outside these
 abbrev pub IsOff : ℕ → ℕ → Starts → Type 0
 IsOff low upper s = s.known ≡ true → (upper ≤ s.at) ⊎ (s.upper ≤ low)
@@ -20,6 +33,7 @@ IsOff low upper s = s.known ≡ true → (upper ≤ s.at) ⊎ (s.upper ≤ low)
 pub record Forgot (old new : List (Option Starts)) (id low upper : ℕ) : Type 0 where
   pub off : IfSome (map_of new id) (IsOff low upper)
   pub still : (b : List ℕ) → IfSome (map_of old id) (IsKept b) → IfSome (map_of new id) (IsKept b)
+  pub ends : (reach : ℕ) → IfSome (map_of old id) (EndsBy reach) → IfSome (map_of new id) (EndsBy reach)
   pub others : (j : ℕ) → j ≢ id → map_of new j ≡ map_of old j
 
 -- the map of one area isn't said to be up to date, and nothing else changes

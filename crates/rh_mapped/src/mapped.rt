@@ -1,7 +1,8 @@
 //! The store with its maps.
-ghost use Rattle.std.specs.Prelude.{◌≡◌, false, IfOk};
+ghost use Rattle.std.specs.Prelude.{◌≡◌, false, IfOk, IfSome};
+ghost use Rattle.rh_mapped.specs.Maps.{EndsBy};
 
-use crate::maps::{forget, spoil};
+use crate::maps::{AREA_NUMBERS, forget, lengthened, spoil};
 use rh_defs::sizes::{MAX_AREAS, PAGE, WORD};
 use rh_store::{
     AreaId, LINE_BYTES, Paged, Pages, Sited, Starts, Store, StoreFault, Words, WordsMut,
@@ -9,35 +10,47 @@ use rh_store::{
 use std::alloc::{AllocError, Global};
 use std::marker::Model;
 
-/// A store, and for each area a map of its heap; seen as the store. A write that meets the heap makes the map stale; whoever changes a heap
-/// takes the map before, and gives it back as it is then.
+/// A store, and for each area a map of its heap, with an offset above which that heap has no byte; seen as the store. A
+/// write that meets the heap makes the map stale; whoever changes a heap takes the map before, and gives it back as it is
+/// then.
 #[derive(Drop)]
 pub struct Mapped<S: Store> {
     store: S,
     maps: Vec<Option<Starts>>,
+    reach: [usize; AREA_NUMBERS],
 }
 
 impl<S: Store> Model for Mapped<S> {
-    ghost use Rattle.rh_mapped.specs.Maps.{AreKept};
+    ghost use Rattle.rh_mapped.specs.Maps.{AreTied};
 
     ghost Value = { S };
 
     ghost view = { λ s. s.store };
 
-    ghost invariant = { λ s. AreKept (S.memory s.store) s.maps.items };
+    ghost invariant = { λ s. AreTied (S.memory s.store) s.maps.items s.reach };
 }
 
-/// A map of so many words, of no heap yet.
+/// A map of no heap yet, with room for so many words.
 fn blank(alloc: Global, words: usize) -> Result<Starts, AllocError>
     ensures { IfOk result (λ starts. starts.known ≡ false) }
 {
-    let lines = vec![in alloc; 0; words]?;
+    let lines = Vec::with_capacity(alloc, words)?;
     Ok(Starts {
         lines,
         known: false,
         at: 0,
         upper: 0,
     })
+}
+
+/// The end of the heap that a map is of, 0 where there is no map.
+fn reach_of(starts: &Option<Starts>) -> usize
+    ensures { IfSome starts.now (EndsBy result) }
+{
+    match starts {
+        Some(starts) => starts.upper,
+        None => 0,
+    }
 }
 
 impl<S: Store + Drop> Mapped<S> {
@@ -54,13 +67,18 @@ impl<S: Store + Drop> Mapped<S> {
             let starts = blank(alloc, words)?;
             maps.push(Some(starts))?;
         }
-        Ok(Mapped { store, maps })
+        Ok(Mapped {
+            store,
+            maps,
+            reach: [0; AREA_NUMBERS],
+        })
     }
 }
 
 impl<S: Store> Words for Mapped<S> {
     ghost memory = { S.memory };
 
+    #[inline(always)]
     fn word(&self, id: AreaId, at: usize) -> u32 {
         self.store.word(id, at)
     }
@@ -69,14 +87,17 @@ impl<S: Store> Words for Mapped<S> {
         self.store.copy_out(id, at, to);
     }
 
+    #[inline(always)]
     fn run(&self, id: AreaId, at: usize) -> &[u8] {
         self.store.run(id, at)
     }
 
+    #[inline(always)]
     fn len(&self, id: AreaId) -> usize {
         self.store.len(id)
     }
 
+    #[inline(always)]
     fn starts(&self, id: AreaId, at: usize) -> Option<&[u64]> {
         let k = id.0 as usize;
         if k >= self.maps.len() {
@@ -98,23 +119,24 @@ impl<S: Store> Words for Mapped<S> {
 }
 
 impl<S: Store> WordsMut for Mapped<S> {
+    #[inline(always)]
     fn set_word(&mut self, id: AreaId, at: usize, w: u32) {
-        forget(&mut self.maps, id.0 as usize, at, at + WORD);
+        forget(&mut self.maps, &self.reach, id, at, at + WORD);
         self.store.set_word(id, at, w);
     }
 
     fn slide(&mut self, id: AreaId, from: usize, to: usize, n: usize) {
-        forget(&mut self.maps, id.0 as usize, to, to + n);
+        forget(&mut self.maps, &self.reach, id, to, to + n);
         self.store.slide(id, from, to, n);
     }
 
     fn zero(&mut self, id: AreaId, at: usize, n: usize) {
-        forget(&mut self.maps, id.0 as usize, at, at + n);
+        forget(&mut self.maps, &self.reach, id, at, at + n);
         self.store.zero(id, at, n);
     }
 
     fn copy_in(&mut self, id: AreaId, at: usize, from: &[u8]) {
-        forget(&mut self.maps, id.0 as usize, at, at + from.len());
+        forget(&mut self.maps, &self.reach, id, at, at + from.len());
         self.store.copy_in(id, at, from);
     }
 
@@ -123,24 +145,28 @@ impl<S: Store> WordsMut for Mapped<S> {
         if k >= self.maps.len() {
             return None;
         }
+        self.reach[k] = 0;
         let Some(starts) = self.maps[k].take() else {
             return None;
         };
-        if starts.lines.len() / 2 < self.store.len(id).div_ceil(LINE_BYTES) {
-            return None;
+        let words = 2 * self.store.len(id).div_ceil(LINE_BYTES);
+        if words <= starts.lines.len() {
+            return Some(starts);
         }
-        Some(starts)
+        lengthened(starts, words)
     }
 
     fn keep_starts(&mut self, id: AreaId, starts: Option<Starts>) {
         let k = id.0 as usize;
         if k < self.maps.len() {
+            self.reach[k] = reach_of(&starts);
             self.maps[k] = starts;
         }
     }
 }
 
 impl<S: Store> Paged for Mapped<S> {
+    #[inline(always)]
     fn rest_of_page(&self, id: AreaId, at: usize) -> &[u8] {
         self.store.rest_of_page(id, at)
     }
@@ -159,7 +185,7 @@ impl<S: Store> Pages for Mapped<S> {
 
     fn shrink(&mut self, id: AreaId, pages: usize) {
         let end = self.store.len(id);
-        forget(&mut self.maps, id.0 as usize, end - PAGE * pages, end);
+        forget(&mut self.maps, &self.reach, id, end - PAGE * pages, end);
         self.store.shrink(id, pages);
     }
 
@@ -185,7 +211,7 @@ impl<S: Store> Store for Mapped<S> {
     }
 
     fn copy(&mut self, id: AreaId, at: usize, id2: AreaId, at2: usize, n: usize) {
-        forget(&mut self.maps, id2.0 as usize, at2, at2 + n);
+        forget(&mut self.maps, &self.reach, id2, at2, at2 + n);
         self.store.copy(id, at, id2, at2, n);
     }
 

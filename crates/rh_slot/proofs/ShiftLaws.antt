@@ -1,14 +1,15 @@
 -- Blocks that slid, and the walk that writes their anchor words.
-use Rattle.std.proofs.Common.{◌≡◌, ℕ, ◌+◌, ◌-◌, ◌*◌, ◌<◌, ◌≤◌, ◌≢◌, ◌⊎◌, inl, inr, List, [], ◌∷◌, ◌++◌, length, refl, sym, ap, subst, ◌∙◌, append_assoc, arith}
+use Rattle.std.proofs.Common.{◌≡◌, ℕ, ◌+◌, ◌-◌, ◌*◌, ◌^◌, ◌<◌, ◌≤◌, ◌≢◌, ◌⊎◌, inl, inr, List, [], ◌∷◌, ◌++◌, length, get_or, refl, sym, ap, subst, ◌∙◌, append_assoc, arith}
+use Rattle.std.proofs.lemmas.Bool.{cases_lt}
 use Rattle.std.proofs.lemmas.List.{append-nil}
-use Rattle.rh_defs.specs.Bytes.{word, SameOutside}
+use Rattle.rh_defs.specs.Bytes.{word, put, put_word, part, SameOutside}
 use Rattle.rh_defs.specs.Pieces.{total}
 use Rattle.rh_defs.specs.Slot.{Flex, weight, flex_weight, IsFree, HaveAnchors}
 use Rattle.rh_defs.specs.SlotImage.{Lie, Hang}
-use Rattle.rh_defs.proofs.BytesLaws.{word_same, SameOutside-self}
+use Rattle.rh_defs.proofs.BytesLaws.{word_same, length-put, length-put_word, length-part, put_above, put_inside, put-part, put_word_outside, word-part, word-put_above, word-put_inside, word-put_word, SameOutside-self}
 use Rattle.rh_defs.proofs.HeapLists.{sum-append}
 use Rattle.rh_defs.proofs.SlotLaws.{wider, same_both, in_below, in_above, Lie-same, Lie-carried, Lie-unique, Hang-join, IsFree-split, HaveAnchors-cut, Carried, none_weigh}
-use Rattle.rh_slot.specs.Row.{Row, Hung, Shifted, Hanging}
+use Rattle.rh_slot.specs.Row.{Row, Hung, Shifted, Hanging, HangsApart}
 
 pub hanging_start : (b : List ℕ) (from n : ℕ) → Row b from n → Hanging b b from n from
 hanging_start b from n r = record {
@@ -101,6 +102,82 @@ room_at c p e (f ∷ ys) l lt = omega arith
 
 pub room : (b c : List ℕ) (from n p : ℕ) → Hanging b c from n p → p < from + n → p + 8 ≤ from + n
 room b c from n p w lt = room_at c p (from + n) w.rest w.left lt
+
+-- ---- the same walk where the anchor words stand apart
+
+-- a byte that stays in what is written stays where it is written
+covered : (b x y : List ℕ) (k : ℕ) → length y ≡ length x → length x ≤ length b → get_or y k 0 ≡ get_or x k 0 → get_or (put b 0 y) k 0 ≡ get_or (put b 0 x) k 0
+covered b x y k e l s = elim (cases_lt k (length x)) [
+  | inl i ↦ put_inside b 0 y k k (omega arith) (omega arith) (omega arith) ∙ s ∙ sym (put_inside b 0 x k k (omega arith) (omega arith) (omega arith))
+  | inr o ↦ put_above b 0 y k (omega arith) ∙ sym (put_above b 0 x k (omega arith))
+]
+
+outside_put : (b x y : List ℕ) (lo hi : ℕ) → SameOutside x y lo hi → length x ≤ length b → SameOutside (put b 0 x) (put b 0 y) lo hi
+outside_put b x y lo hi s l = record {
+  len = length-put b 0 y ∙ sym (length-put b 0 x);
+  below = λ k h. covered b x y k s.len l (s.below k h);
+  above = λ k h. covered b x y k s.len l (s.above k h);
+}
+
+pub apart_start : (b x : List ℕ) (from n k : ℕ) → Row b from n → 256 ≤ length b → k ≡ 256 → x ≡ part b 0 k → HangsApart b x from n from
+apart_start b x from n k r w ek ex =
+    let len : length x ≡ k = ap length ex ∙ length-part b 0 k in
+    let same : put b 0 x ≡ b = ap (put b 0) ex ∙ put-part b 0 k (omega arith) in
+    record {
+      long = omega arith;
+      walk = subst (λ c. Hanging b c from n from) (sym same) (hanging_start b from n r);
+    }
+
+pub apart_end : (b x c : List ℕ) (from n p : ℕ) → HangsApart b x from n p → c ≡ put b 0 x → from + n ≤ p → (fs : List Flex) → Lie b from fs → total weight fs ≡ n → Hung b c from fs
+apart_end b x c from n p h e le fs l s = subst (λ r. Hung b r from fs) (sym e) (hanging_end b (put b 0 x) from n p h.walk le fs l s)
+
+pub apart_room : (b x : List ℕ) (from n p : ℕ) → HangsApart b x from n p → p < from + n → p + 8 ≤ from + n
+apart_room b x from n p h lt = room b (put b 0 x) from n p h.walk lt
+
+-- what the header words at a place say, and the walk behind the block
+pub record TurnApart (b x : List ℕ) (from n p a s : ℕ) : Type 0 where
+  pub least : 32768 ≤ a
+  pub within : a - 32768 + 4 ≤ length x
+  pub on : p + flex_weight s ≤ from + n
+  pub next : (y : List ℕ) (q : ℕ) → y ≡ put_word x (a - 32768) (32768 + p + 8) → q ≡ p + flex_weight s → HangsApart b y from n q
+
+pub turn_apart : (b x : List ℕ) (from n p a s : ℕ) → HangsApart b x from n p → p < from + n → 256 ≤ from → from + n ≤ length b → length b ≤ 2 ^ 30 → a ≡ word b p → s ≡ word b (p + 4)
+    → TurnApart b x from n p a s
+turn_apart b x from n p a s h lt low within small ea es =
+    let long = h.long in
+    let at = h.walk.place in
+    let head : a ≡ word (put b 0 x) p = ea ∙ sym (word-put_above b 0 x p (omega arith)) in
+    let size : s ≡ word (put b 0 x) (p + 4) = es ∙ sym (word-put_above b 0 x (p + 4) (omega arith)) in
+    let t = turn b (put b 0 x) from n p a s h.walk lt low head size in
+    let least = t.least in
+    let most = t.most in
+    record {
+      least = least;
+      within = omega arith;
+      on = t.on;
+      next = λ y q ey eq.
+          let len : length y ≡ length x = ap length ey ∙ length-put_word x (a - 32768) (32768 + p + 8) in
+          let o : SameOutside x y (a - 32768) (a - 32768 + 4) = subst (λ z. SameOutside x z (a - 32768) (a - 32768 + 4)) (sym ey) (put_word_outside x (a - 32768) (32768 + p + 8) (a - 32768 + 4) (omega arith)) in
+          let e : word y (a - 32768) ≡ 32768 + p + 8 = ap (λ z. word z (a - 32768)) ey ∙ word-put_word x (a - 32768) (32768 + p + 8) (omega arith) (omega arith) in
+          record {
+            long = len ∙ long;
+            walk = subst (Hanging b (put b 0 y) from n) (sym eq)
+                (t.next (put b 0 y) (flex_weight s) refl (outside_put b x y (a - 32768) (a - 32768 + 4) o (omega arith))
+                (word-put_inside b 0 y (a - 32768) (a - 32768) (omega arith) (omega arith) (omega arith) ∙ e));
+          };
+    }
+
+-- a word of a page is the area's
+word_of_page : (b page : List ℕ) (start k at p : ℕ) → page ≡ part b start k → at + 4 ≤ length page → p ≡ start + at → word page at ≡ word b p
+word_of_page b page start k at p e l ep = ap (λ z. word z at) e ∙ word-part b start k at (omega (arith, ap length e, length-part b start k)) ∙ ap (word b) (sym ep)
+
+-- the same where the header is read in the bytes of a page
+pub turn_in_page : (b x page : List ℕ) (from n start k p a s : ℕ) → HangsApart b x from n p → page ≡ part b start k → start ≤ p → p + 8 ≤ start + length page → p + 8 ≤ from + n
+    → 256 ≤ from → from + n ≤ length b → length b ≤ 2 ^ 30 → a ≡ word page (p - start) → s ≡ word page (p - start + 4) → TurnApart b x from n p a s
+turn_in_page b x page from n start k p a s h e lo hi lt low within small ea es =
+    turn_apart b x from n p a s h (omega arith) low within small
+    (ea ∙ word_of_page b page start k (p - start) p e (omega arith) (omega arith))
+    (es ∙ word_of_page b page start k (p - start + 4) (p + 4) e (omega arith) (omega arith))
 
 -- what slid and then was hung
 pub shifted : (b c d : List ℕ) (from to n : ℕ) (fs : List Flex) → Carried b c from to n → SameOutside b c to (to + n) → 256 ≤ to → SameOutside c d 0 256 → to + n ≤ length b

@@ -1,6 +1,6 @@
 -- The row of flex blocks in the words of an area: blocks that lie there, blocks that slid, and walks over them.
 use Rattle.std.specs.Prelude.{◌≡◌, ℕ, ◌+◌, ◌-◌, ◌*◌, ◌/◌, ◌%◌, ◌<◌, ◌≤◌, List, ◌++◌, length, take}
-use Rattle.rh_defs.specs.Bytes.{word, SameOutside}
+use Rattle.rh_defs.specs.Bytes.{word, put, SameOutside}
 use Rattle.rh_defs.specs.Memory.{Memory, Edited, bytes}
 use Rattle.rh_defs.specs.Pieces.{total}
 use Rattle.rh_defs.specs.Slot.{Flex, Slot, weight, slot_start, heap_start, IsFree, HaveAnchors}
@@ -38,6 +38,11 @@ pub record Hanging (b c : List ℕ) (from n p : ℕ) : Type 0 where
   pub rest_lies : Lie c p rest
   pub hung : Hung b c from before
   pub outside : SameOutside b c 0 heap_place
+
+-- the same where the anchor words stand apart, and are yet to be written over the bytes
+pub record HangsApart (b anchors : List ℕ) (from n p : ℕ) : Type 0 where
+  pub long : length anchors ≡ heap_place
+  pub walk : Hanging b (put b 0 anchors) from n p
 
 -- the same in memories
 pub record Hangs (m n : Memory) (id from size p : ℕ) : Type 0 where

@@ -1,17 +1,17 @@
 //! The row of flex blocks that lie one after the other above the C heap: walks over it, and how it slides.
 ghost use Rattle.std.specs.Prelude.{◌≡◌, ◌+◌, ◌-◌, ◌%◌, ◌<◌, true, ◌^◌, ◌≤◌, length, take, is_some, slice_get, MatchOption, List, OnSome, IfNone, false};
 ghost use Rattle.rh_defs.specs.Memory.{IsOpen, bytes, Edited};
-ghost use Rattle.rh_defs.specs.Slot.{Flex, flex_around, weight, slot_length};
+ghost use Rattle.rh_defs.specs.Slot.{Flex, flex_around, flex_weight, weight, slot_length};
 ghost use Rattle.rh_defs.specs.Pieces.{total};
 ghost use Rattle.rh_defs.specs.Listing.{block_items};
-ghost use Rattle.rh_defs.specs.Bytes.{word, part, SameIn};
+ghost use Rattle.rh_defs.specs.Bytes.{word, part, put_word, SameIn};
 ghost use Rattle.rh_defs.specs.SlotImage.{Lie, is_block, flex_place};
 ghost use Rattle.rh_defs.specs.declared.listing.BlockItem.{BlockItem};
 ghost use Rattle.rh_slot.specs.Area.{IsSlot, slot_in};
-ghost use Rattle.rh_slot.specs.Row.{Row, Hung, Shifted, Walked, WalksIn, Headed, item_of};
-ghost use Rattle.rh_defs.specs.declared.sizes.TheConstants.{FLEX_HEADER, PAGE};
+ghost use Rattle.rh_slot.specs.Row.{Row, Hung, HangsApart, Shifted, Walked, WalksIn, Headed, item_of};
+ghost use Rattle.rh_defs.specs.declared.sizes.TheConstants.{ANCHORS, C_HEAP_PLACE, FLEX_HEADER, PAGE};
 
-use crate::area::{read, slide, write};
+use crate::area::{read, slide, write, write_bytes};
 use crate::slot::Slot;
 use arrayvec::ArrayVec;
 use rh_defs::sizes::{
@@ -19,8 +19,17 @@ use rh_defs::sizes::{
     is_inside,
 };
 use rh_defs::{Anchor, BlockItem};
-use rh_store::bytes::word_in;
-use rh_store::{AreaId, Paged, Words, WordsMut};
+use rh_store::bytes::{put_word_in, word_in};
+use rh_store::{AreaId, Paged, Pages, Words, WordsMut};
+
+/// Blocks of so many bytes or more together have their anchor words written all at once.
+const SHORT_ROW: usize = 128;
+
+/// So many blocks are passed sooner than the highest anchor word is found.
+const FEW_BLOCKS: usize = 3;
+
+/// By so many bits an anchor word goes up to make room for its anchor's number: it is a multiple of 4 below 2^28.
+const NUMBER_BITS: u32 = 4;
 
 /// A walk over a slot's flex blocks from below: how many it has passed, and where the next one stands in the slot's
 /// area.
@@ -80,8 +89,20 @@ fn item_in(anchors: &[u8], page: &[u8], at: usize, place: usize) -> Option<Block
     })
 }
 
-/// Writes the anchor words of the blocks that lie in `n` bytes.
-fn hang<S: WordsMut>(store: &mut S, area: AreaId, from: usize, n: usize)
+/// The anchor whose word is the highest. Only speed stands on that: where no more is known of the words, it is any.
+fn highest(anchors: &[u8]) -> Anchor
+    requires { C_HEAP_PLACE ≤ length anchors.now }
+    ensures { result < ANCHORS }
+{
+    let mut best = 0;
+    for k in 0..ANCHORS {
+        best = best.max(word_in(anchors, WORD * k) << NUMBER_BITS | k as u32);
+    }
+    Anchor((best % ANCHORS as u32) as u8)
+}
+
+/// Writes the anchor words of the blocks that lie in `n` bytes, each by itself.
+fn hang_short<S: WordsMut>(store: &mut S, area: AreaId, from: usize, n: usize)
     requires opened { IsOpen (S.memory store.old) area.0 }
     requires within { from + n ≤ length (bytes (S.memory store.old) area.0) }
     requires low { C_HEAP_PLACE ≤ from }
@@ -101,8 +122,97 @@ fn hang<S: WordsMut>(store: &mut S, area: AreaId, from: usize, n: usize)
     }
 }
 
+/// Writes a block's address into anchor words that were lent, by what its header says: the address of its anchor word,
+/// and its size. Answers where the next block stands.
+#[inline(always)]
+fn hang_one(anchors: &mut [u8], place: usize, anchor: usize, size: usize) -> usize
+    requires least { SLOT_START ≤ anchor }
+    requires within { anchor - SLOT_START + WORD ≤ length anchors.old }
+    requires small { place < 2 ^ 31 }
+    requires size { size < 2 ^ 32 }
+    ensures anchors { anchors.new ≡ put_word anchors.old (anchor - SLOT_START) (SLOT_START + place + FLEX_HEADER) }
+    ensures next { result ≡ place + flex_weight size }
+{
+    let address = SLOT_START + place + FLEX_HEADER;
+    put_word_in(anchors, anchor - SLOT_START, address as u32);
+    place + flex_weight(size)
+}
+
+/// Writes into anchor words that were lent those of the blocks from a place on whose headers lie whole in that place's
+/// page. The blocks end `n` bytes above `from`. Answers where the next one stands.
+fn hang_in_page<S: Paged>(
+    store: &S,
+    area: AreaId,
+    anchors: &mut [u8],
+    from: usize,
+    n: usize,
+    start: usize,
+) -> usize
+    requires opened { IsOpen (S.memory store.now) area.0 }
+    requires within { from + n ≤ length (bytes (S.memory store.now) area.0) }
+    requires low { C_HEAP_PLACE ≤ from }
+    requires walk { HangsApart (bytes (S.memory store.now) area.0) anchors.old from n start }
+    ensures walk { HangsApart (bytes (S.memory store.now) area.0) anchors.new from n result }
+    ensures on { start ≤ result }
+{
+    let end = from + n;
+    let mut place = start;
+    if end <= start {
+        return place;
+    }
+    let page = store.rest_of_page(area, start);
+    let top = end.min(start + page.len());
+    'walk: while place + FLEX_HEADER <= top {
+        let anchor = word_in(page, place - start) as usize;
+        let size = word_in(page, place - start + WORD) as usize;
+        place = hang_one(anchors, place, anchor, size);
+    }
+    place
+}
+
+/// Writes the anchor words of the blocks that lie in `n` bytes, all at the end. Out of line, so that its buffer is no
+/// part of callers whose rows are short.
+#[inline(never)]
+fn hang_long<S: Pages>(store: &mut S, area: AreaId, from: usize, n: usize)
+    requires opened { IsOpen (S.memory store.old) area.0 }
+    requires within { from + n ≤ length (bytes (S.memory store.old) area.0) }
+    requires low { C_HEAP_PLACE ≤ from }
+    requires row { Row (bytes (S.memory store.old) area.0) from n }
+    ensures hung { (fs : List Flex) → Lie (bytes (S.memory store.old) area.0) from fs → total weight fs ≡ n
+        → Hung (bytes (S.memory store.old) area.0) (bytes (S.memory store.new) area.0) from fs }
+    ensures only { Edited (S.memory store.old) (S.memory store.new) area.0 0 C_HEAP_PLACE }
+{
+    let mut anchors = [0u8; C_HEAP_PLACE];
+    store.copy_out(area, 0, &mut anchors);
+    let mut place = from;
+    'walk: while place < from + n {
+        let anchor = read(store, area, place);
+        let size = read(store, area, place + WORD);
+        let behind = hang_one(&mut anchors, place, anchor, size);
+        place = hang_in_page(store, area, &mut anchors, from, n, behind);
+    }
+    write_bytes(store, area, 0, &anchors);
+}
+
+/// Writes the anchor words of the blocks that lie in `n` bytes.
+fn hang<S: Pages>(store: &mut S, area: AreaId, from: usize, n: usize)
+    requires opened { IsOpen (S.memory store.old) area.0 }
+    requires within { from + n ≤ length (bytes (S.memory store.old) area.0) }
+    requires low { C_HEAP_PLACE ≤ from }
+    requires row { Row (bytes (S.memory store.old) area.0) from n }
+    ensures hung { (fs : List Flex) → Lie (bytes (S.memory store.old) area.0) from fs → total weight fs ≡ n
+        → Hung (bytes (S.memory store.old) area.0) (bytes (S.memory store.new) area.0) from fs }
+    ensures only { Edited (S.memory store.old) (S.memory store.new) area.0 0 C_HEAP_PLACE }
+{
+    if n < SHORT_ROW {
+        hang_short(store, area, from, n);
+    } else {
+        hang_long(store, area, from, n);
+    }
+}
+
 /// Moves the blocks that lie in `n` bytes, and writes their anchor words.
-pub fn shift<S: WordsMut>(store: &mut S, area: AreaId, from: usize, to: usize, n: usize)
+pub fn shift<S: Pages>(store: &mut S, area: AreaId, from: usize, to: usize, n: usize)
     requires opened { IsOpen (S.memory store.old) area.0 }
     requires source { from + n ≤ length (bytes (S.memory store.old) area.0) }
     requires target { to + n ≤ length (bytes (S.memory store.old) area.0) }
@@ -181,17 +291,41 @@ impl Slot {
         walk
     }
 
-    /// Where the flex blocks end, from a place to which a walk comes: the number of bytes that the slot takes.
+    /// Where the block of the highest anchor word ends, or a place to which a walk comes, whichever is higher. A walk
+    /// comes there too.
+    fn end_of_highest<S: Paged>(self, store: &S, least: usize) -> usize
+        requires slot { IsSlot (S.memory store.now) self }
+        requires walked { Walked (slot_in (S.memory store.now) self) least }
+        ensures walked { Walked (slot_in (S.memory store.now) self) result }
+        ensures least { least ≤ result }
+    {
+        let anchors = store.rest_of_page(self.area, 0);
+        let Some(spot) = self.locate(store, highest(anchors)) else {
+            return least;
+        };
+        let end = spot.place + flex_weight(spot.size);
+        if end < least {
+            return least;
+        }
+        end
+    }
+
+    /// Where the flex blocks end, from a place to which a walk comes: the number of bytes that the slot takes. A few
+    /// blocks are passed one by one, and of more the highest is asked for its end.
     pub(crate) fn top_from<S: Paged>(self, store: &S, from: usize) -> usize
         requires slot { IsSlot (S.memory store.now) self }
         requires walked { Walked (slot_in (S.memory store.now) self) from }
         ensures { result ≡ slot_length (slot_in (S.memory store.now) self) }
     {
-        let anchors = store.rest_of_page(self.area, 0);
         let mut place = from;
+        let mut few = FEW_BLOCKS;
         'walk: while let Some(size) = self.size_at(store, place) {
-            let behind = place + flex_weight(size);
-            place = self.pass_in_page(store, anchors, walk_from(behind)).place;
+            place += flex_weight(size);
+            if few == 0 {
+                place = self.end_of_highest(store, place);
+            } else {
+                few -= 1;
+            }
         }
         place
     }

@@ -1,6 +1,6 @@
 -- What calls on the module area leave of its blocks.
-use Rattle.std.proofs.Common.{◌≡◌, ℕ, ◌+◌, ◌≤◌, List, [], ◌++◌, length, take, drop, refl, sym, ap, subst, ◌∙◌, arith}
-use Rattle.std.proofs.lemmas.List.{take_at}
+use Rattle.std.proofs.Common.{◌≡◌, ℕ, ◌+◌, ◌≤◌, List, ◌++◌, length, length-append, take, drop, replicate, refl, sym, ap, subst, ◌∙◌, arith}
+use Rattle.std.proofs.lemmas.List.{append_assoc, take_at}
 use Rattle.std.specs.Prelude.{Ok, Err}
 use Rattle.rh_defs.specs.Bytes.{put}
 use Rattle.rh_defs.specs.Chain.{Granted, answer_of, left_of, no_answer}
@@ -52,28 +52,38 @@ claimed-block m n rma size block c =
 pub wrote-block : (m n : Memory) (rma : Module) (a o k : ℕ) (xs : List ℕ) → Wrote m n rma a o xs → HasBlock a k (heap_in m rma) → HasBlock a k (heap_in n rma)
 wrote-block m n rma a o k xs w b = subst (HasBlock a k) (sym w.heap) (has-poked a k o xs (heap_in m rma) b)
 
-pub first_bytes : (b : List ℕ) (m : Message) (n : ℕ) (c : List ℕ) → n ≡ encoded_length m → n ≤ length b → c ≡ put b 0 (encoded m) → take n c ≡ encoded m
-first_bytes b m n c e l ec =
-    let k = length-encoded m in
-    let p : c ≡ [] ++ (encoded m ++ drop (0 + length (encoded m)) b) = ec ∙ put-parts b 0 (encoded m) (omega arith) in
-    ap (take n) p ∙ take_at (encoded m) (drop (0 + length (encoded m)) b) n (omega arith)
+-- ---- the bytes of a parcel: its link and its code, then its message
+pub parcel_head : (code : ℕ) (p : List ℕ) → p ≡ put (replicate 264 0) 4 (word_bytes code) → take 8 p ≡ word_bytes 0 ++ word_bytes code
+unfolding word_bytes
+parcel_head code p e =
+    let z : List ℕ = replicate 264 0 in
+    let l = length-word_bytes code in
+    let d : List ℕ = drop (4 + length (word_bytes code)) z in
+    let long : length z ≡ 264 = refl in
+    let four : length (take 4 z) ≡ 4 = refl in
+    let none : take 4 z ≡ word_bytes 0 = refl in
+    let q : p ≡ (take 4 z ++ word_bytes code) ++ d = e ∙ put-parts z 4 (word_bytes code) (omega arith) ∙ sym (append_assoc (take 4 z) (word_bytes code) d) in
+    ap (take 8) q ∙ take_at (take 4 z ++ word_bytes code) d 8 (omega (arith, length-append (take 4 z) (word_bytes code))) ∙ ap (λ x. x ++ word_bytes code) none
 
-module _ (m n n1 n2 n3 : Memory) (rma : Module) (size block code : ℕ) (xs : List ℕ) where
-  pub placed-there : Claimed m n rma size block → Wrote n n1 rma block 0 (word_bytes 0) → Wrote n1 n2 rma block 4 (word_bytes code) → Wrote n2 n3 rma block 8 xs
-      → (there : Heap × ℕ) → module_claim m.free size (heap_in m rma) ≡ Ok there → Turns m n3 rma (poked there.1 0 (word_bytes 0 ++ (word_bytes code ++ xs)) there.0)
-  placed-there c w1 w2 w3 there e =
-      let same : ◌≡◌ {A = Heap × ℕ} c.there there = let q : ◌≡◌ {A = Granted (Heap × ℕ)} (Ok c.there) (Ok there) = sym c.granted ∙ e in cc in
-      let h : Heap = c.there.0 in
-      let e1 : heap_in n1 rma ≡ poked block 0 (word_bytes 0) h = w1.heap ∙ ap (poked block 0 (word_bytes 0)) c.turns.heap in
-      let e3 : heap_in n3 rma ≡ poked block 4 (word_bytes code ++ xs) (heap_in n1 rma) =
-      w3.heap ∙ ap (poked block 8 xs) w2.heap ∙ poked-row block 4 8 (word_bytes code) xs (heap_in n1 rma) (omega (arith, length-word_bytes code)) in
-      let e4 : heap_in n3 rma ≡ poked block 0 (word_bytes 0 ++ (word_bytes code ++ xs)) h =
-      e3 ∙ ap (poked block 4 (word_bytes code ++ xs)) e1 ∙ poked-row block 0 4 (word_bytes 0) (word_bytes code ++ xs) h (omega (arith, length-word_bytes 0)) in
-      subst (λ (x : Heap × ℕ). Turns m n3 rma (poked x.1 0 (word_bytes 0 ++ (word_bytes code ++ xs)) x.0)) same (record {
-        still = w3.still;
-        heap = e4 ∙ ap (λ a. poked a 0 (word_bytes 0 ++ (word_bytes code ++ xs)) h) c.block_is;
-        only = OnlyArea-both m n n3 rma.area.0 c.turns.only (OnlyArea-both n n1 n3 rma.area.0 w1.only (OnlyArea-both n1 n2 n3 rma.area.0 w2.only w3.only));
-      })
+pub parcel_bytes : (b h r : List ℕ) (m : Message) (n : ℕ) (c : List ℕ) → length h ≡ 8 → n ≡ encoded_length m → n ≤ length b → c ≡ put b 0 (encoded m)
+    → take (8 + n) (h ++ (c ++ r)) ≡ h ++ encoded m
+parcel_bytes b h r m n c l e s ec =
+    let k = length-encoded m in
+    let d : List ℕ = drop (0 + length (encoded m)) b in
+    let p : c ≡ encoded m ++ d = ec ∙ put-parts b 0 (encoded m) (omega arith) in
+    let q : h ++ (c ++ r) ≡ (h ++ encoded m) ++ (d ++ r) =
+    ap (λ x. h ++ (x ++ r)) p ∙ ap (λ x. h ++ x) (append_assoc (encoded m) d r) ∙ sym (append_assoc h (encoded m) (d ++ r)) in
+    ap (take (8 + n)) q ∙ take_at (h ++ encoded m) (d ++ r) (8 + n) (omega (arith, length-append h (encoded m)))
+
+pub placed-there : (m n n1 : Memory) (rma : Module) (size block : ℕ) (xs : List ℕ) → Claimed m n rma size block → Wrote n n1 rma block 0 xs
+    → (there : Heap × ℕ) → module_claim m.free size (heap_in m rma) ≡ Ok there → Turns m n1 rma (poked there.1 0 xs there.0)
+placed-there m n n1 rma size block xs c w there e =
+    let same : ◌≡◌ {A = Heap × ℕ} c.there there = let q : ◌≡◌ {A = Granted (Heap × ℕ)} (Ok c.there) (Ok there) = sym c.granted ∙ e in cc in
+    subst (λ (x : Heap × ℕ). Turns m n1 rma (poked x.1 0 xs x.0)) same (record {
+      still = w.still;
+      heap = w.heap ∙ ap (poked block 0 xs) c.turns.heap ∙ ap (λ a. poked a 0 xs c.there.0) c.block_is;
+      only = OnlyArea-both m n n1 rma.area.0 c.turns.only w.only;
+    })
 
 -- ---- frees
 module _ (m n : Memory) (rma : Module) (a k : ℕ) (result : Granted (Unit {0})) (b : HasBlock a k (heap_in m rma)) (w : Leaves m n rma (no_answer (module_free a (heap_in m rma))) result) where

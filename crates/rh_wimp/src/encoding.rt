@@ -122,8 +122,10 @@ fn encode_parts(from: u32, my_ref: u32, your_ref: u32, body: &Body, out: &mut [u
     length
 }
 
-/// Writes a message block, and answers its length; the bytes beyond it stay as they were.
-pub fn encode(message: &Message, out: &mut [u8; MOST_LENGTH]) -> usize
+/// Writes a message block into the bytes that the longest one takes, and answers its length; the bytes beyond it stay as
+/// they were.
+pub(crate) fn encode_into(message: &Message, out: &mut [u8]) -> usize
+    requires { length out.old ≡ MOST_LENGTH }
     ensures length { result ≡ encoded_length message.now }
     ensures bytes { out.new ≡ put out.old 0 (encoded message.now) }
     ensures short { result ≤ MOST_LENGTH }
@@ -137,3 +139,16 @@ pub fn encode(message: &Message, out: &mut [u8; MOST_LENGTH]) -> usize
         out,
     )
 }
+<<<<<<< HEAD
+=======
+
+/// Writes a message block, and answers its length; the bytes beyond it stay as they were.
+pub fn encode(message: &Message, out: &mut [u8; MOST_LENGTH]) -> usize
+    ensures length { result ≡ encoded_length message.now }
+    ensures bytes { out.new ≡ put out.old 0 (encoded message.now) }
+    ensures short { result ≤ MOST_LENGTH }
+    ensures fits { Fits message.now }
+{
+    encode_into(message, out)
+}
+>>>>>>> origin/main

@@ -46,3 +46,6 @@ pub const CODE: usize = 4;
 
 /// Where the message block begins there.
 pub const MESSAGE: usize = 8;
+
+/// The most bytes of a message there.
+pub const MOST_PARCEL: usize = MESSAGE + MOST_LENGTH;

@@ -15,12 +15,27 @@ use crate::span::indexed::{block_size_in, claim_in, index, release_in, resize_in
 use crate::span::words::read;
 use crate::span::{Span, claim, release, resize, segments, whole};
 use rh_defs::HeapRefusal;
-use rh_defs::sizes::HEAP_END;
+use rh_defs::sizes::{HEAP_BASE, HEAP_END};
 use rh_store::{Starts, Words, WordsMut};
 
-/// Takes the map that the store keeps of the heap, and makes it anew where it isn't up to date. No call finds it until
-/// it is kept again.
+/// The bytes up to a heap's base from which a map pays: those below hold too few segments.
+const SHORT: usize = 2048;
+
+/// Takes the map that the store keeps of the heap, where it is up to date. No call finds it until it is kept again.
 pub fn take_map<S: WordsMut>(store: &mut S, span: Span) -> Option<Vec<u64>>
+    requires { IsSpan (S.memory store.old) span }
+    ensures same { S.memory store.new ≡ S.memory store.old }
+    ensures index { IfSome result (λ lines. IsIndex lines.items (heap_in (S.memory store.old) span)) }
+    ensures long { IfSome result (λ lines. length (bytes_in (S.memory store.old) span) ≤ LINE_BYTES * (length lines.items / 2)) }
+{
+    if store.starts(span.area, span.at).is_none() {
+        return None;
+    }
+    take_lines(store, span)
+}
+
+/// Takes the map that the store keeps of the heap, and makes it anew where it isn't up to date.
+fn take_lines<S: WordsMut>(store: &mut S, span: Span) -> Option<Vec<u64>>
     requires { IsSpan (S.memory store.old) span }
     ensures same { S.memory store.new ≡ S.memory store.old }
     ensures index { IfSome result (λ lines. IsIndex lines.items (heap_in (S.memory store.old) span)) }
@@ -40,6 +55,19 @@ pub fn take_map<S: WordsMut>(store: &mut S, span: Span) -> Option<Vec<u64>>
     }
     index(store, span, &mut lines);
     Some(lines)
+}
+
+/// Takes a map of the heap for a call that changes it: of a short heap only where it is up to date.
+fn map_for_change<S: WordsMut>(store: &mut S, span: Span) -> Option<Vec<u64>>
+    requires { IsSpan (S.memory store.old) span }
+    ensures same { S.memory store.new ≡ S.memory store.old }
+    ensures index { IfSome result (λ lines. IsIndex lines.items (heap_in (S.memory store.old) span)) }
+    ensures long { IfSome result (λ lines. length (bytes_in (S.memory store.old) span) ≤ LINE_BYTES * (length lines.items / 2)) }
+{
+    if read(store, span, HEAP_BASE) < SHORT {
+        return take_map(store, span);
+    }
+    take_lines(store, span)
 }
 
 /// Lets the store keep a map of the heap that was taken from it, as the heap is now.
@@ -68,7 +96,7 @@ pub fn claim<S: WordsMut>(store: &mut S, span: Span, n: u32) -> Result<usize, He
     ensures { Leaves (S.memory store.old) (S.memory store.new) span
         (claim n (heap_in (S.memory store.old) span)) result }
 {
-    let Some(mut lines) = take_map(store, span) else {
+    let Some(mut lines) = map_for_change(store, span) else {
         return claim::claim(store, span, n);
     };
     let result = claim_in(store, span, &mut lines, n);
@@ -83,7 +111,7 @@ pub fn release<S: WordsMut>(store: &mut S, span: Span, address: usize) -> Result
     ensures { Leaves (S.memory store.old) (S.memory store.new) span
         (no_answer (released_at address (heap_in (S.memory store.old) span))) result }
 {
-    let Some(mut lines) = take_map(store, span) else {
+    let Some(mut lines) = map_for_change(store, span) else {
         return release::release(store, span, address);
     };
     let result = release_in(store, span, &mut lines, address);
@@ -104,7 +132,7 @@ pub fn resize<S: WordsMut>(
     ensures { Leaves (S.memory store.old) (S.memory store.new) span
         (resize address delta (heap_in (S.memory store.old) span)) result }
 {
-    let Some(mut lines) = take_map(store, span) else {
+    let Some(mut lines) = map_for_change(store, span) else {
         return resize::resize(store, span, address, delta);
     };
     let result = resize_in(store, span, &mut lines, address, delta);
@@ -121,7 +149,7 @@ pub fn extend_heap<S: WordsMut>(store: &mut S, span: Span, delta: i32) -> Result
     ensures { Leaves (S.memory store.old) (S.memory store.new) span
         (no_answer (extend delta (heap_in (S.memory store.old) span))) result }
 {
-    let Some(lines) = take_map(store, span) else {
+    let Some(lines) = map_for_change(store, span) else {
         return whole::extend_heap(store, span, delta);
     };
     let result = whole::extend_heap(store, span, delta);

@@ -1,18 +1,22 @@
-use Rattle.std.proofs.Common.{◌≡◌, ℕ, ◌+◌, length, take, ◌++◌, sym, ap, subst, arith}
+use Rattle.std.proofs.Common.{◌≡◌, ℕ, ◌+◌, length, length-append, length-drop, take, drop, replicate, ◌≤◌, ◌++◌, List, sym, ap, subst, ◌∙◌, arith}
 use Rattle.std.specs.Prelude.{Ok}
+use Rattle.std.proofs.lemmas.List.{append_assoc, length-take}
 use Rattle.rh_defs.specs.Module.{module_claim}
 use Rattle.rh_module.specs.Area.{heap_in}
 use Rattle.rh_defs.specs.Bytes.{word_bytes}
-use Rattle.rh_defs.specs.Messages.{encoded, parcel_size}
+use Rattle.rh_defs.specs.Messages.{code_number, encoded, parcel_size}
 use Rattle.rh_wimp.specs.Moves.{Turns}
 use Rattle.rh_defs.proofs.BlockLaws.{has-less}
+use Rattle.rh_defs.proofs.BytesLaws.{length-put}
+use Rattle.rh_defs.proofs.MessageLaws.{length-word_bytes}
 use Rattle.rh_defs.specs.Blocks.{HasBlock, poked}
-use Rattle.std.proofs.lemmas.List.{length-take}
-use Rattle.rh_wimp.proofs.CallLaws.{Claimed, claimed, claimed-block, wrote-block, first_bytes, placed-there}
+use Rattle.rh_wimp.proofs.CallLaws.{Claimed, claimed, claimed-block, parcel_bytes, parcel_head, placed-there}
 use Rattle.rh_wimp.proofs.placing.place.Goals as goal
 use Rattle.rh_wimp.proofs.placing.place.Goals.{In_ok-block}
 use Rattle.rh_wimp.proofs.placing.place.Given as given
+use borrow.Rule.Slice.PartMut.{put_mid}
 
+<<<<<<< HEAD
 took : (g : given.Over) (c : In_ok-block g) → Claimed (g.S.Words.memory c.args.store.now) (g.S.Words.memory c.claim.new.store) c.args.rma (8 + c.encode-length.result) c.in_ok-block.block
 took g c = claimed (g.S.Words.memory c.args.store.now) (g.S.Words.memory c.claim.new.store) c.args.rma (8 + c.encode-length.result) c.in_ok-block.block c.in_ok-block.ensures
 
@@ -51,3 +55,37 @@ returns-clause-placed g c =
     subst (λ i. Turns (g.S.Words.memory c.args.store.now) (g.S.Words.memory c.write_bytes.new.store) c.args.rma (poked there.1 0 (word_bytes 0 ++ (word_bytes i ++ encoded c.args.message.now)) there.0)) c.number.ensures (
     subst (λ l. Turns (g.S.Words.memory c.args.store.now) (g.S.Words.memory c.write_bytes.new.store) c.args.rma (poked there.1 0 (word_bytes 0 ++ (word_bytes c.number.result ++ l)) there.0)) enc
     (done there (subst (λ k. module_claim (g.S.Words.memory c.args.store.now).free k (heap_in (g.S.Words.memory c.args.store.now) c.args.rma) ≡ Ok there) (sym size) e)))
+=======
+took : (g : given.Over) (c : In_ok-block g) → Claimed (g.S.Words.memory c.args.store.now) (g.S.Words.memory c.claim.new.store) c.args.rma (8 + c.encode_into-length.result) c.in_ok-block.block
+took g c = claimed (g.S.Words.memory c.args.store.now) (g.S.Words.memory c.claim.new.store) c.args.rma (8 + c.encode_into-length.result) c.in_ok-block.block c.in_ok-block.ensures
+
+pub write_bytes-requires-clause-block : goal.write_bytes-requires-clause-block
+write_bytes-requires-clause-block g c =
+    let n : ℕ = 8 + c.encode_into-length.result in
+    let parcel : List ℕ = put_mid 8 256 c.put_word.new.out c.encode_into-length.new.out in
+    let l = length-take n parcel in
+    has-less c.in_ok-block.block n (0 + length (take n parcel)) (heap_in (g.S.Words.memory c.claim.new.store) c.args.rma) (omega arith)
+    (claimed-block (g.S.Words.memory c.args.store.now) (g.S.Words.memory c.claim.new.store) c.args.rma n c.in_ok-block.block (took g (goal.at.write_bytes-requires-clause-block g c).In_ok-block))
+
+pub returns-clause-placed : goal.returns-clause-placed
+returns-clause-placed g c =
+    let n : ℕ = c.encode_into-length.result in
+    let code : ℕ = c.number.result in
+    let size : 8 + n ≡ parcel_size c.args.message.now = ap (λ n. 8 + n) c.encode_into-length.ensures.length in
+    let head = parcel_head code c.put_word.new.out c.put_word.ensures in
+    let eight : length (take 8 c.put_word.new.out) ≡ 8 = ap length head ∙ omega (arith, length-word_bytes 0, length-word_bytes code, length-append (word_bytes 0) (word_bytes code)) in
+    let p : List ℕ = c.put_word.new.out in
+    let whole : length p ≡ 264 = ap length c.put_word.ensures ∙ length-put (replicate 264 0) 4 (word_bytes code) in
+    let room : n ≤ length (take 256 (drop 8 p)) = omega (arith, c.encode_into-length.ensures.short, length-take 256 (drop 8 p), length-drop 8 p) in
+    let parcel : List ℕ = take (8 + n) (put_mid 8 256 c.put_word.new.out c.encode_into-length.new.out) in
+    let there : parcel ≡ word_bytes 0 ++ (word_bytes (code_number c.args.code) ++ encoded c.args.message.now) =
+    parcel_bytes (take 256 (drop 8 p)) _ _ c.args.message.now n c.encode_into-length.new.out eight c.encode_into-length.ensures.length room c.encode_into-length.ensures.bytes
+    ∙ ap (λ h. h ++ encoded c.args.message.now) head
+    ∙ append_assoc (word_bytes 0) (word_bytes code) (encoded c.args.message.now)
+    ∙ ap (λ i. word_bytes 0 ++ (word_bytes i ++ encoded c.args.message.now)) c.number.ensures in
+    let done = placed-there (g.S.Words.memory c.args.store.now) (g.S.Words.memory c.claim.new.store) (g.S.Words.memory c.write_bytes.new.store) c.args.rma (8 + n) c.in_ok-block.block parcel
+    (took g (goal.at.returns-clause-placed g c).In_ok-block) c.write_bytes.ensures in
+    λ h e.
+    subst (λ l. Turns (g.S.Words.memory c.args.store.now) (g.S.Words.memory c.write_bytes.new.store) c.args.rma (poked h.1 0 l h.0)) there
+    (done h (subst (λ k. module_claim (g.S.Words.memory c.args.store.now).free k (heap_in (g.S.Words.memory c.args.store.now) c.args.rma) ≡ Ok h) (sym size) e))
+>>>>>>> origin/main

@@ -9,5 +9,5 @@ pub invariant_of-self : goal.invariant_of-self
 invariant_of-self g c =
     let m = g.S.Words.memory c.self.inside.store in
     let xs = part (bytes m c.args.id.0) c.args.at c.args.n in
-    rw c.copy.ensures (kept_written m _ _ c.args.id2.0 c.args.at2 _ _ c.self.invariant c.forget.ensures
+    rw c.copy.ensures (kept_written m _ _ _ c.args.id2.0 c.args.at2 _ _ c.self.invariant c.forget.ensures
     (put_outside (bytes m c.args.id2.0) c.args.at2 xs _ (omega (arith, length-part (bytes m c.args.id.0) c.args.at c.args.n))))

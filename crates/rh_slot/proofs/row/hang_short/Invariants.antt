@@ -1,6 +1,6 @@
 use Rattle.std.proofs.Common.{◌-◌}
 use Rattle.rh_slot.specs.Row.{Hangs}
-use Rattle.rh_slot.proofs.row.hang.Given as goal
+use Rattle.rh_slot.proofs.row.hang_short.Given as goal
 
 abbrev pub invariant-walk : goal.invariant-walk
 invariant-walk g l = Hangs (g.S.Words.memory l.initial.store) (g.S.Words.memory l.store) l.area.0 l.from l.n l.place

@@ -1,7 +1,7 @@
 use Rattle.std.proofs.Common.{arith}
 use Rattle.rh_defs.proofs.MemoryLaws.{Edited-self, Edited-wider, Edited-both}
 use Rattle.rh_slot.proofs.ShiftLaws.{hanging_start, hanging_end, turn, room}
-use Rattle.rh_slot.proofs.row.hang.Goals as goal
+use Rattle.rh_slot.proofs.row.hang_short.Goals as goal
 
 pub walk-init : goal.walk-init
 walk-init g c = record { only = Edited-self _ _ _ _ c.requires.opened; walk = hanging_start _ _ _ c.requires.row }

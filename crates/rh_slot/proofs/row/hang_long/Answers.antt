@@ -1,0 +1,33 @@
+-- Each turn hangs one block, and those behind it in its page.
+use Rattle.std.proofs.Common.{refl, arith}
+use Rattle.rh_defs.proofs.MemoryLaws.{Edited-wider}
+use Rattle.rh_slot.proofs.ShiftLaws.{apart_start, apart_end, apart_room, turn_apart}
+use Rattle.rh_slot.proofs.row.hang_long.Goals as goal
+
+pub walk-init : goal.walk-init
+walk-init g c = apart_start _ _ _ _ _ c.requires.row (omega (arith, c.requires.within, c.requires.low)) refl c.copy_out.ensures
+
+pub read-anchor-requires-clause-within : goal.read-anchor-requires-clause-within
+read-anchor-requires-clause-within g c = omega (arith, apart_room _ _ _ _ _ c.walk.invariant c.walk-test.true, c.requires.within)
+
+pub read-size-requires-clause-within : goal.read-size-requires-clause-within
+read-size-requires-clause-within g c = omega (arith, apart_room _ _ _ _ _ c.walk.invariant c.walk-test.true, c.requires.within)
+
+pub hang_one-behind-requires-clause-least : goal.hang_one-behind-requires-clause-least
+hang_one-behind-requires-clause-least g c =
+    (turn_apart _ _ _ _ _ _ _ c.walk.invariant c.walk-test.true c.requires.low c.requires.within (g.met.S.Words.small c.args.store.now c.args.area.0) c.read-anchor.ensures.value c.read-size.ensures.value).least
+
+pub hang_one-behind-requires-clause-within : goal.hang_one-behind-requires-clause-within
+hang_one-behind-requires-clause-within g c =
+    (turn_apart _ _ _ _ _ _ _ c.walk.invariant c.walk-test.true c.requires.low c.requires.within (g.met.S.Words.small c.args.store.now c.args.area.0) c.read-anchor.ensures.value c.read-size.ensures.value).within
+
+pub hang_in_page-place-requires-clause-walk : goal.hang_in_page-place-requires-clause-walk
+hang_in_page-place-requires-clause-walk g c =
+    (turn_apart _ _ _ _ _ _ _ c.walk.invariant c.walk-test.true c.requires.low c.requires.within (g.met.S.Words.small c.args.store.now c.args.area.0) c.read-anchor.ensures.value c.read-size.ensures.value).next _ _
+    c.hang_one-behind.ensures.anchors c.hang_one-behind.ensures.next
+
+pub returns-clause-hung : goal.returns-clause-hung
+returns-clause-hung g c = apart_end _ _ _ _ _ _ c.walk.invariant c.write_bytes.ensures.value c.walk-test.false
+
+pub returns-clause-only : goal.returns-clause-only
+returns-clause-only g c = Edited-wider _ _ _ _ _ _ _ c.write_bytes.ensures.only (omega arith) (omega (arith, c.walk.invariant.long))
