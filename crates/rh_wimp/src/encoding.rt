@@ -139,8 +139,6 @@ pub(crate) fn encode_into(message: &Message, out: &mut [u8]) -> usize
         out,
     )
 }
-<<<<<<< HEAD
-=======
 
 /// Writes a message block, and answers its length; the bytes beyond it stay as they were.
 pub fn encode(message: &Message, out: &mut [u8; MOST_LENGTH]) -> usize
@@ -151,4 +149,3 @@ pub fn encode(message: &Message, out: &mut [u8; MOST_LENGTH]) -> usize
 {
     encode_into(message, out)
 }
->>>>>>> origin/main

@@ -16,13 +16,8 @@ ghost use Rattle.rh_wimp.specs.declared.layout.TheConstants.{MESSAGE, MY_REF};
 
 use crate::bytes::put_word;
 use crate::chain::Entry;
-<<<<<<< HEAD
-use crate::encoding::encode;
-use crate::layout::{CODE, LINK, MESSAGE, MOST_LENGTH, MY_REF};
-=======
 use crate::encoding::encode_into;
 use crate::layout::{CODE, LINK, MESSAGE, MOST_PARCEL, MY_REF};
->>>>>>> origin/main
 use rh_defs::{EventCode, Message, Ref, Refusal};
 use rh_module::Module;
 use rh_store::{Pages, Words};
@@ -42,20 +37,11 @@ pub fn place<S: Pages>(
     ensures fits { Fits message.now }
     ensures err { OnErr result (S.memory store.new ≡ S.memory store.old) }
 {
-<<<<<<< HEAD
-    let mut bytes = [0u8; MOST_LENGTH];
-    let length = encode(message, &mut bytes);
-    let block = rma.claim(store, (MESSAGE + length) as u32)?;
-    rma.write_word(store, block, LINK, 0);
-    rma.write_word(store, block, CODE, code.number());
-    rma.write_bytes(store, block, MESSAGE, &bytes[..length]);
-=======
     let mut parcel = [0u8; MOST_PARCEL];
     put_word(&mut parcel, CODE, code.number());
     let length = MESSAGE + encode_into(message, &mut parcel[MESSAGE..]);
     let block = rma.claim(store, length as u32)?;
     rma.write_bytes(store, block, LINK, &parcel[..length]);
->>>>>>> origin/main
     Ok(block)
 }
 
