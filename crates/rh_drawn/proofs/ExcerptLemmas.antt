@@ -1,5 +1,5 @@
 -- Replies as they are kept: how many lines they have, and what their front shows.
-use Rattle.std.proofs.Common.{◌≡◌, ℕ, zero, suc, ◌+◌, ◌-◌, ◌/◌, ◌%◌, ◌<◌, ◌≤◌, Bool, true, false, eqb, refl, ap, ap₂, sym, subst, ◌∙◌, arith, List, [], ◌∷◌, ◌++◌, append-nil, append_assoc, length, take, drop, Option, Some, None, Result, Ok, Err}
+use Rattle.std.proofs.Common.{◌≡◌, ℕ, zero, suc, ◌+◌, ◌/◌, ◌%◌, ◌<◌, ◌≤◌, Bool, true, false, eqb, refl, ap, ap₂, sym, subst, ◌∙◌, arith, List, [], ◌∷◌, ◌++◌, append-nil, append_assoc, length, take, drop, Some, None, Result, Ok, Err}
 use Rattle.std.specs.Prelude.{codes, if◌then◌else◌, max, nat_le, nat_lt, slice_index, ◌==◌}
 use Rattle.std.specs.Fmt.{decimal, digit_glyph, digits, digits_onto}
 use Rattle.std.specs.List.{AllByRecursion}
@@ -21,17 +21,16 @@ use Rattle.rh_defs.specs.Listing.{Nothing}
 use Rattle.rh_defs.specs.Messages.{code_number}
 use Rattle.rh_defs.specs.Script.{ended, onto_line, unended}
 use Rattle.rh_defs.specs.Text.{Words, action_name, address, fault_text, first_line, line, on_or_off, outcome_words, refusal_name, rest_of_line}
-use Rattle.rh_feed.proofs.LineLemmas.{NoFeed, ended_first, ended_none, no_feed_join, no_feed_open, unended_all, unended_first}
-use Rattle.rh_figure.specs.Map.{reply_lines}
+use Rattle.rh_feed.proofs.LineLemmas.{NoFeed, ended_first, ended_none, no_feed_join, no_feed_open, unended_first}
 use Rattle.rh_figure.specs.Phrases.{cut}
-use Rattle.rh_lines.specs.Flow.{Breaks, Holding, Output, Puts, Takes}
+use Rattle.rh_lines.specs.Flow.{Holding, Output, Puts}
 use Rattle.rh_map.specs.Replies.{excerpt_lines, lines_in}
 use Rattle.rh_map.proofs.SeamLemmas.{whole-reply}
 use Rattle.rh_drawn.specs.Replies.{Excerpts}
 
 -- ---- how many lines end
 
-onto-long : (b : ℕ) (ls : List (List ℕ)) → length (onto_line b ls) ≡ length ls
+pub onto-long : (b : ℕ) (ls : List (List ℕ)) → length (onto_line b ls) ≡ length ls
 onto-long b [] = refl
 onto-long b (l ∷ ls) = refl
 
@@ -82,10 +81,10 @@ digits-open : (base : ℕ) (upper : Bool) (n : ℕ) → NoFeed (digits base uppe
 unfolding digits
 digits-open base upper n = onto-open 64 base upper n [] tt
 
-decimal-open : (n : ℕ) → NoFeed (decimal n)
+pub decimal-open : (n : ℕ) → NoFeed (decimal n)
 decimal-open n = digits-open 10 false n
 
-address-open : (n : ℕ) → NoFeed (address n)
+pub address-open : (n : ℕ) → NoFeed (address n)
 unfolding address
 address-open n = (refl, digits-open 16 true n)
 
@@ -127,7 +126,7 @@ switch-open : (on : Bool) → NoFeed (on_or_off on)
 switch-open true = no_feed_open (codes "on") refl
 switch-open false = no_feed_open (codes "off") refl
 
-abbrev AreOpen : Words → Type 0
+abbrev pub AreOpen : Words → Type 0
 AreOpen words = AllByRecursion NoFeed words
 
 outcome-open : (o : Outcome) → AreOpen (outcome_words o)
@@ -154,7 +153,7 @@ pub record OneLine (text : List ℕ) : Type 0 where
   pub open_ : NoFeed words
   pub is : text ≡ words ++ 10 ∷ []
 
-rest-one : (ws : Words) → AreOpen ws → OneLine (rest_of_line ws)
+pub rest-one : (ws : Words) → AreOpen ws → OneLine (rest_of_line ws)
 rest-one [] all = record { words = []; open_ = tt; is = refl }
 rest-one (w ∷ ws) all =
     let r = rest-one ws all.1 in
@@ -164,7 +163,7 @@ rest-one (w ∷ ws) all =
       is = ap (λ z. 32 ∷ (w ++ z)) r.is ∙ ap (λ z. 32 ∷ z) (sym (append_assoc w r.words (10 ∷ [])));
     }
 
-line-one : (w : List ℕ) (ws : Words) → NoFeed w → AreOpen ws → OneLine (line w ws)
+pub line-one : (w : List ℕ) (ws : Words) → NoFeed w → AreOpen ws → OneLine (line w ws)
 line-one w ws here all =
     let r = rest-one ws all in
     record { words = w ++ r.words; open_ = no_feed_join w r.words here r.open_; is = ap (λ z. w ++ z) r.is ∙ sym (append_assoc w r.words (10 ∷ [])) }

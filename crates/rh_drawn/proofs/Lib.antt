@@ -11,4 +11,5 @@ mod RunLemmas
 mod CardLemmas
 mod HeapLemmas
 mod ExcerptLemmas
+mod AnswerLemmas
 mod StepLemmas

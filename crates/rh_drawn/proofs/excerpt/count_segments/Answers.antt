@@ -1,4 +1,4 @@
-use Rattle.std.proofs.Common.{◌≡◌, [], ap, refl, arith}
+use Rattle.std.proofs.Common.{[], ap, refl, arith}
 use Rattle.std.specs.Option.{option_map}
 use Rattle.rh_defs.specs.Desk.{Task}
 use Rattle.rh_sight.specs.declared.sight.HeapOf.TheVariants as heap_of
