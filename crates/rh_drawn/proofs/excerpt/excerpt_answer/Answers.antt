@@ -1,4 +1,4 @@
-use Rattle.std.proofs.Common.{◌≡◌, ℕ, length, sym, subst}
+use Rattle.std.proofs.Common.{ℕ, length, sym, subst}
 use Rattle.rh_defs.specs.Questions.{asked}
 use Rattle.rh_defs.specs.Script.{ended}
 use Rattle.rh_defs.specs.Text.{answer_text}
