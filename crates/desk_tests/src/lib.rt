@@ -7,6 +7,8 @@ mod faults;
 #[cfg(test)]
 mod files;
 #[cfg(test)]
+mod maps;
+#[cfg(test)]
 mod memory;
 #[cfg(test)]
 mod same;

@@ -1,4 +1,5 @@
--- What the program's words may be: `run [--pages N] SCRIPT [NAME=PATH ...]`, and `check [--slot] FILE`.
+-- What the program's words may be: `run [--pages N] SCRIPT [NAME=PATH ...]`, `map` with the same words and `--marked`, and
+-- `check [--slot] FILE`.
 use Rattle.std.specs.Prelude.{Some, codes, pos, true}
 use Rattle.clap.specs.Lexer.{usize_max}
 use Rattle.clap.specs.Simple.{App, new_app, new_rule, on_top, with_rule, with_subcommand}
@@ -29,6 +30,14 @@ files_rule = record (new_rule (codes "files")) {
 abbrev pub run_words : App
 run_words = with_rule (with_rule (with_rule (new_app (codes "run")) pages_rule) (needed_rule (codes "script"))) files_rule
 
+-- `--marked`, with no word behind it
+abbrev pub marked_rule : Rule
+marked_rule = record (new_rule (codes "marked")) { long = Some (codes "marked"); action = Some SetTrue }
+
+abbrev pub map_words : App
+map_words =
+    with_rule (with_rule (with_rule (with_rule (new_app (codes "map")) pages_rule) marked_rule) (needed_rule (codes "script"))) files_rule
+
 -- `--slot`
 abbrev pub slot_rule : Rule
 slot_rule = record (new_rule (codes "slot")) { long = Some (codes "slot"); action = Some SetTrue }
@@ -41,4 +50,4 @@ abbrev pub program_top : App
 program_top = on_top (λ shape. record shape { has_version = true; subcommand_required = true }) (new_app (codes "vervainfile"))
 
 abbrev pub program_words : App
-program_words = with_subcommand (with_subcommand program_top run_words.top) check_words.top
+program_words = with_subcommand (with_subcommand (with_subcommand program_top run_words.top) map_words.top) check_words.top

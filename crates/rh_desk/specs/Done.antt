@@ -1,10 +1,12 @@
 -- What the program has read, written and told when it did what its words ask for.
-use Rattle.std.specs.Prelude.{◌≡◌, ◌≢◌, ◌⊎◌, ◌≤◌, ℕ, List, [], map, codes, length, true, false, All, Contains, Option, IfSome}
+use Rattle.std.specs.Prelude.{◌≡◌, ◌≢◌, ◌⊎◌, ◌≤◌, ℕ, Bool, List, [], map, codes, length, true, false, All, Contains, Option, IfSome}
 use Rattle.clap.specs.Words.{HasKind, fault_of, kind_of, subcommand_of}
 use Rattle.clap.specs.declared.error.Error.{Error}
 use Rattle.clap.specs.declared.error.kind.ErrorKind.{ErrorKind}
 use Rattle.clap.specs.declared.error.kind.ErrorKind.TheVariants as kind
 use Rattle.rh_defs.specs.Desk.{Desk}
+use Rattle.rh_drawn.specs.Mapped.{Mapped, MappedSoFar, MappedUntil}
+use Rattle.rh_figure.specs.Map.{place}
 use Rattle.rh_defs.specs.Files.{FileList}
 use Rattle.rh_defs.specs.Runs.{start}
 use Rattle.rh_defs.specs.declared.sizes.TheConstants.{LONGEST_FILE}
@@ -26,6 +28,8 @@ use Rattle.rh_desk.specs.declared.request.ImageKind.{ImageKind}
 use Rattle.rh_desk.specs.declared.request.ImageKind.TheVariants.{Heap, Slot}
 use Rattle.rh_desk.specs.declared.request.Request.{Request}
 use Rattle.rh_desk.specs.declared.request.Request.TheVariants.{Check, Run}
+use Rattle.rh_desk.specs.declared.request.Shown.{Shown}
+use Rattle.rh_desk.specs.declared.request.Shown.TheVariants.{Replies, Map}
 
 -- the input, the output and the errors before and after: what is read, written and told
 pub record Streams : Type 0 where
@@ -63,36 +67,60 @@ RunOver d s BadLines = Finished d s.before s.after s.old s.new status.BadLines �
 RunOver d s WrongWords = ⊥
 RunOver d s Fault = (fault : RunFault) × Stopped d s fault × Tells s.quiet s.told (run_fault_text fault)
 
+-- what was read and written where a fault stopped a map, of which marked steps alone may be shown
+abbrev pub MapStopped : Bool → Desk → Streams → RunFault → Type 0
+MapStopped marked d s NoMemory = Untouched s
+MapStopped marked d s ReadFailed =
+    (s.after.failed ≡ true) × MappedSoFar marked (place d 0 false) s.before s.after s.old s.new
+MapStopped marked d s TooLong =
+    (s.after.reads ≡ 1000000) × (s.after.failed ≡ s.before.failed)
+    × MappedSoFar marked (place d 0 false) s.before s.after s.old s.new
+MapStopped marked d s WriteFailed = MappedUntil marked (place d 0 false) s.before s.after s.old s.new
+
+-- how a map of a script over a desk ends, as a run does
+abbrev pub MapOver : Bool → Desk → Streams → Ending → Type 0
+MapOver marked d s Clean =
+    Mapped marked (place d 0 false) s.before s.after s.old s.new status.Clean × (s.told ≡ s.quiet)
+MapOver marked d s BadLines =
+    Mapped marked (place d 0 false) s.before s.after s.old s.new status.BadLines × (s.told ≡ s.quiet)
+MapOver marked d s WrongWords = ⊥
+MapOver marked d s Fault = (fault : RunFault) × MapStopped marked d s fault × Tells s.quiet s.told (run_fault_text fault)
+
+-- the same by what is written of the script
+abbrev pub ShownOver : Shown → Desk → Streams → Ending → Type 0
+ShownOver Replies d s ending = RunOver d s ending
+ShownOver (Map marked) d s ending = MapOver marked d s ending
+
 -- the same streams, where some file of which nothing was read stands in the input's place
 abbrev pub instead : Option (List ℕ) → Input → Streams → Streams
 instead left rest s = record s { before = record { left = left; failed = false; reads = 0 }; after = rest }
 
 -- how the script of a file ends: its run, where the input stays, or the lost file, or want of memory, is told
-abbrev pub FileOver : {F : Type 0} → (F → Option (List ℕ)) → Desk → List ℕ → Streams → Ending → Type 0
-FileOver {F} remaining d path s ending =
-    ((s.after ≡ s.before) × ((file : F) × (rest : Input) × RunOver d (instead (remaining file) rest s) ending))
+abbrev pub FileOver : {F : Type 0} → (F → Option (List ℕ)) → Shown → Desk → List ℕ → Streams → Ending → Type 0
+FileOver {F} remaining shown d path s ending =
+    ((s.after ≡ s.before) × ((file : F) × (rest : Input) × ShownOver shown d (instead (remaining file) rest s) ending))
     ⊎ (Untouched s × (ending ≡ Fault)
     × (Tells s.quiet s.told (lost_file_text path) ⊎ Tells s.quiet s.told (run_fault_text NoMemory)))
 
 -- how a script over good words and their files ends: `-` is the input, and all else a file's path
-pub record ScriptOver {F : Type 0} (remaining : F → Option (List ℕ)) (pages : ℕ) (script : List ℕ) (words : List (List ℕ)) (s : Streams) (ending : Ending) : Type 0 where
+pub record ScriptOver {F : Type 0} (remaining : F → Option (List ℕ)) (shown : Shown) (pages : ℕ) (script : List ℕ) (words : List (List ℕ)) (s : Streams) (ending : Ending) : Type 0 where
   pub files : FileList
   pub good : AreGood words
   pub named : map (λ file. file.0) files ≡ map word_name words
   pub whole : All (λ file. IsWhole remaining file.1) files
-  pub from_input : script ≡ codes "-" → RunOver (start pages files) s ending
-  pub from_file : script ≢ codes "-" → FileOver remaining (start pages files) script s ending
+  pub from_input : script ≡ codes "-" → ShownOver shown (start pages files) s ending
+  pub from_file : script ≢ codes "-" → FileOver remaining shown (start pages files) script s ending
 
 -- one of the words' files was lost, and its path told
 abbrev pub TellsLostFile : Output → Output → List (List ℕ) → Ending → Type 0
 TellsLostFile quiet told words ending =
     (word : List ℕ) × (ending ≡ Fault) × Contains words word × Tells quiet told (lost_file_text (word_path word))
 
--- how `run` ends: with its script, or before, where the first bad word is told, or want of memory, or of good words a
+-- how `run` and `map` end: with their script, or before, where the first bad word is told, or want of memory, or of good words a
 -- lost file
-abbrev pub RunEnds : {F : Type 0} → (F → Option (List ℕ)) → ℕ → List ℕ → List (List ℕ) → Streams → Ending → Type 0
-RunEnds remaining pages script words s ending =
-    ScriptOver remaining pages script words s ending
+abbrev pub RunEnds : {F : Type 0} → (F → Option (List ℕ)) → Shown → ℕ → List ℕ → List (List ℕ) → Streams → Ending → Type 0
+RunEnds remaining shown pages script words s ending =
+    ScriptOver remaining shown pages script words s ending
     ⊎ (Untouched s
     × (TellsBadWord s.quiet s.told words ending ⊎ (AreGood words × TellsLostFile s.quiet s.told words ending)))
 
@@ -126,7 +154,7 @@ CheckEnds remaining k path s ending =
 -- how what is asked for ends
 abbrev pub RequestEnds : {F : Type 0} → (F → Option (List ℕ)) → Request → Streams → Ending → Type 0
 RequestEnds remaining (Run request) s ending =
-    RunEnds remaining request.pages request.script.now (map (λ word. word.now) request.files.now) s ending
+    RunEnds remaining request.shown request.pages request.script.now (map (λ word. word.now) request.files.now) s ending
 RequestEnds remaining (Check k file) s ending = (s.after ≡ s.before) × CheckEnds remaining k file.now s ending
 
 -- how an error of some kind in the words ends: help and the version are written, all else is told

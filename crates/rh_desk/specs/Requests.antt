@@ -1,11 +1,13 @@
 -- What the words ask for, by the values that were found for each.
-use Rattle.std.specs.Prelude.{◌≡◌, ◌≢◌, ◌<◌, ◌^◌, ℕ, List, [], map, codes, Option, Some, None, unwrap_or}
+use Rattle.std.specs.Prelude.{◌≡◌, ◌≢◌, ◌<◌, ◌^◌, ℕ, Bool, true, false, List, [], map, codes, Option, Some, None, unwrap_or}
 use Rattle.std.specs.Str.Parse.{IsNumeral, digits_value, without_leading_plus}
 use Rattle.clap.specs.Words.{Row, Text, all_of, first_of, one_of}
 use Rattle.rh_desk.specs.declared.request.ImageKind.{ImageKind}
 use Rattle.rh_desk.specs.declared.request.ImageKind.TheVariants.{Heap, Slot}
 use Rattle.rh_desk.specs.declared.request.Request.{Request}
 use Rattle.rh_desk.specs.declared.request.Request.TheVariants.{Check, Run}
+use Rattle.rh_desk.specs.declared.request.Shown.{Shown}
+use Rattle.rh_desk.specs.declared.request.Shown.TheVariants.{Replies, Map}
 
 -- the number that is given, and else 64
 abbrev pub AsksPages : Option Text → ℕ → Type 0
@@ -19,6 +21,16 @@ abbrev pub AsksKind : Option Text → ImageKind → Type 0
 AsksKind None k = k ≡ Heap
 AsksKind (Some text) k = (text ≡ codes "true" → k ≡ Slot) × (text ≡ codes "false" → k ≡ Heap)
 
+-- whether marked steps alone are asked for
+abbrev pub AsksMarked : Option Text → Bool → Type 0
+AsksMarked None marked = marked ≡ false
+AsksMarked (Some text) marked = (text ≡ codes "true" → marked ≡ true) × (text ≡ codes "false" → marked ≡ false)
+
+-- what the subcommand's name and values ask to be written of a script
+abbrev pub AsksShown : Text → List Row → Shown → Type 0
+AsksShown name rows Replies = name ≢ codes "map"
+AsksShown name rows (Map marked) = (name ≡ codes "map") × AsksMarked (one_of (codes "marked") rows) marked
+
 -- the subcommand's name and values ask for just this
 abbrev pub AsksFor : Option (Text × List Row) → Request → Type 0
 AsksFor None request = ⊥
@@ -31,6 +43,7 @@ AsksFor (Some (name, rows)) (Run request) =
     × AsksPages (one_of (codes "pages") rows) request.pages
     × (first_of (codes "script") rows ≡ Some request.script.now)
     × (map (λ word. word.now) request.files.now ≡ unwrap_or (all_of (codes "files") rows) [])
+    × AsksShown name rows request.shown
 
 -- there is nothing that they ask for
 abbrev pub AsksNothing : Option (Text × List Row) → Type 0

@@ -1,11 +1,11 @@
 //! The program's words.
 
-ghost use Rattle.std.specs.Prelude.{◌≡◌, IfOk, IfSome, codes, map, string_bytes};
-ghost use Rattle.clap.specs.Words.{FailsBy, app_of, fault_of, found_of, one_of, rows_of, subcommand_of, subcommand_rows_of};
-ghost use Rattle.rh_desk.specs.CommandLine.{check_words, program_words, run_words};
-ghost use Rattle.rh_desk.specs.Requests.{AsksFor, AsksKind, AsksNothing};
+ghost use Rattle.std.specs.Prelude.{◌≡◌, IfOk, IfSome, codes, false, map, string_bytes};
+ghost use Rattle.clap.specs.Words.{FailsBy, app_of, fault_of, found_of, one_of, rows_of, rule_of, subcommand_of, subcommand_rows_of};
+ghost use Rattle.rh_desk.specs.CommandLine.{check_words, files_rule, map_words, needed_rule, pages_rule, program_words, run_words};
+ghost use Rattle.rh_desk.specs.Requests.{AsksFor, AsksKind, AsksNothing, AsksShown};
 
-use crate::request::{ImageKind, Request, RunRequest};
+use crate::request::{ImageKind, Request, RunRequest, Shown};
 use clap::{Arg, ArgAction, ArgMatches, Command, Error, value_parser};
 use rh_defs::sizes::{MAX_PAGES, MIN_PAGES};
 use std::alloc::{AllocError, Global};
@@ -16,6 +16,7 @@ pub const PAGES: u32 = 64;
 /// How the program is called.
 const USAGE: &str = "\
 vervainfile run [--pages N] SCRIPT [NAME=PATH ...]
+       vervainfile map [--pages N] [--marked] SCRIPT [NAME=PATH ...]
        vervainfile check [--slot] FILE
        vervainfile                 (with no words: the script on standard input, over 64 pages)";
 
@@ -53,6 +54,7 @@ pub fn request_of<'m, 'a>(matches: &'m ArgMatches<'a>) -> Option<Request<'m, 'a>
         pages,
         script,
         files,
+        shown: shown_of(name, found),
     }))
 }
 
@@ -64,6 +66,19 @@ fn image_kind(found: &ArgMatches<'_>) -> ImageKind
         ImageKind::Slot
     } else {
         ImageKind::Heap
+    }
+}
+
+/// What is to be written of a script by a subcommand with a name.
+fn shown_of(name: &str, found: &ArgMatches<'_>) -> Shown
+    ensures { AsksShown name.now (rows_of (found_of found.now)) result }
+{
+    if name == "map" {
+        Shown::Map {
+            marked: found.get_flag("marked"),
+        }
+    } else {
+        Shown::Replies
     }
 }
 
@@ -79,6 +94,7 @@ pub fn parsed<'a>(alloc: Global, words: &'a [String]) -> Result<ArgMatches<'a>, 
         .after_help(MORE)
         .subcommand_required(true)
         .subcommand(running(alloc)?)?
+        .subcommand(mapping(alloc)?)?
         .subcommand(checking(alloc)?)?
         .try_get_matches_from(words)
 }
@@ -86,27 +102,61 @@ pub fn parsed<'a>(alloc: Global, words: &'a [String]) -> Result<ArgMatches<'a>, 
 fn running<'a>(alloc: Global) -> Result<Command<'a>, AllocError>
     ensures { IfOk result (λ command. app_of command ≡ run_words) }
 {
-    let pages = Arg::new(alloc, "pages")
-        .long("pages")
-        .value_name("N")
-        .help("Pages of the desk, 8 to 1024 [default: 64]")
-        .value_parser(value_parser!(u32).range(MIN_PAGES as i64..MAX_PAGES as i64 + 1));
-    let script = Arg::new(alloc, "script")
-        .value_name("SCRIPT")
-        .help("The script, a command a line; - for standard input")
-        .required(true)
-        .action(ArgAction::Set);
-    let files = Arg::new(alloc, "files")
-        .value_name("NAME=PATH")
-        .help("Files that the script may load, each by a name of its own")
-        .num_args(0..)
-        .action(ArgAction::Append);
     Command::new(alloc, "run")
         .about("Run a script and print its replies")
         .after_help(MORE)
-        .arg(pages)?
-        .arg(script)?
-        .arg(files)
+        .arg(pages_arg(alloc))?
+        .arg(script_arg(alloc))?
+        .arg(files_arg(alloc))
+}
+
+fn pages_arg<'a>(alloc: Global) -> Arg<'a>
+    ensures rule { rule_of result ≡ pages_rule }
+    ensures local { result.global ≡ false }
+{
+    Arg::new(alloc, "pages")
+        .long("pages")
+        .value_name("N")
+        .help("Pages of the desk, 8 to 1024 [default: 64]")
+        .value_parser(value_parser!(u32).range(MIN_PAGES as i64..MAX_PAGES as i64 + 1))
+}
+
+fn script_arg<'a>(alloc: Global) -> Arg<'a>
+    ensures rule { rule_of result ≡ needed_rule (codes "script") }
+    ensures local { result.global ≡ false }
+{
+    Arg::new(alloc, "script")
+        .value_name("SCRIPT")
+        .help("The script, a command a line; - for standard input")
+        .required(true)
+        .action(ArgAction::Set)
+}
+
+fn files_arg<'a>(alloc: Global) -> Arg<'a>
+    ensures rule { rule_of result ≡ files_rule }
+    ensures local { result.global ≡ false }
+{
+    Arg::new(alloc, "files")
+        .value_name("NAME=PATH")
+        .help("Files that the script may load, each by a name of its own")
+        .num_args(0..)
+        .action(ArgAction::Append)
+}
+
+fn mapping<'a>(alloc: Global) -> Result<Command<'a>, AllocError>
+    ensures { IfOk result (λ command. app_of command ≡ map_words) }
+{
+    let marked = Arg::new(alloc, "marked")
+        .long("marked")
+        .help("Show marked steps alone: a line #picture marks the next")
+        .action(ArgAction::SetTrue);
+    Command::new(alloc, "map")
+        .about("Run a script and print a map of memory after each step")
+        .after_help(MORE)
+        .arg(pages_arg(alloc))?
+        .arg(marked)?
+        .arg(script_arg(alloc))?
+        .arg(files_arg(alloc))
 }
 
 fn checking<'a>(alloc: Global) -> Result<Command<'a>, AllocError>

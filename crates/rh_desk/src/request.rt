@@ -3,12 +3,20 @@
 ghost use Rattle.std.specs.Prelude.{◌≤◌};
 ghost use Rattle.rh_defs.specs.declared.sizes.TheConstants.{MAX_PAGES, MIN_PAGES};
 
-/// A run that is asked for: of a script over so many pages, with files.
+/// What is written of a script: the replies, or a map of all steps or of marked ones alone.
+#[derive(Clone, Copy)]
+pub enum Shown {
+    Replies,
+    Map { marked: bool },
+}
+
+/// A run that is asked for: of a script over so many pages, with files, and what is written of it.
 #[derive(Clone, Copy)]
 pub struct RunRequest<'m, 'a> {
     pub pages: u32,
     pub script: &'a str,
     pub files: &'m [&'a str],
+    pub shown: Shown,
     ghost fewest: { MIN_PAGES ≤ pages },
     ghost most: { pages ≤ MAX_PAGES },
 }

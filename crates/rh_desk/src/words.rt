@@ -2,7 +2,7 @@
 
 ghost use Rattle.std.specs.Prelude.{◌≡◌, ◌≢◌, ◌≤◌, ◌<◌, [], codes, length, map, string_bytes, IfOk, IfErr};
 ghost use Rattle.rh_defs.specs.Runs.{start};
-ghost use Rattle.rh_desk.specs.Done.{CheckEnds, RunEnds, RunOver, WordsEnd, line_as, status_as, streams};
+ghost use Rattle.rh_desk.specs.Done.{CheckEnds, MapOver, RunEnds, RunOver, ShownOver, WordsEnd, line_as, status_as, streams};
 ghost use Rattle.rh_desk.specs.Ending.{ending_of, exit_status};
 ghost use Rattle.rh_desk.specs.Telling.{Tells, run_fault_text};
 ghost use Rattle.rh_lines.specs.Flow.{Breaks, Input, Takes};
@@ -14,11 +14,11 @@ ghost use Rattle.rh_defs.specs.declared.sizes.TheConstants.{MAX_PAGES, MIN_PAGES
 use crate::command_line::{PAGES, parsed, request_of};
 use crate::ending::Ending;
 use crate::files::{check_words, read_files, read_whole};
-use crate::request::{ImageKind, Request, RunRequest};
+use crate::request::{ImageKind, Request, RunRequest, Shown};
 use crate::telling::{ended, tell_file, told};
 use rh_defs::Files;
 use rh_lines::{Flagged, Sink, Source, put};
-use rh_run::{RunFault, Status, check_image, check_slot_image, run};
+use rh_run::{RunFault, Status, check_image, check_slot_image, draw_map, run};
 use std::alloc::Global;
 use std::fs::File;
 use std::{io, rt};
@@ -106,6 +106,50 @@ fn run_told<I: Source, O: Sink, E: Sink>(
     ended(run(alloc, files, script, output, pages), errors)
 }
 
+/// Writes the map of a script over so many pages with these files, and tells the fault that stopped it, if one did.
+fn map_told<I: Source, O: Sink, E: Sink>(
+    alloc: Global,
+    files: Files,
+    pages: u32,
+    marked: bool,
+    script: &mut I,
+    output: &mut O,
+    errors: &mut E,
+) -> Ending
+    requires least { MIN_PAGES ≤ pages }
+    requires most { pages ≤ MAX_PAGES }
+    requires fresh { (I.input script.old).reads ≡ 0 }
+    ensures well { exit_status result ≤ 1 → (O.output output.new).failed ≡ (O.output output.old).failed }
+    ensures run { result ≡ Ending.WrongWords → ⊥ }
+    ensures over { MapOver marked (start pages files)
+        (streams (I.input script.old) (I.input script.new) (O.output output.old) (O.output output.new) (E.output errors.old) (E.output errors.new)) result }
+{
+    ended(draw_map(alloc, files, script, output, pages, marked), errors)
+}
+
+/// Writes what is to be written of a script, and tells the fault that stopped it, if one did.
+fn show_told<I: Source, O: Sink, E: Sink>(
+    alloc: Global,
+    files: Files,
+    request: &RunRequest<'_, '_>,
+    script: &mut I,
+    output: &mut O,
+    errors: &mut E,
+) -> Ending
+    requires { (I.input script.old).reads ≡ 0 }
+    ensures well { exit_status result ≤ 1 → (O.output output.new).failed ≡ (O.output output.old).failed }
+    ensures run { result ≡ Ending.WrongWords → ⊥ }
+    ensures over { ShownOver request.now.shown (start request.now.pages files)
+        (streams (I.input script.old) (I.input script.new) (O.output output.old) (O.output output.new) (E.output errors.old) (E.output errors.new)) result }
+{
+    match request.shown {
+        Shown::Replies => run_told(alloc, files, request.pages, script, output, errors),
+        Shown::Map { marked } => {
+            map_told(alloc, files, request.pages, marked, script, output, errors)
+        }
+    }
+}
+
 fn run_words<R: rt::Files, I: Source, O: Sink, E: Sink>(
     runtime: &R,
     alloc: Global,
@@ -135,7 +179,8 @@ fn run_words<R: rt::Files, I: Source, O: Sink, E: Sink>(
     }
 }
 
-/// Looks over the NAME=PATH words, reads their files, and runs the script from its file, or the input for `-`.
+/// Looks over the NAME=PATH words, reads their files, and runs the script from its file, or the input for `-`, or writes its
+/// map.
 fn run_request<R: rt::Files, I: Source, O: Sink, E: Sink>(
     runtime: &R,
     alloc: Global,
@@ -147,7 +192,7 @@ fn run_request<R: rt::Files, I: Source, O: Sink, E: Sink>(
     requires { (I.input input.old).reads ≡ 0 }
     ensures well { exit_status result ≤ 1 → (O.output output.new).failed ≡ (O.output output.old).failed }
     ensures wrong { result ≡ Ending.WrongWords → O.output output.new ≡ O.output output.old }
-    ensures ends { RunEnds R.File.remaining request.now.pages request.now.script.now (map (λ word. word.now) request.now.files.now)
+    ensures ends { RunEnds R.File.remaining request.now.shown request.now.pages request.now.script.now (map (λ word. word.now) request.now.files.now)
         (streams (I.input input.old) (I.input input.new) (O.output output.old) (O.output output.new) (E.output errors.old) (E.output errors.new)) result }
 {
     if let Err(ending) = check_words(alloc, request.files, errors) {
@@ -158,12 +203,12 @@ fn run_request<R: rt::Files, I: Source, O: Sink, E: Sink>(
         Err(ending) => return ending,
     };
     if request.script == INPUT {
-        return run_told(alloc, files, request.pages, input, output, errors);
+        return show_told(alloc, files, request, input, output, errors);
     }
     match File::open(runtime, request.script) {
         Ok(file) => {
             let mut reader = Flagged::new(file);
-            run_told(alloc, files, request.pages, &mut reader, output, errors)
+            show_told(alloc, files, request, &mut reader, output, errors)
         }
         Err(error) if error.kind() == io::ErrorKind::OutOfMemory => {
             ended(Err(RunFault::NoMemory), errors)

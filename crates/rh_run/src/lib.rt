@@ -1,12 +1,15 @@
-//! Runs a script over a world of scattered pages, and says whether bytes are a heap, or a slot.
+//! Runs a script over a world of scattered pages or draws its map, and says whether bytes are a heap, or a slot.
 #![tactic(auto)]
 
 mod checking;
+mod mapping;
 mod running;
+mod sight;
 mod slot_checking;
 mod world;
 
 pub use checking::check_image;
+pub use mapping::draw_map;
 pub use rh_session::{RunFault, Status};
 pub use running::run;
 pub use slot_checking::check_slot_image;

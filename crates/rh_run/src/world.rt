@@ -17,7 +17,7 @@ use std::alloc::{AllocError, Global};
 /// A world over scattered pages, with a map beside each heap.
 #[derive(Drop)]
 pub struct PagedWorld {
-    world: World<Mapped<PagedStore>>,
+    pub(crate) world: World<Mapped<PagedStore>>,
 }
 
 impl PagedWorld {

@@ -6,6 +6,7 @@ ghost use Rattle.rh_defs.specs.Heap.{Segment, place_after};
 ghost use Rattle.rh_defs.specs.Laws.{IsDesk};
 ghost use Rattle.rh_defs.specs.Listing.{block_items, segment_items_from};
 ghost use Rattle.rh_defs.specs.Desk.{Desk, Task, free_pages as free_pages_on, next_ref as next_ref_on};
+ghost use Rattle.rh_defs.specs.Records.{most_records};
 ghost use Rattle.rh_figure.specs.Share.{IsShared};
 ghost use Rattle.rh_sight.specs.declared.sight.TheConstants.{MOST_AT_ONCE};
 
@@ -118,11 +119,13 @@ pub trait Sight {
     fn spelled(&self)
         ensures { IsDesk (desk self.now) };
 
-    /// The task at a place in order of handle; None past the last.
+    /// The task at a place in order of handle, with at most 8 records each way; None past the last.
     fn task(&self, i: usize) -> Option<TaskSight<'_>>
         ensures some { IfSome result (λ s. (t : Task) × (slice_get (desk self.now).tasks i ≡ Some t) × IsTaskSeen s t) }
         ensures none { IfNone result (slice_get (desk self.now).tasks i ≡ None) }
-        ensures few { length (desk self.now).tasks ≤ 32 };
+        ensures few { length (desk self.now).tasks ≤ 32 }
+        ensures records { IfSome result (λ s. (length s.sending.now ≤ most_records)
+            × (length s.taking.now ≤ most_records)) };
 
     /// Puts the flex blocks of a task from below into a list, in place of what it held.
     fn blocks(&self, i: usize, items: &mut ArrayVec<BlockItem, ANCHORS>)

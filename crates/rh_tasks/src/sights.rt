@@ -7,6 +7,7 @@ ghost use Rattle.std.specs.Result.{MatchResult};
 ghost use Rattle.rh_defs.specs.Commands.{module_start};
 ghost use Rattle.rh_defs.specs.Desk.{next_ref as next_ref_on, task_at};
 ghost use Rattle.rh_defs.specs.Messages.{Parcel};
+ghost use Rattle.rh_defs.specs.Records.{most_records};
 ghost use Rattle.rh_wimp.specs.Items.{message_items, with_message};
 ghost use Rattle.rh_tasks.specs.Lists.{items_at};
 ghost use Rattle.rh_tasks.specs.Sights.{IsSeen, blocks_in, file_of, made_of_sight, module_shown, next_message as next_message_on, segments_in, slot_bytes};
@@ -68,11 +69,13 @@ fn fits(size: usize, offset: usize, n: usize) -> bool
 }
 
 impl<S: Store> World<S> {
-    /// Live task i in order of handle; None past the last of at most 32.
+    /// Live task i in order of handle, with at most 8 records each way; None past the last of at most 32.
     pub fn task(&self, i: usize) -> Option<TaskSight<'_>>
         ensures task { IsSeen result (slice_get self.now.desk.tasks i) }
         ensures live { IfSome result (λ s. task_at s.handle self.now.desk ≡ slice_get self.now.desk.tasks i) }
         ensures few { length self.now.desk.tasks ≤ 32 }
+        ensures records { IfSome result (λ s. (length s.sending.now ≤ most_records)
+            × (length s.taking.now ≤ most_records)) }
     {
         if i >= self.seats.len() {
             return None;

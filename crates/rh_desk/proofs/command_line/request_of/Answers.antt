@@ -24,7 +24,7 @@ returns-clause-asked c =
     (pages-are (λ bs r. ParsesUnsigned 32 10 bs r × ExplainsUnsignedError 10 bs r × HasUnsignedDigitsIfOk bs r) _ c.get_one.result (λ t x g. g.0) c.get_one.ensures.none c.get_one.ensures.value)) in
     let files : map (λ v. v.now) c.unwrap_or-files.result.now ≡ unwrap_or (all_of (codes "files") (rows_of (found_of c.in_ok-name.found.now))) [] =
     ap (λ s. map (λ v. v.now) s.now) c.unwrap_or-files.ensures ∙ words-are _ _ _ (c.get_strs.ensures ∙ raw_values-rows (found_of c.in_ok-name.found.now) (codes "files")) refl in
-    rw row (run, pages, script, files)
+    rw row (run, pages, script, files, c.shown_of.ensures)
 
 pub returns-in_err-file-clause-none : goal.returns-in_err-file-clause-none
 returns-in_err-file-clause-none c = λ none.

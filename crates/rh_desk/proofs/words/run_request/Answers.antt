@@ -6,34 +6,34 @@ use Rattle.rh_desk.proofs.words.run_request.Goals as goal
 pub returns-in-Err-read_files-clause-ends : goal.returns-in-Err-read_files-clause-ends
 returns-in-Err-read_files-clause-ends g c =
     rw (← c.in_default.ensures.quiet)
-    (files-fail g.R.File.Read.remaining _ _ _ _ _ c.in_default.ensures.good (refl, refl) c.in-Err-read_files.ensures.told)
+    (files-fail g.R.File.Read.remaining _ _ _ _ _ _ c.in_default.ensures.good (refl, refl) c.in-Err-read_files.ensures.told)
 
 pub returns-then-eq-clause-ends : goal.returns-then-eq-clause-ends
 returns-then-eq-clause-ends g c =
     let is : c.args.request.now.script.now ≡ codes "-" = search rules in
     rw (← (c.in-Ok.ensures.quiet ∙ c.in_default.ensures.quiet))
-    (script-over g.R.File.Read.remaining _ _ _ _ _ _ c.in_default.ensures.good c.in-Ok.ensures.named c.in-Ok.ensures.whole
-    (λ input. c.run_told.ensures.over) (λ other. absurd (other is)))
+    (script-over g.R.File.Read.remaining _ _ _ _ _ _ _ c.in_default.ensures.good c.in-Ok.ensures.named c.in-Ok.ensures.whole
+    (λ input. c.show_told.ensures.over) (λ other. absurd (other is)))
 
 pub returns-in-Ok-open-clause-ends : goal.returns-in-Ok-open-clause-ends
 returns-in-Ok-open-clause-ends g c =
     let other : c.args.request.now.script.now ≢ codes "-" = search rules in
     rw (← (c.in-Ok.ensures.quiet ∙ c.in_default.ensures.quiet))
-    (script-over g.R.File.Read.remaining _ _ _ _ _ _ c.in_default.ensures.good c.in-Ok.ensures.named c.in-Ok.ensures.whole
+    (script-over g.R.File.Read.remaining _ _ _ _ _ _ _ c.in_default.ensures.good c.in-Ok.ensures.named c.in-Ok.ensures.whole
     (λ is. absurd (other is))
-    (λ named. file-over g.R.File.Read.remaining _ c.args.request.now.script.now _ _ c.in-Ok-open.file c.new-reader.result.inner c.new-reader.result.failed c.new-reader.result.reads _
-    c.new-reader.ensures.inner c.new-reader.ensures.failed c.new-reader.ensures.reads refl c.run_told-in-Ok-open.ensures.over))
+    (λ named. file-over g.R.File.Read.remaining _ _ c.args.request.now.script.now _ _ c.in-Ok-open.file c.new-reader.result.inner c.new-reader.result.failed c.new-reader.result.reads _
+    c.new-reader.ensures.inner c.new-reader.ensures.failed c.new-reader.ensures.reads refl c.show_told-in-Ok-open.ensures.over))
 
 pub returns-in-Err-open-clause-ends : goal.returns-in-Err-open-clause-ends
 returns-in-Err-open-clause-ends g c =
     let other : c.args.request.now.script.now ≢ codes "-" = search rules in
     rw (← (c.in-Ok.ensures.quiet ∙ c.in_default.ensures.quiet))
-    (script-over g.R.File.Read.remaining _ _ _ _ _ _ c.in_default.ensures.good c.in-Ok.ensures.named c.in-Ok.ensures.whole
+    (script-over g.R.File.Read.remaining _ _ _ _ _ _ _ c.in_default.ensures.good c.in-Ok.ensures.named c.in-Ok.ensures.whole
     (λ is. absurd (other is)) (λ named. inr ((refl, refl), c.ended.ensures.ending, inr (c.ended.ensures.told NoMemory refl))))
 
 pub returns-clause-ends : goal.returns-clause-ends
 returns-clause-ends g c =
     let other : c.args.request.now.script.now ≢ codes "-" = search rules in
     rw (← (c.in-Ok.ensures.quiet ∙ c.in_default.ensures.quiet))
-    (script-over g.R.File.Read.remaining _ _ _ _ _ _ c.in_default.ensures.good c.in-Ok.ensures.named c.in-Ok.ensures.whole
+    (script-over g.R.File.Read.remaining _ _ _ _ _ _ _ c.in_default.ensures.good c.in-Ok.ensures.named c.in-Ok.ensures.whole
     (λ is. absurd (other is)) (λ named. inr ((refl, refl), c.tell_file.ensures.ending, inl c.tell_file.ensures.told)))

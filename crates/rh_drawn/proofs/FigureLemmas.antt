@@ -1,0 +1,62 @@
+-- The parts of a figure, one after the other.
+use Rattle.std.proofs.Common.{◌≡◌, refl, ap, sym, ◌∙◌, List, [], ◌∷◌, ◌++◌, map, append_assoc}
+use Rattle.std.specs.Prelude.{codes}
+use Rattle.std.specs.List.{flat_map, range_with_len}
+use Rattle.std.proofs.lemmas.List.FromFn.{length-map-range_with_len}
+use Rattle.std.proofs.lemmas.List.Folds.{flat_map-map}
+use Rattle.rh_defs.specs.Desk.{free_pages, task_at}
+use Rattle.rh_figure.specs.Changes.{block_changes, page_changes, post_changes, slide_change, slides}
+use Rattle.rh_figure.specs.Figure.{Panel, figure, owner_of, slot_panel}
+use Rattle.rh_figure.specs.Map.{figure_lines, marked_heading, panel_lines, pool_heading, pool_line}
+use Rattle.rh_figure.specs.Phrases.{Text}
+use Rattle.rh_figure.specs.Rows.{marks_rows, page_mark, pool_rows}
+use Rattle.rh_figure.specs.Scene.{Scene}
+use Rattle.rh_drawn.proofs.MarkLemmas.{map-twice}
+use Rattle.rh_drawn.specs.Parts.{area_part, block_part, change_part, letter_part, module_part, page_part, pool_part, post_part, slide_part, slot_panels, slot_part, transfer_part}
+use Rattle.rh_drawn.proofs.Walks.{indented-append}
+
+-- what has changed
+pub change-parts : (x : Scene) → change_part x ≡ page_part x ++ ((block_part x (task_at x.before.handle x.desk) ++ slide_part x) ++ post_part x)
+change-parts x =
+    let p = page_changes x in
+    let b = block_changes x (task_at x.before.handle x.desk) in
+    let s = slide_change (slides x) in
+    let q = post_changes x in
+    let blocks = block_part x (task_at x.before.handle x.desk) in
+    indented-append ((p ++ b) ++ s) q
+    ∙ (ap (λ z. z ++ post_part x) (indented-append (p ++ b) s
+    ∙ (ap (λ z. z ++ slide_part x) (indented-append p b) ∙ append_assoc (page_part x) blocks (slide_part x)))
+    ∙ append_assoc (page_part x) (blocks ++ slide_part x) (post_part x))
+
+abbrev pub behind_module : Scene → List Text
+behind_module x = letter_part x ++ (transfer_part x ++ [] ∷ [])
+
+abbrev pub behind_areas : Scene → List Text
+behind_areas x = slot_part x ++ (module_part x ++ behind_module x)
+
+abbrev pub behind_changes : Scene → List Text
+behind_changes x = ([] ∷ []) ++ (pool_part x ++ (area_part x ++ behind_areas x))
+
+six : (a b c d e f g : List Text) → ((((((a ++ b) ++ c) ++ d) ++ e) ++ f) ++ g) ≡ a ++ (b ++ (c ++ (d ++ (e ++ (f ++ g)))))
+six a b c d e f g = simp append_assoc
+
+-- all of it
+pub figure-parts : (x : Scene) → figure_lines (figure x) ≡ change_part x ++ behind_changes x
+unfolding figure
+figure-parts x =
+    let rows = pool_rows (figure x) in
+    let heading = pool_heading (figure x) in
+    ap (λ z. change_part x ++ (([] ∷ []) ++ (heading ∷ z)))
+    (ap (λ z. ((((((rows ++ area_part x) ++ z) ++ module_part x) ++ letter_part x) ++ transfer_part x) ++ [] ∷ []))
+    (flat_map-map (λ (p : Panel). panel_lines (marked_heading (slot_panels x) (codes "Slot ") p) p) (slot_panel x) x.desk.tasks)
+    ∙ six rows (area_part x) (slot_part x) (module_part x) (letter_part x) (transfer_part x) ([] ∷ []))
+
+-- ---- the pool
+
+pub pool-heading : (x : Scene) → pool_heading (figure x) ≡ pool_line (free_pages x.desk) x.desk.pool
+unfolding figure
+pool-heading x = ap (pool_line (free_pages x.desk)) (length-map-range_with_len (owner_of x) 0 x.desk.pool)
+
+pub pool-rows : (x : Scene) → pool_rows (figure x) ≡ marks_rows (map (λ k. page_mark (slot_panels x) (owner_of x k)) (range_with_len 0 x.desk.pool))
+unfolding figure
+pool-rows x = ap marks_rows (map-twice (page_mark (slot_panels x)) (owner_of x) (range_with_len 0 x.desk.pool))

@@ -1,0 +1,15 @@
+mod ReadLemmas
+mod MapLemmas
+mod Walks
+mod PageLemmas
+mod PostLemmas
+mod DrawingLemmas
+mod TransferLemmas
+mod FigureLemmas
+mod MarkLemmas
+mod RunLemmas
+mod CardLemmas
+mod HeapLemmas
+mod ExcerptLemmas
+mod AnswerLemmas
+mod StepLemmas

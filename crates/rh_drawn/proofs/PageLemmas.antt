@@ -1,0 +1,90 @@
+-- Owners of pages, and the pages that they have.
+use Rattle.std.proofs.Common.{◌≡◌, ℕ, zero, suc, ◌+◌, ◌<◌, ◌≤◌, ◌++◌, true, false, arith, refl, ap, sym, subst, ◌∙◌, List, [], ◌∷◌, length, drop, Option, Some, None}
+use Rattle.std.specs.Prelude.{IfSome, IsSome, slice_get, slice_index, if◌then◌else◌, ◌==◌, codes, nat_lt}
+use Rattle.std.specs.List.{enumerate_from}
+use Rattle.std.specs.Option.{option_map}
+use Rattle.std.proofs.lemmas.Bool.Decides.{nat_tests}
+use Rattle.std.proofs.lemmas.List.{drop_all, drop_more, length-drop}
+use Rattle.rh_defs.specs.Commands.{module_area}
+use Rattle.rh_defs.specs.Desk.{Desk, Made, Task, module_pages, task_pages}
+use Rattle.rh_defs.specs.Laws.{IsDesk, Rise}
+use Rattle.rh_figure.specs.Changes.{freed_line, freed_pages, freed_text, taken_line, taken_pages}
+use Rattle.rh_figure.specs.Phrases.{owner_name}
+use Rattle.rh_figure.specs.Scene.{Scene}
+use Rattle.rh_figure.specs.Share.{AreaOf, IsShared, Owner, SlotOf, count_of, holdings}
+use Rattle.rh_sight.specs.declared.sight.PagesOf.{PagesOf}
+use Rattle.rh_sight.specs.declared.sight.PagesOf.TheVariants as pages
+use Rattle.rh_sight.specs.Pages.{share_in}
+use Rattle.rh_sight.specs.Seen.{owner_seen}
+use Rattle.rh_drawn.specs.Parts.{indented, takes_part}
+use Rattle.rh_sight.proofs.Holders.{area-at, at-some, count-fixed, count-made, count-slot, room-of}
+
+pub is-some : {A : Type 0} {o : Option A} {x : A} → o ≡ Some x → IsSome o
+is-some {A} {o} {x} e = let P : Option A → Type 0 = λ z. IsSome z in subst P (sym e) refl
+
+-- a member's number is at least the first one
+rise-least : {A : Type 0} (number : A → ℕ) (least next : ℕ) (xs : List A) (i : ℕ) (x : A) → Rise number least next xs → slice_get xs i ≡ Some x → least ≤ number x
+rise-least number least next [] i x r e = absurd (cc)
+rise-least number least next (y ∷ ys) zero x r e = let k : y ≡ x = cc in subst (λ z. least ≤ number z) k r.0
+rise-least number least next (y ∷ ys) (suc i) x r e =
+    let k : number y + 1 ≤ number x = rise-least number (number y + 1) next ys i x r.1 e in
+    omega (arith, r.0)
+
+-- ---- who has the pages that are looked at
+module _ {d : Desk} (is : IsDesk d) where
+  pub seen-fixed : (number : ℕ) → number < 6 → owner_seen (pages.Fixed number) d ≡ Some (AreaOf number)
+  seen-fixed number low = ap (option_map (λ _. AreaOf number)) (area-at is number low)
+
+  pub seen-made : (i : ℕ) (m : Made) → slice_get d.made i ≡ Some m → owner_seen (pages.Made i) d ≡ Some (AreaOf m.number)
+  seen-made i m e = ap (option_map (λ (n : Made). AreaOf n.number)) e
+
+  pub seen-slot : (i : ℕ) (t : Task) → slice_get d.tasks i ≡ Some t → owner_seen (pages.Slot i) d ≡ Some (SlotOf t.handle)
+  seen-slot i t e = ap (option_map (λ (n : Task). SlotOf n.handle)) e
+
+  pub made-above : (i : ℕ) (m : Made) → slice_get d.made i ≡ Some m → 5 < m.number
+  made-above i m e = let k = rise-least (λ (n : Made). n.number) 256 d.next_area d.made i m is.made.numbers e in omega (arith, k)
+
+  -- how many pages they are
+  module _ (numbers : List ℕ) (shared : IsShared (share_in numbers d) d) where
+    pub owned : (owner : PagesOf) (o : Owner) (found : List ℕ) → owner_seen owner d ≡ Some o → IfSome (owner_seen owner d) (λ q. found ≡ (share_in numbers d).pages_of q) → found ≡ (share_in numbers d).pages_of o
+    owned owner o found e h = at-some (owner_seen owner d) (λ q. found ≡ (share_in numbers d).pages_of q) o e h
+
+    pub owned-few : (owner : PagesOf) (o : Owner) → owner_seen owner d ≡ Some o → length numbers ≡ d.pool → length ((share_in numbers d).pages_of o) ≤ 1024
+    owned-few owner o e all = omega (arith, room-of is numbers owner o shared e, shared.each o, is.pool)
+
+    pub owned-made : (i : ℕ) (m : Made) → slice_get d.made i ≡ Some m → length ((share_in numbers d).pages_of (AreaOf m.number)) ≡ m.pages
+    owned-made i m e = shared.each (AreaOf m.number) ∙ sym (count-made is (pages.Made i) (AreaOf m.number) i m refl (seen-made i m e) e)
+
+    pub owned-slot : (i : ℕ) (t : Task) → slice_get d.tasks i ≡ Some t → length ((share_in numbers d).pages_of (SlotOf t.handle)) ≡ task_pages t
+    owned-slot i t e = shared.each (SlotOf t.handle) ∙ sym (count-slot is (pages.Slot i) (SlotOf t.handle) i t refl (seen-slot i t e) e)
+
+    pub owned-fixed : (number n : ℕ) → number < 6 → n ≡ (if number == module_area then module_pages d else slice_index d.areas number) → length ((share_in numbers d).pages_of (AreaOf number)) ≡ n
+    owned-fixed number n low told = shared.each (AreaOf number) ∙ sym (count-fixed is (pages.Fixed number) (AreaOf number) number n refl (seen-fixed number low) told)
+
+-- ---- areas 0 to 5, one after the other
+
+pub numbered-next : (i : ℕ) (xs : List ℕ) → i < length xs → enumerate_from i (drop i xs) ≡ (i, slice_index xs i) ∷ enumerate_from (i + 1) (drop (i + 1) xs)
+numbered-next i xs low =
+    ap (enumerate_from i) (drop_more xs i 0 low)
+
+-- ---- what an owner has taken
+
+pub takes-none : (x : Scene) (o : Owner) (n : ℕ) → n ≤ count_of o x.before.holdings → takes_part x (o, n) ≡ []
+takes-none x o n low =
+    let off : nat_lt (count_of o x.before.holdings) n ≡ false = grind (arith, nat_tests) in
+    ap (λ b. indented (if b then taken_line (owner_name x.desk o) (taken_pages x (o, n)) ∷ [] else [])) off
+
+pub takes-some : (x : Scene) (o : Owner) (n : ℕ) → count_of o x.before.holdings < n → takes_part x (o, n) ≡ (codes "  " ++ taken_line (owner_name x.desk o) (taken_pages x (o, n))) ∷ []
+takes-some x o n low =
+    let on : nat_lt (count_of o x.before.holdings) n ≡ true = grind (arith, nat_tests) in
+    ap (λ b. indented (if b then taken_line (owner_name x.desk o) (taken_pages x (o, n)) ∷ [] else [])) on
+
+pub freed-none : (x : Scene) → length x.share.free ≤ x.before.free → indented (freed_text (freed_pages x)) ≡ []
+freed-none x past = ap (λ z. indented (freed_text z)) (drop_all x.before.free x.share.free past)
+
+some-freed : (numbers : List ℕ) → 0 < length numbers → freed_text numbers ≡ freed_line numbers ∷ []
+some-freed [] some = absurd (omega (arith, some))
+some-freed (n ∷ ns) some = refl
+
+pub freed-some : (x : Scene) → x.before.free < length x.share.free → indented (freed_text (freed_pages x)) ≡ (codes "  " ++ freed_line (freed_pages x)) ∷ []
+freed-some x some = ap indented (some-freed (freed_pages x) (omega (arith, length-drop x.before.free x.share.free)))

@@ -1,0 +1,90 @@
+-- A line as far as it is kept: its meaning, its lines in a map, and where the map stands behind it.
+use Rattle.std.proofs.Common.{◌≡◌, ℕ, ◌+◌, ◌<◌, ◌≤◌, ◌⊎◌, inl, inr, Bool, true, false, List, [], ◌∷◌, ◌++◌, length, take, drop, zero, suc, refl, sym, ap, ◌∙◌, arith}
+use Rattle.std.specs.Prelude.{codes, nat_le, if◌then◌else◌, Err, not, ◌||◌}
+use Rattle.std.proofs.lemmas.List.{length-take}
+use Rattle.std.specs.Fmt.{decimal}
+use Rattle.rh_defs.specs.declared.fault.LineFault.{LineFault}
+use Rattle.rh_defs.specs.declared.fault.LineFault.TheVariants.{TooLong}
+use Rattle.rh_defs.specs.Line.{line_means}
+use Rattle.rh_defs.specs.Desk.{Desk}
+use Rattle.rh_defs.proofs.HeapLists.{cond_false, leb_no}
+use Rattle.rh_feed.specs.Lines.{kept}
+use Rattle.rh_feed.proofs.LineLemmas.{is_above, kept_means, kept_short, split_at}
+use Rattle.rh_figure.specs.Share.{Share}
+use Rattle.rh_figure.specs.Phrases.{Text, cut}
+use Rattle.rh_figure.specs.Map.{Place, after_read, fault_lines, lines_of_read, read_line}
+use Rattle.rh_figure.specs.declared.limits.TheConstants.{LINE_COLUMNS}
+
+-- what is done with a line is the same by what is kept of it
+pub record SameRead (line : List ℕ) : Type 0 where
+  pub lines : (marked : Bool) (s : Share) (p : Place) → lines_of_read marked s p (read_line (kept line)) ≡ lines_of_read marked s p (read_line line)
+  pub after : (p : Place) → after_read p (read_line (kept line)) ≡ after_read p (read_line line)
+
+same_short : (line : List ℕ) → kept line ≡ line → SameRead line
+same_short line e = record {
+  lines = λ marked s p. ap (λ l. lines_of_read marked s p (read_line l)) e;
+  after = λ p. ap (λ l. after_read p (read_line l)) e;
+}
+
+front_twice : (m n : ℕ) (xs : List ℕ) → m ≤ n → take m (take n xs) ≡ take m xs
+front_twice m n xs le = take-take m n xs le
+  where
+    take_nil : (n : ℕ) → take {A = ℕ} n [] ≡ []
+    take_nil zero = refl
+    take_nil (suc n) = refl
+
+    take-take : (m n : ℕ) (xs : List ℕ) → m ≤ n → take m (take n xs) ≡ take m xs
+    take-take m n [] le = ap (take m) (take_nil n)
+    take-take zero n (x ∷ xs) le = refl
+    take-take (suc m) zero (x ∷ xs) le = absurd (omega arith)
+    take-take (suc m) (suc n) (x ∷ xs) le = ap (λ z. x ∷ z) (take-take m n xs (omega arith))
+
+-- a line is cut long before the end of what is kept of it
+cut_long : (line : List ℕ) → LINE_COLUMNS < length line → cut LINE_COLUMNS line ≡ take 90 line ++ codes ".."
+cut_long line long =
+    cond_false (nat_le (length line) LINE_COLUMNS) line (take 90 line ++ codes "..") (leb_no _ _ long)
+
+cut_kept : (line : List ℕ) → 1024 < length line → cut LINE_COLUMNS (kept line) ≡ cut LINE_COLUMNS line
+unfolding kept
+cut_kept line long =
+    cut_long (take 1025 line) (omega (arith, length-take 1025 line))
+    ∙ (ap (λ front. front ++ codes "..") (front_twice 90 1025 line (omega arith)) ∙ sym (cut_long line (omega arith)))
+
+-- a line that is too long
+means_too_long : (line : List ℕ) → 1024 < length line → line_means line ≡ Err TooLong
+unfolding line_means
+means_too_long line long = rw (is_above 1024 (length line) long) refl
+
+-- the lines of a bad line, by what its first line shows
+fault_with : Bool → ℕ → Text → Desk → Share → LineFault → List Text
+fault_with wanted n shown d s fault =
+    (decimal n ++ (codes "  " ++ shown ++ [])) ∷ drop 1 (fault_lines wanted s n [] fault d)
+
+fault_shown : (wanted : Bool) (s : Share) (n : ℕ) (line : Text) (fault : LineFault) (d : Desk)
+    → fault_lines wanted s n line fault d ≡ fault_with wanted n (cut LINE_COLUMNS line) d s fault
+unfolding fault_with
+fault_shown wanted s n line fault d = refl
+
+pub long_lines : (line : List ℕ) → 1024 < length line → (marked : Bool) (s : Share) (p : Place)
+    → lines_of_read marked s p (kept line, Err TooLong) ≡ lines_of_read marked s p (line, Err TooLong)
+unfolding fault_with kept
+long_lines line long marked s p =
+    ap (λ text. if not marked || p.wanted then fault_with p.wanted (p.steps + 1) text p.desk s TooLong else [])
+    (cut_kept line long)
+
+same_long : (line : List ℕ) → 1024 < length line → SameRead line
+same_long line long =
+    let means : line_means (kept line) ≡ Err TooLong = kept_means line ∙ means_too_long line long in
+    record {
+      lines = λ marked s p.
+          ap (λ m. lines_of_read marked s p (kept line, m)) means
+          ∙ (long_lines line long marked s p ∙ sym (ap (λ m. lines_of_read marked s p (line, m)) (means_too_long line long)));
+      after = λ p. ap (λ m. after_read p (kept line, m)) means ∙ sym (ap (λ m. after_read p (line, m)) (means_too_long line long));
+    }
+
+same_at : (line : List ℕ) → (length line ≤ 1024) ⊎ (1024 < length line) → SameRead line
+same_at line (inl short) = same_short line (sym (kept_short line (omega arith)))
+same_at line (inr long) = same_long line long
+
+pub same_read : (line : List ℕ) → SameRead line
+same_read line = same_at line (split_at (length line))

@@ -1,0 +1,18 @@
+use Rattle.std.proofs.Common.{◌-◌, length, drop}
+use Rattle.std.specs.Prelude.{map}
+use Rattle.rh_drawn.specs.Parts.{panel_part}
+use Rattle.rh_figure.specs.Figure.{made_panel}
+use Rattle.rh_sight.specs.Steps.{scene_at}
+use Rattle.rh_map.specs.Written.{shown_lines}
+use Rattle.rh_map.proofs.Left.{Left}
+use Rattle.rh_drawn.proofs.areas.print_made.Given as goal
+
+-- the areas from the place on are left
+abbrev pub invariant-areas : goal.invariant-areas
+invariant-areas g l =
+    let d = g.S.Sight.desk l.sight in
+    Left (g.W.Sink.output l.initial.writer) (g.W.Sink.output l.writer) (shown_lines (panel_part (map (made_panel (scene_at d l.step)) d.made)))
+    (shown_lines (panel_part (map (made_panel (scene_at d l.step)) (drop l.i d.made))))
+
+abbrev pub decreases-areas : goal.decreases-areas
+decreases-areas g l = length (g.S.Sight.desk l.sight).made - l.i

@@ -1,0 +1,10 @@
+use Rattle.std.proofs.Common.{◌≡◌, take}
+use Rattle.std.specs.List.{flat_map}
+use Rattle.rh_defs.specs.declared.listing.BlockItem.{BlockItem}
+use Rattle.rh_figure.specs.Changes.{item_of, slide_of}
+use Rattle.rh_drawn.specs.Slides.{summary_of}
+use Rattle.rh_drawn.proofs.block_changes.find_slid.Given as goal
+
+-- those so far that slid are found
+abbrev pub invariant-loop-block : goal.invariant-loop-block
+invariant-loop-block l = l.found ≡ summary_of (flat_map (λ (b : BlockItem). slide_of b (item_of b.anchor l.kept.blocks)) (take l.block-index l.blocks))

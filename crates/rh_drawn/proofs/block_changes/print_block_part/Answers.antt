@@ -1,0 +1,63 @@
+use Rattle.std.proofs.Common.{◌≡◌, ◌++◌, List, Option, Some, map, ap, ap₂, sym, refl, ◌∙◌, append_assoc}
+use Rattle.std.specs.Prelude.{filter, not}
+use Rattle.std.specs.List.{flat_map}
+use Rattle.rh_defs.specs.declared.listing.BlockItem.{BlockItem}
+use Rattle.rh_defs.specs.Desk.{Task, task_at}
+use Rattle.rh_defs.specs.Listing.{block_items}
+use Rattle.rh_figure.specs.Changes.{block_change, block_changes, blocks_now, gone_line, has_anchor, item_of, slide_change, slide_of}
+use Rattle.rh_figure.specs.Phrases.{Text}
+use Rattle.rh_figure.specs.Scene.{Scene}
+use Rattle.rh_map.specs.Written.{shown_lines}
+use Rattle.rh_sight.specs.Steps.{scene_at}
+use Rattle.rh_drawn.specs.Parts.{block_part, indented, slide_part}
+use Rattle.rh_drawn.proofs.Walks.{indented-append, lines_stop, lines_then, puts_same}
+use Rattle.rh_drawn.proofs.block_changes.print_block_part.Goals as goal
+
+abbrev gone : List BlockItem → List BlockItem → List Text
+gone before now = indented (map (λ (b : BlockItem). gone_line b.anchor) (filter (λ (b : BlockItem). not (has_anchor b.anchor now)) before))
+
+abbrev changed : List BlockItem → List BlockItem → List Text
+changed before now = indented (flat_map (λ (b : BlockItem). block_change b (item_of b.anchor before)) now)
+
+abbrev slid : List BlockItem → List BlockItem → List Text
+slid before now = indented (slide_change (flat_map (λ (b : BlockItem). slide_of b (item_of b.anchor before)) now))
+
+-- the parts of what has changed of a task's blocks
+block-parts : (x : Scene) (t : Task) → task_at x.before.handle x.desk ≡ Some t
+    → block_part x (task_at x.before.handle x.desk) ++ slide_part x ≡ gone x.before.blocks (block_items t.slot) ++ (changed x.before.blocks (block_items t.slot) ++ slid x.before.blocks (block_items t.slot))
+block-parts x t e =
+    let now = block_items t.slot in
+    let before = x.before.blocks in
+    ap (λ o. indented (block_changes x o) ++ indented (slide_change (flat_map (λ (b : BlockItem). slide_of b (item_of b.anchor before)) (blocks_now o)))) e
+    ∙ (ap (λ z. z ++ slid before now) (indented-append (map (λ (b : BlockItem). gone_line b.anchor) (filter (λ (b : BlockItem). not (has_anchor b.anchor now)) before)) (flat_map (λ (b : BlockItem). block_change b (item_of b.anchor before)) now))
+    ∙ append_assoc (gone before now) (changed before now) (slid before now))
+
+pub returns-in_err-print_gone : goal.returns-in_err-print_gone
+returns-in_err-print_gone g c =
+    let x = scene_at (g.S.Sight.desk c.args.sight.now) c.args.step.now in
+    let r = c.in-Some.ensures.some in
+    let at : task_at x.before.handle x.desk ≡ Some r.0 = ap (λ h. task_at h (g.S.Sight.desk c.args.sight.now)) (sym c.handle.ensures) ∙ r.2 in
+    let now = block_items r.0.slot in
+    let before = x.before.blocks in
+    puts_same (ap shown_lines (sym (block-parts x r.0 at)))
+    (lines_stop _ (gone before now) (changed before now ++ slid before now) (puts_same (ap₂ (λ b n. shown_lines (gone b n)) c.blocks-3.ensures (c.deref.ensures.0 ∙ c.blocks-2.ensures r.0 r.1)) c.in_err-print_gone.ensures) c.from_residual.ensures.0)
+
+pub returns-in_err-print_now : goal.returns-in_err-print_now
+returns-in_err-print_now g c =
+    let x = scene_at (g.S.Sight.desk c.args.sight.now) c.args.step.now in
+    let r = c.in-Some.ensures.some in
+    let at : task_at x.before.handle x.desk ≡ Some r.0 = ap (λ h. task_at h (g.S.Sight.desk c.args.sight.now)) (sym c.handle.ensures) ∙ r.2 in
+    let now = block_items r.0.slot in
+    let before = x.before.blocks in
+    puts_same (ap shown_lines (sym (block-parts x r.0 at)))
+    (lines_then (gone before now) (changed before now ++ slid before now) (puts_same (ap₂ (λ b n. shown_lines (gone b n)) c.blocks-3.ensures (c.deref.ensures.0 ∙ c.blocks-2.ensures r.0 r.1)) c.in_ok-print_gone.ensures) (lines_stop _ (changed before now) (slid before now) (puts_same (ap (λ n. shown_lines (changed before n)) (c.deref-2.ensures.0 ∙ c.blocks-2.ensures r.0 r.1)) c.in_err-print_now.ensures) c.from_residual-in_err-print_now.ensures.0))
+
+pub returns : goal.returns
+returns g c =
+    let x = scene_at (g.S.Sight.desk c.args.sight.now) c.args.step.now in
+    let r = c.in-Some.ensures.some in
+    let at : task_at x.before.handle x.desk ≡ Some r.0 = ap (λ h. task_at h (g.S.Sight.desk c.args.sight.now)) (sym c.handle.ensures) ∙ r.2 in
+    let now = block_items r.0.slot in
+    let before = x.before.blocks in
+    puts_same (ap shown_lines (sym (block-parts x r.0 at)))
+    (lines_then (gone before now) (changed before now ++ slid before now) (puts_same (ap₂ (λ b n. shown_lines (gone b n)) c.blocks-3.ensures (c.deref.ensures.0 ∙ c.blocks-2.ensures r.0 r.1)) c.in_ok-print_gone.ensures) (lines_then (changed before now) (slid before now) (puts_same (ap (λ n. shown_lines (changed before n)) (c.deref-2.ensures.0 ∙ c.blocks-2.ensures r.0 r.1)) c.in_ok-print_now.ensures) (puts_same (ap (λ n. shown_lines (slid before n)) (c.deref-3.ensures.0 ∙ c.blocks-2.ensures r.0 r.1)) c.print_slides.ensures)))

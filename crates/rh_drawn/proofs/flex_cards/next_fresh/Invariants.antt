@@ -1,0 +1,14 @@
+use Rattle.std.proofs.Common.{◌≡◌, drop}
+use Rattle.rh_defs.specs.Desk.{Desk}
+use Rattle.rh_defs.specs.declared.listing.BlockItem.{BlockItem}
+use Rattle.rh_drawn.specs.Cards.{place_behind}
+use Rattle.rh_figure.specs.Layout.{is_fresh_flex}
+use Rattle.rh_sight.specs.Steps.{scene_at}
+use Rattle.rh_drawn.proofs.flex_cards.next_fresh.Given as goal
+
+-- none so far has changed
+abbrev pub invariant-loop-k : goal.invariant-loop-k
+invariant-loop-k l =
+    (d : Desk) →
+    let test = λ (b : BlockItem). is_fresh_flex (scene_at d l.step) l.task.handle b.anchor b.size in
+    place_behind test l.k l.blocks ≡ place_behind test l.from l.blocks

@@ -1,0 +1,18 @@
+use Rattle.std.proofs.Common.{◌≡◌, Some, drop, take}
+use Rattle.rh_defs.specs.Heap.{Heap}
+use Rattle.rh_map.specs.Written.{shown_lines}
+use Rattle.rh_map.proofs.Left.{Left}
+use Rattle.rh_sight.specs.Seen.{heap_seen}
+use Rattle.rh_sight.specs.Steps.{scene_at}
+use Rattle.rh_drawn.specs.Bands.{band_cards}
+use Rattle.rh_drawn.specs.Cards.{card_lines}
+use Rattle.rh_drawn.proofs.heap_cards.print_first.Given as goal
+
+-- the cards from the place on are left
+abbrev pub invariant-loop-k : goal.invariant-loop-k
+invariant-loop-k g l =
+    let d = g.S.Sight.desk l.sight in
+    (h : Heap) → heap_seen l.band.heap d ≡ Some h →
+    Left (g.W.Sink.output l.initial.writer) (g.W.Sink.output l.writer)
+    (shown_lines (card_lines (take l.shown (band_cards (scene_at d l.step) d l.band h))))
+    (shown_lines (card_lines (drop l.k (take l.shown (band_cards (scene_at d l.step) d l.band h)))))

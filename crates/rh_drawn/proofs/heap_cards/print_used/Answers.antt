@@ -1,0 +1,19 @@
+use Rattle.std.proofs.Common.{◌≡◌, ℕ, ◌-◌, List, [], ◌∷◌, length, take, ap, ap₂, sym, subst, refl, ◌∙◌, arith}
+use Rattle.std.proofs.lemmas.List.{length-take}
+use Rattle.rh_figure.specs.Cards.{used_card}
+use Rattle.rh_figure.specs.Map.{card_line}
+use Rattle.rh_sight.specs.Seen.{HasBlock, heap_seen, heap_start_of}
+use Rattle.rh_drawn.proofs.CardLemmas.{front-is}
+use Rattle.rh_drawn.proofs.Walks.{puts_line}
+use Rattle.rh_drawn.proofs.heap_cards.print_used.Goals as goal
+
+pub returns : goal.returns
+returns g c = λ d bytes step block size.
+    let a = c.args.address in
+    let heap = c.args.band.now.heap in
+    let zeros : List ℕ = (0 ∷ 0 ∷ 0 ∷ 0 ∷ 0 ∷ 0 ∷ 0 ∷ []) in
+    let n = c.front_length.result in
+    let here : a - heap_start_of heap - 4 ≡ a - 4 - c.heap_address.result = omega (arith, c.heap_address.ensures) in
+    let P : ℕ → Type 0 = λ z. HasBlock (heap_seen heap (g.S.Sight.desk c.args.sight.now)) z bytes in
+    let first = front-is c.args.size (length (take n zeros)) bytes size (omega (arith, c.front_length.ensures, length-take n zeros)) ∙ sym (c.read_heap.ensures bytes (subst P here block)) in
+    puts_line (ap₂ (λ u f. card_line (used_card a bytes u f)) c.use_of_buffer.ensures (c.is_changed.ensures d)) (c.print_used_card.ensures bytes (record { whole = size; first = first }))

@@ -1,0 +1,14 @@
+use Rattle.std.proofs.Common.{◌≡◌, ◌+◌, drop, length}
+use Rattle.rh_defs.specs.Desk.{Desk}
+use Rattle.rh_drawn.specs.Bands.{is_fresh_card, with_items}
+use Rattle.rh_sight.specs.Steps.{IsStepOf, scene_at}
+use Rattle.rh_drawn.proofs.heap_cards.surveyed.Given as goal
+
+-- the segments from the place on are left
+abbrev pub invariant-loop-item : goal.invariant-loop-item
+invariant-loop-item l = record {
+  few : l.survey.count + length (drop l.item-index l.items) ≡ l.initial.survey.count + length l.items;
+  survey : (d : Desk) → IsStepOf d l.step →
+      with_items (is_fresh_card (scene_at d l.step) l.band) (drop l.item-index l.items) l.survey
+      ≡ with_items (is_fresh_card (scene_at d l.step) l.band) l.items l.initial.survey;
+}

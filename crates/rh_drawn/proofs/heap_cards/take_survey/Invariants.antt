@@ -1,0 +1,18 @@
+use Rattle.std.proofs.Common.{◌≡◌, ◌-◌, Some}
+use Rattle.rh_defs.specs.Heap.{Heap}
+use Rattle.rh_sight.specs.Seen.{heap_seen, heap_start_of}
+use Rattle.rh_sight.specs.Steps.{scene_at}
+use Rattle.rh_sight.proofs.Heaps.{end_of}
+use Rattle.rh_drawn.specs.Bands.{is_fresh_card}
+use Rattle.rh_drawn.proofs.HeapLemmas.{Surveyed}
+use Rattle.rh_drawn.proofs.heap_cards.take_survey.Given as goal
+
+-- the segments so far are surveyed, and the items are the next ones
+abbrev pub invariant-places : goal.invariant-places
+invariant-places g l =
+    let d = g.S.Sight.desk l.sight in
+    (h : Heap) → heap_seen l.band.heap d ≡ Some h →
+    Surveyed (is_fresh_card (scene_at d l.step) l.band) (heap_start_of l.band.heap) l.place l.survey l.items.items h.segments
+
+abbrev pub decreases-places : goal.decreases-places
+decreases-places g l = end_of (heap_seen l.band.heap (g.S.Sight.desk l.sight)) - l.place

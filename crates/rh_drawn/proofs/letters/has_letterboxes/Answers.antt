@@ -1,0 +1,42 @@
+use Rattle.std.proofs.Common.{◌≡◌, ◌<◌, ◌+◌, Bool, true, false, length, drop, ap, sym, refl, ◌∙◌, arith}
+use Rattle.std.specs.Prelude.{◌||◌}
+use Rattle.std.specs.List.{list_any}
+use Rattle.std.proofs.lemmas.Option.{slice_get_within}
+use Rattle.rh_defs.specs.Desk.{Task}
+use Rattle.rh_drawn.specs.Letters.{has_letters_in}
+use Rattle.rh_drawn.proofs.Walks.{walk-off, walk-on, walk-to}
+use Rattle.rh_drawn.proofs.letters.has_letterboxes.Goals as goal
+
+pub returns-then-has_letters : goal.returns-then-has_letters
+returns-then-has_letters g c =
+    let s = c.in-Some.ensures.some in
+    let ms = c.args.messages.now in
+    let xs = (g.S.Sight.desk c.args.sight.now).tasks in
+    let P = λ (t : Task). has_letters_in t.handle ms in
+    let e : P s.0 ≡ true = ap (λ n. has_letters_in n ms) (sym s.2.handle) ∙ (sym c.has_letters.ensures ∙ c.if-has_letters.true) in
+    walk-to (list_any P) xs c.tasks.i c.tasks.invariant s.0 true s.1 (ap (λ b. b || list_any P (drop (c.tasks.i + 1) xs)) e)
+
+pub overflow_add-i : goal.overflow_add-i
+overflow_add-i g c =
+    let s = c.in-Some.ensures.some in
+    omega (arith, c.in-Some.ensures.few, slice_get_within (g.S.Sight.desk c.args.sight.now).tasks c.tasks.i s.0 s.1)
+
+pub tasks-smaller : goal.tasks-smaller
+tasks-smaller g c =
+    let s = c.in-Some.ensures.some in
+    let inside : c.tasks.i < length (g.S.Sight.desk c.args.sight.now).tasks = slice_get_within (g.S.Sight.desk c.args.sight.now).tasks c.tasks.i s.0 s.1 in
+    omega arith
+
+pub tasks-preserved : goal.tasks-preserved
+tasks-preserved g c =
+    let s = c.in-Some.ensures.some in
+    let ms = c.args.messages.now in
+    let xs = (g.S.Sight.desk c.args.sight.now).tasks in
+    let P = λ (t : Task). has_letters_in t.handle ms in
+    let e : P s.0 ≡ false = ap (λ n. has_letters_in n ms) (sym s.2.handle) ∙ (sym c.has_letters.ensures ∙ c.if-has_letters.false) in
+    walk-on (list_any P) xs c.tasks.i c.tasks.invariant s.0 s.1 (ap (λ b. b || list_any P (drop (c.tasks.i + 1) xs)) e)
+
+pub returns : goal.returns
+returns g c =
+    let ms = c.args.messages.now in
+    walk-off (list_any (λ (t : Task). has_letters_in t.handle ms)) (g.S.Sight.desk c.args.sight.now).tasks c.tasks.i c.tasks.invariant false c.in_default.ensures.none refl

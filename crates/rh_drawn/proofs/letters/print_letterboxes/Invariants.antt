@@ -1,0 +1,21 @@
+use Rattle.std.proofs.Common.{◌-◌, length, drop}
+use Rattle.std.specs.Prelude.{map}
+use Rattle.std.specs.List.{flat_map}
+use Rattle.rh_defs.specs.Desk.{Task}
+use Rattle.rh_drawn.specs.Letters.{letterboxes_in}
+use Rattle.rh_figure.specs.Figure.{letterboxes}
+use Rattle.rh_figure.specs.Map.{letterbox_line}
+use Rattle.rh_sight.specs.Steps.{scene_at}
+use Rattle.rh_map.specs.Written.{shown_lines}
+use Rattle.rh_map.proofs.Left.{Left}
+use Rattle.rh_drawn.proofs.letters.print_letterboxes.Given as goal
+
+-- the tasks from the place on are left
+abbrev pub invariant-tasks : goal.invariant-tasks
+invariant-tasks g l =
+    let d = g.S.Sight.desk l.sight in
+    Left (g.W.Sink.output l.initial.writer) (g.W.Sink.output l.writer) (shown_lines (map letterbox_line (letterboxes (scene_at d l.step))))
+    (shown_lines (flat_map (λ (t : Task). map letterbox_line (letterboxes_in t.name t.handle l.step.messages.now)) (drop l.i d.tasks)))
+
+abbrev pub decreases-tasks : goal.decreases-tasks
+decreases-tasks g l = length (g.S.Sight.desk l.sight).tasks - l.i

@@ -1,0 +1,14 @@
+use Rattle.std.proofs.Common.{◌≡◌, length, take}
+use Rattle.std.specs.Prelude.{filter, map, min}
+use Rattle.rh_drawn.specs.Letters.{entry_seen}
+use Rattle.rh_figure.specs.declared.limits.TheConstants.{MOST_LISTED}
+use Rattle.rh_sight.specs.Messages.{waits_for}
+use Rattle.rh_drawn.proofs.letters.waits_of.Given as goal
+
+-- those so far are counted, and the first of them are kept
+abbrev pub invariant-loop-message : goal.invariant-loop-message
+invariant-loop-message l = record {
+  room : length l.waits.first ≡ MOST_LISTED;
+  count : l.waits.count ≡ length (map entry_seen (filter (waits_for l.handle) (take l.message-index l.messages)));
+  first : take (min l.waits.count MOST_LISTED) l.waits.first ≡ take MOST_LISTED (map entry_seen (filter (waits_for l.handle) (take l.message-index l.messages)));
+}

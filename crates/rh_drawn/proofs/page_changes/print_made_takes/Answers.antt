@@ -1,0 +1,50 @@
+use Rattle.std.proofs.Common.{◌<◌, List, length, ap, map, refl, arith}
+use Rattle.std.specs.List.{flat_map}
+use Rattle.std.specs.Option.{option_map}
+use Rattle.std.proofs.lemmas.Option.{slice_get_within}
+use Rattle.rh_defs.specs.Desk.{Made}
+use Rattle.rh_figure.specs.Share.{AreaOf}
+use Rattle.rh_map.proofs.Left.{left_breaks, left_less, left_none}
+use Rattle.rh_sight.specs.declared.sight.PagesOf.TheVariants as pages
+use Rattle.rh_sight.specs.Owners.{made_holding}
+use Rattle.rh_sight.specs.Steps.{scene_at}
+use Rattle.rh_sight.proofs.Holders.{count-made}
+use Rattle.rh_drawn.specs.Parts.{takes_part}
+use Rattle.rh_drawn.proofs.Walks.{walk-none, walk-some}
+use Rattle.rh_drawn.proofs.page_changes.print_made_takes.Goals as goal
+
+pub print_area_part-requires-clause-owner : goal.print_area_part-requires-clause-owner
+print_area_part-requires-clause-owner g c = ap (option_map (λ (m : Made). AreaOf m.number)) c.in-Some.ensures.some
+
+pub print_area_part-requires-clause-count : goal.print_area_part-requires-clause-count
+print_area_part-requires-clause-count g c =
+    count-made c.spelled.ensures (pages.Made c.areas.i) (AreaOf c.in-Some.area.number) c.areas.i _ refl (ap (option_map (λ (m : Made). AreaOf m.number)) c.in-Some.ensures.some) c.in-Some.ensures.some
+
+pub areas-preserved : goal.areas-preserved
+areas-preserved g c =
+    let d = g.S.Sight.desk c.args.sight.now in
+    let x = scene_at d c.args.step.now in
+    left_less c.areas.invariant (walk-some (λ (ms : List Made). flat_map (takes_part x) (map made_holding ms)) (λ (m : Made). takes_part x (made_holding m)) (λ m rest. refl) d.made c.areas.i _ c.in-Some.ensures.some)
+    c.in_ok-print_area_part.ensures.ok
+
+pub returns-in_err-print_area_part : goal.returns-in_err-print_area_part
+returns-in_err-print_area_part g c =
+    let d = g.S.Sight.desk c.args.sight.now in
+    let x = scene_at d c.args.step.now in
+    left_breaks _ _ c.areas.invariant (walk-some (λ (ms : List Made). flat_map (takes_part x) (map made_holding ms)) (λ (m : Made). takes_part x (made_holding m)) (λ m rest. refl) d.made c.areas.i _ c.in-Some.ensures.some)
+    c.in_err-print_area_part.ensures c.from_residual.ensures.0
+
+pub returns : goal.returns
+returns g c =
+    let d = g.S.Sight.desk c.args.sight.now in
+    let x = scene_at d c.args.step.now in
+    record { ok = left_none c.areas.invariant (walk-none (λ (ms : List Made). flat_map (takes_part x) (map made_holding ms)) refl d.made c.areas.i c.in_default.ensures.none); err = tt }
+
+pub overflow_add-i : goal.overflow_add-i
+overflow_add-i g c =
+    omega (arith, c.in-Some.ensures.few, slice_get_within (g.S.Sight.desk c.args.sight.now).made c.areas.i _ c.in-Some.ensures.some)
+
+pub areas-smaller : goal.areas-smaller
+areas-smaller g c =
+    let inside : c.areas.i < length (g.S.Sight.desk c.args.sight.now).made = slice_get_within (g.S.Sight.desk c.args.sight.now).made c.areas.i _ c.in-Some.ensures.some in
+    omega arith

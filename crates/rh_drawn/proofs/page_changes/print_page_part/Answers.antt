@@ -1,0 +1,83 @@
+use Rattle.std.proofs.Common.{◌≡◌, ℕ, ◌<◌, ◌≤◌, ◌+◌, ◌-◌, ◌++◌, Bool, true, false, List, [], ◌∷◌, Option, Some, None, length, take, drop, map, ap, ap₂, sym, subst, refl, ◌∙◌, append_assoc, arith}
+use Rattle.std.specs.Prelude.{codes}
+use Rattle.std.specs.List.{enumerate_from, flat_map}
+use Rattle.std.proofs.lemmas.Grind.{flat_map-append}
+use Rattle.rh_defs.specs.Desk.{Desk, Made, Task, task_pages}
+use Rattle.rh_figure.specs.Changes.{freed_pages, freed_text, takes_text}
+use Rattle.rh_figure.specs.Phrases.{Text}
+use Rattle.rh_figure.specs.Scene.{Scene}
+use Rattle.rh_figure.specs.Share.{AreaOf, Holding, SlotOf, fixed_holding, holdings}
+use Rattle.rh_map.specs.Written.{shown_lines}
+use Rattle.rh_sight.specs.Owners.{made_holding, slot_holding}
+use Rattle.rh_sight.specs.Steps.{scene_at}
+use Rattle.rh_drawn.specs.Parts.{indented, page_part, takes_part}
+use Rattle.rh_drawn.proofs.TransferLemmas.{map-flat}
+use Rattle.rh_drawn.proofs.Walks.{indented-append, lines_stop, lines_then, puts_same}
+use Rattle.rh_drawn.proofs.page_changes.print_page_part.Goals as goal
+
+abbrev fixed : Scene → Desk → List Text
+fixed x d = flat_map (takes_part x) (map (fixed_holding d) (enumerate_from 0 d.areas))
+
+abbrev made : Scene → Desk → List Text
+made x d = flat_map (takes_part x) (map made_holding d.made)
+
+abbrev slots : Scene → Desk → List Text
+slots x d = flat_map (takes_part x) (map slot_holding d.tasks)
+
+abbrev freed : Scene → List Text
+freed x = indented (freed_text (freed_pages x))
+
+made-same : (ms : List Made) → map (λ (m : Made). let h : Holding = (AreaOf m.number, m.pages) in h) ms ≡ map made_holding ms
+made-same [] = refl
+made-same (m ∷ ms) = ap (λ z. made_holding m ∷ z) (made-same ms)
+
+slots-same : (ts : List Task) → map (λ (t : Task). let h : Holding = (SlotOf t.handle, task_pages t) in h) ts ≡ map slot_holding ts
+slots-same [] = refl
+slots-same (t ∷ ts) = ap (λ z. slot_holding t ∷ z) (slots-same ts)
+
+-- the parts of what has changed of the pages
+page-parts : (x : Scene) → page_part x ≡ fixed x x.desk ++ (made x x.desk ++ (slots x x.desk ++ freed x))
+page-parts x =
+    let a = map (fixed_holding x.desk) (enumerate_from 0 x.desk.areas) in
+    let b = map made_holding x.desk.made in
+    let e = map slot_holding x.desk.tasks in
+    let each : indented (flat_map (takes_text x) (holdings x.desk)) ≡ flat_map (takes_part x) (holdings x.desk) = map-flat (λ (line : Text). codes "  " ++ line) (takes_text x) (holdings x.desk) in
+    let all : holdings x.desk ≡ a ++ (b ++ e) = ap₂ (λ u v. (a ++ u) ++ v) (made-same x.desk.made) (slots-same x.desk.tasks) ∙ append_assoc a b e in
+    let parts : flat_map (takes_part x) (a ++ (b ++ e)) ≡ fixed x x.desk ++ (made x x.desk ++ slots x x.desk) = flat_map-append (takes_part x) a (b ++ e) ∙ ap (λ z. fixed x x.desk ++ z) (flat_map-append (takes_part x) b e) in
+    indented-append (flat_map (takes_text x) (holdings x.desk)) (freed_text (freed_pages x))
+    ∙ (ap (λ z. z ++ freed x) (each ∙ (ap (flat_map (takes_part x)) all ∙ parts))
+    ∙ (append_assoc (fixed x x.desk) (made x x.desk ++ slots x x.desk) (freed x)
+    ∙ ap (λ z. fixed x x.desk ++ z) (append_assoc (made x x.desk) (slots x x.desk) (freed x))))
+
+pub returns-in_err-print_fixed_takes : goal.returns-in_err-print_fixed_takes
+returns-in_err-print_fixed_takes g c =
+    let x = scene_at (g.S.Sight.desk c.args.sight.now) c.args.step.now in
+    let d = g.S.Sight.desk c.args.sight.now in
+    puts_same (ap shown_lines (sym (page-parts x)))
+    (lines_stop _ (fixed x d) (made x d ++ (slots x d ++ freed x)) c.in_err-print_fixed_takes.ensures c.from_residual.ensures.0)
+
+pub returns-in_err-print_made_takes : goal.returns-in_err-print_made_takes
+returns-in_err-print_made_takes g c =
+    let x = scene_at (g.S.Sight.desk c.args.sight.now) c.args.step.now in
+    let d = g.S.Sight.desk c.args.sight.now in
+    puts_same (ap shown_lines (sym (page-parts x)))
+    (lines_then (fixed x d) (made x d ++ (slots x d ++ freed x)) c.in_ok-print_fixed_takes.ensures
+    (lines_stop _ (made x d) (slots x d ++ freed x) c.in_err-print_made_takes.ensures c.from_residual-in_err-print_made_takes.ensures.0))
+
+pub returns-in_err-print_slots_take : goal.returns-in_err-print_slots_take
+returns-in_err-print_slots_take g c =
+    let x = scene_at (g.S.Sight.desk c.args.sight.now) c.args.step.now in
+    let d = g.S.Sight.desk c.args.sight.now in
+    puts_same (ap shown_lines (sym (page-parts x)))
+    (lines_then (fixed x d) (made x d ++ (slots x d ++ freed x)) c.in_ok-print_fixed_takes.ensures
+    (lines_then (made x d) (slots x d ++ freed x) c.in_ok-print_made_takes.ensures
+    (lines_stop _ (slots x d) (freed x) c.in_err-print_slots_take.ensures c.from_residual-in_err-print_slots_take.ensures.0)))
+
+pub returns : goal.returns
+returns g c =
+    let x = scene_at (g.S.Sight.desk c.args.sight.now) c.args.step.now in
+    let d = g.S.Sight.desk c.args.sight.now in
+    puts_same (ap shown_lines (sym (page-parts x)))
+    (lines_then (fixed x d) (made x d ++ (slots x d ++ freed x)) c.in_ok-print_fixed_takes.ensures
+    (lines_then (made x d) (slots x d ++ freed x) c.in_ok-print_made_takes.ensures
+    (lines_then (slots x d) (freed x) c.in_ok-print_slots_take.ensures c.print_freed_part.ensures)))

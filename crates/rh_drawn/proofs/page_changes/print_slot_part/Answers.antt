@@ -1,0 +1,55 @@
+use Rattle.std.proofs.Common.{◌≡◌, ℕ, ◌<◌, ◌≤◌, ◌+◌, ◌-◌, ◌++◌, List, [], ◌∷◌, Some, length, take, drop, ap, ap₂, sym, refl, ◌∙◌, arith, rules}
+use Rattle.std.specs.Prelude.{codes}
+use Rattle.std.proofs.lemmas.List.{length-drop, length-take, take_rest}
+use Rattle.rh_figure.specs.Changes.{taken_line}
+use Rattle.rh_figure.specs.Phrases.{Text, name_or}
+use Rattle.rh_figure.specs.Share.{SlotOf, count_of}
+use Rattle.rh_map.specs.Written.{shown_lines}
+use Rattle.rh_defs.specs.Desk.{task_at, task_pages}
+use Rattle.rh_sight.specs.declared.sight.PagesOf.TheVariants as pages
+use Rattle.rh_sight.specs.Pages.{share_in}
+use Rattle.rh_sight.specs.Seen.{IsTaskSeen}
+use Rattle.rh_sight.specs.Steps.{scene_at}
+use Rattle.rh_drawn.proofs.DrawingLemmas.{seen-same, task-stands}
+use Rattle.rh_drawn.proofs.PageLemmas.{owned, owned-few, owned-slot, seen-slot, takes-some}
+use Rattle.rh_drawn.proofs.Walks.{puts_line, puts_same}
+use Rattle.rh_drawn.proofs.page_changes.print_slot_part.Goals as goal
+
+pub slice_bounds-print_slot_takes-count : goal.slice_bounds-print_slot_takes-count
+slice_bounds-print_slot_takes-count g c =
+    let r = c.requires.task in
+    let ps = c.args.step.now.pages.now in
+    let is = owned c.spelled.ensures ps c.requires.step.shared (pages.Slot c.args.i) (SlotOf r.0.handle) c.pages_of-pages.result.now (seen-slot c.spelled.ensures c.args.i r.0 r.1) c.pages_of-pages.ensures in
+    omega (arith, ap length is, owned-slot c.spelled.ensures ps c.requires.step.shared c.args.i r.0 r.1, r.2.pages, c.if-had-task.false)
+
+pub slice_bounds-print_slot_takes-start : goal.slice_bounds-print_slot_takes-start
+slice_bounds-print_slot_takes-start g c =
+    let r = c.requires.task in
+    let ps = c.args.step.now.pages.now in
+    let is = owned c.spelled.ensures ps c.requires.step.shared (pages.Slot c.args.i) (SlotOf r.0.handle) c.pages_of-pages.result.now (seen-slot c.spelled.ensures c.args.i r.0 r.1) c.pages_of-pages.ensures in
+    let few : c.count-had.result ≤ length c.pages_of-pages.result.now = omega (arith, ap length is, owned-slot c.spelled.ensures ps c.requires.step.shared c.args.i r.0 r.1, r.2.pages, c.if-had-task.false) in
+    search rules
+
+pub print_slot_takes-requires : goal.print_slot_takes-requires
+print_slot_takes-requires g c =
+    let r = c.requires.task in
+    let ps = c.args.step.now.pages.now in
+    let found = c.pages_of-pages.result.now in
+    let seen = seen-slot c.spelled.ensures c.args.i r.0 r.1 in
+    let is = owned c.spelled.ensures ps c.requires.step.shared (pages.Slot c.args.i) (SlotOf r.0.handle) found seen c.pages_of-pages.ensures in
+    let few = owned-few c.spelled.ensures ps c.requires.step.shared (pages.Slot c.args.i) (SlotOf r.0.handle) seen c.requires.step.all in
+    omega (arith, ap length is, length-take (length found - c.count-had.result) (drop c.count-had.result found), length-drop c.count-had.result found)
+
+pub returns : goal.returns
+returns g c = λ t e.
+    let d = g.S.Sight.desk c.args.sight.now in
+    let x = scene_at d c.args.step.now in
+    let r = c.requires.task in
+    let seen = seen-same (IsTaskSeen c.args.task.now) d.tasks c.args.i r.0 t r.1 e r.2 in
+    let found = c.pages_of-pages.result.now in
+    let is = owned c.spelled.ensures c.args.step.now.pages.now c.requires.step.shared (pages.Slot c.args.i) (SlotOf t.handle) found (seen-slot c.spelled.ensures c.args.i t e) c.pages_of-pages.ensures in
+    let had : c.count-had.result ≡ count_of (SlotOf t.handle) x.before.holdings = c.count-had.ensures ∙ ap (λ h. count_of (SlotOf h) x.before.holdings) seen.handle in
+    let low : count_of (SlotOf t.handle) x.before.holdings < task_pages t = omega (arith, had, seen.pages, c.if-had-task.false) in
+    let name : c.args.task.now.name.now ≡ name_or t.handle (task_at t.handle d) = seen.name ∙ ap (name_or t.handle) (sym (task-stands c.spelled.ensures c.args.i t e)) in
+    puts_same (ap shown_lines (sym (takes-some x (SlotOf t.handle) (task_pages t) low)))
+    (puts_line (ap₂ (λ n z. codes "  " ++ taken_line (codes "Slot " ++ n) z) name (take_rest found c.count-had.result ∙ ap₂ (λ n ns. drop n ns) had is)) c.print_slot_takes.ensures)

@@ -1,0 +1,19 @@
+use Rattle.std.proofs.Common.{◌-◌, length, drop}
+use Rattle.std.specs.Prelude.{map}
+use Rattle.std.specs.List.{flat_map}
+use Rattle.rh_drawn.specs.Parts.{takes_part}
+use Rattle.rh_sight.specs.Owners.{slot_holding}
+use Rattle.rh_sight.specs.Steps.{scene_at}
+use Rattle.rh_map.specs.Written.{shown_lines}
+use Rattle.rh_map.proofs.Left.{Left}
+use Rattle.rh_drawn.proofs.page_changes.print_slots_take.Given as goal
+
+-- the slots from the place on are left
+abbrev pub invariant-tasks : goal.invariant-tasks
+invariant-tasks g l =
+    let d = g.S.Sight.desk l.sight in
+    Left (g.W.Sink.output l.initial.writer) (g.W.Sink.output l.writer) (shown_lines (flat_map (takes_part (scene_at d l.step)) (map slot_holding d.tasks)))
+    (shown_lines (flat_map (takes_part (scene_at d l.step)) (map slot_holding (drop l.i d.tasks))))
+
+abbrev pub decreases-tasks : goal.decreases-tasks
+decreases-tasks g l = length (g.S.Sight.desk l.sight).tasks - l.i

@@ -1,0 +1,9 @@
+use Rattle.std.proofs.Common.{◌≡◌, ◌<◌, ◌≤◌, ◌++◌, ap, ap₂, sym, refl, ◌∙◌, set, length, drop, append-nil, arith}
+use Rattle.std.specs.Prelude.{replicate}
+use Rattle.std.proofs.lemmas.List.{drop_all, length-append, length-drop, length-replicate}
+use Rattle.std.proofs.lemmas.List.Edits.{fill_more}
+use Rattle.rh_drawn.proofs.pool.clear.Goals as goal
+
+pub loop-mark-preserved : goal.loop-mark-preserved
+loop-mark-preserved c =
+    ap (λ z. set z c.loop-mark.mark-index 46) c.loop-mark.invariant ∙ fill_more c.loop-mark.mark-index 46 c.args.marks.now (omega arith)

@@ -1,0 +1,7 @@
+use Rattle.std.proofs.Common.{◌≡◌, ◌++◌, drop}
+use Rattle.std.specs.Prelude.{replicate}
+use Rattle.rh_drawn.proofs.pool.clear.Given as goal
+
+-- those so far are free
+abbrev pub invariant-loop-mark : goal.invariant-loop-mark
+invariant-loop-mark l = l.marks ≡ replicate l.mark-index 46 ++ drop l.mark-index l.initial.marks

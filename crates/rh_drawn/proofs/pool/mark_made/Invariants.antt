@@ -1,0 +1,15 @@
+use Rattle.std.proofs.Common.{◌≡◌, ◌-◌, length, drop}
+use Rattle.std.specs.Prelude.{map}
+use Rattle.rh_drawn.specs.Marked.{made_pages, marked_all}
+use Rattle.rh_sight.specs.Pages.{share_in}
+use Rattle.rh_drawn.proofs.pool.mark_made.Given as goal
+
+-- the areas from the place on are left
+abbrev pub invariant-areas : goal.invariant-areas
+invariant-areas g l =
+    let d = g.S.Sight.desk l.sight in
+    marked_all (map (made_pages (share_in l.step.pages.now d)) (drop l.i d.made)) l.marks
+    ≡ marked_all (map (made_pages (share_in l.step.pages.now d)) d.made) l.initial.marks
+
+abbrev pub decreases-areas : goal.decreases-areas
+decreases-areas g l = length (g.S.Sight.desk l.sight).made - l.i

@@ -1,0 +1,15 @@
+use Rattle.std.proofs.Common.{◌≡◌, drop, length, map}
+use Rattle.std.specs.Prelude.{replicate}
+use Rattle.std.specs.List.{enumerate_from}
+use Rattle.rh_sight.specs.Pages.{share_in}
+use Rattle.rh_drawn.specs.Marked.{marked_all}
+use Rattle.rh_drawn.proofs.MarkLemmas.{fixed_pages}
+use Rattle.rh_drawn.proofs.pool.mark_pool.Given as goal
+
+-- the areas from the number on are left
+abbrev pub invariant-loop-number : goal.invariant-loop-number
+invariant-loop-number g l =
+    let d = g.S.Sight.desk l.sight in
+    let s = share_in l.step.pages.now d in
+    marked_all (map (fixed_pages s) (enumerate_from l.number (drop l.number d.areas))) l.marks
+    ≡ marked_all (map (fixed_pages s) (enumerate_from 0 d.areas)) (replicate d.pool 46)

@@ -1,0 +1,51 @@
+use Rattle.std.proofs.Common.{◌≡◌, ℕ, ◌<◌, ◌≤◌, ◌+◌, ◌-◌, ◌++◌, Bool, true, false, List, [], ◌∷◌, Option, Some, None, length, map, ap, ap₂, sym, subst, refl, ◌∙◌, append_assoc, arith}
+use Rattle.std.specs.Prelude.{◌==◌, ◌&&◌, filter}
+use Rattle.std.specs.Option.{option_map}
+use Rattle.rh_defs.specs.Messages.{Parcel}
+use Rattle.rh_figure.specs.Changes.{returns_text, sent_text, taken_text}
+use Rattle.rh_figure.specs.Phrases.{Text, is_returned}
+use Rattle.rh_figure.specs.Scene.{Scene, waiting}
+use Rattle.rh_map.specs.Written.{shown_lines}
+use Rattle.rh_sight.specs.Seen.{letter_seen}
+use Rattle.rh_sight.specs.Steps.{scene_at}
+use Rattle.rh_drawn.specs.Parts.{indented, post_part}
+use Rattle.rh_drawn.proofs.Walks.{indented-append, lines_stop, lines_then, puts_none, puts_same}
+use Rattle.rh_drawn.proofs.post_changes.print_post_part.Goals as goal
+
+abbrev returned : Scene → List Text
+returned x = map (returns_text x) (filter (λ (p : Parcel). p.message.my_ref == x.before.held && is_returned p.code) (waiting x))
+
+post-parts : (x : Scene) → post_part x ≡ indented (returned x) ++ (indented (taken_text x x.marks.taken) ++ indented (sent_text x x.marks.sent))
+post-parts x =
+    indented-append (returned x ++ taken_text x x.marks.taken) (sent_text x x.marks.sent)
+    ∙ (ap (λ z. z ++ indented (sent_text x x.marks.sent)) (indented-append (returned x) (taken_text x x.marks.taken))
+    ∙ append_assoc (indented (returned x)) (indented (taken_text x x.marks.taken)) (indented (sent_text x x.marks.sent)))
+
+pub returns-in_err-print_returned : goal.returns-in_err-print_returned
+returns-in_err-print_returned g c =
+    let x = scene_at (g.S.Sight.desk c.args.sight.now) c.args.step.now in
+    puts_same (ap shown_lines (sym (post-parts x)))
+    (lines_stop _ (indented (returned x)) (indented (taken_text x x.marks.taken) ++ indented (sent_text x x.marks.sent)) c.in_err-print_returned.ensures c.from_residual.ensures.0)
+
+pub returns-in_err-print_taken : goal.returns-in_err-print_taken
+returns-in_err-print_taken g c =
+    let x = scene_at (g.S.Sight.desk c.args.sight.now) c.args.step.now in
+    puts_same (ap shown_lines (sym (post-parts x)))
+    (lines_then (indented (returned x)) (indented (taken_text x x.marks.taken) ++ indented (sent_text x x.marks.sent)) c.in_ok-print_returned.ensures
+    (lines_stop _ (indented (taken_text x x.marks.taken)) (indented (sent_text x x.marks.sent)) c.in_err-print_taken.ensures c.from_residual-in_err-print_taken.ensures.0))
+
+pub returns-in-Some : goal.returns-in-Some
+returns-in-Some g c =
+    let x = scene_at (g.S.Sight.desk c.args.sight.now) c.args.step.now in
+    puts_same (ap shown_lines (sym (post-parts x)))
+    (lines_then (indented (returned x)) (indented (taken_text x x.marks.taken) ++ indented (sent_text x x.marks.sent)) c.in_ok-print_returned.ensures
+    (lines_then (indented (taken_text x x.marks.taken)) (indented (sent_text x x.marks.sent)) c.in_ok-print_taken.ensures
+    (puts_same (ap (λ o. shown_lines (indented (sent_text x (option_map letter_seen o)))) (sym c.in-Some.is)) (c.print_sent.ensures x.share x.before x.marks))))
+
+pub returns-in-None : goal.returns-in-None
+returns-in-None g c =
+    let x = scene_at (g.S.Sight.desk c.args.sight.now) c.args.step.now in
+    puts_same (ap shown_lines (sym (post-parts x)))
+    (lines_then (indented (returned x)) (indented (taken_text x x.marks.taken) ++ indented (sent_text x x.marks.sent)) c.in_ok-print_returned.ensures
+    (lines_then (indented (taken_text x x.marks.taken)) (indented (sent_text x x.marks.sent)) c.in_ok-print_taken.ensures
+    (puts_same (ap (λ o. shown_lines (indented (sent_text x (option_map letter_seen o)))) (sym c.in-None.is)) (puts_none _))))

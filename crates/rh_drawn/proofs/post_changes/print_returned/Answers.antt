@@ -1,0 +1,66 @@
+use Rattle.std.proofs.Common.{◌≡◌, ℕ, ◌<◌, ◌≤◌, ◌+◌, ◌-◌, ◌++◌, Bool, true, false, List, [], ◌∷◌, Option, Some, None, length, take, drop, map, ap, ap₂, sym, subst, refl, ◌∙◌, append_assoc, append-nil, arith}
+use Rattle.std.specs.Prelude.{◌==◌, ◌&&◌, filter, if◌then◌else◌}
+use Rattle.std.specs.List.{flat_map}
+use Rattle.std.proofs.lemmas.Grind.{flat_map-append}
+use Rattle.rh_defs.specs.Desk.{Desk, task_at}
+use Rattle.rh_defs.specs.Messages.{Parcel, action_of}
+use Rattle.rh_figure.specs.Changes.{returns_line}
+use Rattle.rh_figure.specs.Phrases.{Text, is_returned, task_name}
+use Rattle.rh_map.specs.Written.{shown_lines}
+use Rattle.rh_map.proofs.Left.{Left, left_breaks, left_less, left_none, left_whole}
+use Rattle.rh_sight.specs.declared.sight.MessageItem.{MessageItem}
+use Rattle.rh_sight.specs.Messages.{held_on, item_of, message_items, waiting_on}
+use Rattle.rh_drawn.specs.Parts.{indented}
+use Rattle.rh_drawn.specs.Returns.{return_lines}
+use Rattle.rh_drawn.proofs.Walks.{indented-each, walk-at, walk-end}
+use Rattle.rh_drawn.proofs.post_changes.print_returned.Goals as goal
+
+abbrev goes_back : ℕ → Parcel → Bool
+goes_back held p = p.message.my_ref == held && is_returned p.code
+
+abbrev line_of : Desk → Parcel → Text
+line_of d p = returns_line (action_of p.message.body) p.message.my_ref (task_name d p.to)
+
+no-holds : (d : Desk) (held : ℕ) (ps : List Parcel) → flat_map (return_lines d held) (map (item_of true) ps) ≡ []
+no-holds d held [] = refl
+no-holds d held (p ∷ ps) = no-holds d held ps
+
+waits : (d : Desk) (held : ℕ) (ps : List Parcel) → map (line_of d) (filter (goes_back held) ps) ≡ flat_map (return_lines d held) (map (item_of false) ps)
+waits d held [] = refl
+waits d held (p ∷ ps) = go (goes_back held p) refl (waits d held ps)
+  where
+    go : (b : Bool) → goes_back held p ≡ b → map (line_of d) (filter (goes_back held) ps) ≡ flat_map (return_lines d held) (map (item_of false) ps)
+        → map (line_of d) (filter (goes_back held) (p ∷ ps)) ≡ flat_map (return_lines d held) (map (item_of false) (p ∷ ps))
+    go true e rest = rw e (ap (λ z. line_of d p ∷ z) rest)
+    go false e rest = rw e rest
+
+-- the messages that go back, by the list of all messages
+returns-are : (d : Desk) (held : ℕ) (ms : List MessageItem) → ms ≡ message_items d → map (line_of d) (filter (goes_back held) (waiting_on d)) ≡ flat_map (return_lines d held) ms
+returns-are d held ms e =
+    waits d held (waiting_on d)
+    ∙ (sym (append-nil (flat_map (return_lines d held) (map (item_of false) (waiting_on d))))
+    ∙ (ap (λ z. flat_map (return_lines d held) (map (item_of false) (waiting_on d)) ++ z) (sym (no-holds d held (held_on d)))
+    ∙ (sym (flat_map-append (return_lines d held) (map (item_of false) (waiting_on d)) (map (item_of true) (held_on d))) ∙ ap (flat_map (return_lines d held)) (sym e))))
+
+pub loop-message-init : goal.loop-message-init
+loop-message-init g c =
+    let d = g.S.Sight.desk c.args.sight.now in
+    let held = c.args.step.now.kept.now.held in
+    let s = g.W.Sink.output c.args.writer.now in
+    let P : List Text → Type 0 = λ z. Left s s (shown_lines (indented (map (line_of d) (filter (goes_back held) (waiting_on d))))) (shown_lines (indented z)) in
+    subst P (returns-are d held c.args.step.now.messages.now c.requires.messages) (left_whole s _)
+
+pub loop-message-preserved : goal.loop-message-preserved
+loop-message-preserved g c =
+    let of = return_lines (g.S.Sight.desk c.args.sight.now) c.args.step.now.kept.now.held in
+    left_less c.loop-message.invariant (walk-at (λ ms. indented (flat_map of ms)) (λ m. indented (of m)) (indented-each of) c.args.step.now.messages.now c.loop-message.message-index c.message-item.result c.loop-message-test.true c.message-item.is) c.in_ok-print_return.ensures.ok
+
+pub returns-in_err-print_return : goal.returns-in_err-print_return
+returns-in_err-print_return g c =
+    let of = return_lines (g.S.Sight.desk c.args.sight.now) c.args.step.now.kept.now.held in
+    left_breaks _ _ c.loop-message.invariant (walk-at (λ ms. indented (flat_map of ms)) (λ m. indented (of m)) (indented-each of) c.args.step.now.messages.now c.loop-message.message-index c.message-item.result c.loop-message-test.true c.message-item.is) c.in_err-print_return.ensures c.from_residual.ensures.0
+
+pub returns : goal.returns
+returns g c =
+    let of = return_lines (g.S.Sight.desk c.args.sight.now) c.args.step.now.kept.now.held in
+    record { ok = left_none c.loop-message.invariant (walk-end (λ ms. indented (flat_map of ms)) refl c.args.step.now.messages.now c.loop-message.message-index c.loop-message-test.false); err = tt }

@@ -1,0 +1,31 @@
+use Rattle.std.proofs.Common.{◌≡◌, ℕ, ◌<◌, ◌≤◌, ◌+◌, ◌-◌, ◌++◌, Bool, true, false, List, [], ◌∷◌, Option, Some, None, length, map, ap, ap₂, sym, subst, refl, ◌∙◌, arith}
+use Rattle.std.specs.Prelude.{codes}
+use Rattle.rh_defs.specs.Messages.{action_of}
+use Rattle.rh_figure.specs.Changes.{bytes_sent_text, sends_line}
+use Rattle.rh_figure.specs.Phrases.{Text, task_name}
+use Rattle.rh_figure.specs.Scene.{scene_of}
+use Rattle.rh_map.specs.Tasks.{who_text}
+use Rattle.rh_map.specs.Written.{shown_lines}
+use Rattle.rh_drawn.specs.Parts.{indented}
+use Rattle.rh_drawn.proofs.Walks.{indented-append, lines_stop, lines_then, puts_line, puts_same}
+use Rattle.rh_drawn.proofs.post_changes.print_sent.Goals as goal
+
+pub returns-in_err-print_bytes : goal.returns-in_err-print_bytes
+returns-in_err-print_bytes g c = λ s b m.
+    let d = g.S.Sight.desk c.args.sight.now in
+    let l = c.args.letter.now in
+    let bytes = bytes_sent_text (scene_of d s b m) l l.body in
+    let line = sends_line (task_name d l.from) (action_of l.body) c.args.my_ref (task_name d l.to) in
+    puts_same (ap shown_lines (sym (indented-append bytes (line ∷ [])))) (lines_stop _ (indented bytes) (indented (line ∷ [])) (c.in_err-print_bytes.ensures s b m) c.from_residual.ensures.0)
+
+pub returns : goal.returns
+returns g c = λ s b m.
+    let d = g.S.Sight.desk c.args.sight.now in
+    let l = c.args.letter.now in
+    let bytes = bytes_sent_text (scene_of d s b m) l l.body in
+    let line = sends_line (task_name d l.from) (action_of l.body) c.args.my_ref (task_name d l.to) in
+    puts_same (ap shown_lines (sym (indented-append bytes (line ∷ []))))
+    (lines_then (indented bytes) (indented (line ∷ [])) (c.in_ok-print_bytes.ensures s b m)
+    (puts_line (ap (λ w. codes "  " ++ sends_line w c.action.result c.args.my_ref (who_text c.who_of-to.result)) c.who_of-from.ensures
+    ∙ (ap (λ w. codes "  " ++ sends_line (task_name d l.from) w c.args.my_ref (who_text c.who_of-to.result)) c.action.ensures
+    ∙ ap (λ w. codes "  " ++ sends_line (task_name d l.from) (action_of l.body) c.args.my_ref w) c.who_of-to.ensures)) c.print_sends.ensures))

@@ -1,0 +1,19 @@
+use Rattle.std.proofs.Common.{◌≡◌, ℕ, ◌<◌, ◌≤◌, ◌+◌, ◌-◌, ◌++◌, Bool, true, false, List, [], ◌∷◌, Option, Some, None, length, map, ap, ap₂, sym, subst, refl, ◌∙◌, arith}
+use Rattle.std.specs.Prelude.{codes}
+use Rattle.rh_figure.specs.Changes.{taken_text, takes_line}
+use Rattle.rh_map.specs.Written.{shown_lines}
+use Rattle.rh_sight.specs.Steps.{scene_at}
+use Rattle.rh_drawn.specs.Parts.{indented}
+use Rattle.rh_drawn.proofs.Walks.{puts_line, puts_none, puts_same}
+use Rattle.rh_drawn.proofs.post_changes.print_taken.Goals as goal
+
+pub returns-in-Some : goal.returns-in-Some
+returns-in-Some g c =
+    let x = scene_at (g.S.Sight.desk c.args.sight.now) c.args.step.now in
+    puts_same (ap (λ o. shown_lines (indented (taken_text x o))) (sym c.in-Some.is))
+    (puts_line (ap (λ w. codes "  " ++ takes_line w c.in-Some.action c.in-Some.my_ref) c.who_of-who.ensures) c.print_takes.ensures)
+
+pub returns-in-None : goal.returns-in-None
+returns-in-None g c =
+    let x = scene_at (g.S.Sight.desk c.args.sight.now) c.args.step.now in
+    puts_same (ap (λ o. shown_lines (indented (taken_text x o))) (sym c.in-None.is)) (puts_none _)

@@ -1,0 +1,91 @@
+use Rattle.std.proofs.Common.{◌≡◌, ◌≤◌, ◌+◌, ◌++◌, [], ◌∷◌, Some, None, length, map, ap, sym, ◌∙◌, refl, arith}
+use Rattle.std.specs.Option.{option_map}
+use Rattle.std.proofs.lemmas.List.{map-append}
+use Rattle.std.proofs.lemmas.Option.{slice_get_within}
+use Rattle.rh_defs.specs.Desk.{Task}
+use Rattle.rh_defs.specs.Heap.{Heap, first_place}
+use Rattle.rh_defs.specs.Slot.{flex_start, heap_start}
+use Rattle.rh_figure.specs.Cards.{cards_from, flex_cards, heap_cards, shown_cards}
+use Rattle.rh_figure.specs.Figure.{slot_drawing}
+use Rattle.rh_figure.specs.Map.{card_line, drawing_lines}
+use Rattle.rh_figure.specs.Rows.{area_rows}
+use Rattle.rh_figure.specs.Scene.{Scene}
+use Rattle.rh_figure.specs.Share.{SlotOf}
+use Rattle.rh_map.specs.Written.{shown_lines}
+use Rattle.rh_sight.specs.declared.sight.HeapOf.TheVariants as heap_of
+use Rattle.rh_sight.specs.declared.sight.PagesOf.TheVariants as pages
+use Rattle.rh_sight.specs.Seen.{IsTaskSeen, heap_seen}
+use Rattle.rh_sight.specs.Steps.{scene_at}
+use Rattle.rh_sight.proofs.Heaps.{task-slot}
+use Rattle.rh_sight.proofs.Holders.{at-some}
+use Rattle.rh_sight.proofs.PieceWalks.{items-long}
+use Rattle.rh_sight.proofs.SlotPieces.{few-blocks}
+use Rattle.rh_drawn.specs.Bands.{card_of_task}
+use Rattle.rh_drawn.specs.Cards.{card_lines}
+use Rattle.rh_drawn.proofs.DrawingLemmas.{rows-are, seen-same}
+use Rattle.rh_drawn.proofs.PageLemmas.{is-some, owned, owned-few, seen-slot}
+use Rattle.rh_drawn.proofs.Walks.{lines_stop, lines_then, puts_same}
+use Rattle.rh_drawn.proofs.slots.print_slot.Goals as goal
+
+pub blocks-requires : goal.blocks-requires
+blocks-requires g c = let r = c.requires.task in slice_get_within (g.S.Sight.desk c.args.sight.now).tasks c.args.i r.0 r.1
+
+pub slot_pieces-requires-clause-task : goal.slot_pieces-requires-clause-task
+slot_pieces-requires-clause-task g c = let r = c.requires.task in (r.0, r.1, r.2, c.deref.ensures.0 ∙ c.blocks-2.ensures r.0 r.1)
+
+pub print_area-requires-clause-few : goal.print_area-requires-clause-few
+print_area-requires-clause-few g c =
+    let r = c.requires.task in
+    let ps = c.args.step.now.pages.now in
+    let seen = seen-slot c.spelled.ensures c.args.i r.0 r.1 in
+    let is = owned c.spelled.ensures ps c.requires.step.shared (pages.Slot c.args.i) (SlotOf r.0.handle) c.pages_of.result.now seen c.pages_of.ensures in
+    omega (arith, ap length is, owned-few c.spelled.ensures ps c.requires.step.shared (pages.Slot c.args.i) (SlotOf r.0.handle) seen c.requires.step.all)
+
+pub print_flex_cards-requires-clause-task : goal.print_flex_cards-requires-clause-task
+print_flex_cards-requires-clause-task g c = let r = c.requires.task in (r.0, r.1, r.2, c.deref-3.ensures.0 ∙ c.blocks-2.ensures r.0 r.1)
+
+pub print_flex_cards-requires-clause-few : goal.print_flex_cards-requires-clause-few
+print_flex_cards-requires-clause-few g c =
+    let r = c.requires.task in
+    let few = few-blocks r.0.slot.blocks (task-slot c.spelled.ensures c.args.i r.0 r.1).anchors in
+    omega (arith, few, items-long (flex_start r.0.slot) r.0.slot.blocks, ap length (c.deref-3.ensures.0 ∙ c.blocks-2.ensures r.0 r.1))
+
+pub print_heap_cards-requires-clause-band : goal.print_heap_cards-requires-clause-band
+print_heap_cards-requires-clause-band g c = let r = c.requires.task in (r.0, r.1, r.2.handle, r.2.taking)
+
+slot-parts : (x : Scene) (t : Task) → drawing_lines (Some (slot_drawing x t)) ≡ area_rows (slot_drawing x t) ++ (card_lines (shown_cards (flex_cards x t)) ++ card_lines (shown_cards (heap_cards x t)))
+slot-parts x t = ap (λ z. area_rows (slot_drawing x t) ++ z) (map-append card_line (shown_cards (flex_cards x t)) (shown_cards (heap_cards x t)))
+
+pub returns-in_err-print_area : goal.returns-in_err-print_area
+returns-in_err-print_area g c = λ t e.
+    let d = g.S.Sight.desk c.args.sight.now in
+    let x = scene_at d c.args.step.now in
+    let seen = seen-slot c.spelled.ensures c.args.i t e in
+    let is = owned c.spelled.ensures c.args.step.now.pages.now c.requires.step.shared (pages.Slot c.args.i) (SlotOf t.handle) c.pages_of.result.now seen c.pages_of.ensures in
+    puts_same (ap shown_lines (sym (slot-parts x t)))
+    (lines_stop _ (area_rows (slot_drawing x t)) (card_lines (shown_cards (flex_cards x t)) ++ card_lines (shown_cards (heap_cards x t)))
+    (puts_same (ap shown_lines (rows-are (slot_drawing x t) _ _ _ refl is (c.deref-2.ensures.0 ∙ c.slot_pieces.ensures t e))) c.in_err-print_area.ensures) c.from_residual.ensures.0)
+
+pub returns-in_err-print_flex_cards : goal.returns-in_err-print_flex_cards
+returns-in_err-print_flex_cards g c = λ t e.
+    let d = g.S.Sight.desk c.args.sight.now in
+    let x = scene_at d c.args.step.now in
+    let seen = seen-slot c.spelled.ensures c.args.i t e in
+    let is = owned c.spelled.ensures c.args.step.now.pages.now c.requires.step.shared (pages.Slot c.args.i) (SlotOf t.handle) c.pages_of.result.now seen c.pages_of.ensures in
+    puts_same (ap shown_lines (sym (slot-parts x t)))
+    (lines_then (area_rows (slot_drawing x t)) (card_lines (shown_cards (flex_cards x t)) ++ card_lines (shown_cards (heap_cards x t)))
+    (puts_same (ap shown_lines (rows-are (slot_drawing x t) _ _ _ refl is (c.deref-2.ensures.0 ∙ c.slot_pieces.ensures t e))) c.in_ok-print_area.ensures)
+    (lines_stop _ (card_lines (shown_cards (flex_cards x t))) (card_lines (shown_cards (heap_cards x t))) (c.in_err-print_flex_cards.ensures t e) c.from_residual-in_err-print_flex_cards.ensures.0))
+
+pub returns : goal.returns
+returns g c = λ t e.
+    let d = g.S.Sight.desk c.args.sight.now in
+    let x = scene_at d c.args.step.now in
+    let seen = seen-slot c.spelled.ensures c.args.i t e in
+    let is = owned c.spelled.ensures c.args.step.now.pages.now c.requires.step.shared (pages.Slot c.args.i) (SlotOf t.handle) c.pages_of.result.now seen c.pages_of.ensures in
+    let heap = at-some (heap_seen (heap_of.Task c.args.i) d) _ t.slot.heap (ap (option_map (λ (u : Task). u.slot.heap)) e) c.print_heap_cards.ensures in
+    puts_same (ap shown_lines (sym (slot-parts x t)))
+    (lines_then (area_rows (slot_drawing x t)) (card_lines (shown_cards (flex_cards x t)) ++ card_lines (shown_cards (heap_cards x t)))
+    (puts_same (ap shown_lines (rows-are (slot_drawing x t) _ _ _ refl is (c.deref-2.ensures.0 ∙ c.slot_pieces.ensures t e))) c.in_ok-print_area.ensures)
+    (lines_then (card_lines (shown_cards (flex_cards x t))) (card_lines (shown_cards (heap_cards x t))) (c.in_ok-print_flex_cards.ensures t e)
+    (puts_same (ap (λ o. shown_lines (card_lines (shown_cards (cards_from (card_of_task x o) (heap_start + first_place) t.slot.heap.segments)))) e) heap)))

@@ -1,0 +1,41 @@
+use Rattle.std.proofs.Common.{◌≡◌, ℕ, ◌<◌, ◌≤◌, ◌+◌, ◌++◌, Bool, true, false, List, [], ◌∷◌, Option, Some, None, length, drop, map, ap, ap₂, sym, subst, refl, ◌∙◌, arith}
+use Rattle.std.proofs.lemmas.Option.{slice_get_within}
+use Rattle.std.specs.Prelude.{◌==◌}
+use Rattle.std.specs.List.{flat_map, list_any}
+use Rattle.rh_defs.specs.Desk.{Task}
+use Rattle.rh_defs.specs.Records.{out_id}
+use Rattle.rh_figure.specs.Figure.{has_id}
+use Rattle.rh_drawn.proofs.TransferLemmas.{out-step, outs}
+use Rattle.rh_drawn.proofs.Walks.{walk-off, walk-on, walk-to}
+use Rattle.rh_drawn.proofs.transfers.has_out.Goals as goal
+
+abbrev out_of : ℕ → List Task → Bool
+out_of id ts = list_any (has_id id) (flat_map outs ts)
+
+pub returns-then-has_id : goal.returns-then-has_id
+returns-then-has_id g c =
+    let s = c.in-Some.ensures.some in
+    let xs = (g.S.Sight.desk c.args.sight.now).tasks in
+    let e : list_any (λ q. out_id q == c.args.id) s.0.sending ≡ true = ap (list_any (λ q. out_id q == c.args.id)) (sym s.2.sending) ∙ (sym c.has_id.ensures ∙ c.if-has_id.true) in
+    walk-to (out_of c.args.id) xs c.tasks.i c.tasks.invariant s.0 true s.1 (out-step c.args.id s.0 (drop (c.tasks.i + 1) xs) true e)
+
+pub overflow_add-i : goal.overflow_add-i
+overflow_add-i g c =
+    let s = c.in-Some.ensures.some in
+    omega (arith, c.in-Some.ensures.few, slice_get_within (g.S.Sight.desk c.args.sight.now).tasks c.tasks.i s.0 s.1)
+
+pub tasks-smaller : goal.tasks-smaller
+tasks-smaller g c =
+    let s = c.in-Some.ensures.some in
+    let inside : c.tasks.i < length (g.S.Sight.desk c.args.sight.now).tasks = slice_get_within (g.S.Sight.desk c.args.sight.now).tasks c.tasks.i s.0 s.1 in
+    omega arith
+
+pub tasks-preserved : goal.tasks-preserved
+tasks-preserved g c =
+    let s = c.in-Some.ensures.some in
+    let xs = (g.S.Sight.desk c.args.sight.now).tasks in
+    let e : list_any (λ q. out_id q == c.args.id) s.0.sending ≡ false = ap (list_any (λ q. out_id q == c.args.id)) (sym s.2.sending) ∙ (sym c.has_id.ensures ∙ c.if-has_id.false) in
+    walk-on (out_of c.args.id) xs c.tasks.i c.tasks.invariant s.0 s.1 (out-step c.args.id s.0 (drop (c.tasks.i + 1) xs) false e)
+
+pub returns : goal.returns
+returns g c = walk-off (out_of c.args.id) (g.S.Sight.desk c.args.sight.now).tasks c.tasks.i c.tasks.invariant false c.in_default.ensures.none refl

@@ -1,0 +1,9 @@
+use Rattle.std.proofs.Common.{◌≡◌, drop}
+use Rattle.std.specs.Prelude.{◌==◌, find}
+use Rattle.rh_defs.specs.Records.{in_id}
+use Rattle.rh_drawn.proofs.transfers.in_record.Given as goal
+
+-- no record so far has the id
+abbrev pub invariant-loop-record : goal.invariant-loop-record
+invariant-loop-record l =
+    find (λ r. in_id r == l.id) (drop l.record-index l.taking) ≡ find (λ r. in_id r == l.id) l.taking

@@ -1,0 +1,18 @@
+use Rattle.std.proofs.Common.{◌≡◌, ◌-◌, length, drop}
+use Rattle.std.specs.Prelude.{find, map}
+use Rattle.std.specs.List.{flat_map}
+use Rattle.rh_defs.specs.Desk.{Task}
+use Rattle.rh_defs.specs.Listing.{in_item}
+use Rattle.rh_drawn.specs.Sides.{ins_of}
+use Rattle.rh_figure.specs.Figure.{has_id}
+use Rattle.rh_drawn.proofs.transfers.in_side.Given as goal
+
+-- no task so far has such a side
+abbrev pub invariant-tasks : goal.invariant-tasks
+invariant-tasks g l =
+    let d = g.S.Sight.desk l.sight in
+    find (has_id l.id) (flat_map (λ (t : Task). map (λ r. (t.name, in_item r)) t.taking) (drop l.i d.tasks))
+    ≡ find (has_id l.id) (ins_of d)
+
+abbrev pub decreases-tasks : goal.decreases-tasks
+decreases-tasks g l = length (g.S.Sight.desk l.sight).tasks - l.i

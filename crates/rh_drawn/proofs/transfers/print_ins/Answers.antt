@@ -1,0 +1,64 @@
+use Rattle.std.proofs.Common.{◌≡◌, ℕ, ◌<◌, ◌≤◌, ◌+◌, ◌++◌, Bool, true, false, List, [], ◌∷◌, Option, Some, None, length, drop, map, ap, ap₂, sym, subst, refl, ◌∙◌, arith}
+use Rattle.std.proofs.lemmas.Option.{slice_get_within}
+use Rattle.std.specs.Prelude.{filter, not}
+use Rattle.std.specs.List.{flat_map, list_any}
+use Rattle.rh_defs.specs.Desk.{Task}
+use Rattle.rh_defs.specs.Listing.{in_item}
+use Rattle.rh_figure.specs.Figure.{Side, has_id}
+use Rattle.rh_figure.specs.Map.{transfer_line}
+use Rattle.rh_figure.specs.Phrases.{Text}
+use Rattle.rh_map.specs.Written.{shown_lines}
+use Rattle.rh_map.proofs.Left.{Left, left_breaks, left_less, left_none, left_whole}
+use Rattle.rh_drawn.specs.Sides.{comes_alone, ins_of, outs_of}
+use Rattle.rh_drawn.proofs.TransferLemmas.{filter-flat, ins, map-flat}
+use Rattle.rh_drawn.proofs.Walks.{puts_same, walk-none, walk-some}
+use Rattle.rh_drawn.proofs.transfers.print_ins.Goals as goal
+
+-- whether a side comes in alone
+abbrev is_alone : List Side → Side → Bool
+is_alone out s = not (list_any (has_id s.1.id) out)
+
+abbrev of_task : List Side → Task → List Text
+of_task out t = map transfer_line (map comes_alone (filter (is_alone out) (ins t)))
+
+pub tasks-init : goal.tasks-init
+tasks-init g c =
+    let d = g.S.Sight.desk c.args.sight.now in
+    let s = g.W.Sink.output c.args.writer.now in
+    let out = outs_of d in
+    let P : List Text → Type 0 = λ z. Left s s (shown_lines (map transfer_line (map comes_alone (filter (is_alone out) (ins_of d))))) (shown_lines z) in
+    subst P (ap (λ z. map transfer_line (map comes_alone z)) (filter-flat (is_alone out) ins d.tasks)
+    ∙ (ap (map transfer_line) (map-flat comes_alone (λ (t : Task). filter (is_alone out) (ins t)) d.tasks)
+    ∙ map-flat transfer_line (λ (t : Task). map comes_alone (filter (is_alone out) (ins t))) d.tasks)) (left_whole s _)
+
+pub overflow_add-i : goal.overflow_add-i
+overflow_add-i g c =
+    let s = c.in-Some.ensures.some in
+    omega (arith, c.in-Some.ensures.few, slice_get_within (g.S.Sight.desk c.args.sight.now).tasks c.tasks.i s.0 s.1)
+
+pub tasks-smaller : goal.tasks-smaller
+tasks-smaller g c =
+    let s = c.in-Some.ensures.some in
+    let inside : c.tasks.i < length (g.S.Sight.desk c.args.sight.now).tasks = slice_get_within (g.S.Sight.desk c.args.sight.now).tasks c.tasks.i s.0 s.1 in
+    omega arith
+
+pub tasks-preserved : goal.tasks-preserved
+tasks-preserved g c =
+    let d = g.S.Sight.desk c.args.sight.now in
+    let s = c.in-Some.ensures.some in
+    let of = of_task (outs_of d) in
+    let e = ap₂ (λ n rs. shown_lines (map transfer_line (map comes_alone (filter (is_alone (outs_of d)) (map (λ r. (n, in_item r)) rs))))) s.2.name s.2.taking in
+    left_less c.tasks.invariant (walk-some (flat_map of) of (λ t rest. refl) d.tasks c.tasks.i s.0 s.1) (puts_same e c.in_ok-print_task_ins.ensures).ok
+
+pub returns-in_err-print_task_ins : goal.returns-in_err-print_task_ins
+returns-in_err-print_task_ins g c =
+    let d = g.S.Sight.desk c.args.sight.now in
+    let s = c.in-Some.ensures.some in
+    let of = of_task (outs_of d) in
+    let e = ap₂ (λ n rs. shown_lines (map transfer_line (map comes_alone (filter (is_alone (outs_of d)) (map (λ r. (n, in_item r)) rs))))) s.2.name s.2.taking in
+    left_breaks _ _ c.tasks.invariant (walk-some (flat_map of) of (λ t rest. refl) d.tasks c.tasks.i s.0 s.1) (puts_same e c.in_err-print_task_ins.ensures) c.from_residual.ensures.0
+
+pub returns : goal.returns
+returns g c =
+    let d = g.S.Sight.desk c.args.sight.now in
+    record { ok = left_none c.tasks.invariant (walk-none (flat_map (of_task (outs_of d))) refl d.tasks c.tasks.i c.in_default.ensures.none); err = tt }

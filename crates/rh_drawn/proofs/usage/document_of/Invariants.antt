@@ -1,0 +1,9 @@
+use Rattle.std.proofs.Common.{◌≡◌, drop}
+use Rattle.std.specs.Prelude.{find}
+use Rattle.rh_defs.specs.Records.{is_document}
+use Rattle.rh_drawn.proofs.usage.document_of.Given as goal
+
+-- no record so far has the block
+abbrev pub invariant-loop-record : goal.invariant-loop-record
+invariant-loop-record l =
+    find (is_document l.anchor) (drop l.record-index l.taking) ≡ find (is_document l.anchor) l.taking

@@ -1,0 +1,9 @@
+use Rattle.std.proofs.Common.{◌≡◌, drop}
+use Rattle.std.specs.Prelude.{find}
+use Rattle.rh_defs.specs.Records.{is_source}
+use Rattle.rh_drawn.proofs.usage.source_of.Given as goal
+
+-- no record so far has the block
+abbrev pub invariant-loop-record : goal.invariant-loop-record
+invariant-loop-record l =
+    find (is_source l.anchor) (drop l.record-index l.sending) ≡ find (is_source l.anchor) l.sending

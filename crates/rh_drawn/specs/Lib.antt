@@ -1,0 +1,11 @@
+pub mod Parts
+pub mod Marked
+pub mod Slides
+pub mod Cards
+pub mod Bands
+pub mod Letters
+pub mod Returns
+pub mod Sides
+pub mod Replies
+pub mod Places
+pub mod Mapped

@@ -1,0 +1,77 @@
+-- The lines of a figure, part by part.
+use Rattle.std.specs.Prelude.{List, [], ◌∷◌, ◌++◌, codes, map, Option}
+use Rattle.std.specs.List.{flat_map}
+use Rattle.rh_defs.specs.Desk.{Task}
+use Rattle.rh_figure.specs.Share.{Holding}
+use Rattle.rh_figure.specs.Phrases.{Text}
+use Rattle.rh_figure.specs.Scene.{Scene}
+use Rattle.rh_figure.specs.Changes.{changes, page_changes, takes_text, block_changes, slides, slide_change, post_changes}
+use Rattle.rh_figure.specs.Figure.{Panel, figure, area_panels, slot_panel, panel_of_module, letterboxes, transfers}
+use Rattle.rh_figure.specs.Map.{heading_line, panel_lines, marked_heading, letterbox_line, transfer_line, under, pool_heading}
+use Rattle.rh_figure.specs.Rows.{pool_rows}
+
+-- lines behind two spaces
+abbrev pub indented : List Text → List Text
+indented lines = map (λ line. codes "  " ++ line) lines
+
+-- the panels of all slots
+abbrev pub slot_panels : Scene → List Panel
+slot_panels x = map (slot_panel x) x.desk.tasks
+
+-- how many pages of the pool are free, and whose they are
+abbrev pub pool_part : Scene → List Text
+pool_part x = pool_heading (figure x) ∷ pool_rows (figure x)
+
+-- panels by their names
+abbrev pub panel_part : List Panel → List Text
+panel_part panels = flat_map (λ (p : Panel). panel_lines p.name p) panels
+
+-- areas that are pages alone
+abbrev pub area_part : Scene → List Text
+area_part x = panel_part (area_panels x)
+
+-- the heading of a slot, and what lies in it where it is drawn
+abbrev pub slot_lines : Scene → Task → List Text
+slot_lines x t = panel_lines (marked_heading (slot_panels x) (codes "Slot ") (slot_panel x t)) (slot_panel x t)
+
+-- the heading of a slot alone
+abbrev pub slot_heading : Scene → Task → Text
+slot_heading x t =
+    heading_line (marked_heading (slot_panels x) (codes "Slot ") (slot_panel x t)) (slot_panel x t).note
+
+-- all slots
+abbrev pub slot_part : Scene → List Text
+slot_part x = flat_map (slot_lines x) x.desk.tasks
+
+-- the module area
+abbrev pub module_part : Scene → List Text
+module_part x = panel_lines (marked_heading (slot_panels x) [] (panel_of_module x)) (panel_of_module x)
+
+-- what each task holds, and what waits for it
+abbrev pub letter_part : Scene → List Text
+letter_part x = under (codes "Messages") (map letterbox_line (letterboxes x))
+
+-- transfers, with the record of either side
+abbrev pub transfer_part : Scene → List Text
+transfer_part x = under (codes "Transfers") (map transfer_line (transfers x))
+
+-- ---- what has changed
+
+-- what an owner has taken
+abbrev pub takes_part : Scene → Holding → List Text
+takes_part x o = indented (takes_text x o)
+
+abbrev pub page_part : Scene → List Text
+page_part x = indented (page_changes x)
+
+abbrev pub block_part : Scene → Option Task → List Text
+block_part x t = indented (block_changes x t)
+
+abbrev pub slide_part : Scene → List Text
+slide_part x = indented (slide_change (slides x))
+
+abbrev pub post_part : Scene → List Text
+post_part x = indented (post_changes x)
+
+abbrev pub change_part : Scene → List Text
+change_part x = indented (changes x)

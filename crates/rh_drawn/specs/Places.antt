@@ -1,0 +1,93 @@
+-- What a map has done with a line of its script.
+use Rattle.std.specs.Prelude.{◌≡◌, ◌||◌, ◌&&◌, not, Bool, true, false, nat_lt, if◌then◌else◌, List, [], ◌∷◌, length, ℕ, Option, Some, None, Err, is_err}
+use Rattle.rh_defs.specs.declared.command.Command.{Command}
+use Rattle.rh_defs.specs.declared.fault.LineFault.TheVariants.{TooLong, Unended}
+use Rattle.rh_defs.specs.declared.reply.Reply.{Reply}
+use Rattle.rh_defs.specs.Line.{Meaning, line_means, longest_line}
+use Rattle.rh_defs.specs.Desk.{Desk}
+use Rattle.rh_defs.specs.Step.{step}
+use Rattle.rh_defs.specs.Order.{IsReordered}
+use Rattle.rh_defs.specs.Text.{reply_text}
+use Rattle.rh_figure.specs.Share.{Share, IsShared}
+use Rattle.rh_figure.specs.Phrases.{Text}
+use Rattle.rh_figure.specs.Scene.{Before, is_still, marks_of, scene_of}
+use Rattle.rh_figure.specs.Map.{Place, Read, after_read, lines_of_read, place, step_lines, written_lines}
+use Rattle.rh_lines.specs.Flow.{Output, Takes, Breaks}
+use Rattle.rh_drawn.specs.declared.mapper.Mapper.{Mapper}
+
+-- where a map stands, by the desk that it looks at
+abbrev pub place_in : {D : Type 0} → (D → Desk) → Mapper D → Place
+place_in desk m = place (desk m.drawn) m.steps m.wanted
+
+-- a map that has taken no line
+pub record IsFirst {D : Type 0} (m : Mapper D) (drawn : D) (marked : Bool) : Type 0 where
+  pub drawn_is : m.drawn ≡ drawn
+  pub marked_is : m.marked ≡ marked
+  pub steps : m.steps ≡ 0
+  pub wanted : m.wanted ≡ false
+  pub well : m.has_bad_line ≡ false
+
+-- two maps stand at one place, whatever they drew a step with
+pub record IsSamePlace {D : Type 0} (m n : Mapper D) : Type 0 where
+  pub drawn_is : n.drawn ≡ m.drawn
+  pub marked_is : n.marked ≡ m.marked
+  pub steps : n.steps ≡ m.steps
+  pub wanted : n.wanted ≡ m.wanted
+  pub bad : n.has_bad_line ≡ m.has_bad_line
+
+-- the second stands where the first does once a line was read, but for the order of messages to different tasks
+pub record Follows {D : Type 0} (desk : D → Desk) (m : Mapper D) (r : Read) (n : Mapper D) : Type 0 where
+  pub desk_is : IsReordered (after_read (place_in desk m) r).desk (desk n.drawn)
+  pub marked_is : n.marked ≡ m.marked
+  pub steps : n.steps ≡ (after_read (place_in desk m) r).steps
+  pub wanted : n.wanted ≡ (after_read (place_in desk m) r).wanted
+  pub bad : n.has_bad_line ≡ (m.has_bad_line || is_err r.1)
+
+-- the lines of one line of a script were written, with some share of the pool behind it
+pub record Drew {D : Type 0} (desk : D → Desk) (m : Mapper D) (o : Output) (line : Text) (meaning : Meaning (Option Command)) (n : Mapper D) (p : Output) : Type 0 where
+  pub share : Share
+  pub shared : IsShared share (after_read (place_in desk m) (line, meaning)).desk
+  pub written : Takes o p (written_lines (lines_of_read m.marked share (place_in desk m) (line, meaning)))
+  pub follows : Follows desk m (line, meaning) n
+
+-- the writer failed, and took a front of them
+pub record Broke {D : Type 0} (desk : D → Desk) (m : Mapper D) (o : Output) (line : Text) (meaning : Meaning (Option Command)) (p : Output) : Type 0 where
+  pub share : Share
+  pub shared : IsShared share (after_read (place_in desk m) (line, meaning)).desk
+  pub broken : Breaks o p (written_lines (lines_of_read m.marked share (place_in desk m) (line, meaning)))
+
+-- the same of a complete line
+abbrev pub TookLine : {D : Type 0} → (D → Desk) → Mapper D → Output → List ℕ → Mapper D → Output → Type 0
+TookLine desk m o line n p = Drew desk m o line (line_means line) n p
+
+abbrev pub BrokeLine : {D : Type 0} → (D → Desk) → Mapper D → Output → List ℕ → Output → Type 0
+BrokeLine desk m o line p = Broke desk m o line (line_means line) p
+
+-- what is wrong with a line that was cut
+abbrev pub rest_means : Text → Meaning (Option Command)
+rest_means rest = if nat_lt longest_line (length rest) then Err TooLong else Err Unended
+
+-- the same of what stands behind the last line feed, which may be nothing
+abbrev pub TookRest : {D : Type 0} → (D → Desk) → Mapper D → Output → List ℕ → Mapper D → Output → Type 0
+TookRest desk m o [] n p = (n ≡ m) × (p ≡ o)
+TookRest desk m o (b ∷ bs) n p = Drew desk m o (b ∷ bs) (rest_means (b ∷ bs)) n p
+
+abbrev pub BrokeRest : {D : Type 0} → (D → Desk) → Mapper D → Output → List ℕ → Output → Type 0
+BrokeRest desk m o [] p = ⊥
+BrokeRest desk m o (b ∷ bs) p = Broke desk m o (b ∷ bs) (rest_means (b ∷ bs)) p
+
+-- ---- steps
+
+-- the reply that is printed to a command
+abbrev pub reply_to : Desk → Command → Text
+reply_to d c = reply_text (step d c).0 c (step d c).1
+
+-- a reply shows of a command what the desk's reply shows
+pub record IsLikeReply (d : Desk) (c : Command) (r : Reply) : Type 0 where
+  pub still : is_still (Some c) r ≡ is_still (Some c) (step d c).1
+  pub marks : (after : Desk) (b : Before) → marks_of after b (Some c) r ≡ marks_of after b (Some c) (step d c).1
+
+-- the lines of a step, on the desk behind it
+abbrev pub shown_step : Bool → ℕ → Text → Text → Desk → Share → Before → Option Command → Reply → List Text
+shown_step wanted number line reply d s b c r =
+    step_lines (is_still c r && not wanted) number line reply (scene_of d s b (marks_of d b c r))

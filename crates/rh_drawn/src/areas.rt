@@ -1,0 +1,92 @@
+//! Areas that are pages alone.
+
+ghost use Rattle.std.specs.Prelude.{◌≡◌, ◌<◌, ◌==◌, [], if◌then◌else◌, map, slice_index};
+ghost use Rattle.rh_drawn.specs.Parts.{area_part, panel_part};
+ghost use Rattle.rh_figure.specs.Figure.{fixed_panel, made_panel, scrap_text};
+ghost use Rattle.rh_lines.specs.Flow.{Puts};
+ghost use Rattle.rh_map.specs.Areas.{scrap_note_of};
+ghost use Rattle.rh_map.specs.Written.{shown_lines};
+ghost use Rattle.rh_sight.specs.Steps.{IsStepOf, scene_at};
+
+use rh_defs::sizes::FIXED_AREAS;
+use rh_lines::{Sink, WriteFailed};
+use rh_map::{ScrapFile, print_fixed_area, print_made_area};
+use rh_sight::{PagesOf, Sight, Step, pages_of};
+
+/// The module area, whose line stands above its own rows.
+const MODULE_AREA: u32 = 1;
+
+/// The area that has the scrap file.
+const SCRAP_AREA: u32 = 5;
+
+/// Writes a line for each of areas 0 to 5 that has pages, but the module area, and for each made area. Fails only
+/// where the writer failed or took none of what it was offered; a front of the lines is then written.
+pub fn print_area_part<S: Sight, W: Sink>(
+    sight: &S,
+    step: &Step<'_>,
+    writer: &mut W,
+) -> Result<(), WriteFailed>
+    requires { IsStepOf (S.desk sight.now) step.now }
+    ensures { Puts (W.output writer.old) (W.output writer.new) result
+        (shown_lines (area_part (scene_at (S.desk sight.now) step.now))) }
+{
+    sight.spelled();
+    for number in 0..FIXED_AREAS as u32 {
+        print_fixed(sight, step, number, writer)?;
+    }
+    print_made(sight, step, writer)
+}
+
+/// Writes the line of one of areas 0 to 5, where it has pages and isn't the module area.
+fn print_fixed<S: Sight, W: Sink>(
+    sight: &S,
+    step: &Step<'_>,
+    number: u32,
+    writer: &mut W,
+) -> Result<(), WriteFailed>
+    requires step { IsStepOf (S.desk sight.now) step.now }
+    requires number { number < 6 }
+    ensures { Puts (W.output writer.old) (W.output writer.new) result
+        (shown_lines (panel_part (fixed_panel (scene_at (S.desk sight.now) step.now) (number, slice_index (S.desk sight.now).areas number)))) }
+{
+    sight.spelled();
+    if number == MODULE_AREA || sight.fixed_pages(number) == 0 {
+        return Ok(());
+    }
+    let pages = pages_of(sight, step.pages, PagesOf::Fixed(number));
+    print_fixed_area(number, pages, scrap_in(sight, number), writer)
+}
+
+/// The scrap file, if it lies in the area with the number.
+fn scrap_in<S: Sight>(sight: &S, number: u32) -> Option<ScrapFile>
+    ensures { scrap_note_of result ≡ (if number == 5 then scrap_text (S.desk sight.now).scrap else []) }
+{
+    if number != SCRAP_AREA {
+        return None;
+    }
+    let scrap = sight.scrap()?;
+    Some(ScrapFile {
+        size: scrap.size,
+        load: scrap.load,
+    })
+}
+
+/// Writes the lines of the made areas.
+fn print_made<S: Sight, W: Sink>(
+    sight: &S,
+    step: &Step<'_>,
+    writer: &mut W,
+) -> Result<(), WriteFailed>
+    requires { IsStepOf (S.desk sight.now) step.now }
+    ensures { Puts (W.output writer.old) (W.output writer.new) result
+        (shown_lines (panel_part (map (made_panel (scene_at (S.desk sight.now) step.now)) (S.desk sight.now).made))) }
+{
+    sight.spelled();
+    let mut i = 0;
+    'areas: while let Some(area) = sight.made(i) {
+        let pages = pages_of(sight, step.pages, PagesOf::Made(i));
+        print_made_area(area.number, area.most, pages, writer)?;
+        i += 1;
+    }
+    Ok(())
+}

@@ -1,0 +1,174 @@
+//! What has changed of the flex blocks of the task that the command names.
+
+ghost use Rattle.std.specs.Prelude.{◌≡◌, ◌≤◌, ◌<◌, [], ◌∷◌, ◌++◌, IfSome, List, filter, flat_map, if◌then◌else◌, length, map, not};
+ghost use Rattle.rh_defs.specs.Desk.{task_at};
+ghost use Rattle.rh_defs.specs.declared.listing.BlockItem.{BlockItem};
+ghost use Rattle.rh_defs.specs.declared.sizes.TheConstants.{ANCHORS};
+ghost use Rattle.rh_drawn.specs.Parts.{block_part, indented, slide_part};
+ghost use Rattle.rh_drawn.specs.Slides.{from_seen, summary_of, with_one};
+ghost use Rattle.rh_figure.specs.Changes.{Slide, block_change, gone_line, has_anchor as has_anchor_in, item_of, slide_change, slide_of};
+ghost use Rattle.rh_lines.specs.Flow.{Puts};
+ghost use Rattle.rh_map.specs.Written.{shown_lines};
+ghost use Rattle.rh_sight.specs.Steps.{scene_at};
+
+use arrayvec::ArrayVec;
+use rh_defs::BlockItem;
+use rh_defs::sizes::ANCHORS;
+use rh_lines::{Sink, WriteFailed};
+use rh_map::{print_block_gone, print_block_new, print_block_resized, print_slide};
+use rh_sight::{Kept, Sight, Step, task_with};
+
+/// Writes which blocks of the named task are gone, are new or have another size, and how those that lie elsewhere
+/// slid. Fails only where the writer failed or took none of what it was offered; a front of the lines is then written.
+pub fn print_block_part<S: Sight, W: Sink>(
+    sight: &S,
+    step: &Step<'_>,
+    blocks: &mut ArrayVec<BlockItem, ANCHORS>,
+    writer: &mut W,
+) -> Result<(), WriteFailed>
+    ensures { let x = scene_at (S.desk sight.now) step.now in
+        Puts (W.output writer.old) (W.output writer.new) result (shown_lines (block_part x (task_at x.before.handle x.desk) ++ slide_part x)) }
+{
+    let Some(i) = task_with(sight, step.kept.handle()) else {
+        return Ok(());
+    };
+    sight.blocks(i, blocks);
+    print_gone(step.kept.blocks(), blocks, writer)?;
+    print_now(step.kept, blocks, writer)?;
+    print_slides(step.kept, blocks, writer)
+}
+
+/// Writes which of the blocks before are gone.
+fn print_gone<W: Sink>(
+    before: &[BlockItem],
+    now: &[BlockItem],
+    writer: &mut W,
+) -> Result<(), WriteFailed>
+    ensures { Puts (W.output writer.old) (W.output writer.new) result
+        (shown_lines (indented (map (λ (b : BlockItem). gone_line b.anchor) (filter (λ (b : BlockItem). not (has_anchor_in b.anchor now.now)) before.now)))) }
+{
+    for block in before {
+        print_if_gone(now, block, writer)?;
+    }
+    Ok(())
+}
+
+/// Writes that a block is gone, if none of those now has its anchor.
+fn print_if_gone<W: Sink>(
+    now: &[BlockItem],
+    block: &BlockItem,
+    writer: &mut W,
+) -> Result<(), WriteFailed>
+    ensures { Puts (W.output writer.old) (W.output writer.new) result
+        (shown_lines (indented (if has_anchor_in block.now.anchor now.now then [] else gone_line block.now.anchor ∷ []))) }
+{
+    if has_anchor(now, block) {
+        return Ok(());
+    }
+    print_block_gone(block.anchor, writer)
+}
+
+/// Whether one of the blocks has the anchor of this one.
+fn has_anchor(blocks: &[BlockItem], block: &BlockItem) -> bool
+    ensures { result ≡ has_anchor_in block.now.anchor blocks.now }
+{
+    blocks.iter().any(|other| other.anchor == block.anchor)
+}
+
+/// Writes which of the blocks are new, and which had another size.
+fn print_now<W: Sink>(kept: &Kept, blocks: &[BlockItem], writer: &mut W) -> Result<(), WriteFailed>
+    ensures { Puts (W.output writer.old) (W.output writer.new) result
+        (shown_lines (indented (flat_map (λ (b : BlockItem). block_change b (item_of b.anchor kept.now.blocks)) blocks.now))) }
+{
+    for block in blocks {
+        print_change(kept, block, writer)?;
+    }
+    Ok(())
+}
+
+/// Writes that a block is new, or had another size, where it is so.
+fn print_change<W: Sink>(kept: &Kept, block: &BlockItem, writer: &mut W) -> Result<(), WriteFailed>
+    ensures { Puts (W.output writer.old) (W.output writer.new) result
+        (shown_lines (indented (block_change block.now (item_of block.now.anchor kept.now.blocks)))) }
+{
+    match kept.block(block.anchor) {
+        None => print_block_new(block.anchor, writer),
+        Some(old) if old.size != block.size => {
+            print_block_resized(block.anchor, old.size, block.size, writer)
+        }
+        Some(_) => Ok(()),
+    }
+}
+
+/// Blocks that slid: how many, and from where to where the lowest of them.
+#[derive(Clone, Copy)]
+struct Slid {
+    count: u32,
+    from: u32,
+    to: u32,
+}
+
+/// Writes how the blocks slid, if some did.
+fn print_slides<W: Sink>(
+    kept: &Kept,
+    blocks: &[BlockItem],
+    writer: &mut W,
+) -> Result<(), WriteFailed>
+    requires { length blocks.now ≤ ANCHORS }
+    ensures { Puts (W.output writer.old) (W.output writer.new) result
+        (shown_lines (indented (slide_change (flat_map (λ (b : BlockItem). slide_of b (item_of b.anchor kept.now.blocks)) blocks.now)))) }
+{
+    match find_slid(kept, blocks) {
+        Some(slid) => print_slide(slid.count, slid.from, slid.to, writer),
+        None => Ok(()),
+    }
+}
+
+/// The blocks that lie elsewhere now, if there are some.
+fn find_slid(kept: &Kept, blocks: &[BlockItem]) -> Option<Slid>
+    requires { length blocks.now ≤ ANCHORS }
+    ensures { result ≡ summary_of (flat_map (λ (b : BlockItem). slide_of b (item_of b.anchor kept.now.blocks)) blocks.now) }
+{
+    let mut found = None;
+    for block in blocks {
+        found = with_block(found, kept, block);
+    }
+    found
+}
+
+/// The same blocks, and this one if it lies elsewhere now.
+fn with_block(found: Option<Slid>, kept: &Kept, block: &BlockItem) -> Option<Slid>
+    requires { IfSome found (λ slid. slid.count < ANCHORS) }
+    ensures { (slides : List Slide) → found ≡ summary_of slides → result ≡ summary_of (slides ++ slide_of block.now (item_of block.now.anchor kept.now.blocks)) }
+{
+    match slid_from(kept, block) {
+        Some(from) => Some(one_more(found, from, block.address)),
+        None => found,
+    }
+}
+
+/// Where a block lay that lies elsewhere now.
+fn slid_from(kept: &Kept, block: &BlockItem) -> Option<u32>
+    ensures { from_seen result block.now.address ≡ slide_of block.now (item_of block.now.anchor kept.now.blocks) }
+{
+    let old = kept.block(block.anchor)?;
+    if old.address == block.address {
+        return None;
+    }
+    Some(old.address)
+}
+
+/// The blocks that slid, with one more above them.
+fn one_more(found: Option<Slid>, from: u32, to: u32) -> Slid
+    requires { IfSome found (λ slid. slid.count < ANCHORS) }
+    ensures { result ≡ with_one found from to }
+{
+    match found {
+        Some(slid) => Slid {
+            count: slid.count + 1,
+            from: slid.from,
+            to: slid.to,
+        },
+        None => Slid { count: 1, from, to },
+    }
+}

@@ -1,0 +1,135 @@
+//! The cards of a task's flex blocks.
+
+ghost use Rattle.std.specs.Prelude.{◌≡◌, ◌≤◌, ◌<◌, ◌∷◌, [], ℕ, length, slice_get, take, Some};
+ghost use Rattle.rh_defs.specs.Desk.{Desk, Task};
+ghost use Rattle.rh_defs.specs.Listing.{block_items};
+ghost use Rattle.rh_defs.specs.declared.listing.BlockItem.{BlockItem};
+ghost use Rattle.rh_drawn.specs.Cards.{card_lines, cards_behind, place_behind};
+ghost use Rattle.rh_figure.specs.Cards.{Card, flex_cards, shown_cards};
+ghost use Rattle.rh_figure.specs.Layout.{is_fresh_flex as is_fresh_flex_in};
+ghost use Rattle.rh_lines.specs.Flow.{Puts};
+ghost use Rattle.rh_map.specs.Written.{shown_lines};
+ghost use Rattle.rh_sight.specs.Seen.{IsTaskSeen};
+ghost use Rattle.rh_sight.specs.Steps.{scene_at};
+
+use crate::cards::{front_length, print_others, shown_count};
+use crate::usage::use_of_block;
+use rh_defs::BlockItem;
+use rh_figure::limits::{CARD_BYTES, MOST_CARDS};
+use rh_lines::{Sink, WriteFailed};
+use rh_map::{CardBlock, print_flex_card};
+use rh_sight::{Sight, Step, TaskSight, is_fresh_flex};
+
+/// Writes the cards of a task's flex blocks, from below. Fails only where the writer failed or took none of what it
+/// was offered; a front of the lines is then written.
+pub fn print_flex_cards<S: Sight, W: Sink>(
+    sight: &S,
+    step: &Step<'_>,
+    i: usize,
+    task: &TaskSight<'_>,
+    blocks: &[BlockItem],
+    writer: &mut W,
+) -> Result<(), WriteFailed>
+    requires task { (t : Task) × (slice_get (S.desk sight.now).tasks i ≡ Some t) × IsTaskSeen task.now t × (blocks.now ≡ block_items t.slot) }
+    requires few { length blocks.now ≤ 64 }
+    ensures { (t : Task) → slice_get (S.desk sight.now).tasks i ≡ Some t → Puts (W.output writer.old) (W.output writer.new) result
+        (shown_lines (card_lines (shown_cards (flex_cards (scene_at (S.desk sight.now) step.now) t)))) }
+{
+    let shown = shown_count(blocks.len());
+    print_first(sight, step, i, task, blocks, shown, writer)?;
+    if shown == blocks.len() {
+        return Ok(());
+    }
+    print_behind(sight, step, i, task, blocks, writer)
+}
+
+/// Writes the cards of the first blocks.
+fn print_first<S: Sight, W: Sink>(
+    sight: &S,
+    step: &Step<'_>,
+    i: usize,
+    task: &TaskSight<'_>,
+    blocks: &[BlockItem],
+    shown: usize,
+    writer: &mut W,
+) -> Result<(), WriteFailed>
+    requires task { (t : Task) × (slice_get (S.desk sight.now).tasks i ≡ Some t) × IsTaskSeen task.now t × (blocks.now ≡ block_items t.slot) }
+    requires few { shown ≤ length blocks.now }
+    ensures { (t : Task) → slice_get (S.desk sight.now).tasks i ≡ Some t → Puts (W.output writer.old) (W.output writer.new) result
+        (shown_lines (card_lines (take shown (flex_cards (scene_at (S.desk sight.now) step.now) t)))) }
+{
+    for k in 0..shown {
+        print_flex(sight, step, i, task, &blocks[k], writer)?;
+    }
+    Ok(())
+}
+
+/// Writes the card of the first changed block of those behind the first 22, and how many are left out.
+fn print_behind<S: Sight, W: Sink>(
+    sight: &S,
+    step: &Step<'_>,
+    i: usize,
+    task: &TaskSight<'_>,
+    blocks: &[BlockItem],
+    writer: &mut W,
+) -> Result<(), WriteFailed>
+    requires task { (t : Task) × (slice_get (S.desk sight.now).tasks i ≡ Some t) × IsTaskSeen task.now t × (blocks.now ≡ block_items t.slot) }
+    requires many { 24 < length blocks.now }
+    requires few { length blocks.now ≤ 64 }
+    ensures { (t : Task) → slice_get (S.desk sight.now).tasks i ≡ Some t → Puts (W.output writer.old) (W.output writer.new) result
+        (shown_lines (card_lines (cards_behind (flex_cards (scene_at (S.desk sight.now) step.now) t)))) }
+{
+    let shown = MOST_CARDS - 2;
+    match next_fresh(step, task, blocks, shown) {
+        Some(k) => {
+            print_flex(sight, step, i, task, &blocks[k], writer)?;
+            print_others(blocks.len() - shown, true, writer)
+        }
+        None => print_others(blocks.len() - shown, false, writer),
+    }
+}
+
+/// The first block from the kth on that the command has changed.
+fn next_fresh(
+    step: &Step<'_>,
+    task: &TaskSight<'_>,
+    blocks: &[BlockItem],
+    from: usize,
+) -> Option<usize>
+    requires { from ≤ length blocks.now }
+    ensures { (d : Desk) → result ≡ place_behind (λ (b : BlockItem). is_fresh_flex_in (scene_at d step.now) task.now.handle b.anchor b.size) from blocks.now }
+{
+    for k in from..blocks.len() {
+        let block = &blocks[k];
+        if is_fresh_flex(step, task.handle, block.anchor, block.size) {
+            return Some(k);
+        }
+    }
+    None
+}
+
+/// Writes the card of a block of a task.
+fn print_flex<S: Sight, W: Sink>(
+    sight: &S,
+    step: &Step<'_>,
+    i: usize,
+    task: &TaskSight<'_>,
+    block: &BlockItem,
+    writer: &mut W,
+) -> Result<(), WriteFailed>
+    requires { (t : Task) × (k : ℕ) × (slice_get (S.desk sight.now).tasks i ≡ Some t) × IsTaskSeen task.now t × (slice_get (block_items t.slot) k ≡ Some block.now) }
+    ensures { (t : Task) (k : ℕ) (c : Card) → slice_get (S.desk sight.now).tasks i ≡ Some t → slice_get (block_items t.slot) k ≡ Some block.now → slice_get (flex_cards (scene_at (S.desk sight.now) step.now) t) k ≡ Some c →
+        Puts (W.output writer.old) (W.output writer.new) result (shown_lines (card_lines (c ∷ []))) }
+{
+    let mut front = [0; CARD_BYTES];
+    let bytes = &mut front[..front_length(block.size)];
+    sight.read_block(i, block, bytes);
+    let card = CardBlock {
+        address: block.address,
+        size: block.size,
+        front: bytes,
+        usage: use_of_block(task.sending, task.taking, block.anchor),
+        fresh: is_fresh_flex(step, task.handle, block.anchor, block.size),
+    };
+    print_flex_card(block.anchor, &card, writer)
+}

@@ -1,0 +1,181 @@
+//! Letterboxes: what each task holds, and what waits for it.
+
+ghost use Rattle.std.specs.Prelude.{◌≡◌, ◌≤◌, ◌<◌, ◌+◌, ◌∷◌, ◌++◌, [], List, filter, find, length, map, min, take};
+ghost use Rattle.std.specs.List.{list_any};
+ghost use Rattle.std.specs.Option.{option_map};
+ghost use Rattle.rh_defs.specs.Desk.{Task};
+ghost use Rattle.rh_drawn.specs.Letters.{entry_seen, has_letters_in, letterboxes_in};
+ghost use Rattle.rh_drawn.specs.Parts.{letter_part};
+ghost use Rattle.rh_figure.specs.Figure.{letterboxes};
+ghost use Rattle.rh_figure.specs.Map.{letterbox_line};
+ghost use Rattle.rh_figure.specs.declared.limits.TheConstants.{MOST_LISTED};
+ghost use Rattle.rh_lines.specs.Flow.{Puts};
+ghost use Rattle.rh_map.specs.Written.{shown_lines};
+ghost use Rattle.rh_map.specs.declared.letterboxes.MessageEntry.{MessageEntry};
+ghost use Rattle.rh_sight.specs.Messages.{is_held_by, waits_for};
+ghost use Rattle.rh_sight.specs.Steps.{IsStepOf, scene_at};
+
+use rh_defs::{Action, EventCode, Handle, Name, Ref};
+use rh_figure::limits::MOST_LISTED;
+use rh_lines::{Sink, WriteFailed};
+use rh_map::{MessageEntry, print_letterbox, put_line};
+use rh_sight::{MessageItem, Sight, Step, held_by};
+
+/// No message, in a place for one.
+const NO_ENTRY: MessageEntry = MessageEntry {
+    my_ref: Ref(0),
+    action: Action::DataSave,
+    code: EventCode::User,
+};
+
+/// The first messages that wait for a task, and how many wait.
+#[derive(Drop)]
+struct Waits {
+    first: [MessageEntry; MOST_LISTED],
+    count: usize,
+}
+
+/// Writes the messages of each task that has some, below a heading. Fails only where the writer failed or took none of
+/// what it was offered; a front of the lines is then written.
+pub fn print_letter_part<S: Sight, W: Sink>(
+    sight: &S,
+    step: &Step<'_>,
+    writer: &mut W,
+) -> Result<(), WriteFailed>
+    requires step { IsStepOf (S.desk sight.now) step.now }
+    requires few { length step.now.messages.now ≤ 256 }
+    ensures { Puts (W.output writer.old) (W.output writer.new) result
+        (shown_lines (letter_part (scene_at (S.desk sight.now) step.now))) }
+{
+    sight.spelled();
+    if !has_letterboxes(sight, step.messages) {
+        return Ok(());
+    }
+    put_line(b"Messages", writer)?;
+    print_letterboxes(sight, step, writer)
+}
+
+/// Whether some task has a message.
+fn has_letterboxes<S: Sight>(sight: &S, messages: &[MessageItem]) -> bool
+    ensures { result ≡ list_any (λ (t : Task). has_letters_in t.handle messages.now) (S.desk sight.now).tasks }
+{
+    let mut i = 0;
+    'tasks: while let Some(task) = sight.task(i) {
+        if has_letters(messages, task.handle) {
+            return true;
+        }
+        i += 1;
+    }
+    false
+}
+
+/// Whether a message is for the task, be it held or waiting.
+fn has_letters(messages: &[MessageItem], handle: Handle) -> bool
+    ensures { result ≡ has_letters_in handle messages.now }
+{
+    messages.iter().any(|message| message.to == handle)
+}
+
+/// Writes the messages of each task that has some.
+fn print_letterboxes<S: Sight, W: Sink>(
+    sight: &S,
+    step: &Step<'_>,
+    writer: &mut W,
+) -> Result<(), WriteFailed>
+    requires step { IsStepOf (S.desk sight.now) step.now }
+    requires few { length step.now.messages.now ≤ 256 }
+    ensures { Puts (W.output writer.old) (W.output writer.new) result
+        (shown_lines (map letterbox_line (letterboxes (scene_at (S.desk sight.now) step.now)))) }
+{
+    sight.spelled();
+    let mut i = 0;
+    'tasks: while let Some(task) = sight.task(i) {
+        print_letters(task.name, task.handle, step.messages, writer)?;
+        i += 1;
+    }
+    Ok(())
+}
+
+/// Writes what a task holds, and what waits for it, if a message is for it.
+fn print_letters<W: Sink>(
+    name: &Name,
+    handle: Handle,
+    messages: &[MessageItem],
+    writer: &mut W,
+) -> Result<(), WriteFailed>
+    requires { length messages.now ≤ 256 }
+    ensures { Puts (W.output writer.old) (W.output writer.new) result
+        (shown_lines (map letterbox_line (letterboxes_in name.now handle messages.now))) }
+{
+    if !has_letters(messages, handle) {
+        return Ok(());
+    }
+    let held = held_entry(messages, handle);
+    let waits = waits_of(messages, handle);
+    let first = &waits.first[..waits.count.min(MOST_LISTED)];
+    print_letterbox(name, held, first, waits.count, writer)
+}
+
+/// The message that a task holds.
+fn held_entry(messages: &[MessageItem], handle: Handle) -> Option<MessageEntry>
+    ensures { result ≡ option_map entry_seen (find (is_held_by handle) messages.now) }
+{
+    match held_by(messages, handle) {
+        Some(message) => Some(entry(&message)),
+        None => None,
+    }
+}
+
+/// The messages that wait for a task.
+fn waits_of(messages: &[MessageItem], handle: Handle) -> Waits
+    requires { length messages.now ≤ 256 }
+    ensures count { result.count ≡ length (map entry_seen (filter (waits_for handle) messages.now)) }
+    ensures first { take (min result.count MOST_LISTED) result.first ≡ take MOST_LISTED (map entry_seen (filter (waits_for handle) messages.now)) }
+{
+    let mut waits = Waits {
+        first: [NO_ENTRY; MOST_LISTED],
+        count: 0,
+    };
+    for message in messages {
+        if is_waiting(message, handle) {
+            waits.note(entry(message));
+        }
+    }
+    waits
+}
+
+/// Whether a message waits for the task.
+fn is_waiting(message: &MessageItem, handle: Handle) -> bool
+    ensures { result ≡ waits_for handle message.now }
+{
+    !message.held && message.to == handle
+}
+
+impl Waits {
+    /// Counts one more, and keeps it if it is one of the first.
+    fn note(&mut self, entry: MessageEntry)
+        requires few { self.old.count < 256 }
+        requires room { length self.old.first ≡ MOST_LISTED }
+        ensures room { length self.new.first ≡ MOST_LISTED }
+        ensures count { self.new.count ≡ self.old.count + 1 }
+        ensures first { (ws : List MessageEntry) → length ws ≡ self.old.count → take (min self.old.count MOST_LISTED) self.old.first ≡ take MOST_LISTED ws →
+            take (min self.new.count MOST_LISTED) self.new.first ≡ take MOST_LISTED (ws ++ entry ∷ []) }
+    {
+        let place = self.count;
+        self.count += 1;
+        if place < MOST_LISTED {
+            self.first[place] = entry;
+        }
+    }
+}
+
+/// A message as a letterbox has it.
+fn entry(message: &MessageItem) -> MessageEntry
+    ensures { result ≡ entry_seen message.now }
+{
+    MessageEntry {
+        my_ref: message.my_ref,
+        action: message.action,
+        code: message.code,
+    }
+}

@@ -1,0 +1,288 @@
+//! A map in the middle of its script.
+
+ghost use Rattle.std.specs.Prelude.{◌≡◌, ◌<◌, ◌+◌, ◌^◌, ◌||◌, ◌&&◌, not, ℕ, List, None, Some, Ok, Err, IfOk, IsTrue, OnErr, OnOk, false};
+ghost use Rattle.std.specs.Option.{option_map};
+ghost use Rattle.rh_defs.specs.Order.{IsReordered};
+ghost use Rattle.rh_defs.specs.Range.{in_range};
+ghost use Rattle.rh_defs.specs.Step.{step};
+ghost use Rattle.rh_drawn.specs.Places.{Broke, Drew, IsFirst, IsLikeReply, IsSamePlace, reply_to, shown_step};
+ghost use Rattle.rh_drawn.specs.Replies.{Excerpts};
+ghost use Rattle.rh_lines.specs.Flow.{Puts};
+ghost use Rattle.rh_figure.specs.Map.{is_mark as is_mark_of};
+ghost use Rattle.rh_figure.specs.Share.{IsShared};
+ghost use Rattle.rh_map.specs.Written.{shown_lines};
+ghost use Rattle.rh_session.specs.Outcome.{status_of};
+ghost use Rattle.rh_sight.specs.Pages.{share_in};
+
+use crate::drawn::Drawn;
+use crate::excerpt::{excerpt_answer, excerpt_fault, excerpt_reply};
+use crate::lists::Lists;
+use crate::steps::{Above, print_step};
+use arrayvec::ArrayVec;
+use rh_defs::sizes::LONGEST_LINE;
+use rh_defs::{Command, LineFault, Question, Reply};
+use rh_feed::LineTaker;
+use rh_lines::{Sink, WriteFailed, read_line};
+use rh_map::{Front, is_mark, print_remark};
+use rh_session::Status;
+use rh_sight::{Kept, Marks, Messages, PageList, Step, is_still};
+use std::alloc::{AllocError, Global};
+
+/// A map in the middle of its script: what is drawn, whether marked steps alone are shown, how many steps are behind
+/// it, whether a mark was seen since the last, whether a line was bad; and what a step is drawn with.
+#[derive(Drop)]
+pub struct Mapper<D> {
+    drawn: D,
+    marked: bool,
+    steps: u32,
+    wanted: bool,
+    has_bad_line: bool,
+    messages: Messages,
+    pages: PageList,
+    lists: Lists,
+    front: Front,
+}
+
+/// What was done at a step: what was kept before, the command with its reply, None for a bad line, how many lines the
+/// reply has, and whether a mark asked for the step.
+#[derive(Clone, Copy)]
+struct Deed<'a> {
+    kept: &'a Kept,
+    command: Option<&'a Command>,
+    reply: &'a Reply,
+    count: u32,
+    wanted: bool,
+}
+
+impl<D: Drawn> Mapper<D> {
+    /// A map that has taken no line. AllocError where memory is refused.
+    pub fn new(alloc: Global, drawn: D, marked: bool) -> Result<Self, AllocError>
+        ensures { IfOk result (λ mapper. IsFirst mapper drawn marked) }
+    {
+        let front = Front::new(alloc)?;
+        Ok(Mapper {
+            drawn,
+            marked,
+            steps: 0,
+            wanted: false,
+            has_bad_line: false,
+            messages: ArrayVec::new(),
+            pages: ArrayVec::new(),
+            lists: Lists::new(),
+            front,
+        })
+    }
+
+    /// Shows a line that asks for nothing, and notes whether it marks the next command.
+    fn skip<W: Sink>(&mut self, line: &[u8], writer: &mut W) -> Result<(), WriteFailed>
+        ensures ok { OnOk result (Drew D.desk self.old (W.output writer.old) line.now (Ok None) self.new (W.output writer.new)) }
+        ensures err { OnErr result (Broke D.desk self.old (W.output writer.old) line.now (Ok None) (W.output writer.new)) }
+        ensures same { self.new.steps ≡ self.old.steps }
+    {
+        self.drawn.page_list(&mut self.pages);
+        self.wanted = is_wanted(self.wanted, line);
+        if holds_unless(self.marked, self.wanted) {
+            return Ok(());
+        }
+        print_remark(line, writer)
+    }
+
+    /// Does the command of a line, and shows the step where it is to be shown.
+    fn carry_out<W: Sink>(
+        &mut self,
+        line: &[u8],
+        command: &Command,
+        writer: &mut W,
+    ) -> Result<(), WriteFailed>
+        requires in_range { IsTrue (in_range command.now) }
+        requires room { self.old.steps + 1 < 2 ^ 32 }
+        ensures ok { OnOk result (Drew D.desk self.old (W.output writer.old) line.now (Ok (Some command.now)) self.new (W.output writer.new)) }
+        ensures err { OnErr result (Broke D.desk self.old (W.output writer.old) line.now (Ok (Some command.now)) (W.output writer.new)) }
+        ensures steps { self.new.steps ≡ self.old.steps + 1 }
+    {
+        let wanted = self.begin_step();
+        if holds_unless(self.marked, wanted) {
+            self.change(command);
+            self.drawn.page_list(&mut self.pages);
+            return Ok(());
+        }
+        self.drawn.messages(&mut self.messages);
+        let kept = Kept::new(&self.drawn, Some(command), &self.messages);
+        let (reply, count) = self.answer(command);
+        let deed = Deed {
+            kept: &kept,
+            command: Some(command),
+            reply: &reply,
+            count,
+            wanted,
+        };
+        self.show(line, deed, writer)
+    }
+
+    /// Shows a line that is bad, where it is to be shown.
+    fn refuse<W: Sink>(
+        &mut self,
+        line: &[u8],
+        fault: &LineFault,
+        writer: &mut W,
+    ) -> Result<(), WriteFailed>
+        requires { self.old.steps + 1 < 2 ^ 32 }
+        ensures ok { OnOk result (Drew D.desk self.old (W.output writer.old) line.now (Err fault.now) self.new (W.output writer.new)) }
+        ensures err { OnErr result (Broke D.desk self.old (W.output writer.old) line.now (Err fault.now) (W.output writer.new)) }
+        ensures steps { self.new.steps ≡ self.old.steps + 1 }
+    {
+        self.has_bad_line = true;
+        let wanted = self.begin_step();
+        self.drawn.page_list(&mut self.pages);
+        if holds_unless(self.marked, wanted) {
+            return Ok(());
+        }
+        self.drawn.messages(&mut self.messages);
+        let kept = Kept::new(&self.drawn, None, &self.messages);
+        let count = excerpt_fault(fault, &mut self.front);
+        let command: Option<&Command> = None;
+        let reply = Reply::Done;
+        let deed = Deed {
+            kept: &kept,
+            command,
+            reply: &reply,
+            count,
+            wanted,
+        };
+        self.show(line, deed, writer)
+    }
+
+    /// Counts one more step, and answers whether a mark asked for it.
+    fn begin_step(&mut self) -> bool
+        requires { self.old.steps + 1 < 2 ^ 32 }
+        ensures wanted { result ≡ self.old.wanted }
+        ensures next { self.new ≡ record self.old { steps = self.old.steps + 1; wanted = false } }
+    {
+        let wanted = self.wanted;
+        self.steps += 1;
+        self.wanted = false;
+        wanted
+    }
+
+    /// Does a command of a step that isn't shown. A question changes nothing.
+    fn change(&mut self, command: &Command)
+        requires { IsTrue (in_range command.now) }
+        ensures desk { IsReordered (step (D.desk self.old.drawn) command.now).0 (D.desk self.new.drawn) }
+        ensures rest { self.new ≡ record self.old { drawn = self.new.drawn } }
+    {
+        if let Command::Ask(_) = command {
+            return;
+        }
+        self.drawn.apply(command);
+    }
+
+    /// Does a command, puts the front of its reply in its place, and answers the reply and how many lines it has. A
+    /// question changes nothing, and its answer's words and numbers aren't needed: Done stands in their place.
+    fn answer(&mut self, command: &Command) -> (Reply, u32)
+        requires { IsTrue (in_range command.now) }
+        ensures desk { IsReordered (step (D.desk self.old.drawn) command.now).0 (D.desk self.new.drawn) }
+        ensures reply { IsLikeReply (D.desk self.old.drawn) command.now result.0 }
+        ensures excerpt { Excerpts self.new.front.bytes result.1 (reply_to (D.desk self.old.drawn) command.now) }
+        ensures rest { self.new ≡ record self.old { drawn = self.new.drawn; front = self.new.front } }
+    {
+        if let Command::Ask(question) = command {
+            let count = excerpt_answer(&self.drawn, question, &mut self.front);
+            return (Reply::Done, count);
+        }
+        let reply = self.drawn.apply(command);
+        let count = excerpt_reply(&reply, &mut self.front);
+        (reply, count)
+    }
+
+    /// Writes a step, of which the reply's front stands in its place.
+    fn show<W: Sink>(
+        &mut self,
+        line: &[u8],
+        deed: Deed<'_>,
+        writer: &mut W,
+    ) -> Result<(), WriteFailed>
+        ensures text { (text : List ℕ) → Excerpts self.old.front.bytes deed.entry.count text → Puts (W.output writer.old) (W.output writer.new) result
+            (shown_lines (shown_step deed.entry.wanted self.old.steps line.now text (D.desk self.old.drawn) (share_in self.new.pages.items (D.desk self.old.drawn)) deed.entry.kept.now (option_map (λ c. c.now) deed.entry.command) deed.entry.reply.now)) }
+        ensures shared { IsShared (share_in self.new.pages.items (D.desk self.old.drawn)) (D.desk self.old.drawn) }
+        ensures same { IsSamePlace self.old self.new }
+    {
+        self.drawn.messages(&mut self.messages);
+        self.drawn.page_list(&mut self.pages);
+        let marks = Marks::new(&self.drawn, deed.kept, deed.command, deed.reply);
+        let step = Step {
+            kept: deed.kept,
+            marks,
+            messages: &self.messages,
+            pages: &self.pages,
+        };
+        let above = Above {
+            number: self.steps,
+            line,
+            front: self.front.as_slice(),
+            count: deed.count,
+            is_still: holds_unless(is_still(deed.command, deed.reply), deed.wanted),
+        };
+        print_step(&self.drawn, &step, &above, &mut self.lists, writer)
+    }
+
+    /// How the map went so far.
+    pub fn status(&self) -> Status
+        ensures { result ≡ status_of self.now.has_bad_line }
+    {
+        if self.has_bad_line {
+            Status::BadLines
+        } else {
+            Status::Clean
+        }
+    }
+}
+
+/// Whether the next command is wanted, behind one more line that asks for nothing.
+fn is_wanted(wanted: bool, line: &[u8]) -> bool
+    ensures { result ≡ (wanted || is_mark_of line.now) }
+{
+    wanted || is_mark(line)
+}
+
+/// Whether this holds, unless that does.
+fn holds_unless(this: bool, that: bool) -> bool
+    ensures { result ≡ (this && not that) }
+{
+    this && !that
+}
+
+impl<D: Drawn> LineTaker for Mapper<D> {
+    ghost use Rattle.std.specs.Prelude.{◌-◌, ◌^◌};
+    ghost use Rattle.rh_drawn.specs.Places.{BrokeLine, BrokeRest, TookLine, TookRest};
+
+    ghost took = { TookLine D.desk };
+
+    ghost broke = { BrokeLine D.desk };
+
+    ghost took_rest = { TookRest D.desk };
+
+    ghost broke_rest = { BrokeRest D.desk };
+
+    ghost room = { λ m. 2 ^ 32 - 1 - m.steps };
+
+    fn take_line<W: Sink>(&mut self, line: &[u8], writer: &mut W) -> Result<(), WriteFailed> {
+        let mut command = Command::Ask(Question::Areas);
+        match read_line(line, &mut command) {
+            Ok(false) => self.skip(line, writer),
+            Ok(true) => self.carry_out(line, &command, writer),
+            Err(fault) => self.refuse(line, &fault, writer),
+        }
+    }
+
+    fn take_rest<W: Sink>(&mut self, rest: &[u8], writer: &mut W) -> Result<(), WriteFailed> {
+        if rest.is_empty() {
+            return Ok(());
+        }
+        let fault = if rest.len() > LONGEST_LINE {
+            LineFault::TooLong
+        } else {
+            LineFault::Unended
+        };
+        self.refuse(rest, &fault, writer)
+    }
+}

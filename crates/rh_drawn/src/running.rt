@@ -1,0 +1,64 @@
+//! The map of a whole script.
+
+ghost use Rattle.std.specs.Prelude.{◌≡◌, ◌≤◌, false, true, IfOk, IsErrOf};
+ghost use Rattle.rh_defs.specs.Desk.{Desk};
+ghost use Rattle.rh_drawn.specs.Mapped.{Mapped, MappedSoFar, MappedUntil, fault_of};
+ghost use Rattle.rh_feed.specs.Taken.{too_many_reads};
+ghost use Rattle.rh_figure.specs.Map.{place};
+
+use crate::drawn::Drawn;
+use crate::mapper::Mapper;
+use rh_feed::{FeedFault, feed_all};
+use rh_lines::{Sink, Source};
+use rh_session::{RunFault, Status};
+use std::alloc::Global;
+
+/// Runs a script over what can be drawn, and writes its map: each step, or marked steps alone, each before it reads
+/// on. It takes memory before its first read only, and gives up after 1,000,000 reads that gave bytes.
+pub fn map_script<D: Drawn, R: Source, W: Sink>(
+    alloc: Global,
+    drawn: D,
+    marked: bool,
+    reader: &mut R,
+    writer: &mut W,
+) -> Result<Status, RunFault>
+    requires { (R.input reader.old).reads ≡ 0 }
+
+    // The whole script was read, and its map was written.
+    ensures ok { IfOk result (λ status. (d : Desk) → D.spells drawn d → Mapped marked (place d 0 false) (R.input reader.old) (R.input reader.new) (W.output writer.old) (W.output writer.new) status) }
+
+    // Nothing was read or written.
+    ensures no_memory { IsErrOf result RunFault.NoMemory → (R.input reader.new ≡ R.input reader.old) × (W.output writer.new ≡ W.output writer.old) }
+
+    // The map of the complete lines that were read has been written.
+    ensures read_failed { IsErrOf result RunFault.ReadFailed → (R.input reader.new).failed ≡ true }
+    ensures read_mapped { IsErrOf result RunFault.ReadFailed → (d : Desk) → D.spells drawn d → MappedSoFar marked (place d 0 false) (R.input reader.old) (R.input reader.new) (W.output writer.old) (W.output writer.new) }
+    ensures too_long { IsErrOf result RunFault.TooLong → ((R.input reader.new).reads ≡ too_many_reads) × ((R.input reader.new).failed ≡ (R.input reader.old).failed) }
+    ensures long_mapped { IsErrOf result RunFault.TooLong → (d : Desk) → D.spells drawn d → MappedSoFar marked (place d 0 false) (R.input reader.old) (R.input reader.new) (W.output writer.old) (W.output writer.new) }
+
+    // The writer failed, and took a front of the map of some lines.
+    ensures write_failed { IsErrOf result RunFault.WriteFailed → (d : Desk) → D.spells drawn d → MappedUntil marked (place d 0 false) (R.input reader.old) (R.input reader.new) (W.output writer.old) (W.output writer.new) }
+
+    // However it ends, at most so many reads gave bytes.
+    ensures reads { (R.input reader.new).reads ≤ too_many_reads }
+{
+    let Ok(mut mapper) = Mapper::new(alloc, drawn, marked) else {
+        return Err(RunFault::NoMemory);
+    };
+    match feed_all(alloc, &mut mapper, reader, writer) {
+        Ok(()) => Ok(mapper.status()),
+        Err(fault) => Err(run_fault(fault)),
+    }
+}
+
+/// The fault of a run.
+fn run_fault(fault: FeedFault) -> RunFault
+    ensures { result ≡ fault_of fault }
+{
+    match fault {
+        FeedFault::NoMemory => RunFault::NoMemory,
+        FeedFault::ReadFailed => RunFault::ReadFailed,
+        FeedFault::WriteFailed => RunFault::WriteFailed,
+        FeedFault::TooLong => RunFault::TooLong,
+    }
+}

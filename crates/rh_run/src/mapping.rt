@@ -1,0 +1,52 @@
+//! The map of a whole script over a fresh desk.
+
+ghost use Rattle.std.specs.Prelude.{◌≡◌, ◌≤◌, true, IfOk, IsErrOf};
+ghost use Rattle.rh_defs.specs.declared.sizes.TheConstants.{MAX_PAGES, MIN_PAGES};
+ghost use Rattle.rh_drawn.specs.Mapped.{Mapped, MappedSoFar, MappedUntil};
+ghost use Rattle.rh_figure.specs.Map.{first_place};
+ghost use Rattle.rh_session.specs.Outcome.{too_many_reads};
+
+use crate::world::PagedWorld;
+use rh_defs::Files;
+use rh_drawn::map_script;
+use rh_lines::{Sink, Source};
+use rh_session::{RunFault, Status};
+use std::alloc::Global;
+
+/// Runs a script over a fresh desk of 8 to 1,024 pages, and writes its map: each step, or marked steps alone, each
+/// before it reads on. It takes memory before its first read only, and gives up after 1,000,000 reads that gave bytes.
+pub fn draw_map<R: Source, W: Sink>(
+    alloc: Global,
+    files: Files,
+    reader: &mut R,
+    writer: &mut W,
+    pages: u32,
+    marked: bool,
+) -> Result<Status, RunFault>
+    requires least { MIN_PAGES ≤ pages }
+    requires most { pages ≤ MAX_PAGES }
+    requires fresh { (R.input reader.old).reads ≡ 0 }
+
+    // The whole script was read, and its map was written.
+    ensures ok { IfOk result (λ status. Mapped marked (first_place pages files) (R.input reader.old) (R.input reader.new) (W.output writer.old) (W.output writer.new) status) }
+
+    // Nothing was read or written.
+    ensures no_memory { IsErrOf result RunFault.NoMemory → (R.input reader.new ≡ R.input reader.old) × (W.output writer.new ≡ W.output writer.old) }
+
+    // The map of the complete lines that were read has been written.
+    ensures read_failed { IsErrOf result RunFault.ReadFailed → (R.input reader.new).failed ≡ true }
+    ensures read_mapped { IsErrOf result RunFault.ReadFailed → MappedSoFar marked (first_place pages files) (R.input reader.old) (R.input reader.new) (W.output writer.old) (W.output writer.new) }
+    ensures too_long { IsErrOf result RunFault.TooLong → ((R.input reader.new).reads ≡ too_many_reads) × ((R.input reader.new).failed ≡ (R.input reader.old).failed) }
+    ensures long_mapped { IsErrOf result RunFault.TooLong → MappedSoFar marked (first_place pages files) (R.input reader.old) (R.input reader.new) (W.output writer.old) (W.output writer.new) }
+
+    // The writer failed, and took a front of the map of some lines.
+    ensures write_failed { IsErrOf result RunFault.WriteFailed → MappedUntil marked (first_place pages files) (R.input reader.old) (R.input reader.new) (W.output writer.old) (W.output writer.new) }
+
+    // However it ends, at most so many reads gave bytes.
+    ensures reads { (R.input reader.new).reads ≤ too_many_reads }
+{
+    match PagedWorld::new(alloc, files, pages) {
+        Ok(world) => map_script(alloc, world, marked, reader, writer),
+        Err(_) => Err(RunFault::NoMemory),
+    }
+}

@@ -1,0 +1,197 @@
+//! A world of scattered pages as what a picture is drawn of.
+
+ghost use Rattle.std.specs.Prelude.{◌≡◌, ◌≤◌, ◌<◌, ◌+◌, ◌*◌, ◌^◌, ◌++◌, [], get_or, length};
+ghost use Rattle.rh_defs.specs.Memory.{IsOpen, bytes};
+ghost use Rattle.rh_defs.specs.declared.sizes.TheConstants.{MAX_PAGES, PAGE, WORD};
+ghost use Rattle.rh_pages.specs.Paged.{free_of, memory_of, pages_of};
+
+use crate::world::PagedWorld;
+use arrayvec::ArrayVec;
+use rh_defs::sizes::{ANCHORS, C_HEAP_START, MODULE_START, PAGE, WORD};
+use rh_defs::{BlockItem, SegmentItem};
+use rh_drawn::Drawn;
+use rh_pages::PagedStore;
+use rh_sight::{
+    AreaSight, HeapOf, MessageItem, Messages, PageList, ScrapSight, Segments, Sight, TaskSight,
+};
+use rh_store::{AreaId, Pages, Sited, Words};
+use rh_tasks::AreaEntry;
+
+/// Appends the numbers of the free pages.
+fn push_free(store: &PagedStore, list: &mut PageList)
+    requires { length list.old.items + (memory_of store.now).free ≤ MAX_PAGES }
+    ensures { list.new.items ≡ list.old.items ++ free_of store.now }
+{
+    for i in 0..store.free_pages() {
+        list.push(store.free_page(i) as u16);
+    }
+}
+
+/// Appends the numbers of an area's pages.
+fn push_area(store: &PagedStore, area: AreaId, list: &mut PageList)
+    requires opened { IsOpen (memory_of store.now) area.0 }
+    requires room { PAGE * length list.old.items + length (bytes (memory_of store.now) area.0) ≤ PAGE * MAX_PAGES }
+    ensures { list.new.items ≡ list.old.items ++ get_or (pages_of store.now) area.0 [] }
+{
+    for i in 0..store.len(area) / PAGE {
+        list.push(store.page(area, i) as u16);
+    }
+}
+
+/// The address of the bytes of a heap's block, whose segment begins at a place.
+fn block_address(start: usize, place: u32) -> u32
+    requires { start + place + WORD < 2 ^ 32 }
+    ensures { result ≡ start + place + 4 }
+{
+    (start + WORD) as u32 + place
+}
+
+impl Sight for PagedWorld {
+    ghost use Rattle.std.specs.Prelude.{◌≡◌};
+
+    ghost desk = { λ w. w.world.desk };
+
+    fn spelled(&self) {
+        self.world.spelled();
+    }
+
+    fn task(&self, i: usize) -> Option<TaskSight<'_>> {
+        let Some(task) = self.world.task(i) else {
+            return None;
+        };
+        let last_sent = match task.last_sent {
+            Some(sent) => Some((&sent.letter, sent.my_ref)),
+            None => None,
+        };
+        Some(TaskSight {
+            handle: task.handle,
+            name: task.name,
+            buffer: task.buffer,
+            manner: task.manner,
+            pages: task.pages,
+            budging: task.budging,
+            heap_end: task.heap.0,
+            sending: task.sending,
+            taking: task.taking,
+            last_sent,
+        })
+    }
+
+    fn blocks(&self, i: usize, items: &mut ArrayVec<BlockItem, ANCHORS>) {
+        if let Some(task) = self.world.task(i) {
+            self.world.blocks_in(task.handle, items).unwrap();
+        }
+    }
+
+    fn read_block(&self, i: usize, item: &BlockItem, to: &mut [u8]) {
+        if let Some(task) = self.world.task(i) {
+            self.world.read_slot(task.handle, item.address, to).unwrap();
+        }
+    }
+
+    fn heap_end(&self, heap: HeapOf) -> u32 {
+        match heap {
+            HeapOf::Task(i) => match self.world.task(i) {
+                Some(task) => task.heap.0,
+                None => 0,
+            },
+            HeapOf::Module => self.world.module_end(),
+        }
+    }
+
+    fn segments(&self, heap: HeapOf, place: u32) -> Segments {
+        match heap {
+            HeapOf::Task(i) => match self.world.task(i) {
+                Some(task) => self.world.segments_in(task.handle, place).unwrap(),
+                None => ArrayVec::new(),
+            },
+            HeapOf::Module => self.world.module_segments(place),
+        }
+    }
+
+    fn read_heap(&self, heap: HeapOf, place: u32, to: &mut [u8]) {
+        match heap {
+            HeapOf::Task(i) => {
+                if let Some(task) = self.world.task(i) {
+                    let address = block_address(C_HEAP_START, place);
+                    self.world.read_slot(task.handle, address, to).unwrap();
+                }
+            }
+            HeapOf::Module => {
+                let address = block_address(MODULE_START, place);
+                self.world.read_module(address, 0, to).unwrap();
+            }
+        }
+    }
+
+    fn messages(&self, list: &mut Messages) {
+        let mut items = ArrayVec::new();
+        self.world.messages(&mut items);
+        list.clear();
+        for item in &items {
+            list.push(MessageItem {
+                block: item.block,
+                to: item.to,
+                from: item.from,
+                my_ref: item.my_ref,
+                action: item.action,
+                code: item.code,
+                held: item.held,
+            });
+        }
+    }
+
+    fn fixed_pages(&self, number: u32) -> u32 {
+        match self.world.area_entry(number as usize) {
+            Some(AreaEntry::Area { number: _, pages }) => pages,
+            _ => 0,
+        }
+    }
+
+    fn made(&self, i: usize) -> Option<AreaSight> {
+        match self.world.made_area(i) {
+            Some(area) => Some(AreaSight {
+                number: area.number,
+                most: area.most,
+                pages: area.pages,
+            }),
+            None => None,
+        }
+    }
+
+    fn scrap(&self) -> Option<ScrapSight> {
+        match self.world.scrap() {
+            Some(file) => Some(ScrapSight {
+                size: file.size,
+                load: file.load,
+            }),
+            None => None,
+        }
+    }
+
+    fn free_pages(&self) -> u32 {
+        self.world.areas(0).0
+    }
+
+    fn next_ref(&self) -> u64 {
+        self.world.next_ref()
+    }
+
+    fn page_list(&self, list: &mut PageList) {
+        let mut areas = ArrayVec::new();
+        let store = self.world.store(&mut areas);
+        list.clear();
+        push_free(store, list);
+        for area in &areas {
+            push_area(store, *area, list);
+        }
+    }
+}
+
+impl Drawn for PagedWorld {
+    ghost use Rattle.rh_tasks.proofs.Reorders.{reordered-refl};
+
+    ghost seen = { λ w. reordered-refl w.world.desk };
+
+    ghost alike = { λ w d h. h };
+}
