@@ -1,6 +1,6 @@
 -- A whole map, from the lines that were taken.
 use Rattle.std.proofs.Common.{◌≡◌, ◌⊎◌, inl, inr, ℕ, zero, suc, ◌+◌, ◌<◌, ◌≤◌, Bool, true, false, ◌||◌, List, [], ◌∷◌, ◌++◌, length, map, take, refl, sym, ap, ap₂, ◌∙◌, subst, append-nil, append_assoc, arith}
-use Rattle.std.specs.Prelude.{Option, Some, None, Ok, Err, is_err, if◌then◌else◌, nat_lt, not, ◌==◌}
+use Rattle.std.specs.Prelude.{Option, Some, None, Ok, Err, IsErrOf, is_err, if◌then◌else◌, nat_lt, not, ◌==◌}
 use Rattle.std.specs.Io.KnownBytes.{Consumes, IsAtEnd}
 use Rattle.std.specs.List.{list_any}
 use Rattle.std.proofs.lemmas.Bool.{ne_eqb}
@@ -11,6 +11,8 @@ use Rattle.rh_defs.specs.Line.{Meaning, line_means, longest_line}
 use Rattle.rh_defs.specs.Desk.{Desk}
 use Rattle.rh_defs.specs.Order.{IsReordered}
 use Rattle.rh_defs.specs.Script.{ended, has_bad_line, is_bad, unended}
+use Rattle.rh_feed.specs.declared.fault.FeedFault.{FeedFault}
+use Rattle.rh_feed.specs.declared.fault.FeedFault.TheVariants as feed
 use Rattle.rh_feed.specs.Lines.{kept, kept_lines, kept_rest}
 use Rattle.rh_feed.specs.Taken.{BrokeAmong, BrokeAtRest, Fed, FedAll, FedUntil, TookAll}
 use Rattle.rh_feed.proofs.LineLemmas.{is_above, kept_nil, kept_short, split_at}
@@ -21,9 +23,11 @@ use Rattle.rh_figure.specs.Whole.{AreShared, IsMap, read_of}
 use Rattle.rh_lines.specs.Flow.{Input, Output, Takes, Breaks}
 use Rattle.rh_lines.proofs.FlowLemmas.{takes_breaks, takes_more}
 use Rattle.rh_session.specs.Outcome.{status_of}
+use Rattle.rh_session.specs.declared.status.RunFault.{RunFault}
+use Rattle.rh_session.specs.declared.status.RunFault.TheVariants as run
 use Rattle.rh_session.specs.declared.status.Status.{Status}
 use Rattle.rh_drawn.specs.declared.mapper.Mapper.{Mapper}
-use Rattle.rh_drawn.specs.Mapped.{AreFirst, Mapped, MappedSoFar, MappedUntil}
+use Rattle.rh_drawn.specs.Mapped.{AreFirst, Mapped, MappedSoFar, MappedUntil, fault_of}
 use Rattle.rh_drawn.specs.Places.{Broke, BrokeLine, BrokeRest, Drew, IsFirst, TookLine, TookRest, place_in, rest_means}
 use Rattle.rh_drawn.proofs.ReadLemmas.{long_lines, same_read}
 use Rattle.rh_drawn.proofs.MapLemmas.{Drawn, Shows, Stands, after_alike, after_reads, is_bad_read, lines_alike, map_is, shared_alike, shows, stands_on, stands_place, took_lines, written_more}
@@ -305,3 +309,25 @@ pub stands_first : {D : Type 0} {desk : D → Desk} {marked : Bool} {drawn : D} 
 stands_first {D} {desk} {marked} {drawn} {s} d alike first =
     let P : D → Type 0 = λ z. IsReordered d (desk z) in
     record { desk_is = subst P (sym first.drawn_is) alike; steps = first.steps; wanted = first.wanted; marked_is = first.marked_is }
+
+-- ---- why a run ended early
+
+-- the fault of the lines, by that of the run
+feeding_of : RunFault → FeedFault
+feeding_of run.NoMemory = feed.NoMemory
+feeding_of run.ReadFailed = feed.ReadFailed
+feeding_of run.WriteFailed = feed.WriteFailed
+feeding_of run.TooLong = feed.TooLong
+
+there_and_back : (f : FeedFault) → feeding_of (fault_of f) ≡ f
+unfolding feeding_of
+there_and_back feed.NoMemory = refl
+there_and_back feed.ReadFailed = refl
+there_and_back feed.WriteFailed = refl
+there_and_back feed.TooLong = refl
+
+-- no two faults of the lines give one fault of a run
+pub same_fault : {A B : Type 0} {r : RunFault} {f : FeedFault} (g : FeedFault) → r ≡ fault_of f → IsErrOf {T = A} (Err r) (fault_of g) → IsErrOf {T = B} (Err f) g
+same_fault {r = r} {f = f} g is e =
+    let same : fault_of f ≡ fault_of g = cc in
+    ap Err (sym (there_and_back f) ∙ (ap feeding_of same ∙ there_and_back g))

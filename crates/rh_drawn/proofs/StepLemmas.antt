@@ -1,17 +1,18 @@
 -- A map behind one line: what was written, and where it stands.
-use Rattle.std.proofs.Common.{◌≡◌, ℕ, ◌+◌, ◌<◌, Bool, true, false, ◌||◌, List, [], ◌∷◌, ◌++◌, refl, sym, ap, ap₂, ◌∙◌, subst, length, arith}
-use Rattle.std.specs.Prelude.{Option, Some, None, Ok, Err, ◌&&◌, if◌then◌else◌, is_err, not, OnErr, OnOk, Result}
+use Rattle.std.proofs.Common.{◌≡◌, ℕ, ◌+◌, ◌<◌, Bool, true, false, ◌||◌, List, [], ◌∷◌, ◌++◌, refl, sym, ap, ap₂, ◌∙◌, subst, length, arith, eq-eqb}
+use Rattle.std.specs.Prelude.{Option, Some, None, Ok, Err, ◌&&◌, if◌then◌else◌, is_err, not, ◌==◌, OnErr, OnOk, Result}
+use Rattle.std.proofs.lemmas.Bool.{eqb-true}
 use Rattle.rh_defs.specs.declared.command.Command.{Command}
 use Rattle.rh_defs.specs.declared.fault.LineFault.{LineFault}
 use Rattle.rh_defs.specs.declared.reply.Reply.{Reply}
 use Rattle.rh_defs.specs.declared.reply.Reply.TheVariants.{Done}
 use Rattle.rh_defs.specs.Desk.{Desk}
-use Rattle.rh_defs.specs.Line.{line_means}
+use Rattle.rh_defs.specs.Line.{Meaning, line_means}
 use Rattle.rh_defs.specs.Order.{IsReordered}
 use Rattle.rh_defs.specs.Step.{step}
 use Rattle.rh_defs.specs.Text.{fault_text}
 use Rattle.rh_feed.specs.Lines.{kept}
-use Rattle.rh_feed.proofs.LineLemmas.{kept_means}
+use Rattle.rh_feed.proofs.LineLemmas.{kept_means, kept_nil}
 use Rattle.rh_figure.specs.Share.{Share, IsShared}
 use Rattle.rh_figure.specs.Phrases.{Text}
 use Rattle.rh_figure.specs.Scene.{Before, before_of, marks_of, scene_of}
@@ -230,6 +231,30 @@ module _ {D : Type 0} {desk : D → Desk} {m : Mapper D} {o p : Output} where
       let T : Text → Type 0 = λ z. BrokeRest desk m o z p in
       subst T (sym (kept_some b bs)) (subst K (kept_some b bs) here)
 
+-- the same by what was found of the line
+module _ {D : Type 0} (desk : D → Desk) (m : Mapper D) (o p : Output) {E : Type 0} (r : Result Unit E) (line : Text) (found : Meaning (Option Command)) where
+  pub line-took : (n : Mapper D) → found ≡ line_means line → OnOk r (Drew desk m o line found n p) → OnOk r (TookLine desk m o (kept line) n p)
+  line-took n e = let W : Meaning (Option Command) → Type 0 = λ z. Drew desk m o line z n p in on-ok r (λ drew. drew-kept line (subst W e drew))
+
+  pub line-broke : found ≡ line_means line → OnErr r (Broke desk m o line found p) → OnErr r (BrokeLine desk m o (kept line) p)
+  line-broke e = let W : Meaning (Option Command) → Type 0 = λ z. Broke desk m o line z p in on-err r (λ broke. broke-kept line (subst W e broke))
+
+  pub rest-took : (n : Mapper D) → 0 < length line → found ≡ rest_means line → OnOk r (Drew desk m o line found n p) → OnOk r (TookRest desk m o (kept line) n p)
+  rest-took n some e = let W : Meaning (Option Command) → Type 0 = λ z. Drew desk m o line z n p in on-ok r (λ drew. drew-rest line some (subst W e drew))
+
+  pub rest-broke : 0 < length line → found ≡ rest_means line → OnErr r (Broke desk m o line found p) → OnErr r (BrokeRest desk m o (kept line) p)
+  rest-broke some e = let W : Meaning (Option Command) → Type 0 = λ z. Broke desk m o line z p in on-err r (λ broke. broke-rest line some (subst W e broke))
+
+-- something or nothing stands behind the last line feed
+pub has-rest : (rest : Text) → false ≡ (length rest == 0) → 0 < length rest
+has-rest rest e =
+    let other : length rest ≡ 0 → ⊥ = λ q. (let t : false ≡ true = e ∙ eq-eqb (length rest) 0 q in cc) in
+    omega (arith, other)
+
+pub rest-none : {D : Type 0} (desk : D → Desk) (m : Mapper D) (o : Output) (rest : Text) → true ≡ (length rest == 0) → TookRest desk m o (kept rest) m o
+rest-none desk m o [] none = let T : Text → Type 0 = λ z. TookRest desk m o z m o in subst T (sym kept_nil) (refl, refl)
+rest-none desk m o (b ∷ bs) none = let no : length (b ∷ bs) ≡ 0 = eqb-true (length (b ∷ bs)) 0 (sym none) in absurd (omega arith)
+
 -- ---- a step, by what its calls tell
 
 -- a mapper that has counted one more step
@@ -242,6 +267,15 @@ pub record IsRest {D : Type 0} (b a : Mapper D) : Type 0 where
   pub steps : a.steps ≡ b.steps
   pub wanted : a.wanted ≡ b.wanted
   pub bad : a.has_bad_line ≡ b.has_bad_line
+
+-- the rest is of one mapper where what it draws with may be of another
+pub rest-as : {D : Type 0} {b a : Mapper D} (k : Mapper D) → a ≡ record k { marked = b.marked; steps = b.steps; wanted = b.wanted; has_bad_line = b.has_bad_line } → IsRest b a
+rest-as {D} k e = record {
+  marked = ap (λ (z : Mapper D). z.marked) e;
+  steps = ap (λ (z : Mapper D). z.steps) e;
+  wanted = ap (λ (z : Mapper D). z.wanted) e;
+  bad = ap (λ (z : Mapper D). z.has_bad_line) e;
+}
 
 module _ {D : Type 0} (desk : D → Desk) (m b : Mapper D) (o : Output) (line : Text) (w : Bool) (was : w ≡ m.wanted) (counts : Counts m b) where
   hidden-test : (b.marked && not w) ≡ true → (not m.marked || m.wanted) ≡ false
