@@ -1,6 +1,6 @@
 -- A whole map, from the lines that were taken.
-use Rattle.std.proofs.Common.{◌≡◌, ◌⊎◌, inl, inr, ℕ, zero, suc, ◌+◌, ◌<◌, ◌≤◌, Bool, true, false, ◌||◌, List, [], ◌∷◌, ◌++◌, length, map, take, refl, sym, ap, ap₂, ◌∙◌, subst, append-nil, append_assoc, arith}
-use Rattle.std.specs.Prelude.{Option, Some, None, Ok, Err, IsErrOf, is_err, if◌then◌else◌, nat_lt, not, ◌==◌}
+use Rattle.std.proofs.Common.{◌≡◌, ◌⊎◌, inl, inr, ℕ, ◌+◌, ◌<◌, ◌≤◌, Bool, true, false, ◌||◌, List, [], ◌∷◌, ◌++◌, length, map, take, refl, sym, ap, ap₂, ◌∙◌, subst, append-nil, append_assoc, arith}
+use Rattle.std.specs.Prelude.{Option, Err, IsErrOf, is_err, if◌then◌else◌, nat_lt, not, ◌==◌}
 use Rattle.std.specs.Io.KnownBytes.{Consumes, IsAtEnd}
 use Rattle.std.specs.List.{list_any}
 use Rattle.std.proofs.lemmas.Bool.{ne_eqb}
@@ -27,10 +27,10 @@ use Rattle.rh_session.specs.declared.status.RunFault.{RunFault}
 use Rattle.rh_session.specs.declared.status.RunFault.TheVariants as run
 use Rattle.rh_session.specs.declared.status.Status.{Status}
 use Rattle.rh_drawn.specs.declared.mapper.Mapper.{Mapper}
-use Rattle.rh_drawn.specs.Mapped.{AreFirst, Mapped, MappedSoFar, MappedUntil, fault_of}
+use Rattle.rh_drawn.specs.Mapped.{Mapped, MappedSoFar, MappedUntil, fault_of}
 use Rattle.rh_drawn.specs.Places.{Broke, BrokeLine, BrokeRest, Drew, IsFirst, TookLine, TookRest, place_in, rest_means}
 use Rattle.rh_drawn.proofs.ReadLemmas.{long_lines, same_read}
-use Rattle.rh_drawn.proofs.MapLemmas.{Drawn, Shows, Stands, after_alike, after_reads, is_bad_read, lines_alike, map_is, shared_alike, shows, stands_on, stands_place, took_lines, written_more}
+use Rattle.rh_drawn.proofs.MapLemmas.{Drawn, Shows, Stands, after_alike, after_reads, is_bad_read, lines_alike, map_is, shared_alike, shows, stands_place, took_lines, written_more}
 
 -- ---- one line more at the end
 

@@ -1,5 +1,5 @@
 -- A map behind one line: what was written, and where it stands.
-use Rattle.std.proofs.Common.{◌≡◌, ℕ, ◌+◌, ◌<◌, Bool, true, false, ◌||◌, List, [], ◌∷◌, ◌++◌, refl, sym, ap, ap₂, ◌∙◌, subst, length, arith, eq-eqb}
+use Rattle.std.proofs.Common.{◌≡◌, ℕ, ◌+◌, ◌<◌, Bool, true, false, ◌||◌, List, [], ◌∷◌, refl, sym, ap, ap₂, ◌∙◌, subst, length, arith, eq-eqb}
 use Rattle.std.specs.Prelude.{Option, Some, None, Ok, Err, ◌&&◌, if◌then◌else◌, is_err, not, ◌==◌, OnErr, OnOk, Result}
 use Rattle.std.proofs.lemmas.Bool.{eqb-true}
 use Rattle.rh_defs.specs.declared.command.Command.{Command}
@@ -21,7 +21,7 @@ use Rattle.rh_figure.proofs.Alike.{marks-alike, scene-alike}
 use Rattle.rh_lines.specs.Flow.{Breaks, Output, Puts, Takes}
 use Rattle.rh_lines.proofs.FlowLemmas.{takes_none}
 use Rattle.rh_drawn.specs.declared.mapper.Mapper.{Mapper}
-use Rattle.rh_drawn.specs.Places.{Broke, BrokeLine, BrokeRest, Drew, Follows, IsLikeReply, IsSamePlace, TookLine, TookRest, place_in, reply_to, rest_means, shown_step}
+use Rattle.rh_drawn.specs.Places.{Broke, BrokeLine, BrokeRest, Drew, IsLikeReply, IsSamePlace, TookLine, TookRest, place_in, reply_to, rest_means, shown_step}
 use Rattle.rh_drawn.proofs.MapLemmas.{shared_alike}
 use Rattle.rh_drawn.proofs.ReadLemmas.{same_read}
 use Rattle.rh_drawn.proofs.RunLemmas.{kept_some, rest_bad, same_rest}

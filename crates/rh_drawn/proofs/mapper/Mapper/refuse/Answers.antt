@@ -1,4 +1,4 @@
-use Rattle.std.proofs.Common.{◌≡◌, ◌∙◌, Err, true, ap, refl, sym}
+use Rattle.std.proofs.Common.{◌∙◌, true, ap, refl, sym}
 use Rattle.rh_defs.specs.Text.{fault_text}
 use Rattle.rh_map.specs.Written.{shown_lines}
 use Rattle.rh_sight.specs.Pages.{share_in}

@@ -1,4 +1,4 @@
-use Rattle.std.proofs.Common.{◌≡◌, ◌∙◌, List, ℕ, ap, ap₂, subst, sym}
+use Rattle.std.proofs.Common.{◌∙◌, List, ℕ, ap, ap₂, subst, sym}
 use Rattle.std.specs.Prelude.{◌&&◌, not}
 use Rattle.rh_figure.specs.Map.{step_lines}
 use Rattle.rh_figure.specs.Scene.{scene_of}

@@ -1,4 +1,4 @@
-use Rattle.std.proofs.Common.{◌≡◌, Err, sym}
+use Rattle.std.proofs.Common.{Err, sym}
 use Rattle.rh_drawn.proofs.StepLemmas.{has-rest, rest-broke, rest-none, rest-took}
 use Rattle.rh_drawn.proofs.mapper.MapperLineTaker.take_rest.Goals as goal
 
