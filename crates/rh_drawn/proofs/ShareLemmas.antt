@@ -30,7 +30,8 @@ times-among : (k a n : ℕ) → a ≤ k → k < a + n → times k (range_with_le
 times-among k a zero low high = absurd (omega arith)
 times-among k a (suc n) low high = go (a == k) refl (times-above k (a + 1) n) (times-among k (a + 1) n)
   where
-    go : (b : Bool) → (a == k) ≡ b → (k < a + 1 → times k (range_with_len (a + 1) n) ≡ 0) → (a + 1 ≤ k → k < a + 1 + n → times k (range_with_len (a + 1) n) ≡ 1) → times k (range_with_len a (suc n)) ≡ 1
+    go : (b : Bool) → (a == k) ≡ b → (k < a + 1 → times k (range_with_len (a + 1) n) ≡ 0)
+        → (a + 1 ≤ k → k < a + 1 + n → times k (range_with_len (a + 1) n) ≡ 1) → times k (range_with_len a (suc n)) ≡ 1
     go true e above among =
         let same : a ≡ k = eqb-true a k e in
         let rest : times k (range_with_len (a + 1) n) ≡ 0 = above (omega arith) in
@@ -46,19 +47,23 @@ among-each : (o : Owner) (xs : List Holding) (numbers : List ℕ) → total coun
 among-each o [] numbers room = refl
 among-each o (x ∷ xs) numbers room = go (is_owner o x.0) (among-each o xs (drop x.1 numbers) (omega (arith, length-drop x.1 numbers)))
   where
-    go : (b : Bool) → length (pages_among o xs (drop x.1 numbers)) ≡ count_of o xs → length (if b then take x.1 numbers else pages_among o xs (drop x.1 numbers)) ≡ (if b then x.1 else count_of o xs)
+    go : (b : Bool) → length (pages_among o xs (drop x.1 numbers)) ≡ count_of o xs
+        → length (if b then take x.1 numbers else pages_among o xs (drop x.1 numbers)) ≡ (if b then x.1 else count_of o xs)
     go true rest = omega (arith, length-take x.1 numbers)
     go false rest = rest
 
 -- a number stands with one of the owners or behind them all
-times-cuts : (k : ℕ) (f : Holding → ℕ) (xs : List Holding) (numbers : List ℕ) → ((i : ℕ) (x : Holding) → slice_get xs i ≡ Some x → f x ≡ times k (take x.1 (drop (total counted (take i xs)) numbers)))
+times-cuts : (k : ℕ) (f : Holding → ℕ) (xs : List Holding) (numbers : List ℕ)
+    → ((i : ℕ) (x : Holding) → slice_get xs i ≡ Some x → f x ≡ times k (take x.1 (drop (total counted (take i xs)) numbers)))
     → total f xs + times k (drop (total counted xs) numbers) ≡ times k numbers
 times-cuts k f [] numbers each = omega arith
 times-cuts k f (x ∷ xs) numbers each =
     let here : f x ≡ times k (take x.1 numbers) = each 0 x refl in
     let rest : total f xs + times k (drop (total counted xs) (drop x.1 numbers)) ≡ times k (drop x.1 numbers) =
-    times-cuts k f xs (drop x.1 numbers) (λ i y e. each (suc i) y e ∙ ap (λ z. times k (take y.1 z)) (sym (drop-drop (total counted (take i xs)) x.1 numbers))) in
-    let behind : times k (drop (total counted xs) (drop x.1 numbers)) ≡ times k (drop (x.1 + total counted xs) numbers) = ap (times k) (drop-drop (total counted xs) x.1 numbers) in
+    times-cuts k f xs (drop x.1 numbers)
+    (λ i y e. each (suc i) y e ∙ ap (λ z. times k (take y.1 z)) (sym (drop-drop (total counted (take i xs)) x.1 numbers))) in
+    let behind : times k (drop (total counted xs) (drop x.1 numbers)) ≡ times k (drop (x.1 + total counted xs) numbers) =
+    ap (times k) (drop-drop (total counted xs) x.1 numbers) in
     omega (arith, times-cut k x.1 numbers)
 
 -- ---- a desk
@@ -75,9 +80,12 @@ is_shared d is =
       each = λ o. among-each o (holdings d) owned (omega (arith, length-drop free all, used, is.pages));
       free = length-take free all ∙ omega (arith, is.pages);
       once = λ k less.
-          let cuts : total (λ (x : Holding). times k (pages_among x.0 (holdings d) owned)) (holdings d) + times k (drop (total counted (holdings d)) owned) ≡ times k owned =
-          times-cuts k (λ (x : Holding). times k (pages_among x.0 (holdings d) owned)) (holdings d) owned (λ i x e. ap (times k) (among-at (holdings d) i x owned (desk-apart is) e).0) in
-          let none : times k (drop (total counted (holdings d)) owned) ≡ 0 = ap (times k) (drop_all (total counted (holdings d)) owned (omega (arith, length-drop free all, used, is.pages))) in
+          let cuts : total (λ (x : Holding). times k (pages_among x.0 (holdings d) owned)) (holdings d) + times k (drop (total counted (holdings d)) owned)
+          ≡ times k owned =
+          times-cuts k (λ (x : Holding). times k (pages_among x.0 (holdings d) owned)) (holdings d) owned
+          (λ i x e. ap (times k) (among-at (holdings d) i x owned (desk-apart is) e).0) in
+          let none : times k (drop (total counted (holdings d)) owned) ≡ 0 =
+          ap (times k) (drop_all (total counted (holdings d)) owned (omega (arith, length-drop free all, used, is.pages))) in
           let once : times k all ≡ 1 = times-among k 0 d.pool (omega arith) (omega arith) in
           omega (arith, times-cut k free all);
     }

@@ -13,7 +13,8 @@ returns-then-holds_unless-clause-ok g c =
     let desk = g.D.Sight.desk in
     let b = c.begin_step-wanted.new.self in
     let e = c.change.ensures.rest in
-    hidden-command desk c.args.self.now b (g.W.Sink.output c.args.writer.now) c.args.line.now c.begin_step-wanted.result c.begin_step-wanted.ensures.wanted c.begin_step-wanted.ensures.next
+    hidden-command desk c.args.self.now b (g.W.Sink.output c.args.writer.now) c.args.line.now c.begin_step-wanted.result c.begin_step-wanted.ensures.wanted
+    c.begin_step-wanted.ensures.next
     c.args.command.now _ _ (sym c.holds_unless.ensures ∙ c.if-holds_unless.true) c.change.ensures.desk
     (rest-as {b = b} (record b { drawn = c.change.new.self.drawn }) e) (is_shared (desk c.change.new.self.drawn) c.spelled.ensures)
 
@@ -30,9 +31,12 @@ returns g c =
     let next = c.begin_step-wanted.ensures.next in
     let s = share_in c.show.new.self.pages.items (desk a.drawn) in
     let test = sym c.holds_unless.ensures ∙ c.if-holds_unless.false in
-    let text = command-text desk m b o c.args.line.now w was next c.args.command.now s a _ _ test c.answer-reply.ensures.desk c.answer-reply.ensures.reply c.new-kept.ensures (ap (λ (z : Mapper g.row.D.Denot). z.steps) e) in
-    let told = told-command desk m b o c.args.line.now w was next a _ (g.W.Sink.output c.show.new.writer) c.show.result s c.show.ensures.same c.show.ensures.shared c.args.command.now c.answer-reply.ensures.desk
-    (rest-as {b = b} (record b { drawn = a.drawn; messages = c.messages.new.list; front = a.front }) e) (puts_same (ap shown_lines text) (c.show.ensures.text (reply_to (desk b.drawn) c.args.command.now) c.answer-reply.ensures.excerpt)) in
+    let text = command-text desk m b o c.args.line.now w was next c.args.command.now s a _ _ test c.answer-reply.ensures.desk c.answer-reply.ensures.reply
+    c.new-kept.ensures (ap (λ (z : Mapper g.row.D.Denot). z.steps) e) in
+    let told = told-command desk m b o c.args.line.now w was next a _ (g.W.Sink.output c.show.new.writer) c.show.result s c.show.ensures.same
+    c.show.ensures.shared c.args.command.now c.answer-reply.ensures.desk
+    (rest-as {b = b} (record b { drawn = a.drawn; messages = c.messages.new.list; front = a.front }) e)
+    (puts_same (ap shown_lines text) (c.show.ensures.text (reply_to (desk b.drawn) c.args.command.now) c.answer-reply.ensures.excerpt)) in
     record {
       ok = told.0;
       err = told.1;

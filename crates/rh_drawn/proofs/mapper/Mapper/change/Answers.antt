@@ -12,6 +12,3 @@ returns-in-Ask-clause-desk g c =
     let P : Command → Type 0 = λ z. IsReordered (step d z).0 d in
     let Q : Desk → Type 0 = λ z. IsReordered z d in
     subst P (sym c.in-Ask.is) (subst Q (sym (asked-stays d _)) (record { same = record { each = λ h. refl }; rest = refl }))
-
-pub returns-clause-desk : goal.returns-clause-desk
-returns-clause-desk g c = g.met.D.Drawn.alike _ _ (c.apply.ensures.desk _ (g.met.D.Drawn.seen c.args.self.now.drawn))

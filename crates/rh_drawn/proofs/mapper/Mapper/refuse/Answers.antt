@@ -13,7 +13,8 @@ returns-then-holds_unless-clause-ok g c =
     let desk = g.D.Sight.desk in
     let m = record c.args.self.now { has_bad_line = true } in
     let b = c.begin_step-wanted.new.self in
-    fault-from (hidden-fault desk m b (g.W.Sink.output c.args.writer.now) c.args.line.now c.begin_step-wanted.result c.begin_step-wanted.ensures.wanted c.begin_step-wanted.ensures.next
+    fault-from (hidden-fault desk m b (g.W.Sink.output c.args.writer.now) c.args.line.now c.begin_step-wanted.result c.begin_step-wanted.ensures.wanted
+    c.begin_step-wanted.ensures.next
     c.args.fault.now _ _ (sym c.holds_unless.ensures ∙ c.if-holds_unless.true) refl refl refl refl
     (ap (λ (z : Mapper g.row.D.Denot). z.has_bad_line) c.begin_step-wanted.ensures.next) (is_shared (desk b.drawn) c.spelled.ensures))
 
@@ -29,7 +30,8 @@ returns g c =
     let s = share_in c.show.new.self.pages.items (desk b.drawn) in
     let test = sym c.holds_unless.ensures ∙ c.if-holds_unless.false in
     let text = fault-text desk m b o c.args.line.now w was next c.args.fault.now s b c.new-kept.result test refl c.new-kept.ensures refl in
-    let told = told-fault desk m b o c.args.line.now w was next _ _ (g.W.Sink.output c.show.new.writer) c.show.result s c.show.ensures.same c.show.ensures.shared c.args.fault.now refl refl refl refl
+    let told = told-fault desk m b o c.args.line.now w was next _ _ (g.W.Sink.output c.show.new.writer) c.show.result s c.show.ensures.same
+    c.show.ensures.shared c.args.fault.now refl refl refl refl
     (ap (λ (z : Mapper g.row.D.Denot). z.has_bad_line) next)
     (puts_same (ap shown_lines text) (c.show.ensures.text (fault_text c.args.fault.now) c.excerpt_fault-count.ensures)) in
     record {

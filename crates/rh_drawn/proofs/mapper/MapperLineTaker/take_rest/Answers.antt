@@ -8,10 +8,12 @@ returns-then-is_empty-clause-ok g c =
 
 pub returns-clause-ok : goal.returns-clause-ok
 returns-clause-ok g c =
-    rest-took g.D.Sight.desk c.args.self.now (g.W.Sink.output c.args.writer.now) (g.W.Sink.output c.refuse.new.writer) c.refuse.result c.args.rest.now (Err c.rest_fault-fault.result) c.refuse.new.self
+    rest-took g.D.Sight.desk c.args.self.now (g.W.Sink.output c.args.writer.now) (g.W.Sink.output c.refuse.new.writer) c.refuse.result c.args.rest.now
+    (Err c.rest_fault-fault.result) c.refuse.new.self
     (has-rest c.args.rest.now c.if-is_empty.ensures) (sym c.rest_fault-fault.ensures) c.refuse.ensures.ok
 
 pub returns-clause-err : goal.returns-clause-err
 returns-clause-err g c =
-    rest-broke g.D.Sight.desk c.args.self.now (g.W.Sink.output c.args.writer.now) (g.W.Sink.output c.refuse.new.writer) c.refuse.result c.args.rest.now (Err c.rest_fault-fault.result)
+    rest-broke g.D.Sight.desk c.args.self.now (g.W.Sink.output c.args.writer.now) (g.W.Sink.output c.refuse.new.writer) c.refuse.result c.args.rest.now
+    (Err c.rest_fault-fault.result)
     (has-rest c.args.rest.now c.if-is_empty.ensures) (sym c.rest_fault-fault.ensures) c.refuse.ensures.err
