@@ -45,9 +45,6 @@ returns-in-Ask-clause-excerpt g c =
     let Q : List ℕ → Type 0 = λ z. Excerpts front count z in
     subst P (sym c.in-Ask.is) (subst Q (sym (question-text d _ (subst R c.in-Ask.is c.requires))) c.excerpt_answer-count.ensures)
 
-pub returns-clause-desk : goal.returns-clause-desk
-returns-clause-desk g c = g.met.D.Drawn.alike _ _ (c.apply-reply.ensures.desk _ (g.met.D.Drawn.seen c.args.self.now.drawn))
-
 pub returns-clause-reply : goal.returns-clause-reply
 returns-clause-reply g c =
     let d = g.D.Sight.desk c.args.self.now.drawn in
