@@ -1,3 +1,4 @@
+mod ShareLemmas
 mod ReadLemmas
 mod MapLemmas
 mod Walks

@@ -1,26 +1,27 @@
 -- A map behind one line: what was written, and where it stands.
-use Rattle.std.proofs.Common.{◌≡◌, ℕ, ◌+◌, ◌<◌, Bool, true, false, ◌||◌, List, [], ◌∷◌, ◌++◌, refl, sym, ap, ap₂, ◌∙◌, subst, length, arith}
-use Rattle.std.specs.Prelude.{Option, Some, None, Ok, Err, ◌&&◌, if◌then◌else◌, is_err, not, OnErr, OnOk, Result}
+use Rattle.std.proofs.Common.{◌≡◌, ℕ, ◌+◌, ◌<◌, Bool, true, false, ◌||◌, List, [], ◌∷◌, refl, sym, ap, ap₂, ◌∙◌, subst, length, arith, eq-eqb}
+use Rattle.std.specs.Prelude.{Option, Some, None, Ok, Err, ◌&&◌, if◌then◌else◌, is_err, not, ◌==◌, OnErr, OnOk, Result}
+use Rattle.std.proofs.lemmas.Bool.{eqb-true}
 use Rattle.rh_defs.specs.declared.command.Command.{Command}
 use Rattle.rh_defs.specs.declared.fault.LineFault.{LineFault}
 use Rattle.rh_defs.specs.declared.reply.Reply.{Reply}
 use Rattle.rh_defs.specs.declared.reply.Reply.TheVariants.{Done}
 use Rattle.rh_defs.specs.Desk.{Desk}
-use Rattle.rh_defs.specs.Line.{line_means}
+use Rattle.rh_defs.specs.Line.{Meaning, line_means}
 use Rattle.rh_defs.specs.Order.{IsReordered}
 use Rattle.rh_defs.specs.Step.{step}
 use Rattle.rh_defs.specs.Text.{fault_text}
 use Rattle.rh_feed.specs.Lines.{kept}
-use Rattle.rh_feed.proofs.LineLemmas.{kept_means}
+use Rattle.rh_feed.proofs.LineLemmas.{kept_means, kept_nil}
 use Rattle.rh_figure.specs.Share.{Share, IsShared}
 use Rattle.rh_figure.specs.Phrases.{Text}
 use Rattle.rh_figure.specs.Scene.{Before, before_of, marks_of, scene_of}
-use Rattle.rh_figure.specs.Map.{Place, command_lines, fault_lines, is_mark, remark_lines, step_lines, written_lines}
+use Rattle.rh_figure.specs.Map.{Place, command_lines, is_mark, lines_of_read, step_lines, written_lines}
 use Rattle.rh_figure.proofs.Alike.{marks-alike, scene-alike}
 use Rattle.rh_lines.specs.Flow.{Breaks, Output, Puts, Takes}
 use Rattle.rh_lines.proofs.FlowLemmas.{takes_none}
 use Rattle.rh_drawn.specs.declared.mapper.Mapper.{Mapper}
-use Rattle.rh_drawn.specs.Places.{Broke, BrokeLine, BrokeRest, Drew, Follows, IsLikeReply, IsSamePlace, TookLine, TookRest, place_in, reply_to, rest_means, shown_step}
+use Rattle.rh_drawn.specs.Places.{Broke, BrokeLine, BrokeRest, Drew, IsLikeReply, IsSamePlace, TookLine, TookRest, place_in, reply_to, rest_means, shown_step}
 use Rattle.rh_drawn.proofs.MapLemmas.{shared_alike}
 use Rattle.rh_drawn.proofs.ReadLemmas.{same_read}
 use Rattle.rh_drawn.proofs.RunLemmas.{kept_some, rest_bad, same_rest}
@@ -60,6 +61,13 @@ mark-shown false true mark e = refl
 mark-shown false false true e = refl
 mark-shown false false false e = refl
 
+-- lines where a test holds, else none
+when-off : {b : Bool} (xs : List Text) → b ≡ false → (if b then xs else []) ≡ []
+when-off xs e = ap (λ (q : Bool). if q then xs else []) e
+
+when-on : {b : Bool} {xs : List Text} → b ≡ true → (if b then xs else []) ≡ xs
+when-on {xs = xs} e = ap (λ (q : Bool). if q then xs else []) e
+
 pub on-ok : {E A B : Type 0} (r : Result Unit E) → (A → B) → OnOk r A → OnOk r B
 on-ok (Ok v) f a = f a
 on-ok (Err e) f a = tt
@@ -92,8 +100,9 @@ step-shown wanted n line d e s c r is like =
 
 module _ {D : Type 0} (desk : D → Desk) (m : Mapper D) (o : Output) (line : Text) where
   -- a line that asks for nothing
-  pub drew-none : (n : Mapper D) (p : Output) (s : Share) → IsShared s (desk n.drawn) → n.drawn ≡ m.drawn → n.marked ≡ m.marked → n.steps ≡ m.steps → n.wanted ≡ (m.wanted || is_mark line) → n.has_bad_line ≡ m.has_bad_line
-      → Takes o p (written_lines (if not m.marked || m.wanted || is_mark line then remark_lines line else [])) → Drew desk m o line (Ok None) n p
+  pub drew-none : (n : Mapper D) (p : Output) (s : Share) → IsShared s (desk n.drawn) → n.drawn ≡ m.drawn → n.marked ≡ m.marked → n.steps ≡ m.steps
+      → n.wanted ≡ (m.wanted || is_mark line) → n.has_bad_line ≡ m.has_bad_line
+      → Takes o p (written_lines (lines_of_read m.marked s (place_in desk m) (line, Ok None))) → Drew desk m o line (Ok None) n p
   drew-none n p s shared drawn marked steps wanted bad written = record {
     share = s;
     shared = shared-as desk s m.drawn n.drawn drawn shared;
@@ -108,12 +117,13 @@ module _ {D : Type 0} (desk : D → Desk) (m : Mapper D) (o : Output) (line : Te
   }
 
   pub broke-none : (n : Mapper D) (p : Output) (s : Share) → IsShared s (desk n.drawn) → n.drawn ≡ m.drawn
-      → Breaks o p (written_lines (if not m.marked || m.wanted || is_mark line then remark_lines line else [])) → Broke desk m o line (Ok None) p
+      → Breaks o p (written_lines (lines_of_read m.marked s (place_in desk m) (line, Ok None))) → Broke desk m o line (Ok None) p
   broke-none n p s shared drawn broken = record { share = s; shared = shared-as desk s m.drawn n.drawn drawn shared; broken = broken }
 
   -- a command
-  pub drew-command : (c : Command) (n : Mapper D) (p : Output) (s : Share) → IsReordered (step (desk m.drawn) c).0 (desk n.drawn) → IsShared s (desk n.drawn) → n.marked ≡ m.marked → n.steps ≡ m.steps + 1 → n.wanted ≡ false → n.has_bad_line ≡ m.has_bad_line
-      → Takes o p (written_lines (if not m.marked || m.wanted then command_lines m.wanted s (m.steps + 1) line c (before_of (desk m.drawn) (Some c)) (step (desk m.drawn) c) else [])) → Drew desk m o line (Ok (Some c)) n p
+  pub drew-command : (c : Command) (n : Mapper D) (p : Output) (s : Share) → IsReordered (step (desk m.drawn) c).0 (desk n.drawn) → IsShared s (desk n.drawn)
+      → n.marked ≡ m.marked → n.steps ≡ m.steps + 1 → n.wanted ≡ false → n.has_bad_line ≡ m.has_bad_line
+      → Takes o p (written_lines (lines_of_read m.marked s (place_in desk m) (line, Ok (Some c)))) → Drew desk m o line (Ok (Some c)) n p
   drew-command c n p s is shared marked steps wanted bad written = record {
     share = s;
     shared = shared_alike s is shared;
@@ -128,12 +138,14 @@ module _ {D : Type 0} (desk : D → Desk) (m : Mapper D) (o : Output) (line : Te
   }
 
   pub broke-command : (c : Command) (n : Mapper D) (p : Output) (s : Share) → IsReordered (step (desk m.drawn) c).0 (desk n.drawn) → IsShared s (desk n.drawn)
-      → Breaks o p (written_lines (if not m.marked || m.wanted then command_lines m.wanted s (m.steps + 1) line c (before_of (desk m.drawn) (Some c)) (step (desk m.drawn) c) else [])) → Broke desk m o line (Ok (Some c)) p
+      → Breaks o p (written_lines (lines_of_read m.marked s (place_in desk m) (line, Ok (Some c)))) → Broke desk m o line (Ok (Some c)) p
   broke-command c n p s is shared broken = record { share = s; shared = shared_alike s is shared; broken = broken }
 
   -- a bad line
-  pub drew-fault : (f : LineFault) (n : Mapper D) (p : Output) (s : Share) → IsShared s (desk n.drawn) → n.drawn ≡ m.drawn → n.marked ≡ m.marked → n.steps ≡ m.steps + 1 → n.wanted ≡ false → n.has_bad_line ≡ true
-      → Takes o p (written_lines (if not m.marked || m.wanted then fault_lines m.wanted s (m.steps + 1) line f (desk m.drawn) else [])) → Drew desk m o line (Err f) n p
+  pub drew-fault : (f : LineFault) (n : Mapper D) (p : Output) (s : Share) → IsShared s (desk n.drawn) → n.drawn ≡ m.drawn → n.marked ≡ m.marked
+      → n.steps ≡ m.steps + 1 → n.wanted ≡ false → n.has_bad_line ≡ true
+      → Takes o p (written_lines (lines_of_read m.marked s (place_in desk m) (line, Err f)))
+      → Drew desk m o line (Err f) n p
   drew-fault f n p s shared drawn marked steps wanted bad written = record {
     share = s;
     shared = shared-as desk s m.drawn n.drawn drawn shared;
@@ -148,7 +160,8 @@ module _ {D : Type 0} (desk : D → Desk) (m : Mapper D) (o : Output) (line : Te
   }
 
   pub broke-fault : (f : LineFault) (n : Mapper D) (p : Output) (s : Share) → IsShared s (desk n.drawn) → n.drawn ≡ m.drawn
-      → Breaks o p (written_lines (if not m.marked || m.wanted then fault_lines m.wanted s (m.steps + 1) line f (desk m.drawn) else [])) → Broke desk m o line (Err f) p
+      → Breaks o p (written_lines (lines_of_read m.marked s (place_in desk m) (line, Err f)))
+      → Broke desk m o line (Err f) p
   broke-fault f n p s shared drawn broken = record { share = s; shared = shared-as desk s m.drawn n.drawn drawn shared; broken = broken }
 
 -- ---- a line as far as it is kept
@@ -230,6 +243,31 @@ module _ {D : Type 0} {desk : D → Desk} {m : Mapper D} {o p : Output} where
       let T : Text → Type 0 = λ z. BrokeRest desk m o z p in
       subst T (sym (kept_some b bs)) (subst K (kept_some b bs) here)
 
+-- the same by what was found of the line
+module _ {D : Type 0} (desk : D → Desk) (m : Mapper D) (o p : Output) {E : Type 0} (r : Result Unit E) (line : Text) (found : Meaning (Option Command)) where
+  pub line-took : (n : Mapper D) → found ≡ line_means line → OnOk r (Drew desk m o line found n p) → OnOk r (TookLine desk m o (kept line) n p)
+  line-took n e = let W : Meaning (Option Command) → Type 0 = λ z. Drew desk m o line z n p in on-ok r (λ drew. drew-kept line (subst W e drew))
+
+  pub line-broke : found ≡ line_means line → OnErr r (Broke desk m o line found p) → OnErr r (BrokeLine desk m o (kept line) p)
+  line-broke e = let W : Meaning (Option Command) → Type 0 = λ z. Broke desk m o line z p in on-err r (λ broke. broke-kept line (subst W e broke))
+
+  pub rest-took : (n : Mapper D) → 0 < length line → found ≡ rest_means line → OnOk r (Drew desk m o line found n p)
+      → OnOk r (TookRest desk m o (kept line) n p)
+  rest-took n some e = let W : Meaning (Option Command) → Type 0 = λ z. Drew desk m o line z n p in on-ok r (λ drew. drew-rest line some (subst W e drew))
+
+  pub rest-broke : 0 < length line → found ≡ rest_means line → OnErr r (Broke desk m o line found p) → OnErr r (BrokeRest desk m o (kept line) p)
+  rest-broke some e = let W : Meaning (Option Command) → Type 0 = λ z. Broke desk m o line z p in on-err r (λ broke. broke-rest line some (subst W e broke))
+
+-- something or nothing stands behind the last line feed
+pub has-rest : (rest : Text) → false ≡ (length rest == 0) → 0 < length rest
+has-rest rest e =
+    let other : length rest ≡ 0 → ⊥ = λ q. (let t : false ≡ true = e ∙ eq-eqb (length rest) 0 q in cc) in
+    omega (arith, other)
+
+pub rest-none : {D : Type 0} (desk : D → Desk) (m : Mapper D) (o : Output) (rest : Text) → true ≡ (length rest == 0) → TookRest desk m o (kept rest) m o
+rest-none desk m o [] none = let T : Text → Type 0 = λ z. TookRest desk m o z m o in subst T (sym kept_nil) (refl, refl)
+rest-none desk m o (b ∷ bs) none = let no : length (b ∷ bs) ≡ 0 = eqb-true (length (b ∷ bs)) 0 (sym none) in absurd (omega arith)
+
 -- ---- a step, by what its calls tell
 
 -- a mapper that has counted one more step
@@ -243,6 +281,16 @@ pub record IsRest {D : Type 0} (b a : Mapper D) : Type 0 where
   pub wanted : a.wanted ≡ b.wanted
   pub bad : a.has_bad_line ≡ b.has_bad_line
 
+-- the rest is of one mapper where what it draws with may be of another
+pub rest-as : {D : Type 0} {b a : Mapper D} (k : Mapper D)
+    → a ≡ record k { marked = b.marked; steps = b.steps; wanted = b.wanted; has_bad_line = b.has_bad_line } → IsRest b a
+rest-as {D} k e = record {
+  marked = ap (λ (z : Mapper D). z.marked) e;
+  steps = ap (λ (z : Mapper D). z.steps) e;
+  wanted = ap (λ (z : Mapper D). z.wanted) e;
+  bad = ap (λ (z : Mapper D). z.has_bad_line) e;
+}
+
 module _ {D : Type 0} (desk : D → Desk) (m b : Mapper D) (o : Output) (line : Text) (w : Bool) (was : w ≡ m.wanted) (counts : Counts m b) where
   hidden-test : (b.marked && not w) ≡ true → (not m.marked || m.wanted) ≡ false
   hidden-test e = is-hidden m.marked m.wanted (ap₂ (λ x y. x && not y) (sym (ap (λ (z : Mapper D). z.marked) counts)) (sym was) ∙ e)
@@ -250,43 +298,48 @@ module _ {D : Type 0} (desk : D → Desk) (m b : Mapper D) (o : Output) (line : 
   shown-test : (b.marked && not w) ≡ false → (not m.marked || m.wanted) ≡ true
   shown-test e = is-shown m.marked m.wanted (ap₂ (λ x y. x && not y) (sym (ap (λ (z : Mapper D). z.marked) counts)) (sym was) ∙ e)
 
-  pub hidden-command : (c : Command) (n : Mapper D) (s : Share) → (b.marked && not w) ≡ true → IsReordered (step (desk b.drawn) c).0 (desk n.drawn) → IsRest b n → IsShared s (desk n.drawn) → Drew desk m o line (Ok (Some c)) n o
+  pub hidden-command : (c : Command) (n : Mapper D) (s : Share) → (b.marked && not w) ≡ true → IsReordered (step (desk b.drawn) c).0 (desk n.drawn)
+      → IsRest b n → IsShared s (desk n.drawn) → Drew desk m o line (Ok (Some c)) n o
   hidden-command c n s test is rest shared =
       let P : D → Type 0 = λ z. IsReordered (step (desk z) c).0 (desk n.drawn) in
       let W : List Text → Type 0 = λ z. Takes o o (written_lines z) in
-      let lines = ap (λ (q : Bool). if q then command_lines m.wanted s (m.steps + 1) line c (before_of (desk m.drawn) (Some c)) (step (desk m.drawn) c) else []) (hidden-test test) in
       drew-command desk m o line c n o s (subst P (ap (λ (z : Mapper D). z.drawn) counts) is) shared
-      (rest.marked ∙ ap (λ (z : Mapper D). z.marked) counts) (rest.steps ∙ ap (λ (z : Mapper D). z.steps) counts) (rest.wanted ∙ ap (λ (z : Mapper D). z.wanted) counts) (rest.bad ∙ ap (λ (z : Mapper D). z.has_bad_line) counts)
-      (subst W (sym lines) (takes_none o))
+      (rest.marked ∙ ap (λ (z : Mapper D). z.marked) counts) (rest.steps ∙ ap (λ (z : Mapper D). z.steps) counts)
+      (rest.wanted ∙ ap (λ (z : Mapper D). z.wanted) counts) (rest.bad ∙ ap (λ (z : Mapper D). z.has_bad_line) counts)
+      (subst W (sym (when-off _ (hidden-test test))) (takes_none o))
 
-  pub hidden-fault : (f : LineFault) (n : Mapper D) (s : Share) → (b.marked && not w) ≡ true → n.drawn ≡ b.drawn → n.marked ≡ b.marked → n.steps ≡ b.steps → n.wanted ≡ b.wanted → n.has_bad_line ≡ true → IsShared s (desk n.drawn) → Drew desk m o line (Err f) n o
+  pub hidden-fault : (f : LineFault) (n : Mapper D) (s : Share) → (b.marked && not w) ≡ true → n.drawn ≡ b.drawn → n.marked ≡ b.marked → n.steps ≡ b.steps
+      → n.wanted ≡ b.wanted → n.has_bad_line ≡ true → IsShared s (desk n.drawn) → Drew desk m o line (Err f) n o
   hidden-fault f n s test drawn marked steps wanted bad shared =
       let W : List Text → Type 0 = λ z. Takes o o (written_lines z) in
-      let lines = ap (λ (q : Bool). if q then fault_lines m.wanted s (m.steps + 1) line f (desk m.drawn) else []) (hidden-test test) in
       drew-fault desk m o line f n o s shared (drawn ∙ ap (λ (z : Mapper D). z.drawn) counts)
       (marked ∙ ap (λ (z : Mapper D). z.marked) counts) (steps ∙ ap (λ (z : Mapper D). z.steps) counts) (wanted ∙ ap (λ (z : Mapper D). z.wanted) counts) bad
-      (subst W (sym lines) (takes_none o))
+      (subst W (sym (when-off _ (hidden-test test))) (takes_none o))
 
   -- the lines of a command that is shown
-  pub command-text : (c : Command) (s : Share) (a : Mapper D) (k : Before) (r : Reply) → (b.marked && not w) ≡ false → IsReordered (step (desk b.drawn) c).0 (desk a.drawn) → IsLikeReply (desk b.drawn) c r → k ≡ before_of (desk b.drawn) (Some c) → a.steps ≡ b.steps
+  pub command-text : (c : Command) (s : Share) (a : Mapper D) (k : Before) (r : Reply) → (b.marked && not w) ≡ false
+      → IsReordered (step (desk b.drawn) c).0 (desk a.drawn) → IsLikeReply (desk b.drawn) c r → k ≡ before_of (desk b.drawn) (Some c) → a.steps ≡ b.steps
       → shown_step w a.steps line (reply_to (desk b.drawn) c) (desk a.drawn) s k (Some c) r
-      ≡ (if not m.marked || m.wanted then command_lines m.wanted s (m.steps + 1) line c (before_of (desk m.drawn) (Some c)) (step (desk m.drawn) c) else [])
+      ≡ lines_of_read m.marked s (place_in desk m) (line, Ok (Some c))
   command-text c s a k r test is like kept steps =
       let drawn = ap (λ (z : Mapper D). desk z.drawn) counts in
       ap₂ (λ x y. shown_step x a.steps line (reply_to (desk b.drawn) c) (desk a.drawn) s y (Some c) r) was kept
       ∙ (step-shown m.wanted a.steps line (desk b.drawn) (desk a.drawn) s c r is like
       ∙ (ap₂ (λ n z. command_lines m.wanted s n line c (before_of z (Some c)) (step z c)) (steps ∙ ap (λ (z : Mapper D). z.steps) counts) drawn
-      ∙ sym (ap (λ (q : Bool). if q then command_lines m.wanted s (m.steps + 1) line c (before_of (desk m.drawn) (Some c)) (step (desk m.drawn) c) else []) (shown-test test))))
+      ∙ sym (when-on (shown-test test))))
 
   -- those of a bad line
-  pub fault-text : (f : LineFault) (s : Share) (a : Mapper D) (k : Before) → (b.marked && not w) ≡ false → a.drawn ≡ b.drawn → k ≡ before_of (desk b.drawn) None → a.steps ≡ b.steps
+  pub fault-text : (f : LineFault) (s : Share) (a : Mapper D) (k : Before) → (b.marked && not w) ≡ false → a.drawn ≡ b.drawn
+      → k ≡ before_of (desk b.drawn) None → a.steps ≡ b.steps
       → shown_step w a.steps line (fault_text f) (desk a.drawn) s k None Done
-      ≡ (if not m.marked || m.wanted then fault_lines m.wanted s (m.steps + 1) line f (desk m.drawn) else [])
+      ≡ lines_of_read m.marked s (place_in desk m) (line, Err f)
   fault-text f s a k test drawn kept steps =
       let same = ap desk drawn ∙ ap (λ (z : Mapper D). desk z.drawn) counts in
-      ap₂ (λ x y. shown_step x a.steps line (fault_text f) (desk a.drawn) s y None Done) was (kept ∙ ap (λ (z : Mapper D). before_of (desk z.drawn) None) counts)
-      ∙ (ap₂ (λ n z. shown_step m.wanted n line (fault_text f) z s (before_of (desk m.drawn) None) None Done) (steps ∙ ap (λ (z : Mapper D). z.steps) counts) same
-      ∙ sym (ap (λ (q : Bool). if q then fault_lines m.wanted s (m.steps + 1) line f (desk m.drawn) else []) (shown-test test)))
+      ap₂ (λ x y. shown_step x a.steps line (fault_text f) (desk a.drawn) s y None Done) was
+      (kept ∙ ap (λ (z : Mapper D). before_of (desk z.drawn) None) counts)
+      ∙ (ap₂ (λ n z. shown_step m.wanted n line (fault_text f) z s (before_of (desk m.drawn) None) None Done)
+      (steps ∙ ap (λ (z : Mapper D). z.steps) counts) same
+      ∙ sym (when-on (shown-test test)))
 
   module _ {E : Type 0} (a n : Mapper D) (p : Output) (r : Result Unit E) (s : Share) (same : IsSamePlace a n) (shared : IsShared s (desk a.drawn)) where
     there : IsShared s (desk n.drawn)
@@ -294,7 +347,7 @@ module _ {D : Type 0} (desk : D → Desk) (m b : Mapper D) (o : Output) (line : 
 
     -- a command was shown, or the writer failed
     pub told-command : (c : Command) → IsReordered (step (desk b.drawn) c).0 (desk a.drawn) → IsRest b a
-        → Puts o p r (written_lines (if not m.marked || m.wanted then command_lines m.wanted s (m.steps + 1) line c (before_of (desk m.drawn) (Some c)) (step (desk m.drawn) c) else []))
+        → Puts o p r (written_lines (lines_of_read m.marked s (place_in desk m) (line, Ok (Some c))))
         → OnOk r (Drew desk m o line (Ok (Some c)) n p) × OnErr r (Broke desk m o line (Ok (Some c)) p)
     told-command c is rest puts =
         let P : D → Type 0 = λ z. IsReordered (step (desk z) c).0 (desk a.drawn) in
@@ -310,7 +363,7 @@ module _ {D : Type 0} (desk : D → Desk) (m b : Mapper D) (o : Output) (line : 
 
     -- a bad line was shown, or the writer failed
     pub told-fault : (f : LineFault) → a.drawn ≡ b.drawn → a.marked ≡ b.marked → a.steps ≡ b.steps → a.wanted ≡ b.wanted → a.has_bad_line ≡ true
-        → Puts o p r (written_lines (if not m.marked || m.wanted then fault_lines m.wanted s (m.steps + 1) line f (desk m.drawn) else []))
+        → Puts o p r (written_lines (lines_of_read m.marked s (place_in desk m) (line, Err f)))
         → OnOk r (Drew desk m o line (Err f) n p) × OnErr r (Broke desk m o line (Err f) p)
     told-fault f drawn marked steps wanted bad puts =
         let now = same.drawn_is ∙ (drawn ∙ ap (λ (z : Mapper D). z.drawn) counts) in (
@@ -323,7 +376,8 @@ module _ {D : Type 0} (desk : D → Desk) (m b : Mapper D) (o : Output) (line : 
         )
 
 -- a line is bad, whatever was before it
-pub fault-from : {D : Type 0} {desk : D → Desk} {m n : Mapper D} {o p : Output} {line : Text} {f : LineFault} → Drew desk (record m { has_bad_line = true }) o line (Err f) n p → Drew desk m o line (Err f) n p
+pub fault-from : {D : Type 0} {desk : D → Desk} {m n : Mapper D} {o p : Output} {line : Text} {f : LineFault}
+    → Drew desk (record m { has_bad_line = true }) o line (Err f) n p → Drew desk m o line (Err f) n p
 fault-from {m = m} drew = record {
   share = drew.share;
   shared = drew.shared;
@@ -337,5 +391,6 @@ fault-from {m = m} drew = record {
   };
 }
 
-pub fault-stops : {D : Type 0} {desk : D → Desk} {m : Mapper D} {o p : Output} {line : Text} {f : LineFault} → Broke desk (record m { has_bad_line = true }) o line (Err f) p → Broke desk m o line (Err f) p
+pub fault-stops : {D : Type 0} {desk : D → Desk} {m : Mapper D} {o p : Output} {line : Text} {f : LineFault}
+    → Broke desk (record m { has_bad_line = true }) o line (Err f) p → Broke desk m o line (Err f) p
 fault-stops broke = record { share = broke.share; shared = broke.shared; broken = broke.broken }

@@ -1,18 +1,20 @@
 //! A map in the middle of its script.
 
-ghost use Rattle.std.specs.Prelude.{◌≡◌, ◌<◌, ◌+◌, ◌^◌, ◌||◌, ◌&&◌, not, ℕ, List, None, Some, Ok, Err, IfOk, IsTrue, OnErr, OnOk, false};
+ghost use Rattle.std.specs.Prelude.{◌≡◌, ◌<◌, ◌≤◌, ◌+◌, ◌^◌, ◌||◌, ◌&&◌, not, ℕ, List, length, None, Some, Ok, Err, IfOk, IsTrue, OnErr, OnOk, false};
 ghost use Rattle.std.specs.Option.{option_map};
 ghost use Rattle.rh_defs.specs.Order.{IsReordered};
 ghost use Rattle.rh_defs.specs.Range.{in_range};
 ghost use Rattle.rh_defs.specs.Step.{step};
-ghost use Rattle.rh_drawn.specs.Places.{Broke, Drew, IsFirst, IsLikeReply, IsSamePlace, reply_to, shown_step};
+ghost use Rattle.rh_drawn.specs.Places.{Broke, Drew, IsFirst, IsLikeReply, IsSamePlace, reply_to, rest_means, shown_step};
 ghost use Rattle.rh_drawn.specs.Replies.{Excerpts};
 ghost use Rattle.rh_lines.specs.Flow.{Puts};
 ghost use Rattle.rh_figure.specs.Map.{is_mark as is_mark_of};
+ghost use Rattle.rh_figure.specs.Scene.{marks_of};
 ghost use Rattle.rh_figure.specs.Share.{IsShared};
 ghost use Rattle.rh_map.specs.Written.{shown_lines};
 ghost use Rattle.rh_session.specs.Outcome.{status_of};
 ghost use Rattle.rh_sight.specs.Pages.{share_in};
+ghost use Rattle.rh_sight.specs.Steps.{marks_seen};
 
 use crate::drawn::Drawn;
 use crate::excerpt::{excerpt_answer, excerpt_fault, excerpt_reply};
@@ -25,7 +27,7 @@ use rh_feed::LineTaker;
 use rh_lines::{Sink, WriteFailed, read_line};
 use rh_map::{Front, is_mark, print_remark};
 use rh_session::Status;
-use rh_sight::{Kept, Marks, Messages, PageList, Step, is_still};
+use rh_sight::{Kept, Marks, Messages, PageList, Sight, Step, is_still};
 use std::alloc::{AllocError, Global};
 
 /// A map in the middle of its script: what is drawn, whether marked steps alone are shown, how many steps are behind
@@ -79,7 +81,7 @@ impl<D: Drawn> Mapper<D> {
         ensures err { OnErr result (Broke D.desk self.old (W.output writer.old) line.now (Ok None) (W.output writer.new)) }
         ensures same { self.new.steps ≡ self.old.steps }
     {
-        self.drawn.page_list(&mut self.pages);
+        self.drawn.spelled();
         self.wanted = is_wanted(self.wanted, line);
         if holds_unless(self.marked, self.wanted) {
             return Ok(());
@@ -103,7 +105,7 @@ impl<D: Drawn> Mapper<D> {
         let wanted = self.begin_step();
         if holds_unless(self.marked, wanted) {
             self.change(command);
-            self.drawn.page_list(&mut self.pages);
+            self.drawn.spelled();
             return Ok(());
         }
         self.drawn.messages(&mut self.messages);
@@ -133,8 +135,8 @@ impl<D: Drawn> Mapper<D> {
     {
         self.has_bad_line = true;
         let wanted = self.begin_step();
-        self.drawn.page_list(&mut self.pages);
         if holds_unless(self.marked, wanted) {
+            self.drawn.spelled();
             return Ok(());
         }
         self.drawn.messages(&mut self.messages);
@@ -208,13 +210,14 @@ impl<D: Drawn> Mapper<D> {
     {
         self.drawn.messages(&mut self.messages);
         self.drawn.page_list(&mut self.pages);
-        let marks = Marks::new(&self.drawn, deed.kept, deed.command, deed.reply);
-        let step = Step {
-            kept: deed.kept,
-            marks,
-            messages: &self.messages,
-            pages: &self.pages,
-        };
+        let step = step_of(
+            &self.drawn,
+            deed.kept,
+            deed.command,
+            deed.reply,
+            &self.messages,
+            &self.pages,
+        );
         let above = Above {
             number: self.steps,
             line,
@@ -237,6 +240,30 @@ impl<D: Drawn> Mapper<D> {
     }
 }
 
+/// A step, with what its command did. All its parts are lent for as long as it is used.
+fn step_of<'a, S: Sight>(
+    sight: &'a S,
+    kept: &'a Kept,
+    command: Option<&Command>,
+    reply: &Reply,
+    messages: &'a Messages,
+    pages: &'a PageList,
+) -> Step<'a>
+    ensures kept { result.kept.now ≡ kept.now }
+    ensures marks { marks_seen result.marks ≡ marks_of (S.desk sight.now) kept.now (option_map (λ c. c.now) command.entry) reply.now }
+    ensures messages { result.messages.now ≡ messages.now.items }
+    ensures few { length result.messages.now ≤ 256 }
+    ensures pages { result.pages.now ≡ pages.now.items }
+{
+    let marks = Marks::new(sight, kept, command, reply);
+    Step {
+        kept,
+        marks,
+        messages,
+        pages,
+    }
+}
+
 /// Whether the next command is wanted, behind one more line that asks for nothing.
 fn is_wanted(wanted: bool, line: &[u8]) -> bool
     ensures { result ≡ (wanted || is_mark_of line.now) }
@@ -249,6 +276,17 @@ fn holds_unless(this: bool, that: bool) -> bool
     ensures { result ≡ (this && not that) }
 {
     this && !that
+}
+
+/// What is wrong with a line that was cut.
+fn rest_fault(rest: &[u8]) -> LineFault
+    ensures { rest_means rest.now ≡ Err result }
+{
+    if rest.len() > LONGEST_LINE {
+        LineFault::TooLong
+    } else {
+        LineFault::Unended
+    }
 }
 
 impl<D: Drawn> LineTaker for Mapper<D> {
@@ -278,11 +316,7 @@ impl<D: Drawn> LineTaker for Mapper<D> {
         if rest.is_empty() {
             return Ok(());
         }
-        let fault = if rest.len() > LONGEST_LINE {
-            LineFault::TooLong
-        } else {
-            LineFault::Unended
-        };
+        let fault = rest_fault(rest);
         self.refuse(rest, &fault, writer)
     }
 }

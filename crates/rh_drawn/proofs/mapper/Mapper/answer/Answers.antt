@@ -1,4 +1,4 @@
-use Rattle.std.proofs.Common.{◌≡◌, ◌∙◌, true, ap, refl, subst, sym}
+use Rattle.std.proofs.Common.{◌≡◌, ◌∙◌, List, ℕ, true, ap, refl, subst, sym}
 use Rattle.std.specs.Prelude.{IsTrue}
 use Rattle.rh_defs.specs.declared.command.Command.{Command}
 use Rattle.rh_defs.specs.declared.command.Command.TheVariants as command
@@ -27,3 +27,36 @@ returns-in-Ask-clause-reply g c =
     let d = g.D.Sight.desk c.args.self.now.drawn in
     let P : Command → Type 0 = λ z. IsLikeReply d z Done in
     subst P (sym c.in-Ask.is) (record { still = refl; marks = λ after b. refl })
+
+pub excerpt_answer-count-requires : goal.excerpt_answer-count-requires
+unfolding in_range
+excerpt_answer-count-requires g c =
+    let P : Command → Type 0 = λ z. IsTrue (in_range z) in
+    subst P c.in-Ask.is c.requires
+
+pub returns-in-Ask-clause-excerpt : goal.returns-in-Ask-clause-excerpt
+unfolding in_range
+returns-in-Ask-clause-excerpt g c =
+    let d = g.D.Sight.desk c.args.self.now.drawn in
+    let front = c.excerpt_answer-count.new.front.bytes in
+    let count = c.excerpt_answer-count.result in
+    let R : Command → Type 0 = λ z. IsTrue (in_range z) in
+    let P : Command → Type 0 = λ z. Excerpts front count (reply_to d z) in
+    let Q : List ℕ → Type 0 = λ z. Excerpts front count z in
+    subst P (sym c.in-Ask.is) (subst Q (sym (question-text d _ (subst R c.in-Ask.is c.requires))) c.excerpt_answer-count.ensures)
+
+pub returns-clause-reply : goal.returns-clause-reply
+returns-clause-reply g c =
+    let d = g.D.Sight.desk c.args.self.now.drawn in
+    let P : Reply → Type 0 = λ z. IsLikeReply d c.args.command.now z in
+    subst P (sym (c.apply-reply.ensures.reply d (g.met.D.Drawn.seen c.args.self.now.drawn))) (record { still = refl; marks = λ after b. refl })
+
+pub returns-clause-excerpt : goal.returns-clause-excerpt
+returns-clause-excerpt g c =
+    let d = g.D.Sight.desk c.args.self.now.drawn in
+    let front = c.excerpt_reply-count.new.front.bytes in
+    let count = c.excerpt_reply-count.result in
+    let P : Reply → Type 0 = λ z. Excerpts front count (first_line z Nothing) in
+    let Q : List ℕ → Type 0 = λ z. Excerpts front count z in
+    subst Q (sym (one-line (step d c.args.command.now).0 c.args.command.now (step d c.args.command.now).1 c.in_default.not-Ask))
+    (subst P (c.apply-reply.ensures.reply d (g.met.D.Drawn.seen c.args.self.now.drawn)) c.excerpt_reply-count.ensures)

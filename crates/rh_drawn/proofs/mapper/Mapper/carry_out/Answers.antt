@@ -3,7 +3,8 @@ use Rattle.rh_map.specs.Written.{shown_lines}
 use Rattle.rh_sight.specs.Pages.{share_in}
 use Rattle.rh_drawn.specs.declared.mapper.Mapper.{Mapper}
 use Rattle.rh_drawn.specs.Places.{reply_to}
-use Rattle.rh_drawn.proofs.StepLemmas.{IsRest, command-text, hidden-command, told-command}
+use Rattle.rh_drawn.proofs.ShareLemmas.{is_shared}
+use Rattle.rh_drawn.proofs.StepLemmas.{command-text, hidden-command, rest-as, told-command}
 use Rattle.rh_drawn.proofs.Walks.{puts_same}
 use Rattle.rh_drawn.proofs.mapper.Mapper.carry_out.Goals as goal
 
@@ -12,30 +13,32 @@ returns-then-holds_unless-clause-ok g c =
     let desk = g.D.Sight.desk in
     let b = c.begin_step-wanted.new.self in
     let e = c.change.ensures.rest in
-    hidden-command desk c.args.self.now b (g.W.Sink.output c.args.writer.now) c.args.line.now c.begin_step-wanted.result c.begin_step-wanted.ensures.wanted c.begin_step-wanted.ensures.next
-    c.args.command.now _ (share_in c.page_list.new.list.items (desk c.change.new.self.drawn)) (sym c.holds_unless.ensures ∙ c.if-holds_unless.true) c.change.ensures.desk
-    (record {
-      marked = ap (λ (z : Mapper g.row.D.Denot). z.marked) e;
-      steps = ap (λ (z : Mapper g.row.D.Denot). z.steps) e;
-      wanted = ap (λ (z : Mapper g.row.D.Denot). z.wanted) e;
-      bad = ap (λ (z : Mapper g.row.D.Denot). z.has_bad_line) e;
-    }) c.page_list.ensures.shared
+    hidden-command desk c.args.self.now b (g.W.Sink.output c.args.writer.now) c.args.line.now c.begin_step-wanted.result c.begin_step-wanted.ensures.wanted
+    c.begin_step-wanted.ensures.next
+    c.args.command.now _ _ (sym c.holds_unless.ensures ∙ c.if-holds_unless.true) c.change.ensures.desk
+    (rest-as {b = b} (record b { drawn = c.change.new.self.drawn }) e) (is_shared (desk c.change.new.self.drawn) c.spelled.ensures)
 
-pub returns-clause-ok : goal.returns-clause-ok
-returns-clause-ok g c =
+pub returns : goal.returns
+returns g c =
     let desk = g.D.Sight.desk in
+    let m = c.args.self.now in
     let b = c.begin_step-wanted.new.self in
-    let a = c.answer.new.self in
-    let e = c.answer.ensures.rest in
+    let a = c.answer-reply.new.self in
+    let e = c.answer-reply.ensures.rest in
+    let o = g.W.Sink.output c.args.writer.now in
+    let w = c.begin_step-wanted.result in
+    let was = c.begin_step-wanted.ensures.wanted in
+    let next = c.begin_step-wanted.ensures.next in
     let s = share_in c.show.new.self.pages.items (desk a.drawn) in
     let test = sym c.holds_unless.ensures ∙ c.if-holds_unless.false in
-    let text = command-text desk c.args.self.now b (g.W.Sink.output c.args.writer.now) c.args.line.now c.begin_step-wanted.result c.begin_step-wanted.ensures.wanted c.begin_step-wanted.ensures.next
-    c.args.command.now s a _ _ test c.answer.ensures.desk c.answer.ensures.reply c.new-kept.ensures (ap (λ (z : Mapper g.row.D.Denot). z.steps) e) in
-    (told-command desk c.args.self.now b (g.W.Sink.output c.args.writer.now) c.args.line.now c.begin_step-wanted.result c.begin_step-wanted.ensures.wanted c.begin_step-wanted.ensures.next
-    a _ (g.W.Sink.output c.show.new.writer) c.show.result s c.show.ensures.same c.show.ensures.shared c.args.command.now c.answer.ensures.desk
-    (record {
-      marked = ap (λ (z : Mapper g.row.D.Denot). z.marked) e;
-      steps = ap (λ (z : Mapper g.row.D.Denot). z.steps) e;
-      wanted = ap (λ (z : Mapper g.row.D.Denot). z.wanted) e;
-      bad = ap (λ (z : Mapper g.row.D.Denot). z.has_bad_line) e;
-    }) (puts_same (ap shown_lines text) (c.show.ensures.text (reply_to (desk b.drawn) c.args.command.now) c.answer.ensures.excerpt))).0
+    let text = command-text desk m b o c.args.line.now w was next c.args.command.now s a _ _ test c.answer-reply.ensures.desk c.answer-reply.ensures.reply
+    c.new-kept.ensures (ap (λ (z : Mapper g.row.D.Denot). z.steps) e) in
+    let told = told-command desk m b o c.args.line.now w was next a _ (g.W.Sink.output c.show.new.writer) c.show.result s c.show.ensures.same
+    c.show.ensures.shared c.args.command.now c.answer-reply.ensures.desk
+    (rest-as {b = b} (record b { drawn = a.drawn; messages = c.messages.new.list; front = a.front }) e)
+    (puts_same (ap shown_lines text) (c.show.ensures.text (reply_to (desk b.drawn) c.args.command.now) c.answer-reply.ensures.excerpt)) in
+    record {
+      ok = told.0;
+      err = told.1;
+      steps = c.show.ensures.same.steps ∙ (ap (λ (z : Mapper g.row.D.Denot). z.steps) e ∙ ap (λ (z : Mapper g.row.D.Denot). z.steps) next);
+    }

@@ -1,9 +1,10 @@
-use Rattle.std.proofs.Common.{◌≡◌, ◌∙◌, List, ℕ, ap, ap₂, subst, sym}
+use Rattle.std.proofs.Common.{◌∙◌, List, ℕ, ap, ap₂, subst, sym}
 use Rattle.std.specs.Prelude.{◌&&◌, not}
 use Rattle.rh_figure.specs.Map.{step_lines}
 use Rattle.rh_figure.specs.Scene.{scene_of}
 use Rattle.rh_map.specs.Written.{shown_lines}
 use Rattle.rh_sight.specs.Pages.{share_in}
+use Rattle.rh_sight.specs.Steps.{marks_seen}
 use Rattle.rh_drawn.specs.Replies.{Excerpts}
 use Rattle.rh_drawn.proofs.Walks.{puts_same}
 use Rattle.rh_drawn.proofs.mapper.Mapper.show.Goals as goal
@@ -13,7 +14,11 @@ returns-clause-text g c = λ text excerpt.
     let m = c.args.self.now in
     let d = g.D.Sight.desk m.drawn in
     let deed = c.args.deed in
-    let pages = c.page_list.new.list.items in
+    let step = c.step_of-step.result in
+    let is = c.step_of-step.ensures in
     let P : List ℕ → Type 0 = λ z. Excerpts z deed.count text in
-    puts_same (ap₂ (λ still marks. shown_lines (step_lines still m.steps c.args.line.now text (scene_of d (share_in pages d) deed.kept.now marks))) (c.holds_unless.ensures ∙ ap (λ z. z && not deed.wanted) c.is_still.ensures) c.new-marks.ensures)
+    let scene = ap₂ (λ pages kept. scene_of d (share_in pages d) kept (marks_seen step.marks)) is.pages is.kept
+    ∙ ap (scene_of d (share_in c.page_list.new.list.items d) deed.kept.now) is.marks in
+    puts_same (ap₂ (λ still x. shown_lines (step_lines still m.steps c.args.line.now text x))
+    (c.holds_unless.ensures ∙ ap (λ z. z && not deed.wanted) c.is_still.ensures) scene)
     (c.print_step.ensures text (subst P (sym c.as_slice.ensures.value) excerpt))
