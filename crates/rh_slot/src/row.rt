@@ -25,9 +25,6 @@ use rh_store::{AreaId, Paged, Pages, Words, WordsMut};
 /// Blocks of so many bytes or more together have their anchor words written all at once.
 const SHORT_ROW: usize = 128;
 
-/// So many blocks are passed sooner than the highest anchor word is found.
-const FEW_BLOCKS: usize = 3;
-
 /// By so many bits an anchor word goes up to make room for its anchor's number: it is a multiple of 4 below 2^28.
 const NUMBER_BITS: u32 = 4;
 
@@ -310,22 +307,16 @@ impl Slot {
         end
     }
 
-    /// Where the flex blocks end, from a place to which a walk comes: the number of bytes that the slot takes. A few
-    /// blocks are passed one by one, and of more the highest is asked for its end.
+    /// Where the flex blocks end, from a place to which a walk comes: the number of bytes that the slot takes. Where a
+    /// block stands there, the highest one is asked for its end.
     pub(crate) fn top_from<S: Paged>(self, store: &S, from: usize) -> usize
         requires slot { IsSlot (S.memory store.now) self }
         requires walked { Walked (slot_in (S.memory store.now) self) from }
         ensures { result ≡ slot_length (slot_in (S.memory store.now) self) }
     {
         let mut place = from;
-        let mut few = FEW_BLOCKS;
         'walk: while let Some(size) = self.size_at(store, place) {
-            place += flex_weight(size);
-            if few == 0 {
-                place = self.end_of_highest(store, place);
-            } else {
-                few -= 1;
-            }
+            place = self.end_of_highest(store, place + flex_weight(size));
         }
         place
     }

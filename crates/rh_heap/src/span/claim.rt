@@ -20,6 +20,7 @@ use rh_defs::sizes::{HEAP_BASE, HEAP_END, segment_size};
 use rh_store::{Words, WordsMut};
 
 /// Writes a used segment of `size` bytes with a block of zeros.
+#[inline(always)]
 fn put_zeros<S: WordsMut>(store: &mut S, span: Span, place: usize, size: usize)
     requires opened { IsOpen (S.memory store.old) span.area.0 }
     requires within { span.at + place + size ≤ length (bytes_in (S.memory store.old) span) }
@@ -33,6 +34,7 @@ fn put_zeros<S: WordsMut>(store: &mut S, span: Span, place: usize, size: usize)
 }
 
 /// Puts a block of zeros into the lower bytes of a hole.
+#[inline(always)]
 pub fn fill<S: WordsMut>(store: &mut S, span: Span, gap: Gap, size: usize)
     requires span { IsSpan (S.memory store.old) span }
     requires gap { FoundHole span.at (heap_in (S.memory store.old) span) size gap }
@@ -56,6 +58,7 @@ pub fn fill<S: WordsMut>(store: &mut S, span: Span, gap: Gap, size: usize)
 }
 
 /// Puts a block of zeros above all segments.
+#[inline(always)]
 pub fn append<S: WordsMut>(store: &mut S, span: Span, top: usize, size: usize)
     requires span { IsSpan (S.memory store.old) span }
     requires none { hole_for size (heap_in (S.memory store.old) span).segments ≡ None }

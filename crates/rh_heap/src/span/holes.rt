@@ -22,6 +22,7 @@ pub struct Gap {
 }
 
 /// The first hole with room for a segment of `size` bytes.
+#[inline(always)]
 pub fn find<S: Words>(store: &S, span: Span, size: usize) -> Option<Gap>
     requires { IsSpan (S.memory store.now) span }
     ensures { MatchOption result (hole_for size (heap_in (S.memory store.now) span).segments ≡ None)

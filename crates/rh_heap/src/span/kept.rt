@@ -19,9 +19,10 @@ use rh_defs::sizes::{HEAP_BASE, HEAP_END};
 use rh_store::{Starts, Words, WordsMut};
 
 /// The bytes up to a heap's base from which a map pays: those below hold too few segments.
-const SHORT: usize = 2048;
+const SHORT: usize = 1024;
 
 /// Takes the map that the store keeps of the heap, where it is up to date. No call finds it until it is kept again.
+#[inline(always)]
 pub fn take_map<S: WordsMut>(store: &mut S, span: Span) -> Option<Vec<u64>>
     requires { IsSpan (S.memory store.old) span }
     ensures same { S.memory store.new ≡ S.memory store.old }
@@ -35,6 +36,7 @@ pub fn take_map<S: WordsMut>(store: &mut S, span: Span) -> Option<Vec<u64>>
 }
 
 /// Takes the map that the store keeps of the heap, and makes it anew where it isn't up to date.
+#[inline(always)]
 fn take_lines<S: WordsMut>(store: &mut S, span: Span) -> Option<Vec<u64>>
     requires { IsSpan (S.memory store.old) span }
     ensures same { S.memory store.new ≡ S.memory store.old }
@@ -71,6 +73,7 @@ fn map_for_change<S: WordsMut>(store: &mut S, span: Span) -> Option<Vec<u64>>
 }
 
 /// Lets the store keep a map of the heap that was taken from it, as the heap is now.
+#[inline(always)]
 pub fn keep_map<S: WordsMut>(store: &mut S, span: Span, map: Option<Vec<u64>>)
     requires span { IsSpan (S.memory store.old) span }
     requires index { IfSome map (λ lines. IsIndex lines.items (heap_in (S.memory store.old) span)) }

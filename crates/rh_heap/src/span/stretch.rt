@@ -24,6 +24,7 @@ pub struct Stretch {
 }
 
 /// Makes a stretch a hole. The segment that follows is used.
+#[inline(always)]
 fn put_hole<S: WordsMut>(store: &mut S, span: Span, stretch: Stretch)
     requires opened { IsOpen (S.memory store.old) span.area.0 }
     requires stretch { IsStretch (bytes_in (S.memory store.old) span) span.at stretch }
@@ -42,6 +43,7 @@ fn put_hole<S: WordsMut>(store: &mut S, span: Span, stretch: Stretch)
 }
 
 /// Makes a stretch that a used segment follows a hole, or nothing where it has no byte.
+#[inline(always)]
 pub fn settle_below_block<S: WordsMut>(store: &mut S, span: Span, stretch: Stretch)
     requires opened { IsOpen (S.memory store.old) span.area.0 }
     requires stretch { IsStretch (bytes_in (S.memory store.old) span) span.at stretch }
