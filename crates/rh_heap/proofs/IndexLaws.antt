@@ -8,14 +8,15 @@ use Rattle.rh_defs.specs.Bytes.{word}
 use Rattle.rh_defs.specs.Pieces.{total, first_at, NonePass}
 use Rattle.rh_defs.specs.Heap.{Segment, Used, Hole, Heap, IsTidy, size_of, base, is_block_at, block_at}
 use Rattle.rh_defs.specs.HeapImage.{Stand, Spells}
-use Rattle.rh_defs.specs.HeapParts.{HasRoom, last_link}
+use Rattle.rh_defs.specs.HeapParts.{HasRoom, LinksTo, last_link}
 use Rattle.rh_defs.proofs.HeapLists.{HasRoom-from_tidy, HasRoom-append, total-append, tidy_before, tidy_behind_used, first_at-none, first_at-found, eqb_same, no_segments}
 use Rattle.rh_defs.proofs.HeapLaws.{HasNone, last_link-append, last_link-none, Stand-split}
+use Rattle.rh_defs.proofs.HeapStretch.{Await-from_link}
 use Rattle.rh_heap.specs.Segments.{GapIs, no_gap, a_gap, FoundBlock}
 use Rattle.rh_store.specs.Starts.{bit, used_at, hole_at, IsIndex}
 use Rattle.rh_heap.specs.Starts.{LinkBelow, no_hole, a_hole}
 use Rattle.rh_store.specs.declared.starts.TheConstants.{USED, HOLES}
-use Rattle.rh_heap.proofs.StartLaws.{hole_at-append, hole_at-low, used_at-high, hole_at-high, HasUnits, units_of, units-append, units-total, unmarked, off_units, UsedHere, used_here, no_holes, LastOf, last_of}
+use Rattle.rh_heap.proofs.StartLaws.{hole_at-append, hole_at-low, hole_at-before_first, used_at-high, hole_at-high, HasUnits, units_of, units-append, units-total, unmarked, off_units, UsedHere, used_here, no_holes, LastOf, last_of}
 
 -- ---- what the map tells
 
@@ -39,6 +40,13 @@ not_there h address t l ne =
     let same : address - 4 + 4 ≡ address = omega arith in
     first_at-none size_of (is_block_at address) 16 h.segments
     (subst (λ a. NonePass size_of (is_block_at a) 16 h.segments) same (off_units (address - 4) 16 h.segments (units_of false h.segments t) refl ne))
+
+-- no hole is marked below a place that isn't above the first one
+pub none_below_first : (starts : List ℕ) (b : List ℕ) (at : ℕ) (h : Heap) (place x : ℕ) → IsIndex starts h → Spells b at h → LinksTo b at (at + 4) x → (x ≢ 0 → place ≤ x)
+    → (j : ℕ) → j < place / 8 → bit HOLES starts j ≡ 0
+none_below_first starts b at h place x i s l f j small =
+    i.holes j ∙ hole_at-before_first b at x (8 * j) 16 h.segments (omega arith)
+    (Await-from_link b at (at + 4) x (at + 16) h.segments (omega arith) (omega arith) l s.stand) (λ ne. let m = f ne in omega arith)
 
 -- the segments round a block whose bit is set
 pub marked : (starts : List ℕ) (h : Heap) (place : ℕ) → IsIndex starts h → place % 8 ≡ 0 → bit USED starts (place / 8) ≡ 1 → UsedHere place 16 h.segments

@@ -1,9 +1,9 @@
 -- Where segments begin: in a list that is cut, and what a place tells of the segments before it.
-use Rattle.std.proofs.Common.{◌≡◌, ◌≢◌, ℕ, zero, suc, ◌+◌, ◌-◌, ◌*◌, ◌/◌, ◌%◌, ◌<◌, ◌≤◌, inl, inr, Bool, true, false, List, [], ◌∷◌, ◌++◌, length, refl, ap, eqb, arith}
+use Rattle.std.proofs.Common.{◌≡◌, ◌≢◌, ℕ, zero, suc, ◌+◌, ◌-◌, ◌*◌, ◌/◌, ◌%◌, ◌<◌, ◌≤◌, inl, inr, Bool, true, false, List, [], ◌∷◌, ◌++◌, length, refl, ap, subst, eqb, arith}
 use Rattle.std.proofs.lemmas.Bool.{cases_eq, cases_lt}
 use Rattle.rh_defs.specs.Pieces.{total, NonePass}
 use Rattle.rh_defs.specs.Heap.{Segment, Used, Hole, IsTidy, size_of, is_block_at, with_hole}
-use Rattle.rh_defs.specs.HeapParts.{HasRoom}
+use Rattle.rh_defs.specs.HeapParts.{HasRoom, Await}
 use Rattle.rh_defs.proofs.HeapLists.{cond_true, cond_false, eqb_same, eqb_apart}
 use Rattle.rh_defs.proofs.HeapLaws.{HasNone}
 use Rattle.rh_store.specs.Starts.{once, used_at, hole_at}
@@ -36,6 +36,16 @@ pub hole_at-low : (p q : ℕ) (ss : List Segment) → p < q → hole_at p q ss �
 hole_at-low p q [] l = refl
 hole_at-low p q (Used bs ∷ ss) l = hole_at-low p (q + (4 + length bs)) ss (omega arith)
 hole_at-low p q (Hole n ∷ ss) l = omega (arith, once_apart p q (omega arith), hole_at-low p (q + n) ss (omega arith))
+
+-- nor below the first hole, or where there is none
+pub hole_at-before_first : (b : List ℕ) (at x p q : ℕ) (ss : List Segment) → 0 < q → Await b at x (at + q) ss → (x ≢ 0 → p < x) → hole_at p q ss ≡ 0
+hole_at-before_first b at x p q [] l w f = refl
+hole_at-before_first b at x p q (Used bs ∷ ss) l w f =
+    hole_at-before_first b at x p (q + (4 + length bs)) ss (omega arith) (subst (λ i. Await b at x i ss) (let e : at + q + (4 + length bs) ≡ at + (q + (4 + length bs)) = omega arith in e) w.2) f
+hole_at-before_first b at x p q (Hole n ∷ ss) l w f =
+    let here = w.0 in
+    let below = f (omega arith) in
+    hole_at-low p q (Hole n ∷ ss) (omega arith)
 
 -- nor where they end, or above
 pub used_at-high : (p q : ℕ) (ss : List Segment) → q + total size_of ss ≤ p → used_at p q ss ≡ 0

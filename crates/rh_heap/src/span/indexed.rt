@@ -10,7 +10,7 @@ ghost use Rattle.rh_heap.specs.Calls.{Leaves};
 ghost use Rattle.rh_heap.specs.Claims.{Took};
 ghost use Rattle.rh_heap.specs.Segments.{FoundBlock};
 ghost use Rattle.rh_store.specs.Starts.{bit, IsIndex};
-ghost use Rattle.rh_heap.specs.Starts.{Noted};
+ghost use Rattle.rh_heap.specs.Starts.{LinkBelow, Noted};
 ghost use Rattle.rh_heap.specs.Ways.{Changed, NotChanged, WithBlock, Moved};
 ghost use Rattle.rh_defs.specs.declared.sizes.TheConstants.{HEAP_FREE, HEAP_UNIT, WORD};
 ghost use Rattle.rh_heap.specs.declared.layout.TheConstants.{BLOCK, HOLE_SIZE};
@@ -64,6 +64,21 @@ fn ends_at<S: Words>(store: &S, span: Span, from: usize, place: usize) -> bool
     from != HEAP_FREE && from + read(store, span, from + HOLE_SIZE) == place
 }
 
+/// Where the last link below a segment's place is: the descriptor's where the first hole isn't below, else by the map.
+fn link_before<S: Words>(store: &S, span: Span, starts: &[u64], place: usize) -> usize
+    requires span { IsSpan (S.memory store.now) span }
+    requires starts { IsIndex starts.now (heap_in (S.memory store.now) span) }
+    requires multiple { place % HEAP_UNIT ≡ 0 }
+    requires within { 2 * (place / HEAP_UNIT / 64) + HOLES < length starts.now }
+    ensures { LinkBelow starts.now place result }
+{
+    let first = follow(store, span, HEAP_FREE);
+    if first == 0 || place <= first {
+        return HEAP_FREE;
+    }
+    link_below(starts, place)
+}
+
 /// The segment of the block whose segment begins at a place where the map has a bit set for it.
 fn spot_at<S: Words>(store: &S, span: Span, starts: &[u64], place: usize) -> Spot
     requires span { IsSpan (S.memory store.now) span }
@@ -73,9 +88,9 @@ fn spot_at<S: Words>(store: &S, span: Span, starts: &[u64], place: usize) -> Spo
     ensures { FoundBlock span.at (heap_in (S.memory store.now) span) (place + BLOCK) result }
 {
     let size = read(store, span, place);
-    let from = link_below(starts, place);
+    let from = link_before(store, span, starts, place);
     if ends_at(store, span, from, place) {
-        let link = link_below(starts, from);
+        let link = link_before(store, span, starts, from);
         Spot {
             place,
             size,
