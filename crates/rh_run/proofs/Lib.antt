@@ -3,3 +3,9 @@ mod SlotSumLaws
 mod FreshLaws
 mod ReplyLaws
 mod SafeLaws
+mod SegmentLaws
+mod MessageLaws
+mod PageLaws
+mod ShareLaws
+mod TaskLaws
+mod StandLaws

@@ -10,15 +10,16 @@ use arrayvec::ArrayVec;
 use rh_defs::sizes::{ANCHORS, C_HEAP_START, MODULE_START, PAGE, WORD};
 use rh_defs::{BlockItem, SegmentItem};
 use rh_drawn::Drawn;
+use rh_mapped::Mapped;
 use rh_pages::PagedStore;
 use rh_sight::{
     AreaSight, HeapOf, MessageItem, Messages, PageList, ScrapSight, Segments, Sight, TaskSight,
 };
 use rh_store::{AreaId, Pages, Sited, Words};
-use rh_tasks::AreaEntry;
+use rh_tasks::{AreaEntry, share_law};
 
 /// Appends the numbers of the free pages.
-fn push_free(store: &PagedStore, list: &mut PageList)
+fn push_free(store: &Mapped<PagedStore>, list: &mut PageList)
     requires { length list.old.items + (memory_of store.now).free ≤ MAX_PAGES }
     ensures { list.new.items ≡ list.old.items ++ free_of store.now }
 {
@@ -28,7 +29,7 @@ fn push_free(store: &PagedStore, list: &mut PageList)
 }
 
 /// Appends the numbers of an area's pages.
-fn push_area(store: &PagedStore, area: AreaId, list: &mut PageList)
+fn push_area(store: &Mapped<PagedStore>, area: AreaId, list: &mut PageList)
     requires opened { IsOpen (memory_of store.now) area.0 }
     requires room { PAGE * length list.old.items + length (bytes (memory_of store.now) area.0) ≤ PAGE * MAX_PAGES }
     ensures { list.new.items ≡ list.old.items ++ get_or (pages_of store.now) area.0 [] }
@@ -100,6 +101,7 @@ impl Sight for PagedWorld {
     }
 
     fn segments(&self, heap: HeapOf, place: u32) -> Segments {
+        self.world.spelled();
         match heap {
             HeapOf::Task(i) => match self.world.task(i) {
                 Some(task) => self.world.segments_in(task.handle, place).unwrap(),
@@ -110,6 +112,7 @@ impl Sight for PagedWorld {
     }
 
     fn read_heap(&self, heap: HeapOf, place: u32, to: &mut [u8]) {
+        self.world.spelled();
         match heap {
             HeapOf::Task(i) => {
                 if let Some(task) = self.world.task(i) {
@@ -125,10 +128,11 @@ impl Sight for PagedWorld {
     }
 
     fn messages(&self, list: &mut Messages) {
+        self.world.spelled();
         let mut items = ArrayVec::new();
         self.world.messages(&mut items);
         list.clear();
-        for item in &items {
+        for item in items.as_slice() {
             list.push(MessageItem {
                 block: item.block,
                 to: item.to,
@@ -142,9 +146,10 @@ impl Sight for PagedWorld {
     }
 
     fn fixed_pages(&self, number: u32) -> u32 {
+        self.world.spelled();
         match self.world.area_entry(number as usize) {
-            Some(AreaEntry::Area { number: _, pages }) => pages,
-            _ => 0,
+            Some(AreaEntry::Area { pages, .. }) => pages,
+            Some(AreaEntry::Slot { .. }) | None => 0,
         }
     }
 
@@ -170,7 +175,7 @@ impl Sight for PagedWorld {
     }
 
     fn free_pages(&self) -> u32 {
-        self.world.areas(0).0
+        self.world.free_pages()
     }
 
     fn next_ref(&self) -> u64 {
@@ -178,11 +183,13 @@ impl Sight for PagedWorld {
     }
 
     fn page_list(&self, list: &mut PageList) {
+        self.world.spelled();
         let mut areas = ArrayVec::new();
         let store = self.world.store(&mut areas);
+        share_law(store);
         list.clear();
         push_free(store, list);
-        for area in &areas {
+        for area in areas.as_slice() {
             push_area(store, *area, list);
         }
     }
