@@ -140,6 +140,7 @@ impl<S: Store> WordsMut for Mapped<S> {
         self.store.copy_in(id, at, from);
     }
 
+    #[inline(always)]
     fn take_starts(&mut self, id: AreaId) -> Option<Starts> {
         let k = id.0 as usize;
         if k >= self.maps.len() {
@@ -156,6 +157,7 @@ impl<S: Store> WordsMut for Mapped<S> {
         lengthened(starts, words)
     }
 
+    #[inline(always)]
     fn keep_starts(&mut self, id: AreaId, starts: Option<Starts>) {
         let k = id.0 as usize;
         if k < self.maps.len() {

@@ -62,14 +62,15 @@ fn take_lines<S: WordsMut>(store: &mut S, span: Span) -> Option<Vec<u64>>
 }
 
 /// Takes a map of the heap for a call that changes it: of a short heap only where it is up to date.
+#[inline(always)]
 fn map_for_change<S: WordsMut>(store: &mut S, span: Span) -> Option<Vec<u64>>
     requires { IsSpan (S.memory store.old) span }
     ensures same { S.memory store.new ≡ S.memory store.old }
     ensures index { IfSome result (λ lines. IsIndex lines.items (heap_in (S.memory store.old) span)) }
     ensures long { IfSome result (λ lines. length (bytes_in (S.memory store.old) span) ≤ LINE_BYTES * (length lines.items / 2)) }
 {
-    if read(store, span, HEAP_BASE) < SHORT {
-        return take_map(store, span);
+    if read(store, span, HEAP_BASE) < SHORT && store.starts(span.area, span.at).is_none() {
+        return None;
     }
     take_lines(store, span)
 }
