@@ -1,5 +1,5 @@
 -- Bands of cards: which cards of a list are shown.
-use Rattle.std.proofs.Common.{◌≡◌, ◌⊎◌, inl, inr, add-one, append-nil, append_assoc, ℕ, zero, suc, ◌+◌, ◌-◌, ◌<◌, ◌≤◌, Bool, true, false, refl, ap, ap₂, sym, subst, ◌∙◌, arith, List, [], ◌∷◌, ◌++◌, length, take, drop, get_or, Option, Some, None}
+use Rattle.std.proofs.Common.{◌≡◌, ◌⊎◌, inl, inr, add-one, append-nil, append_assoc, ℕ, zero, suc, ◌+◌, ◌-◌, ◌<◌, ◌≤◌, Bool, true, false, refl, ap, sym, subst, ◌∙◌, arith, List, [], ◌∷◌, ◌++◌, length, take, drop, get_or, Some, None}
 use Rattle.std.specs.Prelude.{min, filter, if◌then◌else◌, nat_le, slice_get}
 use Rattle.std.proofs.lemmas.Bool.Decides.{nat_tests}
 use Rattle.std.proofs.lemmas.List.{drop_all, drop_more, map-append, take_all}
@@ -12,7 +12,7 @@ use Rattle.rh_figure.specs.Cards.{Card, flex_card, flex_cards, flex_cards_from, 
 use Rattle.rh_figure.specs.Map.{card_line}
 use Rattle.rh_figure.specs.Layout.{is_fresh_flex}
 use Rattle.rh_figure.specs.Scene.{Scene}
-use Rattle.rh_drawn.specs.Cards.{card_lines, cards_behind, count_left, count_shown, place_behind, place_from}
+use Rattle.rh_drawn.specs.Cards.{card_lines, cards_behind, count_shown, place_behind, place_from}
 
 -- ---- how many are shown
 

@@ -1,5 +1,5 @@
 -- Characters of pages, owner by owner.
-use Rattle.std.proofs.Common.{◌≡◌, ℕ, zero, suc, ◌+◌, ◌<◌, ◌≤◌, Bool, true, false, eq-eqb, refl, ap, ap₂, sym, subst, ◌∙◌, append_assoc, arith, List, [], ◌∷◌, ◌++◌, length, map, set, get_or, Option, Some, None}
+use Rattle.std.proofs.Common.{◌≡◌, ℕ, zero, suc, ◌+◌, ◌<◌, ◌≤◌, Bool, true, false, eq-eqb, refl, ap, ap₂, sym, ◌∙◌, append_assoc, arith, List, [], ◌∷◌, ◌++◌, length, map, set, get_or, Option, Some, None}
 use Rattle.std.specs.Prelude.{◌==◌, ◌&&◌, ◌||◌, find, replicate, if◌then◌else◌, nat_lt, slice_get, slice_index}
 use Rattle.std.specs.List.{enumerate_from, list_any, position, range_with_len}
 use Rattle.std.proofs.lemmas.Bool.{ne_eqb}

@@ -1,5 +1,5 @@
 -- Owners of pages, and the pages that they have.
-use Rattle.std.proofs.Common.{◌≡◌, ℕ, zero, suc, ◌+◌, ◌<◌, ◌≤◌, ◌++◌, true, false, arith, refl, ap, sym, subst, ◌∙◌, List, [], ◌∷◌, length, drop, Option, Some, None}
+use Rattle.std.proofs.Common.{◌≡◌, ℕ, zero, suc, ◌+◌, ◌<◌, ◌≤◌, ◌++◌, true, false, arith, refl, ap, sym, subst, ◌∙◌, List, [], ◌∷◌, length, drop, Option, Some}
 use Rattle.std.specs.Prelude.{IfSome, IsSome, slice_get, slice_index, if◌then◌else◌, ◌==◌, codes, nat_lt}
 use Rattle.std.specs.List.{enumerate_from}
 use Rattle.std.specs.Option.{option_map}
@@ -11,7 +11,7 @@ use Rattle.rh_defs.specs.Laws.{IsDesk, Rise}
 use Rattle.rh_figure.specs.Changes.{freed_line, freed_pages, freed_text, taken_line, taken_pages}
 use Rattle.rh_figure.specs.Phrases.{owner_name}
 use Rattle.rh_figure.specs.Scene.{Scene}
-use Rattle.rh_figure.specs.Share.{AreaOf, IsShared, Owner, SlotOf, count_of, holdings}
+use Rattle.rh_figure.specs.Share.{AreaOf, IsShared, Owner, SlotOf, count_of}
 use Rattle.rh_sight.specs.declared.sight.PagesOf.{PagesOf}
 use Rattle.rh_sight.specs.declared.sight.PagesOf.TheVariants as pages
 use Rattle.rh_sight.specs.Pages.{share_in}

@@ -1,5 +1,5 @@
 -- The list of all messages, and the post that it lists, task by task.
-use Rattle.std.proofs.Common.{◌≡◌, ℕ, ◌+◌, ◌<◌, ◌≤◌, Bool, true, false, refl, ap, ap₂, sym, subst, ◌∙◌, arith, eq-eqb, List, [], ◌∷◌, ◌++◌, length, map, take, Option, Some, None, append-nil}
+use Rattle.std.proofs.Common.{◌≡◌, ℕ, ◌+◌, ◌<◌, ◌≤◌, Bool, true, false, refl, ap, ap₂, sym, subst, ◌∙◌, arith, List, [], ◌∷◌, ◌++◌, length, map, take, Option, Some, None, append-nil}
 use Rattle.std.specs.Prelude.{◌==◌, ◌&&◌, not, IfSome, codes, filter, find, if◌then◌else◌}
 use Rattle.std.specs.List.{AllByRecursion, flat_map, join_by, list_any}
 use Rattle.std.specs.Option.{option_map}
@@ -21,7 +21,6 @@ use Rattle.rh_figure.specs.Cards.{after_ref, next_text}
 use Rattle.rh_figure.specs.Scene.{held_list, ref_of}
 use Rattle.rh_map.specs.Messages.{held_text, text_of, waits_text}
 use Rattle.rh_map.specs.Messages as lines
-use Rattle.rh_map.specs.declared.letterboxes.MessageEntry.{MessageEntry}
 use Rattle.rh_sight.specs.declared.sight.MessageItem.{MessageItem}
 use Rattle.rh_sight.specs.declared.message_list.Place.{Place}
 use Rattle.rh_sight.specs.declared.message_list.Place.TheVariants.{Held}

@@ -1,5 +1,5 @@
 -- Characters of pages, owner by owner.
-use Rattle.std.specs.Prelude.{ℕ, suc, ◌==◌, ◌&&◌, if◌then◌else◌, List, [], ◌∷◌, nat_lt, Some}
+use Rattle.std.specs.Prelude.{ℕ, suc, ◌==◌, ◌&&◌, if◌then◌else◌, List, [], ◌∷◌, Some}
 use Rattle.std.specs.List.{list_any, enumerate_from}
 use Rattle.std.specs.Prelude.{map}
 use Rattle.rh_defs.specs.Desk.{Made, Task}

@@ -1,5 +1,5 @@
 -- The sides of all transfers.
-use Rattle.std.specs.Prelude.{ℕ, List, find, map, Option, Some, None}
+use Rattle.std.specs.Prelude.{List, find, map, Some, None}
 use Rattle.std.specs.List.{flat_map}
 use Rattle.rh_defs.specs.Desk.{Desk, Task}
 use Rattle.rh_defs.specs.Listing.{out_item, in_item}

@@ -1,4 +1,4 @@
-use Rattle.std.proofs.Common.{◌≡◌, ◌++◌, List, Option, Some, map, ap, ap₂, sym, refl, ◌∙◌, append_assoc}
+use Rattle.std.proofs.Common.{◌≡◌, ◌++◌, List, Some, map, ap, ap₂, sym, ◌∙◌, append_assoc}
 use Rattle.std.specs.Prelude.{filter, not}
 use Rattle.std.specs.List.{flat_map}
 use Rattle.rh_defs.specs.declared.listing.BlockItem.{BlockItem}

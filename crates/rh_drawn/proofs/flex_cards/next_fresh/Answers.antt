@@ -1,5 +1,4 @@
-use Rattle.std.proofs.Common.{◌≡◌, Bool, true, false, sym, ◌∙◌}
-use Rattle.rh_defs.specs.Desk.{Desk}
+use Rattle.std.proofs.Common.{sym, ◌∙◌}
 use Rattle.rh_defs.specs.declared.listing.BlockItem.{BlockItem}
 use Rattle.rh_figure.specs.Layout.{is_fresh_flex}
 use Rattle.rh_sight.specs.Steps.{scene_at}

@@ -1,12 +1,10 @@
-use Rattle.std.proofs.Common.{◌≡◌, ℕ, zero, suc, ◌<◌, ◌≤◌, ◌+◌, ◌-◌, ◌++◌, Bool, true, false, List, [], ◌∷◌, Option, Some, None, length, take, drop, get_or, ap, ap₂, sym, subst, refl, ◌∙◌, arith}
+use Rattle.std.proofs.Common.{◌≡◌, ◌<◌, [], ◌∷◌, Some, length, take, ap, sym, refl, ◌∙◌, arith}
 use Rattle.std.specs.Prelude.{slice_get}
 use Rattle.std.proofs.lemmas.List.{length-take}
 use Rattle.std.proofs.lemmas.Option.{slice_get-get_or}
 use Rattle.rh_defs.specs.Listing.{block_items}
 use Rattle.rh_defs.specs.Slot.{flex_start}
 use Rattle.rh_figure.specs.Cards.{Card, flex_cards}
-use Rattle.rh_figure.specs.Map.{card_line}
-use Rattle.rh_figure.specs.Phrases.{Text}
 use Rattle.rh_map.proofs.Left.{left_breaks, left_less, left_none, left_whole}
 use Rattle.rh_sight.specs.Steps.{scene_at}
 use Rattle.rh_drawn.specs.Cards.{card_lines}

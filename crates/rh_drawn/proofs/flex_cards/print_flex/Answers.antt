@@ -1,4 +1,4 @@
-use Rattle.std.proofs.Common.{◌≡◌, ℕ, ◌≤◌, List, [], ◌∷◌, Some, length, take, ap, ap₂, refl, sym, ◌∙◌, arith}
+use Rattle.std.proofs.Common.{ℕ, List, [], ◌∷◌, length, take, ap, ap₂, refl, sym, ◌∙◌, arith}
 use Rattle.std.specs.Prelude.{find}
 use Rattle.std.proofs.lemmas.List.{length-take}
 use Rattle.rh_defs.specs.Records.{is_document, is_source}

@@ -1,5 +1,4 @@
-use Rattle.std.proofs.Common.{◌≡◌, ◌∙◌, ◌<◌, ◌≤◌, ◌+◌, ◌-◌, [], ◌∷◌, ◌++◌, Some, None, length, ap, sym, refl, arith}
-use Rattle.rh_defs.specs.Heap.{Heap}
+use Rattle.std.proofs.Common.{◌≡◌, ◌∙◌, ◌+◌, ◌-◌, [], ◌∷◌, length, ap, sym, arith}
 use Rattle.rh_figure.specs.Cards.{more_card}
 use Rattle.rh_map.specs.Written.{shown_lines}
 use Rattle.rh_sight.specs.Seen.{heap_seen, heap_start_of}

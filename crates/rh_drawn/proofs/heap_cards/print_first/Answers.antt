@@ -1,22 +1,17 @@
-use Rattle.std.proofs.Common.{◌≡◌, ◌∙◌, ◌<◌, ◌≤◌, ◌+◌, [], ◌∷◌, ◌++◌, Some, length, take, drop, get_or, ap, sym, refl, arith}
+use Rattle.std.proofs.Common.{◌∙◌, ◌≤◌, [], ◌∷◌, length, take, ap, refl, arith}
 use Rattle.std.specs.Prelude.{slice_get}
 use Rattle.std.proofs.lemmas.List.{length-take}
-use Rattle.std.proofs.lemmas.Option.{slice_get-get_or, slice_get_within}
-use Rattle.rh_defs.specs.declared.listing.SegmentItem.{SegmentItem}
-use Rattle.rh_defs.specs.Heap.{Heap}
-use Rattle.rh_defs.specs.Listing.{segment_item}
+use Rattle.std.proofs.lemmas.Option.{slice_get_within}
 use Rattle.rh_figure.specs.Cards.{Card}
-use Rattle.rh_lines.specs.Flow.{Puts}
-use Rattle.rh_map.specs.Written.{shown_lines}
 use Rattle.rh_map.proofs.Left.{left_breaks, left_less, left_none, left_whole}
 use Rattle.rh_sight.specs.Seen.{heap_seen, heap_start_of}
 use Rattle.rh_sight.specs.Steps.{scene_at}
 use Rattle.rh_sight.proofs.Heaps.{comes-parts}
 use Rattle.rh_sight.proofs.Holders.{at-some}
-use Rattle.rh_drawn.specs.Bands.{band_card, band_cards}
+use Rattle.rh_drawn.specs.Bands.{band_cards}
 use Rattle.rh_drawn.specs.Cards.{card_lines}
 use Rattle.rh_drawn.proofs.CardLemmas.{get-front}
-use Rattle.rh_drawn.proofs.HeapLemmas.{band-heap, cards-long, from-first, got-is, if-heap, in-band, told-here}
+use Rattle.rh_drawn.proofs.HeapLemmas.{band-heap, from-first, got-is, if-heap, in-band, told-here}
 use Rattle.rh_drawn.proofs.Walks.{walk-end, walk-some}
 use Rattle.rh_drawn.proofs.heap_cards.print_first.Goals as goal
 

@@ -1,4 +1,4 @@
-use Rattle.std.proofs.Common.{◌≡◌, ℕ, Bool, List, Some, ap, ap₂, sym, refl, ◌∙◌}
+use Rattle.std.proofs.Common.{◌≡◌, ℕ, Bool, Some, ap, ◌∙◌}
 use Rattle.std.specs.Prelude.{◌==◌}
 use Rattle.rh_defs.specs.declared.message.Action.{Action}
 use Rattle.rh_defs.specs.declared.message.EventCode.{EventCode}
@@ -7,7 +7,6 @@ use Rattle.rh_figure.specs.Cards.{chain_text, message_card}
 use Rattle.rh_figure.specs.Layout.{is_new_message}
 use Rattle.rh_figure.specs.Map.{card_line}
 use Rattle.rh_figure.specs.Phrases.{Text, task_name}
-use Rattle.rh_sight.specs.declared.sight.MessageItem.{MessageItem}
 use Rattle.rh_sight.specs.Messages.{place_among}
 use Rattle.rh_sight.specs.Steps.{scene_at}
 use Rattle.rh_drawn.specs.Bands.{place_seen}

@@ -1,4 +1,4 @@
-use Rattle.std.proofs.Common.{◌≡◌, ◌∙◌, ◌+◌, ◌-◌, Some, length, take, ap, refl, arith}
+use Rattle.std.proofs.Common.{◌∙◌, ◌-◌, length, take, ap, refl, arith}
 use Rattle.std.specs.Prelude.{slice_get}
 use Rattle.rh_sight.specs.Seen.{heap_seen, heap_start_of}
 use Rattle.rh_sight.specs.Steps.{scene_at}

@@ -1,4 +1,4 @@
-use Rattle.std.proofs.Common.{[], ◌∷◌, ap, sym, ◌∙◌, refl, map}
+use Rattle.std.proofs.Common.{[], ◌∷◌, ap, sym, ◌∙◌, refl}
 use Rattle.std.specs.List.{flat_map}
 use Rattle.std.specs.Prelude.{codes}
 use Rattle.rh_figure.specs.Map.{under}

@@ -1,20 +1,11 @@
-use Rattle.std.proofs.Common.{◌≡◌, ◌<◌, ◌+◌, ◌++◌, List, [], ◌∷◌, length, map, drop, ap, ap₂, sym, subst, refl, ◌∙◌, arith}
+use Rattle.std.proofs.Common.{◌<◌, List, length, map, ap₂, subst, refl, arith}
 use Rattle.std.specs.List.{flat_map}
-use Rattle.std.specs.Prelude.{filter, find}
-use Rattle.std.proofs.lemmas.List.{map-append}
 use Rattle.std.proofs.lemmas.Option.{slice_get_within}
-use Rattle.rh_defs.specs.Desk.{Desk, Task}
-use Rattle.rh_defs.specs.Laws.{IsDesk}
-use Rattle.rh_defs.specs.Order.{is_to}
-use Rattle.rh_defs.specs.Post.{held_by}
-use Rattle.rh_figure.specs.Figure.{letterbox_of, letterboxes}
+use Rattle.rh_figure.specs.Figure.{letterboxes}
 use Rattle.rh_figure.specs.Map.{letterbox_line}
 use Rattle.rh_figure.specs.Phrases.{Text}
-use Rattle.rh_figure.specs.Scene.{held_list}
 use Rattle.rh_map.specs.Written.{shown_lines}
 use Rattle.rh_map.proofs.Left.{Left, left_breaks, left_less, left_none, left_whole}
-use Rattle.rh_sight.specs.declared.sight.MessageItem.{MessageItem}
-use Rattle.rh_sight.specs.Messages.{is_held_by, message_items, waits_for}
 use Rattle.rh_sight.specs.Steps.{scene_at}
 use Rattle.rh_drawn.specs.Letters.{letterboxes_in}
 use Rattle.rh_drawn.proofs.PostLemmas.{boxes, boxes-are}

@@ -1,13 +1,12 @@
-use Rattle.std.proofs.Common.{◌≡◌, ℕ, ◌<◌, ◌≤◌, ◌+◌, ◌-◌, ◌++◌, List, [], ◌∷◌, Some, length, take, drop, ap, ap₂, sym, refl, ◌∙◌, arith, rules}
+use Rattle.std.proofs.Common.{◌≡◌, ◌<◌, ◌≤◌, ◌-◌, ◌++◌, length, drop, ap, ap₂, sym, ◌∙◌, arith, rules}
 use Rattle.std.specs.Prelude.{codes}
 use Rattle.std.proofs.lemmas.List.{length-drop, length-take, take_rest}
 use Rattle.rh_figure.specs.Changes.{taken_line}
-use Rattle.rh_figure.specs.Phrases.{Text, name_or}
+use Rattle.rh_figure.specs.Phrases.{name_or}
 use Rattle.rh_figure.specs.Share.{SlotOf, count_of}
 use Rattle.rh_map.specs.Written.{shown_lines}
 use Rattle.rh_defs.specs.Desk.{task_at, task_pages}
 use Rattle.rh_sight.specs.declared.sight.PagesOf.TheVariants as pages
-use Rattle.rh_sight.specs.Pages.{share_in}
 use Rattle.rh_sight.specs.Seen.{IsTaskSeen}
 use Rattle.rh_sight.specs.Steps.{scene_at}
 use Rattle.rh_drawn.proofs.DrawingLemmas.{seen-same, task-stands}

@@ -1,6 +1,4 @@
-use Rattle.std.proofs.Common.{◌≡◌, ◌<◌, ◌≤◌, ◌++◌, ap, ap₂, sym, refl, ◌∙◌, set, length, drop, append-nil, arith}
-use Rattle.std.specs.Prelude.{replicate}
-use Rattle.std.proofs.lemmas.List.{drop_all, length-append, length-drop, length-replicate}
+use Rattle.std.proofs.Common.{ap, ◌∙◌, set, arith}
 use Rattle.std.proofs.lemmas.List.Edits.{fill_more}
 use Rattle.rh_drawn.proofs.pool.clear.Goals as goal
 

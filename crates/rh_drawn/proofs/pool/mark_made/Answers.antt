@@ -1,4 +1,4 @@
-use Rattle.std.proofs.Common.{◌≡◌, [], ◌<◌, ◌≤◌, ◌+◌, length, drop, map, ap, ap₂, sym, refl, ◌∙◌, arith}
+use Rattle.std.proofs.Common.{[], ◌<◌, ◌+◌, length, drop, map, ap, ap₂, sym, ◌∙◌, arith}
 use Rattle.std.proofs.lemmas.Option.{slice_get_within}
 use Rattle.rh_figure.specs.Share.{AreaOf}
 use Rattle.rh_sight.specs.declared.sight.PagesOf.TheVariants as pages

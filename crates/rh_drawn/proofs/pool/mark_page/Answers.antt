@@ -1,4 +1,4 @@
-use Rattle.std.proofs.Common.{◌≡◌, ◌≤◌, ◌<◌, ◌+◌, length, get_or, eq-eqb, sym, refl, ◌∙◌, arith}
+use Rattle.std.proofs.Common.{eq-eqb, sym, arith}
 use Rattle.std.proofs.lemmas.Bool.{ne_eqb}
 use Rattle.rh_drawn.proofs.MarkLemmas.{one-at, one-off, one-taken}
 use Rattle.rh_drawn.proofs.pool.mark_page.Goals as goal

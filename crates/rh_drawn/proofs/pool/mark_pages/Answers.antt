@@ -1,4 +1,4 @@
-use Rattle.std.proofs.Common.{◌≡◌, ◌≤◌, ◌++◌, [], ◌∷◌, ap, sym, refl, ◌∙◌, take, length, get_or, arith}
+use Rattle.std.proofs.Common.{[], ◌∷◌, ap, sym, ◌∙◌, take, get_or}
 use Rattle.std.proofs.lemmas.List.{take_all, take_more}
 use Rattle.rh_drawn.specs.Marked.{marked}
 use Rattle.rh_drawn.proofs.MarkLemmas.{marked-both, marked-none}

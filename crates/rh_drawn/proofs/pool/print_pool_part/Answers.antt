@@ -1,4 +1,4 @@
-use Rattle.std.proofs.Common.{◌≡◌, [], ◌∷◌, ap, ap₂, sym, refl, ◌∙◌}
+use Rattle.std.proofs.Common.{[], ◌∷◌, ap, ap₂, sym, ◌∙◌}
 use Rattle.rh_figure.specs.Figure.{figure}
 use Rattle.rh_figure.specs.Map.{pool_heading, pool_line}
 use Rattle.rh_figure.specs.Rows.{marks_rows, pool_rows}

@@ -1,8 +1,8 @@
-use Rattle.std.proofs.Common.{◌≡◌, ℕ, ◌<◌, ◌≤◌, ◌+◌, ◌-◌, ◌++◌, Bool, true, false, List, [], ◌∷◌, Option, Some, None, length, take, drop, map, ap, ap₂, sym, subst, refl, ◌∙◌, append_assoc, append-nil, arith}
-use Rattle.std.specs.Prelude.{◌==◌, ◌&&◌, filter, if◌then◌else◌}
+use Rattle.std.proofs.Common.{◌≡◌, ℕ, ◌++◌, Bool, true, false, List, [], ◌∷◌, map, ap, sym, subst, refl, ◌∙◌, append-nil}
+use Rattle.std.specs.Prelude.{◌==◌, ◌&&◌, filter}
 use Rattle.std.specs.List.{flat_map}
 use Rattle.std.proofs.lemmas.Grind.{flat_map-append}
-use Rattle.rh_defs.specs.Desk.{Desk, task_at}
+use Rattle.rh_defs.specs.Desk.{Desk}
 use Rattle.rh_defs.specs.Messages.{Parcel, action_of}
 use Rattle.rh_figure.specs.Changes.{returns_line}
 use Rattle.rh_figure.specs.Phrases.{Text, is_returned, task_name}

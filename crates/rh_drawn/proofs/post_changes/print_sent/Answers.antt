@@ -1,8 +1,8 @@
-use Rattle.std.proofs.Common.{◌≡◌, ℕ, ◌<◌, ◌≤◌, ◌+◌, ◌-◌, ◌++◌, Bool, true, false, List, [], ◌∷◌, Option, Some, None, length, map, ap, ap₂, sym, subst, refl, ◌∙◌, arith}
+use Rattle.std.proofs.Common.{◌++◌, [], ◌∷◌, ap, sym, ◌∙◌}
 use Rattle.std.specs.Prelude.{codes}
 use Rattle.rh_defs.specs.Messages.{action_of}
 use Rattle.rh_figure.specs.Changes.{bytes_sent_text, sends_line}
-use Rattle.rh_figure.specs.Phrases.{Text, task_name}
+use Rattle.rh_figure.specs.Phrases.{task_name}
 use Rattle.rh_figure.specs.Scene.{scene_of}
 use Rattle.rh_map.specs.Tasks.{who_text}
 use Rattle.rh_map.specs.Written.{shown_lines}

@@ -1,4 +1,4 @@
-use Rattle.std.proofs.Common.{◌≡◌, ℕ, ◌<◌, ◌≤◌, ◌+◌, ◌-◌, ◌++◌, Bool, true, false, List, [], ◌∷◌, Option, Some, None, length, map, ap, ap₂, sym, subst, refl, ◌∙◌, arith}
+use Rattle.std.proofs.Common.{◌++◌, ap, sym}
 use Rattle.std.specs.Prelude.{codes}
 use Rattle.rh_figure.specs.Changes.{taken_text, takes_line}
 use Rattle.rh_map.specs.Written.{shown_lines}

@@ -1,4 +1,4 @@
-use Rattle.std.proofs.Common.{◌≡◌, ◌++◌, List, Bool, true, false, [], ◌∷◌, ap, sym, refl, ◌∙◌}
+use Rattle.std.proofs.Common.{◌++◌, List, Bool, [], ◌∷◌, ap, sym, refl}
 use Rattle.std.specs.Prelude.{if◌then◌else◌, codes}
 use Rattle.rh_defs.specs.Script.{ended}
 use Rattle.rh_figure.specs.Figure.{figure}

@@ -1,9 +1,8 @@
-use Rattle.std.proofs.Common.{◌≡◌, ℕ, ◌<◌, ◌≤◌, ◌+◌, ◌++◌, Bool, true, false, List, [], ◌∷◌, Option, Some, None, length, drop, map, ap, ap₂, sym, subst, refl, ◌∙◌, arith}
+use Rattle.std.proofs.Common.{◌≡◌, ℕ, ◌<◌, ◌+◌, List, Option, Some, None, length, drop, ap, sym, refl, ◌∙◌, arith}
 use Rattle.std.proofs.lemmas.Option.{slice_get_within}
 use Rattle.std.specs.Prelude.{◌==◌, find}
 use Rattle.std.specs.List.{flat_map}
 use Rattle.std.specs.Option.{option_map}
-use Rattle.rh_defs.specs.declared.transfer.Incoming.{Incoming}
 use Rattle.rh_defs.specs.Desk.{Task}
 use Rattle.rh_defs.specs.Listing.{in_item}
 use Rattle.rh_defs.specs.Records.{in_id}

@@ -1,4 +1,4 @@
-use Rattle.std.proofs.Common.{◌≡◌, ℕ, ◌<◌, ◌≤◌, ◌+◌, ◌++◌, Bool, true, false, List, [], ◌∷◌, Option, Some, None, length, drop, map, ap, ap₂, sym, subst, refl, ◌∙◌, arith}
+use Rattle.std.proofs.Common.{◌++◌, [], ◌∷◌, map, ap, sym, refl, ◌∙◌}
 use Rattle.std.specs.Prelude.{codes, filter, not}
 use Rattle.std.specs.List.{list_any}
 use Rattle.rh_figure.specs.Figure.{Side, has_id}

@@ -1,13 +1,12 @@
-use Rattle.std.proofs.Common.{◌≡◌, ◌∙◌, List, ℕ, true, ap, refl, subst, sym}
+use Rattle.std.proofs.Common.{List, ℕ, refl, subst, sym}
 use Rattle.std.specs.Prelude.{IsTrue}
 use Rattle.rh_defs.specs.declared.command.Command.{Command}
-use Rattle.rh_defs.specs.declared.command.Command.TheVariants as command
 use Rattle.rh_defs.specs.declared.reply.Reply.{Reply}
 use Rattle.rh_defs.specs.declared.reply.Reply.TheVariants.{Done}
 use Rattle.rh_defs.specs.Desk.{Desk}
 use Rattle.rh_defs.specs.Listing.{Nothing}
 use Rattle.rh_defs.specs.Order.{IsReordered}
-use Rattle.rh_defs.specs.Range.{can_be_asked, in_range}
+use Rattle.rh_defs.specs.Range.{in_range}
 use Rattle.rh_defs.specs.Step.{step}
 use Rattle.rh_defs.specs.Text.{first_line}
 use Rattle.rh_defs.proofs.QuestionLaws.{asked-stays, one-line, question-text}

@@ -1,4 +1,4 @@
-use Rattle.std.proofs.Common.{◌≡◌, Err, None, Ok, Some, true, false}
+use Rattle.std.proofs.Common.{Err, None, Ok, Some}
 use Rattle.rh_drawn.proofs.StepLemmas.{line-broke, line-took}
 use Rattle.rh_drawn.proofs.mapper.MapperLineTaker.take_line.Goals as goal
 
