@@ -51,7 +51,8 @@ waiting-all ps (s ∷ seats) =
     ∙ sym (map-append (item_of false) mine (flat_map (λ (x : Seat). filter (is_to x.handle) ps) seats))
 
 -- a task holds what is for it
-held-seen : (next h : ℕ) (o : Option Parcel) → IfSome o (IsHeld next h) → map seen_of (map (listed.item_of h true) (held_list o)) ≡ map (item_of true) (scene.held_list o)
+held-seen : (next h : ℕ) (o : Option Parcel) → IfSome o (IsHeld next h)
+    → map seen_of (map (listed.item_of h true) (held_list o)) ≡ map (item_of true) (scene.held_list o)
 held-seen next h None is = refl
 held-seen next h (Some p) is = let own : p.to ≡ h = is.own in rw (← own) refl
 

@@ -12,10 +12,13 @@ abbrev begins_at : ℕ → ℕ → Segment → Bool
 begins_at p place g = p == place
 
 -- none of the segments below the place begins there
-none_below : (b : Bool) (place p : ℕ) (below rest : List Segment) → IsTidy b (below ++ rest) → p + total size_of below ≡ place → NonePass size_of (begins_at place) p below
+none_below : (b : Bool) (place p : ℕ) (below rest : List Segment) → IsTidy b (below ++ rest) → p + total size_of below ≡ place
+    → NonePass size_of (begins_at place) p below
 none_below b place p [] rest t e = tt
-none_below false place p (Used bytes ∷ below) rest t e = (ne_eqb place p (λ q. absurd (omega arith)), none_below false place (p + (4 + length bytes)) below rest t.1 (omega arith))
-none_below true place p (Used bytes ∷ below) rest t e = (ne_eqb place p (λ q. absurd (omega arith)), none_below false place (p + (4 + length bytes)) below rest t.1 (omega arith))
+none_below false place p (Used bytes ∷ below) rest t e =
+    (ne_eqb place p (λ q. absurd (omega arith)), none_below false place (p + (4 + length bytes)) below rest t.1 (omega arith))
+none_below true place p (Used bytes ∷ below) rest t e =
+    (ne_eqb place p (λ q. absurd (omega arith)), none_below false place (p + (4 + length bytes)) below rest t.1 (omega arith))
 none_below false place p (Hole n ∷ below) rest t e =
     let some : 0 < n = t.0 in (ne_eqb place p (λ q. absurd (omega arith)), none_below true place (p + n) below rest t.2 (omega arith))
 none_below true place p (Hole n ∷ below) rest t e = absurd t
@@ -27,7 +30,8 @@ module _ (h : Heap) (tidy : IsTidy false h.segments) where
       go : (rest : List Segment) → h.segments ≡ below ++ rest → from_cut (segment_at place h) ≡ rest
       go [] e =
           let none = none_below false place 16 below [] (subst (IsTidy false) e tidy) (sym at) in
-          ap (λ ss. from_cut (first_at size_of (begins_at place) 16 ss)) (e ∙ append-nil below) ∙ ap from_cut (first_at-none size_of (begins_at place) 16 below none)
+          ap (λ ss. from_cut (first_at size_of (begins_at place) 16 ss)) (e ∙ append-nil below)
+          ∙ ap from_cut (first_at-none size_of (begins_at place) 16 below none)
       go (g ∷ rest) e =
           let none = none_below false place 16 below (g ∷ rest) (subst (IsTidy false) e tidy) (sym at) in
           ap (λ ss. from_cut (first_at size_of (begins_at place) 16 ss)) e

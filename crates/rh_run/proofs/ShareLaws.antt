@@ -31,7 +31,8 @@ enough : (o : Owner) (xs : List Holding) (numbers : List ℕ) → total counted 
 enough o [] numbers l = refl
 enough o (x ∷ xs) numbers l = go (is_owner o x.0) refl (enough o xs (drop x.1 numbers) (omega (arith, length-drop x.1 numbers)))
   where
-    go : (b : Bool) → is_owner o x.0 ≡ b → length (pages_among o xs (drop x.1 numbers)) ≡ count_of o xs → length (pages_among o (x ∷ xs) numbers) ≡ count_of o (x ∷ xs)
+    go : (b : Bool) → is_owner o x.0 ≡ b → length (pages_among o xs (drop x.1 numbers)) ≡ count_of o xs
+        → length (pages_among o (x ∷ xs) numbers) ≡ count_of o (x ∷ xs)
     go true e rest = rw e (length-take x.1 numbers ∙ omega arith)
     go false e rest = rw e rest
 
@@ -83,7 +84,9 @@ module _ (pages : ℕ → List ℕ) (free ids : List ℕ) (d : Desk) (is : IsDes
   all = all_of pages ids
 
   pub length-numbers : length (free ++ all) ≡ d.pool
-  length-numbers = let used = is.pages in omega (arith, length-append free all, frees, length-all pages ids, match-total pages ids (holdings d) match, holdings-used is)
+  length-numbers =
+      let used = is.pages in
+      omega (arith, length-append free all, frees, length-all pages ids, match-total pages ids (holdings d) match, holdings-used is)
 
   front : take (free_pages d) (free ++ all) ≡ free
   front = rw (← frees) (take-front free all)
@@ -91,18 +94,23 @@ module _ (pages : ℕ → List ℕ) (free ids : List ℕ) (d : Desk) (is : IsDes
   behind : drop (free_pages d) (free ++ all) ≡ all
   behind = rw (← frees) (drop-front free all)
 
-  each-owner : (k : ℕ) → total (λ (x : Holding). share.times k (pages_among x.0 (holdings d) all)) (holdings d) ≡ total (λ id. store.times k (pages id)) ids
+  -- how often the owners have a page, by a list of theirs
+  abbrev owned : ℕ → List ℕ → ℕ
+  owned k numbers = total (λ (x : Holding). share.times k (pages_among x.0 (holdings d) numbers)) (holdings d)
+
+  each-owner : (k : ℕ) → owned k all ≡ total (λ id. store.times k (pages id)) ids
   each-owner k =
       each-piece pages k (λ (x : Holding). share.times k (pages_among x.0 (holdings d) all)) ids (holdings d) match
       (λ i x e. ap (share.times k) (among-at (holdings d) i x all (desk-apart is) e).0 ∙ same-times k _)
 
   pub shared : ((k : ℕ) → k < d.pool → total (λ id. store.times k (pages id)) ids + store.times k free ≡ 1) → IsShared (share_in (free ++ all) d) d
   shared once = record {
-    each = λ o. ap (λ l. length (pages_among o (holdings d) l)) behind ∙ enough o (holdings d) all (omega (arith, length-all pages ids, match-total pages ids (holdings d) match));
+    each = λ o.
+        ap (λ l. length (pages_among o (holdings d) l)) behind
+        ∙ enough o (holdings d) all (omega (arith, length-all pages ids, match-total pages ids (holdings d) match));
     free = ap length front ∙ frees;
     once = λ k l.
         let one = once k l in
-        ap (λ z. share.times k z + total (λ (x : Holding). share.times k (pages_among x.0 (holdings d) (drop (free_pages d) (free ++ all)))) (holdings d)) front
-        ∙ ap (λ z. share.times k free + total (λ (x : Holding). share.times k (pages_among x.0 (holdings d) z)) (holdings d)) behind
-        ∙ omega (arith, each-owner k, same-times k free);
+        ap (λ z. share.times k z + owned k (drop (free_pages d) (free ++ all))) front
+        ∙ ap (λ z. share.times k free + owned k z) behind ∙ omega (arith, each-owner k, same-times k free);
   }

@@ -21,7 +21,8 @@ use Rattle.rh_run.proofs.ShareLaws.{Match, all_of, length-numbers, shared}
 abbrev size : Holding → ℕ
 size h = page * h.1
 
-fixed-sizes : (d : Desk) (n : ℕ) (areas : List ℕ) → map (length_of_area d) (enumerate_from n areas) ≡ map size (map (fixed_holding d) (enumerate_from n areas))
+fixed-sizes : (d : Desk) (n : ℕ) (areas : List ℕ)
+    → map (length_of_area d) (enumerate_from n areas) ≡ map size (map (fixed_holding d) (enumerate_from n areas))
 fixed-sizes d n [] = refl
 fixed-sizes d n (a ∷ areas) = ap (λ l. length_of_area d (n, a) ∷ l) (fixed-sizes d (n + 1) areas)
 
@@ -42,7 +43,8 @@ all-sizes s k =
     let made : List Holding = map made_holding d.made in
     let slots : List Holding = map slot_holding d.tasks in
     ap₂ ◌++◌ (k.areas ∙ fixed-sizes d 0 d.areas) (ap₂ ◌++◌ (k.made ∙ made-sizes d.made) (slot-sizes s.slots d.tasks k.slots))
-    ∙ sym (map-append size (fixed ++ made) slots ∙ ap (λ l. l ++ map size slots) (map-append size fixed made) ∙ append_assoc (map size fixed) (map size made) (map size slots))
+    ∙ sym (map-append size (fixed ++ made) slots ∙ ap (λ l. l ++ map size slots) (map-append size fixed made)
+    ∙ append_assoc (map size fixed) (map size made) (map size slots))
 
 matched : (m : Memory) (pages : ℕ → List ℕ) (ids : List ℕ) (xs : List Holding) → ((id : ℕ) → page * length (pages id) ≡ length (bytes m id))
     → map (λ id. length (bytes m id)) ids ≡ map size xs → Match pages ids xs
@@ -85,7 +87,8 @@ pub same-areas : (m : Memory) (s : Shown) (xs ys : List AreaId) → xs ≡ ys �
 same-areas m s xs ys e w = subst (λ (areas : List AreaId). StandsIn m (numbers areas) s) (sym e) w
 
 -- ---- the store of a world
-module _ (store : PagedStore) (areas : List AreaId) (s : Shown) (w : StandsIn (memory_of store) (numbers areas) s) (k : IsSpelled s) (is : IsDesk s.desk) where
+module _ (store : PagedStore) (areas : List AreaId) (s : Shown) (w : StandsIn (memory_of store) (numbers areas) s) (k : IsSpelled s)
+    (is : IsDesk s.desk) where
   abbrev pages : ℕ → List ℕ
   pages id = get_or (pages_of store) id []
 
@@ -110,7 +113,8 @@ module _ (store : PagedStore) (areas : List AreaId) (s : Shown) (w : StandsIn (m
   -- an area, and the pages that are listed before its own
   module _ (items : List ℕ) (i : ℕ) (so_far : items ≡ free_of store ++ all_of pages (take i ids)) where
     pub area-opened : i < length areas → IsOpen (memory_of store) (area i)
-    area-opened l = subst (IsOpen (memory_of store)) (numbers-at areas i) (all-at (IsOpen (memory_of store)) ids i 0 (omega (arith, length-map areas (λ (a : AreaId). a.0))) w.opened)
+    area-opened l = subst (IsOpen (memory_of store)) (numbers-at areas i)
+        (all-at (IsOpen (memory_of store)) ids i 0 (omega (arith, length-map areas (λ (a : AreaId). a.0))) w.opened)
 
     pub area-fits : i < length areas → page * length items + length (bytes (memory_of store) (area i)) ≤ page * 1024
     area-fits l =

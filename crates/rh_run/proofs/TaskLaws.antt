@@ -50,7 +50,8 @@ pub given : {A B : Type 0} (r : Result A Refusal) (g : Granted B) (x y : B) → 
 given (Ok a) g x y ok is e = let same = ok in cc
 given (Err q) g x y ok is e = absurd (cc)
 
-pub granted-if : {X B : Type 0} (show : X → B) (r : Result X Refusal) (x : X) (g : Granted B) (y : B) → IfOk r (λ z. g ≡ Ok (show z)) → r ≡ Ok x → g ≡ Ok y → show x ≡ y
+pub granted-if : {X B : Type 0} (show : X → B) (r : Result X Refusal) (x : X) (g : Granted B) (y : B) → IfOk r (λ z. g ≡ Ok (show z)) → r ≡ Ok x
+    → g ≡ Ok y → show x ≡ y
 granted-if show (Ok z) x g y ok is e = let same : z ≡ x = cc in let told = ok in let shown : show z ≡ y = cc in ap show (sym same) ∙ shown
 granted-if show (Err q) x g y ok is e = absurd (cc)
 
@@ -74,7 +75,8 @@ pub record Lies (start : ℕ) (blocks : List Flex) (item : BlockItem) (b : Flex)
   pub at : item.address ≡ start + total weight before + 8
   pub long : item.size ≡ length b.bytes
 
-lies : (start : ℕ) (blocks : List Flex) (i : ℕ) (item : BlockItem) (b : Flex) → slice_get (block_items_from start blocks) i ≡ Some item → slice_get blocks i ≡ Some b → Lies start blocks item b
+lies : (start : ℕ) (blocks : List Flex) (i : ℕ) (item : BlockItem) (b : Flex) → slice_get (block_items_from start blocks) i ≡ Some item
+    → slice_get blocks i ≡ Some b → Lies start blocks item b
 lies start [] i item b e f = absurd (cc)
 lies start (x ∷ blocks) zero item b e f =
     let same : x ≡ b = cc in
@@ -110,18 +112,23 @@ block-room h place bytes b s =
     let at = b.at in
     omega (arith, ap (total size_of) b.whole, total-append size_of b.below (Used bytes ∷ b.above))
 
-pub heap-there : (d : Desk) (h : ℕ) (t : Task) (place x n : ℕ) (bytes : List ℕ) → task_at h d ≡ Some t → heaps.IsSeen t.slot.heap → IsBlockAt t.slot.heap place bytes → n ≤ length bytes
+pub heap-there : (d : Desk) (h : ℕ) (t : Task) (place x n : ℕ) (bytes : List ℕ) → task_at h d ≡ Some t → heaps.IsSeen t.slot.heap
+    → IsBlockAt t.slot.heap place bytes → n ≤ length bytes
     → x ≡ heap_start + place + 4 → slot_bytes d h x n ≡ Ok (take n bytes)
 heap-there d h t place x n bytes live s b few e =
     let at = b.at in
     let same : x ≡ heap_start + (16 + total size_of b.below + 4) = omega arith in
     ap (λ z. slot_bytes d h z n) same
-    ∙ first-read d h _ n t (take n bytes) live (heap-holds t.slot b.below b.above bytes n b.whole s.is.fits few) (heap-first t.slot b.below b.above bytes n b.whole s.is.fits few)
+    ∙ first-read d h _ n t (take n bytes) live (heap-holds t.slot b.below b.above bytes n b.whole s.is.fits few)
+    (heap-first t.slot b.below b.above bytes n b.whole s.is.fits few)
 
-none-there : (b : Bool) (a p : ℕ) (below rest : List Segment) → IsTidy b (below ++ rest) → a ≡ p + total size_of below + 4 → NonePass size_of (is_block_at a) p below
+none-there : (b : Bool) (a p : ℕ) (below rest : List Segment) → IsTidy b (below ++ rest) → a ≡ p + total size_of below + 4
+    → NonePass size_of (is_block_at a) p below
 none-there b a p [] rest t e = tt
-none-there false a p (Used bytes ∷ below) rest t e = (ne_eqb a (p + 4) (λ q. absurd (omega arith)), none-there false a (p + (4 + length bytes)) below rest t.1 (omega arith))
-none-there true a p (Used bytes ∷ below) rest t e = (ne_eqb a (p + 4) (λ q. absurd (omega arith)), none-there false a (p + (4 + length bytes)) below rest t.1 (omega arith))
+none-there false a p (Used bytes ∷ below) rest t e =
+    (ne_eqb a (p + 4) (λ q. absurd (omega arith)), none-there false a (p + (4 + length bytes)) below rest t.1 (omega arith))
+none-there true a p (Used bytes ∷ below) rest t e =
+    (ne_eqb a (p + 4) (λ q. absurd (omega arith)), none-there false a (p + (4 + length bytes)) below rest t.1 (omega arith))
 none-there false a p (Hole n ∷ below) rest t e = (refl, none-there true a (p + n) below rest t.2 (omega arith))
 none-there true a p (Hole n ∷ below) rest t e = absurd t
 
@@ -135,7 +142,8 @@ block-found h place bytes tidy b =
     (none-there false a 16 b.below (Used bytes ∷ b.above) (subst (IsTidy false) b.whole tidy) (omega arith))
     (eq-eqb a (16 + total size_of b.below + 4) (omega arith))
 
-pub module-there : (d : Desk) (place x n : ℕ) (bytes : List ℕ) → heaps.IsSeen d.post.heap → IsBlockAt d.post.heap place bytes → post_is_message (place + 4) d.post ≡ false → n ≤ length bytes
+pub module-there : (d : Desk) (place x n : ℕ) (bytes : List ℕ) → heaps.IsSeen d.post.heap → IsBlockAt d.post.heap place bytes
+    → post_is_message (place + 4) d.post ≡ false → n ≤ length bytes
     → x ≡ module_start + place + 4 → module_shown d x 0 n ≡ Ok (length bytes, take n bytes)
 unfolding module_shown found_or
 module-there d place x n bytes s b free few e =
@@ -152,12 +160,14 @@ task-seen {d} is i t e = heaps.seen is (heap_of.Task i) t.slot.heap (ap (option_
 pub module-seen : {d : Desk} → IsDesk d → heaps.IsSeen d.post.heap
 module-seen {d} is = heaps.seen is heap_of.Module d.post.heap refl
 
-pub in-heap : (d : Desk) (heap : HeapOf) (i : ℕ) (t : Task) (place : ℕ) (bytes : List ℕ) → heap ≡ heap_of.Task i → slice_get d.tasks i ≡ Some t → HasBlock (heap_seen heap d) place bytes
+pub in-heap : (d : Desk) (heap : HeapOf) (i : ℕ) (t : Task) (place : ℕ) (bytes : List ℕ) → heap ≡ heap_of.Task i → slice_get d.tasks i ≡ Some t
+    → HasBlock (heap_seen heap d) place bytes
     → IsBlockAt t.slot.heap place bytes
 in-heap d heap i t place bytes of e has =
     subst (λ (o : Option Heap). HasBlock o place bytes) (ap (λ (h : HeapOf). heap_seen h d) of ∙ ap (option_map (λ (x : Task). x.slot.heap)) e) has
 
-pub in-module : (d : Desk) (heap : HeapOf) (place : ℕ) (bytes : List ℕ) → heap ≡ heap_of.Module → HasBlock (heap_seen heap d) place bytes → IsBlockAt d.post.heap place bytes
+pub in-module : (d : Desk) (heap : HeapOf) (place : ℕ) (bytes : List ℕ) → heap ≡ heap_of.Module → HasBlock (heap_seen heap d) place bytes
+    → IsBlockAt d.post.heap place bytes
 in-module d heap place bytes of has = subst (λ (o : Option Heap). HasBlock o place bytes) (ap (λ (h : HeapOf). heap_seen h d) of) has
 
 -- a place has one block
@@ -167,6 +177,8 @@ block-same h place xs ys s a b =
     let both : Some xs ≡ Some ys = ap (option_map (λ (cut : Split Segment). bytes_of cut.here)) one in cc
 
 -- ---- segments from a place on
-pub items-from : (start : ℕ) (h : Heap) (place : ℕ) (items : List SegmentItem) → IsTidy false h.segments → items ≡ items_at start place h → (below rest : List Segment)
+pub items-from : (start : ℕ) (h : Heap) (place : ℕ) (items : List SegmentItem) → IsTidy false h.segments → items ≡ items_at start place h
+    → (below rest : List Segment)
     → h.segments ≡ below ++ rest → place ≡ place_after below → items ≡ take 64 (segment_items_from (start + place) rest)
-items-from start h place items tidy e below rest whole at = e ∙ ap (λ r. take 64 (segment_items_from (start + place) r)) (from_place h tidy below rest place whole at)
+items-from start h place items tidy e below rest whole at = e
+    ∙ ap (λ r. take 64 (segment_items_from (start + place) r)) (from_place h tidy below rest place whole at)

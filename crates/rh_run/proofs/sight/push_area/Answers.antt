@@ -6,7 +6,8 @@ use Rattle.rh_run.proofs.sight.push_area.Goals as goal
 pub overflow_cast-page : goal.overflow_cast-page
 overflow_cast-page c =
     let store = c.args.store.now in
-    let at : c.loop-i.i < length (get_or (pages_of store) c.args.area.0 []) = omega (arith, c.loop-i-test.true, area-long store c.args.area.0, c.len-i-end.ensures) in
+    let at : c.loop-i.i < length (get_or (pages_of store) c.args.area.0 []) =
+    omega (arith, c.loop-i-test.true, area-long store c.args.area.0, c.len-i-end.ensures) in
     omega (arith, area-small store c.args.area.0 c.loop-i.i 0 at, c.page.ensures)
 
 pub loop-i-preserved : goal.loop-i-preserved
@@ -14,10 +15,12 @@ loop-i-preserved c =
     let store = c.args.store.now in
     let pages : List ℕ = get_or (pages_of store) c.args.area.0 [] in
     c.push.ensures.items
-    ∙ one-more c.args.list.now.items _ pages c.loop-i.i c.loop-i.invariant _ (omega (arith, c.loop-i-test.true, area-long store c.args.area.0, c.len-i-end.ensures)) c.page.ensures
+    ∙ one-more c.args.list.now.items _ pages c.loop-i.i c.loop-i.invariant _
+    (omega (arith, c.loop-i-test.true, area-long store c.args.area.0, c.len-i-end.ensures)) c.page.ensures
 
 pub returns : goal.returns
 returns c =
     let store = c.args.store.now in
     let pages : List ℕ = get_or (pages_of store) c.args.area.0 [] in
-    all-there c.args.list.now.items _ pages c.loop-i.i c.loop-i.invariant (omega (arith, c.loop-i-test.false, area-long store c.args.area.0, c.len-i-end.ensures))
+    all-there c.args.list.now.items _ pages c.loop-i.i c.loop-i.invariant
+    (omega (arith, c.loop-i-test.false, area-long store c.args.area.0, c.len-i-end.ensures))

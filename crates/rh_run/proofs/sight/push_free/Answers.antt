@@ -13,9 +13,11 @@ pub loop-i-preserved : goal.loop-i-preserved
 loop-i-preserved c =
     let store = c.args.store.now in
     c.push.ensures.items
-    ∙ one-more c.args.list.now.items _ (free_of store) c.loop-i.i c.loop-i.invariant _ (omega (arith, c.loop-i-test.true, free-long store, c.free_pages-i-end.ensures)) c.free_page.ensures
+    ∙ one-more c.args.list.now.items _ (free_of store) c.loop-i.i c.loop-i.invariant _
+    (omega (arith, c.loop-i-test.true, free-long store, c.free_pages-i-end.ensures)) c.free_page.ensures
 
 pub returns : goal.returns
 returns c =
     let store = c.args.store.now in
-    all-there c.args.list.now.items _ (free_of store) c.loop-i.i c.loop-i.invariant (omega (arith, c.loop-i-test.false, free-long store, c.free_pages-i-end.ensures))
+    all-there c.args.list.now.items _ (free_of store) c.loop-i.i c.loop-i.invariant
+    (omega (arith, c.loop-i-test.false, free-long store, c.free_pages-i-end.ensures))

@@ -13,4 +13,5 @@ pub returns-in-Some : goal.returns-in-Some
 returns-in-Some c = λ t e.
     let d = c.args.self.now.world.desk in
     let all = blocks-there d _ t (c.in-Some.ensures.live ∙ e) in
-    given c.blocks_in.result _ _ (block_items t.slot) c.blocks_in.ensures.ok (is-granted _ c.blocks_in.result _ (block_items t.slot) c.blocks_in.ensures.err all) all
+    given c.blocks_in.result _ _ (block_items t.slot) c.blocks_in.ensures.ok
+    (is-granted _ c.blocks_in.result _ (block_items t.slot) c.blocks_in.ensures.err all) all

@@ -4,7 +4,8 @@ use Rattle.rh_run.proofs.sight.PagedWorldSight.messages.Goals as goal
 
 pub loop-item-preserved : goal.loop-item-preserved
 loop-item-preserved c =
-    c.push.ensures.items ∙ one-message c.as_slice-item-items.result.now _ c.loop-item.item-index c.loop-item.invariant c.item-item.result c.loop-item-test.true c.item-item.is
+    c.push.ensures.items
+    ∙ one-message c.as_slice-item-items.result.now _ c.loop-item.item-index c.loop-item.invariant c.item-item.result c.loop-item-test.true c.item-item.is
 
 pub returns : goal.returns
 returns c =

@@ -9,7 +9,9 @@ block_address-address-requires c =
     let d = c.args.self.now.world.desk in
     let t = there c.in-Some.task _ c.in-Some.ensures.task in
     let wanted = c.requires.block in
-    let room = block-room _ c.args.place wanted.0 (in-heap d c.args.heap c.in-Task.i t.0 c.args.place wanted.0 c.in-Task.is t.1 wanted.1) (task-seen c.spelled.ensures.desk c.in-Task.i t.0 t.1) in
+    let room =
+    block-room _ c.args.place wanted.0 (in-heap d c.args.heap c.in-Task.i t.0 c.args.place wanted.0 c.in-Task.is t.1 wanted.1)
+    (task-seen c.spelled.ensures.desk c.in-Task.i t.0 t.1) in
     omega arith
 
 pub unwrap-requires : goal.unwrap-requires
@@ -19,7 +21,8 @@ unwrap-requires c =
     let wanted = c.requires.block in
     let here = in-heap d c.args.heap c.in-Task.i t.0 c.args.place wanted.0 c.in-Task.is t.1 wanted.1 in
     rw (as-granted _ _ _ _ c.read_slot.ensures
-    (heap-there d _ t.0 c.args.place _ (length c.args.to.now) wanted.0 (c.in-Some.ensures.live ∙ t.1) (task-seen c.spelled.ensures.desk c.in-Task.i t.0 t.1) here wanted.2 c.block_address-address.ensures)).0 refl
+    (heap-there d _ t.0 c.args.place _ (length c.args.to.now) wanted.0 (c.in-Some.ensures.live ∙ t.1)
+    (task-seen c.spelled.ensures.desk c.in-Task.i t.0 t.1) here wanted.2 c.block_address-address.ensures)).0 refl
 
 pub returns-in-Some : goal.returns-in-Some
 returns-in-Some c = λ bytes has.
@@ -30,13 +33,15 @@ returns-in-Some c = λ bytes has.
     let first = in-heap d c.args.heap c.in-Task.i t.0 c.args.place wanted.0 c.in-Task.is t.1 wanted.1 in
     let here = in-heap d c.args.heap c.in-Task.i t.0 c.args.place bytes c.in-Task.is t.1 has in
     let few : length c.args.to.now ≤ length bytes = omega (arith, ap length (block-same _ c.args.place wanted.0 bytes is first here), wanted.2) in
-    (as-granted _ _ _ _ c.read_slot.ensures (heap-there d _ t.0 c.args.place _ (length c.args.to.now) bytes (c.in-Some.ensures.live ∙ t.1) is here few c.block_address-address.ensures)).1
+    (as-granted _ _ _ _ c.read_slot.ensures
+    (heap-there d _ t.0 c.args.place _ (length c.args.to.now) bytes (c.in-Some.ensures.live ∙ t.1) is here few c.block_address-address.ensures)).1
 
 pub block_address-address-requires-in-Module : goal.block_address-address-requires-in-Module
 block_address-address-requires-in-Module c =
     let d = c.args.self.now.world.desk in
     let wanted = c.requires.block in
-    let room = block-room _ c.args.place wanted.0 (in-module d c.args.heap c.args.place wanted.0 c.in-Module.is wanted.1) (module-seen c.spelled.ensures.desk) in
+    let room =
+    block-room _ c.args.place wanted.0 (in-module d c.args.heap c.args.place wanted.0 c.in-Module.is wanted.1) (module-seen c.spelled.ensures.desk) in
     omega arith
 
 pub unwrap-requires-in-Module : goal.unwrap-requires-in-Module
@@ -46,7 +51,8 @@ unwrap-requires-in-Module c =
     let here = in-module d c.args.heap c.args.place wanted.0 c.in-Module.is wanted.1 in
     let free = subst (λ (h : HeapOf). IsFree h c.args.place d) c.in-Module.is c.requires.free in
     rw (as-granted _ _ _ _ c.read_module.ensures
-    (module-there d c.args.place _ (length c.args.to.now) wanted.0 (module-seen c.spelled.ensures.desk) here free wanted.2 c.block_address-address-in-Module.ensures)).0 refl
+    (module-there d c.args.place _ (length c.args.to.now) wanted.0
+    (module-seen c.spelled.ensures.desk) here free wanted.2 c.block_address-address-in-Module.ensures)).0 refl
 
 pub returns-in-Module : goal.returns-in-Module
 returns-in-Module c = λ bytes has.
@@ -57,4 +63,5 @@ returns-in-Module c = λ bytes has.
     let here = in-module d c.args.heap c.args.place bytes c.in-Module.is has in
     let few : length c.args.to.now ≤ length bytes = omega (arith, ap length (block-same _ c.args.place wanted.0 bytes is first here), wanted.2) in
     let free = subst (λ (h : HeapOf). IsFree h c.args.place d) c.in-Module.is c.requires.free in
-    (as-granted _ _ _ _ c.read_module.ensures (module-there d c.args.place _ (length c.args.to.now) bytes is here free few c.block_address-address-in-Module.ensures)).1
+    (as-granted _ _ _ _ c.read_module.ensures
+    (module-there d c.args.place _ (length c.args.to.now) bytes is here free few c.block_address-address-in-Module.ensures)).1
