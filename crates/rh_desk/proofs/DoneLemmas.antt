@@ -79,7 +79,8 @@ run-over d s (Err TooLong) ok memory read answered long so_far broke quiet told 
 run-over d s (Err WriteFailed) ok memory read answered long so_far broke quiet told = (WriteFailed, broke refl, told WriteFailed refl)
 
 -- how a map ends the program
-pub map-over : (marked : Bool) (d : Desk) (s : Streams) (outcome : Result Status RunFault) → IfOk outcome (λ status. Mapped marked (place d 0 false) s.before s.after s.old s.new status)
+pub map-over : (marked : Bool) (d : Desk) (s : Streams) (outcome : Result Status RunFault)
+    → IfOk outcome (λ status. Mapped marked (place d 0 false) s.before s.after s.old s.new status)
     → (IsErrOf outcome NoMemory → (s.after ≡ s.before) × (s.new ≡ s.old))
     → (IsErrOf outcome ReadFailed → s.after.failed ≡ true)
     → (IsErrOf outcome ReadFailed → MappedSoFar marked (place d 0 false) s.before s.after s.old s.new)
@@ -118,8 +119,8 @@ pub check-over : (k : ImageKind) (image bytes : List ℕ) (s : Streams) (outcome
 check-over k image bytes s outcome same takes is broke quiet told = subst (λ b. CheckOver k b s (ending_of outcome)) same (check-ends k image s outcome takes is broke quiet told)
 
 -- what stops a run before its script
-pub files-fail : {F : Type 0} (remaining : F → Option (List ℕ)) (shown : Shown) (pages : ℕ) (script : List ℕ) (words : List (List ℕ)) (s : Streams) (ending : Ending) → AreGood words
-    → Untouched s → TellsBadFile s.quiet s.told words ending → RunEnds remaining shown pages script words s ending
+pub files-fail : {F : Type 0} (remaining : F → Option (List ℕ)) (shown : Shown) (pages : ℕ) (script : List ℕ) (words : List (List ℕ)) (s : Streams) (ending : Ending)
+    → AreGood words → Untouched s → TellsBadFile s.quiet s.told words ending → RunEnds remaining shown pages script words s ending
 files-fail remaining shown pages script words s ending good still (inl bad) = inr (still, inl bad)
 files-fail remaining shown pages script words s ending good still (inr lost) = inr (still, inr (good, lost))
 
@@ -128,7 +129,8 @@ names-of [] = refl
 names-of (w ∷ ws) = ap (λ ns. word_name w.now ∷ ns) (names-of ws)
 
 -- a script over the files of good words
-pub script-over : {F : Type 0} (remaining : F → Option (List ℕ)) (shown : Shown) (pages : ℕ) (script : List ℕ) (ws : List (Bor (List ℕ))) (files : FileList) (s : Streams) (ending : Ending)
+pub script-over : {F : Type 0} (remaining : F → Option (List ℕ)) (shown : Shown) (pages : ℕ) (script : List ℕ) (ws : List (Bor (List ℕ)))
+    (files : FileList) (s : Streams) (ending : Ending)
     → AreGood (map (λ w. w.now) ws) → map (λ file. file.0) files ≡ map (λ w. word_name w.now) ws → All (λ file. IsWhole remaining file.1) files
     → (script ≡ codes "-" → ShownOver shown (start pages files) s ending) → (script ≢ codes "-" → FileOver remaining shown (start pages files) script s ending)
     → RunEnds remaining shown pages script (map (λ w. w.now) ws) s ending
@@ -139,7 +141,8 @@ abbrev noted : {F : Type 0} → (F → Option (List ℕ)) → F → Bool → ℕ
 noted remaining inner failed reads rest s = record s { before = record { left = remaining inner; failed = failed; reads = reads }; after = rest }
 
 -- a file of which nothing is noted yet
-pub file-over : {F : Type 0} (remaining : F → Option (List ℕ)) (shown : Shown) (d : Desk) (path : List ℕ) (s : Streams) (ending : Ending) (file inner : F) (failed : Bool) (reads : ℕ) (rest : Input)
+pub file-over : {F : Type 0} (remaining : F → Option (List ℕ)) (shown : Shown) (d : Desk) (path : List ℕ) (s : Streams) (ending : Ending) (file inner : F)
+    (failed : Bool) (reads : ℕ) (rest : Input)
     → inner ≡ file → failed ≡ false → reads ≡ 0 → s.after ≡ s.before → ShownOver shown d (noted remaining inner failed reads rest s) ending
     → FileOver remaining shown d path s ending
 file-over remaining shown d path s ending file inner failed reads rest of well none same over =

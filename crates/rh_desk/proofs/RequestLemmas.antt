@@ -2,7 +2,7 @@
 use Rattle.std.proofs.Common.{◌≡◌, ◌≢◌, ◌≤◌, ap, arith, refl, subst, sym, ◌∙◌, ℕ, codes, List, [], map, Bool, true, false, Option, Some, None, Result, Ok, Err, Bor, option_map, unwrap_or}
 use Rattle.std.specs.Str.Parse.{ParsesUnsigned}
 use Rattle.clap.specs.Words.{ReadsOne, Row, Text, first_of, one_of}
-use Rattle.rh_desk.specs.Requests.{AsksFor, AsksKind, AsksPages}
+use Rattle.rh_desk.specs.Requests.{AsksFor, AsksKind, AsksMarked, AsksPages}
 use Rattle.rh_desk.specs.declared.request.ImageKind.TheVariants.{Heap, Slot}
 use Rattle.rh_desk.specs.declared.request.Request.{Request}
 use Rattle.rh_desk.specs.declared.request.Request.TheVariants.{Check, Run}
@@ -30,6 +30,12 @@ pages-fit G (Some t) (Some n) parses none some pages least most asks =
     let is = parses t (Ok n) (some t refl) in
     let same : pages ≡ n = asks is.0.0 is.0.1 ∙ sym is.1 in
     (subst (λ m. 8 ≤ m) same least, subst (λ m. m ≤ 1024) same most)
+
+-- marked steps alone are asked for where the flag was found
+pub marks-asked : (text : Option Text) (flag : Bool) → (text ≡ None → flag ≡ false) → (text ≡ Some (codes "true") → flag ≡ true)
+    → (text ≡ Some (codes "false") → flag ≡ false) → AsksMarked text flag
+marks-asked None flag none value other = none refl
+marks-asked (Some t) flag none value other = (λ yes. value (ap Some yes), λ no. other (ap Some no))
 
 -- the words that are found, where there are any
 pub words-are : (found : Option (Bor (List (Bor Text)))) (others : Bor (List (Bor Text))) (all : Option (List Text))

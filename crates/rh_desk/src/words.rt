@@ -124,7 +124,10 @@ fn map_told<I: Source, O: Sink, E: Sink>(
     ensures over { MapOver marked (start pages files)
         (streams (I.input script.old) (I.input script.new) (O.output output.old) (O.output output.new) (E.output errors.old) (E.output errors.new)) result }
 {
-    ended(draw_map(alloc, files, script, output, pages, marked), errors)
+    ended(
+        draw_map(alloc, files, script, output, pages, marked),
+        errors,
+    )
 }
 
 /// Writes what is to be written of a script, and tells the fault that stopped it, if one did.

@@ -14,7 +14,9 @@ words-are c =
     let one = c.in_ok-subcommand.ensures.shape (third-passes _ _ _ _ (ap (λ (a : App). a.top.is_plain) c.in_ok-running.ensures)) in
     let two = c.in_ok-subcommand-2.ensures.shape (third-passes _ _ _ _ (ap (λ (a : App). a.top.is_plain) c.in_ok-mapping.ensures)) in
     let three = c.in_ok-subcommand-3.ensures.shape (third-passes _ _ _ _ (ap (λ (a : App). a.top.is_plain) c.in_ok-checking.ensures)) in
-    three ∙ ap₂ with_subcommand (two ∙ ap₂ with_subcommand (one ∙ ap₂ with_subcommand top_is (ap (λ (a : App). a.top) c.in_ok-running.ensures)) (ap (λ (a : App). a.top) c.in_ok-mapping.ensures)) (ap (λ (a : App). a.top) c.in_ok-checking.ensures)
+    let run = one ∙ ap₂ with_subcommand top_is (ap (λ (a : App). a.top) c.in_ok-running.ensures) in
+    let map_too = two ∙ ap₂ with_subcommand run (ap (λ (a : App). a.top) c.in_ok-mapping.ensures) in
+    three ∙ ap₂ with_subcommand map_too (ap (λ (a : App). a.top) c.in_ok-checking.ensures)
 
 pub returns-clause-found : goal.returns-clause-found
 returns-clause-found c =

@@ -6,5 +6,7 @@ use Rattle.rh_desk.proofs.command_line.running.Goals as goal
 pub returns : goal.returns
 returns c =
     let top_is : app_of c.after_help.result ≡ new_app (codes "run") = rw (c.after_help.ensures, c.about.ensures) c.new.ensures.app in
-    IfOk-weaker c.arg-3.result _ _ (λ command added. added.shape c.files_arg.ensures.local
-    ∙ ap₂ with_rule (c.in_ok-arg-2.ensures.shape c.script_arg.ensures.local ∙ ap₂ with_rule (c.in_ok-arg.ensures.shape c.pages_arg.ensures.local ∙ ap₂ with_rule top_is c.pages_arg.ensures.rule) c.script_arg.ensures.rule) c.files_arg.ensures.rule) c.arg-3.ensures
+    let one = c.in_ok-arg.ensures.shape c.pages_arg.ensures.local ∙ ap₂ with_rule top_is c.pages_arg.ensures.rule in
+    let two = c.in_ok-arg-2.ensures.shape c.script_arg.ensures.local ∙ ap₂ with_rule one c.script_arg.ensures.rule in
+    IfOk-weaker c.arg-3.result _ _
+    (λ command added. added.shape c.files_arg.ensures.local ∙ ap₂ with_rule two c.files_arg.ensures.rule) c.arg-3.ensures
