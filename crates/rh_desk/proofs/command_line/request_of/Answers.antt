@@ -1,4 +1,4 @@
-use Rattle.std.proofs.Common.{rules, ap, sym, subst, refl, ◌≡◌, ◌≢◌, ◌∙◌, ◌≤◌, arith, ℕ, codes, map, Some, None, [], unwrap_or}
+use Rattle.std.proofs.Common.{rules, ap, sym, subst, refl, ◌≡◌, ◌≢◌, ◌∙◌, ◌≤◌, ℕ, codes, map, Some, None, [], unwrap_or}
 use Rattle.clap.specs.Words.{all_of, first_of, found_of, one_of, one_text, rows_of}
 use Rattle.clap.proofs.WalkLemmas.{first_value-rows, one_text-rows, raw_values-rows}
 use Rattle.std.specs.Str.Parse.{ParsesUnsigned, ExplainsUnsignedError, HasUnsignedDigitsIfOk}
