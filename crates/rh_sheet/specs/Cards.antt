@@ -2,9 +2,9 @@
 use Rattle.std.specs.Prelude.{ℕ, ◌+◌, ◌-◌, ◌*◌, ◌/◌, ◌%◌, min, Bool, List, [], ◌∷◌, ◌++◌, codes}
 use Rattle.std.specs.List.{concat, flat_map, enumerate_from}
 use Rattle.std.specs.Fmt.{decimal}
-use Rattle.rh_figure.specs.Phrases.{Text, cut, where_so, commas}
+use Rattle.rh_figure.specs.Phrases.{Text, cut, commas}
 use Rattle.rh_figure.specs.Cards.{Card, CardKind, FlexCard, UsedCard, HoleCard, PostCard, MoreCard, shown_cards}
-use Rattle.rh_sheet.specs.Markup.{Box, box_text, classes, words_text, path_text, point_text, stretch_text}
+use Rattle.rh_sheet.specs.Markup.{Box, box_text, fresh_class, words_text, path_text, point_text, stretch_text}
 use Rattle.rh_sheet.specs.declared.sizes.TheConstants.{LEFT, CARD_PITCH, CARD_RISE, CARDS_ACROSS, CARD_COLUMNS, CARD_GAP, CARD_SPACE, CARD_INDENT, CARD_BASELINE, CARD_LINE}
 
 -- the class of a kind of card
@@ -18,7 +18,7 @@ card_class MoreCard = codes "more"
 -- the rectangle of a card whose room begins at a point
 abbrev pub card_box : CardKind → Bool → ℕ → ℕ → Box
 card_box kind fresh x y = record {
-  class = classes (codes "card" ∷ card_class kind ∷ where_so fresh (codes "fresh") ∷ []);
+  class = concat (codes "card " ∷ card_class kind ∷ fresh_class fresh ∷ []);
   x = x + 1;
   y = y + 1;
   width = CARD_PITCH - CARD_GAP;

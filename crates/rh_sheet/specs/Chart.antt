@@ -1,8 +1,7 @@
 -- The chart of the last messages: a line down for each task, an arrow from the step at which a message was sent to the
 -- one at which it was taken.
-use Rattle.std.specs.Prelude.{ℕ, ◌+◌, ◌-◌, ◌*◌, ◌/◌, ◌==◌, nat_lt, max, ◌&&◌, ◌||◌, not, Bool, if◌then◌else◌, List, [], ◌∷◌, ◌++◌, length, take, drop, map, filter, find, codes, Option, Some, None}
+use Rattle.std.specs.Prelude.{ℕ, ◌+◌, ◌-◌, ◌*◌, ◌/◌, ◌==◌, nat_lt, max, ◌&&◌, ◌||◌, not, Bool, if◌then◌else◌, List, [], ◌∷◌, ◌++◌, length, take, drop, map, filter, find, codes, Option, Some, None, is_some}
 use Rattle.std.specs.List.{concat, flat_map}
-use Rattle.std.specs.Option.{is_some}
 use Rattle.std.specs.Fmt.{decimal}
 use Rattle.rh_defs.specs.declared.message.Action.{Action}
 use Rattle.rh_defs.specs.declared.message.Letter.{Letter}
@@ -11,7 +10,7 @@ use Rattle.rh_defs.specs.Desk.{Desk, task_at}
 use Rattle.rh_defs.specs.Text.{action_name}
 use Rattle.rh_figure.specs.Scene.{Scene, sent_by, waiting}
 use Rattle.rh_figure.specs.Phrases.{Text, where_so, task_name}
-use Rattle.rh_sheet.specs.Markup.{classes, words_text, path_text, point_text, stretch_text, svg_text}
+use Rattle.rh_sheet.specs.Markup.{words_text, path_text, point_text, stretch_text, svg_text}
 use Rattle.rh_sheet.specs.declared.sizes.TheConstants.{CHART_WIDTH, CHART_LEFT, CHART_TOP, CHART_SPREAD, BEAT, MOST_NOTES, NAME_Y, LIFE_TOP, LETTER_UNITS, ARROW_RISE, ARROW_STUB, LOOP_BOW, TIP_GAP, WORDS_ASIDE, WORDS_DOWN, STUB_ASIDE, STUB_DOWN, CHART_EDGE}
 
 -- ---- what is kept of the last messages
@@ -152,7 +151,7 @@ chart_foot steps = CHART_TOP + BEAT * length steps
 
 -- a task's name above its line, as far as the gap has room, and the line
 abbrev pub life_class : Bool → Text
-life_class alive = classes (codes "who" ∷ where_so (not alive) (codes "dead") ∷ [])
+life_class alive = codes "who" ++ where_so (not alive) (codes " dead")
 
 abbrev pub life_text : Bool → Text → ℕ → ℕ → ℕ → Text
 life_text alive name gap x foot =
@@ -190,10 +189,10 @@ message_way waits x0 y0 x1 y1 =
     else line_way x0 y0 x1 y1
 
 abbrev pub message_class : Bool → Bool → Text
-message_class waits now = classes (codes "msg" ∷ where_so waits (codes "waits") ∷ where_so now (codes "now") ∷ [])
+message_class waits now = concat (codes "msg" ∷ where_so waits (codes " waits") ∷ where_so now (codes " now") ∷ [])
 
 abbrev pub words_class : Bool → Bool → Text
-words_class west now = classes (codes "mname" ∷ where_so west (codes "west") ∷ where_so now (codes "now") ∷ [])
+words_class west now = concat (codes "mname" ∷ where_so west (codes " west") ∷ where_so now (codes " now") ∷ [])
 
 -- how far from an arrow's beginning its words stand: to the side, and down
 abbrev pub words_aside : Bool → ℕ

@@ -1,6 +1,7 @@
 -- Where the parts of an area's figure stand: cards above, rows of pages, cards below.
 use Rattle.std.specs.Prelude.{ℕ, ◌+◌, ◌-◌, ◌*◌, ◌/◌, ◌==◌, nat_le, nat_lt, min, ◌||◌, if◌then◌else◌, Option, Some, None}
 use Rattle.rh_figure.specs.declared.limits.TheConstants.{MOST_ROWS, EDGE_ROWS, MOST_CARDS}
+pub use Rattle.rh_sheet.specs.declared.frame.Frame.{Frame}
 use Rattle.rh_sheet.specs.declared.sizes.TheConstants.{ROW_PITCH, CARD_RISE, CARDS_ACROSS, LENS_HEIGHT, ROW_GAP, FRAME_EDGE}
 
 -- ---- which pages have a row
@@ -29,12 +30,6 @@ row_of n k =
 abbrev pub band_height : ℕ → ℕ
 band_height n =
     if n == 0 then 0 else CARD_RISE * ((min n MOST_CARDS + (CARDS_ACROSS - 1)) / CARDS_ACROSS) + LENS_HEIGHT
-
--- how many pages have rows, those that were given back among them, and how many cards stand above and below
-pub record Frame : Type 0 where
-  pub pages : ℕ
-  pub above : ℕ
-  pub below : ℕ
 
 -- where the rows begin
 abbrev pub top : Frame → ℕ

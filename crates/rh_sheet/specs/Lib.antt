@@ -12,3 +12,4 @@ pub mod Chart
 pub mod Steps
 pub mod Fixed
 pub mod Sheet
+pub mod Laws

@@ -1,8 +1,8 @@
 -- The elements of a sheet: HTML, and SVG inside it.
-use Rattle.std.specs.Prelude.{ℕ, ◌==◌, not, if◌then◌else◌, List, [], ◌∷◌, ◌++◌, filter, length, codes}
-use Rattle.std.specs.List.{flat_map, concat, join_by}
+use Rattle.std.specs.Prelude.{ℕ, ◌==◌, Bool, if◌then◌else◌, List, [], ◌∷◌, ◌++◌, length, codes}
+use Rattle.std.specs.List.{flat_map, concat}
 use Rattle.std.specs.Fmt.{decimal}
-use Rattle.rh_figure.specs.Phrases.{Text}
+use Rattle.rh_figure.specs.Phrases.{Text, where_so}
 
 -- ---- text
 
@@ -19,9 +19,16 @@ escaped_byte b =
 abbrev pub escape : Text → Text
 escape t = flat_map escaped_byte t
 
--- the classes of an element, of which some may be empty
-abbrev pub classes : List Text → Text
-classes names = join_by (λ t. t) (codes " ") (filter (λ (t : Text). not (length t == 0)) names)
+-- the class of a thing that the command has changed, behind other classes
+abbrev pub fresh_class : Bool → Text
+fresh_class fresh = where_so fresh (codes " fresh")
+
+-- an attribute, by its name and its text, or by its name and a number
+abbrev pub text_attribute : Text → Text → Text
+text_attribute name t = concat (codes " " ∷ name ∷ codes "=\"" ∷ t ∷ codes "\"" ∷ [])
+
+abbrev pub number_attribute : Text → ℕ → Text
+number_attribute name n = text_attribute name (decimal n)
 
 -- ---- rectangles
 
@@ -43,8 +50,8 @@ box_end tip =
 -- the beginning of a rectangle
 abbrev pub box_begin : Text → ℕ → ℕ → ℕ → ℕ → Text
 box_begin class x y width height = concat (
-    codes "<rect class=\"" ∷ class ∷ codes "\" x=\"" ∷ decimal x ∷ codes "\" y=\"" ∷ decimal y
-    ∷ codes "\" width=\"" ∷ decimal width ∷ codes "\" height=\"" ∷ decimal height ∷ codes "\"" ∷ []
+    codes "<rect" ∷ text_attribute (codes "class") class ∷ number_attribute (codes "x") x ∷ number_attribute (codes "y") y
+    ∷ number_attribute (codes "width") width ∷ number_attribute (codes "height") height ∷ []
     )
 
 -- a rectangle
@@ -57,18 +64,23 @@ boxes_text boxes = flat_map box_text boxes
 
 -- ---- words and lines in a figure
 
--- words in a figure, from a place on or around it as their class says; no words, no element
+-- the beginning of words in a figure
+abbrev pub words_begin : Text → ℕ → ℕ → Text
+words_begin class x y = concat (
+    codes "<text" ∷ text_attribute (codes "class") class ∷ number_attribute (codes "x") x ∷ number_attribute (codes "y") y
+    ∷ codes ">" ∷ []
+    )
+
+-- words in a figure, from a place on or around it as their class says; where there are no words, no element
 abbrev pub words_text : Text → ℕ → ℕ → Text → Text
 words_text class x y t =
-    if length t == 0 then []
-    else concat (
-    codes "<text class=\"" ∷ class ∷ codes "\" x=\"" ∷ decimal x ∷ codes "\" y=\"" ∷ decimal y ∷ codes "\">"
-    ∷ escape t ∷ codes "</text>\n" ∷ []
-    )
+    if length t == 0 then [] else concat (words_begin class x y ∷ escape t ∷ codes "</text>\n" ∷ [])
 
 -- a line along a way
 abbrev pub path_text : Text → Text → Text
-path_text class way = concat (codes "<path class=\"" ∷ class ∷ codes "\" d=\"" ∷ way ∷ codes "\"/>\n" ∷ [])
+path_text class way = concat (
+    codes "<path" ∷ text_attribute (codes "class") class ∷ text_attribute (codes "d") way ∷ codes "/>\n" ∷ []
+    )
 
 -- a step of a way: its letter and a point
 abbrev pub point_text : Text → ℕ → ℕ → Text

@@ -6,7 +6,7 @@ use Rattle.rh_defs.specs.Pieces.{page}
 use Rattle.rh_defs.specs.Text.{address}
 use Rattle.rh_figure.specs.Phrases.{Text, where_so, size_text}
 use Rattle.rh_figure.specs.Layout.{Kind, AnchorWords, Descriptor, Claimed, Posted, FreeHole, MoreSegments, FreeTop, FlexBlock, Unused, Piece}
-use Rattle.rh_sheet.specs.Markup.{Box, box_text, classes, words_text}
+use Rattle.rh_sheet.specs.Markup.{Box, box_text, fresh_class, words_text}
 use Rattle.rh_sheet.specs.declared.sizes.TheConstants.{UNIT_BYTES, LEFT, ROW_HEIGHT, BASELINE, LABEL_UNITS, LABEL_EDGE, SHORT_EDGE}
 
 -- ---- words
@@ -99,7 +99,7 @@ fitting kind size width =
 -- the classes of a piece: its kind, its owner's tint, and whether it has changed
 abbrev pub piece_classes : Text → Kind → Bool → Text
 piece_classes tint kind fresh =
-    classes (kind_class kind ∷ where_so (is_tinted kind) tint ∷ where_so fresh (codes "fresh") ∷ [])
+    concat (kind_class kind ∷ where_so (is_tinted kind) (codes " " ++ tint) ∷ fresh_class fresh ∷ [])
 
 -- the rectangle of a piece in the row of page k, of an area that begins at an address
 abbrev pub piece_box : ℕ → Text → ℕ → ℕ → Piece → Box

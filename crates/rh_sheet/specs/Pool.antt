@@ -1,5 +1,5 @@
 -- The pool of pages: a square for each page, with its number, its owner's tint and tag.
-use Rattle.std.specs.Prelude.{ℕ, ◌+◌, ◌-◌, ◌*◌, ◌/◌, ◌%◌, ◌==◌, nat_le, nat_lt, not, if◌then◌else◌, List, [], ◌∷◌, ◌++◌, length, take, codes}
+use Rattle.std.specs.Prelude.{ℕ, ◌+◌, ◌-◌, ◌*◌, ◌/◌, ◌%◌, ◌==◌, nat_le, not, Bool, true, false, List, [], ◌∷◌, ◌++◌, length, take, codes}
 use Rattle.std.specs.List.{concat, flat_map, range_with_len}
 use Rattle.std.specs.Fmt.{decimal}
 use Rattle.rh_defs.specs.Desk.{Desk, free_pages}
@@ -7,7 +7,7 @@ use Rattle.rh_figure.specs.Share.{Owner, Holding, holdings, count_of}
 use Rattle.rh_figure.specs.Scene.{Scene}
 use Rattle.rh_figure.specs.Phrases.{Text, where_so, listed_numbers, owner_name}
 use Rattle.rh_figure.specs.Changes.{taken_pages, freed_pages, taken_line, freed_line}
-use Rattle.rh_sheet.specs.Markup.{Box, box_text, classes, escape, words_text, point_text, svg_text}
+use Rattle.rh_sheet.specs.Markup.{Box, box_text, fresh_class, escape, text_attribute, words_text, point_text, svg_text}
 use Rattle.rh_sheet.specs.Owners.{owner_class, owner_tag}
 use Rattle.rh_sheet.specs.declared.sizes.TheConstants.{LEFT, ROW_WIDTH, FIGURE_WIDTH, CELL, POOL_COLUMNS, FRAME_EDGE, NUMBER_INDENT, NUMBER_BASELINE, TAG_BASELINE, POOL_NAME_Y, POOL_NOTE_Y}
 
@@ -28,12 +28,15 @@ pool_height n = CELL * ((n + (POOL_COLUMNS - 1)) / POOL_COLUMNS)
 abbrev pub square_way : ℕ → Text
 square_way k = point_text (codes "M") (cell_x k + 1) (cell_y k + 1) ++ codes "h30v30h-30z"
 
+-- the beginning of squares
+abbrev pub squares_begin : Text → Text
+squares_begin class = concat (codes "<path" ∷ text_attribute (codes "class") class ∷ codes " d=\"" ∷ [])
+
 -- the squares of some pages, if there are any, with a tip
 abbrev pub squares_text : Text → List ℕ → Text → Text
 squares_text class [] tip = []
 squares_text class (k ∷ ks) tip = concat (
-    codes "<path class=\"" ∷ class ∷ codes "\" d=\"" ∷ flat_map square_way (k ∷ ks) ∷ codes "\"><title>" ∷ escape tip
-    ∷ codes "</title></path>\n" ∷ []
+    squares_begin class ∷ flat_map square_way (k ∷ ks) ∷ codes "\"><title>" ∷ escape tip ∷ codes "</title></path>\n" ∷ []
     )
 
 -- ---- the grid, which each figure of the pool uses
@@ -67,17 +70,17 @@ grid_text n = concat (
 -- ---- the figure
 
 -- the pages that an owner had before, and those that it has taken, in one tint
-abbrev pub owner_classes : Owner → List Text → Text
-owner_classes o more = classes (codes "cell" ∷ owner_class o ∷ more)
+abbrev pub owner_classes : Owner → Bool → Text
+owner_classes o fresh = concat (codes "cell " ∷ owner_class o ∷ fresh_class fresh ∷ [])
 
 abbrev pub kept_squares : Scene → Holding → Text
 kept_squares x o = squares_text
-    (owner_classes o.0 []) (take (count_of o.0 x.before.holdings) (x.share.pages_of o.0))
+    (owner_classes o.0 false) (take (count_of o.0 x.before.holdings) (x.share.pages_of o.0))
     (concat (owner_name x.desk o.0 ∷ codes ": page " ∷ listed_numbers (x.share.pages_of o.0) ∷ []))
 
 abbrev pub taken_squares : Scene → Holding → Text
 taken_squares x o = squares_text
-    (owner_classes o.0 (codes "fresh" ∷ [])) (taken_pages x o)
+    (owner_classes o.0 true) (taken_pages x o)
     (taken_line (owner_name x.desk o.0) (taken_pages x o))
 
 abbrev pub owner_squares : Scene → Holding → Text

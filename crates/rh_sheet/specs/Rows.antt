@@ -34,8 +34,8 @@ chip_text tint y number =
     box_text (chip_box tint y) ++ words_text (codes "chipn") (CHIP_LEFT + CHIP_WIDTH / 2) (y + BASELINE) (decimal number)
 
 -- a page that the area has, with all that lies in it
-abbrev pub page_text : Plot → ℕ → ℕ → Text
-page_text g y k = concat (
+abbrev pub page_row_text : Plot → ℕ → ℕ → Text
+page_row_text g y k = concat (
     chip_text g.tint y (slice_index g.pages k) ∷ box_text (page_box (codes "row") y)
     ∷ pieces_text g.start g.tint y k g.pieces ∷ []
     )
@@ -44,7 +44,7 @@ page_text g y k = concat (
 abbrev pub addressed_text : Plot → ℕ → ℕ → Text
 addressed_text g y k =
     words_text (codes "addr") 0 (y + BASELINE) (address (g.start + page * k))
-    ++ (if nat_lt k (length g.pages) then page_text g y k else box_text (page_box (codes "gone") y))
+    ++ (if nat_lt k (length g.pages) then page_row_text g y k else box_text (page_box (codes "gone") y))
 
 -- the row that counts the pages between the ends of a long area of n pages
 abbrev pub gap_text : ℕ → ℕ → Text

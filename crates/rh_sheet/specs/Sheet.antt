@@ -14,13 +14,14 @@ use Rattle.rh_defs.specs.Text.{reply_text, fault_text}
 use Rattle.rh_figure.specs.Share.{Share}
 use Rattle.rh_figure.specs.Scene.{Scene, Before, before_of, marks_of, is_still, scene_of}
 use Rattle.rh_figure.specs.Phrases.{Text, where_so}
+use Rattle.rh_figure.specs.Map
 use Rattle.rh_figure.specs.Map.{Place, Read, Stage, after_read, first_place, is_mark}
 use Rattle.rh_sheet.specs.declared.sizes.TheConstants.{MOST_STEPS}
 use Rattle.rh_sheet.specs.Markup.{escape, step_link}
 use Rattle.rh_sheet.specs.Fixed.{style_text, signs_text, key_text}
 use Rattle.rh_sheet.specs.Pool.{grid_text}
 use Rattle.rh_sheet.specs.Chart.{Note, noted}
-use Rattle.rh_sheet.specs.Steps.{step_open, step_text, remark_text, said_end, step_end}
+use Rattle.rh_sheet.specs.Steps.{figure_text, step_open, step_text, remark_text, said_end, step_end}
 
 -- ---- head and foot
 
@@ -190,3 +191,8 @@ first_walk pages files =
 -- these files; of all commands, or of marked ones alone
 abbrev pub sheet_text : Bool → Text → List Stage → ℕ → FileList → Text
 sheet_text marked name stages pages files = sheet_head name pages ++ sheet_lines marked (first_walk pages files) stages
+
+-- opens all that a sheet computes with
+unfoldable pub computing : Unit {0}
+unfolding Map.computing figure_text
+computing = tt

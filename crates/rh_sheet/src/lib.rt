@@ -1,8 +1,13 @@
-//! Sheets of memory: what `draw` writes, one page of HTML with a figure after each command of a script (in specs/), with
-//! laws of its text, and the writers of its parts.
+//! Sheets of memory: what `draw` writes, one document of HTML with a figure after each command of a script (in specs/),
+//! with laws of its text.
 #![tactic(auto)]
 
+mod frame;
 pub mod key;
+mod laws;
 pub mod signs;
 pub mod sizes;
 pub mod style;
+
+pub use frame::Frame;
+pub use laws::{escape_law, inside_law};

@@ -1,0 +1,14 @@
+//! Laws of sheets over the definitions alone, each the contract of a function with nothing to do.
+
+ghost use Rattle.rh_sheet.specs.Laws.{EscapesAll, LiesInside};
+
+/// Whatever stands in a text or a tip: no `<`, `>` or `"` is in it, and `&` only before the name of a sign. So nothing
+/// that a script or a file says begins or ends an element.
+pub fn escape_law()
+    ensures { EscapesAll }
+{}
+
+/// Each piece of an area lies within the row of its page, and rows, cards and squares within their figure.
+pub fn inside_law()
+    ensures { LiesInside }
+{}
