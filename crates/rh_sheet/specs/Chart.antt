@@ -10,22 +10,11 @@ use Rattle.rh_defs.specs.Desk.{Desk, task_at}
 use Rattle.rh_defs.specs.Text.{action_name}
 use Rattle.rh_figure.specs.Scene.{Scene, sent_by, waiting}
 use Rattle.rh_figure.specs.Phrases.{Text, where_so, task_name}
+pub use Rattle.rh_sheet.specs.declared.note.Note.{Note}
 use Rattle.rh_sheet.specs.Markup.{words_text, path_text, point_text, stretch_text, svg_text}
 use Rattle.rh_sheet.specs.declared.sizes.TheConstants.{CHART_WIDTH, CHART_LEFT, CHART_TOP, CHART_SPREAD, BEAT, MOST_NOTES, NAME_Y, LIFE_TOP, LETTER_UNITS, ARROW_RISE, ARROW_STUB, LOOP_BOW, TIP_GAP, WORDS_ASIDE, WORDS_DOWN, STUB_ASIDE, STUB_DOWN, CHART_EDGE}
 
 -- ---- what is kept of the last messages
-
--- A message by its ref, tasks and action, and the steps at which it was sent, was taken, came back, and was taken back:
--- 0 for what didn't happen yet.
-pub record Note : Type 0 where
-  pub ref : ℕ
-  pub from : ℕ
-  pub to : ℕ
-  pub action : Action
-  pub sent : ℕ
-  pub taken : ℕ
-  pub back : ℕ
-  pub ended : ℕ
 
 abbrev pub code_or_none : Option Parcel → ℕ
 code_or_none None = 0
@@ -54,7 +43,7 @@ followed step code n = record n {
 -- the note of a letter that was sent at a step
 abbrev pub note_of : ℕ → Letter × ℕ → Note
 note_of step sent = record {
-  ref = sent.1;
+  my_ref = sent.1;
   from = sent.0.from;
   to = sent.0.to;
   action = action_of sent.0.body;
@@ -75,7 +64,7 @@ last_of n notes = drop (length notes - n) notes
 -- the notes after a step
 abbrev pub noted : ℕ → Scene → List Note → List Note
 noted step x notes = last_of MOST_NOTES (
-    map (λ (n : Note). followed step (waiting_code x n.ref) n) notes
+    map (λ (n : Note). followed step (waiting_code x n.my_ref) n) notes
     ++ new_notes step (sent_by x.before (task_at x.before.handle x.desk))
     )
 
@@ -90,7 +79,7 @@ pub record Arrow : Type 0 where
   pub words : Text
 
 abbrev pub note_words : Note → Text
-note_words n = concat (decimal n.ref ∷ codes " " ∷ action_name n.action ∷ [])
+note_words n = concat (decimal n.my_ref ∷ codes " " ∷ action_name n.action ∷ [])
 
 abbrev pub way_out : Note → Arrow
 way_out n = record { start = n.sent; stop = n.taken; from = n.from; to = n.to; words = note_words n }

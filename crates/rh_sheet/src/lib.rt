@@ -5,9 +5,11 @@
 mod frame;
 pub mod key;
 mod laws;
+mod note;
 pub mod signs;
 pub mod sizes;
 pub mod style;
 
 pub use frame::Frame;
 pub use laws::{escape_law, inside_law};
+pub use note::Note;
