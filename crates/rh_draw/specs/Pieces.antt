@@ -1,5 +1,5 @@
 -- Pieces that can be drawn: their places and sizes are those of an area.
-use Rattle.std.specs.Prelude.{ℕ, ◌+◌, ◌^◌, ◌≤◌, List}
+use Rattle.std.specs.Prelude.{◌+◌, ◌^◌, ◌≤◌, List}
 use Rattle.std.specs.List.{AllByRecursion}
 use Rattle.rh_figure.specs.Layout.{Piece}
 

@@ -1,6 +1,6 @@
 //! The arrow of a slide.
 
-ghost use Rattle.std.specs.Prelude.{◌≡◌, ◌≤◌, ◌<◌, ◌+◌, ◌-◌, ◌/◌, ◌^◌, [], ◌∷◌, ◌++◌, length};
+ghost use Rattle.std.specs.Prelude.{◌≡◌, ◌≤◌, ◌<◌, ◌+◌, ◌/◌, ◌^◌, [], ◌∷◌, length};
 ghost use Rattle.rh_defs.specs.declared.sizes.TheConstants.{MAX_PAGES, PAGE};
 ghost use Rattle.rh_draw.specs.Arrows.{change_of};
 ghost use Rattle.rh_lines.specs.Flow.{Puts};

@@ -1,6 +1,6 @@
 //! What leads from the rows of an area to its cards, and ticks in its anchor words.
 
-ghost use Rattle.std.specs.Prelude.{◌≡◌, ◌≤◌, ◌<◌, ◌+◌, ◌^◌, ◌++◌, length};
+ghost use Rattle.std.specs.Prelude.{◌≤◌, ◌<◌, ◌+◌};
 ghost use Rattle.rh_draw.specs.declared.lenses.TheConstants.{LOWEST};
 ghost use Rattle.rh_lines.specs.Flow.{Puts};
 ghost use Rattle.rh_sheet.specs.Areas.{last_row_place, lens_above, lens_below, tick_text};

@@ -1,7 +1,6 @@
 //! Lines, figures, headings and entries.
 
 ghost use Rattle.std.specs.Prelude.{◌≡◌, ◌≤◌, ◌+◌, ◌++◌, codes, length};
-ghost use Rattle.std.specs.Fmt.{decimal};
 ghost use Rattle.rh_draw.specs.declared.boxes.TheConstants.{LONGEST_CLASS};
 ghost use Rattle.rh_lines.specs.Flow.{Puts};
 ghost use Rattle.rh_lines.specs.declared.row.TheConstants.{ROW};

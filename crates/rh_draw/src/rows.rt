@@ -1,6 +1,6 @@
 //! The rows of an area: a page each.
 
-ghost use Rattle.std.specs.Prelude.{◌≡◌, ◌≤◌, ◌<◌, ◌^◌, length};
+ghost use Rattle.std.specs.Prelude.{◌≤◌, ◌<◌, ◌^◌, length};
 ghost use Rattle.rh_defs.specs.declared.sizes.TheConstants.{MAX_PAGES};
 ghost use Rattle.rh_draw.specs.Pieces.{AreDrawable};
 ghost use Rattle.rh_draw.specs.Rows.{plot_of};

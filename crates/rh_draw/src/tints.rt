@@ -1,6 +1,6 @@
 //! The tints of owners.
 
-ghost use Rattle.std.specs.Prelude.{◌≡◌, ◌≤◌, ◌+◌, ◌++◌, codes, length};
+ghost use Rattle.std.specs.Prelude.{◌≡◌, ◌≤◌, ◌+◌, ◌++◌, length};
 ghost use Rattle.rh_draw.specs.Tints.{tint_class};
 ghost use Rattle.rh_lines.specs.declared.row.TheConstants.{ROW};
 

@@ -1,13 +1,11 @@
 -- Rectangles lie within their figure.
-use Rattle.std.proofs.Common.{ℕ, ◌<◌, ◌≤◌, ◌+◌, ◌-◌, ◌*◌, ◌/◌, ◌%◌, arith, Bool, List}
+use Rattle.std.proofs.Common.{ℕ, ◌<◌, ◌≤◌, ◌+◌, ◌-◌, ◌*◌, ◌/◌, ◌%◌, arith, List}
 use Rattle.std.specs.Prelude.{min}
 use Rattle.rh_figure.specs.Layout.{Piece}
-use Rattle.rh_figure.specs.Cards.{CardKind}
-use Rattle.rh_sheet.specs.Frames.{Frame, shown_rows, top, foot, row_y}
+use Rattle.rh_sheet.specs.Frames.{shown_rows, top}
 use Rattle.rh_sheet.specs.Pieces.{low_in, high_in, piece_box}
 use Rattle.rh_sheet.specs.Rows.{page_box}
 use Rattle.rh_sheet.specs.Laws.{IsInRow, LiesInside}
-use Rattle.rh_sheet.specs.declared.sizes.TheConstants.{ROW_HEIGHT, CELL, LEFT, ROW_WIDTH}
 
 -- whole words of a page end with the page
 words-fit : (low high : ℕ) → low < high → high ≤ 4096 → low / 4 + (high - low) / 4 ≤ 1024

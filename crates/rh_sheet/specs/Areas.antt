@@ -1,5 +1,5 @@
 -- The figures of slots and of the module area.
-use Rattle.std.specs.Prelude.{ℕ, ◌+◌, ◌-◌, ◌*◌, ◌/◌, ◌==◌, nat_le, nat_lt, max, ◌&&◌, Bool, if◌then◌else◌, List, [], ◌∷◌, ◌++◌, length, codes}
+use Rattle.std.specs.Prelude.{ℕ, ◌+◌, ◌-◌, ◌*◌, ◌/◌, ◌==◌, nat_le, nat_lt, max, ◌&&◌, List, [], ◌∷◌, ◌++◌, length, codes}
 use Rattle.std.specs.List.{concat, flat_map}
 use Rattle.rh_defs.specs.declared.listing.BlockItem.{BlockItem}
 use Rattle.rh_defs.specs.declared.sizes.TheConstants.{C_HEAP_PLACE}
@@ -13,7 +13,7 @@ use Rattle.rh_figure.specs.Share.{Owner, AreaOf, SlotOf, count_of}
 use Rattle.rh_figure.specs.Scene.{Scene}
 use Rattle.rh_figure.specs.Phrases.{Text, where_so, size_text, listed_numbers}
 use Rattle.rh_figure.specs.Layout.{slot_pieces, module_pieces}
-use Rattle.rh_figure.specs.Cards.{Card, flex_cards, heap_cards, module_cards}
+use Rattle.rh_figure.specs.Cards.{flex_cards, heap_cards, module_cards}
 use Rattle.rh_figure.specs.Changes.{slides}
 use Rattle.rh_sheet.specs.Markup.{path_text, point_text, stretch_text, svg_text}
 use Rattle.rh_sheet.specs.Owners.{area_class, task_class}

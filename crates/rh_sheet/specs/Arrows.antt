@@ -1,5 +1,5 @@
 -- The arrow of a slide: from where the lowest block that slid began to where it begins now.
-use Rattle.std.specs.Prelude.{ℕ, ◌+◌, ◌-◌, ◌*◌, ◌/◌, ◌%◌, ◌==◌, max, if◌then◌else◌, List, [], ◌∷◌, ◌++◌, codes, Option, Some, None}
+use Rattle.std.specs.Prelude.{ℕ, ◌+◌, ◌-◌, ◌*◌, ◌/◌, ◌%◌, ◌==◌, max, if◌then◌else◌, List, [], ◌∷◌, codes, Option, Some}
 use Rattle.std.specs.List.{concat}
 use Rattle.rh_defs.specs.Pieces.{page}
 use Rattle.rh_defs.specs.Slot.{slot_start}

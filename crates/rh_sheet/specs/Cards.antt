@@ -1,7 +1,6 @@
 -- Bands of cards, above and below the rows, and what leads to them.
 use Rattle.std.specs.Prelude.{ℕ, ◌+◌, ◌-◌, ◌*◌, ◌/◌, ◌%◌, min, Bool, List, [], ◌∷◌, ◌++◌, codes}
 use Rattle.std.specs.List.{concat, flat_map, enumerate_from}
-use Rattle.std.specs.Fmt.{decimal}
 use Rattle.rh_figure.specs.Phrases.{Text, cut, commas}
 use Rattle.rh_figure.specs.Cards.{Card, CardKind, FlexCard, UsedCard, HoleCard, PostCard, MoreCard, shown_cards}
 use Rattle.rh_sheet.specs.Markup.{Box, box_text, fresh_class, words_text, path_text, point_text, stretch_text}

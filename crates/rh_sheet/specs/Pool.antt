@@ -1,8 +1,8 @@
 -- The pool of pages: a square for each page, with its number, its owner's tint and tag.
-use Rattle.std.specs.Prelude.{ℕ, ◌+◌, ◌-◌, ◌*◌, ◌/◌, ◌%◌, ◌==◌, nat_le, not, Bool, true, false, List, [], ◌∷◌, ◌++◌, length, take, codes}
+use Rattle.std.specs.Prelude.{ℕ, ◌+◌, ◌-◌, ◌*◌, ◌/◌, ◌%◌, ◌==◌, nat_le, not, Bool, true, false, List, [], ◌∷◌, ◌++◌, take, codes}
 use Rattle.std.specs.List.{concat, flat_map, range_with_len}
 use Rattle.std.specs.Fmt.{decimal}
-use Rattle.rh_defs.specs.Desk.{Desk, free_pages}
+use Rattle.rh_defs.specs.Desk.{free_pages}
 use Rattle.rh_figure.specs.Share.{Owner, Holding, holdings, count_of}
 use Rattle.rh_figure.specs.Scene.{Scene}
 use Rattle.rh_figure.specs.Phrases.{Text, where_so, listed_numbers, owner_name}

@@ -1,8 +1,8 @@
 -- A step of a sheet: the command, its reply, what has changed, and the figure.
-use Rattle.std.specs.Prelude.{ℕ, ◌+◌, ◌-◌, ◌==◌, nat_lt, ◌||◌, not, Bool, if◌then◌else◌, List, [], ◌∷◌, ◌++◌, length, drop, map, codes, Option, Some, None}
+use Rattle.std.specs.Prelude.{ℕ, ◌+◌, ◌-◌, ◌==◌, nat_lt, ◌||◌, not, Bool, if◌then◌else◌, List, [], ◌∷◌, ◌++◌, length, drop, map, codes}
 use Rattle.std.specs.List.{concat, flat_map, join_by}
 use Rattle.std.specs.Fmt.{decimal}
-use Rattle.rh_defs.specs.Desk.{Desk, Task, module_pages}
+use Rattle.rh_defs.specs.Desk.{Task, module_pages}
 use Rattle.rh_defs.specs.Commands.{module_area}
 use Rattle.rh_defs.specs.Script.{ended}
 use Rattle.rh_figure.specs.Scene.{Scene}

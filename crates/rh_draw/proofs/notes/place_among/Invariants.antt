@@ -1,4 +1,4 @@
-use Rattle.std.proofs.Common.{◌≡◌, ◌≤◌, take, length}
+use Rattle.std.proofs.Common.{◌≡◌, ◌≤◌, take}
 use Rattle.rh_sheet.specs.Chart.{place_among}
 use Rattle.rh_draw.proofs.notes.place_among.Given as goal
 
