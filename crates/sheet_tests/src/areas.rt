@@ -2,7 +2,7 @@
 
 use crate::same::same;
 use rh_draw::{
-    Card, Look, Plot, Slide, Tint, print_grid, print_high_card, print_lens_above, print_pool_side, print_rows,
+    Card, Look, Plot, Slide, Tint, print_grid, print_high_card, print_lens_above, print_pool_side, print_row, print_rows,
     print_slide_arrow, print_squares, print_tags, print_tick,
 };
 use rh_figure::{Kind, Piece};
@@ -36,15 +36,14 @@ fn rows_of_a_slot(rt: HostRuntime) {
 }
 
 #[test]
-fn rows_of_a_long_area(rt: HostRuntime) {
+fn row_between_the_ends_of_a_long_area(rt: HostRuntime) {
     let mut writer = Flagged::new(Vec::<u8>::new(rt.alloc()));
     let frame = Frame { pages: 1024, above: 0, below: 0 };
     let plot = Plot { start: 0x180_0000, pages: &[], pieces: &[], tint: Tint::Module };
-    same(&rt, print_rows(frame, &plot, &mut writer), Ok(()));
-    let written = writer.into_inner();
+    same(&rt, print_row(frame, &plot, 8, &mut writer), Ok(()));
     let wanted = b"<text class=\"gap\" x=\"662\" y=\"260\">1008 pages between</text>\n";
-    let found = written.as_slice().windows(wanted.len()).filter(|part| *part == wanted.as_slice()).count();
-    same(&rt, found, 1);
+    let written = writer.into_inner();
+    same(&rt, written.as_slice(), wanted.as_slice());
 }
 
 #[test]
