@@ -2,7 +2,7 @@
 use Rattle.std.proofs.Common.{ℕ, ◌<◌, ◌≤◌, ◌+◌, ◌-◌, ◌*◌, ◌/◌, ◌%◌, arith, List}
 use Rattle.std.specs.Prelude.{min}
 use Rattle.rh_figure.specs.Layout.{Piece}
-use Rattle.rh_sheet.specs.Frames.{shown_rows, top}
+use Rattle.rh_sheet.specs.Frames.{shown_rows, rows_top}
 use Rattle.rh_sheet.specs.Pieces.{low_in, high_in, piece_box}
 use Rattle.rh_sheet.specs.Rows.{page_box}
 use Rattle.rh_sheet.specs.Laws.{IsInRow, LiesInside}
@@ -41,7 +41,7 @@ pub lies-inside : LiesInside
 lies-inside = record {
   pieces = piece-inside;
   pages = page-inside;
-  rows = λ f i few. row-above (top f) (shown_rows f.pages) i few;
+  rows = λ f i few. row-above (rows_top f) (shown_rows f.pages) i few;
   cards = λ kind fresh i y. card-inside i;
   squares = square-inside;
 }

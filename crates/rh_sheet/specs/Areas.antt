@@ -17,7 +17,7 @@ use Rattle.rh_figure.specs.Cards.{flex_cards, heap_cards, module_cards}
 use Rattle.rh_figure.specs.Changes.{slides}
 use Rattle.rh_sheet.specs.Markup.{path_text, point_text, stretch_text, svg_text}
 use Rattle.rh_sheet.specs.Owners.{area_class, task_class}
-use Rattle.rh_sheet.specs.Frames.{Frame, top, foot, height, row_y}
+use Rattle.rh_sheet.specs.Frames.{Frame, rows_top, rows_foot, frame_height, row_y}
 use Rattle.rh_sheet.specs.Rows.{Plot, rows_text}
 use Rattle.rh_sheet.specs.Cards.{cards_above, cards_below, lens_text, cards_sentences}
 use Rattle.rh_sheet.specs.Arrows.{slide_arrow}
@@ -37,7 +37,7 @@ pages_sentence pages = concat (codes "Page " ∷ listed_numbers pages ∷ codes 
 abbrev pub lens_below : Frame → ℕ → ℕ → ℕ → Text
 lens_below f low high n =
     where_so (nat_lt 0 n && nat_le high page) (lens_text
-    (low / UNIT_BYTES) (high / UNIT_BYTES) (foot f - ROW_GAP) n (foot f + LENS_HEIGHT + 1))
+    (low / UNIT_BYTES) (high / UNIT_BYTES) (rows_foot f - ROW_GAP) n (rows_foot f + LENS_HEIGHT + 1))
 
 -- the first byte of the last row of a frame
 abbrev pub last_row_place : Frame → ℕ
@@ -47,8 +47,8 @@ last_row_place f = page * (f.pages - 1)
 abbrev pub lens_above : Frame → ℕ → ℕ → ℕ → Text
 lens_above f low high n =
     where_so (nat_lt 0 n && nat_le (last_row_place f) low) (lens_text
-    ((low - last_row_place f) / UNIT_BYTES) ((high - last_row_place f) / UNIT_BYTES) (top f + ROW_GAP) n
-    (top f - (LENS_HEIGHT + ROW_GAP)))
+    ((low - last_row_place f) / UNIT_BYTES) ((high - last_row_place f) / UNIT_BYTES) (rows_top f + ROW_GAP) n
+    (rows_top f - (LENS_HEIGHT + ROW_GAP)))
 
 -- ---- slots
 
@@ -88,9 +88,9 @@ slot_arrow x t = where_so (t.handle == x.before.handle) (slide_arrow (slot_frame
 
 abbrev pub slot_body : Scene → Task → Text
 slot_body x t = concat (
-    slot_lenses (slot_frame x t) t.slot ∷ cards_above (top (slot_frame x t) - LENS_HEIGHT) (flex_cards x t)
+    slot_lenses (slot_frame x t) t.slot ∷ cards_above (rows_top (slot_frame x t) - LENS_HEIGHT) (flex_cards x t)
     ∷ rows_text (slot_frame x t) (slot_plot x t) ∷ ticks_text (row_y (slot_frame x t) 0) (block_items t.slot)
-    ∷ slot_arrow x t ∷ cards_below (foot (slot_frame x t) + LENS_HEIGHT) (heap_cards x t) ∷ []
+    ∷ slot_arrow x t ∷ cards_below (rows_foot (slot_frame x t) + LENS_HEIGHT) (heap_cards x t) ∷ []
     )
 
 -- a slot as it is read out
@@ -102,7 +102,7 @@ slot_description x t = concat (
 
 abbrev pub slot_figure : Scene → Task → Text
 slot_figure x t = svg_text
-    FIGURE_WIDTH (height (slot_frame x t)) (codes "The slot of " ++ t.name) (slot_description x t) (slot_body x t)
+    FIGURE_WIDTH (frame_height (slot_frame x t)) (codes "The slot of " ++ t.name) (slot_description x t) (slot_body x t)
 
 -- ---- the module area
 
@@ -122,7 +122,7 @@ abbrev pub module_body : Scene → Text
 module_body x = concat (
     lens_below (module_frame x) first_place (base x.desk.post.heap) (length (module_cards x))
     ∷ rows_text (module_frame x) (module_plot x)
-    ∷ cards_below (foot (module_frame x) + LENS_HEIGHT) (module_cards x) ∷ []
+    ∷ cards_below (rows_foot (module_frame x) + LENS_HEIGHT) (module_cards x) ∷ []
     )
 
 abbrev pub module_description : Scene → Text
@@ -131,4 +131,4 @@ module_description x =
 
 abbrev pub module_figure : Scene → Text
 module_figure x =
-    svg_text FIGURE_WIDTH (height (module_frame x)) (codes "The module area") (module_description x) (module_body x)
+    svg_text FIGURE_WIDTH (frame_height (module_frame x)) (codes "The module area") (module_description x) (module_body x)

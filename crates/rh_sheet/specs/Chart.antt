@@ -108,12 +108,12 @@ ordered (n ∷ ns) = inserted n (ordered ns)
 
 -- the steps at which arrows begin or end
 abbrev pub steps_in : List Arrow → List ℕ
-steps_in as =
-    ordered (filter (λ s. not (s == 0)) (flat_map (λ (a : Arrow). a.start ∷ a.stop ∷ []) as))
+steps_in drawn =
+    ordered (filter (λ s. not (s == 0)) (flat_map (λ (a : Arrow). a.start ∷ a.stop ∷ []) drawn))
 
 -- the tasks between which arrows go
 abbrev pub tasks_in : List Arrow → List ℕ
-tasks_in as = ordered (flat_map (λ (a : Arrow). a.from ∷ a.to ∷ []) as)
+tasks_in drawn = ordered (flat_map (λ (a : Arrow). a.from ∷ a.to ∷ []) drawn)
 
 -- how many numbers of a list are smaller
 abbrev pub place_among : ℕ → List ℕ → ℕ
@@ -230,18 +230,18 @@ arrow_sentence d a = concat (
 
 -- lines, steps, arrows, and their words upon all of it
 abbrev pub chart_body : Desk → List Arrow → List ℕ → List ℕ → ℕ → Text
-chart_body d as tasks steps step = concat (
+chart_body d drawn tasks steps step = concat (
     flat_map (life_of d tasks steps) tasks ∷ flat_map (λ s. beat_text (step_y steps s) s) steps
-    ∷ flat_map (arrow_path tasks steps step) as ∷ flat_map (arrow_words tasks steps step) as ∷ []
+    ∷ flat_map (arrow_path tasks steps step) drawn ∷ flat_map (arrow_words tasks steps step) drawn ∷ []
     )
 
 -- the chart of some arrows, as it stands at a step
 abbrev pub chart_of : Desk → List Arrow → ℕ → Text
 chart_of d [] step = []
-chart_of d (a ∷ as) step = svg_text
-    CHART_WIDTH (chart_foot (steps_in (a ∷ as)) + CHART_EDGE) (codes "Messages between the tasks")
-    (flat_map (arrow_sentence d) (a ∷ as))
-    (chart_body d (a ∷ as) (tasks_in (a ∷ as)) (steps_in (a ∷ as)) step)
+chart_of d (a ∷ drawn) step = svg_text
+    CHART_WIDTH (chart_foot (steps_in (a ∷ drawn)) + CHART_EDGE) (codes "Messages between the tasks")
+    (flat_map (arrow_sentence d) (a ∷ drawn))
+    (chart_body d (a ∷ drawn) (tasks_in (a ∷ drawn)) (steps_in (a ∷ drawn)) step)
 
 abbrev pub chart_figure : Desk → List Note → ℕ → Text
 chart_figure d notes step = chart_of d (arrows notes) step

@@ -32,17 +32,17 @@ band_height n =
     if n == 0 then 0 else CARD_RISE * ((min n MOST_CARDS + (CARDS_ACROSS - 1)) / CARDS_ACROSS) + LENS_HEIGHT
 
 -- where the rows begin
-abbrev pub top : Frame → ℕ
-top f = band_height f.above
+abbrev pub rows_top : Frame → ℕ
+rows_top f = band_height f.above
 
 -- where the rows end
-abbrev pub foot : Frame → ℕ
-foot f = top f + ROW_PITCH * shown_rows f.pages
+abbrev pub rows_foot : Frame → ℕ
+rows_foot f = rows_top f + ROW_PITCH * shown_rows f.pages
 
 -- the height of the figure
-abbrev pub height : Frame → ℕ
-height f = foot f + band_height f.below + FRAME_EDGE
+abbrev pub frame_height : Frame → ℕ
+frame_height f = rows_foot f + band_height f.below + FRAME_EDGE
 
 -- the upper edge of row i from below
 abbrev pub row_y : Frame → ℕ → ℕ
-row_y f i = top f + ROW_PITCH * (shown_rows f.pages - 1 - i) + ROW_GAP
+row_y f i = rows_top f + ROW_PITCH * (shown_rows f.pages - 1 - i) + ROW_GAP

@@ -6,7 +6,7 @@ use Rattle.rh_figure.specs.Phrases.{Text}
 use Rattle.rh_figure.specs.Layout.{Piece}
 use Rattle.rh_figure.specs.Cards.{CardKind}
 use Rattle.rh_sheet.specs.Markup.{Box, escape}
-use Rattle.rh_sheet.specs.Frames.{Frame, shown_rows, foot, row_y}
+use Rattle.rh_sheet.specs.Frames.{Frame, shown_rows, rows_foot, row_y}
 use Rattle.rh_sheet.specs.Pieces.{low_in, high_in, piece_box}
 use Rattle.rh_sheet.specs.Rows.{page_box}
 use Rattle.rh_sheet.specs.Cards.{card_box, card_x}
@@ -21,7 +21,7 @@ sign_names = codes "amp;" ∷ codes "lt;" ∷ codes "gt;" ∷ codes "quot;" ∷ 
 
 -- whether a text begins with the name of a sign
 abbrev pub begins_sign : Text → Bool
-begins_sign t = list_any (λ name. bytes_eq (take (length name) t) name) sign_names
+begins_sign t = list_any (λ (name : Text). bytes_eq (take (length name) t) name) sign_names
 
 -- a byte before a text that ends no text: no `<`, `>` or `"`, and `&` before the name of a sign alone
 pub record IsInert (b : ℕ) (t : Text) : Type 0 where
@@ -52,7 +52,7 @@ pub record LiesInside : Type 0 where
   pub pieces :
       (start : ℕ) (tint : Text) (y k : ℕ) (p : Piece) → low_in k p < high_in k p → IsInRow (piece_box start tint y k p)
   pub pages : (class : Text) (y : ℕ) → IsInRow (page_box class y)
-  pub rows : (f : Frame) (i : ℕ) → i < shown_rows f.pages → row_y f i + ROW_HEIGHT ≤ foot f
+  pub rows : (f : Frame) (i : ℕ) → i < shown_rows f.pages → row_y f i + ROW_HEIGHT ≤ rows_foot f
   pub cards : (kind : CardKind) (fresh : Bool) (i y : ℕ) →
       (card_box kind fresh (card_x i) y).x + (card_box kind fresh (card_x i) y).width ≤ FIGURE_WIDTH
   pub squares : (k : ℕ) → cell_x k + CELL ≤ LEFT + ROW_WIDTH
