@@ -15,7 +15,7 @@ rows_under heading (r ∷ rows) =
 
 -- a row of a table
 abbrev pub row_of_cells : List Text → Text
-row_of_cells cells = concat (codes "<tr>" ∷ concat cells ∷ codes "</tr>\n" ∷ [])
+row_of_cells cells = concat (codes "<tr>" ∷ (cells ++ codes "</tr>\n" ∷ []))
 
 -- ---- messages
 
