@@ -3,8 +3,9 @@
 ghost use Rattle.std.specs.Prelude.{◌≡◌, ◌≤◌, ◌<◌, ◌^◌, length};
 ghost use Rattle.rh_draw.specs.declared.chart.TheConstants.{FARTHEST};
 ghost use Rattle.rh_lines.specs.Flow.{Puts};
-ghost use Rattle.rh_sheet.specs.Chart.{beat_text, life_class as class_of_life, life_text, line_way as way_of_line, loop_way as way_of_loop, message_class as class_of_message, message_way as way_of_message, message_words, stub_way as way_of_stub, words_class as class_of_words};
+ghost use Rattle.rh_sheet.specs.Chart.{beat_text, life_class as class_of_life, life_text, line_way as way_of_line, loop_way as way_of_loop, message_class as class_of_message, message_way as way_of_message, message_words, side_letters as letters_of_side, stub_way as way_of_stub, tip_x as x_of_tip, words_aside as aside_of_words, words_class as class_of_words, words_down as down_of_words, words_x as x_of_words};
 ghost use Rattle.rh_sheet.specs.Markup.{path_text};
+ghost use Rattle.rh_sheet.specs.declared.sizes.TheConstants.{STUB_ASIDE, WORDS_DOWN};
 
 use crate::boxes::print_words;
 use crate::markup::{add_point, add_stretch, print_path};
@@ -67,6 +68,14 @@ pub fn print_beat<W: Sink>(y: u32, step: u32, writer: &mut W) -> Result<(), Writ
     print_words(b"beat", 0, y + ARROW_RISE, text.as_slice(), writer)
 }
 
+/// The letters of a way to the left or to the right.
+fn side_letters(west: bool) -> &'static [u8]
+    ensures value { result.now ≡ letters_of_side west }
+    ensures few { length result.now ≤ 2 }
+{
+    if west { b"h-" } else { b"h" }
+}
+
 /// A short arrow of a message that waits.
 fn stub_way(x: u32, y: u32, west: bool) -> Row
     requires { y ≤ FARTHEST }
@@ -75,7 +84,7 @@ fn stub_way(x: u32, y: u32, west: bool) -> Row
 {
     let mut way = Row::new();
     add_point(&mut way, b"M", x, y + ARROW_RISE);
-    add_stretch(&mut way, if west { b"h-" } else { b"h" }, ARROW_STUB);
+    add_stretch(&mut way, side_letters(west), ARROW_STUB);
     way
 }
 
@@ -94,6 +103,18 @@ fn loop_way(x: u32, y0: u32, y1: u32) -> Row
     way
 }
 
+/// Where a straight arrow ends, from the left.
+fn tip_x(x0: u32, x1: u32) -> u32
+    requires { x1 ≤ FARTHEST }
+    ensures { result ≡ x_of_tip x0 x1 }
+{
+    if x1 < x0 {
+        x1 + TIP_GAP
+    } else {
+        x1.saturating_sub(TIP_GAP)
+    }
+}
+
 /// A straight arrow.
 fn line_way(ends: Ends) -> Row
     requires x { ends.x1 ≤ FARTHEST }
@@ -101,14 +122,9 @@ fn line_way(ends: Ends) -> Row
     ensures value { result ≡ way_of_line ends.x0 ends.y0 ends.x1 ends.y1 }
     ensures few { length result ≤ 60 }
 {
-    let tip = if ends.x1 < ends.x0 {
-        ends.x1 + TIP_GAP
-    } else {
-        ends.x1.saturating_sub(TIP_GAP)
-    };
     let mut way = Row::new();
     add_point(&mut way, b"M", ends.x0, ends.y0 + ARROW_RISE);
-    add_point(&mut way, b"L", tip, ends.y1);
+    add_point(&mut way, b"L", tip_x(ends.x0, ends.x1), ends.y1);
     way
 }
 
@@ -173,6 +189,34 @@ fn words_class(west: bool, now: bool) -> &'static [u8]
     }
 }
 
+/// How far from an arrow's beginning its words stand, to the side.
+fn words_aside(waits: bool) -> u32
+    ensures value { result ≡ aside_of_words waits }
+    ensures few { result ≤ STUB_ASIDE }
+{
+    if waits { STUB_ASIDE } else { WORDS_ASIDE }
+}
+
+/// The same downwards.
+fn words_down(waits: bool) -> u32
+    ensures value { result ≡ down_of_words waits }
+    ensures few { result ≤ WORDS_DOWN }
+{
+    if waits { STUB_DOWN } else { WORDS_DOWN }
+}
+
+/// Where an arrow's words stand, from the left.
+fn words_x(waits: bool, ends: Ends) -> u32
+    requires { ends.x0 ≤ FARTHEST }
+    ensures { result ≡ x_of_words waits ends.x0 ends.x1 }
+{
+    if ends.x1 < ends.x0 {
+        ends.x0.saturating_sub(words_aside(waits))
+    } else {
+        ends.x0 + words_aside(waits)
+    }
+}
+
 /// Writes the words of an arrow. Fails only where the writer failed or took none of what it was offered; a front of the
 /// element is then written.
 pub fn print_message_words<W: Sink>(
@@ -187,8 +231,6 @@ pub fn print_message_words<W: Sink>(
     ensures { Puts (W.output writer.old) (W.output writer.new) result
         (message_words waits now ends.x0 ends.y0 ends.x1 text.now) }
 {
-    let west = ends.x1 < ends.x0;
-    let (aside, down) = if waits { (STUB_ASIDE, STUB_DOWN) } else { (WORDS_ASIDE, WORDS_DOWN) };
-    let x = if west { ends.x0.saturating_sub(aside) } else { ends.x0 + aside };
-    print_words(words_class(west, now), x, ends.y0 + down, text, writer)
+    let class = words_class(ends.x1 < ends.x0, now);
+    print_words(class, words_x(waits, ends), ends.y0 + words_down(waits), text, writer)
 }

@@ -3,7 +3,7 @@
 ghost use Rattle.std.specs.Prelude.{◌≡◌, ◌≤◌, length, map};
 ghost use Rattle.rh_lines.specs.Flow.{Puts};
 ghost use Rattle.rh_sheet.specs.Markup.{escape};
-ghost use Rattle.rh_sheet.specs.Steps.{remark_byte as remark_byte_of, remark_class as remark_class_of, remark_text, remark_words as remark_words_of, stripped as stripped_of, without_indent};
+ghost use Rattle.rh_sheet.specs.Steps.{remark_byte as remark_byte_of, remark_class as remark_class_of, remark_text, remark_words as remark_words_of, sign_length as length_of_sign, stripped as stripped_of, without_indent};
 
 use crate::escape::put_escaped;
 use rh_lines::{Sink, WriteFailed, put};
@@ -49,8 +49,15 @@ fn remark_words(line: &[u8]) -> &[u8]
     ensures { map remark_byte_of result.now ≡ remark_words_of line.now }
 {
     let behind = unindented(line);
-    let count = if is_mark(line) { 8 } else { 1 };
-    stripped(&behind[count.min(behind.len())..])
+    let count = sign_length(line).min(behind.len());
+    stripped(&behind[count..])
+}
+
+/// So many bytes of a remark are its sign.
+fn sign_length(line: &[u8]) -> usize
+    ensures { result ≡ length_of_sign line.now }
+{
+    if is_mark(line) { 8 } else { 1 }
 }
 
 /// The text without bytes at its beginning that are shown as spaces.

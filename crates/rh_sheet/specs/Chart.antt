@@ -150,11 +150,13 @@ life_text alive name gap x foot =
 abbrev pub beat_text : ℕ → ℕ → Text
 beat_text y s = words_text (codes "beat") 0 (y + ARROW_RISE) (decimal s)
 
+-- to the left or to the right
+abbrev pub side_letters : Bool → Text
+side_letters west = if west then codes "h-" else codes "h"
+
 -- a short arrow of a message that waits
 abbrev pub stub_way : ℕ → ℕ → Bool → Text
-stub_way x y west =
-    point_text (codes "M") x (y + ARROW_RISE)
-    ++ (if west then stretch_text (codes "h-") ARROW_STUB else stretch_text (codes "h") ARROW_STUB)
+stub_way x y west = point_text (codes "M") x (y + ARROW_RISE) ++ stretch_text (side_letters west) ARROW_STUB
 
 -- a bow of a message from a task to itself
 abbrev pub loop_way : ℕ → ℕ → ℕ → Text
@@ -163,11 +165,13 @@ loop_way x y0 y1 = concat (
     ∷ point_text (codes " ") (x + LOOP_BOW) y1 ∷ point_text (codes " ") (x + TIP_GAP) y1 ∷ []
     )
 
+-- where a straight arrow ends, from the left
+abbrev pub tip_x : ℕ → ℕ → ℕ
+tip_x x0 x1 = if nat_lt x1 x0 then x1 + TIP_GAP else x1 - TIP_GAP
+
 -- a straight arrow
 abbrev pub line_way : ℕ → ℕ → ℕ → ℕ → Text
-line_way x0 y0 x1 y1 =
-    point_text (codes "M") x0 (y0 + ARROW_RISE)
-    ++ point_text (codes "L") (if nat_lt x1 x0 then x1 + TIP_GAP else x1 - TIP_GAP) y1
+line_way x0 y0 x1 y1 = point_text (codes "M") x0 (y0 + ARROW_RISE) ++ point_text (codes "L") (tip_x x0 x1) y1
 
 -- the way of an arrow between two lines; one that waits has no end
 abbrev pub message_way : Bool → ℕ → ℕ → ℕ → ℕ → Text
@@ -189,11 +193,14 @@ words_aside waits = if waits then STUB_ASIDE else WORDS_ASIDE
 abbrev pub words_down : Bool → ℕ
 words_down waits = if waits then STUB_DOWN else WORDS_DOWN
 
+-- where they stand, from the left
+abbrev pub words_x : Bool → ℕ → ℕ → ℕ
+words_x waits x0 x1 = if nat_lt x1 x0 then x0 - words_aside waits else x0 + words_aside waits
+
 -- the words of an arrow
 abbrev pub message_words : Bool → Bool → ℕ → ℕ → ℕ → Text → Text
-message_words waits now x0 y0 x1 t = words_text
-    (words_class (nat_lt x1 x0) now) (if nat_lt x1 x0 then x0 - words_aside waits else x0 + words_aside waits)
-    (y0 + words_down waits) t
+message_words waits now x0 y0 x1 t =
+    words_text (words_class (nat_lt x1 x0) now) (words_x waits x0 x1) (y0 + words_down waits) t
 
 -- ---- the chart
 
