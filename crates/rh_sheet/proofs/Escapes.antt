@@ -71,7 +71,7 @@ tested false false false false b t no_sign no_less no_more no_quote rest =
 
 -- a test that says no
 apart : (a b : ℕ) → (a == b) ≡ false → a ≢ b
-apart a b no = λ e. true≢false (sym (eq-eqb a b e) ∙ no)
+apart a b fails = λ e. true≢false (sym (eq-eqb a b e) ∙ fails)
 
 pub escapes-all : EscapesAll
 escapes-all [] = tt

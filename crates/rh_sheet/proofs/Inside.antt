@@ -1,7 +1,7 @@
 -- Rectangles lie within their figure.
 use Rattle.std.proofs.Common.{ℕ, ◌<◌, ◌≤◌, ◌+◌, ◌-◌, ◌*◌, ◌/◌, ◌%◌, arith, List}
 use Rattle.std.specs.Prelude.{min}
-use Rattle.rh_figure.specs.Layout.{Piece}
+use Rattle.rh_figure.specs.declared.piece.Piece.{Piece}
 use Rattle.rh_sheet.specs.Frames.{shown_rows, rows_top}
 use Rattle.rh_sheet.specs.Pieces.{low_in, high_in, piece_box}
 use Rattle.rh_sheet.specs.Rows.{page_box}

@@ -3,7 +3,7 @@ use Rattle.std.specs.Prelude.{◌≡◌, ◌≢◌, ℕ, ◌+◌, ◌<◌, ◌�
 use Rattle.std.specs.List.{list_any}
 use Rattle.std.specs.Str.{bytes_eq}
 use Rattle.rh_figure.specs.Phrases.{Text}
-use Rattle.rh_figure.specs.Layout.{Piece}
+use Rattle.rh_figure.specs.declared.piece.Piece.{Piece}
 use Rattle.rh_figure.specs.Cards.{CardKind}
 use Rattle.rh_sheet.specs.Markup.{Box, escape}
 use Rattle.rh_sheet.specs.Frames.{Frame, shown_rows, rows_foot, row_y}

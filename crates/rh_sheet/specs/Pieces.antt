@@ -5,7 +5,9 @@ use Rattle.std.specs.Fmt.{decimal}
 use Rattle.rh_defs.specs.Pieces.{page}
 use Rattle.rh_defs.specs.Text.{address}
 use Rattle.rh_figure.specs.Phrases.{Text, where_so, size_text}
-use Rattle.rh_figure.specs.Layout.{Kind, AnchorWords, Descriptor, Claimed, Posted, FreeHole, MoreSegments, FreeTop, FlexBlock, Unused, Piece}
+use Rattle.rh_figure.specs.declared.piece.Kind.{Kind}
+use Rattle.rh_figure.specs.declared.piece.Kind.TheVariants.{AnchorWords, Descriptor, Claimed, Posted, FreeHole, MoreSegments, FreeTop, FlexBlock, Unused}
+use Rattle.rh_figure.specs.declared.piece.Piece.{Piece}
 use Rattle.rh_sheet.specs.Markup.{Box, box_text, fresh_class, words_text}
 use Rattle.rh_sheet.specs.declared.sizes.TheConstants.{UNIT_BYTES, LEFT, ROW_HEIGHT, BASELINE, LABEL_UNITS, LABEL_EDGE, SHORT_EDGE}
 

@@ -5,7 +5,7 @@ use Rattle.std.specs.Fmt.{decimal}
 use Rattle.rh_defs.specs.Pieces.{page}
 use Rattle.rh_defs.specs.Text.{address}
 use Rattle.rh_figure.specs.Phrases.{Text, pages_text}
-use Rattle.rh_figure.specs.Layout.{Piece}
+use Rattle.rh_figure.specs.declared.piece.Piece.{Piece}
 use Rattle.rh_figure.specs.declared.limits.TheConstants.{EDGE_ROWS}
 use Rattle.rh_sheet.specs.Markup.{Box, box_text, words_text}
 use Rattle.rh_sheet.specs.Frames.{Frame, shown_rows, page_in, row_y}
