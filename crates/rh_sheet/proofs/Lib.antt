@@ -1,3 +1,4 @@
 mod Escapes
 mod Inside
+mod Slides
 mod Worked

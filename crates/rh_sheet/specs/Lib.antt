@@ -13,3 +13,4 @@ pub mod Steps
 pub mod Fixed
 pub mod Sheet
 pub mod Laws
+pub mod Slides

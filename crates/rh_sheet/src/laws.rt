@@ -1,6 +1,7 @@
 //! Laws of sheets over the definitions alone, each the contract of a function with nothing to do.
 
 ghost use Rattle.rh_sheet.specs.Laws.{EscapesAll, LiesInside};
+ghost use Rattle.rh_sheet.specs.Slides.{SlideInSlots};
 
 /// Whatever stands in a text or a tip: no `<`, `>` or `"` is in it, and `&` only before the name of a sign. So nothing
 /// that a script or a file says begins or ends an element.
@@ -11,4 +12,9 @@ pub fn escape_law()
 /// Each piece of an area lies within the row of its page, and rows, cards and squares within their figure.
 pub fn inside_law()
     ensures { LiesInside }
+{}
+
+/// At each call on a slot all flex blocks that slide do so the same way and equally far: one arrow says it of all.
+pub fn slide_law()
+    ensures { SlideInSlots }
 {}
