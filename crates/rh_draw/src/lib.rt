@@ -22,7 +22,7 @@ mod tables;
 mod tints;
 
 pub use arrows::{Slide, print_slide_arrow};
-pub use boxes::{Extent, print_box, print_words};
+pub use boxes::{Extent, LONGEST_CLASS, print_box, print_words};
 pub use cards::{Card, Look, print_high_card, print_low_card};
 pub use chart::{Ends, print_beat, print_life, print_message_arrow, print_message_words};
 pub use escape::{add_escaped, put_between, put_escaped};

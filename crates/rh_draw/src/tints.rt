@@ -4,14 +4,13 @@ ghost use Rattle.std.specs.Prelude.{◌≡◌, ◌≤◌, ◌+◌, ◌++◌, len
 ghost use Rattle.rh_draw.specs.Tints.{tint_class};
 ghost use Rattle.rh_lines.specs.declared.row.TheConstants.{ROW};
 
-use rh_defs::Handle;
 use rh_lines::Row;
 use rh_sheet::sizes::TINTS;
 
-/// Whose tint a thing has: that of a task's slot, of the module area, or of another area.
+/// Whose tint a thing has: that of a slot, by its task's handle, of the module area, or of another area.
 #[derive(Clone, Copy)]
 pub enum Tint {
-    Slot(Handle),
+    Slot(u32),
     Module,
     Other,
 }
@@ -25,7 +24,7 @@ pub(crate) fn add_tint(row: &mut Row, tint: Tint)
     match tint {
         Tint::Slot(handle) => {
             row.byte(b't');
-            row.decimal(handle.0.saturating_sub(1) % TINTS);
+            row.decimal(handle.saturating_sub(1) % TINTS);
         }
         Tint::Module => row.byte(b'm'),
         Tint::Other => row.byte(b'o'),

@@ -6,7 +6,6 @@ use rh_draw::{
     print_slide_arrow, print_squares, print_tags, print_tick,
 };
 use rh_figure::{Kind, Piece};
-use rh_defs::Handle;
 use rh_lines::Flagged;
 use rh_sheet::Frame;
 
@@ -25,7 +24,7 @@ fn rows_of_a_slot(rt: HostRuntime) {
             piece(Kind::FreeTop, 272, 3824, false),
             piece(Kind::FlexBlock { anchor: 0, size: 5 }, 4096, 16, true),
         ],
-        tint: Tint::Slot(Handle(1)),
+        tint: Tint::Slot(1),
     };
     same(&rt, print_rows(frame, &plot, &mut writer), Ok(()));
     same(&rt, print_tick(115, 0, &mut writer), Ok(()));
