@@ -108,22 +108,14 @@ shown_step x line h = opening x ++ step_text
     (h.still && not x.place.wanted) (x.place.steps + 1) line h.reply h.scene
     (noted (x.place.steps + 1) h.scene x.notes) x.last
 
--- where the sheet stands behind it
-abbrev pub behind_shown : Walk → Read → Happened → Walk
-behind_shown x r h = record {
+-- where the sheet stands behind a line that isn't skipped, if it gets a step or not
+abbrev pub behind_step : Bool → Walk → Read → Happened → Walk
+behind_step shown x r h = record {
   place = after_read x.place r;
-  shown = x.shown + 1;
-  last = if h.still && not x.place.wanted then x.last else x.shown + 1;
-  left = x.left;
-  opened = false;
-  notes = noted (x.place.steps + 1) h.scene x.notes;
-}
-
--- the same where the line gets no step
-abbrev pub behind_hidden : Walk → Read → Happened → Walk
-behind_hidden x r h = record x {
-  place = after_read x.place r;
-  left = x.left + 1;
+  shown = if shown then x.shown + 1 else x.shown;
+  last = if shown && not (h.still && not x.place.wanted) then x.shown + 1 else x.last;
+  left = if shown then x.left else x.left + 1;
+  opened = x.opened && not shown;
   notes = noted (x.place.steps + 1) h.scene x.notes;
 }
 
@@ -133,8 +125,7 @@ happened_text marked x line h = where_so (is_shown marked x x.place.wanted) (sho
 
 -- where the sheet stands behind it
 abbrev pub behind_happened : Bool → Walk → Read → Happened → Walk
-behind_happened marked x r h =
-    if is_shown marked x x.place.wanted then behind_shown x r h else behind_hidden x r h
+behind_happened marked x r h = behind_step (is_shown marked x x.place.wanted) x r h
 
 -- whether a line that is skipped is shown: it has words, and the next command would get a step
 abbrev pub is_shown_remark : Bool → Walk → Text → Bool
