@@ -14,3 +14,4 @@ pub mod Fixed
 pub mod Sheet
 pub mod Laws
 pub mod Slides
+pub mod Whole
