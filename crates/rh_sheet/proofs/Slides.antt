@@ -7,7 +7,7 @@ use Rattle.rh_defs.specs.declared.listing.BlockItem.{BlockItem}
 use Rattle.rh_defs.specs.declared.refusal.Refusal.TheVariants.{NoBlock}
 use Rattle.rh_defs.specs.Chain.{Granted, found_or}
 use Rattle.rh_defs.specs.Pieces.{Split, with_here}
-use Rattle.rh_defs.specs.Heap.{Heap}
+use Rattle.rh_defs.specs.Heap.{Heap, claim_growing, new_size, released, resize_growing}
 use Rattle.rh_defs.specs.Slot.{Slot, Flex, IsSlot, IsFree, HaveAnchors, flex_weight, weight, heap_start, flex_start, block_of, with_block, with_bytes, without, with_heap, slot_block, slot_alloc, slot_free, slot_extend, slot_mid, slot_put, slot_claim, slot_release, slot_resize}
 use Rattle.rh_defs.specs.Listing.{block_items_from}
 use Rattle.rh_defs.proofs.Chains.{OnGrant, granted, refused, granted-then, granted-unless}
@@ -204,17 +204,18 @@ module _ (s : Slot) where
   claim-slides : (free n : ℕ) → OnGranted (λ (p : Slot × ℕ). Slides s p.0) (slot_claim free n s)
   unfolding slot_claim
   claim-slides free n = on-granted (
-      granted-unless _ _ _ λ u. granted-unless _ _ _ λ v. granted-unless _ _ _ λ w. granted (heap-slides _))
+      granted-unless _ _ _ λ u. granted-unless _ _ _ λ v. granted-unless _ _ _ λ w.
+      granted (heap-slides (claim_growing n s.heap).heap))
 
   release-slides : (address : ℕ) → OnGranted (Slides s) (slot_release address s)
   unfolding slot_release
-  release-slides address = on-granted (granted-then _ _ λ b e. granted (heap-slides _))
+  release-slides address = on-granted (granted-then _ _ λ b e. granted (heap-slides (released b s.heap)))
 
   resize-slides : (free address : ℕ) (delta : ℤ) → OnGranted (λ (p : Slot × ℕ). Slides s p.0) (slot_resize free address delta s)
   unfolding slot_resize
   resize-slides free address delta = on-granted (
       granted-then _ _ λ b e. granted-unless _ _ _ λ u. granted-unless _ _ _ λ v. granted-unless _ _ _ λ w.
-      granted (heap-slides _))
+      granted (heap-slides (resize_growing (new_size delta b) b s.heap).heap))
 
 pub slide-in-slots : SlideInSlots
 slide-in-slots s is = record {
