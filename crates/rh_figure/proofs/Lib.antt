@@ -1,6 +1,6 @@
 mod Settled
 mod Tiles
 mod Columns
-mod Alike
+pub mod Alike
 mod Still
 mod WorkedMaps

@@ -2,7 +2,10 @@
 use Rattle.std.specs.Prelude.{◌≡◌, ◌≢◌, ℕ, ◌+◌, ◌<◌, ◌≤◌, Bool, true, List, [], ◌∷◌, length, take, codes}
 use Rattle.std.specs.List.{list_any}
 use Rattle.std.specs.Str.{bytes_eq}
+use Rattle.rh_defs.specs.Desk.{Desk}
+use Rattle.rh_defs.specs.Order.{IsReordered}
 use Rattle.rh_figure.specs.Phrases.{Text}
+use Rattle.rh_figure.specs.Map.{Stage}
 use Rattle.rh_figure.specs.declared.piece.Piece.{Piece}
 use Rattle.rh_figure.specs.Cards.{CardKind}
 use Rattle.rh_sheet.specs.Markup.{Box, escape}
@@ -11,6 +14,7 @@ use Rattle.rh_sheet.specs.Pieces.{low_in, high_in, piece_box}
 use Rattle.rh_sheet.specs.Rows.{page_box}
 use Rattle.rh_sheet.specs.Cards.{card_box, card_x}
 use Rattle.rh_sheet.specs.Pool.{cell_x}
+use Rattle.rh_sheet.specs.Sheet.{Walk, sheet_lines}
 use Rattle.rh_sheet.specs.declared.sizes.TheConstants.{LEFT, ROW_WIDTH, ROW_HEIGHT, FIGURE_WIDTH, CELL}
 
 -- ---- text
@@ -56,3 +60,14 @@ pub record LiesInside : Type 0 where
   pub cards : (kind : CardKind) (fresh : Bool) (i y : ℕ) →
       (card_box kind fresh (card_x i) y).x + (card_box kind fresh (card_x i) y).width ≤ FIGURE_WIDTH
   pub squares : (k : ℕ) → cell_x k + CELL ≤ LEFT + ROW_WIDTH
+
+-- ---- order
+
+-- where a sheet would stand over another desk
+abbrev pub at_desk : Desk → Walk → Walk
+at_desk d x = record x { place = record x.place { desk = d } }
+
+-- no sheet shows the order of messages to different tasks
+abbrev pub DrawsNoOrder : Type 0
+DrawsNoOrder = (marked : Bool) (a b : Desk) (x : Walk) (stages : List Stage) → IsReordered a b →
+    sheet_lines marked (at_desk b x) stages ≡ sheet_lines marked (at_desk a x) stages
