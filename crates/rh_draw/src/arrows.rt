@@ -13,7 +13,8 @@ use rh_defs::sizes::{PAGE, SLOT_START};
 use rh_lines::{Row, Sink, WriteFailed};
 use rh_sheet::Frame;
 use rh_sheet::sizes::{
-    ARC_RISE, ARROW_INDENT, BOW, GHOST_EDGE, GHOST_WIDTH, HEADER_BYTES, LEFT, ROW_HEIGHT, UNIT_BYTES,
+    ARC_RISE, ARROW_INDENT, BOW, GHOST_EDGE, GHOST_WIDTH, HEADER_BYTES, LEFT, ROW_HEIGHT,
+    UNIT_BYTES,
 };
 
 /// A flex block that slid: its address before, and its address now.
@@ -28,7 +29,9 @@ fn block_place(address: u32) -> usize
     ensures value { result ≡ place_of_block address }
     ensures few { result < 2 ^ 32 }
 {
-    address.saturating_sub(HEADER_BYTES).saturating_sub(SLOT_START) as usize
+    address
+        .saturating_sub(HEADER_BYTES)
+        .saturating_sub(SLOT_START) as usize
 }
 
 /// How far from the left a place of an area is in its row.
@@ -48,7 +51,12 @@ fn ghost_way(x: u32, y: u32) -> Row
     ensures few { length result ≤ 100 }
 {
     let mut way = Row::new();
-    add_point(&mut way, b"M", x.saturating_sub(GHOST_EDGE), y.saturating_sub(GHOST_EDGE));
+    add_point(
+        &mut way,
+        b"M",
+        x.saturating_sub(GHOST_EDGE),
+        y.saturating_sub(GHOST_EDGE),
+    );
     add_stretch(&mut way, b"h", GHOST_WIDTH);
     add_stretch(&mut way, b"v", ROW_HEIGHT + 2 * GHOST_EDGE);
     add_stretch(&mut way, b"h-", GHOST_WIDTH);
@@ -97,7 +105,12 @@ fn arrow_way(frame: Frame, r: usize, x0: u32, s: usize, x1: u32) -> Row
     if r == s {
         return arc_way(x0, x1, row_y(frame, r).saturating_sub(2));
     }
-    bow_way(x0, row_y(frame, r) + ROW_HEIGHT / 2, x1, row_y(frame, s) + ROW_HEIGHT / 2)
+    bow_way(
+        x0,
+        row_y(frame, r) + ROW_HEIGHT / 2,
+        x1,
+        row_y(frame, s) + ROW_HEIGHT / 2,
+    )
 }
 
 /// Writes the frame and the arrow, each upon an edge of its own.
@@ -114,7 +127,11 @@ fn print_arrow<W: Sink>(frame: &Row, way: &Row, writer: &mut W) -> Result<(), Wr
 
 /// Writes the arrow of the first of some slides, where both its places have a row. Fails only where the writer failed or
 /// took none of what it was offered; a front of the elements is then written.
-pub fn print_slide_arrow<W: Sink>(frame: Frame, first: Slide, writer: &mut W) -> Result<(), WriteFailed>
+pub fn print_slide_arrow<W: Sink>(
+    frame: Frame,
+    first: Slide,
+    writer: &mut W,
+) -> Result<(), WriteFailed>
     requires from { place_of_block first.from / PAGE < frame.pages }
     requires to { place_of_block first.to / PAGE < frame.pages }
     requires few { frame.pages ≤ MAX_PAGES }

@@ -11,8 +11,8 @@ use crate::boxes::{Extent, print_box, print_words};
 use rh_lines::{Row, Sink, WriteFailed};
 use rh_map::add_cut;
 use rh_sheet::sizes::{
-    CARD_BASELINE, CARD_COLUMNS, CARD_GAP, CARD_INDENT, CARD_LINE, CARD_PITCH, CARD_RISE, CARD_SPACE,
-    CARDS_ACROSS, LEFT,
+    CARD_BASELINE, CARD_COLUMNS, CARD_GAP, CARD_INDENT, CARD_LINE, CARD_PITCH, CARD_RISE,
+    CARD_SPACE, CARDS_ACROSS, LEFT,
 };
 
 /// What a card is about: a flex block, a block or a hole of a heap, a message, or those that are left out.
@@ -101,7 +101,12 @@ fn card_x(i: u32) -> u32
 
 /// Writes card i of those that are shown below a height. Fails only where the writer failed or took none of what it was
 /// offered; a front of the card is then written.
-pub fn print_low_card<W: Sink>(y0: u32, i: u32, card: &Card<'_>, writer: &mut W) -> Result<(), WriteFailed>
+pub fn print_low_card<W: Sink>(
+    y0: u32,
+    i: u32,
+    card: &Card<'_>,
+    writer: &mut W,
+) -> Result<(), WriteFailed>
     requires few { i < MOST_CARDS }
     requires height { y0 ≤ 1000 }
     ensures { Puts (W.output writer.old) (W.output writer.new) result (low_card_text y0 (i, card_of card.now)) }
@@ -111,11 +116,21 @@ pub fn print_low_card<W: Sink>(y0: u32, i: u32, card: &Card<'_>, writer: &mut W)
 
 /// Writes card i of those that are shown above a height. Fails only where the writer failed or took none of what it was
 /// offered; a front of the card is then written.
-pub fn print_high_card<W: Sink>(y0: u32, i: u32, card: &Card<'_>, writer: &mut W) -> Result<(), WriteFailed>
+pub fn print_high_card<W: Sink>(
+    y0: u32,
+    i: u32,
+    card: &Card<'_>,
+    writer: &mut W,
+) -> Result<(), WriteFailed>
     requires few { i < MOST_CARDS }
     requires height { y0 ≤ 1000 }
     requires room { CARD_RISE * (i / CARDS_ACROSS + 1) ≤ y0 }
     ensures { Puts (W.output writer.old) (W.output writer.new) result (high_card_text y0 (i, card_of card.now)) }
 {
-    print_card(card, card_x(i), y0 - CARD_RISE * (i / CARDS_ACROSS + 1), writer)
+    print_card(
+        card,
+        card_x(i),
+        y0 - CARD_RISE * (i / CARDS_ACROSS + 1),
+        writer,
+    )
 }

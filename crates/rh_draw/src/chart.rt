@@ -11,8 +11,8 @@ use crate::boxes::print_words;
 use crate::markup::{add_point, add_stretch, print_path};
 use rh_lines::{Row, Sink, WriteFailed};
 use rh_sheet::sizes::{
-    ARROW_RISE, ARROW_STUB, LETTER_UNITS, LIFE_TOP, LOOP_BOW, NAME_Y, STUB_ASIDE, STUB_DOWN, TIP_GAP,
-    WORDS_ASIDE, WORDS_DOWN,
+    ARROW_RISE, ARROW_STUB, LETTER_UNITS, LIFE_TOP, LOOP_BOW, NAME_Y, STUB_ASIDE, STUB_DOWN,
+    TIP_GAP, WORDS_ASIDE, WORDS_DOWN,
 };
 
 /// No part of a chart is farther from its upper left corner.
@@ -232,5 +232,11 @@ pub fn print_message_words<W: Sink>(
         (message_words waits now ends.x0 ends.y0 ends.x1 text.now) }
 {
     let class = words_class(ends.x1 < ends.x0, now);
-    print_words(class, words_x(waits, ends), ends.y0 + words_down(waits), text, writer)
+    print_words(
+        class,
+        words_x(waits, ends),
+        ends.y0 + words_down(waits),
+        text,
+        writer,
+    )
 }

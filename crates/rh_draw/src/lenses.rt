@@ -35,7 +35,11 @@ pub fn print_lens<W: Sink>(
     let mut way = Row::new();
     add_point(&mut way, b"M", LEFT + x0, y0);
     add_point(&mut way, b"L", LEFT + 1, y1);
-    add_stretch(&mut way, b"H", LEFT + CARD_PITCH * n.min(CARDS_ACROSS) - (CARD_GAP - 1));
+    add_stretch(
+        &mut way,
+        b"H",
+        LEFT + CARD_PITCH * n.min(CARDS_ACROSS) - (CARD_GAP - 1),
+    );
     add_point(&mut way, b"L", LEFT + x1, y0);
     way.byte(b'z');
     print_path(b"lens", &way, writer)
@@ -59,7 +63,14 @@ pub fn print_lens_below<W: Sink>(
     }
     let (x0, x1) = ((low / UNIT_BYTES) as u32, (high / UNIT_BYTES) as u32);
     let y = foot(frame);
-    print_lens(x0, x1, y.saturating_sub(ROW_GAP), n, y + LENS_HEIGHT + 1, writer)
+    print_lens(
+        x0,
+        x1,
+        y.saturating_sub(ROW_GAP),
+        n,
+        y + LENS_HEIGHT + 1,
+        writer,
+    )
 }
 
 /// Writes what leads from the last row of an area, between two places of it, to n cards above, where there are some and
@@ -81,9 +92,19 @@ pub fn print_lens_above<W: Sink>(
     if n == 0 || low < first {
         return Ok(());
     }
-    let (x0, x1) = (((low - first) / UNIT_BYTES) as u32, ((high - first) / UNIT_BYTES) as u32);
+    let (x0, x1) = (
+        ((low - first) / UNIT_BYTES) as u32,
+        ((high - first) / UNIT_BYTES) as u32,
+    );
     let y = top(frame);
-    print_lens(x0, x1, y + ROW_GAP, n, y.saturating_sub(LENS_HEIGHT + ROW_GAP), writer)
+    print_lens(
+        x0,
+        x1,
+        y + ROW_GAP,
+        n,
+        y.saturating_sub(LENS_HEIGHT + ROW_GAP),
+        writer,
+    )
 }
 
 /// Writes a tick in an anchor word, in a row at a height. Fails only where the writer failed or took none of what it was

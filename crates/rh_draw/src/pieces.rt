@@ -150,7 +150,10 @@ fn add_tip(row: &mut Row, kind: Kind, address: u32, size: u32)
         Kind::FreeHole => add_sized_at(row, b"hole ", address, size),
         Kind::MoreSegments { count } => add_counted(row, b"", count, b" more"),
         Kind::FreeTop => add_at(row, b"free, ", address),
-        Kind::FlexBlock { anchor, size: bytes } => {
+        Kind::FlexBlock {
+            anchor,
+            size: bytes,
+        } => {
             let what = named(b"flex block ", anchor);
             add_sized_at(row, what.as_slice(), address + 8, bytes);
         }
@@ -253,11 +256,24 @@ pub fn print_piece<W: Sink>(
     if low >= high {
         return Ok(());
     }
-    let (x, width) = (LEFT + (low / UNIT_BYTES) as u32, ((high - low) / UNIT_BYTES) as u32);
+    let (x, width) = (
+        LEFT + (low / UNIT_BYTES) as u32,
+        ((high - low) / UNIT_BYTES) as u32,
+    );
     let class = classes_of(tint, piece.kind, piece.fresh);
     let mut tip = Row::new();
-    add_tip(&mut tip, piece.kind, start + piece.at as u32, piece.size as u32);
-    let at = Extent { x, y, width, height: ROW_HEIGHT };
+    add_tip(
+        &mut tip,
+        piece.kind,
+        start + piece.at as u32,
+        piece.size as u32,
+    );
+    let at = Extent {
+        x,
+        y,
+        width,
+        height: ROW_HEIGHT,
+    };
     print_box(class.as_slice(), at, tip.as_slice(), writer)?;
     print_label(x + width / 2, y + BASELINE, piece, width, writer)
 }

@@ -98,10 +98,25 @@ pub fn print_squares<W: Sink>(
 // ---- the grid
 
 /// Writes a part of the grid.
-fn print_grid_box<W: Sink>(y: u32, width: u32, height: u32, writer: &mut W) -> Result<(), WriteFailed>
+fn print_grid_box<W: Sink>(
+    y: u32,
+    width: u32,
+    height: u32,
+    writer: &mut W,
+) -> Result<(), WriteFailed>
     ensures { Puts (W.output writer.old) (W.output writer.new) result (box_text (grid_box y width height)) }
 {
-    print_box(b"cells", Extent { x: LEFT, y, width, height }, b"", writer)
+    print_box(
+        b"cells",
+        Extent {
+            x: LEFT,
+            y,
+            width,
+            height,
+        },
+        b"",
+        writer,
+    )
 }
 
 /// Writes the whole rows of n pages, if there are any.
@@ -122,7 +137,12 @@ fn print_rest_row<W: Sink>(n: u32, writer: &mut W) -> Result<(), WriteFailed>
     ensures { Puts (W.output writer.old) (W.output writer.new) result (rest_row_text n) }
 {
     if n % POOL_COLUMNS != 0 {
-        print_grid_box(CELL * (n / POOL_COLUMNS), CELL * (n % POOL_COLUMNS), CELL, writer)
+        print_grid_box(
+            CELL * (n / POOL_COLUMNS),
+            CELL * (n % POOL_COLUMNS),
+            CELL,
+            writer,
+        )
     } else {
         Ok(())
     }
@@ -135,7 +155,13 @@ fn print_number<W: Sink>(k: u32, writer: &mut W) -> Result<(), WriteFailed>
 {
     let mut text = Row::new();
     text.decimal(k);
-    print_words(b"num", cell_x(k) + NUMBER_INDENT, cell_y(k) + NUMBER_BASELINE, text.as_slice(), writer)
+    print_words(
+        b"num",
+        cell_x(k) + NUMBER_INDENT,
+        cell_y(k) + NUMBER_BASELINE,
+        text.as_slice(),
+        writer,
+    )
 }
 
 /// Writes n squares with their numbers. Fails only where the writer failed or took none of what it was offered; a front
@@ -184,7 +210,13 @@ fn print_tag<W: Sink>(tag: &[u8], k: u16, writer: &mut W) -> Result<(), WriteFai
     ensures { Puts (W.output writer.old) (W.output writer.new) result (tag_text tag.now k) }
 {
     let page = u32::from(k);
-    print_words(b"tag", cell_x(page) + CELL / 2, cell_y(page) + TAG_BASELINE, tag, writer)
+    print_words(
+        b"tag",
+        cell_x(page) + CELL / 2,
+        cell_y(page) + TAG_BASELINE,
+        tag,
+        writer,
+    )
 }
 
 /// Adds how many pages of so many are free.

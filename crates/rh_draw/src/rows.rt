@@ -37,7 +37,12 @@ fn print_page_box<W: Sink>(class: &[u8], y: u32, writer: &mut W) -> Result<(), W
     requires { length class.now ≤ 8 }
     ensures { Puts (W.output writer.old) (W.output writer.new) result (box_text (page_box class.now y)) }
 {
-    let at = Extent { x: LEFT, y, width: ROW_WIDTH, height: ROW_HEIGHT };
+    let at = Extent {
+        x: LEFT,
+        y,
+        width: ROW_WIDTH,
+        height: ROW_HEIGHT,
+    };
     print_box(class, at, b"", writer)
 }
 
@@ -51,13 +56,29 @@ fn print_chip<W: Sink>(tint: Tint, y: u32, number: u16, writer: &mut W) -> Resul
     add_tint(&mut class, tint);
     let mut text = Row::new();
     text.decimal(u32::from(number));
-    let at = Extent { x: CHIP_LEFT, y, width: CHIP_WIDTH, height: ROW_HEIGHT };
+    let at = Extent {
+        x: CHIP_LEFT,
+        y,
+        width: CHIP_WIDTH,
+        height: ROW_HEIGHT,
+    };
     print_box(class.as_slice(), at, b"", writer)?;
-    print_words(b"chipn", CHIP_LEFT + CHIP_WIDTH / 2, y + BASELINE, text.as_slice(), writer)
+    print_words(
+        b"chipn",
+        CHIP_LEFT + CHIP_WIDTH / 2,
+        y + BASELINE,
+        text.as_slice(),
+        writer,
+    )
 }
 
 /// Writes page k of an area, which it has, with all that lies in it.
-fn print_page_row<W: Sink>(plot: &Plot<'_>, y: u32, k: usize, writer: &mut W) -> Result<(), WriteFailed>
+fn print_page_row<W: Sink>(
+    plot: &Plot<'_>,
+    y: u32,
+    k: usize,
+    writer: &mut W,
+) -> Result<(), WriteFailed>
     requires start { plot.now.start < 2 ^ 30 }
     requires height { y ≤ 800 }
     requires few { length plot.now.pages.now ≤ MAX_PAGES }
@@ -71,7 +92,12 @@ fn print_page_row<W: Sink>(plot: &Plot<'_>, y: u32, k: usize, writer: &mut W) ->
 }
 
 /// Writes page k of an area by its address; one that was given back is an empty row.
-fn print_addressed<W: Sink>(plot: &Plot<'_>, y: u32, k: usize, writer: &mut W) -> Result<(), WriteFailed>
+fn print_addressed<W: Sink>(
+    plot: &Plot<'_>,
+    y: u32,
+    k: usize,
+    writer: &mut W,
+) -> Result<(), WriteFailed>
     requires start { plot.now.start < 2 ^ 30 }
     requires height { y ≤ 800 }
     requires few { length plot.now.pages.now ≤ MAX_PAGES }
@@ -98,12 +124,23 @@ fn print_gap<W: Sink>(n: usize, y: u32, writer: &mut W) -> Result<(), WriteFaile
     let mut text = Row::new();
     add_pages(&mut text, n.saturating_sub(2 * EDGE_ROWS) as u32);
     text.text(b" between");
-    print_words(b"gap", LEFT + ROW_WIDTH / 2, y + BASELINE, text.as_slice(), writer)
+    print_words(
+        b"gap",
+        LEFT + ROW_WIDTH / 2,
+        y + BASELINE,
+        text.as_slice(),
+        writer,
+    )
 }
 
 /// Writes row i from below of an area. Fails only where the writer failed or took none of what it was offered; a front
 /// of the row is then written.
-pub fn print_row<W: Sink>(frame: Frame, plot: &Plot<'_>, i: usize, writer: &mut W) -> Result<(), WriteFailed>
+pub fn print_row<W: Sink>(
+    frame: Frame,
+    plot: &Plot<'_>,
+    i: usize,
+    writer: &mut W,
+) -> Result<(), WriteFailed>
     requires start { plot.now.start < 2 ^ 30 }
     requires few { length plot.now.pages.now ≤ MAX_PAGES }
     requires frame { frame.pages ≤ MAX_PAGES }

@@ -17,7 +17,8 @@ use rh_sheet::signs::SIGNS;
 use rh_sheet::style::STYLE;
 
 /// What stands before a sheet's title.
-const BEFORE_TITLE: &[u8] = b"<!DOCTYPE html>\n<html lang=\"en\" xmlns=\"http://www.w3.org/1999/xhtml\">\n<head>\n\
+const BEFORE_TITLE: &[u8] =
+    b"<!DOCTYPE html>\n<html lang=\"en\" xmlns=\"http://www.w3.org/1999/xhtml\">\n<head>\n\
 <meta charset=\"utf-8\"/>\n<meta name=\"viewport\" content=\"width=device-width, initial-scale=1\"/>\n<title>";
 
 /// Writes how a sheet looks.

@@ -84,7 +84,12 @@ pub fn print_said<W: Sink>(
     row.text(b"<h2><b>");
     row.decimal(step);
     row.text(b"</b> <code>");
-    put_between(row.as_slice(), command.as_slice(), b"</code></h2>\n<pre>", writer)?;
+    put_between(
+        row.as_slice(),
+        command.as_slice(),
+        b"</code></h2>\n<pre>",
+        writer,
+    )?;
     put_between(b"", shown, b"</pre>\n", writer)
 }
 

@@ -60,6 +60,7 @@ pub const TINTS: u32 = 6;
 
 /// From a square's left edge to the number of its page, and down to the line that the number stands on.
 pub const NUMBER_INDENT: u32 = 3;
+
 pub const NUMBER_BASELINE: u32 = 12;
 
 /// From a square's upper edge to the line that a tag stands on.
@@ -67,6 +68,7 @@ pub const TAG_BASELINE: u32 = 26;
 
 /// The lines that the name of the pool and the number of free pages stand on.
 pub const POOL_NAME_Y: u32 = 14;
+
 pub const POOL_NOTE_Y: u32 = 31;
 
 /// The header of a flex block.
@@ -74,6 +76,7 @@ pub const HEADER_BYTES: u32 = 8;
 
 /// The frame where a block was is so far outside its row, and so wide.
 pub const GHOST_EDGE: u32 = 3;
+
 pub const GHOST_WIDTH: u32 = 9;
 
 /// How far the arrow of a slide within one row rises above it.
@@ -81,6 +84,7 @@ pub const ARC_RISE: u32 = 24;
 
 /// How far right of a block's beginning the arrow of a slide between rows begins, and how far it bows out.
 pub const ARROW_INDENT: u32 = 6;
+
 pub const BOW: u32 = 96;
 
 /// From one card to the next beside it.
@@ -151,10 +155,12 @@ pub const TIP_GAP: u32 = 3;
 
 /// From an arrow's beginning to its words: to the side, and down.
 pub const WORDS_ASIDE: u32 = 14;
+
 pub const WORDS_DOWN: u32 = 21;
 
 /// The same where the message waits.
 pub const STUB_ASIDE: u32 = 36;
+
 pub const STUB_DOWN: u32 = 13;
 
 /// What is left below the lines of a chart.

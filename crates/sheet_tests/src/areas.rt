@@ -2,21 +2,30 @@
 
 use crate::same::same;
 use rh_draw::{
-    Card, Look, Plot, Slide, Tint, print_grid, print_high_card, print_lens_above, print_pool_side, print_row, print_rows,
-    print_slide_arrow, print_squares, print_tags, print_tick,
+    Card, Look, Plot, Slide, Tint, print_grid, print_high_card, print_lens_above, print_pool_side,
+    print_row, print_rows, print_slide_arrow, print_squares, print_tags, print_tick,
 };
 use rh_figure::{Kind, Piece};
 use rh_lines::Flagged;
 use rh_sheet::Frame;
 
 fn piece(kind: Kind, at: usize, size: usize, fresh: bool) -> Piece {
-    Piece { kind, at, size, fresh }
+    Piece {
+        kind,
+        at,
+        size,
+        fresh,
+    }
 }
 
 #[test]
 fn rows_of_a_slot(rt: HostRuntime) {
     let mut writer = Flagged::new(Vec::<u8>::new(rt.alloc()));
-    let frame = Frame { pages: 2, above: 1, below: 0 };
+    let frame = Frame {
+        pages: 2,
+        above: 1,
+        below: 0,
+    };
     let plot = Plot {
         start: 0x8000,
         pages: &[6, 5],
@@ -37,8 +46,17 @@ fn rows_of_a_slot(rt: HostRuntime) {
 #[test]
 fn row_between_the_ends_of_a_long_area(rt: HostRuntime) {
     let mut writer = Flagged::new(Vec::<u8>::new(rt.alloc()));
-    let frame = Frame { pages: 1024, above: 0, below: 0 };
-    let plot = Plot { start: 0x180_0000, pages: &[], pieces: &[], tint: Tint::Module };
+    let frame = Frame {
+        pages: 1024,
+        above: 0,
+        below: 0,
+    };
+    let plot = Plot {
+        start: 0x180_0000,
+        pages: &[],
+        pieces: &[],
+        tint: Tint::Module,
+    };
     same(&rt, print_row(frame, &plot, 8, &mut writer), Ok(()));
     let wanted = b"<text class=\"gap\" x=\"662\" y=\"260\">1008 pages between</text>\n";
     let written = writer.into_inner();
@@ -56,8 +74,16 @@ fn cards(rt: HostRuntime) {
         third: b"",
     };
     same(&rt, print_high_card(66, 0, &card, &mut writer), Ok(()));
-    let frame = Frame { pages: 2, above: 1, below: 0 };
-    same(&rt, print_lens_above(frame, 4096, 4112, 1, &mut writer), Ok(()));
+    let frame = Frame {
+        pages: 2,
+        above: 1,
+        below: 0,
+    };
+    same(
+        &rt,
+        print_lens_above(frame, 4096, 4112, 1, &mut writer),
+        Ok(()),
+    );
     let wanted =
         b"<rect class=\"card flex fresh\" x=\"151\" y=\"1\" width=\"164\" height=\"62\"/>\n<text class=\"first\" x=\"159\" y=\"20\">anchor 0 &amp;9008</text>\n<text class=\"line\" x=\"159\" y=\"38\">1234567890 byte..</text>\n<path class=\"lens\" d=\"M150 85L151 63H315L154 85z\"/>\n";
     let written = writer.into_inner();
@@ -67,8 +93,15 @@ fn cards(rt: HostRuntime) {
 #[test]
 fn arrow_between_rows(rt: HostRuntime) {
     let mut writer = Flagged::new(Vec::<u8>::new(rt.alloc()));
-    let frame = Frame { pages: 3, above: 1, below: 0 };
-    let slide = Slide { from: 0x9008, to: 0xa008 };
+    let frame = Frame {
+        pages: 3,
+        above: 1,
+        below: 0,
+    };
+    let slide = Slide {
+        from: 0x9008,
+        to: 0xa008,
+    };
     same(&rt, print_slide_arrow(frame, slide, &mut writer), Ok(()));
     let wanted =
         b"<path class=\"casing\" d=\"M147 112h9v30h-9z\"/>\n<path class=\"ghost\" d=\"M147 112h9v30h-9z\"/>\n<path class=\"casing\" d=\"M156 127C246 127 246 97 156 97\"/>\n<path class=\"slide\" d=\"M156 127C246 127 246 97 156 97\"/>\n";
@@ -79,8 +112,15 @@ fn arrow_between_rows(rt: HostRuntime) {
 #[test]
 fn arrow_in_a_row(rt: HostRuntime) {
     let mut writer = Flagged::new(Vec::<u8>::new(rt.alloc()));
-    let frame = Frame { pages: 2, above: 2, below: 0 };
-    let slide = Slide { from: 0x9074, to: 0x90d8 };
+    let frame = Frame {
+        pages: 2,
+        above: 2,
+        below: 0,
+    };
+    let slide = Slide {
+        from: 0x9074,
+        to: 0x90d8,
+    };
     same(&rt, print_slide_arrow(frame, slide, &mut writer), Ok(()));
     let wanted =
         b"<path class=\"casing\" d=\"M174 82h9v30h-9z\"/>\n<path class=\"ghost\" d=\"M174 82h9v30h-9z\"/>\n<path class=\"casing\" d=\"M179 83C179 59 204 59 204 83\"/>\n<path class=\"slide\" d=\"M179 83C179 59 204 59 204 83\"/>\n";
@@ -91,8 +131,16 @@ fn arrow_in_a_row(rt: HostRuntime) {
 #[test]
 fn pool(rt: HostRuntime) {
     let mut writer = Flagged::new(Vec::<u8>::new(rt.alloc()));
-    same(&rt, print_squares(b"cell m", &[7], b"Module area: page 7", &mut writer), Ok(()));
-    same(&rt, print_squares(b"freed", &[], b"Free again: page ", &mut writer), Ok(()));
+    same(
+        &rt,
+        print_squares(b"cell m", &[7], b"Module area: page 7", &mut writer),
+        Ok(()),
+    );
+    same(
+        &rt,
+        print_squares(b"freed", &[], b"Free again: page ", &mut writer),
+        Ok(()),
+    );
     same(&rt, print_tags(b"mod", &[7, 33], &mut writer), Ok(()));
     same(&rt, print_pool_side(5, 8, &mut writer), Ok(()));
     same(&rt, print_grid(1, &mut writer), Ok(()));

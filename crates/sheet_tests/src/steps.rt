@@ -8,7 +8,11 @@ use rh_lines::Flagged;
 fn step_without_a_figure(rt: HostRuntime) {
     let mut writer = Flagged::new(Vec::<u8>::new(rt.alloc()));
     same(&rt, print_step_open(3, &mut writer), Ok(()));
-    same(&rt, print_said(3, b"show a 0", b"ok 5 0000000000", &mut writer), Ok(()));
+    same(
+        &rt,
+        print_said(3, b"show a 0", b"ok 5 0000000000", &mut writer),
+        Ok(()),
+    );
     same(&rt, print_still(2, &mut writer), Ok(()));
     same(&rt, print_still(0, &mut writer), Ok(()));
     let wanted =
@@ -32,7 +36,11 @@ fn remarks(rt: HostRuntime) {
     let mut writer = Flagged::new(Vec::<u8>::new(rt.alloc()));
     same(&rt, print_remark(b" # \tR&D\r", &mut writer), Ok(()));
     same(&rt, print_remark(b"#", &mut writer), Ok(()));
-    same(&rt, print_remark(b"#picture  A block ", &mut writer), Ok(()));
+    same(
+        &rt,
+        print_remark(b"#picture  A block ", &mut writer),
+        Ok(()),
+    );
     let wanted = b"<p class=\"remark\">R&amp;D</p>\n<p class=\"title\">A block</p>\n";
     let written = writer.into_inner();
     same(&rt, written.as_slice(), wanted.as_slice());
