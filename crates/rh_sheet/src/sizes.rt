@@ -38,13 +38,13 @@ pub const CHIP_LEFT: u32 = 96;
 pub const CHIP_WIDTH: u32 = 46;
 
 /// A letter of a label has at most so many units.
-pub const LABEL_UNITS: usize = 10;
+pub const LABEL_UNITS: u32 = 10;
 
 /// What a label leaves free of its piece.
-pub const LABEL_EDGE: usize = 8;
+pub const LABEL_EDGE: u32 = 8;
 
 /// What a short label leaves free of its piece.
-pub const SHORT_EDGE: usize = 4;
+pub const SHORT_EDGE: u32 = 4;
 
 /// The side of a square of the pool.
 pub const CELL: u32 = 32;
