@@ -35,13 +35,15 @@ pub use headings::{
     SlotHeading, area_mark, print_module_heading, print_pool_heading, print_slot_heading, slot_mark,
 };
 pub use letterboxes::{MessageEntry, print_letterbox};
-pub use line::put_line;
+pub use line::{put_line, shown_byte};
+pub use numbers::add_numbers;
+pub use phrases::{add_pages, add_size};
 pub use messages::{CardMessage, ChainPlace, print_message_card};
 pub use pool::print_pool;
 pub use post_changes::{print_bytes_sent, print_returns, print_sends, print_takes};
 pub use reply::print_reply_lines;
 pub use rows::{Area, print_area};
 pub use script_lines::{is_mark, print_remark};
-pub use steps::{print_more_lines, print_reply_line, print_step_line, print_still};
-pub use transfers::{Side, print_transfer};
-pub use who::Who;
+pub use steps::{add_cut, print_more_lines, print_reply_line, print_step_line, print_still};
+pub use transfers::{Side, print_transfer, state_name};
+pub use who::{Who, add_who};

@@ -45,7 +45,7 @@ fn add_shown(row: &mut Row, text: &[u8])
 }
 
 /// A byte from 32 to 126, or a question mark in place of another.
-fn shown_byte(byte: u8) -> u8
+pub fn shown_byte(byte: u8) -> u8
     ensures { result ≡ shown_byte byte }
 {
     if (32..127).contains(&byte) {

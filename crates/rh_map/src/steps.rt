@@ -59,7 +59,7 @@ pub fn print_still<W: Sink>(writer: &mut W) -> Result<(), WriteFailed>
 }
 
 /// Adds a text, cut with two dots behind it where it is longer than `most` bytes.
-pub(crate) fn add_cut(row: &mut Row, most: usize, text: &[u8])
+pub fn add_cut(row: &mut Row, most: usize, text: &[u8])
     requires least { 2 ≤ most }
     requires room { length row.old + most ≤ ROW }
     ensures value { row.new ≡ row.old ++ cut most text.now }

@@ -59,7 +59,8 @@ fn add_side(row: &mut Row, way: &[u8], side: &Option<Side<'_>>)
     }
 }
 
-fn state_name(state: State) -> &'static [u8]
+/// The name of a state of a transfer.
+pub fn state_name(state: State) -> &'static [u8]
     ensures value { result.now ≡ state_name_of state }
     ensures short { length result.now ≤ 8 }
 {

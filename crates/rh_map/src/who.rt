@@ -15,7 +15,7 @@ pub enum Who<'a> {
 }
 
 /// Adds a task's name, or its handle where it has ended.
-pub(crate) fn add_who(row: &mut Row, who: &Who<'_>)
+pub fn add_who(row: &mut Row, who: &Who<'_>)
     requires { length row.old + 17 ≤ ROW }
     ensures value { row.new ≡ row.old ++ who_text who.now }
     ensures few { length row.new ≤ length row.old + 17 }

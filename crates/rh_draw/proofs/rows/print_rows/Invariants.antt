@@ -1,0 +1,13 @@
+use Rattle.std.proofs.Common.{◌-◌}
+use Rattle.std.specs.List.{flat_map, range_with_len}
+use Rattle.rh_sheet.specs.Frames.{shown_rows}
+use Rattle.rh_sheet.specs.Rows.{row_text, rows_text}
+use Rattle.rh_map.proofs.Left.{Left}
+use Rattle.rh_draw.specs.Rows.{plot_of}
+use Rattle.rh_draw.proofs.rows.print_rows.Given as goal
+
+-- the rows from the index on are left
+abbrev pub invariant-loop-i : goal.invariant-loop-i
+invariant-loop-i g l =
+    Left (g.W.Sink.output l.initial.writer) (g.W.Sink.output l.writer) (rows_text l.frame (plot_of l.plot))
+    (flat_map (row_text l.frame (plot_of l.plot)) (range_with_len l.i (shown_rows l.frame.pages - l.i)))

@@ -1,0 +1,11 @@
+use Rattle.std.proofs.Common.{◌+◌, ◌-◌}
+use Rattle.std.specs.List.{flat_map, range_with_len}
+use Rattle.rh_sheet.specs.Sheet.{numbered_link}
+use Rattle.rh_map.proofs.Left.{Left}
+use Rattle.rh_draw.proofs.sheet.print_links.Given as goal
+
+-- those from the index on are left
+abbrev pub invariant-loop-i : goal.invariant-loop-i
+invariant-loop-i g l =
+    Left (g.W.Sink.output l.initial.writer) (g.W.Sink.output l.writer) (flat_map numbered_link (range_with_len 1 l.n))
+    (flat_map numbered_link (range_with_len l.i (l.n + 1 - l.i)))

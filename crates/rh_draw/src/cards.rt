@@ -1,0 +1,136 @@
+//! Cards: what may be too small for its scale, written out.
+
+ghost use Rattle.std.specs.Prelude.{◌≡◌, ◌≤◌, ◌<◌, ◌+◌, ◌*◌, ◌/◌, length};
+ghost use Rattle.rh_draw.specs.Cards.{card_of, classes_of_card};
+ghost use Rattle.rh_figure.specs.declared.limits.TheConstants.{MOST_CARDS};
+ghost use Rattle.rh_lines.specs.Flow.{Puts};
+ghost use Rattle.rh_sheet.specs.Cards.{card_line_text, card_text, card_x as x_of_card, high_card_text, low_card_text};
+ghost use Rattle.rh_sheet.specs.declared.sizes.TheConstants.{CARD_RISE, CARDS_ACROSS};
+
+use crate::boxes::{Extent, print_box, print_words};
+use rh_lines::{Row, Sink, WriteFailed};
+use rh_map::add_cut;
+use rh_sheet::sizes::{
+    CARD_BASELINE, CARD_COLUMNS, CARD_GAP, CARD_INDENT, CARD_LINE, CARD_PITCH, CARD_RISE,
+    CARD_SPACE, CARDS_ACROSS, LEFT,
+};
+
+/// What a card is about: a flex block, a block or a hole of a heap, a message, or those that are left out.
+#[derive(Clone, Copy)]
+pub enum Look {
+    Flex,
+    Used,
+    Hole,
+    Post,
+    More,
+}
+
+/// A card: its look, whether the command has changed what it is about, and its three lines.
+#[derive(Clone, Copy)]
+pub struct Card<'a> {
+    pub look: Look,
+    pub fresh: bool,
+    pub first: &'a [u8],
+    pub second: &'a [u8],
+    pub third: &'a [u8],
+}
+
+/// The classes of a card.
+fn card_class(look: Look, fresh: bool) -> &'static [u8]
+    ensures value { result.now ≡ classes_of_card look fresh }
+    ensures few { length result.now ≤ 16 }
+{
+    match (look, fresh) {
+        (Look::Flex, false) => b"card flex",
+        (Look::Flex, true) => b"card flex fresh",
+        (Look::Used, false) => b"card used",
+        (Look::Used, true) => b"card used fresh",
+        (Look::Hole, false) => b"card hole",
+        (Look::Hole, true) => b"card hole fresh",
+        (Look::Post, false) => b"card post",
+        (Look::Post, true) => b"card post fresh",
+        (Look::More, false) => b"card more",
+        (Look::More, true) => b"card more fresh",
+    }
+}
+
+/// Writes line i of a card whose room begins at a point, cut to the card's width.
+fn print_card_line<W: Sink>(
+    class: &[u8],
+    i: u32,
+    x: u32,
+    y: u32,
+    text: &[u8],
+    writer: &mut W,
+) -> Result<(), WriteFailed>
+    requires class { length class.now ≤ 8 }
+    requires line { i ≤ 2 }
+    requires corner { x + y ≤ 4000 }
+    ensures { Puts (W.output writer.old) (W.output writer.new) result (card_line_text class.now i x y text.now) }
+{
+    let mut row = Row::new();
+    add_cut(&mut row, CARD_COLUMNS, text);
+    let down = y + 1 + CARD_BASELINE + CARD_LINE * i;
+    print_words(class, x + 1 + CARD_INDENT, down, row.as_slice(), writer)
+}
+
+/// Writes a card whose room begins at a point.
+fn print_card<W: Sink>(card: &Card<'_>, x: u32, y: u32, writer: &mut W) -> Result<(), WriteFailed>
+    requires { x + y ≤ 4000 }
+    ensures { Puts (W.output writer.old) (W.output writer.new) result (card_text (card_of card.now) x y) }
+{
+    let at = Extent {
+        x: x + 1,
+        y: y + 1,
+        width: CARD_PITCH - CARD_GAP,
+        height: CARD_RISE - CARD_SPACE,
+    };
+    print_box(card_class(card.look, card.fresh), at, b"", writer)?;
+    print_card_line(b"first", 0, x, y, card.first, writer)?;
+    print_card_line(b"line", 1, x, y, card.second, writer)?;
+    print_card_line(b"line", 2, x, y, card.third, writer)
+}
+
+/// Where the room of card i begins, from the left.
+fn card_x(i: u32) -> u32
+    ensures value { result ≡ x_of_card i }
+    ensures few { result ≤ 1000 }
+{
+    LEFT + CARD_PITCH * (i % CARDS_ACROSS)
+}
+
+/// Writes card i of those that are shown below a height. Fails only where the writer failed or took none of what it was
+/// offered; a front of the card is then written.
+pub fn print_low_card<W: Sink>(
+    y0: u32,
+    i: u32,
+    card: &Card<'_>,
+    writer: &mut W,
+) -> Result<(), WriteFailed>
+    requires few { i < MOST_CARDS }
+    requires height { y0 ≤ 1000 }
+    ensures { Puts (W.output writer.old) (W.output writer.new) result (low_card_text y0 (i, card_of card.now)) }
+{
+    print_card(card, card_x(i), y0 + CARD_RISE * (i / CARDS_ACROSS), writer)
+}
+
+/// Writes card i of those that are shown above a height. Fails only where the writer failed or took none of what it was
+/// offered; a front of the card is then written.
+pub fn print_high_card<W: Sink>(
+    y0: u32,
+    i: u32,
+    card: &Card<'_>,
+    writer: &mut W,
+) -> Result<(), WriteFailed>
+    requires few { i < MOST_CARDS }
+    requires height { y0 ≤ 1000 }
+    requires room { CARD_RISE * (i / CARDS_ACROSS + 1) ≤ y0 }
+    ensures { Puts (W.output writer.old) (W.output writer.new) result (high_card_text y0 (i, card_of card.now)) }
+{
+    print_card(
+        card,
+        card_x(i),
+        y0 - CARD_RISE * (i / CARDS_ACROSS + 1),
+        writer,
+    )
+}

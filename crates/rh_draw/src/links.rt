@@ -1,0 +1,35 @@
+//! Links from step to step.
+
+ghost use Rattle.std.specs.Prelude.{◌≡◌, ◌≤◌, ◌+◌, ◌++◌, length};
+ghost use Rattle.rh_lines.specs.Flow.{Puts};
+ghost use Rattle.rh_lines.specs.declared.row.TheConstants.{ROW};
+ghost use Rattle.rh_sheet.specs.Markup.{step_link};
+ghost use Rattle.rh_sheet.specs.Sheet.{numbered_link};
+
+use rh_lines::{Row, Sink, WriteFailed, put};
+
+/// Adds a link to step n, with what stands in it.
+pub fn add_step_link(row: &mut Row, n: u32, inside: &[u8])
+    requires { length row.old + length inside.now + 28 ≤ ROW }
+    ensures value { row.new ≡ row.old ++ step_link n inside.now }
+    ensures few { length row.new ≤ length row.old + length inside.now + 28 }
+{
+    row.text(b"<a href=\"#d");
+    row.decimal(n);
+    row.text(b"\">");
+    row.text(inside);
+    row.text(b"</a>");
+}
+
+/// Writes a link to step n by its number. Fails only where the writer failed or took none of what it was offered; a
+/// front of it is then written.
+pub fn print_numbered_link<W: Sink>(n: u32, writer: &mut W) -> Result<(), WriteFailed>
+    ensures { Puts (W.output writer.old) (W.output writer.new) result (numbered_link n) }
+{
+    let mut number = Row::new();
+    number.decimal(n);
+    let mut row = Row::new();
+    add_step_link(&mut row, n, number.as_slice());
+    row.byte(b'\n');
+    put(writer, row.as_slice())
+}

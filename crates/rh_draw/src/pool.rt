@@ -1,0 +1,243 @@
+//! The pool of pages: squares with numbers, tints and tags.
+
+ghost use Rattle.std.specs.Prelude.{◌≡◌, ◌≤◌, ◌<◌, ◌+◌, ◌++◌, length};
+ghost use Rattle.std.specs.List.{flat_map, range_with_len};
+ghost use Rattle.rh_defs.specs.declared.sizes.TheConstants.{MAX_PAGES};
+ghost use Rattle.rh_draw.specs.Pages.{AreBelow};
+ghost use Rattle.rh_lines.specs.Flow.{Puts};
+ghost use Rattle.rh_lines.specs.declared.row.TheConstants.{ROW};
+ghost use Rattle.rh_sheet.specs.Markup.{box_text};
+ghost use Rattle.rh_sheet.specs.Pool.{cell_x as x_of_cell, cell_y as y_of_cell, free_text, grid_box, grid_text, number_text, pool_side, rest_row_text, square_way, squares_begin, squares_text, tag_text, whole_rows_text};
+
+use crate::attributes::add_text_attribute;
+use crate::boxes::{Extent, print_box, print_words};
+use crate::escape::put_between;
+use crate::markup::add_point;
+use rh_lines::{Row, Sink, WriteFailed, put};
+use rh_sheet::sizes::{
+    CELL, LEFT, NUMBER_BASELINE, NUMBER_INDENT, POOL_COLUMNS, POOL_NAME_Y, POOL_NOTE_Y, ROW_WIDTH,
+    TAG_BASELINE,
+};
+
+// ---- squares
+
+/// Where the square of page k begins, from the left.
+fn cell_x(k: u32) -> u32
+    ensures value { result ≡ x_of_cell k }
+    ensures few { result ≤ 1150 }
+{
+    LEFT + CELL * (k % POOL_COLUMNS)
+}
+
+/// The same from above.
+fn cell_y(k: u32) -> u32
+    requires { k ≤ MAX_PAGES }
+    ensures value { result ≡ y_of_cell k }
+    ensures few { result ≤ 1024 }
+{
+    CELL * (k / POOL_COLUMNS)
+}
+
+/// Writes the way round the square of page k.
+fn print_square<W: Sink>(k: u16, writer: &mut W) -> Result<(), WriteFailed>
+    requires { k < MAX_PAGES }
+    ensures { Puts (W.output writer.old) (W.output writer.new) result (square_way k) }
+{
+    let page = u32::from(k);
+    let mut row = Row::new();
+    add_point(&mut row, b"M", cell_x(page) + 1, cell_y(page) + 1);
+    row.text(b"h30v30h-30z");
+    put(writer, row.as_slice())
+}
+
+/// Writes the ways round the squares of some pages.
+fn print_ways<W: Sink>(pages: &[u16], writer: &mut W) -> Result<(), WriteFailed>
+    requires { AreBelow MAX_PAGES pages.now }
+    ensures { Puts (W.output writer.old) (W.output writer.new) result (flat_map square_way pages.now) }
+{
+    let mut rest = pages;
+    while let Some((page, others)) = rest.split_first() {
+        print_square(*page, writer)?;
+        rest = others;
+    }
+    Ok(())
+}
+
+/// Writes the beginning of squares.
+fn print_squares_begin<W: Sink>(class: &[u8], writer: &mut W) -> Result<(), WriteFailed>
+    requires { length class.now ≤ 40 }
+    ensures { Puts (W.output writer.old) (W.output writer.new) result (squares_begin class.now) }
+{
+    let mut row = Row::new();
+    row.text(b"<path");
+    add_text_attribute(&mut row, b"class", class);
+    row.text(b" d=\"");
+    put(writer, row.as_slice())
+}
+
+/// Writes the squares of some pages, if there are any, with a tip. Fails only where the writer failed or took none of
+/// what it was offered; a front of the element is then written.
+pub fn print_squares<W: Sink>(
+    class: &[u8],
+    pages: &[u16],
+    tip: &[u8],
+    writer: &mut W,
+) -> Result<(), WriteFailed>
+    requires class { length class.now ≤ 40 }
+    requires pages { AreBelow MAX_PAGES pages.now }
+    ensures { Puts (W.output writer.old) (W.output writer.new) result (squares_text class.now pages.now tip.now) }
+{
+    if pages.is_empty() {
+        return Ok(());
+    }
+    print_squares_begin(class, writer)?;
+    print_ways(pages, writer)?;
+    put_between(b"\"><title>", tip, b"</title></path>\n", writer)
+}
+
+// ---- the grid
+
+/// Writes a part of the grid.
+fn print_grid_box<W: Sink>(
+    y: u32,
+    width: u32,
+    height: u32,
+    writer: &mut W,
+) -> Result<(), WriteFailed>
+    ensures { Puts (W.output writer.old) (W.output writer.new) result (box_text (grid_box y width height)) }
+{
+    print_box(
+        b"cells",
+        Extent {
+            x: LEFT,
+            y,
+            width,
+            height,
+        },
+        b"",
+        writer,
+    )
+}
+
+/// Writes the whole rows of n pages, if there are any.
+fn print_whole_rows<W: Sink>(n: u32, writer: &mut W) -> Result<(), WriteFailed>
+    requires { n ≤ MAX_PAGES }
+    ensures { Puts (W.output writer.old) (W.output writer.new) result (whole_rows_text n) }
+{
+    if n >= POOL_COLUMNS {
+        print_grid_box(0, ROW_WIDTH, CELL * (n / POOL_COLUMNS), writer)
+    } else {
+        Ok(())
+    }
+}
+
+/// Writes the rest of n pages, if there is one.
+fn print_rest_row<W: Sink>(n: u32, writer: &mut W) -> Result<(), WriteFailed>
+    requires { n ≤ MAX_PAGES }
+    ensures { Puts (W.output writer.old) (W.output writer.new) result (rest_row_text n) }
+{
+    if n % POOL_COLUMNS != 0 {
+        print_grid_box(
+            CELL * (n / POOL_COLUMNS),
+            CELL * (n % POOL_COLUMNS),
+            CELL,
+            writer,
+        )
+    } else {
+        Ok(())
+    }
+}
+
+/// Writes the number of page k in its square.
+fn print_number<W: Sink>(k: u32, writer: &mut W) -> Result<(), WriteFailed>
+    requires { k ≤ MAX_PAGES }
+    ensures { Puts (W.output writer.old) (W.output writer.new) result (number_text k) }
+{
+    let mut text = Row::new();
+    text.decimal(k);
+    print_words(
+        b"num",
+        cell_x(k) + NUMBER_INDENT,
+        cell_y(k) + NUMBER_BASELINE,
+        text.as_slice(),
+        writer,
+    )
+}
+
+/// Writes n squares with their numbers. Fails only where the writer failed or took none of what it was offered; a front
+/// of the elements is then written.
+pub fn print_grid<W: Sink>(n: u32, writer: &mut W) -> Result<(), WriteFailed>
+    requires { n ≤ MAX_PAGES }
+    ensures { Puts (W.output writer.old) (W.output writer.new) result (grid_text n) }
+{
+    put(writer, b"<g id=\"grid\">\n")?;
+    print_whole_rows(n, writer)?;
+    print_rest_row(n, writer)?;
+    print_numbers(n, writer)?;
+    put(writer, b"</g>\n")
+}
+
+/// Writes the numbers of n pages.
+fn print_numbers<W: Sink>(n: u32, writer: &mut W) -> Result<(), WriteFailed>
+    requires { n ≤ MAX_PAGES }
+    ensures { Puts (W.output writer.old) (W.output writer.new) result (flat_map number_text (range_with_len 0 n)) }
+{
+    for k in 0..n {
+        print_number(k, writer)?;
+    }
+    Ok(())
+}
+
+// ---- tags, and what stands at the left
+
+/// Writes a tag in the squares of some pages. Fails only where the writer failed or took none of what it was offered; a
+/// front of the elements is then written.
+pub fn print_tags<W: Sink>(tag: &[u8], pages: &[u16], writer: &mut W) -> Result<(), WriteFailed>
+    requires { AreBelow MAX_PAGES pages.now }
+    ensures { Puts (W.output writer.old) (W.output writer.new) result (flat_map (tag_text tag.now) pages.now) }
+{
+    let mut rest = pages;
+    while let Some((page, others)) = rest.split_first() {
+        print_tag(tag, *page, writer)?;
+        rest = others;
+    }
+    Ok(())
+}
+
+/// Writes a tag in the square of page k.
+fn print_tag<W: Sink>(tag: &[u8], k: u16, writer: &mut W) -> Result<(), WriteFailed>
+    requires { k < MAX_PAGES }
+    ensures { Puts (W.output writer.old) (W.output writer.new) result (tag_text tag.now k) }
+{
+    let page = u32::from(k);
+    print_words(
+        b"tag",
+        cell_x(page) + CELL / 2,
+        cell_y(page) + TAG_BASELINE,
+        tag,
+        writer,
+    )
+}
+
+/// Adds how many pages of so many are free.
+fn add_free(row: &mut Row, free: u32, pages: u32)
+    requires { length row.old + 31 ≤ ROW }
+    ensures value { row.new ≡ row.old ++ free_text free pages }
+    ensures few { length row.new ≤ length row.old + 31 }
+{
+    row.decimal(free);
+    row.text(b" of ");
+    row.decimal(pages);
+    row.text(b" free");
+}
+
+/// Writes the name of the pool and how much of it is free. Fails only where the writer failed or took none of what it
+/// was offered; a front of the elements is then written.
+pub fn print_pool_side<W: Sink>(free: u32, pages: u32, writer: &mut W) -> Result<(), WriteFailed>
+    ensures { Puts (W.output writer.old) (W.output writer.new) result (pool_side free pages) }
+{
+    let mut note = Row::new();
+    add_free(&mut note, free, pages);
+    print_words(b"side", 0, POOL_NAME_Y, b"Pool", writer)?;
+    print_words(b"small", 0, POOL_NOTE_Y, note.as_slice(), writer)
+}

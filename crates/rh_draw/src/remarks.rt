@@ -1,0 +1,101 @@
+//! Remarks of a script.
+
+ghost use Rattle.std.specs.Prelude.{◌≡◌, ◌≤◌, length, map};
+ghost use Rattle.rh_lines.specs.Flow.{Puts};
+ghost use Rattle.rh_sheet.specs.Markup.{escape};
+ghost use Rattle.rh_sheet.specs.Steps.{remark_byte as remark_byte_of, remark_class as remark_class_of, remark_text, remark_words as remark_words_of, sign_length as length_of_sign, stripped as stripped_of, without_indent};
+
+use crate::escape::put_escaped;
+use rh_lines::{Sink, WriteFailed, put};
+use rh_map::is_mark;
+
+/// A byte of a remark as it is shown: a space in place of one below 32, and of 127.
+fn remark_byte(byte: u8) -> u8
+    ensures { result ≡ remark_byte_of byte }
+{
+    if byte < b' ' || byte == 127 {
+        b' '
+    } else {
+        byte
+    }
+}
+
+/// Writes a remark, if it has words. Fails only where the writer failed or took none of what it was offered; a front of
+/// it is then written.
+pub fn print_remark<W: Sink>(line: &[u8], writer: &mut W) -> Result<(), WriteFailed>
+    ensures { Puts (W.output writer.old) (W.output writer.new) result (remark_text line.now) }
+{
+    let words = remark_words(line);
+    if words.is_empty() {
+        return Ok(());
+    }
+    put(writer, b"<p class=\"")?;
+    put(writer, remark_class(line))?;
+    put(writer, b"\">")?;
+    put_remark(words, writer)?;
+    put(writer, b"</p>\n")
+}
+
+/// The class of a remark.
+fn remark_class(line: &[u8]) -> &'static [u8]
+    ensures value { result.now ≡ remark_class_of line.now }
+    ensures few { length result.now ≤ 6 }
+{
+    if is_mark(line) { b"title" } else { b"remark" }
+}
+
+/// The bytes of a remark whose forms are its words: without its sign, and without what is shown as spaces at its ends.
+fn remark_words(line: &[u8]) -> &[u8]
+    ensures { map remark_byte_of result.now ≡ remark_words_of line.now }
+{
+    let behind = unindented(line);
+    let count = sign_length(line).min(behind.len());
+    stripped(&behind[count..])
+}
+
+/// So many bytes of a remark are its sign.
+fn sign_length(line: &[u8]) -> usize
+    ensures { result ≡ length_of_sign line.now }
+{
+    if is_mark(line) { 8 } else { 1 }
+}
+
+/// The text without bytes at its beginning that are shown as spaces.
+fn unindented(text: &[u8]) -> &[u8]
+    ensures { map remark_byte_of result.now ≡ without_indent (map remark_byte_of text.now) }
+{
+    let mut rest = text;
+    while let Some((first, others)) = rest.split_first() {
+        if remark_byte(*first) != b' ' {
+            return rest;
+        }
+        rest = others;
+    }
+    rest
+}
+
+/// The text without bytes at its ends that are shown as spaces.
+fn stripped(text: &[u8]) -> &[u8]
+    ensures { map remark_byte_of result.now ≡ stripped_of (map remark_byte_of text.now) }
+{
+    let mut front = unindented(text);
+    while let Some((last, others)) = front.split_last() {
+        if remark_byte(*last) != b' ' {
+            return front;
+        }
+        front = others;
+    }
+    front
+}
+
+/// Writes the words of a remark.
+fn put_remark<W: Sink>(words: &[u8], writer: &mut W) -> Result<(), WriteFailed>
+    ensures { Puts (W.output writer.old) (W.output writer.new) result (escape (map remark_byte_of words.now)) }
+{
+    let mut rest = words;
+    while let Some((first, others)) = rest.split_first() {
+        put_escaped(&[remark_byte(*first)], writer)?;
+        rest = others;
+    }
+    Ok(())
+}

@@ -1,0 +1,171 @@
+//! The rows of an area: a page each.
+
+ghost use Rattle.std.specs.Prelude.{◌≤◌, ◌<◌, ◌^◌, length};
+ghost use Rattle.rh_defs.specs.declared.sizes.TheConstants.{MAX_PAGES};
+ghost use Rattle.rh_draw.specs.Pieces.{AreDrawable};
+ghost use Rattle.rh_draw.specs.Rows.{plot_of};
+ghost use Rattle.rh_draw.specs.Tints.{tint_class};
+ghost use Rattle.rh_lines.specs.Flow.{Puts};
+ghost use Rattle.rh_sheet.specs.Frames.{shown_rows as shown_rows_of};
+ghost use Rattle.rh_sheet.specs.Markup.{box_text};
+ghost use Rattle.rh_sheet.specs.Rows.{addressed_text, chip_text, gap_text, page_box, page_row_text, row_text, rows_text};
+
+use crate::boxes::{Extent, print_box, print_words};
+use crate::frames::{page_in, row_y, shown_rows};
+use crate::pieces::print_pieces;
+use crate::tints::{Tint, add_tint};
+use rh_defs::sizes::PAGE;
+use rh_figure::Piece;
+use rh_figure::limits::EDGE_ROWS;
+use rh_lines::{Row, Sink, WriteFailed};
+use rh_map::add_pages;
+use rh_sheet::Frame;
+use rh_sheet::sizes::{BASELINE, CHIP_LEFT, CHIP_WIDTH, LEFT, ROW_HEIGHT, ROW_WIDTH};
+
+/// An area as it is drawn: its first address, the numbers of its pages in the pool from below, what lies in it, and its
+/// owner's tint.
+#[derive(Clone, Copy)]
+pub struct Plot<'a> {
+    pub start: u32,
+    pub pages: &'a [u16],
+    pub pieces: &'a [Piece],
+    pub tint: Tint,
+}
+
+/// Writes a rectangle as wide as a page.
+fn print_page_box<W: Sink>(class: &[u8], y: u32, writer: &mut W) -> Result<(), WriteFailed>
+    requires { length class.now ≤ 8 }
+    ensures { Puts (W.output writer.old) (W.output writer.new) result (box_text (page_box class.now y)) }
+{
+    let at = Extent {
+        x: LEFT,
+        y,
+        width: ROW_WIDTH,
+        height: ROW_HEIGHT,
+    };
+    print_box(class, at, b"", writer)
+}
+
+/// Writes the number of a page in the pool, in its owner's tint.
+fn print_chip<W: Sink>(tint: Tint, y: u32, number: u16, writer: &mut W) -> Result<(), WriteFailed>
+    requires { y ≤ 800 }
+    ensures { Puts (W.output writer.old) (W.output writer.new) result (chip_text (tint_class tint) y number) }
+{
+    let mut class = Row::new();
+    class.text(b"chip ");
+    add_tint(&mut class, tint);
+    let mut text = Row::new();
+    text.decimal(u32::from(number));
+    let at = Extent {
+        x: CHIP_LEFT,
+        y,
+        width: CHIP_WIDTH,
+        height: ROW_HEIGHT,
+    };
+    print_box(class.as_slice(), at, b"", writer)?;
+    print_words(
+        b"chipn",
+        CHIP_LEFT + CHIP_WIDTH / 2,
+        y + BASELINE,
+        text.as_slice(),
+        writer,
+    )
+}
+
+/// Writes page k of an area, which it has, with all that lies in it.
+fn print_page_row<W: Sink>(
+    plot: &Plot<'_>,
+    y: u32,
+    k: usize,
+    writer: &mut W,
+) -> Result<(), WriteFailed>
+    requires start { plot.now.start < 2 ^ 30 }
+    requires height { y ≤ 800 }
+    requires few { length plot.now.pages.now ≤ MAX_PAGES }
+    requires within { k < length plot.now.pages.now }
+    requires pieces { AreDrawable plot.now.pieces.now }
+    ensures { Puts (W.output writer.old) (W.output writer.new) result (page_row_text (plot_of plot.now) y k) }
+{
+    print_chip(plot.tint, y, plot.pages[k], writer)?;
+    print_page_box(b"row", y, writer)?;
+    print_pieces(plot.start, plot.tint, y, k, plot.pieces, writer)
+}
+
+/// Writes page k of an area by its address; one that was given back is an empty row.
+fn print_addressed<W: Sink>(
+    plot: &Plot<'_>,
+    y: u32,
+    k: usize,
+    writer: &mut W,
+) -> Result<(), WriteFailed>
+    requires start { plot.now.start < 2 ^ 30 }
+    requires height { y ≤ 800 }
+    requires few { length plot.now.pages.now ≤ MAX_PAGES }
+    requires page { k < MAX_PAGES }
+    requires pieces { AreDrawable plot.now.pieces.now }
+    ensures { Puts (W.output writer.old) (W.output writer.new) result (addressed_text (plot_of plot.now) y k) }
+{
+    let mut text = Row::new();
+    text.address(plot.start + (PAGE * k) as u32);
+    print_words(b"addr", 0, y + BASELINE, text.as_slice(), writer)?;
+    if k < plot.pages.len() {
+        print_page_row(plot, y, k, writer)
+    } else {
+        print_page_box(b"gone", y, writer)
+    }
+}
+
+/// Writes the row that counts the pages between the ends of n.
+fn print_gap<W: Sink>(n: usize, y: u32, writer: &mut W) -> Result<(), WriteFailed>
+    requires pages { n ≤ MAX_PAGES }
+    requires height { y ≤ 800 }
+    ensures { Puts (W.output writer.old) (W.output writer.new) result (gap_text n y) }
+{
+    let mut text = Row::new();
+    add_pages(&mut text, n.saturating_sub(2 * EDGE_ROWS) as u32);
+    text.text(b" between");
+    print_words(
+        b"gap",
+        LEFT + ROW_WIDTH / 2,
+        y + BASELINE,
+        text.as_slice(),
+        writer,
+    )
+}
+
+/// Writes row i from below of an area. Fails only where the writer failed or took none of what it was offered; a front
+/// of the row is then written.
+pub fn print_row<W: Sink>(
+    frame: Frame,
+    plot: &Plot<'_>,
+    i: usize,
+    writer: &mut W,
+) -> Result<(), WriteFailed>
+    requires start { plot.now.start < 2 ^ 30 }
+    requires few { length plot.now.pages.now ≤ MAX_PAGES }
+    requires frame { frame.pages ≤ MAX_PAGES }
+    requires within { i < shown_rows_of frame.pages }
+    requires pieces { AreDrawable plot.now.pieces.now }
+    ensures { Puts (W.output writer.old) (W.output writer.new) result (row_text frame (plot_of plot.now) i) }
+{
+    let y = row_y(frame, i);
+    match page_in(frame.pages, i) {
+        None => print_gap(frame.pages, y, writer),
+        Some(k) => print_addressed(plot, y, k, writer),
+    }
+}
+
+/// Writes all rows of an area. Fails only where the writer failed or took none of what it was offered; a front of the
+/// rows is then written.
+pub fn print_rows<W: Sink>(frame: Frame, plot: &Plot<'_>, writer: &mut W) -> Result<(), WriteFailed>
+    requires start { plot.now.start < 2 ^ 30 }
+    requires few { length plot.now.pages.now ≤ MAX_PAGES }
+    requires frame { frame.pages ≤ MAX_PAGES }
+    requires pieces { AreDrawable plot.now.pieces.now }
+    ensures { Puts (W.output writer.old) (W.output writer.new) result (rows_text frame (plot_of plot.now)) }
+{
+    for i in 0..shown_rows(frame.pages) {
+        print_row(frame, plot, i, writer)?;
+    }
+    Ok(())
+}

@@ -1,0 +1,118 @@
+//! A step: its beginning, its command and reply, and that memory stays.
+
+ghost use Rattle.std.specs.Prelude.{◌≡◌, ◌≤◌, ◌<◌, ◌+◌, ◌^◌, ℕ, List, ◌++◌, length, map};
+ghost use Rattle.rh_figure.specs.Map.{shown_byte as shown_byte_of};
+ghost use Rattle.rh_figure.specs.declared.limits.TheConstants.{LINE_COLUMNS};
+ghost use Rattle.rh_lines.specs.Flow.{Puts};
+ghost use Rattle.rh_lines.specs.declared.row.TheConstants.{ROW};
+ghost use Rattle.rh_sheet.specs.Steps.{back_link, command_text, last_figure, reply_shown, said_text, step_open, still_text};
+
+use crate::escape::put_between;
+use crate::links::add_step_link;
+use rh_figure::limits::LINE_COLUMNS;
+use rh_lines::{Row, Sink, WriteFailed, put};
+use rh_map::shown_byte;
+
+/// Adds a link to the step before step n, where there is one.
+fn add_back_link(row: &mut Row, n: u32)
+    requires { length row.old + 40 ≤ ROW }
+    ensures value { row.new ≡ row.old ++ back_link n }
+    ensures few { length row.new ≤ length row.old + 40 }
+{
+    if n > 1 {
+        add_step_link(row, n - 1, b"&#9664;");
+    } else {
+        row.text(b"<span>&#9664;</span>");
+    }
+}
+
+/// Writes the beginning of step n of those that are shown. Fails only where the writer failed or took none of what it
+/// was offered; a front of it is then written.
+pub fn print_step_open<W: Sink>(n: u32, writer: &mut W) -> Result<(), WriteFailed>
+    requires { n < 2 ^ 31 }
+    ensures { Puts (W.output writer.old) (W.output writer.new) result (step_open n) }
+{
+    let mut row = Row::new();
+    row.text(b"<section id=\"d");
+    row.decimal(n);
+    row.text(b"\">\n<div class=\"says\">\n<nav>");
+    add_back_link(&mut row, n);
+    row.byte(b' ');
+    add_step_link(&mut row, n + 1, b"&#9654;");
+    row.text(b" <a href=\"#all\">all</a></nav>\n");
+    put(writer, row.as_slice())
+}
+
+/// A line of a script as it is shown.
+fn command_row(line: &[u8]) -> Row
+    ensures value { result ≡ command_text line.now }
+    ensures few { length result ≤ LINE_COLUMNS }
+{
+    let mut row = Row::new();
+    if line.len() <= LINE_COLUMNS {
+        add_shown(&mut row, line);
+    } else {
+        add_shown(&mut row, &line[..LINE_COLUMNS - 2]);
+        row.text(b"..");
+    }
+    row
+}
+
+/// Adds bytes as they are shown.
+fn add_shown(row: &mut Row, text: &[u8])
+    requires { length row.old + length text.now ≤ ROW }
+    ensures { row.new ≡ row.old ++ map shown_byte_of text.now }
+{
+    for byte in text {
+        row.byte(shown_byte(*byte));
+    }
+}
+
+/// Writes the number of a step, its line of the script, and its reply, of which `shown` are the lines that are shown, a
+/// line feed between two. Fails only where the writer failed or took none of what it was offered; a front of it is then
+/// written.
+pub fn print_said<W: Sink>(
+    step: u32,
+    line: &[u8],
+    shown: &[u8],
+    writer: &mut W,
+) -> Result<(), WriteFailed>
+    ensures { (reply : List ℕ) → reply_shown reply ≡ shown.now → Puts (W.output writer.old) (W.output writer.new) result (said_text step line.now reply) }
+{
+    let command = command_row(line);
+    let mut row = Row::new();
+    row.text(b"<h2><b>");
+    row.decimal(step);
+    row.text(b"</b> <code>");
+    put_between(
+        row.as_slice(),
+        command.as_slice(),
+        b"</code></h2>\n<pre>",
+        writer,
+    )?;
+    put_between(b"", shown, b"</pre>\n", writer)
+}
+
+/// Adds where the last figure is, if there is one.
+fn add_last_figure(row: &mut Row, last: u32)
+    requires { length row.old + 50 ≤ ROW }
+    ensures value { row.new ≡ row.old ++ last_figure last }
+    ensures few { length row.new ≤ length row.old + 50 }
+{
+    if last != 0 {
+        row.text(b": see ");
+        add_step_link(row, last, b"the last figure");
+    }
+}
+
+/// Writes that there is no figure, and where the last one is, 0 for none. Fails only where the writer failed or took
+/// none of what it was offered; a front of it is then written.
+pub fn print_still<W: Sink>(last: u32, writer: &mut W) -> Result<(), WriteFailed>
+    ensures { Puts (W.output writer.old) (W.output writer.new) result (still_text last) }
+{
+    let mut row = Row::new();
+    row.text(b"<p class=\"still\">Memory stays as it is");
+    add_last_figure(&mut row, last);
+    row.text(b".</p>\n");
+    put(writer, row.as_slice())
+}

@@ -1,0 +1,5 @@
+mod Escapes
+mod Inside
+mod Slides
+mod Alike
+mod Worked

@@ -1,0 +1,17 @@
+pub mod Markup
+pub mod Owners
+pub mod Frames
+pub mod Pieces
+pub mod Rows
+pub mod Cards
+pub mod Arrows
+pub mod Pool
+pub mod Areas
+pub mod Tables
+pub mod Chart
+pub mod Steps
+pub mod Fixed
+pub mod Sheet
+pub mod Laws
+pub mod Slides
+pub mod Whole

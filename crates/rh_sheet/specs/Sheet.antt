@@ -1,0 +1,189 @@
+-- What `draw` writes: one sheet of HTML with a figure of memory after each command of a script.
+use Rattle.std.specs.Prelude.{ℕ, ◌+◌, ◌==◌, nat_lt, ◌&&◌, ◌||◌, not, Bool, true, false, if◌then◌else◌, List, [], ◌∷◌, ◌++◌, length, codes, Some, None, Ok, Err}
+use Rattle.std.specs.List.{concat, flat_map, range_with_len}
+use Rattle.std.specs.Fmt.{decimal}
+use Rattle.rh_defs.specs.declared.command.Command.{Command}
+use Rattle.rh_defs.specs.declared.reply.Reply.{Reply}
+use Rattle.rh_defs.specs.declared.reply.Reply.TheVariants as reply
+use Rattle.rh_defs.specs.declared.fault.LineFault.{LineFault}
+use Rattle.rh_defs.specs.Files.{FileList}
+use Rattle.rh_defs.specs.Line.{words_of}
+use Rattle.rh_defs.specs.Desk.{Desk}
+use Rattle.rh_defs.specs.Step.{step}
+use Rattle.rh_defs.specs.Text.{reply_text, fault_text}
+use Rattle.rh_figure.specs.Share.{Share}
+use Rattle.rh_figure.specs.Scene.{Scene, Before, before_of, marks_of, is_still, scene_of}
+use Rattle.rh_figure.specs.Phrases.{Text, where_so}
+use Rattle.rh_figure.specs.Map
+use Rattle.rh_figure.specs.Map.{Place, Read, Stage, after_read, first_place, is_mark}
+use Rattle.rh_sheet.specs.declared.sizes.TheConstants.{MOST_STEPS}
+use Rattle.rh_sheet.specs.Markup.{escape, step_link}
+use Rattle.rh_sheet.specs.Fixed.{style_text, signs_text, key_text}
+use Rattle.rh_sheet.specs.Pool.{grid_text}
+use Rattle.rh_sheet.specs.Chart.{Note, noted}
+use Rattle.rh_sheet.specs.Steps.{figure_text, step_open, step_text, remark_text, said_end, step_end}
+
+-- ---- head and foot
+
+-- the head of a sheet with a title
+abbrev pub title_text : Text → Text
+title_text name = concat (
+    codes "<!DOCTYPE html>\n<html lang=\"en\" xmlns=\"http://www.w3.org/1999/xhtml\">\n<head>\n<meta charset=\"utf-8\"/>\n"
+    ∷ codes "<meta name=\"viewport\" content=\"width=device-width, initial-scale=1\"/>\n<title>" ∷ escape name
+    ∷ codes "</title>\n<style>\n" ∷ style_text ∷ codes "</style>\n</head>\n" ∷ []
+    )
+
+-- what the figures of a sheet share: patterns, arrowheads, and the grid of the pool
+abbrev pub shared_text : ℕ → Text
+shared_text pages = concat (
+    codes "<svg class=\"defs\" aria-hidden=\"true\"><defs>\n" ∷ signs_text ∷ grid_text pages ∷ codes "</defs></svg>\n" ∷ []
+    )
+
+-- the beginning of a sheet over so many pages: its name, and how its figures are read
+abbrev pub sheet_head : Text → ℕ → Text
+sheet_head name pages = concat (
+    title_text name ∷ codes "<body id=\"all\">\n" ∷ shared_text pages ∷ codes "<header><h1>" ∷ escape name
+    ∷ codes "</h1>\n" ∷ key_text ∷ codes "</header>\n<main>\n" ∷ []
+    )
+
+-- how many commands have no step, if some have none
+abbrev pub left_text : ℕ → Text
+left_text left =
+    where_so (not (left == 0)) (concat (codes "<p>Commands not drawn: " ∷ decimal left ∷ codes ".</p>\n" ∷ []))
+
+-- a link to step n by its number
+abbrev pub numbered_link : ℕ → Text
+numbered_link n = step_link n (decimal n) ++ codes "\n"
+
+-- the end of a sheet of n steps, with a link to each
+abbrev pub sheet_foot : ℕ → ℕ → Text
+sheet_foot n left = concat (
+    left_text left ∷ codes "</main>\n<nav id=\"d" ∷ decimal (n + 1) ∷ codes "\">\n"
+    ∷ flat_map numbered_link (range_with_len 1 n) ∷ codes "</nav>\n</body>\n</html>\n" ∷ []
+    )
+
+-- ---- from line to line
+
+-- Where a sheet stands between two lines: where a map would; how many steps it has, the last one with a figure, and how
+-- many commands have none; whether a step was begun by a remark; and what is kept of the last messages.
+pub record Walk : Type 0 where
+  pub place : Place
+  pub shown : ℕ
+  pub last : ℕ
+  pub left : ℕ
+  pub opened : Bool
+  pub notes : List Note
+
+-- whether the next command gets a step, where a mark was seen or not
+abbrev pub is_shown : Bool → Walk → Bool → Bool
+is_shown marked x wanted = nat_lt x.shown MOST_STEPS && (not marked || wanted)
+
+-- the beginning of the next step, if no remark has written it
+abbrev pub opening : Walk → Text
+opening x = if x.opened then [] else step_open (x.shown + 1)
+
+-- a command, or none for a bad line, with what stands before and behind it
+pub record Happened : Type 0 where
+  pub scene : Scene
+  pub reply : Text
+  pub still : Bool
+
+abbrev pub command_happened : Share → Command → Before → Desk × Reply → Happened
+command_happened s c b after = record {
+  scene = scene_of after.0 s b (marks_of after.0 b (Some c) after.1);
+  reply = reply_text after.0 c after.1;
+  still = is_still (Some c) after.1;
+}
+
+abbrev pub fault_happened : Share → LineFault → Desk → Happened
+fault_happened s fault d = record {
+  scene = scene_of d s (before_of d None) (marks_of d (before_of d None) None reply.Done);
+  reply = fault_text fault;
+  still = true;
+}
+
+-- the step of a line that isn't skipped
+abbrev pub shown_step : Walk → Text → Happened → Text
+shown_step x line h = opening x ++ step_text
+    (h.still && not x.place.wanted) (x.place.steps + 1) line h.reply h.scene
+    (noted (x.place.steps + 1) h.scene x.notes) x.last
+
+-- where the sheet stands behind a line that isn't skipped, if it gets a step or not
+abbrev pub behind_step : Bool → Walk → Read → Happened → Walk
+behind_step shown x r h = record {
+  place = after_read x.place r;
+  shown = if shown then x.shown + 1 else x.shown;
+  last = if shown && not (h.still && not x.place.wanted) then x.shown + 1 else x.last;
+  left = if shown then x.left else x.left + 1;
+  opened = x.opened && not shown;
+  notes = noted (x.place.steps + 1) h.scene x.notes;
+}
+
+-- what is written of a line that isn't skipped
+abbrev pub happened_text : Bool → Walk → Text → Happened → Text
+happened_text marked x line h = where_so (is_shown marked x x.place.wanted) (shown_step x line h)
+
+-- where the sheet stands behind it
+abbrev pub behind_happened : Bool → Walk → Read → Happened → Walk
+behind_happened marked x r h = behind_step (is_shown marked x x.place.wanted) x r h
+
+-- whether a line that is skipped is shown: it has words, and the next command would get a step
+abbrev pub is_shown_remark : Bool → Walk → Text → Bool
+is_shown_remark marked x line =
+    not (length (words_of line) == 0) && is_shown marked x (x.place.wanted || is_mark line)
+
+-- what is written of a line that is skipped
+abbrev pub skipped_text : Bool → Walk → Text → Text
+skipped_text marked x line = where_so (is_shown_remark marked x line) (opening x ++ remark_text line)
+
+-- where the sheet stands behind it
+abbrev pub behind_skipped : Bool → Walk → Read → Walk
+behind_skipped marked x r =
+    record x { place = after_read x.place r; opened = x.opened || is_shown_remark marked x r.0 }
+
+-- what is written of a line with its meaning, where the pool is shared out so behind it
+abbrev pub read_text : Bool → Share → Walk → Read → Text
+read_text marked s x (line, Ok None) = skipped_text marked x line
+read_text marked s x (line, Ok (Some c)) = happened_text
+    marked x line (command_happened s c (before_of x.place.desk (Some c)) (step x.place.desk c))
+read_text marked s x (line, Err fault) = happened_text marked x line (fault_happened s fault x.place.desk)
+
+-- where the sheet stands behind it
+abbrev pub behind_read : Bool → Share → Walk → Read → Walk
+behind_read marked s x (line, Ok None) = behind_skipped marked x (line, Ok None)
+behind_read marked s x (line, Ok (Some c)) = behind_happened
+    marked x (line, Ok (Some c)) (command_happened s c (before_of x.place.desk (Some c)) (step x.place.desk c))
+behind_read marked s x (line, Err fault) =
+    behind_happened marked x (line, Err fault) (fault_happened s fault x.place.desk)
+
+-- the end of a step that a remark has begun and no command has ended
+abbrev pub rest_text : Walk → Text
+rest_text x = where_so x.opened (said_end ++ step_end)
+
+-- how many steps were begun
+abbrev pub begun : Walk → ℕ
+begun x = if x.opened then x.shown + 1 else x.shown
+
+-- the end of a sheet
+abbrev pub sheet_end : Walk → Text
+sheet_end x = rest_text x ++ sheet_foot (begun x) x.left
+
+-- a sheet from a line on
+abbrev pub sheet_lines : Bool → Walk → List Stage → Text
+sheet_lines marked x [] = sheet_end x
+sheet_lines marked x ((r, s) ∷ rest) = read_text marked s x r ++ sheet_lines marked (behind_read marked s x r) rest
+
+-- before the first line
+abbrev pub first_walk : ℕ → FileList → Walk
+first_walk pages files =
+    record { place = first_place pages files; shown = 0; last = 0; left = 0; opened = false; notes = [] }
+
+-- all that `draw` writes of the lines of a script with a name, each with the share behind it, over so many pages with
+-- these files; of all commands, or of marked ones alone
+abbrev pub sheet_text : Bool → Text → List Stage → ℕ → FileList → Text
+sheet_text marked name stages pages files = sheet_head name pages ++ sheet_lines marked (first_walk pages files) stages
+
+-- opens all that a sheet computes with
+unfoldable pub computing : Unit {0}
+unfolding Map.computing figure_text
+computing = tt

@@ -1,0 +1,26 @@
+//! Laws of sheets over the definitions alone, each the contract of a function with nothing to do.
+
+ghost use Rattle.rh_sheet.specs.Laws.{DrawsNoOrder, EscapesAll, LiesInside};
+ghost use Rattle.rh_sheet.specs.Slides.{SlideInSlots};
+
+/// Whatever stands in a text or a tip: no `<`, `>` or `"` is in it, and `&` only before the name of a sign. So nothing
+/// that a script or a file says begins or ends an element.
+pub fn escape_law()
+    ensures { EscapesAll }
+{}
+
+/// Each piece of an area lies within the row of its page, and rows, cards and squares within their figure.
+pub fn inside_law()
+    ensures { LiesInside }
+{}
+
+/// At each call on a slot all flex blocks that slide do so the same way and equally far: one arrow says it of all.
+pub fn slide_law()
+    ensures { SlideInSlots }
+{}
+
+/// On two desks that differ in the order of queued messages to different tasks alone, the rest of a script has the same
+/// sheet.
+pub fn sheet_order_law()
+    ensures { DrawsNoOrder }
+{}

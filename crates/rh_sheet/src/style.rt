@@ -1,0 +1,157 @@
+//! How a sheet looks: on a wide screen, on a narrow one, and on paper.
+//!
+//! What belongs to a figure is told apart by shape as well as by colour: a block that may slide is dark, one of a heap
+//! light, a hole striped, free memory white; what a command has changed has a thick edge, what it has given back a
+//! dashed one. Rules for what stands in a figure name one class and no parent: figures use each other's parts.
+
+/// The style of every sheet.
+pub const STYLE: &[u8] = b"\
+:root { --text: #1d2329; --quiet: #5d6671; --edge: #aab2bb; --faint: #d9dee3; --changed: #b3370c; }
+* { box-sizing: border-box; }
+html { font: 16px/1.5 'Source Sans 3', 'Noto Sans', 'Liberation Sans', Arial, sans-serif; }
+body { display: flex; flex-direction: column; max-width: 100rem; margin: 0 auto; padding: 1.25rem 1.5rem 5rem; }
+body { color: var(--text); background: white; }
+code, pre, text { font-family: 'DejaVu Sans Mono', 'Liberation Mono', Menlo, Consolas, monospace; }
+a { color: inherit; }
+
+/* the name of the script, and how figures are read */
+h1 { margin: 0 0 0.5rem; font-size: 1.8rem; line-height: 1.2; }
+header > p { max-width: 46rem; margin: 0.4rem 0; color: var(--quiet); }
+.key { display: grid; grid-template-columns: repeat(auto-fill, minmax(13rem, 1fr)); gap: 0.3rem 1rem; }
+.key { max-width: 60rem; margin: 0.8rem 0 0; padding: 0; font-size: 0.9rem; color: var(--quiet); list-style: none; }
+.key li { display: flex; align-items: center; gap: 0.6rem; }
+.key svg { flex: none; width: 2.75rem; height: 1.1rem; }
+
+/* the links to all steps stand first, though they are written last */
+body > nav { order: -1; margin-bottom: 1.25rem; padding-bottom: 0.4rem; border-bottom: 1px solid var(--faint); }
+body > nav { font-size: 0.85rem; line-height: 1.9; }
+nav a { padding: 0.1rem 0.35rem; border-radius: 3px; text-decoration: none; }
+nav a:hover, nav a:focus { background: var(--faint); }
+
+/* a step: what is said, the figure, and what stands beside it */
+section { margin-top: 1.5rem; padding-top: 1rem; border-top: 1px solid var(--faint); }
+section nav { float: right; margin: 0 0 0.5rem 1rem; color: var(--edge); }
+section nav a { color: var(--quiet); }
+h2 { margin: 0 0 0.25rem; font-size: 1.1rem; font-weight: normal; overflow-wrap: anywhere; }
+h2 b { margin-right: 0.4rem; }
+h3 { margin: 1rem 0 0.3rem; font-size: 0.95rem; font-weight: normal; color: var(--quiet); }
+h3 b { margin-right: 0.4rem; color: var(--text); }
+pre { margin: 0; font-size: 0.88rem; white-space: pre-wrap; overflow-wrap: anywhere; }
+.title { margin: 0 0 0.5rem; font-size: 1.3rem; line-height: 1.3; }
+.remark { margin: 0 0 0.6rem; font-style: italic; }
+.still { margin: 0.5rem 0 0; color: var(--quiet); }
+.says ul { margin: 0.6rem 0 0; padding-left: 1.1rem; }
+.says li::marker { color: var(--changed); }
+.memory { margin-top: 1rem; overflow-x: auto; }
+.memory svg { min-width: 40rem; }
+aside svg { max-width: 22rem; margin-top: 1.25rem; }
+table { width: 100%; margin-top: 1.25rem; border-collapse: collapse; font-size: 0.85rem; }
+caption { font-weight: bold; text-align: left; }
+th, td { padding: 0.2rem 0.6rem 0.2rem 0; border-top: 1px solid var(--faint); text-align: left; vertical-align: top; }
+th { font-weight: normal; color: var(--quiet); }
+
+/* figures */
+svg { display: block; width: 100%; height: auto; overflow: visible; }
+.defs { position: absolute; width: 0; height: 0; }
+text { font-size: 16px; fill: var(--text); }
+.side { font-weight: bold; }
+.small { font-size: 14px; fill: var(--quiet); }
+.num { font-size: 11px; fill: #717a84; }
+.tag { font-size: 13px; font-weight: bold; text-anchor: middle; }
+.addr { fill: var(--quiet); }
+.chipn { font-size: 14px; text-anchor: middle; }
+.lab { font-size: 14px; text-anchor: middle; }
+.gap { fill: var(--quiet); text-anchor: middle; }
+.first { font-size: 15px; font-weight: bold; }
+.line { font-size: 15px; }
+
+/* whose it is: six tints of tasks, the module area, other areas; flex blocks are dark */
+.t0 { fill: #cfe0f3; }
+.t1 { fill: #f6dfa4; }
+.t2 { fill: #d3e8c4; }
+.t3 { fill: #f2d0d8; }
+.t4 { fill: #ded3ee; }
+.t5 { fill: #c3e6e2; }
+.m { fill: #dedfe0; }
+.o { fill: #ece4d4; }
+.flex.t0 { fill: #2f6299; }
+.flex.t1 { fill: #86600a; }
+.flex.t2 { fill: #47742b; }
+.flex.t3 { fill: #94415b; }
+.flex.t4 { fill: #614d98; }
+.flex.t5 { fill: #1f6f6a; }
+
+/* what it is */
+.cells { fill: url(#cells); stroke: var(--edge); }
+.row { fill: white; stroke: var(--edge); }
+.gone { fill: none; stroke: var(--changed); stroke-dasharray: 6 4; }
+.freed { fill: white; stroke: var(--changed); stroke-width: 2; stroke-dasharray: 4 3; }
+.anchors { fill: url(#words); stroke: var(--edge); }
+.tick { stroke: black; stroke-width: 1.5; }
+.head { fill: #4a5159; }
+.used { stroke: #4a5159; }
+.hole { fill: url(#stripes); stroke: #7b838c; }
+.many { fill: url(#words); stroke: #4a5159; }
+.top { fill: none; }
+.spare { fill: none; }
+.flex { stroke: white; stroke-width: 0.5; }
+.fresh { stroke: var(--changed); stroke-width: 3; }
+.lens { fill: #eff2f5; }
+.card { fill: white; stroke: #9aa3ad; stroke-width: 1; }
+.card.hole { stroke-dasharray: 4 3; }
+.card.more { stroke: none; }
+.card.fresh { stroke: var(--changed); stroke-width: 3; }
+.casing { fill: none; stroke: white; stroke-width: 7; }
+.ghost { fill: none; stroke: var(--changed); stroke-width: 2; stroke-dasharray: 3 2; }
+.slide { fill: none; stroke: var(--changed); stroke-width: 2.5; marker-end: url(#point); }
+
+/* words in a piece, which has the same class */
+.lab.used, .lab.hole, .lab.flex, .lab.many { stroke: none; }
+.lab.used, .lab.hole, .lab.many { fill: var(--text); }
+.lab.flex { fill: white; }
+.lab.top, .lab.spare { fill: var(--quiet); }
+
+/* messages between the tasks */
+.who { font-size: 14px; font-weight: bold; text-anchor: middle; }
+.dead { fill: #8b939c; text-decoration: line-through; }
+.life { stroke: var(--edge); }
+.beat { font-size: 12px; fill: var(--quiet); }
+.msg { fill: none; stroke: #6b747e; stroke-width: 1.25; marker-end: url(#tip); }
+.waits { stroke-dasharray: 5 4; }
+.msg.now { stroke: var(--changed); stroke-width: 2; marker-end: url(#point); }
+.mname { font-size: 12px; stroke: white; stroke-width: 4px; paint-order: stroke; }
+.mname.now { font-weight: bold; }
+.west { text-anchor: end; }
+
+/* patterns and arrowheads */
+pattern path { fill: none; stroke: #cfd5db; }
+#stripes path { stroke: #69727c; stroke-width: 1.4; }
+#tip path { fill: #6b747e; }
+#point path { fill: var(--changed); }
+
+/* a link to a step shows that step alone */
+@media screen {
+  body:has(section:target) section:not(:target) { display: none; }
+}
+
+/* what is said and what stands beside on the left, the figure on the right */
+@media (min-width: 72rem) {
+  section { display: grid; grid-template: auto 1fr / 20rem minmax(0, 1fr); gap: 0 2.5rem; }
+  .says { grid-area: 1 / 1; }
+  aside { grid-area: 2 / 1; }
+  .memory { grid-area: 1 / 2 / span 2; margin: 0; overflow: visible; }
+}
+
+/* on paper no step is cut, and no link is shown */
+@media print {
+  @page { size: A4; margin: 12mm; }
+  html { font-size: 11px; }
+  body { display: block; max-width: none; padding: 0; }
+  nav { display: none; }
+  section { display: grid; grid-template-columns: 1fr 1fr; gap: 0 2rem; margin-top: 0.8rem; break-inside: avoid; }
+  .says { grid-area: 1 / 1; }
+  aside { grid-area: 1 / 2; }
+  .memory { grid-area: 2 / 1 / auto / span 2; margin-top: 0.6rem; overflow: visible; }
+  .memory svg { min-width: 0; }
+}
+";

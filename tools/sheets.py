@@ -1,0 +1,189 @@
+"""What is wrong with a sheet, the page of HTML that `draw` writes, as far as that can be told without a browser."""
+
+import html.parser
+import re
+import xml.parsers.expat
+
+# Elements without an end, and those that load something or run it.
+VOID = {"meta", "br", "hr", "img", "input", "link", "base", "source", "embed"}
+LOADING = {"script", "link", "img", "image", "iframe", "object", "embed", "audio", "video", "source", "base", "form"}
+LOADING_NAMES = {"src", "srcset", "poster", "data", "action", "formaction", "background", "style"}
+URL = re.compile(r"url\(\s*['\"]?([^)'\"]*)")
+
+
+class Figure:
+    """A figure, or a group that figures use: its width and height, where it has these, and its rectangles."""
+
+    def __init__(self, line, size=None):
+        self.line, self.size = line, size
+        self.boxes = []
+        self.used = []
+
+    def faults(self, groups):
+        """Each rectangle that isn't inside, of the figure's own and of the groups that it uses."""
+        named = [(name, groups.get(name)) for name in self.used]
+        boxes = self.boxes + [box for _, group in named if group for box in group.boxes]
+        return [f"line {box.line}: a rectangle lies outside the figure of line {self.line}"
+                for box in boxes if self.size and not box.is_inside(*self.size)]
+
+
+class Box:
+    """A rectangle, by its corner and size."""
+
+    def __init__(self, line, attributes):
+        self.line = line
+        self.sides = [number(attributes.get(name, "0")) for name in ("x", "y", "width", "height")]
+
+    def is_inside(self, width, height):
+        """Whether it lies between the edges; one whose sides are no numbers lies nowhere."""
+        if None in self.sides:
+            return False
+        x, y, wide, high = self.sides
+        return min(self.sides) >= 0 and x + wide <= width and y + high <= height
+
+
+def number(text):
+    """The number that a text spells, or None."""
+    try:
+        return float(text)
+    except ValueError:
+        return None
+
+
+def size_of(attributes):
+    """The width and height that a figure's viewBox gives it, or None."""
+    sides = [number(word) for word in attributes.get("viewbox", "").split()]
+    return tuple(sides[2:]) if len(sides) == 4 and None not in sides and sides[:2] == [0, 0] else None
+
+
+class Reading(html.parser.HTMLParser):
+    """A sheet as a browser reads it: what stands in it, and the faults that show on the way."""
+
+    def __init__(self):
+        super().__init__(convert_charrefs=True)
+        self.faults = []
+        self.open = []
+        self.ids = {}
+        self.links = []
+        self.figures = []
+        self.groups = {}
+
+    @property
+    def line(self):
+        return self.getpos()[0]
+
+    def fault(self, text):
+        self.faults.append(f"line {self.line}: {text}")
+
+    # ---- elements
+
+    def handle_starttag(self, tag, attrs):
+        self.element(tag, attrs)
+        if tag not in VOID:
+            self.open.append((tag, self.line, self.part(tag, dict(attrs))))
+
+    def handle_startendtag(self, tag, attrs):
+        self.element(tag, attrs)
+
+    def handle_endtag(self, tag):
+        if self.open and self.open[-1][0] == tag:
+            self.open.pop()
+        else:
+            wanted = self.open[-1][0] if self.open else "nothing"
+            self.fault(f"</{tag}> ends what isn't open: {wanted} is")
+
+    def handle_data(self, data):
+        if self.open and self.open[-1][0] == "style":
+            self.style(data)
+
+    def part(self, tag, attributes):
+        """The figure or group that begins here, or else the one that goes on."""
+        around = self.open[-1][2] if self.open else None
+        if tag == "svg":
+            self.figures.append(Figure(self.line, size_of(attributes)))
+            return self.figures[-1]
+        if tag == "g" and attributes.get("id"):
+            self.groups[attributes["id"]] = Figure(self.line)
+            return self.groups[attributes["id"]]
+        return around
+
+    def element(self, tag, attrs):
+        """Notes what an element says, and its faults."""
+        names = [name for name, _ in attrs]
+        for name in sorted({name for name in names if names.count(name) > 1}):
+            self.fault(f"<{tag}> has {name} twice")
+        attributes = {name: value or "" for name, value in attrs}
+        self.loads(tag, attributes)
+        if "id" in attributes:
+            self.name(attributes["id"])
+        self.draws(tag, attributes)
+
+    def name(self, name):
+        if name in self.ids:
+            self.fault(f"the id {name} stands on line {self.ids[name]} too")
+        self.ids.setdefault(name, self.line)
+
+    def draws(self, tag, attributes):
+        """Notes a rectangle, or the use of a group."""
+        around = self.open[-1][2] if self.open else None
+        if tag == "rect" and around:
+            around.boxes.append(Box(self.line, attributes))
+        if tag == "use" and around:
+            around.used.append(attributes.get("href", "").lstrip("#"))
+
+    # ---- what is loaded, and where links lead
+
+    def loads(self, tag, attributes):
+        """Tells what comes from outside or runs, and notes the links within the sheet."""
+        if tag in LOADING:
+            self.fault(f"<{tag}> loads something")
+        for name, value in attributes.items():
+            if name in LOADING_NAMES or name.startswith("on"):
+                self.fault(f"<{tag}> has {name}")
+            if name in ("href", "xlink:href"):
+                self.link(value)
+            self.paints(value)
+
+    def link(self, target):
+        if target.startswith("#"):
+            self.links.append((self.line, target[1:]))
+        else:
+            self.fault(f"a link leads outside, to {target or 'nothing'}")
+
+    def paints(self, text):
+        for target in URL.findall(text):
+            self.link(target)
+
+    def style(self, text):
+        if "@import" in text:
+            self.fault("the style imports another")
+        self.paints(text)
+
+    # ---- at the end
+
+    def end(self):
+        """All faults, those among them that show at the end alone."""
+        self.close()
+        unended = [f"line {line}: <{tag}> has no end" for tag, line, _ in self.open]
+        lost = [f"line {line}: a link leads to {name}, which isn't there"
+                for line, name in self.links if name not in self.ids]
+        outside = [fault for figure in self.figures for fault in figure.faults(self.groups)]
+        return self.faults + unended + lost + outside
+
+
+def ill_formed(text):
+    """Why a text isn't well-formed XML, in a list, which is empty where it is."""
+    parser = xml.parsers.expat.ParserCreate("utf-8")
+    try:
+        parser.Parse(text.encode(), True)
+    except xml.parsers.expat.ExpatError as fault:
+        return [f"line {fault.lineno}: no well-formed XML, {xml.parsers.expat.errors.messages[fault.code]}"]
+    return []
+
+
+def faults_of(content):
+    """What is wrong with a sheet of these bytes. Bytes of remarks that aren't UTF-8 are no fault."""
+    text = content.decode(errors="replace")
+    reading = Reading()
+    reading.feed(text)
+    return ill_formed(text) + reading.end()
