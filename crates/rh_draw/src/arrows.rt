@@ -29,9 +29,7 @@ fn block_place(address: u32) -> usize
     ensures value { result ≡ place_of_block address }
     ensures few { result < 2 ^ 32 }
 {
-    address
-        .saturating_sub(HEADER_BYTES)
-        .saturating_sub(SLOT_START) as usize
+    (address.saturating_sub(HEADER_BYTES) as usize).saturating_sub(SLOT_START)
 }
 
 /// How far from the left a place of an area is in its row.
