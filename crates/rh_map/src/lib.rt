@@ -36,9 +36,9 @@ pub use headings::{
 };
 pub use letterboxes::{MessageEntry, print_letterbox};
 pub use line::{put_line, shown_byte};
-pub use messages::{CardMessage, ChainPlace, print_message_card};
 pub use numbers::add_numbers;
 pub use phrases::{add_pages, add_size};
+pub use messages::{CardMessage, ChainPlace, print_message_card};
 pub use pool::print_pool;
 pub use post_changes::{print_bytes_sent, print_returns, print_sends, print_takes};
 pub use reply::print_reply_lines;
