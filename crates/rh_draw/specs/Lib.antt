@@ -5,3 +5,6 @@ pub mod Pages
 pub mod Rows
 pub mod Cards
 pub mod Arrows
+pub mod Figures
+pub mod Replies
+pub mod Letters

@@ -1,14 +1,18 @@
 //! A step: its beginning, its command and reply, and that memory stays.
 
 ghost use Rattle.std.specs.Prelude.{◌≡◌, ◌≤◌, ◌<◌, ◌+◌, ◌^◌, ℕ, List, ◌++◌, length, map};
-ghost use Rattle.rh_figure.specs.Map.{shown_byte as shown_byte_of};
+ghost use Rattle.rh_defs.specs.Script.{ended};
+ghost use Rattle.rh_draw.specs.Replies.{command_head};
+ghost use Rattle.rh_figure.specs.Map.{reply_lines, shown_byte as shown_byte_of};
 ghost use Rattle.rh_figure.specs.declared.limits.TheConstants.{LINE_COLUMNS};
 ghost use Rattle.rh_lines.specs.Flow.{Puts};
 ghost use Rattle.rh_lines.specs.declared.row.TheConstants.{ROW};
-ghost use Rattle.rh_sheet.specs.Steps.{back_link, command_text, last_figure, reply_shown, said_text, step_open, still_text};
+ghost use Rattle.rh_map.specs.Replies.{excerpt_lines};
+ghost use Rattle.rh_sheet.specs.Steps.{back_link, command_text, last_figure, said_text, step_open, still_text};
 
 use crate::escape::put_between;
 use crate::links::add_step_link;
+use crate::reply::put_reply;
 use rh_figure::limits::LINE_COLUMNS;
 use rh_lines::{Row, Sink, WriteFailed, put};
 use rh_map::shown_byte;
@@ -68,16 +72,26 @@ fn add_shown(row: &mut Row, text: &[u8])
     }
 }
 
-/// Writes the number of a step, its line of the script, and its reply, of which `shown` are the lines that are shown, a
-/// line feed between two. Fails only where the writer failed or took none of what it was offered; a front of it is then
-/// written.
+/// Writes the number of a step, its line of the script, and its reply, by the front of it and the number of lines that
+/// it has. Fails only where the writer failed or took none of what it was offered; a front of it is then written.
 pub fn print_said<W: Sink>(
     step: u32,
     line: &[u8],
-    shown: &[u8],
+    front: &[u8],
+    count: u32,
     writer: &mut W,
 ) -> Result<(), WriteFailed>
-    ensures { (reply : List ℕ) → reply_shown reply ≡ shown.now → Puts (W.output writer.old) (W.output writer.new) result (said_text step line.now reply) }
+    ensures { (reply : List ℕ) → excerpt_lines front.now count ≡ reply_lines (ended reply)
+        → Puts (W.output writer.old) (W.output writer.new) result (said_text step line.now reply) }
+{
+    print_command(step, line, writer)?;
+    put_reply(front, count, writer)?;
+    put(writer, b"</pre>\n")
+}
+
+/// Writes the number of a step and its line of the script.
+fn print_command<W: Sink>(step: u32, line: &[u8], writer: &mut W) -> Result<(), WriteFailed>
+    ensures { Puts (W.output writer.old) (W.output writer.new) result (command_head step line.now) }
 {
     let command = command_row(line);
     let mut row = Row::new();
@@ -89,8 +103,7 @@ pub fn print_said<W: Sink>(
         command.as_slice(),
         b"</code></h2>\n<pre>",
         writer,
-    )?;
-    put_between(b"", shown, b"</pre>\n", writer)
+    )
 }
 
 /// Adds where the last figure is, if there is one.

@@ -1,34 +1,113 @@
 //! Rows of the tables beside a figure.
 
-ghost use Rattle.std.specs.Prelude.{Some};
+ghost use Rattle.std.specs.Prelude.{◌≡◌, ◌≤◌, ◌<◌, ◌^◌, ◌++◌, Some, codes, length};
 ghost use Rattle.std.specs.Fmt.{decimal};
+ghost use Rattle.std.specs.List.{join_by};
 ghost use Rattle.std.specs.Option.{option_map};
+ghost use Rattle.rh_draw.specs.Letters.{behind_commas};
+ghost use Rattle.rh_figure.specs.Phrases.{and_more};
 ghost use Rattle.rh_lines.specs.Flow.{Puts};
+ghost use Rattle.rh_map.specs.Messages.{held_text, letterbox_of, text_of, waits_text};
 ghost use Rattle.rh_map.specs.Sides.{side_of};
-ghost use Rattle.rh_sheet.specs.Markup.{cell_text};
+ghost use Rattle.rh_sheet.specs.Markup.{cell_text, escape};
 ghost use Rattle.rh_sheet.specs.Tables.{letterbox_row, side_cells, transfer_row};
 
+use crate::escape::put_escaped;
 use crate::markup::print_cell;
+use crate::words::{add_entry, add_more};
 use rh_defs::Ref;
 use rh_lines::{Row, Sink, WriteFailed, put};
-use rh_map::{Side, state_name};
+use rh_map::{MessageEntry, Side, state_name};
 
-/// Writes the row of a task's name, what it holds, and what waits for it. Fails only where the writer failed or took
-/// none of what it was offered; a front of the row is then written.
+/// Writes the row of a task's name, what it holds, and the first of `count` messages that wait for it. Fails only where
+/// the writer failed or took none of what it was offered; a front of the row is then written.
 pub fn print_letterbox_row<W: Sink>(
     name: &[u8],
-    held: &[u8],
-    waits: &[u8],
+    held: Option<MessageEntry>,
+    waits: &[MessageEntry],
+    count: usize,
     writer: &mut W,
 ) -> Result<(), WriteFailed>
+    requires { count < 2 ^ 32 }
     ensures { Puts (W.output writer.old) (W.output writer.new) result
-        (letterbox_row (record { name = name.now; held = held.now; waits = waits.now })) }
+        (letterbox_row (letterbox_of name.now held waits.now count)) }
 {
     put(writer, b"<tr>")?;
     print_cell(name, writer)?;
-    print_cell(held, writer)?;
-    print_cell(waits, writer)?;
+    print_cell(held_row(held).as_slice(), writer)?;
+    print_waits(waits, count, writer)?;
     put(writer, b"</tr>\n")
+}
+
+/// What a task holds.
+fn held_row(held: Option<MessageEntry>) -> Row
+    ensures { result ≡ held_text held }
+{
+    let mut row = Row::new();
+    if let Some(entry) = held {
+        add_entry(&mut row, entry);
+    }
+    row
+}
+
+/// Writes the cell of what waits for a task.
+fn print_waits<W: Sink>(
+    waits: &[MessageEntry],
+    count: usize,
+    writer: &mut W,
+) -> Result<(), WriteFailed>
+    requires { count < 2 ^ 32 }
+    ensures { Puts (W.output writer.old) (W.output writer.new) result (cell_text (waits_text waits.now count)) }
+{
+    put(writer, b"<td>")?;
+    put_entries(waits, writer)?;
+    put_more(count, writer)?;
+    put(writer, b"</td>")
+}
+
+/// Writes messages with commas between them.
+fn put_entries<W: Sink>(waits: &[MessageEntry], writer: &mut W) -> Result<(), WriteFailed>
+    ensures { Puts (W.output writer.old) (W.output writer.new) result
+        (escape (join_by text_of (codes ", ") waits.now)) }
+{
+    let Some((first, others)) = waits.split_first() else {
+        return Ok(());
+    };
+    put_entry(b"", *first, writer)?;
+    put_others(others, writer)
+}
+
+/// Writes messages behind commas.
+fn put_others<W: Sink>(others: &[MessageEntry], writer: &mut W) -> Result<(), WriteFailed>
+    ensures { Puts (W.output writer.old) (W.output writer.new) result (escape (behind_commas others.now)) }
+{
+    let mut rest = others;
+    while let Some((entry, behind)) = rest.split_first() {
+        put_entry(b", ", *entry, writer)?;
+        rest = behind;
+    }
+    Ok(())
+}
+
+/// Writes a message behind what stands before it.
+fn put_entry<W: Sink>(before: &[u8], entry: MessageEntry, writer: &mut W) -> Result<(), WriteFailed>
+    requires { length before.now ≤ 2 }
+    ensures { Puts (W.output writer.old) (W.output writer.new) result (escape (before.now ++ text_of entry)) }
+{
+    let mut row = Row::new();
+    row.text(before);
+    add_entry(&mut row, entry);
+    put_escaped(row.as_slice(), writer)
+}
+
+/// Writes how many of n messages aren't named.
+fn put_more<W: Sink>(n: usize, writer: &mut W) -> Result<(), WriteFailed>
+    requires { n < 2 ^ 32 }
+    ensures { Puts (W.output writer.old) (W.output writer.new) result (escape (and_more n)) }
+{
+    let mut row = Row::new();
+    add_more(&mut row, n);
+    put_escaped(row.as_slice(), writer)
 }
 
 /// Writes the cell of a number.

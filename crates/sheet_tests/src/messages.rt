@@ -1,13 +1,13 @@
 //! The chart of messages, and the tables.
 
 use crate::same::same;
-use rh_defs::{Action, Name, RecordItem, Ref, State};
+use rh_defs::{Action, EventCode, Name, RecordItem, Ref, State};
 use rh_draw::{
     Ends, followed, place_among, print_beat, print_letterbox_row, print_life, print_message_arrow,
     print_message_words, print_transfer_row,
 };
 use rh_lines::Flagged;
-use rh_map::Side;
+use rh_map::{MessageEntry, Side};
 use rh_sheet::Note;
 
 fn sent(step: u32) -> Note {
@@ -86,9 +86,18 @@ fn arrows(rt: HostRuntime) {
 #[test]
 fn tables(rt: HostRuntime) {
     let mut writer = Flagged::new(Vec::<u8>::new(rt.alloc()));
+    let entry = MessageEntry {
+        my_ref: Ref(1),
+        action: Action::DataSave,
+        code: EventCode::Recorded,
+    };
+    let back = MessageEntry {
+        code: EventCode::Acknowledge,
+        ..entry
+    };
     same(
         &rt,
-        print_letterbox_row(b"b", b"", b"1 DataSave", &mut writer),
+        print_letterbox_row(b"b", Some(entry), &[back, entry], 14, &mut writer),
         Ok(()),
     );
     let name = Name::new(b"a").expect(&rt, "a name of 1 to 12 bytes");
@@ -106,7 +115,7 @@ fn tables(rt: HostRuntime) {
         Ok(()),
     );
     let wanted =
-        b"<tr><td>b</td><td></td><td>1 DataSave</td></tr>\n<tr><td>1</td><td>a</td><td>open</td><td>5</td><td></td><td></td><td></td></tr>\n";
+        b"<tr><td>b</td><td>1 DataSave</td><td>1 DataSave back, 1 DataSave and 2 more</td></tr>\n<tr><td>1</td><td>a</td><td>open</td><td>5</td><td></td><td></td><td></td></tr>\n";
     let written = writer.into_inner();
     same(&rt, written.as_slice(), wanted.as_slice());
 }

@@ -10,7 +10,7 @@ fn step_without_a_figure(rt: HostRuntime) {
     same(&rt, print_step_open(3, &mut writer), Ok(()));
     same(
         &rt,
-        print_said(3, b"show a 0", b"ok 5 0000000000", &mut writer),
+        print_said(3, b"show a 0", b"ok 5 0000000000\n", 1, &mut writer),
         Ok(()),
     );
     same(&rt, print_still(2, &mut writer), Ok(()));
@@ -27,6 +27,26 @@ fn first_step(rt: HostRuntime) {
     same(&rt, print_step_open(1, &mut writer), Ok(()));
     let wanted =
         b"<section id=\"d1\">\n<div class=\"says\">\n<nav><span>&#9664;</span> <a href=\"#d2\">&#9654;</a> <a href=\"#all\">all</a></nav>\n";
+    let written = writer.into_inner();
+    same(&rt, written.as_slice(), wanted.as_slice());
+}
+
+#[test]
+fn long_reply(rt: HostRuntime) {
+    let mut writer = Flagged::new(Vec::<u8>::new(rt.alloc()));
+    same(
+        &rt,
+        print_said(
+            12,
+            b"heap a",
+            b"ok 2\nused &8100 5\nhole &8110 24\n",
+            16,
+            &mut writer,
+        ),
+        Ok(()),
+    );
+    let wanted =
+        b"<h2><b>12</b> <code>heap a</code></h2>\n<pre>ok 2\nused &amp;8100 5\nhole &amp;8110 24\n  and 2 lines more</pre>\n";
     let written = writer.into_inner();
     same(&rt, written.as_slice(), wanted.as_slice());
 }

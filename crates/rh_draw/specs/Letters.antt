@@ -1,0 +1,10 @@
+-- Messages by what is written of them.
+use Rattle.std.specs.Prelude.{List, ◌++◌, codes}
+use Rattle.std.specs.List.{flat_map}
+use Rattle.rh_figure.specs.Phrases.{Text}
+use Rattle.rh_map.specs.declared.letterboxes.MessageEntry.{MessageEntry}
+use Rattle.rh_map.specs.Messages.{text_of}
+
+-- messages, each behind a comma
+abbrev pub behind_commas : List MessageEntry → Text
+behind_commas entries = flat_map (λ entry. codes ", " ++ text_of entry) entries
