@@ -1,11 +1,11 @@
 //! What leads from the rows of an area to its cards, and ticks in its anchor words.
 
 ghost use Rattle.std.specs.Prelude.{◌≤◌, ◌<◌, ◌+◌};
-ghost use Rattle.rh_draw.specs.declared.lenses.TheConstants.{LOWEST};
+ghost use Rattle.rh_defs.specs.declared.sizes.TheConstants.{MAX_PAGES, PAGE};
 ghost use Rattle.rh_lines.specs.Flow.{Puts};
 ghost use Rattle.rh_sheet.specs.Areas.{last_row_place, lens_above, lens_below, tick_text};
 ghost use Rattle.rh_sheet.specs.Cards.{lens_text};
-ghost use Rattle.rh_defs.specs.declared.sizes.TheConstants.{MAX_PAGES};
+ghost use Rattle.rh_sheet.specs.declared.sizes.TheConstants.{ROW_WIDTH};
 
 use crate::frames::{foot, top};
 use crate::markup::{add_point, add_stretch, print_path};
@@ -15,9 +15,6 @@ use rh_sheet::Frame;
 use rh_sheet::sizes::{
     CARD_GAP, CARD_PITCH, CARDS_ACROSS, LEFT, LENS_HEIGHT, ROW_GAP, ROW_HEIGHT, UNIT_BYTES,
 };
-
-/// No part of a figure is lower.
-const LOWEST: u32 = 2_000;
 
 /// Writes what leads from two places of a row at one height to a row of n cards at another. Fails only where the writer
 /// failed or took none of what it was offered; a front of the element is then written.
@@ -29,7 +26,8 @@ pub fn print_lens<W: Sink>(
     y1: u32,
     writer: &mut W,
 ) -> Result<(), WriteFailed>
-    requires { x0 + x1 ≤ LOWEST }
+    requires from { x0 ≤ ROW_WIDTH }
+    requires to { x1 ≤ ROW_WIDTH }
     ensures { Puts (W.output writer.old) (W.output writer.new) result (lens_text x0 x1 y0 n y1) }
 {
     let mut way = Row::new();
@@ -85,7 +83,7 @@ pub fn print_lens_above<W: Sink>(
 ) -> Result<(), WriteFailed>
     requires frame { frame.pages ≤ MAX_PAGES }
     requires order { low ≤ high }
-    requires within { high ≤ last_row_place frame + 4096 }
+    requires within { high ≤ last_row_place frame + PAGE }
     ensures { Puts (W.output writer.old) (W.output writer.new) result (lens_above frame low high n) }
 {
     let first = PAGE * frame.pages.saturating_sub(1);
