@@ -36,13 +36,25 @@ pub fn print_fixed_area<W: Sink>(
     ensures { Puts (W.output writer.old) (W.output writer.new) result
         (shown_line (heading_line (area_name number) (fixed_note (length pages.now) (listed_pages (length pages.now) pages.now) (scrap_note_of scrap))) ++ codes "\n") }
 {
+    let note = fixed_area_note(pages, scrap);
     let mut row = Row::new();
     row.text(fixed_name(number));
     row.text(b": ");
-    add_pages(&mut row, pages.len() as u32);
-    add_listed(&mut row, pages);
-    add_scrap(&mut row, scrap);
+    row.text(note.as_slice());
     put_line(row.as_slice(), writer)
+}
+
+/// What is said of one of areas 0 to 5 with these pages.
+pub fn fixed_area_note(pages: &[u16], scrap: Option<ScrapFile>) -> Row
+    requires { length pages.now ≤ MAX_PAGES }
+    ensures value { result ≡ fixed_note (length pages.now) (listed_pages (length pages.now) pages.now) (scrap_note_of scrap) }
+    ensures few { length result ≤ 241 }
+{
+    let mut note = Row::new();
+    add_pages(&mut note, pages.len() as u32);
+    add_listed(&mut note, pages);
+    add_scrap(&mut note, scrap);
+    note
 }
 
 /// Writes the line of a made area, with the numbers of its pages. Fails only where the writer failed or took none of
@@ -58,12 +70,24 @@ pub fn print_made_area<W: Sink>(
     ensures { Puts (W.output writer.old) (W.output writer.new) result
         (shown_line (heading_line (area_name number) (made_note (length pages.now) most (listed_pages (length pages.now) pages.now))) ++ codes "\n") }
 {
+    let note = made_area_note(most, pages);
     let mut row = Row::new();
     add_made_name(&mut row, number);
     row.text(b": ");
-    add_part(&mut row, pages.len() as u32, most);
-    add_listed(&mut row, pages);
+    row.text(note.as_slice());
     put_line(row.as_slice(), writer)
+}
+
+/// What is said of a made area with these pages.
+pub fn made_area_note(most: u32, pages: &[u16]) -> Row
+    requires { length pages.now ≤ MAX_PAGES }
+    ensures value { result ≡ made_note (length pages.now) most (listed_pages (length pages.now) pages.now) }
+    ensures few { length result ≤ 207 }
+{
+    let mut note = Row::new();
+    add_part(&mut note, pages.len() as u32, most);
+    add_listed(&mut note, pages);
+    note
 }
 
 /// The name of one of areas 0 to 5.
@@ -94,7 +118,7 @@ fn add_made_name(row: &mut Row, number: u32)
 }
 
 /// Adds the name of an area.
-pub(crate) fn add_area_name(row: &mut Row, number: u32)
+pub fn add_area_name(row: &mut Row, number: u32)
     requires { length row.old + 16 ≤ ROW }
     ensures value { row.new ≡ row.old ++ area_name number }
     ensures few { length row.new ≤ length row.old + 16 }
@@ -133,7 +157,8 @@ fn add_listed(row: &mut Row, pages: &[u16])
 /// Adds a scrap file, if there is one.
 fn add_scrap(row: &mut Row, scrap: Option<ScrapFile>)
     requires { length row.old + 58 ≤ ROW }
-    ensures { row.new ≡ row.old ++ scrap_note_of scrap }
+    ensures value { row.new ≡ row.old ++ scrap_note_of scrap }
+    ensures few { length row.new ≤ length row.old + 58 }
 {
     if let Some(file) = scrap {
         add_file(row, file.size, file.load);
@@ -142,7 +167,8 @@ fn add_scrap(row: &mut Row, scrap: Option<ScrapFile>)
 
 fn add_file(row: &mut Row, size: u32, load: Ref)
     requires { length row.old + 58 ≤ ROW }
-    ensures { row.new ≡ row.old ++ scrap_note size load }
+    ensures value { row.new ≡ row.old ++ scrap_note size load }
+    ensures few { length row.new ≤ length row.old + 58 }
 {
     row.text(b", scrap file of ");
     add_size(row, size);
@@ -151,7 +177,8 @@ fn add_file(row: &mut Row, size: u32, load: Ref)
 
 fn add_load(row: &mut Row, load: Ref)
     requires { length row.old + 25 ≤ ROW }
-    ensures { row.new ≡ row.old ++ (codes " for DataLoad " ++ decimal load) }
+    ensures value { row.new ≡ row.old ++ (codes " for DataLoad " ++ decimal load) }
+    ensures few { length row.new ≤ length row.old + 25 }
 {
     row.text(b" for DataLoad ");
     row.decimal(load.0);

@@ -6,13 +6,13 @@ ghost use Rattle.rh_figure.specs.Map.{shown_line};
 ghost use Rattle.rh_lines.specs.Flow.{Puts};
 ghost use Rattle.rh_lines.specs.declared.row.TheConstants.{ROW};
 
-use crate::line::put_line;
+use crate::changes::print_change;
 use crate::phrases::add_size;
 use rh_defs::Anchor;
 use rh_lines::{Row, Sink, WriteFailed};
 
-/// A block's name behind two spaces.
-const BLOCK: &[u8; 13] = b"  Flex block ";
+/// What a block is called.
+const BLOCK: &[u8; 11] = b"Flex block ";
 
 /// Writes that a flex block is gone. Fails only where the writer failed or took none of what it was offered; a front of
 /// the line is then written.
@@ -20,11 +20,19 @@ pub fn print_block_gone<W: Sink>(anchor: Anchor, writer: &mut W) -> Result<(), W
     ensures { Puts (W.output writer.old) (W.output writer.new) result
         (shown_line (codes "  " ++ gone_line anchor) ++ codes "\n") }
 {
+    print_change(&block_gone(anchor), writer)
+}
+
+/// That a flex block is gone.
+pub fn block_gone(anchor: Anchor) -> Row
+    ensures value { result ≡ gone_line anchor }
+    ensures few { length result ≤ 200 }
+{
     let mut row = Row::new();
     row.text(BLOCK);
     row.decimal(u32::from(anchor.0));
     row.text(b" is gone");
-    put_line(row.as_slice(), writer)
+    row
 }
 
 /// Writes that a flex block is new. Fails only where the writer failed or took none of what it was offered; a front of
@@ -33,11 +41,19 @@ pub fn print_block_new<W: Sink>(anchor: Anchor, writer: &mut W) -> Result<(), Wr
     ensures { Puts (W.output writer.old) (W.output writer.new) result
         (shown_line (codes "  " ++ new_line anchor) ++ codes "\n") }
 {
+    print_change(&block_new(anchor), writer)
+}
+
+/// That a flex block is new.
+pub fn block_new(anchor: Anchor) -> Row
+    ensures value { result ≡ new_line anchor }
+    ensures few { length result ≤ 200 }
+{
     let mut row = Row::new();
     row.text(BLOCK);
     row.decimal(u32::from(anchor.0));
     row.text(b" is new");
-    put_line(row.as_slice(), writer)
+    row
 }
 
 /// Writes that a flex block of so many bytes has another number of them now. Fails only where the writer failed or took
@@ -51,6 +67,14 @@ pub fn print_block_resized<W: Sink>(
     ensures { Puts (W.output writer.old) (W.output writer.new) result
         (shown_line (codes "  " ++ resized_line anchor had has) ++ codes "\n") }
 {
+    print_change(&block_resized(anchor, had, has), writer)
+}
+
+/// That a flex block of so many bytes has another number of them now.
+pub fn block_resized(anchor: Anchor, had: u32, has: u32) -> Row
+    ensures value { result ≡ resized_line anchor had has }
+    ensures few { length result ≤ 200 }
+{
     let mut row = Row::new();
     row.text(BLOCK);
     row.decimal(u32::from(anchor.0));
@@ -58,7 +82,7 @@ pub fn print_block_resized<W: Sink>(
     add_size(&mut row, had);
     row.text(b", now ");
     row.decimal(has);
-    put_line(row.as_slice(), writer)
+    row
 }
 
 /// Writes that so many flex blocks slide, of which the lowest lay at one address, and lies at another. Fails only where
@@ -72,11 +96,18 @@ pub fn print_slide<W: Sink>(
     ensures { Puts (W.output writer.old) (W.output writer.new) result
         (shown_line (codes "  " ++ slide_line count from to) ++ codes "\n") }
 {
+    print_change(&blocks_slide(count, from, to), writer)
+}
+
+/// That so many flex blocks slide, of which the lowest lay at one address, and lies at another.
+pub fn blocks_slide(count: u32, from: u32, to: u32) -> Row
+    ensures value { result ≡ slide_line count from to }
+    ensures few { length result ≤ 200 }
+{
     let mut row = Row::new();
-    row.text(b"  ");
     add_sliding(&mut row, count);
     add_way(&mut row, from, to);
-    put_line(row.as_slice(), writer)
+    row
 }
 
 /// Adds how many blocks slide.

@@ -52,7 +52,7 @@ pub fn print_flex_card<W: Sink>(
 }
 
 /// A flex block's anchor and address.
-fn flex_name(anchor: Anchor, address: u32) -> Row
+pub fn flex_name(anchor: Anchor, address: u32) -> Row
     ensures value { result ≡ concat (codes "anchor " ∷ decimal anchor ∷ codes " " ∷ address_of address ∷ []) }
     ensures few { length result ≤ 40 }
     ensures some { 0 < length result }
@@ -72,10 +72,19 @@ pub fn print_used_card<W: Sink>(block: &CardBlock<'_>, writer: &mut W) -> Result
     ensures { (bytes : List ℕ) → IsFrontOf block.now.size block.now.front.now bytes → Puts (W.output writer.old) (W.output writer.new) result
         (shown_line (card_line (used_card block.now.address bytes (use_text block.now.usage) block.now.fresh)) ++ codes "\n") }
 {
+    print_block(&used_name(block.usage, block.address), block, writer)
+}
+
+/// What a block of a heap is called, and its address.
+pub fn used_name(usage: Usage, address: u32) -> Row
+    ensures value { result ≡ (if length (use_text usage) == 0 then codes "used " else codes "buffer ") ++ address_of address }
+    ensures few { length result ≤ 40 }
+    ensures some { 0 < length result }
+{
     let mut name = Row::new();
-    name.text(block_word(block.usage));
-    name.address(block.address);
-    print_block(&name, block, writer)
+    name.text(block_word(usage));
+    name.address(address);
+    name
 }
 
 /// What a block of a heap is called.
@@ -96,12 +105,21 @@ pub fn print_hole_card<W: Sink>(address: u32, size: u32, writer: &mut W) -> Resu
     ensures { Puts (W.output writer.old) (W.output writer.new) result
         (shown_line (card_line (hole_card address size)) ++ codes "\n") }
 {
+    let mut bytes = Row::new();
+    add_size(&mut bytes, size);
+    print_card(&hole_name(address), &bytes, &Row::new(), false, writer)
+}
+
+/// A hole's address.
+pub fn hole_name(address: u32) -> Row
+    ensures value { result ≡ codes "hole " ++ address_of address }
+    ensures few { length result ≤ 40 }
+    ensures some { 0 < length result }
+{
     let mut name = Row::new();
     name.text(b"hole ");
     name.address(address);
-    let mut bytes = Row::new();
-    add_size(&mut bytes, size);
-    print_card(&name, &bytes, &Row::new(), false, writer)
+    name
 }
 
 /// Writes the card that counts those left out. Fails only where the writer failed or took none of what it was offered;
@@ -110,10 +128,19 @@ pub fn print_more_card<W: Sink>(count: u32, writer: &mut W) -> Result<(), WriteF
     ensures { Puts (W.output writer.old) (W.output writer.new) result
         (shown_line (card_line (more_card count)) ++ codes "\n") }
 {
+    print_card(&others_name(count), &Row::new(), &Row::new(), false, writer)
+}
+
+/// How many are left out.
+pub fn others_name(count: u32) -> Row
+    ensures value { result ≡ decimal count ++ codes " more" }
+    ensures few { length result ≤ 40 }
+    ensures some { 0 < length result }
+{
     let mut name = Row::new();
     name.decimal(count);
     name.text(b" more");
-    print_card(&name, &Row::new(), &Row::new(), false, writer)
+    name
 }
 
 /// Writes the line of a block's card behind its name.
@@ -128,12 +155,31 @@ fn print_block<W: Sink>(
     ensures { Puts (W.output writer.old) (W.output writer.new) result
         (shown_line (texts_line name.now (size_text block.now.size ++ use_text block.now.usage) (front_text block.now.size block.now.front.now) block.now.fresh) ++ codes "\n") }
 {
+    let size = block_size(block);
+    let bytes = block_bytes(block);
+    print_card(name, &size, &bytes, block.fresh, writer)
+}
+
+/// The size of a block, and the transfer that uses it.
+pub fn block_size(block: &CardBlock<'_>) -> Row
+    ensures value { result ≡ size_text block.now.size ++ use_text block.now.usage }
+    ensures few { length result ≤ 40 }
+{
     let mut size = Row::new();
     add_size(&mut size, block.size);
     add_usage(&mut size, block.usage);
+    size
+}
+
+/// The first bytes of a block.
+pub fn block_bytes(block: &CardBlock<'_>) -> Row
+    requires { length block.now.front.now ≤ CARD_BYTES }
+    ensures value { result ≡ front_text block.now.size block.now.front.now }
+    ensures few { length result ≤ 20 }
+{
     let mut bytes = Row::new();
     add_front(&mut bytes, block.size, block.front);
-    print_card(name, &size, &bytes, block.fresh, writer)
+    bytes
 }
 
 /// Adds the transfer that uses a block.

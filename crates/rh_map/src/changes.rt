@@ -25,11 +25,7 @@ pub fn print_area_takes<W: Sink>(
     ensures { Puts (W.output writer.old) (W.output writer.new) result
         (shown_line (codes "  " ++ taken_line (area_name number) pages.now) ++ codes "\n") }
 {
-    let mut row = Row::new();
-    row.text(b"  ");
-    add_area_name(&mut row, number);
-    add_taken(&mut row, pages);
-    put_line(row.as_slice(), writer)
+    print_change(&area_takes(number, pages), writer)
 }
 
 /// Writes which pages the slot of the task with the name has taken. Fails only where the writer failed or took none of
@@ -43,11 +39,7 @@ pub fn print_slot_takes<W: Sink>(
     ensures { Puts (W.output writer.old) (W.output writer.new) result
         (shown_line (codes "  " ++ taken_line (codes "Slot " ++ name.now) pages.now) ++ codes "\n") }
 {
-    let mut row = Row::new();
-    row.text(b"  ");
-    add_slot_name(&mut row, name);
-    add_taken(&mut row, pages);
-    put_line(row.as_slice(), writer)
+    print_change(&slot_takes(name, pages), writer)
 }
 
 /// Writes which pages were given back. Fails only where the writer failed or took none of what it was offered; a front
@@ -57,15 +49,59 @@ pub fn print_freed<W: Sink>(pages: &[u16], writer: &mut W) -> Result<(), WriteFa
     ensures { Puts (W.output writer.old) (W.output writer.new) result
         (shown_line (codes "  " ++ freed_line pages.now) ++ codes "\n") }
 {
+    print_change(&freed(pages), writer)
+}
+
+/// Writes what has changed, behind two spaces.
+pub(crate) fn print_change<W: Sink>(change: &Row, writer: &mut W) -> Result<(), WriteFailed>
+    requires { length change.now ≤ 200 }
+    ensures { Puts (W.output writer.old) (W.output writer.new) result
+        (shown_line (codes "  " ++ change.now) ++ codes "\n") }
+{
     let mut row = Row::new();
     row.text(b"  ");
-    row.text(b"Free again: page ");
-    add_numbers(&mut row, pages);
+    row.text(change.as_slice());
     put_line(row.as_slice(), writer)
 }
 
+/// That an area has taken these pages.
+pub fn area_takes(number: u32, pages: &[u16]) -> Row
+    requires { length pages.now ≤ MAX_PAGES }
+    ensures value { result ≡ taken_line (area_name number) pages.now }
+    ensures few { length result ≤ 200 }
+{
+    let mut row = Row::new();
+    add_area_name(&mut row, number);
+    add_taken(&mut row, pages);
+    row
+}
+
+/// That the slot of the task with the name has taken these pages.
+pub fn slot_takes(name: &Name, pages: &[u16]) -> Row
+    requires { length pages.now ≤ MAX_PAGES }
+    ensures value { result ≡ taken_line (codes "Slot " ++ name.now) pages.now }
+    ensures few { length result ≤ 200 }
+{
+    let mut row = Row::new();
+    add_slot_name(&mut row, name);
+    add_taken(&mut row, pages);
+    row
+}
+
+/// That these pages were given back.
+pub fn freed(pages: &[u16]) -> Row
+    requires { length pages.now ≤ MAX_PAGES }
+    ensures value { result ≡ freed_line pages.now }
+    ensures few { length result ≤ 200 }
+{
+    let mut row = Row::new();
+    row.text(b"Free again: page ");
+    add_numbers(&mut row, pages);
+    row
+}
+
 /// Adds the name of a task's slot.
-fn add_slot_name(row: &mut Row, name: &Name)
+pub fn add_slot_name(row: &mut Row, name: &Name)
     requires { length row.old + 17 ≤ ROW }
     ensures value { row.new ≡ row.old ++ (codes "Slot " ++ name.now) }
     ensures few { length row.new ≤ length row.old + 17 }
@@ -78,7 +114,8 @@ fn add_slot_name(row: &mut Row, name: &Name)
 fn add_taken(row: &mut Row, pages: &[u16])
     requires few { length pages.now ≤ MAX_PAGES }
     requires room { length row.old + 176 ≤ ROW }
-    ensures { row.new ≡ row.old ++ (codes " takes page " ++ listed_numbers pages.now) }
+    ensures value { row.new ≡ row.old ++ (codes " takes page " ++ listed_numbers pages.now) }
+    ensures short { length row.new ≤ length row.old + 176 }
 {
     row.text(b" takes page ");
     add_numbers(row, pages);

@@ -93,12 +93,12 @@ pub fn print_slot_heading<W: Sink>(
     row.text(b" (");
     row.byte(slot.mark);
     row.text(b"): ");
-    add_note(&mut row, slot);
+    add_slot_note(&mut row, slot);
     put_line(row.as_slice(), writer)
 }
 
 /// Adds what is said of a slot.
-fn add_note(row: &mut Row, slot: &SlotHeading<'_>)
+pub fn add_slot_note(row: &mut Row, slot: &SlotHeading<'_>)
     requires { length row.old + 100 ≤ ROW }
     ensures value { row.new ≡ row.old ++ note_of_slot slot.now.manner slot.now.handle slot.now.buffer slot.now.pages slot.now.budging }
 {

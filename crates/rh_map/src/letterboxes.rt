@@ -128,7 +128,7 @@ fn add_more_behind(row: &mut Row, n: usize)
 }
 
 /// Adds a message: its ref and action, and whether it comes back.
-fn add_entry(row: &mut Row, entry: MessageEntry)
+pub fn add_entry(row: &mut Row, entry: MessageEntry)
     requires { length row.old + 28 ≤ ROW }
     ensures value { row.new ≡ row.old ++ text_of entry }
     ensures few { length row.new ≤ length row.old + 28 }

@@ -23,25 +23,40 @@ mod text;
 mod transfers;
 mod who;
 
-pub use areas::{ScrapFile, print_fixed_area, print_made_area};
-pub use block_changes::{print_block_gone, print_block_new, print_block_resized, print_slide};
+pub use areas::{
+    ScrapFile, add_area_name, fixed_area_note, made_area_note, print_fixed_area, print_made_area,
+};
+pub use block_changes::{
+    block_gone, block_new, block_resized, blocks_slide, print_block_gone, print_block_new,
+    print_block_resized, print_slide,
+};
 pub use cards::{
-    CardBlock, Usage, print_flex_card, print_hole_card, print_more_card, print_used_card,
+    CardBlock, Usage, block_bytes, block_size, flex_name, hole_name, others_name, print_flex_card,
+    print_hole_card, print_more_card, print_used_card, used_name,
 };
 pub use cells::cell_mark;
-pub use changes::{print_area_takes, print_freed, print_slot_takes};
+pub use changes::{
+    add_slot_name, area_takes, freed, print_area_takes, print_freed, print_slot_takes, slot_takes,
+};
 pub use front::Front;
 pub use headings::{
-    SlotHeading, area_mark, print_module_heading, print_pool_heading, print_slot_heading, slot_mark,
+    SlotHeading, add_slot_note, area_mark, print_module_heading, print_pool_heading,
+    print_slot_heading, slot_mark,
 };
-pub use letterboxes::{MessageEntry, print_letterbox};
+pub use letterboxes::{MessageEntry, add_entry, print_letterbox};
 pub use line::{put_line, shown_byte};
-pub use numbers::add_numbers;
+pub use messages::{
+    CardMessage, ChainPlace, action_name, message_name, message_place, message_way,
+    print_message_card,
+};
+pub use numbers::{add_more, add_numbers};
 pub use phrases::{add_pages, add_size};
-pub use messages::{CardMessage, ChainPlace, print_message_card};
 pub use pool::print_pool;
-pub use post_changes::{print_bytes_sent, print_returns, print_sends, print_takes};
-pub use reply::print_reply_lines;
+pub use post_changes::{
+    bytes_sent, message_returns, print_bytes_sent, print_returns, print_sends, print_takes,
+    task_sends, task_takes,
+};
+pub use reply::{next_line, print_reply_lines};
 pub use rows::{Area, print_area};
 pub use script_lines::{is_mark, print_remark};
 pub use steps::{add_cut, print_more_lines, print_reply_line, print_step_line, print_still};

@@ -51,13 +51,13 @@ pub fn print_message_card<W: Sink>(
         (shown_line (card_line (card_of message.now)) ++ codes "\n") }
 {
     let name = message_name(message.my_ref, message.action);
-    let way = way_of(message.code, &message.from, &message.to);
-    let place = place_of(message.code, message.place);
+    let way = message_way(message.code, &message.from, &message.to);
+    let place = message_place(message.code, message.place);
     print_card(&name, &way, &place, message.fresh, writer)
 }
 
 /// A message's ref and action.
-fn message_name(my_ref: Ref, action: Action) -> Row
+pub fn message_name(my_ref: Ref, action: Action) -> Row
     ensures value { result ≡ concat (decimal my_ref ∷ codes " " ∷ action_name_of action ∷ []) }
     ensures few { length result ≤ 23 }
     ensures some { 0 < length result }
@@ -70,7 +70,7 @@ fn message_name(my_ref: Ref, action: Action) -> Row
 }
 
 /// The tasks that a message goes between, or the one that it comes back to.
-fn way_of(code: EventCode, from: &Who<'_>, to: &Who<'_>) -> Row
+pub fn message_way(code: EventCode, from: &Who<'_>, to: &Who<'_>) -> Row
     ensures value { result ≡ between_text code (who_text from.now) (who_text to.now) }
     ensures few { length result ≤ 38 }
 {
@@ -102,7 +102,7 @@ fn from_to(from: &Who<'_>, to: &Who<'_>) -> Row
 }
 
 /// A message's event code, and its place in the chain.
-fn place_of(code: EventCode, place: ChainPlace) -> Row
+pub fn message_place(code: EventCode, place: ChainPlace) -> Row
     ensures value { result ≡ concat (decimal (code_number code) ∷ codes ", " ∷ place_text place ∷ []) }
     ensures few { length result ≤ 29 }
 {
@@ -129,7 +129,7 @@ fn add_place(row: &mut Row, place: ChainPlace)
 }
 
 /// The name of what a message is about.
-pub(crate) fn action_name(action: Action) -> &'static [u8]
+pub fn action_name(action: Action) -> &'static [u8]
     ensures value { result.now ≡ action_name_of action }
     ensures short { length result.now ≤ 11 }
 {

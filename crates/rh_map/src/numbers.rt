@@ -48,7 +48,7 @@ fn add_others(row: &mut Row, numbers: &[u16])
 }
 
 /// Adds how many of n aren't named.
-pub(crate) fn add_more(row: &mut Row, n: usize)
+pub fn add_more(row: &mut Row, n: usize)
     requires few { n ≤ MAX_PAGES }
     requires room { length row.old + 21 ≤ ROW }
     ensures value { row.new ≡ row.old ++ and_more n }

@@ -10,7 +10,7 @@ ghost use Rattle.rh_lines.specs.Flow.{Puts};
 ghost use Rattle.rh_lines.specs.declared.row.TheConstants.{ROW};
 ghost use Rattle.rh_map.specs.Tasks.{who_text};
 
-use crate::line::put_line;
+use crate::changes::print_change;
 use crate::messages::action_name;
 use crate::phrases::add_size;
 use crate::who::{Who, add_who};
@@ -28,12 +28,19 @@ pub fn print_returns<W: Sink>(
     ensures { Puts (W.output writer.old) (W.output writer.new) result
         (shown_line (codes "  " ++ returns_line action my_ref (who_text to.now)) ++ codes "\n") }
 {
+    print_change(&message_returns(action, my_ref, to), writer)
+}
+
+/// That a message goes back to a task.
+pub fn message_returns(action: Action, my_ref: Ref, to: &Who<'_>) -> Row
+    ensures value { result ≡ returns_line action my_ref (who_text to.now) }
+    ensures few { length result ≤ 200 }
+{
     let mut row = Row::new();
-    row.text(b"  ");
     add_message(&mut row, action, my_ref);
     row.text(b" goes back to ");
     add_who(&mut row, to);
-    put_line(row.as_slice(), writer)
+    row
 }
 
 /// Writes that a task takes a message. Fails only where the writer failed or took none of what it was offered; a front
@@ -47,12 +54,19 @@ pub fn print_takes<W: Sink>(
     ensures { Puts (W.output writer.old) (W.output writer.new) result
         (shown_line (codes "  " ++ takes_line (who_text who.now) action my_ref) ++ codes "\n") }
 {
+    print_change(&task_takes(who, action, my_ref), writer)
+}
+
+/// That a task takes a message.
+pub fn task_takes(who: &Who<'_>, action: Action, my_ref: Ref) -> Row
+    ensures value { result ≡ takes_line (who_text who.now) action my_ref }
+    ensures few { length result ≤ 200 }
+{
     let mut row = Row::new();
-    row.text(b"  ");
     add_who(&mut row, who);
     row.text(b" takes ");
     add_message(&mut row, action, my_ref);
-    put_line(row.as_slice(), writer)
+    row
 }
 
 /// Writes that so many bytes went into the buffer of a task at an address. Fails only where the writer failed or took
@@ -66,14 +80,21 @@ pub fn print_bytes_sent<W: Sink>(
     ensures { Puts (W.output writer.old) (W.output writer.new) result
         (shown_line (codes "  " ++ bytes_line count (who_text to.now) buffer) ++ codes "\n") }
 {
+    print_change(&bytes_sent(count, to, buffer), writer)
+}
+
+/// That so many bytes went into the buffer of a task at an address.
+pub fn bytes_sent(count: u32, to: &Who<'_>, buffer: u32) -> Row
+    ensures value { result ≡ bytes_line count (who_text to.now) buffer }
+    ensures few { length result ≤ 200 }
+{
     let mut row = Row::new();
-    row.text(b"  ");
     add_size(&mut row, count);
     row.text(b" into the buffer of ");
     add_who(&mut row, to);
     row.text(b" at ");
     row.address(buffer);
-    put_line(row.as_slice(), writer)
+    row
 }
 
 /// Writes that a task sends a message to another. Fails only where the writer failed or took none of what it was
@@ -88,14 +109,21 @@ pub fn print_sends<W: Sink>(
     ensures { Puts (W.output writer.old) (W.output writer.new) result
         (shown_line (codes "  " ++ sends_line (who_text from.now) action my_ref (who_text to.now)) ++ codes "\n") }
 {
+    print_change(&task_sends(from, action, my_ref, to), writer)
+}
+
+/// That a task sends a message to another.
+pub fn task_sends(from: &Who<'_>, action: Action, my_ref: Ref, to: &Who<'_>) -> Row
+    ensures value { result ≡ sends_line (who_text from.now) action my_ref (who_text to.now) }
+    ensures few { length result ≤ 200 }
+{
     let mut row = Row::new();
-    row.text(b"  ");
     add_who(&mut row, from);
     row.text(b" sends ");
     add_message(&mut row, action, my_ref);
     row.text(b" to ");
     add_who(&mut row, to);
-    put_line(row.as_slice(), writer)
+    row
 }
 
 /// Adds a message's action and ref.

@@ -55,7 +55,7 @@ fn print_first_lines<W: Sink>(front: &[u8], writer: &mut W) -> Result<(), WriteF
 }
 
 /// The first line, and what stands behind its line feed.
-fn next_line(text: &[u8]) -> Option<(&[u8], &[u8])>
+pub fn next_line(text: &[u8]) -> Option<(&[u8], &[u8])>
     ensures none { IfNone result (lines_in text.now ≡ []) }
     ensures some { IfSome result (λ next. lines_in text.now ≡ next.0.now ∷ lines_in next.1.now) }
 {

@@ -5,8 +5,9 @@ use Rattle.rh_figure.specs.Phrases.{size_text}
 use Rattle.rh_map.proofs.areas.add_file.Goals as goal
 
 pub returns : goal.returns
-returns c =
-    c.add_load.ensures
+returns c = record {
+  value = c.add_load.ensures.value
     ∙ (ap (λ z. z ++ (codes " for DataLoad " ++ decimal c.args.load)) (c.add_size.ensures.value
     ∙ ap (λ z. z ++ size_text c.args.size) c.text.ensures)
-    ∙ simp append_assoc)
+    ∙ simp append_assoc);
+}
