@@ -1,11 +1,9 @@
 //! The arrow of a slide.
 
 ghost use Rattle.std.specs.Prelude.{◌≡◌, ◌≤◌, ◌<◌, ◌+◌, ◌/◌, ◌^◌, [], ◌∷◌, length};
-ghost use Rattle.rh_defs.specs.declared.sizes.TheConstants.{MAX_PAGES, PAGE};
 ghost use Rattle.rh_draw.specs.Arrows.{change_of};
 ghost use Rattle.rh_lines.specs.Flow.{Puts};
 ghost use Rattle.rh_sheet.specs.Arrows.{arc_way as way_of_arc, arrow_text, arrow_way as way_of_arrow, block_place as place_of_block, bow_way as way_of_bow, ghost_way as way_of_ghost, place_x as x_of_place, slide_arrow};
-ghost use Rattle.rh_sheet.specs.Frames.{shown_rows};
 
 use crate::frames::{row_of, row_y};
 use crate::markup::{add_point, add_stretch, print_path};
@@ -94,9 +92,7 @@ fn bow_way(x0: u32, y0: u32, x1: u32, y1: u32) -> Row
 
 /// The way from a place in row r to a place in row s.
 fn arrow_way(frame: Frame, r: usize, x0: u32, s: usize, x1: u32) -> Row
-    requires x { x0 + x1 ≤ 2348 }
-    requires from { r < shown_rows frame.pages }
-    requires to { s < shown_rows frame.pages }
+    requires { x0 + x1 ≤ 2348 }
     ensures value { result ≡ way_of_arrow frame r x0 s x1 }
     ensures few { length result ≤ 100 }
 {
@@ -130,9 +126,6 @@ pub fn print_slide_arrow<W: Sink>(
     first: Slide,
     writer: &mut W,
 ) -> Result<(), WriteFailed>
-    requires from { place_of_block first.from / PAGE < frame.pages }
-    requires to { place_of_block first.to / PAGE < frame.pages }
-    requires few { frame.pages ≤ MAX_PAGES }
     ensures { Puts (W.output writer.old) (W.output writer.new) result (slide_arrow frame (change_of first ∷ [])) }
 {
     let (from, to) = (block_place(first.from), block_place(first.to));

@@ -1,11 +1,10 @@
 //! Cards: what may be too small for its scale, written out.
 
-ghost use Rattle.std.specs.Prelude.{◌≡◌, ◌≤◌, ◌<◌, ◌+◌, ◌*◌, ◌/◌, length};
+ghost use Rattle.std.specs.Prelude.{◌≡◌, ◌≤◌, ◌<◌, ◌+◌, length};
 ghost use Rattle.rh_draw.specs.Cards.{card_of, classes_of_card};
 ghost use Rattle.rh_figure.specs.declared.limits.TheConstants.{MOST_CARDS};
 ghost use Rattle.rh_lines.specs.Flow.{Puts};
 ghost use Rattle.rh_sheet.specs.Cards.{card_line_text, card_text, card_x as x_of_card, high_card_text, low_card_text};
-ghost use Rattle.rh_sheet.specs.declared.sizes.TheConstants.{CARD_RISE, CARDS_ACROSS};
 
 use crate::boxes::{Extent, print_box, print_words};
 use rh_lines::{Row, Sink, WriteFailed};
@@ -124,13 +123,12 @@ pub fn print_high_card<W: Sink>(
 ) -> Result<(), WriteFailed>
     requires few { i < MOST_CARDS }
     requires height { y0 ≤ 1000 }
-    requires room { CARD_RISE * (i / CARDS_ACROSS + 1) ≤ y0 }
     ensures { Puts (W.output writer.old) (W.output writer.new) result (high_card_text y0 (i, card_of card.now)) }
 {
     print_card(
         card,
         card_x(i),
-        y0 - CARD_RISE * (i / CARDS_ACROSS + 1),
+        y0.saturating_sub(CARD_RISE * (i / CARDS_ACROSS + 1)),
         writer,
     )
 }

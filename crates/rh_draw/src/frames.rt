@@ -1,6 +1,6 @@
 //! Where the parts of an area's figure stand.
 
-ghost use Rattle.std.specs.Prelude.{◌≡◌, ◌≤◌, ◌<◌};
+ghost use Rattle.std.specs.Prelude.{◌≡◌, ◌≤◌, ◌<◌, ◌^◌};
 ghost use Rattle.rh_figure.specs.declared.limits.TheConstants.{MOST_ROWS};
 ghost use Rattle.rh_sheet.specs.Frames.{band_height as band_height_of, frame_height as height_of, page_in as page_in_row, row_of as row_of_page, row_y as row_y_of, rows_foot as foot_of, rows_top as top_of, shown_rows as shown_rows_of};
 
@@ -32,13 +32,13 @@ pub fn page_in(n: usize, i: usize) -> Option<usize>
 
 /// The row from below of page k of n pages; None where it has no row.
 pub fn row_of(n: usize, k: usize) -> Option<usize>
-    requires { k < n }
+    requires { k < 2 ^ 32 }
     ensures { result ≡ row_of_page n k }
 {
     if n <= MOST_ROWS || k < EDGE_ROWS {
         Some(k)
-    } else if n - k <= EDGE_ROWS {
-        Some(MOST_ROWS - (n - k))
+    } else if n <= k + EDGE_ROWS {
+        Some(k + MOST_ROWS - n)
     } else {
         None
     }
@@ -81,9 +81,9 @@ pub fn height(frame: Frame) -> u32
 
 /// The upper edge of row i from below.
 pub fn row_y(frame: Frame, i: usize) -> u32
-    requires { i < shown_rows_of frame.pages }
     ensures value { result ≡ row_y_of frame i }
     ensures few { result ≤ 800 }
 {
-    top(frame) + ROW_PITCH * (shown_rows(frame.pages) - 1 - i) as u32 + ROW_GAP
+    let above = shown_rows(frame.pages).saturating_sub(1).saturating_sub(i);
+    top(frame) + ROW_PITCH * above as u32 + ROW_GAP
 }

@@ -4,7 +4,7 @@ ghost use Rattle.std.specs.Prelude.{◌≡◌, ◌≤◌, ◌+◌, ◌++◌, cod
 ghost use Rattle.rh_draw.specs.declared.boxes.TheConstants.{LONGEST_CLASS};
 ghost use Rattle.rh_lines.specs.Flow.{Puts};
 ghost use Rattle.rh_lines.specs.declared.row.TheConstants.{ROW};
-ghost use Rattle.rh_sheet.specs.Markup.{cell_text, entry_item, figure_begin, heading_text, path_text, point_text, stretch_text};
+ghost use Rattle.rh_sheet.specs.Markup.{cell_text, change_item, figure_begin, heading_text, path_text, point_text, stretch_text};
 
 use crate::attributes::add_text_attribute;
 use crate::escape::put_between;
@@ -94,10 +94,10 @@ pub(crate) fn print_cell<W: Sink>(text: &[u8], writer: &mut W) -> Result<(), Wri
     put_between(b"<td>", text, b"</td>", writer)
 }
 
-/// Writes an entry of a list. Fails only where the writer failed or took none of what it was offered; a front of it is
-/// then written.
-pub fn print_entry<W: Sink>(text: &[u8], writer: &mut W) -> Result<(), WriteFailed>
-    ensures { Puts (W.output writer.old) (W.output writer.new) result (entry_item text.now) }
+/// Writes something that a command has changed. Fails only where the writer failed or took none of what it was offered;
+/// a front of it is then written.
+pub fn print_change<W: Sink>(text: &[u8], writer: &mut W) -> Result<(), WriteFailed>
+    ensures { Puts (W.output writer.old) (W.output writer.new) result (change_item text.now) }
 {
-    put_between(b"<li>", text, b"</li>\n", writer)
+    put_between(b"<p class=\"change\">", text, b"</p>\n", writer)
 }

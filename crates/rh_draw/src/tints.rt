@@ -16,7 +16,7 @@ pub enum Tint {
 }
 
 /// Adds the class of a tint.
-pub(crate) fn add_tint(row: &mut Row, tint: Tint)
+pub fn add_tint(row: &mut Row, tint: Tint)
     requires { length row.old + 12 ≤ ROW }
     ensures value { row.new ≡ row.old ++ tint_class tint }
     ensures few { length row.new ≤ length row.old + 12 }

@@ -113,9 +113,9 @@ heading_text name note =
 abbrev pub cell_text : Text → Text
 cell_text t = concat (codes "<td>" ∷ escape t ∷ codes "</td>" ∷ [])
 
--- an entry of a list
-abbrev pub entry_item : Text → Text
-entry_item t = concat (codes "<li>" ∷ escape t ∷ codes "</li>\n" ∷ [])
+-- something that a command has changed
+abbrev pub change_item : Text → Text
+change_item t = concat (codes "<p class=\"change\">" ∷ escape t ∷ codes "</p>\n" ∷ [])
 
 -- a link to step n, with what stands in it
 abbrev pub step_link : ℕ → Text → Text

@@ -12,7 +12,7 @@ use Rattle.rh_figure.specs.Figure.{Panel, area_panels, is_drawn, slot_note, lett
 use Rattle.rh_figure.specs.Rows.{trimmed}
 use Rattle.rh_figure.specs.Map.{is_mark, reply_lines, shown_byte}
 use Rattle.rh_figure.specs.declared.limits.TheConstants.{LINE_COLUMNS}
-use Rattle.rh_sheet.specs.Markup.{escape, heading_text, entry_item, step_link}
+use Rattle.rh_sheet.specs.Markup.{escape, heading_text, change_item, step_link}
 use Rattle.rh_sheet.specs.Pool.{pool_figure}
 use Rattle.rh_sheet.specs.Areas.{slot_figure, module_figure}
 use Rattle.rh_sheet.specs.Tables.{messages_table, transfers_table}
@@ -38,15 +38,17 @@ memory_text x = concat (
     ∷ flat_map (slot_part x) x.desk.tasks ∷ module_part x ∷ codes "</div>\n" ∷ []
     )
 
--- what stands beside the memory, if something does
-abbrev pub aside_of : Text → Text
-aside_of t = if length t == 0 then [] else concat (codes "<aside>\n" ∷ t ∷ codes "</aside>\n" ∷ [])
+-- whether something stands beside the memory
+abbrev pub has_aside : Scene → List Note → Bool
+has_aside x notes =
+    not (length notes == 0) || not (length (letterboxes x) == 0) || not (length (transfers x) == 0)
 
--- messages and transfers
+-- messages and transfers, if there are some
 abbrev pub aside_text : Scene → List Note → ℕ → Text
-aside_text x notes step = aside_of (
-    chart_figure x.desk notes step ++ messages_table (letterboxes x) ++ transfers_table (transfers x)
-    )
+aside_text x notes step = where_so (has_aside x notes) (concat (
+    codes "<aside>\n" ∷ chart_figure x.desk notes step ∷ messages_table (letterboxes x)
+    ∷ transfers_table (transfers x) ∷ codes "</aside>\n" ∷ []
+    ))
 
 unfoldable pub figure_text : Scene → List Note → ℕ → Text
 figure_text x notes step = memory_text x ++ aside_text x notes step
@@ -68,10 +70,9 @@ said_text step line reply = concat (
     ∷ escape (reply_shown reply) ∷ codes "</pre>\n" ∷ []
     )
 
--- what has changed, if something has
-abbrev pub changes_list : List Text → Text
-changes_list [] = []
-changes_list (c ∷ cs) = concat (codes "<ul>\n" ∷ flat_map entry_item (c ∷ cs) ∷ codes "</ul>\n" ∷ [])
+-- what has changed
+abbrev pub changes_text : List Text → Text
+changes_text cs = flat_map change_item cs
 
 -- where the last figure is, if there is one
 abbrev pub last_figure : ℕ → Text
@@ -111,7 +112,7 @@ still_step step line reply last = concat (said_text step line reply ∷ still_te
 -- a step with one
 abbrev pub drawn_step : ℕ → Text → Text → Scene → List Note → Text
 drawn_step step line reply x notes = concat (
-    said_text step line reply ∷ changes_list (changes x) ∷ said_end ∷ figure_text x notes step ∷ step_end ∷ []
+    said_text step line reply ∷ changes_text (changes x) ∷ said_end ∷ figure_text x notes step ∷ step_end ∷ []
     )
 
 -- a step behind its remarks; the last figure is that of a step, or there is none yet

@@ -40,8 +40,9 @@ pre { margin: 0; font-size: 0.88rem; white-space: pre-wrap; overflow-wrap: anywh
 .title { margin: 0 0 0.5rem; font-size: 1.3rem; line-height: 1.3; }
 .remark { margin: 0 0 0.6rem; font-style: italic; }
 .still { margin: 0.5rem 0 0; color: var(--quiet); }
-.says ul { margin: 0.6rem 0 0; padding-left: 1.1rem; }
-.says li::marker { color: var(--changed); }
+.change { position: relative; margin: 0.15rem 0 0; padding-left: 1.1rem; }
+.change::before { content: '\\2022'; position: absolute; left: 0.2rem; color: var(--changed); }
+pre + .change { margin-top: 0.6rem; }
 .memory { margin-top: 1rem; overflow-x: auto; }
 .memory svg { min-width: 40rem; }
 aside svg { max-width: 22rem; margin-top: 1.25rem; }

@@ -2,7 +2,7 @@
 
 use crate::same::same;
 use rh_draw::{
-    Extent, add_step_link, print_box, print_described, print_entry, print_figure_begin,
+    Extent, add_step_link, print_box, print_change, print_described, print_figure_begin,
     print_figure_end, print_figure_open, print_heading, print_words, put_escaped,
 };
 use rh_lines::{Flagged, Row};
@@ -79,11 +79,11 @@ fn figures(rt: HostRuntime) {
     );
     same(
         &rt,
-        print_entry(b"Slot a takes page 6", &mut writer),
+        print_change(b"Slot a takes page 6", &mut writer),
         Ok(()),
     );
     let wanted =
-        b"<svg viewBox=\"0 0 1176 34\" role=\"img\">\n<title>The pool</title>\n<desc>Slot a: page 6. </desc>\n</svg>\n<h3><b>a</b> task 1, 2 pages</h3>\n<li>Slot a takes page 6</li>\n";
+        b"<svg viewBox=\"0 0 1176 34\" role=\"img\">\n<title>The pool</title>\n<desc>Slot a: page 6. </desc>\n</svg>\n<h3><b>a</b> task 1, 2 pages</h3>\n<p class=\"change\">Slot a takes page 6</p>\n";
     let written = writer.into_inner();
     same(&rt, written.as_slice(), wanted.as_slice());
 }

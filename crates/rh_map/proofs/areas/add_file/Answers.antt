@@ -4,10 +4,9 @@ use Rattle.std.specs.Fmt.{decimal}
 use Rattle.rh_figure.specs.Phrases.{size_text}
 use Rattle.rh_map.proofs.areas.add_file.Goals as goal
 
-pub returns : goal.returns
-returns c = record {
-  value = c.add_load.ensures.value
+pub returns-clause-value : goal.returns-clause-value
+returns-clause-value c =
+    c.add_load.ensures.value
     ∙ (ap (λ z. z ++ (codes " for DataLoad " ++ decimal c.args.load)) (c.add_size.ensures.value
     ∙ ap (λ z. z ++ size_text c.args.size) c.text.ensures)
-    ∙ simp append_assoc);
-}
+    ∙ simp append_assoc)
