@@ -2,7 +2,7 @@
 
 ghost use Rattle.std.specs.Prelude.{◌≡◌, IfOk, IfSome, codes, false, map, string_bytes};
 ghost use Rattle.clap.specs.Words.{FailsBy, app_of, fault_of, found_of, one_of, rows_of, rule_of, subcommand_of, subcommand_rows_of};
-ghost use Rattle.rh_desk.specs.CommandLine.{check_words, files_rule, map_words, needed_rule, pages_rule, program_words, run_words};
+ghost use Rattle.rh_desk.specs.CommandLine.{check_words, draw_words, files_rule, map_words, marked_rule, needed_rule, pages_rule, program_words, run_words};
 ghost use Rattle.rh_desk.specs.Requests.{AsksFor, AsksKind, AsksNothing, AsksShown};
 
 use crate::request::{ImageKind, Request, RunRequest, Shown};
@@ -17,6 +17,7 @@ pub const PAGES: u32 = 64;
 const USAGE: &str = "\
 vervainfile run [--pages N] SCRIPT [NAME=PATH ...]
        vervainfile map [--pages N] [--marked] SCRIPT [NAME=PATH ...]
+       vervainfile draw [--pages N] [--marked] SCRIPT [NAME=PATH ...]
        vervainfile check [--slot] FILE
        vervainfile                 (with no words: the script on standard input, over 64 pages)";
 
@@ -73,12 +74,14 @@ fn image_kind(found: &ArgMatches<'_>) -> ImageKind
 fn shown_of(name: &str, found: &ArgMatches<'_>) -> Shown
     ensures { AsksShown name.now (rows_of (found_of found.now)) result }
 {
-    if name == "map" {
-        Shown::Map {
+    match name {
+        "map" => Shown::Map {
             marked: found.get_flag("marked"),
-        }
-    } else {
-        Shown::Replies
+        },
+        "draw" => Shown::Sheet {
+            marked: found.get_flag("marked"),
+        },
+        _ => Shown::Replies,
     }
 }
 
@@ -95,6 +98,7 @@ pub fn parsed<'a>(alloc: Global, words: &'a [String]) -> Result<ArgMatches<'a>, 
         .subcommand_required(true)
         .subcommand(running(alloc)?)?
         .subcommand(mapping(alloc)?)?
+        .subcommand(drawing(alloc)?)?
         .subcommand(checking(alloc)?)?
         .try_get_matches_from(words)
 }
@@ -146,15 +150,33 @@ fn files_arg<'a>(alloc: Global) -> Arg<'a>
 fn mapping<'a>(alloc: Global) -> Result<Command<'a>, AllocError>
     ensures { IfOk result (λ command. app_of command ≡ map_words) }
 {
-    let marked = Arg::new(alloc, "marked")
-        .long("marked")
-        .help("Show marked steps alone: a line #picture marks the next")
-        .action(ArgAction::SetTrue);
     Command::new(alloc, "map")
         .about("Run a script and print a map of memory after each step")
         .after_help(MORE)
         .arg(pages_arg(alloc))?
-        .arg(marked)?
+        .arg(marked_arg(alloc))?
+        .arg(script_arg(alloc))?
+        .arg(files_arg(alloc))
+}
+
+fn marked_arg<'a>(alloc: Global) -> Arg<'a>
+    ensures rule { rule_of result ≡ marked_rule }
+    ensures local { result.global ≡ false }
+{
+    Arg::new(alloc, "marked")
+        .long("marked")
+        .help("Show marked steps alone: a line #picture marks the next")
+        .action(ArgAction::SetTrue)
+}
+
+fn drawing<'a>(alloc: Global) -> Result<Command<'a>, AllocError>
+    ensures { IfOk result (λ command. app_of command ≡ draw_words) }
+{
+    Command::new(alloc, "draw")
+        .about("Run a script and print a page of HTML with a figure of memory after each step")
+        .after_help(MORE)
+        .arg(pages_arg(alloc))?
+        .arg(marked_arg(alloc))?
         .arg(script_arg(alloc))?
         .arg(files_arg(alloc))
 }

@@ -8,5 +8,5 @@ mod request;
 mod telling;
 mod words;
 
-pub use rh_run::{RunFault, Status, check_image, check_slot_image, draw_map, run};
+pub use rh_run::{RunFault, Status, check_image, check_slot_image, draw_map, draw_sheet, run};
 pub use words::{program, words_unread};

@@ -18,7 +18,7 @@ use crate::request::{ImageKind, Request, RunRequest, Shown};
 use crate::telling::{ended, tell_file, told};
 use rh_defs::Files;
 use rh_lines::{Flagged, Sink, Source, put};
-use rh_run::{RunFault, Status, check_image, check_slot_image, draw_map, run};
+use rh_run::{RunFault, Status, check_image, check_slot_image, draw_map, draw_sheet, run};
 use std::alloc::Global;
 use std::fs::File;
 use std::{io, rt};
@@ -130,6 +130,44 @@ fn map_told<I: Source, O: Sink, E: Sink>(
     )
 }
 
+/// Writes the sheet of a script with a name over so many pages with these files, and tells the fault that stopped it, if
+/// one did.
+fn sheet_told<I: Source, O: Sink, E: Sink>(
+    alloc: Global,
+    files: Files,
+    request: &RunRequest<'_, '_>,
+    marked: bool,
+    script: &mut I,
+    output: &mut O,
+    errors: &mut E,
+) -> Ending
+    requires { (I.input script.old).reads ≡ 0 }
+    ensures well { exit_status result ≤ 1 → (O.output output.new).failed ≡ (O.output output.old).failed }
+    ensures run { result ≡ Ending.WrongWords → ⊥ }
+    ensures over { SheetOver marked (sheet_name request.now.script.now) request.now.pages files
+        (streams (I.input script.old) (I.input script.new) (O.output output.old) (O.output output.new) (E.output errors.old) (E.output errors.new)) result }
+{
+    let name = sheet_name(request.script).as_bytes();
+    let pages = request.pages;
+    ended(
+        draw_sheet(alloc, files, script, output, pages, marked, name),
+        errors,
+    )
+}
+
+/// The name of a script in the head of its sheet: the last part of its path.
+fn sheet_name(script: &str) -> &str
+    ensures { result.now ≡ sheet_name_of script.now }
+{
+    if script == INPUT {
+        return "standard input";
+    }
+    match script.rsplit_once('/') {
+        Some((_, name)) => name,
+        None => script,
+    }
+}
+
 /// Writes what is to be written of a script, and tells the fault that stopped it, if one did.
 fn show_told<I: Source, O: Sink, E: Sink>(
     alloc: Global,
@@ -149,6 +187,9 @@ fn show_told<I: Source, O: Sink, E: Sink>(
         Shown::Replies => run_told(alloc, files, request.pages, script, output, errors),
         Shown::Map { marked } => {
             map_told(alloc, files, request.pages, marked, script, output, errors)
+        }
+        Shown::Sheet { marked } => {
+            sheet_told(alloc, files, request, marked, script, output, errors)
         }
     }
 }

@@ -58,7 +58,7 @@ fn print_fixed<S: Sight, W: Sink>(
 }
 
 /// The scrap file, if it lies in the area with the number.
-fn scrap_in<S: Sight>(sight: &S, number: u32) -> Option<ScrapFile>
+pub fn scrap_in<S: Sight>(sight: &S, number: u32) -> Option<ScrapFile>
     ensures { scrap_note_of result ≡ (if number == 5 then scrap_text (S.desk sight.now).scrap else []) }
 {
     if number != SCRAP_AREA {

@@ -69,7 +69,7 @@ fn print_if_gone<W: Sink>(
 }
 
 /// Whether one of the blocks has the anchor of this one.
-fn has_anchor(blocks: &[BlockItem], block: &BlockItem) -> bool
+pub fn has_anchor(blocks: &[BlockItem], block: &BlockItem) -> bool
     ensures { result ≡ has_anchor_in block.now.anchor blocks.now }
 {
     blocks.iter().any(|other| other.anchor == block.anchor)
@@ -102,10 +102,10 @@ fn print_change<W: Sink>(kept: &Kept, block: &BlockItem, writer: &mut W) -> Resu
 
 /// Blocks that slid: how many, and from where to where the lowest of them.
 #[derive(Clone, Copy)]
-struct Slid {
-    count: u32,
-    from: u32,
-    to: u32,
+pub struct Slid {
+    pub count: u32,
+    pub from: u32,
+    pub to: u32,
 }
 
 /// Writes how the blocks slid, if some did.
@@ -125,7 +125,7 @@ fn print_slides<W: Sink>(
 }
 
 /// The blocks that lie elsewhere now, if there are some.
-fn find_slid(kept: &Kept, blocks: &[BlockItem]) -> Option<Slid>
+pub fn find_slid(kept: &Kept, blocks: &[BlockItem]) -> Option<Slid>
     requires { length blocks.now ≤ ANCHORS }
     ensures { result ≡ summary_of (flat_map (λ (b : BlockItem). slide_of b (item_of b.anchor kept.now.blocks)) blocks.now) }
 {

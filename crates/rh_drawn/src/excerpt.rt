@@ -115,7 +115,7 @@ fn count_areas<S: Sight>(sight: &S) -> u32
 }
 
 /// How many areas were made at run.
-fn count_made<S: Sight>(sight: &S) -> usize
+pub fn count_made<S: Sight>(sight: &S) -> usize
     ensures count { result ≡ length (S.desk sight.now).made }
     ensures few { result ≤ 32 }
 {

@@ -90,7 +90,7 @@ fn print_behind<S: Sight, W: Sink>(
 }
 
 /// The first block from the kth on that the command has changed.
-fn next_fresh(
+pub fn next_fresh(
     step: &Step<'_>,
     task: &TaskSight<'_>,
     blocks: &[BlockItem],

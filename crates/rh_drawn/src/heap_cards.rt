@@ -48,9 +48,9 @@ pub struct Band<'a> {
 /// What a first walk over a heap finds: how many segments there are, and which is the first changed one behind those
 /// that are shown anyway.
 #[derive(Clone, Copy)]
-struct Survey {
-    count: u32,
-    fresh: Option<SegmentItem>,
+pub struct Survey {
+    pub count: u32,
+    pub fresh: Option<SegmentItem>,
 }
 
 /// Writes the cards of a heap's segments, from below. Fails only where the writer failed or took none of what it was
@@ -126,7 +126,7 @@ fn print_behind<S: Sight, W: Sink>(
 }
 
 /// Counts the segments of a heap, and finds the first changed one that isn't shown anyway where there are too many.
-fn take_survey<S: Sight>(sight: &S, step: &Step<'_>, band: &Band<'_>) -> Survey
+pub fn take_survey<S: Sight>(sight: &S, step: &Step<'_>, band: &Band<'_>) -> Survey
     requires step { IsStepOf (S.desk sight.now) step.now }
     requires band { IsBandOf (S.desk sight.now) band.now }
     ensures { IfSome (heap_seen band.now.heap (S.desk sight.now)) (λ h. IsSurvey (scene_at (S.desk sight.now) step.now) band.now h result) }
@@ -212,7 +212,7 @@ fn is_fresh(step: &Step<'_>, band: &Band<'_>, item: &SegmentItem) -> bool
 }
 
 /// The message in the block of the module area at an address.
-fn message_at(step: &Step<'_>, address: u32) -> Option<MessageItem>
+pub fn message_at(step: &Step<'_>, address: u32) -> Option<MessageItem>
     requires { MODULE_START ≤ address }
     ensures { result ≡ find (lies_in (address - MODULE_START)) step.now.messages.now }
 {
@@ -278,7 +278,7 @@ fn print_used<S: Sight, W: Sink>(
 }
 
 /// Whether the command has changed a block that is no message.
-fn is_changed(step: &Step<'_>, band: &Band<'_>, address: u32) -> bool
+pub fn is_changed(step: &Step<'_>, band: &Band<'_>, address: u32) -> bool
     ensures { (d : Desk) → result ≡ is_fresh_used (scene_at d step.now) band.now address }
 {
     match band.heap {
@@ -317,7 +317,7 @@ fn print_message<S: Sight, W: Sink>(
 }
 
 /// The same place, as a card has it.
-fn chain_place(place: Place) -> ChainPlace
+pub fn chain_place(place: Place) -> ChainPlace
     ensures { place_text result ≡ place_seen place }
 {
     match place {

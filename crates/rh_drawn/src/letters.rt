@@ -30,9 +30,9 @@ const NO_ENTRY: MessageEntry = MessageEntry {
 
 /// The first messages that wait for a task, and how many wait.
 #[derive(Drop)]
-struct Waits {
-    first: [MessageEntry; MOST_LISTED],
-    count: usize,
+pub struct Waits {
+    pub first: [MessageEntry; MOST_LISTED],
+    pub count: usize,
 }
 
 /// Writes the messages of each task that has some, below a heading. Fails only where the writer failed or took none of
@@ -56,7 +56,7 @@ pub fn print_letter_part<S: Sight, W: Sink>(
 }
 
 /// Whether some task has a message.
-fn has_letterboxes<S: Sight>(sight: &S, messages: &[MessageItem]) -> bool
+pub fn has_letterboxes<S: Sight>(sight: &S, messages: &[MessageItem]) -> bool
     ensures { result ≡ list_any (λ (t : Task). has_letters_in t.handle messages.now) (S.desk sight.now).tasks }
 {
     let mut i = 0;
@@ -70,7 +70,7 @@ fn has_letterboxes<S: Sight>(sight: &S, messages: &[MessageItem]) -> bool
 }
 
 /// Whether a message is for the task, be it held or waiting.
-fn has_letters(messages: &[MessageItem], handle: Handle) -> bool
+pub fn has_letters(messages: &[MessageItem], handle: Handle) -> bool
     ensures { result ≡ has_letters_in handle messages.now }
 {
     messages.iter().any(|message| message.to == handle)
@@ -117,7 +117,7 @@ fn print_letters<W: Sink>(
 }
 
 /// The message that a task holds.
-fn held_entry(messages: &[MessageItem], handle: Handle) -> Option<MessageEntry>
+pub fn held_entry(messages: &[MessageItem], handle: Handle) -> Option<MessageEntry>
     ensures { result ≡ option_map entry_seen (find (is_held_by handle) messages.now) }
 {
     match held_by(messages, handle) {
@@ -127,7 +127,7 @@ fn held_entry(messages: &[MessageItem], handle: Handle) -> Option<MessageEntry>
 }
 
 /// The messages that wait for a task.
-fn waits_of(messages: &[MessageItem], handle: Handle) -> Waits
+pub fn waits_of(messages: &[MessageItem], handle: Handle) -> Waits
     requires { length messages.now ≤ 256 }
     ensures count { result.count ≡ length (map entry_seen (filter (waits_for handle) messages.now)) }
     ensures first { take (min result.count MOST_LISTED) result.first ≡ take MOST_LISTED (map entry_seen (filter (waits_for handle) messages.now)) }

@@ -241,7 +241,7 @@ impl<D: Drawn> Mapper<D> {
 }
 
 /// A step, with what its command did. All its parts are lent for as long as it is used.
-fn step_of<'a, S: Sight>(
+pub fn step_of<'a, S: Sight>(
     sight: &'a S,
     kept: &'a Kept,
     command: Option<&Command>,
@@ -265,21 +265,21 @@ fn step_of<'a, S: Sight>(
 }
 
 /// Whether the next command is wanted, behind one more line that asks for nothing.
-fn is_wanted(wanted: bool, line: &[u8]) -> bool
+pub fn is_wanted(wanted: bool, line: &[u8]) -> bool
     ensures { result ≡ (wanted || is_mark_of line.now) }
 {
     wanted || is_mark(line)
 }
 
 /// Whether this holds, unless that does.
-fn holds_unless(this: bool, that: bool) -> bool
+pub fn holds_unless(this: bool, that: bool) -> bool
     ensures { result ≡ (this && not that) }
 {
     this && !that
 }
 
 /// What is wrong with a line that was cut.
-fn rest_fault(rest: &[u8]) -> LineFault
+pub fn rest_fault(rest: &[u8]) -> LineFault
     ensures { rest_means rest.now ≡ Err result }
 {
     if rest.len() > LONGEST_LINE {

@@ -72,7 +72,7 @@ fn print_return<S: Sight, W: Sink>(
 }
 
 /// Whether a message that waits is the one that the named task held, on its way back.
-fn goes_back(step: &Step<'_>, message: &MessageItem) -> bool
+pub fn goes_back(step: &Step<'_>, message: &MessageItem) -> bool
     ensures { result ≡ returns step.now.kept.now.held message.now }
 {
     !message.held && message.my_ref == step.kept.held() && is_returned(message.code)

@@ -52,7 +52,7 @@ pub fn map_script<D: Drawn, R: Source, W: Sink>(
 }
 
 /// The fault of a run.
-fn run_fault(fault: FeedFault) -> RunFault
+pub fn run_fault(fault: FeedFault) -> RunFault
     ensures { result ≡ fault_of fault }
 {
     match fault {

@@ -69,7 +69,7 @@ fn print_one<S: Sight, W: Sink>(
 }
 
 /// How many tasks are live.
-fn count_tasks<S: Sight>(sight: &S) -> usize
+pub fn count_tasks<S: Sight>(sight: &S) -> usize
     ensures { result ≡ length (S.desk sight.now).tasks }
 {
     let mut i = 0;

@@ -36,7 +36,7 @@ pub fn print_transfer_part<S: Sight, W: Sink>(sight: &S, writer: &mut W) -> Resu
 }
 
 /// Whether some task has a record of a transfer.
-fn has_transfers<S: Sight>(sight: &S) -> bool
+pub fn has_transfers<S: Sight>(sight: &S) -> bool
     ensures { result ≡ (not (length (outs_of (S.desk sight.now)) == 0) || not (length (ins_of (S.desk sight.now)) == 0)) }
 {
     let mut i = 0;
@@ -104,7 +104,7 @@ fn print_out<S: Sight, W: Sink>(
 }
 
 /// The first side with the id that comes in.
-fn in_side<S: Sight>(sight: &S, id: Ref) -> Option<Side<'_>>
+pub fn in_side<S: Sight>(sight: &S, id: Ref) -> Option<Side<'_>>
     ensures { option_map side_of result ≡ find (has_id_of id) (ins_of (S.desk sight.now)) }
 {
     let mut i = 0;
@@ -182,7 +182,7 @@ fn print_if_alone<S: Sight, W: Sink>(
 }
 
 /// Whether a transfer with the id goes out.
-fn has_out<S: Sight>(sight: &S, id: Ref) -> bool
+pub fn has_out<S: Sight>(sight: &S, id: Ref) -> bool
     ensures { result ≡ list_any (has_id_of id) (outs_of (S.desk sight.now)) }
 {
     let mut i = 0;
@@ -203,7 +203,7 @@ fn has_id(sending: &[Outgoing], id: Ref) -> bool
 }
 
 /// A record of a transfer that goes out, as it is listed.
-fn out_item(record: &Outgoing) -> RecordItem
+pub fn out_item(record: &Outgoing) -> RecordItem
     ensures { result ≡ out_item_of record.now }
 {
     let (state, count) = match record {
@@ -219,7 +219,7 @@ fn out_item(record: &Outgoing) -> RecordItem
 }
 
 /// A record of a transfer that comes in, as it is listed.
-fn in_item(record: &Incoming) -> RecordItem
+pub fn in_item(record: &Incoming) -> RecordItem
     ensures { result ≡ in_item_of record.now }
 {
     let (state, count) = match record {

@@ -14,7 +14,7 @@ use rh_lines::{Sink, Source, WriteFailed};
 use std::alloc::Global;
 
 /// So many bytes are read at a time. A script has less than 2^32 bytes then, and so many lines at most.
-const PIECE: usize = 4_096;
+pub const PIECE: usize = 4_096;
 
 /// So many reads that give bytes make a script too long.
 const MOST_READS: u32 = 1_000_000;
@@ -58,7 +58,7 @@ pub fn feed_all<T: LineTaker, R: Source, W: Sink>(
 }
 
 /// Reads piece by piece, and hands on the lines of each before the next.
-fn read_all<T: LineTaker, R: Source, W: Sink>(
+pub fn read_all<T: LineTaker, R: Source, W: Sink>(
     taker: &mut T,
     line: &mut LineBuffer,
     piece: &mut [u8],

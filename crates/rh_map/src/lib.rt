@@ -58,7 +58,7 @@ pub use post_changes::{
 };
 pub use reply::{next_line, print_reply_lines};
 pub use rows::{Area, print_area};
-pub use script_lines::{is_mark, print_remark};
+pub use script_lines::{has_words, is_mark, print_remark};
 pub use steps::{add_cut, print_more_lines, print_reply_line, print_step_line, print_still};
 pub use transfers::{Side, print_transfer, state_name};
 pub use who::{Who, add_who};

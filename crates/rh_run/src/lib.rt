@@ -4,6 +4,7 @@
 mod checking;
 mod mapping;
 mod running;
+mod sheets;
 mod sight;
 mod slot_checking;
 mod world;
@@ -12,4 +13,5 @@ pub use checking::check_image;
 pub use mapping::draw_map;
 pub use rh_session::{RunFault, Status};
 pub use running::run;
+pub use sheets::draw_sheet;
 pub use slot_checking::check_slot_image;

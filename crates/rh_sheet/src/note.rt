@@ -15,3 +15,19 @@ pub struct Note {
     pub back: u32,
     pub ended: u32,
 }
+
+impl Default for Note {
+    /// No message, as refs count up from 1.
+    fn default() -> Note {
+        Note {
+            my_ref: 0,
+            from: 0,
+            to: 0,
+            action: Action::DataSave,
+            sent: 0,
+            taken: 0,
+            back: 0,
+            ended: 0,
+        }
+    }
+}

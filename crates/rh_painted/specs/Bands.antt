@@ -1,0 +1,33 @@
+-- Cards as they are drawn, or read out.
+use Rattle.std.specs.Prelude.{ℕ, ◌≤◌, ◌==◌, ◌++◌, if◌then◌else◌, List, length, codes}
+use Rattle.std.specs.List.{flat_map, enumerate_from}
+use Rattle.rh_figure.specs.Phrases.{Text}
+use Rattle.rh_figure.specs.Cards.{Card}
+use Rattle.rh_sheet.specs.Markup.{escape}
+use Rattle.rh_sheet.specs.Cards.{card_sentence, low_card_text, high_card_text}
+use Rattle.rh_painted.specs.declared.bands.Form.{Form}
+use Rattle.rh_painted.specs.declared.bands.Form.TheVariants.{Told, Below, Above}
+
+-- what is written of a card with its place among those that are shown
+abbrev pub form_text : Form → ℕ × Card → Text
+form_text Told placed = escape (card_sentence placed.1)
+form_text (Below y) placed = low_card_text y placed
+form_text (Above y) placed = high_card_text y placed
+
+-- the height is one of a figure
+abbrev pub IsFit : Form → Type 0
+IsFit Told = Unit {0}
+IsFit (Below y) = y ≤ 1000
+IsFit (Above y) = y ≤ 1000
+
+-- what is written of some cards, of which the first has a place among those that are shown
+abbrev pub band_text_from : Form → ℕ → List Card → Text
+band_text_from form k cards = flat_map (form_text form) (enumerate_from k cards)
+
+abbrev pub band_text : Form → List Card → Text
+band_text form cards = band_text_from form 0 cards
+
+-- a text behind a comma where something stands before it
+abbrev pub with_comma : Text → Text → Text
+with_comma before t =
+    if length t == 0 then before else if length before == 0 then t else before ++ (codes ", " ++ t)

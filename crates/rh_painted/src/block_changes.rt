@@ -1,0 +1,119 @@
+//! What has changed of the flex blocks of the task that the command names.
+
+ghost use Rattle.std.specs.Prelude.{◌≡◌, ◌≤◌, ◌++◌, [], ◌∷◌, filter, flat_map, if◌then◌else◌, length, map, not};
+ghost use Rattle.rh_defs.specs.Desk.{task_at};
+ghost use Rattle.rh_defs.specs.declared.listing.BlockItem.{BlockItem};
+ghost use Rattle.rh_defs.specs.declared.sizes.TheConstants.{ANCHORS};
+ghost use Rattle.rh_figure.specs.Changes.{block_change, block_changes, gone_line, has_anchor as has_anchor_in, item_of, slide_change, slide_of, slides};
+ghost use Rattle.rh_lines.specs.Flow.{Puts};
+ghost use Rattle.rh_sheet.specs.Markup.{change_item};
+ghost use Rattle.rh_sight.specs.Steps.{scene_at};
+
+use arrayvec::ArrayVec;
+use rh_defs::BlockItem;
+use rh_defs::sizes::ANCHORS;
+use rh_draw::print_change;
+use rh_drawn::{find_slid, has_anchor};
+use rh_lines::{Sink, WriteFailed};
+use rh_map::{block_gone, block_new, block_resized, blocks_slide};
+use rh_sight::{Kept, Sight, Step, task_with};
+
+/// Writes which blocks of the named task are gone, are new or have another size, and how those that lie elsewhere
+/// slid. Fails only where the writer failed or took none of what it was offered; a front of the elements is then
+/// written.
+pub fn print_block_changes<S: Sight, W: Sink>(
+    sight: &S,
+    step: &Step<'_>,
+    blocks: &mut ArrayVec<BlockItem, ANCHORS>,
+    writer: &mut W,
+) -> Result<(), WriteFailed>
+    ensures { let x = scene_at (S.desk sight.now) step.now in
+        Puts (W.output writer.old) (W.output writer.new) result (flat_map change_item (block_changes x (task_at x.before.handle x.desk) ++ slide_change (slides x))) }
+{
+    let Some(i) = task_with(sight, step.kept.handle()) else {
+        return Ok(());
+    };
+    sight.blocks(i, blocks);
+    print_gone(step.kept.blocks(), blocks, writer)?;
+    print_now(step.kept, blocks, writer)?;
+    print_slides(step.kept, blocks, writer)
+}
+
+/// Writes which of the blocks before are gone.
+fn print_gone<W: Sink>(
+    before: &[BlockItem],
+    now: &[BlockItem],
+    writer: &mut W,
+) -> Result<(), WriteFailed>
+    ensures { Puts (W.output writer.old) (W.output writer.new) result
+        (flat_map change_item (map (λ (b : BlockItem). gone_line b.anchor) (filter (λ (b : BlockItem). not (has_anchor_in b.anchor now.now)) before.now))) }
+{
+    for block in before {
+        print_if_gone(now, block, writer)?;
+    }
+    Ok(())
+}
+
+/// Writes that a block is gone, if none of those now has its anchor.
+fn print_if_gone<W: Sink>(
+    now: &[BlockItem],
+    block: &BlockItem,
+    writer: &mut W,
+) -> Result<(), WriteFailed>
+    ensures { Puts (W.output writer.old) (W.output writer.new) result
+        (flat_map change_item (if has_anchor_in block.now.anchor now.now then [] else gone_line block.now.anchor ∷ [])) }
+{
+    if has_anchor(now, block) {
+        return Ok(());
+    }
+    print_change(block_gone(block.anchor).as_slice(), writer)
+}
+
+/// Writes which of the blocks are new, and which had another size.
+fn print_now<W: Sink>(kept: &Kept, blocks: &[BlockItem], writer: &mut W) -> Result<(), WriteFailed>
+    ensures { Puts (W.output writer.old) (W.output writer.new) result
+        (flat_map change_item (flat_map (λ (b : BlockItem). block_change b (item_of b.anchor kept.now.blocks)) blocks.now)) }
+{
+    for block in blocks {
+        print_block_change(kept, block, writer)?;
+    }
+    Ok(())
+}
+
+/// Writes that a block is new, or had another size, where it is so.
+fn print_block_change<W: Sink>(
+    kept: &Kept,
+    block: &BlockItem,
+    writer: &mut W,
+) -> Result<(), WriteFailed>
+    ensures { Puts (W.output writer.old) (W.output writer.new) result
+        (flat_map change_item (block_change block.now (item_of block.now.anchor kept.now.blocks))) }
+{
+    match kept.block(block.anchor) {
+        None => print_change(block_new(block.anchor).as_slice(), writer),
+        Some(old) if old.size != block.size => {
+            let change = block_resized(block.anchor, old.size, block.size);
+            print_change(change.as_slice(), writer)
+        }
+        Some(_) => Ok(()),
+    }
+}
+
+/// Writes how the blocks slid, if some did.
+fn print_slides<W: Sink>(
+    kept: &Kept,
+    blocks: &[BlockItem],
+    writer: &mut W,
+) -> Result<(), WriteFailed>
+    requires { length blocks.now ≤ ANCHORS }
+    ensures { Puts (W.output writer.old) (W.output writer.new) result
+        (flat_map change_item (slide_change (flat_map (λ (b : BlockItem). slide_of b (item_of b.anchor kept.now.blocks)) blocks.now))) }
+{
+    match find_slid(kept, blocks) {
+        Some(slid) => {
+            let change = blocks_slide(slid.count, slid.from, slid.to);
+            print_change(change.as_slice(), writer)
+        }
+        None => Ok(()),
+    }
+}

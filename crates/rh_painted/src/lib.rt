@@ -1,0 +1,29 @@
+//! The sheet of a script: after each command its reply, what has changed, and the figure of memory, over any desk that
+//! takes commands and can be looked at.
+#![tactic(auto)]
+
+mod areas;
+mod arrow_list;
+mod arrows;
+mod bands;
+mod block_changes;
+mod chart;
+mod figure;
+mod flex_cards;
+mod heap_cards;
+mod letters;
+mod modules;
+mod notes;
+mod numbers;
+mod owners;
+mod page_changes;
+mod painter;
+mod pool;
+mod post_changes;
+mod rows;
+mod running;
+mod slots;
+mod steps;
+mod transfers;
+
+pub use running::paint_script;

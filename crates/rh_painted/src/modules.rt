@@ -1,0 +1,114 @@
+//! The figure of the module area.
+
+ghost use Rattle.std.specs.Prelude.{◌≡◌, ◌≤◌, length};
+ghost use Rattle.rh_defs.specs.Commands.{module_area};
+ghost use Rattle.rh_figure.specs.Share.{AreaOf};
+ghost use Rattle.rh_lines.specs.Flow.{Puts};
+ghost use Rattle.rh_painted.specs.Figures.{IsModulePlan};
+ghost use Rattle.rh_sheet.specs.Areas.{module_body, module_description, module_figure, rows_for};
+ghost use Rattle.rh_sheet.specs.Markup.{escape};
+ghost use Rattle.rh_sheet.specs.Steps.{module_part};
+ghost use Rattle.rh_sight.specs.Steps.{IsStepOf, scene_at};
+
+use crate::areas::print_area_heading;
+use crate::bands::Form;
+use crate::heap_cards::put_heap_cards;
+use crate::rows::{put_pages, rows_for};
+use rh_defs::Handle;
+use rh_defs::sizes::{HEAP_FIRST, MODULE_START};
+use rh_draw::{
+    Plot, Tint, foot, height, print_described, print_figure_end, print_figure_open,
+    print_lens_below, print_rows,
+};
+use rh_drawn::{Band, Lists};
+use rh_lines::{Row, Sink, WriteFailed};
+use rh_map::add_pages;
+use rh_sheet::Frame;
+use rh_sheet::sizes::{FIGURE_WIDTH, LENS_HEIGHT};
+use rh_sight::{Census, HeapOf, Owner, PagesOf, Sight, Step, module_pieces, pages_of, take_census};
+
+/// The number of the module area.
+const MODULE_AREA: u32 = 1;
+
+/// Writes the heading and the figure of the module area. Fails only where the writer failed or took none of what it was
+/// offered; a front of them is then written.
+pub fn print_module_part<S: Sight, W: Sink>(
+    sight: &S,
+    step: &Step<'_>,
+    lists: &mut Lists,
+    writer: &mut W,
+) -> Result<(), WriteFailed>
+    requires { IsStepOf (S.desk sight.now) step.now }
+    ensures { Puts (W.output writer.old) (W.output writer.new) result
+        (module_part (scene_at (S.desk sight.now) step.now)) }
+{
+    sight.spelled();
+    let mut note = Row::new();
+    add_pages(&mut note, sight.fixed_pages(MODULE_AREA));
+    print_area_heading(MODULE_AREA, &note, writer)?;
+    module_pieces(sight, step, &mut lists.pieces);
+    print_module_figure(sight, step, lists, writer)
+}
+
+/// Writes the figure of the module area, whose pieces stand in their list.
+fn print_module_figure<S: Sight, W: Sink>(
+    sight: &S,
+    step: &Step<'_>,
+    lists: &Lists,
+    writer: &mut W,
+) -> Result<(), WriteFailed>
+    requires step { IsStepOf (S.desk sight.now) step.now }
+    requires pieces { lists.now.pieces.items ≡ module_pieces_of (scene_at (S.desk sight.now) step.now) }
+    ensures { Puts (W.output writer.old) (W.output writer.new) result
+        (module_figure (scene_at (S.desk sight.now) step.now)) }
+{
+    sight.spelled();
+    let pages = pages_of(sight, step.pages, PagesOf::Fixed(MODULE_AREA));
+    let census = take_census(sight, HeapOf::Module, HEAP_FIRST as u32);
+    let frame = Frame {
+        pages: rows_for(step, Owner::Area(MODULE_AREA), pages),
+        above: 0,
+        below: census.count as usize,
+    };
+    let band = Band {
+        heap: HeapOf::Module,
+        handle: Handle(0),
+        taking: &[],
+    };
+    let plot = Plot {
+        start: MODULE_START as u32,
+        pages,
+        pieces: &lists.pieces,
+        tint: Tint::Module,
+    };
+    print_figure_open(FIGURE_WIDTH, height(frame), b"The module area", writer)?;
+    put_pages(pages, writer)?;
+    put_heap_cards(sight, step, &band, Form::Told, writer)?;
+    print_described(writer)?;
+    print_body(sight, step, frame, &plot, &band, census, writer)?;
+    print_figure_end(writer)
+}
+
+/// Writes what leads to the cards, the rows, and the cards.
+fn print_body<S: Sight, W: Sink>(
+    sight: &S,
+    step: &Step<'_>,
+    frame: Frame,
+    plot: &Plot<'_>,
+    band: &Band<'_>,
+    census: Census,
+    writer: &mut W,
+) -> Result<(), WriteFailed>
+    requires step { IsStepOf (S.desk sight.now) step.now }
+    requires frame { frame ≡ module_frame (scene_at (S.desk sight.now) step.now) }
+    requires plot { plot_of plot.now ≡ module_plot (scene_at (S.desk sight.now) step.now) }
+    requires census { census ≡ census_of first_place (S.desk sight.now).post.heap.segments }
+    ensures { Puts (W.output writer.old) (W.output writer.new) result
+        (module_body (scene_at (S.desk sight.now) step.now)) }
+{
+    let (low, high) = (HEAP_FIRST, census.end as usize);
+    print_lens_below(frame, low, high, census.count, writer)?;
+    print_rows(frame, plot, writer)?;
+    let form = Form::Below(foot(frame) + LENS_HEIGHT);
+    put_heap_cards(sight, step, band, form, writer)
+}

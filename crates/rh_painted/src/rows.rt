@@ -1,0 +1,33 @@
+//! The rows of an owner's pages.
+
+ghost use Rattle.std.specs.Prelude.{◌≡◌, ◌≤◌, length, max};
+ghost use Rattle.rh_defs.specs.declared.sizes.TheConstants.{MAX_PAGES};
+ghost use Rattle.rh_figure.specs.Share.{count_of};
+ghost use Rattle.rh_lines.specs.Flow.{Puts};
+ghost use Rattle.rh_sheet.specs.Areas.{pages_sentence};
+ghost use Rattle.rh_sheet.specs.Markup.{escape};
+ghost use Rattle.rh_sight.specs.Owners.{owner_of};
+
+use rh_draw::put_escaped;
+use rh_lines::{Row, Sink, WriteFailed};
+use rh_map::add_numbers;
+use rh_sight::{Owner, Step};
+
+/// An owner has a row for each of its pages, and for each that it has given back.
+pub fn rows_for(step: &Step<'_>, owner: Owner, pages: &[u16]) -> usize
+    ensures { result ≡ max (length pages.now) (count_of (owner_of owner) step.now.kept.now.holdings) }
+{
+    pages.len().max(step.kept.count(owner) as usize)
+}
+
+/// Writes which pages an area has, as it is read out.
+pub fn put_pages<W: Sink>(pages: &[u16], writer: &mut W) -> Result<(), WriteFailed>
+    requires { length pages.now ≤ MAX_PAGES }
+    ensures { Puts (W.output writer.old) (W.output writer.new) result (escape (pages_sentence pages.now)) }
+{
+    let mut row = Row::new();
+    row.text(b"Page ");
+    add_numbers(&mut row, pages);
+    row.text(b". ");
+    put_escaped(row.as_slice(), writer)
+}

@@ -1,0 +1,76 @@
+//! A step of a sheet behind its remarks: its command, its reply, what has changed, and its figure.
+
+ghost use Rattle.std.specs.Prelude.{◌≡◌, ◌≤◌, ℕ, List, length, flat_map};
+ghost use Rattle.rh_drawn.specs.Replies.{Excerpts};
+ghost use Rattle.rh_figure.specs.Changes.{changes};
+ghost use Rattle.rh_lines.specs.Flow.{Puts};
+ghost use Rattle.rh_sheet.specs.Markup.{change_item};
+ghost use Rattle.rh_sheet.specs.Steps.{changes_text, drawn_step, still_step, step_text};
+ghost use Rattle.rh_sight.specs.Steps.{IsStepOf, scene_at};
+
+use crate::block_changes::print_block_changes;
+use crate::figure::print_figure;
+use crate::notes::Notes;
+use crate::page_changes::print_page_changes;
+use crate::post_changes::print_post_changes;
+use rh_draw::{print_said, print_still};
+use rh_drawn::{Above, Lists};
+use rh_lines::{Sink, WriteFailed, put};
+use rh_sight::{Sight, Step};
+
+/// The end of what is said at a step.
+pub const SAID_END: &[u8] = b"</div>\n";
+
+/// The end of a step.
+pub const STEP_END: &[u8] = b"</section>\n";
+
+/// Writes a step, where the last figure is that of step `last`, 0 for none. Fails only where the writer failed or took
+/// none of what it was offered; a front of the step is then written.
+pub fn print_step<S: Sight, W: Sink>(
+    sight: &S,
+    step: &Step<'_>,
+    above: &Above<'_>,
+    notes: &Notes,
+    last: u32,
+    lists: &mut Lists,
+    writer: &mut W,
+) -> Result<(), WriteFailed>
+    requires step { IsStepOf (S.desk sight.now) step.now }
+    requires few { length step.now.messages.now ≤ 256 }
+    ensures { (reply : List ℕ) → Excerpts above.now.front.now above.now.count reply → Puts (W.output writer.old) (W.output writer.new) result
+        (step_text above.now.is_still above.now.number above.now.line.now reply (scene_at (S.desk sight.now) step.now) notes.now.items last) }
+{
+    print_said(above.number, above.line, above.front, above.count, writer)?;
+    if above.is_still {
+        return print_still_end(last, writer);
+    }
+    print_changes(sight, step, lists, writer)?;
+    put(writer, SAID_END)?;
+    print_figure(sight, step, notes, above.number, lists, writer)?;
+    put(writer, STEP_END)
+}
+
+/// Writes the rest of a step without a figure.
+fn print_still_end<W: Sink>(last: u32, writer: &mut W) -> Result<(), WriteFailed>
+    ensures { Puts (W.output writer.old) (W.output writer.new) result (concat (still_text last ∷ said_end ∷ step_end ∷ [])) }
+{
+    print_still(last, writer)?;
+    put(writer, SAID_END)?;
+    put(writer, STEP_END)
+}
+
+/// Writes what a step has changed: of the pool, of the named task's flex blocks, and of the messages.
+fn print_changes<S: Sight, W: Sink>(
+    sight: &S,
+    step: &Step<'_>,
+    lists: &mut Lists,
+    writer: &mut W,
+) -> Result<(), WriteFailed>
+    requires { IsStepOf (S.desk sight.now) step.now }
+    ensures { Puts (W.output writer.old) (W.output writer.new) result
+        (changes_text (changes (scene_at (S.desk sight.now) step.now))) }
+{
+    print_page_changes(sight, step, writer)?;
+    print_block_changes(sight, step, &mut lists.blocks, writer)?;
+    print_post_changes(sight, step, writer)
+}
