@@ -1,3 +1,5 @@
 pub mod EscapeLemmas
+pub mod ListLemmas
 pub mod LoopLemmas
 pub mod PutLemmas
+pub mod ReplyLemmas

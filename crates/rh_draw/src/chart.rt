@@ -4,8 +4,8 @@ ghost use Rattle.std.specs.Prelude.{◌≡◌, ◌≤◌, ◌/◌, ◌++◌, cod
 ghost use Rattle.rh_draw.specs.declared.chart.TheConstants.{FARTHEST};
 ghost use Rattle.rh_lines.specs.Flow.{Puts};
 ghost use Rattle.rh_sheet.specs.Chart.{beat_text, life_class as class_of_life, life_text, line_way as way_of_line, loop_way as way_of_loop, message_class as class_of_message, message_way as way_of_message, message_words, side_letters as letters_of_side, stub_way as way_of_stub, tip_x as x_of_tip, words_aside as aside_of_words, words_class as class_of_words, words_down as down_of_words, words_x as x_of_words};
-ghost use Rattle.rh_sheet.specs.Markup.{path_text, point_text, stretch_text};
-ghost use Rattle.rh_sheet.specs.declared.sizes.TheConstants.{LETTER_UNITS, LIFE_TOP, STUB_ASIDE, WORDS_DOWN};
+ghost use Rattle.rh_sheet.specs.Markup.{path_text, point_text, stretch_text, words_text};
+ghost use Rattle.rh_sheet.specs.declared.sizes.TheConstants.{LETTER_UNITS, LIFE_TOP, NAME_Y, STUB_ASIDE, WORDS_DOWN};
 
 use crate::boxes::print_words;
 use crate::markup::{add_point, add_stretch, print_path};
@@ -39,8 +39,32 @@ pub fn print_life<W: Sink>(
 ) -> Result<(), WriteFailed>
     ensures { Puts (W.output writer.old) (W.output writer.new) result (life_text alive name.now gap x foot) }
 {
-    print_words(life_class(alive), x, NAME_Y, life_name(name, gap), writer)?;
-    print_path(b"life", &life_way(x, foot), writer)
+    print_life_name(alive, name, gap, x, writer)?;
+    print_life_line(x, foot, writer)
+}
+
+/// Writes a task's name above its line.
+fn print_life_name<W: Sink>(
+    alive: bool,
+    name: &[u8],
+    gap: u32,
+    x: u32,
+    writer: &mut W,
+) -> Result<(), WriteFailed>
+    ensures { Puts (W.output writer.old) (W.output writer.new) result
+        (words_text (class_of_life alive) x NAME_Y (take (max 1 (gap / LETTER_UNITS)) name.now)) }
+{
+    let front = life_name(name, gap);
+    print_words(life_class(alive), x, NAME_Y, front, writer)
+}
+
+/// Writes the line of a task.
+fn print_life_line<W: Sink>(x: u32, foot: u32, writer: &mut W) -> Result<(), WriteFailed>
+    ensures { Puts (W.output writer.old) (W.output writer.new) result
+        (path_text (codes "life") (point_text (codes "M") x LIFE_TOP ++ stretch_text (codes "V") foot)) }
+{
+    let way = life_way(x, foot);
+    print_path(b"life", &way, writer)
 }
 
 /// As much of a task's name as the gap has room for.

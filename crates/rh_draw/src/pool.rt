@@ -39,16 +39,23 @@ fn cell_y(k: u32) -> u32
     CELL * (k / POOL_COLUMNS)
 }
 
+/// The way round the square of page k.
+fn square_row(k: u32) -> Row
+    requires { k < MAX_PAGES }
+    ensures { result ≡ square_way k }
+{
+    let mut row = Row::new();
+    add_point(&mut row, b"M", cell_x(k) + 1, cell_y(k) + 1);
+    row.text(b"h30v30h-30z");
+    row
+}
+
 /// Writes the way round the square of page k.
 fn print_square<W: Sink>(k: u16, writer: &mut W) -> Result<(), WriteFailed>
     requires { k < MAX_PAGES }
     ensures { Puts (W.output writer.old) (W.output writer.new) result (square_way k) }
 {
-    let page = u32::from(k);
-    let mut row = Row::new();
-    add_point(&mut row, b"M", cell_x(page) + 1, cell_y(page) + 1);
-    row.text(b"h30v30h-30z");
-    put(writer, row.as_slice())
+    put(writer, square_row(u32::from(k)).as_slice())
 }
 
 /// Writes the ways round the squares of some pages.

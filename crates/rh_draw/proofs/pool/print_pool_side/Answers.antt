@@ -7,4 +7,4 @@ returns-in_err-print_words g c =
     puts_stops _ (puts_before _ c.in_err-print_words.ensures refl) c.from_residual.ensures.0
 
 pub returns : goal.returns
-returns g c = puts_more _ _ _ c.in_ok-print_words.ensures c.print_words-2.ensures
+returns g c = puts_more _ _ _ c.in_ok-print_words.ensures c.print_free.ensures

@@ -8,15 +8,15 @@ returns-in_err-put g c =
 
 pub returns-in_err-print_cell : goal.returns-in_err-print_cell
 returns-in_err-print_cell g c =
-    puts_stops _ (puts_more _ _ _ c.in_ok-put.ensures (puts_before _ c.in_err-print_cell.ensures refl)) c.from_residual.ensures.0
+    puts_stops _ (puts_more _ _ _ c.in_ok-put.ensures (puts_before _ c.in_err-print_cell.ensures refl)) c.from_residual-in_err-print_cell.ensures.0
 
-pub returns-in_err-print_cell-2 : goal.returns-in_err-print_cell-2
-returns-in_err-print_cell-2 g c =
-    puts_stops _ (puts_more _ _ _ c.in_ok-put.ensures (puts_more _ _ _ c.in_ok-print_cell.ensures (puts_before _ c.in_err-print_cell-2.ensures refl))) c.from_residual.ensures.0
+pub returns-in_err-print_held : goal.returns-in_err-print_held
+returns-in_err-print_held g c =
+    puts_stops _ (puts_more _ _ _ c.in_ok-put.ensures (puts_more _ _ _ c.in_ok-print_cell.ensures (puts_before _ c.in_err-print_held.ensures refl))) c.from_residual-in_err-print_held.ensures.0
 
 pub returns-in_err-print_waits : goal.returns-in_err-print_waits
 returns-in_err-print_waits g c =
-    puts_stops _ (puts_more _ _ _ c.in_ok-put.ensures (puts_more _ _ _ c.in_ok-print_cell.ensures (puts_more _ _ _ c.in_ok-print_cell-2.ensures (puts_before _ c.in_err-print_waits.ensures refl)))) c.from_residual.ensures.0
+    puts_stops _ (puts_more _ _ _ c.in_ok-put.ensures (puts_more _ _ _ c.in_ok-print_cell.ensures (puts_more _ _ _ c.in_ok-print_held.ensures (puts_before _ c.in_err-print_waits.ensures refl)))) c.from_residual-in_err-print_waits.ensures.0
 
 pub returns : goal.returns
-returns g c = puts_more _ _ _ c.in_ok-put.ensures (puts_more _ _ _ c.in_ok-print_cell.ensures (puts_more _ _ _ c.in_ok-print_cell-2.ensures (puts_more _ _ _ c.in_ok-print_waits.ensures c.put-2.ensures)))
+returns g c = puts_more _ _ _ c.in_ok-put.ensures (puts_more _ _ _ c.in_ok-print_cell.ensures (puts_more _ _ _ c.in_ok-print_held.ensures (puts_more _ _ _ c.in_ok-print_waits.ensures c.put-2.ensures)))
