@@ -5,6 +5,7 @@
 mod areas;
 mod block_changes;
 mod cards;
+mod deeds;
 mod drawn;
 mod excerpt;
 mod figure;
@@ -24,5 +25,7 @@ mod transfers;
 mod usage;
 mod who;
 
+pub use deeds::{Deed, answer, holds_unless, is_wanted, rest_fault, step_of};
 pub use drawn::Drawn;
-pub use running::map_script;
+pub use excerpt::excerpt_fault;
+pub use running::{map_script, run_fault};

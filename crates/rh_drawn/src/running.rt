@@ -51,8 +51,8 @@ pub fn map_script<D: Drawn, R: Source, W: Sink>(
     }
 }
 
-/// The fault of a run.
-fn run_fault(fault: FeedFault) -> RunFault
+/// The fault of a run whose lines ended early.
+pub fn run_fault(fault: FeedFault) -> RunFault
     ensures { result ≡ fault_of fault }
 {
     match fault {

@@ -36,14 +36,14 @@ pub use headings::{
 };
 pub use letterboxes::{MessageEntry, print_letterbox};
 pub use line::{put_line, shown_byte};
+pub use messages::{CardMessage, ChainPlace, print_message_card};
 pub use numbers::add_numbers;
 pub use phrases::{add_pages, add_size};
-pub use messages::{CardMessage, ChainPlace, print_message_card};
 pub use pool::print_pool;
 pub use post_changes::{print_bytes_sent, print_returns, print_sends, print_takes};
 pub use reply::print_reply_lines;
 pub use rows::{Area, print_area};
-pub use script_lines::{is_mark, print_remark};
+pub use script_lines::{has_words, is_mark, print_remark};
 pub use steps::{add_cut, print_more_lines, print_reply_line, print_step_line, print_still};
 pub use transfers::{Side, print_transfer, state_name};
 pub use who::{Who, add_who};

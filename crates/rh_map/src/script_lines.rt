@@ -1,6 +1,6 @@
 //! Lines of a script that ask for nothing: remarks, and marks of the next command.
 
-ghost use Rattle.std.specs.Prelude.{◌≡◌, ◌==◌, ◌++◌, codes, length};
+ghost use Rattle.std.specs.Prelude.{◌≡◌, ◌==◌, ◌++◌, codes, length, not};
 ghost use Rattle.rh_defs.specs.Line.{word, words_of};
 ghost use Rattle.rh_figure.specs.Map.{is_mark as is_mark_of, remark_lines, shown_line};
 ghost use Rattle.rh_figure.specs.Phrases.{cut};
@@ -23,6 +23,13 @@ pub fn is_mark(line: &[u8]) -> bool
     ensures { result ≡ is_mark_of line.now }
 {
     first_word(line) == MARK
+}
+
+/// Whether a line has words.
+pub fn has_words(line: &[u8]) -> bool
+    ensures { result ≡ not (length (words_of line.now) == 0) }
+{
+    !first_word(line).is_empty()
 }
 
 /// Writes a line that is skipped, if it has words. Fails only where the writer failed or took none of what it was

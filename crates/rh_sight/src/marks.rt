@@ -114,7 +114,7 @@ fn is_refusal(reply: &Reply) -> bool
 }
 
 /// The last letter of the task that the command named, if the command sent it.
-fn sent_by<'a, S: Sight>(sight: &'a S, kept: &Kept) -> Option<(&'a Letter, Ref)>
+pub fn sent_by<'a, S: Sight>(sight: &'a S, kept: &Kept) -> Option<(&'a Letter, Ref)>
     ensures { option_map letter_seen result ≡ sent_by_task kept.now (task_at kept.now.handle (S.desk sight.now)) }
 {
     let i = task_with(sight, kept.handle())?;
