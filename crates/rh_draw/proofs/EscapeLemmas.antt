@@ -1,7 +1,5 @@
 -- Text that is escaped part by part.
-use Rattle.std.proofs.Common.{◌≡◌, ℕ, suc, List, [], ◌∷◌, ◌++◌, map, take, drop, ap, sym, ◌∙◌, append-nil}
-use Rattle.std.specs.Prelude.{codes}
-use Rattle.std.specs.List.{flat_map, join_by}
+use Rattle.std.proofs.Common.{◌≡◌, ℕ, List, ◌++◌, take, drop, ap, sym, ◌∙◌}
 use Rattle.std.proofs.lemmas.List.{take-append-drop}
 use Rattle.std.proofs.lemmas.Grind.{flat_map-append}
 use Rattle.rh_sheet.specs.Markup.{escape, escaped_byte}
@@ -10,27 +8,3 @@ use Rattle.rh_sheet.specs.Markup.{escape, escaped_byte}
 pub escape-parts : (n : ℕ) (t : List ℕ) → escape t ≡ escape (take n t) ++ escape (drop n t)
 escape-parts n t =
     ap escape (sym (take-append-drop n t)) ∙ flat_map-append escaped_byte (take n t) (drop n t)
-
--- one text behind another
-pub escape-both : (t u : List ℕ) → escape t ++ escape u ≡ escape (t ++ u)
-escape-both t u = sym (flat_map-append escaped_byte t u)
-
--- the first byte, shown in its own way, and those behind it
-pub escape-byte : (f : ℕ → ℕ) (t rest : List ℕ) (b c : ℕ) → t ≡ b ∷ rest → c ≡ f b
-    → escape (map f t) ≡ escape (c ∷ []) ++ escape (map f rest)
-escape-byte f t rest b c e k =
-    ap (λ t. escape (map f t)) e
-    ∙ ap (λ z. z ++ escape (map f rest)) (sym (ap (λ d. escape (d ∷ [])) k ∙ append-nil (escaped_byte (f b))))
-
--- the text of the first item, and those of the others
-pub escape-item : {A : Type 0} (f : A → List ℕ) (xs : List A) (x : A) (rest : List A) → xs ≡ x ∷ rest
-    → escape (flat_map f xs) ≡ escape (f x) ++ escape (flat_map f rest)
-escape-item f xs x rest e =
-    ap (λ ys. escape (flat_map f ys)) e ∙ flat_map-append escaped_byte (f x) (flat_map f rest)
-
--- the same, where something stands between two items
-pub escape-first : {A : Type 0} (f : A → List ℕ) (between : List ℕ) (xs : List A) (x : A) (rest : List A) → xs ≡ x ∷ rest
-    → escape (f x) ++ escape (flat_map (λ y. between ++ f y) rest) ≡ escape (join_by f between xs)
-escape-first f between xs x rest e =
-    sym (ap (λ ys. escape (join_by f between ys)) e
-    ∙ flat_map-append escaped_byte (f x) (flat_map (λ y. between ++ f y) rest))

@@ -1,6 +1,6 @@
 use Rattle.rh_map.proofs.SeamLemmas.{some-left}
 use Rattle.rh_draw.proofs.ListLemmas.{squares-some}
-use Rattle.rh_draw.proofs.PutLemmas.{puts-as}
+use Rattle.rh_draw.proofs.WriteLemmas.{puts-as}
 use Rattle.rh_draw.proofs.pool.print_squares.Goals as goal
 
 pub returns : goal.returns

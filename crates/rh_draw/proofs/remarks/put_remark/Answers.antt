@@ -1,6 +1,6 @@
 use Rattle.rh_sheet.specs.Steps.{remark_byte}
 use Rattle.rh_map.proofs.Left.{left_less, left_breaks}
-use Rattle.rh_draw.proofs.EscapeLemmas.{escape-byte}
+use Rattle.rh_draw.proofs.EscapedItems.{escape-byte}
 use Rattle.rh_draw.proofs.remarks.put_remark.Goals as goal
 
 pub returns-in_err-put_escaped : goal.returns-in_err-put_escaped

@@ -1,5 +1,5 @@
 use Rattle.std.proofs.Common.{append_assoc}
-use Rattle.rh_draw.proofs.PutLemmas.{puts-as}
+use Rattle.rh_draw.proofs.WriteLemmas.{puts-as}
 use Rattle.rh_draw.proofs.steps.print_command.Goals as goal
 
 pub returns : goal.returns

@@ -3,7 +3,7 @@ use Rattle.std.specs.Prelude.{codes}
 use Rattle.std.specs.List.{join_by}
 use Rattle.rh_lines.proofs.FlowLemmas.{puts_before, puts_stops, puts_more}
 use Rattle.rh_sheet.specs.Markup.{escape}
-use Rattle.rh_draw.proofs.PutLemmas.{puts-as}
+use Rattle.rh_draw.proofs.WriteLemmas.{puts-as}
 use Rattle.rh_draw.proofs.steps.print_said.Goals as goal
 
 -- the lines of a reply as they are shown

@@ -3,8 +3,8 @@ use Rattle.rh_lines.proofs.FlowLemmas.{puts_before, puts_stops, puts_more}
 use Rattle.rh_map.specs.Messages.{text_of}
 use Rattle.rh_sheet.specs.Markup.{escape}
 use Rattle.rh_draw.specs.Letters.{behind_commas}
-use Rattle.rh_draw.proofs.EscapeLemmas.{escape-first}
-use Rattle.rh_draw.proofs.PutLemmas.{puts-as}
+use Rattle.rh_draw.proofs.EscapedItems.{escape-first}
+use Rattle.rh_draw.proofs.WriteLemmas.{puts-as}
 use Rattle.rh_draw.proofs.tables.put_entries.Goals as goal
 use Rattle.std.proofs.Common.{refl}
 

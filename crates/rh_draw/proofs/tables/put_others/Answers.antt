@@ -3,7 +3,7 @@ use Rattle.std.specs.Prelude.{codes}
 use Rattle.rh_map.specs.declared.letterboxes.MessageEntry.{MessageEntry}
 use Rattle.rh_map.specs.Messages.{text_of}
 use Rattle.rh_map.proofs.Left.{left_less, left_breaks}
-use Rattle.rh_draw.proofs.EscapeLemmas.{escape-item}
+use Rattle.rh_draw.proofs.EscapedItems.{escape-item}
 use Rattle.rh_draw.proofs.tables.put_others.Goals as goal
 
 abbrev behind : MessageEntry → List ℕ

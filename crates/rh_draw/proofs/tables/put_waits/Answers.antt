@@ -5,8 +5,8 @@ use Rattle.rh_figure.specs.Phrases.{and_more}
 use Rattle.rh_lines.proofs.FlowLemmas.{puts_before, puts_stops, puts_more}
 use Rattle.rh_map.specs.Messages.{text_of}
 use Rattle.rh_sheet.specs.Markup.{escape}
-use Rattle.rh_draw.proofs.EscapeLemmas.{escape-both}
-use Rattle.rh_draw.proofs.PutLemmas.{puts-as}
+use Rattle.rh_draw.proofs.EscapedItems.{escape-both}
+use Rattle.rh_draw.proofs.WriteLemmas.{puts-as}
 use Rattle.rh_draw.proofs.tables.put_waits.Goals as goal
 
 pub returns-in_err-put_entries : goal.returns-in_err-put_entries
