@@ -1,0 +1,28 @@
+-- Charts by what is kept of them.
+use Rattle.std.specs.Prelude.{◌≤◌, length}
+use Rattle.rh_draw.specs.declared.chart.Ends.{Ends}
+use Rattle.rh_painted.specs.declared.chart.Chart.{Chart}
+use Rattle.rh_painted.specs.declared.numbers.TheConstants.{MOST_NUMBERS}
+use Rattle.rh_painted.specs.declared.ways.Way.{Way}
+use Rattle.rh_sheet.specs.Chart.{step_y, task_x}
+
+-- a chart has as few tasks and steps as that of the last messages
+pub record IsSmall (c : Chart) : Type 0 where
+  pub tasks : length c.tasks.now ≤ MOST_NUMBERS
+  pub steps : length c.steps.now ≤ MOST_NUMBERS
+
+-- where an arrow begins and ends
+abbrev pub ends_of : Chart → Way → Ends
+ends_of c w = record {
+  x0 = task_x c.tasks.now w.from;
+  y0 = step_y c.steps.now w.start;
+  x1 = task_x c.tasks.now w.to;
+  y1 = step_y c.steps.now w.stop;
+}
+
+-- an arrow lies within the room that a chart has
+pub record AreNear (e : Ends) : Type 0 where
+  pub x0 : e.x0 ≤ 10000
+  pub y0 : e.y0 ≤ 10000
+  pub x1 : e.x1 ≤ 10000
+  pub y1 : e.y1 ≤ 10000
