@@ -1,3 +1,10 @@
+pub mod ArrowLemmas
 pub mod EscapeLemmas
+pub mod EscapedItems
+pub mod FigureLemmas
+pub mod ListLemmas
 pub mod LoopLemmas
 pub mod PutLemmas
+pub mod ReplyLemmas
+pub mod RowLemmas
+pub mod WriteLemmas

@@ -1,11 +1,11 @@
 //! The elements of a chart of messages.
 
-ghost use Rattle.std.specs.Prelude.{◌≡◌, ◌≤◌, ◌<◌, ◌^◌, length};
+ghost use Rattle.std.specs.Prelude.{◌≡◌, ◌≤◌, ◌/◌, ◌++◌, codes, length, max, take};
 ghost use Rattle.rh_draw.specs.declared.chart.TheConstants.{FARTHEST};
 ghost use Rattle.rh_lines.specs.Flow.{Puts};
 ghost use Rattle.rh_sheet.specs.Chart.{beat_text, life_class as class_of_life, life_text, line_way as way_of_line, loop_way as way_of_loop, message_class as class_of_message, message_way as way_of_message, message_words, side_letters as letters_of_side, stub_way as way_of_stub, tip_x as x_of_tip, words_aside as aside_of_words, words_class as class_of_words, words_down as down_of_words, words_x as x_of_words};
-ghost use Rattle.rh_sheet.specs.Markup.{path_text};
-ghost use Rattle.rh_sheet.specs.declared.sizes.TheConstants.{STUB_ASIDE, WORDS_DOWN};
+ghost use Rattle.rh_sheet.specs.Markup.{path_text, point_text, stretch_text, words_text};
+ghost use Rattle.rh_sheet.specs.declared.sizes.TheConstants.{LETTER_UNITS, LIFE_TOP, NAME_Y, STUB_ASIDE, WORDS_DOWN};
 
 use crate::boxes::print_words;
 use crate::markup::{add_point, add_stretch, print_path};
@@ -37,16 +37,53 @@ pub fn print_life<W: Sink>(
     foot: u32,
     writer: &mut W,
 ) -> Result<(), WriteFailed>
-    requires { gap < 2 ^ 16 }
     ensures { Puts (W.output writer.old) (W.output writer.new) result (life_text alive name.now gap x foot) }
 {
+    print_life_name(alive, name, gap, x, writer)?;
+    print_life_line(x, foot, writer)
+}
+
+/// Writes a task's name above its line.
+fn print_life_name<W: Sink>(
+    alive: bool,
+    name: &[u8],
+    gap: u32,
+    x: u32,
+    writer: &mut W,
+) -> Result<(), WriteFailed>
+    ensures { Puts (W.output writer.old) (W.output writer.new) result
+        (words_text (class_of_life alive) x NAME_Y (take (max 1 (gap / LETTER_UNITS)) name.now)) }
+{
+    let front = life_name(name, gap);
+    print_words(life_class(alive), x, NAME_Y, front, writer)
+}
+
+/// Writes the line of a task.
+fn print_life_line<W: Sink>(x: u32, foot: u32, writer: &mut W) -> Result<(), WriteFailed>
+    ensures { Puts (W.output writer.old) (W.output writer.new) result
+        (path_text (codes "life") (point_text (codes "M") x LIFE_TOP ++ stretch_text (codes "V") foot)) }
+{
+    let way = life_way(x, foot);
+    print_path(b"life", &way, writer)
+}
+
+/// As much of a task's name as the gap has room for.
+fn life_name(name: &[u8], gap: u32) -> &[u8]
+    ensures { result.now ≡ take (max 1 (gap / LETTER_UNITS)) name.now }
+{
     let most = (gap / LETTER_UNITS).max(1) as usize;
-    let front = &name[..name.len().min(most)];
-    print_words(life_class(alive), x, NAME_Y, front, writer)?;
+    &name[..name.len().min(most)]
+}
+
+/// The line of a task.
+fn life_way(x: u32, foot: u32) -> Row
+    ensures value { result ≡ point_text (codes "M") x LIFE_TOP ++ stretch_text (codes "V") foot }
+    ensures few { length result ≤ 60 }
+{
     let mut way = Row::new();
     add_point(&mut way, b"M", x, LIFE_TOP);
     add_stretch(&mut way, b"V", foot);
-    print_path(b"life", &way, writer)
+    way
 }
 
 /// The classes of a task's name.

@@ -8,6 +8,7 @@ ghost use Rattle.rh_sheet.specs.Markup.{cell_text, change_item, figure_begin, he
 
 use crate::attributes::add_text_attribute;
 use crate::escape::put_between;
+use crate::figures::print_figure_open;
 use rh_lines::{Row, Sink, WriteFailed, put};
 
 /// Writes a line along a way. Fails only where the writer failed or took none of what it was offered; a front of the
@@ -59,13 +60,7 @@ pub fn print_figure_begin<W: Sink>(
     ensures { Puts (W.output writer.old) (W.output writer.new) result
         (figure_begin width height title.now description.now) }
 {
-    let mut row = Row::new();
-    row.text(b"<svg viewBox=\"0 0 ");
-    row.decimal(width);
-    row.byte(b' ');
-    row.decimal(height);
-    row.text(b"\" role=\"img\">\n<title>");
-    put_between(row.as_slice(), title, b"</title>\n<desc>", writer)?;
+    print_figure_open(width, height, title, writer)?;
     put_between(b"", description, b"</desc>\n", writer)
 }
 

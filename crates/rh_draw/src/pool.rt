@@ -1,13 +1,14 @@
 //! The pool of pages: squares with numbers, tints and tags.
 
-ghost use Rattle.std.specs.Prelude.{◌≡◌, ◌≤◌, ◌<◌, ◌+◌, ◌++◌, length};
+ghost use Rattle.std.specs.Prelude.{◌≡◌, ◌≤◌, ◌<◌, ◌+◌, ◌++◌, codes, length};
 ghost use Rattle.std.specs.List.{flat_map, range_with_len};
 ghost use Rattle.rh_defs.specs.declared.sizes.TheConstants.{MAX_PAGES};
 ghost use Rattle.rh_draw.specs.Pages.{AreBelow};
 ghost use Rattle.rh_lines.specs.Flow.{Puts};
 ghost use Rattle.rh_lines.specs.declared.row.TheConstants.{ROW};
-ghost use Rattle.rh_sheet.specs.Markup.{box_text};
-ghost use Rattle.rh_sheet.specs.Pool.{cell_x as x_of_cell, cell_y as y_of_cell, free_text, grid_box, grid_text, number_text, pool_side, rest_row_text, square_way, squares_begin, squares_text, tag_text, whole_rows_text};
+ghost use Rattle.rh_sheet.specs.Markup.{box_text, words_text};
+ghost use Rattle.rh_sheet.specs.Pool.{cell_x as x_of_cell, cell_y as y_of_cell, free_text, grid_box, grid_text, number_text, pool_side, rest_row_text, some_squares, square_way, squares_begin, squares_text, tag_text, whole_rows_text};
+ghost use Rattle.rh_sheet.specs.declared.sizes.TheConstants.{POOL_NOTE_Y};
 
 use crate::attributes::add_text_attribute;
 use crate::boxes::{Extent, print_box, print_words};
@@ -38,16 +39,23 @@ fn cell_y(k: u32) -> u32
     CELL * (k / POOL_COLUMNS)
 }
 
+/// The way round the square of page k.
+fn square_row(k: u32) -> Row
+    requires { k < MAX_PAGES }
+    ensures { result ≡ square_way k }
+{
+    let mut row = Row::new();
+    add_point(&mut row, b"M", cell_x(k) + 1, cell_y(k) + 1);
+    row.text(b"h30v30h-30z");
+    row
+}
+
 /// Writes the way round the square of page k.
 fn print_square<W: Sink>(k: u16, writer: &mut W) -> Result<(), WriteFailed>
     requires { k < MAX_PAGES }
     ensures { Puts (W.output writer.old) (W.output writer.new) result (square_way k) }
 {
-    let page = u32::from(k);
-    let mut row = Row::new();
-    add_point(&mut row, b"M", cell_x(page) + 1, cell_y(page) + 1);
-    row.text(b"h30v30h-30z");
-    put(writer, row.as_slice())
+    put(writer, square_row(u32::from(k)).as_slice())
 }
 
 /// Writes the ways round the squares of some pages.
@@ -90,6 +98,20 @@ pub fn print_squares<W: Sink>(
     if pages.is_empty() {
         return Ok(());
     }
+    print_some_squares(class, pages, tip, writer)
+}
+
+/// Writes the squares of some pages, with a tip.
+fn print_some_squares<W: Sink>(
+    class: &[u8],
+    pages: &[u16],
+    tip: &[u8],
+    writer: &mut W,
+) -> Result<(), WriteFailed>
+    requires class { length class.now ≤ 40 }
+    requires pages { AreBelow MAX_PAGES pages.now }
+    ensures { Puts (W.output writer.old) (W.output writer.new) result (some_squares class.now pages.now tip.now) }
+{
     print_squares_begin(class, writer)?;
     print_ways(pages, writer)?;
     put_between(b"\"><title>", tip, b"</title></path>\n", writer)
@@ -236,8 +258,16 @@ fn add_free(row: &mut Row, free: u32, pages: u32)
 pub fn print_pool_side<W: Sink>(free: u32, pages: u32, writer: &mut W) -> Result<(), WriteFailed>
     ensures { Puts (W.output writer.old) (W.output writer.new) result (pool_side free pages) }
 {
+    print_words(b"side", 0, POOL_NAME_Y, b"Pool", writer)?;
+    print_free(free, pages, writer)
+}
+
+/// Writes how many pages of so many are free.
+fn print_free<W: Sink>(free: u32, pages: u32, writer: &mut W) -> Result<(), WriteFailed>
+    ensures { Puts (W.output writer.old) (W.output writer.new) result
+        (words_text (codes "small") 0 POOL_NOTE_Y (free_text free pages)) }
+{
     let mut note = Row::new();
     add_free(&mut note, free, pages);
-    print_words(b"side", 0, POOL_NAME_Y, b"Pool", writer)?;
     print_words(b"small", 0, POOL_NOTE_Y, note.as_slice(), writer)
 }

@@ -3,7 +3,7 @@
 ghost use Rattle.std.specs.Prelude.{◌≡◌, ◌≤◌, length, map};
 ghost use Rattle.rh_lines.specs.Flow.{Puts};
 ghost use Rattle.rh_sheet.specs.Markup.{escape};
-ghost use Rattle.rh_sheet.specs.Steps.{remark_byte as remark_byte_of, remark_class as remark_class_of, remark_text, remark_words as remark_words_of, sign_length as length_of_sign, stripped as stripped_of, without_indent};
+ghost use Rattle.rh_sheet.specs.Steps.{remark_byte as remark_byte_of, remark_class as remark_class_of, remark_of, remark_text, remark_words as remark_words_of, sign_length as length_of_sign, some_remark, stripped as stripped_of, without_indent};
 
 use crate::escape::put_escaped;
 use rh_lines::{Sink, WriteFailed, put};
@@ -25,12 +25,27 @@ fn remark_byte(byte: u8) -> u8
 pub fn print_remark<W: Sink>(line: &[u8], writer: &mut W) -> Result<(), WriteFailed>
     ensures { Puts (W.output writer.old) (W.output writer.new) result (remark_text line.now) }
 {
-    let words = remark_words(line);
+    print_shown(remark_class(line), remark_words(line), writer)
+}
+
+/// Writes the bytes of a remark as they are shown, if there are some.
+fn print_shown<W: Sink>(class: &[u8], words: &[u8], writer: &mut W) -> Result<(), WriteFailed>
+    ensures { Puts (W.output writer.old) (W.output writer.new) result
+        (remark_of class.now (map remark_byte_of words.now)) }
+{
     if words.is_empty() {
         return Ok(());
     }
+    print_some(class, words, writer)
+}
+
+/// Writes the bytes of a remark as they are shown.
+fn print_some<W: Sink>(class: &[u8], words: &[u8], writer: &mut W) -> Result<(), WriteFailed>
+    ensures { Puts (W.output writer.old) (W.output writer.new) result
+        (some_remark class.now (map remark_byte_of words.now)) }
+{
     put(writer, b"<p class=\"")?;
-    put(writer, remark_class(line))?;
+    put(writer, class)?;
     put(writer, b"\">")?;
     put_remark(words, writer)?;
     put(writer, b"</p>\n")

@@ -1,6 +1,6 @@
 //! The lines of a reply, of which the first are shown.
 
-ghost use Rattle.std.specs.Prelude.{◌≡◌, ◌≤◌, List, ℕ, [], ◌∷◌, ◌++◌, IfNone, IfSome, codes, length};
+ghost use Rattle.std.specs.Prelude.{◌≡◌, ◌≤◌, ◌-◌, List, ℕ, [], ◌∷◌, ◌++◌, IfNone, IfSome, codes, length};
 ghost use Rattle.std.specs.List.{flat_map, join_by};
 ghost use Rattle.rh_draw.specs.Replies.{behind_feeds};
 ghost use Rattle.rh_figure.specs.Map.{more_lines};

@@ -5,10 +5,10 @@ ghost use Rattle.std.specs.List.{flat_map, range_with_len};
 ghost use Rattle.rh_defs.specs.declared.sizes.TheConstants.{MAX_PAGES};
 ghost use Rattle.rh_lines.specs.Flow.{Puts};
 ghost use Rattle.rh_sheet.specs.Fixed.{key_text, signs_text, style_text};
-ghost use Rattle.rh_sheet.specs.Sheet.{left_text, numbered_link, shared_text, sheet_foot, sheet_head, title_text};
+ghost use Rattle.rh_sheet.specs.Sheet.{left_text, links_begin, numbered_link, shared_text, sheet_foot, sheet_head, title_text};
 ghost use Rattle.rh_sheet.specs.declared.sizes.TheConstants.{MOST_STEPS};
 
-use crate::escape::put_between;
+use crate::escape::put_escaped;
 use crate::links::print_numbered_link;
 use crate::pool::print_grid;
 use rh_lines::{Row, Sink, WriteFailed, put};
@@ -49,7 +49,9 @@ fn put_key<W: Sink>(writer: &mut W) -> Result<(), WriteFailed>
 fn print_title<W: Sink>(name: &[u8], writer: &mut W) -> Result<(), WriteFailed>
     ensures { Puts (W.output writer.old) (W.output writer.new) result (title_text name.now) }
 {
-    put_between(BEFORE_TITLE, name, b"</title>\n<style>\n", writer)?;
+    put(writer, BEFORE_TITLE)?;
+    put_escaped(name, writer)?;
+    put(writer, b"</title>\n<style>\n")?;
     put_style(writer)?;
     put(writer, b"</style>\n</head>\n")
 }
@@ -74,7 +76,9 @@ pub fn print_head<W: Sink>(name: &[u8], pages: u32, writer: &mut W) -> Result<()
     print_title(name, writer)?;
     put(writer, b"<body id=\"all\">\n")?;
     print_shared(pages, writer)?;
-    put_between(b"<header><h1>", name, b"</h1>\n", writer)?;
+    put(writer, b"<header><h1>")?;
+    put_escaped(name, writer)?;
+    put(writer, b"</h1>\n")?;
     put_key(writer)?;
     put(writer, b"</header>\n<main>\n")
 }
@@ -90,6 +94,17 @@ fn print_left<W: Sink>(left: u32, writer: &mut W) -> Result<(), WriteFailed>
     row.text(b"<p>Commands not drawn: ");
     row.decimal(left);
     row.text(b".</p>\n");
+    put(writer, row.as_slice())
+}
+
+/// Writes the beginning of the links, where step n would stand.
+fn print_links_begin<W: Sink>(n: u32, writer: &mut W) -> Result<(), WriteFailed>
+    ensures { Puts (W.output writer.old) (W.output writer.new) result (links_begin n) }
+{
+    let mut row = Row::new();
+    row.text(b"</main>\n<nav id=\"d");
+    row.decimal(n);
+    row.text(b"\">\n");
     put(writer, row.as_slice())
 }
 
@@ -111,11 +126,7 @@ pub fn print_foot<W: Sink>(n: u32, left: u32, writer: &mut W) -> Result<(), Writ
     ensures { Puts (W.output writer.old) (W.output writer.new) result (sheet_foot n left) }
 {
     print_left(left, writer)?;
-    let mut row = Row::new();
-    row.text(b"</main>\n<nav id=\"d");
-    row.decimal(n + 1);
-    row.text(b"\">\n");
-    put(writer, row.as_slice())?;
+    print_links_begin(n + 1, writer)?;
     print_links(n, writer)?;
     put(writer, b"</nav>\n</body>\n</html>\n")
 }

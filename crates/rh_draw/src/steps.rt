@@ -2,20 +2,19 @@
 
 ghost use Rattle.std.specs.Prelude.{◌≡◌, ◌≤◌, ◌<◌, ◌+◌, ◌^◌, ℕ, List, ◌++◌, length, map};
 ghost use Rattle.rh_defs.specs.Script.{ended};
-ghost use Rattle.rh_draw.specs.Replies.{command_head};
 ghost use Rattle.rh_figure.specs.Map.{reply_lines, shown_byte as shown_byte_of};
 ghost use Rattle.rh_figure.specs.declared.limits.TheConstants.{LINE_COLUMNS};
 ghost use Rattle.rh_lines.specs.Flow.{Puts};
 ghost use Rattle.rh_lines.specs.declared.row.TheConstants.{ROW};
 ghost use Rattle.rh_map.specs.Replies.{excerpt_lines};
-ghost use Rattle.rh_sheet.specs.Steps.{back_link, command_text, last_figure, said_text, step_open, still_text};
+ghost use Rattle.rh_sheet.specs.Steps.{back_link, command_head, command_text, last_figure, said_text, step_open, still_text};
 
 use crate::escape::put_between;
 use crate::links::add_step_link;
 use crate::reply::put_reply;
 use rh_figure::limits::LINE_COLUMNS;
 use rh_lines::{Row, Sink, WriteFailed, put};
-use rh_map::shown_byte;
+use rh_map::{add_cut, shown_byte};
 
 /// Adds a link to the step before step n, where there is one.
 fn add_back_link(row: &mut Row, n: u32)
@@ -36,6 +35,14 @@ pub fn print_step_open<W: Sink>(n: u32, writer: &mut W) -> Result<(), WriteFaile
     requires { n < 2 ^ 31 }
     ensures { Puts (W.output writer.old) (W.output writer.new) result (step_open n) }
 {
+    put(writer, step_row(n).as_slice())
+}
+
+/// The beginning of step n.
+fn step_row(n: u32) -> Row
+    requires { n < 2 ^ 31 }
+    ensures { result ≡ step_open n }
+{
     let mut row = Row::new();
     row.text(b"<section id=\"d");
     row.decimal(n);
@@ -44,7 +51,7 @@ pub fn print_step_open<W: Sink>(n: u32, writer: &mut W) -> Result<(), WriteFaile
     row.byte(b' ');
     add_step_link(&mut row, n + 1, b"&#9654;");
     row.text(b" <a href=\"#all\">all</a></nav>\n");
-    put(writer, row.as_slice())
+    row
 }
 
 /// A line of a script as it is shown.
@@ -52,20 +59,18 @@ fn command_row(line: &[u8]) -> Row
     ensures value { result ≡ command_text line.now }
     ensures few { length result ≤ LINE_COLUMNS }
 {
+    let mut front = Row::new();
+    add_cut(&mut front, LINE_COLUMNS, line);
     let mut row = Row::new();
-    if line.len() <= LINE_COLUMNS {
-        add_shown(&mut row, line);
-    } else {
-        add_shown(&mut row, &line[..LINE_COLUMNS - 2]);
-        row.text(b"..");
-    }
+    add_shown(&mut row, front.as_slice());
     row
 }
 
 /// Adds bytes as they are shown.
 fn add_shown(row: &mut Row, text: &[u8])
     requires { length row.old + length text.now ≤ ROW }
-    ensures { row.new ≡ row.old ++ map shown_byte_of text.now }
+    ensures value { row.new ≡ row.old ++ map shown_byte_of text.now }
+    ensures few { length row.new ≡ length row.old + length text.now }
 {
     for byte in text {
         row.byte(shown_byte(*byte));

@@ -4,6 +4,7 @@ ghost use Rattle.std.specs.Prelude.{◌≡◌, ◌≤◌, ◌<◌, ◌^◌, ◌+
 ghost use Rattle.std.specs.Fmt.{decimal};
 ghost use Rattle.std.specs.List.{join_by};
 ghost use Rattle.std.specs.Option.{option_map};
+ghost use Rattle.rh_defs.specs.Text.{state_name as state_name_of};
 ghost use Rattle.rh_draw.specs.Letters.{behind_commas};
 ghost use Rattle.rh_figure.specs.Phrases.{and_more};
 ghost use Rattle.rh_lines.specs.Flow.{Puts};
@@ -15,7 +16,7 @@ ghost use Rattle.rh_sheet.specs.Tables.{letterbox_row, side_cells, transfer_row}
 use crate::escape::put_escaped;
 use crate::markup::print_cell;
 use crate::words::{add_entry, add_more};
-use rh_defs::Ref;
+use rh_defs::{Name, Ref, State};
 use rh_lines::{Row, Sink, WriteFailed, put};
 use rh_map::{MessageEntry, Side, state_name};
 
@@ -34,9 +35,17 @@ pub fn print_letterbox_row<W: Sink>(
 {
     put(writer, b"<tr>")?;
     print_cell(name, writer)?;
-    print_cell(held_row(held).as_slice(), writer)?;
+    print_held(held, writer)?;
     print_waits(waits, count, writer)?;
     put(writer, b"</tr>\n")
+}
+
+/// Writes the cell of what a task holds.
+fn print_held<W: Sink>(held: Option<MessageEntry>, writer: &mut W) -> Result<(), WriteFailed>
+    ensures { Puts (W.output writer.old) (W.output writer.new) result (cell_text (held_text held)) }
+{
+    let row = held_row(held);
+    print_cell(row.as_slice(), writer)
 }
 
 /// What a task holds.
@@ -60,9 +69,21 @@ fn print_waits<W: Sink>(
     ensures { Puts (W.output writer.old) (W.output writer.new) result (cell_text (waits_text waits.now count)) }
 {
     put(writer, b"<td>")?;
-    put_entries(waits, writer)?;
-    put_more(count, writer)?;
+    put_waits(waits, count, writer)?;
     put(writer, b"</td>")
+}
+
+/// Writes what waits for a task.
+fn put_waits<W: Sink>(
+    waits: &[MessageEntry],
+    count: usize,
+    writer: &mut W,
+) -> Result<(), WriteFailed>
+    requires { count < 2 ^ 32 }
+    ensures { Puts (W.output writer.old) (W.output writer.new) result (escape (waits_text waits.now count)) }
+{
+    put_entries(waits, writer)?;
+    put_more(count, writer)
 }
 
 /// Writes messages with commas between them.
@@ -133,9 +154,30 @@ fn print_side<W: Sink>(side: &Option<Side<'_>>, writer: &mut W) -> Result<(), Wr
 fn print_cells<W: Sink>(side: &Side<'_>, writer: &mut W) -> Result<(), WriteFailed>
     ensures { Puts (W.output writer.old) (W.output writer.new) result (side_cells (Some (side_of side.now))) }
 {
-    print_cell(side.name.as_bytes(), writer)?;
-    print_cell(state_name(side.record.state), writer)?;
+    print_name_cell(side.name, writer)?;
+    print_state_cell(side.record.state, writer)?;
     print_number_cell(side.record.count, writer)
+}
+
+/// Writes the cell of a task.
+fn print_name_cell<W: Sink>(name: &Name, writer: &mut W) -> Result<(), WriteFailed>
+    ensures { Puts (W.output writer.old) (W.output writer.new) result (cell_text name.now) }
+{
+    print_cell(name.as_bytes(), writer)
+}
+
+/// Writes the cell of a transfer's state.
+fn print_state_cell<W: Sink>(state: State, writer: &mut W) -> Result<(), WriteFailed>
+    ensures { Puts (W.output writer.old) (W.output writer.new) result (cell_text (state_name_of state)) }
+{
+    print_cell(state_name(state), writer)
+}
+
+/// Writes the cell of a transfer's id.
+fn print_id_cell<W: Sink>(id: Ref, writer: &mut W) -> Result<(), WriteFailed>
+    ensures { Puts (W.output writer.old) (W.output writer.new) result (cell_text (decimal id)) }
+{
+    print_number_cell(id.0, writer)
 }
 
 /// Writes the row of a transfer, of which either side may be gone. Fails only where the writer failed or took none of
@@ -150,7 +192,7 @@ pub fn print_transfer_row<W: Sink>(
         (transfer_row (record { id = id; goes_out = option_map side_of goes_out.now; comes_in = option_map side_of comes_in.now })) }
 {
     put(writer, b"<tr>")?;
-    print_number_cell(id.0, writer)?;
+    print_id_cell(id, writer)?;
     print_side(goes_out, writer)?;
     print_side(comes_in, writer)?;
     put(writer, b"</tr>\n")

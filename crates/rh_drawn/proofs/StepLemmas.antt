@@ -21,7 +21,8 @@ use Rattle.rh_figure.proofs.Alike.{marks-alike, scene-alike}
 use Rattle.rh_lines.specs.Flow.{Breaks, Output, Puts, Takes}
 use Rattle.rh_lines.proofs.FlowLemmas.{takes_none}
 use Rattle.rh_drawn.specs.declared.mapper.Mapper.{Mapper}
-use Rattle.rh_drawn.specs.Places.{Broke, BrokeLine, BrokeRest, Drew, IsLikeReply, IsSamePlace, TookLine, TookRest, place_in, reply_to, rest_means, shown_step}
+use Rattle.rh_drawn.specs.Deeds.{IsLikeReply, reply_to, rest_means}
+use Rattle.rh_drawn.specs.Places.{Broke, BrokeLine, BrokeRest, Drew, IsSamePlace, TookLine, TookRest, place_in, shown_step}
 use Rattle.rh_drawn.proofs.MapLemmas.{shared_alike}
 use Rattle.rh_drawn.proofs.ReadLemmas.{same_read}
 use Rattle.rh_drawn.proofs.RunLemmas.{kept_some, rest_bad, same_rest}

@@ -7,5 +7,6 @@ pub mod Letters
 pub mod Returns
 pub mod Sides
 pub mod Replies
+pub mod Deeds
 pub mod Places
 pub mod Mapped

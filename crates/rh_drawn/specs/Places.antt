@@ -1,18 +1,16 @@
 -- What a map has done with a line of its script.
 use Rattle.std.specs.Prelude.{◌≡◌, ◌||◌, ◌&&◌, not, Bool, false, nat_lt, if◌then◌else◌, List, [], ◌∷◌, length, ℕ, Option, Some, Err, is_err}
 use Rattle.rh_defs.specs.declared.command.Command.{Command}
-use Rattle.rh_defs.specs.declared.fault.LineFault.TheVariants.{TooLong, Unended}
 use Rattle.rh_defs.specs.declared.reply.Reply.{Reply}
-use Rattle.rh_defs.specs.Line.{Meaning, line_means, longest_line}
+use Rattle.rh_defs.specs.Line.{Meaning, line_means}
 use Rattle.rh_defs.specs.Desk.{Desk}
-use Rattle.rh_defs.specs.Step.{step}
 use Rattle.rh_defs.specs.Order.{IsReordered}
-use Rattle.rh_defs.specs.Text.{reply_text}
 use Rattle.rh_figure.specs.Share.{Share, IsShared}
 use Rattle.rh_figure.specs.Phrases.{Text}
 use Rattle.rh_figure.specs.Scene.{Before, is_still, marks_of, scene_of}
 use Rattle.rh_figure.specs.Map.{Place, Read, after_read, lines_of_read, place, step_lines, written_lines}
 use Rattle.rh_lines.specs.Flow.{Output, Takes, Breaks}
+use Rattle.rh_drawn.specs.Deeds.{rest_means}
 use Rattle.rh_drawn.specs.declared.mapper.Mapper.{Mapper}
 
 -- where a map stands, by the desk that it looks at
@@ -63,10 +61,6 @@ TookLine desk m o line n p = Drew desk m o line (line_means line) n p
 abbrev pub BrokeLine : {D : Type 0} → (D → Desk) → Mapper D → Output → List ℕ → Output → Type 0
 BrokeLine desk m o line p = Broke desk m o line (line_means line) p
 
--- what is wrong with a line that was cut
-abbrev pub rest_means : Text → Meaning (Option Command)
-rest_means rest = if nat_lt longest_line (length rest) then Err TooLong else Err Unended
-
 -- the same of what stands behind the last line feed, which may be nothing
 abbrev pub TookRest : {D : Type 0} → (D → Desk) → Mapper D → Output → List ℕ → Mapper D → Output → Type 0
 TookRest desk m o [] n p = (n ≡ m) × (p ≡ o)
@@ -77,15 +71,6 @@ BrokeRest desk m o [] p = ⊥
 BrokeRest desk m o (b ∷ bs) p = Broke desk m o (b ∷ bs) (rest_means (b ∷ bs)) p
 
 -- ---- steps
-
--- the reply that is printed to a command
-abbrev pub reply_to : Desk → Command → Text
-reply_to d c = reply_text (step d c).0 c (step d c).1
-
--- a reply shows of a command what the desk's reply shows
-pub record IsLikeReply (d : Desk) (c : Command) (r : Reply) : Type 0 where
-  pub still : is_still (Some c) r ≡ is_still (Some c) (step d c).1
-  pub marks : (after : Desk) (b : Before) → marks_of after b (Some c) r ≡ marks_of after b (Some c) (step d c).1
 
 -- the lines of a step, on the desk behind it
 abbrev pub shown_step : Bool → ℕ → Text → Text → Desk → Share → Before → Option Command → Reply → List Text

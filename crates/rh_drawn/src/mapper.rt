@@ -5,29 +5,26 @@ ghost use Rattle.std.specs.Option.{option_map};
 ghost use Rattle.rh_defs.specs.Order.{IsReordered};
 ghost use Rattle.rh_defs.specs.Range.{in_range};
 ghost use Rattle.rh_defs.specs.Step.{step};
-ghost use Rattle.rh_drawn.specs.Places.{Broke, Drew, IsFirst, IsLikeReply, IsSamePlace, reply_to, rest_means, shown_step};
+ghost use Rattle.rh_drawn.specs.Places.{Broke, Drew, IsFirst, IsSamePlace, shown_step};
 ghost use Rattle.rh_drawn.specs.Replies.{Excerpts};
 ghost use Rattle.rh_lines.specs.Flow.{Puts};
-ghost use Rattle.rh_figure.specs.Map.{is_mark as is_mark_of};
-ghost use Rattle.rh_figure.specs.Scene.{marks_of};
 ghost use Rattle.rh_figure.specs.Share.{IsShared};
 ghost use Rattle.rh_map.specs.Written.{shown_lines};
 ghost use Rattle.rh_session.specs.Outcome.{status_of};
 ghost use Rattle.rh_sight.specs.Pages.{share_in};
-ghost use Rattle.rh_sight.specs.Steps.{marks_seen};
 
+use crate::deeds::{Deed, answer, holds_unless, is_wanted, rest_fault, step_of};
 use crate::drawn::Drawn;
-use crate::excerpt::{excerpt_answer, excerpt_fault, excerpt_reply};
+use crate::excerpt::excerpt_fault;
 use crate::lists::Lists;
 use crate::steps::{Above, print_step};
 use arrayvec::ArrayVec;
-use rh_defs::sizes::LONGEST_LINE;
 use rh_defs::{Command, LineFault, Question, Reply};
 use rh_feed::LineTaker;
 use rh_lines::{Sink, WriteFailed, read_line};
-use rh_map::{Front, is_mark, print_remark};
+use rh_map::{Front, print_remark};
 use rh_session::Status;
-use rh_sight::{Kept, Marks, Messages, PageList, Sight, Step, is_still};
+use rh_sight::{Kept, Messages, PageList, is_still};
 use std::alloc::{AllocError, Global};
 
 /// A map in the middle of its script: what is drawn, whether marked steps alone are shown, how many steps are behind
@@ -43,17 +40,6 @@ pub struct Mapper<D> {
     pages: PageList,
     lists: Lists,
     front: Front,
-}
-
-/// What was done at a step: what was kept before, the command with its reply, None for a bad line, how many lines the
-/// reply has, and whether a mark asked for the step.
-#[derive(Clone, Copy)]
-struct Deed<'a> {
-    kept: &'a Kept,
-    command: Option<&'a Command>,
-    reply: &'a Reply,
-    count: u32,
-    wanted: bool,
 }
 
 impl<D: Drawn> Mapper<D> {
@@ -110,7 +96,7 @@ impl<D: Drawn> Mapper<D> {
         }
         self.drawn.messages(&mut self.messages);
         let kept = Kept::new(&self.drawn, Some(command), &self.messages);
-        let (reply, count) = self.answer(command);
+        let (reply, count) = answer(&mut self.drawn, command, &mut self.front);
         let deed = Deed {
             kept: &kept,
             command: Some(command),
@@ -178,24 +164,6 @@ impl<D: Drawn> Mapper<D> {
         self.drawn.apply(command);
     }
 
-    /// Does a command, puts the front of its reply in its place, and answers the reply and how many lines it has. A
-    /// question changes nothing, and its answer's words and numbers aren't needed: Done stands in their place.
-    fn answer(&mut self, command: &Command) -> (Reply, u32)
-        requires { IsTrue (in_range command.now) }
-        ensures desk { IsReordered (step (D.desk self.old.drawn) command.now).0 (D.desk self.new.drawn) }
-        ensures reply { IsLikeReply (D.desk self.old.drawn) command.now result.0 }
-        ensures excerpt { Excerpts self.new.front.bytes result.1 (reply_to (D.desk self.old.drawn) command.now) }
-        ensures rest { self.new ≡ record self.old { drawn = self.new.drawn; front = self.new.front } }
-    {
-        if let Command::Ask(question) = command {
-            let count = excerpt_answer(&self.drawn, question, &mut self.front);
-            return (Reply::Done, count);
-        }
-        let reply = self.drawn.apply(command);
-        let count = excerpt_reply(&reply, &mut self.front);
-        (reply, count)
-    }
-
     /// Writes a step, of which the reply's front stands in its place.
     fn show<W: Sink>(
         &mut self,
@@ -237,55 +205,6 @@ impl<D: Drawn> Mapper<D> {
         } else {
             Status::Clean
         }
-    }
-}
-
-/// A step, with what its command did. All its parts are lent for as long as it is used.
-pub fn step_of<'a, S: Sight>(
-    sight: &'a S,
-    kept: &'a Kept,
-    command: Option<&Command>,
-    reply: &Reply,
-    messages: &'a Messages,
-    pages: &'a PageList,
-) -> Step<'a>
-    ensures kept { result.kept.now ≡ kept.now }
-    ensures marks { marks_seen result.marks ≡ marks_of (S.desk sight.now) kept.now (option_map (λ c. c.now) command.entry) reply.now }
-    ensures messages { result.messages.now ≡ messages.now.items }
-    ensures few { length result.messages.now ≤ 256 }
-    ensures pages { result.pages.now ≡ pages.now.items }
-{
-    let marks = Marks::new(sight, kept, command, reply);
-    Step {
-        kept,
-        marks,
-        messages,
-        pages,
-    }
-}
-
-/// Whether the next command is wanted, behind one more line that asks for nothing.
-pub fn is_wanted(wanted: bool, line: &[u8]) -> bool
-    ensures { result ≡ (wanted || is_mark_of line.now) }
-{
-    wanted || is_mark(line)
-}
-
-/// Whether this holds, unless that does.
-pub fn holds_unless(this: bool, that: bool) -> bool
-    ensures { result ≡ (this && not that) }
-{
-    this && !that
-}
-
-/// What is wrong with a line that was cut.
-pub fn rest_fault(rest: &[u8]) -> LineFault
-    ensures { rest_means rest.now ≡ Err result }
-{
-    if rest.len() > LONGEST_LINE {
-        LineFault::TooLong
-    } else {
-        LineFault::Unended
     }
 }
 

@@ -51,7 +51,7 @@ pub fn map_script<D: Drawn, R: Source, W: Sink>(
     }
 }
 
-/// The fault of a run.
+/// The fault of a run whose lines ended early.
 pub fn run_fault(fault: FeedFault) -> RunFault
     ensures { result ≡ fault_of fault }
 {

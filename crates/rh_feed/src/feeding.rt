@@ -17,7 +17,7 @@ use std::alloc::Global;
 pub const PIECE: usize = 4_096;
 
 /// So many reads that give bytes make a script too long.
-const MOST_READS: u32 = 1_000_000;
+pub const MOST_READS: u32 = 1_000_000;
 
 /// Reads a script to its end, and hands each of its lines to the taker before it reads on; at last what stands behind
 /// the last line feed. It takes memory before its first read only, and gives up after 1,000,000 reads that gave bytes.
@@ -57,7 +57,7 @@ pub fn feed_all<T: LineTaker, R: Source, W: Sink>(
     read_all(taker, &mut line, &mut piece, reader, writer)
 }
 
-/// Reads piece by piece, and hands on the lines of each before the next.
+/// The same with a line that was just begun, and with room for what is read at a time: it takes no memory.
 pub fn read_all<T: LineTaker, R: Source, W: Sink>(
     taker: &mut T,
     line: &mut LineBuffer,

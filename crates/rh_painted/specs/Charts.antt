@@ -1,23 +1,28 @@
--- Arrows of a chart as they are kept.
-use Rattle.std.specs.Prelude.{ℕ, ◌++◌, [], ◌∷◌, ◌<◌, List, codes}
-use Rattle.std.specs.List.{concat, flat_map}
-use Rattle.std.specs.Fmt.{decimal}
-use Rattle.std.specs.Prelude.{AllPairs}
-use Rattle.rh_defs.specs.Text.{action_name}
-use Rattle.rh_figure.specs.Phrases.{where_so}
-use Rattle.rh_sheet.specs.Chart as chart
-use Rattle.rh_painted.specs.declared.arrow_list.Arrow.{Arrow}
+-- Charts by what is kept of them.
+use Rattle.std.specs.Prelude.{◌≤◌, length}
+use Rattle.rh_draw.specs.declared.chart.Ends.{Ends}
+use Rattle.rh_painted.specs.declared.chart.Chart.{Chart}
+use Rattle.rh_painted.specs.declared.numbers.TheConstants.{MOST_NUMBERS}
+use Rattle.rh_painted.specs.declared.ways.Way.{Way}
+use Rattle.rh_sheet.specs.Chart.{step_y, task_x}
 
--- an arrow with its words
-abbrev pub arrow_of : Arrow → chart.Arrow
-arrow_of a = record {
-  start = a.start;
-  stop = a.stop;
-  from = a.from;
-  to = a.to;
-  words = concat (decimal a.my_ref ∷ codes " " ∷ action_name a.action ∷ []) ++ where_so a.returns (codes " back");
+-- a chart has as few tasks and steps as that of the last messages
+pub record IsSmall (c : Chart) : Type 0 where
+  pub tasks : length c.tasks.now ≤ MOST_NUMBERS
+  pub steps : length c.steps.now ≤ MOST_NUMBERS
+
+-- where an arrow begins and ends
+abbrev pub ends_of : Chart → Way → Ends
+ends_of c w = record {
+  x0 = task_x c.tasks.now w.from;
+  y0 = step_y c.steps.now w.start;
+  x1 = task_x c.tasks.now w.to;
+  y1 = step_y c.steps.now w.stop;
 }
 
--- numbers go up
-abbrev pub IsOrdered : List ℕ → Type 0
-IsOrdered ns = AllPairs (λ n m. n < m) ns
+-- an arrow lies within the room that a chart has
+pub record AreNear (e : Ends) : Type 0 where
+  pub x0 : e.x0 ≤ 10000
+  pub y0 : e.y0 ≤ 10000
+  pub x1 : e.x1 ≤ 10000
+  pub y1 : e.y1 ≤ 10000

@@ -1,6 +1,7 @@
 pub mod Owners
 pub mod Notes
-pub mod Bands
+pub mod Ways
 pub mod Charts
+pub mod Bands
 pub mod Figures
 pub mod Places

@@ -4,7 +4,7 @@ use Rattle.rh_defs.specs.declared.command.Command.{Command}
 use Rattle.rh_defs.specs.Line.{Meaning, line_means}
 use Rattle.rh_defs.specs.Desk.{Desk}
 use Rattle.rh_defs.specs.Order.{IsReordered}
-use Rattle.rh_drawn.specs.Places.{rest_means}
+use Rattle.rh_drawn.specs.Deeds.{rest_means}
 use Rattle.rh_figure.specs.Share.{Share, IsShared}
 use Rattle.rh_figure.specs.Phrases.{Text}
 use Rattle.rh_figure.specs.Map.{Read, after_read, place}

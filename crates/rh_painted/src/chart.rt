@@ -1,14 +1,17 @@
-//! The chart of the last messages: a line down for each task, an arrow for each message.
+//! The chart of the last messages: a line down for each task, and an arrow for each message and its way back.
 
-ghost use Rattle.std.specs.Prelude.{◌≡◌, ◌≤◌, ◌<◌, ◌+◌, ◌==◌, ◌∷◌, ◌++◌, [], flat_map, length, map};
+ghost use Rattle.std.specs.Prelude.{◌≡◌, ◌≤◌, ◌+◌, ◌++◌, length};
+ghost use Rattle.std.specs.List.{flat_map};
 ghost use Rattle.rh_lines.specs.Flow.{Puts};
-ghost use Rattle.rh_painted.specs.Charts.{IsChartOf, arrow_of, arrows_seen};
-ghost use Rattle.rh_sheet.specs.Chart.{arrow_path, arrow_sentence, arrow_words, arrows, beat_text, chart_body, chart_figure, chart_foot, life_of, note_words, step_y as step_y_of, steps_in, stop_sentence, task_gap, task_x as task_x_of, tasks_in};
+ghost use Rattle.rh_lines.specs.declared.row.TheConstants.{ROW};
+ghost use Rattle.rh_painted.specs.Charts.{AreNear, IsSmall, ends_of};
+ghost use Rattle.rh_painted.specs.Ways.{arrow_of, arrows_seen};
+ghost use Rattle.rh_painted.specs.declared.numbers.TheConstants.{MOST_NUMBERS};
+ghost use Rattle.rh_sheet.specs.Chart.{arrow_path, arrow_sentence, arrow_words, beat_text, chart_body, chart_figure, chart_foot as foot_of, is_now as is_now_of, life_of, step_y as step_y_of, stop_sentence, task_gap as gap_of, task_x as task_x_of};
 ghost use Rattle.rh_sheet.specs.Markup.{escape};
+ghost use Rattle.rh_sheet.specs.declared.sizes.TheConstants.{MOST_NOTES};
 
-use crate::arrow_list::{Arrow, Arrows, arrows_of, steps_of, tasks_of};
-use crate::notes::Notes;
-use crate::numbers::Numbers;
+use crate::ways::{Way, steps_in, tasks_in, ways_of};
 use rh_defs::Handle;
 use rh_draw::{
     Ends, place_among, print_beat, print_described, print_figure_end, print_figure_open,
@@ -16,135 +19,93 @@ use rh_draw::{
 };
 use rh_drawn::who_of;
 use rh_lines::{Row, Sink, WriteFailed};
-use rh_map::{action_name, add_who};
+use rh_map::add_who;
 use rh_sheet::Note;
 use rh_sheet::sizes::{BEAT, CHART_EDGE, CHART_LEFT, CHART_SPREAD, CHART_TOP, CHART_WIDTH};
 use rh_sight::{Sight, task_with};
 
-/// A chart as it stands at a step: its arrows, the steps at which they begin or end, and the tasks that they go between.
-#[derive(Drop)]
-struct Chart {
-    arrows: Arrows,
-    steps: Numbers,
-    tasks: Numbers,
-    step: u32,
+/// A chart as it stands at a step: its arrows, the handles of the tasks between which they go, and the steps at which
+/// they begin or end.
+#[derive(Clone, Copy)]
+struct Chart<'a> {
+    ways: &'a [Way],
+    tasks: &'a [u32],
+    steps: &'a [u32],
+    now: u32,
 }
 
-/// Writes the chart of the last messages as it stands at a step, if there are some. Fails only where the writer failed
-/// or took none of what it was offered; a front of the chart is then written.
+/// Writes the chart of the last messages as it stands at a step with a number, if there are some. Fails only where the
+/// writer failed or took none of what it was offered; a front of the chart is then written.
 pub fn print_chart<S: Sight, W: Sink>(
     sight: &S,
-    notes: &Notes,
-    step: u32,
+    notes: &[Note],
+    number: u32,
     writer: &mut W,
 ) -> Result<(), WriteFailed>
+    requires { length notes.now ≤ MOST_NOTES }
     ensures { Puts (W.output writer.old) (W.output writer.new) result
-        (chart_figure (S.desk sight.now) notes.now.items step) }
+        (chart_figure (S.desk sight.now) notes.now number) }
 {
     if notes.is_empty() {
         return Ok(());
     }
-    let chart = Chart::new(notes, step);
+    let ways = ways_of(notes);
+    let tasks = tasks_in(&ways);
+    let steps = steps_in(&ways);
+    let chart = Chart {
+        ways: &ways,
+        tasks: &tasks,
+        steps: &steps,
+        now: number,
+    };
     let height = chart.foot() + CHART_EDGE;
     print_figure_open(CHART_WIDTH, height, b"Messages between the tasks", writer)?;
-    tell_arrows(sight, &chart, writer)?;
+    print_sentences(sight, &ways, writer)?;
     print_described(writer)?;
-    print_lives(sight, &chart, writer)?;
-    print_beats(&chart, writer)?;
-    print_paths(&chart, writer)?;
-    print_words_of(&chart, writer)?;
+    print_chart_body(sight, &chart, writer)?;
     print_figure_end(writer)
 }
 
-impl Chart {
-    /// The chart of some messages at a step.
-    fn new(notes: &[Note], step: u32) -> Chart {
-        let arrows = arrows_of(notes);
-        let steps = steps_of(&arrows);
-        let tasks = tasks_of(&arrows);
-        Chart {
-            arrows,
-            steps,
-            tasks,
-            step,
-        }
-    }
-
-    /// From one task's line to the next.
-    fn gap(&self) -> u32 {
-        CHART_SPREAD / (self.tasks.len() as u32).saturating_sub(1).max(1)
-    }
-
-    /// Where the line of a task stands, from the left.
-    fn task_x(&self, handle: u32) -> u32 {
-        CHART_LEFT + self.gap() * place_among(handle, &self.tasks) as u32
-    }
-
-    /// The height at which arrows of a step end.
-    fn step_y(&self, step: u32) -> u32 {
-        CHART_TOP + BEAT * place_among(step, &self.steps) as u32
-    }
-
-    /// Where the lines of the tasks end.
-    fn foot(&self) -> u32 {
-        CHART_TOP + BEAT * self.steps.len() as u32
-    }
-
-    /// The ends of an arrow.
-    fn ends(&self, arrow: &Arrow) -> Ends {
-        Ends {
-            x0: self.task_x(arrow.from),
-            y0: self.step_y(arrow.start),
-            x1: self.task_x(arrow.to),
-            y1: self.step_y(arrow.stop),
-        }
-    }
-
-    /// Whether an arrow begins or ends at this step.
-    fn is_now(&self, arrow: &Arrow) -> bool {
-        arrow.start == self.step || arrow.stop == self.step
-    }
-}
-
-/// Writes all arrows as they are read out.
-fn tell_arrows<S: Sight, W: Sink>(
+/// Writes the arrows as they are read out.
+fn print_sentences<S: Sight, W: Sink>(
     sight: &S,
-    chart: &Chart,
+    ways: &[Way],
     writer: &mut W,
 ) -> Result<(), WriteFailed>
-    ensures { Puts (W.output writer.old) (W.output writer.new) result (escape (flat_map (λ a. arrow_sentence (S.desk sight.now) (arrow_of a)) chart.now.arrows.items)) }
+    ensures { Puts (W.output writer.old) (W.output writer.new) result
+        (escape (flat_map (arrow_sentence (S.desk sight.now)) (arrows_seen ways.now))) }
 {
-    for arrow in chart.arrows.as_slice() {
-        tell_arrow(sight, arrow, writer)?;
+    for way in ways {
+        print_sentence(sight, way, writer)?;
     }
     Ok(())
 }
 
 /// Writes an arrow as it is read out.
-fn tell_arrow<S: Sight, W: Sink>(
+fn print_sentence<S: Sight, W: Sink>(
     sight: &S,
-    arrow: &Arrow,
+    way: &Way,
     writer: &mut W,
 ) -> Result<(), WriteFailed>
-    ensures { Puts (W.output writer.old) (W.output writer.new) result (escape (arrow_sentence (S.desk sight.now) (arrow_of arrow.now))) }
+    ensures { Puts (W.output writer.old) (W.output writer.new) result
+        (escape (arrow_sentence (S.desk sight.now) (arrow_of way.now))) }
 {
-    let mut row = words_of(arrow);
+    let mut row = way.words();
     row.text(b" from ");
-    add_who(&mut row, &who_of(sight, Handle(arrow.from)));
+    add_who(&mut row, &who_of(sight, way.from));
     row.text(b" to ");
-    add_who(&mut row, &who_of(sight, Handle(arrow.to)));
+    add_who(&mut row, &who_of(sight, way.to));
     row.text(b", sent at ");
-    row.decimal(arrow.start);
+    row.decimal(way.start);
     row.text(b", ");
-    add_stop(&mut row, arrow.stop);
+    add_stop(&mut row, way.stop);
     put_escaped(row.as_slice(), writer)
 }
 
 /// Adds when a message was taken, or that it waits.
 fn add_stop(row: &mut Row, stop: u32)
     requires { length row.old + 22 ≤ ROW }
-    ensures value { row.new ≡ row.old ++ stop_sentence stop }
-    ensures few { length row.new ≤ length row.old + 22 }
+    ensures { row.new ≡ row.old ++ stop_sentence stop }
 {
     if stop == 0 {
         row.text(b"waits. ");
@@ -155,81 +116,164 @@ fn add_stop(row: &mut Row, stop: u32)
     }
 }
 
-/// The words of an arrow: its message's ref and action, and whether it comes back.
-fn words_of(arrow: &Arrow) -> Row
-    ensures value { result ≡ (arrow_of arrow.now).words }
-    ensures few { length result ≤ 40 }
-{
-    let mut row = Row::new();
-    row.decimal(arrow.my_ref);
-    row.byte(b' ');
-    row.text(action_name(arrow.action));
-    if arrow.returns {
-        row.text(b" back");
-    }
-    row
-}
-
-/// Writes the names and lines of all tasks.
-fn print_lives<S: Sight, W: Sink>(
+/// Writes lines, steps, arrows, and their words upon all of it.
+fn print_chart_body<S: Sight, W: Sink>(
     sight: &S,
-    chart: &Chart,
+    chart: &Chart<'_>,
     writer: &mut W,
 ) -> Result<(), WriteFailed>
-    ensures { Puts (W.output writer.old) (W.output writer.new) result (flat_map (life_of (S.desk sight.now) chart.now.tasks.items chart.now.steps.items) chart.now.tasks.items) }
+    requires { IsSmall chart.now }
+    ensures { Puts (W.output writer.old) (W.output writer.new) result
+        (chart_body (S.desk sight.now) (arrows_seen chart.now.ways.now) chart.now.tasks.now chart.now.steps.now chart.now.now) }
 {
-    for handle in chart.tasks.as_slice() {
-        print_life_of(sight, chart, *handle, writer)?;
+    print_lives(sight, chart, writer)?;
+    print_beats(chart, writer)?;
+    print_arrows(chart, writer)?;
+    print_all_words(chart, writer)
+}
+
+/// Writes the tasks' names and lines.
+fn print_lives<S: Sight, W: Sink>(
+    sight: &S,
+    chart: &Chart<'_>,
+    writer: &mut W,
+) -> Result<(), WriteFailed>
+    requires { IsSmall chart.now }
+    ensures { Puts (W.output writer.old) (W.output writer.new) result
+        (flat_map (life_of (S.desk sight.now) chart.now.tasks.now chart.now.steps.now) chart.now.tasks.now) }
+{
+    for task in chart.tasks {
+        print_task(sight, chart, Handle(*task), writer)?;
     }
     Ok(())
 }
 
-/// Writes the name and the line of a task.
-fn print_life_of<S: Sight, W: Sink>(
+/// Writes a task's name and line.
+fn print_task<S: Sight, W: Sink>(
     sight: &S,
-    chart: &Chart,
-    handle: u32,
+    chart: &Chart<'_>,
+    task: Handle,
     writer: &mut W,
 ) -> Result<(), WriteFailed>
-    ensures { Puts (W.output writer.old) (W.output writer.new) result (life_of (S.desk sight.now) chart.now.tasks.items chart.now.steps.items handle) }
+    requires { IsSmall chart.now }
+    ensures { Puts (W.output writer.old) (W.output writer.new) result
+        (life_of (S.desk sight.now) chart.now.tasks.now chart.now.steps.now task) }
 {
-    let task = Handle(handle);
-    let is_alive = task_with(sight, task).is_some();
+    let alive = task_with(sight, task).is_some();
     let mut name = Row::new();
     add_who(&mut name, &who_of(sight, task));
-    let (x, foot) = (chart.task_x(handle), chart.foot());
-    print_life(is_alive, name.as_slice(), chart.gap(), x, foot, writer)
+    let x = chart.task_x(task);
+    print_life(alive, name.as_slice(), chart.gap(), x, chart.foot(), writer)
 }
 
-/// Writes the numbers of all steps.
-fn print_beats<W: Sink>(chart: &Chart, writer: &mut W) -> Result<(), WriteFailed>
-    ensures { Puts (W.output writer.old) (W.output writer.new) result (flat_map (λ s. beat_text (step_y_of chart.now.steps.items s) s) chart.now.steps.items) }
+/// Writes the numbers of the steps.
+fn print_beats<W: Sink>(chart: &Chart<'_>, writer: &mut W) -> Result<(), WriteFailed>
+    requires { IsSmall chart.now }
+    ensures { Puts (W.output writer.old) (W.output writer.new) result
+        (flat_map (λ s. beat_text (step_y_of chart.now.steps.now s) s) chart.now.steps.now) }
 {
-    for step in chart.steps.as_slice() {
+    for step in chart.steps {
         print_beat(chart.step_y(*step), *step, writer)?;
     }
     Ok(())
 }
 
-/// Writes all arrows.
-fn print_paths<W: Sink>(chart: &Chart, writer: &mut W) -> Result<(), WriteFailed>
-    ensures { Puts (W.output writer.old) (W.output writer.new) result (flat_map (λ a. arrow_path chart.now.tasks.items chart.now.steps.items chart.now.step (arrow_of a)) chart.now.arrows.items) }
+/// Writes the arrows without their words.
+fn print_arrows<W: Sink>(chart: &Chart<'_>, writer: &mut W) -> Result<(), WriteFailed>
+    requires { IsSmall chart.now }
+    ensures { Puts (W.output writer.old) (W.output writer.new) result
+        (flat_map (arrow_path chart.now.tasks.now chart.now.steps.now chart.now.now) (arrows_seen chart.now.ways.now)) }
 {
-    for arrow in chart.arrows.as_slice() {
-        let (waits, now) = (arrow.waits(), chart.is_now(arrow));
-        print_message_arrow(waits, now, chart.ends(arrow), writer)?;
+    for way in chart.ways {
+        print_message_arrow(way.stop == 0, chart.is_now(way), chart.ends(way), writer)?;
     }
     Ok(())
 }
 
 /// Writes the words of all arrows.
-fn print_words_of<W: Sink>(chart: &Chart, writer: &mut W) -> Result<(), WriteFailed>
-    ensures { Puts (W.output writer.old) (W.output writer.new) result (flat_map (λ a. arrow_words chart.now.tasks.items chart.now.steps.items chart.now.step (arrow_of a)) chart.now.arrows.items) }
+fn print_all_words<W: Sink>(chart: &Chart<'_>, writer: &mut W) -> Result<(), WriteFailed>
+    requires { IsSmall chart.now }
+    ensures { Puts (W.output writer.old) (W.output writer.new) result
+        (flat_map (arrow_words chart.now.tasks.now chart.now.steps.now chart.now.now) (arrows_seen chart.now.ways.now)) }
 {
-    for arrow in chart.arrows.as_slice() {
-        let (waits, now) = (arrow.waits(), chart.is_now(arrow));
-        let words = words_of(arrow);
-        print_message_words(waits, now, chart.ends(arrow), words.as_slice(), writer)?;
+    for way in chart.ways {
+        print_words_of(chart, way, writer)?;
     }
     Ok(())
+}
+
+/// Writes the words of an arrow.
+fn print_words_of<W: Sink>(chart: &Chart<'_>, way: &Way, writer: &mut W) -> Result<(), WriteFailed>
+    requires { IsSmall chart.now }
+    ensures { Puts (W.output writer.old) (W.output writer.new) result
+        (arrow_words chart.now.tasks.now chart.now.steps.now chart.now.now (arrow_of way.now)) }
+{
+    let words = way.words();
+    print_message_words(
+        way.stop == 0,
+        chart.is_now(way),
+        chart.ends(way),
+        words.as_slice(),
+        writer,
+    )
+}
+
+impl<'a> Chart<'a> {
+    /// From one task's line to the next.
+    fn gap(&self) -> u32
+        requires { IsSmall self.now }
+        ensures value { result ≡ gap_of (length self.now.tasks.now) }
+        ensures few { result ≤ 180 }
+    {
+        let gaps = self.tasks.len().saturating_sub(1).max(1);
+        CHART_SPREAD / gaps as u32
+    }
+
+    /// Where the line of a task stands, from the left.
+    fn task_x(&self, task: Handle) -> u32
+        requires { IsSmall self.now }
+        ensures value { result ≡ task_x_of self.now.tasks.now task }
+        ensures few { result ≤ 10_000 }
+    {
+        CHART_LEFT + self.gap() * place_among(task.0, self.tasks) as u32
+    }
+
+    /// The height at which arrows of a step end.
+    fn step_y(&self, step: u32) -> u32
+        requires { IsSmall self.now }
+        ensures value { result ≡ step_y_of self.now.steps.now step }
+        ensures few { result ≤ 10_000 }
+    {
+        CHART_TOP + BEAT * place_among(step, self.steps) as u32
+    }
+
+    /// Where the lines of the tasks end.
+    fn foot(&self) -> u32
+        requires { IsSmall self.now }
+        ensures value { result ≡ foot_of self.now.steps.now }
+        ensures few { result ≤ 10_000 }
+    {
+        CHART_TOP + BEAT * self.steps.len() as u32
+    }
+
+    /// Where an arrow begins and ends.
+    fn ends(&self, way: &Way) -> Ends
+        requires { IsSmall self.now }
+        ensures value { result ≡ ends_of self.now way.now }
+        ensures near { AreNear result }
+    {
+        Ends {
+            x0: self.task_x(way.from),
+            y0: self.step_y(way.start),
+            x1: self.task_x(way.to),
+            y1: self.step_y(way.stop),
+        }
+    }
+
+    /// Whether an arrow begins or ends at the step.
+    fn is_now(&self, way: &Way) -> bool
+        ensures { result ≡ is_now_of self.now.now (arrow_of way.now) }
+    {
+        way.start == self.now || way.stop == self.now
+    }
 }

@@ -1,19 +1,17 @@
 //! A whole figure: the memory, and what stands beside it.
 
-ghost use Rattle.std.specs.Prelude.{◌≡◌, ◌≤◌, ◌==◌, ◌||◌, length, not};
+ghost use Rattle.std.specs.Prelude.{◌≤◌, length};
 ghost use Rattle.rh_lines.specs.Flow.{Puts};
-ghost use Rattle.rh_sheet.specs.Steps.{aside_text, figure_text, has_aside as has_aside_in, memory_text};
+ghost use Rattle.rh_sheet.specs.Steps.{figure_text, memory_text};
 ghost use Rattle.rh_sight.specs.Steps.{IsStepOf, scene_at};
 
 use crate::areas::print_area_headings;
-use crate::chart::print_chart;
-use crate::letters::print_messages;
+use crate::aside::print_aside;
 use crate::modules::print_module_part;
 use crate::notes::Notes;
 use crate::pool::print_pool_figure;
 use crate::slots::print_slots;
-use crate::transfers::print_transfers;
-use rh_drawn::{Lists, has_letterboxes, has_transfers};
+use rh_drawn::Lists;
 use rh_lines::{Sink, WriteFailed, put};
 use rh_sight::{Sight, Step};
 
@@ -54,35 +52,4 @@ fn print_memory<S: Sight, W: Sink>(
     print_slots(sight, step, lists, writer)?;
     print_module_part(sight, step, lists, writer)?;
     put(writer, b"</div>\n")
-}
-
-/// Writes messages and transfers, if there are some.
-fn print_aside<S: Sight, W: Sink>(
-    sight: &S,
-    step: &Step<'_>,
-    notes: &Notes,
-    number: u32,
-    writer: &mut W,
-) -> Result<(), WriteFailed>
-    requires step { IsStepOf (S.desk sight.now) step.now }
-    requires few { length step.now.messages.now ≤ 256 }
-    ensures { Puts (W.output writer.old) (W.output writer.new) result
-        (aside_text (scene_at (S.desk sight.now) step.now) notes.now.items number) }
-{
-    if !has_aside(sight, step, notes) {
-        return Ok(());
-    }
-    put(writer, b"<aside>\n")?;
-    print_chart(sight, notes, number, writer)?;
-    print_messages(sight, step, writer)?;
-    print_transfers(sight, writer)?;
-    put(writer, b"</aside>\n")
-}
-
-/// Whether something stands beside the memory.
-fn has_aside<S: Sight>(sight: &S, step: &Step<'_>, notes: &Notes) -> bool
-    requires { IsStepOf (S.desk sight.now) step.now }
-    ensures { result ≡ has_aside_in (scene_at (S.desk sight.now) step.now) notes.now.items }
-{
-    !notes.is_empty() || has_letterboxes(sight, step.messages) || has_transfers(sight)
 }

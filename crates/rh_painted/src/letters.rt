@@ -1,6 +1,7 @@
 //! The table of messages: what each task holds, and what waits for it.
 
-ghost use Rattle.std.specs.Prelude.{◌≡◌, ◌≤◌, ◌++◌, flat_map, length, map};
+ghost use Rattle.std.specs.Prelude.{◌≡◌, ◌≤◌, length, map};
+ghost use Rattle.std.specs.List.{flat_map};
 ghost use Rattle.rh_drawn.specs.Letters.{letterboxes_in};
 ghost use Rattle.rh_figure.specs.Figure.{letterboxes};
 ghost use Rattle.rh_lines.specs.Flow.{Puts};
@@ -14,15 +15,8 @@ use rh_figure::limits::MOST_LISTED;
 use rh_lines::{Sink, WriteFailed, put};
 use rh_sight::{MessageItem, Sight, Step};
 
-/// The table above its rows.
-const HEADING: &[u8] =
-    b"<table><caption>Messages</caption>\n<thead><tr><th>for</th><th>held</th><th>waiting</th></tr></thead>\n<tbody>\n";
-
-/// What stands below the rows of a table.
-pub const TABLE_END: &[u8] = b"</tbody></table>\n";
-
-/// Writes the table of messages, if some task has one. Fails only where the writer failed or took none of what it was
-/// offered; a front of the table is then written.
+/// Writes the table of the messages of each task that has some. Fails only where the writer failed or took none of what
+/// it was offered; a front of the table is then written.
 pub fn print_messages<S: Sight, W: Sink>(
     sight: &S,
     step: &Step<'_>,
@@ -37,12 +31,16 @@ pub fn print_messages<S: Sight, W: Sink>(
     if !has_letterboxes(sight, step.messages) {
         return Ok(());
     }
-    put(writer, HEADING)?;
+    put(writer, b"<table><caption>Messages</caption>\n")?;
+    put(
+        writer,
+        b"<thead><tr><th>for</th><th>held</th><th>waiting</th></tr></thead>\n<tbody>\n",
+    )?;
     print_letterboxes(sight, step, writer)?;
-    put(writer, TABLE_END)
+    put(writer, b"</tbody></table>\n")
 }
 
-/// Writes a row for each task that has messages.
+/// Writes the row of each task that has messages.
 fn print_letterboxes<S: Sight, W: Sink>(
     sight: &S,
     step: &Step<'_>,
@@ -62,7 +60,7 @@ fn print_letterboxes<S: Sight, W: Sink>(
     Ok(())
 }
 
-/// Writes the row of what a task holds and what waits for it, if a message is for it.
+/// Writes the row of what a task holds, and of what waits for it, if a message is for it.
 fn print_letters<W: Sink>(
     name: &Name,
     handle: Handle,

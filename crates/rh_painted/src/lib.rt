@@ -3,8 +3,8 @@
 #![tactic(auto)]
 
 mod areas;
-mod arrow_list;
 mod arrows;
+mod aside;
 mod bands;
 mod block_changes;
 mod chart;
@@ -25,5 +25,6 @@ mod running;
 mod slots;
 mod steps;
 mod transfers;
+mod ways;
 
 pub use running::paint_script;

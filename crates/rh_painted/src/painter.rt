@@ -14,15 +14,14 @@ use arrayvec::ArrayVec;
 use rh_defs::{Command, LineFault, Question, Reply};
 use rh_draw::{print_foot, print_head, print_remark, print_step_open};
 use rh_drawn::{
-    Above, Drawn, Lists, excerpt_answer, excerpt_fault, excerpt_reply, holds_unless, is_wanted,
-    rest_fault, step_of,
+    Above, Deed, Drawn, Lists, answer, excerpt_fault, holds_unless, is_wanted, rest_fault, step_of,
 };
 use rh_feed::LineTaker;
 use rh_lines::{Sink, WriteFailed, put, read_line};
 use rh_map::{Front, has_words};
 use rh_session::Status;
 use rh_sheet::sizes::MOST_STEPS;
-use rh_sight::{Kept, Messages, PageList, Sight, is_still, sent_by};
+use rh_sight::{Kept, Messages, PageList, Sight, is_still};
 use std::alloc::{AllocError, Global};
 
 /// A sheet in the middle of its script: what is drawn, whether marked steps alone are shown, how many commands are
@@ -45,17 +44,6 @@ pub struct Painter<D> {
     pages: PageList,
     lists: Lists,
     front: Front,
-}
-
-/// What was done at a step: what was kept before, the command with its reply, None for a bad line, how many lines the
-/// reply has, and whether a mark asked for the step.
-#[derive(Clone, Copy)]
-struct Deed<'a> {
-    kept: &'a Kept,
-    command: Option<&'a Command>,
-    reply: &'a Reply,
-    count: u32,
-    wanted: bool,
 }
 
 impl<D: Drawn> Painter<D> {
@@ -131,7 +119,7 @@ impl<D: Drawn> Painter<D> {
         let wanted = self.begin_step();
         self.drawn.messages(&mut self.messages);
         let kept = Kept::new(&self.drawn, Some(command), &self.messages);
-        let (reply, count) = self.answer(command);
+        let (reply, count) = answer(&mut self.drawn, command, &mut self.front);
         let deed = Deed {
             kept: &kept,
             command: Some(command),
@@ -179,18 +167,6 @@ impl<D: Drawn> Painter<D> {
         wanted
     }
 
-    /// Does a command, puts the front of its reply in its place, and answers the reply and how many lines it has. A
-    /// question changes nothing, and its answer's words and numbers aren't needed: Done stands in their place.
-    fn answer(&mut self, command: &Command) -> (Reply, u32) {
-        if let Command::Ask(question) = command {
-            let count = excerpt_answer(&self.drawn, question, &mut self.front);
-            return (Reply::Done, count);
-        }
-        let reply = self.drawn.apply(command);
-        let count = excerpt_reply(&reply, &mut self.front);
-        (reply, count)
-    }
-
     /// Writes the beginning of the next step, if no remark has written it.
     fn open<W: Sink>(&self, writer: &mut W) -> Result<(), WriteFailed> {
         if self.opened {
@@ -207,8 +183,13 @@ impl<D: Drawn> Painter<D> {
         writer: &mut W,
     ) -> Result<(), WriteFailed> {
         self.drawn.messages(&mut self.messages);
-        let sent = sent_by(&self.drawn, deed.kept);
-        note_step(self.steps, &self.messages, sent, &mut self.notes);
+        note_step(
+            &self.drawn,
+            deed.kept,
+            &self.messages,
+            self.steps,
+            &mut self.notes,
+        );
         if !self.is_shown(deed.wanted) {
             self.left += 1;
             return Ok(());

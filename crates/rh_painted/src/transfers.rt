@@ -1,17 +1,14 @@
 //! The table of transfers: a row for each, with the record of either side.
 
-ghost use Rattle.std.specs.Prelude.{◌≡◌, [], ◌∷◌, filter, flat_map, if◌then◌else◌, map, not};
-ghost use Rattle.std.specs.List.{list_any};
+ghost use Rattle.std.specs.Prelude.{◌≡◌, [], ◌∷◌, filter, if◌then◌else◌, map, not};
+ghost use Rattle.std.specs.List.{flat_map, list_any};
 ghost use Rattle.rh_defs.specs.Listing.{in_item as in_item_of, out_item as out_item_of};
 ghost use Rattle.rh_defs.specs.Records.{in_id as in_id_of};
 ghost use Rattle.rh_drawn.specs.Sides.{comes_alone, goes_out, ins_of, outs_of};
-ghost use Rattle.rh_figure.specs.Figure.{has_id as has_id_of, transfers};
-ghost use Rattle.rh_figure.specs.Scene.{Before, Marks, scene_of};
-ghost use Rattle.rh_figure.specs.Share.{Share};
+ghost use Rattle.rh_figure.specs.Figure.{has_id as has_id_of, transfers_of};
 ghost use Rattle.rh_lines.specs.Flow.{Puts};
 ghost use Rattle.rh_sheet.specs.Tables.{transfer_row, transfers_table};
 
-use crate::letters::TABLE_END;
 use rh_defs::{Incoming, Name, Outgoing};
 use rh_draw::print_transfer_row;
 use rh_drawn::{has_out, has_transfers, in_id, in_item, in_side, out_id, out_item};
@@ -19,24 +16,26 @@ use rh_lines::{Sink, WriteFailed, put};
 use rh_map::Side;
 use rh_sight::{Sight, TaskSight};
 
-/// The table above its rows.
-const HEADING: &[u8] =
-    b"<table><caption>Transfers</caption>\n<thead><tr><th>id</th><th colspan=\"3\">goes out</th><th colspan=\"3\">comes in</th></tr></thead>\n<tbody>\n";
-
-/// Writes the table of the transfers that go out, each with the side that comes in, and of those that only come in, if
-/// there are some. Fails only where the writer failed or took none of what it was offered; a front of the table is then
-/// written.
+/// Writes the table of the transfers that go out, each with the side that comes in, and of those that only come in.
+/// Fails only where the writer failed or took none of what it was offered; a front of the table is then written.
 pub fn print_transfers<S: Sight, W: Sink>(sight: &S, writer: &mut W) -> Result<(), WriteFailed>
-    ensures { (s : Share) (b : Before) (m : Marks) → Puts (W.output writer.old) (W.output writer.new) result
-        (transfers_table (transfers (scene_of (S.desk sight.now) s b m))) }
+    ensures { Puts (W.output writer.old) (W.output writer.new) result
+        (transfers_table (transfers_of (outs_of (S.desk sight.now)) (ins_of (S.desk sight.now)))) }
 {
     if !has_transfers(sight) {
         return Ok(());
     }
-    put(writer, HEADING)?;
+    put(
+        writer,
+        b"<table><caption>Transfers</caption>\n<thead><tr><th>id</th>",
+    )?;
+    put(
+        writer,
+        b"<th colspan=\"3\">goes out</th><th colspan=\"3\">comes in</th></tr></thead>\n<tbody>\n",
+    )?;
     print_outs(sight, writer)?;
     print_ins(sight, writer)?;
-    put(writer, TABLE_END)
+    put(writer, b"</tbody></table>\n")
 }
 
 /// Writes the transfers that go out, task by task.

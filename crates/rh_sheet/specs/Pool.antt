@@ -32,12 +32,16 @@ square_way k = point_text (codes "M") (cell_x k + 1) (cell_y k + 1) ++ codes "h3
 abbrev pub squares_begin : Text → Text
 squares_begin class = concat (codes "<path" ∷ text_attribute (codes "class") class ∷ codes " d=\"" ∷ [])
 
--- the squares of some pages, if there are any, with a tip
+-- the squares of some pages, with a tip
+abbrev pub some_squares : Text → List ℕ → Text → Text
+some_squares class ks tip = concat (
+    squares_begin class ∷ flat_map square_way ks ∷ codes "\"><title>" ∷ escape tip ∷ codes "</title></path>\n" ∷ []
+    )
+
+-- the same, if there are any
 abbrev pub squares_text : Text → List ℕ → Text → Text
 squares_text class [] tip = []
-squares_text class (k ∷ ks) tip = concat (
-    squares_begin class ∷ flat_map square_way (k ∷ ks) ∷ codes "\"><title>" ∷ escape tip ∷ codes "</title></path>\n" ∷ []
-    )
+squares_text class (k ∷ ks) tip = some_squares class (k ∷ ks) tip
 
 -- ---- the grid, which each figure of the pool uses
 

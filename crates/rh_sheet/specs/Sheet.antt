@@ -55,11 +55,15 @@ left_text left =
 abbrev pub numbered_link : ℕ → Text
 numbered_link n = step_link n (decimal n) ++ codes "\n"
 
+-- the beginning of the links, where step n would stand
+abbrev pub links_begin : ℕ → Text
+links_begin n = concat (codes "</main>\n<nav id=\"d" ∷ decimal n ∷ codes "\">\n" ∷ [])
+
 -- the end of a sheet of n steps, with a link to each
 abbrev pub sheet_foot : ℕ → ℕ → Text
 sheet_foot n left = concat (
-    left_text left ∷ codes "</main>\n<nav id=\"d" ∷ decimal (n + 1) ∷ codes "\">\n"
-    ∷ flat_map numbered_link (range_with_len 1 n) ∷ codes "</nav>\n</body>\n</html>\n" ∷ []
+    left_text left ∷ links_begin (n + 1) ∷ flat_map numbered_link (range_with_len 1 n)
+    ∷ codes "</nav>\n</body>\n</html>\n" ∷ []
     )
 
 -- ---- from line to line

@@ -63,12 +63,16 @@ command_text line = cut LINE_COLUMNS (map shown_byte line)
 abbrev pub reply_shown : Text → Text
 reply_shown reply = join_by (λ t. t) (codes "\n") (reply_lines (ended reply))
 
--- the step's number and its command, and the reply
-abbrev pub said_text : ℕ → Text → Text → Text
-said_text step line reply = concat (
-    codes "<h2><b>" ∷ decimal step ∷ codes "</b> <code>" ∷ escape (command_text line) ∷ codes "</code></h2>\n<pre>"
-    ∷ escape (reply_shown reply) ∷ codes "</pre>\n" ∷ []
+-- the step's number and its command
+abbrev pub command_head : ℕ → Text → Text
+command_head step line = concat (
+    codes "<h2><b>" ∷ decimal step ∷ codes "</b> <code>" ∷ escape (command_text line) ∷ codes "</code></h2>\n<pre>" ∷ []
     )
+
+-- the same, and the reply
+abbrev pub said_text : ℕ → Text → Text → Text
+said_text step line reply =
+    concat (command_head step line ∷ escape (reply_shown reply) ∷ codes "</pre>\n" ∷ [])
 
 -- what has changed
 abbrev pub changes_text : List Text → Text
@@ -146,11 +150,12 @@ remark_words line = stripped (drop (sign_length line) (without_indent (map remar
 abbrev pub remark_class : Text → Text
 remark_class line = if is_mark line then codes "title" else codes "remark"
 
--- a remark of some class, if it has words
+-- a remark of some class, and if it has words
+abbrev pub some_remark : Text → Text → Text
+some_remark class words = concat (codes "<p class=\"" ∷ class ∷ codes "\">" ∷ escape words ∷ codes "</p>\n" ∷ [])
+
 abbrev pub remark_of : Text → Text → Text
-remark_of class words =
-    if length words == 0 then []
-    else concat (codes "<p class=\"" ∷ class ∷ codes "\">" ∷ escape words ∷ codes "</p>\n" ∷ [])
+remark_of class words = if length words == 0 then [] else some_remark class words
 
 abbrev pub remark_text : Text → Text
 remark_text line = remark_of (remark_class line) (remark_words line)

@@ -11,7 +11,7 @@ returns-in_err-put g c =
 pub returns-in_err-put_escaped : goal.returns-in_err-put_escaped
 returns-in_err-put_escaped g c =
     puts_stops _ (puts_more _ _ _ c.in_ok-put.ensures (puts_before c.args.behind.now c.in_err-put_escaped.ensures refl))
-    c.from_residual.ensures.0
+    c.from_residual-in_err-put_escaped.ensures.0
 
 pub returns : goal.returns
 returns g c = puts_more _ _ _ c.in_ok-put.ensures (puts_more _ _ _ c.in_ok-put_escaped.ensures c.put-2.ensures)

@@ -1,8 +1,8 @@
-use Rattle.std.proofs.Common.{◌∙◌, ap, sym}
+use Rattle.std.proofs.Common.{◌∙◌, ap, refl, sym}
 use Rattle.rh_map.specs.Written.{shown_lines}
 use Rattle.rh_sight.specs.Pages.{share_in}
 use Rattle.rh_drawn.specs.declared.mapper.Mapper.{Mapper}
-use Rattle.rh_drawn.specs.Places.{reply_to}
+use Rattle.rh_drawn.specs.Deeds.{reply_to}
 use Rattle.rh_drawn.proofs.ShareLemmas.{is_shared}
 use Rattle.rh_drawn.proofs.StepLemmas.{command-text, hidden-command, rest-as, told-command}
 use Rattle.rh_drawn.proofs.Walks.{puts_same}
@@ -23,8 +23,7 @@ returns g c =
     let desk = g.D.Sight.desk in
     let m = c.args.self.now in
     let b = c.begin_step-wanted.new.self in
-    let a = c.answer-reply.new.self in
-    let e = c.answer-reply.ensures.rest in
+    let a = record b { drawn = c.answer-reply.new.drawn; messages = c.messages.new.list; front = c.answer-reply.new.front } in
     let o = g.W.Sink.output c.args.writer.now in
     let w = c.begin_step-wanted.result in
     let was = c.begin_step-wanted.ensures.wanted in
@@ -32,13 +31,13 @@ returns g c =
     let s = share_in c.show.new.self.pages.items (desk a.drawn) in
     let test = sym c.holds_unless.ensures ∙ c.if-holds_unless.false in
     let text = command-text desk m b o c.args.line.now w was next c.args.command.now s a _ _ test c.answer-reply.ensures.desk c.answer-reply.ensures.reply
-    c.new-kept.ensures (ap (λ (z : Mapper g.row.D.Denot). z.steps) e) in
+    c.new-kept.ensures refl in
     let told = told-command desk m b o c.args.line.now w was next a _ (g.W.Sink.output c.show.new.writer) c.show.result s c.show.ensures.same
     c.show.ensures.shared c.args.command.now c.answer-reply.ensures.desk
-    (rest-as {b = b} (record b { drawn = a.drawn; messages = c.messages.new.list; front = a.front }) e)
+    (rest-as {b = b} a refl)
     (puts_same (ap shown_lines text) (c.show.ensures.text (reply_to (desk b.drawn) c.args.command.now) c.answer-reply.ensures.excerpt)) in
     record {
       ok = told.0;
       err = told.1;
-      steps = c.show.ensures.same.steps ∙ (ap (λ (z : Mapper g.row.D.Denot). z.steps) e ∙ ap (λ (z : Mapper g.row.D.Denot). z.steps) next);
+      steps = c.show.ensures.same.steps ∙ ap (λ (z : Mapper g.row.D.Denot). z.steps) next;
     }

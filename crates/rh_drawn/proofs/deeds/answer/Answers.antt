@@ -10,20 +10,20 @@ use Rattle.rh_defs.specs.Range.{in_range}
 use Rattle.rh_defs.specs.Step.{step}
 use Rattle.rh_defs.specs.Text.{first_line}
 use Rattle.rh_defs.proofs.QuestionLaws.{asked-stays, one-line, question-text}
-use Rattle.rh_drawn.specs.Places.{IsLikeReply, reply_to}
+use Rattle.rh_drawn.specs.Deeds.{IsLikeReply, reply_to}
 use Rattle.rh_drawn.specs.Replies.{Excerpts}
-use Rattle.rh_drawn.proofs.mapper.Mapper.answer.Goals as goal
+use Rattle.rh_drawn.proofs.deeds.answer.Goals as goal
 
 pub returns-in-Ask-clause-desk : goal.returns-in-Ask-clause-desk
 returns-in-Ask-clause-desk g c =
-    let d = g.D.Sight.desk c.args.self.now.drawn in
+    let d = g.D.Sight.desk c.args.drawn.now in
     let P : Command → Type 0 = λ z. IsReordered (step d z).0 d in
     let Q : Desk → Type 0 = λ z. IsReordered z d in
     subst P (sym c.in-Ask.is) (subst Q (sym (asked-stays d _)) (record { same = record { each = λ h. refl }; rest = refl }))
 
 pub returns-in-Ask-clause-reply : goal.returns-in-Ask-clause-reply
 returns-in-Ask-clause-reply g c =
-    let d = g.D.Sight.desk c.args.self.now.drawn in
+    let d = g.D.Sight.desk c.args.drawn.now in
     let P : Command → Type 0 = λ z. IsLikeReply d z Done in
     subst P (sym c.in-Ask.is) (record { still = refl; marks = λ after b. refl })
 
@@ -36,7 +36,7 @@ excerpt_answer-count-requires g c =
 pub returns-in-Ask-clause-excerpt : goal.returns-in-Ask-clause-excerpt
 unfolding in_range
 returns-in-Ask-clause-excerpt g c =
-    let d = g.D.Sight.desk c.args.self.now.drawn in
+    let d = g.D.Sight.desk c.args.drawn.now in
     let front = c.excerpt_answer-count.new.front.bytes in
     let count = c.excerpt_answer-count.result in
     let R : Command → Type 0 = λ z. IsTrue (in_range z) in
@@ -46,16 +46,16 @@ returns-in-Ask-clause-excerpt g c =
 
 pub returns-clause-reply : goal.returns-clause-reply
 returns-clause-reply g c =
-    let d = g.D.Sight.desk c.args.self.now.drawn in
+    let d = g.D.Sight.desk c.args.drawn.now in
     let P : Reply → Type 0 = λ z. IsLikeReply d c.args.command.now z in
-    subst P (sym (c.apply-reply.ensures.reply d (g.met.D.Drawn.seen c.args.self.now.drawn))) (record { still = refl; marks = λ after b. refl })
+    subst P (sym (c.apply-reply.ensures.reply d (g.met.D.Drawn.seen c.args.drawn.now))) (record { still = refl; marks = λ after b. refl })
 
 pub returns-clause-excerpt : goal.returns-clause-excerpt
 returns-clause-excerpt g c =
-    let d = g.D.Sight.desk c.args.self.now.drawn in
+    let d = g.D.Sight.desk c.args.drawn.now in
     let front = c.excerpt_reply-count.new.front.bytes in
     let count = c.excerpt_reply-count.result in
     let P : Reply → Type 0 = λ z. Excerpts front count (first_line z Nothing) in
     let Q : List ℕ → Type 0 = λ z. Excerpts front count z in
     subst Q (sym (one-line (step d c.args.command.now).0 c.args.command.now (step d c.args.command.now).1 c.in_default.not-Ask))
-    (subst P (c.apply-reply.ensures.reply d (g.met.D.Drawn.seen c.args.self.now.drawn)) c.excerpt_reply-count.ensures)
+    (subst P (c.apply-reply.ensures.reply d (g.met.D.Drawn.seen c.args.drawn.now)) c.excerpt_reply-count.ensures)

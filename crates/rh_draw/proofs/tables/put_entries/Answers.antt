@@ -1,0 +1,21 @@
+use Rattle.std.specs.Prelude.{codes}
+use Rattle.rh_lines.proofs.FlowLemmas.{puts_before, puts_stops, puts_more}
+use Rattle.rh_map.specs.Messages.{text_of}
+use Rattle.rh_sheet.specs.Markup.{escape}
+use Rattle.rh_draw.specs.Letters.{behind_commas}
+use Rattle.rh_draw.proofs.EscapedItems.{escape-first}
+use Rattle.rh_draw.proofs.WriteLemmas.{puts-as}
+use Rattle.rh_draw.proofs.tables.put_entries.Goals as goal
+use Rattle.std.proofs.Common.{refl}
+
+pub returns-in_err-put_entry : goal.returns-in_err-put_entry
+returns-in_err-put_entry g c =
+    puts-as
+    (puts_stops _ (puts_before (escape (behind_commas c.in-Some.others.now)) c.in_err-put_entry.ensures refl)
+    c.from_residual.ensures.0)
+    (escape-first text_of (codes ", ") _ _ _ c.in-Some.ensures.cases.0)
+
+pub returns : goal.returns
+returns g c =
+    puts-as (puts_more _ _ _ c.in_ok-put_entry.ensures c.put_others.ensures)
+    (escape-first text_of (codes ", ") _ _ _ c.in-Some.ensures.cases.0)

@@ -1,0 +1,19 @@
+use Rattle.std.proofs.Common.{List, ℕ, ◌++◌}
+use Rattle.std.specs.Prelude.{codes}
+use Rattle.rh_map.specs.declared.letterboxes.MessageEntry.{MessageEntry}
+use Rattle.rh_map.specs.Messages.{text_of}
+use Rattle.rh_map.proofs.Left.{left_less, left_breaks}
+use Rattle.rh_draw.proofs.EscapedItems.{escape-item}
+use Rattle.rh_draw.proofs.tables.put_others.Goals as goal
+
+abbrev behind : MessageEntry → List ℕ
+behind entry = codes ", " ++ text_of entry
+
+pub returns-in_err-put_entry : goal.returns-in_err-put_entry
+returns-in_err-put_entry g c =
+    left_breaks _ _ c.loop-entry.invariant (escape-item behind _ _ _ c.in-Some.ensures.cases.0) c.in_err-put_entry.ensures
+    c.from_residual.ensures.0
+
+pub loop-entry-preserved : goal.loop-entry-preserved
+loop-entry-preserved g c =
+    left_less c.loop-entry.invariant (escape-item behind _ _ _ c.in-Some.ensures.cases.0) c.in_ok-put_entry.ensures.ok

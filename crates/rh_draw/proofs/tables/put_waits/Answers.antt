@@ -1,0 +1,22 @@
+use Rattle.std.proofs.Common.{refl}
+use Rattle.std.specs.Prelude.{codes}
+use Rattle.std.specs.List.{join_by}
+use Rattle.rh_figure.specs.Phrases.{and_more}
+use Rattle.rh_lines.proofs.FlowLemmas.{puts_before, puts_stops, puts_more}
+use Rattle.rh_map.specs.Messages.{text_of}
+use Rattle.rh_sheet.specs.Markup.{escape}
+use Rattle.rh_draw.proofs.EscapedItems.{escape-both}
+use Rattle.rh_draw.proofs.WriteLemmas.{puts-as}
+use Rattle.rh_draw.proofs.tables.put_waits.Goals as goal
+
+pub returns-in_err-put_entries : goal.returns-in_err-put_entries
+returns-in_err-put_entries g c =
+    puts-as
+    (puts_stops _ (puts_before (escape (and_more c.args.count)) c.in_err-put_entries.ensures refl)
+    c.from_residual.ensures.0)
+    (escape-both (join_by text_of (codes ", ") c.args.waits.now) (and_more c.args.count))
+
+pub returns : goal.returns
+returns g c =
+    puts-as (puts_more _ _ _ c.in_ok-put_entries.ensures c.put_more.ensures)
+    (escape-both (join_by text_of (codes ", ") c.args.waits.now) (and_more c.args.count))

@@ -1,0 +1,49 @@
+//! What stands beside the memory: the chart of the last messages, the table of messages, and that of transfers.
+
+ghost use Rattle.std.specs.Prelude.{◌≡◌, ◌≤◌, length};
+ghost use Rattle.rh_lines.specs.Flow.{Puts};
+ghost use Rattle.rh_sheet.specs.Steps.{aside_text, has_aside as has_aside_at};
+ghost use Rattle.rh_sheet.specs.declared.sizes.TheConstants.{MOST_NOTES};
+ghost use Rattle.rh_sight.specs.Steps.{IsStepOf, scene_at};
+
+use crate::chart::print_chart;
+use crate::letters::print_messages;
+use crate::transfers::print_transfers;
+use rh_drawn::{has_letterboxes, has_transfers};
+use rh_lines::{Sink, WriteFailed, put};
+use rh_sheet::Note;
+use rh_sight::{Sight, Step};
+
+/// Writes what stands beside the memory at a step with a number, if something does. Fails only where the writer failed
+/// or took none of what it was offered; a front of it is then written.
+pub fn print_aside<S: Sight, W: Sink>(
+    sight: &S,
+    step: &Step<'_>,
+    notes: &[Note],
+    number: u32,
+    writer: &mut W,
+) -> Result<(), WriteFailed>
+    requires step { IsStepOf (S.desk sight.now) step.now }
+    requires few { length step.now.messages.now ≤ 256 }
+    requires notes { length notes.now ≤ MOST_NOTES }
+    ensures { Puts (W.output writer.old) (W.output writer.new) result
+        (aside_text (scene_at (S.desk sight.now) step.now) notes.now number) }
+{
+    if !has_aside(sight, step, notes) {
+        return Ok(());
+    }
+    put(writer, b"<aside>\n")?;
+    print_chart(sight, notes, number, writer)?;
+    print_messages(sight, step, writer)?;
+    print_transfers(sight, writer)?;
+    put(writer, b"</aside>\n")
+}
+
+/// Whether something stands beside the memory.
+fn has_aside<S: Sight>(sight: &S, step: &Step<'_>, notes: &[Note]) -> bool
+    requires { IsStepOf (S.desk sight.now) step.now }
+    ensures { result ≡ has_aside_at (scene_at (S.desk sight.now) step.now) notes.now }
+{
+    sight.spelled();
+    !notes.is_empty() || has_letterboxes(sight, step.messages) || has_transfers(sight)
+}

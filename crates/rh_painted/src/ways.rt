@@ -1,0 +1,153 @@
+//! The arrows of a chart: of each message, and of its way back.
+
+ghost use Rattle.std.specs.Prelude.{◌≡◌, ◌≤◌, ◌<◌, ◌+◌, ◌∷◌, [], length};
+ghost use Rattle.rh_painted.specs.Ways.{arrow_of, arrows_seen, with_step, words_of};
+ghost use Rattle.rh_painted.specs.declared.numbers.TheConstants.{MOST_NUMBERS};
+ghost use Rattle.rh_painted.specs.declared.ways.TheConstants.{MOST_WAYS};
+ghost use Rattle.rh_sheet.specs.Chart.{arrows, steps_in as steps_of, tasks_in as tasks_of, way_back as arrow_back, way_out as arrow_out};
+ghost use Rattle.rh_sheet.specs.declared.sizes.TheConstants.{MOST_NOTES};
+
+use crate::numbers::{Numbers, put_number};
+use arrayvec::ArrayVec;
+use rh_defs::{Action, Handle, Ref};
+use rh_draw::action_name;
+use rh_lines::Row;
+use rh_sheet::Note;
+use rh_sheet::sizes::MOST_NOTES;
+
+/// A chart has at most so many arrows.
+pub const MOST_WAYS: usize = 2 * MOST_NOTES;
+
+/// An arrow of a chart: a message on its way from a task to a task, or on its way back, between two steps, of which the
+/// second is 0 where it waits.
+#[derive(Clone, Copy)]
+pub struct Way {
+    pub start: u32,
+    pub stop: u32,
+    pub from: Handle,
+    pub to: Handle,
+    pub my_ref: Ref,
+    pub action: Action,
+    pub is_back: bool,
+}
+
+impl Default for Way {
+    /// The way of no message, as refs count up from 1.
+    fn default() -> Way {
+        Way {
+            start: 0,
+            stop: 0,
+            from: Handle(0),
+            to: Handle(0),
+            my_ref: Ref(0),
+            action: Action::DataSave,
+            is_back: false,
+        }
+    }
+}
+
+/// The arrows of a chart, in the order in which the messages were sent.
+pub type Ways = ArrayVec<Way, MOST_WAYS>;
+
+/// The arrows of the last messages.
+pub fn ways_of(notes: &[Note]) -> Ways
+    requires { length notes.now ≤ MOST_NOTES }
+    ensures { arrows_seen result.items ≡ arrows notes.now }
+{
+    let mut ways = ArrayVec::new();
+    for note in notes {
+        ways.push(way_out(note));
+        if note.back != 0 {
+            ways.push(way_back(note));
+        }
+    }
+    ways
+}
+
+/// A message on its way out.
+fn way_out(note: &Note) -> Way
+    ensures { arrow_of result ≡ arrow_out note.now }
+{
+    Way {
+        start: note.sent,
+        stop: note.taken,
+        from: Handle(note.from),
+        to: Handle(note.to),
+        my_ref: Ref(note.my_ref),
+        action: note.action,
+        is_back: false,
+    }
+}
+
+/// A message on its way back.
+fn way_back(note: &Note) -> Way
+    ensures { arrow_of result ≡ arrow_back note.now }
+{
+    Way {
+        start: note.back,
+        stop: note.ended,
+        from: Handle(note.to),
+        to: Handle(note.from),
+        my_ref: Ref(note.my_ref),
+        action: note.action,
+        is_back: true,
+    }
+}
+
+impl Way {
+    /// The words of an arrow: the message's ref and action, and whether it comes back.
+    pub fn words(&self) -> Row
+        ensures value { result ≡ words_of self.now }
+        ensures few { length result ≤ 28 }
+    {
+        let mut row = Row::new();
+        row.decimal(self.my_ref.0);
+        row.byte(b' ');
+        row.text(action_name(self.action));
+        if self.is_back {
+            row.text(b" back");
+        }
+        row
+    }
+}
+
+/// The steps at which arrows begin or end.
+pub fn steps_in(ways: &[Way]) -> Numbers
+    requires { length ways.now ≤ MOST_WAYS }
+    ensures { result.items ≡ steps_of (arrows_seen ways.now) }
+{
+    let mut steps = ArrayVec::new();
+    let mut rest = ways;
+    while let Some((last, front)) = rest.split_last() {
+        put_step(last.stop, &mut steps);
+        put_step(last.start, &mut steps);
+        rest = front;
+    }
+    steps
+}
+
+/// Puts a step in its place among others, if it is one and isn't there.
+fn put_step(step: u32, steps: &mut Numbers)
+    requires { length steps.old.items < MOST_NUMBERS }
+    ensures value { steps.new.items ≡ with_step step steps.old.items }
+    ensures few { length steps.new.items ≤ length steps.old.items + 1 }
+{
+    if step != 0 {
+        put_number(step, steps);
+    }
+}
+
+/// The tasks between which arrows go, by their handles.
+pub fn tasks_in(ways: &[Way]) -> Numbers
+    requires { length ways.now ≤ MOST_WAYS }
+    ensures { result.items ≡ tasks_of (arrows_seen ways.now) }
+{
+    let mut tasks = ArrayVec::new();
+    let mut rest = ways;
+    while let Some((last, front)) = rest.split_last() {
+        put_number(last.to.0, &mut tasks);
+        put_number(last.from.0, &mut tasks);
+        rest = front;
+    }
+    tasks
+}
