@@ -1,9 +1,9 @@
 //! The pool of pages: squares with numbers, tints and tags.
 
-ghost use Rattle.std.specs.Prelude.{◌≡◌, ◌≤◌, ◌<◌, ◌+◌, ◌++◌, codes, length};
+ghost use Rattle.std.specs.Prelude.{◌≡◌, ◌≤◌, ◌<◌, ◌+◌, ◌^◌, ◌++◌, codes, length};
 ghost use Rattle.std.specs.List.{flat_map, range_with_len};
 ghost use Rattle.rh_defs.specs.declared.sizes.TheConstants.{MAX_PAGES};
-ghost use Rattle.rh_draw.specs.Pages.{AreBelow};
+ghost use Rattle.rh_draw.specs.declared.boxes.TheConstants.{LONGEST_CLASS};
 ghost use Rattle.rh_lines.specs.Flow.{Puts};
 ghost use Rattle.rh_lines.specs.declared.row.TheConstants.{ROW};
 ghost use Rattle.rh_sheet.specs.Markup.{box_text, words_text};
@@ -32,16 +32,16 @@ fn cell_x(k: u32) -> u32
 
 /// The same from above.
 fn cell_y(k: u32) -> u32
-    requires { k ≤ MAX_PAGES }
+    requires { k < 2 ^ 16 }
     ensures value { result ≡ y_of_cell k }
-    ensures few { result ≤ 1024 }
+    ensures few { result ≤ 65536 }
 {
     CELL * (k / POOL_COLUMNS)
 }
 
 /// The way round the square of page k.
 fn square_row(k: u32) -> Row
-    requires { k < MAX_PAGES }
+    requires { k < 2 ^ 16 }
     ensures { result ≡ square_way k }
 {
     let mut row = Row::new();
@@ -52,7 +52,6 @@ fn square_row(k: u32) -> Row
 
 /// Writes the way round the square of page k.
 fn print_square<W: Sink>(k: u16, writer: &mut W) -> Result<(), WriteFailed>
-    requires { k < MAX_PAGES }
     ensures { Puts (W.output writer.old) (W.output writer.new) result (square_way k) }
 {
     put(writer, square_row(u32::from(k)).as_slice())
@@ -60,7 +59,6 @@ fn print_square<W: Sink>(k: u16, writer: &mut W) -> Result<(), WriteFailed>
 
 /// Writes the ways round the squares of some pages.
 fn print_ways<W: Sink>(pages: &[u16], writer: &mut W) -> Result<(), WriteFailed>
-    requires { AreBelow MAX_PAGES pages.now }
     ensures { Puts (W.output writer.old) (W.output writer.new) result (flat_map square_way pages.now) }
 {
     let mut rest = pages;
@@ -73,7 +71,7 @@ fn print_ways<W: Sink>(pages: &[u16], writer: &mut W) -> Result<(), WriteFailed>
 
 /// Writes the beginning of squares.
 fn print_squares_begin<W: Sink>(class: &[u8], writer: &mut W) -> Result<(), WriteFailed>
-    requires { length class.now ≤ 40 }
+    requires { length class.now ≤ LONGEST_CLASS }
     ensures { Puts (W.output writer.old) (W.output writer.new) result (squares_begin class.now) }
 {
     let mut row = Row::new();
@@ -91,8 +89,7 @@ pub fn print_squares<W: Sink>(
     tip: &[u8],
     writer: &mut W,
 ) -> Result<(), WriteFailed>
-    requires class { length class.now ≤ 40 }
-    requires pages { AreBelow MAX_PAGES pages.now }
+    requires { length class.now ≤ LONGEST_CLASS }
     ensures { Puts (W.output writer.old) (W.output writer.new) result (squares_text class.now pages.now tip.now) }
 {
     if pages.is_empty() {
@@ -108,8 +105,7 @@ fn print_some_squares<W: Sink>(
     tip: &[u8],
     writer: &mut W,
 ) -> Result<(), WriteFailed>
-    requires class { length class.now ≤ 40 }
-    requires pages { AreBelow MAX_PAGES pages.now }
+    requires { length class.now ≤ LONGEST_CLASS }
     ensures { Puts (W.output writer.old) (W.output writer.new) result (some_squares class.now pages.now tip.now) }
 {
     print_squares_begin(class, writer)?;
@@ -215,7 +211,6 @@ fn print_numbers<W: Sink>(n: u32, writer: &mut W) -> Result<(), WriteFailed>
 /// Writes a tag in the squares of some pages. Fails only where the writer failed or took none of what it was offered; a
 /// front of the elements is then written.
 pub fn print_tags<W: Sink>(tag: &[u8], pages: &[u16], writer: &mut W) -> Result<(), WriteFailed>
-    requires { AreBelow MAX_PAGES pages.now }
     ensures { Puts (W.output writer.old) (W.output writer.new) result (flat_map (tag_text tag.now) pages.now) }
 {
     let mut rest = pages;
@@ -228,7 +223,6 @@ pub fn print_tags<W: Sink>(tag: &[u8], pages: &[u16], writer: &mut W) -> Result<
 
 /// Writes a tag in the square of page k.
 fn print_tag<W: Sink>(tag: &[u8], k: u16, writer: &mut W) -> Result<(), WriteFailed>
-    requires { k < MAX_PAGES }
     ensures { Puts (W.output writer.old) (W.output writer.new) result (tag_text tag.now k) }
 {
     let page = u32::from(k);

@@ -1,17 +1,13 @@
 use Rattle.std.proofs.Common.{length}
 use Rattle.std.specs.List.{flat_map}
-use Rattle.rh_defs.specs.declared.sizes.TheConstants.{MAX_PAGES}
 use Rattle.rh_sheet.specs.Pool.{square_way}
 use Rattle.rh_map.proofs.Left.{Left}
-use Rattle.rh_draw.specs.Pages.{AreBelow}
 use Rattle.rh_draw.proofs.pool.print_ways.Given as goal
 
 -- the rest is left
 abbrev pub invariant-loop-page : goal.invariant-loop-page
-invariant-loop-page g l = record {
-  left : Left (g.W.Sink.output l.initial.writer) (g.W.Sink.output l.writer) (flat_map square_way l.pages) (flat_map square_way l.rest);
-  below : AreBelow MAX_PAGES l.rest;
-}
+invariant-loop-page g l =
+    Left (g.W.Sink.output l.initial.writer) (g.W.Sink.output l.writer) (flat_map square_way l.pages) (flat_map square_way l.rest)
 
 abbrev pub decreases-loop-page : goal.decreases-loop-page
 decreases-loop-page g l = length l.rest
