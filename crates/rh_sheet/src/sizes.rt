@@ -80,7 +80,7 @@ pub const GHOST_EDGE: u32 = 3;
 pub const GHOST_WIDTH: u32 = 9;
 
 /// How far the arrow of a slide within one row rises above it.
-pub const ARC_RISE: u32 = 24;
+pub const ARC_RISE: u32 = 18;
 
 /// How far right of a block's beginning the arrow of a slide between rows begins, and how far it bows out.
 pub const ARROW_INDENT: u32 = 6;

@@ -130,9 +130,10 @@ pattern path { fill: none; stroke: #cfd5db; }
 #tip path { fill: #6b747e; }
 #point path { fill: var(--changed); }
 
-/* a link to a step shows that step alone */
+/* a link to a step shows that step alone, without how figures are read */
 @media screen {
-  body:has(section:target) section:not(:target) { display: none; }
+  body:has(section:target) :is(header, section:not(:target)) { display: none; }
+  section:target { margin-top: 0; padding-top: 0; border-top: none; }
 }
 
 /* what is said and what stands beside on the left, the figure on the right */

@@ -123,7 +123,7 @@ fn arrow_in_a_row(rt: HostRuntime) {
     };
     same(&rt, print_slide_arrow(frame, slide, &mut writer), Ok(()));
     let wanted =
-        b"<path class=\"casing\" d=\"M174 82h9v30h-9z\"/>\n<path class=\"ghost\" d=\"M174 82h9v30h-9z\"/>\n<path class=\"casing\" d=\"M179 83C179 59 204 59 204 83\"/>\n<path class=\"slide\" d=\"M179 83C179 59 204 59 204 83\"/>\n";
+        b"<path class=\"casing\" d=\"M174 82h9v30h-9z\"/>\n<path class=\"ghost\" d=\"M174 82h9v30h-9z\"/>\n<path class=\"casing\" d=\"M179 83C179 65 204 65 204 83\"/>\n<path class=\"slide\" d=\"M179 83C179 65 204 65 204 83\"/>\n";
     let written = writer.into_inner();
     same(&rt, written.as_slice(), wanted.as_slice());
 }
