@@ -22,7 +22,6 @@ mod sheet;
 mod steps;
 mod tables;
 mod tints;
-mod words;
 
 pub use arrows::{Slide, print_slide_arrow};
 pub use boxes::{Extent, LONGEST_CLASS, print_box, print_words};
@@ -43,4 +42,3 @@ pub use sheet::{print_foot, print_head};
 pub use steps::{print_said, print_step_open, print_still};
 pub use tables::{print_letterbox_row, print_transfer_row};
 pub use tints::{Tint, add_tint};
-pub use words::action_name;
