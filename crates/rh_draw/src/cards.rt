@@ -4,7 +4,7 @@ ghost use Rattle.std.specs.Prelude.{◌≡◌, ◌≤◌, ◌<◌, ◌+◌, leng
 ghost use Rattle.rh_draw.specs.Cards.{card_of, classes_of_card, kind_of};
 ghost use Rattle.rh_figure.specs.declared.limits.TheConstants.{MOST_CARDS};
 ghost use Rattle.rh_lines.specs.Flow.{Puts};
-ghost use Rattle.rh_sheet.specs.Cards.{card_box, card_line_text, card_text, card_x as x_of_card, high_card_text, low_card_text};
+ghost use Rattle.rh_sheet.specs.Cards.{card_box, card_line_text, card_text, card_x as x_of_card, high_card_text, high_card_y as y_of_high_card, low_card_text};
 ghost use Rattle.rh_sheet.specs.Markup.{box_text};
 
 use crate::boxes::{Extent, print_box, print_words};
@@ -128,6 +128,15 @@ pub fn print_low_card<W: Sink>(
     print_card(card, card_x(i), y0 + CARD_RISE * (i / CARDS_ACROSS), writer)
 }
 
+/// Where the room of card i above a height begins, from above.
+fn high_card_y(y0: u32, i: u32) -> u32
+    requires { i < MOST_CARDS }
+    ensures value { result ≡ y_of_high_card y0 i }
+    ensures few { result ≤ y0 }
+{
+    y0.saturating_sub(CARD_RISE * (i / CARDS_ACROSS + 1))
+}
+
 /// Writes card i of those that are shown above a height. Fails only where the writer failed or took none of what it was
 /// offered; a front of the card is then written.
 pub fn print_high_card<W: Sink>(
@@ -140,10 +149,5 @@ pub fn print_high_card<W: Sink>(
     requires height { y0 ≤ 1000 }
     ensures { Puts (W.output writer.old) (W.output writer.new) result (high_card_text y0 (i, card_of card.now)) }
 {
-    print_card(
-        card,
-        card_x(i),
-        y0.saturating_sub(CARD_RISE * (i / CARDS_ACROSS + 1)),
-        writer,
-    )
+    print_card(card, card_x(i), high_card_y(y0, i), writer)
 }
