@@ -2,8 +2,7 @@
 use Rattle.std.proofs.Common.{◌≡◌, ℕ, ◌++◌, codes, ap, ◌∙◌, append_assoc}
 use Rattle.std.specs.Fmt.{decimal}
 use Rattle.rh_figure.specs.Phrases.{Text}
-use Rattle.rh_sheet.specs.Markup.{escape, figure_begin}
-use Rattle.rh_draw.specs.Figures.{figure_open}
+use Rattle.rh_sheet.specs.Markup.{escape, figure_open}
 use Rattle.rh_draw.proofs.RowLemmas.{behind}
 
 -- its size
@@ -22,18 +21,3 @@ figure-sized width height title row e =
     ∙ behind (codes "<svg viewBox=\"0 0 ") (decimal width ++ (codes " " ++ (decimal height ++ last))) rest
     (behind (decimal width) (codes " " ++ (decimal height ++ last)) rest
     (behind (codes " ") (decimal height ++ last) rest (append_assoc (decimal height) last rest)))
-
--- up to its description, and the rest
-pub figure-parts : (width height : ℕ) (title description : Text)
-    → figure_open width height title ++ (escape description ++ codes "</desc>\n")
-    ≡ figure_begin width height title description
-figure-parts width height title description =
-    let titled = escape title ++ codes "</title>\n<desc>" in
-    let sized = codes "\" role=\"img\">\n<title>" ++ titled in
-    let rest = escape description ++ codes "</desc>\n" in
-    behind (codes "<svg viewBox=\"0 0 ") (decimal width ++ (codes " " ++ (decimal height ++ sized))) rest
-    (behind (decimal width) (codes " " ++ (decimal height ++ sized)) rest
-    (behind (codes " ") (decimal height ++ sized) rest
-    (behind (decimal height) sized rest
-    (behind (codes "\" role=\"img\">\n<title>") titled rest
-    (append_assoc (escape title) (codes "</title>\n<desc>") rest)))))

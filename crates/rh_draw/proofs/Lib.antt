@@ -4,6 +4,7 @@ pub mod EscapedItems
 pub mod FigureLemmas
 pub mod ListLemmas
 pub mod LoopLemmas
+pub mod PageLemmas
 pub mod PutLemmas
 pub mod ReplyLemmas
 pub mod RowLemmas

@@ -4,6 +4,5 @@ pub mod Pieces
 pub mod Rows
 pub mod Cards
 pub mod Arrows
-pub mod Figures
 pub mod Replies
 pub mod Letters

@@ -1,10 +1,11 @@
 //! Cards: what may be too small for its scale, written out.
 
 ghost use Rattle.std.specs.Prelude.{◌≡◌, ◌≤◌, ◌<◌, ◌+◌, length};
-ghost use Rattle.rh_draw.specs.Cards.{card_of, classes_of_card};
+ghost use Rattle.rh_draw.specs.Cards.{card_of, classes_of_card, kind_of};
 ghost use Rattle.rh_figure.specs.declared.limits.TheConstants.{MOST_CARDS};
 ghost use Rattle.rh_lines.specs.Flow.{Puts};
-ghost use Rattle.rh_sheet.specs.Cards.{card_line_text, card_text, card_x as x_of_card, high_card_text, low_card_text};
+ghost use Rattle.rh_sheet.specs.Cards.{card_box, card_line_text, card_text, card_x as x_of_card, high_card_text, high_card_y as y_of_high_card, low_card_text};
+ghost use Rattle.rh_sheet.specs.Markup.{box_text};
 
 use crate::boxes::{Extent, print_box, print_words};
 use rh_lines::{Row, Sink, WriteFailed};
@@ -73,10 +74,16 @@ fn print_card_line<W: Sink>(
     print_words(class, x + 1 + CARD_INDENT, down, row.as_slice(), writer)
 }
 
-/// Writes a card whose room begins at a point.
-fn print_card<W: Sink>(card: &Card<'_>, x: u32, y: u32, writer: &mut W) -> Result<(), WriteFailed>
+/// Writes the rectangle of a card whose room begins at a point.
+fn print_card_box<W: Sink>(
+    look: Look,
+    fresh: bool,
+    x: u32,
+    y: u32,
+    writer: &mut W,
+) -> Result<(), WriteFailed>
     requires { x + y ≤ 4000 }
-    ensures { Puts (W.output writer.old) (W.output writer.new) result (card_text (card_of card.now) x y) }
+    ensures { Puts (W.output writer.old) (W.output writer.new) result (box_text (card_box (kind_of look) fresh x y)) }
 {
     let at = Extent {
         x: x + 1,
@@ -84,7 +91,15 @@ fn print_card<W: Sink>(card: &Card<'_>, x: u32, y: u32, writer: &mut W) -> Resul
         width: CARD_PITCH - CARD_GAP,
         height: CARD_RISE - CARD_SPACE,
     };
-    print_box(card_class(card.look, card.fresh), at, b"", writer)?;
+    print_box(card_class(look, fresh), at, b"", writer)
+}
+
+/// Writes a card whose room begins at a point.
+fn print_card<W: Sink>(card: &Card<'_>, x: u32, y: u32, writer: &mut W) -> Result<(), WriteFailed>
+    requires { x + y ≤ 4000 }
+    ensures { Puts (W.output writer.old) (W.output writer.new) result (card_text (card_of card.now) x y) }
+{
+    print_card_box(card.look, card.fresh, x, y, writer)?;
     print_card_line(b"first", 0, x, y, card.first, writer)?;
     print_card_line(b"line", 1, x, y, card.second, writer)?;
     print_card_line(b"line", 2, x, y, card.third, writer)
@@ -113,6 +128,15 @@ pub fn print_low_card<W: Sink>(
     print_card(card, card_x(i), y0 + CARD_RISE * (i / CARDS_ACROSS), writer)
 }
 
+/// Where the room of card i above a height begins, from above.
+fn high_card_y(y0: u32, i: u32) -> u32
+    requires { i < MOST_CARDS }
+    ensures value { result ≡ y_of_high_card y0 i }
+    ensures few { result ≤ y0 }
+{
+    y0.saturating_sub(CARD_RISE * (i / CARDS_ACROSS + 1))
+}
+
 /// Writes card i of those that are shown above a height. Fails only where the writer failed or took none of what it was
 /// offered; a front of the card is then written.
 pub fn print_high_card<W: Sink>(
@@ -125,10 +149,5 @@ pub fn print_high_card<W: Sink>(
     requires height { y0 ≤ 1000 }
     ensures { Puts (W.output writer.old) (W.output writer.new) result (high_card_text y0 (i, card_of card.now)) }
 {
-    print_card(
-        card,
-        card_x(i),
-        y0.saturating_sub(CARD_RISE * (i / CARDS_ACROSS + 1)),
-        writer,
-    )
+    print_card(card, card_x(i), high_card_y(y0, i), writer)
 }

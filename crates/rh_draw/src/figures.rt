@@ -1,8 +1,8 @@
-//! Figures whose description is written part by part.
+//! Figures: their beginning, the end of their description, and their end.
 
 ghost use Rattle.std.specs.Prelude.{codes};
-ghost use Rattle.rh_draw.specs.Figures.{figure_open};
 ghost use Rattle.rh_lines.specs.Flow.{Puts};
+ghost use Rattle.rh_sheet.specs.Markup.{figure_open};
 
 use crate::escape::put_between;
 use rh_lines::{Row, Sink, WriteFailed, put};
@@ -33,4 +33,12 @@ pub fn print_described<W: Sink>(writer: &mut W) -> Result<(), WriteFailed>
     ensures { Puts (W.output writer.old) (W.output writer.new) result (codes "</desc>\n") }
 {
     put(writer, b"</desc>\n")
+}
+
+/// Writes the end of a figure. Fails only where the writer failed or took none of what it was offered; a front of it is
+/// then written.
+pub fn print_figure_end<W: Sink>(writer: &mut W) -> Result<(), WriteFailed>
+    ensures { Puts (W.output writer.old) (W.output writer.new) result (codes "</svg>\n") }
+{
+    put(writer, b"</svg>\n")
 }

@@ -4,11 +4,10 @@ ghost use Rattle.std.specs.Prelude.{◌≡◌, ◌≤◌, ◌+◌, ◌++◌, cod
 ghost use Rattle.rh_draw.specs.declared.boxes.TheConstants.{LONGEST_CLASS};
 ghost use Rattle.rh_lines.specs.Flow.{Puts};
 ghost use Rattle.rh_lines.specs.declared.row.TheConstants.{ROW};
-ghost use Rattle.rh_sheet.specs.Markup.{cell_text, change_item, figure_begin, heading_text, path_text, point_text, stretch_text};
+ghost use Rattle.rh_sheet.specs.Markup.{cell_text, change_item, heading_text, path_text, point_text, stretch_text};
 
 use crate::attributes::add_text_attribute;
 use crate::escape::put_between;
-use crate::figures::print_figure_open;
 use rh_lines::{Row, Sink, WriteFailed, put};
 
 /// Writes a line along a way. Fails only where the writer failed or took none of what it was offered; a front of the
@@ -46,30 +45,6 @@ pub(crate) fn add_stretch(row: &mut Row, letters: &[u8], n: u32)
 {
     row.text(letters);
     row.decimal(n);
-}
-
-/// Writes the beginning of a figure. Fails only where the writer failed or took none of what it was offered; a front of
-/// it is then written.
-pub fn print_figure_begin<W: Sink>(
-    width: u32,
-    height: u32,
-    title: &[u8],
-    description: &[u8],
-    writer: &mut W,
-) -> Result<(), WriteFailed>
-    ensures { Puts (W.output writer.old) (W.output writer.new) result
-        (figure_begin width height title.now description.now) }
-{
-    print_figure_open(width, height, title, writer)?;
-    put_between(b"", description, b"</desc>\n", writer)
-}
-
-/// Writes the end of a figure. Fails only where the writer failed or took none of what it was offered; a front of it is
-/// then written.
-pub fn print_figure_end<W: Sink>(writer: &mut W) -> Result<(), WriteFailed>
-    ensures { Puts (W.output writer.old) (W.output writer.new) result (codes "</svg>\n") }
-{
-    put(writer, b"</svg>\n")
 }
 
 /// Writes the heading of an area or a slot. Fails only where the writer failed or took none of what it was offered; a

@@ -11,8 +11,8 @@ ghost use Rattle.rh_lines.specs.Flow.{Puts};
 ghost use Rattle.rh_lines.specs.declared.row.TheConstants.{ROW};
 ghost use Rattle.rh_figure.specs.Phrases.{where_so};
 ghost use Rattle.rh_sheet.specs.declared.sizes.TheConstants.{SHORT_EDGE, UNIT_BYTES};
-ghost use Rattle.rh_sheet.specs.Markup.{words_text};
-ghost use Rattle.rh_sheet.specs.Pieces.{fitting as fitting_label, has_room as has_room_for, high_in as high_byte_in, is_tinted as is_tinted_kind, kind_class as class_of_kind, label_of, low_in as low_byte_in, piece_classes, piece_text, pieces_text, short_label_of, sized_at, tip_of};
+ghost use Rattle.rh_sheet.specs.Markup.{box_text};
+ghost use Rattle.rh_sheet.specs.Pieces.{fitting as fitting_label, has_room as has_room_for, high_in as high_byte_in, is_tinted as is_tinted_kind, kind_class as class_of_kind, label_of, low_in as low_byte_in, piece_box, piece_classes, piece_label, piece_text, piece_width as width_of_piece, piece_x as x_of_piece, pieces_text, short_label_of, sized_at, tip_of};
 
 use crate::boxes::{Extent, print_box, print_words};
 use crate::tints::{Tint, add_tint};
@@ -74,7 +74,7 @@ fn add_label(row: &mut Row, kind: Kind, size: u32)
 /// Adds a number between two words.
 fn add_counted(row: &mut Row, before: &[u8], number: u32, behind: &[u8])
     requires { length row.old + length before.now + length behind.now + 11 ≤ ROW }
-    ensures value { row.new ≡ row.old ++ before.now ++ decimal number ++ behind.now }
+    ensures value { row.new ≡ row.old ++ (before.now ++ (decimal number ++ behind.now)) }
     ensures few { length row.new ≤ length row.old + length before.now + length behind.now + 11 }
 {
     row.text(before);
@@ -112,7 +112,7 @@ fn add_sized_at(row: &mut Row, what: &[u8], address: u32, size: u32)
 /// Adds a thing and its address.
 fn add_at(row: &mut Row, what: &[u8], address: u32)
     requires { length row.old + length what.now + 11 ≤ ROW }
-    ensures value { row.new ≡ row.old ++ what.now ++ address_of address }
+    ensures value { row.new ≡ row.old ++ (what.now ++ address_of address) }
     ensures few { length row.new ≤ length row.old + length what.now + 11 }
 {
     row.text(what);
@@ -235,6 +235,97 @@ fn classes_of(tint: Tint, kind: Kind, fresh: bool) -> Row
     row
 }
 
+/// How far from a row's left end a piece begins in the row of page k, where it has bytes there.
+fn piece_x(k: usize, piece: &Piece) -> u32
+    requires page { k < 2 ^ 20 }
+    requires piece { IsDrawable piece.now }
+    requires there { low_byte_in k piece.now < high_byte_in k piece.now }
+    ensures value { result ≡ x_of_piece k piece.now }
+    ensures few { result ≤ 1024 }
+{
+    (low_in(k, piece) / UNIT_BYTES) as u32
+}
+
+/// How wide a piece is in the row of page k.
+fn piece_width(k: usize, piece: &Piece) -> u32
+    requires page { k < 2 ^ 20 }
+    requires piece { IsDrawable piece.now }
+    ensures value { result ≡ width_of_piece k piece.now }
+    ensures few { result ≤ 1024 }
+{
+    (high_in(k, piece).saturating_sub(low_in(k, piece)) / UNIT_BYTES) as u32
+}
+
+/// Writes the rectangle of a piece that has bytes in page k.
+fn print_piece_box<W: Sink>(
+    start: u32,
+    tint: Tint,
+    y: u32,
+    k: usize,
+    piece: &Piece,
+    writer: &mut W,
+) -> Result<(), WriteFailed>
+    requires start { start < 2 ^ 30 }
+    requires page { k < 2 ^ 20 }
+    requires piece { IsDrawable piece.now }
+    requires there { low_byte_in k piece.now < high_byte_in k piece.now }
+    ensures { Puts (W.output writer.old) (W.output writer.new) result (box_text (piece_box start (tint_class tint) y k piece.now)) }
+{
+    let class = classes_of(tint, piece.kind, piece.fresh);
+    let mut tip = Row::new();
+    add_tip(
+        &mut tip,
+        piece.kind,
+        start + piece.at as u32,
+        piece.size as u32,
+    );
+    let at = Extent {
+        x: LEFT + piece_x(k, piece),
+        y,
+        width: piece_width(k, piece),
+        height: ROW_HEIGHT,
+    };
+    print_box(class.as_slice(), at, tip.as_slice(), writer)
+}
+
+/// Writes the label that the part of a piece in the row of page k has room for.
+fn print_label<W: Sink>(y: u32, k: usize, piece: &Piece, writer: &mut W) -> Result<(), WriteFailed>
+    requires height { y ≤ 800 }
+    requires page { k < 2 ^ 20 }
+    requires piece { IsDrawable piece.now }
+    requires there { low_byte_in k piece.now < high_byte_in k piece.now }
+    ensures { Puts (W.output writer.old) (W.output writer.new) result (piece_label y k piece.now) }
+{
+    let mut class = Row::new();
+    class.text(b"lab ");
+    class.text(kind_class(piece.kind));
+    let width = piece_width(k, piece);
+    let label = fitting(piece.kind, piece.size as u32, width);
+    let x = LEFT + piece_x(k, piece) + width / 2;
+    print_words(class.as_slice(), x, y + BASELINE, label.as_slice(), writer)
+}
+
+/// Writes the part of a piece in the row of page k.
+fn print_part<W: Sink>(
+    start: u32,
+    tint: Tint,
+    y: u32,
+    k: usize,
+    piece: &Piece,
+    writer: &mut W,
+) -> Result<(), WriteFailed>
+    requires start { start < 2 ^ 30 }
+    requires height { y ≤ 800 }
+    requires page { k < 2 ^ 20 }
+    requires piece { IsDrawable piece.now }
+    requires there { low_byte_in k piece.now < high_byte_in k piece.now }
+    ensures { Puts (W.output writer.old) (W.output writer.new) result
+        (box_text (piece_box start (tint_class tint) y k piece.now) ++ piece_label y k piece.now) }
+{
+    print_piece_box(start, tint, y, k, piece, writer)?;
+    print_label(y, k, piece, writer)
+}
+
 /// Writes a piece in the row of page k of an area that begins at an address, at a height of the figure, if it has bytes
 /// there. Fails only where the writer failed or took none of what it was offered; a front of the elements is then
 /// written.
@@ -252,50 +343,11 @@ pub fn print_piece<W: Sink>(
     requires piece { IsDrawable piece.now }
     ensures { Puts (W.output writer.old) (W.output writer.new) result (piece_text start (tint_class tint) y k piece.now) }
 {
-    let (low, high) = (low_in(k, piece), high_in(k, piece));
-    if low >= high {
-        return Ok(());
+    if low_in(k, piece) < high_in(k, piece) {
+        print_part(start, tint, y, k, piece, writer)
+    } else {
+        Ok(())
     }
-    let (x, width) = (
-        LEFT + (low / UNIT_BYTES) as u32,
-        ((high - low) / UNIT_BYTES) as u32,
-    );
-    let class = classes_of(tint, piece.kind, piece.fresh);
-    let mut tip = Row::new();
-    add_tip(
-        &mut tip,
-        piece.kind,
-        start + piece.at as u32,
-        piece.size as u32,
-    );
-    let at = Extent {
-        x,
-        y,
-        width,
-        height: ROW_HEIGHT,
-    };
-    print_box(class.as_slice(), at, tip.as_slice(), writer)?;
-    print_label(x + width / 2, y + BASELINE, piece, width, writer)
-}
-
-/// Writes the label that a part of a piece of so many units has room for, round a place.
-fn print_label<W: Sink>(
-    x: u32,
-    y: u32,
-    piece: &Piece,
-    width: u32,
-    writer: &mut W,
-) -> Result<(), WriteFailed>
-    requires width { width ≤ 1024 }
-    requires piece { IsDrawable piece.now }
-    ensures { Puts (W.output writer.old) (W.output writer.new) result
-        (words_text (codes "lab " ++ class_of_kind piece.now.kind) x y (fitting_label piece.now.kind piece.now.size width)) }
-{
-    let mut class = Row::new();
-    class.text(b"lab ");
-    class.text(kind_class(piece.kind));
-    let label = fitting(piece.kind, piece.size as u32, width);
-    print_words(class.as_slice(), x, y, label.as_slice(), writer)
 }
 
 /// Writes all pieces that have bytes in page k. Fails only where the writer failed or took none of what it was offered;

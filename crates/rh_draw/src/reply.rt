@@ -1,6 +1,6 @@
 //! The lines of a reply, of which the first are shown.
 
-ghost use Rattle.std.specs.Prelude.{◌≡◌, ◌≤◌, ◌-◌, List, ℕ, [], ◌∷◌, ◌++◌, IfNone, IfSome, codes, length};
+ghost use Rattle.std.specs.Prelude.{◌≡◌, ◌≤◌, ◌-◌, List, ℕ, ◌++◌, codes, length};
 ghost use Rattle.std.specs.List.{flat_map, join_by};
 ghost use Rattle.rh_draw.specs.Replies.{behind_feeds};
 ghost use Rattle.rh_figure.specs.Map.{more_lines};
@@ -11,10 +11,9 @@ ghost use Rattle.rh_map.specs.Replies.{excerpt_lines, first_lines, lines_in, mor
 ghost use Rattle.rh_sheet.specs.Markup.{escape};
 
 use crate::escape::put_escaped;
-use memchr::memchr;
 use rh_figure::limits::{MOST_REPLY_LINES, REPLY_COLUMNS};
 use rh_lines::{Row, Sink, WriteFailed};
-use rh_map::add_cut;
+use rh_map::{add_cut, next_line};
 
 /// Writes the first lines of a reply from its front, and how many of `count` lines are left out, a line feed between
 /// two.
@@ -88,18 +87,4 @@ fn put_more_lines<W: Sink>(before: &[u8], count: u32, writer: &mut W) -> Result<
     row.decimal(count);
     row.text(b" lines more");
     put_escaped(row.as_slice(), writer)
-}
-
-/// The first line, and what stands behind its line feed.
-fn next_line(text: &[u8]) -> Option<(&[u8], &[u8])>
-    ensures none { IfNone result (lines_in text.now ≡ []) }
-    ensures some { IfSome result (λ next. lines_in text.now ≡ next.0.now ∷ lines_in next.1.now) }
-{
-    if text.is_empty() {
-        return None;
-    }
-    match memchr(b'\n', text) {
-        Some(end) => Some((&text[..end], &text[end + 1..])),
-        None => Some((text, &[])),
-    }
 }

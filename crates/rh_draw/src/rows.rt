@@ -1,14 +1,18 @@
 //! The rows of an area: a page each.
 
-ghost use Rattle.std.specs.Prelude.{◌≤◌, ◌<◌, ◌^◌, length};
+ghost use Rattle.std.specs.Prelude.{◌≤◌, ◌<◌, ◌+◌, ◌*◌, ◌/◌, ◌^◌, nat_lt, if◌then◌else◌, length, codes};
+ghost use Rattle.std.specs.Fmt.{decimal};
+ghost use Rattle.rh_defs.specs.Pieces.{page};
+ghost use Rattle.rh_defs.specs.Text.{address};
 ghost use Rattle.rh_defs.specs.declared.sizes.TheConstants.{MAX_PAGES};
 ghost use Rattle.rh_draw.specs.Pieces.{AreDrawable};
 ghost use Rattle.rh_draw.specs.Rows.{plot_of};
 ghost use Rattle.rh_draw.specs.Tints.{tint_class};
 ghost use Rattle.rh_lines.specs.Flow.{Puts};
 ghost use Rattle.rh_sheet.specs.Frames.{shown_rows as shown_rows_of};
-ghost use Rattle.rh_sheet.specs.Markup.{box_text};
-ghost use Rattle.rh_sheet.specs.Rows.{addressed_text, chip_text, gap_text, page_box, page_row_text, row_text, rows_text};
+ghost use Rattle.rh_sheet.specs.Markup.{box_text, words_text};
+ghost use Rattle.rh_sheet.specs.Rows.{addressed_text, chip_box, chip_text, gap_text, page_box, page_row_text, row_text, rows_text};
+ghost use Rattle.rh_sheet.specs.declared.sizes.TheConstants.{BASELINE, CHIP_LEFT, CHIP_WIDTH};
 
 use crate::boxes::{Extent, print_box, print_words};
 use crate::frames::{page_in, row_y, shown_rows};
@@ -46,23 +50,30 @@ fn print_page_box<W: Sink>(class: &[u8], y: u32, writer: &mut W) -> Result<(), W
     print_box(class, at, b"", writer)
 }
 
-/// Writes the number of a page in the pool, in its owner's tint.
-fn print_chip<W: Sink>(tint: Tint, y: u32, number: u16, writer: &mut W) -> Result<(), WriteFailed>
-    requires { y ≤ 800 }
-    ensures { Puts (W.output writer.old) (W.output writer.new) result (chip_text (tint_class tint) y number) }
+/// Writes where the number of a page stands, in its owner's tint.
+fn print_chip_box<W: Sink>(tint: Tint, y: u32, writer: &mut W) -> Result<(), WriteFailed>
+    ensures { Puts (W.output writer.old) (W.output writer.new) result (box_text (chip_box (tint_class tint) y)) }
 {
     let mut class = Row::new();
     class.text(b"chip ");
     add_tint(&mut class, tint);
-    let mut text = Row::new();
-    text.decimal(u32::from(number));
     let at = Extent {
         x: CHIP_LEFT,
         y,
         width: CHIP_WIDTH,
         height: ROW_HEIGHT,
     };
-    print_box(class.as_slice(), at, b"", writer)?;
+    print_box(class.as_slice(), at, b"", writer)
+}
+
+/// Writes the number of a page.
+fn print_chip_number<W: Sink>(y: u32, number: u16, writer: &mut W) -> Result<(), WriteFailed>
+    requires { y ≤ 800 }
+    ensures { Puts (W.output writer.old) (W.output writer.new) result
+        (words_text (codes "chipn") (CHIP_LEFT + CHIP_WIDTH / 2) (y + BASELINE) (decimal number)) }
+{
+    let mut text = Row::new();
+    text.decimal(u32::from(number));
     print_words(
         b"chipn",
         CHIP_LEFT + CHIP_WIDTH / 2,
@@ -70,6 +81,15 @@ fn print_chip<W: Sink>(tint: Tint, y: u32, number: u16, writer: &mut W) -> Resul
         text.as_slice(),
         writer,
     )
+}
+
+/// Writes the number of a page in the pool, in its owner's tint.
+fn print_chip<W: Sink>(tint: Tint, y: u32, number: u16, writer: &mut W) -> Result<(), WriteFailed>
+    requires { y ≤ 800 }
+    ensures { Puts (W.output writer.old) (W.output writer.new) result (chip_text (tint_class tint) y number) }
+{
+    print_chip_box(tint, y, writer)?;
+    print_chip_number(y, number, writer)
 }
 
 /// Writes page k of an area, which it has, with all that lies in it.
@@ -91,6 +111,36 @@ fn print_page_row<W: Sink>(
     print_pieces(plot.start, plot.tint, y, k, plot.pieces, writer)
 }
 
+/// Writes the address of page k of an area.
+fn print_address<W: Sink>(start: u32, y: u32, k: usize, writer: &mut W) -> Result<(), WriteFailed>
+    requires start { start < 2 ^ 30 }
+    requires height { y ≤ 800 }
+    requires page { k < MAX_PAGES }
+    ensures { Puts (W.output writer.old) (W.output writer.new) result
+        (words_text (codes "addr") 0 (y + BASELINE) (address (start + page * k))) }
+{
+    let mut text = Row::new();
+    text.address(start + (PAGE * k) as u32);
+    print_words(b"addr", 0, y + BASELINE, text.as_slice(), writer)
+}
+
+/// Writes page k of an area, or an empty row where it was given back.
+fn print_page<W: Sink>(plot: &Plot<'_>, y: u32, k: usize, writer: &mut W) -> Result<(), WriteFailed>
+    requires start { plot.now.start < 2 ^ 30 }
+    requires height { y ≤ 800 }
+    requires few { length plot.now.pages.now ≤ MAX_PAGES }
+    requires pieces { AreDrawable plot.now.pieces.now }
+    ensures { Puts (W.output writer.old) (W.output writer.new) result
+        (if nat_lt k (length plot.now.pages.now) then page_row_text (plot_of plot.now) y k
+        else box_text (page_box (codes "gone") y)) }
+{
+    if k < plot.pages.len() {
+        print_page_row(plot, y, k, writer)
+    } else {
+        print_page_box(b"gone", y, writer)
+    }
+}
+
 /// Writes page k of an area by its address; one that was given back is an empty row.
 fn print_addressed<W: Sink>(
     plot: &Plot<'_>,
@@ -105,14 +155,8 @@ fn print_addressed<W: Sink>(
     requires pieces { AreDrawable plot.now.pieces.now }
     ensures { Puts (W.output writer.old) (W.output writer.new) result (addressed_text (plot_of plot.now) y k) }
 {
-    let mut text = Row::new();
-    text.address(plot.start + (PAGE * k) as u32);
-    print_words(b"addr", 0, y + BASELINE, text.as_slice(), writer)?;
-    if k < plot.pages.len() {
-        print_page_row(plot, y, k, writer)
-    } else {
-        print_page_box(b"gone", y, writer)
-    }
+    print_address(plot.start, y, k, writer)?;
+    print_page(plot, y, k, writer)
 }
 
 /// Writes the row that counts the pages between the ends of n.

@@ -1,10 +1,11 @@
 //! Rows of the tables beside a figure.
 
-ghost use Rattle.std.specs.Prelude.{◌≡◌, ◌≤◌, ◌<◌, ◌^◌, ◌++◌, Some, codes, length};
+ghost use Rattle.std.specs.Prelude.{◌≡◌, ◌≤◌, ◌++◌, Some, codes, length};
 ghost use Rattle.std.specs.Fmt.{decimal};
 ghost use Rattle.std.specs.List.{join_by};
 ghost use Rattle.std.specs.Option.{option_map};
 ghost use Rattle.rh_defs.specs.Text.{state_name as state_name_of};
+ghost use Rattle.rh_defs.specs.declared.sizes.TheConstants.{MAX_PAGES};
 ghost use Rattle.rh_draw.specs.Letters.{behind_commas};
 ghost use Rattle.rh_figure.specs.Phrases.{and_more};
 ghost use Rattle.rh_lines.specs.Flow.{Puts};
@@ -15,10 +16,9 @@ ghost use Rattle.rh_sheet.specs.Tables.{letterbox_row, side_cells, transfer_row}
 
 use crate::escape::put_escaped;
 use crate::markup::print_cell;
-use crate::words::{add_entry, add_more};
 use rh_defs::{Name, Ref, State};
 use rh_lines::{Row, Sink, WriteFailed, put};
-use rh_map::{MessageEntry, Side, state_name};
+use rh_map::{MessageEntry, Side, add_entry, add_more, state_name};
 
 /// Writes the row of a task's name, what it holds, and the first of `count` messages that wait for it. Fails only where
 /// the writer failed or took none of what it was offered; a front of the row is then written.
@@ -29,7 +29,7 @@ pub fn print_letterbox_row<W: Sink>(
     count: usize,
     writer: &mut W,
 ) -> Result<(), WriteFailed>
-    requires { count < 2 ^ 32 }
+    requires { count ≤ MAX_PAGES }
     ensures { Puts (W.output writer.old) (W.output writer.new) result
         (letterbox_row (letterbox_of name.now held waits.now count)) }
 {
@@ -65,7 +65,7 @@ fn print_waits<W: Sink>(
     count: usize,
     writer: &mut W,
 ) -> Result<(), WriteFailed>
-    requires { count < 2 ^ 32 }
+    requires { count ≤ MAX_PAGES }
     ensures { Puts (W.output writer.old) (W.output writer.new) result (cell_text (waits_text waits.now count)) }
 {
     put(writer, b"<td>")?;
@@ -79,7 +79,7 @@ fn put_waits<W: Sink>(
     count: usize,
     writer: &mut W,
 ) -> Result<(), WriteFailed>
-    requires { count < 2 ^ 32 }
+    requires { count ≤ MAX_PAGES }
     ensures { Puts (W.output writer.old) (W.output writer.new) result (escape (waits_text waits.now count)) }
 {
     put_entries(waits, writer)?;
@@ -123,7 +123,7 @@ fn put_entry<W: Sink>(before: &[u8], entry: MessageEntry, writer: &mut W) -> Res
 
 /// Writes how many of n messages aren't named.
 fn put_more<W: Sink>(n: usize, writer: &mut W) -> Result<(), WriteFailed>
-    requires { n < 2 ^ 32 }
+    requires { n ≤ MAX_PAGES }
     ensures { Puts (W.output writer.old) (W.output writer.new) result (escape (and_more n)) }
 {
     let mut row = Row::new();

@@ -1,16 +1,16 @@
-mod ShareLemmas
-mod ReadLemmas
-mod MapLemmas
-mod Walks
-mod PageLemmas
-mod PostLemmas
-mod DrawingLemmas
-mod TransferLemmas
-mod FigureLemmas
-mod MarkLemmas
-mod RunLemmas
-mod CardLemmas
-mod HeapLemmas
-mod ExcerptLemmas
-mod AnswerLemmas
-mod StepLemmas
+pub mod ShareLemmas
+pub mod ReadLemmas
+pub mod MapLemmas
+pub mod Walks
+pub mod PageLemmas
+pub mod PostLemmas
+pub mod DrawingLemmas
+pub mod TransferLemmas
+pub mod FigureLemmas
+pub mod MarkLemmas
+pub mod RunLemmas
+pub mod CardLemmas
+pub mod HeapLemmas
+pub mod ExcerptLemmas
+pub mod AnswerLemmas
+pub mod StepLemmas

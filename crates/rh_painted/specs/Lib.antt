@@ -4,4 +4,6 @@ pub mod Ways
 pub mod Charts
 pub mod Bands
 pub mod Figures
-pub mod Places
+pub mod Progress
+pub mod Walks
+pub mod Painted

@@ -31,7 +31,7 @@ struct Chart<'a> {
     ways: &'a [Way],
     tasks: &'a [u32],
     steps: &'a [u32],
-    now: u32,
+    step: u32,
 }
 
 /// Writes the chart of the last messages as it stands at a step with a number, if there are some. Fails only where the
@@ -56,7 +56,7 @@ pub fn print_chart<S: Sight, W: Sink>(
         ways: &ways,
         tasks: &tasks,
         steps: &steps,
-        now: number,
+        step: number,
     };
     let height = chart.foot() + CHART_EDGE;
     print_figure_open(CHART_WIDTH, height, b"Messages between the tasks", writer)?;
@@ -124,7 +124,7 @@ fn print_chart_body<S: Sight, W: Sink>(
 ) -> Result<(), WriteFailed>
     requires { IsSmall chart.now }
     ensures { Puts (W.output writer.old) (W.output writer.new) result
-        (chart_body (S.desk sight.now) (arrows_seen chart.now.ways.now) chart.now.tasks.now chart.now.steps.now chart.now.now) }
+        (chart_body (S.desk sight.now) (arrows_seen chart.now.ways.now) chart.now.tasks.now chart.now.steps.now chart.now.step) }
 {
     print_lives(sight, chart, writer)?;
     print_beats(chart, writer)?;
@@ -182,7 +182,7 @@ fn print_beats<W: Sink>(chart: &Chart<'_>, writer: &mut W) -> Result<(), WriteFa
 fn print_arrows<W: Sink>(chart: &Chart<'_>, writer: &mut W) -> Result<(), WriteFailed>
     requires { IsSmall chart.now }
     ensures { Puts (W.output writer.old) (W.output writer.new) result
-        (flat_map (arrow_path chart.now.tasks.now chart.now.steps.now chart.now.now) (arrows_seen chart.now.ways.now)) }
+        (flat_map (arrow_path chart.now.tasks.now chart.now.steps.now chart.now.step) (arrows_seen chart.now.ways.now)) }
 {
     for way in chart.ways {
         print_message_arrow(way.stop == 0, chart.is_now(way), chart.ends(way), writer)?;
@@ -194,7 +194,7 @@ fn print_arrows<W: Sink>(chart: &Chart<'_>, writer: &mut W) -> Result<(), WriteF
 fn print_all_words<W: Sink>(chart: &Chart<'_>, writer: &mut W) -> Result<(), WriteFailed>
     requires { IsSmall chart.now }
     ensures { Puts (W.output writer.old) (W.output writer.new) result
-        (flat_map (arrow_words chart.now.tasks.now chart.now.steps.now chart.now.now) (arrows_seen chart.now.ways.now)) }
+        (flat_map (arrow_words chart.now.tasks.now chart.now.steps.now chart.now.step) (arrows_seen chart.now.ways.now)) }
 {
     for way in chart.ways {
         print_words_of(chart, way, writer)?;
@@ -206,7 +206,7 @@ fn print_all_words<W: Sink>(chart: &Chart<'_>, writer: &mut W) -> Result<(), Wri
 fn print_words_of<W: Sink>(chart: &Chart<'_>, way: &Way, writer: &mut W) -> Result<(), WriteFailed>
     requires { IsSmall chart.now }
     ensures { Puts (W.output writer.old) (W.output writer.new) result
-        (arrow_words chart.now.tasks.now chart.now.steps.now chart.now.now (arrow_of way.now)) }
+        (arrow_words chart.now.tasks.now chart.now.steps.now chart.now.step (arrow_of way.now)) }
 {
     let words = way.words();
     print_message_words(
@@ -272,8 +272,8 @@ impl<'a> Chart<'a> {
 
     /// Whether an arrow begins or ends at the step.
     fn is_now(&self, way: &Way) -> bool
-        ensures { result ≡ is_now_of self.now.now (arrow_of way.now) }
+        ensures { result ≡ is_now_of self.now.step (arrow_of way.now) }
     {
-        way.start == self.now || way.stop == self.now
+        way.start == self.step || way.stop == self.step
     }
 }

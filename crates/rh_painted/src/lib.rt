@@ -20,6 +20,7 @@ mod page_changes;
 mod painter;
 mod pool;
 mod post_changes;
+mod progress;
 mod rows;
 mod running;
 mod slots;

@@ -1,15 +1,27 @@
 //! A sheet in the middle of its script.
 
-ghost use Rattle.std.specs.Prelude.{◌≡◌, ◌<◌, ◌≤◌, ◌+◌, ◌^◌, ◌||◌, ◌&&◌, not, ℕ, List, None, Some, Ok, Err, IfOk, IsTrue, OnErr, OnOk};
+ghost use Rattle.std.specs.Prelude.{◌≡◌, ◌<◌, ◌+◌, ◌^◌, ◌==◌, ◌&&◌, ◌||◌, ◌++◌, not, nat_lt, ℕ, List, None, Some, Ok, Err, IfOk, IsTrue, OnErr, OnOk, length, true};
+ghost use Rattle.std.specs.Bool.{OnTrue};
 ghost use Rattle.std.specs.Option.{option_map};
+ghost use Rattle.rh_defs.specs.Line.{words_of};
 ghost use Rattle.rh_defs.specs.Range.{in_range};
-ghost use Rattle.rh_painted.specs.Places.{Broke, Drew, IsFirst, walk_in};
+ghost use Rattle.rh_drawn.specs.Replies.{Excerpts};
+ghost use Rattle.rh_figure.specs.Scene.{Marks, is_still as is_still_step, scene_of};
+ghost use Rattle.rh_figure.specs.Share.{Share, IsShared};
 ghost use Rattle.rh_lines.specs.Flow.{Puts};
+ghost use Rattle.rh_painted.specs.Progress.{stand_shown};
+ghost use Rattle.rh_painted.specs.Walks.{Broke, ComesTo, IsFirst, Painted, TookStep, happened_at, scene_behind, walk_in};
 ghost use Rattle.rh_session.specs.Outcome.{status_of};
-ghost use Rattle.rh_sheet.specs.Sheet.{begun, opening, rest_text, sheet_end};
+ghost use Rattle.rh_sheet.specs.Chart.{noted};
+ghost use Rattle.rh_sheet.specs.Sheet.{opening, sheet_end, sheet_head};
+ghost use Rattle.rh_sheet.specs.Steps.{step_text};
+ghost use Rattle.rh_sheet.specs.declared.sizes.TheConstants.{MOST_STEPS};
+ghost use Rattle.rh_sight.specs.Messages.{message_items};
+ghost use Rattle.rh_sight.specs.Pages.{share_in};
 
 use crate::notes::{Notes, note_step};
-use crate::steps::{SAID_END, STEP_END, print_step};
+use crate::progress::Progress;
+use crate::steps::{print_end, print_step};
 use arrayvec::ArrayVec;
 use rh_defs::{Command, LineFault, Question, Reply};
 use rh_draw::{print_foot, print_head, print_remark, print_step_open};
@@ -17,28 +29,20 @@ use rh_drawn::{
     Above, Deed, Drawn, Lists, answer, excerpt_fault, holds_unless, is_wanted, rest_fault, step_of,
 };
 use rh_feed::LineTaker;
-use rh_lines::{Sink, WriteFailed, put, read_line};
+use rh_lines::{Sink, WriteFailed, read_line};
 use rh_map::{Front, has_words};
 use rh_session::Status;
-use rh_sheet::sizes::MOST_STEPS;
-use rh_sight::{Kept, Messages, PageList, Sight, is_still};
+use rh_sight::{Kept, Messages, PageList, is_still};
 use std::alloc::{AllocError, Global};
 
-/// A sheet in the middle of its script: what is drawn, whether marked steps alone are shown, how many commands are
-/// behind it, whether a mark was seen since the last, whether a line was bad; how many steps are shown, which of them
-/// has the last figure, how many commands have none, whether a step was begun by a remark, and what is kept of the last
-/// messages; and what a step is drawn with.
+/// A sheet in the middle of its script: what is drawn, whether marked steps alone are shown, whether a line was bad, how
+/// far it has come, and what is kept of the last messages; and what a step is drawn with.
 #[derive(Drop)]
 pub struct Painter<D> {
     drawn: D,
     marked: bool,
-    steps: u32,
-    wanted: bool,
     has_bad_line: bool,
-    shown: u32,
-    last: u32,
-    left: u32,
-    opened: bool,
+    progress: Progress,
     notes: Notes,
     messages: Messages,
     pages: PageList,
@@ -55,13 +59,8 @@ impl<D: Drawn> Painter<D> {
         Ok(Painter {
             drawn,
             marked,
-            steps: 0,
-            wanted: false,
             has_bad_line: false,
-            shown: 0,
-            last: 0,
-            left: 0,
-            opened: false,
+            progress: Progress::new(),
             notes: ArrayVec::new(),
             messages: ArrayVec::new(),
             pages: ArrayVec::new(),
@@ -71,19 +70,212 @@ impl<D: Drawn> Painter<D> {
     }
 
     /// Writes the beginning of the sheet, with the name of its script.
-    pub fn begin<W: Sink>(&mut self, name: &[u8], writer: &mut W) -> Result<(), WriteFailed> {
+    pub fn begin<W: Sink>(&mut self, name: &[u8], writer: &mut W) -> Result<(), WriteFailed>
+        ensures text { Puts (W.output writer.old) (W.output writer.new) result (sheet_head name.now (D.desk self.old.drawn).pool) }
+        ensures rest { self.new ≡ record self.old { pages = self.new.pages } }
+    {
         self.drawn.page_list(&mut self.pages);
         print_head(name, self.pages.len() as u32, writer)
     }
 
-    /// Writes the end of the sheet, behind all lines.
-    pub fn end<W: Sink>(&self, writer: &mut W) -> Result<(), WriteFailed> {
-        if !self.opened {
-            return print_foot(self.shown, self.left, writer);
+    /// Shows a line that asks for nothing, and notes whether it marks the next command.
+    fn skip<W: Sink>(&mut self, line: &[u8], writer: &mut W) -> Result<(), WriteFailed>
+        ensures ok { OnOk result (Painted D.desk self.old (W.output writer.old) line.now (Ok None) self.new (W.output writer.new)) }
+        ensures err { OnErr result (Broke D.desk self.old (W.output writer.old) line.now (Ok None) (W.output writer.new)) }
+        ensures steps { self.new.progress.steps ≡ self.old.progress.steps }
+    {
+        self.drawn.spelled();
+        let wanted = is_wanted(self.progress.wanted(), line);
+        self.progress.want(wanted);
+        if !self.shows(line, wanted) {
+            return Ok(());
         }
-        put(writer, SAID_END)?;
-        put(writer, STEP_END)?;
-        print_foot(self.shown + 1, self.left, writer)
+        self.open_step(writer)?;
+        print_remark(line, writer)
+    }
+
+    /// Whether a line that asks for nothing is shown: it has words, and the next command would be shown.
+    fn shows(&self, line: &[u8], wanted: bool) -> bool
+        ensures value { result ≡ (not (length (words_of line.now) == 0) && (nat_lt self.now.progress.shown MOST_STEPS && (not self.now.marked || wanted))) }
+        ensures room { OnTrue result (self.now.progress.shown < MOST_STEPS) }
+    {
+        has_words(line) && self.progress.is_shown(self.marked, wanted)
+    }
+
+    /// Does the command of a line, and shows the step where it is to be shown.
+    fn carry_out<W: Sink>(
+        &mut self,
+        line: &[u8],
+        command: &Command,
+        writer: &mut W,
+    ) -> Result<(), WriteFailed>
+        requires in_range { IsTrue (in_range command.now) }
+        requires room { self.old.progress.steps + 1 < 2 ^ 32 }
+        ensures ok { OnOk result (Painted D.desk self.old (W.output writer.old) line.now (Ok (Some command.now)) self.new (W.output writer.new)) }
+        ensures err { OnErr result (Broke D.desk self.old (W.output writer.old) line.now (Ok (Some command.now)) (W.output writer.new)) }
+        ensures steps { self.new.progress.steps ≡ self.old.progress.steps + 1 }
+    {
+        self.drawn.messages(&mut self.messages);
+        let kept = Kept::new(&self.drawn, Some(command), &self.messages);
+        let (reply, count) = answer(&mut self.drawn, command, &mut self.front);
+        let deed = Deed {
+            kept: &kept,
+            command: Some(command),
+            reply: &reply,
+            count,
+            wanted: self.progress.wanted(),
+        };
+        self.take_step(line, deed, writer)
+    }
+
+    /// Shows a line that is bad, where it is to be shown.
+    fn refuse<W: Sink>(
+        &mut self,
+        line: &[u8],
+        fault: &LineFault,
+        writer: &mut W,
+    ) -> Result<(), WriteFailed>
+        requires room { self.old.progress.steps + 1 < 2 ^ 32 }
+        ensures ok { OnOk result (Painted D.desk self.old (W.output writer.old) line.now (Err fault.now) self.new (W.output writer.new)) }
+        ensures err { OnErr result (Broke D.desk self.old (W.output writer.old) line.now (Err fault.now) (W.output writer.new)) }
+        ensures steps { self.new.progress.steps ≡ self.old.progress.steps + 1 }
+    {
+        self.has_bad_line = true;
+        self.drawn.messages(&mut self.messages);
+        let kept = Kept::new(&self.drawn, None, &self.messages);
+        let count = excerpt_fault(fault, &mut self.front);
+        let command: Option<&Command> = None;
+        let reply = Reply::Done;
+        let deed = Deed {
+            kept: &kept,
+            command,
+            reply: &reply,
+            count,
+            wanted: self.progress.wanted(),
+        };
+        self.take_step(line, deed, writer)
+    }
+
+    /// Notes what has become of the last messages, and writes the step or leaves it out.
+    fn take_step<W: Sink>(
+        &mut self,
+        line: &[u8],
+        deed: Deed<'_>,
+        writer: &mut W,
+    ) -> Result<(), WriteFailed>
+        requires room { self.old.progress.steps + 1 < 2 ^ 32 }
+        requires wanted { deed.entry.wanted ≡ self.old.progress.wanted }
+        ensures text { (text : List ℕ) → Excerpts self.old.front.bytes deed.entry.count text → TookStep D.desk self.old (W.output writer.old) (W.output writer.new) result line.now
+            (λ s. happened_at (D.desk self.old.drawn) s deed.entry.kept.now (option_map (λ c. c.now) deed.entry.command) deed.entry.reply.now text) self.new }
+        ensures steps { self.new.progress.steps ≡ self.old.progress.steps + 1 }
+    {
+        self.progress.begin_step();
+        self.note(deed.kept);
+        if self.progress.is_shown(self.marked, deed.wanted) {
+            return self.show(line, deed, writer);
+        }
+        self.drawn.spelled();
+        self.progress.leave_out();
+        Ok(())
+    }
+
+    /// Notes what has become of the last messages, and the one that was sent.
+    fn note(&mut self, kept: &Kept)
+        ensures notes { (s : Share) (m : Marks) → self.new.notes.items ≡ noted self.old.progress.steps (scene_of (D.desk self.old.drawn) s kept.now m) self.old.notes.items }
+        ensures messages { self.new.messages.items ≡ message_items (D.desk self.old.drawn) }
+        ensures rest { self.new ≡ record self.old { notes = self.new.notes; messages = self.new.messages } }
+    {
+        self.drawn.messages(&mut self.messages);
+        let number = self.progress.steps();
+        note_step(&self.drawn, kept, &self.messages, number, &mut self.notes);
+    }
+
+    /// Writes the beginning of the next step, if no remark has begun it.
+    fn open_step<W: Sink>(&mut self, writer: &mut W) -> Result<(), WriteFailed>
+        requires { self.old.progress.shown < MOST_STEPS }
+        ensures text { Puts (W.output writer.old) (W.output writer.new) result (opening (walk_in D.desk self.old)) }
+        ensures rest { self.new ≡ record self.old { progress = record self.old.progress { opened = true } } }
+    {
+        if self.progress.is_open() {
+            return Ok(());
+        }
+        self.progress.open();
+        print_step_open(self.progress.next(), writer)
+    }
+
+    /// Writes a step, of which the reply's front stands in its place.
+    fn show<W: Sink>(
+        &mut self,
+        line: &[u8],
+        deed: Deed<'_>,
+        writer: &mut W,
+    ) -> Result<(), WriteFailed>
+        requires room { self.old.progress.shown < MOST_STEPS }
+        requires messages { self.old.messages.items ≡ message_items (D.desk self.old.drawn) }
+        ensures text { (text : List ℕ) → Excerpts self.old.front.bytes deed.entry.count text → Puts (W.output writer.old) (W.output writer.new) result
+            (opening (walk_in D.desk self.old) ++ step_text (is_still_step (option_map (λ c. c.now) deed.entry.command) deed.entry.reply.now && not deed.entry.wanted) self.old.progress.steps line.now text
+            (scene_behind (D.desk self.old.drawn) (share_in self.new.pages.items (D.desk self.old.drawn)) deed.entry.kept.now (option_map (λ c. c.now) deed.entry.command) deed.entry.reply.now) self.old.notes.items self.old.progress.last) }
+        ensures shared { IsShared (share_in self.new.pages.items (D.desk self.old.drawn)) (D.desk self.old.drawn) }
+        ensures next { OnOk result (ComesTo self.old (stand_shown (is_still_step (option_map (λ c. c.now) deed.entry.command) deed.entry.reply.now && not deed.entry.wanted) self.old.progress) self.old.notes.items self.new) }
+        ensures steps { self.new.progress.steps ≡ self.old.progress.steps }
+    {
+        self.open_step(writer)?;
+        let is_still = holds_unless(is_still(deed.command, deed.reply), deed.wanted);
+        self.print(line, deed, is_still, writer)?;
+        self.progress.end_step(is_still);
+        Ok(())
+    }
+
+    /// Writes a step behind its beginning, with a figure or without.
+    fn print<W: Sink>(
+        &mut self,
+        line: &[u8],
+        deed: Deed<'_>,
+        is_still: bool,
+        writer: &mut W,
+    ) -> Result<(), WriteFailed>
+        requires { self.old.messages.items ≡ message_items (D.desk self.old.drawn) }
+        ensures text { (text : List ℕ) → Excerpts self.old.front.bytes deed.entry.count text → Puts (W.output writer.old) (W.output writer.new) result
+            (step_text is_still self.old.progress.steps line.now text
+            (scene_behind (D.desk self.old.drawn) (share_in self.new.pages.items (D.desk self.old.drawn)) deed.entry.kept.now (option_map (λ c. c.now) deed.entry.command) deed.entry.reply.now) self.old.notes.items self.old.progress.last) }
+        ensures shared { IsShared (share_in self.new.pages.items (D.desk self.old.drawn)) (D.desk self.old.drawn) }
+        ensures rest { self.new ≡ record self.old { pages = self.new.pages; lists = self.new.lists } }
+    {
+        self.drawn.page_list(&mut self.pages);
+        let step = step_of(
+            &self.drawn,
+            deed.kept,
+            deed.command,
+            deed.reply,
+            &self.messages,
+            &self.pages,
+        );
+        let above = Above {
+            number: self.progress.steps(),
+            line,
+            front: self.front.as_slice(),
+            count: deed.count,
+            is_still,
+        };
+        print_step(
+            &self.drawn,
+            &step,
+            &above,
+            &self.notes,
+            self.progress.last(),
+            &mut self.lists,
+            writer,
+        )
+    }
+
+    /// Writes the end of the sheet.
+    fn end<W: Sink>(&self, writer: &mut W) -> Result<(), WriteFailed>
+        ensures { Puts (W.output writer.old) (W.output writer.new) result (sheet_end (walk_in D.desk self.now)) }
+    {
+        if self.progress.is_open() {
+            print_end(writer)?;
+        }
+        print_foot(self.progress.begun(), self.progress.left(), writer)
     }
 
     /// How the sheet went so far.
@@ -96,153 +288,11 @@ impl<D: Drawn> Painter<D> {
             Status::Clean
         }
     }
-
-    /// Shows a line that asks for nothing, and notes whether it marks the next command.
-    fn skip<W: Sink>(&mut self, line: &[u8], writer: &mut W) -> Result<(), WriteFailed> {
-        self.drawn.spelled();
-        self.wanted = is_wanted(self.wanted, line);
-        if !has_words(line) || !self.is_shown(self.wanted) {
-            return Ok(());
-        }
-        self.open(writer)?;
-        self.opened = true;
-        print_remark(line, writer)
-    }
-
-    /// Does the command of a line, and shows the step where it is to be shown.
-    fn carry_out<W: Sink>(
-        &mut self,
-        line: &[u8],
-        command: &Command,
-        writer: &mut W,
-    ) -> Result<(), WriteFailed> {
-        let wanted = self.begin_step();
-        self.drawn.messages(&mut self.messages);
-        let kept = Kept::new(&self.drawn, Some(command), &self.messages);
-        let (reply, count) = answer(&mut self.drawn, command, &mut self.front);
-        let deed = Deed {
-            kept: &kept,
-            command: Some(command),
-            reply: &reply,
-            count,
-            wanted,
-        };
-        self.finish(line, deed, writer)
-    }
-
-    /// Shows a line that is bad, where it is to be shown.
-    fn refuse<W: Sink>(
-        &mut self,
-        line: &[u8],
-        fault: &LineFault,
-        writer: &mut W,
-    ) -> Result<(), WriteFailed> {
-        self.has_bad_line = true;
-        let wanted = self.begin_step();
-        self.drawn.messages(&mut self.messages);
-        let kept = Kept::new(&self.drawn, None, &self.messages);
-        let count = excerpt_fault(fault, &mut self.front);
-        let command: Option<&Command> = None;
-        let reply = Reply::Done;
-        let deed = Deed {
-            kept: &kept,
-            command,
-            reply: &reply,
-            count,
-            wanted,
-        };
-        self.finish(line, deed, writer)
-    }
-
-    /// Whether the next command gets a step, where a mark was seen or not.
-    fn is_shown(&self, wanted: bool) -> bool {
-        (self.shown as usize) < MOST_STEPS && !holds_unless(self.marked, wanted)
-    }
-
-    /// Counts one more command, and answers whether a mark asked for it.
-    fn begin_step(&mut self) -> bool {
-        let wanted = self.wanted;
-        self.steps += 1;
-        self.wanted = false;
-        wanted
-    }
-
-    /// Writes the beginning of the next step, if no remark has written it.
-    fn open<W: Sink>(&self, writer: &mut W) -> Result<(), WriteFailed> {
-        if self.opened {
-            return Ok(());
-        }
-        print_step_open(self.shown + 1, writer)
-    }
-
-    /// Notes what has become of the last messages, and shows the step or counts it as not shown.
-    fn finish<W: Sink>(
-        &mut self,
-        line: &[u8],
-        deed: Deed<'_>,
-        writer: &mut W,
-    ) -> Result<(), WriteFailed> {
-        self.drawn.messages(&mut self.messages);
-        note_step(
-            &self.drawn,
-            deed.kept,
-            &self.messages,
-            self.steps,
-            &mut self.notes,
-        );
-        if !self.is_shown(deed.wanted) {
-            self.left += 1;
-            return Ok(());
-        }
-        self.open(writer)?;
-        self.show(line, deed, writer)
-    }
-
-    /// Writes a step behind its remarks, of which the reply's front stands in its place.
-    fn show<W: Sink>(
-        &mut self,
-        line: &[u8],
-        deed: Deed<'_>,
-        writer: &mut W,
-    ) -> Result<(), WriteFailed> {
-        let is_still = holds_unless(is_still(deed.command, deed.reply), deed.wanted);
-        self.drawn.page_list(&mut self.pages);
-        let step = step_of(
-            &self.drawn,
-            deed.kept,
-            deed.command,
-            deed.reply,
-            &self.messages,
-            &self.pages,
-        );
-        let above = Above {
-            number: self.steps,
-            line,
-            front: self.front.as_slice(),
-            count: deed.count,
-            is_still,
-        };
-        print_step(
-            &self.drawn,
-            &step,
-            &above,
-            &self.notes,
-            self.last,
-            &mut self.lists,
-            writer,
-        )?;
-        self.shown += 1;
-        self.opened = false;
-        if !is_still {
-            self.last = self.shown;
-        }
-        Ok(())
-    }
 }
 
 impl<D: Drawn> LineTaker for Painter<D> {
-    ghost use Rattle.std.specs.Prelude.{◌-◌, ◌^◌, max};
-    ghost use Rattle.rh_painted.specs.Places.{BrokeLine, BrokeRest, TookLine, TookRest};
+    ghost use Rattle.std.specs.Prelude.{◌-◌, ◌^◌};
+    ghost use Rattle.rh_painted.specs.Walks.{BrokeLine, BrokeRest, TookLine, TookRest};
 
     ghost took = { TookLine D.desk };
 
@@ -252,7 +302,7 @@ impl<D: Drawn> LineTaker for Painter<D> {
 
     ghost broke_rest = { BrokeRest D.desk };
 
-    ghost room = { λ m. 2 ^ 32 - 1 - max m.steps m.left };
+    ghost room = { λ m. 2 ^ 32 - 1 - m.progress.steps };
 
     fn take_line<W: Sink>(&mut self, line: &[u8], writer: &mut W) -> Result<(), WriteFailed> {
         let mut command = Command::Ask(Question::Areas);
@@ -264,10 +314,10 @@ impl<D: Drawn> LineTaker for Painter<D> {
     }
 
     fn take_rest<W: Sink>(&mut self, rest: &[u8], writer: &mut W) -> Result<(), WriteFailed> {
-        if rest.is_empty() {
-            return Ok(());
+        if !rest.is_empty() {
+            let fault = rest_fault(rest);
+            self.refuse(rest, &fault, writer)?;
         }
-        let fault = rest_fault(rest);
-        self.refuse(rest, &fault, writer)
+        self.end(writer)
     }
 }

@@ -1,11 +1,10 @@
 //! A step of a sheet behind its remarks: its command, its reply, what has changed, and its figure.
 
-ghost use Rattle.std.specs.Prelude.{◌≡◌, ◌≤◌, ℕ, List, length, flat_map};
+ghost use Rattle.std.specs.Prelude.{◌≤◌, ◌++◌, ℕ, List, length};
 ghost use Rattle.rh_drawn.specs.Replies.{Excerpts};
 ghost use Rattle.rh_figure.specs.Changes.{changes};
 ghost use Rattle.rh_lines.specs.Flow.{Puts};
-ghost use Rattle.rh_sheet.specs.Markup.{change_item};
-ghost use Rattle.rh_sheet.specs.Steps.{changes_text, drawn_step, still_step, step_text};
+ghost use Rattle.rh_sheet.specs.Steps.{changes_text, said_end, step_end, step_text};
 ghost use Rattle.rh_sight.specs.Steps.{IsStepOf, scene_at};
 
 use crate::block_changes::print_block_changes;
@@ -19,10 +18,10 @@ use rh_lines::{Sink, WriteFailed, put};
 use rh_sight::{Sight, Step};
 
 /// The end of what is said at a step.
-pub const SAID_END: &[u8] = b"</div>\n";
+const SAID_END: &[u8] = b"</div>\n";
 
 /// The end of a step.
-pub const STEP_END: &[u8] = b"</section>\n";
+const STEP_END: &[u8] = b"</section>\n";
 
 /// Writes a step, where the last figure is that of step `last`, 0 for none. Fails only where the writer failed or took
 /// none of what it was offered; a front of the step is then written.
@@ -42,7 +41,8 @@ pub fn print_step<S: Sight, W: Sink>(
 {
     print_said(above.number, above.line, above.front, above.count, writer)?;
     if above.is_still {
-        return print_still_end(last, writer);
+        print_still(last, writer)?;
+        return print_end(writer);
     }
     print_changes(sight, step, lists, writer)?;
     put(writer, SAID_END)?;
@@ -50,11 +50,10 @@ pub fn print_step<S: Sight, W: Sink>(
     put(writer, STEP_END)
 }
 
-/// Writes the rest of a step without a figure.
-fn print_still_end<W: Sink>(last: u32, writer: &mut W) -> Result<(), WriteFailed>
-    ensures { Puts (W.output writer.old) (W.output writer.new) result (concat (still_text last ∷ said_end ∷ step_end ∷ [])) }
+/// Writes the end of a step that has no figure.
+pub fn print_end<W: Sink>(writer: &mut W) -> Result<(), WriteFailed>
+    ensures { Puts (W.output writer.old) (W.output writer.new) result (said_end ++ step_end) }
 {
-    print_still(last, writer)?;
     put(writer, SAID_END)?;
     put(writer, STEP_END)
 }

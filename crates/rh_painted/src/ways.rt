@@ -10,8 +10,8 @@ ghost use Rattle.rh_sheet.specs.declared.sizes.TheConstants.{MOST_NOTES};
 use crate::numbers::{Numbers, put_number};
 use arrayvec::ArrayVec;
 use rh_defs::{Action, Handle, Ref};
-use rh_draw::action_name;
 use rh_lines::Row;
+use rh_map::action_name;
 use rh_sheet::Note;
 use rh_sheet::sizes::MOST_NOTES;
 

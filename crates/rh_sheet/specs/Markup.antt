@@ -92,17 +92,18 @@ stretch_text letter n = letter ++ decimal n
 
 -- ---- figures and headings
 
--- the beginning of a figure, with what is read out in its place
-abbrev pub figure_begin : ℕ → ℕ → Text → Text → Text
-figure_begin width height title description = concat (
+-- the beginning of a figure, before what is read out in its place
+abbrev pub figure_open : ℕ → ℕ → Text → Text
+figure_open width height title = concat (
     codes "<svg viewBox=\"0 0 " ∷ decimal width ∷ codes " " ∷ decimal height ∷ codes "\" role=\"img\">\n<title>"
-    ∷ escape title ∷ codes "</title>\n<desc>" ∷ escape description ∷ codes "</desc>\n" ∷ []
+    ∷ escape title ∷ codes "</title>\n<desc>" ∷ []
     )
 
--- a figure
+-- a figure, with what is read out in its place
 abbrev pub svg_text : ℕ → ℕ → Text → Text → Text → Text
-svg_text width height title description body =
-    concat (figure_begin width height title description ∷ body ∷ codes "</svg>\n" ∷ [])
+svg_text width height title description body = concat (
+    figure_open width height title ∷ escape description ∷ codes "</desc>\n" ∷ body ∷ codes "</svg>\n" ∷ []
+    )
 
 -- the heading of an area or a slot, with a note
 abbrev pub heading_text : Text → Text → Text

@@ -1,0 +1,10 @@
+use Rattle.std.proofs.Common.{refl}
+use Rattle.rh_lines.proofs.FlowLemmas.{puts_before, puts_stops, puts_more}
+use Rattle.rh_draw.proofs.rows.print_addressed.Goals as goal
+
+pub returns-in_err-print_address : goal.returns-in_err-print_address
+returns-in_err-print_address g c =
+    puts_stops _ (puts_before _ c.in_err-print_address.ensures refl) c.from_residual.ensures.0
+
+pub returns : goal.returns
+returns g c = puts_more _ _ _ c.in_ok-print_address.ensures c.print_page.ensures

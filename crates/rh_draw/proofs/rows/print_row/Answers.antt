@@ -1,0 +1,15 @@
+use Rattle.std.proofs.Common.{◌≡◌, Some, ap, ◌∙◌}
+use Rattle.rh_sheet.specs.Frames.{page_in}
+use Rattle.rh_sheet.specs.Rows.{addressed_text}
+use Rattle.rh_draw.specs.Rows.{plot_of}
+use Rattle.rh_draw.proofs.PageLemmas.{row-of-page}
+use Rattle.rh_draw.proofs.WriteLemmas.{puts-as}
+use Rattle.rh_draw.proofs.rows.print_row.Goals as goal
+
+pub returns-in-Some : goal.returns-in-Some
+returns-in-Some g c =
+    let plot = plot_of c.args.plot.now in
+    let page : page_in c.args.frame.pages c.args.i ≡ Some c.in-Some.k = cc in
+    puts-as c.print_addressed.ensures
+    (ap (λ y. addressed_text plot y c.in-Some.k) c.row_y-y.ensures.value
+    ∙ row-of-page c.args.frame plot c.args.i c.in-Some.k page)

@@ -1,0 +1,116 @@
+-- What a sheet has done with a line of its script.
+use Rattle.std.specs.Prelude.{◌≡◌, ◌+◌, ◌||◌, ◌==◌, not, Bool, false, List, [], length, map, ℕ, Option, Result, OnErr, OnOk, is_err}
+use Rattle.rh_defs.specs.declared.command.Command.{Command}
+use Rattle.rh_defs.specs.declared.reply.Reply.{Reply}
+use Rattle.rh_defs.specs.Line.{Meaning, line_means}
+use Rattle.rh_defs.specs.Desk.{Desk}
+use Rattle.rh_defs.specs.Order.{IsReordered}
+use Rattle.rh_figure.specs.Share.{Share, IsShared}
+use Rattle.rh_figure.specs.Phrases.{Text}
+use Rattle.rh_figure.specs.Scene.{Before, Scene, is_still, marks_of, scene_of}
+use Rattle.rh_figure.specs.Map.{Read, Stage, after_read, place, read_rest}
+use Rattle.rh_figure.specs.Whole.{AreShared, read_of}
+use Rattle.rh_lines.specs.Flow.{Output, Takes, Breaks}
+use Rattle.rh_sheet.specs.Chart.{Note, noted}
+use Rattle.rh_sheet.specs.Laws.{at_desk}
+use Rattle.rh_sheet.specs.Sheet.{Happened, Walk, behind_read, happened_text, is_shown, read_text, sheet_lines}
+use Rattle.rh_painted.specs.Progress.{Stand, stand_behind, stand_first}
+use Rattle.rh_painted.specs.declared.painter.Painter.{Painter}
+
+-- where a sheet stands over a desk
+abbrev pub walk_at : Desk → Stand → List Note → Walk
+walk_at d p notes = record {
+  place = place d p.steps p.wanted;
+  shown = p.shown;
+  last = p.last;
+  left = p.left;
+  opened = p.opened;
+  notes = notes;
+}
+
+-- before the first line
+abbrev pub walk_from : Desk → Walk
+walk_from d = walk_at d stand_first []
+
+-- by the desk that it looks at
+abbrev pub walk_in : {D : Type 0} → (D → Desk) → Painter D → Walk
+walk_in desk m = walk_at (desk m.drawn) m.progress m.notes.items
+
+-- a sheet that has taken no line
+pub record IsFirst {D : Type 0} (m : Painter D) (drawn : D) (marked : Bool) : Type 0 where
+  pub drawn_is : m.drawn ≡ drawn
+  pub marked_is : m.marked ≡ marked
+  pub progress_is : m.progress ≡ stand_first
+  pub notes_are : m.notes.items ≡ []
+  pub well : m.has_bad_line ≡ false
+
+-- the second has come so far and keeps these notes, and is else as the first
+pub record ComesTo {D : Type 0} (m : Painter D) (p : Stand) (notes : List Note) (n : Painter D) : Type 0 where
+  pub drawn_is : n.drawn ≡ m.drawn
+  pub marked_is : n.marked ≡ m.marked
+  pub progress_is : n.progress ≡ p
+  pub notes_are : n.notes.items ≡ notes
+  pub bad : n.has_bad_line ≡ m.has_bad_line
+
+-- the second stands where the first does once a line was read, but for the order of messages to different tasks
+pub record Follows {D : Type 0} (desk : D → Desk) (m : Painter D) (s : Share) (r : Read) (n : Painter D) : Type 0 where
+  pub desk_is : IsReordered (after_read (walk_in desk m).place r).desk (desk n.drawn)
+  pub walk_is : walk_in desk n ≡ at_desk (desk n.drawn) (behind_read m.marked s (walk_in desk m) r)
+  pub marked_is : n.marked ≡ m.marked
+  pub bad : n.has_bad_line ≡ (m.has_bad_line || is_err r.1)
+
+-- what a sheet has of one line of a script was written, with some share of the pool behind it
+pub record Painted {D : Type 0} (desk : D → Desk) (m : Painter D) (o : Output) (line : Text) (meaning : Meaning (Option Command)) (n : Painter D) (p : Output) : Type 0 where
+  pub share : Share
+  pub shared : IsShared share (after_read (walk_in desk m).place (line, meaning)).desk
+  pub written : Takes o p (read_text m.marked share (walk_in desk m) (line, meaning))
+  pub follows : Follows desk m share (line, meaning) n
+
+-- the writer failed, and took a front of it
+pub record Broke {D : Type 0} (desk : D → Desk) (m : Painter D) (o : Output) (line : Text) (meaning : Meaning (Option Command)) (p : Output) : Type 0 where
+  pub share : Share
+  pub shared : IsShared share (after_read (walk_in desk m).place (line, meaning)).desk
+  pub broken : Breaks o p (read_text m.marked share (walk_in desk m) (line, meaning))
+
+-- the same of a complete line
+abbrev pub TookLine : {D : Type 0} → (D → Desk) → Painter D → Output → List ℕ → Painter D → Output → Type 0
+TookLine desk m o line n p = Painted desk m o line (line_means line) n p
+
+abbrev pub BrokeLine : {D : Type 0} → (D → Desk) → Painter D → Output → List ℕ → Output → Type 0
+BrokeLine desk m o line p = Broke desk m o line (line_means line) p
+
+-- the rest of the sheet was written, of what stands behind the last line feed
+pub record TookRest {D : Type 0} (desk : D → Desk) (m : Painter D) (o : Output) (rest : List ℕ) (n : Painter D) (p : Output) : Type 0 where
+  pub stages : List Stage
+  pub lines : map read_of stages ≡ read_rest rest
+  pub shared : AreShared (walk_in desk m).place stages
+  pub written : Takes o p (sheet_lines m.marked (walk_in desk m) stages)
+  pub bad : n.has_bad_line ≡ (m.has_bad_line || not (length rest == 0))
+
+-- the writer failed, and took a front of it
+pub record BrokeRest {D : Type 0} (desk : D → Desk) (m : Painter D) (o : Output) (rest : List ℕ) (p : Output) : Type 0 where
+  pub stages : List Stage
+  pub lines : map read_of stages ≡ read_rest rest
+  pub shared : AreShared (walk_in desk m).place stages
+  pub broken : Breaks o p (sheet_lines m.marked (walk_in desk m) stages)
+
+-- ---- steps
+
+-- what a step was drawn of
+abbrev pub scene_behind : Desk → Share → Before → Option Command → Reply → Scene
+scene_behind d s b c r = scene_of d s b (marks_of d b c r)
+
+-- what happened at it, with the reply as it is printed
+abbrev pub happened_at : Desk → Share → Before → Option Command → Reply → Text → Happened
+happened_at d s b c r reply = record { scene = scene_behind d s b c r; reply = reply; still = is_still c r }
+
+-- a step was written or left out, over the desk behind it, with some share of the pool; or the writer failed, and took
+-- a front of it
+pub record TookStep {D E : Type 0} (desk : D → Desk) (m : Painter D) (o p : Output) (r : Result Unit E) (line : Text) (happened : Share → Happened) (n : Painter D) : Type 0 where
+  pub share : Share
+  pub shared : IsShared share (desk m.drawn)
+  pub ok :
+      OnOk r (Takes o p (happened_text m.marked (walk_in desk m) line (happened share))
+      × ComesTo m (stand_behind (is_shown m.marked (walk_in desk m) m.progress.wanted) (happened share).still m.progress)
+      (noted (m.progress.steps + 1) (happened share).scene m.notes.items) n)
+  pub err : OnErr r (Breaks o p (happened_text m.marked (walk_in desk m) line (happened share)))
