@@ -1,5 +1,5 @@
 -- Arrows between places that have a row.
-use Rattle.std.proofs.Common.{◌≡◌, ℕ, ◌/◌, Option, Some, refl}
+use Rattle.std.proofs.Common.{◌≡◌, ℕ, ◌/◌, Some, refl}
 use Rattle.rh_defs.specs.Pieces.{page}
 use Rattle.rh_figure.specs.Phrases.{Text}
 use Rattle.rh_sheet.specs.declared.frame.Frame.{Frame}

@@ -1,5 +1,5 @@
 -- The last of several writes, and writes of several parts.
-use Rattle.std.proofs.Common.{◌≡◌, ℕ, List, [], ◌++◌, Result, Ok, append-nil, append_assoc, ap, sym, ◌∙◌, subst}
+use Rattle.std.proofs.Common.{◌≡◌, ℕ, List, [], ◌++◌, Result, Ok, append-nil, append_assoc, ap, ◌∙◌, subst}
 use Rattle.std.specs.Result.{IsErr}
 use Rattle.rh_lines.specs.Flow.{Output, Puts}
 use Rattle.rh_lines.proofs.FlowLemmas.{puts_before, puts_more}

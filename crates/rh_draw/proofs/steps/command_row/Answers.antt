@@ -1,4 +1,4 @@
-use Rattle.std.proofs.Common.{◌≡◌, ◌++◌, map, refl, ap, ◌∙◌, length, arith}
+use Rattle.std.proofs.Common.{◌++◌, map, refl, ap, ◌∙◌}
 use Rattle.rh_figure.specs.Map.{shown_byte}
 use Rattle.rh_figure.specs.Phrases.{cut}
 use Rattle.rh_figure.specs.declared.limits.TheConstants.{LINE_COLUMNS}
