@@ -17,6 +17,8 @@ mod scarce;
 #[cfg(test)]
 mod scripts;
 #[cfg(test)]
+mod sheets;
+#[cfg(test)]
 mod slot_files;
 #[cfg(test)]
 mod streams;

@@ -286,6 +286,7 @@ error: unrecognized subcommand 'walk'
 
 Usage: vervainfile run [--pages N] SCRIPT [NAME=PATH ...]
        vervainfile map [--pages N] [--marked] SCRIPT [NAME=PATH ...]
+       vervainfile draw [--pages N] [--marked] SCRIPT [NAME=PATH ...]
        vervainfile check [--slot] FILE
        vervainfile                 (with no words: the script on standard input, over 64 pages)
 
@@ -305,12 +306,14 @@ The memory of a desktop, shared by its tasks
 
 Usage: vervainfile run [--pages N] SCRIPT [NAME=PATH ...]
        vervainfile map [--pages N] [--marked] SCRIPT [NAME=PATH ...]
+       vervainfile draw [--pages N] [--marked] SCRIPT [NAME=PATH ...]
        vervainfile check [--slot] FILE
        vervainfile                 (with no words: the script on standard input, over 64 pages)
 
 Commands:
   run    Run a script and print its replies
   map    Run a script and print a map of memory after each step
+  draw   Run a script and print a page of HTML with a figure of memory after each step
   check  Say whether the bytes of a file are a heap or a slot, and what it consists of
   help   Print this message or the help of the given subcommand(s)
 

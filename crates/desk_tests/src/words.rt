@@ -153,6 +153,7 @@ fn help_says_what_each_word_is(rt: HostRuntime) -> Result<(), Fail> {
         "The memory of a desktop, shared by its tasks",
         "vervainfile run [--pages N] SCRIPT [NAME=PATH ...]\n",
         "vervainfile map [--pages N] [--marked] SCRIPT [NAME=PATH ...]\n",
+        "vervainfile draw [--pages N] [--marked] SCRIPT [NAME=PATH ...]\n",
         "vervainfile check [--slot] FILE\n",
         "  0  each line was good, or the bytes are a heap, or with --slot a slot\n",
         "  1  a line was bad, or the bytes are none\n",

@@ -18,7 +18,7 @@ use Rattle.clap.specs.Words.{Row, Text, fault_of, subcommand_of}
 use Rattle.clap.specs.declared.error.kind.ErrorKind.{ErrorKind}
 use Rattle.clap.specs.declared.error.kind.ErrorKind.TheVariants as kind
 use Rattle.rh_desk.specs.CommandLine.{program_words}
-use Rattle.rh_desk.specs.Done.{CheckOver, ErrorEnds, FileOver, IsWhole, MapOver, RequestEnds, RunEnds, RunOver, ShownOver, Streams, Untouched, WordsEnd, line_as, status_as}
+use Rattle.rh_desk.specs.Done.{CheckOver, ErrorEnds, FileOver, IsWhole, MapOver, RequestEnds, RunEnds, RunOver, SheetOver, ShownOver, Streams, Untouched, WordsEnd, line_as, status_as}
 use Rattle.rh_desk.specs.Ending.{ending_of, exit_status}
 use Rattle.rh_desk.specs.FileWords.{AreGood, TellsBadFile, word_name}
 use Rattle.rh_desk.specs.Requests.{AsksFor, AsksNothing}
@@ -29,6 +29,7 @@ use Rattle.rh_desk.specs.declared.request.Request.{Request}
 use Rattle.rh_desk.specs.declared.request.Shown.{Shown}
 use Rattle.rh_drawn.specs.Mapped.{Mapped, MappedSoFar, MappedUntil}
 use Rattle.rh_figure.specs.Map.{place}
+use Rattle.rh_painted.specs.Painted.{Painted, PaintedSoFar, PaintedUntil}
 use Rattle.rh_desk.specs.Telling.{Tells, run_fault_text}
 
 cut : (n : ℕ) (known : Option (List ℕ)) (old new : List ℕ) → IfSome (option_map (take n) known) (λ xs. new ≡ old ++ xs) → IfSome known (λ had. new ≡ old ++ take n had)
@@ -97,6 +98,25 @@ map-over marked d s (Err ReadFailed) ok memory read mapped long so_far broke qui
 map-over marked d s (Err TooLong) ok memory read mapped long so_far broke quiet told = (TooLong, ((long refl).0, (long refl).1, so_far refl), told TooLong refl)
 map-over marked d s (Err WriteFailed) ok memory read mapped long so_far broke quiet told = (WriteFailed, broke refl, told WriteFailed refl)
 
+-- how a sheet ends the program
+pub sheet-over : (marked : Bool) (name : List ℕ) (d : Desk) (s : Streams) (outcome : Result Status RunFault)
+    → IfOk outcome (λ status. Painted marked name d s.before s.after s.old s.new status)
+    → (IsErrOf outcome NoMemory → (s.after ≡ s.before) × (s.new ≡ s.old))
+    → (IsErrOf outcome ReadFailed → s.after.failed ≡ true)
+    → (IsErrOf outcome ReadFailed → PaintedSoFar marked name d s.before s.after s.old s.new)
+    → (IsErrOf outcome TooLong → (s.after.reads ≡ 1000000) × (s.after.failed ≡ s.before.failed))
+    → (IsErrOf outcome TooLong → PaintedSoFar marked name d s.before s.after s.old s.new)
+    → (IsErrOf outcome WriteFailed → PaintedUntil marked name d s.before s.after s.old s.new)
+    → ((status : Status) → outcome ≡ Ok status → s.told ≡ s.quiet)
+    → ((fault : RunFault) → outcome ≡ Err fault → Tells s.quiet s.told (run_fault_text fault))
+    → SheetOver marked name d s (ending_of outcome)
+sheet-over marked name d s (Ok status.Clean) ok memory read painted long so_far broke quiet told = (ok, quiet status.Clean refl)
+sheet-over marked name d s (Ok status.BadLines) ok memory read painted long so_far broke quiet told = (ok, quiet status.BadLines refl)
+sheet-over marked name d s (Err NoMemory) ok memory read painted long so_far broke quiet told = (NoMemory, memory refl, told NoMemory refl)
+sheet-over marked name d s (Err ReadFailed) ok memory read painted long so_far broke quiet told = (ReadFailed, (read refl, painted refl), told ReadFailed refl)
+sheet-over marked name d s (Err TooLong) ok memory read painted long so_far broke quiet told = (TooLong, ((long refl).0, (long refl).1, so_far refl), told TooLong refl)
+sheet-over marked name d s (Err WriteFailed) ok memory read painted long so_far broke quiet told = (WriteFailed, broke refl, told WriteFailed refl)
+
 check-ends : (k : ImageKind) (bytes : List ℕ) (s : Streams) (outcome : Result Status RunFault)
     → IfOk outcome (λ status. Takes s.old s.new (line_as k bytes))
     → IfOk outcome (λ status. status ≡ status_as k bytes)
@@ -132,7 +152,7 @@ names-of (w ∷ ws) = ap (λ ns. word_name w.now ∷ ns) (names-of ws)
 pub script-over : {F : Type 0} (remaining : F → Option (List ℕ)) (shown : Shown) (pages : ℕ) (script : List ℕ) (ws : List (Bor (List ℕ)))
     (files : FileList) (s : Streams) (ending : Ending)
     → AreGood (map (λ w. w.now) ws) → map (λ file. file.0) files ≡ map (λ w. word_name w.now) ws → All (λ file. IsWhole remaining file.1) files
-    → (script ≡ codes "-" → ShownOver shown (start pages files) s ending) → (script ≢ codes "-" → FileOver remaining shown (start pages files) script s ending)
+    → (script ≡ codes "-" → ShownOver shown script (start pages files) s ending) → (script ≢ codes "-" → FileOver remaining shown (start pages files) script s ending)
     → RunEnds remaining shown pages script (map (λ w. w.now) ws) s ending
 script-over remaining shown pages script ws files s ending good named whole from_input from_file =
     inl (record { files = files; good = good; named = named ∙ names-of ws; whole = whole; from_input = from_input; from_file = from_file })
@@ -143,12 +163,12 @@ noted remaining inner failed reads rest s = record s { before = record { left = 
 -- a file of which nothing is noted yet
 pub file-over : {F : Type 0} (remaining : F → Option (List ℕ)) (shown : Shown) (d : Desk) (path : List ℕ) (s : Streams) (ending : Ending) (file inner : F)
     (failed : Bool) (reads : ℕ) (rest : Input)
-    → inner ≡ file → failed ≡ false → reads ≡ 0 → s.after ≡ s.before → ShownOver shown d (noted remaining inner failed reads rest s) ending
+    → inner ≡ file → failed ≡ false → reads ≡ 0 → s.after ≡ s.before → ShownOver shown path d (noted remaining inner failed reads rest s) ending
     → FileOver remaining shown d path s ending
 file-over remaining shown d path s ending file inner failed reads rest of well none same over =
-    let counted = subst (λ n. ShownOver shown d (noted remaining inner failed n rest s) ending) none over in
-    let flagged = subst (λ b. ShownOver shown d (noted remaining inner b 0 rest s) ending) well counted in
-    inl (same, (file, rest, subst (λ f. ShownOver shown d (noted remaining f false 0 rest s) ending) of flagged))
+    let counted = subst (λ n. ShownOver shown path d (noted remaining inner failed n rest s) ending) none over in
+    let flagged = subst (λ b. ShownOver shown path d (noted remaining inner b 0 rest s) ending) well counted in
+    inl (same, (file, rest, subst (λ f. ShownOver shown path d (noted remaining f false 0 rest s) ending) of flagged))
 
 -- how an error in the words ends the program
 pub error-ends : (k : ErrorKind) (s : Streams) (ending : Ending) → (ending ≡ BadLines → ⊥)

@@ -1,5 +1,5 @@
--- What the program's words may be: `run [--pages N] SCRIPT [NAME=PATH ...]`, `map` with the same words and `--marked`, and
--- `check [--slot] FILE`.
+-- What the program's words may be: `run [--pages N] SCRIPT [NAME=PATH ...]`, `map` and `draw` with the same words and
+-- `--marked`, and `check [--slot] FILE`.
 use Rattle.std.specs.Prelude.{Some, codes, pos, true}
 use Rattle.clap.specs.Lexer.{usize_max}
 use Rattle.clap.specs.Simple.{App, new_app, new_rule, on_top, with_rule, with_subcommand}
@@ -34,9 +34,10 @@ run_words = with_rule (with_rule (with_rule (new_app (codes "run")) pages_rule) 
 abbrev pub marked_rule : Rule
 marked_rule = record (new_rule (codes "marked")) { long = Some (codes "marked"); action = Some SetTrue }
 
-abbrev pub map_words : App
-map_words =
-    with_rule (with_rule (with_rule (with_rule (new_app (codes "map")) pages_rule) marked_rule) (needed_rule (codes "script"))) files_rule
+-- the words of a picture of a script
+abbrev pub picture_words : Text → App
+picture_words name =
+    with_rule (with_rule (with_rule (with_rule (new_app name) pages_rule) marked_rule) (needed_rule (codes "script"))) files_rule
 
 -- `--slot`
 abbrev pub slot_rule : Rule
@@ -50,4 +51,5 @@ abbrev pub program_top : App
 program_top = on_top (λ shape. record shape { has_version = true; subcommand_required = true }) (new_app (codes "vervainfile"))
 
 abbrev pub program_words : App
-program_words = with_subcommand (with_subcommand (with_subcommand program_top run_words.top) map_words.top) check_words.top
+program_words =
+    with_subcommand (with_subcommand (with_subcommand (with_subcommand program_top run_words.top) (picture_words (codes "map")).top) (picture_words (codes "draw")).top) check_words.top

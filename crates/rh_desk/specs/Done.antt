@@ -1,5 +1,6 @@
 -- What the program has read, written and told when it did what its words ask for.
-use Rattle.std.specs.Prelude.{◌≡◌, ◌≢◌, ◌⊎◌, ◌≤◌, ℕ, Bool, List, [], map, codes, length, true, false, All, Contains, Option, IfSome}
+use Rattle.std.specs.Prelude.{◌≡◌, ◌≢◌, ◌⊎◌, ◌≤◌, ℕ, Bool, List, [], map, codes, length, true, false, All, Contains, Option, IfSome, if◌then◌else◌}
+use Rattle.std.specs.Str.{bytes_eq}
 use Rattle.clap.specs.Words.{HasKind, fault_of, kind_of, subcommand_of}
 use Rattle.clap.specs.declared.error.Error.{Error}
 use Rattle.clap.specs.declared.error.kind.ErrorKind.{ErrorKind}
@@ -7,6 +8,7 @@ use Rattle.clap.specs.declared.error.kind.ErrorKind.TheVariants as kind
 use Rattle.rh_defs.specs.Desk.{Desk}
 use Rattle.rh_drawn.specs.Mapped.{Mapped, MappedSoFar, MappedUntil}
 use Rattle.rh_figure.specs.Map.{place}
+use Rattle.rh_painted.specs.Painted.{Painted, PaintedSoFar, PaintedUntil}
 use Rattle.rh_defs.specs.Files.{FileList}
 use Rattle.rh_defs.specs.Runs.{start}
 use Rattle.rh_defs.specs.declared.sizes.TheConstants.{LONGEST_FILE}
@@ -21,6 +23,7 @@ use Rattle.rh_session.specs.declared.status.Status.TheVariants as status
 use Rattle.rh_desk.specs.CommandLine.{program_words}
 use Rattle.rh_desk.specs.FileWords.{AreGood, TellsBadWord, word_name, word_path}
 use Rattle.rh_desk.specs.Requests.{AsksFor, AsksNothing}
+use Rattle.rh_desk.specs.Names.{last_part}
 use Rattle.rh_desk.specs.Telling.{Tells, lost_file_text, run_fault_text}
 use Rattle.rh_desk.specs.declared.ending.Ending.{Ending}
 use Rattle.rh_desk.specs.declared.ending.Ending.TheVariants.{Clean, BadLines, WrongWords, Fault}
@@ -29,7 +32,7 @@ use Rattle.rh_desk.specs.declared.request.ImageKind.TheVariants.{Heap, Slot}
 use Rattle.rh_desk.specs.declared.request.Request.{Request}
 use Rattle.rh_desk.specs.declared.request.Request.TheVariants.{Check, Run}
 use Rattle.rh_desk.specs.declared.request.Shown.{Shown}
-use Rattle.rh_desk.specs.declared.request.Shown.TheVariants.{Replies, Map}
+use Rattle.rh_desk.specs.declared.request.Shown.TheVariants.{Replies, Map, Sheet}
 
 -- the input, the output and the errors before and after: what is read, written and told
 pub record Streams : Type 0 where
@@ -86,10 +89,35 @@ MapOver marked d s BadLines =
 MapOver marked d s WrongWords = ⊥
 MapOver marked d s Fault = (fault : RunFault) × MapStopped marked d s fault × Tells s.quiet s.told (run_fault_text fault)
 
+-- what was read and written where a fault stopped a sheet with a name, of which marked steps alone may be shown
+abbrev pub SheetStopped : Bool → List ℕ → Desk → Streams → RunFault → Type 0
+SheetStopped marked name d s NoMemory = Untouched s
+SheetStopped marked name d s ReadFailed =
+    (s.after.failed ≡ true) × PaintedSoFar marked name d s.before s.after s.old s.new
+SheetStopped marked name d s TooLong =
+    (s.after.reads ≡ 1000000) × (s.after.failed ≡ s.before.failed)
+    × PaintedSoFar marked name d s.before s.after s.old s.new
+SheetStopped marked name d s WriteFailed = PaintedUntil marked name d s.before s.after s.old s.new
+
+-- how a sheet of a script over a desk ends, as a run does
+abbrev pub SheetOver : Bool → List ℕ → Desk → Streams → Ending → Type 0
+SheetOver marked name d s Clean =
+    Painted marked name d s.before s.after s.old s.new status.Clean × (s.told ≡ s.quiet)
+SheetOver marked name d s BadLines =
+    Painted marked name d s.before s.after s.old s.new status.BadLines × (s.told ≡ s.quiet)
+SheetOver marked name d s WrongWords = ⊥
+SheetOver marked name d s Fault =
+    (fault : RunFault) × SheetStopped marked name d s fault × Tells s.quiet s.told (run_fault_text fault)
+
+-- the name that a sheet has: the last part of its script's path, and words for the input
+abbrev pub sheet_name : List ℕ → List ℕ
+sheet_name script = if bytes_eq script (codes "-") then codes "standard input" else last_part script
+
 -- the same by what is written of the script
-abbrev pub ShownOver : Shown → Desk → Streams → Ending → Type 0
-ShownOver Replies d s ending = RunOver d s ending
-ShownOver (Map marked) d s ending = MapOver marked d s ending
+abbrev pub ShownOver : Shown → List ℕ → Desk → Streams → Ending → Type 0
+ShownOver Replies script d s ending = RunOver d s ending
+ShownOver (Map marked) script d s ending = MapOver marked d s ending
+ShownOver (Sheet marked) script d s ending = SheetOver marked (sheet_name script) d s ending
 
 -- the same streams, where some file of which nothing was read stands in the input's place
 abbrev pub instead : Option (List ℕ) → Input → Streams → Streams
@@ -98,7 +126,7 @@ instead left rest s = record s { before = record { left = left; failed = false; 
 -- how the script of a file ends: its run, where the input stays, or the lost file, or want of memory, is told
 abbrev pub FileOver : {F : Type 0} → (F → Option (List ℕ)) → Shown → Desk → List ℕ → Streams → Ending → Type 0
 FileOver {F} remaining shown d path s ending =
-    ((s.after ≡ s.before) × ((file : F) × (rest : Input) × ShownOver shown d (instead (remaining file) rest s) ending))
+    ((s.after ≡ s.before) × ((file : F) × (rest : Input) × ShownOver shown path d (instead (remaining file) rest s) ending))
     ⊎ (Untouched s × (ending ≡ Fault)
     × (Tells s.quiet s.told (lost_file_text path) ⊎ Tells s.quiet s.told (run_fault_text NoMemory)))
 
@@ -108,7 +136,7 @@ pub record ScriptOver {F : Type 0} (remaining : F → Option (List ℕ)) (shown 
   pub good : AreGood words
   pub named : map (λ file. file.0) files ≡ map word_name words
   pub whole : All (λ file. IsWhole remaining file.1) files
-  pub from_input : script ≡ codes "-" → ShownOver shown (start pages files) s ending
+  pub from_input : script ≡ codes "-" → ShownOver shown script (start pages files) s ending
   pub from_file : script ≢ codes "-" → FileOver remaining shown (start pages files) script s ending
 
 -- one of the words' files was lost, and its path told
@@ -116,7 +144,7 @@ abbrev pub TellsLostFile : Output → Output → List (List ℕ) → Ending → 
 TellsLostFile quiet told words ending =
     (word : List ℕ) × (ending ≡ Fault) × Contains words word × Tells quiet told (lost_file_text (word_path word))
 
--- how `run` and `map` end: with their script, or before, where the first bad word is told, or want of memory, or of good words a
+-- how `run`, `map` and `draw` end: with their script, or before, where the first bad word is told, or want of memory, or of good words a
 -- lost file
 abbrev pub RunEnds : {F : Type 0} → (F → Option (List ℕ)) → Shown → ℕ → List ℕ → List (List ℕ) → Streams → Ending → Type 0
 RunEnds remaining shown pages script words s ending =

@@ -7,7 +7,7 @@ use Rattle.rh_desk.specs.declared.request.ImageKind.TheVariants.{Heap, Slot}
 use Rattle.rh_desk.specs.declared.request.Request.{Request}
 use Rattle.rh_desk.specs.declared.request.Request.TheVariants.{Check, Run}
 use Rattle.rh_desk.specs.declared.request.Shown.{Shown}
-use Rattle.rh_desk.specs.declared.request.Shown.TheVariants.{Replies, Map}
+use Rattle.rh_desk.specs.declared.request.Shown.TheVariants.{Replies, Map, Sheet}
 
 -- the number that is given, and else 64
 abbrev pub AsksPages : Option Text → ℕ → Type 0
@@ -28,8 +28,9 @@ AsksMarked (Some text) marked = (text ≡ codes "true" → marked ≡ true) × (
 
 -- what the subcommand's name and values ask to be written of a script
 abbrev pub AsksShown : Text → List Row → Shown → Type 0
-AsksShown name rows Replies = name ≢ codes "map"
+AsksShown name rows Replies = (name ≢ codes "map") × (name ≢ codes "draw")
 AsksShown name rows (Map marked) = (name ≡ codes "map") × AsksMarked (one_of (codes "marked") rows) marked
+AsksShown name rows (Sheet marked) = (name ≡ codes "draw") × AsksMarked (one_of (codes "marked") rows) marked
 
 -- the subcommand's name and values ask for just this
 abbrev pub AsksFor : Option (Text × List Row) → Request → Type 0

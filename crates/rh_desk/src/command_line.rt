@@ -2,7 +2,7 @@
 
 ghost use Rattle.std.specs.Prelude.{◌≡◌, IfOk, IfSome, codes, false, map, string_bytes};
 ghost use Rattle.clap.specs.Words.{FailsBy, app_of, fault_of, found_of, one_of, rows_of, rule_of, subcommand_of, subcommand_rows_of};
-ghost use Rattle.rh_desk.specs.CommandLine.{check_words, draw_words, files_rule, map_words, marked_rule, needed_rule, pages_rule, program_words, run_words};
+ghost use Rattle.rh_desk.specs.CommandLine.{check_words, files_rule, marked_rule, needed_rule, pages_rule, picture_words, program_words, run_words};
 ghost use Rattle.rh_desk.specs.Requests.{AsksFor, AsksKind, AsksNothing, AsksShown};
 
 use crate::request::{ImageKind, Request, RunRequest, Shown};
@@ -20,6 +20,12 @@ vervainfile run [--pages N] SCRIPT [NAME=PATH ...]
        vervainfile draw [--pages N] [--marked] SCRIPT [NAME=PATH ...]
        vervainfile check [--slot] FILE
        vervainfile                 (with no words: the script on standard input, over 64 pages)";
+
+/// What the subcommands for pictures do.
+const ABOUT_MAP: &str = "Run a script and print a map of memory after each step";
+
+const ABOUT_DRAW: &str =
+    "Run a script and print a page of HTML with a figure of memory after each step";
 
 /// What stands under the help.
 const MORE: &str = "\
@@ -74,14 +80,16 @@ fn image_kind(found: &ArgMatches<'_>) -> ImageKind
 fn shown_of(name: &str, found: &ArgMatches<'_>) -> Shown
     ensures { AsksShown name.now (rows_of (found_of found.now)) result }
 {
-    match name {
-        "map" => Shown::Map {
+    if name == "map" {
+        Shown::Map {
             marked: found.get_flag("marked"),
-        },
-        "draw" => Shown::Sheet {
+        }
+    } else if name == "draw" {
+        Shown::Sheet {
             marked: found.get_flag("marked"),
-        },
-        _ => Shown::Replies,
+        }
+    } else {
+        Shown::Replies
     }
 }
 
@@ -97,8 +105,8 @@ pub fn parsed<'a>(alloc: Global, words: &'a [String]) -> Result<ArgMatches<'a>, 
         .after_help(MORE)
         .subcommand_required(true)
         .subcommand(running(alloc)?)?
-        .subcommand(mapping(alloc)?)?
-        .subcommand(drawing(alloc)?)?
+        .subcommand(picturing(alloc, "map", ABOUT_MAP)?)?
+        .subcommand(picturing(alloc, "draw", ABOUT_DRAW)?)?
         .subcommand(checking(alloc)?)?
         .try_get_matches_from(words)
 }
@@ -147,11 +155,12 @@ fn files_arg<'a>(alloc: Global) -> Arg<'a>
         .action(ArgAction::Append)
 }
 
-fn mapping<'a>(alloc: Global) -> Result<Command<'a>, AllocError>
-    ensures { IfOk result (λ command. app_of command ≡ map_words) }
+/// The words of a picture of a script.
+fn picturing<'a>(alloc: Global, name: &'a str, about: &'a str) -> Result<Command<'a>, AllocError>
+    ensures { IfOk result (λ command. app_of command ≡ picture_words name.now) }
 {
-    Command::new(alloc, "map")
-        .about("Run a script and print a map of memory after each step")
+    Command::new(alloc, name)
+        .about(about)
         .after_help(MORE)
         .arg(pages_arg(alloc))?
         .arg(marked_arg(alloc))?
@@ -167,18 +176,6 @@ fn marked_arg<'a>(alloc: Global) -> Arg<'a>
         .long("marked")
         .help("Show marked steps alone: a line #picture marks the next")
         .action(ArgAction::SetTrue)
-}
-
-fn drawing<'a>(alloc: Global) -> Result<Command<'a>, AllocError>
-    ensures { IfOk result (λ command. app_of command ≡ draw_words) }
-{
-    Command::new(alloc, "draw")
-        .about("Run a script and print a page of HTML with a figure of memory after each step")
-        .after_help(MORE)
-        .arg(pages_arg(alloc))?
-        .arg(marked_arg(alloc))?
-        .arg(script_arg(alloc))?
-        .arg(files_arg(alloc))
 }
 
 fn checking<'a>(alloc: Global) -> Result<Command<'a>, AllocError>

@@ -2,7 +2,7 @@
 
 ghost use Rattle.std.specs.Prelude.{◌≡◌, ◌≢◌, ◌≤◌, ◌<◌, [], codes, length, map, string_bytes, IfOk, IfErr};
 ghost use Rattle.rh_defs.specs.Runs.{start};
-ghost use Rattle.rh_desk.specs.Done.{CheckEnds, MapOver, RunEnds, RunOver, ShownOver, WordsEnd, line_as, status_as, streams};
+ghost use Rattle.rh_desk.specs.Done.{CheckEnds, MapOver, RunEnds, RunOver, SheetOver, ShownOver, WordsEnd, line_as, sheet_name as name_of_sheet, status_as, streams};
 ghost use Rattle.rh_desk.specs.Ending.{ending_of, exit_status};
 ghost use Rattle.rh_desk.specs.Telling.{Tells, run_fault_text};
 ghost use Rattle.rh_lines.specs.Flow.{Breaks, Input, Takes};
@@ -16,6 +16,7 @@ use crate::ending::Ending;
 use crate::files::{check_words, read_files, read_whole};
 use crate::request::{ImageKind, Request, RunRequest, Shown};
 use crate::telling::{ended, tell_file, told};
+use memchr::memrchr;
 use rh_defs::Files;
 use rh_lines::{Flagged, Sink, Source, put};
 use rh_run::{RunFault, Status, check_image, check_slot_image, draw_map, draw_sheet, run};
@@ -25,6 +26,9 @@ use std::{io, rt};
 
 /// The SCRIPT that stands for the input.
 const INPUT: &str = "-";
+
+/// The name of the input in a sheet.
+const INPUT_NAME: &[u8] = b"standard input";
 
 /// Runs the program on its words, of which the first is its own name, and answers its exit status:
 /// 0 for a clean run, a good heap or slot, help or the version, 1 for a bad line, heap or slot, 2 for wrong words, 3 for
@@ -130,8 +134,7 @@ fn map_told<I: Source, O: Sink, E: Sink>(
     )
 }
 
-/// Writes the sheet of a script with a name over so many pages with these files, and tells the fault that stopped it, if
-/// one did.
+/// Writes the sheet of a script over so many pages with these files, and tells the fault that stopped it, if one did.
 fn sheet_told<I: Source, O: Sink, E: Sink>(
     alloc: Global,
     files: Files,
@@ -144,10 +147,10 @@ fn sheet_told<I: Source, O: Sink, E: Sink>(
     requires { (I.input script.old).reads ≡ 0 }
     ensures well { exit_status result ≤ 1 → (O.output output.new).failed ≡ (O.output output.old).failed }
     ensures run { result ≡ Ending.WrongWords → ⊥ }
-    ensures over { SheetOver marked (sheet_name request.now.script.now) request.now.pages files
+    ensures over { SheetOver marked (name_of_sheet request.now.script.now) (start request.now.pages files)
         (streams (I.input script.old) (I.input script.new) (O.output output.old) (O.output output.new) (E.output errors.old) (E.output errors.new)) result }
 {
-    let name = sheet_name(request.script).as_bytes();
+    let name = sheet_name(request.script);
     let pages = request.pages;
     ended(
         draw_sheet(alloc, files, script, output, pages, marked, name),
@@ -155,16 +158,17 @@ fn sheet_told<I: Source, O: Sink, E: Sink>(
     )
 }
 
-/// The name of a script in the head of its sheet: the last part of its path.
-fn sheet_name(script: &str) -> &str
-    ensures { result.now ≡ sheet_name_of script.now }
+/// The name that the sheet of a script has.
+fn sheet_name(script: &str) -> &[u8]
+    ensures { result.now ≡ name_of_sheet script.now }
 {
     if script == INPUT {
-        return "standard input";
+        return INPUT_NAME;
     }
-    match script.rsplit_once('/') {
-        Some((_, name)) => name,
-        None => script,
+    let path = script.as_bytes();
+    match memrchr(b'/', path) {
+        Some(at) => &path[at..][1..],
+        None => path,
     }
 }
 
@@ -180,7 +184,7 @@ fn show_told<I: Source, O: Sink, E: Sink>(
     requires { (I.input script.old).reads ≡ 0 }
     ensures well { exit_status result ≤ 1 → (O.output output.new).failed ≡ (O.output output.old).failed }
     ensures run { result ≡ Ending.WrongWords → ⊥ }
-    ensures over { ShownOver request.now.shown (start request.now.pages files)
+    ensures over { ShownOver request.now.shown request.now.script.now (start request.now.pages files)
         (streams (I.input script.old) (I.input script.new) (O.output output.old) (O.output output.new) (E.output errors.old) (E.output errors.new)) result }
 {
     match request.shown {
@@ -223,8 +227,8 @@ fn run_words<R: rt::Files, I: Source, O: Sink, E: Sink>(
     }
 }
 
-/// Looks over the NAME=PATH words, reads their files, and runs the script from its file, or the input for `-`, or writes its
-/// map.
+/// Looks over the NAME=PATH words, reads their files, and runs the script from its file, or the input for `-`, or writes
+/// its map or its sheet.
 fn run_request<R: rt::Files, I: Source, O: Sink, E: Sink>(
     runtime: &R,
     alloc: Global,

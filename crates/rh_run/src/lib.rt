@@ -1,4 +1,5 @@
-//! Runs a script over a world of scattered pages or draws its map, and says whether bytes are a heap, or a slot.
+//! Runs a script over a world of scattered pages or draws its map or its sheet, and says whether bytes are a heap, or a
+//! slot.
 #![tactic(auto)]
 
 mod checking;

@@ -1,7 +1,10 @@
 //! The sheet of a whole script over a fresh desk.
 
-ghost use Rattle.std.specs.Prelude.{◌≡◌, ◌≤◌};
+ghost use Rattle.std.specs.Prelude.{◌≡◌, ◌≤◌, true, IfOk, IsErrOf};
+ghost use Rattle.rh_defs.specs.Runs.{start};
 ghost use Rattle.rh_defs.specs.declared.sizes.TheConstants.{MAX_PAGES, MIN_PAGES};
+ghost use Rattle.rh_painted.specs.Painted.{Painted, PaintedSoFar, PaintedUntil};
+ghost use Rattle.rh_session.specs.Outcome.{too_many_reads};
 
 use crate::world::PagedWorld;
 use rh_defs::Files;
@@ -10,9 +13,9 @@ use rh_painted::paint_script;
 use rh_session::{RunFault, Status};
 use std::alloc::Global;
 
-/// Runs a script with a name over a fresh desk of 8 to 1,024 pages, and writes its sheet: each step, or marked steps
-/// alone, each before it reads on. It takes memory before its first read only, and gives up after 1,000,000 reads that
-/// gave bytes.
+/// Runs a script with a name over a fresh desk of 8 to 1,024 pages, and writes its sheet: its beginning, and each step,
+/// or marked steps alone, each before it reads on. It takes memory before it writes or reads only, and gives up after
+/// 1,000,000 reads that gave bytes.
 pub fn draw_sheet<R: Source, W: Sink>(
     alloc: Global,
     files: Files,
@@ -25,6 +28,24 @@ pub fn draw_sheet<R: Source, W: Sink>(
     requires least { MIN_PAGES ≤ pages }
     requires most { pages ≤ MAX_PAGES }
     requires fresh { (R.input reader.old).reads ≡ 0 }
+
+    // The whole script was read, and its sheet was written.
+    ensures ok { IfOk result (λ status. Painted marked name.now (start pages files) (R.input reader.old) (R.input reader.new) (W.output writer.old) (W.output writer.new) status) }
+
+    // Nothing was read or written.
+    ensures no_memory { IsErrOf result RunFault.NoMemory → (R.input reader.new ≡ R.input reader.old) × (W.output writer.new ≡ W.output writer.old) }
+
+    // The sheet of the complete lines that were read has been written, without its end.
+    ensures read_failed { IsErrOf result RunFault.ReadFailed → (R.input reader.new).failed ≡ true }
+    ensures read_painted { IsErrOf result RunFault.ReadFailed → PaintedSoFar marked name.now (start pages files) (R.input reader.old) (R.input reader.new) (W.output writer.old) (W.output writer.new) }
+    ensures too_long { IsErrOf result RunFault.TooLong → ((R.input reader.new).reads ≡ too_many_reads) × ((R.input reader.new).failed ≡ (R.input reader.old).failed) }
+    ensures long_painted { IsErrOf result RunFault.TooLong → PaintedSoFar marked name.now (start pages files) (R.input reader.old) (R.input reader.new) (W.output writer.old) (W.output writer.new) }
+
+    // The writer failed, and took a front of the sheet of some lines.
+    ensures write_failed { IsErrOf result RunFault.WriteFailed → PaintedUntil marked name.now (start pages files) (R.input reader.old) (R.input reader.new) (W.output writer.old) (W.output writer.new) }
+
+    // However it ends, at most so many reads gave bytes.
+    ensures reads { (R.input reader.new).reads ≤ too_many_reads }
 {
     match PagedWorld::new(alloc, files, pages) {
         Ok(world) => paint_script(alloc, world, marked, name, reader, writer),
