@@ -67,6 +67,12 @@ class Function:
         self.owner = read.owner if read.block else ""
         self.modules = {read.module} | {module for module, *_ in types.get(self.owner, [])}
 
+    def ending(self):
+        """What a check's name for it ends in. Other functions' names may end so too."""
+        if self.block:
+            return self.name if self.in_trait else f"{self.owner}::{self.name}"
+        return "::".join([*next(iter(self.modules)), self.name])
+
     def is_called(self, words):
         """Whether these words, what a check's name has below its module, are this function's."""
         if not self.block:
@@ -179,6 +185,11 @@ def grouped(edits):
             groups.append(group := [])
         group.append(edit)
     return groups + [[it] for it in edits if not it.is_inside]
+
+
+def functions_in(edits):
+    """The functions that edits change, each once."""
+    return list(dict.fromkeys(it for edit in edits for it in edit.functions))
 
 
 def apart_from(group, edits):

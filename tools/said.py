@@ -12,7 +12,7 @@ ERROR = re.compile(r"(?m)^(?:\./)?proofs/(\S+)\.antt:\d+:\d+: error: (?:`([^`]*)
 # What antt says of a proof that names what is no longer there: that refuses no statement.
 NAMES = re.compile(r"has no field|is not in scope|has no `|was not admitted")
 PROOF_FILES = ("Answers", "Invariants", "Proof")
-ENDED = re.compile(r"(?m)^holes=\d+$")
+ENDED = re.compile(r"(?m)^(only=\d+ )?holes=\d+$")
 
 
 class Said:

@@ -25,19 +25,33 @@ class Trial:
 
     def __init__(self, crate, kept, jobs):
         self.crate, self.kept, self.jobs = crate, kept, jobs
+        self.checks_all = True
 
-    def check(self, edits):
-        """Checks the crate with these edits."""
+    def check(self, edits, functions=()):
+        """Checks the crate with these edits, or only these functions of it."""
         texts = edits_of.applied(self.crate.folder, edits)
-        flags = ["--allow-holes", "--jobs", str(self.jobs)]
-        ran = rt.checked(self.crate, texts, flags, self.kept)
+        only = [word for it in functions for word in ("--only", it.ending())]
+        ran = rt.checked(self.crate, texts, ["--allow-holes", *only, "--jobs", str(self.jobs)], self.kept)
         if ran.returncode < 0:
             # It was killed, most likely for memory.
-            ran = rt.checked(self.crate, texts, ["--allow-holes", "--jobs", "1"], self.kept)
+            ran = rt.checked(self.crate, texts, ["--allow-holes", *only, "--jobs", "1"], self.kept)
         return Said(self.crate, ran, texts)
+
+    def check_group(self, group, beside):
+        """Checks the crate with a group's edits and those beside it: what the group changes alone, if that will do.
+
+        Each edit inside of functions is judged by what is said of these. Where one is to be tried by itself, the whole
+        crate is checked, and what a group's check has proved of it is kept for that.
+        """
+        if not self.checks_all and (len(group) > 1 or beside):
+            said = self.check([*group, *beside], edits_of.functions_in(group))
+            if not said.fault():
+                return said
+        return self.check([*group, *beside])
 
     def judge_all(self, groups):
         """A verdict for each edit of all groups. What was refused stays beside the groups that follow."""
+        self.checks_all = not all(it.is_inside for group in groups for it in group)
         verdicts = []
         for group in groups:
             refused = [it.edit for it in verdicts if it.is_well]
@@ -50,7 +64,7 @@ class Trial:
         The bodies of `beside` are wrong as well, as they were in the check before: to prove them as they stand would
         take as long as a group does, and tells nothing.
         """
-        said = self.check([*group, *beside])
+        said = self.check_group(group, beside)
         fault = said.fault()
         is_alone = len(group) == 1 and not beside
         if not fault:
