@@ -1,19 +1,23 @@
--- What the figure of a slot is drawn from.
-use Rattle.std.specs.Prelude.{◌≡◌, ℕ}
-use Rattle.rh_defs.specs.Desk.{Desk, Task}
+-- What the figures of slots and of the module area are drawn from.
+use Rattle.std.specs.Prelude.{◌≡◌, []}
+use Rattle.rh_defs.specs.Desk.{Task}
 use Rattle.rh_defs.specs.Heap.{first_place}
 use Rattle.rh_defs.specs.Listing.{block_items}
 use Rattle.rh_draw.specs.Rows.{plot_of}
+use Rattle.rh_drawn.specs.declared.heap_cards.Band.{Band}
 use Rattle.rh_figure.specs.Scene.{Scene}
 use Rattle.rh_sheet.specs.Areas.{slot_frame, slot_plot}
-use Rattle.rh_sight.specs.Seen.{IsTaskSeen}
+use Rattle.rh_sight.specs.declared.sight.HeapOf.TheVariants.{Module}
 use Rattle.rh_sight.specs.Walks.{census_of}
 use Rattle.rh_painted.specs.declared.slots.Plan.{Plan}
 
 -- the plan is of the slot of a task in a scene
 pub record IsSlotPlan (x : Scene) (t : Task) (p : Plan) : Type 0 where
-  pub task : IsTaskSeen p.task.now t
   pub blocks : p.blocks.now ≡ block_items t.slot
   pub frame : p.frame ≡ slot_frame x t
   pub plot : plot_of p.plot ≡ slot_plot x t
   pub census : p.census ≡ census_of first_place t.slot.heap.segments
+
+-- the band is that of the module area's blocks
+abbrev pub IsModuleBand : Band → Type 0
+IsModuleBand b = (b.heap ≡ Module) × (b.taking.now ≡ [])

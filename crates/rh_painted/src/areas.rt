@@ -1,8 +1,11 @@
 //! Areas that are pages alone: a heading for each.
 
-ghost use Rattle.std.specs.Prelude.{◌≡◌, ◌<◌, ◌==◌, [], flat_map, if◌then◌else◌, map, slice_index};
+ghost use Rattle.std.specs.Prelude.{◌≡◌, ◌<◌, [], map, slice_index};
+ghost use Rattle.std.specs.List.{flat_map};
 ghost use Rattle.rh_figure.specs.Figure.{area_panels, fixed_panel, made_panel};
+ghost use Rattle.rh_figure.specs.Phrases.{area_name};
 ghost use Rattle.rh_lines.specs.Flow.{Puts};
+ghost use Rattle.rh_sheet.specs.Markup.{heading_text};
 ghost use Rattle.rh_sheet.specs.Steps.{area_heading};
 ghost use Rattle.rh_sight.specs.Steps.{IsStepOf, scene_at};
 

@@ -1,13 +1,13 @@
 //! The cards of a task's flex blocks.
 
-ghost use Rattle.std.specs.Prelude.{◌≡◌, ◌≤◌, ◌<◌, ℕ, length, slice_get, take, Some};
-ghost use Rattle.std.specs.List.{enumerate_from, flat_map};
+ghost use Rattle.std.specs.Prelude.{◌≡◌, ◌≤◌, ◌<◌, ◌-◌, ℕ, length, slice_get, take, Some};
 ghost use Rattle.rh_defs.specs.Desk.{Task};
 ghost use Rattle.rh_defs.specs.Listing.{block_items};
 ghost use Rattle.rh_drawn.specs.Cards.{cards_behind};
-ghost use Rattle.rh_figure.specs.Cards.{Card, flex_cards, shown_cards};
+ghost use Rattle.rh_figure.specs.Cards.{Card as FlexCard, flex_cards, shown_cards};
+ghost use Rattle.rh_figure.specs.declared.limits.TheConstants.{MOST_CARDS};
 ghost use Rattle.rh_lines.specs.Flow.{Puts};
-ghost use Rattle.rh_painted.specs.Bands.{IsFit, band_text, form_text};
+ghost use Rattle.rh_painted.specs.Bands.{IsFit, band_text, band_text_from, form_text};
 ghost use Rattle.rh_sight.specs.Seen.{IsTaskSeen};
 ghost use Rattle.rh_sight.specs.Steps.{scene_at};
 
@@ -112,7 +112,7 @@ fn put_flex<S: Sight, W: Sink>(
     requires block { (t : Task) × (k : ℕ) × (slice_get (S.desk sight.now).tasks i ≡ Some t) × IsTaskSeen task.now t × (slice_get (block_items t.slot) k ≡ Some block.now) }
     requires few { at < MOST_CARDS }
     requires height { IsFit form }
-    ensures { (t : Task) (k : ℕ) (c : Card) → slice_get (S.desk sight.now).tasks i ≡ Some t → slice_get (block_items t.slot) k ≡ Some block.now → slice_get (flex_cards (scene_at (S.desk sight.now) step.now) t) k ≡ Some c →
+    ensures { (t : Task) (k : ℕ) (c : FlexCard) → slice_get (S.desk sight.now).tasks i ≡ Some t → slice_get (block_items t.slot) k ≡ Some block.now → slice_get (flex_cards (scene_at (S.desk sight.now) step.now) t) k ≡ Some c →
         Puts (W.output writer.old) (W.output writer.new) result (form_text form (at, c)) }
 {
     let mut front = [0; CARD_BYTES];
@@ -126,13 +126,14 @@ fn put_flex<S: Sight, W: Sink>(
         fresh: is_fresh_flex(step, task.handle, block.anchor, block.size),
     };
     let name = flex_name(block.anchor, block.address);
-    let (size, bytes) = (block_size(&told), block_bytes(&told));
+    let size = block_size(&told);
+    let first = block_bytes(&told);
     let card = Card {
         look: Look::Flex,
         fresh: told.fresh,
         first: name.as_slice(),
         second: size.as_slice(),
-        third: bytes.as_slice(),
+        third: first.as_slice(),
     };
     put_card(form, at, &card, writer)
 }

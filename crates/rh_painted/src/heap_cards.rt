@@ -1,6 +1,6 @@
 //! The cards of a heap's blocks and holes, and of messages.
 
-ghost use Rattle.std.specs.Prelude.{◌≡◌, ◌≤◌, ◌<◌, ◌+◌, ◌-◌, ◌^◌, ◌∷◌, [], ℕ, IfSome, List, find, length, take};
+ghost use Rattle.std.specs.Prelude.{◌≡◌, ◌≤◌, ◌<◌, ◌+◌, ◌-◌, ◌^◌, ◌==◌, ℕ, IfSome, List, find, length, take, Some};
 ghost use Rattle.rh_defs.specs.Desk.{Desk};
 ghost use Rattle.rh_defs.specs.Heap.{Segment};
 ghost use Rattle.rh_defs.specs.Listing.{segment_item};
@@ -8,7 +8,7 @@ ghost use Rattle.rh_defs.specs.Messages.{Parcel};
 ghost use Rattle.rh_defs.specs.Records.{is_buffer_of};
 ghost use Rattle.rh_drawn.specs.Bands.{HasSegment, IsBandOf, IsItemOf, IsSurvey, band_card, band_cards, is_fresh_used};
 ghost use Rattle.rh_drawn.specs.Cards.{cards_behind};
-ghost use Rattle.rh_figure.specs.Cards.{in_use_text, post_card, shown_cards, used_card};
+ghost use Rattle.rh_figure.specs.Cards.{hole_card, in_use_text, post_card, shown_cards, used_card};
 ghost use Rattle.rh_figure.specs.Scene.{live};
 ghost use Rattle.rh_figure.specs.declared.limits.TheConstants.{MOST_CARDS};
 ghost use Rattle.rh_lines.specs.Flow.{Puts};
@@ -200,13 +200,14 @@ fn put_used<S: Sight, W: Sink>(
         fresh: is_changed(step, band, address),
     };
     let name = used_name(told.usage, address);
-    let (size, bytes) = (block_size(&told), block_bytes(&told));
+    let size = block_size(&told);
+    let first = block_bytes(&told);
     let card = Card {
         look: Look::Used,
         fresh: told.fresh,
         first: name.as_slice(),
         second: size.as_slice(),
-        third: bytes.as_slice(),
+        third: first.as_slice(),
     };
     put_card(form, at, &card, writer)
 }
@@ -229,16 +230,18 @@ fn put_message<S: Sight, W: Sink>(
 {
     sight.spelled();
     let place = chain_place(place_of(step.messages, *message));
-    let (from, to) = (who_of(sight, message.from), who_of(sight, message.to));
+    let fresh = is_new_ref(step, message.my_ref);
+    let sender = who_of(sight, message.from);
+    let receiver = who_of(sight, message.to);
     let name = message_name(message.my_ref, message.action);
-    let way = message_way(message.code, &from, &to);
-    let place = message_place(message.code, place);
+    let way = message_way(message.code, &sender, &receiver);
+    let chain = message_place(message.code, place);
     let card = Card {
         look: Look::Post,
-        fresh: is_new_ref(step, message.my_ref),
+        fresh,
         first: name.as_slice(),
         second: way.as_slice(),
-        third: place.as_slice(),
+        third: chain.as_slice(),
     };
     put_card(form, at, &card, writer)
 }

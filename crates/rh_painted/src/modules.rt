@@ -1,14 +1,15 @@
 //! The figure of the module area.
 
-ghost use Rattle.std.specs.Prelude.{◌≡◌, ◌≤◌, length};
-ghost use Rattle.rh_defs.specs.Commands.{module_area};
-ghost use Rattle.rh_figure.specs.Share.{AreaOf};
+ghost use Rattle.std.specs.Prelude.{◌≡◌};
+ghost use Rattle.rh_defs.specs.Heap.{first_place};
+ghost use Rattle.rh_draw.specs.Rows.{plot_of};
+ghost use Rattle.rh_figure.specs.Layout.{module_pieces as module_pieces_of};
 ghost use Rattle.rh_lines.specs.Flow.{Puts};
-ghost use Rattle.rh_painted.specs.Figures.{IsModulePlan};
-ghost use Rattle.rh_sheet.specs.Areas.{module_body, module_description, module_figure, rows_for};
-ghost use Rattle.rh_sheet.specs.Markup.{escape};
+ghost use Rattle.rh_painted.specs.Figures.{IsModuleBand};
+ghost use Rattle.rh_sheet.specs.Areas.{module_body, module_figure, module_frame, module_plot};
 ghost use Rattle.rh_sheet.specs.Steps.{module_part};
 ghost use Rattle.rh_sight.specs.Steps.{IsStepOf, scene_at};
+ghost use Rattle.rh_sight.specs.Walks.{census_of};
 
 use crate::areas::print_area_heading;
 use crate::bands::Form;
@@ -102,6 +103,7 @@ fn print_body<S: Sight, W: Sink>(
     requires step { IsStepOf (S.desk sight.now) step.now }
     requires frame { frame ≡ module_frame (scene_at (S.desk sight.now) step.now) }
     requires plot { plot_of plot.now ≡ module_plot (scene_at (S.desk sight.now) step.now) }
+    requires band { IsModuleBand band.now }
     requires census { census ≡ census_of first_place (S.desk sight.now).post.heap.segments }
     ensures { Puts (W.output writer.old) (W.output writer.new) result
         (module_body (scene_at (S.desk sight.now) step.now)) }

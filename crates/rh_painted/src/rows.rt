@@ -1,6 +1,6 @@
 //! The rows of an owner's pages.
 
-ghost use Rattle.std.specs.Prelude.{◌≡◌, ◌≤◌, length, max};
+ghost use Rattle.std.specs.Prelude.{◌≡◌, ◌≤◌, length, max, min};
 ghost use Rattle.rh_defs.specs.declared.sizes.TheConstants.{MAX_PAGES};
 ghost use Rattle.rh_figure.specs.Share.{count_of};
 ghost use Rattle.rh_lines.specs.Flow.{Puts};
@@ -8,16 +8,18 @@ ghost use Rattle.rh_sheet.specs.Areas.{pages_sentence};
 ghost use Rattle.rh_sheet.specs.Markup.{escape};
 ghost use Rattle.rh_sight.specs.Owners.{owner_of};
 
+use rh_defs::sizes::MAX_PAGES;
 use rh_draw::put_escaped;
 use rh_lines::{Row, Sink, WriteFailed};
 use rh_map::add_numbers;
 use rh_sight::{Owner, Step};
 
-/// An owner has a row for each of its pages, and for each that it has given back.
+/// An owner has a row for each of its pages, and for each that it has given back, of which no pool has more.
 pub fn rows_for(step: &Step<'_>, owner: Owner, pages: &[u16]) -> usize
-    ensures { result ≡ max (length pages.now) (count_of (owner_of owner) step.now.kept.now.holdings) }
+    ensures { result ≡ min MAX_PAGES (max (length pages.now) (count_of (owner_of owner) step.now.kept.now.holdings)) }
 {
-    pages.len().max(step.kept.count(owner) as usize)
+    let most = pages.len().max(step.kept.count(owner) as usize);
+    most.min(MAX_PAGES)
 }
 
 /// Writes which pages an area has, as it is read out.

@@ -1,11 +1,17 @@
 //! The figures of slots.
 
-ghost use Rattle.std.specs.Prelude.{◌≡◌, ◌≤◌, ◌<◌, ◌×◌, length, flat_map, slice_get, Some};
+ghost use Rattle.std.specs.Prelude.{◌≡◌, ◌<◌, length, slice_get, Some};
+ghost use Rattle.std.specs.List.{AllByRecursion, flat_map};
 ghost use Rattle.rh_defs.specs.Desk.{Task};
+ghost use Rattle.rh_defs.specs.Slot.{slot_length};
+ghost use Rattle.rh_defs.specs.declared.listing.BlockItem.{BlockItem};
+ghost use Rattle.rh_draw.specs.Rows.{plot_of};
+ghost use Rattle.rh_figure.specs.Figure.{slot_note};
+ghost use Rattle.rh_figure.specs.Scene.{Scene};
 ghost use Rattle.rh_lines.specs.Flow.{Puts};
 ghost use Rattle.rh_painted.specs.Figures.{IsSlotPlan};
-ghost use Rattle.rh_sheet.specs.Areas.{slot_body, slot_description, slot_figure, slot_lenses, ticks_text};
-ghost use Rattle.rh_sheet.specs.Markup.{escape};
+ghost use Rattle.rh_sheet.specs.Areas.{slot_body, slot_description, slot_figure, slot_lenses, slot_plot, ticks_text};
+ghost use Rattle.rh_sheet.specs.Markup.{escape, heading_text};
 ghost use Rattle.rh_sheet.specs.Steps.{slot_part};
 ghost use Rattle.rh_sight.specs.Seen.{IsTaskSeen};
 ghost use Rattle.rh_sight.specs.Steps.{IsStepOf, scene_at};
@@ -31,12 +37,11 @@ use rh_sight::{
     take_census,
 };
 
-/// A task at its place in order of handle, with what its figure is drawn from: its blocks, how its parts stand, its
-/// rows, and how many segments its C heap has.
+/// What the figure of a task's slot is drawn from: the task's place in order of handle, its blocks, how the figure's parts
+/// stand, its rows, and how many segments its C heap has.
 #[derive(Clone, Copy)]
 struct Plan<'a> {
     i: usize,
-    task: &'a TaskSight<'a>,
     blocks: &'a [BlockItem],
     frame: Frame,
     plot: Plot<'a>,
@@ -86,10 +91,7 @@ fn print_slot<S: Sight, W: Sink>(
     if !is_drawn(step, tasks, task.handle) {
         return Ok(());
     }
-    sight.blocks(i, &mut lists.blocks);
-    slot_pieces(sight, step, i, task, &lists.blocks, &mut lists.pieces);
-    let plan = plan_of(sight, step, i, task, lists);
-    print_figure(sight, step, &plan, writer)
+    print_figure(sight, step, i, task, lists, writer)
 }
 
 /// Writes the heading of a task's slot.
@@ -110,20 +112,23 @@ fn print_slot_heading<W: Sink>(task: &TaskSight<'_>, writer: &mut W) -> Result<(
     print_heading(task.name.as_bytes(), note.as_slice(), writer)
 }
 
-/// What the figure of a task's slot is drawn from, whose blocks and pieces stand in their lists.
-fn plan_of<'a, S: Sight>(
+/// Writes the figure of the slot of a task.
+fn print_figure<S: Sight, W: Sink>(
     sight: &S,
-    step: &Step<'a>,
+    step: &Step<'_>,
     i: usize,
-    task: &'a TaskSight<'a>,
-    lists: &'a Lists,
-) -> Plan<'a>
+    task: &TaskSight<'_>,
+    lists: &mut Lists,
+    writer: &mut W,
+) -> Result<(), WriteFailed>
     requires step { IsStepOf (S.desk sight.now) step.now }
     requires task { (t : Task) × (slice_get (S.desk sight.now).tasks i ≡ Some t) × IsTaskSeen task.now t }
-    ensures { (t : Task) → slice_get (S.desk sight.now).tasks i ≡ Some t → lists.now.blocks.items ≡ block_items t.slot →
-        lists.now.pieces.items ≡ slot_pieces_of (scene_at (S.desk sight.now) step.now) t.handle t.slot →
-        IsSlotPlan (scene_at (S.desk sight.now) step.now) t result }
+    ensures { (t : Task) → slice_get (S.desk sight.now).tasks i ≡ Some t → Puts (W.output writer.old) (W.output writer.new) result
+        (slot_figure (scene_at (S.desk sight.now) step.now) t) }
 {
+    sight.spelled();
+    sight.blocks(i, &mut lists.blocks);
+    slot_pieces(sight, step, i, task, &lists.blocks, &mut lists.pieces);
     let pages = pages_of(sight, step.pages, PagesOf::Slot(i));
     let census = take_census(sight, HeapOf::Task(i), HEAP_FIRST as u32);
     let frame = Frame {
@@ -137,35 +142,36 @@ fn plan_of<'a, S: Sight>(
         pieces: &lists.pieces,
         tint: Tint::Slot(task.handle.0),
     };
-    Plan {
+    let plan = Plan {
         i,
-        task,
         blocks: &lists.blocks,
         frame,
         plot,
         census,
-    }
+    };
+    print_plan(sight, step, task, &plan, writer)
 }
 
-/// Writes the figure of a task's slot.
-fn print_figure<S: Sight, W: Sink>(
+/// Writes a figure as it is planned.
+fn print_plan<S: Sight, W: Sink>(
     sight: &S,
     step: &Step<'_>,
+    task: &TaskSight<'_>,
     plan: &Plan<'_>,
     writer: &mut W,
 ) -> Result<(), WriteFailed>
     requires step { IsStepOf (S.desk sight.now) step.now }
-    requires plan { (t : Task) × (slice_get (S.desk sight.now).tasks plan.now.i ≡ Some t) × IsSlotPlan (scene_at (S.desk sight.now) step.now) t plan.now }
+    requires task { (t : Task) × (slice_get (S.desk sight.now).tasks plan.now.i ≡ Some t) × IsTaskSeen task.now t × IsSlotPlan (scene_at (S.desk sight.now) step.now) t plan.now }
     ensures { (t : Task) → slice_get (S.desk sight.now).tasks plan.now.i ≡ Some t → Puts (W.output writer.old) (W.output writer.new) result
         (slot_figure (scene_at (S.desk sight.now) step.now) t) }
 {
     let mut title = Row::new();
     title.text(b"The slot of ");
-    title.text(plan.task.name.as_bytes());
+    title.text(task.name.as_bytes());
     print_figure_open(FIGURE_WIDTH, height(plan.frame), title.as_slice(), writer)?;
-    print_description(sight, step, plan, writer)?;
+    print_description(sight, step, task, plan, writer)?;
     print_described(writer)?;
-    print_body(sight, step, plan, writer)?;
+    print_body(sight, step, task, plan, writer)?;
     print_figure_end(writer)
 }
 
@@ -173,54 +179,75 @@ fn print_figure<S: Sight, W: Sink>(
 fn print_description<S: Sight, W: Sink>(
     sight: &S,
     step: &Step<'_>,
+    task: &TaskSight<'_>,
     plan: &Plan<'_>,
     writer: &mut W,
 ) -> Result<(), WriteFailed>
     requires step { IsStepOf (S.desk sight.now) step.now }
-    requires plan { (t : Task) × (slice_get (S.desk sight.now).tasks plan.now.i ≡ Some t) × IsSlotPlan (scene_at (S.desk sight.now) step.now) t plan.now }
+    requires task { (t : Task) × (slice_get (S.desk sight.now).tasks plan.now.i ≡ Some t) × IsTaskSeen task.now t × IsSlotPlan (scene_at (S.desk sight.now) step.now) t plan.now }
     ensures { (t : Task) → slice_get (S.desk sight.now).tasks plan.now.i ≡ Some t → Puts (W.output writer.old) (W.output writer.new) result
         (escape (slot_description (scene_at (S.desk sight.now) step.now) t)) }
 {
     put_pages(plan.plot.pages, writer)?;
     let mut row = Row::new();
     row.text(b"C heap of ");
-    add_size(&mut row, plan.task.heap_end);
+    add_size(&mut row, task.heap_end);
     row.text(b". ");
     put_escaped(row.as_slice(), writer)?;
-    put_heap_cards(sight, step, &plan.band(), Form::Told, writer)?;
-    plan.put_blocks(sight, step, Form::Told, writer)
+    let band = Band {
+        heap: HeapOf::Task(plan.i),
+        handle: task.handle,
+        taking: task.taking,
+    };
+    put_heap_cards(sight, step, &band, Form::Told, writer)?;
+    put_flex_cards(sight, step, plan.i, task, plan.blocks, Form::Told, writer)
 }
 
 /// Writes what leads to the cards, cards of flex blocks, rows, ticks, the arrow of a slide, and cards of the C heap.
 fn print_body<S: Sight, W: Sink>(
     sight: &S,
     step: &Step<'_>,
+    task: &TaskSight<'_>,
     plan: &Plan<'_>,
     writer: &mut W,
 ) -> Result<(), WriteFailed>
     requires step { IsStepOf (S.desk sight.now) step.now }
-    requires plan { (t : Task) × (slice_get (S.desk sight.now).tasks plan.now.i ≡ Some t) × IsSlotPlan (scene_at (S.desk sight.now) step.now) t plan.now }
+    requires task { (t : Task) × (slice_get (S.desk sight.now).tasks plan.now.i ≡ Some t) × IsTaskSeen task.now t × IsSlotPlan (scene_at (S.desk sight.now) step.now) t plan.now }
     ensures { (t : Task) → slice_get (S.desk sight.now).tasks plan.now.i ≡ Some t → Puts (W.output writer.old) (W.output writer.new) result
         (slot_body (scene_at (S.desk sight.now) step.now) t) }
 {
     let frame = plan.frame;
-    print_lenses(plan, writer)?;
+    print_lenses(sight, step, task, plan, writer)?;
     let above = Form::Above(top(frame).saturating_sub(LENS_HEIGHT));
-    plan.put_blocks(sight, step, above, writer)?;
+    put_flex_cards(sight, step, plan.i, task, plan.blocks, above, writer)?;
     print_rows(frame, &plan.plot, writer)?;
     print_ticks(row_y(frame, 0), plan.blocks, writer)?;
-    print_arrow_of(step, frame, plan.task.handle, plan.blocks, writer)?;
+    print_arrow_of(step, frame, task.handle, plan.blocks, writer)?;
     let below = Form::Below(foot(frame) + LENS_HEIGHT);
-    put_heap_cards(sight, step, &plan.band(), below, writer)
+    let band = Band {
+        heap: HeapOf::Task(plan.i),
+        handle: task.handle,
+        taking: task.taking,
+    };
+    put_heap_cards(sight, step, &band, below, writer)
 }
 
 /// Writes what leads from the rows to the cards.
-fn print_lenses<W: Sink>(plan: &Plan<'_>, writer: &mut W) -> Result<(), WriteFailed>
-    ensures { (x : Scene) (t : Task) → IsSlotPlan x t plan.now → Puts (W.output writer.old) (W.output writer.new) result
+fn print_lenses<S: Sight, W: Sink>(
+    sight: &S,
+    step: &Step<'_>,
+    task: &TaskSight<'_>,
+    plan: &Plan<'_>,
+    writer: &mut W,
+) -> Result<(), WriteFailed>
+    requires step { IsStepOf (S.desk sight.now) step.now }
+    requires task { (t : Task) × (slice_get (S.desk sight.now).tasks plan.now.i ≡ Some t) × IsTaskSeen task.now t × IsSlotPlan (scene_at (S.desk sight.now) step.now) t plan.now }
+    ensures { (t : Task) → slice_get (S.desk sight.now).tasks plan.now.i ≡ Some t → Puts (W.output writer.old) (W.output writer.new) result
         (slot_lenses plan.now.frame t.slot) }
 {
-    let low = C_HEAP_PLACE + plan.task.heap_end as usize;
-    let high = plan.flex_end();
+    sight.spelled();
+    let low = C_HEAP_PLACE + task.heap_end as usize;
+    let high = flex_end(&plan.plot);
     let count = plan.blocks.len() as u32;
     print_lens_above(plan.frame, low, high, count, writer)?;
     let low = C_HEAP_PLACE + HEAP_FIRST;
@@ -228,42 +255,23 @@ fn print_lenses<W: Sink>(plan: &Plan<'_>, writer: &mut W) -> Result<(), WriteFai
     print_lens_below(plan.frame, low, high, plan.census.count, writer)
 }
 
+/// Where the flex blocks of a slot end, from its first byte: there its last piece begins, what is unused.
+fn flex_end(plot: &Plot<'_>) -> usize
+    ensures { (x : Scene) (t : Task) → plot_of plot.now ≡ slot_plot x t → result ≡ slot_length t.slot }
+{
+    match plot.pieces.last() {
+        Some(piece) => piece.at,
+        None => 0,
+    }
+}
+
 /// Writes ticks in the anchor words of blocks, in a row at a height.
 fn print_ticks<W: Sink>(y: u32, blocks: &[BlockItem], writer: &mut W) -> Result<(), WriteFailed>
+    requires { AllByRecursion (λ (b : BlockItem). b.anchor < 64) blocks.now }
     ensures { Puts (W.output writer.old) (W.output writer.new) result (ticks_text y blocks.now) }
 {
     for block in blocks {
         print_tick(y, u32::from(block.anchor.0), writer)?;
     }
     Ok(())
-}
-
-impl<'a> Plan<'a> {
-    /// The C heap, whose blocks have cards.
-    fn band(&self) -> Band<'a> {
-        Band {
-            heap: HeapOf::Task(self.i),
-            handle: self.task.handle,
-            taking: self.task.taking,
-        }
-    }
-
-    /// Where the flex blocks end, from the slot's first byte: there its last piece begins, what is unused.
-    fn flex_end(&self) -> usize {
-        match self.plot.pieces.last() {
-            Some(piece) => piece.at,
-            None => 0,
-        }
-    }
-
-    /// Writes the cards of the flex blocks.
-    fn put_blocks<S: Sight, W: Sink>(
-        &self,
-        sight: &S,
-        step: &Step<'_>,
-        form: Form,
-        writer: &mut W,
-    ) -> Result<(), WriteFailed> {
-        put_flex_cards(sight, step, self.i, self.task, self.blocks, form, writer)
-    }
 }

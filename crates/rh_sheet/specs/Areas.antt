@@ -1,8 +1,8 @@
 -- The figures of slots and of the module area.
-use Rattle.std.specs.Prelude.{ℕ, ◌+◌, ◌-◌, ◌*◌, ◌/◌, ◌==◌, nat_le, nat_lt, max, ◌&&◌, List, [], ◌∷◌, ◌++◌, length, codes}
+use Rattle.std.specs.Prelude.{ℕ, ◌+◌, ◌-◌, ◌*◌, ◌/◌, ◌==◌, nat_le, nat_lt, max, min, ◌&&◌, List, [], ◌∷◌, ◌++◌, length, codes}
 use Rattle.std.specs.List.{concat, flat_map}
 use Rattle.rh_defs.specs.declared.listing.BlockItem.{BlockItem}
-use Rattle.rh_defs.specs.declared.sizes.TheConstants.{C_HEAP_PLACE}
+use Rattle.rh_defs.specs.declared.sizes.TheConstants.{C_HEAP_PLACE, MAX_PAGES}
 use Rattle.rh_defs.specs.Pieces.{page}
 use Rattle.rh_defs.specs.Heap.{first_place, base}
 use Rattle.rh_defs.specs.Slot.{Slot, slot_start, slot_length}
@@ -25,9 +25,9 @@ use Rattle.rh_sheet.specs.declared.sizes.TheConstants.{UNIT_BYTES, LEFT, FIGURE_
 
 -- ---- parts of both
 
--- an owner has a row for each page that it has, and for each that it has given back
+-- an owner has a row for each page that it has, and for each that it has given back, of which no pool has more
 abbrev pub rows_for : Scene → Owner → ℕ
-rows_for x o = max (length (x.share.pages_of o)) (count_of o x.before.holdings)
+rows_for x o = min MAX_PAGES (max (length (x.share.pages_of o)) (count_of o x.before.holdings))
 
 -- which pages an area has, as it is read out
 abbrev pub pages_sentence : List ℕ → Text

@@ -1,0 +1,16 @@
+use Rattle.std.proofs.Common.{◌++◌, drop}
+use Rattle.std.specs.Prelude.{map}
+use Rattle.std.specs.List.{enumerate_from, flat_map}
+use Rattle.rh_figure.specs.Figure.{area_panels, fixed_panel, made_panel}
+use Rattle.rh_map.proofs.Left.{Left}
+use Rattle.rh_sheet.specs.Steps.{area_heading}
+use Rattle.rh_sight.specs.Steps.{scene_at}
+use Rattle.rh_painted.proofs.areas.print_area_headings.Given as goal
+
+-- the areas from the number on are left, and the made ones
+abbrev pub invariant-loop-number : goal.invariant-loop-number
+invariant-loop-number g l =
+    let d = g.S.Sight.desk l.sight in
+    let x = scene_at d l.step in
+    Left (g.W.Sink.output l.initial.writer) (g.W.Sink.output l.writer) (flat_map area_heading (area_panels x))
+    (flat_map area_heading (flat_map (fixed_panel x) (enumerate_from l.number (drop l.number d.areas)) ++ map (made_panel x) d.made))

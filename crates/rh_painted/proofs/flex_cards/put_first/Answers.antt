@@ -1,0 +1,47 @@
+use Rattle.std.proofs.Common.{◌≡◌, ◌<◌, [], ◌∷◌, Some, length, take, ap, sym, ◌∙◌, arith}
+use Rattle.std.specs.Prelude.{slice_get}
+use Rattle.std.proofs.lemmas.List.{length-take}
+use Rattle.std.proofs.lemmas.Option.{slice_get-get_or}
+use Rattle.rh_defs.specs.Listing.{block_items}
+use Rattle.rh_defs.specs.Slot.{flex_start}
+use Rattle.rh_figure.specs.Cards.{flex_cards}
+use Rattle.rh_map.proofs.Left.{left_breaks, left_less, left_none, left_whole}
+use Rattle.rh_sight.specs.Steps.{scene_at}
+use Rattle.rh_drawn.proofs.CardLemmas.{card-at, flex-long, get-front}
+use Rattle.rh_drawn.proofs.DrawingLemmas.{seen-same}
+use Rattle.rh_painted.proofs.BandLemmas.{band-end, band-some}
+use Rattle.rh_painted.proofs.flex_cards.put_first.Goals as goal
+
+pub loop-k-init : goal.loop-k-init
+loop-k-init g c = λ t e. left_whole _ _
+
+pub loop-k-preserved : goal.loop-k-preserved
+loop-k-preserved g c = λ t e.
+    let d = g.S.Sight.desk c.args.sight.now in
+    let x = scene_at d c.args.step.now in
+    let k = c.loop-k.k in
+    let cs = flex_cards x t in
+    let r = c.requires.task in
+    let are : c.args.blocks.now ≡ block_items t.slot = seen-same (λ u. c.args.blocks.now ≡ block_items u.slot) d.tasks c.args.i r.0 t r.1 e r.3 in
+    let low : k < length cs = omega (arith, flex-long x t (flex_start t.slot) t.slot.blocks, ap length are, c.requires.few, c.loop-k-test.true) in
+    let q = card-at k cs low in
+    let at : slice_get (take c.args.shown cs) k ≡ Some q.card = get-front c.args.shown k cs c.loop-k-test.true ∙ q.is in
+    left_less (c.loop-k.invariant t e) (band-some c.args.form (take c.args.shown cs) k q.card at) (c.in_ok-put_flex.ensures t k q.card e (ap (λ bs. slice_get bs k) (sym are) ∙ (slice_get-get_or c.args.blocks.now k c.index-blocks-k.result (omega (arith, c.requires.few, c.loop-k-test.true)) ∙ ap (λ z. Some z) (sym c.index-blocks-k.is))) q.is).ok
+
+pub returns-in_err-put_flex : goal.returns-in_err-put_flex
+returns-in_err-put_flex g c = λ t e.
+    let d = g.S.Sight.desk c.args.sight.now in
+    let x = scene_at d c.args.step.now in
+    let k = c.loop-k.k in
+    let cs = flex_cards x t in
+    let r = c.requires.task in
+    let are : c.args.blocks.now ≡ block_items t.slot = seen-same (λ u. c.args.blocks.now ≡ block_items u.slot) d.tasks c.args.i r.0 t r.1 e r.3 in
+    let low : k < length cs = omega (arith, flex-long x t (flex_start t.slot) t.slot.blocks, ap length are, c.requires.few, c.loop-k-test.true) in
+    let q = card-at k cs low in
+    let at : slice_get (take c.args.shown cs) k ≡ Some q.card = get-front c.args.shown k cs c.loop-k-test.true ∙ q.is in
+    left_breaks _ _ (c.loop-k.invariant t e) (band-some c.args.form (take c.args.shown cs) k q.card at) (c.in_err-put_flex.ensures t k q.card e (ap (λ bs. slice_get bs k) (sym are) ∙ (slice_get-get_or c.args.blocks.now k c.index-blocks-k.result (omega (arith, c.requires.few, c.loop-k-test.true)) ∙ ap (λ z. Some z) (sym c.index-blocks-k.is))) q.is) c.from_residual.ensures.0
+
+pub returns : goal.returns
+returns g c = λ t e.
+    let cs = take c.args.shown (flex_cards (scene_at (g.S.Sight.desk c.args.sight.now) c.args.step.now) t) in
+    record { ok = left_none (c.loop-k.invariant t e) (band-end c.args.form cs c.loop-k.k (omega (arith, length-take c.args.shown (flex_cards (scene_at (g.S.Sight.desk c.args.sight.now) c.args.step.now) t), c.loop-k-test.false))); err = tt }

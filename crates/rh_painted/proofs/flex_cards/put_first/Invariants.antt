@@ -1,0 +1,15 @@
+use Rattle.std.proofs.Common.{◌≡◌, drop, take}
+use Rattle.std.specs.Prelude.{Some, slice_get}
+use Rattle.rh_defs.specs.Desk.{Task}
+use Rattle.rh_figure.specs.Cards.{flex_cards}
+use Rattle.rh_map.proofs.Left.{Left}
+use Rattle.rh_sight.specs.Steps.{scene_at}
+use Rattle.rh_painted.specs.Bands.{band_text_from}
+use Rattle.rh_painted.proofs.flex_cards.put_first.Given as goal
+
+-- the cards from the place on are left
+abbrev pub invariant-loop-k : goal.invariant-loop-k
+invariant-loop-k g l =
+    (t : Task) → slice_get (g.S.Sight.desk l.sight).tasks l.i ≡ Some t →
+    let cards = take l.shown (flex_cards (scene_at (g.S.Sight.desk l.sight) l.step) t) in
+    Left (g.W.Sink.output l.initial.writer) (g.W.Sink.output l.writer) (band_text_from l.form 0 cards) (band_text_from l.form l.k (drop l.k cards))

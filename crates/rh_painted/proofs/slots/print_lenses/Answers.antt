@@ -1,0 +1,77 @@
+use Rattle.std.proofs.Common.{◌≡◌, ◌+◌, ◌++◌, length, ap, refl, sym, ◌∙◌, arith}
+use Rattle.rh_defs.specs.Heap.{base}
+use Rattle.rh_defs.specs.Slot.{flex_start, heap_start, slot_length}
+use Rattle.rh_figure.specs.Cards.{flex_cards, heap_card, heap_cards}
+use Rattle.rh_figure.specs.Share.{SlotOf}
+use Rattle.rh_sheet.specs.Areas.{lens_above, lens_below}
+use Rattle.rh_sheet.specs.Frames.{Frame}
+use Rattle.rh_sight.specs.declared.sight.PagesOf.TheVariants as pages
+use Rattle.rh_sight.specs.declared.walk.Census.{Census}
+use Rattle.rh_sight.specs.Seen.{IsTaskSeen}
+use Rattle.rh_sight.specs.Steps.{scene_at}
+use Rattle.rh_sight.proofs.Heaps.{task-slot}
+use Rattle.rh_sight.proofs.PieceWalks.{items-long}
+use Rattle.rh_sight.proofs.SlotPieces.{few-blocks}
+use Rattle.rh_drawn.proofs.CardLemmas.{flex-long}
+use Rattle.rh_drawn.proofs.DrawingLemmas.{seen-same}
+use Rattle.rh_drawn.proofs.HeapLemmas.{cards-long}
+use Rattle.rh_drawn.proofs.PageLemmas.{owned-few, owned-slot, seen-slot}
+use Rattle.rh_drawn.proofs.Walks.{puts_same}
+use Rattle.rh_painted.specs.Figures.{IsSlotPlan}
+use Rattle.rh_painted.proofs.LensLemmas.{above-same, below-same}
+use Rattle.rh_painted.proofs.TextPuts.{text_stop, text_then}
+use Rattle.rh_painted.proofs.slots.print_lenses.Goals as goal
+
+pub overflow_cast-count : goal.overflow_cast-count
+overflow_cast-count g c =
+    let r = c.requires.task in
+    let few = few-blocks r.0.slot.blocks (task-slot c.spelled.ensures c.args.plan.now.i r.0 r.1).anchors in
+    omega (arith, few, items-long (flex_start r.0.slot) r.0.slot.blocks, ap length r.3.blocks)
+
+pub print_lens_above-requires-clause-frame : goal.print_lens_above-requires-clause-frame
+print_lens_above-requires-clause-frame g c =
+    let r = c.requires.task in
+    omega (arith, ap (λ (f : Frame). f.pages) r.3.frame)
+
+pub print_lens_above-requires-clause-within : goal.print_lens_above-requires-clause-within
+print_lens_above-requires-clause-within g c =
+    let d = g.S.Sight.desk c.args.sight.now in
+    let x = scene_at d c.args.step.now in
+    let r = c.requires.task in
+    let i = c.args.plan.now.i in
+    let ps = c.args.step.now.pages.now in
+    let few = owned-few c.spelled.ensures ps c.requires.step.shared (pages.Slot i) (SlotOf r.0.handle) (seen-slot c.spelled.ensures i r.0 r.1) c.requires.step.all in
+    omega (arith, ap (λ (f : Frame). f.pages) r.3.frame, few, owned-slot c.spelled.ensures ps c.requires.step.shared i r.0 r.1, c.flex_end-high.ensures x r.0 r.3.plot)
+
+pub returns-in_err-print_lens_above : goal.returns-in_err-print_lens_above
+returns-in_err-print_lens_above g c = λ t e.
+    let d = g.S.Sight.desk c.args.sight.now in
+    let x = scene_at d c.args.step.now in
+    let r = c.requires.task in
+    let i = c.args.plan.now.i in
+    let seen = seen-same (IsTaskSeen c.args.task.now) d.tasks i r.0 t r.1 e r.2 in
+    let p = seen-same (λ u. IsSlotPlan x u c.args.plan.now) d.tasks i r.0 t r.1 e r.3 in
+    let f = c.args.plan.now.frame in
+    let flex : f.above ≡ length (flex_cards x t) = ap (λ (z : Frame). z.above) p.frame in
+    let heap : f.below ≡ length (heap_cards x t) = ap (λ (z : Frame). z.below) p.frame in
+    let blocks : length c.args.plan.now.blocks.now ≡ f.above = ap length p.blocks ∙ (sym (flex-long x t (flex_start t.slot) t.slot.blocks) ∙ sym flex) in
+    let count : c.args.plan.now.census.count ≡ f.below = ap (λ (z : Census). z.count) p.census ∙ (sym (cards-long (heap_card x t) (heap_start + 16) t.slot.heap.segments) ∙ sym heap) in
+    let end : c.args.plan.now.census.end ≡ base t.slot.heap = ap (λ (z : Census). z.end) p.census in
+    text_stop _ (lens_above f (256 + t.slot.heap.end) (slot_length t.slot) f.above) (lens_below f (256 + 16) (256 + base t.slot.heap) f.below) (puts_same (above-same f (ap (λ n. 256 + n) seen.heap_end) (c.flex_end-high.ensures x t p.plot) blocks) c.in_err-print_lens_above.ensures) c.from_residual.ensures.0
+
+pub returns : goal.returns
+returns g c = λ t e.
+    let d = g.S.Sight.desk c.args.sight.now in
+    let x = scene_at d c.args.step.now in
+    let r = c.requires.task in
+    let i = c.args.plan.now.i in
+    let seen = seen-same (IsTaskSeen c.args.task.now) d.tasks i r.0 t r.1 e r.2 in
+    let p = seen-same (λ u. IsSlotPlan x u c.args.plan.now) d.tasks i r.0 t r.1 e r.3 in
+    let f = c.args.plan.now.frame in
+    let flex : f.above ≡ length (flex_cards x t) = ap (λ (z : Frame). z.above) p.frame in
+    let heap : f.below ≡ length (heap_cards x t) = ap (λ (z : Frame). z.below) p.frame in
+    let blocks : length c.args.plan.now.blocks.now ≡ f.above = ap length p.blocks ∙ (sym (flex-long x t (flex_start t.slot) t.slot.blocks) ∙ sym flex) in
+    let count : c.args.plan.now.census.count ≡ f.below = ap (λ (z : Census). z.count) p.census ∙ (sym (cards-long (heap_card x t) (heap_start + 16) t.slot.heap.segments) ∙ sym heap) in
+    let end : c.args.plan.now.census.end ≡ base t.slot.heap = ap (λ (z : Census). z.end) p.census in
+    text_then (lens_above f (256 + t.slot.heap.end) (slot_length t.slot) f.above) (lens_below f (256 + 16) (256 + base t.slot.heap) f.below) (puts_same (above-same f (ap (λ n. 256 + n) seen.heap_end) (c.flex_end-high.ensures x t p.plot) blocks) c.in_ok-print_lens_above.ensures)
+    (puts_same (below-same f refl (ap (λ n. 256 + n) end) count) c.print_lens_below.ensures)

@@ -1,0 +1,39 @@
+use Rattle.std.proofs.Common.{◌<◌, length, refl, arith}
+use Rattle.std.specs.List.{flat_map}
+use Rattle.std.proofs.lemmas.Option.{slice_get_within}
+use Rattle.rh_map.proofs.Left.{left_breaks, left_less, left_none}
+use Rattle.rh_sheet.specs.Steps.{slot_part}
+use Rattle.rh_sight.specs.Steps.{scene_at}
+use Rattle.rh_painted.proofs.TextWalks.{text-none, text-some}
+use Rattle.rh_painted.proofs.slots.print_slots.Goals as goal
+
+pub tasks-preserved : goal.tasks-preserved
+tasks-preserved g c =
+    let d = g.S.Sight.desk c.args.sight.now in
+    let x = scene_at d c.args.step.now in
+    let r = c.in-Some.ensures.some in
+    left_less c.tasks.invariant (text-some (flat_map (slot_part x)) (slot_part x) (λ t rest. refl) d.tasks c.tasks.i r.0 r.1) (c.in_ok-print_slot.ensures r.0 r.1).ok
+
+pub returns-in_err-print_slot : goal.returns-in_err-print_slot
+returns-in_err-print_slot g c =
+    let d = g.S.Sight.desk c.args.sight.now in
+    let x = scene_at d c.args.step.now in
+    let r = c.in-Some.ensures.some in
+    left_breaks _ _ c.tasks.invariant (text-some (flat_map (slot_part x)) (slot_part x) (λ t rest. refl) d.tasks c.tasks.i r.0 r.1) (c.in_err-print_slot.ensures r.0 r.1) c.from_residual.ensures.0
+
+pub returns : goal.returns
+returns g c =
+    let d = g.S.Sight.desk c.args.sight.now in
+    let x = scene_at d c.args.step.now in
+    record { ok = left_none c.tasks.invariant (text-none (flat_map (slot_part x)) refl d.tasks c.tasks.i c.in_default.ensures.none); err = tt }
+
+pub overflow_add-i : goal.overflow_add-i
+overflow_add-i g c =
+    let s = c.in-Some.ensures.some in
+    omega (arith, c.in-Some.ensures.few, slice_get_within (g.S.Sight.desk c.args.sight.now).tasks c.tasks.i s.0 s.1)
+
+pub tasks-smaller : goal.tasks-smaller
+tasks-smaller g c =
+    let s = c.in-Some.ensures.some in
+    let inside : c.tasks.i < length (g.S.Sight.desk c.args.sight.now).tasks = slice_get_within (g.S.Sight.desk c.args.sight.now).tasks c.tasks.i s.0 s.1 in
+    omega arith

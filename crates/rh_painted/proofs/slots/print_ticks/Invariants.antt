@@ -1,0 +1,9 @@
+use Rattle.std.proofs.Common.{drop}
+use Rattle.rh_map.proofs.Left.{Left}
+use Rattle.rh_sheet.specs.Areas.{ticks_text}
+use Rattle.rh_painted.proofs.slots.print_ticks.Given as goal
+
+-- the blocks from the place on are left
+abbrev pub invariant-loop-block : goal.invariant-loop-block
+invariant-loop-block g l =
+    Left (g.W.Sink.output l.initial.writer) (g.W.Sink.output l.writer) (ticks_text l.y l.blocks) (ticks_text l.y (drop l.block-index l.blocks))
