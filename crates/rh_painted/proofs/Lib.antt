@@ -1,0 +1,4 @@
+mod WalkLemmas
+mod LineLemmas
+mod SheetLemmas
+mod RunLemmas
