@@ -3,7 +3,7 @@
 ghost use Rattle.std.specs.Prelude.{◌≡◌, IfOk, IfSome, codes, false, map, string_bytes};
 ghost use Rattle.clap.specs.Words.{FailsBy, app_of, fault_of, found_of, one_of, rows_of, rule_of, subcommand_of, subcommand_rows_of};
 ghost use Rattle.rh_desk.specs.CommandLine.{check_words, files_rule, marked_rule, needed_rule, pages_rule, picture_words, program_words, run_words};
-ghost use Rattle.rh_desk.specs.Requests.{AsksFor, AsksKind, AsksNothing, AsksShown};
+ghost use Rattle.rh_desk.specs.Requests.{AsksFor, AsksKind, AsksMarked, AsksNothing, AsksShown};
 
 use crate::request::{ImageKind, Request, RunRequest, Shown};
 use clap::{Arg, ArgAction, ArgMatches, Command, Error, value_parser};
@@ -82,15 +82,22 @@ fn shown_of(name: &str, found: &ArgMatches<'_>) -> Shown
 {
     if name == "map" {
         Shown::Map {
-            marked: found.get_flag("marked"),
+            marked: is_marked(found),
         }
     } else if name == "draw" {
         Shown::Sheet {
-            marked: found.get_flag("marked"),
+            marked: is_marked(found),
         }
     } else {
         Shown::Replies
     }
+}
+
+/// Whether marked steps alone are to be shown.
+fn is_marked(found: &ArgMatches<'_>) -> bool
+    ensures { AsksMarked (one_of (codes "marked") (rows_of (found_of found.now))) result }
+{
+    found.get_flag("marked")
 }
 
 /// The words, as far as `clap` knows them.

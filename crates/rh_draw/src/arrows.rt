@@ -119,8 +119,8 @@ fn print_arrow<W: Sink>(frame: &Row, way: &Row, writer: &mut W) -> Result<(), Wr
     print_path(b"slide", way, writer)
 }
 
-/// Writes the arrow of the first of some slides, where both its places have a row. Fails only where the writer failed or
-/// took none of what it was offered; a front of the elements is then written.
+/// Writes the arrow of the first of some slides, where both its places have a row. Fails only where the writer failed
+/// or took none of what it was offered; a front of the elements is then written.
 pub fn print_slide_arrow<W: Sink>(
     frame: Frame,
     first: Slide,

@@ -38,8 +38,8 @@ fn add_box_begin(row: &mut Row, class: &[u8], at: Extent)
     add_number_attribute(row, b"height", at.height);
 }
 
-/// Writes a rectangle, with a tip where that isn't empty. Fails only where the writer failed or took none of what it was
-/// offered; a front of the element is then written.
+/// Writes a rectangle, with a tip where that isn't empty. Fails only where the writer failed or took none of what it
+/// was offered; a front of the element is then written.
 pub fn print_box<W: Sink>(
     class: &[u8],
     at: Extent,
@@ -73,8 +73,8 @@ fn add_words_begin(row: &mut Row, class: &[u8], x: u32, y: u32)
     row.byte(b'>');
 }
 
-/// Writes words at a place of a figure, where there are some. Fails only where the writer failed or took none of what it
-/// was offered; a front of the element is then written.
+/// Writes words at a place of a figure, where there are some. Fails only where the writer failed or took none of what
+/// it was offered; a front of the element is then written.
 pub fn print_words<W: Sink>(
     class: &[u8],
     x: u32,

@@ -43,9 +43,9 @@ pub fn print_lens<W: Sink>(
     print_path(b"lens", &way, writer)
 }
 
-/// Writes what leads from the first row of an area, between two of its bytes, to n cards below, where there are some and
-/// all those bytes are in that row. Fails only where the writer failed or took none of what it was offered; a front of
-/// the element is then written.
+/// Writes what leads from the first row of an area, between two of its bytes, to n cards below, where there are some
+/// and all those bytes are in that row. Fails only where the writer failed or took none of what it was offered; a front
+/// of the element is then written.
 pub fn print_lens_below<W: Sink>(
     frame: Frame,
     low: usize,
@@ -105,8 +105,8 @@ pub fn print_lens_above<W: Sink>(
     )
 }
 
-/// Writes a tick in an anchor word, in a row at a height. Fails only where the writer failed or took none of what it was
-/// offered; a front of the element is then written.
+/// Writes a tick in an anchor word, in a row at a height. Fails only where the writer failed or took none of what it
+/// was offered; a front of the element is then written.
 pub fn print_tick<W: Sink>(y: u32, anchor: u32, writer: &mut W) -> Result<(), WriteFailed>
     requires { anchor < 64 }
     ensures { Puts (W.output writer.old) (W.output writer.new) result (tick_text y anchor) }

@@ -207,7 +207,9 @@ pub fn fitting(kind: Kind, size: u32, width: u32) -> Row
 /// The short label, where the part is all of the piece and has room for it.
 fn short_fitting(kind: Kind, size: u32, width: u32) -> Row
     requires { width ≤ 1024 }
-    ensures value { result ≡ where_so (UNIT_BYTES * width == size && has_room_for SHORT_EDGE (short_label_of kind size) width) (short_label_of kind size) }
+    ensures value { result ≡ where_so
+        (UNIT_BYTES * width == size && has_room_for SHORT_EDGE (short_label_of kind size) width)
+        (short_label_of kind size) }
     ensures few { length result ≤ 11 }
 {
     let mut label = Row::new();
@@ -269,7 +271,8 @@ fn print_piece_box<W: Sink>(
     requires page { k < 2 ^ 20 }
     requires piece { IsDrawable piece.now }
     requires there { low_byte_in k piece.now < high_byte_in k piece.now }
-    ensures { Puts (W.output writer.old) (W.output writer.new) result (box_text (piece_box start (tint_class tint) y k piece.now)) }
+    ensures { Puts (W.output writer.old) (W.output writer.new) result
+        (box_text (piece_box start (tint_class tint) y k piece.now)) }
 {
     let class = classes_of(tint, piece.kind, piece.fresh);
     let mut tip = Row::new();
@@ -341,7 +344,8 @@ pub fn print_piece<W: Sink>(
     requires height { y ≤ 800 }
     requires page { k < 2 ^ 17 }
     requires piece { IsDrawable piece.now }
-    ensures { Puts (W.output writer.old) (W.output writer.new) result (piece_text start (tint_class tint) y k piece.now) }
+    ensures { Puts (W.output writer.old) (W.output writer.new) result
+        (piece_text start (tint_class tint) y k piece.now) }
 {
     if low_in(k, piece) < high_in(k, piece) {
         print_part(start, tint, y, k, piece, writer)
@@ -364,7 +368,8 @@ pub fn print_pieces<W: Sink>(
     requires height { y ≤ 800 }
     requires page { k < 2 ^ 17 }
     requires pieces { AreDrawable pieces.now }
-    ensures { Puts (W.output writer.old) (W.output writer.new) result (pieces_text start (tint_class tint) y k pieces.now) }
+    ensures { Puts (W.output writer.old) (W.output writer.new) result
+        (pieces_text start (tint_class tint) y k pieces.now) }
 {
     let mut rest = pieces;
     while let Some((piece, others)) = rest.split_first() {

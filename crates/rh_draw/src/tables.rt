@@ -189,7 +189,11 @@ pub fn print_transfer_row<W: Sink>(
     writer: &mut W,
 ) -> Result<(), WriteFailed>
     ensures { Puts (W.output writer.old) (W.output writer.new) result
-        (transfer_row (record { id = id; goes_out = option_map side_of goes_out.now; comes_in = option_map side_of comes_in.now })) }
+        (transfer_row (record {
+          id = id;
+          goes_out = option_map side_of goes_out.now;
+          comes_in = option_map side_of comes_in.now;
+        })) }
 {
     put(writer, b"<tr>")?;
     print_id_cell(id, writer)?;

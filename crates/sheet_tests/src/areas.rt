@@ -9,15 +9,6 @@ use rh_figure::{Kind, Piece};
 use rh_lines::Flagged;
 use rh_sheet::Frame;
 
-fn piece(kind: Kind, at: usize, size: usize, fresh: bool) -> Piece {
-    Piece {
-        kind,
-        at,
-        size,
-        fresh,
-    }
-}
-
 #[test]
 fn rows_of_a_slot(rt: HostRuntime) {
     let mut writer = Flagged::new(Vec::<u8>::new(rt.alloc()));
@@ -30,8 +21,18 @@ fn rows_of_a_slot(rt: HostRuntime) {
         start: 0x8000,
         pages: &[6, 5],
         pieces: &[
-            piece(Kind::FreeTop, 272, 3824, false),
-            piece(Kind::FlexBlock { anchor: 0, size: 5 }, 4096, 16, true),
+            Piece {
+                kind: Kind::FreeTop,
+                at: 272,
+                size: 3824,
+                fresh: false,
+            },
+            Piece {
+                kind: Kind::FlexBlock { anchor: 0, size: 5 },
+                at: 4096,
+                size: 16,
+                fresh: true,
+            },
         ],
         tint: Tint::Slot(1),
     };

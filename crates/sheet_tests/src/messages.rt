@@ -83,21 +83,22 @@ fn arrows(rt: HostRuntime) {
     same(&rt, written.as_slice(), wanted.as_slice());
 }
 
+fn entry(code: EventCode) -> MessageEntry {
+    MessageEntry {
+        my_ref: Ref(1),
+        action: Action::DataSave,
+        code,
+    }
+}
+
 #[test]
 fn tables(rt: HostRuntime) {
     let mut writer = Flagged::new(Vec::<u8>::new(rt.alloc()));
-    let entry = MessageEntry {
-        my_ref: Ref(1),
-        action: Action::DataSave,
-        code: EventCode::Recorded,
-    };
-    let back = MessageEntry {
-        code: EventCode::Acknowledge,
-        ..entry
-    };
+    let waiting = [entry(EventCode::Acknowledge), entry(EventCode::Recorded)];
+    let held = Some(entry(EventCode::Recorded));
     same(
         &rt,
-        print_letterbox_row(b"b", Some(entry), &[back, entry], 14, &mut writer),
+        print_letterbox_row(b"b", held, &waiting, 14, &mut writer),
         Ok(()),
     );
     let name = Name::new(b"a").expect(&rt, "a name of 1 to 12 bytes");

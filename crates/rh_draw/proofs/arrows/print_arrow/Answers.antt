@@ -13,7 +13,15 @@ returns-in_err-print_path-2 g c =
 
 pub returns-in_err-print_path-3 : goal.returns-in_err-print_path-3
 returns-in_err-print_path-3 g c =
-    puts_stops _ (puts_more _ _ _ c.in_ok-print_path.ensures (puts_more _ _ _ c.in_ok-print_path-2.ensures (puts_before _ c.in_err-print_path-3.ensures refl))) c.from_residual-in_err-print_path-3.ensures.0
+    puts_stops _
+    (puts_more _ _ _ c.in_ok-print_path.ensures
+    (puts_more _ _ _ c.in_ok-print_path-2.ensures
+    (puts_before _ c.in_err-print_path-3.ensures refl)))
+    c.from_residual-in_err-print_path-3.ensures.0
 
 pub returns : goal.returns
-returns g c = puts_more _ _ _ c.in_ok-print_path.ensures (puts_more _ _ _ c.in_ok-print_path-2.ensures (puts_more _ _ _ c.in_ok-print_path-3.ensures (puts-last c.print_path-4.ensures)))
+returns g c =
+    puts_more _ _ _ c.in_ok-print_path.ensures
+    (puts_more _ _ _ c.in_ok-print_path-2.ensures
+    (puts_more _ _ _ c.in_ok-print_path-3.ensures
+    (puts-last c.print_path-4.ensures)))

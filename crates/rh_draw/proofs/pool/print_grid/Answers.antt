@@ -12,11 +12,24 @@ returns-in_err-print_whole_rows g c =
 
 pub returns-in_err-print_rest_row : goal.returns-in_err-print_rest_row
 returns-in_err-print_rest_row g c =
-    puts_stops _ (puts_more _ _ _ c.in_ok-put.ensures (puts_more _ _ _ c.in_ok-print_whole_rows.ensures (puts_before _ c.in_err-print_rest_row.ensures refl))) c.from_residual-in_err-print_rest_row.ensures.0
+    puts_stops _
+    (puts_more _ _ _ c.in_ok-put.ensures
+    (puts_more _ _ _ c.in_ok-print_whole_rows.ensures
+    (puts_before _ c.in_err-print_rest_row.ensures refl)))
+    c.from_residual-in_err-print_rest_row.ensures.0
 
 pub returns-in_err-print_numbers : goal.returns-in_err-print_numbers
 returns-in_err-print_numbers g c =
-    puts_stops _ (puts_more _ _ _ c.in_ok-put.ensures (puts_more _ _ _ c.in_ok-print_whole_rows.ensures (puts_more _ _ _ c.in_ok-print_rest_row.ensures (puts_before _ c.in_err-print_numbers.ensures refl)))) c.from_residual-in_err-print_numbers.ensures.0
+    puts_stops _
+    (puts_more _ _ _ c.in_ok-put.ensures
+    (puts_more _ _ _ c.in_ok-print_whole_rows.ensures
+    (puts_more _ _ _ c.in_ok-print_rest_row.ensures
+    (puts_before _ c.in_err-print_numbers.ensures refl))))
+    c.from_residual-in_err-print_numbers.ensures.0
 
 pub returns : goal.returns
-returns g c = puts_more _ _ _ c.in_ok-put.ensures (puts_more _ _ _ c.in_ok-print_whole_rows.ensures (puts_more _ _ _ c.in_ok-print_rest_row.ensures (puts_more _ _ _ c.in_ok-print_numbers.ensures c.put-2.ensures)))
+returns g c =
+    puts_more _ _ _ c.in_ok-put.ensures
+    (puts_more _ _ _ c.in_ok-print_whole_rows.ensures
+    (puts_more _ _ _ c.in_ok-print_rest_row.ensures
+    (puts_more _ _ _ c.in_ok-print_numbers.ensures c.put-2.ensures)))

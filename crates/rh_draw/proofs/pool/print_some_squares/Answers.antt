@@ -8,7 +8,10 @@ returns-in_err-print_squares_begin g c =
 
 pub returns-in_err-print_ways : goal.returns-in_err-print_ways
 returns-in_err-print_ways g c =
-    puts_stops _ (puts_more _ _ _ c.in_ok-print_squares_begin.ensures (puts_before _ c.in_err-print_ways.ensures refl)) c.from_residual-in_err-print_ways.ensures.0
+    puts_stops _
+    (puts_more _ _ _ c.in_ok-print_squares_begin.ensures
+    (puts_before _ c.in_err-print_ways.ensures refl))
+    c.from_residual-in_err-print_ways.ensures.0
 
 pub returns : goal.returns
 returns g c = puts_more _ _ _ c.in_ok-print_squares_begin.ensures (puts_more _ _ _ c.in_ok-print_ways.ensures c.put_between.ensures)

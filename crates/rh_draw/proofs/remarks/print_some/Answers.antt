@@ -12,11 +12,24 @@ returns-in_err-put-2 g c =
 
 pub returns-in_err-put-3 : goal.returns-in_err-put-3
 returns-in_err-put-3 g c =
-    puts_stops _ (puts_more _ _ _ c.in_ok-put.ensures (puts_more _ _ _ c.in_ok-put-2.ensures (puts_before _ c.in_err-put-3.ensures refl))) c.from_residual-in_err-put-3.ensures.0
+    puts_stops _
+    (puts_more _ _ _ c.in_ok-put.ensures
+    (puts_more _ _ _ c.in_ok-put-2.ensures
+    (puts_before _ c.in_err-put-3.ensures refl)))
+    c.from_residual-in_err-put-3.ensures.0
 
 pub returns-in_err-put_remark : goal.returns-in_err-put_remark
 returns-in_err-put_remark g c =
-    puts_stops _ (puts_more _ _ _ c.in_ok-put.ensures (puts_more _ _ _ c.in_ok-put-2.ensures (puts_more _ _ _ c.in_ok-put-3.ensures (puts_before _ c.in_err-put_remark.ensures refl)))) c.from_residual-in_err-put_remark.ensures.0
+    puts_stops _
+    (puts_more _ _ _ c.in_ok-put.ensures
+    (puts_more _ _ _ c.in_ok-put-2.ensures
+    (puts_more _ _ _ c.in_ok-put-3.ensures
+    (puts_before _ c.in_err-put_remark.ensures refl))))
+    c.from_residual-in_err-put_remark.ensures.0
 
 pub returns : goal.returns
-returns g c = puts_more _ _ _ c.in_ok-put.ensures (puts_more _ _ _ c.in_ok-put-2.ensures (puts_more _ _ _ c.in_ok-put-3.ensures (puts_more _ _ _ c.in_ok-put_remark.ensures c.put-4.ensures)))
+returns g c =
+    puts_more _ _ _ c.in_ok-put.ensures
+    (puts_more _ _ _ c.in_ok-put-2.ensures
+    (puts_more _ _ _ c.in_ok-put-3.ensures
+    (puts_more _ _ _ c.in_ok-put_remark.ensures c.put-4.ensures)))

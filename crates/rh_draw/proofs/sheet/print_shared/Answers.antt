@@ -12,7 +12,11 @@ returns-in_err-put_signs g c =
 
 pub returns-in_err-print_grid : goal.returns-in_err-print_grid
 returns-in_err-print_grid g c =
-    puts_stops _ (puts_more _ _ _ c.in_ok-put.ensures (puts_more _ _ _ c.in_ok-put_signs.ensures (puts_before _ c.in_err-print_grid.ensures refl))) c.from_residual-in_err-print_grid.ensures.0
+    puts_stops _
+    (puts_more _ _ _ c.in_ok-put.ensures
+    (puts_more _ _ _ c.in_ok-put_signs.ensures
+    (puts_before _ c.in_err-print_grid.ensures refl)))
+    c.from_residual-in_err-print_grid.ensures.0
 
 pub returns : goal.returns
 returns g c = puts_more _ _ _ c.in_ok-put.ensures (puts_more _ _ _ c.in_ok-put_signs.ensures (puts_more _ _ _ c.in_ok-print_grid.ensures c.put-2.ensures))

@@ -12,11 +12,24 @@ returns-in_err-put_escaped g c =
 
 pub returns-in_err-put-2 : goal.returns-in_err-put-2
 returns-in_err-put-2 g c =
-    puts_stops _ (puts_more _ _ _ c.in_ok-put.ensures (puts_more _ _ _ c.in_ok-put_escaped.ensures (puts_before _ c.in_err-put-2.ensures refl))) c.from_residual-in_err-put-2.ensures.0
+    puts_stops _
+    (puts_more _ _ _ c.in_ok-put.ensures
+    (puts_more _ _ _ c.in_ok-put_escaped.ensures
+    (puts_before _ c.in_err-put-2.ensures refl)))
+    c.from_residual-in_err-put-2.ensures.0
 
 pub returns-in_err-put_style : goal.returns-in_err-put_style
 returns-in_err-put_style g c =
-    puts_stops _ (puts_more _ _ _ c.in_ok-put.ensures (puts_more _ _ _ c.in_ok-put_escaped.ensures (puts_more _ _ _ c.in_ok-put-2.ensures (puts_before _ c.in_err-put_style.ensures refl)))) c.from_residual-in_err-put_style.ensures.0
+    puts_stops _
+    (puts_more _ _ _ c.in_ok-put.ensures
+    (puts_more _ _ _ c.in_ok-put_escaped.ensures
+    (puts_more _ _ _ c.in_ok-put-2.ensures
+    (puts_before _ c.in_err-put_style.ensures refl))))
+    c.from_residual-in_err-put_style.ensures.0
 
 pub returns : goal.returns
-returns g c = puts_more _ _ _ c.in_ok-put.ensures (puts_more _ _ _ c.in_ok-put_escaped.ensures (puts_more _ _ _ c.in_ok-put-2.ensures (puts_more _ _ _ c.in_ok-put_style.ensures c.put-3.ensures)))
+returns g c =
+    puts_more _ _ _ c.in_ok-put.ensures
+    (puts_more _ _ _ c.in_ok-put_escaped.ensures
+    (puts_more _ _ _ c.in_ok-put-2.ensures
+    (puts_more _ _ _ c.in_ok-put_style.ensures c.put-3.ensures)))

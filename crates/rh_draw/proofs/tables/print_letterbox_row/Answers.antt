@@ -12,11 +12,24 @@ returns-in_err-print_cell g c =
 
 pub returns-in_err-print_held : goal.returns-in_err-print_held
 returns-in_err-print_held g c =
-    puts_stops _ (puts_more _ _ _ c.in_ok-put.ensures (puts_more _ _ _ c.in_ok-print_cell.ensures (puts_before _ c.in_err-print_held.ensures refl))) c.from_residual-in_err-print_held.ensures.0
+    puts_stops _
+    (puts_more _ _ _ c.in_ok-put.ensures
+    (puts_more _ _ _ c.in_ok-print_cell.ensures
+    (puts_before _ c.in_err-print_held.ensures refl)))
+    c.from_residual-in_err-print_held.ensures.0
 
 pub returns-in_err-print_waits : goal.returns-in_err-print_waits
 returns-in_err-print_waits g c =
-    puts_stops _ (puts_more _ _ _ c.in_ok-put.ensures (puts_more _ _ _ c.in_ok-print_cell.ensures (puts_more _ _ _ c.in_ok-print_held.ensures (puts_before _ c.in_err-print_waits.ensures refl)))) c.from_residual-in_err-print_waits.ensures.0
+    puts_stops _
+    (puts_more _ _ _ c.in_ok-put.ensures
+    (puts_more _ _ _ c.in_ok-print_cell.ensures
+    (puts_more _ _ _ c.in_ok-print_held.ensures
+    (puts_before _ c.in_err-print_waits.ensures refl))))
+    c.from_residual-in_err-print_waits.ensures.0
 
 pub returns : goal.returns
-returns g c = puts_more _ _ _ c.in_ok-put.ensures (puts_more _ _ _ c.in_ok-print_cell.ensures (puts_more _ _ _ c.in_ok-print_held.ensures (puts_more _ _ _ c.in_ok-print_waits.ensures c.put-2.ensures)))
+returns g c =
+    puts_more _ _ _ c.in_ok-put.ensures
+    (puts_more _ _ _ c.in_ok-print_cell.ensures
+    (puts_more _ _ _ c.in_ok-print_held.ensures
+    (puts_more _ _ _ c.in_ok-print_waits.ensures c.put-2.ensures)))

@@ -31,7 +31,7 @@ pub excerpt_answer-count-requires : goal.excerpt_answer-count-requires
 unfolding in_range
 excerpt_answer-count-requires g c =
     let P : Command → Type 0 = λ z. IsTrue (in_range z) in
-    subst P c.in-Ask.is c.requires
+    subst P c.in-Ask.is c.requires.in_range
 
 pub returns-in-Ask-clause-excerpt : goal.returns-in-Ask-clause-excerpt
 unfolding in_range
@@ -42,7 +42,7 @@ returns-in-Ask-clause-excerpt g c =
     let R : Command → Type 0 = λ z. IsTrue (in_range z) in
     let P : Command → Type 0 = λ z. Excerpts front count (reply_to d z) in
     let Q : List ℕ → Type 0 = λ z. Excerpts front count z in
-    subst P (sym c.in-Ask.is) (subst Q (sym (question-text d _ (subst R c.in-Ask.is c.requires))) c.excerpt_answer-count.ensures)
+    subst P (sym c.in-Ask.is) (subst Q (sym (question-text d _ (subst R c.in-Ask.is c.requires.in_range))) c.excerpt_answer-count.ensures)
 
 pub returns-clause-reply : goal.returns-clause-reply
 returns-clause-reply g c =
