@@ -7,3 +7,8 @@ mod WalkLemmas
 mod LineLemmas
 mod SheetLemmas
 mod RunLemmas
+mod NumberLemmas
+mod WayLemmas
+mod NoteLemmas
+mod TableLemmas
+mod ChartLemmas
