@@ -3,6 +3,8 @@ pub mod TextPuts
 pub mod BandLemmas
 pub mod SlotLemmas
 pub mod LensLemmas
+pub mod ElementLemmas
+pub mod OwnerLemmas
 mod WalkLemmas
 mod LineLemmas
 mod SheetLemmas
