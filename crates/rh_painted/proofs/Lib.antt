@@ -3,7 +3,14 @@ pub mod TextPuts
 pub mod BandLemmas
 pub mod SlotLemmas
 pub mod LensLemmas
+pub mod ElementLemmas
+pub mod OwnerLemmas
 mod WalkLemmas
 mod LineLemmas
 mod SheetLemmas
 mod RunLemmas
+mod NumberLemmas
+mod WayLemmas
+mod NoteLemmas
+mod TableLemmas
+mod ChartLemmas

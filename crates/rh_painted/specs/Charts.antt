@@ -1,15 +1,22 @@
 -- Charts by what is kept of them.
-use Rattle.std.specs.Prelude.{◌≤◌, length}
+use Rattle.std.specs.Prelude.{◌≡◌, ◌≤◌, ◌<◌, length}
 use Rattle.rh_draw.specs.declared.chart.Ends.{Ends}
 use Rattle.rh_painted.specs.declared.chart.Chart.{Chart}
 use Rattle.rh_painted.specs.declared.numbers.TheConstants.{MOST_NUMBERS}
 use Rattle.rh_painted.specs.declared.ways.Way.{Way}
-use Rattle.rh_sheet.specs.Chart.{step_y, task_x}
+use Rattle.rh_painted.specs.Ways.{arrows_seen}
+use Rattle.rh_sheet.specs.Chart.{step_y, steps_in, task_x, tasks_in}
 
 -- a chart has as few tasks and steps as that of the last messages
 pub record IsSmall (c : Chart) : Type 0 where
   pub tasks : length c.tasks.now ≤ MOST_NUMBERS
   pub steps : length c.steps.now ≤ MOST_NUMBERS
+
+-- it has arrows, and their tasks and steps
+pub record IsWhole (c : Chart) : Type 0 where
+  pub some : 0 < length c.ways.now
+  pub tasks : c.tasks.now ≡ tasks_in (arrows_seen c.ways.now)
+  pub steps : c.steps.now ≡ steps_in (arrows_seen c.ways.now)
 
 -- where an arrow begins and ends
 abbrev pub ends_of : Chart → Way → Ends

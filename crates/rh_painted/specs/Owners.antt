@@ -6,7 +6,7 @@ use Rattle.rh_draw.specs.declared.tints.Tint.{Tint}
 use Rattle.rh_draw.specs.declared.tints.Tint.TheVariants as tint
 use Rattle.rh_figure.specs.Phrases.{Text, area_name, owner_name}
 use Rattle.rh_figure.specs.Share as share
-use Rattle.rh_figure.specs.Share.{Holding, holdings}
+use Rattle.rh_figure.specs.Share.{Holding, count_of, holdings}
 use Rattle.rh_sheet.specs.Owners.{area_tag, slot_tag, owner_tag}
 use Rattle.rh_sight.specs.Seen.{owner_seen}
 use Rattle.rh_painted.specs.declared.owners.Named.{Named}
@@ -35,9 +35,10 @@ tint_seen (Slot handle name) = tint.Slot handle
 abbrev pub holding_seen : OwnerSight → Holding
 holding_seen o = (who_seen o.named, o.count)
 
--- an owner of a desk as it is seen: its pages are found, and its name and tag are right
+-- an owner of a desk as it is seen: its pages are found and counted, and its name and tag are right
 pub record IsOwnerOf (d : Desk) (o : OwnerSight) : Type 0 where
   pub place : owner_seen o.place d ≡ Some (who_seen o.named)
+  pub count : o.count ≡ count_of (who_seen o.named) (holdings d)
   pub name : name_seen o.named ≡ owner_name d (who_seen o.named)
   pub tag : tag_seen o.named ≡ owner_tag d (who_seen o.named)
 

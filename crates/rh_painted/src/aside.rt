@@ -45,5 +45,8 @@ fn has_aside<S: Sight>(sight: &S, step: &Step<'_>, notes: &[Note]) -> bool
     ensures { result ≡ has_aside_at (scene_at (S.desk sight.now) step.now) notes.now }
 {
     sight.spelled();
-    !notes.is_empty() || has_letterboxes(sight, step.messages) || has_transfers(sight)
+    if !notes.is_empty() {
+        return true;
+    }
+    has_letterboxes(sight, step.messages) || has_transfers(sight)
 }

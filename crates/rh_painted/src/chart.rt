@@ -4,10 +4,10 @@ ghost use Rattle.std.specs.Prelude.{◌≡◌, ◌≤◌, ◌+◌, ◌++◌, len
 ghost use Rattle.std.specs.List.{flat_map};
 ghost use Rattle.rh_lines.specs.Flow.{Puts};
 ghost use Rattle.rh_lines.specs.declared.row.TheConstants.{ROW};
-ghost use Rattle.rh_painted.specs.Charts.{AreNear, IsSmall, ends_of};
+ghost use Rattle.rh_painted.specs.Charts.{AreNear, IsSmall, IsWhole, ends_of};
 ghost use Rattle.rh_painted.specs.Ways.{arrow_of, arrows_seen};
 ghost use Rattle.rh_painted.specs.declared.numbers.TheConstants.{MOST_NUMBERS};
-ghost use Rattle.rh_sheet.specs.Chart.{arrow_path, arrow_sentence, arrow_words, beat_text, chart_body, chart_figure, chart_foot as foot_of, is_now as is_now_of, life_of, step_y as step_y_of, stop_sentence, task_gap as gap_of, task_x as task_x_of};
+ghost use Rattle.rh_sheet.specs.Chart.{arrow_path, arrow_sentence, arrow_words, beat_text, chart_body, chart_figure, chart_foot as foot_of, chart_of, is_now as is_now_of, life_of, step_y as step_y_of, stop_sentence, task_gap as gap_of, task_x as task_x_of};
 ghost use Rattle.rh_sheet.specs.Markup.{escape};
 ghost use Rattle.rh_sheet.specs.declared.sizes.TheConstants.{MOST_NOTES};
 
@@ -58,11 +58,25 @@ pub fn print_chart<S: Sight, W: Sink>(
         steps: &steps,
         step: number,
     };
+    print_whole(sight, &chart, writer)
+}
+
+/// Writes a chart that has arrows.
+fn print_whole<S: Sight, W: Sink>(
+    sight: &S,
+    chart: &Chart<'_>,
+    writer: &mut W,
+) -> Result<(), WriteFailed>
+    requires small { IsSmall chart.now }
+    requires whole { IsWhole chart.now }
+    ensures { Puts (W.output writer.old) (W.output writer.new) result
+        (chart_of (S.desk sight.now) (arrows_seen chart.now.ways.now) chart.now.step) }
+{
     let height = chart.foot() + CHART_EDGE;
     print_figure_open(CHART_WIDTH, height, b"Messages between the tasks", writer)?;
-    print_sentences(sight, &ways, writer)?;
+    print_sentences(sight, chart.ways, writer)?;
     print_described(writer)?;
-    print_chart_body(sight, &chart, writer)?;
+    print_chart_body(sight, chart, writer)?;
     print_figure_end(writer)
 }
 
@@ -92,9 +106,9 @@ fn print_sentence<S: Sight, W: Sink>(
 {
     let mut row = way.words();
     row.text(b" from ");
-    add_who(&mut row, &who_of(sight, way.from));
+    add_who(&mut row, &who_of(sight, Handle(way.from)));
     row.text(b" to ");
-    add_who(&mut row, &who_of(sight, way.to));
+    add_who(&mut row, &who_of(sight, Handle(way.to)));
     row.text(b", sent at ");
     row.decimal(way.start);
     row.text(b", ");
@@ -143,7 +157,7 @@ fn print_lives<S: Sight, W: Sink>(
         (flat_map (life_of (S.desk sight.now) chart.now.tasks.now chart.now.steps.now) chart.now.tasks.now) }
 {
     for task in chart.tasks {
-        print_task(sight, chart, Handle(*task), writer)?;
+        print_task(sight, chart, *task, writer)?;
     }
     Ok(())
 }
@@ -152,16 +166,17 @@ fn print_lives<S: Sight, W: Sink>(
 fn print_task<S: Sight, W: Sink>(
     sight: &S,
     chart: &Chart<'_>,
-    task: Handle,
+    task: u32,
     writer: &mut W,
 ) -> Result<(), WriteFailed>
     requires { IsSmall chart.now }
     ensures { Puts (W.output writer.old) (W.output writer.new) result
         (life_of (S.desk sight.now) chart.now.tasks.now chart.now.steps.now task) }
 {
-    let alive = task_with(sight, task).is_some();
+    let handle = Handle(task);
+    let alive = task_with(sight, handle).is_some();
     let mut name = Row::new();
-    add_who(&mut name, &who_of(sight, task));
+    add_who(&mut name, &who_of(sight, handle));
     let x = chart.task_x(task);
     print_life(alive, name.as_slice(), chart.gap(), x, chart.foot(), writer)
 }
@@ -185,9 +200,18 @@ fn print_arrows<W: Sink>(chart: &Chart<'_>, writer: &mut W) -> Result<(), WriteF
         (flat_map (arrow_path chart.now.tasks.now chart.now.steps.now chart.now.step) (arrows_seen chart.now.ways.now)) }
 {
     for way in chart.ways {
-        print_message_arrow(way.stop == 0, chart.is_now(way), chart.ends(way), writer)?;
+        print_arrow(chart, way, writer)?;
     }
     Ok(())
+}
+
+/// Writes an arrow without its words.
+fn print_arrow<W: Sink>(chart: &Chart<'_>, way: &Way, writer: &mut W) -> Result<(), WriteFailed>
+    requires { IsSmall chart.now }
+    ensures { Puts (W.output writer.old) (W.output writer.new) result
+        (arrow_path chart.now.tasks.now chart.now.steps.now chart.now.step (arrow_of way.now)) }
+{
+    print_message_arrow(way.stop == 0, chart.is_now(way), chart.ends(way), writer)
 }
 
 /// Writes the words of all arrows.
@@ -230,12 +254,12 @@ impl<'a> Chart<'a> {
     }
 
     /// Where the line of a task stands, from the left.
-    fn task_x(&self, task: Handle) -> u32
+    fn task_x(&self, task: u32) -> u32
         requires { IsSmall self.now }
         ensures value { result ≡ task_x_of self.now.tasks.now task }
         ensures few { result ≤ 10_000 }
     {
-        CHART_LEFT + self.gap() * place_among(task.0, self.tasks) as u32
+        CHART_LEFT + self.gap() * place_among(task, self.tasks) as u32
     }
 
     /// The height at which arrows of a step end.

@@ -7,6 +7,7 @@ ghost use Rattle.rh_figure.specs.Share.{Share};
 ghost use Rattle.rh_sheet.specs.Chart.{followed as note_after, last_of, note_of, noted};
 ghost use Rattle.rh_sheet.specs.declared.sizes.TheConstants.{MOST_NOTES};
 ghost use Rattle.rh_sight.specs.Messages.{message_items};
+ghost use Rattle.rh_sight.specs.Seen.{letter_seen};
 
 use arrayvec::ArrayVec;
 use rh_defs::{Letter, Ref};
@@ -31,8 +32,8 @@ pub fn note_step<S: Sight>(
     ensures { (s : Share) (m : Marks) → notes.new.items ≡ noted number (scene_of (S.desk sight.now) s kept.now m) notes.old.items }
 {
     follow_notes(number, messages, notes);
-    if let Some((letter, my_ref)) = sent_by(sight, kept) {
-        keep_note(new_note(number, letter, my_ref), notes);
+    if let Some(sent) = sent_by(sight, kept) {
+        keep_note(new_note(number, sent), notes);
     }
 }
 
@@ -68,9 +69,10 @@ fn keep_note(note: Note, notes: &mut Notes)
 }
 
 /// The note of a letter that was sent at a step.
-fn new_note(number: u32, letter: &Letter, my_ref: Ref) -> Note
-    ensures { result ≡ note_of number (letter.now, my_ref) }
+fn new_note(number: u32, sent: (&Letter, Ref)) -> Note
+    ensures { result ≡ note_of number (letter_seen sent.entry) }
 {
+    let (letter, my_ref) = sent;
     Note {
         my_ref: my_ref.0,
         from: letter.from.0,

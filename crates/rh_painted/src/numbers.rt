@@ -1,7 +1,7 @@
 //! Numbers in order, each once.
 
 ghost use Rattle.std.specs.Prelude.{◌≡◌, ◌≤◌, ◌<◌, ◌+◌, length, nat_le};
-ghost use Rattle.std.specs.List.{position_or_len};
+ghost use Rattle.std.specs.List.{position};
 ghost use Rattle.rh_painted.specs.declared.numbers.TheConstants.{MOST_NUMBERS};
 ghost use Rattle.rh_sheet.specs.Chart.{inserted};
 
@@ -20,19 +20,16 @@ pub fn put_number(number: u32, numbers: &mut Numbers)
     ensures value { numbers.new.items ≡ inserted number numbers.old.items }
     ensures few { length numbers.new.items ≤ length numbers.old.items + 1 }
 {
-    let place = place_in(number, numbers);
-    if place < numbers.len() && numbers[place] == number {
-        return;
+    match place_in(number, numbers) {
+        Some(place) if numbers[place] == number => {}
+        Some(place) => numbers.insert(place, number),
+        None => numbers.push(number),
     }
-    numbers.insert(place, number);
 }
 
-/// The place of the first number that isn't smaller, behind all where each one is.
-fn place_in(number: u32, numbers: &[u32]) -> usize
-    ensures { result ≡ position_or_len (λ n. nat_le number n) numbers.now }
+/// The place of the first number that isn't smaller.
+fn place_in(number: u32, numbers: &[u32]) -> Option<usize>
+    ensures { result ≡ position (λ n. nat_le number n) numbers.now }
 {
-    match numbers.iter().position(|other| *other >= number) {
-        Some(place) => place,
-        None => numbers.len(),
-    }
+    numbers.iter().position(|other| *other >= number)
 }

@@ -1,9 +1,13 @@
 //! The owners of pages, one after the other.
 
 ghost use Rattle.std.specs.Prelude.{◌≡◌, ◌≤◌, ◌<◌, ◌+◌, ◌++◌, IfNone, IfSome, length, slice_get, None};
+ghost use Rattle.rh_defs.specs.declared.sizes.TheConstants.{MAX_AREAS};
 ghost use Rattle.rh_figure.specs.Share.{holdings};
 ghost use Rattle.rh_lines.specs.declared.row.TheConstants.{ROW};
-ghost use Rattle.rh_painted.specs.Owners.{IsOwnerSeen, name_seen, owner_seen_as, tag_seen, tint_seen};
+ghost use Rattle.rh_painted.specs.Owners.{IsOwnerSeen, name_seen, tag_seen, tint_seen, who_seen};
+ghost use Rattle.rh_sheet.specs.Owners.{area_tag as tag_of_area, slot_tag as tag_of_slot};
+ghost use Rattle.rh_sheet.specs.declared.sizes.TheConstants.{TAG_LETTERS};
+ghost use Rattle.rh_sight.specs.Owners.{owner_of};
 
 use rh_defs::sizes::FIXED_AREAS;
 use rh_defs::{Handle, Name};
@@ -37,6 +41,7 @@ pub struct OwnerSight<'a> {
 pub fn owner_at<S: Sight>(sight: &S, k: usize) -> Option<OwnerSight<'_>>
     ensures some { IfSome result (λ o. IsOwnerSeen (S.desk sight.now) k o) }
     ensures none { IfNone result (slice_get (holdings (S.desk sight.now)) k ≡ None) }
+    ensures few { length (holdings (S.desk sight.now)) ≤ MAX_AREAS }
 {
     sight.spelled();
     let made = count_made(sight);
@@ -54,6 +59,7 @@ fn fixed_owner<S: Sight>(sight: &S, k: usize) -> OwnerSight<'_>
     requires { k < 6 }
     ensures { IsOwnerSeen (S.desk sight.now) k result }
 {
+    sight.spelled();
     let number = k as u32;
     OwnerSight {
         named: Named::Area(number),
@@ -67,6 +73,7 @@ fn made_owner<S: Sight>(sight: &S, i: usize) -> Option<OwnerSight<'_>>
     ensures some { IfSome result (λ o. IsOwnerSeen (S.desk sight.now) (6 + i) o) }
     ensures none { IfNone result (slice_get (S.desk sight.now).made i ≡ None) }
 {
+    sight.spelled();
     match sight.made(i) {
         Some(area) => Some(OwnerSight {
             named: Named::Area(area.number),
@@ -82,6 +89,7 @@ fn slot_owner<S: Sight>(sight: &S, i: usize) -> Option<OwnerSight<'_>>
     ensures some { IfSome result (λ o. IsOwnerSeen (S.desk sight.now) (6 + length (S.desk sight.now).made + i) o) }
     ensures none { IfNone result (slice_get (S.desk sight.now).tasks i ≡ None) }
 {
+    sight.spelled();
     match sight.task(i) {
         Some(task) => Some(OwnerSight {
             named: Named::Slot(task.handle, task.name),
@@ -94,18 +102,18 @@ fn slot_owner<S: Sight>(sight: &S, i: usize) -> Option<OwnerSight<'_>>
 
 impl<'a> Named<'a> {
     /// The same owner, as what is kept of a desk has it.
-    pub fn owner(self) -> Owner
-        ensures { result ≡ owner_seen_as self }
+    pub fn owner(&self) -> Owner
+        ensures { owner_of result ≡ who_seen self.now }
     {
         match self {
-            Named::Area(number) => Owner::Area(number),
-            Named::Slot(handle, _) => Owner::Slot(handle),
+            Named::Area(number) => Owner::Area(*number),
+            Named::Slot(handle, _) => Owner::Slot(*handle),
         }
     }
 
     /// The owner's tint.
-    pub fn tint(self) -> Tint
-        ensures { result ≡ tint_seen self }
+    pub fn tint(&self) -> Tint
+        ensures { result ≡ tint_seen self.now }
     {
         match self {
             Named::Area(MODULE_AREA) => Tint::Module,
@@ -115,24 +123,24 @@ impl<'a> Named<'a> {
     }
 
     /// Adds the owner's name.
-    pub fn add_name(self, row: &mut Row)
+    pub fn add_name(&self, row: &mut Row)
         requires { length row.old + 17 ≤ ROW }
-        ensures value { row.new ≡ row.old ++ name_seen self }
+        ensures value { row.new ≡ row.old ++ name_seen self.now }
         ensures few { length row.new ≤ length row.old + 17 }
     {
         match self {
-            Named::Area(number) => add_area_name(row, number),
+            Named::Area(number) => add_area_name(row, *number),
             Named::Slot(_, name) => add_slot_name(row, name),
         }
     }
 
     /// The owner's tag on its pages.
-    pub fn tag(self) -> Row
-        ensures value { result ≡ tag_seen self }
+    pub fn tag(&self) -> Row
+        ensures value { result ≡ tag_seen self.now }
         ensures few { length result ≤ TAG_LETTERS }
     {
         match self {
-            Named::Area(number) => area_tag(number),
+            Named::Area(number) => area_tag(*number),
             Named::Slot(_, name) => slot_tag(name),
         }
     }
@@ -140,7 +148,7 @@ impl<'a> Named<'a> {
 
 /// The tag of an area; a made one has the last digits of its number.
 fn area_tag(number: u32) -> Row
-    ensures value { result ≡ tag_seen (Named.Area number) }
+    ensures value { result ≡ tag_of_area number }
     ensures few { length result ≤ TAG_LETTERS }
 {
     let mut digits = Row::new();
@@ -161,7 +169,7 @@ fn area_tag(number: u32) -> Row
 
 /// The tag of a slot, from its task's name.
 fn slot_tag(name: &Name) -> Row
-    ensures value { result ≡ slot_tag_of name.now }
+    ensures value { result ≡ tag_of_slot name.now }
     ensures few { length result ≤ TAG_LETTERS }
 {
     let all = name.as_bytes();

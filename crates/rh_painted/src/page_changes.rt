@@ -1,10 +1,11 @@
 //! What has changed of the pool: who takes pages, and which are free again.
 
-ghost use Rattle.std.specs.Prelude.{◌≡◌};
+ghost use Rattle.std.specs.Prelude.{◌≡◌, ◌≤◌, length};
 ghost use Rattle.std.specs.List.{flat_map};
-ghost use Rattle.rh_figure.specs.Changes.{freed_pages as pages_freed, page_changes, takes_text};
+ghost use Rattle.rh_defs.specs.declared.sizes.TheConstants.{MAX_PAGES};
+ghost use Rattle.rh_figure.specs.Changes.{freed_pages as pages_freed, freed_text, page_changes, taken_line, takes_text};
 ghost use Rattle.rh_lines.specs.Flow.{Puts};
-ghost use Rattle.rh_painted.specs.Owners.{IsOwnerOf, holding_seen};
+ghost use Rattle.rh_painted.specs.Owners.{IsOwnerOf, holding_seen, name_seen};
 ghost use Rattle.rh_sheet.specs.Markup.{change_item};
 ghost use Rattle.rh_sight.specs.Steps.{IsStepOf, scene_at};
 
@@ -51,18 +52,18 @@ fn print_takes<S: Sight, W: Sink>(
         return Ok(());
     }
     let pages = pages_of(sight, step.pages, owner.place);
-    let taken = takes_told(owner.named, &pages[had as usize..]);
+    let taken = takes_told(&owner.named, &pages[had as usize..]);
     print_change(taken.as_slice(), writer)
 }
 
 /// That an owner takes these pages.
-pub fn takes_told(named: Named<'_>, pages: &[u16]) -> Row
+pub fn takes_told(named: &Named<'_>, pages: &[u16]) -> Row
     requires { length pages.now ≤ MAX_PAGES }
-    ensures value { result ≡ taken_line (name_seen named) pages.now }
+    ensures value { result ≡ taken_line (name_seen named.now) pages.now }
     ensures few { length result ≤ 200 }
 {
     match named {
-        Named::Area(number) => area_takes(number, pages),
+        Named::Area(number) => area_takes(*number, pages),
         Named::Slot(_, name) => slot_takes(name, pages),
     }
 }

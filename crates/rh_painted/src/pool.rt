@@ -6,11 +6,9 @@ ghost use Rattle.rh_defs.specs.declared.sizes.TheConstants.{MAX_PAGES};
 ghost use Rattle.rh_figure.specs.Phrases.{listed_numbers};
 ghost use Rattle.rh_figure.specs.Share.{holdings};
 ghost use Rattle.rh_lines.specs.Flow.{Puts};
-ghost use Rattle.rh_painted.specs.Owners.{IsOwnerSeen, holding_seen, name_seen};
-ghost use Rattle.rh_sheet.specs.Markup.{escape, fresh_class};
-ghost use Rattle.rh_sheet.specs.Owners.{owner_class};
-ghost use Rattle.rh_sheet.specs.Pool.{freed_squares, owner_classes, owner_sentence, owner_squares, pool_description, pool_figure, pool_height as height_of_pool, tags_text};
-ghost use Rattle.rh_sight.specs.Owners.{owner_of};
+ghost use Rattle.rh_painted.specs.Owners.{IsOwnerOf, holding_seen, name_seen, who_seen};
+ghost use Rattle.rh_sheet.specs.Markup.{escape};
+ghost use Rattle.rh_sheet.specs.Pool.{freed_squares, owner_classes, owner_sentence, owner_squares, pool_body, pool_description, pool_figure, pool_height as height_of_pool, tags_text};
 ghost use Rattle.rh_sight.specs.Steps.{IsStepOf, scene_at};
 
 use crate::owners::{Named, OwnerSight, owner_at};
@@ -88,21 +86,21 @@ fn print_sentence<S: Sight, W: Sink>(
     requires step { IsStepOf (S.desk sight.now) step.now }
     requires owner { IsOwnerOf (S.desk sight.now) owner.now }
     ensures { Puts (W.output writer.old) (W.output writer.new) result
-        (escape (owner_sentence (name_seen owner.now.named) ((scene_at (S.desk sight.now) step.now).share.pages_of (owner_of (owner_seen_as owner.now.named))))) }
+        (escape (owner_sentence (name_seen owner.now.named) ((scene_at (S.desk sight.now) step.now).share.pages_of (who_seen owner.now.named)))) }
 {
     let pages = pages_of(sight, step.pages, owner.place);
     if pages.is_empty() {
         return Ok(());
     }
-    let mut row = pages_told(owner.named, pages);
+    let mut row = pages_told(&owner.named, pages);
     row.text(b". ");
     put_escaped(row.as_slice(), writer)
 }
 
 /// An owner's pages.
-fn pages_told(named: Named<'_>, pages: &[u16]) -> Row
+fn pages_told(named: &Named<'_>, pages: &[u16]) -> Row
     requires { length pages.now ≤ MAX_PAGES }
-    ensures value { result ≡ concat (name_seen named ∷ codes ": page " ∷ listed_numbers pages.now ∷ []) }
+    ensures value { result ≡ concat (name_seen named.now ∷ codes ": page " ∷ listed_numbers pages.now ∷ []) }
     ensures few { length result ≤ 190 }
 {
     let mut row = Row::new();
@@ -164,16 +162,16 @@ fn print_owner_squares<S: Sight, W: Sink>(
     let pages = pages_of(sight, step.pages, owner.place);
     let had = (step.kept.count(owner.named.owner()) as usize).min(pages.len());
     let (kept, taken) = pages.split_at(had);
-    let tip = pages_told(owner.named, pages);
+    let tip = pages_told(&owner.named, pages);
     print_squares(
-        square_class(owner.named, false).as_slice(),
+        square_class(&owner.named, false).as_slice(),
         kept,
         tip.as_slice(),
         writer,
     )?;
-    let tip = takes_told(owner.named, taken);
+    let tip = takes_told(&owner.named, taken);
     print_squares(
-        square_class(owner.named, true).as_slice(),
+        square_class(&owner.named, true).as_slice(),
         taken,
         tip.as_slice(),
         writer,
@@ -181,8 +179,8 @@ fn print_owner_squares<S: Sight, W: Sink>(
 }
 
 /// The classes of an owner's squares.
-fn square_class(named: Named<'_>, fresh: bool) -> Row
-    ensures value { result ≡ owner_classes (owner_of (owner_seen_as named)) fresh }
+fn square_class(named: &Named<'_>, fresh: bool) -> Row
+    ensures value { result ≡ owner_classes (who_seen named.now) fresh }
     ensures few { length result ≤ 40 }
 {
     let mut class = Row::new();

@@ -9,7 +9,7 @@ ghost use Rattle.rh_sheet.specs.declared.sizes.TheConstants.{MOST_NOTES};
 
 use crate::numbers::{Numbers, put_number};
 use arrayvec::ArrayVec;
-use rh_defs::{Action, Handle, Ref};
+use rh_defs::Action;
 use rh_lines::Row;
 use rh_map::action_name;
 use rh_sheet::Note;
@@ -18,15 +18,15 @@ use rh_sheet::sizes::MOST_NOTES;
 /// A chart has at most so many arrows.
 pub const MOST_WAYS: usize = 2 * MOST_NOTES;
 
-/// An arrow of a chart: a message on its way from a task to a task, or on its way back, between two steps, of which the
-/// second is 0 where it waits.
+/// An arrow of a chart: a message, by its ref, on its way between the tasks with two handles, or on its way back, between
+/// two steps, of which the second is 0 where it waits.
 #[derive(Clone, Copy)]
 pub struct Way {
     pub start: u32,
     pub stop: u32,
-    pub from: Handle,
-    pub to: Handle,
-    pub my_ref: Ref,
+    pub from: u32,
+    pub to: u32,
+    pub my_ref: u32,
     pub action: Action,
     pub is_back: bool,
 }
@@ -37,9 +37,9 @@ impl Default for Way {
         Way {
             start: 0,
             stop: 0,
-            from: Handle(0),
-            to: Handle(0),
-            my_ref: Ref(0),
+            from: 0,
+            to: 0,
+            my_ref: 0,
             action: Action::DataSave,
             is_back: false,
         }
@@ -71,9 +71,9 @@ fn way_out(note: &Note) -> Way
     Way {
         start: note.sent,
         stop: note.taken,
-        from: Handle(note.from),
-        to: Handle(note.to),
-        my_ref: Ref(note.my_ref),
+        from: note.from,
+        to: note.to,
+        my_ref: note.my_ref,
         action: note.action,
         is_back: false,
     }
@@ -86,9 +86,9 @@ fn way_back(note: &Note) -> Way
     Way {
         start: note.back,
         stop: note.ended,
-        from: Handle(note.to),
-        to: Handle(note.from),
-        my_ref: Ref(note.my_ref),
+        from: note.to,
+        to: note.from,
+        my_ref: note.my_ref,
         action: note.action,
         is_back: true,
     }
@@ -101,7 +101,7 @@ impl Way {
         ensures few { length result ≤ 28 }
     {
         let mut row = Row::new();
-        row.decimal(self.my_ref.0);
+        row.decimal(self.my_ref);
         row.byte(b' ');
         row.text(action_name(self.action));
         if self.is_back {
@@ -145,8 +145,8 @@ pub fn tasks_in(ways: &[Way]) -> Numbers
     let mut tasks = ArrayVec::new();
     let mut rest = ways;
     while let Some((last, front)) = rest.split_last() {
-        put_number(last.to.0, &mut tasks);
-        put_number(last.from.0, &mut tasks);
+        put_number(last.to, &mut tasks);
+        put_number(last.from, &mut tasks);
         rest = front;
     }
     tasks

@@ -1,0 +1,65 @@
+-- The text of a chart, part by part.
+use Rattle.std.proofs.Common.{◌≡◌, ℕ, ◌+◌, ◌<◌, true, false, refl, ap, ap₂, sym, ◌∙◌, arith, append_assoc, append-nil, List, [], ◌∷◌, ◌++◌, length}
+use Rattle.std.specs.Prelude.{◌==◌, codes}
+use Rattle.std.specs.List.{concat, flat_map}
+use Rattle.rh_defs.specs.Desk.{Desk}
+use Rattle.rh_defs.specs.Order.{with_queue}
+use Rattle.rh_draw.specs.Figures.{figure_open}
+use Rattle.rh_draw.proofs.FigureLemmas.{figure-parts}
+use Rattle.rh_figure.specs.Phrases.{Text}
+use Rattle.rh_sheet.specs.declared.note.Note.{Note}
+use Rattle.rh_sheet.specs.declared.sizes.TheConstants.{CHART_EDGE, CHART_WIDTH}
+use Rattle.rh_sheet.specs.Chart.{Arrow, arrow_sentence, arrows, chart_body, chart_foot, chart_of, steps_in, tasks_in}
+use Rattle.rh_sheet.specs.Markup.{escape}
+use Rattle.rh_painted.specs.declared.ways.Way.{Way}
+use Rattle.rh_painted.specs.Ways.{arrow_of, arrows_seen}
+use Rattle.rh_painted.proofs.TableLemmas.{is_some, some-more}
+
+-- nine parts, one behind the other
+pub nine-parts : (a b c d e f g h i : Text)
+    → (((((((a ++ b) ++ c) ++ d) ++ e) ++ f) ++ g) ++ h) ++ i ≡ concat (a ∷ b ∷ c ∷ d ∷ e ∷ f ∷ g ∷ h ∷ i ∷ [])
+nine-parts a b c d e f g h i = simp (append_assoc, append-nil)
+
+abbrev pub title : Text
+title = codes "Messages between the tasks"
+
+-- the chart of some arrows, in the parts in which it is written
+parts-are : (d : Desk) (drawn : List Arrow) (step : ℕ) → is_some drawn ≡ true
+    → figure_open CHART_WIDTH (chart_foot (steps_in drawn) + CHART_EDGE) title
+    ++ (escape (flat_map (arrow_sentence d) drawn)
+    ++ (codes "</desc>\n" ++ (chart_body d drawn (tasks_in drawn) (steps_in drawn) step ++ codes "</svg>\n")))
+    ≡ chart_of d drawn step
+parts-are d [] step e = absurd (cc)
+parts-are d (a ∷ drawn) step e =
+    let all : List Arrow = a ∷ drawn in
+    let open_ : Text = figure_open CHART_WIDTH (chart_foot (steps_in all) + CHART_EDGE) title in
+    let told : Text = escape (flat_map (arrow_sentence d) all) in
+    let rest : Text = chart_body d all (tasks_in all) (steps_in all) step ++ codes "</svg>\n" in
+    ap (λ z. open_ ++ z) (sym (append_assoc told (codes "</desc>\n") rest))
+    ∙ (sym (append_assoc open_ (told ++ codes "</desc>\n") rest)
+    ∙ ap (λ z. z ++ rest) (figure-parts CHART_WIDTH (chart_foot (steps_in all) + CHART_EDGE) title (flat_map (arrow_sentence d) all)))
+
+pub chart-parts : (d : Desk) (drawn : List Arrow) (tasks steps : List ℕ) (step : ℕ) → tasks ≡ tasks_in drawn → steps ≡ steps_in drawn → is_some drawn ≡ true
+    → figure_open CHART_WIDTH (chart_foot steps + CHART_EDGE) title
+    ++ (escape (flat_map (arrow_sentence d) drawn) ++ (codes "</desc>\n" ++ (chart_body d drawn tasks steps step ++ codes "</svg>\n")))
+    ≡ chart_of d drawn step
+chart-parts d drawn tasks steps step p q some =
+    ap₂ (λ ts ss. figure_open CHART_WIDTH (chart_foot ss + CHART_EDGE) title
+    ++ (escape (flat_map (arrow_sentence d) drawn) ++ (codes "</desc>\n" ++ (chart_body d drawn ts ss step ++ codes "</svg>\n")))) p q
+    ∙ parts-are d drawn step some
+
+-- arrows that are seen are some
+pub ways-some : (ws : List Way) → 0 < length ws → is_some (arrows_seen ws) ≡ true
+ways-some [] few = absurd (omega (arith, few))
+ways-some (w ∷ ws) few = some-more (arrow_of w) (arrows_seen ws)
+
+-- some messages have arrows
+pub drawn-some : (ws : List Way) (notes : List Note) → arrows_seen ws ≡ arrows notes → (length notes == 0) ≡ false → 0 < length ws
+drawn-some [] [] e some = absurd (cc)
+drawn-some [] (n ∷ notes) e some = absurd (cc)
+drawn-some (w ∷ ws) notes e some = omega arith
+
+-- the queue isn't seen
+pub chart-seen : (d : Desk) (drawn : List Arrow) (step : ℕ) → chart_of d drawn step ≡ chart_of (with_queue [] d) drawn step
+chart-seen d [] step = refl
+chart-seen d (a ∷ drawn) step = refl

@@ -1,0 +1,31 @@
+use Rattle.std.proofs.Common.{◌≡◌, ◌++◌, ap, ap₂, ◌∙◌}
+use Rattle.std.specs.Prelude.{codes}
+use Rattle.std.specs.Fmt.{decimal}
+use Rattle.rh_figure.specs.Phrases.{Text, task_name}
+use Rattle.rh_sheet.specs.Chart.{stop_sentence}
+use Rattle.rh_sheet.specs.Markup.{escape}
+use Rattle.rh_drawn.proofs.Walks.{puts_same}
+use Rattle.rh_painted.specs.Ways.{words_of}
+use Rattle.rh_painted.proofs.ChartLemmas.{nine-parts}
+use Rattle.rh_painted.proofs.chart.print_sentence.Goals as goal
+
+pub returns : goal.returns
+returns g c =
+    let d = g.S.Sight.desk c.args.sight.now in
+    let w = c.args.way.now in
+    let words : Text = words_of w in
+    let from : Text = task_name d w.from in
+    let to : Text = task_name d w.to in
+    let e1 : c.text.new.self ≡ words ++ codes " from " = c.text.ensures ∙ ap (λ z. z ++ codes " from ") c.words-row.ensures.value in
+    let e2 : c.add_who.new.row ≡ (words ++ codes " from ") ++ from = c.add_who.ensures.value ∙ ap₂ (λ z n. z ++ n) e1 c.who_of.ensures in
+    let e3 : c.text-2.new.self ≡ ((words ++ codes " from ") ++ from) ++ codes " to " = c.text-2.ensures ∙ ap (λ z. z ++ codes " to ") e2 in
+    let e4 : c.add_who-2.new.row ≡ (((words ++ codes " from ") ++ from) ++ codes " to ") ++ to = c.add_who-2.ensures.value ∙ ap₂ (λ z n. z ++ n) e3 c.who_of-2.ensures in
+    let e5 : c.text-3.new.self ≡ ((((words ++ codes " from ") ++ from) ++ codes " to ") ++ to) ++ codes ", sent at " = c.text-3.ensures ∙ ap (λ z. z ++ codes ", sent at ") e4 in
+    let e6 : c.decimal.new.self ≡ (((((words ++ codes " from ") ++ from) ++ codes " to ") ++ to) ++ codes ", sent at ") ++ decimal w.start =
+    c.decimal.ensures.value ∙ ap (λ z. z ++ decimal w.start) e5 in
+    let e7 : c.text-4.new.self ≡ ((((((words ++ codes " from ") ++ from) ++ codes " to ") ++ to) ++ codes ", sent at ") ++ decimal w.start) ++ codes ", " =
+    c.text-4.ensures ∙ ap (λ z. z ++ codes ", ") e6 in
+    let e8 : c.add_stop.new.row ≡ (((((((words ++ codes " from ") ++ from) ++ codes " to ") ++ to) ++ codes ", sent at ") ++ decimal w.start) ++ codes ", ") ++ stop_sentence w.stop =
+    c.add_stop.ensures ∙ ap (λ z. z ++ stop_sentence w.stop) e7 in
+    puts_same (ap escape (c.as_slice.ensures ∙ (e8 ∙ nine-parts words (codes " from ") from (codes " to ") to (codes ", sent at ") (decimal w.start) (codes ", ") (stop_sentence w.stop))))
+    c.put_escaped.ensures

@@ -1,0 +1,20 @@
+use Rattle.std.proofs.Common.{◌-◌, length, drop}
+use Rattle.std.specs.List.{flat_map}
+use Rattle.rh_figure.specs.Changes.{freed_pages, freed_text, page_changes, takes_text}
+use Rattle.rh_figure.specs.Share.{holdings}
+use Rattle.rh_map.proofs.Left.{Left}
+use Rattle.rh_sheet.specs.Markup.{change_item}
+use Rattle.rh_sight.specs.Steps.{scene_at}
+use Rattle.rh_painted.proofs.ElementLemmas.{elements}
+use Rattle.rh_painted.proofs.page_changes.print_page_changes.Given as goal
+
+-- the owners from the place on are left, and what was given back
+abbrev pub invariant-owners : goal.invariant-owners
+invariant-owners g l =
+    let d = g.S.Sight.desk l.sight in
+    let x = scene_at d l.step in
+    Left (g.W.Sink.output l.initial.writer) (g.W.Sink.output l.writer) (flat_map change_item (page_changes x))
+    (elements change_item (takes_text x) (freed_text (freed_pages x)) (drop l.k (holdings d)))
+
+abbrev pub decreases-owners : goal.decreases-owners
+decreases-owners g l = length (holdings (g.S.Sight.desk l.sight)) - l.k

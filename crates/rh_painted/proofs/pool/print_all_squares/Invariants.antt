@@ -1,0 +1,17 @@
+use Rattle.std.proofs.Common.{◌-◌, length, drop}
+use Rattle.std.specs.List.{flat_map}
+use Rattle.rh_figure.specs.Share.{holdings}
+use Rattle.rh_map.proofs.Left.{Left}
+use Rattle.rh_sheet.specs.Pool.{owner_squares}
+use Rattle.rh_sight.specs.Steps.{scene_at}
+use Rattle.rh_painted.proofs.pool.print_all_squares.Given as goal
+
+-- the owners from the place on are left
+abbrev pub invariant-owners : goal.invariant-owners
+invariant-owners g l =
+    let d = g.S.Sight.desk l.sight in
+    let x = scene_at d l.step in
+    Left (g.W.Sink.output l.initial.writer) (g.W.Sink.output l.writer) (flat_map (owner_squares x) (holdings d)) (flat_map (owner_squares x) (drop l.k (holdings d)))
+
+abbrev pub decreases-owners : goal.decreases-owners
+decreases-owners g l = length (holdings (g.S.Sight.desk l.sight)) - l.k

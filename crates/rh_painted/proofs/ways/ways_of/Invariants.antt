@@ -1,0 +1,9 @@
+use Rattle.std.proofs.Common.{◌≡◌, ◌≤◌, ◌*◌, length, take}
+use Rattle.rh_sheet.specs.Chart.{arrows}
+use Rattle.rh_painted.specs.Ways.{arrows_seen}
+use Rattle.rh_painted.proofs.ways.ways_of.Given as goal
+
+-- the arrows of the messages so far
+abbrev pub invariant-loop-note : goal.invariant-loop-note
+invariant-loop-note l =
+    (arrows_seen l.ways.items ≡ arrows (take l.note-index l.notes)) × (length l.ways.items ≤ 2 * l.note-index)
