@@ -65,8 +65,8 @@ command-kept line long =
 module _ (line : Text) (long : 1024 < length line) where
   said-kept : (n : ℕ) (reply : Text) → said_text n (kept line) reply ≡ said_text n line reply
   said-kept n reply = ap (λ shown. concat (
-        concat (codes "<h2><b>" ∷ decimal n ∷ codes "</b> <code>" ∷ escape shown ∷ codes "</code></h2>\n<pre>" ∷ [])
-        ∷ escape (reply_shown reply) ∷ codes "</pre>\n" ∷ []
+      concat (codes "<h2><b>" ∷ decimal n ∷ codes "</b> <code>" ∷ escape shown ∷ codes "</code></h2>\n<pre>" ∷ [])
+      ∷ escape (reply_shown reply) ∷ codes "</pre>\n" ∷ []
       )) (command-kept line long)
 
   step-kept : (still : Bool) (n : ℕ) (reply : Text) (x : Scene) (notes : List Note) (last : ℕ)

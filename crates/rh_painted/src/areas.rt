@@ -47,7 +47,11 @@ fn print_fixed<S: Sight, W: Sink>(
     requires step { IsStepOf (S.desk sight.now) step.now }
     requires number { number < 6 }
     ensures { Puts (W.output writer.old) (W.output writer.new) result
-        (flat_map area_heading (fixed_panel (scene_at (S.desk sight.now) step.now) (number, slice_index (S.desk sight.now).areas number))) }
+        (flat_map area_heading (fixed_panel (scene_at (S.desk sight.now) step.now) (
+          number,
+          slice_index
+              (S.desk sight.now).areas number,
+        ))) }
 {
     sight.spelled();
     if number == MODULE_AREA || sight.fixed_pages(number) == 0 {

@@ -31,10 +31,12 @@ pub fn put_flex_cards<S: Sight, W: Sink>(
     form: Form,
     writer: &mut W,
 ) -> Result<(), WriteFailed>
-    requires task { (t : Task) × (slice_get (S.desk sight.now).tasks i ≡ Some t) × IsTaskSeen task.now t × (blocks.now ≡ block_items t.slot) }
+    requires task { (t : Task) × (slice_get (S.desk sight.now).tasks i ≡ Some t) × IsTaskSeen task.now t
+        × (blocks.now ≡ block_items t.slot) }
     requires few { length blocks.now ≤ 64 }
     requires height { IsFit form }
-    ensures { (t : Task) → slice_get (S.desk sight.now).tasks i ≡ Some t → Puts (W.output writer.old) (W.output writer.new) result
+    ensures { (t : Task) → slice_get (S.desk sight.now).tasks i ≡ Some t →
+        Puts (W.output writer.old) (W.output writer.new) result
         (band_text form (shown_cards (flex_cards (scene_at (S.desk sight.now) step.now) t))) }
 {
     let shown = shown_count(blocks.len());
@@ -56,11 +58,13 @@ fn put_first<S: Sight, W: Sink>(
     form: Form,
     writer: &mut W,
 ) -> Result<(), WriteFailed>
-    requires task { (t : Task) × (slice_get (S.desk sight.now).tasks i ≡ Some t) × IsTaskSeen task.now t × (blocks.now ≡ block_items t.slot) }
+    requires task { (t : Task) × (slice_get (S.desk sight.now).tasks i ≡ Some t) × IsTaskSeen task.now t
+        × (blocks.now ≡ block_items t.slot) }
     requires few { shown ≤ length blocks.now }
     requires most { shown ≤ MOST_CARDS }
     requires height { IsFit form }
-    ensures { (t : Task) → slice_get (S.desk sight.now).tasks i ≡ Some t → Puts (W.output writer.old) (W.output writer.new) result
+    ensures { (t : Task) → slice_get (S.desk sight.now).tasks i ≡ Some t →
+        Puts (W.output writer.old) (W.output writer.new) result
         (band_text form (take shown (flex_cards (scene_at (S.desk sight.now) step.now) t))) }
 {
     for k in 0..shown {
@@ -79,11 +83,13 @@ fn put_behind<S: Sight, W: Sink>(
     form: Form,
     writer: &mut W,
 ) -> Result<(), WriteFailed>
-    requires task { (t : Task) × (slice_get (S.desk sight.now).tasks i ≡ Some t) × IsTaskSeen task.now t × (blocks.now ≡ block_items t.slot) }
+    requires task { (t : Task) × (slice_get (S.desk sight.now).tasks i ≡ Some t) × IsTaskSeen task.now t
+        × (blocks.now ≡ block_items t.slot) }
     requires many { 24 < length blocks.now }
     requires few { length blocks.now ≤ 64 }
     requires height { IsFit form }
-    ensures { (t : Task) → slice_get (S.desk sight.now).tasks i ≡ Some t → Puts (W.output writer.old) (W.output writer.new) result
+    ensures { (t : Task) → slice_get (S.desk sight.now).tasks i ≡ Some t →
+        Puts (W.output writer.old) (W.output writer.new) result
         (band_text_from form (MOST_CARDS - 2) (cards_behind (flex_cards (scene_at (S.desk sight.now) step.now) t))) }
 {
     let shown = MOST_CARDS - 2;
@@ -109,10 +115,13 @@ fn put_flex<S: Sight, W: Sink>(
     at: u32,
     writer: &mut W,
 ) -> Result<(), WriteFailed>
-    requires block { (t : Task) × (k : ℕ) × (slice_get (S.desk sight.now).tasks i ≡ Some t) × IsTaskSeen task.now t × (slice_get (block_items t.slot) k ≡ Some block.now) }
+    requires block { (t : Task) × (k : ℕ) × (slice_get (S.desk sight.now).tasks i ≡ Some t) × IsTaskSeen task.now t
+        × (slice_get (block_items t.slot) k ≡ Some block.now) }
     requires few { at < MOST_CARDS }
     requires height { IsFit form }
-    ensures { (t : Task) (k : ℕ) (c : FlexCard) → slice_get (S.desk sight.now).tasks i ≡ Some t → slice_get (block_items t.slot) k ≡ Some block.now → slice_get (flex_cards (scene_at (S.desk sight.now) step.now) t) k ≡ Some c →
+    ensures { (t : Task) (k : ℕ) (c : FlexCard) → slice_get (S.desk sight.now).tasks i ≡ Some t →
+        slice_get (block_items t.slot) k ≡ Some block.now →
+        slice_get (flex_cards (scene_at (S.desk sight.now) step.now) t) k ≡ Some c →
         Puts (W.output writer.old) (W.output writer.new) result (form_text form (at, c)) }
 {
     let mut front = [0; CARD_BYTES];

@@ -44,8 +44,10 @@ pub fn put_heap_cards<S: Sight, W: Sink>(
     requires step { IsStepOf (S.desk sight.now) step.now }
     requires band { IsBandOf (S.desk sight.now) band.now }
     requires height { IsFit form }
-    ensures { IfSome (heap_seen band.now.heap (S.desk sight.now)) (λ h. Puts (W.output writer.old) (W.output writer.new) result
-        (band_text form (shown_cards (band_cards (scene_at (S.desk sight.now) step.now) (S.desk sight.now) band.now h)))) }
+    ensures { IfSome (heap_seen band.now.heap (S.desk sight.now)) (λ h. Puts (W.output writer.old)
+        (W.output writer.new) result
+        (band_text form (shown_cards (band_cards (scene_at (S.desk sight.now) step.now)
+        (S.desk sight.now) band.now h)))) }
 {
     sight.spelled();
     let survey = take_survey(sight, step, band);
@@ -71,8 +73,10 @@ fn put_first<S: Sight, W: Sink>(
     requires few { shown ≤ MOST_CARDS }
     requires there { IfSome (heap_seen band.now.heap (S.desk sight.now)) (λ h. shown ≤ length h.segments) }
     requires height { IsFit form }
-    ensures { IfSome (heap_seen band.now.heap (S.desk sight.now)) (λ h. Puts (W.output writer.old) (W.output writer.new) result
-        (band_text form (take shown (band_cards (scene_at (S.desk sight.now) step.now) (S.desk sight.now) band.now h)))) }
+    ensures { IfSome (heap_seen band.now.heap (S.desk sight.now)) (λ h. Puts (W.output writer.old)
+        (W.output writer.new) result
+        (band_text form (take shown (band_cards (scene_at (S.desk sight.now) step.now)
+        (S.desk sight.now) band.now h)))) }
 {
     let items = sight.segments(band.heap, HEAP_FIRST as u32);
     let first = items.as_slice();
@@ -95,10 +99,13 @@ fn put_behind<S: Sight, W: Sink>(
     requires band { IsBandOf (S.desk sight.now) band.now }
     requires many { MOST_CARDS < survey.now.count }
     requires few { survey.now.count < 2 ^ 32 }
-    requires survey { IfSome (heap_seen band.now.heap (S.desk sight.now)) (λ h. IsSurvey (scene_at (S.desk sight.now) step.now) band.now h survey.now) }
+    requires survey { IfSome (heap_seen band.now.heap (S.desk sight.now)) (λ h. IsSurvey (scene_at
+        (S.desk sight.now) step.now) band.now h survey.now) }
     requires height { IsFit form }
-    ensures { IfSome (heap_seen band.now.heap (S.desk sight.now)) (λ h. Puts (W.output writer.old) (W.output writer.new) result
-        (band_text_from form (MOST_CARDS - 2) (cards_behind (band_cards (scene_at (S.desk sight.now) step.now) (S.desk sight.now) band.now h)))) }
+    ensures { IfSome (heap_seen band.now.heap (S.desk sight.now)) (λ h. Puts (W.output writer.old)
+        (W.output writer.new) result
+        (band_text_from form (MOST_CARDS - 2) (cards_behind (band_cards (scene_at (S.desk sight.now) step.now)
+        (S.desk sight.now) band.now h)))) }
 {
     let at = MOST_CARDS as u32 - 2;
     let behind = survey.count - at;
@@ -123,12 +130,20 @@ fn put_segment<S: Sight, W: Sink>(
 ) -> Result<(), WriteFailed>
     requires step { IsStepOf (S.desk sight.now) step.now }
     requires band { IsBandOf (S.desk sight.now) band.now }
-    requires segment { (place : ℕ) × (segment : Segment) × HasSegment (heap_seen band.now.heap (S.desk sight.now)) place segment × (item.now ≡ segment_item (heap_start_of band.now.heap + place) segment) }
+    requires segment { (place : ℕ) × (segment : Segment)
+        × HasSegment (heap_seen band.now.heap (S.desk sight.now)) place segment
+        × (item.now ≡ segment_item (heap_start_of band.now.heap + place) segment) }
     requires few { at < MOST_CARDS }
     requires height { IsFit form }
-    ensures { (place : ℕ) (segment : Segment) → HasSegment (heap_seen band.now.heap (S.desk sight.now)) place segment → item.now ≡ segment_item (heap_start_of band.now.heap + place) segment →
+    ensures { (place : ℕ) (segment : Segment) →
+        HasSegment (heap_seen band.now.heap (S.desk sight.now)) place segment →
+        item.now ≡ segment_item (heap_start_of band.now.heap + place) segment →
         Puts (W.output writer.old) (W.output writer.new) result
-        (form_text form (at, band_card (scene_at (S.desk sight.now) step.now) (S.desk sight.now) band.now (heap_start_of band.now.heap + place) segment)) }
+        (form_text form (
+          at,
+          band_card (scene_at (S.desk sight.now) step.now) (S.desk sight.now) band.now
+              (heap_start_of band.now.heap + place) segment,
+        )) }
 {
     sight.spelled();
     match item {
@@ -180,13 +195,21 @@ fn put_used<S: Sight, W: Sink>(
     writer: &mut W,
 ) -> Result<(), WriteFailed>
     requires start { heap_start_of band.now.heap + 4 ≤ address }
-    requires block { (bytes : List ℕ) × HasBlock (heap_seen band.now.heap (S.desk sight.now)) (address - heap_start_of band.now.heap - 4) bytes × (length bytes ≡ size) }
+    requires block { (bytes : List ℕ)
+        × HasBlock (heap_seen band.now.heap (S.desk sight.now)) (address - heap_start_of band.now.heap - 4) bytes
+        × (length bytes ≡ size) }
     requires free { IsFree band.now.heap (address - heap_start_of band.now.heap - 4) (S.desk sight.now) }
     requires few { at < MOST_CARDS }
     requires height { IsFit form }
-    ensures { (d : Desk) (bytes : List ℕ) → IsStepOf d step.now → HasBlock (heap_seen band.now.heap (S.desk sight.now)) (address - heap_start_of band.now.heap - 4) bytes → length bytes ≡ size →
+    ensures { (d : Desk) (bytes : List ℕ) → IsStepOf d step.now →
+        HasBlock (heap_seen band.now.heap (S.desk sight.now)) (address - heap_start_of band.now.heap - 4) bytes →
+        length bytes ≡ size →
         Puts (W.output writer.old) (W.output writer.new) result
-        (form_text form (at, used_card address bytes (in_use_text (find (is_buffer_of address) band.now.taking.now)) (is_fresh_used (scene_at d step.now) band.now address))) }
+        (form_text form (
+          at,
+          used_card address bytes (in_use_text (find (is_buffer_of address) band.now.taking.now))
+              (is_fresh_used (scene_at d step.now) band.now address),
+        )) }
 {
     let mut front = [0; CARD_BYTES];
     let bytes = &mut front[..front_length(size)];
@@ -224,7 +247,9 @@ fn put_message<S: Sight, W: Sink>(
     requires step { IsStepOf (S.desk sight.now) step.now }
     requires few { at < MOST_CARDS }
     requires height { IsFit form }
-    ensures { (p : Parcel) → find (λ (q : Parcel). q.block == p.block) (live (scene_at (S.desk sight.now) step.now)) ≡ Some p → IsItemOf message.now p →
+    ensures { (p : Parcel) →
+        find (λ (q : Parcel). q.block == p.block) (live (scene_at (S.desk sight.now) step.now)) ≡ Some p →
+        IsItemOf message.now p →
         Puts (W.output writer.old) (W.output writer.new) result
         (form_text form (at, post_card (scene_at (S.desk sight.now) step.now) p)) }
 {

@@ -24,8 +24,10 @@ note-same most n found kept long is =
 pub made_area_note-note-requires : goal.made_area_note-note-requires
 made_area_note-note-requires g c =
     let seen = seen-made c.spelled.ensures c.areas.i _ c.in-Some.ensures.some in
-    let is = owned c.spelled.ensures c.args.step.now.pages.now c.requires.shared (pages.Made c.areas.i) (AreaOf c.in-Some.area.number) c.pages_of-pages.result.now seen c.pages_of-pages.ensures in
-    let few = owned-few c.spelled.ensures c.args.step.now.pages.now c.requires.shared (pages.Made c.areas.i) (AreaOf c.in-Some.area.number) seen c.requires.all in
+    let is = owned c.spelled.ensures c.args.step.now.pages.now c.requires.shared (pages.Made c.areas.i)
+    (AreaOf c.in-Some.area.number) c.pages_of-pages.result.now seen c.pages_of-pages.ensures in
+    let few = owned-few c.spelled.ensures c.args.step.now.pages.now c.requires.shared (pages.Made c.areas.i)
+    (AreaOf c.in-Some.area.number) seen c.requires.all in
     omega (arith, ap length is)
 
 pub overflow_add-i : goal.overflow_add-i
@@ -34,7 +36,8 @@ overflow_add-i g c =
 
 pub areas-smaller : goal.areas-smaller
 areas-smaller g c =
-    let inside : c.areas.i < length (g.S.Sight.desk c.args.sight.now).made = slice_get_within (g.S.Sight.desk c.args.sight.now).made c.areas.i _ c.in-Some.ensures.some in
+    let inside : c.areas.i < length (g.S.Sight.desk c.args.sight.now).made = slice_get_within
+    (g.S.Sight.desk c.args.sight.now).made c.areas.i _ c.in-Some.ensures.some in
     omega arith
 
 pub areas-preserved : goal.areas-preserved
@@ -42,23 +45,34 @@ areas-preserved g c =
     let d = g.S.Sight.desk c.args.sight.now in
     let x = scene_at d c.args.step.now in
     let seen = seen-made c.spelled.ensures c.areas.i _ c.in-Some.ensures.some in
-    let is = owned c.spelled.ensures c.args.step.now.pages.now c.requires.shared (pages.Made c.areas.i) (AreaOf c.in-Some.area.number) c.pages_of-pages.result.now seen c.pages_of-pages.ensures in
+    let is = owned c.spelled.ensures c.args.step.now.pages.now c.requires.shared (pages.Made c.areas.i)
+    (AreaOf c.in-Some.area.number) c.pages_of-pages.result.now seen c.pages_of-pages.ensures in
     let long = owned-made c.spelled.ensures c.args.step.now.pages.now c.requires.shared c.areas.i _ c.in-Some.ensures.some in
-    left_less c.areas.invariant (text-some (λ (ms : List Made). flat_map area_heading (map (made_panel x) ms)) (λ (m : Made). area_heading (made_panel x m)) (λ m rest. refl) d.made c.areas.i _ c.in-Some.ensures.some)
-    (puts_same (ap (heading_text (area_name c.in-Some.area.number)) (c.made_area_note-note.ensures.value ∙ note-same c.in-Some.area.most c.in-Some.area.pages c.pages_of-pages.result.now _ (ap length is ∙ long) is)) c.in_ok-print_area_heading.ensures).ok
+    left_less c.areas.invariant (text-some (λ (ms : List Made). flat_map area_heading (map (made_panel x) ms)) (λ (m : Made). area_heading (made_panel x m))
+    (λ m rest. refl) d.made c.areas.i _ c.in-Some.ensures.some)
+    (puts_same (ap (heading_text (area_name c.in-Some.area.number)) (c.made_area_note-note.ensures.value
+    ∙ note-same c.in-Some.area.most c.in-Some.area.pages c.pages_of-pages.result.now _ (ap length is ∙ long) is)) c.in_ok-print_area_heading.ensures).ok
 
 pub returns-in_err-print_area_heading : goal.returns-in_err-print_area_heading
 returns-in_err-print_area_heading g c =
     let d = g.S.Sight.desk c.args.sight.now in
     let x = scene_at d c.args.step.now in
     let seen = seen-made c.spelled.ensures c.areas.i _ c.in-Some.ensures.some in
-    let is = owned c.spelled.ensures c.args.step.now.pages.now c.requires.shared (pages.Made c.areas.i) (AreaOf c.in-Some.area.number) c.pages_of-pages.result.now seen c.pages_of-pages.ensures in
+    let is = owned c.spelled.ensures c.args.step.now.pages.now c.requires.shared (pages.Made c.areas.i)
+    (AreaOf c.in-Some.area.number) c.pages_of-pages.result.now seen c.pages_of-pages.ensures in
     let long = owned-made c.spelled.ensures c.args.step.now.pages.now c.requires.shared c.areas.i _ c.in-Some.ensures.some in
-    left_breaks _ _ c.areas.invariant (text-some (λ (ms : List Made). flat_map area_heading (map (made_panel x) ms)) (λ (m : Made). area_heading (made_panel x m)) (λ m rest. refl) d.made c.areas.i _ c.in-Some.ensures.some)
-    (puts_same (ap (heading_text (area_name c.in-Some.area.number)) (c.made_area_note-note.ensures.value ∙ note-same c.in-Some.area.most c.in-Some.area.pages c.pages_of-pages.result.now _ (ap length is ∙ long) is)) c.in_err-print_area_heading.ensures) c.from_residual.ensures.0
+    left_breaks _ _ c.areas.invariant (text-some (λ (ms : List Made). flat_map area_heading (map (made_panel x) ms)) (λ (m : Made). area_heading
+    (made_panel x m)) (λ m rest. refl) d.made c.areas.i _ c.in-Some.ensures.some)
+    (puts_same (ap (heading_text (area_name c.in-Some.area.number)) (c.made_area_note-note.ensures.value
+    ∙ note-same c.in-Some.area.most c.in-Some.area.pages c.pages_of-pages.result.now _ (ap length is
+    ∙ long) is)) c.in_err-print_area_heading.ensures) c.from_residual.ensures.0
 
 pub returns : goal.returns
 returns g c =
     let d = g.S.Sight.desk c.args.sight.now in
     let x = scene_at d c.args.step.now in
-    record { ok = left_none c.areas.invariant (text-none (λ (ms : List Made). flat_map area_heading (map (made_panel x) ms)) refl d.made c.areas.i c.in_default.ensures.none); err = tt }
+    record {
+      ok = left_none c.areas.invariant (text-none (λ (ms : List Made). flat_map area_heading (map
+          (made_panel x) ms)) refl d.made c.areas.i c.in_default.ensures.none);
+      err = tt;
+    }

@@ -39,7 +39,9 @@ returns g c = λ t k card e listed shown.
     let first = front-is b.size (length (take n zeros)) bytes here.size (omega (arith, c.front_length.ensures, length-take n zeros))
     ∙ sym (c.read_block.ensures bytes (record { task = t; is = e; place = k; listed = listed; block = here.block; stands = here.stands; bytes_are = refl })) in
     let fresh = c.is_fresh_flex.ensures d ∙ ap (λ h. is_fresh_flex x h b.anchor b.size) seen.handle in
-    let used = c.use_of_block.ensures ∙ ap₂ (λ out in_. out_use_text (find (is_source b.anchor) out) (in_use_text (find (is_document b.anchor) in_))) seen.sending seen.taking in
+    let used = c.use_of_block.ensures ∙ ap₂ (λ out in_. out_use_text (find (is_source b.anchor) out) (in_use_text (find
+    (is_document b.anchor) in_))) seen.sending seen.taking in
     let second = c.as_slice-2.ensures ∙ (c.block_size-size.ensures.value ∙ ap₂ (λ m u. size_text m ++ u) (sym here.size) used) in
     let third = c.as_slice-3.ensures ∙ (c.block_bytes-first.ensures.value ∙ front-bytes b.size _ bytes (record { whole = here.size; first = first })) in
-    puts_same (ap (λ z. form_text c.args.form (c.args.at, z)) (card-same FlexCard (c.as_slice.ensures ∙ c.flex_name-name.ensures.value) second third fresh ∙ sym here.card_is)) c.put_card.ensures
+    puts_same (ap (λ z. form_text c.args.form (c.args.at, z)) (card-same FlexCard (c.as_slice.ensures ∙ c.flex_name-name.ensures.value) second third fresh
+    ∙ sym here.card_is)) c.put_card.ensures

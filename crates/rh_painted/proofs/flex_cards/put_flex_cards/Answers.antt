@@ -28,7 +28,8 @@ returns-in_err-put_first g c = λ t e.
     let split = shown-split cs in
     let front = take (count_shown (length cs)) cs in
     puts_same (sym (ap (band_text_from c.args.form 0) split.is ∙ band-append c.args.form 0 front split.behind))
-    (text_stop _ (band_text_from c.args.form 0 front) (band_text_from c.args.form (0 + length front) split.behind) (puts_same (ap (λ m. band_text_from c.args.form 0 (take m cs)) n) (c.in_err-put_first.ensures t e)) c.from_residual.ensures.0)
+    (text_stop _ (band_text_from c.args.form 0 front) (band_text_from c.args.form (0 + length front) split.behind) (puts_same (ap
+    (λ m. band_text_from c.args.form 0 (take m cs)) n) (c.in_err-put_first.ensures t e)) c.from_residual.ensures.0)
 
 pub returns-then-shown-blocks : goal.returns-then-shown-blocks
 returns-then-shown-blocks g c = λ t e.
@@ -40,7 +41,8 @@ returns-then-shown-blocks g c = λ t e.
     let long : length cs ≡ length c.args.blocks.now = flex-long x t (flex_start t.slot) t.slot.blocks ∙ ap length (sym are) in
     let n : c.shown_count-shown.result ≡ count_shown (length cs) = c.shown_count-shown.ensures ∙ ap count_shown (sym long) in
     let few = count-few (length cs) (sym n ∙ (c.if-shown-blocks.true ∙ sym long)) in
-    puts_same (ap (band_text_from c.args.form 0) (take_all c.shown_count-shown.result cs (omega (arith, c.if-shown-blocks.true, long)) ∙ sym (shown-few cs few))) (c.in_ok-put_first.ensures t e)
+    puts_same (ap (band_text_from c.args.form 0) (take_all c.shown_count-shown.result cs (omega (arith, c.if-shown-blocks.true, long)) ∙ sym
+    (shown-few cs few))) (c.in_ok-put_first.ensures t e)
 
 pub put_behind-requires-clause-many : goal.put_behind-requires-clause-many
 put_behind-requires-clause-many g c = count-many (length c.args.blocks.now) (λ q. c.if-shown-blocks.false (c.shown_count-shown.ensures ∙ q))
@@ -56,4 +58,5 @@ returns g c = λ t e.
     let n : c.shown_count-shown.result ≡ count_shown (length cs) = c.shown_count-shown.ensures ∙ ap count_shown (sym long) in
     let many = count-many (length cs) (λ q. c.if-shown-blocks.false (n ∙ (q ∙ long))) in
     puts_same (sym (ap (band_text_from c.args.form 0) (shown-parts cs many) ∙ shown-behind c.args.form cs many))
-    (text_then (band_text_from c.args.form 0 (take 22 cs)) (band_text_from c.args.form 22 (cards_behind cs)) (puts_same (ap (λ m. band_text_from c.args.form 0 (take m cs)) (n ∙ some-count (length cs) many)) (c.in_ok-put_first.ensures t e)) (c.put_behind.ensures t e))
+    (text_then (band_text_from c.args.form 0 (take 22 cs)) (band_text_from c.args.form 22 (cards_behind cs)) (puts_same (ap
+    (λ m. band_text_from c.args.form 0 (take m cs)) (n ∙ some-count (length cs) many)) (c.in_ok-put_first.ensures t e)) (c.put_behind.ensures t e))

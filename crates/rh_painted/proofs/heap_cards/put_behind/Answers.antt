@@ -35,7 +35,8 @@ returns-in_err-put_segment-in-Some g c =
     let card = band_card x d b (heap_start_of b.heap + p.place) p.segment in
     let more = more_card (length cs - 22 - 1) in
     puts_same (ap (band_text_from c.args.form 22) (sym (behind-are cs (card ∷ []) p.first)))
-    (text_stop _ (form_text c.args.form (22, card)) (form_text c.args.form (23, more) ++ []) (c.in_err-put_segment-in-Some.ensures p.place p.segment p.has p.item_is) c.from_residual.ensures.0))
+    (text_stop _ (form_text c.args.form (22, card)) (form_text c.args.form (23, more) ++ [])
+    (c.in_err-put_segment-in-Some.ensures p.place p.segment p.has p.item_is) c.from_residual.ensures.0))
 
 pub returns-in_ok-put_segment-in-Some : goal.returns-in_ok-put_segment-in-Some
 returns-in_ok-put_segment-in-Some g c =
@@ -51,7 +52,8 @@ returns-in_ok-put_segment-in-Some g c =
     let card = band_card x d b (heap_start_of b.heap + p.place) p.segment in
     let more = more_card (length cs - 22 - 1) in
     puts_same (ap (band_text_from c.args.form 22) (sym (behind-are cs (card ∷ []) p.first)))
-    (text_then (form_text c.args.form (22, card)) (form_text c.args.form (23, more) ++ []) (c.in_ok-put_segment-in-Some.ensures p.place p.segment p.has p.item_is)
+    (text_then (form_text c.args.form (22, card)) (form_text c.args.form (23, more) ++ [])
+    (c.in_ok-put_segment-in-Some.ensures p.place p.segment p.has p.item_is)
     (text_last (puts_same (ap (λ m. form_text c.args.form (23, more_card (m - 22 - 1))) long) c.put_others.ensures))))
 
 pub returns-in-None : goal.returns-in-None
@@ -66,4 +68,5 @@ returns-in-None g c =
     let none = band-none x d b h c.requires.band s is c.in-None.is in
     let long = band-long x d b h c.requires.band s is in
     let all : length cs - 22 ≡ length cs - 22 - 0 = omega arith in
-    puts_same (ap (band_text_from c.args.form 22) (ap (λ m. more_card (m - 22) ∷ []) long ∙ (ap (λ m. more_card m ∷ []) all ∙ sym (behind-are cs [] none)))) (text_last c.put_others-in-None.ensures))
+    puts_same (ap (band_text_from c.args.form 22) (ap (λ m. more_card (m - 22) ∷ []) long ∙ (ap (λ m. more_card m ∷ []) all ∙ sym (behind-are cs [] none))))
+    (text_last c.put_others-in-None.ensures))

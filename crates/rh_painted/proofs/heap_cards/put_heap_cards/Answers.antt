@@ -40,7 +40,8 @@ returns-in_err-put_first g c =
     let split = shown-split cs in
     let front = take (count_shown (length cs)) cs in
     puts_same (sym (ap (band_text_from c.args.form 0) split.is ∙ band-append c.args.form 0 front split.behind))
-    (text_stop _ (band_text_from c.args.form 0 front) (band_text_from c.args.form (0 + length front) split.behind) (puts_same (ap (λ m. band_text_from c.args.form 0 (take m cs)) n) first) c.from_residual.ensures.0))
+    (text_stop _ (band_text_from c.args.form 0 front) (band_text_from c.args.form (0 + length front) split.behind) (puts_same (ap
+    (λ m. band_text_from c.args.form 0 (take m cs)) n) first) c.from_residual.ensures.0))
 
 pub returns-then-shown-survey : goal.returns-then-shown-survey
 returns-then-shown-survey g c =
@@ -55,7 +56,8 @@ returns-then-shown-survey g c =
     let n : c.shown_count-shown.result ≡ count_shown (length cs) = c.shown_count-shown.ensures ∙ ap count_shown long in
     let first = at-some (heap_seen b.heap d) _ h e c.in_ok-put_first.ensures in
     let few = count-few (length cs) (sym n ∙ (c.if-shown-survey.true ∙ long)) in
-    puts_same (ap (band_text_from c.args.form 0) (take_all c.shown_count-shown.result cs (omega (arith, c.if-shown-survey.true, long)) ∙ sym (shown-few cs few))) first)
+    puts_same (ap (band_text_from c.args.form 0) (take_all c.shown_count-shown.result cs (omega (arith, c.if-shown-survey.true, long)) ∙ sym
+    (shown-few cs few))) first)
 
 pub put_behind-requires-clause-many : goal.put_behind-requires-clause-many
 put_behind-requires-clause-many g c = count-many c.take_survey-survey.result.count (λ q. c.if-shown-survey.false (c.shown_count-shown.ensures ∙ q))
@@ -75,4 +77,5 @@ returns g c =
     let behind = at-some (heap_seen b.heap d) _ h e c.put_behind.ensures in
     let many = count-many (length cs) (λ q. c.if-shown-survey.false (n ∙ (q ∙ sym long))) in
     puts_same (sym (ap (band_text_from c.args.form 0) (shown-parts cs many) ∙ shown-behind c.args.form cs many))
-    (text_then (band_text_from c.args.form 0 (take 22 cs)) (band_text_from c.args.form 22 (cards_behind cs)) (puts_same (ap (λ m. band_text_from c.args.form 0 (take m cs)) (n ∙ some-count (length cs) many)) first) behind))
+    (text_then (band_text_from c.args.form 0 (take 22 cs)) (band_text_from c.args.form 22 (cards_behind cs)) (puts_same (ap
+    (λ m. band_text_from c.args.form 0 (take m cs)) (n ∙ some-count (length cs) many)) first) behind))
