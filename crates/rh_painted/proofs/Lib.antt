@@ -14,3 +14,4 @@ mod WayLemmas
 mod NoteLemmas
 mod TableLemmas
 mod ChartLemmas
+mod AsideLemmas

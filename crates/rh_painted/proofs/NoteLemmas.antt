@@ -58,16 +58,19 @@ refilled xs ws e =
     ∙ (ap (take (length xs)) (append-nil ws) ∙ take_all (length xs) ws (omega (arith, e)))
 
 -- the notes after a step, by the list of messages and what was sent
-pub noted-is : (d : Desk) (s : Share) (b : Before) (m : Marks) (step : ℕ) (ms : List MessageItem) (notes : List Note) (sent : Option (Letter × ℕ))
+pub noted-is : (d : Desk) (s : Share) (b : Before) (m : Marks) (step : ℕ) (ms : List MessageItem) (notes : List Note)
+    (sent : Option (Letter × ℕ))
     → ms ≡ message_items d → sent ≡ sent_by b (task_at b.handle d)
-    → noted step (scene_of d s b m) notes ≡ last_of MOST_NOTES (map (λ (n : Note). followed step (code_among n.my_ref ms) n) notes ++ new_notes step sent)
+    → noted step (scene_of d s b m) notes
+    ≡ last_of MOST_NOTES (map (λ (n : Note). followed step (code_among n.my_ref ms) n) notes ++ new_notes step sent)
 noted-is d s b m step ms notes sent e k =
     let same : (ref : ℕ) → waiting_code (scene_of d s b m) ref ≡ code_among ref ms = λ ref. sym (ap (code_among ref) e ∙ code-is d ref) in
     ap₂ (λ ns o. last_of MOST_NOTES (ns ++ new_notes step o))
     (followed-same step (waiting_code (scene_of d s b m)) (λ ref. code_among ref ms) same notes) (sym k)
 
 -- a loop that writes f x over each element x, which it reads by its place
-pub written-more : {X : Type 0} (f : X → X) (xs ys : List X) (i : ℕ) (d : X) → i < length xs → length ys ≡ length xs → ys ≡ map f (take i xs) ++ drop i xs
+pub written-more : {X : Type 0} (f : X → X) (xs ys : List X) (i : ℕ) (d : X)
+    → i < length xs → length ys ≡ length xs → ys ≡ map f (take i xs) ++ drop i xs
     → set ys i (f (get_or ys i d)) ≡ map f (take (i + 1) xs) ++ drop (i + 1) xs
 written-more f xs ys i d inside long e =
     map_over_more f xs ys i (get_or ys i d) inside e (get_or_default ys i d (get_or ys i d) (omega (arith, inside, long)))

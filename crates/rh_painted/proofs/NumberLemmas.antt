@@ -57,7 +57,8 @@ place-behind n ns e = place-none (λ m. nat_le n m) ns e
 
 -- a number that stands at its place is there already
 module _ (n : ℕ) where
-  there-step : (m : ℕ) (ms : List ℕ) (d : ℕ) → (place_of n ms < length ms → get_or ms (place_of n ms) d ≡ n → inserted n ms ≡ ms)
+  there-step : (m : ℕ) (ms : List ℕ) (d : ℕ)
+      → (place_of n ms < length ms → get_or ms (place_of n ms) d ≡ n → inserted n ms ≡ ms)
       → (b : Bool) → nat_le n m ≡ b → place_of n (m ∷ ms) < length (m ∷ ms) → get_or (m ∷ ms) (place_of n (m ∷ ms)) d ≡ n
       → inserted n (m ∷ ms) ≡ m ∷ ms
   there-step m ms d before true t inside e =
@@ -82,7 +83,8 @@ module _ (n : ℕ) where
       let most : n ≤ m = grind (arith, nat_tests) in
       omega (arith, most, apart)
 
-  new-step : (m : ℕ) (ms : List ℕ) (d : ℕ) → ((place_of n ms < length ms → get_or ms (place_of n ms) d ≢ n) → inserted n ms ≡ insert ms (place_of n ms) n)
+  new-step : (m : ℕ) (ms : List ℕ) (d : ℕ)
+      → ((place_of n ms < length ms → get_or ms (place_of n ms) d ≢ n) → inserted n ms ≡ insert ms (place_of n ms) n)
       → (b : Bool) → nat_le n m ≡ b → (place_of n (m ∷ ms) < length (m ∷ ms) → get_or (m ∷ ms) (place_of n (m ∷ ms)) d ≢ n)
       → inserted n (m ∷ ms) ≡ insert (m ∷ ms) (place_of n (m ∷ ms)) n
   new-step m ms d before true t new =
@@ -100,7 +102,8 @@ module _ (n : ℕ) where
       before (λ inside q. new (omega (arith, inside, up)) (ap (λ j. get_or (m ∷ ms) j d) up ∙ q)) in
       rw (other, more) (ap (λ z. m ∷ z) rest ∙ ap (λ j. insert (m ∷ ms) j n) (sym up))
 
-  pub inserted-new : (ns : List ℕ) (d : ℕ) → (place_of n ns < length ns → get_or ns (place_of n ns) d ≢ n) → inserted n ns ≡ insert ns (place_of n ns) n
+  pub inserted-new : (ns : List ℕ) (d : ℕ)
+      → (place_of n ns < length ns → get_or ns (place_of n ns) d ≢ n) → inserted n ns ≡ insert ns (place_of n ns) n
   inserted-new [] d new = refl
   inserted-new (m ∷ ms) d new = new-step m ms d (inserted-new ms d) (nat_le n m) refl new
 

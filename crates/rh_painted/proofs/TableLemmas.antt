@@ -1,9 +1,11 @@
 -- The tables beside a figure: whether they have rows, and their rows task by task.
-use Rattle.std.proofs.Common.{◌≡◌, Bool, true, false, refl, ap, ap₂, sym, ◌∙◌, arith, List, [], ◌∷◌, ◌++◌, length, map}
-use Rattle.std.specs.Prelude.{◌==◌, ◌||◌, not, codes, filter, find, if◌then◌else◌}
+use Rattle.std.proofs.Common.{◌≡◌, Bool, true, false, refl, ap, ap₂, sym, ◌∙◌, append-nil, arith, List, [], ◌∷◌, ◌++◌, length, map}
+use Rattle.std.specs.Prelude.{◌==◌, ◌||◌, not, codes, filter, find}
 use Rattle.std.specs.List.{flat_map, list_any}
 use Rattle.std.proofs.lemmas.Bool.{ne_eqb}
 use Rattle.std.proofs.lemmas.Grind.{flat_map-append}
+use Rattle.std.proofs.lemmas.List.{map-append}
+use Rattle.std.proofs.lemmas.List.Elements.{filter-append}
 use Rattle.std.proofs.lemmas.List.Folds.{flat_map-map}
 use Rattle.rh_defs.specs.declared.transfer.Incoming.{Incoming}
 use Rattle.rh_defs.specs.Desk.{Desk, Task}
@@ -22,7 +24,9 @@ use Rattle.rh_sight.specs.Messages.{is_held_by, message_items, waits_for}
 use Rattle.rh_drawn.specs.Letters.{has_letters_in, letterbox_in, letterboxes_in}
 use Rattle.rh_drawn.specs.Sides.{comes_alone, goes_out}
 use Rattle.rh_drawn.proofs.PostLemmas.{held-are, letters-are, waits-are}
-use Rattle.rh_drawn.proofs.TransferLemmas.{are_some, in-id}
+use Rattle.rh_drawn.proofs.TransferLemmas.{are_some, filter-flat, in-id, ins, map-flat, outs}
+use Rattle.rh_painted.specs.Transfers.{alone_among, in_rows, ins_named, out_rows, outs_named}
+use Rattle.rh_painted.proofs.TextWalks.{text-flat}
 
 -- ---- tables
 
@@ -51,15 +55,19 @@ rows-none heading f (x ∷ xs) e = let k : not false ≡ false = sym (ap not (no
 abbrev pub boxes : List MessageItem → Task → List Letterbox
 boxes ms t = letterboxes_in t.name t.handle ms
 
+-- the letterbox of a task, as a figure has it
+abbrev figured : Desk → Task → List Letterbox
+figured d t = figure.letterbox_of t.name (held_list (held_by t.handle d.post.seats)) (filter (is_to t.handle) d.post.queued)
+
 -- the letterboxes of a figure, by the list of messages
 pub boxes-are : {d : Desk} (is : IsDesk d) (ms : List MessageItem) → ms ≡ message_items d → (ts : List Task)
-    → flat_map (λ (t : Task). figure.letterbox_of t.name (held_list (held_by t.handle d.post.seats)) (filter (is_to t.handle) d.post.queued)) ts ≡ flat_map (boxes ms) ts
+    → flat_map (figured d) ts ≡ flat_map (boxes ms) ts
 boxes-are is ms e [] = refl
 boxes-are {d} is ms e (t ∷ ts) =
-    ap₂ (λ x y. x ++ y)
-    (sym (letters-are t.name t.handle ms (held_by t.handle d.post.seats) (filter (is_to t.handle) d.post.queued)
-    (ap (find (is_held_by t.handle)) e ∙ held-are is t.handle) (ap (filter (waits_for t.handle)) e ∙ waits-are is t.handle)))
-    (boxes-are is ms e ts)
+    let held = ap (find (is_held_by t.handle)) e ∙ held-are is t.handle in
+    let waits = ap (filter (waits_for t.handle)) e ∙ waits-are is t.handle in
+    let queued = filter (is_to t.handle) d.post.queued in
+    ap₂ (λ x y. x ++ y) (sym (letters-are t.name t.handle ms (held_by t.handle d.post.seats) queued held waits)) (boxes-are is ms e ts)
 
 -- there is a letterbox where some task has a message
 pub boxes-some : (ms : List MessageItem) (ts : List Task)
@@ -72,6 +80,11 @@ boxes-some ms (t ∷ ts) = go (has_letters_in t.handle ms) refl (boxes-some ms t
     go true e rest = rw e (sym (some-more (letterbox_in t.name t.handle ms) (flat_map (boxes ms) ts)))
     go false e rest = rw e rest
 
+-- the same of a figure
+pub boxes-told : {d : Desk} → IsDesk d → (ms : List MessageItem) → ms ≡ message_items d
+    → is_some (flat_map (figured d) d.tasks) ≡ list_any (λ (t : Task). has_letters_in t.handle ms) d.tasks
+boxes-told {d} is ms e = ap is_some (boxes-are is ms e d.tasks) ∙ sym (boxes-some ms d.tasks)
+
 -- ---- transfers
 
 -- there is a transfer where a side goes out or comes in
@@ -79,25 +92,40 @@ pub sides-some : (out in_ : List Side) → are_some out in_ ≡ is_some (transfe
 sides-some [] [] = refl
 sides-some (s ∷ out) in_ =
     ap (λ z. z || is_some in_) (some-more s out)
-    ∙ sym (some-more (goes_out in_ s) (map (goes_out in_) out ++ map comes_alone (filter (λ (u : Side). not (list_any (has_id u.1.id) (s ∷ out))) in_)))
+    ∙ sym (some-more (goes_out in_ s) (map (goes_out in_) out ++ map comes_alone (alone_among (s ∷ out) in_)))
 sides-some [] (s ∷ in_) =
-    some-more s in_ ∙ sym (some-more (comes_alone s) (map comes_alone (filter (λ (u : Side). not (list_any (has_id u.1.id) [])) in_)))
+    some-more s in_ ∙ sym (some-more (comes_alone s) (map comes_alone (alone_among [] in_)))
 
--- a side that comes in, if it comes alone
-pub alone-each : (name : Text) (out : List Side) (r : Incoming) (rs : List Incoming)
-    → flat_map transfer_row (map comes_alone (filter (λ (s : Side). not (list_any (has_id s.1.id) out)) (map (λ q. let s : Side = (name, in_item q) in s) (r ∷ rs))))
-    ≡ flat_map transfer_row (map comes_alone (if list_any (has_id (in_id r)) out then [] else (name, in_item r) ∷ []))
-    ++ flat_map transfer_row (map comes_alone (filter (λ (s : Side). not (list_any (has_id s.1.id) out)) (map (λ q. let s : Side = (name, in_item q) in s) rs)))
-alone-each name out r rs = go (list_any (has_id (in_id r)) out) refl
-  where
-    rest : List Side
-    rest = filter (λ (s : Side). not (list_any (has_id s.1.id) out)) (map (λ q. let s : Side = (name, in_item q) in s) rs)
+-- a side that comes in, and others
+pub in_rows-each : (outs : List Side) (s : Side) (ins : List Side) → in_rows outs (s ∷ ins) ≡ in_rows outs (s ∷ []) ++ in_rows outs ins
+in_rows-each outs s ins =
+    ap (λ z. flat_map transfer_row (map comes_alone z)) (filter-append (λ (u : Side). not (list_any (has_id u.1.id) outs)) (s ∷ []) ins)
+    ∙ (ap (flat_map transfer_row) (map-append comes_alone (alone_among outs (s ∷ [])) (alone_among outs ins))
+    ∙ flat_map-append transfer_row (map comes_alone (alone_among outs (s ∷ []))) (map comes_alone (alone_among outs ins)))
 
-    go : (b : Bool) → list_any (has_id (in_id r)) out ≡ b
-        → flat_map transfer_row (map comes_alone (filter (λ (s : Side). not (list_any (has_id s.1.id) out)) (map (λ q. let s : Side = (name, in_item q) in s) (r ∷ rs))))
-        ≡ flat_map transfer_row (map comes_alone (if b then [] else (name, in_item r) ∷ []))
-        ++ flat_map transfer_row (map comes_alone (filter (λ (s : Side). not (list_any (has_id s.1.id) out)) (map (λ q. let s : Side = (name, in_item q) in s) rs)))
-    go true e = let k : list_any (has_id (in_item r).id) out ≡ true = ap (λ n. list_any (has_id n) out) (in-id r) ∙ e in rw k refl
-    go false e =
-        let k : list_any (has_id (in_item r).id) out ≡ false = ap (λ n. list_any (has_id n) out) (in-id r) ∙ e in
-        rw k (flat_map-append transfer_row (comes_alone (name, in_item r) ∷ []) (map comes_alone rest))
+-- one whose transfer goes out has no row of its own
+module _ (outs : List Side) (name : Text) (r : Incoming) where
+  pub in_rows-none : list_any (has_id (in_id r)) outs ≡ true → in_rows outs ((name, in_item r) ∷ []) ≡ []
+  in_rows-none e =
+      let k : list_any (has_id (in_item r).id) outs ≡ true = ap (λ n. list_any (has_id n) outs) (in-id r) ∙ e in
+      rw k refl
+
+  pub in_rows-one : list_any (has_id (in_id r)) outs ≡ false → in_rows outs ((name, in_item r) ∷ []) ≡ transfer_row (comes_alone (name, in_item r))
+  in_rows-one e =
+      let k : list_any (has_id (in_item r).id) outs ≡ false = ap (λ n. list_any (has_id n) outs) (in-id r) ∙ e in
+      rw k (append-nil (transfer_row (comes_alone (name, in_item r))))
+
+-- the rows of all transfers
+pub rows-both : (outs ins : List Side) → flat_map transfer_row (transfers_of outs ins) ≡ out_rows ins outs ++ in_rows outs ins
+rows-both outs ins = flat_map-append transfer_row (map (goes_out ins) outs) (map comes_alone (alone_among outs ins))
+
+-- task by task
+pub out_rows-flat : (ins : List Side) (ts : List Task) → out_rows ins (flat_map outs ts) ≡ flat_map (λ t. out_rows ins (outs_named t.name t.sending)) ts
+out_rows-flat ins ts =
+    ap (flat_map transfer_row) (map-flat (goes_out ins) outs ts) ∙ text-flat transfer_row (λ t. map (goes_out ins) (outs_named t.name t.sending)) ts
+
+pub in_rows-flat : (out : List Side) (ts : List Task) → in_rows out (flat_map ins ts) ≡ flat_map (λ t. in_rows out (ins_named t.name t.taking)) ts
+in_rows-flat out ts =
+    ap (λ z. flat_map transfer_row (map comes_alone z)) (filter-flat (λ (s : Side). not (list_any (has_id s.1.id) out)) ins ts)
+    ∙ (ap (flat_map transfer_row) (map-flat comes_alone (λ t. alone_among out (ins_named t.name t.taking)) ts)
+    ∙ text-flat transfer_row (λ t. map comes_alone (alone_among out (ins_named t.name t.taking))) ts)

@@ -7,7 +7,10 @@ use Rattle.std.proofs.lemmas.List.{drop_all, drop_more}
 use Rattle.rh_sight.proofs.Places.{rest-none, rest-some}
 
 -- a text that is made thing by thing
-module _ {A B : Type 0} (text : List A → List B) (of_one : A → List B) (each : (x : A) (rest : List A) → text (x ∷ rest) ≡ of_one x ++ text rest) (xs : List A) (i : ℕ) where
+abbrev pub Each : {A B : Type 0} → (List A → List B) → (A → List B) → Type 0
+Each {A} text of_one = (x : A) (rest : List A) → text (x ∷ rest) ≡ of_one x ++ text rest
+
+module _ {A B : Type 0} (text : List A → List B) (of_one : A → List B) (each : Each text of_one) (xs : List A) (i : ℕ) where
   -- the thing at a place, told by a call
   pub text-some : (x : A) → slice_get xs i ≡ Some x → text (drop i xs) ≡ of_one x ++ text (drop (i + 1) xs)
   text-some x e = ap text (rest-some xs i x e) ∙ each x (drop (i + 1) xs)

@@ -1,11 +1,13 @@
 -- Charts by what is kept of them.
-use Rattle.std.specs.Prelude.{◌≡◌, ◌≤◌, ◌<◌, length}
+use Rattle.std.specs.Prelude.{◌≡◌, ◌≤◌, ◌<◌, ℕ, length}
+use Rattle.rh_defs.specs.Desk.{Desk}
 use Rattle.rh_draw.specs.declared.chart.Ends.{Ends}
+use Rattle.rh_figure.specs.Phrases.{Text}
 use Rattle.rh_painted.specs.declared.chart.Chart.{Chart}
 use Rattle.rh_painted.specs.declared.numbers.TheConstants.{MOST_NUMBERS}
 use Rattle.rh_painted.specs.declared.ways.Way.{Way}
 use Rattle.rh_painted.specs.Ways.{arrows_seen}
-use Rattle.rh_sheet.specs.Chart.{step_y, steps_in, task_x, tasks_in}
+use Rattle.rh_sheet.specs.Chart.{Arrow, arrow_path, arrow_words, beat_text, chart_body, life_of, step_y, steps_in, task_x, tasks_in}
 
 -- a chart has as few tasks and steps as that of the last messages
 pub record IsSmall (c : Chart) : Type 0 where
@@ -33,3 +35,22 @@ pub record AreNear (e : Ends) : Type 0 where
   pub y0 : e.y0 ≤ 10000
   pub x1 : e.x1 ≤ 10000
   pub y1 : e.y1 ≤ 10000
+
+-- ---- its parts
+
+-- a task, a step, an arrow, and an arrow's words
+abbrev pub life_in : Desk → Chart → ℕ → Text
+life_in d c h = life_of d c.tasks.now c.steps.now h
+
+abbrev pub beat_in : Chart → ℕ → Text
+beat_in c s = beat_text (step_y c.steps.now s) s
+
+abbrev pub path_in : Chart → Arrow → Text
+path_in c a = arrow_path c.tasks.now c.steps.now c.step a
+
+abbrev pub words_in : Chart → Arrow → Text
+words_in c a = arrow_words c.tasks.now c.steps.now c.step a
+
+-- all of them
+abbrev pub body_in : Desk → Chart → Text
+body_in d c = chart_body d (arrows_seen c.ways.now) c.tasks.now c.steps.now c.step

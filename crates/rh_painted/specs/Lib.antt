@@ -7,3 +7,4 @@ pub mod Figures
 pub mod Progress
 pub mod Walks
 pub mod Painted
+pub mod Transfers

@@ -4,10 +4,10 @@ ghost use Rattle.std.specs.Prelude.{◌≡◌, ◌≤◌, ◌+◌, ◌++◌, len
 ghost use Rattle.std.specs.List.{flat_map};
 ghost use Rattle.rh_lines.specs.Flow.{Puts};
 ghost use Rattle.rh_lines.specs.declared.row.TheConstants.{ROW};
-ghost use Rattle.rh_painted.specs.Charts.{AreNear, IsSmall, IsWhole, ends_of};
+ghost use Rattle.rh_painted.specs.Charts.{AreNear, IsSmall, IsWhole, beat_in, body_in, ends_of, life_in, path_in, words_in};
 ghost use Rattle.rh_painted.specs.Ways.{arrow_of, arrows_seen};
 ghost use Rattle.rh_painted.specs.declared.numbers.TheConstants.{MOST_NUMBERS};
-ghost use Rattle.rh_sheet.specs.Chart.{arrow_path, arrow_sentence, arrow_words, beat_text, chart_body, chart_figure, chart_foot as foot_of, chart_of, is_now as is_now_of, life_of, step_y as step_y_of, stop_sentence, task_gap as gap_of, task_x as task_x_of};
+ghost use Rattle.rh_sheet.specs.Chart.{arrow_sentence, chart_figure, chart_foot as foot_of, chart_of, is_now as is_now_of, step_y as step_y_of, stop_sentence, task_gap as gap_of, task_x as task_x_of};
 ghost use Rattle.rh_sheet.specs.Markup.{escape};
 ghost use Rattle.rh_sheet.specs.declared.sizes.TheConstants.{MOST_NOTES};
 
@@ -138,7 +138,7 @@ fn print_chart_body<S: Sight, W: Sink>(
 ) -> Result<(), WriteFailed>
     requires { IsSmall chart.now }
     ensures { Puts (W.output writer.old) (W.output writer.new) result
-        (chart_body (S.desk sight.now) (arrows_seen chart.now.ways.now) chart.now.tasks.now chart.now.steps.now chart.now.step) }
+        (body_in (S.desk sight.now) chart.now) }
 {
     print_lives(sight, chart, writer)?;
     print_beats(chart, writer)?;
@@ -154,7 +154,7 @@ fn print_lives<S: Sight, W: Sink>(
 ) -> Result<(), WriteFailed>
     requires { IsSmall chart.now }
     ensures { Puts (W.output writer.old) (W.output writer.new) result
-        (flat_map (life_of (S.desk sight.now) chart.now.tasks.now chart.now.steps.now) chart.now.tasks.now) }
+        (flat_map (life_in (S.desk sight.now) chart.now) chart.now.tasks.now) }
 {
     for task in chart.tasks {
         print_task(sight, chart, *task, writer)?;
@@ -171,7 +171,7 @@ fn print_task<S: Sight, W: Sink>(
 ) -> Result<(), WriteFailed>
     requires { IsSmall chart.now }
     ensures { Puts (W.output writer.old) (W.output writer.new) result
-        (life_of (S.desk sight.now) chart.now.tasks.now chart.now.steps.now task) }
+        (life_in (S.desk sight.now) chart.now task) }
 {
     let handle = Handle(task);
     let alive = task_with(sight, handle).is_some();
@@ -185,7 +185,7 @@ fn print_task<S: Sight, W: Sink>(
 fn print_beats<W: Sink>(chart: &Chart<'_>, writer: &mut W) -> Result<(), WriteFailed>
     requires { IsSmall chart.now }
     ensures { Puts (W.output writer.old) (W.output writer.new) result
-        (flat_map (λ s. beat_text (step_y_of chart.now.steps.now s) s) chart.now.steps.now) }
+        (flat_map (beat_in chart.now) chart.now.steps.now) }
 {
     for step in chart.steps {
         print_beat(chart.step_y(*step), *step, writer)?;
@@ -197,7 +197,7 @@ fn print_beats<W: Sink>(chart: &Chart<'_>, writer: &mut W) -> Result<(), WriteFa
 fn print_arrows<W: Sink>(chart: &Chart<'_>, writer: &mut W) -> Result<(), WriteFailed>
     requires { IsSmall chart.now }
     ensures { Puts (W.output writer.old) (W.output writer.new) result
-        (flat_map (arrow_path chart.now.tasks.now chart.now.steps.now chart.now.step) (arrows_seen chart.now.ways.now)) }
+        (flat_map (path_in chart.now) (arrows_seen chart.now.ways.now)) }
 {
     for way in chart.ways {
         print_arrow(chart, way, writer)?;
@@ -209,7 +209,7 @@ fn print_arrows<W: Sink>(chart: &Chart<'_>, writer: &mut W) -> Result<(), WriteF
 fn print_arrow<W: Sink>(chart: &Chart<'_>, way: &Way, writer: &mut W) -> Result<(), WriteFailed>
     requires { IsSmall chart.now }
     ensures { Puts (W.output writer.old) (W.output writer.new) result
-        (arrow_path chart.now.tasks.now chart.now.steps.now chart.now.step (arrow_of way.now)) }
+        (path_in chart.now (arrow_of way.now)) }
 {
     print_message_arrow(way.stop == 0, chart.is_now(way), chart.ends(way), writer)
 }
@@ -218,7 +218,7 @@ fn print_arrow<W: Sink>(chart: &Chart<'_>, way: &Way, writer: &mut W) -> Result<
 fn print_all_words<W: Sink>(chart: &Chart<'_>, writer: &mut W) -> Result<(), WriteFailed>
     requires { IsSmall chart.now }
     ensures { Puts (W.output writer.old) (W.output writer.new) result
-        (flat_map (arrow_words chart.now.tasks.now chart.now.steps.now chart.now.step) (arrows_seen chart.now.ways.now)) }
+        (flat_map (words_in chart.now) (arrows_seen chart.now.ways.now)) }
 {
     for way in chart.ways {
         print_words_of(chart, way, writer)?;
@@ -230,7 +230,7 @@ fn print_all_words<W: Sink>(chart: &Chart<'_>, writer: &mut W) -> Result<(), Wri
 fn print_words_of<W: Sink>(chart: &Chart<'_>, way: &Way, writer: &mut W) -> Result<(), WriteFailed>
     requires { IsSmall chart.now }
     ensures { Puts (W.output writer.old) (W.output writer.new) result
-        (arrow_words chart.now.tasks.now chart.now.steps.now chart.now.step (arrow_of way.now)) }
+        (words_in chart.now (arrow_of way.now)) }
 {
     let words = way.words();
     print_message_words(

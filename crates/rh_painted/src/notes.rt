@@ -29,7 +29,8 @@ pub fn note_step<S: Sight>(
     notes: &mut Notes,
 )
     requires { messages.now ≡ message_items (S.desk sight.now) }
-    ensures { (s : Share) (m : Marks) → notes.new.items ≡ noted number (scene_of (S.desk sight.now) s kept.now m) notes.old.items }
+    ensures { (s : Share) (m : Marks) → notes.new.items
+        ≡ noted number (scene_of (S.desk sight.now) s kept.now m) notes.old.items }
 {
     follow_notes(number, messages, notes);
     if let Some(sent) = sent_by(sight, kept) {

@@ -1,12 +1,11 @@
 //! The table of transfers: a row for each, with the record of either side.
 
-ghost use Rattle.std.specs.Prelude.{◌≡◌, [], ◌∷◌, filter, if◌then◌else◌, map, not};
-ghost use Rattle.std.specs.List.{flat_map, list_any};
+ghost use Rattle.std.specs.Prelude.{◌≡◌, [], ◌∷◌};
 ghost use Rattle.rh_defs.specs.Listing.{in_item as in_item_of, out_item as out_item_of};
-ghost use Rattle.rh_defs.specs.Records.{in_id as in_id_of};
-ghost use Rattle.rh_drawn.specs.Sides.{comes_alone, goes_out, ins_of, outs_of};
-ghost use Rattle.rh_figure.specs.Figure.{has_id as has_id_of, transfers_of};
+ghost use Rattle.rh_drawn.specs.Sides.{goes_out, ins_of, outs_of};
+ghost use Rattle.rh_figure.specs.Figure.{transfers_of};
 ghost use Rattle.rh_lines.specs.Flow.{Puts};
+ghost use Rattle.rh_painted.specs.Transfers.{in_rows, ins_named, out_rows, outs_named};
 ghost use Rattle.rh_sheet.specs.Tables.{transfer_row, transfers_table};
 
 use rh_defs::{Incoming, Name, Outgoing};
@@ -41,7 +40,7 @@ pub fn print_transfers<S: Sight, W: Sink>(sight: &S, writer: &mut W) -> Result<(
 /// Writes the transfers that go out, task by task.
 fn print_outs<S: Sight, W: Sink>(sight: &S, writer: &mut W) -> Result<(), WriteFailed>
     ensures { Puts (W.output writer.old) (W.output writer.new) result
-        (flat_map transfer_row (map (goes_out (ins_of (S.desk sight.now))) (outs_of (S.desk sight.now)))) }
+        (out_rows (ins_of (S.desk sight.now)) (outs_of (S.desk sight.now))) }
 {
     let mut i = 0;
     'tasks: while let Some(task) = sight.task(i) {
@@ -58,7 +57,7 @@ fn print_task_outs<S: Sight, W: Sink>(
     writer: &mut W,
 ) -> Result<(), WriteFailed>
     ensures { Puts (W.output writer.old) (W.output writer.new) result
-        (flat_map transfer_row (map (goes_out (ins_of (S.desk sight.now))) (map (λ r. (task.now.name.now, out_item_of r)) task.now.sending.now))) }
+        (out_rows (ins_of (S.desk sight.now)) (outs_named task.now.name.now task.now.sending.now)) }
 {
     for record in task.sending {
         print_out(sight, task.name, record, writer)?;
@@ -88,7 +87,7 @@ fn print_out<S: Sight, W: Sink>(
 /// Writes the transfers that only come in, task by task.
 fn print_ins<S: Sight, W: Sink>(sight: &S, writer: &mut W) -> Result<(), WriteFailed>
     ensures { Puts (W.output writer.old) (W.output writer.new) result
-        (flat_map transfer_row (map comes_alone (filter (λ s. not (list_any (has_id_of s.1.id) (outs_of (S.desk sight.now)))) (ins_of (S.desk sight.now))))) }
+        (in_rows (outs_of (S.desk sight.now)) (ins_of (S.desk sight.now))) }
 {
     let mut i = 0;
     'tasks: while let Some(task) = sight.task(i) {
@@ -105,7 +104,7 @@ fn print_task_ins<S: Sight, W: Sink>(
     writer: &mut W,
 ) -> Result<(), WriteFailed>
     ensures { Puts (W.output writer.old) (W.output writer.new) result
-        (flat_map transfer_row (map comes_alone (filter (λ s. not (list_any (has_id_of s.1.id) (outs_of (S.desk sight.now)))) (map (λ r. (task.now.name.now, in_item_of r)) task.now.taking.now)))) }
+        (in_rows (outs_of (S.desk sight.now)) (ins_named task.now.name.now task.now.taking.now)) }
 {
     for record in task.taking {
         print_if_alone(sight, task.name, record, writer)?;
@@ -121,7 +120,7 @@ fn print_if_alone<S: Sight, W: Sink>(
     writer: &mut W,
 ) -> Result<(), WriteFailed>
     ensures { Puts (W.output writer.old) (W.output writer.new) result
-        (flat_map transfer_row (map comes_alone (if list_any (has_id_of (in_id_of record.now)) (outs_of (S.desk sight.now)) then [] else (name.now, in_item_of record.now) ∷ []))) }
+        (in_rows (outs_of (S.desk sight.now)) ((name.now, in_item_of record.now) ∷ [])) }
 {
     let id = in_id(record);
     if has_out(sight, id) {

@@ -18,8 +18,8 @@ use rh_sheet::sizes::MOST_NOTES;
 /// A chart has at most so many arrows.
 pub const MOST_WAYS: usize = 2 * MOST_NOTES;
 
-/// An arrow of a chart: a message, by its ref, on its way between the tasks with two handles, or on its way back, between
-/// two steps, of which the second is 0 where it waits.
+/// An arrow of a chart: a message, by its ref, on its way from a task to a task, by their handles, or on its way back,
+/// between two steps, of which the second is 0 where it waits.
 #[derive(Clone, Copy)]
 pub struct Way {
     pub start: u32,

@@ -1,19 +1,18 @@
-use Rattle.std.proofs.Common.{◌≡◌, true, length, ap, ap₂, sym, ◌∙◌}
+use Rattle.std.proofs.Common.{◌≡◌, true, length, ap₂, sym, ◌∙◌}
 use Rattle.std.specs.Prelude.{◌==◌, ◌||◌, not}
 use Rattle.rh_figure.specs.Figure.{letterboxes, transfers}
 use Rattle.rh_sight.specs.Steps.{scene_at}
 use Rattle.rh_drawn.specs.Sides.{ins_of, outs_of}
-use Rattle.rh_painted.proofs.TableLemmas.{boxes-are, boxes-some, is_some, sides-some}
+use Rattle.rh_painted.proofs.TableLemmas.{boxes-told, is_some, sides-some}
 use Rattle.rh_painted.proofs.aside.has_aside.Goals as goal
 
 pub returns-then-has_letterboxes : goal.returns-then-has_letterboxes
 returns-then-has_letterboxes g c =
-    let d = g.S.Sight.desk c.args.sight.now in
     let ms = c.args.step.now.messages.now in
-    let x = scene_at d c.args.step.now in
+    let x = scene_at (g.S.Sight.desk c.args.sight.now) c.args.step.now in
     let none : (length c.args.notes.now == 0) ≡ true = sym c.is_empty.ensures ∙ c.if-not-is_empty.false in
     let letters : c.has_letterboxes.result ≡ is_some (letterboxes x) =
-    c.has_letterboxes.ensures ∙ (boxes-some ms d.tasks ∙ sym (ap is_some (boxes-are c.spelled.ensures ms c.requires.messages d.tasks))) in
+    c.has_letterboxes.ensures ∙ sym (boxes-told c.spelled.ensures ms c.requires.messages) in
     c.if-has_letterboxes.true
     ∙ sym (ap₂ (λ a b. not a || b || is_some (transfers x)) none (sym letters ∙ c.if-has_letterboxes.true))
 
@@ -21,10 +20,10 @@ pub returns-else-has_letterboxes : goal.returns-else-has_letterboxes
 returns-else-has_letterboxes g c =
     let d = g.S.Sight.desk c.args.sight.now in
     let ms = c.args.step.now.messages.now in
-    let x = scene_at d c.args.step.now in
+    let x = scene_at (g.S.Sight.desk c.args.sight.now) c.args.step.now in
     let none : (length c.args.notes.now == 0) ≡ true = sym c.is_empty.ensures ∙ c.if-not-is_empty.false in
     let letters : c.has_letterboxes.result ≡ is_some (letterboxes x) =
-    c.has_letterboxes.ensures ∙ (boxes-some ms d.tasks ∙ sym (ap is_some (boxes-are c.spelled.ensures ms c.requires.messages d.tasks))) in
+    c.has_letterboxes.ensures ∙ sym (boxes-told c.spelled.ensures ms c.requires.messages) in
     c.has_transfers.ensures
     ∙ (sides-some (outs_of d) (ins_of d)
     ∙ sym (ap₂ (λ a b. not a || b || is_some (transfers x)) none (sym letters ∙ c.if-has_letterboxes.false)))

@@ -1,89 +1,74 @@
-use Rattle.std.proofs.Common.{◌≡◌, true, [], ◌∷◌, ◌++◌, ap, sym, ◌∙◌, refl}
-use Rattle.std.specs.Prelude.{codes}
-use Rattle.std.specs.List.{concat}
+use Rattle.std.proofs.Common.{◌++◌, sym, ◌∙◌, refl}
 use Rattle.rh_figure.specs.Figure.{letterboxes, transfers}
-use Rattle.rh_figure.specs.Phrases.{Text, where_so}
-use Rattle.rh_lines.proofs.FlowLemmas.{puts_before, puts_more, puts_stops}
-use Rattle.rh_sheet.specs.Chart.{arrows, chart_figure}
-use Rattle.rh_sheet.specs.Steps.{aside_text, has_aside}
+use Rattle.rh_figure.specs.Phrases.{Text}
+use Rattle.rh_sheet.specs.Chart.{chart_figure}
 use Rattle.rh_sheet.specs.Tables.{messages_table, transfers_table}
 use Rattle.rh_sight.specs.Steps.{scene_at}
 use Rattle.rh_drawn.proofs.Walks.{puts_same}
-use Rattle.rh_painted.proofs.ChartLemmas.{chart-seen}
+use Rattle.rh_painted.proofs.AsideLemmas.{aside-parts, last}
+use Rattle.rh_lines.proofs.FlowLemmas.{puts_before, puts_more, puts_stops}
 use Rattle.rh_painted.proofs.aside.print_aside.Goals as goal
-
-abbrev first : Text
-first = codes "<aside>\n"
-
-abbrev last : Text
-last = codes "</aside>\n"
 
 pub returns-in_err-put : goal.returns-in_err-put
 returns-in_err-put g c =
     let d = g.S.Sight.desk c.args.sight.now in
     let x = scene_at d c.args.step.now in
     let notes = c.args.notes.now in
-    let chart : Text = chart_figure d notes c.args.number in
     let boxes : Text = messages_table (letterboxes x) in
     let sides : Text = transfers_table (transfers x) in
-    let has : has_aside x notes ≡ true = sym c.has_aside.ensures ∙ c.if-not-has_aside.false in
-    let all : Text = concat (first ∷ chart_figure x.desk notes c.args.number ∷ boxes ∷ sides ∷ last ∷ []) in
-    let e : first ++ (chart ++ (boxes ++ (sides ++ last))) ≡ aside_text x notes c.args.number =
-    ap (λ z. first ++ (z ++ (boxes ++ (sides ++ last)))) (chart-seen d (arrows notes) c.args.number) ∙ sym (ap (λ b. where_so b all) has) in
-    puts_same e (puts_stops _ (puts_before (chart ++ (boxes ++ (sides ++ last))) c.in_err-put.ensures refl) c.from_residual.ensures.0)
+    let e = aside-parts d x refl notes c.args.number (sym c.has_aside.ensures ∙ c.if-not-has_aside.false) in
+    puts_same e (puts_stops _
+    (puts_before ((chart_figure d notes c.args.number) ++ (boxes ++ (sides ++ last))) c.in_err-put.ensures refl)
+    c.from_residual.ensures.0)
 
 pub returns-in_err-print_chart : goal.returns-in_err-print_chart
 returns-in_err-print_chart g c =
     let d = g.S.Sight.desk c.args.sight.now in
     let x = scene_at d c.args.step.now in
     let notes = c.args.notes.now in
-    let chart : Text = chart_figure d notes c.args.number in
     let boxes : Text = messages_table (letterboxes x) in
     let sides : Text = transfers_table (transfers x) in
-    let has : has_aside x notes ≡ true = sym c.has_aside.ensures ∙ c.if-not-has_aside.false in
-    let all : Text = concat (first ∷ chart_figure x.desk notes c.args.number ∷ boxes ∷ sides ∷ last ∷ []) in
-    let e : first ++ (chart ++ (boxes ++ (sides ++ last))) ≡ aside_text x notes c.args.number =
-    ap (λ z. first ++ (z ++ (boxes ++ (sides ++ last)))) (chart-seen d (arrows notes) c.args.number) ∙ sym (ap (λ b. where_so b all) has) in
-    puts_same e (puts_stops _ (puts_more _ _ _ c.in_ok-put.ensures (puts_before (boxes ++ (sides ++ last)) c.in_err-print_chart.ensures refl)) c.from_residual-in_err-print_chart.ensures.0)
+    let e = aside-parts d x refl notes c.args.number (sym c.has_aside.ensures ∙ c.if-not-has_aside.false) in
+    puts_same e (puts_stops _
+    (puts_more _ _ _ c.in_ok-put.ensures (puts_before (boxes ++ (sides ++ last)) c.in_err-print_chart.ensures refl))
+    c.from_residual-in_err-print_chart.ensures.0)
 
 pub returns-in_err-print_messages : goal.returns-in_err-print_messages
 returns-in_err-print_messages g c =
     let d = g.S.Sight.desk c.args.sight.now in
     let x = scene_at d c.args.step.now in
     let notes = c.args.notes.now in
-    let chart : Text = chart_figure d notes c.args.number in
     let boxes : Text = messages_table (letterboxes x) in
     let sides : Text = transfers_table (transfers x) in
-    let has : has_aside x notes ≡ true = sym c.has_aside.ensures ∙ c.if-not-has_aside.false in
-    let all : Text = concat (first ∷ chart_figure x.desk notes c.args.number ∷ boxes ∷ sides ∷ last ∷ []) in
-    let e : first ++ (chart ++ (boxes ++ (sides ++ last))) ≡ aside_text x notes c.args.number =
-    ap (λ z. first ++ (z ++ (boxes ++ (sides ++ last)))) (chart-seen d (arrows notes) c.args.number) ∙ sym (ap (λ b. where_so b all) has) in
-    puts_same e (puts_stops _ (puts_more _ _ _ c.in_ok-put.ensures (puts_more _ _ _ c.in_ok-print_chart.ensures (puts_before (sides ++ last) c.in_err-print_messages.ensures refl))) c.from_residual-in_err-print_messages.ensures.0)
+    let e = aside-parts d x refl notes c.args.number (sym c.has_aside.ensures ∙ c.if-not-has_aside.false) in
+    puts_same e (puts_stops _
+    (puts_more _ _ _ c.in_ok-put.ensures
+    (puts_more _ _ _ c.in_ok-print_chart.ensures (puts_before (sides ++ last) c.in_err-print_messages.ensures refl)))
+    c.from_residual-in_err-print_messages.ensures.0)
 
 pub returns-in_err-print_transfers : goal.returns-in_err-print_transfers
 returns-in_err-print_transfers g c =
     let d = g.S.Sight.desk c.args.sight.now in
     let x = scene_at d c.args.step.now in
     let notes = c.args.notes.now in
-    let chart : Text = chart_figure d notes c.args.number in
     let boxes : Text = messages_table (letterboxes x) in
     let sides : Text = transfers_table (transfers x) in
-    let has : has_aside x notes ≡ true = sym c.has_aside.ensures ∙ c.if-not-has_aside.false in
-    let all : Text = concat (first ∷ chart_figure x.desk notes c.args.number ∷ boxes ∷ sides ∷ last ∷ []) in
-    let e : first ++ (chart ++ (boxes ++ (sides ++ last))) ≡ aside_text x notes c.args.number =
-    ap (λ z. first ++ (z ++ (boxes ++ (sides ++ last)))) (chart-seen d (arrows notes) c.args.number) ∙ sym (ap (λ b. where_so b all) has) in
-    puts_same e (puts_stops _ (puts_more _ _ _ c.in_ok-put.ensures (puts_more _ _ _ c.in_ok-print_chart.ensures (puts_more _ _ _ c.in_ok-print_messages.ensures (puts_before last c.in_err-print_transfers.ensures refl)))) c.from_residual-in_err-print_transfers.ensures.0)
+    let e = aside-parts d x refl notes c.args.number (sym c.has_aside.ensures ∙ c.if-not-has_aside.false) in
+    puts_same e (puts_stops _
+    (puts_more _ _ _ c.in_ok-put.ensures
+    (puts_more _ _ _ c.in_ok-print_chart.ensures
+    (puts_more _ _ _ c.in_ok-print_messages.ensures (puts_before last c.in_err-print_transfers.ensures refl))))
+    c.from_residual-in_err-print_transfers.ensures.0)
 
 pub returns : goal.returns
 returns g c =
     let d = g.S.Sight.desk c.args.sight.now in
     let x = scene_at d c.args.step.now in
     let notes = c.args.notes.now in
-    let chart : Text = chart_figure d notes c.args.number in
     let boxes : Text = messages_table (letterboxes x) in
     let sides : Text = transfers_table (transfers x) in
-    let has : has_aside x notes ≡ true = sym c.has_aside.ensures ∙ c.if-not-has_aside.false in
-    let all : Text = concat (first ∷ chart_figure x.desk notes c.args.number ∷ boxes ∷ sides ∷ last ∷ []) in
-    let e : first ++ (chart ++ (boxes ++ (sides ++ last))) ≡ aside_text x notes c.args.number =
-    ap (λ z. first ++ (z ++ (boxes ++ (sides ++ last)))) (chart-seen d (arrows notes) c.args.number) ∙ sym (ap (λ b. where_so b all) has) in
-    puts_same e (puts_more _ _ _ c.in_ok-put.ensures (puts_more _ _ _ c.in_ok-print_chart.ensures (puts_more _ _ _ c.in_ok-print_messages.ensures (puts_more _ _ _ c.in_ok-print_transfers.ensures c.put-2.ensures))))
+    let e = aside-parts d x refl notes c.args.number (sym c.has_aside.ensures ∙ c.if-not-has_aside.false) in
+    puts_same e (puts_more _ _ _ c.in_ok-put.ensures
+    (puts_more _ _ _ c.in_ok-print_chart.ensures
+    (puts_more _ _ _ c.in_ok-print_messages.ensures
+    (puts_more _ _ _ c.in_ok-print_transfers.ensures (c.put-2.ensures)))))

@@ -1,7 +1,7 @@
 use Rattle.std.proofs.Common.{List, refl}
 use Rattle.std.specs.List.{flat_map}
-use Rattle.rh_sheet.specs.Chart.{arrow_path}
 use Rattle.rh_painted.specs.declared.ways.Way.{Way}
+use Rattle.rh_painted.specs.Charts.{path_in}
 use Rattle.rh_painted.specs.Ways.{arrow_of, arrows_seen}
 use Rattle.rh_map.proofs.Left.{left_breaks, left_less, left_none}
 use Rattle.rh_painted.proofs.TextWalks.{text-nth, text-end}
@@ -9,17 +9,27 @@ use Rattle.rh_painted.proofs.chart.print_arrows.Goals as goal
 
 pub loop-way-preserved : goal.loop-way-preserved
 loop-way-preserved g c =
-    let text = λ (ws : List Way). flat_map (arrow_path c.args.chart.now.tasks.now c.args.chart.now.steps.now c.args.chart.now.step) (arrows_seen ws) in
-    let of_one = λ (w : Way). arrow_path c.args.chart.now.tasks.now c.args.chart.now.steps.now c.args.chart.now.step (arrow_of w) in
-    left_less c.loop-way.invariant (text-nth text of_one (λ x rest. refl) c.args.chart.now.ways.now c.loop-way.way-index _ c.loop-way-test.true) c.in_ok-print_arrow.ensures.ok
+    let chart = c.args.chart.now in
+    let i = c.loop-way.way-index in
+    let text = λ (ws : List Way). flat_map (path_in chart) (arrows_seen ws) in
+    let of_one = λ (w : Way). path_in chart (arrow_of w) in
+    left_less c.loop-way.invariant
+    (text-nth text of_one (λ x rest. refl) chart.ways.now i _ c.loop-way-test.true)
+    c.in_ok-print_arrow.ensures.ok
 
 pub returns-in_err-print_arrow : goal.returns-in_err-print_arrow
 returns-in_err-print_arrow g c =
-    let text = λ (ws : List Way). flat_map (arrow_path c.args.chart.now.tasks.now c.args.chart.now.steps.now c.args.chart.now.step) (arrows_seen ws) in
-    let of_one = λ (w : Way). arrow_path c.args.chart.now.tasks.now c.args.chart.now.steps.now c.args.chart.now.step (arrow_of w) in
-    left_breaks _ _ c.loop-way.invariant (text-nth text of_one (λ x rest. refl) c.args.chart.now.ways.now c.loop-way.way-index _ c.loop-way-test.true) c.in_err-print_arrow.ensures c.from_residual.ensures.0
+    let chart = c.args.chart.now in
+    let i = c.loop-way.way-index in
+    let text = λ (ws : List Way). flat_map (path_in chart) (arrows_seen ws) in
+    let of_one = λ (w : Way). path_in chart (arrow_of w) in
+    left_breaks _ _ c.loop-way.invariant
+    (text-nth text of_one (λ x rest. refl) chart.ways.now i _ c.loop-way-test.true)
+    c.in_err-print_arrow.ensures c.from_residual.ensures.0
 
 pub returns : goal.returns
 returns g c =
-    let text = λ (ws : List Way). flat_map (arrow_path c.args.chart.now.tasks.now c.args.chart.now.steps.now c.args.chart.now.step) (arrows_seen ws) in
-    record { ok = left_none c.loop-way.invariant (text-end text refl c.args.chart.now.ways.now c.loop-way.way-index c.loop-way-test.false); err = tt }
+    let chart = c.args.chart.now in
+    let i = c.loop-way.way-index in
+    let text = λ (ws : List Way). flat_map (path_in chart) (arrows_seen ws) in
+    record { ok = left_none c.loop-way.invariant (text-end text refl chart.ways.now i c.loop-way-test.false); err = tt }

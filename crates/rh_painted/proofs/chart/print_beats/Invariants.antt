@@ -1,11 +1,12 @@
 use Rattle.std.proofs.Common.{drop}
 use Rattle.std.specs.List.{flat_map}
-use Rattle.rh_sheet.specs.Chart.{beat_text, step_y}
+use Rattle.rh_painted.specs.Charts.{beat_in}
 use Rattle.rh_map.proofs.Left.{Left}
 use Rattle.rh_painted.proofs.chart.print_beats.Given as goal
 
 -- those from the place on are left
 abbrev pub invariant-loop-step : goal.invariant-loop-step
 invariant-loop-step g l =
-    Left (g.W.Sink.output l.initial.writer) (g.W.Sink.output l.writer) (flat_map (λ s. beat_text (step_y l.chart.steps.now s) s) l.chart.steps.now)
-    (flat_map (λ s. beat_text (step_y l.chart.steps.now s) s) (drop l.step-index l.chart.steps.now))
+    Left (g.W.Sink.output l.initial.writer) (g.W.Sink.output l.writer)
+    (flat_map (beat_in l.chart) l.chart.steps.now)
+    (flat_map (beat_in l.chart) (drop l.step-index l.chart.steps.now))

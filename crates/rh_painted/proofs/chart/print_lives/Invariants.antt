@@ -1,11 +1,12 @@
 use Rattle.std.proofs.Common.{drop}
 use Rattle.std.specs.List.{flat_map}
-use Rattle.rh_sheet.specs.Chart.{life_of}
+use Rattle.rh_painted.specs.Charts.{life_in}
 use Rattle.rh_map.proofs.Left.{Left}
 use Rattle.rh_painted.proofs.chart.print_lives.Given as goal
 
 -- those from the place on are left
 abbrev pub invariant-loop-task : goal.invariant-loop-task
 invariant-loop-task g l =
-    Left (g.W.Sink.output l.initial.writer) (g.W.Sink.output l.writer) (flat_map (life_of (g.S.Sight.desk l.sight) l.chart.tasks.now l.chart.steps.now) l.chart.tasks.now)
-    (flat_map (life_of (g.S.Sight.desk l.sight) l.chart.tasks.now l.chart.steps.now) (drop l.task-index l.chart.tasks.now))
+    Left (g.W.Sink.output l.initial.writer) (g.W.Sink.output l.writer)
+    (flat_map (life_in (g.S.Sight.desk l.sight) l.chart) l.chart.tasks.now)
+    (flat_map (life_in (g.S.Sight.desk l.sight) l.chart) (drop l.task-index l.chart.tasks.now))

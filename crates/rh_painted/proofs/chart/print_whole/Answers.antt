@@ -3,13 +3,14 @@ use Rattle.std.specs.Prelude.{codes}
 use Rattle.std.specs.List.{flat_map}
 use Rattle.rh_draw.specs.Figures.{figure_open}
 use Rattle.rh_figure.specs.Phrases.{Text}
-use Rattle.rh_lines.proofs.FlowLemmas.{puts_before, puts_more, puts_stops}
-use Rattle.rh_sheet.specs.Chart.{arrow_sentence, chart_body}
+use Rattle.rh_sheet.specs.Chart.{arrow_sentence}
 use Rattle.rh_sheet.specs.Markup.{escape}
 use Rattle.rh_sheet.specs.declared.sizes.TheConstants.{CHART_EDGE, CHART_WIDTH}
 use Rattle.rh_drawn.proofs.Walks.{puts_same}
+use Rattle.rh_painted.specs.Charts.{body_in}
 use Rattle.rh_painted.specs.Ways.{arrows_seen}
 use Rattle.rh_painted.proofs.ChartLemmas.{chart-parts, title, ways-some}
+use Rattle.rh_lines.proofs.FlowLemmas.{puts_before, puts_more, puts_stops}
 use Rattle.rh_painted.proofs.chart.print_whole.Goals as goal
 
 abbrev described : Text
@@ -21,64 +22,68 @@ end = codes "</svg>\n"
 pub returns-in_err-print_figure_open : goal.returns-in_err-print_figure_open
 returns-in_err-print_figure_open g c =
     let d = g.S.Sight.desk c.args.sight.now in
-    let ts = c.args.chart.now.tasks.now in
-    let ss = c.args.chart.now.steps.now in
-    let drawn = arrows_seen c.args.chart.now.ways.now in
-    let step = c.args.chart.now.step in
-    let told : Text = escape (flat_map (arrow_sentence d) drawn) in
-    let body : Text = chart_body d drawn ts ss step in
-    let e = chart-parts d drawn ts ss step c.requires.whole.tasks c.requires.whole.steps (ways-some c.args.chart.now.ways.now c.requires.whole.some) in
+    let chart = c.args.chart.now in
+    let told : Text = escape (flat_map (arrow_sentence d) (arrows_seen chart.ways.now)) in
+    let body : Text = body_in d chart in
+    let some = ways-some chart.ways.now c.requires.whole.some in
+    let e = chart-parts d (arrows_seen chart.ways.now) chart.tasks.now chart.steps.now chart.step c.requires.whole.tasks c.requires.whole.steps some in
     let high = ap (λ h. figure_open CHART_WIDTH (h + CHART_EDGE) title) c.foot-height.ensures.value in
-    puts_same e (puts_stops _ (puts_before (told ++ (described ++ (body ++ end))) (puts_same high c.in_err-print_figure_open.ensures) refl) c.from_residual.ensures.0)
+    puts_same e (puts_stops _
+    (puts_before (told ++ (described ++ (body ++ end))) (puts_same high c.in_err-print_figure_open.ensures) refl)
+    c.from_residual.ensures.0)
 
 pub returns-in_err-print_sentences : goal.returns-in_err-print_sentences
 returns-in_err-print_sentences g c =
     let d = g.S.Sight.desk c.args.sight.now in
-    let ts = c.args.chart.now.tasks.now in
-    let ss = c.args.chart.now.steps.now in
-    let drawn = arrows_seen c.args.chart.now.ways.now in
-    let step = c.args.chart.now.step in
-    let told : Text = escape (flat_map (arrow_sentence d) drawn) in
-    let body : Text = chart_body d drawn ts ss step in
-    let e = chart-parts d drawn ts ss step c.requires.whole.tasks c.requires.whole.steps (ways-some c.args.chart.now.ways.now c.requires.whole.some) in
+    let chart = c.args.chart.now in
+    let told : Text = escape (flat_map (arrow_sentence d) (arrows_seen chart.ways.now)) in
+    let body : Text = body_in d chart in
+    let some = ways-some chart.ways.now c.requires.whole.some in
+    let e = chart-parts d (arrows_seen chart.ways.now) chart.tasks.now chart.steps.now chart.step c.requires.whole.tasks c.requires.whole.steps some in
     let high = ap (λ h. figure_open CHART_WIDTH (h + CHART_EDGE) title) c.foot-height.ensures.value in
-    puts_same e (puts_stops _ (puts_more _ _ _ (puts_same high c.in_ok-print_figure_open.ensures) (puts_before (described ++ (body ++ end)) c.in_err-print_sentences.ensures refl)) c.from_residual-in_err-print_sentences.ensures.0)
+    puts_same e (puts_stops _
+    (puts_more _ _ _ (puts_same high c.in_ok-print_figure_open.ensures) (puts_before (described ++ (body ++ end)) c.in_err-print_sentences.ensures refl))
+    c.from_residual-in_err-print_sentences.ensures.0)
 
 pub returns-in_err-print_described : goal.returns-in_err-print_described
 returns-in_err-print_described g c =
     let d = g.S.Sight.desk c.args.sight.now in
-    let ts = c.args.chart.now.tasks.now in
-    let ss = c.args.chart.now.steps.now in
-    let drawn = arrows_seen c.args.chart.now.ways.now in
-    let step = c.args.chart.now.step in
-    let told : Text = escape (flat_map (arrow_sentence d) drawn) in
-    let body : Text = chart_body d drawn ts ss step in
-    let e = chart-parts d drawn ts ss step c.requires.whole.tasks c.requires.whole.steps (ways-some c.args.chart.now.ways.now c.requires.whole.some) in
+    let chart = c.args.chart.now in
+    let told : Text = escape (flat_map (arrow_sentence d) (arrows_seen chart.ways.now)) in
+    let body : Text = body_in d chart in
+    let some = ways-some chart.ways.now c.requires.whole.some in
+    let e = chart-parts d (arrows_seen chart.ways.now) chart.tasks.now chart.steps.now chart.step c.requires.whole.tasks c.requires.whole.steps some in
     let high = ap (λ h. figure_open CHART_WIDTH (h + CHART_EDGE) title) c.foot-height.ensures.value in
-    puts_same e (puts_stops _ (puts_more _ _ _ (puts_same high c.in_ok-print_figure_open.ensures) (puts_more _ _ _ c.in_ok-print_sentences.ensures (puts_before (body ++ end) c.in_err-print_described.ensures refl))) c.from_residual-in_err-print_described.ensures.0)
+    puts_same e (puts_stops _
+    (puts_more _ _ _ (puts_same high c.in_ok-print_figure_open.ensures)
+    (puts_more _ _ _ c.in_ok-print_sentences.ensures (puts_before (body ++ end) c.in_err-print_described.ensures refl)))
+    c.from_residual-in_err-print_described.ensures.0)
 
 pub returns-in_err-print_chart_body : goal.returns-in_err-print_chart_body
 returns-in_err-print_chart_body g c =
     let d = g.S.Sight.desk c.args.sight.now in
-    let ts = c.args.chart.now.tasks.now in
-    let ss = c.args.chart.now.steps.now in
-    let drawn = arrows_seen c.args.chart.now.ways.now in
-    let step = c.args.chart.now.step in
-    let told : Text = escape (flat_map (arrow_sentence d) drawn) in
-    let body : Text = chart_body d drawn ts ss step in
-    let e = chart-parts d drawn ts ss step c.requires.whole.tasks c.requires.whole.steps (ways-some c.args.chart.now.ways.now c.requires.whole.some) in
+    let chart = c.args.chart.now in
+    let told : Text = escape (flat_map (arrow_sentence d) (arrows_seen chart.ways.now)) in
+    let body : Text = body_in d chart in
+    let some = ways-some chart.ways.now c.requires.whole.some in
+    let e = chart-parts d (arrows_seen chart.ways.now) chart.tasks.now chart.steps.now chart.step c.requires.whole.tasks c.requires.whole.steps some in
     let high = ap (λ h. figure_open CHART_WIDTH (h + CHART_EDGE) title) c.foot-height.ensures.value in
-    puts_same e (puts_stops _ (puts_more _ _ _ (puts_same high c.in_ok-print_figure_open.ensures) (puts_more _ _ _ c.in_ok-print_sentences.ensures (puts_more _ _ _ c.in_ok-print_described.ensures (puts_before end c.in_err-print_chart_body.ensures refl)))) c.from_residual-in_err-print_chart_body.ensures.0)
+    puts_same e (puts_stops _
+    (puts_more _ _ _ (puts_same high c.in_ok-print_figure_open.ensures)
+    (puts_more _ _ _ c.in_ok-print_sentences.ensures
+    (puts_more _ _ _ c.in_ok-print_described.ensures (puts_before end c.in_err-print_chart_body.ensures refl))))
+    c.from_residual-in_err-print_chart_body.ensures.0)
 
 pub returns : goal.returns
 returns g c =
     let d = g.S.Sight.desk c.args.sight.now in
-    let ts = c.args.chart.now.tasks.now in
-    let ss = c.args.chart.now.steps.now in
-    let drawn = arrows_seen c.args.chart.now.ways.now in
-    let step = c.args.chart.now.step in
-    let told : Text = escape (flat_map (arrow_sentence d) drawn) in
-    let body : Text = chart_body d drawn ts ss step in
-    let e = chart-parts d drawn ts ss step c.requires.whole.tasks c.requires.whole.steps (ways-some c.args.chart.now.ways.now c.requires.whole.some) in
+    let chart = c.args.chart.now in
+    let told : Text = escape (flat_map (arrow_sentence d) (arrows_seen chart.ways.now)) in
+    let body : Text = body_in d chart in
+    let some = ways-some chart.ways.now c.requires.whole.some in
+    let e = chart-parts d (arrows_seen chart.ways.now) chart.tasks.now chart.steps.now chart.step c.requires.whole.tasks c.requires.whole.steps some in
     let high = ap (λ h. figure_open CHART_WIDTH (h + CHART_EDGE) title) c.foot-height.ensures.value in
-    puts_same e (puts_more _ _ _ (puts_same high c.in_ok-print_figure_open.ensures) (puts_more _ _ _ c.in_ok-print_sentences.ensures (puts_more _ _ _ c.in_ok-print_described.ensures (puts_more _ _ _ c.in_ok-print_chart_body.ensures c.print_figure_end.ensures))))
+    puts_same e (puts_more _ _ _ (puts_same high c.in_ok-print_figure_open.ensures)
+    (puts_more _ _ _ c.in_ok-print_sentences.ensures
+    (puts_more _ _ _ c.in_ok-print_described.ensures
+    (puts_more _ _ _ c.in_ok-print_chart_body.ensures (c.print_figure_end.ensures)))))

@@ -1,6 +1,6 @@
 use Rattle.std.proofs.Common.{◌≡◌, ◌<◌, ◌∙◌, List, ℕ, length, ap, ap₂, subst, refl, arith}
-use Rattle.std.proofs.lemmas.Option.{slice_get_within}
 use Rattle.std.specs.List.{flat_map}
+use Rattle.std.proofs.lemmas.Option.{slice_get_within}
 use Rattle.rh_defs.specs.Desk.{Task}
 use Rattle.rh_drawn.specs.Letters.{letterboxes_in}
 use Rattle.rh_figure.specs.Figure.{letterboxes}
@@ -15,32 +15,42 @@ use Rattle.rh_painted.proofs.letters.print_letterboxes.Goals as goal
 pub tasks-init : goal.tasks-init
 tasks-init g c =
     let d = g.S.Sight.desk c.args.sight.now in
-    let s = g.W.Sink.output c.args.writer.now in
     let ms = c.args.step.now.messages.now in
+    let s = g.W.Sink.output c.args.writer.now in
     let whole = flat_map letterbox_row (letterboxes (scene_at d c.args.step.now)) in
     let are : whole ≡ flat_map (λ (t : Task). flat_map letterbox_row (letterboxes_in t.name t.handle ms)) d.tasks =
-    ap (flat_map letterbox_row) (boxes-are c.spelled.ensures ms c.requires.step.messages d.tasks) ∙ text-flat letterbox_row (boxes ms) d.tasks in
+    ap (flat_map letterbox_row) (boxes-are c.spelled.ensures ms c.requires.step.messages d.tasks)
+    ∙ text-flat letterbox_row (boxes ms) d.tasks in
     let P : List ℕ → Type 0 = λ z. Left s s whole z in
     subst P are (left_whole s whole)
 
 pub tasks-preserved : goal.tasks-preserved
 tasks-preserved g c =
     let d = g.S.Sight.desk c.args.sight.now in
+    let ms = c.args.step.now.messages.now in
     let s = c.in-Some.ensures.some in
-    let of_one = λ (t : Task). flat_map letterbox_row (letterboxes_in t.name t.handle c.args.step.now.messages.now) in
-    left_less c.tasks.invariant (text-some (flat_map of_one) of_one (λ t rest. refl) d.tasks c.tasks.i s.0 s.1) (puts_same (ap₂ (λ n h. flat_map letterbox_row (letterboxes_in n h c.args.step.now.messages.now)) s.2.name s.2.handle) c.in_ok-print_letters.ensures).ok
+    let of_one = λ (t : Task). flat_map letterbox_row (letterboxes_in t.name t.handle ms) in
+    let next = text-some (flat_map of_one) of_one (λ t rest. refl) d.tasks c.tasks.i s.0 s.1 in
+    let same = ap₂ (λ n h. flat_map letterbox_row (letterboxes_in n h ms)) s.2.name s.2.handle in
+    left_less c.tasks.invariant next (puts_same same c.in_ok-print_letters.ensures).ok
 
 pub returns-in_err-print_letters : goal.returns-in_err-print_letters
 returns-in_err-print_letters g c =
     let d = g.S.Sight.desk c.args.sight.now in
+    let ms = c.args.step.now.messages.now in
     let s = c.in-Some.ensures.some in
-    let of_one = λ (t : Task). flat_map letterbox_row (letterboxes_in t.name t.handle c.args.step.now.messages.now) in
-    left_breaks _ _ c.tasks.invariant (text-some (flat_map of_one) of_one (λ t rest. refl) d.tasks c.tasks.i s.0 s.1) (puts_same (ap₂ (λ n h. flat_map letterbox_row (letterboxes_in n h c.args.step.now.messages.now)) s.2.name s.2.handle) c.in_err-print_letters.ensures) c.from_residual.ensures.0
+    let of_one = λ (t : Task). flat_map letterbox_row (letterboxes_in t.name t.handle ms) in
+    let next = text-some (flat_map of_one) of_one (λ t rest. refl) d.tasks c.tasks.i s.0 s.1 in
+    let same = ap₂ (λ n h. flat_map letterbox_row (letterboxes_in n h ms)) s.2.name s.2.handle in
+    left_breaks _ _ c.tasks.invariant next (puts_same same c.in_err-print_letters.ensures) c.from_residual.ensures.0
 
 pub returns : goal.returns
 returns g c =
     let d = g.S.Sight.desk c.args.sight.now in
-    record { ok = left_none c.tasks.invariant (text-none (flat_map (λ (t : Task). flat_map letterbox_row (letterboxes_in t.name t.handle c.args.step.now.messages.now))) refl d.tasks c.tasks.i c.in_default.ensures.none); err = tt }
+    let ms = c.args.step.now.messages.now in
+    let of_one = λ (t : Task). flat_map letterbox_row (letterboxes_in t.name t.handle ms) in
+    let none = text-none (flat_map of_one) refl d.tasks c.tasks.i c.in_default.ensures.none in
+    record { ok = left_none c.tasks.invariant none; err = tt }
 
 pub overflow_add-i : goal.overflow_add-i
 overflow_add-i g c =
@@ -50,5 +60,6 @@ overflow_add-i g c =
 pub tasks-smaller : goal.tasks-smaller
 tasks-smaller g c =
     let s = c.in-Some.ensures.some in
-    let inside : c.tasks.i < length (g.S.Sight.desk c.args.sight.now).tasks = slice_get_within (g.S.Sight.desk c.args.sight.now).tasks c.tasks.i s.0 s.1 in
+    let inside : c.tasks.i < length (g.S.Sight.desk c.args.sight.now).tasks =
+    slice_get_within (g.S.Sight.desk c.args.sight.now).tasks c.tasks.i s.0 s.1 in
     omega arith

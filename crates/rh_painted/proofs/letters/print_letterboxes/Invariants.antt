@@ -12,7 +12,8 @@ use Rattle.rh_painted.proofs.letters.print_letterboxes.Given as goal
 abbrev pub invariant-tasks : goal.invariant-tasks
 invariant-tasks g l =
     let d = g.S.Sight.desk l.sight in
-    Left (g.W.Sink.output l.initial.writer) (g.W.Sink.output l.writer) (flat_map letterbox_row (letterboxes (scene_at d l.step)))
+    Left (g.W.Sink.output l.initial.writer) (g.W.Sink.output l.writer)
+    (flat_map letterbox_row (letterboxes (scene_at d l.step)))
     (flat_map (λ (t : Task). flat_map letterbox_row (letterboxes_in t.name t.handle l.step.messages.now)) (drop l.i d.tasks))
 
 abbrev pub decreases-tasks : goal.decreases-tasks

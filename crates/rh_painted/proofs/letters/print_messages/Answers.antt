@@ -1,13 +1,13 @@
-use Rattle.std.proofs.Common.{◌≡◌, true, false, ◌++◌, refl, ap, sym, ◌∙◌}
+use Rattle.std.proofs.Common.{◌≡◌, true, false, ◌++◌, refl, sym, ◌∙◌}
 use Rattle.std.specs.Prelude.{codes}
 use Rattle.std.specs.List.{flat_map}
 use Rattle.rh_figure.specs.Figure.{letterboxes}
 use Rattle.rh_figure.specs.Phrases.{Text}
-use Rattle.rh_lines.proofs.FlowLemmas.{puts_before, puts_more, puts_stops}
 use Rattle.rh_sheet.specs.Tables.{letterbox_row, messages_heading, messages_table}
 use Rattle.rh_sight.specs.Steps.{scene_at}
 use Rattle.rh_drawn.proofs.Walks.{puts_none, puts_same}
-use Rattle.rh_painted.proofs.TableLemmas.{boxes-are, boxes-some, is_some, rows-none, rows-some}
+use Rattle.rh_painted.proofs.TableLemmas.{boxes-told, is_some, rows-none, rows-some}
+use Rattle.rh_lines.proofs.FlowLemmas.{puts_before, puts_more, puts_stops}
 use Rattle.rh_painted.proofs.letters.print_messages.Goals as goal
 
 abbrev first : Text
@@ -21,49 +21,57 @@ last = codes "</tbody></table>\n"
 
 pub returns-then-not-has_letterboxes : goal.returns-then-not-has_letterboxes
 returns-then-not-has_letterboxes g c =
-    let d = g.S.Sight.desk c.args.sight.now in
     let ms = c.args.step.now.messages.now in
-    let bs = letterboxes (scene_at d c.args.step.now) in
+    let bs = letterboxes (scene_at (g.S.Sight.desk c.args.sight.now) c.args.step.now) in
     let none : is_some bs ≡ false =
-    ap is_some (boxes-are c.spelled.ensures ms c.requires.step.messages d.tasks) ∙ (sym (boxes-some ms d.tasks) ∙ (sym c.has_letterboxes.ensures ∙ c.if-not-has_letterboxes.true)) in
+    boxes-told c.spelled.ensures ms c.requires.step.messages ∙ (sym c.has_letterboxes.ensures ∙ c.if-not-has_letterboxes.true) in
     puts_same (sym (rows-none messages_heading letterbox_row bs none)) (puts_none _)
 
 pub returns-in_err-put : goal.returns-in_err-put
 returns-in_err-put g c =
-    let d = g.S.Sight.desk c.args.sight.now in
     let ms = c.args.step.now.messages.now in
-    let bs = letterboxes (scene_at d c.args.step.now) in
+    let bs = letterboxes (scene_at (g.S.Sight.desk c.args.sight.now) c.args.step.now) in
     let some : is_some bs ≡ true =
-    ap is_some (boxes-are c.spelled.ensures ms c.requires.step.messages d.tasks) ∙ (sym (boxes-some ms d.tasks) ∙ (sym c.has_letterboxes.ensures ∙ c.if-not-has_letterboxes.false)) in
-    let e : first ++ (second ++ (flat_map letterbox_row bs ++ last)) ≡ messages_table bs = sym (rows-some messages_heading letterbox_row bs some) in
-    puts_same e (puts_stops _ (puts_before (second ++ (flat_map letterbox_row bs ++ last)) c.in_err-put.ensures refl) c.from_residual.ensures.0)
+    boxes-told c.spelled.ensures ms c.requires.step.messages ∙ (sym c.has_letterboxes.ensures ∙ c.if-not-has_letterboxes.false) in
+    let rows : Text = flat_map letterbox_row bs in
+    let e : first ++ (second ++ (rows ++ last)) ≡ messages_table bs = sym (rows-some messages_heading letterbox_row bs some) in
+    puts_same e (puts_stops _
+    (puts_before (second ++ (rows ++ last)) c.in_err-put.ensures refl)
+    c.from_residual.ensures.0)
 
 pub returns-in_err-put-2 : goal.returns-in_err-put-2
 returns-in_err-put-2 g c =
-    let d = g.S.Sight.desk c.args.sight.now in
     let ms = c.args.step.now.messages.now in
-    let bs = letterboxes (scene_at d c.args.step.now) in
+    let bs = letterboxes (scene_at (g.S.Sight.desk c.args.sight.now) c.args.step.now) in
     let some : is_some bs ≡ true =
-    ap is_some (boxes-are c.spelled.ensures ms c.requires.step.messages d.tasks) ∙ (sym (boxes-some ms d.tasks) ∙ (sym c.has_letterboxes.ensures ∙ c.if-not-has_letterboxes.false)) in
-    let e : first ++ (second ++ (flat_map letterbox_row bs ++ last)) ≡ messages_table bs = sym (rows-some messages_heading letterbox_row bs some) in
-    puts_same e (puts_stops _ (puts_more _ _ _ c.in_ok-put.ensures (puts_before (flat_map letterbox_row bs ++ last) c.in_err-put-2.ensures refl)) c.from_residual-in_err-put-2.ensures.0)
+    boxes-told c.spelled.ensures ms c.requires.step.messages ∙ (sym c.has_letterboxes.ensures ∙ c.if-not-has_letterboxes.false) in
+    let rows : Text = flat_map letterbox_row bs in
+    let e : first ++ (second ++ (rows ++ last)) ≡ messages_table bs = sym (rows-some messages_heading letterbox_row bs some) in
+    puts_same e (puts_stops _
+    (puts_more _ _ _ c.in_ok-put.ensures (puts_before (rows ++ last) c.in_err-put-2.ensures refl))
+    c.from_residual-in_err-put-2.ensures.0)
 
 pub returns-in_err-print_letterboxes : goal.returns-in_err-print_letterboxes
 returns-in_err-print_letterboxes g c =
-    let d = g.S.Sight.desk c.args.sight.now in
     let ms = c.args.step.now.messages.now in
-    let bs = letterboxes (scene_at d c.args.step.now) in
+    let bs = letterboxes (scene_at (g.S.Sight.desk c.args.sight.now) c.args.step.now) in
     let some : is_some bs ≡ true =
-    ap is_some (boxes-are c.spelled.ensures ms c.requires.step.messages d.tasks) ∙ (sym (boxes-some ms d.tasks) ∙ (sym c.has_letterboxes.ensures ∙ c.if-not-has_letterboxes.false)) in
-    let e : first ++ (second ++ (flat_map letterbox_row bs ++ last)) ≡ messages_table bs = sym (rows-some messages_heading letterbox_row bs some) in
-    puts_same e (puts_stops _ (puts_more _ _ _ c.in_ok-put.ensures (puts_more _ _ _ c.in_ok-put-2.ensures (puts_before last c.in_err-print_letterboxes.ensures refl))) c.from_residual-in_err-print_letterboxes.ensures.0)
+    boxes-told c.spelled.ensures ms c.requires.step.messages ∙ (sym c.has_letterboxes.ensures ∙ c.if-not-has_letterboxes.false) in
+    let rows : Text = flat_map letterbox_row bs in
+    let e : first ++ (second ++ (rows ++ last)) ≡ messages_table bs = sym (rows-some messages_heading letterbox_row bs some) in
+    puts_same e (puts_stops _
+    (puts_more _ _ _ c.in_ok-put.ensures
+    (puts_more _ _ _ c.in_ok-put-2.ensures (puts_before last c.in_err-print_letterboxes.ensures refl)))
+    c.from_residual-in_err-print_letterboxes.ensures.0)
 
 pub returns : goal.returns
 returns g c =
-    let d = g.S.Sight.desk c.args.sight.now in
     let ms = c.args.step.now.messages.now in
-    let bs = letterboxes (scene_at d c.args.step.now) in
+    let bs = letterboxes (scene_at (g.S.Sight.desk c.args.sight.now) c.args.step.now) in
     let some : is_some bs ≡ true =
-    ap is_some (boxes-are c.spelled.ensures ms c.requires.step.messages d.tasks) ∙ (sym (boxes-some ms d.tasks) ∙ (sym c.has_letterboxes.ensures ∙ c.if-not-has_letterboxes.false)) in
-    let e : first ++ (second ++ (flat_map letterbox_row bs ++ last)) ≡ messages_table bs = sym (rows-some messages_heading letterbox_row bs some) in
-    puts_same e (puts_more _ _ _ c.in_ok-put.ensures (puts_more _ _ _ c.in_ok-put-2.ensures (puts_more _ _ _ c.in_ok-print_letterboxes.ensures c.put-3.ensures)))
+    boxes-told c.spelled.ensures ms c.requires.step.messages ∙ (sym c.has_letterboxes.ensures ∙ c.if-not-has_letterboxes.false) in
+    let rows : Text = flat_map letterbox_row bs in
+    let e : first ++ (second ++ (rows ++ last)) ≡ messages_table bs = sym (rows-some messages_heading letterbox_row bs some) in
+    puts_same e (puts_more _ _ _ c.in_ok-put.ensures
+    (puts_more _ _ _ c.in_ok-put-2.ensures
+    (puts_more _ _ _ c.in_ok-print_letterboxes.ensures (c.put-3.ensures))))

@@ -9,16 +9,18 @@ returns-in-Some-clause-value c =
     let number = c.args.number in
     let items = c.args.numbers.now.items in
     let at = place-found number items c.in-Some.place (sym (c.place_in.ensures ∙ ap (position (λ m. nat_le number m)) c.deref.ensures.0) ∙ c.in-Some.is) in
-    sym (inserted-there number items 0 (omega (arith, at.0, at.1)) (ap (λ j. get_or items j 0) (sym at.0) ∙ (ap (λ ns. get_or ns c.in-Some.place 0) (sym c.deref-in-Some-1.ensures.0) ∙ c.if-deref-place.true)))
+    let read = ap (λ ns. get_or ns c.in-Some.place 0) (sym c.deref-in-Some-1.ensures.0) ∙ c.if-deref-place.true in
+    sym (inserted-there number items 0 (omega (arith, at.0, at.1)) (ap (λ j. get_or items j 0) (sym at.0) ∙ read))
 
 pub returns-in-Some-2-clause-value : goal.returns-in-Some-2-clause-value
 returns-in-Some-2-clause-value c =
     let number = c.args.number in
     let items = c.args.numbers.now.items in
     let at = place-found number items c.in-Some.place (sym (c.place_in.ensures ∙ ap (position (λ m. nat_le number m)) c.deref.ensures.0) ∙ c.in-Some.is) in
+    let read = ap (λ ns. get_or ns c.in-Some.place 0) c.deref-in-Some-1.ensures.0 in
     c.insert.ensures.items
     ∙ (ap (λ j. insert items j number) at.0
-    ∙ sym (inserted-new number items 0 (λ inside q. c.if-deref-place.false (ap (λ ns. get_or ns c.in-Some.place 0) c.deref-in-Some-1.ensures.0 ∙ (ap (λ j. get_or items j 0) at.0 ∙ q)))))
+    ∙ sym (inserted-new number items 0 (λ inside q. c.if-deref-place.false (read ∙ (ap (λ j. get_or items j 0) at.0 ∙ q)))))
 
 pub returns-in-None-clause-value : goal.returns-in-None-clause-value
 returns-in-None-clause-value c =

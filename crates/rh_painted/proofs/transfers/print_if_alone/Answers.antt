@@ -1,23 +1,27 @@
-use Rattle.std.proofs.Common.{◌≡◌, ℕ, false, None, Some, ap, ap₂, sym, ◌∙◌, append-nil}
+use Rattle.std.proofs.Common.{ℕ, None, Some, ap, ap₂, sym, ◌∙◌}
 use Rattle.std.specs.List.{list_any}
 use Rattle.rh_defs.specs.declared.listing.RecordItem.{RecordItem}
-use Rattle.rh_defs.specs.Listing.{in_item}
-use Rattle.rh_defs.specs.Records.{in_id}
 use Rattle.rh_figure.specs.Figure.{Transfer, has_id}
 use Rattle.rh_sheet.specs.Tables.{transfer_row}
 use Rattle.rh_drawn.specs.Sides.{outs_of}
 use Rattle.rh_drawn.proofs.TransferLemmas.{in-id}
-use Rattle.rh_drawn.proofs.Walks.{puts_same}
+use Rattle.rh_drawn.proofs.Walks.{puts_none, puts_same}
+use Rattle.rh_painted.proofs.TableLemmas.{in_rows-none, in_rows-one}
 use Rattle.rh_painted.proofs.transfers.print_if_alone.Goals as goal
+
+pub returns-then-has_out : goal.returns-then-has_out
+returns-then-has_out g c =
+    let outs = outs_of (g.S.Sight.desk c.args.sight.now) in
+    let r = c.args.record.now in
+    let known = ap (λ n. list_any (has_id n) outs) (sym c.in_id-id.ensures) ∙ (sym c.has_out.ensures ∙ c.if-has_out.true) in
+    puts_same (sym (in_rows-none outs c.args.name.now r known)) (puts_none _)
 
 pub returns : goal.returns
 returns g c =
-    let d = g.S.Sight.desk c.args.sight.now in
+    let outs = outs_of (g.S.Sight.desk c.args.sight.now) in
     let r = c.args.record.now in
-    let none : list_any (has_id (in_id r)) (outs_of d) ≡ false =
-    ap (λ n. list_any (has_id n) (outs_of d)) (sym c.in_id-id.ensures) ∙ (sym c.has_out.ensures ∙ c.if-has_out.false) in
-    let alone : ℕ → RecordItem → Transfer = λ id item. record { id = id; goes_out = None; comes_in = Some (c.args.name.now, item) } in
-    rw none (puts_same
-    (ap₂ (λ id item. transfer_row (alone id item)) (c.in_id-id.ensures ∙ sym (in-id r)) c.in_item.ensures
-    ∙ sym (append-nil (transfer_row (alone (in_item r).id (in_item r)))))
-    c.print_transfer_row.ensures)
+    let unknown = ap (λ n. list_any (has_id n) outs) (sym c.in_id-id.ensures) ∙ (sym c.has_out.ensures ∙ c.if-has_out.false) in
+    let alone : ℕ → RecordItem → Transfer =
+    λ id item. record { id = id; goes_out = None; comes_in = Some (c.args.name.now, item) } in
+    let row = ap₂ (λ id item. transfer_row (alone id item)) (c.in_id-id.ensures ∙ sym (in-id r)) c.in_item.ensures in
+    puts_same (row ∙ sym (in_rows-one outs c.args.name.now r unknown)) c.print_transfer_row.ensures

@@ -1,50 +1,49 @@
-use Rattle.std.proofs.Common.{◌<◌, ◌∙◌, List, ℕ, length, ap, ap₂, subst, refl, arith}
+use Rattle.std.proofs.Common.{◌≡◌, ◌<◌, List, ℕ, length, ap₂, subst, refl, arith}
+use Rattle.std.specs.List.{flat_map}
 use Rattle.std.proofs.lemmas.Option.{slice_get_within}
-use Rattle.std.specs.Prelude.{Bool, filter, map, not}
-use Rattle.std.specs.List.{flat_map, list_any}
 use Rattle.rh_defs.specs.Desk.{Task}
-use Rattle.rh_defs.specs.Listing.{in_item}
-use Rattle.rh_drawn.specs.Sides.{comes_alone, ins_of, outs_of}
-use Rattle.rh_figure.specs.Figure.{Side, has_id}
-use Rattle.rh_sheet.specs.Tables.{transfer_row}
-use Rattle.rh_drawn.proofs.TransferLemmas.{filter-flat, ins, map-flat}
+use Rattle.rh_drawn.specs.Sides.{ins_of, outs_of}
+use Rattle.rh_painted.specs.Transfers.{in_rows, ins_named}
+use Rattle.rh_painted.proofs.TableLemmas.{in_rows-flat}
 use Rattle.rh_map.proofs.Left.{Left, left_breaks, left_less, left_none, left_whole}
 use Rattle.rh_drawn.proofs.Walks.{puts_same}
-use Rattle.rh_painted.proofs.TextWalks.{text-flat, text-none, text-some}
+use Rattle.rh_painted.proofs.TextWalks.{text-none, text-some}
 use Rattle.rh_painted.proofs.transfers.print_ins.Goals as goal
-
--- whether a side comes in alone
-abbrev is_alone : List Side → Side → Bool
-is_alone out s = not (list_any (has_id s.1.id) out)
 
 pub tasks-init : goal.tasks-init
 tasks-init g c =
     let d = g.S.Sight.desk c.args.sight.now in
     let s = g.W.Sink.output c.args.writer.now in
-    let alone = is_alone (outs_of d) in
-    let P : List ℕ → Type 0 = λ z. Left s s (flat_map transfer_row (map comes_alone (filter alone (ins_of d)))) z in
-    subst P (ap (λ z. flat_map transfer_row (map comes_alone z)) (filter-flat alone ins d.tasks)
-    ∙ (ap (flat_map transfer_row) (map-flat comes_alone (λ (t : Task). filter alone (ins t)) d.tasks)
-    ∙ text-flat transfer_row (λ (t : Task). map comes_alone (filter alone (ins t))) d.tasks)) (left_whole s _)
+    let whole = in_rows (outs_of d) (ins_of d) in
+    let are : whole ≡ flat_map (λ (t : Task). in_rows (outs_of d) (ins_named t.name t.taking)) d.tasks =
+    in_rows-flat (outs_of d) d.tasks in
+    let P : List ℕ → Type 0 = λ z. Left s s whole z in
+    subst P are (left_whole s whole)
 
 pub tasks-preserved : goal.tasks-preserved
 tasks-preserved g c =
     let d = g.S.Sight.desk c.args.sight.now in
     let s = c.in-Some.ensures.some in
-    let of_one = λ (t : Task). flat_map transfer_row (map comes_alone (filter (λ s. not (list_any (has_id s.1.id) (outs_of d))) (map (λ r. (t.name, in_item r)) t.taking))) in
-    left_less c.tasks.invariant (text-some (flat_map of_one) of_one (λ t rest. refl) d.tasks c.tasks.i s.0 s.1) (puts_same (ap₂ (λ n rs. flat_map transfer_row (map comes_alone (filter (λ s. not (list_any (has_id s.1.id) (outs_of d))) (map (λ r. (n, in_item r)) rs)))) s.2.name s.2.taking) c.in_ok-print_task_ins.ensures).ok
+    let of_one = λ (t : Task). in_rows (outs_of d) (ins_named t.name t.taking) in
+    let next = text-some (flat_map of_one) of_one (λ t rest. refl) d.tasks c.tasks.i s.0 s.1 in
+    let same = ap₂ (λ n rs. in_rows (outs_of d) (ins_named n rs)) s.2.name s.2.taking in
+    left_less c.tasks.invariant next (puts_same same c.in_ok-print_task_ins.ensures).ok
 
 pub returns-in_err-print_task_ins : goal.returns-in_err-print_task_ins
 returns-in_err-print_task_ins g c =
     let d = g.S.Sight.desk c.args.sight.now in
     let s = c.in-Some.ensures.some in
-    let of_one = λ (t : Task). flat_map transfer_row (map comes_alone (filter (λ s. not (list_any (has_id s.1.id) (outs_of d))) (map (λ r. (t.name, in_item r)) t.taking))) in
-    left_breaks _ _ c.tasks.invariant (text-some (flat_map of_one) of_one (λ t rest. refl) d.tasks c.tasks.i s.0 s.1) (puts_same (ap₂ (λ n rs. flat_map transfer_row (map comes_alone (filter (λ s. not (list_any (has_id s.1.id) (outs_of d))) (map (λ r. (n, in_item r)) rs)))) s.2.name s.2.taking) c.in_err-print_task_ins.ensures) c.from_residual.ensures.0
+    let of_one = λ (t : Task). in_rows (outs_of d) (ins_named t.name t.taking) in
+    let next = text-some (flat_map of_one) of_one (λ t rest. refl) d.tasks c.tasks.i s.0 s.1 in
+    let same = ap₂ (λ n rs. in_rows (outs_of d) (ins_named n rs)) s.2.name s.2.taking in
+    left_breaks _ _ c.tasks.invariant next (puts_same same c.in_err-print_task_ins.ensures) c.from_residual.ensures.0
 
 pub returns : goal.returns
 returns g c =
     let d = g.S.Sight.desk c.args.sight.now in
-    record { ok = left_none c.tasks.invariant (text-none (flat_map (λ (t : Task). flat_map transfer_row (map comes_alone (filter (λ s. not (list_any (has_id s.1.id) (outs_of d))) (map (λ r. (t.name, in_item r)) t.taking))))) refl d.tasks c.tasks.i c.in_default.ensures.none); err = tt }
+    let of_one = λ (t : Task). in_rows (outs_of d) (ins_named t.name t.taking) in
+    let none = text-none (flat_map of_one) refl d.tasks c.tasks.i c.in_default.ensures.none in
+    record { ok = left_none c.tasks.invariant none; err = tt }
 
 pub overflow_add-i : goal.overflow_add-i
 overflow_add-i g c =
@@ -54,5 +53,6 @@ overflow_add-i g c =
 pub tasks-smaller : goal.tasks-smaller
 tasks-smaller g c =
     let s = c.in-Some.ensures.some in
-    let inside : c.tasks.i < length (g.S.Sight.desk c.args.sight.now).tasks = slice_get_within (g.S.Sight.desk c.args.sight.now).tasks c.tasks.i s.0 s.1 in
+    let inside : c.tasks.i < length (g.S.Sight.desk c.args.sight.now).tasks =
+    slice_get_within (g.S.Sight.desk c.args.sight.now).tasks c.tasks.i s.0 s.1 in
     omega arith

@@ -1,11 +1,8 @@
 use Rattle.std.proofs.Common.{◌-◌, length, drop}
-use Rattle.std.specs.Prelude.{filter, map, not}
-use Rattle.std.specs.List.{flat_map, list_any}
+use Rattle.std.specs.List.{flat_map}
 use Rattle.rh_defs.specs.Desk.{Task}
-use Rattle.rh_defs.specs.Listing.{in_item}
-use Rattle.rh_drawn.specs.Sides.{comes_alone, ins_of, outs_of}
-use Rattle.rh_figure.specs.Figure.{has_id}
-use Rattle.rh_sheet.specs.Tables.{transfer_row}
+use Rattle.rh_drawn.specs.Sides.{ins_of, outs_of}
+use Rattle.rh_painted.specs.Transfers.{in_rows, ins_named}
 use Rattle.rh_map.proofs.Left.{Left}
 use Rattle.rh_painted.proofs.transfers.print_ins.Given as goal
 
@@ -13,8 +10,9 @@ use Rattle.rh_painted.proofs.transfers.print_ins.Given as goal
 abbrev pub invariant-tasks : goal.invariant-tasks
 invariant-tasks g l =
     let d = g.S.Sight.desk l.sight in
-    Left (g.W.Sink.output l.initial.writer) (g.W.Sink.output l.writer) (flat_map transfer_row (map comes_alone (filter (λ s. not (list_any (has_id s.1.id) (outs_of d))) (ins_of d))))
-    (flat_map (λ (t : Task). flat_map transfer_row (map comes_alone (filter (λ s. not (list_any (has_id s.1.id) (outs_of d))) (map (λ r. (t.name, in_item r)) t.taking)))) (drop l.i d.tasks))
+    Left (g.W.Sink.output l.initial.writer) (g.W.Sink.output l.writer)
+    (in_rows (outs_of d) (ins_of d))
+    (flat_map (λ (t : Task). in_rows (outs_of d) (ins_named t.name t.taking)) (drop l.i d.tasks))
 
 abbrev pub decreases-tasks : goal.decreases-tasks
 decreases-tasks g l = length (g.S.Sight.desk l.sight).tasks - l.i

@@ -1,42 +1,49 @@
-use Rattle.std.proofs.Common.{◌<◌, ◌∙◌, List, ℕ, length, ap, ap₂, subst, refl, arith}
-use Rattle.std.proofs.lemmas.Option.{slice_get_within}
-use Rattle.std.specs.Prelude.{map}
+use Rattle.std.proofs.Common.{◌≡◌, ◌<◌, List, ℕ, length, ap₂, subst, refl, arith}
 use Rattle.std.specs.List.{flat_map}
+use Rattle.std.proofs.lemmas.Option.{slice_get_within}
 use Rattle.rh_defs.specs.Desk.{Task}
-use Rattle.rh_defs.specs.Listing.{out_item}
-use Rattle.rh_drawn.specs.Sides.{goes_out, ins_of, outs_of}
-use Rattle.rh_drawn.proofs.TransferLemmas.{map-flat, outs}
-use Rattle.rh_sheet.specs.Tables.{transfer_row}
+use Rattle.rh_drawn.specs.Sides.{ins_of, outs_of}
+use Rattle.rh_painted.specs.Transfers.{out_rows, outs_named}
+use Rattle.rh_painted.proofs.TableLemmas.{out_rows-flat}
 use Rattle.rh_map.proofs.Left.{Left, left_breaks, left_less, left_none, left_whole}
 use Rattle.rh_drawn.proofs.Walks.{puts_same}
-use Rattle.rh_painted.proofs.TextWalks.{text-flat, text-none, text-some}
+use Rattle.rh_painted.proofs.TextWalks.{text-none, text-some}
 use Rattle.rh_painted.proofs.transfers.print_outs.Goals as goal
 
 pub tasks-init : goal.tasks-init
 tasks-init g c =
     let d = g.S.Sight.desk c.args.sight.now in
     let s = g.W.Sink.output c.args.writer.now in
-    let P : List ℕ → Type 0 = λ z. Left s s (flat_map transfer_row (map (goes_out (ins_of d)) (outs_of d))) z in
-    subst P (ap (flat_map transfer_row) (map-flat (goes_out (ins_of d)) outs d.tasks) ∙ text-flat transfer_row (λ (t : Task). map (goes_out (ins_of d)) (outs t)) d.tasks) (left_whole s _)
+    let whole = out_rows (ins_of d) (outs_of d) in
+    let are : whole ≡ flat_map (λ (t : Task). out_rows (ins_of d) (outs_named t.name t.sending)) d.tasks =
+    out_rows-flat (ins_of d) d.tasks in
+    let P : List ℕ → Type 0 = λ z. Left s s whole z in
+    subst P are (left_whole s whole)
 
 pub tasks-preserved : goal.tasks-preserved
 tasks-preserved g c =
     let d = g.S.Sight.desk c.args.sight.now in
     let s = c.in-Some.ensures.some in
-    let of_one = λ (t : Task). flat_map transfer_row (map (goes_out (ins_of d)) (map (λ r. (t.name, out_item r)) t.sending)) in
-    left_less c.tasks.invariant (text-some (flat_map of_one) of_one (λ t rest. refl) d.tasks c.tasks.i s.0 s.1) (puts_same (ap₂ (λ n rs. flat_map transfer_row (map (goes_out (ins_of d)) (map (λ r. (n, out_item r)) rs))) s.2.name s.2.sending) c.in_ok-print_task_outs.ensures).ok
+    let of_one = λ (t : Task). out_rows (ins_of d) (outs_named t.name t.sending) in
+    let next = text-some (flat_map of_one) of_one (λ t rest. refl) d.tasks c.tasks.i s.0 s.1 in
+    let same = ap₂ (λ n rs. out_rows (ins_of d) (outs_named n rs)) s.2.name s.2.sending in
+    left_less c.tasks.invariant next (puts_same same c.in_ok-print_task_outs.ensures).ok
 
 pub returns-in_err-print_task_outs : goal.returns-in_err-print_task_outs
 returns-in_err-print_task_outs g c =
     let d = g.S.Sight.desk c.args.sight.now in
     let s = c.in-Some.ensures.some in
-    let of_one = λ (t : Task). flat_map transfer_row (map (goes_out (ins_of d)) (map (λ r. (t.name, out_item r)) t.sending)) in
-    left_breaks _ _ c.tasks.invariant (text-some (flat_map of_one) of_one (λ t rest. refl) d.tasks c.tasks.i s.0 s.1) (puts_same (ap₂ (λ n rs. flat_map transfer_row (map (goes_out (ins_of d)) (map (λ r. (n, out_item r)) rs))) s.2.name s.2.sending) c.in_err-print_task_outs.ensures) c.from_residual.ensures.0
+    let of_one = λ (t : Task). out_rows (ins_of d) (outs_named t.name t.sending) in
+    let next = text-some (flat_map of_one) of_one (λ t rest. refl) d.tasks c.tasks.i s.0 s.1 in
+    let same = ap₂ (λ n rs. out_rows (ins_of d) (outs_named n rs)) s.2.name s.2.sending in
+    left_breaks _ _ c.tasks.invariant next (puts_same same c.in_err-print_task_outs.ensures) c.from_residual.ensures.0
 
 pub returns : goal.returns
 returns g c =
     let d = g.S.Sight.desk c.args.sight.now in
-    record { ok = left_none c.tasks.invariant (text-none (flat_map (λ (t : Task). flat_map transfer_row (map (goes_out (ins_of d)) (map (λ r. (t.name, out_item r)) t.sending)))) refl d.tasks c.tasks.i c.in_default.ensures.none); err = tt }
+    let of_one = λ (t : Task). out_rows (ins_of d) (outs_named t.name t.sending) in
+    let none = text-none (flat_map of_one) refl d.tasks c.tasks.i c.in_default.ensures.none in
+    record { ok = left_none c.tasks.invariant none; err = tt }
 
 pub overflow_add-i : goal.overflow_add-i
 overflow_add-i g c =
@@ -46,5 +53,6 @@ overflow_add-i g c =
 pub tasks-smaller : goal.tasks-smaller
 tasks-smaller g c =
     let s = c.in-Some.ensures.some in
-    let inside : c.tasks.i < length (g.S.Sight.desk c.args.sight.now).tasks = slice_get_within (g.S.Sight.desk c.args.sight.now).tasks c.tasks.i s.0 s.1 in
+    let inside : c.tasks.i < length (g.S.Sight.desk c.args.sight.now).tasks =
+    slice_get_within (g.S.Sight.desk c.args.sight.now).tasks c.tasks.i s.0 s.1 in
     omega arith

@@ -1,10 +1,8 @@
 use Rattle.std.proofs.Common.{◌-◌, length, drop}
-use Rattle.std.specs.Prelude.{map}
 use Rattle.std.specs.List.{flat_map}
 use Rattle.rh_defs.specs.Desk.{Task}
-use Rattle.rh_defs.specs.Listing.{out_item}
-use Rattle.rh_drawn.specs.Sides.{goes_out, ins_of, outs_of}
-use Rattle.rh_sheet.specs.Tables.{transfer_row}
+use Rattle.rh_drawn.specs.Sides.{ins_of, outs_of}
+use Rattle.rh_painted.specs.Transfers.{out_rows, outs_named}
 use Rattle.rh_map.proofs.Left.{Left}
 use Rattle.rh_painted.proofs.transfers.print_outs.Given as goal
 
@@ -12,8 +10,9 @@ use Rattle.rh_painted.proofs.transfers.print_outs.Given as goal
 abbrev pub invariant-tasks : goal.invariant-tasks
 invariant-tasks g l =
     let d = g.S.Sight.desk l.sight in
-    Left (g.W.Sink.output l.initial.writer) (g.W.Sink.output l.writer) (flat_map transfer_row (map (goes_out (ins_of d)) (outs_of d)))
-    (flat_map (λ (t : Task). flat_map transfer_row (map (goes_out (ins_of d)) (map (λ r. (t.name, out_item r)) t.sending))) (drop l.i d.tasks))
+    Left (g.W.Sink.output l.initial.writer) (g.W.Sink.output l.writer)
+    (out_rows (ins_of d) (outs_of d))
+    (flat_map (λ (t : Task). out_rows (ins_of d) (outs_named t.name t.sending)) (drop l.i d.tasks))
 
 abbrev pub decreases-tasks : goal.decreases-tasks
 decreases-tasks g l = length (g.S.Sight.desk l.sight).tasks - l.i

@@ -21,4 +21,5 @@ loop-last-preserved c =
 
 pub returns : goal.returns
 returns c =
-    sym (ap (λ z. with_steps z c.loop-last.steps.items) (nil_from_length c.loop-last.rest.now c.in_default.ensures.cases)) ∙ (c.loop-last.invariant.0 ∙ steps-are c.args.ways.now)
+    let none = nil_from_length c.loop-last.rest.now c.in_default.ensures.cases in
+    sym (ap (λ z. with_steps z c.loop-last.steps.items) none) ∙ (c.loop-last.invariant.0 ∙ steps-are c.args.ways.now)

@@ -21,4 +21,5 @@ loop-last-preserved c =
 
 pub returns : goal.returns
 returns c =
-    sym (ap (λ z. with_tasks z c.loop-last.tasks.items) (nil_from_length c.loop-last.rest.now c.in_default.ensures.cases)) ∙ (c.loop-last.invariant.0 ∙ tasks-are c.args.ways.now)
+    let none = nil_from_length c.loop-last.rest.now c.in_default.ensures.cases in
+    sym (ap (λ z. with_tasks z c.loop-last.tasks.items) none) ∙ (c.loop-last.invariant.0 ∙ tasks-are c.args.ways.now)

@@ -1,0 +1,31 @@
+-- What stands beside the memory, part by part.
+use Rattle.std.proofs.Common.{◌≡◌, ℕ, true, List, [], ◌∷◌, ◌++◌, ap, sym, ◌∙◌}
+use Rattle.std.specs.Prelude.{codes}
+use Rattle.std.specs.List.{concat}
+use Rattle.rh_defs.specs.Desk.{Desk}
+use Rattle.rh_defs.specs.Order.{with_queue}
+use Rattle.rh_figure.specs.Figure.{letterboxes, transfers}
+use Rattle.rh_figure.specs.Phrases.{Text, where_so}
+use Rattle.rh_figure.specs.Scene.{Scene}
+use Rattle.rh_sheet.specs.declared.note.Note.{Note}
+use Rattle.rh_sheet.specs.Chart.{arrows, chart_figure, chart_of}
+use Rattle.rh_sheet.specs.Steps.{aside_text, has_aside}
+use Rattle.rh_sheet.specs.Tables.{messages_table, transfers_table}
+use Rattle.rh_painted.proofs.ChartLemmas.{chart-seen}
+
+abbrev pub first : Text
+first = codes "<aside>\n"
+
+abbrev pub last : Text
+last = codes "</aside>\n"
+
+-- the parts in which it is written
+pub aside-parts : (d : Desk) (x : Scene) → with_queue [] d ≡ x.desk → (notes : List Note) (step : ℕ) → has_aside x notes ≡ true
+    → first ++ (chart_figure d notes step ++ (messages_table (letterboxes x) ++ (transfers_table (transfers x) ++ last))) ≡ aside_text x notes step
+aside-parts d x e notes step has =
+    let tables : Text = messages_table (letterboxes x) ++ (transfers_table (transfers x) ++ last) in
+    let all : Text = concat (
+    first ∷ chart_figure x.desk notes step ∷ messages_table (letterboxes x) ∷ transfers_table (transfers x) ∷ last ∷ []
+    ) in
+    let seen = chart-seen d (arrows notes) step ∙ ap (λ z. chart_of z (arrows notes) step) e in
+    ap (λ z. first ++ (z ++ tables)) seen ∙ sym (ap (λ b. where_so b all) has)
