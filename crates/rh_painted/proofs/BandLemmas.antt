@@ -1,14 +1,19 @@
 -- What is written of cards, one after the other.
 use Rattle.std.proofs.Common.{◌≡◌, ℕ, ◌+◌, ◌<◌, ◌≤◌, Bool, refl, ap, ap₂, sym, ◌∙◌, append_assoc, arith, List, [], ◌∷◌, ◌++◌, length, take, drop, Some}
 use Rattle.std.specs.Prelude.{codes, nat_lt, slice_get}
+use Rattle.std.specs.List.{flat_map}
+use Rattle.std.proofs.lemmas.Grind.{flat_map-append}
 use Rattle.std.proofs.lemmas.List.{drop_all, length-take}
 use Rattle.hex.specs.Hex.{encode_lower}
 use Rattle.rh_drawn.specs.Cards.{cards_behind}
 use Rattle.rh_figure.specs.Cards.{Card, CardKind}
 use Rattle.rh_figure.specs.Phrases.{Text, bytes_text, where_so}
 use Rattle.rh_map.specs.Cards.{IsFrontOf, front_text}
+use Rattle.rh_sheet.specs.Cards.{card_sentence}
+use Rattle.rh_sheet.specs.Markup.{escape, escaped_byte}
 use Rattle.rh_sight.proofs.Places.{rest-some}
 use Rattle.rh_painted.specs.declared.bands.Form.{Form}
+use Rattle.rh_painted.specs.declared.bands.Form.TheVariants.{Told}
 use Rattle.rh_painted.specs.Bands.{band_text_from, form_text}
 
 -- the card at a place, and those behind it
@@ -59,3 +64,11 @@ shown-behind form cards many =
     let long : 0 + length (take 22 cards) ≡ 22 = omega (arith, length-take 22 cards) in
     band-append form 0 (take 22 cards) (cards_behind cards)
     ∙ ap (λ n. band_text_from form 0 (take 22 cards) ++ band_text_from form n (cards_behind cards)) long
+
+-- ---- cards that are read out
+
+pub told-all : (k : ℕ) (cards : List Card) → band_text_from Told k cards ≡ escape (flat_map card_sentence cards)
+told-all k [] = refl
+told-all k (c ∷ cards) =
+    ap (λ z. escape (card_sentence c) ++ z) (told-all (k + 1) cards)
+    ∙ sym (flat_map-append escaped_byte (card_sentence c) (flat_map card_sentence cards))

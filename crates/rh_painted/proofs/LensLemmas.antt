@@ -12,7 +12,7 @@ use Rattle.rh_figure.specs.Phrases.{Text, where_so}
 use Rattle.rh_figure.specs.Scene.{Scene}
 use Rattle.rh_sheet.specs.Areas.{lens_above, lens_below}
 use Rattle.rh_sheet.specs.Arrows.{slide_arrow}
-use Rattle.rh_sheet.specs.Frames.{Frame}
+use Rattle.rh_sheet.specs.declared.frame.Frame.{Frame}
 
 pub above-same : (f : Frame) {a b p q m n : ℕ} → a ≡ p → b ≡ q → m ≡ n → lens_above f a b m ≡ lens_above f p q n
 above-same f {a} {b} {p} {q} {m} {n} i j k =

@@ -10,7 +10,9 @@ use Rattle.rh_defs.specs.Pieces.{page, total}
 use Rattle.rh_defs.specs.Slot.{Flex, HaveAnchors, Slot, slot_length, slot_pages, weight}
 use Rattle.rh_defs.proofs.HeapLists.{total-append}
 use Rattle.rh_defs.proofs.Lists.{all-join}
-use Rattle.rh_figure.specs.Layout.{AnchorWords, Legend, Piece, flex_pieces, heap_pieces, more_pieces, segment_pieces, slot_legend, slot_pieces, Unused}
+use Rattle.rh_figure.specs.Layout.{Legend, flex_pieces, heap_pieces, more_pieces, segment_pieces, slot_legend, slot_pieces}
+use Rattle.rh_figure.specs.declared.piece.Piece.{Piece}
+use Rattle.rh_figure.specs.declared.piece.Kind.TheVariants.{AnchorWords, Unused}
 use Rattle.rh_figure.specs.Scene.{Scene}
 
 -- ---- pieces end within an area

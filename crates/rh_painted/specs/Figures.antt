@@ -1,13 +1,11 @@
--- What the figures of slots and of the module area are drawn from.
-use Rattle.std.specs.Prelude.{◌≡◌, []}
+-- What the figure of a slot is drawn from.
+use Rattle.std.specs.Prelude.{◌≡◌}
 use Rattle.rh_defs.specs.Desk.{Task}
 use Rattle.rh_defs.specs.Heap.{first_place}
 use Rattle.rh_defs.specs.Listing.{block_items}
 use Rattle.rh_draw.specs.Rows.{plot_of}
-use Rattle.rh_drawn.specs.declared.heap_cards.Band.{Band}
 use Rattle.rh_figure.specs.Scene.{Scene}
 use Rattle.rh_sheet.specs.Areas.{slot_frame, slot_plot}
-use Rattle.rh_sight.specs.declared.sight.HeapOf.TheVariants.{Module}
 use Rattle.rh_sight.specs.Walks.{census_of}
 use Rattle.rh_painted.specs.declared.slots.Plan.{Plan}
 
@@ -17,7 +15,3 @@ pub record IsSlotPlan (x : Scene) (t : Task) (p : Plan) : Type 0 where
   pub frame : p.frame ≡ slot_frame x t
   pub plot : plot_of p.plot ≡ slot_plot x t
   pub census : p.census ≡ census_of first_place t.slot.heap.segments
-
--- the band is that of the module area's blocks
-abbrev pub IsModuleBand : Band → Type 0
-IsModuleBand b = (b.heap ≡ Module) × (b.taking.now ≡ [])

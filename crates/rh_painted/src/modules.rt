@@ -1,12 +1,14 @@
 //! The figure of the module area.
 
-ghost use Rattle.std.specs.Prelude.{◌≡◌};
+ghost use Rattle.std.specs.Prelude.{◌≡◌, ◌≤◌, length};
 ghost use Rattle.rh_defs.specs.Heap.{first_place};
+ghost use Rattle.rh_defs.specs.declared.sizes.TheConstants.{MAX_PAGES};
 ghost use Rattle.rh_draw.specs.Rows.{plot_of};
 ghost use Rattle.rh_figure.specs.Layout.{module_pieces as module_pieces_of};
+ghost use Rattle.rh_figure.specs.Share.{AreaOf};
 ghost use Rattle.rh_lines.specs.Flow.{Puts};
-ghost use Rattle.rh_painted.specs.Figures.{IsModuleBand};
-ghost use Rattle.rh_sheet.specs.Areas.{module_body, module_figure, module_frame, module_plot};
+ghost use Rattle.rh_sheet.specs.Areas.{module_body, module_description, module_figure, module_frame, module_plot};
+ghost use Rattle.rh_sheet.specs.Markup.{escape};
 ghost use Rattle.rh_sheet.specs.Steps.{module_part};
 ghost use Rattle.rh_sight.specs.Steps.{IsStepOf, scene_at};
 ghost use Rattle.rh_sight.specs.Walks.{census_of};
@@ -71,11 +73,6 @@ fn print_module_figure<S: Sight, W: Sink>(
         above: 0,
         below: census.count as usize,
     };
-    let band = Band {
-        heap: HeapOf::Module,
-        handle: Handle(0),
-        taking: &[],
-    };
     let plot = Plot {
         start: MODULE_START as u32,
         pages,
@@ -83,11 +80,32 @@ fn print_module_figure<S: Sight, W: Sink>(
         tint: Tint::Module,
     };
     print_figure_open(FIGURE_WIDTH, height(frame), b"The module area", writer)?;
-    put_pages(pages, writer)?;
-    put_heap_cards(sight, step, &band, Form::Told, writer)?;
+    print_description(sight, step, pages, writer)?;
     print_described(writer)?;
-    print_body(sight, step, frame, &plot, &band, census, writer)?;
+    print_body(sight, step, frame, &plot, census, writer)?;
     print_figure_end(writer)
+}
+
+/// Writes the module area, which has these pages, as it is read out.
+fn print_description<S: Sight, W: Sink>(
+    sight: &S,
+    step: &Step<'_>,
+    pages: &[u16],
+    writer: &mut W,
+) -> Result<(), WriteFailed>
+    requires step { IsStepOf (S.desk sight.now) step.now }
+    requires pages { pages.now ≡ (scene_at (S.desk sight.now) step.now).share.pages_of (AreaOf 1) }
+    requires few { length pages.now ≤ MAX_PAGES }
+    ensures { Puts (W.output writer.old) (W.output writer.new) result
+        (escape (module_description (scene_at (S.desk sight.now) step.now))) }
+{
+    put_pages(pages, writer)?;
+    let band = Band {
+        heap: HeapOf::Module,
+        handle: Handle(0),
+        taking: &[],
+    };
+    put_heap_cards(sight, step, &band, Form::Told, writer)
 }
 
 /// Writes what leads to the cards, the rows, and the cards.
@@ -96,21 +114,25 @@ fn print_body<S: Sight, W: Sink>(
     step: &Step<'_>,
     frame: Frame,
     plot: &Plot<'_>,
-    band: &Band<'_>,
     census: Census,
     writer: &mut W,
 ) -> Result<(), WriteFailed>
     requires step { IsStepOf (S.desk sight.now) step.now }
     requires frame { frame ≡ module_frame (scene_at (S.desk sight.now) step.now) }
     requires plot { plot_of plot.now ≡ module_plot (scene_at (S.desk sight.now) step.now) }
-    requires band { IsModuleBand band.now }
     requires census { census ≡ census_of first_place (S.desk sight.now).post.heap.segments }
     ensures { Puts (W.output writer.old) (W.output writer.new) result
         (module_body (scene_at (S.desk sight.now) step.now)) }
 {
-    let (low, high) = (HEAP_FIRST, census.end as usize);
-    print_lens_below(frame, low, high, census.count, writer)?;
+    sight.spelled();
+    let high = census.end as usize;
+    print_lens_below(frame, HEAP_FIRST, high, census.count, writer)?;
     print_rows(frame, plot, writer)?;
-    let form = Form::Below(foot(frame) + LENS_HEIGHT);
-    put_heap_cards(sight, step, band, form, writer)
+    let below = Form::Below(foot(frame) + LENS_HEIGHT);
+    let band = Band {
+        heap: HeapOf::Module,
+        handle: Handle(0),
+        taking: &[],
+    };
+    put_heap_cards(sight, step, &band, below, writer)
 }

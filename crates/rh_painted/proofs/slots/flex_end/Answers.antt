@@ -1,7 +1,7 @@
 use Rattle.std.proofs.Common.{ℕ, ◌-◌, List, length, ap, sym, ◌∙◌, Some}
 use Rattle.std.specs.Prelude.{slice_get}
 use Rattle.std.specs.Option.{option_copied}
-use Rattle.rh_figure.specs.Layout.{Piece}
+use Rattle.rh_figure.specs.declared.piece.Piece.{Piece}
 use Rattle.rh_sheet.specs.Rows.{Plot}
 use Rattle.rh_painted.proofs.SlotLemmas.{last-piece}
 use Rattle.rh_painted.proofs.slots.flex_end.Goals as goal

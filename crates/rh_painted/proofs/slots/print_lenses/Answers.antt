@@ -4,7 +4,7 @@ use Rattle.rh_defs.specs.Slot.{flex_start, heap_start, slot_length}
 use Rattle.rh_figure.specs.Cards.{flex_cards, heap_card, heap_cards}
 use Rattle.rh_figure.specs.Share.{SlotOf}
 use Rattle.rh_sheet.specs.Areas.{lens_above, lens_below}
-use Rattle.rh_sheet.specs.Frames.{Frame}
+use Rattle.rh_sheet.specs.declared.frame.Frame.{Frame}
 use Rattle.rh_sight.specs.declared.sight.PagesOf.TheVariants as pages
 use Rattle.rh_sight.specs.declared.walk.Census.{Census}
 use Rattle.rh_sight.specs.Seen.{IsTaskSeen}

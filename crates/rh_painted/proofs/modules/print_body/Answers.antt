@@ -1,0 +1,91 @@
+use Rattle.std.proofs.Common.{◌≡◌, ◌+◌, ◌++◌, [], length, ap, ap₂, refl, subst, sym, ◌∙◌, arith}
+use Rattle.std.specs.Prelude.{◌^◌}
+use Rattle.std.specs.List.{AllByRecursion}
+use Rattle.rh_defs.specs.Desk.{module_pages}
+use Rattle.rh_defs.specs.Heap.{base}
+use Rattle.rh_figure.specs.Cards.{module_card, module_cards}
+use Rattle.rh_figure.specs.Layout.{module_legend}
+use Rattle.rh_figure.specs.declared.piece.Piece.{Piece}
+use Rattle.rh_figure.specs.Share.{AreaOf}
+use Rattle.rh_sheet.specs.Areas.{lens_below, module_frame, module_plot}
+use Rattle.rh_sheet.specs.Cards.{cards_below}
+use Rattle.rh_sheet.specs.Frames.{rows_foot}
+use Rattle.rh_sheet.specs.declared.frame.Frame.{Frame}
+use Rattle.rh_sheet.specs.Rows.{Plot, rows_text}
+use Rattle.rh_sight.specs.declared.sight.PagesOf.TheVariants as pages
+use Rattle.rh_sight.specs.declared.walk.Census.{Census}
+use Rattle.rh_sight.specs.Steps.{scene_at}
+use Rattle.rh_drawn.proofs.HeapLemmas.{cards-long}
+use Rattle.rh_drawn.proofs.PageLemmas.{owned-few, owned-fixed, seen-fixed}
+use Rattle.rh_drawn.proofs.Walks.{puts_same}
+use Rattle.rh_painted.proofs.SlotLemmas.{EndsBy, heap-ends}
+use Rattle.rh_painted.proofs.TextPuts.{text_last, text_stop, text_then}
+use Rattle.rh_painted.proofs.modules.print_body.Goals as goal
+
+pub print_lens_below-requires : goal.print_lens_below-requires
+print_lens_below-requires g c = omega (arith, ap (λ (z : Census). z.end) c.requires.census)
+
+pub print_rows-requires-clause-start : goal.print_rows-requires-clause-start
+print_rows-requires-clause-start g c = omega (arith, ap (λ (p : Plot). p.start) c.requires.plot)
+
+pub print_rows-requires-clause-few : goal.print_rows-requires-clause-few
+print_rows-requires-clause-few g c =
+    let few = owned-few c.spelled.ensures c.args.step.now.pages.now c.requires.step.shared (pages.Fixed 1) (AreaOf 1) (seen-fixed c.spelled.ensures 1
+    (omega arith)) c.requires.step.all in
+    omega (arith, few, ap (λ (p : Plot). length p.pages) c.requires.plot)
+
+pub print_rows-requires-clause-frame : goal.print_rows-requires-clause-frame
+print_rows-requires-clause-frame g c = omega (arith, ap (λ (f : Frame). f.pages) c.requires.frame)
+
+pub print_rows-requires-clause-pieces : goal.print_rows-requires-clause-pieces
+print_rows-requires-clause-pieces g c =
+    let d = g.S.Sight.desk c.args.sight.now in
+    let x = scene_at d c.args.step.now in
+    let ps = c.args.step.now.pages.now in
+    let few = owned-few c.spelled.ensures ps c.requires.step.shared (pages.Fixed 1) (AreaOf 1) (seen-fixed c.spelled.ensures 1
+    (omega arith)) c.requires.step.all in
+    let long = owned-fixed c.spelled.ensures ps c.requires.step.shared 1 (module_pages d) (omega arith) refl in
+    let ends = heap-ends (2 ^ 30) (module_legend x) 0 d.post.heap c.spelled.ensures.post.heap.heap.fits (omega
+    (arith, few, long, c.spelled.ensures.post.heap.whole)) in
+    subst (AllByRecursion (EndsBy (2 ^ 30))) (sym (ap (λ (p : Plot). p.pieces) c.requires.plot)) ends
+
+pub returns-in_err-print_lens_below : goal.returns-in_err-print_lens_below
+returns-in_err-print_lens_below g c =
+    let d = g.S.Sight.desk c.args.sight.now in
+    let x = scene_at d c.args.step.now in
+    let same = c.requires.frame in
+    let end : c.args.census.end ≡ base d.post.heap = ap (λ (z : Census). z.end) c.requires.census in
+    let count : c.args.census.count ≡ length (module_cards x) = ap (λ (z : Census). z.count) c.requires.census ∙ sym (cards-long (module_card x)
+    (25165824 + 16) d.post.heap.segments) in
+    text_stop _ (lens_below (module_frame x) 16 (base d.post.heap) (length (module_cards x))) ((rows_text (module_frame x) (module_plot x) ++ (cards_below
+    (rows_foot (module_frame x) + 16) (module_cards x) ++ []))) (puts_same (ap (λ z. lens_below z 16 c.args.census.end c.args.census.count) same ∙ ap₂
+    (lens_below (module_frame x) 16) end count) c.in_err-print_lens_below.ensures) c.from_residual.ensures.0
+
+pub returns-in_err-print_rows : goal.returns-in_err-print_rows
+returns-in_err-print_rows g c =
+    let d = g.S.Sight.desk c.args.sight.now in
+    let x = scene_at d c.args.step.now in
+    let same = c.requires.frame in
+    let end : c.args.census.end ≡ base d.post.heap = ap (λ (z : Census). z.end) c.requires.census in
+    let count : c.args.census.count ≡ length (module_cards x) = ap (λ (z : Census). z.count) c.requires.census ∙ sym (cards-long (module_card x)
+    (25165824 + 16) d.post.heap.segments) in
+    text_then (lens_below (module_frame x) 16 (base d.post.heap) (length (module_cards x))) ((rows_text (module_frame x) (module_plot x) ++ (cards_below
+    (rows_foot (module_frame x) + 16) (module_cards x) ++ []))) (puts_same (ap (λ z. lens_below z 16 c.args.census.end c.args.census.count) same ∙ ap₂
+    (lens_below (module_frame x) 16) end count) c.in_ok-print_lens_below.ensures)
+    (text_stop _ (rows_text (module_frame x) (module_plot x)) ((cards_below (rows_foot (module_frame x) + 16) (module_cards x) ++ [])) (puts_same
+    (ap₂ rows_text same c.requires.plot) c.in_err-print_rows.ensures) c.from_residual-in_err-print_rows.ensures.0)
+
+pub returns : goal.returns
+returns g c =
+    let d = g.S.Sight.desk c.args.sight.now in
+    let x = scene_at d c.args.step.now in
+    let same = c.requires.frame in
+    let end : c.args.census.end ≡ base d.post.heap = ap (λ (z : Census). z.end) c.requires.census in
+    let count : c.args.census.count ≡ length (module_cards x) = ap (λ (z : Census). z.count) c.requires.census ∙ sym (cards-long (module_card x)
+    (25165824 + 16) d.post.heap.segments) in
+    text_then (lens_below (module_frame x) 16 (base d.post.heap) (length (module_cards x))) ((rows_text (module_frame x) (module_plot x) ++ (cards_below
+    (rows_foot (module_frame x) + 16) (module_cards x) ++ []))) (puts_same (ap (λ z. lens_below z 16 c.args.census.end c.args.census.count) same ∙ ap₂
+    (lens_below (module_frame x) 16) end count) c.in_ok-print_lens_below.ensures)
+    (text_then (rows_text (module_frame x) (module_plot x)) ((cards_below (rows_foot (module_frame x) + 16) (module_cards x) ++ [])) (puts_same
+    (ap₂ rows_text same c.requires.plot) c.in_ok-print_rows.ensures)
+    (text_last (puts_same (ap (λ n. cards_below (n + 16) (module_cards x)) (c.foot.ensures.value ∙ ap rows_foot same)) c.put_heap_cards.ensures)))

@@ -1,0 +1,31 @@
+use Rattle.std.proofs.Common.{◌++◌, ap, sym}
+use Rattle.std.proofs.lemmas.Grind.{flat_map-append}
+use Rattle.rh_figure.specs.Cards.{module_cards, shown_cards}
+use Rattle.rh_figure.specs.Share.{AreaOf}
+use Rattle.rh_sheet.specs.Areas.{pages_sentence}
+use Rattle.rh_sheet.specs.Cards.{cards_sentences}
+use Rattle.rh_sheet.specs.Markup.{escape, escaped_byte}
+use Rattle.rh_sight.specs.Steps.{scene_at}
+use Rattle.rh_drawn.proofs.Walks.{puts_same}
+use Rattle.rh_painted.proofs.BandLemmas.{told-all}
+use Rattle.rh_painted.proofs.TextPuts.{text_stop, text_then}
+use Rattle.rh_painted.proofs.modules.print_description.Goals as goal
+
+pub returns-in_err-put_pages : goal.returns-in_err-put_pages
+returns-in_err-put_pages g c =
+    let d = g.S.Sight.desk c.args.sight.now in
+    let x = scene_at d c.args.step.now in
+    let first = pages_sentence (x.share.pages_of (AreaOf 1)) in
+    puts_same (sym (flat_map-append escaped_byte first (cards_sentences (module_cards x)))) (
+    text_stop _ (escape first) (escape (cards_sentences (module_cards x))) (puts_same (ap (λ z. escape
+    (pages_sentence z)) c.requires.pages) c.in_err-put_pages.ensures) c.from_residual.ensures.0)
+
+pub returns : goal.returns
+returns g c =
+    let d = g.S.Sight.desk c.args.sight.now in
+    let x = scene_at d c.args.step.now in
+    let first = pages_sentence (x.share.pages_of (AreaOf 1)) in
+    puts_same (sym (flat_map-append escaped_byte first (cards_sentences (module_cards x)))) (
+    text_then (escape first) (escape (cards_sentences (module_cards x))) (puts_same (ap (λ z. escape
+    (pages_sentence z)) c.requires.pages) c.in_ok-put_pages.ensures)
+    (puts_same (told-all 0 (shown_cards (module_cards x))) c.put_heap_cards.ensures))
