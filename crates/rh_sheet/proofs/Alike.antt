@@ -1,5 +1,5 @@
 -- Desks that differ in the order of messages to different tasks alone have the same sheets.
-use Rattle.std.proofs.Common.{ℕ, ◌≡◌, refl, ap, ap₂, ◌∙◌, Bool, true, List, [], ◌∷◌, ◌++◌}
+use Rattle.std.proofs.Common.{◌≡◌, refl, ap, ap₂, ◌∙◌, true, [], ◌∷◌, ◌++◌}
 use Rattle.std.specs.Prelude.{Some, None, Ok, Err}
 use Rattle.rh_defs.specs.declared.command.Command.{Command}
 use Rattle.rh_defs.specs.declared.reply.Reply.{Reply}
@@ -12,7 +12,7 @@ use Rattle.rh_defs.proofs.OrderSteps.{order-ignored}
 use Rattle.rh_figure.specs.Share.{Share}
 use Rattle.rh_figure.specs.Scene.{Before, no_marks, is_still, before_of, marks_of, scene_of}
 use Rattle.rh_figure.proofs.Alike.{scene-alike, before-alike, marks-alike, text-alike}
-use Rattle.rh_sheet.specs.Sheet.{Happened, command_happened, fault_happened, happened_text, behind_happened, skipped_text, behind_skipped, sheet_lines}
+use Rattle.rh_sheet.specs.Sheet.{command_happened, fault_happened, happened_text, behind_happened, skipped_text, behind_skipped, sheet_lines}
 use Rattle.rh_sheet.specs.Laws.{at_desk, DrawsNoOrder}
 
 -- one reply on the desk after it

@@ -13,7 +13,7 @@ use Rattle.rh_defs.specs.Listing.{block_items_from}
 use Rattle.rh_defs.proofs.Chains.{OnGrant, granted, refused, granted-then, granted-unless}
 use Rattle.rh_defs.proofs.Cuts.{IsCut, first_at-cuts}
 use Rattle.rh_figure.specs.Changes.{item_of}
-use Rattle.rh_sheet.specs.Slides.{address_in, Slides, OnGranted, SlidesEqually, SlideInSlots}
+use Rattle.rh_sheet.specs.Slides.{address_in, Slides, OnGranted, SlideInSlots}
 
 -- a block that lies from a place on
 abbrev item_at : ℕ → Flex → BlockItem
