@@ -70,7 +70,8 @@ last-item (x ∷ z ∷ xs) y =
 pub last-piece : (x : Scene) (h : ℕ) (s : Slot) (p : Piece) → slice_get (slot_pieces x h s) (length (slot_pieces x h s) - 1) ≡ Some p → p.at ≡ slot_length s
 last-piece x h s p e =
     let u : Piece = record { kind = Unused; at = slot_length s; size = page * slot_pages s - slot_length s; fresh = false } in
-    let k : Some u ≡ Some p = sym (last-item (record { kind = AnchorWords; at = 0; size = 256; fresh = false } ∷ heap_pieces (slot_legend x h) 256 s.heap ++ flex_pieces x h (256 + s.heap.end) s.blocks) u) ∙ e in
+    let k : Some u ≡ Some p = sym (last-item (record { kind = AnchorWords; at = 0; size = 256; fresh = false } ∷ heap_pieces
+    (slot_legend x h) 256 s.heap ++ flex_pieces x h (256 + s.heap.end) s.blocks) u) ∙ e in
     let q : u ≡ p = cc in
     sym (ap (λ (z : Piece). z.at) q)
 

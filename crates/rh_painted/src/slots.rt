@@ -188,6 +188,7 @@ fn print_description<S: Sight, W: Sink>(
     ensures { (t : Task) → slice_get (S.desk sight.now).tasks plan.now.i ≡ Some t → Puts (W.output writer.old) (W.output writer.new) result
         (escape (slot_description (scene_at (S.desk sight.now) step.now) t)) }
 {
+    sight.spelled();
     put_pages(plan.plot.pages, writer)?;
     let mut row = Row::new();
     row.text(b"C heap of ");
@@ -216,6 +217,7 @@ fn print_body<S: Sight, W: Sink>(
     ensures { (t : Task) → slice_get (S.desk sight.now).tasks plan.now.i ≡ Some t → Puts (W.output writer.old) (W.output writer.new) result
         (slot_body (scene_at (S.desk sight.now) step.now) t) }
 {
+    sight.spelled();
     let frame = plan.frame;
     print_lenses(sight, step, task, plan, writer)?;
     let above = Form::Above(top(frame).saturating_sub(LENS_HEIGHT));

@@ -40,8 +40,10 @@ print_lens_above-requires-clause-within g c =
     let r = c.requires.task in
     let i = c.args.plan.now.i in
     let ps = c.args.step.now.pages.now in
-    let few = owned-few c.spelled.ensures ps c.requires.step.shared (pages.Slot i) (SlotOf r.0.handle) (seen-slot c.spelled.ensures i r.0 r.1) c.requires.step.all in
-    omega (arith, ap (λ (f : Frame). f.pages) r.3.frame, few, owned-slot c.spelled.ensures ps c.requires.step.shared i r.0 r.1, c.flex_end-high.ensures x r.0 r.3.plot)
+    let few = owned-few c.spelled.ensures ps c.requires.step.shared (pages.Slot i) (SlotOf r.0.handle)
+    (seen-slot c.spelled.ensures i r.0 r.1) c.requires.step.all in
+    omega (arith, ap (λ
+    (f : Frame). f.pages) r.3.frame, few, owned-slot c.spelled.ensures ps c.requires.step.shared i r.0 r.1, c.flex_end-high.ensures x r.0 r.3.plot)
 
 pub returns-in_err-print_lens_above : goal.returns-in_err-print_lens_above
 returns-in_err-print_lens_above g c = λ t e.
@@ -55,9 +57,11 @@ returns-in_err-print_lens_above g c = λ t e.
     let flex : f.above ≡ length (flex_cards x t) = ap (λ (z : Frame). z.above) p.frame in
     let heap : f.below ≡ length (heap_cards x t) = ap (λ (z : Frame). z.below) p.frame in
     let blocks : length c.args.plan.now.blocks.now ≡ f.above = ap length p.blocks ∙ (sym (flex-long x t (flex_start t.slot) t.slot.blocks) ∙ sym flex) in
-    let count : c.args.plan.now.census.count ≡ f.below = ap (λ (z : Census). z.count) p.census ∙ (sym (cards-long (heap_card x t) (heap_start + 16) t.slot.heap.segments) ∙ sym heap) in
+    let count : c.args.plan.now.census.count ≡ f.below = ap (λ (z : Census). z.count) p.census ∙ (sym (cards-long (heap_card x t)
+    (heap_start + 16) t.slot.heap.segments) ∙ sym heap) in
     let end : c.args.plan.now.census.end ≡ base t.slot.heap = ap (λ (z : Census). z.end) p.census in
-    text_stop _ (lens_above f (256 + t.slot.heap.end) (slot_length t.slot) f.above) (lens_below f (256 + 16) (256 + base t.slot.heap) f.below) (puts_same (above-same f (ap (λ n. 256 + n) seen.heap_end) (c.flex_end-high.ensures x t p.plot) blocks) c.in_err-print_lens_above.ensures) c.from_residual.ensures.0
+    text_stop _ (lens_above f (256 + t.slot.heap.end) (slot_length t.slot) f.above) (lens_below f (256 + 16) (256 + base t.slot.heap) f.below) (puts_same
+    (above-same f (ap (λ n. 256 + n) seen.heap_end) (c.flex_end-high.ensures x t p.plot) blocks) c.in_err-print_lens_above.ensures) c.from_residual.ensures.0
 
 pub returns : goal.returns
 returns g c = λ t e.
@@ -71,7 +75,9 @@ returns g c = λ t e.
     let flex : f.above ≡ length (flex_cards x t) = ap (λ (z : Frame). z.above) p.frame in
     let heap : f.below ≡ length (heap_cards x t) = ap (λ (z : Frame). z.below) p.frame in
     let blocks : length c.args.plan.now.blocks.now ≡ f.above = ap length p.blocks ∙ (sym (flex-long x t (flex_start t.slot) t.slot.blocks) ∙ sym flex) in
-    let count : c.args.plan.now.census.count ≡ f.below = ap (λ (z : Census). z.count) p.census ∙ (sym (cards-long (heap_card x t) (heap_start + 16) t.slot.heap.segments) ∙ sym heap) in
+    let count : c.args.plan.now.census.count ≡ f.below = ap (λ (z : Census). z.count) p.census ∙ (sym (cards-long (heap_card x t)
+    (heap_start + 16) t.slot.heap.segments) ∙ sym heap) in
     let end : c.args.plan.now.census.end ≡ base t.slot.heap = ap (λ (z : Census). z.end) p.census in
-    text_then (lens_above f (256 + t.slot.heap.end) (slot_length t.slot) f.above) (lens_below f (256 + 16) (256 + base t.slot.heap) f.below) (puts_same (above-same f (ap (λ n. 256 + n) seen.heap_end) (c.flex_end-high.ensures x t p.plot) blocks) c.in_ok-print_lens_above.ensures)
-    (puts_same (below-same f refl (ap (λ n. 256 + n) end) count) c.print_lens_below.ensures)
+    text_then (lens_above f (256 + t.slot.heap.end) (slot_length t.slot) f.above) (lens_below f (256 + 16) (256 + base t.slot.heap) f.below) (puts_same
+    (above-same f (ap (λ n. 256 + n) seen.heap_end) (c.flex_end-high.ensures x t p.plot) blocks) c.in_ok-print_lens_above.ensures)
+    (puts_same (below-same f {a = 272} refl (ap (λ n. 256 + n) end) count) c.print_lens_below.ensures)

@@ -1,0 +1,202 @@
+use Rattle.std.proofs.Common.{◌≡◌, ℕ, ◌+◌, ◌-◌, ◌++◌, List, [], length, ap, ap₂, refl, subst, sym, ◌∙◌, arith, Some}
+use Rattle.std.specs.Prelude.{◌==◌, ◌^◌, ◌<◌}
+use Rattle.std.specs.List.{AllByRecursion, flat_map}
+use Rattle.std.specs.Option.{option_map}
+use Rattle.rh_defs.specs.Desk.{Task, task_at}
+use Rattle.rh_defs.specs.Heap.{first_place}
+use Rattle.rh_defs.specs.Listing.{block_items}
+use Rattle.rh_defs.specs.declared.listing.BlockItem.{BlockItem}
+use Rattle.rh_defs.specs.Slot.{flex_start, heap_start}
+use Rattle.rh_figure.specs.Cards.{cards_from, flex_cards, heap_cards, shown_cards}
+use Rattle.rh_figure.specs.Changes.{item_of, slide_of}
+use Rattle.rh_figure.specs.Phrases.{Text, where_so}
+use Rattle.rh_figure.specs.Scene.{Scene}
+use Rattle.rh_figure.specs.Share.{SlotOf}
+use Rattle.rh_sheet.specs.Areas.{slot_arrow, slot_frame, slot_lenses, slot_plot, ticks_text}
+use Rattle.rh_sheet.specs.Arrows.{slide_arrow}
+use Rattle.rh_sheet.specs.Cards.{cards_above, cards_below}
+use Rattle.rh_sheet.specs.Frames.{row_y, rows_foot, rows_top}
+use Rattle.rh_sheet.specs.declared.frame.Frame.{Frame}
+use Rattle.rh_sheet.specs.Rows.{Plot, rows_text}
+use Rattle.rh_sight.specs.declared.sight.HeapOf.TheVariants as heap_of
+use Rattle.rh_sight.specs.declared.sight.PagesOf.TheVariants as pages
+use Rattle.rh_sight.specs.Seen.{IsTaskSeen, heap_seen}
+use Rattle.rh_sight.specs.Steps.{scene_at}
+use Rattle.rh_sight.proofs.Heaps.{task-length, task-slot}
+use Rattle.rh_sight.proofs.Holders.{at-some}
+use Rattle.rh_sight.proofs.PieceWalks.{items-long}
+use Rattle.rh_sight.proofs.SlotPieces.{few-blocks}
+use Rattle.rh_drawn.specs.Bands.{card_of_task}
+use Rattle.rh_drawn.proofs.DrawingLemmas.{seen-same, task-stands}
+use Rattle.rh_drawn.proofs.PageLemmas.{owned-few, owned-slot, seen-slot}
+use Rattle.rh_drawn.proofs.Walks.{puts_same}
+use Rattle.rh_painted.specs.Bands.{band_text}
+use Rattle.rh_painted.specs.Figures.{IsSlotPlan}
+use Rattle.rh_painted.specs.declared.bands.Form.TheVariants.{Below}
+use Rattle.rh_painted.proofs.LensLemmas.{arrow-same}
+use Rattle.rh_painted.proofs.SlotLemmas.{EndsBy, anchors-small, slot-ends}
+use Rattle.rh_painted.proofs.TextPuts.{text_last, text_stop, text_then}
+use Rattle.rh_painted.proofs.slots.print_body.Goals as goal
+
+-- the arrow of a task's slide, by its parts
+abbrev arrow_with : Scene → ℕ → Frame → List BlockItem → Text
+arrow_with x h f blocks = where_so (h == x.before.handle) (slide_arrow f (flat_map (λ (b : BlockItem). slide_of b (item_of b.anchor x.before.blocks)) blocks))
+
+parts-same : (x : Scene) {h k : ℕ} {f g : Frame} {bs cs : List BlockItem} → h ≡ k → f ≡ g → bs ≡ cs → arrow_with x h f bs ≡ arrow_with x k g cs
+parts-same x {h} {k} {f} {g} {bs} {cs} i j l =
+    ap (λ z. arrow_with x z f bs) i ∙ (ap (λ z. arrow_with x k z bs) j ∙ ap (arrow_with x k g) l)
+
+pub put_flex_cards-requires-clause-few : goal.put_flex_cards-requires-clause-few
+put_flex_cards-requires-clause-few g c =
+    let r = c.requires.task in
+    let few = few-blocks r.0.slot.blocks (task-slot c.spelled.ensures c.args.plan.now.i r.0 r.1).anchors in
+    omega (arith, few, items-long (flex_start r.0.slot) r.0.slot.blocks, ap length r.3.blocks)
+
+pub print_arrow_of-requires : goal.print_arrow_of-requires
+print_arrow_of-requires g c =
+    let r = c.requires.task in
+    let few = few-blocks r.0.slot.blocks (task-slot c.spelled.ensures c.args.plan.now.i r.0 r.1).anchors in
+    omega (arith, few, items-long (flex_start r.0.slot) r.0.slot.blocks, ap length r.3.blocks)
+
+pub print_rows-requires-clause-few : goal.print_rows-requires-clause-few
+print_rows-requires-clause-few g c =
+    let r = c.requires.task in
+    let i = c.args.plan.now.i in
+    let ps = c.args.step.now.pages.now in
+    let few = owned-few c.spelled.ensures ps c.requires.step.shared (pages.Slot i) (SlotOf r.0.handle)
+    (seen-slot c.spelled.ensures i r.0 r.1) c.requires.step.all in
+    omega (arith, few, ap (λ (z : Plot). length z.pages) r.3.plot)
+
+pub print_rows-requires-clause-pieces : goal.print_rows-requires-clause-pieces
+print_rows-requires-clause-pieces g c =
+    let d = g.S.Sight.desk c.args.sight.now in
+    let x = scene_at d c.args.step.now in
+    let r = c.requires.task in
+    let i = c.args.plan.now.i in
+    let ends = slot-ends (2 ^ 30) x r.0.handle r.0.slot (task-slot c.spelled.ensures i r.0 r.1).heap.fits (omega
+    (arith, (task-length c.spelled.ensures i r.0 r.1).1)) in
+    subst (AllByRecursion (EndsBy (2 ^ 30))) (sym (ap (λ (z : Plot). z.pieces) r.3.plot)) ends
+
+pub print_ticks-requires : goal.print_ticks-requires
+print_ticks-requires g c =
+    let r = c.requires.task in
+    let small = anchors-small (flex_start r.0.slot) r.0.slot.blocks (task-slot c.spelled.ensures c.args.plan.now.i r.0 r.1).anchors in
+    subst (AllByRecursion (λ (b : BlockItem). b.anchor < 64)) (sym r.3.blocks) small
+
+pub returns-in_err-print_lenses : goal.returns-in_err-print_lenses
+returns-in_err-print_lenses g c = λ t e.
+    let d = g.S.Sight.desk c.args.sight.now in
+    let x = scene_at d c.args.step.now in
+    let r = c.requires.task in
+    let i = c.args.plan.now.i in
+    let seen = seen-same (IsTaskSeen c.args.task.now) d.tasks i r.0 t r.1 e r.2 in
+    let p = seen-same (λ u. IsSlotPlan x u c.args.plan.now) d.tasks i r.0 t r.1 e r.3 in
+    let f = slot_frame x t in
+    (text_stop _ (slot_lenses f t.slot) ((cards_above (rows_top f - 16) (flex_cards x t) ++ (rows_text f (slot_plot x t) ++ (ticks_text (row_y f 0)
+    (block_items t.slot) ++ (slot_arrow x t ++ (cards_below (rows_foot f + 16) (heap_cards x t) ++ [])))))) (puts_same (ap
+    (λ z. slot_lenses z t.slot) p.frame) (c.in_err-print_lenses.ensures t e)) c.from_residual.ensures.0)
+
+pub returns-in_err-put_flex_cards : goal.returns-in_err-put_flex_cards
+returns-in_err-put_flex_cards g c = λ t e.
+    let d = g.S.Sight.desk c.args.sight.now in
+    let x = scene_at d c.args.step.now in
+    let r = c.requires.task in
+    let i = c.args.plan.now.i in
+    let seen = seen-same (IsTaskSeen c.args.task.now) d.tasks i r.0 t r.1 e r.2 in
+    let p = seen-same (λ u. IsSlotPlan x u c.args.plan.now) d.tasks i r.0 t r.1 e r.3 in
+    let f = slot_frame x t in
+    (text_then (slot_lenses f t.slot) ((cards_above (rows_top f - 16) (flex_cards x t) ++ (rows_text f (slot_plot x t) ++ (ticks_text (row_y f 0)
+    (block_items t.slot) ++ (slot_arrow x t ++ (cards_below (rows_foot f + 16) (heap_cards x t) ++ [])))))) (puts_same (ap
+    (λ z. slot_lenses z t.slot) p.frame) (c.in_ok-print_lenses.ensures t e))
+    (text_stop _ (cards_above (rows_top f - 16) (flex_cards x t)) ((rows_text f (slot_plot x t) ++ (ticks_text (row_y f 0) (block_items t.slot) ++
+    (slot_arrow x t ++ (cards_below (rows_foot f + 16) (heap_cards x t) ++ []))))) (puts_same (ap (λ n. cards_above n (flex_cards x t))
+    (c.saturating_sub.ensures ∙ ap (λ n. n - 16) (c.top.ensures.value ∙ ap rows_top p.frame)))
+    (c.in_err-put_flex_cards.ensures t e)) c.from_residual-in_err-put_flex_cards.ensures.0))
+
+pub returns-in_err-print_rows : goal.returns-in_err-print_rows
+returns-in_err-print_rows g c = λ t e.
+    let d = g.S.Sight.desk c.args.sight.now in
+    let x = scene_at d c.args.step.now in
+    let r = c.requires.task in
+    let i = c.args.plan.now.i in
+    let seen = seen-same (IsTaskSeen c.args.task.now) d.tasks i r.0 t r.1 e r.2 in
+    let p = seen-same (λ u. IsSlotPlan x u c.args.plan.now) d.tasks i r.0 t r.1 e r.3 in
+    let f = slot_frame x t in
+    (text_then (slot_lenses f t.slot) ((cards_above (rows_top f - 16) (flex_cards x t) ++ (rows_text f (slot_plot x t) ++ (ticks_text (row_y f 0)
+    (block_items t.slot) ++ (slot_arrow x t ++ (cards_below (rows_foot f + 16) (heap_cards x t) ++ [])))))) (puts_same (ap
+    (λ z. slot_lenses z t.slot) p.frame) (c.in_ok-print_lenses.ensures t e))
+    (text_then (cards_above (rows_top f - 16) (flex_cards x t)) ((rows_text f (slot_plot x t) ++ (ticks_text (row_y f 0) (block_items t.slot) ++
+    (slot_arrow x t ++ (cards_below (rows_foot f + 16) (heap_cards x t) ++ []))))) (puts_same (ap (λ n. cards_above n (flex_cards x t))
+    (c.saturating_sub.ensures ∙ ap (λ n. n - 16) (c.top.ensures.value ∙ ap rows_top p.frame))) (c.in_ok-put_flex_cards.ensures t e))
+    (text_stop _ (rows_text f (slot_plot x t)) ((ticks_text (row_y f 0) (block_items t.slot) ++ (slot_arrow x t ++ (cards_below (rows_foot f + 16)
+    (heap_cards x t) ++ [])))) (puts_same (ap₂ rows_text p.frame p.plot) (c.in_err-print_rows.ensures)) c.from_residual-in_err-print_rows.ensures.0)))
+
+pub returns-in_err-print_ticks : goal.returns-in_err-print_ticks
+returns-in_err-print_ticks g c = λ t e.
+    let d = g.S.Sight.desk c.args.sight.now in
+    let x = scene_at d c.args.step.now in
+    let r = c.requires.task in
+    let i = c.args.plan.now.i in
+    let seen = seen-same (IsTaskSeen c.args.task.now) d.tasks i r.0 t r.1 e r.2 in
+    let p = seen-same (λ u. IsSlotPlan x u c.args.plan.now) d.tasks i r.0 t r.1 e r.3 in
+    let f = slot_frame x t in
+    (text_then (slot_lenses f t.slot) ((cards_above (rows_top f - 16) (flex_cards x t) ++ (rows_text f (slot_plot x t) ++ (ticks_text (row_y f 0)
+    (block_items t.slot) ++ (slot_arrow x t ++ (cards_below (rows_foot f + 16) (heap_cards x t) ++ [])))))) (puts_same (ap
+    (λ z. slot_lenses z t.slot) p.frame) (c.in_ok-print_lenses.ensures t e))
+    (text_then (cards_above (rows_top f - 16) (flex_cards x t)) ((rows_text f (slot_plot x t) ++ (ticks_text (row_y f 0) (block_items t.slot) ++
+    (slot_arrow x t ++ (cards_below (rows_foot f + 16) (heap_cards x t) ++ []))))) (puts_same (ap (λ n. cards_above n (flex_cards x t))
+    (c.saturating_sub.ensures ∙ ap (λ n. n - 16) (c.top.ensures.value ∙ ap rows_top p.frame))) (c.in_ok-put_flex_cards.ensures t e))
+    (text_then (rows_text f (slot_plot x t)) ((ticks_text (row_y f 0) (block_items t.slot) ++ (slot_arrow x t ++ (cards_below (rows_foot f + 16)
+    (heap_cards x t) ++ [])))) (puts_same (ap₂ rows_text p.frame p.plot) (c.in_ok-print_rows.ensures))
+    (text_stop _ (ticks_text (row_y f 0) (block_items t.slot)) ((slot_arrow x t ++ (cards_below (rows_foot f + 16) (heap_cards x t) ++ []))) (puts_same
+    (ap₂ ticks_text (c.row_y.ensures.value ∙ ap (λ z. row_y z 0) p.frame) p.blocks)
+    (c.in_err-print_ticks.ensures)) c.from_residual-in_err-print_ticks.ensures.0))))
+
+pub returns-in_err-print_arrow_of : goal.returns-in_err-print_arrow_of
+returns-in_err-print_arrow_of g c = λ t e.
+    let d = g.S.Sight.desk c.args.sight.now in
+    let x = scene_at d c.args.step.now in
+    let r = c.requires.task in
+    let i = c.args.plan.now.i in
+    let seen = seen-same (IsTaskSeen c.args.task.now) d.tasks i r.0 t r.1 e r.2 in
+    let p = seen-same (λ u. IsSlotPlan x u c.args.plan.now) d.tasks i r.0 t r.1 e r.3 in
+    let f = slot_frame x t in
+    (text_then (slot_lenses f t.slot) ((cards_above (rows_top f - 16) (flex_cards x t) ++ (rows_text f (slot_plot x t) ++ (ticks_text (row_y f 0)
+    (block_items t.slot) ++ (slot_arrow x t ++ (cards_below (rows_foot f + 16) (heap_cards x t) ++ [])))))) (puts_same (ap
+    (λ z. slot_lenses z t.slot) p.frame) (c.in_ok-print_lenses.ensures t e))
+    (text_then (cards_above (rows_top f - 16) (flex_cards x t)) ((rows_text f (slot_plot x t) ++ (ticks_text (row_y f 0) (block_items t.slot) ++
+    (slot_arrow x t ++ (cards_below (rows_foot f + 16) (heap_cards x t) ++ []))))) (puts_same (ap (λ n. cards_above n (flex_cards x t))
+    (c.saturating_sub.ensures ∙ ap (λ n. n - 16) (c.top.ensures.value ∙ ap rows_top p.frame))) (c.in_ok-put_flex_cards.ensures t e))
+    (text_then (rows_text f (slot_plot x t)) ((ticks_text (row_y f 0) (block_items t.slot) ++ (slot_arrow x t ++ (cards_below (rows_foot f + 16)
+    (heap_cards x t) ++ [])))) (puts_same (ap₂ rows_text p.frame p.plot) (c.in_ok-print_rows.ensures))
+    (text_then (ticks_text (row_y f 0) (block_items t.slot)) ((slot_arrow x t ++ (cards_below (rows_foot f + 16) (heap_cards x t) ++ []))) (puts_same
+    (ap₂ ticks_text (c.row_y.ensures.value ∙ ap (λ z. row_y z 0) p.frame) p.blocks) (c.in_ok-print_ticks.ensures))
+    (text_stop _ (slot_arrow x t) ((cards_below (rows_foot f + 16) (heap_cards x t) ++ [])) (puts_same (parts-same x seen.handle p.frame p.blocks
+    ∙ arrow-same x f t (λ q. ap (λ h. task_at h d) (sym q) ∙ task-stands c.spelled.ensures i t e))
+    (c.in_err-print_arrow_of.ensures)) c.from_residual-in_err-print_arrow_of.ensures.0)))))
+
+pub returns : goal.returns
+returns g c = λ t e.
+    let d = g.S.Sight.desk c.args.sight.now in
+    let x = scene_at d c.args.step.now in
+    let r = c.requires.task in
+    let i = c.args.plan.now.i in
+    let seen = seen-same (IsTaskSeen c.args.task.now) d.tasks i r.0 t r.1 e r.2 in
+    let p = seen-same (λ u. IsSlotPlan x u c.args.plan.now) d.tasks i r.0 t r.1 e r.3 in
+    let f = slot_frame x t in
+    let heap = at-some (heap_seen (heap_of.Task i) d) _ t.slot.heap (ap (option_map (λ (u : Task). u.slot.heap)) e) c.put_heap_cards.ensures in
+    (text_then (slot_lenses f t.slot) ((cards_above (rows_top f - 16) (flex_cards x t) ++ (rows_text f (slot_plot x t) ++ (ticks_text (row_y f 0)
+    (block_items t.slot) ++ (slot_arrow x t ++ (cards_below (rows_foot f + 16) (heap_cards x t) ++ [])))))) (puts_same (ap
+    (λ z. slot_lenses z t.slot) p.frame) (c.in_ok-print_lenses.ensures t e))
+    (text_then (cards_above (rows_top f - 16) (flex_cards x t)) ((rows_text f (slot_plot x t) ++ (ticks_text (row_y f 0) (block_items t.slot) ++
+    (slot_arrow x t ++ (cards_below (rows_foot f + 16) (heap_cards x t) ++ []))))) (puts_same (ap (λ n. cards_above n (flex_cards x t))
+    (c.saturating_sub.ensures ∙ ap (λ n. n - 16) (c.top.ensures.value ∙ ap rows_top p.frame))) (c.in_ok-put_flex_cards.ensures t e))
+    (text_then (rows_text f (slot_plot x t)) ((ticks_text (row_y f 0) (block_items t.slot) ++ (slot_arrow x t ++ (cards_below (rows_foot f + 16)
+    (heap_cards x t) ++ [])))) (puts_same (ap₂ rows_text p.frame p.plot) (c.in_ok-print_rows.ensures))
+    (text_then (ticks_text (row_y f 0) (block_items t.slot)) ((slot_arrow x t ++ (cards_below (rows_foot f + 16) (heap_cards x t) ++ []))) (puts_same
+    (ap₂ ticks_text (c.row_y.ensures.value ∙ ap (λ z. row_y z 0) p.frame) p.blocks) (c.in_ok-print_ticks.ensures))
+    (text_then (slot_arrow x t) ((cards_below (rows_foot f + 16) (heap_cards x t) ++ [])) (puts_same (parts-same x seen.handle p.frame p.blocks
+    ∙ arrow-same x f t (λ q. ap (λ h. task_at h d) (sym q) ∙ task-stands c.spelled.ensures i t e)) (c.in_ok-print_arrow_of.ensures))
+    (text_last (puts_same (ap (λ o. band_text (Below (c.foot.result + 16)) (shown_cards (cards_from (card_of_task x o)
+    (heap_start + first_place) t.slot.heap.segments))) e ∙ ap (λ n. cards_below (n + 16) (heap_cards x t)) (c.foot.ensures.value ∙ ap rows_foot p.frame))
+    (heap))))))))

@@ -1,0 +1,133 @@
+use Rattle.std.proofs.Common.{◌≡◌, ◌+◌, ◌++◌, [], ◌∷◌, length, ap, ap₂, append-nil, append_assoc, sym, ◌∙◌, arith, Some}
+use Rattle.std.specs.Prelude.{codes}
+use Rattle.std.specs.List.{concat}
+use Rattle.std.specs.Option.{option_map}
+use Rattle.std.proofs.lemmas.Grind.{flat_map-append}
+use Rattle.rh_defs.specs.Desk.{Task}
+use Rattle.rh_defs.specs.Heap.{first_place}
+use Rattle.rh_defs.specs.Slot.{flex_start, heap_start}
+use Rattle.rh_figure.specs.Cards.{cards_from, flex_cards, heap_cards, shown_cards}
+use Rattle.rh_figure.specs.Phrases.{Text, size_text}
+use Rattle.rh_figure.specs.Share.{SlotOf}
+use Rattle.rh_sheet.specs.Areas.{pages_sentence, slot_frame}
+use Rattle.rh_sheet.specs.Cards.{cards_sentences}
+use Rattle.rh_sheet.specs.Markup.{escape, escaped_byte}
+use Rattle.rh_sheet.specs.Rows.{Plot}
+use Rattle.rh_sight.specs.declared.sight.HeapOf.TheVariants as heap_of
+use Rattle.rh_sight.specs.declared.sight.PagesOf.TheVariants as pages
+use Rattle.rh_sight.specs.Seen.{IsTaskSeen, heap_seen}
+use Rattle.rh_sight.specs.Steps.{scene_at}
+use Rattle.rh_sight.proofs.Heaps.{task-slot}
+use Rattle.rh_sight.proofs.Holders.{at-some}
+use Rattle.rh_sight.proofs.PieceWalks.{items-long}
+use Rattle.rh_sight.proofs.SlotPieces.{few-blocks}
+use Rattle.rh_drawn.specs.Bands.{card_of_task}
+use Rattle.rh_drawn.proofs.DrawingLemmas.{seen-same}
+use Rattle.rh_drawn.proofs.PageLemmas.{owned-few, seen-slot}
+use Rattle.rh_drawn.proofs.Walks.{puts_same}
+use Rattle.rh_painted.specs.Bands.{band_text}
+use Rattle.rh_painted.specs.Figures.{IsSlotPlan}
+use Rattle.rh_painted.specs.declared.bands.Form.TheVariants.{Told}
+use Rattle.rh_painted.proofs.BandLemmas.{told-all}
+use Rattle.rh_painted.proofs.TextPuts.{text_stop, text_then}
+use Rattle.rh_painted.proofs.slots.print_description.Goals as goal
+
+-- the parts of what is read out, as they are written
+parts : (a b c d e f : Text) → escape a ++ (escape (b ++ (c ++ d)) ++ (escape e ++ escape f)) ≡ escape (concat (a ∷ b ∷ c ∷ d ∷ e ∷ f ∷ []))
+parts a b c d e f =
+    let z = e ++ f in
+    let y = b ++ (c ++ d) in
+    let long : y ++ z ≡ b ++ (c ++ (d ++ z)) = append_assoc b (c ++ d) z ∙ ap (λ s. b ++ s) (append_assoc c d z) in
+    ap (λ s. escape a ++ (escape y ++ s)) (sym (flat_map-append escaped_byte e f))
+    ∙ (ap (λ s. escape a ++ s) (sym (flat_map-append escaped_byte y z))
+    ∙ (sym (flat_map-append escaped_byte a (y ++ z))
+    ∙ (ap (λ s. escape (a ++ s)) long
+    ∙ ap (λ s. escape (a ++ (b ++ (c ++ (d ++ (e ++ s)))))) (sym (append-nil f)))))
+
+pub put_pages-requires : goal.put_pages-requires
+put_pages-requires g c =
+    let r = c.requires.task in
+    let i = c.args.plan.now.i in
+    let ps = c.args.step.now.pages.now in
+    let few = owned-few c.spelled.ensures ps c.requires.step.shared (pages.Slot i) (SlotOf r.0.handle)
+    (seen-slot c.spelled.ensures i r.0 r.1) c.requires.step.all in
+    omega (arith, few, ap (λ (z : Plot). length z.pages) r.3.plot)
+
+pub put_flex_cards-requires-clause-few : goal.put_flex_cards-requires-clause-few
+put_flex_cards-requires-clause-few g c =
+    let r = c.requires.task in
+    let few = few-blocks r.0.slot.blocks (task-slot c.spelled.ensures c.args.plan.now.i r.0 r.1).anchors in
+    omega (arith, few, items-long (flex_start r.0.slot) r.0.slot.blocks, ap length r.3.blocks)
+
+pub returns-in_err-put_pages : goal.returns-in_err-put_pages
+returns-in_err-put_pages g c = λ t e.
+    let d = g.S.Sight.desk c.args.sight.now in
+    let x = scene_at d c.args.step.now in
+    let r = c.requires.task in
+    let i = c.args.plan.now.i in
+    let seen = seen-same (IsTaskSeen c.args.task.now) d.tasks i r.0 t r.1 e r.2 in
+    let p = seen-same (λ u. IsSlotPlan x u c.args.plan.now) d.tasks i r.0 t r.1 e r.3 in
+    puts_same (parts (pages_sentence (x.share.pages_of (SlotOf t.handle))) (codes "C heap of ") (size_text t.slot.heap.end) (codes ". ") (cards_sentences
+    (heap_cards x t)) (cards_sentences (flex_cards x t))) ((text_stop _ (escape (pages_sentence (x.share.pages_of (SlotOf t.handle)))) ((escape
+    (codes "C heap of " ++ (size_text t.slot.heap.end ++ codes ". ")) ++ (escape (cards_sentences (heap_cards x t)) ++ escape (cards_sentences
+    (flex_cards x t))))) (puts_same (ap (λ (z : Plot). escape (pages_sentence z.pages)) p.plot) (c.in_err-put_pages.ensures)) c.from_residual.ensures.0))
+
+pub returns-in_err-put_escaped : goal.returns-in_err-put_escaped
+returns-in_err-put_escaped g c = λ t e.
+    let d = g.S.Sight.desk c.args.sight.now in
+    let x = scene_at d c.args.step.now in
+    let r = c.requires.task in
+    let i = c.args.plan.now.i in
+    let seen = seen-same (IsTaskSeen c.args.task.now) d.tasks i r.0 t r.1 e r.2 in
+    let p = seen-same (λ u. IsSlotPlan x u c.args.plan.now) d.tasks i r.0 t r.1 e r.3 in
+    puts_same (parts (pages_sentence (x.share.pages_of (SlotOf t.handle))) (codes "C heap of ") (size_text t.slot.heap.end) (codes ". ") (cards_sentences
+    (heap_cards x t)) (cards_sentences (flex_cards x t))) ((text_then (escape (pages_sentence (x.share.pages_of (SlotOf t.handle)))) ((escape
+    (codes "C heap of " ++ (size_text t.slot.heap.end ++ codes ". ")) ++ (escape (cards_sentences (heap_cards x t)) ++ escape (cards_sentences
+    (flex_cards x t))))) (puts_same (ap (λ (z : Plot). escape (pages_sentence z.pages)) p.plot) (c.in_ok-put_pages.ensures))
+    (text_stop _ (escape (codes "C heap of " ++ (size_text t.slot.heap.end ++ codes ". "))) ((escape (cards_sentences (heap_cards x t)) ++ escape
+    (cards_sentences (flex_cards x t)))) (puts_same (ap escape (c.as_slice.ensures ∙ (c.text-2.ensures ∙ (ap (λ z. z ++ codes ". ")
+    (c.add_size.ensures.value ∙ ap₂ (λ z n. z ++ size_text n) (c.text.ensures ∙ ap (λ z. z ++ codes "C heap of ") c.new-row.ensures) seen.heap_end)
+    ∙ append_assoc (codes "C heap of ") (size_text t.slot.heap.end) (codes ". ")))))
+    (c.in_err-put_escaped.ensures)) c.from_residual-in_err-put_escaped.ensures.0)))
+
+pub returns-in_err-put_heap_cards : goal.returns-in_err-put_heap_cards
+returns-in_err-put_heap_cards g c = λ t e.
+    let d = g.S.Sight.desk c.args.sight.now in
+    let x = scene_at d c.args.step.now in
+    let r = c.requires.task in
+    let i = c.args.plan.now.i in
+    let seen = seen-same (IsTaskSeen c.args.task.now) d.tasks i r.0 t r.1 e r.2 in
+    let p = seen-same (λ u. IsSlotPlan x u c.args.plan.now) d.tasks i r.0 t r.1 e r.3 in
+    puts_same (parts (pages_sentence (x.share.pages_of (SlotOf t.handle))) (codes "C heap of ") (size_text t.slot.heap.end) (codes ". ") (cards_sentences
+    (heap_cards x t)) (cards_sentences (flex_cards x t))) ((text_then (escape (pages_sentence (x.share.pages_of (SlotOf t.handle)))) ((escape
+    (codes "C heap of " ++ (size_text t.slot.heap.end ++ codes ". ")) ++ (escape (cards_sentences (heap_cards x t)) ++ escape (cards_sentences
+    (flex_cards x t))))) (puts_same (ap (λ (z : Plot). escape (pages_sentence z.pages)) p.plot) (c.in_ok-put_pages.ensures))
+    (text_then (escape (codes "C heap of " ++ (size_text t.slot.heap.end ++ codes ". "))) ((escape (cards_sentences (heap_cards x t)) ++ escape
+    (cards_sentences (flex_cards x t)))) (puts_same (ap escape (c.as_slice.ensures ∙ (c.text-2.ensures ∙ (ap (λ z. z ++ codes ". ")
+    (c.add_size.ensures.value ∙ ap₂ (λ z n. z ++ size_text n) (c.text.ensures ∙ ap (λ z. z ++ codes "C heap of ") c.new-row.ensures) seen.heap_end)
+    ∙ append_assoc (codes "C heap of ") (size_text t.slot.heap.end) (codes ". "))))) (c.in_ok-put_escaped.ensures))
+    (text_stop _ (escape (cards_sentences (heap_cards x t))) (escape (cards_sentences (flex_cards x t))) (puts_same (ap (λ o. band_text Told (shown_cards
+    (cards_from (card_of_task x o) (heap_start + first_place) t.slot.heap.segments))) e ∙ told-all 0 (shown_cards (heap_cards x t))) (at-some (heap_seen
+    (heap_of.Task i) d) _ t.slot.heap (ap (option_map (λ
+    (u : Task). u.slot.heap)) e) c.in_err-put_heap_cards.ensures)) c.from_residual-in_err-put_heap_cards.ensures.0))))
+
+pub returns : goal.returns
+returns g c = λ t e.
+    let d = g.S.Sight.desk c.args.sight.now in
+    let x = scene_at d c.args.step.now in
+    let r = c.requires.task in
+    let i = c.args.plan.now.i in
+    let seen = seen-same (IsTaskSeen c.args.task.now) d.tasks i r.0 t r.1 e r.2 in
+    let p = seen-same (λ u. IsSlotPlan x u c.args.plan.now) d.tasks i r.0 t r.1 e r.3 in
+    puts_same (parts (pages_sentence (x.share.pages_of (SlotOf t.handle))) (codes "C heap of ") (size_text t.slot.heap.end) (codes ". ") (cards_sentences
+    (heap_cards x t)) (cards_sentences (flex_cards x t))) ((text_then (escape (pages_sentence (x.share.pages_of (SlotOf t.handle)))) ((escape
+    (codes "C heap of " ++ (size_text t.slot.heap.end ++ codes ". ")) ++ (escape (cards_sentences (heap_cards x t)) ++ escape (cards_sentences
+    (flex_cards x t))))) (puts_same (ap (λ (z : Plot). escape (pages_sentence z.pages)) p.plot) (c.in_ok-put_pages.ensures))
+    (text_then (escape (codes "C heap of " ++ (size_text t.slot.heap.end ++ codes ". "))) ((escape (cards_sentences (heap_cards x t)) ++ escape
+    (cards_sentences (flex_cards x t)))) (puts_same (ap escape (c.as_slice.ensures ∙ (c.text-2.ensures ∙ (ap (λ z. z ++ codes ". ")
+    (c.add_size.ensures.value ∙ ap₂ (λ z n. z ++ size_text n) (c.text.ensures ∙ ap (λ z. z ++ codes "C heap of ") c.new-row.ensures) seen.heap_end)
+    ∙ append_assoc (codes "C heap of ") (size_text t.slot.heap.end) (codes ". "))))) (c.in_ok-put_escaped.ensures))
+    (text_then (escape (cards_sentences (heap_cards x t))) (escape (cards_sentences (flex_cards x t))) (puts_same (ap (λ o. band_text Told (shown_cards
+    (cards_from (card_of_task x o) (heap_start + first_place) t.slot.heap.segments))) e ∙ told-all 0 (shown_cards (heap_cards x t))) (at-some (heap_seen
+    (heap_of.Task i) d) _ t.slot.heap (ap (option_map (λ (u : Task). u.slot.heap)) e) c.in_ok-put_heap_cards.ensures))
+    (puts_same (told-all 0 (shown_cards (flex_cards x t))) (c.put_flex_cards.ensures t e))))))
