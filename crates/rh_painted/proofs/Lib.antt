@@ -15,3 +15,6 @@ mod NoteLemmas
 mod TableLemmas
 mod ChartLemmas
 mod AsideLemmas
+mod StepLemmas
+mod TakeLemmas
+mod PrintLemmas
