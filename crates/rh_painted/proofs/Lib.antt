@@ -5,6 +5,7 @@ pub mod SlotLemmas
 pub mod LensLemmas
 pub mod ElementLemmas
 pub mod OwnerLemmas
+pub mod ReturnLemmas
 mod WalkLemmas
 mod LineLemmas
 mod SheetLemmas
