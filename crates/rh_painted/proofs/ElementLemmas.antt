@@ -1,11 +1,12 @@
 -- Elements that are written one after the other: for the parts of a list those that each part has.
-use Rattle.std.proofs.Common.{◌≡◌, ℕ, ◌+◌, ◌<◌, ap, ◌∙◌, List, [], ◌∷◌, ◌++◌, length, drop, append_assoc, append-nil, arith}
+use Rattle.std.proofs.Common.{◌≡◌, ℕ, ◌+◌, ◌<◌, ap, ◌∙◌, List, [], ◌∷◌, ◌++◌, length, drop, append_assoc, append-nil, arith, refl, ◌≤◌, get_or}
 use Rattle.std.specs.Prelude.{slice_get, Some, None}
 use Rattle.std.specs.List.{flat_map}
 use Rattle.std.proofs.lemmas.Grind.{flat_map-append}
 use Rattle.rh_figure.specs.Changes.{freed_line, freed_text}
 use Rattle.rh_sheet.specs.Markup.{change_item}
 use Rattle.rh_sight.proofs.Places.{rest-none, rest-some}
+use Rattle.rh_painted.proofs.TextWalks.{text-at, text-end}
 
 -- ---- the elements of parts
 
@@ -48,3 +49,16 @@ module _ {A B : Type 0} (element : B → List ℕ) (parts : A → List B) (behin
     -- there is none
     pub elements-none : slice_get xs i ≡ None → elements (drop i xs) ≡ flat_map element behind
     elements-none e = ap elements (rest-none xs i e)
+
+-- ---- the same of a slice, behind which nothing stands
+
+module _ {A B : Type 0} (element : B → List ℕ) (parts : A → List B) (xs : List A) (i : ℕ) where
+  abbrev all : List A → List ℕ
+  all ys = flat_map element (flat_map parts ys)
+
+  pub items-at : (x : A) → i < length xs → x ≡ get_or xs i x → all (drop i xs) ≡ flat_map element (parts x) ++ all (drop (i + 1) xs)
+  items-at x inside e =
+      text-at all (λ y. flat_map element (parts y)) (λ y rest. parts-both element (parts y) (flat_map parts rest)) xs i x inside e
+
+  pub items-end : length xs ≤ i → all (drop i xs) ≡ []
+  items-end past = text-end all refl xs i past

@@ -87,12 +87,15 @@ module _ {d : Desk} (is : IsDesk d) where
       record {
         owner = record {
           place = seen-slot is i t e ∙ ap (λ h. Some (SlotOf h)) (sym seen.handle);
-          count = seen.pages ∙ sym (ap (λ h. count_of (SlotOf h) (holdings d)) seen.handle ∙ stands-count is (pages.Slot i) (SlotOf t.handle) (task_pages t) at);
+          count = seen.pages ∙ sym (ap (λ h. count_of (SlotOf h) (holdings d)) seen.handle
+              ∙ stands-count is (pages.Slot i) (SlotOf t.handle) (task_pages t) at);
           name = ap (λ n. codes "Slot " ++ n) name;
           tag = ap slot_tag name;
         };
         stands = ap (λ n. slice_get (holdings d) (n + length d.made + i)) (sym is.areas.six)
-            ∙ (at.is ∙ ap (λ (h : Holding). Some h) (ap (λ n. let h : Holding = (SlotOf n, task_pages t) in h) (sym seen.handle) ∙ ap (λ n. let h : Holding = (SlotOf s.handle, n) in h) (sym seen.pages)));
+            ∙ (at.is ∙ ap (λ (h : Holding). Some h)
+            (ap (λ n. let h : Holding = (SlotOf n, task_pages t) in h) (sym seen.handle)
+            ∙ ap (λ n. let h : Holding = (SlotOf s.handle, n) in h) (sym seen.pages)));
       }
 
   -- none past the last

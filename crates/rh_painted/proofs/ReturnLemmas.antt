@@ -37,4 +37,5 @@ returns-are d held ms e =
     waits d held (waiting_on d)
     ∙ (sym (append-nil (flat_map (return_lines d held) (map (item_of false) (waiting_on d))))
     ∙ (ap (λ z. flat_map (return_lines d held) (map (item_of false) (waiting_on d)) ++ z) (sym (no-holds d held (held_on d)))
-    ∙ (sym (flat_map-append (return_lines d held) (map (item_of false) (waiting_on d)) (map (item_of true) (held_on d))) ∙ ap (flat_map (return_lines d held)) (sym e))))
+    ∙ (sym (flat_map-append (return_lines d held) (map (item_of false) (waiting_on d)) (map (item_of true) (held_on d)))
+    ∙ ap (flat_map (return_lines d held)) (sym e))))

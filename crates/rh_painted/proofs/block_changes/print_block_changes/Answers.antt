@@ -29,7 +29,8 @@ items lines = flat_map change_item lines
 -- the parts of what has changed of a task's blocks
 block-parts : (x : Scene) (t : Task) → task_at x.before.handle x.desk ≡ Some t
     → items (block_changes x (task_at x.before.handle x.desk) ++ slide_change (slides x))
-    ≡ items (gone x.before.blocks (block_items t.slot)) ++ (items (changed x.before.blocks (block_items t.slot)) ++ items (slid x.before.blocks (block_items t.slot)))
+    ≡ items (gone x.before.blocks (block_items t.slot))
+    ++ (items (changed x.before.blocks (block_items t.slot)) ++ items (slid x.before.blocks (block_items t.slot)))
 block-parts x t e =
     let now = block_items t.slot in
     let before = x.before.blocks in
@@ -44,8 +45,10 @@ returns-in_err-print_gone g c =
     let at : task_at x.before.handle x.desk ≡ Some r.0 = ap (λ h. task_at h (g.S.Sight.desk c.args.sight.now)) (sym c.handle.ensures) ∙ r.2 in
     let now = block_items r.0.slot in
     let before = x.before.blocks in
+    let first = ap₂ (λ b n. items (gone b n)) c.blocks-3.ensures (c.deref.ensures.0 ∙ c.blocks-2.ensures r.0 r.1) in
     puts_same (sym (block-parts x r.0 at))
-    (text_stop _ (items (gone before now)) (items (changed before now) ++ items (slid before now)) (puts_same (ap₂ (λ b n. items (gone b n)) c.blocks-3.ensures (c.deref.ensures.0 ∙ c.blocks-2.ensures r.0 r.1)) c.in_err-print_gone.ensures) c.from_residual.ensures.0)
+    (text_stop _ (items (gone before now)) (items (changed before now) ++ items (slid before now)) (puts_same first c.in_err-print_gone.ensures)
+    c.from_residual.ensures.0)
 
 pub returns-in_err-print_now : goal.returns-in_err-print_now
 returns-in_err-print_now g c =
@@ -54,9 +57,12 @@ returns-in_err-print_now g c =
     let at : task_at x.before.handle x.desk ≡ Some r.0 = ap (λ h. task_at h (g.S.Sight.desk c.args.sight.now)) (sym c.handle.ensures) ∙ r.2 in
     let now = block_items r.0.slot in
     let before = x.before.blocks in
+    let first = ap₂ (λ b n. items (gone b n)) c.blocks-3.ensures (c.deref.ensures.0 ∙ c.blocks-2.ensures r.0 r.1) in
+    let second = ap (λ n. items (changed before n)) (c.deref-2.ensures.0 ∙ c.blocks-2.ensures r.0 r.1) in
     puts_same (sym (block-parts x r.0 at))
-    (text_then (items (gone before now)) (items (changed before now) ++ items (slid before now)) (puts_same (ap₂ (λ b n. items (gone b n)) c.blocks-3.ensures (c.deref.ensures.0 ∙ c.blocks-2.ensures r.0 r.1)) c.in_ok-print_gone.ensures)
-    (text_stop _ (items (changed before now)) (items (slid before now)) (puts_same (ap (λ n. items (changed before n)) (c.deref-2.ensures.0 ∙ c.blocks-2.ensures r.0 r.1)) c.in_err-print_now.ensures) c.from_residual-in_err-print_now.ensures.0))
+    (text_then (items (gone before now)) (items (changed before now) ++ items (slid before now)) (puts_same first c.in_ok-print_gone.ensures)
+    (text_stop _ (items (changed before now)) (items (slid before now)) (puts_same second c.in_err-print_now.ensures)
+    c.from_residual-in_err-print_now.ensures.0))
 
 pub returns : goal.returns
 returns g c =
@@ -65,7 +71,9 @@ returns g c =
     let at : task_at x.before.handle x.desk ≡ Some r.0 = ap (λ h. task_at h (g.S.Sight.desk c.args.sight.now)) (sym c.handle.ensures) ∙ r.2 in
     let now = block_items r.0.slot in
     let before = x.before.blocks in
+    let first = ap₂ (λ b n. items (gone b n)) c.blocks-3.ensures (c.deref.ensures.0 ∙ c.blocks-2.ensures r.0 r.1) in
+    let second = ap (λ n. items (changed before n)) (c.deref-2.ensures.0 ∙ c.blocks-2.ensures r.0 r.1) in
     puts_same (sym (block-parts x r.0 at))
-    (text_then (items (gone before now)) (items (changed before now) ++ items (slid before now)) (puts_same (ap₂ (λ b n. items (gone b n)) c.blocks-3.ensures (c.deref.ensures.0 ∙ c.blocks-2.ensures r.0 r.1)) c.in_ok-print_gone.ensures)
-    (text_then (items (changed before now)) (items (slid before now)) (puts_same (ap (λ n. items (changed before n)) (c.deref-2.ensures.0 ∙ c.blocks-2.ensures r.0 r.1)) c.in_ok-print_now.ensures)
+    (text_then (items (gone before now)) (items (changed before now) ++ items (slid before now)) (puts_same first c.in_ok-print_gone.ensures)
+    (text_then (items (changed before now)) (items (slid before now)) (puts_same second c.in_ok-print_now.ensures)
     (puts_same (ap (λ n. items (slid before n)) (c.deref-3.ensures.0 ∙ c.blocks-2.ensures r.0 r.1)) c.print_slides.ensures)))

@@ -13,7 +13,8 @@ pub returns-in_err-print_takes : goal.returns-in_err-print_takes
 returns-in_err-print_takes g c =
     let d = g.S.Sight.desk c.args.sight.now in
     let x = scene_at d c.args.step.now in
-    left_breaks _ _ c.owners.invariant (elements-some change_item (takes_text x) (freed_text (freed_pages x)) (holdings d) c.owners.k _ c.in-Some.ensures.some.stands)
+    left_breaks _ _ c.owners.invariant (elements-some change_item (takes_text x) (freed_text (freed_pages x)) (holdings d) c.owners.k _
+    c.in-Some.ensures.some.stands)
     c.in_err-print_takes.ensures c.from_residual.ensures.0
 
 pub overflow_add-k : goal.overflow_add-k
@@ -30,7 +31,8 @@ pub owners-preserved : goal.owners-preserved
 owners-preserved g c =
     let d = g.S.Sight.desk c.args.sight.now in
     let x = scene_at d c.args.step.now in
-    left_less c.owners.invariant (elements-some change_item (takes_text x) (freed_text (freed_pages x)) (holdings d) c.owners.k _ c.in-Some.ensures.some.stands)
+    left_less c.owners.invariant (elements-some change_item (takes_text x) (freed_text (freed_pages x)) (holdings d) c.owners.k _
+    c.in-Some.ensures.some.stands)
     c.in_ok-print_takes.ensures.ok
 
 pub returns : goal.returns
@@ -38,4 +40,5 @@ returns g c =
     let d = g.S.Sight.desk c.args.sight.now in
     let x = scene_at d c.args.step.now in
     left_last _ c.owners.invariant
-    (puts_same (sym (elements-none change_item (takes_text x) (freed_text (freed_pages x)) (holdings d) c.owners.k c.in_default.ensures.none)) c.print_freed.ensures)
+    (puts_same (sym (elements-none change_item (takes_text x) (freed_text (freed_pages x)) (holdings d) c.owners.k c.in_default.ensures.none))
+    c.print_freed.ensures)

@@ -23,8 +23,10 @@ returns g c =
     let named = c.args.owner.now.named in
     let found = c.pages_of-pages.result.now in
     let is = owner-pages c.args.step.now.pages.now c.requires.step.shared c.requires.owner found c.pages_of-pages.ensures in
-    let had : c.count-had.result ≡ count_of (who_seen named) x.before.holdings = c.count-had.ensures ∙ ap (λ o. count_of o x.before.holdings) c.owner.ensures in
+    let had : c.count-had.result ≡ count_of (who_seen named) x.before.holdings =
+    c.count-had.ensures ∙ ap (λ o. count_of o x.before.holdings) c.owner.ensures in
     let low : count_of (who_seen named) x.before.holdings < c.args.owner.now.count = omega (arith, had, c.if-had-owner.false) in
     let name : name_seen named ≡ owner_name x.desk (who_seen named) = c.requires.owner.name in
     puts_same (ap change_item (c.as_slice.ensures ∙ (c.takes_told-taken.ensures.value
-    ∙ ap₂ taken_line name (take_rest found c.count-had.result ∙ ap₂ drop had is))) ∙ sym (takes-one x (holding_seen c.args.owner.now) low)) c.print_change.ensures
+    ∙ ap₂ taken_line name (take_rest found c.count-had.result ∙ ap₂ drop had is))) ∙ sym (takes-one x (holding_seen c.args.owner.now) low))
+    c.print_change.ensures

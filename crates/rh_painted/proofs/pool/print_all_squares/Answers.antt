@@ -12,7 +12,8 @@ pub returns-in_err-print_owner_squares : goal.returns-in_err-print_owner_squares
 returns-in_err-print_owner_squares g c =
     let d = g.S.Sight.desk c.args.sight.now in
     let x = scene_at d c.args.step.now in
-    left_breaks _ _ c.owners.invariant (text-some (flat_map (owner_squares x)) (owner_squares x) (λ o rest. refl) (holdings d) c.owners.k _ c.in-Some.ensures.some.stands)
+    left_breaks _ _ c.owners.invariant (text-some (flat_map (owner_squares x)) (owner_squares x) (λ o rest. refl) (holdings d) c.owners.k _
+    c.in-Some.ensures.some.stands)
     c.in_err-print_owner_squares.ensures c.from_residual.ensures.0
 
 pub overflow_add-k : goal.overflow_add-k
@@ -29,7 +30,8 @@ pub owners-preserved : goal.owners-preserved
 owners-preserved g c =
     let d = g.S.Sight.desk c.args.sight.now in
     let x = scene_at d c.args.step.now in
-    left_less c.owners.invariant (text-some (flat_map (owner_squares x)) (owner_squares x) (λ o rest. refl) (holdings d) c.owners.k _ c.in-Some.ensures.some.stands)
+    left_less c.owners.invariant (text-some (flat_map (owner_squares x)) (owner_squares x) (λ o rest. refl) (holdings d) c.owners.k _
+    c.in-Some.ensures.some.stands)
     c.in_ok-print_owner_squares.ensures.ok
 
 pub returns : goal.returns

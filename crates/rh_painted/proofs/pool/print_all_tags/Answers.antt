@@ -19,7 +19,8 @@ returns-in_err-print_tags g c =
     let own = c.in-Some.ensures.some.owner in
     let tag : c.as_slice.result.now ≡ owner_tag d (who_seen c.in-Some.owner.named) = c.as_slice.ensures ∙ (c.tag.ensures.value ∙ own.tag) in
     let pages = owner-pages c.args.step.now.pages.now c.requires.shared own c.pages_of-pages.result.now c.pages_of-pages.ensures in
-    left_breaks _ _ c.owners.invariant (text-some (flat_map (tags_text x)) (tags_text x) (λ o rest. refl) (holdings d) c.owners.k _ c.in-Some.ensures.some.stands)
+    left_breaks _ _ c.owners.invariant (text-some (flat_map (tags_text x)) (tags_text x) (λ o rest. refl) (holdings d) c.owners.k _
+    c.in-Some.ensures.some.stands)
     (puts_same (ap₂ (λ t ns. flat_map (tag_text t) ns) tag pages) c.in_err-print_tags.ensures) c.from_residual.ensures.0
 
 pub overflow_add-k : goal.overflow_add-k

@@ -11,7 +11,8 @@ returns-in_err-print_all_squares g c =
 
 pub returns-in_err-print_freed_squares : goal.returns-in_err-print_freed_squares
 returns-in_err-print_freed_squares g c =
-    puts_stops _ (puts_more _ _ _ c.in_ok-print_all_squares.ensures (puts_before _ c.in_err-print_freed_squares.ensures refl)) c.from_residual-in_err-print_freed_squares.ensures.0
+    puts_stops _ (puts_more _ _ _ c.in_ok-print_all_squares.ensures (puts_before _ c.in_err-print_freed_squares.ensures refl))
+    c.from_residual-in_err-print_freed_squares.ensures.0
 
 pub returns-in_err-put : goal.returns-in_err-put
 returns-in_err-put g c =

@@ -47,7 +47,8 @@ returns-in_err-print_sentence g c =
     let x = scene_at d c.args.step.now in
     let own = c.in-Some.ensures.some in
     left_breaks _ _ c.owners.invariant (elements-some escaped_byte (sentence x) (free d) (holdings d) c.owners.k _ own.stands)
-    (puts_same (ap (λ n. escape (owner_sentence n (x.share.pages_of (who_seen c.in-Some.owner.named)))) own.owner.name) c.in_err-print_sentence.ensures) c.from_residual.ensures.0
+    (puts_same (ap (λ n. escape (owner_sentence n (x.share.pages_of (who_seen c.in-Some.owner.named)))) own.owner.name) c.in_err-print_sentence.ensures)
+    c.from_residual.ensures.0
 
 pub overflow_add-k : goal.overflow_add-k
 overflow_add-k g c =
@@ -71,13 +72,16 @@ pub returns : goal.returns
 returns g c =
     let d = g.S.Sight.desk c.args.sight.now in
     let x = scene_at d c.args.step.now in
-    let row : c.as_slice.result.now ≡ ((([] ++ decimal c.free_pages.result) ++ codes " of ") ++ decimal (length c.args.step.now.pages.now)) ++ codes " free." =
+    let row : c.as_slice.result.now ≡ ((([] ++ decimal c.free_pages.result) ++ codes " of ")
+    ++ decimal (length c.args.step.now.pages.now)) ++ codes " free." =
     c.as_slice.ensures
     ∙ (c.text-2.ensures
     ∙ ap (λ z. z ++ codes " free.") (c.decimal-2.ensures.value
     ∙ ap (λ z. z ++ decimal (length c.args.step.now.pages.now)) (c.text.ensures
     ∙ ap (λ z. z ++ codes " of ") (c.decimal.ensures.value ∙ ap (λ z. z ++ decimal c.free_pages.result) c.new-row.ensures)))) in
     let told : c.as_slice.result.now ≡ free d =
-    row ∙ (free-row (decimal c.free_pages.result) (decimal (length c.args.step.now.pages.now)) ∙ ap₂ (λ f p. free_text f p ++ codes ".") c.free_pages.ensures c.requires.all) in
+    row ∙ (free-row (decimal c.free_pages.result) (decimal (length c.args.step.now.pages.now))
+    ∙ ap₂ (λ f p. free_text f p ++ codes ".") c.free_pages.ensures c.requires.all) in
     left_last _ c.owners.invariant
-    (puts_same (ap escape told ∙ sym (elements-none escaped_byte (sentence x) (free d) (holdings d) c.owners.k c.in_default.ensures.none)) c.put_escaped.ensures)
+    (puts_same (ap escape told ∙ sym (elements-none escaped_byte (sentence x) (free d) (holdings d) c.owners.k c.in_default.ensures.none))
+    c.put_escaped.ensures)

@@ -13,16 +13,19 @@ use Rattle.rh_painted.specs.Owners.{name_seen, who_seen}
 use Rattle.rh_painted.proofs.OwnerLemmas.{owner-few, owner-pages}
 use Rattle.rh_painted.proofs.pool.print_owner_squares.Goals as goal
 
-squares-same : (class class' tip tip' : Text) (ks ks' : List ℕ) → class ≡ class' → ks ≡ ks' → tip ≡ tip' → squares_text class ks tip ≡ squares_text class' ks' tip'
+squares-same : (class class' tip tip' : Text) (ks ks' : List ℕ) → class ≡ class' → ks ≡ ks' → tip ≡ tip'
+    → squares_text class ks tip ≡ squares_text class' ks' tip'
 squares-same class class' tip tip' ks ks' a b e =
     ap (λ z. squares_text z ks tip) a ∙ (ap (λ z. squares_text class' z tip) b ∙ ap (squares_text class' ks') e)
 
 -- the first pages of an owner, as many as it had
-front-same : (n had count : ℕ) (found pages front : List ℕ) → front ≡ take had found → had ≡ min n (length found) → n ≡ count → found ≡ pages → front ≡ take count pages
+front-same : (n had count : ℕ) (found pages front : List ℕ) → front ≡ take had found → had ≡ min n (length found) → n ≡ count → found ≡ pages
+    → front ≡ take count pages
 front-same n had count found pages front a b e is =
     a ∙ (ap (λ k. take k found) b ∙ (take_min n found ∙ ap₂ take e is))
 
-rest-same : (n had count : ℕ) (found pages rest : List ℕ) → rest ≡ drop had found → had ≡ min n (length found) → n ≡ count → found ≡ pages → rest ≡ drop count pages
+rest-same : (n had count : ℕ) (found pages rest : List ℕ) → rest ≡ drop had found → had ≡ min n (length found) → n ≡ count → found ≡ pages
+    → rest ≡ drop count pages
 rest-same n had count found pages rest a b e is =
     a ∙ (ap (λ k. drop k found) b ∙ (drop_min n found ∙ ap₂ drop e is))
 

@@ -32,7 +32,8 @@ post-parts x = ap items (append_assoc (returned x) (taken x) (sent x)) ∙ parts
 pub returns-in_err-print_returned : goal.returns-in_err-print_returned
 returns-in_err-print_returned g c =
     let x = scene_at (g.S.Sight.desk c.args.sight.now) c.args.step.now in
-    puts_same (sym (post-parts x)) (text_stop _ (items (returned x)) (items (taken x) ++ items (sent x)) c.in_err-print_returned.ensures c.from_residual.ensures.0)
+    puts_same (sym (post-parts x)) (text_stop _ (items (returned x)) (items (taken x) ++ items (sent x)) c.in_err-print_returned.ensures
+    c.from_residual.ensures.0)
 
 pub returns-in_err-print_taken : goal.returns-in_err-print_taken
 returns-in_err-print_taken g c =

@@ -1,4 +1,4 @@
-use Rattle.std.proofs.Common.{List, map, subst, refl}
+use Rattle.std.proofs.Common.{List, map, subst}
 use Rattle.std.specs.Prelude.{filter}
 use Rattle.std.specs.List.{flat_map}
 use Rattle.rh_figure.specs.Phrases.{Text}
@@ -6,9 +6,8 @@ use Rattle.rh_map.proofs.Left.{Left, left_breaks, left_less, left_none, left_who
 use Rattle.rh_sheet.specs.Markup.{change_item}
 use Rattle.rh_sight.specs.Messages.{waiting_on}
 use Rattle.rh_drawn.specs.Returns.{return_lines}
-use Rattle.rh_painted.proofs.ElementLemmas.{parts-both}
+use Rattle.rh_painted.proofs.ElementLemmas.{items-at, items-end}
 use Rattle.rh_painted.proofs.ReturnLemmas.{goes_back, line_of, returns-are}
-use Rattle.rh_painted.proofs.TextWalks.{text-at, text-end}
 use Rattle.rh_painted.proofs.post_changes.print_returned.Goals as goal
 
 pub loop-message-init : goal.loop-message-init
@@ -16,20 +15,26 @@ loop-message-init g c =
     let d = g.S.Sight.desk c.args.sight.now in
     let held = c.args.step.now.kept.now.held in
     let s = g.W.Sink.output c.args.writer.now in
-    let P : List Text → Type 0 = λ z. Left s s (flat_map change_item (map (line_of d) (filter (goes_back held) (waiting_on d)))) (flat_map change_item z) in
+    let whole = flat_map change_item (map (line_of d) (filter (goes_back held) (waiting_on d))) in
+    let P : List Text → Type 0 = λ z. Left s s whole (flat_map change_item z) in
     subst P (returns-are d held c.args.step.now.messages.now c.requires.messages) (left_whole s _)
 
 pub loop-message-preserved : goal.loop-message-preserved
 loop-message-preserved g c =
     let of = return_lines (g.S.Sight.desk c.args.sight.now) c.args.step.now.kept.now.held in
-    left_less c.loop-message.invariant (text-at (λ ms. flat_map change_item (flat_map of ms)) (λ m. flat_map change_item (of m)) (λ m rest. parts-both change_item (of m) (flat_map of rest)) c.args.step.now.messages.now c.loop-message.message-index c.message-item.result c.loop-message-test.true c.message-item.is) c.in_ok-print_return.ensures.ok
+    left_less c.loop-message.invariant (items-at change_item of c.args.step.now.messages.now c.loop-message.message-index c.message-item.result
+    c.loop-message-test.true c.message-item.is)
+    c.in_ok-print_return.ensures.ok
 
 pub returns-in_err-print_return : goal.returns-in_err-print_return
 returns-in_err-print_return g c =
     let of = return_lines (g.S.Sight.desk c.args.sight.now) c.args.step.now.kept.now.held in
-    left_breaks _ _ c.loop-message.invariant (text-at (λ ms. flat_map change_item (flat_map of ms)) (λ m. flat_map change_item (of m)) (λ m rest. parts-both change_item (of m) (flat_map of rest)) c.args.step.now.messages.now c.loop-message.message-index c.message-item.result c.loop-message-test.true c.message-item.is) c.in_err-print_return.ensures c.from_residual.ensures.0
+    left_breaks _ _ c.loop-message.invariant (items-at change_item of c.args.step.now.messages.now c.loop-message.message-index c.message-item.result
+    c.loop-message-test.true c.message-item.is)
+    c.in_err-print_return.ensures c.from_residual.ensures.0
 
 pub returns : goal.returns
 returns g c =
     let of = return_lines (g.S.Sight.desk c.args.sight.now) c.args.step.now.kept.now.held in
-    record { ok = left_none c.loop-message.invariant (text-end (λ ms. flat_map change_item (flat_map of ms)) refl c.args.step.now.messages.now c.loop-message.message-index c.loop-message-test.false); err = tt }
+    let all = items-end change_item of c.args.step.now.messages.now c.loop-message.message-index c.loop-message-test.false in
+    record { ok = left_none c.loop-message.invariant all; err = tt }

@@ -17,7 +17,8 @@ returns-in_err-print_bytes g c = λ s b m.
     let l = c.args.letter.now in
     let bytes = bytes_sent_text (scene_of d s b m) l l.body in
     let line = sends_line (task_name d l.from) (action_of l.body) c.args.my_ref (task_name d l.to) in
-    puts_same (sym (parts-both change_item bytes (line ∷ []))) (text_stop _ (flat_map change_item bytes) (flat_map change_item (line ∷ [])) (c.in_err-print_bytes.ensures s b m) c.from_residual.ensures.0)
+    puts_same (sym (parts-both change_item bytes (line ∷ [])))
+    (text_stop _ (flat_map change_item bytes) (flat_map change_item (line ∷ [])) (c.in_err-print_bytes.ensures s b m) c.from_residual.ensures.0)
 
 pub returns : goal.returns
 returns g c = λ s b m.

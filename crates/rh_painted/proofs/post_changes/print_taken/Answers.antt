@@ -13,7 +13,8 @@ returns-in-Some g c =
     let d = g.S.Sight.desk c.args.sight.now in
     let x = scene_at d c.args.step.now in
     let line = takes_line (task_name d c.args.step.now.marks.handle) c.in-Some.action c.in-Some.my_ref in
-    puts_same (ap change_item (c.as_slice.ensures ∙ (c.task_takes.ensures.value ∙ ap (λ w. takes_line w c.in-Some.action c.in-Some.my_ref) c.who_of-who.ensures))
+    puts_same (ap change_item (c.as_slice.ensures ∙
+    (c.task_takes.ensures.value ∙ ap (λ w. takes_line w c.in-Some.action c.in-Some.my_ref) c.who_of-who.ensures))
     ∙ (sym (parts-one change_item line) ∙ ap (λ o. flat_map change_item (taken_text x o)) (sym c.in-Some.is))) c.print_change.ensures
 
 pub returns-in-None : goal.returns-in-None
