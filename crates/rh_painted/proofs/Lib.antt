@@ -5,6 +5,7 @@ pub mod SlotLemmas
 pub mod LensLemmas
 pub mod ElementLemmas
 pub mod OwnerLemmas
+pub mod ReturnLemmas
 mod WalkLemmas
 mod LineLemmas
 mod SheetLemmas
@@ -15,3 +16,6 @@ mod NoteLemmas
 mod TableLemmas
 mod ChartLemmas
 mod AsideLemmas
+mod StepLemmas
+mod TakeLemmas
+mod PrintLemmas

@@ -17,7 +17,8 @@ use Rattle.rh_figure.specs.Changes.{changes}
 use Rattle.rh_figure.specs.Scene.{Scene}
 use Rattle.rh_figure.specs.Map.{shown_byte}
 use Rattle.rh_figure.specs.declared.limits.TheConstants.{LINE_COLUMNS}
-use Rattle.rh_sheet.specs.Chart.{Note, noted}
+use Rattle.rh_sheet.specs.Chart.{noted}
+use Rattle.rh_sheet.specs.declared.note.Note.{Note}
 use Rattle.rh_sheet.specs.Markup.{escape}
 use Rattle.rh_sheet.specs.Steps.{changes_text, command_text, figure_text, reply_shown, said_end, said_text, step_end, step_text, still_text}
 use Rattle.rh_sheet.specs.Sheet.{Happened, Walk, behind_read, fault_happened, happened_text, is_shown, opening, read_text}

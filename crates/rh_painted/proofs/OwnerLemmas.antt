@@ -1,15 +1,19 @@
 -- The owners of pages as they are seen, one after the other.
-use Rattle.std.proofs.Common.{◌≡◌, ℕ, ◌+◌, ◌<◌, ◌≤◌, ap, sym, ◌∙◌, arith, refl, List, ◌++◌, length, map, drop}
-use Rattle.std.specs.Prelude.{IfNone, IfSome, IsSome, codes, slice_get, slice_index, if◌then◌else◌, ◌==◌, Option, Some, None}
-use Rattle.std.specs.List.{enumerate_from}
-use Rattle.std.proofs.lemmas.List.{length-append, length-drop, length-map}
+use Rattle.std.proofs.Common.{◌≡◌, ℕ, ◌+◌, ◌<◌, ◌≤◌, ap, sym, ◌∙◌, arith, refl, true, List, [], ◌∷◌, ◌++◌, length, map, append-nil}
+use Rattle.std.specs.Prelude.{nat_lt, IfNone, IfSome, codes, slice_get, slice_index, if◌then◌else◌, ◌==◌, Option, Some, None}
+use Rattle.std.specs.List.{enumerate_from, flat_map}
+use Rattle.std.proofs.lemmas.Bool.Decides.{nat_tests}
+use Rattle.std.proofs.lemmas.List.{length-append, length-map}
 use Rattle.std.proofs.lemmas.List.FromFn.{length-enumerate_from}
 use Rattle.std.proofs.lemmas.Option.{slice_get_past}
 use Rattle.rh_defs.specs.Commands.{module_area}
 use Rattle.rh_defs.specs.Desk.{Desk, Made, Task, module_pages, task_at, task_pages}
 use Rattle.rh_defs.specs.Laws.{IsDesk}
-use Rattle.rh_figure.specs.Phrases.{name_or}
+use Rattle.rh_figure.specs.Changes.{taken_line, taken_pages, takes_text}
+use Rattle.rh_figure.specs.Phrases.{name_or, owner_name}
+use Rattle.rh_figure.specs.Scene.{Scene}
 use Rattle.rh_figure.specs.Share.{AreaOf, Holding, IsShared, SlotOf, count_of, fixed_holding, holdings}
+use Rattle.rh_sheet.specs.Markup.{change_item}
 use Rattle.rh_sheet.specs.Owners.{slot_tag}
 use Rattle.rh_sight.specs.declared.sight.PagesOf.TheVariants as pages
 use Rattle.rh_sight.specs.declared.sight.TaskSight.{TaskSight}
@@ -18,7 +22,7 @@ use Rattle.rh_sight.specs.Seen.{IsTaskSeen, owner_seen}
 use Rattle.rh_sight.proofs.Holders.{area-at, at-some, stands-count, stands-fixed, stands-made, stands-slot}
 use Rattle.rh_sight.proofs.Places.{past-end}
 use Rattle.rh_drawn.proofs.DrawingLemmas.{task-stands}
-use Rattle.rh_drawn.proofs.PageLemmas.{is-some, owned-few, seen-fixed, seen-made, seen-slot}
+use Rattle.rh_drawn.proofs.PageLemmas.{owned-few, seen-fixed, seen-made, seen-slot}
 use Rattle.rh_painted.specs.declared.owners.Named.TheVariants.{Area, Slot}
 use Rattle.rh_painted.specs.declared.owners.OwnerSight.{OwnerSight}
 use Rattle.rh_painted.specs.Owners.{IsOwnerOf, IsOwnerSeen, who_seen}
@@ -83,12 +87,15 @@ module _ {d : Desk} (is : IsDesk d) where
       record {
         owner = record {
           place = seen-slot is i t e ∙ ap (λ h. Some (SlotOf h)) (sym seen.handle);
-          count = seen.pages ∙ sym (ap (λ h. count_of (SlotOf h) (holdings d)) seen.handle ∙ stands-count is (pages.Slot i) (SlotOf t.handle) (task_pages t) at);
+          count = seen.pages ∙ sym (ap (λ h. count_of (SlotOf h) (holdings d)) seen.handle
+              ∙ stands-count is (pages.Slot i) (SlotOf t.handle) (task_pages t) at);
           name = ap (λ n. codes "Slot " ++ n) name;
           tag = ap slot_tag name;
         };
         stands = ap (λ n. slice_get (holdings d) (n + length d.made + i)) (sym is.areas.six)
-            ∙ (at.is ∙ ap (λ (h : Holding). Some h) (ap (λ n. let h : Holding = (SlotOf n, task_pages t) in h) (sym seen.handle) ∙ ap (λ n. let h : Holding = (SlotOf s.handle, n) in h) (sym seen.pages)));
+            ∙ (at.is ∙ ap (λ (h : Holding). Some h)
+            (ap (λ n. let h : Holding = (SlotOf n, task_pages t) in h) (sym seen.handle)
+            ∙ ap (λ n. let h : Holding = (SlotOf s.handle, n) in h) (sym seen.pages)));
       }
 
   -- none past the last
@@ -96,27 +103,29 @@ module _ {d : Desk} (is : IsDesk d) where
   none-behind k past i at none =
       slice_get_past (holdings d) k (omega (arith, holdings-length d, is.areas.six, past-end d.tasks i none))
 
-  -- ---- the pages of one of them
+-- ---- the pages of one of them
 
-  module _ (numbers : List ℕ) (shared : IsShared (share_in numbers d) d) {o : OwnerSight} (own : IsOwnerOf d o) where
-    pub owner-pages : (found : List ℕ) → IfSome (owner_seen o.place d) (λ q. found ≡ (share_in numbers d).pages_of q) → found ≡ (share_in numbers d).pages_of (who_seen o.named)
-    owner-pages found told = at-some (owner_seen o.place d) (λ q. found ≡ (share_in numbers d).pages_of q) (who_seen o.named) own.place told
+module _ {d : Desk} (numbers : List ℕ) (shared : IsShared (share_in numbers d) d) {o : OwnerSight} (own : IsOwnerOf d o) where
+  pub owner-pages : (found : List ℕ) → IfSome (owner_seen o.place d) (λ q. found ≡ (share_in numbers d).pages_of q)
+      → found ≡ (share_in numbers d).pages_of (who_seen o.named)
+  owner-pages found told =
+      at-some (owner_seen o.place d) (λ q. found ≡ (share_in numbers d).pages_of q) (who_seen o.named) own.place told
 
-    pub owner-count : length ((share_in numbers d).pages_of (who_seen o.named)) ≡ o.count
-    owner-count = shared.each (who_seen o.named) ∙ sym own.count
+  pub owner-count : length ((share_in numbers d).pages_of (who_seen o.named)) ≡ o.count
+  owner-count = shared.each (who_seen o.named) ∙ sym own.count
 
-    pub owner-few : length numbers ≡ d.pool → length ((share_in numbers d).pages_of (who_seen o.named)) ≤ 1024
-    owner-few all = owned-few is numbers shared o.place (who_seen o.named) own.place all
-
-pub owner-some : {d : Desk} {o : OwnerSight} → IsOwnerOf d o → IsSome (owner_seen o.place d)
-owner-some own = is-some own.place
+  pub owner-few : IsDesk d → length numbers ≡ d.pool → length ((share_in numbers d).pages_of (who_seen o.named)) ≤ 1024
+  owner-few is all = owned-few is numbers shared o.place (who_seen o.named) own.place all
 
 -- what is known where there is none
 pub if-none : {A : Type 0} {P Q : Type 0} (o : Option A) → IfNone o P → (P → Q) → IfNone o Q
 if-none None p f = f p
 if-none (Some x) p f = tt
 
--- ---- the pages that were given back
-
-pub freed-few : {d : Desk} (is : IsDesk d) (numbers : List ℕ) (shared : IsShared (share_in numbers d) d) (had : ℕ) → length (drop had (share_in numbers d).free) ≤ 1024
-freed-few {d} is numbers shared had = omega (arith, length-drop had (share_in numbers d).free, shared.free, is.pool)
+-- what an owner has taken, where it has more than before
+pub takes-one : (x : Scene) (h : Holding) → count_of h.0 x.before.holdings < h.1
+    → flat_map change_item (takes_text x h) ≡ change_item (taken_line (owner_name x.desk h.0) (taken_pages x h))
+takes-one x h low =
+    let on : nat_lt (count_of h.0 x.before.holdings) h.1 ≡ true = grind (arith, nat_tests) in
+    ap (λ b. flat_map change_item (if b then taken_line (owner_name x.desk h.0) (taken_pages x h) ∷ [] else [])) on
+    ∙ append-nil (change_item (taken_line (owner_name x.desk h.0) (taken_pages x h)))

@@ -1,6 +1,6 @@
 -- A whole sheet, from the lines that were taken.
 use Rattle.std.proofs.Common.{◌≡◌, ◌⊎◌, inl, inr, ℕ, Bool, true, false, ◌||◌, List, [], ◌∷◌, ◌++◌, length, map, take, refl, sym, ap, ap₂, ◌∙◌, subst, append-nil, append_assoc, arith}
-use Rattle.std.specs.Prelude.{Option, not, ◌==◌}
+use Rattle.std.specs.Prelude.{Err, Ok, Result, is_err, not, ◌==◌}
 use Rattle.std.specs.Io.KnownBytes.{Consumes, IsAtEnd}
 use Rattle.std.specs.List.{list_any}
 use Rattle.std.proofs.lemmas.Bool.{ne_eqb}
@@ -19,7 +19,7 @@ use Rattle.rh_figure.specs.Share.{Share, IsShared}
 use Rattle.rh_figure.specs.Phrases.{Text}
 use Rattle.rh_figure.specs.Map.{Place, Read, Stage, after_read, read_ended, read_line, read_lines, read_rest}
 use Rattle.rh_figure.specs.Whole.{AreShared, read_of}
-use Rattle.rh_lines.specs.Flow.{Input, Output, Takes, Breaks}
+use Rattle.rh_lines.specs.Flow.{Input, Output, Takes, Breaks, Puts}
 use Rattle.rh_lines.proofs.FlowLemmas.{takes_breaks, takes_more}
 use Rattle.rh_session.specs.Outcome.{status_of}
 use Rattle.rh_session.specs.declared.status.Status.{Status}
@@ -69,7 +69,7 @@ whole-rest marked x (b ∷ bs) stages e shared =
     (e ∙ (ap read_rest (kept_some b bs) ∙ ap (λ l. (l, rest_means l) ∷ []) (sym (kept_some b bs)))) shared
 
 -- something is kept of it just where there is something
-kept-some : (rest : List ℕ) → (length (kept rest) == 0) ≡ (length rest == 0)
+pub kept-some : (rest : List ℕ) → (length (kept rest) == 0) ≡ (length rest == 0)
 kept-some [] = ap (λ l. length l == 0) kept_nil
 kept-some (b ∷ bs) =
     ap (λ l. length l == 0) (kept_some b bs)
@@ -117,16 +117,15 @@ stands-first {D} {desk} {marked} {drawn} {s} d alike first =
     }
 
 -- the same pool
-pub same-pool : {D : Type 0} {desk : D → Desk} {marked : Bool} {drawn : D} {s : Painter D} (d : Desk) → IsReordered d (desk drawn) → IsFirst s drawn marked
+pub same-pool : {D : Type 0} (desk : D → Desk) {marked : Bool} {drawn : D} {s : Painter D} (d : Desk) → IsReordered d (desk drawn) → IsFirst s drawn marked
     → (desk s.drawn).pool ≡ d.pool
-same-pool {desk = desk} d alike first = ap (λ z. (desk z).pool) first.drawn_is ∙ ap (λ (z : Desk). z.pool) alike.rest
+same-pool desk d alike first = ap (λ z. (desk z).pool) first.drawn_is ∙ ap (λ (z : Desk). z.pool) alike.rest
 
 -- ---- the whole script was read
 
-module _ {D : Type 0} {desk : D → Desk} {marked : Bool} {d : Desk} {s : Painter D} (name : Text) (is : Stands desk marked (walk_from d) s) {before after : Input} {old head new : Output}
-    (begun : Takes old head (sheet_head name d.pool)) where
+module _ {D : Type 0} {desk : D → Desk} {marked : Bool} {d : Desk} (name : Text) where
   -- of some lines, and the rest of the sheet
-  sheet-of : {reads : List Read} {taker : Painter D} {o q : Output} (p : PaintedAll desk marked (walk_from d) reads s.has_bad_line taker o q) (rest : List ℕ) {stages : List Stage}
+  sheet-of : {reads : List Read} {bad : Bool} {taker : Painter D} {o q : Output} (p : PaintedAll desk marked (walk_from d) reads bad taker o q) (rest : List ℕ) {stages : List Stage}
       (w : WholeRest marked (walk_behind marked (walk_from d) p.stages) rest stages)
       → IsSheet marked name d (reads ++ read_rest rest)
       (sheet_head name d.pool ++ (front_lines marked (walk_from d) p.stages ++ sheet_lines marked (walk_behind marked (walk_from d) p.stages) stages))
@@ -140,6 +139,13 @@ module _ {D : Type 0} {desk : D → Desk} {marked : Bool} {d : Desk} {s : Painte
             (ap (λ t. front_lines marked (walk_from d) p.stages ++ t) (sym w.text) ∙ sym (lines-split marked (walk_from d) p.stages w.whole));
       }
 
+  -- the sheet of the complete lines that were read
+  front-of : {reads : List Read} {bad : Bool} {taker : Painter D} {o q : Output} (p : PaintedAll desk marked (walk_from d) reads bad taker o q)
+      → IsSheetFront marked name d reads (sheet_head name d.pool ++ front_lines marked (walk_from d) p.stages)
+  front-of p = record { stages = p.stages; lines = p.lines; shared = p.shared; is = refl }
+
+module _ {D : Type 0} {desk : D → Desk} {marked : Bool} {d : Desk} {s : Painter D} (name : Text) (is : Stands desk marked (walk_from d) s) {before after : Input} {old head new : Output}
+    (begun : Takes old head (sheet_head name d.pool)) where
   pub painted : {t : Painter D} (status : Status) → s.has_bad_line ≡ false
       → FedAll (TookLine desk) (TookRest desk) before after s t head new → status ≡ status_of t.has_bad_line
       → run.Painted marked name d before after old new status
@@ -157,15 +163,10 @@ module _ {D : Type 0} {desk : D → Desk} {marked : Bool} {d : Desk} {s : Painte
         at_end = fed.at_end;
         well = fed.well;
         text = sheet_head name d.pool ++ (front_lines marked (walk_from d) p.stages ++ sheet_lines marked x last.stages);
-        sheet = sheet-of p (unended fed.bytes) w;
+        sheet = sheet-of name p (unended fed.bytes) w;
         written = takes_more begun (takes_more p.written (subst T (rest-there p.stands last.stages) last.written));
         status_is = told ∙ ap status_of (last.bad ∙ ap₂ (λ a b. a || not b) bad (kept-some (unended fed.bytes)));
       }
-
-  -- the sheet of the complete lines that were read
-  front-of : {reads : List Read} {taker : Painter D} {o q : Output} (p : PaintedAll desk marked (walk_from d) reads s.has_bad_line taker o q)
-      → IsSheetFront marked name d reads (sheet_head name d.pool ++ front_lines marked (walk_from d) p.stages)
-  front-of p = record { stages = p.stages; lines = p.lines; shared = p.shared; is = refl }
 
   pub painted-so-far : {t : Painter D} → Fed (TookLine desk) before after s t head new → PaintedSoFar marked name d before after old new
   painted-so-far fed =
@@ -174,7 +175,7 @@ module _ {D : Type 0} {desk : D → Desk} {marked : Bool} {d : Desk} {s : Painte
         bytes = fed.bytes;
         read = fed.read;
         text = sheet_head name d.pool ++ front_lines marked (walk_from d) p.stages;
-        sheet = front-of p;
+        sheet = front-of name p;
         written = takes_more begun p.written;
       }
 
@@ -230,7 +231,7 @@ module _ {D : Type 0} {desk : D → Desk} {marked : Bool} {d : Desk} {s : Painte
         bytes = bytes;
         read = read;
         text = sheet_head name d.pool ++ (front_lines marked (walk_from d) p.stages ++ sheet_lines marked x last.stages);
-        begun = inr (at_end, sheet-of p (unended bytes) w);
+        begun = inr (at_end, sheet-of name p (unended bytes) w);
         broken = takes_breaks begun (takes_breaks p.written (subst B (rest-there p.stands last.stages) last.broken));
       }
 
@@ -253,3 +254,31 @@ painted-head marked name d at broken = record {
   begun = inl ([], [], refl, record { stages = []; lines = refl; shared = tt; is = sym (append-nil (sheet_head name d.pool)) });
   broken = broken;
 }
+
+-- ---- the head
+
+-- a painter that has written the head of its sheet, and taken no line
+pub record Began {D : Type 0} (desk : D → Desk) (marked : Bool) (d : Desk) (name : Text) (old head : Output) (s : Painter D) : Type 0 where
+  pub stands : Stands desk marked (walk_from d) s
+  pub well : s.has_bad_line ≡ false
+  pub begun : Takes old head (sheet_head name d.pool)
+
+module _ {D E : Type 0} (desk : D → Desk) {marked : Bool} {drawn : D} (d : Desk) (alike : IsReordered d (desk drawn)) (name : Text) {old head : Output}
+    (m s : Painter D) (first : IsFirst m drawn marked) where
+  pub began : s ≡ record m { pages = s.pages } → (r : Result Unit E) → is_err r ≡ false → Puts old head r (sheet_head name (desk m.drawn).pool)
+      → Began desk marked d name old head s
+  began is (Err e) well puts = absurd (cc)
+  began is (Ok v) well puts =
+      let T : ℕ → Type 0 = λ z. Takes old head (sheet_head name z) in
+      let same : IsFirst s drawn marked = record {
+        drawn_is = ap (λ (z : Painter D). z.drawn) is ∙ first.drawn_is;
+        marked_is = ap (λ (z : Painter D). z.marked) is ∙ first.marked_is;
+        progress_is = ap (λ (z : Painter D). z.progress) is ∙ first.progress_is;
+        notes_are = ap (λ (z : Painter D). z.notes.items) is ∙ first.notes_are;
+        well = ap (λ (z : Painter D). z.has_bad_line) is ∙ first.well;
+      } in
+      record { stands = stands-first d alike same; well = same.well; begun = subst T (same-pool desk d alike first) puts.ok }
+
+  pub broke-off : (r : Result Unit E) → is_err r ≡ true → Puts old head r (sheet_head name (desk m.drawn).pool) → Breaks old head (sheet_head name d.pool)
+  broke-off (Ok v) failed puts = absurd (cc)
+  broke-off (Err e) failed puts = let B : ℕ → Type 0 = λ z. Breaks old head (sheet_head name z) in subst B (same-pool desk d alike first) puts.err

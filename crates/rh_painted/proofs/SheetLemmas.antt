@@ -105,15 +105,15 @@ painted-more {marked = marked} {x = x} {m = m} line meaning reads is here rest =
     }
 
 -- all lines that were taken, as far as they are kept
-took-kept : {D : Type 0} {desk : D → Desk} {marked : Bool} {x : Walk} {m n : Painter D} {o q : Output} (lines : List Text) → Stands desk marked x m
+took-kept : {D : Type 0} {desk : D → Desk} {marked : Bool} (x : Walk) {m n : Painter D} {o q : Output} (lines : List Text) → Stands desk marked x m
     → TookAll (TookLine desk) m o lines n q → PaintedAll desk marked x (map read_line lines) m.has_bad_line n o q
-took-kept {D} {desk} {marked} {x} {m} {n} {o} {q} [] is (a, b) =
+took-kept {D} {desk} {marked} x {m} {n} {o} {q} [] is (a, b) =
     let P : Painter D → Type 0 = λ z. PaintedAll desk marked x [] m.has_bad_line z o q in
     let Q : Output → Type 0 = λ z. PaintedAll desk marked x [] m.has_bad_line m o z in
     subst P a (subst Q b (painted-none o is))
-took-kept {D} {desk} {marked} {x} {m} {n} {o} {q} (line ∷ lines) is (k, u, one, rest) =
+took-kept {D} {desk} {marked} x {m} {n} {o} {q} (line ∷ lines) is (k, u, one, rest) =
     painted-more line (line_means line) (map read_line lines) is one
-    (took-kept lines (stands-on is one.share (read_line line) one.follows) rest)
+    (took-kept (behind_read marked one.share x (read_line line)) lines (stands-on is one.share (read_line line) one.follows) rest)
 
 -- ---- the lines themselves, not only as far as they are kept
 
@@ -177,7 +177,7 @@ bad-lines (l ∷ ls) = ap (λ b. is_bad l || b) (bad-lines ls)
 pub took-lines : {D : Type 0} {desk : D → Desk} {marked : Bool} {x : Walk} {m n : Painter D} {o q : Output} (lines : List Text) → Stands desk marked x m
     → TookAll (TookLine desk) m o (map kept lines) n q → PaintedAll desk marked x (map read_line lines) m.has_bad_line n o q
 took-lines {D} {desk} {marked} {x} {m} {n} {o} {q} lines is took =
-    let painted = took-kept (map kept lines) is took in
+    let painted = took-kept x (map kept lines) is took in
     let whole = wholes marked x lines painted.stages painted.lines painted.shared in
     let P : Text → Type 0 = λ z. Takes o q z in
     let Q : Walk → Type 0 = λ z. Stands desk marked z n in

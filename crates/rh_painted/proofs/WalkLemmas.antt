@@ -1,12 +1,12 @@
 -- Where a sheet stands, but for the order of messages to different tasks.
-use Rattle.std.proofs.Common.{◌≡◌, ℕ, ◌+◌, Bool, ◌||◌, List, refl, sym, ap, ap₂, ◌∙◌, subst, [], ◌∷◌, ◌++◌}
+use Rattle.std.proofs.Common.{◌≡◌, ℕ, ◌+◌, Bool, true, ◌||◌, List, refl, sym, ap, ap₂, ◌∙◌, subst, [], ◌∷◌, ◌++◌}
 use Rattle.std.specs.Prelude.{Option, Some, None, Ok, Err, is_err}
 use Rattle.rh_defs.specs.declared.command.Command.{Command}
 use Rattle.rh_defs.specs.declared.fault.LineFault.{LineFault}
 use Rattle.rh_defs.specs.declared.reply.Reply.{Reply}
 use Rattle.rh_defs.specs.Desk.{Desk}
 use Rattle.rh_defs.specs.Line.{Meaning}
-use Rattle.rh_defs.specs.Order.{IsReordered}
+use Rattle.rh_defs.specs.Order.{IsReordered, with_queue}
 use Rattle.rh_defs.specs.Step.{step}
 use Rattle.rh_defs.specs.Text.{fault_text}
 use Rattle.rh_defs.proofs.OrderSteps.{order-ignored}
@@ -17,7 +17,7 @@ use Rattle.rh_figure.specs.Scene.{Before, before_of, is_still, marks_of, no_mark
 use Rattle.rh_figure.specs.Map.{Place, Read, Stage, after_read}
 use Rattle.rh_figure.specs.Whole.{AreShared}
 use Rattle.rh_figure.proofs.Alike.{before-alike, marks-alike, scene-alike, text-alike}
-use Rattle.rh_drawn.proofs.MapLemmas.{SamePlaces, after_alike, reordered_more, shared_alike}
+use Rattle.rh_drawn.proofs.MapLemmas.{SamePlaces, after_alike, shared_alike}
 use Rattle.rh_sheet.specs.Laws.{at_desk}
 use Rattle.rh_sheet.specs.Sheet.{Happened, Walk, behind_happened, behind_read, command_happened, fault_happened, happened_text, read_text, sheet_lines}
 use Rattle.rh_painted.specs.declared.painter.Painter.{Painter}
@@ -67,6 +67,12 @@ place-behind marked s x (line, Err fault) = refl
 
 -- ---- where a painter stands
 
+reordered-more : {a b c : Desk} → IsReordered a b → IsReordered b c → IsReordered a c
+reordered-more {a} {b} {c} p q = record {
+  same = record { each = λ h. p.same.each h ∙ q.same.each h };
+  rest = q.rest ∙ ap (λ d. with_queue c.post.queued d) p.rest;
+}
+
 pub record Stands {D : Type 0} (desk : D → Desk) (marked : Bool) (x : Walk) (m : Painter D) : Type 0 where
   pub desk_is : IsReordered x.place.desk (desk m.drawn)
   pub walk_is : walk_in desk m ≡ at_desk (desk m.drawn) x
@@ -96,7 +102,7 @@ module _ {D : Type 0} {desk : D → Desk} {marked : Bool} {x : Walk} {m : Painte
       let same = after_alike x.place (walk_in desk m).place r (stands-place is) in
       let P : Place → Type 0 = λ z. IsReordered z.desk (desk n.drawn) in
       record {
-        desk_is = subst P (sym (place-behind marked s x r)) (reordered_more same.desks f.desk_is);
+        desk_is = subst P (sym (place-behind marked s x r)) (reordered-more same.desks f.desk_is);
         walk_is = f.walk_is ∙ ap (at_desk (desk n.drawn)) walk-there;
         marked_is = f.marked_is ∙ is.marked_is;
       }
@@ -114,15 +120,16 @@ module _ {D : Type 0} {desk : D → Desk} {marked : Bool} {x : Walk} {m : Painte
 -- ---- the rest of a sheet
 
 -- the same rest is written
-pub lines-alike : (marked : Bool) {a b : Desk} (x : Walk) (stages : List Stage) → IsReordered a b
+pub lines-alike : (marked : Bool) (a b : Desk) (x : Walk) (stages : List Stage) → IsReordered a b
     → sheet_lines marked (at_desk b x) stages ≡ sheet_lines marked (at_desk a x) stages
-lines-alike marked x [] is = refl
-lines-alike marked {a} {b} x ((r, s) ∷ rest) is =
+lines-alike marked a b x [] is = refl
+lines-alike marked a b x ((r, s) ∷ rest) is =
     let places = after_alike (at_desk a x).place (at_desk b x).place r (record { desks = is; steps = refl; wanted = refl }) in
     let P : Place → Type 0 = λ z. IsReordered z.desk (after_read (at_desk b x).place r).desk in
     ap₂ (λ t u. t ++ u) (read-alike marked s x r is)
     (ap (λ w. sheet_lines marked w rest) (behind-alike marked s x r is)
-    ∙ lines-alike marked (behind_read marked s (at_desk a x) r) rest (subst P (sym (place-behind marked s (at_desk a x) r)) places.desks))
+    ∙ lines-alike marked (behind_read marked s (at_desk a x) r).place.desk (after_read (at_desk b x).place r).desk
+    (behind_read marked s (at_desk a x) r) rest (subst P (sym (place-behind marked s (at_desk a x) r)) places.desks))
 
 pub all-shared : (p q : Place) (stages : List Stage) → SamePlaces p q → AreShared q stages → AreShared p stages
 all-shared p q [] same shared = tt
@@ -132,7 +139,7 @@ all-shared p q ((r, s) ∷ rest) same shared =
 
 module _ {D : Type 0} {desk : D → Desk} {marked : Bool} {x : Walk} {m : Painter D} (is : Stands desk marked x m) (stages : List Stage) where
   pub rest-there : sheet_lines m.marked (walk_in desk m) stages ≡ sheet_lines marked x stages
-  rest-there = ap₂ (λ k w. sheet_lines k w stages) is.marked_is is.walk_is ∙ lines-alike marked x stages is.desk_is
+  rest-there = ap₂ (λ k w. sheet_lines k w stages) is.marked_is is.walk_is ∙ lines-alike marked x.place.desk (desk m.drawn) x stages is.desk_is
 
   pub all-there : AreShared (walk_in desk m).place stages → AreShared x.place stages
   all-there = all-shared x.place (walk_in desk m).place stages (stands-place is)

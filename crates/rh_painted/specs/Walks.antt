@@ -1,5 +1,5 @@
 -- What a sheet has done with a line of its script.
-use Rattle.std.specs.Prelude.{◌≡◌, ◌+◌, ◌||◌, ◌==◌, not, Bool, false, List, [], length, map, ℕ, Option, Result, OnErr, OnOk, is_err}
+use Rattle.std.specs.Prelude.{◌≡◌, ◌+◌, ◌++◌, ◌||◌, ◌&&◌, ◌==◌, not, Bool, false, List, [], length, map, ℕ, Option, Result, OnErr, OnOk, is_err}
 use Rattle.rh_defs.specs.declared.command.Command.{Command}
 use Rattle.rh_defs.specs.declared.reply.Reply.{Reply}
 use Rattle.rh_defs.specs.Line.{Meaning, line_means}
@@ -10,11 +10,13 @@ use Rattle.rh_figure.specs.Phrases.{Text}
 use Rattle.rh_figure.specs.Scene.{Before, Scene, is_still, marks_of, scene_of}
 use Rattle.rh_figure.specs.Map.{Read, Stage, after_read, place, read_rest}
 use Rattle.rh_figure.specs.Whole.{AreShared, read_of}
-use Rattle.rh_lines.specs.Flow.{Output, Takes, Breaks}
-use Rattle.rh_sheet.specs.Chart.{Note, noted}
+use Rattle.rh_lines.specs.Flow.{Output, Takes, Breaks, Puts}
+use Rattle.rh_sheet.specs.Chart.{noted}
+use Rattle.rh_sheet.specs.declared.note.Note.{Note}
 use Rattle.rh_sheet.specs.Laws.{at_desk}
-use Rattle.rh_sheet.specs.Sheet.{Happened, Walk, behind_read, happened_text, is_shown, read_text, sheet_lines}
-use Rattle.rh_painted.specs.Progress.{Stand, stand_behind, stand_first}
+use Rattle.rh_sheet.specs.Sheet.{Happened, Walk, behind_read, happened_text, is_shown, opening, read_text, sheet_lines}
+use Rattle.rh_sheet.specs.Steps.{step_text}
+use Rattle.rh_painted.specs.Progress.{Stand, stand_behind, stand_first, stand_shown}
 use Rattle.rh_painted.specs.declared.painter.Painter.{Painter}
 
 -- where a sheet stands over a desk
@@ -104,6 +106,11 @@ scene_behind d s b c r = scene_of d s b (marks_of d b c r)
 abbrev pub happened_at : Desk → Share → Before → Option Command → Reply → Text → Happened
 happened_at d s b c r reply = record { scene = scene_behind d s b c r; reply = reply; still = is_still c r }
 
+-- the text of a step that the sheet stands at
+abbrev pub step_written : Walk → Text → Bool → Happened → Text
+step_written x line wanted h =
+    opening x ++ step_text (h.still && not wanted) x.place.steps line h.reply h.scene x.notes x.last
+
 -- a step was written or left out, over the desk behind it, with some share of the pool; or the writer failed, and took
 -- a front of it
 pub record TookStep {D E : Type 0} (desk : D → Desk) (m : Painter D) (o p : Output) (r : Result Unit E) (line : Text) (happened : Share → Happened) (n : Painter D) : Type 0 where
@@ -114,3 +121,11 @@ pub record TookStep {D E : Type 0} (desk : D → Desk) (m : Painter D) (o p : Ou
       × ComesTo m (stand_behind (is_shown m.marked (walk_in desk m) m.progress.wanted) (happened share).still m.progress)
       (noted (m.progress.steps + 1) (happened share).scene m.notes.items) n)
   pub err : OnErr r (Breaks o p (happened_text m.marked (walk_in desk m) line (happened share)))
+
+-- a step was written, with some share of the pool, where the painter counts it and has noted the messages behind it; or
+-- the writer failed, and took a front of it
+pub record WroteStep {D E : Type 0} (desk : D → Desk) (m : Painter D) (o p : Output) (r : Result Unit E) (line : Text) (wanted : Bool) (happened : Share → Happened) (n : Painter D) : Type 0 where
+  pub share : Share
+  pub shared : IsShared share (desk m.drawn)
+  pub puts : Puts o p r (step_written (walk_in desk m) line wanted (happened share))
+  pub next : OnOk r (ComesTo m (stand_shown ((happened share).still && not wanted) m.progress) m.notes.items n)

@@ -88,7 +88,8 @@ fn print_freed<S: Sight, W: Sink>(
 /// The pages that were given back.
 pub fn freed_of<'a, S: Sight>(sight: &S, step: &Step<'a>) -> &'a [u16]
     requires { IsStepOf (S.desk sight.now) step.now }
-    ensures { result.now ≡ pages_freed (scene_at (S.desk sight.now) step.now) }
+    ensures value { result.now ≡ pages_freed (scene_at (S.desk sight.now) step.now) }
+    ensures few { length result.now ≤ MAX_PAGES }
 {
     sight.spelled();
     let free = free_of(sight, step.pages);

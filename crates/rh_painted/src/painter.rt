@@ -6,13 +6,10 @@ ghost use Rattle.std.specs.Option.{option_map};
 ghost use Rattle.rh_defs.specs.Line.{words_of};
 ghost use Rattle.rh_defs.specs.Range.{in_range};
 ghost use Rattle.rh_drawn.specs.Replies.{Excerpts};
-ghost use Rattle.rh_figure.specs.Scene.{Marks, is_still as is_still_step, scene_of};
-ghost use Rattle.rh_figure.specs.Share.{Share, IsShared};
+ghost use Rattle.rh_figure.specs.Scene.{is_still as is_still_of};
 ghost use Rattle.rh_lines.specs.Flow.{Puts};
-ghost use Rattle.rh_painted.specs.Progress.{stand_shown};
-ghost use Rattle.rh_painted.specs.Walks.{Broke, ComesTo, IsFirst, Painted, TookStep, happened_at, scene_behind, walk_in};
+ghost use Rattle.rh_painted.specs.Walks.{Broke, IsFirst, Painted, TookStep, WroteStep, happened_at, walk_in};
 ghost use Rattle.rh_session.specs.Outcome.{status_of};
-ghost use Rattle.rh_sheet.specs.Chart.{noted};
 ghost use Rattle.rh_sheet.specs.Sheet.{opening, sheet_end, sheet_head};
 ghost use Rattle.rh_sheet.specs.Steps.{step_text};
 ghost use Rattle.rh_sheet.specs.declared.sizes.TheConstants.{MOST_STEPS};
@@ -21,7 +18,7 @@ ghost use Rattle.rh_sight.specs.Pages.{share_in};
 
 use crate::notes::{Notes, note_step};
 use crate::progress::Progress;
-use crate::steps::{print_end, print_step};
+use crate::steps::{print_rest, print_step};
 use arrayvec::ArrayVec;
 use rh_defs::{Command, LineFault, Question, Reply};
 use rh_draw::{print_foot, print_head, print_remark, print_step_open};
@@ -87,11 +84,12 @@ impl<D: Drawn> Painter<D> {
         self.drawn.spelled();
         let wanted = is_wanted(self.progress.wanted(), line);
         self.progress.want(wanted);
-        if !self.shows(line, wanted) {
-            return Ok(());
+        if self.shows(line, wanted) {
+            self.open_step(writer)?;
+            self.progress.open();
+            return print_remark(line, writer);
         }
-        self.open_step(writer)?;
-        print_remark(line, writer)
+        Ok(())
     }
 
     /// Whether a line that asks for nothing is shown: it has words, and the next command would be shown.
@@ -164,13 +162,21 @@ impl<D: Drawn> Painter<D> {
         writer: &mut W,
     ) -> Result<(), WriteFailed>
         requires room { self.old.progress.steps + 1 < 2 ^ 32 }
-        requires wanted { deed.entry.wanted ≡ self.old.progress.wanted }
+        requires wanted { deed.wanted ≡ self.old.progress.wanted }
         ensures text { (text : List ℕ) → Excerpts self.old.front.bytes deed.entry.count text → TookStep D.desk self.old (W.output writer.old) (W.output writer.new) result line.now
             (λ s. happened_at (D.desk self.old.drawn) s deed.entry.kept.now (option_map (λ c. c.now) deed.entry.command) deed.entry.reply.now text) self.new }
         ensures steps { self.new.progress.steps ≡ self.old.progress.steps + 1 }
     {
         self.progress.begin_step();
-        self.note(deed.kept);
+        self.drawn.messages(&mut self.messages);
+        let number = self.progress.steps();
+        note_step(
+            &self.drawn,
+            deed.kept,
+            &self.messages,
+            number,
+            &mut self.notes,
+        );
         if self.progress.is_shown(self.marked, deed.wanted) {
             return self.show(line, deed, writer);
         }
@@ -179,27 +185,13 @@ impl<D: Drawn> Painter<D> {
         Ok(())
     }
 
-    /// Notes what has become of the last messages, and the one that was sent.
-    fn note(&mut self, kept: &Kept)
-        ensures notes { (s : Share) (m : Marks) → self.new.notes.items ≡ noted self.old.progress.steps (scene_of (D.desk self.old.drawn) s kept.now m) self.old.notes.items }
-        ensures messages { self.new.messages.items ≡ message_items (D.desk self.old.drawn) }
-        ensures rest { self.new ≡ record self.old { notes = self.new.notes; messages = self.new.messages } }
-    {
-        self.drawn.messages(&mut self.messages);
-        let number = self.progress.steps();
-        note_step(&self.drawn, kept, &self.messages, number, &mut self.notes);
-    }
-
     /// Writes the beginning of the next step, if no remark has begun it.
-    fn open_step<W: Sink>(&mut self, writer: &mut W) -> Result<(), WriteFailed>
-        requires { self.old.progress.shown < MOST_STEPS }
-        ensures text { Puts (W.output writer.old) (W.output writer.new) result (opening (walk_in D.desk self.old)) }
-        ensures rest { self.new ≡ record self.old { progress = record self.old.progress { opened = true } } }
+    fn open_step<W: Sink>(&self, writer: &mut W) -> Result<(), WriteFailed>
+        ensures { Puts (W.output writer.old) (W.output writer.new) result (opening (walk_in D.desk self.now)) }
     {
         if self.progress.is_open() {
             return Ok(());
         }
-        self.progress.open();
         print_step_open(self.progress.next(), writer)
     }
 
@@ -212,36 +204,12 @@ impl<D: Drawn> Painter<D> {
     ) -> Result<(), WriteFailed>
         requires room { self.old.progress.shown < MOST_STEPS }
         requires messages { self.old.messages.items ≡ message_items (D.desk self.old.drawn) }
-        ensures text { (text : List ℕ) → Excerpts self.old.front.bytes deed.entry.count text → Puts (W.output writer.old) (W.output writer.new) result
-            (opening (walk_in D.desk self.old) ++ step_text (is_still_step (option_map (λ c. c.now) deed.entry.command) deed.entry.reply.now && not deed.entry.wanted) self.old.progress.steps line.now text
-            (scene_behind (D.desk self.old.drawn) (share_in self.new.pages.items (D.desk self.old.drawn)) deed.entry.kept.now (option_map (λ c. c.now) deed.entry.command) deed.entry.reply.now) self.old.notes.items self.old.progress.last) }
-        ensures shared { IsShared (share_in self.new.pages.items (D.desk self.old.drawn)) (D.desk self.old.drawn) }
-        ensures next { OnOk result (ComesTo self.old (stand_shown (is_still_step (option_map (λ c. c.now) deed.entry.command) deed.entry.reply.now && not deed.entry.wanted) self.old.progress) self.old.notes.items self.new) }
+        ensures text { (text : List ℕ) → Excerpts self.old.front.bytes deed.entry.count text → WroteStep D.desk self.old (W.output writer.old) (W.output writer.new) result line.now deed.entry.wanted
+            (λ s. happened_at (D.desk self.old.drawn) s deed.entry.kept.now (option_map (λ c. c.now) deed.entry.command) deed.entry.reply.now text) self.new }
         ensures steps { self.new.progress.steps ≡ self.old.progress.steps }
     {
-        self.open_step(writer)?;
-        let is_still = holds_unless(is_still(deed.command, deed.reply), deed.wanted);
-        self.print(line, deed, is_still, writer)?;
-        self.progress.end_step(is_still);
-        Ok(())
-    }
-
-    /// Writes a step behind its beginning, with a figure or without.
-    fn print<W: Sink>(
-        &mut self,
-        line: &[u8],
-        deed: Deed<'_>,
-        is_still: bool,
-        writer: &mut W,
-    ) -> Result<(), WriteFailed>
-        requires { self.old.messages.items ≡ message_items (D.desk self.old.drawn) }
-        ensures text { (text : List ℕ) → Excerpts self.old.front.bytes deed.entry.count text → Puts (W.output writer.old) (W.output writer.new) result
-            (step_text is_still self.old.progress.steps line.now text
-            (scene_behind (D.desk self.old.drawn) (share_in self.new.pages.items (D.desk self.old.drawn)) deed.entry.kept.now (option_map (λ c. c.now) deed.entry.command) deed.entry.reply.now) self.old.notes.items self.old.progress.last) }
-        ensures shared { IsShared (share_in self.new.pages.items (D.desk self.old.drawn)) (D.desk self.old.drawn) }
-        ensures rest { self.new ≡ record self.old { pages = self.new.pages; lists = self.new.lists } }
-    {
         self.drawn.page_list(&mut self.pages);
+        self.open_step(writer)?;
         let step = step_of(
             &self.drawn,
             deed.kept,
@@ -255,7 +223,7 @@ impl<D: Drawn> Painter<D> {
             line,
             front: self.front.as_slice(),
             count: deed.count,
-            is_still,
+            is_still: holds_unless(is_still(deed.command, deed.reply), deed.wanted),
         };
         print_step(
             &self.drawn,
@@ -265,16 +233,16 @@ impl<D: Drawn> Painter<D> {
             self.progress.last(),
             &mut self.lists,
             writer,
-        )
+        )?;
+        self.progress.end_step(above.is_still);
+        Ok(())
     }
 
     /// Writes the end of the sheet.
     fn end<W: Sink>(&self, writer: &mut W) -> Result<(), WriteFailed>
         ensures { Puts (W.output writer.old) (W.output writer.new) result (sheet_end (walk_in D.desk self.now)) }
     {
-        if self.progress.is_open() {
-            print_end(writer)?;
-        }
+        print_rest(self.progress.is_open(), writer)?;
         print_foot(self.progress.begun(), self.progress.left(), writer)
     }
 
@@ -314,10 +282,11 @@ impl<D: Drawn> LineTaker for Painter<D> {
     }
 
     fn take_rest<W: Sink>(&mut self, rest: &[u8], writer: &mut W) -> Result<(), WriteFailed> {
-        if !rest.is_empty() {
-            let fault = rest_fault(rest);
-            self.refuse(rest, &fault, writer)?;
+        if rest.is_empty() {
+            return self.end(writer);
         }
+        let fault = rest_fault(rest);
+        self.refuse(rest, &fault, writer)?;
         self.end(writer)
     }
 }

@@ -88,6 +88,7 @@ fn print_sentence<S: Sight, W: Sink>(
     ensures { Puts (W.output writer.old) (W.output writer.new) result
         (escape (owner_sentence (name_seen owner.now.named) ((scene_at (S.desk sight.now) step.now).share.pages_of (who_seen owner.now.named)))) }
 {
+    sight.spelled();
     let pages = pages_of(sight, step.pages, owner.place);
     if pages.is_empty() {
         return Ok(());

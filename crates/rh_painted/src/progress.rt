@@ -146,9 +146,9 @@ impl Progress {
         self.opened = true;
     }
 
-    /// The step that was begun has ended, with a figure or without.
+    /// The next step has been written, with a figure or without.
     pub fn end_step(&mut self, still: bool)
-        requires { self.old.opened ≡ true }
+        requires { self.old.shown < MOST_STEPS }
         ensures { self.new ≡ stand_shown still self.old }
     {
         self.opened = false;

@@ -1,8 +1,10 @@
 //! A step of a sheet behind its remarks: its command, its reply, what has changed, and its figure.
 
-ghost use Rattle.std.specs.Prelude.{◌≤◌, ◌++◌, ℕ, List, length};
+ghost use Rattle.std.specs.Prelude.{◌≤◌, ◌∷◌, ℕ, List, [], length};
+ghost use Rattle.std.specs.List.{concat};
 ghost use Rattle.rh_drawn.specs.Replies.{Excerpts};
 ghost use Rattle.rh_figure.specs.Changes.{changes};
+ghost use Rattle.rh_figure.specs.Phrases.{where_so};
 ghost use Rattle.rh_lines.specs.Flow.{Puts};
 ghost use Rattle.rh_sheet.specs.Steps.{changes_text, said_end, step_end, step_text};
 ghost use Rattle.rh_sight.specs.Steps.{IsStepOf, scene_at};
@@ -50,9 +52,19 @@ pub fn print_step<S: Sight, W: Sink>(
     put(writer, STEP_END)
 }
 
-/// Writes the end of a step that has no figure.
-pub fn print_end<W: Sink>(writer: &mut W) -> Result<(), WriteFailed>
-    ensures { Puts (W.output writer.old) (W.output writer.new) result (said_end ++ step_end) }
+/// Writes the end of a step that a remark has begun and no command has ended, if there is one.
+pub fn print_rest<W: Sink>(opened: bool, writer: &mut W) -> Result<(), WriteFailed>
+    ensures { Puts (W.output writer.old) (W.output writer.new) result (where_so opened (concat (said_end ∷ step_end ∷ []))) }
+{
+    if !opened {
+        return Ok(());
+    }
+    print_end(writer)
+}
+
+/// Writes the end of a step without a figure.
+fn print_end<W: Sink>(writer: &mut W) -> Result<(), WriteFailed>
+    ensures { Puts (W.output writer.old) (W.output writer.new) result (concat (said_end ∷ step_end ∷ [])) }
 {
     put(writer, SAID_END)?;
     put(writer, STEP_END)

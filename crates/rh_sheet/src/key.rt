@@ -2,11 +2,11 @@
 
 /// Some sentences, and a key of the signs.
 pub const KEY: &[u8] = b"\
-<p>Each step is a command of the script, its reply, and what memory looks like behind it. The first figure is the
+<p>Each step is a command of the script, its reply, and what memory looks like after it. The first figure is the
 pool of all pages: a tint and three letters say whose each page is. Below it stand the slots of the tasks and the module
 area, drawn to scale: a row is a page of 4,096 bytes, with its address and its number in the pool. Addresses go up from
 left to right, and from each row to the one above. What is too small to be read there is written on a card.</p>
-<p>What a command has changed has a thick edge. The small arrows of a step lead to the step before and behind it; a
+<p>What a command has changed has a thick edge. The small arrows of a step lead to the steps before and after it; a
 link to a step shows that step alone.</p>
 <ul class=\"key\">
 <li><svg viewBox=\"0 0 44 18\" aria-hidden=\"true\">\

@@ -1,6 +1,4 @@
-use Rattle.std.proofs.Common.{◌≡◌, ◌+◌, ◌-◌, ◌≤◌, length, arith}
-use Rattle.std.specs.Prelude.{None, slice_get}
-use Rattle.rh_figure.specs.Share.{holdings}
+use Rattle.std.proofs.Common.{◌+◌, ◌-◌, ◌≤◌, length, arith}
 use Rattle.rh_painted.proofs.OwnerLemmas.{holdings-few, if-none, none-behind}
 use Rattle.rh_painted.proofs.owners.owner_at.Goals as goal
 

@@ -11,7 +11,8 @@ abbrev pub invariant-owners : goal.invariant-owners
 invariant-owners g l =
     let d = g.S.Sight.desk l.sight in
     let x = scene_at d l.step in
-    Left (g.W.Sink.output l.initial.writer) (g.W.Sink.output l.writer) (flat_map (owner_squares x) (holdings d)) (flat_map (owner_squares x) (drop l.k (holdings d)))
+    Left (g.W.Sink.output l.initial.writer) (g.W.Sink.output l.writer) (flat_map (owner_squares x) (holdings d))
+    (flat_map (owner_squares x) (drop l.k (holdings d)))
 
 abbrev pub decreases-owners : goal.decreases-owners
 decreases-owners g l = length (holdings (g.S.Sight.desk l.sight)) - l.k

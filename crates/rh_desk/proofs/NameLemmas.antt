@@ -1,0 +1,51 @@
+-- The last part of a path, by where its last `/` stands.
+use Rattle.std.proofs.Common.{◌≡◌, ◌∙◌, ℕ, zero, suc, ◌+◌, ◌<◌, ◌≤◌, ◌||◌, Bool, true, false, List, [], ◌∷◌, length, drop, ap, arith, refl, sym}
+use Rattle.std.specs.Prelude.{◌==◌, if◌then◌else◌, slice_index}
+use Rattle.std.specs.List.{list_any}
+use Rattle.rh_desk.specs.Names.{last_part}
+
+-- whether a byte is a `/`
+abbrev is_slash : ℕ → Bool
+is_slash c = c == 47
+
+or-true : (b : Bool) → (b || true) ≡ true
+or-true true = refl
+or-true false = refl
+
+isn't-true : (b : Bool) → (b ≡ true → ⊥) → b ≡ false
+isn't-true true no = absurd (no refl)
+isn't-true false no = refl
+
+none-any : (xs : List ℕ) → ((k : ℕ) → k < length xs → is_slash (slice_index xs k) ≡ true → ⊥) → list_any is_slash xs ≡ false
+none-any [] no = refl
+none-any (x ∷ xs) no =
+    ap (λ b. b || list_any is_slash xs) (isn't-true (is_slash x) (λ e. no 0 (omega arith) e))
+    ∙ none-any xs (λ k less e. no (suc k) (omega arith) e)
+
+some-any : (xs : List ℕ) (k : ℕ) → k < length xs → is_slash (slice_index xs k) ≡ true → list_any is_slash xs ≡ true
+some-any [] k less e = absurd (omega arith)
+some-any (x ∷ xs) zero less e = ap (λ b. b || list_any is_slash xs) e
+some-any (x ∷ xs) (suc k) less e = ap (λ b. is_slash x || b) (some-any xs k (omega arith) e) ∙ or-true (is_slash x)
+
+-- the last part of a path with something before it
+part-of : ℕ → List ℕ → Bool → Bool → List ℕ
+part-of x xs more here = if more then last_part xs else if here then xs else x ∷ xs
+
+-- what stands behind the last one
+pub behind-last : (xs : List ℕ) (at : ℕ) → at < length xs → is_slash (slice_index xs at) ≡ true
+    → ((k : ℕ) → at + 1 ≤ k → k < length xs → is_slash (slice_index xs k) ≡ true → ⊥) → drop (at + 1) xs ≡ last_part xs
+unfolding part-of
+behind-last [] at less e no = absurd (omega arith)
+behind-last (x ∷ xs) zero less e no =
+    sym (ap (λ b. part-of x xs b (is_slash x)) (none-any xs (λ k l q. no (suc k) (omega arith) (omega arith) q)) ∙ ap (part-of x xs false) e)
+behind-last (x ∷ xs) (suc k) less e no =
+    behind-last xs k (omega arith) e (λ j a b q. no (suc j) (omega arith) (omega arith) q)
+    ∙ sym (ap (λ b. part-of x xs b (is_slash x)) (some-any xs k (omega arith) e))
+
+-- all of it, where there is none
+pub whole-path : (xs : List ℕ) → ((k : ℕ) → 0 ≤ k → k < length xs → is_slash (slice_index xs k) ≡ true → ⊥) → xs ≡ last_part xs
+unfolding part-of
+whole-path [] no = refl
+whole-path (x ∷ xs) no =
+    sym (ap (λ b. part-of x xs b (is_slash x)) (none-any xs (λ k l q. no (suc k) (omega arith) (omega arith) q))
+    ∙ ap (part-of x xs false) (isn't-true (is_slash x) (λ e. no 0 (omega arith) (omega arith) e)))

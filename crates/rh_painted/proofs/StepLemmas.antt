@@ -1,0 +1,306 @@
+-- A sheet behind one line: what was written, and where it stands.
+use Rattle.std.proofs.Common.{◌≡◌, ℕ, ◌+◌, Bool, true, false, ◌||◌, List, ◌++◌, refl, sym, ap, ap₂, ◌∙◌, subst}
+use Rattle.std.specs.Prelude.{Option, Some, None, Ok, Err, ◌&&◌, if◌then◌else◌, is_err, not, nat_lt, OnErr, OnOk, Result}
+use Rattle.std.specs.Result.{IsErr}
+use Rattle.rh_defs.specs.declared.command.Command.{Command}
+use Rattle.rh_defs.specs.declared.fault.LineFault.{LineFault}
+use Rattle.rh_defs.specs.declared.reply.Reply.{Reply}
+use Rattle.rh_defs.specs.declared.reply.Reply.TheVariants.{Done}
+use Rattle.rh_defs.specs.Desk.{Desk}
+use Rattle.rh_defs.specs.Line.{Meaning}
+use Rattle.rh_defs.specs.Order.{IsReordered}
+use Rattle.rh_defs.specs.Step.{step}
+use Rattle.rh_defs.specs.Text.{fault_text}
+use Rattle.rh_drawn.specs.Deeds.{IsLikeReply, reply_to}
+use Rattle.rh_drawn.proofs.MapLemmas.{shared_alike}
+use Rattle.rh_drawn.proofs.StepLemmas.{on-err, on-ok, reordered-same}
+use Rattle.rh_figure.specs.Share.{Share, IsShared}
+use Rattle.rh_figure.specs.Phrases.{Text, where_so}
+use Rattle.rh_figure.specs.Scene.{Before, before_of, marks_of, scene_of}
+use Rattle.rh_figure.specs.Map.{Read, after_read, is_mark, place}
+use Rattle.rh_figure.proofs.Alike.{marks-alike, scene-alike}
+use Rattle.rh_lines.specs.Flow.{Breaks, Output, Puts, Takes}
+use Rattle.rh_lines.proofs.FlowLemmas.{takes_none}
+use Rattle.rh_sheet.specs.Chart.{noted}
+use Rattle.rh_sheet.specs.declared.note.Note.{Note}
+use Rattle.rh_sheet.specs.Laws.{at_desk}
+use Rattle.rh_sheet.specs.Sheet.{Happened, Walk, behind_happened, behind_read, behind_step, command_happened, fault_happened, happened_text, is_shown, is_shown_remark, opening, read_text, shown_step}
+use Rattle.rh_sheet.specs.Steps.{remark_text, step_text}
+use Rattle.rh_sheet.specs.declared.sizes.TheConstants.{MOST_STEPS}
+use Rattle.rh_painted.specs.declared.painter.Painter.{Painter}
+use Rattle.rh_painted.specs.Progress.{Stand, stand_behind, stand_shown}
+use Rattle.rh_painted.specs.Walks.{Broke, ComesTo, Follows, Painted, TookStep, WroteStep, happened_at, scene_behind, step_written, walk_at, walk_in}
+
+-- ---- tests
+
+or-off : (b : Bool) → b ≡ (b || false)
+or-off true = refl
+or-off false = refl
+
+or-on : (b : Bool) → true ≡ (b || true)
+or-on true = refl
+or-on false = refl
+
+and-off : (b : Bool) → false ≡ (b && false)
+and-off true = refl
+and-off false = refl
+
+and-on : (b : Bool) → b ≡ (b && true)
+and-on true = refl
+and-on false = refl
+
+either-way : (b : Bool) (m n : ℕ) → (if b then m else n) ≡ (if not b then n else m)
+either-way true m n = refl
+either-way false m n = refl
+
+reordered-as : {D : Type 0} (desk : D → Desk) (a b : D) → b ≡ a → IsReordered (desk a) (desk b)
+reordered-as desk a b e = let P : Desk → Type 0 = λ z. IsReordered (desk a) z in subst P (ap desk (sym e)) (reordered-same (desk a))
+
+on-both : {E A B C : Type 0} (r : Result Unit E) → (A → B → C) → OnOk r A → OnOk r B → OnOk r C
+on-both (Ok v) f a b = f a b
+on-both (Err e) f a b = tt
+
+-- nothing is asked of where a painter has come that failed
+pub err-comes : {E : Type 0} (A : Type 0) (r : Result Unit E) → IsErr r → OnOk r A
+err-comes A (Ok v) h = absurd (cc)
+err-comes A (Err e) h = tt
+
+-- ---- where a sheet stands behind a step
+
+module _ (d e : Desk) (p : Stand) (notes : List Note) (h : Happened) where
+  as-shown : (r : Read) → (after_read (place d p.steps p.wanted) r).steps ≡ p.steps + 1 → (after_read (place d p.steps p.wanted) r).wanted ≡ false
+      → walk_at e (stand_behind true h.still p) (noted (p.steps + 1) h.scene notes) ≡ at_desk e (behind_step true (walk_at d p notes) r h)
+  as-shown r steps wanted =
+      ap₂ (λ last opened. record (walk_at e (stand_behind true h.still p) (noted (p.steps + 1) h.scene notes)) { last = last; opened = opened })
+      (either-way (h.still && not p.wanted) p.last (p.shown + 1)) (and-off p.opened)
+      ∙ ap₂ (λ n w. at_desk e (record (behind_step true (walk_at d p notes) r h) { place = place e n w })) (sym steps) (sym wanted)
+
+  as-left : (r : Read) → (after_read (place d p.steps p.wanted) r).steps ≡ p.steps + 1 → (after_read (place d p.steps p.wanted) r).wanted ≡ false
+      → walk_at e (stand_behind false h.still p) (noted (p.steps + 1) h.scene notes) ≡ at_desk e (behind_step false (walk_at d p notes) r h)
+  as-left r steps wanted =
+      ap (λ opened. record (walk_at e (stand_behind false h.still p) (noted (p.steps + 1) h.scene notes)) { opened = opened }) (and-on p.opened)
+      ∙ ap₂ (λ n w. at_desk e (record (behind_step false (walk_at d p notes) r h) { place = place e n w })) (sym steps) (sym wanted)
+
+  behind-stand : (shown : Bool) (r : Read) → (after_read (place d p.steps p.wanted) r).steps ≡ p.steps + 1 → (after_read (place d p.steps p.wanted) r).wanted ≡ false
+      → walk_at e (stand_behind shown h.still p) (noted (p.steps + 1) h.scene notes) ≡ at_desk e (behind_step shown (walk_at d p notes) r h)
+  behind-stand true r steps wanted = as-shown r steps wanted
+  behind-stand false r steps wanted = as-left r steps wanted
+
+-- ---- what a step has done
+
+-- all but what a step is drawn with is the same; the desk may be another
+pub record IsRest {D : Type 0} (m n : Painter D) : Type 0 where
+  pub marked : n.marked ≡ m.marked
+  pub progress : n.progress ≡ m.progress
+  pub notes : n.notes.items ≡ m.notes.items
+
+module _ {D E : Type 0} (desk : D → Desk) (m b n : Painter D) (o p : Output) (r : Result Unit E) (line : Text) (rest : IsRest m b) where
+  walk-moved : walk_in desk b ≡ at_desk (desk b.drawn) (walk_in desk m)
+  walk-moved = ap₂ (λ q notes. walk_at (desk b.drawn) q notes) rest.progress rest.notes
+
+  text-moved : (h k : Happened) → h ≡ k → happened_text b.marked (walk_in desk b) line h ≡ happened_text m.marked (walk_in desk m) line k
+  text-moved h k same =
+      ap₂ (λ marked x. happened_text marked x line h) rest.marked walk-moved ∙ ap (happened_text m.marked (walk_in desk m) line) same
+
+  -- it is what a line with a step does
+  module _ (meaning : Meaning (Option Command)) (happened now : Share → Happened) (same : (s : Share) → happened s ≡ now s)
+      (steps : (after_read (walk_in desk m).place (line, meaning)).steps ≡ m.progress.steps + 1)
+      (wanted : (after_read (walk_in desk m).place (line, meaning)).wanted ≡ false)
+      (desk-is : IsReordered (after_read (walk_in desk m).place (line, meaning)).desk (desk b.drawn))
+      (bad : b.has_bad_line ≡ (m.has_bad_line || is_err meaning))
+      (text-is : (s : Share) → read_text m.marked s (walk_in desk m) (line, meaning) ≡ happened_text m.marked (walk_in desk m) line (now s))
+      (walk-is : (s : Share) → behind_read m.marked s (walk_in desk m) (line, meaning) ≡ behind_happened m.marked (walk_in desk m) (line, meaning) (now s))
+      (took : TookStep desk b o p r line happened n) where
+    follows : ComesTo b (stand_behind (is_shown b.marked (walk_in desk b) b.progress.wanted) (happened took.share).still b.progress)
+        (noted (b.progress.steps + 1) (happened took.share).scene b.notes.items) n
+        → Follows desk m took.share (line, meaning) n
+    follows comes =
+        let P : D → Type 0 = λ z. IsReordered (after_read (walk_in desk m).place (line, meaning)).desk (desk z) in
+        record {
+          desk_is = subst P (sym comes.drawn_is) desk-is;
+          walk_is =
+              ap₂ (λ q notes. walk_at (desk n.drawn) q notes) comes.progress_is comes.notes_are
+              ∙ (ap₂ (λ marked (w : Stand × List Note). walk_at (desk n.drawn)
+              (stand_behind (nat_lt w.0.shown MOST_STEPS && (not marked || w.0.wanted)) (happened took.share).still w.0)
+              (noted (w.0.steps + 1) (happened took.share).scene w.1)) rest.marked (ap₂ (λ q notes. (q, notes)) rest.progress rest.notes)
+              ∙ (behind-stand (desk m.drawn) (desk n.drawn) m.progress m.notes.items (happened took.share)
+              (is_shown m.marked (walk_in desk m) m.progress.wanted) (line, meaning) steps wanted
+              ∙ ap (at_desk (desk n.drawn)) (ap (behind_happened m.marked (walk_in desk m) (line, meaning)) (same took.share) ∙ sym (walk-is took.share))));
+          marked_is = comes.marked_is ∙ rest.marked;
+          bad = comes.bad ∙ bad;
+        }
+
+    shared : IsShared took.share (after_read (walk_in desk m).place (line, meaning)).desk
+    shared = shared_alike took.share desk-is took.shared
+
+    whole : happened_text b.marked (walk_in desk b) line (happened took.share) ≡ read_text m.marked took.share (walk_in desk m) (line, meaning)
+    whole = text-moved (happened took.share) (now took.share) (same took.share) ∙ sym (text-is took.share)
+
+    pub took-line : OnOk r (Painted desk m o line meaning n p)
+    took-line = on-ok r (λ both.
+        let T : Text → Type 0 = λ z. Takes o p z in
+        record { share = took.share; shared = shared; written = subst T whole both.0; follows = follows both.1 }) took.ok
+
+    pub broke-line : OnErr r (Broke desk m o line meaning p)
+    broke-line = on-err r (λ broken.
+        let B : Text → Type 0 = λ z. Breaks o p z in
+        record { share = took.share; shared = shared; broken = subst B whole broken }) took.err
+
+  -- what a command did, by a desk and a reply that show what those of the command do
+  module _ (c : Command) (reply : Reply) (kept : Before) (moved : IsReordered (step (desk m.drawn) c).0 (desk b.drawn)) (like : IsLikeReply (desk m.drawn) c reply)
+      (kept-is : kept ≡ before_of (desk m.drawn) (Some c)) where
+    same-command : (s : Share) → happened_at (desk b.drawn) s kept (Some c) reply (reply_to (desk m.drawn) c)
+        ≡ command_happened s c (before_of (desk m.drawn) (Some c)) (step (desk m.drawn) c)
+    same-command s =
+        let f = before_of (desk m.drawn) (Some c) in
+        let said = (step (desk m.drawn) c).1 in
+        ap₂ (λ still scene. record { scene = scene; reply = reply_to (desk m.drawn) c; still = still }) like.still
+        (ap (λ z. scene_behind (desk b.drawn) s z (Some c) reply) kept-is
+        ∙ (ap (scene_of (desk b.drawn) s f) (like.marks (desk b.drawn) f ∙ marks-alike moved f (Some c) said)
+        ∙ scene-alike moved s f (marks_of (step (desk m.drawn) c).0 f (Some c) said)))
+
+    module _ (bad : b.has_bad_line ≡ m.has_bad_line)
+        (took : TookStep desk b o p r line (λ s. happened_at (desk b.drawn) s kept (Some c) reply (reply_to (desk m.drawn) c)) n) where
+      pub took-command : OnOk r (Painted desk m o line (Ok (Some c)) n p)
+      took-command = took-line (Ok (Some c)) _ _ same-command refl refl moved (bad ∙ or-off m.has_bad_line) (λ s. refl) (λ s. refl) took
+
+      pub broke-command : OnErr r (Broke desk m o line (Ok (Some c)) p)
+      broke-command = broke-line (Ok (Some c)) _ _ same-command refl refl moved (bad ∙ or-off m.has_bad_line) (λ s. refl) (λ s. refl) took
+
+  -- a bad line
+  module _ (fault : LineFault) (kept : Before) (stays : b.drawn ≡ m.drawn) (kept-is : kept ≡ before_of (desk m.drawn) None) (bad : b.has_bad_line ≡ true) where
+    same-fault : (s : Share) → happened_at (desk b.drawn) s kept None Done (fault_text fault) ≡ fault_happened s fault (desk m.drawn)
+    same-fault s = ap₂ (λ z f. happened_at (desk z) s f None Done (fault_text fault)) stays kept-is
+
+    module _ (took : TookStep desk b o p r line (λ s. happened_at (desk b.drawn) s kept None Done (fault_text fault)) n) where
+      pub took-fault : OnOk r (Painted desk m o line (Err fault) n p)
+      took-fault = took-line (Err fault) _ _ same-fault refl refl (reordered-as desk m.drawn b.drawn stays) (bad ∙ or-on m.has_bad_line) (λ s. refl) (λ s. refl) took
+
+      pub broke-fault : OnErr r (Broke desk m o line (Err fault) p)
+      broke-fault = broke-line (Err fault) _ _ same-fault refl refl (reordered-as desk m.drawn b.drawn stays) (bad ∙ or-on m.has_bad_line) (λ s. refl) (λ s. refl) took
+
+-- ---- a line that is skipped
+
+module _ {D : Type 0} (desk : D → Desk) (m n : Painter D) (o : Output) (line : Text) (drawn : n.drawn ≡ m.drawn) (marked : n.marked ≡ m.marked)
+    (notes : n.notes.items ≡ m.notes.items) (bad : n.has_bad_line ≡ m.has_bad_line) where
+  -- behind it
+  skipped-behind : (opened : Bool) → n.progress ≡ record m.progress { wanted = m.progress.wanted || is_mark line; opened = opened }
+      → opened ≡ (m.progress.opened || is_shown_remark m.marked (walk_in desk m) line) → (s : Share) → Follows desk m s (line, Ok None) n
+  skipped-behind opened progress opened-is s = record {
+    desk_is = reordered-as desk m.drawn n.drawn drawn;
+    walk_is =
+        ap₂ (λ q ns. walk_at (desk n.drawn) q ns) (progress ∙ ap (λ b. record m.progress { wanted = m.progress.wanted || is_mark line; opened = b }) opened-is) notes;
+    marked_is = marked;
+    bad = bad ∙ or-off m.has_bad_line;
+  }
+
+  -- it isn't shown
+  pub skip-hidden : n.progress ≡ record m.progress { wanted = m.progress.wanted || is_mark line } → is_shown_remark m.marked (walk_in desk m) line ≡ false
+      → (s : Share) → IsShared s (desk m.drawn) → Painted desk m o line (Ok None) n o
+  skip-hidden progress test s shared =
+      let T : Text → Type 0 = λ z. Takes o o z in
+      record {
+        share = s;
+        shared = shared;
+        written = subst T (sym (ap (λ b. where_so b (opening (walk_in desk m) ++ remark_text line)) test)) (takes_none o);
+        follows = skipped-behind m.progress.opened progress (or-off m.progress.opened ∙ ap (λ b. m.progress.opened || b) (sym test)) s;
+      }
+
+  -- it is, or the writer failed
+  module _ {E : Type 0} (p : Output) (r : Result Unit E) (test : is_shown_remark m.marked (walk_in desk m) line ≡ true) (s : Share) (shared : IsShared s (desk m.drawn))
+      (puts : Puts o p r (opening (walk_in desk m) ++ remark_text line)) where
+    shown-text : opening (walk_in desk m) ++ remark_text line ≡ where_so (is_shown_remark m.marked (walk_in desk m) line) (opening (walk_in desk m) ++ remark_text line)
+    shown-text = sym (ap (λ b. where_so b (opening (walk_in desk m) ++ remark_text line)) test)
+
+    pub skip-shown : n.progress ≡ record m.progress { wanted = m.progress.wanted || is_mark line; opened = true } → OnOk r (Painted desk m o line (Ok None) n p)
+    skip-shown progress = on-ok r (λ takes.
+        let T : Text → Type 0 = λ z. Takes o p z in
+        record {
+          share = s;
+          shared = shared;
+          written = subst T shown-text takes;
+          follows = skipped-behind true progress (or-on m.progress.opened ∙ ap (λ b. m.progress.opened || b) (sym test)) s;
+        }) puts.ok
+
+    pub skip-broken : OnErr r (Broke desk m o line (Ok None) p)
+    skip-broken = on-err r (λ breaks.
+        let B : Text → Type 0 = λ z. Breaks o p z in
+        record { share = s; shared = shared; broken = subst B shown-text breaks }) puts.err
+
+-- ---- a step, written or left out
+
+-- the second painter has counted one more command than the first, and noted the messages behind it
+pub record IsNoted {D : Type 0} (m b : Painter D) (happened : Share → Happened) : Type 0 where
+  pub drawn : b.drawn ≡ m.drawn
+  pub marked : b.marked ≡ m.marked
+  pub bad : b.has_bad_line ≡ m.has_bad_line
+  pub progress : b.progress ≡ record m.progress { steps = m.progress.steps + 1; wanted = false }
+  pub notes : (s : Share) → b.notes.items ≡ noted (m.progress.steps + 1) (happened s).scene m.notes.items
+
+module _ {D E : Type 0} (desk : D → Desk) (m b n : Painter D) (o p : Output) (r : Result Unit E) (line : Text) (happened : Share → Happened) (w : Bool)
+    (wanted : w ≡ m.progress.wanted) (is : IsNoted m b happened) where
+  test-moved : (nat_lt b.progress.shown MOST_STEPS && (not b.marked || w)) ≡ is_shown m.marked (walk_in desk m) m.progress.wanted
+  test-moved =
+      ap₂ (λ (q : Stand) k. nat_lt q.shown MOST_STEPS && (not k || w)) is.progress is.marked
+      ∙ ap (λ v. nat_lt m.progress.shown MOST_STEPS && (not m.marked || v)) wanted
+
+  written-moved : (s : Share) → step_written (walk_in desk b) line w (happened s) ≡ shown_step (walk_in desk m) line (happened s)
+  written-moved s =
+      ap₂ (λ q notes. step_written (walk_at (desk b.drawn) q notes) line w (happened s)) is.progress (is.notes s)
+      ∙ ap (λ v. opening (walk_in desk m) ++ step_text ((happened s).still && not v) (m.progress.steps + 1) line (happened s).reply (happened s).scene
+      (noted (m.progress.steps + 1) (happened s).scene m.notes.items) m.progress.last) wanted
+
+  pub took-shown : (nat_lt b.progress.shown MOST_STEPS && (not b.marked || w)) ≡ true → WroteStep desk b o p r line w happened n → TookStep desk m o p r line happened n
+  took-shown test wrote =
+      let s = wrote.share in
+      let h = happened s in
+      let here : is_shown m.marked (walk_in desk m) m.progress.wanted ≡ true = sym test-moved ∙ test in
+      let whole : step_written (walk_in desk b) line w h ≡ happened_text m.marked (walk_in desk m) line h =
+      written-moved s ∙ sym (ap (λ z. where_so z (shown_step (walk_in desk m) line h)) here) in
+      let T : Text → Type 0 = λ z. Takes o p z in
+      let B : Text → Type 0 = λ z. Breaks o p z in
+      let S : D → Type 0 = λ z. IsShared s (desk z) in
+      record {
+        share = s;
+        shared = subst S is.drawn wrote.shared;
+        ok = on-both r (λ takes comes. (
+          subst T whole takes,
+          record {
+            drawn_is = comes.drawn_is ∙ is.drawn;
+            marked_is = comes.marked_is ∙ is.marked;
+            progress_is = comes.progress_is ∙ (ap₂ (λ v q. stand_shown (h.still && not v) q) wanted is.progress
+                ∙ sym (ap (λ z. stand_behind z h.still m.progress) here));
+            notes_are = comes.notes_are ∙ is.notes s;
+            bad = comes.bad ∙ is.bad;
+          },
+        )) wrote.puts.ok wrote.next;
+        err = on-err r (λ breaks. subst B whole breaks) wrote.puts.err;
+      }
+
+-- it is left out
+module _ {D E : Type 0} (desk : D → Desk) (m b n : Painter D) (o : Output) (line : Text) (happened : Share → Happened) (w : Bool)
+    (wanted : w ≡ m.progress.wanted) (is : IsNoted m b happened) where
+  pub took-left : (nat_lt b.progress.shown MOST_STEPS && (not b.marked || w)) ≡ false → (s : Share) → IsShared s (desk b.drawn)
+      → n ≡ record b { progress = record b.progress { left = b.progress.left + 1 } } → TookStep {E = E} desk m o o (Ok tt) line happened n
+  took-left test s shared n-is =
+      let h = happened s in
+      let here : is_shown m.marked (walk_in desk m) m.progress.wanted ≡ false =
+      sym (test-moved {E = E} desk m b n o o (Ok tt) line happened w wanted is) ∙ test in
+      let T : Text → Type 0 = λ z. Takes o o z in
+      let S : D → Type 0 = λ z. IsShared s (desk z) in
+      record {
+        share = s;
+        shared = subst S is.drawn shared;
+        ok = (
+          subst T (sym (ap (λ z. where_so z (shown_step (walk_in desk m) line h)) here)) (takes_none o),
+          record {
+            drawn_is = ap (λ (z : Painter D). z.drawn) n-is ∙ is.drawn;
+            marked_is = ap (λ (z : Painter D). z.marked) n-is ∙ is.marked;
+            progress_is = ap (λ (z : Painter D). z.progress) n-is ∙ (ap (λ (q : Stand). record q { left = q.left + 1 }) is.progress
+                ∙ sym (ap (λ z. stand_behind z h.still m.progress) here));
+            notes_are = ap (λ (z : Painter D). z.notes.items) n-is ∙ is.notes s;
+            bad = ap (λ (z : Painter D). z.has_bad_line) n-is ∙ is.bad;
+          },
+        );
+        err = tt;
+      }

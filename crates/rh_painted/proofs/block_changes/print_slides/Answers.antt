@@ -1,0 +1,26 @@
+use Rattle.std.proofs.Common.{◌≡◌, List, [], ◌∷◌, length, ap, sym, ◌∙◌}
+use Rattle.std.specs.Prelude.{Some}
+use Rattle.std.specs.List.{flat_map}
+use Rattle.rh_defs.specs.declared.listing.BlockItem.{BlockItem}
+use Rattle.rh_drawn.specs.declared.block_changes.Slid.{Slid}
+use Rattle.rh_drawn.specs.Slides.{summary_of}
+use Rattle.rh_figure.specs.Changes.{Slide, item_of, slide_change, slide_line, slide_of}
+use Rattle.rh_sheet.specs.Markup.{change_item}
+use Rattle.rh_drawn.proofs.Walks.{puts_same}
+use Rattle.rh_painted.proofs.ElementLemmas.{parts-one}
+use Rattle.rh_painted.proofs.block_changes.print_slides.Goals as goal
+
+-- blocks that slid, told by the lowest
+slid-line : (slides : List Slide) (s : Slid) → Some s ≡ summary_of slides → slide_line s.count s.from s.to ∷ [] ≡ slide_change slides
+slid-line [] s e = absurd (cc)
+slid-line (first ∷ rest) s e =
+    let k : s ≡ (record { count = length (first ∷ rest); from = first.from; to = first.to }) = cc in
+    ap (λ (z : Slid). slide_line z.count z.from z.to ∷ []) k
+
+pub returns-in-Some : goal.returns-in-Some
+returns-in-Some g c =
+    let slides = flat_map (λ (b : BlockItem). slide_of b (item_of b.anchor c.args.kept.now.blocks)) c.args.blocks.now in
+    let slid = c.in-Some.slid in
+    puts_same (ap change_item (c.as_slice.ensures ∙ c.blocks_slide-change.ensures.value)
+    ∙ (sym (parts-one change_item (slide_line slid.count slid.from slid.to))
+    ∙ ap (flat_map change_item) (slid-line slides slid (sym c.in-Some.is ∙ c.find_slid.ensures)))) c.print_change.ensures

@@ -1,0 +1,44 @@
+use Rattle.std.proofs.Common.{◌<◌, length, sym, arith}
+use Rattle.std.proofs.lemmas.Option.{slice_get_within}
+use Rattle.rh_figure.specs.Changes.{freed_pages, freed_text, takes_text}
+use Rattle.rh_figure.specs.Share.{holdings}
+use Rattle.rh_map.proofs.Left.{left_breaks, left_less}
+use Rattle.rh_sheet.specs.Markup.{change_item}
+use Rattle.rh_sight.specs.Steps.{scene_at}
+use Rattle.rh_drawn.proofs.Walks.{left_last, puts_same}
+use Rattle.rh_painted.proofs.ElementLemmas.{elements-none, elements-some}
+use Rattle.rh_painted.proofs.page_changes.print_page_changes.Goals as goal
+
+pub returns-in_err-print_takes : goal.returns-in_err-print_takes
+returns-in_err-print_takes g c =
+    let d = g.S.Sight.desk c.args.sight.now in
+    let x = scene_at d c.args.step.now in
+    left_breaks _ _ c.owners.invariant (elements-some change_item (takes_text x) (freed_text (freed_pages x)) (holdings d) c.owners.k _
+    c.in-Some.ensures.some.stands)
+    c.in_err-print_takes.ensures c.from_residual.ensures.0
+
+pub overflow_add-k : goal.overflow_add-k
+overflow_add-k g c =
+    omega (arith, c.in-Some.ensures.few, slice_get_within (holdings (g.S.Sight.desk c.args.sight.now)) c.owners.k _ c.in-Some.ensures.some.stands)
+
+pub owners-smaller : goal.owners-smaller
+owners-smaller g c =
+    let all = holdings (g.S.Sight.desk c.args.sight.now) in
+    let inside : c.owners.k < length all = slice_get_within all c.owners.k _ c.in-Some.ensures.some.stands in
+    omega arith
+
+pub owners-preserved : goal.owners-preserved
+owners-preserved g c =
+    let d = g.S.Sight.desk c.args.sight.now in
+    let x = scene_at d c.args.step.now in
+    left_less c.owners.invariant (elements-some change_item (takes_text x) (freed_text (freed_pages x)) (holdings d) c.owners.k _
+    c.in-Some.ensures.some.stands)
+    c.in_ok-print_takes.ensures.ok
+
+pub returns : goal.returns
+returns g c =
+    let d = g.S.Sight.desk c.args.sight.now in
+    let x = scene_at d c.args.step.now in
+    left_last _ c.owners.invariant
+    (puts_same (sym (elements-none change_item (takes_text x) (freed_text (freed_pages x)) (holdings d) c.owners.k c.in_default.ensures.none))
+    c.print_freed.ensures)

@@ -1,0 +1,11 @@
+use Rattle.std.proofs.Common.{[], ◌+◌, ◌∙◌, ap, sym}
+use Rattle.std.specs.Prelude.{if◌then◌else◌}
+use Rattle.rh_drawn.proofs.Walks.{puts_same}
+use Rattle.rh_sheet.specs.Steps.{step_open}
+use Rattle.rh_painted.proofs.painter.Painter.open_step.Goals as goal
+
+pub returns : goal.returns
+returns g c =
+    let p = c.args.self.now.progress in
+    puts_same (ap step_open c.next.ensures.value ∙ ap (λ b. if b then [] else step_open (p.shown + 1)) (sym (sym c.is_open.ensures ∙ c.if-is_open.false)))
+    c.print_step_open.ensures

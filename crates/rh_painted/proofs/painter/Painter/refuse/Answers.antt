@@ -1,0 +1,22 @@
+use Rattle.std.proofs.Common.{refl, true}
+use Rattle.rh_defs.specs.Text.{fault_text}
+use Rattle.rh_painted.proofs.StepLemmas.{broke-fault, took-fault}
+use Rattle.rh_painted.proofs.painter.Painter.refuse.Goals as goal
+
+pub returns-clause-ok : goal.returns-clause-ok
+returns-clause-ok g c =
+    let desk = g.D.Sight.desk in
+    let m = c.args.self.now in
+    let b = record m { has_bad_line = true; messages = c.messages.new.list; front = c.excerpt_fault-count.new.front } in
+    took-fault desk m b c.take_step.new.self (g.W.Sink.output c.args.writer.now) (g.W.Sink.output c.take_step.new.writer) c.take_step.result c.args.line.now
+    (record { marked = refl; progress = refl; notes = refl }) c.args.fault.now _ refl c.new-kept.ensures refl
+    (c.take_step.ensures.text (fault_text c.args.fault.now) c.excerpt_fault-count.ensures)
+
+pub returns-clause-err : goal.returns-clause-err
+returns-clause-err g c =
+    let desk = g.D.Sight.desk in
+    let m = c.args.self.now in
+    let b = record m { has_bad_line = true; messages = c.messages.new.list; front = c.excerpt_fault-count.new.front } in
+    broke-fault desk m b c.take_step.new.self (g.W.Sink.output c.args.writer.now) (g.W.Sink.output c.take_step.new.writer) c.take_step.result c.args.line.now
+    (record { marked = refl; progress = refl; notes = refl }) c.args.fault.now _ refl c.new-kept.ensures refl
+    (c.take_step.ensures.text (fault_text c.args.fault.now) c.excerpt_fault-count.ensures)

@@ -1,0 +1,41 @@
+use Rattle.std.proofs.Common.{◌<◌, length, refl, arith}
+use Rattle.std.specs.List.{flat_map}
+use Rattle.std.proofs.lemmas.Option.{slice_get_within}
+use Rattle.rh_figure.specs.Share.{holdings}
+use Rattle.rh_map.proofs.Left.{left_breaks, left_less, left_none}
+use Rattle.rh_sheet.specs.Pool.{owner_squares}
+use Rattle.rh_sight.specs.Steps.{scene_at}
+use Rattle.rh_painted.proofs.TextWalks.{text-none, text-some}
+use Rattle.rh_painted.proofs.pool.print_all_squares.Goals as goal
+
+pub returns-in_err-print_owner_squares : goal.returns-in_err-print_owner_squares
+returns-in_err-print_owner_squares g c =
+    let d = g.S.Sight.desk c.args.sight.now in
+    let x = scene_at d c.args.step.now in
+    left_breaks _ _ c.owners.invariant (text-some (flat_map (owner_squares x)) (owner_squares x) (λ o rest. refl) (holdings d) c.owners.k _
+    c.in-Some.ensures.some.stands)
+    c.in_err-print_owner_squares.ensures c.from_residual.ensures.0
+
+pub overflow_add-k : goal.overflow_add-k
+overflow_add-k g c =
+    omega (arith, c.in-Some.ensures.few, slice_get_within (holdings (g.S.Sight.desk c.args.sight.now)) c.owners.k _ c.in-Some.ensures.some.stands)
+
+pub owners-smaller : goal.owners-smaller
+owners-smaller g c =
+    let all = holdings (g.S.Sight.desk c.args.sight.now) in
+    let inside : c.owners.k < length all = slice_get_within all c.owners.k _ c.in-Some.ensures.some.stands in
+    omega arith
+
+pub owners-preserved : goal.owners-preserved
+owners-preserved g c =
+    let d = g.S.Sight.desk c.args.sight.now in
+    let x = scene_at d c.args.step.now in
+    left_less c.owners.invariant (text-some (flat_map (owner_squares x)) (owner_squares x) (λ o rest. refl) (holdings d) c.owners.k _
+    c.in-Some.ensures.some.stands)
+    c.in_ok-print_owner_squares.ensures.ok
+
+pub returns : goal.returns
+returns g c =
+    let d = g.S.Sight.desk c.args.sight.now in
+    let x = scene_at d c.args.step.now in
+    record { ok = left_none c.owners.invariant (text-none (flat_map (owner_squares x)) refl (holdings d) c.owners.k c.in_default.ensures.none); err = tt }

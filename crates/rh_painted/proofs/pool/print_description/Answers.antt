@@ -1,0 +1,87 @@
+use Rattle.std.proofs.Common.{◌≡◌, ◌<◌, ◌++◌, [], ◌∷◌, length, ap, ap₂, sym, ◌∙◌, arith, append_assoc}
+use Rattle.std.specs.Prelude.{codes}
+use Rattle.std.specs.Fmt.{decimal}
+use Rattle.std.specs.List.{concat, flat_map}
+use Rattle.std.proofs.lemmas.Option.{slice_get_within}
+use Rattle.rh_defs.specs.Desk.{Desk, free_pages}
+use Rattle.rh_figure.specs.Phrases.{Text, owner_name}
+use Rattle.rh_figure.specs.Scene.{Scene}
+use Rattle.rh_figure.specs.Share.{Holding, holdings}
+use Rattle.rh_lines.proofs.FlowLemmas.{takes_none}
+use Rattle.rh_map.proofs.Left.{left_breaks, left_less}
+use Rattle.rh_sheet.specs.Markup.{escape, escaped_byte}
+use Rattle.rh_sheet.specs.Pool.{free_text, owner_sentence}
+use Rattle.rh_sight.specs.Steps.{scene_at}
+use Rattle.rh_drawn.proofs.Walks.{left_last, puts_same}
+use Rattle.rh_painted.specs.Owners.{who_seen}
+use Rattle.rh_painted.proofs.ElementLemmas.{elements-none, elements-some}
+use Rattle.rh_painted.proofs.pool.print_description.Goals as goal
+
+abbrev sentence : Scene → Holding → Text
+sentence x o = owner_sentence (owner_name x.desk o.0) (x.share.pages_of o.0)
+
+abbrev free : Desk → Text
+free d = free_text (free_pages d) d.pool ++ codes "."
+
+-- how many pages are free, as it is put together
+free-row : (f p : Text) → ((([] ++ f) ++ codes " of ") ++ p) ++ codes " free." ≡ concat (f ∷ codes " of " ∷ p ∷ codes " free" ∷ []) ++ codes "."
+free-row f p =
+    append_assoc (f ++ codes " of ") p (codes " free.")
+    ∙ (append_assoc f (codes " of ") (p ++ codes " free.")
+    ∙ sym (append_assoc f (codes " of " ++ (p ++ codes " free")) (codes ".")
+    ∙ ap (λ z. f ++ (codes " of " ++ z)) (append_assoc p (codes " free") (codes "."))))
+
+pub owners-init : goal.owners-init
+owners-init g c =
+    let d = g.S.Sight.desk c.args.sight.now in
+    let x = scene_at d c.args.step.now in
+    record {
+      written = [];
+      takes = takes_none _;
+      is = ap escape (append_assoc (flat_map (sentence x) (holdings d)) (free_text (free_pages d) d.pool) (codes "."));
+    }
+
+pub returns-in_err-print_sentence : goal.returns-in_err-print_sentence
+returns-in_err-print_sentence g c =
+    let d = g.S.Sight.desk c.args.sight.now in
+    let x = scene_at d c.args.step.now in
+    let own = c.in-Some.ensures.some in
+    left_breaks _ _ c.owners.invariant (elements-some escaped_byte (sentence x) (free d) (holdings d) c.owners.k _ own.stands)
+    (puts_same (ap (λ n. escape (owner_sentence n (x.share.pages_of (who_seen c.in-Some.owner.named)))) own.owner.name) c.in_err-print_sentence.ensures)
+    c.from_residual.ensures.0
+
+pub overflow_add-k : goal.overflow_add-k
+overflow_add-k g c =
+    omega (arith, c.in-Some.ensures.few, slice_get_within (holdings (g.S.Sight.desk c.args.sight.now)) c.owners.k _ c.in-Some.ensures.some.stands)
+
+pub owners-smaller : goal.owners-smaller
+owners-smaller g c =
+    let all = holdings (g.S.Sight.desk c.args.sight.now) in
+    let inside : c.owners.k < length all = slice_get_within all c.owners.k _ c.in-Some.ensures.some.stands in
+    omega arith
+
+pub owners-preserved : goal.owners-preserved
+owners-preserved g c =
+    let d = g.S.Sight.desk c.args.sight.now in
+    let x = scene_at d c.args.step.now in
+    let own = c.in-Some.ensures.some in
+    left_less c.owners.invariant (elements-some escaped_byte (sentence x) (free d) (holdings d) c.owners.k _ own.stands)
+    (puts_same (ap (λ n. escape (owner_sentence n (x.share.pages_of (who_seen c.in-Some.owner.named)))) own.owner.name) c.in_ok-print_sentence.ensures).ok
+
+pub returns : goal.returns
+returns g c =
+    let d = g.S.Sight.desk c.args.sight.now in
+    let x = scene_at d c.args.step.now in
+    let row : c.as_slice.result.now ≡ ((([] ++ decimal c.free_pages.result) ++ codes " of ")
+    ++ decimal (length c.args.step.now.pages.now)) ++ codes " free." =
+    c.as_slice.ensures
+    ∙ (c.text-2.ensures
+    ∙ ap (λ z. z ++ codes " free.") (c.decimal-2.ensures.value
+    ∙ ap (λ z. z ++ decimal (length c.args.step.now.pages.now)) (c.text.ensures
+    ∙ ap (λ z. z ++ codes " of ") (c.decimal.ensures.value ∙ ap (λ z. z ++ decimal c.free_pages.result) c.new-row.ensures)))) in
+    let told : c.as_slice.result.now ≡ free d =
+    row ∙ (free-row (decimal c.free_pages.result) (decimal (length c.args.step.now.pages.now))
+    ∙ ap₂ (λ f p. free_text f p ++ codes ".") c.free_pages.ensures c.requires.all) in
+    left_last _ c.owners.invariant
+    (puts_same (ap escape told ∙ sym (elements-none escaped_byte (sentence x) (free d) (holdings d) c.owners.k c.in_default.ensures.none))
+    c.put_escaped.ensures)

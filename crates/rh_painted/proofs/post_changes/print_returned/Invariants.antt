@@ -1,0 +1,21 @@
+use Rattle.std.proofs.Common.{drop}
+use Rattle.std.specs.Prelude.{◌==◌, ◌&&◌, filter, map}
+use Rattle.std.specs.List.{flat_map}
+use Rattle.rh_defs.specs.Messages.{Parcel}
+use Rattle.rh_figure.specs.Changes.{returns_text}
+use Rattle.rh_figure.specs.Phrases.{is_returned}
+use Rattle.rh_figure.specs.Scene.{waiting}
+use Rattle.rh_map.proofs.Left.{Left}
+use Rattle.rh_sheet.specs.Markup.{change_item}
+use Rattle.rh_sight.specs.Steps.{scene_at}
+use Rattle.rh_drawn.specs.Returns.{return_lines}
+use Rattle.rh_painted.proofs.post_changes.print_returned.Given as goal
+
+-- the messages from the place on are left
+abbrev pub invariant-loop-message : goal.invariant-loop-message
+invariant-loop-message g l =
+    let d = g.S.Sight.desk l.sight in
+    let x = scene_at d l.step in
+    Left (g.W.Sink.output l.initial.writer) (g.W.Sink.output l.writer)
+    (flat_map change_item (map (returns_text x) (filter (λ (p : Parcel). p.message.my_ref == x.before.held && is_returned p.code) (waiting x))))
+    (flat_map change_item (flat_map (return_lines d l.step.kept.now.held) (drop l.message-index l.step.messages.now)))

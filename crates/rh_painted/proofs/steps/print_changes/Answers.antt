@@ -1,0 +1,38 @@
+use Rattle.std.proofs.Common.{◌≡◌, List, ℕ, ◌++◌, ◌∙◌, ap, append_assoc, sym}
+use Rattle.std.specs.List.{flat_map}
+use Rattle.rh_defs.specs.Desk.{task_at}
+use Rattle.rh_drawn.proofs.Walks.{puts_same}
+use Rattle.rh_figure.specs.Changes.{block_changes, changes, page_changes, post_changes, slide_change, slides}
+use Rattle.rh_figure.specs.Scene.{Scene}
+use Rattle.rh_sheet.specs.Markup.{change_item}
+use Rattle.rh_sheet.specs.Steps.{changes_text}
+use Rattle.rh_sight.specs.Steps.{scene_at}
+use Rattle.rh_painted.proofs.ElementLemmas.{parts-three}
+use Rattle.rh_painted.proofs.PrintLemmas.{puts-stop, puts-then}
+use Rattle.rh_painted.proofs.steps.print_changes.Goals as goal
+
+-- what has changed of the pool, of blocks, and of messages
+whole : (x : Scene) → flat_map change_item (page_changes x)
+    ++ (flat_map change_item (block_changes x (task_at x.before.handle x.desk) ++ slide_change (slides x)) ++ flat_map change_item (post_changes x))
+    ≡ changes_text (changes x)
+whole x =
+    let blocks = block_changes x (task_at x.before.handle x.desk) in
+    sym (parts-three change_item (page_changes x) (blocks ++ slide_change (slides x)) (post_changes x))
+    ∙ ap (λ z. flat_map change_item (page_changes x ++ z)) (append_assoc blocks (slide_change (slides x)) (post_changes x))
+
+pub returns-in_err-print_page_changes : goal.returns-in_err-print_page_changes
+returns-in_err-print_page_changes g c =
+    let x = scene_at (g.S.Sight.desk c.args.sight.now) c.args.step.now in
+    puts_same (whole x) (puts-stop (flat_map change_item (block_changes x (task_at x.before.handle x.desk) ++ slide_change (slides x))
+    ++ flat_map change_item (post_changes x)) c.in_err-print_page_changes.ensures c.from_residual.ensures.0)
+
+pub returns-in_err-print_block_changes : goal.returns-in_err-print_block_changes
+returns-in_err-print_block_changes g c =
+    let x = scene_at (g.S.Sight.desk c.args.sight.now) c.args.step.now in
+    puts_same (whole x) (puts-then c.in_ok-print_page_changes.ensures (puts-stop (flat_map change_item (post_changes x)) c.in_err-print_block_changes.ensures
+    c.from_residual-in_err-print_block_changes.ensures.0))
+
+pub returns : goal.returns
+returns g c =
+    let x = scene_at (g.S.Sight.desk c.args.sight.now) c.args.step.now in
+    puts_same (whole x) (puts-then c.in_ok-print_page_changes.ensures (puts-then c.in_ok-print_block_changes.ensures c.print_post_changes.ensures))
