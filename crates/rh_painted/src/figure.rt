@@ -17,7 +17,6 @@ use rh_sight::{Sight, Step};
 
 /// Writes the figure of a desk behind a step with a number. Fails only where the writer failed or took none of what it
 /// was offered; a front of the figure is then written.
-#[tactic(auto, unfolding(rh_sheet::specs::Steps::figure_text))]
 pub fn print_figure<S: Sight, W: Sink>(
     sight: &S,
     step: &Step<'_>,
