@@ -1,16 +1,14 @@
 -- The text of a chart, part by part.
-use Rattle.std.proofs.Common.{◌≡◌, ℕ, ◌+◌, ◌<◌, true, false, refl, ap, ap₂, sym, ◌∙◌, arith, append_assoc, append-nil, List, [], ◌∷◌, ◌++◌, length}
+use Rattle.std.proofs.Common.{◌≡◌, ℕ, ◌+◌, ◌<◌, true, false, refl, ap₂, ◌∙◌, arith, append_assoc, append-nil, List, [], ◌∷◌, ◌++◌, length}
 use Rattle.std.specs.Prelude.{◌==◌, codes}
 use Rattle.std.specs.List.{concat, flat_map}
 use Rattle.rh_defs.specs.Desk.{Desk}
 use Rattle.rh_defs.specs.Order.{with_queue}
-use Rattle.rh_draw.specs.Figures.{figure_open}
-use Rattle.rh_draw.proofs.FigureLemmas.{figure-parts}
 use Rattle.rh_figure.specs.Phrases.{Text}
 use Rattle.rh_sheet.specs.declared.note.Note.{Note}
 use Rattle.rh_sheet.specs.declared.sizes.TheConstants.{CHART_EDGE, CHART_WIDTH}
 use Rattle.rh_sheet.specs.Chart.{Arrow, arrow_sentence, arrows, chart_body, chart_foot, chart_of, steps_in, tasks_in}
-use Rattle.rh_sheet.specs.Markup.{escape}
+use Rattle.rh_sheet.specs.Markup.{escape, figure_open}
 use Rattle.rh_painted.specs.declared.ways.Way.{Way}
 use Rattle.rh_painted.specs.Ways.{arrow_of, arrows_seen}
 use Rattle.rh_painted.proofs.TableLemmas.{is_some, some-more}
@@ -30,14 +28,7 @@ parts-are : (d : Desk) (drawn : List Arrow) (step : ℕ) → is_some drawn ≡ t
     ++ (codes "</desc>\n" ++ (chart_body d drawn (tasks_in drawn) (steps_in drawn) step ++ codes "</svg>\n")))
     ≡ chart_of d drawn step
 parts-are d [] step e = absurd (cc)
-parts-are d (a ∷ drawn) step e =
-    let all : List Arrow = a ∷ drawn in
-    let open_ : Text = figure_open CHART_WIDTH (chart_foot (steps_in all) + CHART_EDGE) title in
-    let told : Text = escape (flat_map (arrow_sentence d) all) in
-    let rest : Text = chart_body d all (tasks_in all) (steps_in all) step ++ codes "</svg>\n" in
-    ap (λ z. open_ ++ z) (sym (append_assoc told (codes "</desc>\n") rest))
-    ∙ (sym (append_assoc open_ (told ++ codes "</desc>\n") rest)
-    ∙ ap (λ z. z ++ rest) (figure-parts CHART_WIDTH (chart_foot (steps_in all) + CHART_EDGE) title (flat_map (arrow_sentence d) all)))
+parts-are d (a ∷ drawn) step e = refl
 
 pub chart-parts : (d : Desk) (drawn : List Arrow) (tasks steps : List ℕ) (step : ℕ) → tasks ≡ tasks_in drawn → steps ≡ steps_in drawn → is_some drawn ≡ true
     → figure_open CHART_WIDTH (chart_foot steps + CHART_EDGE) title

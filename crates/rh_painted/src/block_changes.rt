@@ -28,7 +28,8 @@ pub fn print_block_changes<S: Sight, W: Sink>(
     writer: &mut W,
 ) -> Result<(), WriteFailed>
     ensures { let x = scene_at (S.desk sight.now) step.now in
-        Puts (W.output writer.old) (W.output writer.new) result (flat_map change_item (block_changes x (task_at x.before.handle x.desk) ++ slide_change (slides x))) }
+        Puts (W.output writer.old) (W.output writer.new) result
+        (flat_map change_item (block_changes x (task_at x.before.handle x.desk) ++ slide_change (slides x))) }
 {
     let Some(i) = task_with(sight, step.kept.handle()) else {
         return Ok(());
@@ -46,7 +47,8 @@ fn print_gone<W: Sink>(
     writer: &mut W,
 ) -> Result<(), WriteFailed>
     ensures { Puts (W.output writer.old) (W.output writer.new) result
-        (flat_map change_item (map (λ (b : BlockItem). gone_line b.anchor) (filter (λ (b : BlockItem). not (has_anchor_in b.anchor now.now)) before.now))) }
+        (flat_map change_item (map (λ (b : BlockItem). gone_line b.anchor)
+        (filter (λ (b : BlockItem). not (has_anchor_in b.anchor now.now)) before.now))) }
 {
     for block in before {
         print_if_gone(now, block, writer)?;
@@ -61,7 +63,8 @@ fn print_if_gone<W: Sink>(
     writer: &mut W,
 ) -> Result<(), WriteFailed>
     ensures { Puts (W.output writer.old) (W.output writer.new) result
-        (flat_map change_item (if has_anchor_in block.now.anchor now.now then [] else gone_line block.now.anchor ∷ [])) }
+        (flat_map change_item
+        (if has_anchor_in block.now.anchor now.now then [] else gone_line block.now.anchor ∷ [])) }
 {
     if has_anchor(now, block) {
         return Ok(());
@@ -72,7 +75,8 @@ fn print_if_gone<W: Sink>(
 /// Writes which of the blocks are new, and which had another size.
 fn print_now<W: Sink>(kept: &Kept, blocks: &[BlockItem], writer: &mut W) -> Result<(), WriteFailed>
     ensures { Puts (W.output writer.old) (W.output writer.new) result
-        (flat_map change_item (flat_map (λ (b : BlockItem). block_change b (item_of b.anchor kept.now.blocks)) blocks.now)) }
+        (flat_map change_item
+        (flat_map (λ (b : BlockItem). block_change b (item_of b.anchor kept.now.blocks)) blocks.now)) }
 {
     for block in blocks {
         print_block_change(kept, block, writer)?;
@@ -107,7 +111,8 @@ fn print_slides<W: Sink>(
 ) -> Result<(), WriteFailed>
     requires { length blocks.now ≤ ANCHORS }
     ensures { Puts (W.output writer.old) (W.output writer.new) result
-        (flat_map change_item (slide_change (flat_map (λ (b : BlockItem). slide_of b (item_of b.anchor kept.now.blocks)) blocks.now))) }
+        (flat_map change_item
+        (slide_change (flat_map (λ (b : BlockItem). slide_of b (item_of b.anchor kept.now.blocks)) blocks.now))) }
 {
     match find_slid(kept, blocks) {
         Some(slid) => {

@@ -86,7 +86,8 @@ fn print_sentence<S: Sight, W: Sink>(
     requires step { IsStepOf (S.desk sight.now) step.now }
     requires owner { IsOwnerOf (S.desk sight.now) owner.now }
     ensures { Puts (W.output writer.old) (W.output writer.new) result
-        (escape (owner_sentence (name_seen owner.now.named) ((scene_at (S.desk sight.now) step.now).share.pages_of (who_seen owner.now.named)))) }
+        (escape (owner_sentence (name_seen owner.now.named)
+        ((scene_at (S.desk sight.now) step.now).share.pages_of (who_seen owner.now.named)))) }
 {
     sight.spelled();
     let pages = pages_of(sight, step.pages, owner.place);
@@ -137,7 +138,8 @@ fn print_all_squares<S: Sight, W: Sink>(
 ) -> Result<(), WriteFailed>
     requires { IsStepOf (S.desk sight.now) step.now }
     ensures { let x = scene_at (S.desk sight.now) step.now in
-        Puts (W.output writer.old) (W.output writer.new) result (flat_map (owner_squares x) (holdings (S.desk sight.now))) }
+        Puts (W.output writer.old) (W.output writer.new) result
+        (flat_map (owner_squares x) (holdings (S.desk sight.now))) }
 {
     let mut k = 0;
     'owners: while let Some(owner) = owner_at(sight, k) {
@@ -215,7 +217,8 @@ fn print_all_tags<S: Sight, W: Sink>(
 ) -> Result<(), WriteFailed>
     requires { IsStepOf (S.desk sight.now) step.now }
     ensures { let x = scene_at (S.desk sight.now) step.now in
-        Puts (W.output writer.old) (W.output writer.new) result (flat_map (tags_text x) (holdings (S.desk sight.now))) }
+        Puts (W.output writer.old) (W.output writer.new) result
+        (flat_map (tags_text x) (holdings (S.desk sight.now))) }
 {
     let mut k = 0;
     'owners: while let Some(owner) = owner_at(sight, k) {

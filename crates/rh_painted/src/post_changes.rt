@@ -46,7 +46,8 @@ fn print_returned<S: Sight, W: Sink>(
     requires { IsStepOf (S.desk sight.now) step.now }
     ensures { let x = scene_at (S.desk sight.now) step.now in
         Puts (W.output writer.old) (W.output writer.new) result
-        (flat_map change_item (map (returns_text x) (filter (λ (p : Parcel). p.message.my_ref == x.before.held && is_returned p.code) (waiting x)))) }
+        (flat_map change_item (map (returns_text x)
+        (filter (λ (p : Parcel). p.message.my_ref == x.before.held && is_returned p.code) (waiting x)))) }
 {
     for message in step.messages {
         print_return(sight, step, message, writer)?;
@@ -62,7 +63,9 @@ fn print_return<S: Sight, W: Sink>(
     writer: &mut W,
 ) -> Result<(), WriteFailed>
     ensures { Puts (W.output writer.old) (W.output writer.new) result
-        (flat_map change_item (if returns step.now.kept.now.held message.now then returns_line message.now.action message.now.my_ref (task_name (S.desk sight.now) message.now.to) ∷ [] else [])) }
+        (flat_map change_item (if returns step.now.kept.now.held message.now
+        then returns_line message.now.action message.now.my_ref (task_name (S.desk sight.now) message.now.to) ∷ []
+        else [])) }
 {
     if !goes_back(step, message) {
         return Ok(());

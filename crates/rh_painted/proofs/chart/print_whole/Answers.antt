@@ -1,10 +1,9 @@
 use Rattle.std.proofs.Common.{◌+◌, ◌++◌, ap, refl}
 use Rattle.std.specs.Prelude.{codes}
 use Rattle.std.specs.List.{flat_map}
-use Rattle.rh_draw.specs.Figures.{figure_open}
 use Rattle.rh_figure.specs.Phrases.{Text}
 use Rattle.rh_sheet.specs.Chart.{arrow_sentence}
-use Rattle.rh_sheet.specs.Markup.{escape}
+use Rattle.rh_sheet.specs.Markup.{escape, figure_open}
 use Rattle.rh_sheet.specs.declared.sizes.TheConstants.{CHART_EDGE, CHART_WIDTH}
 use Rattle.rh_drawn.proofs.Walks.{puts_same}
 use Rattle.rh_painted.specs.Charts.{body_in}

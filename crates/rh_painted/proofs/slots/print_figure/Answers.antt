@@ -55,10 +55,14 @@ print_plan-requires-clause-task g c =
     (SlotOf h) x.before.holdings))) is r.2.handle in
     let above : c.len.result ≡ length (flex_cards x t) = c.len.ensures.value ∙ (ap length blocks ∙ sym (flex-long x t (flex_start t.slot) t.slot.blocks)) in
     let below : c.take_census-census.result.count ≡ length (heap_cards x t) = ap (λ (z : Census). z.count) census ∙ sym (cards-long (heap_card x t)
-    (heap_start + 16) t.slot.heap.segments) in
-    (t, r.1, r.2, record {
-      blocks = c.deref-3.ensures.0 ∙ blocks;
-      frame = frame-same rows above below;
-      plot = plot-same is (c.deref-2.ensures.0 ∙ c.slot_pieces.ensures t r.1) (ap (λ (s : TaskSight). s.handle) c.task.view_is ∙ r.2.handle);
-      census = census;
-    })
+    (heap_start + 16) t.slot.heap.segments) in (
+      t,
+      r.1,
+      r.2,
+      record {
+        blocks = c.deref-3.ensures.0 ∙ blocks;
+        frame = frame-same rows above below;
+        plot = plot-same is (c.deref-2.ensures.0 ∙ c.slot_pieces.ensures t r.1) (ap (λ (s : TaskSight). s.handle) c.task.view_is ∙ r.2.handle);
+        census = census;
+      },
+    )

@@ -42,8 +42,14 @@ print_lens_above-requires-clause-within g c =
     let ps = c.args.step.now.pages.now in
     let few = owned-few c.spelled.ensures ps c.requires.step.shared (pages.Slot i) (SlotOf r.0.handle)
     (seen-slot c.spelled.ensures i r.0 r.1) c.requires.step.all in
-    omega (arith, ap (λ
-    (f : Frame). f.pages) r.3.frame, few, owned-slot c.spelled.ensures ps c.requires.step.shared i r.0 r.1, c.flex_end-high.ensures x r.0 r.3.plot)
+    omega (
+      arith,
+      ap (λ
+          (f : Frame). f.pages) r.3.frame,
+      few,
+      owned-slot c.spelled.ensures ps c.requires.step.shared i r.0 r.1,
+      c.flex_end-high.ensures x r.0 r.3.plot,
+    )
 
 pub returns-in_err-print_lens_above : goal.returns-in_err-print_lens_above
 returns-in_err-print_lens_above g c = λ t e.

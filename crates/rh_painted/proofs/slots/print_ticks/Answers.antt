@@ -21,5 +21,8 @@ returns-in_err-print_tick g c =
     (b : BlockItem). b.anchor) c.block.view_is)) c.in_err-print_tick.ensures) c.from_residual.ensures.0
 
 pub returns : goal.returns
-returns g c = record { ok = left_none c.loop-block.invariant (text-end
-    (ticks_text c.args.y) refl c.args.blocks.now c.loop-block.block-index c.loop-block-test.false); err = tt }
+returns g c = record {
+  ok = left_none c.loop-block.invariant (text-end
+      (ticks_text c.args.y) refl c.args.blocks.now c.loop-block.block-index c.loop-block-test.false);
+  err = tt;
+}

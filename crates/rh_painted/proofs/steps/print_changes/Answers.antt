@@ -16,9 +16,11 @@ whole : (x : Scene) → flat_map change_item (page_changes x)
     ++ (flat_map change_item (block_changes x (task_at x.before.handle x.desk) ++ slide_change (slides x)) ++ flat_map change_item (post_changes x))
     ≡ changes_text (changes x)
 whole x =
+    let pages = page_changes x in
     let blocks = block_changes x (task_at x.before.handle x.desk) in
-    sym (parts-three change_item (page_changes x) (blocks ++ slide_change (slides x)) (post_changes x))
-    ∙ ap (λ z. flat_map change_item (page_changes x ++ z)) (append_assoc blocks (slide_change (slides x)) (post_changes x))
+    let slide = slide_change (slides x) in
+    sym (parts-three change_item pages (blocks ++ slide) (post_changes x))
+    ∙ ap (flat_map change_item) (sym (append_assoc pages (blocks ++ slide) (post_changes x)) ∙ ap (λ z. z ++ post_changes x) (sym (append_assoc pages blocks slide)))
 
 pub returns-in_err-print_page_changes : goal.returns-in_err-print_page_changes
 returns-in_err-print_page_changes g c =
