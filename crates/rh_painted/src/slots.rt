@@ -83,7 +83,8 @@ fn print_slot<S: Sight, W: Sink>(
     requires step { IsStepOf (S.desk sight.now) step.now }
     requires tasks { tasks ≡ length (S.desk sight.now).tasks }
     requires task { (t : Task) × (slice_get (S.desk sight.now).tasks i ≡ Some t) × IsTaskSeen task.now t }
-    ensures { (t : Task) → slice_get (S.desk sight.now).tasks i ≡ Some t → Puts (W.output writer.old) (W.output writer.new) result
+    ensures { (t : Task) → slice_get (S.desk sight.now).tasks i ≡ Some t →
+        Puts (W.output writer.old) (W.output writer.new) result
         (slot_part (scene_at (S.desk sight.now) step.now) t) }
 {
     sight.spelled();
@@ -96,7 +97,8 @@ fn print_slot<S: Sight, W: Sink>(
 
 /// Writes the heading of a task's slot.
 fn print_slot_heading<W: Sink>(task: &TaskSight<'_>, writer: &mut W) -> Result<(), WriteFailed>
-    ensures { (t : Task) → IsTaskSeen task.now t → Puts (W.output writer.old) (W.output writer.new) result (heading_text t.name (slot_note t)) }
+    ensures { (t : Task) → IsTaskSeen task.now t →
+        Puts (W.output writer.old) (W.output writer.new) result (heading_text t.name (slot_note t)) }
 {
     let heading = SlotHeading {
         name: task.name,
@@ -123,7 +125,8 @@ fn print_figure<S: Sight, W: Sink>(
 ) -> Result<(), WriteFailed>
     requires step { IsStepOf (S.desk sight.now) step.now }
     requires task { (t : Task) × (slice_get (S.desk sight.now).tasks i ≡ Some t) × IsTaskSeen task.now t }
-    ensures { (t : Task) → slice_get (S.desk sight.now).tasks i ≡ Some t → Puts (W.output writer.old) (W.output writer.new) result
+    ensures { (t : Task) → slice_get (S.desk sight.now).tasks i ≡ Some t →
+        Puts (W.output writer.old) (W.output writer.new) result
         (slot_figure (scene_at (S.desk sight.now) step.now) t) }
 {
     sight.spelled();
@@ -161,8 +164,10 @@ fn print_plan<S: Sight, W: Sink>(
     writer: &mut W,
 ) -> Result<(), WriteFailed>
     requires step { IsStepOf (S.desk sight.now) step.now }
-    requires task { (t : Task) × (slice_get (S.desk sight.now).tasks plan.now.i ≡ Some t) × IsTaskSeen task.now t × IsSlotPlan (scene_at (S.desk sight.now) step.now) t plan.now }
-    ensures { (t : Task) → slice_get (S.desk sight.now).tasks plan.now.i ≡ Some t → Puts (W.output writer.old) (W.output writer.new) result
+    requires task { (t : Task) × (slice_get (S.desk sight.now).tasks plan.now.i ≡ Some t) × IsTaskSeen task.now t
+        × IsSlotPlan (scene_at (S.desk sight.now) step.now) t plan.now }
+    ensures { (t : Task) → slice_get (S.desk sight.now).tasks plan.now.i ≡ Some t →
+        Puts (W.output writer.old) (W.output writer.new) result
         (slot_figure (scene_at (S.desk sight.now) step.now) t) }
 {
     let mut title = Row::new();
@@ -184,8 +189,10 @@ fn print_description<S: Sight, W: Sink>(
     writer: &mut W,
 ) -> Result<(), WriteFailed>
     requires step { IsStepOf (S.desk sight.now) step.now }
-    requires task { (t : Task) × (slice_get (S.desk sight.now).tasks plan.now.i ≡ Some t) × IsTaskSeen task.now t × IsSlotPlan (scene_at (S.desk sight.now) step.now) t plan.now }
-    ensures { (t : Task) → slice_get (S.desk sight.now).tasks plan.now.i ≡ Some t → Puts (W.output writer.old) (W.output writer.new) result
+    requires task { (t : Task) × (slice_get (S.desk sight.now).tasks plan.now.i ≡ Some t) × IsTaskSeen task.now t
+        × IsSlotPlan (scene_at (S.desk sight.now) step.now) t plan.now }
+    ensures { (t : Task) → slice_get (S.desk sight.now).tasks plan.now.i ≡ Some t →
+        Puts (W.output writer.old) (W.output writer.new) result
         (escape (slot_description (scene_at (S.desk sight.now) step.now) t)) }
 {
     sight.spelled();
@@ -213,8 +220,10 @@ fn print_body<S: Sight, W: Sink>(
     writer: &mut W,
 ) -> Result<(), WriteFailed>
     requires step { IsStepOf (S.desk sight.now) step.now }
-    requires task { (t : Task) × (slice_get (S.desk sight.now).tasks plan.now.i ≡ Some t) × IsTaskSeen task.now t × IsSlotPlan (scene_at (S.desk sight.now) step.now) t plan.now }
-    ensures { (t : Task) → slice_get (S.desk sight.now).tasks plan.now.i ≡ Some t → Puts (W.output writer.old) (W.output writer.new) result
+    requires task { (t : Task) × (slice_get (S.desk sight.now).tasks plan.now.i ≡ Some t) × IsTaskSeen task.now t
+        × IsSlotPlan (scene_at (S.desk sight.now) step.now) t plan.now }
+    ensures { (t : Task) → slice_get (S.desk sight.now).tasks plan.now.i ≡ Some t →
+        Puts (W.output writer.old) (W.output writer.new) result
         (slot_body (scene_at (S.desk sight.now) step.now) t) }
 {
     sight.spelled();
@@ -243,8 +252,10 @@ fn print_lenses<S: Sight, W: Sink>(
     writer: &mut W,
 ) -> Result<(), WriteFailed>
     requires step { IsStepOf (S.desk sight.now) step.now }
-    requires task { (t : Task) × (slice_get (S.desk sight.now).tasks plan.now.i ≡ Some t) × IsTaskSeen task.now t × IsSlotPlan (scene_at (S.desk sight.now) step.now) t plan.now }
-    ensures { (t : Task) → slice_get (S.desk sight.now).tasks plan.now.i ≡ Some t → Puts (W.output writer.old) (W.output writer.new) result
+    requires task { (t : Task) × (slice_get (S.desk sight.now).tasks plan.now.i ≡ Some t) × IsTaskSeen task.now t
+        × IsSlotPlan (scene_at (S.desk sight.now) step.now) t plan.now }
+    ensures { (t : Task) → slice_get (S.desk sight.now).tasks plan.now.i ≡ Some t →
+        Puts (W.output writer.old) (W.output writer.new) result
         (slot_lenses plan.now.frame t.slot) }
 {
     sight.spelled();

@@ -5,7 +5,6 @@ use Rattle.rh_defs.specs.Desk.{module_pages}
 use Rattle.rh_defs.specs.Heap.{base}
 use Rattle.rh_figure.specs.Cards.{module_card, module_cards}
 use Rattle.rh_figure.specs.Layout.{module_legend}
-use Rattle.rh_figure.specs.declared.piece.Piece.{Piece}
 use Rattle.rh_figure.specs.Share.{AreaOf}
 use Rattle.rh_sheet.specs.Areas.{lens_below, module_frame, module_plot}
 use Rattle.rh_sheet.specs.Cards.{cards_below}

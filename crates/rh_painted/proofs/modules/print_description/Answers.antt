@@ -1,4 +1,4 @@
-use Rattle.std.proofs.Common.{◌++◌, ap, sym}
+use Rattle.std.proofs.Common.{ap, sym}
 use Rattle.std.proofs.lemmas.Grind.{flat_map-append}
 use Rattle.rh_figure.specs.Cards.{module_cards, shown_cards}
 use Rattle.rh_figure.specs.Share.{AreaOf}

@@ -1,4 +1,4 @@
-use Rattle.std.proofs.Common.{◌≡◌, ℕ, ◌+◌, ◌-◌, ◌++◌, List, [], length, ap, ap₂, refl, subst, sym, ◌∙◌, arith, Some}
+use Rattle.std.proofs.Common.{◌≡◌, ℕ, ◌+◌, ◌-◌, ◌++◌, List, [], length, ap, ap₂, subst, sym, ◌∙◌, arith}
 use Rattle.std.specs.Prelude.{◌==◌, ◌^◌, ◌<◌}
 use Rattle.std.specs.List.{AllByRecursion, flat_map}
 use Rattle.std.specs.Option.{option_map}
@@ -28,7 +28,7 @@ use Rattle.rh_sight.proofs.PieceWalks.{items-long}
 use Rattle.rh_sight.proofs.SlotPieces.{few-blocks}
 use Rattle.rh_drawn.specs.Bands.{card_of_task}
 use Rattle.rh_drawn.proofs.DrawingLemmas.{seen-same, task-stands}
-use Rattle.rh_drawn.proofs.PageLemmas.{owned-few, owned-slot, seen-slot}
+use Rattle.rh_drawn.proofs.PageLemmas.{owned-few, seen-slot}
 use Rattle.rh_drawn.proofs.Walks.{puts_same}
 use Rattle.rh_painted.specs.Bands.{band_text}
 use Rattle.rh_painted.specs.Figures.{IsSlotPlan}

@@ -1,4 +1,4 @@
-use Rattle.std.proofs.Common.{◌≡◌, ◌+◌, ◌++◌, [], ◌∷◌, length, ap, ap₂, append-nil, append_assoc, sym, ◌∙◌, arith, Some}
+use Rattle.std.proofs.Common.{◌≡◌, ◌+◌, ◌++◌, [], ◌∷◌, length, ap, ap₂, append-nil, append_assoc, sym, ◌∙◌, arith}
 use Rattle.std.specs.Prelude.{codes}
 use Rattle.std.specs.List.{concat}
 use Rattle.std.specs.Option.{option_map}
@@ -9,7 +9,7 @@ use Rattle.rh_defs.specs.Slot.{flex_start, heap_start}
 use Rattle.rh_figure.specs.Cards.{cards_from, flex_cards, heap_cards, shown_cards}
 use Rattle.rh_figure.specs.Phrases.{Text, size_text}
 use Rattle.rh_figure.specs.Share.{SlotOf}
-use Rattle.rh_sheet.specs.Areas.{pages_sentence, slot_frame}
+use Rattle.rh_sheet.specs.Areas.{pages_sentence}
 use Rattle.rh_sheet.specs.Cards.{cards_sentences}
 use Rattle.rh_sheet.specs.Markup.{escape, escaped_byte}
 use Rattle.rh_sheet.specs.Rows.{Plot}

@@ -1,10 +1,9 @@
-use Rattle.std.proofs.Common.{◌≡◌, ℕ, ◌+◌, List, length, ap, ap₂, sym, ◌∙◌, arith}
+use Rattle.std.proofs.Common.{◌≡◌, ℕ, ◌+◌, List, length, ap, ap₂, sym, ◌∙◌}
 use Rattle.std.specs.Prelude.{max, min}
 use Rattle.std.specs.Option.{option_map}
 use Rattle.rh_defs.specs.Desk.{Task}
 use Rattle.rh_defs.specs.Slot.{flex_start, heap_start}
 use Rattle.rh_figure.specs.Cards.{flex_cards, heap_card, heap_cards}
-use Rattle.rh_figure.specs.Phrases.{Text}
 use Rattle.rh_figure.specs.declared.piece.Piece.{Piece}
 use Rattle.rh_figure.specs.Share.{SlotOf, count_of}
 use Rattle.rh_sheet.specs.Areas.{rows_for}

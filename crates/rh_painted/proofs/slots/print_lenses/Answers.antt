@@ -1,4 +1,4 @@
-use Rattle.std.proofs.Common.{◌≡◌, ◌+◌, ◌++◌, length, ap, refl, sym, ◌∙◌, arith}
+use Rattle.std.proofs.Common.{◌≡◌, ◌+◌, length, ap, refl, sym, ◌∙◌, arith}
 use Rattle.rh_defs.specs.Heap.{base}
 use Rattle.rh_defs.specs.Slot.{flex_start, heap_start, slot_length}
 use Rattle.rh_figure.specs.Cards.{flex_cards, heap_card, heap_cards}

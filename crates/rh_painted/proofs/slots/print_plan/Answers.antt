@@ -1,4 +1,4 @@
-use Rattle.std.proofs.Common.{◌≡◌, ◌++◌, [], ap, ap₂, sym, ◌∙◌}
+use Rattle.std.proofs.Common.{◌++◌, [], ap, ap₂, ◌∙◌}
 use Rattle.std.specs.Prelude.{codes}
 use Rattle.rh_sheet.specs.Areas.{slot_body, slot_description, slot_frame}
 use Rattle.rh_sheet.specs.Frames.{frame_height}

@@ -1,4 +1,4 @@
-use Rattle.std.proofs.Common.{◌≡◌, ◌++◌, Bool, true, false, ap, append-nil, sym, ◌∙◌}
+use Rattle.std.proofs.Common.{◌≡◌, ◌++◌, Bool, true, false, ap, sym, ◌∙◌}
 use Rattle.rh_figure.specs.Figure.{is_drawn, slot_note}
 use Rattle.rh_figure.specs.Phrases.{where_so}
 use Rattle.rh_sheet.specs.Areas.{slot_figure}

@@ -1,5 +1,4 @@
 use Rattle.std.proofs.Common.{ap, refl, ◌∙◌}
-use Rattle.std.specs.List.{flat_map}
 use Rattle.rh_defs.specs.declared.listing.BlockItem.{BlockItem}
 use Rattle.rh_map.proofs.Left.{left_breaks, left_less, left_none}
 use Rattle.rh_sheet.specs.Areas.{tick_text, ticks_text}
