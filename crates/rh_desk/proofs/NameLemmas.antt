@@ -13,14 +13,14 @@ or-true true = refl
 or-true false = refl
 
 isn't-true : (b : Bool) → (b ≡ true → ⊥) → b ≡ false
-isn't-true true no = absurd (no refl)
-isn't-true false no = refl
+isn't-true true other = absurd (other refl)
+isn't-true false other = refl
 
 none-any : (xs : List ℕ) → ((k : ℕ) → k < length xs → is_slash (slice_index xs k) ≡ true → ⊥) → list_any is_slash xs ≡ false
-none-any [] no = refl
-none-any (x ∷ xs) no =
-    ap (λ b. b || list_any is_slash xs) (isn't-true (is_slash x) (λ e. no 0 (omega arith) e))
-    ∙ none-any xs (λ k less e. no (suc k) (omega arith) e)
+none-any [] other = refl
+none-any (x ∷ xs) other =
+    ap (λ b. b || list_any is_slash xs) (isn't-true (is_slash x) (λ e. other 0 (omega arith) e))
+    ∙ none-any xs (λ k less e. other (suc k) (omega arith) e)
 
 some-any : (xs : List ℕ) (k : ℕ) → k < length xs → is_slash (slice_index xs k) ≡ true → list_any is_slash xs ≡ true
 some-any [] k less e = absurd (omega arith)
@@ -35,17 +35,17 @@ part-of x xs more here = if more then last_part xs else if here then xs else x �
 pub behind-last : (xs : List ℕ) (at : ℕ) → at < length xs → is_slash (slice_index xs at) ≡ true
     → ((k : ℕ) → at + 1 ≤ k → k < length xs → is_slash (slice_index xs k) ≡ true → ⊥) → drop (at + 1) xs ≡ last_part xs
 unfolding part-of
-behind-last [] at less e no = absurd (omega arith)
-behind-last (x ∷ xs) zero less e no =
-    sym (ap (λ b. part-of x xs b (is_slash x)) (none-any xs (λ k l q. no (suc k) (omega arith) (omega arith) q)) ∙ ap (part-of x xs false) e)
-behind-last (x ∷ xs) (suc k) less e no =
-    behind-last xs k (omega arith) e (λ j a b q. no (suc j) (omega arith) (omega arith) q)
+behind-last [] at less e other = absurd (omega arith)
+behind-last (x ∷ xs) zero less e other =
+    sym (ap (λ b. part-of x xs b (is_slash x)) (none-any xs (λ k l q. other (suc k) (omega arith) (omega arith) q)) ∙ ap (part-of x xs false) e)
+behind-last (x ∷ xs) (suc k) less e other =
+    behind-last xs k (omega arith) e (λ j a b q. other (suc j) (omega arith) (omega arith) q)
     ∙ sym (ap (λ b. part-of x xs b (is_slash x)) (some-any xs k (omega arith) e))
 
 -- all of it, where there is none
 pub whole-path : (xs : List ℕ) → ((k : ℕ) → 0 ≤ k → k < length xs → is_slash (slice_index xs k) ≡ true → ⊥) → xs ≡ last_part xs
 unfolding part-of
-whole-path [] no = refl
-whole-path (x ∷ xs) no =
-    sym (ap (λ b. part-of x xs b (is_slash x)) (none-any xs (λ k l q. no (suc k) (omega arith) (omega arith) q))
-    ∙ ap (part-of x xs false) (isn't-true (is_slash x) (λ e. no 0 (omega arith) (omega arith) e)))
+whole-path [] other = refl
+whole-path (x ∷ xs) other =
+    sym (ap (λ b. part-of x xs b (is_slash x)) (none-any xs (λ k l q. other (suc k) (omega arith) (omega arith) q))
+    ∙ ap (part-of x xs false) (isn't-true (is_slash x) (λ e. other 0 (omega arith) (omega arith) e)))

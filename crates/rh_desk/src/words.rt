@@ -167,7 +167,7 @@ fn sheet_name(script: &str) -> &[u8]
     }
     let path = script.as_bytes();
     match memrchr(b'/', path) {
-        Some(at) => &path[at..][1..],
+        Some(at) => &path[at + 1..],
         None => path,
     }
 }

@@ -9,4 +9,4 @@ returns-then-eq c =
 pub returns-then-eq-2 : goal.returns-then-eq-2
 returns-then-eq-2 c =
     let is : c.args.name.now ≡ codes "draw" = search rules in
-    (is, c.is_marked-2.ensures)
+    (is, c.is_marked-then-eq-2.ensures)
