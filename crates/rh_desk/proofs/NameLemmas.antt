@@ -39,7 +39,9 @@ behind-last [] at less e other = absurd (omega arith)
 behind-last (x ∷ xs) zero less e other =
     sym (ap (λ b. part-of x xs b (is_slash x)) (none-any xs (λ k l q. other (suc k) (omega arith) (omega arith) q)) ∙ ap (part-of x xs false) e)
 behind-last (x ∷ xs) (suc k) less e other =
-    behind-last xs k (omega arith) e (λ j a b q. other (suc j) (omega arith) (omega arith) q)
+    let next : suc k + 1 ≡ suc (k + 1) = omega arith in
+    ap (λ n. drop n (x ∷ xs)) next
+    ∙ behind-last xs k (omega arith) e (λ j a b q. other (suc j) (omega arith) (omega arith) q)
     ∙ sym (ap (λ b. part-of x xs b (is_slash x)) (some-any xs k (omega arith) e))
 
 -- all of it, where there is none
