@@ -82,7 +82,8 @@ module _ (line : Text) (long : 1024 < length line) where
       ap (λ text. where_so (is_shown marked x x.place.wanted) (opening x ++ text))
       (step-kept (h.still && not x.place.wanted) (x.place.steps + 1) h.reply h.scene (noted (x.place.steps + 1) h.scene x.notes) x.last)
 
-same-long : (means : Text → Meaning (Option Command)) (line : Text) → 1024 < length line → means (kept line) ≡ means line → means line ≡ Err TooLong → SameRead means line
+same-long : (means : Text → Meaning (Option Command)) (line : Text) → 1024 < length line → means (kept line) ≡ means line → means line ≡ Err TooLong
+    → SameRead means line
 same-long means line long same is = record {
   text = λ marked s x.
       ap (λ m. read_text marked s x (kept line, m)) (same ∙ is)

@@ -125,7 +125,8 @@ same-pool desk d alike first = ap (λ z. (desk z).pool) first.drawn_is ∙ ap (�
 
 module _ {D : Type 0} {desk : D → Desk} {marked : Bool} {d : Desk} (name : Text) where
   -- of some lines, and the rest of the sheet
-  sheet-of : {reads : List Read} {bad : Bool} {taker : Painter D} {o q : Output} (p : PaintedAll desk marked (walk_from d) reads bad taker o q) (rest : List ℕ) {stages : List Stage}
+  sheet-of : {reads : List Read} {bad : Bool} {taker : Painter D} {o q : Output} (p : PaintedAll desk marked (walk_from d) reads bad taker o q)
+      (rest : List ℕ) {stages : List Stage}
       (w : WholeRest marked (walk_behind marked (walk_from d) p.stages) rest stages)
       → IsSheet marked name d (reads ++ read_rest rest)
       (sheet_head name d.pool ++ (front_lines marked (walk_from d) p.stages ++ sheet_lines marked (walk_behind marked (walk_from d) p.stages) stages))
@@ -144,7 +145,8 @@ module _ {D : Type 0} {desk : D → Desk} {marked : Bool} {d : Desk} (name : Tex
       → IsSheetFront marked name d reads (sheet_head name d.pool ++ front_lines marked (walk_from d) p.stages)
   front-of p = record { stages = p.stages; lines = p.lines; shared = p.shared; is = refl }
 
-module _ {D : Type 0} {desk : D → Desk} {marked : Bool} {d : Desk} {s : Painter D} (name : Text) (is : Stands desk marked (walk_from d) s) {before after : Input} {old head new : Output}
+module _ {D : Type 0} {desk : D → Desk} {marked : Bool} {d : Desk} {s : Painter D} (name : Text) (is : Stands desk marked
+    (walk_from d) s) {before after : Input} {old head new : Output}
     (begun : Takes old head (sheet_head name d.pool)) where
   pub painted : {t : Painter D} (status : Status) → s.has_bad_line ≡ false
       → FedAll (TookLine desk) (TookRest desk) before after s t head new → status ≡ status_of t.has_bad_line

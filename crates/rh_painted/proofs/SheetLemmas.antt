@@ -88,7 +88,8 @@ painted-none {m = m} o is = record {
   bad_is = sym (or-false m.has_bad_line);
 }
 
-painted-more : {D : Type 0} {desk : D → Desk} {marked : Bool} {x : Walk} {m n l : Painter D} {o q u : Output} (line : Text) (meaning : Meaning (Option Command)) (reads : List Read)
+painted-more : {D : Type 0} {desk : D → Desk} {marked : Bool} {x : Walk} {m n l : Painter D} {o q u : Output} (line : Text) (meaning : Meaning
+    (Option Command)) (reads : List Read)
     → Stands desk marked x m → (here : Painted desk m o line meaning n q)
     → PaintedAll desk marked (behind_read marked here.share x (line, meaning)) reads n.has_bad_line l q u
     → PaintedAll desk marked x ((line, meaning) ∷ reads) m.has_bad_line l o u
@@ -101,7 +102,8 @@ painted-more {marked = marked} {x = x} {m = m} line meaning reads is here rest =
       shared = (shared-there is here.share r here.shared, subst P (place-behind marked here.share x r) rest.shared);
       written = takes_more (takes-there is here.share r here.written) rest.written;
       stands = rest.stands;
-      bad_is = rest.bad_is ∙ (ap (λ b. b || list_any is_bad_read reads) here.follows.bad ∙ either-first m.has_bad_line (is_err meaning) (list_any is_bad_read reads));
+      bad_is = rest.bad_is ∙ (ap (λ b. b || list_any is_bad_read reads) here.follows.bad
+          ∙ either-first m.has_bad_line (is_err meaning) (list_any is_bad_read reads));
     }
 
 -- all lines that were taken, as far as they are kept
@@ -123,7 +125,8 @@ whole_stages [] stages = []
 whole_stages (l ∷ ls) [] = []
 whole_stages (l ∷ ls) ((r, s) ∷ stages) = (read_line l, s) ∷ whole_stages ls stages
 
-pub stage-is : (r q : Read) (s : Share) (stages : List Stage) (reads : List Read) → map read_of ((r, s) ∷ stages) ≡ q ∷ reads → (r ≡ q) × (map read_of stages ≡ reads)
+pub stage-is : (r q : Read) (s : Share) (stages : List Stage) (reads : List Read) → map read_of ((r, s) ∷ stages) ≡ q ∷ reads
+    → (r ≡ q) × (map read_of stages ≡ reads)
 stage-is r q s stages reads e = (ap first_read e, ap rest_reads e)
   where
     first_read : List Read → Read

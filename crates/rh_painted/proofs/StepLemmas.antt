@@ -81,7 +81,8 @@ module _ (d e : Desk) (p : Stand) (notes : List Note) (h : Happened) where
       ap (λ opened. record (walk_at e (stand_behind false h.still p) (noted (p.steps + 1) h.scene notes)) { opened = opened }) (and-on p.opened)
       ∙ ap₂ (λ n w. at_desk e (record (behind_step false (walk_at d p notes) r h) { place = place e n w })) (sym steps) (sym wanted)
 
-  behind-stand : (shown : Bool) (r : Read) → (after_read (place d p.steps p.wanted) r).steps ≡ p.steps + 1 → (after_read (place d p.steps p.wanted) r).wanted ≡ false
+  behind-stand : (shown : Bool) (r : Read) → (after_read (place d p.steps p.wanted) r).steps ≡ p.steps + 1
+      → (after_read (place d p.steps p.wanted) r).wanted ≡ false
       → walk_at e (stand_behind shown h.still p) (noted (p.steps + 1) h.scene notes) ≡ at_desk e (behind_step shown (walk_at d p notes) r h)
   behind-stand true r steps wanted = as-shown r steps wanted
   behind-stand false r steps wanted = as-left r steps wanted
@@ -147,7 +148,8 @@ module _ {D E : Type 0} (desk : D → Desk) (m b n : Painter D) (o p : Output) (
         record { share = took.share; shared = shared; broken = subst B whole broken }) took.err
 
   -- what a command did, by a desk and a reply that show what those of the command do
-  module _ (c : Command) (reply : Reply) (kept : Before) (moved : IsReordered (step (desk m.drawn) c).0 (desk b.drawn)) (like : IsLikeReply (desk m.drawn) c reply)
+  module _ (c : Command) (reply : Reply) (kept : Before) (moved : IsReordered (step (desk m.drawn) c).0 (desk b.drawn)) (like : IsLikeReply
+      (desk m.drawn) c reply)
       (kept-is : kept ≡ before_of (desk m.drawn) (Some c)) where
     same-command : (s : Share) → happened_at (desk b.drawn) s kept (Some c) reply (reply_to (desk m.drawn) c)
         ≡ command_happened s c (before_of (desk m.drawn) (Some c)) (step (desk m.drawn) c)
@@ -174,10 +176,12 @@ module _ {D E : Type 0} (desk : D → Desk) (m b n : Painter D) (o p : Output) (
 
     module _ (took : TookStep desk b o p r line (λ s. happened_at (desk b.drawn) s kept None Done (fault_text fault)) n) where
       pub took-fault : OnOk r (Painted desk m o line (Err fault) n p)
-      took-fault = took-line (Err fault) _ _ same-fault refl refl (reordered-as desk m.drawn b.drawn stays) (bad ∙ or-on m.has_bad_line) (λ s. refl) (λ s. refl) took
+      took-fault = took-line (Err fault) _ _ same-fault refl refl (reordered-as desk m.drawn b.drawn stays) (bad
+          ∙ or-on m.has_bad_line) (λ s. refl) (λ s. refl) took
 
       pub broke-fault : OnErr r (Broke desk m o line (Err fault) p)
-      broke-fault = broke-line (Err fault) _ _ same-fault refl refl (reordered-as desk m.drawn b.drawn stays) (bad ∙ or-on m.has_bad_line) (λ s. refl) (λ s. refl) took
+      broke-fault = broke-line (Err fault) _ _ same-fault refl refl (reordered-as desk m.drawn b.drawn stays) (bad
+          ∙ or-on m.has_bad_line) (λ s. refl) (λ s. refl) took
 
 -- ---- a line that is skipped
 
@@ -189,7 +193,8 @@ module _ {D : Type 0} (desk : D → Desk) (m n : Painter D) (o : Output) (line :
   skipped-behind opened progress opened-is s = record {
     desk_is = reordered-as desk m.drawn n.drawn drawn;
     walk_is =
-        ap₂ (λ q ns. walk_at (desk n.drawn) q ns) (progress ∙ ap (λ b. record m.progress { wanted = m.progress.wanted || is_mark line; opened = b }) opened-is) notes;
+        ap₂ (λ q ns. walk_at (desk n.drawn) q ns) (progress ∙ ap (λ b. record m.progress { wanted = m.progress.wanted || is_mark line; opened = b })
+        opened-is) notes;
     marked_is = marked;
     bad = bad ∙ or-off m.has_bad_line;
   }
@@ -207,9 +212,11 @@ module _ {D : Type 0} (desk : D → Desk) (m n : Painter D) (o : Output) (line :
       }
 
   -- it is, or the writer failed
-  module _ {E : Type 0} (p : Output) (r : Result Unit E) (test : is_shown_remark m.marked (walk_in desk m) line ≡ true) (s : Share) (shared : IsShared s (desk m.drawn))
+  module _ {E : Type 0} (p : Output) (r : Result Unit E) (test : is_shown_remark m.marked (walk_in desk m) line ≡ true) (s : Share) (shared : IsShared s
+      (desk m.drawn))
       (puts : Puts o p r (opening (walk_in desk m) ++ remark_text line)) where
-    shown-text : opening (walk_in desk m) ++ remark_text line ≡ where_so (is_shown_remark m.marked (walk_in desk m) line) (opening (walk_in desk m) ++ remark_text line)
+    shown-text : opening (walk_in desk m) ++ remark_text line ≡ where_so (is_shown_remark m.marked (walk_in desk m) line) (opening
+        (walk_in desk m) ++ remark_text line)
     shown-text = sym (ap (λ b. where_so b (opening (walk_in desk m) ++ remark_text line)) test)
 
     pub skip-shown : n.progress ≡ record m.progress { wanted = m.progress.wanted || is_mark line; opened = true } → OnOk r (Painted desk m o line (Ok None) n p)
@@ -250,7 +257,8 @@ module _ {D E : Type 0} (desk : D → Desk) (m b n : Painter D) (o p : Output) (
       ∙ ap (λ v. opening (walk_in desk m) ++ step_text ((happened s).still && not v) (m.progress.steps + 1) line (happened s).reply (happened s).scene
       (noted (m.progress.steps + 1) (happened s).scene m.notes.items) m.progress.last) wanted
 
-  pub took-shown : (nat_lt b.progress.shown MOST_STEPS && (not b.marked || w)) ≡ true → WroteStep desk b o p r line w happened n → TookStep desk m o p r line happened n
+  pub took-shown : (nat_lt b.progress.shown MOST_STEPS && (not b.marked || w)) ≡ true → WroteStep desk b o p r line w happened n
+      → TookStep desk m o p r line happened n
   took-shown test wrote =
       let s = wrote.share in
       let h = happened s in

@@ -58,7 +58,8 @@ module _ {D : Type 0} {desk : D → Desk} {m n : Painter D} {o p : Output} where
         };
       }
 
-broke-kept : {D : Type 0} {desk : D → Desk} {m : Painter D} {o p : Output} (line : Text) → Broke desk m o line (line_means line) p → BrokeLine desk m o (kept line) p
+broke-kept : {D : Type 0} {desk : D → Desk} {m : Painter D} {o p : Output} (line : Text) → Broke desk m o line (line_means line) p
+    → BrokeLine desk m o (kept line) p
 broke-kept {D} {desk} {m} {o} {p} line broke =
     let same = same-line line in
     let B : Text → Type 0 = λ z. Breaks o p z in
@@ -69,7 +70,8 @@ broke-kept {D} {desk} {m} {o} {p} line broke =
     }
 
 -- the same by what was found of the line
-module _ {D E : Type 0} (desk : D → Desk) (m : Painter D) (o p : Output) (r : Result Unit E) (line : Text) (found : Meaning (Option Command)) (means : found ≡ line_means line) where
+module _ {D E : Type 0} (desk : D → Desk) (m : Painter D) (o p : Output) (r : Result Unit E) (line : Text) (found : Meaning (Option Command))
+    (means : found ≡ line_means line) where
   pub line-took : (n : Painter D) → OnOk r (Painted desk m o line found n p) → OnOk r (TookLine desk m o (kept line) n p)
   line-took n =
       let P : Meaning (Option Command) → Type 0 = λ z. Painted desk m o line z n p in
@@ -109,7 +111,8 @@ one-read [] some = absurd (cc)
 one-read (b ∷ bs) some = ap (λ l. (l, rest_means l) ∷ []) (kept_some b bs) ∙ sym (ap read_rest (kept_some b bs))
 
 -- something does
-module _ {D : Type 0} (desk : D → Desk) (m : Painter D) (o : Output) (rest : Text) (some : false ≡ (length rest == 0)) (fault : LineFault) (means : rest_means rest ≡ Err fault) where
+module _ {D : Type 0} (desk : D → Desk) (m : Painter D) (o : Output) (rest : Text) (some : false ≡ (length rest == 0)) (fault : LineFault)
+    (means : rest_means rest ≡ Err fault) where
   abbrev read-kept : Read
   read-kept = (kept rest, rest_means (kept rest))
 
@@ -121,7 +124,8 @@ module _ {D : Type 0} (desk : D → Desk) (m : Painter D) (o : Output) (rest : T
       ap (λ z. read_text m.marked s x (rest, z) ++ sheet_end (behind_read m.marked s x (rest, z))) (sym means)
       ∙ ap₂ (λ t w. t ++ sheet_end w) (sym (same.text m.marked s x)) (sym (same.behind m.marked s x))
 
-  shared-rest : (s : Share) → IsShared s (after_read (walk_in desk m).place (rest, Err fault)).desk → IsShared s (after_read (walk_in desk m).place read-kept).desk
+  shared-rest : (s : Share) → IsShared s (after_read (walk_in desk m).place (rest, Err fault)).desk
+      → IsShared s (after_read (walk_in desk m).place read-kept).desk
   shared-rest s shared =
       let P : Meaning (Option Command) → Type 0 = λ z. IsShared s (after_read (walk_in desk m).place (rest, z)).desk in
       shared-kept desk m rest_means rest (same-rest rest) s (subst P (sym means) shared)
@@ -138,7 +142,8 @@ module _ {D : Type 0} (desk : D → Desk) (m : Painter D) (o : Output) (rest : T
         broken = subst B (end-kept broke.share) (breaks_before (sheet_end (behind_read m.marked broke.share x (rest, Err fault))) broke.broken);
       }
 
-  module _ {E : Type 0} (n : Painter D) (q p : Output) (r : Result Unit E) (painted : Painted desk m o rest (Err fault) n q) (puts : Puts q p r (sheet_end (walk_in desk n))) where
+  module _ {E : Type 0} (n : Painter D) (q p : Output) (r : Result Unit E) (painted : Painted desk m o rest (Err fault) n q) (puts : Puts q p r (sheet_end
+      (walk_in desk n))) where
     end-is : sheet_end (walk_in desk n) ≡ sheet_end (behind_read m.marked painted.share (walk_in desk m) (rest, Err fault))
     end-is = ap sheet_end painted.follows.walk_is
 

@@ -68,7 +68,8 @@ impl<D: Drawn> Painter<D> {
 
     /// Writes the beginning of the sheet, with the name of its script.
     pub fn begin<W: Sink>(&mut self, name: &[u8], writer: &mut W) -> Result<(), WriteFailed>
-        ensures text { Puts (W.output writer.old) (W.output writer.new) result (sheet_head name.now (D.desk self.old.drawn).pool) }
+        ensures text { Puts (W.output writer.old) (W.output writer.new) result (sheet_head name.now
+            (D.desk self.old.drawn).pool) }
         ensures rest { self.new ≡ record self.old { pages = self.new.pages } }
     {
         self.drawn.page_list(&mut self.pages);
@@ -77,8 +78,10 @@ impl<D: Drawn> Painter<D> {
 
     /// Shows a line that asks for nothing, and notes whether it marks the next command.
     fn skip<W: Sink>(&mut self, line: &[u8], writer: &mut W) -> Result<(), WriteFailed>
-        ensures ok { OnOk result (Painted D.desk self.old (W.output writer.old) line.now (Ok None) self.new (W.output writer.new)) }
-        ensures err { OnErr result (Broke D.desk self.old (W.output writer.old) line.now (Ok None) (W.output writer.new)) }
+        ensures ok { OnOk result (Painted D.desk self.old (W.output writer.old) line.now (Ok None) self.new
+            (W.output writer.new)) }
+        ensures err { OnErr result (Broke D.desk self.old (W.output writer.old) line.now (Ok None)
+            (W.output writer.new)) }
         ensures steps { self.new.progress.steps ≡ self.old.progress.steps }
     {
         self.drawn.spelled();
@@ -94,7 +97,8 @@ impl<D: Drawn> Painter<D> {
 
     /// Whether a line that asks for nothing is shown: it has words, and the next command would be shown.
     fn shows(&self, line: &[u8], wanted: bool) -> bool
-        ensures value { result ≡ (not (length (words_of line.now) == 0) && (nat_lt self.now.progress.shown MOST_STEPS && (not self.now.marked || wanted))) }
+        ensures value { result ≡ (not (length (words_of line.now) == 0) &&
+            (nat_lt self.now.progress.shown MOST_STEPS && (not self.now.marked || wanted))) }
         ensures room { OnTrue result (self.now.progress.shown < MOST_STEPS) }
     {
         has_words(line) && self.progress.is_shown(self.marked, wanted)
@@ -109,8 +113,10 @@ impl<D: Drawn> Painter<D> {
     ) -> Result<(), WriteFailed>
         requires in_range { IsTrue (in_range command.now) }
         requires room { self.old.progress.steps + 1 < 2 ^ 32 }
-        ensures ok { OnOk result (Painted D.desk self.old (W.output writer.old) line.now (Ok (Some command.now)) self.new (W.output writer.new)) }
-        ensures err { OnErr result (Broke D.desk self.old (W.output writer.old) line.now (Ok (Some command.now)) (W.output writer.new)) }
+        ensures ok { OnOk result (Painted D.desk self.old (W.output writer.old) line.now (Ok
+            (Some command.now)) self.new (W.output writer.new)) }
+        ensures err { OnErr result (Broke D.desk self.old (W.output writer.old) line.now (Ok (Some command.now))
+            (W.output writer.new)) }
         ensures steps { self.new.progress.steps ≡ self.old.progress.steps + 1 }
     {
         self.drawn.messages(&mut self.messages);
@@ -134,8 +140,10 @@ impl<D: Drawn> Painter<D> {
         writer: &mut W,
     ) -> Result<(), WriteFailed>
         requires room { self.old.progress.steps + 1 < 2 ^ 32 }
-        ensures ok { OnOk result (Painted D.desk self.old (W.output writer.old) line.now (Err fault.now) self.new (W.output writer.new)) }
-        ensures err { OnErr result (Broke D.desk self.old (W.output writer.old) line.now (Err fault.now) (W.output writer.new)) }
+        ensures ok { OnOk result (Painted D.desk self.old (W.output writer.old) line.now (Err fault.now) self.new
+            (W.output writer.new)) }
+        ensures err { OnErr result (Broke D.desk self.old (W.output writer.old) line.now (Err fault.now)
+            (W.output writer.new)) }
         ensures steps { self.new.progress.steps ≡ self.old.progress.steps + 1 }
     {
         self.has_bad_line = true;
@@ -163,8 +171,10 @@ impl<D: Drawn> Painter<D> {
     ) -> Result<(), WriteFailed>
         requires room { self.old.progress.steps + 1 < 2 ^ 32 }
         requires wanted { deed.wanted ≡ self.old.progress.wanted }
-        ensures text { (text : List ℕ) → Excerpts self.old.front.bytes deed.entry.count text → TookStep D.desk self.old (W.output writer.old) (W.output writer.new) result line.now
-            (λ s. happened_at (D.desk self.old.drawn) s deed.entry.kept.now (option_map (λ c. c.now) deed.entry.command) deed.entry.reply.now text) self.new }
+        ensures text { (text : List ℕ) → Excerpts self.old.front.bytes deed.entry.count text →
+            TookStep D.desk self.old (W.output writer.old) (W.output writer.new) result line.now
+            (λ s. happened_at (D.desk self.old.drawn) s deed.entry.kept.now (option_map
+            (λ c. c.now) deed.entry.command) deed.entry.reply.now text) self.new }
         ensures steps { self.new.progress.steps ≡ self.old.progress.steps + 1 }
     {
         self.progress.begin_step();
@@ -204,8 +214,10 @@ impl<D: Drawn> Painter<D> {
     ) -> Result<(), WriteFailed>
         requires room { self.old.progress.shown < MOST_STEPS }
         requires messages { self.old.messages.items ≡ message_items (D.desk self.old.drawn) }
-        ensures text { (text : List ℕ) → Excerpts self.old.front.bytes deed.entry.count text → WroteStep D.desk self.old (W.output writer.old) (W.output writer.new) result line.now deed.entry.wanted
-            (λ s. happened_at (D.desk self.old.drawn) s deed.entry.kept.now (option_map (λ c. c.now) deed.entry.command) deed.entry.reply.now text) self.new }
+        ensures text { (text : List ℕ) → Excerpts self.old.front.bytes deed.entry.count text →
+            WroteStep D.desk self.old (W.output writer.old) (W.output writer.new) result line.now deed.entry.wanted
+            (λ s. happened_at (D.desk self.old.drawn) s deed.entry.kept.now (option_map
+            (λ c. c.now) deed.entry.command) deed.entry.reply.now text) self.new }
         ensures steps { self.new.progress.steps ≡ self.old.progress.steps }
     {
         self.drawn.page_list(&mut self.pages);

@@ -26,19 +26,29 @@ pub fn paint_script<D: Drawn, R: Source, W: Sink>(
     requires { (R.input reader.old).reads ≡ 0 }
 
     // The whole script was read, and its sheet was written.
-    ensures ok { IfOk result (λ status. (d : Desk) → D.spells drawn d → Painted marked name.now d (R.input reader.old) (R.input reader.new) (W.output writer.old) (W.output writer.new) status) }
+    ensures ok { IfOk result (λ status. (d : Desk) → D.spells drawn d →
+        Painted marked name.now d (R.input reader.old) (R.input reader.new) (W.output writer.old)
+        (W.output writer.new) status) }
 
     // Nothing was read or written.
-    ensures no_memory { IsErrOf result RunFault.NoMemory → (R.input reader.new ≡ R.input reader.old) × (W.output writer.new ≡ W.output writer.old) }
+    ensures no_memory { IsErrOf result RunFault.NoMemory →
+        (R.input reader.new ≡ R.input reader.old) × (W.output writer.new ≡ W.output writer.old) }
 
     // The sheet of the complete lines that were read has been written, without its end.
     ensures read_failed { IsErrOf result RunFault.ReadFailed → (R.input reader.new).failed ≡ true }
-    ensures read_painted { IsErrOf result RunFault.ReadFailed → (d : Desk) → D.spells drawn d → PaintedSoFar marked name.now d (R.input reader.old) (R.input reader.new) (W.output writer.old) (W.output writer.new) }
-    ensures too_long { IsErrOf result RunFault.TooLong → ((R.input reader.new).reads ≡ too_many_reads) × ((R.input reader.new).failed ≡ (R.input reader.old).failed) }
-    ensures long_painted { IsErrOf result RunFault.TooLong → (d : Desk) → D.spells drawn d → PaintedSoFar marked name.now d (R.input reader.old) (R.input reader.new) (W.output writer.old) (W.output writer.new) }
+    ensures read_painted { IsErrOf result RunFault.ReadFailed → (d : Desk) → D.spells drawn d →
+        PaintedSoFar marked name.now d (R.input reader.old) (R.input reader.new) (W.output writer.old)
+        (W.output writer.new) }
+    ensures too_long { IsErrOf result RunFault.TooLong →
+        ((R.input reader.new).reads ≡ too_many_reads) × ((R.input reader.new).failed ≡ (R.input reader.old).failed) }
+    ensures long_painted { IsErrOf result RunFault.TooLong → (d : Desk) → D.spells drawn d →
+        PaintedSoFar marked name.now d (R.input reader.old) (R.input reader.new) (W.output writer.old)
+        (W.output writer.new) }
 
     // The writer failed, and took a front of the sheet of some lines.
-    ensures write_failed { IsErrOf result RunFault.WriteFailed → (d : Desk) → D.spells drawn d → PaintedUntil marked name.now d (R.input reader.old) (R.input reader.new) (W.output writer.old) (W.output writer.new) }
+    ensures write_failed { IsErrOf result RunFault.WriteFailed → (d : Desk) → D.spells drawn d →
+        PaintedUntil marked name.now d (R.input reader.old) (R.input reader.new) (W.output writer.old)
+        (W.output writer.new) }
 
     // However it ends, at most so many reads gave bytes.
     ensures reads { (R.input reader.new).reads ≤ too_many_reads }

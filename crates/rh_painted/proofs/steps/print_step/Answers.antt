@@ -11,7 +11,8 @@ pub returns-in_err-print_said : goal.returns-in_err-print_said
 returns-in_err-print_said g c = λ reply front.
     let x = scene_at (g.S.Sight.desk c.args.sight.now) c.args.step.now in
     let a = c.args.above.now in
-    puts_same (step-as a.number a.line.now reply x c.args.notes.now.items c.args.last refl) (puts-stop (behind_said a.number x c.args.notes.now.items c.args.last a.is_still) (c.in_err-print_said.ensures reply front) c.from_residual.ensures.0)
+    puts_same (step-as a.number a.line.now reply x c.args.notes.now.items c.args.last refl) (puts-stop
+    (behind_said a.number x c.args.notes.now.items c.args.last a.is_still) (c.in_err-print_said.ensures reply front) c.from_residual.ensures.0)
 
 pub returns-in_err-print_still : goal.returns-in_err-print_still
 returns-in_err-print_still g c = λ reply front.

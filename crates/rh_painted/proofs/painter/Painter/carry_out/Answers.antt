@@ -9,7 +9,8 @@ returns-clause-ok g c =
     let m = c.args.self.now in
     let b = record m { drawn = c.answer-reply.new.drawn; messages = c.messages.new.list; front = c.answer-reply.new.front } in
     took-command desk m b c.take_step.new.self (g.W.Sink.output c.args.writer.now) (g.W.Sink.output c.take_step.new.writer) c.take_step.result c.args.line.now
-    (record { marked = refl; progress = refl; notes = refl }) c.args.command.now _ _ c.answer-reply.ensures.desk c.answer-reply.ensures.reply c.new-kept.ensures refl
+    (record { marked = refl; progress = refl; notes = refl }) c.args.command.now _ _ c.answer-reply.ensures.desk c.answer-reply.ensures.reply
+    c.new-kept.ensures refl
     (c.take_step.ensures.text (reply_to (desk m.drawn) c.args.command.now) c.answer-reply.ensures.excerpt)
 
 pub returns-clause-err : goal.returns-clause-err
@@ -18,5 +19,6 @@ returns-clause-err g c =
     let m = c.args.self.now in
     let b = record m { drawn = c.answer-reply.new.drawn; messages = c.messages.new.list; front = c.answer-reply.new.front } in
     broke-command desk m b c.take_step.new.self (g.W.Sink.output c.args.writer.now) (g.W.Sink.output c.take_step.new.writer) c.take_step.result c.args.line.now
-    (record { marked = refl; progress = refl; notes = refl }) c.args.command.now _ _ c.answer-reply.ensures.desk c.answer-reply.ensures.reply c.new-kept.ensures refl
+    (record { marked = refl; progress = refl; notes = refl }) c.args.command.now _ _ c.answer-reply.ensures.desk c.answer-reply.ensures.reply
+    c.new-kept.ensures refl
     (c.take_step.ensures.text (reply_to (desk m.drawn) c.args.command.now) c.answer-reply.ensures.excerpt)

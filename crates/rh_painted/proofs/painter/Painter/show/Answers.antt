@@ -19,7 +19,8 @@ returns-in_err-open_step-clause-text g c = λ text excerpt.
     let desk = g.D.Sight.desk in
     let m = c.args.self.now in
     let deed = c.args.deed in
-    let h = happened_at (desk m.drawn) (share_in c.page_list.new.list.items (desk m.drawn)) deed.kept.now (option_map (λ z. z.now) deed.command) deed.reply.now text in
+    let h = happened_at (desk m.drawn) (share_in c.page_list.new.list.items (desk m.drawn)) deed.kept.now (option_map
+    (λ z. z.now) deed.command) deed.reply.now text in
     record {
       share = share_in c.page_list.new.list.items (desk m.drawn);
       shared = c.page_list.ensures.shared;
@@ -46,7 +47,8 @@ returns-in_err-print_step-clause-text g c = λ text excerpt.
       share = share_in c.page_list.new.list.items d;
       shared = c.page_list.ensures.shared;
       puts = puts-then c.in_ok-open_step.ensures
-          (puts_stops c.from_residual-in_err-print_step.result (puts_same words (c.in_err-print_step.ensures text (subst P (sym c.as_slice.ensures.value) excerpt)))
+          (puts_stops c.from_residual-in_err-print_step.result (puts_same words (c.in_err-print_step.ensures text (subst P
+          (sym c.as_slice.ensures.value) excerpt)))
           c.from_residual-in_err-print_step.ensures.0);
       next = err-comes _ c.from_residual-in_err-print_step.result c.from_residual-in_err-print_step.ensures.0;
     }

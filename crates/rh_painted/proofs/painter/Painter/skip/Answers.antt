@@ -19,7 +19,8 @@ returns-in_err-open_step-clause-err g c =
     let line = c.args.line.now in
     let desk = g.D.Sight.desk in
     let w-is : c.is_wanted-wanted.result ≡ (m.progress.wanted || is_mark line) = c.is_wanted-wanted.ensures ∙ ap (λ b. b || is_mark line) c.wanted.ensures in
-    let progress : c.want.new.self ≡ record m.progress { wanted = m.progress.wanted || is_mark line } = c.want.ensures ∙ ap (λ w. record m.progress { wanted = w }) w-is in
+    let progress : c.want.new.self ≡ record m.progress { wanted = m.progress.wanted || is_mark line } = c.want.ensures
+    ∙ ap (λ w. record m.progress { wanted = w }) w-is in
     let test : is_shown_remark m.marked (walk_in desk m) line ≡ true =
     sym (c.shows.ensures.value ∙ ap₂ (λ (p : Stand) w. not (length (words_of line) == 0) && (nat_lt p.shown MOST_STEPS && (not m.marked || w))) progress w-is)
     ∙ c.if-shows.true in
@@ -34,7 +35,8 @@ returns-then-shows-clause-ok g c =
     let line = c.args.line.now in
     let desk = g.D.Sight.desk in
     let w-is : c.is_wanted-wanted.result ≡ (m.progress.wanted || is_mark line) = c.is_wanted-wanted.ensures ∙ ap (λ b. b || is_mark line) c.wanted.ensures in
-    let progress : c.want.new.self ≡ record m.progress { wanted = m.progress.wanted || is_mark line } = c.want.ensures ∙ ap (λ w. record m.progress { wanted = w }) w-is in
+    let progress : c.want.new.self ≡ record m.progress { wanted = m.progress.wanted || is_mark line } = c.want.ensures
+    ∙ ap (λ w. record m.progress { wanted = w }) w-is in
     let test : is_shown_remark m.marked (walk_in desk m) line ≡ true =
     sym (c.shows.ensures.value ∙ ap₂ (λ (p : Stand) w. not (length (words_of line) == 0) && (nat_lt p.shown MOST_STEPS && (not m.marked || w))) progress w-is)
     ∙ c.if-shows.true in
@@ -49,7 +51,8 @@ returns-then-shows-clause-err g c =
     let line = c.args.line.now in
     let desk = g.D.Sight.desk in
     let w-is : c.is_wanted-wanted.result ≡ (m.progress.wanted || is_mark line) = c.is_wanted-wanted.ensures ∙ ap (λ b. b || is_mark line) c.wanted.ensures in
-    let progress : c.want.new.self ≡ record m.progress { wanted = m.progress.wanted || is_mark line } = c.want.ensures ∙ ap (λ w. record m.progress { wanted = w }) w-is in
+    let progress : c.want.new.self ≡ record m.progress { wanted = m.progress.wanted || is_mark line } = c.want.ensures
+    ∙ ap (λ w. record m.progress { wanted = w }) w-is in
     let test : is_shown_remark m.marked (walk_in desk m) line ≡ true =
     sym (c.shows.ensures.value ∙ ap₂ (λ (p : Stand) w. not (length (words_of line) == 0) && (nat_lt p.shown MOST_STEPS && (not m.marked || w))) progress w-is)
     ∙ c.if-shows.true in
@@ -64,7 +67,8 @@ returns-clause-ok g c =
     let line = c.args.line.now in
     let desk = g.D.Sight.desk in
     let w-is : c.is_wanted-wanted.result ≡ (m.progress.wanted || is_mark line) = c.is_wanted-wanted.ensures ∙ ap (λ b. b || is_mark line) c.wanted.ensures in
-    let progress : c.want.new.self ≡ record m.progress { wanted = m.progress.wanted || is_mark line } = c.want.ensures ∙ ap (λ w. record m.progress { wanted = w }) w-is in
+    let progress : c.want.new.self ≡ record m.progress { wanted = m.progress.wanted || is_mark line } = c.want.ensures
+    ∙ ap (λ w. record m.progress { wanted = w }) w-is in
     let test : is_shown_remark m.marked (walk_in desk m) line ≡ false =
     sym (c.shows.ensures.value ∙ ap₂ (λ (p : Stand) w. not (length (words_of line) == 0) && (nat_lt p.shown MOST_STEPS && (not m.marked || w))) progress w-is)
     ∙ c.if-shows.false in

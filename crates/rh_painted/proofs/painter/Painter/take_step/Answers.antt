@@ -24,7 +24,8 @@ returns-then-is_shown-clause-text g c = λ text excerpt.
       marked = refl;
       bad = refl;
       progress = c.begin_step.ensures.next;
-      notes = λ s. c.note_step.ensures s (marks_of (desk m.drawn) deed.kept.now (option_map (λ z. z.now) deed.command) deed.reply.now) ∙ ap (λ n. noted n (h s).scene m.notes.items) number;
+      notes = λ s. c.note_step.ensures s (marks_of (desk m.drawn) deed.kept.now (option_map (λ z. z.now) deed.command) deed.reply.now)
+          ∙ ap (λ n. noted n (h s).scene m.notes.items) number;
     } in
     took-shown desk m b c.show.new.self (g.W.Sink.output c.args.writer.now) (g.W.Sink.output c.show.new.writer) c.show.result c.args.line.now h deed.wanted
     c.requires.wanted is (sym c.is_shown.ensures.value ∙ c.if-is_shown.true) (c.show.ensures.text text excerpt)
@@ -43,7 +44,8 @@ returns-clause-text g c = λ text excerpt.
       marked = refl;
       bad = refl;
       progress = c.begin_step.ensures.next;
-      notes = λ s. c.note_step.ensures s (marks_of (desk m.drawn) deed.kept.now (option_map (λ z. z.now) deed.command) deed.reply.now) ∙ ap (λ k. noted k (h s).scene m.notes.items) number;
+      notes = λ s. c.note_step.ensures s (marks_of (desk m.drawn) deed.kept.now (option_map (λ z. z.now) deed.command) deed.reply.now)
+          ∙ ap (λ k. noted k (h s).scene m.notes.items) number;
     } in
     took-left desk m b n (g.W.Sink.output c.args.writer.now) c.args.line.now h deed.wanted
     c.requires.wanted is (sym c.is_shown.ensures.value ∙ c.if-is_shown.false) _ (is_shared (desk m.drawn) c.spelled.ensures)

@@ -19,11 +19,13 @@ returns-in_err-refuse-clause-err g c =
 pub returns-clause-ok : goal.returns-clause-ok
 returns-clause-ok g c =
     some-took g.D.Sight.desk c.args.self.now (g.W.Sink.output c.args.writer.now) c.args.rest.now c.if-is_empty.ensures
-    c.rest_fault-fault.result c.rest_fault-fault.ensures c.refuse.new.self (g.W.Sink.output c.refuse.new.writer) (g.W.Sink.output c.end-2.new.writer) c.end-2.result
+    c.rest_fault-fault.result c.rest_fault-fault.ensures c.refuse.new.self (g.W.Sink.output c.refuse.new.writer)
+    (g.W.Sink.output c.end-2.new.writer) c.end-2.result
     c.in_ok-refuse.ensures.ok c.end-2.ensures
 
 pub returns-clause-err : goal.returns-clause-err
 returns-clause-err g c =
     some-broke g.D.Sight.desk c.args.self.now (g.W.Sink.output c.args.writer.now) c.args.rest.now c.if-is_empty.ensures
-    c.rest_fault-fault.result c.rest_fault-fault.ensures c.refuse.new.self (g.W.Sink.output c.refuse.new.writer) (g.W.Sink.output c.end-2.new.writer) c.end-2.result
+    c.rest_fault-fault.result c.rest_fault-fault.ensures c.refuse.new.self (g.W.Sink.output c.refuse.new.writer)
+    (g.W.Sink.output c.end-2.new.writer) c.end-2.result
     c.in_ok-refuse.ensures.ok c.end-2.ensures
