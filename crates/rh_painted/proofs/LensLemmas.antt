@@ -1,14 +1,13 @@
 -- What leads to cards, by its places; the arrow of a slide, by the task that slid.
-use Rattle.std.proofs.Common.{◌≡◌, ℕ, Bool, true, false, refl, ap, ap₂, sym, ◌∙◌, List, [], Some}
-use Rattle.std.specs.Prelude.{◌==◌, slice_get}
+use Rattle.std.proofs.Common.{◌≡◌, ℕ, Bool, true, false, refl, ap, sym, ◌∙◌, Some}
+use Rattle.std.specs.Prelude.{◌==◌}
 use Rattle.std.specs.List.{flat_map}
 use Rattle.std.proofs.lemmas.Bool.{eqb-true}
-use Rattle.rh_defs.specs.Desk.{Desk, Task, task_at}
-use Rattle.rh_defs.specs.Laws.{IsDesk}
+use Rattle.rh_defs.specs.Desk.{Task, task_at}
 use Rattle.rh_defs.specs.declared.listing.BlockItem.{BlockItem}
 use Rattle.rh_defs.specs.Listing.{block_items}
 use Rattle.rh_figure.specs.Changes.{blocks_now, item_of, slide_of, slides}
-use Rattle.rh_figure.specs.Phrases.{Text, where_so}
+use Rattle.rh_figure.specs.Phrases.{where_so}
 use Rattle.rh_figure.specs.Scene.{Scene}
 use Rattle.rh_sheet.specs.Areas.{lens_above, lens_below}
 use Rattle.rh_sheet.specs.Arrows.{slide_arrow}

@@ -1,10 +1,10 @@
 -- The pieces of an area end within it; the last piece of a slot; the anchors of its blocks.
-use Rattle.std.proofs.Common.{◌≡◌, ℕ, zero, suc, ◌+◌, ◌-◌, ◌*◌, ◌<◌, ◌≤◌, refl, ap, sym, subst, ◌∙◌, arith, false, List, [], ◌∷◌, ◌++◌, length, length-append, take, drop, Some}
+use Rattle.std.proofs.Common.{◌≡◌, ℕ, suc, ◌+◌, ◌-◌, ◌*◌, ◌<◌, ◌≤◌, refl, ap, sym, ◌∙◌, arith, false, List, [], ◌∷◌, ◌++◌, length, take, drop, Some}
 use Rattle.std.specs.Prelude.{slice_get}
 use Rattle.std.specs.List.{AllByRecursion}
 use Rattle.std.proofs.lemmas.List.{take-append-drop}
 use Rattle.rh_defs.specs.declared.listing.BlockItem.{BlockItem}
-use Rattle.rh_defs.specs.Heap.{Heap, Segment, Used, Hole, size_of, first_place, base}
+use Rattle.rh_defs.specs.Heap.{Heap, Segment, Used, Hole, size_of, base}
 use Rattle.rh_defs.specs.Listing.{block_items_from}
 use Rattle.rh_defs.specs.Pieces.{page, total}
 use Rattle.rh_defs.specs.Slot.{Flex, HaveAnchors, Slot, slot_length, slot_pages, weight}

@@ -1,5 +1,5 @@
 -- Texts that are written one behind the other.
-use Rattle.std.proofs.Common.{◌≡◌, ℕ, refl, List, [], ◌∷◌, ◌++◌, Result, Ok, Err, append-nil, sym}
+use Rattle.std.proofs.Common.{ℕ, refl, List, [], ◌++◌, Result, Ok, Err, append-nil, sym}
 use Rattle.std.specs.Result.{IsErr}
 use Rattle.rh_lines.specs.Flow.{Output, Puts}
 use Rattle.rh_lines.proofs.FlowLemmas.{puts_before, puts_more, puts_stops}

@@ -1,4 +1,4 @@
-use Rattle.std.proofs.Common.{◌++◌, List, ap}
+use Rattle.std.proofs.Common.{List, ap}
 use Rattle.rh_sheet.specs.declared.note.Note.{Note}
 use Rattle.rh_sheet.specs.Steps.{aside_text, figure_text, memory_text}
 use Rattle.rh_sight.specs.Steps.{scene_at}
