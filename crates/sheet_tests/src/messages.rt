@@ -37,7 +37,7 @@ fn notes(rt: HostRuntime) {
 }
 
 #[test]
-fn arrows(rt: HostRuntime) {
+fn lifelines(rt: HostRuntime) {
     let mut writer = Flagged::new(Vec::<u8>::new(rt.alloc()));
     same(
         &rt,
@@ -45,6 +45,15 @@ fn arrows(rt: HostRuntime) {
         Ok(()),
     );
     same(&rt, print_beat(40, 5, &mut writer), Ok(()));
+    let wanted =
+        b"<text class=\"who dead\" x=\"70\" y=\"16\">task </text>\n<path class=\"life\" d=\"M70 24V104\"/>\n<text class=\"beat\" x=\"0\" y=\"49\">5</text>\n";
+    let written = writer.into_inner();
+    same(&rt, written.as_slice(), wanted.as_slice());
+}
+
+#[test]
+fn arrows(rt: HostRuntime) {
+    let mut writer = Flagged::new(Vec::<u8>::new(rt.alloc()));
     let ends = Ends {
         x0: 70,
         y0: 40,
@@ -78,7 +87,7 @@ fn arrows(rt: HostRuntime) {
         Ok(()),
     );
     let wanted =
-        b"<text class=\"who dead\" x=\"70\" y=\"16\">task </text>\n<path class=\"life\" d=\"M70 24V104\"/>\n<text class=\"beat\" x=\"0\" y=\"49\">5</text>\n<path class=\"msg now\" d=\"M70 49L247 72\"/>\n<text class=\"mname now\" x=\"84\" y=\"61\">1 DataSave</text>\n<path class=\"msg waits\" d=\"M250 81h-30\"/>\n<text class=\"mname west\" x=\"214\" y=\"85\">2 RAMFetch</text>\n";
+        b"<path class=\"msg now\" d=\"M70 49L247 72\"/>\n<text class=\"mname now\" x=\"84\" y=\"61\">1 DataSave</text>\n<path class=\"msg waits\" d=\"M250 81h-30\"/>\n<text class=\"mname west\" x=\"214\" y=\"85\">2 RAMFetch</text>\n";
     let written = writer.into_inner();
     same(&rt, written.as_slice(), wanted.as_slice());
 }
