@@ -7,17 +7,16 @@ use Rattle.std.proofs.lemmas.Bool.{ne_eqb}
 use Rattle.std.proofs.lemmas.List.{map-append}
 use Rattle.rh_defs.specs.Desk.{Desk}
 use Rattle.rh_defs.specs.Order.{IsReordered}
-use Rattle.rh_defs.specs.Script.{ended, has_bad_line, is_bad, unended}
+use Rattle.rh_defs.specs.Script.{ended, is_bad, unended}
 use Rattle.rh_drawn.specs.Deeds.{rest_means}
-use Rattle.rh_drawn.proofs.MapLemmas.{after_reads}
 use Rattle.rh_drawn.proofs.RunLemmas.{kept_some}
 use Rattle.rh_feed.specs.Lines.{kept, kept_lines, kept_rest}
 use Rattle.rh_feed.specs.Taken.{BrokeAmong, BrokeAtRest, Fed, FedAll, FedUntil, TookAll}
 use Rattle.rh_feed.proofs.FeedLemmas.{Consumes-none}
 use Rattle.rh_feed.proofs.LineLemmas.{kept_nil}
-use Rattle.rh_figure.specs.Share.{Share, IsShared}
+use Rattle.rh_figure.specs.Share.{IsShared}
 use Rattle.rh_figure.specs.Phrases.{Text}
-use Rattle.rh_figure.specs.Map.{Place, Read, Stage, after_read, read_ended, read_line, read_lines, read_rest}
+use Rattle.rh_figure.specs.Map.{Place, Read, Stage, after_read, read_line, read_rest}
 use Rattle.rh_figure.specs.Whole.{AreShared, read_of}
 use Rattle.rh_lines.specs.Flow.{Input, Output, Takes, Breaks, Puts}
 use Rattle.rh_lines.proofs.FlowLemmas.{takes_breaks, takes_more}
@@ -27,7 +26,7 @@ use Rattle.rh_sheet.specs.Sheet.{Walk, behind_read, read_text, sheet_end, sheet_
 use Rattle.rh_painted.specs.declared.painter.Painter.{Painter}
 use Rattle.rh_painted.specs.Painted as run
 use Rattle.rh_painted.specs.Painted.{IsSheet, IsSheetFront, PaintedSoFar, PaintedUntil, front_lines}
-use Rattle.rh_painted.specs.Walks.{BrokeLine, BrokeRest, IsFirst, TookLine, TookRest, walk_at, walk_from, walk_in}
+use Rattle.rh_painted.specs.Walks.{BrokeLine, BrokeRest, IsFirst, TookLine, TookRest, walk_at, walk_from}
 use Rattle.rh_painted.proofs.LineLemmas.{same-line, same-rest}
 use Rattle.rh_painted.proofs.SheetLemmas.{PaintedAll, bad-lines, lines-last, lines-split, place-after, shared-more, stage-is, took-lines, walk_behind}
 use Rattle.rh_painted.proofs.WalkLemmas.{Stands, all-there, breaks-there, place-behind, rest-there, shared-there}

@@ -1,8 +1,7 @@
 -- A sheet from the lines that were taken, one after the other.
-use Rattle.std.proofs.Common.{◌≡◌, ℕ, Bool, true, false, ◌||◌, List, [], ◌∷◌, ◌++◌, map, refl, sym, ap, ap₂, ◌∙◌, subst, append-nil, append_assoc}
+use Rattle.std.proofs.Common.{◌≡◌, Bool, true, false, ◌||◌, List, [], ◌∷◌, ◌++◌, map, refl, sym, ap, ap₂, ◌∙◌, subst, append-nil, append_assoc}
 use Rattle.std.specs.Prelude.{Option, is_err}
 use Rattle.std.specs.List.{list_any}
-use Rattle.std.proofs.lemmas.List.{map-append}
 use Rattle.rh_defs.specs.declared.command.Command.{Command}
 use Rattle.rh_defs.specs.Line.{Meaning, line_means}
 use Rattle.rh_defs.specs.Desk.{Desk}
@@ -17,10 +16,10 @@ use Rattle.rh_figure.specs.Phrases.{Text}
 use Rattle.rh_figure.specs.Map.{Place, Read, Stage, after_read, read_line}
 use Rattle.rh_figure.specs.Whole.{AreShared, read_of}
 use Rattle.rh_drawn.proofs.MapLemmas.{after_reads, is_bad_read}
-use Rattle.rh_sheet.specs.Sheet.{Walk, behind_read, read_text, sheet_end, sheet_lines}
+use Rattle.rh_sheet.specs.Sheet.{Walk, behind_read, read_text, sheet_lines}
 use Rattle.rh_painted.specs.declared.painter.Painter.{Painter}
 use Rattle.rh_painted.specs.Painted.{front_lines}
-use Rattle.rh_painted.specs.Walks.{Painted, TookLine, walk_in}
+use Rattle.rh_painted.specs.Walks.{Painted, TookLine}
 use Rattle.rh_painted.proofs.LineLemmas.{same-line}
 use Rattle.rh_painted.proofs.WalkLemmas.{Stands, place-behind, shared-there, stands-on, takes-there}
 

@@ -1,7 +1,7 @@
 -- What a painter has done with a line as far as it is kept, and with what stands behind the last line feed.
-use Rattle.std.proofs.Common.{◌≡◌, ℕ, ◌<◌, ◌≤◌, Bool, true, false, ◌||◌, List, [], ◌∷◌, ◌++◌, length, map, take, refl, sym, ap, ap₂, ◌∙◌, subst, append-nil, arith}
+use Rattle.std.proofs.Common.{◌≡◌, Bool, true, false, ◌||◌, [], ◌∷◌, ◌++◌, length, refl, sym, ap, ap₂, ◌∙◌, subst, arith}
 use Rattle.std.specs.Prelude.{Option, Ok, Err, is_err, not, ◌==◌, OnErr, OnOk, Result}
-use Rattle.std.proofs.lemmas.Bool.{eqb-true, ne_eqb}
+use Rattle.std.proofs.lemmas.Bool.{eqb-true}
 use Rattle.rh_defs.specs.declared.command.Command.{Command}
 use Rattle.rh_defs.specs.declared.fault.LineFault.{LineFault}
 use Rattle.rh_defs.specs.Desk.{Desk}
@@ -15,7 +15,6 @@ use Rattle.rh_feed.proofs.LineLemmas.{kept_means, kept_nil}
 use Rattle.rh_figure.specs.Share.{Share, IsShared}
 use Rattle.rh_figure.specs.Phrases.{Text}
 use Rattle.rh_figure.specs.Map.{Place, Read, after_read, read_rest}
-use Rattle.rh_figure.specs.Whole.{read_of}
 use Rattle.rh_lines.specs.Flow.{Breaks, Output, Puts, Takes}
 use Rattle.rh_lines.proofs.FlowLemmas.{breaks_before, takes_breaks, takes_more}
 use Rattle.rh_sheet.specs.Laws.{at_desk}

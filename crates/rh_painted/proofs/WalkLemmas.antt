@@ -1,11 +1,10 @@
 -- Where a sheet stands, but for the order of messages to different tasks.
-use Rattle.std.proofs.Common.{◌≡◌, ℕ, ◌+◌, Bool, true, ◌||◌, List, refl, sym, ap, ap₂, ◌∙◌, subst, [], ◌∷◌, ◌++◌}
-use Rattle.std.specs.Prelude.{Option, Some, None, Ok, Err, is_err}
+use Rattle.std.proofs.Common.{◌≡◌, Bool, true, List, refl, sym, ap, ap₂, ◌∙◌, subst, [], ◌∷◌, ◌++◌}
+use Rattle.std.specs.Prelude.{Some, None, Ok, Err}
 use Rattle.rh_defs.specs.declared.command.Command.{Command}
 use Rattle.rh_defs.specs.declared.fault.LineFault.{LineFault}
 use Rattle.rh_defs.specs.declared.reply.Reply.{Reply}
 use Rattle.rh_defs.specs.Desk.{Desk}
-use Rattle.rh_defs.specs.Line.{Meaning}
 use Rattle.rh_defs.specs.Order.{IsReordered, with_queue}
 use Rattle.rh_defs.specs.Step.{step}
 use Rattle.rh_defs.specs.Text.{fault_text}
@@ -19,9 +18,9 @@ use Rattle.rh_figure.specs.Whole.{AreShared}
 use Rattle.rh_figure.proofs.Alike.{before-alike, marks-alike, scene-alike, text-alike}
 use Rattle.rh_drawn.proofs.MapLemmas.{SamePlaces, after_alike, shared_alike}
 use Rattle.rh_sheet.specs.Laws.{at_desk}
-use Rattle.rh_sheet.specs.Sheet.{Happened, Walk, behind_happened, behind_read, command_happened, fault_happened, happened_text, read_text, sheet_lines}
+use Rattle.rh_sheet.specs.Sheet.{Walk, behind_happened, behind_read, command_happened, fault_happened, happened_text, read_text, sheet_lines}
 use Rattle.rh_painted.specs.declared.painter.Painter.{Painter}
-use Rattle.rh_painted.specs.Walks.{Broke, Follows, Painted, walk_in}
+use Rattle.rh_painted.specs.Walks.{Follows, walk_in}
 
 -- ---- what a line does on two desks
 

@@ -1,4 +1,4 @@
-use Rattle.std.proofs.Common.{◌≡◌, List, ℕ, ◌++◌, ◌∙◌, ap, append_assoc, sym}
+use Rattle.std.proofs.Common.{◌≡◌, ◌++◌, ◌∙◌, ap, append_assoc, sym}
 use Rattle.std.specs.List.{flat_map}
 use Rattle.rh_defs.specs.Desk.{task_at}
 use Rattle.rh_drawn.proofs.Walks.{puts_same}

@@ -1,8 +1,7 @@
-use Rattle.std.proofs.Common.{◌++◌, [], ◌∷◌, false, refl, true}
+use Rattle.std.proofs.Common.{[], ◌∷◌, refl}
 use Rattle.std.specs.List.{concat}
 use Rattle.rh_drawn.proofs.Walks.{puts_same}
-use Rattle.rh_figure.specs.Changes.{changes}
-use Rattle.rh_sheet.specs.Steps.{changes_text, figure_text, said_end, step_end}
+use Rattle.rh_sheet.specs.Steps.{figure_text, said_end, step_end}
 use Rattle.rh_sight.specs.Steps.{scene_at}
 use Rattle.rh_painted.proofs.PrintLemmas.{behind_said, puts-stop, puts-then, step-as}
 use Rattle.rh_painted.proofs.steps.print_step.Goals as goal

@@ -1,4 +1,4 @@
-use Rattle.std.proofs.Common.{[], ◌≡◌, ◌+◌, ◌++◌, ◌∙◌, Bool, ◌||◌, ap, ap₂, false, length, refl, sym, true}
+use Rattle.std.proofs.Common.{[], ◌≡◌, ◌+◌, ◌∙◌, ◌||◌, ap, ap₂, false, length, refl, sym, true}
 use Rattle.std.specs.Prelude.{◌&&◌, ◌==◌, if◌then◌else◌, nat_lt, not}
 use Rattle.rh_defs.specs.Line.{words_of}
 use Rattle.rh_drawn.proofs.ShareLemmas.{is_shared}

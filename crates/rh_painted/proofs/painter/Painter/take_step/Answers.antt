@@ -1,4 +1,4 @@
-use Rattle.std.proofs.Common.{◌≡◌, ◌∙◌, ap, refl, sym}
+use Rattle.std.proofs.Common.{◌∙◌, ap, refl, sym}
 use Rattle.std.specs.Option.{option_map}
 use Rattle.rh_drawn.proofs.ShareLemmas.{is_shared}
 use Rattle.rh_painted.specs.Progress.{Stand}
@@ -7,7 +7,6 @@ use Rattle.rh_figure.specs.Share.{Share}
 use Rattle.rh_sheet.specs.Chart.{noted}
 use Rattle.rh_sheet.specs.Sheet.{Happened}
 use Rattle.rh_painted.specs.Walks.{happened_at}
-use Rattle.rh_painted.specs.declared.painter.Painter.{Painter}
 use Rattle.rh_painted.proofs.StepLemmas.{IsNoted, took-left, took-shown}
 use Rattle.rh_painted.proofs.painter.Painter.take_step.Goals as goal
 
