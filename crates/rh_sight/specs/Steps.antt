@@ -4,9 +4,10 @@ use Rattle.std.specs.Option.{option_map}
 use Rattle.rh_defs.specs.Desk.{Desk}
 use Rattle.rh_figure.specs.Share.{IsShared}
 use Rattle.rh_figure.specs.Scene as scene
-use Rattle.rh_figure.specs.Scene.{Scene, scene_of}
+use Rattle.rh_figure.specs.Scene.{Before, Scene, scene_of}
 use Rattle.rh_sight.specs.declared.marks.HeapBlock.{HeapBlock}
 use Rattle.rh_sight.specs.declared.marks.Marks.{Marks}
+use Rattle.rh_sight.specs.declared.sender.Sender.{Sender}
 use Rattle.rh_sight.specs.declared.step.Step.{Step}
 use Rattle.rh_sight.specs.Messages.{message_items}
 use Rattle.rh_sight.specs.Pages.{share_in}
@@ -26,6 +27,10 @@ marks_seen m = record {
   sent = option_map letter_seen m.sent;
   taken = m.taken;
 }
+
+-- the task that may send a letter at a step, and the ref that its letter would have, as they were before the step
+abbrev pub IsSender : Sender → Before → Type 0
+IsSender s b = (s.handle ≡ b.handle) × (s.next_ref ≡ b.next_ref)
 
 -- the scene that a step has on a desk
 abbrev pub scene_at : Desk → Step → Scene

@@ -5,14 +5,16 @@ ghost use Rattle.std.specs.Option.{option_map};
 ghost use Rattle.rh_defs.specs.Desk.{Task};
 ghost use Rattle.rh_defs.specs.declared.sizes.TheConstants.{MAX_AREAS};
 ghost use Rattle.rh_figure.specs.Changes.{item_of};
-ghost use Rattle.rh_figure.specs.Scene.{before_of, before_task, task_in};
+ghost use Rattle.rh_figure.specs.Scene.{before_of, before_task};
 ghost use Rattle.rh_figure.specs.Share.{count_of, holdings};
 ghost use Rattle.rh_sight.specs.Messages.{message_items};
 ghost use Rattle.rh_sight.specs.Owners.{holdings_of, made_holding, owner_of, slot_holding};
+ghost use Rattle.rh_sight.specs.Steps.{IsSender};
 
 use crate::message_list::held_ref;
+use crate::sender::Sender;
 use crate::sight::{MessageItem, Sight};
-use crate::tasks::{name_in, task_named};
+use crate::tasks::task_about;
 use arrayvec::ArrayVec;
 use rh_defs::sizes::{ANCHORS, FIXED_AREAS, MAX_AREAS};
 use rh_defs::{Anchor, BlockItem, Command, Handle, Ref};
@@ -114,6 +116,16 @@ impl Kept {
         self.handle
     }
 
+    /// Who may send a letter at the command.
+    pub fn sender(&self) -> Sender
+        ensures { IsSender result self.now }
+    {
+        Sender {
+            handle: self.handle,
+            next_ref: self.next_ref,
+        }
+    }
+
     /// The ref of the message that it held, 0 for none.
     pub fn held(&self) -> Ref
         ensures { result ≡ self.now.held }
@@ -179,14 +191,6 @@ pub(crate) fn item_at(blocks: &[BlockItem], anchor: Anchor) -> Option<BlockItem>
         }
     }
     None
-}
-
-/// Where the task that a command is about stands in order of handle.
-fn task_about<S: Sight>(sight: &S, command: Option<&Command>) -> Option<usize>
-    ensures some { IfSome result (λ i. (t : Task) × (slice_get (S.desk sight.now).tasks i ≡ Some t) × (task_in (option_map (λ c. c.now) command.entry) (S.desk sight.now) ≡ Some t)) }
-    ensures none { IfNone result (task_in (option_map (λ c. c.now) command.entry) (S.desk sight.now) ≡ None) }
-{
-    task_named(sight, name_in(command?)?)
 }
 
 /// Puts all owners into a list: areas 0 to 5, the made ones, and the slots in order of handle.

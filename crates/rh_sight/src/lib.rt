@@ -8,6 +8,7 @@ mod marks;
 mod message_list;
 mod pages;
 mod pieces;
+mod sender;
 mod sight;
 mod step;
 mod tasks;
@@ -19,6 +20,7 @@ pub use marks::{HeapBlock, Marks, is_still, sent_by};
 pub use message_list::{Place, held_by, message_in, place_of};
 pub use pages::{free_of, pages_of};
 pub use pieces::{MOST_PIECES, Pieces, module_pieces, slot_pieces};
+pub use sender::Sender;
 pub use sight::{
     AreaSight, HeapOf, MOST_AT_ONCE, MOST_MESSAGES, MessageItem, Messages, PageList, PagesOf,
     ScrapSight, Segments, Sight, TaskSight,

@@ -3,11 +3,12 @@
 ghost use Rattle.std.specs.Prelude.{◌≡◌, ℕ, Some};
 ghost use Rattle.std.specs.Option.{option_map};
 ghost use Rattle.rh_defs.specs.Desk.{task_at};
-ghost use Rattle.rh_figure.specs.Scene.{buffer_of as buffer_of_sent, heap_mark as heap_mark_of, is_question as is_question_of, is_refusal as is_refusal_of, is_still as is_still_of, marks_for, marks_of as marks_of_desk, module_mark as module_mark_of, no_marks, put_mark as put_mark_of, sent_by as sent_by_task, taken_mark as taken_mark_of};
+ghost use Rattle.rh_figure.specs.Scene.{Before, buffer_of as buffer_of_sent, heap_mark as heap_mark_of, is_question as is_question_of, is_refusal as is_refusal_of, is_still as is_still_of, marks_for, marks_of as marks_of_desk, module_mark as module_mark_of, no_marks, put_mark as put_mark_of, sent_by as sent_by_task, taken_mark as taken_mark_of};
 ghost use Rattle.rh_sight.specs.Seen.{letter_seen};
-ghost use Rattle.rh_sight.specs.Steps.{block_seen, marks_seen};
+ghost use Rattle.rh_sight.specs.Steps.{IsSender, block_seen, marks_seen};
 
 use crate::kept::Kept;
+use crate::sender::Sender;
 use crate::sight::Sight;
 use crate::tasks::task_with;
 use rh_defs::{Action, Anchor, Body, Command, Handle, Letter, Ref, Reply};
@@ -74,7 +75,7 @@ impl<'a> Marks<'a> {
     fn of_change<S: Sight>(sight: &'a S, kept: &Kept, command: &Command, reply: &Reply) -> Marks<'a>
         ensures { marks_seen result ≡ marks_for (S.desk sight.now) kept.now command.now reply.now }
     {
-        let sent = sent_by(sight, kept);
+        let sent = sent_by(sight, kept.sender());
         let other = heap_mark(kept.handle(), command, reply);
         let heap = match sent {
             Some((letter, _)) => buffer_in(letter, other),
@@ -113,16 +114,16 @@ fn is_refusal(reply: &Reply) -> bool
     matches!(reply, Reply::Refused(_))
 }
 
-/// The last letter of the task that the command named, if the command sent it.
-pub fn sent_by<'a, S: Sight>(sight: &'a S, kept: &Kept) -> Option<(&'a Letter, Ref)>
-    ensures { option_map letter_seen result ≡ sent_by_task kept.now (task_at kept.now.handle (S.desk sight.now)) }
+/// The last letter of the task that may have sent one at a step, if it was sent at that step.
+pub fn sent_by<'a, S: Sight>(sight: &'a S, sender: Sender) -> Option<(&'a Letter, Ref)>
+    ensures { (b : Before) → IsSender sender b → option_map letter_seen result ≡ sent_by_task b (task_at b.handle (S.desk sight.now)) }
 {
-    let i = task_with(sight, kept.handle())?;
+    let i = task_with(sight, sender.handle)?;
     let Some(task) = sight.task(i) else {
         return None;
     };
     match task.last_sent {
-        Some((letter, my_ref)) if u64::from(my_ref.0) == kept.next_ref() => Some((letter, my_ref)),
+        Some((letter, my_ref)) if u64::from(my_ref.0) == sender.next_ref => Some((letter, my_ref)),
         _ => None,
     }
 }

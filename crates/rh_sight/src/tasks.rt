@@ -3,7 +3,7 @@
 ghost use Rattle.std.specs.Prelude.{◌≡◌, find, IfNone, IfSome, length, slice_get, None, Some};
 ghost use Rattle.std.specs.Option.{option_map};
 ghost use Rattle.rh_defs.specs.Desk.{Task, has_name, task_at};
-ghost use Rattle.rh_figure.specs.Scene.{name_asked as name_asked_by, name_in as name_in_of};
+ghost use Rattle.rh_figure.specs.Scene.{name_asked as name_asked_by, name_in as name_in_of, task_in};
 
 use crate::sight::Sight;
 use rh_defs::{Command, Handle, Name, Question};
@@ -66,6 +66,14 @@ pub fn task_named<S: Sight>(sight: &S, name: &Name) -> Option<usize>
         i += 1;
     }
     None
+}
+
+/// Where the task that a command is about stands in order of handle.
+pub(crate) fn task_about<S: Sight>(sight: &S, command: Option<&Command>) -> Option<usize>
+    ensures some { IfSome result (λ i. (t : Task) × (slice_get (S.desk sight.now).tasks i ≡ Some t) × (task_in (option_map (λ c. c.now) command.entry) (S.desk sight.now) ≡ Some t)) }
+    ensures none { IfNone result (task_in (option_map (λ c. c.now) command.entry) (S.desk sight.now) ≡ None) }
+{
+    task_named(sight, name_in(command?)?)
 }
 
 /// Where the task with the handle stands in order of handle.
