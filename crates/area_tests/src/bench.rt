@@ -7,9 +7,9 @@ ghost use Rattle.rh_slot.specs.Area.{IsSlot};
 ghost use Rattle.rh_defs.specs.declared.sizes.TheConstants.{ANCHORS, MAX_AREAS};
 
 use arrayvec::ArrayVec;
-use rh_defs::sizes::ANCHORS;
+use rh_defs::sizes::{ANCHORS, SEGMENTS_AT_ONCE};
 use rh_defs::{Anchor, BlockItem, Refusal};
-use rh_heap::{SEGMENTS_AT_ONCE, Segment};
+use rh_heap::Segment;
 use rh_slot::{Slot, free_anchor, put_from, write_from};
 use rh_store::Store;
 

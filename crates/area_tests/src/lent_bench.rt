@@ -6,10 +6,10 @@ ghost use Rattle.rh_defs.specs.declared.sizes.TheConstants.{ANCHORS};
 ghost use Rattle.rh_flex.specs.Slots.{IsSlotBytes};
 
 use arrayvec::ArrayVec;
-use rh_defs::sizes::ANCHORS;
+use rh_defs::sizes::{ANCHORS, SEGMENTS_AT_ONCE};
 use rh_defs::{Anchor, BlockItem, Refusal};
 use rh_flex::LentSlot;
-use rh_heap::{SEGMENTS_AT_ONCE, Segment};
+use rh_heap::Segment;
 use rh_store::bytes::copy_from;
 use std::alloc::Global;
 use std::test::Fail;

@@ -4,7 +4,7 @@ use Rattle.std.specs.Prelude.{Option, Some, None, is_some, ◌==◌}
 use Rattle.std.specs.Option.{option_map}
 use borrow.Author.Tests.{eqb-false}
 use Rattle.rh_defs.specs.Pieces.{Split, first_at, behind}
-use Rattle.rh_defs.specs.Slot.{Flex}
+use Rattle.rh_defs.specs.Slot.{Flex, anchor_count}
 use Rattle.rh_defs.specs.Slot.{IsFree, HaveAnchors}
 
 -- no block has the anchor
@@ -37,7 +37,7 @@ free-append k [] b h n = (n, tt)
 free-append k (c ∷ blocks) b h n = (h.0, free-append k blocks b h.1 n)
 
 -- one more block, with an anchor that none has
-pub anchors-append : (blocks : List Flex) (b : Flex) → HaveAnchors blocks → IsFree b.anchor blocks → b.anchor < 64 → HaveAnchors (blocks ++ b ∷ [])
+pub anchors-append : (blocks : List Flex) (b : Flex) → HaveAnchors blocks → IsFree b.anchor blocks → b.anchor < anchor_count → HaveAnchors (blocks ++ b ∷ [])
 anchors-append [] b h free small = (small, tt, tt)
 anchors-append (c ∷ blocks) b h free small =
     (h.0, free-append c.anchor blocks b h.1 (λ e. free.0 (sym e)), anchors-append blocks b h.2 free.1 small)

@@ -1,10 +1,10 @@
 -- A call with growth is the call on the longer heap.
-use Rattle.std.proofs.Common.{◌≡◌, ℕ, ◌+◌, ◌-◌, ◌*◌, ◌/◌, ◌<◌, ◌≤◌, ◌≢◌, inl, inr, Bool, true, false, cond, eqb, leb, ltb, List, [], ◌∷◌, refl, sym, ap, ◌∙◌, arith}
+use Rattle.std.proofs.Common.{◌≡◌, ℕ, ◌+◌, ◌-◌, ◌*◌, ◌<◌, ◌≤◌, ◌≢◌, inl, inr, Bool, true, false, cond, eqb, leb, ltb, List, [], ◌∷◌, refl, sym, ap, ◌∙◌, arith}
 use Rattle.std.proofs.lemmas.Bool.{cases_eq}
 use Rattle.std.proofs.lemmas.Bool.Decides.{nat_tests}
 use Rattle.std.specs.Prelude.{Option, Some, None, Ok, ℤ}
 use Rattle.rh_defs.specs.Chain.{answer_of}
-use Rattle.rh_defs.specs.Pieces.{Split}
+use Rattle.rh_defs.specs.Pieces.{Split, page, pages_for}
 use Rattle.rh_defs.specs.Heap.{Segment, Used, Hole, Heap, Way, Stays, Shrinks, GrowsIntoHole, GrowsAtTop, MovesToHole, MovesToTop, size_of, place_after, hole_for, shortage_in, segment_size, need, claim, claim_need, new_size, resize_found, need_found, as_granted, raised, claim_growing, way_beyond, way_to_grow, way_to, end_for, resize_need, resized, resized_by, fitted, block_room, bytes_of, resize_growing}
 use Rattle.rh_defs.proofs.HeapLists.{cond_true, cond_false, eqb_same, eqb_apart, leb_yes, leb_no}
 
@@ -81,7 +81,7 @@ resize_need-raised n s h =
 
 -- a heap that is raised by nothing
 pub raised-none : (h : Heap) → raised 0 h ≡ h
-raised-none h = ap (λ (e : ℕ). let r : Heap = record h { end = e } in r) (let z : h.end + 4096 * ((0 + 4095) / 4096) ≡ h.end = omega arith in z)
+raised-none h = ap (λ (e : ℕ). let r : Heap = record h { end = e } in r) (let z : h.end + page * pages_for 0 ≡ h.end = omega arith in z)
 
 -- a claim that was granted needs no more
 pub claim-granted : (n x : ℕ) (h : Heap) → Ok x ≡ answer_of (claim n h) → Ok 0 ≡ claim_need n h

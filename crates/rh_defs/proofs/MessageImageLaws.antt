@@ -7,6 +7,7 @@ use Rattle.std.proofs.lemmas.List.Quantifiers.{position-Some}
 use Rattle.std.proofs.lemmas.List.Sums.{position_or_len_is}
 use Rattle.std.specs.Prelude.{Option, Some, None, Result, Ok, Err, ◌==◌, ◌&&◌}
 use Rattle.std.specs.List.{position_or_len}
+use Rattle.rh_defs.specs.declared.sizes.TheConstants.{LONGEST_MESSAGE}
 use Rattle.rh_defs.specs.Bytes.{word, part}
 use Rattle.rh_defs.specs.Pieces.{zeros}
 use Rattle.rh_defs.specs.Pathnames.{is_plain}
@@ -213,13 +214,13 @@ decoded-spells b m e = go (has_length b) refl e
         let k : Message = record { from = word b 4; my_ref = word b 8; your_ref = word b 12; body = body } in
         let same : k ≡ m = cc in
         let s = body-spelled b (word b 0) body er in
-        let t0 = both_true (leb 20 (length b) && leb 20 (word b 0) && leb (word b 0) 256 && eqb (word b 0 % 4) 0) (leb (word b 0) (length b)) t in
-        let t1 = both_true (leb 20 (length b) && leb 20 (word b 0) && leb (word b 0) 256) (eqb (word b 0 % 4) 0) t0.0 in
-        let t2 = both_true (leb 20 (length b) && leb 20 (word b 0)) (leb (word b 0) 256) t1.0 in
+        let t0 = both_true (leb 20 (length b) && leb 20 (word b 0) && leb (word b 0) LONGEST_MESSAGE && eqb (word b 0 % 4) 0) (leb (word b 0) (length b)) t in
+        let t1 = both_true (leb 20 (length b) && leb 20 (word b 0) && leb (word b 0) LONGEST_MESSAGE) (eqb (word b 0 % 4) 0) t0.0 in
+        let t2 = both_true (leb 20 (length b) && leb 20 (word b 0)) (leb (word b 0) LONGEST_MESSAGE) t1.0 in
         let t3 = both_true (leb 20 (length b)) (leb 20 (word b 0)) t2.0 in
         subst (SpellsMessage b) same (record {
           least = at_most 20 (word b 0) t3.1;
-          most = at_most (word b 0) 256 t2.1;
+          most = at_most (word b 0) LONGEST_MESSAGE t2.1;
           multiple = none_left (word b 0 % 4) t1.1;
           within = at_most (word b 0) (length b) t0.1;
           words = (refl, (refl, (refl, (s.action, s.numbers))));
@@ -243,11 +244,11 @@ spelled-decodes b m s =
     let least = s.least in
     let within = s.within in
     let t : has_length b ≡ true =
-    both_are (leb 20 (length b) && leb 20 (word b 0) && leb (word b 0) 256 && eqb (word b 0 % 4) 0) (leb (word b 0) (length b))
-    (both_are (leb 20 (length b) && leb 20 (word b 0) && leb (word b 0) 256) (eqb (word b 0 % 4) 0)
-    (both_are (leb 20 (length b) && leb 20 (word b 0)) (leb (word b 0) 256)
+    both_are (leb 20 (length b) && leb 20 (word b 0) && leb (word b 0) LONGEST_MESSAGE && eqb (word b 0 % 4) 0) (leb (word b 0) (length b))
+    (both_are (leb 20 (length b) && leb 20 (word b 0) && leb (word b 0) LONGEST_MESSAGE) (eqb (word b 0 % 4) 0)
+    (both_are (leb 20 (length b) && leb 20 (word b 0)) (leb (word b 0) LONGEST_MESSAGE)
     (both_are (leb 20 (length b)) (leb 20 (word b 0)) (leb_yes 20 (length b) (omega arith)) (leb_yes 20 (word b 0) least))
-    (leb_yes (word b 0) 256 s.most)) (eqb_same (word b 0 % 4) 0 s.multiple)) (leb_yes (word b 0) (length b) within) in
+    (leb_yes (word b 0) LONGEST_MESSAGE s.most)) (eqb_same (word b 0 % 4) 0 s.multiple)) (leb_yes (word b 0) (length b) within) in
     let body : BodySpelled b (word b 0) m.body = record { action = w.1.1.1.0; numbers = w.1.1.1.1; rest = s.tail } in
     cond_true (has_length b) _ _ t
     ∙ ap (message_in b) (spelled-body b (word b 0) m.body body)

@@ -4,6 +4,7 @@ use Rattle.std.proofs.lemmas.Bool.Decides.{nat_tests}
 use Rattle.std.proofs.lemmas.List.{length-append, length-replicate, append_assoc}
 use Rattle.std.proofs.lemmas.Nat.{from_le_bytes-to_le_bytes_4}
 use Rattle.std.specs.Prelude.{◌&&◌}
+use Rattle.rh_defs.specs.declared.sizes.TheConstants.{LONGEST_MESSAGE}
 use Rattle.rh_defs.specs.Bytes.{word, part, put, word_bytes}
 use Rattle.rh_defs.specs.Pieces.{zeros}
 use Rattle.rh_defs.specs.Pathnames.{is_plain, is_pathname}
@@ -118,7 +119,7 @@ length-encoded m =
     let head : List ℕ = encoded_length m ∷ m.from ∷ m.my_ref ∷ m.your_ref ∷ [] in
     omega (arith, length-append (words head) (body_bytes m.body), length-words head)
 
-pub encoded-most : (m : Message) → HasName m.body → (28 ≤ encoded_length m) × (encoded_length m ≤ 256) × (encoded_length m % 4 ≡ 0)
+pub encoded-most : (m : Message) → HasName m.body → (28 ≤ encoded_length m) × (encoded_length m ≤ LONGEST_MESSAGE) × (encoded_length m % 4 ≡ 0)
 encoded-most m h = let b = body-most m.body h in (omega arith, omega arith, omega arith)
 
 action-small : (b : Body) → action_number (action_of b) < 2 ^ 32

@@ -7,8 +7,8 @@ use Rattle.rh_defs.specs.Bytes.{word, part, SameIn, SameOutside}
 use Rattle.rh_defs.specs.Pieces.{total}
 use Rattle.rh_defs.specs.Heap.{Heap}
 use Rattle.rh_defs.specs.HeapImage.{Spells, heap_of}
-use Rattle.rh_defs.specs.Slot.{Flex, Slot, flex_weight, weight, slot_start, slot_length, IsFree, HaveAnchors, with_heap}
-use Rattle.rh_defs.specs.SlotImage.{Lie, Hang, SlotWords, SpellsSlot, flex_place, is_block, flex_in, slot_of}
+use Rattle.rh_defs.specs.Slot.{Flex, Slot, flex_weight, weight, slot_start, slot_length, IsFree, HaveAnchors, with_heap, heap_start, anchor_count}
+use Rattle.rh_defs.specs.SlotImage.{Lie, Hang, SlotWords, SpellsSlot, flex_place, is_block, flex_in, slot_of, heap_place}
 use Rattle.rh_defs.proofs.BytesLaws.{word_same}
 use Rattle.rh_defs.proofs.HeapLists.{cond_true, cond_false, ltb_yes}
 use Rattle.rh_defs.proofs.HeapLaws.{heap_of-Spells}
@@ -19,7 +19,7 @@ use Rattle.rh_defs.proofs.SlotLaws.{part_of, in_below, in_above, flex_same, Lie-
 -- what the test finds in a header
 pub record IsBlock (b : List ℕ) (p : ℕ) : Type 0 where
   pub least : slot_start ≤ word b p
-  pub most : word b p < 33024
+  pub most : word b p < heap_start
   pub multiple : word b p % 4 ≡ 0
   pub back : word b (word b p - slot_start) ≡ slot_start + p + 8
 
@@ -47,7 +47,7 @@ not_true true h = absurd (h refl)
 not_true false h = refl
 
 pub is_block-yes : (b : List ℕ) (p : ℕ) → IsBlock b p → is_block b p ≡ true
-is_block-yes b p i = rw (leb_yes slot_start (word b p) i.least, ltb_yes (word b p) 33024 i.most, eqb_yes (word b p % 4) 0 i.multiple, eqb_yes (word b (word b p - slot_start)) (slot_start + p + 8) i.back) refl
+is_block-yes b p i = rw (leb_yes slot_start (word b p) i.least, ltb_yes (word b p) heap_start i.most, eqb_yes (word b p % 4) 0 i.multiple, eqb_yes (word b (word b p - slot_start)) (slot_start + p + 8) i.back) refl
 
 pub is_block-is : (b : List ℕ) (p : ℕ) → is_block b p ≡ true → IsBlock b p
 is_block-is b p e =
@@ -57,7 +57,7 @@ is_block-is b p e =
     record { least = le_from _ _ u.0; most = lt_from _ _ u.1; multiple = eq_from _ _ q.1; back = eq_from _ _ r.1 }
 
 -- it holds at a block
-pub is_block-here : (b : List ℕ) (p : ℕ) (f : Flex) (fs : List Flex) → Lie b p (f ∷ fs) → Hang b p (f ∷ fs) → f.anchor < 64 → is_block b p ≡ true
+pub is_block-here : (b : List ℕ) (p : ℕ) (f : Flex) (fs : List Flex) → Lie b p (f ∷ fs) → Hang b p (f ∷ fs) → f.anchor < anchor_count → is_block b p ≡ true
 is_block-here b p f fs l h small =
     let head = l.0 in
     is_block-yes b p (record { least = omega arith; most = omega arith; multiple = omega arith; back = ap (word b) (omega arith) ∙ h.0 })
@@ -85,7 +85,7 @@ is_block-top b s p w e = not_true (is_block b p) (λ z. none (is_block-is b p z)
     none : IsBlock b p → ⊥
     none i =
         let k = (word b p - slot_start) / 4 in
-        let small : k < 64 = let m = i.most in omega arith in
+        let small : k < anchor_count = let m = i.most in omega arith in
         let at : word b (4 * k) ≡ slot_start + p + 8 = ap (word b) (let m = i.multiple in let l = i.least in omega arith) ∙ i.back in
         elim (leads b k (flex_place s) s.blocks w.hang) [
           | leads_nowhere u ↦ let z = w.none k small u in omega arith
@@ -115,11 +115,11 @@ with_budging on s = record s { budging = on }
 pub slot_of-SlotWords : (on : Bool) (b : List ℕ) (s : Slot) → SlotWords b s → slot_of on b ≡ with_budging on s
 unfolding slot_of
 slot_of-SlotWords on b s w =
-    let h : heap_of b 256 ≡ s.heap = heap_of-Spells b 256 s.heap w.heap in
+    let h : heap_of b heap_place ≡ s.heap = heap_of-Spells b heap_place s.heap w.heap in
     let fits = w.within in
-    let d : flex_in (length b) b (256 + (heap_of b 256).end) ≡ s.blocks =
-    ap (λ (i : Heap). flex_in (length b) b (256 + i.end)) h ∙ flex_in-Lie (length b) b (flex_place s) (slot_length s) s.blocks w.lie w.hang w.anchors refl (is_block-top b s (slot_length s) w refl) (omega arith) in
-    ap (λ (i : Heap). let r : Slot = record { heap = i; blocks = flex_in (length b) b (256 + (heap_of b 256).end); budging = on } in r) h
+    let d : flex_in (length b) b (heap_place + (heap_of b heap_place).end) ≡ s.blocks =
+    ap (λ (i : Heap). flex_in (length b) b (heap_place + i.end)) h ∙ flex_in-Lie (length b) b (flex_place s) (slot_length s) s.blocks w.lie w.hang w.anchors refl (is_block-top b s (slot_length s) w refl) (omega arith) in
+    ap (λ (i : Heap). let r : Slot = record { heap = i; blocks = flex_in (length b) b (heap_place + (heap_of b heap_place).end); budging = on } in r) h
     ∙ ap (λ (l : List Flex). let r : Slot = record { heap = s.heap; blocks = l; budging = on } in r) d
 
 pub slot_of-SpellsSlot : (b : List ℕ) (s : Slot) → SpellsSlot b s → slot_of s.budging b ≡ s
@@ -138,7 +138,7 @@ one_slot b s t j k e = sym (slot_of-SpellsSlot b s j) ∙ ap (λ x. slot_of x b)
 -- the slot's bytes stay, and what is behind them does not matter
 pub SlotWords-kept : (b c : List ℕ) (s : Slot) → SameIn b c 0 (slot_length s) → slot_length s ≤ length c → SlotWords b s → SlotWords c s
 SlotWords-kept b c s o l w = record {
-  heap = Spells-same b c 256 s.heap (part_of o (omega arith) (omega arith)) (omega arith) w.heap;
+  heap = Spells-same b c heap_place s.heap (part_of o (omega arith) (omega arith)) (omega arith) w.heap;
   within = l;
   lie = Lie-same b c (flex_place s) (slot_length s) s.blocks (part_of o (omega arith) (omega arith)) (omega arith) w.lie;
   hang = Hang-same b c (flex_place s) s.blocks w.anchors (part_of o (omega arith) (omega arith)) w.hang;
@@ -147,22 +147,22 @@ SlotWords-kept b c s o l w = record {
 }
 
 -- another heap with the same end in the C heap's bytes
-pub SlotWords-with_heap : (b c : List ℕ) (s : Slot) (h : Heap) → SlotWords b s → SameOutside b c 256 (256 + s.heap.end) → Spells c 256 h → h.end ≡ s.heap.end → SlotWords c (with_heap h s)
+pub SlotWords-with_heap : (b c : List ℕ) (s : Slot) (h : Heap) → SlotWords b s → SameOutside b c heap_place (heap_place + s.heap.end) → Spells c heap_place h → h.end ≡ s.heap.end → SlotWords c (with_heap h s)
 SlotWords-with_heap b c s h w o k e =
     let l = w.within in
     let len = o.len in
-    let anchors : SameIn b c 0 256 = in_below o (omega arith) in
+    let anchors : SameIn b c 0 heap_place = in_below o (omega arith) in
     record {
       heap = k;
       within = omega arith;
-      lie = subst (λ p. Lie c p s.blocks) (ap (λ n. 256 + n) (sym e)) (Lie-same b c (flex_place s) (slot_length s) s.blocks (in_above o (omega arith)) (omega arith) w.lie);
-      hang = subst (λ p. Hang c p s.blocks) (ap (λ n. 256 + n) (sym e)) (Hang-same b c (flex_place s) s.blocks w.anchors anchors w.hang);
+      lie = subst (λ p. Lie c p s.blocks) (ap (λ n. heap_place + n) (sym e)) (Lie-same b c (flex_place s) (slot_length s) s.blocks (in_above o (omega arith)) (omega arith) w.lie);
+      hang = subst (λ p. Hang c p s.blocks) (ap (λ n. heap_place + n) (sym e)) (Hang-same b c (flex_place s) s.blocks w.anchors anchors w.hang);
       none = λ j u v. word_same b c (4 * j) (part_of anchors (omega arith) (omega arith)) ∙ w.none j u v;
       anchors = w.anchors;
     }
 
 -- and then the bytes spell that slot
-pub SpellsSlot-with_heap : (b c : List ℕ) (s : Slot) (h : Heap) → SpellsSlot b s → SameOutside b c 256 (256 + s.heap.end) → Spells c 256 h → h.end ≡ s.heap.end → SpellsSlot c (with_heap h s)
+pub SpellsSlot-with_heap : (b c : List ℕ) (s : Slot) (h : Heap) → SpellsSlot b s → SameOutside b c heap_place (heap_place + s.heap.end) → Spells c heap_place h → h.end ≡ s.heap.end → SpellsSlot c (with_heap h s)
 SpellsSlot-with_heap b c s h j o k e = record {
   words = SlotWords-with_heap b c s h j.words o k e;
   pages = let len = o.len in let p = j.pages in omega arith;

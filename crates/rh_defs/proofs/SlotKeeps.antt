@@ -6,7 +6,7 @@ use borrow.Author.Tests.{ltb-false, leb-true}
 use Rattle.rh_defs.specs.Chain.{Granted, result_or}
 use Rattle.rh_defs.specs.Pieces.{Split, written, total, moved, pages_for, lacks_pages, is_inside}
 use Rattle.rh_defs.specs.Heap.{Heap, Segment, Used, Hole, IsHeap, IsTidy, size_of, bytes_of, first_place, place_after, is_block_at, block_around, is_around, need, raised, new_size, resize_need, released, fitted}
-use Rattle.rh_defs.specs.Slot.{Slot, Flex, IsSlot, HaveAnchors, weight, flex_weight, slot_length, slot_pages, flex_start, heap_start, flex_address, block_of, flex_around, heap_block_at, with_bytes, with_heap, length_with, lacks_room, opened_at, taken_out, slot_begin, slot_alloc, slot_block, slot_free, slot_extend, slot_mid, slot_put, slot_claim, slot_release, slot_resize}
+use Rattle.rh_defs.specs.Slot.{Slot, Flex, IsSlot, HaveAnchors, weight, flex_weight, slot_length, slot_pages, flex_start, heap_start, flex_address, block_of, flex_around, heap_block_at, with_bytes, with_heap, length_with, lacks_room, opened_at, taken_out, slot_begin, slot_alloc, slot_block, slot_free, slot_extend, slot_mid, slot_put, slot_claim, slot_release, slot_resize, anchor_count}
 use Rattle.rh_defs.specs.Places.{with_heap_bytes, roomy_in, buffer_at, written_heap, written_around, written_in}
 use Rattle.rh_defs.specs.IncomingEvents.{without_buffer}
 use Rattle.rh_defs.proofs.Chains.{OnGrant, granted, refused, granted-with, granted-unless, found_or-grants}
@@ -59,7 +59,7 @@ pub slot_begin-grants : (free : ℕ) → OnGrant (λ s. (slot_pages s ≤ free) 
 unfolding slot_begin
 slot_begin-grants free = granted-unless _ _ _ λ room. granted (omega (arith, ltb-false _ _ room), record { heap = record { tidy = tt; fits = omega arith; multiple = omega arith }; anchors = tt })
 
-pub slot_alloc-grants : (free k n : ℕ) (s : Slot) → k < 64 → IsSlot s → OnGrant (λ (p : Slot × ℕ). IsRoomed free s p.0) (slot_alloc free k n s)
+pub slot_alloc-grants : (free k n : ℕ) (s : Slot) → k < anchor_count → IsSlot s → OnGrant (λ (p : Slot × ℕ). IsRoomed free s p.0) (slot_alloc free k n s)
 unfolding slot_alloc
 slot_alloc-grants free k n s small is =
     granted-unless _ _ _ λ unused.

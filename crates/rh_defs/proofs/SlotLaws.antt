@@ -6,8 +6,8 @@ use Rattle.rh_defs.specs.Bytes.{part, SameIn, SameOutside}
 use Rattle.rh_defs.specs.Pieces.{total, Split, first_at, NonePass}
 use Rattle.rh_defs.specs.Heap.{Heap}
 use Rattle.rh_defs.specs.HeapImage.{Spells}
-use Rattle.rh_defs.specs.Slot.{Flex, Slot, weight, flex_weight, flex_start, block_of, IsFree, HaveAnchors}
-use Rattle.rh_defs.specs.SlotImage.{Lie, Hang}
+use Rattle.rh_defs.specs.Slot.{Flex, Slot, weight, flex_weight, flex_start, block_of, IsFree, HaveAnchors, anchor_count}
+use Rattle.rh_defs.specs.SlotImage.{Lie, Hang, heap_place}
 use Rattle.rh_defs.proofs.BytesLaws.{word_same, words_same, part_same, parts_same, SameOutside-wider, SameOutside-both}
 use Rattle.rh_defs.proofs.HeapLists.{first_at-none, first_at-found, eqb_same, eqb_apart, HasRoom-from_tidy}
 use Rattle.rh_defs.proofs.HeapStretch.{Stand-kept}
@@ -108,7 +108,7 @@ pub Hang-join : (b : List ℕ) (p q : ℕ) (xs ys : List Flex) → q ≡ p + tot
 Hang-join b p q [] ys e l m = let z : q ≡ p = omega arith in subst (λ i. Hang b i ys) z m
 Hang-join b p q (f ∷ xs) ys e l m = (l.0, Hang-join b (p + weight f) q xs ys (omega arith) l.1 m)
 
-pub Hang-same : (b c : List ℕ) (p : ℕ) (fs : List Flex) → HaveAnchors fs → SameIn b c 0 256 → Hang b p fs → Hang c p fs
+pub Hang-same : (b c : List ℕ) (p : ℕ) (fs : List Flex) → HaveAnchors fs → SameIn b c 0 heap_place → Hang b p fs → Hang c p fs
 Hang-same b c p [] a s h = tt
 Hang-same b c p (f ∷ fs) a s h =
     let small = a.0 in
@@ -125,7 +125,7 @@ IsFree-join k (f ∷ xs) ys u v = (u.0, IsFree-join k xs ys u.1 v)
 
 -- a block's anchor is none of the others'
 pub record Apart (xs : List Flex) (f : Flex) (ys : List Flex) : Type 0 where
-  pub small : f.anchor < 64
+  pub small : f.anchor < anchor_count
   pub before : IsFree f.anchor xs
   pub after : IsFree f.anchor ys
   pub above : HaveAnchors ys

@@ -4,6 +4,7 @@ use Rattle.std.proofs.lemmas.List.{map-append, length-map}
 use Rattle.std.specs.Prelude.{Option, Some, None, ℤ, pos, negsuc, ◌&&◌, ◌==◌, nat_lt, not, find, filter, slice_index}
 use Rattle.std.specs.List.{AllByRecursion, list_all}
 use borrow.Author.Tests.{ltb-true, ltb-false, leb-false, eqb-true, eqb-false}
+use Rattle.rh_defs.specs.Slot.{anchor_count}
 use Rattle.rh_defs.specs.declared.command.Command.{Command}
 use Rattle.rh_defs.specs.declared.command.Command.TheVariants as command
 use Rattle.rh_defs.specs.declared.command.Manner.{Manner}
@@ -186,14 +187,14 @@ module _ (d : Desk) where
 
   -- ---- flex blocks
 
-  alloc-keeps : (name : List ℕ) (k n : ℕ) → k < 64 → Keeps d (alloc d name k n)
+  alloc-keeps : (name : List ℕ) (k n : ℕ) → k < anchor_count → Keeps d (alloc d name k n)
   unfolding alloc
   alloc-keeps name k n small is =
       granted-with _ (named-task name d is) λ t task.
       granted-with _ (slot_alloc-grants (free_pages d) k n t.slot small task.slot) λ p fits.
       granted (answer-is (with_slot-keeps d t p.0 task fits is))
 
-  load-keeps : (name : List ℕ) (k : ℕ) (file : List ℕ) → k < 64 → Keeps d (load d name k file)
+  load-keeps : (name : List ℕ) (k : ℕ) (file : List ℕ) → k < anchor_count → Keeps d (load d name k file)
   unfolding load
   load-keeps name k file small is =
       granted-with _ (named-task name d is) λ t task. granted-then _ _ λ entry found.
@@ -392,21 +393,21 @@ poll-keeps d name is =
 
 -- ---- one command
 
--- a command in range names one of the 64 anchors
-alloc-anchor : (name : List ℕ) (k n : ℕ) → in_range (command.Alloc name k n) ≡ true → k < 64
+-- a command in range names one of the anchors
+alloc-anchor : (name : List ℕ) (k n : ℕ) → in_range (command.Alloc name k n) ≡ true → k < anchor_count
 unfolding in_range
-alloc-anchor name k n h = second (is_name name) (is_number n) (nat_lt k 64) refl h
+alloc-anchor name k n h = second (is_name name) (is_number n) (nat_lt k anchor_count) refl h
   where
-    second : (a c b : Bool) → nat_lt k 64 ≡ b → (a && b && c) ≡ true → k < 64
+    second : (a c b : Bool) → nat_lt k anchor_count ≡ b → (a && b && c) ≡ true → k < anchor_count
     second true c true e h = ltb-true _ _ e
     second true c false e h = absurd cc
     second false c b e h = absurd cc
 
-load-anchor : (name : List ℕ) (k : ℕ) (file : List ℕ) → in_range (command.Load name k file) ≡ true → k < 64
+load-anchor : (name : List ℕ) (k : ℕ) (file : List ℕ) → in_range (command.Load name k file) ≡ true → k < anchor_count
 unfolding in_range
-load-anchor name k file h = second (is_name name) (is_name file) (nat_lt k 64) refl h
+load-anchor name k file h = second (is_name name) (is_name file) (nat_lt k anchor_count) refl h
   where
-    second : (a c b : Bool) → nat_lt k 64 ≡ b → (a && b && c) ≡ true → k < 64
+    second : (a c b : Bool) → nat_lt k anchor_count ≡ b → (a && b && c) ≡ true → k < anchor_count
     second true c true e h = ltb-true _ _ e
     second true c false e h = absurd cc
     second false c b e h = absurd cc

@@ -118,7 +118,7 @@ finish_load-keeps d t (Some x) is =
 
 -- ---- the receiver
 
--- the lowest anchor without a block is one of the 64
+-- the lowest anchor without a block is one of the anchors
 free_from-small : (k rest : ℕ) (s : Slot) → IfSome (free_from k rest s) (λ a. a < k + rest)
 free_from-small k zero s = tt
 free_from-small k (suc rest) s =
@@ -138,7 +138,7 @@ ended-keeps h f edit d is =
 accept-keeps : (d : Desk) (t : Task) (m : Parcel) → IsTask d t → IsDesk d → OnGrant IsAfter (accept d t m)
 unfolding accept
 accept-keeps d t m task is =
-    granted-with _ (found_or-grants (λ k. k < 64) (free_anchor t.slot) _ (free_from-small 0 anchor_count t.slot)) λ k small.
+    granted-with _ (found_or-grants (λ k. k < anchor_count) (free_anchor t.slot) _ (free_from-small 0 anchor_count t.slot)) λ k small.
     granted-with _ (slot_claim-grants (free_pages d) t.buffer t.slot task.slot) λ b first.
     granted-with _ (slot_alloc-grants (free_pages (with_slot t.handle b.0 d)) k 0 b.0 small first.slot) λ p second.
     granted-with _ (send_letter-keeps _ _ (with_slot-keeps d t p.0 task (roomed-then d t b.0 p.0 task is first second) is)) λ sent ok.

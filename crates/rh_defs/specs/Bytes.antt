@@ -2,6 +2,10 @@
 use Rattle.std.specs.Prelude.{◌≡◌, ℕ, zero, suc, ◌+◌, ◌<◌, ◌≤◌, List, [], ◌∷◌, length, slice_index, slice_set}
 use Rattle.std.specs.Int.{w32, from_le_bytes, to_le_bytes}
 
+-- the byte of a space
+abbrev pub space : ℕ
+space = 32
+
 -- the word of four bytes at a place
 unfoldable pub word : List ℕ → ℕ → ℕ
 word b at = from_le_bytes w32 (slice_index b at ∷ slice_index b (at + 1) ∷ slice_index b (at + 2) ∷ slice_index b (at + 3) ∷ [])

@@ -6,6 +6,7 @@ use Rattle.rh_defs.specs.declared.refusal.Refusal.TheVariants.{NameInUse, TooMan
 use Rattle.rh_defs.specs.declared.command.Manner.{Manner}
 use Rattle.rh_defs.specs.declared.reply.Reply.{Reply}
 use Rattle.rh_defs.specs.declared.reply.Reply.TheVariants as reply
+use Rattle.rh_defs.specs.declared.sizes.TheConstants.{MADE_AREAS, MODULE_START}
 use Rattle.rh_defs.specs.Chain.{Granted, ◌>>=◌, ◌>>◌, refuse_if, found_or}
 use Rattle.rh_defs.specs.Forms.{last_made}
 use Rattle.rh_defs.specs.Pieces.{page, lacks_pages, Split}
@@ -140,7 +141,7 @@ scrap_area = 5
 
 -- so many made areas are live at most
 abbrev pub most_made : ℕ
-most_made = 32
+most_made = MADE_AREAS
 
 -- the bytes that an area keeps at least
 abbrev pub file_length : Option Scrap → ℕ
@@ -219,7 +220,7 @@ remove d k = do
 
 -- the module area's first byte
 abbrev pub module_start : ℕ
-module_start = 0x1800000
+module_start = MODULE_START
 
 -- the block at the address, which holds no message; addresses below the module area are no block's
 unfoldable pub own_block : ℕ → Desk → Granted (Split Segment)

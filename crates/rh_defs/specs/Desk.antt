@@ -7,6 +7,7 @@ use Rattle.rh_defs.specs.declared.command.Manner.{Manner}
 use Rattle.rh_defs.specs.declared.message.Letter.{Letter}
 use Rattle.rh_defs.specs.declared.transfer.Outgoing.{Outgoing}
 use Rattle.rh_defs.specs.declared.transfer.Incoming.{Incoming}
+use Rattle.rh_defs.specs.declared.sizes.TheConstants.{MAX_TASKS}
 use Rattle.rh_defs.specs.Chain.{Granted, ◌>>=◌, ◌>>◌, refuse_if, found_or}
 use Rattle.rh_defs.specs.Pieces.{page, total, Split}
 use Rattle.rh_defs.specs.Heap.{Segment, Heap}
@@ -52,7 +53,7 @@ pub record Desk : Type 0 where
 
 -- at most so many tasks are live
 abbrev pub most_tasks : ℕ
-most_tasks = 32
+most_tasks = MAX_TASKS
 
 -- the ref of the next message
 abbrev pub next_ref : Desk → ℕ

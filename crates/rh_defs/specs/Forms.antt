@@ -2,20 +2,21 @@
 use Rattle.std.specs.Prelude.{ℕ, ◌+◌, ◌*◌, ◌-◌, ℤ, pos, negsuc, Bool, true, ◌&&◌, nat_le, nat_lt, slice_index, List, length, fold, Option, Some, None}
 use Rattle.std.specs.List.{list_all}
 use Rattle.std.specs.Char.{is_ascii_alphabetic, is_ascii_alphanumeric, is_ascii_digit}
+use Rattle.rh_defs.specs.declared.sizes.TheConstants.{ANCHORS, FIRST_MADE, GREATEST_NUMBER, LAST_AREA, LONGEST_BUFFER, LONGEST_LEAF, LONGEST_NAME, MAX_PAGES}
 
 -- the greatest number of a line
 abbrev pub greatest : ℕ
-greatest = 2147483647
+greatest = GREATEST_NUMBER
 
 -- an ASCII letter, and then up to 11 ASCII letters or digits
 abbrev pub is_name : List ℕ → Bool
 is_name w =
-    nat_le 1 (length w) && nat_le (length w) 12 && is_ascii_alphabetic (slice_index w 0)
+    nat_le 1 (length w) && nat_le (length w) LONGEST_NAME && is_ascii_alphabetic (slice_index w 0)
     && list_all is_ascii_alphanumeric w
 
--- a slot has 64 anchors
+-- one of a slot's anchors
 abbrev pub is_anchor : ℕ → Bool
-is_anchor k = nat_lt k 64
+is_anchor k = nat_lt k ANCHORS
 
 -- a size or an offset of a line
 abbrev pub is_number : ℕ → Bool
@@ -28,7 +29,7 @@ is_delta (negsuc n) = nat_lt n greatest
 
 -- the size of the longest receive buffer
 abbrev pub longest_buffer : ℕ
-longest_buffer = 65536
+longest_buffer = LONGEST_BUFFER
 
 -- the size of a receive buffer
 abbrev pub is_buffer : ℕ → Bool
@@ -40,7 +41,7 @@ is_graphic b = nat_le 0x21 b && nat_le b 0x7e
 
 -- 1 to 10 bytes from &21 to &7E
 abbrev pub is_leaf : List ℕ → Bool
-is_leaf leaf = nat_le 1 (length leaf) && nat_le (length leaf) 10 && list_all is_graphic leaf
+is_leaf leaf = nat_le 1 (length leaf) && nat_le (length leaf) LONGEST_LEAF && list_all is_graphic leaf
 
 -- the last ref that a message can have
 abbrev pub last_ref : ℕ
@@ -53,10 +54,10 @@ is_id (Some id) = nat_le 1 id
 
 -- the number of the first made area, and that of the last one
 abbrev pub first_made : ℕ
-first_made = 256
+first_made = FIRST_MADE
 
 abbrev pub last_made : ℕ
-last_made = 65535
+last_made = LAST_AREA
 
 -- the number of an area, and that of a made one
 abbrev pub is_area : ℕ → Bool
@@ -67,7 +68,7 @@ is_made k = nat_le first_made k && nat_le k last_made
 
 -- the most pages of a pool, and of a made area
 abbrev pub most_pages : ℕ
-most_pages = 1024
+most_pages = MAX_PAGES
 
 -- how many pages a made area may have
 abbrev pub is_most : ℕ → Bool

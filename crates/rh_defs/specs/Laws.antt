@@ -2,6 +2,7 @@
 use Rattle.std.specs.Prelude.{ℕ, ◌+◌, ◌*◌, ◌^◌, ◌<◌, ◌≤◌, ◌≡◌, true, Some, Ok, List, [], ◌∷◌, length, map, slice_index, IfSome}
 use Rattle.std.specs.List.{AllByRecursion}
 use Rattle.rh_defs.specs.declared.command.Command.{Command}
+use Rattle.rh_defs.specs.declared.sizes.TheConstants.{FIXED_AREAS, MIN_PAGES}
 use Rattle.rh_defs.specs.Forms.{most_pages, first_made, last_made}
 use Rattle.rh_defs.specs.Pieces.{page, zeros}
 use Rattle.rh_defs.specs.Bytes.{put}
@@ -63,7 +64,7 @@ pub record IsPost (post : Post) : Type 0 where
 
 -- areas 0 to 5, where the module area's pages are told by its heap
 pub record AreFixed (areas : List ℕ) : Type 0 where
-  pub six : length areas ≡ 6
+  pub six : length areas ≡ FIXED_AREAS
   pub module_area : slice_index areas module_area ≡ 0
 
 -- the made areas stand in order of number, and none is larger than it may be
@@ -96,9 +97,9 @@ pub record HasApartBlocks (d : Desk) : Type 0 where
   pub slots : AllByRecursion (λ t. AreLaidOut slot_start (page * slot_pages t.slot) (slot_spans t.slot)) d.tasks
   pub module_area : AreLaidOut module_start (page * module_pages d) (module_spans d.post.heap)
 
--- what a run starts from: a pool of 8 to 1,024 pages, and a next handle and ref from 1 up to the last 32-bit word
+-- what a run starts from: a pool of as many pages as there may be, and a next handle and ref from 1 up to the last 32-bit word
 pub record IsStart (pool handle ref : ℕ) : Type 0 where
-  pub least : 8 ≤ pool
+  pub least : MIN_PAGES ≤ pool
   pub most : pool ≤ most_pages
   pub first_handle : 1 ≤ handle
   pub last_handle : handle < 2 ^ 32

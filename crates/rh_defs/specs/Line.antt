@@ -4,9 +4,11 @@ use Rattle.std.specs.List.{slice_split, list_all}
 use Rattle.std.specs.Str.{bytes_eq}
 use Rattle.std.specs.Result.{result_ok}
 use Rattle.hex.specs.Hex.{decode_of, hex_digit_value, is_hex_digit}
+use Rattle.rh_defs.specs.Bytes.{space}
 use Rattle.rh_defs.specs.declared.command.Command.{Command}
 use Rattle.rh_defs.specs.declared.fault.LineFault.{LineFault}
 use Rattle.rh_defs.specs.declared.fault.LineFault.TheVariants.{TooLong, Unknown, Count, Word}
+use Rattle.rh_defs.specs.declared.sizes.TheConstants.{LONGEST_LINE}
 use Rattle.rh_defs.specs.Forms.{is_name, is_decimal, is_leaf, number_of, greatest}
 use Rattle.rh_defs.specs.Grammar.{Form, Name, Leaf, Number, Delta, Address, Bytes, Choice, Maybe, Value, Maker, Row, rows}
 
@@ -22,11 +24,11 @@ abbrev pub ◌>>=◌ : {A B : Type 0} → Meaning A → (A → Meaning B) → Me
 
 -- a line has at most so many bytes before its line feed
 abbrev pub longest_line : ℕ
-longest_line = 1024
+longest_line = LONGEST_LINE
 
 -- the words of a line, which spaces part
 abbrev pub words_of : List ℕ → List (List ℕ)
-words_of line = filter (λ w. not (length w == 0)) (slice_split (λ b. b == 32) line)
+words_of line = filter (λ w. not (length w == 0)) (slice_split (λ b. b == space) line)
 
 -- word n, counted from 1, or no bytes
 abbrev pub word : List (List ℕ) → ℕ → List ℕ

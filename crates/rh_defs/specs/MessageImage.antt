@@ -4,6 +4,7 @@ use Rattle.std.specs.List.{position}
 use Rattle.rh_defs.specs.Bytes.{word, part}
 use Rattle.rh_defs.specs.Messages.{action_at, action_number, action_of, data_words}
 use Rattle.rh_defs.specs.Pathnames.{is_plain}
+use Rattle.rh_defs.specs.declared.sizes.TheConstants.{LONGEST_MESSAGE, MESSAGE_NAME}
 use Rattle.rh_defs.specs.declared.message.Action.{Action}
 use Rattle.rh_defs.specs.declared.message.Action.TheVariants as action
 use Rattle.rh_defs.specs.declared.message.FileData.{FileData}
@@ -22,8 +23,8 @@ SpellWords b at (n ∷ ns) = (word b at ≡ n) × SpellWords b (at + 4) ns
 -- the length is enough for the words of a file, and the name at 44 is ended by a zero byte inside it
 abbrev pub SpellsName : List ℕ → ℕ → List ℕ → Type 0
 SpellsName b end name =
-    (48 ≤ end) × (part b 44 (length name) ≡ name) × (is_plain name ≡ true) × (44 + length name < end)
-    × (slice_index b (44 + length name) ≡ 0)
+    (48 ≤ end) × (part b MESSAGE_NAME (length name) ≡ name) × (is_plain name ≡ true) × (MESSAGE_NAME + length name < end)
+    × (slice_index b (MESSAGE_NAME + length name) ≡ 0)
 
 -- what the length must have room for
 abbrev pub SpellsTail : List ℕ → ℕ → Body → Type 0
@@ -37,7 +38,7 @@ SpellsTail b end (RamTransmit buffer n) = 28 ≤ end
 -- The bytes spell the message. There may be more bytes than the length says, and a length may be greater than its message needs.
 pub record SpellsMessage (b : List ℕ) (m : Message) : Type 0 where
   pub least : 20 ≤ word b 0
-  pub most : word b 0 ≤ 256
+  pub most : word b 0 ≤ LONGEST_MESSAGE
   pub multiple : word b 0 % 4 ≡ 0
   pub within : word b 0 ≤ length b
   pub words : SpellWords b 4 (m.from ∷ m.my_ref ∷ m.your_ref ∷ action_number (action_of m.body) ∷ data_words m.body)
@@ -46,7 +47,7 @@ pub record SpellsMessage (b : List ℕ) (m : Message) : Type 0 where
 -- ---- the message, or the first fault
 -- how many bytes the name at 44 has before its zero byte, where one stands below the end
 abbrev pub name_length : List ℕ → ℕ → Option ℕ
-name_length b end = position (λ x. x == 0) (part b 44 (end - 44))
+name_length b end = position (λ x. x == 0) (part b MESSAGE_NAME (end - MESSAGE_NAME))
 
 abbrev pub file_named : List ℕ → Option ℕ → Result FileData MessageFault
 file_named b None = Err BadLength
@@ -57,7 +58,7 @@ file_named b (Some n) = Ok (record {
   y = word b 32;
   size = word b 36;
   file_type = word b 40;
-  name = part b 44 n;
+  name = part b MESSAGE_NAME n;
 })
 
 abbrev pub file_in : List ℕ → ℕ → Result FileData MessageFault
@@ -90,7 +91,7 @@ message_in b (Err fault) = Err fault
 -- whether the length word is that of a message, and so many bytes are there
 abbrev pub has_length : List ℕ → Bool
 has_length b =
-    nat_le 20 (length b) && nat_le 20 (word b 0) && nat_le (word b 0) 256 && word b 0 % 4 == 0 && nat_le (word b 0) (length b)
+    nat_le 20 (length b) && nat_le 20 (word b 0) && nat_le (word b 0) LONGEST_MESSAGE && word b 0 % 4 == 0 && nat_le (word b 0) (length b)
 
 -- the message that the bytes spell; else the first fault: of the length word, of the action, of the length for the action
 unfoldable pub decoded : List ℕ → Result Message MessageFault

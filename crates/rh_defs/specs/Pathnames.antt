@@ -1,10 +1,11 @@
 -- The names that messages carry.
 use Rattle.std.specs.Prelude.{ℕ, Bool, ◌&&◌, nat_lt, nat_le, List, length}
 use Rattle.std.specs.List.{list_all}
+use Rattle.rh_defs.specs.declared.sizes.TheConstants.{LONGEST_PATHNAME}
 
 -- the most bytes of a name in a message
 abbrev pub most_pathname : ℕ
-most_pathname = 211
+most_pathname = LONGEST_PATHNAME
 
 -- no byte is 0
 abbrev pub is_plain : List ℕ → Bool

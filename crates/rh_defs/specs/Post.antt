@@ -2,6 +2,7 @@
 use Rattle.std.specs.Prelude.{ℕ, ◌+◌, ◌^◌, Bool, true, false, not, nat_le, ◌==◌, ◌||◌, if◌then◌else◌, List, [], ◌∷◌, ◌++◌, length, map, filter, Option, Some, None, Ok}
 use Rattle.std.specs.List.{list_any}
 use Rattle.rh_defs.specs.declared.refusal.Refusal.TheVariants.{NoTask, NoRefs, QueueFull}
+use Rattle.rh_defs.specs.declared.sizes.TheConstants.{MOST_MESSAGES}
 use Rattle.rh_defs.specs.Chain.{Granted, ◌>>=◌, ◌>>◌, refuse_if}
 use Rattle.rh_defs.specs.Pieces.{total}
 use Rattle.rh_defs.specs.Heap.{Heap, release}
@@ -30,7 +31,7 @@ post_handles post = map (λ (s : Seat). s.handle) post.seats
 
 -- at most so many messages are queued and held
 abbrev pub most_messages : ℕ
-most_messages = 256
+most_messages = MOST_MESSAGES
 
 -- ---- who is there, who holds what
 -- whether the handle is live

@@ -7,10 +7,11 @@ use Rattle.rh_defs.specs.declared.transfer.Outgoing.{Outgoing}
 use Rattle.rh_defs.specs.declared.transfer.Outgoing.TheVariants as outgoing
 use Rattle.rh_defs.specs.declared.transfer.Incoming.{Incoming}
 use Rattle.rh_defs.specs.declared.transfer.Incoming.TheVariants as incoming
+use Rattle.rh_defs.specs.declared.sizes.TheConstants.{MOST_RECORDS}
 
 -- a task has at most so many records each way
 abbrev pub most_records : ℕ
-most_records = 8
+most_records = MOST_RECORDS
 
 -- the id of a record of a transfer that goes out
 abbrev pub out_id : Outgoing → ℕ

@@ -2,7 +2,7 @@
 use Rattle.std.specs.Prelude.{◌≢◌, ℕ, ◌+◌, ◌-◌, ◌<◌, ℤ, pos, negsuc, Bool, true, ◌&&◌, ◌||◌, not, nat_lt, nat_le, ◌==◌, List, [], ◌∷◌, ◌++◌, length, take, drop, Option, is_some, Ok}
 use Rattle.std.specs.List.{AllByRecursion}
 use Rattle.rh_defs.specs.declared.refusal.Refusal.TheVariants.{NoBlock, AnchorInUse, NotABlock, BadRange, BadSize, NoBudge, NoRoom}
-use Rattle.rh_defs.specs.declared.sizes.TheConstants.{SLOT_START, C_HEAP_START, C_HEAP_LENGTH}
+use Rattle.rh_defs.specs.declared.sizes.TheConstants.{ANCHORS, SLOT_START, C_HEAP_PLACE, C_HEAP_START, C_HEAP_LENGTH}
 use Rattle.rh_defs.specs.Chain.{Granted, ◌>>=◌, refuse_if, found_or}
 use Rattle.rh_defs.specs.Pieces.{round_up, page, pages_for, lacks_pages, zeros, moved, total, Split, first_at, with_here, written, is_inside}
 use Rattle.rh_defs.specs.Heap.{Segment, Heap, IsHeap, Placed, empty_heap, block_at, block_around, need, claim_growing, released, new_size, resize_need, resize_growing, fitted}
@@ -20,7 +20,7 @@ pub record Slot : Type 0 where
 
 -- a slot has so many anchors
 abbrev pub anchor_count : ℕ
-anchor_count = 64
+anchor_count = ANCHORS
 
 -- what a block of n bytes takes: two header words, and whole words
 abbrev pub flex_weight : ℕ → ℕ
@@ -29,7 +29,7 @@ flex_weight n = 8 + round_up 4 n
 abbrev pub weight : Flex → ℕ
 weight b = flex_weight (length b.bytes)
 
--- application space begins at &8000, with 64 anchor words; the C heap follows them
+-- application space begins at &8000, with the anchor words; the C heap follows them
 abbrev pub slot_start : ℕ
 slot_start = SLOT_START
 
@@ -38,7 +38,7 @@ heap_start = C_HEAP_START
 
 -- the bytes that the anchors, the C heap and the blocks take
 abbrev pub slot_length : Slot → ℕ
-slot_length s = 256 + s.heap.end + total weight s.blocks
+slot_length s = C_HEAP_PLACE + s.heap.end + total weight s.blocks
 
 -- a slot has just the pages that hold them
 abbrev pub slot_pages : Slot → ℕ
@@ -56,10 +56,10 @@ flex_start s = heap_start + s.heap.end
 abbrev pub IsFree : ℕ → List Flex → Type 0
 IsFree k blocks = AllByRecursion (λ b. b.anchor ≢ k) blocks
 
--- each block has an anchor of its own among the 64
+-- each block has one of the anchors for its own
 abbrev pub HaveAnchors : List Flex → Type 0
 HaveAnchors [] = Unit {0}
-HaveAnchors (b ∷ blocks) = (b.anchor < 64) × IsFree b.anchor blocks × HaveAnchors blocks
+HaveAnchors (b ∷ blocks) = (b.anchor < anchor_count) × IsFree b.anchor blocks × HaveAnchors blocks
 
 -- what holds of every slot: its heap is one, and its blocks have anchors
 pub record IsSlot (s : Slot) : Type 0 where

@@ -1,12 +1,12 @@
--- The bytes that spell a slot: 64 anchor words, the C heap, and the flex blocks above it.
+-- The bytes that spell a slot: its anchor words, the C heap, and the flex blocks above it.
 use Rattle.std.specs.Prelude.{◌≡◌, ℕ, zero, suc, ◌+◌, ◌-◌, ◌*◌, ◌/◌, ◌%◌, ◌<◌, ◌≤◌, ◌==◌, Bool, nat_le, nat_lt, ◌&&◌, if◌then◌else◌, List, [], ◌∷◌, length}
 use Rattle.rh_defs.specs.Bytes.{word, part}
 use Rattle.rh_defs.specs.declared.sizes.TheConstants.{C_HEAP_PLACE}
 use Rattle.rh_defs.specs.Pieces.{page}
 use Rattle.rh_defs.specs.HeapImage.{Spells, heap_of}
-use Rattle.rh_defs.specs.Slot.{Flex, Slot, flex_weight, weight, slot_start, heap_start, slot_length, slot_pages, IsFree, HaveAnchors}
+use Rattle.rh_defs.specs.Slot.{Flex, Slot, anchor_count, flex_weight, weight, slot_start, heap_start, slot_length, slot_pages, IsFree, HaveAnchors}
 
--- the C heap follows 64 anchor words
+-- the C heap follows the anchor words
 abbrev pub heap_place : ℕ
 heap_place = C_HEAP_PLACE
 
@@ -31,7 +31,7 @@ pub record SlotWords (b : List ℕ) (s : Slot) : Type 0 where
   pub within : slot_length s ≤ length b
   pub lie : Lie b (flex_place s) s.blocks
   pub hang : Hang b (flex_place s) s.blocks
-  pub none : (k : ℕ) → k < 64 → IsFree k s.blocks → word b (4 * k) ≡ 0
+  pub none : (k : ℕ) → k < anchor_count → IsFree k s.blocks → word b (4 * k) ≡ 0
   pub anchors : HaveAnchors s.blocks
 
 -- the bytes spell the slot: they hold it, and are its pages

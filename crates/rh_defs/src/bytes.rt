@@ -1,6 +1,7 @@
 //! The bytes of a `put`.
 
 ghost use Rattle.std.specs.Prelude.{◌≡◌, ◌≤◌, length};
+ghost use Rattle.rh_defs.specs.declared.sizes.TheConstants.{MOST_BYTES};
 
 use crate::sizes::MOST_BYTES;
 use arrayvec::ArrayVec;
@@ -33,7 +34,7 @@ impl Bytes {
     /// The bytes as a slice.
     pub fn as_slice(&self) -> &[u8]
         ensures value { result.now ≡ self.now }
-        ensures short { length self.now ≤ 512 }
+        ensures short { length self.now ≤ MOST_BYTES }
     {
         self.bytes.as_slice()
     }

@@ -34,7 +34,7 @@ impl Model for Ref {
     ghost inverse = { λ n. record { 0 = n } };
 }
 
-/// One of a slot's 64 anchors, 0 to 63: anchor k is the word at &8000 + 4 * k.
+/// One of a slot's anchors, from 0 on: anchor k is the word at &8000 + 4 * k.
 #[derive(Clone, Copy, Debug, PartialEq, Eq)]
 pub struct Anchor(pub u8);
 

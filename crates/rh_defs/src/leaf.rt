@@ -2,6 +2,7 @@
 
 ghost use Rattle.std.specs.Prelude.{◌≡◌, ◌≤◌, length};
 ghost use Rattle.std.specs.List.{list_all};
+ghost use Rattle.rh_defs.specs.declared.sizes.TheConstants.{LONGEST_LEAF};
 ghost use Rattle.rh_defs.specs.Forms.{is_graphic, is_leaf};
 
 use crate::sizes::LONGEST_LEAF;
@@ -35,7 +36,7 @@ impl Leaf {
     /// The bytes of the leafname.
     pub fn as_slice(&self) -> &[u8]
         ensures value { result.now ≡ self.now }
-        ensures short { length self.now ≤ 10 }
+        ensures short { length self.now ≤ LONGEST_LEAF }
     {
         self.letters.as_slice()
     }

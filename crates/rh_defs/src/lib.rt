@@ -27,7 +27,7 @@ pub use heap::{HeapFault, HeapRefusal};
 pub use ids::{Anchor, Handle, Ref};
 pub use laws::{block_law, image_law, order_law, span_law};
 pub use leaf::Leaf;
-pub use listing::{AreaItem, BlockItem, RecordItem, SegmentItem, State};
+pub use listing::{AreaItem, BlockItem, MessageItem, RecordItem, SegmentItem, State};
 pub use message::{Action, Body, Event, EventCode, FileData, Letter, Message, MessageFault};
 pub use name::Name;
 pub use pathname::Pathname;

@@ -1,6 +1,7 @@
-//! What the commands that list things print, item by item.
+//! What is listed, item by item: what commands print, and live messages.
 
-use crate::ids::{Anchor, Ref};
+use crate::ids::{Anchor, Handle, Ref};
+use crate::message::{Action, EventCode};
 use crate::name::Name;
 
 /// A flex block as `blocks` lists it.
@@ -79,4 +80,38 @@ pub struct RecordItem {
     pub id: Ref,
     /// The bytes that were handed over so far.
     pub count: u32,
+}
+
+/// A live message as it is listed.
+#[derive(Clone, Copy, Debug, PartialEq, Eq)]
+pub struct MessageItem {
+    /// Where its block begins, in bytes from the module area's first one.
+    pub block: u32,
+    /// The task that it is for.
+    pub to: Handle,
+    /// The task that sent it.
+    pub from: Handle,
+    /// Its own ref.
+    pub my_ref: Ref,
+    /// What it asks for.
+    pub action: Action,
+    /// The event as which it is handed out.
+    pub code: EventCode,
+    /// Whether its task holds it; else it waits for a poll.
+    pub held: bool,
+}
+
+impl Default for MessageItem {
+    /// No message, as refs count up from 1.
+    fn default() -> MessageItem {
+        MessageItem {
+            block: 0,
+            to: Handle(0),
+            from: Handle(0),
+            my_ref: Ref(0),
+            action: Action::DataSave,
+            code: EventCode::User,
+            held: false,
+        }
+    }
 }

@@ -3,6 +3,7 @@
 ghost use Rattle.std.specs.Prelude.{◌≡◌, ◌↔◌, ◌≤◌, ◌<◌, length, IsTrue, IsSome, IfSome};
 ghost use Rattle.std.specs.List.{list_all};
 ghost use Rattle.std.specs.Char.{is_ascii_alphanumeric};
+ghost use Rattle.rh_defs.specs.declared.sizes.TheConstants.{LONGEST_NAME};
 ghost use Rattle.rh_defs.specs.Forms.{is_name};
 
 use crate::sizes::LONGEST_NAME;
@@ -28,7 +29,7 @@ impl Model for Name {
 impl Name {
     /// The name with these bytes: none unless there are 1 to 12.
     pub fn new(bytes: &[u8]) -> Option<Name>
-        ensures found { IsSome result ↔ ((0 < length bytes.now) × (length bytes.now ≤ 12)) }
+        ensures found { IsSome result ↔ ((0 < length bytes.now) × (length bytes.now ≤ LONGEST_NAME)) }
         ensures value { IfSome result (λ name. name ≡ bytes.now) }
     {
         if bytes.is_empty() || bytes.len() > LONGEST_NAME {
@@ -42,7 +43,7 @@ impl Name {
     /// The bytes of the name.
     pub fn as_bytes(&self) -> &[u8]
         ensures value { result.now ≡ self.now }
-        ensures short { length self.now ≤ 12 }
+        ensures short { length self.now ≤ LONGEST_NAME }
     {
         self.letters.as_slice()
     }

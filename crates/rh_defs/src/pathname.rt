@@ -3,13 +3,14 @@
 ghost use Rattle.std.specs.Prelude.{◌≡◌, ◌↔◌, ◌≤◌, true, length, IsSome, IfSome};
 ghost use Rattle.rh_defs.specs.Pathnames.{is_pathname, is_plain as is_plain_of};
 
+use crate::sizes::LONGEST_PATHNAME;
 use arrayvec::ArrayVec;
 use std::marker::Model;
 
-/// A leafname or pathname in a message: at most 211 bytes, none of them 0.
+/// A leafname or pathname in a message: as many bytes as its message has room for, none of them 0.
 #[derive(Debug, Drop, PartialEq, Eq)]
 pub struct Pathname {
-    bytes: ArrayVec<u8, 211>,
+    bytes: ArrayVec<u8, LONGEST_PATHNAME>,
 }
 
 impl Model for Pathname {
@@ -32,10 +33,10 @@ fn is_plain(bytes: &[u8]) -> bool
 }
 
 impl Pathname {
-    /// The most bytes of a name: with its zero byte it fills a message block of 256 bytes.
-    pub const MOST_BYTES: usize = 211;
+    /// The most bytes of a name: with its zero byte it fills the longest message.
+    pub const MOST_BYTES: usize = LONGEST_PATHNAME;
 
-    /// The name with these bytes: none where there are more than 211, or one of them is 0.
+    /// The name with these bytes: none where there are more than the most, or one of them is 0.
     pub fn new(bytes: &[u8]) -> Option<Pathname>
         ensures found { IsSome result ↔ (is_pathname bytes.now ≡ true) }
         ensures value { IfSome result (λ name. name ≡ bytes.now) }

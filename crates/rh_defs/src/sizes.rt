@@ -4,7 +4,7 @@ ghost use Rattle.std.specs.Prelude.{◌≡◌, ℕ, ◌+◌, ◌*◌, ◌^◌, �
 ghost use Rattle.rh_defs.specs.Heap.{segment_size};
 ghost use Rattle.rh_defs.specs.Pieces.{is_inside, moved, pages_for};
 ghost use Rattle.rh_defs.specs.Slot.{flex_weight};
-ghost use Rattle.rh_defs.specs.declared.sizes.TheConstants.{FIXED_AREAS, HEAP_UNIT, MADE_AREAS, MAX_AREAS, MAX_PAGES, MAX_TASKS, MIN_PAGES, PAGE, WORD};
+ghost use Rattle.rh_defs.specs.declared.sizes.TheConstants.{ANCHORS, FIRST_MADE, FIXED_AREAS, FLEX_HEADER, GREATEST_NUMBER, HEAP_UNIT, LAST_AREA, LONGEST_BUFFER, LONGEST_FILE, LONGEST_LEAF, LONGEST_LINE, LONGEST_MESSAGE, LONGEST_NAME, MADE_AREAS, MAX_AREAS, MAX_PAGES, MAX_TASKS, MESSAGE_NAME, MIN_PAGES, MODULE_START, MOST_MESSAGES, MOST_READS, MOST_RECORDS, PAGE, SEGMENTS_AT_ONCE, SLOT_START, WORD};
 
 /// The bytes of a word, the unit of all layouts.
 pub const WORD: usize = 4;
@@ -29,7 +29,7 @@ pub const MADE_AREAS: usize = 32;
 pub const MAX_TASKS: usize = 32;
 
 /// How many areas can be open at a time: the fixed ones, those made at run and those of slots.
-pub const MAX_AREAS: usize = 70;
+pub const MAX_AREAS: usize = FIXED_AREAS + MADE_AREAS + MAX_TASKS;
 
 /// Where a heap has the word that says that it is one.
 pub const HEAP_SPECIAL: usize = 0;
@@ -62,13 +62,13 @@ pub const SLOT_START: usize = 0x8000;
 pub const ANCHORS: usize = 64;
 
 /// Where a slot has its C heap, behind the anchor words.
-pub const C_HEAP_PLACE: usize = 256;
+pub const C_HEAP_PLACE: usize = WORD * ANCHORS;
 
 /// The address of the C heap's first byte.
-pub const C_HEAP_START: usize = 0x8100;
+pub const C_HEAP_START: usize = SLOT_START + C_HEAP_PLACE;
 
 /// The length of the C heap of a slot that was just started, up to the end of its first page.
-pub const C_HEAP_LENGTH: usize = 3840;
+pub const C_HEAP_LENGTH: usize = PAGE - C_HEAP_PLACE;
 
 /// The bytes of a flex block's header: the address of its anchor word, and its size.
 pub const FLEX_HEADER: usize = 8;
@@ -94,22 +94,51 @@ pub const MOST_BYTES: usize = LONGEST_LINE / 2;
 /// The size in bytes of the longest receive buffer.
 pub const LONGEST_BUFFER: u32 = 65_536;
 
+/// How many messages can be queued and held at a time.
+pub const MOST_MESSAGES: usize = 256;
+
+/// The most bytes of a message as it lies in its block, from its length word on.
+pub const LONGEST_MESSAGE: usize = 256;
+
+/// Where a message has its file's name.
+pub const MESSAGE_NAME: usize = 44;
+
+/// The most bytes of a name in a message: with its zero byte it fills the longest one.
+pub const LONGEST_PATHNAME: usize = LONGEST_MESSAGE - MESSAGE_NAME - 1;
+
+/// How many records a task has each way: of transfers that go out, and of those that come in.
+pub const MOST_RECORDS: usize = 8;
+
+/// The most segments of a heap that are told at a time.
+pub const SEGMENTS_AT_ONCE: usize = 64;
+
+/// The most reads of a script.
+pub const MOST_READS: u32 = 1_000_000;
+
 /// The number of the first area that is made at run.
 pub const FIRST_MADE: u32 = 256;
 
 /// The greatest number of an area.
 pub const LAST_AREA: u32 = 65_535;
 
-/// The areas of a desk fit exactly, with as many made ones and slots as there can be. Pages are from 8 up to as many
-/// as make 4 MiB.
+/// What each limit is as a number. The areas of a desk fit exactly, with as many made ones and slots as there can be.
+/// Pages are from 8 up to as many as make 4 MiB.
 pub fn limits_law()
     ensures fixed { FIXED_AREAS ≡ 6 }
     ensures made { MADE_AREAS ≡ 32 }
     ensures tasks { MAX_TASKS ≡ 32 }
     ensures areas { MAX_AREAS ≡ FIXED_AREAS + MADE_AREAS + MAX_TASKS }
+    ensures made_numbers { (FIRST_MADE ≡ 256) × (LAST_AREA ≡ 65535) }
     ensures least { MIN_PAGES ≡ 8 }
     ensures most { PAGE * MAX_PAGES ≡ 2 ^ 22 }
     ensures page { PAGE ≡ 4096 }
+    ensures starts { (SLOT_START ≡ 2 ^ 15) × (MODULE_START ≡ 3 * 2 ^ 23) }
+    ensures slots { (ANCHORS ≡ 64) × (FLEX_HEADER ≡ 8) }
+    ensures names { (LONGEST_NAME ≡ 12) × (LONGEST_LEAF ≡ 10) }
+    ensures messages { (MOST_MESSAGES ≡ 256) × (LONGEST_MESSAGE ≡ 256) × (MESSAGE_NAME ≡ 44) }
+    ensures transfers { (MOST_RECORDS ≡ 8) × (LONGEST_BUFFER ≡ 2 ^ 16) × (LONGEST_FILE ≡ 2 ^ 20) }
+    ensures scripts { (LONGEST_LINE ≡ 1024) × (MOST_READS ≡ 1000000) × (GREATEST_NUMBER + 1 ≡ 2 ^ 31) }
+    ensures segments { SEGMENTS_AT_ONCE ≡ 64 }
 {}
 
 /// How many pages hold `n` bytes.

@@ -7,7 +7,7 @@ use Rattle.std.specs.declared.io.traits.Take.{Take}
 use Rattle.rh_defs.specs.Desk.{Desk}
 use Rattle.rh_defs.specs.Files.{FileList}
 use Rattle.rh_defs.specs.Runs.{start}
-use Rattle.rh_defs.specs.declared.sizes.TheConstants.{LONGEST_FILE}
+use Rattle.rh_defs.specs.declared.sizes.TheConstants.{LONGEST_FILE, MOST_READS}
 use Rattle.rh_lines.specs.Flow.{Breaks, Input, Takes}
 use Rattle.rh_session.specs.Outcome.{Answered, Finished, BrokeOff}
 use Rattle.rh_session.specs.declared.status.RunFault.{RunFault}
@@ -66,7 +66,7 @@ pub run-over : (d : Desk) (s : Streams) (outcome : Result Status RunFault) → I
     → (IsErrOf outcome NoMemory → (s.after ≡ s.before) × (s.new ≡ s.old))
     → (IsErrOf outcome ReadFailed → s.after.failed ≡ true)
     → (IsErrOf outcome ReadFailed → Answered d s.before s.after s.old s.new)
-    → (IsErrOf outcome TooLong → (s.after.reads ≡ 1000000) × (s.after.failed ≡ s.before.failed))
+    → (IsErrOf outcome TooLong → (s.after.reads ≡ MOST_READS) × (s.after.failed ≡ s.before.failed))
     → (IsErrOf outcome TooLong → Answered d s.before s.after s.old s.new)
     → (IsErrOf outcome WriteFailed → BrokeOff d s.before s.old s.new)
     → ((status : Status) → outcome ≡ Ok status → s.told ≡ s.quiet)
@@ -85,7 +85,7 @@ pub map-over : (marked : Bool) (d : Desk) (s : Streams) (outcome : Result Status
     → (IsErrOf outcome NoMemory → (s.after ≡ s.before) × (s.new ≡ s.old))
     → (IsErrOf outcome ReadFailed → s.after.failed ≡ true)
     → (IsErrOf outcome ReadFailed → MappedSoFar marked (place d 0 false) s.before s.after s.old s.new)
-    → (IsErrOf outcome TooLong → (s.after.reads ≡ 1000000) × (s.after.failed ≡ s.before.failed))
+    → (IsErrOf outcome TooLong → (s.after.reads ≡ MOST_READS) × (s.after.failed ≡ s.before.failed))
     → (IsErrOf outcome TooLong → MappedSoFar marked (place d 0 false) s.before s.after s.old s.new)
     → (IsErrOf outcome WriteFailed → MappedUntil marked (place d 0 false) s.before s.after s.old s.new)
     → ((status : Status) → outcome ≡ Ok status → s.told ≡ s.quiet)
@@ -104,7 +104,7 @@ pub sheet-over : (marked : Bool) (name : List ℕ) (d : Desk) (s : Streams) (out
     → (IsErrOf outcome NoMemory → (s.after ≡ s.before) × (s.new ≡ s.old))
     → (IsErrOf outcome ReadFailed → s.after.failed ≡ true)
     → (IsErrOf outcome ReadFailed → PaintedSoFar marked name d s.before s.after s.old s.new)
-    → (IsErrOf outcome TooLong → (s.after.reads ≡ 1000000) × (s.after.failed ≡ s.before.failed))
+    → (IsErrOf outcome TooLong → (s.after.reads ≡ MOST_READS) × (s.after.failed ≡ s.before.failed))
     → (IsErrOf outcome TooLong → PaintedSoFar marked name d s.before s.after s.old s.new)
     → (IsErrOf outcome WriteFailed → PaintedUntil marked name d s.before s.after s.old s.new)
     → ((status : Status) → outcome ≡ Ok status → s.told ≡ s.quiet)

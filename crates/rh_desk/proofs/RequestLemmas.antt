@@ -2,10 +2,13 @@
 use Rattle.std.proofs.Common.{◌≡◌, ◌≢◌, ◌≤◌, ap, arith, refl, subst, sym, ◌∙◌, ℕ, codes, List, [], map, Bool, true, false, Option, Some, None, Result, Ok, Err, Bor, option_map, unwrap_or}
 use Rattle.std.specs.Str.Parse.{ParsesUnsigned}
 use Rattle.clap.specs.Words.{ReadsOne, Row, Text, first_of, one_of}
+use Rattle.rh_desk.specs.declared.command_line.TheConstants.{PAGES}
 use Rattle.rh_desk.specs.Requests.{AsksFor, AsksKind, AsksMarked, AsksPages}
 use Rattle.rh_desk.specs.declared.request.ImageKind.TheVariants.{Heap, Slot}
 use Rattle.rh_desk.specs.declared.request.Request.{Request}
 use Rattle.rh_desk.specs.declared.request.Request.TheVariants.{Check, Run}
+use Rattle.rh_defs.specs.declared.sizes.TheConstants.{MIN_PAGES}
+use Rattle.rh_defs.specs.Forms.{most_pages}
 
 -- the two halves of a value that is there
 pub both-are : {X A B : Type 0} (f : X → A) (g : X → B) (o : Option X) (a : A) (b : B) → Some a ≡ option_map f o
@@ -15,21 +18,21 @@ both-are f g None a b first second = absurd (let e = first in cc)
 
 -- the pages that are read
 pub pages-are : {E : Type 0} (G : List ℕ → Result ℕ E → Type 0) (text : Option Text) (read : Option ℕ) → ((t : List ℕ) (x : Result ℕ E) → G t x → ParsesUnsigned 32 10 t x)
-    → (text ≡ None → read ≡ None) → ((t : List ℕ) → text ≡ Some t → ReadsOne G t read) → AsksPages text (unwrap_or read 64)
-pages-are G None read parses none some = ap (λ r. unwrap_or r 64) (none refl)
+    → (text ≡ None → read ≡ None) → ((t : List ℕ) → text ≡ Some t → ReadsOne G t read) → AsksPages text (unwrap_or read PAGES)
+pages-are G None read parses none some = ap (λ r. unwrap_or r PAGES) (none refl)
 pages-are G (Some t) (Some n) parses none some = λ numeral small. (parses t (Ok n) (some t refl)).1
 pages-are G (Some t) None parses none some = λ numeral small. let got = some t refl in absurd (parses t (Err got.0) got.1 (numeral, small))
 
 -- where pages in the range are asked for, those that are read are in the range
 pub pages-fit : {E : Type 0} (G : List ℕ → Result ℕ E → Type 0) (text : Option Text) (read : Option ℕ) → ((t : List ℕ) (x : Result ℕ E) → G t x → ParsesUnsigned 32 10 t x)
-    → (text ≡ None → read ≡ None) → ((t : List ℕ) → text ≡ Some t → ReadsOne G t read) → (pages : ℕ) → 8 ≤ pages → pages ≤ 1024 → AsksPages text pages
-    → (8 ≤ unwrap_or read 64) × (unwrap_or read 64 ≤ 1024)
+    → (text ≡ None → read ≡ None) → ((t : List ℕ) → text ≡ Some t → ReadsOne G t read) → (pages : ℕ) → MIN_PAGES ≤ pages → pages ≤ most_pages → AsksPages text pages
+    → (MIN_PAGES ≤ unwrap_or read PAGES) × (unwrap_or read PAGES ≤ most_pages)
 pages-fit G text None parses none some pages least most asks = (omega arith, omega arith)
 pages-fit G None (Some n) parses none some pages least most asks = absurd (let no = none refl in cc)
 pages-fit G (Some t) (Some n) parses none some pages least most asks =
     let is = parses t (Ok n) (some t refl) in
     let same : pages ≡ n = asks is.0.0 is.0.1 ∙ sym is.1 in
-    (subst (λ m. 8 ≤ m) same least, subst (λ m. m ≤ 1024) same most)
+    (subst (λ m. MIN_PAGES ≤ m) same least, subst (λ m. m ≤ most_pages) same most)
 
 -- marked steps alone are asked for where the flag was found
 pub marks-asked : (text : Option Text) (flag : Bool) → (text ≡ None → flag ≡ false) → (text ≡ Some (codes "true") → flag ≡ true)
@@ -65,7 +68,7 @@ asks-no-script name rows other none (Run request) asks = let some = asks.2 in cc
 
 -- nor one over pages out of the range
 pub asks-no-pages : (name : Text) (rows : List Row) (pages : ℕ) → name ≢ codes "check"
-    → ((asked : ℕ) → 8 ≤ asked → asked ≤ 1024 → AsksPages (one_of (codes "pages") rows) asked → (8 ≤ pages) × (pages ≤ 1024))
-    → ((8 ≤ pages) × (pages ≤ 1024) → ⊥) → (request : Request) → AsksFor (Some (name, rows)) request → ⊥
+    → ((asked : ℕ) → MIN_PAGES ≤ asked → asked ≤ most_pages → AsksPages (one_of (codes "pages") rows) asked → (MIN_PAGES ≤ pages) × (pages ≤ most_pages))
+    → ((MIN_PAGES ≤ pages) × (pages ≤ most_pages) → ⊥) → (request : Request) → AsksFor (Some (name, rows)) request → ⊥
 asks-no-pages name rows pages other fit out (Check k file) asks = other asks.0
 asks-no-pages name rows pages other fit out (Run request) asks = out (fit request.pages request.fewest request.most asks.1)

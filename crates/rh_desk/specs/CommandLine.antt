@@ -6,13 +6,14 @@ use Rattle.clap.specs.Simple.{App, new_app, new_rule, on_top, with_rule, with_su
 use Rattle.clap.specs.Walk.{Rule, Text}
 use Rattle.clap.specs.declared.builder.action.ArgAction.TheVariants.{Append, Set, SetTrue}
 use Rattle.clap.specs.declared.builder.value_parser.ValueParser.TheVariants.{Signed}
+use Rattle.rh_defs.specs.declared.sizes.TheConstants.{MAX_PAGES, MIN_PAGES}
 
--- `--pages N`, of 8 to 1,024
+-- `--pages N`, of as many as a pool may have
 abbrev pub pages_rule : Rule
 pages_rule = record (new_rule (codes "pages")) {
   long = Some (codes "pages");
   value_names = 1;
-  parser = Some (Signed (pos 8) (pos 1024));
+  parser = Some (Signed (pos MIN_PAGES) (pos MAX_PAGES));
 }
 
 -- one word that has to be there

@@ -11,7 +11,7 @@ use Rattle.rh_figure.specs.Map.{place}
 use Rattle.rh_painted.specs.Painted.{Painted, PaintedSoFar, PaintedUntil}
 use Rattle.rh_defs.specs.Files.{FileList}
 use Rattle.rh_defs.specs.Runs.{start}
-use Rattle.rh_defs.specs.declared.sizes.TheConstants.{LONGEST_FILE}
+use Rattle.rh_defs.specs.declared.sizes.TheConstants.{LONGEST_FILE, MOST_READS}
 use Rattle.rh_lines.specs.Flow.{Input, Output, Takes, Breaks}
 use Rattle.rh_run.specs.Checked.{image_line, image_status}
 use Rattle.rh_run.specs.CheckedSlot.{slot_image_line, slot_image_status}
@@ -60,7 +60,7 @@ abbrev pub Stopped : Desk → Streams → RunFault → Type 0
 Stopped d s NoMemory = Untouched s
 Stopped d s ReadFailed = (s.after.failed ≡ true) × Answered d s.before s.after s.old s.new
 Stopped d s TooLong =
-    (s.after.reads ≡ 1000000) × (s.after.failed ≡ s.before.failed) × Answered d s.before s.after s.old s.new
+    (s.after.reads ≡ MOST_READS) × (s.after.failed ≡ s.before.failed) × Answered d s.before s.after s.old s.new
 Stopped d s WriteFailed = BrokeOff d s.before s.old s.new
 
 -- how a run over a desk ends: all read and written and nothing told, or stopped by the fault that is told
@@ -76,7 +76,7 @@ MapStopped marked d s NoMemory = Untouched s
 MapStopped marked d s ReadFailed =
     (s.after.failed ≡ true) × MappedSoFar marked (place d 0 false) s.before s.after s.old s.new
 MapStopped marked d s TooLong =
-    (s.after.reads ≡ 1000000) × (s.after.failed ≡ s.before.failed)
+    (s.after.reads ≡ MOST_READS) × (s.after.failed ≡ s.before.failed)
     × MappedSoFar marked (place d 0 false) s.before s.after s.old s.new
 MapStopped marked d s WriteFailed = MappedUntil marked (place d 0 false) s.before s.after s.old s.new
 
@@ -95,7 +95,7 @@ SheetStopped marked name d s NoMemory = Untouched s
 SheetStopped marked name d s ReadFailed =
     (s.after.failed ≡ true) × PaintedSoFar marked name d s.before s.after s.old s.new
 SheetStopped marked name d s TooLong =
-    (s.after.reads ≡ 1000000) × (s.after.failed ≡ s.before.failed)
+    (s.after.reads ≡ MOST_READS) × (s.after.failed ≡ s.before.failed)
     × PaintedSoFar marked name d s.before s.after s.old s.new
 SheetStopped marked name d s WriteFailed = PaintedUntil marked name d s.before s.after s.old s.new
 

@@ -2,6 +2,7 @@
 
 ghost use Rattle.std.specs.Prelude.{◌≡◌, ◌≢◌, ◌≤◌, ◌<◌, [], codes, length, map, string_bytes, IfOk, IfErr};
 ghost use Rattle.rh_defs.specs.Runs.{start};
+ghost use Rattle.rh_desk.specs.declared.command_line.TheConstants.{PAGES};
 ghost use Rattle.rh_desk.specs.Done.{CheckEnds, MapOver, RunEnds, RunOver, SheetOver, ShownOver, WordsEnd, line_as, sheet_name as name_of_sheet, status_as, streams};
 ghost use Rattle.rh_desk.specs.Ending.{ending_of, exit_status};
 ghost use Rattle.rh_desk.specs.Telling.{Tells, run_fault_text};
@@ -49,12 +50,12 @@ pub fn program<R: rt::Files, I: Source, O: Sink, E: Sink>(
     ensures wrong { result ≡ 2 → O.output output.new ≡ O.output output.old }
 
     // With no words but its name, a run of the input over 64 pages that came to its end; nothing is told of it.
-    ensures ran { length words.now ≤ 1 → (status : Status) → result ≡ exit_status (ending_of (Ok status)) → Finished (start 64 []) (I.input input.old) (I.input input.new) (O.output output.old) (O.output output.new) status }
+    ensures ran { length words.now ≤ 1 → (status : Status) → result ≡ exit_status (ending_of (Ok status)) → Finished (start PAGES []) (I.input input.old) (I.input input.new) (O.output output.old) (O.output output.new) status }
     ensures quiet { length words.now ≤ 1 → result ≤ 1 → E.output errors.new ≡ E.output errors.old }
 
     // It ends as a run over 64 pages without files does, and with more words as what they ask for does.
     ensures alone { length words.now ≤ 1 → (ending : Ending) × (result ≡ exit_status ending)
-        × RunOver (start 64 []) (streams (I.input input.old) (I.input input.new) (O.output output.old) (O.output output.new) (E.output errors.old) (E.output errors.new)) ending }
+        × RunOver (start PAGES []) (streams (I.input input.old) (I.input input.new) (O.output output.old) (O.output output.new) (E.output errors.old) (E.output errors.new)) ending }
     ensures asked { 1 < length words.now → (ending : Ending) × (result ≡ exit_status ending)
         × WordsEnd R.File.remaining (map string_bytes words.now) (streams (I.input input.old) (I.input input.new) (O.output output.old) (O.output output.new) (E.output errors.old) (E.output errors.new)) ending }
 {

@@ -3,6 +3,7 @@ use Rattle.std.proofs.Common.{◌≡◌, ◌≢◌, ℕ, ◌-◌, ◌<◌, Bool,
 use Rattle.std.specs.Prelude.{codes, nat_le}
 use Rattle.std.specs.List.{concat}
 use Rattle.std.proofs.lemmas.List.{length-map, map-append, take-map}
+use Rattle.rh_defs.specs.Bytes.{space}
 use Rattle.rh_defs.proofs.HeapLists.{cond_true, cond_false}
 use Rattle.rh_figure.specs.Phrases.{cut}
 use Rattle.rh_figure.specs.Rows.{trimmed}
@@ -43,13 +44,13 @@ shown-cut f n t dot =
 -- ---- remarks
 
 -- a byte that isn't shown as a space is the last one
-pub trimmed-kept : (f : ℕ → ℕ) (t front : List ℕ) (b : ℕ) → t ≡ front ++ b ∷ [] → f b ≢ 32
+pub trimmed-kept : (f : ℕ → ℕ) (t front : List ℕ) (b : ℕ) → t ≡ front ++ b ∷ [] → f b ≢ space
     → trimmed (map f t) ≡ map f t
 trimmed-kept f t front b e apart =
     rw (e, map-append f front (b ∷ [])) (trimmed-whole (map f front) (f b) apart)
 
 -- one that is
-pub trimmed-less : (f : ℕ → ℕ) (t front : List ℕ) (b : ℕ) → t ≡ front ++ b ∷ [] → f b ≡ 32
+pub trimmed-less : (f : ℕ → ℕ) (t front : List ℕ) (b : ℕ) → t ≡ front ++ b ∷ [] → f b ≡ space
     → trimmed (map f t) ≡ trimmed (map f front)
 trimmed-less f t front b e space =
     rw (e, map-append f front (b ∷ []), space) (trimmed-space (map f front))

@@ -10,7 +10,7 @@ ghost use Rattle.rh_draw.specs.Tints.{tint_class};
 ghost use Rattle.rh_lines.specs.Flow.{Puts};
 ghost use Rattle.rh_lines.specs.declared.row.TheConstants.{ROW};
 ghost use Rattle.rh_figure.specs.Phrases.{where_so};
-ghost use Rattle.rh_sheet.specs.declared.sizes.TheConstants.{SHORT_EDGE, UNIT_BYTES};
+ghost use Rattle.rh_sheet.specs.declared.sizes.TheConstants.{ROW_WIDTH, SHORT_EDGE, UNIT_BYTES};
 ghost use Rattle.rh_sheet.specs.Markup.{box_text};
 ghost use Rattle.rh_sheet.specs.Pieces.{fitting as fitting_label, has_room as has_room_for, high_in as high_byte_in, is_tinted as is_tinted_kind, kind_class as class_of_kind, label_of, low_in as low_byte_in, piece_box, piece_classes, piece_label, piece_text, piece_width as width_of_piece, piece_x as x_of_piece, pieces_text, short_label_of, sized_at, tip_of};
 
@@ -192,7 +192,7 @@ fn has_room(edge: u32, text: &Row, width: u32) -> bool
 
 /// The label that has room in a part of a piece of so many units.
 pub fn fitting(kind: Kind, size: u32, width: u32) -> Row
-    requires { width ≤ 1024 }
+    requires { width ≤ ROW_WIDTH }
     ensures value { result ≡ fitting_label kind size width }
     ensures few { length result ≤ 20 }
 {
@@ -206,7 +206,7 @@ pub fn fitting(kind: Kind, size: u32, width: u32) -> Row
 
 /// The short label, where the part is all of the piece and has room for it.
 fn short_fitting(kind: Kind, size: u32, width: u32) -> Row
-    requires { width ≤ 1024 }
+    requires { width ≤ ROW_WIDTH }
     ensures value { result ≡ where_so
         (UNIT_BYTES * width == size && has_room_for SHORT_EDGE (short_label_of kind size) width)
         (short_label_of kind size) }
@@ -243,7 +243,7 @@ fn piece_x(k: usize, piece: &Piece) -> u32
     requires piece { IsDrawable piece.now }
     requires there { low_byte_in k piece.now < high_byte_in k piece.now }
     ensures value { result ≡ x_of_piece k piece.now }
-    ensures few { result ≤ 1024 }
+    ensures few { result ≤ ROW_WIDTH }
 {
     (low_in(k, piece) / UNIT_BYTES) as u32
 }
@@ -253,7 +253,7 @@ fn piece_width(k: usize, piece: &Piece) -> u32
     requires page { k < 2 ^ 20 }
     requires piece { IsDrawable piece.now }
     ensures value { result ≡ width_of_piece k piece.now }
-    ensures few { result ≤ 1024 }
+    ensures few { result ≤ ROW_WIDTH }
 {
     (high_in(k, piece).saturating_sub(low_in(k, piece)) / UNIT_BYTES) as u32
 }

@@ -7,6 +7,7 @@ use Rattle.std.proofs.lemmas.Bool.{eqb-true}
 use Rattle.std.proofs.lemmas.Bool.Decides.{nat_tests}
 use Rattle.std.proofs.lemmas.List.{drop_all, take_all}
 use Rattle.std.proofs.lemmas.Option.{slice_get-get_or, slice_get_within}
+use Rattle.rh_defs.specs.declared.sizes.TheConstants.{SEGMENTS_AT_ONCE}
 use Rattle.rh_defs.specs.declared.listing.SegmentItem.{SegmentItem}
 use Rattle.rh_defs.specs.declared.listing.SegmentItem.TheVariants as segment
 use Rattle.rh_defs.specs.Desk.{Desk, Task}
@@ -23,7 +24,7 @@ use Rattle.rh_figure.specs.Layout.{is_fresh_block}
 use Rattle.rh_figure.specs.Scene.{Scene, held_list, message_in}
 use Rattle.rh_sight.specs.declared.sight.HeapOf.{HeapOf}
 use Rattle.rh_sight.specs.declared.sight.HeapOf.TheVariants as heap_of
-use Rattle.rh_sight.specs.declared.sight.MessageItem.{MessageItem}
+use Rattle.rh_defs.specs.declared.listing.MessageItem.{MessageItem}
 use Rattle.rh_sight.specs.Messages.{held_on, waiting_on}
 use Rattle.rh_sight.specs.Seen.{HasBlock, heap_seen, heap_start_of}
 use Rattle.rh_sight.specs.Walks.{ComesTo, IsInArea}
@@ -106,10 +107,10 @@ taken-more {start} {end} {count} {items} {all} k =
     let same : start + 16 + total size_of k.passed ≡ start + end = omega (arith, k.at) in
     let whole : segment_items_from (start + 16) all ≡ front ++ back = ap (segment_items_from (start + 16)) k.whole ∙ (items-append (start + 16) k.passed k.left ∙ ap (λ p. front ++ segment_items_from p k.left) same) in
     let many : count ≡ length front = k.count_is ∙ sym (length-items (start + 16) k.passed) in
-    let next : items ≡ take 64 back = k.items_are ∙ sym (take-items 64 (start + end) k.left) in
+    let next : items ≡ take SEGMENTS_AT_ONCE back = k.items_are ∙ sym (take-items SEGMENTS_AT_ONCE (start + end) k.left) in
     ap₂ (λ n xs. take (n + length items) xs) many whole
     ∙ (take-past front back (length items)
-    ∙ (ap (λ z. front ++ z) (ap (λ z. take (length z) back) next ∙ (take-own 64 back ∙ sym next))
+    ∙ (ap (λ z. front ++ z) (ap (λ z. take (length z) back) next ∙ (take-own SEGMENTS_AT_ONCE back ∙ sym next))
     ∙ ap (λ z. z ++ items) (sym (ap₂ take many whole ∙ take-here front back))))
 
 -- the segments that were counted are surveyed
@@ -309,10 +310,10 @@ module _ (x : Scene) (d : Desk) (b : Band) (h : Heap) (r : IsBandOf d b) (s : Su
 -- ---- the items that are told
 
 pub told-here : {o : Option Heap} (start : ℕ) (h : Heap) (items : List SegmentItem) (k : ℕ) → o ≡ Some h
-    → IfSome o (λ h. (below : List Segment) (rest : List Segment) → h.segments ≡ below ++ rest → 16 ≡ place_after below → items ≡ take 64 (segment_items_from (start + 16) rest))
-    → k < 64 → slice_get items k ≡ slice_get (segment_items_from (start + 16) h.segments) k
+    → IfSome o (λ h. (below : List Segment) (rest : List Segment) → h.segments ≡ below ++ rest → 16 ≡ place_after below → items ≡ take SEGMENTS_AT_ONCE (segment_items_from (start + 16) rest))
+    → k < SEGMENTS_AT_ONCE → slice_get items k ≡ slice_get (segment_items_from (start + 16) h.segments) k
 told-here start h items k e f low =
-    ap (λ xs. slice_get xs k) (told start (from-first h e) f ∙ sym (take-items 64 (start + 16) h.segments)) ∙ get-front 64 k (segment_items_from (start + 16) h.segments) low
+    ap (λ xs. slice_get xs k) (told start (from-first h e) f ∙ sym (take-items SEGMENTS_AT_ONCE (start + 16) h.segments)) ∙ get-front SEGMENTS_AT_ONCE k (segment_items_from (start + 16) h.segments) low
 
 -- ---- the card of a segment
 

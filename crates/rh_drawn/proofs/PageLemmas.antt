@@ -5,6 +5,7 @@ use Rattle.std.specs.List.{enumerate_from}
 use Rattle.std.specs.Option.{option_map}
 use Rattle.std.proofs.lemmas.Bool.Decides.{nat_tests}
 use Rattle.std.proofs.lemmas.List.{drop_all, drop_more, length-drop}
+use Rattle.rh_defs.specs.Forms.{first_made, most_pages}
 use Rattle.rh_defs.specs.Commands.{module_area}
 use Rattle.rh_defs.specs.Desk.{Desk, Made, Task, module_pages, task_pages}
 use Rattle.rh_defs.specs.Laws.{IsDesk, Rise}
@@ -42,14 +43,14 @@ module _ {d : Desk} (is : IsDesk d) where
   seen-slot i t e = ap (option_map (λ (n : Task). SlotOf n.handle)) e
 
   pub made-above : (i : ℕ) (m : Made) → slice_get d.made i ≡ Some m → 5 < m.number
-  made-above i m e = let k = rise-least (λ (n : Made). n.number) 256 d.next_area d.made i m is.made.numbers e in omega (arith, k)
+  made-above i m e = let k = rise-least (λ (n : Made). n.number) first_made d.next_area d.made i m is.made.numbers e in omega (arith, k)
 
   -- how many pages they are
   module _ (numbers : List ℕ) (shared : IsShared (share_in numbers d) d) where
     pub owned : (owner : PagesOf) (o : Owner) (found : List ℕ) → owner_seen owner d ≡ Some o → IfSome (owner_seen owner d) (λ q. found ≡ (share_in numbers d).pages_of q) → found ≡ (share_in numbers d).pages_of o
     owned owner o found e h = at-some (owner_seen owner d) (λ q. found ≡ (share_in numbers d).pages_of q) o e h
 
-    pub owned-few : (owner : PagesOf) (o : Owner) → owner_seen owner d ≡ Some o → length numbers ≡ d.pool → length ((share_in numbers d).pages_of o) ≤ 1024
+    pub owned-few : (owner : PagesOf) (o : Owner) → owner_seen owner d ≡ Some o → length numbers ≡ d.pool → length ((share_in numbers d).pages_of o) ≤ most_pages
     owned-few owner o e all = omega (arith, room-of is numbers owner o shared e, shared.each o, is.pool)
 
     pub owned-made : (i : ℕ) (m : Made) → slice_get d.made i ≡ Some m → length ((share_in numbers d).pages_of (AreaOf m.number)) ≡ m.pages

@@ -21,7 +21,7 @@ use Rattle.rh_figure.specs.Cards.{after_ref, next_text}
 use Rattle.rh_figure.specs.Scene.{held_list, ref_of}
 use Rattle.rh_map.specs.Messages.{held_text, text_of, waits_text}
 use Rattle.rh_map.specs.Messages as lines
-use Rattle.rh_sight.specs.declared.sight.MessageItem.{MessageItem}
+use Rattle.rh_defs.specs.declared.listing.MessageItem.{MessageItem}
 use Rattle.rh_sight.specs.declared.message_list.Place.{Place}
 use Rattle.rh_sight.specs.declared.message_list.Place.TheVariants.{Held}
 use Rattle.rh_sight.specs.Messages.{before_next, behind, first_ref, held_on, held_ref, is_held_by, item_of, lies_in, message_items, place_among, waiting_on, waits_for}

@@ -5,7 +5,7 @@ use Rattle.std.proofs.lemmas.List.{length-take}
 use Rattle.std.specs.Fmt.{decimal}
 use Rattle.rh_defs.specs.declared.fault.LineFault.{LineFault}
 use Rattle.rh_defs.specs.declared.fault.LineFault.TheVariants.{TooLong}
-use Rattle.rh_defs.specs.Line.{line_means}
+use Rattle.rh_defs.specs.Line.{line_means, longest_line}
 use Rattle.rh_defs.specs.Desk.{Desk}
 use Rattle.rh_defs.proofs.HeapLists.{cond_false, leb_no}
 use Rattle.rh_feed.specs.Lines.{kept}
@@ -44,16 +44,16 @@ cut_long : (line : List ℕ) → LINE_COLUMNS < length line → cut LINE_COLUMNS
 cut_long line long =
     cond_false (nat_le (length line) LINE_COLUMNS) line (take 90 line ++ codes "..") (leb_no _ _ long)
 
-cut_kept : (line : List ℕ) → 1024 < length line → cut LINE_COLUMNS (kept line) ≡ cut LINE_COLUMNS line
+cut_kept : (line : List ℕ) → longest_line < length line → cut LINE_COLUMNS (kept line) ≡ cut LINE_COLUMNS line
 unfolding kept
 cut_kept line long =
-    cut_long (take 1025 line) (omega (arith, length-take 1025 line))
-    ∙ (ap (λ front. front ++ codes "..") (front_twice 90 1025 line (omega arith)) ∙ sym (cut_long line (omega arith)))
+    cut_long (take (longest_line + 1) line) (omega (arith, length-take (longest_line + 1) line))
+    ∙ (ap (λ front. front ++ codes "..") (front_twice 90 (longest_line + 1) line (omega arith)) ∙ sym (cut_long line (omega arith)))
 
 -- a line that is too long
-means_too_long : (line : List ℕ) → 1024 < length line → line_means line ≡ Err TooLong
+means_too_long : (line : List ℕ) → longest_line < length line → line_means line ≡ Err TooLong
 unfolding line_means
-means_too_long line long = rw (is_above 1024 (length line) long) refl
+means_too_long line long = rw (is_above longest_line (length line) long) refl
 
 -- the lines of a bad line, by what its first line shows
 fault_with : Bool → ℕ → Text → Desk → Share → LineFault → List Text
@@ -65,14 +65,14 @@ fault_shown : (wanted : Bool) (s : Share) (n : ℕ) (line : Text) (fault : LineF
 unfolding fault_with
 fault_shown wanted s n line fault d = refl
 
-pub long_lines : (line : List ℕ) → 1024 < length line → (marked : Bool) (s : Share) (p : Place)
+pub long_lines : (line : List ℕ) → longest_line < length line → (marked : Bool) (s : Share) (p : Place)
     → lines_of_read marked s p (kept line, Err TooLong) ≡ lines_of_read marked s p (line, Err TooLong)
 unfolding fault_with kept
 long_lines line long marked s p =
     ap (λ text. if not marked || p.wanted then fault_with p.wanted (p.steps + 1) text p.desk s TooLong else [])
     (cut_kept line long)
 
-same_long : (line : List ℕ) → 1024 < length line → SameRead line
+same_long : (line : List ℕ) → longest_line < length line → SameRead line
 same_long line long =
     let means : line_means (kept line) ≡ Err TooLong = kept_means line ∙ means_too_long line long in
     record {
@@ -82,7 +82,7 @@ same_long line long =
       after = λ p. ap (λ m. after_read p (kept line, m)) means ∙ sym (ap (λ m. after_read p (line, m)) (means_too_long line long));
     }
 
-same_at : (line : List ℕ) → (length line ≤ 1024) ⊎ (1024 < length line) → SameRead line
+same_at : (line : List ℕ) → (length line ≤ longest_line) ⊎ (longest_line < length line) → SameRead line
 same_at line (inl short) = same_short line (sym (kept_short line (omega arith)))
 same_at line (inr long) = same_long line long
 

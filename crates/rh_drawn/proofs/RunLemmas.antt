@@ -1,6 +1,6 @@
 -- A whole map, from the lines that were taken.
 use Rattle.std.proofs.Common.{◌≡◌, ◌⊎◌, inl, inr, ℕ, ◌<◌, ◌≤◌, Bool, true, false, ◌||◌, List, [], ◌∷◌, ◌++◌, length, map, take, refl, sym, ap, ap₂, ◌∙◌, subst, append-nil, append_assoc, arith}
-use Rattle.std.specs.Prelude.{Option, Err, IsErrOf, is_err, if◌then◌else◌, nat_lt, not, ◌==◌}
+use Rattle.std.specs.Prelude.{◌+◌, Option, Err, IsErrOf, is_err, if◌then◌else◌, nat_lt, not, ◌==◌}
 use Rattle.std.specs.Io.KnownBytes.{Consumes, IsAtEnd}
 use Rattle.std.specs.List.{list_any}
 use Rattle.std.proofs.lemmas.Bool.{ne_eqb}
@@ -78,17 +78,17 @@ rest_bad line = go (nat_lt longest_line (length line))
     go true = refl
     go false = refl
 
-rest_long : (line : List ℕ) → 1024 < length line → rest_means line ≡ Err TooLong
-rest_long line long = ap (λ b. let m : Meaning (Option Command) = if b then Err TooLong else Err Unended in m) (is_above 1024 (length line) long)
+rest_long : (line : List ℕ) → longest_line < length line → rest_means line ≡ Err TooLong
+rest_long line long = ap (λ b. let m : Meaning (Option Command) = if b then Err TooLong else Err Unended in m) (is_above longest_line (length line) long)
 
-kept_long : (line : List ℕ) → 1024 < length line → 1024 < length (kept line)
+kept_long : (line : List ℕ) → longest_line < length line → longest_line < length (kept line)
 unfolding kept
-kept_long line long = omega (arith, length-take 1025 line)
+kept_long line long = omega (arith, length-take (longest_line + 1) line)
 
 pub same_rest : (line : List ℕ) → SameRest line
 same_rest line = go (split_at (length line))
   where
-    go : (length line ≤ 1024) ⊎ (1024 < length line) → SameRest line
+    go : (length line ≤ longest_line) ⊎ (longest_line < length line) → SameRest line
     go (inl short) =
         let e : kept line ≡ line = sym (kept_short line (omega arith)) in
         record {
@@ -106,7 +106,7 @@ same_rest line = go (split_at (length line))
           bad = rest_bad (kept line);
         }
 
-pub kept_some : (b : ℕ) (bs : List ℕ) → kept (b ∷ bs) ≡ b ∷ take 1024 bs
+pub kept_some : (b : ℕ) (bs : List ℕ) → kept (b ∷ bs) ≡ b ∷ take longest_line bs
 unfolding kept
 kept_some b bs = refl
 
@@ -199,7 +199,7 @@ module _ {D : Type 0} {desk : D → Desk} {marked : Bool} {p : Place} (s taker :
   ended_some bytes b bs e well last d =
       let line : Text = b ∷ bs in
       let L : List ℕ → Type 0 = λ z. TookRest desk taker written z t new in
-      let told : Drew desk taker written (b ∷ take 1024 bs) (rest_means (b ∷ take 1024 bs)) t new = subst L (ap kept e ∙ kept_some b bs) last in
+      let told : Drew desk taker written (b ∷ take longest_line bs) (rest_means (b ∷ take longest_line bs)) t new = subst L (ap kept e ∙ kept_some b bs) last in
       let W : List ℕ → Type 0 = λ z. Drew desk taker written z (rest_means z) t new in
       let drew : Drew desk taker written (kept line) (rest_means (kept line)) t new = subst W (sym (kept_some b bs)) told in
       let here = shown_rest line d.stands drew in
@@ -317,7 +317,7 @@ module _ {D : Type 0} {desk : D → Desk} {marked : Bool} {p : Place} {s : Mappe
       go (b ∷ bs) e d =
           let line : Text = b ∷ bs in
           let B : List ℕ → Type 0 = λ z. BrokeRest desk broke.taker broke.written z new in
-          let told : Broke desk broke.taker broke.written (b ∷ take 1024 bs) (rest_means (b ∷ take 1024 bs)) new =
+          let told : Broke desk broke.taker broke.written (b ∷ take longest_line bs) (rest_means (b ∷ take longest_line bs)) new =
           subst B (ap kept e ∙ kept_some b bs) broke.broken in
           let W : List ℕ → Type 0 = λ z. Broke desk broke.taker broke.written z (rest_means z) new in
           let stop = stopped_rest line d.stands (subst W (sym (kept_some b bs)) told) in

@@ -15,7 +15,7 @@ use Rattle.rh_figure.specs.Layout.{is_fresh_block, is_new_message}
 use Rattle.rh_figure.specs.declared.limits.TheConstants.{MOST_CARDS}
 use Rattle.rh_sight.specs.declared.sight.HeapOf.{HeapOf}
 use Rattle.rh_sight.specs.declared.sight.HeapOf.TheVariants as heap_of
-use Rattle.rh_sight.specs.declared.sight.MessageItem.{MessageItem}
+use Rattle.rh_defs.specs.declared.listing.MessageItem.{MessageItem}
 use Rattle.rh_sight.specs.declared.message_list.Place.{Place}
 use Rattle.rh_sight.specs.declared.message_list.Place.TheVariants.{Held, Before, Last}
 use Rattle.rh_sight.specs.Seen.{heap_start_of}

@@ -1,6 +1,7 @@
 -- What is kept of a reply, what is shown of it, and what its lines are counted by.
 use Rattle.std.specs.Prelude.{◌≡◌, ℕ, ◌+◌, ◌≤◌, List, length, max, Option, Some, None}
 use Rattle.std.specs.List.{AllByRecursion}
+use Rattle.rh_defs.specs.declared.sizes.TheConstants.{LONGEST_NAME}
 use Rattle.rh_defs.specs.Desk.{Task}
 use Rattle.rh_defs.specs.Listing.{block_items}
 use Rattle.rh_defs.specs.Pieces.{total}
@@ -14,7 +15,7 @@ Excerpts front count reply = excerpt_lines front count ≡ reply_lines (ended re
 
 -- each task's name has at most 12 bytes
 abbrev pub HaveShortNames : List Task → Type 0
-HaveShortNames tasks = AllByRecursion (λ (t : Task). length t.name ≤ 12) tasks
+HaveShortNames tasks = AllByRecursion (λ (t : Task). length t.name ≤ LONGEST_NAME) tasks
 
 -- what is counted of a task, none where there is no such task
 abbrev pub count_in : (Task → ℕ) → Option Task → ℕ

@@ -7,6 +7,7 @@ ghost use Rattle.rh_lines.specs.Flow.{Puts};
 ghost use Rattle.rh_map.specs.Areas.{scrap_note_of};
 ghost use Rattle.rh_map.specs.Written.{shown_lines};
 ghost use Rattle.rh_sight.specs.Steps.{IsStepOf, scene_at};
+ghost use Rattle.rh_defs.specs.declared.sizes.TheConstants.{FIXED_AREAS};
 
 use rh_defs::sizes::FIXED_AREAS;
 use rh_lines::{Sink, WriteFailed};
@@ -45,7 +46,7 @@ fn print_fixed<S: Sight, W: Sink>(
     writer: &mut W,
 ) -> Result<(), WriteFailed>
     requires step { IsStepOf (S.desk sight.now) step.now }
-    requires number { number < 6 }
+    requires number { number < FIXED_AREAS }
     ensures { Puts (W.output writer.old) (W.output writer.new) result
         (shown_lines (panel_part (fixed_panel (scene_at (S.desk sight.now) step.now) (number, slice_index (S.desk sight.now).areas number)))) }
 {

@@ -2,6 +2,7 @@
 
 ghost use Rattle.std.specs.Prelude.{◌≡◌, ◌≤◌, ◌||◌, ◌&&◌, not, length, Err, IsTrue};
 ghost use Rattle.std.specs.Option.{option_map};
+ghost use Rattle.rh_defs.specs.Post.{most_messages};
 ghost use Rattle.rh_defs.specs.Order.{IsReordered};
 ghost use Rattle.rh_defs.specs.Range.{in_range};
 ghost use Rattle.rh_defs.specs.Step.{step};
@@ -58,7 +59,7 @@ pub fn step_of<'a, S: Sight>(
     ensures kept { result.kept.now ≡ kept.now }
     ensures marks { marks_seen result.marks ≡ marks_of (S.desk sight.now) kept.now (option_map (λ c. c.now) command.entry) reply.now }
     ensures messages { result.messages.now ≡ messages.now.items }
-    ensures few { length result.messages.now ≤ 256 }
+    ensures few { length result.messages.now ≤ most_messages }
     ensures pages { result.pages.now ≡ pages.now.items }
 {
     let marks = Marks::new(sight, kept, command, reply);

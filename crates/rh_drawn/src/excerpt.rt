@@ -1,6 +1,8 @@
 //! The first lines of a reply, and how many lines it has.
 
 ghost use Rattle.std.specs.Prelude.{◌≡◌, ◌+◌, ◌<◌, ◌≤◌, ◌^◌, IsTrue, find, length};
+ghost use Rattle.rh_defs.specs.Commands.{most_made};
+ghost use Rattle.rh_defs.specs.Slot.{anchor_count};
 ghost use Rattle.rh_defs.specs.declared.question.Question.TheVariants.{Areas};
 ghost use Rattle.rh_defs.specs.Desk.{has_name};
 ghost use Rattle.rh_defs.specs.Listing.{Nothing};
@@ -67,7 +69,7 @@ fn count_answer<S: Sight>(sight: &S, question: &Question) -> u32
 /// How many flex blocks the task with the name has.
 fn count_blocks<S: Sight>(sight: &S, name: &Name) -> u32
     ensures count { result ≡ count_in block_count (find (has_name name.now) (S.desk sight.now).tasks) }
-    ensures few { result ≤ 64 }
+    ensures few { result ≤ anchor_count }
 {
     let Some(i) = task_named(sight, name) else {
         return 0;
@@ -117,7 +119,7 @@ fn count_areas<S: Sight>(sight: &S) -> u32
 /// How many areas were made at run.
 pub fn count_made<S: Sight>(sight: &S) -> usize
     ensures count { result ≡ length (S.desk sight.now).made }
-    ensures few { result ≤ 32 }
+    ensures few { result ≤ most_made }
 {
     let mut i = 0;
     'areas: while let Some(_area) = sight.made(i) {

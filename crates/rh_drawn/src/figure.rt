@@ -7,6 +7,7 @@ ghost use Rattle.rh_figure.specs.Map.{figure_lines};
 ghost use Rattle.rh_lines.specs.Flow.{Puts};
 ghost use Rattle.rh_map.specs.Written.{shown_lines};
 ghost use Rattle.rh_sight.specs.Steps.{IsStepOf, scene_at};
+ghost use Rattle.rh_defs.specs.Post.{most_messages};
 
 use crate::areas::print_area_part;
 use crate::block_changes::print_block_part;
@@ -31,7 +32,7 @@ pub fn print_figure<S: Sight, W: Sink>(
     writer: &mut W,
 ) -> Result<(), WriteFailed>
     requires step { IsStepOf (S.desk sight.now) step.now }
-    requires few { length step.now.messages.now ≤ 256 }
+    requires few { length step.now.messages.now ≤ most_messages }
     ensures { Puts (W.output writer.old) (W.output writer.new) result
         (shown_lines (figure_lines (figure (scene_at (S.desk sight.now) step.now)))) }
 {

@@ -1,6 +1,7 @@
 //! The cards of a task's flex blocks.
 
 ghost use Rattle.std.specs.Prelude.{◌≡◌, ◌≤◌, ◌<◌, ◌∷◌, [], ℕ, length, slice_get, take, Some};
+ghost use Rattle.rh_defs.specs.Slot.{anchor_count};
 ghost use Rattle.rh_defs.specs.Desk.{Desk, Task};
 ghost use Rattle.rh_defs.specs.Listing.{block_items};
 ghost use Rattle.rh_defs.specs.declared.listing.BlockItem.{BlockItem};
@@ -31,7 +32,7 @@ pub fn print_flex_cards<S: Sight, W: Sink>(
     writer: &mut W,
 ) -> Result<(), WriteFailed>
     requires task { (t : Task) × (slice_get (S.desk sight.now).tasks i ≡ Some t) × IsTaskSeen task.now t × (blocks.now ≡ block_items t.slot) }
-    requires few { length blocks.now ≤ 64 }
+    requires few { length blocks.now ≤ anchor_count }
     ensures { (t : Task) → slice_get (S.desk sight.now).tasks i ≡ Some t → Puts (W.output writer.old) (W.output writer.new) result
         (shown_lines (card_lines (shown_cards (flex_cards (scene_at (S.desk sight.now) step.now) t)))) }
 {
@@ -75,7 +76,7 @@ fn print_behind<S: Sight, W: Sink>(
 ) -> Result<(), WriteFailed>
     requires task { (t : Task) × (slice_get (S.desk sight.now).tasks i ≡ Some t) × IsTaskSeen task.now t × (blocks.now ≡ block_items t.slot) }
     requires many { 24 < length blocks.now }
-    requires few { length blocks.now ≤ 64 }
+    requires few { length blocks.now ≤ anchor_count }
     ensures { (t : Task) → slice_get (S.desk sight.now).tasks i ≡ Some t → Puts (W.output writer.old) (W.output writer.new) result
         (shown_lines (card_lines (cards_behind (flex_cards (scene_at (S.desk sight.now) step.now) t)))) }
 {

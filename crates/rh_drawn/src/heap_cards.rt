@@ -25,15 +25,15 @@ use crate::cards::{front_length, print_others, shown_count};
 use crate::usage::use_of_buffer;
 use crate::who::who_of;
 use rh_defs::sizes::{HEAP_FIRST, MODULE_START, WORD};
-use rh_defs::{Handle, Incoming, SegmentItem};
+use rh_defs::{Handle, Incoming, MessageItem, SegmentItem};
 use rh_figure::limits::{CARD_BYTES, MOST_CARDS};
 use rh_lines::{Sink, WriteFailed};
 use rh_map::{
     CardBlock, CardMessage, ChainPlace, print_hole_card, print_message_card, print_used_card,
 };
 use rh_sight::{
-    HeapOf, MessageItem, Place, Sight, Step, heap_address, is_fresh_block, is_new_ref, message_in,
-    place_behind, place_of,
+    HeapOf, Place, Sight, Step, heap_address, is_fresh_block, is_new_ref, message_in, place_behind,
+    place_of,
 };
 
 /// A heap whose blocks have cards, with the handle of its task and the records of its transfers that come in; 0 and

@@ -3,6 +3,7 @@
 ghost use Rattle.std.specs.Prelude.{◌≡◌, ◌≤◌, ◌<◌, ◌+◌, ◌∷◌, ◌++◌, [], List, filter, find, length, map, min, take};
 ghost use Rattle.std.specs.List.{list_any};
 ghost use Rattle.std.specs.Option.{option_map};
+ghost use Rattle.rh_defs.specs.Post.{most_messages};
 ghost use Rattle.rh_defs.specs.Desk.{Task};
 ghost use Rattle.rh_drawn.specs.Letters.{entry_seen, has_letters_in, letterboxes_in};
 ghost use Rattle.rh_drawn.specs.Parts.{letter_part};
@@ -15,11 +16,11 @@ ghost use Rattle.rh_map.specs.declared.letterboxes.MessageEntry.{MessageEntry};
 ghost use Rattle.rh_sight.specs.Messages.{is_held_by, waits_for};
 ghost use Rattle.rh_sight.specs.Steps.{IsStepOf, scene_at};
 
-use rh_defs::{Action, EventCode, Handle, Name, Ref};
+use rh_defs::{Action, EventCode, Handle, MessageItem, Name, Ref};
 use rh_figure::limits::MOST_LISTED;
 use rh_lines::{Sink, WriteFailed};
 use rh_map::{MessageEntry, print_letterbox, put_line};
-use rh_sight::{MessageItem, Sight, Step, held_by};
+use rh_sight::{Sight, Step, held_by};
 
 /// No message, in a place for one.
 const NO_ENTRY: MessageEntry = MessageEntry {
@@ -43,7 +44,7 @@ pub fn print_letter_part<S: Sight, W: Sink>(
     writer: &mut W,
 ) -> Result<(), WriteFailed>
     requires step { IsStepOf (S.desk sight.now) step.now }
-    requires few { length step.now.messages.now ≤ 256 }
+    requires few { length step.now.messages.now ≤ most_messages }
     ensures { Puts (W.output writer.old) (W.output writer.new) result
         (shown_lines (letter_part (scene_at (S.desk sight.now) step.now))) }
 {
@@ -83,7 +84,7 @@ fn print_letterboxes<S: Sight, W: Sink>(
     writer: &mut W,
 ) -> Result<(), WriteFailed>
     requires step { IsStepOf (S.desk sight.now) step.now }
-    requires few { length step.now.messages.now ≤ 256 }
+    requires few { length step.now.messages.now ≤ most_messages }
     ensures { Puts (W.output writer.old) (W.output writer.new) result
         (shown_lines (map letterbox_line (letterboxes (scene_at (S.desk sight.now) step.now)))) }
 {
@@ -103,7 +104,7 @@ fn print_letters<W: Sink>(
     messages: &[MessageItem],
     writer: &mut W,
 ) -> Result<(), WriteFailed>
-    requires { length messages.now ≤ 256 }
+    requires { length messages.now ≤ most_messages }
     ensures { Puts (W.output writer.old) (W.output writer.new) result
         (shown_lines (map letterbox_line (letterboxes_in name.now handle messages.now))) }
 {
@@ -128,7 +129,7 @@ pub fn held_entry(messages: &[MessageItem], handle: Handle) -> Option<MessageEnt
 
 /// The messages that wait for a task.
 pub fn waits_of(messages: &[MessageItem], handle: Handle) -> Waits
-    requires { length messages.now ≤ 256 }
+    requires { length messages.now ≤ most_messages }
     ensures count { result.count ≡ length (map entry_seen (filter (waits_for handle) messages.now)) }
     ensures first { take (min result.count MOST_LISTED) result.first ≡ take MOST_LISTED (map entry_seen (filter (waits_for handle) messages.now)) }
 {
@@ -154,7 +155,7 @@ fn is_waiting(message: &MessageItem, handle: Handle) -> bool
 impl Waits {
     /// Counts one more, and keeps it if it is one of the first.
     fn note(&mut self, entry: MessageEntry)
-        requires few { self.old.count < 256 }
+        requires few { self.old.count < most_messages }
         requires room { length self.old.first ≡ MOST_LISTED }
         ensures room { length self.new.first ≡ MOST_LISTED }
         ensures count { self.new.count ≡ self.old.count + 1 }

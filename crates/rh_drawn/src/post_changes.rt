@@ -13,10 +13,10 @@ ghost use Rattle.rh_map.specs.Written.{shown_lines};
 ghost use Rattle.rh_sight.specs.Steps.{IsStepOf, scene_at};
 
 use crate::who::who_of;
-use rh_defs::{Body, EventCode, Letter, Ref};
+use rh_defs::{Body, EventCode, Letter, MessageItem, Ref};
 use rh_lines::{Sink, WriteFailed};
 use rh_map::{print_bytes_sent, print_returns, print_sends, print_takes};
-use rh_sight::{MessageItem, Sight, Step};
+use rh_sight::{Sight, Step};
 
 /// Writes which message goes back, which was taken and which was sent. Fails only where the writer failed or took none
 /// of what it was offered; a front of the lines is then written.

@@ -1,9 +1,9 @@
 //! The map of a whole script.
 
 ghost use Rattle.std.specs.Prelude.{◌≡◌, ◌≤◌, false, true, IfOk, IsErrOf};
+ghost use Rattle.rh_defs.specs.declared.sizes.TheConstants.{MOST_READS};
 ghost use Rattle.rh_defs.specs.Desk.{Desk};
 ghost use Rattle.rh_drawn.specs.Mapped.{Mapped, MappedSoFar, MappedUntil, fault_of};
-ghost use Rattle.rh_feed.specs.Taken.{too_many_reads};
 ghost use Rattle.rh_figure.specs.Map.{place};
 
 use crate::drawn::Drawn;
@@ -33,14 +33,14 @@ pub fn map_script<D: Drawn, R: Source, W: Sink>(
     // The map of the complete lines that were read has been written.
     ensures read_failed { IsErrOf result RunFault.ReadFailed → (R.input reader.new).failed ≡ true }
     ensures read_mapped { IsErrOf result RunFault.ReadFailed → (d : Desk) → D.spells drawn d → MappedSoFar marked (place d 0 false) (R.input reader.old) (R.input reader.new) (W.output writer.old) (W.output writer.new) }
-    ensures too_long { IsErrOf result RunFault.TooLong → ((R.input reader.new).reads ≡ too_many_reads) × ((R.input reader.new).failed ≡ (R.input reader.old).failed) }
+    ensures too_long { IsErrOf result RunFault.TooLong → ((R.input reader.new).reads ≡ MOST_READS) × ((R.input reader.new).failed ≡ (R.input reader.old).failed) }
     ensures long_mapped { IsErrOf result RunFault.TooLong → (d : Desk) → D.spells drawn d → MappedSoFar marked (place d 0 false) (R.input reader.old) (R.input reader.new) (W.output writer.old) (W.output writer.new) }
 
     // The writer failed, and took a front of the map of some lines.
     ensures write_failed { IsErrOf result RunFault.WriteFailed → (d : Desk) → D.spells drawn d → MappedUntil marked (place d 0 false) (R.input reader.old) (R.input reader.new) (W.output writer.old) (W.output writer.new) }
 
     // However it ends, at most so many reads gave bytes.
-    ensures reads { (R.input reader.new).reads ≤ too_many_reads }
+    ensures reads { (R.input reader.new).reads ≤ MOST_READS }
 {
     let Ok(mut mapper) = Mapper::new(alloc, drawn, marked) else {
         return Err(RunFault::NoMemory);

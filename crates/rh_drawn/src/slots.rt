@@ -2,7 +2,7 @@
 
 ghost use Rattle.std.specs.Prelude.{◌≡◌, ◌<◌, ◌∷◌, [], length, slice_get, Some};
 ghost use Rattle.std.specs.List.{position};
-ghost use Rattle.rh_defs.specs.Desk.{Task};
+ghost use Rattle.rh_defs.specs.Desk.{Task, most_tasks};
 ghost use Rattle.rh_drawn.specs.Parts.{slot_heading, slot_lines, slot_panels, slot_part};
 ghost use Rattle.rh_figure.specs.Figure.{slot_drawing};
 ghost use Rattle.rh_figure.specs.Figure.{Panel};
@@ -81,7 +81,7 @@ pub fn count_tasks<S: Sight>(sight: &S) -> usize
 
 /// Writes the heading of the slot of a task, which stands at a place in order of handle.
 fn print_heading<W: Sink>(i: usize, task: &TaskSight<'_>, writer: &mut W) -> Result<(), WriteFailed>
-    requires { i < 32 }
+    requires { i < most_tasks }
     ensures { (x : Scene) (t : Task) → IsTaskSeen task.now t → slice_get x.desk.tasks i ≡ Some t → position (λ (p : Panel). is_owner p.owner (SlotOf t.handle)) (slot_panels x) ≡ Some i → Puts (W.output writer.old) (W.output writer.new) result
         (shown_lines (slot_heading x t ∷ [])) }
 {

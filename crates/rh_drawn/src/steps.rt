@@ -6,6 +6,7 @@ ghost use Rattle.rh_figure.specs.Map.{step_lines};
 ghost use Rattle.rh_lines.specs.Flow.{Puts};
 ghost use Rattle.rh_map.specs.Written.{shown_lines};
 ghost use Rattle.rh_sight.specs.Steps.{IsStepOf, scene_at};
+ghost use Rattle.rh_defs.specs.Post.{most_messages};
 
 use crate::figure::print_figure;
 use crate::lists::Lists;
@@ -34,7 +35,7 @@ pub fn print_step<S: Sight, W: Sink>(
     writer: &mut W,
 ) -> Result<(), WriteFailed>
     requires step { IsStepOf (S.desk sight.now) step.now }
-    requires few { length step.now.messages.now ≤ 256 }
+    requires few { length step.now.messages.now ≤ most_messages }
     ensures { (reply : List ℕ) → Excerpts above.now.front.now above.now.count reply → Puts (W.output writer.old) (W.output writer.new) result
         (shown_lines (step_lines above.now.is_still above.now.number above.now.line.now reply (scene_at (S.desk sight.now) step.now))) }
 {

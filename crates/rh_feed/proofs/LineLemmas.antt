@@ -1,9 +1,9 @@
 -- Lines of a script: where they end, and as far as they are kept.
 use Rattle.std.proofs.Common.{◌≡◌, ℕ, zero, suc, ◌-◌, ◌<◌, ◌≤◌, Bool, true, false, eqb, nat_lt, ◌⊎◌, inl, inr, List, [], ◌∷◌, ◌++◌, length, take, drop, map, append-nil, refl, sym, ◌∙◌, ap, subst, arith, rules}
-use Rattle.std.specs.Prelude.{slice_index}
+use Rattle.std.specs.Prelude.{◌+◌, slice_index}
 use Rattle.std.proofs.lemmas.List.{take_all, take_rest, length-take, map-append}
 use borrow.Author.Tests.{tests}
-use Rattle.rh_defs.specs.Line.{line_means}
+use Rattle.rh_defs.specs.Line.{line_means, longest_line}
 use Rattle.rh_defs.specs.Script.{ended, unended, onto_line, unended_after}
 use Rattle.rh_feed.specs.Lines.{kept, kept_lines}
 
@@ -16,7 +16,7 @@ take_front (suc m) (x ∷ xs) ys = ap (λ z. x ∷ z) (take_front m xs ys)
 
 pub kept_front : (line xs : List ℕ) → kept (kept line ++ xs) ≡ kept (line ++ xs)
 unfolding kept
-kept_front line xs = take_front 1025 line xs
+kept_front line xs = take_front (longest_line + 1) line xs
 
 pub kept_kept : (line : List ℕ) → kept (kept line) ≡ kept line
 kept_kept line = ap kept (sym (append-nil (kept line))) ∙ (kept_front line [] ∙ ap kept (append-nil line))
@@ -31,13 +31,13 @@ still_long k m xs p q = grind (arith, length-take)
 pub is_above : (k n : ℕ) → k < n → nat_lt k n ≡ true
 is_above k n h = search (rules, tests)
 
-means_same : (n : ℕ) (line : List ℕ) → (n ≤ 1024) ⊎ (1024 < n) → n ≡ length line → line_means (kept line) ≡ line_means line
+means_same : (n : ℕ) (line : List ℕ) → (n ≤ longest_line) ⊎ (longest_line < n) → n ≡ length line → line_means (kept line) ≡ line_means line
 unfolding kept line_means
-means_same n line (inl h) e = ap line_means (take_all 1025 line (omega arith))
+means_same n line (inl h) e = ap line_means (take_all (longest_line + 1) line (omega arith))
 means_same n line (inr h) e =
-    rw (is_above 1024 (length line) (omega arith), is_above 1024 (length (take 1025 line)) (still_long 1024 1025 line (omega arith) (omega arith))) refl
+    rw (is_above longest_line (length line) (omega arith), is_above longest_line (length (take (longest_line + 1) line)) (still_long longest_line (longest_line + 1) line (omega arith) (omega arith))) refl
 
-pub split_at : (n : ℕ) → (n ≤ 1024) ⊎ (1024 < n)
+pub split_at : (n : ℕ) → (n ≤ longest_line) ⊎ (longest_line < n)
 split_at n = grind arith
 
 -- a line means what it means as far as it is kept
@@ -55,13 +55,13 @@ means_front line xs =
 shorter : (n : ℕ) (line : List ℕ) → length (take n line) ≤ n
 shorter n line = grind (arith, length-take)
 
-pub kept_short : (line : List ℕ) → length line ≤ 1025 → line ≡ kept line
+pub kept_short : (line : List ℕ) → length line ≤ (longest_line + 1) → line ≡ kept line
 unfolding kept
-kept_short line h = sym (take_all 1025 line h)
+kept_short line h = sym (take_all (longest_line + 1) line h)
 
-pub short_kept : (line : List ℕ) → length (kept line) ≤ 1025
+pub short_kept : (line : List ℕ) → length (kept line) ≤ (longest_line + 1)
 unfolding kept
-short_kept line = shorter 1025 line
+short_kept line = shorter (longest_line + 1) line
 
 -- ---- bytes without a line feed
 

@@ -4,10 +4,6 @@ use Rattle.std.specs.Io.KnownBytes.{Consumes, IsAtEnd}
 use Rattle.rh_lines.specs.Flow.{Input, Output}
 use Rattle.rh_feed.specs.Lines.{kept_lines, kept_rest}
 
--- so many reads that give bytes make a script too long
-abbrev pub too_many_reads : ℕ
-too_many_reads = 1000000
-
 -- what taking one line does: from a taker and what was written, to those behind the line
 abbrev pub Step : Type 0 → Type 1
 Step S = S → Output → List ℕ → S → Output → Type 0

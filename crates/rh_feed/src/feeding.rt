@@ -1,26 +1,25 @@
 //! A script read to its end, and its lines handed on.
 
 ghost use Rattle.std.specs.Prelude.{◌≡◌, ◌<◌, ◌≤◌, ◌*◌, ◌+◌, [], ◌++◌, ℕ, List, length, true, IsErrOf, OnErr, OnOk};
+ghost use Rattle.rh_defs.specs.declared.sizes.TheConstants.{MOST_READS};
 ghost use Rattle.rh_defs.specs.Script.{ended, unended};
 ghost use Rattle.rh_feed.specs.Lines.{kept, kept_lines, kept_rest};
-ghost use Rattle.rh_feed.specs.Taken.{BrokeAmong, Fed, FedAll, FedUntil, TookAll, too_many_reads};
-ghost use Rattle.rh_feed.specs.declared.feeding.TheConstants.{MOST_READS, PIECE};
+ghost use Rattle.rh_feed.specs.Taken.{BrokeAmong, Fed, FedAll, FedUntil, TookAll};
+ghost use Rattle.rh_feed.specs.declared.feeding.TheConstants.{PIECE};
 
 use crate::fault::FeedFault;
 use crate::line::LineBuffer;
 use crate::taker::LineTaker;
 use memchr::memchr;
+use rh_defs::sizes::MOST_READS;
 use rh_lines::{Sink, Source, WriteFailed};
 use std::alloc::Global;
 
 /// So many bytes are read at a time. A script has less than 2^32 bytes then, and so many lines at most.
 pub const PIECE: usize = 4_096;
 
-/// So many reads that give bytes make a script too long.
-pub const MOST_READS: u32 = 1_000_000;
-
 /// Reads a script to its end, and hands each of its lines to the taker before it reads on; at last what stands behind
-/// the last line feed. It takes memory before its first read only, and gives up after 1,000,000 reads that gave bytes.
+/// the last line feed. It takes memory before its first read only, and gives up after `MOST_READS` reads that gave bytes.
 pub fn feed_all<T: LineTaker, R: Source, W: Sink>(
     alloc: Global,
     taker: &mut T,
@@ -39,14 +38,14 @@ pub fn feed_all<T: LineTaker, R: Source, W: Sink>(
     // The complete lines that were read have been taken.
     ensures read_failed { IsErrOf result FeedFault.ReadFailed → (R.input reader.new).failed ≡ true }
     ensures read_taken { IsErrOf result FeedFault.ReadFailed → Fed T.took (R.input reader.old) (R.input reader.new) taker.old taker.new (W.output writer.old) (W.output writer.new) }
-    ensures too_long { IsErrOf result FeedFault.TooLong → ((R.input reader.new).reads ≡ too_many_reads) × ((R.input reader.new).failed ≡ (R.input reader.old).failed) }
+    ensures too_long { IsErrOf result FeedFault.TooLong → ((R.input reader.new).reads ≡ MOST_READS) × ((R.input reader.new).failed ≡ (R.input reader.old).failed) }
     ensures long_taken { IsErrOf result FeedFault.TooLong → Fed T.took (R.input reader.old) (R.input reader.new) taker.old taker.new (W.output writer.old) (W.output writer.new) }
 
     // The writer failed at one of the lines.
     ensures write_failed { IsErrOf result FeedFault.WriteFailed → FedUntil T.took T.broke T.broke_rest (R.input reader.old) (R.input reader.new) taker.old (W.output writer.old) (W.output writer.new) }
 
     // However it ends, at most so many reads gave bytes.
-    ensures reads { (R.input reader.new).reads ≤ too_many_reads }
+    ensures reads { (R.input reader.new).reads ≤ MOST_READS }
 {
     let Ok(mut line) = LineBuffer::new(alloc) else {
         return Err(FeedFault::NoMemory);
@@ -73,10 +72,10 @@ pub fn read_all<T: LineTaker, R: Source, W: Sink>(
     ensures had_memory { IsErrOf result FeedFault.NoMemory → ⊥ }
     ensures read_failed { IsErrOf result FeedFault.ReadFailed → (R.input reader.new).failed ≡ true }
     ensures read_taken { IsErrOf result FeedFault.ReadFailed → Fed T.took (R.input reader.old) (R.input reader.new) taker.old taker.new (W.output writer.old) (W.output writer.new) }
-    ensures too_long { IsErrOf result FeedFault.TooLong → ((R.input reader.new).reads ≡ too_many_reads) × ((R.input reader.new).failed ≡ (R.input reader.old).failed) }
+    ensures too_long { IsErrOf result FeedFault.TooLong → ((R.input reader.new).reads ≡ MOST_READS) × ((R.input reader.new).failed ≡ (R.input reader.old).failed) }
     ensures long_taken { IsErrOf result FeedFault.TooLong → Fed T.took (R.input reader.old) (R.input reader.new) taker.old taker.new (W.output writer.old) (W.output writer.new) }
     ensures write_failed { IsErrOf result FeedFault.WriteFailed → FedUntil T.took T.broke T.broke_rest (R.input reader.old) (R.input reader.new) taker.old (W.output writer.old) (W.output writer.new) }
-    ensures reads { (R.input reader.new).reads ≤ too_many_reads }
+    ensures reads { (R.input reader.new).reads ≤ MOST_READS }
 {
     for _turn in 0..MOST_READS {
         let count = match reader.read(piece) {

@@ -7,6 +7,6 @@ mod line;
 mod taker;
 
 pub use fault::FeedFault;
-pub use feeding::{MOST_READS, PIECE, feed_all, read_all};
+pub use feeding::{PIECE, feed_all, read_all};
 pub use line::LineBuffer;
 pub use taker::LineTaker;

@@ -2,6 +2,7 @@
 use Rattle.std.proofs.Common.{ℕ, ◌<◌, ◌≤◌, ◌≡◌, refl, subst, sym, ap, ◌∙◌, append_assoc, length-append, length-take, zero, suc, arith, Bool, true, false, List, [], ◌∷◌, ◌++◌, length, take, map}
 use Rattle.std.specs.Prelude.{nat_le, nat_lt, ◌==◌, ◌&&◌, if◌then◌else◌, codes}
 use Rattle.std.specs.List.{AllByRecursion}
+use Rattle.rh_defs.specs.Bytes.{space}
 use Rattle.rh_defs.specs.Script.{ended, unended, onto_line, unended_after}
 use Rattle.std.proofs.lemmas.Bool.Decides.{nat_tests}
 use Rattle.rh_defs.proofs.HeapLists.{cond_false, eqb_apart}
@@ -10,7 +11,7 @@ use Rattle.rh_figure.specs.Laws.{IsShownByte, IsMapLine, HasMapLines, AreMaps}
 use Rattle.rh_figure.specs.declared.limits.TheConstants.{MAP_COLUMNS}
 
 -- a byte that was shown because two tests hold, or the question mark
-pub tested-byte : (t u : Bool) (b : ℕ) → (t ≡ true → 32 ≤ b) → (u ≡ true → b < 127)
+pub tested-byte : (t u : Bool) (b : ℕ) → (t ≡ true → space ≤ b) → (u ≡ true → b < 127)
     → IsShownByte (if t && u then b else 63)
 tested-byte true true b low high = record { low = low refl; high = high refl }
 tested-byte true false b low high = record { low = omega arith; high = omega arith }
@@ -18,7 +19,7 @@ tested-byte false u b low high = record { low = omega arith; high = omega arith 
 
 pub shown-byte : (b : ℕ) → IsShownByte (shown_byte b)
 shown-byte b =
-    tested-byte (nat_le 32 b) (nat_lt b 127) b (λ e. grind (arith, nat_tests)) (λ e. grind (arith, nat_tests))
+    tested-byte (nat_le space b) (nat_lt b 127) b (λ e. grind (arith, nat_tests)) (λ e. grind (arith, nat_tests))
 
 pub shown-bytes : (t : List ℕ) → AllByRecursion IsShownByte (map shown_byte t)
 shown-bytes [] = tt

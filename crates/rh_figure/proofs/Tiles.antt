@@ -1,6 +1,7 @@
 -- The pieces of a heap, of a slot and of the module area lie one after the other.
 use Rattle.std.proofs.Common.{ℕ, ◌+◌, ◌*◌, ◌≤◌, ◌≡◌, refl, subst, sym, ap, ◌∙◌, arith, List, [], ◌∷◌, ◌++◌, length, take, drop}
 use Rattle.std.proofs.lemmas.List.{take-append-drop}
+use Rattle.rh_defs.specs.SlotImage.{heap_place}
 use Rattle.rh_defs.specs.Pieces.{total, page}
 use Rattle.rh_defs.specs.Heap.{Heap, Segment, Used, Hole, size_of, first_place, base}
 use Rattle.rh_defs.specs.Slot.{Slot, Flex, IsSlot, weight, slot_pages}
@@ -61,11 +62,11 @@ flex-tile x h p (b ∷ blocks) =
 pub slot-tile : (x : Scene) (h : ℕ) (s : Slot) → IsSlot s → Tile 0 (page * slot_pages s) (slot_pieces x h s)
 slot-tile x h s is = (
   refl,
-  tile-join 256 _ (page * slot_pages s) (heap_pieces (slot_legend x h) 256 s.heap
-      ++ flex_pieces x h (256 + s.heap.end) s.blocks) _
-      (tile-join 256 _ _ (heap_pieces (slot_legend x h) 256 s.heap) _
-      (heap-tile (slot_legend x h) 256 s.heap is.heap.fits)
-      (flex-tile x h (256 + s.heap.end) s.blocks))
+  tile-join heap_place _ (page * slot_pages s) (heap_pieces (slot_legend x h) heap_place s.heap
+      ++ flex_pieces x h (heap_place + s.heap.end) s.blocks) _
+      (tile-join heap_place _ _ (heap_pieces (slot_legend x h) heap_place s.heap) _
+      (heap-tile (slot_legend x h) heap_place s.heap is.heap.fits)
+      (flex-tile x h (heap_place + s.heap.end) s.blocks))
       (refl, omega arith),
 )
 

@@ -1,6 +1,7 @@
 -- What holds of every picture.
 use Rattle.std.specs.Prelude.{◌≡◌, ℕ, ◌*◌, ◌<◌, ◌≤◌, Bool, true, List, [], length, Some}
 use Rattle.std.specs.List.{AllByRecursion}
+use Rattle.rh_defs.specs.Bytes.{space}
 use Rattle.rh_defs.specs.declared.command.Command.{Command}
 use Rattle.rh_defs.specs.Files.{FileList}
 use Rattle.rh_defs.specs.Pieces.{page}
@@ -27,7 +28,7 @@ pub record HasTiledAreas (d : Desk) : Type 0 where
 
 -- a byte that a terminal shows
 pub record IsShownByte (b : ℕ) : Type 0 where
-  pub low : 32 ≤ b
+  pub low : space ≤ b
   pub high : b < 127
 
 -- a line of a map: at most 79 columns of such bytes

@@ -3,6 +3,7 @@ use Rattle.std.specs.Prelude.{ℕ, ◌+◌, ◌-◌, ◌==◌, nat_le, nat_lt, �
 use Rattle.std.specs.List.{flat_map, concat}
 use Rattle.std.specs.Str.{bytes_eq}
 use Rattle.std.specs.Fmt.{decimal}
+use Rattle.rh_defs.specs.Bytes.{space}
 use Rattle.rh_defs.specs.declared.command.Command.{Command}
 use Rattle.rh_defs.specs.declared.reply.Reply.{Reply}
 use Rattle.rh_defs.specs.declared.reply.Reply.TheVariants as reply
@@ -191,7 +192,7 @@ map_lines marked p ((r, s) ∷ rest) = lines_of_read marked s p r ++ map_lines m
 
 -- a byte that a terminal shows, else a question mark
 abbrev pub shown_byte : ℕ → ℕ
-shown_byte b = if nat_le 32 b && nat_lt b 127 then b else 63
+shown_byte b = if nat_le space b && nat_lt b 127 then b else 63
 
 -- a line as it is written, without its line feed
 abbrev pub shown_line : Text → Text

@@ -2,6 +2,8 @@
 use Rattle.std.specs.Prelude.{ℕ, zero, suc, ◌+◌, ◌-◌, ◌*◌, ◌/◌, ◌%◌, ◌==◌, nat_le, nat_lt, min, ◌&&◌, ◌||◌, Bool, true, false, if◌then◌else◌, List, [], ◌∷◌, ◌++◌, length, take, drop, map, filter, find, replicate, slice_index, codes, Option, Some, None}
 use Rattle.std.specs.List.{range_with_len, position}
 use Rattle.std.specs.Fmt.{decimal}
+use Rattle.rh_defs.specs.declared.sizes.TheConstants.{FIXED_AREAS}
+use Rattle.rh_defs.specs.Bytes.{space}
 use Rattle.rh_defs.specs.Pieces.{page}
 use Rattle.rh_defs.specs.Text.{address}
 use Rattle.rh_figure.specs.Share.{Owner, AreaOf, SlotOf, is_owner}
@@ -14,10 +16,10 @@ use Rattle.rh_figure.specs.declared.limits.TheConstants.{MAP_CELLS, CELL_BYTES, 
 
 -- a text behind spaces, so that it ends in the column
 abbrev pub to_right : ℕ → Text → Text
-to_right n t = replicate (n - length t) 32 ++ t
+to_right n t = replicate (n - length t) space ++ t
 
 abbrev pub before_spaces : ℕ → Text → Text
-before_spaces b [] = if b == 32 then [] else b ∷ []
+before_spaces b [] = if b == space then [] else b ∷ []
 before_spaces b (c ∷ cs) = b ∷ c ∷ cs
 
 -- a text without spaces at its end
@@ -40,7 +42,7 @@ letter_at (Some i) = slice_index letters i
 
 -- a slot has the letter of its place among the slots, one of areas 0 to 5 its digit, a made one M
 abbrev pub owner_mark : List Panel → Owner → ℕ
-owner_mark slots (AreaOf k) = if nat_lt k 6 then 48 + k else 77
+owner_mark slots (AreaOf k) = if nat_lt k FIXED_AREAS then 48 + k else 77
 owner_mark slots (SlotOf h) = letter_at (position (λ (p : Panel). is_owner p.owner (SlotOf h)) slots)
 
 -- a free page is a dot
@@ -72,7 +74,7 @@ kind_mark FreeHole = 45
 kind_mark (MoreSegments n) = 37
 kind_mark FreeTop = 46
 kind_mark (FlexBlock k n) = 48 + k % 10
-kind_mark Unused = 32
+kind_mark Unused = space
 
 abbrev pub is_block : Kind → Bool
 is_block (Claimed n) = true
@@ -89,7 +91,7 @@ abbrev pub has_byte : ℕ → Piece → Bool
 has_byte at p = nat_le p.at at && nat_lt at (p.at + p.size)
 
 abbrev pub mark_or_space : Option Piece → ℕ
-mark_or_space None = 32
+mark_or_space None = space
 mark_or_space (Some p) = kind_mark p.kind
 
 -- the block that begins in the cell, a plus for several, and else what goes on there

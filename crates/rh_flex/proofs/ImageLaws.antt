@@ -3,6 +3,7 @@ use Rattle.std.proofs.Common.{◌≡◌, ℕ, ◌*◌, ◌/◌, ◌^◌, ◌≤�
 use Rattle.std.specs.Prelude.{Some}
 use Rattle.std.proofs.lemmas.Bool.Decides.{nat_tests}
 use Rattle.std.proofs.lemmas.List.{length-take-le}
+use Rattle.rh_defs.specs.declared.sizes.TheConstants.{PAGE}
 use Rattle.rh_defs.specs.Slot.{Slot}
 use Rattle.rh_defs.specs.SlotImage.{slot_of}
 use Rattle.rh_flex.specs.Image.{IsShortSlot, pages_fault_of}
@@ -16,11 +17,11 @@ use Rattle.rh_store.specs.Limits.{area_limit}
 
 module _ (b : List ℕ) (s : LentSlot) where
   -- where the pages' bytes are a slot's, all bytes have it
-  pub short_from : length b ≤ area_limit → 4096 * s.pages ≤ length b
+  pub short_from : length b ≤ area_limit → PAGE * s.pages ≤ length b
       → IsSlotImage (bytes_of b s) (slot_of true (bytes_of b s)) → IsShortSlot b s
   short_from few within image =
       let most = image.most in
-      let long = length-take-le (4096 * s.pages) b within in
+      let long = length-take-le (PAGE * s.pages) b within in
       let slot : IsSlotBytes b (record { pages = s.pages; budge = true }) =
       record { few = few; within = within; spells = image.spells } in
       record { most = omega arith; slot = budged b (record { pages = s.pages; budge = true }) s.budge slot }
@@ -29,23 +30,23 @@ module _ (b : List ℕ) (s : LentSlot) where
   pub short_back : IsShortSlot b s → IsSlotImage (bytes_of b s) (slot_of true (bytes_of b s))
   short_back short =
       let most = short.most in
-      let long = length-take-le (4096 * s.pages) b short.slot.within in
+      let long = length-take-le (PAGE * s.pages) b short.slot.within in
       record { most = omega arith; spells = (budged b s true short.slot).spells }
 
   -- the pages lie in the bytes
-  pub short_lies : IsShortSlot b s → s.pages ≤ length b / 4096
+  pub short_lies : IsShortSlot b s → s.pages ≤ length b / PAGE
   short_lies short = let within = short.slot.within in omega arith
 
   pub short_few : IsShortSlot b s → length b ≤ 2 ^ 30
   short_few short = short.slot.few
 
   -- the sums don't tell whether budging is on
-  pub same_sums : slot_summary (4096 * s.pages) (slot_of true (bytes_of b s)) ≡ slot_summary (4096 * s.pages) (slot_in b s)
+  pub same_sums : slot_summary (PAGE * s.pages) (slot_of true (bytes_of b s)) ≡ slot_summary (PAGE * s.pages) (slot_in b s)
   unfolding slot_of
   same_sums = refl
 
   -- the fault is that of the pages where they lie in the bytes
-  pub fault_inside : length b ≤ area_limit → 4096 * s.pages ≤ length b → slot_fault_of (bytes_of b s) ≡ pages_fault_of b s
+  pub fault_inside : length b ≤ area_limit → PAGE * s.pages ≤ length b → slot_fault_of (bytes_of b s) ≡ pages_fault_of b s
   unfolding pages_fault_of
   fault_inside few within = grind (arith, nat_tests)
 
@@ -54,6 +55,6 @@ module _ (b : List ℕ) (s : LentSlot) where
   unfolding pages_fault_of
   fault_long l = grind (arith, nat_tests)
 
-  pub fault_short : length b < 4096 * s.pages → pages_fault_of b s ≡ Some BadLength
+  pub fault_short : length b < PAGE * s.pages → pages_fault_of b s ≡ Some BadLength
   unfolding pages_fault_of
   fault_short l = grind (arith, nat_tests)

@@ -5,6 +5,7 @@ use Rattle.std.specs.Int.{w32, to_le_bytes}
 use Rattle.std.proofs.Math.Seq.{take-append_seam}
 use Rattle.std.proofs.lemmas.Bool.Decides.{nat_tests}
 use Rattle.std.proofs.lemmas.List.{length-append, length-replicate, length-take-le, take-append-drop, take-take}
+use Rattle.rh_defs.specs.declared.sizes.TheConstants.{PAGE}
 use Rattle.rh_defs.specs.Bytes.{word, put, put_word, part}
 use Rattle.rh_defs.specs.Memory.{Memory, IsOpen, area_set, bytes, with_bytes, grown, shrunk}
 use Rattle.rh_defs.proofs.BytesLaws.{length-put, length-part, part-take, word-take, put-append_left, put-parts}
@@ -70,53 +71,53 @@ module _ (bs : List ℕ) (free pages loan id : ℕ) (o : IsOpen (memory_over bs 
   set_over : (xs : List ℕ) → memory_over xs free pages loan ≡ with_bytes (memory_over bs free pages loan) id xs
   set_over xs = set_zero xs ∙ ap (λ k. with_bytes (memory_over bs free pages loan) k xs) (sym open_zero)
 
-  grown_zero : (n : ℕ) → memory_over (bs ++ replicate (4096 * n) 0) (free - n) pages loan
+  grown_zero : (n : ℕ) → memory_over (bs ++ replicate (PAGE * n) 0) (free - n) pages loan
       ≡ grown (memory_over bs free pages loan) 0 n
   unfolding memory_over grown area_set bytes memory_with
   grown_zero n =
       ap (memory_with (free - n) pages loan)
-      (sym (area_set-area_set (λ k. None) 0 (Some bs) (Some (bs ++ replicate (4096 * n) 0))))
+      (sym (area_set-area_set (λ k. None) 0 (Some bs) (Some (bs ++ replicate (PAGE * n) 0))))
 
-  grown_over : (n : ℕ) → memory_over (bs ++ replicate (4096 * n) 0) (free - n) pages loan
+  grown_over : (n : ℕ) → memory_over (bs ++ replicate (PAGE * n) 0) (free - n) pages loan
       ≡ grown (memory_over bs free pages loan) id n
   grown_over n = grown_zero n ∙ ap (λ k. grown (memory_over bs free pages loan) k n) (sym open_zero)
 
-  shrunk_zero : (n : ℕ) → memory_over (take (length bs - 4096 * n) bs) (free + n) pages loan
+  shrunk_zero : (n : ℕ) → memory_over (take (length bs - PAGE * n) bs) (free + n) pages loan
       ≡ shrunk (memory_over bs free pages loan) 0 n
   unfolding memory_over shrunk area_set bytes memory_with
   shrunk_zero n =
       ap (memory_with (free + n) pages loan)
-      (sym (area_set-area_set (λ k. None) 0 (Some bs) (Some (take (length bs - 4096 * n) bs))))
+      (sym (area_set-area_set (λ k. None) 0 (Some bs) (Some (take (length bs - PAGE * n) bs))))
 
-  shrunk_over : (n : ℕ) → memory_over (take (length bs - 4096 * n) bs) (free + n) pages loan
+  shrunk_over : (n : ℕ) → memory_over (take (length bs - PAGE * n) bs) (free + n) pages loan
       ≡ shrunk (memory_over bs free pages loan) id n
   shrunk_over n = shrunk_zero n ∙ ap (λ k. shrunk (memory_over bs free pages loan) k n) (sym open_zero)
 
 -- ---- the area of lent pages
 
 -- the first n pages of bytes, under any name of a loan
-module _ (b : List ℕ) (n loan id : ℕ) (within : 4096 * n ≤ length b) (o : IsOpen (memory_in b n loan) id) where
+module _ (b : List ℕ) (n loan id : ℕ) (within : PAGE * n ≤ length b) (o : IsOpen (memory_in b n loan) id) where
   pages_bytes : bytes (memory_in b n loan) id ≡ first_pages n b
   pages_bytes = bytes_over _ _ _ _ id o
 
-  pages_length : length (bytes (memory_in b n loan) id) ≡ 4096 * n
-  pages_length = ap length pages_bytes ∙ length-take-le (4096 * n) b within
+  pages_length : length (bytes (memory_in b n loan) id) ≡ PAGE * n
+  pages_length = ap length pages_bytes ∙ length-take-le (PAGE * n) b within
 
   pages_part : (at k : ℕ) → at + k ≤ length (bytes (memory_in b n loan) id)
       → part b at k ≡ part (bytes (memory_in b n loan) id) at k
   pages_part at k h =
       let long = pages_length in
-      sym (ap (λ (x : List ℕ). part x at k) pages_bytes ∙ part-take (4096 * n) b at k (omega arith))
+      sym (ap (λ (x : List ℕ). part x at k) pages_bytes ∙ part-take (PAGE * n) b at k (omega arith))
 
   pages_word : (at : ℕ) → at + 4 ≤ length (bytes (memory_in b n loan) id)
       → word b at ≡ word (bytes (memory_in b n loan) id) at
   pages_word at h =
       let long = pages_length in
-      sym (ap (λ (x : List ℕ). word x at) pages_bytes ∙ word-take (4096 * n) b at (omega arith))
+      sym (ap (λ (x : List ℕ). word x at) pages_bytes ∙ word-take (PAGE * n) b at (omega arith))
 
 -- bytes that are lent to be read
 module _ (s : LentPages) (id : ℕ) (o : IsOpen (memory_shown s) id) where
-  pub shown_length : length (bytes (memory_shown s) id) ≡ 4096 * s.pages
+  pub shown_length : length (bytes (memory_shown s) id) ≡ PAGE * s.pages
   unfolding memory_shown
   shown_length = pages_length s.bytes.now s.pages 0 id s.within o
 
@@ -137,7 +138,7 @@ module _ (s : LentPagesMut) (id : ℕ) (o : IsOpen (memory_of s) id) where
   unfolding memory_of
   lent_bytes = pages_bytes s.bytes.now s.pages s.bytes.ghost_name id s.within o
 
-  pub lent_length : length (bytes (memory_of s) id) ≡ 4096 * s.pages
+  pub lent_length : length (bytes (memory_of s) id) ≡ PAGE * s.pages
   unfolding memory_of
   lent_length = pages_length s.bytes.now s.pages s.bytes.ghost_name id s.within o
 
@@ -152,9 +153,9 @@ module _ (s : LentPagesMut) (id : ℕ) (o : IsOpen (memory_of s) id) where
   word_in at h = pages_word s.bytes.now s.pages s.bytes.ghost_name id s.within o at h
 
   same_length : (new : List ℕ) → length new ≡ length s.bytes.now → memory_in new s.pages s.bytes.ghost_name
-      ≡ memory_over (first_pages s.pages new) (pages_behind s.pages s.bytes.now) (length s.bytes.now / 4096) s.bytes.ghost_name
+      ≡ memory_over (first_pages s.pages new) (pages_behind s.pages s.bytes.now) (length s.bytes.now / PAGE) s.bytes.ghost_name
   same_length new e =
-      ap (λ n. memory_over (first_pages s.pages new) (n / 4096 - s.pages) (n / 4096) s.bytes.ghost_name) e
+      ap (λ n. memory_over (first_pages s.pages new) (n / PAGE - s.pages) (n / PAGE) s.bytes.ghost_name) e
 
   -- bytes written over those of the area
   pub written : (new : List ℕ) (at : ℕ) (xs : List ℕ) → new ≡ put s.bytes.now at xs
@@ -166,7 +167,7 @@ module _ (s : LentPagesMut) (id : ℕ) (o : IsOpen (memory_of s) id) where
       same_length new (ap length e ∙ length-put s.bytes.now at xs)
       ∙ set_over _ _ _ _ id o (first_pages s.pages new)
       ∙ ap (with_bytes (memory_of s) id) (ap (first_pages s.pages) e
-      ∙ take-put (4096 * s.pages) s.bytes.now at xs s.within (omega arith) ∙ ap (λ (x : List ℕ). put x at xs) (sym lent_bytes))
+      ∙ take-put (PAGE * s.pages) s.bytes.now at xs s.within (omega arith) ∙ ap (λ (x : List ℕ). put x at xs) (sym lent_bytes))
 
   -- a word written over one of the area
   pub word_written : (new : List ℕ) (at w : ℕ) → new ≡ put_word s.bytes.now at w → at + 4 ≤ length (bytes (memory_of s) id)
@@ -185,34 +186,34 @@ module _ (s : LentPagesMut) (id : ℕ) (o : IsOpen (memory_of s) id) where
       written new to moved (e ∙ ap (put s.bytes.now to) (part_in from n h)) (omega arith)
 
   -- pages of zeros taken from behind the area
-  pub grew : (new : List ℕ) (n : ℕ) → 4096 * (s.pages + n) ≤ length s.bytes.now
-      → new ≡ put s.bytes.now (4096 * s.pages) (replicate (4096 * n) 0)
+  pub grew : (new : List ℕ) (n : ℕ) → PAGE * (s.pages + n) ≤ length s.bytes.now
+      → new ≡ put s.bytes.now (PAGE * s.pages) (replicate (PAGE * n) 0)
       → memory_in new (s.pages + n) s.bytes.ghost_name ≡ grown (memory_of s) id n
   unfolding memory_of
   grew new n h e =
       let b = s.bytes.now in
-      let sum : 4096 * (s.pages + n) ≡ 4096 * s.pages + 4096 * n = omega arith in
-      let len : length new ≡ length b = ap length e ∙ length-put b (4096 * s.pages) (replicate (4096 * n) 0) in
-      let bs : first_pages (s.pages + n) new ≡ first_pages s.pages b ++ replicate (4096 * n) 0 =
-      ap (λ k. take k new) sum ∙ ap (take (4096 * s.pages + 4096 * n)) e ∙ take-zeros (4096 * s.pages) (4096 * n) b (omega arith) in
-      let free : length b / 4096 - (s.pages + n) ≡ (length b / 4096 - s.pages) - n = omega arith in
-      ap (λ k. memory_over (first_pages (s.pages + n) new) (k / 4096 - (s.pages + n)) (k / 4096) s.bytes.ghost_name) len
-      ∙ ap (λ (x : List ℕ). memory_over x (length b / 4096 - (s.pages + n)) (length b / 4096) s.bytes.ghost_name) bs
-      ∙ ap (λ f. memory_over (first_pages s.pages b ++ replicate (4096 * n) 0) f (length b / 4096) s.bytes.ghost_name) free
+      let sum : PAGE * (s.pages + n) ≡ PAGE * s.pages + PAGE * n = omega arith in
+      let len : length new ≡ length b = ap length e ∙ length-put b (PAGE * s.pages) (replicate (PAGE * n) 0) in
+      let bs : first_pages (s.pages + n) new ≡ first_pages s.pages b ++ replicate (PAGE * n) 0 =
+      ap (λ k. take k new) sum ∙ ap (take (PAGE * s.pages + PAGE * n)) e ∙ take-zeros (PAGE * s.pages) (PAGE * n) b (omega arith) in
+      let free : length b / PAGE - (s.pages + n) ≡ (length b / PAGE - s.pages) - n = omega arith in
+      ap (λ k. memory_over (first_pages (s.pages + n) new) (k / PAGE - (s.pages + n)) (k / PAGE) s.bytes.ghost_name) len
+      ∙ ap (λ (x : List ℕ). memory_over x (length b / PAGE - (s.pages + n)) (length b / PAGE) s.bytes.ghost_name) bs
+      ∙ ap (λ f. memory_over (first_pages s.pages b ++ replicate (PAGE * n) 0) f (length b / PAGE) s.bytes.ghost_name) free
       ∙ grown_over _ _ _ _ id o n
 
   -- pages given back at the area's end
-  pub shrank : (n : ℕ) → 4096 * n ≤ length (bytes (memory_of s) id)
+  pub shrank : (n : ℕ) → PAGE * n ≤ length (bytes (memory_of s) id)
       → memory_in s.bytes.now (s.pages - n) s.bytes.ghost_name ≡ shrunk (memory_of s) id n
   unfolding memory_of
   shrank n h =
       let b = s.bytes.now in
       let long = lent_length in
-      let len = length-take-le (4096 * s.pages) b s.within in
-      let less : 4096 * (s.pages - n) ≡ length (first_pages s.pages b) - 4096 * n = omega arith in
-      let bs : first_pages (s.pages - n) b ≡ take (length (first_pages s.pages b) - 4096 * n) (first_pages s.pages b) =
-      sym (take-take (4096 * (s.pages - n)) (4096 * s.pages) b (omega arith)) ∙ ap (λ k. take k (first_pages s.pages b)) less in
-      let free : length b / 4096 - (s.pages - n) ≡ (length b / 4096 - s.pages) + n = omega arith in
-      ap (λ (x : List ℕ). memory_over x (length b / 4096 - (s.pages - n)) (length b / 4096) s.bytes.ghost_name) bs
-      ∙ ap (λ f. memory_over (take (length (first_pages s.pages b) - 4096 * n) (first_pages s.pages b)) f (length b / 4096) s.bytes.ghost_name) free
+      let len = length-take-le (PAGE * s.pages) b s.within in
+      let less : PAGE * (s.pages - n) ≡ length (first_pages s.pages b) - PAGE * n = omega arith in
+      let bs : first_pages (s.pages - n) b ≡ take (length (first_pages s.pages b) - PAGE * n) (first_pages s.pages b) =
+      sym (take-take (PAGE * (s.pages - n)) (PAGE * s.pages) b (omega arith)) ∙ ap (λ k. take k (first_pages s.pages b)) less in
+      let free : length b / PAGE - (s.pages - n) ≡ (length b / PAGE - s.pages) + n = omega arith in
+      ap (λ (x : List ℕ). memory_over x (length b / PAGE - (s.pages - n)) (length b / PAGE) s.bytes.ghost_name) bs
+      ∙ ap (λ f. memory_over (take (length (first_pages s.pages b) - PAGE * n) (first_pages s.pages b)) f (length b / PAGE) s.bytes.ghost_name) free
       ∙ shrunk_over _ _ _ _ id o n

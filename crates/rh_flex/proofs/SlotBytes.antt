@@ -2,6 +2,7 @@
 use Rattle.std.proofs.Common.{◌≡◌, ℕ, ◌*◌, ◌/◌, ◌≤◌, Bool, true, List, length, take, replicate, refl, sym, ap, subst, ◌∙◌, arith}
 use Rattle.std.proofs.lemmas.List.{length-replicate, length-take-le}
 use Rattle.std.specs.Prelude.{ℤ, Ok, Err, OnErr}
+use Rattle.rh_defs.specs.declared.sizes.TheConstants.{C_HEAP_LENGTH, PAGE}
 use Rattle.rh_defs.specs.Bytes.{put}
 use Rattle.rh_defs.specs.Chain.{Granted, answer_of, left_of}
 use Rattle.rh_defs.specs.Heap.{empty_heap}
@@ -9,7 +10,7 @@ use Rattle.rh_defs.specs.HeapImage.{Spells}
 use Rattle.rh_defs.specs.Memory.{Memory, IsOpen, Edited, area_set, bytes}
 use Rattle.rh_defs.specs.Slot as plain
 use Rattle.rh_defs.specs.Slot.{new_slot}
-use Rattle.rh_defs.specs.SlotImage.{SpellsSlot}
+use Rattle.rh_defs.specs.SlotImage.{SpellsSlot, heap_place}
 use Rattle.rh_defs.specs.declared.refusal.Refusal.{Refusal}
 use Rattle.rh_defs.proofs.MemoryLaws.{OnlyArea-self}
 use Rattle.rh_defs.proofs.SlotImageLaws.{slot_of-SlotWords, SpellsSlot-budging}
@@ -32,20 +33,20 @@ lent budge = record { area = record { 0 = 0 }; budge = budge }
 pub is_slot : (b : List ℕ) (s : LentSlot) (l : ℕ) → IsSlotBytes b s → IsSlot (memory_in b s.pages l) (lent s.budge)
 unfolding memory_over area_set bytes
 is_slot b s l h = record {
-  opened = over-open (first_pages s.pages b) (pages_behind s.pages b) (length b / 4096) l;
+  opened = over-open (first_pages s.pages b) (pages_behind s.pages b) (length b / PAGE) l;
   spells = h.spells;
 }
 
 -- a refused call leaves the slot's pages
-same_err : {A : Type 0} (b : List ℕ) (n l : ℕ) (store : LentPagesMut) (result : Granted A) → 4096 * n ≤ length b
+same_err : {A : Type 0} (b : List ℕ) (n l : ℕ) (store : LentPagesMut) (result : Granted A) → PAGE * n ≤ length b
     → OnErr result (memory_of store ≡ memory_in b n l)
     → OnErr result ((store.pages ≡ n) × (first_pages store.pages store.bytes.now ≡ first_pages n b))
 unfolding memory_of memory_over area_set bytes
 same_err b n l store (Ok x) w e = tt
 same_err b n l store (Err x) w e =
     let is : first_pages store.pages store.bytes.now ≡ first_pages n b = ap (λ (m : Memory). bytes m 0) e in
-    let old = length-take-le (4096 * n) b w in
-    let new = length-take-le (4096 * store.pages) store.bytes.now store.within in
+    let old = length-take-le (PAGE * n) b w in
+    let new = length-take-le (PAGE * store.pages) store.bytes.now store.within in
     let len = ap length is in
     (omega arith, is)
 
@@ -85,21 +86,21 @@ refused_slot {A} b s granted refusal h e = record {
 -- ---- how a slot begins
 
 -- the first page after zeros were written over it
-pub page_of_zeros : (b c : List ℕ) → 4096 ≤ length b → c ≡ put b 0 (replicate 4096 0) → first_pages 1 c ≡ replicate 4096 0
-page_of_zeros b c h e = ap (take 4096) e ∙ take-zeros 0 4096 b h
+pub page_of_zeros : (b c : List ℕ) → PAGE ≤ length b → c ≡ put b 0 (replicate PAGE 0) → first_pages 1 c ≡ replicate PAGE 0
+page_of_zeros b c h e = ap (take PAGE) e ∙ take-zeros 0 PAGE b h
 
 -- an empty heap behind the anchor words of a page of zeros
-pub begun : (b : List ℕ) (l : ℕ) (store : LentPagesMut) → first_pages 1 b ≡ replicate 4096 0
-    → Edited (memory_in b 1 l) (memory_of store) 0 256 4096 → Spells (bytes (memory_of store) 0) 256 (empty_heap 3840)
+pub begun : (b : List ℕ) (l : ℕ) (store : LentPagesMut) → first_pages 1 b ≡ replicate PAGE 0
+    → Edited (memory_in b 1 l) (memory_of store) 0 heap_place PAGE → Spells (bytes (memory_of store) 0) heap_place (empty_heap C_HEAP_LENGTH)
     → SpellsSlot (first_pages store.pages store.bytes.now) new_slot
 unfolding memory_of memory_over area_set bytes
 begun b l store z e s =
     let m = memory_in b 1 l in
-    let is : IsOpen m 0 = over-open (first_pages 1 b) (pages_behind 1 b) (length b / 4096) l in
+    let is : IsOpen m 0 = over-open (first_pages 1 b) (pages_behind 1 b) (length b / PAGE) l in
     let page : Opened m m 0 = record {
       opened = is;
       bytes_are = z;
-      len = ap length z ∙ length-replicate {A = ℕ} 4096 0;
+      len = ap length z ∙ length-replicate {A = ℕ} PAGE 0;
       only = OnlyArea-self m 0 is;
     } in
     spells_new m m (memory_of store) 0 page e s

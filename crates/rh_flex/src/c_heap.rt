@@ -13,7 +13,8 @@ use crate::pages_mut::LentPagesMut;
 use crate::slot::LentSlot;
 use arrayvec::ArrayVec;
 use rh_defs::Refusal;
-use rh_heap::{SEGMENTS_AT_ONCE, Segment};
+use rh_defs::sizes::SEGMENTS_AT_ONCE;
+use rh_heap::Segment;
 use rh_lent::LENT;
 use rh_slot::Slot;
 

@@ -40,7 +40,7 @@ impl LentSlot {
         slot.address(&store, anchor)
     }
 
-    /// The lowest anchor without a block, `None` where all 64 have one.
+    /// The lowest anchor without a block, `None` where all have one.
     pub fn free_anchor(self, bytes: &[u8]) -> Option<Anchor>
         requires { IsSlotBytes bytes.now self }
         ensures { result ≡ free_anchor (slot_in bytes.now self) }

@@ -9,33 +9,34 @@ use Rattle.std.proofs.Math.Nat.{pow-suc}
 use Rattle.std.proofs.lemmas.Nat.{and_le_l, leading_top, le-div, div_below, pow_pos, one_shl}
 use Rattle.std.proofs.lemmas.Nat.Bits.{bit_at-zero, bit_at-lt, bit_at_above, bit_at_and, bit_at_ones, bit_at_ones_above}
 use Rattle.rh_defs.proofs.HeapLists.{eqb_same}
+use Rattle.rh_store.specs.declared.starts.TheConstants.{BITS}
 use Rattle.rh_store.specs.Starts.{bit}
 use Rattle.rh_heap.specs.Starts.{Became, LastBit}
 
 -- ---- one word of a map is changed
-module _ (lane k v b : ℕ) (old new : List ℕ) (lt : lane < 2) (e : new ≡ set old (2 * (k / 64) + lane) v) (inside : 2 * (k / 64) + lane < length old) where
-  word_now : (j lane' : ℕ) → 2 * (j / 64) + lane' ≡ 2 * (k / 64) + lane → get_or new (2 * (j / 64) + lane') 0 ≡ v
-  word_now j lane' q = ap (λ l. get_or l (2 * (j / 64) + lane') 0) e ∙ ap (λ i. get_or (set old (2 * (k / 64) + lane) v) i 0) q ∙ get_or-set_same old (2 * (k / 64) + lane) v 0 inside
+module _ (lane k v b : ℕ) (old new : List ℕ) (lt : lane < 2) (e : new ≡ set old (2 * (k / BITS) + lane) v) (inside : 2 * (k / BITS) + lane < length old) where
+  word_now : (j lane' : ℕ) → 2 * (j / BITS) + lane' ≡ 2 * (k / BITS) + lane → get_or new (2 * (j / BITS) + lane') 0 ≡ v
+  word_now j lane' q = ap (λ l. get_or l (2 * (j / BITS) + lane') 0) e ∙ ap (λ i. get_or (set old (2 * (k / BITS) + lane) v) i 0) q ∙ get_or-set_same old (2 * (k / BITS) + lane) v 0 inside
 
-  word_still : (j lane' : ℕ) → 2 * (j / 64) + lane' ≢ 2 * (k / 64) + lane → get_or new (2 * (j / 64) + lane') 0 ≡ get_or old (2 * (j / 64) + lane') 0
-  word_still j lane' q = ap (λ l. get_or l (2 * (j / 64) + lane') 0) e ∙ get_or-set_other old (2 * (k / 64) + lane) (2 * (j / 64) + lane') v 0 q
+  word_still : (j lane' : ℕ) → 2 * (j / BITS) + lane' ≢ 2 * (k / BITS) + lane → get_or new (2 * (j / BITS) + lane') 0 ≡ get_or old (2 * (j / BITS) + lane') 0
+  word_still j lane' q = ap (λ l. get_or l (2 * (j / BITS) + lane') 0) e ∙ get_or-set_other old (2 * (k / BITS) + lane) (2 * (j / BITS) + lane') v 0 q
 
-  pub became : bit_at v (k % 64) ≡ b → ((m : ℕ) → m < 64 → m ≢ k % 64 → bit_at v m ≡ bit_at (get_or old (2 * (k / 64) + lane) 0) m) → Became lane k b old new
+  pub became : bit_at v (k % BITS) ≡ b → ((m : ℕ) → m < BITS → m ≢ k % BITS → bit_at v m ≡ bit_at (get_or old (2 * (k / BITS) + lane) 0) m) → Became lane k b old new
   became here others = record {
-    here = ap (λ w. bit_at w (k % 64)) (word_now k lane refl) ∙ here;
-    same = λ j ne. elim (cases_eq (2 * (j / 64) + lane) (2 * (k / 64) + lane)) [
-      | inl q ↦ ap (λ w. bit_at w (j % 64)) (word_now j lane q) ∙ others (j % 64) (omega arith) (omega arith) ∙ ap (λ i. bit_at (get_or old i 0) (j % 64)) (sym q)
-      | inr q ↦ ap (λ w. bit_at w (j % 64)) (word_still j lane q)
+    here = ap (λ w. bit_at w (k % BITS)) (word_now k lane refl) ∙ here;
+    same = λ j ne. elim (cases_eq (2 * (j / BITS) + lane) (2 * (k / BITS) + lane)) [
+      | inl q ↦ ap (λ w. bit_at w (j % BITS)) (word_now j lane q) ∙ others (j % BITS) (omega arith) (omega arith) ∙ ap (λ i. bit_at (get_or old i 0) (j % BITS)) (sym q)
+      | inr q ↦ ap (λ w. bit_at w (j % BITS)) (word_still j lane q)
     ];
-    other = λ lane' j small ne. ap (λ w. bit_at w (j % 64)) (word_still j lane' (omega arith));
+    other = λ lane' j small ne. ap (λ w. bit_at w (j % BITS)) (word_still j lane' (omega arith));
   }
 
 -- a bit past the map's end is clear
-pub past_end : (lane k : ℕ) (starts : List ℕ) → length starts ≤ 2 * (k / 64) + lane → bit lane starts k ≡ 0
-past_end lane k starts l = ap (λ w. bit_at w (k % 64)) (get_or_past starts (2 * (k / 64) + lane) 0 l) ∙ bit_at-zero (k % 64)
+pub past_end : (lane k : ℕ) (starts : List ℕ) → length starts ≤ 2 * (k / BITS) + lane → bit lane starts k ≡ 0
+past_end lane k starts l = ap (λ w. bit_at w (k % BITS)) (get_or_past starts (2 * (k / BITS) + lane) 0 l) ∙ bit_at-zero (k % BITS)
 
 -- nothing is to be cleared there
-pub became_clear : (lane k : ℕ) (starts : List ℕ) → length starts ≤ 2 * (k / 64) + lane → Became lane k 0 starts starts
+pub became_clear : (lane k : ℕ) (starts : List ℕ) → length starts ≤ 2 * (k / BITS) + lane → Became lane k 0 starts starts
 became_clear lane k starts l = record { here = past_end lane k starts l; same = λ j ne. refl; other = λ lane' j small ne. refl }
 
 -- ---- the search
@@ -43,31 +44,31 @@ became_clear lane k starts l = record { here = past_end lane k starts l; same = 
 pub record Scan (lane : ℕ) (starts : List ℕ) (n line word : ℕ) : Type 0 where
   pub small : word < 2 ^ 64
   pub inside : 2 * line + lane < length starts
-  pub up_to : 64 * line ≤ n
-  pub here : (i : ℕ) → i < 64 → 64 * line + i < n → bit_at word i ≡ bit lane starts (64 * line + i)
-  pub above : (i : ℕ) → i < 64 → n ≤ 64 * line + i → bit_at word i ≡ 0
-  pub passed : (j : ℕ) → 64 * (line + 1) ≤ j → j < n → bit lane starts j ≡ 0
+  pub up_to : BITS * line ≤ n
+  pub here : (i : ℕ) → i < BITS → BITS * line + i < n → bit_at word i ≡ bit lane starts (BITS * line + i)
+  pub above : (i : ℕ) → i < BITS → n ≤ BITS * line + i → bit_at word i ≡ 0
+  pub passed : (j : ℕ) → BITS * (line + 1) ≤ j → j < n → bit lane starts j ≡ 0
 
 -- a bit of a line
-bit_of_line : (lane : ℕ) (starts : List ℕ) (line i : ℕ) → i < 64 → bit lane starts (64 * line + i) ≡ bit_at (get_or starts (2 * line + lane) 0) i
+bit_of_line : (lane : ℕ) (starts : List ℕ) (line i : ℕ) → i < BITS → bit lane starts (BITS * line + i) ≡ bit_at (get_or starts (2 * line + lane) 0) i
 bit_of_line lane starts line i l =
-    ap (λ d. bit_at (get_or starts (2 * d + lane) 0) ((64 * line + i) % 64)) (let e : (64 * line + i) / 64 ≡ line = omega arith in e)
-    ∙ ap (bit_at (get_or starts (2 * line + lane) 0)) (let e : (64 * line + i) % 64 ≡ i = omega arith in e)
+    ap (λ d. bit_at (get_or starts (2 * d + lane) 0) ((BITS * line + i) % BITS)) (let e : (BITS * line + i) / BITS ≡ line = omega arith in e)
+    ∙ ap (bit_at (get_or starts (2 * line + lane) 0)) (let e : (BITS * line + i) % BITS ≡ i = omega arith in e)
 
-pub scan_start : (lane : ℕ) (starts : List ℕ) (n word : ℕ) → 2 * (n / 64) + lane < length starts → get_or starts (2 * (n / 64) + lane) 0 < 2 ^ 64
-    → word ≡ bit_and (get_or starts (2 * (n / 64) + lane) 0) (1 * 2 ^ (n % 64) % 2 ^ 64 - 1) → Scan lane starts n (n / 64) word
+pub scan_start : (lane : ℕ) (starts : List ℕ) (n word : ℕ) → 2 * (n / BITS) + lane < length starts → get_or starts (2 * (n / BITS) + lane) 0 < 2 ^ 64
+    → word ≡ bit_and (get_or starts (2 * (n / BITS) + lane) 0) (1 * 2 ^ (n % BITS) % 2 ^ 64 - 1) → Scan lane starts n (n / BITS) word
 scan_start lane starts n word inside small e =
-    let w = get_or starts (2 * (n / 64) + lane) 0 in
-    let k = n % 64 in
-    let mask : word ≡ bit_and w (2 ^ k - 1) = e ∙ ap (λ m. bit_and w (m - 1)) (one_shl k 64 (omega arith)) in
+    let w = get_or starts (2 * (n / BITS) + lane) 0 in
+    let k = n % BITS in
+    let mask : word ≡ bit_and w (2 ^ k - 1) = e ∙ ap (λ m. bit_and w (m - 1)) (one_shl k BITS (omega arith)) in
     record {
-      small = omega (arith, e, and_le_l w (1 * 2 ^ (n % 64) % 2 ^ 64 - 1));
+      small = omega (arith, e, and_le_l w (1 * 2 ^ (n % BITS) % 2 ^ 64 - 1));
       inside = inside;
       up_to = omega arith;
       here = λ i l below.
           let one = bit_at_ones k i (omega arith) in
           let few = bit_at-lt w i in
-          ap (λ m. bit_at m i) mask ∙ bit_at_and w (2 ^ k - 1) i ∙ omega arith ∙ sym (bit_of_line lane starts (n / 64) i l);
+          ap (λ m. bit_at m i) mask ∙ bit_at_and w (2 ^ k - 1) i ∙ omega arith ∙ sym (bit_of_line lane starts (n / BITS) i l);
       above = λ i l past.
           let none = bit_at_ones_above k i (omega arith) in
           ap (λ m. bit_at m i) mask ∙ bit_at_and w (2 ^ k - 1) i ∙ omega arith;
@@ -89,32 +90,32 @@ highest word j lo hi =
       none = λ i l. bit_at_above word (suc j) i hi (omega arith);
     }
 
-pub scan_found : (lane : ℕ) (starts : List ℕ) (n line word zeros : ℕ) → Scan lane starts n line word → word ≢ 0 → zeros ≡ count_leading_zeros 64 word → LastBit lane starts n (64 * line + (63 - zeros))
+pub scan_found : (lane : ℕ) (starts : List ℕ) (n line word zeros : ℕ) → Scan lane starts n line word → word ≢ 0 → zeros ≡ count_leading_zeros 64 word → LastBit lane starts n (BITS * line + (63 - zeros))
 scan_found lane starts n line word zeros s ne e =
-    let top = leading_top 64 word (omega arith) s.small in
+    let top = leading_top BITS word (omega arith) s.small in
     let j = top.0 in
     let sum = top.1 in
-    let at : 64 * line + (63 - zeros) ≡ 64 * line + j = omega arith in
+    let at : BITS * line + (63 - zeros) ≡ BITS * line + j = omega arith in
     let high = highest word j top.2 top.3 in
     let is_one = high.top in
-    let less : 64 * line + j < n = elim (cases_lt (64 * line + j) n) [ inl l ↦ l | inr l ↦ absurd (let z = s.above j (omega arith) l in omega arith) ] in
+    let less : BITS * line + j < n = elim (cases_lt (BITS * line + j) n) [ inl l ↦ l | inr l ↦ absurd (let z = s.above j (omega arith) l in omega arith) ] in
     subst (LastBit lane starts n) (sym at) (record {
       below = less;
       is_set = sym (s.here j (omega arith) less) ∙ is_one;
-      none = λ i over below. elim (cases_lt i (64 * (line + 1))) [
+      none = λ i over below. elim (cases_lt i (BITS * (line + 1))) [
         | inl l ↦
-            let same : 64 * line + (i - 64 * line) ≡ i = omega arith in
-            subst (λ q. bit lane starts q ≡ 0) same (sym (s.here (i - 64 * line) (omega arith) (omega arith)) ∙ high.none (i - 64 * line) (omega arith))
+            let same : BITS * line + (i - BITS * line) ≡ i = omega arith in
+            subst (λ q. bit lane starts q ≡ 0) same (sym (s.here (i - BITS * line) (omega arith) (omega arith)) ∙ high.none (i - BITS * line) (omega arith))
         | inr l ↦ s.passed i l below
       ];
     })
 
 -- a line without a set bit is passed
-pub none_from : (lane : ℕ) (starts : List ℕ) (n line word : ℕ) → Scan lane starts n line word → word ≡ 0 → (j : ℕ) → 64 * line ≤ j → j < n → bit lane starts j ≡ 0
-none_from lane starts n line word s e j from below = elim (cases_lt j (64 * (line + 1))) [
+pub none_from : (lane : ℕ) (starts : List ℕ) (n line word : ℕ) → Scan lane starts n line word → word ≡ 0 → (j : ℕ) → BITS * line ≤ j → j < n → bit lane starts j ≡ 0
+none_from lane starts n line word s e j from below = elim (cases_lt j (BITS * (line + 1))) [
   | inl l ↦
-      let same : 64 * line + (j - 64 * line) ≡ j = omega arith in
-      subst (λ q. bit lane starts q ≡ 0) same (sym (s.here (j - 64 * line) (omega arith) (omega arith)) ∙ ap (λ w. bit_at w (j - 64 * line)) e ∙ bit_at-zero (j - 64 * line))
+      let same : BITS * line + (j - BITS * line) ≡ j = omega arith in
+      subst (λ q. bit lane starts q ≡ 0) same (sym (s.here (j - BITS * line) (omega arith) (omega arith)) ∙ ap (λ w. bit_at w (j - BITS * line)) e ∙ bit_at-zero (j - BITS * line))
   | inr l ↦ s.passed j l below
 ]
 

@@ -15,7 +15,7 @@ use Rattle.rh_defs.proofs.HeapStretch.{Await-from_link}
 use Rattle.rh_heap.specs.Segments.{GapIs, no_gap, a_gap, FoundBlock}
 use Rattle.rh_store.specs.Starts.{bit, used_at, hole_at, IsIndex}
 use Rattle.rh_heap.specs.Starts.{LastBit, LinkBelow, no_hole, a_hole}
-use Rattle.rh_store.specs.declared.starts.TheConstants.{USED, HOLES}
+use Rattle.rh_store.specs.declared.starts.TheConstants.{USED, HOLES, BITS}
 use Rattle.rh_heap.proofs.StartLaws.{hole_at-append, hole_at-low, hole_at-before_first, used_at-high, hole_at-high, HasUnits, units_of, units-append, units-total, unmarked, off_units, UsedHere, used_here, no_holes, LastOf, last_of}
 
 -- ---- what the map tells
@@ -30,7 +30,7 @@ not_marked starts h address i l m ne =
     let e : 8 * (p / 8) ≡ p = omega arith in
     let same : p + 4 ≡ address = omega arith in
     let u : bit USED starts (p / 8) ≡ used_at p 16 h.segments = i.used (p / 8) ∙ ap (λ q. used_at q 16 h.segments) e in
-    let few = bit_at-lt (get_or starts (2 * (p / 8 / 64) + USED) 0) (p / 8 % 64) in
+    let few = bit_at-lt (get_or starts (2 * (p / 8 / BITS) + USED) 0) (p / 8 % BITS) in
     let z : used_at p 16 h.segments ≡ 0 = sym u ∙ below_two (bit USED starts (p / 8)) few ne in
     first_at-none size_of (is_block_at address) 16 h.segments (subst (λ a. NonePass size_of (is_block_at a) 16 h.segments) same (unmarked p 16 h.segments z))
 

@@ -13,7 +13,7 @@ use Rattle.rh_defs.proofs.HeapLists.{HasRoom-from_tidy, HasRoom-append, total-ap
 use Rattle.rh_heap.specs.Segments.{Reached}
 use Rattle.rh_store.specs.Starts.{bit, once, used_at, hole_at, IsIndex}
 use Rattle.rh_heap.specs.Starts.{Became}
-use Rattle.rh_store.specs.declared.starts.TheConstants.{USED, HOLES}
+use Rattle.rh_store.specs.declared.starts.TheConstants.{USED, HOLES, BITS}
 use Rattle.rh_heap.proofs.ListLaws.{NextSegment, next_used, next_hole, next_segment_at}
 use Rattle.rh_heap.proofs.WalkLaws.{reached_start}
 use Rattle.rh_heap.proofs.StartLaws.{once_same, once_apart, used_at-append, hole_at-append, used_at-high, hole_at-high, units_of, units-append, units-total}
@@ -28,7 +28,7 @@ pub record Mapped (starts : List ℕ) (at : ℕ) (h : Heap) (from place : ℕ) :
 
 -- a map of zeros marks none
 pub no_bits : (lane n j : ℕ) → bit lane (replicate n 0) j ≡ 0
-no_bits lane n j = ap (λ w. bit_at w (j % 64)) (zero_at n (2 * (j / 64) + lane)) ∙ bit_at-zero (j % 64)
+no_bits lane n j = ap (λ w. bit_at w (j % BITS)) (zero_at n (2 * (j / BITS) + lane)) ∙ bit_at-zero (j % BITS)
   where
     zero_at : (n i : ℕ) → get_or {A = ℕ} (replicate n 0) i 0 ≡ 0
     zero_at n i = elim (cases_lt i n) [

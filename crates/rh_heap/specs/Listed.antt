@@ -6,7 +6,7 @@ use Rattle.rh_defs.specs.Heap.{Heap, segment_at}
 use Rattle.rh_heap.specs.Image.{listed}
 use Rattle.rh_heap.specs.Segments.{Reached}
 use Rattle.rh_heap.specs.declared.layout.Segment.{Segment}
-use Rattle.rh_heap.specs.declared.span.list.TheConstants.{SEGMENTS_AT_ONCE}
+use Rattle.rh_defs.specs.declared.sizes.TheConstants.{SEGMENTS_AT_ONCE}
 
 -- the segment at a cut and those behind it
 abbrev pub from_cut : Option (Split heap.Segment) → List heap.Segment

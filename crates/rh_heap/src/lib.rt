@@ -17,6 +17,6 @@ pub use span::indexed::{
 pub use span::kept::{
     block_size, claim, extend_heap, holds, keep_map, release, resize, resize_need, take_map,
 };
-pub use span::list::{SEGMENTS_AT_ONCE, segments_from};
+pub use span::list::segments_from;
 pub use span::segments::segment;
 pub use span::whole::{end, init};

@@ -5,6 +5,7 @@ use Rattle.std.specs.Prelude.{find, is_none, nat_le, nat_lt, not, ◌==◌, ◌&
 use Rattle.std.specs.Prelude.{None, IfSome}
 use Rattle.std.proofs.lemmas.Bool.Decides.{leb_tells, eqb_tells}
 use Rattle.std.proofs.lemmas.List.{length-replicate}
+use Rattle.rh_defs.specs.declared.sizes.TheConstants.{PAGE}
 use Rattle.rh_defs.specs.declared.refusal.Refusal.TheVariants.{NoName, BadSize, NoBudge, NoRoom}
 use Rattle.rh_defs.specs.declared.reply.Reply.TheVariants as reply
 use Rattle.rh_defs.specs.Chain.{Granted, ◌>>=◌, found_or, or_else}
@@ -64,7 +65,7 @@ claim-takes n h is none =
     let before = (honest h is).sums in
     let after = (honest (claim_growing n h).heap (claim_growing-heap n h is)).sums in
     let end : (claim_growing n h).heap.end ≡ h.end = claim_growing-end n h
-    ∙ (let e : h.end + round_up 4096 (need n h) ≡ h.end = omega arith in e) in
+    ∙ (let e : h.end + round_up PAGE (need n h) ≡ h.end = omega arith in e) in
     let used : used_bytes (claim_growing n h).heap ≡ used_bytes h + (4 + length bytes) =
     used-placed_in (4 + length bytes) bytes (raised (need n h) h) (hole_for (4 + length bytes) h.segments)
     (first_at-cuts size_of (is_hole_for (4 + length bytes)) first_place h.segments) in

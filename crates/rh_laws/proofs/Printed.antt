@@ -5,6 +5,7 @@ use Rattle.std.specs.List.{list_all, join_with_byte}
 use Rattle.std.specs.Fmt.{decimal, signed_decimal}
 use Rattle.std.proofs.lemmas.Bool.Decides.{nat_tests}
 use Rattle.hex.specs.Hex.{encode_lower}
+use Rattle.rh_defs.specs.Bytes.{space}
 use Rattle.rh_defs.specs.declared.command.Command.{Command}
 use Rattle.rh_defs.specs.declared.command.Command.TheVariants as command
 use Rattle.rh_defs.specs.declared.command.Manner.TheVariants as manner
@@ -500,8 +501,8 @@ areas_spells = record { whole = refl; means = refl }
 
 -- a line of words that spell a command
 by_line : (w : List ℕ) (ws : Words) (c : Command) → is_skipped (w ∷ ws) ≡ false → Spells (w ∷ ws) c →
-    nat_le (length (join_with_byte 32 (w ∷ ws))) longest_line ≡ true →
-    line_means (join_with_byte 32 (w ∷ ws)) ≡ Ok (Some c)
+    nat_le (length (join_with_byte space (w ∷ ws))) longest_line ≡ true →
+    line_means (join_with_byte space (w ∷ ws)) ≡ Ok (Some c)
 by_line w ws c meant spells fits = line_joined w ws c spells.whole fits meant spells.means
 
 -- what a command that can be spelled passes, and that its line means the command

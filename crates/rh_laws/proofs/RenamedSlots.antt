@@ -3,6 +3,7 @@ use Rattle.std.proofs.Common.{◌≡◌, ℕ, zero, suc, ◌+◌, ◌-◌, Bool,
 use Rattle.std.proofs.lemmas.List.{length-map, map-append, take-map, drop-map}
 use Rattle.std.specs.Prelude.{Option, Some, None, is_some, ◌==◌, ◌&&◌, ◌||◌, nat_le, nat_lt, ℤ, pos, negsuc, take, drop}
 use Rattle.std.specs.Option.{option_map}
+use Rattle.rh_defs.specs.SlotImage.{heap_place}
 use Rattle.rh_defs.specs.declared.refusal.Refusal.TheVariants.{NoBlock, NotABlock}
 use Rattle.rh_defs.specs.Pieces.{pages_for, lacks_pages, moved, total, Split, written, zeros, is_inside}
 use Rattle.rh_defs.specs.Heap.{Segment, Used, Heap, Placed, bytes_of, place_after, block_around, claim_growing, new_size, resize_need, resize_growing, fitted}
@@ -44,7 +45,7 @@ module _ (f : ℕ → ℕ) where
   weights-renamed blocks = total-map weight one weight-renamed blocks
 
   pub length-renamed : (s : Slot) → slot_length (renamed_slot f s) ≡ slot_length s
-  length-renamed s = ap (λ n. 256 + s.heap.end + n) (weights-renamed s.blocks)
+  length-renamed s = ap (λ n. heap_place + s.heap.end + n) (weights-renamed s.blocks)
 
   pub pages-renamed : (s : Slot) → slot_pages (renamed_slot f s) ≡ slot_pages s
   pages-renamed s = ap pages_for (length-renamed s)

@@ -12,6 +12,7 @@ use Rattle.std.proofs.lemmas.Slice.Eq.{bytes_eq-Decides}
 use Rattle.hex.specs.Hex.{encode_lower, lower_digits, decode_of, is_hex_digit}
 use Rattle.hex.specs.declared.error.FromHexError.{FromHexError}
 use Rattle.hex.proofs.HexLemmas.{decode_of-ok, length-encode_with}
+use Rattle.rh_defs.specs.Bytes.{space}
 use Rattle.rh_defs.specs.declared.fault.LineFault.{LineFault}
 use Rattle.rh_defs.specs.declared.fault.LineFault.TheVariants.{TooLong, Unknown, Count, Word}
 use Rattle.rh_defs.specs.declared.command.Command.{Command}
@@ -40,22 +41,22 @@ abbrev pub cost : Words → ℕ
 cost [] = 0
 cost (w ∷ ws) = suc (length w) + cost ws
 
-pub cost_joined : (w : List ℕ) (ws : Words) → suc (length (join_with_byte 32 (w ∷ ws))) ≡ cost (w ∷ ws)
+pub cost_joined : (w : List ℕ) (ws : Words) → suc (length (join_with_byte space (w ∷ ws))) ≡ cost (w ∷ ws)
 cost_joined w [] = omega arith
-cost_joined w (y ∷ ws) = omega (arith, cost_joined y ws, length-append w (32 ∷ join_with_byte 32 (y ∷ ws)))
+cost_joined w (y ∷ ws) = omega (arith, cost_joined y ws, length-append w (space ∷ join_with_byte space (y ∷ ws)))
 
 cost_first : (x : ℕ) (ws : Words) → 1 ≤ cost ws → cost (onto_first x ws) ≡ suc (cost ws)
 cost_first x [] h = absurd (omega arith)
 cost_first x (w ∷ ws) h = omega arith
 
-cost_split : (xs : List ℕ) → cost (slice_split (λ b. b == 32) xs) ≡ suc (length xs)
+cost_split : (xs : List ℕ) → cost (slice_split (λ b. b == space) xs) ≡ suc (length xs)
 cost_split [] = refl
-cost_split (x ∷ xs) = by (x == 32) refl (cost_split xs)
+cost_split (x ∷ xs) = by (x == space) refl (cost_split xs)
   where
-    by : (b : Bool) → (x == 32) ≡ b → cost (slice_split (λ b. b == 32) xs) ≡ suc (length xs) →
-        cost (slice_split (λ b. b == 32) (x ∷ xs)) ≡ suc (length (x ∷ xs))
+    by : (b : Bool) → (x == space) ≡ b → cost (slice_split (λ b. b == space) xs) ≡ suc (length xs) →
+        cost (slice_split (λ b. b == space) (x ∷ xs)) ≡ suc (length (x ∷ xs))
     by true e rest = rw e (omega (arith, rest))
-    by false e rest = rw e (omega (arith, rest, cost_first x (slice_split (λ b. b == 32) xs) (omega (arith, rest))))
+    by false e rest = rw e (omega (arith, rest, cost_first x (slice_split (λ b. b == space) xs) (omega (arith, rest))))
 
 cost_kept : (test : List ℕ → Bool) (ws : Words) → cost (filter test ws) ≤ cost ws
 cost_kept test [] = omega arith
@@ -67,7 +68,7 @@ cost_kept test (w ∷ ws) = by (test w) refl (cost_kept test ws)
 
 pub cost_words : (line : List ℕ) → cost (words_of line) ≤ suc (length line)
 cost_words line =
-    let kept = cost_kept (λ w. not (length w == 0)) (slice_split (λ b. b == 32) line) in
+    let kept = cost_kept (λ w. not (length w == 0)) (slice_split (λ b. b == space) line) in
     omega (arith, kept, cost_split line)
 
 pub cost_front : (ws : Words) (n : ℕ) → cost (take n ws) ≤ cost ws
@@ -580,7 +581,7 @@ line_in_range line c e =
     let one : commands_in (line ∷ []) ≡ c ∷ [] = rw e refl in
     and_left (in_range c) true (subst (λ commands. all_in_range commands ≡ true) one (commands_in_range (line ∷ [])))
 
-joined_cost : (ws : Words) → length (join_with_byte 32 ws) ≤ cost ws - 1
+joined_cost : (ws : Words) → length (join_with_byte space ws) ≤ cost ws - 1
 joined_cost [] = omega arith
 joined_cost (w ∷ ws) = omega (arith, cost_joined w ws)
 

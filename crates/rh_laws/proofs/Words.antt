@@ -5,6 +5,7 @@ use Rattle.std.specs.List.{list_all, slice_split, filter, join_with_byte}
 use Rattle.std.proofs.lemmas.List.Splits.{slice_split_none, slice_split_at}
 use Rattle.std.proofs.lemmas.Bool.Decides.{nat_tests}
 use Rattle.std.proofs.lemmas.List.Sums.{AllPass-from_list_all}
+use Rattle.rh_defs.specs.Bytes.{space}
 use Rattle.rh_defs.specs.declared.command.Command.{Command}
 use Rattle.rh_defs.specs.Line.{words_of, longest_line, is_skipped, command_of, line_means}
 use Rattle.rh_safety.proofs.Basics.{and_left, and_right}
@@ -18,7 +19,7 @@ all_pass p q (x ∷ xs) passes h =
 
 -- a byte that parts no words
 abbrev pub is_inner : ℕ → Bool
-is_inner b = not (b == 32)
+is_inner b = not (b == space)
 
 -- one byte or more, none of them a space
 abbrev pub is_whole : List ℕ → Bool
@@ -31,15 +32,15 @@ not_true true h = cc
 not_true false h = refl
 
 split_joined : (w : List ℕ) (ws : List (List ℕ)) → list_all is_whole (w ∷ ws) ≡ true →
-    slice_split (λ b. b == 32) (join_with_byte 32 (w ∷ ws)) ≡ w ∷ ws
+    slice_split (λ b. b == space) (join_with_byte space (w ∷ ws)) ≡ w ∷ ws
 split_joined w [] h =
     let inner = AllPass-from_list_all is_inner w (and_right (nat_le 1 (length w)) (list_all is_inner w) (and_left
     (is_whole w) true h)) in
-    slice_split_none (λ b. b == 32) w (λ k d l. not_true _ (inner k d l))
+    slice_split_none (λ b. b == space) w (λ k d l. not_true _ (inner k d l))
 split_joined w (y ∷ ws) h =
     let inner = AllPass-from_list_all is_inner w (and_right (nat_le 1 (length w)) (list_all is_inner w) (and_left
     (is_whole w) (list_all is_whole (y ∷ ws)) h)) in
-    slice_split_at (λ b. b == 32) w 32 (join_with_byte 32 (y ∷ ws)) (λ k d l. not_true _ (inner k d l)) refl
+    slice_split_at (λ b. b == space) w space (join_with_byte space (y ∷ ws)) (λ k d l. not_true _ (inner k d l)) refl
     ∙ ap (λ v. w ∷ v) (split_joined y ws (and_right (is_whole w) (list_all is_whole (y ∷ ws)) h))
 
 has_one : (n : ℕ) → nat_le 1 n ≡ true → not (n == 0) ≡ true
@@ -54,7 +55,7 @@ all_kept (w ∷ ws) h =
     rw (has_one (length w) some) (ap (λ v. w ∷ v) (all_kept ws (and_right (is_whole w) (list_all is_whole ws) h)))
 
 pub words_joined : (w : List ℕ) (ws : List (List ℕ)) → list_all is_whole (w ∷ ws) ≡ true →
-    words_of (join_with_byte 32 (w ∷ ws)) ≡ w ∷ ws
+    words_of (join_with_byte space (w ∷ ws)) ≡ w ∷ ws
 words_joined w ws h = ap (filter (λ w. not (length w == 0))) (split_joined w ws h) ∙ all_kept (w ∷ ws) h
 
 -- ---- a line of words means the command that they spell
@@ -63,8 +64,8 @@ short : (n : ℕ) → nat_le n longest_line ≡ true → nat_lt longest_line n �
 short n h = grind (arith, nat_tests, h)
 
 pub line_joined : (w : List ℕ) (ws : List (List ℕ)) (c : Command) → list_all is_whole (w ∷ ws) ≡ true →
-    nat_le (length (join_with_byte 32 (w ∷ ws))) longest_line ≡ true → is_skipped (w ∷ ws) ≡ false →
-    command_of (w ∷ ws) ≡ Ok c → line_means (join_with_byte 32 (w ∷ ws)) ≡ Ok (Some c)
+    nat_le (length (join_with_byte space (w ∷ ws))) longest_line ≡ true → is_skipped (w ∷ ws) ≡ false →
+    command_of (w ∷ ws) ≡ Ok c → line_means (join_with_byte space (w ∷ ws)) ≡ Ok (Some c)
 unfolding line_means
 line_joined w ws c whole fits meant spelled =
-    rw (short (length (join_with_byte 32 (w ∷ ws))) fits, words_joined w ws whole, meant, spelled) refl
+    rw (short (length (join_with_byte space (w ∷ ws))) fits, words_joined w ws whole, meant, spelled) refl

@@ -2,6 +2,7 @@
 use Rattle.std.specs.Prelude.{◌≡◌, ℕ, ℤ, ◌+◌, ◌-◌, Bool, true, false, not, ◌&&◌, ◌||◌, nat_lt, nat_le, ◌==◌, List, []}
 use Rattle.std.specs.Prelude.{◌∷◌, length, filter, find, Option, Some, None, is_some, is_none}
 use Rattle.std.specs.List.{list_any}
+use Rattle.rh_defs.specs.Forms.{last_made}
 use Rattle.rh_defs.specs.declared.refusal.Refusal.TheVariants.{NameInUse, NoName, TooManyTasks, NoHandles, NoFile}
 use Rattle.rh_defs.specs.declared.refusal.Refusal.TheVariants.{NoBlock, AnchorInUse, NotABlock, NotYours, Busy}
 use Rattle.rh_defs.specs.declared.refusal.Refusal.TheVariants.{NotOpen, NothingSent, BadRange, BadSize}
@@ -20,10 +21,10 @@ use Rattle.rh_defs.specs.Pieces.{Split, moved}
 use Rattle.rh_defs.specs.Files.{file_bytes}
 use Rattle.rh_defs.specs.Heap.{Segment, block_at, bytes_of}
 use Rattle.rh_defs.specs.Slot.{Flex, block_of, flex_weight, heap_block_at, is_used, slot_length, taken_out}
-use Rattle.rh_defs.specs.Records.{is_meant, is_open}
-use Rattle.rh_defs.specs.Post.{live_count, post_is_message}
-use Rattle.rh_defs.specs.Desk.{Desk, Made, Task, free_pages, has_name, is_busy_block, is_busy_buffer, next_ref, task_at}
-use Rattle.rh_defs.specs.Commands.{module_start}
+use Rattle.rh_defs.specs.Records.{is_meant, is_open, most_records}
+use Rattle.rh_defs.specs.Post.{live_count, most_messages, post_is_message}
+use Rattle.rh_defs.specs.Desk.{Desk, Made, Task, free_pages, has_name, is_busy_block, is_busy_buffer, most_tasks, next_ref, task_at}
+use Rattle.rh_defs.specs.Commands.{module_start, most_made}
 use Rattle.rh_defs.specs.Step.{step}
 use Rattle.rh_laws.specs.RefusalOrder.{Row, are_in_order, first_refusal, refusal_in}
 use Rattle.rh_laws.specs.RefusalRooms.{file_message_size, gained_pages, kept_length, lacks, length_of, lost_bytes}
@@ -113,12 +114,12 @@ not_yours address d = (NotYours, post_is_message (address - module_start) d.post
 abbrev pub lacks_module_room : ℕ → Desk → Bool
 lacks_module_room n d = lacks (short_of n d.post.heap) d
 
--- a message can't be sent: its recipient isn't live, all refs were given, 256 messages are live, or there is no room
+-- a message can't be sent: its recipient isn't live, all refs were given, as many messages are live as can be, or there is no room
 abbrev pub send_rows : Bool → Bool → Desk → List Row
 send_rows is_gone lacks_room d =
     (NoTask, is_gone)
     ∷ (NoRefs, nat_lt 4294967295 (next_ref d))
-    ∷ (QueueFull, nat_le 256 (live_count d.post))
+    ∷ (QueueFull, nat_le most_messages (live_count d.post))
     ∷ (NoRoom, lacks_room)
     ∷ []
 
@@ -151,7 +152,7 @@ asked_rows d question.Areas = []
 abbrev pub conditions : Desk → Command → List Row
 conditions d (command.Task name buffer manner) =
     (NameInUse, is_some (task_of name d))
-    ∷ (TooManyTasks, nat_le 32 (length d.tasks))
+    ∷ (TooManyTasks, nat_le most_tasks (length d.tasks))
     ∷ (NoHandles, nat_lt 4294967295 d.next_handle)
     ∷ (NoRoom, nat_lt (free_pages d) 1)
     ∷ []
@@ -207,7 +208,7 @@ conditions d (command.Budge name on) = no_name name d ∷ []
 conditions d (command.Save name k to leaf) =
     no_name name d
     ∷ no_block k name d
-    ∷ (Busy, of_task name d λ t. is_busy_block k t || nat_le 8 (length (filter is_open t.sending)))
+    ∷ (Busy, of_task name d λ t. is_busy_block k t || nat_le most_records (length (filter is_open t.sending)))
     ∷ send_rows (is_none (task_of to d)) (lacks_module_room (file_message_size (length leaf)) d) d
 conditions d (command.Poll name) = no_name name d ∷ []
 conditions d (command.CancelIn name id) =
@@ -226,7 +227,7 @@ conditions d (command.Area k delta) =
     ∷ (TooBig, there_is (λ (m : Made). nat_lt m.most (m.pages + gained_pages delta)) (made_area k d))
     ∷ []
 conditions d (command.Make most) =
-    (TooManyAreas, nat_le 32 (length d.made)) ∷ (NoNumbers, nat_lt 65535 d.next_area) ∷ []
+    (TooManyAreas, nat_le most_made (length d.made)) ∷ (NoNumbers, nat_lt last_made d.next_area) ∷ []
 conditions d (command.Remove k) = (NoArea, is_none (made_area k d)) ∷ []
 conditions d (command.RmaClaim n) = (BadSize, n == 0) ∷ (NoRoom, lacks_module_room n d) ∷ []
 conditions d (command.RmaFree address) = not_a_module_block address d ∷ not_yours address d ∷ []

@@ -4,6 +4,7 @@ use Rattle.std.specs.Prelude.{Option, Some, None, Ok, IsTrue}
 use Rattle.std.specs.List.{list_all, join_with_byte}
 use Rattle.std.specs.Fmt.{decimal, signed_decimal}
 use Rattle.hex.specs.Hex.{encode_lower}
+use Rattle.rh_defs.specs.Bytes.{space}
 use Rattle.rh_defs.specs.declared.command.Command.{Command}
 use Rattle.rh_defs.specs.declared.command.Command.TheVariants as command
 use Rattle.rh_defs.specs.declared.command.Manner.{Manner}
@@ -67,7 +68,7 @@ command_words (command.Ask q) = question_words q
 
 -- the line, with one space between two words
 abbrev pub line_of : Command → List ℕ
-line_of c = join_with_byte 32 (command_words c)
+line_of c = join_with_byte space (command_words c)
 
 -- ---- what a line can spell
 

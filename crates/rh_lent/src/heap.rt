@@ -16,7 +16,8 @@ use crate::lent::{LENT, Lent};
 use crate::lent_mut::LentMut;
 use arrayvec::ArrayVec;
 use rh_defs::HeapRefusal;
-use rh_heap::{SEGMENTS_AT_ONCE, Segment, Span};
+use rh_defs::sizes::SEGMENTS_AT_ONCE;
+use rh_heap::{Segment, Span};
 
 /// All of the lent bytes.
 pub(crate) const WHOLE: Span = Span { area: LENT, at: 0 };

@@ -10,7 +10,7 @@ use Rattle.std.proofs.lemmas.List.{take_all, length-take}
 use borrow.Author.Tests.{tests}
 use Rattle.rh_defs.specs.declared.fault.LineFault.TheVariants.{Unknown, Word}
 use Rattle.rh_defs.specs.Grammar.{Form, Maybe, Row, rows}
-use Rattle.rh_defs.specs.Line.{words_of, word, is_skipped, line_means, is_count, follow, row_of, row_means}
+use Rattle.rh_defs.specs.Line.{words_of, word, is_skipped, line_means, is_count, follow, row_of, row_means, longest_line}
 use Rattle.rh_defs.specs.Line.{command_by, command_of, Meaning, ◌>>=◌}
 use Rattle.rh_defs.specs.declared.command.Command.{Command}
 use Rattle.rh_lines.specs.declared.keyword.Keyword.{Keyword}
@@ -193,10 +193,10 @@ abbrev pub asked : Meaning Command → Meaning (Option Command)
 asked meaning = meaning >>= λ command. Ok (Some command)
 
 -- what a line means that isn't too long, and isn't skipped, by its first six words
-pub means_asked : (line : List ℕ) (words : List (List ℕ)) → words ≡ first_words line → length line ≤ 1024 → is_skipped words ≡ false → asked (command_of words) ≡ line_means line
+pub means_asked : (line : List ℕ) (words : List (List ℕ)) → words ≡ first_words line → length line ≤ longest_line → is_skipped words ≡ false → asked (command_of words) ≡ line_means line
 unfolding line_means
 means_asked line words all fits not =
-    let few : nat_lt 1024 (length line) ≡ false = search (rules, arith, tests) in
+    let few : nat_lt longest_line (length line) ≡ false = search (rules, arith, tests) in
     let here : is_skipped (words_of line) ≡ false = sym (is_skipped-first_words line) ∙ (ap is_skipped (sym all) ∙ not) in
     rw (few, here) (ap asked (ap command_of all ∙ command_of-first_words line))
 

@@ -4,6 +4,7 @@ use Rattle.std.proofs.lemmas.List.{take_all, take-append-le, take_rest, length-m
 use borrow.Author.Tests.{tests}
 use Rattle.std.specs.List.{slice_split, onto_first, filter}
 use Rattle.std.specs.Prelude.{slice_index}
+use Rattle.rh_defs.specs.Bytes.{space}
 use Rattle.rh_defs.specs.Line.{words_of}
 use Rattle.rh_lines.specs.Words.{piece_words, first_words}
 
@@ -27,17 +28,17 @@ split_at p (x ∷ xs) (suc n) lt h e =
     no_first p x xs (p x) refl (h 0 (omega arith)) ∙ ap (onto_first x) (split_at p xs n (omega arith) (λ k lt. h (suc k) (omega arith)) e)
 
 -- the last word, behind the last space
-pub words_last : (xs : List ℕ) → NoneBelow (λ b. eqb b 32) xs (length xs) → words_of xs ≡ piece_words xs
-words_last xs h = ap (filter (λ w. not (eqb (length w) 0))) (split_none (λ b. eqb b 32) xs h)
+pub words_last : (xs : List ℕ) → NoneBelow (λ b. eqb b space) xs (length xs) → words_of xs ≡ piece_words xs
+words_last xs h = ap (filter (λ w. not (eqb (length w) 0))) (split_none (λ b. eqb b space) xs h)
 
 filter_first : (q : List ℕ → Bool) (w : List ℕ) (ws : List (List ℕ)) (b : Bool) → q w ≡ b → filter q (w ∷ ws) ≡ filter q (w ∷ []) ++ filter q ws
 filter_first q w ws true e = rw e refl
 filter_first q w ws false e = rw e refl
 
 -- what stands before the first space, and the rest behind it
-pub words_next : (xs : List ℕ) (n : ℕ) → n < length xs → NoneBelow (λ b. eqb b 32) xs n → eqb (slice_index xs n) 32 ≡ true → words_of xs ≡ piece_words (take n xs) ++ words_of (drop (suc n) xs)
+pub words_next : (xs : List ℕ) (n : ℕ) → n < length xs → NoneBelow (λ b. eqb b space) xs n → eqb (slice_index xs n) space ≡ true → words_of xs ≡ piece_words (take n xs) ++ words_of (drop (suc n) xs)
 words_next xs n lt h e =
-    ap (filter (λ w. not (eqb (length w) 0))) (split_at (λ b. eqb b 32) xs n lt h e) ∙ filter_first (λ w. not (eqb (length w) 0)) (take n xs) (slice_split (λ b. eqb b 32) (drop (suc n) xs)) _ refl
+    ap (filter (λ w. not (eqb (length w) 0))) (split_at (λ b. eqb b space) xs n lt h e) ∙ filter_first (λ w. not (eqb (length w) 0)) (take n xs) (slice_split (λ b. eqb b space) (drop (suc n) xs)) _ refl
 
 -- ---- the words found so far
 
@@ -49,7 +50,7 @@ short_piece : (piece : List ℕ) → length (piece_words piece) ≤ 1
 short_piece piece = one_at_most (λ w. not (eqb (length w) 0)) piece _ refl
 
 -- the rest is the last piece
-pub found_last : {X : Type 0} (f : X → List ℕ) (line rest : List ℕ) (old new : List X) → words_of line ≡ map f old ++ words_of rest → length old < 6 → NoneBelow (λ b. eqb b 32) rest (length rest) → map f new ≡ map f old ++ piece_words rest → map f new ≡ first_words line
+pub found_last : {X : Type 0} (f : X → List ℕ) (line rest : List ℕ) (old new : List X) → words_of line ≡ map f old ++ words_of rest → length old < 6 → NoneBelow (λ b. eqb b space) rest (length rest) → map f new ≡ map f old ++ piece_words rest → map f new ≡ first_words line
 unfolding first_words
 found_last f line rest old new so_far room none e =
     let all : words_of line ≡ map f new = so_far ∙ (ap (λ z. map f old ++ z) (words_last rest none) ∙ sym e) in
@@ -58,7 +59,7 @@ found_last f line rest old new so_far room none e =
     sym (ap (take 6) all ∙ take_all 6 (map f new) short)
 
 -- one more piece, where there is room for another
-pub found_next : {X : Type 0} (f : X → List ℕ) (line rest : List ℕ) (n : ℕ) (old new : List X) → words_of line ≡ map f old ++ words_of rest → n < length rest → NoneBelow (λ b. eqb b 32) rest n → eqb (slice_index rest n) 32 ≡ true → map f new ≡ map f old ++ piece_words (take n rest) → words_of line ≡ map f new ++ words_of (take (length rest - (n + 1)) (drop (n + 1) rest))
+pub found_next : {X : Type 0} (f : X → List ℕ) (line rest : List ℕ) (n : ℕ) (old new : List X) → words_of line ≡ map f old ++ words_of rest → n < length rest → NoneBelow (λ b. eqb b space) rest n → eqb (slice_index rest n) space ≡ true → map f new ≡ map f old ++ piece_words (take n rest) → words_of line ≡ map f new ++ words_of (take (length rest - (n + 1)) (drop (n + 1) rest))
 found_next f line rest n old new so_far lt none e same =
     let whole : take (length rest - (n + 1)) (drop (n + 1) rest) ≡ drop (n + 1) rest = take_rest rest (n + 1) in
     rw (whole, add-one) (so_far ∙ (ap (λ z. map f old ++ z) (words_next rest n lt none e) ∙ (sym (append_assoc (map f old) (piece_words (take n rest)) (words_of (drop (suc n) rest))) ∙ ap (λ z. z ++ words_of (drop (suc n) rest)) (sym same))))

@@ -5,6 +5,7 @@ use Rattle.std.specs.List.{slice_split, onto_first, filter, slice_get}
 use Rattle.hex.specs.Hex.{decode_of}
 use Rattle.hex.specs.declared.error.FromHexError.{FromHexError}
 use Rattle.hex.proofs.HexLemmas.{decode_of-ok}
+use Rattle.rh_defs.specs.Bytes.{space}
 use Rattle.rh_defs.specs.Line.{words_of}
 
 -- no list here is longer than n
@@ -40,7 +41,7 @@ reads n (v ∷ ws) (suc i) w h e = reads n ws i w h.1 e
 
 pub short_word : (line : List ℕ) (i : ℕ) (w : List ℕ) → slice_get (words_of line) i ≡ Some w → length w ≤ length line
 short_word line i w e =
-    reads (length line) (words_of line) i w (kept (λ w. not (eqb (length w) 0)) (length line) (slice_split (λ b. eqb b 32) line) (short_parts (λ b. eqb b 32) line)) e
+    reads (length line) (words_of line) i w (kept (λ w. not (eqb (length w) 0)) (length line) (slice_split (λ b. eqb b space) line) (short_parts (λ b. eqb b space) line)) e
 
 -- what a word of hexadecimal digits spells is half as long
 half_of : (w b : List ℕ) (d : Result (List ℕ) FromHexError) → decode_of w ≡ d → Some b ≡ result_ok d → length w ≡ 2 * length b

@@ -1,6 +1,7 @@
 //! The words of a line, which spaces part.
 
 ghost use Rattle.std.specs.Prelude.{◌≡◌, ◌<◌, ◌≤◌, ◌++◌, ◌∷◌, [], length, map, All};
+ghost use Rattle.rh_defs.specs.Bytes.{space};
 ghost use Rattle.rh_defs.specs.Line.{words_of, word};
 ghost use Rattle.memchr.specs.Find.{IsFirstByte, is_byte};
 ghost use Rattle.rh_lines.specs.Words.{first_words, piece_words};
@@ -96,7 +97,7 @@ fn split<'a>(line: &'a [u8], found: &mut ArrayVec<&'a [u8], MOST_WORDS>)
 
 /// Where the first space stands.
 fn first_space(piece: &[u8]) -> Option<usize>
-    ensures { IsFirstByte (is_byte 32) piece.now result }
+    ensures { IsFirstByte (is_byte space) piece.now result }
 {
     if piece.len() > FEW {
         return memchr(b' ', piece);

@@ -1,11 +1,12 @@
 -- Texts with spaces at an end.
 use Rattle.std.proofs.Common.{◌≡◌, ◌≢◌, ℕ, List, [], ◌∷◌, ◌++◌, ap, ◌∙◌, refl}
 use Rattle.std.specs.Prelude.{◌==◌}
+use Rattle.rh_defs.specs.Bytes.{space}
 use Rattle.rh_defs.proofs.HeapLists.{cond_false, eqb_apart}
 use Rattle.rh_figure.specs.Rows.{before_spaces, trimmed}
 
 -- a space at the end is left out
-pub trimmed-space : (t : List ℕ) → trimmed (t ++ 32 ∷ []) ≡ trimmed t
+pub trimmed-space : (t : List ℕ) → trimmed (t ++ space ∷ []) ≡ trimmed t
 trimmed-space [] = refl
 trimmed-space (b ∷ t) = ap (before_spaces b) (trimmed-space t)
 
@@ -14,6 +15,6 @@ before-more b c [] = refl
 before-more b c (d ∷ t) = refl
 
 -- a text that ends in no space stays
-pub trimmed-whole : (t : List ℕ) (b : ℕ) → b ≢ 32 → trimmed (t ++ b ∷ []) ≡ t ++ b ∷ []
-trimmed-whole [] b apart = cond_false (b == 32) _ _ (eqb_apart b 32 apart)
+pub trimmed-whole : (t : List ℕ) (b : ℕ) → b ≢ space → trimmed (t ++ b ∷ []) ≡ t ++ b ∷ []
+trimmed-whole [] b apart = cond_false (b == space) _ _ (eqb_apart b space apart)
 trimmed-whole (c ∷ t) b apart = ap (before_spaces c) (trimmed-whole t b apart) ∙ before-more c b t

@@ -1,6 +1,7 @@
 -- The first word of a line.
 use Rattle.std.proofs.Common.{◌≡◌, ℕ, zero, suc, ◌<◌, ◌≤◌, true, false, eqb, List, [], ◌∷◌, ◌++◌, length, take, drop, refl, sym, ap, ◌∙◌, append-nil, arith}
 use Rattle.std.specs.Prelude.{slice_index, codes, ◌==◌}
+use Rattle.rh_defs.specs.Bytes.{space}
 use Rattle.rh_defs.specs.Line.{words_of, word}
 use Rattle.std.proofs.lemmas.Bool.Decides.{nat_tests}
 use Rattle.rh_defs.proofs.HeapLists.{cond_true, cond_false, eqb_apart}
@@ -13,8 +14,8 @@ use Rattle.rh_map.specs.Script.{BeginsWord}
 use Rattle.rh_map.specs.Written.{shown_lines}
 
 -- a space before a line is no part of a word
-pub space-skipped : (bs : List ℕ) → words_of (32 ∷ bs) ≡ words_of bs
-space-skipped bs = words_next (32 ∷ bs) 0 (omega arith) (λ k lt e. omega (arith, lt)) refl
+pub space-skipped : (bs : List ℕ) → words_of (space ∷ bs) ≡ words_of bs
+space-skipped bs = words_next (space ∷ bs) 0 (omega arith) (λ k lt e. omega (arith, lt)) refl
 
 -- what stands between two spaces is a word, if it isn't empty
 piece-some : (b : ℕ) (bs : List ℕ) → piece_words (b ∷ bs) ≡ (b ∷ bs) ∷ []
@@ -35,19 +36,19 @@ first-of line b bs ws e = record {
 
 -- no space stands in the line
 pub first-whole : (line : List ℕ) → BeginsWord line
-    → ((k : ℕ) → 0 ≤ k → k < length line → eqb (slice_index line k) 32 ≡ true → ⊥) → FirstWord line line
+    → ((k : ℕ) → 0 ≤ k → k < length line → eqb (slice_index line k) space ≡ true → ⊥) → FirstWord line line
 first-whole [] begins none = record { is = refl; none = refl }
 first-whole (b ∷ bs) begins none =
     first-of (b ∷ bs) b bs [] (words_last (b ∷ bs) (λ k lt. none k (omega arith) lt) ∙ piece-some b bs)
 
 -- the word before the first space
 pub first-cut : (line : List ℕ) (n : ℕ) → BeginsWord line → n < length line
-    → ((k : ℕ) → 0 ≤ k → k < n → eqb (slice_index line k) 32 ≡ true → ⊥) → eqb (slice_index line n) 32 ≡ true
+    → ((k : ℕ) → 0 ≤ k → k < n → eqb (slice_index line k) space ≡ true → ⊥) → eqb (slice_index line n) space ≡ true
     → FirstWord line (take n line)
 first-cut [] n begins lt none e = absurd (omega (arith, lt))
 first-cut (b ∷ bs) zero begins lt none e = absurd (begins (equal e))
   where
-    equal : eqb b 32 ≡ true → b ≡ 32
+    equal : eqb b space ≡ true → b ≡ space
     equal e = grind (arith, nat_tests)
 first-cut (b ∷ bs) (suc n) begins lt none e =
     first-of (b ∷ bs) b (take n bs) (words_of (drop (suc n) bs))

@@ -2,7 +2,7 @@
 
 ghost use Rattle.std.specs.Prelude.{◌≡◌, ◌≤◌, ◌<◌, ◌+◌, ◌++◌, codes, length};
 ghost use Rattle.std.specs.Fmt.{decimal};
-ghost use Rattle.rh_defs.specs.declared.sizes.TheConstants.{MAX_PAGES};
+ghost use Rattle.rh_defs.specs.declared.sizes.TheConstants.{FIXED_AREAS, MAX_PAGES};
 ghost use Rattle.rh_figure.specs.Figure.{fixed_note, listed_pages, made_note, scrap_note};
 ghost use Rattle.rh_figure.specs.Map.{heading_line, shown_line};
 ghost use Rattle.rh_figure.specs.Phrases.{area_name, pages_text};
@@ -14,6 +14,7 @@ use crate::line::put_line;
 use crate::numbers::add_numbers;
 use crate::phrases::{add_pages, add_size};
 use rh_defs::Ref;
+use rh_defs::sizes::FIXED_AREAS;
 use rh_lines::{Row, Sink, WriteFailed};
 
 /// A scrap file: how many bytes it has, and the ref of its DataLoad.
@@ -31,7 +32,7 @@ pub fn print_fixed_area<W: Sink>(
     scrap: Option<ScrapFile>,
     writer: &mut W,
 ) -> Result<(), WriteFailed>
-    requires number { number < 6 }
+    requires number { number < FIXED_AREAS }
     requires few { length pages.now ≤ MAX_PAGES }
     ensures { Puts (W.output writer.old) (W.output writer.new) result
         (shown_line (heading_line (area_name number) (fixed_note (length pages.now) (listed_pages (length pages.now) pages.now) (scrap_note_of scrap))) ++ codes "\n") }
@@ -92,7 +93,7 @@ pub fn made_area_note(most: u32, pages: &[u16]) -> Row
 
 /// The name of one of areas 0 to 5.
 fn fixed_name(number: u32) -> &'static [u8]
-    requires { number < 6 }
+    requires { number < FIXED_AREAS }
     ensures value { result.now ≡ area_name number }
     ensures short { length result.now ≤ 11 }
 {
@@ -123,7 +124,7 @@ pub fn add_area_name(row: &mut Row, number: u32)
     ensures value { row.new ≡ row.old ++ area_name number }
     ensures few { length row.new ≤ length row.old + 16 }
 {
-    if number < 6 {
+    if (number as usize) < FIXED_AREAS {
         row.text(fixed_name(number));
     } else {
         add_made_name(row, number);

@@ -9,14 +9,16 @@ ghost use Rattle.rh_figure.specs.Rows.{letter_at, owner_mark};
 ghost use Rattle.rh_figure.specs.Share.{AreaOf};
 ghost use Rattle.rh_lines.specs.Flow.{Puts};
 ghost use Rattle.rh_lines.specs.declared.row.TheConstants.{ROW};
+ghost use Rattle.rh_defs.specs.Desk.{most_tasks};
 
 use crate::line::put_line;
 use crate::phrases::add_pages;
+use rh_defs::sizes::{FIXED_AREAS, MAX_TASKS};
 use rh_defs::{Handle, Manner, Name};
 use rh_lines::{Row, Sink, WriteFailed};
 
 /// The characters of slots, in order of handle.
-const LETTERS: &[u8; 32] = b"abcdefghijklmnopqrstuvwxyzABCDEF";
+const LETTERS: &[u8; MAX_TASKS] = b"abcdefghijklmnopqrstuvwxyzABCDEF";
 
 /// A slot as its heading has it: its task's name, its character, the task's manner, handle and receive buffer, its
 /// pages, and whether it budges.
@@ -31,20 +33,20 @@ pub struct SlotHeading<'a> {
     pub budging: bool,
 }
 
-/// The character of an area's pages: its number below 6, and M for a made one.
+/// The character of an area's pages: its number for one of the fixed areas, and M for a made one.
 pub fn area_mark(number: u32) -> u8
     ensures { (slots : List Panel) → result ≡ owner_mark slots (AreaOf number) }
 {
-    if number < 6 {
+    if (number as usize) < FIXED_AREAS {
         b'0' + number as u8
     } else {
         b'M'
     }
 }
 
-/// The character of the pages of slot i, of at most 32.
+/// The character of the pages of slot i, of as many as there can be.
 pub fn slot_mark(i: usize) -> u8
-    requires { i < 32 }
+    requires { i < most_tasks }
     ensures { result ≡ letter_at (Some i) }
 {
     LETTERS[i]

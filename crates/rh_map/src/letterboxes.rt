@@ -9,6 +9,7 @@ ghost use Rattle.rh_lines.specs.Flow.{Puts};
 ghost use Rattle.rh_lines.specs.declared.row.TheConstants.{ROW};
 ghost use Rattle.rh_map.specs.Messages.{held_text, letterbox_of, text_of, waits_text};
 ghost use Rattle.rh_map.specs.Written.{Fills};
+ghost use Rattle.rh_defs.specs.Post.{most_messages};
 
 use crate::line::put_line;
 use crate::messages::action_name;
@@ -34,7 +35,7 @@ pub fn print_letterbox<W: Sink>(
     count: usize,
     writer: &mut W,
 ) -> Result<(), WriteFailed>
-    requires few { count ≤ 256 }
+    requires few { count ≤ most_messages }
     requires first { length waits.now ≡ min count MOST_LISTED }
     ensures { Puts (W.output writer.old) (W.output writer.new) result
         (shown_line (letterbox_line (letterbox_of name.now held waits.now count)) ++ codes "\n") }
@@ -50,7 +51,7 @@ fn letterbox_row(
     waits: &[MessageEntry],
     count: usize,
 ) -> Row
-    requires few { count ≤ 256 }
+    requires few { count ≤ most_messages }
     requires first { length waits.now ≡ min count MOST_LISTED }
     ensures { Fills result (letterbox_line (letterbox_of name.now held waits.now count)) }
 {
@@ -79,7 +80,7 @@ fn add_held(row: &mut Row, held: Option<MessageEntry>)
 /// Adds what waits for the task, as far as a line shows it.
 fn add_waits(row: &mut Row, waits: &[MessageEntry], count: usize)
     requires room { length row.old ≤ 60 }
-    requires few { count ≤ 256 }
+    requires few { count ≤ most_messages }
     requires first { length waits.now ≡ min count MOST_LISTED }
     ensures { Fills row.new (row.old ++ where_so (not (length (waits_text waits.now count) == 0)) (codes " waiting " ++ waits_text waits.now count)) }
 {
@@ -119,7 +120,7 @@ fn add_behind(row: &mut Row, entry: MessageEntry)
 /// Adds how many messages of n are not named, where a line shows more.
 fn add_more_behind(row: &mut Row, n: usize)
     requires room { length row.old ≤ 120 }
-    requires few { n ≤ 256 }
+    requires few { n ≤ most_messages }
     ensures { (text : List ℕ) → Fills row.old text → Fills row.new (text ++ and_more n) }
 {
     if row.as_slice().len() <= MAP_COLUMNS {

@@ -44,11 +44,11 @@ fn add_shown(row: &mut Row, text: &[u8])
     }
 }
 
-/// A byte from 32 to 126, or a question mark in place of another.
+/// A byte from a space to 126, or a question mark in place of another.
 pub fn shown_byte(byte: u8) -> u8
     ensures { result ≡ shown_byte byte }
 {
-    if (32..127).contains(&byte) {
+    if (b' '..127).contains(&byte) {
         byte
     } else {
         b'?'

@@ -31,7 +31,7 @@ pub struct Area<'a> {
 /// Adds the characters of a page of an area, which begins at an offset.
 fn add_cells(row: &mut Row, pieces: &[Piece], at: usize)
     requires small { at < 2 ^ 32 }
-    requires room { length row.old + 64 ≤ ROW }
+    requires room { length row.old + MAP_CELLS ≤ ROW }
     ensures { row.new ≡ row.old ++ map (λ c. cell_mark_of pieces.now (at + CELL_BYTES * c)) (range_with_len 0 MAP_CELLS) }
 {
     for cell in 0..MAP_CELLS {

@@ -2,6 +2,7 @@
 use Rattle.std.proofs.Common.{◌≡◌, ◌≢◌, ℕ, zero, suc, ◌+◌, ◌-◌, ◌*◌, ◌≤◌, inl, inr, true, false, List, [], ◌∷◌, ◌++◌, length, refl, sym, ap, subst, ◌∙◌, arith}
 use Rattle.std.specs.Prelude.{slice_index, Option, Some, None, IfSome, Result, Ok, Err, IfOk, OnOk, OnErr, ◌⊎◌, IsNone}
 use Rattle.std.proofs.lemmas.Bool.{cases_eq}
+use Rattle.rh_defs.specs.declared.sizes.TheConstants.{PAGE}
 use Rattle.rh_defs.specs.Bytes.{SameIn, SameOutside}
 use Rattle.rh_defs.specs.Memory.{Memory, bytes, with_bytes, opened, closed, grown, shrunk, IsOpen}
 use Rattle.rh_defs.specs.HeapImage.{Spells, heap_of}
@@ -96,7 +97,7 @@ pub kept_grown : (m : Memory) (maps : List (Option Starts)) (id n : ℕ) → Are
 kept_grown m maps id n k = each m (grown m id n) maps maps id k (λ j apart. refl) (bytes-grown_other m id n) (grown_here m id n (map_of maps id) (k id))
 
 -- an area loses its last pages
-shrunk_here : (m : Memory) (id n : ℕ) → 4096 * n ≤ length (bytes m id) → (o : Option Starts) → IfSome o (IsOff (length (bytes m id) - 4096 * n) (length (bytes m id))) → IfSome o (IsKept (bytes m id))
+shrunk_here : (m : Memory) (id n : ℕ) → PAGE * n ≤ length (bytes m id) → (o : Option Starts) → IfSome o (IsOff (length (bytes m id) - PAGE * n) (length (bytes m id))) → IfSome o (IsKept (bytes m id))
     → IfSome o (IsKept (bytes (shrunk m id n) id))
 shrunk_here m id n room None off k = tt
 shrunk_here m id n room (Some s) off k = λ known.
@@ -108,8 +109,8 @@ shrunk_here m id n room (Some s) off k = λ known.
       | inr below ↦ map_same (bytes m id) (bytes (shrunk m id n) id) s (SameIn-shrunk m id n s.at s.upper (omega arith)) (omega (arith, length-shrunk m id n)) at
     ]
 
-pub kept_shrunk : (m : Memory) (old new : List (Option Starts)) (reach : List ℕ) (id n : ℕ) → 4096 * n ≤ length (bytes m id) → AreTied m old reach
-    → Forgot old new id (length (bytes m id) - 4096 * n) (length (bytes m id)) → AreTied (shrunk m id n) new reach
+pub kept_shrunk : (m : Memory) (old new : List (Option Starts)) (reach : List ℕ) (id n : ℕ) → PAGE * n ≤ length (bytes m id) → AreTied m old reach
+    → Forgot old new id (length (bytes m id) - PAGE * n) (length (bytes m id)) → AreTied (shrunk m id n) new reach
 kept_shrunk m old new reach id n room t f = record {
   kept = each m (shrunk m id n) old new id t.kept f.others (bytes-shrunk_other m id n) (shrunk_here m id n room (map_of new id) f.off (f.still (bytes m id) (t.kept id)));
   reached = reached_forgot old new reach id _ _ t.reached f;

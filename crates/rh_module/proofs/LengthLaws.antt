@@ -3,6 +3,7 @@ use Rattle.std.proofs.Common.{◌≡◌, ℕ, ◌+◌, ◌-◌, ◌*◌, ◌%◌
 use Rattle.std.specs.Prelude.{ℤ, Ok, Err}
 use Rattle.std.specs.Int.{w32, w64}
 use Rattle.std.proofs.lemmas.Int.{to_z_pos, ints}
+use Rattle.rh_defs.specs.declared.sizes.TheConstants.{PAGE}
 use Rattle.rh_defs.specs.Memory.{Memory, IsOpen, OnlyArea, bytes, grown, shrunk}
 use Rattle.rh_defs.specs.Pieces.{moved}
 use Rattle.rh_defs.specs.Chain.{answer_of, no_answer}
@@ -27,26 +28,26 @@ use Rattle.rh_store.specs.Limits.{pool_limit}
 pub record MayMove (k : Memory) (rma : Module) (span : Span) (h : Heap) (pages : ℕ) (delta : ℤ) : Type 0 where
   pub there : spans.IsSpan k span
   pub heap_is : spans.heap_in k span ≡ h
-  pub moved_is : moved (spans.heap_in k span).end delta ≡ h.end + 4096 * pages
-  pub len : length (bytes k rma.area.0) ≡ h.end + 4096 * pages
+  pub moved_is : moved (spans.heap_in k span).end delta ≡ h.end + PAGE * pages
+  pub len : length (bytes k rma.area.0) ≡ h.end + PAGE * pages
   pub multiple : moved (spans.heap_in k span).end delta % 8 ≡ 0
   pub within : span.at + moved (spans.heap_in k span).end delta ≤ length (bytes k span.area.0)
   pub high : base (spans.heap_in k span) ≤ moved (spans.heap_in k span).end delta
 
-moved_up : (e pages : ℕ) → pages ≤ pool_limit → moved e (to_z w32 (pages * 4096)) ≡ e + 4096 * pages
-moved_up e pages l = ap (moved e) (to_z_pos w32 (pages * 4096) (omega arith)) ∙ omega arith
+moved_up : (e pages : ℕ) → pages ≤ pool_limit → moved e (to_z w32 (pages * PAGE)) ≡ e + PAGE * pages
+moved_up e pages l = ap (moved e) (to_z_pos w32 (pages * PAGE) (omega arith)) ∙ omega arith
 
 -- an area that has grown
 pub grown_may_move : (m k : Memory) (rma : Module) (span : Span) (pages : ℕ) → IsModule m rma → k ≡ grown m rma.area.0 pages → span ≡ span_of rma → pages ≤ pool_limit
-    → MayMove k rma span (heap_in m rma) pages (to_z w32 (pages * 4096))
+    → MayMove k rma span (heap_in m rma) pages (to_z w32 (pages * PAGE))
 grown_may_move m k rma span pages s e at l =
     let id = rma.area.0 in
     let h = heap_in m rma in
-    let long : length (bytes k id) ≡ h.end + 4096 * pages = subst (λ n. length (bytes n id) ≡ h.end + 4096 * pages) (sym e) (length-grown m id pages ∙ ap (λ n. n + 4096 * pages) s.spells.whole) in
+    let long : length (bytes k id) ≡ h.end + PAGE * pages = subst (λ n. length (bytes n id) ≡ h.end + PAGE * pages) (sym e) (length-grown m id pages ∙ ap (λ n. n + PAGE * pages) s.spells.whole) in
     let begins : Begins k rma h = subst (λ n. Begins n rma h) (sym e)
     (Spells-kept (bytes m id) (bytes (grown m id pages) id) 0 h s.spells.spells (SameIn-grown m id pages 0 (0 + h.end) (omega (arith, s.spells.whole))) (omega (arith, length-grown m id pages, s.spells.whole))) in
     let same = heap_there k rma span h at begins in
-    let ended : moved (spans.heap_in k span).end (to_z w32 (pages * 4096)) ≡ h.end + 4096 * pages = ap (λ (g : Heap). moved g.end (to_z w32 (pages * 4096))) same ∙ moved_up h.end pages l in
+    let ended : moved (spans.heap_in k span).end (to_z w32 (pages * PAGE)) ≡ h.end + PAGE * pages = ap (λ (g : Heap). moved g.end (to_z w32 (pages * PAGE))) same ∙ moved_up h.end pages l in
     let mult = s.spells.spells.heap.multiple in
     let fits = s.spells.spells.heap.fits in
     let low : base (spans.heap_in k span) ≡ base h = ap base same in
@@ -86,13 +87,13 @@ minus e (suc n) = omega arith
 
 -- the negative amount, as the code has it
 abbrev pub down : ℕ → ℤ
-down pages = to_z w32 (of_z w32 (to_z w64 (of_z w64 (pos 0 -ℤ to_z w64 (pages * 4096)))))
+down pages = to_z w32 (of_z w32 (to_z w64 (of_z w64 (pos 0 -ℤ to_z w64 (pages * PAGE)))))
 
-pub down_is : (pages : ℕ) → pages ≤ 2 ^ 19 → down pages ≡ neg_ℤ (pos (pages * 4096))
+pub down_is : (pages : ℕ) → pages ≤ 2 ^ 19 → down pages ≡ neg_ℤ (pos (pages * PAGE))
 down_is pages l = omega (arith, ints)
 
-moved_down : (e pages : ℕ) → pages ≤ 2 ^ 19 → moved e (down pages) ≡ e - 4096 * pages
-moved_down e pages l = ap (moved e) (down_is pages l) ∙ minus e (pages * 4096) ∙ omega arith
+moved_down : (e pages : ℕ) → pages ≤ 2 ^ 19 → moved e (down pages) ≡ e - PAGE * pages
+moved_down e pages l = ap (moved e) (down_is pages l) ∙ minus e (pages * PAGE) ∙ omega arith
 
 -- the end may be moved, or lies too low
 pub may_shorten : (m : Memory) (rma : Module) (span : Span) (pages : ℕ) → IsModule m rma → span ≡ span_of rma → pages ≤ 2 ^ 19 → {x : Unit {0}} → Ok x ≡ answer_of (no_answer (extend (down pages) (spans.heap_in m span)))
@@ -101,7 +102,7 @@ may_shorten m rma span pages s at l e =
     let fits = extend-fits (down pages) (spans.heap_in m span) e in
     let same = old_heap at s in
     let low : base (spans.heap_in m span) ≡ base (heap_in m rma) = ap base same in
-    let now : moved (spans.heap_in m span).end (down pages) ≡ (heap_in m rma).end - 4096 * pages = ap (λ (g : Heap). moved g.end (down pages)) same ∙ moved_down (heap_in m rma).end pages l in
+    let now : moved (spans.heap_in m span).end (down pages) ≡ (heap_in m rma).end - PAGE * pages = ap (λ (g : Heap). moved g.end (down pages)) same ∙ moved_down (heap_in m rma).end pages l in
     (omega arith, extend-done (down pages) (spans.heap_in m span) fits)
 
 pub may_not_shorten : (m : Memory) (rma : Module) (span : Span) (pages : ℕ) {refusal : HeapRefusal} → IsModule m rma → span ≡ span_of rma → pages ≤ 2 ^ 19 → Err refusal ≡ answer_of (no_answer (extend (down pages) (spans.heap_in m span)))
@@ -111,14 +112,14 @@ may_not_shorten m rma span pages s at l e =
     let under = low.0 in
     let same = old_heap at s in
     let based : base (spans.heap_in m span) ≡ base (heap_in m rma) = ap base same in
-    let now : moved (spans.heap_in m span).end (down pages) ≡ (heap_in m rma).end - 4096 * pages = ap (λ (g : Heap). moved g.end (down pages)) same ∙ moved_down (heap_in m rma).end pages l in
+    let now : moved (spans.heap_in m span).end (down pages) ≡ (heap_in m rma).end - PAGE * pages = ap (λ (g : Heap). moved g.end (down pages)) same ∙ moved_down (heap_in m rma).end pages l in
     (omega arith, low.1)
 
 -- the area's last pages, where the heap leaves them
 record Spare (m k : Memory) (rma : Module) (pages : ℕ) : Type 0 where
   begins : Begins k rma (shorter pages (heap_in m rma))
   len : length (bytes k rma.area.0) ≡ (heap_in m rma).end
-  inside : 4096 * pages ≤ length (bytes k rma.area.0)
+  inside : PAGE * pages ≤ length (bytes k rma.area.0)
 
 spare : (m k : Memory) (rma : Module) (span : Span) (pages : ℕ) → IsModule m rma → span ≡ span_of rma → pages ≤ 2 ^ 19 → spans.OnlySpan m k span → spans.SpellsIn k span (extended (down pages) (spans.heap_in m span))
     → Spare m k rma pages

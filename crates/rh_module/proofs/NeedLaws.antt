@@ -3,6 +3,7 @@ use Rattle.std.proofs.Common.{◌≡◌, ℕ, ◌+◌, ◌*◌, ◌<◌, ◌≤�
 use Rattle.std.specs.Prelude.{Result, Ok, Err, ℤ, FitsSigned}
 use Rattle.std.specs.Int.{w32}
 use Rattle.std.proofs.lemmas.Int.{to_z-of_z}
+use Rattle.rh_defs.specs.declared.sizes.TheConstants.{PAGE}
 use Rattle.rh_defs.specs.Memory.{Memory}
 use Rattle.rh_defs.specs.Pieces.{pages_for}
 use Rattle.rh_defs.specs.Heap.{Heap, refusal_of, raised, block_at, claim, claim_need, resize, need_at}
@@ -28,7 +29,7 @@ passed delta = to_z w32 (of_z w32 delta)
 
 -- a heap with no page more
 longer_none : (h : Heap) → longer 0 h ≡ h
-longer_none h = ap (λ (e : ℕ). let r : Heap = record h { end = e } in r) (let z : h.end + 4096 * 0 ≡ h.end = omega arith in z)
+longer_none h = ap (λ (e : ℕ). let r : Heap = record h { end = e } in r) (let z : h.end + PAGE * 0 ≡ h.end = omega arith in z)
 
 module _ {m : Memory} {rma : Module} {span : Span} (at : span ≡ span_of rma) (s : IsModule m rma) where
   -- ---- claims

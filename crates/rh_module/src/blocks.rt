@@ -12,8 +12,8 @@ ghost use Rattle.rh_module.specs.Calls.{Leaves};
 use crate::module::Module;
 use arrayvec::ArrayVec;
 use rh_defs::Refusal;
-use rh_defs::sizes::pages_for;
-use rh_heap::{SEGMENTS_AT_ONCE, Segment, claim, need, release, resize, resize_need};
+use rh_defs::sizes::{SEGMENTS_AT_ONCE, pages_for};
+use rh_heap::{Segment, claim, need, release, resize, resize_need};
 use rh_store::{Pages, Words};
 
 impl Module {

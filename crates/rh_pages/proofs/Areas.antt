@@ -4,6 +4,7 @@ use Rattle.std.specs.Prelude.{Option, Some, None, IsSome, unwrap_or}
 use Rattle.std.proofs.Math.Path.{fun_ext}
 use Rattle.std.proofs.lemmas.Bool.{cases_eq}
 use Rattle.std.proofs.lemmas.List.{get_or-set_same, get_or-set_other}
+use Rattle.rh_defs.specs.declared.sizes.TheConstants.{PAGE}
 use Rattle.rh_defs.specs.Memory.{Memory, Ledger, area_set}
 use Rattle.rh_defs.proofs.MemoryLaws.{area_set-same, area_set-other, pages_below-set}
 use Rattle.rh_pages.specs.Pages.{bytes_of, list_at, contents}
@@ -51,7 +52,7 @@ flagged r lists flags id b lt =
 
 -- the ledger after an area was set
 pub ledger_set : (area area' : ℕ → Option (List ℕ)) (id : ℕ) (o : Option (List ℕ)) (free free' pages limit : ℕ) → area' ≡ area_set area id o → id < limit
-    → free' + length (unwrap_or o []) / 4096 ≡ free + length (unwrap_or (area id) []) / 4096
+    → free' + length (unwrap_or o []) / PAGE ≡ free + length (unwrap_or (area id) []) / PAGE
     → Ledger (record { area = area; free = free; pages = pages; loan = 0 }) limit → Ledger (record { area = area'; free = free'; pages = pages; loan = 0 }) limit
 ledger_set area area' id o free free' pages limit e lt sum was = let set = pages_below-set area id o limit lt in rw e (omega arith)
 

@@ -3,6 +3,7 @@ use Rattle.std.proofs.Common.{◌≡◌, ◌≢◌, ℕ, zero, suc, ◌+◌, ◌
 use Rattle.std.proofs.lemmas.Bool.{cases_eq, cases_lt}
 use Rattle.std.proofs.lemmas.Bool.Decides.{nat_tests}
 use Rattle.std.proofs.lemmas.Grind.{same_number_lists}
+use Rattle.rh_defs.specs.declared.sizes.TheConstants.{PAGE}
 use Rattle.rh_defs.specs.Bytes.{part, put}
 use Rattle.rh_defs.proofs.BytesLaws.{length-part, length-put, get-part, put_below, put_above, put_inside, part-part, part-put_below, part-put_above, part-append_left, part-append_right, put-append_left, put-append_right}
 use Rattle.rh_pages.specs.Pages.{page, bytes_of}
@@ -41,14 +42,14 @@ part-put_over b p n o ws fits inside =
     ])
 
 -- a part of one page is read
-pub bytes_read : (r ks : List ℕ) (i o n : ℕ) → i < length ks → o + n ≤ 4096 → part (bytes_of r ks) (4096 * i + o) n ≡ part r (4096 * get_or ks i 0 + o) n
+pub bytes_read : (r ks : List ℕ) (i o n : ℕ) → i < length ks → o + n ≤ PAGE → part (bytes_of r ks) (PAGE * i + o) n ≡ part r (PAGE * get_or ks i 0 + o) n
 bytes_read r [] i o n lt fits = absurd (omega arith)
 bytes_read r (k ∷ ks) zero o n lt fits =
-    let z : 4096 * 0 + o ≡ o = omega arith in let len = length-part r (4096 * k) 4096 in
-    ap (λ m. part (page r k ++ bytes_of r ks) m n) z ∙ part-append_left (page r k) (bytes_of r ks) o n (omega arith) ∙ part-part r (4096 * k) 4096 o n fits
+    let z : PAGE * 0 + o ≡ o = omega arith in let len = length-part r (PAGE * k) PAGE in
+    ap (λ m. part (page r k ++ bytes_of r ks) m n) z ∙ part-append_left (page r k) (bytes_of r ks) o n (omega arith) ∙ part-part r (PAGE * k) PAGE o n fits
 bytes_read r (k ∷ ks) (suc i) o n lt fits =
-    let len = length-part r (4096 * k) 4096 in let at : 4096 * suc i + o ≡ length (page r k) + (4096 * i + o) = omega arith in
-    ap (λ m. part (page r k ++ bytes_of r ks) m n) at ∙ part-append_right (page r k) (bytes_of r ks) (4096 * i + o) n ∙ bytes_read r ks i o n (omega arith) fits
+    let len = length-part r (PAGE * k) PAGE in let at : PAGE * suc i + o ≡ length (page r k) + (PAGE * i + o) = omega arith in
+    ap (λ m. part (page r k ++ bytes_of r ks) m n) at ∙ part-append_right (page r k) (bytes_of r ks) (PAGE * i + o) n ∙ bytes_read r ks i o n (omega arith) fits
 
 -- where a page stands, it is counted
 pub stands : (k : ℕ) (ks : List ℕ) (i : ℕ) → i < length ks → get_or ks i 0 ≡ k → 1 ≤ times k ks
@@ -56,17 +57,17 @@ stands k [] i li at = absurd (omega arith)
 stands k (j ∷ ks) zero li at = elim (head_tells j k) [ inl e ↦ let one = e.1 in omega arith | inr h ↦ absurd (h.0 at) ]
 stands k (j ∷ ks) (suc i) li at = let rest = stands k ks i (omega arith) at in omega arith
 
-module _ (r : List ℕ) (k o : ℕ) (ws : List ℕ) (fits : o + length ws ≤ 4096) (inside : 4096 * k + 4096 ≤ length r) where
+module _ (r : List ℕ) (k o : ℕ) (ws : List ℕ) (fits : o + length ws ≤ PAGE) (inside : PAGE * k + PAGE ≤ length r) where
   abbrev r' : List ℕ
-  r' = put r (4096 * k + o) ws
+  r' = put r (PAGE * k + o) ws
 
   page_same : page r' k ≡ put (page r k) o ws
-  page_same = part-put_over r (4096 * k) 4096 o ws fits inside
+  page_same = part-put_over r (PAGE * k) PAGE o ws fits inside
 
   page_other : (j : ℕ) → j ≢ k → page r' j ≡ page r j
   page_other j h = elim (below_or_above j k h) [
-    | inl lt ↦ part-put_below r (4096 * k + o) ws (4096 * j) 4096 (omega arith)
-    | inr gt ↦ part-put_above r (4096 * k + o) ws (4096 * j) 4096 (omega arith)
+    | inl lt ↦ part-put_below r (PAGE * k + o) ws (PAGE * j) PAGE (omega arith)
+    | inr gt ↦ part-put_above r (PAGE * k + o) ws (PAGE * j) PAGE (omega arith)
   ]
 
   -- a list of other pages
@@ -79,11 +80,11 @@ module _ (r : List ℕ) (k o : ℕ) (ws : List ℕ) (fits : o + length ws ≤ 40
   ]
 
   -- the list in which the page is the i-th
-  pub bytes_same : (ks : List ℕ) (i : ℕ) → i < length ks → get_or ks i 0 ≡ k → times k ks ≤ 1 → bytes_of r' ks ≡ put (bytes_of r ks) (4096 * i + o) ws
+  pub bytes_same : (ks : List ℕ) (i : ℕ) → i < length ks → get_or ks i 0 ≡ k → times k ks ≤ 1 → bytes_of r' ks ≡ put (bytes_of r ks) (PAGE * i + o) ws
   bytes_same [] i li at once = absurd (omega arith)
   bytes_same (j ∷ ks) zero li at once = elim (head_tells j k) [
     | inl e ↦
-        let one = e.1 in let rest : times k ks ≡ 0 = omega arith in let z : 4096 * 0 + o ≡ o = omega arith in let len = length-part r (4096 * j) 4096 in
+        let one = e.1 in let rest : times k ks ≡ 0 = omega arith in let z : PAGE * 0 + o ≡ o = omega arith in let len = length-part r (PAGE * j) PAGE in
         ap (λ l. l ++ bytes_of r' ks) (ap (page r') e.0 ∙ page_same ∙ ap (λ m. put (page r m) o ws) (sym e.0)) ∙ ap (λ l. put (page r j) o ws ++ l) (bytes_other ks rest)
         ∙ sym (put-append_left (page r j) (bytes_of r ks) o ws (omega arith)) ∙ ap (λ m. put (page r j ++ bytes_of r ks) m ws) (sym z)
     | inr h ↦ absurd (h.0 at)
@@ -93,8 +94,8 @@ module _ (r : List ℕ) (k o : ℕ) (ws : List ℕ) (fits : o + length ws ≤ 40
       elim (head_tells j k) [
         | inl e ↦ let one = e.1 in absurd (omega arith)
         | inr h ↦
-            let zero' = h.1 in let len = length-part r (4096 * j) 4096 in let long = length-bytes r ks in
-            let at' : length (page r j) + (4096 * i + o) ≡ 4096 * suc i + o = omega arith in
+            let zero' = h.1 in let len = length-part r (PAGE * j) PAGE in let long = length-bytes r ks in
+            let at' : length (page r j) + (PAGE * i + o) ≡ PAGE * suc i + o = omega arith in
             ap (λ l. l ++ bytes_of r' ks) (page_other j h.0) ∙ ap (λ l. page r j ++ l) (bytes_same ks i in' at (omega arith))
-            ∙ sym (put-append_right (page r j) (bytes_of r ks) (4096 * i + o) ws (omega arith)) ∙ ap (λ m. put (page r j ++ bytes_of r ks) m ws) at'
+            ∙ sym (put-append_right (page r j) (bytes_of r ks) (PAGE * i + o) ws (omega arith)) ∙ ap (λ m. put (page r j ++ bytes_of r ks) m ws) at'
       ]

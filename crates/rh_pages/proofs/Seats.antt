@@ -1,7 +1,7 @@
 -- Where the code finds a part of one page of a store, and what a write there does to the store.
 use Rattle.std.proofs.Common.{◌≡◌, ℕ, ◌+◌, ◌-◌, ◌*◌, ◌/◌, ◌%◌, ◌<◌, ◌≤◌, List, [], length, get_or, sym, ap, subst, ◌∙◌, arith, lit≤}
 use Rattle.std.proofs.lemmas.List.{get_or_default}
-use Rattle.rh_defs.specs.declared.sizes.TheConstants.{MAX_AREAS, MAX_PAGES}
+use Rattle.rh_defs.specs.declared.sizes.TheConstants.{MAX_AREAS, MAX_PAGES, PAGE}
 use Rattle.rh_defs.specs.Bytes.{part, put}
 use Rattle.rh_defs.specs.Memory.{IsOpen, bytes, with_bytes}
 use Rattle.rh_pages.specs.declared.paged.PagedStore.{PagedStore}
@@ -20,7 +20,7 @@ area_index s id o = let h = numbered_areas s.region s.areas.items s.opened.items
 pub list_read : (s : PagedStore) (id : ℕ) (ks : List ℕ) → IsOpen (memory_of s) id → ks ≡ get_or s.areas.items id ks → ks ≡ list_at s.areas.items id
 list_read s id ks o e = e ∙ get_or_default s.areas.items id ks [] (area_index s id o)
 
-pub area_long : (s : PagedStore) (id : ℕ) → IsOpen (memory_of s) id → length (bytes (memory_of s) id) ≡ 4096 * length (list_at s.areas.items id)
+pub area_long : (s : PagedStore) (id : ℕ) → IsOpen (memory_of s) id → length (bytes (memory_of s) id) ≡ PAGE * length (list_at s.areas.items id)
 unfolding memory_of
 area_long s id o = length_are s.region s.areas.items s.opened.items s.free s.pages MAX_AREAS s.kept id o
 
@@ -39,15 +39,15 @@ at_spot s id at n there = record {
   memory = λ r ws e l. ap (λ x. memory_in x s.areas.items s.opened.items s.free s.pages) e ∙ there.memory ws l;
 }
 
-spot_there : (s : PagedStore) (id at n : ℕ) → IsOpen (memory_of s) id → 0 < n → at + n ≤ length (bytes (memory_of s) id) → at % 4096 + n ≤ 4096 → Spot s.region s.areas.items s.opened.items s.free s.pages MAX_AREAS id at n
+spot_there : (s : PagedStore) (id at n : ℕ) → IsOpen (memory_of s) id → 0 < n → at + n ≤ length (bytes (memory_of s) id) → at % PAGE + n ≤ PAGE → Spot s.region s.areas.items s.opened.items s.free s.pages MAX_AREAS id at n
 unfolding memory_of
 spot_there s id at n o some inside fits = spot s.region s.areas.items s.opened.items s.free s.pages MAX_AREAS s.kept id o at n some inside fits
 
-pub seat : (s : PagedStore) (id at n p : ℕ) → IsOpen (memory_of s) id → 0 < n → at + n ≤ length (bytes (memory_of s) id) → at % 4096 + n ≤ 4096 → p ≡ spot_in s.areas.items id at → Seat s id at n p
+pub seat : (s : PagedStore) (id at n p : ℕ) → IsOpen (memory_of s) id → 0 < n → at + n ≤ length (bytes (memory_of s) id) → at % PAGE + n ≤ PAGE → p ≡ spot_in s.areas.items id at → Seat s id at n p
 seat s id at n p o some inside fits e = subst (Seat s id at n) (sym e) (at_spot s id at n (spot_there s id at n o some inside fits))
 
 -- the byte at an offset stands where its page does, and as far on as the offset goes past the page's start
-pub on_from_place : (s : PagedStore) (id at start : ℕ) → start ≡ place_of s id (at / 4096) → start + (at - 4096 * (at / 4096)) ≡ spot_in s.areas.items id at
+pub on_from_place : (s : PagedStore) (id at start : ℕ) → start ≡ place_of s id (at / PAGE) → start + (at - PAGE * (at / PAGE)) ≡ spot_in s.areas.items id at
 unfolding place_of
 on_from_place s id at start e = omega arith
 
@@ -57,20 +57,20 @@ page_small s id i lt k e = let a = page_below s.region s.areas.items s.opened.it
 
 -- page i of an area has the number k
 pub record Placed (s : PagedStore) (id i k : ℕ) : Type 0 where
-  pub within : 4096 * k + 4096 ≤ length s.region
-  pub same : part s.region (4096 * k) 4096 ≡ part (bytes (memory_of s) id) (4096 * i) 4096
-  pub apart : (a j : ℕ) → IsOpen (memory_of s) a → 4096 * j < length (bytes (memory_of s) a) → place_of s a j ≡ 4096 * k → (a ≡ id) × (j ≡ i)
+  pub within : PAGE * k + PAGE ≤ length s.region
+  pub same : part s.region (PAGE * k) PAGE ≡ part (bytes (memory_of s) id) (PAGE * i) PAGE
+  pub apart : (a j : ℕ) → IsOpen (memory_of s) a → PAGE * j < length (bytes (memory_of s) a) → place_of s a j ≡ PAGE * k → (a ≡ id) × (j ≡ i)
 
-pub placed : (s : PagedStore) (id i k : ℕ) → IsOpen (memory_of s) id → 4096 * i < length (bytes (memory_of s) id) → k ≡ get_or (list_at s.areas.items id) i 0 → Placed s id i k
+pub placed : (s : PagedStore) (id i k : ℕ) → IsOpen (memory_of s) id → PAGE * i < length (bytes (memory_of s) id) → k ≡ get_or (list_at s.areas.items id) i 0 → Placed s id i k
 unfolding memory_of place_of
 placed s id i k o inside at =
     let lists = s.areas.items in let long = area_long s id o in let li : i < length (list_at lists id) = omega arith in
     let low = page_below s.region lists s.opened.items s.free s.pages MAX_AREAS s.kept id i li in let size = s.kept.size in
-    let y : 4096 * k ≡ 4096 * get_or (list_at lists id) i 0 + 0 = omega arith in let z : 4096 * i + 0 ≡ 4096 * i = omega arith in
+    let y : PAGE * k ≡ PAGE * get_or (list_at lists id) i 0 + 0 = omega arith in let z : PAGE * i + 0 ≡ PAGE * i = omega arith in
     record {
       within = omega arith;
-      same = ap (λ p. part s.region p 4096) y ∙ sym (bytes_read s.region (list_at lists id) i 0 4096 li (lit≤ tt)) ∙ ap (λ p. part (bytes_of s.region (list_at lists id)) p 4096) z
-          ∙ ap (λ l. part l (4096 * i) 4096) (sym (bytes_are s.region lists s.opened.items s.free s.pages MAX_AREAS s.kept id o));
+      same = ap (λ p. part s.region p PAGE) y ∙ sym (bytes_read s.region (list_at lists id) i 0 PAGE li (lit≤ tt)) ∙ ap (λ p. part (bytes_of s.region (list_at lists id)) p PAGE) z
+          ∙ ap (λ l. part l (PAGE * i) PAGE) (sym (bytes_are s.region lists s.opened.items s.free s.pages MAX_AREAS s.kept id o));
       apart = λ a j oa lj e.
           let there = area_long s a oa in let in' : j < length (list_at lists a) = omega arith in
           let same : get_or (list_at lists a) j 0 ≡ k = omega arith in let once = s.kept.once k in

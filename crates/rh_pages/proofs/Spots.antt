@@ -2,6 +2,7 @@
 use Rattle.std.proofs.Common.{◌≡◌, ◌≢◌, ℕ, ◌+◌, ◌*◌, ◌/◌, ◌%◌, ◌<◌, ◌≤◌, Bool, inl, inr, List, [], length, get_or, refl, sym, ap, ◌∙◌, arith}
 use Rattle.std.specs.Prelude.{Some, IsSome, unwrap_or}
 use Rattle.std.proofs.lemmas.Bool.{cases_lt}
+use Rattle.rh_defs.specs.declared.sizes.TheConstants.{PAGE}
 use Rattle.rh_defs.specs.Bytes.{part, put}
 use Rattle.rh_defs.specs.Memory.{area_set, bytes, with_bytes}
 use Rattle.rh_defs.proofs.BytesLaws.{length-put}
@@ -13,8 +14,8 @@ use Rattle.rh_pages.proofs.Chunks.{bytes_read, bytes_other, bytes_same, stands}
 use Rattle.rh_pages.proofs.Counts.{times_at, times_two}
 
 pub record Spot (r : List ℕ) (lists : List (List ℕ)) (flags : List Bool) (free : List ℕ) (pages limit id at n : ℕ) : Type 0 where
-  pub listed : at / 4096 < length (list_at lists id)
-  pub small : get_or (list_at lists id) (at / 4096) 0 < pages
+  pub listed : at / PAGE < length (list_at lists id)
+  pub small : get_or (list_at lists id) (at / PAGE) 0 < pages
   pub within : spot_in lists id at + n ≤ length r
   pub read : part r (spot_in lists id at) n ≡ part (bytes (memory_in r lists flags free pages) id) at n
   pub kept : (ws : List ℕ) → length ws ≡ n → IsStore (put r (spot_in lists id at) ws) lists flags free pages limit
@@ -35,15 +36,15 @@ module _ (r : List ℕ) (lists : List (List ℕ)) (flags : List Bool) (free : Li
     unfolding bytes
     bytes_are = bytes_open r lists flags id o
 
-    pub length_are : length (bytes (memory_in r lists flags free pages) id) ≡ 4096 * length (list_at lists id)
+    pub length_are : length (bytes (memory_in r lists flags free pages) id) ≡ PAGE * length (list_at lists id)
     length_are = ap length bytes_are ∙ length-bytes r (list_at lists id)
 
-    module _ (at n : ℕ) (some : 0 < n) (inside : at + n ≤ length (bytes (memory_in r lists flags free pages) id)) (fits : at % 4096 + n ≤ 4096) where
+    module _ (at n : ℕ) (some : 0 < n) (inside : at + n ≤ length (bytes (memory_in r lists flags free pages) id)) (fits : at % PAGE + n ≤ PAGE) where
       abbrev i : ℕ
-      i = at / 4096
+      i = at / PAGE
 
       abbrev f : ℕ
-      f = at % 4096
+      f = at % PAGE
 
       abbrev ks : List ℕ
       ks = list_at lists id
@@ -57,10 +58,10 @@ module _ (r : List ℕ) (lists : List (List ℕ)) (flags : List Bool) (free : Li
       listed : i < length ks
       listed = let long = length_are in omega arith
 
-      is : 4096 * i + f ≡ at
+      is : PAGE * i + f ≡ at
       is = omega arith
 
-      page_in : 4096 * k + 4096 ≤ length r
+      page_in : PAGE * k + PAGE ≤ length r
       page_in = let a = page_below id i listed in let b = ok.size in omega arith
 
       within : spot_in lists id at + n ≤ length r
@@ -70,7 +71,7 @@ module _ (r : List ℕ) (lists : List (List ℕ)) (flags : List Bool) (free : Li
       read = sym (bytes_read r ks i f n listed fits) ∙ ap (λ m. part (bytes_of r ks) m n) is ∙ ap (λ l. part l at n) (sym bytes_are)
 
       module _ (ws : List ℕ) (lw : length ws ≡ n) where
-        fit : f + length ws ≤ 4096
+        fit : f + length ws ≤ PAGE
         fit = omega arith
 
         one : times k ks ≤ 1
@@ -85,9 +86,9 @@ module _ (r : List ℕ) (lists : List (List ℕ)) (flags : List Bool) (free : Li
         changed : contents (put r (spot_in lists id at) ws) lists flags ≡ area_set (contents r lists flags) id (Some (put was at ws))
         changed = rewritten r (put r (spot_in lists id at) ws) lists lists flags id (put was at ws) o here (λ j ne. bytes_other r k f ws fit page_in (list_at lists j) (none j ne))
 
-        sum : length free + length (put was at ws) / 4096 ≡ length free + length (unwrap_or (contents r lists flags id) []) / 4096
+        sum : length free + length (put was at ws) / PAGE ≡ length free + length (unwrap_or (contents r lists flags id) []) / PAGE
         unfolding bytes
-        sum = ap (λ m. length free + m / 4096) (length-put was at ws)
+        sum = ap (λ m. length free + m / PAGE) (length-put was at ws)
 
         is_kept : IsStore (put r (spot_in lists id at) ws) lists flags free pages limit
         is_kept = record {

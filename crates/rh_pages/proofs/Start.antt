@@ -4,6 +4,7 @@ use Rattle.std.specs.Prelude.{Option, Some, None, unwrap_or}
 use Rattle.std.proofs.Math.Path.{fun_ext}
 use Rattle.std.proofs.lemmas.Bool.{cases_eq}
 use Rattle.std.proofs.lemmas.List.{length-replicate, length_push, length-set, get_or-set_other}
+use Rattle.rh_defs.specs.declared.sizes.TheConstants.{PAGE}
 use Rattle.rh_defs.specs.Memory.{area_set, opened, fresh}
 use Rattle.rh_defs.proofs.MemoryLaws.{pages_below-none}
 use Rattle.rh_pages.specs.Pages.{bytes_of, list_at, contents, memory_in, IsStore}
@@ -53,7 +54,7 @@ module _ (r : List ℕ) (lists : List (List ℕ)) (flags : List Bool) (free : Li
   count : length free ≡ pages
   count = ap length all ∙ length_first pages
 
-  pub fresh_kept : length r ≡ 4096 * pages → IsStore r lists flags free pages limit
+  pub fresh_kept : length r ≡ PAGE * pages → IsStore r lists flags free pages limit
   fresh_kept size = record {
     size = size;
     table = ap length no_lists ∙ length-replicate {A = List ℕ} limit [];
@@ -95,7 +96,7 @@ module _ (r : List ℕ) (lists : List (List ℕ)) (flags : List Bool) (free : Li
         | inr ne ↦ ok.empty j (sym (get_or-set_other flags id j true false ne) ∙ h)
       ];
       ledger = ledger_set (contents r lists flags) (contents r lists (set flags id true)) id (Some []) (length free) (length free) pages limit area_opened lt
-          (ap (λ (o : Option (List ℕ)). length free + length (unwrap_or o []) / 4096) (sym was_closed)) ok.ledger;
+          (ap (λ (o : Option (List ℕ)). length free + length (unwrap_or o []) / PAGE) (sym was_closed)) ok.ledger;
     }
 
     pub opened_memory : memory_in r lists (set flags id true) free pages ≡ opened (memory_in r lists flags free pages) id
@@ -119,7 +120,7 @@ module _ (r : List ℕ) (lists : List (List ℕ)) (flags : List Bool) (free : Li
         | inr ne ↦ ok.empty j (sym (get_or-set_other flags id j false false ne) ∙ h)
       ];
       ledger = ledger_set (contents r lists flags) (contents r lists (set flags id false)) id None (length free) (length free) pages limit area_closed lt
-          (ap (λ k. length free + k / 4096) (sym no_bytes)) ok.ledger;
+          (ap (λ k. length free + k / PAGE) (sym no_bytes)) ok.ledger;
     }
 
     pub closed_memory : memory_in r lists (set flags id false) free pages ≡ record { area = area_set (contents r lists flags) id None; free = length free; pages = pages; loan = 0 }

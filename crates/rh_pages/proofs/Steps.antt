@@ -3,6 +3,7 @@ use Rattle.std.proofs.Common.{◌≡◌, ◌≢◌, ℕ, ◌+◌, ◌-◌, ◌*�
 use Rattle.std.specs.Prelude.{Option, Some, None, IsSome, unwrap_or}
 use Rattle.std.proofs.lemmas.List.{append-nil, replicate-append-replicate, length-replicate, take-take}
 use Rattle.std.proofs.Math.Seq.{take-length}
+use Rattle.rh_defs.specs.declared.sizes.TheConstants.{PAGE}
 use Rattle.rh_defs.specs.Bytes.{part, put}
 use Rattle.rh_defs.specs.Memory.{Memory, IsOpen, area_set, bytes, with_bytes, grown, shrunk, closed}
 use Rattle.rh_defs.proofs.BytesLaws.{put_none, put_more, part_more, length-part, length-put, slide_down, slide_up}
@@ -76,21 +77,21 @@ grown_none m id o =
 pub grown_more : (m : Memory) (id d n : ℕ) → grown (grown m id d) id n ≡ grown m id (d + n)
 unfolding grown
 grown_more m id d n =
-    let b = bytes m id in let x = b ++ replicate (4096 * d) 0 in
-    let all : 4096 * d + 4096 * n ≡ 4096 * (d + n) = omega arith in
+    let b = bytes m id in let x = b ++ replicate (PAGE * d) 0 in
+    let all : PAGE * d + PAGE * n ≡ PAGE * (d + n) = omega arith in
     let left : m.free - d - n ≡ m.free - (d + n) = omega arith in
-    let joined : x ++ replicate (4096 * n) 0 ≡ b ++ replicate (4096 * (d + n)) 0 =
-    append_assoc b (replicate (4096 * d) 0) (replicate (4096 * n) 0) ∙ ap (λ l. b ++ l) (replicate-append-replicate {A = ℕ} (4096 * d) (4096 * n) 0 ∙ ap (λ k. replicate {A = ℕ} k 0) all) in
+    let joined : x ++ replicate (PAGE * n) 0 ≡ b ++ replicate (PAGE * (d + n)) 0 =
+    append_assoc b (replicate (PAGE * d) 0) (replicate (PAGE * n) 0) ∙ ap (λ l. b ++ l) (replicate-append-replicate {A = ℕ} (PAGE * d) (PAGE * n) 0 ∙ ap (λ k. replicate {A = ℕ} k 0) all) in
     same_memory _ _ _ _ m.pages m.loan
-    (ap (λ (l : List ℕ). area_set (area_set m.area id (Some x)) id (Some (l ++ replicate (4096 * n) 0))) (bytes-grown m id d)
-    ∙ area_set-area_set m.area id (Some x) (Some (x ++ replicate (4096 * n) 0)) ∙ ap (λ (l : List ℕ). area_set m.area id (Some l)) joined)
+    (ap (λ (l : List ℕ). area_set (area_set m.area id (Some x)) id (Some (l ++ replicate (PAGE * n) 0))) (bytes-grown m id d)
+    ∙ area_set-area_set m.area id (Some x) (Some (x ++ replicate (PAGE * n) 0)) ∙ ap (λ (l : List ℕ). area_set m.area id (Some l)) joined)
     left
 
 -- no page cut off
 pub shrunk_none : (m : Memory) (id : ℕ) → IsOpen m id → m ≡ shrunk m id 0
 unfolding shrunk bytes
 shrunk_none m id o =
-    let b = unwrap_or (m.area id) [] in let free : m.free ≡ m.free + 0 = omega arith in let all : length b - 4096 * 0 ≡ length b = omega arith in
+    let b = unwrap_or (m.area id) [] in let free : m.free ≡ m.free + 0 = omega arith in let all : length b - PAGE * 0 ≡ length b = omega arith in
     same_memory _ _ _ _ m.pages m.loan
     (sym (ap (λ k. area_set m.area id (Some (take k b))) all ∙ ap (λ (l : List ℕ). area_set m.area id (Some l)) (take-length b) ∙ ap (area_set m.area id) (some_bytes (m.area id) o) ∙ area_set-self m.area id))
     free
@@ -99,24 +100,24 @@ shrunk_none m id o =
 pub shrunk_more : (m : Memory) (id d n : ℕ) → shrunk (shrunk m id d) id n ≡ shrunk m id (d + n)
 unfolding shrunk
 shrunk_more m id d n =
-    let b = bytes m id in let k = length b - 4096 * d in let x = take k b in
+    let b = bytes m id in let k = length b - PAGE * d in let x = take k b in
     let left : m.free + d + n ≡ m.free + (d + n) = omega arith in
     let long = length-shrunk m id d in
-    let less : k - 4096 * n ≡ length b - 4096 * (d + n) = omega arith in
+    let less : k - PAGE * n ≡ length b - PAGE * (d + n) = omega arith in
     same_memory _ _ _ _ m.pages m.loan
-    (ap (λ (l : List ℕ). area_set (area_set m.area id (Some x)) id (Some (take (length l - 4096 * n) l))) (bytes-shrunk m id d)
-    ∙ area_set-area_set m.area id (Some x) (Some (take (length x - 4096 * n) x))
-    ∙ ap (λ i. area_set m.area id (Some (take (i - 4096 * n) x))) (sym (ap length (bytes-shrunk m id d)) ∙ long)
-    ∙ ap (λ (l : List ℕ). area_set m.area id (Some l)) (take-take (k - 4096 * n) k b (omega arith) ∙ ap (λ i. take i b) less))
+    (ap (λ (l : List ℕ). area_set (area_set m.area id (Some x)) id (Some (take (length l - PAGE * n) l))) (bytes-shrunk m id d)
+    ∙ area_set-area_set m.area id (Some x) (Some (take (length x - PAGE * n) x))
+    ∙ ap (λ i. area_set m.area id (Some (take (i - PAGE * n) x))) (sym (ap length (bytes-shrunk m id d)) ∙ long)
+    ∙ ap (λ (l : List ℕ). area_set m.area id (Some l)) (take-take (k - PAGE * n) k b (omega arith) ∙ ap (λ i. take i b) less))
     left
 
 -- an area is closed once its pages are cut off
-pub closed_shrunk : (m : Memory) (id n : ℕ) → n ≡ length (bytes m id) / 4096
+pub closed_shrunk : (m : Memory) (id n : ℕ) → n ≡ length (bytes m id) / PAGE
     → ◌≡◌ {A = Memory} (record { area = area_set (shrunk m id n).area id None; free = (shrunk m id n).free; pages = (shrunk m id n).pages; loan = (shrunk m id n).loan }) (closed m id)
 unfolding shrunk closed
 closed_shrunk m id n e =
     same_memory _ _ _ _ m.pages m.loan
-    (area_set-area_set m.area id (Some (take (length (bytes m id) - 4096 * n) (bytes m id))) None)
+    (area_set-area_set m.area id (Some (take (length (bytes m id) - PAGE * n) (bytes m id))) None)
     (ap (λ k. m.free + k) e)
 
 -- one area has other bytes, as many as it had, and all else is as it was

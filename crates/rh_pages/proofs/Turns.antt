@@ -3,6 +3,7 @@ use Rattle.std.proofs.Common.{◌≡◌, ◌≢◌, ℕ, ◌+◌, ◌-◌, ◌*�
 use Rattle.std.specs.Prelude.{Some, IsSome, unwrap_or}
 use Rattle.std.proofs.lemmas.Bool.{cases_eq, cases_lt}
 use Rattle.std.proofs.lemmas.List.{append-nil, length_push, length-set, get_or-set_same, get_or-set_other, take_at}
+use Rattle.rh_defs.specs.declared.sizes.TheConstants.{PAGE}
 use Rattle.rh_defs.specs.Bytes.{put}
 use Rattle.rh_defs.specs.Memory.{area_set, bytes, grown, shrunk}
 use Rattle.rh_defs.proofs.BytesLaws.{length-put, length-part, part-put}
@@ -51,15 +52,15 @@ module _ (r : List ℕ) (lists : List (List ℕ)) (flags : List Bool) (pool : Li
       | inr h ↦ absurd (let a = ok.below k h in let b = stands_free in omega arith)
     ]
 
-    pub page_within : 4096 * k + 4096 ≤ length r
+    pub page_within : PAGE * k + PAGE ≤ length r
     page_within = let a = page_free in let b = ok.size in omega arith
 
     nowhere : times_all k lists ≡ 0
     nowhere = let a = ok.once k in let b = stands_free in omega arith
 
-    module _ (r' ws : List ℕ) (zeroed : r' ≡ put r (4096 * k) ws) (lw : length ws ≡ 4096) (lists' : List (List ℕ)) (pushed : lists' ≡ set lists id (list_at lists id ++ k ∷ [])) where
-      same : r' ≡ put r (4096 * k + 0) ws
-      same = let z : 4096 * k ≡ 4096 * k + 0 = omega arith in zeroed ∙ ap (λ p. put r p ws) z
+    module _ (r' ws : List ℕ) (zeroed : r' ≡ put r (PAGE * k) ws) (lw : length ws ≡ PAGE) (lists' : List (List ℕ)) (pushed : lists' ≡ set lists id (list_at lists id ++ k ∷ [])) where
+      same : r' ≡ put r (PAGE * k + 0) ws
+      same = let z : PAGE * k ≡ PAGE * k + 0 = omega arith in zeroed ∙ ap (λ p. put r p ws) z
 
       untouched : (ks : List ℕ) → times k ks ≡ 0 → bytes_of r' ks ≡ bytes_of r ks
       untouched ks none = ap (λ l. bytes_of l ks) same ∙ bytes_other r k 0 ws (omega arith) page_within ks none
@@ -73,7 +74,7 @@ module _ (r : List ℕ) (lists : List (List ℕ)) (flags : List Bool) (pool : Li
           ∙ ap (bytes_of r') (get_or-set_same lists id (list_at lists id ++ k ∷ []) [] inside)
           ∙ bytes-push r' k (list_at lists id)
           ∙ ap (λ l. l ++ page r' k) (untouched (list_at lists id) (none_at id) ∙ sym (bytes_are r lists flags pool pages limit ok id o))
-          ∙ ap (λ l. was ++ l) (ap (λ l. page l k) zeroed ∙ part-put r (4096 * k) ws 4096 (sym lw) page_within)
+          ∙ ap (λ l. was ++ l) (ap (λ l. page l k) zeroed ∙ part-put r (PAGE * k) ws PAGE (sym lw) page_within)
 
       others : (j : ℕ) → j ≢ id → bytes_of r' (list_at lists' j) ≡ bytes_of r (list_at lists j)
       others j ne = ap (λ l. bytes_of r' (list_at l j)) pushed ∙ ap (bytes_of r') (get_or-set_other lists id j (list_at lists id ++ k ∷ []) [] ne) ∙ untouched (list_at lists j) (none_at j)
@@ -86,7 +87,7 @@ module _ (r : List ℕ) (lists : List (List ℕ)) (flags : List Bool) (pool : Li
           let a = ap (times_all j) pushed in let b = times_all-set j (list_at lists id ++ k ∷ []) lists id inside in let c = times-push j k (list_at lists id) in
           let d = ap (times j) popped in let e = times-push j k free in omega arith
 
-      sum : length free + length (was ++ ws) / 4096 ≡ length pool + length (unwrap_or (contents r lists flags id) []) / 4096
+      sum : length free + length (was ++ ws) / PAGE ≡ length pool + length (unwrap_or (contents r lists flags id) []) / PAGE
       unfolding bytes
       sum =
           let long = length_are r lists flags pool pages limit ok id o in let all = length-append was ws in
@@ -94,7 +95,7 @@ module _ (r : List ℕ) (lists : List (List ℕ)) (flags : List Bool) (pool : Li
 
       pub grown_kept : IsStore r' lists' flags free pages limit
       grown_kept = record {
-        size = ap length zeroed ∙ length-put r (4096 * k) ws ∙ ok.size;
+        size = ap length zeroed ∙ length-put r (PAGE * k) ws ∙ ok.size;
         table = ap length pushed ∙ length-set lists id (list_at lists id ++ k ∷ []) ∙ ok.table;
         flags = ok.flags;
         once = λ j. let a = counted j in let b = ok.once j in omega arith;
@@ -104,7 +105,7 @@ module _ (r : List ℕ) (lists : List (List ℕ)) (flags : List Bool) (pool : Li
             (numbered_areas r lists flags pool pages limit id ok o) sum ok.ledger;
       }
 
-      pub grown_memory : (n : ℕ) → n ≡ 1 → ws ≡ replicate (4096 * n) 0 → memory_in r' lists' flags free pages ≡ grown (memory_in r lists flags pool pages) id n
+      pub grown_memory : (n : ℕ) → n ≡ 1 → ws ≡ replicate (PAGE * n) 0 → memory_in r' lists' flags free pages ≡ grown (memory_in r lists flags pool pages) id n
       unfolding grown
       grown_memory n one zeros =
           let a = ap length popped in let b = length_push free k in let left : length free ≡ length pool - n = omega arith in
@@ -127,7 +128,7 @@ module _ (r : List ℕ) (lists : List (List ℕ)) (flags : List Bool) (pool : Li
           let a = ap (times_all j) cut in let b = times_all-set j ks lists id inside in let c = ap (times j) popped in let d = times-push j k ks in
           let e = ap (times j) pushed in let f = times-push j k pool in omega arith
 
-      sum_back : length free + length (bytes_of r ks) / 4096 ≡ length pool + length (unwrap_or (contents r lists flags id) []) / 4096
+      sum_back : length free + length (bytes_of r ks) / PAGE ≡ length pool + length (unwrap_or (contents r lists flags id) []) / PAGE
       unfolding bytes
       sum_back =
           let long = length_are r lists flags pool pages limit ok id o in let all = ap length popped in let one = length_push ks k in let less = length-bytes r ks in
@@ -149,8 +150,8 @@ module _ (r : List ℕ) (lists : List (List ℕ)) (flags : List Bool) (pool : Li
       unfolding shrunk
       shrunk_memory n one =
           let a = ap length pushed in let b = length_push pool k in let more : length free ≡ length pool + n = omega arith in
-          let c = ap length joined in let d = length-append (bytes_of r ks) (page r k) in let e = length-part r (4096 * k) 4096 in
-          let less : length (bytes_of r ks) ≡ length was - 4096 * n = omega arith in
-          let front : bytes_of r ks ≡ take (length was - 4096 * n) was = sym (ap (take (length was - 4096 * n)) joined ∙ take_at (bytes_of r ks) (page r k) (length was - 4096 * n) less) in
+          let c = ap length joined in let d = length-append (bytes_of r ks) (page r k) in let e = length-part r (PAGE * k) PAGE in
+          let less : length (bytes_of r ks) ≡ length was - PAGE * n = omega arith in
+          let front : bytes_of r ks ≡ take (length was - PAGE * n) was = sym (ap (take (length was - PAGE * n)) joined ∙ take_at (bytes_of r ks) (page r k) (length was - PAGE * n) less) in
           memory_set (contents r lists flags) (contents r lists' flags) id (Some (bytes_of r ks)) (length free) pages area_shrunk
           ∙ (λ i. record { area = area_set (contents r lists flags) id (Some (front i)); free = more i; pages = pages; loan = 0 })

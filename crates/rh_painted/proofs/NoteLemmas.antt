@@ -12,7 +12,7 @@ use Rattle.rh_figure.specs.Share.{Share}
 use Rattle.rh_sheet.specs.declared.note.Note.{Note}
 use Rattle.rh_sheet.specs.Chart.{code_or_none, followed, last_of, new_notes, noted, waiting_code}
 use Rattle.rh_sheet.specs.declared.sizes.TheConstants.{MOST_NOTES}
-use Rattle.rh_sight.specs.declared.sight.MessageItem.{MessageItem}
+use Rattle.rh_defs.specs.declared.listing.MessageItem.{MessageItem}
 use Rattle.rh_sight.specs.Messages.{item_of, message_items, held_on, waiting_on}
 use Rattle.rh_painted.specs.Notes.{code_among}
 

@@ -246,23 +246,17 @@ pub record IsNoted {D : Type 0} (m b : Painter D) (happened : Share → Happened
 
 module _ {D E : Type 0} (desk : D → Desk) (m b n : Painter D) (o p : Output) (r : Result Unit E) (line : Text) (happened : Share → Happened) (w : Bool)
     (wanted : w ≡ m.progress.wanted) (is : IsNoted m b happened) where
-  test-moved : (nat_lt b.progress.shown MOST_STEPS && (not b.marked || w)) ≡ is_shown m.marked (walk_in desk m) m.progress.wanted
-  test-moved =
-      ap₂ (λ (q : Stand) k. nat_lt q.shown MOST_STEPS && (not k || w)) is.progress is.marked
-      ∙ ap (λ v. nat_lt m.progress.shown MOST_STEPS && (not m.marked || v)) wanted
-
   written-moved : (s : Share) → step_written (walk_in desk b) line w (happened s) ≡ shown_step (walk_in desk m) line (happened s)
   written-moved s =
       ap₂ (λ q notes. step_written (walk_at (desk b.drawn) q notes) line w (happened s)) is.progress (is.notes s)
       ∙ ap (λ v. opening (walk_in desk m) ++ step_text ((happened s).still && not v) (m.progress.steps + 1) line (happened s).reply (happened s).scene
       (noted (m.progress.steps + 1) (happened s).scene m.notes.items) m.progress.last) wanted
 
-  pub took-shown : (nat_lt b.progress.shown MOST_STEPS && (not b.marked || w)) ≡ true → WroteStep desk b o p r line w happened n
+  pub took-shown : is_shown m.marked (walk_in desk m) m.progress.wanted ≡ true → WroteStep desk b o p r line w happened n
       → TookStep desk m o p r line happened n
-  took-shown test wrote =
+  took-shown here wrote =
       let s = wrote.share in
       let h = happened s in
-      let here : is_shown m.marked (walk_in desk m) m.progress.wanted ≡ true = sym test-moved ∙ test in
       let whole : step_written (walk_in desk b) line w h ≡ happened_text m.marked (walk_in desk m) line h =
       written-moved s ∙ sym (ap (λ z. where_so z (shown_step (walk_in desk m) line h)) here) in
       let T : Text → Type 0 = λ z. Takes o p z in
@@ -285,15 +279,21 @@ module _ {D E : Type 0} (desk : D → Desk) (m b n : Painter D) (o p : Output) (
         err = on-err r (λ breaks. subst B whole breaks) wrote.puts.err;
       }
 
+-- a step that was written of what is drawn was written of what is equal to it
+module _ {D E : Type 0} (desk : D → Desk) (b n : Painter D) (o p : Output) (r : Result Unit E) (line : Text) (w : Bool) (kept : Before)
+    (c : Option Command) (reply : Reply) (text : Text) {drawn same : D} where
+  pub wrote-over : drawn ≡ same → WroteStep desk b o p r line w (λ s. happened_at (desk drawn) s kept c reply text) n
+      → WroteStep desk b o p r line w (λ s. happened_at (desk same) s kept c reply text) n
+  wrote-over is wrote =
+      let W : D → Type 0 = λ z. WroteStep desk b o p r line w (λ s. happened_at (desk z) s kept c reply text) n in
+      subst W is wrote
+
 -- it is left out
-module _ {D E : Type 0} (desk : D → Desk) (m b n : Painter D) (o : Output) (line : Text) (happened : Share → Happened) (w : Bool)
-    (wanted : w ≡ m.progress.wanted) (is : IsNoted m b happened) where
-  pub took-left : (nat_lt b.progress.shown MOST_STEPS && (not b.marked || w)) ≡ false → (s : Share) → IsShared s (desk b.drawn)
+module _ {D E : Type 0} (desk : D → Desk) (m b n : Painter D) (o : Output) (line : Text) (happened : Share → Happened) (is : IsNoted m b happened) where
+  pub took-left : is_shown m.marked (walk_in desk m) m.progress.wanted ≡ false → (s : Share) → IsShared s (desk b.drawn)
       → n ≡ record b { progress = record b.progress { left = b.progress.left + 1 } } → TookStep {E = E} desk m o o (Ok tt) line happened n
-  took-left test s shared n-is =
+  took-left here s shared n-is =
       let h = happened s in
-      let here : is_shown m.marked (walk_in desk m) m.progress.wanted ≡ false =
-      sym (test-moved {E = E} desk m b n o o (Ok tt) line happened w wanted is) ∙ test in
       let T : Text → Type 0 = λ z. Takes o o z in
       let S : D → Type 0 = λ z. IsShared s (desk z) in
       record {

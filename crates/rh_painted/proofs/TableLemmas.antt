@@ -19,7 +19,7 @@ use Rattle.rh_figure.specs.Figure.{Letterbox, Side, has_id, transfers_of}
 use Rattle.rh_figure.specs.Phrases.{Text}
 use Rattle.rh_figure.specs.Scene.{held_list}
 use Rattle.rh_sheet.specs.Tables.{rows_under, transfer_row}
-use Rattle.rh_sight.specs.declared.sight.MessageItem.{MessageItem}
+use Rattle.rh_defs.specs.declared.listing.MessageItem.{MessageItem}
 use Rattle.rh_sight.specs.Messages.{is_held_by, message_items, waits_for}
 use Rattle.rh_drawn.specs.Letters.{has_letters_in, letterbox_in, letterboxes_in}
 use Rattle.rh_drawn.specs.Sides.{comes_alone, goes_out}

@@ -1,5 +1,5 @@
 -- What a sheet has done with a line of its script.
-use Rattle.std.specs.Prelude.{◌≡◌, ◌+◌, ◌++◌, ◌||◌, ◌&&◌, ◌==◌, not, Bool, false, List, [], length, map, ℕ, Option, Result, OnErr, OnOk, is_err}
+use Rattle.std.specs.Prelude.{◌≡◌, ◌+◌, ◌++◌, ◌||◌, ◌&&◌, ◌==◌, not, Bool, false, List, [], length, map, ℕ, Option, Result, Ok, OnErr, OnOk, is_err}
 use Rattle.rh_defs.specs.declared.command.Command.{Command}
 use Rattle.rh_defs.specs.declared.reply.Reply.{Reply}
 use Rattle.rh_defs.specs.Line.{Meaning, line_means}
@@ -121,6 +121,12 @@ pub record TookStep {D E : Type 0} (desk : D → Desk) (m : Painter D) (o p : Ou
       × ComesTo m (stand_behind (is_shown m.marked (walk_in desk m) m.progress.wanted) (happened share).still m.progress)
       (noted (m.progress.steps + 1) (happened share).scene m.notes.items) n)
   pub err : OnErr r (Breaks o p (happened_text m.marked (walk_in desk m) line (happened share)))
+
+-- a step was left out, whatever its line, command and reply, and nothing of it was written
+abbrev pub LeftStep : {D : Type 0} → (D → Desk) → Painter D → Before → Painter D → Type 0
+LeftStep desk m b n =
+    (o : Output) (line : Text) (c : Option Command) (r : Reply) (reply : Text)
+    → TookStep {E = Unit} desk m o o (Ok tt) line (λ s. happened_at (desk m.drawn) s b c r reply) n
 
 -- a step was written, with some share of the pool, where the painter counts it and has noted the messages behind it; or
 -- the writer failed, and took a front of it

@@ -8,6 +8,7 @@ ghost use Rattle.rh_lines.specs.Flow.{Puts};
 ghost use Rattle.rh_sheet.specs.Markup.{heading_text};
 ghost use Rattle.rh_sheet.specs.Steps.{area_heading};
 ghost use Rattle.rh_sight.specs.Steps.{IsStepOf, scene_at};
+ghost use Rattle.rh_defs.specs.declared.sizes.TheConstants.{FIXED_AREAS};
 
 use rh_defs::sizes::FIXED_AREAS;
 use rh_draw::print_heading;
@@ -45,7 +46,7 @@ fn print_fixed<S: Sight, W: Sink>(
     writer: &mut W,
 ) -> Result<(), WriteFailed>
     requires step { IsStepOf (S.desk sight.now) step.now }
-    requires number { number < 6 }
+    requires number { number < FIXED_AREAS }
     ensures { Puts (W.output writer.old) (W.output writer.new) result
         (flat_map area_heading (fixed_panel (scene_at (S.desk sight.now) step.now) (
           number,

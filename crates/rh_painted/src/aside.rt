@@ -5,6 +5,7 @@ ghost use Rattle.rh_lines.specs.Flow.{Puts};
 ghost use Rattle.rh_sheet.specs.Steps.{aside_text, has_aside as has_aside_at};
 ghost use Rattle.rh_sheet.specs.declared.sizes.TheConstants.{MOST_NOTES};
 ghost use Rattle.rh_sight.specs.Steps.{IsStepOf, scene_at};
+ghost use Rattle.rh_defs.specs.Post.{most_messages};
 
 use crate::chart::print_chart;
 use crate::letters::print_messages;
@@ -24,7 +25,7 @@ pub fn print_aside<S: Sight, W: Sink>(
     writer: &mut W,
 ) -> Result<(), WriteFailed>
     requires step { IsStepOf (S.desk sight.now) step.now }
-    requires few { length step.now.messages.now ≤ 256 }
+    requires few { length step.now.messages.now ≤ most_messages }
     requires notes { length notes.now ≤ MOST_NOTES }
     ensures { Puts (W.output writer.old) (W.output writer.new) result
         (aside_text (scene_at (S.desk sight.now) step.now) notes.now number) }

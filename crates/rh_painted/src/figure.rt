@@ -4,6 +4,7 @@ ghost use Rattle.std.specs.Prelude.{◌≤◌, length};
 ghost use Rattle.rh_lines.specs.Flow.{Puts};
 ghost use Rattle.rh_sheet.specs.Steps.{figure_text, memory_text};
 ghost use Rattle.rh_sight.specs.Steps.{IsStepOf, scene_at};
+ghost use Rattle.rh_defs.specs.Post.{most_messages};
 
 use crate::areas::print_area_headings;
 use crate::aside::print_aside;
@@ -26,7 +27,7 @@ pub fn print_figure<S: Sight, W: Sink>(
     writer: &mut W,
 ) -> Result<(), WriteFailed>
     requires step { IsStepOf (S.desk sight.now) step.now }
-    requires few { length step.now.messages.now ≤ 256 }
+    requires few { length step.now.messages.now ≤ most_messages }
     ensures { Puts (W.output writer.old) (W.output writer.new) result
         (figure_text (scene_at (S.desk sight.now) step.now) notes.now.items number) }
 {

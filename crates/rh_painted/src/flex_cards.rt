@@ -1,6 +1,7 @@
 //! The cards of a task's flex blocks.
 
 ghost use Rattle.std.specs.Prelude.{◌≡◌, ◌≤◌, ◌<◌, ◌-◌, ℕ, length, slice_get, take, Some};
+ghost use Rattle.rh_defs.specs.Slot.{anchor_count};
 ghost use Rattle.rh_defs.specs.Desk.{Task};
 ghost use Rattle.rh_defs.specs.Listing.{block_items};
 ghost use Rattle.rh_drawn.specs.Cards.{cards_behind};
@@ -33,7 +34,7 @@ pub fn put_flex_cards<S: Sight, W: Sink>(
 ) -> Result<(), WriteFailed>
     requires task { (t : Task) × (slice_get (S.desk sight.now).tasks i ≡ Some t) × IsTaskSeen task.now t
         × (blocks.now ≡ block_items t.slot) }
-    requires few { length blocks.now ≤ 64 }
+    requires few { length blocks.now ≤ anchor_count }
     requires height { IsFit form }
     ensures { (t : Task) → slice_get (S.desk sight.now).tasks i ≡ Some t →
         Puts (W.output writer.old) (W.output writer.new) result
@@ -86,7 +87,7 @@ fn put_behind<S: Sight, W: Sink>(
     requires task { (t : Task) × (slice_get (S.desk sight.now).tasks i ≡ Some t) × IsTaskSeen task.now t
         × (blocks.now ≡ block_items t.slot) }
     requires many { 24 < length blocks.now }
-    requires few { length blocks.now ≤ 64 }
+    requires few { length blocks.now ≤ anchor_count }
     requires height { IsFit form }
     ensures { (t : Task) → slice_get (S.desk sight.now).tasks i ≡ Some t →
         Puts (W.output writer.old) (W.output writer.new) result

@@ -17,8 +17,8 @@ ghost use Rattle.rh_sight.specs.Seen.{HasBlock, IsFree, heap_seen, heap_start_of
 ghost use Rattle.rh_sight.specs.Steps.{IsStepOf, scene_at};
 
 use crate::bands::{Form, put_card, put_others};
-use rh_defs::SegmentItem;
 use rh_defs::sizes::{HEAP_FIRST, WORD};
+use rh_defs::{MessageItem, SegmentItem};
 use rh_draw::{Card, Look};
 use rh_drawn::{
     Band, Survey, chain_place, front_length, is_changed, message_at, shown_count, take_survey,
@@ -30,7 +30,7 @@ use rh_map::{
     CardBlock, add_size, block_bytes, block_size, hole_name, message_name, message_place,
     message_way, used_name,
 };
-use rh_sight::{HeapOf, MessageItem, Sight, Step, heap_address, is_new_ref, place_of};
+use rh_sight::{HeapOf, Sight, Step, heap_address, is_new_ref, place_of};
 
 /// Writes the cards of a heap's segments, from below. Fails only where the writer failed or took none of what it was
 /// offered; a front of them is then written.

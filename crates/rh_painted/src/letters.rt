@@ -7,13 +7,14 @@ ghost use Rattle.rh_figure.specs.Figure.{letterboxes};
 ghost use Rattle.rh_lines.specs.Flow.{Puts};
 ghost use Rattle.rh_sheet.specs.Tables.{letterbox_row, messages_table};
 ghost use Rattle.rh_sight.specs.Steps.{IsStepOf, scene_at};
+ghost use Rattle.rh_defs.specs.Post.{most_messages};
 
-use rh_defs::{Handle, Name};
+use rh_defs::{Handle, MessageItem, Name};
 use rh_draw::print_letterbox_row;
 use rh_drawn::{has_letterboxes, has_letters, held_entry, waits_of};
 use rh_figure::limits::MOST_LISTED;
 use rh_lines::{Sink, WriteFailed, put};
-use rh_sight::{MessageItem, Sight, Step};
+use rh_sight::{Sight, Step};
 
 /// Writes the table of the messages of each task that has some. Fails only where the writer failed or took none of what
 /// it was offered; a front of the table is then written.
@@ -23,7 +24,7 @@ pub fn print_messages<S: Sight, W: Sink>(
     writer: &mut W,
 ) -> Result<(), WriteFailed>
     requires step { IsStepOf (S.desk sight.now) step.now }
-    requires few { length step.now.messages.now ≤ 256 }
+    requires few { length step.now.messages.now ≤ most_messages }
     ensures { Puts (W.output writer.old) (W.output writer.new) result
         (messages_table (letterboxes (scene_at (S.desk sight.now) step.now))) }
 {
@@ -47,7 +48,7 @@ fn print_letterboxes<S: Sight, W: Sink>(
     writer: &mut W,
 ) -> Result<(), WriteFailed>
     requires step { IsStepOf (S.desk sight.now) step.now }
-    requires few { length step.now.messages.now ≤ 256 }
+    requires few { length step.now.messages.now ≤ most_messages }
     ensures { Puts (W.output writer.old) (W.output writer.new) result
         (flat_map letterbox_row (letterboxes (scene_at (S.desk sight.now) step.now))) }
 {
@@ -67,7 +68,7 @@ fn print_letters<W: Sink>(
     messages: &[MessageItem],
     writer: &mut W,
 ) -> Result<(), WriteFailed>
-    requires { length messages.now ≤ 256 }
+    requires { length messages.now ≤ most_messages }
     ensures { Puts (W.output writer.old) (W.output writer.new) result
         (flat_map letterbox_row (letterboxes_in name.now handle messages.now)) }
 {

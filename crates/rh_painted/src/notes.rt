@@ -1,41 +1,54 @@
 //! What is kept of the last messages, step by step.
 
-ghost use Rattle.std.specs.Prelude.{◌≡◌, ◌∷◌, ◌++◌, [], map};
+ghost use Rattle.std.specs.Prelude.{◌≡◌, ◌≤◌, ◌∷◌, ◌++◌, [], length, map};
 ghost use Rattle.rh_painted.specs.Notes.{code_among};
-ghost use Rattle.rh_figure.specs.Scene.{Marks, scene_of};
+ghost use Rattle.rh_figure.specs.Scene.{Before, Marks, scene_of};
 ghost use Rattle.rh_figure.specs.Share.{Share};
 ghost use Rattle.rh_sheet.specs.Chart.{followed as note_after, last_of, note_of, noted};
 ghost use Rattle.rh_sheet.specs.declared.sizes.TheConstants.{MOST_NOTES};
 ghost use Rattle.rh_sight.specs.Messages.{message_items};
 ghost use Rattle.rh_sight.specs.Seen.{letter_seen};
+ghost use Rattle.rh_sight.specs.Steps.{IsSender};
 
 use arrayvec::ArrayVec;
-use rh_defs::{Letter, Ref};
+use rh_defs::{Letter, MessageItem, Ref};
 use rh_draw::followed;
 use rh_sheet::Note;
 use rh_sheet::sizes::MOST_NOTES;
-use rh_sight::{Kept, MessageItem, Sight, sent_by};
+use rh_sight::{Messages, Sender, Sight, sent_by};
 
 /// What is kept of the last messages, the oldest first.
 pub type Notes = ArrayVec<Note, MOST_NOTES>;
 
-/// Notes what has become of the last messages at a step with a number, and the letter that was sent at it, by what was
-/// kept of the desk before the step and the messages behind it.
+/// Notes what has become of the last messages at a step with a number, and the letter that was sent at it, by who may
+/// have sent one.
 pub fn note_step<S: Sight>(
     sight: &S,
-    kept: &Kept,
-    messages: &[MessageItem],
+    sender: Sender,
     number: u32,
+    messages: &mut Messages,
     notes: &mut Notes,
 )
-    requires { messages.now ≡ message_items (S.desk sight.now) }
-    ensures { (s : Share) (m : Marks) → notes.new.items
-        ≡ noted number (scene_of (S.desk sight.now) s kept.now m) notes.old.items }
+    ensures { (s : Share) (b : Before) (m : Marks) → IsSender sender b → notes.new.items
+        ≡ noted number (scene_of (S.desk sight.now) s b m) notes.old.items }
 {
-    follow_notes(number, messages, notes);
-    if let Some(sent) = sent_by(sight, kept) {
+    follow_messages(sight, number, messages, notes);
+    if let Some(sent) = sent_by(sight, sender) {
         keep_note(new_note(number, sent), notes);
     }
+}
+
+/// Notes what has become of each of the last messages. The list of those that are live is made only where one is noted.
+fn follow_messages<S: Sight>(sight: &S, number: u32, messages: &mut Messages, notes: &mut Notes)
+    ensures notes { notes.new.items ≡ map (λ n. note_after number (code_among n.my_ref (message_items
+        (S.desk sight.now))) n) notes.old.items }
+    ensures few { length notes.old.items ≤ MOST_NOTES }
+{
+    if notes.is_empty() {
+        return;
+    }
+    sight.messages(messages);
+    follow_notes(number, messages, notes);
 }
 
 /// Notes what has become of each of the last messages, of which these are live behind the step.

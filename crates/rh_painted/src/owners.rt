@@ -1,7 +1,7 @@
 //! The owners of pages, one after the other.
 
 ghost use Rattle.std.specs.Prelude.{◌≡◌, ◌≤◌, ◌<◌, ◌+◌, ◌++◌, IfNone, IfSome, length, slice_get, None};
-ghost use Rattle.rh_defs.specs.declared.sizes.TheConstants.{MAX_AREAS};
+ghost use Rattle.rh_defs.specs.declared.sizes.TheConstants.{FIXED_AREAS, MAX_AREAS};
 ghost use Rattle.rh_figure.specs.Share.{holdings};
 ghost use Rattle.rh_lines.specs.declared.row.TheConstants.{ROW};
 ghost use Rattle.rh_painted.specs.Owners.{IsOwnerSeen, name_seen, tag_seen, tint_seen, who_seen};
@@ -56,7 +56,7 @@ pub fn owner_at<S: Sight>(sight: &S, k: usize) -> Option<OwnerSight<'_>>
 
 /// One of areas 0 to 5.
 fn fixed_owner<S: Sight>(sight: &S, k: usize) -> OwnerSight<'_>
-    requires { k < 6 }
+    requires { k < FIXED_AREAS }
     ensures { IsOwnerSeen (S.desk sight.now) k result }
 {
     sight.spelled();
@@ -70,7 +70,7 @@ fn fixed_owner<S: Sight>(sight: &S, k: usize) -> OwnerSight<'_>
 
 /// The made area at a place in order of number.
 fn made_owner<S: Sight>(sight: &S, i: usize) -> Option<OwnerSight<'_>>
-    ensures some { IfSome result (λ o. IsOwnerSeen (S.desk sight.now) (6 + i) o) }
+    ensures some { IfSome result (λ o. IsOwnerSeen (S.desk sight.now) (FIXED_AREAS + i) o) }
     ensures none { IfNone result (slice_get (S.desk sight.now).made i ≡ None) }
 {
     sight.spelled();
@@ -86,7 +86,7 @@ fn made_owner<S: Sight>(sight: &S, i: usize) -> Option<OwnerSight<'_>>
 
 /// The slot of the task at a place in order of handle.
 fn slot_owner<S: Sight>(sight: &S, i: usize) -> Option<OwnerSight<'_>>
-    ensures some { IfSome result (λ o. IsOwnerSeen (S.desk sight.now) (6 + length (S.desk sight.now).made + i) o) }
+    ensures some { IfSome result (λ o. IsOwnerSeen (S.desk sight.now) (FIXED_AREAS + length (S.desk sight.now).made + i) o) }
     ensures none { IfNone result (slice_get (S.desk sight.now).tasks i ≡ None) }
 {
     sight.spelled();

@@ -1,20 +1,25 @@
 //! A sheet in the middle of its script.
 
-ghost use Rattle.std.specs.Prelude.{◌≡◌, ◌<◌, ◌+◌, ◌^◌, ◌==◌, ◌&&◌, ◌||◌, ◌++◌, not, nat_lt, ℕ, List, None, Some, Ok, Err, IfOk, IsTrue, OnErr, OnOk, length, true};
+ghost use Rattle.std.specs.Prelude.{◌≡◌, ◌<◌, ◌+◌, ◌^◌, ◌==◌, ◌&&◌, ◌||◌, ◌++◌, not, nat_lt, ℕ, List, None, Some, Ok, Err, IfOk, IsTrue, OnErr, OnOk, false, length, true};
 ghost use Rattle.std.specs.Bool.{OnTrue};
 ghost use Rattle.std.specs.Option.{option_map};
 ghost use Rattle.rh_defs.specs.Line.{words_of};
+ghost use Rattle.rh_defs.specs.Order.{IsReordered};
 ghost use Rattle.rh_defs.specs.Range.{in_range};
+ghost use Rattle.rh_defs.specs.Step.{step};
 ghost use Rattle.rh_drawn.specs.Replies.{Excerpts};
-ghost use Rattle.rh_figure.specs.Scene.{is_still as is_still_of};
-ghost use Rattle.rh_lines.specs.Flow.{Puts};
-ghost use Rattle.rh_painted.specs.Walks.{Broke, IsFirst, Painted, TookStep, WroteStep, happened_at, walk_in};
+ghost use Rattle.rh_figure.specs.Scene.{Before, Marks, is_still as is_still_of, scene_of};
+ghost use Rattle.rh_figure.specs.Share.{Share};
+ghost use Rattle.rh_lines.specs.Flow.{Output, Puts};
+ghost use Rattle.rh_painted.specs.Walks.{Broke, IsFirst, LeftStep, Painted, TookStep, WroteStep, happened_at, walk_in};
 ghost use Rattle.rh_session.specs.Outcome.{status_of};
-ghost use Rattle.rh_sheet.specs.Sheet.{opening, sheet_end, sheet_head};
+ghost use Rattle.rh_sheet.specs.Chart.{noted};
+ghost use Rattle.rh_sheet.specs.Sheet.{is_shown, opening, sheet_end, sheet_head};
 ghost use Rattle.rh_sheet.specs.Steps.{step_text};
 ghost use Rattle.rh_sheet.specs.declared.sizes.TheConstants.{MOST_STEPS};
 ghost use Rattle.rh_sight.specs.Messages.{message_items};
 ghost use Rattle.rh_sight.specs.Pages.{share_in};
+ghost use Rattle.rh_sight.specs.Steps.{IsSender};
 
 use crate::notes::{Notes, note_step};
 use crate::progress::Progress;
@@ -29,7 +34,7 @@ use rh_feed::LineTaker;
 use rh_lines::{Sink, WriteFailed, read_line};
 use rh_map::{Front, has_words};
 use rh_session::Status;
-use rh_sight::{Kept, Messages, PageList, is_still};
+use rh_sight::{Kept, Messages, PageList, Sender, is_still};
 use std::alloc::{AllocError, Global};
 
 /// A sheet in the middle of its script: what is drawn, whether marked steps alone are shown, whether a line was bad, how
@@ -104,6 +109,14 @@ impl<D: Drawn> Painter<D> {
         has_words(line) && self.progress.is_shown(self.marked, wanted)
     }
 
+    /// Whether the next command is shown.
+    fn shows_next(&self) -> bool
+        ensures value { result ≡ is_shown self.now.marked (walk_in D.desk self.now) self.now.progress.wanted }
+        ensures room { OnTrue result (self.now.progress.shown < MOST_STEPS) }
+    {
+        self.progress.is_shown(self.marked, self.progress.wanted())
+    }
+
     /// Does the command of a line, and shows the step where it is to be shown.
     fn carry_out<W: Sink>(
         &mut self,
@@ -119,6 +132,10 @@ impl<D: Drawn> Painter<D> {
             (W.output writer.new)) }
         ensures steps { self.new.progress.steps ≡ self.old.progress.steps + 1 }
     {
+        if !self.shows_next() {
+            self.pass(command);
+            return Ok(());
+        }
         self.drawn.messages(&mut self.messages);
         let kept = Kept::new(&self.drawn, Some(command), &self.messages);
         let (reply, count) = answer(&mut self.drawn, command, &mut self.front);
@@ -130,6 +147,43 @@ impl<D: Drawn> Painter<D> {
             wanted: self.progress.wanted(),
         };
         self.take_step(line, deed, writer)
+    }
+
+    /// Does a command whose step is left out.
+    fn pass(&mut self, command: &Command)
+        requires in_range { IsTrue (in_range command.now) }
+        requires room { self.old.progress.steps + 1 < 2 ^ 32 }
+        requires hidden { is_shown self.old.marked (walk_in D.desk self.old) self.old.progress.wanted ≡ false }
+        ensures left { (o : Output) (line : List ℕ) → Painted D.desk self.old o line (Ok (Some command.now)) self.new o }
+        ensures steps { self.new.progress.steps ≡ self.old.progress.steps + 1 }
+    {
+        let sender = Sender::new(&self.drawn, Some(command));
+        self.change(command);
+        self.leave_out(sender);
+    }
+
+    /// Does a command of a step that isn't shown. A question changes nothing.
+    fn change(&mut self, command: &Command)
+        requires { IsTrue (in_range command.now) }
+        ensures desk { IsReordered (step (D.desk self.old.drawn) command.now).0 (D.desk self.new.drawn) }
+        ensures rest { self.new ≡ record self.old { drawn = self.new.drawn } }
+    {
+        if let Command::Ask(_) = command {
+            return;
+        }
+        self.drawn.apply(command);
+    }
+
+    /// Leaves a step out, and notes what has become of the last messages at it.
+    fn leave_out(&mut self, sender: Sender)
+        requires room { self.old.progress.steps + 1 < 2 ^ 32 }
+        requires hidden { is_shown self.old.marked (walk_in D.desk self.old) self.old.progress.wanted ≡ false }
+        ensures left { (b : Before) → IsSender sender b → LeftStep D.desk self.old b self.new }
+        ensures steps { self.new.progress.steps ≡ self.old.progress.steps + 1 }
+    {
+        self.begin_step(sender);
+        self.drawn.spelled();
+        self.progress.leave_out();
     }
 
     /// Shows a line that is bad, where it is to be shown.
@@ -147,6 +201,11 @@ impl<D: Drawn> Painter<D> {
         ensures steps { self.new.progress.steps ≡ self.old.progress.steps + 1 }
     {
         self.has_bad_line = true;
+        if !self.shows_next() {
+            let sender = Sender::new(&self.drawn, None);
+            self.leave_out(sender);
+            return Ok(());
+        }
         self.drawn.messages(&mut self.messages);
         let kept = Kept::new(&self.drawn, None, &self.messages);
         let count = excerpt_fault(fault, &mut self.front);
@@ -162,7 +221,7 @@ impl<D: Drawn> Painter<D> {
         self.take_step(line, deed, writer)
     }
 
-    /// Notes what has become of the last messages, and writes the step or leaves it out.
+    /// Notes what has become of the last messages, and writes the step.
     fn take_step<W: Sink>(
         &mut self,
         line: &[u8],
@@ -170,6 +229,8 @@ impl<D: Drawn> Painter<D> {
         writer: &mut W,
     ) -> Result<(), WriteFailed>
         requires room { self.old.progress.steps + 1 < 2 ^ 32 }
+        requires few { self.old.progress.shown < MOST_STEPS }
+        requires shown { is_shown self.old.marked (walk_in D.desk self.old) self.old.progress.wanted ≡ true }
         requires wanted { deed.wanted ≡ self.old.progress.wanted }
         ensures text { (text : List ℕ) → Excerpts self.old.front.bytes deed.entry.count text →
             TookStep D.desk self.old (W.output writer.old) (W.output writer.new) result line.now
@@ -177,22 +238,29 @@ impl<D: Drawn> Painter<D> {
             (λ c. c.now) deed.entry.command) deed.entry.reply.now text) self.new }
         ensures steps { self.new.progress.steps ≡ self.old.progress.steps + 1 }
     {
-        self.progress.begin_step();
+        self.begin_step(deed.kept.sender());
         self.drawn.messages(&mut self.messages);
+        self.show(line, deed, writer)
+    }
+
+    /// Counts one more command, and notes what has become of the last messages behind it.
+    fn begin_step(&mut self, sender: Sender)
+        requires { self.old.progress.steps + 1 < 2 ^ 32 }
+        ensures next { self.new.progress ≡ record self.old.progress { steps = self.old.progress.steps + 1; wanted = false } }
+        ensures few { self.new.progress.left < self.new.progress.steps }
+        ensures notes { (s : Share) (b : Before) (m : Marks) → IsSender sender b → self.new.notes.items
+            ≡ noted (self.old.progress.steps + 1) (scene_of (D.desk self.old.drawn) s b m) self.old.notes.items }
+        ensures rest { self.new ≡ record self.old { progress = self.new.progress; messages = self.new.messages; notes = self.new.notes } }
+    {
+        self.progress.begin_step();
         let number = self.progress.steps();
         note_step(
             &self.drawn,
-            deed.kept,
-            &self.messages,
+            sender,
             number,
+            &mut self.messages,
             &mut self.notes,
         );
-        if self.progress.is_shown(self.marked, deed.wanted) {
-            return self.show(line, deed, writer);
-        }
-        self.drawn.spelled();
-        self.progress.leave_out();
-        Ok(())
     }
 
     /// Writes the beginning of the next step, if no remark has begun it.

@@ -2,6 +2,7 @@
 
 ghost use Rattle.std.specs.Prelude.{◌≡◌, ◌≤◌, ◌<◌, ◌∷◌, ◌++◌, [], codes, length};
 ghost use Rattle.std.specs.List.{concat, flat_map};
+ghost use Rattle.rh_defs.specs.Forms.{most_pages};
 ghost use Rattle.rh_defs.specs.declared.sizes.TheConstants.{MAX_PAGES};
 ghost use Rattle.rh_figure.specs.Phrases.{listed_numbers};
 ghost use Rattle.rh_figure.specs.Share.{holdings};
@@ -47,7 +48,7 @@ pub fn print_pool_figure<S: Sight, W: Sink>(
 fn pool_height(pages: u32) -> u32
     requires { pages ≤ MAX_PAGES }
     ensures value { result ≡ height_of_pool pages }
-    ensures few { result ≤ 1024 }
+    ensures few { result ≤ most_pages }
 {
     CELL * ((pages + (POOL_COLUMNS - 1)) / POOL_COLUMNS)
 }

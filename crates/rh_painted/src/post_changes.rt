@@ -11,12 +11,12 @@ ghost use Rattle.rh_lines.specs.Flow.{Puts};
 ghost use Rattle.rh_sheet.specs.Markup.{change_item};
 ghost use Rattle.rh_sight.specs.Steps.{IsStepOf, scene_at};
 
-use rh_defs::{Body, Letter, Ref};
+use rh_defs::{Body, Letter, MessageItem, Ref};
 use rh_draw::print_change;
 use rh_drawn::{goes_back, who_of};
 use rh_lines::{Sink, WriteFailed};
 use rh_map::{bytes_sent, message_returns, task_sends, task_takes};
-use rh_sight::{MessageItem, Sight, Step};
+use rh_sight::{Sight, Step};
 
 /// Writes which message goes back, which was taken and which was sent. Fails only where the writer failed or took none
 /// of what it was offered; a front of the elements is then written.

@@ -1,8 +1,8 @@
 //! The sheet of a whole script.
 
 ghost use Rattle.std.specs.Prelude.{◌≡◌, ◌≤◌, true, IfOk, IsErrOf};
+ghost use Rattle.rh_defs.specs.declared.sizes.TheConstants.{MOST_READS};
 ghost use Rattle.rh_defs.specs.Desk.{Desk};
-ghost use Rattle.rh_feed.specs.Taken.{too_many_reads};
 ghost use Rattle.rh_painted.specs.Painted.{Painted, PaintedSoFar, PaintedUntil};
 
 use crate::painter::Painter;
@@ -40,7 +40,7 @@ pub fn paint_script<D: Drawn, R: Source, W: Sink>(
         PaintedSoFar marked name.now d (R.input reader.old) (R.input reader.new) (W.output writer.old)
         (W.output writer.new) }
     ensures too_long { IsErrOf result RunFault.TooLong →
-        ((R.input reader.new).reads ≡ too_many_reads) × ((R.input reader.new).failed ≡ (R.input reader.old).failed) }
+        ((R.input reader.new).reads ≡ MOST_READS) × ((R.input reader.new).failed ≡ (R.input reader.old).failed) }
     ensures long_painted { IsErrOf result RunFault.TooLong → (d : Desk) → D.spells drawn d →
         PaintedSoFar marked name.now d (R.input reader.old) (R.input reader.new) (W.output writer.old)
         (W.output writer.new) }
@@ -51,7 +51,7 @@ pub fn paint_script<D: Drawn, R: Source, W: Sink>(
         (W.output writer.new) }
 
     // However it ends, at most so many reads gave bytes.
-    ensures reads { (R.input reader.new).reads ≤ too_many_reads }
+    ensures reads { (R.input reader.new).reads ≤ MOST_READS }
 {
     let Ok(mut painter) = Painter::new(alloc, drawn, marked) else {
         return Err(RunFault::NoMemory);

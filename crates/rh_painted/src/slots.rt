@@ -3,7 +3,7 @@
 ghost use Rattle.std.specs.Prelude.{◌≡◌, ◌<◌, length, slice_get, Some};
 ghost use Rattle.std.specs.List.{AllByRecursion, flat_map};
 ghost use Rattle.rh_defs.specs.Desk.{Task};
-ghost use Rattle.rh_defs.specs.Slot.{slot_length};
+ghost use Rattle.rh_defs.specs.Slot.{anchor_count, slot_length};
 ghost use Rattle.rh_defs.specs.declared.listing.BlockItem.{BlockItem};
 ghost use Rattle.rh_draw.specs.Rows.{plot_of};
 ghost use Rattle.rh_figure.specs.Figure.{slot_note};
@@ -280,7 +280,7 @@ fn flex_end(plot: &Plot<'_>) -> usize
 
 /// Writes ticks in the anchor words of blocks, in a row at a height.
 fn print_ticks<W: Sink>(y: u32, blocks: &[BlockItem], writer: &mut W) -> Result<(), WriteFailed>
-    requires { AllByRecursion (λ (b : BlockItem). b.anchor < 64) blocks.now }
+    requires { AllByRecursion (λ (b : BlockItem). b.anchor < anchor_count) blocks.now }
     ensures { Puts (W.output writer.old) (W.output writer.new) result (ticks_text y blocks.now) }
 {
     for block in blocks {

@@ -8,6 +8,7 @@ ghost use Rattle.rh_figure.specs.Phrases.{where_so};
 ghost use Rattle.rh_lines.specs.Flow.{Puts};
 ghost use Rattle.rh_sheet.specs.Steps.{changes_text, said_end, step_end, step_text};
 ghost use Rattle.rh_sight.specs.Steps.{IsStepOf, scene_at};
+ghost use Rattle.rh_defs.specs.Post.{most_messages};
 
 use crate::block_changes::print_block_changes;
 use crate::figure::print_figure;
@@ -37,7 +38,7 @@ pub fn print_step<S: Sight, W: Sink>(
     writer: &mut W,
 ) -> Result<(), WriteFailed>
     requires step { IsStepOf (S.desk sight.now) step.now }
-    requires few { length step.now.messages.now ≤ 256 }
+    requires few { length step.now.messages.now ≤ most_messages }
     ensures { (reply : List ℕ) → Excerpts above.now.front.now above.now.count reply → Puts (W.output writer.old) (W.output writer.new) result
         (step_text above.now.is_still above.now.number above.now.line.now reply (scene_at (S.desk sight.now) step.now) notes.now.items last) }
 {

@@ -8,5 +8,4 @@ mod records;
 mod sender;
 
 pub use receiver::Receiver;
-pub use records::MOST_RECORDS;
 pub use sender::Sender;

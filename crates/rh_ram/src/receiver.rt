@@ -8,8 +8,9 @@ ghost use Rattle.rh_defs.specs.Records.{in_id, is_going, with_id, is_full as is_
 ghost use Rattle.rh_defs.specs.Receiver as receiver;
 
 use crate::finding::{first_active, first_asking};
-use crate::records::{MOST_RECORDS, Record, is_full, is_meant, make_room, rewrite};
+use crate::records::{Record, is_full, is_meant, make_room, rewrite};
 use arrayvec::ArrayVec;
+use rh_defs::sizes::MOST_RECORDS;
 use rh_defs::{Anchor, Asked, Handle, Incoming, Ref, Refusal, Taking};
 use std::marker::Model;
 

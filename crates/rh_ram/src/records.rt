@@ -7,10 +7,8 @@ ghost use Rattle.rh_defs.specs.Records.{out_id, in_id, is_open, is_going, is_ful
 ghost use Rattle.rh_ram.specs.Rooms.{roomy};
 
 use arrayvec::ArrayVec;
+use rh_defs::sizes::MOST_RECORDS;
 use rh_defs::{Incoming, Outgoing, Ref};
-
-/// A task has at most so many records each way.
-pub const MOST_RECORDS: usize = 8;
 
 /// A record of a transfer, whichever way it goes.
 pub(crate) trait Record: Copy + Default {

@@ -7,8 +7,9 @@ ghost use Rattle.rh_defs.specs.Records.{open_of, is_meant as is_meant_by, is_ope
 ghost use Rattle.rh_defs.specs.Sender as sender;
 
 use crate::finding::first_open;
-use crate::records::{MOST_RECORDS, is_full, is_meant, make_room, rewrite};
+use crate::records::{is_full, is_meant, make_room, rewrite};
 use arrayvec::ArrayVec;
+use rh_defs::sizes::MOST_RECORDS;
 use rh_defs::{Anchor, Handle, Outgoing, Ref, Refusal, Sending};
 use std::marker::Model;
 

@@ -4,7 +4,7 @@ use Rattle.std.specs.Prelude.{◌==◌, if◌then◌else◌, find}
 use Rattle.std.specs.Option.{option_map}
 use Rattle.rh_defs.specs.Bytes.{word}
 use Rattle.rh_defs.specs.Pieces.{Split, total}
-use Rattle.rh_defs.specs.Slot.{Flex, Slot, weight, slot_start, slot_length, flex_weight, HaveAnchors}
+use Rattle.rh_defs.specs.Slot.{Flex, Slot, weight, slot_start, slot_length, flex_weight, HaveAnchors, anchor_count}
 use Rattle.rh_defs.specs.SlotImage.{Lie, Hang, SlotWords, SpellsSlot, flex_place}
 use Rattle.rh_defs.specs.Desk.{Task}
 use Rattle.rh_defs.proofs.SlotLaws as slots
@@ -28,7 +28,7 @@ block-stands b s k w t =
     let lie = (slots.Lie-split b (flex_place s) t.before (t.here ∷ t.after) (subst (Lie b (flex_place s)) t.is w.lie)).1 in
     let hang = (slots.Hang-split b (flex_place s) t.before (t.here ∷ t.after) (subst (Hang b (flex_place s)) t.is w.hang)).1 in
     let cut = slots.HaveAnchors-cut t.before t.here t.after (subst HaveAnchors t.is w.anchors) in
-    let small : t.here.anchor < 64 = cut.small in
+    let small : t.here.anchor < anchor_count = cut.small in
     let anchor : t.here.anchor ≡ k = t.anchor in
     let within : slot_length s ≤ length b = w.within in
     let sum : total weight s.blocks ≡ total weight t.before + (weight t.here + total weight t.after) =

@@ -1,6 +1,8 @@
 -- A run goes on command by command.
 use Rattle.std.proofs.Common.{◌≡◌, ℕ, zero, suc, ◌+◌, ◌<◌, ◌≤◌, true, List, [], ◌∷◌, ◌++◌, length, get_or, take, sym, ap, subst, ◌∙◌, arith}
 use Rattle.std.proofs.lemmas.List.{take_more}
+use Rattle.rh_defs.specs.declared.sizes.TheConstants.{MIN_PAGES}
+use Rattle.rh_defs.specs.Forms.{most_pages}
 use Rattle.rh_defs.specs.Desk.{Desk}
 use Rattle.rh_defs.specs.Files.{FileList}
 use Rattle.rh_defs.specs.Range.{in_range, all_in_range}
@@ -16,7 +18,7 @@ in-range-at [] i d a l = absurd (omega arith)
 in-range-at (c ∷ cs) zero d a l = and_left (in_range c) (all_in_range cs) a
 in-range-at (c ∷ cs) (suc i) d a l = in-range-at cs i d (and_right (in_range c) (all_in_range cs) a) (omega arith)
 
-pub run-begins : RunsBegin → (pages : ℕ) (files : FileList) (s : Shown) → 8 ≤ pages → pages ≤ 1024 →
+pub run-begins : RunsBegin → (pages : ℕ) (files : FileList) (s : Shown) → MIN_PAGES ≤ pages → pages ≤ most_pages →
     s.desk ≡ start pages files → HasRun (start pages files) [] s
 run-begins begins pages files s least most e =
     begins pages 1 1 files s (record {

@@ -1,5 +1,7 @@
 -- A run over a fresh desk loses no byte of a transfer.
 use Rattle.std.proofs.Common.{ℕ, ◌≤◌}
+use Rattle.rh_defs.specs.declared.sizes.TheConstants.{MIN_PAGES}
+use Rattle.rh_defs.specs.Forms.{most_pages}
 use Rattle.rh_defs.specs.Files.{FileList}
 use Rattle.rh_defs.specs.Runs.{start}
 use Rattle.rh_defs.specs.Script.{ended_text, script_text}
@@ -9,7 +11,7 @@ use Rattle.rh_session.specs.Outcome.{Answered, Finished}
 use Rattle.rh_safety.proofs.SeenLaws.{scripts_are_safe}
 use Rattle.rh_run.specs.Safely.{RanSafely}
 
-module _ (pages : ℕ) (files : FileList) (least : 8 ≤ pages) (most : pages ≤ 1024) {before after : Input} {old new : Output} where
+module _ (pages : ℕ) (files : FileList) (least : MIN_PAGES ≤ pages) (most : pages ≤ most_pages) {before after : Input} {old new : Output} where
   -- where the whole script was read
   pub finished_safely : (status : Status) → Finished (start pages files) before after old new status → RanSafely script_text (start pages files) before after old new
   finished_safely status f = record {

@@ -2,6 +2,7 @@
 use Rattle.std.proofs.Common.{◌≡◌, ℕ, zero, suc, ◌+◌, ◌*◌, ◌<◌, ◌≤◌, refl, ap, ap₂, sym, subst, ◌∙◌, arith, List, [], ◌∷◌, ◌++◌, length, get_or, map, take}
 use Rattle.std.specs.List.{AllByRecursion, enumerate_from}
 use Rattle.std.proofs.lemmas.List.{append-nil, append_assoc, length-append, length-map, map-append, take_all}
+use Rattle.rh_defs.specs.Forms.{most_pages}
 use Rattle.rh_defs.specs.Desk.{Desk, Made, Task, free_pages}
 use Rattle.rh_defs.specs.Laws.{IsDesk}
 use Rattle.rh_defs.specs.Memory.{IsOpen, Memory, bytes}
@@ -107,7 +108,7 @@ module _ (store : PagedStore) (areas : List AreaId) (s : Shown) (w : StandsIn (m
   all-long : length (free_of store ++ all_of pages ids) ≡ s.desk.pool
   all-long = length-numbers pages (free_of store) ids s.desk is frees fits-holdings
 
-  pub free-fits : (memory_of store).free ≤ 1024
+  pub free-fits : (memory_of store).free ≤ most_pages
   free-fits = let used = is.pages in let pool = is.pool in omega (arith, w.free, k.free)
 
   -- an area, and the pages that are listed before its own
@@ -116,7 +117,7 @@ module _ (store : PagedStore) (areas : List AreaId) (s : Shown) (w : StandsIn (m
     area-opened l = subst (IsOpen (memory_of store)) (numbers-at areas i)
         (all-at (IsOpen (memory_of store)) ids i 0 (omega (arith, length-map areas (λ (a : AreaId). a.0))) w.opened)
 
-    pub area-fits : i < length areas → page * length items + length (bytes (memory_of store) (area i)) ≤ page * 1024
+    pub area-fits : i < length areas → page * length items + length (bytes (memory_of store) (area i)) ≤ page * most_pages
     area-fits l =
         let pool = is.pool in
         let inside : i < length ids = omega (arith, length-map areas (λ (a : AreaId). a.0)) in

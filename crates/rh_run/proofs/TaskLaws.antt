@@ -5,6 +5,7 @@ use Rattle.std.specs.Option.{option_map}
 use Rattle.std.specs.Result.{MatchResult}
 use Rattle.std.proofs.lemmas.Bool.{ne_eqb}
 use Rattle.std.proofs.lemmas.Bool.Decides.{nat_tests}
+use Rattle.rh_defs.specs.declared.sizes.TheConstants.{SEGMENTS_AT_ONCE}
 use Rattle.rh_defs.specs.declared.listing.BlockItem.{BlockItem}
 use Rattle.rh_defs.specs.declared.listing.SegmentItem.{SegmentItem}
 use Rattle.rh_defs.specs.declared.refusal.Refusal.{Refusal}
@@ -179,6 +180,6 @@ block-same h place xs ys s a b =
 -- ---- segments from a place on
 pub items-from : (start : ℕ) (h : Heap) (place : ℕ) (items : List SegmentItem) → IsTidy false h.segments → items ≡ items_at start place h
     → (below rest : List Segment)
-    → h.segments ≡ below ++ rest → place ≡ place_after below → items ≡ take 64 (segment_items_from (start + place) rest)
+    → h.segments ≡ below ++ rest → place ≡ place_after below → items ≡ take SEGMENTS_AT_ONCE (segment_items_from (start + place) rest)
 items-from start h place items tidy e below rest whole at = e
-    ∙ ap (λ r. take 64 (segment_items_from (start + place) r)) (from_place h tidy below rest place whole at)
+    ∙ ap (λ r. take SEGMENTS_AT_ONCE (segment_items_from (start + place) r)) (from_place h tidy below rest place whole at)

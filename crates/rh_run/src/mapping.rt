@@ -1,10 +1,9 @@
 //! The map of a whole script over a fresh desk.
 
 ghost use Rattle.std.specs.Prelude.{◌≡◌, ◌≤◌, true, IfOk, IsErrOf};
-ghost use Rattle.rh_defs.specs.declared.sizes.TheConstants.{MAX_PAGES, MIN_PAGES};
+ghost use Rattle.rh_defs.specs.declared.sizes.TheConstants.{MAX_PAGES, MIN_PAGES, MOST_READS};
 ghost use Rattle.rh_drawn.specs.Mapped.{Mapped, MappedSoFar, MappedUntil};
 ghost use Rattle.rh_figure.specs.Map.{first_place};
-ghost use Rattle.rh_session.specs.Outcome.{too_many_reads};
 
 use crate::world::PagedWorld;
 use rh_defs::Files;
@@ -36,14 +35,14 @@ pub fn draw_map<R: Source, W: Sink>(
     // The map of the complete lines that were read has been written.
     ensures read_failed { IsErrOf result RunFault.ReadFailed → (R.input reader.new).failed ≡ true }
     ensures read_mapped { IsErrOf result RunFault.ReadFailed → MappedSoFar marked (first_place pages files) (R.input reader.old) (R.input reader.new) (W.output writer.old) (W.output writer.new) }
-    ensures too_long { IsErrOf result RunFault.TooLong → ((R.input reader.new).reads ≡ too_many_reads) × ((R.input reader.new).failed ≡ (R.input reader.old).failed) }
+    ensures too_long { IsErrOf result RunFault.TooLong → ((R.input reader.new).reads ≡ MOST_READS) × ((R.input reader.new).failed ≡ (R.input reader.old).failed) }
     ensures long_mapped { IsErrOf result RunFault.TooLong → MappedSoFar marked (first_place pages files) (R.input reader.old) (R.input reader.new) (W.output writer.old) (W.output writer.new) }
 
     // The writer failed, and took a front of the map of some lines.
     ensures write_failed { IsErrOf result RunFault.WriteFailed → MappedUntil marked (first_place pages files) (R.input reader.old) (R.input reader.new) (W.output writer.old) (W.output writer.new) }
 
     // However it ends, at most so many reads gave bytes.
-    ensures reads { (R.input reader.new).reads ≤ too_many_reads }
+    ensures reads { (R.input reader.new).reads ≤ MOST_READS }
 {
     match PagedWorld::new(alloc, files, pages) {
         Ok(world) => map_script(alloc, world, marked, reader, writer),

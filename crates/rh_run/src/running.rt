@@ -4,8 +4,8 @@ ghost use Rattle.std.specs.Prelude.{◌≡◌, ◌≤◌, true, IfOk, IsErrOf};
 ghost use Rattle.rh_defs.specs.Runs.{start};
 ghost use Rattle.rh_defs.specs.Script.{ended_text, script_text};
 ghost use Rattle.rh_run.specs.Safely.{RanSafely};
-ghost use Rattle.rh_session.specs.Outcome.{Answered, Finished, BrokeOff, too_many_reads};
-ghost use Rattle.rh_defs.specs.declared.sizes.TheConstants.{MAX_PAGES, MIN_PAGES};
+ghost use Rattle.rh_session.specs.Outcome.{Answered, Finished, BrokeOff};
+ghost use Rattle.rh_defs.specs.declared.sizes.TheConstants.{MAX_PAGES, MIN_PAGES, MOST_READS};
 
 use crate::world::PagedWorld;
 use rh_defs::Files;
@@ -39,7 +39,7 @@ pub fn run<R: Source, W: Sink>(
     ensures read_failed { IsErrOf result RunFault.ReadFailed → (R.input reader.new).failed ≡ true }
     ensures read_answered { IsErrOf result RunFault.ReadFailed → Answered (start pages files) (R.input reader.old) (R.input reader.new) (W.output writer.old) (W.output writer.new) }
     ensures read_safe { IsErrOf result RunFault.ReadFailed → RanSafely ended_text (start pages files) (R.input reader.old) (R.input reader.new) (W.output writer.old) (W.output writer.new) }
-    ensures too_long { IsErrOf result RunFault.TooLong → ((R.input reader.new).reads ≡ too_many_reads) × ((R.input reader.new).failed ≡ (R.input reader.old).failed) }
+    ensures too_long { IsErrOf result RunFault.TooLong → ((R.input reader.new).reads ≡ MOST_READS) × ((R.input reader.new).failed ≡ (R.input reader.old).failed) }
     ensures long_answered { IsErrOf result RunFault.TooLong → Answered (start pages files) (R.input reader.old) (R.input reader.new) (W.output writer.old) (W.output writer.new) }
     ensures long_safe { IsErrOf result RunFault.TooLong → RanSafely ended_text (start pages files) (R.input reader.old) (R.input reader.new) (W.output writer.old) (W.output writer.new) }
 
@@ -47,7 +47,7 @@ pub fn run<R: Source, W: Sink>(
     ensures write_failed { IsErrOf result RunFault.WriteFailed → BrokeOff (start pages files) (R.input reader.old) (W.output writer.old) (W.output writer.new) }
 
     // However it ends, at most so many reads gave bytes.
-    ensures reads { (R.input reader.new).reads ≤ too_many_reads }
+    ensures reads { (R.input reader.new).reads ≤ MOST_READS }
 {
     match PagedWorld::new(alloc, files, pages) {
         Ok(world) => run_script(alloc, world, reader, writer),

@@ -2,9 +2,8 @@
 
 ghost use Rattle.std.specs.Prelude.{◌≡◌, ◌≤◌, true, IfOk, IsErrOf};
 ghost use Rattle.rh_defs.specs.Runs.{start};
-ghost use Rattle.rh_defs.specs.declared.sizes.TheConstants.{MAX_PAGES, MIN_PAGES};
+ghost use Rattle.rh_defs.specs.declared.sizes.TheConstants.{MAX_PAGES, MIN_PAGES, MOST_READS};
 ghost use Rattle.rh_painted.specs.Painted.{Painted, PaintedSoFar, PaintedUntil};
-ghost use Rattle.rh_session.specs.Outcome.{too_many_reads};
 
 use crate::world::PagedWorld;
 use rh_defs::Files;
@@ -38,14 +37,14 @@ pub fn draw_sheet<R: Source, W: Sink>(
     // The sheet of the complete lines that were read has been written, without its end.
     ensures read_failed { IsErrOf result RunFault.ReadFailed → (R.input reader.new).failed ≡ true }
     ensures read_painted { IsErrOf result RunFault.ReadFailed → PaintedSoFar marked name.now (start pages files) (R.input reader.old) (R.input reader.new) (W.output writer.old) (W.output writer.new) }
-    ensures too_long { IsErrOf result RunFault.TooLong → ((R.input reader.new).reads ≡ too_many_reads) × ((R.input reader.new).failed ≡ (R.input reader.old).failed) }
+    ensures too_long { IsErrOf result RunFault.TooLong → ((R.input reader.new).reads ≡ MOST_READS) × ((R.input reader.new).failed ≡ (R.input reader.old).failed) }
     ensures long_painted { IsErrOf result RunFault.TooLong → PaintedSoFar marked name.now (start pages files) (R.input reader.old) (R.input reader.new) (W.output writer.old) (W.output writer.new) }
 
     // The writer failed, and took a front of the sheet of some lines.
     ensures write_failed { IsErrOf result RunFault.WriteFailed → PaintedUntil marked name.now (start pages files) (R.input reader.old) (R.input reader.new) (W.output writer.old) (W.output writer.new) }
 
     // However it ends, at most so many reads gave bytes.
-    ensures reads { (R.input reader.new).reads ≤ too_many_reads }
+    ensures reads { (R.input reader.new).reads ≤ MOST_READS }
 {
     match PagedWorld::new(alloc, files, pages) {
         Ok(world) => paint_script(alloc, world, marked, name, reader, writer),

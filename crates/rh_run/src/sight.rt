@@ -12,9 +12,7 @@ use rh_defs::{BlockItem, SegmentItem};
 use rh_drawn::Drawn;
 use rh_mapped::Mapped;
 use rh_pages::PagedStore;
-use rh_sight::{
-    AreaSight, HeapOf, MessageItem, Messages, PageList, ScrapSight, Segments, Sight, TaskSight,
-};
+use rh_sight::{AreaSight, HeapOf, Messages, PageList, ScrapSight, Segments, Sight, TaskSight};
 use rh_store::{AreaId, Pages, Sited, Words};
 use rh_tasks::{AreaEntry, share_law};
 
@@ -129,20 +127,7 @@ impl Sight for PagedWorld {
 
     fn messages(&self, list: &mut Messages) {
         self.world.spelled();
-        let mut items = ArrayVec::new();
-        self.world.messages(&mut items);
-        list.clear();
-        for item in items.as_slice() {
-            list.push(MessageItem {
-                block: item.block,
-                to: item.to,
-                from: item.from,
-                my_ref: item.my_ref,
-                action: item.action,
-                code: item.code,
-                held: item.held,
-            });
-        }
+        self.world.messages(list);
     }
 
     fn fixed_pages(&self, number: u32) -> u32 {

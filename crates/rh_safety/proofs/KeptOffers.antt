@@ -11,7 +11,7 @@ use Rattle.rh_defs.specs.declared.transfer.Incoming.{Incoming}
 use Rattle.rh_defs.specs.Chain.{found_or}
 use Rattle.rh_defs.specs.Pieces.{zeros}
 use Rattle.rh_defs.specs.Heap.{block_room}
-use Rattle.rh_defs.specs.Slot.{Slot, slot_claim, slot_alloc, is_used, block_of, weight, flex_start}
+use Rattle.rh_defs.specs.Slot.{Slot, slot_claim, slot_alloc, is_used, block_of, weight, flex_start, anchor_count}
 use Rattle.rh_defs.specs.Messages.{Parcel, action_of}
 use Rattle.rh_defs.specs.Letters.{fetch_letter}
 use Rattle.rh_defs.specs.Records.{is_going, is_full}
@@ -83,7 +83,7 @@ module _ (d : Desk) (t : Task) (m : Parcel) (is : task_of t.handle d.tasks ≡ S
       let bytes : List ℕ = zeros (block_room t.buffer) in
       let claimed = claim_is (free_pages d) t.buffer t.slot c e2 in
       let added = alloc_is (free_pages (with_slot t.handle c.0 d)) k 0 c.0 p e3 in
-      let unused = free_is 0 64 t.slot k (is_found (free_anchor t.slot) AnchorInUse k e1) in
+      let unused = free_is 0 anchor_count t.slot k (is_found (free_anchor t.slot) AnchorInUse k e1) in
       let none : blocks_of t.slot k ≡ None = (flex.edits weight (flex_start t.slot) k t.slot.blocks).unused
       (not_some (block_of k t.slot) unused) in
       let d1 : Desk = with_slot h p.0 d in

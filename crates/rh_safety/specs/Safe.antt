@@ -3,6 +3,7 @@ use Rattle.std.specs.Prelude.{◌≡◌, ◌≤◌, ℕ, true, List, length, Som
 use Rattle.std.specs.List.{Contains}
 use Rattle.std.specs.Option.{option_map}
 use Rattle.std.specs.Io.{StartsWith}
+use Rattle.rh_defs.specs.declared.sizes.TheConstants.{MIN_PAGES}
 use Rattle.rh_defs.specs.declared.command.Command.{Command}
 use Rattle.rh_defs.specs.declared.transfer.Outgoing.TheVariants as outgoing
 use Rattle.rh_defs.specs.declared.transfer.Incoming.TheVariants as incoming
@@ -48,5 +49,5 @@ pub record IsSafeScript (d : Desk) (script : List ℕ) : Type 0 where
 -- so it is of each script over a fresh desk
 abbrev pub ScriptsAreSafe : Type 0
 ScriptsAreSafe =
-    (pages : ℕ) (files : FileList) (script : List ℕ) → 8 ≤ pages → pages ≤ most_pages →
+    (pages : ℕ) (files : FileList) (script : List ℕ) → MIN_PAGES ≤ pages → pages ≤ most_pages →
     IsSafeScript (start pages files) script

@@ -13,7 +13,7 @@ use Rattle.rh_defs.specs.declared.transfer.Incoming.{Incoming}
 use Rattle.rh_defs.specs.Chain.{Granted, ◌>>=◌, ◌>>◌, refuse_if, found_or}
 use Rattle.rh_defs.specs.Pieces.{Split, behind, first_at, total}
 use Rattle.rh_defs.specs.Laws.{IsDesk}
-use Rattle.rh_defs.specs.Slot.{Slot, Flex, slot_pages, slot_length, IsSlot, HaveAnchors, weight, flex_start, block_of, slot_block}
+use Rattle.rh_defs.specs.Slot.{Slot, Flex, slot_pages, slot_length, IsSlot, HaveAnchors, weight, flex_start, block_of, slot_block, anchor_count}
 use Rattle.rh_defs.specs.Desk.{Desk, Task, task_pages, has_name, named}
 use Rattle.rh_defs.specs.Listing.{Bytes, shown_at, status_at}
 use Rattle.rh_defs.specs.Questions.{Told, show}
@@ -112,26 +112,26 @@ answered_part (Err e) answer bytes old new offset a r h =
 
 -- ---- anchors that no slot has
 
-none_has : (k place : ℕ) (blocks : List Flex) → HaveAnchors blocks → 64 ≤ k → first_at weight (λ _ b. b.anchor == k) place blocks ≡ None
+none_has : (k place : ℕ) (blocks : List Flex) → HaveAnchors blocks → anchor_count ≤ k → first_at weight (λ _ b. b.anchor == k) place blocks ≡ None
 none_has k place [] all past = refl
 none_has k place (b ∷ blocks) all past = go (b.anchor == k) refl (none_has k (place + weight b) blocks all.2 past)
   where
     go : (t : Bool) → (b.anchor == k) ≡ t → first_at weight (λ _ x. x.anchor == k) (place + weight b) blocks ≡ None → cond t (Some (record { before = []; here = b; after = blocks })) (option_map (behind b) (first_at weight (λ _ x. x.anchor == k) (place + weight b) blocks)) ≡ None
-    go true e h = let low : b.anchor < 64 = all.0 in absurd (grind (arith, tests))
+    go true e h = let low : b.anchor < anchor_count = all.0 in absurd (grind (arith, tests))
     go false e h = ap (option_map (behind b)) h
 
-no_block : (k : ℕ) (s : Slot) → IsSlot s → 64 ≤ k → slot_block k s ≡ Err NoBlock
+no_block : (k : ℕ) (s : Slot) → IsSlot s → anchor_count ≤ k → slot_block k s ≡ Err NoBlock
 unfolding slot_block found_or
 no_block k s is past = ap (λ o. found_or o NoBlock) (none_has k (flex_start s) s.blocks is.anchors past)
 
-missed : {A : Type 0} (o : Option Task) (k : ℕ) (one : Task → A) (x : A) → IsSlot (slot_in o) → 64 ≤ k → (found_or o NoName >>= λ t. Ok (one t)) ≡ Ok x
+missed : {A : Type 0} (o : Option Task) (k : ℕ) (one : Task → A) (x : A) → IsSlot (slot_in o) → anchor_count ≤ k → (found_or o NoName >>= λ t. Ok (one t)) ≡ Ok x
     → (found_or o NoName >>= λ t. slot_block k t.slot >>= λ b. (let r : Granted Told = Ok (reply.Shown (length b.here.bytes), Bytes b.here.bytes) in r)) ≡ Err NoBlock
 unfolding ◌>>=◌ found_or
 missed None k one x is past e = absurd (cc)
 missed (Some t) k one x is past e = rw (no_block k t.slot is past) refl
 
 -- a task has no block at such an anchor
-pub shows_none : (d : Desk) (name : List ℕ) (k h : ℕ) (out : List Outgoing) (taken : List Incoming) → IsSlot (slot_named name d) → 64 ≤ k → status_at d name ≡ Ok (h, out, taken) → show d name k ≡ Err NoBlock
+pub shows_none : (d : Desk) (name : List ℕ) (k h : ℕ) (out : List Outgoing) (taken : List Incoming) → IsSlot (slot_named name d) → anchor_count ≤ k → status_at d name ≡ Ok (h, out, taken) → show d name k ≡ Err NoBlock
 unfolding status_at show named
 shows_none d name k h out taken is past e = missed (find (has_name name) d.tasks) k _ _ is past e
 

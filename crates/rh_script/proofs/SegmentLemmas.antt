@@ -7,6 +7,7 @@ use Rattle.std.proofs.lemmas.Grind.{flat_map-append}
 use Rattle.std.specs.List.{AllByRecursion, flat_map}
 use Rattle.std.specs.Option.{option_map}
 use borrow.Author.Tests.{tests}
+use Rattle.rh_defs.specs.declared.sizes.TheConstants.{SEGMENTS_AT_ONCE}
 use Rattle.rh_defs.specs.declared.listing.SegmentItem.{SegmentItem}
 use Rattle.rh_defs.specs.Pieces.{Split, behind, first_at, total}
 use Rattle.rh_defs.specs.Heap.{Segment, Used, Hole, Heap, IsTidy, IsHeap, size_of, first_place, place_after, segment_at}
@@ -107,11 +108,11 @@ pub walk_none : (segments : List Segment) (o : Output) → Walked segments 16 o 
 walk_none segments o = record { before = []; after = segments; whole = refl; stands = refl; written = takes_none o }
 
 -- what is read at the place
-there : (h : Heap) (place : ℕ) {o n : Output} (items : List SegmentItem) → IsHeap h → (w : Walked h.segments place o n) → items ≡ segment_items_at place h → items ≡ segment_items_from (heap_start + place) (take 64 w.after)
+there : (h : Heap) (place : ℕ) {o n : Output} (items : List SegmentItem) → IsHeap h → (w : Walked h.segments place o n) → items ≡ segment_items_at place h → items ≡ segment_items_from (heap_start + place) (take SEGMENTS_AT_ONCE w.after)
 there h place items is w e =
     let all : AllSized (w.before ++ w.after) = (let P : List Segment → Type 0 = AllSized in subst P (sym w.whole) (sized false h.segments is.tidy)) in
     let after : from_cut (segment_at place h) ≡ w.after = ap (λ gs. from_cut (first_at size_of (λ q g. place == q) first_place gs)) (sym w.whole) ∙ at_place first_place place w.before w.after (sized-front w.before w.after all) w.stands in
-    e ∙ (ap (λ gs. take 64 (segment_items_from (heap_start + place) gs)) after ∙ items_taken 64 (heap_start + place) w.after)
+    e ∙ (ap (λ gs. take SEGMENTS_AT_ONCE (segment_items_from (heap_start + place) gs)) after ∙ items_taken SEGMENTS_AT_ONCE (heap_start + place) w.after)
 
 -- the lines up to some segments and their own
 lines_more : (place : ℕ) (before front : List Segment) → place ≡ place_after before → lines (before ++ front) ≡ lines before ++ flat_map segment_line (segment_items_from (heap_start + place) front)
@@ -122,12 +123,12 @@ lines_more place before front e =
 
 -- the same, and those behind
 lines_split : (place : ℕ) (before after : List Segment) → place ≡ place_after before
-    → lines (before ++ after) ≡ (lines before ++ flat_map segment_line (segment_items_from (heap_start + place) (take 64 after)))
-    ++ flat_map segment_line (segment_items_from (heap_start + place + total size_of (take 64 after)) (drop 64 after))
+    → lines (before ++ after) ≡ (lines before ++ flat_map segment_line (segment_items_from (heap_start + place) (take SEGMENTS_AT_ONCE after)))
+    ++ flat_map segment_line (segment_items_from (heap_start + place + total size_of (take SEGMENTS_AT_ONCE after)) (drop SEGMENTS_AT_ONCE after))
 lines_split place before after e =
-    let front = take 64 after in
-    let back = drop 64 after in
-    ap (λ l. lines (before ++ l)) (sym (take-append-drop 64 after))
+    let front = take SEGMENTS_AT_ONCE after in
+    let back = drop SEGMENTS_AT_ONCE after in
+    ap (λ l. lines (before ++ l)) (sym (take-append-drop SEGMENTS_AT_ONCE after))
     ∙ (lines_more place before (front ++ back) e
     ∙ (ap (λ l. lines before ++ l) (ap (flat_map segment_line) (items_append (heap_start + place) front back) ∙ flat_map-append segment_line (segment_items_from (heap_start + place) front) (segment_items_from (heap_start + place + total size_of front) back))
     ∙ sym (append_assoc (lines before) (flat_map segment_line (segment_items_from (heap_start + place) front)) (flat_map segment_line (segment_items_from (heap_start + place + total size_of front) back)))))
@@ -147,16 +148,16 @@ sized-back (x ∷ xs) ys all = sized-back xs ys all.1
 
 pub batch_ends : (h : Heap) (place : ℕ) {o n : Output} (items : List SegmentItem) (last : SegmentItem) → IsHeap h → Walked h.segments place o n → items ≡ segment_items_at place h → Some last ≡ slice_get items (length items - 1) → Ends h place last
 batch_ends h place items last is w e l =
-    let front = take 64 w.after in
-    let back = drop 64 w.after in
+    let front = take SEGMENTS_AT_ONCE w.after in
+    let back = drop SEGMENTS_AT_ONCE w.after in
     let here : Some last ≡ slice_get (segment_items_from (heap_start + place) front) (length (segment_items_from (heap_start + place) front) - 1) = l ∙ ap (λ xs. slice_get xs (length xs - 1)) (there h place items is w e) in
     let all : AllSized (w.before ++ w.after) = (let P : List Segment → Type 0 = AllSized in subst P (sym w.whole) (sized false h.segments is.tidy)) in
-    let after : AllSized (front ++ back) = (let P : List Segment → Type 0 = AllSized in subst P (sym (take-append-drop 64 w.after)) (sized-back w.before w.after all)) in
+    let after : AllSized (front ++ back) = (let P : List Segment → Type 0 = AllSized in subst P (sym (take-append-drop SEGMENTS_AT_ONCE w.after)) (sized-back w.before w.after all)) in
     let some = sized_some front (heap_start + place) last (sized-front front back after) here in
     let ends = last_ends (heap_start + place) front last here in
     let sum1 : total size_of (w.before ++ w.after) ≡ total size_of h.segments = ap (total size_of) w.whole in
     let sum2 = total-append size_of w.before w.after in
-    let sum3 : total size_of (front ++ back) ≡ total size_of w.after = ap (total size_of) (take-append-drop 64 w.after) in
+    let sum3 : total size_of (front ++ back) ≡ total size_of w.after = ap (total size_of) (take-append-drop SEGMENTS_AT_ONCE w.after) in
     let sum4 = total-append size_of front back in
     record { low = omega (arith, ends, some); within = omega (arith, ends, sum1, sum2, sum3, sum4, w.stands, is.fits) }
 
@@ -164,8 +165,8 @@ batch_ends h place items last is w e l =
 pub batch_more : (h : Heap) (place next : ℕ) {o n u : Output} (items : List SegmentItem) (last : SegmentItem) → IsHeap h → Walked h.segments place o n → items ≡ segment_items_at place h → Some last ≡ slice_get items (length items - 1)
     → next + heap_start ≡ item_end last → Takes n u (flat_map segment_line items) → Walked h.segments next o u
 batch_more h place next {o} {n} {u} items last is w e l q t =
-    let front = take 64 w.after in
-    let back = drop 64 w.after in
+    let front = take SEGMENTS_AT_ONCE w.after in
+    let back = drop SEGMENTS_AT_ONCE w.after in
     let these = there h place items is w e in
     let here : Some last ≡ slice_get (segment_items_from (heap_start + place) front) (length (segment_items_from (heap_start + place) front) - 1) = l ∙ ap (λ xs. slice_get xs (length xs - 1)) these in
     let ends = last_ends (heap_start + place) front last here in
@@ -174,7 +175,7 @@ batch_more h place next {o} {n} {u} items last is w e l q t =
     record {
       before = w.before ++ front;
       after = back;
-      whole = append_assoc w.before front back ∙ (ap (λ gs. w.before ++ gs) (take-append-drop 64 w.after) ∙ w.whole);
+      whole = append_assoc w.before front back ∙ (ap (λ gs. w.before ++ gs) (take-append-drop SEGMENTS_AT_ONCE w.after) ∙ w.whole);
       stands = omega (arith, ends, q, w.stands, total-append size_of w.before front);
       written = subst Q (sym (lines_more place w.before front w.stands)) (takes_more w.written (subst P these t));
     }
@@ -183,15 +184,15 @@ batch_more h place next {o} {n} {u} items last is w e l q t =
 pub batch_breaks : {E : Type 0} (h : Heap) (place : ℕ) {o n u : Output} (items : List SegmentItem) (e : E) (r : Result Unit E) → IsHeap h → Walked h.segments place o n → items ≡ segment_items_at place h → IsErr r
     → Puts n u (Err e) (flat_map segment_line items) → Puts o u r (lines h.segments)
 batch_breaks h place {o} {n} {u} items e r is w k z p =
-    let front = take 64 w.after in
+    let front = take SEGMENTS_AT_ONCE w.after in
     let these = there h place items is w k in
-    let behind_it : List ℕ = flat_map segment_line (segment_items_from (heap_start + place + total size_of front) (drop 64 w.after)) in
+    let behind_it : List ℕ = flat_map segment_line (segment_items_from (heap_start + place + total size_of front) (drop SEGMENTS_AT_ONCE w.after)) in
     let P : List ℕ → Type 0 = λ x. Breaks o u x in
     let same : (lines w.before ++ flat_map segment_line items) ++ behind_it ≡ lines h.segments =
     ap (λ i. (lines w.before ++ flat_map segment_line i) ++ behind_it) these ∙ (sym (lines_split place w.before w.after w.stands) ∙ ap lines w.whole) in
     puts_stops {e = e} r (record { ok = tt; err = subst P same (breaks_before behind_it (takes_breaks w.written p.err)) }) z
 
-all_walked : (segments : List Segment) (p : ℕ) {o n : Output} (before after : List Segment) → before ++ after ≡ segments → Takes o n (lines before) → segment_items_from p (take 64 after) ≡ [] → Takes o n (lines segments)
+all_walked : (segments : List Segment) (p : ℕ) {o n : Output} (before after : List Segment) → before ++ after ≡ segments → Takes o n (lines before) → segment_items_from p (take SEGMENTS_AT_ONCE after) ≡ [] → Takes o n (lines segments)
 all_walked segments p {o} {n} before [] whole written e =
     let P : List Segment → Type 0 = λ gs. Takes o n (lines gs) in
     subst P (sym (append-nil before) ∙ whole) written

@@ -1,6 +1,7 @@
 //! What is read of a named task's slot, where a name that no task has stands for a slot with nothing in it.
 
 ghost use Rattle.std.specs.Prelude.{◌≡◌, ◌+◌, ◌≤◌, ◌<◌, ◌^◌, Ok, Err, IfOk, IfErr, length, take, drop};
+ghost use Rattle.rh_defs.specs.Slot.{anchor_count};
 ghost use Rattle.rh_defs.specs.Heap.{IsHeap};
 ghost use Rattle.rh_tasks.specs.Lists.{segment_items_at};
 ghost use Rattle.rh_defs.specs.Listing.{Bytes};
@@ -9,8 +10,8 @@ ghost use Rattle.rh_defs.specs.declared.reply.Reply.TheVariants as Reply;
 ghost use Rattle.rh_script.specs.Named.{bytes_of_named, heap_of_named};
 
 use arrayvec::ArrayVec;
+use rh_defs::sizes::SEGMENTS_AT_ONCE;
 use rh_defs::{Anchor, Name, Refusal, SegmentItem};
-use rh_heap::SEGMENTS_AT_ONCE;
 use rh_store::Store;
 use rh_tasks::World;
 
@@ -40,7 +41,7 @@ pub fn size_of_block<S: Store>(
 ) -> Result<u32, Refusal>
     ensures told { IfOk result (λ size. show world.now.desk name.now anchor ≡ Ok (Reply.Shown size, Bytes (bytes_of_named name.now anchor world.now.desk))) }
     ensures size { IfOk result (λ size. size ≡ length (bytes_of_named name.now anchor world.now.desk)) }
-    ensures anchor { IfOk result (λ size. anchor < 64) }
+    ensures anchor { IfOk result (λ size. anchor < anchor_count) }
     ensures refused { IfErr result (λ refusal. show world.now.desk name.now anchor ≡ Err refusal) }
 {
     world.spelled();
@@ -61,7 +62,7 @@ pub fn read_block<S: Store>(
     offset: u32,
     to: &mut [u8],
 )
-    requires anchor { anchor < 64 }
+    requires anchor { anchor < anchor_count }
     requires within { offset + length to.old ≤ length (bytes_of_named name.now anchor world.now.desk) }
     ensures { to.new ≡ take (length to.old) (drop offset (bytes_of_named name.now anchor world.now.desk)) }
 {
@@ -71,7 +72,7 @@ pub fn read_block<S: Store>(
 
 /// Reads all of that block's bytes.
 pub fn read_whole<S: Store>(world: &World<S>, name: &Name, anchor: Anchor, to: &mut [u8])
-    requires anchor { anchor < 64 }
+    requires anchor { anchor < anchor_count }
     requires whole { length to.old ≡ length (bytes_of_named name.now anchor world.now.desk) }
     ensures { to.new ≡ bytes_of_named name.now anchor world.now.desk }
 {

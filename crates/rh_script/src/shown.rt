@@ -3,6 +3,7 @@
 ghost use Rattle.std.specs.Prelude.{◌≡◌, ◌+◌, ◌*◌, ◌≤◌, ◌<◌, ◌++◌, ◌∷◌, [], length, codes, take, drop};
 ghost use Rattle.std.specs.Fmt.{decimal};
 ghost use Rattle.hex.specs.Hex.{encode_lower};
+ghost use Rattle.rh_defs.specs.Slot.{anchor_count};
 ghost use Rattle.rh_defs.specs.Questions.{show};
 ghost use Rattle.rh_defs.specs.Text.{answer_text, ok, hex_words, rest_of_line};
 ghost use Rattle.rh_lines.specs.Flow.{Puts};
@@ -45,7 +46,7 @@ fn print_block<S: Store, W: Sink>(
     size: u32,
     writer: &mut W,
 ) -> Result<(), WriteFailed>
-    requires anchor { anchor < 64 }
+    requires anchor { anchor < anchor_count }
     requires size { size ≡ length (bytes_of_named name.now anchor world.now.desk) }
     ensures { Puts (W.output writer.old) (W.output writer.new) result
         (ok (decimal size ∷ hex_words (bytes_of_named name.now anchor world.now.desk))) }
@@ -85,7 +86,7 @@ fn print_bytes<S: Store, W: Sink>(
     size: u32,
     writer: &mut W,
 ) -> Result<(), WriteFailed>
-    requires anchor { anchor < 64 }
+    requires anchor { anchor < anchor_count }
     requires some { 0 < size }
     requires size { size ≡ length (bytes_of_named name.now anchor world.now.desk) }
     ensures { Puts (W.output writer.old) (W.output writer.new) result
@@ -102,7 +103,7 @@ fn print_digits<S: Store, W: Sink>(
     size: u32,
     writer: &mut W,
 ) -> Result<(), WriteFailed>
-    requires anchor { anchor < 64 }
+    requires anchor { anchor < anchor_count }
     requires size { size ≡ length (bytes_of_named name.now anchor world.now.desk) }
     ensures { Puts (W.output writer.old) (W.output writer.new) result
         (encode_lower (bytes_of_named name.now anchor world.now.desk) ++ codes "\n") }
@@ -118,7 +119,7 @@ fn print_hex<S: Store, W: Sink>(
     size: u32,
     writer: &mut W,
 ) -> Result<(), WriteFailed>
-    requires anchor { anchor < 64 }
+    requires anchor { anchor < anchor_count }
     requires size { size ≡ length (bytes_of_named name.now anchor world.now.desk) }
     ensures { Puts (W.output writer.old) (W.output writer.new) result
         (encode_lower (bytes_of_named name.now anchor world.now.desk)) }
@@ -140,7 +141,7 @@ fn print_piece<S: Store, W: Sink>(
     count: u32,
     writer: &mut W,
 ) -> Result<(), WriteFailed>
-    requires anchor { anchor < 64 }
+    requires anchor { anchor < anchor_count }
     requires small { count ≤ PIECE }
     requires within { offset + count ≤ length (bytes_of_named name.now anchor world.now.desk) }
     ensures { Puts (W.output writer.old) (W.output writer.new) result

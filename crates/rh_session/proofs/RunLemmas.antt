@@ -1,6 +1,8 @@
 -- A run, read by read.
+use Rattle.std.specs.Prelude.{◌+◌}
 use Rattle.std.proofs.Common.{◌≡◌, ℕ, ◌≤◌, ◌<◌, false, Bool, ◌||◌, not, ◌==◌, List, [], ◌∷◌, ◌++◌, length, take, Option, Some, None, IfSome, append_assoc, append-nil, ◌⊎◌, inl, inr, refl, sym, ◌∙◌, ap, subst, arith, rules}
 use Rattle.std.specs.Io.KnownBytes.{Consumes, Keeps, IsAtEnd}
+use Rattle.rh_defs.specs.Line.{longest_line}
 use Rattle.rh_defs.specs.Desk.{Desk}
 use Rattle.rh_lines.specs.Flow.{Input, Output, Takes, Breaks}
 use Rattle.rh_lines.proofs.FlowLemmas.{takes_none, takes_more, takes_breaks, breaks_before}
@@ -52,14 +54,14 @@ answered {d = d} {before = before} {now = now} {old = old} {new = new} after g k
       written = subst P ((reached d g.bytes).text) g.written;
     }
 
-long_text : (xs : List ℕ) → 1024 < length xs → rest_text xs ≡ fault_text TooLong
+long_text : (xs : List ℕ) → longest_line < length xs → rest_text xs ≡ fault_text TooLong
 long_text [] h = absurd (omega arith)
-long_text (x ∷ xs) h = rw (is_above 1024 (length (x ∷ xs)) h) refl
+long_text (x ∷ xs) h = rw (is_above longest_line (length (x ∷ xs)) h) refl
 
-rest_kept_at : (rest : List ℕ) → (length rest ≤ 1024) ⊎ (1024 < length rest) → rest_text (kept rest) ≡ rest_text rest
+rest_kept_at : (rest : List ℕ) → (length rest ≤ longest_line) ⊎ (longest_line < length rest) → rest_text (kept rest) ≡ rest_text rest
 unfolding kept
-rest_kept_at rest (inl h) = ap rest_text (take_all 1025 rest (omega arith))
-rest_kept_at rest (inr h) = long_text (take 1025 rest) (still_long 1024 1025 rest (omega arith) h) ∙ sym (long_text rest h)
+rest_kept_at rest (inl h) = ap rest_text (take_all (longest_line + 1) rest (omega arith))
+rest_kept_at rest (inr h) = long_text (take (longest_line + 1) rest) (still_long longest_line (longest_line + 1) rest (omega arith) h) ∙ sym (long_text rest h)
 
 rest_kept : (rest : List ℕ) → rest_text (kept rest) ≡ rest_text rest
 rest_kept rest = rest_kept_at rest (split_at (length rest))
@@ -67,11 +69,11 @@ rest_kept rest = rest_kept_at rest (split_at (length rest))
 not_none : (n : ℕ) → 0 < n → (n == 0) ≡ false
 not_none n h = search (rules, tests)
 
-nothing_kept_at : (rest : List ℕ) → (length rest ≤ 1024) ⊎ (1024 < length rest) → (length (kept rest) == 0) ≡ (length rest == 0)
+nothing_kept_at : (rest : List ℕ) → (length rest ≤ longest_line) ⊎ (longest_line < length rest) → (length (kept rest) == 0) ≡ (length rest == 0)
 unfolding kept
-nothing_kept_at rest (inl h) = ap (λ z. length z == 0) (take_all 1025 rest (omega arith))
+nothing_kept_at rest (inl h) = ap (λ z. length z == 0) (take_all (longest_line + 1) rest (omega arith))
 nothing_kept_at rest (inr h) =
-    not_none (length (take 1025 rest)) (omega (arith, still_long 1024 1025 rest (omega arith) h)) ∙ sym (not_none (length rest) (omega arith))
+    not_none (length (take (longest_line + 1) rest)) (omega (arith, still_long longest_line (longest_line + 1) rest (omega arith) h)) ∙ sym (not_none (length rest) (omega arith))
 
 nothing_kept : (rest : List ℕ) → (length (kept rest) == 0) ≡ (length rest == 0)
 nothing_kept rest = nothing_kept_at rest (split_at (length rest))

@@ -7,10 +7,6 @@ use Rattle.rh_defs.specs.Script.{ended_text, script_text, has_bad_line}
 use Rattle.rh_session.specs.declared.status.Status.{Status}
 use Rattle.rh_session.specs.declared.status.Status.TheVariants.{Clean, BadLines}
 
--- so many reads that give bytes make a script too long
-abbrev pub too_many_reads : ℕ
-too_many_reads = 1000000
-
 -- a run is clean exactly where no line was bad
 abbrev pub status_of : Bool → Status
 status_of bad = if bad then BadLines else Clean

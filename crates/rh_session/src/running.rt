@@ -1,25 +1,24 @@
 //! A run of a whole script.
 
 ghost use Rattle.std.specs.Prelude.{◌≡◌, ◌<◌, ◌≤◌, [], length, true, IfOk, IsErrOf};
+ghost use Rattle.rh_defs.specs.declared.sizes.TheConstants.{MOST_READS};
 ghost use Rattle.rh_defs.specs.Desk.{Desk};
 ghost use Rattle.rh_session.specs.Kept.{IsState};
-ghost use Rattle.rh_session.specs.Outcome.{Answered, Finished, BrokeOff, too_many_reads};
+ghost use Rattle.rh_session.specs.Outcome.{Answered, Finished, BrokeOff};
 ghost use Rattle.rh_session.specs.Session.{begin};
 
 use crate::desktop::Desktop;
 use crate::session::Session;
 use crate::status::{RunFault, Status};
+use rh_defs::sizes::MOST_READS;
 use rh_lines::{Held, Sink, Source};
 use std::alloc::Global;
 
 /// So many bytes are read at a time.
 const PIECE: usize = 65_536;
 
-/// So many reads that give bytes make a script too long.
-const MOST_READS: u32 = 1_000_000;
-
 /// Runs a script over a desktop, and writes the answer of each line before it reads on.
-/// It takes memory before its first read only, and gives up after 1,000,000 reads that gave bytes.
+/// It takes memory before its first read only, and gives up after `MOST_READS` reads that gave bytes.
 pub fn run_script<D: Desktop, R: Source, W: Sink>(
     alloc: Global,
     desktop: D,
@@ -37,14 +36,14 @@ pub fn run_script<D: Desktop, R: Source, W: Sink>(
     // The complete lines that were read have been answered.
     ensures read_failed { IsErrOf result RunFault.ReadFailed → (R.input reader.new).failed ≡ true }
     ensures read_answered { IsErrOf result RunFault.ReadFailed → (d : Desk) → D.spells desktop d → Answered d (R.input reader.old) (R.input reader.new) (W.output writer.old) (W.output writer.new) }
-    ensures too_long { IsErrOf result RunFault.TooLong → ((R.input reader.new).reads ≡ too_many_reads) × ((R.input reader.new).failed ≡ (R.input reader.old).failed) }
+    ensures too_long { IsErrOf result RunFault.TooLong → ((R.input reader.new).reads ≡ MOST_READS) × ((R.input reader.new).failed ≡ (R.input reader.old).failed) }
     ensures long_answered { IsErrOf result RunFault.TooLong → (d : Desk) → D.spells desktop d → Answered d (R.input reader.old) (R.input reader.new) (W.output writer.old) (W.output writer.new) }
 
     // The writer failed, and took a front of the script's text.
     ensures write_failed { IsErrOf result RunFault.WriteFailed → (d : Desk) → D.spells desktop d → BrokeOff d (R.input reader.old) (W.output writer.old) (W.output writer.new) }
 
     // However it ends, at most so many reads gave bytes.
-    ensures reads { (R.input reader.new).reads ≤ too_many_reads }
+    ensures reads { (R.input reader.new).reads ≤ MOST_READS }
 {
     let Ok(session) = Session::new(alloc, desktop) else {
         return Err(RunFault::NoMemory);
@@ -75,13 +74,13 @@ fn read_all<D: Desktop, R: Source, W: Sink>(
     // The complete lines that were read have been answered.
     ensures read_failed { IsErrOf result RunFault.ReadFailed → (R.input reader.new).failed ≡ true }
     ensures read_answered { IsErrOf result RunFault.ReadFailed → (d : Desk) → IsState D.spells session (begin d) → Answered d (R.input reader.old) (R.input reader.new) (W.output writer.old) (W.output writer.new) }
-    ensures too_long { IsErrOf result RunFault.TooLong → ((R.input reader.new).reads ≡ too_many_reads) × ((R.input reader.new).failed ≡ (R.input reader.old).failed) }
+    ensures too_long { IsErrOf result RunFault.TooLong → ((R.input reader.new).reads ≡ MOST_READS) × ((R.input reader.new).failed ≡ (R.input reader.old).failed) }
     ensures long_answered { IsErrOf result RunFault.TooLong → (d : Desk) → IsState D.spells session (begin d) → Answered d (R.input reader.old) (R.input reader.new) (W.output writer.old) (W.output writer.new) }
 
     // The writer failed, and took a front of the script's text.
     ensures write_failed { IsErrOf result RunFault.WriteFailed → (d : Desk) → IsState D.spells session (begin d) → BrokeOff d (R.input reader.old) (W.output writer.old) (W.output writer.new) }
     ensures had_memory { IsErrOf result RunFault.NoMemory → ⊥ }
-    ensures reads { (R.input reader.new).reads ≤ too_many_reads }
+    ensures reads { (R.input reader.new).reads ≤ MOST_READS }
 {
     for _turn in 0..MOST_READS {
         let count = match reader.read(piece) {

@@ -4,6 +4,7 @@ use Rattle.std.specs.Prelude.{slice_get, IfSome}
 use Rattle.std.specs.List.{AllByRecursion}
 use Rattle.std.specs.Option.{option_map}
 use Rattle.std.proofs.lemmas.List.{append_assoc, length-append, take-append-drop}
+use Rattle.rh_defs.specs.declared.sizes.TheConstants.{SEGMENTS_AT_ONCE}
 use Rattle.rh_defs.specs.declared.listing.SegmentItem.{SegmentItem}
 use Rattle.rh_defs.specs.Pieces.{page, total}
 use Rattle.rh_defs.specs.Heap.{Heap, IsHeap, IsTidy, Segment, Used, Hole, size_of, place_after}
@@ -107,12 +108,12 @@ room {rest = rest} w s =
 
 -- the items that are told there
 pub told : {o : Option Heap} {place : ℕ} (start : ℕ) {rest : List Segment} {items : List SegmentItem} (w : ComesTo o place rest)
-    → IfSome o (λ h. (below : List Segment) (rest : List Segment) → h.segments ≡ below ++ rest → place ≡ place_after below → items ≡ take 64 (segment_items_from (start + place) rest))
-    → items ≡ segment_items_from (start + place) (take 64 rest)
+    → IfSome o (λ h. (below : List Segment) (rest : List Segment) → h.segments ≡ below ++ rest → place ≡ place_after below → items ≡ take SEGMENTS_AT_ONCE (segment_items_from (start + place) rest))
+    → items ≡ segment_items_from (start + place) (take SEGMENTS_AT_ONCE rest)
 told {place = place} start {rest = rest} {items = items} w f =
-    let P : Option Heap → Type 0 = λ o. IfSome o (λ h. (below : List Segment) (rest : List Segment) → h.segments ≡ below ++ rest → place ≡ place_after below → items ≡ take 64 (segment_items_from (start + place) rest)) in
+    let P : Option Heap → Type 0 = λ o. IfSome o (λ h. (below : List Segment) (rest : List Segment) → h.segments ≡ below ++ rest → place ≡ place_after below → items ≡ take SEGMENTS_AT_ONCE (segment_items_from (start + place) rest)) in
     let g = subst P w.is f in
-    g w.below rest w.whole w.at ∙ take-items 64 (start + place) rest
+    g w.below rest w.whole w.at ∙ take-items SEGMENTS_AT_ONCE (start + place) rest
 
 -- behind some of them
 pub comes-on : {o : Option Heap} {place : ℕ} (passed left : List Segment) → ComesTo o place (passed ++ left) → ComesTo o (place + total size_of passed) left
@@ -141,9 +142,9 @@ pub record Counted (start place end count : ℕ) (items : List SegmentItem) (res
   pub whole : rest ≡ passed ++ left
   pub at : end ≡ place + total size_of passed
   pub count_is : count ≡ length passed
-  pub items_are : items ≡ segment_items_from (start + end) (take 64 left)
+  pub items_are : items ≡ segment_items_from (start + end) (take SEGMENTS_AT_ONCE left)
 
-pub counted-none : {start place : ℕ} {items : List SegmentItem} {rest : List Segment} → items ≡ segment_items_from (start + place) (take 64 rest) → Counted start place place 0 items rest
+pub counted-none : {start place : ℕ} {items : List SegmentItem} {rest : List Segment} → items ≡ segment_items_from (start + place) (take SEGMENTS_AT_ONCE rest) → Counted start place place 0 items rest
 counted-none {rest = rest} e = record { passed = []; left = rest; whole = refl; at = omega arith; count_is = refl; items_are = e }
 
 -- the next ones
@@ -162,13 +163,13 @@ module _ {o : Option Heap} {start place end count : ℕ} {items : List SegmentIt
       subst Q (sym k.at) (comes-on k.passed k.left (subst P k.whole w))
 
   abbrev front : List Segment
-  front = take 64 k.left
+  front = take SEGMENTS_AT_ONCE k.left
 
   abbrev back : List Segment
-  back = drop 64 k.left
+  back = drop SEGMENTS_AT_ONCE k.left
 
   parts : front ++ back ≡ k.left
-  parts = take-append-drop 64 k.left
+  parts = take-append-drop SEGMENTS_AT_ONCE k.left
 
   last-here : (last : SegmentItem) → Some last ≡ slice_get items (length items - 1) → (item_end last ≡ (start + end) + total size_of front) × (0 < length front) × (length items ≡ length front)
   last-here last e =
@@ -198,7 +199,7 @@ module _ {o : Option Heap} {start place end count : ℕ} {items : List SegmentIt
       record { low = omega arith; small = omega arith; goes = λ q. omega arith; within = λ q. omega arith; few = omega arith }
 
   pub counted-more : (next : ℕ) (last : SegmentItem) (items2 : List SegmentItem) → Some last ≡ slice_get items (length items - 1) → next + start ≡ item_end last
-      → IfSome o (λ h. (below : List Segment) (rest : List Segment) → h.segments ≡ below ++ rest → next ≡ place_after below → items2 ≡ take 64 (segment_items_from (start + next) rest))
+      → IfSome o (λ h. (below : List Segment) (rest : List Segment) → h.segments ≡ below ++ rest → next ≡ place_after below → items2 ≡ take SEGMENTS_AT_ONCE (segment_items_from (start + next) rest))
       → Counted start place next (count + length items) items2 rest
   counted-more next last items2 e q f =
       let h = last-here last e in

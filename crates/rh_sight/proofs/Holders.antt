@@ -9,8 +9,10 @@ use Rattle.std.proofs.lemmas.Bool.{ne_eqb, eqb-true}
 use Rattle.std.proofs.lemmas.List.{drop-drop, length-append, length-drop, length-map, length-take, take-append-le, take-map, take_all, take_rest}
 use Rattle.std.proofs.lemmas.List.FromFn.{length-enumerate_from}
 use Rattle.std.proofs.lemmas.Option.{get_or_from_slice_get, slice_get-get_or, slice_get-map, slice_get_within}
+use Rattle.rh_defs.specs.declared.sizes.TheConstants.{FIXED_AREAS}
+use Rattle.rh_defs.specs.Forms.{first_made, most_pages}
 use Rattle.rh_defs.specs.Pieces.{total}
-use Rattle.rh_defs.specs.Commands.{module_area}
+use Rattle.rh_defs.specs.Commands.{module_area, most_made}
 use Rattle.rh_defs.specs.Laws.{IsDesk, Rise}
 use Rattle.rh_defs.specs.Desk.{Desk, Task, Made, free_pages, module_pages, task_pages, used_pages}
 use Rattle.rh_defs.proofs.Cuts.{total-append}
@@ -126,8 +128,8 @@ module _ {d : Desk} (is : IsDesk d) where
   desk-apart =
       let rise = is.made.numbers in
       apart-both (fixed ++ mades) slots
-      (apart-both fixed mades (fixed-apart d 0 d.areas) (made-apart 256 d.next_area d.made rise)
-      (fixed-beside d 0 d.areas mades (omega (arith, six)) (λ k l. made-above 256 d.next_area k d.made rise (omega arith))))
+      (apart-both fixed mades (fixed-apart d 0 d.areas) (made-apart first_made d.next_area d.made rise)
+      (fixed-beside d 0 d.areas mades (omega (arith, six)) (λ k l. made-above first_made d.next_area k d.made rise (omega arith))))
       (slots-apart 0 d.next_handle d.tasks is.handles)
       (all-both (λ (x : Holding). AllByRecursion (IsOther x.0) slots) fixed mades
       (fixed-beside d 0 d.areas slots (omega (arith, six)) (λ k l. slots-other k d.tasks))
@@ -272,7 +274,7 @@ module _ {d : Desk} (is : IsDesk d) where
       let slots-all : total counted (slots is) ≡ total task_pages d.tasks = total-map counted slot_holding d.tasks in
       omega (arith, total-append counted (fixed is ++ mades is) (slots is), total-append counted (fixed is) (mades is))
 
-  pub holdings-few : total counted (holdings d) ≤ 1024
+  pub holdings-few : total counted (holdings d) ≤ most_pages
   holdings-few = let used = is.pages in let pool = is.pool in omega (arith, holdings-used)
 
   fixed-at : (number a : ℕ) → slice_get d.areas number ≡ Some a → slice_get (fixed is) number ≡ Some (fixed_holding d (number, a))
@@ -291,12 +293,12 @@ module _ {d : Desk} (is : IsDesk d) where
   fixed-long : length (fixed is) ≡ 6
   fixed-long = omega (arith, length-map (enumerate_from 0 d.areas) (fixed_holding d), length-enumerate_from 0 d.areas, is.areas.six)
 
-  pub fixed-room : (number : ℕ) → number ≤ 6 → total counted (take number (fixed is)) ≤ 1024
+  pub fixed-room : (number : ℕ) → number ≤ FIXED_AREAS → total counted (take number (fixed is)) ≤ most_pages
   fixed-room number l =
       let some = total-take counted number (fixed is) in
       omega (arith, holdings-few, total-append counted (fixed is ++ mades is) (slots is), total-append counted (fixed is) (mades is))
 
-  pub before-fixed : (number : ℕ) → number ≤ 6 → total counted (take number (fixed is)) ≡ pages_before (pages.Fixed number) d
+  pub before-fixed : (number : ℕ) → number ≤ FIXED_AREAS → total counted (take number (fixed is)) ≡ pages_before (pages.Fixed number) d
   before-fixed number l =
       ap (total counted) (sym (take-append-le number (fixed is) (mades is) (omega (arith, fixed-long)))
       ∙ sym (take-append-le number (fixed is ++ mades is) (slots is) (omega (arith, fixed-long, length-append (fixed is) (mades is)))))
@@ -330,10 +332,10 @@ module _ {d : Desk} (is : IsDesk d) where
       omega (arith, front-all, total-append counted (fixed is) (mades is))
 
   -- how many pages areas and slots before have
-  pub made-few : (i : ℕ) → total (λ (m : Made). m.pages) (take i d.made) ≤ 1024
+  pub made-few : (i : ℕ) → total (λ (m : Made). m.pages) (take i d.made) ≤ most_pages
   made-few i = let some = total-take (λ (m : Made). m.pages) i d.made in let used = is.pages in let pool = is.pool in omega arith
 
-  pub slots-few : (i : ℕ) → total task_pages (take i d.tasks) ≤ 1024
+  pub slots-few : (i : ℕ) → total task_pages (take i d.tasks) ≤ most_pages
   slots-few i = let some = total-take task_pages i d.tasks in let used = is.pages in let pool = is.pool in omega arith
 
 -- ---- the owner that is looked at
@@ -376,24 +378,24 @@ module _ {d : Desk} (is : IsDesk d) where
           subst (Found (pages.Slot i)) same (record { pages = task_pages t; stands = stands-slot is i t q })
 
 module _ {d : Desk} (is : IsDesk d) where
-  pub free-few : free_pages d ≤ 1024
+  pub free-few : free_pages d ≤ most_pages
   free-few = let pool = is.pool in omega arith
 
-  pub made-all-few : total (λ (m : Made). m.pages) d.made ≤ 1024
+  pub made-all-few : total (λ (m : Made). m.pages) d.made ≤ most_pages
   made-all-few = let used = is.pages in let pool = is.pool in omega arith
 
-  pub slots-all-few : total task_pages d.tasks ≤ 1024
+  pub slots-all-few : total task_pages d.tasks ≤ most_pages
   slots-all-few = let used = is.pages in let pool = is.pool in omega arith
 
-  pub all-made : total (λ (m : Made). m.pages) (take 32 d.made) ≡ total (λ (m : Made). m.pages) d.made
-  all-made = let few = is.made.few in ap (total (λ (m : Made). m.pages)) (take_all 32 d.made (omega arith))
+  pub all-made : total (λ (m : Made). m.pages) (take most_made d.made) ≡ total (λ (m : Made). m.pages) d.made
+  all-made = let few = is.made.few in ap (total (λ (m : Made). m.pages)) (take_all most_made d.made (omega arith))
 
-  pub within-fixed : (owner : PagesOf) (number : ℕ) → owner ≡ pages.Fixed number → IsSome (owner_seen owner d) → number ≤ 6
+  pub within-fixed : (owner : PagesOf) (number : ℕ) → owner ≡ pages.Fixed number → IsSome (owner_seen owner d) → number ≤ FIXED_AREAS
   within-fixed owner number e s =
       let t : IsSome (owner_seen (pages.Fixed number) d) = subst (λ o. IsSome (owner_seen o d)) e s in
       go (slice_get d.areas number) refl t
     where
-      go : (a : Option ℕ) → slice_get d.areas number ≡ a → IsSome (option_map (λ (b : ℕ). AreaOf number) a) → number ≤ 6
+      go : (a : Option ℕ) → slice_get d.areas number ≡ a → IsSome (option_map (λ (b : ℕ). AreaOf number) a) → number ≤ FIXED_AREAS
       go None q k = absurd (cc)
       go (Some a) q k = omega (arith, slice_get_within d.areas number a q, is.areas.six)
 
@@ -410,7 +412,7 @@ pub at-some : {A : Type 0} (o : Option A) (P : A → Type 0) (x : A) → o ≡ S
 at-some {A = A} o P x e h = let Q : Option A → Type 0 = λ z. IfSome z P in subst Q e h
 
 module _ {d : Desk} (is : IsDesk d) where
-  pub before-few : (owner : PagesOf) → pages_before owner d ≤ 1024
+  pub before-few : (owner : PagesOf) → pages_before owner d ≤ most_pages
   before-few owner = let some = total-take counted (place_among owner d) (holdings d) in omega (arith, holdings-few is)
 
   -- where an owner's pages begin and end in the list

@@ -2,6 +2,7 @@
 use Rattle.std.proofs.Common.{◌≡◌, ℕ, zero, suc, ◌+◌, ◌-◌, ◌*◌, ◌<◌, ◌≤◌, Bool, false, refl, ap, sym, subst, ◌∙◌, arith, List, [], ◌∷◌, ◌++◌, length, take, drop, get_or, Option, Some, None}
 use Rattle.std.specs.Prelude.{slice_get, IfSome}
 use Rattle.std.proofs.lemmas.List.{append_assoc, append-nil, drop-take, drop_all, drop_more, length-append, length-take, take-append-drop, take-take, take_more}
+use Rattle.rh_defs.specs.declared.sizes.TheConstants.{SEGMENTS_AT_ONCE}
 use Rattle.rh_defs.specs.declared.listing.BlockItem.{BlockItem}
 use Rattle.rh_defs.specs.declared.listing.SegmentItem.{SegmentItem}
 use Rattle.rh_defs.specs.Pieces.{total}
@@ -35,42 +36,42 @@ comes-at h n place e at = record { heap = h; is = e; below = take n h.segments; 
 -- 64 more pieces
 pub pieces-on : (g : Legend) (off n place : ℕ) (segments : List Segment) (old now new : List Piece) → place ≡ place_after (take n segments)
     → now ≡ old ++ segment_pieces g (off + first_place) (take n segments)
-    → new ≡ now ++ segment_pieces g (off + place) (take 64 (drop n segments))
-    → new ≡ old ++ segment_pieces g (off + first_place) (take (n + 64) segments)
+    → new ≡ now ++ segment_pieces g (off + place) (take SEGMENTS_AT_ONCE (drop n segments))
+    → new ≡ old ++ segment_pieces g (off + first_place) (take (n + SEGMENTS_AT_ONCE) segments)
 pieces-on g off n place segments old now new at p q =
     let same : (off + first_place) + total size_of (take n segments) ≡ off + place = omega arith in
     let front = segment_pieces g (off + first_place) (take n segments) in
-    q ∙ (ap (λ z. z ++ segment_pieces g (off + place) (take 64 (drop n segments))) p
-    ∙ (append_assoc old front (segment_pieces g (off + place) (take 64 (drop n segments)))
-    ∙ ap (λ z. old ++ z) (sym (ap (segment_pieces g (off + first_place)) (take-add n 64 segments)
-    ∙ (pieces-append g (off + first_place) (take n segments) (take 64 (drop n segments))
-    ∙ ap (λ k. front ++ segment_pieces g k (take 64 (drop n segments))) same)))))
+    q ∙ (ap (λ z. z ++ segment_pieces g (off + place) (take SEGMENTS_AT_ONCE (drop n segments))) p
+    ∙ (append_assoc old front (segment_pieces g (off + place) (take SEGMENTS_AT_ONCE (drop n segments)))
+    ∙ ap (λ z. old ++ z) (sym (ap (segment_pieces g (off + first_place)) (take-add n SEGMENTS_AT_ONCE segments)
+    ∙ (pieces-append g (off + first_place) (take n segments) (take SEGMENTS_AT_ONCE (drop n segments))
+    ∙ ap (λ k. front ++ segment_pieces g k (take SEGMENTS_AT_ONCE (drop n segments))) same)))))
 
-after-add : (n : ℕ) (segments : List Segment) → place_after (take (n + 64) segments) ≡ place_after (take n segments) + total size_of (take 64 (drop n segments))
+after-add : (n : ℕ) (segments : List Segment) → place_after (take (n + SEGMENTS_AT_ONCE) segments) ≡ place_after (take n segments) + total size_of (take SEGMENTS_AT_ONCE (drop n segments))
 after-add n segments =
-    let more : total size_of (take (n + 64) segments) ≡ total size_of (take n segments) + total size_of (take 64 (drop n segments)) =
-    ap (total size_of) (take-add n 64 segments) ∙ total-append size_of (take n segments) (take 64 (drop n segments)) in
+    let more : total size_of (take (n + SEGMENTS_AT_ONCE) segments) ≡ total size_of (take n segments) + total size_of (take SEGMENTS_AT_ONCE (drop n segments)) =
+    ap (total size_of) (take-add n SEGMENTS_AT_ONCE segments) ∙ total-append size_of (take n segments) (take SEGMENTS_AT_ONCE (drop n segments)) in
     omega arith
 
 -- where the last of them ends
 pub place-on : (start n place next : ℕ) (segments : List Segment) (items : List SegmentItem) (last : SegmentItem) → place ≡ place_after (take n segments)
-    → items ≡ segment_items_from (start + place) (take 64 (drop n segments)) → Some last ≡ slice_get items (length items - 1)
-    → next + start ≡ item_end last → next ≡ place_after (take (n + 64) segments)
+    → items ≡ segment_items_from (start + place) (take SEGMENTS_AT_ONCE (drop n segments)) → Some last ≡ slice_get items (length items - 1)
+    → next + start ≡ item_end last → next ≡ place_after (take (n + SEGMENTS_AT_ONCE) segments)
 place-on start n place next segments items last at e l q =
-    let front = take 64 (drop n segments) in
+    let front = take SEGMENTS_AT_ONCE (drop n segments) in
     let here : Some last ≡ slice_get (segment_items_from (start + place) front) (length (segment_items_from (start + place) front) - 1) = l ∙ ap (λ xs. slice_get xs (length xs - 1)) e in
     let ends : item_end last ≡ (start + place) + total size_of front = last-ends (start + place) front last here in
     omega (arith, after-add n segments)
 
 -- where there is none
 pub place-same : (start n place : ℕ) (segments : List Segment) (items : List SegmentItem) → place ≡ place_after (take n segments)
-    → items ≡ segment_items_from (start + place) (take 64 (drop n segments)) → None ≡ slice_get items (length items - 1)
-    → place ≡ place_after (take (n + 64) segments)
+    → items ≡ segment_items_from (start + place) (take SEGMENTS_AT_ONCE (drop n segments)) → None ≡ slice_get items (length items - 1)
+    → place ≡ place_after (take (n + SEGMENTS_AT_ONCE) segments)
 place-same start n place segments items at e l =
     let none : items ≡ [] = none-last items l in
-    let long : length items ≡ length (take 64 (drop n segments)) = ap length e ∙ length-items (start + place) (take 64 (drop n segments)) in
+    let long : length items ≡ length (take SEGMENTS_AT_ONCE (drop n segments)) = ap length e ∙ length-items (start + place) (take SEGMENTS_AT_ONCE (drop n segments)) in
     let zero-items : length items ≡ 0 = ap length none in
-    let no-bytes : total size_of (take 64 (drop n segments)) ≡ 0 = empty-total (take 64 (drop n segments)) (omega arith) in
+    let no-bytes : total size_of (take SEGMENTS_AT_ONCE (drop n segments)) ≡ 0 = empty-total (take SEGMENTS_AT_ONCE (drop n segments)) (omega arith) in
     omega (arith, after-add n segments)
   where
     empty-total : (xs : List Segment) → length xs ≡ 0 → total size_of xs ≡ 0
@@ -164,26 +165,26 @@ module _ {o : Option Heap} (h : Heap) (e : o ≡ Some h) where
 
   -- the items that are told there
   pub turn-items : (start n place : ℕ) (items : List SegmentItem) → IfSome o (λ k. place ≡ place_after (take n k.segments))
-      → IfSome o (λ k. (below : List Segment) (rest : List Segment) → k.segments ≡ below ++ rest → place ≡ place_after below → items ≡ take 64 (segment_items_from (start + place) rest))
-      → items ≡ segment_items_from (start + place) (take 64 (drop n h.segments))
+      → IfSome o (λ k. (below : List Segment) (rest : List Segment) → k.segments ≡ below ++ rest → place ≡ place_after below → items ≡ take SEGMENTS_AT_ONCE (segment_items_from (start + place) rest))
+      → items ≡ segment_items_from (start + place) (take SEGMENTS_AT_ONCE (drop n h.segments))
   turn-items start n place items at f =
       let here : place ≡ place_after (take n h.segments) = at-heap (λ k. place ≡ place_after (take n k.segments)) at in
-      let told = at-heap (λ k. (below : List Segment) (rest : List Segment) → k.segments ≡ below ++ rest → place ≡ place_after below → items ≡ take 64 (segment_items_from (start + place) rest)) f in
-      told (take n h.segments) (drop n h.segments) (sym (take-append-drop n h.segments)) here ∙ take-items 64 (start + place) (drop n h.segments)
+      let told = at-heap (λ k. (below : List Segment) (rest : List Segment) → k.segments ≡ below ++ rest → place ≡ place_after below → items ≡ take SEGMENTS_AT_ONCE (segment_items_from (start + place) rest)) f in
+      told (take n h.segments) (drop n h.segments) (sym (take-append-drop n h.segments)) here ∙ take-items SEGMENTS_AT_ONCE (start + place) (drop n h.segments)
 
   pub turn-place : (n place : ℕ) → IfSome o (λ k. place ≡ place_after (take n k.segments)) → place ≡ place_after (take n h.segments)
   turn-place n place at = at-heap (λ k. place ≡ place_after (take n k.segments)) at
 
 -- where the last of them ends
 pub turn-ends : (start n place : ℕ) (h : Heap) (items : List SegmentItem) (last : SegmentItem) → place ≡ place_after (take n h.segments)
-    → items ≡ segment_items_from (start + place) (take 64 (drop n h.segments)) → Some last ≡ slice_get items (length items - 1) → IsSeen h
+    → items ≡ segment_items_from (start + place) (take SEGMENTS_AT_ONCE (drop n h.segments)) → Some last ≡ slice_get items (length items - 1) → IsSeen h
     → (start ≤ item_end last) × (item_end last ≤ start + 4194304)
 turn-ends start n place h items last at e l s =
-    let front = take 64 (drop n h.segments) in
+    let front = take SEGMENTS_AT_ONCE (drop n h.segments) in
     let here : Some last ≡ slice_get (segment_items_from (start + place) front) (length (segment_items_from (start + place) front) - 1) = l ∙ ap (λ xs. slice_get xs (length xs - 1)) e in
     let ends : item_end last ≡ (start + place) + total size_of front = last-ends (start + place) front last here in
     let after = after-add n h.segments in
-    let some = total-take size_of (n + 64) h.segments in
+    let some = total-take size_of (n + SEGMENTS_AT_ONCE) h.segments in
     let fits = s.is.fits in
     let few = s.few in
     (omega arith, omega arith)
@@ -195,8 +196,8 @@ pieces-long g p [] = refl
 pieces-long g p (x ∷ xs) = ap suc (pieces-long g (p + size_of x) xs)
 
 -- at most 64 pieces more
-pub pieces-64 : (g : Legend) (p : ℕ) (xs : List Segment) (now new : List Piece) → new ≡ now ++ segment_pieces g p (take 64 xs) → length new ≤ length now + 64
-pieces-64 g p xs now new e = omega (arith, ap length e, length-append now (segment_pieces g p (take 64 xs)), pieces-long g p (take 64 xs), length-take 64 xs)
+pub pieces-turn : (g : Legend) (p : ℕ) (xs : List Segment) (now new : List Piece) → new ≡ now ++ segment_pieces g p (take SEGMENTS_AT_ONCE xs) → length new ≤ length now + SEGMENTS_AT_ONCE
+pieces-turn g p xs now new e = omega (arith, ap length e, length-append now (segment_pieces g p (take SEGMENTS_AT_ONCE xs)), pieces-long g p (take SEGMENTS_AT_ONCE xs), length-take SEGMENTS_AT_ONCE xs)
 
 pub more-some : (p : ℕ) (rest : List Segment) → 0 < length rest → more_pieces p rest ≡ record { kind = MoreSegments (length rest); at = p; size = total size_of rest; fresh = false } ∷ []
 more-some p [] l = absurd (omega arith)

@@ -11,7 +11,7 @@ use Rattle.rh_defs.specs.Desk.{Desk, Task}
 use Rattle.rh_figure.specs.declared.piece.Kind.TheVariants.{Claimed, Posted}
 use Rattle.rh_figure.specs.Layout.{is_new_message, posted_or}
 use Rattle.rh_figure.specs.Scene.{Scene, held_list, ref_of}
-use Rattle.rh_sight.specs.declared.sight.MessageItem.{MessageItem}
+use Rattle.rh_defs.specs.declared.listing.MessageItem.{MessageItem}
 use Rattle.rh_sight.specs.Messages.{held_on, held_ref, is_held_by, item_of, lies_in, message_items, ref_or_none, waiting_on}
 
 -- ---- the message in a block

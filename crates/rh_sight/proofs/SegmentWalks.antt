@@ -1,6 +1,7 @@
 -- Walks over the segments of a heap, some at a time.
 use Rattle.std.proofs.Common.{◌≡◌, ℕ, zero, suc, ◌+◌, ◌-◌, ◌*◌, ◌<◌, ◌≤◌, refl, ap, sym, ◌∙◌, arith, List, [], ◌∷◌, ◌++◌, length, take, Option, Some, None}
 use Rattle.std.specs.Prelude.{slice_get}
+use Rattle.rh_defs.specs.declared.sizes.TheConstants.{SEGMENTS_AT_ONCE}
 use Rattle.rh_defs.specs.declared.listing.SegmentItem.{SegmentItem}
 use Rattle.rh_defs.specs.Pieces.{total}
 use Rattle.rh_defs.specs.Heap.{Segment, Used, Hole, size_of}
@@ -49,6 +50,6 @@ pub some-last : {A : Type 0} (xs : List A) (x : A) → Some x ≡ slice_get xs (
 some-last [] x e = absurd (cc)
 some-last (y ∷ xs) x e = omega arith
 
-pub no-items : (p : ℕ) (gs : List Segment) → segment_items_from p (take 64 gs) ≡ [] → gs ≡ []
+pub no-items : (p : ℕ) (gs : List Segment) → segment_items_from p (take SEGMENTS_AT_ONCE gs) ≡ [] → gs ≡ []
 no-items p [] e = refl
 no-items p (g ∷ gs) e = absurd (cc)

@@ -5,10 +5,11 @@ use Rattle.std.specs.List.{AllByRecursion, IsDistinct, list_any}
 use Rattle.std.proofs.lemmas.Bool.{eqb-true}
 use Rattle.std.proofs.lemmas.List.{append-nil, length-append, length-map, length-take, take-append-drop}
 use Rattle.std.proofs.lemmas.Map.Steps.{length-le_from_distinct_below}
+use Rattle.rh_defs.specs.SlotImage.{heap_place}
 use Rattle.rh_defs.specs.declared.listing.BlockItem.{BlockItem}
 use Rattle.rh_defs.specs.Pieces.{page, total}
 use Rattle.rh_defs.specs.Heap.{Heap, Segment, base, first_place, place_after, size_of}
-use Rattle.rh_defs.specs.Slot.{Flex, HaveAnchors, IsFree, Slot, flex_start, slot_length, slot_pages, weight}
+use Rattle.rh_defs.specs.Slot.{Flex, HaveAnchors, IsFree, Slot, anchor_count, flex_start, slot_length, slot_pages, weight}
 use Rattle.rh_defs.specs.Listing.{block_items}
 use Rattle.rh_defs.proofs.Cuts.{total-append}
 use Rattle.rh_defs.proofs.HeapLists.{eqb_apart}
@@ -35,19 +36,19 @@ unfolding anchors IsDistinct
 distinct [] h = tt
 distinct (b ∷ blocks) h = (apart b.anchor blocks h.1, distinct blocks h.2)
 
-small : (blocks : List Flex) → HaveAnchors blocks → (q : ℕ) → list_any (eqb q) (anchors blocks) ≡ true → q < 64
+small : (blocks : List Flex) → HaveAnchors blocks → (q : ℕ) → list_any (eqb q) (anchors blocks) ≡ true → q < anchor_count
 unfolding anchors
 small [] h q e = absurd (cc)
 small (b ∷ blocks) h q e = go (eqb q b.anchor) refl e (small blocks h.2 q)
   where
-    go : (t : Bool) → eqb q b.anchor ≡ t → (t || list_any (eqb q) (anchors blocks)) ≡ true → (list_any (eqb q) (anchors blocks) ≡ true → q < 64) → q < 64
+    go : (t : Bool) → eqb q b.anchor ≡ t → (t || list_any (eqb q) (anchors blocks)) ≡ true → (list_any (eqb q) (anchors blocks) ≡ true → q < anchor_count) → q < anchor_count
     go true s e rest = let same : q ≡ b.anchor = eqb-true _ _ s in omega (arith, h.0)
     go false s e rest = rest e
 
-pub few-blocks : (blocks : List Flex) → HaveAnchors blocks → length blocks ≤ 64
+pub few-blocks : (blocks : List Flex) → HaveAnchors blocks → length blocks ≤ anchor_count
 unfolding anchors
 few-blocks blocks h =
-    omega (arith, length-map blocks (λ (b : Flex). b.anchor), length-le_from_distinct_below (anchors blocks) 64 (distinct blocks h) (small blocks h))
+    omega (arith, length-map blocks (λ (b : Flex). b.anchor), length-le_from_distinct_below (anchors blocks) anchor_count (distinct blocks h) (small blocks h))
 
 -- ---- how many pieces there are
 
@@ -130,23 +131,23 @@ pub weights-are : (s : Slot) (blocks : List BlockItem) → blocks ≡ block_item
 weights-are s blocks e = ap (total item_weight) e ∙ items-weight (flex_start s) s.blocks
 
 pub slot-whole : (x : Scene) (h end most pages : ℕ) (s : Slot) (blocks : List BlockItem) (none a b c e : List Piece) (first last : Piece)
-    → none ≡ [] → first ≡ record { kind = AnchorWords; at = 0; size = 256; fresh = false } → a ≡ none ++ first ∷ []
-    → b ≡ a ++ heap_pieces (slot_legend x h) 256 s.heap → blocks ≡ block_items s → most ≡ s.heap.end
-    → c ≡ b ++ item_pieces x h (256 + most) blocks → end ≡ 256 + most + total item_weight blocks → pages ≡ slot_pages s
+    → none ≡ [] → first ≡ record { kind = AnchorWords; at = 0; size = heap_place; fresh = false } → a ≡ none ++ first ∷ []
+    → b ≡ a ++ heap_pieces (slot_legend x h) heap_place s.heap → blocks ≡ block_items s → most ≡ s.heap.end
+    → c ≡ b ++ item_pieces x h (heap_place + most) blocks → end ≡ heap_place + most + total item_weight blocks → pages ≡ slot_pages s
     → last ≡ record { kind = Unused; at = end; size = 4096 * pages - end; fresh = false }
     → e ≡ c ++ last ∷ [] → e ≡ slot_pieces x h s
 slot-whole x h end most pages s blocks none a b c e first last en ef p q eb em r ee ep el t =
-    let bottom : Piece = record { kind = AnchorWords; at = 0; size = 256; fresh = false } in
+    let bottom : Piece = record { kind = AnchorWords; at = 0; size = heap_place; fresh = false } in
     let rest : Piece = record { kind = Unused; at = slot_length s; size = page * slot_pages s - slot_length s; fresh = false } in
-    let heap = heap_pieces (slot_legend x h) 256 s.heap in
-    let flex = flex_pieces x h (256 + s.heap.end) s.blocks in
+    let heap = heap_pieces (slot_legend x h) heap_place s.heap in
+    let flex = flex_pieces x h (heap_place + s.heap.end) s.blocks in
     let all = weights-are s blocks eb in
     let up : end ≡ slot_length s = omega arith in
     let same_last : last ≡ rest = cc in
-    let drawn : item_pieces x h (256 + most) blocks ≡ flex =
-    ap (item_pieces x h (256 + most)) eb
-    ∙ (ap (λ n. item_pieces x h (256 + n) (block_items s)) em ∙ items-pieces x h (flex_start s) (256 + s.heap.end) s.blocks) in
+    let drawn : item_pieces x h (heap_place + most) blocks ≡ flex =
+    ap (item_pieces x h (heap_place + most)) eb
+    ∙ (ap (λ n. item_pieces x h (heap_place + n) (block_items s)) em ∙ items-pieces x h (flex_start s) (heap_place + s.heap.end) s.blocks) in
     let low : a ≡ bottom ∷ [] = p ∙ (ap (λ z. z ++ first ∷ []) en ∙ ap (λ y. y ∷ []) ef) in
     let mid : b ≡ bottom ∷ heap = q ∙ ap (λ z. z ++ heap) low in
-    let high : c ≡ bottom ∷ (heap ++ flex) = r ∙ (ap (λ z. z ++ item_pieces x h (256 + most) blocks) mid ∙ ap (λ z. bottom ∷ (heap ++ z)) drawn) in
+    let high : c ≡ bottom ∷ (heap ++ flex) = r ∙ (ap (λ z. z ++ item_pieces x h (heap_place + most) blocks) mid ∙ ap (λ z. bottom ∷ (heap ++ z)) drawn) in
     t ∙ (ap (λ z. z ++ last ∷ []) high ∙ ap (λ y. bottom ∷ ((heap ++ flex) ++ y ∷ [])) same_last)

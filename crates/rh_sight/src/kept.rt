@@ -13,11 +13,11 @@ ghost use Rattle.rh_sight.specs.Steps.{IsSender};
 
 use crate::message_list::held_ref;
 use crate::sender::Sender;
-use crate::sight::{MessageItem, Sight};
+use crate::sight::Sight;
 use crate::tasks::task_about;
 use arrayvec::ArrayVec;
 use rh_defs::sizes::{ANCHORS, FIXED_AREAS, MAX_AREAS};
-use rh_defs::{Anchor, BlockItem, Command, Handle, Ref};
+use rh_defs::{Anchor, BlockItem, Command, Handle, MessageItem, Ref};
 use std::marker::Model;
 
 /// Who has pages: an area by its number, or a slot by its task's handle.

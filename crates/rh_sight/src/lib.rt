@@ -22,8 +22,7 @@ pub use pages::{free_of, pages_of};
 pub use pieces::{MOST_PIECES, Pieces, module_pieces, slot_pieces};
 pub use sender::Sender;
 pub use sight::{
-    AreaSight, HeapOf, MOST_AT_ONCE, MOST_MESSAGES, MessageItem, Messages, PageList, PagesOf,
-    ScrapSight, Segments, Sight, TaskSight,
+    AreaSight, HeapOf, Messages, PageList, PagesOf, ScrapSight, Segments, Sight, TaskSight,
 };
 pub use step::Step;
 pub use tasks::{name_in, task_named, task_with};

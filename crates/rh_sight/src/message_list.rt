@@ -3,8 +3,7 @@
 ghost use Rattle.std.specs.Prelude.{◌≡◌, filter, find};
 ghost use Rattle.rh_sight.specs.Messages.{behind, first_ref, held_ref as held_ref_in, is_held_by, lies_in, place_among, waits_for};
 
-use crate::sight::MessageItem;
-use rh_defs::{Handle, Ref};
+use rh_defs::{Handle, MessageItem, Ref};
 
 /// Where a message stands in the chain of its task.
 #[derive(Clone, Copy, Debug, PartialEq, Eq)]

@@ -2,6 +2,7 @@
 
 ghost use Rattle.std.specs.Prelude.{◌≡◌, ◌≤◌, ◌+◌, IfSome, IsSome, map, take};
 ghost use Rattle.std.specs.List.{enumerate_from};
+ghost use Rattle.rh_defs.specs.declared.sizes.TheConstants.{FIXED_AREAS};
 ghost use Rattle.rh_defs.specs.Desk.{Made, free_pages as free_pages_on, task_pages};
 ghost use Rattle.rh_defs.specs.Pieces.{total};
 ghost use Rattle.rh_figure.specs.Share.{Holding, IsShared, count_of, fixed_holding, holdings};
@@ -72,7 +73,7 @@ fn first_page<S: Sight>(sight: &S, owner: PagesOf) -> usize
 
 /// How many pages the areas below a number have, of areas 0 to 5.
 fn fixed_before<S: Sight>(sight: &S, number: u32) -> usize
-    requires { number ≤ 6 }
+    requires { number ≤ FIXED_AREAS }
     ensures { result ≡ total (λ (h : Holding). h.1) (take number (map (fixed_holding (S.desk sight.now)) (enumerate_from 0 (S.desk sight.now).areas))) }
 {
     sight.spelled();

@@ -15,12 +15,13 @@ ghost use Rattle.rh_sight.specs.declared.pieces.TheConstants.{MOST_PIECES};
 
 use crate::freshness::{is_fresh_block, is_fresh_flex, is_new_ref};
 use crate::message_list::message_in;
-use crate::sight::{HeapOf, MOST_AT_ONCE, Sight, TaskSight};
+use crate::sight::{HeapOf, Sight, TaskSight};
 use crate::step::Step;
 use crate::walk::{heap_address, place_behind, take_census};
 use arrayvec::ArrayVec;
 use rh_defs::sizes::{
-    ANCHORS, C_HEAP_PLACE, HEAP_FIRST, MODULE_START, PAGE, SLOT_START, WORD, flex_weight,
+    ANCHORS, C_HEAP_PLACE, HEAP_FIRST, MODULE_START, PAGE, SEGMENTS_AT_ONCE, SLOT_START, WORD,
+    flex_weight,
 };
 use rh_defs::{BlockItem, Handle, SegmentItem};
 use rh_figure::limits::MOST_SEGMENTS;
@@ -163,7 +164,7 @@ fn push_segments<S: Sight>(sight: &S, step: &Step<'_>, drawn: &Drawn, pieces: &m
 {
     sight.spelled();
     let mut place = HEAP_FIRST as u32;
-    for _turn in 0..MOST_SEGMENTS / MOST_AT_ONCE {
+    for _turn in 0..MOST_SEGMENTS / SEGMENTS_AT_ONCE {
         let items = sight.segments(drawn.heap, place);
         push_items(step, drawn, &items, pieces);
         if let Some(last) = items.last() {

@@ -2,29 +2,23 @@
 
 ghost use Rattle.std.specs.Prelude.{◌≡◌, ◌≤◌, ◌<◌, ◌+◌, ◌++◌, ℕ, List, IfNone, IfSome, IsSome, None, Some, length, slice_get, take};
 ghost use Rattle.std.specs.Option.{option_map};
+ghost use Rattle.rh_defs.specs.Commands.{most_made};
+ghost use Rattle.rh_defs.specs.declared.sizes.TheConstants.{FIXED_AREAS, SEGMENTS_AT_ONCE};
 ghost use Rattle.rh_defs.specs.Heap.{Segment, place_after};
 ghost use Rattle.rh_defs.specs.Laws.{IsDesk};
 ghost use Rattle.rh_defs.specs.Listing.{block_items, segment_items_from};
-ghost use Rattle.rh_defs.specs.Desk.{Desk, Task, free_pages as free_pages_on, next_ref as next_ref_on};
+ghost use Rattle.rh_defs.specs.Desk.{Desk, Task, free_pages as free_pages_on, most_tasks, next_ref as next_ref_on};
 ghost use Rattle.rh_defs.specs.Records.{most_records};
 ghost use Rattle.rh_figure.specs.Share.{IsShared};
-ghost use Rattle.rh_sight.specs.declared.sight.TheConstants.{MOST_AT_ONCE};
 
 use arrayvec::ArrayVec;
-use rh_defs::sizes::{ANCHORS, MAX_PAGES};
+use rh_defs::sizes::{ANCHORS, MAX_PAGES, MOST_MESSAGES, SEGMENTS_AT_ONCE};
 use rh_defs::{
-    Action, BlockItem, EventCode, Handle, Incoming, Letter, Manner, Name, Outgoing, Ref,
-    SegmentItem,
+    BlockItem, Handle, Incoming, Letter, Manner, MessageItem, Name, Outgoing, Ref, SegmentItem,
 };
 
-/// At most so many segments are told at once.
-pub const MOST_AT_ONCE: usize = 64;
-
-/// At most so many messages are live.
-pub const MOST_MESSAGES: usize = 256;
-
 /// Segments of a heap from below.
-pub type Segments = ArrayVec<SegmentItem, MOST_AT_ONCE>;
+pub type Segments = ArrayVec<SegmentItem, SEGMENTS_AT_ONCE>;
 
 /// All live messages.
 pub type Messages = ArrayVec<MessageItem, MOST_MESSAGES>;
@@ -46,33 +40,6 @@ pub struct TaskSight<'a> {
     pub sending: &'a [Outgoing],
     pub taking: &'a [Incoming],
     pub last_sent: Option<(&'a Letter, Ref)>,
-}
-
-/// A live message; `block` is where it begins in the module area, `held` whether its task holds it.
-#[derive(Clone, Copy, Debug, PartialEq, Eq)]
-pub struct MessageItem {
-    pub block: u32,
-    pub to: Handle,
-    pub from: Handle,
-    pub my_ref: Ref,
-    pub action: Action,
-    pub code: EventCode,
-    pub held: bool,
-}
-
-impl Default for MessageItem {
-    /// No message, as refs count up from 1.
-    fn default() -> MessageItem {
-        MessageItem {
-            block: 0,
-            to: Handle(0),
-            from: Handle(0),
-            my_ref: Ref(0),
-            action: Action::DataSave,
-            code: EventCode::User,
-            held: false,
-        }
-    }
 }
 
 /// A made area: its number, the most pages that it may have, and its pages.
@@ -119,11 +86,11 @@ pub trait Sight {
     fn spelled(&self)
         ensures { IsDesk (desk self.now) };
 
-    /// The task at a place in order of handle, with at most 8 records each way; None past the last.
+    /// The task at a place in order of handle, with at most so many records each way as may be; None past the last.
     fn task(&self, i: usize) -> Option<TaskSight<'_>>
         ensures some { IfSome result (λ s. (t : Task) × (slice_get (desk self.now).tasks i ≡ Some t) × IsTaskSeen s t) }
         ensures none { IfNone result (slice_get (desk self.now).tasks i ≡ None) }
-        ensures few { length (desk self.now).tasks ≤ 32 }
+        ensures few { length (desk self.now).tasks ≤ most_tasks }
         ensures records { IfSome result (λ s. (length s.sending.now ≤ most_records)
             × (length s.taking.now ≤ most_records)) };
 
@@ -142,12 +109,12 @@ pub trait Sight {
         requires { IsSome (heap_seen heap (desk self.now)) }
         ensures { IfSome (heap_seen heap (desk self.now)) (λ h. result ≡ h.end) };
 
-    /// Up to 64 segments of a heap, of which the first begins at a place in bytes from the heap's first one; none at
+    /// As many segments of a heap as are told at a time, of which the first begins at a place in bytes from the heap's first one; none at
     /// the end of the last.
     fn segments(&self, heap: HeapOf, place: u32) -> Segments
         requires { IfSome (heap_seen heap (desk self.now)) (λ h. (below : List Segment) × (rest : List Segment) × (h.segments ≡ below ++ rest) × (place ≡ place_after below)) }
         ensures { IfSome (heap_seen heap (desk self.now)) (λ h. (below : List Segment) (rest : List Segment) → h.segments ≡ below ++ rest → place ≡ place_after below →
-            result.items ≡ take MOST_AT_ONCE (segment_items_from (heap_start_of heap + place) rest)) };
+            result.items ≡ take SEGMENTS_AT_ONCE (segment_items_from (heap_start_of heap + place) rest)) };
 
     /// Writes the first bytes of the block of a heap whose segment begins at a place, as many as there is room for. No
     /// message lies in the block.
@@ -163,14 +130,14 @@ pub trait Sight {
 
     /// How many pages one of areas 0 to 5 has.
     fn fixed_pages(&self, number: u32) -> u32
-        requires { number < 6 }
+        requires { number < FIXED_AREAS }
         ensures { IsAreaSeen number result (desk self.now) };
 
     /// The made area at a place in order of number; None past the last.
     fn made(&self, i: usize) -> Option<AreaSight>
         ensures some { IfSome result (λ a. slice_get (desk self.now).made i ≡ Some (record { number = a.number; most = a.most; pages = a.pages })) }
         ensures none { IfNone result (slice_get (desk self.now).made i ≡ None) }
-        ensures few { length (desk self.now).made ≤ 32 };
+        ensures few { length (desk self.now).made ≤ most_made };
 
     /// The scrap file, if there is one.
     fn scrap(&self) -> Option<ScrapSight>

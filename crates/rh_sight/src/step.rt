@@ -2,7 +2,7 @@
 
 use crate::kept::Kept;
 use crate::marks::Marks;
-use crate::sight::MessageItem;
+use rh_defs::MessageItem;
 
 /// A step of a picture beside the desk behind it: what was kept of the desk before, what the command did, and all
 /// messages and the numbers of all pages behind it, as the desk tells them.

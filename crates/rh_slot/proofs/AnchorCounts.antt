@@ -3,7 +3,7 @@ use Rattle.std.proofs.Common.{◌≡◌, ℕ, zero, suc, ◌+◌, ◌*◌, ◌<�
 use Rattle.std.specs.Prelude.{◌||◌, if◌then◌else◌}
 use Rattle.std.proofs.lemmas.Bool.{cases_eq}
 use Rattle.rh_defs.specs.Bytes.{word}
-use Rattle.rh_defs.specs.Slot.{Flex, weight, slot_start, IsFree, HaveAnchors}
+use Rattle.rh_defs.specs.Slot.{Flex, weight, slot_start, IsFree, HaveAnchors, anchor_count}
 use Rattle.rh_defs.specs.SlotImage.{Hang, flex_in}
 use Rattle.rh_defs.proofs.HeapLists.{eqb_same, eqb_apart}
 use Rattle.rh_defs.proofs.HeapFaults.{eq_from}
@@ -51,7 +51,7 @@ held_above f fs (suc n) u h = elim (cases_eq f.anchor n) [
 ]
 
 -- all blocks have anchors of their own
-held_all : (fs : List Flex) (n : ℕ) → HaveAnchors fs → 64 ≤ n → held fs n ≡ length fs
+held_all : (fs : List Flex) (n : ℕ) → HaveAnchors fs → anchor_count ≤ n → held fs n ≡ length fs
 held_all [] n a h = held_none n
 held_all (f ∷ fs) n a h = let l = a.0 in held_above f fs n a.1 (omega arith) ∙ ap suc (held_all fs n a.2 h)
 
@@ -112,16 +112,16 @@ module _ (b : List ℕ) (fs : List Flex) (lead : (k : ℕ) → has_anchor fs k �
       go false false e f c = loose_on n (words false e) (holds false f) (either false false e f) c
 
 module _ (b : List ℕ) (k p : ℕ) where
-  counts : Counted b (flex_in k b p) 64
-  counts = count b (flex_in k b p) (λ j. led b p (flex_in k b p) j (rows k b p).hang) 64
+  counts : Counted b (flex_in k b p) anchor_count
+  counts = count b (flex_in k b p) (λ j. led b p (flex_in k b p) j (rows k b p).hang) anchor_count
 
-  all_held : held (flex_in k b p) 64 ≡ length (flex_in k b p)
-  all_held = held_all (flex_in k b p) 64 (rows k b p).anchors (omega arith)
+  all_held : held (flex_in k b p) anchor_count ≡ length (flex_in k b p)
+  all_held = held_all (flex_in k b p) anchor_count (rows k b p).anchors (omega arith)
 
-  pub as_many : are_hung b (flex_in k b p) 64 ≡ true → words_in_use b 64 ≡ length (flex_in k b p)
+  pub as_many : are_hung b (flex_in k b p) anchor_count ≡ true → words_in_use b anchor_count ≡ length (flex_in k b p)
   as_many e = counts.yes e ∙ all_held
 
-  pub hung_by : words_in_use b 64 ≡ length (flex_in k b p) → are_hung b (flex_in k b p) 64 ≡ true
+  pub hung_by : words_in_use b anchor_count ≡ length (flex_in k b p) → are_hung b (flex_in k b p) anchor_count ≡ true
   hung_by e = counts.back (e ∙ sym all_held)
 
 -- ---- the walk over the anchor words
@@ -129,13 +129,13 @@ module _ (b : List ℕ) (k p : ℕ) where
 pub record WordsTo (b : List ℕ) (n used : ℕ) : Type 0 where
   pub used_is : used ≡ words_in_use b n
   pub few : used ≤ n
-  pub most : n ≤ 64
+  pub most : n ≤ anchor_count
 
 pub words_start : (b : List ℕ) → WordsTo b 0 0
 unfolding words_in_use
 words_start b = record { used_is = refl; few = omega arith; most = omega arith }
 
-pub words_on : (b : List ℕ) (n used : ℕ) → WordsTo b n used → n < 64 → (word b (4 * n) ≡ 0 → ⊥) → WordsTo b (n + 1) (used + 1)
+pub words_on : (b : List ℕ) (n used : ℕ) → WordsTo b n used → n < anchor_count → (word b (4 * n) ≡ 0 → ⊥) → WordsTo b (n + 1) (used + 1)
 unfolding words_in_use
 words_on b n used w l d =
     let u = w.used_is in
@@ -145,7 +145,7 @@ words_on b n used w l d =
     let e : words_in_use b (n + 1) ≡ words_in_use b (suc n) = ap (words_in_use b) m in
     record { used_is = omega arith; few = omega arith; most = omega arith }
 
-pub words_past : (b : List ℕ) (n used : ℕ) → WordsTo b n used → n < 64 → word b (4 * n) ≡ 0 → WordsTo b (n + 1) used
+pub words_past : (b : List ℕ) (n used : ℕ) → WordsTo b n used → n < anchor_count → word b (4 * n) ≡ 0 → WordsTo b (n + 1) used
 unfolding words_in_use
 words_past b n used w l z =
     let u = w.used_is in
@@ -155,5 +155,5 @@ words_past b n used w l z =
     let e : words_in_use b (n + 1) ≡ words_in_use b (suc n) = ap (words_in_use b) m in
     record { used_is = omega arith; few = omega arith; most = omega arith }
 
-pub words_end : (b : List ℕ) (n used : ℕ) → WordsTo b n used → 64 ≤ n → used ≡ words_in_use b 64
-words_end b n used w h = let m = w.most in let e : n ≡ 64 = omega arith in w.used_is ∙ ap (words_in_use b) e
+pub words_end : (b : List ℕ) (n used : ℕ) → WordsTo b n used → anchor_count ≤ n → used ≡ words_in_use b anchor_count
+words_end b n used w h = let m = w.most in let e : n ≡ anchor_count = omega arith in w.used_is ∙ ap (words_in_use b) e

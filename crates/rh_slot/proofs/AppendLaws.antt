@@ -4,6 +4,7 @@ use Rattle.std.proofs.lemmas.List.{length-replicate, take_at, take_all, drop_all
 use Rattle.std.proofs.Math.ListN.{length-append}
 use Rattle.std.proofs.lemmas.Bool.{cases_eq, cases_lt}
 use Rattle.std.specs.Prelude.{Ok, Err, unwrap_or}
+use Rattle.rh_defs.specs.declared.sizes.TheConstants.{PAGE}
 use Rattle.rh_defs.specs.declared.refusal.Refusal.TheVariants.{NoBlock, BadRange, NoRoom}
 use Rattle.rh_defs.specs.Bytes.{word, part, put, SameIn, SameOutside}
 use Rattle.rh_defs.specs.Chain.{Granted, ◌>>=◌, refuse_if, found_or}
@@ -12,7 +13,7 @@ use Rattle.rh_defs.specs.Memory.{Memory, OnlyArea, bytes}
 use Rattle.rh_defs.specs.Pieces.{total, pages_for, zeros, written, Split}
 use Rattle.rh_defs.specs.Slot as slot
 use Rattle.rh_defs.specs.Slot.{Flex, Slot, weight, flex_weight, slot_length, slot_pages, IsFree, with_bytes, lacks_room, slot_block, slot_extend, slot_put}
-use Rattle.rh_defs.specs.SlotImage.{Lie, SlotWords, flex_place}
+use Rattle.rh_defs.specs.SlotImage.{Lie, SlotWords, flex_place, heap_place}
 use Rattle.rh_defs.proofs.BytesLaws.{word_same, part_same, part_more, part-put, put_outside, SameOutside-self}
 use Rattle.rh_defs.proofs.Chains.{refuse_if-true, refuse_if-false}
 use Rattle.rh_defs.proofs.HeapLists.{ltb_yes, ltb_no}
@@ -26,7 +27,7 @@ use Rattle.rh_slot.proofs.FlexLaws.{then_none, then_at}
 -- the steps: those above slide, the size word, and the bytes at the end
 pub appended_words : (b b2 b3 d : List ℕ) (s : Slot) (k place size from n to : ℕ) (cut : Split Flex) (xs : List ℕ) → SlotWords b s → FoundAt k s place size cut
     → from ≡ place + flex_weight size → from + n ≡ slot_length s → to ≡ place + flex_weight (size + length xs)
-    → ((fs : List Flex) → Lie b from fs → total weight fs ≡ n → Shifted b b2 to fs) → SameIn b b2 256 to → to + n ≤ length d
+    → ((fs : List Flex) → Lie b from fs → total weight fs ≡ n → Shifted b b2 to fs) → SameIn b b2 heap_place to → to + n ≤ length d
     → word b3 (place + 4) ≡ size + length xs → SameOutside b2 b3 (place + 4) (place + 4 + 4)
     → d ≡ put b3 (place + 8 + size) xs
     → SlotWords d (with_bytes cut (cut.here.bytes ++ xs) s) × (slot_length (with_bytes cut (cut.here.bytes ++ xs) s) ≡ to + n)
@@ -52,14 +53,14 @@ appended_words b b2 b3 d s k place size from n to cut xs w t ef en et sh same fi
     changed b b b2 d s k place size from n to cut nb w t ef en (SameOutside-self b p from) sh same fits (omega arith) o hd now
 
 -- the pages that it needs, where the block had the weight v and gets the weight w
-pub appended_pages : (b : List ℕ) (s : Slot) (k place size more v w t : ℕ) (cut : Split Flex) → FoundAt k s place size cut → length b ≡ 4096 * slot_pages s
+pub appended_pages : (b : List ℕ) (s : Slot) (k place size more v w t : ℕ) (cut : Split Flex) → FoundAt k s place size cut → length b ≡ PAGE * slot_pages s
     → v ≡ flex_weight size → w ≡ flex_weight (size + more) → t ≡ slot_length s
-    → pages_for (place + w + (t - (place + v))) - length b / 4096 ≡ pages_for (slot.length_with cut (length cut.here.bytes + more) s) - slot_pages s
+    → pages_for (place + w + (t - (place + v))) - length b / PAGE ≡ pages_for (slot.length_with cut (length cut.here.bytes + more) s) - slot_pages s
 appended_pages b s k place size more v w t cut f l ev ew et =
     let inside = f.inside in
     let wl : flex_weight (length cut.here.bytes + more) ≡ flex_weight (size + more) = ap (λ i. flex_weight (i + more)) (sym f.long) in
     let vl : weight cut.here ≡ flex_weight size = ap flex_weight (sym f.long) in
-    let q : length b / 4096 ≡ slot_pages s = omega arith in
+    let q : length b / PAGE ≡ slot_pages s = omega arith in
     let top : place + w + (t - (place + v)) ≡ slot.length_with cut (length cut.here.bytes + more) s = omega arith in
     rw (q, top) refl
 
@@ -79,7 +80,7 @@ unfolding part
 no_part b c place more e = rw e refl
 
 -- they stay below the blocks
-pub source_stays : (m n : Memory) (id from place more hi : ℕ) → OnlyArea m n id → SameIn (bytes m id) (bytes n id) 256 hi → (from ≡ id → 0 < more → 256 ≤ place) → (from ≡ id → place + more ≤ hi)
+pub source_stays : (m n : Memory) (id from place more hi : ℕ) → OnlyArea m n id → SameIn (bytes m id) (bytes n id) heap_place hi → (from ≡ id → 0 < more → heap_place ≤ place) → (from ≡ id → place + more ≤ hi)
     → part (bytes n from) place more ≡ part (bytes m from) place more
 source_stays m n id from place more hi only o low high = elim (cases_eq from id) [
   | inl q ↦ ap (λ i. part (bytes n i) place more) q ∙ here q (cases_lt 0 more) ∙ ap (λ i. part (bytes m i) place more) (sym q)

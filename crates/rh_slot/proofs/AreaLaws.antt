@@ -1,6 +1,7 @@
 -- Areas that are edited, and their pages.
 use Rattle.std.proofs.Common.{◌≡◌, ℕ, ◌+◌, ◌*◌, ◌≤◌, List, length, refl, sym, ap, subst, ◌∙◌, arith}
 use Rattle.std.specs.Prelude.{Result, Ok, Err, OnOk}
+use Rattle.rh_defs.specs.declared.sizes.TheConstants.{PAGE}
 use Rattle.rh_defs.specs.Bytes.{part, put}
 use Rattle.rh_defs.specs.Memory.{Memory, Edited, Resized, bytes, with_bytes, grown, shrunk}
 use Rattle.rh_defs.proofs.BytesLaws.{put_inside, put_outside, get-part, length-part}
@@ -23,12 +24,12 @@ Carried-slid m n id from to k e h =
     let q : bytes n id ≡ xs = ap (λ (r : Memory). bytes r id) e ∙ bytes-with_bytes m id xs in
     subst (λ c. Carried (bytes m id) c from to k) (sym q) (slid (bytes m id) from to k h)
 
-pub Resized-grown : (m n : Memory) (id k count : ℕ) → n ≡ grown m id k → k ≤ m.free → length (bytes m id) + 4096 * k ≡ 4096 * count → Resized m n id (length (bytes m id)) count
+pub Resized-grown : (m n : Memory) (id k count : ℕ) → n ≡ grown m id k → k ≤ m.free → length (bytes m id) + PAGE * k ≡ PAGE * count → Resized m n id (length (bytes m id)) count
 Resized-grown m n id k count e h l =
     subst (λ (r : Memory). Resized m r id (length (bytes m id)) count) (sym e)
     (record { same = SameIn-grown m id k 0 (length (bytes m id)) (omega arith); len = length-grown m id k ∙ l; only = OnlyArea-grown m id k h })
 
-pub Resized-shrunk : (m n : Memory) (id keep k count : ℕ) → n ≡ shrunk m id k → keep + 4096 * k ≤ length (bytes m id) → length (bytes m id) ≡ 4096 * count + 4096 * k → Resized m n id keep count
+pub Resized-shrunk : (m n : Memory) (id keep k count : ℕ) → n ≡ shrunk m id k → keep + PAGE * k ≤ length (bytes m id) → length (bytes m id) ≡ PAGE * count + PAGE * k → Resized m n id keep count
 Resized-shrunk m n id keep k count e h l =
     subst (λ (r : Memory). Resized m r id keep count) (sym e)
     (record { same = SameIn-shrunk m id k 0 keep h; len = length-shrunk m id k ∙ omega arith; only = OnlyArea-shrunk m id k (omega arith) })

@@ -3,13 +3,14 @@ use Rattle.std.proofs.Common.{◌≡◌, ◌≢◌, ℕ, ◌+◌, ◌-◌, ◌�
 use Rattle.std.proofs.lemmas.Bool.{cases_eq}
 use Rattle.std.specs.Prelude.{IfSome, cond, Option, Some, None, Result, Ok, Err, IsOk, ok_or, ℤ, pos, negsuc}
 use Rattle.std.proofs.Common.{SFits, w32}
+use Rattle.rh_defs.specs.SlotImage.{heap_place}
 use Rattle.rh_defs.specs.Bytes.{SameOutside}
 use Rattle.rh_defs.specs.Memory.{Memory, OnlyArea, bytes}
 use Rattle.rh_defs.specs.Pieces.{total, round_up, page, pages_for, zeros, moved, Split}
 use Rattle.rh_defs.specs.Chain.{Granted, answer_of, left_of, no_answer, ◌>>=◌, refuse_if, found_or}
 use Rattle.rh_defs.specs.Heap.{Segment, Used, Hole, Heap, Placed, Way, Stays, Shrinks, GrowsIntoHole, GrowsAtTop, MovesToHole, MovesToTop, need, claim, claim_need, claim_growing, placed_in, hole_for, is_hole_for, way_beyond, way_to_grow, raised, block_room, size_of, bytes_of, resized, resized_by, resize, resize_found, resize_need, resize_growing, need_found, new_size, fitted, way_to, segment_size, released, release, release_found, block_at, is_block_at, released_at, as_granted, refusal_of, base, place_after, end_for}
 use Rattle.rh_defs.specs.HeapImage.{Spells}
-use Rattle.rh_defs.specs.Slot.{weight, flex_weight, slot_length, slot_pages, is_stuck, with_heap, with_block, slot_claim, slot_resize, slot_release, slot_take_pages, heap_block_at}
+use Rattle.rh_defs.specs.Slot.{weight, flex_weight, slot_length, slot_pages, is_stuck, with_heap, with_block, slot_claim, slot_resize, slot_release, slot_take_pages, heap_block_at, heap_start}
 use Rattle.rh_defs.specs.Slot as plain
 use Rattle.rh_defs.specs.declared.heap.HeapRefusal.{HeapRefusal}
 use Rattle.rh_defs.specs.declared.heap.HeapRefusal.TheVariants as heap_refusal
@@ -38,14 +39,14 @@ longer m slot s k w b = heap_same m slot ∙ ap (λ (x : plain.Slot). x.heap) (s
 
 -- the heap's own call places a block, so the slot's is done
 done_there : (o m n : Memory) (slot : Slot) (k : ℕ) (p : Placed) (call : Granted (plain.Slot × ℕ)) (own : Result (Heap × ℕ) HeapRefusal) (address : ℕ)
-    → (let s = slot_in o slot in SpellsIn m slot (lengthened k s) → call ≡ after_growth o.free k s (with_heap p.heap s, 33024 + p.address) → Gives (Ok (tt {0})) o.free k s → p.heap.end ≡ (raised k s.heap).end
-    → own ≡ Ok (as_granted p) → heap_calls.Leaves m n (span_of slot) own (Ok address) → OnlyArea o m slot.area.0 → Leaves o n slot call (Ok (33024 + address)))
+    → (let s = slot_in o slot in SpellsIn m slot (lengthened k s) → call ≡ after_growth o.free k s (with_heap p.heap s, heap_start + p.address) → Gives (Ok (tt {0})) o.free k s → p.heap.end ≡ (raised k s.heap).end
+    → own ≡ Ok (as_granted p) → heap_calls.Leaves m n (span_of slot) own (Ok address) → OnlyArea o m slot.area.0 → Leaves o n slot call (Ok (heap_start + address)))
 done_there o m n slot k p call own address w e g q is l only =
     let s = slot_in o slot in
     let same : ◌≡◌ {A = Result ℕ HeapRefusal} (Ok p.address) (Ok address) = sym (l.answer ∙ ap answer_of is) in
     let there : p.address ≡ address = cc in
-    leaves o n slot call (with_heap p.heap s) (33024 + address) (e ∙ growth_ok o.free k s (with_heap p.heap s, 33024 + p.address) g ∙ ap (λ i. Ok (with_heap p.heap s, 33024 + i)) there) (budging_same o slot)
-    (placed_there m n slot s k p w (budging_same o slot) q l.only (subst (λ x. Spells (bytes n slot.area.0) 256 (left_of (heap_in m (span_of slot)) x)) is l.spells))
+    leaves o n slot call (with_heap p.heap s) (heap_start + address) (e ∙ growth_ok o.free k s (with_heap p.heap s, heap_start + p.address) g ∙ ap (λ i. Ok (with_heap p.heap s, heap_start + i)) there) (budging_same o slot)
+    (placed_there m n slot s k p w (budging_same o slot) q l.only (subst (λ x. Spells (bytes n slot.area.0) heap_place (left_of (heap_in m (span_of slot)) x)) is l.spells))
     (then_edited only l.only)
 
 -- and it is not refused
@@ -58,11 +59,11 @@ pub claim_longer : (m : Memory) (slot : Slot) (s : plain.Slot) (k n : ℕ) → S
 claim_longer m slot s k n w b ne e = ap (claim n) (longer m slot s k w b) ∙ ap (λ i. claim n (raised i s.heap)) e ∙ claim-raised n s.heap ne
 
 pub claimed : (o m l : Memory) (slot : Slot) (k n address : ℕ) → (let s = slot_in o slot in SpellsIn m slot (lengthened k s) → n ≢ 0 → k ≡ need n s.heap → Gives (Ok (tt {0})) o.free k s
-    → heap_calls.Leaves m l (span_of slot) (claim n (heap_in m (span_of slot))) (Ok address) → OnlyArea o m slot.area.0 → Leaves o l slot (slot_claim o.free n s) (Ok (33024 + address)))
+    → heap_calls.Leaves m l (span_of slot) (claim n (heap_in m (span_of slot))) (Ok address) → OnlyArea o m slot.area.0 → Leaves o l slot (slot_claim o.free n s) (Ok (heap_start + address)))
 claimed o m l slot k n address w ne e g there only =
     let s = slot_in o slot in
     done_there o m l slot k (claim_growing n s.heap) (slot_claim o.free n s) (claim n (heap_in m (span_of slot))) address w
-    (slot_claim-growth o.free n s ne ∙ ap (λ i. after_growth o.free i s (with_heap (claim_growing n s.heap).heap s, 33024 + (claim_growing n s.heap).address)) (sym e)) g
+    (slot_claim-growth o.free n s ne ∙ ap (λ i. after_growth o.free i s (with_heap (claim_growing n s.heap).heap s, heap_start + (claim_growing n s.heap).address)) (sym e)) g
     (end-claim_growing n s.heap ∙ ap (λ i. (raised i s.heap).end) (sym e)) (claim_longer m slot s k n w (budging_same o slot) ne e) there only
 
 pub claim_is_done : (o m l : Memory) (slot : Slot) (k n : ℕ) {r : Result ℕ HeapRefusal} → (let s = slot_in o slot in SpellsIn m slot (lengthened k s) → n ≢ 0 → k ≡ need n s.heap
@@ -101,7 +102,7 @@ need_found_ok delta (Some b) h k e = elim (cases_eq (new_size delta b) 0) [
 ]
 
 pub slot_resize-growth : (free address : ℕ) (delta : ℤ) (s : plain.Slot) (b : Split Segment) → heap_block_at address s ≡ Some b → new_size delta b ≢ 0
-    → slot_resize free address delta s ≡ after_growth free (resize_need (new_size delta b) b s.heap) s (with_heap (resize_growing (new_size delta b) b s.heap).heap s, 33024 + (resize_growing (new_size delta b) b s.heap).address)
+    → slot_resize free address delta s ≡ after_growth free (resize_need (new_size delta b) b s.heap) s (with_heap (resize_growing (new_size delta b) b s.heap).heap s, heap_start + (resize_growing (new_size delta b) b s.heap).address)
 unfolding slot_resize after_growth ◌>>=◌ refuse_if found_or
 slot_resize-growth free address delta s b e ne = rw e (rw (eqb_apart (new_size delta b) 0 ne) refl)
 
@@ -127,14 +128,14 @@ pub resize_longer : (m : Memory) (slot : Slot) (s : plain.Slot) (k a : ℕ) (del
 resize_longer m slot s k a delta t w b =
     ap (resize a delta) (longer m slot s k w b) ∙ ap (λ o. resize_found delta o (raised k s.heap)) t.found ∙ resize_found-raised delta t.block s.heap k t.some t.short
 
-pub resized_there : (o m l : Memory) (slot : Slot) (k a address : ℕ) (delta : ℤ) (x : ℕ) → (let s = slot_in o slot in Resizes delta (block_at a s.heap) s.heap k → a ≡ address - 33024
+pub resized_there : (o m l : Memory) (slot : Slot) (k a address : ℕ) (delta : ℤ) (x : ℕ) → (let s = slot_in o slot in Resizes delta (block_at a s.heap) s.heap k → a ≡ address - heap_start
     → SpellsIn m slot (lengthened k s) → Gives (Ok (tt {0})) o.free k s
-    → heap_calls.Leaves m l (span_of slot) (resize a delta (heap_in m (span_of slot))) (Ok x) → OnlyArea o m slot.area.0 → Leaves o l slot (slot_resize o.free address delta s) (Ok (33024 + x)))
+    → heap_calls.Leaves m l (span_of slot) (resize a delta (heap_in m (span_of slot))) (Ok x) → OnlyArea o m slot.area.0 → Leaves o l slot (slot_resize o.free address delta s) (Ok (heap_start + x)))
 resized_there o m l slot k a address delta x t e w g there only =
     let s = slot_in o slot in
     let p = resize_growing (new_size delta t.block) t.block s.heap in
     done_there o m l slot k p (slot_resize o.free address delta s) (resize a delta (heap_in m (span_of slot))) x w
-    (slot_resize-growth o.free address delta s t.block (ap (λ i. block_at i s.heap) (sym e) ∙ t.found) t.some ∙ ap (λ i. after_growth o.free i s (with_heap p.heap s, 33024 + p.address)) (sym t.short)) g
+    (slot_resize-growth o.free address delta s t.block (ap (λ i. block_at i s.heap) (sym e) ∙ t.found) t.some ∙ ap (λ i. after_growth o.free i s (with_heap p.heap s, heap_start + p.address)) (sym t.short)) g
     (end-resize_growing (new_size delta t.block) t.block s.heap ∙ ap (λ i. (raised i s.heap).end) (sym t.short)) (resize_longer m slot s k a delta t w (budging_same o slot)) there only
 
 pub resize_is_done : (o m l : Memory) (slot : Slot) (k a : ℕ) (delta : ℤ) {r : Result ℕ HeapRefusal} → (let s = slot_in o slot in Resizes delta (block_at a s.heap) s.heap k → SpellsIn m slot (lengthened k s)
@@ -143,11 +144,11 @@ resize_is_done o m l slot k a delta t w there =
     let s = slot_in o slot in
     is_done (resize_growing (new_size delta t.block) t.block s.heap) (resize a delta (heap_in m (span_of slot))) (resize_longer m slot s k a delta t w (budging_same o slot)) there
 
-pub resize_call-growth : (free address a k : ℕ) (delta : ℤ) (s : plain.Slot) (t : Resizes delta (block_at a s.heap) s.heap k) → a ≡ address - 33024
-    → slot_resize free address delta s ≡ after_growth free k s (with_heap (resize_growing (new_size delta t.block) t.block s.heap).heap s, 33024 + (resize_growing (new_size delta t.block) t.block s.heap).address)
+pub resize_call-growth : (free address a k : ℕ) (delta : ℤ) (s : plain.Slot) (t : Resizes delta (block_at a s.heap) s.heap k) → a ≡ address - heap_start
+    → slot_resize free address delta s ≡ after_growth free k s (with_heap (resize_growing (new_size delta t.block) t.block s.heap).heap s, heap_start + (resize_growing (new_size delta t.block) t.block s.heap).address)
 resize_call-growth free address a k delta s t e =
     slot_resize-growth free address delta s t.block (ap (λ i. block_at i s.heap) (sym e) ∙ t.found) t.some
-    ∙ ap (λ i. after_growth free i s (with_heap (resize_growing (new_size delta t.block) t.block s.heap).heap s, 33024 + (resize_growing (new_size delta t.block) t.block s.heap).address)) (sym t.short)
+    ∙ ap (λ i. after_growth free i s (with_heap (resize_growing (new_size delta t.block) t.block s.heap).heap s, heap_start + (resize_growing (new_size delta t.block) t.block s.heap).address)) (sym t.short)
 
 end_for_most : (w : Way) (t : ℕ) (s : Split Segment) (h : Heap) → place_after s.before ≤ h.end → base h ≤ h.end → end_for w t s h - h.end ≤ t
 end_for_most Stays t s h p l = omega arith
@@ -174,7 +175,7 @@ pub slot_release-none : (address : ℕ) (s : plain.Slot) → heap_block_at addre
 unfolding slot_release ◌>>=◌ found_or
 slot_release-none address s e = rw e refl
 
-pub released_there : (m n : Memory) (slot : Slot) (address a : ℕ) {x : Unit {0}} → (let s = slot_in m slot in IsSlot m slot → a ≡ address - 33024
+pub released_there : (m n : Memory) (slot : Slot) (address a : ℕ) {x : Unit {0}} → (let s = slot_in m slot in IsSlot m slot → a ≡ address - heap_start
     → heap_calls.Leaves m n (span_of slot) (no_answer (released_at a (heap_in m (span_of slot)))) (Ok x) → Leaves m n slot (no_answer (slot_release address s)) (Ok tt))
 released_there m n slot address a w ea l =
     let s = slot_in m slot in
@@ -183,13 +184,13 @@ released_there m n slot address a w ea l =
     let found : block_at a s.heap ≡ Some b.0 = ap (block_at a) (sym same) ∙ b.1 in
     let call = slot_release-some address s b.0 (ap (λ k. block_at k s.heap) (sym ea) ∙ found) in
     let heap : release a (heap_in m (span_of slot)) ≡ released b.0 s.heap = ap (release a) same ∙ ap (λ o. release_found o s.heap) found in
-    let spelt = subst (λ r. Spells (bytes n slot.area.0) 256 (left_of (heap_in m (span_of slot)) (no_answer r))) (released_at-some a (heap_in m (span_of slot)) b.0 b.1) l.spells in
+    let spelt = subst (λ r. Spells (bytes n slot.area.0) heap_place (left_of (heap_in m (span_of slot)) (no_answer r))) (released_at-some a (heap_in m (span_of slot)) b.0 b.1) l.spells in
     leaves m n slot (no_answer (slot_release address s)) (with_heap (released b.0 s.heap) s) tt (ap no_answer call) (budging_same m slot)
     (SpellsSlot-with_heap (bytes m slot.area.0) (bytes n slot.area.0) s (released b.0 s.heap) w.spells
-    (subst (λ (x : Heap). SameOutside (bytes m slot.area.0) (bytes n slot.area.0) 256 (256 + x.end)) same l.only.outside) (subst (Spells (bytes n slot.area.0) 256) heap spelt) refl)
+    (subst (λ (x : Heap). SameOutside (bytes m slot.area.0) (bytes n slot.area.0) heap_place (heap_place + x.end)) same l.only.outside) (subst (Spells (bytes n slot.area.0) heap_place) heap spelt) refl)
     (OnlyArea-from_Edited m n slot.area.0 _ _ l.only)
 
-pub release_refused : (m n : Memory) (slot : Slot) (address a : ℕ) {refusal : HeapRefusal} → (let s = slot_in m slot in IsSlot m slot → a ≡ address - 33024
+pub release_refused : (m n : Memory) (slot : Slot) (address a : ℕ) {refusal : HeapRefusal} → (let s = slot_in m slot in IsSlot m slot → a ≡ address - heap_start
     → heap_calls.Leaves m n (span_of slot) (no_answer (released_at a (heap_in m (span_of slot)))) (Err refusal) → Leaves m n slot (no_answer (slot_release address s)) (Err (refusal_of refusal)))
 release_refused m n slot address a {refusal} w ea l =
     let s = slot_in m slot in
@@ -218,9 +219,9 @@ claim_needs n k s h e q = need_ok n k s.heap (q ∙ ap (claim_need n) e)
 
 pub claim_stopped : (free n k : ℕ) (s : plain.Slot) (e : Refusal) → (n ≢ 0) × (k ≡ need n s.heap) → Gives (Err e) free k s → slot_claim free n s ≡ Err e
 claim_stopped free n k s e w g =
-    slot_claim-growth free n s w.0 ∙ growth_err free (need n s.heap) s (with_heap (claim_growing n s.heap).heap s, 33024 + (claim_growing n s.heap).address) e (subst (λ i. Gives (Err e) free i s) w.1 g)
+    slot_claim-growth free n s w.0 ∙ growth_err free (need n s.heap) s (with_heap (claim_growing n s.heap).heap s, heap_start + (claim_growing n s.heap).address) e (subst (λ i. Gives (Err e) free i s) w.1 g)
 
-pub resize_stopped : (free address a k : ℕ) (delta : ℤ) (s : plain.Slot) (e : Refusal) (t : Resizes delta (block_at a s.heap) s.heap k) → a ≡ address - 33024 → Gives (Err e) free k s → slot_resize free address delta s ≡ Err e
+pub resize_stopped : (free address a k : ℕ) (delta : ℤ) (s : plain.Slot) (e : Refusal) (t : Resizes delta (block_at a s.heap) s.heap k) → a ≡ address - heap_start → Gives (Err e) free k s → slot_resize free address delta s ≡ Err e
 resize_stopped free address a k delta s e t q g = resize_call-growth free address a k delta s t q ∙ growth_err free k s _ e g
 
 -- ---- bounds
@@ -320,7 +321,7 @@ module _ (m n : Memory) (slot : Slot) (span : Span) (at : span ≡ span_of slot)
     claims_none : (k ≢ 0) × (0 ≡ need k s.heap)
     claims_none = claim_needs k 0 s (heap_in m (span_of slot)) (heap_same m slot) (claim-granted k address (heap_in m (span_of slot)) claim_there.answer)
 
-    pub claimed_here : Leaves m n slot (slot_claim m.free k s) (Ok (33024 + address))
+    pub claimed_here : Leaves m n slot (slot_claim m.free k s) (Ok (heap_start + address))
     claimed_here =
         claimed m m n slot 0 k address (spells_longer m slot i) claims_none.0 claims_none.1 (growth_none m.free 0 s refl) claim_there (OnlyArea-self m slot.area.0 i.opened)
 
@@ -338,7 +339,7 @@ module _ (m n : Memory) (slot : Slot) (span : Span) (at : span ≡ span_of slot)
         let h = heap_in m (span_of slot) in
         subst (λ (g : Heap). Resizes delta (block_at a g) g 0) (heap_same m slot) (need_found_ok delta (block_at a h) h 0 (resize-granted delta (block_at a h) h x resize_there.answer))
 
-    pub resized_here : (address : ℕ) → a ≡ address - 33024 → Leaves m n slot (slot_resize m.free address delta s) (Ok (33024 + x))
+    pub resized_here : (address : ℕ) → a ≡ address - heap_start → Leaves m n slot (slot_resize m.free address delta s) (Ok (heap_start + x))
     resized_here address e =
         resized_there m m n slot 0 a address delta x resizes_none e (spells_longer m slot i) (growth_none m.free 0 s refl) resize_there (OnlyArea-self m slot.area.0 i.opened)
 

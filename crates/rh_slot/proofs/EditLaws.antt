@@ -4,13 +4,14 @@ use Rattle.std.proofs.lemmas.List.{length-replicate, length-take-le, length-drop
 use Rattle.std.proofs.Math.ListN.{length-append}
 use Rattle.std.proofs.lemmas.Bool.{cases_lt}
 use Rattle.std.specs.Prelude.{Ok, Err, IsTrue, ◌↔◌, ◌||◌}
+use Rattle.rh_defs.specs.declared.sizes.TheConstants.{PAGE}
 use Rattle.rh_defs.specs.declared.refusal.Refusal.TheVariants.{NoBlock, BadRange, NoRoom}
 use Rattle.rh_defs.specs.Bytes.{word, part, put, SameIn, SameOutside}
 use Rattle.rh_defs.specs.Pieces.{total, pages_for, zeros, moved, written, Split}
 use Rattle.rh_defs.specs.Heap.{fitted}
 use Rattle.rh_defs.specs.Slot as slot
 use Rattle.rh_defs.specs.Slot.{Flex, Slot, weight, flex_weight, slot_length, slot_pages, IsFree, HaveAnchors, with_bytes, opened_at, taken_out, lacks_room, slot_extend, slot_mid, slot_put, slot_read}
-use Rattle.rh_defs.specs.SlotImage.{Lie, Hang, SlotWords, flex_place}
+use Rattle.rh_defs.specs.SlotImage.{Lie, Hang, SlotWords, flex_place, heap_place}
 use Rattle.rh_defs.proofs.Anchors.{anchors-here}
 use Rattle.rh_defs.proofs.BytesLaws.{word_same, part_same, parts_same, part_more, part-part, part-drop, part-put, part-put_below, part-put_above, length-part, put_outside, SameOutside-self}
 use Rattle.rh_defs.proofs.HeapLists.{sum-append, ltb_yes, ltb_no}
@@ -42,7 +43,7 @@ row_over b b1 s k place size from n w t ef en o =
 -- bytes in a block change, the blocks above slide, and the block gets its new size and bytes
 pub changed : (b b1 c d : List ℕ) (s : Slot) (k place size from n to : ℕ) (cut : Split Flex) (bytes : List ℕ) → SlotWords b s → FoundAt k s place size cut → from ≡ place + flex_weight size → from + n ≡ slot_length s
     → SameOutside b b1 (place + 8) from
-    → ((fs : List Flex) → Lie b1 from fs → total weight fs ≡ n → Shifted b1 c to fs) → SameIn b1 c 256 to → to + n ≤ length d
+    → ((fs : List Flex) → Lie b1 from fs → total weight fs ≡ n → Shifted b1 c to fs) → SameIn b1 c heap_place to → to + n ≤ length d
     → to ≡ place + flex_weight (length bytes)
     → SameOutside c d (place + 4) to → word d (place + 4) ≡ length bytes → part d (place + 8) (length bytes) ≡ bytes
     → SlotWords d (with_bytes cut bytes s) × (slot_length (with_bytes cut bytes s) ≡ to + n)
@@ -64,7 +65,7 @@ changed b b1 c d s k place size from n to cut bytes w t ef en ob sh same fits et
     word_same c d place (in_below o (omega arith)) ∙ word_same b1 c place (part_of same (omega arith) (omega arith)) ∙ word_same b b1 place (in_below ob (omega arith)) ∙ ap (word b) st ∙ lf.0 in
     let link : word d (4 * f.anchor) ≡ 32768 + place + 8 =
     word_same c d (4 * f.anchor) (in_below o (omega arith)) ∙ x.hung.others f.anchor sm apart_of.after ∙ word_same b b1 (4 * f.anchor) (in_below ob (omega arith)) ∙ hf.0 ∙ ap (λ i. 32768 + i + 8) (sym st) in
-    let below : SameIn b d 256 place = in_both (in_below ob (omega arith)) (in_both (part_of same (omega arith) (omega arith)) (in_below o (omega arith))) in
+    let below : SameIn b d heap_place place = in_both (in_below ob (omega arith)) (in_both (part_of same (omega arith) (omega arith)) (in_below o (omega arith))) in
     let long = length_with s k place size cut bytes t in (
       rebuilt b d s xs (f ∷ []) (new ∷ []) ys place to w t.is st (omega arith)
           below (omega arith)
@@ -171,7 +172,7 @@ pub spliced_words : (b b1 b2 b3 b4 d : List ℕ) (s : Slot) (k place size from n
     → offset ≤ size → out ≤ offset → new ≡ size - out + put → from ≡ place + flex_weight size → from + n ≡ slot_length s → to ≡ place + flex_weight new
     → tail ≡ place + 8 + offset → opened ≡ tail - out → m ≡ size - offset
     → Carried b b1 tail opened m → SameOutside b b1 opened (opened + m)
-    → ((fs : List Flex) → Lie b1 from fs → total weight fs ≡ n → Shifted b1 b2 to fs) → SameIn b1 b2 256 to → to + n ≤ length d
+    → ((fs : List Flex) → Lie b1 from fs → total weight fs ≡ n → Shifted b1 b2 to fs) → SameIn b1 b2 heap_place to → to + n ≤ length d
     → word b3 (place + 4) ≡ new → SameOutside b2 b3 (place + 4) (place + 4 + 4)
     → Carried b3 b4 opened (opened + put) m → SameOutside b3 b4 (opened + put) (opened + put + m)
     → part d opened put ≡ replicate put 0 → SameOutside b4 d opened (opened + put)
@@ -207,14 +208,14 @@ abbrev after_splice : Split Flex → ℕ → ℕ → Slot → ℕ
 after_splice cut out put s = slot.length_with cut (length cut.here.bytes - out + put) s
 
 -- the pages that a splice needs, where the block had the weight v and gets the weight w
-pub spliced_pages : (b : List ℕ) (s : Slot) (k place size out put v w t : ℕ) (cut : Split Flex) → FoundAt k s place size cut → length b ≡ 4096 * slot_pages s
+pub spliced_pages : (b : List ℕ) (s : Slot) (k place size out put v w t : ℕ) (cut : Split Flex) → FoundAt k s place size cut → length b ≡ PAGE * slot_pages s
     → v ≡ flex_weight size → w ≡ flex_weight (size - out + put) → t ≡ slot_length s
-    → pages_for (place + w + (t - (place + v))) - length b / 4096 ≡ pages_for (slot.length_with cut (length cut.here.bytes - out + put) s) - slot_pages s
+    → pages_for (place + w + (t - (place + v))) - length b / PAGE ≡ pages_for (slot.length_with cut (length cut.here.bytes - out + put) s) - slot_pages s
 spliced_pages b s k place size out put v w t cut f l ev ew et =
     let inside = f.inside in
     let wl : flex_weight (length cut.here.bytes - out + put) ≡ flex_weight (size - out + put) = ap (λ i. flex_weight (i - out + put)) (sym f.long) in
     let vl : weight cut.here ≡ flex_weight size = ap flex_weight (sym f.long) in
-    let q : length b / 4096 ≡ slot_pages s = omega arith in
+    let q : length b / PAGE ≡ slot_pages s = omega arith in
     let top : place + w + (t - (place + v)) ≡ after_splice cut out put s = omega arith in
     rw (q, top) refl
 

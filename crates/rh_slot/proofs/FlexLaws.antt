@@ -3,12 +3,13 @@ use Rattle.std.proofs.Common.{◌≡◌, ℕ, ◌+◌, ◌-◌, ◌*◌, ◌/◌
 use Rattle.std.proofs.lemmas.List.{append-nil, length-replicate}
 use Rattle.std.proofs.lemmas.Bool.{cases_eq, cases_lt}
 use Rattle.std.specs.Prelude.{is_some, Ok, Err, ◌↔◌}
+use Rattle.rh_defs.specs.declared.sizes.TheConstants.{PAGE}
 use Rattle.rh_defs.specs.declared.refusal.Refusal.TheVariants.{NoBlock, AnchorInUse, NoRoom}
 use Rattle.rh_defs.specs.Bytes.{word, part, SameIn, SameOutside}
 use Rattle.rh_defs.specs.Chain.{Granted, ◌>>=◌, found_or}
 use Rattle.rh_defs.specs.Pieces.{total, pages_for, zeros, Split}
-use Rattle.rh_defs.specs.Slot.{Flex, Slot, weight, flex_weight, slot_length, slot_pages, flex_address, IsFree, HaveAnchors, without, with_block, is_used, lacks_room, slot_block, slot_size, slot_address, slot_free, slot_alloc}
-use Rattle.rh_defs.specs.SlotImage.{Lie, Hang, SlotWords, SpellsSlot, flex_place}
+use Rattle.rh_defs.specs.Slot.{Flex, Slot, weight, flex_weight, slot_length, slot_pages, flex_address, IsFree, HaveAnchors, without, with_block, is_used, lacks_room, slot_block, slot_size, slot_address, slot_free, slot_alloc, anchor_count}
+use Rattle.rh_defs.specs.SlotImage.{Lie, Hang, SlotWords, SpellsSlot, flex_place, heap_place}
 use Rattle.rh_defs.proofs.Anchors.{anchors-append}
 use Rattle.rh_defs.proofs.BytesLaws.{word_same, part_same}
 use Rattle.rh_defs.proofs.HeapLists.{sum-append, ltb_yes, ltb_no}
@@ -25,7 +26,7 @@ with_blocks blocks s = record s { blocks = blocks }
 -- bytes that stay up to the top keep the slot
 pub words_same : (b c : List ℕ) (s : Slot) → SameIn b c 0 (slot_length s) → slot_length s ≤ length c → SlotWords b s → SlotWords c s
 words_same b c s o l w = record {
-  heap = Spells-same b c 256 s.heap (part_of o (omega arith) (omega arith)) (omega arith) w.heap;
+  heap = Spells-same b c heap_place s.heap (part_of o (omega arith) (omega arith)) (omega arith) w.heap;
   within = l;
   lie = Lie-same b c (flex_place s) (slot_length s) s.blocks (part_of o (omega arith) (omega arith)) (omega arith) w.lie;
   hang = Hang-same b c (flex_place s) s.blocks w.anchors (part_of o (omega arith) (omega arith)) w.hang;
@@ -36,10 +37,10 @@ words_same b c s o l w = record {
 pub words_grown : (b c : List ℕ) (s : Slot) → SpellsSlot b s → SameIn b c 0 (length b) → length b ≤ length c → SlotWords c s
 words_grown b c s x o l = let f = x.words.within in words_same b c s (part_of o (omega arith) (omega arith)) (omega arith) x.words
 
-pub paged : (d : List ℕ) (s : Slot) (t : ℕ) → SlotWords d s → slot_length s ≡ t → length d ≡ 4096 * pages_for t → SpellsSlot d s
-paged d s t w q l = record { words = w; pages = l ∙ ap (λ i. 4096 * pages_for i) (sym q) }
+pub paged : (d : List ℕ) (s : Slot) (t : ℕ) → SlotWords d s → slot_length s ≡ t → length d ≡ PAGE * pages_for t → SpellsSlot d s
+paged d s t w q l = record { words = w; pages = l ∙ ap (λ i. PAGE * pages_for i) (sym q) }
 
-pub settled : (d e : List ℕ) (s : Slot) (t : ℕ) → SlotWords d s → slot_length s ≡ t → SameIn d e 0 t → length e ≡ 4096 * pages_for t → SpellsSlot e s
+pub settled : (d e : List ℕ) (s : Slot) (t : ℕ) → SlotWords d s → slot_length s ≡ t → SameIn d e 0 t → length e ≡ PAGE * pages_for t → SpellsSlot e s
 settled d e s t w q o l = paged e s t (words_same d e s (subst (SameIn d e 0) (sym q) o) (omega arith) w) q l
 
 -- ---- the block of an anchor
@@ -70,7 +71,7 @@ leads_at b s k a xs f ys w is e u r =
           };
     }
 
-pub leads : (b : List ℕ) (s : Slot) (k p a : ℕ) → SlotWords b s → k < 64 → p ≡ 4 * k → a ≡ word b p → (a ≡ 0 → IsFree k s.blocks) × (a ≢ 0 → Leads b s k a)
+pub leads : (b : List ℕ) (s : Slot) (k p a : ℕ) → SlotWords b s → k < anchor_count → p ≡ 4 * k → a ≡ word b p → (a ≡ 0 → IsFree k s.blocks) × (a ≢ 0 → Leads b s k a)
 leads b s k p a w l ep e =
     let r : a ≡ word b (4 * k) = e ∙ ap (word b) ep in
     elim (find k s.blocks) [
@@ -81,7 +82,7 @@ leads b s k p a w l ep e =
 
 -- ---- blocks in the middle of the list are replaced
 Hang-kept : (b d : List ℕ) (p : ℕ) (xs mid new ys : List Flex) → HaveAnchors (xs ++ (mid ++ ys)) → HaveAnchors (xs ++ (new ++ ys))
-    → ((j : ℕ) → j < 64 → IsFree j mid → IsFree j new → IsFree j ys → word d (4 * j) ≡ word b (4 * j)) → Hang b p xs → Hang d p xs
+    → ((j : ℕ) → j < anchor_count → IsFree j mid → IsFree j new → IsFree j ys → word d (4 * j) ≡ word b (4 * j)) → Hang b p xs → Hang d p xs
 Hang-kept b d p [] mid new ys x y o h = tt
 Hang-kept b d p (f ∷ xs) mid new ys x y o h =
     let u = IsFree-split f.anchor mid ys (IsFree-split f.anchor xs (mid ++ ys) x.1).1 in
@@ -90,10 +91,10 @@ Hang-kept b d p (f ∷ xs) mid new ys x y o h =
 
 pub rebuilt : (b d : List ℕ) (s : Slot) (xs mid new ys : List Flex) (p q : ℕ)
     → SlotWords b s → s.blocks ≡ xs ++ (mid ++ ys) → p ≡ flex_place s + total weight xs → q ≡ p + total weight new
-    → SameIn b d 256 p → q + total weight ys ≤ length d
+    → SameIn b d heap_place p → q + total weight ys ≤ length d
     → Lie d p new → Hang d p new → Lie d q ys → Hang d q ys
-    → ((j : ℕ) → j < 64 → IsFree j mid → IsFree j new → IsFree j ys → word d (4 * j) ≡ word b (4 * j))
-    → ((j : ℕ) → j < 64 → IsFree j new → IsFree j mid ⊎ (word d (4 * j) ≡ 0))
+    → ((j : ℕ) → j < anchor_count → IsFree j mid → IsFree j new → IsFree j ys → word d (4 * j) ≡ word b (4 * j))
+    → ((j : ℕ) → j < anchor_count → IsFree j new → IsFree j mid ⊎ (word d (4 * j) ≡ 0))
     → HaveAnchors (xs ++ (new ++ ys))
     → SlotWords d (with_blocks (xs ++ (new ++ ys)) s)
 rebuilt b d s xs mid new ys p q w is pp qq same fits ln hn ly hy others lost anchors =
@@ -102,7 +103,7 @@ rebuilt b d s xs mid new ys p q w is pp qq same fits ln hn ly hy others lost anc
     let old = subst HaveAnchors is w.anchors in
     let sum : total weight (xs ++ (new ++ ys)) ≡ total weight xs + (total weight new + total weight ys) = sum-append weight xs (new ++ ys) ∙ ap (λ n. total weight xs + n) (sum-append weight new ys) in
     record {
-      heap = Spells-same b d 256 s.heap (part_of same (omega arith) (omega arith)) (omega arith) w.heap;
+      heap = Spells-same b d heap_place s.heap (part_of same (omega arith) (omega arith)) (omega arith) w.heap;
       within = omega arith;
       lie = Lie-join d (flex_place s) p xs (new ++ ys) pp (Lie-same b d (flex_place s) p xs (part_of same (omega arith) (omega arith)) (omega arith) lx) (Lie-join d p q new ys qq ln ly);
       hang = Hang-join d (flex_place s) p xs (new ++ ys) pp (Hang-kept b d (flex_place s) xs mid new ys old anchors others hx) (Hang-join d p q new ys qq hn hy);
@@ -147,8 +148,8 @@ row_above b s k place size from n w t ef en =
     record { blocks = t.cut.after; lie = a.0; sum = a.1; anchors = a.2 }
 
 -- a block goes, and those above it slide down
-pub freed : (b c d : List ℕ) (s : Slot) (k p place size from n : ℕ) (cut : Split Flex) → SlotWords b s → FoundAt k s place size cut → k < 64 → p ≡ 4 * k → from ≡ place + flex_weight size → from + n ≡ slot_length s
-    → ((fs : List Flex) → Lie b from fs → total weight fs ≡ n → Shifted b c place fs) → SameIn b c 256 place → length c ≡ length b
+pub freed : (b c d : List ℕ) (s : Slot) (k p place size from n : ℕ) (cut : Split Flex) → SlotWords b s → FoundAt k s place size cut → k < anchor_count → p ≡ 4 * k → from ≡ place + flex_weight size → from + n ≡ slot_length s
+    → ((fs : List Flex) → Lie b from fs → total weight fs ≡ n → Shifted b c place fs) → SameIn b c heap_place place → length c ≡ length b
     → SameOutside c d p (p + 4) → word d p ≡ 0
     → SlotWords d (without cut s) × (slot_length (without cut s) ≡ place + n)
 freed b c d s k p place size from n cut w t l ep ef en sh same len op zp =
@@ -176,7 +177,7 @@ freed b c d s k p place size from n cut w t l ep ef en sh same len op zp =
     )
 
 -- the words of a new block are written one after another
-pub alloced : (b b1 b2 b3 d : List ℕ) (s : Slot) (k p n t : ℕ) → SlotWords b s → IsFree k s.blocks → k < 64 → p ≡ 4 * k → t ≡ slot_length s → t + flex_weight n ≤ length b
+pub alloced : (b b1 b2 b3 d : List ℕ) (s : Slot) (k p n t : ℕ) → SlotWords b s → IsFree k s.blocks → k < anchor_count → p ≡ 4 * k → t ≡ slot_length s → t + flex_weight n ≤ length b
     → word b1 t ≡ 32768 + p → SameOutside b b1 t (t + 4)
     → word b2 (t + 4) ≡ n → SameOutside b1 b2 (t + 4) (t + 4 + 4)
     → part b3 (t + 8) n ≡ replicate n 0 → SameOutside b2 b3 (t + 8) (t + 8 + n)
@@ -266,10 +267,10 @@ alloc_done free k n s a u h e =
     ∙ ap (λ (i : ℕ). Ok (with_block k (zeros n) s, i)) (sym e)
 
 -- the pages that a new block needs
-pub pages_more : (b : List ℕ) (s : Slot) (n t w : ℕ) → length b ≡ 4096 * slot_pages s → t ≡ slot_length s → w ≡ flex_weight n
-    → pages_for (t + w) - length b / 4096 ≡ pages_for (slot_length s + flex_weight n) - slot_pages s
+pub pages_more : (b : List ℕ) (s : Slot) (n t w : ℕ) → length b ≡ PAGE * slot_pages s → t ≡ slot_length s → w ≡ flex_weight n
+    → pages_for (t + w) - length b / PAGE ≡ pages_for (slot_length s + flex_weight n) - slot_pages s
 pages_more b s n t w l et ew =
-    let q : length b / 4096 ≡ slot_pages s = omega arith in
+    let q : length b / PAGE ≡ slot_pages s = omega arith in
     let top : t + w ≡ slot_length s + flex_weight n = omega arith in
     rw (q, top) refl
 

@@ -1,17 +1,18 @@
 -- The C heap of a slot gets longer, and a call on it is done.
 use Rattle.std.proofs.Common.{◌≡◌, ◌≢◌, ℕ, ◌+◌, ◌*◌, ◌/◌, ◌<◌, ◌≤◌, inl, inr, Bool, true, false, ltb, eqb, List, length, refl, sym, ap, subst, ◌∙◌, arith}
 use Rattle.std.proofs.lemmas.Bool.{cases_eq, cases_lt}
-use Rattle.std.specs.Prelude.{Option, Some, None, Ok, Err, IsErr, IsErrOf, ◌↔◌, ℤ}
+use Rattle.std.specs.Prelude.{◌-◌, Option, Some, None, Ok, Err, IsErr, IsErrOf, ◌↔◌, ℤ}
 use Rattle.std.specs.Prelude.{pos}
+use Rattle.rh_defs.specs.declared.sizes.TheConstants.{PAGE}
 use Rattle.rh_defs.specs.Bytes.{SameIn, SameOutside}
 use Rattle.rh_defs.specs.Memory.{Memory, IsOpen, Resized, bytes}
 use Rattle.rh_defs.specs.Pieces.{total, pages_for, zeros, moved, Split}
 use Rattle.rh_defs.specs.Chain.{Granted, ◌>>=◌, refuse_if}
 use Rattle.rh_defs.specs.Heap.{Segment, Heap, Placed, need, claim_need, claim_growing, raised, placed, placed_in, hole_for, shortage_in, block_room, segment_size, base, extended}
 use Rattle.rh_defs.specs.HeapImage.{Spells}
-use Rattle.rh_defs.specs.Slot.{Flex, weight, slot_length, slot_pages, is_stuck, with_heap, with_block, with_placed, slot_claim, slot_resize, slot_release, slot_take_pages, heap_block_at, HaveAnchors}
+use Rattle.rh_defs.specs.Slot.{Flex, weight, slot_length, slot_pages, is_stuck, with_heap, with_block, with_placed, slot_claim, slot_resize, slot_release, slot_take_pages, heap_block_at, HaveAnchors, heap_start}
 use Rattle.rh_defs.specs.Slot as plain
-use Rattle.rh_defs.specs.SlotImage.{Lie, Hang, SlotWords, SpellsSlot, flex_place}
+use Rattle.rh_defs.specs.SlotImage.{Lie, Hang, SlotWords, SpellsSlot, flex_place, heap_place}
 use Rattle.rh_defs.specs.declared.heap.HeapRefusal.{HeapRefusal}
 use Rattle.rh_defs.specs.declared.heap.HeapRefusal.TheVariants as heap_refusal
 use Rattle.rh_defs.specs.declared.refusal.Refusal.{Refusal}
@@ -41,11 +42,11 @@ all_blocks b s from n w e q = record { blocks = s.blocks; lie = subst (λ p. Lie
 -- the blocks have slid, and then a heap with the higher end stands below them
 pub budged : (b c d : List ℕ) (s : plain.Slot) (h : Heap) (more from to n edge : ℕ) → SlotWords b s → from ≡ flex_place s → to ≡ from + more → from + n ≡ slot_length s → to + n ≤ length b
     → ((fs : List Flex) → Lie b from fs → total weight fs ≡ n → Shifted b c to fs) → length c ≡ length b
-    → SameOutside c d 256 edge → edge ≤ to → Spells d 256 h → h.end ≡ s.heap.end + more → SlotWords d (with_heap h s)
+    → SameOutside c d heap_place edge → edge ≤ to → Spells d heap_place h → h.end ≡ s.heap.end + more → SlotWords d (with_heap h s)
 budged b c d s h more from to n edge w ef et en fits sh len o low k eh =
     let x = sh s.blocks (subst (λ p. Lie b p s.blocks) (sym ef) w.lie) (omega arith) in
     let ld = o.len in
-    let q : to ≡ 256 + h.end = omega arith in
+    let q : to ≡ heap_place + h.end = omega arith in
     record {
       heap = k;
       within = omega arith;
@@ -59,9 +60,9 @@ budged b c d s h more from to n edge w ef et en fits sh len o low k eh =
 moved_up : (n k : ℕ) (delta : ℤ) → delta ≡ pos k → moved n delta ≡ n + k
 moved_up n k delta e = ap (moved n) e
 
-pub raised_by : (k more : ℕ) (delta : ℤ) (h g : Heap) → delta ≡ pos more → more ≡ pages_for k * 4096 → g ≡ h → extended delta g ≡ raised k h
+pub raised_by : (k more : ℕ) (delta : ℤ) (h g : Heap) → delta ≡ pos more → more ≡ pages_for k * PAGE → g ≡ h → extended delta g ≡ raised k h
 raised_by k more delta h g e m q =
-    ap (extended delta) q ∙ ap (λ (n : ℕ). let r : Heap = record h { end = n } in r) (moved_up h.end more delta e ∙ (let z : h.end + more ≡ h.end + 4096 * ((k + 4095) / 4096) = omega arith in z))
+    ap (extended delta) q ∙ ap (λ (n : ℕ). let r : Heap = record h { end = n } in r) (moved_up h.end more delta e ∙ (let z : h.end + more ≡ h.end + PAGE * ((k + (PAGE - 1)) / PAGE) = omega arith in z))
 
 -- the blocks have slid away from the heap's end
 pub record Slid (m : Memory) (span : Span) (s : plain.Slot) (more : ℕ) : Type 0 where
@@ -70,13 +71,13 @@ pub record Slid (m : Memory) (span : Span) (s : plain.Slot) (more : ℕ) : Type 
   pub room : span.at + (s.heap.end + more) ≤ length (bytes m span.area.0)
 
 pub slid : (l m n : Memory) (slot : Slot) (span : Span) (from top more : ℕ) → (let s = slot_in l slot in SpellsIn l slot s → Resized l m slot.area.0 (length (bytes l slot.area.0)) (pages_for (top + more))
-    → IsOpen n slot.area.0 → SameIn (bytes m slot.area.0) (bytes n slot.area.0) 256 (from + more) → length (bytes n slot.area.0) ≡ length (bytes m slot.area.0)
+    → IsOpen n slot.area.0 → SameIn (bytes m slot.area.0) (bytes n slot.area.0) heap_place (from + more) → length (bytes n slot.area.0) ≡ length (bytes m slot.area.0)
     → from ≡ flex_place s → top ≡ slot_length s → span ≡ span_of slot → Slid n span s more)
 slid l m n slot span from top more k r o same len ef et e =
     let s = slot_in l slot in
     let big = r.len in
     let first = words_grown (bytes l slot.area.0) (bytes m slot.area.0) s k r.same (let p = k.pages in omega arith) in
-    let spells : Spells (bytes n slot.area.0) 256 s.heap = Spells-same (bytes m slot.area.0) (bytes n slot.area.0) 256 s.heap (part_of same (omega arith) (omega arith)) (let w = first.within in omega arith) first.heap in
+    let spells : Spells (bytes n slot.area.0) heap_place s.heap = Spells-same (bytes m slot.area.0) (bytes n slot.area.0) heap_place s.heap (part_of same (omega arith) (omega arith)) (let w = first.within in omega arith) first.heap in
     subst (λ (x : Span). Slid n x s more) (sym e) (record {
       is_span = is_span n (span_of slot) s.heap o spells;
       heap = heap_now n (span_of slot) s.heap spells;
@@ -147,7 +148,7 @@ pub end-claim_growing : (n : ℕ) (h : Heap) → (claim_growing n h).heap.end �
 end-claim_growing n h = end-placed (zeros (block_room n)) (raised (need n h) h)
 
 pub slot_claim-growth : (free n : ℕ) (s : plain.Slot) → n ≢ 0
-    → slot_claim free n s ≡ after_growth free (need n s.heap) s (with_heap (claim_growing n s.heap).heap s, 33024 + (claim_growing n s.heap).address)
+    → slot_claim free n s ≡ after_growth free (need n s.heap) s (with_heap (claim_growing n s.heap).heap s, heap_start + (claim_growing n s.heap).address)
 unfolding slot_claim after_growth ◌>>=◌ refuse_if
 slot_claim-growth free n s ne = rw (eqb_apart n 0 ne) refl
 
@@ -159,10 +160,10 @@ slot_claim-zero free n s e = rw e refl
 
 -- a block was placed in the longer heap
 pub placed_there : (m n : Memory) (slot : Slot) (s : plain.Slot) (k : ℕ) (p : Placed) → SpellsIn m slot (lengthened k s) → s.budging ≡ slot.budge → p.heap.end ≡ (raised k s.heap).end
-    → OnlySpan m n (span_of slot) → Spells (bytes n slot.area.0) 256 p.heap → SpellsIn n slot (with_heap p.heap s)
+    → OnlySpan m n (span_of slot) → Spells (bytes n slot.area.0) heap_place p.heap → SpellsIn n slot (with_heap p.heap s)
 placed_there m n slot s k p w b q o h =
     let now : (heap_in m (span_of slot)).end ≡ (raised k s.heap).end = ap (λ (x : Heap). x.end) (heap_same m slot ∙ ap (λ (x : plain.Slot). x.heap) (slot_now m slot (lengthened k s) w b)) in
-    SpellsSlot-with_heap (bytes m slot.area.0) (bytes n slot.area.0) (lengthened k s) p.heap w (subst (λ i. SameOutside (bytes m slot.area.0) (bytes n slot.area.0) 256 (256 + i)) now o.outside) h q
+    SpellsSlot-with_heap (bytes m slot.area.0) (bytes n slot.area.0) (lengthened k s) p.heap w (subst (λ i. SameOutside (bytes m slot.area.0) (bytes n slot.area.0) heap_place (heap_place + i)) now o.outside) h q
 
 -- what a claim's need says
 pub need_ok : (n k : ℕ) (h : Heap) → Ok k ≡ claim_need n h → (n ≢ 0) × (k ≡ need n h)

@@ -4,12 +4,13 @@ use Rattle.std.specs.Prelude.{Some, None, ◌&&◌, ◌||◌, ◌==◌, nat_le}
 use Rattle.std.proofs.lemmas.Bool.{cases_eq}
 use Rattle.std.proofs.lemmas.Bool.Decides.{nat_tests}
 use Rattle.std.proofs.lemmas.List.{get_or-drop, get_or-take, length-drop, length-take-le, take_all}
+use Rattle.rh_defs.specs.declared.sizes.TheConstants.{PAGE}
 use Rattle.rh_defs.specs.Bytes.{word, part}
 use Rattle.rh_defs.specs.Pieces.{total}
 use Rattle.rh_defs.specs.Heap.{Segment, Used, Hole, Heap}
 use Rattle.rh_defs.specs.HeapImage.{Stand, Spells, IsImage, heap_of, fault_of}
-use Rattle.rh_defs.specs.Slot.{Flex, Slot, weight, flex_weight, slot_start, slot_length, slot_pages, IsFree, HaveAnchors}
-use Rattle.rh_defs.specs.SlotImage.{Lie, Hang, is_block, flex_in, slot_of}
+use Rattle.rh_defs.specs.Slot.{Flex, Slot, weight, flex_weight, slot_start, slot_length, slot_pages, IsFree, HaveAnchors, anchor_count}
+use Rattle.rh_defs.specs.SlotImage.{Lie, Hang, is_block, flex_in, slot_of, heap_place}
 use Rattle.rh_defs.specs.declared.heap.HeapFault.{HeapFault}
 use Rattle.rh_defs.proofs.BytesLaws.{words_same, parts_same, length-part}
 use Rattle.rh_defs.proofs.HeapLists.{cond_true, cond_false, eqb_same, eqb_apart}
@@ -68,28 +69,28 @@ cut (suc n) [] = record { most = omega arith; whole = omega arith }
 cut (suc n) (x ∷ l) = let r = cut n l in let a = r.most in let c = r.whole in record { most = omega arith; whole = omega arith }
 
 -- the C heap's bytes spell a heap just where the slot's bytes do from 256 on
-pub heap_from : (b : List ℕ) (h : Heap) → IsImage (heap_bytes b) h → Spells b 256 h
+pub heap_from : (b : List ℕ) (h : Heap) → IsImage (heap_bytes b) h → Spells b heap_place h
 heap_from b h i =
-    let d : List ℕ = drop 256 b in
-    let n = word b 268 in
+    let d : List ℕ = drop heap_place b in
+    let n = word b (heap_place + 12) in
     let c = cut n d in
     let cm = c.most in
     let cw = c.whole in
     let w = i.whole in
-    let ld : length d ≡ length b - 256 = length-drop 256 b in
+    let ld : length d ≡ length b - heap_place = length-drop heap_place b in
     let end : h.end ≤ length d = omega arith in
     let fits = i.spells.heap.fits in
     let s : Spells d 0 h = Spells-same (heap_bytes b) d 0 h (record { each = λ k u v. sym (get_or-take n d k 0 (omega arith)) }) (let x : 0 + h.end ≤ length d = omega arith in x) i.spells in
-    Spells_to b d 256 0 (λ k. ap (λ i. get_or d i 0) (let x : 0 + k ≡ k = omega arith in x) ∙ get_or-drop 256 b k 0) h (omega arith) s
+    Spells_to b d heap_place 0 (λ k. ap (λ i. get_or d i 0) (let x : 0 + k ≡ k = omega arith in x) ∙ get_or-drop heap_place b k 0) h (omega arith) s
 
-pub heap_back : (b : List ℕ) (h : Heap) → Spells b 256 h → IsImage (heap_bytes b) h
+pub heap_back : (b : List ℕ) (h : Heap) → Spells b heap_place h → IsImage (heap_bytes b) h
 heap_back b h s =
-    let d : List ℕ = drop 256 b in
-    let n = word b 268 in
+    let d : List ℕ = drop heap_place b in
+    let n = word b (heap_place + 12) in
     let last : n ≡ h.end = s.last in
     let w = s.within in
-    let ld : length d ≡ length b - 256 = length-drop 256 b in
-    let t : Spells d 0 h = Spells_to d b 0 256 (λ k. sym (get_or-drop 256 b k 0) ∙ ap (λ i. get_or d i 0) (let x : k ≡ 0 + k = omega arith in x)) h (let x : 0 + h.end ≤ length d = omega arith in x) s in
+    let ld : length d ≡ length b - heap_place = length-drop heap_place b in
+    let t : Spells d 0 h = Spells_to d b 0 heap_place (λ k. sym (get_or-drop heap_place b k 0) ∙ ap (λ i. get_or d i 0) (let x : k ≡ 0 + k = omega arith in x)) h (let x : 0 + h.end ≤ length d = omega arith in x) s in
     let long : length (take n d) ≡ n = length-take-le n d (omega arith) in
     record {
       whole = long ∙ last;
@@ -97,11 +98,11 @@ heap_back b h s =
     }
 
 -- where so many are not there, all bytes behind the anchor words
-pub all_behind : (b : List ℕ) (n : ℕ) → n ≡ word b 268 → length (take (length b - 256) (drop 256 b)) ≤ n → take (length b - 256) (drop 256 b) ≡ heap_bytes b
+pub all_behind : (b : List ℕ) (n : ℕ) → n ≡ word b (heap_place + 12) → length (take (length b - heap_place) (drop heap_place b)) ≤ n → take (length b - heap_place) (drop heap_place b) ≡ heap_bytes b
 all_behind b n e h =
-    let ld : length (drop 256 b) ≡ length b - 256 = length-drop 256 b in
-    let lt = length-take-le (length b - 256) (drop 256 b) (omega arith) in
-    take_all (length b - 256) (drop 256 b) (omega arith) ∙ sym (take_all (word b 268) (drop 256 b) (omega arith))
+    let ld : length (drop heap_place b) ≡ length b - heap_place = length-drop heap_place b in
+    let lt = length-take-le (length b - heap_place) (drop heap_place b) (omega arith) in
+    take_all (length b - heap_place) (drop heap_place b) (omega arith) ∙ sym (take_all (word b (heap_place + 12)) (drop heap_place b) (omega arith))
 
 -- ---- the blocks that are read
 
@@ -149,7 +150,7 @@ rows_on b p fs i r =
     record {
       lie = ((let x : word b p ≡ slot_start + 4 * k = omega arith in x), sym len, ap (part b (p + 8)) len, subst (λ q. Lie b q fs) step r.lie);
       hang = (back, subst (λ q. Hang b q fs) step r.hang);
-      anchors = ((let x : k < 64 = omega arith in x), free_above b k p (after b p) fs r.hang (omega arith) back, r.anchors);
+      anchors = ((let x : k < anchor_count = omega arith in x), free_above b k p (after b p) fs r.hang (omega arith) back, r.anchors);
     }
 
 pub rows : (k : ℕ) (b : List ℕ) (p : ℕ) → Rows b p (flex_in k b p)
@@ -234,8 +235,8 @@ unfolding are_hung
 hung_all b fs zero f = refl
 hung_all b fs (suc n) f = and_both (are_hung b fs n) (is_hung b fs n) (hung_all b fs n (λ k l. f k (omega arith))) (f n (omega arith))
 
-none_from : (b : List ℕ) (fs : List Flex) (k : ℕ) → are_hung b fs 64 ≡ true → k < 64 → IsFree k fs → word b (4 * k) ≡ 0
-none_from b fs k e l u = eq_from (word b (4 * k)) 0 (or_left (eqb (word b (4 * k)) 0) (has_anchor fs k) (hung_at b fs 64 k e l) (no_anchor k fs u))
+none_from : (b : List ℕ) (fs : List Flex) (k : ℕ) → are_hung b fs anchor_count ≡ true → k < anchor_count → IsFree k fs → word b (4 * k) ≡ 0
+none_from b fs k e l u = eq_from (word b (4 * k)) 0 (or_left (eqb (word b (4 * k)) 0) (has_anchor fs k) (hung_at b fs anchor_count k e l) (no_anchor k fs u))
 
 one_hung : (b : List ℕ) (fs : List Flex) (k : ℕ) → (IsFree k fs → word b (4 * k) ≡ 0) → is_hung b fs k ≡ true
 one_hung b fs k f = go (has_anchor fs k) refl
@@ -251,21 +252,21 @@ one_hung b fs k f = go (has_anchor fs k) refl
 
 -- ---- the length
 pub record Length (b : List ℕ) : Type 0 where
-  pub least : 4096 ≤ length b
+  pub least : PAGE ≤ length b
   pub most : length b ≤ 29360128
-  pub whole : length b % 4096 ≡ 0
+  pub whole : length b % PAGE ≡ 0
 
 pub length_from : (b : List ℕ) → has_length b ≡ true → Length b
 length_from b e =
-    let r = and_left (leb 4096 (length b) && leb (length b) 29360128) (eqb (length b % 4096) 0) e in
+    let r = and_left (leb PAGE (length b) && leb (length b) 29360128) (eqb (length b % PAGE) 0) e in
     record {
-      least = le_from 4096 (length b) (and_left (leb 4096 (length b)) (leb (length b) 29360128) r);
-      most = le_from (length b) 29360128 (and_right (leb 4096 (length b)) (leb (length b) 29360128) r);
-      whole = eq_from (length b % 4096) 0 (and_right (leb 4096 (length b) && leb (length b) 29360128) (eqb (length b % 4096) 0) e);
+      least = le_from PAGE (length b) (and_left (leb PAGE (length b)) (leb (length b) 29360128) r);
+      most = le_from (length b) 29360128 (and_right (leb PAGE (length b)) (leb (length b) 29360128) r);
+      whole = eq_from (length b % PAGE) 0 (and_right (leb PAGE (length b) && leb (length b) 29360128) (eqb (length b % PAGE) 0) e);
     }
 
-length_yes : (b : List ℕ) → 4096 ≤ length b → length b ≤ 29360128 → length b % 4096 ≡ 0 → has_length b ≡ true
-length_yes b l m e = and_both _ _ (and_both _ _ (leb_yes 4096 (length b) l) (leb_yes (length b) 29360128 m)) (eqb_same (length b % 4096) 0 e)
+length_yes : (b : List ℕ) → PAGE ≤ length b → length b ≤ 29360128 → length b % PAGE ≡ 0 → has_length b ≡ true
+length_yes b l m e = and_both _ _ (and_both _ _ (leb_yes PAGE (length b) l) (leb_yes (length b) 29360128 m)) (eqb_same (length b % PAGE) 0 e)
 
 -- ---- bytes of a slot
 
@@ -273,28 +274,28 @@ abbrev pub read : List ℕ → Slot
 read b = slot_of true b
 
 -- where the blocks begin
-pub blocks_from : (b : List ℕ) → (read b).blocks ≡ flex_in (length b) b (256 + word b 268)
+pub blocks_from : (b : List ℕ) → (read b).blocks ≡ flex_in (length b) b (heap_place + word b (heap_place + 12))
 unfolding slot_of heap_of
 blocks_from b = refl
 
-pub long : (b : List ℕ) → slot_length (read b) ≡ 256 + word b 268 + total weight (flex_in (length b) b (256 + word b 268))
+pub long : (b : List ℕ) → slot_length (read b) ≡ heap_place + word b (heap_place + 12) + total weight (flex_in (length b) b (heap_place + word b (heap_place + 12)))
 unfolding slot_of heap_of
 long b = refl
 
 pub heap_is : (b : List ℕ) (h : Heap) → IsImage (heap_bytes b) h → (read b).heap ≡ h
 unfolding slot_of
-heap_is b h i = heap_of-Spells b 256 h (heap_from b h i)
+heap_is b h i = heap_of-Spells b heap_place h (heap_from b h i)
 
-pub is_slot : (b : List ℕ) (h : Heap) → IsImage (heap_bytes b) h → Length b → slot_length (read b) ≤ length b → are_hung b (read b).blocks 64 ≡ true → length b ≡ 4096 * slot_pages (read b) → IsSlotImage b (read b)
+pub is_slot : (b : List ℕ) (h : Heap) → IsImage (heap_bytes b) h → Length b → slot_length (read b) ≤ length b → are_hung b (read b).blocks anchor_count ≡ true → length b ≡ PAGE * slot_pages (read b) → IsSlotImage b (read b)
 unfolding slot_of
 is_slot b h i l within hung pages =
     let s = heap_from b h i in
-    let r = rows (length b) b (256 + (heap_of b 256).end) in
+    let r = rows (length b) b (heap_place + (heap_of b heap_place).end) in
     record {
       most = l.most;
       spells = record {
         words = record {
-          heap = subst (Spells b 256) (sym (heap_of-Spells b 256 h s)) s;
+          heap = subst (Spells b heap_place) (sym (heap_of-Spells b heap_place h s)) s;
           within = within;
           lie = r.lie;
           hang = r.hang;
@@ -319,16 +320,16 @@ module _ (b : List ℕ) where
   unfolding slot_fault_of
   fault-size e h w = rw (e, h, w) refl
 
-  pub fault-anchor : has_length b ≡ true → fault_of (heap_bytes b) ≡ None → nat_le (slot_length (read b)) (length b) ≡ true → are_hung b (read b).blocks 64 ≡ false → slot_fault_of b ≡ Some BadAnchor
+  pub fault-anchor : has_length b ≡ true → fault_of (heap_bytes b) ≡ None → nat_le (slot_length (read b)) (length b) ≡ true → are_hung b (read b).blocks anchor_count ≡ false → slot_fault_of b ≡ Some BadAnchor
   unfolding slot_fault_of
   fault-anchor e h w a = rw (e, h, w, a) refl
 
-  pub fault-page : has_length b ≡ true → fault_of (heap_bytes b) ≡ None → nat_le (slot_length (read b)) (length b) ≡ true → are_hung b (read b).blocks 64 ≡ true → (length b == 4096 * slot_pages (read b)) ≡ false
+  pub fault-page : has_length b ≡ true → fault_of (heap_bytes b) ≡ None → nat_le (slot_length (read b)) (length b) ≡ true → are_hung b (read b).blocks anchor_count ≡ true → (length b == PAGE * slot_pages (read b)) ≡ false
       → slot_fault_of b ≡ Some SparePage
   unfolding slot_fault_of
   fault-page e h w a p = rw (e, h, w, a, p) refl
 
-  pub fault-none : has_length b ≡ true → fault_of (heap_bytes b) ≡ None → nat_le (slot_length (read b)) (length b) ≡ true → are_hung b (read b).blocks 64 ≡ true → (length b == 4096 * slot_pages (read b)) ≡ true
+  pub fault-none : has_length b ≡ true → fault_of (heap_bytes b) ≡ None → nat_le (slot_length (read b)) (length b) ≡ true → are_hung b (read b).blocks anchor_count ≡ true → (length b == PAGE * slot_pages (read b)) ≡ true
       → slot_fault_of b ≡ None
   unfolding slot_fault_of
   fault-none e h w a p = rw (e, h, w, a, p) refl
@@ -343,8 +344,8 @@ slot_clean b s i e =
     (length_yes b (omega arith) j.most (omega arith))
     (image_clean (heap_bytes b) (read b).heap (heap_back b (read b).heap w.heap))
     (leb_yes (slot_length (read b)) (length b) w.within)
-    (hung_all b (read b).blocks 64 (λ k l. one_hung b (read b).blocks k (w.none k l)))
-    (eqb_same (length b) (4096 * slot_pages (read b)) p)
+    (hung_all b (read b).blocks anchor_count (λ k l. one_hung b (read b).blocks k (w.none k l)))
+    (eqb_same (length b) (PAGE * slot_pages (read b)) p)
 
 -- bytes with a fault are no slot's
 pub refused : (b : List ℕ) (f : SlotFault) → slot_fault_of b ≡ Some f → (false ≡ true → IsSlotImage b (read b)) × (IsSlotImage b (read b) → false ≡ true)

@@ -3,11 +3,12 @@ use Rattle.std.proofs.Common.{◌≡◌, ℕ, zero, suc, ◌+◌, ◌-◌, ◌*�
 use Rattle.std.specs.Prelude.{Some, None, nat_le}
 use Rattle.std.proofs.lemmas.Bool.Decides.{nat_tests}
 use Rattle.std.proofs.lemmas.List.{append-nil}
+use Rattle.rh_defs.specs.declared.sizes.TheConstants.{PAGE}
 use Rattle.rh_defs.specs.Bytes.{word}
 use Rattle.rh_defs.specs.Pieces.{total}
 use Rattle.rh_defs.specs.HeapImage.{IsImage, heap_of, fault_of}
-use Rattle.rh_defs.specs.Slot.{Flex, weight, flex_weight, slot_length, slot_pages}
-use Rattle.rh_defs.specs.SlotImage.{is_block, flex_in}
+use Rattle.rh_defs.specs.Slot.{Flex, weight, flex_weight, slot_length, slot_pages, anchor_count}
+use Rattle.rh_defs.specs.SlotImage.{is_block, flex_in, heap_place}
 use Rattle.rh_defs.proofs.BytesLaws.{length-part}
 use Rattle.rh_defs.proofs.HeapLists.{eqb_apart}
 use Rattle.rh_defs.proofs.HeapFaults.{image_clean}
@@ -70,7 +71,7 @@ pub record RowWalk (b : List ℕ) (from : ℕ) (sums : BlockSums) : Type 0 where
   pub few : sums.blocks ≤ sums.top
   pub small : sums.bytes ≤ sums.top
 
-pub row_start : (b : List ℕ) (from : ℕ) → 256 ≤ from → from ≤ length b → from % 4 ≡ 0 → RowWalk b from (record { top = from; blocks = 0; bytes = 0 })
+pub row_start : (b : List ℕ) (from : ℕ) → heap_place ≤ from → from ≤ length b → from % 4 ≡ 0 → RowWalk b from (record { top = from; blocks = 0; bytes = 0 })
 unfolding passing_start
 row_start b from l h e = record { walk = passing_start b from; enough = omega arith; within = h; whole = e; blocks = refl; bytes = refl; few = omega arith; small = omega arith }
 
@@ -125,11 +126,11 @@ pub record Ready (b : List ℕ) (from : ℕ) : Type 0 where
   pub right : has_length b ≡ true
   pub image : IsImage (heap_bytes b) (heap_of (heap_bytes b) 0)
   pub clean : fault_of (heap_bytes b) ≡ None
-  pub at : from ≡ 256 + word b 268
+  pub at : from ≡ heap_place + word b (heap_place + 12)
   pub within : from ≤ length b
   pub whole : from % 4 ≡ 0
 
-pub ready : (b : List ℕ) (from w : ℕ) → has_length b ≡ true → IsImage (heap_bytes b) (heap_of (heap_bytes b) 0) → w ≡ word b 268 → from ≡ 256 + w → Ready b from
+pub ready : (b : List ℕ) (from w : ℕ) → has_length b ≡ true → IsImage (heap_bytes b) (heap_of (heap_bytes b) 0) → w ≡ word b (heap_place + 12) → from ≡ heap_place + w → Ready b from
 ready b from w e i ew ef =
     let s = heap_from b (heap_of (heap_bytes b) 0) i in
     let last = s.last in
@@ -169,23 +170,23 @@ module _ (b : List ℕ) (from : ℕ) (r : Ready b from) where
     inside = leb_yes (slot_length (read b)) (length b) (omega (arith, length_here, i.within))
 
     -- each anchor word leads to a block
-    hung : words_in_use b 64 ≡ row.blocks → are_hung b (read b).blocks 64 ≡ true
-    hung e = ap (λ l. are_hung b l 64) row_is ∙ hung_by b (length b) from (e ∙ i.blocks)
+    hung : words_in_use b anchor_count ≡ row.blocks → are_hung b (read b).blocks anchor_count ≡ true
+    hung e = ap (λ l. are_hung b l anchor_count) row_is ∙ hung_by b (length b) from (e ∙ i.blocks)
 
-    pub bad_anchor : (words_in_use b 64 ≡ row.blocks → ⊥) → slot_fault_of b ≡ Some BadAnchor
-    bad_anchor d = fault-anchor b r.right r.clean inside (not_true (are_hung b (read b).blocks 64) (λ e. d (as_many b (length b) from (ap (λ l. are_hung b l 64) (sym row_is) ∙ e) ∙ sym i.blocks)))
+    pub bad_anchor : (words_in_use b anchor_count ≡ row.blocks → ⊥) → slot_fault_of b ≡ Some BadAnchor
+    bad_anchor d = fault-anchor b r.right r.clean inside (not_true (are_hung b (read b).blocks anchor_count) (λ e. d (as_many b (length b) from (ap (λ l. are_hung b l anchor_count) (sym row_is) ∙ e) ∙ sym i.blocks)))
 
-    pub spare : words_in_use b 64 ≡ row.blocks → 4096 ≤ length b - row.top → slot_fault_of b ≡ Some SparePage
+    pub spare : words_in_use b anchor_count ≡ row.blocks → PAGE ≤ length b - row.top → slot_fault_of b ≡ Some SparePage
     spare e h = fault-page b r.right r.clean inside (hung e)
-        (eqb_apart (length b) (4096 * slot_pages (read b)) (λ x. let w = i.within in absurd (omega (arith, length_here))))
+        (eqb_apart (length b) (PAGE * slot_pages (read b)) (λ x. let w = i.within in absurd (omega (arith, length_here))))
 
-    pub all_right : words_in_use b 64 ≡ row.blocks → length b - row.top < 4096 → IsSlotImage b (read b)
+    pub all_right : words_in_use b anchor_count ≡ row.blocks → length b - row.top < PAGE → IsSlotImage b (read b)
     all_right e h =
         let w = i.within in
         let l = r.length_is.whole in
         is_slot b (heap_of (heap_bytes b) 0) r.image r.length_is (omega (arith, length_here)) (hung e) (omega (arith, length_here))
 
-    pub no_fault : words_in_use b 64 ≡ row.blocks → length b - row.top < 4096 → slot_fault_of b ≡ None
+    pub no_fault : words_in_use b anchor_count ≡ row.blocks → length b - row.top < PAGE → slot_fault_of b ≡ None
     no_fault e h = slot_clean b (read b) (all_right e h) refl
 
     pub sums_are : (heap : Summary) → heap ≡ summary_of (heap_of (heap_bytes b) 0) → (let s : SlotSummary = record { blocks = row.blocks; bytes = row.bytes; heap = heap; unused = length b - row.top } in s) ≡ slot_summary (length b) (read b)

@@ -6,7 +6,7 @@ use Rattle.std.proofs.lemmas.Bool.{eqb-true}
 use Rattle.std.proofs.lemmas.List.{take_all, take_more, length-map, length-take-le}
 use Rattle.std.proofs.lemmas.Map.Steps.{length-le_from_distinct_below}
 use Rattle.std.proofs.lemmas.Option.{get_or_from_slice_get, slice_get_within}
-use Rattle.rh_defs.specs.Slot.{Flex, Slot, weight, flex_start, IsFree, HaveAnchors}
+use Rattle.rh_defs.specs.Slot.{Flex, Slot, weight, flex_start, IsFree, HaveAnchors, anchor_count}
 use Rattle.rh_defs.specs.Listing.{block_items_from, block_items}
 use Rattle.rh_defs.specs.declared.listing.BlockItem.{BlockItem}
 use Rattle.rh_defs.proofs.HeapLists.{eqb_apart}
@@ -26,19 +26,19 @@ unfolding anchors IsDistinct
 distinct [] h = tt
 distinct (b ∷ blocks) h = (apart b.anchor blocks h.1, distinct blocks h.2)
 
-small : (blocks : List Flex) → HaveAnchors blocks → (q : ℕ) → list_any (eqb q) (anchors blocks) ≡ true → q < 64
+small : (blocks : List Flex) → HaveAnchors blocks → (q : ℕ) → list_any (eqb q) (anchors blocks) ≡ true → q < anchor_count
 unfolding anchors
 small [] h q e = absurd (cc)
 small (b ∷ blocks) h q e = go (eqb q b.anchor) refl e (small blocks h.2 q)
   where
-    go : (t : Bool) → eqb q b.anchor ≡ t → (t || list_any (eqb q) (anchors blocks)) ≡ true → (list_any (eqb q) (anchors blocks) ≡ true → q < 64) → q < 64
+    go : (t : Bool) → eqb q b.anchor ≡ t → (t || list_any (eqb q) (anchors blocks)) ≡ true → (list_any (eqb q) (anchors blocks) ≡ true → q < anchor_count) → q < anchor_count
     go true s e rest = let same : q ≡ b.anchor = eqb-true _ _ s in omega (arith, h.0)
     go false s e rest = rest e
 
-pub few_blocks : (blocks : List Flex) → HaveAnchors blocks → length blocks ≤ 64
+pub few_blocks : (blocks : List Flex) → HaveAnchors blocks → length blocks ≤ anchor_count
 unfolding anchors
 few_blocks blocks h =
-    omega (arith, length-map blocks (λ (b : Flex). b.anchor), length-le_from_distinct_below (anchors blocks) 64 (distinct blocks h) (small blocks h))
+    omega (arith, length-map blocks (λ (b : Flex). b.anchor), length-le_from_distinct_below (anchors blocks) anchor_count (distinct blocks h) (small blocks h))
 
 -- ---- the items of a walk
 
@@ -47,7 +47,7 @@ items_length place [] = refl
 items_length place (b ∷ blocks) = let rest = items_length (place + weight b) blocks in omega (arith, rest)
 
 -- as many items are listed as blocks were passed, and there is one more
-pub room_left : (s : Slot) (n : ℕ) (items : List BlockItem) (x : BlockItem) → HaveAnchors s.blocks → items ≡ take n (block_items s) → Some x ≡ slice_get (block_items s) n → length items < 64
+pub room_left : (s : Slot) (n : ℕ) (items : List BlockItem) (x : BlockItem) → HaveAnchors s.blocks → items ≡ take n (block_items s) → Some x ≡ slice_get (block_items s) n → length items < anchor_count
 room_left s n items x h is e =
     let l = slice_get_within (block_items s) n x (sym e) in
     omega (arith, ap length is, length-take-le n (block_items s) (omega arith), few_blocks s.blocks h, items_length (flex_start s) s.blocks, l)

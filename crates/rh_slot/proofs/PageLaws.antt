@@ -1,9 +1,10 @@
 -- A flex block whose header is read in the bytes of a page.
 use Rattle.std.proofs.Common.{◌≡◌, ℕ, ◌+◌, ◌-◌, ◌/◌, ◌<◌, ◌≤◌, inl, inr, true, List, length, refl, sym, ap, ◌∙◌, arith}
 use Rattle.std.proofs.lemmas.Bool.{cases_lt}
+use Rattle.rh_defs.specs.declared.sizes.TheConstants.{PAGE}
 use Rattle.rh_defs.specs.Bytes.{word, part}
 use Rattle.rh_defs.specs.Slot.{Slot, slot_start}
-use Rattle.rh_defs.specs.SlotImage.{SlotWords, is_block}
+use Rattle.rh_defs.specs.SlotImage.{SlotWords, heap_place, is_block}
 use Rattle.rh_defs.specs.declared.listing.BlockItem.{BlockItem}
 use Rattle.rh_defs.proofs.BytesLaws.{length-part, word-part}
 use Rattle.rh_defs.proofs.SlotImageLaws.{is_block-yes, is_block-is}
@@ -11,10 +12,10 @@ use Rattle.rh_slot.specs.Row.{Walked, Headed, item_of}
 use Rattle.rh_slot.proofs.WalkLaws.{Turn, turn}
 
 -- the first page has all anchor words
-pub anchors_long : (b anchors : List ℕ) → anchors ≡ part b 0 4096 → 256 ≤ length anchors
-anchors_long b anchors e = omega (arith, ap length e, length-part b 0 4096)
+pub anchors_long : (b anchors : List ℕ) → anchors ≡ part b 0 PAGE → heap_place ≤ length anchors
+anchors_long b anchors e = omega (arith, ap length e, length-part b 0 PAGE)
 
-module _ (b anchors page : List ℕ) (start n at place : ℕ) (item : BlockItem) (first : anchors ≡ part b 0 4096) (rest : page ≡ part b start n) (e : place ≡ start + at) (h : Headed anchors page at place item) where
+module _ (b anchors page : List ℕ) (start n at place : ℕ) (item : BlockItem) (first : anchors ≡ part b 0 PAGE) (rest : page ≡ part b start n) (e : place ≡ start + at) (h : Headed anchors page at place item) where
   long : length page ≡ n
   long = ap length rest ∙ length-part b start n
 
@@ -28,8 +29,8 @@ module _ (b anchors page : List ℕ) (start n at place : ℕ) (item : BlockItem)
   headed_size : item.size ≡ word b (place + 4)
   headed_size = ap (λ (i : BlockItem). i.size) h.is ∙ in_header 4 (omega arith)
 
-  anchor_word : (k : ℕ) → k ≤ 256 → word anchors k ≡ word b k
-  anchor_word k l = ap (λ l. word l k) first ∙ word-part b 0 4096 k (omega arith) ∙ ap (word b) (omega arith)
+  anchor_word : (k : ℕ) → k ≤ heap_place → word anchors k ≡ word b k
+  anchor_word k l = ap (λ l. word l k) first ∙ word-part b 0 PAGE k (omega arith) ∙ ap (word b) (omega arith)
 
   headed_block : is_block b place ≡ true
   headed_block =
@@ -51,7 +52,7 @@ module _ (b anchors page : List ℕ) (start n at place : ℕ) (item : BlockItem)
       ∙ ap (λ w. let r : BlockItem = record { anchor = (word b place - 32768) / 4; address = 32768 + place + 8; size = w } in r) (in_header 4 (omega arith)))
 
 -- a block's header that lies whole in the page
-module _ (b anchors page : List ℕ) (start n at place : ℕ) (first : anchors ≡ part b 0 4096) (rest : page ≡ part b start n) (e : place ≡ start + at) (within : at + 8 ≤ n) where
+module _ (b anchors page : List ℕ) (start n at place : ℕ) (first : anchors ≡ part b 0 PAGE) (rest : page ≡ part b start n) (e : place ≡ start + at) (within : at + 8 ≤ n) where
   first_word : word page at ≡ word b place
   first_word = ap (λ l. word l at) rest ∙ word-part b start n at (omega arith) ∙ ap (word b) (omega arith)
 
@@ -67,12 +68,12 @@ module _ (b anchors page : List ℕ) (start n at place : ℕ) (first : anchors �
         least = omega arith;
         most = omega arith;
         multiple = omega arith;
-        back = ap (λ l. word l (word page at - slot_start)) first ∙ word-part b 0 4096 (word page at - slot_start) (omega arith) ∙ ap (word b) (omega arith) ∙ i.back;
+        back = ap (λ l. word l (word page at - slot_start)) first ∙ word-part b 0 PAGE (word page at - slot_start) (omega arith) ∙ ap (word b) (omega arith) ∙ i.back;
         is = refl;
       }
 
 -- where no header was found, none lies whole in the page
-pub beyond : (b anchors page : List ℕ) (start n at place : ℕ) → anchors ≡ part b 0 4096 → page ≡ part b start n → place ≡ start + at → ((item : BlockItem) → Headed anchors page at place item → ⊥)
+pub beyond : (b anchors page : List ℕ) (start n at place : ℕ) → anchors ≡ part b 0 PAGE → page ≡ part b start n → place ≡ start + at → ((item : BlockItem) → Headed anchors page at place item → ⊥)
     → is_block b place ≡ true → start + n < place + 8
 beyond b anchors page start n at place first rest e none t = elim (cases_lt (start + n) (place + 8)) [
   | inl l ↦ l
@@ -86,7 +87,7 @@ pub record Passes (b : List ℕ) (s : Slot) (place : ℕ) (item : BlockItem) : T
   pub is : item ≡ item_of b place
   pub turned : Turn b s place item.size
 
-pub passes : (b anchors page : List ℕ) (s : Slot) (start n at place : ℕ) (item : BlockItem) → SlotWords b s → Walked s place → anchors ≡ part b 0 4096 → page ≡ part b start n → place ≡ start + at
+pub passes : (b anchors page : List ℕ) (s : Slot) (start n at place : ℕ) (item : BlockItem) → SlotWords b s → Walked s place → anchors ≡ part b 0 PAGE → page ≡ part b start n → place ≡ start + at
     → Headed anchors page at place item → Passes b s place item
 passes b anchors page s start n at place item k w first rest e h =
     let block = headed_block b anchors page start n at place item first rest e h in

@@ -8,7 +8,7 @@ use Rattle.rh_defs.specs.Heap.{Segment, Used, Heap, size_of, bytes_of, base, is_
 use Rattle.rh_defs.specs.HeapImage.{Stand, Spells}
 use Rattle.rh_defs.specs.Slot as plain
 use Rattle.rh_defs.specs.Slot.{Flex, weight, flex_address, heap_block_at, slot_block, heap_start, slot_start, IsFree}
-use Rattle.rh_defs.specs.SlotImage.{flex_place}
+use Rattle.rh_defs.specs.SlotImage.{flex_place, heap_place}
 use Rattle.rh_defs.proofs.BytesLaws.{part-part, part-drop}
 use Rattle.rh_defs.proofs.BlockLaws.{block_cut}
 use Rattle.rh_defs.proofs.HeapLaws.{Stand-split}
@@ -89,7 +89,7 @@ cut_bytes b at h x cut s c =
 -- a block of the C heap is above the anchor words
 pub heap-low : (m : Memory) (self : Slot) (a : ℕ) (b : Split Segment) → IsSlot m self → heap_block_at a (slot_in m self) ≡ Some b → heap_start ≤ a
 heap-low m self a b s e =
-    let c = heap_cut (slot_in m self).heap (a - 33024) b e in
+    let c = heap_cut (slot_in m self).heap (a - heap_start) b e in
     let stands = c.stands in
     omega arith
 
@@ -99,15 +99,15 @@ pub heap-part : (m : Memory) (self : Slot) (a n : ℕ) (b : Split Segment) → I
 heap-part m self a n b s e h =
     let z = slot_in m self in
     let w = s.spells.words in
-    let c = heap_cut z.heap (a - 33024) b e in
+    let c = heap_cut z.heap (a - heap_start) b e in
     let stands = c.stands in
     let inside = c.inside in
     let fits = w.heap.heap.fits in
-    let whole = cut_bytes (bytes m self.area.0) 256 z.heap (a - 33024) b w.heap c in
-    let place : 256 + (a - 33024) + 0 ≡ a - slot_start = omega arith in (
+    let whole = cut_bytes (bytes m self.area.0) heap_place z.heap (a - heap_start) b w.heap c in
+    let place : heap_place + (a - heap_start) + 0 ≡ a - slot_start = omega arith in (
       omega arith,
       record {
-        is = sym (ap (λ p. part (bytes m self.area.0) p n) (sym place) ∙ sym (part-part (bytes m self.area.0) (256 + (a - 33024)) (length (bytes_of b.here)) 0 n (omega arith))
+        is = sym (ap (λ p. part (bytes m self.area.0) p n) (sym place) ∙ sym (part-part (bytes m self.area.0) (heap_place + (a - heap_start)) (length (bytes_of b.here)) 0 n (omega arith))
             ∙ ap (λ l. part l 0 n) whole ∙ part-drop (bytes_of b.here) 0 n (omega arith));
         low = omega arith;
         high = omega arith;

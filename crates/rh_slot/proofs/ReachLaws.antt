@@ -8,8 +8,8 @@ use Rattle.rh_defs.specs.Heap.{Segment, Used, Hole, Heap, IsTidy, size_of, bytes
 use Rattle.rh_defs.specs.HeapImage.{Stand, Spells}
 use Rattle.rh_defs.specs.HeapParts.{HasRoom, last_link}
 use Rattle.rh_defs.specs.Places.{with_heap_bytes, roomy_in, buffer_at, written_in, written_around, written_heap}
-use Rattle.rh_defs.specs.Slot.{Slot, Flex, weight, flex_start, flex_address, flex_around, heap_block_at, holds, with_bytes, HaveAnchors}
-use Rattle.rh_defs.specs.SlotImage.{SpellsSlot, flex_place}
+use Rattle.rh_defs.specs.Slot.{Slot, Flex, weight, flex_start, flex_address, flex_around, heap_block_at, holds, with_bytes, HaveAnchors, heap_start}
+use Rattle.rh_defs.specs.SlotImage.{SpellsSlot, flex_place, heap_place}
 use Rattle.rh_defs.specs.Blocks.{blank, SameShape}
 use Rattle.rh_defs.proofs.BlockLaws.{part-written}
 use Rattle.rh_defs.proofs.BytesLaws.{word_same, put-parts, put_outside, length-put, length-part}
@@ -117,8 +117,8 @@ heap_below x n p (Hole m ∷ ss) h = (refl, heap_below x n (p + m) ss (omega ari
 pub data Holder (s : Slot) (x n : ℕ) : Type 0 where
   flex_holder : (cut : Split Flex) (offset : ℕ) → flex_around x n s ≡ Some cut → s.blocks ≡ cut.before ++ cut.here ∷ cut.after → x ≡ flex_address s cut.before + offset
       → offset + n ≤ length cut.here.bytes → Holder s x n
-  heap_holder : (cut : Split Segment) (offset : ℕ) → flex_around x n s ≡ None → block_around (x - 33024) n s.heap ≡ Some cut → HeapCut s.heap (16 + total size_of cut.before + 4) cut
-      → x ≡ 33024 + (16 + total size_of cut.before + 4) + offset → offset + n ≤ length (bytes_of cut.here) → Holder s x n
+  heap_holder : (cut : Split Segment) (offset : ℕ) → flex_around x n s ≡ None → block_around (x - heap_start) n s.heap ≡ Some cut → HeapCut s.heap (16 + total size_of cut.before + 4) cut
+      → x ≡ heap_start + (16 + total size_of cut.before + 4) + offset → offset + n ≤ length (bytes_of cut.here) → Holder s x n
 
 around_used : (x n place : ℕ) (g : Segment) → is_around x n place g ≡ true → (g ≡ Used (bytes_of g)) × ((place + 4 ≤ x) × (x + n ≤ place + 4 + length (bytes_of g)))
 around_used x n place (Used bs) e = (refl, is_inside_from x n (place + 4) (length bs) e)
@@ -133,9 +133,9 @@ module _ (s : Slot) (x n : ℕ) where
       let high = r.1 in
       flex_holder cut (x - flex_address s cut.before) f c.whole (omega arith) (omega arith)
 
-  in_some_segment : (cut : Split Segment) → flex_around x n s ≡ None → 33024 ≤ x → block_around (x - 33024) n s.heap ≡ Some cut → Holder s x n
+  in_some_segment : (cut : Split Segment) → flex_around x n s ≡ None → heap_start ≤ x → block_around (x - heap_start) n s.heap ≡ Some cut → Holder s x n
   in_some_segment cut e l f =
-      let y = x - 33024 in
+      let y = x - heap_start in
       let c : IsCut size_of (is_around y n) 16 s.heap.segments cut = subst (λ o. IfSome o (IsCut size_of (is_around y n) 16 s.heap.segments)) f (first_at-cuts size_of (is_around y n) 16 s.heap.segments) in
       let r = around_used y n (16 + total size_of cut.before) cut.here c.passes in
       let low = r.1.0 in
@@ -143,16 +143,16 @@ module _ (s : Slot) (x n : ℕ) where
       let is : s.heap.segments ≡ cut.before ++ Used (bytes_of cut.here) ∷ cut.after = c.whole ∙ ap (λ g. cut.before ++ g ∷ cut.after) r.0 in
       let sum : total size_of s.heap.segments ≡ total size_of cut.before + (4 + length (bytes_of cut.here) + total size_of cut.after) =
       ap (total size_of) is ∙ total-append cut.before (Used (bytes_of cut.here) ∷ cut.after) in
-      heap_holder cut (x - (33024 + (16 + total size_of cut.before) + 4)) e f (record { is = is; here = r.0; stands = refl; inside = omega arith }) (omega arith) (omega arith)
+      heap_holder cut (x - (heap_start + (16 + total size_of cut.before) + 4)) e f (record { is = is; here = r.0; stands = refl; inside = omega arith }) (omega arith) (omega arith)
 
-  in_segment : (t : Bool) (o : Option (Split Segment)) → flex_around x n s ≡ None → nat_le 33024 x ≡ t → block_around (x - 33024) n s.heap ≡ o → (t && is_some o) ≡ true → Holder s x n
-  in_segment true (Some cut) e l f q = in_some_segment cut e (le_from 33024 x l) f
+  in_segment : (t : Bool) (o : Option (Split Segment)) → flex_around x n s ≡ None → nat_le heap_start x ≡ t → block_around (x - heap_start) n s.heap ≡ o → (t && is_some o) ≡ true → Holder s x n
+  in_segment true (Some cut) e l f q = in_some_segment cut e (le_from heap_start x l) f
   in_segment true None e l f q = absurd cc
   in_segment false o e l f q = absurd cc
 
-  in_block : (o : Option (Split Flex)) → flex_around x n s ≡ o → (is_some o || (nat_le 33024 x && is_some (block_around (x - 33024) n s.heap))) ≡ true → Holder s x n
+  in_block : (o : Option (Split Flex)) → flex_around x n s ≡ o → (is_some o || (nat_le heap_start x && is_some (block_around (x - heap_start) n s.heap))) ≡ true → Holder s x n
   in_block (Some cut) f q = in_some_flex cut f
-  in_block None f q = in_segment (nat_le 33024 x) (block_around (x - 33024) n s.heap) f refl refl q
+  in_block None f q = in_segment (nat_le heap_start x) (block_around (x - heap_start) n s.heap) f refl refl q
 
   pub holder : holds x n s ≡ true → Holder s x n
   holder q = in_block (flex_around x n s) refl q
@@ -166,7 +166,7 @@ holder_of_fewer s x n k few fits (flex_holder cut offset f is e h) =
     (is_inside_yes x k (flex_start s + total weight cut.before + 8) (length cut.here.bytes) (omega arith) (omega arith)) in
     flex_holder cut offset found is e (omega arith)
 holder_of_fewer s x n k few fits (heap_holder cut offset e f c q h) =
-    let y = x - 33024 in
+    let y = x - heap_start in
     let inside = c.inside in
     let none : flex_around x k s ≡ None = first_at-none weight (is_at x k) (flex_start s) s.blocks (flex_above x k (flex_start s) s.blocks (omega arith)) in
     let passes : is_around y k (16 + total size_of cut.before) cut.here ≡ true =
@@ -178,7 +178,7 @@ holder_of_fewer s x n k few fits (heap_holder cut offset e f c q h) =
 
 -- the bytes that are written at an address go into one block
 pub data Reached (s : Slot) (x room : ℕ) (xs : List ℕ) : Type 0 where
-  in_heap : (cut : Split Segment) (y offset : ℕ) → HeapCut s.heap y cut → x ≡ 33024 + y + offset → offset + length xs ≤ length (bytes_of cut.here)
+  in_heap : (cut : Split Segment) (y offset : ℕ) → HeapCut s.heap y cut → x ≡ heap_start + y + offset → offset + length xs ≤ length (bytes_of cut.here)
       → written_in x xs (buffer_at x room s) s ≡ with_heap_bytes cut offset xs s → Reached s x room xs
   in_flex : (cut : Split Flex) (offset : ℕ) → s.blocks ≡ cut.before ++ cut.here ∷ cut.after → x ≡ flex_address s cut.before + offset → offset + length xs ≤ length cut.here.bytes
       → written_in x xs (buffer_at x room s) s ≡ with_bytes cut (written cut.here.bytes offset xs) s → Reached s x room xs
@@ -195,16 +195,16 @@ module _ (s : Slot) (x room : ℕ) (xs : List ℕ) (few : length xs ≤ room) (f
   in_buffer : (cut : Split Segment) → buffer_at x room s ≡ Some cut → Reached s x room xs
   in_buffer cut e =
       let r = roomy room (heap_block_at x s) cut e in
-      let c = heap_cut s.heap (x - 33024) cut r.0 in
+      let c = heap_cut s.heap (x - heap_start) cut r.0 in
       let stands = c.stands in
-      in_heap cut (x - 33024) 0 c (omega arith) (let most = r.1 in omega arith) (ap (λ o. written_in x xs o s) e)
+      in_heap cut (x - heap_start) 0 c (omega arith) (let most = r.1 in omega arith) (ap (λ o. written_in x xs o s) e)
 
   in_holder : buffer_at x room s ≡ None → Holder s x (length xs) → Reached s x room xs
   in_holder e (flex_holder cut offset f is q h) =
       let same : x - flex_address s cut.before ≡ offset = omega arith in
       in_flex cut offset is q h (ap (λ o. written_in x xs o s) e ∙ ap (λ o. written_around x xs o s) f ∙ ap (λ k. with_bytes cut (written cut.here.bytes k xs) s) same)
   in_holder e (heap_holder cut offset f g c q h) =
-      let same : x - (33024 + (16 + total size_of cut.before) + 4) ≡ offset = omega arith in
+      let same : x - (heap_start + (16 + total size_of cut.before) + 4) ≡ offset = omega arith in
       in_heap cut (16 + total size_of cut.before + 4) offset c q h
       (ap (λ o. written_in x xs o s) e ∙ ap (λ o. written_around x xs o s) f ∙ ap (λ o. written_heap x xs o s) g ∙ ap (λ k. with_heap_bytes cut k xs s) same)
 
@@ -223,7 +223,7 @@ reached_part s x room n b place c k few q = let l = length-part b place n in rea
 
 -- the place of the bytes in the area
 pub record Within (b : List ℕ) (x n : ℕ) : Type 0 where
-  pub low : 33024 ≤ x
+  pub low : heap_start ≤ x
   pub high : x - 32768 + n ≤ length b
 
 pub within : (b : List ℕ) (s : Slot) (x room : ℕ) (xs : List ℕ) → SpellsSlot b s → Reached s x room xs → Within b x (length xs)
@@ -246,7 +246,7 @@ reached_spells b s x room xs k (in_heap cut y offset c e h q) =
     subst (SpellsSlot (put b (x - 32768) xs)) (sym q)
     (SpellsSlot-with_heap b (put b (x - 32768) xs) s (record s.heap { segments = with_here cut (Used (written (bytes_of cut.here) offset xs)) }) k
     (wider (put_outside b (x - 32768) xs (x - 32768 + length xs) (omega arith)) (omega arith) (omega arith))
-    (Spells-put b 256 s.heap y offset (x - 32768) cut xs k.words.heap c h (omega arith)) refl)
+    (Spells-put b heap_place s.heap y offset (x - 32768) cut xs k.words.heap c h (omega arith)) refl)
 reached_spells b s x room xs k (in_flex cut offset is e h q) =
     let f = cut_found s cut.here.anchor cut is refl (HaveAnchors-cut cut.before cut.here cut.after (subst HaveAnchors is k.words.anchors)).before in
     let place : x - 32768 ≡ flex_place s + total weight cut.before + 8 + offset = omega arith in

@@ -4,8 +4,8 @@ use Rattle.std.proofs.lemmas.Bool.{cases_lt}
 use Rattle.std.proofs.lemmas.List.{append-nil}
 use Rattle.rh_defs.specs.Bytes.{word, put, put_word, part, SameOutside}
 use Rattle.rh_defs.specs.Pieces.{total}
-use Rattle.rh_defs.specs.Slot.{Flex, weight, flex_weight, IsFree, HaveAnchors}
-use Rattle.rh_defs.specs.SlotImage.{Lie, Hang}
+use Rattle.rh_defs.specs.Slot.{Flex, weight, flex_weight, IsFree, HaveAnchors, heap_start}
+use Rattle.rh_defs.specs.SlotImage.{Lie, Hang, heap_place}
 use Rattle.rh_defs.proofs.BytesLaws.{word_same, length-put, length-put_word, length-part, put_above, put_inside, put-part, put_word_outside, word-part, word-put_above, word-put_inside, word-put_word, SameOutside-self}
 use Rattle.rh_defs.proofs.HeapLists.{sum-append}
 use Rattle.rh_defs.proofs.SlotLaws.{wider, same_both, in_below, in_above, Lie-same, Lie-carried, Lie-unique, Hang-join, IsFree-split, HaveAnchors-cut, Carried, none_weigh}
@@ -22,7 +22,7 @@ hanging_start b from n r = record {
   left = (let e = r.sum in omega arith);
   rest_lies = r.lie;
   hung = record { hang = tt; others = λ k l u. refl };
-  outside = SameOutside-self b 0 256;
+  outside = SameOutside-self b 0 heap_place;
 }
 
 pub hanging_end : (b c : List ℕ) (from n p : ℕ) → Hanging b c from n p → from + n ≤ p → (fs : List Flex) → Lie b from fs → total weight fs ≡ n → Hung b c from fs
@@ -49,13 +49,13 @@ Hang-apart c d p k (f ∷ fs) s u h = (apart c d f.anchor k s u.0 ∙ h.0, Hang-
 -- what the header words at a place say
 pub record Turn (b c : List ℕ) (from n p a s : ℕ) : Type 0 where
   pub least : 32768 ≤ a
-  pub most : a + 4 ≤ 33024
+  pub most : a + 4 ≤ heap_start
   pub on : p + flex_weight s ≤ from + n
   pub next : (d : List ℕ) (w : ℕ) → w ≡ flex_weight s → SameOutside c d (a - 32768) (a - 32768 + 4) → word d (a - 32768) ≡ 32768 + p + 8 → Hanging b d from n (p + w)
 
 turn_at : (b c : List ℕ) (from n p a s : ℕ) (xs ys : List Flex) → Lie b from (xs ++ ys) → total weight (xs ++ ys) ≡ n → HaveAnchors (xs ++ ys) → p ≡ from + total weight xs
-    → p + total weight ys ≡ from + n → Lie c p ys → Hung b c from xs → SameOutside b c 0 256
-    → p < from + n → 256 ≤ from → a ≡ word c p → s ≡ word c (p + 4) → Turn b c from n p a s
+    → p + total weight ys ≡ from + n → Lie c p ys → Hung b c from xs → SameOutside b c 0 heap_place
+    → p < from + n → heap_place ≤ from → a ≡ word c p → s ≡ word c (p + 4) → Turn b c from n p a s
 turn_at b c from n p a s xs [] l sum dis pl left lies hung out lt low ea es = absurd (omega arith)
 turn_at b c from n p a s xs (f ∷ ys) l sum dis pl left lies hung out lt low ea es =
     let cut = HaveAnchors-cut xs f ys dis in
@@ -93,7 +93,7 @@ turn_at b c from n p a s xs (f ∷ ys) l sum dis pl left lies hung out lt low ea
           };
     }
 
-pub turn : (b c : List ℕ) (from n p a s : ℕ) → Hanging b c from n p → p < from + n → 256 ≤ from → a ≡ word c p → s ≡ word c (p + 4) → Turn b c from n p a s
+pub turn : (b c : List ℕ) (from n p a s : ℕ) → Hanging b c from n p → p < from + n → heap_place ≤ from → a ≡ word c p → s ≡ word c (p + 4) → Turn b c from n p a s
 turn b c from n p a s w lt low ea es = turn_at b c from n p a s w.before w.rest w.lie w.sum w.anchors w.place w.left w.rest_lies w.hung w.outside lt low ea es
 
 room_at : (c : List ℕ) (p e : ℕ) (ys : List Flex) → p + total weight ys ≡ e → p < e → p + 8 ≤ e
@@ -119,7 +119,7 @@ outside_put b x y lo hi s l = record {
   above = λ k h. covered b x y k s.len l (s.above k h);
 }
 
-pub apart_start : (b x : List ℕ) (from n k : ℕ) → Row b from n → 256 ≤ length b → k ≡ 256 → x ≡ part b 0 k → HangsApart b x from n from
+pub apart_start : (b x : List ℕ) (from n k : ℕ) → Row b from n → heap_place ≤ length b → k ≡ heap_place → x ≡ part b 0 k → HangsApart b x from n from
 apart_start b x from n k r w ek ex =
     let len : length x ≡ k = ap length ex ∙ length-part b 0 k in
     let same : put b 0 x ≡ b = ap (put b 0) ex ∙ put-part b 0 k (omega arith) in
@@ -141,7 +141,7 @@ pub record TurnApart (b x : List ℕ) (from n p a s : ℕ) : Type 0 where
   pub on : p + flex_weight s ≤ from + n
   pub next : (y : List ℕ) (q : ℕ) → y ≡ put_word x (a - 32768) (32768 + p + 8) → q ≡ p + flex_weight s → HangsApart b y from n q
 
-pub turn_apart : (b x : List ℕ) (from n p a s : ℕ) → HangsApart b x from n p → p < from + n → 256 ≤ from → from + n ≤ length b → length b ≤ 2 ^ 30 → a ≡ word b p → s ≡ word b (p + 4)
+pub turn_apart : (b x : List ℕ) (from n p a s : ℕ) → HangsApart b x from n p → p < from + n → heap_place ≤ from → from + n ≤ length b → length b ≤ 2 ^ 30 → a ≡ word b p → s ≡ word b (p + 4)
     → TurnApart b x from n p a s
 turn_apart b x from n p a s h lt low within small ea es =
     let long = h.long in
@@ -173,14 +173,14 @@ word_of_page b page start k at p e l ep = ap (λ z. word z at) e ∙ word-part b
 
 -- the same where the header is read in the bytes of a page
 pub turn_in_page : (b x page : List ℕ) (from n start k p a s : ℕ) → HangsApart b x from n p → page ≡ part b start k → start ≤ p → p + 8 ≤ start + length page → p + 8 ≤ from + n
-    → 256 ≤ from → from + n ≤ length b → length b ≤ 2 ^ 30 → a ≡ word page (p - start) → s ≡ word page (p - start + 4) → TurnApart b x from n p a s
+    → heap_place ≤ from → from + n ≤ length b → length b ≤ 2 ^ 30 → a ≡ word page (p - start) → s ≡ word page (p - start + 4) → TurnApart b x from n p a s
 turn_in_page b x page from n start k p a s h e lo hi lt low within small ea es =
     turn_apart b x from n p a s h (omega arith) low within small
     (ea ∙ word_of_page b page start k (p - start) p e (omega arith) (omega arith))
     (es ∙ word_of_page b page start k (p - start + 4) (p + 4) e (omega arith) (omega arith))
 
 -- what slid and then was hung
-pub shifted : (b c d : List ℕ) (from to n : ℕ) (fs : List Flex) → Carried b c from to n → SameOutside b c to (to + n) → 256 ≤ to → SameOutside c d 0 256 → to + n ≤ length b
+pub shifted : (b c d : List ℕ) (from to n : ℕ) (fs : List Flex) → Carried b c from to n → SameOutside b c to (to + n) → heap_place ≤ to → SameOutside c d 0 heap_place → to + n ≤ length b
     → Lie b from fs → total weight fs ≡ n → Hung c d to fs → Shifted b d to fs
 shifted b c d from to n fs s o t h r l e x = record {
   lie = Lie-same c d to (to + n) fs (in_above h t) (omega arith) (Lie-carried b c from to fs (subst (Carried b c from to) (sym e) s) l);

@@ -1,11 +1,12 @@
 -- The C heap of a slot as a span of its area.
 use Rattle.std.proofs.Common.{◌≡◌, ℕ, ◌-◌, ◌≤◌, Bool, true, false, leb, refl, sym, ap, subst, ◌∙◌}
 use Rattle.std.specs.Prelude.{◌&&◌, ◌||◌, is_some}
+use Rattle.rh_defs.specs.Slot.{heap_start}
 use Rattle.rh_defs.specs.Heap.{Heap, block_around}
 use Rattle.rh_defs.proofs.HeapLists.{leb_yes}
 use Rattle.rh_defs.specs.Memory.{Memory, IsOpen, bytes}
 use Rattle.rh_defs.specs.Slot as plain
-use Rattle.rh_defs.specs.SlotImage.{SpellsSlot, slot_of}
+use Rattle.rh_defs.specs.SlotImage.{SpellsSlot, heap_place, slot_of}
 use Rattle.rh_defs.proofs.SlotImageLaws.{slot_of-SlotWords, slot_of-SpellsSlot, SpellsSlot-budging}
 use Rattle.rh_heap.specs.declared.span.Span.{Span}
 use Rattle.rh_heap.specs.Spans.{IsSpan, heap_in}
@@ -13,7 +14,7 @@ use Rattle.rh_slot.specs.declared.slot.Slot.{Slot}
 use Rattle.rh_slot.specs.Area.{IsSlot, SpellsIn, slot_in}
 
 abbrev pub span_of : Slot → Span
-span_of slot = record { area = slot.area; at = 256 }
+span_of slot = record { area = slot.area; at = heap_place }
 
 -- the heap in the span is the slot's
 pub heap_same : (m : Memory) (slot : Slot) → heap_in m (span_of slot) ≡ (slot_in m slot).heap
@@ -47,8 +48,8 @@ is_slot m slot s o k = record {
 }
 
 -- bytes in no flex block are in a block of the C heap or in none
-pub inside_heap : (x n : ℕ) (s : plain.Slot) (h : Heap) (r : Bool) → is_some (plain.flex_around x n s) ≡ false → 33024 ≤ x → h ≡ s.heap → r ≡ is_some (block_around (x - 33024) n h) → r ≡ plain.holds x n s
+pub inside_heap : (x n : ℕ) (s : plain.Slot) (h : Heap) (r : Bool) → is_some (plain.flex_around x n s) ≡ false → heap_start ≤ x → h ≡ s.heap → r ≡ is_some (block_around (x - heap_start) n h) → r ≡ plain.holds x n s
 inside_heap x n s h r f l e q =
-    let yes : leb 33024 x ≡ true = leb_yes 33024 x l in
-    q ∙ ap (λ i. is_some (block_around (x - 33024) n i)) e
-    ∙ sym (ap (λ t. t || (leb 33024 x && is_some (block_around (x - 33024) n s.heap))) f ∙ ap (λ t. t && is_some (block_around (x - 33024) n s.heap)) yes)
+    let yes : leb heap_start x ≡ true = leb_yes heap_start x l in
+    q ∙ ap (λ i. is_some (block_around (x - heap_start) n i)) e
+    ∙ sym (ap (λ t. t || (leb heap_start x && is_some (block_around (x - heap_start) n s.heap))) f ∙ ap (λ t. t && is_some (block_around (x - heap_start) n s.heap)) yes)

@@ -2,13 +2,14 @@
 use Rattle.std.proofs.Common.{◌≡◌, ◌≢◌, ℕ, ◌*◌, ◌<◌, List, ◌++◌, length, replicate, refl, sym, ap, subst, ◌∙◌, arith}
 use Rattle.std.proofs.lemmas.List.{length-replicate}
 use Rattle.std.specs.Prelude.{Option, Some, None, IsNone, Result, Ok, Err, OnOk, IsOk, IsErr, ◌↔◌}
+use Rattle.rh_defs.specs.declared.sizes.TheConstants.{PAGE}
 use Rattle.rh_defs.specs.Bytes.{word}
 use Rattle.rh_defs.specs.Memory.{Memory, IsOpen, OnlyArea, Edited, bytes, opened, grown}
 use Rattle.rh_defs.specs.Chain.{outcome_of, ◌>>=◌, refuse_if}
 use Rattle.rh_defs.specs.Heap.{empty_heap}
 use Rattle.rh_defs.specs.HeapImage.{Spells}
 use Rattle.rh_defs.specs.Slot.{new_slot, slot_begin}
-use Rattle.rh_defs.specs.SlotImage.{SpellsSlot}
+use Rattle.rh_defs.specs.SlotImage.{SpellsSlot, heap_place}
 use Rattle.rh_defs.specs.declared.refusal.Refusal.TheVariants.{NoRoom}
 use Rattle.rh_defs.proofs.BytesLaws.{word_same, word-zeros}
 use Rattle.rh_defs.proofs.MemoryLaws.{bytes-none, bytes-opened, bytes-grown, area-opened, free-opened, pages-opened, loan-opened, IsOpen-opened, IsOpen-grown, OnlyArea-both, OnlyArea-grown}
@@ -41,21 +42,21 @@ none_is : (o : Option (List ℕ)) → IsNone o → o ≡ None
 none_is None h = refl
 none_is (Some x) h = absurd cc
 
-page_of_zeros : (m : Memory) (id : ℕ) → bytes (grown (opened m id) id 1) id ≡ replicate 4096 0
-page_of_zeros m id = bytes-grown (opened m id) id 1 ∙ ap (λ (l : List ℕ). l ++ replicate 4096 0) (bytes-opened m id)
+page_of_zeros : (m : Memory) (id : ℕ) → bytes (grown (opened m id) id 1) id ≡ replicate PAGE 0
+page_of_zeros m id = bytes-grown (opened m id) id 1 ∙ ap (λ (l : List ℕ). l ++ replicate PAGE 0) (bytes-opened m id)
 
 -- the area after it was opened and grown by a page
 pub record Opened (m n : Memory) (id : ℕ) : Type 0 where
   pub opened : IsOpen n id
-  pub bytes_are : bytes n id ≡ replicate 4096 0
-  pub len : length (bytes n id) ≡ 4096
+  pub bytes_are : bytes n id ≡ replicate PAGE 0
+  pub len : length (bytes n id) ≡ PAGE
   pub only : OnlyArea m n id
 
 pub opened_page : {A E : Type 0} (m k n : Memory) (id : ℕ) (r : Result A E) → m.free ≢ 0 → IsNone (m.area id) × (k ≡ opened m id) → OnOk r (n ≡ grown k id 1) → (IsErr r ↔ (k.free < 1)) → Opened m n id
 opened_page m k n id r ne o e h =
     let free : k.free ≡ m.free = ap (λ (x : Memory). x.free) o.1 ∙ free-opened m id in
     let is : n ≡ grown (opened m id) id 1 = page_grown k n id r e h (λ z. ne (sym free ∙ z)) ∙ ap (λ x. grown x id 1) o.1 in
-    let bs : bytes n id ≡ replicate 4096 0 = ap (λ x. bytes x id) is ∙ page_of_zeros m id in
+    let bs : bytes n id ≡ replicate PAGE 0 = ap (λ x. bytes x id) is ∙ page_of_zeros m id in
     let first : OnlyArea m (opened m id) id = record {
       opened = IsOpen-opened m id;
       others = λ j q. area-opened m id j q;
@@ -66,12 +67,12 @@ opened_page m k n id r ne o e h =
     record {
       opened = subst (λ x. IsOpen x id) (sym is) (IsOpen-grown (opened m id) id 1);
       bytes_are = bs;
-      len = ap length bs ∙ length-replicate {A = ℕ} 4096 0;
+      len = ap length bs ∙ length-replicate {A = ℕ} PAGE 0;
       only = subst (λ x. OnlyArea m x id) (sym is) (OnlyArea-both m (opened m id) (grown (opened m id) id 1) id first (OnlyArea-grown (opened m id) id 1 (omega (arith, free-opened m id))));
     }
 
 -- with an empty heap behind the anchor words it spells a slot with no block
-pub spells_new : (m n k : Memory) (id : ℕ) → Opened m n id → Edited n k id 256 4096 → Spells (bytes k id) 256 (empty_heap 3840) → SpellsSlot (bytes k id) new_slot
+pub spells_new : (m n k : Memory) (id : ℕ) → Opened m n id → Edited n k id heap_place PAGE → Spells (bytes k id) heap_place (empty_heap 3840) → SpellsSlot (bytes k id) new_slot
 spells_new m n k id o e s =
     let len = e.outside.len in
     let l = o.len in
@@ -81,7 +82,7 @@ spells_new m n k id o e s =
         within = omega arith;
         lie = tt;
         hang = tt;
-        none = λ j u v. word_same (bytes n id) (bytes k id) (4 * j) (in_below e.outside (omega arith)) ∙ ap (λ b. word b (4 * j)) o.bytes_are ∙ word-zeros 4096 (4 * j) (omega arith);
+        none = λ j u v. word_same (bytes n id) (bytes k id) (4 * j) (in_below e.outside (omega arith)) ∙ ap (λ b. word b (4 * j)) o.bytes_are ∙ word-zeros PAGE (4 * j) (omega arith);
         anchors = tt;
       };
       pages = omega arith;

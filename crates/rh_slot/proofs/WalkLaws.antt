@@ -1,9 +1,10 @@
 -- One turn of the walk over a slot's flex blocks, and how it ends.
 use Rattle.std.proofs.Common.{◌≡◌, ℕ, zero, suc, ◌+◌, ◌-◌, ◌*◌, ◌/◌, ◌<◌, ◌≤◌, Bool, true, false, List, [], ◌∷◌, ◌++◌, length, refl, sym, ap, subst, ◌∙◌, append_assoc, arith, length-append, take, drop}
 use Rattle.std.specs.Prelude.{Some, None, is_some, slice_get}
+use Rattle.rh_defs.specs.declared.sizes.TheConstants.{PAGE}
 use Rattle.rh_defs.specs.Bytes.{word}
 use Rattle.rh_defs.specs.Pieces.{total, first_at, is_inside, NonePass}
-use Rattle.rh_defs.specs.Slot.{Flex, Slot, weight, flex_weight, slot_start, slot_length, flex_start, flex_around, HaveAnchors}
+use Rattle.rh_defs.specs.Slot.{Flex, Slot, weight, flex_weight, slot_start, slot_length, flex_start, flex_around, HaveAnchors, anchor_count}
 use Rattle.rh_defs.specs.SlotImage.{Lie, Hang, SlotWords, SpellsSlot, flex_place, is_block}
 use Rattle.rh_defs.specs.Listing.{block_items_from, block_items}
 use Rattle.rh_defs.specs.declared.listing.BlockItem.{BlockItem}
@@ -25,7 +26,7 @@ pub record Next (b : List ℕ) (s : Slot) (place : ℕ) (w : Walked s place) : T
   pub after : List Flex
   pub rest_is : w.rest ≡ here ∷ after
   pub head : word b place ≡ slot_start + 4 * here.anchor
-  pub small : here.anchor < 64
+  pub small : here.anchor < anchor_count
   pub size : word b (place + 4) ≡ length here.bytes
   pub fits : place + weight here ≤ slot_length s
   pub test : is_block b place ≡ true
@@ -77,7 +78,7 @@ pub no_room : (b : List ℕ) (s : Slot) (place : ℕ) → SlotWords b s → Walk
 no_room b s place k w l = elim (stands b s place k w) [ at_block n ↦ absurd (let f = n.fits in let i = k.within in omega arith) | at_top e f ↦ f ]
 
 -- the slot ends in the last page, so below it a walk stands at a block
-pub below_last : (b : List ℕ) (s : Slot) (place : ℕ) → SpellsSlot b s → Walked s place → place + 4096 ≤ length b → is_block b place ≡ true
+pub below_last : (b : List ℕ) (s : Slot) (place : ℕ) → SpellsSlot b s → Walked s place → place + PAGE ≤ length b → is_block b place ≡ true
 below_last b s place k w l = elim (stands b s place k.words w) [ at_block n ↦ n.test | at_top e f ↦ absurd (omega (arith, at_end s place w e, k.pages)) ]
 
 -- the walk after one block

@@ -20,7 +20,7 @@ use rh_defs::{Anchor, Refusal};
 use rh_heap::{keep_map, take_map};
 use rh_store::{AreaId, Store, Words};
 
-/// The lowest anchor without a block, `None` where all 64 have one.
+/// The lowest anchor without a block, `None` where all have one.
 pub fn free_anchor<S: Words>(store: &S, slot: Slot) -> Option<Anchor>
     requires { IsSlot (S.memory store.now) slot }
     ensures { result ≡ free_anchor_on (slot_in (S.memory store.now) slot) }

@@ -17,8 +17,8 @@ use crate::row::shift;
 use crate::slot::Slot;
 use arrayvec::ArrayVec;
 use rh_defs::Refusal;
-use rh_defs::sizes::{C_HEAP_PLACE, C_HEAP_START, PAGE, flex_weight, pages_for};
-use rh_heap::{SEGMENTS_AT_ONCE, Segment, Span};
+use rh_defs::sizes::{C_HEAP_PLACE, C_HEAP_START, PAGE, SEGMENTS_AT_ONCE, flex_weight, pages_for};
+use rh_heap::{Segment, Span};
 use rh_store::{Paged, Pages, Words};
 
 impl Slot {

@@ -9,6 +9,7 @@ use Rattle.std.proofs.Math.Path.{fun_ext}
 use Rattle.std.proofs.lemmas.Bool.Decides.{nat_tests}
 use Rattle.rh_store.specs.declared.area.Area.{Area}
 use Rattle.rh_store.specs.Areas.{shown, contents, room_at, memory_in, IsTidy, HasRoom, IsStore, ChangedAt}
+use Rattle.rh_defs.specs.declared.sizes.TheConstants.{PAGE}
 use Rattle.rh_defs.specs.Memory.{Memory, area_set, bytes, with_bytes, opened, closed, grown, shrunk, fresh}
 use Rattle.rh_defs.proofs.MemoryLaws.{pages_below-set}
 use Rattle.rh_store.specs.Kept.{open_index, contents-past, whole_contents, numbered_areas}
@@ -57,7 +58,7 @@ open_read list i a o e =
     (on, ap (λ (x : Option (List ℕ)). unwrap_or x []) (is ∙ shown_items a on))
 
 -- an area replaced by one that shows o
-replaced : (list : List Area) (i : ℕ) (a b : Area) (o : Option (List ℕ)) → i < length list → a ≡ get_or list i a → shown b ≡ o → (length (unwrap_or o []) % 4096 ≡ 0 → IsTidy b) → vec_capacity a.bytes ≤ vec_capacity b.bytes → ChangedAt list (set list i b) i o
+replaced : (list : List Area) (i : ℕ) (a b : Area) (o : Option (List ℕ)) → i < length list → a ≡ get_or list i a → shown b ≡ o → (length (unwrap_or o []) % PAGE ≡ 0 → IsTidy b) → vec_capacity a.bytes ≤ vec_capacity b.bytes → ChangedAt list (set list i b) i o
 replaced list i a b o h e s t c = record {
   len = length-set list i b;
   contents_are = contents-set list i b h ∙ ap (area_set (contents list) i) s;
@@ -70,11 +71,11 @@ pub rewritten : (list : List Area) (i : ℕ) (a b : Area) (bs : List ℕ) → Is
 rewritten list i a b bs o e op eb c =
     let on : b.opened ≡ true = op ∙ (open_read list i a o e).0 in
     replaced list i a b (Some bs) (open_index list i o) e (shown_items b on ∙ ap (λ (l : List ℕ). Some l) eb)
-    (λ whole. record { whole = ap (λ l. length l % 4096) eb ∙ whole; empty = λ f. absurd (let t : true ≡ false = sym on ∙ f in cc) }) c
+    (λ whole. record { whole = ap (λ l. length l % PAGE) eb ∙ whole; empty = λ f. absurd (let t : true ≡ false = sym on ∙ f in cc) }) c
 
 -- an area is closed and left empty
 pub hidden : (list : List Area) (i : ℕ) (a b : Area) → IsSome (contents list i) → a ≡ get_or list i a → b.opened ≡ false → b.bytes.items ≡ [] → vec_capacity b.bytes ≡ vec_capacity a.bytes → ChangedAt list (set list i b) i None
-hidden list i a b o e off eb c = replaced list i a b None (open_index list i o) e (rw off refl) (λ whole. record { whole = ap (λ (l : List ℕ). length l % 4096) eb; empty = λ f. eb }) (omega arith)
+hidden list i a b o e off eb c = replaced list i a b None (open_index list i o) e (rw off refl) (λ whole. record { whole = ap (λ (l : List ℕ). length l % PAGE) eb; empty = λ f. eb }) (omega arith)
 
 -- a closed area is opened
 pub revealed : (list : List Area) (i : ℕ) (a b : Area) → i < length list → IsNone (contents list i) → All IsTidy list → a ≡ get_or list i a → b.opened ≡ true → b.bytes.items ≡ a.bytes.items → vec_capacity b.bytes ≡ vec_capacity a.bytes → ChangedAt list (set list i b) i (Some [])
@@ -84,7 +85,7 @@ revealed list i a b h n all e on eb c =
     let tidy : IsTidy a = subst IsTidy (sym e) (all i a h) in
     let none : b.bytes.items ≡ [] = eb ∙ tidy.empty off in
     replaced list i a b (Some []) h e (shown_items b on ∙ ap (λ (l : List ℕ). Some l) none)
-    (λ whole. record { whole = ap (λ (l : List ℕ). length l % 4096) none; empty = λ f. none }) (omega arith)
+    (λ whole. record { whole = ap (λ (l : List ℕ). length l % PAGE) none; empty = λ f. none }) (omega arith)
 
 -- an open area gets other bytes in its slice
 pub written_slice : (list : List Area) (i : ℕ) (a : Area) (new bs : List ℕ) → IsSome (contents list i) → a ≡ get_or list i a → new ≡ bs → length bs ≡ length a.bytes.items → ChangedAt list (set list i (record a { bytes = with_items a.bytes new })) i (Some bs)
@@ -157,7 +158,7 @@ room_at-get [] i d h = absurd (omega arith)
 room_at-get (x ∷ list) zero d h = refl
 room_at-get (x ∷ list) (suc i) d h = room_at-get list i d (omega arith)
 
-pub room_at-all : (pages : ℕ) (list : List Area) (i : ℕ) → All (HasRoom pages) list → i < length list → 4096 * pages ≤ room_at list i
+pub room_at-all : (pages : ℕ) (list : List Area) (i : ℕ) → All (HasRoom pages) list → i < length list → PAGE * pages ≤ room_at list i
 unfolding room_at
 room_at-all pages [] i all h = absurd (omega arith)
 room_at-all pages (x ∷ list) i all h = let r = (all i x h).room in let e = room_at-get (x ∷ list) i x h in omega arith
@@ -174,21 +175,21 @@ pub memory-opened : (list new : List Area) (i free pages : ℕ) → ChangedAt li
 unfolding opened
 memory-opened list new i free pages s = set_memory list new i (Some []) free pages s
 
-pub memory-closed : (list new : List Area) (i free pages : ℕ) → ChangedAt list new i None → memory_in new (free + length (bytes (memory_in list free pages) i) / 4096) pages ≡ closed (memory_in list free pages) i
+pub memory-closed : (list new : List Area) (i free pages : ℕ) → ChangedAt list new i None → memory_in new (free + length (bytes (memory_in list free pages) i) / PAGE) pages ≡ closed (memory_in list free pages) i
 unfolding closed
-memory-closed list new i free pages s = set_memory list new i None (free + length (bytes (memory_in list free pages) i) / 4096) pages s
+memory-closed list new i free pages s = set_memory list new i None (free + length (bytes (memory_in list free pages) i) / PAGE) pages s
 
-pub memory-grown : (list new : List Area) (i n free pages : ℕ) → ChangedAt list new i (Some (bytes (memory_in list free pages) i ++ replicate (4096 * n) 0)) → memory_in new (free - n) pages ≡ grown (memory_in list free pages) i n
+pub memory-grown : (list new : List Area) (i n free pages : ℕ) → ChangedAt list new i (Some (bytes (memory_in list free pages) i ++ replicate (PAGE * n) 0)) → memory_in new (free - n) pages ≡ grown (memory_in list free pages) i n
 unfolding grown
-memory-grown list new i n free pages s = set_memory list new i (Some (bytes (memory_in list free pages) i ++ replicate (4096 * n) 0)) (free - n) pages s
+memory-grown list new i n free pages s = set_memory list new i (Some (bytes (memory_in list free pages) i ++ replicate (PAGE * n) 0)) (free - n) pages s
 
-pub memory-shrunk : (list new : List Area) (i n free pages : ℕ) → ChangedAt list new i (Some (take (length (bytes (memory_in list free pages) i) - 4096 * n) (bytes (memory_in list free pages) i))) → memory_in new (free + n) pages ≡ shrunk (memory_in list free pages) i n
+pub memory-shrunk : (list new : List Area) (i n free pages : ℕ) → ChangedAt list new i (Some (take (length (bytes (memory_in list free pages) i) - PAGE * n) (bytes (memory_in list free pages) i))) → memory_in new (free + n) pages ≡ shrunk (memory_in list free pages) i n
 unfolding shrunk
-memory-shrunk list new i n free pages s = set_memory list new i (Some (take (length (bytes (memory_in list free pages) i) - 4096 * n) (bytes (memory_in list free pages) i))) (free + n) pages s
+memory-shrunk list new i n free pages s = set_memory list new i (Some (take (length (bytes (memory_in list free pages) i) - PAGE * n) (bytes (memory_in list free pages) i))) (free + n) pages s
 
 -- the areas are a store's again after one was set
-pub changed : (list new : List Area) (i : ℕ) (o : Option (List ℕ)) (free free' pages limit : ℕ) → IsStore list free pages limit → ChangedAt list new i o → i < limit → length (unwrap_or o []) % 4096 ≡ 0
-    → free' + length (unwrap_or o []) / 4096 ≡ free + length (unwrap_or (contents list i) []) / 4096 → IsStore new free' pages limit
+pub changed : (list new : List Area) (i : ℕ) (o : Option (List ℕ)) (free free' pages limit : ℕ) → IsStore list free pages limit → ChangedAt list new i o → i < limit → length (unwrap_or o []) % PAGE ≡ 0
+    → free' + length (unwrap_or o []) / PAGE ≡ free + length (unwrap_or (contents list i) []) / PAGE → IsStore new free' pages limit
 changed list new i o free free' pages limit k s h whole sum = record {
   table = s.len ∙ k.table;
   tidy = s.tidy whole k.tidy;
@@ -200,7 +201,7 @@ changed list new i o free free' pages limit k s h whole sum = record {
 pub stays : (list new : List Area) (i : ℕ) (bs : List ℕ) (free pages limit : ℕ) → IsStore list free pages limit → ChangedAt list new i (Some bs) → IsSome (contents list i) → length bs ≡ length (unwrap_or (contents list i) []) → IsStore new free pages limit
 stays list new i bs free pages limit k s o e =
     changed list new i (Some bs) free free pages limit k s (numbered_areas list free pages limit i k o)
-    (ap (λ n. n % 4096) e ∙ whole_contents list i k.tidy) (ap (λ n. free + n / 4096) e)
+    (ap (λ n. n % PAGE) e ∙ whole_contents list i k.tidy) (ap (λ n. free + n / PAGE) e)
 
 pub none_is : (o : Option (List ℕ)) → IsNone o → o ≡ None
 none_is None h = refl

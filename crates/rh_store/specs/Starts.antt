@@ -5,11 +5,11 @@ use Rattle.rh_defs.specs.Heap.{Segment, Used, Hole, Heap, first_place}
 use Rattle.rh_defs.specs.HeapImage.{Spells, heap_of}
 use Rattle.rh_defs.specs.declared.sizes.TheConstants.{HEAP_UNIT}
 use Rattle.rh_store.specs.declared.starts.Starts.{Starts}
-use Rattle.rh_store.specs.declared.starts.TheConstants.{USED, HOLES, LINE_BYTES}
+use Rattle.rh_store.specs.declared.starts.TheConstants.{USED, HOLES, LINE_BYTES, BITS}
 
 -- bit k of a lane: each line of a map has a word of 64 bits for each of the two lanes
 abbrev pub bit : ℕ → List ℕ → ℕ → ℕ
-bit lane starts k = bit_at (slice_index starts (2 * (k / 64) + lane)) (k % 64)
+bit lane starts k = bit_at (slice_index starts (2 * (k / BITS) + lane)) (k % BITS)
 
 -- 1 where these are one place, else 0
 abbrev pub once : ℕ → ℕ → ℕ

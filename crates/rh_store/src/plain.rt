@@ -3,6 +3,7 @@
 #![tactic(auto, unfolding(rh_defs::specs::Memory::bytes, crate::specs::Plain::memory_of))]
 
 ghost use Rattle.std.specs.Prelude.{◌≤◌};
+ghost use Rattle.rh_store.specs.declared.plain.TheConstants.{MOST_PLAIN_PAGES};
 ghost use Rattle.rh_store.specs.Areas.{IsStore};
 ghost use Rattle.rh_defs.specs.declared.sizes.TheConstants.{MAX_AREAS, MAX_PAGES};
 
@@ -14,6 +15,9 @@ use crate::bytes::{copy_from, part_of, word_in};
 use crate::store::{AreaId, Paged, Pages, Store, StoreFault, Words, WordsMut};
 use rh_defs::sizes::{MAX_AREAS, MIN_PAGES, PAGE};
 use std::alloc::{AllocError, Global};
+
+/// The most pages of such a store, each of whose areas has room for all of them.
+pub const MOST_PLAIN_PAGES: usize = 256;
 
 /// A store that keeps a vector for each area, with room for all pages from the start.
 #[derive(Drop)]
@@ -30,11 +34,11 @@ impl PlainStore {
     ghost use Rattle.rh_store.specs.Plain.{memory_of};
     ghost use Rattle.rh_defs.specs.Memory.{fresh};
 
-    /// A store of this many pages, 8 to 256, all of them free. All memory is taken here: AllocError where it is
+    /// A store of this many pages, all of them free. All memory is taken here: AllocError where it is
     /// refused.
     pub fn new(alloc: Global, pages: usize) -> Result<PlainStore, AllocError>
         requires least { MIN_PAGES ≤ pages }
-        requires most { pages ≤ 256 }
+        requires most { pages ≤ MOST_PLAIN_PAGES }
         ensures { IfOk result (λ s. memory_of s ≡ fresh pages) }
     {
         let mut areas = Vec::with_capacity(alloc, MAX_AREAS)?;

@@ -7,7 +7,7 @@ use Rattle.rh_defs.specs.Chain.{Granted}
 use Rattle.rh_defs.specs.Pieces.{Split, zeros}
 use Rattle.rh_defs.specs.Heap.{Segment, Heap, Way, Stays, Shrinks, GrowsIntoHole, GrowsAtTop, MovesToHole, MovesToTop, Used, Hole, size_of, base, first_place, place_after, block_at, hole_for, is_block_at, is_hole_for, placed_in, raised, need, claim_growing, block_room, way_to, way_to_grow, way_beyond, resized_by, resize_growing, resize_need, segment_size, fitted, bytes_of, new_size}
 use Rattle.rh_defs.specs.Module.{whole_pages, module_claim, module_resize, module_change}
-use Rattle.rh_defs.specs.Slot.{Slot, slot_alloc, slot_claim, slot_resize, slot_length, heap_block_at}
+use Rattle.rh_defs.specs.Slot.{Slot, slot_alloc, slot_claim, slot_resize, slot_length, heap_block_at, heap_start}
 use Rattle.rh_defs.proofs.Cuts.{IsCut, first_at-cuts, cut-total}
 use Rattle.rh_defs.proofs.Chains.{OnGrant, granted, refused, granted-with, granted-unless, found_or-grants, chosen}
 
@@ -87,14 +87,14 @@ module_resize-low free address delta h =
     granted-with _ (found_or-grants _ (block_at address h) _ (block-low address h))
     (λ s low. granted-unless _ _ _ (λ e. granted-unless _ _ _ (λ f. granted (resize-low (new_size delta s) s h low))))
 
-pub slot_claim-low : (free n : ℕ) (s : Slot) → OnGrant (λ (p : Slot × ℕ). p.1 ≤ 33024 + (base s.heap + 4)) (slot_claim free n s)
+pub slot_claim-low : (free n : ℕ) (s : Slot) → OnGrant (λ (p : Slot × ℕ). p.1 ≤ heap_start + (base s.heap + 4)) (slot_claim free n s)
 unfolding slot_claim
 slot_claim-low free n s = granted-unless _ _ _ (λ e. granted-unless _ _ _ (λ f. granted-unless _ _ _ (λ g. granted (omega (arith, claim-low n s.heap)))))
 
-pub slot_resize-low : (free address : ℕ) (delta : ℤ) (s : Slot) → OnGrant (λ (p : Slot × ℕ). p.1 ≤ 33024 + (base s.heap + 4)) (slot_resize free address delta s)
+pub slot_resize-low : (free address : ℕ) (delta : ℤ) (s : Slot) → OnGrant (λ (p : Slot × ℕ). p.1 ≤ heap_start + (base s.heap + 4)) (slot_resize free address delta s)
 unfolding slot_resize
 slot_resize-low free address delta s =
-    granted-with _ (found_or-grants _ (heap_block_at address s) _ (block-low (address - 33024) s.heap))
+    granted-with _ (found_or-grants _ (heap_block_at address s) _ (block-low (address - heap_start) s.heap))
     (λ b low. granted-unless _ _ _ (λ e. granted-unless _ _ _ (λ f. granted-unless _ _ _ (λ g. granted (omega (arith, resize-low (new_size delta b) b s.heap low))))))
 
 pub slot_alloc-low : (free k n : ℕ) (s : Slot) → OnGrant (λ (p : Slot × ℕ). p.1 ≤ 32776 + slot_length s) (slot_alloc free k n s)

@@ -4,6 +4,7 @@ use Rattle.std.specs.Prelude.{◌⊎◌, Option, Some, None, Ok, Err, min}
 use Rattle.std.specs.Option.{option_map, ok_or}
 use Rattle.std.proofs.lemmas.Bool.{cases_lt}
 use Rattle.std.proofs.lemmas.List.{length-take, take_all}
+use Rattle.rh_defs.specs.SlotImage.{heap_place}
 use Rattle.rh_defs.specs.Bytes.{part}
 use Rattle.rh_defs.specs.Memory.{Memory, bytes}
 use Rattle.rh_defs.specs.declared.refusal.Refusal.{Refusal}
@@ -11,7 +12,7 @@ use Rattle.rh_defs.specs.declared.refusal.Refusal.TheVariants.{NoBlock, NotABloc
 use Rattle.rh_defs.specs.Chain.{Granted}
 use Rattle.rh_defs.specs.Pieces.{Split}
 use Rattle.rh_defs.specs.Heap.{Segment, bytes_of, block_size}
-use Rattle.rh_defs.specs.Slot.{Slot, Flex, IsFree, HaveAnchors, slot_start, heap_start, heap_block_at, slot_size}
+use Rattle.rh_defs.specs.Slot.{Slot, Flex, IsFree, HaveAnchors, slot_start, heap_start, heap_block_at, slot_size, anchor_count}
 use Rattle.rh_defs.specs.Places.{first_bytes}
 use Rattle.rh_slot.specs.declared.slot.Slot as code
 use Rattle.rh_slot.specs.Area.{IsSlot, slot_in}
@@ -24,23 +25,23 @@ use Rattle.rh_tasks.specs.Polls.{AreFirst}
 -- ---- the anchor's block
 
 -- an anchor above all slots' has none
-free-above : (k : ℕ) (blocks : List Flex) → 64 ≤ k → HaveAnchors blocks → IsFree k blocks
+free-above : (k : ℕ) (blocks : List Flex) → anchor_count ≤ k → HaveAnchors blocks → IsFree k blocks
 free-above k [] high h = tt
 free-above k (b ∷ blocks) high h = ((λ q. absurd (omega (arith, q, h.0))), free-above k blocks high h.2)
 
-pub size-above : (k : ℕ) (s : Slot) → 64 ≤ k → HaveAnchors s.blocks → slot_size k s ≡ Err NoBlock
+pub size-above : (k : ℕ) (s : Slot) → anchor_count ≤ k → HaveAnchors s.blocks → slot_size k s ≡ Err NoBlock
 size-above k s high h = size_none k s (free-above k s.blocks high h)
 
 -- an anchor with a size is one of a slot's
-pub sized-anchor : (k n : ℕ) (s : Slot) → Ok n ≡ slot_size k s → HaveAnchors s.blocks → k < 64
-sized-anchor k n s e h = go (cases_lt k 64)
+pub sized-anchor : (k n : ℕ) (s : Slot) → Ok n ≡ slot_size k s → HaveAnchors s.blocks → k < anchor_count
+sized-anchor k n s e h = go (cases_lt k anchor_count)
   where
-    go : (k < 64) ⊎ (64 ≤ k) → k < 64
+    go : (k < anchor_count) ⊎ (anchor_count ≤ k) → k < anchor_count
     go (inl l) = l
     go (inr l) = absurd (let q : Ok n ≡ Err NoBlock = e ∙ size-above k s l h in cc)
 
 -- it gets no bytes
-pub append-above : (free k : ℕ) (xs : List ℕ) (s : Slot) → 64 ≤ k → HaveAnchors s.blocks → slot_append free k xs s ≡ Err NoBlock
+pub append-above : (free k : ℕ) (xs : List ℕ) (s : Slot) → anchor_count ≤ k → HaveAnchors s.blocks → slot_append free k xs s ≡ Err NoBlock
 append-above free k xs s high h = append_none free k xs s (free-above k s.blocks high h)
 
 -- ---- bytes of the C heap
@@ -68,12 +69,12 @@ module _ {m : Memory} {slot : code.Slot} (is : IsSlot m slot) (place n : ℕ) wh
   pub first-part : (f : AreFirst place n s) → part (bytes m slot.area.0) place n ≡ first_bytes f.most (heap_block_at f.address s)
   first-part f = first-of f (heap_block_at f.address s) refl
 
-  above-of : (f : AreFirst place n s) (o : Option (Split Segment)) → heap_block_at f.address s ≡ o → 0 < n → 256 ≤ place
+  above-of : (f : AreFirst place n s) (o : Option (Split Segment)) → heap_block_at f.address s ≡ o → 0 < n → heap_place ≤ place
   above-of f None e l = absurd (let none : n ≡ 0 = f.n_is ∙ ap (λ o. length (first_bytes f.most o)) e in omega (arith, l, none))
   above-of f (Some b) e l = omega (arith, f.place_is, heap-low m slot f.address b is e)
 
   -- above the anchor words
-  pub first-above : AreFirst place n s → 0 < n → 256 ≤ place
+  pub first-above : AreFirst place n s → 0 < n → heap_place ≤ place
   first-above f l = above-of f (heap_block_at f.address s) refl l
 
 -- ---- the first bytes of a buffer

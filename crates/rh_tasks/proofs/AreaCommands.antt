@@ -8,6 +8,7 @@ use Rattle.std.specs.Int.Signed.{lt_z}
 use Rattle.std.proofs.lemmas.Int.{ints}
 use Rattle.std.specs.List.{position}
 use borrow.Author.Tests.{ltb-false}
+use Rattle.rh_defs.specs.declared.sizes.TheConstants.{PAGE}
 use Rattle.rh_defs.specs.Memory.{Memory, OnlyArea, bytes}
 use Rattle.rh_defs.specs.Files.{FileList}
 use Rattle.rh_defs.specs.declared.command.Command.TheVariants as command
@@ -34,7 +35,7 @@ use Rattle.rh_tasks.proofs.Finding.{no-made}
 
 -- ---- how many pages an area has after the change
 
-pub after-more : (free least pages more : ℕ) (delta : ℤ) → lt_z delta (pos 0) ≡ false → 4096 * more ≡ whole_pages delta → more ≤ free → pages_after free least pages delta ≡ Ok (pages + more)
+pub after-more : (free least pages more : ℕ) (delta : ℤ) → lt_z delta (pos 0) ≡ false → PAGE * more ≡ whole_pages delta → more ≤ free → pages_after free least pages delta ≡ Ok (pages + more)
 unfolding pages_after ◌>>=◌ ◌>>◌ refuse_if
 after-more free least pages more (pos n) up is room =
     let enough : lacks_pages free (changed_length (page * pages) (pos n) - page * pages) ≡ false = lt-false free _ (omega (arith, is, room)) in
@@ -42,14 +43,14 @@ after-more free least pages more (pos n) up is room =
     rw (enough, long) refl
 after-more free least pages more (negsuc n) up is room = absurd (cc)
 
-pub after-full : (free least pages more : ℕ) (delta : ℤ) → lt_z delta (pos 0) ≡ false → 4096 * more ≡ whole_pages delta → free < more → pages_after free least pages delta ≡ Err NoRoom
+pub after-full : (free least pages more : ℕ) (delta : ℤ) → lt_z delta (pos 0) ≡ false → PAGE * more ≡ whole_pages delta → free < more → pages_after free least pages delta ≡ Err NoRoom
 unfolding pages_after ◌>>=◌ ◌>>◌ refuse_if
 after-full free least pages more (pos n) up is full =
     let lacks : lacks_pages free (changed_length (page * pages) (pos n) - page * pages) ≡ true = lt-true free _ (omega (arith, is, full)) in
     rw lacks refl
 after-full free least pages more (negsuc n) up is full = absurd (cc)
 
-pub after-less : (free least pages more : ℕ) (delta : ℤ) → lt_z delta (pos 0) ≡ true → 4096 * more ≡ whole_pages delta → least + 4096 * more ≤ 4096 * pages → pages_after free least pages delta ≡ Ok (pages - more)
+pub after-less : (free least pages more : ℕ) (delta : ℤ) → lt_z delta (pos 0) ≡ true → PAGE * more ≡ whole_pages delta → least + PAGE * more ≤ PAGE * pages → pages_after free least pages delta ≡ Ok (pages - more)
 unfolding pages_after ◌>>=◌ ◌>>◌ refuse_if
 after-less free least pages more (pos n) down is room = absurd (omega (arith, ints))
 after-less free least pages more (negsuc n) down is room =
@@ -58,7 +59,7 @@ after-less free least pages more (negsuc n) down is room =
     let long : changed_length (page * pages) (negsuc n) / page ≡ pages - more = omega (arith, is, room) in
     rw (fits, enough, long) refl
 
-pub after-short : (free least pages more : ℕ) (delta : ℤ) → lt_z delta (pos 0) ≡ true → 4096 * more ≡ whole_pages delta → 4096 * pages < least + 4096 * more → pages_after free least pages delta ≡ Err ExcessiveShrink
+pub after-short : (free least pages more : ℕ) (delta : ℤ) → lt_z delta (pos 0) ≡ true → PAGE * more ≡ whole_pages delta → PAGE * pages < least + PAGE * more → pages_after free least pages delta ≡ Err ExcessiveShrink
 unfolding pages_after ◌>>=◌ ◌>>◌ refuse_if
 after-short free least pages more (pos n) down is short = absurd (omega (arith, ints))
 after-short free least pages more (negsuc n) down is short =
@@ -84,18 +85,18 @@ room-if free least pages (negsuc n) p e = go (shrinks_below least (page * pages)
     go false false q = let same : changed_length (page * pages) (negsuc n) / page ≡ p = cc in omega (arith, same)
 
 -- what an area keeps at least is left
-pub least-left : (free least pages : ℕ) (delta : ℤ) (p : ℕ) → pages_after free least pages delta ≡ Ok p → least ≤ 4096 * pages → least ≤ 4096 * p
+pub least-left : (free least pages : ℕ) (delta : ℤ) (p : ℕ) → pages_after free least pages delta ≡ Ok p → least ≤ PAGE * pages → least ≤ PAGE * p
 unfolding pages_after ◌>>=◌ ◌>>◌ refuse_if
 least-left free least pages (pos n) p e had = go (lacks_pages free (changed_length (page * pages) (pos n) - page * pages)) e
   where
-    go : (b : Bool) → (refuse_if b NoRoom >>= (λ _. Ok (changed_length (page * pages) (pos n) / page))) ≡ Ok p → least ≤ 4096 * p
+    go : (b : Bool) → (refuse_if b NoRoom >>= (λ _. Ok (changed_length (page * pages) (pos n) / page))) ≡ Ok p → least ≤ PAGE * p
     go true q = absurd (cc)
     go false q = let same : changed_length (page * pages) (pos n) / page ≡ p = cc in omega (arith, same, had)
 least-left free least pages (negsuc n) p e had =
     go (shrinks_below least (page * pages) (negsuc n)) refl (lacks_pages free (changed_length (page * pages) (negsuc n) - page * pages)) e
   where
     go : (b : Bool) → nat_lt (page * pages) (least + whole_pages (negsuc n)) ≡ b → (c : Bool)
-        → (refuse_if b ExcessiveShrink >>= (λ _. refuse_if c NoRoom >>= (λ _. Ok (changed_length (page * pages) (negsuc n) / page)))) ≡ Ok p → least ≤ 4096 * p
+        → (refuse_if b ExcessiveShrink >>= (λ _. refuse_if c NoRoom >>= (λ _. Ok (changed_length (page * pages) (negsuc n) / page)))) ≡ Ok p → least ≤ PAGE * p
     go true t c q = absurd (cc)
     go false t true q = absurd (cc)
     go false t false q = let same : changed_length (page * pages) (negsuc n) / page ≡ p = cc in omega (arith, same, ltb-false _ _ t)
@@ -148,13 +149,13 @@ module _ {m : Memory} {seats : List Seat} {made : List MadeArea} {files : FileLi
     fixed-refused e = fixed-way ne low ∙ pages-refused e
 
     module _ {n : Memory} {p : ℕ} (granted : pages_after m.free (least_length k d) (pages_at m k) delta ≡ Ok p) (is : pages_at n k ≡ p) (only : OnlyArea m n k) (keeps : KeepsFirst m n k)
-        (whole_before : length (bytes m k) % 4096 ≡ 0) (whole_after : length (bytes n k) % 4096 ≡ 0) where
+        (whole_before : length (bytes m k) % PAGE ≡ 0) (whole_after : length (bytes n k) % PAGE ≡ 0) where
       -- the scrap file still fits in its area
       fits : scrap_size kept.scrap ≤ length (bytes n 5)
       fits = elim (cases_eq k 5) [
         | inl e ↦
-            let P : ℕ → Type 0 = λ j. length (bytes n j) ≡ 4096 * pages_at n j in
-            let Q : ℕ → Type 0 = λ j. length (bytes m j) ≡ 4096 * pages_at m j in
+            let P : ℕ → Type 0 = λ j. length (bytes n j) ≡ PAGE * pages_at n j in
+            let Q : ℕ → Type 0 = λ j. length (bytes m j) ≡ PAGE * pages_at m j in
             let now = subst P e (sym (pages-of n k whole_after)) in
             let had = subst Q e (sym (pages-of m k whole_before)) in
             let least : least_length k d ≡ scrap_size kept.scrap = if_same k 5 _ _ e ∙ file-length m kept.scrap w.scrap in
@@ -196,7 +197,7 @@ module _ {m : Memory} {seats : List Seat} {made : List MadeArea} {files : FileLi
     made-too-big {p} e big = made-way high ∙ begins _ (made-found w k a h) (begins _ (made-args ∙ e) (stops _ _ _ (lt-true a.most p big)))
 
     module _ {n : Memory} {p : ℕ} (granted : pages_after m.free 0 (pages_at m a.area.0) delta ≡ Ok p) (fits : p ≤ a.most) (is : pages_at n a.area.0 ≡ p) (only : OnlyArea m n a.area.0)
-        (whole_before : length (bytes m a.area.0) % 4096 ≡ 0) (whole_after : length (bytes n a.area.0) % 4096 ≡ 0) where
+        (whole_before : length (bytes m a.area.0) % PAGE ≡ 0) (whole_after : length (bytes n a.area.0) % PAGE ≡ 0) where
       area-done : change_made d k delta ≡ Ok (desk_of n seats made files kept, reply.Moved (whole_pages delta))
       unfolding change_made made_of
       area-done =

@@ -2,6 +2,7 @@
 use Rattle.std.proofs.Common.{◌≡◌, ℕ, zero, suc, ◌+◌, ◌*◌, ◌%◌, ◌<◌, ◌≤◌, ◌≢◌, inl, inr, refl, ap, subst, arith, List, [], ◌∷◌, length, ◌∙◌, sym}
 use Rattle.std.specs.Prelude.{take, slice_index, slice_set}
 use Rattle.std.proofs.lemmas.Bool.{cases_eq}
+use Rattle.rh_defs.specs.declared.sizes.TheConstants.{PAGE}
 use Rattle.rh_defs.specs.Memory.{Memory, IsOpen, OnlyArea, bytes}
 use Rattle.rh_defs.specs.Pieces.{total}
 use Rattle.rh_defs.specs.Files.{FileList}
@@ -71,7 +72,7 @@ fixed-open (suc (suc (suc (suc (suc zero))))) w low = w.fixed_open.1.1.1.1.1.0
 fixed-open (suc (suc (suc (suc (suc (suc k)))))) w low = absurd (omega arith)
 
 -- pages are told by lengths that are whole pages
-pub pages-of : (m : Memory) (id : ℕ) → length (bytes m id) % 4096 ≡ 0 → 4096 * pages_at m id ≡ length (bytes m id)
+pub pages-of : (m : Memory) (id : ℕ) → length (bytes m id) % PAGE ≡ 0 → PAGE * pages_at m id ≡ length (bytes m id)
 unfolding pages_at
 pages-of m id whole = omega arith
 
@@ -98,7 +99,7 @@ pub record KeepsFirst (m n : Memory) (id : ℕ) : Type 0 where
 module _ {m n : Memory} {seats : List Seat} {made : List MadeArea} {files : FileList} {kept : Kept} {k : ℕ}
     (w : IsWorld m seats made files kept) (low : k < 6) (only : OnlyArea m n k) (ne : k ≢ 1)
     (keeps : KeepsFirst m n k) (fits : scrap_size kept.scrap ≤ length (bytes n 5))
-    (whole_before : length (bytes m k) % 4096 ≡ 0) (whole_after : length (bytes n k) % 4096 ≡ 0) where
+    (whole_before : length (bytes m k) % PAGE ≡ 0) (whole_after : length (bytes n k) % PAGE ≡ 0) where
   stay : Stay m n k
   stay = record { others = only.others }
 
@@ -147,12 +148,12 @@ module _ {m n : Memory} {seats : List Seat} {made : List MadeArea} {files : File
       (tasks-stay seats around (avoids-below slot_area 6 1 seats (omega arith) w.areas.slots_above)) same (fixed-rest around)
       (mades-stay made around (avoids-below made_area 6 1 made (omega arith) w.areas.made_above)) only.pages (scrap-stays kept.scrap around (λ q. absurd (omega arith)))
 
-  module-ledger : length (bytes n 1) % 4096 ≡ 0 → n.free + used_pages (desk_of n seats made files kept) ≡ n.pages
+  module-ledger : length (bytes n 1) % PAGE ≡ 0 → n.free + used_pages (desk_of n seats made files kept) ≡ n.pages
   module-ledger whole_after =
       let ends : h.end ≡ length (bytes n 1) = sym (ap (λ (p : Post). p.heap.end) same) ∙ end-is n kept.queue ∙ sym is.area.spells.whole in
       omega (arith, w.ledger, only.ledger, only.pages, ap used_pages module-desk, module-length w, ends, whole_after)
 
-  pub module-world : length (bytes n 1) % 4096 ≡ 0 → IsDesk (desk_of n seats made files kept) → IsWorld n seats made files kept
+  pub module-world : length (bytes n 1) % PAGE ≡ 0 → IsDesk (desk_of n seats made files kept) → IsWorld n seats made files kept
   module-world whole_after d = record {
     desk = d;
     areas = changed-areas w.areas (omega arith) only is.area;

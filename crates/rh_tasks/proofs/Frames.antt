@@ -6,6 +6,7 @@ use Rattle.std.proofs.lemmas.Bool.{cases_eq}
 use Rattle.std.proofs.lemmas.Bool.Decides.{nat_tests}
 use Rattle.std.proofs.Math.ListN.{set}
 use Rattle.std.specs.List.{AllByRecursion}
+use Rattle.rh_defs.specs.declared.sizes.TheConstants.{PAGE}
 use Rattle.rh_defs.specs.Memory.{Memory, IsOpen, OthersStay, bytes, open_below}
 use Rattle.rh_defs.proofs.MemoryLaws.{open_below-same}
 use Rattle.rh_defs.specs.Slot as plain
@@ -49,7 +50,7 @@ opened-stays j stay h o = let P : Option (List ℕ) → Type 0 = λ x. IsSome x 
 
 pub pages-stay : {m n : Memory} {id : ℕ} (j : ℕ) → Stay m n id → j ≢ id → pages_at n j ≡ pages_at m j
 unfolding pages_at
-pages-stay j stay h = ap (λ (b : List ℕ). length b / 4096) (bytes-stay j stay h)
+pages-stay j stay h = ap (λ (b : List ℕ). length b / PAGE) (bytes-stay j stay h)
 
 pub slot-stays : {m n : Memory} {id : ℕ} (slot : Slot) → Stay m n id → slot.area.0 ≢ id → slot_in n slot ≡ slot_in m slot
 slot-stays slot stay h = rw (bytes-stay slot.area.0 stay h) refl

@@ -6,6 +6,7 @@ use Rattle.std.specs.Option.{option_map}
 use Rattle.std.proofs.Math.ListN.{get_or, length-append}
 use Rattle.std.proofs.lemmas.List.{length-map}
 use Rattle.std.proofs.lemmas.Option.{slice_get-map, slice_get-get_or, slice_get_past}
+use Rattle.rh_defs.specs.declared.sizes.TheConstants.{MAX_AREAS}
 use Rattle.rh_defs.specs.Memory.{Memory, bytes}
 use Rattle.rh_defs.specs.Pieces.{total}
 use Rattle.rh_defs.specs.Files.{FileList}
@@ -74,7 +75,7 @@ module _ {m : Memory} {seats : List Seat} {made : List MadeArea} {files : FileLi
       let r = slots-listed m seats w.areas.slots in
       rw (p, q, r) refl
 
-  pub few-items : length (area_items d) ≤ 70
+  pub few-items : length (area_items d) ≤ MAX_AREAS
   few-items =
       rw items-are (omega (
         arith,

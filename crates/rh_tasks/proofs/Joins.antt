@@ -16,7 +16,7 @@ use Rattle.rh_defs.specs.Post.{post_join}
 use Rattle.rh_defs.specs.Desk.{Desk, Task, task_pages, used_pages}
 use Rattle.rh_defs.specs.Laws.{IsDesk}
 use Rattle.rh_slot.specs.Area.{IsSlot}
-use Rattle.rh_defs.specs.declared.sizes.TheConstants.{MAX_AREAS}
+use Rattle.rh_defs.specs.declared.sizes.TheConstants.{MAX_AREAS, PAGE}
 use Rattle.rh_wimp.specs.Calls.{IsQueue}
 use Rattle.rh_wimp.specs.Chains.{joined}
 use Rattle.rh_wimp.specs.PostIn.{post_in}
@@ -228,7 +228,7 @@ module _ {m : Memory} {seats : List Seat} {made : List MadeArea} {i : ℕ} {s : 
   }
 
   -- the pages of the other tasks, and those of the task that goes
-  pub left-pages : total task_pages (map (task_of n) (remove seats i)) + length (bytes m s.slot.area.0) / 4096 ≡ total task_pages (map (task_of m) seats)
+  pub left-pages : total task_pages (map (task_of n) (remove seats i)) + length (bytes m s.slot.area.0) / PAGE ≡ total task_pages (map (task_of m) seats)
   unfolding task_of
   left-pages =
       let gone : total task_pages (map (task_of m) (remove seats i)) + task_pages (task_of m s) ≡ total task_pages (map (task_of m) seats) =

@@ -3,9 +3,11 @@ use Rattle.std.proofs.Common.{◌≡◌, ℕ, ◌+◌, ◌%◌, ◌<◌, ◌≤�
 use Rattle.std.specs.Prelude.{map, Ok, Err, None, IsNone, find, filter, not, true}
 use Rattle.std.specs.List.{position, remove}
 use Rattle.std.proofs.lemmas.List.{length-map}
+use Rattle.rh_defs.specs.Forms.{last_made}
+use Rattle.rh_defs.specs.Commands.{most_made}
 use Rattle.rh_defs.specs.Memory.{Memory, bytes, opened, closed, open_below}
 use Rattle.rh_defs.specs.Files.{FileList}
-use Rattle.rh_defs.specs.declared.sizes.TheConstants.{MAX_AREAS}
+use Rattle.rh_defs.specs.declared.sizes.TheConstants.{MAX_AREAS, PAGE}
 use Rattle.rh_defs.specs.declared.command.Command.TheVariants as command
 use Rattle.rh_defs.specs.declared.refusal.Refusal.TheVariants.{NoArea, TooManyAreas, NoNumbers}
 use Rattle.rh_defs.specs.declared.reply.Reply.TheVariants as reply
@@ -33,23 +35,23 @@ module _ {m : Memory} {seats : List Seat} {made : List MadeArea} {files : FileLi
   d = desk_of m seats made files kept
 
   module _ (most : ℕ) where
-    pub make-many : 32 ≤ length made → commands.make d most ≡ Err TooManyAreas
+    pub make-many : most_made ≤ length made → commands.make d most ≡ Err TooManyAreas
     unfolding commands.make
-    make-many many = stops _ _ _ (le-true 32 (length (map (made_of m) made)) (omega (arith, many, length-map made (made_of m))))
+    make-many many = stops _ _ _ (le-true most_made (length (map (made_of m) made)) (omega (arith, many, length-map made (made_of m))))
 
-    module _ (few : length made < 32) where
-      few-desk : length (map (made_of m) made) < 32
+    module _ (few : length made < most_made) where
+      few-desk : length (map (made_of m) made) < most_made
       few-desk = omega (arith, few, length-map made (made_of m))
 
       -- one more area can be opened
       pub can-make : open_below m.area MAX_AREAS < MAX_AREAS
       can-make = omega (arith, w.areas.count, few, few-seats w)
 
-      pub make-none : 65535 < kept.next.area → commands.make d most ≡ Err NoNumbers
+      pub make-none : last_made < kept.next.area → commands.make d most ≡ Err NoNumbers
       unfolding commands.make
-      make-none used = past _ _ _ (le-false 32 _ few-desk) (stops _ _ _ (lt-true 65535 kept.next.area used))
+      make-none used = past _ _ _ (le-false most_made _ few-desk) (stops _ _ _ (lt-true last_made kept.next.area used))
 
-      module _ (some : kept.next.area ≤ 65535) (id : ℕ) (none : IsNone (m.area id)) (low : id < MAX_AREAS) where
+      module _ (some : kept.next.area ≤ last_made) (id : ℕ) (none : IsNone (m.area id)) (low : id < MAX_AREAS) where
         abbrev pub new_made : MadeArea
         new_made = record { number = kept.next.area; most = most; area = record { 0 = id } }
 
@@ -58,7 +60,7 @@ module _ {m : Memory} {seats : List Seat} {made : List MadeArea} {files : FileLi
 
         pub make-done : commands.make d most ≡ Ok (desk_of (opened m id) seats (made ++ new_made ∷ []) files then, reply.Made kept.next.area)
         unfolding commands.make
-        make-done = past _ _ _ (le-false 32 _ few-desk) (past _ _ _ (lt-false 65535 kept.next.area some) (granted-same (sym (made-more new_made w none low (kept.next.area + 1))) refl))
+        make-done = past _ _ _ (le-false most_made _ few-desk) (past _ _ _ (lt-false last_made kept.next.area some) (granted-same (sym (made-more new_made w none low (kept.next.area + 1))) refl))
 
         pub make-world : in_range (command.Make most) ≡ true → IsWorld (opened m id) seats (made ++ new_made ∷ []) files then
         make-world ranged = more-world new_made w none low (granted-keeps d _ (command.Make most) (reply.Made kept.next.area) make-done ranged w.desk)
@@ -75,7 +77,7 @@ module _ {m : Memory} {seats : List Seat} {made : List MadeArea} {files : FileLi
         let e = made-first m made i a h.sits (numbers w) in
         subst P h.number (rw e refl)
 
-    module _ {i : ℕ} (a : MadeArea) (h : HasMade k made i a) (whole : length (bytes m a.area.0) % 4096 ≡ 0) (inside : a.area.0 < MAX_AREAS) where
+    module _ {i : ℕ} (a : MadeArea) (h : HasMade k made i a) (whole : length (bytes m a.area.0) % PAGE ≡ 0) (inside : a.area.0 < MAX_AREAS) where
       pub remove-done : commands.remove d k ≡ Ok (desk_of (closed m a.area.0) seats (remove made i) files kept, reply.Done)
       unfolding commands.remove
       remove-done =

@@ -1,6 +1,7 @@
 -- A world in which a made area has changed.
 use Rattle.std.proofs.Common.{◌≡◌, ◌≢◌, ℕ, zero, suc, ◌+◌, ◌%◌, refl, ap, subst, arith, List, [], ◌∷◌, length, ◌∙◌, sym}
 use Rattle.std.specs.Prelude.{map, find, Some}
+use Rattle.rh_defs.specs.declared.sizes.TheConstants.{PAGE}
 use Rattle.rh_defs.specs.Memory.{Memory, IsOpen, OnlyArea, bytes}
 use Rattle.rh_defs.specs.Pieces.{total}
 use Rattle.rh_defs.specs.Files.{FileList}
@@ -94,7 +95,7 @@ module _ {m n : Memory} {seats : List Seat} {made : List MadeArea} {files : File
     count = count-stays _ stay (all-at (λ (x : MadeArea). IsOpen m x.area.0) made i a w.areas.made_open at) only.opened ∙ w.areas.count;
   }
 
-  made-ledger : length (bytes m a.area.0) % 4096 ≡ 0 → length (bytes n a.area.0) % 4096 ≡ 0 → n.free + used_pages (desk_of n seats made files kept) ≡ n.pages
+  made-ledger : length (bytes m a.area.0) % PAGE ≡ 0 → length (bytes n a.area.0) % PAGE ≡ 0 → n.free + used_pages (desk_of n seats made files kept) ≡ n.pages
   made-ledger whole_before whole_after =
       omega (
         arith,
@@ -107,7 +108,7 @@ module _ {m n : Memory} {seats : List Seat} {made : List MadeArea} {files : File
         pages-of n a.area.0 whole_after,
       )
 
-  pub made-world : length (bytes m a.area.0) % 4096 ≡ 0 → length (bytes n a.area.0) % 4096 ≡ 0 → IsDesk (desk_of n seats made files kept) → IsWorld n seats made files kept
+  pub made-world : length (bytes m a.area.0) % PAGE ≡ 0 → length (bytes n a.area.0) % PAGE ≡ 0 → IsDesk (desk_of n seats made files kept) → IsWorld n seats made files kept
   made-world whole_before whole_after is = record {
     desk = is;
     areas = made-areas;

@@ -14,7 +14,7 @@ use Rattle.rh_defs.specs.Post.{Post}
 use Rattle.rh_defs.specs.Desk.{Desk, Made, task_pages, used_pages}
 use Rattle.rh_defs.specs.Commands.{is_numbered}
 use Rattle.rh_defs.specs.Laws.{IsDesk}
-use Rattle.rh_defs.specs.declared.sizes.TheConstants.{MAX_AREAS}
+use Rattle.rh_defs.specs.declared.sizes.TheConstants.{MAX_AREAS, PAGE}
 use Rattle.rh_tasks.specs.declared.seat.Seat.{Seat}
 use Rattle.rh_tasks.specs.declared.made.MadeArea.{MadeArea}
 use Rattle.rh_tasks.specs.View.{Kept, pages_at, made_of, desk_of, slot_area, made_area, made_number, Avoids, HasSlot, IsAbove, HasAreas, IsWorld}
@@ -65,7 +65,7 @@ module _ {m : Memory} {seats : List Seat} {made : List MadeArea} {files : FileLi
 
   no-page : pages_at n a.area.0 ≡ 0
   unfolding pages_at
-  no-page = ap (λ (b : List ℕ). length b / 4096) (bytes-opened m a.area.0)
+  no-page = ap (λ (b : List ℕ). length b / PAGE) (bytes-opened m a.area.0)
 
   pub made-more : (number : ℕ) → (let x : Kept = record kept { next = record kept.next { area = number } } in desk_of n seats (made ++ a ∷ []) files x)
       ≡ (let d : Desk = record (desk_of m seats made files kept) { made = map (made_of m) made ++ record { number = a.number; most = a.most; pages = 0 } ∷ []; next_area = number } in d)
@@ -112,7 +112,7 @@ module _ {m : Memory} {seats : List Seat} {made : List MadeArea} {files : FileLi
 -- ---- a made area goes
 
 module _ {m : Memory} {seats : List Seat} {made : List MadeArea} {files : FileList} {kept : Kept} {i : ℕ} {a : MadeArea}
-    (w : IsWorld m seats made files kept) (at : Sits made i a) (whole : length (bytes m a.area.0) % 4096 ≡ 0) (inside : a.area.0 < MAX_AREAS) where
+    (w : IsWorld m seats made files kept) (at : Sits made i a) (whole : length (bytes m a.area.0) % PAGE ≡ 0) (inside : a.area.0 < MAX_AREAS) where
   abbrev k : Memory
   k = closed m a.area.0
 

@@ -2,6 +2,7 @@
 use Rattle.std.proofs.Common.{◌≡◌, ℕ, ◌-◌, ◌%◌, Bool, true, false, refl, ap, sym, subst, ◌∙◌, List, length}
 use Rattle.std.specs.Prelude.{ℤ, Option, Some, None, Ok, Err, IsOk, is_some, ok_or}
 use Rattle.std.specs.Option.{option_map}
+use Rattle.rh_defs.specs.declared.sizes.TheConstants.{PAGE}
 use Rattle.rh_defs.specs.Memory.{Memory, bytes}
 use Rattle.rh_defs.specs.Files.{FileList}
 use Rattle.rh_defs.specs.declared.command.Command.{Command}
@@ -182,7 +183,7 @@ module _ {m : Memory} {seats : List Seat} {made : List MadeArea} {files : FileLi
       pub area-done : on_module call said d ≡ Ok (desk_of n seats made files kept, said a)
       area-done = begins _ (the_call ∙ plain-is) (granted-same (sym (module-desk w l.only still post-is)) refl)
 
-      pub area-world : (c : Command) → change d c ≡ on_module call said d → in_range c ≡ true → length (bytes n 1) % 4096 ≡ 0 → IsWorld n seats made files kept
+      pub area-world : (c : Command) → change d c ≡ on_module call said d → in_range c ≡ true → length (bytes n 1) % PAGE ≡ 0 → IsWorld n seats made files kept
       area-world c same ranged whole = module-world w l.only still post-is whole (granted-keeps d _ c (said a) (same ∙ area-done) ranged w.desk)
 
     -- behind the look for a block, where no message lies

@@ -4,6 +4,7 @@ use Rattle.std.specs.Prelude.{map, find, Some, Ok, ◌==◌}
 use Rattle.std.proofs.Math.ListN.{set}
 use Rattle.std.proofs.Math.Seq.{map-set_same}
 use Rattle.std.proofs.lemmas.List.{length-set}
+use Rattle.rh_defs.specs.declared.sizes.TheConstants.{PAGE}
 use Rattle.rh_defs.specs.Memory.{Memory, OnlyArea, bytes}
 use Rattle.rh_defs.specs.Pieces.{total}
 use Rattle.rh_defs.specs.Files.{FileList}
@@ -41,7 +42,7 @@ pub record Moves (m n : Memory) (s s' : Seat) (edit : Task → Task) : Type 0 wh
   pub task : task_of n s' ≡ edit (task_of m s)
 
 -- a slot's pages are its area's
-pub slot-pages : {m : Memory} {slot : Slot} → IsSlot m slot → length (bytes m slot.area.0) ≡ 4096 * plain.slot_pages (slot_in m slot)
+pub slot-pages : {m : Memory} {slot : Slot} → IsSlot m slot → length (bytes m slot.area.0) ≡ PAGE * plain.slot_pages (slot_in m slot)
 slot-pages is = is.spells.pages
 
 total-edited : (h : ℕ) (edit : Task → Task) (tasks : List Task) (t : Task) → find (λ (x : Task). x.handle == h) tasks ≡ Some t
@@ -99,8 +100,8 @@ module _ {m n : Memory} {seats : List Seat} {made : List MadeArea} {files : File
   unfolding task_of with_task
   moved-ledger =
       let t : Task = task_of m s in
-      let old : length (bytes m s.slot.area.0) ≡ 4096 * task_pages t = slot-pages (all-at (HasSlot m) seats i s w.areas.slots at) in
-      let new : length (bytes n s'.slot.area.0) ≡ 4096 * task_pages (task_of n s') = slot-pages moves.still in
+      let old : length (bytes m s.slot.area.0) ≡ PAGE * task_pages t = slot-pages (all-at (HasSlot m) seats i s w.areas.slots at) in
+      let new : length (bytes n s'.slot.area.0) ≡ PAGE * task_pages (task_of n s') = slot-pages moves.still in
       let sums = total-edited s.handle edit (map (task_of m) seats) t (handle-first m seats i s at (handles w)) in
       omega (arith, w.ledger, moves.only.ledger, moves.only.pages, old, new, sums, ap used_pages moved-desk, ap task_pages moves.task, ap (λ (a : ℕ). length (bytes n a)) moves.area)
 

@@ -1,6 +1,7 @@
 -- The first world over a store whose areas were furnished.
 use Rattle.std.proofs.Common.{◌≡◌, ℕ, ◌+◌, refl, ap, sym, subst, ◌∙◌, arith, [], ◌∷◌}
 use Rattle.std.specs.Prelude.{None}
+use Rattle.rh_defs.specs.Forms.{first_made}
 use Rattle.rh_defs.specs.Memory.{Memory}
 use Rattle.rh_defs.specs.Files.{FileList}
 use Rattle.rh_defs.specs.Heap.{Heap, empty_heap}
@@ -21,7 +22,7 @@ use Rattle.rh_tasks.specs.Start.{IsFurnished}
 same-next : {a a' b b' : ℕ} → a ≡ a' → b ≡ b' → (let x : Next = record { handle = a; area = b } in x) ≡ (let y : Next = record { handle = a'; area = b' } in y)
 same-next p q = cc
 
-pub first-next : (n : Next) (handle : ℕ) → n.handle ≡ handle → n.area ≡ 256 → n ≡ record { handle = handle; area = 256 }
+pub first-next : (n : Next) (handle : ℕ) → n.handle ≡ handle → n.area ≡ first_made → n ≡ record { handle = handle; area = first_made }
 first-next n handle p q = same-next p q
 
 module _ {m : Memory} {pages : ℕ} (f : IsFurnished m pages) (files : FileList) (handle ref : ℕ) where
@@ -29,7 +30,7 @@ module _ {m : Memory} {pages : ℕ} (f : IsFurnished m pages) (files : FileList)
   queue = record { entries = []; live = 0; next_ref = ref }
 
   abbrev kept : Kept
-  kept = record { next = record { handle = handle; area = 256 }; queue = queue; scrap = None }
+  kept = record { next = record { handle = handle; area = first_made }; queue = queue; scrap = None }
 
   six : {a b c d e : ℕ} → a ≡ 0 → b ≡ 0 → c ≡ 0 → d ≡ 0 → e ≡ 0 → a ∷ 0 ∷ b ∷ c ∷ d ∷ e ∷ [] ≡ 0 ∷ 0 ∷ 0 ∷ 0 ∷ 0 ∷ 0 ∷ []
   six p q r s t = cc

@@ -6,7 +6,7 @@ use Rattle.rh_defs.specs.Memory.{Memory, IsOpen, OnlyArea, bytes, fresh, opened,
 use Rattle.rh_defs.specs.Heap.{Heap, empty_heap}
 use Rattle.rh_defs.specs.Pieces.{page}
 use Rattle.rh_defs.proofs.MemoryLaws.{area-fresh, free-fresh, pages-fresh, open_below-fresh, open_below-opened, area-opened, area-opened_same, free-opened, pages-opened, OnlyArea-grown, length-grown, OnlyArea-both}
-use Rattle.rh_defs.specs.declared.sizes.TheConstants.{MAX_AREAS}
+use Rattle.rh_defs.specs.declared.sizes.TheConstants.{MAX_AREAS, PAGE}
 use Rattle.rh_module.specs.Area.{IsModule, heap_in}
 use Rattle.rh_tasks.specs.View.{the_module, pages_at}
 use Rattle.rh_tasks.specs.Start.{IsFurnished}
@@ -80,7 +80,7 @@ module _ {m n : Memory} {pages : ℕ} (o : AreOpened m 6 pages) (least : 1 ≤ p
   taken = let P : Memory → Type 0 = λ x. OnlyArea m x 1 in subst P (sym is) (OnlyArea-grown m 1 1 (omega (arith, o.free, least)))
 
   -- one page of zeros
-  pub page-long : length (bytes n 1) ≡ 4096
+  pub page-long : length (bytes n 1) ≡ PAGE
   page-long = ap (λ x. length (bytes x 1)) is ∙ length-grown m 1 1 ∙ omega (arith, ap length (empty-at o 1 (omega arith)))
 
   pub page-open : IsOpen n 1
@@ -95,7 +95,7 @@ module _ {m n : Memory} {pages : ℕ} (o : AreOpened m 6 pages) (least : 1 ≤ p
 
     none-at : (k : ℕ) → k < 6 → k ≢ 1 → pages_at p k ≡ 0
     unfolding pages_at
-    none-at k low ne = pages-stay k stay ne ∙ ap (λ (b : List ℕ). length b / 4096) (empty-at o k low)
+    none-at k low ne = pages-stay k stay ne ∙ ap (λ (b : List ℕ). length b / PAGE) (empty-at o k low)
 
     pub furnished : IsFurnished p pages
     furnished = record {

@@ -2,6 +2,7 @@
 use Rattle.std.proofs.Common.{◌≡◌, ℕ, ◌+◌, ◌-◌, ◌*◌, ◌/◌, ◌%◌, ◌<◌, ◌≤◌, refl, ap, sym, subst, ◌∙◌, arith, List, length}
 use Rattle.std.proofs.lemmas.List.{length-take, take-append-drop, take-append-le}
 use Rattle.std.specs.Prelude.{take, drop, replicate, Bool, true, false, Result, Ok, Err, IsOk, IsErr, IsTrue, ◌↔◌}
+use Rattle.rh_defs.specs.declared.sizes.TheConstants.{PAGE}
 use Rattle.rh_defs.specs.Memory.{Memory, OnlyArea, bytes, grown, shrunk}
 use Rattle.rh_defs.proofs.MemoryLaws.{bytes-shrunk, bytes-grown, length-shrunk, OnlyArea-shrunk, length-grown, OnlyArea-grown}
 use Rattle.rh_tasks.specs.View.{pages_at}
@@ -11,33 +12,33 @@ take-take : (k j : ℕ) (b : List ℕ) → k ≤ j → k ≤ length b → take k
 take-take k j b low inside =
     sym (take-append-le k (take j b) (drop j b) (omega (arith, length-take j b, low, inside))) ∙ ap (take k) (take-append-drop j b)
 
-module _ (m n : Memory) (id pages now : ℕ) (is : now ≡ length (bytes m id)) (whole : length (bytes m id) % 4096 ≡ 0) where
-  module _ (e : n ≡ shrunk m id (now / 4096 - pages)) (less : pages < now / 4096) where
+module _ (m n : Memory) (id pages now : ℕ) (is : now ≡ length (bytes m id)) (whole : length (bytes m id) % PAGE ≡ 0) where
+  module _ (e : n ≡ shrunk m id (now / PAGE - pages)) (less : pages < now / PAGE) where
     pub less-pages : pages_at n id ≡ pages
     unfolding pages_at
-    less-pages = ap (λ x. length (bytes x id) / 4096) e ∙ omega (arith, length-shrunk m id (now / 4096 - pages), is, whole, less)
+    less-pages = ap (λ x. length (bytes x id) / PAGE) e ∙ omega (arith, length-shrunk m id (now / PAGE - pages), is, whole, less)
 
     pub less-only : OnlyArea m n id
-    less-only = let P : Memory → Type 0 = λ x. OnlyArea m x id in subst P (sym e) (OnlyArea-shrunk m id (now / 4096 - pages) (omega (arith, is, whole)))
+    less-only = let P : Memory → Type 0 = λ x. OnlyArea m x id in subst P (sym e) (OnlyArea-shrunk m id (now / PAGE - pages) (omega (arith, is, whole)))
 
-    pub less-first : (k : ℕ) → k ≤ length (bytes m id) → k ≤ 4096 * pages → take k (bytes n id) ≡ take k (bytes m id)
+    pub less-first : (k : ℕ) → k ≤ length (bytes m id) → k ≤ PAGE * pages → take k (bytes n id) ≡ take k (bytes m id)
     less-first k inside low =
-        ap (λ x. take k (bytes x id)) e ∙ ap (take k) (bytes-shrunk m id (now / 4096 - pages))
-        ∙ take-take k (length (bytes m id) - 4096 * (now / 4096 - pages)) (bytes m id) (omega (arith, is, whole, low, less)) inside
+        ap (λ x. take k (bytes x id)) e ∙ ap (take k) (bytes-shrunk m id (now / PAGE - pages))
+        ∙ take-take k (length (bytes m id) - PAGE * (now / PAGE - pages)) (bytes m id) (omega (arith, is, whole, low, less)) inside
 
-  module _ (e : n ≡ grown m id (pages - now / 4096)) (more : now / 4096 ≤ pages) where
+  module _ (e : n ≡ grown m id (pages - now / PAGE)) (more : now / PAGE ≤ pages) where
     pub more-pages : pages_at n id ≡ pages
     unfolding pages_at
-    more-pages = ap (λ x. length (bytes x id) / 4096) e ∙ omega (arith, length-grown m id (pages - now / 4096), is, whole, more)
+    more-pages = ap (λ x. length (bytes x id) / PAGE) e ∙ omega (arith, length-grown m id (pages - now / PAGE), is, whole, more)
 
     pub more-first : (k : ℕ) → k ≤ length (bytes m id) → take k (bytes n id) ≡ take k (bytes m id)
     more-first k inside =
-        ap (λ x. take k (bytes x id)) e ∙ ap (take k) (bytes-grown m id (pages - now / 4096)) ∙ take-append-le k (bytes m id) (replicate (4096 * (pages - now / 4096)) 0) inside
+        ap (λ x. take k (bytes x id)) e ∙ ap (take k) (bytes-grown m id (pages - now / PAGE)) ∙ take-append-le k (bytes m id) (replicate (PAGE * (pages - now / PAGE)) 0) inside
 
-    pub more-only : pages - now / 4096 ≤ m.free → OnlyArea m n id
-    more-only room = let P : Memory → Type 0 = λ x. OnlyArea m x id in subst P (sym e) (OnlyArea-grown m id (pages - now / 4096) room)
+    pub more-only : pages - now / PAGE ≤ m.free → OnlyArea m n id
+    more-only room = let P : Memory → Type 0 = λ x. OnlyArea m x id in subst P (sym e) (OnlyArea-grown m id (pages - now / PAGE) room)
 
-  pub room-left : pages ≤ pages_at m id + m.free → pages - now / 4096 ≤ m.free
+  pub room-left : pages ≤ pages_at m id + m.free → pages - now / PAGE ≤ m.free
   unfolding pages_at
   room-left room = omega (arith, room, is)
 

@@ -9,7 +9,7 @@ use Rattle.rh_defs.specs.Chain.{Granted, ◌>>=◌, found_or}
 use Rattle.rh_defs.specs.Pieces.{Split}
 use Rattle.rh_defs.specs.Heap.{Segment, bytes_of, block_size}
 use Rattle.rh_defs.specs.Slot as plain
-use Rattle.rh_defs.specs.Slot.{Flex, weight, block_of, slot_block, slot_size, slot_address, slot_start, slot_length, heap_start, heap_block_at, flex_address, flex_start, holds, HaveAnchors}
+use Rattle.rh_defs.specs.Slot.{Flex, weight, block_of, slot_block, slot_size, slot_address, slot_start, slot_length, heap_start, heap_block_at, flex_address, flex_start, holds, HaveAnchors, anchor_count}
 use Rattle.rh_defs.specs.Places.{buffer_at, roomy_in, overlap}
 use Rattle.rh_defs.specs.Desk.{Task}
 use Rattle.rh_defs.specs.OutgoingEvents.{is_out_of_reach}
@@ -56,8 +56,8 @@ found-is r (Some x) e = cc
 
 -- the block is the anchor's own, and lies in the slot
 pub record Stands (k : ℕ) (s : plain.Slot) (cut : Split Flex) : Type 0 where
-  pub small : k < 64
-  pub low : 33024 + s.heap.end + 8 ≤ flex_address s cut.before
+  pub small : k < anchor_count
+  pub low : heap_start + s.heap.end + 8 ≤ flex_address s cut.before
   pub high : flex_address s cut.before + length cut.here.bytes ≤ 32768 + slot_length s
 
 pub stands : {k : ℕ} {s : plain.Slot} {cut : Split Flex} → HaveAnchors s.blocks → slot_block k s ≡ Ok cut → Stands k s cut

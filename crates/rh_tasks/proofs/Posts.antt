@@ -2,6 +2,7 @@
 use Rattle.std.proofs.Common.{◌≡◌, ◌≢◌, ℕ, zero, suc, ◌*◌, ◌<◌, refl, ap, sym, subst, ◌∙◌, arith, List, [], ◌∷◌, ◌++◌, length}
 use Rattle.std.specs.Prelude.{map, None}
 use Rattle.std.proofs.lemmas.List.{map-append, length-map}
+use Rattle.rh_defs.specs.declared.sizes.TheConstants.{PAGE}
 use Rattle.rh_defs.specs.Memory.{Memory, OnlyArea, bytes}
 use Rattle.rh_defs.specs.Files.{FileList}
 use Rattle.rh_defs.specs.Blocks.{poked}
@@ -95,7 +96,7 @@ module _ {m : Memory} {seats : List Seat} {made : List MadeArea} {files : FileLi
   d = desk_of m seats made files kept
 
   -- the module area's length
-  pub module-length : 4096 * module_pages d ≡ length (bytes m 1)
+  pub module-length : PAGE * module_pages d ≡ length (bytes m 1)
   module-length = omega (arith, end-is m kept.queue, w.areas.module_area.spells.whole, w.desk.post.heap.whole)
 
   pub small : IsSmall m the_module

@@ -3,6 +3,7 @@ use Rattle.std.proofs.Common.{◌≡◌, ℕ, ◌<◌, true, arith, List}
 use Rattle.std.specs.Prelude.{ℤ, pos, negsuc}
 use Rattle.std.proofs.Common.{SFits, w32}
 use Rattle.std.proofs.lemmas.Int.{ints}
+use Rattle.rh_defs.specs.Slot.{anchor_count}
 use Rattle.rh_defs.specs.Forms.{is_delta, is_leaf}
 use Rattle.std.proofs.lemmas.Bool.Decides.{nat_tests}
 use Rattle.rh_defs.specs.declared.command.Command.TheVariants as command
@@ -10,27 +11,27 @@ use Rattle.rh_defs.specs.declared.question.Question.{Question}
 use Rattle.rh_defs.specs.declared.question.Question.TheVariants as question
 use Rattle.rh_defs.specs.Range.{in_range, can_be_asked}
 
-pub alloc-anchor : (name : List ℕ) (k n : ℕ) → in_range (command.Alloc name k n) ≡ true → k < 64
+pub alloc-anchor : (name : List ℕ) (k n : ℕ) → in_range (command.Alloc name k n) ≡ true → k < anchor_count
 unfolding in_range
 alloc-anchor name k n h = grind (arith, nat_tests)
 
-pub load-anchor : (name : List ℕ) (k : ℕ) (file : List ℕ) → in_range (command.Load name k file) ≡ true → k < 64
+pub load-anchor : (name : List ℕ) (k : ℕ) (file : List ℕ) → in_range (command.Load name k file) ≡ true → k < anchor_count
 unfolding in_range
 load-anchor name k file h = grind (arith, nat_tests)
 
-pub put-anchor : (name : List ℕ) (k offset : ℕ) (bytes : List ℕ) → in_range (command.Put name k offset bytes) ≡ true → k < 64
+pub put-anchor : (name : List ℕ) (k offset : ℕ) (bytes : List ℕ) → in_range (command.Put name k offset bytes) ≡ true → k < anchor_count
 unfolding in_range
 put-anchor name k offset bytes h = grind (arith, nat_tests)
 
-pub free-anchor : (name : List ℕ) (k : ℕ) → in_range (command.Free name k) ≡ true → k < 64
+pub free-anchor : (name : List ℕ) (k : ℕ) → in_range (command.Free name k) ≡ true → k < anchor_count
 unfolding in_range
 free-anchor name k h = grind (arith, nat_tests)
 
-pub extend-anchor : (name : List ℕ) (k n : ℕ) → in_range (command.Extend name k n) ≡ true → k < 64
+pub extend-anchor : (name : List ℕ) (k n : ℕ) → in_range (command.Extend name k n) ≡ true → k < anchor_count
 unfolding in_range
 extend-anchor name k n h = grind (arith, nat_tests)
 
-pub mid-anchor : (name : List ℕ) (k offset : ℕ) (by : ℤ) → in_range (command.Mid name k offset by) ≡ true → k < 64
+pub mid-anchor : (name : List ℕ) (k offset : ℕ) (by : ℤ) → in_range (command.Mid name k offset by) ≡ true → k < anchor_count
 unfolding in_range
 mid-anchor name k offset by h = grind (arith, nat_tests)
 
@@ -38,10 +39,10 @@ pub ask-ranged : (q : Question) → in_range (command.Ask q) ≡ true → can_be
 unfolding in_range
 ask-ranged q h = h
 
-pub show-anchor : (name : List ℕ) (k : ℕ) → can_be_asked (question.Show name k) ≡ true → k < 64
+pub show-anchor : (name : List ℕ) (k : ℕ) → can_be_asked (question.Show name k) ≡ true → k < anchor_count
 show-anchor name k h = grind (arith, nat_tests)
 
-pub save-anchor : (name : List ℕ) (k : ℕ) (to leaf : List ℕ) → in_range (command.Save name k to leaf) ≡ true → k < 64
+pub save-anchor : (name : List ℕ) (k : ℕ) (to leaf : List ℕ) → in_range (command.Save name k to leaf) ≡ true → k < anchor_count
 unfolding in_range
 save-anchor name k to leaf h = grind (arith, nat_tests)
 

@@ -6,7 +6,7 @@ use Rattle.rh_defs.specs.declared.refusal.Refusal.TheVariants.{BadSize, NoBudge,
 use Rattle.rh_defs.specs.Chain.{Granted, ◌>>=◌, refuse_if}
 use Rattle.rh_defs.specs.Pieces.{round_up, page, pages_for, zeros, Split, first_at, behind}
 use Rattle.rh_defs.specs.Heap.{Heap, need, claim_growing}
-use Rattle.rh_defs.specs.Slot.{Slot, Flex, weight, flex_weight, flex_address, slot_length, slot_pages, is_used, is_stuck, with_heap, with_block, with_placed, slot_alloc, slot_claim, slot_take_pages, flex_start}
+use Rattle.rh_defs.specs.Slot.{Slot, Flex, weight, flex_weight, flex_address, slot_length, slot_pages, is_used, is_stuck, with_heap, with_block, with_placed, slot_alloc, slot_claim, slot_take_pages, flex_start, anchor_count}
 use Rattle.rh_defs.specs.Places.{free_from}
 use Rattle.rh_tasks.specs.Polls.{IsFreeAnchor}
 use Rattle.rh_tasks.proofs.Chains.{lt-true, lt-false}
@@ -102,7 +102,7 @@ free_from-low a (suc n) k s e = elim (chosen-some (is_used a s) (free_from (a + 
 ]
 
 pub anchor-unused : (k : ℕ) (s : Slot) → IsFreeAnchor k s → is_used k s ≡ false
-anchor-unused k s free = free_from-unused 0 64 k s free.is
+anchor-unused k s free = free_from-unused 0 anchor_count k s free.is
 
-pub anchor-low : (k : ℕ) (s : Slot) → IsFreeAnchor k s → k < 64
-anchor-low k s free = omega (arith, free_from-low 0 64 k s free.is)
+pub anchor-low : (k : ℕ) (s : Slot) → IsFreeAnchor k s → k < anchor_count
+anchor-low k s free = omega (arith, free_from-low 0 anchor_count k s free.is)

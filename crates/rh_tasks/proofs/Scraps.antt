@@ -2,6 +2,7 @@
 use Rattle.std.proofs.Common.{◌≡◌, ℕ, ◌+◌, ◌-◌, ◌*◌, ◌/◌, ◌%◌, ◌<◌, ◌≤◌, refl, ap, sym, subst, ◌∙◌, arith, List, length, take, drop}
 use Rattle.std.specs.Prelude.{Option, Some, None, Ok, IsOk, is_some, replicate, slice_set}
 use Rattle.std.proofs.lemmas.List.{length-take, take-append-le, take_all}
+use Rattle.rh_defs.specs.declared.sizes.TheConstants.{PAGE}
 use Rattle.rh_defs.specs.Bytes.{part, put}
 use Rattle.rh_defs.proofs.BytesLaws.{length-put, length-part, part-put, part-drop}
 use Rattle.rh_defs.specs.Memory.{Memory, OnlyArea, bytes, with_bytes, grown}
@@ -12,7 +13,7 @@ use Rattle.rh_defs.specs.Pieces.{Split, pages_for}
 use Rattle.rh_defs.specs.declared.message.Letter.{Letter}
 use Rattle.rh_defs.specs.Post.{post_send_pages}
 use Rattle.rh_defs.specs.Slot as plain
-use Rattle.rh_defs.specs.Slot.{Flex, HaveAnchors, weight, flex_start, flex_address, slot_start, block_of, slot_block, slot_size, slot_address}
+use Rattle.rh_defs.specs.Slot.{Flex, HaveAnchors, weight, flex_start, flex_address, slot_start, block_of, slot_block, slot_size, slot_address, anchor_count}
 use Rattle.rh_defs.specs.SlotImage.{flex_place}
 use Rattle.rh_defs.specs.Desk.{Desk, Task, Scrap, used_pages, free_pages}
 use Rattle.rh_defs.specs.Laws.{IsDesk}
@@ -43,19 +44,19 @@ use Rattle.rh_tasks.proofs.Buffers.{seat-task, appended-becomes}
 -- ---- area 5 gets longer
 
 module _ {m : Memory} {seats : List Seat} {made : List MadeArea} {files : FileList} {kept : Kept}
-    (w : IsWorld m seats made files kept) (more : ℕ) (room : more ≤ m.free) (whole : length (bytes m 5) % 4096 ≡ 0) where
+    (w : IsWorld m seats made files kept) (more : ℕ) (room : more ≤ m.free) (whole : length (bytes m 5) % PAGE ≡ 0) where
   abbrev longer : Memory
   longer = grown m 5 more
 
   first-kept : KeepsFirst m longer 5
   first-kept = record {
-    first = λ k inside _. ap (take k) (bytes-grown m 5 more) ∙ take-append-le k (bytes m 5) (replicate (4096 * more) 0) inside;
+    first = λ k inside _. ap (take k) (bytes-grown m 5 more) ∙ take-append-le k (bytes m 5) (replicate (PAGE * more) 0) inside;
   }
 
   still-fits : scrap_size kept.scrap ≤ length (bytes longer 5)
   still-fits = omega (arith, w.scrap, length-grown m 5 more)
 
-  still-whole : length (bytes longer 5) % 4096 ≡ 0
+  still-whole : length (bytes longer 5) % PAGE ≡ 0
   still-whole = omega (arith, whole, length-grown m 5 more)
 
   pages-more : pages_at longer 5 ≡ pages_at m 5 + more
@@ -98,7 +99,7 @@ module _ {m n : Memory} {seats : List Seat} {made : List MadeArea} {files : File
       (tasks-stay seats stay (avoids-below slot_area 6 5 seats (omega arith) w.areas.slots_above)) (post-stays kept.queue stay (λ q. absurd (omega arith))) pages-same
       (mades-stay made stay (avoids-below made_area 6 5 made (omega arith) w.areas.made_above)) only.pages refl
 
-  module _ (fits : scrap_size scrap ≤ length (bytes m 5)) (whole : length (bytes m 5) % 4096 ≡ 0) where
+  module _ (fits : scrap_size scrap ≤ length (bytes m 5)) (whole : length (bytes m 5) % PAGE ≡ 0) where
     fits-there : scrap_size scrap ≤ length (bytes n 5)
     fits-there = omega (arith, fits, long)
 
@@ -124,7 +125,7 @@ module _ {m : Memory} {seats : List Seat} {made : List MadeArea} {files : FileLi
   unfolding scrap_of
   dropped-desk = rewritten-desk w same-area refl None
 
-  pub dropped-world : length (bytes m 5) % 4096 ≡ 0 → IsWorld m seats made files (record kept { scrap = None })
+  pub dropped-world : length (bytes m 5) % PAGE ≡ 0 → IsWorld m seats made files (record kept { scrap = None })
   dropped-world whole = rewritten-world w same-area refl None (omega arith) whole
 
 -- ---- a block becomes the scrap file
@@ -140,7 +141,7 @@ module _ {m : Memory} {seats : List Seat} {made : List MadeArea} {files : FileLi
   pub source : Sized k size z
   source = sized (sym given)
 
-  pub source-anchor : k < 64
+  pub source-anchor : k < anchor_count
   source-anchor = sized-anchor k size z (sym given) has.spells.words.anchors
 
   pub source-address : slot_address k z ≡ Ok (flex_address z source.cut.before)
@@ -170,7 +171,7 @@ module _ {m : Memory} {seats : List Seat} {made : List MadeArea} {files : FileLi
         ap (λ p. part (bytes m s.slot.area.0) p size) (omega (arith, place-is)) ∙ sym stands.is
         ∙ take_all size source.cut.here.bytes (omega (arith, source.long))
 
-    module _ (room : size ≤ length (bytes m 5)) (whole : length (bytes m 5) % 4096 ≡ 0) where
+    module _ (room : size ≤ length (bytes m 5)) (whole : length (bytes m 5) % PAGE ≡ 0) where
       abbrev pub filled : Memory
       filled = with_bytes m 5 (put (bytes m 5) 0 source_bytes)
 
@@ -263,7 +264,7 @@ module _ {m : Memory} {seats : List Seat} {made : List MadeArea} {files : FileLi
   seen-free = sym (ap (λ (x : Shown). free_pages x.desk) view) ∙ free-is w
 
   -- the pages that area 5 has too few
-  pub seen-shortage : (n : ℕ) → scrap_shortage n old.desk ≡ pages_for n - length (bytes m 5) / 4096
+  pub seen-shortage : (n : ℕ) → scrap_shortage n old.desk ≡ pages_for n - length (bytes m 5) / PAGE
   unfolding pages_at
   seen-shortage n =
       sym (ap (λ (x : Shown). scrap_shortage n x.desk) view) ∙ ap (λ k. pages_for n - k) (fixed-at m 5 (omega arith) (λ q. absurd (omega (arith, q))))

@@ -4,6 +4,7 @@ use Rattle.std.specs.Prelude.{Option, Some, None, IfSome, map, ◌==◌}
 use Rattle.std.specs.List.{AllByRecursion}
 use Rattle.std.proofs.lemmas.Bool.{eqb-true}
 use Rattle.std.proofs.lemmas.List.{take-map, take_more, length-map, map-append, length-take, take_all}
+use Rattle.rh_defs.specs.declared.sizes.TheConstants.{SEGMENTS_AT_ONCE}
 use Rattle.rh_defs.specs.declared.listing.SegmentItem.{SegmentItem}
 use Rattle.rh_defs.specs.declared.listing.SegmentItem.TheVariants as segment
 use Rattle.rh_defs.specs.Pieces.{Split, total}
@@ -32,7 +33,7 @@ items_listed start place (Hole n ∷ gs) =
 -- the segments that a heap gives, as they are listed
 pub items_from : (start place : ℕ) (h : Heap) → map (placed_item start) (segments_from place h) ≡ items_at start place h
 items_from start place h =
-    sym (take-map (placed_item start) 64 (listed place (from_cut (segment_at place h)))) ∙ ap (take 64) (items_listed start place (from_cut (segment_at place h)))
+    sym (take-map (placed_item start) SEGMENTS_AT_ONCE (listed place (from_cut (segment_at place h)))) ∙ ap (take SEGMENTS_AT_ONCE) (items_listed start place (from_cut (segment_at place h)))
 
 -- ---- they are small
 
@@ -54,7 +55,7 @@ small_cut place h (Some cut) c l =
 
 pub small_from : (place : ℕ) (h : Heap) → base h ≤ area_limit → AllByRecursion IsSmall (segments_from place h)
 small_from place h l =
-    small_taken 64 (listed place (from_cut (segment_at place h)))
+    small_taken SEGMENTS_AT_ONCE (listed place (from_cut (segment_at place h)))
     (small_cut place h (segment_at place h) (first_at-cuts size_of (λ q g. place == q) first_place h.segments) l)
 
 -- ---- one by one
@@ -70,7 +71,7 @@ listed_more start xs i d items is l =
     ap (λ z. z ++ placed_item start (get_or xs i d) ∷ []) is
     ∙ (sym (map-append (placed_item start) (take i xs) (get_or xs i d ∷ [])) ∙ ap (map (placed_item start)) (sym (take_more xs i d l)))
 
-pub listed_few : (start : ℕ) (xs : List Segment) (i : ℕ) (items : List SegmentItem) → items ≡ map (placed_item start) (take i xs) → i < length xs → length xs ≤ 64 → length items < 64
+pub listed_few : (start : ℕ) (xs : List Segment) (i : ℕ) (items : List SegmentItem) → items ≡ map (placed_item start) (take i xs) → i < length xs → length xs ≤ SEGMENTS_AT_ONCE → length items < SEGMENTS_AT_ONCE
 listed_few start xs i items is l few = omega (arith, ap length is, length-map (take i xs) (placed_item start), length-take i xs)
 
 pub listed_all : (start : ℕ) (xs : List Segment) (i : ℕ) (items : List SegmentItem) → items ≡ map (placed_item start) (take i xs) → length xs ≤ i → items ≡ map (placed_item start) xs

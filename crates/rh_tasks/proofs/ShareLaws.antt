@@ -6,7 +6,7 @@ use Rattle.std.proofs.lemmas.Bool.{cases_eq}
 use Rattle.rh_defs.specs.Memory.{Memory, IsOpen, area_set, bytes, one_if_open, open_below}
 use Rattle.rh_defs.specs.Pieces.{total}
 use Rattle.rh_defs.proofs.MemoryLaws.{area_set-other, open_below-set}
-use Rattle.rh_defs.specs.declared.sizes.TheConstants.{MAX_AREAS}
+use Rattle.rh_defs.specs.declared.sizes.TheConstants.{MAX_AREAS, PAGE}
 use Rattle.rh_store.specs.Shares.{SharesOut, times, times_all}
 use Rattle.rh_tasks.specs.Shown.{Shown}
 use Rattle.rh_tasks.specs.Standing.{StandsIn}
@@ -86,7 +86,7 @@ none-here : (o : Option (List ℕ)) → (IsSome o → ⊥) → length (unwrap_or
 none-here None shut = refl
 none-here (Some x) shut = absurd (shut refl)
 
-no-pages : (n : ℕ) (xs : List ℕ) → 4096 * length xs ≡ n → n ≡ 0 → xs ≡ []
+no-pages : (n : ℕ) (xs : List ℕ) → PAGE * length xs ≡ n → n ≡ 0 → xs ≡ []
 no-pages n [] e z = refl
 no-pages n (x ∷ xs) e z = absurd (omega arith)
 

@@ -5,6 +5,7 @@ use Rattle.std.specs.List.{position}
 use Rattle.std.specs.Option.{option_map}
 use Rattle.std.proofs.lemmas.List.{length-map, length-take}
 use Rattle.std.proofs.lemmas.Option.{slice_get_past}
+use Rattle.rh_defs.specs.declared.sizes.TheConstants.{SEGMENTS_AT_ONCE}
 use Rattle.rh_defs.specs.Memory.{Memory, bytes}
 use Rattle.rh_defs.specs.Files.{FileList}
 use Rattle.rh_defs.specs.declared.listing.SegmentItem.TheVariants as segment
@@ -90,7 +91,7 @@ items-alike : (start place : ℕ) (h k : Heap) → SameShape h k → items_at st
 items-alike start place h k s =
     let there : blank (tail place 16 h.segments) ≡ blank (tail place 16 k.segments) =
     sym (tail-blank place 16 h.segments) ∙ ap (tail place 16) s.blank ∙ tail-blank place 16 k.segments in
-    ap (take 64) (sym (blank-items (start + place) (tail place 16 h.segments)) ∙ ap (segment_items_from (start + place)) there ∙ blank-items (start + place) (tail place 16 k.segments))
+    ap (take SEGMENTS_AT_ONCE) (sym (blank-items (start + place) (tail place 16 h.segments)) ∙ ap (segment_items_from (start + place)) there ∙ blank-items (start + place) (tail place 16 k.segments))
 
 -- ---- the block with an address
 

@@ -2,6 +2,7 @@
 use Rattle.std.proofs.Common.{◌≡◌, ◌≢◌, ℕ, suc, ◌*◌, ◌%◌, ◌<◌, refl, ap, sym, subst, arith, List, [], ◌∷◌, length}
 use Rattle.std.specs.Prelude.{map, take, Option, Some, None}
 use Rattle.std.specs.List.{AllByRecursion, enumerate_from}
+use Rattle.rh_defs.specs.declared.sizes.TheConstants.{PAGE}
 use Rattle.rh_defs.specs.Memory.{Memory, bytes}
 use Rattle.rh_defs.specs.Pieces.{page, total}
 use Rattle.rh_defs.specs.Files.{FileList}
@@ -30,7 +31,7 @@ use Rattle.rh_tasks.proofs.Fixed.{pages-of}
 
 -- each area is whole pages
 pub record AreWhole (m : Memory) : Type 0 where
-  pub each : (id : ℕ) → length (bytes m id) % 4096 ≡ 0
+  pub each : (id : ℕ) → length (bytes m id) % PAGE ≡ 0
 
 spell-slots : (m : Memory) (seats : List Seat) → AllByRecursion (HasSlot m) seats → SpellSlots (map (λ (s : Seat). bytes m s.slot.area.0) seats) (map (task_of m) seats)
 unfolding task_of
@@ -56,7 +57,7 @@ made-lengths m whole (a ∷ made) =
 six : {a b c d e f a' b' c' d' e' f' : ℕ} → a ≡ a' → b ≡ b' → c ≡ c' → d ≡ d' → e ≡ e' → f ≡ f' → a ∷ b ∷ c ∷ d ∷ e ∷ f ∷ [] ≡ a' ∷ b' ∷ c' ∷ d' ∷ e' ∷ f' ∷ []
 six p q r s t u = cc
 
-slot-lengths : (m : Memory) (seats : List Seat) → AllByRecursion (HasSlot m) seats → total length (map (λ (s : Seat). bytes m s.slot.area.0) seats) ≡ 4096 * total task_pages (map (task_of m) seats)
+slot-lengths : (m : Memory) (seats : List Seat) → AllByRecursion (HasSlot m) seats → total length (map (λ (s : Seat). bytes m s.slot.area.0) seats) ≡ PAGE * total task_pages (map (task_of m) seats)
 unfolding task_of
 slot-lengths m [] all = refl
 slot-lengths m (s ∷ seats) all = omega (arith, all.0.spells.pages, slot-lengths m seats all.1)
@@ -89,7 +90,7 @@ unfolding scrap_of
 scrap-spelled m None = refl
 scrap-spelled m (Some file) = refl
 
-made-sum : (made : List Made) → total (λ n. n) (map (λ (x : Made). page * x.pages) made) ≡ 4096 * total (λ (x : Made). x.pages) made
+made-sum : (made : List Made) → total (λ n. n) (map (λ (x : Made). page * x.pages) made) ≡ PAGE * total (λ (x : Made). x.pages) made
 made-sum [] = refl
 made-sum (x ∷ made) = omega (arith, made-sum made)
 
@@ -97,7 +98,7 @@ module _ {m : Memory} {seats : List Seat} {made : List MadeArea} {files : FileLi
   abbrev s : Shown
   s = shown_of m seats made files kept
 
-  of : (id : ℕ) → length (bytes m id) ≡ 4096 * pages_at m id
+  of : (id : ℕ) → length (bytes m id) ≡ PAGE * pages_at m id
   of id = sym (pages-of m id (whole.each id))
 
   areas-are : s.areas ≡ map (length_of_area s.desk) (enumerate_from 0 (fixed_pages m))

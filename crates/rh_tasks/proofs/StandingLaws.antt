@@ -3,6 +3,7 @@ use Rattle.std.proofs.Common.{◌≡◌, ◌≢◌, ℕ, zero, suc, ◌+◌, ◌
 use Rattle.std.specs.Prelude.{map, drop}
 use Rattle.std.specs.List.{AllByRecursion}
 use Rattle.std.proofs.lemmas.List.{length-map, length-append, length-take, map-append, take_all, take_more, append_assoc}
+use Rattle.rh_defs.specs.declared.sizes.TheConstants.{FIXED_AREAS, MAX_AREAS}
 use Rattle.rh_defs.specs.Memory.{Memory, IsOpen, bytes}
 use Rattle.rh_defs.specs.Files.{FileList}
 use Rattle.rh_store.specs.declared.store.AreaId.{AreaId}
@@ -15,7 +16,7 @@ use Rattle.rh_tasks.proofs.Worlds.{few-made, few-seats}
 
 -- ---- a list that is filled
 module _ {A : Type 0} (f : A → AreaId) (xs : List A) (i : ℕ) (old items : List AreaId) (so_far : items ≡ old ++ map f (take i xs)) where
-  pub filled-few : i < length xs → length old + length xs ≤ 70 → length items < 70
+  pub filled-few : i < length xs → length old + length xs ≤ MAX_AREAS → length items < MAX_AREAS
   filled-few l few = omega (arith, ap length so_far, length-append old (map f (take i xs)), length-map (take i xs) f, length-take i xs)
 
   pub filled-more : (d : A) → i < length xs → items ++ f (get_or xs i d) ∷ [] ≡ old ++ map f (take (i + 1) xs)
@@ -27,7 +28,7 @@ module _ {A : Type 0} (f : A → AreaId) (xs : List A) (i : ℕ) (old items : Li
   filled-all l = so_far ∙ ap (λ z. old ++ map f z) (take_all i xs l)
 
 -- ---- areas 0 to 5
-pub fixed-more : (i : ℕ) → i < 6 → take i fixed ++ i ∷ [] ≡ take (i + 1) fixed
+pub fixed-more : (i : ℕ) → i < FIXED_AREAS → take i fixed ++ i ∷ [] ≡ take (i + 1) fixed
 fixed-more zero l = refl
 fixed-more (suc zero) l = refl
 fixed-more (suc (suc zero)) l = refl
@@ -36,11 +37,11 @@ fixed-more (suc (suc (suc (suc zero)))) l = refl
 fixed-more (suc (suc (suc (suc (suc zero))))) l = refl
 fixed-more (suc (suc (suc (suc (suc (suc i)))))) l = absurd (omega arith)
 
-pub numbers-more : (i : ℕ) (items : List AreaId) (a : AreaId) → a.0 ≡ i → numbers items ≡ take i fixed → i < 6 → numbers (items ++ a ∷ []) ≡ take (i + 1) fixed
+pub numbers-more : (i : ℕ) (items : List AreaId) (a : AreaId) → a.0 ≡ i → numbers items ≡ take i fixed → i < FIXED_AREAS → numbers (items ++ a ∷ []) ≡ take (i + 1) fixed
 numbers-more i items a e so_far l =
     map-append (λ (x : AreaId). x.0) items (a ∷ []) ∙ ap (λ z. z ++ a.0 ∷ []) so_far ∙ ap (λ k. take i fixed ++ k ∷ []) e ∙ fixed-more i l
 
-pub numbers-few : (i : ℕ) (items : List AreaId) → numbers items ≡ take i fixed → i < 6 → length items < 70
+pub numbers-few : (i : ℕ) (items : List AreaId) → numbers items ≡ take i fixed → i < FIXED_AREAS → length items < MAX_AREAS
 numbers-few i items so_far l = omega (arith, ap length so_far, length-map items (λ (x : AreaId). x.0), length-take i fixed)
 
 -- ---- lists
@@ -142,10 +143,10 @@ module _ {m : Memory} {seats : List Seat} {made : List MadeArea} {files : FileLi
       ∙ ap (λ l. (fixed ++ mades) ++ l) (map-twice number (λ (s : Seat). s.slot.area) seats)
 
   -- there is room for all
-  pub room-made : (first : List AreaId) → numbers first ≡ fixed → length first + length made ≤ 70
+  pub room-made : (first : List AreaId) → numbers first ≡ fixed → length first + length made ≤ MAX_AREAS
   room-made first e = omega (arith, ap length e, length-map first (λ (a : AreaId). a.0), few-made w)
 
-  pub room-slots : (first second : List AreaId) → numbers first ≡ fixed → second ≡ first ++ map (λ (a : MadeArea). a.area) made → length second + length seats ≤ 70
+  pub room-slots : (first second : List AreaId) → numbers first ≡ fixed → second ≡ first ++ map (λ (a : MadeArea). a.area) made → length second + length seats ≤ MAX_AREAS
   room-slots first second e f =
       omega (
         arith,

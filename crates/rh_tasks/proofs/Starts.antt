@@ -15,7 +15,7 @@ use Rattle.rh_defs.specs.Chain.{◌>>=◌, refuse_if, outcome_of}
 use Rattle.rh_defs.specs.Range.{in_range}
 use Rattle.rh_defs.specs.Slot as plain
 use Rattle.rh_defs.specs.Post as post
-use Rattle.rh_defs.specs.Desk.{Desk}
+use Rattle.rh_defs.specs.Desk.{Desk, most_tasks}
 use Rattle.rh_defs.specs.Commands.{start_task}
 use Rattle.rh_slot.specs.declared.slot.Slot.{Slot}
 use Rattle.rh_slot.specs.Area.{IsSlot, slot_in}
@@ -49,12 +49,12 @@ module _ {m : Memory} {seats : List Seat} {made : List MadeArea} {files : FileLi
   name-in-use h = stops _ _ _ (sym (named-any m name seats) ∙ h)
 
   module _ (unused : list_any (is_named name) seats ≡ false) where
-    pub too-many : 32 ≤ length seats → start_task d name buffer manner ≡ Err TooManyTasks
+    pub too-many : most_tasks ≤ length seats → start_task d name buffer manner ≡ Err TooManyTasks
     unfolding start_task
-    too-many many = past _ _ _ (sym (named-any m name seats) ∙ unused) (stops _ _ _ (le-true 32 (length (map (task_of m) seats)) (omega (arith, many, length-map seats (task_of m)))))
+    too-many many = past _ _ _ (sym (named-any m name seats) ∙ unused) (stops _ _ _ (le-true most_tasks (length (map (task_of m) seats)) (omega (arith, many, length-map seats (task_of m)))))
 
-    module _ (few : length seats < 32) where
-      few-tasks : length (map (task_of m) seats) < 32
+    module _ (few : length seats < most_tasks) where
+      few-tasks : length (map (task_of m) seats) < most_tasks
       few-tasks = omega (arith, few, length-map seats (task_of m))
 
       -- one more area can be opened
@@ -63,13 +63,13 @@ module _ {m : Memory} {seats : List Seat} {made : List MadeArea} {files : FileLi
 
       pub no-handles : 2 ^ 32 ≤ kept.next.handle → start_task d name buffer manner ≡ Err NoHandles
       unfolding start_task
-      no-handles used = past _ _ _ (sym (named-any m name seats) ∙ unused) (past _ _ _ (le-false 32 _ few-tasks) (stops _ _ _ (le-true (2 ^ 32) kept.next.handle used)))
+      no-handles used = past _ _ _ (sym (named-any m name seats) ∙ unused) (past _ _ _ (le-false most_tasks _ few-tasks) (stops _ _ _ (le-true (2 ^ 32) kept.next.handle used)))
 
       module _ (some : kept.next.handle < 2 ^ 32) where
         pub no-room : {r : Refusal} → Err r ≡ outcome_of (plain.slot_begin m.free) → start_task d name buffer manner ≡ Err r
         unfolding start_task
         no-room e =
-            past _ _ _ (sym (named-any m name seats) ∙ unused) (past _ _ _ (le-false 32 _ few-tasks) (past _ _ _ (le-false (2 ^ 32) kept.next.handle some)
+            past _ _ _ (sym (named-any m name seats) ∙ unused) (past _ _ _ (le-false most_tasks _ few-tasks) (past _ _ _ (le-false (2 ^ 32) kept.next.handle some)
             (ends _ (ap plain.slot_begin (free-is w) ∙ done-refused (plain.slot_begin m.free) e))))
 
         module _ {n : Memory} (slot : Slot) (is : slot_in n slot ≡ plain.new_slot) (begins_so : Ok tt ≡ outcome_of (plain.slot_begin m.free))
@@ -83,7 +83,7 @@ module _ {m : Memory} {seats : List Seat} {made : List MadeArea} {files : FileLi
           pub start-done : start_task d name buffer manner ≡ Ok (desk_of n (seats ++ seat ∷ []) made files then, reply.Started kept.next.handle)
           unfolding start_task task_of
           start-done =
-              past _ _ _ (sym (named-any m name seats) ∙ unused) (past _ _ _ (le-false 32 _ few-tasks) (past _ _ _ (le-false (2 ^ 32) kept.next.handle some)
+              past _ _ _ (sym (named-any m name seats) ∙ unused) (past _ _ _ (le-false most_tasks _ few-tasks) (past _ _ _ (le-false (2 ^ 32) kept.next.handle some)
               (begins _ (ap plain.slot_begin (free-is w) ∙ begun m.free begins_so)
               (granted-same (sym (joined-desk seat w none low only still (kept.next.handle + 1)
               ∙ ap (λ (s : plain.Slot). let e : Desk = record (desk_of n (seats ++ seat ∷ []) made files then) { tasks = map (task_of m) seats ++ record (task_of n seat) { slot = s } ∷ []; post = post.post_join kept.next.handle d.post; areas = d.areas; made = d.made; pool = d.pool; scrap = d.scrap } in e) is)) refl))))

@@ -14,8 +14,8 @@ use Rattle.rh_defs.specs.Chain.{Granted, found_or, no_answer}
 use Rattle.rh_defs.specs.Pieces.{total}
 use Rattle.rh_defs.specs.Heap.{bytes_of, size_of}
 use Rattle.rh_defs.specs.Slot as plain
-use Rattle.rh_defs.specs.Slot.{holds, slot_start, weight}
-use Rattle.rh_defs.specs.SlotImage.{SpellsSlot, flex_place}
+use Rattle.rh_defs.specs.Slot.{heap_start, holds, slot_start, weight}
+use Rattle.rh_defs.specs.SlotImage.{SpellsSlot, flex_place, heap_place}
 use Rattle.rh_defs.specs.Places.{buffer_at, written_in, overlap}
 use Rattle.rh_defs.specs.Desk.{Desk, Task, task_at, free_pages, with_slot}
 use Rattle.rh_defs.proofs.BytesLaws.{part-part, part-drop, length-part}
@@ -63,13 +63,13 @@ held-at b s x n k (heap_holder cut offset f g c e h) =
     let within = k.words.within in
     let old = bytes_of cut.here in
     let y = 16 + total size_of cut.before + 4 in
-    let same : x - (33024 + (16 + total size_of cut.before) + 4) ≡ offset = omega arith in
-    let place : 256 + y + offset ≡ x - slot_start = omega arith in (
+    let same : x - (heap_start + (16 + total size_of cut.before) + 4) ≡ offset = omega arith in
+    let place : heap_place + y + offset ≡ x - slot_start = omega arith in (
       omega arith,
       record {
         is = ap (λ o. bytes_around x n s o) f ∙ ap (λ o. bytes_in_heap x n o) g ∙ ap (λ i. take n (drop i old)) same
-            ∙ sym (ap (λ p. part b p n) (sym place) ∙ sym (part-part b (256 + y) (length old) offset n h)
-            ∙ ap (λ l. part l offset n) (cut_bytes b 256 s.heap y cut k.words.heap c) ∙ part-drop old offset n h);
+            ∙ sym (ap (λ p. part b p n) (sym place) ∙ sym (part-part b (heap_place + y) (length old) offset n h)
+            ∙ ap (λ l. part l offset n) (cut_bytes b heap_place s.heap y cut k.words.heap c) ∙ part-drop old offset n h);
         low = omega arith;
         high = omega arith;
       },

@@ -8,7 +8,7 @@ use Rattle.rh_defs.specs.Slot.{heap_start}
 use Rattle.rh_defs.specs.Desk.{Desk, named}
 use Rattle.rh_defs.specs.Listing.{block_items, segment_items_from}
 use Rattle.rh_heap.specs.Listed.{from_cut}
-use Rattle.rh_heap.specs.declared.span.list.TheConstants.{SEGMENTS_AT_ONCE}
+use Rattle.rh_defs.specs.declared.sizes.TheConstants.{SEGMENTS_AT_ONCE}
 
 -- up to 64 segments of the heap at an address, from the one that begins at a place on
 abbrev pub items_at : ℕ → ℕ → Heap → List SegmentItem

@@ -11,7 +11,7 @@ use Rattle.rh_defs.specs.Post.{Post, post_is_live}
 use Rattle.rh_defs.specs.Desk.{Desk, Task, Made, Scrap, used_pages}
 use Rattle.rh_defs.specs.Laws.{IsDesk}
 use Rattle.rh_defs.specs.declared.message.Letter.{Letter}
-use Rattle.rh_defs.specs.declared.sizes.TheConstants.{MAX_AREAS}
+use Rattle.rh_defs.specs.declared.sizes.TheConstants.{FIXED_AREAS, MAX_AREAS}
 use Rattle.rh_module.specs.declared.module.Module.{Module}
 use Rattle.rh_module.specs.Area.{IsModule}
 use Rattle.rh_slot.specs.Area.{IsSlot, slot_in}
@@ -144,7 +144,7 @@ HasSlot m s = IsSlot m s.slot
 
 -- an area is none of areas 0 to 5
 abbrev pub IsAbove : ℕ → Type 0
-IsAbove id = 6 ≤ id
+IsAbove id = FIXED_AREAS ≤ id
 
 -- the store's open areas are areas 0 to 5, those of the seats' slots, and the made ones
 pub record HasAreas (m : Memory) (seats : List Seat) (made : List MadeArea) : Type 0 where
@@ -157,7 +157,7 @@ pub record HasAreas (m : Memory) (seats : List Seat) (made : List MadeArea) : Ty
   pub slots_apart : AreDistinct (map slot_area seats)
   pub made_apart : AreDistinct (map made_area made)
   pub beside : AllByRecursion (λ (s : Seat). Avoids s.slot.area.0 (map made_area made)) seats
-  pub count : open_below m.area MAX_AREAS ≡ 6 + length seats + length made
+  pub count : open_below m.area MAX_AREAS ≡ FIXED_AREAS + length seats + length made
 
 -- whether a seat has the name
 abbrev pub is_named : List ℕ → Seat → Bool

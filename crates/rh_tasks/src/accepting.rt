@@ -8,7 +8,7 @@ ghost use Rattle.rh_defs.specs.IncomingEvents.{accept as accept_on, is_deaf as i
 ghost use Rattle.rh_defs.specs.Messages.{Parcel};
 ghost use Rattle.rh_defs.specs.Order.{IsReordered};
 ghost use Rattle.rh_defs.specs.Records.{is_going, is_full as is_full_of};
-ghost use Rattle.rh_defs.specs.Slot.{slot_claim};
+ghost use Rattle.rh_defs.specs.Slot.{anchor_count, slot_claim};
 ghost use Rattle.rh_tasks.specs.Polls.{IsAt, IsFor, IsFreeAnchor, Becomes, Claims, Handles, with_document};
 
 use crate::letters::fetch_letter;
@@ -44,7 +44,7 @@ impl<S: Store> World<S> {
     /// Puts an empty document on top of the task's slot: AnchorInUse, NoRoom.
     fn alloc_document(&mut self, i: usize, anchor: Anchor) -> Result<(), Refusal>
         requires place { i < length self.old.desk.tasks }
-        requires anchor { anchor < 64 }
+        requires anchor { anchor < anchor_count }
         ensures { (t : Task) → IsAt i t self.old.desk
             → Becomes (with_document self.old.desk t anchor) self.old self.new result }
     {

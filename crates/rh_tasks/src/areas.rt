@@ -8,7 +8,7 @@ ghost use Rattle.rh_defs.specs.Range.{in_range};
 ghost use Rattle.rh_defs.specs.Commands.{least_length as least_length_on, pages_after as pages_after_on, change_area as change_area_on};
 ghost use Rattle.rh_tasks.specs.Answer.{Gives};
 ghost use Rattle.rh_tasks.specs.View.{pages_at};
-ghost use Rattle.rh_defs.specs.declared.sizes.TheConstants.{PAGE};
+ghost use Rattle.rh_defs.specs.declared.sizes.TheConstants.{FIXED_AREAS, PAGE};
 
 use crate::made::find_made;
 use crate::module_area::MODULE;
@@ -106,7 +106,7 @@ impl<S: Store> World<S> {
 
     fn change_fixed(&mut self, number: u32, delta: i32) -> Result<Reply, Refusal>
         requires ranged { in_range (Command.Area number delta) ≡ true }
-        requires low { number < 6 }
+        requires low { number < FIXED_AREAS }
         requires other { number ≢ 1 }
         ensures { Gives (change_area_on self.old.desk number delta) self.old self.new result }
     {
@@ -120,7 +120,7 @@ impl<S: Store> World<S> {
 
     fn change_made(&mut self, number: u32, delta: i32) -> Result<Reply, Refusal>
         requires ranged { in_range (Command.Area number delta) ≡ true }
-        requires high { 6 ≤ number }
+        requires high { FIXED_AREAS ≤ number }
         ensures { Gives (change_area_on self.old.desk number delta) self.old self.new result }
     {
         let i = find_made(&self.made, number)?;

@@ -6,6 +6,7 @@ ghost use Rattle.std.specs.Option.{option_map};
 ghost use Rattle.std.specs.Result.{MatchResult};
 ghost use Rattle.rh_store.specs.Limits.{area_limit};
 ghost use Rattle.rh_tasks.specs.declared.seat.Seat.{Seat};
+ghost use Rattle.rh_defs.specs.Slot.{anchor_count};
 ghost use Rattle.rh_defs.specs.Memory.{Memory, IsOpen};
 ghost use Rattle.rh_defs.specs.Range.{can_be_asked};
 ghost use Rattle.rh_defs.specs.Questions.{asked};
@@ -15,19 +16,19 @@ ghost use Rattle.rh_tasks.specs.Answer.{first_told};
 ghost use Rattle.rh_tasks.specs.View.{pages_at, HasAreas};
 ghost use Rattle.rh_tasks.specs.Items.{item_of, items_in, slot_items, segment_item_of, placed_item, IsSmall};
 ghost use Rattle.rh_tasks.specs.Lists.{blocks_of, segments_of};
-ghost use Rattle.rh_heap.specs.declared.span.list.TheConstants.{SEGMENTS_AT_ONCE};
+ghost use Rattle.rh_defs.specs.declared.sizes.TheConstants.{MAX_AREAS, SEGMENTS_AT_ONCE};
 
 use crate::made::MadeArea;
 use crate::seat::Seat;
 use crate::seats::{find, slot_of};
 use crate::world::World;
 use arrayvec::ArrayVec;
-use rh_defs::sizes::{ANCHORS, C_HEAP_START, FIXED_AREAS, PAGE, WORD};
+use rh_defs::sizes::{ANCHORS, C_HEAP_START, FIXED_AREAS, PAGE, SEGMENTS_AT_ONCE, WORD};
 use rh_defs::{
     Anchor, AreaItem, BlockItem, Handle, Incoming, Name, Outgoing, Question, Refusal, Reply,
     SegmentItem,
 };
-use rh_heap::{SEGMENTS_AT_ONCE, Segment};
+use rh_heap::Segment;
 use rh_store::{AreaId, Store};
 
 /// A C heap's length, the size of the largest block that fits, and its free bytes.
@@ -148,7 +149,7 @@ impl<S: Store> World<S> {
     /// None past the end.
     pub fn areas(&self, i: usize) -> (u32, Option<AreaItem>)
         ensures item { result ≡ areas_at self.now.desk i }
-        ensures few { length (area_items self.now.desk) ≤ 70 }
+        ensures few { length (area_items self.now.desk) ≤ MAX_AREAS }
     {
         let free = self.free_pages();
         (free, area_item(&self.store, &self.seats, &self.made, i))
@@ -157,7 +158,7 @@ impl<S: Store> World<S> {
     /// The same item without a copy of its name, and without the free pages; None past the end.
     pub fn area_entry(&self, i: usize) -> Option<AreaEntry<'_>>
         ensures item { option_map item_of result ≡ slice_get (area_items self.now.desk) i }
-        ensures few { length (area_items self.now.desk) ≤ 70 }
+        ensures few { length (area_items self.now.desk) ≤ MAX_AREAS }
     {
         entry_at(&self.store, &self.seats, &self.made, i)
     }
@@ -227,7 +228,7 @@ impl<S: Store> World<S> {
         offset: u32,
         to: &mut [u8],
     ) -> Result<u32, Refusal>
-        requires { anchor < 64 }
+        requires { anchor < anchor_count }
         ensures { MatchResult (shown_at self.now.desk name.now anchor offset (length to.old)) (λ p. (result ≡ Ok p.0) × (to.new ≡ p.1)) (λ e. (result ≡ Err e) × (to.new ≡ to.old)) }
     {
         let slot = slot_of(&self.seats, name)?;

@@ -2,6 +2,7 @@
 
 ghost use Rattle.std.specs.Prelude.{◌≡◌, ◌<◌, true, None, Err, IfOk, IfErr};
 ghost use Rattle.std.specs.List.{AllByRecursion, position};
+ghost use Rattle.rh_defs.specs.Slot.{anchor_count};
 ghost use Rattle.rh_defs.specs.declared.command.Command.TheVariants as Command;
 ghost use Rattle.rh_defs.specs.Forms.{is_leaf};
 ghost use Rattle.rh_defs.specs.Letters.{save_letter as save_letter_of};
@@ -36,7 +37,7 @@ fn idle_source<S: Words>(
     name: &Name,
     anchor: Anchor,
 ) -> Result<Source, Refusal>
-    requires anchor { anchor < 64 }
+    requires anchor { anchor < anchor_count }
     requires slots { AllByRecursion (HasSlot (S.memory store.now)) seats.now.items }
     ensures ok { IfOk result (CanOffer anchor (S.memory store.now) name.now seats.now.items) }
     ensures err { IfErr result (λ e. looked (source_block anchor) (S.memory store.now) name.now seats.now.items ≡ Err e) }

@@ -2,6 +2,7 @@
 
 ghost use Rattle.std.specs.Prelude.{◌≡◌, ◌<◌, IfOk, IfErr, Some, None, Err};
 ghost use Rattle.std.specs.List.{AllByRecursion, list_any, position};
+ghost use Rattle.rh_defs.specs.Slot.{anchor_count};
 ghost use Rattle.rh_defs.specs.Memory.{Memory};
 ghost use Rattle.rh_defs.specs.Desk.{idle_block, idle_buffer};
 ghost use Rattle.rh_tasks.specs.View.{is_named, HasSlot};
@@ -53,7 +54,7 @@ pub fn idle_slot<S: Words>(
     name: &Name,
     anchor: Anchor,
 ) -> Result<Slot, Refusal>
-    requires anchor { anchor < 64 }
+    requires anchor { anchor < anchor_count }
     requires slots { AllByRecursion (HasSlot (S.memory store.now)) seats.now.items }
     ensures ok { IfOk result (OwnsWith (idle_block anchor) (S.memory store.now) name.now seats.now.items) }
     ensures err { IfErr result (λ e. looked (idle_block anchor) (S.memory store.now) name.now seats.now.items ≡ Err e) }

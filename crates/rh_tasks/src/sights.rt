@@ -4,8 +4,8 @@
 ghost use Rattle.std.specs.Prelude.{◌≡◌, ◌+◌, ◌≤◌, ◌↔◌, Ok, Err, IfErr, IfOk, IfSome, IsTrue, OnOk, length, slice_get};
 ghost use Rattle.std.specs.Option.{option_map};
 ghost use Rattle.std.specs.Result.{MatchResult};
-ghost use Rattle.rh_defs.specs.Commands.{module_start};
-ghost use Rattle.rh_defs.specs.Desk.{next_ref as next_ref_on, task_at};
+ghost use Rattle.rh_defs.specs.Commands.{module_start, most_made};
+ghost use Rattle.rh_defs.specs.Desk.{most_tasks, next_ref as next_ref_on, task_at};
 ghost use Rattle.rh_defs.specs.Messages.{Parcel};
 ghost use Rattle.rh_defs.specs.Records.{most_records};
 ghost use Rattle.rh_wimp.specs.Items.{message_items, with_message};
@@ -20,13 +20,15 @@ use crate::seat::SentLetter;
 use crate::seats::find;
 use crate::world::World;
 use arrayvec::ArrayVec;
-use rh_defs::sizes::{ANCHORS, C_HEAP_START, MODULE_START, SLOT_START};
-use rh_defs::{
-    BlockItem, EventCode, Handle, Incoming, Manner, Name, Outgoing, Refusal, SegmentItem,
+use rh_defs::sizes::{
+    ANCHORS, C_HEAP_START, LONGEST_MESSAGE, MODULE_START, MOST_MESSAGES, SEGMENTS_AT_ONCE,
+    SLOT_START,
 };
-use rh_heap::SEGMENTS_AT_ONCE;
+use rh_defs::{
+    BlockItem, EventCode, Handle, Incoming, Manner, MessageItem, Name, Outgoing, Refusal,
+    SegmentItem,
+};
 use rh_store::Store;
-use rh_wimp::{MOST_LENGTH, MOST_MESSAGES, MessageItem};
 
 /// A live task, lent where the world keeps it.
 #[derive(Clone, Copy)]
@@ -69,11 +71,11 @@ fn fits(size: usize, offset: usize, n: usize) -> bool
 }
 
 impl<S: Store> World<S> {
-    /// Live task i in order of handle, with at most 8 records each way; None past the last of at most 32.
+    /// Live task i in order of handle, with its records; None past the last.
     pub fn task(&self, i: usize) -> Option<TaskSight<'_>>
         ensures task { IsSeen result (slice_get self.now.desk.tasks i) }
         ensures live { IfSome result (λ s. task_at s.handle self.now.desk ≡ slice_get self.now.desk.tasks i) }
-        ensures few { length self.now.desk.tasks ≤ 32 }
+        ensures few { length self.now.desk.tasks ≤ most_tasks }
         ensures records { IfSome result (λ s. (length s.sending.now ≤ most_records)
             × (length s.taking.now ≤ most_records)) }
     {
@@ -190,7 +192,7 @@ impl<S: Store> World<S> {
     pub fn next_message(
         &self,
         name: &Name,
-        block: &mut [u8; MOST_LENGTH],
+        block: &mut [u8; LONGEST_MESSAGE],
     ) -> Result<Option<EventCode>, Refusal>
         ensures { MatchResult (next_message_on self.now.desk name.now) (λ o. (result ≡ Ok (option_map (λ (p : Parcel). p.code) o)) × (block.new ≡ with_message o block.old)) (λ e. (result ≡ Err e) × (block.new ≡ block.old)) }
     {
@@ -214,10 +216,10 @@ impl<S: Store> World<S> {
         self.scrap
     }
 
-    /// Made area i in order of number; None past the last of at most 32.
+    /// Made area i in order of number; None past the last.
     pub fn made_area(&self, i: usize) -> Option<MadeSight>
         ensures area { option_map made_of_sight result ≡ slice_get self.now.desk.made i }
-        ensures few { length self.now.desk.made ≤ 32 }
+        ensures few { length self.now.desk.made ≤ most_made }
     {
         if i >= self.made.len() {
             return None;

@@ -29,9 +29,9 @@ use std::mem;
 #[derive(Drop)]
 pub struct World<S: Store> {
     pub(crate) store: S,
-    /// The live tasks in order of handle, with room for 32.
+    /// The live tasks in order of handle, with room for all that can be.
     pub(crate) seats: Vec<Seat>,
-    /// The made areas in order of number, with room for 32.
+    /// The made areas in order of number, with room for all that can be.
     pub(crate) made: Vec<MadeArea>,
     pub(crate) files: Files,
     pub(crate) next: Next,
@@ -42,6 +42,8 @@ pub struct World<S: Store> {
 
 impl<S: Store> Model for World<S> {
     ghost use Rattle.std.specs.Prelude.{◌≡◌, vec_capacity};
+    ghost use Rattle.rh_defs.specs.Commands.{most_made};
+    ghost use Rattle.rh_defs.specs.Desk.{most_tasks};
     ghost use Rattle.rh_tasks.specs.Shown.{Shown};
 
     ghost Value = { Shown };
@@ -50,7 +52,7 @@ impl<S: Store> Model for World<S> {
 
     ghost view = { λ w. shown_of (S.memory w.store) w.seats.items w.made.items w.files (kept_of w.next w.queue w.scrap) };
 
-    ghost invariant = { λ w. IsWorld (S.memory w.store) w.seats.items w.made.items w.files (kept_of w.next w.queue w.scrap) × (vec_capacity w.seats ≡ 32) × (vec_capacity w.made ≡ 32) };
+    ghost invariant = { λ w. IsWorld (S.memory w.store) w.seats.items w.made.items w.files (kept_of w.next w.queue w.scrap) × (vec_capacity w.seats ≡ most_tasks) × (vec_capacity w.made ≡ most_made) };
 }
 
 /// Opens areas 0 to 5 of a fresh store, and makes area 1, the module area, an empty heap of one page.

@@ -1,6 +1,7 @@
 -- Laws of encoding: pieces written one after the other.
 use Rattle.std.proofs.Common.{◌≡◌, ℕ, suc, ◌+◌, ◌-◌, ◌*◌, ◌/◌, ◌<◌, ◌≤◌, ◌^◌, List, [], ◌∷◌, ◌++◌, length, get_or, refl, sym, ap, ◌∙◌, arith}
 use Rattle.std.proofs.lemmas.List.{length-append, length-replicate, append_assoc, append-nil}
+use Rattle.rh_defs.specs.declared.sizes.TheConstants.{LONGEST_MESSAGE}
 use Rattle.rh_defs.specs.Bytes.{put, word_bytes}
 use Rattle.rh_defs.specs.Pieces.{zeros}
 use Rattle.rh_defs.specs.Messages.{AreWords, words, name_bytes, data_words, tail_bytes, body_bytes, action_number, action_of, encoded, encoded_length}
@@ -41,7 +42,7 @@ body-put body made o o1 o2 n e en e1 e2 =
     ∙ ap (λ b. put o 16 (words (action_number (action_of body) ∷ data_words b) ++ tail_bytes b)) (sym e)
 
 -- the head before the body
-pub encoded-put : (o o1 o2 : List ℕ) (m : Message) (n : ℕ) → length o ≡ 256 → o1 ≡ put o 16 (body_bytes m.body) → o2 ≡ put o1 0 (words (n ∷ m.from ∷ m.my_ref ∷ m.your_ref ∷ [])) → n ≡ encoded_length m → n ≤ 256
+pub encoded-put : (o o1 o2 : List ℕ) (m : Message) (n : ℕ) → length o ≡ LONGEST_MESSAGE → o1 ≡ put o 16 (body_bytes m.body) → o2 ≡ put o1 0 (words (n ∷ m.from ∷ m.my_ref ∷ m.your_ref ∷ [])) → n ≡ encoded_length m → n ≤ LONGEST_MESSAGE
     → o2 ≡ put o 0 (encoded m)
 unfolding encoded
 encoded-put o o1 o2 m n lo e1 e2 en few =

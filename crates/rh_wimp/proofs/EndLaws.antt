@@ -4,7 +4,7 @@ use Rattle.std.specs.Prelude.{Option, Some, None, true, false, ◌==◌}
 use Rattle.rh_defs.specs.Heap.{Heap, release}
 use Rattle.rh_defs.specs.Memory.{Memory, OnlyArea}
 use Rattle.rh_defs.specs.Messages.{Parcel, is_recorded}
-use Rattle.rh_defs.specs.Post.{Post, held_by, bounced, bounce_all, without_block, post_death}
+use Rattle.rh_defs.specs.Post.{Post, held_by, bounced, bounce_all, without_block, post_death, most_messages}
 use Rattle.rh_defs.proofs.HeapLists.{cond_true, cond_false, eqb_same, eqb_apart}
 use Rattle.rh_module.specs.Area.{IsModule, heap_in}
 use Rattle.rh_module.specs.declared.module.Module.{Module}
@@ -53,7 +53,7 @@ drained-step m n k rma q q1 q2 post now h turn block t d w s =
     let few = d.few in
     (ended_from h t.0 (rest_of t.1 now), record { spells = s; same = death-step h now t.0 t.1 f ∙ d.same; few = omega arith; seats = seats-ended h t.0 (rest_of t.1 now) ∙ d.seats })
 
-pub drained-end : (m n : Memory) (rma : Module) (q q1 : Chains) (post now : Post) (h turn : ℕ) → Drained m rma q post h turn now → LiftsFirst n rma q1 now h None → Drains n rma q1 post h 256
+pub drained-end : (m n : Memory) (rma : Module) (q q1 : Chains) (post now : Post) (h turn : ℕ) → Drained m rma q post h turn now → LiftsFirst n rma q1 now h None → Drains n rma q1 post h most_messages
 drained-end m n rma q q1 post now h turn d w =
     let l = ap length (first-none h now.queued w.0) in
     (now, record { spells = w.1; same = d.same; few = omega arith; seats = d.seats })
@@ -91,7 +91,7 @@ no_length [] l = refl
 no_length (p ∷ ps) l = absurd (omega arith)
 
 -- once no message is left for the handle, its seat goes
-pub death-done : (m : Memory) (rma : Module) (q : Chains) (post : Post) (x i : ℕ) → i < length q.entries → (entry_at q.entries i).handle ≡ x → Drains m rma q (settled_from x (held_by x post.seats) post) x 256
+pub death-done : (m : Memory) (rma : Module) (q : Chains) (post : Post) (x i : ℕ) → i < length q.entries → (entry_at q.entries i).handle ≡ x → Drains m rma q (settled_from x (held_by x post.seats) post) x most_messages
     → IsPost (heap_in m rma) (left_chains i q) (post_death x post)
 death-done m rma q post x i lt e d =
     let now : Post = d.0 in

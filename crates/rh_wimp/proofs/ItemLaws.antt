@@ -12,7 +12,7 @@ use Rattle.rh_defs.specs.declared.message.Action.{Action}
 use Rattle.rh_defs.specs.declared.message.Action.TheVariants as action
 use Rattle.rh_defs.specs.declared.message.EventCode.{EventCode}
 use Rattle.rh_defs.specs.Pieces.{total}
-use Rattle.rh_defs.specs.Post.{Seat, Post, count_held}
+use Rattle.rh_defs.specs.Post.{Seat, Post, count_held, most_messages}
 use Rattle.rh_defs.proofs.BlockCalls.{room_enough}
 use Rattle.rh_defs.proofs.MessageLaws.{encoded-most}
 use Rattle.rh_defs.proofs.ParcelLaws.{length-padded, link_read, padded-words}
@@ -21,7 +21,7 @@ use Rattle.rh_module.specs.declared.module.Module.{Module}
 use Rattle.rh_wimp.specs.Chains.{Chain, Chains, Holds, IsPost, Row, first_block, held_list, no_row, row_of, row_at, rows_of}
 use Rattle.rh_wimp.specs.Items.{LinksAt, held_items, item_of, waiting_items}
 use Rattle.rh_wimp.specs.PostIn.{by_seats}
-use Rattle.rh_wimp.specs.declared.listing.MessageItem.{MessageItem}
+use Rattle.rh_defs.specs.declared.listing.MessageItem.{MessageItem}
 use Rattle.rh_wimp.proofs.OrderLaws.{by_seats-length, sent_to}
 use Rattle.rh_wimp.proofs.PollLaws.{next-small}
 use Rattle.rh_wimp.proofs.RowEdits.{lies-above}
@@ -71,8 +71,8 @@ pub record Walks (h : Heap) (block turn to : ℕ) (ps : List Parcel) (old items 
   pub rest : List Parcel
   pub block_is : block ≡ first_block rest 0
   pub chain : Chain h rest 0
-  pub few : length rest + turn ≤ 256
-  pub room : length items + length rest ≤ 256
+  pub few : length rest + turn ≤ most_messages
+  pub room : length items + length rest ≤ most_messages
   pub all : items ++ waiting to rest ≡ old ++ waiting to ps
 
 -- the message whose block is the next one
@@ -81,11 +81,11 @@ pub record Meets (m : Memory) (rma : Module) (block turn to : ℕ) (ps : List Pa
   pub rest : List Parcel
   pub links : LinksAt m rma block (first_block rest 0) parcel
   pub chain : Chain (heap_in m rma) rest 0
-  pub few : length rest + suc turn ≤ 256
-  pub room : suc (length items) + length rest ≤ 256
+  pub few : length rest + suc turn ≤ most_messages
+  pub room : suc (length items) + length rest ≤ most_messages
   pub all : items ++ (item_of to false parcel ∷ waiting to rest) ≡ old ++ waiting to ps
 
-pub walk-begins : (h : Heap) (first to : ℕ) (ps : List Parcel) (old : List MessageItem) → first ≡ first_block ps 0 → Chain h ps 0 → length old + length ps ≤ 256 → Walks h first 0 to ps old old
+pub walk-begins : (h : Heap) (first to : ℕ) (ps : List Parcel) (old : List MessageItem) → first ≡ first_block ps 0 → Chain h ps 0 → length old + length ps ≤ most_messages → Walks h first 0 to ps old old
 walk-begins h first to ps old e c l = record { rest = ps; block_is = e; chain = c; few = omega arith; room = l; all = refl }
 
 pub walk-none : (h : Heap) (block turn to : ℕ) (ps : List Parcel) (old items : List MessageItem) → Walks h block turn to ps old items → block ≡ 0 → items ≡ old ++ waiting to ps
@@ -95,10 +95,10 @@ walk-none h block turn to ps old items w z = go w.rest w.block_is w.chain w.all
     go [] e c all = sym (append-nil items) ∙ all
     go (p ∷ rest) e c all = let l = lies-above h (first_block rest 0) p c.0 in absurd (omega arith)
 
-pub walk-past : (h : Heap) (block turn to : ℕ) (ps : List Parcel) (old items : List MessageItem) → Walks h block turn to ps old items → 256 ≤ turn → items ≡ old ++ waiting to ps
+pub walk-past : (h : Heap) (block turn to : ℕ) (ps : List Parcel) (old items : List MessageItem) → Walks h block turn to ps old items → most_messages ≤ turn → items ≡ old ++ waiting to ps
 walk-past h block turn to ps old items w z = go w.rest w.few w.all
   where
-    go : (rest : List Parcel) → length rest + turn ≤ 256 → items ++ waiting to rest ≡ old ++ waiting to ps → items ≡ old ++ waiting to ps
+    go : (rest : List Parcel) → length rest + turn ≤ most_messages → items ++ waiting to rest ≡ old ++ waiting to ps → items ≡ old ++ waiting to ps
     go [] f all = sym (append-nil items) ∙ all
     go (p ∷ rest) f all = absurd (omega arith)
 
@@ -106,7 +106,7 @@ pub walk-some : (m : Memory) (rma : Module) (block turn to : ℕ) (ps : List Par
     → Walks (heap_in m rma) block turn to ps old items → block ≢ 0 → Meets m rma block turn to ps old items
 walk-some m rma block turn to ps old items s l w ne = go w.rest w.block_is w.chain w.few w.room w.all
   where
-    go : (rest : List Parcel) → block ≡ first_block rest 0 → Chain (heap_in m rma) rest 0 → length rest + turn ≤ 256 → length items + length rest ≤ 256
+    go : (rest : List Parcel) → block ≡ first_block rest 0 → Chain (heap_in m rma) rest 0 → length rest + turn ≤ most_messages → length items + length rest ≤ most_messages
         → items ++ waiting to rest ≡ old ++ waiting to ps → Meets m rma block turn to ps old items
     go [] e c f r all = absurd (ne e)
     go (p ∷ rest) e c f r all = record {
@@ -145,8 +145,8 @@ abbrev pub Goes : (List Row → List MessageItem) → ℕ → List Row → List 
 Goes listed i rows old items = items ++ listed (drop i rows) ≡ old ++ listed rows
 
 pub goes-room : (listed : List Row → List MessageItem) (here : Row → List MessageItem) (i : ℕ) (rows : List Row) (old items : List MessageItem)
-    → ((r : Row) (rs : List Row) → listed (r ∷ rs) ≡ here r ++ listed rs) → i < length rows → Goes listed i rows old items → length old + length (listed rows) ≤ 256
-    → length items + length (here (row_at rows i)) ≤ 256
+    → ((r : Row) (rs : List Row) → listed (r ∷ rs) ≡ here r ++ listed rs) → i < length rows → Goes listed i rows old items → length old + length (listed rows) ≤ most_messages
+    → length items + length (here (row_at rows i)) ≤ most_messages
 goes-room listed here i rows old items by l g few =
     omega (
       arith,
@@ -197,7 +197,7 @@ held-count queued [] = refl
 held-count queued (s ∷ seats) =
     omega (arith, length-append (held_of (row_of queued s)) (held_items (map (row_of queued) seats)), held-one s.handle s.holds, held-count queued seats)
 
-pub items-few : (h : Heap) (q : Chains) (post : Post) → IsPost h q post → length (waiting_items (rows_of post)) + length (held_items (rows_of post)) ≤ 256
+pub items-few : (h : Heap) (q : Chains) (post : Post) → IsPost h q post → length (waiting_items (rows_of post)) + length (held_items (rows_of post)) ≤ most_messages
 items-few h q post s =
     omega (arith, waiting-count post.queued post.seats, held-count post.queued post.seats, by_seats-length post.seats post.queued (named h q post s) s.recipients, s.few)
 

@@ -10,7 +10,7 @@ use Rattle.rh_defs.specs.Heap.{Heap, Segment, Used, Hole}
 use Rattle.rh_defs.specs.MessageImage.{decoded}
 use Rattle.rh_defs.specs.Memory.{Memory, bytes}
 use Rattle.rh_defs.specs.Messages.{Parcel, code_at, code_number, padded}
-use Rattle.rh_defs.specs.Post.{Seat, Post}
+use Rattle.rh_defs.specs.Post.{Seat, Post, most_messages}
 use Rattle.rh_defs.specs.declared.message.EventCode.{EventCode}
 use Rattle.rh_defs.specs.declared.message.Message.{Message}
 use Rattle.rh_defs.specs.declared.message.EventCode.TheVariants.{User, Recorded, Acknowledge}
@@ -201,10 +201,10 @@ held-found h to block (Some p) c =
     let e = c.0 in
     cond_false (block == 0) _ _ (eqb_apart block 0 (omega arith)) ∙ ap (λ b. Some (parcel_in to b h)) e ∙ ap Some (parcel-found h to 0 p (omega arith) c.1)
 
-row-found : (h : Heap) (e : Entry) (r : Row) → IsLow h → RowLies h e r → AllFor r.handle r.chain → length r.chain ≤ 256 → row_in h e ≡ own_row r
+row-found : (h : Heap) (e : Entry) (r : Row) → IsLow h → RowLies h e r → AllFor r.handle r.chain → length r.chain ≤ most_messages → row_in h e ≡ own_row r
 row-found h e r s l f few =
-    ap (λ (x : ℕ). let y : Row = record { handle = x; chain = chain_in 256 x e.first h; held = held_in x e.held h } in y) l.handle
-    ∙ ap (λ (c : List Parcel). let y : Row = record { handle = r.handle; chain = c; held = held_in r.handle e.held h } in y) (ap (λ b. chain_in 256 r.handle b h) l.first ∙ chain-found h 256 r.handle r.chain s l.chain f few)
+    ap (λ (x : ℕ). let y : Row = record { handle = x; chain = chain_in most_messages x e.first h; held = held_in x e.held h } in y) l.handle
+    ∙ ap (λ (c : List Parcel). let y : Row = record { handle = r.handle; chain = c; held = held_in r.handle e.held h } in y) (ap (λ b. chain_in most_messages r.handle b h) l.first ∙ chain-found h most_messages r.handle r.chain s l.chain f few)
     ∙ ap (λ (o : Option Parcel). let y : Row = record { handle = r.handle; chain = r.chain; held = o } in y) (held-found h r.handle e.held r.held l.held)
 
 rows-found : (h : Heap) (es : List Entry) (rows : List Row) → length es ≡ length rows → ((i : ℕ) → i < length rows → row_in h (entry_at es i) ≡ own_row (row_at rows i)) → map (row_in h) es ≡ map own_row rows

@@ -7,7 +7,7 @@ use Rattle.std.specs.Prelude.{Option, Some, None, filter, ◌==◌, ◌||◌}
 use Rattle.std.specs.List.{list_any}
 use Rattle.rh_defs.specs.Heap.{Heap}
 use Rattle.rh_defs.specs.Messages.{Parcel, padded}
-use Rattle.rh_defs.specs.Post.{Seat, Post, has_seat, holds_such, has_message}
+use Rattle.rh_defs.specs.Post.{Seat, Post, has_seat, holds_such, has_message, most_messages}
 use Rattle.rh_defs.specs.Blocks.{HasBlock, block_bytes}
 use Rattle.rh_defs.specs.Bytes.{word}
 use Rattle.rh_defs.specs.Memory.{Memory, bytes}
@@ -27,7 +27,7 @@ pub record Ahead (h : Heap) (block turn : ℕ) (test : Parcel → Bool) (ps : Li
   pub rest : List Parcel
   pub block_is : block ≡ first_block rest 0
   pub chain : Chain h rest 0
-  pub few : length rest + turn ≤ 256
+  pub few : length rest + turn ≤ most_messages
   pub same : list_any test ps ≡ list_any test rest
 
 -- ---- tests of lists
@@ -191,7 +191,7 @@ pub record Here (m : Memory) (rma : Module) (block turn : ℕ) (test : Parcel �
   pub lies : Lies (heap_in m rma) (first_block rest 0) parcel
   pub small : first_block rest 0 < 2 ^ 32
   pub chain : Chain (heap_in m rma) rest 0
-  pub few : length rest + suc turn ≤ 256
+  pub few : length rest + suc turn ≤ most_messages
   pub same : list_any test ps ≡ (test parcel || list_any test rest)
 
 pub ahead-none : (h : Heap) (block turn : ℕ) (test : Parcel → Bool) (ps : List Parcel) → Ahead h block turn test ps → block ≡ 0 → false ≡ list_any test ps
@@ -205,7 +205,7 @@ pub ahead-some : (m : Memory) (rma : Module) (block turn : ℕ) (test : Parcel �
     → Here m rma block turn test ps
 ahead-some m rma block turn test ps s l a ne = go a.rest a.block_is a.chain a.few a.same
   where
-    go : (rest : List Parcel) → block ≡ first_block rest 0 → Chain (heap_in m rma) rest 0 → length rest + turn ≤ 256 → list_any test ps ≡ list_any test rest → Here m rma block turn test ps
+    go : (rest : List Parcel) → block ≡ first_block rest 0 → Chain (heap_in m rma) rest 0 → length rest + turn ≤ most_messages → list_any test ps ≡ list_any test rest → Here m rma block turn test ps
     go [] e c f same = absurd (ne e)
     go (p ∷ rest) e c f same = record {
       parcel = p;
@@ -218,10 +218,10 @@ ahead-some m rma block turn test ps s l a ne = go a.rest a.block_is a.chain a.fe
       same = same;
     }
 
-pub ahead-past : (h : Heap) (block turn : ℕ) (test : Parcel → Bool) (ps : List Parcel) → Ahead h block turn test ps → 256 ≤ turn → false ≡ list_any test ps
+pub ahead-past : (h : Heap) (block turn : ℕ) (test : Parcel → Bool) (ps : List Parcel) → Ahead h block turn test ps → most_messages ≤ turn → false ≡ list_any test ps
 ahead-past h block turn test ps a z = go a.rest a.few (sym a.same)
   where
-    go : (rest : List Parcel) → length rest + turn ≤ 256 → list_any test rest ≡ list_any test ps → false ≡ list_any test ps
+    go : (rest : List Parcel) → length rest + turn ≤ most_messages → list_any test rest ≡ list_any test ps → false ≡ list_any test ps
     go [] f e = e
     go (p ∷ rest) f e = absurd (omega arith)
 

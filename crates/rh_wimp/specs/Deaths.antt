@@ -1,11 +1,11 @@
 -- The end of a handle, step by step, while its seat is still there.
 use Rattle.std.specs.Prelude.{◌≡◌, ℕ, ◌+◌, ◌≤◌, ◌==◌, not, if◌then◌else◌, List, length, filter, Option, Some, None}
+use Rattle.rh_defs.specs.declared.sizes.TheConstants.{MOST_MESSAGES}
 use Rattle.rh_defs.specs.Memory.{Memory}
 use Rattle.rh_defs.specs.Messages.{Parcel, is_recorded}
 use Rattle.rh_defs.specs.Post.{Seat, Post, with_held, bounced, bounce_all, without_block}
 use Rattle.rh_module.specs.declared.module.Module.{Module}
 use Rattle.rh_wimp.specs.Chains.{Chains, SpellsPost}
-use Rattle.rh_wimp.specs.declared.queue.TheConstants.{MOST_MESSAGES}
 
 -- what is held is held no more
 abbrev pub lifted : ℕ → Post → Post

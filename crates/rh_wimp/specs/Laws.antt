@@ -1,5 +1,6 @@
 -- What holds of every queue over every module area, and of every message block.
 use Rattle.std.specs.Prelude.{◌≡◌, ℕ, ◌≤◌, List, length, take, Ok}
+use Rattle.rh_defs.specs.declared.sizes.TheConstants.{LONGEST_MESSAGE}
 use Rattle.rh_defs.specs.Bytes.{put}
 use Rattle.rh_defs.specs.MessageImage.{decoded}
 use Rattle.rh_defs.specs.Messages.{Fits, encoded, encoded_length}
@@ -13,7 +14,6 @@ use Rattle.rh_module.specs.Calls as module_calls
 use Rattle.rh_module.specs.declared.module.Module.{Module}
 use Rattle.rh_wimp.specs.Chains.{Chains, SpellsPost}
 use Rattle.rh_wimp.specs.PostIn.{in_order, post_in}
-use Rattle.rh_wimp.specs.declared.layout.TheConstants.{MOST_LENGTH}
 use Rattle.rh_store.specs.Limits.{area_limit}
 
 -- the area is so small that its blocks have addresses that are words, as every store's areas are
@@ -41,5 +41,5 @@ GoesBeside {A} allowed call =
 -- in it before, and each front of it that has the message's length.
 abbrev pub ComesBack : Type 0
 ComesBack =
-    (m : Message) (block : List ℕ) (n : ℕ) → Fits m → length block ≡ MOST_LENGTH → encoded_length m ≤ n → n ≤ MOST_LENGTH
+    (m : Message) (block : List ℕ) (n : ℕ) → Fits m → length block ≡ LONGEST_MESSAGE → encoded_length m ≤ n → n ≤ LONGEST_MESSAGE
     → decoded (take n (put block 0 (encoded m))) ≡ Ok m

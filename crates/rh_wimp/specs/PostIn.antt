@@ -1,6 +1,7 @@
 -- The post that a heap and a queue's entries spell, by a walk along each chain.
 use Rattle.std.specs.Prelude.{ℕ, zero, suc, ◌==◌, if◌then◌else◌, List, [], ◌∷◌, ◌++◌, map, filter, Option, Some, None, Result, Ok, Err}
 use Rattle.std.specs.Option.{option_map}
+use Rattle.rh_defs.specs.declared.sizes.TheConstants.{MOST_MESSAGES}
 use Rattle.rh_defs.specs.declared.message.Body.TheVariants.{RamFetch}
 use Rattle.rh_defs.specs.declared.message.EventCode.{EventCode}
 use Rattle.rh_defs.specs.declared.message.EventCode.TheVariants.{User}
@@ -17,7 +18,6 @@ use Rattle.rh_module.specs.Area.{heap_in}
 use Rattle.rh_module.specs.declared.module.Module.{Module}
 use Rattle.rh_wimp.specs.Chains.{Chains, Row, row_parcels}
 use Rattle.rh_wimp.specs.declared.chain.Entry.{Entry}
-use Rattle.rh_wimp.specs.declared.queue.TheConstants.{MOST_MESSAGES}
 
 -- ---- one block
 abbrev pub or_no_bytes : Option (List ℕ) → List ℕ

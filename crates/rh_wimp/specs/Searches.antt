@@ -1,9 +1,9 @@
 -- What is looked for among the live messages.
 use Rattle.std.specs.Prelude.{ℕ, ◌<◌, ◌≤◌, ◌==◌, Bool, List, length}
 use Rattle.std.specs.List.{list_any}
+use Rattle.rh_defs.specs.declared.sizes.TheConstants.{MOST_MESSAGES}
 use Rattle.rh_defs.specs.Messages.{Parcel}
 use Rattle.rh_wimp.specs.Chains.{Row, row_at, row_parcels}
-use Rattle.rh_wimp.specs.declared.queue.TheConstants.{MOST_MESSAGES}
 use Rattle.rh_wimp.specs.declared.searching.Wanted.{Wanted}
 use Rattle.rh_wimp.specs.declared.searching.Wanted.TheVariants.{At, WithRef}
 

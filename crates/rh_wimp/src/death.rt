@@ -1,5 +1,6 @@
 //! The end of a live handle.
 ghost use Rattle.std.specs.Prelude.{◌≡◌, ◌<◌, ◌==◌, filter, length, not};
+ghost use Rattle.rh_defs.specs.declared.sizes.TheConstants.{MOST_MESSAGES};
 ghost use Rattle.rh_defs.specs.Memory.{OnlyArea};
 ghost use Rattle.rh_defs.specs.Messages.{Parcel};
 ghost use Rattle.rh_defs.specs.Post.{Post, held_by, post_death};
@@ -7,14 +8,14 @@ ghost use Rattle.rh_module.specs.Area.{IsModule};
 ghost use Rattle.rh_wimp.specs.Calls.{IsQueue, Leaves, handles_of};
 ghost use Rattle.rh_wimp.specs.Chains.{HasEntry, MayBounce, SpellsPost, entry_at};
 ghost use Rattle.rh_wimp.specs.Deaths.{Drains, bounced_from, ended_from, settled_from};
-ghost use Rattle.rh_wimp.specs.declared.queue.TheConstants.{MOST_MESSAGES};
 
 use crate::chain::find;
 use crate::layout::{MESSAGE, SENDER};
 use crate::placing::free;
-use crate::queue::{MOST_MESSAGES, Queue};
+use crate::queue::Queue;
 use crate::reading::read_code;
 use rh_defs::Handle;
+use rh_defs::sizes::MOST_MESSAGES;
 use rh_module::Module;
 use rh_store::Pages;
 

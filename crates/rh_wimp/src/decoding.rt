@@ -1,19 +1,19 @@
 //! Messages out of bytes.
 ghost use Rattle.std.specs.Prelude.{◌≡◌, ◌≤◌, ◌+◌, ◌==◌, length, true, Some, Ok, IfOk};
 ghost use Rattle.std.specs.List.{position};
+ghost use Rattle.rh_defs.specs.declared.sizes.TheConstants.{LONGEST_MESSAGE};
 ghost use Rattle.rh_defs.specs.Bytes.{part};
 ghost use Rattle.rh_defs.specs.MessageImage.{SpellsMessage, body_for, decoded, file_in, has_length as has_length_of, name_length};
 ghost use Rattle.rh_defs.specs.Pathnames.{is_plain};
 ghost use Rattle.rh_defs.specs.declared.message.Message.{Message as SpecMessage};
 ghost use Rattle.rh_defs.specs.declared.pathname.TheConstants.Pathname.{MOST_BYTES};
-ghost use Rattle.rh_wimp.specs.declared.layout.TheConstants.{LEAST_LENGTH, MOST_LENGTH, NAME};
+ghost use Rattle.rh_wimp.specs.declared.layout.TheConstants.{LEAST_LENGTH, NAME};
 
 use crate::bytes::get_word;
 use crate::layout::{
-    ACTION, DATA, LEAST_FILE_LENGTH, LEAST_LENGTH, LEAST_RAM_LENGTH, MOST_LENGTH, MY_REF, NAME,
-    SENDER, YOUR_REF,
+    ACTION, DATA, LEAST_FILE_LENGTH, LEAST_LENGTH, LEAST_RAM_LENGTH, MY_REF, NAME, SENDER, YOUR_REF,
 };
-use rh_defs::sizes::WORD;
+use rh_defs::sizes::{LONGEST_MESSAGE, WORD};
 use rh_defs::{Action, Body, FileData, Handle, Message, MessageFault, Pathname, Ref};
 
 /// The place of the first zero byte.
@@ -45,7 +45,7 @@ fn read_name(bytes: &[u8], n: usize) -> Pathname
 /// What is said of a file in a message of so many bytes.
 fn decode_file(bytes: &[u8], end: usize) -> Result<FileData, MessageFault>
     requires high { end ≤ length bytes.now }
-    requires small { end ≤ MOST_LENGTH }
+    requires small { end ≤ LONGEST_MESSAGE }
     ensures { result ≡ file_in bytes.now end }
 {
     if end < LEAST_FILE_LENGTH {
@@ -69,7 +69,7 @@ fn decode_file(bytes: &[u8], end: usize) -> Result<FileData, MessageFault>
 fn decode_body(bytes: &[u8], end: usize, action: Action) -> Result<Body, MessageFault>
     requires low { LEAST_LENGTH ≤ end }
     requires high { end ≤ length bytes.now }
-    requires small { end ≤ MOST_LENGTH }
+    requires small { end ≤ LONGEST_MESSAGE }
     ensures { result ≡ body_for bytes.now end (Some action) }
 {
     match action {
@@ -106,11 +106,11 @@ fn has_length(bytes: &[u8]) -> bool
         return false;
     }
     let end = get_word(bytes, 0) as usize;
-    LEAST_LENGTH <= end && end <= MOST_LENGTH && end % WORD == 0 && end <= bytes.len()
+    LEAST_LENGTH <= end && end <= LONGEST_MESSAGE && end % WORD == 0 && end <= bytes.len()
 }
 
 /// Reads a message. Bytes past its length, and past what its kind needs, are ignored. Refused with the first fault:
-/// `BadLength` where the length word isn't a multiple of 4 from 20 to 256 or bytes are missing, `BadAction`, and
+/// `BadLength` where the length word isn't a multiple of 4 from 20 to the most or bytes are missing, `BadAction`, and
 /// `BadLength` where the length is too small for the action or no zero byte ends the name.
 pub fn decode(bytes: &[u8]) -> Result<Message, MessageFault>
     ensures answer { result ≡ decoded bytes.now }

@@ -1,13 +1,14 @@
 //! Messages into bytes.
 ghost use Rattle.std.specs.Prelude.{◌≡◌, ◌+◌, ◌^◌, ◌<◌, ◌≤◌, ◌++◌, [], ◌∷◌, true, length};
+ghost use Rattle.rh_defs.specs.declared.sizes.TheConstants.{LONGEST_MESSAGE};
 ghost use Rattle.rh_defs.specs.Bytes.{put};
 ghost use Rattle.rh_defs.specs.Messages.{AreWords, Fits, HasName, body_bytes, data_words, encoded, encoded_length, file_words, name_bytes, words};
 ghost use Rattle.rh_defs.specs.Pathnames.{is_pathname};
-ghost use Rattle.rh_wimp.specs.declared.layout.TheConstants.{ACTION, DATA, FILE_LENGTH, MOST_LENGTH, NAME, RAM_LENGTH};
+ghost use Rattle.rh_wimp.specs.declared.layout.TheConstants.{ACTION, DATA, FILE_LENGTH, NAME, RAM_LENGTH};
 
 use crate::bytes::{put_bytes, put_word, put_words, put_zeros};
-use crate::layout::{ACTION, DATA, FILE_LENGTH, MOST_LENGTH, NAME, RAM_LENGTH};
-use rh_defs::sizes::WORD;
+use crate::layout::{ACTION, DATA, FILE_LENGTH, NAME, RAM_LENGTH};
+use rh_defs::sizes::{LONGEST_MESSAGE, WORD};
 use rh_defs::{Body, FileData, Message};
 
 /// The bytes that a name takes with its zero byte, in whole words.
@@ -20,11 +21,11 @@ fn name_room(name: &[u8]) -> usize
 
 /// Writes a name from offset 44 on, with zeros up to whole words, and answers the bytes that it takes.
 fn encode_name(name: &[u8], out: &mut [u8]) -> usize
-    requires room { length out.old ≡ MOST_LENGTH }
+    requires room { length out.old ≡ LONGEST_MESSAGE }
     requires name { is_pathname name.now ≡ true }
     ensures bytes { out.new ≡ put out.old NAME (name_bytes name.now) }
     ensures length { result ≡ length (name_bytes name.now) }
-    ensures short { NAME + result ≤ MOST_LENGTH }
+    ensures short { NAME + result ≤ LONGEST_MESSAGE }
 {
     let room = name_room(name);
     put_bytes(out, NAME, name);
@@ -34,10 +35,10 @@ fn encode_name(name: &[u8], out: &mut [u8]) -> usize
 
 /// Writes what is said of a file from offset 20 on, and answers its length.
 fn encode_file(file: &FileData, out: &mut [u8]) -> usize
-    requires { length out.old ≡ MOST_LENGTH }
+    requires { length out.old ≡ LONGEST_MESSAGE }
     ensures bytes { out.new ≡ put out.old DATA (words (file_words file.now) ++ name_bytes file.now.name) }
     ensures length { result ≡ FILE_LENGTH + length (name_bytes file.now.name) }
-    ensures short { DATA + result ≤ MOST_LENGTH }
+    ensures short { DATA + result ≤ LONGEST_MESSAGE }
     ensures numbers { AreWords (file_words file.now) }
     ensures name { is_pathname file.now.name ≡ true }
 {
@@ -58,7 +59,7 @@ fn encode_file(file: &FileData, out: &mut [u8]) -> usize
 
 /// Writes the two words of a RAMFetch or RAMTransmit, and answers their length.
 fn encode_pair(buffer: u32, n: u32, out: &mut [u8]) -> usize
-    requires { length out.old ≡ MOST_LENGTH }
+    requires { length out.old ≡ LONGEST_MESSAGE }
     ensures bytes { out.new ≡ put out.old DATA (words (buffer ∷ n ∷ [])) }
     ensures length { result ≡ RAM_LENGTH }
 {
@@ -68,10 +69,10 @@ fn encode_pair(buffer: u32, n: u32, out: &mut [u8]) -> usize
 
 /// Writes action and data from offset 16 on, and answers their length.
 fn encode_body(body: &Body, out: &mut [u8]) -> usize
-    requires { length out.old ≡ MOST_LENGTH }
+    requires { length out.old ≡ LONGEST_MESSAGE }
     ensures bytes { out.new ≡ put out.old ACTION (body_bytes body.now) }
     ensures length { result ≡ length (body_bytes body.now) }
-    ensures short { ACTION + result ≤ MOST_LENGTH }
+    ensures short { ACTION + result ≤ LONGEST_MESSAGE }
     ensures numbers { AreWords (data_words body.now) }
     ensures name { HasName body.now }
 {
@@ -89,7 +90,7 @@ fn encode_body(body: &Body, out: &mut [u8]) -> usize
 /// The length of what is said of a file.
 fn file_length(file: &FileData) -> usize
     ensures length { result ≡ FILE_LENGTH + length (name_bytes file.now.name) }
-    ensures short { DATA + result ≤ MOST_LENGTH }
+    ensures short { DATA + result ≤ LONGEST_MESSAGE }
 {
     FILE_LENGTH + name_room(file.name.as_bytes())
 }
@@ -97,7 +98,7 @@ fn file_length(file: &FileData) -> usize
 /// The length of action and data.
 pub fn body_length(body: &Body) -> usize
     ensures length { result ≡ length (body_bytes body.now) }
-    ensures short { ACTION + result ≤ MOST_LENGTH }
+    ensures short { ACTION + result ≤ LONGEST_MESSAGE }
 {
     WORD + match body {
         Body::DataSave(file) => file_length(file),
@@ -111,10 +112,10 @@ pub fn body_length(body: &Body) -> usize
 
 /// Writes a message block, and answers its length.
 fn encode_parts(from: u32, my_ref: u32, your_ref: u32, body: &Body, out: &mut [u8]) -> usize
-    requires { length out.old ≡ MOST_LENGTH }
+    requires { length out.old ≡ LONGEST_MESSAGE }
     ensures length { result ≡ ACTION + length (body_bytes body.now) }
     ensures bytes { out.new ≡ put out.old 0 (encoded (record { from = from; my_ref = my_ref; your_ref = your_ref; body = body.now })) }
-    ensures short { result ≤ MOST_LENGTH }
+    ensures short { result ≤ LONGEST_MESSAGE }
     ensures fits { Fits (record { from = from; my_ref = my_ref; your_ref = your_ref; body = body.now }) }
 {
     let length = ACTION + encode_body(body, out);
@@ -125,10 +126,10 @@ fn encode_parts(from: u32, my_ref: u32, your_ref: u32, body: &Body, out: &mut [u
 /// Writes a message block into the bytes that the longest one takes, and answers its length; the bytes beyond it stay as
 /// they were.
 pub(crate) fn encode_into(message: &Message, out: &mut [u8]) -> usize
-    requires { length out.old ≡ MOST_LENGTH }
+    requires { length out.old ≡ LONGEST_MESSAGE }
     ensures length { result ≡ encoded_length message.now }
     ensures bytes { out.new ≡ put out.old 0 (encoded message.now) }
-    ensures short { result ≤ MOST_LENGTH }
+    ensures short { result ≤ LONGEST_MESSAGE }
     ensures fits { Fits message.now }
 {
     encode_parts(
@@ -141,10 +142,10 @@ pub(crate) fn encode_into(message: &Message, out: &mut [u8]) -> usize
 }
 
 /// Writes a message block, and answers its length; the bytes beyond it stay as they were.
-pub fn encode(message: &Message, out: &mut [u8; MOST_LENGTH]) -> usize
+pub fn encode(message: &Message, out: &mut [u8; LONGEST_MESSAGE]) -> usize
     ensures length { result ≡ encoded_length message.now }
     ensures bytes { out.new ≡ put out.old 0 (encoded message.now) }
-    ensures short { result ≤ MOST_LENGTH }
+    ensures short { result ≤ LONGEST_MESSAGE }
     ensures fits { Fits message.now }
 {
     encode_into(message, out)

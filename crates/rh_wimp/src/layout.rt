@@ -1,9 +1,6 @@
 //! Where the words of a message stand, and how long messages are.
 
-use rh_defs::sizes::WORD;
-
-/// The most bytes of a message block.
-pub const MOST_LENGTH: usize = 256;
+use rh_defs::sizes::{LONGEST_MESSAGE, MESSAGE_NAME, WORD};
 
 /// The fewest bytes of a message block: its length, sender, refs and action.
 pub const LEAST_LENGTH: usize = 20;
@@ -30,7 +27,7 @@ pub const ACTION: usize = 16;
 pub const DATA: usize = 20;
 
 /// Where the name of a file begins.
-pub const NAME: usize = 44;
+pub const NAME: usize = MESSAGE_NAME;
 
 /// The bytes of what is said of a file, before its name.
 pub const FILE_LENGTH: usize = NAME - DATA;
@@ -48,4 +45,4 @@ pub const CODE: usize = 4;
 pub const MESSAGE: usize = 8;
 
 /// The most bytes of a message there.
-pub const MOST_PARCEL: usize = MESSAGE + MOST_LENGTH;
+pub const MOST_PARCEL: usize = MESSAGE + LONGEST_MESSAGE;

@@ -20,6 +20,4 @@ mod sending;
 pub use decoding::decode;
 pub use encoding::encode;
 pub use laws::{beside_law, codec_law, post_law};
-pub use layout::MOST_LENGTH;
-pub use listing::MessageItem;
-pub use queue::{MOST_MESSAGES, Queue};
+pub use queue::Queue;

@@ -1,55 +1,22 @@
 //! The live messages, all at once.
 ghost use Rattle.std.specs.Prelude.{◌≡◌, ◌+◌, ◌≤◌, ◌++◌, ℕ, List, Option, map, length, false, true};
+ghost use Rattle.rh_defs.specs.declared.sizes.TheConstants.{MOST_MESSAGES};
 ghost use Rattle.rh_defs.specs.Memory.{Memory};
 ghost use Rattle.rh_defs.specs.Messages.{Parcel};
 ghost use Rattle.rh_module.specs.Area.{IsModule, heap_in};
 ghost use Rattle.rh_wimp.specs.Calls.{Answers, IsQueue};
 ghost use Rattle.rh_wimp.specs.Chains.{Chain, Holds, Row, RowsLie, first_block, held_list};
 ghost use Rattle.rh_wimp.specs.Items.{LinksAt, held_items, item_of, message_items, waiting_items};
-ghost use Rattle.rh_wimp.specs.declared.queue.TheConstants.{MOST_MESSAGES};
 
 use crate::chain::Entry;
 use crate::layout::{ACTION, LINK, MESSAGE, MY_REF, SENDER};
-use crate::queue::{MOST_MESSAGES, Queue};
+use crate::queue::Queue;
 use crate::reading::code_in;
 use arrayvec::ArrayVec;
-use rh_defs::{Action, EventCode, Handle, Ref};
+use rh_defs::sizes::MOST_MESSAGES;
+use rh_defs::{Action, Handle, MessageItem, Ref};
 use rh_module::Module;
 use rh_store::Words;
-
-/// A live message as it is listed.
-#[derive(Clone, Copy, Debug, PartialEq, Eq)]
-pub struct MessageItem {
-    /// Where its block begins, in bytes from the module area's first one.
-    pub block: u32,
-    /// The task that it is for.
-    pub to: Handle,
-    /// The task that sent it.
-    pub from: Handle,
-    /// Its own ref.
-    pub my_ref: Ref,
-    /// What it asks for.
-    pub action: Action,
-    /// The event as which it is handed out.
-    pub code: EventCode,
-    /// Whether its task holds it; else it waits for a poll.
-    pub held: bool,
-}
-
-impl Default for MessageItem {
-    /// No message, as refs count up from 1.
-    fn default() -> MessageItem {
-        MessageItem {
-            block: 0,
-            to: Handle(0),
-            from: Handle(0),
-            my_ref: Ref(0),
-            action: Action::DataSave,
-            code: EventCode::User,
-            held: false,
-        }
-    }
-}
 
 impl Queue {
     /// Puts all live messages into a list, in place of what it held: those that wait, task by task in the order in

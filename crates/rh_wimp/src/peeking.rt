@@ -10,9 +10,10 @@ ghost use Rattle.rh_wimp.specs.Chains.{HasEntry, Holds};
 ghost use Rattle.rh_wimp.specs.Items.{with_message};
 
 use crate::chain::find;
-use crate::layout::{MESSAGE, MOST_LENGTH, SENDER};
+use crate::layout::{MESSAGE, SENDER};
 use crate::queue::Queue;
 use crate::reading::{code_in, copy_block};
+use rh_defs::sizes::LONGEST_MESSAGE;
 use rh_defs::{EventCode, Handle};
 use rh_module::Module;
 use rh_store::Words;
@@ -26,7 +27,7 @@ impl Queue {
         store: &S,
         rma: Module,
         handle: Handle,
-        block: &mut [u8; MOST_LENGTH],
+        block: &mut [u8; LONGEST_MESSAGE],
     ) -> Option<EventCode>
         requires queue { IsQueue (S.memory store.now) rma self.now }
         requires live { HasEntry handle self.now }

@@ -1,6 +1,7 @@
 //! Messages out of the queue, and those that come back.
 ghost use Rattle.std.specs.Prelude.{◌≡◌, ◌≢◌, ◌<◌, ◌∷◌, ℕ, Some, None, IfNone, IfSome, length};
 ghost use Rattle.std.specs.Option.{option_map};
+ghost use Rattle.rh_defs.specs.declared.sizes.TheConstants.{MOST_MESSAGES};
 ghost use Rattle.rh_defs.specs.Heap.{Heap};
 ghost use Rattle.rh_defs.specs.Memory.{OnlyArea};
 ghost use Rattle.rh_defs.specs.Messages.{Parcel};
@@ -8,7 +9,6 @@ ghost use Rattle.rh_defs.specs.Post.{Post, bounce_held, bounced, held_by, post_p
 ghost use Rattle.rh_module.specs.Area.{IsModule, heap_in};
 ghost use Rattle.rh_wimp.specs.Calls.{Answers, IsQueue, Leaves, handles_of};
 ghost use Rattle.rh_wimp.specs.Chains.{HasEntry, IsPost, LiftsFirst, MayBounce, SpellsPost, emptied_chains, entry_at, event_of, holding_chains};
-ghost use Rattle.rh_wimp.specs.declared.queue.TheConstants.{MOST_MESSAGES};
 
 use crate::chain::{Entry, append, find, shortened};
 use crate::layout::{CODE, LINK, MESSAGE, SENDER};

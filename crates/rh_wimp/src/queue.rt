@@ -1,5 +1,6 @@
 //! The queue of messages: a chain of blocks for each live task.
 ghost use Rattle.std.specs.Prelude.{◌≡◌, ◌<◌, ◌^◌, [], ◌∷◌, ◌++◌, IfOk, length};
+ghost use Rattle.rh_defs.specs.declared.sizes.TheConstants.{MAX_TASKS};
 ghost use Rattle.rh_defs.specs.Heap.{Heap};
 ghost use Rattle.rh_defs.specs.Memory.{Memory};
 ghost use Rattle.rh_defs.specs.Post.{Post, post_join};
@@ -14,13 +15,10 @@ use rh_defs::{Handle, Ref};
 use std::alloc::{AllocError, Global};
 use std::marker::Model;
 
-/// At most so many messages are live: queued, or held.
-pub const MOST_MESSAGES: usize = 256;
-
 /// For each live task a chain of messages in blocks of the module area, and the message that it holds.
 #[derive(Drop)]
 pub struct Queue {
-    /// The live handles in order, with room for 32.
+    /// The live handles in order, with room for all that can be.
     pub(crate) entries: Vec<Entry>,
     /// How many messages are live.
     pub(crate) live: usize,
@@ -41,7 +39,7 @@ impl Model for Queue {
 }
 
 impl Queue {
-    /// An empty queue whose first ref is 1, with room for 32 tasks. AllocError where memory is refused.
+    /// An empty queue whose first ref is 1, with room for all tasks. AllocError where memory is refused.
     pub fn new(alloc: Global) -> Result<Queue, AllocError>
         ensures value { IfOk result (λ queue. queue ≡ record { entries = []; live = 0; next_ref = 1 }) }
         ensures starts { IfOk result (λ queue. (m : Memory) (rma : Module) → IsModule m rma → IsQueue m rma queue) }
@@ -49,7 +47,7 @@ impl Queue {
         Queue::with_next_ref(alloc, Ref(1))
     }
 
-    /// An empty queue whose first ref is this one, with room for 32 tasks. AllocError where memory is refused.
+    /// An empty queue whose first ref is this one, with room for all tasks. AllocError where memory is refused.
     pub fn with_next_ref(alloc: Global, next_ref: Ref) -> Result<Queue, AllocError>
         ensures word { next_ref < 2 ^ 32 }
         ensures value { IfOk result (λ queue. queue ≡ record { entries = []; live = 0; next_ref = next_ref }) }
@@ -72,7 +70,7 @@ impl Queue {
 
     /// Makes a handle live.
     pub fn join(&mut self, handle: Handle)
-        requires few { length self.old.entries < 32 }
+        requires few { length self.old.entries < MAX_TASKS }
         requires new { ¬ HasEntry handle self.old }
         ensures entries { self.new ≡ joined handle self.old }
         ensures handles { handles_of self.new ≡ handles_of self.old ++ handle ∷ [] }

@@ -1,15 +1,16 @@
 //! Messages out of blocks.
 ghost use Rattle.std.specs.Prelude.{◌≡◌, ℕ, length};
+ghost use Rattle.rh_defs.specs.declared.sizes.TheConstants.{LONGEST_MESSAGE};
 ghost use Rattle.rh_defs.specs.Memory.{Memory};
 ghost use Rattle.rh_module.specs.Area.{IsModule};
 ghost use Rattle.rh_wimp.specs.Chains.{LiesAt};
 ghost use Rattle.rh_wimp.specs.Items.{LinksAt};
 ghost use Rattle.rh_defs.specs.Bytes.{put};
 ghost use Rattle.rh_defs.specs.Messages.{Parcel, encoded};
-ghost use Rattle.rh_wimp.specs.declared.layout.TheConstants.{MOST_LENGTH};
 
 use crate::decoding::decode;
-use crate::layout::{CODE, MESSAGE, MOST_LENGTH};
+use crate::layout::{CODE, MESSAGE};
+use rh_defs::sizes::LONGEST_MESSAGE;
 use rh_defs::{EventCode, Message};
 use rh_module::Module;
 use rh_store::Words;
@@ -17,7 +18,7 @@ use rh_store::Words;
 /// The message that lies in a block, by a buffer with room for it.
 fn read_into<S: Words>(store: &S, rma: Module, block: usize, buffer: &mut [u8]) -> Message
     requires module { IsModule (S.memory store.now) rma }
-    requires room { length buffer.old ≡ MOST_LENGTH }
+    requires room { length buffer.old ≡ LONGEST_MESSAGE }
     requires lies { (p : Parcel) × LiesAt (S.memory store.now) rma block p }
     ensures { (p : Parcel) → LiesAt (S.memory store.now) rma block p → result ≡ p.message }
 {
@@ -33,7 +34,7 @@ pub fn read_message<S: Words>(store: &S, rma: Module, block: usize) -> Message
     requires lies { (p : Parcel) × LiesAt (S.memory store.now) rma block p }
     ensures { (p : Parcel) → LiesAt (S.memory store.now) rma block p → result ≡ p.message }
 {
-    let mut buffer = [0u8; MOST_LENGTH];
+    let mut buffer = [0u8; LONGEST_MESSAGE];
     read_into(store, rma, block, &mut buffer)
 }
 
@@ -59,7 +60,7 @@ pub fn code_in<S: Words>(store: &S, rma: Module, block: usize) -> EventCode
 /// room for it.
 pub fn copy_block<S: Words>(store: &S, rma: Module, block: usize, to: &mut [u8])
     requires module { IsModule (S.memory store.now) rma }
-    requires room { length to.old ≡ MOST_LENGTH }
+    requires room { length to.old ≡ LONGEST_MESSAGE }
     requires lies { (link : ℕ) × ((p : Parcel) × LinksAt (S.memory store.now) rma block link p) }
     ensures { (link : ℕ) (p : Parcel) → LinksAt (S.memory store.now) rma block link p → to.new ≡ put to.old 0 (encoded p.message) }
 {

@@ -1,18 +1,19 @@
 //! Whether a message is in the queue.
 ghost use Rattle.std.specs.Prelude.{◌≡◌, ◌<◌, ◌≤◌, ◌^◌, ℕ, List, Option, length};
 ghost use Rattle.std.specs.List.{list_any};
+ghost use Rattle.rh_defs.specs.declared.sizes.TheConstants.{MOST_MESSAGES};
 ghost use Rattle.rh_defs.specs.Messages.{Parcel};
 ghost use Rattle.rh_defs.specs.Post.{holds_such, post_is_live, post_is_message};
 ghost use Rattle.rh_module.specs.Area.{IsModule, heap_in};
 ghost use Rattle.rh_wimp.specs.Calls.{Answers, IsQueue};
 ghost use Rattle.rh_wimp.specs.Chains.{Chain, Holds, Lies, Row, RowLies, RowsLie, first_block, row_parcels};
 ghost use Rattle.rh_wimp.specs.Searches.{AreShort, rows_have, wants};
-ghost use Rattle.rh_wimp.specs.declared.queue.TheConstants.{MOST_MESSAGES};
 
 use crate::chain::Entry;
 use crate::layout::{LINK, MESSAGE, MY_REF};
-use crate::queue::{MOST_MESSAGES, Queue};
+use crate::queue::Queue;
 use rh_defs::Ref;
+use rh_defs::sizes::MOST_MESSAGES;
 use rh_module::Module;
 use rh_store::Words;
 

@@ -12,7 +12,8 @@ use crate::chain::{Entry, append, find};
 use crate::encoding::body_length;
 use crate::layout::{ACTION, MESSAGE};
 use crate::placing::{holds_ref, place, put_down};
-use crate::queue::{MOST_MESSAGES, Queue};
+use crate::queue::Queue;
+use rh_defs::sizes::MOST_MESSAGES;
 use rh_defs::{Handle, Letter, Message, Ref, Refusal};
 use rh_module::Module;
 use rh_store::{Pages, Words};
@@ -35,7 +36,7 @@ impl Queue {
 
     /// Sends a letter: it gets the next ref, and goes to the end of its recipient's chain. Where it answers the message
     /// that the sender holds, that one's block is freed. Refused, and nothing changed: `NoTask` where the recipient
-    /// isn't live, `NoRefs` where all refs were given, `QueueFull` where 256 messages are live, `NoRoom` where the
+    /// isn't live, `NoRefs` where all refs were given, `QueueFull` where as many as can be are live, `NoRoom` where the
     /// module area can't grow.
     pub fn send<S: Pages>(
         &mut self,

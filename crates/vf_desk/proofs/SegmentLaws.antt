@@ -5,6 +5,7 @@ use Rattle.std.proofs.lemmas.List.{take-append-drop}
 use Rattle.std.specs.Option.{option_map}
 use borrow.Author.Tests.{tests}
 use Rattle.rh_console.specs.Console.{filled}
+use Rattle.rh_defs.specs.declared.sizes.TheConstants.{SEGMENTS_AT_ONCE}
 use Rattle.rh_defs.specs.declared.listing.SegmentItem.{SegmentItem}
 use Rattle.rh_defs.specs.declared.refusal.Refusal.TheVariants.{NoName}
 use Rattle.rh_defs.specs.declared.reply.Reply.TheVariants as reply
@@ -123,11 +124,11 @@ module _ (h : Heap) (place count : ℕ) (old now : List VfSegment) (is : IsHeap 
   all-sized : AllSized w.before × AllSized w.after
   all-sized = sized-parts w.before w.after (let P : List Segment → Type 0 = AllSized in subst P (sym w.whole) (sized false h.segments is.tidy))
 
-  there : (items : List SegmentItem) → items ≡ segment_items_at place h → items ≡ segment_items_from (heap_start + place) (take 64 w.after)
+  there : (items : List SegmentItem) → items ≡ segment_items_at place h → items ≡ segment_items_from (heap_start + place) (take SEGMENTS_AT_ONCE w.after)
   there items e =
       let after : from_cut (segment_at place h) ≡ w.after =
       ap (λ gs. from_cut (first_at size_of (λ q g. place == q) first_place gs)) (sym w.whole) ∙ at-place first_place place w.before w.after all-sized.0 w.stands in
-      e ∙ (ap (λ gs. take 64 (segment_items_from (heap_start + place) gs)) after ∙ items-taken 64 (heap_start + place) w.after)
+      e ∙ (ap (λ gs. take SEGMENTS_AT_ONCE (segment_items_from (heap_start + place) gs)) after ∙ items-taken SEGMENTS_AT_ONCE (heap_start + place) w.after)
 
   -- there are no more than the heap has bytes
   pub walked-few : count ≤ h.end
@@ -141,21 +142,21 @@ module _ (h : Heap) (place count : ℕ) (old now : List VfSegment) (is : IsHeap 
     pub within : item_end last ≤ h.end + heap_start
 
   module _ (items : List SegmentItem) (last : SegmentItem) (e : items ≡ segment_items_at place h) (l : Some last ≡ slice_get items (length items - 1)) where
-    last-here : Some last ≡ slice_get (segment_items_from (heap_start + place) (take 64 w.after)) (length (segment_items_from (heap_start + place) (take 64 w.after)) - 1)
+    last-here : Some last ≡ slice_get (segment_items_from (heap_start + place) (take SEGMENTS_AT_ONCE w.after)) (length (segment_items_from (heap_start + place) (take SEGMENTS_AT_ONCE w.after)) - 1)
     last-here = l ∙ ap (λ xs. slice_get xs (length xs - 1)) (there items e)
 
-    parts-sized : AllSized (take 64 w.after) × AllSized (drop 64 w.after)
+    parts-sized : AllSized (take SEGMENTS_AT_ONCE w.after) × AllSized (drop SEGMENTS_AT_ONCE w.after)
     parts-sized =
-        sized-parts (take 64 w.after) (drop 64 w.after) (let P : List Segment → Type 0 = AllSized in subst P (sym (take-append-drop 64 w.after)) all-sized.1)
+        sized-parts (take SEGMENTS_AT_ONCE w.after) (drop SEGMENTS_AT_ONCE w.after) (let P : List Segment → Type 0 = AllSized in subst P (sym (take-append-drop SEGMENTS_AT_ONCE w.after)) all-sized.1)
 
     pub batch-ends : Ends last
     batch-ends =
-        let front = take 64 w.after in
-        let back = drop 64 w.after in
+        let front = take SEGMENTS_AT_ONCE w.after in
+        let back = drop SEGMENTS_AT_ONCE w.after in
         let ends = last-ends (heap_start + place) front last parts-sized.0 last-here in
         let sum1 : total size_of (w.before ++ w.after) ≡ total size_of h.segments = ap (total size_of) w.whole in
         let sum2 = total-append size_of w.before w.after in
-        let sum3 : total size_of (front ++ back) ≡ total size_of w.after = ap (total size_of) (take-append-drop 64 w.after) in
+        let sum3 : total size_of (front ++ back) ≡ total size_of w.after = ap (total size_of) (take-append-drop SEGMENTS_AT_ONCE w.after) in
         let sum4 = total-append size_of front back in
         record { low = omega (arith, ends); within = omega (arith, ends, sum1, sum2, sum3, sum4, w.stands, is.fits) }
 
@@ -163,8 +164,8 @@ module _ (h : Heap) (place count : ℕ) (old now : List VfSegment) (is : IsHeap 
     pub batch-more : (next : ℕ) (later : List VfSegment) → next + heap_start ≡ item_end last → later ≡ filled_from count (map segment_of items) now
         → Walked h.segments next (count + length items) old later
     batch-more next later q puts =
-        let front = take 64 w.after in
-        let back = drop 64 w.after in
+        let front = take SEGMENTS_AT_ONCE w.after in
+        let back = drop SEGMENTS_AT_ONCE w.after in
         let these : items ≡ segment_items_from (heap_start + place) front = there items e in
         let ends = last-ends (heap_start + place) front last parts-sized.0 last-here in
         let place_is : heap_start + first_place + total size_of w.before ≡ heap_start + place = omega (arith, w.stands) in
@@ -178,14 +179,14 @@ module _ (h : Heap) (place count : ℕ) (old now : List VfSegment) (is : IsHeap 
         record {
           before = w.before ++ front;
           after = back;
-          whole = append_assoc w.before front back ∙ (ap (λ gs. w.before ++ gs) (take-append-drop 64 w.after) ∙ w.whole);
+          whole = append_assoc w.before front back ∙ (ap (λ gs. w.before ++ gs) (take-append-drop SEGMENTS_AT_ONCE w.after) ∙ w.whole);
           stands = omega (arith, ends, q, w.stands, total-append size_of w.before front);
           counted = omega (arith, w.counted, many, length-append w.before front);
           filled_is = puts ∙ ap (λ n. filled_from n (map segment_of items) now) (sym long) ∙ ap (filled_from (length (shown w.before)) (map segment_of items)) w.filled_is
               ∙ filled-behind (shown w.before) (map segment_of items) old ∙ ap (λ l. filled l old) (sym more);
         }
 
-  all-walked : (p : ℕ) (before after : List Segment) → before ++ after ≡ h.segments → [] ≡ segment_items_from p (take 64 after) → before ≡ h.segments
+  all-walked : (p : ℕ) (before after : List Segment) → before ++ after ≡ h.segments → [] ≡ segment_items_from p (take SEGMENTS_AT_ONCE after) → before ≡ h.segments
   all-walked p before [] whole none = sym (append-nil before) ∙ whole
   all-walked p before (g ∷ rest) whole none = absurd (cc)
 

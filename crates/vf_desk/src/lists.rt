@@ -1,6 +1,7 @@
 //! Lists that a question is answered with, put into slices: as many items as there is room for.
 ghost use Rattle.std.specs.Prelude.{◌≡◌, ◌+◌, ◌≤◌, ◌<◌, ◌^◌, ◌∷◌, [], length, map};
 ghost use Rattle.rh_console.specs.Console.{filled};
+ghost use Rattle.rh_defs.specs.Slot.{anchor_count};
 ghost use Rattle.rh_defs.specs.Listing.{area_items};
 ghost use Rattle.rh_defs.specs.Questions.{blocks as blocks_on, heap as heap_on, show as show_on, status as status_on};
 ghost use Rattle.rh_defs.specs.declared.sizes.TheConstants.{C_HEAP_START};
@@ -13,9 +14,8 @@ ghost use Rattle.vf_desk.specs.Lists.{filled_from};
 use crate::items::{Listed, VfArea, VfBlock, VfRecord, VfSegment, listed_area};
 use arrayvec::ArrayVec;
 use rh_console::PagedWorld;
-use rh_defs::sizes::{C_HEAP_START, HEAP_FIRST};
+use rh_defs::sizes::{C_HEAP_START, HEAP_FIRST, SEGMENTS_AT_ONCE};
 use rh_defs::{Anchor, Name, SegmentItem};
-use rh_heap::SEGMENTS_AT_ONCE;
 
 /// Puts items into a slice from an index on, as many as there is room for.
 fn fill<T, B: Listed<T>>(items: &[T], to: &mut [B], at: usize)
@@ -30,7 +30,7 @@ fn fill<T, B: Listed<T>>(items: &[T], to: &mut [B], at: usize)
 
 /// Puts the bytes of the task's block at the anchor into a slice.
 pub fn list_bytes(world: &PagedWorld, name: &Name, anchor: Anchor, to: &mut [u8])
-    requires { anchor < 64 }
+    requires { anchor < anchor_count }
     ensures { to.new ≡ filled (bytes_in (listed_with (show_on world.now.desk name.now anchor))) to.old }
 {
     let Ok(size) = world.show(name, anchor, 0, &mut []) else {

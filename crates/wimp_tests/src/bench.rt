@@ -11,10 +11,13 @@ ghost use Rattle.wimp_tests.specs.Runs.{Runs};
 use crate::lists::{Lists, Sent};
 use crate::same::same;
 use arrayvec::ArrayVec;
-use rh_defs::{Body, EventCode, FileData, Handle, Letter, Message, Pathname, Ref, Refusal};
+use rh_defs::sizes::LONGEST_MESSAGE;
+use rh_defs::{
+    Body, EventCode, FileData, Handle, Letter, Message, MessageItem, Pathname, Ref, Refusal,
+};
 use rh_module::Module;
 use rh_store::{Store, StoreFault};
-use rh_wimp::{MOST_LENGTH, MessageItem, Queue, decode};
+use rh_wimp::{Queue, decode};
 use std::alloc::{AllocError, Global};
 use std::process::Abort;
 use std::test::Fail;
@@ -216,7 +219,7 @@ impl<S: Store + Drop> Bench<S> {
         requires runs { Runs (S.memory self.now.store) self.now.rma self.now.queue self.now.lists.live.items }
         requires live { HasEntry task self.now.queue }
     {
-        let mut block = [0xff; MOST_LENGTH];
+        let mut block = [0xff; LONGEST_MESSAGE];
         let code = self
             .queue
             .peek(&self.store, self.rma, Handle(task), &mut block)?;

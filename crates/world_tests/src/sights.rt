@@ -4,14 +4,13 @@ use crate::calls::{fill, name, said, task};
 use crate::same::{is_true, same};
 use crate::stores::{paged_store, plain_store};
 use arrayvec::ArrayVec;
-use rh_defs::sizes::ANCHORS;
+use rh_defs::sizes::{ANCHORS, LONGEST_MESSAGE, MOST_MESSAGES};
 use rh_defs::{
-    Action, Anchor, BlockItem, Command, EventCode, Files, Handle, Leaf, Manner, Name, Ref, Refusal,
-    Reply, SegmentItem,
+    Action, Anchor, BlockItem, Command, EventCode, Files, Handle, Leaf, Manner, MessageItem, Name,
+    Ref, Refusal, Reply, SegmentItem,
 };
 use rh_store::Store;
 use rh_tasks::{MadeSight, World};
-use rh_wimp::{MOST_LENGTH, MOST_MESSAGES, MessageItem};
 use std::process::Abort;
 use std::test::Fail;
 
@@ -173,10 +172,10 @@ fn a_message_waits<R: Abort, S: Store>(rt: &R, world: &World<S>, a: &Name, b: &N
     let listed = messages_of(world);
     same(rt, listed.len(), 1);
     same(rt, listed.first().copied(), Some(item));
-    let mut block = [0xff; MOST_LENGTH];
+    let mut block = [0xff; LONGEST_MESSAGE];
     let none = world.next_message(a, &mut block);
     same(rt, none, Ok(None));
-    is_true(rt, block == [0xff; MOST_LENGTH]);
+    is_true(rt, block == [0xff; LONGEST_MESSAGE]);
     let code = world.next_message(b, &mut block);
     same(rt, code, Ok(Some(EventCode::Recorded)));
     let head = [48, 0, 0, 0, 1, 0, 0, 0, 1, 0, 0, 0, 0, 0, 0, 0, 1, 0, 0, 0];
@@ -197,7 +196,7 @@ fn the_answer_waits<R: Abort, S: Store>(rt: &R, world: &World<S>, a: &Name, nobo
     let told = listed.first().map(|m| (m.to, m.from, m.my_ref, m.action));
     let fetch = (Handle(1), Handle(2), Ref(2), Action::RamFetch);
     same(rt, told, Some(fetch));
-    let mut block = [0xff; MOST_LENGTH];
+    let mut block = [0xff; LONGEST_MESSAGE];
     let code = world.next_message(a, &mut block);
     same(rt, code, Ok(Some(EventCode::Recorded)));
     is_true(rt, block[..4] == [28, 0, 0, 0][..]);

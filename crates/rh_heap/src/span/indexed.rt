@@ -14,7 +14,7 @@ ghost use Rattle.rh_heap.specs.Starts.{LinkBelow, Noted};
 ghost use Rattle.rh_heap.specs.Ways.{Changed, NotChanged, WithBlock, Moved};
 ghost use Rattle.rh_defs.specs.declared.sizes.TheConstants.{HEAP_FREE, HEAP_UNIT, WORD};
 ghost use Rattle.rh_heap.specs.declared.layout.TheConstants.{BLOCK, HOLE_SIZE};
-ghost use Rattle.rh_store.specs.declared.starts.TheConstants.{HOLES, LINE_BYTES, USED};
+ghost use Rattle.rh_store.specs.declared.starts.TheConstants.{BITS, HOLES, LINE_BYTES, USED};
 
 use crate::layout::{BLOCK, HOLE_SIZE};
 use crate::span::Span;
@@ -71,7 +71,7 @@ fn link_before<S: Words>(store: &S, span: Span, starts: &[u64], place: usize) ->
     requires span { IsSpan (S.memory store.now) span }
     requires starts { IsIndex starts.now (heap_in (S.memory store.now) span) }
     requires multiple { place % HEAP_UNIT ≡ 0 }
-    requires within { 2 * (place / HEAP_UNIT / 64) + HOLES < length starts.now }
+    requires within { 2 * (place / HEAP_UNIT / BITS) + HOLES < length starts.now }
     ensures { LinkBelow starts.now place result }
 {
     let first = follow(store, span, HEAP_FREE);

@@ -8,13 +8,10 @@ use crate::span::Span;
 use crate::span::segments::find_segment;
 use crate::span::words::{follow, read};
 use arrayvec::ArrayVec;
-use rh_defs::sizes::HEAP_BASE;
+use rh_defs::sizes::{HEAP_BASE, SEGMENTS_AT_ONCE};
 use rh_store::Words;
 
-/// How many segments are listed at once.
-pub const SEGMENTS_AT_ONCE: usize = 64;
-
-/// Up to 64 segments in order of place, from the one that begins at `place` on; none where none begins there.
+/// As many segments as are told at a time in order of place, from the one that begins at `place` on; none where none begins there.
 pub fn segments_from<S: Words>(
     store: &S,
     span: Span,

@@ -4,7 +4,7 @@ ghost use Rattle.std.specs.Prelude.{◌≡◌, ℕ, ◌+◌, ◌*◌, ◌/◌, �
 ghost use Rattle.rh_store.specs.Starts.{bit};
 ghost use Rattle.rh_heap.specs.Starts.{Became, LastBit, LinkBelow};
 ghost use Rattle.rh_defs.specs.declared.sizes.TheConstants.{HEAP_UNIT};
-ghost use Rattle.rh_store.specs.declared.starts.TheConstants.{HOLES};
+ghost use Rattle.rh_store.specs.declared.starts.TheConstants.{BITS, HOLES};
 
 use rh_defs::sizes::{HEAP_FREE, HEAP_UNIT};
 use rh_store::{BITS, HOLES};
@@ -21,7 +21,7 @@ pub fn is_set(starts: &[u64], lane: usize, k: usize) -> bool
 /// Sets a bit of a lane.
 pub fn set(starts: &mut [u64], lane: usize, k: usize)
     requires lane { lane < 2 }
-    requires within { 2 * (k / 64) + lane < length starts.old }
+    requires within { 2 * (k / BITS) + lane < length starts.old }
     ensures bits { Became lane k 1 starts.old starts.new }
     ensures long { length starts.new ≡ length starts.old }
 {
@@ -44,7 +44,7 @@ pub fn clear(starts: &mut [u64], lane: usize, k: usize)
 /// Sets or clears a bit of a lane.
 pub fn put(starts: &mut [u64], lane: usize, k: usize, on: bool)
     requires lane { lane < 2 }
-    requires within { on ≡ true → 2 * (k / 64) + lane < length starts.old }
+    requires within { on ≡ true → 2 * (k / BITS) + lane < length starts.old }
     ensures bits { Became lane k (if on then 1 else 0) starts.old starts.new }
     ensures long { length starts.new ≡ length starts.old }
 {
@@ -58,7 +58,7 @@ pub fn put(starts: &mut [u64], lane: usize, k: usize, on: bool)
 /// The last set bit of a lane below `n`.
 pub fn last_below(starts: &[u64], lane: usize, n: usize) -> Option<usize>
     requires lane { lane < 2 }
-    requires within { 2 * (n / 64) + lane < length starts.now }
+    requires within { 2 * (n / BITS) + lane < length starts.now }
     ensures { MatchOption result ((j : ℕ) → j < n → bit lane starts.now j ≡ 0) (λ k. LastBit lane starts.now n k) }
 {
     let mut line = n / BITS;
@@ -78,7 +78,7 @@ pub fn last_below(starts: &[u64], lane: usize, n: usize) -> Option<usize>
 /// The last set bit of a lane at `n` or below it.
 pub fn last_up_to(starts: &[u64], lane: usize, n: usize) -> Option<usize>
     requires lane { lane < 2 }
-    requires within { 2 * (n / 64) + lane < length starts.now }
+    requires within { 2 * (n / BITS) + lane < length starts.now }
     ensures { MatchOption result ((j : ℕ) → j < n + 1 → bit lane starts.now j ≡ 0)
         (λ k. LastBit lane starts.now (n + 1) k) }
 {
@@ -91,7 +91,7 @@ pub fn last_up_to(starts: &[u64], lane: usize, n: usize) -> Option<usize>
 /// Where the last link below a place is: the last hole that begins there, or the descriptor's link where none does.
 pub fn link_below(starts: &[u64], place: usize) -> usize
     requires multiple { place % HEAP_UNIT ≡ 0 }
-    requires within { 2 * (place / HEAP_UNIT / 64) + HOLES < length starts.now }
+    requires within { 2 * (place / HEAP_UNIT / BITS) + HOLES < length starts.now }
     ensures { LinkBelow starts.now place result }
 {
     match last_below(starts, HOLES, place / HEAP_UNIT) {

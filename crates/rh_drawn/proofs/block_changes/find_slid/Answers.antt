@@ -3,6 +3,7 @@ use Rattle.std.specs.Prelude.{IfSome, ◌==◌}
 use Rattle.std.specs.List.{flat_map}
 use Rattle.std.proofs.lemmas.Grind.{flat_map-append}
 use Rattle.std.proofs.lemmas.List.{length-append, length-take, take_more}
+use Rattle.rh_defs.specs.Slot.{anchor_count}
 use Rattle.rh_defs.specs.declared.listing.BlockItem.{BlockItem}
 use Rattle.rh_figure.specs.Changes.{Slide, item_of, slide_of}
 use Rattle.rh_drawn.specs.Slides.{summary_of}
@@ -32,8 +33,8 @@ with_block-found-requires c =
     let before = c.args.kept.now.blocks in
     let i = c.loop-block.block-index in
     let bs = c.args.blocks.now in
-    let few : length (flat_map (of before) (take i bs)) < 64 = omega (arith, c.requires, c.loop-block-test.true, few-slides before (take i bs), length-take i bs) in
-    subst (λ o. IfSome o (λ slid. slid.count < 64)) (sym c.loop-block.invariant) (count-few 64 (flat_map (of before) (take i bs)) few)
+    let few : length (flat_map (of before) (take i bs)) < anchor_count = omega (arith, c.requires, c.loop-block-test.true, few-slides before (take i bs), length-take i bs) in
+    subst (λ o. IfSome o (λ slid. slid.count < anchor_count)) (sym c.loop-block.invariant) (count-few anchor_count (flat_map (of before) (take i bs)) few)
 
 pub loop-block-preserved : goal.loop-block-preserved
 loop-block-preserved c =

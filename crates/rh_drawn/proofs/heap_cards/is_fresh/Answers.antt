@@ -2,7 +2,7 @@ use Rattle.std.proofs.Common.{◌≡◌, ℕ, ◌-◌, Option, Some, None, ap, r
 use Rattle.std.specs.Prelude.{◌==◌, find}
 use Rattle.rh_defs.specs.Messages.{Parcel}
 use Rattle.rh_figure.specs.Scene.{Scene, message_in}
-use Rattle.rh_sight.specs.declared.sight.MessageItem.{MessageItem}
+use Rattle.rh_defs.specs.declared.listing.MessageItem.{MessageItem}
 use Rattle.rh_sight.specs.Messages.{lies_in, message_items}
 use Rattle.rh_sight.specs.Steps.{scene_at}
 use Rattle.rh_drawn.specs.Bands.{is_fresh_at, is_fresh_card, is_fresh_or_posted}

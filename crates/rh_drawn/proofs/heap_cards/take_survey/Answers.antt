@@ -6,6 +6,7 @@ use Rattle.rh_sight.proofs.Heaps.{comes-next, comes-parts, counted-all, counted-
 use Rattle.rh_drawn.specs.Bands.{IsSurvey, is_fresh_card, with_items}
 use Rattle.rh_drawn.proofs.HeapLemmas.{all-in-area, band-heap, from-first, if-heap, surveyed-all, surveyed-more}
 use Rattle.rh_drawn.proofs.heap_cards.take_survey.Goals as goal
+use Rattle.rh_defs.specs.declared.sizes.TheConstants.{SEGMENTS_AT_ONCE}
 
 pub segments-items-requires : goal.segments-items-requires
 segments-items-requires g c =
@@ -32,7 +33,7 @@ surveyed-survey-requires-clause-items g c =
     let b = c.args.band.now in
     let there = band-heap d b c.requires.band in
     let k = (c.places.invariant there.heap there.is).counted in
-    all-in-area b.heap c.places.place (take 64 k.left) _ (c.deref-in-Some.ensures.0 ∙ k.items_are)
+    all-in-area b.heap c.places.place (take SEGMENTS_AT_ONCE k.left) _ (c.deref-in-Some.ensures.0 ∙ k.items_are)
 
 pub place_behind-place-requires-clause-low : goal.place_behind-place-requires-clause-low
 place_behind-place-requires-clause-low g c =

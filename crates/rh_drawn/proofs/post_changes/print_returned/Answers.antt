@@ -8,7 +8,7 @@ use Rattle.rh_figure.specs.Changes.{returns_line}
 use Rattle.rh_figure.specs.Phrases.{Text, is_returned, task_name}
 use Rattle.rh_map.specs.Written.{shown_lines}
 use Rattle.rh_map.proofs.Left.{Left, left_breaks, left_less, left_none, left_whole}
-use Rattle.rh_sight.specs.declared.sight.MessageItem.{MessageItem}
+use Rattle.rh_defs.specs.declared.listing.MessageItem.{MessageItem}
 use Rattle.rh_sight.specs.Messages.{held_on, item_of, message_items, waiting_on}
 use Rattle.rh_drawn.specs.Parts.{indented}
 use Rattle.rh_drawn.specs.Returns.{return_lines}

@@ -1,13 +1,13 @@
 use Rattle.std.proofs.Common.{◌≡◌, ◌<◌, ◌≤◌, All, ◌++◌, length, map}
-use Rattle.rh_defs.specs.Line.{words_of}
+use Rattle.rh_defs.specs.Line.{longest_line, words_of}
 use Rattle.rh_lines.proofs.words.split.Given as goal
 
 -- the words found so far, and those of the rest
 abbrev pub invariant-pieces : goal.invariant-pieces
 invariant-pieces l = record {
   room : length l.found.items < 6;
-  few : length l.rest ≤ 1024;
-  short : All (λ w. length w.now ≤ 1024) l.found.items;
+  few : length l.rest ≤ longest_line;
+  short : All (λ w. length w.now ≤ longest_line) l.found.items;
   so_far : words_of l.fn.line ≡ map (λ w. w.now) l.found.items ++ words_of l.rest;
 }
 

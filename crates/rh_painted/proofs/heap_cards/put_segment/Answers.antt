@@ -4,7 +4,7 @@ use Rattle.rh_defs.specs.Messages.{Parcel}
 use Rattle.rh_defs.specs.Post.{post_is_message}
 use Rattle.rh_figure.specs.Scene.{live, message_in}
 use Rattle.rh_sight.specs.declared.sight.HeapOf.{HeapOf}
-use Rattle.rh_sight.specs.declared.sight.MessageItem.{MessageItem}
+use Rattle.rh_defs.specs.declared.listing.MessageItem.{MessageItem}
 use Rattle.rh_sight.specs.Messages.{held_on, lies_in, message_items, waiting_on}
 use Rattle.rh_sight.specs.Seen.{HasBlock, IsFree, heap_seen, heap_start_of}
 use Rattle.rh_sight.specs.Steps.{scene_at}

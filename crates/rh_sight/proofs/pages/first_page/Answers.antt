@@ -1,4 +1,6 @@
 use Rattle.std.proofs.Common.{◌≡◌, ◌∙◌, ◌+◌, ap, sym, arith, subst}
+use Rattle.rh_defs.specs.declared.sizes.TheConstants.{FIXED_AREAS}
+use Rattle.rh_defs.specs.Commands.{most_made}
 use Rattle.rh_defs.specs.Desk.{free_pages}
 use Rattle.rh_sight.specs.declared.sight.PagesOf.{PagesOf}
 use Rattle.rh_sight.specs.declared.sight.PagesOf.TheVariants as pages
@@ -9,15 +11,15 @@ use Rattle.rh_sight.proofs.pages.first_page.Goals as goal
 
 pub overflow_add-result-in-Made-2 : goal.overflow_add-result-in-Made-2
 overflow_add-result-in-Made-2 g c =
-    omega (arith, c.free_pages-free.ensures, c.fixed_before-in-Made.ensures, c.made_before.ensures, free-few c.spelled.ensures, fixed-room c.spelled.ensures 6 (omega arith), made-few c.spelled.ensures c.in-Made.i)
+    omega (arith, c.free_pages-free.ensures, c.fixed_before-in-Made.ensures, c.made_before.ensures, free-few c.spelled.ensures, fixed-room c.spelled.ensures FIXED_AREAS (omega arith), made-few c.spelled.ensures c.in-Made.i)
 
 pub overflow_add-result-in-Slot-2 : goal.overflow_add-result-in-Slot-2
 overflow_add-result-in-Slot-2 g c =
-    omega (arith, c.free_pages-free.ensures, c.fixed_before-in-Slot.ensures, c.made_before-in-Slot.ensures, free-few c.spelled.ensures, fixed-room c.spelled.ensures 6 (omega arith), made-few c.spelled.ensures 32)
+    omega (arith, c.free_pages-free.ensures, c.fixed_before-in-Slot.ensures, c.made_before-in-Slot.ensures, free-few c.spelled.ensures, fixed-room c.spelled.ensures FIXED_AREAS (omega arith), made-few c.spelled.ensures most_made)
 
 pub overflow_add-result-in-Slot-3 : goal.overflow_add-result-in-Slot-3
 overflow_add-result-in-Slot-3 g c =
-    omega (arith, c.free_pages-free.ensures, c.fixed_before-in-Slot.ensures, c.made_before-in-Slot.ensures, c.slots_before.ensures, free-few c.spelled.ensures, fixed-room c.spelled.ensures 6 (omega arith), made-few c.spelled.ensures 32, slots-few c.spelled.ensures c.in-Slot.i)
+    omega (arith, c.free_pages-free.ensures, c.fixed_before-in-Slot.ensures, c.made_before-in-Slot.ensures, c.slots_before.ensures, free-few c.spelled.ensures, fixed-room c.spelled.ensures FIXED_AREAS (omega arith), made-few c.spelled.ensures most_made, slots-few c.spelled.ensures c.in-Slot.i)
 
 pub returns-in-Fixed : goal.returns-in-Fixed
 returns-in-Fixed g c =

@@ -7,7 +7,7 @@ use Rattle.rh_figure.specs.declared.piece.Kind.{Kind}
 use Rattle.rh_figure.specs.declared.piece.Kind.TheVariants.{Posted}
 use Rattle.rh_figure.specs.Layout.{is_new_message, posted_or}
 use Rattle.rh_figure.specs.Scene.{Scene, message_in}
-use Rattle.rh_sight.specs.declared.sight.MessageItem.{MessageItem}
+use Rattle.rh_defs.specs.declared.listing.MessageItem.{MessageItem}
 use Rattle.rh_sight.specs.Messages.{lies_in}
 use Rattle.rh_sight.specs.Steps.{scene_at}
 use Rattle.rh_sight.proofs.Posts.{claimed-kind, claimed-new, posted-kind, posted-new, ref-in-block}

@@ -1,5 +1,6 @@
 use Rattle.std.proofs.Common.{◌≡◌, ◌≤◌, ◌+◌, ◌-◌, ◌*◌, ◌++◌, length, take}
 use Rattle.std.specs.Prelude.{IfSome}
+use Rattle.rh_defs.specs.declared.sizes.TheConstants.{SEGMENTS_AT_ONCE}
 use Rattle.rh_defs.specs.Heap.{first_place, place_after}
 use Rattle.rh_figure.specs.Layout.{segment_pieces}
 use Rattle.rh_sight.specs.Seen.{heap_seen, heap_start_of}
@@ -15,7 +16,7 @@ invariant-loop-turn g l =
       pieces : IfSome (heap_seen l.drawn.heap d) (λ h.
           l.pieces.items
           ≡ l.initial.pieces.items
-          ++ segment_pieces (legend_of (scene_at d l.step) l.drawn.heap l.drawn.handle) (heap_start_of l.drawn.heap - area_start_of l.drawn.heap + first_place) (take (64 * l._turn) h.segments));
-      place : IfSome (heap_seen l.drawn.heap d) (λ h. l.place ≡ place_after (take (64 * l._turn) h.segments));
-      few : length l.pieces.items ≤ length l.initial.pieces.items + 64 * l._turn;
+          ++ segment_pieces (legend_of (scene_at d l.step) l.drawn.heap l.drawn.handle) (heap_start_of l.drawn.heap - area_start_of l.drawn.heap + first_place) (take (SEGMENTS_AT_ONCE * l._turn) h.segments));
+      place : IfSome (heap_seen l.drawn.heap d) (λ h. l.place ≡ place_after (take (SEGMENTS_AT_ONCE * l._turn) h.segments));
+      few : length l.pieces.items ≤ length l.initial.pieces.items + SEGMENTS_AT_ONCE * l._turn;
     }

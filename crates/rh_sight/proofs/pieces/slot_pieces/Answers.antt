@@ -2,6 +2,7 @@ use Rattle.std.proofs.Common.{◌≡◌, ◌≤◌, ◌<◌, ◌∙◌, ◌+◌,
 use Rattle.std.specs.Prelude.{slice_get}
 use Rattle.std.specs.Option.{option_map}
 use Rattle.std.proofs.lemmas.List.{length-append}
+use Rattle.rh_defs.specs.SlotImage.{heap_place}
 use Rattle.rh_defs.specs.Pieces.{total}
 use Rattle.rh_defs.specs.Desk.{Task}
 use Rattle.rh_defs.specs.Heap.{Heap}
@@ -25,12 +26,12 @@ push_blocks-end-requires-clause-few g c =
     let t = r.0 in
     let legend = slot_legend (scene_at d c.args.step.now) c.args.task.now.handle in
     let heap = ap (option_map (λ (x : Task). x.slot.heap)) r.1 in
-    let joined = at-some (option_map (λ (x : Task). x.slot.heap) (slice_get d.tasks c.args.i)) (λ (h : Heap). c.push_heap.new.pieces.items ≡ c.push.new.self.items ++ heap_pieces legend 256 h) t.slot.heap heap c.push_heap.ensures in
+    let joined = at-some (option_map (λ (x : Task). x.slot.heap) (slice_get d.tasks c.args.i)) (λ (h : Heap). c.push_heap.new.pieces.items ≡ c.push.new.self.items ++ heap_pieces legend heap_place h) t.slot.heap heap c.push_heap.ensures in
     omega (
       arith,
       ap length joined,
-      length-append c.push.new.self.items (heap_pieces legend 256 t.slot.heap),
-      heap-few legend 256 t.slot.heap,
+      length-append c.push.new.self.items (heap_pieces legend heap_place t.slot.heap),
+      heap-few legend heap_place t.slot.heap,
       c.push.ensures.len,
       ap length c.clear.ensures,
       ap length r.3,
@@ -69,21 +70,21 @@ push-requires-2 g c =
     let x = scene_at d c.args.step.now in
     let legend = slot_legend x c.args.task.now.handle in
     let heap = ap (option_map (λ (x : Task). x.slot.heap)) r.1 in
-    let joined = at-some (option_map (λ (x : Task). x.slot.heap) (slice_get d.tasks c.args.i)) (λ (h : Heap). c.push_heap.new.pieces.items ≡ c.push.new.self.items ++ heap_pieces legend 256 h) t.slot.heap heap c.push_heap.ensures in
+    let joined = at-some (option_map (λ (x : Task). x.slot.heap) (slice_get d.tasks c.args.i)) (λ (h : Heap). c.push_heap.new.pieces.items ≡ c.push.new.self.items ++ heap_pieces legend heap_place h) t.slot.heap heap c.push_heap.ensures in
     let few : length c.push_blocks-end.new.pieces.items < 581 =
     omega (
       arith,
       ap length joined,
-      length-append c.push.new.self.items (heap_pieces legend 256 t.slot.heap),
-      heap-few legend 256 t.slot.heap,
+      length-append c.push.new.self.items (heap_pieces legend heap_place t.slot.heap),
+      heap-few legend heap_place t.slot.heap,
       c.push.ensures.len,
       ap length c.clear.ensures,
       ap length r.3,
       items-long (flex_start t.slot) t.slot.blocks,
       few-blocks t.slot.blocks (task-slot c.spelled.ensures c.args.i t r.1).anchors,
       ap length (c.push_blocks-end.ensures.pieces d),
-      length-append c.push_heap.new.pieces.items (item_pieces x c.args.task.now.handle (256 + c.args.task.now.heap_end) c.args.blocks.now),
-      items-few x c.args.task.now.handle (256 + c.args.task.now.heap_end) c.args.blocks.now,
+      length-append c.push_heap.new.pieces.items (item_pieces x c.args.task.now.handle (heap_place + c.args.task.now.heap_end) c.args.blocks.now),
+      items-few x c.args.task.now.handle (heap_place + c.args.task.now.heap_end) c.args.blocks.now,
     ) in
     (omega arith, few)
 
@@ -100,7 +101,7 @@ returns g c = λ t e.
     let blocks = subst B same r.3 in
     let handle = c.args.task.now.handle in
     let heap = ap (option_map (λ (x : Task). x.slot.heap)) e in
-    let joined = at-some (option_map (λ (x : Task). x.slot.heap) (slice_get d.tasks c.args.i)) (λ (h : Heap). c.push_heap.new.pieces.items ≡ c.push.new.self.items ++ heap_pieces (slot_legend x handle) 256 h) t.slot.heap heap c.push_heap.ensures in
+    let joined = at-some (option_map (λ (x : Task). x.slot.heap) (slice_get d.tasks c.args.i)) (λ (h : Heap). c.push_heap.new.pieces.items ≡ c.push.new.self.items ++ heap_pieces (slot_legend x handle) heap_place h) t.slot.heap heap c.push_heap.ensures in
     slot-whole x handle c.push_blocks-end.result c.args.task.now.heap_end c.args.task.now.pages t.slot c.args.blocks.now c.clear.new.self.items c.push.new.self.items
     c.push_heap.new.pieces.items c.push_blocks-end.new.pieces.items c.push-2.new.self.items c.plain.result c.plain-2.result c.clear.ensures c.plain.ensures c.push.ensures.items joined
     blocks seen.heap_end (c.push_blocks-end.ensures.pieces d) c.push_blocks-end.ensures.end seen.pages c.plain-2.ensures c.push-2.ensures.items

@@ -1,7 +1,7 @@
 use Rattle.std.proofs.Common.{◌≡◌, ◌<◌, ◌≤◌, ◌∙◌, ℕ, true, false, List, length, ap, sym, arith}
 use Rattle.std.specs.Str.{bytes_eq}
 use Rattle.std.proofs.lemmas.Option.{slice_get_within}
-use Rattle.rh_defs.specs.Desk.{has_name}
+use Rattle.rh_defs.specs.Desk.{has_name, most_tasks}
 use Rattle.rh_sight.proofs.Places.{find-here, find-none, find-on}
 use Rattle.rh_sight.proofs.tasks.task_named.Goals as goal
 
@@ -14,7 +14,7 @@ returns-then-eq-clause-some g c =
 pub overflow_add-i : goal.overflow_add-i
 overflow_add-i g c =
     let s = c.in-Some.ensures.some in
-    let few : length (g.S.Sight.desk c.args.sight.now).tasks ≤ 32 = c.in-Some.ensures.few in
+    let few : length (g.S.Sight.desk c.args.sight.now).tasks ≤ most_tasks = c.in-Some.ensures.few in
     omega (arith, few, slice_get_within (g.S.Sight.desk c.args.sight.now).tasks c.tasks.i s.0 s.1)
 
 pub tasks-smaller : goal.tasks-smaller

@@ -3,7 +3,7 @@ use Rattle.rh_defs.specs.Bytes.{part, put, SameIn}
 use Rattle.rh_defs.specs.Chain.{no_answer}
 use Rattle.rh_defs.specs.Memory.{Memory, OnlyArea, Edited, bytes}
 use Rattle.rh_defs.specs.Slot.{flex_weight}
-use Rattle.rh_defs.specs.SlotImage.{flex_place}
+use Rattle.rh_defs.specs.SlotImage.{flex_place, heap_place}
 use Rattle.rh_defs.proofs.BytesLaws.{length-part, SameOutside-self}
 use Rattle.rh_defs.proofs.MemoryLaws.{bytes-with_bytes}
 use Rattle.rh_defs.proofs.SlotLaws.{part_of, in_below, in_both}
@@ -64,7 +64,7 @@ returns g c =
     let weighs : c.flex_weight-2.result ≡ flex_weight (size + length xs) = c.flex_weight-2.ensures ∙ ap (λ i. flex_weight (size + i)) (sym lx) in
     let q = appended_pages _ s _ _ _ _ _ _ _ t.cut t.at c.requires.slot.spells.pages c.flex_weight.ensures weighs c.top_from.ensures in
     let edits = then_edited (then_edited r.only c.shift.ensures.only) c.write.ensures.only in
-    let stays : SameIn (bytes m id) (bytes (g.S.Words.memory c.write.new.store) id) 256 (flex_place s) =
+    let stays : SameIn (bytes m id) (bytes (g.S.Words.memory c.write.new.store) id) heap_place (flex_place s) =
     in_both (part_of r.same (omega arith) (omega (arith, c.requires.slot.spells.words.within)))
     (in_both (part_of c.shift.ensures.below (omega arith) (omega arith)) (in_below c.write.ensures.only.outside (omega arith))) in
     let src = source_stays _ _ _ _ _ _ _ edits stays c.requires.above c.requires.below in

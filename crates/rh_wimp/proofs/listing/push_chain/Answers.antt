@@ -1,4 +1,5 @@
 use Rattle.std.proofs.Common.{◌≡◌, ◌+◌, ◌≤◌, suc, List, length, refl, subst, arith}
+use Rattle.rh_defs.specs.Post.{most_messages}
 use Rattle.rh_defs.specs.Messages.{Parcel}
 use Rattle.rh_defs.proofs.BlockLaws.{has-less}
 use Rattle.rh_module.specs.Area.{heap_in}
@@ -16,7 +17,7 @@ returns-then-block-eq0 g c = λ ps e l few.
     walk-none (heap_in (g.S.Words.memory c.args.store.now) c.args.rma) c.loop-turn.block _ c.args.to ps c.args.items.now.items c.loop-turn.items.items (c.loop-turn.invariant ps e l few) c.if-block-eq0.true
 
 -- the message whose block is the next one
-here : (g : given.Over) (c : Else-block-eq0 g) (ps : List Parcel) → c.args.first ≡ first_block ps 0 → Chain (heap_in (g.S.Words.memory c.args.store.now) c.args.rma) ps 0 → length c.args.items.now.items + length ps ≤ 256
+here : (g : given.Over) (c : Else-block-eq0 g) (ps : List Parcel) → c.args.first ≡ first_block ps 0 → Chain (heap_in (g.S.Words.memory c.args.store.now) c.args.rma) ps 0 → length c.args.items.now.items + length ps ≤ most_messages
     → Meets (g.S.Words.memory c.args.store.now) c.args.rma c.loop-turn.block c.loop-turn._turn c.args.to ps c.args.items.now.items c.loop-turn.items.items
 here g c ps e l few =
     walk-some (g.S.Words.memory c.args.store.now) c.args.rma c.loop-turn.block c.loop-turn._turn c.args.to ps c.args.items.now.items c.loop-turn.items.items c.requires.module (g.met.S.Words.small c.args.store.now c.args.rma.area.0)

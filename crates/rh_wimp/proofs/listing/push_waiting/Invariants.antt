@@ -4,9 +4,10 @@ use Rattle.rh_wimp.specs.Chains.{Row, RowsLie}
 use Rattle.rh_wimp.specs.Items.{waiting_items}
 use Rattle.rh_wimp.proofs.ItemLaws.{Goes}
 use Rattle.rh_wimp.proofs.listing.push_waiting.Given as goal
+use Rattle.rh_defs.specs.Post.{most_messages}
 
 -- what is listed and what the rows left have are all that waits
 abbrev pub invariant-loop-entry : goal.invariant-loop-entry
 invariant-loop-entry g l =
-    (rows : List Row) → RowsLie (heap_in (g.S.Words.memory l.store) l.rma) l.entries.items rows → length l.initial.items.items + length (waiting_items rows) ≤ 256
+    (rows : List Row) → RowsLie (heap_in (g.S.Words.memory l.store) l.rma) l.entries.items rows → length l.initial.items.items + length (waiting_items rows) ≤ most_messages
     → Goes waiting_items l.entry-index rows l.initial.items.items l.items.items

@@ -1,6 +1,7 @@
 use Rattle.std.proofs.Common.{◌≡◌, ℕ, ◌+◌, length, length-append, length-drop, take, drop, replicate, ◌≤◌, ◌++◌, List, sym, ap, subst, ◌∙◌, arith}
 use Rattle.std.specs.Prelude.{Ok}
 use Rattle.std.proofs.lemmas.List.{append_assoc, length-take}
+use Rattle.rh_defs.specs.declared.sizes.TheConstants.{LONGEST_MESSAGE}
 use Rattle.rh_defs.specs.Module.{module_claim}
 use Rattle.rh_module.specs.Area.{heap_in}
 use Rattle.rh_defs.specs.Bytes.{word_bytes}
@@ -22,7 +23,7 @@ took g c = claimed (g.S.Words.memory c.args.store.now) (g.S.Words.memory c.claim
 pub write_bytes-requires-clause-block : goal.write_bytes-requires-clause-block
 write_bytes-requires-clause-block g c =
     let n : ℕ = 8 + c.encode_into-length.result in
-    let parcel : List ℕ = put_mid 8 256 c.put_word.new.out c.encode_into-length.new.out in
+    let parcel : List ℕ = put_mid 8 LONGEST_MESSAGE c.put_word.new.out c.encode_into-length.new.out in
     let l = length-take n parcel in
     has-less c.in_ok-block.block n (0 + length (take n parcel)) (heap_in (g.S.Words.memory c.claim.new.store) c.args.rma) (omega arith)
     (claimed-block (g.S.Words.memory c.args.store.now) (g.S.Words.memory c.claim.new.store) c.args.rma n c.in_ok-block.block (took g (goal.at.write_bytes-requires-clause-block g c).In_ok-block))
@@ -36,10 +37,10 @@ returns-clause-placed g c =
     let eight : length (take 8 c.put_word.new.out) ≡ 8 = ap length head ∙ omega (arith, length-word_bytes 0, length-word_bytes code, length-append (word_bytes 0) (word_bytes code)) in
     let p : List ℕ = c.put_word.new.out in
     let whole : length p ≡ 264 = ap length c.put_word.ensures ∙ length-put (replicate 264 0) 4 (word_bytes code) in
-    let room : n ≤ length (take 256 (drop 8 p)) = omega (arith, c.encode_into-length.ensures.short, length-take 256 (drop 8 p), length-drop 8 p) in
-    let parcel : List ℕ = take (8 + n) (put_mid 8 256 c.put_word.new.out c.encode_into-length.new.out) in
+    let room : n ≤ length (take LONGEST_MESSAGE (drop 8 p)) = omega (arith, c.encode_into-length.ensures.short, length-take LONGEST_MESSAGE (drop 8 p), length-drop 8 p) in
+    let parcel : List ℕ = take (8 + n) (put_mid 8 LONGEST_MESSAGE c.put_word.new.out c.encode_into-length.new.out) in
     let there : parcel ≡ word_bytes 0 ++ (word_bytes (code_number c.args.code) ++ encoded c.args.message.now) =
-    parcel_bytes (take 256 (drop 8 p)) _ _ c.args.message.now n c.encode_into-length.new.out eight c.encode_into-length.ensures.length room c.encode_into-length.ensures.bytes
+    parcel_bytes (take LONGEST_MESSAGE (drop 8 p)) _ _ c.args.message.now n c.encode_into-length.new.out eight c.encode_into-length.ensures.length room c.encode_into-length.ensures.bytes
     ∙ ap (λ h. h ++ encoded c.args.message.now) head
     ∙ append_assoc (word_bytes 0) (word_bytes code) (encoded c.args.message.now)
     ∙ ap (λ i. word_bytes 0 ++ (word_bytes i ++ encoded c.args.message.now)) c.number.ensures in

@@ -1,5 +1,6 @@
 use Rattle.std.proofs.Common.{◌≡◌, ℕ, ◌+◌, ◌≤◌, length, take, sym, ◌∙◌, arith}
 use Rattle.std.proofs.lemmas.List.{length-take}
+use Rattle.rh_defs.specs.declared.sizes.TheConstants.{LONGEST_MESSAGE}
 use Rattle.rh_defs.specs.Messages.{Parcel, encoded, encoded_length, padded}
 use Rattle.rh_defs.proofs.BlockLaws.{has-less}
 use Rattle.rh_defs.proofs.BlockCalls.{room_enough}
@@ -20,7 +21,7 @@ read_word-length-requires-clause-block g c =
 
 -- the length that is read
 measured : (g : given.Over) (c : After-read_word-length g) (link : ℕ) (p : Parcel) → LinksAt (g.S.Words.memory c.args.store.now) c.args.rma c.args.block link p
-    → (c.read_word-length.result ≡ encoded_length p.message) × (c.read_word-length.result ≤ 256)
+    → (c.read_word-length.result ≡ encoded_length p.message) × (c.read_word-length.result ≤ LONGEST_MESSAGE)
 measured g c link p w =
     let k = encoded-most p.message w.lies.fits.name in
     let most = k.1 in

@@ -2,6 +2,7 @@ use Rattle.std.proofs.Common.{◌≡◌, ℕ, ◌+◌, ◌≤◌, List, length, 
 use Rattle.std.proofs.lemmas.List.{length-take}
 use Rattle.std.specs.Prelude.{Some, Ok, Result}
 use Rattle.std.specs.Result.{IsOk}
+use Rattle.rh_defs.specs.declared.sizes.TheConstants.{LONGEST_MESSAGE}
 use Rattle.rh_defs.specs.Bytes.{part}
 use Rattle.rh_module.specs.Area.{heap_in}
 use Rattle.rh_defs.specs.Blocks.{block_bytes}
@@ -28,7 +29,7 @@ read_word-length-requires-clause-block g c =
 
 -- the length that is read
 measured : (g : given.Over) (c : After-read_word-length g) (p : Parcel) → LiesAt (g.S.Words.memory c.args.store.now) c.args.rma c.args.block p
-    → (c.read_word-length.result ≡ encoded_length p.message) × (c.read_word-length.result ≤ 256)
+    → (c.read_word-length.result ≡ encoded_length p.message) × (c.read_word-length.result ≤ LONGEST_MESSAGE)
 measured g c p w =
     let k = encoded-most p.message w.lies.fits.name in
     let most = k.1 in

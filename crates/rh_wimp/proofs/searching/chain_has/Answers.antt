@@ -1,4 +1,5 @@
 use Rattle.std.proofs.Common.{◌≡◌, ◌+◌, ◌≤◌, suc, List, length, refl, subst, arith}
+use Rattle.rh_defs.specs.Post.{most_messages}
 use Rattle.rh_defs.specs.Messages.{Parcel}
 use Rattle.rh_defs.proofs.BlockLaws.{has-less}
 use Rattle.rh_module.specs.Area.{heap_in}
@@ -16,7 +17,7 @@ pub returns-then-block-eq0 : goal.returns-then-block-eq0
 returns-then-block-eq0 g c = λ ps e l few. ahead-none (heap_in (g.S.Words.memory c.args.store.now) c.args.rma) c.loop-turn.block _ (wants c.args.wanted.now) ps (c.loop-turn.invariant ps e l few) c.if-block-eq0.true
 
 -- the message whose block is the next one
-here : (g : given.Over) (c : Else-block-eq0 g) (ps : List Parcel) → c.args.first ≡ first_block ps 0 → Chain (heap_in (g.S.Words.memory c.args.store.now) c.args.rma) ps 0 → length ps ≤ 256
+here : (g : given.Over) (c : Else-block-eq0 g) (ps : List Parcel) → c.args.first ≡ first_block ps 0 → Chain (heap_in (g.S.Words.memory c.args.store.now) c.args.rma) ps 0 → length ps ≤ most_messages
     → Here (g.S.Words.memory c.args.store.now) c.args.rma c.loop-turn.block c.loop-turn._turn (wants c.args.wanted.now) ps
 here g c ps e l few =
     ahead-some (g.S.Words.memory c.args.store.now) c.args.rma c.loop-turn.block c.loop-turn._turn (wants c.args.wanted.now) ps c.requires.module (g.met.S.Words.small c.args.store.now c.args.rma.area.0)

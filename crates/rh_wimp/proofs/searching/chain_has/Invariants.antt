@@ -1,4 +1,5 @@
 use Rattle.std.proofs.Common.{◌≡◌, ◌≤◌, List, length}
+use Rattle.rh_defs.specs.Post.{most_messages}
 use Rattle.rh_defs.specs.Messages.{Parcel}
 use Rattle.rh_module.specs.Area.{heap_in}
 use Rattle.rh_wimp.specs.Chains.{Chain, first_block}
@@ -9,5 +10,5 @@ use Rattle.rh_wimp.proofs.searching.chain_has.Given as goal
 -- what is left of the chain has the answer
 abbrev pub invariant-loop-turn : goal.invariant-loop-turn
 invariant-loop-turn g l =
-    (ps : List Parcel) → l.fn.first ≡ first_block ps 0 → Chain (heap_in (g.S.Words.memory l.store) l.rma) ps 0 → length ps ≤ 256
+    (ps : List Parcel) → l.fn.first ≡ first_block ps 0 → Chain (heap_in (g.S.Words.memory l.store) l.rma) ps 0 → length ps ≤ most_messages
     → Ahead (heap_in (g.S.Words.memory l.store) l.rma) l.block l._turn (wants l.wanted) ps

@@ -1,6 +1,7 @@
 use Rattle.std.proofs.Common.{◌-◌, ◌%◌, ◌∙◌, arith}
 use Rattle.rh_flex.proofs.Over.{lent_length, part_in}
 use Rattle.rh_flex.proofs.pages_mut.LentPagesMutPaged.rest_of_page.Goals as goal
+use Rattle.rh_defs.specs.declared.sizes.TheConstants.{PAGE}
 
 pub part_of-requires : goal.part_of-requires
 part_of-requires c =
@@ -9,5 +10,5 @@ part_of-requires c =
 pub returns : goal.returns
 returns c =
     let s = c.args.self.now in
-    c.part_of.ensures ∙ part_in s c.args._id.0 c.requires.opened c.args.at (4096 - c.args.at % 4096)
+    c.part_of.ensures ∙ part_in s c.args._id.0 c.requires.opened c.args.at (PAGE - c.args.at % PAGE)
     (omega (arith, lent_length s c.args._id.0 c.requires.opened, c.requires.within))

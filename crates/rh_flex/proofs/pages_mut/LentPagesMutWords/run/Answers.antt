@@ -1,4 +1,5 @@
 use Rattle.std.proofs.Common.{◌≡◌, ◌+◌, ◌-◌, ◌*◌, ◌≤◌, length, sym, ap, ◌∙◌, arith}
+use Rattle.rh_defs.specs.declared.sizes.TheConstants.{PAGE}
 use Rattle.rh_defs.specs.Bytes.{part}
 use Rattle.rh_defs.specs.Memory.{bytes}
 use Rattle.rh_defs.proofs.BytesLaws.{length-part}
@@ -18,7 +19,7 @@ pub returns-clause-bytes : goal.returns-clause-bytes
 returns-clause-bytes c =
     let s = c.args.self.now in
     let id = c.args._id.0 in
-    let n = 4096 * s.pages - c.args.at in
+    let n = PAGE * s.pages - c.args.at in
     let all : c.args.at + n ≤ length (bytes (memory_of s) id) =
     omega (arith, lent_length s id c.requires.opened, c.requires.within) in
     let long : length c.part_of.result.now ≡ n = ap length c.part_of.ensures ∙ length-part s.bytes.now c.args.at n in
@@ -28,6 +29,6 @@ returns-clause-bytes c =
 pub returns-clause-some : goal.returns-clause-some
 returns-clause-some c =
     let s = c.args.self.now in
-    let n = 4096 * s.pages - c.args.at in
+    let n = PAGE * s.pages - c.args.at in
     let long : length c.part_of.result.now ≡ n = ap length c.part_of.ensures ∙ length-part s.bytes.now c.args.at n in
     omega (arith, lent_length s c.args._id.0 c.requires.opened, c.requires.within, long)

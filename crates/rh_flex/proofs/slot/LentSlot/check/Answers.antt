@@ -2,6 +2,7 @@ use Rattle.std.proofs.Common.{◌≡◌, ◌≤◌, ◌*◌, true, length, sym, 
 use Rattle.std.proofs.lemmas.Bool.Decides.{nat_tests}
 use Rattle.std.proofs.lemmas.List.{length-take-le}
 use Rattle.std.proofs.lemmas.Result.{IfOk-weaker}
+use Rattle.rh_defs.specs.declared.sizes.TheConstants.{PAGE}
 use Rattle.rh_defs.specs.SlotImage.{slot_of}
 use Rattle.rh_flex.specs.Image.{pages_fault_of}
 use Rattle.rh_flex.specs.Slots.{bytes_of}
@@ -23,21 +24,21 @@ pub returns-clause-ok : goal.returns-clause-ok
 returns-clause-ok c =
     let b = c.args.bytes.now in
     let s = c.args.self in
-    let within : 4096 * s.pages ≤ length b = omega (arith, c.if-len-self.false) in
+    let within : PAGE * s.pages ≤ length b = omega (arith, c.if-len-self.false) in
     (λ t. short_from b s c.if-len-gt-MOST_LENT.false within (c.check.ensures.ok.0 t), λ short. c.check.ensures.ok.1 (short_back b s short))
 
 pub returns-clause-sums : goal.returns-clause-sums
 returns-clause-sums c =
     let b = c.args.bytes.now in
     let s = c.args.self in
-    let within : 4096 * s.pages ≤ length b = omega (arith, c.if-len-self.false) in
+    let within : PAGE * s.pages ≤ length b = omega (arith, c.if-len-self.false) in
     IfOk-weaker c.check.result _ _ (λ sums e.
-    e ∙ ap (λ n. slot_summary n (slot_of true (bytes_of b s))) (length-take-le (4096 * s.pages) b within) ∙ same_sums b s)
+    e ∙ ap (λ n. slot_summary n (slot_of true (bytes_of b s))) (length-take-le (PAGE * s.pages) b within) ∙ same_sums b s)
     c.check.ensures.sums
 
 pub returns-clause-fault : goal.returns-clause-fault
 returns-clause-fault c =
     let b = c.args.bytes.now in
     let s = c.args.self in
-    let within : 4096 * s.pages ≤ length b = omega (arith, c.if-len-self.false) in
+    let within : PAGE * s.pages ≤ length b = omega (arith, c.if-len-self.false) in
     c.check.ensures.fault ∙ fault_inside b s c.if-len-gt-MOST_LENT.false within

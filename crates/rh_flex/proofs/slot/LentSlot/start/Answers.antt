@@ -1,6 +1,7 @@
 -- The first page is zeroed, and given an empty heap.
 use Rattle.std.proofs.Common.{rules, ◌≡◌, ℕ, true, length, ap, arith}
 use Rattle.std.proofs.lemmas.List.{length-replicate}
+use Rattle.rh_defs.specs.declared.sizes.TheConstants.{PAGE}
 use Rattle.rh_defs.specs.Memory.{area_set, bytes}
 use Rattle.rh_defs.specs.Slot.{new_slot}
 use Rattle.rh_flex.specs.Pages.{memory_of, memory_over}
@@ -22,7 +23,7 @@ unfolding memory_of memory_over bytes area_set
 init-requires-clause-within c =
     let some = c.if-bytes-lt-PAGE.false in
     let page = page_of_zeros c.args.bytes.now c.zero_in.new.b (omega arith) c.zero_in.ensures in
-    omega (arith, ap length page, length-replicate {A = ℕ} 4096 0)
+    omega (arith, ap length page, length-replicate {A = ℕ} PAGE 0)
 
 pub returns-clause-answer : goal.returns-clause-answer
 returns-clause-answer c = begin_done _ (λ z. let some = c.if-bytes-lt-PAGE.false in omega arith)

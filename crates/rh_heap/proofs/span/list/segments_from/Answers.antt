@@ -1,6 +1,6 @@
 use Rattle.std.proofs.Common.{ap, length, arith}
 use borrow.Author.Tests.{tests}
-use Rattle.rh_heap.specs.declared.span.list.TheConstants.{SEGMENTS_AT_ONCE}
+use Rattle.rh_defs.specs.declared.sizes.TheConstants.{SEGMENTS_AT_ONCE}
 use Rattle.rh_heap.proofs.ListLaws.{lists_start, turn, lists_full, lists_all}
 use Rattle.rh_heap.proofs.span.list.segments_from.Goals.{then-follow-place, else-follow-place}
 use Rattle.rh_heap.proofs.span.list.segments_from.Goals as goal

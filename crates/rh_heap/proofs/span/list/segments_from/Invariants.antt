@@ -4,7 +4,7 @@ use Rattle.rh_defs.specs.Heap.{segment_at}
 use Rattle.rh_heap.specs.Spans.{heap_in}
 use Rattle.rh_heap.specs.Image.{listed}
 use Rattle.rh_heap.specs.Listed.{from_cut, HasListed}
-use Rattle.rh_heap.specs.declared.span.list.TheConstants.{SEGMENTS_AT_ONCE}
+use Rattle.rh_defs.specs.declared.sizes.TheConstants.{SEGMENTS_AT_ONCE}
 use Rattle.rh_heap.proofs.span.list.segments_from.Given as goal
 
 abbrev pub invariant-walk : goal.invariant-walk

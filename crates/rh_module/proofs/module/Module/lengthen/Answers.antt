@@ -2,6 +2,7 @@
 use Rattle.std.proofs.Common.{◌≡◌, ◌*◌, ◌≤◌, to_z, refl, subst, arith}
 use Rattle.std.specs.Int.{w32}
 use Rattle.std.specs.Prelude.{Ok}
+use Rattle.rh_defs.specs.declared.sizes.TheConstants.{PAGE}
 use Rattle.rh_defs.specs.Chain.{left_of, no_answer}
 use Rattle.rh_defs.specs.Heap.{extend, extended}
 use Rattle.rh_defs.proofs.HeapCalls.{extend-done}
@@ -13,15 +14,15 @@ use Rattle.rh_module.proofs.module.Module.lengthen.Goals.{After-span}
 use Rattle.rh_module.proofs.module.Module.lengthen.Given as given
 use Rattle.rh_store.specs.Limits.{pool_limit}
 
-may_move : (g : given.Over) (c : After-span g) → MayMove (g.S.Words.memory c.grow.new.self) c.args.self c.span.result (heap_in (g.S.Words.memory c.args.store.now) c.args.self) c.args.pages (to_z w32 (c.args.pages * 4096))
+may_move : (g : given.Over) (c : After-span g) → MayMove (g.S.Words.memory c.grow.new.self) c.args.self c.span.result (heap_in (g.S.Words.memory c.args.store.now) c.args.self) c.args.pages (to_z w32 (c.args.pages * PAGE))
 may_move g c =
     let few : c.args.pages ≤ pool_limit = omega (arith, c.in-Ok.ensures.room, g.met.S.Pages.few c.args.store.now, g.met.S.Pages.within c.args.store.now c.args.self.area.0) in
     grown_may_move (g.S.Words.memory c.args.store.now) (g.S.Words.memory c.grow.new.self) c.args.self c.span.result c.args.pages c.requires c.in-Ok.ensures.ok c.span.ensures few
 
 -- the end is moved up, so it is not refused
 moves : (g : given.Over) (c : After-span g)
-    → let h = spans.heap_in (g.S.Words.memory c.grow.new.self) c.span.result in let delta = to_z w32 (c.args.pages * 4096) in extend delta h ≡ Ok (extended delta h)
-moves g c = extend-done (to_z w32 (c.args.pages * 4096)) (spans.heap_in (g.S.Words.memory c.grow.new.self) c.span.result) (may_move g c).high
+    → let h = spans.heap_in (g.S.Words.memory c.grow.new.self) c.span.result in let delta = to_z w32 (c.args.pages * PAGE) in extend delta h ≡ Ok (extended delta h)
+moves g c = extend-done (to_z w32 (c.args.pages * PAGE)) (spans.heap_in (g.S.Words.memory c.grow.new.self) c.span.result) (may_move g c).high
 
 pub extend_heap-requires-clause-span : goal.extend_heap-requires-clause-span
 extend_heap-requires-clause-span g c = (may_move g c).there

@@ -1,6 +1,6 @@
 use Rattle.std.proofs.Common.{ℕ, ◌*◌, ◌∷◌, [], ◌++◌, List, length, set, replicate, refl, ap, ◌∙◌, arith}
 use Rattle.std.proofs.lemmas.List.{length-replicate, length_push}
-use Rattle.rh_defs.specs.declared.sizes.TheConstants.{MAX_AREAS}
+use Rattle.rh_defs.specs.declared.sizes.TheConstants.{MAX_AREAS, PAGE}
 use Rattle.rh_pages.specs.Paged.{memory_of}
 use Rattle.rh_pages.proofs.Regions.{zeroed}
 use Rattle.rh_pages.proofs.Seats.{area_index, list_read}
@@ -43,7 +43,7 @@ invariant_of-self c =
     record {
       few = s.few;
       kept = grown_kept s.region s.areas.items s.opened.items s.free s.pages MAX_AREAS s.kept id c.requires.opened c.pop-k.new.self k c.pop-k.ensures
-          c.zero.new.self (replicate 4096 0) (c.zero.ensures.after ∙ zeroed s.region (4096 * k) 4096 w) (length-replicate {A = ℕ} 4096 0) _ (ap (set s.areas.items id) e);
+          c.zero.new.self (replicate PAGE 0) (c.zero.ensures.after ∙ zeroed s.region (PAGE * k) PAGE w) (length-replicate {A = ℕ} PAGE 0) _ (ap (set s.areas.items id) e);
     }
 
 pub returns : goal.returns
@@ -53,4 +53,4 @@ returns c =
     let e = c.push.ensures ∙ ap (λ (l : List ℕ). l ++ k ∷ []) (list_read s id c.index_mut-list.result.now c.requires.opened c.index_mut-list.ensures.value) in
     let w = page_within s.region s.areas.items s.opened.items s.free s.pages MAX_AREAS s.kept id c.requires.opened c.pop-k.new.self k c.pop-k.ensures in
     grown_memory s.region s.areas.items s.opened.items s.free s.pages MAX_AREAS s.kept id c.requires.opened c.pop-k.new.self k c.pop-k.ensures
-    c.zero.new.self (replicate 4096 0) (c.zero.ensures.after ∙ zeroed s.region (4096 * k) 4096 w) (length-replicate {A = ℕ} 4096 0) _ (ap (set s.areas.items id) e) 1 refl refl
+    c.zero.new.self (replicate PAGE 0) (c.zero.ensures.after ∙ zeroed s.region (PAGE * k) PAGE w) (length-replicate {A = ℕ} PAGE 0) _ (ap (set s.areas.items id) e) 1 refl refl

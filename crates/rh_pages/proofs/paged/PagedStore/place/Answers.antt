@@ -2,6 +2,7 @@ use Rattle.std.proofs.Common.{◌*◌, length, get_or, ap, ◌∙◌, arith}
 use Rattle.rh_pages.specs.Paged.{place_of}
 use Rattle.rh_pages.proofs.Seats.{area_index, list_read, area_long, page_small, placed}
 use Rattle.rh_pages.proofs.paged.PagedStore.place.Goals as goal
+use Rattle.rh_defs.specs.declared.sizes.TheConstants.{PAGE}
 
 pub index-requires : goal.index-requires
 index-requires c = omega (arith, area_index c.args.self.now c.args.id.0 c.requires.opened)
@@ -21,7 +22,7 @@ pub returns-clause-value : goal.returns-clause-value
 unfolding place_of
 returns-clause-value c =
     let e = list_read c.args.self.now c.args.id.0 c.index.result.now c.requires.opened c.index.ensures in
-    ap (λ k. 4096 * k) (c.at.ensures ∙ ap (λ l. get_or l c.args.i 0) e)
+    ap (λ k. PAGE * k) (c.at.ensures ∙ ap (λ l. get_or l c.args.i 0) e)
 
 pub returns-clause-within : goal.returns-clause-within
 returns-clause-within c =

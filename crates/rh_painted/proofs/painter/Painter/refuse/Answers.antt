@@ -1,7 +1,19 @@
 use Rattle.std.proofs.Common.{refl, true}
+use Rattle.std.specs.Prelude.{None, Ok}
+use Rattle.rh_defs.specs.declared.reply.Reply.TheVariants.{Done}
 use Rattle.rh_defs.specs.Text.{fault_text}
 use Rattle.rh_painted.proofs.StepLemmas.{broke-fault, took-fault}
 use Rattle.rh_painted.proofs.painter.Painter.refuse.Goals as goal
+
+pub returns-then-not-shows_next-clause-ok : goal.returns-then-not-shows_next-clause-ok
+returns-then-not-shows_next-clause-ok g c =
+    let desk = g.D.Sight.desk in
+    let m = c.args.self.now in
+    let b = record m { has_bad_line = true } in
+    let o = g.W.Sink.output c.args.writer.now in
+    let line = c.args.line.now in
+    took-fault desk m b c.leave_out.new.self o o (Ok tt) line (record { marked = refl; progress = refl; notes = refl }) c.args.fault.now _ refl refl refl
+    (c.leave_out.ensures.left _ c.new-sender.ensures o line None Done (fault_text c.args.fault.now))
 
 pub returns-clause-ok : goal.returns-clause-ok
 returns-clause-ok g c =

@@ -1,4 +1,5 @@
 use Rattle.std.proofs.Common.{◌+◌, ◌*◌, refl, ap, ◌∙◌, arith}
+use Rattle.rh_defs.specs.declared.sizes.TheConstants.{PAGE}
 use Rattle.rh_defs.specs.Pieces.{pages_for}
 use Rattle.rh_slot.specs.Area.{slot_in}
 use Rattle.rh_slot.proofs.SpanLaws.{budging_same}
@@ -33,5 +34,5 @@ returns g c =
     c.write-3.ensures.word c.write-3.ensures.only.outside in
     leaves _ _ _ _ _ _ (alloc_done _ _ _ s (32768 + c.top-top.result + 8) c.in_default.ensures (has_room _ _ _ c.in-Ok.ensures.refused (λ e. false-true e) q) (omega (arith, c.top-top.ensures)))
     (budging_same (g.S.Words.memory c.args.store.now) c.args.self)
-    (paged _ _ _ a.0 a.1 (l3 ∙ l2 ∙ l1 ∙ l0 ∙ lr ∙ ap (λ i. 4096 * pages_for (c.top-top.result + i)) ew))
+    (paged _ _ _ a.0 a.1 (l3 ∙ l2 ∙ l1 ∙ l0 ∙ lr ∙ ap (λ i. PAGE * pages_for (c.top-top.result + i)) ew))
     (then_edited (then_edited (then_edited (then_edited r.only c.write.ensures.only) c.write-2.ensures.only) c.clear.ensures.only) c.write-3.ensures.only)

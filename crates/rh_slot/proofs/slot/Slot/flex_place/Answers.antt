@@ -1,5 +1,6 @@
 -- The blocks begin at the heap's end.
 use Rattle.std.proofs.Common.{◌≡◌, ◌+◌, ◌∙◌, ap, arith}
+use Rattle.rh_defs.specs.SlotImage.{heap_place}
 use Rattle.rh_defs.specs.Heap.{Heap}
 use Rattle.rh_slot.specs.Area.{slot_in}
 use Rattle.rh_slot.proofs.SpanLaws.{is_span_at, heap_at}
@@ -15,4 +16,4 @@ overflow_add-result g c =
     omega (arith, g.met.S.Words.small c.args.store.now c.args.self.area.0)
 
 pub returns : goal.returns
-returns g c = ap (λ i. 256 + i) (c.end.ensures ∙ ap (λ (h : Heap). h.end) (heap_at _ c.args.self _ c.span.ensures))
+returns g c = ap (λ i. heap_place + i) (c.end.ensures ∙ ap (λ (h : Heap). h.end) (heap_at _ c.args.self _ c.span.ensures))

@@ -3,6 +3,7 @@ use Rattle.std.proofs.Common.{◌≡◌, ◌+◌, ◌-◌, ◌*◌, refl, subst,
 use Rattle.std.proofs.lemmas.Int.{to_z_pos}
 use Rattle.std.specs.Int.{w32}
 use Rattle.std.specs.Prelude.{pos}
+use Rattle.rh_defs.specs.declared.sizes.TheConstants.{PAGE}
 use Rattle.rh_defs.specs.Heap.{raised}
 use Rattle.rh_defs.specs.Chain.{left_of, no_answer}
 use Rattle.rh_defs.proofs.HeapCalls.{extend-done}
@@ -30,7 +31,7 @@ pub extend_heap-requires-clause-multiple : goal.extend_heap-requires-clause-mult
 extend_heap-requires-clause-multiple g c =
     let s = slid (g.S.Words.memory c.args.store.now) _ _ c.args.self _ _ _ _ c.requires.slot.spells c.in-Ok.ensures.ok c.shift.ensures.only.opened c.shift.ensures.below c.shift.ensures.only.outside.len
     c.flex_place-from.ensures c.top-top.ensures c.span.ensures in
-    let d : to_z w32 (c.pages_for-more.result * 4096) ≡ pos (c.pages_for-more.result * 4096) = to_z_pos w32 (c.pages_for-more.result * 4096) (let r = c.in-Ok.ensures.ok in let l = r.len in omega (arith, g.met.S.Words.small c.grow_to.new.store c.args.self.area.0)) in
+    let d : to_z w32 (c.pages_for-more.result * PAGE) ≡ pos (c.pages_for-more.result * PAGE) = to_z_pos w32 (c.pages_for-more.result * PAGE) (let r = c.in-Ok.ensures.ok in let l = r.len in omega (arith, g.met.S.Words.small c.grow_to.new.store c.args.self.area.0)) in
     let m = c.requires.slot.spells.words.heap.heap.multiple in
     rw (s.heap, d) (omega arith)
 
@@ -38,16 +39,16 @@ pub extend_heap-requires-clause-within : goal.extend_heap-requires-clause-within
 extend_heap-requires-clause-within g c =
     let s = slid (g.S.Words.memory c.args.store.now) _ _ c.args.self _ _ _ _ c.requires.slot.spells c.in-Ok.ensures.ok c.shift.ensures.only.opened c.shift.ensures.below c.shift.ensures.only.outside.len
     c.flex_place-from.ensures c.top-top.ensures c.span.ensures in
-    let d : to_z w32 (c.pages_for-more.result * 4096) ≡ pos (c.pages_for-more.result * 4096) = to_z_pos w32 (c.pages_for-more.result * 4096) (let r = c.in-Ok.ensures.ok in let l = r.len in omega (arith, g.met.S.Words.small c.grow_to.new.store c.args.self.area.0)) in
+    let d : to_z w32 (c.pages_for-more.result * PAGE) ≡ pos (c.pages_for-more.result * PAGE) = to_z_pos w32 (c.pages_for-more.result * PAGE) (let r = c.in-Ok.ensures.ok in let l = r.len in omega (arith, g.met.S.Words.small c.grow_to.new.store c.args.self.area.0)) in
     rw (s.heap, d) (let r = s.room in omega arith)
 
 pub unwrap-requires : goal.unwrap-requires
 unwrap-requires g c =
     let s = slot_in (g.S.Words.memory c.args.store.now) c.args.self in
-    let more = c.pages_for-more.result * 4096 in
+    let more = c.pages_for-more.result * PAGE in
     let sl = slid (g.S.Words.memory c.args.store.now) _ _ c.args.self _ _ _ _ c.requires.slot.spells c.in-Ok.ensures.ok c.shift.ensures.only.opened c.shift.ensures.below c.shift.ensures.only.outside.len
     c.flex_place-from.ensures c.top-top.ensures c.span.ensures in
-    let d : to_z w32 (c.pages_for-more.result * 4096) ≡ pos (c.pages_for-more.result * 4096) = to_z_pos w32 (c.pages_for-more.result * 4096) (let r = c.in-Ok.ensures.ok in let l = r.len in omega (arith, g.met.S.Words.small c.grow_to.new.store c.args.self.area.0)) in
+    let d : to_z w32 (c.pages_for-more.result * PAGE) ≡ pos (c.pages_for-more.result * PAGE) = to_z_pos w32 (c.pages_for-more.result * PAGE) (let r = c.in-Ok.ensures.ok in let l = r.len in omega (arith, g.met.S.Words.small c.grow_to.new.store c.args.self.area.0)) in
     let fits = c.requires.slot.spells.words.heap.heap.fits in
     let done = extend-done (to_z w32 more) (heap_in (g.S.Words.memory c.shift.new.store) c.span.result) (rw (sl.heap, d) (omega arith)) in
     rw (c.extend_heap.ensures.answer, done) refl
@@ -56,7 +57,7 @@ pub returns-clause-spells : goal.returns-clause-spells
 returns-clause-spells g c =
     let s = slot_in (g.S.Words.memory c.args.store.now) c.args.self in
     let from = c.flex_place-from.result in
-    let more = c.pages_for-more.result * 4096 in
+    let more = c.pages_for-more.result * PAGE in
     let n = c.top-top.result - from in
     let r = c.in-Ok.ensures.ok in
     let lb = c.requires.slot.spells.pages in
@@ -66,11 +67,11 @@ returns-clause-spells g c =
     let fits = c.requires.slot.spells.words.heap.heap.fits in
     let sl = slid (g.S.Words.memory c.args.store.now) _ _ c.args.self _ _ _ _ c.requires.slot.spells c.in-Ok.ensures.ok c.shift.ensures.only.opened c.shift.ensures.below c.shift.ensures.only.outside.len
     c.flex_place-from.ensures c.top-top.ensures c.span.ensures in
-    let d : to_z w32 (c.pages_for-more.result * 4096) ≡ pos (c.pages_for-more.result * 4096) = to_z_pos w32 (c.pages_for-more.result * 4096) (let r = c.in-Ok.ensures.ok in let l = r.len in omega (arith, g.met.S.Words.small c.grow_to.new.store c.args.self.area.0)) in
+    let d : to_z w32 (c.pages_for-more.result * PAGE) ≡ pos (c.pages_for-more.result * PAGE) = to_z_pos w32 (c.pages_for-more.result * PAGE) (let r = c.in-Ok.ensures.ok in let l = r.len in omega (arith, g.met.S.Words.small c.grow_to.new.store c.args.self.area.0)) in
     let h = heap_in (g.S.Words.memory c.shift.new.store) c.span.result in
     let done = extend-done (to_z w32 more) h (rw (sl.heap, d) (omega arith)) in
     let kept = subst (λ r. SpellsIn (g.S.Words.memory c.extend_heap.new.store) c.span.result (left_of h (no_answer r))) done c.extend_heap.ensures.spells in
-    let there = subst (λ h. SpellsIn (g.S.Words.memory c.extend_heap.new.store) c.span.result h) (raised_by c.args.shortage more (to_z w32 more) s.heap _ d (ap (λ k. k * 4096) c.pages_for-more.ensures) sl.heap) kept in
+    let there = subst (λ h. SpellsIn (g.S.Words.memory c.extend_heap.new.store) c.span.result h) (raised_by c.args.shortage more (to_z w32 more) s.heap _ d (ap (λ k. k * PAGE) c.pages_for-more.ensures) sl.heap) kept in
     let outside = rw (sl.heap, c.span.ensures) at c.extend_heap.ensures.only.outside in
     let words = budged _ _ _ s (raised c.args.shortage s.heap) more from (from + more) n _ (words_grown _ _ s c.requires.slot.spells r.same (omega arith)) ef refl (omega arith) (omega arith)
     c.shift.ensures.shifted c.shift.ensures.only.outside.len outside (omega arith) (rw c.span.ensures at there) (omega (arith, c.pages_for-more.ensures)) in

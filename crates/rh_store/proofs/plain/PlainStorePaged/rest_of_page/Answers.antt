@@ -1,4 +1,5 @@
 use Rattle.std.proofs.Common.{◌-◌, ◌%◌, length, sym, ap, ◌∙◌, arith}
+use Rattle.rh_defs.specs.declared.sizes.TheConstants.{PAGE}
 use Rattle.rh_defs.specs.Bytes.{part}
 use Rattle.rh_defs.specs.Memory.{bytes}
 use Rattle.rh_store.specs.Kept.{open_index}
@@ -19,4 +20,4 @@ pub returns : goal.returns
 unfolding bytes memory_of
 returns c =
     let s = c.args.self.now in
-    c.part_of.ensures ∙ ap (λ b. part b c.args.at (4096 - c.args.at % 4096)) (c.deref.ensures.value ∙ sym (open_read s.areas.items c.args.id.0 c.index.result.now c.requires.opened c.index.ensures).1)
+    c.part_of.ensures ∙ ap (λ b. part b c.args.at (PAGE - c.args.at % PAGE)) (c.deref.ensures.value ∙ sym (open_read s.areas.items c.args.id.0 c.index.result.now c.requires.opened c.index.ensures).1)

@@ -3,7 +3,7 @@ use Rattle.std.specs.Prelude.{Some}
 use Rattle.std.proofs.lemmas.List.{length-replicate}
 use Rattle.std.proofs.Math.ListN.{length-append}
 use Rattle.rh_defs.specs.Memory.{bytes}
-use Rattle.rh_defs.specs.declared.sizes.TheConstants.{MAX_AREAS}
+use Rattle.rh_defs.specs.declared.sizes.TheConstants.{MAX_AREAS, PAGE}
 use Rattle.rh_store.specs.Areas.{ChangedAt}
 use Rattle.rh_store.specs.Kept.{whole_areas, numbered_areas, within_pool}
 use Rattle.rh_store.specs.Plain.{memory_of}
@@ -30,7 +30,7 @@ pub invariant_of-self : goal.invariant_of-self
 unfolding bytes memory_of
 invariant_of-self c =
     let s = c.args.self.now in
-    let n = 4096 * c.args.pages in
+    let n = PAGE * c.args.pages in
     let old = bytes (memory_of s) c.args.id.0 in
     let more : c.len.result + n - length old ≡ n = omega (arith, c.len.ensures) in
     let set = subst (λ k. ChangedAt s.areas.items c.lengthen_at.new.areas.items c.args.id.0 (Some (old ++ replicate k 0))) more c.lengthen_at.ensures in
@@ -43,7 +43,7 @@ pub returns-clause-ok : goal.returns-clause-ok
 unfolding bytes memory_of
 returns-clause-ok c =
     let s = c.args.self.now in
-    let n = 4096 * c.args.pages in
+    let n = PAGE * c.args.pages in
     let old = bytes (memory_of s) c.args.id.0 in
     let more : c.len.result + n - length old ≡ n = omega (arith, c.len.ensures) in
     let set = subst (λ k. ChangedAt s.areas.items c.lengthen_at.new.areas.items c.args.id.0 (Some (old ++ replicate k 0))) more c.lengthen_at.ensures in

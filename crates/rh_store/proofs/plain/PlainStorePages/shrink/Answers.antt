@@ -2,7 +2,7 @@ use Rattle.std.proofs.Common.{◌+◌, ◌-◌, ◌*◌, length, take, subst, ar
 use Rattle.std.specs.Prelude.{Some}
 use Rattle.std.proofs.lemmas.List.{length-take-le}
 use Rattle.rh_defs.specs.Memory.{bytes}
-use Rattle.rh_defs.specs.declared.sizes.TheConstants.{MAX_AREAS}
+use Rattle.rh_defs.specs.declared.sizes.TheConstants.{MAX_AREAS, PAGE}
 use Rattle.rh_store.specs.Areas.{ChangedAt}
 use Rattle.rh_store.specs.Kept.{whole_areas, numbered_areas}
 use Rattle.rh_store.specs.Plain.{memory_of}
@@ -14,8 +14,8 @@ unfolding bytes memory_of
 invariant_of-self c =
     let s = c.args.self.now in
     let old = bytes (memory_of s) c.args.id.0 in
-    let n = length old - 4096 * c.args.pages in
-    let set = subst (λ k. ChangedAt s.areas.items c.shorten_at.new.areas.items c.args.id.0 (Some (take (k - 4096 * c.args.pages) old))) c.len.ensures c.shorten_at.ensures in
+    let n = length old - PAGE * c.args.pages in
+    let set = subst (λ k. ChangedAt s.areas.items c.shorten_at.new.areas.items c.args.id.0 (Some (take (k - PAGE * c.args.pages) old))) c.len.ensures c.shorten_at.ensures in
     let len = length-take-le n old (omega arith) in
     let whole = whole_areas s.areas.items s.free s.pages MAX_AREAS c.args.id.0 s.kept in
     let h = numbered_areas s.areas.items s.free s.pages MAX_AREAS c.args.id.0 s.kept c.requires.opened in
@@ -26,5 +26,5 @@ unfolding bytes memory_of
 returns c =
     let s = c.args.self.now in
     let old = bytes (memory_of s) c.args.id.0 in
-    let set = subst (λ k. ChangedAt s.areas.items c.shorten_at.new.areas.items c.args.id.0 (Some (take (k - 4096 * c.args.pages) old))) c.len.ensures c.shorten_at.ensures in
+    let set = subst (λ k. ChangedAt s.areas.items c.shorten_at.new.areas.items c.args.id.0 (Some (take (k - PAGE * c.args.pages) old))) c.len.ensures c.shorten_at.ensures in
     memory-shrunk s.areas.items _ c.args.id.0 c.args.pages s.free s.pages set

@@ -1,7 +1,7 @@
 use Rattle.std.proofs.Common.{◌≡◌, ◌<◌, ◌+◌, ◌/◌, List, ℕ, length, refl, sym, ap, subst, arith}
 use Rattle.std.specs.Prelude.{Option, Some, [], IsSome, IsNone, unwrap_or}
 use Rattle.rh_store.specs.declared.area.Area.{Area}
-use Rattle.rh_defs.specs.declared.sizes.TheConstants.{MAX_AREAS}
+use Rattle.rh_defs.specs.declared.sizes.TheConstants.{MAX_AREAS, PAGE}
 use Rattle.rh_store.specs.Areas.{contents}
 use Rattle.rh_store.specs.Plain.{memory_of}
 use Rattle.rh_defs.proofs.MemoryLaws.{open_below-all, open_below-none}
@@ -17,7 +17,7 @@ invariant_of-self c =
     let closed = subst (λ (l : List Area). IsNone (contents l i)) c.deref.ensures.value c.in-Some.ensures.closed.1 in
     let none = none_is (contents list i) closed in
     let h : i < MAX_AREAS = omega (arith, ap length c.deref.ensures.value, c.in-Some.ensures.closed.0, s.kept.table) in
-    let sum : s.free + 0 ≡ s.free + length (unwrap_or (contents list i) []) / 4096 = ap (λ (o : Option (List ℕ)). s.free + length (unwrap_or o []) / 4096) (sym none) in
+    let sum : s.free + 0 ≡ s.free + length (unwrap_or (contents list i) []) / PAGE = ap (λ (o : Option (List ℕ)). s.free + length (unwrap_or o []) / PAGE) (sym none) in
     record { few = s.few; kept = changed list _ i (Some []) s.free s.free s.pages MAX_AREAS s.kept c.open_at.ensures h refl sum }
 
 pub returns-in-None-clause-refused : goal.returns-in-None-clause-refused

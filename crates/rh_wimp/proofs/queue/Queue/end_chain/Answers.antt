@@ -1,7 +1,7 @@
 use Rattle.std.proofs.Common.{ℕ, ◌+◌, ◌≤◌, length, List, ap, subst, ◌∙◌, arith}
 use Rattle.std.specs.Prelude.{Option, Some, None}
 use Rattle.rh_defs.specs.Messages.{Parcel}
-use Rattle.rh_defs.specs.Post.{Post}
+use Rattle.rh_defs.specs.Post.{Post, most_messages}
 use Rattle.rh_defs.proofs.MemoryLaws.{OnlyArea-both, OnlyArea-self}
 use Rattle.rh_module.specs.Area.{heap_in}
 use Rattle.rh_wimp.specs.Chains.{Lifted, LiftsFirst, SpellsPost, entry_at}
@@ -95,7 +95,7 @@ loop-turn-preserved g c =
 pub returns-clause-drains : goal.returns-clause-drains
 returns-clause-drains g c = λ post s.
     let d = c.loop-turn.invariant.drains post s in
-    let few : length (queue_to c.args.dying d.0.queued) + 256 ≤ 256 = let f = d.1.few in let t = c.loop-turn-test.false in omega arith in
+    let few : length (queue_to c.args.dying d.0.queued) + most_messages ≤ most_messages = let f = d.1.few in let t = c.loop-turn-test.false in omega arith in
     (d.0, record { spells = d.1.spells; same = d.1.same; few = few; seats = d.1.seats })
 
 pub returns-clause-module : goal.returns-clause-module

@@ -1,4 +1,5 @@
 use Rattle.std.proofs.Common.{◌-◌, ◌%◌, sym, ◌∙◌, arith}
+use Rattle.rh_defs.specs.declared.sizes.TheConstants.{PAGE}
 use Rattle.rh_defs.proofs.BytesLaws.{part-range}
 use Rattle.rh_pages.specs.Paged.{whole_law}
 use Rattle.rh_pages.proofs.Seats.{seat}
@@ -9,12 +10,12 @@ bytes-requires c =
     let s = c.args.self.now in
     let within = c.requires.within in
     let whole = whole_law s c.args.id.0 in
-    (seat s c.args.id.0 c.args.at (4096 - c.args.at % 4096) c.spot-start.result c.requires.opened (omega arith) (omega arith) (omega arith) c.spot-start.ensures).within
+    (seat s c.args.id.0 c.args.at (PAGE - c.args.at % PAGE) c.spot-start.result c.requires.opened (omega arith) (omega arith) (omega arith) c.spot-start.ensures).within
 
 pub returns : goal.returns
 returns c =
     let s = c.args.self.now in
-    let n = 4096 - c.args.at % 4096 in
+    let n = PAGE - c.args.at % PAGE in
     let p = c.spot-start.result in
     let within = c.requires.within in
     let whole = whole_law s c.args.id.0 in

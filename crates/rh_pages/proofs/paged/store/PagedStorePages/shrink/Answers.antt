@@ -1,4 +1,5 @@
 use Rattle.std.proofs.Common.{◌≡◌, ℕ, ◌+◌, ◌*◌, ◌<◌, ◌≤◌, length, subst, sym, ap, ◌∙◌, arith}
+use Rattle.rh_defs.specs.declared.sizes.TheConstants.{PAGE}
 use Rattle.rh_defs.specs.Memory.{Memory, IsOpen, bytes, shrunk}
 use Rattle.rh_defs.proofs.MemoryLaws.{IsOpen-shrunk, length-shrunk}
 use Rattle.rh_pages.specs.Paged.{memory_of}
@@ -8,7 +9,7 @@ use Rattle.rh_pages.proofs.paged.store.PagedStorePages.shrink.Goals as goal
 pub loop-page-init : goal.loop-page-init
 loop-page-init c = (omega arith, (c.requires.opened, shrunk_none (memory_of c.args.self.now) c.args.id.0 c.requires.opened))
 
-some_left : (m w : Memory) (id d n : ℕ) → w ≡ shrunk m id d → d < n → 4096 * n ≤ length (bytes m id) → 4096 ≤ length (bytes w id)
+some_left : (m w : Memory) (id d n : ℕ) → w ≡ shrunk m id d → d < n → PAGE * n ≤ length (bytes m id) → PAGE ≤ length (bytes w id)
 some_left m w id d n e lt enough = let left = ap (λ (k : Memory). length (bytes k id)) e ∙ length-shrunk m id d in omega arith
 
 pub shrink_page-requires-clause-some : goal.shrink_page-requires-clause-some

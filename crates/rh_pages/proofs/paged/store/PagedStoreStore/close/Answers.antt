@@ -1,6 +1,6 @@
 use Rattle.std.proofs.Common.{◌≡◌, ◌/◌, ℕ, List, [], ◌∷◌, length, refl, sym, subst, ap, ◌∙◌, arith}
 use Rattle.std.specs.Prelude.{None}
-use Rattle.rh_defs.specs.declared.sizes.TheConstants.{MAX_AREAS}
+use Rattle.rh_defs.specs.declared.sizes.TheConstants.{MAX_AREAS, PAGE}
 use Rattle.rh_defs.specs.Memory.{Memory, IsOpen, area_set, bytes, shrunk}
 use Rattle.rh_defs.proofs.MemoryLaws.{IsOpen-shrunk, length-shrunk}
 use Rattle.rh_pages.specs.declared.paged.PagedStore.{PagedStore}
@@ -22,7 +22,7 @@ record Emptied (s w : PagedStore) (id : ℕ) : Type 0 where
   pub kept : IsStore w.region w.areas.items (set w.opened.items id false) w.free w.pages MAX_AREAS
   pub memory : memory_in w.region w.areas.items (set w.opened.items id false) w.free w.pages ≡ record { area = area_set (memory_of w).area id None; free = (memory_of w).free; pages = (memory_of w).pages; loan = (memory_of w).loan }
 
-emptied : (s w : PagedStore) (id n : ℕ) → IsOpen (memory_of s) id → memory_of w ≡ shrunk (memory_of s) id n → n ≡ length (bytes (memory_of s) id) / 4096 → Emptied s w id
+emptied : (s w : PagedStore) (id n : ℕ) → IsOpen (memory_of s) id → memory_of w ≡ shrunk (memory_of s) id n → n ≡ length (bytes (memory_of s) id) / PAGE → Emptied s w id
 unfolding memory_of bytes
 emptied s w id n o e all =
     let lt = numbered_law s id o in
@@ -42,13 +42,13 @@ index_mut-requires c = let lt = numbered_law c.args.self.now c.args.id.0 c.requi
 pub invariant_of-self : goal.invariant_of-self
 invariant_of-self c =
     let w = c.shrink.new.self in
-    record { few = w.few; kept = (emptied c.args.self.now w c.args.id.0 (c.len-pages.result / 4096) c.requires c.shrink.ensures (ap (λ k. k / 4096) c.len-pages.ensures)).kept }
+    record { few = w.few; kept = (emptied c.args.self.now w c.args.id.0 (c.len-pages.result / PAGE) c.requires c.shrink.ensures (ap (λ k. k / PAGE) c.len-pages.ensures)).kept }
 
 pub returns : goal.returns
 unfolding memory_of
 returns c =
-    let s = c.args.self.now in let w = c.shrink.new.self in let id = c.args.id.0 in let n = c.len-pages.result / 4096 in
-    let all = ap (λ k. k / 4096) c.len-pages.ensures in
+    let s = c.args.self.now in let w = c.shrink.new.self in let id = c.args.id.0 in let n = c.len-pages.result / PAGE in
+    let all = ap (λ k. k / PAGE) c.len-pages.ensures in
     (emptied s w id n c.requires c.shrink.ensures all).memory
     ∙ ap (λ (k : Memory). let m : Memory = record { area = area_set k.area id None; free = k.free; pages = k.pages; loan = k.loan } in m) c.shrink.ensures
     ∙ closed_shrunk (memory_of s) id n all

@@ -1,4 +1,5 @@
 use Rattle.std.proofs.Common.{◌-◌, ◌%◌, length, sym, ap, ◌∙◌, arith}
+use Rattle.rh_defs.specs.declared.sizes.TheConstants.{PAGE}
 use Rattle.rh_defs.proofs.BytesLaws.{part-range, length-part}
 use Rattle.rh_pages.specs.Paged.{whole_law, memory_of}
 use Rattle.rh_defs.specs.Bytes.{part}
@@ -11,12 +12,12 @@ bytes-requires c =
     let s = c.args.self.now in
     let within = c.requires.within in
     let whole = whole_law s c.args.id.0 in
-    (seat s c.args.id.0 c.args.at (4096 - c.args.at % 4096) c.spot-first.result c.requires.opened (omega arith) (omega arith) (omega arith) c.spot-first.ensures).within
+    (seat s c.args.id.0 c.args.at (PAGE - c.args.at % PAGE) c.spot-first.result c.requires.opened (omega arith) (omega arith) (omega arith) c.spot-first.ensures).within
 
 pub returns-clause-bytes : goal.returns-clause-bytes
 returns-clause-bytes c =
     let s = c.args.self.now in
-    let n = 4096 - c.args.at % 4096 in
+    let n = PAGE - c.args.at % PAGE in
     let p = c.spot-first.result in
     let within = c.requires.within in
     let whole = whole_law s c.args.id.0 in
@@ -27,7 +28,7 @@ returns-clause-bytes c =
 pub returns-clause-some : goal.returns-clause-some
 returns-clause-some c =
     let s = c.args.self.now in
-    let n = 4096 - c.args.at % 4096 in
+    let n = PAGE - c.args.at % PAGE in
     let p = c.spot-first.result in
     let within = c.requires.within in
     let whole = whole_law s c.args.id.0 in

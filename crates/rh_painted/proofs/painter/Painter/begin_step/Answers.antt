@@ -1,0 +1,11 @@
+use Rattle.std.proofs.Common.{◌∙◌, ap}
+use Rattle.rh_figure.specs.Scene.{scene_of}
+use Rattle.rh_sheet.specs.Chart.{noted}
+use Rattle.rh_painted.specs.Progress.{Stand}
+use Rattle.rh_painted.proofs.painter.Painter.begin_step.Goals as goal
+
+pub returns-clause-notes : goal.returns-clause-notes
+returns-clause-notes g c = λ s b marks is.
+    let m = c.args.self.now in
+    let number = c.steps-number.ensures ∙ ap (λ (p : Stand). p.steps) c.begin_step.ensures.next in
+    c.note_step.ensures s b marks is ∙ ap (λ k. noted k (scene_of (g.D.Sight.desk m.drawn) s b marks) m.notes.items) number
