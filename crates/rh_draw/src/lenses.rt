@@ -1,6 +1,7 @@
 //! What leads from the rows of an area to its cards, and ticks in its anchor words.
 
 ghost use Rattle.std.specs.Prelude.{◌≤◌, ◌<◌, ◌+◌};
+ghost use Rattle.rh_defs.specs.Slot.{anchor_count};
 ghost use Rattle.rh_defs.specs.declared.sizes.TheConstants.{MAX_PAGES, PAGE};
 ghost use Rattle.rh_lines.specs.Flow.{Puts};
 ghost use Rattle.rh_sheet.specs.Areas.{last_row_place, lens_above, lens_below, tick_text};
@@ -108,7 +109,7 @@ pub fn print_lens_above<W: Sink>(
 /// Writes a tick in an anchor word, in a row at a height. Fails only where the writer failed or took none of what it
 /// was offered; a front of the element is then written.
 pub fn print_tick<W: Sink>(y: u32, anchor: u32, writer: &mut W) -> Result<(), WriteFailed>
-    requires { anchor < 64 }
+    requires { anchor < anchor_count }
     ensures { Puts (W.output writer.old) (W.output writer.new) result (tick_text y anchor) }
 {
     let mut way = Row::new();

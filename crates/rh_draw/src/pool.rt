@@ -34,7 +34,7 @@ fn cell_x(k: u32) -> u32
 fn cell_y(k: u32) -> u32
     requires { k < 2 ^ 16 }
     ensures value { result ≡ y_of_cell k }
-    ensures few { result ≤ 65536 }
+    ensures few { result ≤ 2 ^ 16 }
 {
     CELL * (k / POOL_COLUMNS)
 }

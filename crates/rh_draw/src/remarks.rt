@@ -103,8 +103,8 @@ fn stripped(text: &[u8]) -> &[u8]
     front
 }
 
-/// Writes the words of a remark.
-fn put_remark<W: Sink>(words: &[u8], writer: &mut W) -> Result<(), WriteFailed>
+/// Writes the words of a remark, or the name of a script: text from outside, with spaces in place of control bytes.
+pub(crate) fn put_remark<W: Sink>(words: &[u8], writer: &mut W) -> Result<(), WriteFailed>
     ensures { Puts (W.output writer.old) (W.output writer.new) result (escape (map remark_byte_of words.now)) }
 {
     let mut rest = words;

@@ -8,9 +8,9 @@ ghost use Rattle.rh_sheet.specs.Fixed.{key_text, signs_text, style_text};
 ghost use Rattle.rh_sheet.specs.Sheet.{left_text, links_begin, numbered_link, shared_text, sheet_foot, sheet_head, title_text};
 ghost use Rattle.rh_sheet.specs.declared.sizes.TheConstants.{MOST_STEPS};
 
-use crate::escape::put_escaped;
 use crate::links::print_numbered_link;
 use crate::pool::print_grid;
+use crate::remarks::put_remark;
 use rh_lines::{Row, Sink, WriteFailed, put};
 use rh_sheet::key::KEY;
 use rh_sheet::signs::SIGNS;
@@ -50,7 +50,7 @@ fn print_title<W: Sink>(name: &[u8], writer: &mut W) -> Result<(), WriteFailed>
     ensures { Puts (W.output writer.old) (W.output writer.new) result (title_text name.now) }
 {
     put(writer, BEFORE_TITLE)?;
-    put_escaped(name, writer)?;
+    put_remark(name, writer)?;
     put(writer, b"</title>\n<style>\n")?;
     put_style(writer)?;
     put(writer, b"</style>\n</head>\n")
@@ -77,7 +77,7 @@ pub fn print_head<W: Sink>(name: &[u8], pages: u32, writer: &mut W) -> Result<()
     put(writer, b"<body id=\"all\">\n")?;
     print_shared(pages, writer)?;
     put(writer, b"<header><h1>")?;
-    put_escaped(name, writer)?;
+    put_remark(name, writer)?;
     put(writer, b"</h1>\n")?;
     put_key(writer)?;
     put(writer, b"</header>\n<main>\n")

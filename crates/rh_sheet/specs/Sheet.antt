@@ -1,5 +1,5 @@
 -- What `draw` writes: one sheet of HTML with a figure of memory after each command of a script.
-use Rattle.std.specs.Prelude.{ℕ, ◌+◌, ◌==◌, nat_lt, ◌&&◌, ◌||◌, not, Bool, true, false, if◌then◌else◌, List, [], ◌∷◌, ◌++◌, length, codes, Some, None, Ok, Err}
+use Rattle.std.specs.Prelude.{ℕ, ◌+◌, ◌==◌, nat_lt, ◌&&◌, ◌||◌, not, Bool, true, false, if◌then◌else◌, List, [], ◌∷◌, ◌++◌, length, map, codes, Some, None, Ok, Err}
 use Rattle.std.specs.List.{concat, flat_map, range_with_len}
 use Rattle.std.specs.Fmt.{decimal}
 use Rattle.rh_defs.specs.declared.command.Command.{Command}
@@ -21,7 +21,7 @@ use Rattle.rh_sheet.specs.Markup.{escape, step_link}
 use Rattle.rh_sheet.specs.Fixed.{style_text, signs_text, key_text}
 use Rattle.rh_sheet.specs.Pool.{grid_text}
 use Rattle.rh_sheet.specs.Chart.{Note, noted}
-use Rattle.rh_sheet.specs.Steps.{figure_text, step_open, step_text, remark_text, said_end, step_end}
+use Rattle.rh_sheet.specs.Steps.{figure_text, step_open, step_text, remark_byte, remark_text, said_end, step_end}
 
 -- ---- head and foot
 
@@ -29,7 +29,7 @@ use Rattle.rh_sheet.specs.Steps.{figure_text, step_open, step_text, remark_text,
 abbrev pub title_text : Text → Text
 title_text name = concat (
     codes "<!DOCTYPE html>\n<html lang=\"en\" xmlns=\"http://www.w3.org/1999/xhtml\">\n<head>\n<meta charset=\"utf-8\"/>\n"
-    ∷ codes "<meta name=\"viewport\" content=\"width=device-width, initial-scale=1\"/>\n<title>" ∷ escape name
+    ∷ codes "<meta name=\"viewport\" content=\"width=device-width, initial-scale=1\"/>\n<title>" ∷ escape (map remark_byte name)
     ∷ codes "</title>\n<style>\n" ∷ style_text ∷ codes "</style>\n</head>\n" ∷ []
     )
 
@@ -42,7 +42,8 @@ shared_text pages = concat (
 -- the beginning of a sheet over so many pages: its name, and how its figures are read
 abbrev pub sheet_head : Text → ℕ → Text
 sheet_head name pages = concat (
-    title_text name ∷ codes "<body id=\"all\">\n" ∷ shared_text pages ∷ codes "<header><h1>" ∷ escape name
+    title_text name ∷ codes "<body id=\"all\">\n" ∷ shared_text pages ∷ codes "<header><h1>"
+    ∷ escape (map remark_byte name)
     ∷ codes "</h1>\n" ∷ key_text ∷ codes "</header>\n<main>\n" ∷ []
     )
 

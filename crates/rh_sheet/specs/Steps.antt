@@ -2,6 +2,7 @@
 use Rattle.std.specs.Prelude.{ℕ, ◌+◌, ◌-◌, ◌==◌, nat_lt, ◌||◌, not, Bool, if◌then◌else◌, List, [], ◌∷◌, ◌++◌, length, drop, map, codes}
 use Rattle.std.specs.List.{concat, flat_map, join_by}
 use Rattle.std.specs.Fmt.{decimal}
+use Rattle.rh_defs.specs.Bytes.{space}
 use Rattle.rh_defs.specs.Desk.{Task, module_pages}
 use Rattle.rh_defs.specs.Commands.{module_area}
 use Rattle.rh_defs.specs.Script.{ended}
@@ -128,12 +129,12 @@ step_text still step line reply x notes last =
 
 -- a byte of a remark as it is shown: a space in place of one below 32, and of 127
 abbrev pub remark_byte : ℕ → ℕ
-remark_byte b = if nat_lt b 32 || b == 127 then 32 else b
+remark_byte b = if nat_lt b space || b == 127 then space else b
 
 -- a text without spaces at its beginning
 abbrev pub without_indent : Text → Text
 without_indent [] = []
-without_indent (b ∷ bs) = if b == 32 then without_indent bs else b ∷ bs
+without_indent (b ∷ bs) = if b == space then without_indent bs else b ∷ bs
 
 -- a text without spaces at its ends
 abbrev pub stripped : Text → Text

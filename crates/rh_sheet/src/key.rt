@@ -30,5 +30,11 @@ link to a step shows that step alone.</p>
 <li><svg viewBox=\"0 0 44 18\" aria-hidden=\"true\">\
 <rect class=\"freed\" x=\"2\" y=\"2\" width=\"40\" height=\"14\"/></svg>\
 given back by the command</li>
+<li><svg viewBox=\"0 0 44 18\" aria-hidden=\"true\">\
+<path class=\"ghost\" d=\"M2 1h9v16h-9z\"/>\
+<path class=\"slide\" d=\"M13 9h24\"/></svg>from where to where flex blocks slid</li>
+<li><svg viewBox=\"0 0 44 18\" aria-hidden=\"true\">\
+<path class=\"msg\" d=\"M1 4h34\"/>\
+<path class=\"msg waits\" d=\"M1 14h34\"/></svg>a message that was taken, and one that waits</li>
 </ul>
 ";

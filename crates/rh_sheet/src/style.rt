@@ -30,12 +30,13 @@ nav a:hover, nav a:focus { background: var(--faint); }
 
 /* a step: what is said, the figure, and what stands beside it */
 section { margin-top: 1.5rem; padding-top: 1rem; border-top: 1px solid var(--faint); }
-section nav { float: right; margin: 0 0 0.5rem 1rem; color: var(--edge); }
+section nav { float: right; margin-left: 1rem; color: var(--edge); }
 section nav a { color: var(--quiet); }
 h2 { margin: 0 0 0.25rem; font-size: 1.1rem; font-weight: normal; overflow-wrap: anywhere; }
 h2 b { margin-right: 0.4rem; }
 h3 { margin: 1rem 0 0.3rem; font-size: 0.95rem; font-weight: normal; color: var(--quiet); }
 h3 b { margin-right: 0.4rem; color: var(--text); }
+h3 + h3 { margin-top: 0; }
 pre { margin: 0; font-size: 0.88rem; white-space: pre-wrap; overflow-wrap: anywhere; }
 .title { margin: 0 0 0.5rem; font-size: 1.3rem; line-height: 1.3; }
 .remark { margin: 0 0 0.6rem; font-style: italic; }
@@ -50,6 +51,7 @@ table { width: 100%; margin-top: 1.25rem; border-collapse: collapse; font-size: 
 caption { font-weight: bold; text-align: left; }
 th, td { padding: 0.2rem 0.6rem 0.2rem 0; border-top: 1px solid var(--faint); text-align: left; vertical-align: top; }
 th { font-weight: normal; color: var(--quiet); }
+td:nth-child(2), td:nth-child(5) { overflow-wrap: anywhere; }
 
 /* figures */
 svg { display: block; width: 100%; height: auto; overflow: visible; }
@@ -88,7 +90,7 @@ text { font-size: 16px; fill: var(--text); }
 .gone { fill: none; stroke: var(--changed); stroke-dasharray: 6 4; }
 .freed { fill: white; stroke: var(--changed); stroke-width: 2; stroke-dasharray: 4 3; }
 .anchors { fill: url(#words); stroke: var(--edge); }
-.tick { stroke: black; stroke-width: 1.5; }
+.tick { stroke: black; stroke-width: 1.25; transform: translateX(0.5px); }
 .head { fill: #4a5159; }
 .used { stroke: #4a5159; }
 .hole { fill: url(#stripes); stroke: #7b838c; }
@@ -103,11 +105,13 @@ text { font-size: 16px; fill: var(--text); }
 .card.more { stroke: none; }
 .card.fresh { stroke: var(--changed); stroke-width: 3; }
 .casing { fill: none; stroke: white; stroke-width: 7; }
+.casing:has(+ .ghost) { stroke: none; }
 .ghost { fill: none; stroke: var(--changed); stroke-width: 2; stroke-dasharray: 3 2; }
 .slide { fill: none; stroke: var(--changed); stroke-width: 2.5; marker-end: url(#point); }
 
 /* words in a piece, which has the same class */
-.lab.used, .lab.hole, .lab.flex, .lab.many { stroke: none; }
+.lab.used, .lab.flex { stroke: none; }
+.lab.hole, .lab.many { stroke: white; stroke-width: 4px; paint-order: stroke; }
 .lab.used, .lab.hole, .lab.many { fill: var(--text); }
 .lab.flex { fill: white; }
 .lab.top, .lab.spare { fill: var(--quiet); }
@@ -155,5 +159,7 @@ pattern path { fill: none; stroke: #cfd5db; }
   aside { grid-area: 1 / 2; }
   .memory { grid-area: 2 / 1 / auto / span 2; margin-top: 0.6rem; overflow: visible; }
   .memory svg { min-width: 0; }
+  h3 { break-after: avoid; }
+  svg, table { break-inside: avoid; }
 }
 ";

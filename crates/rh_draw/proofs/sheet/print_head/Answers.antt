@@ -27,15 +27,15 @@ returns-in_err-put-2 g c =
     (puts_before _ c.in_err-put-2.ensures refl))))
     c.from_residual-in_err-put-2.ensures.0
 
-pub returns-in_err-put_escaped : goal.returns-in_err-put_escaped
-returns-in_err-put_escaped g c =
+pub returns-in_err-put_remark : goal.returns-in_err-put_remark
+returns-in_err-put_remark g c =
     puts_stops _
     (puts_more _ _ _ c.in_ok-print_title.ensures
     (puts_more _ _ _ c.in_ok-put.ensures
     (puts_more _ _ _ c.in_ok-print_shared.ensures
     (puts_more _ _ _ c.in_ok-put-2.ensures
-    (puts_before _ c.in_err-put_escaped.ensures refl)))))
-    c.from_residual-in_err-put_escaped.ensures.0
+    (puts_before _ c.in_err-put_remark.ensures refl)))))
+    c.from_residual-in_err-put_remark.ensures.0
 
 pub returns-in_err-put-3 : goal.returns-in_err-put-3
 returns-in_err-put-3 g c =
@@ -44,7 +44,7 @@ returns-in_err-put-3 g c =
     (puts_more _ _ _ c.in_ok-put.ensures
     (puts_more _ _ _ c.in_ok-print_shared.ensures
     (puts_more _ _ _ c.in_ok-put-2.ensures
-    (puts_more _ _ _ c.in_ok-put_escaped.ensures
+    (puts_more _ _ _ c.in_ok-put_remark.ensures
     (puts_before _ c.in_err-put-3.ensures refl))))))
     c.from_residual-in_err-put-3.ensures.0
 
@@ -55,7 +55,7 @@ returns-in_err-put_key g c =
     (puts_more _ _ _ c.in_ok-put.ensures
     (puts_more _ _ _ c.in_ok-print_shared.ensures
     (puts_more _ _ _ c.in_ok-put-2.ensures
-    (puts_more _ _ _ c.in_ok-put_escaped.ensures
+    (puts_more _ _ _ c.in_ok-put_remark.ensures
     (puts_more _ _ _ c.in_ok-put-3.ensures
     (puts_before _ c.in_err-put_key.ensures refl)))))))
     c.from_residual-in_err-put_key.ensures.0
@@ -66,6 +66,6 @@ returns g c =
     (puts_more _ _ _ c.in_ok-put.ensures
     (puts_more _ _ _ c.in_ok-print_shared.ensures
     (puts_more _ _ _ c.in_ok-put-2.ensures
-    (puts_more _ _ _ c.in_ok-put_escaped.ensures
+    (puts_more _ _ _ c.in_ok-put_remark.ensures
     (puts_more _ _ _ c.in_ok-put-3.ensures
     (puts_more _ _ _ c.in_ok-put_key.ensures c.put-4.ensures))))))

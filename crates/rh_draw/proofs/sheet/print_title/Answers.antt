@@ -6,15 +6,15 @@ pub returns-in_err-put : goal.returns-in_err-put
 returns-in_err-put g c =
     puts_stops _ (puts_before _ c.in_err-put.ensures refl) c.from_residual.ensures.0
 
-pub returns-in_err-put_escaped : goal.returns-in_err-put_escaped
-returns-in_err-put_escaped g c =
-    puts_stops _ (puts_more _ _ _ c.in_ok-put.ensures (puts_before _ c.in_err-put_escaped.ensures refl)) c.from_residual-in_err-put_escaped.ensures.0
+pub returns-in_err-put_remark : goal.returns-in_err-put_remark
+returns-in_err-put_remark g c =
+    puts_stops _ (puts_more _ _ _ c.in_ok-put.ensures (puts_before _ c.in_err-put_remark.ensures refl)) c.from_residual-in_err-put_remark.ensures.0
 
 pub returns-in_err-put-2 : goal.returns-in_err-put-2
 returns-in_err-put-2 g c =
     puts_stops _
     (puts_more _ _ _ c.in_ok-put.ensures
-    (puts_more _ _ _ c.in_ok-put_escaped.ensures
+    (puts_more _ _ _ c.in_ok-put_remark.ensures
     (puts_before _ c.in_err-put-2.ensures refl)))
     c.from_residual-in_err-put-2.ensures.0
 
@@ -22,7 +22,7 @@ pub returns-in_err-put_style : goal.returns-in_err-put_style
 returns-in_err-put_style g c =
     puts_stops _
     (puts_more _ _ _ c.in_ok-put.ensures
-    (puts_more _ _ _ c.in_ok-put_escaped.ensures
+    (puts_more _ _ _ c.in_ok-put_remark.ensures
     (puts_more _ _ _ c.in_ok-put-2.ensures
     (puts_before _ c.in_err-put_style.ensures refl))))
     c.from_residual-in_err-put_style.ensures.0
@@ -30,6 +30,6 @@ returns-in_err-put_style g c =
 pub returns : goal.returns
 returns g c =
     puts_more _ _ _ c.in_ok-put.ensures
-    (puts_more _ _ _ c.in_ok-put_escaped.ensures
+    (puts_more _ _ _ c.in_ok-put_remark.ensures
     (puts_more _ _ _ c.in_ok-put-2.ensures
     (puts_more _ _ _ c.in_ok-put_style.ensures c.put-3.ensures)))
