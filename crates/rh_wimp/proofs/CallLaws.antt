@@ -20,7 +20,7 @@ use Rattle.rh_defs.specs.Bytes.{word_bytes}
 use Rattle.rh_defs.specs.Messages.{encoded, encoded_length}
 use Rattle.rh_defs.specs.declared.message.Message.{Message}
 use Rattle.rh_defs.proofs.BlockCalls.{module_claim-puts, module_claim-has, module_free-there}
-use Rattle.rh_defs.proofs.BlockLaws.{has-poked, poked-row}
+use Rattle.rh_defs.proofs.BlockLaws.{has-poked}
 use Rattle.rh_defs.proofs.MessageLaws.{length-word_bytes, length-encoded}
 
 -- ---- claims

@@ -1,5 +1,5 @@
 //! A live task's messages: the chain of those queued for it, and the one that it holds.
-ghost use Rattle.std.specs.Prelude.{◌≡◌, ◌≢◌, ◌<◌, ◌^◌, ◌==◌, vec_len, vec_capacity, set, Some, None};
+ghost use Rattle.std.specs.Prelude.{◌≡◌, ◌≢◌, ◌<◌, ◌^◌, ◌==◌, length, set, Some, None};
 ghost use Rattle.std.specs.List.{position};
 ghost use Rattle.rh_defs.specs.Memory.{Memory};
 ghost use Rattle.rh_module.specs.Area.{IsModule, heap_in};
@@ -10,8 +10,10 @@ ghost use Rattle.rh_defs.specs.declared.sizes.TheConstants.{WORD};
 
 use crate::layout::LINK;
 use rh_defs::Handle;
+use rh_defs::sizes::MAX_TASKS;
 use rh_module::Module;
 use rh_store::WordsMut;
+use rh_tables::Table;
 
 /// A live handle, with the offsets in the module area of the first and last block of its chain and of the block that it
 /// holds, 0 for none.
@@ -23,8 +25,19 @@ pub(crate) struct Entry {
     pub held: usize,
 }
 
+impl Default for Entry {
+    fn default() -> Entry {
+        Entry {
+            handle: Handle(0),
+            first: 0,
+            last: 0,
+            held: 0,
+        }
+    }
+}
+
 /// The place of the entry with a handle.
-pub fn find(entries: &Vec<Entry>, handle: Handle) -> Option<usize>
+pub fn find(entries: &Table<Entry, MAX_TASKS>, handle: Handle) -> Option<usize>
     ensures { result ≡ position (λ e. e.handle == handle) entries.now.items }
 {
     entries.iter().position(|e| e.handle == handle)
@@ -45,17 +58,16 @@ pub fn shortened(entry: Entry, next: usize) -> Entry
 pub fn append<S: WordsMut>(
     store: &mut S,
     rma: Module,
-    entries: &mut Vec<Entry>,
+    entries: &mut Table<Entry, MAX_TASKS>,
     at: usize,
     block: usize,
 )
     requires module { IsModule (S.memory store.old) rma }
-    requires within { at < vec_len entries.old }
+    requires within { at < length entries.old.items }
     requires last { (entry_at entries.old.items at).last ≢ 0 → HasBlock (entry_at entries.old.items at).last WORD (heap_in (S.memory store.old) rma) }
     requires small { block < 2 ^ 32 }
     ensures entries { entries.new.items ≡ set entries.old.items at (lengthened block (entry_at entries.old.items at)) }
-    ensures len { vec_len entries.new ≡ vec_len entries.old }
-    ensures capacity { vec_capacity entries.new ≡ vec_capacity entries.old }
+    ensures len { length entries.new.items ≡ length entries.old.items }
     ensures heap { Relinks (S.memory store.old) (S.memory store.new) rma (entry_at entries.old.items at).last block }
 {
     let entry = entries[at];

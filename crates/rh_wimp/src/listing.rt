@@ -13,10 +13,11 @@ use crate::layout::{ACTION, LINK, MESSAGE, MY_REF, SENDER};
 use crate::queue::Queue;
 use crate::reading::code_in;
 use arrayvec::ArrayVec;
-use rh_defs::sizes::MOST_MESSAGES;
+use rh_defs::sizes::{MAX_TASKS, MOST_MESSAGES};
 use rh_defs::{Action, Handle, MessageItem, Ref};
 use rh_module::Module;
 use rh_store::Words;
+use rh_tables::Table;
 
 impl Queue {
     /// Puts all live messages into a list, in place of what it held: those that wait, task by task in the order in
@@ -40,7 +41,7 @@ impl Queue {
 fn push_waiting<S: Words>(
     store: &S,
     rma: Module,
-    entries: &Vec<Entry>,
+    entries: &Table<Entry, MAX_TASKS>,
     items: &mut ArrayVec<MessageItem, MOST_MESSAGES>,
 )
     requires module { IsModule (S.memory store.now) rma }
@@ -48,7 +49,7 @@ fn push_waiting<S: Words>(
     ensures { (rows : List Row) → RowsLie (heap_in (S.memory store.now) rma) entries.now.items rows → length items.old.items + length (waiting_items rows) ≤ MOST_MESSAGES
         → items.new.items ≡ items.old.items ++ waiting_items rows }
 {
-    for entry in entries {
+    for entry in entries.as_slice() {
         push_chain(store, rma, entry.first, entry.handle, items);
     }
 }
@@ -80,7 +81,7 @@ fn push_chain<S: Words>(
 fn push_held<S: Words>(
     store: &S,
     rma: Module,
-    entries: &Vec<Entry>,
+    entries: &Table<Entry, MAX_TASKS>,
     items: &mut ArrayVec<MessageItem, MOST_MESSAGES>,
 )
     requires module { IsModule (S.memory store.now) rma }
@@ -88,7 +89,7 @@ fn push_held<S: Words>(
     ensures { (rows : List Row) → RowsLie (heap_in (S.memory store.now) rma) entries.now.items rows → length items.old.items + length (held_items rows) ≤ MOST_MESSAGES
         → items.new.items ≡ items.old.items ++ held_items rows }
 {
-    for entry in entries {
+    for entry in entries.as_slice() {
         push_block(store, rma, entry.held, entry.handle, items);
     }
 }

@@ -1,5 +1,5 @@
 //! Messages into blocks of the module area, and blocks that go.
-ghost use Rattle.std.specs.Prelude.{◌≡◌, ◌≢◌, ◌+◌, ◌<◌, ◌==◌, ◌++◌, ℕ, List, Some, None, Ok, false, OnErr, IfOk, vec_len, vec_capacity, set};
+ghost use Rattle.std.specs.Prelude.{◌≡◌, ◌≢◌, ◌+◌, ◌<◌, ◌==◌, ◌++◌, ℕ, List, Some, None, Ok, false, OnErr, IfOk, length, set};
 ghost use Rattle.rh_defs.specs.Bytes.{word};
 ghost use Rattle.rh_defs.specs.Chain.{answer_of};
 ghost use Rattle.rh_defs.specs.Heap.{Heap, release};
@@ -18,9 +18,11 @@ use crate::bytes::put_word;
 use crate::chain::Entry;
 use crate::encoding::encode_into;
 use crate::layout::{CODE, LINK, MESSAGE, MOST_PARCEL, MY_REF};
+use rh_defs::sizes::MAX_TASKS;
 use rh_defs::{EventCode, Message, Ref, Refusal};
 use rh_module::Module;
 use rh_store::{Pages, Words};
+use rh_tables::Table;
 
 /// Claims a block and writes a message into it, with link 0. Refused (`NoRoom`), and nothing changed, where the module
 /// area can't grow.
@@ -68,13 +70,17 @@ pub fn free<S: Pages>(store: &mut S, rma: Module, block: usize)
 }
 
 /// Frees the block that a task holds.
-pub fn put_down<S: Pages>(store: &mut S, rma: Module, entries: &mut Vec<Entry>, at: usize)
+pub fn put_down<S: Pages>(
+    store: &mut S,
+    rma: Module,
+    entries: &mut Table<Entry, MAX_TASKS>,
+    at: usize,
+)
     requires module { IsModule (S.memory store.old) rma }
-    requires within { at < vec_len entries.old }
+    requires within { at < length entries.old.items }
     requires held { HasBlock (entry_at entries.old.items at).held WORD (heap_in (S.memory store.old) rma) }
     ensures entries { entries.new.items ≡ set entries.old.items at (emptied (entry_at entries.old.items at)) }
-    ensures len { vec_len entries.new ≡ vec_len entries.old }
-    ensures capacity { vec_capacity entries.new ≡ vec_capacity entries.old }
+    ensures len { length entries.new.items ≡ length entries.old.items }
     ensures heap { Turns (S.memory store.old) (S.memory store.new) rma (release (entry_at entries.old.items at).held (heap_in (S.memory store.old) rma)) }
 {
     let entry = entries[at];

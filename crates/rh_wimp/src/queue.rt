@@ -1,5 +1,5 @@
 //! The queue of messages: a chain of blocks for each live task.
-ghost use Rattle.std.specs.Prelude.{◌≡◌, ◌<◌, ◌^◌, [], ◌∷◌, ◌++◌, IfOk, length};
+ghost use Rattle.std.specs.Prelude.{◌≡◌, ◌<◌, ◌^◌, [], ◌∷◌, ◌++◌, length};
 ghost use Rattle.rh_defs.specs.declared.sizes.TheConstants.{MAX_TASKS};
 ghost use Rattle.rh_defs.specs.Heap.{Heap};
 ghost use Rattle.rh_defs.specs.Memory.{Memory};
@@ -12,14 +12,14 @@ ghost use Rattle.rh_wimp.specs.Chains.{HasEntry, IsPost, joined};
 use crate::chain::Entry;
 use rh_defs::sizes::MAX_TASKS;
 use rh_defs::{Handle, Ref};
-use std::alloc::{AllocError, Global};
+use rh_tables::Table;
 use std::marker::Model;
 
 /// For each live task a chain of messages in blocks of the module area, and the message that it holds.
 #[derive(Drop)]
 pub struct Queue {
     /// The live handles in order, with room for all that can be.
-    pub(crate) entries: Vec<Entry>,
+    pub(crate) entries: Table<Entry, MAX_TASKS>,
     /// How many messages are live.
     pub(crate) live: usize,
     /// The ref that is given next; 2^32 where all were given.
@@ -27,38 +27,36 @@ pub struct Queue {
 }
 
 impl Model for Queue {
-    ghost use Rattle.std.specs.Prelude.{◌≡◌, ◌≤◌, ◌^◌, vec_capacity, vec_len};
-    ghost use Rattle.rh_defs.specs.declared.sizes.TheConstants.{MAX_TASKS};
+    ghost use Rattle.std.specs.Prelude.{◌≤◌, ◌^◌};
     ghost use Rattle.rh_wimp.specs.Chains.{Chains};
 
     ghost Value = { Chains };
 
     ghost view = { λ q. record { entries = q.entries.items; live = q.live; next_ref = q.next_ref } };
 
-    ghost invariant = { λ q. (vec_capacity q.entries ≡ MAX_TASKS) × (q.next_ref ≤ 2 ^ 32) };
+    ghost invariant = { λ q. q.next_ref ≤ 2 ^ 32 };
 }
 
 impl Queue {
-    /// An empty queue whose first ref is 1, with room for all tasks. AllocError where memory is refused.
-    pub fn new(alloc: Global) -> Result<Queue, AllocError>
-        ensures value { IfOk result (λ queue. queue ≡ record { entries = []; live = 0; next_ref = 1 }) }
-        ensures starts { IfOk result (λ queue. (m : Memory) (rma : Module) → IsModule m rma → IsQueue m rma queue) }
+    /// An empty queue whose first ref is 1, with room for all tasks.
+    pub fn new() -> Queue
+        ensures value { result ≡ record { entries = []; live = 0; next_ref = 1 } }
+        ensures starts { (m : Memory) (rma : Module) → IsModule m rma → IsQueue m rma result }
     {
-        Queue::with_next_ref(alloc, Ref(1))
+        Queue::with_next_ref(Ref(1))
     }
 
-    /// An empty queue whose first ref is this one, with room for all tasks. AllocError where memory is refused.
-    pub fn with_next_ref(alloc: Global, next_ref: Ref) -> Result<Queue, AllocError>
+    /// An empty queue whose first ref is this one, with room for all tasks.
+    pub fn with_next_ref(next_ref: Ref) -> Queue
         ensures word { next_ref < 2 ^ 32 }
-        ensures value { IfOk result (λ queue. queue ≡ record { entries = []; live = 0; next_ref = next_ref }) }
-        ensures starts { IfOk result (λ queue. (m : Memory) (rma : Module) → IsModule m rma → IsQueue m rma queue) }
+        ensures value { result ≡ record { entries = []; live = 0; next_ref = next_ref } }
+        ensures starts { (m : Memory) (rma : Module) → IsModule m rma → IsQueue m rma result }
     {
-        let entries = Vec::with_capacity(alloc, MAX_TASKS)?;
-        Ok(Queue {
-            entries,
+        Queue {
+            entries: Table::new(),
             live: 0,
             next_ref: u64::from(next_ref.0),
-        })
+        }
     }
 
     /// The ref that is given next; 2^32 where all were given.
@@ -77,7 +75,7 @@ impl Queue {
         ensures spells { (h : Heap) (post : Post) → IsPost h self.old post → IsPost h self.new (post_join handle post) }
         ensures still { (m : Memory) (rma : Module) → IsQueue m rma self.old → IsQueue m rma self.new }
     {
-        self.entries.push_reserved(Entry {
+        self.entries.push(Entry {
             handle,
             first: 0,
             last: 0,

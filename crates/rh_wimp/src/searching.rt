@@ -13,9 +13,10 @@ use crate::chain::Entry;
 use crate::layout::{LINK, MESSAGE, MY_REF};
 use crate::queue::Queue;
 use rh_defs::Ref;
-use rh_defs::sizes::MOST_MESSAGES;
+use rh_defs::sizes::{MAX_TASKS, MOST_MESSAGES};
 use rh_module::Module;
 use rh_store::Words;
+use rh_tables::Table;
 
 /// What is looked for among the live messages.
 #[derive(Debug, Drop)]
@@ -45,12 +46,17 @@ impl Queue {
 }
 
 /// Whether a message of some tasks is the one that is looked for.
-fn any_entry<S: Words>(store: &S, rma: Module, entries: &Vec<Entry>, wanted: &Wanted) -> bool
+fn any_entry<S: Words>(
+    store: &S,
+    rma: Module,
+    entries: &Table<Entry, MAX_TASKS>,
+    wanted: &Wanted,
+) -> bool
     requires module { IsModule (S.memory store.now) rma }
     requires rows { (rows : List Row) × (RowsLie (heap_in (S.memory store.now) rma) entries.now.items rows × AreShort rows) }
     ensures { (rows : List Row) → RowsLie (heap_in (S.memory store.now) rma) entries.now.items rows → AreShort rows → result ≡ rows_have (wants wanted.now) rows }
 {
-    for entry in entries {
+    for entry in entries.as_slice() {
         if entry_has(store, rma, *entry, wanted) {
             return true;
         }

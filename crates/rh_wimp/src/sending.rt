@@ -1,5 +1,5 @@
 //! Letters into the queue.
-ghost use Rattle.std.specs.Prelude.{◌≡◌, ◌<◌, ◌≤◌, ℕ, List, Some, None, OnErr, OnOk, IfOk, IfErr, vec_capacity, vec_len, length};
+ghost use Rattle.std.specs.Prelude.{◌≡◌, ◌<◌, ◌≤◌, ℕ, List, Some, None, OnErr, OnOk, IfOk, IfErr, length};
 ghost use Rattle.rh_defs.specs.Chain.{answer_of, left_of};
 ghost use Rattle.rh_defs.specs.Memory.{OnlyArea};
 ghost use Rattle.rh_defs.specs.Post.{post_send, post_send_pages};
@@ -13,10 +13,11 @@ use crate::encoding::body_length;
 use crate::layout::{ACTION, MESSAGE};
 use crate::placing::{holds_ref, place, put_down};
 use crate::queue::Queue;
-use rh_defs::sizes::MOST_MESSAGES;
+use rh_defs::sizes::{MAX_TASKS, MOST_MESSAGES};
 use rh_defs::{Handle, Letter, Message, Ref, Refusal};
 use rh_module::Module;
 use rh_store::{Pages, Words};
+use rh_tables::Table;
 
 impl Queue {
     /// The pages that a send would take. Refused as the send is, but for `NoRoom`.
@@ -94,15 +95,14 @@ impl Queue {
 fn answer<S: Pages>(
     store: &mut S,
     rma: Module,
-    entries: &mut Vec<Entry>,
+    entries: &mut Table<Entry, MAX_TASKS>,
     from: Handle,
     your_ref: Ref,
 ) -> usize
     requires module { IsModule (S.memory store.old) rma }
     requires rows { (rows : List Row) × RowsLie (heap_in (S.memory store.old) rma) entries.old.items rows }
     ensures one { result ≤ 1 }
-    ensures len { vec_len entries.new ≡ vec_len entries.old }
-    ensures capacity { vec_capacity entries.new ≡ vec_capacity entries.old }
+    ensures len { length entries.new.items ≡ length entries.old.items }
     ensures module { IsModule (S.memory store.new) rma }
     ensures only { OnlyArea (S.memory store.old) (S.memory store.new) rma.area.0 }
     ensures settles { (rows : List Row) (i : ℕ) → RowsLie (heap_in (S.memory store.old) rma) entries.old.items rows → i < length rows → (row_at rows i).handle ≡ from

@@ -148,7 +148,7 @@ impl<S: Store + Drop> Bench<S> {
     {
         let mut store = store;
         let rma = started(&mut store)?;
-        let mut queue = Queue::with_next_ref(alloc, Ref(next_ref))?;
+        let mut queue = Queue::with_next_ref(Ref(next_ref));
         three(&mut queue);
         Ok(Bench {
             store,

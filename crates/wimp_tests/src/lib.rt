@@ -1,4 +1,4 @@
-//! Tests of messages and of their queue, over a plain store and over scattered pages.
+//! Tests of messages and of their queue, over a plain store and over scattered pages; and of the table that it keeps.
 #![tactic(auto)]
 
 #[cfg(test)]
@@ -11,3 +11,5 @@ mod images;
 mod lists;
 #[cfg(test)]
 mod same;
+#[cfg(test)]
+mod tables;

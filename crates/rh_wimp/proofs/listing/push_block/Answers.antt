@@ -1,4 +1,4 @@
-use Rattle.std.proofs.Common.{◌≡◌, sym, ap, ◌++◌, ◌∷◌, [], ◌∙◌, length, map, arith, true, append-nil}
+use Rattle.std.proofs.Common.{sym, ap, ◌++◌, ◌∷◌, [], ◌∙◌, length, map, arith, true, append-nil}
 use Rattle.rh_module.specs.Area.{heap_in}
 use Rattle.rh_wimp.specs.Chains.{held_list}
 use Rattle.rh_wimp.specs.Items.{item_of}

@@ -1,4 +1,4 @@
-use Rattle.std.proofs.Common.{◌≡◌, ◌+◌, ◌≤◌, suc, List, length, refl, subst, arith}
+use Rattle.std.proofs.Common.{◌≡◌, ◌+◌, ◌≤◌, List, length, arith}
 use Rattle.rh_defs.specs.Post.{most_messages}
 use Rattle.rh_defs.specs.Messages.{Parcel}
 use Rattle.rh_defs.proofs.BlockLaws.{has-less}

@@ -1,4 +1,4 @@
-use Rattle.std.proofs.Common.{◌≡◌, ◌<◌, ◌≤◌, ◌+◌, ℕ, List, length, get_or, map, refl, sym, ap, subst, ◌∙◌, arith, false}
+use Rattle.std.proofs.Common.{◌≡◌, ◌<◌, ℕ, List, length, get_or, map, refl, sym, ap, subst, ◌∙◌, arith, false}
 use Rattle.std.specs.Prelude.{◌++◌}
 use Rattle.std.proofs.lemmas.List.{length-map}
 use Rattle.rh_module.specs.Area.{heap_in}
@@ -17,7 +17,7 @@ loop-entry-init g c = λ rows s few. refl
 -- the entry that is looked at
 at : (g : given.Over) (c : After-entry-item g) → (c.loop-entry.entry-index < length c.args.entries.now.items) × (c.entry-item.result ≡ entry_at c.args.entries.now.items c.loop-entry.entry-index)
 at g c =
-    let e = c.deref-entry-items.ensures.value in
+    let e = c.as_slice-entry-items.ensures.value in
     let l : c.loop-entry.entry-index < length c.args.entries.now.items = subst (λ es. c.loop-entry.entry-index < length es) e c.loop-entry-test.true in
     (l, read_entry c.args.entries.now.items c.loop-entry.entry-index c.entry-item.result l (c.entry-item.is ∙ ap (λ es. get_or es c.loop-entry.entry-index c.entry-item.result) e))
 
@@ -53,7 +53,7 @@ loop-entry-preserved g c = λ rows s few.
 
 pub returns : goal.returns
 returns g c = λ rows s few.
-    let e = ap length c.deref-entry-items.ensures.value in
+    let e = ap length c.as_slice-entry-items.ensures.value in
     let f = c.loop-entry-test.false in
     let len = s.len in
     goes-past waiting_items c.loop-entry.entry-index rows c.args.items.now.items c.loop-entry.items.items refl (omega arith) (c.loop-entry.invariant rows s few)

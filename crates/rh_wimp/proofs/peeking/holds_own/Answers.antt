@@ -1,4 +1,4 @@
-use Rattle.std.proofs.Common.{◌≡◌, ℕ, eqb, sym, ap, ◌∙◌, arith}
+use Rattle.std.proofs.Common.{eqb, sym, ap, ◌∙◌, arith}
 use Rattle.std.specs.Prelude.{◌==◌}
 use Rattle.rh_defs.specs.Messages.{Parcel, padded}
 use Rattle.rh_defs.specs.Blocks.{block_bytes}

@@ -10,7 +10,7 @@ use Rattle.rh_wimp.specs.Moves.{Turns}
 use Rattle.rh_defs.proofs.BlockLaws.{has-less}
 use Rattle.rh_defs.proofs.BytesLaws.{length-put}
 use Rattle.rh_defs.proofs.MessageLaws.{length-word_bytes}
-use Rattle.rh_defs.specs.Blocks.{HasBlock, poked}
+use Rattle.rh_defs.specs.Blocks.{poked}
 use Rattle.rh_wimp.proofs.CallLaws.{Claimed, claimed, claimed-block, parcel_bytes, parcel_head, placed-there}
 use Rattle.rh_wimp.proofs.placing.place.Goals as goal
 use Rattle.rh_wimp.proofs.placing.place.Goals.{In_ok-block}

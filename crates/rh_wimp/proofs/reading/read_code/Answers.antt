@@ -1,4 +1,4 @@
-use Rattle.std.proofs.Common.{refl, arith}
+use Rattle.std.proofs.Common.{arith}
 use Rattle.rh_wimp.proofs.reading.read_code.Goals as goal
 
 pub code_in-requires-clause-lies : goal.code_in-requires-clause-lies

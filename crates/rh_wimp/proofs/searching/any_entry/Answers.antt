@@ -14,7 +14,7 @@ use Rattle.rh_wimp.proofs.searching.any_entry.Given as given
 -- the entry that is looked at
 at : (g : given.Over) (c : After-entry-item g) → (c.loop-entry.entry-index < length c.args.entries.now.items) × (c.entry-item.result ≡ entry_at c.args.entries.now.items c.loop-entry.entry-index)
 at g c =
-    let e = c.deref-entry-items.ensures.value in
+    let e = c.as_slice-entry-items.ensures.value in
     let l : c.loop-entry.entry-index < length c.args.entries.now.items = subst (λ es. c.loop-entry.entry-index < length es) e c.loop-entry-test.true in
     (l, read_entry c.args.entries.now.items c.loop-entry.entry-index c.entry-item.result l (c.entry-item.is ∙ ap (λ es. get_or es c.loop-entry.entry-index c.entry-item.result) e))
 
@@ -54,7 +54,7 @@ loop-entry-preserved g c = λ rows s short j b.
 
 pub returns : goal.returns
 returns g c = λ rows s short.
-    let e = ap length c.deref-entry-items.ensures.value in
+    let e = ap length c.as_slice-entry-items.ensures.value in
     let f = c.loop-entry-test.false in
     let len = s.len in
     sym (none-have (wants c.args.wanted.now) rows (λ j b. c.loop-entry.invariant rows s short j (omega arith)))

@@ -20,7 +20,7 @@ keep_map-requires-clause-index g c =
     let m = g.S.Words.memory c.args.store.now in
     let n = g.S.Words.memory c.copy_in.new.self in
     let w = wrote m n c.args.self c.args.address c.args.offset c.args.from.now c.requires.module c.requires.block (rw c.take_map-map.ensures.same at c.copy_in.ensures) in
-    maps_on (λ v. v.items) _ _ (same_shape m n c.args.self _ _ _ _ _ w c.requires.module c.span.ensures c.span-2.ensures) c.take_map-map.result c.take_map-map.ensures.index
+    maps_on _ _ _ (same_shape m n c.args.self _ _ _ _ _ w c.requires.module c.span.ensures c.span-2.ensures) c.take_map-map.result c.take_map-map.ensures.index
 
 pub returns : goal.returns
 returns g c =

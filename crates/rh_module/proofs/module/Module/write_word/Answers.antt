@@ -20,7 +20,7 @@ keep_map-requires-clause-index g c =
     let m = g.S.Words.memory c.args.store.now in
     let n = g.S.Words.memory c.set_word.new.self in
     let w = wrote_word m n c.args.self c.args.address c.args.offset c.args.w c.requires.module c.requires.block (rw c.take_map-map.ensures.same at c.set_word.ensures) in
-    maps_on (λ v. v.items) _ _ (same_shape m n c.args.self _ _ _ _ _ w c.requires.module c.span.ensures c.span-2.ensures) c.take_map-map.result c.take_map-map.ensures.index
+    maps_on _ _ _ (same_shape m n c.args.self _ _ _ _ _ w c.requires.module c.span.ensures c.span-2.ensures) c.take_map-map.result c.take_map-map.ensures.index
 
 pub returns : goal.returns
 returns g c =

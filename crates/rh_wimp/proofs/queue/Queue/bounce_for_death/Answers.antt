@@ -76,7 +76,7 @@ remove-requires g c =
     let a = goal.at.remove-requires g c in
     let w = at_last g a.After-end_chain c.requires.queue.post (then_there g a.After-end_held c.requires.queue.post (place g a.In-Some) c.requires.queue.spells) c.requires.queue.spells in
     let l : c.in-Some.at < length c.self-2.inside.entries.items = subst (λ (q : Chains). c.in-Some.at < length q.entries) (sym c.self-2.view_is) w.0 in
-    omega (arith, c.self-2.inside.entries.ok.0)
+    omega arith
 
 pub returns-clause-leaves : goal.returns-clause-leaves
 returns-clause-leaves g c = left c.requires.queue (λ post s.

@@ -10,7 +10,7 @@ pub returns-clause-spells : goal.returns-clause-spells
 returns-clause-spells c = λ h post s.
     let q : Chains = record { entries = c.self.inside.entries.items; live = c.self.inside.live; next_ref = c.self.inside.next_ref } in
     let s' : IsPost h q post = subst (λ (k : Chains). IsPost h k post) (sym c.self.view_is) s in
-    subst (λ es. IsPost h (record { entries = es; live = q.live; next_ref = q.next_ref }) (post_join c.args.handle post)) (sym c.push_reserved.ensures.items)
+    subst (λ es. IsPost h (record { entries = es; live = q.live; next_ref = q.next_ref }) (post_join c.args.handle post)) (sym c.push.ensures.items)
     (join-spells h q post c.args.handle s' (λ e. c.requires.new (subst (HasEntry c.args.handle) c.self.view_is e)))
 
 pub returns-clause-still : goal.returns-clause-still

@@ -1,5 +1,4 @@
-use Rattle.std.proofs.Common.{◌+◌, length, sym, ap, subst, ◌∙◌, arith}
-use Rattle.rh_defs.specs.Post.{Post}
+use Rattle.std.proofs.Common.{length, sym, ap, subst, ◌∙◌, arith}
 use Rattle.rh_module.specs.Area.{heap_in}
 use Rattle.rh_wimp.specs.Chains.{Chains, SpellsPost, rows_of}
 use Rattle.std.specs.Prelude.{◌++◌}

@@ -1,5 +1,5 @@
 use Rattle.std.proofs.Common.{◌≡◌, ◌≢◌, ◌<◌, Bool, List, true, length, sym, ap, subst, ◌∙◌, arith}
-use Rattle.std.specs.Prelude.{Option, Some, None, ◌==◌}
+use Rattle.std.specs.Prelude.{Option, Some, None}
 use Rattle.std.specs.Option.{option_map}
 use Rattle.rh_defs.specs.Messages.{Parcel}
 use Rattle.rh_defs.specs.Post.{Post, has_seat, held_by, holds_such, post_poll}

@@ -107,7 +107,7 @@ invariant_of-self g c =
     let o = (goal.at.invariant_of-self g c).In_ok-block in
     let a = asks g o c.requires.queue.post c.requires.queue.spells in
     let few = admitted-refs c.args.letter.to (seen g o) a.1 in
-    (c.answer-freed.ensures.capacity ∙ c.append.ensures.capacity ∙ c.self.invariant.0, omega arith)
+    omega arith
 
 pub returns-clause-answer : goal.returns-clause-answer
 unfolding seen
