@@ -7,7 +7,7 @@ ghost use Rattle.rh_store.specs.Limits.{area_limit};
 
 use rh_defs::sizes::PAGE;
 use rh_store::bytes::{copy_from, part_of, put_in, put_word_in, slide_in, word_in, zero_in};
-use rh_store::{AreaId, Paged, Pages, StoreFault, Words, WordsMut};
+use rh_store::{AreaId, NoLines, Paged, Pages, StoreFault, Words, WordsMut};
 
 /// Bytes that a caller lends to be written, at most 1 GiB of them. Their first pages are the area 0, and the whole
 /// pages behind are free.
@@ -45,6 +45,8 @@ impl Words for LentPagesMut<'_> {
 }
 
 impl WordsMut for LentPagesMut<'_> {
+    type Lines = NoLines;
+
     fn set_word(&mut self, _id: AreaId, at: usize, w: u32) {
         let bytes = &mut *self.bytes;
         put_word_in(bytes, at, w);

@@ -5,7 +5,7 @@ ghost use Rattle.std.specs.Prelude.{◌≡◌, ◌≤◌, length};
 ghost use Rattle.rh_store.specs.Limits.{area_limit};
 
 use rh_store::bytes::{copy_from, part_of, put_in, put_word_in, slide_in, word_in, zero_in};
-use rh_store::{AreaId, Words, WordsMut};
+use rh_store::{AreaId, NoLines, Words, WordsMut};
 
 /// Bytes that a caller lends to be written, at most 1 GiB of them: the area 0.
 #[derive(Drop)]
@@ -40,6 +40,8 @@ impl Words for LentMut<'_> {
 }
 
 impl WordsMut for LentMut<'_> {
+    type Lines = NoLines;
+
     fn set_word(&mut self, _id: AreaId, at: usize, w: u32) {
         let bytes = &mut *self.bytes;
         put_word_in(bytes, at, w);

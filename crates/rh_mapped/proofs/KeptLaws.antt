@@ -1,67 +1,66 @@
 -- What keeps a map that of its area's heap.
 use Rattle.std.proofs.Common.{◌≡◌, ◌≢◌, ℕ, zero, suc, ◌+◌, ◌-◌, ◌*◌, ◌≤◌, inl, inr, true, false, List, [], ◌∷◌, ◌++◌, length, refl, sym, ap, subst, ◌∙◌, arith}
-use Rattle.std.specs.Prelude.{slice_index, Option, Some, None, IfSome, Result, Ok, Err, IfOk, OnOk, OnErr, ◌⊎◌, IsNone}
+use Rattle.std.specs.Prelude.{slice_index, Option, Some, None, IfSome, Result, Ok, Err, IfOk, OnOk, OnErr, IsNone}
 use Rattle.std.proofs.lemmas.Bool.{cases_eq}
 use Rattle.rh_defs.specs.declared.sizes.TheConstants.{PAGE}
 use Rattle.rh_defs.specs.Bytes.{SameIn, SameOutside}
-use Rattle.rh_defs.specs.Memory.{Memory, bytes, with_bytes, opened, closed, grown, shrunk, IsOpen}
+use Rattle.rh_defs.specs.Memory.{Memory, bytes, with_bytes, opened, closed, grown, shrunk}
 use Rattle.rh_defs.specs.HeapImage.{Spells, heap_of}
 use Rattle.rh_defs.proofs.BytesLaws.{SameIn-below, SameIn-above}
 use Rattle.rh_defs.proofs.HeapLaws.{heap_of-Spells}
 use Rattle.rh_defs.proofs.MemoryLaws.{bytes-with_bytes, bytes-with_other, bytes-none, bytes-opened, bytes-opened_other, bytes-closed_other, bytes-grown_other, bytes-shrunk_other, length-grown, length-shrunk, SameIn-grown, SameIn-shrunk}
 use Rattle.rh_defs.proofs.SlotLaws.{Spells-same}
-use Rattle.rh_store.specs.Starts.{IsIndex, IsMapOf, IsKept}
-use Rattle.rh_store.specs.declared.starts.Starts.{Starts}
+use Rattle.rh_store.specs.Starts.{IsIndex, IsMapOf}
 use Rattle.rh_store.specs.declared.store.AreaId.{AreaId}
 use Rattle.rh_store.specs.declared.store.StoreFault.{StoreFault}
-use Rattle.rh_mapped.specs.Maps.{map_of, AreKept, AreReached, AreTied, EndsBy, IsOff, Forgot, Spoilt}
+use Rattle.rh_mapped.specs.Maps.{Map, IsKeptMap, map_of, AreKept, AreReached, AreTied, EndsBy, IsOff, Forgot, Spoilt}
 
 -- a map stays that of bytes in which its heap's bytes stay
-pub map_same : (b c : List ℕ) (s : Starts) → SameIn b c s.at s.upper → s.upper ≤ length c → IsMapOf b s → IsMapOf c s
-map_same b c s same within k =
-    let h = heap_of b s.at in
-    let spells : Spells c s.at h = Spells-same b c s.at h (subst (λ u. SameIn b c s.at u) k.upper same) (omega (arith, k.upper)) k.spells in
-    let is : heap_of c s.at ≡ h = heap_of-Spells c s.at h spells in
+pub map_same : (starts b c : List ℕ) (at upper : ℕ) → SameIn b c at upper → upper ≤ length c → IsMapOf starts b at upper → IsMapOf starts c at upper
+map_same starts b c at upper same within k =
+    let h = heap_of b at in
+    let spells : Spells c at h = Spells-same b c at h (subst (λ u. SameIn b c at u) k.upper_is same) (omega (arith, k.upper_is)) k.spells in
+    let is : heap_of c at ≡ h = heap_of-Spells c at h spells in
     record {
-      spells = subst (Spells c s.at) (sym is) spells;
-      upper = k.upper ∙ ap (λ g. s.at + g.end) (sym is);
-      index = subst (IsIndex s.lines.items) (sym is) k.index;
+      spells = subst (Spells c at) (sym is) spells;
+      upper_is = k.upper_is ∙ ap (λ g. at + g.end) (sym is);
+      index = subst (IsIndex starts) (sym is) k.index;
     }
 
 -- the heap's bytes lie in the area's
-pub map_within : (b : List ℕ) (s : Starts) → IsMapOf b s → s.upper ≤ length b
-map_within b s k = let w = k.spells.within in omega (arith, k.upper)
+pub map_within : (starts b : List ℕ) (at upper : ℕ) → IsMapOf starts b at upper → upper ≤ length b
+map_within starts b at upper k = let w = k.spells.within in omega (arith, k.upper_is)
 
 -- one that is off the bytes that change stays
-pub kept_off : (b c : List ℕ) (low upper : ℕ) → SameOutside b c low upper → (o : Option Starts) → IfSome o (IsOff low upper) → IfSome o (IsKept b) → IfSome o (IsKept c)
+pub kept_off : (b c : List ℕ) (low upper : ℕ) → SameOutside b c low upper → (o : Option Map) → IfSome o (IsOff low upper) → IfSome o (IsKeptMap b) → IfSome o (IsKeptMap c)
 kept_off b c low upper out None off k = tt
 kept_off b c low upper out (Some s) off k = λ known.
     let m = k known in
-    let within : s.upper ≤ length c = omega (arith, map_within b s m, out.len) in
+    let within : s.upper ≤ length c = omega (arith, map_within s.lines.items b s.at s.upper m, out.len) in
     elim (off known) [
-      | inl above ↦ map_same b c s (SameIn-above b c low upper s.at s.upper out above) within m
-      | inr below ↦ map_same b c s (SameIn-below b c low upper s.at s.upper out below) within m
+      | inl above ↦ map_same s.lines.items b c s.at s.upper (SameIn-above b c low upper s.at s.upper out above) within m
+      | inr below ↦ map_same s.lines.items b c s.at s.upper (SameIn-below b c low upper s.at s.upper out below) within m
     ]
 
 -- one that isn't said to be up to date is kept of any bytes
-pub kept_unknown : (c : List ℕ) (o : Option Starts) → IfSome o (λ s. s.known ≡ false) → IfSome o (IsKept c)
+pub kept_unknown : (c : List ℕ) (o : Option Map) → IfSome o (λ s. s.known ≡ false) → IfSome o (IsKeptMap c)
 kept_unknown c None off = tt
 kept_unknown c (Some s) off = λ known. absurd (let bad : false ≡ true = sym off ∙ known in cc)
 
-module _ (m n : Memory) (old new : List (Option Starts)) (id : ℕ) where
+module _ (m n : Memory) (old new : List (Option Map)) (id : ℕ) where
   -- what is known of one area and of the others
-  pub each : AreKept m old → ((j : ℕ) → j ≢ id → map_of new j ≡ map_of old j) → ((j : ℕ) → j ≢ id → bytes n j ≡ bytes m j) → IfSome (map_of new id) (IsKept (bytes n id)) → AreKept n new
+  pub each : AreKept m old → ((j : ℕ) → j ≢ id → map_of new j ≡ map_of old j) → ((j : ℕ) → j ≢ id → bytes n j ≡ bytes m j) → IfSome (map_of new id) (IsKeptMap (bytes n id)) → AreKept n new
   each k others stay here j = elim (cases_eq j id) [
-    | inl same ↦ subst (λ i. IfSome (map_of new i) (IsKept (bytes n i))) (sym same) here
+    | inl same ↦ subst (λ i. IfSome (map_of new i) (IsKeptMap (bytes n i))) (sym same) here
     | inr apart ↦ rw (others j apart, stay j apart) (k j)
   ]
 
 -- a map that isn't said to be up to date ends wherever one likes
-ends_unknown : (reach : ℕ) (o : Option Starts) → IfSome o (λ s. s.known ≡ false) → IfSome o (EndsBy reach)
+ends_unknown : (reach : ℕ) (o : Option Map) → IfSome o (λ s. s.known ≡ false) → IfSome o (EndsBy reach)
 ends_unknown reach None off = tt
 ends_unknown reach (Some s) off = λ known. absurd (let bad : false ≡ true = sym off ∙ known in cc)
 
-module _ (old new : List (Option Starts)) (reach : List ℕ) (id : ℕ) where
+module _ (old new : List (Option Map)) (reach : List ℕ) (id : ℕ) where
   reached_each : AreReached old reach → ((j : ℕ) → j ≢ id → map_of new j ≡ map_of old j) → IfSome (map_of new id) (EndsBy (slice_index reach id)) → AreReached new reach
   reached_each r others here j = elim (cases_eq j id) [
     | inl same ↦ subst (λ i. IfSome (map_of new i) (EndsBy (slice_index reach i))) (sym same) here
@@ -75,41 +74,41 @@ module _ (old new : List (Option Starts)) (reach : List ℕ) (id : ℕ) where
   reached_spoilt r s = reached_each r s.others (ends_unknown (slice_index reach id) (map_of new id) s.off)
 
 -- bytes of an area are written
-written : (m : Memory) (old new : List (Option Starts)) (id low upper : ℕ) (bs : List ℕ) → AreKept m old → Forgot old new id low upper → SameOutside (bytes m id) bs low upper
+written : (m : Memory) (old new : List (Option Map)) (id low upper : ℕ) (bs : List ℕ) → AreKept m old → Forgot old new id low upper → SameOutside (bytes m id) bs low upper
     → AreKept (with_bytes m id bs) new
 written m old new id low upper bs k f out =
     each m (with_bytes m id bs) old new id k f.others (bytes-with_other m id bs)
     (rw (bytes-with_bytes m id bs) (kept_off (bytes m id) bs low upper out (map_of new id) f.off (f.still (bytes m id) (k id))))
 
-pub kept_written : (m : Memory) (old new : List (Option Starts)) (reach : List ℕ) (id low upper : ℕ) (bs : List ℕ) → AreTied m old reach → Forgot old new id low upper → SameOutside (bytes m id) bs low upper
+pub kept_written : (m : Memory) (old new : List (Option Map)) (reach : List ℕ) (id low upper : ℕ) (bs : List ℕ) → AreTied m old reach → Forgot old new id low upper → SameOutside (bytes m id) bs low upper
     → AreTied (with_bytes m id bs) new reach
 kept_written m old new reach id low upper bs t f out = record { kept = written m old new id low upper bs t.kept f out; reached = reached_forgot old new reach id low upper t.reached f }
 
 -- an area gets pages
-grown_here : (m : Memory) (id n : ℕ) (o : Option Starts) → IfSome o (IsKept (bytes m id)) → IfSome o (IsKept (bytes (grown m id n) id))
+grown_here : (m : Memory) (id n : ℕ) (o : Option Map) → IfSome o (IsKeptMap (bytes m id)) → IfSome o (IsKeptMap (bytes (grown m id n) id))
 grown_here m id n None k = tt
 grown_here m id n (Some s) k = λ known.
     let at = k known in
-    let within = map_within (bytes m id) s at in
-    map_same (bytes m id) (bytes (grown m id n) id) s (SameIn-grown m id n s.at s.upper within) (omega (arith, length-grown m id n)) at
+    let within = map_within s.lines.items (bytes m id) s.at s.upper at in
+    map_same s.lines.items (bytes m id) (bytes (grown m id n) id) s.at s.upper (SameIn-grown m id n s.at s.upper within) (omega (arith, length-grown m id n)) at
 
-pub kept_grown : (m : Memory) (maps : List (Option Starts)) (id n : ℕ) → AreKept m maps → AreKept (grown m id n) maps
+pub kept_grown : (m : Memory) (maps : List (Option Map)) (id n : ℕ) → AreKept m maps → AreKept (grown m id n) maps
 kept_grown m maps id n k = each m (grown m id n) maps maps id k (λ j apart. refl) (bytes-grown_other m id n) (grown_here m id n (map_of maps id) (k id))
 
 -- an area loses its last pages
-shrunk_here : (m : Memory) (id n : ℕ) → PAGE * n ≤ length (bytes m id) → (o : Option Starts) → IfSome o (IsOff (length (bytes m id) - PAGE * n) (length (bytes m id))) → IfSome o (IsKept (bytes m id))
-    → IfSome o (IsKept (bytes (shrunk m id n) id))
+shrunk_here : (m : Memory) (id n : ℕ) → PAGE * n ≤ length (bytes m id) → (o : Option Map) → IfSome o (IsOff (length (bytes m id) - PAGE * n) (length (bytes m id))) → IfSome o (IsKeptMap (bytes m id))
+    → IfSome o (IsKeptMap (bytes (shrunk m id n) id))
 shrunk_here m id n room None off k = tt
 shrunk_here m id n room (Some s) off k = λ known.
     let at = k known in
-    let within = map_within (bytes m id) s at in
+    let within = map_within s.lines.items (bytes m id) s.at s.upper at in
     let fits = at.spells.heap.fits in
     elim (off known) [
-      | inl above ↦ absurd (let up = at.upper in let least : 16 ≤ (heap_of (bytes m id) s.at).end = omega arith in omega arith)
-      | inr below ↦ map_same (bytes m id) (bytes (shrunk m id n) id) s (SameIn-shrunk m id n s.at s.upper (omega arith)) (omega (arith, length-shrunk m id n)) at
+      | inl above ↦ absurd (let up = at.upper_is in let least : 16 ≤ (heap_of (bytes m id) s.at).end = omega arith in omega arith)
+      | inr below ↦ map_same s.lines.items (bytes m id) (bytes (shrunk m id n) id) s.at s.upper (SameIn-shrunk m id n s.at s.upper (omega arith)) (omega (arith, length-shrunk m id n)) at
     ]
 
-pub kept_shrunk : (m : Memory) (old new : List (Option Starts)) (reach : List ℕ) (id n : ℕ) → PAGE * n ≤ length (bytes m id) → AreTied m old reach
+pub kept_shrunk : (m : Memory) (old new : List (Option Map)) (reach : List ℕ) (id n : ℕ) → PAGE * n ≤ length (bytes m id) → AreTied m old reach
     → Forgot old new id (length (bytes m id) - PAGE * n) (length (bytes m id)) → AreTied (shrunk m id n) new reach
 kept_shrunk m old new reach id n room t f = record {
   kept = each m (shrunk m id n) old new id t.kept f.others (bytes-shrunk_other m id n) (shrunk_here m id n room (map_of new id) f.off (f.still (bytes m id) (t.kept id)));
@@ -117,19 +116,19 @@ kept_shrunk m old new reach id n room t f = record {
 }
 
 -- an area is opened, which had no bytes before
-pub kept_opened : (m : Memory) (maps : List (Option Starts)) (id : ℕ) → m.area id ≡ None → AreKept m maps → AreKept (opened m id) maps
+pub kept_opened : (m : Memory) (maps : List (Option Map)) (id : ℕ) → m.area id ≡ None → AreKept m maps → AreKept (opened m id) maps
 kept_opened m maps id closed k =
     each m (opened m id) maps maps id k (λ j apart. refl) (bytes-opened_other m id) (rw (bytes-opened m id, ← bytes-none m id closed) (k id))
 
 -- an area is closed
-pub kept_closed : (m : Memory) (old new : List (Option Starts)) (reach : List ℕ) (id : ℕ) → AreTied m old reach → Spoilt old new id → AreTied (closed m id) new reach
+pub kept_closed : (m : Memory) (old new : List (Option Map)) (reach : List ℕ) (id : ℕ) → AreTied m old reach → Spoilt old new id → AreTied (closed m id) new reach
 kept_closed m old new reach id t s = record {
   kept = each m (closed m id) old new id t.kept s.others (bytes-closed_other m id) (kept_unknown (bytes (closed m id) id) (map_of new id) s.off);
   reached = reached_spoilt old new reach id t.reached s;
 }
 
 -- ---- calls that may be refused
-pub kept_grow : (m n : Memory) (maps : List (Option Starts)) (id pages : ℕ) (result : Result (Unit {0}) StoreFault) → AreKept m maps → OnOk result (n ≡ grown m id pages) → OnErr result (n ≡ m) → AreKept n maps
+pub kept_grow : (m n : Memory) (maps : List (Option Map)) (id pages : ℕ) (result : Result (Unit {0}) StoreFault) → AreKept m maps → OnOk result (n ≡ grown m id pages) → OnErr result (n ≡ m) → AreKept n maps
 kept_grow m n maps id pages (Ok x) k ok err = rw ok (kept_grown m maps id pages k)
 kept_grow m n maps id pages (Err e) k ok err = rw err k
 
@@ -137,23 +136,23 @@ none_is : (o : Option (List ℕ)) → IsNone o → o ≡ None
 none_is None h = refl
 none_is (Some x) h = absurd cc
 
-pub kept_open : (m n : Memory) (maps : List (Option Starts)) (result : Result AreaId StoreFault) → AreKept m maps → IfOk result (λ id. IsNone (m.area id.0) × (n ≡ opened m id.0)) → OnErr result (n ≡ m) → AreKept n maps
+pub kept_open : (m n : Memory) (maps : List (Option Map)) (result : Result AreaId StoreFault) → AreKept m maps → IfOk result (λ id. IsNone (m.area id.0) × (n ≡ opened m id.0)) → OnErr result (n ≡ m) → AreKept n maps
 kept_open m n maps (Ok id) k ok err = rw ok.1 (kept_opened m maps id.0 (none_is (m.area id.0) ok.0) k)
 kept_open m n maps (Err e) k ok err = rw err k
 
 -- ---- maps of no heap yet
-abbrev pub AreUnknown : List (Option Starts) → Type 0
+abbrev pub AreUnknown : List (Option Map) → Type 0
 AreUnknown maps = (id : ℕ) → IfSome (map_of maps id) (λ s. s.known ≡ false)
 
 pub unknown_none : AreUnknown []
 unknown_none zero = tt
 unknown_none (suc id) = tt
 
-pub unknown_pushed : (maps : List (Option Starts)) (s : Starts) → s.known ≡ false → AreUnknown maps → AreUnknown (maps ++ Some s ∷ [])
+pub unknown_pushed : (maps : List (Option Map)) (s : Map) → s.known ≡ false → AreUnknown maps → AreUnknown (maps ++ Some s ∷ [])
 unknown_pushed [] s u k zero = u
 unknown_pushed [] s u k (suc id) = tt
 unknown_pushed (m ∷ ms) s u k zero = k zero
 unknown_pushed (m ∷ ms) s u k (suc id) = unknown_pushed ms s u (λ j. k (suc j)) id
 
-pub all_unknown : (m : Memory) (maps : List (Option Starts)) → AreUnknown maps → AreKept m maps
+pub all_unknown : (m : Memory) (maps : List (Option Map)) → AreUnknown maps → AreKept m maps
 all_unknown m maps k id = kept_unknown (bytes m id) (map_of maps id) (k id)

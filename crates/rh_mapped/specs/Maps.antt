@@ -1,42 +1,51 @@
 -- The maps that are kept beside the areas of a store, and what a write makes of them.
-use Rattle.std.specs.Prelude.{◌≡◌, ◌≢◌, ℕ, ◌≤◌, ◌⊎◌, true, false, List, length, get_or, slice_index, Option, None, IfSome}
+use Rattle.std.specs.Prelude.{◌≡◌, ◌≢◌, ℕ, ◌≤◌, ◌⊎◌, true, false, List, get_or, slice_index, Option, None, IfSome, Vec}
+use Rattle.std.specs.declared.alloc.Global.{Global}
 use Rattle.rh_defs.specs.Memory.{Memory, bytes}
 use Rattle.rh_store.specs.Starts.{IsKept}
 use Rattle.rh_store.specs.declared.starts.Starts.{Starts}
 
+-- a map whose lines stand in a vector
+abbrev pub Map : Type 0
+Map = Starts (Vec ℕ Global)
+
+-- where it is said to be up to date, it is
+abbrev pub IsKeptMap : List ℕ → Map → Type 0
+IsKeptMap = IsKept (λ lines. lines.items)
+
 -- the map of an area, none where there is none or it was taken
-abbrev pub map_of : List (Option Starts) → ℕ → Option Starts
+abbrev pub map_of : List (Option Map) → ℕ → Option Map
 map_of maps id = get_or maps id None
 
 -- each map that is said to be up to date is that of the heap in its area's bytes
-abbrev pub AreKept : Memory → List (Option Starts) → Type 0
-AreKept m maps = (id : ℕ) → IfSome (map_of maps id) (IsKept (bytes m id))
+abbrev pub AreKept : Memory → List (Option Map) → Type 0
+AreKept m maps = (id : ℕ) → IfSome (map_of maps id) (IsKeptMap (bytes m id))
 
 -- a map that is said to be up to date is of a heap that ends at this offset or below
-abbrev pub EndsBy : ℕ → Starts → Type 0
+abbrev pub EndsBy : ℕ → Map → Type 0
 EndsBy reach s = s.known ≡ true → s.upper ≤ reach
 
 -- so it is for each area with the number that stands for it
-abbrev pub AreReached : List (Option Starts) → List ℕ → Type 0
+abbrev pub AreReached : List (Option Map) → List ℕ → Type 0
 AreReached maps reach = (id : ℕ) → IfSome (map_of maps id) (EndsBy (slice_index reach id))
 
 -- the maps are those of the areas' heaps, none of which reaches further than said
-pub record AreTied (m : Memory) (maps : List (Option Starts)) (reach : List ℕ) : Type 0 where
+pub record AreTied (m : Memory) (maps : List (Option Map)) (reach : List ℕ) : Type 0 where
   pub kept : AreKept m maps
   pub reached : AreReached maps reach
 
 -- a map that is said to be up to date is of bytes that lie outside these
-abbrev pub IsOff : ℕ → ℕ → Starts → Type 0
+abbrev pub IsOff : ℕ → ℕ → Map → Type 0
 IsOff low upper s = s.known ≡ true → (upper ≤ s.at) ⊎ (s.upper ≤ low)
 
 -- The map of one area isn't said to be up to date any more where its heap meets the bytes from low up to upper. Nothing else changes.
-pub record Forgot (old new : List (Option Starts)) (id low upper : ℕ) : Type 0 where
+pub record Forgot (old new : List (Option Map)) (id low upper : ℕ) : Type 0 where
   pub off : IfSome (map_of new id) (IsOff low upper)
-  pub still : (b : List ℕ) → IfSome (map_of old id) (IsKept b) → IfSome (map_of new id) (IsKept b)
+  pub still : (b : List ℕ) → IfSome (map_of old id) (IsKeptMap b) → IfSome (map_of new id) (IsKeptMap b)
   pub ends : (reach : ℕ) → IfSome (map_of old id) (EndsBy reach) → IfSome (map_of new id) (EndsBy reach)
   pub others : (j : ℕ) → j ≢ id → map_of new j ≡ map_of old j
 
 -- the map of one area isn't said to be up to date, and nothing else changes
-pub record Spoilt (old new : List (Option Starts)) (id : ℕ) : Type 0 where
+pub record Spoilt (old new : List (Option Map)) (id : ℕ) : Type 0 where
   pub off : IfSome (map_of new id) (λ s. s.known ≡ false)
   pub others : (j : ℕ) → j ≢ id → map_of new j ≡ map_of old j

@@ -1,8 +1,7 @@
 //! The store with its maps.
-ghost use Rattle.std.specs.Prelude.{◌≡◌, false, IfOk, IfSome};
-ghost use Rattle.rh_mapped.specs.Maps.{EndsBy};
+ghost use Rattle.std.specs.Prelude.{◌≡◌, false, IfOk};
 
-use crate::maps::{AREA_NUMBERS, forget, lengthened, spoil};
+use crate::maps::{AREA_NUMBERS, Map, forget, lengthened, spoil};
 use rh_defs::sizes::{MAX_AREAS, PAGE, WORD};
 use rh_store::{
     AreaId, LINE_BYTES, Paged, Pages, Sited, Starts, Store, StoreFault, Words, WordsMut,
@@ -16,7 +15,7 @@ use std::marker::Model;
 #[derive(Drop)]
 pub struct Mapped<S: Store> {
     store: S,
-    maps: Vec<Option<Starts>>,
+    maps: Vec<Option<Map>>,
     reach: [usize; AREA_NUMBERS],
 }
 
@@ -31,7 +30,7 @@ impl<S: Store> Model for Mapped<S> {
 }
 
 /// A map of no heap yet, with room for so many words.
-fn blank(alloc: Global, words: usize) -> Result<Starts, AllocError>
+fn blank(alloc: Global, words: usize) -> Result<Map, AllocError>
     ensures { IfOk result (λ starts. starts.known ≡ false) }
 {
     let lines = Vec::with_capacity(alloc, words)?;
@@ -41,16 +40,6 @@ fn blank(alloc: Global, words: usize) -> Result<Starts, AllocError>
         at: 0,
         upper: 0,
     })
-}
-
-/// The end of the heap that a map is of, 0 where there is no map.
-fn reach_of(starts: &Option<Starts>) -> usize
-    ensures { IfSome starts.now (EndsBy result) }
-{
-    match starts {
-        Some(starts) => starts.upper,
-        None => 0,
-    }
 }
 
 impl<S: Store + Drop> Mapped<S> {
@@ -119,6 +108,8 @@ impl<S: Store> Words for Mapped<S> {
 }
 
 impl<S: Store> WordsMut for Mapped<S> {
+    type Lines = Vec<u64>;
+
     #[inline(always)]
     fn set_word(&mut self, id: AreaId, at: usize, w: u32) {
         forget(&mut self.maps, &self.reach, id, at, at + WORD);
@@ -141,7 +132,7 @@ impl<S: Store> WordsMut for Mapped<S> {
     }
 
     #[inline(always)]
-    fn take_starts(&mut self, id: AreaId) -> Option<Starts> {
+    fn take_starts(&mut self, id: AreaId) -> Option<Map> {
         let k = id.0 as usize;
         if k >= self.maps.len() {
             return None;
@@ -158,11 +149,16 @@ impl<S: Store> WordsMut for Mapped<S> {
     }
 
     #[inline(always)]
-    fn keep_starts(&mut self, id: AreaId, starts: Option<Starts>) {
+    fn keep_starts(&mut self, id: AreaId, lines: Vec<u64>, known: bool, at: usize, upper: usize) {
         let k = id.0 as usize;
         if k < self.maps.len() {
-            self.reach[k] = reach_of(&starts);
-            self.maps[k] = starts;
+            self.reach[k] = upper;
+            self.maps[k] = Some(Starts {
+                lines,
+                known,
+                at,
+                upper,
+            });
         }
     }
 }

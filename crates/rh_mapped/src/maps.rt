@@ -4,6 +4,9 @@ ghost use Rattle.rh_mapped.specs.Maps.{AreReached, Forgot, Spoilt};
 
 use rh_store::{AreaId, Starts};
 
+/// A map whose lines stand in a vector.
+pub type Map = Starts<Vec<u64>>;
+
 /// How many numbers an area may have.
 pub const AREA_NUMBERS: usize = u8::MAX as usize + 1;
 
@@ -11,7 +14,7 @@ pub const AREA_NUMBERS: usize = u8::MAX as usize + 1;
 /// lie above all that the area's map reaches to, and cost no more than to see that.
 #[inline(always)]
 pub fn forget(
-    maps: &mut Vec<Option<Starts>>,
+    maps: &mut Vec<Option<Map>>,
     reach: &[usize; AREA_NUMBERS],
     id: AreaId,
     low: usize,
@@ -27,7 +30,7 @@ pub fn forget(
 
 /// The same where the area's map may reach so far.
 #[inline(never)]
-fn forget_met(maps: &mut Vec<Option<Starts>>, id: usize, low: usize, upper: usize)
+fn forget_met(maps: &mut Vec<Option<Map>>, id: usize, low: usize, upper: usize)
     ensures { Forgot maps.old.items maps.new.items id low upper }
 {
     if id < maps.len() {
@@ -41,7 +44,7 @@ fn forget_met(maps: &mut Vec<Option<Starts>>, id: usize, low: usize, upper: usiz
 
 /// The map with as many words as an area has by now, or twice as many as it had where there is room. It isn't up to date
 /// then. None where there is no room for the area's words, which a map has from the start.
-pub fn lengthened(starts: Starts, words: usize) -> Option<Starts>
+pub fn lengthened(starts: Map, words: usize) -> Option<Map>
     ensures long { IfSome result (λ starts. words ≤ length starts.lines.items) }
     ensures unknown { IfSome result (λ starts. starts.known ≡ false) }
 {
@@ -62,7 +65,7 @@ pub fn lengthened(starts: Starts, words: usize) -> Option<Starts>
 }
 
 /// Says of an area's map that it isn't up to date.
-pub fn spoil(maps: &mut Vec<Option<Starts>>, id: usize)
+pub fn spoil(maps: &mut Vec<Option<Map>>, id: usize)
     ensures { Spoilt maps.old.items maps.new.items id }
 {
     if id < maps.len() {

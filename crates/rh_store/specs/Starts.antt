@@ -33,12 +33,12 @@ pub record IsIndex (starts : List ℕ) (h : Heap) : Type 0 where
   pub used : (k : ℕ) → bit USED starts k ≡ used_at (HEAP_UNIT * k) first_place h.segments
   pub holes : (k : ℕ) → bit HOLES starts k ≡ hole_at (HEAP_UNIT * k) first_place h.segments
 
--- the bytes from the map's offset on spell a heap up to its upper end, and the map is that heap's
-pub record IsMapOf (b : List ℕ) (s : Starts) : Type 0 where
-  pub spells : Spells b s.at (heap_of b s.at)
-  pub upper : s.upper ≡ s.at + (heap_of b s.at).end
-  pub index : IsIndex s.lines.items (heap_of b s.at)
+-- the bytes from an offset on spell a heap up to another one, and the map is that heap's
+pub record IsMapOf (starts b : List ℕ) (at upper : ℕ) : Type 0 where
+  pub spells : Spells b at (heap_of b at)
+  pub upper_is : upper ≡ at + (heap_of b at).end
+  pub index : IsIndex starts (heap_of b at)
 
--- where it is said to be up to date, it is
-abbrev pub IsKept : List ℕ → Starts → Type 0
-IsKept b s = s.known ≡ true → IsMapOf b s
+-- where the words of a map's lines are said to be up to date, they are
+abbrev pub IsKept : {L : Type 0} → (L → List ℕ) → List ℕ → Starts L → Type 0
+IsKept words b s = s.known ≡ true → IsMapOf (words s.lines) b s.at s.upper

@@ -12,6 +12,7 @@ use crate::area::{
     slide_at, zero_at,
 };
 use crate::bytes::{copy_from, part_of, word_in};
+use crate::starts::NoLines;
 use crate::store::{AreaId, Paged, Pages, Store, StoreFault, Words, WordsMut};
 use rh_defs::sizes::{MAX_AREAS, MIN_PAGES, PAGE};
 use std::alloc::{AllocError, Global};
@@ -83,6 +84,8 @@ impl Words for PlainStore {
 }
 
 impl WordsMut for PlainStore {
+    type Lines = NoLines;
+
     fn set_word(&mut self, id: AreaId, at: usize, w: u32) {
         set_word_at(&mut self.areas, id.0 as usize, at, w);
     }

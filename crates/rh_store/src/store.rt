@@ -1,14 +1,14 @@
 //! Areas of bytes that are made of pages.
-ghost use Rattle.std.specs.Prelude.{◌≡◌, ℕ, ◌+◌, ◌-◌, ◌*◌, ◌/◌, ◌%◌, ◌<◌, ◌≤◌, ◌↔◌, ◌⊎◌, length, replicate, IsTrue, IsNone, IfOk, IfSome, OnErr, OnOk, IsErr, IsErrOf};
+ghost use Rattle.std.specs.Prelude.{◌≡◌, ℕ, ◌+◌, ◌-◌, ◌*◌, ◌/◌, ◌%◌, ◌<◌, ◌≤◌, ◌↔◌, ◌⊎◌, true, length, replicate, IsTrue, IsNone, IfOk, IfSome, OnErr, OnOk, IsErr, IsErrOf};
 ghost use Rattle.rh_defs.specs.Bytes.{word, put, put_word, part};
 ghost use Rattle.rh_defs.specs.Memory.{Memory, IsOpen, Ledger, bytes, with_bytes, opened, closed, grown, shrunk, open_below};
 ghost use Rattle.rh_defs.specs.HeapImage.{heap_of};
 ghost use Rattle.rh_store.specs.Limits.{area_limit, pool_limit};
-ghost use Rattle.rh_store.specs.Starts.{IsIndex, IsKept};
+ghost use Rattle.rh_store.specs.Starts.{IsIndex, IsKept, IsMapOf};
 ghost use Rattle.rh_store.specs.declared.starts.TheConstants.{LINE_BYTES};
 ghost use Rattle.rh_defs.specs.declared.sizes.TheConstants.{MAX_AREAS, PAGE};
 
-use crate::starts::Starts;
+use crate::starts::{Lines, Starts};
 use rh_defs::sizes::MAX_AREAS;
 use thiserror::Error;
 
@@ -74,6 +74,9 @@ pub trait Words {
 ///
 /// No call changes an area's length, opens or closes one, or takes memory.
 pub trait WordsMut: Words {
+    /// The lines of the maps that the store keeps: `NoLines` where it keeps none.
+    type Lines: Lines;
+
     /// Writes a word of four bytes in little-endian order at an offset, at any alignment.
     fn set_word(&mut self, id: AreaId, at: usize, w: u32)
         requires opened { IsOpen (Self.memory self.old) id.0 }
@@ -104,18 +107,26 @@ pub trait WordsMut: Words {
             (put (bytes (Self.memory self.old) id.0) at from.now) };
 
     /// Takes the map that the store keeps of an area, if it keeps one. It has lines for all of the area.
-    fn take_starts(&mut self, _id: AreaId) -> Option<Starts>
+    fn take_starts(&mut self, _id: AreaId) -> Option<Starts<Self::Lines>>
         requires opened { IsOpen (Self.memory self.old) _id.0 }
         ensures same { Self.memory self.new ≡ Self.memory self.old }
-        ensures kept { IfSome result (IsKept (bytes (Self.memory self.old) _id.0)) }
-        ensures long { IfSome result (λ starts. length (bytes (Self.memory self.old) _id.0) ≤ LINE_BYTES * (length starts.lines.items / 2)) }
+        ensures kept { IfSome result (IsKept Self.Lines.words (bytes (Self.memory self.old) _id.0)) }
+        ensures long { IfSome result (λ starts. length (bytes (Self.memory self.old) _id.0) ≤ LINE_BYTES * (length (Self.Lines.words starts.lines) / 2)) }
     {
         None
     }
 
-    /// Keeps a map of an area that was taken.
-    fn keep_starts(&mut self, _id: AreaId, _starts: Option<Starts>)
-        requires { IfSome _starts (IsKept (bytes (Self.memory self.old) _id.0)) }
+    /// Keeps the lines of a map of an area that was taken, whether they are up to date, and from which offset of the area
+    /// up to which the heap stands that they are of.
+    fn keep_starts(
+        &mut self,
+        _id: AreaId,
+        _lines: Self::Lines,
+        _known: bool,
+        _at: usize,
+        _upper: usize,
+    )
+        requires { _known ≡ true → IsMapOf (Self.Lines.words _lines) (bytes (Self.memory self.old) _id.0) _at _upper }
         ensures { Self.memory self.new ≡ Self.memory self.old }
     {}
 }

@@ -18,18 +18,18 @@ use crate::span::words::read;
 use crate::span::{Span, claim, release, resize, segments, whole};
 use rh_defs::HeapRefusal;
 use rh_defs::sizes::{HEAP_BASE, HEAP_END};
-use rh_store::{Starts, Words, WordsMut};
+use rh_store::{Lines, Starts, Words, WordsMut};
 
 /// The bytes up to a heap's base from which a map pays: those below hold too few segments.
 const SHORT: usize = 1024;
 
 /// Takes the map that the store keeps of the heap, where it is up to date. No call finds it until it is kept again.
 #[inline(always)]
-pub fn take_map<S: WordsMut>(store: &mut S, span: Span) -> Option<Vec<u64>>
+pub fn take_map<S: WordsMut>(store: &mut S, span: Span) -> Option<S::Lines>
     requires { IsSpan (S.memory store.old) span }
     ensures same { S.memory store.new ≡ S.memory store.old }
-    ensures index { IfSome result (λ lines. IsIndex lines.items (heap_in (S.memory store.old) span)) }
-    ensures long { IfSome result (λ lines. length (bytes_in (S.memory store.old) span) ≤ LINE_BYTES * (length lines.items / 2)) }
+    ensures index { IfSome result (λ lines. IsIndex (S.Lines.words lines) (heap_in (S.memory store.old) span)) }
+    ensures long { IfSome result (λ lines. length (bytes_in (S.memory store.old) span) ≤ LINE_BYTES * (length (S.Lines.words lines) / 2)) }
 {
     if store.starts(span.area, span.at).is_none() {
         return None;
@@ -39,11 +39,11 @@ pub fn take_map<S: WordsMut>(store: &mut S, span: Span) -> Option<Vec<u64>>
 
 /// Takes the map that the store keeps of the heap, and makes it anew where it isn't up to date.
 #[inline(always)]
-fn take_lines<S: WordsMut>(store: &mut S, span: Span) -> Option<Vec<u64>>
+fn take_lines<S: WordsMut>(store: &mut S, span: Span) -> Option<S::Lines>
     requires { IsSpan (S.memory store.old) span }
     ensures same { S.memory store.new ≡ S.memory store.old }
-    ensures index { IfSome result (λ lines. IsIndex lines.items (heap_in (S.memory store.old) span)) }
-    ensures long { IfSome result (λ lines. length (bytes_in (S.memory store.old) span) ≤ LINE_BYTES * (length lines.items / 2)) }
+    ensures index { IfSome result (λ lines. IsIndex (S.Lines.words lines) (heap_in (S.memory store.old) span)) }
+    ensures long { IfSome result (λ lines. length (bytes_in (S.memory store.old) span) ≤ LINE_BYTES * (length (S.Lines.words lines) / 2)) }
 {
     let Some(starts) = store.take_starts(span.area) else {
         return None;
@@ -57,17 +57,17 @@ fn take_lines<S: WordsMut>(store: &mut S, span: Span) -> Option<Vec<u64>>
     if known && at == span.at {
         return Some(lines);
     }
-    index(store, span, &mut lines);
+    index(store, span, lines.as_mut_slice());
     Some(lines)
 }
 
 /// Takes a map of the heap for a call that changes it: of a short heap only where it is up to date.
 #[inline(always)]
-fn map_for_change<S: WordsMut>(store: &mut S, span: Span) -> Option<Vec<u64>>
+fn map_for_change<S: WordsMut>(store: &mut S, span: Span) -> Option<S::Lines>
     requires { IsSpan (S.memory store.old) span }
     ensures same { S.memory store.new ≡ S.memory store.old }
-    ensures index { IfSome result (λ lines. IsIndex lines.items (heap_in (S.memory store.old) span)) }
-    ensures long { IfSome result (λ lines. length (bytes_in (S.memory store.old) span) ≤ LINE_BYTES * (length lines.items / 2)) }
+    ensures index { IfSome result (λ lines. IsIndex (S.Lines.words lines) (heap_in (S.memory store.old) span)) }
+    ensures long { IfSome result (λ lines. length (bytes_in (S.memory store.old) span) ≤ LINE_BYTES * (length (S.Lines.words lines) / 2)) }
 {
     if read(store, span, HEAP_BASE) < SHORT && store.starts(span.area, span.at).is_none() {
         return None;
@@ -77,22 +77,16 @@ fn map_for_change<S: WordsMut>(store: &mut S, span: Span) -> Option<Vec<u64>>
 
 /// Lets the store keep a map of the heap that was taken from it, as the heap is now.
 #[inline(always)]
-pub fn keep_map<S: WordsMut>(store: &mut S, span: Span, map: Option<Vec<u64>>)
+pub fn keep_map<S: WordsMut>(store: &mut S, span: Span, map: Option<S::Lines>)
     requires span { IsSpan (S.memory store.old) span }
-    requires index { IfSome map (λ lines. IsIndex lines.items (heap_in (S.memory store.old) span)) }
+    requires index { IfSome map (λ lines. IsIndex (S.Lines.words lines) (heap_in (S.memory store.old) span)) }
     ensures { S.memory store.new ≡ S.memory store.old }
 {
     let Some(lines) = map else {
         return;
     };
     let upper = span.at + read(store, span, HEAP_END);
-    let starts = Starts {
-        lines,
-        known: true,
-        at: span.at,
-        upper,
-    };
-    store.keep_starts(span.area, Some(starts));
+    store.keep_starts(span.area, lines, true, span.at, upper);
 }
 
 /// Claims a block of `n` bytes at least, all 0, and answers its address: in the first hole with room, or above all
@@ -105,7 +99,7 @@ pub fn claim<S: WordsMut>(store: &mut S, span: Span, n: u32) -> Result<usize, He
     let Some(mut lines) = map_for_change(store, span) else {
         return claim::claim(store, span, n);
     };
-    let result = claim_in(store, span, &mut lines, n);
+    let result = claim_in(store, span, lines.as_mut_slice(), n);
     keep_map(store, span, Some(lines));
     result
 }
@@ -120,7 +114,7 @@ pub fn release<S: WordsMut>(store: &mut S, span: Span, address: usize) -> Result
     let Some(mut lines) = map_for_change(store, span) else {
         return release::release(store, span, address);
     };
-    let result = release_in(store, span, &mut lines, address);
+    let result = release_in(store, span, lines.as_mut_slice(), address);
     keep_map(store, span, Some(lines));
     result
 }
@@ -141,7 +135,7 @@ pub fn resize<S: WordsMut>(
     let Some(mut lines) = map_for_change(store, span) else {
         return resize::resize(store, span, address, delta);
     };
-    let result = resize_in(store, span, &mut lines, address, delta);
+    let result = resize_in(store, span, lines.as_mut_slice(), address, delta);
     keep_map(store, span, Some(lines));
     result
 }

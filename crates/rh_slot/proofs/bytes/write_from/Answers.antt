@@ -49,7 +49,7 @@ keep_map-requires-clause-index g c =
     let r = reached_part _ _ _ _ (bytes m c.args.from.0) c.args.place _ c.requires.slot.spells c.requires.fits c.requires.reach in
     let s = written_in c.args.address xs (buffer_at c.args.address c.args.room old) old in
     let l = copied m n c.args.slot (Ok (s, tt)) s _ _ refl (reached_budging _ _ _ _ r) (rw c.take_map-map.ensures.same at c.copy.ensures) (reached_spells _ _ _ _ _ c.requires.slot.spells r) in
-    map_after (λ v. v.items) m n c.args.slot s _ _ l.slot (reached_shape _ _ _ _ r) c.span.ensures c.span-2.ensures c.take_map-map.result c.take_map-map.ensures.index
+    map_after _ m n c.args.slot s _ _ l.slot (reached_shape _ _ _ _ r) c.span.ensures c.span-2.ensures c.take_map-map.result c.take_map-map.ensures.index
 
 pub returns : goal.returns
 returns g c =

@@ -1,5 +1,4 @@
 use Rattle.std.proofs.Common.{arith}
-use Rattle.rh_defs.specs.Bytes.{put_word}
 use Rattle.rh_defs.specs.Memory.{bytes}
 use Rattle.rh_defs.proofs.BytesLaws.{put_word_outside}
 use Rattle.rh_mapped.proofs.KeptLaws.{kept_written}
