@@ -1,9 +1,13 @@
 pub mod Areas
 pub mod Chunks
 pub mod Counts
+pub mod Passing
 pub mod Regions
+pub mod Rows
 pub mod Seats
+pub mod Shifts
 pub mod Spots
 pub mod Start
 pub mod Steps
+pub mod Tables
 pub mod Turns

@@ -1,4 +1,5 @@
 pub mod Kept
 pub mod Sited
 pub mod Pages
+pub mod Table
 pub mod Paged

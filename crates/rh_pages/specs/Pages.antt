@@ -1,7 +1,7 @@
 -- Areas that are made of pages of a region.
-use Rattle.std.specs.Prelude.{◌≡◌, ℕ, ◌+◌, ◌*◌, ◌/◌, ◌%◌, ◌≤◌, if◌then◌else◌, Bool, false, List, [], ◌∷◌, ◌++◌, length, get_or, Option, Some, None}
+use Rattle.std.specs.Prelude.{◌≡◌, ℕ, ◌+◌, ◌*◌, ◌/◌, ◌%◌, ◌≤◌, if◌then◌else◌, Bool, false, List, [], ◌∷◌, ◌++◌, length, get_or, take, Option, Some, None}
 use Rattle.rh_defs.specs.Bytes.{part}
-use Rattle.rh_defs.specs.declared.sizes.TheConstants.{PAGE}
+use Rattle.rh_defs.specs.declared.sizes.TheConstants.{MAX_AREAS, PAGE}
 use Rattle.rh_defs.specs.Memory.{Memory, Ledger}
 use Rattle.rh_store.specs.Shares.{times, times_all}
 
@@ -17,6 +17,13 @@ bytes_of region (k ∷ ks) = page region k ++ bytes_of region ks
 -- the page list of an area
 abbrev pub list_at : List (List ℕ) → ℕ → List ℕ
 list_at lists id = get_or lists id []
+
+-- the page lists of all areas, and that of the free pages, among the lists of a table
+abbrev pub areas_in : List (List ℕ) → List (List ℕ)
+areas_in lists = take MAX_AREAS lists
+
+abbrev pub free_in : List (List ℕ) → List ℕ
+free_in lists = list_at lists MAX_AREAS
 
 -- what the area of a number contains, None where it is closed
 unfoldable pub contents : List ℕ → List (List ℕ) → List Bool → ℕ → Option (List ℕ)

@@ -2,10 +2,11 @@
 #![tactic(auto, unfolding(rh_defs::specs::Memory::bytes, crate::specs::Paged::memory_of))]
 
 use super::PagedStore;
+use crate::ground::Ground;
 use rh_defs::sizes::PAGE;
 use rh_store::AreaId;
 
-impl PagedStore {
+impl<G: Ground> PagedStore<G> {
     ghost use Rattle.std.specs.Prelude.{◌≡◌, ◌≢◌, ℕ, ◌+◌, ◌≤◌, length};
     ghost use Rattle.rh_defs.specs.Bytes.{part, put};
     ghost use Rattle.rh_defs.specs.Memory.{IsOpen, bytes, with_bytes};

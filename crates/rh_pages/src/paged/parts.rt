@@ -2,10 +2,12 @@
 #![tactic(auto, unfolding(rh_defs::specs::Memory::bytes, crate::specs::Paged::memory_of))]
 
 use super::PagedStore;
+use crate::ground::Ground;
+use crate::table::FREE;
 use rh_defs::sizes::PAGE;
 use rh_store::AreaId;
 
-impl PagedStore {
+impl<G: Ground> PagedStore<G> {
     ghost use Rattle.std.specs.Prelude.{◌≡◌, ℕ, ◌+◌, ◌*◌, ◌%◌, ◌<◌, ◌≤◌, length, replicate};
     ghost use Rattle.rh_defs.specs.Bytes.{part, put};
     ghost use Rattle.rh_defs.specs.Memory.{IsOpen, bytes, with_bytes, grown, shrunk};
@@ -22,7 +24,7 @@ impl PagedStore {
             (put (bytes (memory_of self.old) id.0) at (replicate n 0)) }
     {
         let place = self.spot(id, at);
-        self.region.zero(place, n);
+        self.site.zero(place, n);
     }
 
     /// Copies bytes from one page to one page, which can be the same. The two runs may overlap.
@@ -39,7 +41,7 @@ impl PagedStore {
     {
         let from = self.spot(id, at);
         let to = self.spot(id2, at2);
-        self.region.slide(from, to, n);
+        self.site.slide(from, to, n);
     }
 
     /// Writes bytes that were lent to one page.
@@ -52,9 +54,7 @@ impl PagedStore {
             (put (bytes (memory_of self.old) id.0) at from.now) }
     {
         let place = self.spot(id, at);
-        self.region
-            .bytes_mut(place, from.len())
-            .copy_from_slice(from);
+        self.site.copy_in(place, from);
     }
 
     /// Fills a buffer that was lent with bytes of one page.
@@ -66,7 +66,7 @@ impl PagedStore {
         ensures { to.new ≡ part (bytes (memory_of self.now) id.0) at (length to.old) }
     {
         let place = self.spot(id, at);
-        to.copy_from_slice(self.region.bytes(place, to.len()));
+        to.copy_from_slice(self.site.bytes(place, to.len()));
     }
 
     /// Zeroes a free page and appends it to an area.
@@ -75,10 +75,9 @@ impl PagedStore {
         requires some { 0 < (memory_of self.old).free }
         ensures { memory_of self.new ≡ grown (memory_of self.old) id.0 1 }
     {
-        let k = self.free.pop();
-        self.region.zero(PAGE * k, PAGE);
-        let list = &mut self.areas[id.0 as usize];
-        list.push(k);
+        let k = self.table.pop(&self.site, FREE);
+        self.site.zero(PAGE * k as usize, PAGE);
+        self.table.push(&mut self.site, id.0 as usize, k);
     }
 
     /// Takes an area's last page off and frees it.
@@ -87,8 +86,7 @@ impl PagedStore {
         requires some { PAGE ≤ length (bytes (memory_of self.old) id.0) }
         ensures { memory_of self.new ≡ shrunk (memory_of self.old) id.0 1 }
     {
-        let list = &mut self.areas[id.0 as usize];
-        let k = list.pop();
-        self.free.push(k);
+        let k = self.table.pop(&self.site, id.0 as usize);
+        self.table.push(&mut self.site, FREE, k);
     }
 }

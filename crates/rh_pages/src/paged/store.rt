@@ -4,8 +4,10 @@
 ghost use Rattle.std.specs.Prelude.{◌≡◌, ℕ, ◌<◌, true, false, get_or, length, unwrap_or, IfSome};
 
 use super::PagedStore;
+use crate::ground::Ground;
+use crate::table::FREE;
 use rh_defs::sizes::{PAGE, WORD};
-use rh_store::{AreaId, Paged, Pages, Sited, Store, StoreFault, Words, WordsMut};
+use rh_store::{AreaId, NoLines, Paged, Pages, Sited, Store, StoreFault, Words, WordsMut};
 
 /// The number of the first area that isn't open.
 fn first_closed(opened: &[bool]) -> Option<usize>
@@ -20,7 +22,7 @@ fn first_closed(opened: &[bool]) -> Option<usize>
     None
 }
 
-impl Words for PagedStore {
+impl<G: Ground> Words for PagedStore<G> {
     ghost use Rattle.rh_pages.specs.Paged.{memory_of, small_law};
 
     ghost memory = { memory_of };
@@ -30,11 +32,9 @@ impl Words for PagedStore {
         let offset = at - PAGE * page;
         if offset <= PAGE - WORD {
             let start = self.place(id, page);
-            self.region.word(start + offset)
+            self.site.word(start + offset)
         } else {
-            let mut bytes = [0; WORD];
-            self.copy_out(id, at, &mut bytes);
-            u32::from_le_bytes(bytes)
+            self.word_across(id, at)
         }
     }
 
@@ -51,25 +51,27 @@ impl Words for PagedStore {
 
     fn run(&self, id: AreaId, at: usize) -> &[u8] {
         let first = self.spot(id, at);
-        self.region.bytes(first, PAGE - at % PAGE)
+        self.site.bytes(first, PAGE - at % PAGE)
     }
 
     fn len(&self, id: AreaId) -> usize {
-        PAGE * self.areas[id.0 as usize].len()
+        PAGE * self.table.len(id.0 as usize)
     }
 
     ghost small = { small_law };
 }
 
-impl WordsMut for PagedStore {
+impl<G: Ground> WordsMut for PagedStore<G> {
+    type Lines = NoLines;
+
     fn set_word(&mut self, id: AreaId, at: usize, w: u32) {
         let page = at / PAGE;
         let offset = at - PAGE * page;
         if offset <= PAGE - WORD {
             let start = self.place(id, page);
-            self.region.set_word(start + offset, w);
+            self.site.set_word(start + offset, w);
         } else {
-            self.copy_in(id, at, &w.to_le_bytes());
+            self.set_word_across(id, at, w);
         }
     }
 
@@ -103,22 +105,22 @@ impl WordsMut for PagedStore {
     }
 }
 
-impl Paged for PagedStore {
+impl<G: Ground> Paged for PagedStore<G> {
     ghost use Rattle.rh_pages.specs.Paged.{whole_law};
 
     fn rest_of_page(&self, id: AreaId, at: usize) -> &[u8] {
         let start = self.spot(id, at);
-        self.region.bytes(start, PAGE - at % PAGE)
+        self.site.bytes(start, PAGE - at % PAGE)
     }
 
     ghost whole = { whole_law };
 }
 
-impl Pages for PagedStore {
+impl<G: Ground> Pages for PagedStore<G> {
     ghost use Rattle.rh_pages.specs.Paged.{ledger_law, within_law, few_law};
 
     fn grow(&mut self, id: AreaId, pages: usize) -> Result<(), StoreFault> {
-        if self.free.len() < pages {
+        if self.table.len(FREE) < pages {
             return Err(StoreFault::NoPages);
         }
         for _page in 0..pages {
@@ -128,7 +130,7 @@ impl Pages for PagedStore {
     }
 
     fn grow_check(&self, id: AreaId, pages: usize) -> bool {
-        pages <= self.free.len()
+        pages <= self.table.len(FREE)
     }
 
     fn shrink(&mut self, id: AreaId, pages: usize) {
@@ -138,7 +140,7 @@ impl Pages for PagedStore {
     }
 
     fn free_pages(&self) -> usize {
-        self.free.len()
+        self.table.len(FREE)
     }
 
     ghost ledger = { ledger_law };
@@ -148,7 +150,7 @@ impl Pages for PagedStore {
     ghost few = { few_law };
 }
 
-impl Store for PagedStore {
+impl<G: Ground> Store for PagedStore<G> {
     ghost use Rattle.rh_pages.specs.Paged.{numbered_law};
 
     fn open(&mut self) -> Result<AreaId, StoreFault> {
@@ -178,7 +180,7 @@ impl Store for PagedStore {
     ghost numbered = { numbered_law };
 }
 
-impl Sited for PagedStore {
+impl<G: Ground> Sited for PagedStore<G> {
     ghost use Rattle.rh_pages.specs.Paged.{pages_of, free_of, shared_law};
 
     ghost pages_of = { pages_of };
@@ -186,11 +188,11 @@ impl Sited for PagedStore {
     ghost free_of = { free_of };
 
     fn page(&self, id: AreaId, i: usize) -> usize {
-        self.areas[id.0 as usize].at(i)
+        self.table.at(&self.site, id.0 as usize, i) as usize
     }
 
     fn free_page(&self, i: usize) -> usize {
-        self.free.at(i)
+        self.table.at(&self.site, FREE, i) as usize
     }
 
     ghost shared = { shared_law };

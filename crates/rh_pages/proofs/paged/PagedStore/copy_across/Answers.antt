@@ -7,13 +7,13 @@ use Rattle.rh_pages.proofs.Steps.{put_to, untouched, none_written, across_more}
 use Rattle.rh_pages.proofs.paged.PagedStore.copy_across.Goals as goal
 
 pub loop-done-init : goal.loop-done-init
-loop-done-init c =
+loop-done-init g c =
     let m = memory_of c.args.self.now in let id = c.args.id.0 in let id2 = c.args.id2.0 in let xs = part (bytes m id) c.args.at 0 in
     let e = none_written m id2 c.args.at2 xs c.requires.opened2 (part_none (bytes m id) c.args.at) in
     (omega arith, (untouched m m id id2 (put (bytes m id2) c.args.at2 xs) c.requires.apart c.requires.opened e, put_to m m id2 c.args.at2 xs e))
 
 pub loop-done-preserved : goal.loop-done-preserved
-loop-done-preserved c =
+loop-done-preserved g c =
     let m = memory_of c.args.self.now in let id = c.args.id.0 in let id2 = c.args.id2.0 in
     let d = c.loop-done.done in let n = c.min-run.result in let xs = part (bytes m id) c.args.at (d + n) in
     let x = c.min.ensures in let y = c.min-run.ensures in let t = c.loop-done-test.true in
@@ -22,7 +22,7 @@ loop-done-preserved c =
     (less, (untouched m u id id2 (put (bytes m id2) c.args.at2 xs) c.requires.apart c.requires.opened e, put_to m u id2 c.args.at2 xs e))
 
 pub returns : goal.returns
-returns c =
+returns g c =
     let m = memory_of c.args.self.now in let id = c.args.id.0 in let id2 = c.args.id2.0 in
     let end : c.loop-done.done ≡ c.args.n = omega arith in
     c.loop-done.invariant.1.1.memory ∙ ap (λ k. with_bytes m id2 (put (bytes m id2) c.args.at2 (part (bytes m id) c.args.at k))) end

@@ -1,56 +1,62 @@
 use Rattle.std.proofs.Common.{ℕ, ◌*◌, ◌∷◌, [], ◌++◌, List, length, set, replicate, refl, ap, ◌∙◌, arith}
 use Rattle.std.proofs.lemmas.List.{length-replicate, length_push}
 use Rattle.rh_defs.specs.declared.sizes.TheConstants.{MAX_AREAS, PAGE}
-use Rattle.rh_pages.specs.Paged.{memory_of}
+use Rattle.rh_pages.specs.declared.table.TheConstants.{LISTS}
+use Rattle.rh_pages.specs.Pages.{free_in, list_at}
+use Rattle.rh_pages.specs.Paged.{memory_of, region_of, pages_of, free_of, numbered_law}
+use Rattle.rh_pages.specs.Table.{lists_of}
+use Rattle.rh_pages.proofs.Passing.{same_area}
 use Rattle.rh_pages.proofs.Regions.{zeroed}
-use Rattle.rh_pages.proofs.Seats.{area_index, list_read}
-use Rattle.rh_pages.proofs.Turns.{page_free, page_within, grown_kept, grown_memory, room_left}
+use Rattle.rh_pages.proofs.Seats.{area_below, table_of}
+use Rattle.rh_pages.proofs.Shifts.{free_within, grown_is_kept, grown_is_memory}
+use Rattle.rh_pages.proofs.Turns.{page_free, room_left}
 use Rattle.rh_pages.proofs.paged.PagedStore.grow_page.Goals as goal
 
 pub pop-k-requires : goal.pop-k-requires
 unfolding memory_of
-pop-k-requires c = c.requires.some
+pop-k-requires g c = record { list = omega arith; long = c.args.self.now.long; some = c.requires.some }
 
 pub overflow_mul-k : goal.overflow_mul-k
 unfolding memory_of
-overflow_mul-k c =
-    let s = c.args.self.now in
-    let a = page_free s.region s.areas.items s.opened.items s.free s.pages MAX_AREAS s.kept c.args.id.0 c.requires.opened c.pop-k.new.self c.pop-k.result c.pop-k.ensures in let b = s.few in omega arith
+overflow_mul-k g c =
+    let s = c.args.self.now in let free = free_in (lists_of (g.G.Ground.numbers s.site) c.pop-k.new.self) in
+    let a = page_free (region_of s) (pages_of s) s.opened (free_of s) s.table.room MAX_AREAS s.kept c.args.id.0 c.requires.opened free c.pop-k.result c.pop-k.ensures.last in let b = s.few in omega arith
 
 pub zero-requires : goal.zero-requires
-unfolding memory_of
-zero-requires c =
+zero-requires g c =
     let s = c.args.self.now in
-    page_within s.region s.areas.items s.opened.items s.free s.pages MAX_AREAS s.kept c.args.id.0 c.requires.opened c.pop-k.new.self c.pop-k.result c.pop-k.ensures
-
-pub index_mut-list-requires : goal.index_mut-list-requires
-index_mut-list-requires c = omega (arith, area_index c.args.self.now c.args.id.0 c.requires.opened)
+    free_within s c.args.id.0 c.pop-k.result (free_in (lists_of (g.G.Ground.numbers s.site) c.pop-k.new.self)) c.requires.opened c.pop-k.ensures.last
 
 pub push-requires : goal.push-requires
 unfolding memory_of
-push-requires c =
-    let s = c.args.self.now in
-    let e = ap length (list_read s c.args.id.0 c.index_mut-list.result.now c.requires.opened c.index_mut-list.ensures.value) in
-    let room = room_left s.region s.areas.items s.opened.items s.free s.pages MAX_AREAS s.kept c.args.id.0 c.requires.opened in
-    let a = ap length c.pop-k.ensures in let b = length_push c.pop-k.new.self c.pop-k.result in let few = s.few in omega arith
+push-requires g c =
+    let s = c.args.self.now in let id = c.args.id.0 in let numbers = g.G.Ground.numbers s.site in let mid = lists_of numbers c.pop-k.new.self in
+    let same = ap length (same_area (table_of s) mid (set mid id (list_at mid id ++ c.pop-k.result ∷ [])) MAX_AREAS id c.pop-k.result (numbered_law s id c.requires.opened) c.pop-k.ensures.lists refl) in
+    let room = room_left (region_of s) (pages_of s) s.opened (free_of s) s.table.room MAX_AREAS s.kept id c.requires.opened in
+    let a = ap length c.pop-k.ensures.last in let b = length_push (free_in mid) c.pop-k.result in
+    let there = ap (λ l. length (list_at (lists_of l c.pop-k.new.self) id)) c.zero.ensures.numbers in
+    record {
+      list = area_below s id c.requires.opened;
+      long = omega (arith, ap (λ l. length l) c.zero.ensures.numbers, ap (λ n. LISTS * n) c.pop-k.ensures.room, s.long);
+      room = omega (arith, c.pop-k.ensures.room);
+    }
 
 pub invariant_of-self : goal.invariant_of-self
-unfolding memory_of
-invariant_of-self c =
-    let s = c.args.self.now in let id = c.args.id.0 in let k = c.pop-k.result in
-    let e = c.push.ensures ∙ ap (λ (l : List ℕ). l ++ k ∷ []) (list_read s id c.index_mut-list.result.now c.requires.opened c.index_mut-list.ensures.value) in
-    let w = page_within s.region s.areas.items s.opened.items s.free s.pages MAX_AREAS s.kept id c.requires.opened c.pop-k.new.self k c.pop-k.ensures in
+invariant_of-self g c =
+    let s = c.args.self.now in let id = c.args.id.0 in let numbers = g.G.Ground.numbers s.site in let k = c.pop-k.result in let mid = lists_of numbers c.pop-k.new.self in
+    let on = c.push.ensures.lists ∙ ap (λ (l : List ℕ). set (lists_of l c.pop-k.new.self) id (list_at (lists_of l c.pop-k.new.self) id ++ k ∷ [])) c.zero.ensures.numbers in
+    let room = c.push.ensures.room ∙ c.pop-k.ensures.room in
+    let written = c.push.ensures.bytes ∙ c.zero.ensures.after ∙ zeroed (region_of s) (PAGE * k) PAGE (free_within s id k (free_in mid) c.requires.opened c.pop-k.ensures.last) in
     record {
-      few = s.few;
-      kept = grown_kept s.region s.areas.items s.opened.items s.free s.pages MAX_AREAS s.kept id c.requires.opened c.pop-k.new.self k c.pop-k.ensures
-          c.zero.new.self (replicate PAGE 0) (c.zero.ensures.after ∙ zeroed s.region (PAGE * k) PAGE w) (length-replicate {A = ℕ} PAGE 0) _ (ap (set s.areas.items id) e);
+      few = omega (arith, room, s.few);
+      long = omega (arith, c.push.ensures.len, ap (λ l. length l) c.zero.ensures.numbers, ap (λ n. LISTS * n) room, s.long);
+      kept = grown_is_kept s id k _ mid _ c.requires.opened room c.pop-k.ensures.last c.pop-k.ensures.lists on _ (replicate PAGE 0) written (length-replicate {A = ℕ} PAGE 0);
     }
 
 pub returns : goal.returns
 unfolding memory_of
-returns c =
-    let s = c.args.self.now in let id = c.args.id.0 in let k = c.pop-k.result in
-    let e = c.push.ensures ∙ ap (λ (l : List ℕ). l ++ k ∷ []) (list_read s id c.index_mut-list.result.now c.requires.opened c.index_mut-list.ensures.value) in
-    let w = page_within s.region s.areas.items s.opened.items s.free s.pages MAX_AREAS s.kept id c.requires.opened c.pop-k.new.self k c.pop-k.ensures in
-    grown_memory s.region s.areas.items s.opened.items s.free s.pages MAX_AREAS s.kept id c.requires.opened c.pop-k.new.self k c.pop-k.ensures
-    c.zero.new.self (replicate PAGE 0) (c.zero.ensures.after ∙ zeroed s.region (PAGE * k) PAGE w) (length-replicate {A = ℕ} PAGE 0) _ (ap (set s.areas.items id) e) 1 refl refl
+returns g c =
+    let s = c.args.self.now in let id = c.args.id.0 in let numbers = g.G.Ground.numbers s.site in let k = c.pop-k.result in let mid = lists_of numbers c.pop-k.new.self in
+    let on = c.push.ensures.lists ∙ ap (λ (l : List ℕ). set (lists_of l c.pop-k.new.self) id (list_at (lists_of l c.pop-k.new.self) id ++ k ∷ [])) c.zero.ensures.numbers in
+    let written = c.push.ensures.bytes ∙ c.zero.ensures.after ∙ zeroed (region_of s) (PAGE * k) PAGE (free_within s id k (free_in mid) c.requires.opened c.pop-k.ensures.last) in
+    grown_is_memory s id k _ mid _ c.requires.opened (c.push.ensures.room ∙ c.pop-k.ensures.room) c.pop-k.ensures.last c.pop-k.ensures.lists on _ (replicate PAGE 0) written (length-replicate {A = ℕ} PAGE 0) refl

@@ -7,12 +7,12 @@ use Rattle.rh_pages.proofs.Steps.{put_to, none_written, down_more}
 use Rattle.rh_pages.proofs.paged.PagedStore.slide_down.Goals as goal
 
 pub loop-done-init : goal.loop-done-init
-loop-done-init c =
+loop-done-init g c =
     let m = memory_of c.args.self.now in let id = c.args.id.0 in let b = bytes m id in
     (omega arith, put_to m m id c.args.to (part b c.args.from 0) (none_written m id c.args.to (part b c.args.from 0) c.requires.opened (part_none b c.args.from)))
 
 pub loop-done-preserved : goal.loop-done-preserved
-loop-done-preserved c =
+loop-done-preserved g c =
     let m = memory_of c.args.self.now in let id = c.args.id.0 in let b = bytes m id in
     let d = c.loop-done.done in let n = c.min-run.result in let source = c.requires.source in
     let x = c.min.ensures in let y = c.min-run.ensures in let t = c.loop-done-test.true in
@@ -23,7 +23,7 @@ loop-done-preserved c =
     )
 
 pub returns : goal.returns
-returns c =
+returns g c =
     let m = memory_of c.args.self.now in let id = c.args.id.0 in let b = bytes m id in
     let end : c.loop-done.done ≡ c.args.n = omega arith in
     c.loop-done.invariant.1.memory ∙ ap (λ k. with_bytes m id (put b c.args.to (part b c.args.from k))) end

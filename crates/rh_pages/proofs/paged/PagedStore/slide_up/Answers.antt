@@ -7,14 +7,14 @@ use Rattle.rh_pages.proofs.Steps.{put_to, none_written, up_more}
 use Rattle.rh_pages.proofs.paged.PagedStore.slide_up.Goals as goal
 
 pub loop-left-init : goal.loop-left-init
-loop-left-init c =
+loop-left-init g c =
     let m = memory_of c.args.self.now in let id = c.args.id.0 in let b = bytes m id in let n = c.args.n in
     let none : n - n ≡ 0 = omega arith in
     let empty : part b (c.args.from + n) (n - n) ≡ [] = ap (part b (c.args.from + n)) none ∙ part_none b (c.args.from + n) in
     (omega arith, put_to m m id (c.args.to + n) (part b (c.args.from + n) (n - n)) (none_written m id (c.args.to + n) (part b (c.args.from + n) (n - n)) c.requires.opened empty))
 
 pub loop-left-preserved : goal.loop-left-preserved
-loop-left-preserved c =
+loop-left-preserved g c =
     let m = memory_of c.args.self.now in let id = c.args.id.0 in let b = bytes m id in
     let x = c.loop-left.left in let n = c.min-run.result in let target = c.requires.target in
     let u = c.min.ensures in let v = c.min-run.ensures in let t = c.loop-left-test.true in let kept = c.loop-left.invariant.0 in
@@ -29,7 +29,7 @@ loop-left-preserved c =
     )
 
 pub returns : goal.returns
-returns c =
+returns g c =
     let m = memory_of c.args.self.now in let id = c.args.id.0 in let b = bytes m id in let n = c.args.n in
     let x = c.loop-left.left in let t = c.loop-left-test.false in let none : x ≡ 0 = omega arith in
     let to : c.args.to + x ≡ c.args.to = omega arith in let from : c.args.from + x ≡ c.args.from = omega arith in let all : n - x ≡ n = omega arith in

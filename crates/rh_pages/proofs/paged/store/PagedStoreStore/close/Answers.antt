@@ -5,7 +5,7 @@ use Rattle.rh_defs.specs.Memory.{Memory, IsOpen, area_set, bytes, shrunk}
 use Rattle.rh_defs.proofs.MemoryLaws.{IsOpen-shrunk, length-shrunk}
 use Rattle.rh_pages.specs.declared.paged.PagedStore.{PagedStore}
 use Rattle.rh_pages.specs.Pages.{list_at, IsStore, memory_in}
-use Rattle.rh_pages.specs.Paged.{memory_of, whole_law, numbered_law}
+use Rattle.rh_pages.specs.Paged.{memory_of, whole_law, numbered_law, region_of, pages_of, free_of}
 use Rattle.std.specs.Prelude.{false}
 use Rattle.std.proofs.Common.{set}
 use Rattle.rh_pages.proofs.Seats.{area_long}
@@ -18,11 +18,11 @@ none_in [] e = refl
 none_in (x ∷ xs) e = absurd (omega arith)
 
 -- what is left to close after all pages were cut off
-record Emptied (s w : PagedStore) (id : ℕ) : Type 0 where
-  pub kept : IsStore w.region w.areas.items (set w.opened.items id false) w.free w.pages MAX_AREAS
-  pub memory : memory_in w.region w.areas.items (set w.opened.items id false) w.free w.pages ≡ record { area = area_set (memory_of w).area id None; free = (memory_of w).free; pages = (memory_of w).pages; loan = (memory_of w).loan }
+record Emptied {G : _} {d : _} (s w : PagedStore G d) (id : ℕ) : Type 0 where
+  pub kept : IsStore (region_of w) (pages_of w) (set w.opened id false) (free_of w) w.table.room MAX_AREAS
+  pub memory : memory_in (region_of w) (pages_of w) (set w.opened id false) (free_of w) w.table.room ≡ record { area = area_set (memory_of w).area id None; free = (memory_of w).free; pages = (memory_of w).pages; loan = (memory_of w).loan }
 
-emptied : (s w : PagedStore) (id n : ℕ) → IsOpen (memory_of s) id → memory_of w ≡ shrunk (memory_of s) id n → n ≡ length (bytes (memory_of s) id) / PAGE → Emptied s w id
+emptied : {G : _} {d : _} (s w : PagedStore G d) (id n : ℕ) → IsOpen (memory_of s) id → memory_of w ≡ shrunk (memory_of s) id n → n ≡ length (bytes (memory_of s) id) / PAGE → Emptied s w id
 unfolding memory_of bytes
 emptied s w id n o e all =
     let lt = numbered_law s id o in
@@ -30,23 +30,23 @@ emptied s w id n o e all =
     let whole = whole_law s id in let left = ap (λ k. length (bytes k id)) e ∙ length-shrunk (memory_of s) id n in
     let no_bytes : length (bytes (memory_of w) id) ≡ 0 = omega arith in
     let long = area_long w id ow in
-    let none = none_in (list_at w.areas.items id) (omega arith) in
+    let none = none_in (list_at (pages_of w) id) (omega arith) in
     record {
-      kept = closed_kept w.region w.areas.items w.opened.items w.free w.pages MAX_AREAS w.kept id lt none no_bytes;
-      memory = closed_memory w.region w.areas.items w.opened.items w.free w.pages MAX_AREAS w.kept id lt none no_bytes;
+      kept = closed_kept (region_of w) (pages_of w) w.opened (free_of w) w.table.room MAX_AREAS w.kept id lt none no_bytes;
+      memory = closed_memory (region_of w) (pages_of w) w.opened (free_of w) w.table.room MAX_AREAS w.kept id lt none no_bytes;
     }
 
-pub index_mut-requires : goal.index_mut-requires
-index_mut-requires c = let lt = numbered_law c.args.self.now c.args.id.0 c.requires in let t = c.shrink.new.self.kept.flags in omega arith
+pub bounds-self-id : goal.bounds-self-id
+bounds-self-id g c = numbered_law c.args.self.now c.args.id.0 c.requires
 
 pub invariant_of-self : goal.invariant_of-self
-invariant_of-self c =
+invariant_of-self g c =
     let w = c.shrink.new.self in
-    record { few = w.few; kept = (emptied c.args.self.now w c.args.id.0 (c.len-pages.result / PAGE) c.requires c.shrink.ensures (ap (λ k. k / PAGE) c.len-pages.ensures)).kept }
+    record { few = w.few; long = w.long; kept = (emptied c.args.self.now w c.args.id.0 (c.len-pages.result / PAGE) c.requires c.shrink.ensures (ap (λ k. k / PAGE) c.len-pages.ensures)).kept }
 
 pub returns : goal.returns
 unfolding memory_of
-returns c =
+returns g c =
     let s = c.args.self.now in let w = c.shrink.new.self in let id = c.args.id.0 in let n = c.len-pages.result / PAGE in
     let all = ap (λ k. k / PAGE) c.len-pages.ensures in
     (emptied s w id n c.requires c.shrink.ensures all).memory

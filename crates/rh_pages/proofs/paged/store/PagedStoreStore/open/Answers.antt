@@ -1,9 +1,9 @@
-use Rattle.std.proofs.Common.{◌≡◌, ◌<◌, ℕ, Bool, true, false, List, length, get_or, refl, subst, ap, arith}
+use Rattle.std.proofs.Common.{◌≡◌, ◌<◌, ℕ, Bool, true, false, List, get_or, refl, arith}
 use Rattle.std.specs.Prelude.{IsSome}
 use Rattle.rh_defs.specs.declared.sizes.TheConstants.{MAX_AREAS}
 use Rattle.rh_defs.proofs.MemoryLaws.{open_below-all, open_below-none}
 use Rattle.rh_pages.specs.Pages.{contents}
-use Rattle.rh_pages.specs.Paged.{memory_of}
+use Rattle.rh_pages.specs.Paged.{memory_of, region_of, pages_of, free_of}
 use Rattle.rh_pages.proofs.Areas.{contents_marked}
 use Rattle.rh_pages.proofs.Start.{was_closed, opened_kept, opened_memory}
 use Rattle.rh_pages.proofs.paged.store.PagedStoreStore.open.Goals as goal
@@ -12,38 +12,38 @@ is_open : (r : List ℕ) (lists : List (List ℕ)) (flags : List Bool) (k : ℕ)
 is_open r lists flags k on = rw (contents_marked r lists flags k true on) refl
 
 pub invariant_of-self : goal.invariant_of-self
-invariant_of-self c =
+invariant_of-self g c =
     let s = c.args.self.now in let i = c.in-Some.i in
-    let off = subst (λ (l : List Bool). get_or l i false ≡ false) c.deref.ensures.value c.in-Some.ensures.closed.1 in
-    let h : i < MAX_AREAS = omega (arith, ap length c.deref.ensures.value, c.in-Some.ensures.closed.0, s.kept.flags) in
-    record { few = s.few; kept = opened_kept s.region s.areas.items s.opened.items s.free s.pages MAX_AREAS s.kept i h off }
+    let off = c.in-Some.ensures.closed.1 in
+    let h : i < MAX_AREAS = omega (arith, c.in-Some.ensures.closed.0, s.kept.flags) in
+    record { few = s.few; long = s.long; kept = opened_kept (region_of s) (pages_of s) s.opened (free_of s) s.table.room MAX_AREAS s.kept i h off }
 
 pub returns-in-None-clause-refused : goal.returns-in-None-clause-refused
 unfolding memory_of
-returns-in-None-clause-refused c =
+returns-in-None-clause-refused g c =
     let s = c.args.self.now in
-    let all = subst (λ (l : List Bool). (k : ℕ) → k < length l → get_or l k false ≡ true) c.deref.ensures.value c.in-None.ensures.least in
-    (λ _. open_below-all (contents s.region s.areas.items s.opened.items) MAX_AREAS (λ k h. is_open s.region s.areas.items s.opened.items k (all k (let table = s.kept.flags in omega arith))), λ _. refl)
+    let all = c.in-None.ensures.least in
+    (λ _. open_below-all (contents (region_of s) (pages_of s) s.opened) MAX_AREAS (λ k h. is_open (region_of s) (pages_of s) s.opened k (all k (let table = s.kept.flags in omega arith))), λ _. refl)
 
 pub returns-in-Some-clause-ok : goal.returns-in-Some-clause-ok
 unfolding memory_of
-returns-in-Some-clause-ok c =
+returns-in-Some-clause-ok g c =
     let s = c.args.self.now in let i = c.in-Some.i in
-    let off = subst (λ (l : List Bool). get_or l i false ≡ false) c.deref.ensures.value c.in-Some.ensures.closed.1 in
-    let h : i < MAX_AREAS = omega (arith, ap length c.deref.ensures.value, c.in-Some.ensures.closed.0, s.kept.flags) in
-    (rw (was_closed s.region s.areas.items s.opened.items s.free s.pages MAX_AREAS s.kept i h off) refl, opened_memory s.region s.areas.items s.opened.items s.free s.pages MAX_AREAS s.kept i h off)
+    let off = c.in-Some.ensures.closed.1 in
+    let h : i < MAX_AREAS = omega (arith, c.in-Some.ensures.closed.0, s.kept.flags) in
+    (rw (was_closed (region_of s) (pages_of s) s.opened (free_of s) s.table.room MAX_AREAS s.kept i h off) refl, opened_memory (region_of s) (pages_of s) s.opened (free_of s) s.table.room MAX_AREAS s.kept i h off)
 
 pub returns-in-Some-clause-least : goal.returns-in-Some-clause-least
 unfolding memory_of
-returns-in-Some-clause-least c =
+returns-in-Some-clause-least g c =
     let s = c.args.self.now in
-    λ k h. is_open s.region s.areas.items s.opened.items k (subst (λ (l : List Bool). get_or l k false ≡ true) c.deref.ensures.value (c.in-Some.ensures.least k h))
+    λ k h. is_open (region_of s) (pages_of s) s.opened k (c.in-Some.ensures.least k h)
 
 pub returns-in-Some-clause-refused : goal.returns-in-Some-clause-refused
 unfolding memory_of
-returns-in-Some-clause-refused c =
+returns-in-Some-clause-refused g c =
     let s = c.args.self.now in let i = c.in-Some.i in
-    let off = subst (λ (l : List Bool). get_or l i false ≡ false) c.deref.ensures.value c.in-Some.ensures.closed.1 in
-    let h : i < MAX_AREAS = omega (arith, ap length c.deref.ensures.value, c.in-Some.ensures.closed.0, s.kept.flags) in
-    let fewer = open_below-none (memory_of s) i MAX_AREAS (was_closed s.region s.areas.items s.opened.items s.free s.pages MAX_AREAS s.kept i h off) h in
+    let off = c.in-Some.ensures.closed.1 in
+    let h : i < MAX_AREAS = omega (arith, c.in-Some.ensures.closed.0, s.kept.flags) in
+    let fewer = open_below-none (memory_of s) i MAX_AREAS (was_closed (region_of s) (pages_of s) s.opened (free_of s) s.table.room MAX_AREAS s.kept i h off) h in
     (λ e. absurd (cc), λ e. absurd (omega (arith, e, fewer)))

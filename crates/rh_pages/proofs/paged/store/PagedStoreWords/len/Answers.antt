@@ -1,17 +1,17 @@
-use Rattle.std.proofs.Common.{length, ap, arith}
+use Rattle.std.proofs.Common.{arith}
 use Rattle.rh_pages.specs.Paged.{small_law}
-use Rattle.rh_pages.proofs.Seats.{area_index, list_read, area_long}
+use Rattle.rh_pages.proofs.Seats.{area_below, table_long}
 use Rattle.rh_pages.proofs.paged.store.PagedStoreWords.len.Goals as goal
 
-pub index-requires : goal.index-requires
-index-requires c = omega (arith, area_index c.args.self.now c.args.id.0 c.requires)
+pub len-requires : goal.len-requires
+len-requires g c = area_below c.args.self.now c.args.id.0 c.requires
 
 pub overflow_mul-result : goal.overflow_mul-result
-overflow_mul-result c =
-    let s = c.args.self.now in let e = ap length (list_read s c.args.id.0 c.index.result.now c.requires c.index.ensures) in
-    let long = area_long s c.args.id.0 c.requires in let small = small_law s c.args.id.0 in omega arith
+overflow_mul-result g c =
+    let s = c.args.self.now in let is = c.len.ensures (g.G.Ground.numbers s.site) s.long in
+    let long = table_long s c.args.id.0 c.requires in let small = small_law s c.args.id.0 in omega arith
 
 pub returns : goal.returns
-returns c =
-    let s = c.args.self.now in let e = ap length (list_read s c.args.id.0 c.index.result.now c.requires c.index.ensures) in
-    let long = area_long s c.args.id.0 c.requires in omega arith
+returns g c =
+    let s = c.args.self.now in let is = c.len.ensures (g.G.Ground.numbers s.site) s.long in
+    let long = table_long s c.args.id.0 c.requires in omega arith

@@ -1,20 +1,16 @@
-use Rattle.std.proofs.Common.{ap, ◌∙◌, arith, w32}
-use Rattle.std.specs.Int.{from_le_bytes}
+use Rattle.std.proofs.Common.{◌∙◌, arith}
 use Rattle.rh_defs.specs.Memory.{bytes}
-use Rattle.rh_pages.specs.Paged.{memory_of}
-use Rattle.rh_pages.proofs.Regions.{word-part_4, word_there}
+use Rattle.rh_pages.specs.Paged.{memory_of, region_of}
+use Rattle.rh_pages.proofs.Regions.{word_there}
 use Rattle.rh_pages.proofs.Seats.{seat, on_from_place}
 use Rattle.rh_pages.proofs.paged.store.PagedStoreWords.word.Goals as goal
 
 pub word-requires : goal.word-requires
-word-requires c =
+word-requires g c =
     (seat c.args.self.now c.args.id.0 c.args.at 4 _ c.requires.opened (omega arith) c.requires.within (let t = c.if-offset.true in omega arith) (on_from_place c.args.self.now c.args.id.0 c.args.at c.place-start.result c.place-start.ensures.value)).within
 
 pub returns-then-offset : goal.returns-then-offset
-returns-then-offset c =
+returns-then-offset g c =
     let s = c.args.self.now in
     let there = seat s c.args.id.0 c.args.at 4 _ c.requires.opened (omega arith) c.requires.within (let t = c.if-offset.true in omega arith) (on_from_place s c.args.id.0 c.args.at c.place-start.result c.place-start.ensures.value) in
-    c.word.ensures ∙ word_there s.region (bytes (memory_of s) c.args.id.0) _ c.args.at there.within there.read
-
-pub returns-else-offset : goal.returns-else-offset
-returns-else-offset c = c.from_le_bytes.ensures ∙ ap (from_le_bytes w32) c.copy_out.ensures ∙ word-part_4 (bytes (memory_of c.args.self.now) c.args.id.0) c.args.at
+    c.word.ensures ∙ word_there (region_of s) (bytes (memory_of s) c.args.id.0) _ c.args.at there.within there.read

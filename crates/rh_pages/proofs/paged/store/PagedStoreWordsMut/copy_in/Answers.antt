@@ -7,15 +7,15 @@ use Rattle.rh_pages.proofs.Steps.{put_to, none_written, copied_more}
 use Rattle.rh_pages.proofs.paged.store.PagedStoreWordsMut.copy_in.Goals as goal
 
 pub loop-done-init : goal.loop-done-init
-loop-done-init c =
+loop-done-init g c =
     let m = memory_of c.args.self.now in let id = c.args.id.0 in let xs = part c.args.from.now 0 0 in
     (omega arith, put_to m m id c.args.at xs (none_written m id c.args.at xs c.requires.opened (part_none c.args.from.now 0)))
 
 pub overflow_add-target : goal.overflow_add-target
-overflow_add-target c = let small = small_law c.args.self.now c.args.id.0 in let q = c.requires.within in let k = c.loop-done.invariant.0 in omega arith
+overflow_add-target g c = let small = small_law c.args.self.now c.args.id.0 in let q = c.requires.within in let k = c.loop-done.invariant.0 in omega arith
 
 pub loop-done-preserved : goal.loop-done-preserved
-loop-done-preserved c =
+loop-done-preserved g c =
     let m = memory_of c.args.self.now in let id = c.args.id.0 in let w = memory_of c.loop-done.self in let u = memory_of c.put_part.new.self in
     let d = c.loop-done.done in let n = c.min-run.result in let from = c.args.from.now in
     let y = c.min-run.ensures in let t = c.loop-done-test.true in
@@ -24,7 +24,7 @@ loop-done-preserved c =
     (less, put_to m u id c.args.at (part from 0 (d + n)) (copied_more m w u id c.args.at d n 0 from c.loop-done.invariant.1.memory e))
 
 pub returns : goal.returns
-returns c =
+returns g c =
     let m = memory_of c.args.self.now in let id = c.args.id.0 in let from = c.args.from.now in
     let end : c.loop-done.done ≡ length from = omega arith in
     c.loop-done.invariant.1.memory ∙ ap (λ l. with_bytes m id (put (bytes m id) c.args.at l)) (ap (part from 0) end ∙ part_all from)

@@ -6,15 +6,15 @@ use Rattle.rh_pages.proofs.Steps.{put_to, none_written, zeroed_more}
 use Rattle.rh_pages.proofs.paged.store.PagedStoreWordsMut.zero.Goals as goal
 
 pub loop-done-init : goal.loop-done-init
-loop-done-init c =
+loop-done-init g c =
     let m = memory_of c.args.self.now in let id = c.args.id.0 in
     (omega arith, put_to m m id c.args.at (replicate 0 0) (none_written m id c.args.at (replicate 0 0) c.requires.opened refl))
 
 pub overflow_add-target : goal.overflow_add-target
-overflow_add-target c = let small = small_law c.args.self.now c.args.id.0 in let q = c.requires.within in let k = c.loop-done.invariant.0 in omega arith
+overflow_add-target g c = let small = small_law c.args.self.now c.args.id.0 in let q = c.requires.within in let k = c.loop-done.invariant.0 in omega arith
 
 pub loop-done-preserved : goal.loop-done-preserved
-loop-done-preserved c =
+loop-done-preserved g c =
     let m = memory_of c.args.self.now in let id = c.args.id.0 in
     let d = c.loop-done.done in let n = c.min-run.result in
     let y = c.min-run.ensures in let t = c.loop-done-test.true in
@@ -22,7 +22,7 @@ loop-done-preserved c =
     (less, put_to m u id c.args.at (replicate (d + n) 0) (zeroed_more m (memory_of c.loop-done.self) u id c.args.at d n c.loop-done.invariant.1.memory c.zero_part.ensures))
 
 pub returns : goal.returns
-returns c =
+returns g c =
     let m = memory_of c.args.self.now in let id = c.args.id.0 in
     let end : c.loop-done.done ≡ c.args.n = omega arith in
     c.loop-done.invariant.1.memory ∙ ap (λ k. with_bytes m id (put (bytes m id) c.args.at (replicate k 0))) end

@@ -1,0 +1,50 @@
+use Rattle.std.proofs.Common.{◌≡◌, suc, ◌+◌, ◌*◌, ◌++◌, ◌∷◌, [], length, refl, ap, ◌∙◌, arith}
+use Rattle.std.proofs.lemmas.List.{get_or-set_same, take-set-le}
+use Rattle.rh_defs.specs.declared.sizes.TheConstants.{MAX_AREAS}
+use Rattle.rh_defs.specs.Memory.{fresh}
+use Rattle.rh_pages.specs.declared.table.TheConstants.{LISTS}
+use Rattle.rh_pages.specs.Pages.{areas_in, free_in, list_at}
+use Rattle.rh_pages.specs.Paged.{memory_of}
+use Rattle.rh_pages.specs.Table.{lists_of}
+use Rattle.rh_pages.proofs.Start.{first, length_first, fresh_kept, fresh_memory}
+use Rattle.rh_pages.proofs.Tables.{length_lists}
+use Rattle.rh_pages.proofs.paged.PagedStore.over.Goals as goal
+
+pub push-requires-clause-room : goal.push-requires-clause-room
+push-requires-clause-room g c =
+    let so_far = c.loop-k.invariant in let long = ap length so_far.free in let n = length_first c.loop-k.k in
+    omega (arith, so_far.room, c.loop-k-test.true)
+
+pub loop-k-preserved : goal.loop-k-preserved
+loop-k-preserved g c =
+    let so_far = c.loop-k.invariant in let was = lists_of (g.G.Ground.numbers c.loop-k.site) c.loop-k.table in
+    let x = list_at was MAX_AREAS ++ c.loop-k.k ∷ [] in
+    let more : suc c.loop-k.k ≡ c.loop-k.k + 1 = omega arith in
+    record {
+      count = omega (arith, c.loop-k-test.true);
+      room = c.push.ensures.room ∙ so_far.room;
+      bytes = c.push.ensures.bytes ∙ so_far.bytes;
+      long = c.push.ensures.len ∙ so_far.long;
+      areas = ap areas_in c.push.ensures.lists ∙ take-set-le MAX_AREAS was MAX_AREAS x (omega arith) ∙ so_far.areas;
+      free =
+          ap free_in c.push.ensures.lists
+          ∙ get_or-set_same was MAX_AREAS x [] (omega (arith, length_lists (g.G.Ground.numbers c.loop-k.site) c.loop-k.table))
+          ∙ ap (λ l. l ++ c.loop-k.k ∷ []) so_far.free ∙ ap first more;
+    }
+
+pub invariant_of-result : goal.invariant_of-result
+invariant_of-result g c =
+    let so_far = c.loop-k.invariant in let t = c.loop-k.table in let lists = lists_of (g.G.Ground.numbers c.loop-k.site) t in
+    let out : c.loop-k.k ≡ t.room = omega (arith, so_far.count, so_far.room, c.loop-k-test.false) in
+    record {
+      few = omega (arith, so_far.room, c.requires.most);
+      long = omega (arith, so_far.long, ap (λ n. LISTS * n) so_far.room, c.requires.numbers);
+      kept = fresh_kept (g.G.Ground.bytes c.loop-k.site) (areas_in lists) _ (free_in lists) t.room MAX_AREAS so_far.areas refl (so_far.free ∙ ap first out) (omega (arith, ap length so_far.bytes, so_far.room, c.requires.size));
+    }
+
+pub returns : goal.returns
+unfolding memory_of
+returns g c =
+    let so_far = c.loop-k.invariant in let t = c.loop-k.table in let lists = lists_of (g.G.Ground.numbers c.loop-k.site) t in
+    let out : c.loop-k.k ≡ t.room = omega (arith, so_far.count, so_far.room, c.loop-k-test.false) in
+    fresh_memory (g.G.Ground.bytes c.loop-k.site) (areas_in lists) _ (free_in lists) t.room MAX_AREAS so_far.areas refl (so_far.free ∙ ap first out) ∙ ap fresh so_far.room

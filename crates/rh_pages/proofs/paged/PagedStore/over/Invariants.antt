@@ -1,0 +1,16 @@
+use Rattle.std.proofs.Common.{◌≡◌, ◌≤◌, [], length, replicate}
+use Rattle.rh_defs.specs.declared.sizes.TheConstants.{MAX_AREAS}
+use Rattle.rh_pages.specs.Pages.{areas_in, free_in}
+use Rattle.rh_pages.specs.Table.{lists_of}
+use Rattle.rh_pages.proofs.Start.{first}
+use Rattle.rh_pages.proofs.paged.PagedStore.over.Given as goal
+
+abbrev pub invariant-loop-k : goal.invariant-loop-k
+invariant-loop-k g l = record {
+  count : l.k ≤ l.pages;
+  room : l.table.room ≡ l.pages;
+  bytes : g.G.Ground.bytes l.site ≡ g.G.Ground.bytes l.initial.site;
+  long : length (g.G.Ground.numbers l.site) ≡ length (g.G.Ground.numbers l.initial.site);
+  areas : areas_in (lists_of (g.G.Ground.numbers l.site) l.table) ≡ replicate MAX_AREAS [];
+  free : free_in (lists_of (g.G.Ground.numbers l.site) l.table) ≡ first l.k;
+}

@@ -1,0 +1,11 @@
+use Rattle.std.proofs.Common.{ap, ◌∙◌}
+use Rattle.rh_defs.specs.Bytes.{put, put_word}
+use Rattle.rh_defs.specs.Memory.{bytes, with_bytes}
+use Rattle.rh_pages.specs.Paged.{memory_of}
+use Rattle.rh_pages.proofs.paged.PagedStore.set_word_across.Goals as goal
+
+pub returns : goal.returns
+unfolding put_word
+returns g c =
+    let m = memory_of c.args.self.now in let id = c.args.id.0 in
+    c.copy_in.ensures ∙ ap (λ l. with_bytes m id (put (bytes m id) c.args.at l)) c.to_le_bytes.ensures

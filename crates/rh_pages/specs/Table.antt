@@ -1,0 +1,12 @@
+-- The lists of a page table, over the row that their numbers stand in.
+use Rattle.std.specs.Prelude.{ℕ, List, [], ◌∷◌, take, drop}
+use Rattle.rh_pages.specs.declared.table.PageTable.{PageTable}
+
+-- the first so many numbers of each section of a row
+abbrev pub rows : List ℕ → ℕ → List ℕ → List (List ℕ)
+rows numbers room [] = []
+rows numbers room (n ∷ lengths) = take n numbers ∷ rows (drop room numbers) room lengths
+
+-- all lists of a table
+unfoldable pub lists_of : List ℕ → PageTable → List (List ℕ)
+lists_of numbers table = rows numbers table.room table.lengths
