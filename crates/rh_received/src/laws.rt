@@ -3,11 +3,11 @@
 ghost use Rattle.rh_received.specs.Received.{HoldsReceived, RunsBegin, RunsGoOn};
 
 use rh_store::Store;
-use rh_tasks::World;
+use rh_tasks::{NamedFiles, World};
 
 /// After any commands: what a task holds of a transfer stands in the store, in the task's slot, where the word of its
 /// record's anchor says. A file that was offered begins with it, and is no longer where the record says Done.
-pub fn received_law<S: Store>(world: &World<S>)
+pub fn received_law<S: Store, F: NamedFiles>(world: &World<S, F>)
     ensures { HoldsReceived world.now }
 {
     world.spelled();

@@ -1,6 +1,6 @@
 //! A whole session over a fresh store.
 
-ghost use Rattle.std.specs.Prelude.{◌≡◌, ◌≤◌, true, IfOk};
+ghost use Rattle.std.specs.Prelude.{◌≡◌, ◌≤◌, true};
 ghost use Rattle.rh_defs.specs.Memory.{Memory, fresh};
 ghost use Rattle.rh_defs.specs.Range.{all_in_range};
 ghost use Rattle.rh_defs.specs.Runs.{start};
@@ -8,31 +8,28 @@ ghost use Rattle.rh_defs.specs.declared.sizes.TheConstants.{MAX_PAGES, MIN_PAGES
 ghost use Rattle.rh_received.specs.Received.{HasRun, HoldsReceived};
 
 use crate::laws::{received_law, run_law};
-use rh_defs::{Command, Files};
+use rh_defs::Command;
 use rh_store::Store;
-use rh_tasks::World;
-use std::alloc::{AllocError, Global};
+use rh_tasks::{NamedFiles, World};
 
-/// The world after these commands, each in range, from a fresh store of 8 to 1,024 pages with these files. AllocError
-/// where memory is refused; store and files are dropped then.
-pub fn run_commands<S: Store + Drop>(
-    alloc: Global,
+/// The world after these commands, each in range, from a fresh store of 8 to 1,024 pages with these files.
+pub fn run_commands<S: Store, F: NamedFiles>(
     store: S,
-    files: Files,
+    files: F,
     commands: &[Command],
-) -> Result<World<S>, AllocError>
+) -> World<S, F>
     requires fresh { S.memory store ≡ fresh (S.memory store).pages }
     requires least { MIN_PAGES ≤ (S.memory store).pages }
     requires most { (S.memory store).pages ≤ MAX_PAGES }
     requires ranged { all_in_range commands.now ≡ true }
-    ensures run { IfOk result (λ world. HasRun (start (S.memory store).pages files) commands.now world) }
-    ensures received { IfOk result (λ world. HoldsReceived world) }
+    ensures run { HasRun (start (S.memory store).pages (F.contents files)) commands.now result }
+    ensures received { HoldsReceived result }
 {
     run_law();
-    let mut world = World::new(alloc, store, files)?;
+    let mut world = World::new(store, files);
     for command in commands {
         world.apply(command);
     }
     received_law(&world);
-    Ok(world)
+    world
 }

@@ -15,11 +15,11 @@ use arrayvec::ArrayVec;
 use rh_defs::{BlockItem, Name, Reply};
 use rh_lines::{Row, Sink, WriteFailed, add_number, print_first_line, put};
 use rh_store::Store;
-use rh_tasks::{AreaEntry, World};
+use rh_tasks::{AreaEntry, NamedFiles, World};
 
 /// Writes how many flex blocks the task has, and a line for each, from below.
-pub fn print_blocks<S: Store, W: Sink>(
-    world: &World<S>,
+pub fn print_blocks<S: Store, F: NamedFiles, W: Sink>(
+    world: &World<S, F>,
     name: &Name,
     writer: &mut W,
 ) -> Result<(), WriteFailed>
@@ -62,7 +62,10 @@ fn add_block(row: &mut Row, item: &BlockItem)
 }
 
 /// Writes how many pages are free, and a line for each area, and then for each slot in order of handle.
-pub fn print_areas<S: Store, W: Sink>(world: &World<S>, writer: &mut W) -> Result<(), WriteFailed>
+pub fn print_areas<S: Store, F: NamedFiles, W: Sink>(
+    world: &World<S, F>,
+    writer: &mut W,
+) -> Result<(), WriteFailed>
     ensures { Puts (W.output writer.old) (W.output writer.new) result (answer_text (Ok (areas world.now.desk))) }
 {
     let (free, _) = world.areas(0);
@@ -70,8 +73,8 @@ pub fn print_areas<S: Store, W: Sink>(world: &World<S>, writer: &mut W) -> Resul
 }
 
 /// Writes a number, and a line for each area, and then for each slot.
-fn print_entries<S: Store, W: Sink>(
-    world: &World<S>,
+fn print_entries<S: Store, F: NamedFiles, W: Sink>(
+    world: &World<S, F>,
     free: u32,
     writer: &mut W,
 ) -> Result<(), WriteFailed>

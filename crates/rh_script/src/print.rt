@@ -14,13 +14,13 @@ use crate::shown::print_shown;
 use rh_defs::{Command, Question, Reply};
 use rh_lines::{Sink, WriteFailed, print_first_line};
 use rh_store::Store;
-use rh_tasks::World;
+use rh_tasks::{NamedFiles, World};
 
 /// Writes the reply to a command that was just applied, all its lines, over the desk after it. Only a reply that is what
 /// the desk answers to a question has more than one. Fails only where the writer failed or took none of what it was
 /// offered; a front of the text is then written.
-pub fn print_reply<S: Store, W: Sink>(
-    world: &World<S>,
+pub fn print_reply<S: Store, F: NamedFiles, W: Sink>(
+    world: &World<S, F>,
     command: &Command,
     reply: &Reply,
     writer: &mut W,
@@ -38,8 +38,8 @@ pub fn print_reply<S: Store, W: Sink>(
 }
 
 /// Writes the reply to a question: with all that the desk answers, where the reply is the first line of that.
-fn print_told<S: Store, W: Sink>(
-    world: &World<S>,
+fn print_told<S: Store, F: NamedFiles, W: Sink>(
+    world: &World<S, F>,
     question: &Question,
     reply: &Reply,
     writer: &mut W,
@@ -57,7 +57,7 @@ fn print_told<S: Store, W: Sink>(
 }
 
 /// Whether the reply has the words and numbers of what the desk answers.
-fn is_told<S: Store>(world: &World<S>, question: &Question, reply: &Reply) -> bool
+fn is_told<S: Store, F: NamedFiles>(world: &World<S, F>, question: &Question, reply: &Reply) -> bool
     requires { can_be_asked question.now ≡ true }
     ensures { result ≡ begins (asked world.now.desk question.now) reply.now }
 {
@@ -83,8 +83,8 @@ fn is_same(first: &Reply, other: &Reply) -> bool
 
 /// Writes what the desk answers to a question, all its lines, or why it is refused. Fails only where the writer failed
 /// or took none of what it was offered; a front of the text is then written.
-pub fn print_answer<S: Store, W: Sink>(
-    world: &World<S>,
+pub fn print_answer<S: Store, F: NamedFiles, W: Sink>(
+    world: &World<S, F>,
     question: &Question,
     writer: &mut W,
 ) -> Result<(), WriteFailed>

@@ -13,12 +13,12 @@ use arrayvec::ArrayVec;
 use rh_defs::sizes::SEGMENTS_AT_ONCE;
 use rh_defs::{Anchor, Name, Refusal, SegmentItem};
 use rh_store::Store;
-use rh_tasks::World;
+use rh_tasks::{NamedFiles, World};
 
 /// Up to 64 segments of the task's C heap in order of place, from the one that begins at a place on, in bytes from the
 /// heap's first one.
-pub fn segments_of<S: Store>(
-    world: &World<S>,
+pub fn segments_of<S: Store, F: NamedFiles>(
+    world: &World<S, F>,
     name: &Name,
     place: u32,
 ) -> ArrayVec<SegmentItem, SEGMENTS_AT_ONCE>
@@ -34,8 +34,8 @@ pub fn segments_of<S: Store>(
 }
 
 /// The size in bytes of the task's block at the anchor; NoName, NoBlock.
-pub fn size_of_block<S: Store>(
-    world: &World<S>,
+pub fn size_of_block<S: Store, F: NamedFiles>(
+    world: &World<S, F>,
     name: &Name,
     anchor: Anchor,
 ) -> Result<u32, Refusal>
@@ -55,8 +55,8 @@ pub fn size_of_block<S: Store>(
 }
 
 /// Reads a part of that block's bytes, from an offset on.
-pub fn read_block<S: Store>(
-    world: &World<S>,
+pub fn read_block<S: Store, F: NamedFiles>(
+    world: &World<S, F>,
     name: &Name,
     anchor: Anchor,
     offset: u32,
@@ -71,7 +71,12 @@ pub fn read_block<S: Store>(
 }
 
 /// Reads all of that block's bytes.
-pub fn read_whole<S: Store>(world: &World<S>, name: &Name, anchor: Anchor, to: &mut [u8])
+pub fn read_whole<S: Store, F: NamedFiles>(
+    world: &World<S, F>,
+    name: &Name,
+    anchor: Anchor,
+    to: &mut [u8],
+)
     requires anchor { anchor < anchor_count }
     requires whole { length to.old ≡ length (bytes_of_named name.now anchor world.now.desk) }
     ensures { to.new ≡ bytes_of_named name.now anchor world.now.desk }

@@ -10,11 +10,11 @@ ghost use Rattle.rh_lines.specs.Flow.{Puts};
 use rh_defs::{Handle, Incoming, Name, Outgoing, RecordItem, Reply, State};
 use rh_lines::{Row, Sink, WriteFailed, print_first_line, put};
 use rh_store::Store;
-use rh_tasks::World;
+use rh_tasks::{NamedFiles, World};
 
 /// Writes the task's handle, and a line for each record of its transfers, those that go out before those that come in.
-pub fn print_status<S: Store, W: Sink>(
-    world: &World<S>,
+pub fn print_status<S: Store, F: NamedFiles, W: Sink>(
+    world: &World<S, F>,
     name: &Name,
     writer: &mut W,
 ) -> Result<(), WriteFailed>

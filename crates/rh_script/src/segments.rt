@@ -17,11 +17,11 @@ use rh_defs::sizes::{C_HEAP_START, HEAP_FIRST};
 use rh_defs::{Name, Reply, SegmentItem};
 use rh_lines::{Row, Sink, WriteFailed, print_first_line, put};
 use rh_store::Store;
-use rh_tasks::{HeapSums, World};
+use rh_tasks::{HeapSums, NamedFiles, World};
 
 /// Writes the sums over the task's C heap, and a line for each of its segments, from below.
-pub fn print_heap<S: Store, W: Sink>(
-    world: &World<S>,
+pub fn print_heap<S: Store, F: NamedFiles, W: Sink>(
+    world: &World<S, F>,
     name: &Name,
     writer: &mut W,
 ) -> Result<(), WriteFailed>
@@ -34,8 +34,8 @@ pub fn print_heap<S: Store, W: Sink>(
     }
 }
 
-fn print_sums<S: Store, W: Sink>(
-    world: &World<S>,
+fn print_sums<S: Store, F: NamedFiles, W: Sink>(
+    world: &World<S, F>,
     name: &Name,
     sums: HeapSums,
     writer: &mut W,
@@ -55,8 +55,8 @@ fn print_sums<S: Store, W: Sink>(
 }
 
 /// Writes a line for each segment of the task's C heap, from below.
-fn print_segments<S: Store, W: Sink>(
-    world: &World<S>,
+fn print_segments<S: Store, F: NamedFiles, W: Sink>(
+    world: &World<S, F>,
     name: &Name,
     writer: &mut W,
 ) -> Result<(), WriteFailed>

@@ -15,7 +15,7 @@ use crate::read::{read_block, read_whole, size_of_block};
 use rh_defs::{Anchor, Name, Reply};
 use rh_lines::{Row, Sink, WriteFailed, print_first_line, put, write_hex_digits};
 use rh_store::Store;
-use rh_tasks::World;
+use rh_tasks::{NamedFiles, World};
 
 /// A block of up to so many bytes is written together with its size.
 const SHORT: usize = 64;
@@ -24,8 +24,8 @@ const SHORT: usize = 64;
 const PIECE: usize = 512;
 
 /// Writes the size of the task's block at the anchor, and its bytes, if there are any.
-pub fn print_shown<S: Store, W: Sink>(
-    world: &World<S>,
+pub fn print_shown<S: Store, F: NamedFiles, W: Sink>(
+    world: &World<S, F>,
     name: &Name,
     anchor: Anchor,
     writer: &mut W,
@@ -39,8 +39,8 @@ pub fn print_shown<S: Store, W: Sink>(
     }
 }
 
-fn print_block<S: Store, W: Sink>(
-    world: &World<S>,
+fn print_block<S: Store, F: NamedFiles, W: Sink>(
+    world: &World<S, F>,
     name: &Name,
     anchor: Anchor,
     size: u32,
@@ -79,8 +79,8 @@ fn add_bytes(row: &mut Row, bytes: &[u8])
 }
 
 /// The bytes of the task's block behind a space, and the line's end.
-fn print_bytes<S: Store, W: Sink>(
-    world: &World<S>,
+fn print_bytes<S: Store, F: NamedFiles, W: Sink>(
+    world: &World<S, F>,
     name: &Name,
     anchor: Anchor,
     size: u32,
@@ -96,8 +96,8 @@ fn print_bytes<S: Store, W: Sink>(
     print_digits(world, name, anchor, size, writer)
 }
 
-fn print_digits<S: Store, W: Sink>(
-    world: &World<S>,
+fn print_digits<S: Store, F: NamedFiles, W: Sink>(
+    world: &World<S, F>,
     name: &Name,
     anchor: Anchor,
     size: u32,
@@ -112,8 +112,8 @@ fn print_digits<S: Store, W: Sink>(
     put(writer, b"\n")
 }
 
-fn print_hex<S: Store, W: Sink>(
-    world: &World<S>,
+fn print_hex<S: Store, F: NamedFiles, W: Sink>(
+    world: &World<S, F>,
     name: &Name,
     anchor: Anchor,
     size: u32,
@@ -133,8 +133,8 @@ fn print_hex<S: Store, W: Sink>(
     Ok(())
 }
 
-fn print_piece<S: Store, W: Sink>(
-    world: &World<S>,
+fn print_piece<S: Store, F: NamedFiles, W: Sink>(
+    world: &World<S, F>,
     name: &Name,
     anchor: Anchor,
     offset: u32,

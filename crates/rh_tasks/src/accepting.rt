@@ -13,6 +13,7 @@ ghost use Rattle.rh_tasks.specs.Polls.{IsAt, IsFor, IsFreeAnchor, Becomes, Claim
 
 use crate::letters::fetch_letter;
 use crate::module_area::MODULE;
+use crate::named_files::NamedFiles;
 use crate::world::World;
 use rh_defs::{Anchor, Manner, Message, Outcome, Ref, Refusal, Taking};
 use rh_slot::free_anchor;
@@ -28,7 +29,7 @@ fn is_deaf(manner: Manner) -> bool
     }
 }
 
-impl<S: Store> World<S> {
+impl<S: Store, F: NamedFiles> World<S, F> {
     /// Claims a buffer in the task's C heap: BadSize, NoBudge, NoRoom.
     fn claim_buffer(&mut self, i: usize, n: u32) -> Result<u32, Refusal>
         requires { i < length self.old.desk.tasks }

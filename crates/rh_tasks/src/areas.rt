@@ -12,6 +12,7 @@ ghost use Rattle.rh_defs.specs.declared.sizes.TheConstants.{FIXED_AREAS, PAGE};
 
 use crate::made::find_made;
 use crate::module_area::MODULE;
+use crate::named_files::NamedFiles;
 use crate::scrap::{SCRAP, scrap_size};
 use crate::world::World;
 use rh_defs::sizes::{FIXED_AREAS, PAGE};
@@ -69,7 +70,7 @@ fn set_pages<S: Pages>(store: &mut S, area: AreaId, pages: usize)
     store.grow(area, pages - now).unwrap();
 }
 
-impl<S: Store> World<S> {
+impl<S: Store, F: NamedFiles> World<S, F> {
     /// Makes an area longer or shorter: ExcessiveShrink, NoRoom, NoArea, TooBig.
     pub(crate) fn change_area(&mut self, number: u32, delta: i32) -> Result<Reply, Refusal>
         requires { in_range (Command.Area number delta) ≡ true }

@@ -6,12 +6,13 @@ ghost use Rattle.rh_defs.specs.Range.{in_range};
 ghost use Rattle.rh_defs.specs.Commands.{alloc as alloc_on, load as load_on, put as put_on, free as free_on, extend as extend_on, mid as mid_on};
 ghost use Rattle.rh_tasks.specs.Answer.{Gives};
 
+use crate::named_files::NamedFiles;
 use crate::seats::{idle_slot, slot_of};
 use crate::world::World;
 use rh_defs::{Anchor, Name, Refusal, Reply};
 use rh_store::Store;
 
-impl<S: Store> World<S> {
+impl<S: Store, F: NamedFiles> World<S, F> {
     /// Puts a block of zeros on top of the task's slot (flex_alloc): NoName, AnchorInUse, NoRoom.
     pub(crate) fn alloc(&mut self, name: &Name, anchor: Anchor, size: u32) -> Result<Reply, Refusal>
         requires { in_range (Command.Alloc name.now anchor size) ≡ true }

@@ -6,12 +6,13 @@ ghost use Rattle.rh_defs.specs.Range.{in_range};
 ghost use Rattle.rh_defs.specs.Commands.{claim as claim_on, release as release_on, resize as resize_on, budge as budge_on};
 ghost use Rattle.rh_tasks.specs.Answer.{Gives};
 
+use crate::named_files::NamedFiles;
 use crate::seats::{find, idle_heap, slot_of};
 use crate::world::World;
 use rh_defs::{Name, Refusal, Reply};
 use rh_store::Store;
 
-impl<S: Store> World<S> {
+impl<S: Store, F: NamedFiles> World<S, F> {
     /// Claims a block of the task's C heap (OS_Heap 2): NoName, BadSize, NoBudge, NoRoom.
     pub(crate) fn claim(&mut self, name: &Name, size: u32) -> Result<Reply, Refusal>
         requires { in_range (Command.Claim name.now size) ≡ true }

@@ -17,6 +17,7 @@ ghost use Rattle.rh_slot.specs.Flex.{slot_append};
 ghost use Rattle.rh_tasks.specs.Polls.{IsAt, IsFor, Attempts, Becomes, Handles, AreFirst};
 
 use crate::letters::{ack_letter, fetch_letter};
+use crate::named_files::NamedFiles;
 use crate::world::World;
 use rh_defs::sizes::{ANCHORS, SLOT_START};
 use rh_defs::{Anchor, Asked, Incoming, Message, Outcome, Refusal, Taking};
@@ -74,7 +75,7 @@ fn held_in<S: Words>(store: &S, slot: Slot, buffer: u32, n: u32) -> (usize, usiz
     )
 }
 
-impl<S: Store> World<S> {
+impl<S: Store, F: NamedFiles> World<S, F> {
     /// Puts the first n bytes of a buffer at the end of a document: NoBlock, NoRoom.
     fn append_buffer(
         &mut self,

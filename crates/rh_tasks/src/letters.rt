@@ -13,6 +13,7 @@ ghost use Rattle.rh_tasks.specs.Letters.{again, with_last};
 ghost use Rattle.rh_tasks.specs.Polls.{IsAt, Sends};
 
 use crate::module_area::MODULE;
+use crate::named_files::NamedFiles;
 use crate::seat::{Seat, SentLetter};
 use crate::world::World;
 use rh_defs::{Body, EventCode, FileData, Handle, Letter, Message, Pathname, Ref, Refusal};
@@ -158,7 +159,7 @@ pub fn load_ack_letter(from: Handle, load: &Message, size: u32) -> Letter
     }
 }
 
-impl<S: Store> World<S> {
+impl<S: Store, F: NamedFiles> World<S, F> {
     /// Sends a letter of the task at a place. Refused, and nothing changed: NoTask, NoRefs, QueueFull, NoRoom.
     pub(crate) fn send_from(&mut self, i: usize, letter: Letter) -> Result<Ref, Refusal>
         requires { (t : Task) × (IsAt i t self.old.desk × (letter.from ≡ t.handle)) }

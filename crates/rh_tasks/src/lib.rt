@@ -12,6 +12,7 @@ mod made;
 mod making;
 mod module_area;
 mod module_blocks;
+mod named_files;
 mod next;
 mod outgoing;
 mod polling;
@@ -29,6 +30,7 @@ mod transfers;
 mod world;
 
 pub use listing::{AreaEntry, HeapSums};
+pub use named_files::NamedFiles;
 pub use scrap::ScrapFile;
 pub use seat::SentLetter;
 pub use sights::{MadeSight, TaskSight};

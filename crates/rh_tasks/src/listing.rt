@@ -18,8 +18,9 @@ ghost use Rattle.rh_tasks.specs.Items.{item_of, items_in, slot_items, segment_it
 ghost use Rattle.rh_tasks.specs.Lists.{blocks_of, segments_of};
 ghost use Rattle.rh_defs.specs.declared.sizes.TheConstants.{MAX_AREAS, SEGMENTS_AT_ONCE};
 
-use crate::made::MadeArea;
-use crate::seat::Seat;
+use crate::made::MadeAreas;
+use crate::named_files::NamedFiles;
+use crate::seat::Seats;
 use crate::seats::{find, slot_of};
 use crate::world::World;
 use arrayvec::ArrayVec;
@@ -55,8 +56,8 @@ pub enum AreaEntry<'a> {
 /// Item i of areas 0 to 5, the made areas in order of number, and the slots in order of handle.
 fn entry_at<'a, S: Store>(
     store: &S,
-    seats: &'a Vec<Seat>,
-    made: &Vec<MadeArea>,
+    seats: &'a Seats,
+    made: &MadeAreas,
     i: usize,
 ) -> Option<AreaEntry<'a>>
     requires { HasAreas (S.memory store.now) seats.now.items made.now.items }
@@ -79,7 +80,7 @@ fn entry_at<'a, S: Store>(
     slot_entry(store, seats, behind - made.len())
 }
 
-fn slot_entry<'a, S: Store>(store: &S, seats: &'a Vec<Seat>, i: usize) -> Option<AreaEntry<'a>>
+fn slot_entry<'a, S: Store>(store: &S, seats: &'a Seats, i: usize) -> Option<AreaEntry<'a>>
     requires { AllByRecursion (λ (s : Seat). IsOpen (S.memory store.now) s.slot.area.0) seats.now.items }
     ensures { option_map item_of result ≡ slice_get (slot_items (S.memory store.now) seats.now.items) i }
 {
@@ -94,12 +95,7 @@ fn slot_entry<'a, S: Store>(store: &S, seats: &'a Vec<Seat>, i: usize) -> Option
 }
 
 /// The same item, with a name of its own.
-fn area_item<S: Store>(
-    store: &S,
-    seats: &Vec<Seat>,
-    made: &Vec<MadeArea>,
-    i: usize,
-) -> Option<AreaItem>
+fn area_item<S: Store>(store: &S, seats: &Seats, made: &MadeAreas, i: usize) -> Option<AreaItem>
     requires { HasAreas (S.memory store.now) seats.now.items made.now.items }
     ensures { result ≡ slice_get (items_in (S.memory store.now) seats.now.items made.now.items) i }
 {
@@ -144,7 +140,7 @@ pub fn segment_items(start: u32, segments: &[Segment]) -> ArrayVec<SegmentItem, 
     items
 }
 
-impl<S: Store> World<S> {
+impl<S: Store, F: NamedFiles> World<S, F> {
     /// The free pages, and item i of areas 0 to 5, the made areas in order of number and the slots in order of handle;
     /// None past the end.
     pub fn areas(&self, i: usize) -> (u32, Option<AreaItem>)

@@ -7,12 +7,13 @@ ghost use Rattle.rh_defs.specs.declared.command.Command.TheVariants as Command;
 ghost use Rattle.rh_defs.specs.Range.{in_range};
 
 use crate::made::{MadeArea, find_made};
+use crate::named_files::NamedFiles;
 use crate::world::World;
 use rh_defs::sizes::{LAST_AREA, MADE_AREAS};
 use rh_defs::{Refusal, Reply};
 use rh_store::Store;
 
-impl<S: Store> World<S> {
+impl<S: Store, F: NamedFiles> World<S, F> {
     /// Makes an area of no page and of at most so many: TooManyAreas, NoNumbers.
     pub(crate) fn make(&mut self, most: u32) -> Result<Reply, Refusal>
         requires { in_range (Command.Make most) ≡ true }
@@ -26,7 +27,7 @@ impl<S: Store> World<S> {
             return Err(Refusal::NoNumbers);
         }
         let area = self.store.open().unwrap();
-        self.made.push_reserved(MadeArea { number, most, area });
+        self.made.push(MadeArea { number, most, area });
         self.next.area = number + 1;
         Ok(Reply::Made { number })
     }

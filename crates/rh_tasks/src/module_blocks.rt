@@ -8,12 +8,13 @@ ghost use Rattle.rh_defs.specs.Post.{post_is_message};
 ghost use Rattle.rh_tasks.specs.Answer.{Gives};
 
 use crate::module_area::MODULE;
+use crate::named_files::NamedFiles;
 use crate::world::World;
 use rh_defs::sizes::MODULE_START;
 use rh_defs::{Refusal, Reply};
 use rh_store::Store;
 
-impl<S: Store> World<S> {
+impl<S: Store, F: NamedFiles> World<S, F> {
     /// Claims a block of the module area (OS_Module 6): BadSize, NoRoom.
     pub(crate) fn rma_claim(&mut self, size: u32) -> Result<Reply, Refusal>
         requires { in_range (Command.RmaClaim size) ≡ true }

@@ -12,7 +12,8 @@ ghost use Rattle.rh_tasks.specs.Polls.{IsAt, IsFor, IsPortion, Attempts, Handles
 
 use crate::documents::document_size;
 use crate::letters::transmit_letter;
-use crate::seat::Seat;
+use crate::named_files::NamedFiles;
+use crate::seat::{Seat, Seats};
 use crate::world::World;
 use rh_defs::sizes::SLOT_START;
 use rh_defs::{Handle, Message, Outcome, Refusal, Sending};
@@ -35,7 +36,7 @@ struct Target {
 }
 
 /// The place of the live task with the handle.
-pub fn with_handle(seats: &Vec<Seat>, handle: Handle) -> Option<usize>
+pub fn with_handle(seats: &Seats, handle: Handle) -> Option<usize>
     ensures { result ≡ position (λ (s : Seat). s.handle == handle) seats.now.items }
 {
     seats.iter().position(|seat| seat.handle == handle)
@@ -78,7 +79,7 @@ fn place_of(portion: Portion) -> usize
     portion.address.saturating_sub(SLOT_START)
 }
 
-impl<S: Store> World<S> {
+impl<S: Store, F: NamedFiles> World<S, F> {
     /// The bytes for a fetch of an amount: NoBlock.
     fn portion(&self, i: usize, x: &Sending, amount: u32) -> Result<Portion, Refusal>
         requires { i < length self.now.desk.tasks }

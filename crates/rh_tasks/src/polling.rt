@@ -15,13 +15,14 @@ ghost use Rattle.rh_tasks.specs.Answer.{GivesAlike};
 ghost use Rattle.rh_tasks.specs.Polls.{IsAt, IsFor, Handles};
 
 use crate::module_area::MODULE;
+use crate::named_files::NamedFiles;
 use crate::scrap::kept_scrap;
 use crate::seats::find;
 use crate::world::World;
 use rh_defs::{Body, Event, EventCode, Message, Name, Outcome, Refusal, Reply};
 use rh_store::Store;
 
-impl<S: Store> World<S> {
+impl<S: Store, F: NamedFiles> World<S, F> {
     /// Bounces the message that the task holds, and takes and handles the next one for it (Wimp_Poll): NoName.
     pub(crate) fn poll(&mut self, name: &Name) -> Result<Reply, Refusal>
         requires { in_range (Command.Poll name.now) ≡ true }

@@ -7,11 +7,12 @@ ghost use Rattle.rh_defs.specs.Sender as sender;
 ghost use Rattle.rh_defs.specs.Receiver as receiver;
 ghost use Rattle.rh_tasks.specs.Polls.{IsAt};
 
+use crate::named_files::NamedFiles;
 use crate::world::World;
 use rh_defs::{Asked, Ref, Sending, Taking};
 use rh_store::Store;
 
-impl<S: Store> World<S> {
+impl<S: Store, F: NamedFiles> World<S, F> {
     /// Of the amount of bytes that was asked for n went out.
     pub(crate) fn record_sent(&mut self, i: usize, x: &Sending, n: u32, amount: u32, last: Ref)
         requires place { i < length self.old.desk.tasks }

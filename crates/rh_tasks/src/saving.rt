@@ -15,7 +15,8 @@ ghost use Rattle.rh_tasks.specs.Saves.{CanOffer, HasHandle, source_block};
 ghost use Rattle.rh_tasks.specs.View.{is_named, HasSlot};
 
 use crate::letters::{DATA, send};
-use crate::seat::Seat;
+use crate::named_files::NamedFiles;
+use crate::seat::Seats;
 use crate::seats::find;
 use crate::world::World;
 use rh_defs::{
@@ -33,7 +34,7 @@ struct Source {
 /// The block at the anchor, which isn't busy, of the task with the name, which may offer one more: NoName, NoBlock, Busy.
 fn idle_source<S: Words>(
     store: &S,
-    seats: &Vec<Seat>,
+    seats: &Seats,
     name: &Name,
     anchor: Anchor,
 ) -> Result<Source, Refusal>
@@ -56,7 +57,7 @@ fn idle_source<S: Words>(
 }
 
 /// The handle of the task with the name; NoTask where there is none.
-fn recipient_of(seats: &Vec<Seat>, name: &Name) -> Result<Handle, Refusal>
+fn recipient_of(seats: &Seats, name: &Name) -> Result<Handle, Refusal>
     ensures ok { IfOk result (HasHandle name.now seats.now.items) }
     ensures err { IfErr result (λ e. (e ≡ Refusal.NoTask) × (position (is_named name.now) seats.now.items ≡ None)) }
 {
@@ -90,7 +91,7 @@ fn save_letter(from: Handle, to: Handle, size: u32, leaf: &Leaf) -> Letter
     }
 }
 
-impl<S: Store> World<S> {
+impl<S: Store, F: NamedFiles> World<S, F> {
     /// Offers a block to another task: NoName, NoBlock, Busy, NoTask, NoRefs, QueueFull, NoRoom.
     pub(crate) fn save(
         &mut self,

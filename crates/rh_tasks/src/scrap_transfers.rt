@@ -13,13 +13,14 @@ ghost use Rattle.rh_tasks.specs.Polls.{IsAt, IsFor, Attempts, Becomes, Handles, 
 use crate::documents::{append, document_size};
 use crate::letters::{load_ack_letter, load_letter};
 use crate::module_area::MODULE;
+use crate::named_files::NamedFiles;
 use crate::scrap::{SCRAP, ScrapFile, scrap_size};
 use crate::world::World;
 use rh_defs::sizes::{PAGE, SLOT_START, pages_for};
 use rh_defs::{Anchor, Asked, Message, Outcome, Ref, Refusal, Sending};
 use rh_store::Store;
 
-impl<S: Store> World<S> {
+impl<S: Store, F: NamedFiles> World<S, F> {
     /// The source becomes the scrap file, and the DataLoad is sent, whole or not at all: NoBlock, Busy, NoTask, NoRefs,
     /// QueueFull, NoRoom.
     fn save_scrap(&mut self, i: usize, message: &Message, x: &Sending) -> Result<Outcome, Refusal>

@@ -5,9 +5,15 @@ ghost use Rattle.std.specs.List.{list_any};
 ghost use Rattle.rh_defs.specs.Transfer.{answers_none as answers_none_on};
 ghost use Rattle.rh_defs.specs.Records.{is_source, is_document, is_buffer_of};
 
+use rh_defs::sizes::MAX_TASKS;
 use rh_defs::{Anchor, Handle, Letter, Manner, Name, Ref};
 use rh_ram::{Receiver, Sender};
 use rh_slot::Slot;
+use rh_store::AreaId;
+use rh_tables::Table;
+
+/// The live tasks in order of handle.
+pub type Seats = Table<Seat, MAX_TASKS>;
 
 /// What the world keeps of a live task beside its slot's words.
 #[derive(Drop)]
@@ -32,6 +38,25 @@ pub struct Seat {
 pub struct SentLetter {
     pub letter: Letter,
     pub my_ref: Ref,
+}
+
+/// A seat that no task has: what a table holds behind its last one.
+impl Default for Seat {
+    fn default() -> Seat {
+        Seat {
+            handle: Handle(0),
+            name: Name::new(b"none").unwrap(),
+            buffer: 0,
+            manner: Manner::Plain,
+            slot: Slot {
+                area: AreaId(0),
+                budge: false,
+            },
+            sending: Sender::new(),
+            taking: Receiver::new(),
+            last_sent: None,
+        }
+    }
 }
 
 impl Seat {

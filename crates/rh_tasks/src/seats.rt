@@ -8,26 +8,26 @@ ghost use Rattle.rh_defs.specs.Desk.{idle_block, idle_buffer};
 ghost use Rattle.rh_tasks.specs.View.{is_named, HasSlot};
 ghost use Rattle.rh_tasks.specs.Finding.{Owns, OwnsIdle, OwnsWith, looked};
 
-use crate::seat::Seat;
+use crate::seat::Seats;
 use rh_defs::{Anchor, Name, Refusal};
 use rh_slot::Slot;
 use rh_store::Words;
 
 /// Whether a task has the name.
-pub fn is_name_in_use(seats: &Vec<Seat>, name: &Name) -> bool
+pub fn is_name_in_use(seats: &Seats, name: &Name) -> bool
     ensures { result ≡ list_any (is_named name.now) seats.now.items }
 {
     seats.iter().any(|seat| seat.name == *name)
 }
 
-fn position_of(seats: &Vec<Seat>, name: &Name) -> Option<usize>
+fn position_of(seats: &Seats, name: &Name) -> Option<usize>
     ensures { result ≡ position (is_named name.now) seats.now.items }
 {
     seats.iter().position(|seat| seat.name == *name)
 }
 
 /// The place of the task with the name; NoName where there is none.
-pub fn find(seats: &Vec<Seat>, name: &Name) -> Result<usize, Refusal>
+pub fn find(seats: &Seats, name: &Name) -> Result<usize, Refusal>
     ensures ok { IfOk result (λ i. position (is_named name.now) seats.now.items ≡ Some i) }
     ensures err { IfErr result (λ e. (e ≡ Refusal.NoName) × (position (is_named name.now) seats.now.items ≡ None)) }
 {
@@ -38,7 +38,7 @@ pub fn find(seats: &Vec<Seat>, name: &Name) -> Result<usize, Refusal>
 }
 
 /// The slot of the task with the name; NoName where there is none.
-pub fn slot_of(seats: &Vec<Seat>, name: &Name) -> Result<Slot, Refusal>
+pub fn slot_of(seats: &Seats, name: &Name) -> Result<Slot, Refusal>
     ensures ok { IfOk result (λ slot. Owns name.now seats.now.items slot) }
     ensures err { IfErr result (λ e. (e ≡ Refusal.NoName) × (position (is_named name.now) seats.now.items ≡ None)) }
 {
@@ -50,7 +50,7 @@ pub fn slot_of(seats: &Vec<Seat>, name: &Name) -> Result<Slot, Refusal>
 /// The slot of the task with the name, whose block at the anchor isn't busy: NoName, NoBlock, Busy.
 pub fn idle_slot<S: Words>(
     store: &S,
-    seats: &Vec<Seat>,
+    seats: &Seats,
     name: &Name,
     anchor: Anchor,
 ) -> Result<Slot, Refusal>
@@ -72,7 +72,7 @@ pub fn idle_slot<S: Words>(
 /// Whether a block that isn't busy is there, the slot's own call finds out.
 pub fn idle_heap<S: Words>(
     store: &S,
-    seats: &Vec<Seat>,
+    seats: &Seats,
     name: &Name,
     address: u32,
 ) -> Result<Slot, Refusal>

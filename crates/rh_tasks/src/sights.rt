@@ -14,6 +14,7 @@ ghost use Rattle.rh_tasks.specs.Sights.{IsSeen, blocks_in, file_of, made_of_sigh
 
 use crate::listing::{HeapSums, pages_in, segment_items};
 use crate::module_area::MODULE;
+use crate::named_files::NamedFiles;
 use crate::outgoing::with_handle;
 use crate::scrap::ScrapFile;
 use crate::seat::SentLetter;
@@ -70,7 +71,7 @@ fn fits(size: usize, offset: usize, n: usize) -> bool
     offset <= size && n <= size - offset
 }
 
-impl<S: Store> World<S> {
+impl<S: Store, F: NamedFiles> World<S, F> {
     /// Live task i in order of handle, with its records; None past the last.
     pub fn task(&self, i: usize) -> Option<TaskSight<'_>>
         ensures task { IsSeen result (slice_get self.now.desk.tasks i) }

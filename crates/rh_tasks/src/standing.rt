@@ -8,8 +8,9 @@ ghost use Rattle.rh_tasks.specs.Shown.{Shown};
 ghost use Rattle.rh_tasks.specs.Standing.{HaveEachPage, StandsIn, numbers};
 ghost use Rattle.rh_tasks.specs.View.{fixed};
 
-use crate::made::MadeArea;
-use crate::seat::Seat;
+use crate::made::MadeAreas;
+use crate::named_files::NamedFiles;
+use crate::seat::Seats;
 use crate::world::World;
 use arrayvec::ArrayVec;
 use rh_defs::sizes::{FIXED_AREAS, MAX_AREAS};
@@ -26,26 +27,26 @@ fn push_fixed(areas: &mut ArrayVec<AreaId, MAX_AREAS>)
 }
 
 /// Appends the areas of made areas.
-fn push_made(made: &Vec<MadeArea>, areas: &mut ArrayVec<AreaId, MAX_AREAS>)
+fn push_made(made: &MadeAreas, areas: &mut ArrayVec<AreaId, MAX_AREAS>)
     requires { length areas.old.items + length made.now.items ≤ MAX_AREAS }
     ensures { areas.new.items ≡ areas.old.items ++ map (λ (a : MadeArea). a.area) made.now.items }
 {
-    for area in made {
+    for area in made.as_slice() {
         areas.push(area.area);
     }
 }
 
 /// Appends the areas of slots.
-fn push_slots(seats: &Vec<Seat>, areas: &mut ArrayVec<AreaId, MAX_AREAS>)
+fn push_slots(seats: &Seats, areas: &mut ArrayVec<AreaId, MAX_AREAS>)
     requires { length areas.old.items + length seats.now.items ≤ MAX_AREAS }
     ensures { areas.new.items ≡ areas.old.items ++ map (λ (s : Seat). s.slot.area) seats.now.items }
 {
-    for seat in seats {
+    for seat in seats.as_slice() {
         areas.push(seat.slot.area);
     }
 }
 
-impl<S: Store> World<S> {
+impl<S: Store, F: NamedFiles> World<S, F> {
     /// Lends the store, and puts its open areas into a list, in place of what it held, in the order of `areas`: areas 0 to
     /// 5, the made areas in order of number, and the slots in order of handle.
     pub fn store(&self, areas: &mut ArrayVec<AreaId, MAX_AREAS>) -> &S

@@ -7,6 +7,7 @@ ghost use Rattle.rh_defs.specs.Commands.{start_task as start_on, kill as kill_on
 ghost use Rattle.rh_tasks.specs.Answer.{Gives, GivesAlike};
 
 use crate::module_area::MODULE;
+use crate::named_files::NamedFiles;
 use crate::scrap::kept_scrap;
 use crate::seat::Seat;
 use crate::seats::{find, is_name_in_use};
@@ -17,7 +18,7 @@ use rh_ram::{Receiver, Sender};
 use rh_slot::Slot;
 use rh_store::Store;
 
-impl<S: Store> World<S> {
+impl<S: Store, F: NamedFiles> World<S, F> {
     /// Starts a task with a fresh slot: NameInUse, TooManyTasks, NoHandles, NoRoom.
     pub(crate) fn start_task(
         &mut self,
@@ -41,7 +42,7 @@ impl<S: Store> World<S> {
         let handle = Handle(self.next.handle as u32);
         let sending = Sender::new();
         let taking = Receiver::new();
-        self.seats.push_reserved(Seat {
+        self.seats.push(Seat {
             handle,
             name: name.copied(),
             buffer,

@@ -5,6 +5,7 @@ ghost use Rattle.rh_tasks.specs.Polls.{Becomes};
 ghost use Rattle.rh_tasks.specs.Shown.{IsSpelled, IsBalanced, HasApartBlocks};
 ghost use Rattle.rh_tasks.specs.TransferBlock.{transferred};
 
+use crate::named_files::NamedFiles;
 use crate::outgoing::{do_overlap, with_handle};
 use crate::world::World;
 use rh_defs::sizes::SLOT_START;
@@ -12,7 +13,7 @@ use rh_defs::{Handle, Refusal};
 use rh_slot::write_from;
 use rh_store::Store;
 
-impl<S: Store> World<S> {
+impl<S: Store, F: NamedFiles> World<S, F> {
     /// Moves n bytes from an address of one task's slot to an address of another's, or of its own. Refused: NoTask where
     /// one of the tasks isn't live, BadRange where a range isn't whole inside one live block or the two overlap.
     /// (Wimp_TransferBlock.)

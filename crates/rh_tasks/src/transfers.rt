@@ -7,12 +7,13 @@ ghost use Rattle.rh_defs.specs.Step.{cancel_in as cancel_in_on, cancel_out as ca
 ghost use Rattle.rh_tasks.specs.Answer.{Gives, GivesAlike};
 
 use crate::letters::{last_letter, send};
+use crate::named_files::NamedFiles;
 use crate::seats::find;
 use crate::world::World;
 use rh_defs::{Name, Ref, Refusal, Reply};
 use rh_store::Store;
 
-impl<S: Store> World<S> {
+impl<S: Store, F: NamedFiles> World<S, F> {
     /// Sends the task's last letter once more, under another ref: NoName, NothingSent, NoTask, NoRefs, QueueFull, NoRoom.
     pub(crate) fn repeat(&mut self, name: &Name) -> Result<Reply, Refusal>
         requires { in_range (Command.Repeat name.now) ≡ true }

@@ -1,6 +1,6 @@
 //! The world: a desk over a store.
 
-ghost use Rattle.std.specs.Prelude.{◌≡◌, ◌≤◌, ℕ, ◌+◌, ◌<◌, [], true, Ok, Err, IfOk, OnErr, IsSome};
+ghost use Rattle.std.specs.Prelude.{◌≡◌, ◌≤◌, ℕ, ◌+◌, ◌<◌, true, Ok, Err, IsSome};
 ghost use Rattle.rh_defs.specs.Memory.{Memory, fresh, bytes};
 ghost use Rattle.rh_defs.specs.Range.{in_range};
 ghost use Rattle.rh_defs.specs.Runs.{start, start_with};
@@ -10,49 +10,44 @@ ghost use Rattle.rh_tasks.specs.Answer.{Does, RunsOn, StaysIfAsked, StaysIfRefus
 ghost use Rattle.rh_tasks.specs.Start.{IsFurnished};
 ghost use Rattle.rh_defs.specs.declared.sizes.TheConstants.{MAX_PAGES, MIN_PAGES};
 
-use crate::made::MadeArea;
+use crate::made::MadeAreas;
 use crate::module_area::MODULE;
+use crate::named_files::NamedFiles;
 use crate::next::Next;
 use crate::scrap::ScrapFile;
-use crate::seat::Seat;
-use rh_defs::sizes::{FIXED_AREAS, MADE_AREAS, MAX_TASKS};
+use crate::seat::Seats;
+use rh_defs::sizes::FIXED_AREAS;
 use rh_defs::{Command, Files, Handle, Ref, Refusal, Reply};
 use rh_module::Module;
 use rh_store::Store;
+use rh_tables::Table;
 use rh_wimp::Queue;
-use std::alloc::{AllocError, Global};
 use std::marker::Model;
-use std::mem;
 
 /// A desk over a store, whose areas hold the slots, the module area and the pages. Areas 0 to 5 are the store's areas of
-/// these numbers; each slot and each made area has an area of its own. No call but the constructors takes memory.
+/// these numbers; each slot and each made area has an area of its own. No call takes memory.
 #[derive(Drop)]
-pub struct World<S: Store> {
+pub struct World<S: Store, F: NamedFiles = Files> {
     pub(crate) store: S,
-    /// The live tasks in order of handle, with room for all that can be.
-    pub(crate) seats: Vec<Seat>,
-    /// The made areas in order of number, with room for all that can be.
-    pub(crate) made: Vec<MadeArea>,
-    pub(crate) files: Files,
+    pub(crate) seats: Seats,
+    pub(crate) made: MadeAreas,
+    pub(crate) files: F,
     pub(crate) next: Next,
     /// The messages, whose blocks are the module area's.
     pub(crate) queue: Queue,
     pub(crate) scrap: Option<ScrapFile>,
 }
 
-impl<S: Store> Model for World<S> {
-    ghost use Rattle.std.specs.Prelude.{◌≡◌, vec_capacity};
-    ghost use Rattle.rh_defs.specs.Commands.{most_made};
-    ghost use Rattle.rh_defs.specs.Desk.{most_tasks};
+impl<S: Store, F: NamedFiles> Model for World<S, F> {
     ghost use Rattle.rh_tasks.specs.Shown.{Shown};
 
     ghost Value = { Shown };
 
     ghost use Rattle.rh_tasks.specs.View.{kept_of, shown_of, IsWorld};
 
-    ghost view = { λ w. shown_of (S.memory w.store) w.seats.items w.made.items w.files (kept_of w.next w.queue w.scrap) };
+    ghost view = { λ w. shown_of (S.memory w.store) w.seats.items w.made.items (F.contents w.files) (kept_of w.next w.queue w.scrap) };
 
-    ghost invariant = { λ w. IsWorld (S.memory w.store) w.seats.items w.made.items w.files (kept_of w.next w.queue w.scrap) × (vec_capacity w.seats ≡ most_tasks) × (vec_capacity w.made ≡ most_made) };
+    ghost invariant = { λ w. IsWorld (S.memory w.store) w.seats.items w.made.items (F.contents w.files) (kept_of w.next w.queue w.scrap) };
 }
 
 /// Opens areas 0 to 5 of a fresh store, and makes area 1, the module area, an empty heap of one page.
@@ -68,72 +63,39 @@ fn furnish<S: Store>(store: &mut S)
     Module::start(store, MODULE.area);
 }
 
-impl<S: Store + Drop> World<S> {
+impl<S: Store, F: NamedFiles> World<S, F> {
     /// The first desk over a fresh store of 8 to 1,024 pages, with these files: no task, and one page in the module area.
-    /// Handles and refs count up from 1. AllocError where memory is refused; store and files are dropped then.
-    pub fn new(alloc: Global, store: S, files: Files) -> Result<World<S>, AllocError>
+    /// Handles and refs count up from 1.
+    pub fn new(store: S, files: F) -> World<S, F>
         requires fresh { S.memory store ≡ fresh (S.memory store).pages }
         requires least { MIN_PAGES ≤ (S.memory store).pages }
         requires most { (S.memory store).pages ≤ MAX_PAGES }
-        ensures { IfOk result (λ world. world.desk ≡ start (S.memory store).pages files) }
+        ensures { result.desk ≡ start (S.memory store).pages (F.contents files) }
     {
-        World::with_next(alloc, store, files, Handle(1), Ref(1))
+        World::with_next(store, files, Handle(1), Ref(1))
     }
 
-    /// The first desk whose next handle and next ref are these, each from 1 on. AllocError where memory is refused; store
-    /// and files are dropped then.
-    pub fn with_next(
-        alloc: Global,
-        store: S,
-        mut files: Files,
-        handle: Handle,
-        r: Ref,
-    ) -> Result<World<S>, AllocError>
+    /// The first desk whose next handle and next ref are these, each from 1 on.
+    pub fn with_next(mut store: S, files: F, handle: Handle, r: Ref) -> World<S, F>
         requires fresh { S.memory store ≡ fresh (S.memory store).pages }
         requires least { MIN_PAGES ≤ (S.memory store).pages }
         requires most { (S.memory store).pages ≤ MAX_PAGES }
         requires handle { 1 ≤ handle }
         requires message { 1 ≤ r }
-        ensures { IfOk result (λ world. world.desk ≡ start_with (S.memory store).pages files handle r) }
+        ensures { result.desk ≡ start_with (S.memory store).pages (F.contents files) handle r }
     {
-        World::with_files_of(alloc, store, &mut files, handle, r)
-    }
-
-    /// The same, which takes the files out of where they are and leaves none there. AllocError where memory is refused;
-    /// the store is dropped then, and the files stay.
-    pub fn with_files_of(
-        alloc: Global,
-        mut store: S,
-        files: &mut Files,
-        handle: Handle,
-        r: Ref,
-    ) -> Result<World<S>, AllocError>
-        requires fresh { S.memory store ≡ fresh (S.memory store).pages }
-        requires least { MIN_PAGES ≤ (S.memory store).pages }
-        requires most { (S.memory store).pages ≤ MAX_PAGES }
-        requires handle { 1 ≤ handle }
-        requires message { 1 ≤ r }
-        ensures desk { IfOk result (λ world. world.desk ≡ start_with (S.memory store).pages files.old handle r) }
-        ensures taken { IfOk result (λ world. files.new ≡ []) }
-        ensures err { OnErr result (files.new ≡ files.old) }
-    {
-        let seats = Vec::with_capacity(alloc, MAX_TASKS)?;
-        let made = Vec::with_capacity(alloc, MADE_AREAS)?;
-        let queue = Queue::with_next_ref(alloc, r)?;
         furnish(&mut store);
-        Ok(World {
+        World {
             store,
-            seats,
-            made,
-            files: mem::replace(files, Files::new(alloc)),
+            seats: Table::new(),
+            made: Table::new(),
+            files,
             next: Next::first(handle.0),
-            queue,
+            queue: Queue::with_next_ref(r),
             scrap: None,
-        })
+        }
     }
-}
 
-impl<S: Store> World<S> {
     /// The bytes and lengths of the store's areas spell the desk; the live blocks lie in them, no two of one area overlap,
     /// and all pages add up.
     pub fn spelled(&self)

@@ -14,7 +14,7 @@ pub fn start_world(alloc: Global) -> Result<World<PlainStore>, AllocError>
     ensures { IfOk result (λ world. world.desk ≡ start 64 []) }
 {
     let store = PlainStore::new(alloc, 64)?;
-    World::new(alloc, store, Files::new(alloc))
+    Ok(World::new(store, Files::new(alloc)))
 }
 
 /// On the first desk starts a task, gives it a flex block, and then claims more of its C heap than there is: the heap

@@ -16,19 +16,18 @@ use rh_defs::{Body, Event, EventCode, Handle, Letter, Ref, Refusal};
 use rh_module::Module;
 use rh_store::Pages;
 use rh_wimp::Queue;
-use std::alloc::{AllocError, Global};
 
-/// A queue with tasks 1 and 2, and no message. AllocError where memory is refused.
-pub fn two_tasks(alloc: Global) -> Result<Queue, AllocError>
-    ensures queue { IfOk result (λ queue. (m : Memory) (rma : Module) → IsModule m rma → IsQueue m rma queue) }
-    ensures handles { IfOk result (λ queue. handles_of queue ≡ 1 ∷ 2 ∷ []) }
-    ensures idle { IfOk result (λ queue. (m : Memory) (rma : Module) → IsModule m rma
-        → SpellsPost m rma queue (two_idle (heap_in m rma))) }
+/// A queue with tasks 1 and 2, and no message.
+pub fn two_tasks() -> Queue
+    ensures queue { (m : Memory) (rma : Module) → IsModule m rma → IsQueue m rma result }
+    ensures handles { handles_of result ≡ 1 ∷ 2 ∷ [] }
+    ensures idle { (m : Memory) (rma : Module) → IsModule m rma
+        → SpellsPost m rma result (two_idle (heap_in m rma)) }
 {
-    let mut queue = Queue::new(alloc)?;
+    let mut queue = Queue::new();
     queue.join(Handle(1));
     queue.join(Handle(2));
-    Ok(queue)
+    queue
 }
 
 /// Task 1 asks task 2 for bytes, in a message that wants no answer, and task 2 polls. Refused (`NoRoom`), and nothing

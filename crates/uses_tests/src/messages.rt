@@ -4,7 +4,6 @@ use crate::same::same;
 use crate::stores::{paged_store, plain_store, started, take_pages};
 use rh_defs::{Body, Event, EventCode, Handle, Message, Ref, Refusal};
 use rh_store::Store;
-use std::alloc::Global;
 use std::process::Abort;
 use std::test::Fail;
 use uses::{ask_for_bytes, two_tasks};
@@ -12,14 +11,10 @@ use uses::{ask_for_bytes, two_tasks};
 /// The bytes of the largest block in a module area of one page.
 const WHOLE: u32 = 4076;
 
-fn a_fetch_is_polled<R: Abort, S: Store + Drop>(
-    rt: &R,
-    alloc: Global,
-    store: S,
-) -> Result<(), Fail> {
+fn a_fetch_is_polled<R: Abort, S: Store + Drop>(rt: &R, store: S) -> Result<(), Fail> {
     let mut store = store;
     let rma = started(&mut store)?;
-    let mut queue = two_tasks(alloc)?;
+    let mut queue = two_tasks();
     let polled = Event {
         code: EventCode::User,
         message: Message {
@@ -37,15 +32,11 @@ fn a_fetch_is_polled<R: Abort, S: Store + Drop>(
     Ok(())
 }
 
-fn a_fetch_wants_room<R: Abort, S: Store + Drop>(
-    rt: &R,
-    alloc: Global,
-    store: S,
-) -> Result<(), Fail> {
+fn a_fetch_wants_room<R: Abort, S: Store + Drop>(rt: &R, store: S) -> Result<(), Fail> {
     let mut store = store;
     take_pages(&mut store, 7)?;
     let rma = started(&mut store)?;
-    let mut queue = two_tasks(alloc)?;
+    let mut queue = two_tasks();
     same(rt, rma.claim(&mut store, WHOLE), Ok(20));
     let asked = ask_for_bytes(&mut store, rma, &mut queue, 0x9008, 100);
     same(rt, asked, Err(Refusal::NoRoom));
@@ -55,13 +46,13 @@ fn a_fetch_wants_room<R: Abort, S: Store + Drop>(
 #[test]
 fn a_fetch_is_polled_or_refused_in_a_plain_store(rt: HostRuntime) -> Result<(), Fail> {
     let alloc = rt.alloc();
-    a_fetch_is_polled(&rt, alloc, plain_store(alloc)?)?;
-    a_fetch_wants_room(&rt, alloc, plain_store(alloc)?)
+    a_fetch_is_polled(&rt, plain_store(alloc)?)?;
+    a_fetch_wants_room(&rt, plain_store(alloc)?)
 }
 
 #[test]
 fn a_fetch_is_polled_or_refused_in_scattered_pages(rt: HostRuntime) -> Result<(), Fail> {
     let alloc = rt.alloc();
-    a_fetch_is_polled(&rt, alloc, paged_store(alloc)?)?;
-    a_fetch_wants_room(&rt, alloc, paged_store(alloc)?)
+    a_fetch_is_polled(&rt, paged_store(alloc)?)?;
+    a_fetch_wants_room(&rt, paged_store(alloc)?)
 }

@@ -30,7 +30,7 @@ fn commands_are_done_in_order<R: Abort, S: Store + Drop>(
         },
         Command::RmaClaim { size: 5000 },
     ];
-    let world = run_commands(alloc, store, Files::new(alloc), &commands)?;
+    let world = run_commands(store, Files::new(alloc), &commands);
     let module = AreaItem::Area {
         number: 1,
         pages: 2,

@@ -8,7 +8,7 @@ use rh_defs::{
     SegmentItem,
 };
 use rh_store::Store;
-use rh_tasks::{AreaEntry, World};
+use rh_tasks::{AreaEntry, NamedFiles, World};
 use std::process::Abort;
 use std::test::Fail;
 
@@ -17,7 +17,11 @@ pub(crate) fn name(letters: &[u8]) -> Result<Name, &'static str> {
 }
 
 /// What a command answers that is in range.
-pub(crate) fn said<R: Abort, S: Store>(rt: &R, world: &mut World<S>, command: &Command) -> Reply {
+pub(crate) fn said<R: Abort, S: Store, F: NamedFiles>(
+    rt: &R,
+    world: &mut World<S, F>,
+    command: &Command,
+) -> Reply {
     assert!(rt; command.in_range());
     world.apply(command)
 }
@@ -168,14 +172,14 @@ fn asks<R: Abort, S: Store>(rt: &R, world: &mut World<S>) -> Result<(), Fail> {
 #[test]
 fn asks_of_a_plain_store(rt: HostRuntime) -> Result<(), Fail> {
     let store = plain_store(rt.alloc())?;
-    let mut world = World::new(rt.alloc(), store, Files::new(rt.alloc()))?;
+    let mut world = World::new(store, Files::new(rt.alloc()));
     asks(&rt, &mut world)
 }
 
 #[test]
 fn asks_of_scattered_pages(rt: HostRuntime) -> Result<(), Fail> {
     let store = paged_store(rt.alloc())?;
-    let mut world = World::new(rt.alloc(), store, Files::new(rt.alloc()))?;
+    let mut world = World::new(store, Files::new(rt.alloc()));
     asks(&rt, &mut world)
 }
 
@@ -183,7 +187,7 @@ fn asks_of_scattered_pages(rt: HostRuntime) -> Result<(), Fail> {
 fn handles_go_on(rt: HostRuntime) -> Result<(), Fail> {
     let store = paged_store(rt.alloc())?;
     let files = Files::new(rt.alloc());
-    let mut world = World::with_next(rt.alloc(), store, files, Handle(7), Ref(9))?;
+    let mut world = World::with_next(store, files, Handle(7), Ref(9));
     let name = name(b"a")?;
     assert_eq!(rt;
         said(&rt, &mut world, &task(&name)),

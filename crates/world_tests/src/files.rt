@@ -1,12 +1,15 @@
-//! Files that a world takes out of where they are, and bytes that are put by a call of their own.
+//! Files that a world keeps, files that are lent to it, and bytes that are put by a call of their own.
+
+ghost use Rattle.std.specs.Prelude.{◌≤◌, [], ◌∷◌, length};
+ghost use Rattle.rh_defs.specs.declared.sizes.TheConstants.{LONGEST_FILE};
 
 use crate::calls::{name, said, task};
-use crate::same::{is_true, same};
+use crate::same::same;
 use crate::stores::{paged_store, plain_store};
 use rh_defs::sizes::GREATEST_NUMBER;
 use rh_defs::{Anchor, Command, Files, Handle, Name, Ref, Refusal, Reply};
 use rh_store::Store;
-use rh_tasks::World;
+use rh_tasks::{NamedFiles, World};
 use std::alloc::Global;
 use std::process::Abort;
 use std::test::Fail;
@@ -20,16 +23,49 @@ fn one_file(alloc: Global, file: &Name) -> Result<Files, Fail> {
     Ok(files)
 }
 
-/// Starts a task that loads a file into its anchor 0.
-fn loads<R: Abort, S: Store>(rt: &R, world: &mut World<S>, a: &Name, file: &Name) {
-    same(rt, said(rt, world, &task(a)), Reply::Started(Handle(7)));
-    let load = Command::Load {
+/// A file that lies where somebody else keeps it.
+#[derive(Drop)]
+struct LentFile<'a> {
+    name: &'a Name,
+    bytes: &'a [u8],
+    ghost short: { length bytes.now ≤ LONGEST_FILE },
+}
+
+impl<'a> NamedFiles for LentFile<'a> {
+    ghost contents = { λ file. (file.name.now, file.bytes.now) ∷ [] };
+
+    fn get(&self, name: &Name) -> Option<&[u8]> {
+        if self.name != name {
+            return None;
+        }
+        Some(self.bytes)
+    }
+}
+
+/// The command that loads a file into the task's anchor 0.
+fn load(a: &Name, file: &Name) -> Command {
+    Command::Load {
         name: a.copied(),
         anchor: Anchor(0),
         file: file.copied(),
-    };
+    }
+}
+
+/// Starts a task that loads a file into its anchor 0.
+fn loads<R: Abort, S: Store, F: NamedFiles>(
+    rt: &R,
+    world: &mut World<S, F>,
+    a: &Name,
+    file: &Name,
+) {
+    same(rt, said(rt, world, &task(a)), Reply::Started(Handle(7)));
+    same(
+        rt,
+        said(rt, world, &load(a, a)),
+        Reply::Refused(Refusal::NoFile),
+    );
     let block = Reply::Block { address: 0x9008 };
-    same(rt, said(rt, world, &load), block);
+    same(rt, said(rt, world, &load(a, file)), block);
     let mut three = [0; 3];
     let shown = world.show(a, Anchor(0), 0, &mut three);
     same(rt, shown, Ok(3));
@@ -37,15 +73,27 @@ fn loads<R: Abort, S: Store>(rt: &R, world: &mut World<S>, a: &Name, file: &Name
 }
 
 #[test]
-fn files_are_taken_out_of_where_they_are(rt: HostRuntime) -> Result<(), Fail> {
+fn files_are_loaded(rt: HostRuntime) -> Result<(), Fail> {
     let (a, doc) = (name(b"a")?, name(b"doc")?);
     let store = paged_store(rt.alloc())?;
-    let mut files = one_file(rt.alloc(), &doc)?;
-    is_true(&rt, files.contains(&doc));
-    let mut world = World::with_files_of(rt.alloc(), store, &mut files, Handle(7), Ref(9))?;
-    is_true(&rt, !files.contains(&doc));
+    let files = one_file(rt.alloc(), &doc)?;
+    let mut world = World::with_next(store, files, Handle(7), Ref(9));
     loads(&rt, &mut world, &a, &doc);
     same(&rt, world.next_ref(), 9);
+    Ok(())
+}
+
+#[test]
+fn files_that_are_lent_are_loaded(rt: HostRuntime) -> Result<(), Fail> {
+    let (a, doc) = (name(b"a")?, name(b"doc")?);
+    let store = plain_store(rt.alloc())?;
+    let bytes = [1, 2, 3];
+    let files = LentFile {
+        name: &doc,
+        bytes: &bytes,
+    };
+    let mut world = World::with_next(store, files, Handle(7), Ref(9));
+    loads(&rt, &mut world, &a, &doc);
     Ok(())
 }
 
@@ -74,7 +122,7 @@ fn two_bytes<R: Abort, S: Store>(rt: &R, world: &World<S>, name: &Name, offset: 
 #[test]
 fn more_bytes_than_a_command_may_have_are_put(rt: HostRuntime) -> Result<(), Fail> {
     let store = plain_store(rt.alloc())?;
-    let mut world = World::new(rt.alloc(), store, Files::new(rt.alloc()))?;
+    let mut world = World::new(store, Files::new(rt.alloc()));
     let a = name(b"a")?;
     same(
         &rt,

@@ -137,13 +137,13 @@ fn lists<R: Abort, S: Store>(rt: &R, world: &mut World<S>) -> Result<(), Fail> {
 #[test]
 fn lists_of_a_plain_store(rt: HostRuntime) -> Result<(), Fail> {
     let store = plain_store(rt.alloc())?;
-    let mut world = World::new(rt.alloc(), store, Files::new(rt.alloc()))?;
+    let mut world = World::new(store, Files::new(rt.alloc()));
     lists(&rt, &mut world)
 }
 
 #[test]
 fn lists_of_scattered_pages(rt: HostRuntime) -> Result<(), Fail> {
     let store = paged_store(rt.alloc())?;
-    let mut world = World::new(rt.alloc(), store, Files::new(rt.alloc()))?;
+    let mut world = World::new(store, Files::new(rt.alloc()));
     lists(&rt, &mut world)
 }

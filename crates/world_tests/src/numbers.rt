@@ -61,7 +61,7 @@ fn starts<R: Abort, S: Store>(rt: &R, world: &mut World<S>, first: &Name, second
 fn the_last_handle_and_ref_are_given_once(rt: HostRuntime) -> Result<(), Fail> {
     let store = paged_store(rt.alloc())?;
     let files = Files::new(rt.alloc());
-    let mut world = World::with_next(rt.alloc(), store, files, Handle(LAST), Ref(LAST))?;
+    let mut world = World::with_next(store, files, Handle(LAST), Ref(LAST));
     let (first, second) = (name(b"a")?, name(b"b")?);
     starts(&rt, &mut world, &first, &second);
     saves(&rt, &mut world, &first);

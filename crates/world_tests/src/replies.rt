@@ -89,8 +89,8 @@ fn starts<R: Abort, S: Store>(rt: &R, world: &mut World<S>, a: &Name) {
 #[test]
 fn prints_replies(rt: HostRuntime) -> Result<(), Fail> {
     let store = paged_store(rt.alloc())?;
-    let mut world = World::new(rt.alloc(), store, Files::new(rt.alloc()))?;
-    let mut held = Held::new(rt.alloc())?;
+    let mut world = World::new(store, Files::new(rt.alloc()));
+    let mut held = Held::new();
     let a = name(b"a")?;
     let nobody = blocks(&name(b"c")?);
     starts(&rt, &mut world, &a);

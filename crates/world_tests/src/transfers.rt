@@ -65,20 +65,20 @@ fn ranges_lie_in_blocks<R: Abort, S: Store>(rt: &R, world: &mut World<S>) -> Res
 #[test]
 fn bytes_are_moved_in_a_plain_store(rt: HostRuntime) -> Result<(), Fail> {
     let store = plain_store(rt.alloc())?;
-    let mut world = World::new(rt.alloc(), store, Files::new(rt.alloc()))?;
+    let mut world = World::new(store, Files::new(rt.alloc()));
     bytes_are_moved(&rt, &mut world)
 }
 
 #[test]
 fn both_tasks_are_live_in_scattered_pages(rt: HostRuntime) -> Result<(), Fail> {
     let store = paged_store(rt.alloc())?;
-    let mut world = World::new(rt.alloc(), store, Files::new(rt.alloc()))?;
+    let mut world = World::new(store, Files::new(rt.alloc()));
     both_tasks_are_live(&rt, &mut world)
 }
 
 #[test]
 fn ranges_lie_in_blocks_of_scattered_pages(rt: HostRuntime) -> Result<(), Fail> {
     let store = paged_store(rt.alloc())?;
-    let mut world = World::new(rt.alloc(), store, Files::new(rt.alloc()))?;
+    let mut world = World::new(store, Files::new(rt.alloc()));
     ranges_lie_in_blocks(&rt, &mut world)
 }

@@ -1,5 +1,4 @@
 use Rattle.std.proofs.Common.{◌≡◌, [], refl, subst, arith}
-use Rattle.std.specs.Prelude.{IfOk}
 use Rattle.rh_defs.specs.Files.{FileList}
 use Rattle.rh_defs.specs.Memory.{Memory, fresh}
 use Rattle.rh_defs.specs.Runs.{start}
@@ -21,5 +20,5 @@ new-requires-3-clause-most c = rw c.in_ok-store.ensures (omega arith)
 pub returns : goal.returns
 unfolding fresh
 returns c =
-    subst (λ (m : Memory). IfOk c.new-3.result (λ world. world.desk ≡ start m.pages [])) c.in_ok-store.ensures
-    (subst (λ (files : FileList). IfOk c.new-3.result (λ world. world.desk ≡ start (memory_of c.in_ok-store.store).pages files)) c.new-2.ensures c.new-3.ensures)
+    subst (λ (m : Memory). c.new-3.result.desk ≡ start m.pages []) c.in_ok-store.ensures
+    (subst (λ (files : FileList). c.new-3.result.desk ≡ start (memory_of c.in_ok-store.store).pages files) c.new-2.ensures c.new-3.ensures)

@@ -7,43 +7,43 @@ use Rattle.rh_tasks.proofs.world.World.accept.Goals as goal
 pub returns-in_err-anchor : goal.returns-in_err-anchor
 returns-in_err-anchor g c =
     let at = seat-sits _ _ _ _ _ c.self.view_is c.requires.place c.index-seat.ensures in
-    rw c.from_residual.ensures (λ t m here. (accept-no_anchor c.self.invariant.0 at c.self.view_is t m here.at c.in_err-anchor.ensures, refl))
+    rw c.from_residual.ensures (λ t m here. (accept-no_anchor c.self.invariant at c.self.view_is t m here.at c.in_err-anchor.ensures, refl))
 
 pub returns-then-not-has_room : goal.returns-then-not-has_room
 returns-then-not-has_room g c =
     let at = seat-sits _ _ _ _ _ c.self.view_is c.requires.place c.index-seat.ensures in
-    λ t m here. (accept-no_room c.self.invariant.0 at c.self.view_is c.in_ok-anchor.ensures c.has_room.ensures t m here c.if-not-has_room.true, refl)
+    λ t m here. (accept-no_room c.self.invariant at c.self.view_is c.in_ok-anchor.ensures c.has_room.ensures t m here c.if-not-has_room.true, refl)
 
 pub unwrap-buffer-requires : goal.unwrap-buffer-requires
 unwrap-buffer-requires g c =
     let at = seat-sits _ _ _ _ _ c.self.view_is c.requires.place c.index-seat.ensures in
-    let can = can-accept-own c.self.invariant.0 at c.self.view_is c.in_ok-anchor.ensures c.has_room.ensures c.if-not-has_room.false in
+    let can = can-accept-own c.self.invariant at c.self.view_is c.in_ok-anchor.ensures c.has_room.ensures c.if-not-has_room.false in
     buffer-must can _ c.claim_buffer.result (c.claim_buffer.ensures _ can.here.at)
 
 pub alloc_document-requires-clause-place : goal.alloc_document-requires-clause-place
 alloc_document-requires-clause-place g c =
     let at = seat-sits _ _ _ _ _ c.self.view_is c.requires.place c.index-seat.ensures in
-    let can = can-accept-own c.self.invariant.0 at c.self.view_is c.in_ok-anchor.ensures c.has_room.ensures c.if-not-has_room.false in
+    let can = can-accept-own c.self.invariant at c.self.view_is c.in_ok-anchor.ensures c.has_room.ensures c.if-not-has_room.false in
     let one = buffer-got can c.claim_buffer.result (c.claim_buffer.ensures _ can.here.at) c.unwrap-buffer.ensures in
     buffer-place can one
 
 pub alloc_document-requires-clause-anchor : goal.alloc_document-requires-clause-anchor
 alloc_document-requires-clause-anchor g c =
     let at = seat-sits _ _ _ _ _ c.self.view_is c.requires.place c.index-seat.ensures in
-    let can = can-accept-own c.self.invariant.0 at c.self.view_is c.in_ok-anchor.ensures c.has_room.ensures c.if-not-has_room.false in
+    let can = can-accept-own c.self.invariant at c.self.view_is c.in_ok-anchor.ensures c.has_room.ensures c.if-not-has_room.false in
     anchor-low _ _ can.free
 
 pub unwrap-requires : goal.unwrap-requires
 unwrap-requires g c =
     let at = seat-sits _ _ _ _ _ c.self.view_is c.requires.place c.index-seat.ensures in
-    let can = can-accept-own c.self.invariant.0 at c.self.view_is c.in_ok-anchor.ensures c.has_room.ensures c.if-not-has_room.false in
+    let can = can-accept-own c.self.invariant at c.self.view_is c.in_ok-anchor.ensures c.has_room.ensures c.if-not-has_room.false in
     let one = buffer-got can c.claim_buffer.result (c.claim_buffer.ensures _ can.here.at) c.unwrap-buffer.ensures in
     document-must can one _ c.alloc_document.result (c.alloc_document.ensures _ (buffer-at can one))
 
 pub send_from-requires : goal.send_from-requires
 send_from-requires g c =
     let at = seat-sits _ _ _ _ _ c.self.view_is c.requires.place c.index-seat.ensures in
-    let can = can-accept-own c.self.invariant.0 at c.self.view_is c.in_ok-anchor.ensures c.has_room.ensures c.if-not-has_room.false in
+    let can = can-accept-own c.self.invariant at c.self.view_is c.in_ok-anchor.ensures c.has_room.ensures c.if-not-has_room.false in
     let one = buffer-got can c.claim_buffer.result (c.claim_buffer.ensures _ can.here.at) c.unwrap-buffer.ensures in
     let two = document-got can one c.alloc_document.result (c.alloc_document.ensures _ (buffer-at can one)) c.unwrap.ensures in
     fetch-from can one two c.fetch_letter-letter.ensures
@@ -51,7 +51,7 @@ send_from-requires g c =
 pub unwrap-fetch-requires : goal.unwrap-fetch-requires
 unwrap-fetch-requires g c =
     let at = seat-sits _ _ _ _ _ c.self.view_is c.requires.place c.index-seat.ensures in
-    let can = can-accept-own c.self.invariant.0 at c.self.view_is c.in_ok-anchor.ensures c.has_room.ensures c.if-not-has_room.false in
+    let can = can-accept-own c.self.invariant at c.self.view_is c.in_ok-anchor.ensures c.has_room.ensures c.if-not-has_room.false in
     let one = buffer-got can c.claim_buffer.result (c.claim_buffer.ensures _ can.here.at) c.unwrap-buffer.ensures in
     let two = document-got can one c.alloc_document.result (c.alloc_document.ensures _ (buffer-at can one)) c.unwrap.ensures in
     fetch-must can one two c.fetch_letter-letter.ensures _ c.send_from.result c.send_from.ensures
@@ -59,7 +59,7 @@ unwrap-fetch-requires g c =
 pub record_fetching-requires-clause-place : goal.record_fetching-requires-clause-place
 record_fetching-requires-clause-place g c =
     let at = seat-sits _ _ _ _ _ c.self.view_is c.requires.place c.index-seat.ensures in
-    let can = can-accept-own c.self.invariant.0 at c.self.view_is c.in_ok-anchor.ensures c.has_room.ensures c.if-not-has_room.false in
+    let can = can-accept-own c.self.invariant at c.self.view_is c.in_ok-anchor.ensures c.has_room.ensures c.if-not-has_room.false in
     let one = buffer-got can c.claim_buffer.result (c.claim_buffer.ensures _ can.here.at) c.unwrap-buffer.ensures in
     let two = document-got can one c.alloc_document.result (c.alloc_document.ensures _ (buffer-at can one)) c.unwrap.ensures in
     let three = fetch-got can one two c.fetch_letter-letter.ensures c.send_from.result c.send_from.ensures c.unwrap-fetch.ensures in
@@ -68,7 +68,7 @@ record_fetching-requires-clause-place g c =
 pub record_fetching-requires-clause-room : goal.record_fetching-requires-clause-room
 record_fetching-requires-clause-room g c =
     let at = seat-sits _ _ _ _ _ c.self.view_is c.requires.place c.index-seat.ensures in
-    let can = can-accept-own c.self.invariant.0 at c.self.view_is c.in_ok-anchor.ensures c.has_room.ensures c.if-not-has_room.false in
+    let can = can-accept-own c.self.invariant at c.self.view_is c.in_ok-anchor.ensures c.has_room.ensures c.if-not-has_room.false in
     let one = buffer-got can c.claim_buffer.result (c.claim_buffer.ensures _ can.here.at) c.unwrap-buffer.ensures in
     let two = document-got can one c.alloc_document.result (c.alloc_document.ensures _ (buffer-at can one)) c.unwrap.ensures in
     let three = fetch-got can one two c.fetch_letter-letter.ensures c.send_from.result c.send_from.ensures c.unwrap-fetch.ensures in
@@ -78,7 +78,7 @@ pub returns : goal.returns
 returns g c =
     let at = seat-sits _ _ _ _ _ c.self.view_is c.requires.place c.index-seat.ensures in
     λ t m here. (
-    let can = can-accept c.self.invariant.0 at c.self.view_is c.in_ok-anchor.ensures c.has_room.ensures t m here c.if-not-has_room.false in
+    let can = can-accept c.self.invariant at c.self.view_is c.in_ok-anchor.ensures c.has_room.ensures t m here c.if-not-has_room.false in
     let one = buffer-got can c.claim_buffer.result (c.claim_buffer.ensures _ can.here.at) c.unwrap-buffer.ensures in
     let two = document-got can one c.alloc_document.result (c.alloc_document.ensures _ (buffer-at can one)) c.unwrap.ensures in
     let three = fetch-got can one two c.fetch_letter-letter.ensures c.send_from.result c.send_from.ensures c.unwrap-fetch.ensures in

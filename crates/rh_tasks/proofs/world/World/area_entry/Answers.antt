@@ -5,7 +5,7 @@ use Rattle.rh_tasks.proofs.world.World.area_entry.Goals as goal
 
 pub returns-clause-item : goal.returns-clause-item
 returns-clause-item g c =
-    rw (← c.self.view_is) (c.entry_at.ensures ∙ ap (λ l. slice_get l c.args.i) (sym (items-are c.self.invariant.0)))
+    rw (← c.self.view_is) (c.entry_at.ensures ∙ ap (λ l. slice_get l c.args.i) (sym (items-are c.self.invariant)))
 
 pub returns-clause-few : goal.returns-clause-few
-returns-clause-few g c = rw (← c.self.view_is) (few-items c.self.invariant.0)
+returns-clause-few g c = rw (← c.self.view_is) (few-items c.self.invariant)

@@ -8,42 +8,42 @@ use Rattle.rh_tasks.proofs.world.World.ask.Goals as goal
 pub send_from-requires : goal.send_from-requires
 unfolding task_of
 send_from-requires g c =
-    let at : Sits c.self.inside.seats.items c.args.i c.index-seat.result.now = sits-there c.self.invariant.0 c.self.view_is c.requires c.index-seat.ensures in (
+    let at : Sits c.self.inside.seats.items c.args.i c.index-seat.result.now = sits-there c.self.invariant c.self.view_is c.requires c.index-seat.ensures in (
       task_of (g.S.Words.memory c.self.inside.store) c.index-seat.result.now,
       (
-        seat-there c.self.invariant.0 c.self.view_is at,
+        seat-there c.self.invariant c.self.view_is at,
         ack-from c.ack_letter-letter.result c.index-seat.result.now.handle c.args.f.now.sender c.args.f.now.id c.ack_letter-letter.ensures,
       ),
     )
 
 pub returns-in_err-ack : goal.returns-in_err-ack
 returns-in_err-ack g c t there =
-    let at : Sits c.self.inside.seats.items c.args.i c.index-seat.result.now = sits-there c.self.invariant.0 c.self.view_is c.requires c.index-seat.ensures in
-    let handle = seat-handle c.self.invariant.0 c.self.view_is at there in
+    let at : Sits c.self.inside.seats.items c.args.i c.index-seat.result.now = sits-there c.self.invariant c.self.view_is c.requires c.index-seat.ensures in
+    let handle = seat-handle c.self.invariant c.self.view_is at there in
     let p = err_from_is_err_and c.from_residual.result c.from_residual.ensures.1 in
     rw (p.1, p.2) (ask-refused c.args.f.now c.args.self.now.desk c.args.i there handle c.ack_letter-letter.ensures c.in_err-ack.ensures.0, c.in_err-ack.ensures.1)
 
 pub drop_buffer-requires : goal.drop_buffer-requires
 drop_buffer-requires g c =
-    let at : Sits c.self.inside.seats.items c.args.i c.index-seat.result.now = sits-there c.self.invariant.0 c.self.view_is c.requires c.index-seat.ensures in
+    let at : Sits c.self.inside.seats.items c.args.i c.index-seat.result.now = sits-there c.self.invariant c.self.view_is c.requires c.index-seat.ensures in
     let sent = c.in_ok-ack.ensures.1 in
     inside
     (stands-sent c.ack_letter-letter.result c.args.self.now.desk sent.0 c.args.i (task_of (g.S.Words.memory c.self.inside.store) c.index-seat.result.now) sent.1.0 sent.1.1
-    (seat-there c.self.invariant.0 c.self.view_is at))
+    (seat-there c.self.invariant c.self.view_is at))
 
 pub record_asking-requires : goal.record_asking-requires
 record_asking-requires g c =
-    let at : Sits c.self.inside.seats.items c.args.i c.index-seat.result.now = sits-there c.self.invariant.0 c.self.view_is c.requires c.index-seat.ensures in
+    let at : Sits c.self.inside.seats.items c.args.i c.index-seat.result.now = sits-there c.self.invariant c.self.view_is c.requires c.index-seat.ensures in
     let sent = c.in_ok-ack.ensures.1 in
     let s =
     stands-sent c.ack_letter-letter.result c.args.self.now.desk sent.0 c.args.i (task_of (g.S.Words.memory c.self.inside.store) c.index-seat.result.now) sent.1.0 sent.1.1
-    (seat-there c.self.invariant.0 c.self.view_is at) in
+    (seat-there c.self.invariant c.self.view_is at) in
     inside (stands-dropped c.send_from.new.self.desk c.drop_buffer.new.self.desk c.args.i s.task.handle c.args.f.now.buffer s.task (c.drop_buffer.ensures s.task s.at) s.at)
 
 pub returns : goal.returns
 returns g c t there =
-    let at : Sits c.self.inside.seats.items c.args.i c.index-seat.result.now = sits-there c.self.invariant.0 c.self.view_is c.requires c.index-seat.ensures in
-    let handle = seat-handle c.self.invariant.0 c.self.view_is at there in
+    let at : Sits c.self.inside.seats.items c.args.i c.index-seat.result.now = sits-there c.self.invariant c.self.view_is c.requires c.index-seat.ensures in
+    let handle = seat-handle c.self.invariant c.self.view_is at there in
     let sent = c.in_ok-ack.ensures.1 in
     ask-done c.args.f.now c.args.self.now.desk c.args.i there handle c.ack_letter-letter.ensures c.in_ok-ack.ack sent.0 c.send_from.new.self.desk c.drop_buffer.new.self.desk c.record_asking.new.self.desk
     c.in_ok-ack.ensures.0 sent.1.0 sent.1.1 c.drop_buffer.ensures c.record_asking.ensures

@@ -19,4 +19,4 @@ returns-in_err-slot-clause-err g c =
 pub returns-clause-ok : goal.returns-clause-ok
 unfolding blocks_of
 returns-clause-ok g c =
-    rw (← c.self.view_is, c.list.ensures) (of-slot c.self.invariant.0 c.in_ok-slot.ensures.ok (λ s. let r : Granted (List BlockItem) = Ok (block_items s) in r))
+    rw (← c.self.view_is, c.list.ensures) (of-slot c.self.invariant c.in_ok-slot.ensures.ok (λ s. let r : Granted (List BlockItem) = Ok (block_items s) in r))

@@ -19,7 +19,7 @@ invariant_of-self g c =
     let s = c.index_mut-seat.result.now in
     let f : Found c.args.name.now c.self.inside.seats.items c.in_ok-i.i s = record { at = c.in_ok-i.ensures.ok; is = sym c.index_mut-seat.ensures.value } in
     let given = done-refused _ c.in_err-cancel.ensures.answer in
-    (taking-world {s = s} c.self.invariant.0 f c.args.id given c.in_err-cancel.ensures.records, c.self.invariant.1, c.self.invariant.2)
+    taking-world {s = s} c.self.invariant f c.args.id given c.in_err-cancel.ensures.records
 
 pub returns-in_err-cancel : goal.returns-in_err-cancel
 returns-in_err-cancel g c =
@@ -27,10 +27,10 @@ returns-in_err-cancel g c =
     let f : Found c.args.name.now c.self.inside.seats.items c.in_ok-i.i s = record { at = c.in_ok-i.ensures.ok; is = sym c.index_mut-seat.ensures.value } in
     let p = err_from_is_err_and c.from_residual-in_err-cancel.result c.from_residual-in_err-cancel.ensures.1 in
     let given = done-refused _ c.in_err-cancel.ensures.answer in
-    let same = taking-stay {s = s} c.self.invariant.0 f c.args.id given c.in_err-cancel.ensures.records in
+    let same = taking-stay {s = s} c.self.invariant f c.args.id given c.in_err-cancel.ensures.records in
     rw (p.1, p.2, ← c.self.view_is) (
-      cancel_in-refused {s = s} c.self.invariant.0 f c.args.id given,
-      ap (λ seats. shown_of (g.S.Words.memory c.self.inside.store) seats c.self.inside.made.items c.self.inside.files (kept_of c.self.inside.next c.self.inside.queue c.self.inside.scrap)) same,
+      cancel_in-refused {s = s} c.self.invariant f c.args.id given,
+      ap (λ seats. shown_of (g.S.Words.memory c.self.inside.store) seats c.self.inside.made.items (g.F.NamedFiles.contents c.self.inside.files) (kept_of c.self.inside.next c.self.inside.queue c.self.inside.scrap)) same,
     )
 
 pub invariant_of-self-2 : goal.invariant_of-self-2
@@ -38,11 +38,11 @@ invariant_of-self-2 g c =
     let s = c.index_mut-seat.result.now in
     let f : Found c.args.name.now c.self.inside.seats.items c.in_ok-i.i s = record { at = c.in_ok-i.ensures.ok; is = sym c.index_mut-seat.ensures.value } in
     let given = done s.taking _ c.in_ok-cancel.ensures.answer c.in_ok-cancel.ensures.records in
-    (cancel_in-world {s = s} c.self.invariant.0 f _ c.args.id given c.requires, c.self.invariant.1, c.self.invariant.2)
+    cancel_in-world {s = s} c.self.invariant f _ c.args.id given c.requires
 
 pub returns : goal.returns
 returns g c =
     let s = c.index_mut-seat.result.now in
     let f : Found c.args.name.now c.self.inside.seats.items c.in_ok-i.i s = record { at = c.in_ok-i.ensures.ok; is = sym c.index_mut-seat.ensures.value } in
     let given = done s.taking _ c.in_ok-cancel.ensures.answer c.in_ok-cancel.ensures.records in
-    rw (← c.self.view_is) (cancel_in-done {s = s} c.self.invariant.0 f _ c.args.id given)
+    rw (← c.self.view_is) (cancel_in-done {s = s} c.self.invariant f _ c.args.id given)

@@ -9,7 +9,7 @@ use Rattle.rh_tasks.proofs.world.World.change_made.Goals as goal
 pub returns-in_err-i : goal.returns-in_err-i
 returns-in_err-i g c =
     let p = err_from_is_err_and c.from_residual.result c.from_residual.ensures.1 in
-    rw (p.1, p.2, c.in_err-i.ensures.err.0, ← c.self.view_is) (no-area c.self.invariant.0 c.args.number c.args.delta c.requires.high c.in_err-i.ensures.err.1, refl)
+    rw (p.1, p.2, c.in_err-i.ensures.err.0, ← c.self.view_is) (no-area c.self.invariant c.args.number c.args.delta c.requires.high c.in_err-i.ensures.err.1, refl)
 
 pub returns-in_err-pages : goal.returns-in_err-pages
 returns-in_err-pages g c =
@@ -20,7 +20,7 @@ returns-in_err-pages g c =
       sits = made-sits c.args.number c.self.inside.made.items c.in_ok-i.i a c.in_ok-i.ensures.ok (sym c.index-made.ensures);
       number = made-number c.args.number c.self.inside.made.items c.in_ok-i.i a c.in_ok-i.ensures.ok (sym c.index-made.ensures);
     } in
-    rw (p.1, p.2, ← c.self.view_is) (made-refused c.self.invariant.0 c.args.number c.args.delta a h c.requires.high (sym e), refl)
+    rw (p.1, p.2, ← c.self.view_is) (made-refused c.self.invariant c.args.number c.args.delta a h c.requires.high (sym e), refl)
 
 pub returns-then-pages-made : goal.returns-then-pages-made
 returns-then-pages-made g c =
@@ -30,7 +30,7 @@ returns-then-pages-made g c =
       sits = made-sits c.args.number c.self.inside.made.items c.in_ok-i.i a c.in_ok-i.ensures.ok (sym c.index-made.ensures);
       number = made-number c.args.number c.self.inside.made.items c.in_ok-i.i a c.in_ok-i.ensures.ok (sym c.index-made.ensures);
     } in
-    rw (← c.self.view_is) (made-too-big c.self.invariant.0 c.args.number c.args.delta a h c.requires.high (sym e) c.if-pages-made.true, refl)
+    rw (← c.self.view_is) (made-too-big c.self.invariant c.args.number c.args.delta a h c.requires.high (sym e) c.if-pages-made.true, refl)
 
 pub set_pages-requires-clause-room : goal.set_pages-requires-clause-room
 set_pages-requires-clause-room g c = room-if _ _ _ _ _ (sym c.in_ok-pages.ensures)
@@ -43,11 +43,8 @@ invariant_of-self g c =
       sits = made-sits c.args.number c.self.inside.made.items c.in_ok-i.i a c.in_ok-i.ensures.ok (sym c.index-made.ensures);
       number = made-number c.args.number c.self.inside.made.items c.in_ok-i.i a c.in_ok-i.ensures.ok (sym c.index-made.ensures);
     } in (
-      made-kept c.self.invariant.0 c.args.number c.args.delta a h c.requires.high (sym e) c.if-pages-made.false c.set_pages.ensures.pages c.set_pages.ensures.only
-          (g.met.S.Paged.whole c.self.inside.store a.area.0) (g.met.S.Paged.whole c.set_pages.new.store a.area.0) c.requires.ranged,
-      c.self.invariant.1,
-      c.self.invariant.2,
-    )
+    made-kept c.self.invariant c.args.number c.args.delta a h c.requires.high (sym e) c.if-pages-made.false c.set_pages.ensures.pages c.set_pages.ensures.only
+    (g.met.S.Paged.whole c.self.inside.store a.area.0) (g.met.S.Paged.whole c.set_pages.new.store a.area.0) c.requires.ranged)
 
 pub returns : goal.returns
 returns g c =
@@ -58,5 +55,5 @@ returns g c =
       sits = made-sits c.args.number c.self.inside.made.items c.in_ok-i.i a c.in_ok-i.ensures.ok (sym c.index-made.ensures);
       number = made-number c.args.number c.self.inside.made.items c.in_ok-i.i a c.in_ok-i.ensures.ok (sym c.index-made.ensures);
     } in
-    rw (← c.self.view_is, moved) (made-done c.self.invariant.0 c.args.number c.args.delta a h c.requires.high (sym e) c.if-pages-made.false c.set_pages.ensures.pages c.set_pages.ensures.only
+    rw (← c.self.view_is, moved) (made-done c.self.invariant c.args.number c.args.delta a h c.requires.high (sym e) c.if-pages-made.false c.set_pages.ensures.pages c.set_pages.ensures.only
     (g.met.S.Paged.whole c.self.inside.store a.area.0) (g.met.S.Paged.whole c.set_pages.new.store a.area.0))

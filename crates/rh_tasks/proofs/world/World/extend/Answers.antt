@@ -26,14 +26,14 @@ pub returns-in_err-extend : goal.returns-in_err-extend
 unfolding extend
 returns-in_err-extend g c =
     let p = err_from_is_err_and c.from_residual-in_err-extend.result c.from_residual-in_err-extend.ensures.1 in
-    let same = ap (λ m. shown_of m c.self.inside.seats.items c.self.inside.made.items c.self.inside.files (kept_of c.self.inside.next c.self.inside.queue c.self.inside.scrap)) c.in_err-extend.ensures.err in
-    rw (p.1, p.2, ← c.self.view_is) (block-refused c.self.invariant.0 c.in_ok-slot.ensures.ok.owns (λ free. slot_extend free c.args.anchor c.args.size) c.args.anchor c.in_ok-slot.ensures.ok.granted c.in_err-extend.ensures, same)
+    let same = ap (λ m. shown_of m c.self.inside.seats.items c.self.inside.made.items (g.F.NamedFiles.contents c.self.inside.files) (kept_of c.self.inside.next c.self.inside.queue c.self.inside.scrap)) c.in_err-extend.ensures.err in
+    rw (p.1, p.2, ← c.self.view_is) (block-refused c.self.invariant c.in_ok-slot.ensures.ok.owns (λ free. slot_extend free c.args.anchor c.args.size) c.args.anchor c.in_ok-slot.ensures.ok.granted c.in_err-extend.ensures, same)
 
 pub invariant_of-self-2 : goal.invariant_of-self-2
 unfolding extend
 invariant_of-self-2 g c =
-    (block-world c.self.invariant.0 c.in_ok-slot.ensures.ok.owns (λ free. slot_extend free c.args.anchor c.args.size) c.args.anchor c.in_ok-slot.ensures.ok.granted c.in_ok-extend.ensures (command.Extend c.args.name.now c.args.anchor c.args.size) refl c.requires, c.self.invariant.1, c.self.invariant.2)
+    block-world c.self.invariant c.in_ok-slot.ensures.ok.owns (λ free. slot_extend free c.args.anchor c.args.size) c.args.anchor c.in_ok-slot.ensures.ok.granted c.in_ok-extend.ensures (command.Extend c.args.name.now c.args.anchor c.args.size) refl c.requires
 
 pub returns : goal.returns
 unfolding extend
-returns g c = rw (← c.self.view_is) (block-done c.self.invariant.0 c.in_ok-slot.ensures.ok.owns (λ free. slot_extend free c.args.anchor c.args.size) c.args.anchor c.in_ok-slot.ensures.ok.granted c.in_ok-extend.ensures)
+returns g c = rw (← c.self.view_is) (block-done c.self.invariant c.in_ok-slot.ensures.ok.owns (λ free. slot_extend free c.args.anchor c.args.size) c.args.anchor c.in_ok-slot.ensures.ok.granted c.in_ok-extend.ensures)

@@ -26,14 +26,14 @@ pub returns-in_err-free : goal.returns-in_err-free
 unfolding free
 returns-in_err-free g c =
     let p = err_from_is_err_and c.from_residual-in_err-free.result c.from_residual-in_err-free.ensures.1 in
-    let same = ap (λ m. shown_of m c.self.inside.seats.items c.self.inside.made.items c.self.inside.files (kept_of c.self.inside.next c.self.inside.queue c.self.inside.scrap)) c.in_err-free.ensures.err in
-    rw (p.1, p.2, ← c.self.view_is) (block-refused c.self.invariant.0 c.in_ok-slot.ensures.ok.owns (λ free. slot_free c.args.anchor) c.args.anchor c.in_ok-slot.ensures.ok.granted c.in_err-free.ensures, same)
+    let same = ap (λ m. shown_of m c.self.inside.seats.items c.self.inside.made.items (g.F.NamedFiles.contents c.self.inside.files) (kept_of c.self.inside.next c.self.inside.queue c.self.inside.scrap)) c.in_err-free.ensures.err in
+    rw (p.1, p.2, ← c.self.view_is) (block-refused c.self.invariant c.in_ok-slot.ensures.ok.owns (λ free. slot_free c.args.anchor) c.args.anchor c.in_ok-slot.ensures.ok.granted c.in_err-free.ensures, same)
 
 pub invariant_of-self-2 : goal.invariant_of-self-2
 unfolding free
 invariant_of-self-2 g c =
-    (block-world c.self.invariant.0 c.in_ok-slot.ensures.ok.owns (λ free. slot_free c.args.anchor) c.args.anchor c.in_ok-slot.ensures.ok.granted c.in_ok-free.ensures (command.Free c.args.name.now c.args.anchor) refl c.requires, c.self.invariant.1, c.self.invariant.2)
+    block-world c.self.invariant c.in_ok-slot.ensures.ok.owns (λ free. slot_free c.args.anchor) c.args.anchor c.in_ok-slot.ensures.ok.granted c.in_ok-free.ensures (command.Free c.args.name.now c.args.anchor) refl c.requires
 
 pub returns : goal.returns
 unfolding free
-returns g c = rw (← c.self.view_is) (block-done c.self.invariant.0 c.in_ok-slot.ensures.ok.owns (λ free. slot_free c.args.anchor) c.args.anchor c.in_ok-slot.ensures.ok.granted c.in_ok-free.ensures)
+returns g c = rw (← c.self.view_is) (block-done c.self.invariant c.in_ok-slot.ensures.ok.owns (λ free. slot_free c.args.anchor) c.args.anchor c.in_ok-slot.ensures.ok.granted c.in_ok-free.ensures)

@@ -16,29 +16,29 @@ returns-in_err-slot g c =
 
 pub overflow_cast-sums-2 : goal.overflow_cast-sums-2
 overflow_cast-sums-2 g c =
-    omega (arith, c.describe-length.ensures.largest, small-largest (owned c.self.invariant.0 c.in_ok-slot.ensures.ok) (g.met.S.Words.small c.self.inside.store c.in_ok-slot.slot.area.0))
+    omega (arith, c.describe-length.ensures.largest, small-largest (owned c.self.invariant c.in_ok-slot.ensures.ok) (g.met.S.Words.small c.self.inside.store c.in_ok-slot.slot.area.0))
 
 pub overflow_cast-sums-3 : goal.overflow_cast-sums-3
 overflow_cast-sums-3 g c =
-    omega (arith, c.describe-length.ensures.total, small-free (owned c.self.invariant.0 c.in_ok-slot.ensures.ok) (g.met.S.Words.small c.self.inside.store c.in_ok-slot.slot.area.0))
+    omega (arith, c.describe-length.ensures.total, small-free (owned c.self.invariant c.in_ok-slot.ensures.ok) (g.met.S.Words.small c.self.inside.store c.in_ok-slot.slot.area.0))
 
 pub returns-in_default : goal.returns-in_default
 unfolding heap_at
 returns-in_default g c =
     rw (← c.self.view_is, c.describe-length.ensures.end, c.describe-length.ensures.largest, c.describe-length.ensures.total)
-    (sym (of-slot c.self.invariant.0 c.in_ok-slot.ensures.ok (λ s. listed_heap c.args.place s.heap) ∙ listed-none c.args.place _ c.in_default.ensures))
+    (sym (of-slot c.self.invariant c.in_ok-slot.ensures.ok (λ s. listed_heap c.args.place s.heap) ∙ listed-none c.args.place _ c.in_default.ensures))
 
 pub segment_item-requires-clause-low : goal.segment_item-requires-clause-low
 segment_item-requires-clause-low g c =
-    small-place (owned c.self.invariant.0 c.in_ok-slot.ensures.ok) (g.met.S.Words.small c.self.inside.store c.in_ok-slot.slot.area.0) c.args.place c.in-Some.segment c.in-Some.ensures
+    small-place (owned c.self.invariant c.in_ok-slot.ensures.ok) (g.met.S.Words.small c.self.inside.store c.in_ok-slot.slot.area.0) c.args.place c.in-Some.segment c.in-Some.ensures
 
 pub segment_item-requires-clause-small : goal.segment_item-requires-clause-small
 segment_item-requires-clause-small g c =
-    small-piece (owned c.self.invariant.0 c.in_ok-slot.ensures.ok) (g.met.S.Words.small c.self.inside.store c.in_ok-slot.slot.area.0) c.args.place c.in-Some.segment c.in-Some.ensures
+    small-piece (owned c.self.invariant c.in_ok-slot.ensures.ok) (g.met.S.Words.small c.self.inside.store c.in_ok-slot.slot.area.0) c.args.place c.in-Some.segment c.in-Some.ensures
 
 pub returns : goal.returns
 unfolding heap_at
 returns g c =
     rw (← c.self.view_is, c.describe-length.ensures.end, c.describe-length.ensures.largest, c.describe-length.ensures.total)
-    (sym (of-slot c.self.invariant.0 c.in_ok-slot.ensures.ok (λ s. listed_heap c.args.place s.heap)
+    (sym (of-slot c.self.invariant c.in_ok-slot.ensures.ok (λ s. listed_heap c.args.place s.heap)
     ∙ listed-some c.args.place _ c.in-Some.segment c.segment_item.result c.in-Some.ensures c.segment_item.ensures))

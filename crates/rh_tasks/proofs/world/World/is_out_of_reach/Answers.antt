@@ -50,4 +50,4 @@ returns-else-i-target g c =
     ] in
     rw (← c.self.view_is) (λ t r ti rj.
     in-other (seated m seats c.args.i t ti) (seated m seats c.args.target.seat r rj) c.index-seat.result.now (sym c.index-seat.ensures)
-    c.args.target.address c.args.target.room c.args.portion.address c.args.portion.length narrow c.if-not-inside.ensures (handles c.self.invariant.0) c.if-i-target.false)
+    c.args.target.address c.args.target.room c.args.portion.address c.args.portion.length narrow c.if-not-inside.ensures (handles c.self.invariant) c.if-i-target.false)

@@ -11,7 +11,7 @@ use Rattle.rh_tasks.proofs.world.World.loaded.Goals as goal
 
 pub send_from-requires : goal.send_from-requires
 send_from-requires g c =
-    let w = c.self.invariant.0 in
+    let w = c.self.invariant in
     let sits : Sits c.self.inside.seats.items c.args.i c.index-seat.result.now = sits-there w c.self.view_is c.requires c.index-seat.ensures in
     let at = seat-there w c.self.view_is sits in
     let letter = c.load_ack_letter-letter.ensures (record { code = User; to = 0; block = 0; message = c.args.message.now }) refl in
@@ -19,7 +19,7 @@ send_from-requires g c =
 
 pub record_loaded_in-requires : goal.record_loaded_in-requires
 record_loaded_in-requires g c =
-    let w = c.self.invariant.0 in
+    let w = c.self.invariant in
     let sits : Sits c.self.inside.seats.items c.args.i c.index-seat.result.now = sits-there w c.self.view_is c.requires c.index-seat.ensures in
     let at = seat-there w c.self.view_is sits in
     let letter = c.load_ack_letter-letter.ensures (record { code = User; to = 0; block = 0; message = c.args.message.now }) refl in
@@ -28,7 +28,7 @@ record_loaded_in-requires g c =
 
 pub returns-in-Ok : goal.returns-in-Ok
 returns-in-Ok g c =
-    let w = c.self.invariant.0 in
+    let w = c.self.invariant in
     let sits : Sits c.self.inside.seats.items c.args.i c.index-seat.result.now = sits-there w c.self.view_is c.requires c.index-seat.ensures in
     λ t m for.
     let own = seat-handle w c.self.view_is sits for.at in
@@ -37,7 +37,7 @@ returns-in-Ok g c =
 
 pub returns-in-Err : goal.returns-in-Err
 returns-in-Err g c =
-    let w = c.self.invariant.0 in
+    let w = c.self.invariant in
     let sits : Sits c.self.inside.seats.items c.args.i c.index-seat.result.now = sits-there w c.self.view_is c.requires c.index-seat.ensures in
     λ t m for.
     let own = seat-handle w c.self.view_is sits for.at in

@@ -8,7 +8,7 @@ use Rattle.rh_tasks.proofs.world.World.module_segments.Goals as goal
 
 pub segment_items-requires-clause-small : goal.segment_items-requires-clause-small
 segment_items-requires-clause-small g c =
-    let is = c.self.invariant.0.areas.module_area in
+    let is = c.self.invariant.areas.module_area in
     rw (c.deref.ensures.0, c.segments_from-segments.ensures)
     (small_from c.args.place (heap_in (g.S.Words.memory c.self.inside.store) the_module)
     (omega (arith, is.spells.spells.heap.fits, is.spells.whole, g.met.S.Words.small c.self.inside.store 1)))
@@ -16,4 +16,4 @@ segment_items-requires-clause-small g c =
 pub returns : goal.returns
 returns g c =
     rw (← c.self.view_is, c.segment_items.ensures, c.deref.ensures.0, c.segments_from-segments.ensures)
-    (items_from module_start c.args.place (heap_in (g.S.Words.memory c.self.inside.store) the_module) ∙ module-items c.self.invariant.0 module_start c.args.place)
+    (items_from module_start c.args.place (heap_in (g.S.Words.memory c.self.inside.store) the_module) ∙ module-items c.self.invariant module_start c.args.place)

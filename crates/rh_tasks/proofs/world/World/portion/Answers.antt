@@ -24,8 +24,8 @@ address-requires-clause-anchor g c =
     let m = g.S.Words.memory c.self.inside.store in
     let s = c.index-seat.result.now in
     let inside = rw (← c.self.view_is) at c.requires in
-    let at = sits-in c.self.invariant.0 inside (sym c.index-seat.ensures) in
-    let has = all-at (HasSlot m) c.self.inside.seats.items c.args.i s c.self.invariant.0.areas.slots at in
+    let at = sits-in c.self.invariant inside (sym c.index-seat.ensures) in
+    let has = all-at (HasSlot m) c.self.inside.seats.items c.args.i s c.self.invariant.areas.slots at in
     let z = sized c.in_ok-size.ensures in
     let there = stands has.spells.words.anchors z.block in
     omega (arith, there.small)
@@ -40,8 +40,8 @@ next_address-address-requires g c =
     let m = g.S.Words.memory c.self.inside.store in
     let s = c.index-seat.result.now in
     let inside = rw (← c.self.view_is) at c.requires in
-    let at = sits-in c.self.invariant.0 inside (sym c.index-seat.ensures) in
-    let has = all-at (HasSlot m) c.self.inside.seats.items c.args.i s c.self.invariant.0.areas.slots at in
+    let at = sits-in c.self.invariant inside (sym c.index-seat.ensures) in
+    let has = all-at (HasSlot m) c.self.inside.seats.items c.args.i s c.self.invariant.areas.slots at in
     let z = sized c.in_ok-size.ensures in
     let there = stands has.spells.words.anchors z.block in
     let same : c.unwrap-start.result ≡ flex_address (slot_in m s.slot) z.cut.before = (let e = sym c.unwrap-start.ensures ∙ c.address.ensures ∙ addressed z in cc) in

@@ -26,14 +26,14 @@ pub returns-in_err-put : goal.returns-in_err-put
 unfolding put
 returns-in_err-put g c =
     let p = err_from_is_err_and c.from_residual-in_err-put.result c.from_residual-in_err-put.ensures.1 in
-    let same = ap (λ m. shown_of m c.self.inside.seats.items c.self.inside.made.items c.self.inside.files (kept_of c.self.inside.next c.self.inside.queue c.self.inside.scrap)) c.in_err-put.ensures.err in
-    rw (p.1, p.2, ← c.self.view_is) (block-refused c.self.invariant.0 c.in_ok-slot.ensures.ok.owns (λ free. slot_put c.args.anchor c.args.offset c.args.bytes.now) c.args.anchor c.in_ok-slot.ensures.ok.granted c.in_err-put.ensures, same)
+    let same = ap (λ m. shown_of m c.self.inside.seats.items c.self.inside.made.items (g.F.NamedFiles.contents c.self.inside.files) (kept_of c.self.inside.next c.self.inside.queue c.self.inside.scrap)) c.in_err-put.ensures.err in
+    rw (p.1, p.2, ← c.self.view_is) (block-refused c.self.invariant c.in_ok-slot.ensures.ok.owns (λ free. slot_put c.args.anchor c.args.offset c.args.bytes.now) c.args.anchor c.in_ok-slot.ensures.ok.granted c.in_err-put.ensures, same)
 
 pub invariant_of-self-2 : goal.invariant_of-self-2
 unfolding put
 invariant_of-self-2 g c =
-    (block-world c.self.invariant.0 c.in_ok-slot.ensures.ok.owns (λ free. slot_put c.args.anchor c.args.offset c.args.bytes.now) c.args.anchor c.in_ok-slot.ensures.ok.granted c.in_ok-put.ensures (command.Put c.args.name.now c.args.anchor c.args.offset c.args.bytes.now) refl c.requires, c.self.invariant.1, c.self.invariant.2)
+    block-world c.self.invariant c.in_ok-slot.ensures.ok.owns (λ free. slot_put c.args.anchor c.args.offset c.args.bytes.now) c.args.anchor c.in_ok-slot.ensures.ok.granted c.in_ok-put.ensures (command.Put c.args.name.now c.args.anchor c.args.offset c.args.bytes.now) refl c.requires
 
 pub returns : goal.returns
 unfolding put
-returns g c = rw (← c.self.view_is) (block-done c.self.invariant.0 c.in_ok-slot.ensures.ok.owns (λ free. slot_put c.args.anchor c.args.offset c.args.bytes.now) c.args.anchor c.in_ok-slot.ensures.ok.granted c.in_ok-put.ensures)
+returns g c = rw (← c.self.view_is) (block-done c.self.invariant c.in_ok-slot.ensures.ok.owns (λ free. slot_put c.args.anchor c.args.offset c.args.bytes.now) c.args.anchor c.in_ok-slot.ensures.ok.granted c.in_ok-put.ensures)

@@ -6,14 +6,14 @@ use Rattle.rh_tasks.proofs.world.World.record_fetched.Goals as goal
 pub invariant_of-self : goal.invariant_of-self
 invariant_of-self g c =
     let inside = rw (← c.self.view_is) at c.requires.place in
-    let at = sits-in c.self.invariant.0 inside (sym c.index_mut-seat.ensures.value) in
+    let at = sits-in c.self.invariant inside (sym c.index_mut-seat.ensures.value) in
     let edit = receiver.fetched c.args.f.now c.args.n c.args.fetch in
-    (taking-world c.self.invariant.0 at edit c.fetched.ensures, c.self.invariant.1, c.self.invariant.2)
+    taking-world c.self.invariant at edit c.fetched.ensures
 
 pub returns : goal.returns
 returns g c = λ t there.
     let inside = rw (← c.self.view_is) at c.requires.place in
-    let at = sits-in c.self.invariant.0 inside (sym c.index_mut-seat.ensures.value) in
+    let at = sits-in c.self.invariant inside (sym c.index_mut-seat.ensures.value) in
     let edit = receiver.fetched c.args.f.now c.args.n c.args.fetch in
     let where_is = rw (← c.self.view_is) at there in
-    rw (← c.self.view_is) (taking-done c.self.invariant.0 at edit c.fetched.ensures t where_is)
+    rw (← c.self.view_is) (taking-done c.self.invariant at edit c.fetched.ensures t where_is)

@@ -6,20 +6,20 @@ use Rattle.rh_tasks.proofs.world.World.record_fetching.Goals as goal
 pub fetching-requires : goal.fetching-requires
 fetching-requires g c =
     let inside = rw (← c.self.view_is) at c.requires.place in
-    let at = sits-in c.self.invariant.0 inside (sym c.index_mut-seat.ensures.value) in
-    room-at c.self.invariant.0 at (λ t there. c.requires.room t (rw (← c.self.view_is) there))
+    let at = sits-in c.self.invariant inside (sym c.index_mut-seat.ensures.value) in
+    room-at c.self.invariant at (λ t there. c.requires.room t (rw (← c.self.view_is) there))
 
 pub invariant_of-self : goal.invariant_of-self
 invariant_of-self g c =
     let inside = rw (← c.self.view_is) at c.requires.place in
-    let at = sits-in c.self.invariant.0 inside (sym c.index_mut-seat.ensures.value) in
+    let at = sits-in c.self.invariant inside (sym c.index_mut-seat.ensures.value) in
     let edit = receiver.fetching c.args.f in
-    (taking-world c.self.invariant.0 at edit c.fetching.ensures, c.self.invariant.1, c.self.invariant.2)
+    taking-world c.self.invariant at edit c.fetching.ensures
 
 pub returns : goal.returns
 returns g c = λ t there.
     let inside = rw (← c.self.view_is) at c.requires.place in
-    let at = sits-in c.self.invariant.0 inside (sym c.index_mut-seat.ensures.value) in
+    let at = sits-in c.self.invariant inside (sym c.index_mut-seat.ensures.value) in
     let edit = receiver.fetching c.args.f in
     let where_is = rw (← c.self.view_is) at there in
-    rw (← c.self.view_is) (taking-done c.self.invariant.0 at edit c.fetching.ensures t where_is)
+    rw (← c.self.view_is) (taking-done c.self.invariant at edit c.fetching.ensures t where_is)

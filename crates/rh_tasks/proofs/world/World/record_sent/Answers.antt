@@ -6,14 +6,14 @@ use Rattle.rh_tasks.proofs.world.World.record_sent.Goals as goal
 pub invariant_of-self : goal.invariant_of-self
 invariant_of-self g c =
     let inside = rw (← c.self.view_is) at c.requires.place in
-    let at = sits-in c.self.invariant.0 inside (sym c.index_mut-seat.ensures.value) in
+    let at = sits-in c.self.invariant inside (sym c.index_mut-seat.ensures.value) in
     let edit = sender.sent c.args.x.now c.args.n c.args.amount c.args.last in
-    (sending-world c.self.invariant.0 at edit c.sent.ensures, c.self.invariant.1, c.self.invariant.2)
+    sending-world c.self.invariant at edit c.sent.ensures
 
 pub returns : goal.returns
 returns g c = λ t there.
     let inside = rw (← c.self.view_is) at c.requires.place in
-    let at = sits-in c.self.invariant.0 inside (sym c.index_mut-seat.ensures.value) in
+    let at = sits-in c.self.invariant inside (sym c.index_mut-seat.ensures.value) in
     let edit = sender.sent c.args.x.now c.args.n c.args.amount c.args.last in
     let where_is = rw (← c.self.view_is) at there in
-    rw (← c.self.view_is) (sending-done c.self.invariant.0 at edit c.sent.ensures t where_is)
+    rw (← c.self.view_is) (sending-done c.self.invariant at edit c.sent.ensures t where_is)

@@ -10,7 +10,7 @@ use Rattle.rh_tasks.proofs.world.World.remove.Goals as goal
 pub returns-in_err-i : goal.returns-in_err-i
 returns-in_err-i g c =
     let p = err_from_is_err_and c.from_residual.result c.from_residual.ensures.1 in
-    rw (p.1, p.2, c.in_err-i.ensures.err.0, ← c.self.view_is) (remove-none c.self.invariant.0 _ c.in_err-i.ensures.err.1, refl)
+    rw (p.1, p.2, c.in_err-i.ensures.err.0, ← c.self.view_is) (remove-none c.self.invariant _ c.in_err-i.ensures.err.1, refl)
 
 pub invariant_of-self : goal.invariant_of-self
 invariant_of-self g c =
@@ -20,9 +20,9 @@ invariant_of-self g c =
       sits = made-sits c.args.number c.self.inside.made.items c.in_ok-i.i a c.in_ok-i.ensures.ok (sym c.remove-made.ensures.value);
       number = made-number c.args.number c.self.inside.made.items c.in_ok-i.i a c.in_ok-i.ensures.ok (sym c.remove-made.ensures.value);
     } in
-    let o = all-at (λ (x : MadeArea). IsOpen m x.area.0) c.self.inside.made.items c.in_ok-i.i a c.self.invariant.0.areas.made_open h.sits in
-    rw (c.close.ensures, c.remove-made.ensures.items, c.remove-made.ensures.capacity)
-    (remove-world c.self.invariant.0 c.args.number a h (g.met.S.Paged.whole c.self.inside.store a.area.0) (g.met.S.Store.numbered c.self.inside.store a.area.0 o) c.requires, c.self.invariant.1, c.self.invariant.2)
+    let o = all-at (λ (x : MadeArea). IsOpen m x.area.0) c.self.inside.made.items c.in_ok-i.i a c.self.invariant.areas.made_open h.sits in
+    rw (c.close.ensures, c.remove-made.ensures.items)
+    (remove-world c.self.invariant c.args.number a h (g.met.S.Paged.whole c.self.inside.store a.area.0) (g.met.S.Store.numbered c.self.inside.store a.area.0 o) c.requires)
 
 pub returns : goal.returns
 returns g c =
@@ -32,6 +32,6 @@ returns g c =
       sits = made-sits c.args.number c.self.inside.made.items c.in_ok-i.i a c.in_ok-i.ensures.ok (sym c.remove-made.ensures.value);
       number = made-number c.args.number c.self.inside.made.items c.in_ok-i.i a c.in_ok-i.ensures.ok (sym c.remove-made.ensures.value);
     } in
-    let o = all-at (λ (x : MadeArea). IsOpen m x.area.0) c.self.inside.made.items c.in_ok-i.i a c.self.invariant.0.areas.made_open h.sits in
+    let o = all-at (λ (x : MadeArea). IsOpen m x.area.0) c.self.inside.made.items c.in_ok-i.i a c.self.invariant.areas.made_open h.sits in
     rw (← c.self.view_is, c.close.ensures, c.remove-made.ensures.items)
-    (remove-done c.self.invariant.0 c.args.number a h (g.met.S.Paged.whole c.self.inside.store a.area.0) (g.met.S.Store.numbered c.self.inside.store a.area.0 o))
+    (remove-done c.self.invariant c.args.number a h (g.met.S.Paged.whole c.self.inside.store a.area.0) (g.met.S.Store.numbered c.self.inside.store a.area.0 o))

@@ -20,15 +20,15 @@ returns-in_err-letter g c =
     let f : Found c.args.name.now c.self.inside.seats.items c.in_ok-i.i s = record { at = c.in_ok-i.ensures.ok; is = sym c.index_mut-seat.ensures.value } in
     let p = err_from_is_err_and c.from_residual-in_err-letter.result c.from_residual-in_err-letter.ensures.1 in
     rw (p.1, p.2, ← c.self.view_is) (
-      repeat-nothing c.self.invariant.0 f (sym c.in_err-letter.ensures),
-      same-shown c.self.inside.made.items c.self.inside.files c.self.inside.next c.self.inside.scrap refl (seat-kept c.self.invariant.0 f) refl,
+      repeat-nothing c.self.invariant f (sym c.in_err-letter.ensures),
+      same-shown c.self.inside.made.items (g.F.NamedFiles.contents c.self.inside.files) c.self.inside.next c.self.inside.scrap refl (seat-kept c.self.invariant f) refl,
     )
 
 pub send-requires-clause-from : goal.send-requires-clause-from
 send-requires-clause-from g c =
     let s = c.index_mut-seat.result.now in
     let f : Found c.args.name.now c.self.inside.seats.items c.in_ok-i.i s = record { at = c.in_ok-i.ensures.ok; is = sym c.index_mut-seat.ensures.value } in
-    from-live c.self.invariant.0 (sits f) c.in_ok-letter.letter (again-own c.self.invariant.0 f c.in_ok-letter.letter (sym c.in_ok-letter.ensures))
+    from-live c.self.invariant (sits f) c.in_ok-letter.letter (again-own c.self.invariant f c.in_ok-letter.letter (sym c.in_ok-letter.ensures))
 
 pub returns-in_err-my_ref : goal.returns-in_err-my_ref
 returns-in_err-my_ref g c =
@@ -37,8 +37,8 @@ returns-in_err-my_ref g c =
     let p = err_from_is_err_and c.from_residual-in_err-my_ref.result c.from_residual-in_err-my_ref.ensures.1 in
     let e = c.in_err-my_ref.ensures in
     rw (p.1, p.2, ← c.self.view_is) (
-      repeat-refused c.self.invariant.0 f c.in_ok-letter.letter (sym c.in_ok-letter.ensures) e.answer,
-      same-shown c.self.inside.made.items c.self.inside.files c.self.inside.next c.self.inside.scrap e.err.0 (ap (set c.self.inside.seats.items c.in_ok-i.i) e.err.1.1 ∙ seat-kept c.self.invariant.0 f) e.err.1.0,
+      repeat-refused c.self.invariant f c.in_ok-letter.letter (sym c.in_ok-letter.ensures) e.answer,
+      same-shown c.self.inside.made.items (g.F.NamedFiles.contents c.self.inside.files) c.self.inside.next c.self.inside.scrap e.err.0 (ap (set c.self.inside.seats.items c.in_ok-i.i) e.err.1.1 ∙ seat-kept c.self.invariant f) e.err.1.0,
     )
 
 pub invariant_of-self-2 : goal.invariant_of-self-2
@@ -46,11 +46,11 @@ invariant_of-self-2 g c =
     let s = c.index_mut-seat.result.now in
     let f : Found c.args.name.now c.self.inside.seats.items c.in_ok-i.i s = record { at = c.in_ok-i.ensures.ok; is = sym c.index_mut-seat.ensures.value } in
     let e = c.in_ok-my_ref.ensures in
-    rw (e.ok) (repeat-world c.self.invariant.0 f c.in_ok-letter.letter (sym c.in_ok-letter.ensures) c.in_ok-my_ref.my_ref e.answer e.leaves c.requires, c.self.invariant.1, c.self.invariant.2)
+    rw (e.ok) (repeat-world c.self.invariant f c.in_ok-letter.letter (sym c.in_ok-letter.ensures) c.in_ok-my_ref.my_ref e.answer e.leaves c.requires)
 
 pub returns : goal.returns
 returns g c =
     let s = c.index_mut-seat.result.now in
     let f : Found c.args.name.now c.self.inside.seats.items c.in_ok-i.i s = record { at = c.in_ok-i.ensures.ok; is = sym c.index_mut-seat.ensures.value } in
     let e = c.in_ok-my_ref.ensures in
-    rw (← c.self.view_is, e.ok) (repeat-done c.self.invariant.0 f c.in_ok-letter.letter (sym c.in_ok-letter.ensures) c.in_ok-my_ref.my_ref e.answer e.leaves c.requires)
+    rw (← c.self.view_is, e.ok) (repeat-done c.self.invariant f c.in_ok-letter.letter (sym c.in_ok-letter.ensures) c.in_ok-my_ref.my_ref e.answer e.leaves c.requires)

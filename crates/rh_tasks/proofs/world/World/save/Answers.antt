@@ -14,14 +14,14 @@ idle_source-requires-clause-anchor g c = save-anchor c.args.name.now c.args.anch
 pub returns-in_err-source : goal.returns-in_err-source
 returns-in_err-source g c =
     let p = err_from_is_err_and c.from_residual.result c.from_residual.ensures.1 in
-    rw (p.1, p.2, ← c.self.view_is) (save-stopped c.self.invariant.0 c.args.anchor c.args.to.now c.args.leaf.now c.args.name.now c.in_err-source.ensures.err, refl)
+    rw (p.1, p.2, ← c.self.view_is) (save-stopped c.self.invariant c.args.anchor c.args.to.now c.args.leaf.now c.args.name.now c.in_err-source.ensures.err, refl)
 
 pub returns-in_err-recipient : goal.returns-in_err-recipient
 returns-in_err-recipient g c =
     let p = err_from_is_err_and c.from_residual-in_err-recipient.result c.from_residual-in_err-recipient.ensures.1 in
     let e = c.in_ok-source.ensures.ok in
     rw (p.1, p.2, c.in_err-recipient.ensures.err.0, ← c.self.view_is) (
-      save-nobody c.self.invariant.0 c.args.anchor c.args.to.now c.args.leaf.now e.found c.in_ok-source.source.size e.given c.in_err-recipient.ensures.err.1,
+      save-nobody c.self.invariant c.args.anchor c.args.to.now c.args.leaf.now e.found c.in_ok-source.source.size e.given c.in_err-recipient.ensures.err.1,
       refl,
     )
 
@@ -35,7 +35,7 @@ send-requires-clause-from g c =
     let f : Found c.args.name.now c.self.inside.seats.items c.in_ok-source.source.place s = again-found e.found (sym c.index_mut-seat.ensures.value) in
     let given = again-given (source_block c.args.anchor) (g.S.Words.memory c.self.inside.store) e.found f e.given in
     let r = c.in_ok-recipient.ensures.ok in
-    rw (c.save_letter-letter.ensures) (save-live c.self.invariant.0 c.args.anchor c.args.to.now c.args.leaf.now f c.in_ok-source.source.size given r.found r.is)
+    rw (c.save_letter-letter.ensures) (save-live c.self.invariant c.args.anchor c.args.to.now c.args.leaf.now f c.in_ok-source.source.size given r.found r.is)
 
 pub returns-in_err-my_ref : goal.returns-in_err-my_ref
 returns-in_err-my_ref g c =
@@ -47,8 +47,8 @@ returns-in_err-my_ref g c =
     let p = err_from_is_err_and c.from_residual-in_err-my_ref.result c.from_residual-in_err-my_ref.ensures.1 in
     let x = rw (c.save_letter-letter.ensures) at c.in_err-my_ref.ensures in
     rw (p.1, p.2, ← c.self.view_is) (
-      save-refused c.self.invariant.0 c.args.anchor c.args.to.now c.args.leaf.now f c.in_ok-source.source.size given r.found r.is x.answer,
-      same-shown c.self.inside.made.items c.self.inside.files c.self.inside.next c.self.inside.scrap x.err.0 (ap (set c.self.inside.seats.items c.in_ok-source.source.place) x.err.1.1 ∙ seat-kept c.self.invariant.0 f) x.err.1.0,
+      save-refused c.self.invariant c.args.anchor c.args.to.now c.args.leaf.now f c.in_ok-source.source.size given r.found r.is x.answer,
+      same-shown c.self.inside.made.items (g.F.NamedFiles.contents c.self.inside.files) c.self.inside.next c.self.inside.scrap x.err.0 (ap (set c.self.inside.seats.items c.in_ok-source.source.place) x.err.1.1 ∙ seat-kept c.self.invariant f) x.err.1.0,
     )
 
 pub offered-requires : goal.offered-requires
@@ -58,7 +58,7 @@ offered-requires g c =
     let f : Found c.args.name.now c.self.inside.seats.items c.in_ok-source.source.place s = again-found e.found (sym c.index_mut-seat.ensures.value) in
     let given = again-given (source_block c.args.anchor) (g.S.Words.memory c.self.inside.store) e.found f e.given in
     let r = c.in_ok-recipient.ensures.ok in
-    rw (c.in_ok-my_ref.ensures.ok) (may-open c.self.invariant.0 c.args.anchor c.args.to.now c.args.leaf.now f c.in_ok-source.source.size given)
+    rw (c.in_ok-my_ref.ensures.ok) (may-open c.self.invariant c.args.anchor c.args.to.now c.args.leaf.now f c.in_ok-source.source.size given)
 
 pub invariant_of-self-2 : goal.invariant_of-self-2
 invariant_of-self-2 g c =
@@ -68,7 +68,7 @@ invariant_of-self-2 g c =
     let given = again-given (source_block c.args.anchor) (g.S.Words.memory c.self.inside.store) e.found f e.given in
     let r = c.in_ok-recipient.ensures.ok in
     let x = rw (c.save_letter-letter.ensures) at c.in_ok-my_ref.ensures in
-    rw (c.offered.ensures, x.ok) (save-world c.self.invariant.0 c.args.anchor c.args.to.now c.args.leaf.now f c.in_ok-source.source.size given r.found r.is c.in_ok-my_ref.my_ref x.answer x.leaves c.requires, c.self.invariant.1, c.self.invariant.2)
+    rw (c.offered.ensures, x.ok) (save-world c.self.invariant c.args.anchor c.args.to.now c.args.leaf.now f c.in_ok-source.source.size given r.found r.is c.in_ok-my_ref.my_ref x.answer x.leaves c.requires)
 
 pub returns : goal.returns
 returns g c =
@@ -78,4 +78,4 @@ returns g c =
     let given = again-given (source_block c.args.anchor) (g.S.Words.memory c.self.inside.store) e.found f e.given in
     let r = c.in_ok-recipient.ensures.ok in
     let x = rw (c.save_letter-letter.ensures) at c.in_ok-my_ref.ensures in
-    rw (← c.self.view_is, c.offered.ensures, x.ok) (save-done c.self.invariant.0 c.args.anchor c.args.to.now c.args.leaf.now f c.in_ok-source.source.size given r.found r.is c.in_ok-my_ref.my_ref x.answer x.leaves c.requires)
+    rw (← c.self.view_is, c.offered.ensures, x.ok) (save-done c.self.invariant c.args.anchor c.args.to.now c.args.leaf.now f c.in_ok-source.source.size given r.found r.is c.in_ok-my_ref.my_ref x.answer x.leaves c.requires)

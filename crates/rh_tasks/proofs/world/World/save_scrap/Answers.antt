@@ -17,7 +17,7 @@ use Rattle.rh_tasks.proofs.world.World.save_scrap.Goals as goal
 
 pub returns-in_err-size : goal.returns-in_err-size
 returns-in_err-size g c =
-    let w = c.self.invariant.0 in
+    let w = c.self.invariant in
     let d : Desk = c.args.self.now.desk in
     let sits : Sits c.self.inside.seats.items c.args.i c.index-seat.result.now = sits-there w c.self.view_is c.requires c.index-seat.ensures in
     let p = err_from_is_err_and c.from_residual.result c.from_residual.ensures.1 in
@@ -26,7 +26,7 @@ returns-in_err-size g c =
 
 pub returns-then-is_some : goal.returns-then-is_some
 returns-then-is_some g c =
-    let w = c.self.invariant.0 in
+    let w = c.self.invariant in
     let d : Desk = c.args.self.now.desk in
     let sits : Sits c.self.inside.seats.items c.args.i c.index-seat.result.now = sits-there w c.self.view_is c.requires c.index-seat.ensures in
     λ t m for.
@@ -35,7 +35,7 @@ returns-then-is_some g c =
 
 pub returns-in_err-more : goal.returns-in_err-more
 returns-in_err-more g c =
-    let w = c.self.invariant.0 in
+    let w = c.self.invariant in
     let d : Desk = c.args.self.now.desk in
     let sits : Sits c.self.inside.seats.items c.args.i c.index-seat.result.now = sits-there w c.self.view_is c.requires c.index-seat.ensures in
     let p = err_from_is_err_and c.from_residual-in_err-more.result c.from_residual-in_err-more.ensures.1 in
@@ -49,7 +49,7 @@ returns-in_err-more g c =
 
 pub returns-then-free-wider : goal.returns-then-free-wider
 returns-then-free-wider g c =
-    let w = c.self.invariant.0 in
+    let w = c.self.invariant in
     let d : Desk = c.args.self.now.desk in
     let sits : Sits c.self.inside.seats.items c.args.i c.index-seat.result.now = sits-there w c.self.view_is c.requires c.index-seat.ensures in
     λ t m for.
@@ -65,7 +65,7 @@ returns-then-free-wider g c =
 
 pub returns-then-free-wider-2 : goal.returns-then-free-wider-2
 returns-then-free-wider-2 g c =
-    let w = c.self.invariant.0 in
+    let w = c.self.invariant in
     let d : Desk = c.args.self.now.desk in
     let sits : Sits c.self.inside.seats.items c.args.i c.index-seat.result.now = sits-there w c.self.view_is c.requires c.index-seat.ensures in
     λ t m for.
@@ -82,7 +82,7 @@ returns-then-free-wider-2 g c =
 
 pub send_from-requires : goal.send_from-requires
 send_from-requires g c =
-    let w = c.self.invariant.0 in
+    let w = c.self.invariant in
     let d : Desk = c.args.self.now.desk in
     let sits : Sits c.self.inside.seats.items c.args.i c.index-seat.result.now = sits-there w c.self.view_is c.requires c.index-seat.ensures in
     let t : Task = task_of (g.S.Words.memory c.self.inside.store) c.index-seat.result.now in
@@ -100,7 +100,7 @@ send_from-requires g c =
 
 pub unwrap-load-requires : goal.unwrap-load-requires
 unwrap-load-requires g c =
-    let w = c.self.invariant.0 in
+    let w = c.self.invariant in
     let d : Desk = c.args.self.now.desk in
     let sits : Sits c.self.inside.seats.items c.args.i c.index-seat.result.now = sits-there w c.self.view_is c.requires c.index-seat.ensures in
     let t : Task = task_of (g.S.Words.memory c.self.inside.store) c.index-seat.result.now in
@@ -121,7 +121,7 @@ unwrap-load-requires g c =
 
 pub fill_scrap-requires-clause-place : goal.fill_scrap-requires-clause-place
 fill_scrap-requires-clause-place g c =
-    let w = c.self.invariant.0 in
+    let w = c.self.invariant in
     let d : Desk = c.args.self.now.desk in
     let sits : Sits c.self.inside.seats.items c.args.i c.index-seat.result.now = sits-there w c.self.view_is c.requires c.index-seat.ensures in
     let t : Task = task_of (g.S.Words.memory c.self.inside.store) c.index-seat.result.now in
@@ -140,7 +140,7 @@ fill_scrap-requires-clause-place g c =
 
 pub fill_scrap-requires-clause-room : goal.fill_scrap-requires-clause-room
 fill_scrap-requires-clause-room g c =
-    let w = c.self.invariant.0 in
+    let w = c.self.invariant in
     let d : Desk = c.args.self.now.desk in
     let sits : Sits c.self.inside.seats.items c.args.i c.index-seat.result.now = sits-there w c.self.view_is c.requires c.index-seat.ensures in
     let t : Task = task_of (g.S.Words.memory c.self.inside.store) c.index-seat.result.now in
@@ -159,7 +159,7 @@ fill_scrap-requires-clause-room g c =
 
 pub fill_scrap-requires-clause-block : goal.fill_scrap-requires-clause-block
 fill_scrap-requires-clause-block g c =
-    let w = c.self.invariant.0 in
+    let w = c.self.invariant in
     let d : Desk = c.args.self.now.desk in
     let sits : Sits c.self.inside.seats.items c.args.i c.index-seat.result.now = sits-there w c.self.view_is c.requires c.index-seat.ensures in
     let t : Task = task_of (g.S.Words.memory c.self.inside.store) c.index-seat.result.now in
@@ -178,7 +178,7 @@ fill_scrap-requires-clause-block g c =
 
 pub record_saved-requires : goal.record_saved-requires
 record_saved-requires g c =
-    let w = c.self.invariant.0 in
+    let w = c.self.invariant in
     let d : Desk = c.args.self.now.desk in
     let sits : Sits c.self.inside.seats.items c.args.i c.index-seat.result.now = sits-there w c.self.view_is c.requires c.index-seat.ensures in
     let t : Task = task_of (g.S.Words.memory c.self.inside.store) c.index-seat.result.now in
@@ -197,7 +197,7 @@ record_saved-requires g c =
 
 pub returns : goal.returns
 returns g c =
-    let w = c.self.invariant.0 in
+    let w = c.self.invariant in
     let d : Desk = c.args.self.now.desk in
     let sits : Sits c.self.inside.seats.items c.args.i c.index-seat.result.now = sits-there w c.self.view_is c.requires c.index-seat.ensures in
     λ t m for.

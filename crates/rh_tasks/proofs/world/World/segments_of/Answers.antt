@@ -22,7 +22,7 @@ returns-in_err-slot-clause-err g c =
 
 pub segment_items-requires-clause-small : goal.segment_items-requires-clause-small
 segment_items-requires-clause-small g c =
-    let is = owned c.self.invariant.0 c.in_ok-slot.ensures.ok in
+    let is = owned c.self.invariant c.in_ok-slot.ensures.ok in
     rw (c.deref.ensures.0, c.segments_from-segments.ensures)
     (small_from c.args.place (slot_in (g.S.Words.memory c.self.inside.store) c.in_ok-slot.slot).heap (omega (arith, is.spells.words.heap.heap.fits, small-end is (g.met.S.Words.small c.self.inside.store c.in_ok-slot.slot.area.0))))
 
@@ -30,5 +30,5 @@ pub returns-clause-ok : goal.returns-clause-ok
 unfolding segments_of
 returns-clause-ok g c =
     rw (← c.self.view_is, c.segment_items.ensures, c.deref.ensures.0, c.segments_from-segments.ensures)
-    (of-slot c.self.invariant.0 c.in_ok-slot.ensures.ok (λ s. let r : Granted (List SegmentItem) = Ok (segment_items_at c.args.place s.heap) in r)
+    (of-slot c.self.invariant c.in_ok-slot.ensures.ok (λ s. let r : Granted (List SegmentItem) = Ok (segment_items_at c.args.place s.heap) in r)
     ∙ ap Ok (sym (items_from heap_start c.args.place (slot_in (g.S.Words.memory c.self.inside.store) c.in_ok-slot.slot).heap)))

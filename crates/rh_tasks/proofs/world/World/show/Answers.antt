@@ -20,7 +20,7 @@ unfolding shown_at
 returns-in_err-size g c =
     let p = err_from_is_err_and c.from_residual-in_err-size.result c.from_residual-in_err-size.ensures.1 in
     rw (p.1, p.2, ← c.self.view_is)
-    (if-err _ _ (of-slot c.self.invariant.0 c.in_ok-slot.ensures.ok (shown_of_slot c.args.anchor c.args.offset (length c.args.to.now))
+    (if-err _ _ (of-slot c.self.invariant c.in_ok-slot.ensures.ok (shown_of_slot c.args.anchor c.args.offset (length c.args.to.now))
     ∙ unsized c.args.anchor _ _ _ c.in_err-size.ensures) (refl, refl))
 
 pub returns-in_err-read : goal.returns-in_err-read
@@ -28,16 +28,16 @@ unfolding shown_at
 returns-in_err-read g c =
     let p = err_from_is_err_and c.from_residual-in_err-read.result c.from_residual-in_err-read.ensures.1 in
     rw (p.1, p.2, ← c.self.view_is)
-    (if-err _ _ (of-slot c.self.invariant.0 c.in_ok-slot.ensures.ok (shown_of_slot c.args.anchor c.args.offset (length c.args.to.now))
+    (if-err _ _ (of-slot c.self.invariant c.in_ok-slot.ensures.ok (shown_of_slot c.args.anchor c.args.offset (length c.args.to.now))
     ∙ unread c.args.anchor c.args.offset _ _ _ c.in_err-read.ensures.answer) (refl, kept _ _ _ c.in_err-read.ensures.answer c.in_err-read.ensures.bytes))
 
 pub overflow_cast-result : goal.overflow_cast-result
 overflow_cast-result g c =
-    omega (arith, small-size (owned c.self.invariant.0 c.in_ok-slot.ensures.ok) (g.met.S.Words.small c.self.inside.store c.in_ok-slot.slot.area.0) c.args.anchor c.in_ok-size.size c.in_ok-size.ensures)
+    omega (arith, small-size (owned c.self.invariant c.in_ok-slot.ensures.ok) (g.met.S.Words.small c.self.inside.store c.in_ok-slot.slot.area.0) c.args.anchor c.in_ok-size.size c.in_ok-size.ensures)
 
 pub returns : goal.returns
 unfolding shown_at
 returns g c =
     rw (← c.self.view_is)
-    (if-ok _ _ (of-slot c.self.invariant.0 c.in_ok-slot.ensures.ok (shown_of_slot c.args.anchor c.args.offset (length c.args.to.now))
+    (if-ok _ _ (of-slot c.self.invariant c.in_ok-slot.ensures.ok (shown_of_slot c.args.anchor c.args.offset (length c.args.to.now))
     ∙ read-done c.args.anchor c.args.offset _ c.in_ok-size.size _ c.args.to.now c.read.new.to c.in_ok-size.ensures c.in_ok-read.ensures.answer c.in_ok-read.ensures.bytes) (refl, refl))

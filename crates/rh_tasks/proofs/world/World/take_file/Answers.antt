@@ -17,11 +17,11 @@ returns-in_default g c = rw (c.in_default.is) (λ t m for. as-after (take-none c
 pub returns-in_default-scrap : goal.returns-in_default-scrap
 returns-in_default-scrap g c =
     rw (c.in-Some.is) (λ t m for.
-    as-after (take-nothing c.args.self.now.desk t m c.in-Some.q (seen-nothing c.self.invariant.0 c.self.view_is c.in_default-scrap.is)) (refl, reordered-refl c.args.self.now.desk))
+    as-after (take-nothing c.args.self.now.desk t m c.in-Some.q (seen-nothing c.self.invariant c.self.view_is c.in_default-scrap.is)) (refl, reordered-refl c.args.self.now.desk))
 
 pub returns-then-ne : goal.returns-then-ne
 returns-then-ne g c =
-    let w = c.self.invariant.0 in
+    let w = c.self.invariant in
     let f = c.in-Some-scrap.file in
     let file : Scrap = scrap_from (bytes (g.S.Words.memory c.self.inside.store) 5) f in
     rw (c.in-Some.is) (λ t m for.
@@ -30,7 +30,7 @@ returns-then-ne g c =
 
 pub loaded-requires : goal.loaded-requires
 loaded-requires g c =
-    let w = c.self.invariant.0 in
+    let w = c.self.invariant in
     let f = c.in-Some-scrap.file in
     let file : Scrap = scrap_from (bytes (g.S.Words.memory c.self.inside.store) 5) f in
     let has = seen-file w c.self.view_is f c.in-Some-scrap.is in
@@ -41,7 +41,7 @@ loaded-requires g c =
 
 pub record_abandoned-requires : goal.record_abandoned-requires
 record_abandoned-requires g c =
-    let w = c.self.invariant.0 in
+    let w = c.self.invariant in
     let f = c.in-Some-scrap.file in
     let file : Scrap = scrap_from (bytes (g.S.Words.memory c.self.inside.store) 5) f in
     let has = seen-file w c.self.view_is f c.in-Some-scrap.is in
@@ -51,7 +51,7 @@ record_abandoned-requires g c =
 
 pub returns-in-Ok : goal.returns-in-Ok
 returns-in-Ok g c =
-    let w = c.self.invariant.0 in
+    let w = c.self.invariant in
     let f = c.in-Some-scrap.file in
     let file : Scrap = scrap_from (bytes (g.S.Words.memory c.self.inside.store) 5) f in
     let has = seen-file w c.self.view_is f c.in-Some-scrap.is in
@@ -62,7 +62,7 @@ returns-in-Ok g c =
 
 pub returns-in-Err : goal.returns-in-Err
 returns-in-Err g c =
-    let w = c.self.invariant.0 in
+    let w = c.self.invariant in
     let f = c.in-Some-scrap.file in
     let file : Scrap = scrap_from (bytes (g.S.Words.memory c.self.inside.store) 5) f in
     let has = seen-file w c.self.view_is f c.in-Some-scrap.is in

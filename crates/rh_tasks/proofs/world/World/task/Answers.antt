@@ -13,39 +13,39 @@ use Rattle.rh_tasks.proofs.world.World.task.Given as given
 
 pub returns-then-i-len-clause-task : goal.returns-then-i-len-clause-task
 returns-then-i-len-clause-task g c =
-    rw (← c.self.view_is, no-task-there c.self.invariant.0 c.args.i (omega (arith, c.if-i-len.true, c.len.ensures, c.self.inside.seats.ok))) tt
+    rw (← c.self.view_is, no-task-there c.self.invariant c.args.i (omega (arith, c.if-i-len.true, c.len.ensures.value))) tt
 
 pub returns-then-i-len-clause-few : goal.returns-then-i-len-clause-few
-returns-then-i-len-clause-few g c = rw (← c.self.view_is) c.self.invariant.0.desk.few
+returns-then-i-len-clause-few g c = rw (← c.self.view_is) c.self.invariant.desk.few
 
 -- the seat that is looked at
 at : (g : given.Over) (c : After-index-seat g) → Sits c.self.inside.seats.items c.args.i c.index-seat.result.now
-at g c = record { inside = omega (arith, c.if-i-len.false, c.len.ensures, c.self.inside.seats.ok); is = sym c.index-seat.ensures }
+at g c = record { inside = omega (arith, c.if-i-len.false, c.len.ensures.value); is = sym c.index-seat.ensures }
 
 pub overflow_cast-heap : goal.overflow_cast-heap
 overflow_cast-heap g c =
-    let is = seat-slot c.self.invariant.0 (at g (goal.at.overflow_cast-heap g c).After-index-seat) in
+    let is = seat-slot c.self.invariant (at g (goal.at.overflow_cast-heap g c).After-index-seat) in
     omega (arith, c.describe-length.ensures.end, small-end is (g.met.S.Words.small c.self.inside.store c.index-seat.result.now.slot.area.0))
 
 pub overflow_cast-heap-2 : goal.overflow_cast-heap-2
 overflow_cast-heap-2 g c =
-    let is = seat-slot c.self.invariant.0 (at g (goal.at.overflow_cast-heap-2 g c).After-index-seat) in
+    let is = seat-slot c.self.invariant (at g (goal.at.overflow_cast-heap-2 g c).After-index-seat) in
     omega (arith, c.describe-length.ensures.largest, small-largest is (g.met.S.Words.small c.self.inside.store c.index-seat.result.now.slot.area.0))
 
 pub overflow_cast-heap-3 : goal.overflow_cast-heap-3
 overflow_cast-heap-3 g c =
-    let is = seat-slot c.self.invariant.0 (at g (goal.at.overflow_cast-heap-3 g c).After-index-seat) in
+    let is = seat-slot c.self.invariant (at g (goal.at.overflow_cast-heap-3 g c).After-index-seat) in
     omega (arith, c.describe-length.ensures.total, small-free is (g.met.S.Words.small c.self.inside.store c.index-seat.result.now.slot.area.0))
 
 pub pages_in-requires : goal.pages_in-requires
-pages_in-requires g c = (seat-slot c.self.invariant.0 (at g (goal.at.pages_in-requires g c).After-index-seat)).opened
+pages_in-requires g c = (seat-slot c.self.invariant (at g (goal.at.pages_in-requires g c).After-index-seat)).opened
 
 pub returns-clause-task : goal.returns-clause-task
 unfolding task_of slot_of
 returns-clause-task g c =
     let there = at g (goal.at.returns-clause-task g c).After-index-seat in
-    let is = seat-slot c.self.invariant.0 there in
-    rw (← c.self.view_is, task-there c.self.invariant.0 there) (record {
+    let is = seat-slot c.self.invariant there in
+    rw (← c.self.view_is, task-there c.self.invariant there) (record {
       handle = refl;
       name = refl;
       buffer = refl;
@@ -59,7 +59,7 @@ returns-clause-task g c =
     })
 
 pub returns-clause-live : goal.returns-clause-live
-returns-clause-live g c = rw (← c.self.view_is) (task-live c.self.invariant.0 (at g (goal.at.returns-clause-live g c).After-index-seat))
+returns-clause-live g c = rw (← c.self.view_is) (task-live c.self.invariant (at g (goal.at.returns-clause-live g c).After-index-seat))
 
 pub returns-clause-few : goal.returns-clause-few
-returns-clause-few g c = rw (← c.self.view_is) c.self.invariant.0.desk.few
+returns-clause-few g c = rw (← c.self.view_is) c.self.invariant.desk.few

@@ -24,7 +24,7 @@ returns-in_err-portion g c =
 pub returns-in_default : goal.returns-in_default
 returns-in_default g c =
     let d = c.args.self.now.desk in
-    let none : task_at c.args.x.now.recipient d ≡ None = rw (← c.self.view_is) (nobody-with c.self.invariant.0 c.args.x.now.recipient (sym c.in_default.ensures)) in
+    let none : task_at c.args.x.now.recipient d ≡ None = rw (← c.self.view_is) (nobody-with c.self.invariant c.args.x.now.recipient (sym c.in_default.ensures)) in
     λ t m is. (transmit-nobody d t m c.args.buffer c.args.amount c.args.x.now (c.in_ok-portion.ensures.ok t is.at) none, refl)
 
 pub is_out_of_reach-requires-clause-low : goal.is_out_of_reach-requires-clause-low
@@ -33,7 +33,7 @@ is_out_of_reach-requires-clause-low g c = c.in_ok-portion.ensures.low
 pub returns-then-is_out_of_reach : goal.returns-then-is_out_of_reach
 returns-then-is_out_of_reach g c =
     let d = c.args.self.now.desk in
-    let r : Meant d c.in-Some.seat c.args.x.now.recipient = rw (← c.self.view_is) (somebody-with c.self.invariant.0 c.args.x.now.recipient c.in-Some.seat (sym c.in-Some.ensures)) in
+    let r : Meant d c.in-Some.seat c.args.x.now.recipient = rw (← c.self.view_is) (somebody-with c.self.invariant c.args.x.now.recipient c.in-Some.seat (sym c.in-Some.ensures)) in
     λ t m is. (
       transmit-far d t m c.args.buffer c.args.amount c.args.x.now (c.in_ok-portion.ensures.ok t is.at) r.task r.found (c.if-is_out_of_reach.ensures t r.task is.at r.at),
       refl,
@@ -47,7 +47,7 @@ send_from-requires g c =
     let parcel : Parcel = record { code = User; to = 0; block = 0; message = c.args.message.now } in
     let own : c.transmit_letter-letter.result.from ≡ s.handle = ap (λ (l : Letter). l.from) (c.transmit_letter-letter.ensures parcel refl) in
     let inside = rw (← c.self.view_is) at c.requires in
-    let at = sits-in c.self.invariant.0 inside (sym c.index-sender.ensures) in
+    let at = sits-in c.self.invariant inside (sym c.index-sender.ensures) in
     rw (← c.self.view_is) (task_of m s, (mapped-at (task_of m) c.self.inside.seats.items c.args.i s at, own))
 
 pub returns-in_err-transmit : goal.returns-in_err-transmit
@@ -58,7 +58,7 @@ returns-in_err-transmit g c =
     let m0 = g.S.Words.memory c.self.inside.store in
     let s = c.index-sender.result.now in
     let n = c.in_ok-portion.portion.length in
-    let r : Meant d c.in-Some.seat c.args.x.now.recipient = rw (← c.self.view_is) (somebody-with c.self.invariant.0 c.args.x.now.recipient c.in-Some.seat (sym c.in-Some.ensures)) in
+    let r : Meant d c.in-Some.seat c.args.x.now.recipient = rw (← c.self.view_is) (somebody-with c.self.invariant c.args.x.now.recipient c.in-Some.seat (sym c.in-Some.ensures)) in
     rw (p.1, p.2) (λ t m is.
     let there = rw (← c.self.view_is) at is.at in
     let own : s.handle ≡ t.handle = sym (ap (λ (u : Task). u.handle) (seat-is (seated m0 c.self.inside.seats.items c.args.i t there) s (sym c.index-sender.ensures))) in
@@ -79,7 +79,7 @@ write_portion-requires-clause-target g c =
     let d = c.args.self.now.desk in
     let e = c.in_ok-transmit.ensures in
     let k = sent-pairs c.transmit_letter-letter.result d e.1.0 c.send_from.new.self.desk e.1.1.0 e.1.1.1 in
-    let r : Meant d c.in-Some.seat c.args.x.now.recipient = rw (← c.self.view_is) (somebody-with c.self.invariant.0 c.args.x.now.recipient c.in-Some.seat (sym c.in-Some.ensures)) in
+    let r : Meant d c.in-Some.seat c.args.x.now.recipient = rw (← c.self.view_is) (somebody-with c.self.invariant c.args.x.now.recipient c.in-Some.seat (sym c.in-Some.ensures)) in
     omega (arith, alike-length pair_of k, slice_get_within d.tasks c.in-Some.seat r.task r.at)
 
 pub write_portion-requires-clause-portion : goal.write_portion-requires-clause-portion
@@ -96,7 +96,7 @@ write_portion-requires-clause-reach g c =
     let e = c.in_ok-transmit.ensures in
     let k = sent-pairs c.transmit_letter-letter.result d e.1.0 c.send_from.new.self.desk e.1.1.0 e.1.1.1 in
     let t = member-at d.tasks c.args.i c.requires in
-    let r : Meant d c.in-Some.seat c.args.x.now.recipient = rw (← c.self.view_is) (somebody-with c.self.invariant.0 c.args.x.now.recipient c.in-Some.seat (sym c.in-Some.ensures)) in
+    let r : Meant d c.in-Some.seat c.args.x.now.recipient = rw (← c.self.view_is) (somebody-with c.self.invariant c.args.x.now.recipient c.in-Some.seat (sym c.in-Some.ensures)) in
     λ u v at bt.
     reach-seen t.0 u r.task v c.args.buffer c.args.amount c.in_ok-portion.portion.address c.in_ok-portion.portion.length
     (alike-at pair_of k c.args.i t.0 u t.1 at) (alike-at pair_of k c.in-Some.seat r.task v r.at bt)
@@ -111,7 +111,7 @@ record_sent-requires-clause-place g c =
     let e = c.in_ok-transmit.ensures in
     let k = sent-pairs c.transmit_letter-letter.result d e.1.0 c.send_from.new.self.desk e.1.1.0 e.1.1.1 in
     let t = member-at d.tasks c.args.i c.requires in
-    let r : Meant d c.in-Some.seat c.args.x.now.recipient = rw (← c.self.view_is) (somebody-with c.self.invariant.0 c.args.x.now.recipient c.in-Some.seat (sym c.in-Some.ensures)) in
+    let r : Meant d c.in-Some.seat c.args.x.now.recipient = rw (← c.self.view_is) (somebody-with c.self.invariant c.args.x.now.recipient c.in-Some.seat (sym c.in-Some.ensures)) in
     omega (arith, alike-length handle_of (wrote-handles k c.args.i c.in-Some.seat t.1 r.at (c.in_ok-portion.ensures.ok t.0 t.1) c.args.buffer c.args.amount c.write_portion.ensures), c.requires)
 
 pub record_sent-requires-clause-word : goal.record_sent-requires-clause-word
@@ -126,7 +126,7 @@ returns g c =
     let n = c.in_ok-portion.portion.length in
     let e = c.in_ok-transmit.ensures in
     let k = sent-pairs c.transmit_letter-letter.result d e.1.0 c.send_from.new.self.desk e.1.1.0 e.1.1.1 in
-    let r : Meant d c.in-Some.seat c.args.x.now.recipient = rw (← c.self.view_is) (somebody-with c.self.invariant.0 c.args.x.now.recipient c.in-Some.seat (sym c.in-Some.ensures)) in
+    let r : Meant d c.in-Some.seat c.args.x.now.recipient = rw (← c.self.view_is) (somebody-with c.self.invariant c.args.x.now.recipient c.in-Some.seat (sym c.in-Some.ensures)) in
     λ t m is.
     let there = rw (← c.self.view_is) at is.at in
     let own : s.handle ≡ t.handle = sym (ap (λ (u : Task). u.handle) (seat-is (seated m0 c.self.inside.seats.items c.args.i t there) s (sym c.index-sender.ensures))) in

@@ -8,15 +8,12 @@ invariant_of-self g c =
     let room = rw (← c.self.view_is) at c.requires in
     let e = rw c.unwrap.ensures at c.grow.ensures.ok in
     rw e (
-      wider-world c.self.invariant.0 c.args.more (omega (arith, room, free-is c.self.invariant.0)) (g.met.S.Paged.whole c.self.inside.store 5),
-      c.self.invariant.1,
-      c.self.invariant.2,
-    )
+    wider-world c.self.invariant c.args.more (omega (arith, room, free-is c.self.invariant)) (g.met.S.Paged.whole c.self.inside.store 5))
 
 pub returns : goal.returns
 returns g c =
     let room = rw (← c.self.view_is) at c.requires in
     let e = rw c.unwrap.ensures at c.grow.ensures.ok in
     rw (e, ← c.self.view_is) (
-    wider-desk c.self.invariant.0 c.args.more (omega (arith, room, free-is c.self.invariant.0)) (g.met.S.Paged.whole c.self.inside.store 5)
+    wider-desk c.self.invariant c.args.more (omega (arith, room, free-is c.self.invariant)) (g.met.S.Paged.whole c.self.inside.store 5)
     )
