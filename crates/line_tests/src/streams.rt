@@ -4,7 +4,6 @@ use crate::same::same;
 use arrayvec::ArrayVec;
 use rh_defs::LineFault;
 use rh_lines::{Flagged, Held, ReadFailed, Sink, Source, WriteFailed, print_fault, put};
-use std::alloc::AllocError;
 use std::io;
 
 #[test]
@@ -116,8 +115,8 @@ fn fails_where_the_reader_fails(rt: HostRuntime) {
 }
 
 #[test]
-fn holds_what_fits(rt: HostRuntime) -> Result<(), AllocError> {
-    let mut held = Held::new(rt.alloc())?;
+fn holds_what_fits(rt: HostRuntime) {
+    let mut held = Held::new();
     same(&rt, put(&mut held, &[7; 65_535]), Ok(()));
     same(&rt, put(&mut held, b"ab"), Err(WriteFailed));
     same(&rt, held.as_slice().len(), 65_535);
@@ -126,5 +125,4 @@ fn holds_what_fits(rt: HostRuntime) -> Result<(), AllocError> {
     held.cut(2);
     same(&rt, held.as_slice(), [7, 7].as_slice());
     same(&rt, held.write(b"d"), Ok(1));
-    Ok(())
 }

@@ -5,3 +5,4 @@ pub mod DigitLemmas
 pub mod LineLemmas
 pub mod Tables
 pub mod HexDigits
+pub mod TextLemmas

@@ -1,5 +1,5 @@
 -- What a reader has left and what a writer has taken, and what writing some bytes does.
-use Rattle.std.specs.Prelude.{◌≡◌, ℕ, ◌+◌, min, Bool, true, ◌==◌, ◌&&◌, not, List, ◌++◌, length, Option, Result, Ok, Err, OnOk, OnErr, if◌then◌else◌}
+use Rattle.std.specs.Prelude.{◌≡◌, ℕ, ◌+◌, min, Bool, true, false, ◌==◌, ◌&&◌, not, List, ◌++◌, length, Option, Some, Result, Ok, Err, OnOk, OnErr, if◌then◌else◌}
 use Rattle.std.specs.Io.KnownBytes.{Appends}
 use Rattle.std.specs.Option.{option_map}
 
@@ -16,6 +16,10 @@ pub record Input : Type 0 where
   pub left : Option (List ℕ)
   pub failed : Bool
   pub reads : ℕ
+
+-- a reader that has all of these bytes left
+abbrev pub unread : List ℕ → Input
+unread bytes = record { left = Some bytes; failed = false; reads = 0 }
 
 abbrev pub most_reads : ℕ
 most_reads = 1000001

@@ -3,3 +3,4 @@ pub mod Flow
 pub mod Noted
 pub mod Words
 pub mod Keywords
+pub mod WholeText

@@ -18,6 +18,8 @@ mod row;
 mod sink;
 mod source;
 mod tasks;
+mod unseen;
+mod whole_text;
 mod words;
 
 pub use flagged::Flagged;
@@ -28,3 +30,4 @@ pub use print::{add_number, print_fault, print_first_line};
 pub use row::{ROW, Row};
 pub use sink::{Sink, WriteFailed, put};
 pub use source::{ReadFailed, Source};
+pub use whole_text::WholeText;

@@ -1,44 +1,46 @@
 //! The front of a reply, which is kept until it is shown.
 
-ghost use Rattle.std.specs.Prelude.{◌≡◌, ◌≤◌, [], IfOk, false, true, length};
+ghost use Rattle.std.specs.Prelude.{◌≡◌, ◌≤◌, [], false, true, length};
 ghost use Rattle.rh_map.specs.declared.front.TheConstants.{ROOM};
 
 use rh_lines::{Sink, WriteFailed};
-use std::alloc::{AllocError, Global};
 use std::marker::Model;
 
 /// So many bytes of a reply are kept.
 const ROOM: usize = 4_096;
 
-/// The first 4,096 bytes of what is written to it. Once it is full it takes none, and counts as failed. It takes no
-/// memory once it is made.
+/// The first 4,096 bytes of what is written to it, which lie in the value itself. Once it is full it takes none, and
+/// counts as failed.
 #[derive(Drop)]
 pub struct Front {
-    bytes: Vec<u8>,
+    bytes: [u8; ROOM],
+    len: usize,
     failed: bool,
 }
 
 impl Model for Front {
-    ghost use Rattle.std.specs.Prelude.{◌≡◌, ◌≤◌, true, vec_len, vec_capacity};
+    ghost use Rattle.std.specs.Prelude.{◌≡◌, ◌≤◌, take, true};
     ghost use Rattle.rh_lines.specs.Flow.{Holding};
     ghost use Rattle.rh_map.specs.declared.front.TheConstants.{ROOM};
 
     ghost Value = { Holding };
 
-    ghost view = { λ s. record { bytes = s.bytes.items; failed = s.failed } };
+    ghost view = { λ s. record { bytes = take s.len s.bytes; failed = s.failed } };
 
-    ghost invariant = { λ s. (vec_len s.bytes ≤ ROOM) × (ROOM ≤ vec_capacity s.bytes) × (s.failed ≡ true → vec_len s.bytes ≡ ROOM) };
+    ghost invariant = { λ s. (s.len ≤ ROOM) × (s.failed ≡ true → s.len ≡ ROOM) };
 }
 
 impl Front {
-    /// Nothing is kept. AllocError where memory is refused.
-    pub fn new(alloc: Global) -> Result<Front, AllocError>
-        ensures { IfOk result (λ front. (front.bytes ≡ []) × (front.failed ≡ false)) }
+    /// Nothing is kept.
+    pub fn new() -> Front
+        ensures bytes { result.bytes ≡ [] }
+        ensures failed { result.failed ≡ false }
     {
-        Ok(Front {
-            bytes: Vec::with_capacity(alloc, ROOM)?,
+        Front {
+            bytes: [0; ROOM],
+            len: 0,
             failed: false,
-        })
+        }
     }
 
     /// The bytes that are kept: all that was written, or where it has failed the first 4,096.
@@ -47,7 +49,7 @@ impl Front {
         ensures few { length self.now.bytes ≤ ROOM }
         ensures full { self.now.failed ≡ true → length self.now.bytes ≡ ROOM }
     {
-        self.bytes.as_slice()
+        &self.bytes[..self.len]
     }
 
     /// Keeps nothing, and has room again.
@@ -55,7 +57,7 @@ impl Front {
         ensures bytes { self.new.bytes ≡ [] }
         ensures failed { self.new.failed ≡ false }
     {
-        self.bytes.clear();
+        self.len = 0;
         self.failed = false;
     }
 }
@@ -66,11 +68,13 @@ impl Sink for Front {
     ghost output = { λ s. record { taken = Some s.bytes; count = None; failed = s.failed } };
 
     fn write(&mut self, bytes: &[u8]) -> Result<usize, WriteFailed> {
-        let count = bytes.len().min(ROOM - self.bytes.len());
+        let count = bytes.len().min(ROOM - self.len);
         if count == 0 && !bytes.is_empty() {
             self.failed = true;
         }
-        self.bytes.extend_from_slice(&bytes[..count]).unwrap();
+        let end = self.len + count;
+        self.bytes[self.len..end].copy_from_slice(&bytes[..count]);
+        self.len = end;
         Ok(count)
     }
 }

@@ -1,0 +1,82 @@
+//! Texts in lent bytes.
+
+ghost use Rattle.std.specs.Prelude.{◌≡◌, ◌≤◌, ◌+◌, ◌-◌, ◌^◌, ◌&&◌, ◌++◌, [], false, drop, length, min, nat_lt, take};
+
+use crate::sink::{Sink, WriteFailed};
+use crate::unseen::Unseen;
+
+/// A text in lent bytes, from their first one on. No write of it fails: what finds no room is counted, and goes nowhere.
+#[derive(Drop)]
+pub struct WholeText<'a> {
+    bytes: &'a mut [u8],
+    /// So many of the bytes are the text's.
+    taken: usize,
+    /// So many bytes were offered.
+    count: usize,
+    // the bytes as they were, and what found no room in them
+    before: Unseen,
+    beyond: Unseen,
+    ghost fits: { taken ≤ length bytes.now },
+    ghost same: { length bytes.now ≡ length before.bytes },
+    // what wasn't written yet is as it was
+    ghost rest: { drop taken bytes.now ≡ drop taken before.bytes },
+    // where some bytes found no room, none is left
+    ghost full: { (nat_lt taken (length bytes.now) && nat_lt 0 (length beyond.bytes)) ≡ false },
+    ghost counted: { count ≡ min (taken + length beyond.bytes) (2 ^ 64 - 1) },
+}
+
+impl<'a> WholeText<'a> {
+    ghost use Rattle.rh_lines.specs.WholeText.{before_of, bytes_of, filled, text_of};
+
+    /// These bytes, in which no text is yet.
+    pub fn new(bytes: &'a mut [u8]) -> WholeText<'a>
+        ensures same_reference { (bytes_of result).ghost_name ≡ bytes.entry.ghost_name }
+        ensures before { before_of result ≡ bytes.entry.now }
+        ensures text { text_of result ≡ [] }
+    {
+        let mut before = Unseen::new();
+        before.note(bytes);
+        WholeText {
+            bytes,
+            taken: 0,
+            count: 0,
+            before,
+            beyond: Unseen::new(),
+        }
+    }
+
+    /// How many bytes the text has, or 2^64 - 1 where it has more. Those that have room lie in the lent bytes, and what
+    /// stands behind them there is as it was.
+    pub fn length(&self) -> usize
+        ensures value { result ≡ min (length (text_of self.now)) (2 ^ 64 - 1) }
+        ensures bytes { (bytes_of self.now).now ≡ filled (text_of self.now) (before_of self.now) }
+    {
+        self.count
+    }
+}
+
+impl Sink for WholeText<'_> {
+    ghost use Rattle.rh_lines.specs.WholeText.{output_of};
+
+    ghost output = { output_of };
+
+    fn write(&mut self, bytes: &[u8]) -> Result<usize, WriteFailed> {
+        let at = self.taken;
+        let part = bytes.len().min(self.bytes.len() - at);
+        self.beyond.note(&bytes[part..]);
+        self.count = self.count.saturating_add(bytes.len());
+        self.taken = at + part;
+        let lent = &mut *self.bytes;
+        put_at(lent, at, &bytes[..part]);
+        Ok(bytes.len())
+    }
+}
+
+/// Puts bytes in place of as many others, from a place on.
+fn put_at(to: &mut [u8], at: usize, bytes: &[u8])
+    requires { at + length bytes.now ≤ length to.old }
+    ensures front { take (at + length bytes.now) to.new ≡ take at to.old ++ bytes.now }
+    ensures rest { drop (at + length bytes.now) to.new ≡ drop (at + length bytes.now) to.old }
+{
+    to[at..at + bytes.len()].copy_from_slice(bytes);
+}
