@@ -354,14 +354,13 @@ stands_first {D} {desk} {marked} {drawn} {s} d alike first =
 
 -- the fault of the lines, by that of the run
 feeding_of : RunFault → FeedFault
-feeding_of run.NoMemory = feed.NoMemory
+feeding_of run.NoMemory = feed.TooLong
 feeding_of run.ReadFailed = feed.ReadFailed
 feeding_of run.WriteFailed = feed.WriteFailed
 feeding_of run.TooLong = feed.TooLong
 
 there_and_back : (f : FeedFault) → feeding_of (fault_of f) ≡ f
 unfolding feeding_of
-there_and_back feed.NoMemory = refl
 there_and_back feed.ReadFailed = refl
 there_and_back feed.WriteFailed = refl
 there_and_back feed.TooLong = refl

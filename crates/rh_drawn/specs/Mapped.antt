@@ -48,7 +48,6 @@ pub record MappedUntil (marked : Bool) (p : Place) (before after : Input) (old n
 
 -- the fault of a run whose lines ended early
 abbrev pub fault_of : FeedFault → RunFault
-fault_of feed.NoMemory = run.NoMemory
 fault_of feed.ReadFailed = run.ReadFailed
 fault_of feed.WriteFailed = run.WriteFailed
 fault_of feed.TooLong = run.TooLong

@@ -36,7 +36,7 @@ pub use heap_cards::{Band, Survey, chain_place, is_changed, message_at, take_sur
 pub use letters::{Waits, has_letterboxes, has_letters, held_entry, waits_of};
 pub use lists::Lists;
 pub use post_changes::goes_back;
-pub use running::{map_script, run_fault};
+pub use running::{map_script, map_whole, run_fault};
 pub use slots::count_tasks;
 pub use steps::Above;
 pub use transfers::{has_out, has_transfers, in_item, in_side, out_item};

@@ -1,6 +1,6 @@
 //! A map in the middle of its script.
 
-ghost use Rattle.std.specs.Prelude.{◌≡◌, ◌<◌, ◌≤◌, ◌+◌, ◌^◌, ◌||◌, ◌&&◌, not, ℕ, List, length, None, Some, Ok, Err, IfOk, IsTrue, OnErr, OnOk, false};
+ghost use Rattle.std.specs.Prelude.{◌≡◌, ◌<◌, ◌≤◌, ◌+◌, ◌^◌, ◌||◌, ◌&&◌, not, ℕ, List, length, None, Some, Ok, Err, IsTrue, OnErr, OnOk, false};
 ghost use Rattle.std.specs.Option.{option_map};
 ghost use Rattle.rh_defs.specs.Order.{IsReordered};
 ghost use Rattle.rh_defs.specs.Range.{in_range};
@@ -25,7 +25,6 @@ use rh_lines::{Sink, WriteFailed, read_line};
 use rh_map::{Front, print_remark};
 use rh_session::Status;
 use rh_sight::{Kept, Messages, PageList, is_still};
-use std::alloc::{AllocError, Global};
 
 /// A map in the middle of its script: what is drawn, whether marked steps alone are shown, how many steps are behind
 /// it, whether a mark was seen since the last, whether a line was bad; and what a step is drawn with.
@@ -43,12 +42,11 @@ pub struct Mapper<D> {
 }
 
 impl<D: Drawn> Mapper<D> {
-    /// A map that has taken no line. AllocError where memory is refused.
-    pub fn new(alloc: Global, drawn: D, marked: bool) -> Result<Self, AllocError>
-        ensures { IfOk result (λ mapper. IsFirst mapper drawn marked) }
+    /// A map that has taken no line.
+    pub fn new(drawn: D, marked: bool) -> Mapper<D>
+        ensures { IsFirst result drawn marked }
     {
-        let front = Front::new(alloc)?;
-        Ok(Mapper {
+        Mapper {
             drawn,
             marked,
             steps: 0,
@@ -57,8 +55,8 @@ impl<D: Drawn> Mapper<D> {
             messages: ArrayVec::new(),
             pages: ArrayVec::new(),
             lists: Lists::new(),
-            front,
-        })
+            front: Front::new(),
+        }
     }
 
     /// Shows a line that asks for nothing, and notes whether it marks the next command.

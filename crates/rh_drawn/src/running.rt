@@ -1,22 +1,22 @@
 //! The map of a whole script.
 
-ghost use Rattle.std.specs.Prelude.{◌≡◌, ◌≤◌, false, true, IfOk, IsErrOf};
+ghost use Rattle.std.specs.Prelude.{◌≡◌, ◌≤◌, [], false, length, true, IfErr, IfOk, IsErrOf};
 ghost use Rattle.rh_defs.specs.declared.sizes.TheConstants.{MOST_READS};
 ghost use Rattle.rh_defs.specs.Desk.{Desk};
 ghost use Rattle.rh_drawn.specs.Mapped.{Mapped, MappedSoFar, MappedUntil, fault_of};
+ghost use Rattle.rh_feed.specs.declared.feeding.TheConstants.{LONGEST_SCRIPT};
 ghost use Rattle.rh_figure.specs.Map.{place};
+ghost use Rattle.rh_lines.specs.Flow.{unread};
 
 use crate::drawn::Drawn;
 use crate::mapper::Mapper;
-use rh_feed::{FeedFault, feed_all};
-use rh_lines::{Sink, Source};
+use rh_feed::{FeedFault, feed_all, feed_whole};
+use rh_lines::{Sink, Source, WriteFailed};
 use rh_session::{RunFault, Status};
-use std::alloc::Global;
 
 /// Runs a script over what can be drawn, and writes its map: each step, or marked steps alone, each before it reads
-/// on. It takes memory before its first read only, and gives up after 1,000,000 reads that gave bytes.
+/// on. It gives up after 1,000,000 reads that gave bytes.
 pub fn map_script<D: Drawn, R: Source, W: Sink>(
-    alloc: Global,
     drawn: D,
     marked: bool,
     reader: &mut R,
@@ -27,8 +27,8 @@ pub fn map_script<D: Drawn, R: Source, W: Sink>(
     // The whole script was read, and its map was written.
     ensures ok { IfOk result (λ status. (d : Desk) → D.spells drawn d → Mapped marked (place d 0 false) (R.input reader.old) (R.input reader.new) (W.output writer.old) (W.output writer.new) status) }
 
-    // Nothing was read or written.
-    ensures no_memory { IsErrOf result RunFault.NoMemory → (R.input reader.new ≡ R.input reader.old) × (W.output writer.new ≡ W.output writer.old) }
+    // It takes no memory.
+    ensures had_memory { IsErrOf result RunFault.NoMemory → ⊥ }
 
     // The map of the complete lines that were read has been written.
     ensures read_failed { IsErrOf result RunFault.ReadFailed → (R.input reader.new).failed ≡ true }
@@ -42,13 +42,32 @@ pub fn map_script<D: Drawn, R: Source, W: Sink>(
     // However it ends, at most so many reads gave bytes.
     ensures reads { (R.input reader.new).reads ≤ MOST_READS }
 {
-    let Ok(mut mapper) = Mapper::new(alloc, drawn, marked) else {
-        return Err(RunFault::NoMemory);
-    };
-    match feed_all(alloc, &mut mapper, reader, writer) {
+    let mut mapper = Mapper::new(drawn, marked);
+    match feed_all(&mut mapper, reader, writer) {
         Ok(()) => Ok(mapper.status()),
         Err(fault) => Err(run_fault(fault)),
     }
+}
+
+/// Runs a script that lies in memory over what can be drawn, and writes its map: each step, or marked steps alone. Fails
+/// only where the writer failed or took none of what it was offered.
+pub fn map_whole<D: Drawn, W: Sink>(
+    drawn: D,
+    marked: bool,
+    script: &[u8],
+    writer: &mut W,
+) -> Result<Status, WriteFailed>
+    requires short { length script.now ≤ LONGEST_SCRIPT }
+
+    // The script's map was written.
+    ensures ok { IfOk result (λ status. (d : Desk) → D.spells drawn d → Mapped marked (place d 0 false) (unread script.now) (unread []) (W.output writer.old) (W.output writer.new) status) }
+
+    // The writer failed, and took a front of the map of some lines.
+    ensures write_failed { IfErr result (λ fault. (d : Desk) → D.spells drawn d → MappedUntil marked (place d 0 false) (unread script.now) (unread []) (W.output writer.old) (W.output writer.new)) }
+{
+    let mut mapper = Mapper::new(drawn, marked);
+    feed_whole(&mut mapper, script, writer)?;
+    Ok(mapper.status())
 }
 
 /// The fault of a run whose lines ended early.
@@ -56,7 +75,6 @@ pub fn run_fault(fault: FeedFault) -> RunFault
     ensures { result ≡ fault_of fault }
 {
     match fault {
-        FeedFault::NoMemory => RunFault::NoMemory,
         FeedFault::ReadFailed => RunFault::ReadFailed,
         FeedFault::WriteFailed => RunFault::WriteFailed,
         FeedFault::TooLong => RunFault::TooLong,

@@ -1,6 +1,6 @@
 -- Lines that are taken, one after the other.
 use Rattle.std.proofs.Common.{◌≡◌, ℕ, ◌+◌, ◌<◌, ◌≢◌, List, [], ◌∷◌, ◌++◌, length, take, eqb, Bool, true, false, ◌||◌, map, Option, Some, None, Result, Ok, Err, inl, inr, append_assoc, append-nil, refl, sym, ◌∙◌, ap, subst, arith}
-use Rattle.std.specs.Prelude.{OnErr, slice_index}
+use Rattle.std.specs.Prelude.{OnErr, OnOk, slice_index}
 use Rattle.std.proofs.lemmas.Bool.Decides.{nat_tests}
 use Rattle.std.proofs.lemmas.List.{length-drop}
 use Rattle.std.specs.Io.KnownBytes.{Consumes, Keeps, IsAtEnd}
@@ -14,6 +14,15 @@ use Rattle.rh_feed.proofs.LineLemmas.{NoFeed, NoneBelow, behind, behind_is, cut_
 pub on_err : {E : Type 0} {P : Type 0} (r : Result Unit E) → P → OnErr r P
 on_err (Ok x) p = tt
 on_err (Err e) p = p
+
+-- what follows where a result is no error, or is one
+pub ok_so : {E P Q : Type 0} (r : Result Unit E) → (P → Q) → OnOk r P → OnOk r Q
+ok_so (Ok x) f h = f h
+ok_so (Err e) f h = tt
+
+pub err_so : {E P Q : Type 0} (r : Result Unit E) → (P → Q) → OnErr r P → OnErr r Q
+err_so (Ok x) f h = tt
+err_so (Err e) f h = f h
 
 -- ---- lists of lines
 

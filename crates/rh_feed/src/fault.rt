@@ -5,9 +5,6 @@ use thiserror::Error;
 /// Why the lines of a script ended early.
 #[derive(Clone, Copy, Debug, PartialEq, Eq, Error)]
 pub enum FeedFault {
-    /// Memory was refused at the start: nothing was read, and no line was taken.
-    #[error("no memory")]
-    NoMemory,
     /// The reader failed. The complete lines before have been taken.
     #[error("read failed")]
     ReadFailed,

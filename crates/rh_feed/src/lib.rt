@@ -7,6 +7,6 @@ mod line;
 mod taker;
 
 pub use fault::FeedFault;
-pub use feeding::{PIECE, feed_all, read_all};
+pub use feeding::{LONGEST_SCRIPT, PIECE, feed_all, feed_whole};
 pub use line::LineBuffer;
 pub use taker::LineTaker;

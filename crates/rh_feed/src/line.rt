@@ -1,40 +1,42 @@
 //! The line that is being read.
 
-ghost use Rattle.std.specs.Prelude.{◌≡◌, ◌+◌, ◌≤◌, [], ◌++◌, length, IfOk};
+ghost use Rattle.std.specs.Prelude.{◌≡◌, ◌+◌, ◌≤◌, [], ◌++◌, length};
 ghost use Rattle.rh_feed.specs.Lines.{kept};
 ghost use Rattle.rh_defs.specs.declared.sizes.TheConstants.{LONGEST_LINE};
 
 use rh_defs::sizes::LONGEST_LINE;
-use std::alloc::{AllocError, Global};
 use std::marker::Model;
 
 /// One byte more than a line may have shows that it has too many.
 const ROOM: usize = LONGEST_LINE + 1;
 
-/// The line so far, up to one byte more than a line may have. It takes no memory once it is made.
+/// The line so far, up to one byte more than a line may have, which lies in the value itself.
 #[derive(Drop)]
 pub struct LineBuffer {
-    bytes: Vec<u8>,
+    bytes: [u8; ROOM],
+    len: usize,
 }
 
 impl Model for LineBuffer {
-    ghost use Rattle.std.specs.Prelude.{List, ℕ, ◌+◌, ◌≤◌, vec_len, vec_capacity};
+    ghost use Rattle.std.specs.Prelude.{List, ℕ, ◌+◌, ◌≤◌, take};
     ghost use Rattle.rh_defs.specs.declared.sizes.TheConstants.{LONGEST_LINE};
 
     ghost Value = { List ℕ };
 
-    ghost view = { λ s. s.bytes.items };
+    ghost view = { λ s. take s.len s.bytes };
 
-    ghost invariant = { λ s. (vec_len s.bytes ≤ LONGEST_LINE + 1) × (LONGEST_LINE + 1 ≤ vec_capacity s.bytes) };
+    ghost invariant = { λ s. s.len ≤ LONGEST_LINE + 1 };
 }
 
 impl LineBuffer {
-    /// An empty line, with room for 1,025 bytes. AllocError where memory is refused.
-    pub fn new(alloc: Global) -> Result<Self, AllocError>
-        ensures { IfOk result (λ line. line ≡ []) }
+    /// An empty line, with room for 1,025 bytes.
+    pub fn new() -> LineBuffer
+        ensures { result ≡ [] }
     {
-        let bytes = Vec::with_capacity(alloc, ROOM)?;
-        Ok(LineBuffer { bytes })
+        LineBuffer {
+            bytes: [0; ROOM],
+            len: 0,
+        }
     }
 
     /// The bytes that are kept.
@@ -42,7 +44,7 @@ impl LineBuffer {
         ensures value { result.now ≡ self.now }
         ensures short { length self.now ≤ LONGEST_LINE + 1 }
     {
-        self.bytes.as_slice()
+        &self.bytes[..self.len]
     }
 
     /// More bytes of the line. Those past the 1,025th are not kept: the line is too long anyway.
@@ -50,9 +52,18 @@ impl LineBuffer {
         ensures value { self.new ≡ kept (self.old ++ bytes.now) }
         ensures short { length self.old ≤ LONGEST_LINE + 1 }
     {
-        let room = ROOM - self.bytes.len();
-        let part = &bytes[..room.min(bytes.len())];
-        self.bytes.extend_from_slice(part).unwrap();
+        let room = ROOM - self.len;
+        self.push(&bytes[..room.min(bytes.len())]);
+    }
+
+    /// More bytes, for which there is room.
+    fn push(&mut self, bytes: &[u8])
+        requires { length self.old + length bytes.now ≤ LONGEST_LINE + 1 }
+        ensures { self.new ≡ self.old ++ bytes.now }
+    {
+        let end = self.len + bytes.len();
+        self.bytes[self.len..end].copy_from_slice(bytes);
+        self.len = end;
     }
 
     /// The line that ends with these bytes, as far as its meaning goes: gathered, unless it lies whole in them.
@@ -70,6 +81,6 @@ impl LineBuffer {
     pub fn clear(&mut self)
         ensures { self.new ≡ [] }
     {
-        self.bytes.clear();
+        self.len = 0;
     }
 }

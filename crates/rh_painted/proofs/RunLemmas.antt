@@ -12,11 +12,10 @@ use Rattle.rh_drawn.specs.Deeds.{rest_means}
 use Rattle.rh_drawn.proofs.RunLemmas.{kept_some}
 use Rattle.rh_feed.specs.Lines.{kept, kept_lines, kept_rest}
 use Rattle.rh_feed.specs.Taken.{BrokeAmong, BrokeAtRest, Fed, FedAll, FedUntil, TookAll}
-use Rattle.rh_feed.proofs.FeedLemmas.{Consumes-none}
 use Rattle.rh_feed.proofs.LineLemmas.{kept_nil}
 use Rattle.rh_figure.specs.Share.{IsShared}
 use Rattle.rh_figure.specs.Phrases.{Text}
-use Rattle.rh_figure.specs.Map.{Place, Read, Stage, after_read, read_line, read_rest}
+use Rattle.rh_figure.specs.Map.{Place, Read, Stage, after_read, read_ended, read_line, read_rest}
 use Rattle.rh_figure.specs.Whole.{AreShared, read_of}
 use Rattle.rh_lines.specs.Flow.{Input, Output, Takes, Breaks, Puts}
 use Rattle.rh_lines.proofs.FlowLemmas.{takes_breaks, takes_more}
@@ -246,13 +245,13 @@ module _ {D : Type 0} {desk : D → Desk} {marked : Bool} {d : Desk} {s : Painte
       go (inr (at_end, broke)) = until-rest fed.bytes fed.read at_end broke
 
 -- it failed before the first line
-pub painted-head : (marked : Bool) (name : Text) (d : Desk) (at : Input) {old new : Output} → Breaks old new (sheet_head name d.pool)
-    → PaintedUntil marked name d at at old new
-painted-head marked name d at broken = record {
-  bytes = [];
-  read = Consumes-none at.left;
+pub painted-head : (marked : Bool) (name : Text) (d : Desk) (before after : Input) (bytes : List ℕ) → Consumes before.left after.left bytes
+    → {old new : Output} → Breaks old new (sheet_head name d.pool) → PaintedUntil marked name d before after old new
+painted-head marked name d before after bytes read broken = record {
+  bytes = bytes;
+  read = read;
   text = sheet_head name d.pool;
-  begun = inl ([], [], refl, record { stages = []; lines = refl; shared = tt; is = sym (append-nil (sheet_head name d.pool)) });
+  begun = inl ([], read_ended bytes, refl, record { stages = []; lines = refl; shared = tt; is = sym (append-nil (sheet_head name d.pool)) });
   broken = broken;
 }
 

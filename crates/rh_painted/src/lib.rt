@@ -28,4 +28,4 @@ mod steps;
 mod transfers;
 mod ways;
 
-pub use running::paint_script;
+pub use running::{paint_script, paint_whole};

@@ -1,6 +1,6 @@
 //! A sheet in the middle of its script.
 
-ghost use Rattle.std.specs.Prelude.{◌≡◌, ◌<◌, ◌+◌, ◌^◌, ◌==◌, ◌&&◌, ◌||◌, ◌++◌, not, nat_lt, ℕ, List, None, Some, Ok, Err, IfOk, IsTrue, OnErr, OnOk, false, length, true};
+ghost use Rattle.std.specs.Prelude.{◌≡◌, ◌<◌, ◌+◌, ◌^◌, ◌==◌, ◌&&◌, ◌||◌, ◌++◌, not, nat_lt, ℕ, List, None, Some, Ok, Err, IsTrue, OnErr, OnOk, false, length, true};
 ghost use Rattle.std.specs.Bool.{OnTrue};
 ghost use Rattle.std.specs.Option.{option_map};
 ghost use Rattle.rh_defs.specs.Line.{words_of};
@@ -35,7 +35,6 @@ use rh_lines::{Sink, WriteFailed, read_line};
 use rh_map::{Front, has_words};
 use rh_session::Status;
 use rh_sight::{Kept, Messages, PageList, Sender, is_still};
-use std::alloc::{AllocError, Global};
 
 /// A sheet in the middle of its script: what is drawn, whether marked steps alone are shown, whether a line was bad, how
 /// far it has come, and what is kept of the last messages; and what a step is drawn with.
@@ -53,12 +52,11 @@ pub struct Painter<D> {
 }
 
 impl<D: Drawn> Painter<D> {
-    /// A sheet that has taken no line. AllocError where memory is refused.
-    pub fn new(alloc: Global, drawn: D, marked: bool) -> Result<Self, AllocError>
-        ensures { IfOk result (λ painter. IsFirst painter drawn marked) }
+    /// A sheet that has taken no line.
+    pub fn new(drawn: D, marked: bool) -> Painter<D>
+        ensures { IsFirst result drawn marked }
     {
-        let front = Front::new(alloc)?;
-        Ok(Painter {
+        Painter {
             drawn,
             marked,
             has_bad_line: false,
@@ -67,8 +65,8 @@ impl<D: Drawn> Painter<D> {
             messages: ArrayVec::new(),
             pages: ArrayVec::new(),
             lists: Lists::new(),
-            front,
-        })
+            front: Front::new(),
+        }
     }
 
     /// Writes the beginning of the sheet, with the name of its script.

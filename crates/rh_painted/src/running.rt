@@ -1,22 +1,21 @@
 //! The sheet of a whole script.
 
-ghost use Rattle.std.specs.Prelude.{◌≡◌, ◌≤◌, true, IfOk, IsErrOf};
+ghost use Rattle.std.specs.Prelude.{◌≡◌, ◌≤◌, [], length, true, IfErr, IfOk, IsErrOf};
 ghost use Rattle.rh_defs.specs.declared.sizes.TheConstants.{MOST_READS};
 ghost use Rattle.rh_defs.specs.Desk.{Desk};
+ghost use Rattle.rh_feed.specs.declared.feeding.TheConstants.{LONGEST_SCRIPT};
+ghost use Rattle.rh_lines.specs.Flow.{unread};
 ghost use Rattle.rh_painted.specs.Painted.{Painted, PaintedSoFar, PaintedUntil};
 
 use crate::painter::Painter;
 use rh_drawn::{Drawn, run_fault};
-use rh_feed::{LineBuffer, PIECE, read_all};
-use rh_lines::{Sink, Source};
+use rh_feed::{feed_all, feed_whole};
+use rh_lines::{Sink, Source, WriteFailed};
 use rh_session::{RunFault, Status};
-use std::alloc::Global;
 
 /// Runs a script with a name over what can be drawn, and writes its sheet: its beginning, and each step, or marked steps
-/// alone, each before it reads on. It takes memory before it writes or reads only, and gives up after 1,000,000 reads
-/// that gave bytes.
+/// alone, each before it reads on. It gives up after 1,000,000 reads that gave bytes.
 pub fn paint_script<D: Drawn, R: Source, W: Sink>(
-    alloc: Global,
     drawn: D,
     marked: bool,
     name: &[u8],
@@ -30,9 +29,8 @@ pub fn paint_script<D: Drawn, R: Source, W: Sink>(
         Painted marked name.now d (R.input reader.old) (R.input reader.new) (W.output writer.old)
         (W.output writer.new) status) }
 
-    // Nothing was read or written.
-    ensures no_memory { IsErrOf result RunFault.NoMemory →
-        (R.input reader.new ≡ R.input reader.old) × (W.output writer.new ≡ W.output writer.old) }
+    // It takes no memory.
+    ensures had_memory { IsErrOf result RunFault.NoMemory → ⊥ }
 
     // The sheet of the complete lines that were read has been written, without its end.
     ensures read_failed { IsErrOf result RunFault.ReadFailed → (R.input reader.new).failed ≡ true }
@@ -53,20 +51,37 @@ pub fn paint_script<D: Drawn, R: Source, W: Sink>(
     // However it ends, at most so many reads gave bytes.
     ensures reads { (R.input reader.new).reads ≤ MOST_READS }
 {
-    let Ok(mut painter) = Painter::new(alloc, drawn, marked) else {
-        return Err(RunFault::NoMemory);
-    };
-    let Ok(mut line) = LineBuffer::new(alloc) else {
-        return Err(RunFault::NoMemory);
-    };
-    let Ok(mut piece) = vec![in alloc; 0; PIECE] else {
-        return Err(RunFault::NoMemory);
-    };
+    let mut painter = Painter::new(drawn, marked);
     if painter.begin(name, writer).is_err() {
         return Err(RunFault::WriteFailed);
     }
-    match read_all(&mut painter, &mut line, &mut piece, reader, writer) {
+    match feed_all(&mut painter, reader, writer) {
         Ok(()) => Ok(painter.status()),
         Err(fault) => Err(run_fault(fault)),
     }
+}
+
+/// Runs a script with a name that lies in memory over what can be drawn, and writes its sheet: its beginning, and each
+/// step, or marked steps alone. Fails only where the writer failed or took none of what it was offered.
+pub fn paint_whole<D: Drawn, W: Sink>(
+    drawn: D,
+    marked: bool,
+    name: &[u8],
+    script: &[u8],
+    writer: &mut W,
+) -> Result<Status, WriteFailed>
+    requires short { length script.now ≤ LONGEST_SCRIPT }
+
+    // The script's sheet was written.
+    ensures ok { IfOk result (λ status. (d : Desk) → D.spells drawn d →
+        Painted marked name.now d (unread script.now) (unread []) (W.output writer.old) (W.output writer.new) status) }
+
+    // The writer failed, and took a front of the sheet of some lines.
+    ensures write_failed { IfErr result (λ fault. (d : Desk) → D.spells drawn d →
+        PaintedUntil marked name.now d (unread script.now) (unread []) (W.output writer.old) (W.output writer.new)) }
+{
+    let mut painter = Painter::new(drawn, marked);
+    painter.begin(name, writer)?;
+    feed_whole(&mut painter, script, writer)?;
+    Ok(painter.status())
 }

@@ -1,6 +1,6 @@
 -- A run, read by read.
 use Rattle.std.specs.Prelude.{◌+◌}
-use Rattle.std.proofs.Common.{◌≡◌, ℕ, ◌≤◌, ◌<◌, false, Bool, ◌||◌, not, ◌==◌, List, [], ◌∷◌, ◌++◌, length, take, Option, Some, None, IfSome, append_assoc, append-nil, ◌⊎◌, inl, inr, refl, sym, ◌∙◌, ap, subst, arith, rules}
+use Rattle.std.proofs.Common.{◌≡◌, ℕ, ◌≤◌, ◌<◌, false, Bool, ◌||◌, not, ◌==◌, List, [], ◌∷◌, ◌++◌, length, take, Option, Some, None, IfErr, IfSome, Result, Ok, Err, append_assoc, append-nil, ◌⊎◌, inl, inr, refl, sym, ◌∙◌, ap, subst, arith, rules}
 use Rattle.std.specs.Io.KnownBytes.{Consumes, Keeps, IsAtEnd}
 use Rattle.rh_defs.specs.Line.{longest_line}
 use Rattle.rh_defs.specs.Desk.{Desk}
@@ -22,6 +22,11 @@ use Rattle.rh_session.specs.declared.status.Status.{Status}
 use Rattle.rh_session.specs.Outcome.{Answered, Finished, BrokeOff, status_of}
 use Rattle.rh_feed.proofs.LineLemmas.{is_above, split_at, still_long}
 use Rattle.rh_session.proofs.SessionLemmas.{reached, state_of-append, text_of-append}
+
+-- what holds anyway holds where a result is an error
+pub if_err : {A E : Type 0} {P : E → Type 0} (r : Result A E) → ((e : E) → P e) → IfErr r P
+if_err (Ok x) h = tt
+if_err (Err e) h = h e
 
 -- what was read so far has been run
 pub record Going {D : Type 0} (spells : D → Desk → Type 0) (d : Desk) (before now : Input) (old new : Output) (session : Session D) : Type 0 where

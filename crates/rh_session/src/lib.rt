@@ -8,5 +8,5 @@ mod session;
 mod status;
 
 pub use desktop::Desktop;
-pub use running::run_script;
+pub use running::{run_script, run_whole};
 pub use status::{RunFault, Status};

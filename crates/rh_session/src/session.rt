@@ -1,6 +1,6 @@
 //! A script in the middle of its run.
 
-ghost use Rattle.std.specs.Prelude.{◌≡◌, ◌++◌, [], not, ◌==◌, ◌||◌, length, Ok, Some, IfOk, IsTrue, OnOk};
+ghost use Rattle.std.specs.Prelude.{◌≡◌, ◌++◌, [], not, ◌==◌, ◌||◌, length, Ok, Some, IsTrue, OnOk};
 ghost use Rattle.rh_defs.specs.Desk.{Desk};
 ghost use Rattle.rh_defs.specs.Range.{in_range};
 ghost use Rattle.rh_defs.specs.Script.{line_text, meaning_text, rest_text};
@@ -19,7 +19,6 @@ use rh_defs::sizes::LONGEST_LINE;
 use rh_defs::{Command, LineFault, Question};
 use rh_feed::LineBuffer;
 use rh_lines::{Held, Sink, WriteFailed, print_fault, read_line};
-use std::alloc::{AllocError, Global};
 
 /// A script in the middle of its run: the desktop, the line so far, and whether a line was bad.
 #[derive(Drop)]
@@ -32,16 +31,15 @@ pub struct Session<D> {
 impl<D: Desktop> Session<D> {
     ghost use Rattle.rh_session.specs.Kept.{IsState};
 
-    /// A session over this desktop, which has read nothing. AllocError where memory is refused.
-    pub fn new(alloc: Global, desktop: D) -> Result<Self, AllocError>
-        ensures { IfOk result (λ session. (d : Desk) → D.spells desktop d → IsState D.spells session (begin d)) }
+    /// A session over this desktop, which has read nothing.
+    pub fn new(desktop: D) -> Session<D>
+        ensures { (d : Desk) → D.spells desktop d → IsState D.spells result (begin d) }
     {
-        let line = LineBuffer::new(alloc)?;
-        Ok(Session {
+        Session {
             desktop,
-            line,
+            line: LineBuffer::new(),
             has_bad_line: false,
-        })
+        }
     }
 
     /// Takes the next bytes of the script, and writes the answer of each line that they end.

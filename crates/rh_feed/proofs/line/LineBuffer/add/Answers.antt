@@ -12,7 +12,5 @@ fits_kept line bytes new room n all part grown =
 
 pub returns-clause-value : goal.returns-clause-value
 returns-clause-value c =
-    let k = c.extend_from_slice in
-    let fits = k.ensures.succeeds (omega (arith, length-take {A = ℕ})) in
-    let grown = rw fits at k.ensures.items in
-    rw (← c.self.view_is) (fits_kept c.self.inside.bytes.items c.args.bytes.now k.new.self.items (1025 - c.len-room.result) c.min.result (omega arith) c.min.ensures grown)
+    let all = ap length c.self.view_is in
+    fits_kept c.args.self.now c.args.bytes.now c.push.new.self (1025 - c.self.inside.len) c.min.result (omega (arith, all, length-take {A = ℕ})) c.min.ensures c.push.ensures

@@ -1,7 +1,7 @@
 use Rattle.std.proofs.Common.{◌≡◌, ◌<◌, ◌-◌, ◌*◌, length}
 use Rattle.rh_feed.specs.declared.feeding.TheConstants.{PIECE}
 use Rattle.rh_feed.proofs.FeedLemmas.{Going}
-use Rattle.rh_feed.proofs.feeding.read_all.Given as goal
+use Rattle.rh_feed.proofs.feeding.feed_all.Given as goal
 use Rattle.rh_defs.specs.declared.sizes.TheConstants.{MOST_READS}
 
 -- what was read so far has been handed on, and there is room for all that may still come

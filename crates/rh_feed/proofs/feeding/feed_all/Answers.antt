@@ -1,14 +1,14 @@
 use Rattle.std.proofs.Common.{arith, refl, ◌∙◌}
 use Rattle.rh_feed.proofs.FeedLemmas.{counted, fed, fed_all, fed_here, fed_until, fed_until_rest, going_on, going_starts, none_given, or_false}
-use Rattle.rh_feed.proofs.feeding.read_all.Goals as goal
+use Rattle.rh_feed.proofs.feeding.feed_all.Goals as goal
 
 pub loop-turn-init : goal.loop-turn-init
 loop-turn-init g c = record {
-  piece = c.requires.piece;
+  piece = refl;
   reads = c.requires.fresh;
   well = refl;
   room = c.requires.room;
-  going = going_starts (g.R.Source.input c.args.reader.now) (g.W.Sink.output c.args.writer.now) c.requires.begun;
+  going = going_starts (g.R.Source.input c.args.reader.now) (g.W.Sink.output c.args.writer.now) c.new-line.ensures;
 }
 
 pub returns-in-Err-clause-read_taken : goal.returns-in-Err-clause-read_taken
