@@ -20,6 +20,7 @@ use rh_mapped::Mapped;
 use rh_pages::PagedStore;
 use rh_tasks::World;
 use std::alloc::{AllocError, Global};
+use std::mem;
 
 /// A world over scattered pages, with a map beside each heap.
 pub type PagedWorld = World<Mapped<PagedStore>>;
@@ -52,9 +53,9 @@ impl Console {
     {
         let store = PagedStore::new(alloc, pages as usize)?;
         let store = Mapped::new(alloc, store)?;
-        let world = World::with_files_of(alloc, store, files, handle, r)?;
+        let files = mem::replace(files, Files::new(alloc));
         Ok(Console {
-            world,
+            world: World::with_next(store, files, handle, r),
             said: Said::Nothing,
         })
     }

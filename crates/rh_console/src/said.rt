@@ -8,7 +8,7 @@ use rh_defs::{LineFault, Question, Reply};
 use rh_lines::{Sink, WriteFailed, print_fault, print_first_line};
 use rh_script::print_answer;
 use rh_store::Store;
-use rh_tasks::World;
+use rh_tasks::{NamedFiles, World};
 
 /// What a line was answered. It takes no memory: the text of a long list is looked up when it is wanted.
 #[derive(Drop)]
@@ -26,9 +26,9 @@ pub enum Said {
 impl Said {
     /// Writes the text of it over the desk after the line. Fails only where the writer failed or took none of what it
     /// was offered; a front of the text is then written.
-    pub fn print<S: Store, W: Sink>(
+    pub fn print<S: Store, F: NamedFiles, W: Sink>(
         &self,
-        world: &World<S>,
+        world: &World<S, F>,
         writer: &mut W,
     ) -> Result<(), WriteFailed>
         ensures { (d : Desk) → IsReordered d world.now.desk → Puts (W.output writer.old) (W.output writer.new) result

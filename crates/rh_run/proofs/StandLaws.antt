@@ -10,12 +10,11 @@ use Rattle.rh_defs.specs.Pieces.{page}
 use Rattle.rh_figure.specs.Share.{Holding, IsShared, fixed_holding, holdings}
 use Rattle.rh_sight.specs.Owners.{made_holding, slot_holding}
 use Rattle.rh_sight.specs.Pages.{share_in}
-use Rattle.rh_pages.specs.declared.paged.PagedStore.{PagedStore}
-use Rattle.rh_pages.specs.Paged.{free_of, memory_of, pages_of}
 use Rattle.rh_tasks.specs.Shown.{IsSpelled, Shown, SpellSlots, length_of_area}
+use Rattle.rh_store.specs.Shares.{SharesOut}
 use Rattle.rh_store.specs.declared.store.AreaId.{AreaId}
 use Rattle.rh_tasks.specs.Standing.{HaveEachPage, StandsIn, numbers}
-use Rattle.rh_run.proofs.PageLaws.{area-long, free-long}
+use Rattle.rh_run.proofs.PageLaws.{area-long}
 use Rattle.rh_run.proofs.ShareLaws.{Match, all_of, length-numbers, shared}
 
 -- ---- lengths in bytes
@@ -88,10 +87,10 @@ pub same-areas : (m : Memory) (s : Shown) (xs ys : List AreaId) → xs ≡ ys �
 same-areas m s xs ys e w = subst (λ (areas : List AreaId). StandsIn m (numbers areas) s) (sym e) w
 
 -- ---- the store of a world
-module _ (store : PagedStore) (areas : List AreaId) (s : Shown) (w : StandsIn (memory_of store) (numbers areas) s) (k : IsSpelled s)
-    (is : IsDesk s.desk) where
+module _ (m : Memory) (lists : List (List ℕ)) (free : List ℕ) (shares : SharesOut m lists free) (areas : List AreaId) (s : Shown)
+    (w : StandsIn m (numbers areas) s) (k : IsSpelled s) (is : IsDesk s.desk) where
   abbrev pages : ℕ → List ℕ
-  pages id = get_or (pages_of store) id []
+  pages id = get_or lists id []
 
   abbrev ids : List ℕ
   ids = numbers areas
@@ -100,24 +99,27 @@ module _ (store : PagedStore) (areas : List AreaId) (s : Shown) (w : StandsIn (m
   area i = (get_or areas i (record { 0 = 0 })).0
 
   fits-holdings : Match pages ids (holdings s.desk)
-  fits-holdings = matched (memory_of store) pages ids (holdings s.desk) (area-long store) (w.lengths ∙ all-sizes s k)
+  fits-holdings = matched m pages ids (holdings s.desk) (area-long m lists free shares) (w.lengths ∙ all-sizes s k)
 
-  frees : length (free_of store) ≡ free_pages s.desk
-  frees = free-long store ∙ w.free ∙ k.free
+  frees : length free ≡ free_pages s.desk
+  frees = shares.frees ∙ w.free ∙ k.free
 
-  all-long : length (free_of store ++ all_of pages ids) ≡ s.desk.pool
-  all-long = length-numbers pages (free_of store) ids s.desk is frees fits-holdings
+  all-long : length (free ++ all_of pages ids) ≡ s.desk.pool
+  all-long = length-numbers pages free ids s.desk is frees fits-holdings
 
-  pub free-fits : (memory_of store).free ≤ most_pages
+  pub few-pages : m.pages ≤ most_pages
+  few-pages = let pool = is.pool in omega (arith, w.pool)
+
+  pub free-fits : m.free ≤ most_pages
   free-fits = let used = is.pages in let pool = is.pool in omega (arith, w.free, k.free)
 
   -- an area, and the pages that are listed before its own
-  module _ (items : List ℕ) (i : ℕ) (so_far : items ≡ free_of store ++ all_of pages (take i ids)) where
-    pub area-opened : i < length areas → IsOpen (memory_of store) (area i)
-    area-opened l = subst (IsOpen (memory_of store)) (numbers-at areas i)
-        (all-at (IsOpen (memory_of store)) ids i 0 (omega (arith, length-map areas (λ (a : AreaId). a.0))) w.opened)
+  module _ (items : List ℕ) (i : ℕ) (so_far : items ≡ free ++ all_of pages (take i ids)) where
+    pub area-opened : i < length areas → IsOpen m (area i)
+    area-opened l = subst (IsOpen m) (numbers-at areas i)
+        (all-at (IsOpen m) ids i 0 (omega (arith, length-map areas (λ (a : AreaId). a.0))) w.opened)
 
-    pub area-fits : i < length areas → page * length items + length (bytes (memory_of store) (area i)) ≤ page * most_pages
+    pub area-fits : i < length areas → page * length items + length (bytes m (area i)) ≤ page * most_pages
     area-fits l =
         let pool = is.pool in
         let inside : i < length ids = omega (arith, length-map areas (λ (a : AreaId). a.0)) in
@@ -125,27 +127,27 @@ module _ (store : PagedStore) (areas : List AreaId) (s : Shown) (w : StandsIn (m
         omega (
           arith,
           ap length so_far,
-          length-append (free_of store) (all_of pages (take i ids)),
-          length-append (free_of store) (all_of pages ids),
+          length-append free (all_of pages (take i ids)),
+          length-append free (all_of pages ids),
           all-long,
           area-room pages ids i 0 inside,
-          area-long store (area i),
+          area-long m lists free shares (area i),
         )
 
-    pub area-more : i < length areas → items ++ pages (area i) ≡ free_of store ++ all_of pages (take (i + 1) ids)
+    pub area-more : i < length areas → items ++ pages (area i) ≡ free ++ all_of pages (take (i + 1) ids)
     area-more l =
         let inside : i < length ids = omega (arith, length-map areas (λ (a : AreaId). a.0)) in
         ap (λ l. l ++ pages (area i)) so_far
-        ∙ append_assoc (free_of store) (all_of pages (take i ids)) (pages (area i))
-        ∙ ap (λ l. free_of store ++ l) (ap (λ id. all_of pages (take i ids) ++ pages id) (sym (numbers-at areas i)) ∙ sym (one-area pages ids i 0 inside))
+        ∙ append_assoc free (all_of pages (take i ids)) (pages (area i))
+        ∙ ap (λ l. free ++ l) (ap (λ id. all_of pages (take i ids) ++ pages id) (sym (numbers-at areas i)) ∙ sym (one-area pages ids i 0 inside))
 
-    all-there : length areas ≤ i → items ≡ free_of store ++ all_of pages ids
-    all-there l = so_far ∙ ap (λ l. free_of store ++ all_of pages l) (take_all i ids (omega (arith, length-map areas (λ (a : AreaId). a.0))))
+    all-there : length areas ≤ i → items ≡ free ++ all_of pages ids
+    all-there l = so_far ∙ ap (λ l. free ++ all_of pages l) (take_all i ids (omega (arith, length-map areas (λ (a : AreaId). a.0))))
 
     pub list-long : length areas ≤ i → length items ≡ s.desk.pool
     list-long l = ap length (all-there l) ∙ all-long
 
-    pub list-shared : length areas ≤ i → HaveEachPage (pages_of store) (free_of store) ids (memory_of store).pages → IsShared (share_in items s.desk) s.desk
+    pub list-shared : length areas ≤ i → HaveEachPage lists free ids m.pages → IsShared (share_in items s.desk) s.desk
     list-shared l each =
         subst (λ l. IsShared (share_in l s.desk) s.desk) (sym (all-there l))
-        (shared pages (free_of store) ids s.desk is frees fits-holdings (λ n below. each n (omega (arith, w.pool))))
+        (shared pages free ids s.desk is frees fits-holdings (λ n below. each n (omega (arith, w.pool))))

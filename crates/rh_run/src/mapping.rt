@@ -1,16 +1,56 @@
 //! The map of a whole script over a fresh desk.
 
 ghost use Rattle.std.specs.Prelude.{◌≡◌, ◌≤◌, true, IfOk, IsErrOf};
+ghost use Rattle.rh_defs.specs.Memory.{fresh};
 ghost use Rattle.rh_defs.specs.declared.sizes.TheConstants.{MAX_PAGES, MIN_PAGES, MOST_READS};
 ghost use Rattle.rh_drawn.specs.Mapped.{Mapped, MappedSoFar, MappedUntil};
 ghost use Rattle.rh_figure.specs.Map.{first_place};
 
-use crate::world::PagedWorld;
+use crate::native::page_store;
+use crate::world::ScriptWorld;
 use rh_defs::Files;
 use rh_drawn::map_script;
 use rh_lines::{Sink, Source};
 use rh_session::{RunFault, Status};
+use rh_store::Sited;
+use rh_tasks::NamedFiles;
 use std::alloc::Global;
+
+/// Runs a script over a fresh desk on a store that nobody has used, of 8 to 1,024 pages, and writes its map: each step,
+/// or marked steps alone, each before it reads on. It takes no memory, and gives up after 1,000,000 reads that gave
+/// bytes.
+pub fn map_over<S: Sited + Drop, F: NamedFiles + Drop, R: Source, W: Sink>(
+    store: S,
+    files: F,
+    reader: &mut R,
+    writer: &mut W,
+    marked: bool,
+) -> Result<Status, RunFault>
+    requires fresh { S.memory store ≡ fresh (S.memory store).pages }
+    requires least { MIN_PAGES ≤ (S.memory store).pages }
+    requires most { (S.memory store).pages ≤ MAX_PAGES }
+    requires unread { (R.input reader.old).reads ≡ 0 }
+
+    // The whole script was read, and its map was written.
+    ensures ok { IfOk result (λ status. Mapped marked (first_place (S.memory store).pages (F.contents files)) (R.input reader.old) (R.input reader.new) (W.output writer.old) (W.output writer.new) status) }
+
+    // It takes no memory.
+    ensures had_memory { IsErrOf result RunFault.NoMemory → ⊥ }
+
+    // The map of the complete lines that were read has been written.
+    ensures read_failed { IsErrOf result RunFault.ReadFailed → (R.input reader.new).failed ≡ true }
+    ensures read_mapped { IsErrOf result RunFault.ReadFailed → MappedSoFar marked (first_place (S.memory store).pages (F.contents files)) (R.input reader.old) (R.input reader.new) (W.output writer.old) (W.output writer.new) }
+    ensures too_long { IsErrOf result RunFault.TooLong → ((R.input reader.new).reads ≡ MOST_READS) × ((R.input reader.new).failed ≡ (R.input reader.old).failed) }
+    ensures long_mapped { IsErrOf result RunFault.TooLong → MappedSoFar marked (first_place (S.memory store).pages (F.contents files)) (R.input reader.old) (R.input reader.new) (W.output writer.old) (W.output writer.new) }
+
+    // The writer failed, and took a front of the map of some lines.
+    ensures write_failed { IsErrOf result RunFault.WriteFailed → MappedUntil marked (first_place (S.memory store).pages (F.contents files)) (R.input reader.old) (R.input reader.new) (W.output writer.old) (W.output writer.new) }
+
+    // However it ends, at most so many reads gave bytes.
+    ensures reads { (R.input reader.new).reads ≤ MOST_READS }
+{
+    map_script(ScriptWorld::new(store, files), marked, reader, writer)
+}
 
 /// Runs a script over a fresh desk of 8 to 1,024 pages, and writes its map: each step, or marked steps alone, each
 /// before it reads on. It takes memory before its first read only, and gives up after 1,000,000 reads that gave bytes.
@@ -44,8 +84,8 @@ pub fn draw_map<R: Source, W: Sink>(
     // However it ends, at most so many reads gave bytes.
     ensures reads { (R.input reader.new).reads ≤ MOST_READS }
 {
-    match PagedWorld::new(alloc, files, pages) {
-        Ok(world) => map_script(alloc, world, marked, reader, writer),
+    match page_store(alloc, pages) {
+        Ok(store) => map_over(store, files, reader, writer, marked),
         Err(_) => Err(RunFault::NoMemory),
     }
 }

@@ -1,17 +1,60 @@
 //! A run of a whole script over a fresh desk.
 
 ghost use Rattle.std.specs.Prelude.{◌≡◌, ◌≤◌, true, IfOk, IsErrOf};
+ghost use Rattle.rh_defs.specs.Memory.{fresh};
 ghost use Rattle.rh_defs.specs.Runs.{start};
 ghost use Rattle.rh_defs.specs.Script.{ended_text, script_text};
 ghost use Rattle.rh_run.specs.Safely.{RanSafely};
 ghost use Rattle.rh_session.specs.Outcome.{Answered, Finished, BrokeOff};
 ghost use Rattle.rh_defs.specs.declared.sizes.TheConstants.{MAX_PAGES, MIN_PAGES, MOST_READS};
 
-use crate::world::PagedWorld;
+use crate::native::page_store;
+use crate::world::ScriptWorld;
 use rh_defs::Files;
 use rh_lines::{Sink, Source};
 use rh_session::{RunFault, Status, run_script};
+use rh_store::Store;
+use rh_tasks::NamedFiles;
 use std::alloc::Global;
+
+/// Runs a script over a fresh desk on a store that nobody has used, of 8 to 1,024 pages, and writes the answer of each
+/// line before it reads on. It takes no memory, and gives up after 1,000,000 reads that gave bytes.
+pub fn run_over<S: Store + Drop, F: NamedFiles + Drop, R: Source, W: Sink>(
+    store: S,
+    files: F,
+    reader: &mut R,
+    writer: &mut W,
+) -> Result<Status, RunFault>
+    requires fresh { S.memory store ≡ fresh (S.memory store).pages }
+    requires least { MIN_PAGES ≤ (S.memory store).pages }
+    requires most { (S.memory store).pages ≤ MAX_PAGES }
+    requires unread { (R.input reader.old).reads ≡ 0 }
+
+    // The whole script was read, and its text was written.
+    ensures ok { IfOk result (λ status. Finished (start (S.memory store).pages (F.contents files)) (R.input reader.old) (R.input reader.new) (W.output writer.old) (W.output writer.new) status) }
+
+    // No schedule in the script that was read lost a byte, or gave a wrong one.
+    ensures safe { IfOk result (λ status. RanSafely script_text (start (S.memory store).pages (F.contents files)) (R.input reader.old) (R.input reader.new) (W.output writer.old) (W.output writer.new)) }
+
+    // It takes no memory.
+    ensures had_memory { IsErrOf result RunFault.NoMemory → ⊥ }
+
+    // The complete lines that were read have been answered, and are as safe.
+    ensures read_failed { IsErrOf result RunFault.ReadFailed → (R.input reader.new).failed ≡ true }
+    ensures read_answered { IsErrOf result RunFault.ReadFailed → Answered (start (S.memory store).pages (F.contents files)) (R.input reader.old) (R.input reader.new) (W.output writer.old) (W.output writer.new) }
+    ensures read_safe { IsErrOf result RunFault.ReadFailed → RanSafely ended_text (start (S.memory store).pages (F.contents files)) (R.input reader.old) (R.input reader.new) (W.output writer.old) (W.output writer.new) }
+    ensures too_long { IsErrOf result RunFault.TooLong → ((R.input reader.new).reads ≡ MOST_READS) × ((R.input reader.new).failed ≡ (R.input reader.old).failed) }
+    ensures long_answered { IsErrOf result RunFault.TooLong → Answered (start (S.memory store).pages (F.contents files)) (R.input reader.old) (R.input reader.new) (W.output writer.old) (W.output writer.new) }
+    ensures long_safe { IsErrOf result RunFault.TooLong → RanSafely ended_text (start (S.memory store).pages (F.contents files)) (R.input reader.old) (R.input reader.new) (W.output writer.old) (W.output writer.new) }
+
+    // The writer failed, and took a front of the script's text.
+    ensures write_failed { IsErrOf result RunFault.WriteFailed → BrokeOff (start (S.memory store).pages (F.contents files)) (R.input reader.old) (W.output writer.old) (W.output writer.new) }
+
+    // However it ends, at most so many reads gave bytes.
+    ensures reads { (R.input reader.new).reads ≤ MOST_READS }
+{
+    run_script(ScriptWorld::new(store, files), reader, writer)
+}
 
 /// Runs a script over a fresh desk of 8 to 1,024 pages, and writes the answer of each line before it reads on.
 /// It takes memory before its first read only, and gives up after 1,000,000 reads that gave bytes.
@@ -49,8 +92,8 @@ pub fn run<R: Source, W: Sink>(
     // However it ends, at most so many reads gave bytes.
     ensures reads { (R.input reader.new).reads ≤ MOST_READS }
 {
-    match PagedWorld::new(alloc, files, pages) {
-        Ok(world) => run_script(alloc, world, reader, writer),
+    match page_store(alloc, pages) {
+        Ok(store) => run_over(store, files, reader, writer),
         Err(_) => Err(RunFault::NoMemory),
     }
 }

@@ -1,25 +1,23 @@
-//! A world of scattered pages as what a picture is drawn of.
+//! A world as what a picture is drawn of.
 
 ghost use Rattle.std.specs.Prelude.{◌≡◌, ◌≤◌, ◌<◌, ◌+◌, ◌*◌, ◌^◌, ◌++◌, [], get_or, length};
 ghost use Rattle.rh_defs.specs.Memory.{IsOpen, bytes};
 ghost use Rattle.rh_defs.specs.declared.sizes.TheConstants.{MAX_PAGES, PAGE, WORD};
-ghost use Rattle.rh_pages.specs.Paged.{free_of, memory_of, pages_of};
 
-use crate::world::PagedWorld;
+use crate::world::ScriptWorld;
 use arrayvec::ArrayVec;
 use rh_defs::sizes::{ANCHORS, C_HEAP_START, MODULE_START, PAGE, WORD};
 use rh_defs::{BlockItem, SegmentItem};
 use rh_drawn::Drawn;
-use rh_mapped::Mapped;
-use rh_pages::PagedStore;
 use rh_sight::{AreaSight, HeapOf, Messages, PageList, ScrapSight, Segments, Sight, TaskSight};
-use rh_store::{AreaId, Pages, Sited, Words};
-use rh_tasks::{AreaEntry, share_law};
+use rh_store::{AreaId, Sited};
+use rh_tasks::{AreaEntry, NamedFiles, share_law};
 
 /// Appends the numbers of the free pages.
-fn push_free(store: &Mapped<PagedStore>, list: &mut PageList)
-    requires { length list.old.items + (memory_of store.now).free ≤ MAX_PAGES }
-    ensures { list.new.items ≡ list.old.items ++ free_of store.now }
+fn push_free<S: Sited>(store: &S, list: &mut PageList)
+    requires few { (S.memory store.now).pages ≤ MAX_PAGES }
+    requires room { length list.old.items + (S.memory store.now).free ≤ MAX_PAGES }
+    ensures { list.new.items ≡ list.old.items ++ S.free_of store.now }
 {
     for i in 0..store.free_pages() {
         list.push(store.free_page(i) as u16);
@@ -27,10 +25,11 @@ fn push_free(store: &Mapped<PagedStore>, list: &mut PageList)
 }
 
 /// Appends the numbers of an area's pages.
-fn push_area(store: &Mapped<PagedStore>, area: AreaId, list: &mut PageList)
-    requires opened { IsOpen (memory_of store.now) area.0 }
-    requires room { PAGE * length list.old.items + length (bytes (memory_of store.now) area.0) ≤ PAGE * MAX_PAGES }
-    ensures { list.new.items ≡ list.old.items ++ get_or (pages_of store.now) area.0 [] }
+fn push_area<S: Sited>(store: &S, area: AreaId, list: &mut PageList)
+    requires few { (S.memory store.now).pages ≤ MAX_PAGES }
+    requires opened { IsOpen (S.memory store.now) area.0 }
+    requires room { PAGE * length list.old.items + length (bytes (S.memory store.now) area.0) ≤ PAGE * MAX_PAGES }
+    ensures { list.new.items ≡ list.old.items ++ get_or (S.pages_of store.now) area.0 [] }
 {
     for i in 0..store.len(area) / PAGE {
         list.push(store.page(area, i) as u16);
@@ -45,7 +44,7 @@ fn block_address(start: usize, place: u32) -> u32
     (start + WORD) as u32 + place
 }
 
-impl Sight for PagedWorld {
+impl<S: Sited, F: NamedFiles> Sight for ScriptWorld<S, F> {
     ghost use Rattle.std.specs.Prelude.{◌≡◌};
 
     ghost desk = { λ w. w.world.desk };
@@ -180,7 +179,7 @@ impl Sight for PagedWorld {
     }
 }
 
-impl Drawn for PagedWorld {
+impl<S: Sited + Drop, F: NamedFiles + Drop> Drawn for ScriptWorld<S, F> {
     ghost use Rattle.rh_tasks.proofs.Reorders.{reordered-refl};
 
     ghost seen = { λ w. reordered-refl w.world.desk };

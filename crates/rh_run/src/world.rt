@@ -1,40 +1,40 @@
 //! A world as what a script is run over.
 
-ghost use Rattle.std.specs.Prelude.{◌≡◌, ◌≤◌, IfOk};
+ghost use Rattle.std.specs.Prelude.{◌≡◌, ◌≤◌};
+ghost use Rattle.rh_defs.specs.Memory.{fresh};
 ghost use Rattle.rh_defs.specs.Order.{IsReordered};
 ghost use Rattle.rh_defs.specs.Runs.{start};
 ghost use Rattle.rh_defs.specs.declared.sizes.TheConstants.{MAX_PAGES, MIN_PAGES};
 
-use rh_defs::{Command, Files, Question, Reply};
+use rh_defs::{Command, Question, Reply};
 use rh_lines::{Sink, WriteFailed};
-use rh_mapped::Mapped;
-use rh_pages::PagedStore;
 use rh_script::print_answer;
 use rh_session::Desktop;
-use rh_tasks::World;
-use std::alloc::{AllocError, Global};
+use rh_store::Store;
+use rh_tasks::{NamedFiles, World};
 
-/// A world over scattered pages, with a map beside each heap.
+/// A world over any store and any files.
 #[derive(Drop)]
-pub struct PagedWorld {
-    pub(crate) world: World<Mapped<PagedStore>>,
+pub struct ScriptWorld<S: Store, F: NamedFiles> {
+    pub(crate) world: World<S, F>,
 }
 
-impl PagedWorld {
-    /// The first desk of 8 to 1,024 pages with these files. No later call takes memory.
-    pub fn new(alloc: Global, files: Files, pages: u32) -> Result<Self, AllocError>
-        requires least { MIN_PAGES ≤ pages }
-        requires most { pages ≤ MAX_PAGES }
-        ensures { IfOk result (λ found. found.world.desk ≡ start pages files) }
+impl<S: Store + Drop, F: NamedFiles + Drop> ScriptWorld<S, F> {
+    /// The first desk over a fresh store of 8 to 1,024 pages, with these files. Neither this nor a later call takes
+    /// memory.
+    pub fn new(store: S, files: F) -> Self
+        requires fresh { S.memory store ≡ fresh (S.memory store).pages }
+        requires least { MIN_PAGES ≤ (S.memory store).pages }
+        requires most { (S.memory store).pages ≤ MAX_PAGES }
+        ensures { result.world.desk ≡ start (S.memory store).pages (F.contents files) }
     {
-        let store = PagedStore::new(alloc, pages as usize)?;
-        let store = Mapped::new(alloc, store)?;
-        let world = World::new(alloc, store, files)?;
-        Ok(PagedWorld { world })
+        ScriptWorld {
+            world: World::new(store, files),
+        }
     }
 }
 
-impl Desktop for PagedWorld {
+impl<S: Store + Drop, F: NamedFiles + Drop> Desktop for ScriptWorld<S, F> {
     // The world doesn't keep the order of messages to different tasks, and no answer shows it.
     ghost spells = { λ w d. IsReordered d w.world.desk };
 

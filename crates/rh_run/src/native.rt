@@ -1,0 +1,23 @@
+//! The memory of a native run.
+
+ghost use Rattle.std.specs.Prelude.{◌≡◌, ◌≤◌, IfOk};
+ghost use Rattle.rh_defs.specs.Memory.{fresh};
+ghost use Rattle.rh_defs.specs.declared.sizes.TheConstants.{MAX_PAGES, MIN_PAGES};
+ghost use Rattle.rh_pages.specs.Paged.{memory_of};
+
+use rh_mapped::Mapped;
+use rh_pages::PagedStore;
+use std::alloc::{AllocError, Global};
+
+/// Scattered pages, with a map beside each heap.
+pub type PageStore = Mapped<PagedStore>;
+
+/// A fresh store of 8 to 1,024 pages. All memory of a run is taken here: AllocError where it is refused.
+pub fn page_store(alloc: Global, pages: u32) -> Result<PageStore, AllocError>
+    requires least { MIN_PAGES ≤ pages }
+    requires most { pages ≤ MAX_PAGES }
+    ensures { IfOk result (λ store. memory_of store ≡ fresh pages) }
+{
+    let store = PagedStore::new(alloc, pages as usize)?;
+    Mapped::new(alloc, store)
+}

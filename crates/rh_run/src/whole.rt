@@ -1,0 +1,91 @@
+//! A whole script that lies in memory, run over a fresh desk: its replies, its map or its sheet.
+
+ghost use Rattle.std.specs.Prelude.{◌≡◌, ◌≤◌, [], length, IfErr, IfOk};
+ghost use Rattle.rh_defs.specs.Memory.{fresh};
+ghost use Rattle.rh_defs.specs.Runs.{start};
+ghost use Rattle.rh_defs.specs.Script.{script_text};
+ghost use Rattle.rh_defs.specs.declared.sizes.TheConstants.{MAX_PAGES, MIN_PAGES};
+ghost use Rattle.rh_drawn.specs.Mapped.{Mapped, MappedUntil};
+ghost use Rattle.rh_feed.specs.declared.feeding.TheConstants.{LONGEST_SCRIPT};
+ghost use Rattle.rh_figure.specs.Map.{first_place};
+ghost use Rattle.rh_lines.specs.Flow.{unread};
+ghost use Rattle.rh_painted.specs.Painted.{Painted, PaintedUntil};
+ghost use Rattle.rh_run.specs.Safely.{RanSafely};
+ghost use Rattle.rh_session.specs.Outcome.{BrokeOff, Finished};
+
+use crate::world::ScriptWorld;
+use rh_drawn::map_whole;
+use rh_lines::{Sink, WriteFailed};
+use rh_painted::paint_whole;
+use rh_session::{Status, run_whole};
+use rh_store::{Sited, Store};
+use rh_tasks::NamedFiles;
+
+/// Runs a script over a fresh desk on a store that nobody has used, of 8 to 1,024 pages, and writes the answer of each
+/// line. It takes no memory, and fails only where the writer failed or took none of what it was offered.
+pub fn replies_of<S: Store + Drop, F: NamedFiles + Drop, W: Sink>(
+    store: S,
+    files: F,
+    script: &[u8],
+    writer: &mut W,
+) -> Result<Status, WriteFailed>
+    requires fresh { S.memory store ≡ fresh (S.memory store).pages }
+    requires least { MIN_PAGES ≤ (S.memory store).pages }
+    requires most { (S.memory store).pages ≤ MAX_PAGES }
+
+    // The script's text was written.
+    ensures ok { IfOk result (λ status. Finished (start (S.memory store).pages (F.contents files)) (unread script.now) (unread []) (W.output writer.old) (W.output writer.new) status) }
+
+    // No schedule in the script lost a byte, or gave a wrong one.
+    ensures safe { IfOk result (λ status. RanSafely script_text (start (S.memory store).pages (F.contents files)) (unread script.now) (unread []) (W.output writer.old) (W.output writer.new)) }
+
+    // The writer failed, and took a front of the script's text.
+    ensures write_failed { IfErr result (λ fault. BrokeOff (start (S.memory store).pages (F.contents files)) (unread script.now) (W.output writer.old) (W.output writer.new)) }
+{
+    run_whole(ScriptWorld::new(store, files), script, writer)
+}
+
+/// The same of its map: each step, or marked steps alone.
+pub fn map_of<S: Sited + Drop, F: NamedFiles + Drop, W: Sink>(
+    store: S,
+    files: F,
+    script: &[u8],
+    writer: &mut W,
+    marked: bool,
+) -> Result<Status, WriteFailed>
+    requires fresh { S.memory store ≡ fresh (S.memory store).pages }
+    requires least { MIN_PAGES ≤ (S.memory store).pages }
+    requires most { (S.memory store).pages ≤ MAX_PAGES }
+    requires short { length script.now ≤ LONGEST_SCRIPT }
+
+    // The script's map was written.
+    ensures ok { IfOk result (λ status. Mapped marked (first_place (S.memory store).pages (F.contents files)) (unread script.now) (unread []) (W.output writer.old) (W.output writer.new) status) }
+
+    // The writer failed, and took a front of the map of some lines.
+    ensures write_failed { IfErr result (λ fault. MappedUntil marked (first_place (S.memory store).pages (F.contents files)) (unread script.now) (unread []) (W.output writer.old) (W.output writer.new)) }
+{
+    map_whole(ScriptWorld::new(store, files), marked, script, writer)
+}
+
+/// The same of the sheet of a script with a name: its beginning, and each step, or marked steps alone.
+pub fn sheet_of<S: Sited + Drop, F: NamedFiles + Drop, W: Sink>(
+    store: S,
+    files: F,
+    script: &[u8],
+    writer: &mut W,
+    marked: bool,
+    name: &[u8],
+) -> Result<Status, WriteFailed>
+    requires fresh { S.memory store ≡ fresh (S.memory store).pages }
+    requires least { MIN_PAGES ≤ (S.memory store).pages }
+    requires most { (S.memory store).pages ≤ MAX_PAGES }
+    requires short { length script.now ≤ LONGEST_SCRIPT }
+
+    // The script's sheet was written.
+    ensures ok { IfOk result (λ status. Painted marked name.now (start (S.memory store).pages (F.contents files)) (unread script.now) (unread []) (W.output writer.old) (W.output writer.new) status) }
+
+    // The writer failed, and took a front of the sheet of some lines.
+    ensures write_failed { IfErr result (λ fault. PaintedUntil marked name.now (start (S.memory store).pages (F.contents files)) (unread script.now) (unread []) (W.output writer.old) (W.output writer.new)) }
+{
+    paint_whole(ScriptWorld::new(store, files), marked, name, script, writer)
+}

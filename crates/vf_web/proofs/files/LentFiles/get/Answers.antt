@@ -1,0 +1,12 @@
+use Rattle.std.proofs.Common.{◌≡◌, ℕ, arith, refl, List, [], ◌∷◌, Option, Some, None, is_some, sym, ap, ◌∙◌}
+use Rattle.rh_defs.specs.Files.{FileList, file_bytes}
+use Rattle.vf_web.specs.Packed.{are_apart, files_in, listed}
+use Rattle.vf_web.proofs.files.LentFiles.get.Goals as goal
+
+pub find-requires : goal.find-requires
+unfolding files_in
+find-requires c = let i = c.self.invariant in grind arith
+
+pub returns-clause-value : goal.returns-clause-value
+unfolding files_in
+returns-clause-value c = let i = c.self.invariant in grind arith

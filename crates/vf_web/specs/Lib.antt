@@ -1,0 +1,4 @@
+pub mod Calls
+pub mod Packed
+pub mod Room
+pub mod Status

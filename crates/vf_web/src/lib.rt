@@ -1,0 +1,120 @@
+//! The desk for a web page, in exports that take no memory: each runs a whole script over memory that the caller lends.
+//!
+//! Pool and page numbers may hold anything before a call, and hold nothing of use after it. A text is written to the
+//! front of its bytes, as far as there is room; what stands behind it there stays.
+#![tactic(auto)]
+
+mod checking;
+mod files;
+mod lent;
+mod memory;
+mod running;
+mod status;
+#[cfg(test)]
+mod tests;
+
+ghost use Rattle.std.specs.Prelude.{◌≡◌, ◌≢◌, ◌<◌, is_some, length, not, ◌==◌};
+ghost use Rattle.rh_defs.specs.HeapImage.{fault_of};
+ghost use Rattle.rh_defs.specs.Runs.{start};
+ghost use Rattle.rh_defs.specs.Script.{script_text, has_bad_line};
+ghost use Rattle.rh_slot.specs.Image.{slot_fault_of};
+ghost use Rattle.rh_figure.specs.Map.{first_place};
+ghost use Rattle.rh_run.specs.Checked.{image_line};
+ghost use Rattle.rh_run.specs.CheckedSlot.{slot_image_line};
+ghost use Rattle.vf_web.specs.Calls.{MapTold, SheetTold, Told, Untouched};
+ghost use Rattle.vf_web.specs.Packed.{files_of};
+ghost use Rattle.vf_web.specs.Status.{lent_status};
+
+use crate::lent::lent_files;
+use crate::memory::store_over;
+use crate::status::BAD_PAGES;
+
+/// Runs a script over a fresh desk, and writes the text of all replies.
+#[unsafe(no_mangle)]
+pub extern "C" fn vf_run(
+    pages: u32,
+    pool: &mut [u8],
+    numbers: &mut [u16],
+    script: &[u8],
+    files: &[u8],
+    text: &mut [u8],
+    needed: &mut usize,
+) -> u32
+    ensures refused { let refusal = lent_status pages (length pool.old) (length numbers.old) (length script.now) files.now in
+        refusal ≢ 0 → Untouched result refusal text.old text.new needed.old needed.new }
+    ensures told { lent_status pages (length pool.old) (length numbers.old) (length script.now) files.now ≡ 0 →
+        Told (script_text (start pages (files_of files.now)) script.now) (has_bad_line script.now) result text.old text.new needed.new }
+{
+    let files = match lent_files(pages, pool.len(), numbers.len(), script.len(), files) {
+        Ok(files) => files,
+        Err(status) => return status,
+    };
+    let store = store_over(pages, pool, numbers);
+    running::replies(store, files, script, text, needed)
+}
+
+/// Runs a script over a fresh desk, and writes its map: each step, or where `marked` isn't 0 marked steps alone.
+#[unsafe(no_mangle)]
+pub extern "C" fn vf_map(
+    pages: u32,
+    pool: &mut [u8],
+    numbers: &mut [u16],
+    script: &[u8],
+    files: &[u8],
+    marked: u32,
+    text: &mut [u8],
+    needed: &mut usize,
+) -> u32
+    ensures refused { let refusal = lent_status pages (length pool.old) (length numbers.old) (length script.now) files.now in
+        refusal ≢ 0 → Untouched result refusal text.old text.new needed.old needed.new }
+    ensures told { lent_status pages (length pool.old) (length numbers.old) (length script.now) files.now ≡ 0 →
+        MapTold (not (marked == 0)) (first_place pages (files_of files.now)) script.now result text.old text.new needed.new }
+{
+    let files = match lent_files(pages, pool.len(), numbers.len(), script.len(), files) {
+        Ok(files) => files,
+        Err(status) => return status,
+    };
+    let store = store_over(pages, pool, numbers);
+    running::map(store, files, script, marked != 0, text, needed)
+}
+
+/// Runs a script with a name over a fresh desk, and writes its sheet: each step, or where `marked` isn't 0 marked steps
+/// alone.
+#[unsafe(no_mangle)]
+pub extern "C" fn vf_draw(
+    pages: u32,
+    pool: &mut [u8],
+    numbers: &mut [u16],
+    script: &[u8],
+    name: &[u8],
+    files: &[u8],
+    marked: u32,
+    text: &mut [u8],
+    needed: &mut usize,
+) -> u32
+    ensures refused { let refusal = lent_status pages (length pool.old) (length numbers.old) (length script.now) files.now in
+        refusal ≢ 0 → Untouched result refusal text.old text.new needed.old needed.new }
+    ensures told { lent_status pages (length pool.old) (length numbers.old) (length script.now) files.now ≡ 0 →
+        SheetTold (not (marked == 0)) name.now (start pages (files_of files.now)) script.now result text.old text.new needed.new }
+{
+    let files = match lent_files(pages, pool.len(), numbers.len(), script.len(), files) {
+        Ok(files) => files,
+        Err(status) => return status,
+    };
+    let store = store_over(pages, pool, numbers);
+    running::sheet(store, files, script, marked != 0, name, text, needed)
+}
+
+/// Writes what the heap (0) or the slot (1) of these bytes consists of, or what is wrong first with bytes that are none.
+#[unsafe(no_mangle)]
+pub extern "C" fn vf_check(kind: u32, image: &[u8], text: &mut [u8], needed: &mut usize) -> u32
+    ensures heap { kind ≡ 0 → Told (image_line image.now) (is_some (fault_of image.now)) result text.old text.new needed.new }
+    ensures slot { kind ≡ 1 → Told (slot_image_line image.now) (is_some (slot_fault_of image.now)) result text.old text.new needed.new }
+    ensures unknown { 1 < kind → Untouched result 2 text.old text.new needed.old needed.new }
+{
+    match kind {
+        0 => checking::heap(image, text, needed),
+        1 => checking::slot(image, text, needed),
+        _ => BAD_PAGES,
+    }
+}

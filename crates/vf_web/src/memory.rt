@@ -1,0 +1,39 @@
+//! The memory of a desk, which a caller lends.
+
+ghost use Rattle.std.specs.Prelude.{◌≡◌, ◌≤◌, length, IsTrue};
+ghost use Rattle.rh_defs.specs.Memory.{fresh};
+ghost use Rattle.rh_defs.specs.declared.sizes.TheConstants.{MAX_PAGES, MIN_PAGES};
+ghost use Rattle.rh_pages.specs.Paged.{memory_of};
+ghost use Rattle.vf_web.specs.Room.{has_room};
+
+use rh_defs::sizes::{MAX_PAGES, MIN_PAGES, PAGE};
+use rh_pages::{LISTS, LentGround, PagedStore};
+
+/// Whether there may be so many pages, and so many bytes and page numbers are enough for them.
+pub fn has_room(pages: u32, bytes: usize, numbers: usize) -> bool
+    ensures { result ≡ has_room pages bytes numbers }
+{
+    let pages = pages as usize;
+    if pages < MIN_PAGES || pages > MAX_PAGES {
+        return false;
+    }
+    PAGE * pages <= bytes && LISTS * pages <= numbers
+}
+
+/// A store of free pages in lent memory, whatever that holds.
+#[tactic(auto, unfolding(rh_defs::specs::Memory::fresh))]
+pub fn store_over<'a>(
+    pages: u32,
+    pool: &'a mut [u8],
+    numbers: &'a mut [u16],
+) -> PagedStore<LentGround<'a>>
+    requires { IsTrue (has_room pages (length pool.now) (length numbers.now)) }
+    ensures fresh { memory_of result ≡ fresh (memory_of result).pages }
+    ensures pages { (memory_of result).pages ≡ pages }
+    ensures least { MIN_PAGES ≤ (memory_of result).pages }
+    ensures most { (memory_of result).pages ≤ MAX_PAGES }
+{
+    let pages = pages as usize;
+    let ground = LentGround::new(&mut pool[..PAGE * pages], numbers);
+    PagedStore::over(ground, pages)
+}
