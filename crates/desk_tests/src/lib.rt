@@ -7,6 +7,8 @@ mod faults;
 #[cfg(test)]
 mod files;
 #[cfg(test)]
+mod lent;
+#[cfg(test)]
 mod maps;
 #[cfg(test)]
 mod memory;

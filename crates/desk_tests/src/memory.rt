@@ -17,12 +17,11 @@ use rh_received::run_commands;
 use rh_region::Region;
 use rh_store::PlainStore;
 use rh_tasks::World;
-use rh_wimp::Queue;
 use std::alloc::{AllocError, Global};
 use std::process::Abort;
 use std::test::Fail;
 use std::{fs, rt};
-use uses::{start_world, two_tasks};
+use uses::start_world;
 
 /// The bytes that each trial has more than the one before.
 const STEP: usize = 64;
@@ -30,28 +29,26 @@ const STEP: usize = 64;
 /// The trials at most, for all of which there is room in the piece that is left.
 const TRIALS: usize = 65_536;
 
+/// So many calls further down all trials are made first, with all memory. That takes 100 KB more of the stack than a later
+/// trial, and the stack can't grow once memory beside it was taken.
+const CALLS: u32 = 2_000;
+
 /// A call that takes memory.
 #[derive(Clone, Copy, Debug, PartialEq)]
 enum Maker {
     Region,
     PlainStore,
     PagedStore,
-    Queue,
-    LaterQueue,
-    TwoTasks,
     PlainWorld,
     PagedWorld,
     RunWorld,
     Run,
 }
 
-const MAKERS: [Maker; 10] = [
+const MAKERS: [Maker; 7] = [
     Maker::Region,
     Maker::PlainStore,
     Maker::PagedStore,
-    Maker::Queue,
-    Maker::LaterQueue,
-    Maker::TwoTasks,
     Maker::PlainWorld,
     Maker::PagedWorld,
     Maker::RunWorld,
@@ -74,16 +71,20 @@ fn paged_store(alloc: Global) -> Result<PagedStore, AllocError>
     Ok(store)
 }
 
+/// A world takes no memory where its store had some.
 fn makes_plain_world(alloc: Global) -> bool {
     match plain_store(alloc) {
-        Ok(store) => World::new(alloc, store, Files::new(alloc)).is_ok(),
+        Ok(store) => World::new(store, Files::new(alloc)).free_pages() == 7,
         Err(AllocError) => false,
     }
 }
 
 fn makes_paged_world(alloc: Global) -> bool {
     match paged_store(alloc) {
-        Ok(store) => World::with_next(alloc, store, Files::new(alloc), Handle(3), Ref(9)).is_ok(),
+        Ok(store) => {
+            let world = World::with_next(store, Files::new(alloc), Handle(3), Ref(9));
+            world.next_ref() == 9
+        }
         Err(AllocError) => false,
     }
 }
@@ -91,7 +92,7 @@ fn makes_paged_world(alloc: Global) -> bool {
 /// A world after no commands.
 fn makes_run_world(alloc: Global) -> bool {
     match plain_store(alloc) {
-        Ok(store) => run_commands(alloc, store, Files::new(alloc), &[]).is_ok(),
+        Ok(store) => run_commands(store, Files::new(alloc), &[]).next_ref() == 1,
         Err(AllocError) => false,
     }
 }
@@ -121,14 +122,12 @@ fn runs<R: Abort>(rt: &R, alloc: Global) -> bool {
 }
 
 /// Whether it had the memory that it asked for.
+#[inline(never)]
 fn makes<R: Abort>(rt: &R, alloc: Global, maker: Maker) -> bool {
     match maker {
         Maker::Region => Region::new(alloc, 8).is_ok(),
         Maker::PlainStore => plain_store(alloc).is_ok(),
         Maker::PagedStore => paged_store(alloc).is_ok(),
-        Maker::Queue => Queue::new(alloc).is_ok(),
-        Maker::LaterQueue => Queue::with_next_ref(alloc, Ref(7)).is_ok(),
-        Maker::TwoTasks => two_tasks(alloc).is_ok(),
         Maker::PlainWorld => makes_plain_world(alloc),
         Maker::PagedWorld => makes_paged_world(alloc),
         Maker::RunWorld => makes_run_world(alloc),
@@ -136,11 +135,24 @@ fn makes<R: Abort>(rt: &R, alloc: Global, maker: Maker) -> bool {
     }
 }
 
+/// The same, so many calls further down.
+fn makes_below<R: Abort>(rt: &R, alloc: Global, maker: Maker, calls: u32) -> bool {
+    if calls == 0 {
+        return makes(rt, alloc, maker);
+    }
+    let made = makes_below(rt, alloc, maker, calls - 1);
+    same(rt, (calls, made), (calls, true));
+    made
+}
+
 #[test]
 fn constructors_and_runs_are_refused_memory_in_turn(rt: HostRuntime) -> Result<(), Fail> {
     let alloc = rt.alloc();
     for maker in MAKERS {
-        same(&rt, (maker, makes(&rt, alloc, maker)), (maker, true));
+        let made = makes_below(&rt, alloc, maker, CALLS);
+        same(&rt, (maker, made), (maker, true));
+    }
+    for maker in MAKERS {
         let scarce = Scarce::new(alloc)?;
         let is_short = scarce.is_short(alloc);
         let mut refused = 0;
@@ -201,35 +213,106 @@ fn ending(output: &str, errors: &str, status: u8) -> Ended {
     ended
 }
 
-/// Tries the program on these words with all memory, and then with more and more, until it ends as it should. Before
-/// that it tells that memory was refused, and nothing else.
+/// Words, and how the program has to end on them.
+#[derive(Clone, Copy)]
+struct Trial<'a> {
+    words: &'a [&'a str],
+    output: &'a str,
+    errors: &'a str,
+    status: u8,
+}
+
+impl<'a> Trial<'a> {
+    fn new(words: &'a [&'a str], output: &'a str, errors: &'a str, status: u8) -> Trial<'a> {
+        Trial {
+            words,
+            output,
+            errors,
+            status,
+        }
+    }
+
+    fn ending(&self) -> Ended {
+        ending(self.output, self.errors, self.status)
+    }
+
+    fn all_words(&self, alloc: Global) -> Result<Vec<String>, AllocError> {
+        let mut all = Vec::new(alloc);
+        for word in self.words {
+            all.push(String::from_str(alloc, word)?)?;
+        }
+        Ok(all)
+    }
+}
+
+/// The program ends on these words as it should.
+#[inline(never)]
+fn ends<R: Abort + rt::Files + AllocGlobal>(runtime: &R, words: &[String], wanted: &Ended) {
+    let found = end_of(runtime, words);
+    same(runtime, (words, &found), (words, wanted));
+}
+
+/// The same, so many calls further down. Answers how many these are.
+fn ends_below<R: Abort + rt::Files + AllocGlobal>(
+    runtime: &R,
+    words: &[String],
+    wanted: &Ended,
+    calls: u32,
+) -> u32 {
+    if calls == 0 {
+        ends(runtime, words, wanted);
+        return 0;
+    }
+    let below = ends_below(runtime, words, wanted, calls - 1);
+    same(runtime, below, calls - 1);
+    calls
+}
+
+/// Tries the program with more and more memory, until it ends as it should. Before that it tells that memory was
+/// refused, and nothing else.
 fn try_program<R: Abort + rt::Files + AllocGlobal>(
     runtime: &R,
-    words: &[&str],
-    wanted: &Ended,
+    trial: &Trial<'_>,
 ) -> Result<(), Fail> {
     let alloc: Global = runtime.alloc();
-    let mut all = Vec::new(alloc);
-    for word in words {
-        all.push(String::from_str(alloc, word)?)?;
-    }
-    let found = end_of(runtime, all.as_slice());
-    same(runtime, (words, &found), (words, wanted));
+    let all = trial.all_words(alloc)?;
+    let wanted = trial.ending();
     let no_memory = ending("", "rh_desk: no memory\n", 3);
     let scarce = Scarce::new(alloc)?;
     let is_short = scarce.is_short(alloc);
     let mut refused = 0;
-    for trial in 0..TRIALS {
-        let _taken = scarce.leave(alloc, STEP * trial);
+    for turn in 0..TRIALS {
+        let _taken = scarce.leave(alloc, STEP * turn);
         let found = end_of(runtime, all.as_slice());
-        if found == *wanted {
+        if found == wanted {
             break;
         }
-        same(runtime, (words, &found), (words, &no_memory));
-        refused = trial + 1;
+        same(runtime, (trial.words, &found), (trial.words, &no_memory));
+        refused = turn + 1;
     }
     let in_turn = 0 < refused && refused < TRIALS;
-    same(runtime, (words, in_turn || !is_short), (words, true));
+    same(
+        runtime,
+        (trial.words, in_turn || !is_short),
+        (trial.words, true),
+    );
+    Ok(())
+}
+
+/// Tries the program on each of these words, at first with all memory.
+fn try_all<R: Abort + rt::Files + AllocGlobal>(
+    runtime: &R,
+    trials: &[Trial<'_>],
+) -> Result<(), Fail> {
+    let alloc: Global = runtime.alloc();
+    for trial in trials {
+        let all = trial.all_words(alloc)?;
+        let depth = ends_below(runtime, all.as_slice(), &trial.ending(), CALLS);
+        same(runtime, depth, CALLS);
+    }
+    for trial in trials {
+        try_program(runtime, trial)?;
+    }
     Ok(())
 }
 
@@ -264,17 +347,16 @@ fn runs_and_checks_are_refused_memory_in_turn(rt: HostRuntime) -> Result<(), Fai
     let shown = "ok 1\nok &9008\nok 5 68656c6c6f\n";
     let lost = "rh_desk: file lost.bin\n";
     let bad_word = "rh_desk: bad file word f=x\n";
-    for (words, output, errors, status) in [
-        (["vervainfile"].as_slice(), AREAS_OF_64, "", 0),
-        (RUN_OF_8_PAGES.as_slice(), AREAS_OF_8, "", 0),
-        (RUN_OF_A_FILE.as_slice(), shown, "", 0),
-        (CHECK.as_slice(), "bad BadDescriptor\n", "", 1),
-        (CHECK_OF_A_SLOT.as_slice(), "bad BadLength\n", "", 1),
-        (CHECK_OF_NO_FILE.as_slice(), "", lost, 3),
-        (RUN_OF_TWO_NAMES.as_slice(), "", bad_word, 2),
-    ] {
-        try_program(&rt, words, &ending(output, errors, status))?;
-    }
+    let trials = [
+        Trial::new(&["vervainfile"], AREAS_OF_64, "", 0),
+        Trial::new(&RUN_OF_8_PAGES, AREAS_OF_8, "", 0),
+        Trial::new(&RUN_OF_A_FILE, shown, "", 0),
+        Trial::new(&CHECK, "bad BadDescriptor\n", "", 1),
+        Trial::new(&CHECK_OF_A_SLOT, "bad BadLength\n", "", 1),
+        Trial::new(&CHECK_OF_NO_FILE, "", lost, 3),
+        Trial::new(&RUN_OF_TWO_NAMES, "", bad_word, 2),
+    ];
+    try_all(&rt, &trials)?;
     fs::remove_file(&rt, "short.desk")?;
     fs::remove_file(&rt, "short.bin")?;
     Ok(())
@@ -335,17 +417,11 @@ Exit status:
 
 #[test]
 fn help_and_wrong_words_are_refused_memory_in_turn(rt: HostRuntime) -> Result<(), Fail> {
-    for (words, output, errors, status) in [
-        (["vervainfile", "walk"].as_slice(), "", NO_SUBCOMMAND, 2),
-        (
-            ["vervainfile", "run", "--pages", "7", "-"].as_slice(),
-            "",
-            TOO_FEW_PAGES,
-            2,
-        ),
-        (["vervainfile", "--help"].as_slice(), HELP, "", 0),
-    ] {
-        try_program(&rt, words, &ending(output, errors, status))?;
-    }
-    Ok(())
+    let too_few = ["vervainfile", "run", "--pages", "7", "-"];
+    let trials = [
+        Trial::new(&["vervainfile", "walk"], "", NO_SUBCOMMAND, 2),
+        Trial::new(&too_few, "", TOO_FEW_PAGES, 2),
+        Trial::new(&["vervainfile", "--help"], HELP, "", 0),
+    ];
+    try_all(&rt, &trials)
 }
