@@ -1,0 +1,256 @@
+// The script on the page: a row for each line, with its reply. Of a long script some lines around a place have rows.
+
+import { outcomeOf } from "./script.js";
+
+// The rows at most, and by how many lines they move at once.
+const ROWS = 400;
+const MOVE = 200;
+// The characters of a reply that are shown.
+const SHOWN_REPLY = 4000;
+const FITS_BY_ITSELF = CSS.supports("field-sizing", "content");
+
+// An element with a class.
+function element(tag, className) {
+  const made = document.createElement(tag);
+  made.className = className;
+  return made;
+}
+
+// A reply as it is shown: cut where it is very long.
+function shownReply(reply) {
+  return reply.length > SHOWN_REPLY ? `${reply.slice(0, SHOWN_REPLY)}.. (${reply.length} characters)` : reply;
+}
+
+// One line of the script, whose place changes as others come and go.
+class Row {
+  index = 0;
+  #line = "";
+  root = element("li", "row");
+  #number = element("button", "number");
+  field = element("textarea", "line");
+  #reply = element("div", "reply");
+  #remove = element("button", "remove");
+
+  constructor(list) {
+    Object.assign(this.#number, { type: "button", tabIndex: -1 });
+    Object.assign(this.#remove, { type: "button", tabIndex: -1, textContent: "\u00d7" });
+    Object.assign(this.field, { rows: 1, spellcheck: false, autocomplete: "off", autocapitalize: "off" });
+    this.root.append(this.#number, this.field, this.#reply, this.#remove);
+    this.#number.addEventListener("click", () => list.session.moveTo(this.index + 1));
+    this.#remove.addEventListener("click", () => list.remove(this.index));
+    this.field.addEventListener("change", () => this.commit(list));
+    this.field.addEventListener("input", () => this.#fit());
+    this.field.addEventListener("keydown", (event) => list.onKey(event, this));
+    this.field.addEventListener("focus", () => list.onFocus(this));
+  }
+
+  // Shows the line at a place of a session.
+  show(session, index) {
+    const { lines, position } = session.state;
+    const hasRun = index < position;
+    const reply = hasRun ? session.replies[index] : null;
+    if (this.index !== index || this.#line !== lines[index]) this.#write(lines[index]);
+    this.index = index;
+    this.#name(index + 1);
+    this.#reply.textContent = reply === null ? "" : shownReply(reply);
+    this.root.className = ["row", outcomeOf(reply)].join(" ");
+    this.root.classList.toggle("ahead", !hasRun);
+    this.root.classList.toggle("current", index === session.command);
+    this.root.classList.toggle("remark", /^ *#/.test(lines[index]));
+    this.root.classList.toggle("changed", hasRun && session.changed.has(index));
+  }
+
+  // Names what stands in the row by the line's number.
+  #name(number) {
+    this.#number.textContent = number;
+    this.#number.ariaLabel = `Run up to line ${number}`;
+    this.#number.title = `Run up to line ${number}`;
+    this.#remove.ariaLabel = `Take line ${number} away`;
+    this.#remove.title = `Take line ${number} away`;
+    this.#reply.id = `reply-${number}`;
+    this.field.ariaLabel = `Line ${number}`;
+    this.field.setAttribute("aria-describedby", this.#reply.id);
+  }
+
+  #write(line) {
+    this.#line = line;
+    this.field.value = line;
+    this.#fit();
+  }
+
+  // Makes the field as high as its text, where the browser doesn't.
+  #fit() {
+    if (FITS_BY_ITSELF) return;
+    this.field.style.height = "auto";
+    this.field.style.height = `${this.field.scrollHeight}px`;
+  }
+
+  // Gives the field what the script has.
+  restore() {
+    this.#write(this.#line);
+  }
+
+  // Whether the field was changed. A field holds no carriage return.
+  get isEdited() {
+    return this.field.value !== this.#line.replace(/\r\n?/g, "\n");
+  }
+
+  // Puts what was typed into the script.
+  commit(list) {
+    if (!this.isEdited) return;
+    const lines = this.field.value.split("\n");
+    this.restore();
+    list.session.replace(this.index, this.index + 1, lines);
+  }
+}
+
+export class List {
+  #root;
+  #scroller;
+  #earlier;
+  #later;
+  #leave;
+  #rows = [];
+  #first = 0;
+  // The line whose field is reached by the tab key.
+  #focused = 0;
+
+  // Of the elements in which it stands, and a function that takes the focus behind the last line.
+  constructor(session, { root, scroller, earlier, later }, leave) {
+    this.session = session;
+    this.#leave = leave;
+    this.#root = root;
+    this.#scroller = scroller;
+    this.#earlier = earlier;
+    this.#later = later;
+    earlier.addEventListener("click", () => this.#showMore(-MOVE));
+    later.addEventListener("click", () => this.#showMore(MOVE));
+  }
+
+  // Shows the session. The line that ran last comes into view, unless the list is being worked in.
+  show() {
+    const at = Math.max(0, this.session.state.position - 1);
+    const isWorkedIn = this.#root.contains(document.activeElement);
+    if (!isWorkedIn) this.#focused = at;
+    if (!isWorkedIn && (at < this.#first || at >= this.#first + ROWS)) this.#first = at - MOVE;
+    this.#moveRows(this.#first);
+    if (!isWorkedIn) this.#reveal(at);
+  }
+
+  // Gives rows to lines before or behind. A button that isn't needed then leaves the focus to a line.
+  #showMore(by) {
+    this.#moveRows(this.#first + by);
+    if (by < 0 && this.#earlier.hidden) this.focus(this.#first);
+    if (by > 0 && this.#later.hidden) this.focus(this.session.state.lines.length - 1);
+  }
+
+  // Gives rows to the lines from a place on.
+  #moveRows(first) {
+    const count = this.session.state.lines.length;
+    this.#first = Math.max(0, Math.min(first, count - ROWS));
+    const shown = Math.min(ROWS, count - this.#first);
+    while (this.#rows.length > shown) this.#rows.pop().root.remove();
+    while (this.#rows.length < shown) this.#addRow();
+    this.#rows.forEach((row, at) => row.show(this.session, this.#first + at));
+    this.#markTabStop();
+    this.#tellRest(this.#earlier, this.#first, "earlier");
+    this.#tellRest(this.#later, count - this.#first - shown, "later");
+  }
+
+  #addRow() {
+    const row = new Row(this);
+    this.#rows.push(row);
+    this.#root.append(row.root);
+  }
+
+  // Tells how many lines have no row on one side.
+  #tellRest(button, count, side) {
+    button.hidden = count === 0;
+    button.textContent = `${count.toLocaleString("en")} ${side} ${count === 1 ? "line" : "lines"}: show some`;
+  }
+
+  #markTabStop() {
+    for (const row of this.#rows) row.field.tabIndex = row.index === this.#focused ? 0 : -1;
+  }
+
+  #rowAt(index) {
+    return this.#rows[index - this.#first];
+  }
+
+  // Scrolls the list until a line is in view.
+  #reveal(index) {
+    const row = this.#rowAt(index)?.root;
+    if (!row) return;
+    const { top, bottom } = row.getBoundingClientRect();
+    const frame = this.#scroller.getBoundingClientRect();
+    if (bottom > frame.bottom) this.#scroller.scrollTop += bottom - frame.bottom;
+    if (top < frame.top) this.#scroller.scrollTop -= frame.top - top;
+  }
+
+  // Moves the focus to the field of a line; behind the last one it leaves the list.
+  focus(index) {
+    if (index < 0) return;
+    if (index >= this.session.state.lines.length) {
+      this.#leave();
+      return;
+    }
+    if (!this.#rowAt(index)) this.#moveRows(index - MOVE);
+    this.#rowAt(index).field.focus();
+    this.#reveal(index);
+  }
+
+  onFocus(row) {
+    this.#focused = row.index;
+    this.#markTabStop();
+  }
+
+  // Takes a line away; the focus goes to the one in its place.
+  remove(index) {
+    this.session.replace(index, index + 1, []);
+    this.focus(index);
+  }
+
+  // Does what a key asks for in the field of a row.
+  onKey(event, row) {
+    const action = actionOf(event, row.field);
+    if (!action) return;
+    event.preventDefault();
+    const { index } = row;
+    const actions = {
+      above: () => this.#commitAnd(row, () => this.focus(index - 1)),
+      below: () => this.#commitAnd(row, () => this.focus(index + 1)),
+      run: () => this.#commitAnd(row, () => this.session.moveTo(index + 1)),
+      restore: () => row.restore(),
+      remove: () => this.remove(index),
+    };
+    actions[action]();
+  }
+
+  // Puts what is being typed into a line into the script.
+  commitTyped() {
+    this.#rows.find((row) => row.field === document.activeElement)?.commit(this);
+  }
+
+  #commitAnd(row, action) {
+    row.commit(this);
+    action();
+  }
+}
+
+// Whether a field shows one row of characters.
+function isOneRow(field) {
+  return field.scrollHeight < 2 * parseFloat(getComputedStyle(field).lineHeight);
+}
+
+// What a key asks for in the field of a line, if anything.
+function actionOf({ key, ctrlKey, metaKey, shiftKey, isComposing }, field) {
+  if (isComposing) return undefined;
+  const isAtStart = field.selectionEnd === 0;
+  const isAtEnd = field.selectionStart === field.value.length;
+  if (key === "ArrowUp" && (isAtStart || isOneRow(field))) return "above";
+  if (key === "ArrowDown" && (isAtEnd || isOneRow(field))) return "below";
+  if (key === "Enter" && (ctrlKey || metaKey)) return "run";
+  if (key === "Enter" && !shiftKey) return "below";
+  if (key === "Escape") return "restore";
+  return key === "Backspace" && field.value === "" ? "remove" : undefined;
+}

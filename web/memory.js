@@ -1,0 +1,95 @@
+// The side of the page that shows memory after the last command: as a picture, or as a map of characters.
+
+import { shownText } from "./bytes.js";
+import { Refusal } from "./desk.js";
+import { Picture, lastStepOf } from "./picture.js";
+import { outcomeOf } from "./script.js";
+
+const NO_LINES = "Nothing has run yet. Type a command at the prompt, or load an example.";
+const NOTHING = "Nothing has run yet. Step runs the next command, Run all runs every line.";
+const NO_DRAWING = "The module of this page draws no pictures.";
+
+// A line of the step that is shown: its number, its command and its reply.
+function shownLine(session) {
+  const number = document.createElement("b");
+  const line = document.createElement("code");
+  const reply = document.createElement("code");
+  number.textContent = session.command + 1;
+  line.textContent = session.state.lines[session.command];
+  reply.textContent = session.replies[session.command].split("\n", 1)[0];
+  reply.className = `reply ${outcomeOf(reply.textContent)}`;
+  return [number, line, " → ", reply];
+}
+
+export class Memory {
+  #session;
+  #parts;
+  #picture;
+  // What the last command has changed, in words.
+  changes = [];
+
+  // Of the session and the elements in which it stands, and the style that is added to a sheet's own.
+  constructor(session, parts, addedStyle) {
+    this.#session = session;
+    this.#parts = parts;
+    this.#picture = new Picture(parts.picture, addedStyle);
+    parts.views.hidden = !(session.has("vf_draw") && session.has("vf_map"));
+    for (const radio of this.#radios()) radio.addEventListener("change", () => this.show());
+  }
+
+  #radios() {
+    return [...this.#parts.views.querySelectorAll("input")];
+  }
+
+  // What is to be shown: a picture or a map, or nothing where the module has neither.
+  get #view() {
+    const views = [["picture", "vf_draw"], ["map", "vf_map"]].filter(([, call]) => this.#session.has(call));
+    const chosen = this.#radios().find((radio) => radio.checked).value;
+    return (views.find(([view]) => view === chosen) ?? views[0])?.[0];
+  }
+
+  // Shows memory as it is after the last command.
+  show() {
+    this.changes = [];
+    const fault = this.#session.fault || this.#draw();
+    this.#parts.nothing.textContent = fault;
+    this.#parts.nothing.hidden = !fault;
+    const view = fault ? undefined : this.#view;
+    this.#parts.picture.hidden = view !== "picture";
+    this.#parts.map.hidden = view !== "map";
+    this.#parts.shown.replaceChildren(...this.#session.command < 0 ? [] : shownLine(this.#session));
+    this.#tellChanges();
+  }
+
+  // Draws what is to be shown, and gives why that can't be done, or an empty text.
+  #draw() {
+    if (this.#session.command < 0) return this.#session.state.lines.length ? NOTHING : NO_LINES;
+    try {
+      return this.#drawView(this.#view);
+    } catch (fault) {
+      if (fault instanceof Refusal) return fault.message;
+      throw fault;
+    }
+  }
+
+  #drawView(view) {
+    if (view === undefined) return NO_DRAWING;
+    if (view === "map") {
+      this.#parts.map.textContent = shownText(this.#session.drawn("vf_map", false));
+      return "";
+    }
+    const step = lastStepOf(this.#session.drawn("vf_draw", false));
+    this.#picture.show(step);
+    this.changes = step.changes;
+    return "";
+  }
+
+  #tellChanges() {
+    this.#parts.changes.replaceChildren(...this.changes.map((change) => {
+      const item = document.createElement("li");
+      item.textContent = change;
+      return item;
+    }));
+    this.#parts.changes.hidden = this.changes.length === 0;
+  }
+}

@@ -1,0 +1,81 @@
+// A script as lines, and what its format says of them: which have a reply, and which replies are whose.
+
+import { bytesOf } from "./bytes.js";
+
+// The bytes of a line at most, and the bytes of a character at most.
+const LINE_BYTES = 1024;
+const CHARACTER_BYTES = 4;
+const SKIPPED = /^ *(?:#|$)/;
+const MARK = /^ *#picture(?: |$)/;
+
+// The lines of a script, and whether its last one has no line feed: such a line doesn't run.
+export function linesOf(text) {
+  const lines = text.split("\n");
+  const isCut = lines.at(-1) !== "";
+  if (!isCut) lines.pop();
+  return { lines, isCut };
+}
+
+// The text of a script.
+export function textOfLines(lines, isCut) {
+  return lines.length ? lines.join("\n") + (isCut ? "" : "\n") : "";
+}
+
+// Whether a line has more bytes than a line may have.
+function isTooLong(line) {
+  return line.length * CHARACTER_BYTES > LINE_BYTES && bytesOf(line).length > LINE_BYTES;
+}
+
+// Whether a whole line has a reply: it is no remark and has words, or it is too long.
+export function hasReply(line) {
+  return !SKIPPED.test(line) || isTooLong(line);
+}
+
+// Whether each line of a script has a reply.
+function answered({ lines, isCut }) {
+  return lines.map((line, index) => hasReply(line) || (isCut && index === lines.length - 1));
+}
+
+// The replies in a run's text, each with the lines that belong to it.
+function repliesOf(text) {
+  return text === "" ? [] : text.slice(0, -1).split(/\n(?! {2})/);
+}
+
+// For each line of a script its reply in a run's text, or null where it has none; nothing where these don't fit.
+export function repliesByLine(script, text) {
+  const replies = repliesOf(text);
+  let count = 0;
+  const byLine = answered(script).map((has) => has ? replies[count++] : null);
+  return count === replies.length && !byLine.includes(undefined) ? byLine : undefined;
+}
+
+// How a reply went: ok, refused or bad, or an empty text where there is none.
+export function outcomeOf(reply) {
+  return reply === null ? "" : reply.split(/[ \n]/, 1)[0];
+}
+
+// How many lines have run when the command behind a position has: the command's own and all before it.
+export function positionAfterStep(replies, position) {
+  const next = replies.findIndex((reply, index) => index >= position && reply !== null);
+  return next < 0 ? replies.length : next + 1;
+}
+
+// The place of the last line before a position that has a reply, or -1.
+export function commandBefore(replies, position) {
+  return replies.findLastIndex((reply, index) => index < position && reply !== null);
+}
+
+// How many lines had run before the last command did.
+export function positionBeforeStep(replies, position) {
+  return commandBefore(replies, commandBefore(replies, position)) + 1;
+}
+
+// The text of a script's front up to a command, of which the command alone is marked for a picture.
+export function markedText({ lines, isCut }, command) {
+  const before = lines.slice(0, command);
+  const last = before.findLastIndex((line) => hasReply(line));
+  const keeps = (line, index) => index > last || hasReply(line) || !MARK.test(line);
+  const kept = before.filter(keeps);
+  if (!before.slice(last + 1).some((line) => MARK.test(line))) kept.push("#picture");
+  return textOfLines([...kept, lines[command]], isCut && command === lines.length - 1);
+}

@@ -1,0 +1,151 @@
+"""How the page looks and reads: contrast, widths, names, the order of the focus, and whether its HTML is well made."""
+
+import html.parser
+import re
+
+from bench import holds, same
+
+import make
+
+# The least contrast of text to what is behind it.
+LEAST_CONTRAST = 4.5
+# The examples whose pictures are looked at for contrast.
+COLOURED = ("transfer", "handed-over", "eight-transfers", "killed", "made-areas", "sliding", "lessons/holes")
+# Wide blocks and cards in the tints of six tasks.
+TINTS = "".join(f"task {it} 9\nalloc {it} 0 2000\nalloc {it} 1 900\nclaim {it} 900\n" for it in "abcdef")
+# The width of windows, and how much larger all is shown in them.
+WINDOWS = ((1440, 1), (420, 1), (320, 1), (1440, 2), (1280, 4))
+# What can be used, as it is told to those who listen, and what has to be named there.
+USED = ("button", "textbox", "combobox", "spinbutton", "radio", "region", "image", "DisclosureTriangle")
+
+# The elements that the tab key reaches, in order.
+TAB_STOPS = ["examples", "open", "fresh", "undo", "save", "copy", "help-button", "name", "pages", "add", "Line 4",
+             "command", "Enter", "back", "step", "run", "Picture", "save-sheet", "Pool of pages",
+             "Slots and module area", "summary"]
+# Elements without an end, and attributes that name ids.
+VOID = {"meta", "link", "input", "br"}
+NAMING = ("for", "aria-labelledby", "aria-describedby")
+
+
+def show_story(page):
+    """A story with a remark, a refusal, a bad line, a file, and lines that haven't run."""
+    page.load("lessons/small-buffer")
+    page.drop_bytes("logo.spr", b"hello")
+    for _ in range(12):
+        page.click("step")
+    page.enter("show z 0")
+    page.enter("shw a 0")
+    page.enter("save a 0 nobody x")
+    page.enter("poll b")
+
+
+def check_pictures_of_page(bench):
+    """Pictures of the page, wide and narrow, light and dark."""
+    with bench.page() as page:
+        for width in (1440, 420):
+            for is_dark in (False, True):
+                page.tab.resize(width, 900, is_dark)
+                page.click("fresh")
+                bench.picture(page, f"empty-{width}-{'dark' if is_dark else 'light'}")
+                show_story(page)
+                bench.picture(page, f"story-{width}-{'dark' if is_dark else 'light'}")
+        page.click("help-button")
+        bench.picture(page, "help-420-dark")
+
+
+def check_contrast(bench):
+    """Each text has enough contrast, light and dark, on the page and in its picture."""
+    with bench.page() as page:
+        for is_dark in (False, True):
+            light = "dark" if is_dark else "light"
+            page.tab.resize(1440, 900, is_dark)
+            for name in COLOURED:
+                page.load(name)
+                page.click("run")
+                same(page.script("contrasts.js", LEAST_CONTRAST), [], f"texts of little contrast in {name}, {light}")
+            page.click("fresh")
+            page.drop_bytes("tints.desk", TINTS.encode())
+            page.click("run")
+            same(page.script("contrasts.js", LEAST_CONTRAST), [], f"texts of little contrast in six tints, {light}")
+            bench.picture(page, f"tints-{light}")
+            show_story(page)
+            page.click("help-button")
+            page.value("document.querySelector('#picture').shadowRoot.querySelector('details').open = true")
+            same(page.script("contrasts.js", LEAST_CONTRAST), [], f"texts of little contrast, {light}")
+
+
+def check_widths(bench):
+    """Nothing goes over the page's edge, in narrow windows and at 200 percent."""
+    with bench.page() as page:
+        show_story(page)
+        for width, scale in WINDOWS:
+            page.tab.resize(width, 900, False, scale)
+            page.value("new Promise(requestAnimationFrame).then(() => 0)")
+            over = page.value("document.documentElement.scrollWidth - document.documentElement.clientWidth")
+            same(over, 0, f"what goes over the edge at {width}, {scale * 100} percent")
+            bench.picture(page, f"at-{width}-{scale * 100}-percent")
+
+
+def check_focus(bench):
+    """The tab key reaches all that can be used, in the order in which it is read."""
+    with bench.page() as page:
+        page.load("transfer")
+        for _ in range(3):
+            page.click("step")
+        page.focus("#examples")
+        found = [page.script("focused.js")]
+        while len(found) < len(TAB_STOPS):
+            page.tab.key("Tab")
+            found.append(page.script("focused.js"))
+        same(found, TAB_STOPS, "the order of the focus")
+
+
+def check_names(bench):
+    """Everything that can be used has a name for those who listen, and each line is told with its reply."""
+    with bench.page() as page:
+        show_story(page)
+        nodes = page.tab.call("Accessibility.getFullAXTree")["nodes"]
+        used = [Told(node) for node in nodes if not node["ignored"] and node["role"]["value"] in USED]
+        same([it.role for it in used if not it.name], [], "what has no name")
+        figures = [it for it in used if it.role == "image"]
+        holds(figures and all(it.description for it in figures), "a figure has no description")
+        line = next(it for it in used if it.name == "Line 2")
+        holds(line.description.startswith("ok"), "a line is told without its reply")
+
+
+class Told:
+    """What is told of an element to those who listen."""
+
+    def __init__(self, node):
+        self.role, self.name, self.description = (
+            node.get(part, {}).get("value", "") for part in ("role", "name", "description"))
+
+
+class Reading(html.parser.HTMLParser):
+    """The page as a browser reads it: its ids, and elements that don't end where they should."""
+
+    def __init__(self):
+        super().__init__()
+        self.open, self.ids, self.faults, self.targets = [], [], [], []
+
+    def handle_starttag(self, tag, attrs):
+        words = dict(attrs)
+        self.ids += [words["id"]] if "id" in words else []
+        self.targets += [target for name in NAMING for target in words.get(name, "").split()]
+        if tag not in VOID:
+            self.open.append(tag)
+
+    def handle_endtag(self, tag):
+        if not self.open or self.open.pop() != tag:
+            self.faults.append(f"</{tag}> at {self.getpos()}")
+
+
+def check_html(bench):
+    """The page's HTML is well made, has each id once, and nothing in it leads outside."""
+    reading = Reading()
+    reading.feed(bench.text)
+    same((reading.faults, reading.open), ([], []), "what isn't ended")
+    same([it for it in set(reading.ids) if reading.ids.count(it) > 1], [], "ids that stand twice")
+    same([it for it in reading.targets if it not in reading.ids], [], "ids that are named and aren't there")
+    same(re.findall(r"https?://[^\s'\"]*", bench.text), [], "addresses in the page")
+    holds(len(bench.text.encode()) < make.MOST_BYTES, "the page is too long")
