@@ -12,6 +12,7 @@ import tempfile
 import header
 import kit
 import libraries
+import page
 from kit import rt, rtlib
 
 FOLDER = "lib"
@@ -39,8 +40,8 @@ def compiler():
 
 
 def exporters(crates):
-    """Those of the crates whose exports make the library."""
-    return [it for it in crates if it.is_static and it.name.startswith(PREFIX)]
+    """Those of the crates whose exports make the library: all but the page's."""
+    return [it for it in crates if it.is_static and it.name.startswith(PREFIX) and it.name != page.CRATE]
 
 
 def archive_of(crate):

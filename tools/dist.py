@@ -1,4 +1,4 @@
-"""dist/: what is built of the sources, with the kit's line: the program, and the library for programs in C."""
+"""dist/: what is built of the sources, with the kit's line: the program, the library for programs in C, and the page."""
 
 import filecmp
 import hashlib
@@ -8,11 +8,14 @@ import sys
 
 import clib
 import kit
+import page
 import program
 from kit import rtlib
 
 FOLDER = "dist"
+# The sums of the sources, in the folder of what is built of them; those of the page beside those of the program.
 SOURCES = "sources"
+PAGE_SOURCES = "page-sources"
 KIT = "kit"
 
 
@@ -23,11 +26,11 @@ class Stale(Exception):
 class Part:
     """What is built together of one list of sources: files beside which dist/ has the sum of each source."""
 
-    def __init__(self, top, folder, crates, others, files, build):
+    def __init__(self, top, folder, crates, others, files, build, listed=SOURCES):
         self.top, self.folder, self.crates, self.others = top, f"{top}/{folder}", crates, others
         # Where dist/ has a file, and where it is built.
         self.files = {f"{folder}/{name}": made for name, made in files.items()}
-        self.build = build
+        self.build, self.listed = build, f"{top}/{folder}/{listed}"
 
     def sources(self):
         """The paths of all sources, from the top."""
@@ -55,12 +58,12 @@ class Part:
         os.makedirs(self.folder, exist_ok=True)
         for name, made in self.files.items():
             shutil.copy(f"{self.top}/{made}", f"{self.top}/{name}")
-        _write(f"{self.folder}/{SOURCES}", self.sums())
+        _write(self.listed, self.sums())
         return 0
 
     def compare(self):
         """Raises Stale where a source or a file isn't as it is in dist/."""
-        then, now = set(_lines(f"{self.folder}/{SOURCES}")), set(self.sums())
+        then, now = set(_lines(self.listed)), set(self.sums())
         changed = sorted(it.split("  ", 1)[1] for it in then ^ now)
         if changed:
             raise Stale(f"{changed[0]} is not as it was: run bin/dist")
@@ -72,8 +75,9 @@ class Part:
 
 
 def parts_of(top):
-    """The program, and the library for programs in C."""
+    """The program, the library for programs in C, and the page."""
     crates = kit.crates_of(top)
+    web = page.exporter(crates)
     main = program.named(crates)
     made = {program.NAME: f"crates/{program.NAME}/out/{program.NAME}"}
     below = {low.name: low for it in clib.exporters(crates) for low in [*it.below(), it]}
@@ -81,6 +85,8 @@ def parts_of(top):
     return [
         Part(top, FOLDER, [*main.below(), main], ["crates.txt"], made, program.main),
         Part(top, f"{FOLDER}/{clib.FOLDER}", list(below.values()), ["crates.txt", *clib.SOURCES], archive, clib.make),
+        Part(top, FOLDER, [*web.below(), web], ["crates.txt", *page.sources(top)], {page.NAME: page.MADE}, page.make,
+             PAGE_SOURCES),
     ]
 
 
@@ -133,4 +139,4 @@ def compared(top):
         return f"dist: made with another kit ({' '.join(said)}): nothing is compared"
     for part in parts_of(top):
         part.compare()
-    return "dist: the program, the library and their sources are those of dist/"
+    return "dist: the program, the library, the page and their sources are those of dist/"
